@@ -1,0 +1,16 @@
+-- The laws of the rules.
+pub mod RegionLaws
+pub mod JoinLaws
+pub mod FlowLaws
+pub mod GraphLaws
+pub mod EndLaws
+pub mod Counts
+pub mod SameRules
+pub mod RulesLaws
+pub mod AfterLaws
+pub mod LikeHeaps
+pub mod LikeSteps
+pub mod Placed
+pub mod Survivors
+pub mod Agree
+pub mod GivenSizes

@@ -1,0 +1,232 @@
+-- What the rules keep: no variable and no slot of an object that is there names an object that is not (01, "every reference is null or names a cell in use").
+use Prim.Native.Nat.{ℕ, zero, suc, pred, _+_, _*_, _<_}
+use native.Mathlib.Omega.{arith}
+use native.Mathlib.Decide.{decLt}
+use native.Mathlib.Nat.{zero-add, add-zero}
+use mathlib.Core.Path.{_≡_, refl, sym, ap, subst, _∙_}
+use mathlib.Core.Logic.{_⊎_, inl, inr}
+use mathlib.Core.List.{List, [], _∷_, _++_}
+use mathlib.Core.Bool.{Bool, cond}
+use lib.ListN.{length, getD, set, replicate, length-set, length-append, List·getD-append, List·getD-eq-default}
+use lib.Seq.{getD-at}
+use lib.Dec.{eqb}
+use borrow.Author.Tests.{ne-eqb}
+use Rattle.lists.specs.Members.{In, getD-in}
+use Rattle.rules.specs.declared.Sizes.{Sizes}
+use Rattle.rules.specs.declared.Command.{Command}
+use Rattle.rules.specs.Terms.{Code, unknown, start, end, new, copy, clear, load, store, read, write, same, decode}
+use Rattle.rules.specs.NeverFreeing as nf
+use Rattle.rules.specs.NeverFreeing.{Object, noObject, depthOf, varOf, objectOf, place}
+use Rattle.rules.specs.Flow.{Call, called, flow}
+use Rattle.rules.specs.Regions.{regionAt}
+use Rattle.rules.specs.Graph.{calls, inside, ended}
+use Rattle.laws.specs.GraphLaws.{Alive, Closed}
+use Rattle.laws.specs.EndLaws.{closed-ended}
+use Rattle.rules.specs.Rules as ru
+use Rattle.rules.specs.Rules.{Regioned, graph, innermost}
+
+pub record Sound (h : Regioned) : Type 0 where
+  pub aligned : length (h .homes) ≡ length (h .heap .objects)
+  pub closed : Closed (graph h)
+
+-- ---- lists
+
+module _ {A : Type 0} where
+  set-cases : (l : List A) (i j : ℕ) (a d : A) → (getD (set l i a) j d ≡ a) ⊎ (getD (set l i a) j d ≡ getD l j d)
+  set-cases [] i j a d = inr refl
+  set-cases (x ∷ l) zero zero a d = inl refl
+  set-cases (x ∷ l) zero (suc j) a d = inr refl
+  set-cases (x ∷ l) (suc i) zero a d = inr refl
+  set-cases (x ∷ l) (suc i) (suc j) a d = set-cases l i j a d
+
+  in-set : (l : List A) (i : ℕ) (a z : A) → In z (set l i a) → (z ≡ a) ⊎ In z l
+  in-set (x ∷ l) zero a z (inl e) = inl e
+  in-set (x ∷ l) zero a z (inr k) = inr (inr k)
+  in-set (x ∷ l) (suc i) a z (inl e) = inr (inl e)
+  in-set (x ∷ l) (suc i) a z (inr k) = go (in-set l i a z k)
+    where
+      go : (z ≡ a) ⊎ In z l → (z ≡ a) ⊎ In z (x ∷ l)
+      go (inl e) = inl e
+      go (inr j) = inr (inr j)
+
+in-bounds : (l : List ℕ) (i : ℕ) → (getD l i 0 ≡ 0 → ⊥) → i < length l
+in-bounds l i h = go (decLt i (length l))
+  where
+    go : Dec (i < length l) → i < length l
+    go (yes p) = p
+    go (no p) = absurd (h (List·getD-eq-default l 0 (omega arith)))
+
+no-refs : (b y : ℕ) → In (suc y) (replicate b 0) → ⊥
+no-refs (suc b) y (inl e) = omega arith
+no-refs (suc b) y (inr i) = no-refs b y i
+
+-- the refs of the object that a variable names
+object-refs : (h : Regioned) → Closed (graph h) → (i y : ℕ) → In (suc y) (objectOf (h .heap) (getD (h .heap .vars) i 0) .refs) → Alive (graph h) y
+object-refs h k i y = go (getD (h .heap .vars) i 0) refl
+  where
+    go : (v : ℕ) → getD (h .heap .vars) i 0 ≡ v → In (suc y) (objectOf (h .heap) v .refs) → Alive (graph h) y
+    go zero e j = absurd j
+    go (suc x) e j = k .refs x y (k .vars i x e) j
+
+-- ---- a variable gets what names an object that is there, or null
+
+sound-var : (h : Regioned) → Sound h → (p v : ℕ) → ((x : ℕ) → v ≡ suc x → Alive (graph h) x)
+    → Sound (record { heap = record { depths = h .heap .depths; vars = set (h .heap .vars) p v; objects = h .heap .objects }; homes = h .homes })
+sound-var h k p v ok =
+    record { aligned = k .aligned; closed = record { below = k .closed .below; vars = λ i x. go i x (set-cases (h .heap .vars) p i v 0); refs = k .closed .refs } }
+  where
+    go : (i x : ℕ) → (getD (set (h .heap .vars) p v) i 0 ≡ v) ⊎ (getD (set (h .heap .vars) p v) i 0 ≡ getD (h .heap .vars) i 0)
+        → getD (set (h .heap .vars) p v) i 0 ≡ suc x → Alive (graph h) x
+    go i x (inl e) q = ok x (sym e ∙ q)
+    go i x (inr e) q = k .closed .vars i x (sym e ∙ q)
+
+-- ---- an object gets fields that name objects that are there, or null
+
+sound-object : (h : Regioned) → Sound h → (p : ℕ) (o : Object) → ((y : ℕ) → In (suc y) (o .refs) → Alive (graph h) y)
+    → Sound (record { heap = record { depths = h .heap .depths; vars = h .heap .vars; objects = set (h .heap .objects) p o }; homes = h .homes })
+sound-object h k p o ok =
+    let l = k .aligned ∙ sym (length-set (h .heap .objects) p o) in
+    record { aligned = l; closed = record { below = λ x a. subst (λ (n : ℕ). x < n) l (in-bounds (h .homes) x a); vars = k .closed .vars; refs = λ x y a i. go x y a i (set-cases (h .heap .objects) p x o noObject) } }
+  where
+    go : (x y : ℕ) → Alive (graph h) x → In (suc y) (getD (set (h .heap .objects) p o) x noObject .refs)
+        → (getD (set (h .heap .objects) p o) x noObject ≡ o) ⊎ (getD (set (h .heap .objects) p o) x noObject ≡ getD (h .heap .objects) x noObject) → Alive (graph h) y
+    go x y a i (inl e) = ok y (subst (λ (u : Object). In (suc y) (u .refs)) e i)
+    go x y a i (inr e) = k .closed .refs x y a (subst (λ (u : Object). In (suc y) (u .refs)) e i)
+
+-- ---- a new object
+
+module _ (h : Regioned) (k : Sound h) (p q b : ℕ) (ns : List ℕ) (pos : 0 < q) where
+  abbrev made : Object
+  made = record { refs = replicate b 0; nums = ns }
+
+  abbrev grown : Regioned
+  grown =
+      record { heap = record { depths = h .heap .depths; vars = set (h .heap .vars) p (length (h .heap .objects) + 1); objects = h .heap .objects ++ made ∷ [] }; homes = h .homes ++ q ∷ [] }
+
+  -- what was there is there
+  old : (x : ℕ) → x < length (h .homes) → getD (h .homes ++ q ∷ []) x 0 ≡ getD (h .homes) x 0
+  old x l = List·getD-append (h .homes) (q ∷ []) 0 x l
+
+  still : (x : ℕ) → Alive (graph h) x → Alive (graph grown) x
+  still x a z = a (sym (old x (in-bounds (h .homes) x a)) ∙ z)
+
+  new-var : (i x : ℕ) → getD (grown .heap .vars) i 0 ≡ suc x
+      → (getD (grown .heap .vars) i 0 ≡ length (h .heap .objects) + 1) ⊎ (getD (grown .heap .vars) i 0 ≡ getD (h .heap .vars) i 0) → Alive (graph grown) x
+  new-var i x e (inl c) z = omega (arith, getD-at (h .homes) q [] 0 x (omega (arith, k .aligned)))
+  new-var i x e (inr c) z = still x (k .closed .vars i x (sym c ∙ e)) z
+
+  new-ref : (x y : ℕ) → Alive (graph grown) x → x < length (h .homes ++ q ∷ []) → In (suc y) (getD (h .heap .objects ++ made ∷ []) x noObject .refs)
+      → Dec (x < length (h .homes)) → Alive (graph grown) y
+  new-ref x y a l i (yes m) =
+      still y (k .closed .refs x y (λ z. a (old x m ∙ z))
+      (subst (λ (u : Object). In (suc y) (u .refs)) (List·getD-append (h .heap .objects) (made ∷ []) noObject x (subst (λ (n : ℕ). x < n) (k .aligned) m)) i))
+  new-ref x y a l i (no m) =
+      let e : length (h .heap .objects) ≡ x = omega (arith, length-append (h .homes) (q ∷ []), k .aligned) in
+      absurd (no-refs b y (subst (λ (u : Object). In (suc y) (u .refs)) (getD-at (h .heap .objects) made [] noObject x e) i))
+
+  sound-new : Sound grown
+  sound-new =
+      let l = length-append (h .homes) (q ∷ []) ∙ ap (λ (n : ℕ). n + 1) (k .aligned) ∙ sym (length-append (h .heap .objects) (made ∷ [])) in
+      record {
+        aligned = l;
+        closed = record {
+          below = λ x a. subst (λ (n : ℕ). x < n) l (in-bounds (h .homes ++ q ∷ []) x a);
+          vars = λ i x e. new-var i x e (set-cases (h .heap .vars) p i (length (h .heap .objects) + 1) 0);
+          refs = λ x y a i. new-ref x y a (in-bounds (h .homes ++ q ∷ []) x a) i (decLt x (length (h .homes)));
+        };
+      }
+
+-- ---- the end of a region
+
+homes-moved : (cs : List Call) (r : ℕ) (qs : List ℕ) (i x : ℕ) → 0 < r
+    → getD (ru.moved cs r i qs) x 0 ≡ cond (eqb (getD qs x 0) r) (called (i + x) cs) (getD qs x 0)
+unfolding ru.moved
+homes-moved cs r [] i x p = sym (ap (λ (b : Bool). cond b (called (i + x) cs) 0) (ne-eqb 0 r (omega arith)))
+homes-moved cs r (q ∷ qs) i zero p = ap (λ (n : ℕ). cond (eqb q r) (called n cs) q) (sym (add-zero i))
+homes-moved cs r (q ∷ qs) i (suc x) p =
+    let e : suc i + x ≡ i + suc x = omega arith in
+    homes-moved cs r qs (suc i) x p ∙ ap (λ (n : ℕ). cond (eqb (getD qs x 0) r) (called n cs) (getD qs x 0)) e
+
+length-moved : (cs : List Call) (r i : ℕ) (qs : List ℕ) → length (ru.moved cs r i qs) ≡ length qs
+unfolding ru.moved
+length-moved cs r i [] = refl
+length-moved cs r i (q ∷ qs) = ap suc (length-moved cs r (suc i) qs)
+
+module _ (s : Sizes) (h : Regioned) (r : ℕ) (pos : 0 < r) (ds : List ℕ) where
+  abbrev pub over : Regioned
+  over = record { heap = record { depths = ds; vars = h .heap .vars; objects = h .heap .objects }; homes = ru.ended s h r }
+
+  -- the heap after an end has the graph after that end
+  pub graph-ended : graph over ≡ ended s (graph h) r
+  unfolding ru.ended ended
+  graph-ended = λ i. record { count = length (h .heap .objects); home = λ x. at x i; refs = graph h .refs; vars = h .heap .vars }
+    where
+      cs : List Call
+      cs = flow (calls s (graph h) r) (inside (graph h) r)
+
+      at : (x : ℕ) → getD (ru.moved cs r 0 (h .homes)) x 0 ≡ cond (eqb (getD (h .homes) x 0) r) (called x cs) (getD (h .homes) x 0)
+      at x = homes-moved cs r (h .homes) 0 x pos ∙ ap (λ (n : ℕ). cond (eqb (getD (h .homes) x 0) r) (called n cs) (getD (h .homes) x 0)) (zero-add x)
+
+  sound-ended : Sound h → Sound over
+  sound-ended k =
+      record {
+        aligned = unfold ru.ended in (length-moved (flow (calls s (graph h) r) (inside (graph h) r)) r 0 (h .homes) ∙ k .aligned);
+        closed = subst Closed (sym graph-ended) (closed-ended s (graph h) r pos (k .closed));
+      }
+
+-- ---- every command
+
+pub region-pos : (s : Sizes) (t d : ℕ) → 0 < regionAt s t d
+unfolding regionAt
+region-pos s t zero = omega arith
+region-pos s t (suc d) = omega arith
+
+sound-depth : (h : Regioned) → Sound h → (ds : List ℕ) → Sound (record { heap = record { depths = ds; vars = h .heap .vars; objects = h .heap .objects }; homes = h .homes })
+sound-depth h k ds = record { aligned = k .aligned; closed = k .closed }
+
+-- the heap after a command, whose code and operands are given
+abbrev pub afterCode : Sizes → Regioned → Code → ℕ → ℕ → ℕ → ℕ → Regioned
+afterCode s h o t a b c = record { heap = nf.effect s (h .heap) o t a b c; homes = ru.homesAfter s h o t }
+
+pub sound-code : (s : Sizes) (h : Regioned) → Sound h → (o : Code) (t a b c : ℕ) → Sound (afterCode s h o t a b c)
+unfolding nf.effect ru.homesAfter
+sound-code s h k unknown t a b c = k
+sound-code s h k start t a b c = sound-depth h k _
+sound-code s h k end t a b c = sound-ended s h (innermost s h t) (region-pos s t (depthOf (h .heap) t)) _ k
+sound-code s h k new t a b c = sound-new h k (place s t a) (innermost s h t) b (replicate c 0) (region-pos s t (depthOf (h .heap) t))
+sound-code s h k copy t a b c = sound-var h k (place s t a) _ (λ x e. k .closed .vars (place s c b) x e)
+sound-code s h k clear t a b c = sound-var h k (place s t a) 0 (λ x e. absurd (omega arith))
+sound-code s h k load t a b c = sound-var h k (place s t a) _ (λ x e. object-refs h (k .closed) (place s t b) x (getD-in (objectOf (h .heap) (varOf s (h .heap) t b) .refs) c x e))
+sound-code s h k store t a b c = sound-object h k (pred (varOf s (h .heap) t a)) _ (λ y i. go y (in-set (objectOf (h .heap) (varOf s (h .heap) t a) .refs) b (varOf s (h .heap) t c) (suc y) i))
+  where
+    go : (y : ℕ) → (suc y ≡ varOf s (h .heap) t c) ⊎ In (suc y) (objectOf (h .heap) (varOf s (h .heap) t a) .refs) → Alive (graph h) y
+    go y (inl e) = k .closed .vars (place s t c) y (sym e)
+    go y (inr i) = object-refs h (k .closed) (place s t a) y i
+sound-code s h k read t a b c = k
+sound-code s h k write t a b c = sound-object h k (pred (varOf s (h .heap) t a)) _ (λ y i. object-refs h (k .closed) (place s t a) y i)
+sound-code s h k same t a b c = k
+
+pub no-dangling : (s : Sizes) (h : Regioned) (m : Command) → Sound h → Sound (ru.step s h m .next)
+unfolding ru.step ru.answered ru.after
+no-dangling s h m k = go (ru.question s h m)
+  where
+    go : (q : ℕ) → Sound (ru.answered s h m q .next)
+    go zero = sound-code s h k (decode (m .code)) (m .thread) (m .a) (m .b) (m .c)
+    go (suc q) = k
+
+pub sound-unused : (s : Sizes) → Sound (ru.unused s)
+unfolding ru.unused nf.empty
+sound-unused s =
+    record {
+      aligned = refl;
+      closed = record {
+        below = λ x a. absurd (a refl);
+        vars = λ i x e. absurd (no-refs (s .threads * s .variables) x (getD-in (replicate (s .threads * s .variables) 0) i x e));
+        refs = λ x y a i. absurd (a refl);
+      };
+    }
+
+pub sound-run : (s : Sizes) (h : Regioned) (ms : List Command) → Sound h → Sound (ru.run s h ms .last)
+unfolding ru.run
+sound-run s h [] k = k
+sound-run s h (m ∷ ms) k = sound-run s (ru.step s h m .next) ms (no-dangling s h m k)
