@@ -1,0 +1,96 @@
+-- Whole words stand for the heap that they make; and whatever heap they stand for, the rules say the same of it and of the words.
+use Prim.Native.Nat.{ℕ, zero, suc, _<_}
+use native.Mathlib.Omega.{arith}
+use native.Mathlib.Decide.{decLt, ℕ-discrete}
+use mathlib.Core.Path.{_≡_, refl, sym, ap, subst, _∙_}
+use mathlib.Core.List.{List, [], _∷_, map}
+use lib.ListN.{getD}
+use Rattle.rules.specs.declared.Sizes.{Sizes}
+use Rattle.lists.specs.Members.{In}
+use Rattle.rules.specs.NeverFreeing.{Object, noObject}
+use Rattle.rules.specs.Graph.{target, crossing, objectsIn, freePages}
+use Rattle.laws.specs.GraphLaws.{Alive, Closed}
+use Rattle.laws.specs.Counts.{same-free}
+use Rattle.laws.specs.SameRules.{renamed, same-target, same-objects, same-crossing}
+use Rattle.rules.specs.Rules.{Regioned, graph}
+use Rattle.promises.specs.Words.{Words, cellCount, sizesIn, homeIn, varsIn, objectIn, graphOf, heapOf}
+use Rattle.promises.specs.Whole.{WholeFor, WholeWords}
+use Rattle.promises.specs.StandsFor.{StandsFor}
+use Rattle.lists.specs.Listed.{listed, length-listed, getD-listed, listed-past}
+use Rattle.promises.specs.Reading.{words-closed}
+
+pub renamed-id : (l : List ℕ) → map (renamed (λ x. x)) l ≡ l
+renamed-id [] = refl
+renamed-id (zero ∷ l) = ap (λ (k : List ℕ). 0 ∷ k) (renamed-id l)
+renamed-id (suc x ∷ l) = ap (λ (k : List ℕ). suc x ∷ k) (renamed-id l)
+
+module _ (s : Sizes) (w : Words) (k : WholeFor s w) where
+  pub home-at : (x : ℕ) → graph (heapOf s w) .home x ≡ homeIn s w x
+  unfolding heapOf
+  home-at x = go (decLt x (cellCount s))
+    where
+      go : Dec (x < cellCount s) → getD (listed (homeIn s w) (cellCount s)) x 0 ≡ homeIn s w x
+      go (yes l) = getD-listed (homeIn s w) (cellCount s) x 0 l
+      go (no l) = listed-past (homeIn s w) (cellCount s) x 0 (omega arith) ∙ sym (out (ℕ-discrete (homeIn s w x) 0))
+        where
+          out : Dec (homeIn s w x ≡ 0) → homeIn s w x ≡ 0
+          out (yes z) = z
+          out (no a) = absurd (l (words-closed s w k .below x a))
+
+  pub there : (x : ℕ) → Alive (graph (heapOf s w)) x → Alive (graphOf s w) x
+  there x a z = a (home-at x ∙ z)
+
+  pub back : (x : ℕ) → Alive (graphOf s w) x → Alive (graph (heapOf s w)) x
+  back x a z = a (sym (home-at x) ∙ z)
+
+  pub object-at : (x : ℕ) → Alive (graphOf s w) x → getD (heapOf s w .heap .objects) x noObject ≡ objectIn w x
+  unfolding heapOf
+  object-at x a = getD-listed (objectIn w) (cellCount s) x noObject (words-closed s w k .below x a)
+
+  heap-closed : Closed (graph (heapOf s w))
+  unfolding heapOf
+  heap-closed =
+      record {
+        below = λ x a. subst (λ (n : ℕ). x < n) (sym (length-listed (objectIn w) (cellCount s))) (words-closed s w k .below x (there x a));
+        vars = λ i x e. back x (words-closed s w k .vars i x e);
+        refs = λ x y a i. back y (words-closed s w k .refs x y (there x a) (subst (λ (o : Object). In (suc y) (o .refs)) (object-at x (there x a)) i));
+      }
+
+  pub heap-stands : StandsFor s w (heapOf s w) (λ x. x)
+  unfolding heapOf
+  heap-stands =
+      record {
+        whole = k;
+        sound = record { aligned = length-listed (homeIn s w) (cellCount s) ∙ sym (length-listed (objectIn w) (cellCount s)); closed = heap-closed };
+        depths = refl;
+        partners = record {
+          home = λ x a. sym (home-at x);
+          apart = λ x y a b e. e;
+          onto = λ y a. (y, back y a, refl);
+          refs = λ x a. sym (renamed-id _ ∙ ap (λ (o : Object). o .refs) (object-at x (there x a)));
+          vars = sym (renamed-id (varsIn s w));
+        };
+        nums = λ x a. ap (λ (o : Object). o .nums) (object-at x (there x a));
+      }
+
+pub whole-for : (w : Words) → WholeWords w → WholeFor (sizesIn w) w
+whole-for w k = record { sized = refl; sizes = k .sizes; placed = k .placed }
+
+-- so no promise about the heap that words stand for is empty
+pub heapOf-stands : (w : Words) → WholeWords w → StandsFor (sizesIn w) w (heapOf (sizesIn w) w) (λ x. x)
+heapOf-stands w k = heap-stands (sizesIn w) w (whole-for w k)
+
+-- ---- the rules say the same of the words and of the heap
+
+module _ (s : Sizes) (w : Words) (h : Regioned) (cellOf : ℕ → ℕ) (st : StandsFor s w h cellOf) where
+  pub targets-agree : (r : ℕ) → 0 < r → (x : ℕ) → Alive (graph h) x → target s (graphOf s w) r (cellOf x) ≡ target s (graph h) r x
+  targets-agree = same-target s cellOf (graph h) (graphOf s w) (st .sound .closed) (words-closed s w (st .whole)) (st .partners)
+
+  pub objects-agree : (q : ℕ) → 0 < q → objectsIn (graph h) q ≡ objectsIn (graphOf s w) q
+  objects-agree = same-objects s cellOf (graph h) (graphOf s w) (st .sound .closed) (words-closed s w (st .whole)) (st .partners)
+
+  pub crossing-agree : crossing (graph h) ≡ crossing (graphOf s w)
+  crossing-agree = same-crossing s cellOf (graph h) (graphOf s w) (st .sound .closed) (words-closed s w (st .whole)) (st .partners)
+
+  pub free-agree : freePages s (graph h) ≡ freePages s (graphOf s w)
+  free-agree = same-free s (graph h) (graphOf s w) objects-agree

@@ -1,0 +1,45 @@
+-- Words with one list changed, and heaps with one thing changed: the terms in which the frame lemmas speak.
+use Prim.Native.Nat.{ℕ, zero, suc}
+use mathlib.Core.Path.{_≡_, refl, ap}
+use mathlib.Core.List.{List, [], _∷_, _++_, map}
+use lib.ListN.{set}
+use Rattle.rules.specs.NeverFreeing.{Object}
+use Rattle.rules.specs.Rules.{Regioned}
+use Rattle.laws.specs.SameRules.{renamed}
+use Rattle.promises.specs.Words.{Words}
+
+abbrev pub withTables : Words → List ℕ → Words
+withTables w t = record { cells = w .cells; remember = w .remember; tables = t }
+
+abbrev pub withCells : Words → List ℕ → Words
+withCells w c = record { cells = c; remember = w .remember; tables = w .tables }
+
+abbrev pub withRemember : Words → List ℕ → Words
+withRemember w m = record { cells = w .cells; remember = m; tables = w .tables }
+
+-- variable i, counted through all threads, becomes u
+abbrev pub withVariable : Regioned → ℕ → ℕ → Regioned
+withVariable h i u = record { heap = record { depths = h .heap .depths; vars = set (h .heap .vars) i u; objects = h .heap .objects }; homes = h .homes }
+
+-- thread t gets depth d
+abbrev pub withDepth : Regioned → ℕ → ℕ → Regioned
+withDepth h t d = record { heap = record { depths = set (h .heap .depths) t d; vars = h .heap .vars; objects = h .heap .objects }; homes = h .homes }
+
+-- object x becomes o
+abbrev pub withObject : Regioned → ℕ → Object → Regioned
+withObject h x o = record { heap = record { depths = h .heap .depths; vars = h .heap .vars; objects = set (h .heap .objects) x o }; homes = h .homes }
+
+-- object o is appended, in region g
+abbrev pub withNew : Regioned → Object → ℕ → Regioned
+withNew h o g = record { heap = record { depths = h .heap .depths; vars = h .heap .vars; objects = h .heap .objects ++ o ∷ [] }; homes = h .homes ++ g ∷ [] }
+
+-- ---- references, renamed
+
+pub renamed-same : (u : ℕ) → renamed (λ x. x) u ≡ u
+renamed-same zero = refl
+renamed-same (suc x) = refl
+
+pub map-set : {A B : Type 0} (f : A → B) (l : List A) (i : ℕ) (v : A) → map f (set l i v) ≡ set (map f l) i (f v)
+map-set f [] i v = refl
+map-set f (x ∷ l) zero v = refl
+map-set f (x ∷ l) (suc i) v = ap (λ k. f x ∷ k) (map-set f l i v)

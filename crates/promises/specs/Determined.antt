@@ -1,0 +1,268 @@
+-- What words stand for determines them, but for 01's open points: "the cell an object takes, the order of remember entries, the contents
+-- of cells not in use". Two words that stand for the same heap through the same map are SameButOpen.
+use Prim.Native.Nat.{ℕ, zero, suc, _+_, _-_, _*_, _/_, _≤_, _<_}
+use native.Mathlib.Omega.{arith}
+use native.Mathlib.Decide.{ℕ-discrete, decLt}
+use mathlib.Core.Path.{_≡_, refl, sym, ap, ap₂, subst, _∙_}
+use mathlib.Core.Logic.{inl}
+use mathlib.Core.List.{List}
+use mathlib.Core.Bool.{Bool, false, cond}
+use lib.ListN.{length, getD}
+use lib.Dec.{ltb, eqb}
+use borrow.Author.Tests.{le-ltb}
+use Rattle.lists.specs.Counting.{sum-same}
+use Rattle.rules.specs.declared.Sizes.{Sizes}
+use Rattle.rules.specs.Regions.{regions}
+use Rattle.rules.specs.Rules.{Regioned, graph}
+use Rattle.laws.specs.GraphLaws.{Alive}
+use Rattle.layout.specs.Places as lp
+use Rattle.layout.specs.Places.{placesOf, tablesWords, ownersFrom, depthAt, varAt, varOf, markOf, countOf, slotIn, slotRegionIn, count-room, count-is, mark-is, used-is}
+use Rattle.layout.specs.Cells.{fieldOf, fieldAt, pageOf, placeOf, cellOn, cellOf, wordOf}
+use Rattle.promises.specs.Words.{Words, Used, sizesIn, depthIn, ownerIn, usedIn, headIn, refCount, numCount, refsIn, numsIn, homeIn}
+use Rattle.promises.specs.Crossing.{other, regionOf, crossTo}
+use Rattle.promises.specs.Whole.{WholeFor, objectsOf}
+use Rattle.promises.specs.StandsFor.{StandsFor}
+use Rattle.promises.specs.Reading.{owners-is, used-alive, alive-used, used-home, length-refs, length-nums, getD-refs, getD-nums, getD-vars, depth-at}
+use Rattle.promises.specs.Crossings.{heap-entries}
+use Rattle.promises.specs.Slots.{cross-same}
+
+-- entry i of the first remember table stands in the second, wherever that may be
+pub record SameEntry (s : Sizes) (w w′ : Words) (i : ℕ) : Type 0 where
+  pub place : ℕ
+  pub low : place < lp.usedIn (w′ .remember)
+  pub slot : slotIn (w′ .remember) place ≡ slotIn (w .remember) i
+  pub region : slotRegionIn (s .entries) (w′ .remember) place ≡ slotRegionIn (s .entries) (w .remember) i
+
+-- Two words agree but for the open points, area by area of 01's three tables. Which cell an object takes is what both have in common: the
+-- map through which they stand for the heap.
+pub record SameButOpen (s : Sizes) (w w′ : Words) : Type 0 where
+  -- tables: T, V, D, P, N; depth of each thread; variables; owners; cells in use on each page; working words; objects in each region
+  pub sizes : sizesIn w ≡ sizesIn w′
+  pub depths : (t : ℕ) → t < s .threads → depthIn w t ≡ depthIn w′ t
+  pub variables : (i : ℕ) → i < s .threads * s .variables → varOf (placesOf s) (w .tables) i ≡ varOf (placesOf s) (w′ .tables) i
+  pub owners : (page : ℕ) → page < s .pages → ownerIn s w page ≡ ownerIn s w′ page
+  pub used : (page : ℕ) → page < s .pages → usedIn s w page ≡ usedIn s w′ page
+  pub marks : (page : ℕ) → page < s .pages → markOf (placesOf s) (w .tables) page ≡ markOf (placesOf s) (w′ .tables) page
+  pub counts : (g : ℕ) → 1 ≤ g → g ≤ regions s → countOf (placesOf s) (w .tables) g ≡ countOf (placesOf s) (w′ .tables) g
+  -- cells: the same are in use, and these have the same 16 words; the others may hold anything
+  pub inUse : (c : ℕ) → Used s w c → Used s w′ c
+  pub cells : (q : ℕ) → Used s w (cellOf q) → getD (w .cells) q 0 ≡ getD (w′ .cells) q 0
+  -- remember table: N, entries used, the same entries in any order, the unused ones zero
+  pub room : getD (w .remember) 0 0 ≡ getD (w′ .remember) 0 0
+  pub entries : lp.usedIn (w .remember) ≡ lp.usedIn (w′ .remember)
+  pub named : (i : ℕ) → i < lp.usedIn (w .remember) → SameEntry s w w′ i
+  pub unused : (i : ℕ) → lp.usedIn (w .remember) ≤ i → i < s .entries
+      → (slotIn (w .remember) i ≡ slotIn (w′ .remember) i) × (slotRegionIn (s .entries) (w .remember) i ≡ slotRegionIn (s .entries) (w′ .remember) i)
+
+-- ---- one half: what the first has, the second has
+
+module _ (s : Sizes) (w w′ : Words) (h : Regioned) (to : ℕ → ℕ) (st : StandsFor s w h to) (st′ : StandsFor s w′ h to) where
+  -- the object of a cell in use
+  object-of : (c : ℕ) → Used s w c → (x : ℕ) × Alive (graph h) x × (to x ≡ c)
+  object-of c u = st .partners .onto c (used-alive s w (st .whole) c u)
+
+  home-as : (c : ℕ) → Used s w c → homeIn s w c ≡ homeIn s w′ c
+  home-as c u =
+      let r = object-of c u in
+      subst (λ (y : ℕ). homeIn s w y ≡ homeIn s w′ y) (r .2) (st .partners .home (r .0) (r .1) ∙ sym (st′ .partners .home (r .0) (r .1)))
+
+  used-as : (c : ℕ) → Used s w c → Used s w′ c
+  used-as c u = alive-used s w′ (st′ .whole) c (λ z. used-alive s w (st .whole) c u (home-as c u ∙ z))
+
+  -- so a page has at least as many cells in use
+  used-most : (page : ℕ) → page < s .pages → usedIn s w page ≤ usedIn s w′ page
+  used-most page l = go (decLt (usedIn s w′ page) (usedIn s w page))
+    where
+      go : Dec (usedIn s w′ page < usedIn s w page) → usedIn s w page ≤ usedIn s w′ page
+      go (no n) = omega arith
+      go (yes n) =
+          let c = cellOn page (usedIn s w′ page) in
+          let f : usedIn s w page ≤ 16 = st .whole .placed .pages page l .cells in
+          let e : pageOf c ≡ page = omega arith in
+          let d : placeOf c ≡ usedIn s w′ page = omega arith in
+          let u : Used s w c = record { page = omega arith; place = subst (λ (q : ℕ). placeOf c < usedIn s w q) (sym e) (omega arith) } in
+          let v : Used s w′ c = used-as c u in
+          absurd (let z : ⊥ = omega (arith, v .place, ap (usedIn s w′) e) in z)
+
+  -- the fields of an object
+  refs-as : (c : ℕ) → Used s w c → refsIn w c ≡ refsIn w′ c
+  refs-as c u =
+      let r = object-of c u in
+      subst (λ (y : ℕ). refsIn w y ≡ refsIn w′ y) (r .2) (st .partners .refs (r .0) (r .1) ∙ sym (st′ .partners .refs (r .0) (r .1)))
+
+  nums-as : (c : ℕ) → Used s w c → numsIn w c ≡ numsIn w′ c
+  nums-as c u =
+      let r = object-of c u in
+      subst (λ (y : ℕ). numsIn w y ≡ numsIn w′ y) (r .2) (sym (st .nums (r .0) (r .1)) ∙ st′ .nums (r .0) (r .1))
+
+  counts-as : (c : ℕ) → Used s w c → (refCount w c ≡ refCount w′ c) × (numCount w c ≡ numCount w′ c)
+  counts-as c u =
+      let v = used-as c u in (
+        sym (length-refs s w (st .whole) c u) ∙ ap length (refs-as c u) ∙ length-refs s w′ (st′ .whole) c v,
+        sym (length-nums s w (st .whole) c u) ∙ ap length (nums-as c u) ∙ length-nums s w′ (st′ .whole) c v,
+      )
+
+  head-as : (c : ℕ) → Used s w c → headIn w c ≡ headIn w′ c
+  head-as c u = let e = counts-as c u in omega (arith, e .0, e .1)
+
+  field-as : (c f : ℕ) → Used s w c → f < 14 → fieldOf (w .cells) c f ≡ fieldOf (w′ .cells) c f
+  field-as c f u l = go (decLt f (refCount w c)) (decLt f (refCount w c + numCount w c))
+    where
+      r : refCount w c ≡ refCount w′ c
+      r = counts-as c u .0
+
+      d : numCount w c ≡ numCount w′ c
+      d = counts-as c u .1
+
+      go : Dec (f < refCount w c) → Dec (f < refCount w c + numCount w c) → fieldOf (w .cells) c f ≡ fieldOf (w′ .cells) c f
+      go (yes a) b =
+          sym (getD-refs w c f a) ∙ ap (λ (vs : List ℕ). getD vs f 0) (refs-as c u) ∙ getD-refs w′ c f (subst (λ (n : ℕ). f < n) r a)
+      go (no a) (yes b) =
+          let i = f - refCount w c in
+          let e : refCount w c + i ≡ f = omega arith in
+          let e′ : refCount w′ c + i ≡ f = omega (arith, r) in
+          let m : i < numCount w c = omega arith in
+          ap (fieldOf (w .cells) c) (sym e) ∙ sym (getD-nums w c i m) ∙ ap (λ (vs : List ℕ). getD vs i 0) (nums-as c u)
+          ∙ getD-nums w′ c i (subst (λ (n : ℕ). i < n) d m) ∙ ap (fieldOf (w′ .cells) c) e′
+      go (no a) (no b) =
+          st .whole .placed .formed c u .rest f l (omega arith) ∙ sym (st′ .whole .placed .formed c (used-as c u) .rest f l (omega (arith, r, d)))
+
+  word-as : (q : ℕ) → Used s w (cellOf q) → getD (w .cells) q 0 ≡ getD (w′ .cells) q 0
+  word-as q u = go (wordOf q) refl
+    where
+      go : (j : ℕ) → wordOf q ≡ j → getD (w .cells) q 0 ≡ getD (w′ .cells) q 0
+      go zero e = let a : q ≡ 16 * cellOf q = omega arith in ap (λ (i : ℕ). getD (w .cells) i 0) a ∙ head-as (cellOf q) u ∙ sym (ap (λ (i : ℕ). getD (w′ .cells) i 0) a)
+      go (suc zero) e =
+          let a : q ≡ 16 * cellOf q + 1 = omega arith in
+          ap (λ (i : ℕ). getD (w .cells) i 0) a ∙ st .whole .placed .working (cellOf q) u ∙ sym (ap (λ (i : ℕ). getD (w′ .cells) i 0) a ∙ st′ .whole .placed .working (cellOf q) (used-as (cellOf q) u))
+      go (suc (suc f)) e =
+          let a : q ≡ fieldAt (cellOf q) f = omega arith in
+          ap (λ (i : ℕ). getD (w .cells) i 0) a ∙ field-as (cellOf q) f u (omega arith) ∙ sym (ap (λ (i : ℕ). getD (w′ .cells) i 0) a)
+
+-- ---- both halves
+
+module _ (s : Sizes) (w w′ : Words) (h : Regioned) (to : ℕ → ℕ) (st : StandsFor s w h to) (st′ : StandsFor s w′ h to) where
+  used-same : (page : ℕ) → page < s .pages → usedIn s w page ≡ usedIn s w′ page
+  used-same page l = omega (arith, used-most s w w′ h to st st′ page l, used-most s w′ w h to st′ st page l)
+
+  owner-same : (page : ℕ) → page < s .pages → ownerIn s w page ≡ ownerIn s w′ page
+  owner-same page l = go (ℕ-discrete (usedIn s w page) 0)
+    where
+      p : usedIn s w page ≡ usedIn s w′ page
+      p = used-same page l
+
+      -- a page without objects is free
+      free : (v : Words) → WholeFor s v → usedIn s v page ≡ 0 → ownerIn s v page ≡ 0
+      free v k z = none (ownerIn s v page) refl
+        where
+          none : (o : ℕ) → ownerIn s v page ≡ o → ownerIn s v page ≡ 0
+          none zero e = e
+          none (suc o) e = absurd (let q : ⊥ = omega (arith, k .placed .pages page l .taken (omega arith)) in q)
+
+      go : Dec (usedIn s w page ≡ 0) → ownerIn s w page ≡ ownerIn s w′ page
+      go (yes z) = free w (st .whole) z ∙ sym (free w′ (st′ .whole) (sym p ∙ z))
+      go (no n) =
+          let c = cellOn page 0 in
+          let e : pageOf c ≡ page = omega arith in
+          let u : Used s w c = record { page = omega arith; place = subst (λ (q : ℕ). placeOf c < usedIn s w q) (sym e) (omega arith) } in
+          ap (ownerIn s w) (sym e) ∙ sym (used-home s w (st .whole) c u) ∙ home-as s w w′ h to st st′ c u
+          ∙ used-home s w′ (st′ .whole) c (used-as s w w′ h to st st′ c u) ∙ ap (ownerIn s w′) e
+
+  objects-same : (g : ℕ) → objectsOf (placesOf s) (w .tables) g ≡ objectsOf (placesOf s) (w′ .tables) g
+  objects-same g = sum-same _ _ (s .pages) (λ page l. ap₂ (λ (o n : ℕ). cond (eqb o g) n 0) (owner-same page l) (used-same page l))
+
+  region-same : (x : ℕ) → regionOf (placesOf s) (w′ .tables) x ≡ regionOf (placesOf s) (w .tables) x
+  region-same x = go (decLt (pageOf (x - 1)) (s .pages))
+    where
+      go : Dec (pageOf (x - 1) < s .pages) → regionOf (placesOf s) (w′ .tables) x ≡ regionOf (placesOf s) (w .tables) x
+      go (yes l) = ap (λ (o : ℕ). cond (eqb x 0) 0 (cond (ltb (pageOf (x - 1)) (s .pages)) o 0)) (sym (owner-same (pageOf (x - 1)) l))
+      go (no l) =
+          let e : ltb (pageOf (x - 1)) (s .pages) ≡ false = le-ltb (pageOf (x - 1)) (s .pages) (omega arith) in
+          ap (λ (b : Bool). cond (eqb x 0) 0 (cond b (ownerIn s w′ (pageOf (x - 1))) 0)) e ∙ sym (ap (λ (b : Bool). cond (eqb x 0) 0 (cond b (ownerIn s w (pageOf (x - 1))) 0)) e)
+
+  cross-as : (q : ℕ) → q < 256 * s .pages → crossTo (placesOf s) (w′ .cells) (w′ .tables) q ≡ crossTo (placesOf s) (w .cells) (w .tables) q
+  cross-as q l =
+      cross-same (placesOf s) (w .cells) (w .tables) (w′ .cells) (w′ .tables) q l
+      (λ o. (
+        record {
+          used = used-as s w w′ h to st st′ (cellOf q) (o .used);
+          field = o .field;
+          count = subst (λ (z : ℕ). wordOf q < z / 16 + 2) (head-as s w w′ h to st st′ (cellOf q) (o .used)) (o .count);
+        },
+        ap₂ other (sym (owner-same (pageOf (cellOf q)) (o .used .page))) (ap (regionOf (placesOf s) (w′ .tables)) (sym (word-as s w w′ h to st st′ q (o .used))) ∙ region-same (getD (w .cells) q 0)),
+      ))
+      (λ o. inl (record {
+        used = used-as s w′ w h to st′ st (cellOf q) (o .used);
+        field = o .field;
+        count = subst (λ (z : ℕ). wordOf q < z / 16 + 2) (head-as s w′ w h to st′ st (cellOf q) (o .used)) (o .count);
+      }))
+
+  entries-same : lp.usedIn (w .remember) ≡ lp.usedIn (w′ .remember)
+  entries-same = heap-entries s w h to st ∙ sym (heap-entries s w′ h to st′)
+
+  named-same : (i : ℕ) → i < lp.usedIn (w .remember) → SameEntry s w w′ i
+  named-same i l =
+      let e = st .whole .placed .remember .entries .named i l in
+      let x = cross-as (slotIn (w .remember) i) (e .slot) in
+      let r = st′ .whole .placed .remember .every (slotIn (w .remember) i) (e .slot) (omega (arith, x, e .right, e .region)) in
+      let e′ = st′ .whole .placed .remember .entries .named (r .0) (r .1) in
+      record {
+        place = r .0;
+        low = r .1;
+        slot = r .2;
+        region = sym (e′ .right) ∙ ap (crossTo (placesOf s) (w′ .cells) (w′ .tables)) (r .2) ∙ x ∙ e .right;
+      }
+
+  -- WHAT WORDS STAND FOR DETERMINES THEM, BUT FOR THE OPEN POINTS
+  pub determined : SameButOpen s w w′
+  determined =
+      record {
+        sizes = st .whole .sized ∙ sym (st′ .whole .sized);
+        depths = λ t l. sym (depth-at s w t l) ∙ ap (λ (ds : List ℕ). getD ds t 0) (sym (st .depths) ∙ st′ .depths) ∙ depth-at s w′ t l;
+        variables = λ i l. sym (getD-vars s w i l) ∙ ap (λ (vs : List ℕ). getD vs i 0) (st .partners .vars ∙ sym (st′ .partners .vars)) ∙ getD-vars s w′ i l;
+        owners = owner-same;
+        used = used-same;
+        marks = λ page l. st .whole .placed .marks page l ∙ sym (st′ .whole .placed .marks page l);
+        counts = λ g a b. st .whole .placed .counts g a b ∙ objects-same g ∙ sym (st′ .whole .placed .counts g a b);
+        inUse = used-as s w w′ h to st st′;
+        cells = word-as s w w′ h to st st′;
+        room = st .whole .sizes .same ∙ ap (λ (z : Sizes). z .entries) (st .whole .sized ∙ sym (st′ .whole .sized)) ∙ sym (st′ .whole .sizes .same);
+        entries = entries-same;
+        named = named-same;
+        unused = λ i l m.
+            let a = st .whole .placed .remember .entries .rest i l m in
+            let b = st′ .whole .placed .remember .entries .rest i (omega (arith, entries-same)) m in
+            (a .0 ∙ sym (b .0), a .1 ∙ sym (b .1));
+      }
+
+-- so every word of the tables is determined
+module _ (s : Sizes) (w w′ : Words) (e : SameButOpen s w w′) where
+  first-five : (j : ℕ) → j < 5 → getD (w .tables) j 0 ≡ getD (w′ .tables) j 0
+  first-five zero l = ap (λ (z : Sizes). z .threads) (e .sizes)
+  first-five (suc zero) l = ap (λ (z : Sizes). z .variables) (e .sizes)
+  first-five (suc (suc zero)) l = ap (λ (z : Sizes). z .depth) (e .sizes)
+  first-five (suc (suc (suc zero))) l = ap (λ (z : Sizes). z .pages) (e .sizes)
+  first-five (suc (suc (suc (suc zero)))) l = ap (λ (z : Sizes). z .entries) (e .sizes)
+  first-five (suc (suc (suc (suc (suc j))))) l = absurd (let z : ⊥ = omega arith in z)
+
+  -- the word at j, once its place in an array is known
+  at-place : (j i : ℕ) → i ≡ j → getD (w .tables) i 0 ≡ getD (w′ .tables) i 0 → getD (w .tables) j 0 ≡ getD (w′ .tables) j 0
+  at-place j i q = subst (λ (n : ℕ). getD (w .tables) n 0 ≡ getD (w′ .tables) n 0) q
+
+  pub tables-determined : (j : ℕ) → j < tablesWords s → getD (w .tables) j 0 ≡ getD (w′ .tables) j 0
+  tables-determined j l = go (decLt j 5) (decLt j (5 + s .threads)) (decLt j (ownersFrom s)) (decLt j (ownersFrom s + s .pages)) (decLt j (ownersFrom s + 2 * s .pages)) (decLt j (ownersFrom s + 3 * s .pages))
+    where
+      go : Dec (j < 5) → Dec (j < 5 + s .threads) → Dec (j < ownersFrom s) → Dec (j < ownersFrom s + s .pages) → Dec (j < ownersFrom s + 2 * s .pages) → Dec (j < ownersFrom s + 3 * s .pages)
+          → getD (w .tables) j 0 ≡ getD (w′ .tables) j 0
+      go (yes a) b c d f g = first-five j a
+      go (no a) (yes b) c d f g = at-place j (depthAt (j - 5)) (omega arith) (e .depths (j - 5) (omega arith))
+      go (no a) (no b) (yes c) d f g =
+          at-place j (varAt (placesOf s) (j - (5 + s .threads))) (omega arith) (e .variables (j - (5 + s .threads)) (omega (arith, owners-is s)))
+      go (no a) (no b) (no c) (yes d) f g = at-place j (lp.ownerAt (placesOf s) (j - ownersFrom s)) (omega arith) (e .owners (j - ownersFrom s) (omega arith))
+      go (no a) (no b) (no c) (no d) (yes f) g =
+          at-place j (lp.usedAt (placesOf s) (j - (ownersFrom s + s .pages))) (omega (arith, used-is s)) (e .used (j - (ownersFrom s + s .pages)) (omega arith))
+      go (no a) (no b) (no c) (no d) (no f) (yes g) =
+          at-place j (lp.markAt (placesOf s) (j - (ownersFrom s + 2 * s .pages))) (omega (arith, mark-is s)) (e .marks (j - (ownersFrom s + 2 * s .pages)) (omega arith))
+      go (no a) (no b) (no c) (no d) (no f) (no g) =
+          at-place j (lp.countAt (placesOf s) (j - (ownersFrom s + 3 * s .pages) + 1)) (omega (arith, count-is s))
+          (e .counts (j - (ownersFrom s + 3 * s .pages) + 1) (omega arith) (omega (arith, count-room s, count-is s)))

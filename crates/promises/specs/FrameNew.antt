@@ -1,0 +1,210 @@
+-- A new object: the words stand for the heap with that object appended, and its variable set.
+use Prim.Native.Nat.{ℕ, zero, suc, _+_, _*_, _/_, _%_, _≤_, _<_}
+use native.Mathlib.Omega.{arith}
+use native.Mathlib.Decide.{ℕ-discrete, decLt}
+use native.Mathlib.Numerals.{add-one}
+use mathlib.Core.Path.{_≡_, refl, sym, ap, ap₂, subst, _∙_}
+use mathlib.Core.Logic.{_⊎_, inl, inr}
+use mathlib.Core.List.{List, [], _∷_, _++_, map}
+use mathlib.Core.Bool.{Bool, cond}
+use lib.ListN.{length, getD, set, replicate, length-append, length-replicate, List·getD-append, List·getD-eq-default}
+use lib.Seq.{getD-at, ext-getD}
+use lib.Dec.{eqb}
+use borrow.Author.Tests.{eq-eqb, ne-eqb}
+use Rattle.lists.specs.Members.{In}
+use Rattle.rules.specs.declared.Sizes.{Sizes}
+use Rattle.rules.specs.NeverFreeing.{Object, noObject}
+use Rattle.rules.specs.Regions.{regions}
+use Rattle.rules.specs.Rules.{Regioned, graph}
+use Rattle.laws.specs.GraphLaws.{Alive}
+use Rattle.laws.specs.RulesLaws.{Sound}
+use Rattle.laws.specs.SameRules.{renamed}
+use Rattle.layout.specs.Places.{placesOf, varAt}
+use Rattle.layout.specs.Cells.{headOf}
+use Rattle.promises.specs.Words.{Words, Used, refsAt, numsAt, homeIn, graphOf}
+use Rattle.promises.specs.Whole.{WholeFor, Open}
+use Rattle.promises.specs.StandsFor.{StandsFor}
+use Rattle.promises.specs.Reading.{alive-used, used-alive, used-home, in-place, length-refs, length-nums, getD-refs, getD-nums}
+use Rattle.promises.specs.Changes.{withTables, withNew, withVariable}
+use Rattle.promises.specs.TakeCell.{Took, took-used, took-unused, still-used, used-split, owner-used}
+use Rattle.promises.specs.NewCell.{Blank, new-whole, depths-kept, vars-kept, refs-other, nums-other}
+use Rattle.promises.specs.FrameVariable.{variable-stands}
+
+-- an object of b nulls and d zeros
+abbrev pub blankObject : ℕ → ℕ → Object
+blankObject b d = record { refs = replicate b 0; nums = replicate d 0 }
+
+-- the map to cells, with the new object's
+abbrev pub withCell : Regioned → (ℕ → ℕ) → ℕ → ℕ → ℕ
+withCell h to cell x = cond (eqb x (length (h .heap .objects))) cell (to x)
+
+-- a list of zeros
+zero-at : (n i : ℕ) → _≡_ {A = ℕ} (getD (replicate n 0) i 0) 0
+zero-at zero i = refl
+zero-at (suc n) zero = refl
+zero-at (suc n) (suc i) = zero-at n i
+
+zeros-are : (n : ℕ) (l : List ℕ) → length l ≡ n → ((i : ℕ) → i < n → getD l i 0 ≡ 0) → l ≡ replicate n 0
+zeros-are n l e h = ext-getD 0 l (replicate n 0) (e ∙ sym (length-replicate n 0)) (λ i m. h i (omega arith) ∙ sym (zero-at n i))
+
+map-zeros : (n : ℕ) (f : ℕ → ℕ) → map (renamed f) (replicate n 0) ≡ replicate n 0
+map-zeros zero f = refl
+map-zeros (suc n) f = ap (λ (l : List ℕ). 0 ∷ l) (map-zeros n f)
+
+map-same : (f g : ℕ → ℕ) (l : List ℕ) → ((v : ℕ) → In v l → f v ≡ g v) → map f l ≡ map g l
+map-same f g [] e = refl
+map-same f g (v ∷ l) e = ap₂ (λ x xs. x ∷ xs) (e v (inl refl)) (map-same f g l (λ u i. e u (inr i)))
+
+module _ (s : Sizes) (w : Words) (h : Regioned) (to : ℕ → ℕ) (st : StandsFor s w h to) (g cell b d : ℕ) (t′ c′ : List ℕ) (took : Took (placesOf s) (w .tables) g cell t′)
+    (blank : Blank (w .cells) cell (16 * b + d) c′) (few : b + d ≤ 14) (pos : 1 ≤ g) (low : g ≤ regions s) (open′ : 1 < g → Open (placesOf s) (w .tables) g) where
+  abbrev n : ℕ
+  n = length (h .heap .objects)
+
+  abbrev o : Object
+  o = blankObject b d
+
+  abbrev h₁ : Regioned
+  h₁ = withNew h o g
+
+  abbrev w₁ : Words
+  w₁ = record { cells = c′; remember = w .remember; tables = t′ }
+
+  abbrev to₁ : ℕ → ℕ
+  to₁ = withCell h to cell
+
+  k₁ : WholeFor s w₁
+  k₁ = new-whole s w (st .whole) g cell b d t′ c′ took blank few pos low open′
+
+  to-new : to₁ n ≡ cell
+  to-new = ap (λ (x : Bool). cond x cell (to n)) (eq-eqb n n refl)
+
+  below : (x : ℕ) → Alive (graph h) x → x < n
+  below x a = st .sound .closed .below x a
+
+  -- the old objects keep their cells
+  pub to-old : (x : ℕ) → Alive (graph h) x → to₁ x ≡ to x
+  to-old x a = ap (λ (q : Bool). cond q cell (to x)) (ne-eqb x n (λ (e : x ≡ n). omega (arith, below x a)))
+
+  home-old : (x : ℕ) → x < n → graph h₁ .home x ≡ graph h .home x
+  home-old x l = List·getD-append (h .homes) (g ∷ []) 0 x (omega (arith, st .sound .aligned))
+
+  home-new : graph h₁ .home n ≡ g
+  home-new = getD-at (h .homes) g [] 0 n (st .sound .aligned)
+
+  object-old : (x : ℕ) → x < n → getD (h₁ .heap .objects) x noObject ≡ getD (h .heap .objects) x noObject
+  object-old x l = List·getD-append (h .heap .objects) (o ∷ []) noObject x l
+
+  object-new : getD (h₁ .heap .objects) n noObject ≡ o
+  object-new = getD-at (h .heap .objects) o [] noObject n refl
+
+  -- an object that is there is an old one or the new one
+  split : (x : ℕ) → Alive (graph h₁) x → Alive (graph h) x ⊎ (x ≡ n)
+  split x a = go (ℕ-discrete x n) (decLt x n)
+    where
+      go : Dec (x ≡ n) → Dec (x < n) → Alive (graph h) x ⊎ (x ≡ n)
+      go (yes e) l = inr e
+      go (no e) (yes l) = inl (λ z. a (home-old x l ∙ z))
+      go (no e) (no l) = absurd (a (List·getD-eq-default (h .homes ++ g ∷ []) 0 (omega (arith, length-append (h .homes) (g ∷ []), st .sound .aligned))))
+
+  pub still : (x : ℕ) → Alive (graph h) x → Alive (graph h₁) x
+  still x a z = a (sym (home-old x (below x a)) ∙ z)
+
+  cases : (P : ℕ → ℕ → Type 0) → ((x : ℕ) → Alive (graph h) x → P x (to x)) → P n cell → (x : ℕ) → Alive (graph h₁) x → P x (to₁ x)
+  cases P f q x a = go (split x a)
+    where
+      go : Alive (graph h) x ⊎ (x ≡ n) → P x (to₁ x)
+      go (inl e) = subst (P x) (sym (to-old x e)) (f x e)
+      go (inr e) = subst (λ (z : ℕ). P z (to₁ z)) (sym e) (subst (P n) (sym to-new) q)
+
+  in-use : (x : ℕ) → Alive (graph h) x → Used s w (to x)
+  in-use x a = alive-used s w (st .whole) (to x) (λ z. a (sym (st .partners .home x a) ∙ z))
+
+  new-used : Used s w₁ cell
+  new-used = took-used s (w .tables) g cell t′ took
+
+  -- ---- homes
+
+  home-kept : (y : ℕ) → Used s w y → homeIn s w₁ y ≡ homeIn s w y
+  home-kept y u =
+      used-home s w₁ k₁ y (still-used s (w .tables) g cell t′ took y u) ∙ owner-used s (w .tables) g cell t′ took (st .whole .placed .pages) y u ∙ sym (used-home s w (st .whole) y u)
+
+  apart-new : (x : ℕ) → Alive (graph h) x → to x ≡ cell → ⊥
+  apart-new x a e = took-unused s (w .tables) g cell t′ took (subst (Used s w) e (in-use x a))
+
+  one-to-one : (x y : ℕ) → Alive (graph h) x ⊎ (x ≡ n) → Alive (graph h) y ⊎ (y ≡ n) → to₁ x ≡ to₁ y → x ≡ y
+  one-to-one x y (inl a) (inl c) e = st .partners .apart x y a c (sym (to-old x a) ∙ e ∙ to-old y c)
+  one-to-one x y (inl a) (inr f) e = absurd (apart-new x a (sym (to-old x a) ∙ e ∙ ap to₁ f ∙ to-new))
+  one-to-one x y (inr f) (inl c) e = absurd (apart-new y c (sym (to-old y c) ∙ sym e ∙ ap to₁ f ∙ to-new))
+  one-to-one x y (inr f) (inr i) e = f ∙ sym i
+
+  onto : (y : ℕ) → Alive (graphOf s w₁) y → (x : ℕ) × Alive (graph h₁) x × (to₁ x ≡ y)
+  onto y a = go (used-split s (w .tables) g cell t′ took y (alive-used s w₁ k₁ y a))
+    where
+      go : (y ≡ cell) ⊎ Used s w y → (x : ℕ) × Alive (graph h₁) x × (to₁ x ≡ y)
+      go (inl e) = (n, (λ z. omega (arith, home-new)), to-new ∙ sym e)
+      go (inr u) =
+          let r = st .partners .onto y (used-alive s w (st .whole) y u) in
+          (r .0, still (r .0) (r .1), to-old (r .0) (r .1) ∙ r .2)
+
+  -- ---- fields
+
+  renamed-old : (vs : List ℕ) → ((y : ℕ) → In (suc y) vs → Alive (graph h) y) → map (renamed to₁) vs ≡ map (renamed to) vs
+  renamed-old vs f = map-same (renamed to₁) (renamed to) vs go
+    where
+      go : (v : ℕ) → In v vs → renamed to₁ v ≡ renamed to v
+      go zero i = refl
+      go (suc y) i = ap suc (to-old y (f y i))
+
+  ref-count : headOf c′ cell / 16 ≡ b
+  ref-count = omega (arith, blank .head)
+
+  num-count : headOf c′ cell % 16 ≡ d
+  num-count = omega (arith, blank .head)
+
+  refs-new : refsAt c′ cell ≡ replicate b 0
+  refs-new =
+      zeros-are b (refsAt c′ cell) (length-refs s w₁ k₁ cell new-used ∙ ref-count)
+      (λ i l. getD-refs w₁ cell i (subst (λ (z : ℕ). i < z) (sym ref-count) l) ∙ blank .fields i (omega arith))
+
+  nums-new : numsAt c′ cell ≡ replicate d 0
+  nums-new =
+      zeros-are d (numsAt c′ cell) (length-nums s w₁ k₁ cell new-used ∙ num-count)
+      (λ i l. getD-nums w₁ cell i (subst (λ (z : ℕ). i < z) (sym num-count) l) ∙ blank .fields (headOf c′ cell / 16 + i) (omega (arith, ref-count)))
+
+  pub new-stands : Sound h₁ → StandsFor s w₁ h₁ to₁
+  new-stands sound =
+      let kw = st .whole in
+      record {
+        whole = k₁;
+        sound = sound;
+        depths = st .depths ∙ sym (depths-kept s w kw g cell b d t′ c′ took blank few pos low open′);
+        partners = record {
+          home = cases (λ x y. homeIn s w₁ y ≡ graph h₁ .home x)
+              (λ x a. home-kept (to x) (in-use x a) ∙ st .partners .home x a ∙ sym (home-old x (below x a)))
+              (used-home s w₁ k₁ cell new-used ∙ took .owner ∙ sym home-new);
+          apart = λ x y a c e. one-to-one x y (split x a) (split y c) e;
+          onto = onto;
+          refs = cases (λ x y. refsAt c′ y ≡ map (renamed to₁) (getD (h₁ .heap .objects) x noObject .refs))
+              (λ x a. refs-other s w kw g cell b d t′ c′ took blank few pos low open′ (to x) (in-use x a) ∙ st .partners .refs x a
+              ∙ sym (ap (λ (q : Object). map (renamed to₁) (q .refs)) (object-old x (below x a)) ∙ renamed-old (graph h .refs x) (λ y i. st .sound .closed .refs x y a i)))
+              (refs-new ∙ sym (ap (λ (q : Object). map (renamed to₁) (q .refs)) object-new ∙ map-zeros b to₁));
+          vars = vars-kept s w kw g cell b d t′ c′ took blank few pos low open′ ∙ st .partners .vars
+              ∙ sym (renamed-old (h .heap .vars) (λ y i. let j = in-place (h .heap .vars) (suc y) i in st .sound .closed .vars (j .0) y (j .2)));
+        };
+        nums = cases (λ x y. getD (h₁ .heap .objects) x noObject .nums ≡ numsAt c′ y)
+            (λ x a. ap (λ (q : Object). q .nums) (object-old x (below x a)) ∙ st .nums x a ∙ sym (nums-other s w kw g cell b d t′ c′ took blank few pos low open′ (to x) (in-use x a)))
+            (ap (λ (q : Object). q .nums) object-new ∙ sym nums-new);
+      }
+
+  -- ---- and variable i, counted through all threads, names it
+
+  pub made-stands : (i : ℕ) → i < s .threads * s .variables → Sound (withVariable h₁ i (n + 1)) → StandsFor s (withTables w₁ (set t′ (varAt (placesOf s) i) (cell + 1))) (withVariable h₁ i (n + 1)) to₁
+  made-stands i l sound =
+      variable-stands s w₁ h₁ to₁ (new-stands between) i (n + 1) (cell + 1) l (add-one cell ∙ ap suc (sym to-new) ∙ sym (ap (renamed to₁) (add-one n))) sound
+    where
+      between : Sound h₁
+      between =
+          record {
+            aligned = sound .aligned;
+            closed = record { below = sound .closed .below; vars = λ j x e. still x (st .sound .closed .vars j x e); refs = sound .closed .refs };
+          }

@@ -1,0 +1,180 @@
+-- A reference of an object is stored, and the remember table follows: the words stand for the heap with that reference changed.
+use Prim.Native.Nat.{ℕ, zero, suc, _+_, _≤_, _<_}
+use native.Mathlib.Omega.{arith}
+use mathlib.Core.Path.{_≡_, refl, sym, ap, ap₂, subst, _∙_}
+use mathlib.Core.Bool.{cond, not, _&&_}
+use mathlib.Core.List.{List}
+use lib.ListN.{length, getD, set, length-set, length-map, List·getD-map}
+use lib.Seq.{drop-set-lt}
+use lib.Dec.{ltb, eqb}
+use borrow.Author.Tests.{lt-ltb, le-ltb}
+use Rattle.lists.specs.Counting.{bit}
+use Rattle.lists.specs.Members.{getD-in}
+use Rattle.lists.specs.Stores.{put, drop-same}
+use Rattle.rules.specs.declared.Sizes.{Sizes}
+use Rattle.rules.specs.NeverFreeing.{Object, noObject}
+use Rattle.rules.specs.Graph.{crossing}
+use Rattle.rules.specs.Rules.{Regioned, graph}
+use Rattle.laws.specs.GraphLaws.{Alive}
+use Rattle.laws.specs.RulesLaws.{Sound}
+use Rattle.laws.specs.SameRules.{renamed}
+use Rattle.laws.specs.Counts.{crossRef, crossing-stored}
+use Rattle.laws.specs.AfterLaws.{graph-stored}
+use Rattle.layout.specs.Places as lp
+use Rattle.layout.specs.Places.{placesOf, cellsWords, rememberWords}
+use Rattle.layout.specs.Cells.{fieldAt, fieldOf, cellOf}
+use Rattle.promises.specs.Words.{Words, Used, refCount}
+use Rattle.promises.specs.Crossing.{crossTo}
+use Rattle.promises.specs.Whole.{WholeFor, IsRef}
+use Rattle.promises.specs.StandsFor.{StandsFor, SameBeyond}
+use Rattle.promises.specs.Reading.{alive-used, cells-room, remember-room, length-refs, getD-refs}
+use Rattle.promises.specs.Crossings.{ref-test, heap-entries}
+use Rattle.promises.specs.Changes.{withObject, map-set}
+use Rattle.promises.specs.Entries.{Edited}
+use Rattle.promises.specs.Slots.{Slot, crossesTo, field-slot, slot-cross, cross-stored, cross-elsewhere, exact-of, of-exact}
+use Rattle.promises.specs.Remembering.{Remembered, NoRoom, remembered-exact, remembered-edited}
+use Rattle.promises.specs.FieldStore.{field-whole, whole-with, object-stands, refs-set, nums-kept}
+use Rattle.promises.specs.FrameVariable.{ref-to-cell}
+
+-- the slot of reference f in cell y, the region it crosses into, and that which reference v would there
+module _ (s : Sizes) (w : Words) (y f v : ℕ) where
+  abbrev pub crossedTo : ℕ
+  crossedTo = crossesTo (placesOf s) (w .tables) y (fieldOf (w .cells) y f)
+
+  abbrev pub willCross : ℕ
+  willCross = crossesTo (placesOf s) (w .tables) y v
+
+  -- the words after the store
+  abbrev pub storedWords : List ℕ → Words
+  storedWords m′ = record { cells = set (w .cells) (fieldAt y f) v; remember = m′; tables = w .tables }
+
+  -- the remember table followed
+  abbrev pub Followed : List ℕ → ℕ → Type 0
+  Followed m′ r = Remembered (s .entries) (w .remember) (fieldAt y f) crossedTo willCross m′ r
+
+module _ (s : Sizes) (w : Words) (k : WholeFor s w) (y f v : ℕ) (u : Used s w y) (low : f < refCount w y) where
+  abbrev at : ℕ
+  at = fieldAt y f
+
+  few : f < 14
+  few = omega (arith, k .placed .formed y u .head)
+
+  pub reference-slot : Slot (placesOf s) (w .cells) (w .tables) at
+  reference-slot = field-slot (placesOf s) (w .cells) (w .tables) y f u few low
+
+  cell-is : cellOf at ≡ y
+  cell-is = omega (arith, few)
+
+  room : at < cellsWords s
+  room = omega (arith, few, u .page)
+
+  before : crossTo (placesOf s) (w .cells) (w .tables) at ≡ crossedTo s w y f v
+  before =
+      slot-cross (placesOf s) (w .cells) (w .tables) at reference-slot ∙ ap (λ (z : ℕ). crossesTo (placesOf s) (w .tables) z (getD (w .cells) at 0)) cell-is
+
+  after : crossTo (placesOf s) (set (w .cells) at v) (w .tables) at ≡ willCross s w y f v
+  after =
+      cross-stored (placesOf s) (w .cells) (w .tables) at v reference-slot (omega (arith, room, cells-room s w k)) ∙ ap (λ (z : ℕ). crossesTo (placesOf s) (w .tables) z v) cell-is
+
+  -- a slot that crosses has its entry
+  pub reference-named : 0 < crossedTo s w y f v → (i : ℕ) × (i < lp.usedIn (w .remember)) × (lp.slotIn (w .remember) i ≡ at)
+  reference-named h = k .placed .remember .every at room (subst (λ (z : ℕ). 0 < z) (sym before) h)
+
+  module _ (m′ : List ℕ) (r : ℕ) (d : Followed s w y f v m′ r) where
+    edited : Edited (s .entries) (w .remember) m′
+    edited = remembered-edited (s .entries) (w .remember) at _ _ m′ r (remember-room s w k) (k .placed .remember .entries .room) d
+
+    pub reference-whole : IsRef (placesOf s) (w .tables) v → r ≡ 0 → WholeFor s (storedWords s w y f v m′)
+    reference-whole ref z =
+        whole-with s w k (set (w .cells) at v) m′ (length-set (w .cells) at v) (edited .long) (edited .size)
+        (field-whole (placesOf s) (w .cells) (w .remember) (w .tables) (k .placed) y f v u (omega arith) (cells-room s w k) m′ (λ l. ref)
+        (of-exact (placesOf s) (set (w .cells) at v) m′ (w .tables)
+        (remembered-exact (crossTo (placesOf s) (w .cells) (w .tables)) (crossTo (placesOf s) (set (w .cells) at v) (w .tables)) (cellsWords s) (s .entries) (w .remember) m′
+        (remember-room s w k) (exact-of (placesOf s) (w .cells) (w .remember) (w .tables) (k .placed .remember)) at _ _ r room
+        (cross-elsewhere (placesOf s) (w .cells) (w .tables) at v reference-slot) before after d z)))
+
+    pub reference-beyond : SameBeyond s w (storedWords s w y f v m′)
+    reference-beyond =
+        record {
+          cells = record { long = length-set (w .cells) at v; rest = drop-set-lt (cellsWords s) (w .cells) at v room };
+          remember = record { long = edited .long; rest = drop-same (rememberWords s) (w .remember) m′ (edited .long) (edited .spare) };
+          tables = record { long = refl; rest = refl };
+        }
+
+-- ---- of whatever heap the words stand for: reference f of object x becomes u, v in the words
+
+-- the object with reference f changed to u
+abbrev pub withReference : Object → ℕ → ℕ → Object
+withReference o f u = record { refs = set (o .refs) f u; nums = o .nums }
+
+module _ (s : Sizes) (w : Words) (h : Regioned) (to : ℕ → ℕ) (st : StandsFor s w h to) (x : ℕ) (a : Alive (graph h) x) (f u v : ℕ) (low : f < refCount w (to x)) (e : v ≡ renamed to u)
+    (sound : Sound (withObject h x (withReference (getD (h .heap .objects) x noObject) f u))) where
+  abbrev y : ℕ
+  y = to x
+
+  abbrev o : Object
+  o = getD (h .heap .objects) x noObject
+
+  abbrev h′ : Regioned
+  h′ = withObject h x (withReference o f u)
+
+  in-use : Used s w y
+  in-use = alive-used s w (st .whole) y (λ q. a (sym (st .partners .home x a) ∙ q))
+
+  inside : x < length (h .heap .objects)
+  inside = st .sound .closed .below x a
+
+  low-refs : f < length (o .refs)
+  low-refs = omega (arith, length-refs s w (st .whole) y in-use, ap length (st .partners .refs x a), length-map (o .refs) (renamed to))
+
+  -- u is null or there
+  there : (z : ℕ) → u ≡ suc z → Alive (graph h) z
+  there z q =
+      sound .closed .refs x z a (getD-in (graph h′ .refs x) f z (ap (λ (p : Object). getD (p .refs) f 0) (put (h .heap .objects) x (withReference o f u) noObject inside) ∙ put (o .refs) f u 0 low-refs ∙ q))
+
+  ref : IsRef (placesOf s) (w .tables) v
+  ref = ref-to-cell s w h to st u v e there
+
+  pub reference-stands : (m′ : List ℕ) (r : ℕ) → Followed s w y f v m′ r → r ≡ 0 → StandsFor s (storedWords s w y f v m′) h′ to
+  reference-stands m′ r d z =
+      object-stands s w h to st x a f v (omega arith) m′ (withReference o f u) (reference-whole s w (st .whole) y f v in-use low m′ r d ref z)
+      (refs-set s w (st .whole) y f v in-use (omega arith) low ∙ ap₂ (λ (vs : List ℕ) (i : ℕ). set vs f i) (st .partners .refs x a) e ∙ sym (map-set (renamed to) (o .refs) f u))
+      (st .nums x a ∙ sym (nums-kept s w (st .whole) y f v in-use (omega arith) low)) sound
+
+  -- ---- question 14
+
+  -- the rules' test of a reference is that of the words
+  cross-like : (i : ℕ) → ((z : ℕ) → i ≡ suc z → Alive (graph h) z) → crossRef (graph h) x i ≡ bit (ltb 0 (crossesTo (placesOf s) (w .tables) y (renamed to i)))
+  cross-like zero b = refl
+  cross-like (suc z) b =
+      let c = b z refl in
+      sym (ref-test s w (st .whole) y in-use (suc (to z)) (ref-to-cell s w h to st (suc z) (suc (to z)) refl b)
+      ∙ ap₂ (λ (p q : ℕ). cond (not (eqb p q) && not (eqb q 1)) 1 0) (st .partners .home x a) (st .partners .home z c))
+
+  old : renamed to (getD (o .refs) f 0) ≡ fieldOf (w .cells) y f
+  old = sym (List·getD-map (renamed to) (o .refs) f 0) ∙ ap (λ (vs : List ℕ). getD vs f 0) (sym (st .partners .refs x a)) ∙ getD-refs w y f low
+
+  -- crossing slots after the store
+  pub reference-crossing : crossing (graph h′) + bit (ltb 0 (crossedTo s w y f v)) ≡ lp.usedIn (w .remember) + bit (ltb 0 (willCross s w y f v))
+  reference-crossing =
+      omega (
+        arith,
+        ap crossing (graph-stored h x inside f u (o .nums)),
+        crossing-stored (graph h) x f u inside a low-refs,
+        cross-like (getD (o .refs) f 0) (λ z q. st .sound .closed .refs x z a (getD-in (o .refs) f z q)),
+        ap (λ (i : ℕ). bit (ltb 0 (crossesTo (placesOf s) (w .tables) y i))) old,
+        cross-like u there,
+        ap (λ (i : ℕ). bit (ltb 0 (crossesTo (placesOf s) (w .tables) y i))) e,
+        heap-entries s w h to st,
+      )
+
+  -- done: they have entries
+  pub reference-fits : (m′ : List ℕ) (r : ℕ) → Followed s w y f v m′ r → r ≡ 0 → crossing (graph h′) ≤ s .entries
+  reference-fits m′ r d z =
+      let st′ = reference-stands m′ r d z in
+      omega (arith, heap-entries s (storedWords s w y f v m′) h′ to st′, st′ .whole .placed .remember .entries .room)
+
+  -- no room: more would cross than there are entries
+  pub reference-full : (m′ : List ℕ) (r : ℕ) → NoRoom (s .entries) (w .remember) (fieldAt y f) (crossedTo s w y f v) (willCross s w y f v) m′ r → s .entries < crossing (graph h′)
+  reference-full m′ r n =
+      omega (arith, reference-crossing, n .many, ap bit (le-ltb 0 (crossedTo s w y f v) (omega (arith, n .before))), ap bit (lt-ltb 0 (willCross s w y f v) (n .after)))

@@ -1,0 +1,112 @@
+-- A command need only be shown right of the heap that the words themselves make, whose objects are the cells: then it is right of every heap that they stand for.
+use Prim.Native.Nat.{ℕ, zero, suc, _<_}
+use mathlib.Core.Path.{_≡_, refl, sym, ap, _∙_}
+use mathlib.Core.List.{List, [], _∷_, map}
+use Rattle.rules.specs.declared.Sizes.{Sizes}
+use Rattle.rules.specs.declared.Command.{Command}
+use Rattle.rules.specs.declared.Answer.{Answer}
+use Rattle.rules.specs.NeverFreeing.{Object, depthOf, varOf, objectOf}
+use Rattle.laws.specs.GraphLaws.{Alive}
+use Rattle.laws.specs.SameRules.{renamed}
+use Rattle.rules.specs.Rules as ru
+use Rattle.rules.specs.Rules.{Regioned, graph}
+use Rattle.promises.specs.Words.{Words, Used, heapOf, graphOf, depthIn, varIn, objectIn}
+use Rattle.promises.specs.Whole.{WholeFor}
+use Rattle.promises.specs.StandsFor.{StandsFor}
+use Rattle.promises.specs.Promises.{Became, DidHere, Did}
+use Rattle.promises.specs.Reading.{used-alive, var-at, depth-at}
+use Rattle.promises.specs.Agreed.{home-at, object-at, heap-stands, there}
+use Rattle.laws.specs.LikeHeaps.{Like}
+use Rattle.laws.specs.LikeSteps.{step-like}
+
+-- words that stand for h: h corresponds to the heap that they make
+stands-like : (s : Sizes) (w : Words) (h : Regioned) (cellOf : ℕ → ℕ) → StandsFor s w h cellOf → Like cellOf h (heapOf s w)
+unfolding heapOf
+stands-like s w h cellOf st =
+    record {
+      sound = st .sound;
+      sound′ = heap-stands s w (st .whole) .sound;
+      depths = sym (st .depths);
+      partners = record {
+        home = λ x a. home-at s w (st .whole) (cellOf x) ∙ st .partners .home x a;
+        apart = st .partners .apart;
+        onto = λ y a. st .partners .onto y (there s w (st .whole) y a);
+        refs = λ x a. ap (λ (o : Object). o .refs) (object-at s w (st .whole) (cellOf x) (alive x a)) ∙ st .partners .refs x a;
+        vars = st .partners .vars;
+      };
+      nums = λ x a. ap (λ (o : Object). o .nums) (object-at s w (st .whole) (cellOf x) (alive x a)) ∙ sym (st .nums x a);
+    }
+  where
+    alive : (x : ℕ) → Alive (graph h) x → Alive (graphOf s w) (cellOf x)
+    alive x a z = a (sym (st .partners .home x a) ∙ z)
+
+renamed-twice : (f g : ℕ → ℕ) (l : List ℕ) → map (renamed g) (map (renamed f) l) ≡ map (renamed (λ x. g (f x))) l
+renamed-twice f g [] = refl
+renamed-twice f g (zero ∷ l) = ap (λ (k : List ℕ). 0 ∷ k) (renamed-twice f g l)
+renamed-twice f g (suc x ∷ l) = ap (λ (k : List ℕ). suc (g (f x)) ∷ k) (renamed-twice f g l)
+
+-- words that stand for a heap stand for each that corresponds to it
+like-stands : (s : Sizes) (w : Words) (to : ℕ → ℕ) (h k : Regioned) (cell : ℕ → ℕ) → Like to h k → StandsFor s w k cell → StandsFor s w h (λ x. cell (to x))
+like-stands s w to h k cell l st =
+    record {
+      whole = st .whole;
+      sound = l .sound;
+      depths = sym (l .depths) ∙ st .depths;
+      partners = record {
+        home = λ x a. st .partners .home (to x) (alive x a) ∙ l .partners .home x a;
+        apart = λ x y a b e. l .partners .apart x y a b (st .partners .apart (to x) (to y) (alive x a) (alive y b) e);
+        onto = λ c a. let z = st .partners .onto c a in let y = l .partners .onto (z .0) (z .1) in (y .0, y .1, ap cell (y .2) ∙ z .2);
+        refs = λ x a. st .partners .refs (to x) (alive x a) ∙ ap (map (renamed cell)) (l .partners .refs x a) ∙ renamed-twice to cell (graph h .refs x);
+        vars = st .partners .vars ∙ ap (map (renamed cell)) (l .partners .vars) ∙ renamed-twice to cell (h .heap .vars);
+      };
+      nums = λ x a. sym (l .nums x a) ∙ st .nums (to x) (alive x a);
+    }
+  where
+    alive : (x : ℕ) → Alive (graph h) x → Alive (graph k) (to x)
+    alive x a z = a (sym (l .partners .home x a) ∙ z)
+
+pub did-anywhere : (s : Sizes) (w : Words) (m : Command) (w′ : Words) (a : Answer) → DidHere s w m w′ a → Did s w m w′ a
+did-anywhere s w m w′ a d =
+    record {
+      answer = λ h cellOf st. d .answer ∙ step-like s cellOf h (heapOf s w) (stands-like s w h cellOf st) m .answers;
+      next = next;
+      refused = d .refused;
+      beyond = d .beyond;
+    }
+  where
+    k : Regioned
+    k = heapOf s w
+
+    next : (h : Regioned) (cellOf : ℕ → ℕ) → StandsFor s w h cellOf → Became s h cellOf w′ (ru.step s h m .next)
+    next h cellOf st =
+        let l = stands-like s w h cellOf st in
+        let n = step-like s cellOf h (heapOf s w) l m .next in
+        let b = d .next in
+        record {
+          cell = λ x. b .cell (n .to′ x);
+          stands = like-stands s w′ (n .to′) (ru.step s h m .next) (ru.step s (heapOf s w) m .next) (b .cell) (n .like) (b .stands);
+          stays = λ x a e.
+              let a₁ : Alive (graph (ru.step s h m .next)) x = λ z. a (sym e ∙ z) in
+              ap (b .cell) (n .keeps x a)
+              ∙ b .stays (cellOf x) (λ z. a (sym (l .partners .home x a) ∙ z))
+              (ap (graph (ru.step s (heapOf s w) m .next) .home) (sym (n .keeps x a)) ∙ n .like .partners .home x a₁ ∙ e ∙ sym (l .partners .home x a));
+        }
+
+-- and the other way round, of whole words
+pub did-here : (s : Sizes) (w : Words) (m : Command) (w′ : Words) (a : Answer) → WholeFor s w → Did s w m w′ a → DidHere s w m w′ a
+did-here s w m w′ a k d =
+    let st = heap-stands s w k in
+    record { answer = d .answer (heapOf s w) (λ c. c) st; next = d .next (heapOf s w) (λ c. c) st; refused = d .refused; beyond = d .beyond }
+
+-- what the questions read of that heap, in words
+module _ (s : Sizes) (w : Words) where
+  pub here-depth : (t : ℕ) → t < s .threads → depthOf (heapOf s w .heap) t ≡ depthIn w t
+  unfolding heapOf
+  here-depth t l = depth-at s w t l
+
+  pub here-var : (t a : ℕ) → t < s .threads → a < s .variables → varOf s (heapOf s w .heap) t a ≡ varIn s w t a
+  unfolding heapOf
+  here-var t a l m = var-at s w t a l m
+
+  pub here-object : (k : WholeFor s w) (c : ℕ) → Used s w c → objectOf (heapOf s w .heap) (suc c) ≡ objectIn w c
+  here-object k c u = object-at s w k c (used-alive s w k c u)

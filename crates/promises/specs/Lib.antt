@@ -1,0 +1,36 @@
+-- What lent words stand for, and what a command, a run and prepare promise of them.
+
+-- definitions: what must be read
+pub mod Words
+pub mod Crossing
+pub mod Whole
+pub mod StandsFor
+pub mod Promises
+-- theorems: what is read from whole words, the heaps that they stand for, and a command here and anywhere
+pub mod Reading
+pub mod Agreed
+pub mod Here
+-- theorems: pages by objects, entries by crossing slots, and that only 01's open points are left free
+pub mod Remember
+pub mod OwnedPages
+pub mod Crossings
+pub mod Determined
+-- the questions in words, refusals, and a command that is done
+pub mod Questions
+pub mod NewPages
+-- the remember table: exact for crossTo, and kept so by each edit
+pub mod Entries
+pub mod EntryEdits
+pub mod Slots
+pub mod Remembering
+-- frames: words that differ in one area stand for the heap, changed likewise
+pub mod Changes
+pub mod KeptPages
+pub mod FrameVariable
+pub mod FrameDepth
+pub mod FieldStore
+pub mod FrameNumber
+pub mod FrameReference
+pub mod TakeCell
+pub mod NewCell
+pub mod FrameNew

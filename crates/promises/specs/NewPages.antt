@@ -1,0 +1,136 @@
+-- Question 13 of a new object, in words: it says no exactly if its region has no partly filled page and no page is free.
+use Prim.Native.Nat.{ℕ, zero, suc, _+_, _-_, _*_, _%_, _≤_, _<_}
+use native.Mathlib.Omega.{arith}
+use mathlib.Core.Path.{_≡_, refl, sym, ap, subst, _∙_}
+use mathlib.Core.Logic.{_⊎_, inl, inr}
+use mathlib.Core.List.{List, [], _∷_, _++_}
+use mathlib.Core.Bool.{Bool, true, false, cond}
+use lib.Dec.{leb, eqb}
+use borrow.Author.Tests.{le-leb, lt-leb, eq-eqb, eqb-true}
+use Rattle.lists.specs.Counting.{sum, sum-part, sum-none}
+use Rattle.lists.specs.Products.{flat-low}
+use Rattle.lists.specs.Pigeonhole.{count-none, count-without}
+use Rattle.rules.specs.declared.Sizes.{Sizes}
+use Rattle.rules.specs.NeverFreeing.{Object}
+use Rattle.rules.specs.Regions.{regionAt, threadOf, regions}
+use Rattle.rules.specs.Graph.{newPages, freePages, pagesOf}
+use Rattle.rules.specs.Rules.{Regioned, graph}
+use Rattle.laws.specs.RulesLaws.{region-pos}
+use Rattle.laws.specs.RegionLaws.{thread-at, level-at, region-high}
+use Rattle.laws.specs.Counts.{new-pages}
+use Rattle.laws.specs.AfterLaws.{graph-new}
+use Rattle.layout.specs.Places.{placesOf, depthOf, countOf}
+use Rattle.promises.specs.Words.{Words, depthIn, ownerIn, usedIn}
+use Rattle.promises.specs.Whole.{WholeFor, Open, Partial}
+use Rattle.promises.specs.StandsFor.{StandsFor}
+use Rattle.promises.specs.Agreed.{objects-agree}
+use Rattle.promises.specs.OwnedPages.{pagesOwned, freeOn, filled, free-count, one-part, counted-objects, heap-free}
+
+-- ---- the innermost region of a thread
+
+abbrev pub innermostIn : Sizes → Words → ℕ → ℕ
+innermostIn s w t = regionAt s t (depthIn w t)
+
+module _ (s : Sizes) (w : Words) (k : WholeFor s w) (t : ℕ) (l : t < s .threads) where
+  pub innermost-pos : 1 ≤ innermostIn s w t
+  innermost-pos = region-pos s t (depthIn w t)
+
+  pub innermost-low : innermostIn s w t ≤ regions s
+  unfolding regionAt
+  innermost-low = go (depthIn w t) (k .placed .depths t l)
+    where
+      go : (d : ℕ) → d ≤ s .depth → regionAt s t d ≤ regions s
+      go zero m = omega arith
+      go (suc d) m = let f : t * s .depth + d < s .threads * s .depth = flat-low l m in omega arith
+
+  pub innermost-open : 1 < innermostIn s w t → Open (placesOf s) (w .tables) (innermostIn s w t)
+  unfolding regionAt
+  innermost-open = go (depthIn w t) refl
+    where
+      go : (d : ℕ) → depthIn w t ≡ d → 1 < regionAt s t d → Open (placesOf s) (w .tables) (regionAt s t d)
+      go zero e z = absurd (let q : ⊥ = omega arith in q)
+      go (suc d) e z =
+          let m : d < s .depth = omega (arith, k .placed .depths t l) in
+          let a = thread-at s t d m in
+          record {
+            real = region-high s t d;
+            thread = subst (λ (x : ℕ). x < s .threads) (sym a) l;
+            level = subst (λ (x : ℕ). x ≤ depthOf (w .tables) (threadOf s (regionAt s t (suc d)))) (sym (level-at s t d m)) (subst (λ (x : ℕ). suc d ≤ depthOf (w .tables) x) (sym a) (omega arith));
+          }
+
+-- ---- partly filled pages and the count of objects
+
+module _ (s : Sizes) (w : Words) (k : WholeFor s w) (g : ℕ) (pos : 0 < g) (low : g ≤ regions s) where
+  abbrev objects : ℕ
+  objects = countOf (placesOf s) (w .tables) g
+
+  abbrev free : ℕ → ℕ
+  free = freeOn (placesOf s) (w .tables) g
+
+  -- objects and free cells fill the region's pages
+  fill : objects + sum free (s .pages) ≡ 16 * pagesOwned s w g
+  fill = omega (arith, k .placed .counts g pos low, filled s w k g pos (s .pages) (omega arith))
+
+  pub partly-filled : (page : ℕ) → page < s .pages → Partial (placesOf s) (w .tables) g page → objects % 16 ≡ 0 → ⊥
+  partly-filled page l p z =
+      omega (
+        arith,
+        fill,
+        sum-part free page (s .pages) l,
+        ap (λ (b : Bool). cond b (16 - usedIn s w page) 0) (eq-eqb (ownerIn s w page) g (p .owner)),
+        p .part,
+        free-count s w k g pos (s .pages) (omega arith),
+        one-part s w k g pos,
+      )
+
+  pub none-partly : ((page : ℕ) → page < s .pages → Partial (placesOf s) (w .tables) g page → ⊥) → objects % 16 ≡ 0
+  none-partly none = omega (arith, fill, sum-none free (s .pages) (λ page l. go page l (eqb (ownerIn s w page) g) refl))
+    where
+      go : (page : ℕ) → page < s .pages → (b : Bool) → eqb (ownerIn s w page) g ≡ b → cond b (16 - usedIn s w page) 0 ≡ 0
+      go page l false e = refl
+      go page l true e = full (16 - usedIn s w page) refl
+        where
+          full : (n : ℕ) → 16 - usedIn s w page ≡ n → 16 - usedIn s w page ≡ 0
+          full zero q = q
+          full (suc n) q = absurd (none page l (record { owner = eqb-true (ownerIn s w page) g e; part = omega arith }))
+
+-- a page of region g that is partly filled; a page that is free
+abbrev pub PartlyFilled : Sizes → Words → ℕ → Type 0
+PartlyFilled s w g = (page : ℕ) × (page < s .pages) × Partial (placesOf s) (w .tables) g page
+
+abbrev pub FreePage : Sizes → Words → Type 0
+FreePage s w = (page : ℕ) × (page < s .pages) × (ownerIn s w page ≡ 0)
+
+-- ---- of whatever heap the words stand for
+
+module _ (s : Sizes) (w : Words) (h : Regioned) (to : ℕ → ℕ) (st : StandsFor s w h to) (g : ℕ) (pos : 0 < g) (low : g ≤ regions s) (ds vs : List ℕ) (o : Object) where
+  -- the heap with a new object in region g
+  abbrev made : Regioned
+  made = record { heap = record { depths = ds; vars = vs; objects = h .heap .objects ++ o ∷ [] }; homes = h .homes ++ g ∷ [] }
+
+  abbrev held : ℕ
+  held = countOf (placesOf s) (w .tables) g
+
+  needs : newPages s (graph h) (graph made) ≡ pagesOf (held + 1) - pagesOf held
+  needs =
+      ap (newPages s (graph h)) (graph-new h (st .sound .aligned) ds vs o g) ∙ new-pages (graph h) g (o .refs) vs s pos low
+      ∙ ap (λ (x : ℕ). pagesOf (x + 1) - pagesOf x) (objects-agree s w h to st g pos ∙ sym (counted-objects s w (st .whole) g pos low))
+
+  pub new-fits : PartlyFilled s w g ⊎ FreePage s w → leb (newPages s (graph h) (graph made)) (freePages s (graph h)) ≡ true
+  new-fits (inl p) =
+      le-leb (newPages s (graph h) (graph made)) (freePages s (graph h))
+      (let n : held % 16 ≡ 0 → ⊥ = partly-filled s w (st .whole) g pos low (p .0) (p .1) (p .2) in omega (arith, needs))
+  new-fits (inr p) =
+      le-leb (newPages s (graph h) (graph made)) (freePages s (graph h))
+      (omega (arith, needs, heap-free s w h to st, count-without (λ page. eqb (ownerIn s w page) 0) (p .0) (s .pages) (p .1) (eq-eqb (ownerIn s w (p .0)) 0 (p .2))))
+
+  pub new-lacks : (PartlyFilled s w g → ⊥) → (FreePage s w → ⊥) → leb (newPages s (graph h) (graph made)) (freePages s (graph h)) ≡ false
+  new-lacks a b =
+      lt-leb (newPages s (graph h) (graph made)) (freePages s (graph h))
+      (omega (
+        arith,
+        needs,
+        heap-free s w h to st,
+        none-partly s w (st .whole) g pos low (λ page l p. a (page, l, p)),
+        count-none (λ page. eqb (ownerIn s w page) 0) (s .pages) (λ page l e. b (page, l, eqb-true (ownerIn s w page) 0 e)),
+      ))

@@ -1,0 +1,106 @@
+-- The promises of one command, of run and of prepare.
+use Prim.Native.Nat.{ℕ, _+_, _-_, _*_, _/_, _%_, _≤_, _<_}
+use mathlib.Core.Path.{_≡_}
+use mathlib.Core.List.{List, [], _∷_, _++_}
+use lib.ListN.{length, getD, replicate, drop}
+use Rattle.lists.specs.Listed.{listed}
+use Rattle.rules.specs.declared.Sizes.{Sizes}
+use Rattle.rules.specs.declared.Command.{Command}
+use Rattle.rules.specs.declared.Answer.{Answer}
+use Rattle.rules.specs.Terms.{InRange}
+use Rattle.laws.specs.GraphLaws.{Alive}
+use Rattle.rules.specs.Rules as ru
+use Rattle.rules.specs.Rules.{Regioned, graph}
+use Rattle.layout.specs.Places.{cellsWords, rememberWords, tablesWords}
+use Rattle.promises.specs.Words.{Words, sizesIn, heapOf}
+use Rattle.promises.specs.Whole.{WholeWords}
+use Rattle.promises.specs.StandsFor.{StandsFor, SameFrom, SameBeyond}
+
+-- ---- one command
+
+-- w′ stands for the heap h′, in which the objects of h whose home did not change have kept their cells
+pub record Became (s : Sizes) (h : Regioned) (cellOf : ℕ → ℕ) (w′ : Words) (h′ : Regioned) : Type 0 where
+  pub cell : ℕ → ℕ
+  pub stands : StandsFor s w′ h′ cell
+  pub stays : (x : ℕ) → Alive (graph h) x → graph h′ .home x ≡ graph h .home x → cell x ≡ cellOf x
+
+-- command m on the words w answered a and left w′, said of the heap that the words make
+pub record DidHere (s : Sizes) (w : Words) (m : Command) (w′ : Words) (a : Answer) : Type 0 where
+  pub answer : a ≡ ru.step s (heapOf s w) m .answer
+  pub next : Became s (heapOf s w) (λ c. c) w′ (ru.step s (heapOf s w) m .next)
+  pub refused : (a .number ≡ 0 → ⊥) → w′ ≡ w
+  pub beyond : SameBeyond s w w′
+
+-- the same of every heap h that the words stood for (`did-anywhere` of Here: the first says as much)
+pub record Did (s : Sizes) (w : Words) (m : Command) (w′ : Words) (a : Answer) : Type 0 where
+  pub answer : (h : Regioned) (cellOf : ℕ → ℕ) → StandsFor s w h cellOf → a ≡ ru.step s h m .answer
+  pub next : (h : Regioned) (cellOf : ℕ → ℕ) → StandsFor s w h cellOf → Became s h cellOf w′ (ru.step s h m .next)
+  pub refused : (a .number ≡ 0 → ⊥) → w′ ≡ w
+  pub beyond : SameBeyond s w w′
+
+-- ---- a list of commands
+
+pub data Chain (s : Sizes) : Words → List Command → List Answer → Words → Type 0 where
+  none : {w : Words} → Chain s w [] [] w
+  more : {w w₁ w′ : Words} {m : Command} {a : Answer} {ms : List Command} {as′ : List Answer}
+      → Did s w m w₁ a → Chain s w₁ ms as′ w′ → Chain s w (m ∷ ms) (a ∷ as′) w′
+
+-- five words to a command, two to an answer
+abbrev pub commandAt : List ℕ → ℕ → Command
+commandAt block i =
+    record { code = getD block (5 * i) 0; thread = getD block (5 * i + 1) 0; a = getD block (5 * i + 2) 0; b = getD block (5 * i + 3) 0; c = getD block (5 * i + 4) 0 }
+
+abbrev pub answerAt : List ℕ → ℕ → Answer
+answerAt answers i = record { number = getD answers (2 * i) 0; value = getD answers (2 * i + 1) 0 }
+
+abbrev pub size : List ℕ → ℕ
+size block = length block / 5
+
+abbrev pub commandsIn : List ℕ → List Command
+commandsIn block = listed (commandAt block) (size block)
+
+-- the answers to the commands of a block
+abbrev pub answersIn : List ℕ → List ℕ → List Answer
+answersIn block answers = listed (answerAt answers) (size block)
+
+-- ---- run
+
+-- the questions 3, 4 and 5 in order: q is the first that says no, 0 if none does
+pub data RunAsked (w : Words) (block lent : List ℕ) (q : ℕ) : Type 0 where
+  notWhole : q ≡ 3 → (WholeWords w → ⊥) → RunAsked w block lent q
+  uneven : q ≡ 4 → WholeWords w → (length block % 5 ≡ 0 → ⊥) → RunAsked w block lent q
+  short : q ≡ 5 → WholeWords w → length block % 5 ≡ 0 → length lent < 2 * size block → RunAsked w block lent q
+  accepted : q ≡ 0 → WholeWords w → length block % 5 ≡ 0 → 2 * size block ≤ length lent → RunAsked w block lent q
+
+-- run on the words w with a block and a lent answer slice gave q, and left w′ and the answers
+pub record Ran (w : Words) (block lent : List ℕ) (q : ℕ) (w′ : Words) (answers : List ℕ) : Type 0 where
+  pub asked : RunAsked w block lent q
+  pub refused : (q ≡ 0 → ⊥) → (w′ ≡ w) × (answers ≡ lent)
+  pub obeyed : q ≡ 0 → Chain (sizesIn w) w (commandsIn block) (answersIn block answers) w′
+  pub spare : SameFrom (2 * size block) lent answers
+
+-- ---- prepare
+
+-- the slices are long enough
+pub record LongEnough (s : Sizes) (w : Words) : Type 0 where
+  pub cells : cellsWords s ≤ length (w .cells)
+  pub remember : rememberWords s ≤ length (w .remember)
+  pub tables : tablesWords s ≤ length (w .tables)
+
+pub data PrepareAsked (s : Sizes) (w : Words) (q : ℕ) : Type 0 where
+  outOfRange : q ≡ 1 → (InRange s → ⊥) → PrepareAsked s w q
+  short : q ≡ 2 → InRange s → (LongEnough s w → ⊥) → PrepareAsked s w q
+  accepted : q ≡ 0 → InRange s → LongEnough s w → PrepareAsked s w q
+
+-- the tables of an unused heap; the cells, none of which is in use, may hold anything
+pub record Unused (s : Sizes) (w w′ : Words) : Type 0 where
+  pub tables :
+      w′ .tables ≡ s .threads ∷ s .variables ∷ s .depth ∷ s .pages ∷ s .entries ∷ replicate (tablesWords s - 5) 0 ++ drop (tablesWords s) (w .tables)
+  pub remember : w′ .remember ≡ s .entries ∷ replicate (rememberWords s - 1) 0 ++ drop (rememberWords s) (w .remember)
+  pub cells : SameFrom (cellsWords s) (w .cells) (w′ .cells)
+
+-- prepare with sizes s on the words w gave q and left w′
+pub record Prepared (s : Sizes) (w : Words) (q : ℕ) (w′ : Words) : Type 0 where
+  pub asked : PrepareAsked s w q
+  pub refused : (q ≡ 0 → ⊥) → w′ ≡ w
+  pub unused : q ≡ 0 → Unused s w w′

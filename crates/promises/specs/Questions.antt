@@ -1,0 +1,165 @@
+-- What every command shares: the questions in terms of the words, a refusal, and a command that is done.
+use Prim.Native.Nat.{ℕ, zero, suc, _+_, _-_, _*_, _<_}
+use native.Mathlib.Omega.{arith}
+use native.Mathlib.Nat.{sub-self}
+use mathlib.Core.Path.{_≡_, refl, sym, ap, ap₂, subst, _∙_}
+use mathlib.Core.List.{List}
+use mathlib.Core.Bool.{Bool, true, false, cond, _||_}
+use lib.ListN.{length, getD}
+use lib.Dec.{leb, eqb}
+use borrow.Author.Tests.{le-leb}
+use Rattle.lists.specs.Counting.{sum-none}
+use Rattle.lists.specs.Products.{flat-low}
+use Rattle.rules.specs.declared.Sizes.{Sizes}
+use Rattle.rules.specs.declared.Command.{Command}
+use Rattle.rules.specs.Terms.{ask, refused, done}
+use Rattle.rules.specs.NeverFreeing as nf
+use Rattle.rules.specs.NeverFreeing.{Object, used, varOf, objectOf}
+use Rattle.rules.specs.Regions.{regions}
+use Rattle.rules.specs.Graph.{Graph, crossing, newPages, freePages, objectsIn, pagesOf}
+use Rattle.laws.specs.RulesLaws.{Sound, no-dangling}
+use Rattle.rules.specs.Rules as ru
+use Rattle.rules.specs.Rules.{Regioned, graph, first}
+use Rattle.layout.specs.declared.Kind.{Kind}
+use Rattle.layout.specs.declared.Kind.the-variants.{Reference, Number}
+use Rattle.layout.specs.Places.{placesOf}
+use Rattle.layout.specs.Cells.{headOf, fieldCount, kindAt, fieldAt}
+use Rattle.promises.specs.Words.{Words, Used, heapOf, varIn, headIn, objectIn}
+use Rattle.promises.specs.Whole.{WholeFor, IsRef}
+use Rattle.promises.specs.StandsFor.{StandsFor, SameBeyond}
+use Rattle.promises.specs.Promises.{Became, DidHere}
+use Rattle.promises.specs.Reading.{used-alive, length-refs, length-nums, getD-refs, getD-nums}
+use Rattle.promises.specs.Agreed.{heap-stands, object-at}
+use Rattle.promises.specs.Here.{here-var}
+
+pub same-beyond : (s : Sizes) (w : Words) → SameBeyond s w w
+same-beyond s w =
+    record { cells = record { long = refl; rest = refl }; remember = record { long = refl; rest = refl }; tables = record { long = refl; rest = refl } }
+
+module _ (s : Sizes) (w : Words) (k : WholeFor s w) (m : Command) where
+  abbrev H : Regioned
+  H = heapOf s w
+
+  -- a question says no
+  pub did-refused : (q : ℕ) → 0 < q → ru.question s H m ≡ q → DidHere s w m w (refused q)
+  unfolding ru.step ru.answered
+  did-refused zero z e = absurd (let o : ⊥ = omega arith in o)
+  did-refused (suc q) z e =
+      record {
+        answer = sym (ap (λ (n : ℕ). ru.answered s H m n .answer) e);
+        next = subst (λ (h : Regioned). Became s H (λ c. c) w h) (sym (ap (λ (n : ℕ). ru.answered s H m n .next) e))
+            (record { cell = λ c. c; stands = heap-stands s w k; stays = λ x a z. refl });
+        refused = λ n. refl;
+        beyond = same-beyond s w;
+      }
+
+  -- one of the questions 6 to 12
+  pub did-asked : (q : ℕ) → 0 < q → nf.question s (H .heap) m ≡ q → DidHere s w m w (refused q)
+  unfolding ru.question
+  did-asked zero z e = absurd (let o : ⊥ = omega arith in o)
+  did-asked (suc q) z e = did-refused (suc q) z (ap (λ (n : ℕ). first n (ru.room s H m (ru.after s H m))) e)
+
+  -- 13 or 14
+  pub did-lacked : (q : ℕ) → 0 < q → nf.question s (H .heap) m ≡ 0 → ru.room s H m (ru.after s H m) ≡ q → DidHere s w m w (refused q)
+  unfolding ru.question
+  did-lacked q z e f = did-refused q z (ap₂ first e f)
+
+  module _ (w′ : Words) (h′ : Regioned) (v : ℕ) (e : ru.question s H m ≡ 0) (n : ru.after s H m ≡ h′) (f : nf.valueOf s (H .heap) m ≡ v)
+      (b : SameBeyond s w w′) where
+    -- all say yes; the objects whose home stays keep their cells
+    pub did-moved : (Sound h′ → Became s H (λ c. c) w′ h′) → DidHere s w m w′ (done v)
+    unfolding ru.step ru.answered
+    did-moved st =
+        let next : ru.step s H m .next ≡ h′ = ap (λ (q : ℕ). ru.answered s H m q .next) e ∙ n in
+        record {
+          answer = sym (ap (λ (q : ℕ). ru.answered s H m q .answer) e ∙ ap done f);
+          next = subst (λ (h : Regioned). Became s H (λ c. c) w′ h) (sym next) (st (subst Sound next (no-dangling s H m (heap-stands s w k .sound))));
+          refused = λ z. absurd (z refl);
+          beyond = b;
+        }
+
+    -- all objects keep their cells
+    pub did-done : (Sound h′ → StandsFor s w′ h′ (λ c. c)) → DidHere s w m w′ (done v)
+    did-done st = did-moved (λ so. record { cell = λ c. c; stands = st so; stays = λ x a z. refl })
+
+-- ---- questions 13 and 14
+
+no-new-pages : (s : Sizes) (g h : Graph) → g .count ≡ h .count → g .home ≡ h .home → newPages s g h ≡ 0
+unfolding newPages objectsIn
+no-new-pages s g h c e =
+    sum-none _ (regions s) (λ i l. ap₂ (λ (n : ℕ) (f : ℕ → ℕ). pagesOf (objectsIn (record { count = n; home = f; refs = h .refs; vars = h .vars }) (suc i)) - pagesOf (objectsIn g (suc i))) (sym c) (sym e) ∙ sub-self _)
+
+module _ (s : Sizes) (h h′ : Regioned) (m : Command) (n : ru.after s h m ≡ h′) (count : graph h .count ≡ graph h′ .count) (home : graph h .home ≡ graph h′ .home) where
+  -- where no object comes or moves, 13 does not say no
+  pub pages-fine : leb (newPages s (graph h) (graph (ru.after s h m))) (freePages s (graph h)) ≡ true
+  pages-fine =
+      let z : newPages s (graph h) (graph (ru.after s h m)) ≡ 0 = ap (λ (g : Regioned). newPages s (graph h) (graph g)) n ∙ no-new-pages s (graph h) (graph h′) count home in
+      le-leb (newPages s (graph h) (graph (ru.after s h m))) (freePages s (graph h)) (omega arith)
+
+  -- 14, asked of a store and an end, is then the only one
+  pub room-crossing : (eqb (m .code) 2 || eqb (m .code) 7) ≡ true → ru.room s h m (ru.after s h m) ≡ ask (leb (crossing (graph h′)) (s .entries)) 14 0
+  unfolding ru.room ask
+  room-crossing e =
+      ap₂ (λ (b c : Bool). ask b 13 (cond c (ask (leb (crossing (graph (ru.after s h m))) (s .entries)) 14 0) 0)) pages-fine e
+      ∙ ap (λ (g : Regioned). ask (leb (crossing (graph g)) (s .entries)) 14 0) n
+
+  -- and for other codes there is none
+  pub room-fine : (eqb (m .code) 2 || eqb (m .code) 7) ≡ false → ru.room s h m (ru.after s h m) ≡ 0
+  unfolding ru.room ask
+  room-fine e =
+      ap₂ (λ (b c : Bool). ask b 13 (cond c (ask (leb (crossing (graph (ru.after s h m))) (s .entries)) 14 0) 0)) pages-fine e
+
+  pub question-fine : nf.question s (h .heap) m ≡ 0 → (eqb (m .code) 2 || eqb (m .code) 7) ≡ false → ru.question s h m ≡ 0
+  unfolding ru.question
+  question-fine ok e = ap₂ first ok (room-fine e)
+
+-- ---- questions 9 and 10: a variable, its object and a field, in words; over the kind of field
+
+abbrev pub fieldsOf : Kind → Object → List ℕ
+fieldsOf Reference o = o .refs
+fieldsOf Number o = o .nums
+
+pub getD-fields : (k : Kind) (w : Words) (c i : ℕ) → i < fieldCount k (headIn w c) → getD (fieldsOf k (objectIn w c)) i 0 ≡ getD (w .cells) (kindAt k (w .cells) c i) 0
+getD-fields Reference w c i l =
+    getD-refs w c i l ∙ ap (λ (n : ℕ). getD (w .cells) n 0) (let e : fieldAt c i ≡ fieldAt c (0 + i) = omega arith in e)
+getD-fields Number w c i l = getD-nums w c i l
+
+module _ (s : Sizes) (w : Words) (k : WholeFor s w) where
+  pub length-fields : (d : Kind) (c : ℕ) → Used s w c → length (fieldsOf d (objectIn w c)) ≡ fieldCount d (headIn w c)
+  length-fields Reference c u = length-refs s w k c u
+  length-fields Number c u = length-nums s w k c u
+
+  -- every variable is null or names a cell in use
+  pub var-ref : (t a : ℕ) → t < s .threads → a < s .variables → IsRef (placesOf s) (w .tables) (varIn s w t a)
+  var-ref t a l n = k .placed .variables (t * s .variables + a) (flat-low l n)
+
+  pub object-heap : (y : ℕ) → Used s w y → objectOf (heapOf s w .heap) (suc y) ≡ objectIn w y
+  object-heap y u = object-at s w k y (used-alive s w k y u)
+
+  -- a reference v that is null or names a cell in use, and field f of it
+  module _ (d : Kind) (f : ℕ) where
+    pub used-fields : (v : ℕ) → IsRef (placesOf s) (w .tables) v
+        → used v f (length (fieldsOf d (objectOf (heapOf s w .heap) v))) ≡ used v f (fieldCount d (headOf (w .cells) (v - 1)))
+    unfolding ask
+    used-fields zero r = refl
+    used-fields (suc y) r =
+        let y′ : suc y - 1 ≡ y = omega arith in
+        let u : Used s w y = subst (Used s w) y′ (r (omega arith)) in
+        ap (used (suc y) f) (ap (λ (o : Object). length (fieldsOf d o)) (object-heap y u) ∙ length-fields d y u ∙ sym (ap (λ (z : ℕ). fieldCount d (headOf (w .cells) z)) y′))
+
+    -- the field's word
+    pub field-word : (v : ℕ) → IsRef (placesOf s) (w .tables) v → 0 < v → f < fieldCount d (headOf (w .cells) (v - 1))
+        → getD (fieldsOf d (objectOf (heapOf s w .heap) v)) f 0 ≡ getD (w .cells) (kindAt d (w .cells) (v - 1) f) 0
+    field-word zero r p l = absurd (let o : ⊥ = omega arith in o)
+    field-word (suc y) r p l =
+        let y′ : suc y - 1 ≡ y = omega arith in
+        let u : Used s w y = subst (Used s w) y′ (r (omega arith)) in
+        let n : f < fieldCount d (headIn w y) = subst (λ (z : ℕ). f < fieldCount d (headOf (w .cells) z)) y′ l in
+        ap (λ (o : Object). getD (fieldsOf d o) f 0) (object-heap y u) ∙ getD-fields d w y f n
+        ∙ sym (ap (λ (z : ℕ). getD (w .cells) (kindAt d (w .cells) z f) 0) y′)
+
+    -- the questions of variable a of thread t
+    pub asked-field : (t a : ℕ) → t < s .threads → a < s .variables
+        → used (varOf s (heapOf s w .heap) t a) f (length (fieldsOf d (objectOf (heapOf s w .heap) (varOf s (heapOf s w .heap) t a)))) ≡ used (varIn s w t a) f (fieldCount d (headOf (w .cells) (varIn s w t a - 1)))
+    asked-field t a l n =
+        ap (λ (v : ℕ). used v f (length (fieldsOf d (objectOf (heapOf s w .heap) v)))) (here-var s w t a l n) ∙ used-fields (varIn s w t a) (var-ref t a l n)

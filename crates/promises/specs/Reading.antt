@@ -1,0 +1,167 @@
+-- What is read from whole words: cells in use, their fields, variables and depths; and that no reference names a cell not in use.
+use Prim.Native.Nat.{ℕ, suc, _+_, _-_, _*_, _≤_, _<_}
+use native.Mathlib.Omega.{arith}
+use native.Mathlib.Decide.{decLt}
+use mathlib.Core.Path.{_≡_, refl, sym, ap, ap₂, subst, _∙_}
+use mathlib.Core.Logic.{inl, inr}
+use mathlib.Core.List.{List, _∷_}
+use mathlib.Core.Bool.{Bool, true, false, cond, _&&_}
+use lib.ListN.{length, getD, drop, length-drop, List·getD-eq-default}
+use lib.Seq.{getD-take, getD-drop, length-take-le}
+use borrow.Author.Tests.{lt-ltb, ltb-true}
+use Rattle.lists.specs.Tests.{both-true}
+use Rattle.lists.specs.Members.{In}
+use Rattle.lists.specs.Products.{flat-low}
+use Rattle.rules.specs.declared.Sizes.{Sizes}
+use Rattle.rules.specs.Terms.{InRange}
+use Rattle.laws.specs.GraphLaws.{Alive, Closed}
+use Rattle.layout.specs.Places.{placesOf, depthAt, varAt, varOf, tablesWords, rememberWords, cellsWords, count-room, count-is, ownersFrom}
+use Rattle.layout.specs.Cells.{fieldAt, fieldOf, pageOf}
+use Rattle.promises.specs.Words.{Words, depthIn, varIn, ownerIn, depthsIn, varsIn, refCount, numCount, refsIn, numsIn, homeIn, graphOf, depthsAt, homeAt, inUseAt, numsAt, refsAt, varsAt, Used, InUse}
+use Rattle.promises.specs.Whole.{WholeFor}
+
+-- ---- lists
+
+-- an element of a list has a place
+pub in-place : (l : List ℕ) (v : ℕ) → In v l → (i : ℕ) × (i < length l) × (getD l i 0 ≡ v)
+in-place (x ∷ l) v (inl e) = (0, omega arith, sym e)
+in-place (x ∷ l) v (inr k) = let r = in-place l v k in (suc (r .0), omega (arith, r .1), r .2)
+
+-- a place that does not hold 0 is one of the list's
+pub inside-list : (l : List ℕ) (i v : ℕ) → getD l i 0 ≡ suc v → i < length l
+inside-list l i v e = go (decLt i (length l))
+  where
+    go : Dec (i < length l) → i < length l
+    go (yes p) = p
+    go (no p) = absurd (omega (arith, List·getD-eq-default l 0 {n = i} (omega arith)))
+
+-- ---- words
+
+pub getD-refs : (w : Words) (c i : ℕ) → i < refCount w c → getD (refsIn w c) i 0 ≡ fieldOf (w .cells) c i
+unfolding refsAt
+getD-refs w c i l =
+    getD-take (refCount w c) (drop (fieldAt c 0) (w .cells)) i 0 l ∙ getD-drop (fieldAt c 0) (w .cells) i 0
+    ∙ ap (λ (n : ℕ). getD (w .cells) n 0) (let e : fieldAt c 0 + i ≡ fieldAt c i = omega arith in e)
+
+pub getD-nums : (w : Words) (c i : ℕ) → i < numCount w c → getD (numsIn w c) i 0 ≡ fieldOf (w .cells) c (refCount w c + i)
+unfolding numsAt
+getD-nums w c i l =
+    getD-take (numCount w c) (drop (fieldAt c (refCount w c)) (w .cells)) i 0 l ∙ getD-drop (fieldAt c (refCount w c)) (w .cells) i 0
+    ∙ ap (λ (n : ℕ). getD (w .cells) n 0) (let e : fieldAt c (refCount w c) + i ≡ fieldAt c (refCount w c + i) = omega arith in e)
+
+pub getD-vars : (s : Sizes) (w : Words) (i : ℕ) → i < s .threads * s .variables → getD (varsIn s w) i 0 ≡ varOf (placesOf s) (w .tables) i
+unfolding varsAt
+getD-vars s w i l =
+    getD-take (s .threads * s .variables) (drop (varAt (placesOf s) 0) (w .tables)) i 0 l ∙ getD-drop (varAt (placesOf s) 0) (w .tables) i 0
+    ∙ ap (λ (n : ℕ). getD (w .tables) n 0) (let e : varAt (placesOf s) 0 + i ≡ varAt (placesOf s) i = omega arith in e)
+
+pub var-at : (s : Sizes) (w : Words) (t a : ℕ) → t < s .threads → a < s .variables → getD (varsIn s w) (t * s .variables + a) 0 ≡ varIn s w t a
+var-at s w t a l m = getD-vars s w (t * s .variables + a) (flat-low l m)
+
+pub depth-at : (s : Sizes) (w : Words) (t : ℕ) → t < s .threads → getD (depthsIn s w) t 0 ≡ depthIn w t
+unfolding depthsAt
+depth-at s w t l = getD-take (s .threads) (drop (depthAt 0) (w .tables)) t 0 l ∙ getD-drop (depthAt 0) (w .tables) t 0
+
+-- the arrays of the tables, where the owners begin
+pub owners-is : (s : Sizes) → ownersFrom s ≡ 5 + s .threads + s .threads * s .variables
+unfolding ownersFrom
+owners-is s = refl
+
+-- ---- cells in use
+
+-- the test reads the tables alone
+pub in-use : (s : Sizes) (t : List ℕ) (c : ℕ) → InUse (placesOf s) t c → inUseAt s t c ≡ true
+unfolding inUseAt
+in-use s t c u = ap₂ _&&_ (lt-ltb _ _ (u .page)) (lt-ltb _ _ (u .place))
+
+pub use-in : (s : Sizes) (t : List ℕ) (c : ℕ) → inUseAt s t c ≡ true → InUse (placesOf s) t c
+unfolding inUseAt
+use-in s t c e =
+    let r = both-true _ _ e in
+    record { page = ltb-true _ _ (r .0); place = ltb-true _ _ (r .1) }
+
+-- ---- whole words
+
+module _ (s : Sizes) (w : Words) (k : WholeFor s w) where
+  pub range : InRange s
+  range = subst InRange (k .sized) (k .sizes .range)
+
+  pub cells-room : cellsWords s ≤ length (w .cells)
+  cells-room = subst (λ (z : Sizes). cellsWords z ≤ length (w .cells)) (k .sized) (k .sizes .cells)
+
+  pub remember-room : rememberWords s ≤ length (w .remember)
+  remember-room = subst (λ (z : Sizes). rememberWords z ≤ length (w .remember)) (k .sized) (k .sizes .remember)
+
+  pub tables-room : tablesWords s ≤ length (w .tables)
+  tables-room = subst (λ (z : Sizes). tablesWords z ≤ length (w .tables)) (k .sized) (k .sizes .tables)
+
+  pub used-home : (c : ℕ) → Used s w c → homeIn s w c ≡ ownerIn s w (pageOf c)
+  unfolding homeAt
+  used-home c u = ap (λ (b : Bool). cond b (ownerIn s w (pageOf c)) 0) (in-use s (w .tables) c u)
+
+  pub used-owned : (c : ℕ) → Used s w c → ownerIn s w (pageOf c) ≡ 0 → ⊥
+  used-owned c u z = omega (arith, k .placed .pages (pageOf c) (u .page) .free z, u .place)
+
+  pub used-alive : (c : ℕ) → Used s w c → Alive (graphOf s w) c
+  used-alive c u z = used-owned c u (sym (used-home c u) ∙ z)
+
+  pub alive-used : (c : ℕ) → Alive (graphOf s w) c → Used s w c
+  unfolding homeAt
+  alive-used c a = go (inUseAt s (w .tables) c) refl
+    where
+      go : (b : Bool) → inUseAt s (w .tables) c ≡ b → Used s w c
+      go true e = use-in s (w .tables) c e
+      go false e = absurd (a (ap (λ (b : Bool). cond b (ownerIn s w (pageOf c)) 0) e))
+
+  pub cell-low : (c : ℕ) → Used s w c → c < 16 * s .pages
+  cell-low c u = omega (arith, u .page)
+
+  pub cell-room : (c : ℕ) → Used s w c → 16 * c + 16 ≤ length (w .cells)
+  cell-room c u = omega (arith, cells-room, u .page)
+
+  pub length-refs : (c : ℕ) → Used s w c → length (refsIn w c) ≡ refCount w c
+  unfolding refsAt
+  length-refs c u = length-take-le (refCount w c) (drop (fieldAt c 0) (w .cells)) (simp length-drop (omega (arith, cell-room c u, k .placed .formed c u .head)))
+
+  pub length-nums : (c : ℕ) → Used s w c → length (numsIn w c) ≡ numCount w c
+  unfolding numsAt
+  length-nums c u =
+      length-take-le (numCount w c) (drop (fieldAt c (refCount w c)) (w .cells)) (simp length-drop (omega (arith, cell-room c u, k .placed .formed c u .head)))
+
+  pub vars-room : varAt (placesOf s) (s .threads * s .variables) ≤ ownersFrom s
+  unfolding ownersFrom
+  vars-room = omega arith
+
+  pub length-vars : length (varsIn s w) ≡ s .threads * s .variables
+  unfolding varsAt
+  length-vars =
+      length-take-le (s .threads * s .variables) (drop (varAt (placesOf s) 0) (w .tables))
+      (simp length-drop (omega (arith, tables-room, count-room s, count-is s, vars-room)))
+
+  pub length-depths : length (depthsIn s w) ≡ s .threads
+  unfolding depthsAt
+  length-depths =
+      length-take-le (s .threads) (drop (depthAt 0) (w .tables))
+      (simp length-drop (omega (arith, tables-room, count-room s, count-is s, vars-room)))
+
+  vars-alive : (i x : ℕ) → getD (varsIn s w) i 0 ≡ suc x → Alive (graphOf s w) x
+  vars-alive i x e =
+      let l : i < s .threads * s .variables = omega (arith, inside-list (varsIn s w) i x e, length-vars) in
+      let v : varOf (placesOf s) (w .tables) i ≡ suc x = sym (getD-vars s w i l) ∙ e in
+      let u = k .placed .variables i l (omega arith) in
+      let x′ : varOf (placesOf s) (w .tables) i - 1 ≡ x = omega arith in
+      used-alive x (subst (Used s w) x′ u)
+
+  refs-alive : (c y : ℕ) → Alive (graphOf s w) c → In (suc y) (refsIn w c) → Alive (graphOf s w) y
+  refs-alive c y a i =
+      let u = alive-used c a in
+      let r = in-place (refsIn w c) (suc y) i in
+      let l : r .0 < refCount w c = omega (arith, r .1, length-refs c u) in
+      let v : fieldOf (w .cells) c (r .0) ≡ suc y = sym (getD-refs w c (r .0) l) ∙ r .2 in
+      let f = k .placed .references c u (r .0) l (omega arith) in
+      let y′ : fieldOf (w .cells) c (r .0) - 1 ≡ y = omega arith in
+      used-alive y (subst (Used s w) y′ f)
+
+  pub words-closed : Closed (graphOf s w)
+  words-closed =
+      record { below = λ c a. omega (arith, alive-used c a .page); vars = vars-alive; refs = refs-alive }

@@ -1,0 +1,266 @@
+-- A region takes the first unused cell of its partly filled page or, if it has none, of a free page: what becomes of pages and counts.
+use Prim.Native.Nat.{ℕ, _+_, _-_, _*_, _≤_, _<_}
+use native.Mathlib.Omega.{arith}
+use native.Mathlib.Decide.{ℕ-discrete, decLt}
+use mathlib.Core.Path.{_≡_, sym, ap, ap₂, subst, _∙_}
+use mathlib.Core.Logic.{_⊎_, inl, inr}
+use mathlib.Core.List.{List}
+use mathlib.Core.Bool.{Bool, cond}
+use lib.ListN.{length, getD, set, length-set}
+use lib.Dec.{eqb}
+use borrow.Author.Tests.{eq-eqb, ne-eqb}
+use Rattle.lists.specs.Counting.{sum-same, sum-change}
+use Rattle.lists.specs.Stores.{put, past}
+use Rattle.rules.specs.declared.Sizes.{Sizes}
+use Rattle.rules.specs.Regions.{threadOf}
+use Rattle.layout.specs.declared.Places.{Places}
+use Rattle.layout.specs.Places.{placesOf, ownersFrom, depthAt, depthOf, ownerAt, ownerOf, usedAt, usedOf, markAt, markOf, countAt, countOf, used-is, mark-is, count-is}
+use Rattle.layout.specs.Cells.{pageOf, placeOf, cellOn}
+use Rattle.promises.specs.Words.{InUse}
+use Rattle.promises.specs.Reading.{owners-is}
+use Rattle.promises.specs.Whole.{Open, PageWhole, Partial, objectsOn, objectsOf, IsRef, WholeAt}
+
+-- region g took the cell: from tables t, which left t′
+pub record Took (p : Places) (t : List ℕ) (g cell : ℕ) (t′ : List ℕ) : Type 0 where
+  pub page : pageOf cell < p .pages
+  -- the first unused cell of its page
+  pub first : usedOf p t (pageOf cell) ≡ placeOf cell
+  -- the page is the region's, or it was free and the region had none that is partly filled
+  pub source : (ownerOf p t (pageOf cell) ≡ g) ⊎ ((ownerOf p t (pageOf cell) ≡ 0) × ((q : ℕ) → q < p .pages → Partial p t g q → ⊥))
+  pub long : length t′ ≡ length t
+  pub owner : ownerOf p t′ (pageOf cell) ≡ g
+  pub used : usedOf p t′ (pageOf cell) ≡ placeOf cell + 1
+  pub count : countOf p t′ g ≡ countOf p t g + 1
+  pub others : (j : ℕ) → (j ≡ ownerAt p (pageOf cell) → ⊥) → (j ≡ usedAt p (pageOf cell) → ⊥) → (j ≡ countAt p g → ⊥) → getD t′ j 0 ≡ getD t j 0
+
+-- ---- the words after it
+
+-- a cell of the region's own page
+abbrev pub tookOwn : Places → List ℕ → ℕ → ℕ → List ℕ
+tookOwn p t g page = set (set t (usedAt p page) (usedOf p t page + 1)) (countAt p g) (countOf p t g + 1)
+
+-- the first cell of a free page
+abbrev pub tookFree : Places → List ℕ → ℕ → ℕ → List ℕ
+tookFree p t g page = set (set (set t (ownerAt p page) g) (usedAt p page) 1) (countAt p g) (countOf p t g + 1)
+
+module _ (s : Sizes) (t : List ℕ) (g page : ℕ) (low : page < s .pages) (room : countAt (placesOf s) g < length t) where
+  abbrev p : Places
+  p = placesOf s
+
+  pub took-own : ownerOf p t page ≡ g → usedOf p t page < 16 → Took p t g (cellOn page (usedOf p t page)) (tookOwn p t g page)
+  took-own o few =
+      let u = usedOf p t page in
+      let e : pageOf (cellOn page u) ≡ page = omega arith in
+      let f : placeOf (cellOn page u) ≡ u = omega arith in
+      let t₁ = set t (usedAt p page) (u + 1) in
+      let l₁ : length t₁ ≡ length t = length-set t (usedAt p page) (u + 1) in
+      record {
+        page = omega arith;
+        first = ap (usedOf p t) e ∙ sym f;
+        source = inl (ap (ownerOf p t) e ∙ o);
+        long = length-set t₁ (countAt p g) (countOf p t g + 1) ∙ l₁;
+        owner =
+            past t₁ (countAt p g) (countOf p t g + 1) (ownerAt p (pageOf (cellOn page u))) 0 (λ (z : ownerAt p (pageOf (cellOn page u)) ≡ countAt p g). omega (arith, used-is s, mark-is s, count-is s))
+            ∙ past t (usedAt p page) (u + 1) (ownerAt p (pageOf (cellOn page u))) 0 (λ (z : ownerAt p (pageOf (cellOn page u)) ≡ usedAt p page). omega (arith, used-is s)) ∙ ap (ownerOf p t) e ∙ o;
+        used =
+            past t₁ (countAt p g) (countOf p t g + 1) (usedAt p (pageOf (cellOn page u))) 0 (λ (z : usedAt p (pageOf (cellOn page u)) ≡ countAt p g). omega (arith, used-is s, mark-is s, count-is s))
+            ∙ ap (usedOf p t₁) e ∙ put t (usedAt p page) (u + 1) 0 (omega (arith, used-is s, count-is s)) ∙ omega arith;
+        count = put t₁ (countAt p g) (countOf p t g + 1) 0 (omega arith);
+        others = λ j a b c. past t₁ (countAt p g) (countOf p t g + 1) j 0 c ∙ past t (usedAt p page) (u + 1) j 0 (λ (z : j ≡ usedAt p page). b (omega arith));
+      }
+
+  pub took-free : ownerOf p t page ≡ 0 → usedOf p t page ≡ 0 → ((q : ℕ) → q < s .pages → Partial p t g q → ⊥) → Took p t g (cellOn page 0) (tookFree p t g page)
+  took-free o z none =
+      let e : pageOf (cellOn page 0) ≡ page = omega arith in
+      let f : placeOf (cellOn page 0) ≡ 0 = omega arith in
+      let t₁ = set t (ownerAt p page) g in
+      let t₂ = set t₁ (usedAt p page) 1 in
+      let l₁ : length t₁ ≡ length t = length-set t (ownerAt p page) g in
+      let l₂ : length t₂ ≡ length t = length-set t₁ (usedAt p page) 1 ∙ l₁ in
+      record {
+        page = omega arith;
+        first = ap (usedOf p t) e ∙ z ∙ sym f;
+        source = inr (ap (ownerOf p t) e ∙ o, none);
+        long = length-set t₂ (countAt p g) (countOf p t g + 1) ∙ l₂;
+        owner =
+            past t₂ (countAt p g) (countOf p t g + 1) (ownerAt p (pageOf (cellOn page 0))) 0 (λ (q : ownerAt p (pageOf (cellOn page 0)) ≡ countAt p g). omega (arith, used-is s, mark-is s, count-is s))
+            ∙ past t₁ (usedAt p page) 1 (ownerAt p (pageOf (cellOn page 0))) 0 (λ (q : ownerAt p (pageOf (cellOn page 0)) ≡ usedAt p page). omega (arith, used-is s)) ∙ ap (ownerOf p t₁) e
+            ∙ put t (ownerAt p page) g 0 (omega (arith, count-is s));
+        used =
+            past t₂ (countAt p g) (countOf p t g + 1) (usedAt p (pageOf (cellOn page 0))) 0 (λ (q : usedAt p (pageOf (cellOn page 0)) ≡ countAt p g). omega (arith, used-is s, mark-is s, count-is s))
+            ∙ ap (usedOf p t₂) e ∙ put t₁ (usedAt p page) 1 0 (omega (arith, used-is s, count-is s)) ∙ omega arith;
+        count = put t₂ (countAt p g) (countOf p t g + 1) 0 (omega arith);
+        others = λ j a b c. past t₂ (countAt p g) (countOf p t g + 1) j 0 c ∙ past t₁ (usedAt p page) 1 j 0 (λ (q : j ≡ usedAt p page). b (omega arith))
+            ∙ past t (ownerAt p page) g j 0 (λ (q : j ≡ ownerAt p page). a (omega arith));
+      }
+
+-- ---- what it leaves as it was
+
+module _ (s : Sizes) (t : List ℕ) (g cell : ℕ) (t′ : List ℕ) (k : Took (placesOf s) t g cell t′) where
+  abbrev P : Places
+  P = placesOf s
+
+  pub low-past : (j : ℕ) → j < ownersFrom s → getD t′ j 0 ≡ getD t j 0
+  low-past j l = k .others j (λ (e : j ≡ ownerAt P (pageOf cell)). omega arith) (λ (e : j ≡ usedAt P (pageOf cell)). omega (arith, used-is s)) (λ (e : j ≡ countAt P g). omega (arith, count-is s))
+
+  pub owner-past : (page : ℕ) → page < s .pages → (page ≡ pageOf cell → ⊥) → ownerOf P t′ page ≡ ownerOf P t page
+  owner-past page l d =
+      k .others (ownerAt P page) (λ (e : ownerAt P page ≡ ownerAt P (pageOf cell)). d (omega arith)) (λ (e : ownerAt P page ≡ usedAt P (pageOf cell)). omega (arith, used-is s))
+      (λ (e : ownerAt P page ≡ countAt P g). omega (arith, count-is s))
+
+  pub used-past : (page : ℕ) → page < s .pages → (page ≡ pageOf cell → ⊥) → usedOf P t′ page ≡ usedOf P t page
+  used-past page l d =
+      k .others (usedAt P page) (λ (e : usedAt P page ≡ ownerAt P (pageOf cell)). omega (arith, used-is s, k .page)) (λ (e : usedAt P page ≡ usedAt P (pageOf cell)). d (omega arith))
+      (λ (e : usedAt P page ≡ countAt P g). omega (arith, used-is s, count-is s))
+
+  pub mark-past : (page : ℕ) → page < s .pages → markOf P t′ page ≡ markOf P t page
+  mark-past page l =
+      k .others (markAt P page) (λ (e : markAt P page ≡ ownerAt P (pageOf cell)). omega (arith, mark-is s, k .page)) (λ (e : markAt P page ≡ usedAt P (pageOf cell)). omega (arith, used-is s, mark-is s, k .page))
+      (λ (e : markAt P page ≡ countAt P g). omega (arith, mark-is s, count-is s))
+
+  pub count-past : (q : ℕ) → 1 ≤ q → 1 ≤ g → (q ≡ g → ⊥) → countOf P t′ q ≡ countOf P t q
+  count-past q a b d =
+      k .others (countAt P q) (λ (e : countAt P q ≡ ownerAt P (pageOf cell)). omega (arith, count-is s, k .page)) (λ (e : countAt P q ≡ usedAt P (pageOf cell)). omega (arith, used-is s, count-is s, k .page))
+      (λ (e : countAt P q ≡ countAt P g). d (omega arith))
+
+  -- ---- cells in use
+
+  pub took-used : InUse P t′ cell
+  took-used = record { page = k .page; place = omega (arith, k .used) }
+
+  pub took-unused : InUse P t cell → ⊥
+  took-unused u = omega (arith, u .place, k .first)
+
+  pub still-used : (c : ℕ) → InUse P t c → InUse P t′ c
+  still-used c u = go (ℕ-discrete (pageOf c) (pageOf cell))
+    where
+      go : Dec (pageOf c ≡ pageOf cell) → InUse P t′ c
+      go (yes e) = record { page = u .page; place = omega (arith, u .place, k .first, k .used, ap (usedOf P t) e, ap (usedOf P t′) e) }
+      go (no d) = record { page = u .page; place = omega (arith, u .place, used-past (pageOf c) (u .page) d) }
+
+  pub used-split : (c : ℕ) → InUse P t′ c → (c ≡ cell) ⊎ InUse P t c
+  used-split c u = go (ℕ-discrete (pageOf c) (pageOf cell)) (ℕ-discrete c cell)
+    where
+      go : Dec (pageOf c ≡ pageOf cell) → Dec (c ≡ cell) → (c ≡ cell) ⊎ InUse P t c
+      go a (yes e) = inl e
+      go (yes a) (no d) = inr (record { page = u .page; place = omega (arith, u .place, k .first, k .used, ap (usedOf P t) a, ap (usedOf P t′) a) })
+      go (no a) (no d) = inr (record { page = u .page; place = omega (arith, u .place, used-past (pageOf c) (u .page) a) })
+
+  pub ref-still : (x : ℕ) → IsRef P t x → IsRef P t′ x
+  ref-still x r z = still-used (x - 1) (r z)
+
+  -- the region of a cell that was in use
+  pub owner-used : ((page : ℕ) → page < s .pages → PageWhole P t page) → (c : ℕ) → InUse P t c → ownerOf P t′ (pageOf c) ≡ ownerOf P t (pageOf c)
+  owner-used w c u = go (ℕ-discrete (pageOf c) (pageOf cell)) (k .source)
+    where
+      go : Dec (pageOf c ≡ pageOf cell) → (ownerOf P t (pageOf cell) ≡ g) ⊎ ((ownerOf P t (pageOf cell) ≡ 0) × ((q : ℕ) → q < s .pages → Partial P t g q → ⊥))
+          → ownerOf P t′ (pageOf c) ≡ ownerOf P t (pageOf c)
+      go (no d) o = owner-past (pageOf c) (u .page) d
+      go (yes e) (inl o) = ap (ownerOf P t′) e ∙ k .owner ∙ sym o ∙ sym (ap (ownerOf P t) e)
+      go (yes e) (inr o) = absurd (let z : ⊥ = omega (arith, u .place, w (pageOf c) (u .page) .free (ap (ownerOf P t) e ∙ o .0)) in z)
+
+-- ---- pages and counts are whole
+
+module _ (s : Sizes) (c m t : List ℕ) (w : WholeAt (placesOf s) c m t) (g cell : ℕ) (t′ : List ℕ) (k : Took (placesOf s) t g cell t′) (pos : 1 ≤ g) (open′ : 1 < g → Open (placesOf s) t g) where
+  pub depth-past : (u : ℕ) → u < s .threads → depthOf t′ u ≡ depthOf t u
+  depth-past u l = low-past s t g cell t′ k (depthAt u) (omega (arith, owners-is s))
+
+  open-past : (q : ℕ) → Open (placesOf s) t q → Open (placesOf s) t′ q
+  open-past q o = record { real = o .real; thread = o .thread; level = omega (arith, o .level, depth-past (threadOf s q) (o .thread)) }
+
+  pub took-pages : (page : ℕ) → page < s .pages → PageWhole (placesOf s) t′ page
+  took-pages page l = go (ℕ-discrete page (pageOf cell))
+    where
+      o : PageWhole (placesOf s) t page
+      o = w .pages page l
+
+      go : Dec (page ≡ pageOf cell) → PageWhole (placesOf s) t′ page
+      go (yes e) =
+          let a : ownerOf (placesOf s) t′ page ≡ g = ap (ownerOf (placesOf s) t′) e ∙ k .owner in
+          let b : usedOf (placesOf s) t′ page ≡ placeOf cell + 1 = ap (usedOf (placesOf s) t′) e ∙ k .used in
+          record {
+            free = λ z. absurd (let q : ⊥ = omega arith in q);
+            taken = λ z. omega arith;
+            cells = omega arith;
+            region = λ z. subst (Open (placesOf s) t′) (sym a) (open-past g (open′ (omega arith)));
+          }
+      go (no d) =
+          let a = owner-past s t g cell t′ k page l d in
+          let b = used-past s t g cell t′ k page l d in
+          record {
+            free = λ z. b ∙ o .free (sym a ∙ z);
+            taken = λ z. omega (arith, o .taken (omega arith));
+            cells = omega (arith, o .cells);
+            region = λ z. subst (Open (placesOf s) t′) (sym a) (open-past (ownerOf (placesOf s) t page) (o .region (omega arith)));
+          }
+
+  was-partial : (q page : ℕ) → page < s .pages → (page ≡ pageOf cell → ⊥) → Partial (placesOf s) t′ q page → Partial (placesOf s) t q page
+  was-partial q page l d x = record { owner = sym (owner-past s t g cell t′ k page l d) ∙ x .owner; part = omega (arith, x .part, used-past s t g cell t′ k page l d) }
+
+  -- another page of the region is not partly filled
+  alone : (q page : ℕ) → page < s .pages → (page ≡ pageOf cell → ⊥) → Partial (placesOf s) t′ q (pageOf cell) → Partial (placesOf s) t′ q page → ⊥
+  alone q page l d x y = go (k .source)
+    where
+      same : q ≡ g
+      same = sym (x .owner) ∙ k .owner
+
+      there : Partial (placesOf s) t g page
+      there = subst (λ (z : ℕ). Partial (placesOf s) t z page) same (was-partial q page l d y)
+
+      go : (ownerOf (placesOf s) t (pageOf cell) ≡ g) ⊎ ((ownerOf (placesOf s) t (pageOf cell) ≡ 0) × ((q : ℕ) → q < s .pages → Partial (placesOf s) t g q → ⊥)) → ⊥
+      go (inr o) = o .1 page l there
+      go (inl o) = order (ℕ-discrete page (pageOf cell))
+        where
+          here : Partial (placesOf s) t g (pageOf cell)
+          here = record { owner = o; part = omega (arith, k .first) }
+
+          order : Dec (page ≡ pageOf cell) → ⊥
+          order (yes e) = d e
+          order (no e) = less (decLt page (pageOf cell))
+            where
+              less : Dec (page < pageOf cell) → ⊥
+              less (yes f) = w .partial g pos page (pageOf cell) f (k .page) there here
+              less (no f) = w .partial g pos (pageOf cell) page (omega arith) l here there
+
+  pub took-partial : (q : ℕ) → 1 ≤ q → (a b : ℕ) → a < b → b < s .pages → Partial (placesOf s) t′ q a → Partial (placesOf s) t′ q b → ⊥
+  took-partial q z a b l h x y = go (ℕ-discrete a (pageOf cell)) (ℕ-discrete b (pageOf cell))
+    where
+      go : Dec (a ≡ pageOf cell) → Dec (b ≡ pageOf cell) → ⊥
+      go (yes e) f = alone q b h (λ (i : b ≡ pageOf cell). omega arith) (subst (Partial (placesOf s) t′ q) e x) y
+      go (no e) (yes f) = alone q a (omega arith) e (subst (Partial (placesOf s) t′ q) f y) x
+      go (no e) (no f) = w .partial q z a b l h (was-partial q a (omega arith) e x) (was-partial q b h f y)
+
+  -- the objects on the cell's page
+  on-page : objectsOn (placesOf s) t′ g (pageOf cell) ≡ objectsOn (placesOf s) t g (pageOf cell) + 1
+  on-page = ap (λ (b : Bool). cond b (usedOf (placesOf s) t′ (pageOf cell)) 0) (eq-eqb (ownerOf (placesOf s) t′ (pageOf cell)) g (k .owner)) ∙ k .used ∙ go (k .source)
+    where
+      go : (ownerOf (placesOf s) t (pageOf cell) ≡ g) ⊎ ((ownerOf (placesOf s) t (pageOf cell) ≡ 0) × ((q : ℕ) → q < s .pages → Partial (placesOf s) t g q → ⊥)) → placeOf cell + 1 ≡ objectsOn (placesOf s) t g (pageOf cell) + 1
+      go (inl o) = omega (arith, k .first, ap (λ (b : Bool). cond b (usedOf (placesOf s) t (pageOf cell)) 0) (eq-eqb (ownerOf (placesOf s) t (pageOf cell)) g o))
+      go (inr o) =
+          omega (arith, k .first, w .pages (pageOf cell) (k .page) .free (o .0), ap (λ (b : Bool). cond b (usedOf (placesOf s) t (pageOf cell)) 0) (ne-eqb (ownerOf (placesOf s) t (pageOf cell)) g (λ (e : ownerOf (placesOf s) t (pageOf cell) ≡ g). omega (arith, o .0))))
+
+  on-other : (q page : ℕ) → page < s .pages → (page ≡ pageOf cell → ⊥) → objectsOn (placesOf s) t′ q page ≡ objectsOn (placesOf s) t q page
+  on-other q page l d = ap₂ (λ (o u : ℕ). cond (eqb o q) u 0) (owner-past s t g cell t′ k page l d) (used-past s t g cell t′ k page l d)
+
+  of-other : (q : ℕ) → 1 ≤ q → (q ≡ g → ⊥) → objectsOn (placesOf s) t′ q (pageOf cell) ≡ objectsOn (placesOf s) t q (pageOf cell)
+  of-other q z d =
+      ap (λ (b : Bool). cond b (usedOf (placesOf s) t′ (pageOf cell)) 0) (ne-eqb (ownerOf (placesOf s) t′ (pageOf cell)) q (λ e. d (sym e ∙ k .owner)))
+      ∙ sym (ap (λ (b : Bool). cond b (usedOf (placesOf s) t (pageOf cell)) 0) (ne-eqb (ownerOf (placesOf s) t (pageOf cell)) q (go (k .source))))
+    where
+      go : (ownerOf (placesOf s) t (pageOf cell) ≡ g) ⊎ ((ownerOf (placesOf s) t (pageOf cell) ≡ 0) × ((q : ℕ) → q < s .pages → Partial (placesOf s) t g q → ⊥)) → ownerOf (placesOf s) t (pageOf cell) ≡ q → ⊥
+      go (inl o) e = d (sym e ∙ o)
+      go (inr o) e = let h : ownerOf (placesOf s) t (pageOf cell) ≡ 0 = o .0 in omega arith
+
+  pub took-counts : (q : ℕ) → 1 ≤ q → q ≤ 1 + s .threads * s .depth → countOf (placesOf s) t′ q ≡ objectsOf (placesOf s) t′ q
+  took-counts q z l = go (ℕ-discrete q g)
+    where
+      go : Dec (q ≡ g) → countOf (placesOf s) t′ q ≡ objectsOf (placesOf s) t′ q
+      go (yes e) =
+          subst (λ (i : ℕ). countOf (placesOf s) t′ i ≡ objectsOf (placesOf s) t′ i) (sym e)
+          (omega (arith, k .count, w .counts g pos (omega arith), on-page, sum-change (objectsOn (placesOf s) t′ g) (objectsOn (placesOf s) t g) (pageOf cell) (s .pages) (k .page) (on-other g)))
+      go (no d) =
+          count-past s t g cell t′ k q z pos d ∙ w .counts q z l ∙ sym (sum-same _ _ (s .pages) (λ page h. each page h (ℕ-discrete page (pageOf cell))))
+        where
+          each : (page : ℕ) → page < s .pages → Dec (page ≡ pageOf cell) → objectsOn (placesOf s) t′ q page ≡ objectsOn (placesOf s) t q page
+          each page h (yes e) = subst (λ (i : ℕ). objectsOn (placesOf s) t′ q i ≡ objectsOn (placesOf s) t q i) (sym e) (of-other q z d)
+          each page h (no e) = on-other q page h e

@@ -1,0 +1,116 @@
+-- Lent words, what is read from them, and the graph and the heap that they make.
+use Prim.Native.Nat.{ℕ, _+_, _*_, _/_, _%_, _<_}
+use mathlib.Core.List.{List}
+use mathlib.Core.Bool.{Bool, cond, _&&_}
+use lib.ListN.{take, drop}
+use lib.Dec.{ltb}
+use Rattle.lists.specs.Listed.{listed}
+use Rattle.rules.specs.declared.Sizes.{Sizes}
+use Rattle.rules.specs.NeverFreeing.{Object}
+use Rattle.rules.specs.Graph.{Graph}
+use Rattle.rules.specs.Rules.{Regioned}
+use Rattle.layout.specs.declared.Places.{Places}
+use Rattle.layout.specs.Places.{sizesAt, placesOf, depthAt, varAt, depthOf, varOf, ownerOf, usedOf}
+use Rattle.layout.specs.Cells.{headOf, fieldAt, pageOf, placeOf}
+
+pub record Words : Type 0 where
+  pub cells : List ℕ
+  pub remember : List ℕ
+  pub tables : List ℕ
+
+-- three lent slices, as a contract names them
+abbrev pub words : List ℕ → List ℕ → List ℕ → Words
+words c m t = record { cells = c; remember = m; tables = t }
+
+abbrev pub sizesIn : Words → Sizes
+sizesIn w = sizesAt (w .tables)
+
+-- A name in At reads one list, so that a change of another leaves it as it is; the name in In reads the words.
+
+-- ---- the tables
+
+abbrev pub depthIn : Words → ℕ → ℕ
+depthIn w t = depthOf (w .tables) t
+
+abbrev pub varIn : Sizes → Words → ℕ → ℕ → ℕ
+varIn s w t a = varOf (placesOf s) (w .tables) (t * s .variables + a)
+
+abbrev pub ownerIn : Sizes → Words → ℕ → ℕ
+ownerIn s w page = ownerOf (placesOf s) (w .tables) page
+
+abbrev pub usedIn : Sizes → Words → ℕ → ℕ
+usedIn s w page = usedOf (placesOf s) (w .tables) page
+
+unfoldable pub depthsAt : Sizes → List ℕ → List ℕ
+depthsAt s tables = take (s .threads) (drop (depthAt 0) tables)
+
+abbrev pub depthsIn : Sizes → Words → List ℕ
+depthsIn s w = depthsAt s (w .tables)
+
+unfoldable pub varsAt : Sizes → List ℕ → List ℕ
+varsAt s tables = take (s .threads * s .variables) (drop (varAt (placesOf s) 0) tables)
+
+abbrev pub varsIn : Sizes → Words → List ℕ
+varsIn s w = varsAt s (w .tables)
+
+-- ---- the cells
+
+abbrev pub headIn : Words → ℕ → ℕ
+headIn w c = headOf (w .cells) c
+
+-- how many references and numbers the object in a cell has
+abbrev pub refCount : Words → ℕ → ℕ
+refCount w c = headIn w c / 16
+
+abbrev pub numCount : Words → ℕ → ℕ
+numCount w c = headIn w c % 16
+
+unfoldable pub refsAt : List ℕ → ℕ → List ℕ
+refsAt cells c = take (headOf cells c / 16) (drop (fieldAt c 0) cells)
+
+abbrev pub refsIn : Words → ℕ → List ℕ
+refsIn w c = refsAt (w .cells) c
+
+unfoldable pub numsAt : List ℕ → ℕ → List ℕ
+numsAt cells c = take (headOf cells c % 16) (drop (fieldAt c (headOf cells c / 16)) cells)
+
+abbrev pub numsIn : Words → ℕ → List ℕ
+numsIn w c = numsAt (w .cells) c
+
+-- cell c is in use: it is one of the first cells of its page
+pub record InUse (p : Places) (t : List ℕ) (c : ℕ) : Type 0 where
+  pub page : pageOf c < p .pages
+  pub place : placeOf c < usedOf p t (pageOf c)
+
+abbrev pub Used : Sizes → Words → ℕ → Type 0
+Used s w c = InUse (placesOf s) (w .tables) c
+
+unfoldable pub inUseAt : Sizes → List ℕ → ℕ → Bool
+inUseAt s tables c = ltb (pageOf c) (s .pages) && ltb (placeOf c) (usedOf (placesOf s) tables (pageOf c))
+
+-- the region that a cell in use lies in; a cell not in use has home 0
+unfoldable pub homeAt : Sizes → List ℕ → ℕ → ℕ
+homeAt s tables c = cond (inUseAt s tables c) (ownerOf (placesOf s) tables (pageOf c)) 0
+
+abbrev pub homeIn : Sizes → Words → ℕ → ℕ
+homeIn s w c = homeAt s (w .tables) c
+
+-- ---- the graph of the words: an object is a cell in use
+
+abbrev pub cellCount : Sizes → ℕ
+cellCount s = 16 * s .pages
+
+abbrev pub graphOf : Sizes → Words → Graph
+graphOf s w = record { count = cellCount s; home = homeIn s w; refs = refsIn w; vars = varsIn s w }
+
+-- ---- the heap of the words: one object for each cell, freed where it is not in use
+
+abbrev pub objectIn : Words → ℕ → Object
+objectIn w c = record { refs = refsIn w c; nums = numsIn w c }
+
+unfoldable pub heapOf : Sizes → Words → Regioned
+heapOf s w =
+    record {
+      heap = record { depths = depthsIn s w; vars = varsIn s w; objects = listed (objectIn w) (cellCount s) };
+      homes = listed (homeIn s w) (cellCount s);
+    }

@@ -1,0 +1,1 @@
+// What the code promises of the lent words; the promises stand in specs/.
