@@ -1,0 +1,337 @@
+-- The pairs through a command.
+use Prim.Native.Nat.{ℕ, zero, suc, _+_, _*_, _<_}
+use native.Mathlib.Omega.{arith}
+use native.Mathlib.Nat.{suc-inj}
+use native.Mathlib.Numerals.{add-one}
+use native.Mathlib.Decide.{ℕ-discrete}
+use mathlib.Core.Path.{_≡_, refl, sym, ap, ap₂, subst, _∙_}
+use mathlib.Core.Logic.{inl, inr}
+use mathlib.Core.List.{List, [], _∷_, _++_, map}
+use mathlib.Core.Bool.{Bool, true, false, _&&_}
+use lib.ListN.{length, getD, set, length-map, length-set, length-append, List·getD-map, List·getD-append}
+use lib.Seq.{getD-at, getD-set-same}
+use lib.Dec.{T, ltb, leb, ltb→lt}
+use Rattle.lists.specs.Products.{flat-low}
+use Rattle.rules.specs.declared.Sizes.{Sizes}
+use Rattle.rules.specs.declared.Command.{Command}
+use Rattle.rules.specs.declared.Answer.{Answer}
+use Rattle.rules.specs.Terms.{Code, unknown, start, end, new, copy, clear, load, store, read, write, same, decode, ask}
+use Rattle.lists.specs.Members.{In}
+use Rattle.rules.specs.NeverFreeing as nf
+use Rattle.rules.specs.NeverFreeing.{Object, noObject, depthOf, place}
+use Rattle.rules.specs.Graph.{Graph, target, ended}
+use Rattle.rules.specs.Regions.{regionAt}
+use Rattle.laws.specs.GraphLaws.{Alive}
+use Rattle.laws.specs.EndLaws.{home-stayed, home-went}
+use Rattle.laws.specs.SameRules.{renamed, same-target}
+use Rattle.rules.specs.Rules as ru
+use Rattle.rules.specs.Rules.{Regioned, graph, innermost}
+use Rattle.laws.specs.RulesLaws.{region-pos, graph-ended}
+use Rattle.promises.specs.Words.{Words, graphOf, homeIn, refsIn, numsIn, varsIn, varIn, depthIn, Used}
+use Rattle.lists.specs.Listed.{listed, listed-same, map-listed}
+use Rattle.promises.specs.StandsFor.{StandsFor}
+use Rattle.promises.specs.Promises.{Became, Did}
+use Rattle.demand.specs.DemandThree.{Moves, regionOf, Changes, made, moved, kept}
+use Rattle.promises.specs.Reading.{in-place, used-home, used-alive, words-closed, var-at, depth-at, length-vars}
+use Rattle.demand.specs.Pairing.{pairOf, pairsOf, pair-there, pair-freed, cell-used, cell-alive}
+
+-- ---- where nothing changes its home
+
+module _ (h h₁ : Regioned) (cellOf cell : ℕ → ℕ) (stays : (x : ℕ) → Alive (graph h) x → graph h₁ .home x ≡ graph h .home x → cell x ≡ cellOf x) where
+  pair-kept : (x : ℕ) → graph h₁ .home x ≡ graph h .home x → pairOf h₁ cell x ≡ pairOf h cellOf x
+  pair-kept x e = go (ℕ-discrete (graph h .home x) 0)
+    where
+      go : Dec (graph h .home x ≡ 0) → pairOf h₁ cell x ≡ pairOf h cellOf x
+      go (yes z) = pair-freed h₁ cell x (e ∙ z) ∙ sym (pair-freed h cellOf x z)
+      go (no a) = pair-there h₁ cell x (λ z. a (sym e ∙ z)) ∙ ap suc (stays x a e) ∙ sym (pair-there h cellOf x a)
+
+  pairs-kept : length (h₁ .heap .objects) ≡ length (h .heap .objects) → ((x : ℕ) → graph h₁ .home x ≡ graph h .home x) → pairsOf h₁ cell ≡ pairsOf h cellOf
+  unfolding pairsOf
+  pairs-kept l e = ap (listed (pairOf h₁ cell)) l ∙ listed-same (pairOf h₁ cell) (pairOf h cellOf) (length (h .heap .objects)) (λ x k. pair-kept x (e x))
+
+  -- a new object
+  pairs-made : length (h .homes) ≡ length (h .heap .objects) → (q : ℕ) → h₁ .homes ≡ h .homes ++ q ∷ [] → length (h₁ .heap .objects) ≡ suc (length (h .heap .objects))
+      → pairsOf h₁ cell ≡ pairsOf h cellOf ++ pairOf h₁ cell (length (h .heap .objects)) ∷ []
+  unfolding pairsOf listed
+  pairs-made aligned q hs l =
+      ap (listed (pairOf h₁ cell)) l
+      ∙ ap (λ (k : List ℕ). k ++ pairOf h₁ cell (length (h .heap .objects)) ∷ [])
+      (listed-same (pairOf h₁ cell) (pairOf h cellOf) (length (h .heap .objects)) (λ x k. pair-kept x (ap (λ (z : List ℕ). getD z x 0) hs ∙ List·getD-append (h .homes) (q ∷ []) 0 x (omega arith))))
+
+-- ---- an end
+
+map-same : {A B : Type 0} (f g : A → B) (l : List A) → ((v : A) → In v l → f v ≡ g v) → map f l ≡ map g l
+map-same f g [] e = refl
+map-same f g (v ∷ l) e = ap₂ (λ x xs. x ∷ xs) (e v (inl refl)) (map-same f g l (λ u i. e u (inr i)))
+
+map-map : {A B C : Type 0} (g : B → C) (f : A → B) (l : List A) → map g (map f l) ≡ map (λ v. g (f v)) l
+map-map g f [] = refl
+map-map g f (v ∷ l) = ap (λ xs. g (f v) ∷ xs) (map-map g f l)
+
+module _ (s : Sizes) (w w₁ : Words) (h h₁ : Regioned) (cellOf cell : ℕ → ℕ) (st : StandsFor s w h cellOf) (st₁ : StandsFor s w₁ h₁ cell)
+    (stays : (x : ℕ) → Alive (graph h) x → graph h₁ .home x ≡ graph h .home x → cell x ≡ cellOf x)
+    (r : ℕ) (pos : 0 < r) (homes : (x : ℕ) → graph h₁ .home x ≡ ended s (graph h) r .home x)
+    (objects : h₁ .heap .objects ≡ h .heap .objects) (vars : h₁ .heap .vars ≡ h .heap .vars) where
+  moveBy : (c : ℕ) → Dec (homeIn s w c ≡ 0) → ℕ
+  moveBy c (yes z) = 0
+  moveBy c (no a) = pairOf h₁ cell (st .partners .onto c a .0)
+
+  move : ℕ → ℕ
+  move zero = 0
+  move (suc c) = moveBy c (ℕ-discrete (homeIn s w c) 0)
+
+  move-of : (x : ℕ) → Alive (graph h) x → move (suc (cellOf x)) ≡ pairOf h₁ cell x
+  unfolding move moveBy
+  move-of x a = go (ℕ-discrete (homeIn s w (cellOf x)) 0)
+    where
+      go : (d : Dec (homeIn s w (cellOf x) ≡ 0)) → moveBy (cellOf x) d ≡ pairOf h₁ cell x
+      go (yes z) = absurd (cell-alive s w h cellOf st x a z)
+      go (no b) = let o = st .partners .onto (cellOf x) b in ap (pairOf h₁ cell) (st .partners .apart (o .0) x (o .1) a (o .2))
+
+  -- a reference that names an object that is there afterwards
+  move-ref : (v : ℕ) → ((y : ℕ) → v ≡ suc y → Alive (graph h) y × Alive (graph h₁) y) → move (renamed cellOf v) ≡ renamed cell v
+  unfolding move
+  move-ref zero k = refl
+  move-ref (suc y) k = move-of y (k y refl .0) ∙ pair-there h₁ cell y (k y refl .1)
+
+  region-pair : (x : ℕ) → regionOf s w₁ (pairOf h₁ cell x) ≡ graph h₁ .home x
+  region-pair x = go (ℕ-discrete (graph h₁ .home x) 0)
+    where
+      go : Dec (graph h₁ .home x ≡ 0) → regionOf s w₁ (pairOf h₁ cell x) ≡ graph h₁ .home x
+      go (yes z) = ap (regionOf s w₁) (pair-freed h₁ cell x z) ∙ sym z
+      go (no a) = ap (regionOf s w₁) (pair-there h₁ cell x a) ∙ st₁ .partners .home x a
+
+  pair-suc : (x c : ℕ) → pairOf h₁ cell x ≡ suc c → Alive (graph h₁) x × (cell x ≡ c)
+  pair-suc x c e = go (ℕ-discrete (graph h₁ .home x) 0)
+    where
+      go : Dec (graph h₁ .home x ≡ 0) → Alive (graph h₁) x × (cell x ≡ c)
+      go (yes z) = absurd (omega (arith, pair-freed h₁ cell x z))
+      go (no a) = (a, suc-inj (sym (pair-there h₁ cell x a) ∙ e))
+
+  was : (x : ℕ) → Alive (graph h₁) x → Alive (graph h) x
+  was x a z = a (homes x ∙ home-stayed s (graph h) r x (λ e. omega arith) ∙ z)
+
+  -- the facts of object x
+  module _ (x : ℕ) (a : Alive (graph h) x) where
+    stays-at : (homeIn s w (cellOf x) ≡ r → ⊥) → move (suc (cellOf x)) ≡ suc (cellOf x)
+    stays-at n =
+        let e = homes x ∙ home-stayed s (graph h) r x (λ z. n (st .partners .home x a ∙ z)) in
+        move-of x a ∙ pair-there h₁ cell x (λ z. a (sym e ∙ z)) ∙ ap suc (stays x a e)
+
+    goes-at : homeIn s w (cellOf x) ≡ r → regionOf s w₁ (move (suc (cellOf x))) ≡ target s (graphOf s w) r (cellOf x)
+    goes-at e =
+        ap (regionOf s w₁) (move-of x a) ∙ region-pair x ∙ homes x ∙ home-went s (graph h) r x (sym (st .partners .home x a) ∙ e)
+        ∙ sym (same-target s cellOf (graph h) (graphOf s w) (st .sound .closed) (words-closed s w (st .whole)) (st .partners) r pos x a)
+
+    refs-at : (c : ℕ) → move (suc (cellOf x)) ≡ suc c → refsIn w₁ c ≡ map move (refsIn w (cellOf x))
+    refs-at c e =
+        let b = pair-suc x c (sym (move-of x a) ∙ e) in
+        let same-refs : graph h₁ .refs x ≡ graph h .refs x = ap (λ (os : List Object). getD os x noObject .refs) objects in
+        ap (refsIn w₁) (sym (b .1)) ∙ st₁ .partners .refs x (b .0) ∙ ap (map (renamed cell)) same-refs
+        ∙ sym (ap (map move) (st .partners .refs x a) ∙ map-map move (renamed cellOf) (graph h .refs x)
+        ∙ map-same (λ v. move (renamed cellOf v)) (renamed cell) (graph h .refs x)
+        (λ v i. move-ref v (λ y q. let j = subst (λ (u : ℕ). In u (graph h .refs x)) q i in
+        (st .sound .closed .refs x y a j, st₁ .sound .closed .refs x y (b .0) (subst (λ (k : List ℕ). In (suc y) k) (sym same-refs) j)))))
+
+    lands-at : (c : ℕ) → move (suc (cellOf x)) ≡ suc c → Used s w₁ c
+    lands-at c e = let b = pair-suc x c (sym (move-of x a) ∙ e) in subst (Used s w₁) (b .1) (cell-used s w₁ h₁ cell st₁ x (b .0))
+
+    nums-at : (c : ℕ) → move (suc (cellOf x)) ≡ suc c → numsIn w₁ c ≡ numsIn w (cellOf x)
+    nums-at c e =
+        let b = pair-suc x c (sym (move-of x a) ∙ e) in
+        ap (numsIn w₁) (sym (b .1)) ∙ sym (st₁ .nums x (b .0)) ∙ ap (λ (os : List Object). getD os x noObject .nums) objects ∙ st .nums x a
+
+  moves : Moves s w r w₁ move
+  unfolding move
+  moves =
+      record {
+        null = refl;
+        stays = λ c u n. at c u (λ d. (homeIn s w d ≡ r → ⊥) → move (suc d) ≡ suc d) stays-at (λ z. n (sym (used-home s w (st .whole) c u) ∙ z));
+        goes = λ c u e. at c u (λ d. homeIn s w d ≡ r → regionOf s w₁ (move (suc d)) ≡ target s (graphOf s w) r d) goes-at (used-home s w (st .whole) c u ∙ e);
+        lands = λ c c′ u e. at c u (λ d. move (suc d) ≡ suc c′ → Used s w₁ c′) (λ x a. lands-at x a c′) e;
+        refs = λ c c′ u e. at c u (λ d. move (suc d) ≡ suc c′ → refsIn w₁ c′ ≡ map move (refsIn w d)) (λ x a. refs-at x a c′) e;
+        nums = λ c c′ u e. at c u (λ d. move (suc d) ≡ suc c′ → numsIn w₁ c′ ≡ numsIn w d) (λ x a. nums-at x a c′) e;
+        vars = variables;
+      }
+    where
+      -- what holds of each object's cell holds of each cell in use
+      at : (c : ℕ) → Used s w c → (P : ℕ → Type 0) → ((x : ℕ) → Alive (graph h) x → P (cellOf x)) → P c
+      at c u P f = let o = st .partners .onto c (used-alive s w (st .whole) c u) in subst P (o .2) (f (o .0) (o .1))
+
+      variables : varsIn s w₁ ≡ map move (varsIn s w)
+      variables =
+          st₁ .partners .vars ∙ ap (map (renamed cell)) vars
+          ∙ sym (ap (map move) (st .partners .vars) ∙ map-map move (renamed cellOf) (h .heap .vars)
+          ∙ map-same (λ v. move (renamed cellOf v)) (renamed cell) (h .heap .vars)
+          (λ v i. move-ref v (λ y q. let j = in-place (h .heap .vars) v i in
+          (st .sound .closed .vars (j .0) y (j .2 ∙ q), st₁ .sound .closed .vars (j .0) y (ap (λ (k : List ℕ). getD k (j .0) 0) vars ∙ j .2 ∙ q)))))
+
+  pairs-moved : pairsOf h₁ cell ≡ map move (pairsOf h cellOf)
+  unfolding pairsOf move
+  pairs-moved =
+      ap (λ (os : List Object). listed (pairOf h₁ cell) (length os)) objects
+      ∙ sym (map-listed move (pairOf h cellOf) (length (h .heap .objects)) ∙ listed-same (λ x. move (pairOf h cellOf x)) (pairOf h₁ cell) (length (h .heap .objects)) (λ x l. go x (ℕ-discrete (graph h .home x) 0)))
+    where
+      go : (x : ℕ) → Dec (graph h .home x ≡ 0) → move (pairOf h cellOf x) ≡ pairOf h₁ cell x
+      go x (yes z) = ap move (pair-freed h cellOf x z) ∙ sym (pair-freed h₁ cell x (homes x ∙ home-stayed s (graph h) r x (λ e. omega arith) ∙ z))
+      go x (no a) = ap move (pair-there h cellOf x a) ∙ move-of x a
+
+-- ---- every command
+
+-- a code that makes no object and ends no epoch
+abbrev Plain : Code → Type 0
+Plain unknown = Unit
+Plain start = Unit
+Plain end = ⊥
+Plain new = ⊥
+Plain copy = Unit
+Plain clear = Unit
+Plain load = Unit
+Plain store = Unit
+Plain read = Unit
+Plain write = Unit
+Plain same = Unit
+
+abbrev AllPlain : List Code → Type 0
+AllPlain [] = Unit
+AllPlain (o ∷ os) = Plain o × AllPlain os
+
+all-plain : (os : List Code) (n : ℕ) → AllPlain os → Plain (getD os n unknown)
+all-plain [] n p = tt
+all-plain (o ∷ os) zero p = p .0
+all-plain (o ∷ os) (suc n) p = all-plain os n (p .1)
+
+plain : (n : ℕ) → (n ≡ 3 → ⊥) → (n ≡ 2 → ⊥) → Plain (decode n)
+plain zero p q = tt
+plain (suc zero) p q = tt
+plain (suc (suc zero)) p q = q refl
+plain (suc (suc (suc zero))) p q = p refl
+plain (suc (suc (suc (suc n)))) p q = all-plain (copy ∷ clear ∷ load ∷ store ∷ read ∷ write ∷ same ∷ []) n (tt, (tt, (tt, (tt, (tt, (tt, (tt, tt)))))))
+
+homes-plain : (s : Sizes) (h : Regioned) (o : Code) (t : ℕ) → Plain o → ru.homesAfter s h o t ≡ h .homes
+unfolding ru.homesAfter
+homes-plain s h unknown t p = refl
+homes-plain s h start t p = refl
+homes-plain s h copy t p = refl
+homes-plain s h clear t p = refl
+homes-plain s h load t p = refl
+homes-plain s h store t p = refl
+homes-plain s h read t p = refl
+homes-plain s h write t p = refl
+homes-plain s h same t p = refl
+
+objects-plain : (s : Sizes) (n : nf.NeverFreeing) (o : Code) (t a b c : ℕ) → Plain o → length (nf.effect s n o t a b c .objects) ≡ length (n .objects)
+unfolding nf.effect
+objects-plain s n unknown t a b c p = refl
+objects-plain s n start t a b c p = refl
+objects-plain s n copy t a b c p = refl
+objects-plain s n clear t a b c p = refl
+objects-plain s n load t a b c p = refl
+objects-plain s n store t a b c p = length-set (n .objects) _ _
+objects-plain s n read t a b c p = refl
+objects-plain s n write t a b c p = length-set (n .objects) _ _
+objects-plain s n same t a b c p = refl
+
+-- questions that were answered
+ask-zero : (b : Bool) (q rest : ℕ) → ask b (suc q) rest ≡ 0 → T b × (rest ≡ 0)
+unfolding ask
+ask-zero true q rest e = (tt, e)
+ask-zero false q rest e = absurd (omega arith)
+
+first-zero : (q r : ℕ) → ru.first q r ≡ 0 → q ≡ 0
+first-zero zero r e = refl
+first-zero (suc q) r e = absurd (omega arith)
+
+both-hold : (b c : Bool) → T (b && c) → T b × T c
+both-hold true c t = (tt, t)
+
+module _ (s : Sizes) (h : Regioned) (m : Command) (e : ru.question s h m ≡ 0) where
+  asked : nf.question s (h .heap) m ≡ 0
+  unfolding ru.question
+  asked = first-zero (nf.question s (h .heap) m) (ru.room s h m (ru.after s h m)) e
+
+  thread-ok : m .thread < s .threads
+  unfolding nf.question
+  thread-ok = ltb→lt _ _ (ask-zero _ 6 _ (ask-zero _ 5 _ asked .1) .0)
+
+  operands-ok : T (nf.operands s (decode (m .code)) (m .a) (m .b) (m .c))
+  unfolding nf.question
+  operands-ok = ask-zero _ 7 _ (ask-zero _ 6 _ (ask-zero _ 5 _ asked .1) .1) .0
+
+  new-ok : m .code ≡ 3 → m .a < s .variables
+  unfolding nf.operands
+  new-ok k =
+      let t : T (ltb (m .a) (s .variables) && leb (m .b + m .c) 14) = subst (λ (o : ℕ). T (nf.operands s (decode o) (m .a) (m .b) (m .c))) k operands-ok in
+      ltb→lt _ _ (both-hold (ltb (m .a) (s .variables)) (leb (m .b + m .c) 14) t .0)
+
+module _ (s : Sizes) (w w₁ : Words) (m : Command) (a : Answer) (h : Regioned) (cellOf : ℕ → ℕ) (st : StandsFor s w h cellOf) where
+  refused-changes : (q : ℕ) → a .number ≡ suc q → (b : Became s h cellOf w₁ h) → Changes s w m a w₁ (pairsOf h cellOf) (pairsOf h (b .cell))
+  refused-changes q e b = kept (λ z. absurd (omega arith)) (λ z. absurd (omega arith)) (pairs-kept h h cellOf (b .cell) (b .stays) refl (λ x. refl))
+
+  done-changes : a .number ≡ 0 → ru.question s h m ≡ 0 → (b : Became s h cellOf w₁ (ru.after s h m)) → Changes s w m a w₁ (pairsOf h cellOf) (pairsOf (ru.after s h m) (b .cell))
+  unfolding ru.after
+  done-changes z e b = go (ℕ-discrete (m .code) 3) (ℕ-discrete (m .code) 2)
+    where
+      h₁ : Regioned
+      h₁ = ru.after s h m
+
+      th : m .thread < s .threads
+      th = thread-ok s h m e
+
+      r : ℕ
+      r = regionAt s (m .thread) (depthIn w (m .thread))
+
+      new-pair : m .code ≡ 3 → pairOf h₁ (b .cell) (length (h .heap .objects)) ≡ varIn s w₁ (m .thread) (m .a)
+      new-pair k =
+          let n = length (h .heap .objects) in
+          let p = place s (m .thread) (m .a) in
+          let va = new-ok s h m e k in
+          let vs : h₁ .heap .vars ≡ set (h .heap .vars) p (n + 1) = unfold nf.effect in ap (λ (o : ℕ). nf.effect s (h .heap) (decode o) (m .thread) (m .a) (m .b) (m .c) .vars) k in
+          let hs : h₁ .homes ≡ h .homes ++ innermost s h (m .thread) ∷ [] = unfold ru.homesAfter in ap (λ (o : ℕ). ru.homesAfter s h (decode o) (m .thread)) k in
+          let home : graph h₁ .home n ≡ innermost s h (m .thread) = ap (λ (l : List ℕ). getD l n 0) hs ∙ getD-at (h .homes) (innermost s h (m .thread)) [] 0 n (st .sound .aligned) in
+          let long : length (h .heap .vars) ≡ s .threads * s .variables = sym (length-map (h .heap .vars) (renamed cellOf)) ∙ ap (λ (l : List ℕ). length l) (sym (st .partners .vars)) ∙ length-vars s w (st .whole) in
+          let at : getD (h₁ .heap .vars) p 0 ≡ suc n = ap (λ (l : List ℕ). getD l p 0) vs ∙ getD-set-same (h .heap .vars) p (n + 1) 0 (omega (arith, flat-low th va)) ∙ add-one n in
+          pair-there h₁ (b .cell) n (λ y. omega (arith, region-pos s (m .thread) (depthOf (h .heap) (m .thread))))
+          ∙ sym (sym (var-at s w₁ (m .thread) (m .a) th va) ∙ ap (λ (l : List ℕ). getD l p 0) (b .stands .partners .vars) ∙ List·getD-map (renamed (b .cell)) (h₁ .heap .vars) p 0 ∙ ap (renamed (b .cell)) at)
+
+      made-pairs : m .code ≡ 3 → pairsOf h₁ (b .cell) ≡ pairsOf h cellOf ++ varIn s w₁ (m .thread) (m .a) ∷ []
+      made-pairs k =
+          pairs-made h h₁ cellOf (b .cell) (b .stays) (st .sound .aligned) (innermost s h (m .thread))
+          (unfold ru.homesAfter in ap (λ (o : ℕ). ru.homesAfter s h (decode o) (m .thread)) k)
+          (unfold nf.effect in ap (λ (o : ℕ). length (nf.effect s (h .heap) (decode o) (m .thread) (m .a) (m .b) (m .c) .objects)) k ∙ length-append (h .heap .objects) _ ∙ add-one _)
+          ∙ ap (λ (v : ℕ). pairsOf h cellOf ++ v ∷ []) (new-pair k)
+
+      homes : m .code ≡ 2 → (x : ℕ) → graph h₁ .home x ≡ ended s (graph h) r .home x
+      homes k x =
+          let hs : h₁ .homes ≡ ru.ended s h (innermost s h (m .thread)) = unfold ru.homesAfter in ap (λ (o : ℕ). ru.homesAfter s h (decode o) (m .thread)) k in
+          ap (λ (l : List ℕ). getD l x 0) hs
+          ∙ ap (λ (g : Graph). g .home x) (graph-ended s h (innermost s h (m .thread)) (region-pos s (m .thread) (depthOf (h .heap) (m .thread))) [])
+          ∙ ap (λ (d : ℕ). ended s (graph h) (regionAt s (m .thread) d) .home x) (ap (λ (l : List ℕ). getD l (m .thread) 0) (st .depths) ∙ depth-at s w (m .thread) th)
+
+      objects : m .code ≡ 2 → h₁ .heap .objects ≡ h .heap .objects
+      objects k = unfold nf.effect in ap (λ (o : ℕ). nf.effect s (h .heap) (decode o) (m .thread) (m .a) (m .b) (m .c) .objects) k
+
+      vars : m .code ≡ 2 → h₁ .heap .vars ≡ h .heap .vars
+      vars k = unfold nf.effect in ap (λ (o : ℕ). nf.effect s (h .heap) (decode o) (m .thread) (m .a) (m .b) (m .c) .vars) k
+
+      go : Dec (m .code ≡ 3) → Dec (m .code ≡ 2) → Changes s w m a w₁ (pairsOf h cellOf) (pairsOf h₁ (b .cell))
+      go (yes k) d = made z k (made-pairs k)
+      go (no j) (yes k) =
+          let pos = region-pos s (m .thread) (depthIn w (m .thread)) in
+          moved z k (move s w w₁ h h₁ cellOf (b .cell) st (b .stands) (b .stays) r pos (homes k) (objects k) (vars k))
+          (moves s w w₁ h h₁ cellOf (b .cell) st (b .stands) (b .stays) r pos (homes k) (objects k) (vars k))
+          (pairs-moved s w w₁ h h₁ cellOf (b .cell) st (b .stands) (b .stays) r pos (homes k) (objects k) (vars k))
+      go (no j) (no k) =
+          let p = plain (m .code) j k in
+          kept (λ y. j) (λ y. k) (pairs-kept h h₁ cellOf (b .cell) (b .stays) (objects-plain s (h .heap) (decode (m .code)) (m .thread) (m .a) (m .b) (m .c) p)
+          (λ x. ap (λ (l : List ℕ). getD l x 0) (homes-plain s h (decode (m .code)) (m .thread) p)))
+
+pub did-changes : (s : Sizes) {w w′ : Words} {m : Command} {a : Answer} (d : Did s w m w′ a) (h : Regioned) (cellOf : ℕ → ℕ) (st : StandsFor s w h cellOf)
+    → Changes s w m a w′ (pairsOf h cellOf) (pairsOf (ru.step s h m .next) (d .next h cellOf st .cell))
+unfolding ru.step ru.answered
+did-changes s {w} {w′} {m} {a} d h cellOf st = go (ru.question s h m) refl (d .answer h cellOf st) (d .next h cellOf st)
+  where
+    go : (q : ℕ) → ru.question s h m ≡ q → a ≡ ru.answered s h m q .answer → (b : Became s h cellOf w′ (ru.answered s h m q .next))
+        → Changes s w m a w′ (pairsOf h cellOf) (pairsOf (ru.answered s h m q .next) (b .cell))
+    go zero e f b = done-changes s w w′ m a h cellOf st (ap (λ (x : Answer). x .number) f) e b
+    go (suc q) e f b = refused-changes s w w′ m a h cellOf st q (ap (λ (x : Answer). x .number) f) b

@@ -1,0 +1,184 @@
+-- What prepare writes stands for the unused heap.
+use Prim.Native.Nat.{ℕ, zero, suc, _+_, _-_, _*_, _/_, _≤_, _<_}
+use native.Mathlib.Omega.{arith}
+use mathlib.Core.Path.{_≡_, refl, sym, ap, subst, _∙_}
+use mathlib.Core.List.{List, _∷_, _++_, map}
+use mathlib.Core.Bool.{Bool, true, false, cond}
+use lib.ListN.{length, getD, drop, replicate, length-append, length-drop, length-replicate, getD-replicate, List·getD-append}
+use lib.Seq.{getD-take, getD-drop, length-take-le, ext-getD}
+use lib.Dec.{ltb, leb, eqb}
+use borrow.Author.Tests.{le-ltb}
+use Rattle.rules.specs.Terms.{InRange}
+use Rattle.layout.specs.Places.{varAt, ownersFrom, usedFrom, marksFrom, countsFrom, rememberWords, tablesWords, count-room, placesOf}
+use Rattle.layout.specs.Cells.{headOf, pageOf, placeOf, cellOf, wordOf}
+use Rattle.lists.specs.Counting.{sum-high}
+use Rattle.promises.specs.Crossing.{crossTo, other, regionOf}
+use Rattle.promises.specs.Whole.{SizesWhole, objectsOn, WholeAt}
+use Rattle.rules.specs.declared.Sizes.{Sizes}
+use Rattle.rules.specs.NeverFreeing as nf
+use Rattle.rules.specs.Rules as ru
+use Rattle.laws.specs.RulesLaws.{sound-unused}
+use Rattle.laws.specs.GraphLaws.{Alive}
+use Rattle.laws.specs.SameRules.{renamed}
+use Rattle.promises.specs.Words.{Words, InUse, sizesIn, depthsIn, varsIn, graphOf, ownerIn, usedIn, depthsAt, varsAt}
+use Rattle.promises.specs.StandsFor.{StandsFor}
+use Rattle.promises.specs.Reading.{alive-used}
+use Rattle.promises.specs.Promises.{LongEnough, PrepareAsked, outOfRange, short, accepted, Unused, Prepared}
+
+zeros-then : (n i : ℕ) (rest : List ℕ) → i < n → getD (replicate n 0 ++ rest) i 0 ≡ 0
+zeros-then n i rest l = List·getD-append (replicate n 0) rest 0 i (omega (arith, length-replicate {A = ℕ} n 0)) ∙ getD-replicate n i 0 0 l
+
+-- a list of n elements that are all 0
+all-zero : (l : List ℕ) (n : ℕ) → length l ≡ n → ((i : ℕ) → i < n → getD l i 0 ≡ 0) → l ≡ replicate n 0
+all-zero l n e z = ext-getD 0 l (replicate n 0) (e ∙ sym (length-replicate {A = ℕ} n 0)) (λ i k. let j : i < n = omega arith in z i j ∙ sym (getD-replicate n i 0 0 j))
+
+renamed-zeros : (n : ℕ) (f : ℕ → ℕ) → map (renamed f) (replicate n 0) ≡ replicate n 0
+renamed-zeros zero f = refl
+renamed-zeros (suc n) f = ap (λ (l : List ℕ). 0 ∷ l) (renamed-zeros n f)
+
+module _ (s : Sizes) (lent w : Words) (range : InRange s) (long : LongEnough s lent) (u : Unused s lent w) where
+  tw : ℕ
+  tw = tablesWords s
+
+  table-zero : (i : ℕ) → 5 ≤ i → i < tw → getD (w .tables) i 0 ≡ 0
+  unfolding tw
+  table-zero i l m =
+      let e : i ≡ suc (suc (suc (suc (suc (i - 5))))) = omega arith in
+      ap (λ (t : List ℕ). getD t i 0) (u .tables)
+      ∙ ap (λ (j : ℕ). getD (s .threads ∷ s .variables ∷ s .depth ∷ s .pages ∷ s .entries ∷ replicate (tw - 5) 0 ++ drop tw (lent .tables)) j 0) e
+      ∙ zeros-then (tw - 5) (i - 5) (drop tw (lent .tables)) (omega arith)
+
+  remember-zero : (i : ℕ) → 1 ≤ i → i < 2 * s .entries + 2 → getD (w .remember) i 0 ≡ 0
+  remember-zero i l m =
+      let e : i ≡ suc (i - 1) = omega arith in
+      ap (λ (t : List ℕ). getD t i 0) (u .remember)
+      ∙ ap (λ (j : ℕ). getD (s .entries ∷ replicate (rememberWords s - 1) 0 ++ drop (2 * s .entries + 2) (lent .remember)) j 0) e
+      ∙ zeros-then (rememberWords s - 1) (i - 1) (drop (2 * s .entries + 2) (lent .remember)) (omega arith)
+
+  -- the places, below tw
+  room : (5 + s .threads + s .threads * s .variables + 3 * s .pages + 1 + s .threads * s .depth ≡ tw) × (ownersFrom s ≡ 5 + s .threads + s .threads * s .variables)
+      × (usedFrom s ≡ 5 + s .threads + s .threads * s .variables + s .pages) × (marksFrom s ≡ 5 + s .threads + s .threads * s .variables + 2 * s .pages)
+      × (countsFrom s ≡ 5 + s .threads + s .threads * s .variables + 3 * s .pages)
+  unfolding tw ownersFrom usedFrom marksFrom countsFrom
+  room = omega (arith, count-room s)
+
+  long-tables : length (w .tables) ≡ tw + length (drop tw (lent .tables))
+  unfolding tw
+  long-tables =
+      ap (λ (t : List ℕ). length t) (u .tables)
+      ∙ omega (arith, length-append (replicate (tw - 5) 0) (drop tw (lent .tables)), length-replicate {A = ℕ} (tw - 5) 0, room)
+
+  long-remember : length (w .remember) ≡ 2 * s .entries + 2 + length (drop (2 * s .entries + 2) (lent .remember))
+  long-remember =
+      ap (λ (t : List ℕ). length t) (u .remember)
+      ∙ omega (arith, length-append (replicate (rememberWords s - 1) 0) (drop (2 * s .entries + 2) (lent .remember)), length-replicate {A = ℕ} (rememberWords s - 1) 0)
+
+  sized : sizesIn w ≡ s
+  sized = ap (λ (t : List ℕ). sizesIn (record { cells = w .cells; remember = w .remember; tables = t })) (u .tables)
+
+  owner-zero : (page : ℕ) → page < s .pages → ownerIn s w page ≡ 0
+  owner-zero page l = table-zero (ownersFrom s + page) (omega (arith, room)) (omega (arith, room))
+
+  used-zero : (page : ℕ) → page < s .pages → usedIn s w page ≡ 0
+  used-zero page l = table-zero (usedFrom s + page) (omega (arith, room)) (omega (arith, room))
+
+  sizes-whole : SizesWhole (w .cells) (w .remember) (w .tables)
+  unfolding tw
+  sizes-whole =
+      record {
+        sized = omega (arith, long-tables, room);
+        counted = omega (arith, long-remember);
+        range = subst (λ (z : Sizes). InRange z) (sym sized) range;
+        same = ap (λ (t : List ℕ). getD t 0 0) (u .remember) ∙ sym (ap (λ (t : List ℕ). getD t 4 0) (u .tables));
+        tables = subst (λ (z : Sizes). tablesWords z ≤ length (w .tables)) (sym sized) (omega (arith, long-tables));
+        remember = subst (λ (z : Sizes). 2 * z .entries + 2 ≤ length (w .remember)) (sym sized) (omega (arith, long-remember));
+        cells = subst (λ (z : Sizes). 256 * z .pages ≤ length (w .cells)) (sym sized) (omega (arith, u .cells .long, long .cells));
+      }
+
+  cond-zero : (b : Bool) (x : ℕ) → x ≡ 0 → cond b x 0 ≡ 0
+  cond-zero true x e = e
+  cond-zero false x e = refl
+
+  no-objects : (g page : ℕ) → page < s .pages → objectsOn (placesOf s) (w .tables) g page ≡ 0
+  no-objects g page l = cond-zero (eqb (ownerIn s w page) g) (usedIn s w page) (used-zero page l)
+
+  no-cross : (q : ℕ) → q < 256 * s .pages → crossTo (placesOf s) (w .cells) (w .tables) q ≡ 0
+  unfolding crossTo
+  no-cross q l =
+      ap (λ (b : Bool). cond b (cond (leb 2 (wordOf q)) (cond (ltb (wordOf q) (headOf (w .cells) (cellOf q) / 16 + 2)) (other (ownerIn s w (pageOf (cellOf q))) (regionOf (placesOf s) (w .tables) (getD (w .cells) q 0))) 0) 0) 0)
+      (le-ltb (placeOf (cellOf q)) (usedIn s w (pageOf (cellOf q))) (omega (arith, used-zero (pageOf (cellOf q)) (omega arith))))
+
+  no-cell : (c : ℕ) → InUse (placesOf s) (w .tables) c → ⊥
+  no-cell c v = omega (arith, v .place, used-zero (pageOf c) (v .page))
+
+  placed : WholeAt (placesOf s) (w .cells) (w .remember) (w .tables)
+  placed =
+      record {
+        depths = λ k l. omega (arith, table-zero (5 + k) (omega arith) (omega (arith, room)));
+        pages = λ page l. let o = owner-zero page l in let v = used-zero page l in record {
+          free = λ e. v;
+          taken = λ p. absurd (omega arith);
+          cells = omega arith;
+          region = λ p. absurd (omega arith);
+        };
+        partial = λ g l a b i j x y. omega (arith, x .owner, owner-zero a (omega arith));
+        counts = λ g l m. table-zero (countsFrom s + (g - 1)) (omega (arith, room)) (omega (arith, room))
+            ∙ sym (omega (arith, sum-high (objectsOn (placesOf s) (w .tables) g) 0 (s .pages) (λ k i. omega (arith, no-objects g k i))));
+        variables = λ i l p. absurd (omega (arith, table-zero (5 + s .threads + i) (omega arith) (omega (arith, room))));
+        references = λ c v. absurd (no-cell c v);
+        formed = λ c v. absurd (no-cell c v);
+        marks = λ page l. table-zero (marksFrom s + page) (omega (arith, room)) (omega (arith, room));
+        working = λ c v. absurd (no-cell c v);
+        remember = record {
+          entries = record {
+            room = omega (arith, remember-zero 1 (omega arith) (omega arith));
+            named = λ i l. absurd (omega (arith, remember-zero 1 (omega arith) (omega arith)));
+            once = λ i j l m. absurd (omega (arith, remember-zero 1 (omega arith) (omega arith)));
+            rest = λ i l m. (remember-zero (2 + i) (omega arith) (omega arith), remember-zero (2 + s .entries + i) (omega arith) (omega arith));
+          };
+          every = λ q l h. absurd (omega (arith, no-cross q l));
+        };
+      }
+
+  none-there : (c : ℕ) → Alive (graphOf s w) c → ⊥
+  none-there c a =
+      no-cell c (alive-used s w (record { sized = sized; sizes = sizes-whole; placed = placed }) c a)
+
+  depths-zero : depthsIn s w ≡ replicate (s .threads) 0
+  unfolding depthsAt
+  depths-zero =
+      all-zero (depthsIn s w) (s .threads) (length-take-le (s .threads) (drop 5 (w .tables)) (simp length-drop (omega (arith, long-tables, room))))
+      (λ i l. getD-take (s .threads) (drop 5 (w .tables)) i 0 l ∙ getD-drop 5 (w .tables) i 0 ∙ table-zero (5 + i) (omega arith) (omega (arith, room)))
+
+  vars-zero : varsIn s w ≡ replicate (s .threads * s .variables) 0
+  unfolding varsAt
+  vars-zero =
+      let from : ℕ = varAt (placesOf s) 0 in
+      all-zero (varsIn s w) (s .threads * s .variables) (length-take-le (s .threads * s .variables) (drop from (w .tables)) (simp length-drop (omega (arith, long-tables, room))))
+      (λ i l. getD-take (s .threads * s .variables) (drop from (w .tables)) i 0 l ∙ getD-drop from (w .tables) i 0
+      ∙ table-zero (from + i) (omega arith) (omega (arith, room)))
+
+  unused-stands : StandsFor s w (ru.unused s) (λ x. x)
+  unfolding ru.unused nf.empty
+  unused-stands =
+      record {
+        whole = record { sized = sized; sizes = sizes-whole; placed = placed };
+        sound = sound-unused s;
+        depths = sym depths-zero;
+        partners = record {
+          home = λ x a. absurd (a refl);
+          apart = λ x y a b e. e;
+          onto = λ y a. absurd (none-there y a);
+          refs = λ x a. absurd (a refl);
+          vars = vars-zero ∙ sym (renamed-zeros (s .threads * s .variables) (λ x. x));
+        };
+        nums = λ x a. absurd (a refl);
+      }
+
+pub prepared-stands : (s : Sizes) (lent w : Words) → Prepared s lent 0 w → StandsFor s w (ru.unused s) (λ x. x)
+prepared-stands s lent w p = go (p .asked)
+  where
+    go : PrepareAsked s lent 0 → StandsFor s w (ru.unused s) (λ x. x)
+    go (outOfRange e n) = absurd (omega arith)
+    go (short e r n) = absurd (omega arith)
+    go (accepted e r l) = unused-stands s lent w r l (p .unused refl)
