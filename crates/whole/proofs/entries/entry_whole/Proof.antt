@@ -1,0 +1,50 @@
+-- The slot at the position that the entry names crosses into the region that it holds.
+use native.Mathlib.Omega.{arith}
+use borrow.Author.Needs.{needs}
+use Rattle.lists.specs.Says.{says-yes, says-no}
+use mathlib.Core.Path.{sym, ap, _∙_}
+use denote.Ref.{now}
+use Rattle.promises.specs.Crossing.{crossTo}
+use Rattle.whole.proofs.entries.entry_whole.Statement.{statement}
+use Rattle.whole.proofs.entries.entry_whole.Tie as tie
+
+slot-requires : tie.Need-slot-requires
+slot-requires c κs = search needs
+
+wide-requires : tie.Need-wide-requires
+wide-requires c κs = search needs
+
+mul-if1 : tie.Need-mul-if1
+mul-if1 c = search needs
+
+returns : tie.Need-returns
+returns c = says-no (λ h. omega (arith, h .slot))
+
+region-requires : tie.Need-region-requires
+region-requires c κs = search needs
+
+returns-2 : tie.Need-returns-2
+returns-2 c = says-no (λ h. omega (arith, h .region))
+
+cross-to-requires : tie.Need-cross-to-requires
+cross-to-requires c κs = search needs
+
+returns-3 : tie.Need-returns-3
+returns-3 c = says-no (λ h. c .if3 .taken (c .before .cross-to .ensures ∙ ap (crossTo (c .before .before .before .before .before .before .before .before .before .before .before .args .p) (now (c .before .before .before .before .before .before .before .before .before .before .before .args .cells)) (now (c .before .before .before .before .before .before .before .before .before .before .before .args .tables))) (c .before .before .before .before .before .before .wide .ensures ∙ c .before .before .before .before .before .before .before .slot .ensures) ∙ h .right ∙ sym (c .before .before .before .region .ensures)))
+
+returns-4 : tie.Need-returns-4
+returns-4 c = says-yes (record { slot = omega arith; region = omega arith; right = sym (c .before .cross-to .ensures ∙ ap (crossTo (c .before .before .before .before .before .before .before .before .before .before .before .args .p) (now (c .before .before .before .before .before .before .before .before .before .before .before .args .cells)) (now (c .before .before .before .before .before .before .before .before .before .before .before .args .tables))) (c .before .before .before .before .before .before .wide .ensures ∙ c .before .before .before .before .before .before .before .slot .ensures)) ∙ c .if3 .left ∙ c .before .before .before .region .ensures })
+
+pub entry-whole-spec : {M : Type 1} → statement M
+entry-whole-spec =
+    tie.close
+    (tie.spec
+    slot-requires
+    wide-requires
+    mul-if1
+    returns
+    region-requires
+    returns-2
+    cross-to-requires
+    returns-3
+    returns-4)

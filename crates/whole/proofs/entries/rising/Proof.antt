@@ -1,0 +1,61 @@
+-- The loop's invariant: the slots passed rise.
+use native.Mathlib.Omega.{arith}
+use borrow.Author.Needs.{needs}
+use Rattle.lists.specs.Says.{says-yes, says-no}
+use Prim.Native.Nat.{_-_, _≤_}
+use denote.Ref.{now}
+use Rattle.layout.specs.Places.{usedIn}
+use Rattle.whole.specs.Entries.{Rising, rising-more, rising-at}
+use Rattle.whole.proofs.entries.rising.Statement.{statement}
+use Rattle.whole.proofs.entries.rising.Tie as tie
+
+abbrev Inv-loop : tie.InvT-loop
+Inv-loop remember used entries i₀ i =
+    (1 ≤ i) × Rising remember i
+
+abbrev μ-loop : tie.MeasureT-loop
+μ-loop remember used entries i₀ i =
+    used - i
+
+loop-holds : tie.Need-loop-holds Inv-loop μ-loop
+loop-holds c = (omega arith, λ k l. absurd (let z : ⊥ = omega arith in z))
+
+sub-slot : tie.Need-sub-slot Inv-loop μ-loop
+sub-slot c = omega arith
+
+slot-requires : tie.Need-slot-requires Inv-loop μ-loop
+slot-requires c κs = search needs
+
+slot-requires-2 : tie.Need-slot-requires-2 Inv-loop μ-loop
+slot-requires-2 c κs = search needs
+
+returns : tie.Need-returns Inv-loop μ-loop
+returns c = says-no (λ h. let z : ⊥ = omega (arith, rising-at (now (c .before .before .before .before .before .before .args .remember)) (usedIn (now (c .before .before .before .before .before .before .args .remember))) (c .before .before .before .before .loop .i) h (c .before .before .before .before .loop .inv .0) (omega arith)) in z)
+
+add-i : tie.Need-add-i Inv-loop μ-loop
+add-i c = omega arith
+
+loop-less : tie.Need-loop-less Inv-loop μ-loop
+loop-less c = omega arith
+
+loop-again : tie.Need-loop-again Inv-loop μ-loop
+loop-again c = (omega arith, rising-more (now (c .before .before .before .before .before .before .args .remember)) (c .before .before .before .before .loop .i) (c .before .before .before .before .loop .inv .1) (c .before .before .before .before .loop .inv .0) (c .before .before .slot .ensures) (c .before .slot2 .ensures) (c .if1 .left))
+
+returns-2 : tie.Need-returns-2 Inv-loop μ-loop
+returns-2 c = says-yes (λ k l. c .before .loop .inv .1 k (omega arith))
+
+pub rising-spec : {M : Type 1} → statement M
+rising-spec =
+    tie.close
+    (tie.spec
+    Inv-loop
+    μ-loop
+    loop-holds
+    sub-slot
+    slot-requires
+    slot-requires-2
+    returns
+    add-i
+    loop-less
+    loop-again
+    returns-2)

@@ -1,0 +1,172 @@
+-- The first loop's invariant: the two arrays say, for each region, how many objects the pages passed hold of it and whether one of them is partly filled. The second's: the counts of the regions passed agree.
+use native.Mathlib.Omega.{arith}
+use borrow.Author.Needs.{needs}
+use Rattle.lists.specs.Says.{says-yes, says-no}
+use mathlib.Core.Path.{_≡_, refl, sym, ap, _∙_}
+use Prim.Native.Nat.{ℕ, _+_, _-_, _≤_, _<_}
+use denote.Ref.{now}
+use borrow.Author.Count.{below-more}
+use mathlib.Core.Logic.{⊎-elim}
+use lib.ListN.{length, getD}
+use Rattle.layout.specs.Places.{countOf}
+use Rattle.lists.specs.Counting.{sum}
+use mathlib.Core.Path.{subst₂}
+use mathlib.Core.List.{List}
+use mathlib.Core.Bool.{Bool}
+use Rattle.promises.specs.Whole.{objectsOn}
+use Rattle.whole.specs.Regions.{Tallied, tallied-none, tallied-free, tallied-full, tallied-part, twice, objects-low, owner-room, region-few}
+use Rattle.whole.proofs.regions.regions_whole.Statement.{statement}
+use Rattle.whole.proofs.regions.regions_whole.Tie as tie
+
+abbrev Inv-loop : tie.InvT-loop
+Inv-loop p tables pages objects₀ partly₀ page₀ objects partly page =
+    (page ≤ pages) × Tallied p tables objects partly page
+
+abbrev μ-loop : tie.MeasureT-loop
+μ-loop p tables pages objects₀ partly₀ page₀ objects partly page =
+    pages - page
+
+abbrev Inv-loop2 : tie.InvT-loop2
+Inv-loop2 p tables pages objects page last g₀ g =
+    (1 ≤ g) × (g ≤ last + 1) × (last ≤ 129) × (length objects ≡ 130) × ((k : ℕ) → k < g → 1 ≤ k → countOf p tables k ≡ getD objects k 0)
+
+abbrev μ-loop2 : tie.MeasureT-loop2
+μ-loop2 p tables pages objects page last g₀ g =
+    last + 1 - g
+
+loop-holds : tie.Need-loop-holds Inv-loop μ-loop Inv-loop2 μ-loop2
+loop-holds c = (omega arith, tallied-none (c .before .args .p) (now (c .before .args .tables)))
+
+owner-requires : tie.Need-owner-requires Inv-loop μ-loop Inv-loop2 μ-loop2
+owner-requires c κs = search needs
+
+wide-requires : tie.Need-wide-requires Inv-loop μ-loop Inv-loop2 μ-loop2
+wide-requires c κs = search needs
+
+used-requires : tie.Need-used-requires Inv-loop μ-loop Inv-loop2 μ-loop2
+used-requires c κs = search needs
+
+wide-requires-2 : tie.Need-wide-requires-2 Inv-loop μ-loop Inv-loop2 μ-loop2
+wide-requires-2 c κs = search needs
+
+array-read-if3 : tie.Need-array-read-if3 Inv-loop μ-loop Inv-loop2 μ-loop2
+array-read-if3 c = omega (arith, c .before .before .before .before .before .before .before .loop .inv .1 .flags, (owner-room (c .before .before .before .before .before .before .before .before .before .args .p) (now (c .before .before .before .before .before .before .before .before .before .args .tables)) (length (now (c .before .before .before .before .before .before .before .before .before .args .tables))) (c .before .before .before .before .before .before .before .loop .page) (c .before .before .before .before .before .before .before .before .before .pre .0) (c .before .before .before .before .before .before .before .before .before .pre .1) (c .before .before .before .before .before .before .loop-test .taken) (c .before .before .before .before .wide .ensures ∙ c .before .before .before .before .before .owner .ensures)))
+
+returns : tie.Need-returns Inv-loop μ-loop Inv-loop2 μ-loop2
+returns c = says-no (λ h. twice (c .before .before .before .before .before .before .before .before .before .before .args .p) (now (c .before .before .before .before .before .before .before .before .before .before .args .tables)) (c .before .before .before .before .before .before .before .before .loop .objects) (c .before .before .before .before .before .before .before .before .loop .partly) (c .before .before .before .before .before .before .before .before .loop .page) (c .before .before .before .before .before .wide .result) (c .before .before .wide2 .result) (c .before .before .before .before .before .before .before .before .loop .inv .1) (c .before .before .before .before .before .wide .ensures ∙ c .before .before .before .before .before .before .owner .ensures) (c .before .before .wide2 .ensures ∙ c .before .before .before .used .ensures) (owner-room (c .before .before .before .before .before .before .before .before .before .before .args .p) (now (c .before .before .before .before .before .before .before .before .before .before .args .tables)) (length (now (c .before .before .before .before .before .before .before .before .before .before .args .tables))) (c .before .before .before .before .before .before .before .before .loop .page) (c .before .before .before .before .before .before .before .before .before .before .pre .0) (c .before .before .before .before .before .before .before .before .before .before .pre .1) (c .before .before .before .before .before .before .before .loop-test .taken) (c .before .before .before .before .before .wide .ensures ∙ c .before .before .before .before .before .before .owner .ensures)) (c .before .before .before .before .before .before .before .loop-test .taken) (c .before .if2 .taken) (c .if3 .taken) (h .partial))
+
+array-write-partly : tie.Need-array-write-partly Inv-loop μ-loop Inv-loop2 μ-loop2
+array-write-partly c = omega (arith, c .before .before .before .before .before .before .before .before .loop .inv .1 .flags, (owner-room (c .before .before .before .before .before .before .before .before .before .before .args .p) (now (c .before .before .before .before .before .before .before .before .before .before .args .tables)) (length (now (c .before .before .before .before .before .before .before .before .before .before .args .tables))) (c .before .before .before .before .before .before .before .before .loop .page) (c .before .before .before .before .before .before .before .before .before .before .pre .0) (c .before .before .before .before .before .before .before .before .before .before .pre .1) (c .before .before .before .before .before .before .before .loop-test .taken) (c .before .before .before .before .before .wide .ensures ∙ c .before .before .before .before .before .before .owner .ensures)))
+
+mul-objects : tie.Need-mul-objects Inv-loop μ-loop Inv-loop2 μ-loop2
+mul-objects c = omega (arith, (owner-room (c .before .before .before .before .before .before .before .before .before .args .p) (now (c .before .before .before .before .before .before .before .before .before .args .tables)) (length (now (c .before .before .before .before .before .before .before .before .before .args .tables))) (c .before .before .before .before .before .before .before .loop .page) (c .before .before .before .before .before .before .before .before .before .pre .0) (c .before .before .before .before .before .before .before .before .before .pre .1) (c .before .before .before .before .before .before .loop-test .taken) (c .before .before .before .before .wide .ensures ∙ c .before .before .before .before .before .owner .ensures)))
+
+array-read-objects : tie.Need-array-read-objects Inv-loop μ-loop Inv-loop2 μ-loop2
+array-read-objects c = omega (arith, c .before .before .before .before .before .before .before .loop .inv .1 .places, (owner-room (c .before .before .before .before .before .before .before .before .before .args .p) (now (c .before .before .before .before .before .before .before .before .before .args .tables)) (length (now (c .before .before .before .before .before .before .before .before .before .args .tables))) (c .before .before .before .before .before .before .before .loop .page) (c .before .before .before .before .before .before .before .before .before .pre .0) (c .before .before .before .before .before .before .before .before .before .pre .1) (c .before .before .before .before .before .before .loop-test .taken) (c .before .before .before .before .wide .ensures ∙ c .before .before .before .before .before .owner .ensures)))
+
+add-objects : tie.Need-add-objects Inv-loop μ-loop Inv-loop2 μ-loop2
+add-objects c = omega (arith, c .before .before .before .before .before .before .before .before .before .pre .1 (c .before .before .before .before .before .before .before .loop .page) (c .before .before .before .before .before .before .loop-test .taken) .whole .cells, objects-low (c .before .before .before .before .before .before .before .before .before .args .p) (now (c .before .before .before .before .before .before .before .before .before .args .tables)) (c .before .before .before .before .before .before .before .loop .objects) (c .before .before .before .before .before .before .before .loop .partly) (c .before .before .before .before .before .before .before .loop .page) (c .before .before .before .before .wide .result) (c .before .before .before .before .before .before .before .loop .inv .1) (λ k l. c .before .before .before .before .before .before .before .before .before .pre .1 k (omega arith) .whole .cells) (omega arith) (owner-room (c .before .before .before .before .before .before .before .before .before .args .p) (now (c .before .before .before .before .before .before .before .before .before .args .tables)) (length (now (c .before .before .before .before .before .before .before .before .before .args .tables))) (c .before .before .before .before .before .before .before .loop .page) (c .before .before .before .before .before .before .before .before .before .pre .0) (c .before .before .before .before .before .before .before .before .before .pre .1) (c .before .before .before .before .before .before .loop-test .taken) (c .before .before .before .before .wide .ensures ∙ c .before .before .before .before .before .owner .ensures)))
+
+array-write-objects : tie.Need-array-write-objects Inv-loop μ-loop Inv-loop2 μ-loop2
+array-write-objects c = omega (arith, c .before .before .before .before .before .before .before .loop .inv .1 .places, (owner-room (c .before .before .before .before .before .before .before .before .before .args .p) (now (c .before .before .before .before .before .before .before .before .before .args .tables)) (length (now (c .before .before .before .before .before .before .before .before .before .args .tables))) (c .before .before .before .before .before .before .before .loop .page) (c .before .before .before .before .before .before .before .before .before .pre .0) (c .before .before .before .before .before .before .before .before .before .pre .1) (c .before .before .before .before .before .before .loop-test .taken) (c .before .before .before .before .wide .ensures ∙ c .before .before .before .before .before .owner .ensures)))
+
+add-page : tie.Need-add-page Inv-loop μ-loop Inv-loop2 μ-loop2
+add-page c = omega arith
+
+loop-less : tie.Need-loop-less Inv-loop μ-loop Inv-loop2 μ-loop2
+loop-less c = omega arith
+
+loop-again : tie.Need-loop-again Inv-loop μ-loop Inv-loop2 μ-loop2
+loop-again c = (
+  omega arith,
+  ⊎-elim
+      (λ w. ⊎-elim
+      (λ v. subst₂ (λ (a : List ℕ) (b : List Bool). Tallied (c .before .before .before .before .before .before .args .p) (now (c .before .before .before .before .before .before .args .tables)) a b (c .before .before .before .before .loop .page + 1)) (sym (w .4)) (sym (w .5 ∙ v .2))
+      (tallied-part (c .before .before .before .before .before .before .args .p) (now (c .before .before .before .before .before .before .args .tables)) (c .before .before .before .before .loop .objects) (c .before .before .before .before .loop .partly) (c .before .before .before .before .loop .page) (c .before .wide .result) (w .2 .result) (c .before .before .before .before .loop .inv .1) (c .before .wide .ensures ∙ c .before .before .owner .ensures) (w .2 .ensures ∙ w .1 .ensures) (omega (arith, w .0 .taken)) (owner-room (c .before .before .before .before .before .before .args .p) (now (c .before .before .before .before .before .before .args .tables)) (length (now (c .before .before .before .before .before .before .args .tables))) (c .before .before .before .before .loop .page) (c .before .before .before .before .before .before .pre .0) (c .before .before .before .before .before .before .pre .1) (c .before .before .before .loop-test .taken) (c .before .wide .ensures ∙ c .before .before .owner .ensures)) (v .0 .taken) (v .1 .left)))
+      (λ v. subst₂ (λ (a : List ℕ) (b : List Bool). Tallied (c .before .before .before .before .before .before .args .p) (now (c .before .before .before .before .before .before .args .tables)) a b (c .before .before .before .before .loop .page + 1)) (sym (w .4)) (sym (w .5 ∙ v .1))
+      (tallied-full (c .before .before .before .before .before .before .args .p) (now (c .before .before .before .before .before .before .args .tables)) (c .before .before .before .before .loop .objects) (c .before .before .before .before .loop .partly) (c .before .before .before .before .loop .page) (c .before .wide .result) (w .2 .result) (c .before .before .before .before .loop .inv .1) (c .before .wide .ensures ∙ c .before .before .owner .ensures) (w .2 .ensures ∙ w .1 .ensures) (omega (arith, w .0 .taken)) (owner-room (c .before .before .before .before .before .before .args .p) (now (c .before .before .before .before .before .before .args .tables)) (length (now (c .before .before .before .before .before .before .args .tables))) (c .before .before .before .before .loop .page) (c .before .before .before .before .before .before .pre .0) (c .before .before .before .before .before .before .pre .1) (c .before .before .before .loop-test .taken) (c .before .wide .ensures ∙ c .before .before .owner .ensures)) (v .0 .left)))
+      (w .3 .came))
+      (λ w. subst₂ (λ (a : List ℕ) (b : List Bool). Tallied (c .before .before .before .before .before .before .args .p) (now (c .before .before .before .before .before .before .args .tables)) a b (c .before .before .before .before .loop .page + 1)) (sym (w .1)) (sym (w .2))
+      (tallied-free (c .before .before .before .before .before .before .args .p) (now (c .before .before .before .before .before .before .args .tables)) (c .before .before .before .before .loop .objects) (c .before .before .before .before .loop .partly) (c .before .before .before .before .loop .page) (c .before .wide .result) _ (c .before .before .before .before .loop .inv .1) (c .before .wide .ensures ∙ c .before .before .owner .ensures) refl (w .0 .left)))
+      (c .if1 .came),
+)
+
+mul-last : tie.Need-mul-last Inv-loop μ-loop Inv-loop2 μ-loop2
+mul-last c = omega (arith, region-few (c .before .before .before .before .args .p) (length (now (c .before .before .before .before .args .tables))) (c .before .before .before .before .pre .0))
+
+add-last : tie.Need-add-last Inv-loop μ-loop Inv-loop2 μ-loop2
+add-last c = omega (arith, region-few (c .before .before .before .before .args .p) (length (now (c .before .before .before .before .args .tables))) (c .before .before .before .before .pre .0))
+
+loop2-holds : tie.Need-loop2-holds Inv-loop μ-loop Inv-loop2 μ-loop2
+loop2-holds c = (omega arith, omega arith, omega (arith, region-few (c .before .before .before .before .args .p) (length (now (c .before .before .before .before .args .tables))) (c .before .before .before .before .pre .0)), c .before .before .loop .inv .1 .places, λ k l m. absurd (let z : ⊥ = omega arith in z))
+
+count-requires : tie.Need-count-requires Inv-loop μ-loop Inv-loop2 μ-loop2
+count-requires c κs = (c .before .before .before .before .before .before .pre .0, omega arith)
+
+wide-requires-3 : tie.Need-wide-requires-3 Inv-loop μ-loop Inv-loop2 μ-loop2
+wide-requires-3 c κs = search needs
+
+mul-if4 : tie.Need-mul-if4 Inv-loop μ-loop Inv-loop2 μ-loop2
+mul-if4 c = omega arith
+
+array-read-if4 : tie.Need-array-read-if4 Inv-loop μ-loop Inv-loop2 μ-loop2
+array-read-if4 c = omega arith
+
+returns-2 : tie.Need-returns-2 Inv-loop μ-loop Inv-loop2 μ-loop2
+returns-2 c = says-no (λ h. c .if4 .taken (
+    let e : c .before .before .before .before .before .before .before .loop .page ≡ c .before .before .before .before .before .before .before .before .before .args .p .pages = omega arith in
+    c .before .wide3 .ensures ∙ c .before .before .count .ensures ∙ h .counts (c .before .before .before .before .loop2 .g) (c .before .before .before .before .loop2 .inv .0) (omega arith)
+    ∙ ap (sum (objectsOn (c .before .before .before .before .before .before .before .before .before .args .p) (now (c .before .before .before .before .before .before .before .before .before .args .tables)) (c .before .before .before .before .loop2 .g))) (sym e) ∙ sym (c .before .before .before .before .before .before .before .loop .inv .1 .counted (c .before .before .before .before .loop2 .g) (c .before .before .before .before .loop2 .inv .0) (omega arith))))
+
+add-g : tie.Need-add-g Inv-loop μ-loop Inv-loop2 μ-loop2
+add-g c = omega arith
+
+loop2-less : tie.Need-loop2-less Inv-loop μ-loop Inv-loop2 μ-loop2
+loop2-less c = omega arith
+
+loop2-again : tie.Need-loop2-again Inv-loop μ-loop Inv-loop2 μ-loop2
+loop2-again c = (omega arith, omega arith, c .before .before .before .before .loop2 .inv .2, c .before .before .before .before .loop2 .inv .3, below-more _ _ (c .before .before .before .before .loop2 .inv .4) (λ l. sym (c .before .wide3 .ensures ∙ c .before .before .count .ensures) ∙ c .if4 .left))
+
+returns-3 : tie.Need-returns-3 Inv-loop μ-loop Inv-loop2 μ-loop2
+returns-3 c = says-yes (
+    let e : c .before .before .before .before .loop .page ≡ c .before .before .before .before .before .before .args .p .pages = omega arith in
+    record {
+      partial = λ g l a b k m. c .before .before .before .before .loop .inv .1 .once g l a b k (omega arith);
+      counts = λ g l m. c .before .loop2 .inv .4 g (omega arith) l ∙ c .before .before .before .before .loop .inv .1 .counted g l (omega (arith, c .before .loop2 .inv .2)) ∙ ap (sum (objectsOn (c .before .before .before .before .before .before .args .p) (now (c .before .before .before .before .before .before .args .tables)) g)) e;
+    })
+
+pub regions-whole-spec : {M : Type 1} → statement M
+regions-whole-spec =
+    tie.close
+    (tie.spec
+    Inv-loop
+    μ-loop
+    Inv-loop2
+    μ-loop2
+    loop-holds
+    owner-requires
+    wide-requires
+    used-requires
+    wide-requires-2
+    array-read-if3
+    returns
+    array-write-partly
+    mul-objects
+    array-read-objects
+    add-objects
+    array-write-objects
+    add-page
+    loop-less
+    loop-again
+    mul-last
+    add-last
+    loop2-holds
+    count-requires
+    wide-requires-3
+    mul-if4
+    array-read-if4
+    returns-2
+    add-g
+    loop2-less
+    loop2-again
+    returns-3)

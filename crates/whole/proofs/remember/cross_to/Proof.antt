@@ -1,0 +1,85 @@
+-- The word at a position is a slot where its cell is in use and the word is one of its references.
+use borrow.Author.Needs.{needs}
+use mathlib.Core.Path.{ap, _∙_}
+use denote.Ref.{now}
+use Prim.Native.Nat.{ℕ, _/_}
+use Rattle.whole.specs.Crossing.{cross-unused, cross-low, cross-high, cross-slot}
+use Rattle.whole.proofs.remember.cross_to.Statement.{statement}
+use Rattle.whole.proofs.remember.cross_to.Tie as tie
+
+cell-of-requires : tie.Need-cell-of-requires
+cell-of-requires c κs = search needs
+
+page-of-requires : tie.Need-page-of-requires
+page-of-requires c κs = search needs
+
+used-requires : tie.Need-used-requires
+used-requires c κs = search needs
+
+wide-requires : tie.Need-wide-requires
+wide-requires c κs = search needs
+
+place-of-requires : tie.Need-place-of-requires
+place-of-requires c κs = search needs
+
+returns : tie.Need-returns
+returns c = cross-unused (c .before .before .before .before .before .before .before .before .args .p) (now (c .before .before .before .before .before .before .before .before .args .cells)) (now (c .before .before .before .before .before .before .before .before .args .tables)) (c .before .before .before .before .before .before .before .before .args .at) (c .before .before .before .before .before .cell-of .result) (c .before .before .before .before .before .cell-of .ensures) (c .before .before .before .before .page-of .ensures) (c .before .place-of .ensures) (c .before .before .wide .ensures ∙ c .before .before .before .used .ensures) (c .if1 .taken)
+
+word-of-requires : tie.Need-word-of-requires
+word-of-requires c κs = search needs
+
+returns-2 : tie.Need-returns-2
+returns-2 c = cross-low (c .before .before .before .before .before .before .before .before .before .before .args .p) (now (c .before .before .before .before .before .before .before .before .before .before .args .cells)) (now (c .before .before .before .before .before .before .before .before .before .before .args .tables)) (c .before .before .before .before .before .before .before .before .before .before .args .at) (c .before .before .before .before .before .before .before .cell-of .result) (c .before .before .before .before .before .before .before .cell-of .ensures) (c .before .word-of .ensures) (c .if2 .taken)
+
+head-requires : tie.Need-head-requires
+head-requires c κs = search needs
+
+field-count-requires : tie.Need-field-count-requires
+field-count-requires c κs = search needs
+
+add-if3 : tie.Need-add-if3
+add-if3 c = search needs
+
+returns-3 : tie.Need-returns-3
+returns-3 c = cross-high (c .before .before .before .before .before .before .before .before .before .before .before .before .before .args .p) (now (c .before .before .before .before .before .before .before .before .before .before .before .before .before .args .cells)) (now (c .before .before .before .before .before .before .before .before .before .before .before .before .before .args .tables)) (c .before .before .before .before .before .before .before .before .before .before .before .before .before .args .at) (c .before .before .before .before .before .before .before .before .before .before .cell-of .result) (c .before .before .before .before .before .before .before .before .before .before .cell-of .ensures) (c .before .before .before .before .word-of .ensures) (c .before .field-count .ensures ∙ ap (λ (h : ℕ). h / 16) (c .before .before .head .ensures)) (c .if3 .taken)
+
+owner-requires : tie.Need-owner-requires
+owner-requires c κs = search needs
+
+mul-region-of : tie.Need-mul-region-of
+mul-region-of c = search needs
+
+shared-slice-read-region-of : tie.Need-shared-slice-read-region-of
+shared-slice-read-region-of c = search needs
+
+region-of-requires : tie.Need-region-of-requires
+region-of-requires c κs = search needs
+
+other-region-requires : tie.Need-other-region-requires
+other-region-requires c κs = search needs
+
+returns-4 : tie.Need-returns-4
+returns-4 c = cross-slot (c .before .before .before .before .before .before .before .before .before .before .before .before .before .before .before .before .before .args .p) (now (c .before .before .before .before .before .before .before .before .before .before .before .before .before .before .before .before .before .args .cells)) (now (c .before .before .before .before .before .before .before .before .before .before .before .before .before .before .before .before .before .args .tables)) (c .before .before .before .before .before .before .before .before .before .before .before .before .before .before .before .before .before .args .at) (c .before .before .before .before .before .before .before .before .before .before .before .before .before .before .cell-of .result) (c .before .before .before .before .before .before .before .before .before .before .before .before .before .before .cell-of .ensures) (c .before .before .before .before .before .before .before .before .before .before .before .before .before .page-of .ensures) (c .before .before .before .before .before .before .before .before .before .before .place-of .ensures) (c .before .before .before .before .before .before .before .before .before .before .before .wide .ensures ∙ c .before .before .before .before .before .before .before .before .before .before .before .before .used .ensures) (c .before .before .before .before .before .before .before .before .word-of .ensures) (c .before .before .before .before .before .field-count .ensures ∙ ap (λ (h : ℕ). h / 16) (c .before .before .before .before .before .before .head .ensures)) (c .before .before .before .owner .ensures) (c .before .region-of .ensures) (c .other-region .ensures) (c .before .before .before .before .before .before .before .before .before .if1 .left) (c .before .before .before .before .before .before .before .if2 .left) (c .before .before .before .before .if3 .left)
+
+pub cross-to-spec : {M : Type 1} → statement M
+cross-to-spec =
+    tie.close
+    (tie.spec
+    cell-of-requires
+    page-of-requires
+    used-requires
+    wide-requires
+    place-of-requires
+    returns
+    word-of-requires
+    returns-2
+    head-requires
+    field-count-requires
+    add-if3
+    returns-3
+    owner-requires
+    mul-region-of
+    shared-slice-read-region-of
+    region-of-requires
+    other-region-requires
+    returns-4)

@@ -1,0 +1,141 @@
+-- Crossing slots, counted page by page, cell by cell and reference by reference.
+use Prim.Native.Nat.{ℕ, _+_, _-_, _/_, _≤_, _<_}
+use mathlib.Core.List.{List}
+use mathlib.Core.Bool.{Bool, true, false, cond}
+use mathlib.Core.Path.{_≡_, refl, sym, ap, subst, _∙_}
+use native.Mathlib.Omega.{arith}
+use borrow.Author.Tests.{lt-ltb, le-ltb, le-leb, lt-leb, eq-eqb, ne-eqb, eqb-true}
+use lib.Dec.{ltb, leb, eqb}
+use lib.ListN.{getD}
+use Rattle.lists.specs.Counting.{count, count-positive, count-zero, count-to, sum-mono, bit}
+use Rattle.lists.specs.Says.{Says}
+use Rattle.layout.specs.declared.Places.{Places}
+use Rattle.layout.specs.Places.{ownerOf, usedOf}
+use Rattle.layout.specs.Cells.{headAt, headOf, fieldAt, fieldOf, pageOf, placeOf, cellOn, cellOf, wordOf}
+use Rattle.promises.specs.Crossing.{other, regionOf, crossTo, crossing}
+use Rattle.whole.specs.Cells.{page-on, place-on}
+
+cond-same : (b : Bool) → _≡_ {A = ℕ} (cond b 0 0) 0
+cond-same true = refl
+cond-same false = refl
+
+-- how many slots cross before position n
+abbrev pub crossingTo : Places → List ℕ → List ℕ → ℕ → ℕ
+crossingTo p c t n = count (crossing p c t) n
+
+module _ (p : Places) (c t : List ℕ) where
+  -- the slot of a reference of a cell in use
+  slot-of : (q k w : ℕ) → cellOf q ≡ k → wordOf q ≡ w → placeOf k < usedOf p t (pageOf k) → 2 ≤ w → w < headOf c k / 16 + 2
+      → crossTo p c t q ≡ other (ownerOf p t (pageOf k)) (regionOf p t (getD c q 0))
+  unfolding crossTo
+  slot-of q k w e f u l m = rw (e, f, lt-ltb (placeOf k) (usedOf p t (pageOf k)) u, le-leb 2 w l, lt-ltb w (headOf c k / 16 + 2) m)
+
+  -- words 0 and 1 of a cell are no slots, nor are those after its references, nor any of a cell not in use
+  low-none : (q : ℕ) → wordOf q < 2 → crossTo p c t q ≡ 0
+  unfolding crossTo
+  low-none q h = rw (lt-leb 2 (wordOf q) h) (cond-same (ltb (placeOf (cellOf q)) (usedOf p t (pageOf (cellOf q)))))
+
+  high-none : (q k w : ℕ) → cellOf q ≡ k → wordOf q ≡ w → headOf c k / 16 + 2 ≤ w → crossTo p c t q ≡ 0
+  unfolding crossTo
+  high-none q k w e f h = rw (e, f, le-ltb w (headOf c k / 16 + 2) h, cond-same (leb 2 w)) (cond-same (ltb (placeOf k) (usedOf p t (pageOf k))))
+
+  unused-none : (q k : ℕ) → cellOf q ≡ k → usedOf p t (pageOf k) ≤ placeOf k → crossTo p c t q ≡ 0
+  unfolding crossTo
+  unused-none q k e h = rw (e, le-ltb (placeOf k) (usedOf p t (pageOf k)) h)
+
+  none : (q : ℕ) → crossTo p c t q ≡ 0 → crossing p c t q ≡ false
+  none q e = le-ltb 0 (crossTo p c t q) (omega arith)
+
+  -- so a count may pass over them
+  pub to-fields : (k : ℕ) → crossingTo p c t (fieldAt k 0) ≡ crossingTo p c t (headAt k)
+  to-fields k = count-to (crossing p c t) (headAt k) (fieldAt k 0) (omega arith) (λ q l m. none q (low-none q (omega arith)))
+
+  pub to-next-cell : (k f : ℕ) → headOf c k / 16 ≤ f → f ≤ 14 → crossingTo p c t (headAt (k + 1)) ≡ crossingTo p c t (fieldAt k f)
+  to-next-cell k f h i =
+      count-to (crossing p c t) (fieldAt k f) (headAt (k + 1)) (omega arith)
+      (λ q l m. none q (high-none q k (wordOf q) (omega arith) refl (omega arith)))
+
+  pub to-next-page : (page place : ℕ) → usedOf p t page ≤ place → place ≤ 16
+      → crossingTo p c t (headAt (cellOn (page + 1) 0)) ≡ crossingTo p c t (headAt (cellOn page place))
+  to-next-page page place h i =
+      count-to (crossing p c t) (headAt (cellOn page place)) (headAt (cellOn (page + 1) 0)) (omega arith)
+      (λ q l m. none q (unused-none q (cellOf q) refl (over q l m)))
+    where
+      over : (q : ℕ) → headAt (cellOn page place) ≤ q → q < headAt (cellOn (page + 1) 0) → usedOf p t (pageOf (cellOf q)) ≤ placeOf (cellOf q)
+      over q l m =
+          let e : pageOf (cellOf q) ≡ page = omega arith in
+          rw e (omega arith)
+
+  -- the slot of field f: o, x, g and r are its owner, its word, the region there and whether it crosses, as the code read them
+  pub crosses : (page place f o x g r : ℕ) → o ≡ ownerOf p t page → x ≡ fieldOf c (cellOn page place) f → g ≡ regionOf p t x → r ≡ other o g
+      → place < 16 → place < usedOf p t page → f < 14 → f < headOf c (cellOn page place) / 16 → r ≡ crossTo p c t (fieldAt (cellOn page place) f)
+  crosses page place f o x g r e q h z l u m n =
+      let k : cellOf (fieldAt (cellOn page place) f) ≡ cellOn page place = omega arith in
+      let w : wordOf (fieldAt (cellOn page place) f) ≡ 2 + f = omega arith in
+      z ∙ ap (λ (y : ℕ). other o y) (h ∙ ap (regionOf p t) q) ∙ ap (λ (y : ℕ). other y (regionOf p t (fieldOf c (cellOn page place) f))) e
+      ∙ sym (slot-of (fieldAt (cellOn page place) f) (cellOn page place) (2 + f) k w
+      (rw (page-on page place l, place-on page place l) u) (omega arith) (omega arith)
+      ∙ ap (λ (y : ℕ). other (ownerOf p t y) (regionOf p t (fieldOf c (cellOn page place) f))) (page-on page place l))
+
+  -- the same of the cell's number as the code has it
+  pub crosses-at : (page place cell f o x g r : ℕ) {used refs : ℕ} → cell ≡ cellOn page place → o ≡ ownerOf p t page → x ≡ fieldOf c cell f
+      → g ≡ regionOf p t x → r ≡ other o g → used ≡ usedOf p t page → refs ≡ headOf c cell / 16 → used ≤ 16 → refs ≤ 14 → place < used → f < refs
+      → r ≡ crossTo p c t (fieldAt cell f)
+  crosses-at page place cell f o x g r {used} {refs} i e q h z u v a b l m =
+      subst (λ (k : ℕ). x ≡ fieldOf c k f → refs ≡ headOf c k / 16 → r ≡ crossTo p c t (fieldAt k f)) (sym i)
+      (λ d n. crosses page place f o x g r e d h z (omega arith) (omega arith) (omega arith) (omega arith)) q v
+
+  next : (k f : ℕ) → crossingTo p c t (fieldAt k (f + 1)) ≡ crossingTo p c t (fieldAt k f + 1)
+  next k f = let e : fieldAt k (f + 1) ≡ fieldAt k f + 1 = omega arith in ap (crossingTo p c t) e
+
+  pub crosses-yes : (k f : ℕ) {r : ℕ} → r ≡ crossTo p c t (fieldAt k f) → 0 < r → crossingTo p c t (fieldAt k (f + 1)) ≡ crossingTo p c t (fieldAt k f) + 1
+  crosses-yes k f e l = next k f ∙ count-positive (crossTo p c t) (fieldAt k f) e l
+
+  pub crosses-no : (k f : ℕ) {r : ℕ} → r ≡ crossTo p c t (fieldAt k f) → r ≤ 0 → crossingTo p c t (fieldAt k (f + 1)) ≡ crossingTo p c t (fieldAt k f)
+  crosses-no k f e l = next k f ∙ count-zero (crossTo p c t) (fieldAt k f) e l
+
+  -- what has been counted is no more than all
+  pub counted-so-far : (m n : ℕ) → m ≤ n → crossingTo p c t m ≤ crossingTo p c t n
+  counted-so-far m n l = sum-mono (λ q. bit (crossing p c t q)) m n l
+
+  -- the words of the slot at a position, as the code read them: the ways in which none crosses there, and the slot that may
+  module _ (at cell : ℕ) (e : cell ≡ cellOf at) where
+    pub cross-unused : {page used place : ℕ} → page ≡ pageOf cell → place ≡ placeOf cell → used ≡ usedOf p t page → used ≤ place → 0 ≡ crossTo p c t at
+    cross-unused {page} {used} {place} f g h l =
+        let q : pageOf (cellOf at) ≡ page = omega arith in
+        sym (unused-none at (cellOf at) refl (omega (arith, ap (usedOf p t) q)))
+
+    pub cross-low : {word : ℕ} → word ≡ wordOf at → word < 2 → 0 ≡ crossTo p c t at
+    cross-low f l = sym (low-none at (omega arith))
+
+    pub cross-high : {word refs : ℕ} → word ≡ wordOf at → refs ≡ headOf c cell / 16 → refs + 2 ≤ word → 0 ≡ crossTo p c t at
+    cross-high {word} f g l = sym (high-none at cell word (sym e) (sym f) (omega arith))
+
+    pub cross-slot : {page used place word refs owner region r : ℕ} → page ≡ pageOf cell → place ≡ placeOf cell → used ≡ usedOf p t page
+        → word ≡ wordOf at → refs ≡ headOf c cell / 16 → owner ≡ ownerOf p t page → region ≡ regionOf p t (getD c at 0) → r ≡ other owner region
+        → place < used → 2 ≤ word → word < refs + 2 → r ≡ crossTo p c t at
+    cross-slot {page} {used} {place} {word} {refs} {owner} {region} f g h i j k l m u v w =
+        m ∙ ap (λ (y : ℕ). other y region) (k ∙ ap (ownerOf p t) f) ∙ ap (λ (y : ℕ). other (ownerOf p t (pageOf cell)) y) l
+        ∙ sym (slot-of at cell word (sym e) (sym i) (omega (arith, ap (usedOf p t) f)) v (omega arith))
+
+-- the region of a reference, as the code read its page
+module _ (p : Places) (t : List ℕ) (x : ℕ) where
+  pub region-null : x ≡ 0 → 0 ≡ regionOf p t x
+  region-null e = simp (eq-eqb x 0 e)
+
+  module _ {cell page : ℕ} (n : x ≡ 0 → ⊥) (e : cell ≡ x - 1) (f : page ≡ pageOf cell) where
+    page-is : pageOf (x - 1) ≡ page
+    page-is = ap pageOf (sym e) ∙ sym f
+
+    pub region-out : p .pages ≤ page → 0 ≡ regionOf p t x
+    region-out l = simp (ne-eqb x 0 n, page-is, le-ltb page (p .pages) l)
+
+    pub region-there : page < p .pages → {r : ℕ} → r ≡ ownerOf p t page → r ≡ regionOf p t x
+    region-there l g = simp (ne-eqb x 0 n, page-is, lt-ltb page (p .pages) l) g
+
+-- n as the code counted it: all there are, or already more than e
+pub says-all : (n x e : ℕ) → n ≡ x → Says (eqb n e) (x ≡ e)
+says-all n x e h = (λ q. sym h ∙ eqb-true n e q, λ q. eq-eqb n e (h ∙ q))
+
+pub says-more : (n x e : ℕ) → e < n → e < x → Says (eqb n e) (x ≡ e)
+says-more n x e h l = (λ q. absurd (let z : ⊥ = omega (arith, eqb-true n e q) in z), λ q. absurd (let z : ⊥ = omega arith in z))

@@ -1,0 +1,172 @@
+-- The objects and the partly filled pages of all regions, counted in one pass over the pages.
+use Prim.Native.Nat.{ℕ, zero, suc, _+_, _*_, _≤_, _<_}
+use mathlib.Core.List.{List}
+use mathlib.Core.Bool.{Bool, true, false, cond}
+use mathlib.Core.Path.{_≡_, refl, sym, ap, subst, _∙_}
+use mathlib.Core.Logic.{_⊎_, ⊎-elim}
+use native.Mathlib.Omega.{arith}
+use native.Mathlib.Nat.{not-suc-le-zero, eq-or-lt-of-le, mul-le-mul}
+use native.Mathlib.Decide.{ℕ-discrete, decLt}
+use borrow.Author.Tests.{eq-eqb, ne-eqb}
+use lib.ListN.{getD, length, set, replicate, length-set, length-replicate}
+use lib.Seq.{getD-set-same, getD-set-other}
+use Rattle.lists.specs.Says.{true-not-false}
+use Rattle.lists.specs.Counting.{sum, sum-more, sum-high}
+use Rattle.layout.specs.declared.Places.{Places}
+use Rattle.layout.specs.Places.{Room, ownerOf, usedOf, countOf}
+use Rattle.promises.specs.Whole.{Partial, objectsOn, objectsOf, PageWhole}
+use Rattle.whole.specs.Pages.{PagesWhole, open-high}
+
+abbrev pub CountsWhole : Places → List ℕ → Type 0
+CountsWhole p t = (g : ℕ) → 1 ≤ g → g ≤ 1 + p .threads * p .depth → countOf p t g ≡ objectsOf p t g
+
+-- at most one of the pages below n is a partly filled page of a region
+abbrev pub PartialWhole : Places → List ℕ → ℕ → Type 0
+PartialWhole p t n = (g : ℕ) → 1 ≤ g → (a b : ℕ) → a < b → b < n → Partial p t g a → Partial p t g b → ⊥
+
+pub record RegionsWhole (p : Places) (t : List ℕ) : Type 0 where
+  pub partial : PartialWhole p t (p .pages)
+  pub counts : CountsWhole p t
+
+-- what a pass over the pages below n knows of each region: its objects there, and whether one of its pages there is partly filled
+pub record Tallied (p : Places) (t : List ℕ) (objects : List ℕ) (partly : List Bool) (n : ℕ) : Type 0 where
+  pub places : length objects ≡ 130
+  pub flags : length partly ≡ 130
+  pub counted : (g : ℕ) → 1 ≤ g → g < 130 → getD objects g 0 ≡ sum (objectsOn p t g) n
+  pub marked : (g a : ℕ) → 1 ≤ g → g < 130 → a < n → Partial p t g a → getD partly g false ≡ true
+  pub only : (g : ℕ) → getD partly g false ≡ true → (a : ℕ) × (a < n) × (1 ≤ g) × Partial p t g a
+  pub once : PartialWhole p t n
+
+-- every owner is one of the regions, and these are fewer than 130
+pub owner-high : (p : Places) (t : List ℕ) (page : ℕ) → 1 ≤ p .depth → p .threads * p .depth ≤ 128 → PageWhole p t page → ownerOf p t page < 130
+owner-high p t page d h w = go (decLt 1 (ownerOf p t page))
+  where
+    go : Dec (1 < ownerOf p t page) → ownerOf p t page < 130
+    go (yes l) = omega (arith, open-high p t (ownerOf p t page) d (w .region l))
+    go (no l) = omega arith
+
+pub tallied-none : (p : Places) (t : List ℕ) → Tallied p t (replicate 130 0) (replicate 130 false) 0
+tallied-none p t = record {
+  places = length-replicate {A = ℕ} 130 0;
+  flags = length-replicate 130 false;
+  counted = λ g l m. never 130 g;
+  marked = λ g a l m k. absurd (not-suc-le-zero k);
+  only = λ g e. absurd (true-not-false (sym (unset 130 g) ∙ e));
+  once = λ g l a b k m. absurd (not-suc-le-zero m);
+}
+  where
+    never : (n q : ℕ) → _≡_ {A = ℕ} (getD (replicate n 0) q 0) 0
+    never zero zero = refl
+    never zero (suc q) = refl
+    never (suc n) zero = refl
+    never (suc n) (suc q) = never n q
+
+    unset : (n q : ℕ) → getD (replicate n false) q false ≡ false
+    unset zero zero = refl
+    unset zero (suc q) = refl
+    unset (suc n) zero = refl
+    unset (suc n) (suc q) = unset n q
+
+split : {k n : ℕ} → k < n + 1 → (k ≡ n) ⊎ (k < n)
+split {k} {n} l = eq-or-lt-of-le (omega arith)
+
+-- what page n adds to the objects of region g
+on-own : (p : Places) (t : List ℕ) (g n : ℕ) → ownerOf p t n ≡ g → objectsOn p t g n ≡ usedOf p t n
+on-own p t g n e = ap (λ (b : Bool). cond b (usedOf p t n) 0) (eq-eqb (ownerOf p t n) g e)
+
+on-other : (p : Places) (t : List ℕ) (g n : ℕ) → (ownerOf p t n ≡ g → ⊥) → objectsOn p t g n ≡ 0
+on-other p t g n e = ap (λ (b : Bool). cond b (usedOf p t n) 0) (ne-eqb (ownerOf p t n) g e)
+
+-- a turn of the pass: o and u are the owner and the cells in use of page n, as the code read them
+module _ (p : Places) (t : List ℕ) (objects : List ℕ) (partly : List Bool) (n o u : ℕ) (w : Tallied p t objects partly n) (e : o ≡ ownerOf p t n) (f : u ≡ usedOf p t n) where
+  later : (g a : ℕ) → (Partial p t g n → ⊥) → a < n + 1 → Partial p t g a → a < n
+  later g a h l q = ⊎-elim (λ z. absurd (h (subst (λ (x : ℕ). Partial p t g x) z q))) (λ z. z) (split l)
+
+  unseen : ((g : ℕ) → 1 ≤ g → Partial p t g n → ⊥) → (objects′ : List ℕ) → length objects′ ≡ 130
+      → ((g : ℕ) → 1 ≤ g → g < 130 → getD objects′ g 0 ≡ sum (objectsOn p t g) (n + 1)) → Tallied p t objects′ partly (n + 1)
+  unseen h objects′ l k = record {
+    places = l;
+    flags = w .flags;
+    counted = k;
+    marked = λ g a i j m q. w .marked g a i j (later g a (h g i) m q) q;
+    only = λ g z. let r = w .only g z in (r .0, omega (arith, r .1), r .2, r .3);
+    once = λ g i a b l m x y. w .once g i a b l (later g b (h g i) m y) x y;
+  }
+
+  -- a free page
+  pub tallied-free : o ≡ 0 → Tallied p t objects partly (n + 1)
+  tallied-free z =
+      unseen (λ g l q. omega (arith, q .owner)) objects (w .places)
+      (λ g l m. omega (arith, w .counted g l m, sum-more (objectsOn p t g) n, on-other p t g n (λ (q : ownerOf p t n ≡ g). omega arith)))
+
+  counted-more : (g : ℕ) → 1 ≤ o → o < 130 → 1 ≤ g → g < 130 → getD (set objects o (getD objects o 0 + u)) g 0 ≡ sum (objectsOn p t g) (n + 1)
+  counted-more g i j l m = go (ℕ-discrete g o)
+    where
+      go : Dec (g ≡ o) → getD (set objects o (getD objects o 0 + u)) g 0 ≡ sum (objectsOn p t g) (n + 1)
+      go (yes z) =
+          let s : getD (set objects o (getD objects o 0 + u)) o 0 ≡ getD objects o 0 + u = getD-set-same objects o (getD objects o 0 + u) 0 (omega (arith, w .places)) in
+          let r : getD (set objects o (getD objects o 0 + u)) g 0 ≡ getD (set objects o (getD objects o 0 + u)) o 0 = ap (λ (x : ℕ). getD (set objects o (getD objects o 0 + u)) x 0) z in
+          let v : getD objects g 0 ≡ getD objects o 0 = ap (λ (x : ℕ). getD objects x 0) z in
+          omega (arith, w .counted g l m, sum-more (objectsOn p t g) n, on-own p t g n (omega arith))
+      go (no d) =
+          omega (arith, getD-set-other objects o g (getD objects o 0 + u) 0 d, w .counted g l m, sum-more (objectsOn p t g) n, on-other p t g n (λ q. d (sym (e ∙ q))))
+
+  -- a full page
+  pub tallied-full : 1 ≤ o → o < 130 → 16 ≤ u → Tallied p t (set objects o (getD objects o 0 + u)) partly (n + 1)
+  tallied-full i j h =
+      unseen (λ g l q. omega (arith, q .part)) (set objects o (getD objects o 0 + u)) (length-set objects o (getD objects o 0 + u) ∙ w .places) (λ g. counted-more g i j)
+
+  -- the first partly filled page of its region
+  pub tallied-part : 1 ≤ o → o < 130 → u < 16 → getD partly o false ≡ false → Tallied p t (set objects o (getD objects o 0 + u)) (set partly o true) (n + 1)
+  tallied-part i j h z = record {
+    places = length-set objects o (getD objects o 0 + u) ∙ w .places;
+    flags = length-set partly o true ∙ w .flags;
+    counted = λ g. counted-more g i j;
+    marked = λ g a l m k q. ⊎-elim (λ y. at g (sym (subst (λ (x : ℕ). Partial p t g x) y q .owner) ∙ sym e)) (λ y. there g (w .marked g a l m y q)) (split k);
+    only = λ g q. go g q (ℕ-discrete g o);
+    once = λ g l a b k m x y. ⊎-elim (λ v. fresh g l a (omega arith) (subst (λ (c : ℕ). Partial p t g c) v y) x) (λ v. w .once g l a b k v x y) (split m);
+  }
+    where
+      here : getD (set partly o true) o false ≡ true
+      here = getD-set-same partly o true false (omega (arith, w .flags))
+
+      at : (g : ℕ) → g ≡ o → getD (set partly o true) g false ≡ true
+      at g y = ap (λ (x : ℕ). getD (set partly o true) x false) y ∙ here
+
+      there : (g : ℕ) → getD partly g false ≡ true → getD (set partly o true) g false ≡ true
+      there g y = getD-set-other partly o g true false (λ v. true-not-false (sym z ∙ (ap (λ (x : ℕ). getD partly x false) (sym v) ∙ y))) ∙ y
+
+      fresh : (g : ℕ) → 1 ≤ g → (a : ℕ) → a < n → Partial p t g n → Partial p t g a → ⊥
+      fresh g l a k y x =
+          let v : g ≡ o = sym (y .owner) ∙ sym e in
+          true-not-false (sym z ∙ (ap (λ (x : ℕ). getD partly x false) (sym v) ∙ w .marked g a l (omega arith) k x))
+
+      go : (g : ℕ) → getD (set partly o true) g false ≡ true → Dec (g ≡ o) → (a : ℕ) × (a < n + 1) × (1 ≤ g) × Partial p t g a
+      go g q (yes y) = (n, omega arith, omega arith, record { owner = sym e ∙ sym y; part = omega arith })
+      go g q (no d) = let r = w .only g (sym (getD-set-other partly o g true false d) ∙ q) in (r .0, omega (arith, r .1), r .2, r .3)
+
+  -- a second partly filled page
+  pub twice : o < 130 → n < p .pages → u < 16 → getD partly o false ≡ true → PartialWhole p t (p .pages) → ⊥
+  twice j m h z all =
+      let r = w .only o z in
+      all o (r .2) (r .0) n (r .1) m (r .3) (record { owner = sym e; part = omega arith })
+
+-- the objects counted are no more than the cells passed
+pub objects-low : (p : Places) (t : List ℕ) (objects : List ℕ) (partly : List Bool) (n o : ℕ) → Tallied p t objects partly n
+    → ((k : ℕ) → k < n → usedOf p t k ≤ 16) → 1 ≤ o → o < 130 → getD objects o 0 ≤ 16 * n
+objects-low p t objects partly n o w h l m =
+    omega (arith, w .counted o l m, sum-high (objectsOn p t o) 16 n (λ k i. on-le k (h k i)))
+  where
+    on-le : (k : ℕ) → usedOf p t k ≤ 16 → objectsOn p t o k ≤ 16
+    on-le k b = go (ℕ-discrete (ownerOf p t k) o)
+      where
+        go : Dec (ownerOf p t k ≡ o) → objectsOn p t o k ≤ 16
+        go (yes q) = omega (arith, on-own p t o k q)
+        go (no q) = omega (arith, on-other p t o k q)
+
+-- the same of lent tables whose pages are whole; o is an owner as the code read it
+pub region-few : (p : Places) (n : ℕ) → Room p n → p .threads * p .depth ≤ 128
+region-few p n r = mul-le-mul (r .threads-high) (r .depth-high)
+
+pub owner-room : (p : Places) (t : List ℕ) (n page : ℕ) {o : ℕ} → Room p n → PagesWhole p t → page < p .pages → o ≡ ownerOf p t page → o < 130
+owner-room p t n page r w l e = omega (arith, owner-high p t page (r .depth-low) (region-few p n r) (w page l .whole))

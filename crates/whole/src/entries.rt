@@ -1,0 +1,141 @@
+// The entries that are used name crossing slots, each another, with the right region; those that are not used are zero.
+ghost use mathlib.Core.Path.{_≡_};
+ghost use Prim.Native.Nat.{ℕ, _+_, _*_, _≤_, _<_};
+ghost use lib.ListN.{length};
+ghost use Rattle.lists.specs.Says.{Says};
+ghost use Rattle.layout.specs.Places.{Room, usedIn, slotIn};
+ghost use Rattle.promises.specs.Whole.{EntryWhole, EntriesWhole};
+ghost use Rattle.whole.specs.Entries.{NamedWhole, RestZero, Once, Rising};
+use crate::remember::cross_to;
+use layout::Places;
+
+pub fn entry_whole(p: Places, cells: &[u32], remember: &[u32], tables: &[u32], i: usize) -> bool
+    requires { ⌜ Room p (length (now tables)) ⌝ }
+    requires { ⌜ 256 * p .pages ≤ length (now cells) ⌝ }
+    requires { ⌜ 2 * p .entries + 2 ≤ length (now remember) ⌝ }
+    requires { ⌜ i < p .entries ⌝ }
+    ensures { λ r. ⌜ Says r (EntryWhole p (now (cells .entry)) (now (remember .entry)) (now (tables .entry)) i) ⌝ }
+{
+    let at = layout::wide(layout::remember::slot(p.entries, remember, i));
+    if 256 * p.pages <= at {
+        return false;
+    }
+    let region = layout::remember::region(p.entries, remember, i);
+    if region == 0 {
+        return false;
+    }
+    if cross_to(p, cells, tables, at) != region {
+        return false;
+    }
+    true
+}
+
+pub fn named_whole(p: Places, cells: &[u32], remember: &[u32], tables: &[u32], used: usize) -> bool
+    requires { ⌜ Room p (length (now tables)) ⌝ }
+    requires { ⌜ 256 * p .pages ≤ length (now cells) ⌝ }
+    requires { ⌜ 2 * p .entries + 2 ≤ length (now remember) ⌝ }
+    requires { ⌜ (used ≡ usedIn (now remember)) × (used ≤ p .entries) ⌝ }
+    ensures { λ r. ⌜ Says r (NamedWhole p (now (cells .entry)) (now (remember .entry)) (now (tables .entry))) ⌝ }
+{
+    let mut i = 0;
+    while i < used {
+        if !entry_whole(p, cells, remember, tables, i) {
+            return false;
+        }
+        i += 1;
+    }
+    true
+}
+
+pub fn rest_zero(p: Places, remember: &[u32], used: usize) -> bool
+    requires { ⌜ 2 * p .entries + 2 ≤ length (now remember) ⌝ }
+    requires { ⌜ (used ≡ usedIn (now remember)) × (used ≤ p .entries) ⌝ }
+    ensures { λ r. ⌜ Says r (RestZero p (now (remember .entry))) ⌝ }
+{
+    let entries = p.entries;
+    let mut i = used;
+    while i < entries {
+        if layout::remember::slot(entries, remember, i) != 0 {
+            return false;
+        }
+        if layout::remember::region(entries, remember, i) != 0 {
+            return false;
+        }
+        i += 1;
+    }
+    true
+}
+
+// Whether the slots stand in rising order.
+pub fn rising(p: Places, remember: &[u32], used: usize) -> bool
+    requires { ⌜ 2 * p .entries + 2 ≤ length (now remember) ⌝ }
+    requires { ⌜ (used ≡ usedIn (now remember)) × (used ≤ p .entries) ⌝ }
+    ensures { λ r. ⌜ Says r (Rising (now (remember .entry)) (usedIn (now (remember .entry)))) ⌝ }
+{
+    let entries = p.entries;
+    let mut i = 1;
+    while i < used {
+        let before = layout::remember::slot(entries, remember, i - 1);
+        if layout::remember::slot(entries, remember, i) <= before {
+            return false;
+        }
+        i += 1;
+    }
+    true
+}
+
+// Whether no slot is seen twice, by a table of all that were seen.
+pub fn seen_once(p: Places, remember: &[u32], used: usize) -> bool
+    requires { ⌜ 2 * p .entries + 2 ≤ length (now remember) ⌝ }
+    requires { ⌜ (used ≡ usedIn (now remember)) × (used ≤ p .entries) ⌝ }
+    requires { ⌜ ((i : ℕ) → i < used → slotIn (now remember) i < 262144) ⌝ }
+    ensures { λ r. ⌜ Says r (Once (now (remember .entry))) ⌝ }
+{
+    let entries = p.entries;
+    let mut seen = [false; 262144];
+    let mut i = 0;
+    while i < used {
+        let at = layout::wide(layout::remember::slot(entries, remember, i));
+        if seen[at] {
+            return false;
+        }
+        seen[at] = true;
+        i += 1;
+    }
+    true
+}
+
+// Entries in rising order are each another at once; only another order pays for the table.
+pub fn once(p: Places, remember: &[u32], used: usize) -> bool
+    requires { ⌜ 2 * p .entries + 2 ≤ length (now remember) ⌝ }
+    requires { ⌜ (used ≡ usedIn (now remember)) × (used ≤ p .entries) ⌝ }
+    requires { ⌜ ((i : ℕ) → i < used → slotIn (now remember) i < 262144) ⌝ }
+    ensures { λ r. ⌜ Says r (Once (now (remember .entry))) ⌝ }
+{
+    if rising(p, remember, used) {
+        return true;
+    }
+    seen_once(p, remember, used)
+}
+
+pub fn entries_whole(p: Places, cells: &[u32], remember: &[u32], tables: &[u32]) -> bool
+    requires { ⌜ Room p (length (now tables)) ⌝ }
+    requires { ⌜ 256 * p .pages ≤ length (now cells) ⌝ }
+    requires { ⌜ 2 * p .entries + 2 ≤ length (now remember) ⌝ }
+    ensures { λ r. ⌜ Says r (EntriesWhole p (now (cells .entry)) (now (remember .entry)) (now (tables .entry))) ⌝ }
+{
+    let used = layout::wide(layout::remember::used(remember));
+    if p.entries < used {
+        return false;
+    }
+    if !named_whole(p, cells, remember, tables, used) {
+        return false;
+    }
+    if !once(p, remember, used) {
+        return false;
+    }
+    if !rest_zero(p, remember, used) {
+        return false;
+    }
+    true
+}

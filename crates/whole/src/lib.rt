@@ -1,0 +1,57 @@
+// The check that lent words are whole tables (01, "Sizes and tables"). Any words may be handed in. It only reads, looks at no word
+// past the three lengths nor at a cell that is not in use, and ends at the first word that breaks a condition.
+ghost use Prim.Native.Nat.{ℕ, _+_, _*_, _≤_};
+ghost use lib.ListN.{length};
+ghost use Rattle.lists.specs.Says.{Says};
+ghost use Rattle.layout.specs.Places.{Room};
+ghost use Rattle.promises.specs.Whole.{WholeAt, Whole};
+use layout::Places;
+
+pub mod cells;
+pub mod entries;
+pub mod pages;
+pub mod regions;
+pub mod remember;
+pub mod sizes;
+pub mod variables;
+
+// The conditions after the first, of tables whose sizes are known.
+pub fn placed_whole(p: Places, cells: &[u32], remember: &[u32], tables: &[u32]) -> bool
+    requires { ⌜ Room p (length (now tables)) ⌝ }
+    requires { ⌜ 256 * p .pages ≤ length (now cells) ⌝ }
+    requires { ⌜ 2 * p .entries + 2 ≤ length (now remember) ⌝ }
+    ensures { λ r. ⌜ Says r (WholeAt p (now (cells .entry)) (now (remember .entry)) (now (tables .entry))) ⌝ }
+{
+    if !pages::depths_whole(p, tables) {
+        return false;
+    }
+    if !pages::pages_whole(p, tables) {
+        return false;
+    }
+    if !regions::regions_whole(p, tables) {
+        return false;
+    }
+    if !variables::variables_whole(p, tables) {
+        return false;
+    }
+    if !cells::cells_whole(p, cells, tables) {
+        return false;
+    }
+    if !remember::remember_whole(p, cells, remember, tables) {
+        return false;
+    }
+    true
+}
+
+pub fn whole(cells: &[u32], remember: &[u32], tables: &[u32]) -> bool
+    ensures { λ r. ⌜ Says r (Whole (now (cells .entry)) (now (remember .entry)) (now (tables .entry))) ⌝ }
+{
+    if !sizes::sizes_whole(cells, remember, tables) {
+        return false;
+    }
+    let p = layout::find_places(layout::read_sizes(tables));
+    if !placed_whole(p, cells, remember, tables) {
+        return false;
+    }
+    true
+}

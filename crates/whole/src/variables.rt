@@ -1,0 +1,42 @@
+// Every variable is null or names a cell in use.
+ghost use lib.ListN.{length};
+ghost use Rattle.lists.specs.Says.{Says};
+ghost use Rattle.layout.specs.Places.{Room};
+ghost use Rattle.promises.specs.Whole.{IsRef};
+ghost use Rattle.whole.specs.Cells.{VariablesWhole};
+use layout::Places;
+
+// Whether x is null or names a cell in use.
+pub fn is_ref(p: Places, tables: &[u32], x: u32) -> bool
+    requires { ⌜ Room p (length (now tables)) ⌝ }
+    ensures { λ r. ⌜ Says r (IsRef p (now (tables .entry)) x) ⌝ }
+{
+    if x == 0 {
+        return true;
+    }
+    let cell = layout::wide(x - 1);
+    let page = layout::cells::page_of(cell);
+    if p.pages <= page {
+        return false;
+    }
+    let used = layout::wide(layout::tables::used(p, tables, page));
+    if used <= layout::cells::place_of(cell) {
+        return false;
+    }
+    true
+}
+
+pub fn variables_whole(p: Places, tables: &[u32]) -> bool
+    requires { ⌜ Room p (length (now tables)) ⌝ }
+    ensures { λ r. ⌜ Says r (VariablesWhole p (now (tables .entry))) ⌝ }
+{
+    let end = p.threads * p.variables;
+    let mut i = 0;
+    while i < end {
+        if !is_ref(p, tables, layout::tables::var(p, tables, i)) {
+            return false;
+        }
+        i += 1;
+    }
+    true
+}

@@ -1,0 +1,246 @@
+// Runs the check of lent tables on fresh tables, on tables of a heap in use and on damaged ones, one damage or more for each condition
+// of 01's paragraph on whole tables, and writes a line for each.
+ghost use mathlib.Core.Path.{_≡_};
+ghost use lib.ListN.{set};
+
+// Word `at` becomes x, where there is such a word.
+fn put(words: &mut [u32], at: usize, x: u32)
+    ensures { λ r. ⌜ now (words .exit) ≡ set (now (words .entry)) at x ⌝ }
+{
+    if at < words.len() {
+        words[at] = x;
+    }
+}
+
+fn say(name: &[u8], accepted: bool) {
+    io::write_all(1, name);
+    if accepted {
+        io::write_all(1, b" accepted\n");
+    } else {
+        io::write_all(1, b" refused\n");
+    }
+}
+
+// What prepare leaves for T 2, V 2, D 2, P 2, N 2, and for the smallest sizes; and slices that are a word too short, or empty.
+fn fresh() {
+    let cells = [0u32; 512];
+    let remember: [u32; 6] = [2, 0, 0, 0, 0, 0];
+    let tables: [u32; 22] = [
+        2,
+        2,
+        2,
+        2,
+        2,
+        0,
+        0,
+        0,
+        0,
+        0,
+        0,
+        0,
+        0,
+        0,
+        0,
+        0,
+        0,
+        0,
+        0,
+        0,
+        0,
+        0,
+    ];
+    say(b"fresh", whole::whole(&cells, &remember, &tables));
+    say(
+        b"cells too short",
+        whole::whole(&cells[..511], &remember, &tables),
+    );
+    say(
+        b"remember table too short",
+        whole::whole(&cells, &remember[..5], &tables),
+    );
+    say(
+        b"tables too short",
+        whole::whole(&cells, &remember, &tables[..21]),
+    );
+    say(
+        b"tables without sizes",
+        whole::whole(&cells, &remember, &tables[..4]),
+    );
+    say(
+        b"remember table without N",
+        whole::whole(&cells, &remember[..0], &tables),
+    );
+    say(
+        b"no words",
+        whole::whole(&cells[..0], &remember[..0], &tables[..0]),
+    );
+}
+
+fn smallest() {
+    let cells = [0u32; 256];
+    let remember: [u32; 2] = [0, 0];
+    let tables: [u32; 12] = [1, 1, 1, 1, 0, 0, 0, 0, 0, 0, 0, 0];
+    say(
+        b"fresh and smallest",
+        whole::whole(&cells, &remember, &tables),
+    );
+}
+
+// Changes are pairs: a position, and the word that it becomes.
+fn change(words: &mut [u32], changes: &[u32]) {
+    let mut i: usize = 0;
+    while i + 1 < changes.len() {
+        put(words, layout::wide(changes[i]), changes[i + 1]);
+        i += 2;
+    }
+}
+
+// The heap in use: T 2, V 2, D 2, P 4, N 2. Thread 0 has one epoch open, so region 2 is open. Page 0 is the control space's: cell 0 has
+// one reference, to cell 16, and one number; cell 1 has no field. Page 1 is region 2's: cell 16 has one reference, to cell 0. Variables 0
+// and 1 of thread 0 name cells 0 and 16. So the slot at word 2 crosses into region 2. The slices are longer than asked, and the words
+// past the three lengths are not zero. It is changed as asked, and checked.
+fn attempt(name: &[u8], cells_changes: &[u32], remember_changes: &[u32], tables_changes: &[u32]) {
+    let mut cells = [0u32; 1040];
+    let mut remember: [u32; 8] = [2, 1, 2, 0, 2, 0, 7, 7];
+    let mut tables: [u32; 30] = [
+        2,
+        2,
+        2,
+        4,
+        2,
+        1,
+        0,
+        1,
+        17,
+        0,
+        0,
+        1,
+        2,
+        0,
+        0,
+        2,
+        1,
+        0,
+        0,
+        0,
+        0,
+        0,
+        0,
+        2,
+        1,
+        0,
+        0,
+        0,
+        7,
+        7,
+    ];
+    let words: [u32; 12] = [0, 17, 2, 17, 3, 77, 256, 16, 258, 1, 1024, 7];
+    change(&mut cells, &words);
+    change(&mut cells, cells_changes);
+    change(&mut remember, remember_changes);
+    change(&mut tables, tables_changes);
+    say(name, whole::whole(&cells, &remember, &tables));
+}
+
+// Sizes in range, and N the same in both places.
+fn sizes() {
+    attempt(b"in use", &[], &[], &[]);
+    attempt(b"no thread", &[], &[], &[0, 0]);
+    attempt(b"17 threads", &[], &[], &[0, 17]);
+    attempt(b"4294967295 threads", &[], &[], &[0, 4294967295]);
+    attempt(b"no variable", &[], &[], &[1, 0]);
+    attempt(b"33 variables", &[], &[], &[1, 33]);
+    attempt(b"no level", &[], &[], &[2, 0]);
+    attempt(b"9 levels", &[], &[], &[2, 9]);
+    attempt(b"no page", &[], &[], &[3, 0]);
+    attempt(b"1025 pages", &[], &[], &[3, 1025]);
+    attempt(b"4097 entries", &[], &[0, 4097], &[4, 4097]);
+    attempt(b"another N in the remember table", &[], &[0, 3], &[]);
+}
+
+// Depths, pages, partly filled pages, object counts and working words of pages.
+fn pages() {
+    attempt(b"a depth above D", &[], &[], &[6, 3]);
+    attempt(b"a page of a closed region", &[], &[], &[5, 0]);
+    attempt(b"a page of no region", &[], &[], &[12, 6]);
+    attempt(b"a used page without cells", &[], &[], &[13, 1]);
+    attempt(b"a page of 17 cells", &[], &[], &[15, 17, 23, 17]);
+    attempt(b"a free page with a cell", &[], &[], &[17, 1]);
+    attempt(b"two partly filled pages", &[], &[], &[13, 1, 17, 1, 23, 3]);
+    attempt(
+        b"a full page and a partly filled one",
+        &[],
+        &[],
+        &[13, 1, 15, 16, 17, 1, 23, 17],
+    );
+    attempt(b"an object too many", &[], &[], &[23, 3]);
+    attempt(b"an object in a closed region", &[], &[], &[27, 1]);
+    attempt(b"a working word of a page", &[], &[], &[22, 1]);
+}
+
+// References, and the form and the working word of cells in use.
+fn references() {
+    attempt(b"a variable of a cell not in use", &[], &[], &[9, 3]);
+    attempt(b"a variable of a free page", &[], &[], &[9, 33]);
+    attempt(b"a variable past the cells", &[], &[], &[10, 65]);
+    attempt(b"a variable 4294967295", &[], &[], &[10, 4294967295]);
+    attempt(b"a reference to a cell not in use", &[258, 3], &[], &[]);
+    attempt(b"a reference 4294967295", &[258, 4294967295], &[], &[]);
+    attempt(b"15 fields", &[16, 240], &[], &[]);
+    attempt(b"14 fields", &[16, 14], &[], &[]);
+    attempt(b"word 0 of 4294967295", &[16, 4294967295], &[], &[]);
+    attempt(b"a word after the fields", &[4, 1], &[], &[]);
+    attempt(b"any number", &[3, 4294967295], &[], &[]);
+    attempt(b"a working word of a cell", &[17, 1], &[], &[]);
+    attempt(b"words of cells not in use", &[32, 999, 600, 5], &[], &[]);
+}
+
+// The remember table.
+fn remember() {
+    attempt(
+        b"a crossing slot that no entry names",
+        &[],
+        &[1, 0, 2, 0, 4, 0],
+        &[],
+    );
+    attempt(b"more entries used than there are", &[], &[1, 3], &[]);
+    attempt(b"an entry twice", &[], &[1, 2, 3, 2, 5, 2], &[]);
+    attempt(b"an entry with the wrong region", &[], &[4, 3], &[]);
+    attempt(
+        b"an entry for a slot that does not cross",
+        &[],
+        &[1, 2, 3, 258, 5, 1],
+        &[],
+    );
+    attempt(b"an entry for a number", &[], &[2, 3], &[]);
+    attempt(b"an entry past the cells", &[], &[2, 4294967295], &[]);
+    attempt(b"a slot in an entry not used", &[], &[3, 7], &[]);
+    attempt(b"a region in an entry not used", &[], &[5, 2], &[]);
+    attempt(
+        b"two crossing slots",
+        &[16, 16, 18, 17],
+        &[1, 2, 3, 18, 5, 2],
+        &[],
+    );
+    attempt(
+        b"two crossing slots in falling order",
+        &[16, 16, 18, 17],
+        &[1, 2, 2, 18, 3, 2, 5, 2],
+        &[],
+    );
+    attempt(
+        b"one of two crossing slots twice",
+        &[16, 16, 18, 17],
+        &[1, 2, 2, 18, 3, 18, 5, 2],
+        &[],
+    );
+}
+
+fn main() {
+    fresh();
+    smallest();
+    sizes();
+    pages();
+    references();
+    remember();
+}
