@@ -1,0 +1,56 @@
+-- Questions 9 and 10, then the field's word.
+use native.Mathlib.Omega.{arith}
+use Rattle.layout.specs.declared.Kind.the-variants.{Number}
+use Rattle.commands.specs.Ready.{placed}
+use Rattle.commands.specs.Objects.{names-cell, is-field, read-refused, read-done}
+use Rattle.commands.proofs.fields.read.Statement.{statement}
+use Rattle.commands.proofs.fields.read.Tie as tie
+
+read-var-requires : tie.Need-read-var-requires
+read-var-requires c κs =
+    let args = c .before .before .before .args in
+    let pre = c .before .before .before .pre in
+    ((placed (args .p) (args .cells .now) (args .remember .now) (args .tables .now) (pre .0) (omega arith)), (pre .1 .0, pre .1 .1))
+
+field-question-requires : tie.Need-field-question-requires
+field-question-requires c κs =
+    let args = c .before .before .before .before .args in
+    let pre = c .before .before .before .before .pre in
+    let read-var = c .read-var in
+    names-cell (args .p) (args .cells .now) (args .remember .now) (args .tables .now) (pre .0) (args .t) (args .a) (pre .1 .0) (pre .1 .1)
+    (read-var .result) (read-var .ensures)
+
+returns : tie.Need-returns
+returns c =
+    let args = c .before .before .before .before .before .before .args in
+    let pre = c .before .before .before .before .before .before .pre in
+    let read-var = c .before .before .read-var in
+    let field-question = c .before .field-question in
+    let if1 = c .if1 in
+    read-refused (args .p) (args .cells .now) (args .remember .now) (args .tables .now) (pre .0) (args .t) (args .a) (pre .1 .0) (pre .1 .1)
+    (read-var .result) (read-var .ensures) (args .f) (field-question .result) (field-question .ensures) (if1 .taken)
+
+read-field-requires : tie.Need-read-field-requires
+read-field-requires c κs =
+    let args = c .before .before .before .before .before .before .args in
+    let pre = c .before .before .before .before .before .before .pre in
+    let read-var = c .before .before .read-var in
+    let field-question = c .before .field-question in
+    is-field (args .p) (args .cells .now) (args .remember .now) (args .tables .now) (pre .0) (args .t) (args .a) (pre .1 .0) (pre .1 .1)
+    (read-var .result) (read-var .ensures) Number (args .f) (field-question .result) (field-question .ensures) (omega arith)
+
+returns-2 : tie.Need-returns-2
+returns-2 c =
+    let args = c .before .before .before .before .before .before .before .args in
+    let pre = c .before .before .before .before .before .before .before .pre in
+    let read-var = c .before .before .before .read-var in
+    let field-question = c .before .before .field-question in
+    let read-field = c .read-field in
+    read-done (args .p) (args .cells .now) (args .remember .now) (args .tables .now) (pre .0) (args .t) (args .a) (pre .1 .0) (pre .1 .1)
+    (read-var .result) (read-var .ensures) (args .f) (field-question .result) (field-question .ensures) (omega arith) (read-field .result)
+    (read-field .ensures)
+
+pub read-spec : {M : Type 1} → statement M
+read-spec =
+    tie.close
+    (tie.spec read-var-requires field-question-requires returns read-field-requires returns-2)

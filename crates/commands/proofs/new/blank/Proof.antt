@@ -1,0 +1,86 @@
+-- Every word of the cell is written. Invariant: the first `f` fields are 0.
+use native.Mathlib.Omega.{arith}
+use Prim.Native.Nat.{_≤_, _*_, _+_, _-_}
+use Rattle.commands.specs.Blank.{Zeroed, zeroed-none, zeroed-more, blanked}
+use Rattle.commands.proofs.new.blank.Statement.{statement}
+use Rattle.commands.proofs.new.blank.Tie as tie
+
+abbrev Inv-loop : tie.InvT-loop
+Inv-loop cells₀ cell references numbers f₀ cells f = (f ≤ 14) × Zeroed cells₀ cells cell f
+
+abbrev μ-loop : tie.MeasureT-loop
+μ-loop cells₀ cell references numbers f₀ cells f = 14 - f
+
+loop-holds : tie.Need-loop-holds Inv-loop μ-loop
+loop-holds c = (omega arith, zeroed-none _ _)
+
+set-field-requires : tie.Need-set-field-requires Inv-loop μ-loop
+set-field-requires c κs = omega (arith, c .before .before .loop .inv .1 .long)
+
+add-f : tie.Need-add-f Inv-loop μ-loop
+add-f c = omega arith
+
+loop-less : tie.Need-loop-less Inv-loop μ-loop
+loop-less c = omega arith
+
+loop-again : tie.Need-loop-again Inv-loop μ-loop
+loop-again c =
+    let args = c .before .before .before .before .before .before .before .args in
+    let pre = c .before .before .before .before .before .before .before .pre in
+    let loop = c .before .before .before .before .before .loop in
+    let set-field = c .before .before .set-field in
+    (omega arith, zeroed-more (args .cells .now) (loop .cells) (args .cell) (pre .1) (loop .f) (omega arith) (loop .inv .1) (set-field .ensures))
+
+mul-set-head : tie.Need-mul-set-head Inv-loop μ-loop
+mul-set-head c = omega arith
+
+add-set-head : tie.Need-add-set-head Inv-loop μ-loop
+add-set-head c = omega arith
+
+cast-set-head : tie.Need-cast-set-head Inv-loop μ-loop
+cast-set-head c = omega arith
+
+set-head-requires : tie.Need-set-head-requires Inv-loop μ-loop
+set-head-requires c κs = omega (arith, c .before .before .loop .inv .1 .long)
+
+set-work-requires : tie.Need-set-work-requires Inv-loop μ-loop
+set-work-requires c κs =
+    let loop = c .before .before .before .before .before .before .loop in
+    let set-head = c .before .before .before .set-head in
+    omega (arith, loop .inv .1 .long, set-head .kept .0)
+
+same-length : tie.Need-same-length Inv-loop μ-loop
+same-length c =
+    let loop = c .before .before .before .before .before .before .before .before .before .loop in
+    let set-head = c .before .before .before .before .before .before .set-head in
+    let set-work = c .before .before .set-work in
+    omega (arith, set-work .kept .0, set-head .kept .0, loop .inv .1 .long)
+
+returns : tie.Need-returns Inv-loop μ-loop
+returns c =
+    let args = c .before .before .before .before .before .before .before .before .before .before .before .args in
+    let pre = c .before .before .before .before .before .before .before .before .before .before .before .pre in
+    let loop = c .before .before .before .before .before .before .before .before .before .loop in
+    let set-head = c .before .before .before .before .before .before .set-head in
+    let set-work = c .before .before .set-work in
+    blanked (args .cells .now) (loop .cells) (args .cell) (pre .1) (loop .f) (16 * args .references + args .numbers) (omega arith) (loop .inv .1)
+    (set-head .ensures) (set-work .ensures)
+
+pub blank-spec : {M : Type 1} → statement M
+blank-spec =
+    tie.close
+    (tie.spec
+    Inv-loop
+    μ-loop
+    loop-holds
+    set-field-requires
+    add-f
+    loop-less
+    loop-again
+    mul-set-head
+    add-set-head
+    cast-set-head
+    set-head-requires
+    set-work-requires
+    same-length
+    returns)

@@ -1,0 +1,119 @@
+-- A page is found, its first unused cell taken and written, and the variable names it.
+use native.Mathlib.Omega.{arith}
+use Prim.Native.Nat.{_+_, _*_, _<_, _≤_}
+use lib.ListN.{length}
+use Rattle.commands.specs.Ready.{placed, placed-still}
+use Rattle.commands.specs.Making.{region-real, can-take, cell-inside, new-refused, new-done}
+use borrow.Author.Needs.{needs}
+use Rattle.commands.proofs.new.new_object.Statement.{statement}
+use Rattle.commands.proofs.new.new_object.Tie as tie
+
+innermost-requires : tie.Need-innermost-requires
+innermost-requires c κs =
+    let args = c .before .before .before .before .args in
+    let pre = c .before .before .before .before .pre in (
+      (placed (args .p) (args .cells .now) (args .remember .now) (args .tables .now) (pre .0) (omega arith)) .room,
+      (pre .1 .0, pre .0 .whole .placed .depths (args .t) (pre .1 .0)),
+    )
+
+find-page-requires : tie.Need-find-page-requires
+find-page-requires c κs =
+    let args = c .before .before .before .before .before .before .args in
+    let pre = c .before .before .before .before .before .before .pre in
+    (placed (args .p) (args .cells .now) (args .remember .now) (args .tables .now) (pre .0) (omega arith)) .room
+
+same-length : tie.Need-same-length
+same-length c = search needs
+
+returns : tie.Need-returns
+returns c =
+    let args = c .before .before .before .before .before .before .before .before .before .args in
+    let pre = c .before .before .before .before .before .before .before .before .before .pre in
+    let innermost = c .before .before .before .before .innermost in
+    let find-page = c .before .before .find-page in
+    let if1 = c .if1 in
+    new-refused (args .p) (args .cells .now) (args .remember .now) (args .tables .now) (pre .0) (args .t) (pre .1 .0) (innermost .result)
+    (innermost .ensures) (args .a) (args .b) (args .c) (pre .1 .1) (pre .1 .2) (find-page .result) (find-page .ensures) (if1 .taken)
+
+take-cell-requires : tie.Need-take-cell-requires
+take-cell-requires c κs =
+    let args = c .before .before .before .before .before .before .before .before .before .before .args in
+    let pre = c .before .before .before .before .before .before .before .before .before .before .pre in
+    let innermost = c .before .before .before .before .before .innermost in
+    let page = c .before .before .before .find-page in
+    let real = region-real (args .p) (args .cells .now) (args .remember .now) (args .tables .now) (pre .0) (args .t) (pre .1 .0) (innermost .result) (innermost .ensures) in
+    let take =
+    can-take (args .p) (args .cells .now) (args .remember .now) (args .tables .now) (pre .0) (args .t) (pre .1 .0) (innermost .result) (innermost .ensures)
+    (page .result) (page .ensures) (omega arith) in (
+      placed (args .p) (args .cells .now) (args .remember .now) (args .tables .now) (pre .0) (omega arith) .room,
+      ((omega arith, take .0), (real .0, real .1, take .1)),
+    )
+
+-- the cell that was taken lies in the cells
+inside : (c : tie.After-take-cell) → (c .take-cell .result < 16384) × (16 * c .take-cell .result + 16 ≤ length (c .before .before .before .before .before .before .before .before .before .before .before .args .cells .now))
+inside c =
+    let args = c .before .before .before .before .before .before .before .before .before .before .before .args in
+    let pre = c .before .before .before .before .before .before .before .before .before .before .before .pre in
+    let innermost = c .before .before .before .before .before .before .innermost in
+    let page = c .before .before .before .before .find-page in
+    let take = c .take-cell in
+    cell-inside (args .p) (args .cells .now) (args .remember .now) (args .tables .now) (pre .0) (args .t) (pre .1 .0) (innermost .result) (innermost .ensures)
+    (page .result) (page .ensures) (omega arith) (take .result) (take .ensures .0) (take .last .1 .0) (take .ensures .1)
+
+blank-requires : tie.Need-blank-requires
+blank-requires c κs =
+    let room = inside (c .before .before .before) in
+    (room .0, room .1, c .before .before .before .before .before .before .before .before .before .before .before .before .before .before .pre .1 .2)
+
+add-write-var : tie.Need-add-write-var
+add-write-var c = omega (arith, inside (c .before .before .before .before .before .before .before) .0)
+
+cast-write-var : tie.Need-cast-write-var
+cast-write-var c = omega (arith, inside (c .before .before .before .before .before .before .before) .0)
+
+write-var-requires : tie.Need-write-var-requires
+write-var-requires c κs =
+    let args = c .before .before .before .before .before .before .before .before .before .before .before .before .before .before .before .before .before .before .args in
+    let pre = c .before .before .before .before .before .before .before .before .before .before .before .before .before .before .before .before .before .before .pre in
+    let good = c .before .before .before .before .before .before .before .before .before .before .before .before .before .before .before .before .before .before .good in
+    let take-cell = c .before .before .before .before .before .before .before .take-cell in (
+      placed-still (args .p) (take-cell .kept .1 .0)
+          (placed (args .p) (args .cells .now) (args .remember .now) (args .tables .now) (pre .0) (omega (arith, good .1 .1 .1 .0))),
+      (pre .1 .0, pre .1 .1),
+    )
+
+same-length-2 : tie.Need-same-length-2
+same-length-2 c = search needs
+
+same-length-3 : tie.Need-same-length-3
+same-length-3 c = search needs
+
+returns-2 : tie.Need-returns-2
+returns-2 c =
+    let args = c .before .before .before .before .before .before .before .before .before .before .before .before .before .before .before .before .before .before .before .before .before .args in
+    let pre = c .before .before .before .before .before .before .before .before .before .before .before .before .before .before .before .before .before .before .before .before .before .pre in
+    let innermost = c .before .before .before .before .before .before .before .before .before .before .before .before .before .before .before .before .innermost in
+    let find-page = c .before .before .before .before .before .before .before .before .before .before .before .before .before .before .find-page in
+    let take-cell = c .before .before .before .before .before .before .before .before .before .before .take-cell in
+    let blank = c .before .before .before .before .before .before .blank in
+    let write-var = c .before .before .write-var in
+    new-done (args .p) (args .cells .now) (args .remember .now) (args .tables .now) (pre .0) (args .t) (pre .1 .0) (innermost .result)
+    (innermost .ensures) (args .a) (args .b) (args .c) (pre .1 .1) (pre .1 .2) (find-page .result) (find-page .ensures) (omega arith)
+    (take-cell .result) (take-cell .ensures .0) (take-cell .last .1 .0) (take-cell .ensures .1) (blank .last .0) (blank .ensures) (write-var .ensures)
+
+pub new-object-spec : {M : Type 1} → statement M
+new-object-spec =
+    tie.close
+    (tie.spec
+    innermost-requires
+    find-page-requires
+    same-length
+    returns
+    take-cell-requires
+    blank-requires
+    add-write-var
+    cast-write-var
+    write-var-requires
+    same-length-2
+    same-length-3
+    returns-2)

@@ -1,0 +1,83 @@
+-- Questions 9 and 10, then the store and question 14.
+use native.Mathlib.Omega.{arith}
+use Rattle.commands.specs.Ready.{placed}
+use Rattle.commands.specs.Objects.{names-cell}
+use Rattle.commands.specs.Storing.{storing, store-refused, store-did}
+use borrow.Author.Needs.{needs}
+use Rattle.commands.proofs.store.store.Statement.{statement}
+use Rattle.commands.proofs.store.store.Tie as tie
+
+read-var-requires : tie.Need-read-var-requires
+read-var-requires c κs =
+    let args = c .before .before .before .args in
+    let pre = c .before .before .before .pre in
+    ((placed (args .p) (args .cells .now) (args .remember .now) (args .tables .now) (pre .0) (omega arith)), (pre .1 .0, pre .1 .1))
+
+field-question-requires : tie.Need-field-question-requires
+field-question-requires c κs =
+    let args = c .before .before .before .before .before .args in
+    let pre = c .before .before .before .before .before .pre in
+    let read-var = c .before .read-var in
+    names-cell (args .p) (args .cells .now) (args .remember .now) (args .tables .now) (pre .0) (args .t) (args .a) (pre .1 .0) (pre .1 .1)
+    (read-var .result) (read-var .ensures)
+
+same-length : tie.Need-same-length
+same-length c = search needs
+
+returns : tie.Need-returns
+returns c =
+    let args = c .before .before .before .before .before .before .before .args in
+    let pre = c .before .before .before .before .before .before .before .pre in
+    let read-var = c .before .before .before .read-var in
+    let field-question = c .before .field-question in
+    let if1 = c .if1 in
+    store-refused (args .p) (args .cells .now) (args .remember .now) (args .tables .now) (pre .0) (args .t) (args .a) (pre .1 .0) (pre .1 .1)
+    (read-var .result) (read-var .ensures) (args .c) (pre .1 .2) (args .f) (field-question .result) (field-question .ensures) (if1 .taken)
+
+read-var-requires-2 : tie.Need-read-var-requires-2
+read-var-requires-2 c κs =
+    let args = c .before .before .before .before .before .before .before .args in
+    let pre = c .before .before .before .before .before .before .before .pre in
+    ((placed (args .p) (args .cells .now) (args .remember .now) (args .tables .now) (pre .0) (omega arith)), (pre .1 .0, pre .1 .2))
+
+store-slot-requires : tie.Need-store-slot-requires
+store-slot-requires c κs =
+    let args = c .before .before .before .before .before .before .before .before .before .before .args in
+    let pre = c .before .before .before .before .before .before .before .before .before .before .pre in
+    let read-var = c .before .before .before .before .before .before .read-var in
+    let field-question = c .before .before .before .before .field-question in
+    storing (args .p) (args .cells .now) (args .remember .now) (args .tables .now) (pre .0) (args .t) (args .a) (pre .1 .0) (pre .1 .1)
+    (read-var .result) (read-var .ensures) (args .c) (pre .1 .2) (args .f) (field-question .result) (field-question .ensures) (omega arith)
+    (omega arith)
+
+same-length-2 : tie.Need-same-length-2
+same-length-2 c = search needs
+
+same-length-3 : tie.Need-same-length-3
+same-length-3 c = search needs
+
+returns-2 : tie.Need-returns-2
+returns-2 c =
+    let args = c .before .before .before .before .before .before .before .before .before .before .before .before .before .before .before .args in
+    let pre = c .before .before .before .before .before .before .before .before .before .before .before .before .before .before .before .pre in
+    let read-var = c .before .before .before .before .before .before .before .before .before .before .before .read-var in
+    let field-question = c .before .before .before .before .before .before .before .before .before .field-question in
+    let read-var2 = c .before .before .before .before .before .before .before .read-var2 in
+    let store-slot = c .before .before .before .before .store-slot in
+    store-did (args .p) (args .cells .now) (args .remember .now) (args .tables .now) (pre .0) (args .t) (args .a) (pre .1 .0) (pre .1 .1)
+    (read-var .result) (read-var .ensures) (args .c) (pre .1 .2) (args .f) (field-question .result) (field-question .ensures) (omega arith)
+    (read-var2 .result) (read-var2 .ensures) _ _ (store-slot .result) (store-slot .ensures)
+
+pub store-spec : {M : Type 1} → statement M
+store-spec =
+    tie.close
+    (tie.spec
+    read-var-requires
+    field-question-requires
+    same-length
+    returns
+    read-var-requires-2
+    store-slot-requires
+    same-length-2
+    same-length-3
+    returns-2)

@@ -1,0 +1,106 @@
+-- The table follows first; where it has no room nothing is stored.
+use native.Mathlib.Omega.{arith}
+use mathlib.Core.Path.{ap, _∙_}
+use Rattle.commands.specs.Storing.{crossOf, Seen, cross-is, slot-few, slot-entry, stored-full, stored-done}
+use borrow.Author.Needs.{needs}
+use Rattle.commands.proofs.store.store_slot.Statement.{statement}
+use Rattle.commands.proofs.store.store_slot.Tie as tie
+
+wide-requires : tie.Need-wide-requires
+wide-requires c κs = search needs
+
+sub-page-of : tie.Need-sub-page-of
+sub-page-of c = search needs
+
+page-of-requires : tie.Need-page-of-requires
+page-of-requires c κs = search needs
+
+read-field-requires : tie.Need-read-field-requires
+read-field-requires c κs = search needs
+
+crosses-requires : tie.Need-crosses-requires
+crosses-requires c κs = search needs
+
+crosses-requires-2 : tie.Need-crosses-requires-2
+crosses-requires-2 c κs = search needs
+
+field-position-requires : tie.Need-field-position-requires
+field-position-requires c κs = search needs
+
+seen : (c : tie.After-field-position) → (let a = c .before .before .before .before .before .before .before .before .before .before .before .args in
+    Seen (a .p) (a .cells .now) (a .tables .now) (a .x) (a .f) (a .v) (c .field-position .result) (c .before .before .before .crosses .result) (c .before .before .crosses2 .result))
+seen c =
+    let a = c .before .before .before .before .before .before .before .before .before .before .before .args in
+    let wide = c .before .before .before .before .before .before .before .wide in
+    let page = c .before .before .before .before .before .before .page-of in
+    let old = c .before .before .before .before .read-field in
+    record {
+      slot = c .field-position .ensures;
+      before = cross-is (a .p) (a .tables .now) (a .x) (old .result) (wide .result) (page .result) (wide .ensures) (page .ensures) (c .before .before .before .crosses .ensures) ∙ ap (crossOf (a .p) (a .tables .now) (a .x)) (old .ensures);
+      after = cross-is (a .p) (a .tables .now) (a .x) (a .v) (wide .result) (page .result) (wide .ensures) (page .ensures) (c .before .before .crosses2 .ensures);
+    }
+
+remember-slot-requires : tie.Need-remember-slot-requires
+remember-slot-requires c κs =
+    let args = c .before .before .before .before .before .before .before .before .before .before .before .before .args in
+    let pre = c .before .before .before .before .before .before .before .before .before .before .before .before .pre in
+    let slot = seen (c .before) in (
+      pre .long,
+      (
+        (
+          pre .room .entries-high,
+          pre .used,
+          slot-few (args .p) (args .cells .now) (args .remember .now) (args .tables .now) (args .x) (args .f) (args .v) _ _ _ slot pre,
+        ),
+        slot-entry (args .p) (args .cells .now) (args .remember .now) (args .tables .now) (args .x) (args .f) (args .v) _ _ _ slot pre,
+      ),
+    )
+
+same-length : tie.Need-same-length
+same-length c = search needs
+
+same-length-2 : tie.Need-same-length-2
+same-length-2 c = search needs
+
+returns : tie.Need-returns
+returns c =
+    let args = c .before .before .before .before .before .before .before .before .before .before .before .before .before .before .before .before .args in
+    let remember-slot = c .before .before .before .remember-slot in
+    stored-full (args .p) (args .cells .now) (args .remember .now) (args .tables .now) (args .x) (args .f) (args .v) _ _ _ (seen (c .before .before .before .before .before)) _
+    (remember-slot .result) (remember-slot .ensures) (c .if1 .taken)
+
+write-field-requires : tie.Need-write-field-requires
+write-field-requires c κs = search needs
+
+same-length-3 : tie.Need-same-length-3
+same-length-3 c = search needs
+
+same-length-4 : tie.Need-same-length-4
+same-length-4 c = search needs
+
+returns-2 : tie.Need-returns-2
+returns-2 c =
+    let args = c .before .before .before .before .before .before .before .before .before .before .before .before .before .before .before .before .before .before .before .before .args in
+    let remember-slot = c .before .before .before .before .before .before .before .remember-slot in
+    stored-done (args .p) (args .cells .now) (args .remember .now) (args .tables .now) (args .x) (args .f) (args .v) _ _ _ (seen (c .before .before .before .before .before .before .before .before .before)) _
+    (remember-slot .result) (remember-slot .ensures) (omega arith) (c .before .before .write-field .ensures)
+
+pub store-slot-spec : {M : Type 1} → statement M
+store-slot-spec =
+    tie.close
+    (tie.spec
+    wide-requires
+    sub-page-of
+    page-of-requires
+    read-field-requires
+    crosses-requires
+    crosses-requires-2
+    field-position-requires
+    remember-slot-requires
+    same-length
+    same-length-2
+    returns
+    write-field-requires
+    same-length-3
+    same-length-4
+    returns-2)

@@ -1,0 +1,53 @@
+-- The region that a reference crosses into, as the code finds it.
+use Prim.Native.Nat.{ℕ, _-_, _≤_, _<_}
+use mathlib.Core.List.{List}
+use mathlib.Core.Bool.{Bool, cond}
+use mathlib.Core.Path.{_≡_, sym, ap, ap₂, _∙_}
+use lib.Dec.{ltb, eqb}
+use borrow.Author.Tests.{lt-ltb, le-ltb, le-leb, lt-leb, eq-eqb, ne-eqb}
+use Rattle.layout.specs.declared.Places.{Places}
+use Rattle.layout.specs.Places.{ownerOf}
+use Rattle.layout.specs.Cells.{pageOf}
+use Rattle.promises.specs.Crossing.{other, regionOf}
+
+-- region g, where the slot's object lies in o
+module _ (o g : ℕ) where
+  other-none : g ≤ 1 → other o g ≡ 0
+  other-none l = ap (λ (b : Bool). cond b 0 (cond (eqb g o) 0 g)) (le-leb g 1 l)
+
+  other-far : 1 < g → other o g ≡ cond (eqb g o) 0 g
+  other-far l = ap (λ (b : Bool). cond b 0 (cond (eqb g o) 0 g)) (lt-leb g 1 l)
+
+  other-own : 1 < g → g ≡ o → other o g ≡ 0
+  other-own l e = other-far l ∙ ap (λ (b : Bool). cond b 0 g) (eq-eqb g o e)
+
+  other-crosses : 1 < g → (g ≡ o → ⊥) → other o g ≡ g
+  other-crosses l e = other-far l ∙ ap (λ (b : Bool). cond b 0 g) (ne-eqb g o e)
+
+-- y is x as the code widened it; the page of x's cell is not there, or its owner is g
+module _ (p : Places) (t : List ℕ) (page x y : ℕ) (q : y ≡ x) where
+  region-there : (y ≡ 0 → ⊥) → pageOf (y - 1) < p .pages → regionOf p t x ≡ ownerOf p t (pageOf (y - 1))
+  region-there z l =
+      sym (ap (regionOf p t) q)
+      ∙ ap₂ (λ (a b : Bool). cond a 0 (cond b (ownerOf p t (pageOf (y - 1))) 0)) (ne-eqb y 0 z) (lt-ltb (pageOf (y - 1)) (p .pages) l)
+
+  pub cross-null : y ≡ 0 → 0 ≡ other (ownerOf p t page) (regionOf p t x)
+  cross-null z = sym (ap (λ (g : ℕ). other (ownerOf p t page) g) (sym (ap (regionOf p t) q) ∙ ap (λ (a : Bool). cond a 0 (cond (ltb (pageOf (y - 1)) (p .pages)) (ownerOf p t (pageOf (y - 1))) 0)) (eq-eqb y 0 z)))
+
+  pub cross-past : (y ≡ 0 → ⊥) → p .pages ≤ pageOf (y - 1) → 0 ≡ other (ownerOf p t page) (regionOf p t x)
+  cross-past z l =
+      sym (ap (λ (g : ℕ). other (ownerOf p t page) g) (sym (ap (regionOf p t) q)
+      ∙ ap₂ (λ (a b : Bool). cond a 0 (cond b (ownerOf p t (pageOf (y - 1))) 0)) (ne-eqb y 0 z) (le-ltb (pageOf (y - 1)) (p .pages) l)))
+
+  module _ (z : y ≡ 0 → ⊥) (l : pageOf (y - 1) < p .pages) (g : ℕ) (e : g ≡ ownerOf p t (pageOf (y - 1))) where
+    into : regionOf p t x ≡ g
+    into = region-there z l ∙ sym e
+
+    pub cross-none : g ≤ 1 → 0 ≡ other (ownerOf p t page) (regionOf p t x)
+    cross-none h = sym (ap (λ (r : ℕ). other (ownerOf p t page) r) into ∙ other-none (ownerOf p t page) g h)
+
+    pub cross-own : (o : ℕ) → o ≡ ownerOf p t page → 1 < g → g ≡ o → 0 ≡ other (ownerOf p t page) (regionOf p t x)
+    cross-own o d h n = sym (ap (λ (r : ℕ). other (ownerOf p t page) r) into ∙ other-own (ownerOf p t page) g h (n ∙ d))
+
+    pub cross-into : (o : ℕ) → o ≡ ownerOf p t page → 1 < g → (g ≡ o → ⊥) → g ≡ other (ownerOf p t page) (regionOf p t x)
+    cross-into o d h n = sym (ap (λ (r : ℕ). other (ownerOf p t page) r) into ∙ other-crosses (ownerOf p t page) g h (λ r. n (r ∙ sym d)))

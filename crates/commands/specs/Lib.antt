@@ -1,0 +1,13 @@
+-- What each command finds and leaves in the lent words.
+pub mod Decoding
+pub mod Ready
+pub mod Fields
+pub mod Blank
+pub mod Crosses
+pub mod Does
+pub mod Variables
+pub mod Objects
+pub mod Storing
+pub mod Entering
+pub mod Making
+pub mod Obeys

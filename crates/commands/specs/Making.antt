@@ -1,0 +1,183 @@
+-- Code 3 does what the rules say: 13 exactly if the region has no partly filled page and no page is free, else a new object.
+use Prim.Native.Nat.{ℕ, _+_, _-_, _*_, _^_, _≤_, _<_}
+use native.Mathlib.Omega.{arith}
+use mathlib.Core.Path.{_≡_, refl, sym, ap, ap₂, subst, _∙_}
+use mathlib.Core.Logic.{_⊎_, inl, inr}
+use mathlib.Core.List.{List, [], _∷_, _++_}
+use mathlib.Core.Bool.{Bool, true, false, cond, _&&_}
+use lib.ListN.{length, set}
+use lib.Dec.{leb, eqb}
+use borrow.Author.Tests.{lt-ltb, le-leb}
+use Rattle.lists.specs.Counting.{sum-high}
+use Rattle.lists.specs.Products.{flat-low}
+use Rattle.rules.specs.declared.Sizes.{Sizes}
+use Rattle.rules.specs.Terms.{ask, refused, done}
+use Rattle.rules.specs.NeverFreeing as nf
+use Rattle.rules.specs.NeverFreeing.{place}
+use Rattle.rules.specs.Regions.{regionAt, regions}
+use Rattle.rules.specs.Graph.{newPages, freePages}
+use Rattle.rules.specs.Rules as ru
+use Rattle.rules.specs.Rules.{Regioned, graph, first}
+use Rattle.layout.specs.declared.Places.{Places}
+use Rattle.layout.specs.Places.{sizesOf, placesOf, depthOf, ownerOf, usedOf, countOf, countAt, count-room}
+use Rattle.layout.specs.Cells.{cellOn}
+use Rattle.promises.specs.Words.{Words, words, heapOf}
+use Rattle.promises.specs.Whole.{WholeFor, Open, objectsOn}
+use Rattle.promises.specs.StandsFor.{SameFrom, SameBeyond}
+use Rattle.promises.specs.Reading.{range, cells-room, tables-room}
+use Rattle.promises.specs.Agreed.{heap-stands}
+use Rattle.promises.specs.Here.{here-depth}
+use Rattle.promises.specs.Questions.{did-refused, did-moved}
+use Rattle.promises.specs.NewPages.{innermost-pos, innermost-low, innermost-open, PartlyFilled, FreePage, new-fits, new-lacks}
+use Rattle.promises.specs.Changes.{withTables, withVariable, withNew}
+use Rattle.promises.specs.TakeCell.{Took}
+use Rattle.promises.specs.NewCell.{Blank, new-whole, new-beyond}
+use Rattle.promises.specs.FrameVariable.{variable-beyond}
+use Rattle.promises.specs.FrameNew.{blankObject, made-stands, to-old, withCell}
+use Rattle.pages.specs.Pages.{Found, taken}
+use Rattle.pages.specs.Took.{found-room, taken-took}
+use Rattle.commands.specs.declared.Decoded.the-variants.{New}
+use Rattle.commands.specs.Decoding.{commandFor}
+use Rattle.commands.specs.Ready.{Ready, variableAt}
+use Rattle.commands.specs.Does.{Does}
+
+from-both : {n : ℕ} {k l j : List ℕ} → SameFrom n k l → SameFrom n l j → SameFrom n k j
+from-both a b = record { long = b .long ∙ a .long; rest = b .rest ∙ a .rest }
+
+beyond-both : {s : Sizes} {u v w : Words} → SameBeyond s u v → SameBeyond s v w → SameBeyond s u w
+beyond-both a b = record { cells = from-both (a .cells) (b .cells); remember = from-both (a .remember) (b .remember); tables = from-both (a .tables) (b .tables) }
+
+-- g is the region that thread u makes objects in
+module _ (p : Places) (c m t : List ℕ) (r : Ready p c m t) (u : ℕ) (l : u < p .threads) (g : ℕ) (eg : g ≡ regionAt (sizesOf p) u (depthOf t u)) where
+  abbrev s : Sizes
+  s = sizesOf p
+
+  abbrev w : Words
+  w = words c m t
+
+  abbrev k : WholeFor s w
+  k = r .whole
+
+  abbrev H : Regioned
+  H = heapOf s w
+
+  abbrev P : Places
+  P = placesOf s
+
+  pub region-real : (1 ≤ g) × (g ≤ 1 + p .threads * p .depth)
+  region-real = subst (λ (x : ℕ). (1 ≤ x) × (x ≤ regions s)) (sym eg) (innermost-pos s w k u l, innermost-low s w k u l)
+
+  region-open : 1 < g → Open P t g
+  region-open = subst (λ (x : ℕ). 1 < x → Open P t x) (sym eg) (innermost-open s w k u l)
+
+  -- its objects, and those of every page, are few
+  abbrev objects : ℕ
+  objects = countOf P t g
+
+  count-fits : objects + 1 < 2 ^ 32
+  count-fits =
+      omega (arith, k .placed .counts g (region-real .0) (region-real .1), sum-high (objectsOn P t g) 16 (s .pages) each, range s w k)
+    where
+      each : (page : ℕ) → page < s .pages → objectsOn P t g page ≤ 16
+      each page h = go (eqb (ownerOf P t page) g)
+        where
+          go : (b : Bool) → cond b (usedOf P t page) 0 ≤ 16
+          go true = k .placed .pages page h .cells
+          go false = omega arith
+
+  count-inside : countAt P g < length t
+  count-inside = omega (arith, region-real, count-room s, tables-room s w k)
+
+  module _ (page : ℕ) (found′ : Found p t g page) where
+    found : Found P t g page
+    found = subst (λ (q : Places). Found q t g page) (r .places) found′
+
+    -- what taking a cell of the page that was found asks
+    pub can-take : page < p .pages → (usedOf p t page < 16) × (countOf p t g + 1 < 2 ^ 32)
+    can-take h =
+        subst (λ (q : Places). (usedOf q t page < 16) × (countOf q t g + 1 < 2 ^ 32)) (sym (r .places))
+        (found-room s t g page h count-inside (k .placed .pages page h .free) found, count-fits)
+
+    -- no page was found: the region has none that is partly filled, and none is free
+    none-found : p .pages ≤ page → (PartlyFilled s w g → ⊥) × (FreePage s w → ⊥)
+    none-found h = go found
+      where
+        go : Found P t g page → (PartlyFilled s w g → ⊥) × (FreePage s w → ⊥)
+        go (inl f) = absurd (let z : ⊥ = omega (arith, f .low) in z)
+        go (inr f) = ((λ x. omega (arith, f .none (x .0) (x .1) (x .2 .owner), x .2 .part)), (λ x. omega (arith, f .last (x .0) (x .1) (x .2))))
+
+    -- a page was found
+    some-found : page < p .pages → PartlyFilled s w g ⊎ FreePage s w
+    some-found h = go found
+      where
+        go : Found P t g page → PartlyFilled s w g ⊎ FreePage s w
+        go (inl f) = inl (page, h, f .partial)
+        go (inr f) = inr (page, h, f .free h)
+
+    -- the cell was taken
+    module _ (low : page < p .pages) (cell : ℕ) (ec : cell ≡ cellOn page (usedOf p t page)) (t₁ : List ℕ) (et : t₁ ≡ taken p t page g) where
+      pub took : Took P t g cell t₁
+      took =
+          subst (λ (q : ℕ). Took P t g q t₁) (sym (ec ∙ ap (λ (q : Places). cellOn page (usedOf q t page)) (r .places)))
+          (subst (λ (q : List ℕ). Took P t g (cellOn page (usedOf P t page)) q) (sym (et ∙ ap (λ (q : Places). taken q t page g) (r .places)))
+          (taken-took s t g page low count-inside (k .placed .pages page low .free) found))
+
+      pub cell-inside : (cell < 16384) × (16 * cell + 16 ≤ length c)
+      cell-inside = omega (arith, took .page, range s w k, cells-room s w k)
+
+  -- ---- the command
+
+  module _ (a b d : ℕ) (n : a < p .variables) (few : b + d ≤ 14) where
+    new-asked : nf.question s (H .heap) (commandFor (New u a b d)) ≡ 0
+    unfolding nf.question nf.operands nf.state ask
+    new-asked =
+        ap₂ (λ (x y : Bool). ask x 7 (ask (y && leb (b + d) 14) 8 0)) (lt-ltb u (p .threads) l) (lt-ltb a (p .variables) n)
+        ∙ ap (λ (x : Bool). ask x 8 0) (le-leb (b + d) 14 few)
+
+    -- the heap with the new object
+    abbrev h₁ : Regioned
+    h₁ = withVariable (withNew H (blankObject b d) g) (place s u a) (length (H .heap .objects) + 1)
+
+    new-after : ru.after s H (commandFor (New u a b d)) ≡ h₁
+    unfolding ru.after ru.homesAfter nf.effect
+    new-after = ap (λ (x : ℕ). record { heap = h₁ .heap; homes = H .homes ++ x ∷ [] }) (ap (regionAt s u) (here-depth s w u l) ∙ sym eg)
+
+    -- question 13
+    new-question : ru.question s H (commandFor (New u a b d)) ≡ ask (leb (newPages s (graph H) (graph h₁)) (freePages s (graph H))) 13 0
+    unfolding ru.question ru.room ask
+    new-question =
+        ap₂ first new-asked (ap (λ (h : Regioned). ask (leb (newPages s (graph H) (graph h)) (freePages s (graph H))) 13 0) new-after)
+
+    module _ (page : ℕ) (f : Found p t g page) where
+      pub new-refused : p .pages ≤ page → Does p c m t (New u a b d) c m t (refused 13)
+      unfolding ask
+      new-refused h =
+          let none = none-found page f h in
+          did-refused s w k (commandFor (New u a b d)) 13 (omega arith)
+          (new-question ∙ ap (λ (x : Bool). ask x 13 0)
+          (new-lacks s w H (λ x. x) (heap-stands s w k) g (region-real .0) (region-real .1) (H .heap .depths) (h₁ .heap .vars) (blankObject b d) (none .0) (none .1)))
+
+      module _ (low : page < p .pages) (cell : ℕ) (ec : cell ≡ cellOn page (usedOf p t page)) (t₁ : List ℕ) (et : t₁ ≡ taken p t page g) (c₁ : List ℕ) (blank : Blank c cell (16 * b + d) c₁) where
+        abbrev tk : Took P t g cell t₁
+        tk = took page f low cell ec t₁ et
+
+        abbrev w₁ : Words
+        w₁ = words c₁ m t₁
+
+        k₁ : WholeFor s w₁
+        k₁ = new-whole s w k g cell b d t₁ c₁ tk blank few (region-real .0) (region-real .1) region-open
+
+        pub new-done : {t₂ : List ℕ} → t₂ ≡ set t₁ (variableAt p u a) (cell + 1) → Does p c m t (New u a b d) c₁ m t₂ (done 0)
+        unfolding nf.value ask
+        new-done e =
+            subst (λ (q : List ℕ). Does p c m t (New u a b d) c₁ m q (done 0)) (sym e)
+            (did-moved s w k (commandFor (New u a b d)) (withTables w₁ (set t₁ (variableAt p u a) (cell + 1))) h₁ 0
+            (new-question ∙ ap (λ (x : Bool). ask x 13 0)
+            (new-fits s w H (λ x. x) (heap-stands s w k) g (region-real .0) (region-real .1) (H .heap .depths) (h₁ .heap .vars) (blankObject b d) (some-found page f low))) new-after refl
+            (beyond-both (new-beyond s w k g cell b d t₁ c₁ tk blank few (region-real .0) (region-real .1) region-open)
+            (variable-beyond s w₁ k₁ (place s u a) (cell + 1) (flat-low l n)))
+            (λ so. record {
+              cell = withCell H (λ x. x) cell;
+              stands = made-stands s w H (λ x. x) (heap-stands s w k) g cell b d t₁ c₁ tk blank few (region-real .0) (region-real .1) region-open (place s u a) (flat-low l n) so;
+              stays = λ x al z. to-old s w H (λ x. x) (heap-stands s w k) g cell b d t₁ c₁ tk blank few (region-real .0) (region-real .1) region-open x al;
+            }))

@@ -1,0 +1,211 @@
+-- Code 7 does what the rules say: a reference is stored and the remember table follows, or there is no room for an entry (14).
+use Prim.Native.Nat.{ℕ, zero, suc, _+_, _-_, _*_, _^_, _≤_, _<_}
+use native.Mathlib.Omega.{arith}
+use native.Mathlib.Decide.{ℕ-discrete}
+use mathlib.Core.Path.{_≡_, refl, sym, ap, ap₂, subst, subst₂, _∙_}
+use mathlib.Core.List.{List}
+use mathlib.Core.Bool.{Bool, _&&_}
+use lib.ListN.{length, getD, set, length-set}
+use lib.Dec.{ltb, leb}
+use borrow.Author.Tests.{lt-ltb, le-leb, lt-leb}
+use Rattle.rules.specs.declared.Sizes.{Sizes}
+use Rattle.rules.specs.Terms.{ask, refused, done, store}
+use Rattle.rules.specs.NeverFreeing as nf
+use Rattle.rules.specs.NeverFreeing.{Object, noObject, used, varOf, objectOf}
+use Rattle.rules.specs.Graph.{crossing}
+use Rattle.rules.specs.Rules as ru
+use Rattle.rules.specs.Rules.{Regioned, graph, first}
+use Rattle.laws.specs.GraphLaws.{Alive}
+use Rattle.laws.specs.RulesLaws.{Sound, sound-code}
+use Rattle.layout.specs.declared.Places.{Places}
+use Rattle.layout.specs.declared.Kind.the-variants.{Reference}
+use Rattle.layout.specs.Places.{Room, sizesOf, placesOf, ownerOf, usedIn, slotIn}
+use Rattle.layout.specs.Cells.{headOf, fieldAt, fieldCount, kindAt, pageOf}
+use Rattle.promises.specs.Words.{Words, words, heapOf, Used, refCount}
+use Rattle.promises.specs.Crossing.{other, regionOf}
+use Rattle.promises.specs.Whole.{WholeFor}
+use Rattle.promises.specs.Reading.{used-alive, remember-room}
+use Rattle.promises.specs.Agreed.{heap-stands, back}
+use Rattle.promises.specs.Here.{here-var}
+use Rattle.promises.specs.Questions.{did-asked, did-lacked, did-done, room-crossing}
+use Rattle.promises.specs.Changes.{withObject, renamed-same}
+use Rattle.promises.specs.Slots.{crossesTo}
+use Rattle.promises.specs.Remembering.{Remembered, remembered-full}
+use Rattle.promises.specs.FrameReference.{withReference, storedWords, Followed, reference-named, reference-beyond, reference-stands, reference-fits, reference-full}
+use Rattle.commands.specs.declared.Decoded.the-variants.{Store}
+use Rattle.commands.specs.Decoding.{commandFor}
+use Rattle.commands.specs.Ready.{Ready, variable, placed}
+use Rattle.commands.specs.Does.{Does}
+use Rattle.commands.specs.Objects.{asked-is, within, in-use, is-field, heap-var}
+use Rattle.commands.specs.Fields.{Field}
+
+-- the slot of reference f of x's object, and the region that reference v crosses into there
+abbrev pub slotOf : List ℕ → ℕ → ℕ → ℕ
+slotOf c x f = kindAt Reference c (x - 1) f
+
+abbrev pub crossOf : Places → List ℕ → ℕ → ℕ → ℕ
+crossOf p t x v = crossesTo p t (x - 1) v
+
+-- what a store to that slot asks of the tables
+pub record Storing (p : Places) (c m t : List ℕ) (x f : ℕ) : Type 0 where
+  pub room : Room p (length t)
+  pub field : Field Reference c x f
+  pub page : pageOf (x - 1) < p .pages
+  pub long : 2 * p .entries + 2 ≤ length m
+  pub used : usedIn m ≤ p .entries
+  pub named : 0 < crossOf p t x (getD c (slotOf c x f) 0) → (i : ℕ) × (i < usedIn m) × (slotIn m i ≡ slotOf c x f)
+
+-- v was stored in reference f of x's object, or there was no room
+pub record Stored (p : Places) (c m t : List ℕ) (x f v : ℕ) (c′ m′ : List ℕ) (r : ℕ) : Type 0 where
+  pub entries : Remembered (p .entries) m (slotOf c x f) (crossOf p t x (getD c (slotOf c x f) 0)) (crossOf p t x v) m′ r
+  pub stored : r ≡ 0 → c′ ≡ set c (slotOf c x f) v
+  pub full : (r ≡ 0 → ⊥) → c′ ≡ c
+
+-- y is x as the code widened it, page its page: what the crossing test gives
+pub cross-is : (p : Places) (t : List ℕ) (x v y page : ℕ) {r : ℕ} → y ≡ x → page ≡ pageOf (y - 1) → r ≡ other (ownerOf p t page) (regionOf p t v) → r ≡ crossOf p t x v
+cross-is p t x v y page q e h = h ∙ ap (λ (i : ℕ). other (ownerOf p t i) (regionOf p t v)) (e ∙ ap (λ (i : ℕ). pageOf (i - 1)) q)
+
+-- the slot, what it crossed into and what it will, as the code has them
+pub record Seen (p : Places) (c t : List ℕ) (x f v at was will : ℕ) : Type 0 where
+  pub slot : at ≡ slotOf c x f
+  pub before : was ≡ crossOf p t x (getD c (slotOf c x f) 0)
+  pub after : will ≡ crossOf p t x v
+
+module _ (p : Places) (c m t : List ℕ) (x f v at was will : ℕ) (e : Seen p c t x f v at was will) where
+  pub slot-few : Storing p c m t x f → at < 262144
+  slot-few s = omega (arith, s .field, e .slot)
+
+  pub slot-entry : Storing p c m t x f → 0 < was → (i : ℕ) × (i < usedIn m) × (slotIn m i ≡ at)
+  slot-entry s h = let n = s .named (subst (λ (i : ℕ). 0 < i) (e .before) h) in (n .0, n .1, n .2 ∙ sym (e .slot))
+
+  module _ (m′ : List ℕ) (r : ℕ) (d : Remembered (p .entries) m at was will m′ r) where
+    entries-are : Remembered (p .entries) m (slotOf c x f) (crossOf p t x (getD c (slotOf c x f) 0)) (crossOf p t x v) m′ r
+    entries-are =
+        subst (λ (i : ℕ). Remembered (p .entries) m i (crossOf p t x (getD c (slotOf c x f) 0)) (crossOf p t x v) m′ r) (e .slot)
+        (subst₂ (λ (i j : ℕ). Remembered (p .entries) m at i j m′ r) (e .before) (e .after) d)
+
+    pub stored-full : (r ≡ 0 → ⊥) → Stored p c m t x f v c m′ r
+    stored-full z = record { entries = entries-are; stored = λ h. absurd (z h); full = λ h. refl }
+
+    pub stored-done : r ≡ 0 → {c′ : List ℕ} → c′ ≡ set c (slotOf c x f) v → Stored p c m t x f v c′ m′ 0
+    stored-done z g =
+        record {
+          entries = subst (λ (i : ℕ). Remembered (p .entries) m (slotOf c x f) (crossOf p t x (getD c (slotOf c x f) 0)) (crossOf p t x v) m′ i) z entries-are;
+          stored = λ h. g;
+          full = λ h. absurd (h refl);
+        }
+
+-- x is what variable a of thread u holds, v what variable b holds; q the answer to questions 9 and 10
+module _ (p : Places) (c m t : List ℕ) (r : Ready p c m t) (u a : ℕ) (l : u < p .threads) (n : a < p .variables) (x : ℕ) (e : x ≡ variable p t u a)
+    (b : ℕ) (o : b < p .variables) (f q : ℕ) (g : q ≡ used x f (fieldCount Reference (headOf c (x - 1)))) where
+  abbrev s : Sizes
+  s = sizesOf p
+
+  abbrev w : Words
+  w = words c m t
+
+  abbrev k : WholeFor s w
+  k = r .whole
+
+  abbrev H : Regioned
+  H = heapOf s w
+
+  abbrev y : ℕ
+  y = x - 1
+
+  store-asked : nf.question s (H .heap) (commandFor (Store u a f b)) ≡ q
+  unfolding nf.question nf.operands nf.state ask
+  store-asked =
+      ap (λ (i : Bool). ask i 7 (ask (ltb a (p .variables) && ltb b (p .variables)) 8 (used (varOf s (H .heap) u a) f (length (objectOf (H .heap) (varOf s (H .heap) u a) .refs))))) (lt-ltb u (p .threads) l)
+      ∙ ap₂ (λ (i j : Bool). ask (i && j) 8 (used (varOf s (H .heap) u a) f (length (objectOf (H .heap) (varOf s (H .heap) u a) .refs)))) (lt-ltb a (p .variables) n) (lt-ltb b (p .variables) o)
+      ∙ asked-is p c m t r u a l n x e Reference f q g
+
+  pub store-refused : (q ≡ 0 → ⊥) → Does p c m t (Store u a f b) c m t (refused q)
+  store-refused z = did-asked s w k (commandFor (Store u a f b)) q (omega arith) store-asked
+
+  module _ (z : q ≡ 0) where
+    place : fieldAt y f ≡ slotOf c x f
+    place = omega arith
+
+    inside : f < refCount w y
+    inside = within p c m t r u a l n x e Reference f q g z .1
+
+    there : Used s w y
+    there = in-use p c m t r u a l n x e Reference f q g z
+
+    -- a slot that crosses has its entry
+    pub slot-named : 0 < crossOf p t x (getD c (slotOf c x f) 0) → (i : ℕ) × (i < usedIn m) × (slotIn m i ≡ slotOf c x f)
+    slot-named h =
+        let i = reference-named s w k y f 0 there inside
+        (subst (λ (P : Places). 0 < crossOf P t x (getD c (fieldAt y f) 0)) (r .places) (subst (λ (j : ℕ). 0 < crossOf p t x (getD c j 0)) (sym place) h)) in
+        (i .0, i .1, i .2 ∙ place)
+
+    pub storing : length t < 2 ^ 63 → Storing p c m t x f
+    storing fits =
+        record {
+          room = placed p c m t r fits .room;
+          field = is-field p c m t r u a l n x e Reference f q g z;
+          page = there .page;
+          long = remember-room s w k;
+          used = k .placed .remember .entries .room;
+          named = slot-named;
+        }
+
+    module _ (v : ℕ) (ev : v ≡ variable p t u b) (c′ m′ : List ℕ) (j : ℕ) (d : Stored p c m t x f v c′ m′ j) where
+      followed : Followed s w y f v m′ j
+      followed =
+          subst (λ (i : ℕ). Remembered (s .entries) m i (crossOf (placesOf s) t x (getD c i 0)) (crossOf (placesOf s) t x v) m′ j) (sym place)
+          (subst (λ (P : Places). Remembered (s .entries) m (slotOf c x f) (crossOf P t x (getD c (slotOf c x f) 0)) (crossOf P t x v) m′ j) (r .places) (d .entries))
+
+      abbrev object : Object
+      object = getD (H .heap .objects) y noObject
+
+      abbrev h′ : Regioned
+      h′ = withObject H y (withReference object f v)
+
+      store-after : ru.after s H (commandFor (Store u a f b)) ≡ h′
+      unfolding ru.after ru.homesAfter nf.effect
+      store-after =
+          let i : varOf s (H .heap) u a ≡ suc y = heap-var p c m t r u a l n x e ∙ (let h : x ≡ suc y = omega (arith, within p c m t r u a l n x e Reference f q g z) in h) in
+          ap₂ (λ (i j : ℕ). record { heap = nf.withObject (H .heap) i (record { refs = set (objectOf (H .heap) i .refs) f j; nums = objectOf (H .heap) i .nums }); homes = H .homes }) i (here-var s w u b l o ∙ sym ev)
+
+      sound : Sound h′
+      unfolding ru.after
+      sound = subst Sound store-after (sound-code s H (heap-stands s w k .sound) store u a f b)
+
+      alive : Alive (graph H) y
+      alive = back s w k y (used-alive s w k y there)
+
+      store-room : ru.room s H (commandFor (Store u a f b)) (ru.after s H (commandFor (Store u a f b))) ≡ ask (leb (crossing (graph h′)) (p .entries)) 14 0
+      store-room = room-crossing s H h′ (commandFor (Store u a f b)) store-after (sym (length-set (H .heap .objects) y _)) refl refl
+
+      store-done : j ≡ 0 → Does p c m t (Store u a f b) (set c (fieldAt y f) v) m′ t (done 0)
+      unfolding ru.question nf.value ask
+      store-done zero′ =
+          did-done s w k (commandFor (Store u a f b)) (storedWords s w y f v m′) h′ 0
+          (ap₂ first (store-asked ∙ z) (store-room ∙ ap (λ (i : Bool). ask i 14 0)
+          (le-leb (crossing (graph h′)) (p .entries) (reference-fits s w H (λ i. i) (heap-stands s w k) y alive f v v inside (sym (renamed-same v)) sound m′ j followed zero′))))
+          store-after refl (reference-beyond s w k y f v there inside m′ j followed)
+          (λ so. reference-stands s w H (λ i. i) (heap-stands s w k) y alive f v v inside (sym (renamed-same v)) so m′ j followed zero′)
+
+      store-full : (j ≡ 0 → ⊥) → Does p c m t (Store u a f b) c m t (refused 14)
+      unfolding ask
+      store-full some =
+          did-lacked s w k (commandFor (Store u a f b)) 14 (omega arith) (store-asked ∙ z)
+          (store-room ∙ ap (λ (i : Bool). ask i 14 0) (lt-leb (crossing (graph h′)) (p .entries)
+          (reference-full s w H (λ i. i) (heap-stands s w k) y alive f v v inside (sym (renamed-same v)) sound m′ j
+          (remembered-full (s .entries) m (fieldAt y f) _ _ m′ j followed some))))
+
+      -- the answer's number is that of the store
+      pub store-did : Does p c m t (Store u a f b) c′ m′ t (refused j)
+      store-did = go (ℕ-discrete j 0)
+        where
+          go : Dec (j ≡ 0) → Does p c m t (Store u a f b) c′ m′ t (refused j)
+          go (yes h) =
+              subst (λ (i : ℕ). Does p c m t (Store u a f b) c′ m′ t (refused i)) (sym h)
+              (subst (λ (i : List ℕ). Does p c m t (Store u a f b) i m′ t (done 0)) (sym (d .stored h ∙ ap (λ (i : ℕ). set c i v) (sym place))) (store-done h))
+          go (no h) =
+              let i = remembered-full (p .entries) m (slotOf c x f) _ _ m′ j (d .entries) h in
+              subst (λ (q : ℕ). Does p c m t (Store u a f b) c′ m′ t (refused q)) (sym (i .number))
+              (subst (λ (q : List ℕ). Does p c m t (Store u a f b) q m′ t (refused 14)) (sym (d .full h))
+              (subst (λ (q : List ℕ). Does p c m t (Store u a f b) c q t (refused 14)) (sym (i .same)) (store-full h)))

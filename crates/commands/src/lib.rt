@@ -1,0 +1,31 @@
+// Decoding, and the nine commands that end no epoch, on whole tables. Each promises `DidHere`: the rules' answer for the heap that the
+// words made, and words that stand for the heap that the rules leave.
+use rules::Answer;
+
+pub mod decode;
+pub mod fields;
+pub mod new;
+pub mod obey;
+pub mod store;
+pub mod variables;
+
+// A command whose operands are in range, its thread first; or the number, 6, 7 or 8, of the question that says no.
+pub enum Decoded {
+    Start(usize),
+    End(usize),
+    New(usize, usize, usize, usize),
+    Copy(usize, usize, usize, usize),
+    Clear(usize, usize),
+    Load(usize, usize, usize, usize),
+    Store(usize, usize, usize, usize),
+    Read(usize, usize, usize),
+    Write(usize, usize, usize, u32),
+    Same(usize, usize, usize),
+    Refused(u32),
+}
+
+// The answer to a command; or the thread whose epoch it ends, which is left to the caller.
+pub enum Obeyed {
+    Answered(Answer),
+    Ends(usize),
+}

@@ -1,0 +1,70 @@
+// Code 3: an object is made in its thread's innermost open region, in the control space if none is open.
+ghost use mathlib.Core.Path.{_≡_};
+ghost use Prim.Native.Nat.{ℕ, _+_, _*_, _<_, _≤_};
+ghost use lib.ListN.{length};
+ghost use Rattle.rules.specs.Regions.{regionAt};
+ghost use Rattle.layout.specs.Places.{Room, sizesOf, depthOf};
+ghost use Rattle.promises.specs.NewCell.{Blank};
+ghost use Rattle.commands.specs.Ready.{Ready};
+ghost use Rattle.commands.specs.Does.{Does};
+ghost use Rattle.commands.specs.declared.Decoded.the-variants.{New};
+use crate::variables::write_var;
+use layout::Places;
+use rules::Answer;
+
+// The region that thread t makes objects in.
+fn innermost(p: Places, tables: &[u32], t: usize) -> u32
+    requires { ⌜ Room p (length (now tables)) ⌝ }
+    requires { ⌜ (t < p .threads) × (depthOf (now tables) t ≤ p .depth) ⌝ }
+    ensures { λ r. ⌜ r ≡ regionAt (sizesOf p) t (depthOf (now (tables .entry)) t) ⌝ }
+{
+    let d = layout::tables::depth(p, tables, t);
+    layout::regions::region_at(p, t, layout::wide(d))
+}
+
+// The words of a new object: null references and zero numbers, whatever the cell held.
+fn blank(cells: &mut [u32], cell: usize, references: usize, numbers: usize)
+    requires { ⌜ (cell < 16384) × (16 * cell + 16 ≤ length (now cells)) × (references + numbers ≤ 14) ⌝ }
+    ensures { λ r. ⌜ Blank (now (cells .entry)) cell (16 * references + numbers) (now (cells .exit)) ⌝ }
+{
+    let mut f: usize = 0;
+    while f < 14 {
+        layout::cells::set_field(cells, cell, f, 0);
+        f += 1;
+    }
+    layout::cells::set_head(cells, cell, (16 * references + numbers) as u32);
+    layout::cells::set_work(cells, cell, 0);
+}
+
+// Code 3: a new object with b references and c numbers in variable a. It takes the first unused cell of its region's partly filled page,
+// else of a free page; if there is neither, there are no pages (13).
+pub fn new_object(
+    p: Places,
+    cells: &mut [u32],
+    remember: &[u32],
+    tables: &mut [u32],
+    t: usize,
+    a: usize,
+    b: usize,
+    c: usize,
+) -> Answer
+    requires { ⌜ Ready p (now cells) (now remember) (now tables) ⌝ }
+    requires { ⌜ (t < p .threads) × (a < p .variables) × (b + c ≤ 14) ⌝ }
+    ensures { λ r. ⌜ Does p (now (cells .entry)) (now (remember .entry)) (now (tables .entry)) (New t a b c) (now (cells .exit)) (now (remember .entry)) (now (tables .exit)) r ⌝ }
+{
+    let region = innermost(p, tables, t);
+    let page = pages::find_page(p, tables, region);
+    if p.pages <= page {
+        return Answer {
+            number: 13,
+            value: 0,
+        };
+    }
+    let cell = pages::take_cell(p, tables, page, region);
+    blank(cells, cell, b, c);
+    write_var(p, tables, t, a, (cell + 1) as u32);
+    Answer {
+        number: 0,
+        value: 0,
+    }
+}

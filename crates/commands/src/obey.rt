@@ -1,0 +1,76 @@
+// One command, decoded and done.
+ghost use mathlib.Core.Path.{_≡_};
+ghost use Rattle.commands.specs.Ready.{Ready};
+ghost use Rattle.commands.specs.Obeys.{Obeys};
+use crate::Decoded;
+use crate::Obeyed;
+use crate::decode::decode;
+use crate::fields::load;
+use crate::fields::read;
+use crate::fields::write;
+use crate::new::new_object;
+use crate::store::store;
+use crate::variables::clear;
+use crate::variables::copy;
+use crate::variables::same;
+use crate::variables::start;
+use layout::Places;
+use rules::Answer;
+use rules::Command;
+
+// Every command but an end is answered here; of an end, which changes nothing yet, the thread is given.
+pub fn obey(
+    p: Places,
+    cells: &mut [u32],
+    remember: &mut [u32],
+    tables: &mut [u32],
+    m: Command,
+) -> Obeyed
+    requires { ⌜ Ready p (now cells) (now remember) (now tables) ⌝ }
+    ensures { λ r. ⌜ Obeys p (now (cells .entry)) (now (remember .entry)) (now (tables .entry)) m (now (cells .exit)) (now (remember .exit)) (now (tables .exit)) r ⌝ }
+{
+    let d = decode(p, m);
+    match d {
+        Decoded::Start(t) => Obeyed::Answered(start(p, cells, remember, tables, t)),
+        Decoded::End(t) => Obeyed::Ends(t),
+        Decoded::New(t, a, b, c) => Obeyed::Answered(new_object(
+            p,
+            cells,
+            remember,
+            tables,
+            t,
+            a,
+            b,
+            c,
+        )),
+        Decoded::Copy(t, a, b, c) => Obeyed::Answered(copy(p, cells, remember, tables, t, a, b, c)),
+        Decoded::Clear(t, a) => Obeyed::Answered(clear(p, cells, remember, tables, t, a)),
+        Decoded::Load(t, a, b, c) => Obeyed::Answered(load(p, cells, remember, tables, t, a, b, c)),
+        Decoded::Store(t, a, b, c) => Obeyed::Answered(store(
+            p,
+            cells,
+            remember,
+            tables,
+            t,
+            a,
+            b,
+            c,
+        )),
+        Decoded::Read(t, a, b) => Obeyed::Answered(read(p, cells, remember, tables, t, a, b)),
+        Decoded::Write(t, a, b, c) => Obeyed::Answered(write(
+            p,
+            cells,
+            remember,
+            tables,
+            t,
+            a,
+            b,
+            c,
+        )),
+        Decoded::Same(t, a, b) => Obeyed::Answered(same(p, cells, remember, tables, t, a, b)),
+        Decoded::Refused(q) => Obeyed::Answered(Answer {
+            number: q,
+            value: 0,
+        }),
+    }
+}

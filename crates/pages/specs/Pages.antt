@@ -1,0 +1,72 @@
+-- The page that a region's next object goes to, and the words after it took its cell there.
+use mathlib.Core.Path.{_≡_, refl, sym, ap, _∙_, subst}
+use mathlib.Core.Logic.{_≢_, _⊎_, inl, inr, ⊎-elim}
+use mathlib.Core.List.{List}
+use Prim.Native.Nat.{ℕ, zero, suc, _+_, _-_, _*_, _≤_, _<_}
+use native.Mathlib.Decide.{ℕ-discrete}
+use native.Mathlib.Omega.{arith}
+use lib.ListN.{length, set}
+use Rattle.layout.specs.declared.Places.{Places}
+use Rattle.layout.specs.Places.{ownerAt, usedAt, countAt, ownerOf, usedOf, countOf}
+use Rattle.promises.specs.Whole.{Partial}
+
+-- the partly filled page of region g
+pub record Partly (p : Places) (t : List ℕ) (g page : ℕ) : Type 0 where
+  pub low : page < p .pages
+  pub partial : Partial p t g page
+
+-- g has no partly filled page below n; the page is the last free one below n, the number of pages if there is none
+pub record Fresh (p : Places) (t : List ℕ) (g n page : ℕ) : Type 0 where
+  pub none : (x : ℕ) → x < n → ownerOf p t x ≡ g → 16 ≤ usedOf p t x
+  pub last : (x : ℕ) → x < n → ownerOf p t x ≡ 0 → (x ≤ page) × (page < p .pages)
+  pub free : page < p .pages → ownerOf p t page ≡ 0
+
+abbrev pub Found : Places → List ℕ → ℕ → ℕ → Type 0
+Found p t g page = Partly p t g page ⊎ Fresh p t g (p .pages) page
+
+-- the tables after an object of region g took the first unused cell of a page
+abbrev pub taken : Places → List ℕ → ℕ → ℕ → List ℕ
+taken p t page g = set (set (set t (ownerAt p page) g) (usedAt p page) (usedOf p t page + 1)) (countAt p g) (countOf p t g + 1)
+
+-- ---- a turn of the search
+
+upto : (f : ℕ) {X : ℕ → Type 0} → ((k : ℕ) → k < f → X k) → X f → (k : ℕ) → k < f + 1 → X k
+upto f {X} below at k l = go (ℕ-discrete k f)
+  where
+    go : Dec (k ≡ f) → X k
+    go (yes e) = subst X (sym e) at
+    go (no n) = below k (omega arith)
+
+pub fresh-start : (p : Places) (t : List ℕ) (g : ℕ) → Fresh p t g 0 (p .pages)
+fresh-start p t g =
+    record {
+      none = λ x l. absurd (let z : ⊥ = omega arith in z);
+      last = λ x l. absurd (let z : ⊥ = omega arith in z);
+      free = λ l. absurd (let z : ⊥ = omega arith in z);
+    }
+
+-- past a page that is not g's, or is full; w is its owner as the code read it
+pub fresh-next : {p : Places} {t : List ℕ} {g n page page′ : ℕ} (w : ℕ) → w ≡ ownerOf p t n → n < p .pages → (w ≡ g → 16 ≤ usedOf p t n)
+    → ((w ≡ 0) × (page′ ≡ n)) ⊎ ((w ≢ 0) × (page′ ≡ page)) → Fresh p t g n page → Fresh p t g (n + 1) page′
+fresh-next {p} {t} {g} {n} {page} {page′} w is low full (inl e) h =
+    record {
+      none = upto n {X = λ x. ownerOf p t x ≡ g → 16 ≤ usedOf p t x} (h .none) (λ z. full (is ∙ z));
+      last = λ x l z. (omega (arith, e .1), omega (arith, e .1));
+      free = λ l. subst (λ (x : ℕ). ownerOf p t x ≡ 0) (sym (e .1)) (sym is ∙ e .0);
+    }
+fresh-next {p} {t} {g} {n} {page} {page′} w is low full (inr e) h =
+    subst (λ (x : ℕ). Fresh p t g (n + 1) x) (sym (e .1))
+    (record {
+      none = upto n {X = λ x. ownerOf p t x ≡ g → 16 ≤ usedOf p t x} (h .none) (λ z. full (is ∙ z));
+      last = upto n {X = λ x. ownerOf p t x ≡ 0 → (x ≤ page) × (page < p .pages)} (h .last) (λ z. absurd (e .0 (is ∙ z)));
+      free = h .free;
+    })
+
+-- the three stores one after the other, with the words as the code has them
+pub took : (p : Places) (t : List ℕ) (page : ℕ) {t₁ t₂ t₃ : List ℕ} {g n used objects : ℕ} → n ≡ g → used ≡ usedOf p t page → objects ≡ countOf p t n
+    → t₁ ≡ set t (ownerAt p page) g → t₂ ≡ set t₁ (usedAt p page) (used + 1) → t₃ ≡ set t₂ (countAt p n) (objects + 1) → t₃ ≡ taken p t page g
+took p t page {t₁} {t₂} {t₃} {g} {n} {used} {objects} en eu eo e₁ e₂ e₃ =
+    e₃ ∙ ap (λ (l : List ℕ). set l (countAt p n) (objects + 1)) (e₂ ∙ ap (λ (l : List ℕ). set l (usedAt p page) (used + 1)) e₁)
+    ∙ ap (λ (u : ℕ). set (set (set t (ownerAt p page) g) (usedAt p page) (u + 1)) (countAt p n) (objects + 1)) eu
+    ∙ ap (λ (k : ℕ). set (set (set t (ownerAt p page) g) (usedAt p page) (usedOf p t page + 1)) (countAt p n) (k + 1)) eo
+    ∙ ap (λ (k : ℕ). set (set (set t (ownerAt p page) g) (usedAt p page) (usedOf p t page + 1)) (countAt p k) (countOf p t k + 1)) en
