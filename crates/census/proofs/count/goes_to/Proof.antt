@@ -1,0 +1,22 @@
+-- Word 1 is compared with g.
+use Prim.Native.Nat.{ℕ, _≤_, _<_, _+_, _-_, _*_, _/_}
+use mathlib.Core.Path.{_≡_, refl, sym, ap, ap₂, _∙_, subst}
+use native.Mathlib.Omega.{arith}
+use borrow.Author.Needs.{needs}
+use Rattle.census.specs.Counted.{goes-yes, goes-no}
+use Rattle.census.proofs.count.goes_to.Statement.{statement}
+use Rattle.census.proofs.count.goes_to.Tie as tie
+
+work-requires : tie.Need-work-requires
+work-requires c κs = search needs
+
+returns : tie.Need-returns
+returns c =
+    goes-yes (c .before .before .before .args .cells .now) (c .before .before .before .args .g) (c .before .before .before .args .c) _ (c .before .work .ensures) (c .if1 .taken)
+
+returns-2 : tie.Need-returns-2
+returns-2 c =
+    goes-no (c .before .before .before .args .cells .now) (c .before .before .before .args .g) (c .before .before .before .args .c) _ (c .before .work .ensures) (c .if1 .left)
+
+pub goes-to-spec : {M : Type 1} → statement M
+goes-to-spec = tie.close (tie.spec work-requires returns returns-2)

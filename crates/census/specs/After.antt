@@ -1,0 +1,120 @@
+-- What would cross after the end of r, on the old cells: an object of r lies then where its word 1 says, any other where it lies.
+use mathlib.Core.Path.{_≡_, refl, sym, ap, ap₂, _∙_, subst}
+use mathlib.Core.Bool.{Bool, true, false, cond, not, _&&_}
+use mathlib.Core.List.{List}
+use Prim.Native.Nat.{ℕ, zero, suc, _+_, _-_, _*_, _/_, _%_, _≤_, _<_}
+use native.Mathlib.Omega.{arith}
+use lib.Dec.{eqb}
+use lib.ListN.{length, getD}
+use borrow.Author.Tests.{eq-eqb, ne-eqb}
+use Rattle.lists.specs.Counting.{sum, sum-high}
+use Rattle.layout.specs.declared.Places.{Places}
+use Rattle.layout.specs.Places.{ownerOf, usedIn, slotIn}
+use Rattle.layout.specs.Cells.{headOf, workOf, fieldOf, pageOf, cellOf}
+use Rattle.mark.specs.Marks.{owner}
+use Rattle.census.specs.Counted.{overMarked}
+
+-- the region of a cell after the end
+unfoldable pub homeAfter : Places → List ℕ → List ℕ → ℕ → ℕ → ℕ
+homeAfter p W T r c = cond (eqb (owner p T c) r) (workOf W c) (owner p T c)
+
+-- a slot of an object in region `from` that points into region h
+abbrev pub crossOne : ℕ → ℕ → ℕ
+crossOne «from» h = cond (not (eqb «from» h) && not (eqb h 1)) 1 0
+
+-- 1 if reference x crosses from that region after the end, else 0
+unfoldable pub crossAfter : Places → List ℕ → List ℕ → ℕ → ℕ → ℕ → ℕ
+crossAfter p W T r «from» x = cond (eqb x 0) 0 (crossOne «from» (homeAfter p W T r (x - 1)))
+
+-- the slots of survivor c that cross
+unfoldable pub cellCrosses : Places → List ℕ → List ℕ → ℕ → ℕ → ℕ
+cellCrosses p W T r c = sum (λ f. crossAfter p W T r (workOf W c) (fieldOf W c f)) (headOf W c / 16)
+
+-- 1 if the slot at word q lies outside r and crosses, else 0
+unfoldable pub slotCrosses : Places → List ℕ → List ℕ → ℕ → ℕ → ℕ
+slotCrosses p W T r q = cond (eqb (owner p T (cellOf q)) r) 0 (crossAfter p W T r (owner p T (cellOf q)) (getD W q 0))
+
+-- remembered slots outside r, and the survivors' slots
+abbrev pub entriesCross : Places → List ℕ → List ℕ → List ℕ → ℕ → ℕ
+entriesCross p W m T r = sum (λ i. slotCrosses p W T r (slotIn m i)) (usedIn m)
+
+abbrev pub crossingAfter : Places → List ℕ → List ℕ → List ℕ → ℕ → ℕ
+crossingAfter p W m T r = entriesCross p W m T r + overMarked p T (cellCrosses p W T r) (p .pages)
+
+-- ---- as the code decides it; page, q, v and h are what it read
+
+module _ (p : Places) (W T : List ℕ) (r : ℕ) where
+  pub after-other : (c page q : ℕ) → page ≡ pageOf c → q ≡ ownerOf p T page → (q ≡ r → ⊥) → q ≡ homeAfter p W T r c
+  unfolding homeAfter
+  after-other c page q ep e n =
+      let f : q ≡ owner p T c = e ∙ ap (λ (z : ℕ). ownerOf p T z) ep in
+      f ∙ sym (ap (λ (b : Bool). cond b (workOf W c) (owner p T c)) (ne-eqb (owner p T c) r (λ z. n (f ∙ z))))
+
+  pub after-moved : (c page q v : ℕ) → page ≡ pageOf c → q ≡ ownerOf p T page → q ≡ r → v ≡ workOf W c → v ≡ homeAfter p W T r c
+  unfolding homeAfter
+  after-moved c page q v ep e n ev =
+      let f : q ≡ owner p T c = e ∙ ap (λ (z : ℕ). ownerOf p T z) ep in
+      ev ∙ sym (ap (λ (b : Bool). cond b (workOf W c) (owner p T c)) (eq-eqb (owner p T c) r (sym f ∙ n)))
+
+  pub cross-null : («from» x : ℕ) → x ≡ 0 → 0 ≡ crossAfter p W T r «from» x
+  unfolding crossAfter
+  cross-null «from» x z = sym (ap (λ (b : Bool). cond b 0 (crossOne «from» (homeAfter p W T r (x - 1)))) (eq-eqb x 0 z))
+
+  -- y is the reference as a word of the code
+  cross-some : («from» x y h : ℕ) → (x ≡ 0 → ⊥) → y ≡ x → h ≡ homeAfter p W T r (y - 1) → crossAfter p W T r «from» x ≡ crossOne «from» h
+  unfolding crossAfter
+  cross-some «from» x y h n ey e =
+      ap (λ (b : Bool). cond b 0 (crossOne «from» (homeAfter p W T r (x - 1)))) (ne-eqb x 0 n)
+      ∙ ap (crossOne «from») (ap (λ (z : ℕ). homeAfter p W T r (z - 1)) (sym ey) ∙ sym e)
+
+  pub cross-inside : («from» x y h : ℕ) → (x ≡ 0 → ⊥) → y ≡ x → h ≡ homeAfter p W T r (y - 1) → h ≡ «from» → 0 ≡ crossAfter p W T r «from» x
+  cross-inside «from» x y h n ey e d =
+      sym (cross-some «from» x y h n ey e ∙ ap (λ (b : Bool). cond (not b && not (eqb h 1)) 1 0) (eq-eqb «from» h (sym d)))
+
+  pub cross-control : («from» x y h : ℕ) → (x ≡ 0 → ⊥) → y ≡ x → h ≡ homeAfter p W T r (y - 1) → (h ≡ «from» → ⊥) → h ≡ 1 → 0 ≡ crossAfter p W T r «from» x
+  cross-control «from» x y h n ey e d c =
+      sym
+      (cross-some «from» x y h n ey e
+      ∙ ap₂ (λ (a b : Bool). cond (not a && not b) 1 0) (ne-eqb «from» h (λ z. d (sym z))) (eq-eqb h 1 c))
+
+  pub cross-out : («from» x y h : ℕ) → (x ≡ 0 → ⊥) → y ≡ x → h ≡ homeAfter p W T r (y - 1) → (h ≡ «from» → ⊥) → (h ≡ 1 → ⊥) → 1 ≡ crossAfter p W T r «from» x
+  cross-out «from» x y h n ey e d c =
+      sym
+      (cross-some «from» x y h n ey e
+      ∙ ap₂ (λ (a b : Bool). cond (not a && not b) 1 0) (ne-eqb «from» h (λ z. d (sym z))) (ne-eqb h 1 c))
+
+  cond-le : (b : Bool) (x : ℕ) → x ≤ 1 → cond b 0 x ≤ 1
+  cond-le true x l = omega arith
+  cond-le false x l = l
+
+  one-le : (b : Bool) → cond b 1 0 ≤ 1
+  one-le true = omega arith
+  one-le false = omega arith
+
+  pub cross-le : («from» x : ℕ) → crossAfter p W T r «from» x ≤ 1
+  unfolding crossAfter
+  cross-le «from» x = cond-le (eqb x 0) _ (one-le (not (eqb «from» (homeAfter p W T r (x - 1))) && not (eqb (homeAfter p W T r (x - 1)) 1)))
+
+  pub slot-le : (q : ℕ) → slotCrosses p W T r q ≤ 1
+  unfolding slotCrosses
+  slot-le q = cond-le (eqb (owner p T (cellOf q)) r) _ (cross-le (owner p T (cellOf q)) (getD W q 0))
+
+  -- the slot at q, as the code came to it
+  pub slot-in : (q a page o : ℕ) → a ≡ cellOf q → page ≡ pageOf a → o ≡ ownerOf p T page → o ≡ r → 0 ≡ slotCrosses p W T r q
+  unfolding slotCrosses
+  slot-in q a page o ea ep eo n =
+      let f : o ≡ owner p T (cellOf q) = eo ∙ ap (λ (z : ℕ). ownerOf p T z) (ep ∙ ap pageOf ea) in
+      sym (ap (λ (b : Bool). cond b 0 (crossAfter p W T r (owner p T (cellOf q)) (getD W q 0))) (eq-eqb (owner p T (cellOf q)) r (sym f ∙ n)))
+
+  pub slot-out : (q a page o v x : ℕ) → a ≡ cellOf q → page ≡ pageOf a → o ≡ ownerOf p T page → (o ≡ r → ⊥) → v ≡ getD W q 0 → x ≡ crossAfter p W T r o v
+      → x ≡ slotCrosses p W T r q
+  unfolding slotCrosses
+  slot-out q a page o v x ea ep eo n ev ex =
+      let f : o ≡ owner p T (cellOf q) = eo ∙ ap (λ (z : ℕ). ownerOf p T z) (ep ∙ ap pageOf ea) in
+      ex ∙ ap₂ (crossAfter p W T r) f ev
+      ∙ sym (ap (λ (b : Bool). cond b 0 (crossAfter p W T r (owner p T (cellOf q)) (getD W q 0))) (ne-eqb (owner p T (cellOf q)) r (λ z. n (f ∙ z))))
+
+  -- f is past the last slot
+  pub cells-cross : (c f n : ℕ) → f ≡ headOf W c / 16 → n ≡ sum (λ i. crossAfter p W T r (workOf W c) (fieldOf W c i)) f → n ≡ cellCrosses p W T r c
+  unfolding cellCrosses
+  cells-cross c f n e d = d ∙ ap (sum (λ i. crossAfter p W T r (workOf W c) (fieldOf W c i))) e

@@ -1,0 +1,153 @@
+-- Sums over the marked cells, page by page and set bit by set bit; and how many survivors go to a region.
+use mathlib.Core.Path.{_≡_, refl, sym, ap, ap₂, _∙_, subst}
+use mathlib.Core.Bool.{Bool, true, false, cond}
+use mathlib.Core.List.{List}
+use Prim.Native.Nat.{ℕ, zero, suc, _+_, _-_, _*_, _/_, _%_, _^_, _≤_, _<_}
+use native.Mathlib.Omega.{arith}
+use native.Mathlib.Decide.{ℕ-discrete, decLt}
+use native.Mathlib.Nat.{one-mul, zero-mul, mul-le-mul}
+use lib.Count.{ones, trailingZeros}
+use lib.Dec.{eqb}
+use lib.ListN.{length, getD}
+use borrow.Author.Tests.{eq-eqb, ne-eqb, eqb-true}
+use Rattle.lists.specs.Counting.{bit, bit-le, sum, sum-same, sum-high, sum-blocks}
+use Rattle.lists.specs.Bits.{bitAt, bit-lt, Lowest, bitSum, bit-sum-clear, bit-sum-zero}
+use Rattle.rules.specs.declared.Sizes.{Sizes}
+use Rattle.rules.specs.Graph.{target}
+use Rattle.laws.specs.Counts.{landed}
+use Rattle.layout.specs.declared.Places.{Places}
+use Rattle.layout.specs.Places.{placesOf, markOf}
+use Rattle.layout.specs.Cells.{workOf, pageOf, placeOf, cellOn}
+use Rattle.promises.specs.Words.{Words, Used, ownerIn, homeIn, graphOf}
+use Rattle.promises.specs.Whole.{WholeFor}
+use Rattle.mark.specs.Marks.{marked}
+use Rattle.mark.specs.Reached.{home-cell, cell-home}
+use Rattle.mark.specs.Survivors.{Marked}
+use Rattle.mark.specs.Unmark.{Walked, walk-next, walk-end, none-left}
+
+-- the sum of f over the set bits of a working word
+unfoldable pub overBits : (ℕ → ℕ) → ℕ → ℕ
+overBits f w = bitSum 16 w f
+
+-- over the cells of a page whose bit is set in w
+abbrev pub onPage : (ℕ → ℕ) → ℕ → ℕ → ℕ
+onPage f page w = overBits (λ i. f (cellOn page i)) w
+
+-- and over all marked cells
+abbrev pub overMarked : Places → List ℕ → (ℕ → ℕ) → ℕ → ℕ
+overMarked p T f n = sum (λ page. onPage f page (markOf p T page)) n
+
+-- cell by cell
+pub over-cells : (p : Places) (T : List ℕ) (f : ℕ → ℕ) → overMarked p T f (p .pages) ≡ sum (λ c. marked p T c * f c) (16 * p .pages)
+unfolding overBits
+over-cells p T f =
+    sym
+    (sum-blocks 16 (λ c. marked p T c * f c) (λ page. onPage f page (markOf p T page)) (p .pages)
+    (λ page l.
+    sum-same (λ i. marked p T (cellOn page i) * f (cellOn page i)) (λ i. bitAt (markOf p T page) i * f (cellOn page i)) 16
+    (λ i h.
+    let d : pageOf (cellOn page i) ≡ page = omega arith in
+    let m : placeOf (cellOn page i) ≡ i = omega arith in
+    ap₂ (λ (x y : ℕ). bitAt (markOf p T x) y * f (cellOn page i)) d m)))
+
+-- no sum is too great for the code
+pub page-high : (f : ℕ → ℕ) (m : ℕ) → ((c : ℕ) → f c ≤ m) → (page w : ℕ) → onPage f page w ≤ m * 16
+unfolding overBits
+page-high f m h page w =
+    sum-high (λ i. bitAt w i * f (cellOn page i)) m 16
+    (λ i l. go (f (cellOn page i)) (h (cellOn page i)) (bitAt w i) (bit-lt i w))
+  where
+    go : (x : ℕ) → x ≤ m → (b : ℕ) → b < 2 → b * x ≤ m
+    go x l zero b = omega (arith, zero-mul x)
+    go x l (suc zero) b = omega (arith, one-mul x)
+    go x l (suc (suc n)) b = absurd (let z : ⊥ = omega arith in z)
+
+bits-clear : (f : ℕ → ℕ) (w i : ℕ) → bitAt w i ≡ 1 → i < 16 → overBits f w ≡ overBits f (w - 2 ^ i) + f i
+unfolding overBits
+bits-clear f w i on l = bit-sum-clear 16 w i f on l
+
+bits-none : (f : ℕ → ℕ) → overBits f 0 ≡ 0
+unfolding overBits
+bits-none f = bit-sum-zero 16 f
+
+-- ---- the walk over the set bits of w: n is the sum of f over those before left
+
+pub record Summed (f : ℕ → ℕ) (w left n : ℕ) : Type 0 where
+  pub whole : n + overBits f left ≡ overBits f w
+
+pub summed-start : (f : ℕ → ℕ) (w : ℕ) → Summed f w w 0
+summed-start f w = record { whole = omega arith }
+
+-- left′, n′ and x are as the code has them
+pub summed-next : {f : ℕ → ℕ} {w left n : ℕ} (i left′ n′ x : ℕ) → Lowest left i → left′ ≡ left - 2 ^ i → x ≡ f i → n′ ≡ n + x → Summed f w left n → Summed f w left′ n′
+summed-next {f} {w} {left} {n} i left′ n′ x l e ex en h =
+    subst (λ (z : ℕ). Summed f w z n′) (sym e) (record { whole = omega (arith, h .whole, bits-clear f left i (l .on) (l .lt)) })
+
+pub summed-end : {f : ℕ → ℕ} {w left n k : ℕ} → Walked w left k → ones w ≤ k → Summed f w left n → n ≡ overBits f w
+summed-end {f} {w} {left} {n} u l h =
+    let z : left ≡ 0 = none-left left (u .small) (walk-end u l) in omega (arith, h .whole, ap (overBits f) z, bits-none f)
+
+-- ---- survivors that go to g
+
+unfoldable pub goesTo : List ℕ → ℕ → ℕ → ℕ
+goesTo W g c = bit (eqb (workOf W c) g)
+
+pub goes-le : (W : List ℕ) (g c : ℕ) → goesTo W g c ≤ 1
+unfolding goesTo
+goes-le W g c = bit-le (eqb (workOf W c) g)
+
+-- v is word 1 as the code read it
+pub goes-yes : (W : List ℕ) (g c v : ℕ) → v ≡ workOf W c → v ≡ g → 1 ≡ goesTo W g c
+unfolding goesTo
+goes-yes W g c v e d = sym (ap bit (eq-eqb (workOf W c) g (sym e ∙ d)))
+
+pub goes-no : (W : List ℕ) (g c v : ℕ) → v ≡ workOf W c → (v ≡ g → ⊥) → 0 ≡ goesTo W g c
+unfolding goesTo
+goes-no W g c v e n = sym (ap bit (ne-eqb (workOf W c) g (λ d. n (e ∙ d))))
+
+-- after marking, as many as the rules count
+pub goes-landed : (s : Sizes) (w : Words) (k : WholeFor s w) (r : ℕ) (w′ : Words) → Marked s w r w′ → 0 < r → (g : ℕ) → 0 < g
+    → overMarked (placesOf s) (w′ .tables) (goesTo (w′ .cells) g) (s .pages) ≡ landed s (graphOf s w) r g
+unfolding landed goesTo
+goes-landed s w k r w′ m rpos g pos =
+    over-cells (placesOf s) (w′ .tables) (goesTo (w′ .cells) g)
+    ∙ sum-same (λ c. marked (placesOf s) (w′ .tables) c * goesTo (w′ .cells) g c)
+    (λ x. cond (eqb (homeIn s w x) r) (cond (eqb (target s (graphOf s w) r x) g) 1 0) 0) (16 * s .pages)
+    (λ c l. go c l (ℕ-discrete (marked (placesOf s) (w′ .tables) c) 1) (ℕ-discrete (homeIn s w c) r))
+  where
+    one : (b : Bool) → bit b ≡ cond b 1 0
+    one true = refl
+    one false = refl
+
+    go : (c : ℕ) → c < 16 * s .pages → Dec (marked (placesOf s) (w′ .tables) c ≡ 1) → Dec (homeIn s w c ≡ r)
+        → marked (placesOf s) (w′ .tables) c * bit (eqb (workOf (w′ .cells) c) g) ≡ cond (eqb (homeIn s w c) r) (cond (eqb (target s (graphOf s w) r c) g) 1 0) 0
+    go c l (yes on) (no h) = let u = m .only c (omega arith) on in absurd (h (cell-home s w k c r (u .0) (u .1)))
+    go c l (yes on) (yes h) =
+        let u = m .only c (omega arith) on in
+        ap₂ (λ (b x : ℕ). b * bit (eqb x g)) on (m .goes c (u .0) (u .1)) ∙ one-mul _ ∙ one (eqb (target s (graphOf s w) r c) g)
+        ∙ sym (ap (λ (b : Bool). cond b (cond (eqb (target s (graphOf s w) r c) g) 1 0) 0) (eq-eqb (homeIn s w c) r h))
+    go c l (no off) (no h) =
+        ap (λ (b : ℕ). b * bit (eqb (workOf (w′ .cells) c) g)) (zero-bit c off) ∙ zero-mul _
+        ∙ sym (ap (λ (b : Bool). cond b (cond (eqb (target s (graphOf s w) r c) g) 1 0) 0) (ne-eqb (homeIn s w c) r h))
+      where
+        zero-bit : (c : ℕ) → (marked (placesOf s) (w′ .tables) c ≡ 1 → ⊥) → marked (placesOf s) (w′ .tables) c ≡ 0
+        zero-bit c off = omega (arith, bit-lt (placeOf c) (markOf (placesOf s) (w′ .tables) (pageOf c)))
+    go c l (no off) (yes h) =
+        let u = home-cell s w k c r h rpos in
+        let z : marked (placesOf s) (w′ .tables) c ≡ 0 = omega (arith, bit-lt (placeOf c) (markOf (placesOf s) (w′ .tables) (pageOf c))) in
+        ap (λ (b : ℕ). b * bit (eqb (workOf (w′ .cells) c) g)) z ∙ zero-mul _
+        ∙ sym
+        (ap (λ (b : Bool). cond b (cond (eqb (target s (graphOf s w) r c) g) 1 0) 0) (eq-eqb (homeIn s w c) r h)
+        ∙ ap (λ (b : Bool). cond b 1 0) (ne-eqb (target s (graphOf s w) r c) g (λ (e : target s (graphOf s w) r c ≡ g). off (m .survives c (u .0) (u .1) (omega arith)))))
+
+-- ---- as the code has it
+
+pub walk-turn : {w left k : ℕ} (i left′ : ℕ) → Walked w left k → Lowest left i → left′ ≡ left - 2 ^ i → Walked w left′ (k + 1)
+walk-turn {w} {k = k} i left′ u l e = subst (λ (z : ℕ). Walked w z (k + 1)) (sym e) (walk-next i u l)
+
+-- the cell of a bit that is set in its page's working word is marked
+pub marked-on : (p : Places) (T : List ℕ) (page i w : ℕ) → i < 16 → w ≡ markOf p T page → bitAt w i ≡ 1 → marked p T (cellOn page i) ≡ 1
+marked-on p T page i w l e on =
+    let d : pageOf (cellOn page i) ≡ page = omega arith in
+    let m : placeOf (cellOn page i) ≡ i = omega arith in
+    ap₂ (λ (x y : ℕ). bitAt (markOf p T x) y) d m ∙ ap (λ (x : ℕ). bitAt x i) (sym e) ∙ on

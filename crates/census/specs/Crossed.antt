@@ -1,0 +1,335 @@
+-- After marking, the code's count of slots that would cross is the rules': remembered slots outside r, and the survivors' own.
+use mathlib.Core.Path.{_≡_, refl, sym, ap, ap₂, _∙_, subst}
+use mathlib.Core.Bool.{Bool, true, false, cond, not, _&&_}
+use mathlib.Core.List.{List}
+use Prim.Native.Nat.{ℕ, zero, suc, _+_, _-_, _*_, _/_, _%_, _≤_, _<_}
+use native.Mathlib.Omega.{arith}
+use native.Mathlib.Decide.{ℕ-discrete, decLt}
+use native.Mathlib.Nat.{one-mul, zero-mul}
+use lib.Dec.{eqb, ltb}
+use lib.ListN.{length, getD}
+use borrow.Author.Tests.{eq-eqb, ne-eqb, lt-ltb, le-ltb, ltb-true}
+use Rattle.lists.specs.Counting.{sum, sum-same, sum-none, sum-plus, sum-add, sum-blocks}
+use Rattle.lists.specs.OneToOne.{Paired, sum-paired}
+use Rattle.lists.specs.Bits.{bit-lt}
+use Rattle.rules.specs.declared.Sizes.{Sizes}
+use Rattle.rules.specs.Graph.{Graph, target, ended, crossing, crosses}
+use Rattle.laws.specs.EndLaws.{home-stayed, home-went}
+use Rattle.laws.specs.Counts.{crossIn, crossAt, crossing-sum, crossRef}
+use Rattle.layout.specs.declared.Places.{Places}
+use Rattle.layout.specs.Places.{placesOf, markOf, usedIn, slotIn, Room}
+use Rattle.layout.specs.Cells.{headOf, workOf, fieldAt, fieldOf, pageOf, placeOf, cellOf, wordOf}
+use Rattle.promises.specs.Words.{Words, Used, ownerIn, homeIn, refCount, refsIn, graphOf}
+use Rattle.promises.specs.Whole.{WholeFor, IsRef}
+use Rattle.promises.specs.Crossing.{other, regionOf, crossTo}
+use Rattle.promises.specs.Crossings.{cross-in-sum}
+use Rattle.promises.specs.Slots.{Slot, region-of, slot-cross, cross-slot, field-slot}
+use Rattle.promises.specs.Reading.{used-home, used-owned, used-alive, alive-used, length-refs, getD-refs}
+use Rattle.mark.specs.Marks.{owner, marked, Kept, kept-refs, kept-field, kept-owner}
+use Rattle.mark.specs.Reached.{home-cell, cell-home, is-other}
+use Rattle.mark.specs.Survivors.{Marked, marked-kept}
+use Rattle.census.specs.Counted.{overMarked, over-cells}
+use Rattle.census.specs.After.{homeAfter, crossOne, crossAfter, cellCrosses, slotCrosses, entriesCross, crossingAfter}
+
+module _ (s : Sizes) (w : Words) (k : WholeFor s w) (space : Room (placesOf s) (length (w .tables))) (r : ℕ) (pos : 1 < r) (w′ : Words) (M : Marked s w r w′) where
+  abbrev p : Places
+  p = placesOf s
+
+  abbrev g : Graph
+  g = graphOf s w
+
+  abbrev h : Graph
+  h = ended s g r
+
+  kept : Kept p (w .cells) (w .tables) (w′ .cells) (w′ .tables)
+  kept = marked-kept s w k r w′ M
+
+  ended-refs : (x : ℕ) → h .refs x ≡ refsIn w x
+  unfolding ended
+  ended-refs x = refl
+
+  ended-count : h .count ≡ 16 * s .pages
+  unfolding ended
+  ended-count = refl
+
+  few : (x : ℕ) → Used s w x → refCount w x ≤ 14
+  few x u = omega (arith, k .placed .formed x u .head)
+
+  -- ---- where objects lie afterwards
+
+  owner-now : (x : ℕ) → Used s w x → owner p (w′ .tables) x ≡ homeIn s w x
+  owner-now x u = kept-owner kept space x (u .page) ∙ sym (used-home s w k x u)
+
+  home-after : (x : ℕ) → Used s w x → homeAfter p (w′ .cells) (w′ .tables) r x ≡ h .home x
+  unfolding homeAfter
+  home-after x u = go (ℕ-discrete (homeIn s w x) r)
+    where
+      go : Dec (homeIn s w x ≡ r) → cond (eqb (owner p (w′ .tables) x) r) (workOf (w′ .cells) x) (owner p (w′ .tables) x) ≡ h .home x
+      go (yes e) =
+          ap (λ (b : Bool). cond b (workOf (w′ .cells) x) (owner p (w′ .tables) x)) (eq-eqb (owner p (w′ .tables) x) r (owner-now x u ∙ e))
+          ∙ M .goes x u (sym (used-home s w k x u) ∙ e) ∙ sym (home-went s g r x e)
+      go (no n) =
+          ap (λ (b : Bool). cond b (workOf (w′ .cells) x) (owner p (w′ .tables) x)) (ne-eqb (owner p (w′ .tables) x) r (λ z. n (sym (owner-now x u) ∙ z)))
+          ∙ owner-now x u ∙ sym (home-stayed s g r x n)
+
+  -- ---- one slot of object x
+
+  cross-one : (x v : ℕ) → IsRef p (w .tables) v → crossRef h x v ≡ crossAfter p (w′ .cells) (w′ .tables) r (h .home x) v
+  unfolding crossAfter
+  cross-one x zero f = refl
+  cross-one x (suc y) f =
+      let y′ : suc y - 1 ≡ y = omega arith in
+      let u : Used s w y = subst (Used s w) y′ (f (omega arith)) in
+      sym
+      (ap (λ (b : Bool). cond b 0 (crossOne (h .home x) (homeAfter p (w′ .cells) (w′ .tables) r (suc y - 1)))) (ne-eqb (suc y) 0 (λ (z : suc y ≡ 0). omega arith))
+      ∙ ap (λ (z : ℕ). crossOne (h .home x) (homeAfter p (w′ .cells) (w′ .tables) r z)) y′ ∙ ap (crossOne (h .home x)) (home-after y u))
+
+  -- ---- all slots of an object that is in use
+
+  module _ (x : ℕ) (u : Used s w x) where
+    slots-sum : crossIn h x (refsIn w x) ≡ sum (λ f. crossAfter p (w′ .cells) (w′ .tables) r (h .home x) (fieldOf (w′ .cells) x f)) (refCount w x)
+    slots-sum =
+        cross-in-sum h x (refsIn w x) ∙ ap (sum (λ f. crossRef h x (getD (refsIn w x) f 0))) (length-refs s w k x u)
+        ∙ sum-same (λ f. crossRef h x (getD (refsIn w x) f 0)) (λ f. crossAfter p (w′ .cells) (w′ .tables) r (h .home x) (fieldOf (w′ .cells) x f)) (refCount w x)
+        (λ f l.
+        let v : getD (refsIn w x) f 0 ≡ fieldOf (w .cells) x f = getD-refs w x f l in
+        let l′ : f < refCount w x = l in
+        ap (crossRef h x) v ∙ cross-one x (fieldOf (w .cells) x f) (k .placed .references x u f l)
+        ∙ ap (crossAfter p (w′ .cells) (w′ .tables) r (h .home x)) (sym (kept-field kept x f (omega (arith, few x u)))))
+
+    -- what the rules count of it
+    counted : (h .home x ≡ 0 → ⊥) → crossAt h x ≡ crossIn h x (refsIn w x)
+    unfolding crossAt
+    counted n = ap (λ (b : Bool). cond b 0 (crossIn h x (h .refs x))) (ne-eqb (h .home x) 0 n) ∙ ap (crossIn h x) (ended-refs x)
+
+  gone : (x : ℕ) → h .home x ≡ 0 → crossAt h x ≡ 0
+  unfolding crossAt
+  gone x z = ap (λ (b : Bool). cond b 0 (crossIn h x (h .refs x))) (eq-eqb (h .home x) 0 z)
+
+  -- ---- the survivors' slots
+
+  abbrev inside : ℕ → ℕ
+  inside x = cond (eqb (homeIn s w x) r) (crossAt h x) 0
+
+  abbrev outside : ℕ → ℕ
+  outside x = cond (eqb (homeIn s w x) r) 0 (crossAt h x)
+
+  zero-bit : (c : ℕ) → (marked p (w′ .tables) c ≡ 1 → ⊥) → marked p (w′ .tables) c ≡ 0
+  zero-bit c off = omega (arith, bit-lt (placeOf c) (markOf p (w′ .tables) (pageOf c)))
+
+  survivor : (x : ℕ) → x < 16 * s .pages → marked p (w′ .tables) x * cellCrosses p (w′ .cells) (w′ .tables) r x ≡ inside x
+  unfolding cellCrosses
+  survivor x l = go (ℕ-discrete (marked p (w′ .tables) x) 1) (ℕ-discrete (homeIn s w x) r)
+    where
+      go : Dec (marked p (w′ .tables) x ≡ 1) → Dec (homeIn s w x ≡ r)
+          → marked p (w′ .tables) x * sum (λ f. crossAfter p (w′ .cells) (w′ .tables) r (workOf (w′ .cells) x) (fieldOf (w′ .cells) x f)) (headOf (w′ .cells) x / 16) ≡ inside x
+      go (yes on) (no n) = let u = M .only x (omega arith) on in absurd (n (cell-home s w k x r (u .0) (u .1)))
+      go (yes on) (yes e) =
+          let u = M .only x (omega arith) on in
+          let t : workOf (w′ .cells) x ≡ h .home x = M .goes x (u .0) (u .1) ∙ sym (home-went s g r x e) in
+          let some : h .home x ≡ 0 → ⊥ =
+          (λ z. let off = M .freed x (u .0) (u .1) (sym (home-went s g r x e) ∙ z) in let y : ⊥ = omega arith in y) in
+          ap (λ (b : ℕ). b * sum (λ f. crossAfter p (w′ .cells) (w′ .tables) r (workOf (w′ .cells) x) (fieldOf (w′ .cells) x f)) (headOf (w′ .cells) x / 16)) on
+          ∙ one-mul _
+          ∙ ap₂ (λ (a n : ℕ). sum (λ f. crossAfter p (w′ .cells) (w′ .tables) r a (fieldOf (w′ .cells) x f)) n) t (kept-refs kept x)
+          ∙ sym (slots-sum x (u .0)) ∙ sym (counted x (u .0) some)
+          ∙ sym (ap (λ (b : Bool). cond b (crossAt h x) 0) (eq-eqb (homeIn s w x) r e))
+      go (no off) (no n) = ap (λ (b : ℕ). b * sum (λ f. crossAfter p (w′ .cells) (w′ .tables) r (workOf (w′ .cells) x) (fieldOf (w′ .cells) x f)) (headOf (w′ .cells) x / 16)) (zero-bit x off) ∙ zero-mul _ ∙ sym (ap (λ (b : Bool). cond b (crossAt h x) 0) (ne-eqb (homeIn s w x) r n))
+      go (no off) (yes e) =
+          let u = home-cell s w k x r e (omega arith) in
+          ap (λ (b : ℕ). b * sum (λ f. crossAfter p (w′ .cells) (w′ .tables) r (workOf (w′ .cells) x) (fieldOf (w′ .cells) x f)) (headOf (w′ .cells) x / 16)) (zero-bit x off) ∙ zero-mul _
+          ∙ sym (ap (λ (b : Bool). cond b (crossAt h x) 0) (eq-eqb (homeIn s w x) r e) ∙ gone x (home-went s g r x e ∙ freed (decLt 0 (target s g r x)) (u .0) (u .1)))
+        where
+          freed : Dec (0 < target s g r x) → Used s w x → ownerIn s w (pageOf x) ≡ r → target s g r x ≡ 0
+          freed (yes b) u own = absurd (off (M .survives x u own b))
+          freed (no b) u own = omega arith
+
+  -- ---- the slots outside r: those that cross afterwards cross now
+
+  -- the word at q counts if it crosses now and afterwards
+  abbrev still : ℕ → ℕ
+  still q = cond (ltb 0 (crossTo p (w .cells) (w .tables) q)) (slotCrosses p (w′ .cells) (w′ .tables) r q) 0
+
+  still-no : (q : ℕ) → (0 < crossTo p (w .cells) (w .tables) q → ⊥) → still q ≡ 0
+  still-no q n = ap (λ (b : Bool). cond b (slotCrosses p (w′ .cells) (w′ .tables) r q) 0) (le-ltb 0 (crossTo p (w .cells) (w .tables) q) (omega (arith, n)))
+
+  still-yes : (q : ℕ) → 0 < crossTo p (w .cells) (w .tables) q → still q ≡ slotCrosses p (w′ .cells) (w′ .tables) r q
+  still-yes q l = ap (λ (b : Bool). cond b (slotCrosses p (w′ .cells) (w′ .tables) r q) 0) (lt-ltb 0 (crossTo p (w .cells) (w .tables) q) l)
+
+  cond-zero : (b : Bool) (x : ℕ) → x ≡ 0 → cond b x 0 ≡ 0
+  cond-zero true x z = z
+  cond-zero false x z = refl
+
+  -- a word that is no slot of x does not count
+  no-slot : (x j : ℕ) → x < 16 * s .pages → j < 16 → (Slot p (w .cells) (w .tables) (16 * x + j) → ⊥) → still (16 * x + j) ≡ 0
+  no-slot x j l m n = still-no (16 * x + j) (λ b. n (cross-slot p (w .cells) (w .tables) (16 * x + j) (omega arith) b))
+
+  module _ (x : ℕ) (u : Used s w x) (out : homeIn s w x ≡ r → ⊥) where
+    here : x < 16 * s .pages
+    here = omega (arith, u .page)
+
+    stays : h .home x ≡ homeIn s w x
+    stays = home-stayed s g r x out
+
+    -- a reference that does not cross now does not cross afterwards
+    quiet : (v : ℕ) → IsRef p (w .tables) v → other (ownerIn s w (pageOf x)) (regionOf p (w .tables) v) ≡ 0 → crossRef h x v ≡ 0
+    quiet zero f z = refl
+    quiet (suc y) f z =
+        let y′ : suc y - 1 ≡ y = omega arith in
+        let v : Used s w y = subst (Used s w) y′ (f (omega arith)) in
+        go v (ap (other (ownerIn s w (pageOf x))) (sym (region-of p (w .tables) y v)) ∙ z) (ℕ-discrete (ownerIn s w (pageOf y)) 1)
+        (ℕ-discrete (ownerIn s w (pageOf x)) (ownerIn s w (pageOf y)))
+      where
+        go : Used s w y → other (ownerIn s w (pageOf x)) (ownerIn s w (pageOf y)) ≡ 0 → Dec (ownerIn s w (pageOf y) ≡ 1) → Dec (ownerIn s w (pageOf x) ≡ ownerIn s w (pageOf y))
+            → crossRef h x (suc y) ≡ 0
+        go v z (yes one) d =
+            let e : homeIn s w y ≡ 1 = used-home s w k y v ∙ one in
+            let e′ : h .home y ≡ 1 = home-stayed s g r y (λ (c : homeIn s w y ≡ r). omega arith) ∙ e in
+            ap (λ (b : Bool). cond (not (eqb (h .home x) (h .home y)) && not b) 1 0) (eq-eqb (h .home y) 1 e′) ∙ ap (λ (b : Bool). cond b 1 0) (and-false (not (eqb (h .home x) (h .home y))))
+          where
+            and-false : (a : Bool) → (a && false) ≡ false
+            and-false true = refl
+            and-false false = refl
+        go v z (no n) (yes d) =
+            let e : homeIn s w x ≡ homeIn s w y = used-home s w k x u ∙ d ∙ sym (used-home s w k y v) in
+            let e′ : h .home x ≡ h .home y = stays ∙ e ∙ sym (home-stayed s g r y (λ c. out (e ∙ c))) in
+            ap (λ (b : Bool). cond (not b && not (eqb (h .home y) 1)) 1 0) (eq-eqb (h .home x) (h .home y) e′)
+        go v z (no n) (no d) =
+            let nz = used-owned s w k y v in
+            let far : 1 < ownerIn s w (pageOf y) = omega arith in
+            absurd (let b : ⊥ = omega (arith, is-other (ownerIn s w (pageOf x)) (ownerIn s w (pageOf y)) far d) in b)
+
+    field-still : (f : ℕ) → f < refCount w x → still (16 * x + (2 + f)) ≡ crossAfter p (w′ .cells) (w′ .tables) r (h .home x) (fieldOf (w′ .cells) x f)
+    unfolding slotCrosses
+    field-still f l =
+        let e : 16 * x + (2 + f) ≡ fieldAt x f = omega arith in
+        ap still e ∙ go (decLt 0 (crossTo p (w .cells) (w .tables) (fieldAt x f)))
+      where
+        low : f < 14
+        low = omega (arith, few x u)
+
+        slot : Slot p (w .cells) (w .tables) (fieldAt x f)
+        slot = field-slot p (w .cells) (w .tables) x f u low l
+
+        cell : cellOf (fieldAt x f) ≡ x
+        cell = omega (arith, low)
+
+        same : fieldOf (w′ .cells) x f ≡ fieldOf (w .cells) x f
+        same = kept-field kept x f low
+
+        now : owner p (w′ .tables) (cellOf (fieldAt x f)) ≡ homeIn s w x
+        now = ap (owner p (w′ .tables)) cell ∙ owner-now x u
+
+        go : Dec (0 < crossTo p (w .cells) (w .tables) (fieldAt x f)) → still (fieldAt x f) ≡ crossAfter p (w′ .cells) (w′ .tables) r (h .home x) (fieldOf (w′ .cells) x f)
+        go (yes b) =
+            still-yes (fieldAt x f) b
+            ∙ ap (λ (t : Bool). cond t 0 (crossAfter p (w′ .cells) (w′ .tables) r (owner p (w′ .tables) (cellOf (fieldAt x f))) (fieldOf (w′ .cells) x f)))
+            (ne-eqb (owner p (w′ .tables) (cellOf (fieldAt x f))) r (λ z. out (sym now ∙ z)))
+            ∙ ap (λ (a : ℕ). crossAfter p (w′ .cells) (w′ .tables) r a (fieldOf (w′ .cells) x f)) (now ∙ sym stays)
+        go (no b) =
+            let ref = k .placed .references x u f l in
+            let z : other (ownerIn s w (pageOf x)) (regionOf p (w .tables) (fieldOf (w .cells) x f)) ≡ 0 =
+            ap (λ (c : ℕ). other (ownerIn s w (pageOf c)) (regionOf p (w .tables) (fieldOf (w .cells) x f))) (sym cell)
+            ∙ sym (slot-cross p (w .cells) (w .tables) (fieldAt x f) slot) ∙ omega arith in
+            still-no (fieldAt x f) b ∙ sym (quiet (fieldOf (w .cells) x f) ref z) ∙ cross-one x (fieldOf (w .cells) x f) ref
+            ∙ ap (crossAfter p (w′ .cells) (w′ .tables) r (h .home x)) (sym same)
+
+    first-two : (j : ℕ) → j < 2 → still (16 * x + j) ≡ 0
+    first-two j m = no-slot x j here (omega arith) (λ o. omega (arith, o .field))
+
+    past-refs : (j : ℕ) → j < 14 - refCount w x → still (16 * x + (2 + (refCount w x + j))) ≡ 0
+    past-refs j m =
+        let q : ℕ = 16 * x + (2 + (refCount w x + j)) in
+        let e : cellOf q ≡ x = omega (arith, few x u) in
+        let d : wordOf q ≡ 2 + (refCount w x + j) = omega (arith, few x u) in
+        no-slot x (2 + (refCount w x + j)) here (omega (arith, few x u)) (λ o. omega (arith, o .count, ap (headOf (w .cells)) e))
+
+    used-sum : sum (λ j. still (16 * x + j)) 16 ≡ outside x
+    used-sum =
+        let n = refCount w x in
+        let e : n + (14 - n) ≡ 14 = omega (arith, few x u) in
+        let refs = ap (sum (λ i. still (16 * x + (2 + i)))) (sym e) ∙ sum-add (λ i. still (16 * x + (2 + i))) n (14 - n) in
+        let some : h .home x ≡ 0 → ⊥ = (λ z. used-alive s w k x u (sym stays ∙ z)) in
+        omega (
+          arith,
+          sum-add (λ j. still (16 * x + j)) 2 14,
+          refs,
+          sum-none (λ j. still (16 * x + j)) 2 first-two,
+          sum-none (λ j. still (16 * x + (2 + (n + j)))) (14 - n) past-refs,
+          sum-same (λ i. still (16 * x + (2 + i))) (λ f. crossAfter p (w′ .cells) (w′ .tables) r (h .home x) (fieldOf (w′ .cells) x f)) n field-still,
+          slots-sum x u,
+          counted x u some,
+          ap (λ (b : Bool). cond b 0 (crossAt h x)) (ne-eqb (homeIn s w x) r out),
+        )
+
+  -- an object of r counts with the survivors, a cell that is not in use not at all
+  cell-sum : (x : ℕ) → x < 16 * s .pages → sum (λ j. still (16 * x + j)) 16 ≡ outside x
+  unfolding slotCrosses
+  cell-sum x l = go (ℕ-discrete (homeIn s w x) r) (ℕ-discrete (homeIn s w x) 0)
+    where
+      go : Dec (homeIn s w x ≡ r) → Dec (homeIn s w x ≡ 0) → sum (λ j. still (16 * x + j)) 16 ≡ outside x
+      go (yes e) d =
+          let u = home-cell s w k x r e (omega arith) .0 in
+          sum-none (λ j. still (16 * x + j)) 16
+          (λ j m.
+          let c : cellOf (16 * x + j) ≡ x = omega arith in
+          cond-zero (ltb 0 (crossTo p (w .cells) (w .tables) (16 * x + j))) (slotCrosses p (w′ .cells) (w′ .tables) r (16 * x + j))
+          (ap (λ (b : Bool). cond b 0 (crossAfter p (w′ .cells) (w′ .tables) r (owner p (w′ .tables) (cellOf (16 * x + j))) (getD (w′ .cells) (16 * x + j) 0)))
+          (eq-eqb (owner p (w′ .tables) (cellOf (16 * x + j))) r (ap (owner p (w′ .tables)) c ∙ owner-now x u ∙ e))))
+          ∙ sym (ap (λ (b : Bool). cond b 0 (crossAt h x)) (eq-eqb (homeIn s w x) r e))
+      go (no n) (yes z) =
+          sum-none (λ j. still (16 * x + j)) 16
+          (λ j m.
+          let c : cellOf (16 * x + j) ≡ x = omega arith in
+          no-slot x j l m (λ o. used-alive s w k x (subst (Used s w) c (o .used)) z))
+          ∙ sym (ap (λ (b : Bool). cond b 0 (crossAt h x)) (ne-eqb (homeIn s w x) r n) ∙ gone x (home-stayed s g r x n ∙ z))
+      go (no n) (no a) = used-sum x (alive-used s w k x a) n
+
+  -- ---- entry by entry
+
+  entries-paired : Paired (slotIn (w .remember)) (λ i. still (slotIn (w .remember) i)) (usedIn (w .remember)) still (256 * s .pages)
+  entries-paired =
+      record {
+        goes = λ i l b. (k .placed .remember .entries .named i l .slot, refl);
+        apart = λ i j l m a b e. same i j l m e (ℕ-discrete i j) (decLt i j);
+        onto = λ q l b. let n = k .placed .remember .every q l (crosses-now q b) in (n .0, n .1, subst (λ (z : ℕ). 0 < still z) (sym (n .2)) b, n .2);
+      }
+    where
+      crosses-now : (q : ℕ) → 0 < still q → 0 < crossTo p (w .cells) (w .tables) q
+      crosses-now q b = go (decLt 0 (crossTo p (w .cells) (w .tables) q))
+        where
+          go : Dec (0 < crossTo p (w .cells) (w .tables) q) → 0 < crossTo p (w .cells) (w .tables) q
+          go (yes l) = l
+          go (no n) = absurd (let z : ⊥ = omega (arith, still-no q n) in z)
+
+      same : (i j : ℕ) → i < usedIn (w .remember) → j < usedIn (w .remember) → slotIn (w .remember) i ≡ slotIn (w .remember) j → Dec (i ≡ j) → Dec (i < j) → i ≡ j
+      same i j l m e (yes d) b = d
+      same i j l m e (no d) (yes b) = absurd (k .placed .remember .entries .once i j b m e)
+      same i j l m e (no d) (no b) = absurd (k .placed .remember .entries .once j i (omega arith) l (sym e))
+
+  entries-sum : entriesCross p (w′ .cells) (w .remember) (w′ .tables) r ≡ sum outside (16 * s .pages)
+  entries-sum =
+      let e : 256 * s .pages ≡ 16 * (16 * s .pages) = omega arith in
+      sum-same (λ i. slotCrosses p (w′ .cells) (w′ .tables) r (slotIn (w .remember) i)) (λ i. still (slotIn (w .remember) i)) (usedIn (w .remember))
+      (λ i l. let n = k .placed .remember .entries .named i l in sym (still-yes (slotIn (w .remember) i) (omega (arith, n .region, n .right))))
+      ∙ sum-paired (slotIn (w .remember)) (λ i. still (slotIn (w .remember) i)) (usedIn (w .remember)) still (256 * s .pages) entries-paired
+      ∙ ap (sum still) e ∙ sum-blocks 16 still outside (16 * s .pages) cell-sum
+
+  -- ---- both together
+
+  split : (x : ℕ) → crossAt h x ≡ inside x + outside x
+  split x = go (eqb (homeIn s w x) r)
+    where
+      go : (b : Bool) → crossAt h x ≡ cond b (crossAt h x) 0 + cond b 0 (crossAt h x)
+      go true = omega arith
+      go false = omega arith
+
+  -- what the code counts after marking is what would cross by the rules
+  pub crossing-after : crossingAfter p (w′ .cells) (w′ .remember) (w′ .tables) r ≡ crossing (ended s (graphOf s w) r)
+  crossing-after =
+      let a = ap (λ (m : List ℕ). entriesCross p (w′ .cells) m (w′ .tables) r) (M .remember) ∙ entries-sum in
+      let b =
+      over-cells p (w′ .tables) (cellCrosses p (w′ .cells) (w′ .tables) r)
+      ∙ sum-same (λ c. marked p (w′ .tables) c * cellCrosses p (w′ .cells) (w′ .tables) r c) inside (16 * s .pages) survivor in
+      let c = crossing-sum h ∙ ap (sum (crossAt h)) ended-count ∙ sum-same (crossAt h) (λ x. inside x + outside x) (16 * s .pages) (λ x l. split x) ∙ sum-plus inside outside (16 * s .pages) in
+      omega (arith, a, b, c)

@@ -1,0 +1,5 @@
+-- The census of a marked region.
+pub mod Counted
+pub mod After
+pub mod Crossed
+pub mod Asked

@@ -1,0 +1,4 @@
+// The census of a marked region, the second stage of an end: how many survivors go to each region, and how many slots would cross
+// afterwards. Nothing is written.
+pub mod count;
+pub mod crossing;

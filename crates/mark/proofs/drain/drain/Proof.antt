@@ -1,0 +1,91 @@
+-- Popped cells are done: marked, with g in word 1, and what they name is marked. No cell is popped twice, so the turns are few.
+use mathlib.Core.Path.{_≡_, refl, sym, _∙_}
+use mathlib.Core.List.{List}
+use Prim.Native.Nat.{ℕ, _≤_, _<_, _+_, _-_, _*_}
+use native.Mathlib.Omega.{arith}
+use borrow.Author.Needs.{needs}
+use lib.ListN.{length}
+use Rattle.mark.specs.Draining.{Pending, Draining, Facts, draining-start, turn-facts, turn-asks, turn-read, draining-kept, drained}
+use Rattle.mark.proofs.drain.drain.Statement.{statement}
+use Rattle.mark.proofs.drain.drain.Tie as tie
+
+abbrev Inv-loop : tie.InvT-loop
+Inv-loop p cells₀ tables₀ r g top t₀ count₀ cells tables t count =
+    (length cells ≡ length cells₀) × (length tables ≡ length tables₀)
+    × ((W T S : List ℕ) → Pending p r g W T S cells₀ tables₀ top → Draining p r g W T S cells tables t count)
+
+abbrev μ-loop : tie.MeasureT-loop
+μ-loop p cells₀ tables₀ r g top t₀ count₀ cells tables t count =
+    16 * p .pages + 1 - count
+
+loop-holds : tie.Need-loop-holds Inv-loop μ-loop
+loop-holds c =
+    (refl, refl, λ W T S h. draining-start h)
+
+wide-requires : tie.Need-wide-requires Inv-loop μ-loop
+wide-requires c κs =
+    search needs
+
+sub-c : tie.Need-sub-c Inv-loop μ-loop
+sub-c c =
+    omega arith
+
+work-requires : tie.Need-work-requires Inv-loop μ-loop
+work-requires c κs =
+    omega (arith, turn-facts (c .before .before .before .loop .inv .2 (c .before .before .before .before .before .before .pre .0) (c .before .before .before .before .before .before .pre .1) (c .before .before .before .before .before .before .pre .2) (c .before .before .before .before .before .before .pre .3)) (c .before .before .loop-test .taken) (c .before .wide .result) (c .before .wide .ensures))
+
+set-work-requires : tie.Need-set-work-requires Inv-loop μ-loop
+set-work-requires c κs =
+    omega (arith, turn-facts (c .before .before .before .before .before .loop .inv .2 (c .before .before .before .before .before .before .before .before .pre .0) (c .before .before .before .before .before .before .before .before .pre .1) (c .before .before .before .before .before .before .before .before .pre .2) (c .before .before .before .before .before .before .before .before .pre .3)) (c .before .before .before .before .loop-test .taken) (c .before .before .before .wide .result) (c .before .before .before .wide .ensures))
+
+scan-requires : tie.Need-scan-requires Inv-loop μ-loop
+scan-requires c κs =
+    turn-asks (c .before .before .before .before .before .before .before .before .before .before .loop .inv .2 (c .before .before .before .before .before .before .before .before .before .before .before .before .before .pre .0) (c .before .before .before .before .before .before .before .before .before .before .before .before .before .pre .1) (c .before .before .before .before .before .before .before .before .before .before .before .before .before .pre .2) (c .before .before .before .before .before .before .before .before .before .before .before .before .before .pre .3)) (c .before .before .before .before .before .before .before .before .before .loop-test .taken) (c .before .before .before .before .before .before .before .before .wide .result) (c .before .before .before .before .before .before .before .before .wide .ensures) _ (c .before .before .before .before .set-work .ensures)
+
+add-count : tie.Need-add-count Inv-loop μ-loop
+add-count c =
+    omega (arith, turn-facts (c .before .before .before .before .before .before .before .before .before .before .before .before .before .before .before .loop .inv .2 (c .before .before .before .before .before .before .before .before .before .before .before .before .before .before .before .before .before .before .pre .0) (c .before .before .before .before .before .before .before .before .before .before .before .before .before .before .before .before .before .before .pre .1) (c .before .before .before .before .before .before .before .before .before .before .before .before .before .before .before .before .before .before .pre .2) (c .before .before .before .before .before .before .before .before .before .before .before .before .before .before .before .before .before .before .pre .3)) (c .before .before .before .before .before .before .before .before .before .before .before .before .before .before .loop-test .taken) (c .before .before .before .before .before .before .before .before .before .before .before .before .before .wide .result) (c .before .before .before .before .before .before .before .before .before .before .before .before .before .wide .ensures))
+
+loop-less : tie.Need-loop-less Inv-loop μ-loop
+loop-less c =
+    omega (arith, turn-facts (c .before .before .before .before .before .before .before .before .before .before .before .before .before .before .before .loop .inv .2 (c .before .before .before .before .before .before .before .before .before .before .before .before .before .before .before .before .before .before .pre .0) (c .before .before .before .before .before .before .before .before .before .before .before .before .before .before .before .before .before .before .pre .1) (c .before .before .before .before .before .before .before .before .before .before .before .before .before .before .before .before .before .before .pre .2) (c .before .before .before .before .before .before .before .before .before .before .before .before .before .before .before .before .before .before .pre .3)) (c .before .before .before .before .before .before .before .before .before .before .before .before .before .before .loop-test .taken) (c .before .before .before .before .before .before .before .before .before .before .before .before .before .wide .result) (c .before .before .before .before .before .before .before .before .before .before .before .before .before .wide .ensures))
+
+loop-again : tie.Need-loop-again Inv-loop μ-loop
+loop-again c =
+    let k = draining-kept (turn-read (c .before .before .before .before .before .before .before .before .before .before .before .before .before .before .before .loop .inv .2 (c .before .before .before .before .before .before .before .before .before .before .before .before .before .before .before .before .before .before .pre .0) (c .before .before .before .before .before .before .before .before .before .before .before .before .before .before .before .before .before .before .pre .1) (c .before .before .before .before .before .before .before .before .before .before .before .before .before .before .before .before .before .before .pre .2) (c .before .before .before .before .before .before .before .before .before .before .before .before .before .before .before .before .before .before .pre .3)) (c .before .before .before .before .before .before .before .before .before .before .before .before .before .before .loop-test .taken) (c .before .before .before .before .before .before .before .before .before .before .before .before .before .wide .result) (c .before .before .before .before .before .before .before .before .before .before .before .before .before .wide .ensures) _ _ (c .before .before .before .before .before .before .before .before .before .set-work .ensures) (c .before .before .before .before .before .before .before .before .before .before .before .work .ensures) (c .before .before .before .before .scan .ensures)) in
+    let k₀ = c .before .before .before .before .before .before .before .before .before .before .before .before .before .before .before .before .before .before .pre .3 .marking .kept in (
+      k .cells-length ∙ sym (k₀ .cells-length),
+      k .tables-length ∙ sym (k₀ .tables-length),
+      λ W T S h. turn-read (c .before .before .before .before .before .before .before .before .before .before .before .before .before .before .before .loop .inv .2 W T S h) (c .before .before .before .before .before .before .before .before .before .before .before .before .before .before .loop-test .taken) (c .before .before .before .before .before .before .before .before .before .before .before .before .before .wide .result) (c .before .before .before .before .before .before .before .before .before .before .before .before .before .wide .ensures) _ _ (c .before .before .before .before .before .before .before .before .before .set-work .ensures) (c .before .before .before .before .before .before .before .before .before .before .before .work .ensures) (c .before .before .before .before .scan .ensures),
+    )
+
+same-length : tie.Need-same-length Inv-loop μ-loop
+same-length c =
+    c .before .loop .inv .0
+
+same-length-2 : tie.Need-same-length-2 Inv-loop μ-loop
+same-length-2 c =
+    c .before .loop .inv .1
+
+returns : tie.Need-returns Inv-loop μ-loop
+returns c =
+    λ W T S h. drained (c .loop-test .left) (c .before .loop .inv .2 W T S h)
+
+pub drain-spec : {M : Type 1} → statement M
+drain-spec =
+    tie.close
+    (tie.spec
+    Inv-loop
+    μ-loop
+    loop-holds
+    wide-requires
+    sub-c
+    work-requires
+    set-work-requires
+    scan-requires
+    add-count
+    loop-less
+    loop-again
+    same-length
+    same-length-2
+    returns)

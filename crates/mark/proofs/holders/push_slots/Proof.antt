@@ -1,0 +1,96 @@
+-- What the slots of the first i entries hold for g is pushed.
+use mathlib.Core.Path.{_≡_, refl, sym, ap, _∙_, subst}
+use mathlib.Core.List.{List}
+use Prim.Native.Nat.{ℕ, _≤_, _<_, _+_, _-_, _*_, _/_}
+use native.Mathlib.Omega.{arith}
+use borrow.Author.Needs.{needs}
+use lib.ListN.{length}
+use Rattle.mark.specs.Pushes.{Pushing, pushing-start, pushing-kept, pushing-shaped, ref-read, push-read, pushes-kept}
+use Rattle.layout.specs.Places.{usedIn}
+use Rattle.mark.specs.Holders.{slotHeld, Holding, slot-held-ref, holding-kept, kept-slot-held}
+use Rattle.mark.proofs.holders.push_slots.Statement.{statement}
+use Rattle.mark.proofs.holders.push_slots.Tie as tie
+
+abbrev Inv-loop : tie.InvT-loop
+Inv-loop p cells₀ remember tables₀ r g top n t₀ i₀ cells tables t i =
+    (i ≤ n) × (n ≡ usedIn remember) × (n ≤ p .entries) × (length cells ≡ length cells₀) × (length tables ≡ length tables₀)
+    × Pushing p r (slotHeld p cells₀ remember tables₀ r g) (usedIn remember) cells₀ tables₀ top cells tables t i
+
+abbrev μ-loop : tie.MeasureT-loop
+μ-loop p cells₀ remember tables₀ r g top n t₀ i₀ cells tables t i =
+    n - i
+
+used-requires : tie.Need-used-requires Inv-loop μ-loop
+used-requires c κs =
+    omega (arith, c .before .before .before .pre .1 .long)
+
+wide-requires : tie.Need-wide-requires Inv-loop μ-loop
+wide-requires c κs =
+    search needs
+
+loop-holds : tie.Need-loop-holds Inv-loop μ-loop
+loop-holds c =
+    (omega arith, c .wide .ensures ∙ c .before .used .ensures, omega (arith, c .before .before .before .before .before .pre .1 .few), refl, refl, pushing-start _ _ _ _ _ _ _)
+
+slot-for-requires : tie.Need-slot-for-requires Inv-loop μ-loop
+slot-for-requires c κs =
+    let lt : c .before .before .before .loop .i < usedIn (c .before .before .before .before .before .before .before .before .before .args .remember .now) = omega arith in
+    let s = pushing-shaped (c .before .before .before .before .before .before .before .before .before .pre .0) (slot-held-ref (c .before .before .before .before .before .before .before .before .before .pre .1) _ _) lt (c .before .before .before .loop .inv .5) in
+    (s .room, ((s .cells-long, c .before .before .before .before .before .before .before .before .before .pre .1 .long), (omega arith, c .before .before .before .before .before .before .before .before .before .pre .1 .slot (c .before .before .before .loop .i) lt)))
+
+push-requires : tie.Need-push-requires Inv-loop μ-loop
+push-requires c κs =
+    let lt : c .before .before .before .before .before .before .loop .i < usedIn (c .before .before .before .before .before .before .before .before .before .before .before .before .args .remember .now) = omega arith in
+    let u = slot-held-ref (c .before .before .before .before .before .before .before .before .before .before .before .before .pre .1) (c .before .before .before .before .before .before .before .before .before .before .before .before .args .r) (c .before .before .before .before .before .before .before .before .before .before .before .before .args .g) in
+    let k = pushing-kept (c .before .before .before .before .before .before .before .before .before .before .before .before .pre .0) u lt (c .before .before .before .before .before .before .loop .inv .5) in (
+      pushing-shaped (c .before .before .before .before .before .before .before .before .before .before .before .before .pre .0) u lt (c .before .before .before .before .before .before .loop .inv .5),
+      ref-read (c .before .before .before .before .before .before .before .before .before .before .before .before .pre .0) u lt (c .before .before .before .before .before .before .loop .inv .5) (c .before .before .slot-for .result) (c .before .before .slot-for .ensures ∙ kept-slot-held k (c .before .before .before .before .before .before .before .before .before .before .before .before .pre .0 .room) (c .before .before .before .before .before .before .before .before .before .before .before .before .pre .1) _ _ _ lt),
+    )
+
+add-i : tie.Need-add-i Inv-loop μ-loop
+add-i c =
+    omega (arith, c .before .before .before .before .before .before .before .before .before .before .before .before .before .before .before .before .before .pre .0 .room)
+
+loop-less : tie.Need-loop-less Inv-loop μ-loop
+loop-less c =
+    omega arith
+
+loop-again : tie.Need-loop-again Inv-loop μ-loop
+loop-again c =
+    let lt : c .before .before .before .before .before .before .before .before .before .before .before .loop .i < usedIn (c .before .before .before .before .before .before .before .before .before .before .before .before .before .before .before .before .before .args .remember .now) = omega arith in
+    let u = slot-held-ref (c .before .before .before .before .before .before .before .before .before .before .before .before .before .before .before .before .before .pre .1) (c .before .before .before .before .before .before .before .before .before .before .before .before .before .before .before .before .before .args .r) (c .before .before .before .before .before .before .before .before .before .before .before .before .before .before .before .before .before .args .g) in
+    let k = pushing-kept (c .before .before .before .before .before .before .before .before .before .before .before .before .before .before .before .before .before .pre .0) u lt (c .before .before .before .before .before .before .before .before .before .before .before .loop .inv .5) in
+    let h = push-read (c .before .before .before .before .before .before .before .before .before .before .before .before .before .before .before .before .before .pre .0) u lt (c .before .before .before .before .before .before .before .before .before .before .before .loop .inv .5) (c .before .before .before .before .before .before .before .slot-for .result) (c .before .before .before .before .before .before .before .slot-for .ensures ∙ kept-slot-held k (c .before .before .before .before .before .before .before .before .before .before .before .before .before .before .before .before .before .pre .0 .room) (c .before .before .before .before .before .before .before .before .before .before .before .before .before .before .before .before .before .pre .1) _ _ _ lt) (c .before .before .before .before .push .ensures) in
+    let k′ = pushes-kept _ _ (c .before .before .before .before .before .before .before .before .before .before .before .before .before .before .before .before .before .pre .0) (h .pushes) in
+    (omega arith, c .before .before .before .before .before .before .before .before .before .before .before .loop .inv .1, c .before .before .before .before .before .before .before .before .before .before .before .loop .inv .2, k′ .cells-length, k′ .tables-length, h)
+
+same-length : tie.Need-same-length Inv-loop μ-loop
+same-length c =
+    c .before .loop .inv .3
+
+same-length-2 : tie.Need-same-length-2 Inv-loop μ-loop
+same-length-2 c =
+    c .before .loop .inv .4
+
+returns : tie.Need-returns Inv-loop μ-loop
+returns c =
+    let e : c .before .loop .i ≡ usedIn (c .before .before .before .before .before .before .before .args .remember .now) = omega arith in
+    subst (λ (f : ℕ). Pushing (c .before .before .before .before .before .before .before .args .p) (c .before .before .before .before .before .before .before .args .r) (slotHeld (c .before .before .before .before .before .before .before .args .p) (c .before .before .before .before .before .before .before .args .cells .now) (c .before .before .before .before .before .before .before .args .remember .now) (c .before .before .before .before .before .before .before .args .tables .now) (c .before .before .before .before .before .before .before .args .r) (c .before .before .before .before .before .before .before .args .g)) (usedIn (c .before .before .before .before .before .before .before .args .remember .now)) (c .before .before .before .before .before .before .before .args .cells .now) (c .before .before .before .before .before .before .before .args .tables .now) (c .before .before .before .before .before .before .before .args .top) (c .before .loop .cells) (c .before .loop .tables) (c .before .loop .t) f) e (c .before .loop .inv .5)
+
+pub push-slots-spec : {M : Type 1} → statement M
+push-slots-spec =
+    tie.close
+    (tie.spec
+    Inv-loop
+    μ-loop
+    used-requires
+    wide-requires
+    loop-holds
+    slot-for-requires
+    push-requires
+    add-i
+    loop-less
+    loop-again
+    same-length
+    same-length-2
+    returns)

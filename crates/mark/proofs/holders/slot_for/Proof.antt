@@ -1,0 +1,66 @@
+-- A remembered slot is held for g if it points into r and g is what it calls for.
+use mathlib.Core.Path.{_≡_, refl, sym, ap, _∙_, subst}
+use mathlib.Core.List.{List}
+use Prim.Native.Nat.{ℕ, _≤_, _<_, _+_, _-_, _*_, _/_}
+use native.Mathlib.Omega.{arith}
+use borrow.Author.Needs.{needs}
+use lib.ListN.{getD}
+use Rattle.mark.specs.Holders.{slot-elsewhere, slot-none, slot-some, slot-call}
+use Rattle.mark.proofs.holders.slot_for.Statement.{statement}
+use Rattle.mark.proofs.holders.slot_for.Tie as tie
+
+region-requires : tie.Need-region-requires
+region-requires c κs = search needs
+
+returns : tie.Need-returns
+returns c =
+    slot-elsewhere (c .before .before .before .before .before .args .p) (c .before .before .before .before .before .args .cells .now) (c .before .before .before .before .before .args .remember .now) (c .before .before .before .before .before .args .tables .now) (c .before .before .before .before .before .args .r) (c .before .before .before .before .before .args .g) (c .before .before .before .before .before .args .i) (λ e. c .if1 .taken (c .before .region .ensures ∙ e))
+
+slot-requires : tie.Need-slot-requires
+slot-requires c κs = search needs
+
+wide-requires : tie.Need-wide-requires
+wide-requires c κs = search needs
+
+cell-of-requires : tie.Need-cell-of-requires
+cell-of-requires c κs = search needs
+
+page-of-requires : tie.Need-page-of-requires
+page-of-requires c κs = search needs
+
+owner-requires : tie.Need-owner-requires
+owner-requires c κs = search needs
+
+join-requires : tie.Need-join-requires
+join-requires c κs = search needs
+
+returns-2 : tie.Need-returns-2
+returns-2 c =
+    slot-none (c .before .before .before .before .before .before .before .before .before .before .before .before .args .p) (c .before .before .before .before .before .before .before .before .before .before .before .before .args .cells .now) (c .before .before .before .before .before .before .before .before .before .before .before .before .args .remember .now) (c .before .before .before .before .before .before .before .before .before .before .before .before .args .tables .now) (c .before .before .before .before .before .before .before .before .before .before .before .before .args .r) (c .before .before .before .before .before .before .before .before .before .before .before .before .args .g) (c .before .before .before .before .before .before .before .before .before .before .before .before .args .i) (sym (c .before .before .before .before .before .before .before .before .region .ensures) ∙ c .before .before .before .before .before .before .before .if1 .left) (λ e. c .if2 .taken (slot-call (c .before .before .before .before .before .before .before .before .before .before .before .before .args .p) (c .before .before .before .before .before .before .before .before .before .before .before .before .args .cells .now) (c .before .before .before .before .before .before .before .before .before .before .before .before .args .remember .now) (c .before .before .before .before .before .before .before .before .before .before .before .before .args .tables .now) (c .before .before .before .before .before .before .before .before .before .before .before .before .args .r) (c .before .before .before .before .before .before .before .before .before .before .before .before .args .g) (c .before .before .before .before .before .before .before .before .before .before .before .before .args .i) _ _ _ _ _ _ (c .before .before .before .before .before .before .slot .ensures) (c .before .before .before .before .before .wide .ensures) (c .before .before .before .before .cell-of .ensures) (c .before .before .before .page-of .ensures) (c .before .before .owner .ensures) (c .before .join .ensures) ∙ e))
+
+mul-result : tie.Need-mul-result
+mul-result c = search needs
+
+shared-slice-read-result : tie.Need-shared-slice-read-result
+shared-slice-read-result c = search needs
+
+returns-3 : tie.Need-returns-3
+returns-3 c =
+    ap (λ (z : ℕ). getD (c .before .before .before .before .before .before .before .before .before .before .before .before .before .args .cells .now) z 0) (c .before .before .before .before .before .before .wide .ensures ∙ c .before .before .before .before .before .before .before .slot .ensures) ∙ slot-some (c .before .before .before .before .before .before .before .before .before .before .before .before .before .args .p) (c .before .before .before .before .before .before .before .before .before .before .before .before .before .args .cells .now) (c .before .before .before .before .before .before .before .before .before .before .before .before .before .args .remember .now) (c .before .before .before .before .before .before .before .before .before .before .before .before .before .args .tables .now) (c .before .before .before .before .before .before .before .before .before .before .before .before .before .args .r) (c .before .before .before .before .before .before .before .before .before .before .before .before .before .args .g) (c .before .before .before .before .before .before .before .before .before .before .before .before .before .args .i) (sym (c .before .before .before .before .before .before .before .before .before .region .ensures) ∙ c .before .before .before .before .before .before .before .before .if1 .left) (sym (slot-call (c .before .before .before .before .before .before .before .before .before .before .before .before .before .args .p) (c .before .before .before .before .before .before .before .before .before .before .before .before .before .args .cells .now) (c .before .before .before .before .before .before .before .before .before .before .before .before .before .args .remember .now) (c .before .before .before .before .before .before .before .before .before .before .before .before .before .args .tables .now) (c .before .before .before .before .before .before .before .before .before .before .before .before .before .args .r) (c .before .before .before .before .before .before .before .before .before .before .before .before .before .args .g) (c .before .before .before .before .before .before .before .before .before .before .before .before .before .args .i) _ _ _ _ _ _ (c .before .before .before .before .before .before .before .slot .ensures) (c .before .before .before .before .before .before .wide .ensures) (c .before .before .before .before .before .cell-of .ensures) (c .before .before .before .before .page-of .ensures) (c .before .before .before .owner .ensures) (c .before .before .join .ensures)) ∙ c .before .if2 .left)
+
+pub slot-for-spec : {M : Type 1} → statement M
+slot-for-spec =
+    tie.close
+    (tie.spec
+    region-requires
+    returns
+    slot-requires
+    wide-requires
+    cell-of-requires
+    page-of-requires
+    owner-requires
+    join-requires
+    returns-2
+    mul-result
+    shared-slice-read-result
+    returns-3)

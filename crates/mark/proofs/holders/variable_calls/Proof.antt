@@ -1,0 +1,21 @@
+-- The ending thread's variables call for its parent, the others for the control space.
+use mathlib.Core.Path.{_≡_, refl, sym, ap, _∙_, subst}
+use mathlib.Core.List.{List}
+use Prim.Native.Nat.{ℕ, _≤_, _<_, _+_, _-_, _*_, _/_}
+use native.Mathlib.Omega.{arith}
+use borrow.Author.Needs.{needs}
+use Rattle.mark.specs.Holders.{calls-own, calls-other}
+use Rattle.mark.proofs.holders.variable_calls.Statement.{statement}
+use Rattle.mark.proofs.holders.variable_calls.Tie as tie
+
+div-if1 : tie.Need-div-if1
+div-if1 c = search needs
+
+returns : tie.Need-returns
+returns c = calls-other (c .before .before .args .p) (c .before .before .args .thread) (c .before .before .args .outer) (c .before .before .args .i) (c .if1 .taken)
+
+returns-2 : tie.Need-returns-2
+returns-2 c = calls-own (c .before .before .args .p) (c .before .before .args .thread) (c .before .before .args .outer) (c .before .before .args .i) (c .if1 .left)
+
+pub variable-calls-spec : {M : Type 1} → statement M
+variable-calls-spec = tie.close (tie.spec div-if1 returns returns-2)

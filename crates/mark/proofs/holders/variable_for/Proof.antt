@@ -1,0 +1,26 @@
+-- A variable is held for g if g is what it calls for.
+use mathlib.Core.Path.{_≡_, refl, sym, ap, _∙_, subst}
+use mathlib.Core.List.{List}
+use Prim.Native.Nat.{ℕ, _≤_, _<_, _+_, _-_, _*_, _/_}
+use native.Mathlib.Omega.{arith}
+use borrow.Author.Needs.{needs}
+use Rattle.mark.specs.Holders.{var-none, var-some}
+use Rattle.mark.proofs.holders.variable_for.Statement.{statement}
+use Rattle.mark.proofs.holders.variable_for.Tie as tie
+
+variable-calls-requires : tie.Need-variable-calls-requires
+variable-calls-requires c κs = search needs
+
+returns : tie.Need-returns
+returns c =
+    var-none (c .before .before .before .args .p) (c .before .before .before .args .tables .now) (c .before .before .before .args .thread) (c .before .before .before .args .outer) (c .before .before .before .args .g) (c .before .before .before .args .i) _ (c .before .variable-calls .ensures) (c .if1 .taken)
+
+var-requires : tie.Need-var-requires
+var-requires c κs = search needs
+
+returns-2 : tie.Need-returns-2
+returns-2 c =
+    var-some (c .before .before .before .before .args .p) (c .before .before .before .before .args .tables .now) (c .before .before .before .before .args .thread) (c .before .before .before .before .args .outer) (c .before .before .before .before .args .g) (c .before .before .before .before .args .i) _ _ (c .before .before .variable-calls .ensures) (c .before .if1 .left) (c .var .ensures)
+
+pub variable-for-spec : {M : Type 1} → statement M
+variable-for-spec = tie.close (tie.spec variable-calls-requires returns var-requires returns-2)

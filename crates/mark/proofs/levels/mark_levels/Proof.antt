@@ -1,0 +1,95 @@
+-- The levels before this one are marked, outermost first; left counts those to come.
+use mathlib.Core.Path.{_≡_, refl, sym, _∙_, subst}
+use mathlib.Core.List.{List}
+use Prim.Native.Nat.{ℕ, _≤_, _<_, _+_, _-_}
+use native.Mathlib.Omega.{arith}
+use borrow.Author.Needs.{needs}
+use lib.ListN.{length}
+use Rattle.rules.specs.Regions.{regionAt}
+use Rattle.layout.specs.Places.{sizesOf}
+use Rattle.mark.specs.Levels.{Levels, levels-start, levels-at}
+use Rattle.mark.specs.Holders.{heldCells}
+use Rattle.mark.specs.Rounds.{levelCells, round-holding, round-slots, round-pending, round-levels}
+use Rattle.mark.proofs.levels.mark_levels.Statement.{statement}
+use Rattle.mark.proofs.levels.mark_levels.Tie as tie
+
+abbrev Inv-loop : tie.InvT-loop
+Inv-loop p cells₀ remember tables₀ r thread outer depth left₀ cells tables left =
+    (left ≤ depth) × (length cells ≡ length cells₀) × (length tables ≡ length tables₀)
+    × Levels p r (depth - left) (regionAt (sizesOf p) thread) (levelCells p cells₀ remember tables₀ r thread outer) cells₀ tables₀ cells tables
+
+abbrev μ-loop : tie.MeasureT-loop
+μ-loop p cells₀ remember tables₀ r thread outer depth left₀ cells tables left = left
+
+loop-holds : tie.Need-loop-holds Inv-loop μ-loop
+loop-holds c =
+    let e : 0 ≡ c .before .before .before .args .depth - c .before .before .before .args .depth = omega arith in
+    (omega arith, refl, refl, levels-at e (levels-start _ _ _ (c .before .before .before .pre .0) (c .before .before .before .pre .1 .1 .0)))
+
+sub-level : tie.Need-sub-level Inv-loop μ-loop
+sub-level c = omega arith
+
+region-at-requires : tie.Need-region-at-requires Inv-loop μ-loop
+region-at-requires c κs =
+    omega (arith, c .before .before .before .before .before .pre .0 .room)
+
+push-variables-requires : tie.Need-push-variables-requires Inv-loop μ-loop
+push-variables-requires c κs =
+    (c .before .before .before .before .loop .inv .3 .shaped, (c .before .before .before .before .before .before .before .before .args .remember .now, round-holding (c .before .before .before .before .before .before .before .before .pre .0) (c .before .before .before .before .before .before .before .before .pre .1 .0) (c .before .before .before .before .before .before .before .before .args .thread) (c .before .before .before .before .before .before .before .before .args .outer) (c .before .before .before .before .loop .inv .3)))
+
+push-slots-requires : tie.Need-push-slots-requires Inv-loop μ-loop
+push-slots-requires c κs =
+    round-slots (c .before .before .before .before .before .before .before .before .before .before .before .before .before .before .before .pre .0) (c .before .before .before .before .before .before .before .before .before .before .before .before .before .before .before .pre .1 .0) (c .before .before .before .before .before .before .before .before .before .before .before .before .before .before .before .args .thread) (c .before .before .before .before .before .before .before .before .before .before .before .before .before .before .before .args .outer) (c .before .before .before .before .before .before .before .before .before .before .before .loop .inv .3) (c .before .before .before .before .before .before .push-variables .ensures)
+
+drain-requires : tie.Need-drain-requires Inv-loop μ-loop
+drain-requires c κs =
+    (c .before .before .before .before .before .before .before .before .before .before .before .before .before .before .before .before .before .before .loop .cells, c .before .before .before .before .before .before .before .before .before .before .before .before .before .before .before .before .before .before .loop .tables, heldCells (c .before .before .before .before .before .before .before .before .before .before .before .before .before .before .before .before .before .before .before .before .before .before .args .p) (c .before .before .before .before .before .before .before .before .before .before .before .before .before .before .before .before .before .before .before .before .before .before .args .cells .now) (c .before .before .before .before .before .before .before .before .before .before .before .before .before .before .before .before .before .before .before .before .before .before .args .remember .now) (c .before .before .before .before .before .before .before .before .before .before .before .before .before .before .before .before .before .before .before .before .before .before .args .tables .now) (c .before .before .before .before .before .before .before .before .before .before .before .before .before .before .before .before .before .before .before .before .before .before .args .r) (c .before .before .before .before .before .before .before .before .before .before .before .before .before .before .before .before .before .before .before .before .before .before .args .thread) (c .before .before .before .before .before .before .before .before .before .before .before .before .before .before .before .before .before .before .before .before .before .before .args .outer) (c .before .before .before .before .before .before .before .before .before .before .before .before .before .before .before .before .region-at .result), round-pending (c .before .before .before .before .before .before .before .before .before .before .before .before .before .before .before .before .before .before .before .before .before .before .pre .0) (c .before .before .before .before .before .before .before .before .before .before .before .before .before .before .before .before .before .before .before .before .before .before .pre .1 .0) (c .before .before .before .before .before .before .before .before .before .before .before .before .before .before .before .before .before .before .before .before .before .before .args .thread) (c .before .before .before .before .before .before .before .before .before .before .before .before .before .before .before .before .before .before .before .before .before .before .args .outer) (c .before .before .before .before .before .before .before .before .before .before .before .before .before .before .before .before .before .before .loop .inv .3) (c .before .before .before .before .before .before .before .before .before .before .before .before .before .before .before .before .region-at .result) (c .before .before .before .before .before .before .before .before .before .before .before .before .before .before .before .before .region-at .ensures) (c .before .before .before .before .before .before .before .before .before .before .before .before .before .push-variables .ensures) (c .before .before .before .before .before .before .push-slots .ensures))
+
+sub-left : tie.Need-sub-left Inv-loop μ-loop
+sub-left c = omega (arith, c .before .before .before .before .before .before .before .before .before .before .before .before .before .before .before .before .before .before .before .before .before .before .loop-test .taken)
+
+loop-less : tie.Need-loop-less Inv-loop μ-loop
+loop-less c =
+    omega (arith, c .before .before .before .before .before .before .before .before .before .before .before .before .before .before .before .before .before .before .before .before .before .before .loop-test .taken)
+
+loop-again : tie.Need-loop-again Inv-loop μ-loop
+loop-again c =
+    let g = c .before .before .before .before .before .before .before .before .before .before .before .before .before .before .before .before .before .before .before .before .before .region-at .result in
+    let e = c .before .before .before .before .before .before .before .before .before .before .before .before .before .before .before .before .before .before .before .before .before .region-at .ensures in
+    let d = round-pending (c .before .before .before .before .before .before .before .before .before .before .before .before .before .before .before .before .before .before .before .before .before .before .before .before .before .before .before .pre .0) (c .before .before .before .before .before .before .before .before .before .before .before .before .before .before .before .before .before .before .before .before .before .before .before .before .before .before .before .pre .1 .0) (c .before .before .before .before .before .before .before .before .before .before .before .before .before .before .before .before .before .before .before .before .before .before .before .before .before .before .before .args .thread) (c .before .before .before .before .before .before .before .before .before .before .before .before .before .before .before .before .before .before .before .before .before .before .before .before .before .before .before .args .outer) (c .before .before .before .before .before .before .before .before .before .before .before .before .before .before .before .before .before .before .before .before .before .before .before .loop .inv .3) g e (c .before .before .before .before .before .before .before .before .before .before .before .before .before .before .before .before .before .before .push-variables .ensures) (c .before .before .before .before .before .before .before .before .before .before .before .push-slots .ensures) in
+    let n = round-levels (c .before .before .before .before .before .before .before .before .before .before .before .before .before .before .before .before .before .before .before .before .before .before .before .before .before .before .before .pre .0) (c .before .before .before .before .before .before .before .before .before .before .before .before .before .before .before .before .before .before .before .before .before .before .before .before .before .before .before .pre .1 .0) (c .before .before .before .before .before .before .before .before .before .before .before .before .before .before .before .before .before .before .before .before .before .before .before .before .before .before .before .args .thread) (c .before .before .before .before .before .before .before .before .before .before .before .before .before .before .before .before .before .before .before .before .before .before .before .before .before .before .before .args .outer) (c .before .before .before .before .before .before .before .before .before .before .before .before .before .before .before .before .before .before .before .before .before .before .before .loop .inv .3) g e (c .before .before .before .before .drain .ensures _ _ _ d) in
+    let d : c .before .before .before .before .before .before .before .before .before .before .before .before .before .before .before .before .before .before .before .before .before .before .before .before .before .before .before .args .depth - c .before .before .before .before .before .before .before .before .before .before .before .before .before .before .before .before .before .before .before .before .before .before .before .loop .left + 1 ≡ c .before .before .before .before .before .before .before .before .before .before .before .before .before .before .before .before .before .before .before .before .before .before .before .before .before .before .before .args .depth - (c .before .before .before .before .before .before .before .before .before .before .before .before .before .before .before .before .before .before .before .before .before .before .before .loop .left - 1) = omega (arith, c .before .before .before .before .before .before .before .before .before .before .before .before .before .before .before .before .before .before .before .before .before .before .loop-test .taken, c .before .before .before .before .before .before .before .before .before .before .before .before .before .before .before .before .before .before .before .before .before .before .before .loop .inv .0) in
+    (omega (arith, c .before .before .before .before .before .before .before .before .before .before .before .before .before .before .before .before .before .before .before .before .before .before .before .loop .inv .0), n .kept .cells-length, n .kept .tables-length, levels-at d n)
+
+same-length : tie.Need-same-length Inv-loop μ-loop
+same-length c =
+    c .before .loop .inv .1
+
+same-length-2 : tie.Need-same-length-2 Inv-loop μ-loop
+same-length-2 c =
+    c .before .loop .inv .2
+
+returns : tie.Need-returns Inv-loop μ-loop
+returns c =
+    let a = c .before .before .before .before .before .args in
+    let e : a .depth - c .before .loop .left ≡ a .depth = omega arith in
+    levels-at e (c .before .loop .inv .3)
+
+pub mark-levels-spec : {M : Type 1} → statement M
+mark-levels-spec =
+    tie.close
+    (tie.spec
+    Inv-loop
+    μ-loop
+    loop-holds
+    sub-level
+    region-at-requires
+    push-variables-requires
+    push-slots-requires
+    drain-requires
+    sub-left
+    loop-less
+    loop-again
+    same-length
+    same-length-2
+    returns)

@@ -1,0 +1,95 @@
+-- What the first f slots name is pushed. The slots are read where other cells' links were written, and pushes keep them.
+use mathlib.Core.Path.{_≡_, refl, sym, ap, _∙_, subst}
+use mathlib.Core.List.{List}
+use Prim.Native.Nat.{ℕ, _≤_, _<_, _+_, _-_, _/_}
+use native.Mathlib.Omega.{arith}
+use borrow.Author.Needs.{needs}
+use lib.ListN.{length}
+use Rattle.layout.specs.Cells.{fieldOf}
+use Rattle.mark.specs.Marks.{refCount, kept-field}
+use Rattle.mark.specs.Pushes.{Pushing, pushing-start, pushing-kept, pushing-shaped, ref-read, push-read, pushes-kept}
+use Rattle.mark.proofs.push.scan.Statement.{statement}
+use Rattle.mark.proofs.push.scan.Tie as tie
+
+abbrev Inv-loop : tie.InvT-loop
+Inv-loop p cells₀ tables₀ r c top n t₀ f₀ cells tables t f =
+    (f ≤ n) × (n ≡ refCount cells₀ c) × (n ≤ 14) × (length cells ≡ length cells₀) × (length tables ≡ length tables₀)
+    × Pushing p r (fieldOf cells₀ c) (refCount cells₀ c) cells₀ tables₀ top cells tables t f
+
+abbrev μ-loop : tie.MeasureT-loop
+μ-loop p cells₀ tables₀ r c top n t₀ f₀ cells tables t f = n - f
+
+head-requires : tie.Need-head-requires Inv-loop μ-loop
+head-requires c κs =
+    omega (arith, c .before .before .before .pre .1 .page, c .before .before .before .pre .0 .cells-long, c .before .before .before .pre .0 .room)
+
+field-count-requires : tie.Need-field-count-requires Inv-loop μ-loop
+field-count-requires c κs =
+    search needs
+
+loop-holds : tie.Need-loop-holds Inv-loop μ-loop
+loop-holds c =
+    let e : c .field-count .result ≡ refCount (c .before .before .before .before .before .args .cells .now) (c .before .before .before .before .before .args .c) = c .field-count .ensures ∙ ap (λ (x : ℕ). x / 16) (c .before .head .ensures) in
+    (omega arith, e, omega (arith, c .before .before .before .before .before .pre .0 .refs-few (c .before .before .before .before .before .args .c) (c .before .before .before .before .before .pre .1)), refl, refl, pushing-start _ _ _ _ _ _ _)
+
+field-requires : tie.Need-field-requires Inv-loop μ-loop
+field-requires c κs =
+    omega (arith, c .before .before .before .before .before .before .before .before .before .before .pre .1 .page, c .before .before .before .before .before .before .before .before .before .before .pre .0 .cells-long, c .before .before .before .before .before .before .before .before .before .before .pre .0 .room)
+
+push-requires : tie.Need-push-requires Inv-loop μ-loop
+push-requires c κs =
+    let l = c .before .before .before .before .before .loop in
+    let lt : l .f < refCount (c .before .before .before .before .before .before .before .before .before .before .before .args .cells .now) (c .before .before .before .before .before .before .before .before .before .before .before .args .c) = omega arith in
+    let u = c .before .before .before .before .before .before .before .before .before .before .before .pre .0 .references (c .before .before .before .before .before .before .before .before .before .before .before .args .c) (c .before .before .before .before .before .before .before .before .before .before .before .pre .1) in
+    let k = pushing-kept (c .before .before .before .before .before .before .before .before .before .before .before .pre .0) u lt (l .inv .5) in
+    (pushing-shaped (c .before .before .before .before .before .before .before .before .before .before .before .pre .0) u lt (l .inv .5), ref-read (c .before .before .before .before .before .before .before .before .before .before .before .pre .0) u lt (l .inv .5) (c .field .result) (c .field .ensures ∙ kept-field k (c .before .before .before .before .before .before .before .before .before .before .before .args .c) (l .f) (omega arith)))
+
+add-f : tie.Need-add-f Inv-loop μ-loop
+add-f c =
+    omega arith
+
+loop-less : tie.Need-loop-less Inv-loop μ-loop
+loop-less c =
+    omega arith
+
+loop-again : tie.Need-loop-again Inv-loop μ-loop
+loop-again c =
+    let l = c .before .before .before .before .before .before .before .before .before .before .loop in
+    let lt : l .f < refCount (c .before .before .before .before .before .before .before .before .before .before .before .before .before .before .before .before .args .cells .now) (c .before .before .before .before .before .before .before .before .before .before .before .before .before .before .before .before .args .c) = omega arith in
+    let u = c .before .before .before .before .before .before .before .before .before .before .before .before .before .before .before .before .pre .0 .references (c .before .before .before .before .before .before .before .before .before .before .before .before .before .before .before .before .args .c) (c .before .before .before .before .before .before .before .before .before .before .before .before .before .before .before .before .pre .1) in
+    let k = pushing-kept (c .before .before .before .before .before .before .before .before .before .before .before .before .before .before .before .before .pre .0) u lt (l .inv .5) in
+    let h = push-read (c .before .before .before .before .before .before .before .before .before .before .before .before .before .before .before .before .pre .0) u lt (l .inv .5) (c .before .before .before .before .before .field .result) (c .before .before .before .before .before .field .ensures ∙ kept-field k (c .before .before .before .before .before .before .before .before .before .before .before .before .before .before .before .before .args .c) (l .f) (omega arith)) (c .before .before .before .before .push .ensures) in
+    let k′ = pushes-kept _ _ (c .before .before .before .before .before .before .before .before .before .before .before .before .before .before .before .before .pre .0) (h .pushes) in
+    (omega arith, l .inv .1, l .inv .2, k′ .cells-length, k′ .tables-length, h)
+
+same-length : tie.Need-same-length Inv-loop μ-loop
+same-length c =
+    c .before .loop .inv .3
+
+same-length-2 : tie.Need-same-length-2 Inv-loop μ-loop
+same-length-2 c =
+    c .before .loop .inv .4
+
+returns : tie.Need-returns Inv-loop μ-loop
+returns c =
+    let l = c .before .loop in
+    let e : l .f ≡ refCount (c .before .before .before .before .before .before .before .args .cells .now) (c .before .before .before .before .before .before .before .args .c) = omega arith in
+    subst (λ (f : ℕ). Pushing (c .before .before .before .before .before .before .before .args .p) (c .before .before .before .before .before .before .before .args .r) (fieldOf (c .before .before .before .before .before .before .before .args .cells .now) (c .before .before .before .before .before .before .before .args .c)) (refCount (c .before .before .before .before .before .before .before .args .cells .now) (c .before .before .before .before .before .before .before .args .c)) (c .before .before .before .before .before .before .before .args .cells .now) (c .before .before .before .before .before .before .before .args .tables .now) (c .before .before .before .before .before .before .before .args .top) (l .cells) (l .tables) (l .t) f) e (l .inv .5)
+
+pub scan-spec : {M : Type 1} → statement M
+scan-spec =
+    tie.close
+    (tie.spec
+    Inv-loop
+    μ-loop
+    head-requires
+    field-count-requires
+    loop-holds
+    field-requires
+    push-requires
+    add-f
+    loop-less
+    loop-again
+    same-length
+    same-length-2
+    returns)

@@ -1,0 +1,55 @@
+-- Whole words are such as marking asks for, and the levels are then those of the rules.
+use Prim.Native.Nat.{ℕ, _≤_, _<_}
+use mathlib.Core.Path.{_≡_, _∙_}
+use native.Mathlib.Omega.{arith}
+use borrow.Author.Needs.{needs}
+use Rattle.promises.specs.Words.{words}
+use Rattle.mark.specs.Survivors.{space-of, shaped-at, holding-at, clean-at, marked-at}
+use Rattle.mark.proofs.survivors.mark_survivors.Statement.{statement}
+use Rattle.mark.proofs.survivors.mark_survivors.Tie as tie
+
+depth-requires : tie.Need-depth-requires
+depth-requires c κs =
+    (space-of (c .before .before .before .before .args .p) (c .before .before .before .before .pre .0) (words (c .before .before .before .before .args .cells .now) (c .before .before .before .before .args .remember .now) (c .before .before .before .before .args .tables .now)) (c .before .before .before .before .pre .1 .0) (omega arith), c .before .before .before .before .pre .1 .1 .0)
+
+wide-requires : tie.Need-wide-requires
+wide-requires c κs = search needs
+
+region-at-requires : tie.Need-region-at-requires
+region-at-requires c κs =
+    omega (arith, space-of (c .before .before .before .before .before .before .args .p) (c .before .before .before .before .before .before .pre .0) (words (c .before .before .before .before .before .before .args .cells .now) (c .before .before .before .before .before .before .args .remember .now) (c .before .before .before .before .before .before .args .tables .now)) (c .before .before .before .before .before .before .pre .1 .0) (omega arith), c .before .before .before .before .before .before .pre .1 .0 .placed .depths (c .before .before .before .before .before .before .args .thread) (c .before .before .before .before .before .before .pre .1 .1 .0), c .before .before .before .before .before .before .pre .1 .1 .0)
+
+sub-region-at : tie.Need-sub-region-at
+sub-region-at c = search needs
+
+region-at-requires-2 : tie.Need-region-at-requires-2
+region-at-requires-2 c κs =
+    omega (arith, space-of (c .before .before .before .before .before .before .before .args .p) (c .before .before .before .before .before .before .before .pre .0) (words (c .before .before .before .before .before .before .before .args .cells .now) (c .before .before .before .before .before .before .before .args .remember .now) (c .before .before .before .before .before .before .before .args .tables .now)) (c .before .before .before .before .before .before .before .pre .1 .0) (omega arith), c .before .before .before .before .before .before .before .pre .1 .0 .placed .depths (c .before .before .before .before .before .before .before .args .thread) (c .before .before .before .before .before .before .before .pre .1 .1 .0), c .before .before .before .before .before .before .before .pre .1 .1 .0)
+
+mark-levels-requires : tie.Need-mark-levels-requires
+mark-levels-requires c κs =
+    (shaped-at (c .before .before .before .before .before .before .before .before .before .before .args .p) (c .before .before .before .before .before .before .before .before .before .before .pre .0) (words (c .before .before .before .before .before .before .before .before .before .before .args .cells .now) (c .before .before .before .before .before .before .before .before .before .before .args .remember .now) (c .before .before .before .before .before .before .before .before .before .before .args .tables .now)) (c .before .before .before .before .before .before .before .before .before .before .pre .1 .0) (omega arith), (holding-at (c .before .before .before .before .before .before .before .before .before .before .args .p) (c .before .before .before .before .before .before .before .before .before .before .pre .0) (words (c .before .before .before .before .before .before .before .before .before .before .args .cells .now) (c .before .before .before .before .before .before .before .before .before .before .args .remember .now) (c .before .before .before .before .before .before .before .before .before .before .args .tables .now)) (c .before .before .before .before .before .before .before .before .before .before .pre .1 .0) (omega arith), (clean-at (c .before .before .before .before .before .before .before .before .before .before .args .p) (c .before .before .before .before .before .before .before .before .before .before .pre .0) (words (c .before .before .before .before .before .before .before .before .before .before .args .cells .now) (c .before .before .before .before .before .before .before .before .before .before .args .remember .now) (c .before .before .before .before .before .before .before .before .before .before .args .tables .now)) (c .before .before .before .before .before .before .before .before .before .before .pre .1 .0) (omega arith), (c .before .before .before .before .before .before .before .before .before .before .pre .1 .1 .0, omega (arith, c .before .before .before .before .before .before .before .before .before .before .pre .1 .0 .placed .depths (c .before .before .before .before .before .before .before .before .before .before .args .thread) (c .before .before .before .before .before .before .before .before .before .before .pre .1 .1 .0))))))
+
+same-length : tie.Need-same-length
+same-length c = search needs
+
+same-length-2 : tie.Need-same-length-2
+same-length-2 c = search needs
+
+returns : tie.Need-returns
+returns c =
+    marked-at (c .before .before .before .before .before .before .before .before .before .before .before .before .before .before .before .args .p) (c .before .before .before .before .before .before .before .before .before .before .before .before .before .before .before .pre .0) (words (c .before .before .before .before .before .before .before .before .before .before .before .before .before .before .before .args .cells .now) (c .before .before .before .before .before .before .before .before .before .before .before .before .before .before .before .args .remember .now) (c .before .before .before .before .before .before .before .before .before .before .before .before .before .before .before .args .tables .now)) (c .before .before .before .before .before .before .before .before .before .before .before .before .before .before .before .pre .1 .0) (omega arith) (c .before .before .before .before .before .before .before .before .before .before .before .before .before .before .before .args .thread) _ _ _ (c .before .before .before .before .before .before .before .before .before .before .before .before .before .before .before .pre .1 .1 .0) (omega (arith, c .before .before .before .before .before .before .before .before .before .before .before .before .before .before .before .pre .1 .1 .1)) (c .before .before .before .before .before .before .before .before .before .wide .ensures ∙ c .before .before .before .before .before .before .before .before .before .before .depth .ensures) (c .before .before .before .before .before .before .before .before .region-at .ensures) (c .before .before .before .before .before .before .before .region-at2 .ensures) (c .before .before .before .before .mark-levels .ensures)
+
+pub mark-survivors-spec : {M : Type 1} → statement M
+mark-survivors-spec =
+    tie.close
+    (tie.spec
+    depth-requires
+    wide-requires
+    region-at-requires
+    sub-region-at
+    region-at-requires-2
+    mark-levels-requires
+    same-length
+    same-length-2
+    returns)

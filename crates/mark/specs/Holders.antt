@@ -1,0 +1,159 @@
+-- The holders at the end of region r, read from the words: all variables, and the remembered slots that point into r. Each holds a
+-- reference and calls for a region.
+use mathlib.Core.Path.{_≡_, refl, sym, ap, ap₂, _∙_, subst}
+use mathlib.Core.Logic.{_⊎_, inl, inr, ⊎-elim}
+use mathlib.Core.Bool.{Bool, true, false, cond}
+use mathlib.Core.List.{List, _++_}
+use Prim.Native.Nat.{ℕ, _+_, _-_, _*_, _/_, _%_, _≤_, _<_}
+use native.Mathlib.Omega.{arith}
+use lib.Dec.{eqb}
+use lib.ListN.{length, getD}
+use borrow.Author.Tests.{eq-eqb, ne-eqb, eqb-true}
+use Rattle.lists.specs.Members.{In, in-append}
+use Rattle.rules.specs.Regions.{join}
+use Rattle.layout.specs.declared.Places.{Places}
+use Rattle.layout.specs.Places.{Room, sizesOf, varOf, ownerOf, usedIn, slotIn, slotRegionIn}
+use Rattle.layout.specs.Cells.{pageOf, cellOf, wordOf}
+use Rattle.promises.specs.Words.{InUse}
+use Rattle.promises.specs.Whole.{IsRef}
+use Rattle.mark.specs.Marks.{Kept, kept-in-use, kept-owner, Shaped, named, named-from, named-same}
+
+-- reference x of a holder that calls for q, or null if that is not g
+abbrev pub heldFor : ℕ → ℕ → ℕ → ℕ
+heldFor g q x = cond (eqb q g) x 0
+
+-- what variable i calls for: outer if it is the ending thread's, else the control space
+abbrev pub varCalls : Places → ℕ → ℕ → ℕ → ℕ
+varCalls p thread outer i = cond (eqb (i / p .variables) thread) outer 1
+
+unfoldable pub varHeld : Places → List ℕ → ℕ → ℕ → ℕ → ℕ → ℕ
+varHeld p T thread outer g i = heldFor g (varCalls p thread outer i) (varOf p T i)
+
+-- what the slot of entry i calls for: the join of r and the region that the slot lies in
+abbrev pub slotCalls : Places → List ℕ → List ℕ → ℕ → ℕ → ℕ
+slotCalls p m T r i = join (sizesOf p) r (ownerOf p T (pageOf (cellOf (slotIn m i))))
+
+unfoldable pub slotHeld : Places → List ℕ → List ℕ → List ℕ → ℕ → ℕ → ℕ → ℕ
+slotHeld p W m T r g i = cond (eqb (slotRegionIn (p .entries) m i) r) (heldFor g (slotCalls p m T r i) (getD W (slotIn m i) 0)) 0
+
+-- the cells that holders hold which call for g
+unfoldable pub heldCells : Places → List ℕ → List ℕ → List ℕ → ℕ → ℕ → ℕ → ℕ → List ℕ
+heldCells p W m T r thread outer g = named (varHeld p T thread outer g) (p .threads * p .variables) ++ named (slotHeld p W m T r g) (usedIn m)
+
+-- what holders hold is null or names a cell in use, and remembered slots are no working words
+pub record Holding (p : Places) (W m T : List ℕ) : Type 0 where
+  pub some : 1 ≤ p .variables
+  pub long : 2 * p .entries + 2 ≤ length m
+  pub few : usedIn m ≤ p .entries
+  pub variables : (i : ℕ) → i < p .threads * p .variables → IsRef p T (varOf p T i)
+  pub slot : (i : ℕ) → i < usedIn m → slotIn m i < 256 * p .pages
+  pub field : (i : ℕ) → i < usedIn m → wordOf (slotIn m i) ≡ 1 → ⊥
+  pub slots : (i : ℕ) → i < usedIn m → IsRef p T (getD W (slotIn m i) 0)
+
+cond-ref : (p : Places) (T : List ℕ) (b : Bool) (x : ℕ) → IsRef p T x → IsRef p T (cond b x 0)
+cond-ref p T true x h = h
+cond-ref p T false x h = λ l. absurd (let z : ⊥ = omega arith in z)
+
+module _ {p : Places} {W m T : List ℕ} (h : Holding p W m T) where
+  pub var-held-ref : (thread outer g i : ℕ) → i < p .threads * p .variables → IsRef p T (varHeld p T thread outer g i)
+  unfolding varHeld
+  var-held-ref thread outer g i l = cond-ref p T (eqb (varCalls p thread outer i) g) (varOf p T i) (h .variables i l)
+
+  pub slot-held-ref : (r g i : ℕ) → i < usedIn m → IsRef p T (slotHeld p W m T r g i)
+  unfolding slotHeld
+  slot-held-ref r g i l =
+      cond-ref p T (eqb (slotRegionIn (p .entries) m i) r) (heldFor g (slotCalls p m T r i) (getD W (slotIn m i) 0))
+      (cond-ref p T (eqb (slotCalls p m T r i) g) (getD W (slotIn m i) 0) (h .slots i l))
+
+  pub held-used : (r thread outer g x : ℕ) → In x (heldCells p W m T r thread outer g) → InUse p T x
+  unfolding heldCells
+  held-used r thread outer g x i =
+      ⊎-elim (λ j. of (varHeld p T thread outer g) (p .threads * p .variables) (var-held-ref thread outer g) j)
+      (λ j. of (slotHeld p W m T r g) (usedIn m) (slot-held-ref r g) j)
+      (in-append x (named (varHeld p T thread outer g) (p .threads * p .variables)) (named (slotHeld p W m T r g) (usedIn m)) i)
+    where
+      of : (ref : ℕ → ℕ) (n : ℕ) → ((k : ℕ) → k < n → IsRef p T (ref k)) → In x (named ref n) → InUse p T x
+      of ref n u j =
+          let q = named-from ref n x j in
+          let e : ref (q .0) ≡ 1 + x = q .2 in
+          let d : ref (q .0) - 1 ≡ x = omega arith in
+          subst (λ (y : ℕ). InUse p T y) d (u (q .0) (q .1) (omega arith))
+
+-- ---- what is held, as the code decides it
+
+pub calls-own : (p : Places) (thread outer i : ℕ) → i / p .variables ≡ thread → outer ≡ varCalls p thread outer i
+calls-own p thread outer i e = sym (ap (λ (b : Bool). cond b outer 1) (eq-eqb (i / p .variables) thread e))
+
+pub calls-other : (p : Places) (thread outer i : ℕ) → (i / p .variables ≡ thread → ⊥) → 1 ≡ varCalls p thread outer i
+calls-other p thread outer i n = sym (ap (λ (b : Bool). cond b outer 1) (ne-eqb (i / p .variables) thread n))
+
+-- q is what the holder calls for, x what it holds
+pub var-none : (p : Places) (T : List ℕ) (thread outer g i q : ℕ) → q ≡ varCalls p thread outer i → (q ≡ g → ⊥) → 0 ≡ varHeld p T thread outer g i
+unfolding varHeld
+var-none p T thread outer g i q e n =
+    sym (ap (λ (b : Bool). cond b (varOf p T i) 0) (ne-eqb (varCalls p thread outer i) g (λ z. n (e ∙ z))))
+
+pub var-some : (p : Places) (T : List ℕ) (thread outer g i q x : ℕ) → q ≡ varCalls p thread outer i → q ≡ g → x ≡ varOf p T i → x ≡ varHeld p T thread outer g i
+unfolding varHeld
+var-some p T thread outer g i q x e n f = f ∙ sym (ap (λ (b : Bool). cond b (varOf p T i) 0) (eq-eqb (varCalls p thread outer i) g (sym e ∙ n)))
+
+module _ (p : Places) (W m T : List ℕ) (r g i : ℕ) where
+  pub slot-elsewhere : (slotRegionIn (p .entries) m i ≡ r → ⊥) → 0 ≡ slotHeld p W m T r g i
+  unfolding slotHeld
+  slot-elsewhere n =
+      sym (ap (λ (b : Bool). cond b (heldFor g (slotCalls p m T r i) (getD W (slotIn m i) 0)) 0) (ne-eqb (slotRegionIn (p .entries) m i) r n))
+
+  pub slot-none : slotRegionIn (p .entries) m i ≡ r → (slotCalls p m T r i ≡ g → ⊥) → 0 ≡ slotHeld p W m T r g i
+  unfolding slotHeld
+  slot-none a n =
+      sym
+      (ap₂ (λ (b d : Bool). cond b (cond d (getD W (slotIn m i) 0) 0) 0) (eq-eqb (slotRegionIn (p .entries) m i) r a) (ne-eqb (slotCalls p m T r i) g n))
+
+  pub slot-some : slotRegionIn (p .entries) m i ≡ r → slotCalls p m T r i ≡ g → getD W (slotIn m i) 0 ≡ slotHeld p W m T r g i
+  unfolding slotHeld
+  slot-some a n =
+      sym
+      (ap₂ (λ (b d : Bool). cond b (cond d (getD W (slotIn m i) 0) 0) 0) (eq-eqb (slotRegionIn (p .entries) m i) r a) (eq-eqb (slotCalls p m T r i) g n))
+
+  -- the region that the slot of entry i calls for, as the code came to it
+  pub slot-call : (a b at page q u : ℕ) → a ≡ slotIn m i → at ≡ a → b ≡ cellOf at → page ≡ pageOf b → q ≡ ownerOf p T page → u ≡ join (sizesOf p) r q
+      → u ≡ slotCalls p m T r i
+  slot-call a b at page q u ea eat eb ep eq eu =
+      let cell : b ≡ cellOf (slotIn m i) = eb ∙ ap cellOf (eat ∙ ea) in
+      eu ∙ ap (join (sizesOf p) r) (eq ∙ ap (λ (z : ℕ). ownerOf p T z) (ep ∙ ap pageOf cell))
+
+-- ---- a marking changes none of it
+
+module _ {p : Places} {W T W′ T′ : List ℕ} (k : Kept p W T W′ T′) (room : Room p (length T)) {m : List ℕ} (h : Holding p W m T) where
+  kept-var : (i : ℕ) → i < p .threads * p .variables → varOf p T′ i ≡ varOf p T i
+  kept-var i l = k .tables (p .vars + i) (inl (omega arith))
+
+  kept-slot : (i : ℕ) → i < usedIn m → getD W′ (slotIn m i) 0 ≡ getD W (slotIn m i) 0
+  kept-slot i l = k .words (slotIn m i) (h .field i l)
+
+  pub holding-kept : Holding p W′ m T′
+  holding-kept =
+      record {
+        some = h .some;
+        long = h .long;
+        few = h .few;
+        variables = λ i l. subst (IsRef p T′) (sym (kept-var i l)) (λ n. kept-in-use k room (varOf p T i - 1) (h .variables i l n));
+        slot = h .slot;
+        field = h .field;
+        slots = λ i l. subst (IsRef p T′) (sym (kept-slot i l)) (λ n. kept-in-use k room (getD W (slotIn m i) 0 - 1) (h .slots i l n));
+      }
+
+  pub kept-var-held : (thread outer g i : ℕ) → i < p .threads * p .variables → varHeld p T′ thread outer g i ≡ varHeld p T thread outer g i
+  unfolding varHeld
+  kept-var-held thread outer g i l = ap (heldFor g (varCalls p thread outer i)) (kept-var i l)
+
+  pub kept-slot-held : (r g i : ℕ) → i < usedIn m → slotHeld p W′ m T′ r g i ≡ slotHeld p W m T r g i
+  unfolding slotHeld
+  kept-slot-held r g i l =
+      let page : pageOf (cellOf (slotIn m i)) < p .pages = omega (arith, h .slot i l) in
+      ap₂ (λ (q x : ℕ). cond (eqb (slotRegionIn (p .entries) m i) r) (heldFor g (join (sizesOf p) r q) x) 0) (kept-owner k room (cellOf (slotIn m i)) page) (kept-slot i l)
+
+  pub kept-held-cells : (r thread outer g : ℕ) → heldCells p W′ m T′ r thread outer g ≡ heldCells p W m T r thread outer g
+  unfolding heldCells
+  kept-held-cells r thread outer g =
+      ap₂ (λ (x y : List ℕ). x ++ y) (named-same _ _ (p .threads * p .variables) (kept-var-held thread outer g)) (named-same _ _ (usedIn m) (kept-slot-held r g))

@@ -1,0 +1,10 @@
+pub mod Marks
+pub mod Marking
+pub mod Pushes
+pub mod Draining
+pub mod Levels
+pub mod Holders
+pub mod Rounds
+pub mod Reached
+pub mod Survivors
+pub mod Unmark

@@ -1,0 +1,234 @@
+-- The words that a marking reads and writes: the objects of a region, their mark bits, and what one push does.
+use mathlib.Core.Path.{_≡_, refl, sym, ap, _∙_, subst}
+use mathlib.Core.Logic.{_≢_, _⊎_, inl, inr, ⊎-elim}
+use mathlib.Core.List.{List, [], _∷_}
+use Prim.Native.Nat.{ℕ, zero, suc, _+_, _-_, _*_, _/_, _%_, _^_, _≤_, _<_}
+use native.Mathlib.Decide.{ℕ-discrete}
+use native.Mathlib.Omega.{arith}
+use lib.ListN.{length, getD, set, length-set}
+use lib.Seq.{getD-set-same, getD-set-other}
+use Rattle.lists.specs.Bits.{bitAt, set-same, set-other}
+use Rattle.lists.specs.Members.{In}
+use Rattle.layout.specs.declared.Places.{Places}
+use Rattle.layout.specs.Places.{Room, ownerOf, usedOf, markAt, markOf}
+use Rattle.layout.specs.Cells.{headOf, workAt, workOf, fieldOf, pageOf, placeOf}
+use Rattle.promises.specs.Words.{InUse}
+use Rattle.promises.specs.Whole.{IsRef}
+
+abbrev pub refCount : List ℕ → ℕ → ℕ
+refCount W c = headOf W c / 16
+
+-- the region that owns the page of a cell
+abbrev pub owner : Places → List ℕ → ℕ → ℕ
+owner p T c = ownerOf p T (pageOf c)
+
+-- the cell's bit in the working word of its page
+abbrev pub marked : Places → List ℕ → ℕ → ℕ
+marked p T c = bitAt (markOf p T (pageOf c)) (placeOf c)
+
+-- the slices are long enough, and cells in use have at most 14 references, each null or to a cell in use
+pub record Shaped (p : Places) (W T : List ℕ) : Type 0 where
+  pub room : Room p (length T)
+  pub cells-long : 256 * p .pages ≤ length W
+  pub refs-few : (c : ℕ) → InUse p T c → refCount W c ≤ 14
+  pub references : (c : ℕ) → InUse p T c → (f : ℕ) → f < refCount W c → IsRef p T (fieldOf W c f)
+
+-- c is r's and not marked, and a chain of slots inside r leads to it from one of the cells S, over cells that are not marked
+pub data Reach (p : Places) (r : ℕ) (W T S : List ℕ) : ℕ → Type 0 where
+  held : {c : ℕ} → In c S → owner p T c ≡ r → marked p T c ≡ 0 → Reach p r W T S c
+  via : {b c : ℕ} → Reach p r W T S b → (f : ℕ) → f < refCount W b → fieldOf W b f ≡ 1 + c → owner p T c ≡ r → marked p T c ≡ 0 → Reach p r W T S c
+
+-- a chain of slots inside r, from x to c
+pub data Leads (p : Places) (r : ℕ) (W T : List ℕ) (x : ℕ) : ℕ → Type 0 where
+  here : owner p T x ≡ r → Leads p r W T x x
+  step : {b c : ℕ} → Leads p r W T x b → (f : ℕ) → f < refCount W b → fieldOf W b f ≡ 1 + c → owner p T c ≡ r → Leads p r W T x c
+
+-- the pending cells, linked through word 1, the bottom's link null
+abbrev pub Chain : List ℕ → ℕ → List ℕ → Type 0
+Chain W top [] = top ≡ 0
+Chain W top (c ∷ S) = (top ≡ 1 + c) × Chain W (workOf W c) S
+
+-- ---- the cells that references name: ref k, for k below n
+
+abbrev pub consRef : ℕ → List ℕ → List ℕ
+consRef zero l = l
+consRef (suc c) l = c ∷ l
+
+abbrev pub named : (ℕ → ℕ) → ℕ → List ℕ
+named ref zero = []
+named ref (suc n) = consRef (ref n) (named ref n)
+
+cons-in : (x c : ℕ) (l : List ℕ) → x ≡ 1 + c → In c (consRef x l)
+cons-in zero c l e = absurd (let z : ⊥ = omega arith in z)
+cons-in (suc x) c l e = inl (omega arith)
+
+cons-later : (x c : ℕ) (l : List ℕ) → In c l → In c (consRef x l)
+cons-later zero c l i = i
+cons-later (suc x) c l i = inr i
+
+cons-from : (x c : ℕ) (l : List ℕ) → In c (consRef x l) → (x ≡ 1 + c) ⊎ In c l
+cons-from zero c l i = inr i
+cons-from (suc x) c l (inl e) = inl (omega arith)
+cons-from (suc x) c l (inr i) = inr i
+
+pub named-in : (ref : ℕ → ℕ) (n k c : ℕ) → k < n → ref k ≡ 1 + c → In c (named ref n)
+named-in ref zero k c h e = absurd (let z : ⊥ = omega arith in z)
+named-in ref (suc n) k c h e = go (ℕ-discrete k n) (named-in ref n k c)
+  where
+    go : Dec (k ≡ n) → (k < n → ref k ≡ 1 + c → In c (named ref n)) → In c (consRef (ref n) (named ref n))
+    go (yes q) ih = cons-in (ref n) c (named ref n) (ap ref (sym q) ∙ e)
+    go (no q) ih = cons-later (ref n) c (named ref n) (ih (omega arith) e)
+
+pub named-from : (ref : ℕ → ℕ) (n c : ℕ) → In c (named ref n) → (k : ℕ) × (k < n) × (ref k ≡ 1 + c)
+named-from ref zero c i = absurd i
+named-from ref (suc n) c i =
+    ⊎-elim (λ e. (n, omega arith, e)) (λ j. let q = named-from ref n c j in (q .0, omega arith, q .2)) (cons-from (ref n) c (named ref n) i)
+
+pub named-same : (ref ref′ : ℕ → ℕ) (n : ℕ) → ((k : ℕ) → k < n → ref k ≡ ref′ k) → named ref n ≡ named ref′ n
+named-same ref ref′ zero e = refl
+named-same ref ref′ (suc n) e =
+    ap (λ (x : ℕ). consRef x (named ref n)) (e n (omega arith)) ∙ ap (consRef (ref′ n)) (named-same ref ref′ n (λ k l. e k (omega arith)))
+
+-- ---- one push, of reference x
+
+-- x is null, or another region's, or marked already
+pub record Skipped (p : Places) (r : ℕ) (W T : List ℕ) (top x : ℕ) (W′ T′ : List ℕ) (top′ : ℕ) : Type 0 where
+  pub cells : W′ ≡ W
+  pub tables : T′ ≡ T
+  pub stack : top′ ≡ top
+  pub why : 0 < x → owner p T (x - 1) ≡ r → marked p T (x - 1) ≡ 1
+
+pub record Linked (p : Places) (r : ℕ) (W T : List ℕ) (top x : ℕ) (W′ T′ : List ℕ) (top′ : ℕ) : Type 0 where
+  pub some : 0 < x
+  pub owned : owner p T (x - 1) ≡ r
+  pub off : marked p T (x - 1) ≡ 0
+  pub cells : W′ ≡ set W (workAt (x - 1)) top
+  pub tables : T′ ≡ set T (markAt p (pageOf (x - 1))) (markOf p T (pageOf (x - 1)) + 2 ^ placeOf (x - 1))
+  pub stack : top′ ≡ x
+
+abbrev pub Pushed : (p : Places) (r : ℕ) (W T : List ℕ) (top x : ℕ) (W′ T′ : List ℕ) (top′ : ℕ) → Type 0
+Pushed p r W T top x W′ T′ top′ = Skipped p r W T top x W′ T′ top′ ⊎ Linked p r W T top x W′ T′ top′
+
+-- ---- what no push and no pop changes: everything but word 1 of cells and the low 16 bits of working words
+
+pub record Kept (p : Places) (W T W′ T′ : List ℕ) : Type 0 where
+  pub cells-length : length W′ ≡ length W
+  pub tables-length : length T′ ≡ length T
+  pub words : (q : ℕ) → q % 16 ≢ 1 → getD W′ q 0 ≡ getD W q 0
+  pub tables : (q : ℕ) → (q < p .marks) ⊎ (p .marks + p .pages ≤ q) → getD T′ q 0 ≡ getD T q 0
+  pub high : (q i : ℕ) → 16 ≤ i → bitAt (getD T′ q 0) i ≡ bitAt (getD T q 0) i
+
+pub kept-refl : (p : Places) (W T : List ℕ) → Kept p W T W T
+kept-refl p W T = record { cells-length = refl; tables-length = refl; words = λ q h. refl; tables = λ q h. refl; high = λ q i h. refl }
+
+pub kept-trans : {p : Places} {W T W′ T′ W″ T″ : List ℕ} → Kept p W T W′ T′ → Kept p W′ T′ W″ T″ → Kept p W T W″ T″
+kept-trans a b =
+    record {
+      cells-length = b .cells-length ∙ a .cells-length;
+      tables-length = b .tables-length ∙ a .tables-length;
+      words = λ q h. b .words q h ∙ a .words q h;
+      tables = λ q h. b .tables q h ∙ a .tables q h;
+      high = λ q i h. b .high q i h ∙ a .high q i h;
+    }
+
+module _ {p : Places} {W T W′ T′ : List ℕ} (k : Kept p W T W′ T′) where
+  pub kept-refs : (c : ℕ) → refCount W′ c ≡ refCount W c
+  kept-refs c = ap (λ (x : ℕ). x / 16) (k .words (16 * c) (omega arith))
+
+  pub kept-field : (c f : ℕ) → f < 14 → fieldOf W′ c f ≡ fieldOf W c f
+  kept-field c f h = k .words (16 * c + 2 + f) (omega arith)
+
+  module _ (room : Room p (length T)) where
+    pub kept-owner : (c : ℕ) → pageOf c < p .pages → owner p T′ c ≡ owner p T c
+    kept-owner c h = k .tables (p .owners + pageOf c) (inl (omega arith))
+
+    pub kept-used : (page : ℕ) → page < p .pages → usedOf p T′ page ≡ usedOf p T page
+    kept-used page h = k .tables (p .used + page) (inl (omega arith))
+
+    pub kept-in-use : (c : ℕ) → InUse p T c → InUse p T′ c
+    kept-in-use c u = record { page = u .page; place = omega (arith, kept-used (pageOf c) (u .page), u .place) }
+
+    pub in-use-kept : (c : ℕ) → InUse p T′ c → InUse p T c
+    in-use-kept c u = record { page = u .page; place = omega (arith, kept-used (pageOf c) (u .page), u .place) }
+
+    pub kept-room : Room p (length T′)
+    kept-room = subst (Room p) (sym (k .tables-length)) room
+
+  pub kept-shaped : Shaped p W T → Shaped p W′ T′
+  kept-shaped s =
+      record {
+        room = kept-room (s .room);
+        cells-long = omega (arith, s .cells-long, k .cells-length);
+        refs-few = λ c u. omega (arith, s .refs-few c (in-use-kept (s .room) c u), kept-refs c);
+        references = λ c u f h.
+            let v : InUse p T c = in-use-kept (s .room) c u in
+            let l : refCount W c ≤ 14 = s .refs-few c v in
+            let b : f < refCount W c = omega (arith, kept-refs c) in
+            let e : fieldOf W′ c f ≡ fieldOf W c f = kept-field c f (omega arith) in
+            subst (IsRef p T′) (sym e) (λ n. kept-in-use (s .room) (fieldOf W c f - 1) (s .references c v f b n));
+      }
+
+-- ---- a mark that is set
+
+module _ (p : Places) (T : List ℕ) (c : ℕ) (long : markAt p (pageOf c) < length T) (off : marked p T c ≡ 0) where
+  abbrev word : ℕ
+  word = markOf p T (pageOf c) + 2 ^ placeOf c
+
+  pub mark-same : marked p (set T (markAt p (pageOf c)) word) c ≡ 1
+  mark-same =
+      ap (λ (x : ℕ). bitAt x (placeOf c)) (getD-set-same T (markAt p (pageOf c)) word 0 long) ∙ set-same (placeOf c) (markOf p T (pageOf c)) off
+
+  -- bit i of the word at q, where they are not c's
+  pub mark-other : (q i : ℕ) → (q ≡ markAt p (pageOf c) → i ≢ placeOf c) → bitAt (getD (set T (markAt p (pageOf c)) word) q 0) i ≡ bitAt (getD T q 0) i
+  mark-other q i ne = go (ℕ-discrete q (markAt p (pageOf c)))
+    where
+      go : Dec (q ≡ markAt p (pageOf c)) → bitAt (getD (set T (markAt p (pageOf c)) word) q 0) i ≡ bitAt (getD T q 0) i
+      go (yes e) =
+          subst (λ (x : ℕ). bitAt (getD (set T (markAt p (pageOf c)) word) x 0) i ≡ bitAt (getD T x 0) i) (sym e)
+          (ap (λ (x : ℕ). bitAt x i) (getD-set-same T (markAt p (pageOf c)) word 0 long) ∙ set-other (placeOf c) i (markOf p T (pageOf c)) off (ne e))
+      go (no n) = ap (λ (x : ℕ). bitAt x i) (getD-set-other T (markAt p (pageOf c)) q word 0 n)
+
+  pub mark-other-cell : (d : ℕ) → d ≢ c → marked p (set T (markAt p (pageOf c)) word) d ≡ marked p T d
+  mark-other-cell d ne = mark-other (markAt p (pageOf d)) (placeOf d) (λ e f. ne (omega arith))
+
+-- ---- a push as the code has it: the cell c of reference x, its page and place, and the working word w
+
+pub push-null : {p : Places} {r : ℕ} {W T : List ℕ} {top x : ℕ} → x ≡ 0 → Pushed p r W T top x W T top
+push-null z = inl (record { cells = refl; tables = refl; stack = refl; why = λ l. absurd (let y : ⊥ = omega arith in y) })
+
+pub push-foreign : {p : Places} {r : ℕ} {W T : List ℕ} {top x : ℕ} (y page : ℕ) → y ≡ x → page ≡ pageOf (y - 1) → (ownerOf p T page ≡ r → ⊥) → Pushed p r W T top x W T top
+push-foreign {p} {T} y page ey ep n =
+    inl (record { cells = refl; tables = refl; stack = refl; why = λ l e. absurd (n (ap (λ (z : ℕ). ownerOf p T z) (ep ∙ ap (λ (z : ℕ). pageOf (z - 1)) ey) ∙ e)) })
+
+pub push-marked : {p : Places} {r : ℕ} {W T : List ℕ} {top x : ℕ} (y page i w : ℕ) → y ≡ x → page ≡ pageOf (y - 1) → i ≡ placeOf (y - 1) → w ≡ markOf p T page → bitAt w i ≡ 1
+    → Pushed p r W T top x W T top
+push-marked {p} {T} {x} y page i w ey ep ei ew on =
+    let pg : page ≡ pageOf (x - 1) = ep ∙ ap (λ (z : ℕ). pageOf (z - 1)) ey in
+    let pl : i ≡ placeOf (x - 1) = ei ∙ ap (λ (z : ℕ). placeOf (z - 1)) ey in
+    inl
+    (record {
+      cells = refl;
+      tables = refl;
+      stack = refl;
+      why = λ l e.
+          ap (λ (z : ℕ). bitAt (markOf p T z) (placeOf (x - 1))) (sym pg) ∙ ap (λ (z : ℕ). bitAt z (placeOf (x - 1))) (sym ew) ∙ ap (bitAt w) (sym pl) ∙ on;
+    })
+
+pub push-links : {p : Places} {r : ℕ} {W T : List ℕ} {top x : ℕ} {W′ T′ : List ℕ} {top′ : ℕ} (y page i w w′ : ℕ) → 0 < x → y ≡ x → page ≡ pageOf (y - 1) → i ≡ placeOf (y - 1) → w ≡ markOf p T page → ownerOf p T page ≡ r
+    → bitAt w i ≡ 0 → w′ ≡ w + 2 ^ i → W′ ≡ set W (workAt (y - 1)) top → T′ ≡ set T (markAt p page) w′ → top′ ≡ x
+    → Pushed p r W T top x W′ T′ top′
+push-links {p} {r} {W} {T} {top} {x} y page i w w′ pos ey ep ei ew own off ew′ a b e =
+    let pg : page ≡ pageOf (x - 1) = ep ∙ ap (λ (z : ℕ). pageOf (z - 1)) ey in
+    let pl : i ≡ placeOf (x - 1) = ei ∙ ap (λ (z : ℕ). placeOf (z - 1)) ey in
+    let wd : w ≡ markOf p T (pageOf (x - 1)) = ew ∙ ap (λ (z : ℕ). markOf p T z) pg in
+    inr
+    (record {
+      some = pos;
+      owned = ap (λ (z : ℕ). ownerOf p T z) (sym pg) ∙ own;
+      off = ap (λ (z : ℕ). bitAt z (placeOf (x - 1))) (sym wd) ∙ ap (bitAt w) (sym pl) ∙ off;
+      cells = a ∙ ap (λ (z : ℕ). set W (workAt (z - 1)) top) ey;
+      tables =
+          b ∙ ap (λ (z : ℕ). set T (markAt p z) w′) pg
+          ∙ ap (set T (markAt p (pageOf (x - 1)))) (ew′ ∙ ap (λ (z : ℕ). z + 2 ^ i) wd ∙ ap (λ (z : ℕ). markOf p T (pageOf (x - 1)) + 2 ^ z) pl);
+      stack = e;
+    })

@@ -1,0 +1,286 @@
+-- Whole words against the rules: chains of slots are the rules' chains, and the holders that marking takes from the words are the rules'
+-- holders, each at the level of the region that it calls for.
+use mathlib.Core.Path.{_≡_, refl, sym, ap, ap₂, _∙_, subst}
+use mathlib.Core.Logic.{_⊎_, inl, inr, ⊎-elim}
+use mathlib.Core.Bool.{Bool, true, false, cond}
+use mathlib.Core.List.{List, _++_}
+use Prim.Native.Nat.{ℕ, zero, suc, _+_, _-_, _*_, _/_, _%_, _≤_, _<_}
+use native.Mathlib.Omega.{arith}
+use native.Mathlib.Numerals.{one-add}
+use native.Mathlib.Nat.{div-add-mod', mod-lt}
+use native.Mathlib.Decide.{ℕ-discrete, decLt}
+use lib.Dec.{eqb, leb}
+use lib.ListN.{length, getD}
+use borrow.Author.Tests.{eq-eqb, ne-eqb, eqb-true, eqb-false, leb-false, lt-leb}
+use Rattle.lists.specs.Members.{In, in-append, in-left, in-right, getD-in}
+use Rattle.rules.specs.declared.Sizes.{Sizes}
+use Rattle.rules.specs.Regions.{regionAt, threadOf, levelOf, parent, join}
+use Rattle.rules.specs.Graph.{Graph}
+use Rattle.laws.specs.RegionLaws.{region-high, thread-at, parent-at, join-control, join-other, join-same}
+use Rattle.laws.specs.GraphLaws as gl
+use Rattle.laws.specs.GraphLaws.{Alive, Refers, Holds, bySlot, byOwn, byOther}
+use Rattle.layout.specs.declared.Places.{Places}
+use Rattle.layout.specs.Places.{placesOf, sizesOf, varOf, ownerOf, usedIn, slotIn, slotRegionIn, Room}
+use Rattle.layout.specs.Cells.{headOf, fieldAt, fieldOf, pageOf, placeOf, cellOf, wordOf}
+use Rattle.promises.specs.Words.{Words, Used, InUse, ownerIn, homeIn, depthIn, refCount, refsIn, varsIn, graphOf}
+use Rattle.promises.specs.Crossing.{other, regionOf, crossTo}
+use Rattle.promises.specs.Whole.{WholeFor, IsRef}
+use Rattle.promises.specs.Slots.{Slot, crossesTo, region-of, slot-low, slot-cross, cross-slot, slot-field, field-slot}
+use Rattle.promises.specs.Reading.{range, cells-room, remember-room, used-home, used-owned, used-alive, alive-used, cell-low, length-refs, getD-refs, length-vars, getD-vars, inside-list, in-place}
+use Rattle.mark.specs.Marks.{Shaped, Leads, Leads.here, Leads.step, named, named-in, named-from}
+use Rattle.mark.specs.Holders.{heldFor, varCalls, varHeld, slotCalls, slotHeld, heldCells, Holding, calls-own, calls-other, var-some, slot-some}
+
+-- ---- numbers that are chosen by tests
+
+some-cond : (b : Bool) (x y : ℕ) → cond b x 0 ≡ 1 + y → (b ≡ true) × (x ≡ 1 + y)
+some-cond true x y e = (refl, e)
+some-cond false x y e = absurd (let z : ⊥ = omega arith in z)
+
+-- the region that a slot crosses into lies elsewhere, and is that of its reference
+other-is : (o g : ℕ) → 0 < other o g → (other o g ≡ g) × (1 < g) × (o ≡ g → ⊥)
+other-is o g = go (leb g 1) refl (eqb g o) refl
+  where
+    go : (a : Bool) → leb g 1 ≡ a → (b : Bool) → eqb g o ≡ b → 0 < cond a 0 (cond b 0 g) → (cond a 0 (cond b 0 g) ≡ g) × (1 < g) × (o ≡ g → ⊥)
+    go true ea b eb h = absurd (let z : ⊥ = omega arith in z)
+    go false ea true eb h = absurd (let z : ⊥ = omega arith in z)
+    go false ea false eb h = (refl, leb-false g 1 ea, λ e. eqb-false g o eb (sym e))
+
+pub is-other : (o g : ℕ) → 1 < g → (o ≡ g → ⊥) → other o g ≡ g
+is-other o g l n = ap₂ (λ (a b : Bool). cond a 0 (cond b 0 g)) (lt-leb g 1 l) (ne-eqb g o (λ e. n (sym e)))
+
+module _ (s : Sizes) (w : Words) (k : WholeFor s w) where
+  -- ---- objects and their slots
+
+  pub home-cell : (c q : ℕ) → homeIn s w c ≡ q → 0 < q → Used s w c × (ownerIn s w (pageOf c) ≡ q)
+  home-cell c q e l =
+      let u = alive-used s w k c (λ (z : homeIn s w c ≡ 0). omega arith) in (u, sym (used-home s w k c u) ∙ e)
+
+  pub cell-home : (c q : ℕ) → Used s w c → ownerIn s w (pageOf c) ≡ q → homeIn s w c ≡ q
+  cell-home c q u e = used-home s w k c u ∙ e
+
+  few : (c : ℕ) → Used s w c → refCount w c ≤ 14
+  few c u = omega (arith, k .placed .formed c u .head)
+
+  pub refers-field : (y x : ℕ) → Refers (graphOf s w) y x → (f : ℕ) × (f < refCount w y) × (fieldOf (w .cells) y f ≡ suc x)
+  refers-field y x r =
+      let i = in-place (refsIn w y) (suc x) (r .slot) in
+      let l : i .0 < refCount w y = omega (arith, i .1, length-refs s w k y (alive-used s w k y (r .there))) in
+      (i .0, l, sym (getD-refs w y (i .0) l) ∙ i .2)
+
+  pub field-refers : (y f x : ℕ) → Used s w y → f < refCount w y → fieldOf (w .cells) y f ≡ suc x → Refers (graphOf s w) y x
+  field-refers y f x u l e =
+      record { below = cell-low s w k y u; there = used-alive s w k y u; slot = getD-in (refsIn w y) f x (getD-refs w y f l ∙ e) }
+
+  -- what a reference names is in use
+  field-used : (y f x : ℕ) → Used s w y → f < refCount w y → fieldOf (w .cells) y f ≡ suc x → Used s w x
+  field-used y f x u l e =
+      let z : fieldOf (w .cells) y f - 1 ≡ x = omega arith in subst (Used s w) z (k .placed .references y u f l (omega arith))
+
+  -- ---- chains
+
+  module _ (r : ℕ) (pos : 0 < r) where
+    pub chain-rules : (x c : ℕ) → Used s w x → Leads (placesOf s) r (w .cells) (w .tables) x c → gl.Leads (graphOf s w) r x c × Used s w c × (homeIn s w c ≡ r)
+    chain-rules x c u (here own) = (gl.itself, u, cell-home x r u own)
+    chain-rules x c u (step {b = b} q f lt e own) =
+        let h = chain-rules x b u q in
+        let e′ : fieldOf (w .cells) b f ≡ suc c = e ∙ one-add c in
+        let v = field-used b f c (h .1) lt e′ in
+        (gl.along (h .0) (field-refers b f c (h .1) lt e′) (h .2) (cell-home c r v own), v, cell-home c r v own)
+
+    pub rules-chain : (x c : ℕ) → homeIn s w x ≡ r → gl.Leads (graphOf s w) r x c → Leads (placesOf s) r (w .cells) (w .tables) x c
+    rules-chain x c h gl.itself = here (home-cell x r h pos .1)
+    rules-chain x c h (gl.along {y = y} {z = z} q f a b) =
+        let i = refers-field y z f in step (rules-chain x y h q) (i .0) (i .1) (i .2 ∙ sym (one-add z)) (home-cell z r b pos .1)
+
+  -- ---- regions
+
+  -- the region of a cell in use is the control space, or a thread's at a level that is open
+  pub data Lies (q : ℕ) : Type 0 where
+    control : q ≡ 1 → Lies q
+    level : (u i : ℕ) → i < depthIn w u → i < s .depth → q ≡ regionAt s u (suc i) → Lies q
+
+  pub cell-lies : (c : ℕ) → Used s w c → Lies (ownerIn s w (pageOf c))
+  unfolding regionAt
+  cell-lies c u = go (decLt 1 q)
+    where
+      q : ℕ
+      q = ownerIn s w (pageOf c)
+
+      go : Dec (1 < q) → Lies q
+      go (no n) = let nz = used-owned s w k c u in control (omega arith)
+      go (yes l) =
+          let o = k .placed .pages (pageOf c) (u .page) .region l in
+          let d : 0 < s .depth = omega (arith, range s w k .depth-low) in
+          level (threadOf s q) ((q - 2) % s .depth) (omega (arith, o .level)) (mod-lt (q - 2) d) (number (q - 2) (omega arith))
+        where
+          number : (n : ℕ) → q ≡ n + 2 → q ≡ regionAt s (n / s .depth) (suc (n % s .depth))
+          number n e = omega (arith, div-add-mod' n (s .depth))
+
+  -- ---- the words are such as marking asks for
+
+  pub whole-shaped : Room (placesOf s) (length (w .tables)) → Shaped (placesOf s) (w .cells) (w .tables)
+  whole-shaped room =
+      record { room = room; cells-long = cells-room s w k; refs-few = few; references = λ c u f l. k .placed .references c u f l }
+
+  -- the slot of entry i
+  entry-slot : (i : ℕ) → i < usedIn (w .remember) → Slot (placesOf s) (w .cells) (w .tables) (slotIn (w .remember) i)
+  entry-slot i l =
+      let e = k .placed .remember .entries .named i l in
+      cross-slot (placesOf s) (w .cells) (w .tables) (slotIn (w .remember) i) (e .slot) (omega (arith, e .region, e .right))
+
+  pub whole-holding : Holding (placesOf s) (w .cells) (w .remember) (w .tables)
+  whole-holding =
+      record {
+        some = range s w k .variables-low;
+        long = remember-room s w k;
+        few = k .placed .remember .entries .room;
+        variables = k .placed .variables;
+        slot = λ i l. k .placed .remember .entries .named i l .slot;
+        field = λ i l e. omega (arith, entry-slot i l .field);
+        slots = λ i l.
+            let q = slotIn (w .remember) i in
+            let o = entry-slot i l in
+            let f = slot-field (placesOf s) (w .cells) (w .tables) q o in
+            subst (λ (z : ℕ). IsRef (placesOf s) (w .tables) (getD (w .cells) z 0)) (f .0) (k .placed .references (cellOf q) (o .used) (wordOf q - 2) (f .1));
+      }
+
+  -- ---- entry i of region r: its slot lies outside r and names an object of r
+
+  pub record Enters (r i : ℕ) : Type 0 where
+    pub used : Used s w (cellOf (slotIn (w .remember) i))
+    pub field : ℕ
+    pub below : field < refCount w (cellOf (slotIn (w .remember) i))
+    pub at : fieldAt (cellOf (slotIn (w .remember) i)) field ≡ slotIn (w .remember) i
+    pub outside : ownerIn s w (pageOf (cellOf (slotIn (w .remember) i))) ≡ r → ⊥
+
+  pub entry-enters : (r i : ℕ) → i < usedIn (w .remember) → slotRegionIn (s .entries) (w .remember) i ≡ r → Enters r i
+  entry-enters r i l e =
+      let q = slotIn (w .remember) i in
+      let o = entry-slot i l in
+      let f = slot-field (placesOf s) (w .cells) (w .tables) q o in
+      let n = k .placed .remember .entries .named i l in
+      let x = regionOf (placesOf s) (w .tables) (getD (w .cells) q 0) in
+      let c : other (ownerIn s w (pageOf (cellOf q))) x ≡ r = sym (slot-cross (placesOf s) (w .cells) (w .tables) q o) ∙ n .right ∙ e in
+      let h = other-is (ownerIn s w (pageOf (cellOf q))) x (omega (arith, n .region)) in
+      record { used = o .used; field = wordOf q - 2; below = f .1; at = f .0; outside = λ z. h .2 (z ∙ sym c ∙ h .0) }
+
+  -- and each such slot has an entry
+  pub enters-entry : (r y f x : ℕ) → 1 < r → Used s w y → (ownerIn s w (pageOf y) ≡ r → ⊥) → f < refCount w y → fieldOf (w .cells) y f ≡ suc x
+      → ownerIn s w (pageOf x) ≡ r → (i : ℕ) × (i < usedIn (w .remember)) × (slotIn (w .remember) i ≡ fieldAt y f) × (slotRegionIn (s .entries) (w .remember) i ≡ r)
+  enters-entry r y f x pos u out l e own =
+      let q = fieldAt y f in
+      let cell : cellOf q ≡ y = omega (arith, few y u) in
+      let o = field-slot (placesOf s) (w .cells) (w .tables) y f u (omega (arith, few y u)) l in
+      let v = field-used y f x u l e in
+      let c : crossTo (placesOf s) (w .cells) (w .tables) q ≡ r =
+      slot-cross (placesOf s) (w .cells) (w .tables) q o
+      ∙ ap₂ (λ (a b : ℕ). other (ownerIn s w (pageOf a)) (regionOf (placesOf s) (w .tables) b)) cell e
+      ∙ ap (other (ownerIn s w (pageOf y))) (region-of (placesOf s) (w .tables) x v ∙ own) ∙ is-other (ownerIn s w (pageOf y)) r pos out in
+      let i = k .placed .remember .every q (slot-low (placesOf s) (w .cells) (w .tables) q o) (omega arith) in
+      let n = k .placed .remember .entries .named (i .0) (i .1) in
+      (i .0, i .1, i .2, sym (n .right) ∙ ap (crossTo (placesOf s) (w .cells) (w .tables)) (i .2) ∙ c)
+
+  -- ---- the innermost region of thread t, at its depth suc j
+
+  module _ (t j : ℕ) (th : t < s .threads) (dk : depthIn w t ≡ suc j) where
+    abbrev r : ℕ
+    r = regionAt s t (suc j)
+
+    -- its parent
+    abbrev outer : ℕ
+    outer = regionAt s t j
+
+    abbrev held : ℕ → List ℕ
+    held g = heldCells (placesOf s) (w .cells) (w .remember) (w .tables) r t outer g
+
+    deep : j < s .depth
+    deep = omega (arith, k .placed .depths t th)
+
+    -- what is held for g is held by a holder that calls for g
+    pub held-holds : (g x : ℕ) → homeIn s w x ≡ r → In x (held g) → Holds s (graphOf s w) r x g
+    unfolding heldCells varHeld slotHeld
+    held-holds g x h i =
+        ⊎-elim variable slot
+        (in-append x (named (varHeld (placesOf s) (w .tables) t outer g) (s .threads * s .variables))
+        (named (slotHeld (placesOf s) (w .cells) (w .remember) (w .tables) r g) (usedIn (w .remember))) i)
+      where
+        variable : In x (named (varHeld (placesOf s) (w .tables) t outer g) (s .threads * s .variables)) → Holds s (graphOf s w) r x g
+        variable m =
+            let q = named-from (varHeld (placesOf s) (w .tables) t outer g) (s .threads * s .variables) x m in
+            let v = some-cond (eqb (varCalls (placesOf s) t outer (q .0)) g) (varOf (placesOf s) (w .tables) (q .0)) x (q .2) in
+            let at : getD (varsIn s w) (q .0) 0 ≡ suc x = getD-vars s w (q .0) (q .1) ∙ v .1 ∙ one-add x in
+            let e : varCalls (placesOf s) t outer (q .0) ≡ g = eqb-true _ _ (v .0) in
+            go (q .0) at e (ℕ-discrete (q .0 / s .variables) t)
+          where
+            go : (i : ℕ) → getD (varsIn s w) i 0 ≡ suc x → varCalls (placesOf s) t outer i ≡ g → Dec (i / s .variables ≡ t) → Holds s (graphOf s w) r x g
+            go i at e (yes d) = byOwn i at (d ∙ sym (thread-at s t j deep)) (sym e ∙ sym (calls-own (placesOf s) t outer i d) ∙ sym (parent-at s t j deep))
+            go i at e (no d) = byOther i at (λ z. d (z ∙ thread-at s t j deep)) (sym e ∙ sym (calls-other (placesOf s) t outer i d))
+
+        slot : In x (named (slotHeld (placesOf s) (w .cells) (w .remember) (w .tables) r g) (usedIn (w .remember))) → Holds s (graphOf s w) r x g
+        slot m =
+            let q = named-from (slotHeld (placesOf s) (w .cells) (w .remember) (w .tables) r g) (usedIn (w .remember)) x m in
+            let a = some-cond (eqb (slotRegionIn (s .entries) (w .remember) (q .0)) r) _ x (q .2) in
+            let b = some-cond (eqb (slotCalls (placesOf s) (w .remember) (w .tables) r (q .0)) g) _ x (a .1) in
+            let n = entry-enters r (q .0) (q .1) (eqb-true _ _ (a .0)) in
+            let y = cellOf (slotIn (w .remember) (q .0)) in
+            let f : fieldOf (w .cells) y (n .field) ≡ suc x = ap (λ (z : ℕ). getD (w .cells) z 0) (n .at) ∙ b .1 ∙ one-add x in
+            let hy : homeIn s w y ≡ ownerIn s w (pageOf y) = used-home s w k y (n .used) in
+            bySlot y (field-refers y (n .field) x (n .used) (n .below) f) (λ z. n .outside (sym hy ∙ z)) (sym (eqb-true _ _ (b .0)) ∙ ap (join s r) (sym hy))
+
+    -- a variable, or a slot outside r, that calls for the region of level l is held there
+    var-held : (x l i : ℕ) → getD (varsIn s w) i 0 ≡ suc x → regionAt s t l ≡ varCalls (placesOf s) t outer i → In x (held (regionAt s t l))
+    unfolding heldCells
+    var-held x l i at c =
+        let b : i < s .threads * s .variables = omega (arith, inside-list (varsIn s w) i x at, length-vars s w k) in
+        let g : ℕ = regionAt s t l in
+        in-left x (named (varHeld (placesOf s) (w .tables) t outer g) (s .threads * s .variables))
+        (named (slotHeld (placesOf s) (w .cells) (w .remember) (w .tables) r g) (usedIn (w .remember)))
+        (named-in (varHeld (placesOf s) (w .tables) t outer g) (s .threads * s .variables) i x b
+        (sym (var-some (placesOf s) (w .tables) t outer g i (varCalls (placesOf s) t outer i) (varOf (placesOf s) (w .tables) i) refl (sym c) refl)
+        ∙ sym (getD-vars s w i b) ∙ at ∙ sym (one-add x)))
+
+    slot-held : (x l y : ℕ) → homeIn s w x ≡ r → Refers (graphOf s w) y x → (homeIn s w y ≡ r → ⊥) → join s r (homeIn s w y) ≡ regionAt s t l → In x (held (regionAt s t l))
+    unfolding heldCells
+    slot-held x l y h f o e =
+        let u = alive-used s w k y (f .there) in
+        let i = refers-field y x f in
+        let hy = used-home s w k y u in
+        let n = enters-entry r y (i .0) x (region-high s t j) u (λ z. o (hy ∙ z)) (i .1) (i .2) (home-cell x r h (omega (arith, region-high s t j)) .1) in
+        let b : i .0 < refCount w y = i .1 in
+        let back : cellOf (fieldAt y (i .0)) ≡ y = omega (arith, few y u) in
+        let cell : cellOf (slotIn (w .remember) (n .0)) ≡ y = ap cellOf (n .2) ∙ back in
+        let g : ℕ = regionAt s t l in
+        let call : slotCalls (placesOf s) (w .remember) (w .tables) r (n .0) ≡ g = ap (λ (z : ℕ). join s r (ownerIn s w (pageOf z))) cell ∙ ap (join s r) (sym hy) ∙ e in
+        in-right x (named (varHeld (placesOf s) (w .tables) t outer g) (s .threads * s .variables))
+        (named (slotHeld (placesOf s) (w .cells) (w .remember) (w .tables) r g) (usedIn (w .remember)))
+        (named-in (slotHeld (placesOf s) (w .cells) (w .remember) (w .tables) r g) (usedIn (w .remember)) (n .0) x (n .1)
+        (sym (slot-some (placesOf s) (w .cells) (w .remember) (w .tables) r g (n .0) (n .3) call) ∙ ap (λ (z : ℕ). getD (w .cells) z 0) (n .2) ∙ i .2 ∙ sym (one-add x)))
+
+    -- what a slot outside r calls for is the region of a level below
+    slot-level : (y : ℕ) → Used s w y → (homeIn s w y ≡ r → ⊥) → (l : ℕ) × (l < suc j) × (join s r (homeIn s w y) ≡ regionAt s t l)
+    unfolding regionAt
+    slot-level y u o = go (cell-lies y u)
+      where
+        hy : homeIn s w y ≡ ownerIn s w (pageOf y)
+        hy = used-home s w k y u
+
+        go : Lies (ownerIn s w (pageOf y)) → (l : ℕ) × (l < suc j) × (join s r (homeIn s w y) ≡ regionAt s t l)
+        go (control z) = (0, omega arith, ap (join s r) (hy ∙ z) ∙ join-control s r)
+        go (level v i b d z) = same (ℕ-discrete t v)
+          where
+            same : Dec (t ≡ v) → (l : ℕ) × (l < suc j) × (join s r (homeIn s w y) ≡ regionAt s t l)
+            same (no n) = (0, omega arith, ap (join s r) (hy ∙ z) ∙ join-other s t j v i deep d n)
+            same (yes e) =
+                let apart : i ≡ j → ⊥ = λ c. o (hy ∙ z ∙ ap₂ (λ (a b : ℕ). regionAt s a (suc b)) (sym e) c) in
+                let low : i < suc j = omega (arith, ap (depthIn w) e) in
+                (suc i, omega arith, ap (join s r) (hy ∙ z) ∙ join-same s t j v i deep d e (omega arith) ∙ ap (λ (a : ℕ). regionAt s a (suc i)) (sym e))
+
+    -- each holder calls for the region of a level below, and is held there
+    pub holds-held : (x q : ℕ) → homeIn s w x ≡ r → Holds s (graphOf s w) r x q → (l : ℕ) × (l < suc j) × (q ≡ regionAt s t l) × In x (held (regionAt s t l))
+    unfolding regionAt
+    holds-held x q h (byOwn i at d e) =
+        (j, omega arith, e ∙ parent-at s t j deep, var-held x j i at (calls-own (placesOf s) t outer i (d ∙ thread-at s t j deep)))
+    holds-held x q h (byOther i at d e) =
+        (0, omega arith, e, var-held x 0 i at (calls-other (placesOf s) t outer i (λ z. d (z ∙ sym (thread-at s t j deep)))))
+    holds-held x q h (bySlot y f o e) =
+        let l = slot-level y (alive-used s w k y (f .there)) o in (l .0, l .1, e ∙ l .2, slot-held x (l .0) y h f o (l .2))

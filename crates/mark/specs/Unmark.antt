@@ -1,0 +1,243 @@
+-- Marks and word 1 are cleared again: what a refused end leaves is what it found.
+use mathlib.Core.Path.{_≡_, refl, sym, ap, ap₂, _∙_, subst, subst₂}
+use mathlib.Core.Logic.{_≢_}
+use mathlib.Core.List.{List}
+use Prim.Native.Nat.{ℕ, zero, suc, _+_, _-_, _*_, _/_, _%_, _^_, _≤_, _<_}
+use native.Mathlib.Decide.{ℕ-discrete, decLt}
+use native.Mathlib.Omega.{arith}
+use lib.Count.{ones, trailingZeros}
+use lib.ListN.{length, getD, set, length-set}
+use lib.Seq.{getD-set-same, getD-set-other, ext-getD}
+use Rattle.lists.specs.Bits.{bitAt, bit-lt, bit-zero, clear-same, clear-other, clear-ones, ones-zero, Lowest, lowest}
+use Rattle.rules.specs.declared.Sizes.{Sizes}
+use Rattle.layout.specs.declared.Places.{Places}
+use Rattle.layout.specs.Places.{placesOf, markAt, markOf, Room}
+use Rattle.layout.specs.Cells.{workAt, workOf, pageOf, placeOf, cellOn}
+use Rattle.rules.specs.Graph.{target}
+use Rattle.promises.specs.Words.{Words, Used, ownerIn, usedIn, graphOf}
+use Rattle.promises.specs.Whole.{WholeFor}
+use Rattle.mark.specs.Marks.{marked}
+use Rattle.mark.specs.Survivors.{Marked}
+
+-- ---- the set bits of a word, one after another: after k of them are cleared, left remains
+
+pub record Walked (w left k : ℕ) : Type 0 where
+  pub count : k + ones left ≡ ones w
+  pub small : left < 2 ^ 16
+  pub under : (i : ℕ) → bitAt left i ≡ 1 → bitAt w i ≡ 1
+
+pub walk-start : (w : ℕ) → w < 2 ^ 16 → Walked w w 0
+walk-start w l = record { count = omega arith; small = l; under = λ i h. h }
+
+some-left : (w left k : ℕ) → Walked w left k → k < ones w → left ≢ 0
+some-left w left k h l z = omega (arith, h .count, ap ones z, ones-zero)
+
+pub walk-lowest : {w left k : ℕ} → Walked w left k → k < ones w → Lowest left (trailingZeros 32 left)
+walk-lowest {w} {left} {k} h l = lowest left (some-left w left k h l) (h .small)
+
+-- what is set after bit i is cleared was set
+still-on : (left i j : ℕ) → bitAt left i ≡ 1 → bitAt (left - 2 ^ i) j ≡ 1 → bitAt left j ≡ 1
+still-on left i j on b = go (ℕ-discrete j i)
+  where
+    go : Dec (j ≡ i) → bitAt left j ≡ 1
+    go (yes e) = ap (bitAt left) e ∙ on
+    go (no n) = sym (clear-other i j left on n) ∙ b
+
+pub walk-next : {w left k : ℕ} (i : ℕ) → Walked w left k → Lowest left i → Walked w (left - 2 ^ i) (k + 1)
+walk-next {w} {left} {k} i h l =
+    record {
+      count = omega (arith, h .count, clear-ones i left (l .on));
+      small = omega (arith, h .small, l .le);
+      under = λ j b. h .under j (still-on left i j (l .on) b);
+    }
+
+-- at the end none is left
+pub walk-end : {w left k : ℕ} → Walked w left k → ones w ≤ k → ones left ≡ 0
+walk-end h l = omega (arith, h .count)
+
+pub none-left : (left : ℕ) → left < 2 ^ 16 → ones left ≡ 0 → left ≡ 0
+none-left left l z = go (ℕ-discrete left 0)
+  where
+    go : Dec (left ≡ 0) → left ≡ 0
+    go (yes e) = e
+    go (no n) = let i = lowest left n l in absurd (let y : ⊥ = omega (arith, clear-ones (trailingZeros 32 left) left (i .on)) in y)
+
+-- ---- one page
+
+-- word 1 of the cells of a page whose bit is set in w and no more in left is 0, and nothing else is changed
+pub record PageCleared (page w left : ℕ) (W W′ : List ℕ) : Type 0 where
+  pub cells-length : length W′ ≡ length W
+  pub words : (x : ℕ) → x % 16 ≢ 1 → getD W′ x 0 ≡ getD W x 0
+  pub cleared : (c : ℕ) → pageOf c ≡ page → bitAt w (placeOf c) ≡ 1 → bitAt left (placeOf c) ≡ 0 → workOf W′ c ≡ 0
+  pub same : (c : ℕ) → (pageOf c ≡ page → bitAt w (placeOf c) ≡ 1 → bitAt left (placeOf c) ≡ 0 → ⊥) → workOf W′ c ≡ workOf W c
+
+pub page-start : (page w : ℕ) (W : List ℕ) → PageCleared page w w W W
+page-start page w W =
+    record {
+      cells-length = refl;
+      words = λ x h. refl;
+      cleared = λ c e a b. absurd (let z : ⊥ = omega arith in z);
+      same = λ c h. refl;
+    }
+
+-- d is the cell of the lowest bit, as the code has it
+pub page-clear : {page w left k : ℕ} {W W′ : List ℕ} (i d : ℕ) → d ≡ cellOn page i → 256 * page + 256 ≤ length W → Walked w left k → Lowest left i → PageCleared page w left W W′
+    → PageCleared page w (left - 2 ^ i) W (set W′ (workAt d) 0)
+page-clear {page} {w} {left} {k} {W} {W′} i d e long u l h =
+    record {
+      cells-length = length-set W′ (workAt d) 0 ∙ h .cells-length;
+      words = λ y ne. getD-set-other W′ (workAt d) y 0 0 (λ z. ne (omega arith)) ∙ h .words y ne;
+      cleared = λ c a b z. at-cell c (ℕ-discrete c d) a b z;
+      same = λ c n. else-cell c (ℕ-discrete c d) n;
+    }
+  where
+    len : workAt d < length W′
+    len = omega (arith, l .lt, h .cells-length)
+
+    here : (c : ℕ) → c ≡ d → placeOf c ≡ i
+    here c z = omega (arith, l .lt)
+
+    at-cell : (c : ℕ) → Dec (c ≡ d) → pageOf c ≡ page → bitAt w (placeOf c) ≡ 1 → bitAt (left - 2 ^ i) (placeOf c) ≡ 0 → workOf (set W′ (workAt d) 0) c ≡ 0
+    at-cell c (yes z) a b y = subst (λ (y : ℕ). workOf (set W′ (workAt d) 0) y ≡ 0) (sym z) (getD-set-same W′ (workAt d) 0 0 len)
+    at-cell c (no z) a b y =
+        let ne : placeOf c ≢ i = (λ y. z (omega arith)) in
+        getD-set-other W′ (workAt d) (workAt c) 0 0 (λ y. z (omega arith)) ∙ h .cleared c a b (sym (clear-other i (placeOf c) left (l .on) ne) ∙ y)
+
+    else-cell : (c : ℕ) → Dec (c ≡ d) → (pageOf c ≡ page → bitAt w (placeOf c) ≡ 1 → bitAt (left - 2 ^ i) (placeOf c) ≡ 0 → ⊥) → workOf (set W′ (workAt d) 0) c ≡ workOf W c
+    else-cell c (yes z) n =
+        absurd
+        (n (omega (arith, l .lt)) (u .under (placeOf c) (ap (bitAt left) (here c z) ∙ l .on))
+        (ap (bitAt (left - 2 ^ i)) (here c z) ∙ clear-same i left (l .on)))
+    else-cell c (no z) n =
+        getD-set-other W′ (workAt d) (workAt c) 0 0 (λ y. z (omega arith))
+        ∙ h .same c (λ a b y. let ne : placeOf c ≢ i = (λ y. z (omega arith)) in n a b (clear-other i (placeOf c) left (l .on) ne ∙ y))
+
+-- X is the cells after the store, left′ what is left of the word
+pub page-turn : {page w left k : ℕ} {W W′ : List ℕ} (i d left′ : ℕ) (X : List ℕ) → d ≡ cellOn page i → 256 * page + 256 ≤ length W → Walked w left k → Lowest left i
+    → PageCleared page w left W W′ → X ≡ set W′ (workAt d) 0 → left′ ≡ left - 2 ^ i → Walked w left′ (k + 1) × PageCleared page w left′ W X
+page-turn {page} {w} {left} {k} {W} {W′} i d left′ X e long u l h a b = (
+  subst (λ (z : ℕ). Walked w z (k + 1)) (sym b) (walk-next i u l),
+  subst₂ (λ (Y : List ℕ) (z : ℕ). PageCleared page w z W Y) (sym a) (sym b) (page-clear i d e long u l h),
+)
+
+pub page-end : {page w left k : ℕ} {W W′ : List ℕ} → Walked w left k → ones w ≤ k → PageCleared page w left W W′ → PageCleared page w 0 W W′
+page-end {page} {w} {left} {k} {W} {W′} u l h = subst (λ (z : ℕ). PageCleared page w z W W′) (none-left left (u .small) (walk-end u l)) h
+
+-- ---- the pages below n
+
+pub record Unmarked (p : Places) (n : ℕ) (W T W′ T′ : List ℕ) : Type 0 where
+  pub cells-length : length W′ ≡ length W
+  pub tables-length : length T′ ≡ length T
+  pub words : (x : ℕ) → x % 16 ≢ 1 → getD W′ x 0 ≡ getD W x 0
+  pub tables : (x : ℕ) → ((page : ℕ) → page < n → x ≡ markAt p page → ⊥) → getD T′ x 0 ≡ getD T x 0
+  pub marks : (page : ℕ) → page < n → markOf p T′ page ≡ 0
+  pub cleared : (c : ℕ) → pageOf c < n → marked p T c ≡ 1 → workOf W′ c ≡ 0
+  pub same : (c : ℕ) → (pageOf c < n → marked p T c ≡ 0) → workOf W′ c ≡ workOf W c
+
+pub unmark-start : (p : Places) (W T : List ℕ) → Unmarked p 0 W T W T
+unmark-start p W T =
+    record {
+      cells-length = refl;
+      tables-length = refl;
+      words = λ x h. refl;
+      tables = λ x h. refl;
+      marks = λ page h. absurd (let z : ⊥ = omega arith in z);
+      cleared = λ c h. absurd (let z : ⊥ = omega arith in z);
+      same = λ c h. refl;
+    }
+
+-- the mark word that the code reads is still the old one
+pub unmark-word : {p : Places} {n : ℕ} {W T W′ T′ : List ℕ} → Unmarked p n W T W′ T′ → markOf p T′ n ≡ markOf p T n
+unmark-word {p} {n} h = h .tables (markAt p n) (λ page l e. omega arith)
+
+unmark-next : {p : Places} {n w : ℕ} {W T W′ T′ W″ : List ℕ} → p .marks + p .pages ≤ length T → n < p .pages → w ≡ markOf p T′ n → Unmarked p n W T W′ T′
+    → PageCleared n w 0 W′ W″ → Unmarked p (n + 1) W T W″ (set T′ (markAt p n) 0)
+unmark-next {p} {n} {w} {W} {T} {W′} {T′} {W″} long lt ew h c =
+    record {
+      cells-length = c .cells-length ∙ h .cells-length;
+      tables-length = length-set T′ (markAt p n) 0 ∙ h .tables-length;
+      words = λ x ne. c .words x ne ∙ h .words x ne;
+      tables = λ x k. getD-set-other T′ (markAt p n) x 0 0 (k n (omega arith)) ∙ h .tables x (λ page l. k page (omega arith));
+      marks = λ page l. zeros page l (ℕ-discrete page n);
+      cleared = λ d l on. gone d on l (ℕ-discrete (pageOf d) n);
+      same = λ d k. stays d k (ℕ-discrete (pageOf d) n);
+    }
+  where
+    zeros : (page : ℕ) → page < n + 1 → Dec (page ≡ n) → markOf p (set T′ (markAt p n) 0) page ≡ 0
+    zeros page l (yes e) =
+        subst (λ (y : ℕ). markOf p (set T′ (markAt p n) 0) y ≡ 0) (sym e) (getD-set-same T′ (markAt p n) 0 0 (omega (arith, h .tables-length)))
+    zeros page l (no e) = getD-set-other T′ (markAt p n) (markAt p page) 0 0 (λ y. e (omega arith)) ∙ h .marks page (omega arith)
+
+    bit-here : (d : ℕ) → pageOf d ≡ n → bitAt w (placeOf d) ≡ marked p T d
+    bit-here d e = ap (λ (x : ℕ). bitAt x (placeOf d)) (ew ∙ unmark-word h ∙ ap (λ (y : ℕ). markOf p T y) (sym e))
+
+    gone : (d : ℕ) → marked p T d ≡ 1 → pageOf d < n + 1 → Dec (pageOf d ≡ n) → workOf W″ d ≡ 0
+    gone d on l (yes e) = c .cleared d e (bit-here d e ∙ on) (bit-zero (placeOf d))
+    gone d on l (no e) = c .same d (λ a b z. e a) ∙ h .cleared d (omega arith) on
+
+    stays : (d : ℕ) → (pageOf d < n + 1 → marked p T d ≡ 0) → Dec (pageOf d ≡ n) → workOf W″ d ≡ workOf W d
+    stays d k (yes e) =
+        let off : marked p T d ≡ 0 = k (omega arith) in c .same d (λ a b z. omega (arith, bit-here d e)) ∙ h .same d (λ l. k (omega arith))
+    stays d k (no e) = c .same d (λ a b z. e a) ∙ h .same d (λ l. k (omega arith))
+
+-- X is the tables after the store
+pub unmark-turn : {p : Places} {n w : ℕ} {W T W′ T′ W″ X : List ℕ} → p .marks + p .pages ≤ length T → n < p .pages → w ≡ markOf p T′ n → Unmarked p n W T W′ T′
+    → PageCleared n w 0 W′ W″ → X ≡ set T′ (markAt p n) 0 → Unmarked p (n + 1) W T W″ X
+unmark-turn {p} {n} {W} {T} {W″ = W″} long lt ew h c e = subst (λ (Y : List ℕ). Unmarked p (n + 1) W T W″ Y) (sym e) (unmark-next long lt ew h c)
+
+-- ---- a marking that is undone
+
+module _ (s : Sizes) (w : Words) (k : WholeFor s w) (r : ℕ) (w′ : Words) (M : Marked s w r w′) {W T : List ℕ}
+    (U : Unmarked (placesOf s) (s .pages) (w′ .cells) (w′ .tables) W T) where
+  pub tables-back : T ≡ w .tables
+  tables-back =
+      ext-getD 0 T (w .tables) (U .tables-length ∙ M .tables-length) (λ x l. go x (decLt x (placesOf s .marks)) (decLt x (placesOf s .marks + s .pages)))
+    where
+      away : (x : ℕ) → ((page : ℕ) → page < s .pages → x ≡ markAt (placesOf s) page → ⊥) → getD T x 0 ≡ getD (w .tables) x 0
+      away x n = U .tables x n ∙ M .tables x n
+
+      go : (x : ℕ) → Dec (x < placesOf s .marks) → Dec (x < placesOf s .marks + s .pages) → getD T x 0 ≡ getD (w .tables) x 0
+      go x (yes a) b = away x (λ page l e. omega arith)
+      go x (no a) (yes b) =
+          let q : ℕ = x - placesOf s .marks in
+          let e : placesOf s .marks + q ≡ x = omega arith in
+          subst (λ (y : ℕ). getD T y 0 ≡ getD (w .tables) y 0) e (U .marks q (omega arith) ∙ sym (k .placed .marks q (omega arith)))
+      go x (no a) (no b) = away x (λ page l e. omega arith)
+
+  used? : (c : ℕ) → Dec (Used s w c)
+  used? c = go (decLt (pageOf c) (s .pages)) (decLt (placeOf c) (usedIn s w (pageOf c)))
+    where
+      go : Dec (pageOf c < s .pages) → Dec (placeOf c < usedIn s w (pageOf c)) → Dec (Used s w c)
+      go (yes a) (yes b) = yes (record { page = a; place = b })
+      go (no a) d = no (λ u. a (u .page))
+      go (yes a) (no b) = no (λ u. b (u .place))
+
+  work-back : (c : ℕ) → workOf W c ≡ workOf (w .cells) c
+  work-back c = go (decLt (pageOf c) (s .pages)) (ℕ-discrete (marked (placesOf s) (w′ .tables) c) 1)
+    where
+      -- an object of r that is not marked is freed, and has 0 in word 1 as before; any other cell is not touched
+      unmarked : Used s w c → ownerIn s w (pageOf c) ≡ r → (marked (placesOf s) (w′ .tables) c ≡ 1 → ⊥) → workOf (w′ .cells) c ≡ workOf (w .cells) c
+      unmarked u own n = M .goes c u own ∙ zero-target (decLt 0 (target s (graphOf s w) r c)) ∙ sym (k .placed .working c u)
+        where
+          zero-target : Dec (0 < target s (graphOf s w) r c) → target s (graphOf s w) r c ≡ 0
+          zero-target (yes l) = absurd (n (M .survives c u own l))
+          zero-target (no l) = omega arith
+
+      kept : (marked (placesOf s) (w′ .tables) c ≡ 1 → ⊥) → Dec (Used s w c) → Dec (ownerIn s w (pageOf c) ≡ r) → workOf (w′ .cells) c ≡ workOf (w .cells) c
+      kept n (yes u) (yes own) = unmarked u own n
+      kept n (yes u) (no own) = M .cells (workAt c) (λ d e v o. own (subst (λ (z : ℕ). ownerIn s w (pageOf z) ≡ r) (let z : d ≡ c = omega arith in z) o))
+      kept n (no u) d = M .cells (workAt c) (λ d e v o. u (subst (Used s w) (let z : d ≡ c = omega arith in z) v))
+
+      go : Dec (pageOf c < s .pages) → Dec (marked (placesOf s) (w′ .tables) c ≡ 1) → workOf W c ≡ workOf (w .cells) c
+      go (yes b) (yes on) = U .cleared c b on ∙ sym (k .placed .working c (M .only c b on .0))
+      go (yes b) (no n) =
+          let z : marked (placesOf s) (w′ .tables) c ≡ 0 = omega (arith, bit-lt (placeOf c) (markOf (placesOf s) (w′ .tables) (pageOf c))) in
+          U .same c (λ l. z) ∙ kept n (used? c) (ℕ-discrete (ownerIn s w (pageOf c)) r)
+      go (no b) d = U .same c (λ l. absurd (b l)) ∙ M .cells (workAt c) (λ d e v o. b (subst (λ (z : ℕ). pageOf z < s .pages) (let z : d ≡ c = omega arith in z) (v .page)))
+
+  pub cells-back : W ≡ w .cells
+  cells-back = ext-getD 0 W (w .cells) (U .cells-length ∙ M .cells-length) (λ x l. go x (ℕ-discrete (x % 16) 1))
+    where
+      go : (x : ℕ) → Dec (x % 16 ≡ 1) → getD W x 0 ≡ getD (w .cells) x 0
+      go x (yes e) = let y : workAt (x / 16) ≡ x = omega arith in subst (λ (z : ℕ). getD W z 0 ≡ getD (w .cells) z 0) y (work-back (x / 16))
+      go x (no ne) = U .words x ne ∙ M .cells x (λ c e u own. ne (omega arith))

@@ -1,0 +1,120 @@
+// The holders at the end of region r: all variables, and the remembered slots that point into r. Those that call for one region are
+// pushed in one pass over both.
+ghost use mathlib.Core.Path.{_≡_};
+ghost use mathlib.Core.List.{List};
+ghost use Prim.Native.Nat.{ℕ, _+_, _*_, _<_, _≤_};
+ghost use lib.ListN.{length};
+ghost use Rattle.layout.specs.Places.{Room, usedIn, slotIn};
+ghost use Rattle.mark.specs.Marks.{Shaped};
+ghost use Rattle.mark.specs.Pushes.{Pushing};
+ghost use Rattle.mark.specs.Holders.{varCalls, varHeld, slotHeld, Holding};
+use crate::push::push;
+use layout::Places;
+use layout::cells::cell_of;
+use layout::cells::page_of;
+use layout::regions::join;
+use layout::remember::region;
+use layout::remember::slot;
+use layout::remember::used;
+use layout::tables::owner;
+use layout::tables::var;
+use layout::wide;
+
+// The region that variable i calls for: outer if it is the ending thread's, else the control space.
+pub fn variable_calls(p: Places, thread: usize, outer: u32, i: usize) -> u32
+    requires { ⌜ 1 ≤ p .variables ⌝ }
+    ensures { λ q. ⌜ q ≡ varCalls p thread outer i ⌝ }
+{
+    if i / p.variables != thread {
+        return 1;
+    }
+    outer
+}
+
+// What variable i holds if it calls for g, else null.
+pub fn variable_for(p: Places, tables: &[u32], thread: usize, outer: u32, g: u32, i: usize) -> u32
+    requires { ⌜ Room p (length (now tables)) ⌝ }
+    requires { ⌜ (1 ≤ p .variables) × (i < p .threads * p .variables) ⌝ }
+    ensures { λ x. ⌜ x ≡ varHeld p (now (tables .entry)) thread outer g i ⌝ }
+{
+    if variable_calls(p, thread, outer, i) != g {
+        return 0;
+    }
+    var(p, tables, i)
+}
+
+// What the slot of entry i holds if it points into r and calls for g, else null.
+pub fn slot_for(
+    p: Places,
+    cells: &[u32],
+    remember: &[u32],
+    tables: &[u32],
+    r: u32,
+    g: u32,
+    i: usize,
+) -> u32
+    requires { ⌜ Room p (length (now tables)) ⌝ }
+    requires { ⌜ (256 * p .pages ≤ length (now cells)) × (2 * p .entries + 2 ≤ length (now remember)) ⌝ }
+    requires { ⌜ (i < p .entries) × (slotIn (now remember) i < 256 * p .pages) ⌝ }
+    ensures { λ x. ⌜ x ≡ slotHeld p (now (cells .entry)) (now (remember .entry)) (now (tables .entry)) r g i ⌝ }
+{
+    if region(p.entries, remember, i) != r {
+        return 0;
+    }
+    let at = wide(slot(p.entries, remember, i));
+    if join(p, r, owner(p, tables, page_of(cell_of(at)))) != g {
+        return 0;
+    }
+    cells[at]
+}
+
+// Pushes what the variables hold that call for g.
+pub fn push_variables(
+    p: Places,
+    cells: &mut [u32],
+    tables: &mut [u32],
+    r: u32,
+    thread: usize,
+    outer: u32,
+    g: u32,
+    top: u32,
+) -> u32
+    requires { ⌜ Shaped p (now cells) (now tables) ⌝ }
+    requires { ⌜ ((m : List ℕ) × Holding p (now cells) m (now tables)) ⌝ }
+    ensures { λ t. ⌜ Pushing p r (varHeld p (now (tables .entry)) thread outer g) (p .threads * p .variables) (now (cells .entry)) (now (tables .entry)) top (now (cells .exit)) (now (tables .exit)) t (p .threads * p .variables) ⌝ }
+{
+    let n = p.threads * p.variables;
+    let mut t = top;
+    let mut i: usize = 0;
+    while i < n {
+        let x = variable_for(p, tables, thread, outer, g, i);
+        t = push(p, cells, tables, r, x, t);
+        i += 1;
+    }
+    t
+}
+
+// Pushes what the remembered slots hold that point into r and call for g.
+pub fn push_slots(
+    p: Places,
+    cells: &mut [u32],
+    remember: &[u32],
+    tables: &mut [u32],
+    r: u32,
+    g: u32,
+    top: u32,
+) -> u32
+    requires { ⌜ Shaped p (now cells) (now tables) ⌝ }
+    requires { ⌜ Holding p (now cells) (now remember) (now tables) ⌝ }
+    ensures { λ t. ⌜ Pushing p r (slotHeld p (now (cells .entry)) (now (remember .entry)) (now (tables .entry)) r g) (usedIn (now (remember .entry))) (now (cells .entry)) (now (tables .entry)) top (now (cells .exit)) (now (tables .exit)) t (usedIn (now (remember .entry))) ⌝ }
+{
+    let n = wide(used(remember));
+    let mut t = top;
+    let mut i: usize = 0;
+    while i < n {
+        let x = slot_for(p, cells, remember, tables, r, g, i);
+        t = push(p, cells, tables, r, x, t);
+        i += 1;
+    }
+    t
+}

@@ -1,0 +1,43 @@
+// Marking, outermost level first, so that each object goes to the outermost region called for by a holder whose chain reaches it.
+ghost use mathlib.Core.Path.{_≡_};
+ghost use Prim.Native.Nat.{ℕ, _+_, _<_, _≤_};
+ghost use Rattle.rules.specs.Regions.{regionAt};
+ghost use Rattle.layout.specs.Places.{sizesOf};
+ghost use Rattle.layout.specs.Cells.{pageOf};
+ghost use Rattle.mark.specs.Marks.{Shaped, marked};
+ghost use Rattle.mark.specs.Levels.{Levels};
+ghost use Rattle.mark.specs.Holders.{Holding, heldCells};
+use crate::drain::drain;
+use crate::holders::push_slots;
+use crate::holders::push_variables;
+use layout::Places;
+use layout::regions::region_at;
+
+// For each level of the thread below depth, the control space being level 0: what holders calling for its region hold is pushed, then
+// all that it leads to inside r is marked.
+pub fn mark_levels(
+    p: Places,
+    cells: &mut [u32],
+    remember: &[u32],
+    tables: &mut [u32],
+    r: u32,
+    thread: usize,
+    outer: u32,
+    depth: usize,
+)
+    requires { ⌜ Shaped p (now cells) (now tables) ⌝ }
+    requires { ⌜ Holding p (now cells) (now remember) (now tables) ⌝ }
+    requires { ⌜ ((c : ℕ) → pageOf c < p .pages → marked p (now tables) c ≡ 0) ⌝ }
+    requires { ⌜ (thread < p .threads) × (depth ≤ p .depth) ⌝ }
+    ensures { λ _. ⌜ Levels p r depth (regionAt (sizesOf p) thread) (λ l. heldCells p (now (cells .entry)) (now (remember .entry)) (now (tables .entry)) r thread outer (regionAt (sizesOf p) thread l)) (now (cells .entry)) (now (tables .entry)) (now (cells .exit)) (now (tables .exit)) ⌝ }
+{
+    let mut left = depth;
+    while left != 0 {
+        let level = depth - left;
+        let g = region_at(p, thread, level);
+        let held = push_variables(p, cells, tables, r, thread, outer, g, 0);
+        let top = push_slots(p, cells, remember, tables, r, g, held);
+        drain(p, cells, tables, r, g, top);
+        left -= 1;
+    }
+}

@@ -1,0 +1,61 @@
+// The stack of objects to look at, threaded through word 1 of the pending cells.
+ghost use Prim.Native.Nat.{ℕ};
+ghost use Rattle.layout.specs.Cells.{fieldOf};
+ghost use Rattle.promises.specs.Words.{InUse};
+ghost use Rattle.promises.specs.Whole.{IsRef};
+ghost use Rattle.mark.specs.Marks.{Shaped, Pushed, refCount};
+ghost use Rattle.mark.specs.Pushes.{Pushing};
+use crate::bits::bit_at;
+use crate::bits::with_bit;
+use layout::Kind;
+use layout::Places;
+use layout::cells::field;
+use layout::cells::field_count;
+use layout::cells::head;
+use layout::cells::page_of;
+use layout::cells::place_of;
+use layout::cells::set_work;
+use layout::tables::mark;
+use layout::tables::owner;
+use layout::tables::set_mark;
+use layout::wide;
+
+// If reference x names an object of r that is not marked, it is marked and goes on the stack, whose new top is returned.
+pub fn push(p: Places, cells: &mut [u32], tables: &mut [u32], r: u32, x: u32, top: u32) -> u32
+    requires { ⌜ Shaped p (now cells) (now tables) ⌝ }
+    requires { ⌜ IsRef p (now tables) x ⌝ }
+    ensures { λ t. ⌜ Pushed p r (now (cells .entry)) (now (tables .entry)) top x (now (cells .exit)) (now (tables .exit)) t ⌝ }
+{
+    if x == 0 {
+        return top;
+    }
+    let c = wide(x) - 1;
+    let page = page_of(c);
+    if owner(p, tables, page) != r {
+        return top;
+    }
+    let w = mark(p, tables, page);
+    let i = place_of(c);
+    if bit_at(w, i) != 0 {
+        return top;
+    }
+    set_mark(p, tables, page, with_bit(w, i));
+    set_work(cells, c, top);
+    x
+}
+
+// Pushes what the slots of cell c name. They are read while the links of other cells are written.
+pub fn scan(p: Places, cells: &mut [u32], tables: &mut [u32], r: u32, c: usize, top: u32) -> u32
+    requires { ⌜ Shaped p (now cells) (now tables) ⌝ }
+    requires { ⌜ InUse p (now tables) c ⌝ }
+    ensures { λ t. ⌜ Pushing p r (fieldOf (now (cells .entry)) c) (refCount (now (cells .entry)) c) (now (cells .entry)) (now (tables .entry)) top (now (cells .exit)) (now (tables .exit)) t (refCount (now (cells .entry)) c) ⌝ }
+{
+    let n = field_count(Kind::Reference, head(cells, c));
+    let mut t = top;
+    let mut f: usize = 0;
+    while f < n {
+        t = push(p, cells, tables, r, field(cells, c, f), t);
+        f += 1;
+    }
+    t
+}

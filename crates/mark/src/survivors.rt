@@ -1,0 +1,32 @@
+// The first stage of an end.
+ghost use mathlib.Core.Path.{_≡_};
+ghost use Prim.Native.Nat.{ℕ, _<_, _≤_};
+ghost use Rattle.rules.specs.Regions.{regionAt};
+ghost use Rattle.layout.specs.Places.{placesOf, sizesOf, depthOf};
+ghost use Rattle.promises.specs.Words.{words};
+ghost use Rattle.promises.specs.Whole.{WholeFor};
+ghost use Rattle.mark.specs.Survivors.{Marked};
+use crate::levels::mark_levels;
+use layout::Places;
+use layout::regions::region_at;
+use layout::tables::depth;
+use layout::wide;
+
+// Marks what survives the end of the thread's innermost region.
+pub fn mark_survivors(
+    p: Places,
+    cells: &mut [u32],
+    remember: &[u32],
+    tables: &mut [u32],
+    thread: usize,
+)
+    requires { ⌜ p ≡ placesOf (sizesOf p) ⌝ }
+    requires { ⌜ WholeFor (sizesOf p) (words (now cells) (now remember) (now tables)) ⌝ }
+    requires { ⌜ (thread < p .threads) × (1 ≤ depthOf (now tables) thread) ⌝ }
+    ensures { λ _. ⌜ Marked (sizesOf p) (words (now (cells .entry)) (now (remember .entry)) (now (tables .entry))) (regionAt (sizesOf p) thread (depthOf (now (tables .entry)) thread)) (words (now (cells .exit)) (now (remember .entry)) (now (tables .exit))) ⌝ }
+{
+    let d = wide(depth(p, tables, thread));
+    let r = region_at(p, thread, d);
+    let outer = region_at(p, thread, d - 1);
+    mark_levels(p, cells, remember, tables, r, thread, outer, d);
+}

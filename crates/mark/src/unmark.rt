@@ -1,0 +1,45 @@
+// A marking is undone: a refused end leaves every word as it was.
+ghost use mathlib.Core.Path.{_≡_};
+ghost use Prim.Native.Nat.{ℕ, _+_, _*_, _^_, _<_, _≤_};
+ghost use lib.ListN.{length};
+ghost use Rattle.layout.specs.Places.{Room, markOf};
+ghost use Rattle.mark.specs.Unmark.{PageCleared, Unmarked};
+use crate::bits::without_bit;
+use layout::Places;
+use layout::cells::cell_on;
+use layout::cells::set_work;
+use layout::tables::mark;
+use layout::tables::set_mark;
+use layout::wide;
+
+// Word 1 of each cell of a page whose bit is set in w becomes 0: as many cells as w's ones count, the next one by trailing zeros.
+pub fn unmark_page(cells: &mut [u32], w: u32, page: usize)
+    requires { ⌜ (w < 2 ^ 16) × (page < 1024) × (256 * page + 256 ≤ length (now cells)) ⌝ }
+    ensures { λ _. ⌜ PageCleared page w 0 (now (cells .entry)) (now (cells .exit)) ⌝ }
+{
+    let n = u32::count_ones(w);
+    let mut left = w;
+    let mut k: u32 = 0;
+    while k < n {
+        let i = u32::trailing_zeros(left);
+        set_work(cells, cell_on(page, wide(i)), 0);
+        left = without_bit(left, i);
+        k += 1;
+    }
+}
+
+// Clears every mark, and word 1 of the cells that were marked.
+pub fn unmark(p: Places, cells: &mut [u32], tables: &mut [u32])
+    requires { ⌜ Room p (length (now tables)) ⌝ }
+    requires { ⌜ 256 * p .pages ≤ length (now cells) ⌝ }
+    requires { ⌜ ((page : ℕ) → page < p .pages → markOf p (now tables) page < 2 ^ 16) ⌝ }
+    ensures { λ _. ⌜ Unmarked p (p .pages) (now (cells .entry)) (now (tables .entry)) (now (cells .exit)) (now (tables .exit)) ⌝ }
+{
+    let n = p.pages;
+    let mut page: usize = 0;
+    while page < n {
+        unmark_page(cells, mark(p, tables, page), page);
+        set_mark(p, tables, page, 0);
+        page += 1;
+    }
+}
