@@ -1,0 +1,120 @@
+-- What each stage asks follows from what the earlier ones leave.
+use native.Mathlib.Omega.{arith}
+use borrow.Author.Needs.{needs}
+use lib.ListN.{length, getD, set, length-set}
+use Prim.Native.Nat.{ℕ, _≤_, _<_, _+_, _-_, _*_, _/_, _%_, _^_}
+use mathlib.Core.List.{List}
+use mathlib.Core.Logic.{_≢_, _⊎_, inl, inr, ⊎-elim}
+use mathlib.Core.Path.{_≡_, refl, sym, ap, _∙_, subst}
+use mathlib.Core.Path.{subst₂}
+use Rattle.rules.specs.Regions.{regionAt}
+use Rattle.layout.specs.Places.{Room, depthOf, usedIn, sizesOf}
+use Rattle.evacuate.specs.Taking.{regionsOf}
+use Rattle.evacuate.specs.Rewrite.{Rewritten, Remembered}
+use Rattle.evacuate.specs.Copying.{region-bounds}
+use Rattle.evacuate.specs.Stages.{Before, Finished, slots-ask, tables-ask, copies-ask, rewritten-both, update-ask, variables-ask, release-ask, finished}
+use Rattle.evacuate.proofs.evacuate.Statement.{statement}
+use Rattle.evacuate.proofs.evacuate.Tie as tie
+use Rattle.evacuate.proofs.evacuate.Reads as reads
+use Rattle.evacuate.proofs.evacuate.Lts as lts
+use Rattle.evacuate.proofs.copy.copy_survivors.Reads as copy-survivors-reads
+use Rattle.evacuate.proofs.copy.region_at.Reads as region-at-reads
+use Rattle.evacuate.proofs.release.release.Reads as release-reads
+use Rattle.evacuate.proofs.remember.update_remember.Reads as update-remember-reads
+use Rattle.evacuate.proofs.rewrite.rewrite_copies.Reads as rewrite-copies-reads
+use Rattle.evacuate.proofs.rewrite.rewrite_slots.Reads as rewrite-slots-reads
+use Rattle.evacuate.proofs.rewrite.rewrite_variables.Reads as rewrite-variables-reads
+use Rattle.layout.proofs.tables.depth.Reads as depth-reads
+use Rattle.layout.proofs.wide.Reads as wide-reads
+
+level : (c : tie.After-region-at) → (let a = c .before .before .before .before .before .before .before .args in c .region-at .result ≡ regionAt (sizesOf (a .p)) (a .thread) (depthOf (a .tables .now) (a .thread)))
+level c = let a = c .before .before .before .before .before .before .before .args in c .region-at .ensures ∙ ap (regionAt (sizesOf (a .p)) (a .thread)) (c .before .wide .ensures ∙ c .before .before .depth .ensures)
+
+begun : (c : tie.After-region-at)
+    → (let a = c .before .before .before .before .before .before .before .args in
+    Before (a .p) (c .region-at .result) (a .p .entries) (usedIn (a .remember .now)) (c .before .wide .result) (regionAt (sizesOf (a .p)) (a .thread)) (a .cells .now) (a .tables .now) (a .remember .now))
+begun c =
+    let a = c .before .before .before .before .before .before .before .args in
+    subst₂
+    (λ (g l : ℕ). Before (a .p) g (a .p .entries) (usedIn (a .remember .now)) l (regionAt (sizesOf (a .p)) (a .thread)) (a .cells .now) (a .tables .now) (a .remember .now))
+    (sym (level c)) (sym (c .before .wide .ensures ∙ c .before .before .depth .ensures)) (c .before .before .before .before .before .before .before .pre .0)
+
+depth-requires : tie.Need-depth-requires
+depth-requires c κs = (c .before .before .before .before .pre .0 .plan .ready .regular .room, c .before .before .before .before .pre .1 .0)
+
+wide-requires : tie.Need-wide-requires
+wide-requires c κs = search needs
+
+region-at-requires : tie.Need-region-at-requires
+region-at-requires c κs =
+    let rm = c .before .before .before .before .before .before .pre .0 .plan .ready .regular .room in
+    ((rm .threads-high, rm .depth-high), (c .before .before .before .before .before .before .pre .1 .0, omega (arith, c .before .before .before .before .before .before .pre .1 .2, c .wide .ensures, c .before .depth .ensures)))
+
+copy-survivors-requires : tie.Need-copy-survivors-requires
+copy-survivors-requires c κs = (begun (c .before .before) .plan, (c .before .before .before .before .before .before .before .before .before .pre .1 .0, omega (arith, c .before .before .before .before .before .before .before .before .before .pre .1 .2, c .before .before .before .wide .ensures, c .before .before .before .before .depth .ensures)))
+
+rewrite-slots-requires : tie.Need-rewrite-slots-requires
+rewrite-slots-requires c κs = (slots-ask (begun (c .before .before .before .before .before .before .before .before .before .before)) (c .before .before .before .before .before .before .before .copy-survivors .ensures), tables-ask (begun (c .before .before .before .before .before .before .before .before .before .before)) (c .before .before .before .before .before .before .before .copy-survivors .ensures))
+
+rewrite-copies-requires : tie.Need-rewrite-copies-requires
+rewrite-copies-requires c κs = copies-ask (begun (c .before .before .before .before .before .before .before .before .before .before .before .before .before .before .before)) (c .before .before .before .before .before .before .before .before .before .before .before .before .copy-survivors .ensures) (c .before .before .before .before .rewrite-slots .ensures)
+
+update-remember-requires : tie.Need-update-remember-requires
+update-remember-requires c κs =
+    let b = begun (c .before .before .before .before .before .before .before .before .before .before .before .before .before .before .before .before .before .before .before .before .before) in
+    let k = c .before .before .before .before .before .before .before .before .before .before .before .before .before .before .before .before .before .before .copy-survivors .ensures in
+    update-ask b k (rewritten-both b k (c .before .before .before .before .before .before .before .before .before .before .rewrite-slots .ensures) (c .before .before .before .before .before .rewrite-copies .ensures))
+
+rewrite-variables-requires : tie.Need-rewrite-variables-requires
+rewrite-variables-requires c κs =
+    let b = begun (c .before .before .before .before .before .before .before .before .before .before .before .before .before .before .before .before .before .before .before .before .before .before .before .before .before .before) in
+    let k = c .before .before .before .before .before .before .before .before .before .before .before .before .before .before .before .before .before .before .before .before .before .before .before .copy-survivors .ensures in
+    let R = rewritten-both b k (c .before .before .before .before .before .before .before .before .before .before .before .before .before .before .before .rewrite-slots .ensures) (c .before .before .before .before .before .before .before .before .before .before .rewrite-copies .ensures) in
+    (variables-ask b k, (omega (arith, slots-ask b k .cells-long, R .size), tables-ask b k))
+
+release-requires : tie.Need-release-requires
+release-requires c κs =
+    let a = c .before .before .before .before .before .before .before .before .before .before .before .before .before .before .before .before .before .before .before .before .before .before .before .before .before .before .before .before .before .before .before .before .before .before .before .before .before .args in
+    let b = begun (c .before .before .before .before .before .before .before .before .before .before .before .before .before .before .before .before .before .before .before .before .before .before .before .before .before .before .before .before .before .before) in
+    let k = c .before .before .before .before .before .before .before .before .before .before .before .before .before .before .before .before .before .before .before .before .before .before .before .before .before .before .before .copy-survivors .ensures in
+    let z = release-ask (a .thread) b k (c .before .before .before .before .before .before .before .before .before .before .before .before .before .before .before .before .before .before .before .before .before .before .before .before .before .before .before .before .before .before .before .before .before .before .before .before .before .pre .1 .0) (c .before .before .before .before .before .before .before .before .before .before .before .before .before .before .before .before .before .before .before .before .before .before .before .before .before .before .before .before .before .before .before .before .before .before .before .before .before .pre .1 .1) (c .before .before .before .rewrite-variables .ensures) in
+    let g = region-bounds (a .p) (a .thread) (depthOf (a .tables .now) (a .thread)) (c .before .before .before .before .before .before .before .before .before .before .before .before .before .before .before .before .before .before .before .before .before .before .before .before .before .before .before .before .before .before .before .before .before .before .before .before .before .pre .1 .0) (c .before .before .before .before .before .before .before .before .before .before .before .before .before .before .before .before .before .before .before .before .before .before .before .before .before .before .before .before .before .before .before .before .before .before .before .before .before .pre .1 .2) in
+    let e = level (c .before .before .before .before .before .before .before .before .before .before .before .before .before .before .before .before .before .before .before .before .before .before .before .before .before .before .before .before .before .before) in
+    (z .0, ((omega (arith, g .0), omega (arith, g .1)), (c .before .before .before .before .before .before .before .before .before .before .before .before .before .before .before .before .before .before .before .before .before .before .before .before .before .before .before .before .before .before .before .before .before .before .before .before .before .pre .1 .0, omega (arith, z .1, c .before .before .before .before .before .before .before .before .before .before .before .before .before .before .before .before .before .before .before .before .before .before .before .before .before .before .before .before .before .before .before .before .before .before .before .before .before .pre .1 .1))))
+
+same-length : tie.Need-same-length
+same-length c = c .before .before .before .before .before .before .before .before .before .before .before .before .before .before .before .before .before .rewrite-copies .kept .1 .0 ∙ c .before .before .before .before .before .before .before .before .before .before .before .before .before .before .before .before .before .before .before .before .before .before .rewrite-slots .kept .1 .0 ∙ c .before .before .before .before .before .before .before .before .before .before .before .before .before .before .before .before .before .before .before .before .before .before .before .before .before .before .before .before .before .before .copy-survivors .kept .1 .0
+
+same-length-2 : tie.Need-same-length-2
+same-length-2 c = c .before .before .before .before .before .before .before .before .before .before .before .update-remember .kept .1 .1 .1 .0
+
+same-length-3 : tie.Need-same-length-3
+same-length-3 c = c .before .before .release .kept .1 .0 ∙ c .before .before .before .before .before .before .rewrite-variables .kept .1 .1 .0 ∙ c .before .before .before .before .before .before .before .before .before .before .before .before .before .before .before .before .before .before .before .before .before .before .before .before .before .before .before .before .before .before .copy-survivors .kept .1 .1 .0
+
+returns : tie.Need-returns
+returns c =
+    let a = c .before .before .before .before .before .before .before .before .before .before .before .before .before .before .before .before .before .before .before .before .before .before .before .before .before .before .before .before .before .before .before .before .before .before .before .before .before .before .before .before .args in
+    let b = begun (c .before .before .before .before .before .before .before .before .before .before .before .before .before .before .before .before .before .before .before .before .before .before .before .before .before .before .before .before .before .before .before .before .before) in
+    let k = c .before .before .before .before .before .before .before .before .before .before .before .before .before .before .before .before .before .before .before .before .before .before .before .before .before .before .before .before .before .before .copy-survivors .ensures in
+    let F : ℕ → ℕ → Type 0 =
+    (λ g l. Finished (a .p) g (a .p .entries) (usedIn (a .remember .now)) l (a .thread) (regionAt (sizesOf (a .p)) (a .thread)) (a .cells .now) (a .tables .now) (a .remember .now) (c .before .before .before .before .before .before .before .before .before .before .before .before .before .before .before .before .before .rewrite-copies .last .1 .0) (c .before .before .release .last .1 .0) (c .before .before .before .before .before .before .before .before .before .before .before .update-remember .last .1 .1 .1 .0)) in
+    subst₂ F (level (c .before .before .before .before .before .before .before .before .before .before .before .before .before .before .before .before .before .before .before .before .before .before .before .before .before .before .before .before .before .before .before .before .before)) (c .before .before .before .before .before .before .before .before .before .before .before .before .before .before .before .before .before .before .before .before .before .before .before .before .before .before .before .before .before .before .before .before .before .before .wide .ensures ∙ c .before .before .before .before .before .before .before .before .before .before .before .before .before .before .before .before .before .before .before .before .before .before .before .before .before .before .before .before .before .before .before .before .before .before .before .depth .ensures)
+    (finished b k (c .before .before .before .before .before .before .before .before .before .before .before .before .before .before .before .before .before .before .before .before .before .before .rewrite-slots .ensures) (c .before .before .before .before .before .before .before .before .before .before .before .before .before .before .before .before .before .rewrite-copies .ensures) (c .before .before .before .before .before .before .before .before .before .before .before .update-remember .ensures) (c .before .before .before .before .before .before .rewrite-variables .ensures) (c .before .before .release .ensures))
+
+pub evacuate-spec : {M : Type 1} → statement M
+evacuate-spec =
+    tie.close
+    (tie.spec
+    depth-requires
+    wide-requires
+    region-at-requires
+    copy-survivors-requires
+    rewrite-slots-requires
+    rewrite-copies-requires
+    update-remember-requires
+    rewrite-variables-requires
+    release-requires
+    same-length
+    same-length-2
+    same-length-3
+    returns)

@@ -1,0 +1,69 @@
+-- The depth stands apart from the pages and the counts.
+use native.Mathlib.Omega.{arith}
+use borrow.Author.Needs.{needs}
+use lib.ListN.{length, getD, set, length-set}
+use Prim.Native.Nat.{ℕ, _≤_, _<_, _+_, _-_, _*_, _/_, _%_, _^_}
+use mathlib.Core.List.{List}
+use mathlib.Core.Logic.{_≢_, _⊎_, inl, inr, ⊎-elim}
+use mathlib.Core.Path.{_≡_, refl, sym, ap, _∙_, subst}
+use Rattle.layout.specs.Places.{Room, depthAt, countAt, depthOf}
+use Rattle.evacuate.specs.Taking.{room-same}
+use Rattle.evacuate.specs.Release.{Ended, kept-depth}
+use Rattle.evacuate.proofs.release.release.Statement.{statement}
+use Rattle.evacuate.proofs.release.release.Tie as tie
+use Rattle.evacuate.proofs.release.release.Reads as reads
+use Rattle.evacuate.proofs.release.release.Lts as lts
+use Rattle.evacuate.proofs.release.release_pages.Reads as release-pages-reads
+use Rattle.layout.proofs.tables.depth.Reads as depth-reads
+use Rattle.layout.proofs.tables.set_count.Reads as set-count-reads
+use Rattle.layout.proofs.tables.set_depth.Reads as set-depth-reads
+use Rattle.layout.proofs.wide.Reads as wide-reads
+
+release-pages-requires : tie.Need-release-pages-requires
+release-pages-requires c κs = c .before .before .pre .0
+
+wide-requires : tie.Need-wide-requires
+wide-requires c κs = search needs
+
+set-count-requires : tie.Need-set-count-requires
+set-count-requires c κs = (room-same (c .before .before .before .before .release-pages .kept .1 .0) (c .before .before .before .before .before .before .before .pre .0), (omega (arith, c .wide .ensures, c .before .before .before .before .before .before .before .pre .1 .0), omega (arith, c .wide .ensures, c .before .before .before .before .before .before .before .pre .1 .0)))
+
+depth-requires : tie.Need-depth-requires
+depth-requires c κs = (room-same (c .before .before .before .set-count .kept .1 .0 ∙ c .before .before .before .before .before .before .before .before .release-pages .kept .1 .0) (c .before .before .before .before .before .before .before .before .before .before .before .pre .0), c .before .before .before .before .before .before .before .before .before .before .before .pre .1 .1 .0)
+
+sub-set-depth : tie.Need-sub-set-depth
+sub-set-depth c = omega (arith, c .before .depth .ensures, c .before .before .before .before .before .before .before .before .before .before .before .before .before .pre .1 .1, kept-depth (c .before .before .before .before .before .before .wide .result) (c .before .before .before .before .before .before .before .before .before .before .before .before .before .pre .0) (c .before .before .before .before .before .before .before .before .before .before .release-pages .ensures) (c .before .before .before .before .before .before .before .before .before .before .before .before .before .pre .1 .1 .0) (c .before .before .before .before .before .set-count .ensures))
+
+set-depth-requires : tie.Need-set-depth-requires
+set-depth-requires c κs = (room-same (c .before .before .before .before .before .set-count .kept .1 .0 ∙ c .before .before .before .before .before .before .before .before .before .before .release-pages .kept .1 .0) (c .before .before .before .before .before .before .before .before .before .before .before .before .before .pre .0), c .before .before .before .before .before .before .before .before .before .before .before .before .before .pre .1 .1 .0)
+
+same-length : tie.Need-same-length
+same-length c = c .before .before .set-depth .kept .1 .0 ∙ c .before .before .before .before .before .before .before .before .set-count .kept .1 .0 ∙ c .before .before .before .before .before .before .before .before .before .before .before .before .before .release-pages .kept .1 .0
+
+returns : tie.Need-returns
+returns c =
+    let a = c .before .before .before .before .before .before .before .before .before .before .before .before .before .before .before .before .args in
+    let X : List ℕ = c .before .before .before .before .before .before .before .before .before .before .before .before .before .release-pages .last .1 .0 in
+    let d = kept-depth (c .before .before .before .before .before .before .before .before .before .wide .result) (c .before .before .before .before .before .before .before .before .before .before .before .before .before .before .before .before .pre .0) (c .before .before .before .before .before .before .before .before .before .before .before .before .before .release-pages .ensures) (c .before .before .before .before .before .before .before .before .before .before .before .before .before .before .before .before .pre .1 .1 .0) (c .before .before .before .before .before .before .before .before .set-count .ensures) in
+    record {
+      mid = X;
+      pages = c .before .before .before .before .before .before .before .before .before .before .before .before .before .release-pages .ensures;
+      tables =
+          c .before .before .set-depth .ensures
+          ∙ ap (λ (x : ℕ). set (c .before .before .before .before .before .before .before .before .set-count .last .1 .0) (depthAt (a .thread)) (x - 1)) (c .before .before .before .before .depth .ensures ∙ d)
+          ∙ ap (λ (Y : List ℕ). set Y (depthAt (a .thread)) (depthOf (a .tables .now) (a .thread) - 1))
+          (c .before .before .before .before .before .before .before .before .set-count .ensures ∙ ap (λ (g : ℕ). set X (countAt (a .p) g) 0) (c .before .before .before .before .before .before .before .before .before .wide .ensures));
+    }
+
+pub release-spec : {M : Type 1} → statement M
+release-spec =
+    tie.close
+    (tie.spec
+    release-pages-requires
+    wide-requires
+    set-count-requires
+    depth-requires
+    sub-set-depth
+    set-depth-requires
+    same-length
+    returns)

@@ -1,0 +1,78 @@
+-- The entries that stay, then those of the copies, then zeros.
+use native.Mathlib.Omega.{arith}
+use borrow.Author.Needs.{needs}
+use lib.ListN.{length, getD, set, length-set}
+use Prim.Native.Nat.{ℕ, _≤_, _<_, _+_, _-_, _*_, _/_, _%_, _^_}
+use mathlib.Core.List.{List}
+use mathlib.Core.Logic.{_≢_, _⊎_, inl, inr, ⊎-elim}
+use mathlib.Core.Path.{_≡_, refl, sym, ap, _∙_, subst}
+use Rattle.layout.specs.Places.{Room, usedIn}
+use Rattle.evacuate.specs.Update.{Updating, Updated, update-appending, updated}
+use Rattle.evacuate.proofs.remember.update_remember.Statement.{statement}
+use Rattle.evacuate.proofs.remember.update_remember.Tie as tie
+use Rattle.evacuate.proofs.remember.update_remember.Reads as reads
+use Rattle.evacuate.proofs.remember.update_remember.Lts as lts
+use Rattle.evacuate.proofs.remember.clear_entries.Reads as clear-entries-reads
+use Rattle.evacuate.proofs.remember.filter_entries.Reads as filter-entries-reads
+use Rattle.evacuate.proofs.remember.larger.Reads as larger-reads
+use Rattle.evacuate.proofs.remember.remember_copies.Reads as remember-copies-reads
+use Rattle.layout.proofs.remember.set_used.Reads as set-used-reads
+use Rattle.layout.proofs.remember.used.Reads as used-reads
+use Rattle.layout.proofs.wide.Reads as wide-reads
+
+updating : (c : tie.After-wide)
+    → (let a = c .before .before .before .before .before .before .args in Updating (a .p) (a .region) (a .p .entries) (c .wide .result) (a .cells .now) (a .tables .now) (a .remember .now))
+updating c =
+    let a = c .before .before .before .before .before .before .args in
+    subst (λ (y : ℕ). Updating (a .p) (a .region) (a .p .entries) y (a .cells .now) (a .tables .now) (a .remember .now)) (sym (c .wide .ensures ∙ c .before .used .ensures)) (c .before .before .before .before .before .before .pre)
+
+used-requires : tie.Need-used-requires
+used-requires c κs = omega (arith, c .before .before .before .before .pre .entries .long)
+
+wide-requires : tie.Need-wide-requires
+wide-requires c κs = search needs
+
+filter-entries-requires : tie.Need-filter-entries-requires
+filter-entries-requires c κs = (updating (c .before) .entries, c .before .before .before .before .before .before .before .pre .wiring .tables-long)
+
+remember-copies-requires : tie.Need-remember-copies-requires
+remember-copies-requires c κs = (update-appending (updating (c .before .before .before .before .before)) (c .before .before .before .filter-entries .ensures .0), c .before .before .before .before .before .before .before .before .before .before .before .pre .wiring)
+
+larger-requires : tie.Need-larger-requires
+larger-requires c κs = search needs
+
+clear-entries-requires : tie.Need-clear-entries-requires
+clear-entries-requires c κs =
+    let u = updating (c .before .before .before .before .before .before .before .before .before .before) in
+    ((omega (arith, c .larger .ensures), omega (arith, c .larger .ensures, c .before .before .before .before .remember-copies .ensures .low, u .entries .few)), omega (arith, u .entries .long, c .before .before .before .before .remember-copies .kept .1 .1 .1 .0, c .before .before .before .before .before .before .before .before .filter-entries .kept .1 .1 .1 .0))
+
+cast-set-used : tie.Need-cast-set-used
+cast-set-used c = omega (arith, c .before .before .before .before .before .before .before .before .remember-copies .ensures .low, c .before .before .before .before .before .before .before .before .before .before .before .before .before .before .before .before .before .before .before .before .pre .small)
+
+set-used-requires : tie.Need-set-used-requires
+set-used-requires c κs = omega (arith, c .before .before .before .before .before .before .before .before .before .before .before .before .before .before .before .before .before .before .before .before .pre .entries .long, c .before .before .before .clear-entries .kept .1 .0, c .before .before .before .before .before .before .before .before .remember-copies .kept .1 .1 .1 .0, c .before .before .before .before .before .before .before .before .before .before .before .before .filter-entries .kept .1 .1 .1 .0)
+
+same-length : tie.Need-same-length
+same-length c = c .before .before .set-used .kept .0 ∙ c .before .before .before .before .before .before .clear-entries .kept .1 .0 ∙ c .before .before .before .before .before .before .before .before .before .before .before .remember-copies .kept .1 .1 .1 .0 ∙ c .before .before .before .before .before .before .before .before .before .before .before .before .before .before .before .filter-entries .kept .1 .1 .1 .0
+
+returns : tie.Need-returns
+returns c =
+    let a = c .before .before .before .before .before .before .before .before .before .before .before .before .before .before .before .before .before .before .before .before .before .before .before .args in
+    let h = updated (updating (c .before .before .before .before .before .before .before .before .before .before .before .before .before .before .before .before .before)) (c .before .before .before .before .before .before .before .before .before .before .before .before .before .before .before .filter-entries .ensures .0) (c .before .before .before .before .before .before .before .before .before .before .before .before .before .before .before .filter-entries .ensures .1) (c .before .before .before .before .before .before .before .before .before .before .before .remember-copies .ensures) (c .before .before .before .before .before .before .before .larger .ensures) (c .before .before .before .before .before .before .clear-entries .ensures) refl in
+    subst (λ (X : List ℕ). Updated (a .p) (a .region) (a .p .entries) (usedIn (a .remember .now)) (a .cells .now) (a .tables .now) (a .remember .now) X) (sym (c .before .before .set-used .ensures))
+    (subst (λ (y : ℕ). Updated (a .p) (a .region) (a .p .entries) y (a .cells .now) (a .tables .now) (a .remember .now) (set (c .before .before .before .before .before .before .clear-entries .last .1 .0) 1 (c .before .before .before .before .before .before .before .before .before .before .before .remember-copies .result))) (c .before .before .before .before .before .before .before .before .before .before .before .before .before .before .before .before .before .wide .ensures ∙ c .before .before .before .before .before .before .before .before .before .before .before .before .before .before .before .before .before .before .used .ensures) h)
+
+pub update-remember-spec : {M : Type 1} → statement M
+update-remember-spec =
+    tie.close
+    (tie.spec
+    used-requires
+    wide-requires
+    filter-entries-requires
+    remember-copies-requires
+    larger-requires
+    clear-entries-requires
+    cast-set-used
+    set-used-requires
+    same-length
+    returns)

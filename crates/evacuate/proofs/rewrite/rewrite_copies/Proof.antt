@@ -1,0 +1,77 @@
+-- The slots of the copies of the region's cells on the pages below are rewritten, and nothing else is changed.
+use native.Mathlib.Omega.{arith}
+use borrow.Author.Needs.{needs}
+use lib.ListN.{length, getD, set, length-set}
+use Prim.Native.Nat.{ℕ, _≤_, _<_, _+_, _-_, _*_, _/_, _%_, _^_}
+use mathlib.Core.List.{List}
+use mathlib.Core.Logic.{_≢_, _⊎_, inl, inr, ⊎-elim}
+use mathlib.Core.Path.{_≡_, refl, sym, ap, _∙_, subst}
+use Rattle.layout.specs.Places.{Room, ownerOf}
+use Rattle.evacuate.specs.Rewrite.{Rewritten, CopySlot, Wiring, Between, copies-start, page-wired, pages-next, pages-left}
+use Rattle.evacuate.proofs.rewrite.rewrite_copies.Statement.{statement}
+use Rattle.evacuate.proofs.rewrite.rewrite_copies.Tie as tie
+use Rattle.evacuate.proofs.rewrite.rewrite_copies.Reads as reads
+use Rattle.evacuate.proofs.rewrite.rewrite_copies.Lts as lts
+use Rattle.evacuate.proofs.rewrite.rewrite_page.Reads as rewrite-page-reads
+use Rattle.layout.proofs.tables.owner.Reads as owner-reads
+
+abbrev Inv-loop : tie.InvT-loop
+Inv-loop p cells₀ tables region pages page₀ cells page =
+    (page ≤ p .pages) × (length cells ≡ length cells₀) × Rewritten p region (CopySlot p region (Between 0 (16 * page)) cells₀ tables) tables cells₀ cells
+
+abbrev μ-loop : tie.MeasureT-loop
+μ-loop p cells₀ tables region pages page₀ cells page =
+    p .pages - page
+
+loop-holds : tie.Need-loop-holds Inv-loop μ-loop
+loop-holds c = (omega arith, refl, copies-start (c .before .before .args .p) (c .before .before .args .region) 0 (c .before .before .args .tables .now) (c .before .before .args .cells .now))
+
+owner-requires : tie.Need-owner-requires Inv-loop μ-loop
+owner-requires c κs = (c .before .before .before .before .pre .tables-long, c .loop-test .taken)
+
+rewrite-page-requires : tie.Need-rewrite-page-requires Inv-loop μ-loop
+rewrite-page-requires c κs = (page-wired (c .before .before .before .before .before .before .before .pre) (c .before .before .before .loop-test .taken) (c .before .before .before .before .loop .inv .2), (c .before .before .before .loop-test .taken, sym (c .before .before .owner .ensures) ∙ c .before .if1 .taken))
+
+add-page : tie.Need-add-page Inv-loop μ-loop
+add-page c = omega (arith, c .before .before .before .before .before .before .pre .few, c .before .before .loop-test .taken)
+
+loop-less : tie.Need-loop-less Inv-loop μ-loop
+loop-less c = omega (arith, c .before .before .loop-test .taken)
+
+loop-again : tie.Need-loop-again Inv-loop μ-loop
+loop-again c =
+    let a = c .before .before .before .before .before .before .args in
+    let l = c .before .before .before .loop in
+    let P : List ℕ → Type 0 =
+    (λ X. Rewritten (a .p) (a .region) (CopySlot (a .p) (a .region) (Between 0 (16 * (l .page + 1))) (a .cells .now) (a .tables .now)) (a .tables .now) (a .cells .now) X) in
+    let h : P (c .if1 .cells) =
+    ⊎-elim
+    (λ z. subst P (sym (z .5)) (pages-next (c .before .before .before .before .before .before .pre) (c .before .before .loop-test .taken) (l .inv .2) (z .2 .ensures)))
+    (λ z. subst P (sym (z .1)) (pages-left (c .before .before .before .before .before .before .pre) (c .before .before .loop-test .taken) (l .inv .2) (λ w. z .0 .left (c .before .owner .ensures ∙ w))))
+    (c .if1 .came) in
+    (omega (arith, c .before .before .loop-test .taken), h .size, h)
+
+same-length : tie.Need-same-length Inv-loop μ-loop
+same-length c = c .before .loop .inv .1
+
+returns : tie.Need-returns Inv-loop μ-loop
+returns c =
+    let a = c .before .before .before .before .args in
+    let l = c .before .loop in
+    let e : l .page ≡ a .p .pages = omega (arith, l .inv .0) in
+    subst (λ (y : ℕ). Rewritten (a .p) (a .region) (CopySlot (a .p) (a .region) (Between 0 (16 * y)) (a .cells .now) (a .tables .now)) (a .tables .now) (a .cells .now) (l .cells)) e (l .inv .2)
+
+pub rewrite-copies-spec : {M : Type 1} → statement M
+rewrite-copies-spec =
+    tie.close
+    (tie.spec
+    Inv-loop
+    μ-loop
+    loop-holds
+    owner-requires
+    rewrite-page-requires
+    add-page
+    loop-less
+    loop-again
+    same-length
+    returns)

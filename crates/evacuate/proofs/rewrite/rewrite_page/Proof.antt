@@ -1,0 +1,137 @@
+-- The slots of the copies of the page's cells below i are rewritten, and nothing else is changed.
+use native.Mathlib.Omega.{arith}
+use borrow.Author.Needs.{needs}
+use lib.ListN.{length, getD, set, length-set}
+use Prim.Native.Nat.{ℕ, _≤_, _<_, _+_, _-_, _*_, _/_, _%_, _^_}
+use mathlib.Core.List.{List}
+use mathlib.Core.Logic.{_≢_, _⊎_, inl, inr, ⊎-elim}
+use mathlib.Core.Path.{_≡_, refl, sym, ap, _∙_, subst}
+use Rattle.layout.specs.Places.{Room, ownerOf, usedOf}
+use Rattle.layout.specs.Cells.{workOf}
+use Rattle.promises.specs.Words.{InUse}
+use Rattle.evacuate.specs.Marks.{refs}
+use Rattle.evacuate.specs.Rewrite.{Rewritten, CopySlot, Wiring, Between, copies-start, copy-fields, copy-moved, copy-null, page-done, in-page, on-page}
+use Rattle.evacuate.proofs.rewrite.rewrite_page.Statement.{statement}
+use Rattle.evacuate.proofs.rewrite.rewrite_page.Tie as tie
+use Rattle.evacuate.proofs.rewrite.rewrite_page.Reads as reads
+use Rattle.evacuate.proofs.rewrite.rewrite_page.Lts as lts
+use Rattle.evacuate.proofs.rewrite.rewrite_cell.Reads as rewrite-cell-reads
+use Rattle.layout.proofs.cells.work.Reads as work-reads
+use Rattle.layout.proofs.tables.used.Reads as used-reads
+use Rattle.layout.proofs.wide.Reads as wide-reads
+
+abbrev Inv-loop : tie.InvT-loop
+Inv-loop p cells₀ tables region page n i₀ cells i =
+    (i ≤ n) × (n ≡ usedOf p tables page) × (length cells ≡ length cells₀) × Rewritten p region (CopySlot p region (Between (16 * page) (16 * page + i)) cells₀ tables) tables cells₀ cells
+
+abbrev μ-loop : tie.MeasureT-loop
+μ-loop p cells₀ tables region page n i₀ cells i =
+    n - i
+
+used-requires : tie.Need-used-requires Inv-loop μ-loop
+used-requires c κs = (c .before .before .pre .0 .tables-long, c .before .before .pre .1 .0)
+
+wide-requires : tie.Need-wide-requires Inv-loop μ-loop
+wide-requires c κs = search needs
+
+loop-holds : tie.Need-loop-holds Inv-loop μ-loop
+loop-holds c =
+    let a = c .before .before .before .before .args in
+    let e : 16 * a .page ≡ 16 * a .page + 0 = omega arith in (
+      omega arith,
+      c .wide .ensures ∙ c .before .used .ensures,
+      refl,
+      subst (λ (y : ℕ). Rewritten (a .p) (a .region) (CopySlot (a .p) (a .region) (Between (16 * a .page) y) (a .cells .now) (a .tables .now)) (a .tables .now) (a .cells .now) (a .cells .now)) e
+          (copies-start (a .p) (a .region) (16 * a .page) (a .tables .now) (a .cells .now)),
+    )
+
+mul-work : tie.Need-mul-work Inv-loop μ-loop
+mul-work c = omega (arith, c .before .before .before .before .before .before .before .pre .0 .few, c .before .before .before .before .before .before .before .pre .1 .0)
+
+add-work : tie.Need-add-work Inv-loop μ-loop
+add-work c = omega (arith, c .before .before .before .before .before .before .before .pre .0 .few, c .before .before .before .before .before .before .before .pre .1 .0, c .before .before .before .before .before .before .before .pre .0 .full (c .before .before .before .before .before .before .before .args .page) (c .before .before .before .before .before .before .before .pre .1 .0), c .before .before .loop .inv .1)
+
+work-requires : tie.Need-work-requires Inv-loop μ-loop
+work-requires c κs =
+    let full = c .before .before .before .before .before .before .before .pre .0 .full (c .before .before .before .before .before .before .before .args .page) (c .before .before .before .before .before .before .before .pre .1 .0) in
+    (omega (arith, c .before .before .before .before .before .before .before .pre .0 .few, c .before .before .before .before .before .before .before .pre .1 .0, c .before .before .loop .inv .1), omega (arith, c .before .before .before .before .before .before .before .pre .1 .0, c .before .before .loop .inv .1, c .before .before .loop .inv .2, c .before .before .before .before .before .before .before .pre .0 .cells-long))
+
+wide-requires-2 : tie.Need-wide-requires-2 Inv-loop μ-loop
+wide-requires-2 c κs = search needs
+
+sub-rewrite-cell : tie.Need-sub-rewrite-cell Inv-loop μ-loop
+sub-rewrite-cell c = omega (arith, c .before .if1 .taken)
+
+rewrite-cell-requires : tie.Need-rewrite-cell-requires Inv-loop μ-loop
+rewrite-cell-requires c κs =
+    let a = c .before .before .before .before .before .before .before .before .before .before .before .args in
+    let l = c .before .before .before .before .before .before .loop in
+    let w = c .before .before .before .before .before .before .before .before .before .before .before .pre .0 in
+    let T : List ℕ = a .tables .now in
+    let full = w .full (a .page) (c .before .before .before .before .before .before .before .before .before .before .before .pre .1 .0) in
+    let lt : l .i < usedOf (a .p) T (a .page) = omega (arith, l .inv .1, c .before .before .before .before .before .loop-test .taken) in
+    let u : InUse (a .p) T (16 * a .page + l .i) = in-page (a .p) (a .page) (l .i) T (c .before .before .before .before .before .before .before .before .before .before .before .pre .1 .0) lt full in
+    let own : ownerOf (a .p) T ((16 * a .page + l .i) / 16) ≡ a .region = on-page (a .p) (a .page) (l .i) T (omega arith) ∙ c .before .before .before .before .before .before .before .before .before .before .before .pre .1 .1 in
+    let lb : 16 * a .page + l .i < 16 * (a .page + 1) = omega arith in
+    let la : 16 * a .page ≤ 16 * a .page + l .i = omega arith in
+    (copy-fields w la lb (l .inv .3) (c .before .before .wide2 .result) (c .before .before .wide2 .ensures ∙ c .before .before .before .work .ensures) (c .before .if1 .taken) u own, w .tables-long)
+
+add-i : tie.Need-add-i Inv-loop μ-loop
+add-i c = omega (arith, c .before .before .before .before .before .before .before .before .before .before .pre .0 .full (c .before .before .before .before .before .before .before .before .before .before .args .page) (c .before .before .before .before .before .before .before .before .before .before .pre .1 .0), c .before .before .before .before .before .loop .inv .1, c .before .before .before .before .loop-test .taken)
+
+loop-less : tie.Need-loop-less Inv-loop μ-loop
+loop-less c = omega (arith, c .before .before .before .before .loop-test .taken)
+
+loop-again : tie.Need-loop-again Inv-loop μ-loop
+loop-again c =
+    let a = c .before .before .before .before .before .before .before .before .before .before .args in
+    let l = c .before .before .before .before .before .loop in
+    let w = c .before .before .before .before .before .before .before .before .before .before .pre .0 in
+    let T : List ℕ = a .tables .now in
+    let full = w .full (a .page) (c .before .before .before .before .before .before .before .before .before .before .pre .1 .0) in
+    let lt : l .i < usedOf (a .p) T (a .page) = omega (arith, l .inv .1, c .before .before .before .before .loop-test .taken) in
+    let u : InUse (a .p) T (16 * a .page + l .i) = in-page (a .p) (a .page) (l .i) T (c .before .before .before .before .before .before .before .before .before .before .pre .1 .0) lt full in
+    let own : ownerOf (a .p) T ((16 * a .page + l .i) / 16) ≡ a .region = on-page (a .p) (a .page) (l .i) T (omega arith) ∙ c .before .before .before .before .before .before .before .before .before .before .pre .1 .1 in
+    let lb : 16 * a .page + l .i < 16 * (a .page + 1) = omega arith in
+    let la : 16 * a .page ≤ 16 * a .page + l .i = omega arith in
+    let x : c .before .wide2 .result ≡ workOf (l .cells) (16 * a .page + l .i) = c .before .wide2 .ensures ∙ c .before .before .work .ensures in
+    let P : ℕ → List ℕ → Type 0 =
+    (λ y X. Rewritten (a .p) (a .region) (CopySlot (a .p) (a .region) (Between (16 * a .page) y) (a .cells .now) T) T (a .cells .now) X) in
+    let e : 16 * a .page + l .i + 1 ≡ 16 * a .page + (l .i + 1) = omega arith in
+    let h : P (16 * a .page + l .i + 1) (c .if1 .cells) =
+    ⊎-elim
+    (λ z. subst (P (16 * a .page + l .i + 1)) (sym (z .5)) (copy-moved w la lb (l .inv .3) (c .before .wide2 .result) x (z .0 .taken) u own (z .2 .ensures)))
+    (λ z. subst (P (16 * a .page + l .i + 1)) (sym (z .1)) (copy-null w la lb (l .inv .3) (c .before .wide2 .result) x (z .0 .left)))
+    (c .if1 .came) in
+    (omega (arith, c .before .before .before .before .loop-test .taken), l .inv .1, h .size, subst (λ (y : ℕ). P y (c .if1 .cells)) e h)
+
+same-length : tie.Need-same-length Inv-loop μ-loop
+same-length c = c .before .loop .inv .2
+
+returns : tie.Need-returns Inv-loop μ-loop
+returns c =
+    let a = c .before .before .before .before .before .before .args in
+    let l = c .before .loop in
+    let e : l .i ≡ usedOf (a .p) (a .tables .now) (a .page) = omega (arith, l .inv .0, l .inv .1) in
+    page-done (a .page) e (omega (arith, c .before .before .before .before .before .before .pre .0 .full (a .page) (c .before .before .before .before .before .before .pre .1 .0))) (l .inv .3)
+
+pub rewrite-page-spec : {M : Type 1} → statement M
+rewrite-page-spec =
+    tie.close
+    (tie.spec
+    Inv-loop
+    μ-loop
+    used-requires
+    wide-requires
+    loop-holds
+    mul-work
+    add-work
+    work-requires
+    wide-requires-2
+    sub-rewrite-cell
+    rewrite-cell-requires
+    add-i
+    loop-less
+    loop-again
+    same-length
+    returns)

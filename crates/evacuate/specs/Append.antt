@@ -1,0 +1,296 @@
+-- The crossing slots of the copies come into the remember table.
+use mathlib.Core.Path.{_≡_, refl, sym, ap, ap₂, _∙_, subst}
+use mathlib.Core.Logic.{_≢_, _⊎_, inl, inr, ⊎-elim}
+use mathlib.Core.Bool.{Bool, true, false, cond}
+use mathlib.Core.List.{List}
+use Prim.Native.Nat.{ℕ, zero, suc, _+_, _-_, _*_, _/_, _%_, _^_, _≤_, _<_}
+use native.Mathlib.Decide.{ℕ-discrete, decLt}
+use native.Mathlib.Omega.{arith}
+use borrow.Author.Tests.{eq-eqb, ne-eqb, le-leb, lt-leb, lt-ltb, le-ltb}
+use lib.Dec.{eqb, leb, ltb}
+use lib.ListN.{length, getD, set, length-set}
+use lib.Seq.{getD-set-same, getD-set-other}
+use Rattle.layout.specs.declared.Places.{Places}
+use Rattle.layout.specs.Places.{ownerOf, usedOf, slotIn, slotRegionIn}
+use Rattle.layout.specs.Cells.{workOf, fieldOf}
+use Rattle.promises.specs.Words.{InUse}
+use Rattle.evacuate.specs.Marks.{refs}
+use Rattle.evacuate.specs.Rewrite.{Names, Field, Fields, CopySlot, Old, Wiring, Between, slots-apart, slot-less}
+use Rattle.evacuate.specs.Entries.{crossOf, newRegion, Added, added-none, added-one, added-join, added-like, slot-below, region-below, slot-above, region-above, Stays}
+
+-- the region into which the word at x crosses, if it is a slot
+abbrev pub crossAt : (p : Places) (W T : List ℕ) → ℕ → ℕ
+crossAt p W T x = crossOf p T (ownerOf p T (x / 256)) (getD W x 0)
+
+-- the slot at x crosses once r has ended
+pub record Crosses (p : Places) (r : ℕ) (W T : List ℕ) (x : ℕ) : Type 0 where
+  pub used : InUse p T (x / 16)
+  pub field : 2 ≤ x % 16
+  pub ref : x % 16 < refs W (x / 16) + 2
+  pub out : ownerOf p T (x / 256) ≢ r
+  pub cross : crossAt p W T x ≢ 0
+
+-- a slot of P that crosses, with its region
+pub record Crossing (p : Places) (P : ℕ → Type 0) (W T : List ℕ) (x h : ℕ) : Type 0 where
+  pub at : P x
+  pub region : h ≡ crossAt p W T x
+  pub kept : h ≢ 0
+
+-- the crossing slots of P can be appended to j entries
+pub record Appending (p : Places) (r n : ℕ) (P : ℕ → Type 0) (W T M : List ℕ) (j : ℕ) : Type 0 where
+  pub long : 2 + 2 * n ≤ length M
+  pub low : j ≤ n
+  pub listed : (y : ℕ) → y < j → Crosses p r W T (slotIn M y)
+  pub once : (y z : ℕ) → y < z → z < j → slotIn M y ≢ slotIn M z
+  pub new : (x : ℕ) → P x → crossAt p W T x ≢ 0 → Crosses p r W T x
+  pub apart : (x : ℕ) → P x → (y : ℕ) → y < j → slotIn M y ≢ x
+  pub space : (k : ℕ) (at : ℕ → ℕ) → ((i : ℕ) → i < k → Crosses p r W T (at i)) → ((a b : ℕ) → a < b → b < k → at a ≢ at b) → k ≤ n
+
+pub append-room : {p : Places} {r n : ℕ} {P : ℕ → Type 0} {W T M : List ℕ} {j : ℕ} → Appending p r n P W T M j → (x : ℕ) → P x → crossAt p W T x ≢ 0 → j < n
+append-room {p} {r} {n} {P} {W} {T} {M} {j} a x q ne =
+    omega (arith, a .space (j + 1) at (λ i l. all i l (decLt i j)) (λ u v l m. different u v l m (decLt v j)))
+  where
+    at : ℕ → ℕ
+    at i = cond (ltb i j) (slotIn M i) x
+
+    old : (i : ℕ) → i < j → at i ≡ slotIn M i
+    old i l = rw (lt-ltb i j l)
+
+    last : (i : ℕ) → j ≤ i → at i ≡ x
+    last i l = rw (le-ltb i j l)
+
+    all : (i : ℕ) → i < j + 1 → Dec (i < j) → Crosses p r W T (at i)
+    all i l (yes m) = subst (λ (y : ℕ). Crosses p r W T y) (sym (old i m)) (a .listed i m)
+    all i l (no m) = subst (λ (y : ℕ). Crosses p r W T y) (sym (last i (omega arith))) (a .new x q ne)
+
+    different : (u v : ℕ) → u < v → v < j + 1 → Dec (v < j) → at u ≢ at v
+    different u v l m (yes w) = λ e. a .once u v l w (sym (old u (omega arith)) ∙ e ∙ old v w)
+    different u v l m (no w) = λ e. a .apart x q u (omega arith) (sym (old u (omega arith)) ∙ e ∙ last v (omega arith))
+
+-- after those of Q came, those of R can
+pub appending-next : {p : Places} {r n : ℕ} {P Q R : ℕ → Type 0} {W T M M′ : List ℕ} {i j : ℕ} → Appending p r n P W T M i → Added n (Crossing p Q W T) i j M M′
+    → ((x : ℕ) → Q x → P x) → ((x : ℕ) → R x → P x) → ((x : ℕ) → Q x → R x → ⊥) → Appending p r n R W T M′ j
+appending-next {p} {r} {n} {P} {Q} {R} {W} {T} {M} {M′} {i} {j} a b fq fr apart =
+    record {
+      long = omega (arith, a .long, b .size);
+      low = b .low;
+      listed = λ y l. listed′ y l (decLt y i);
+      once = λ y z l m. once′ y z l m (decLt y i) (decLt z i);
+      new = λ x q. a .new x (fr x q);
+      apart = λ x q y l. apart′ x q y l (decLt y i);
+      space = a .space;
+    }
+  where
+    slots : (y : ℕ) → i ≤ y → y < j → Q (slotIn M′ y)
+    slots y l m = b .named y l m .at
+
+    listed′ : (y : ℕ) → y < j → Dec (y < i) → Crosses p r W T (slotIn M′ y)
+    listed′ y l (yes m) = subst (λ (z : ℕ). Crosses p r W T z) (sym (slot-below b y m)) (a .listed y m)
+    listed′ y l (no m) =
+        let g = b .named y (omega arith) l in
+        a .new (slotIn M′ y) (fq (slotIn M′ y) (g .at)) (λ z. g .kept (g .region ∙ z))
+
+    once′ : (y z : ℕ) → y < z → z < j → Dec (y < i) → Dec (z < i) → slotIn M′ y ≢ slotIn M′ z
+    once′ y z l m (yes u) (yes v) = λ e. a .once y z l v (sym (slot-below b y u) ∙ e ∙ slot-below b z v)
+    once′ y z l m (yes u) (no v) = λ e.
+        a .apart (slotIn M′ z) (fq (slotIn M′ z) (slots z (omega arith) m)) y u (sym (slot-below b y u) ∙ e)
+    once′ y z l m (no u) (yes v) = absurd (let w : ⊥ = omega arith in w)
+    once′ y z l m (no u) (no v) = b .once y z (omega arith) l m
+
+    apart′ : (x : ℕ) → R x → (y : ℕ) → y < j → Dec (y < i) → slotIn M′ y ≢ x
+    apart′ x q y l (yes m) = λ e. a .apart x (fr x q) y m (sym (slot-below b y m) ∙ e)
+    apart′ x q y l (no m) = λ e. apart x (subst Q e (slots y (omega arith) l)) q
+
+-- ---- the fields of one cell
+
+pub cell-start : (p : Places) (n d j : ℕ) (W T M : List ℕ) → j ≤ n → Added n (Crossing p (Field d 0) W T) j j M M
+cell-start p n d j W T M l = added-none (Crossing p (Field d 0) W T) j M l (λ x h q. omega (arith, q .at .low))
+
+module _ {p : Places} {r n d k f i j : ℕ} {W T M M′ : List ℕ} (few : k ≤ 14) (a : Appending p r n (Field d k) W T M i) (lt : f < k)
+    (h : Added n (Crossing p (Field d f) W T) i j M M′) where
+  here : ℕ
+  here = 16 * d + 2 + f
+
+  -- the region of the cell is that of the slot; w as the code read it, v the region that it found
+  pub slot-region : (w v : ℕ) → w ≡ ownerOf p T (d / 16) → v ≡ crossOf p T w (fieldOf W d f) → v ≡ crossAt p W T (16 * d + 2 + f)
+  slot-region w v ew ev =
+      ev ∙ ap (λ (y : ℕ). crossOf p T y (fieldOf W d f))
+      (ew ∙ ap (λ (y : ℕ). ownerOf p T y) (let e : d / 16 ≡ (16 * d + 2 + f) / 256 = omega arith in e))
+
+  pub slot-room : (v : ℕ) → v ≡ crossAt p W T (16 * d + 2 + f) → v ≢ 0 → j < n
+  slot-room v ev ne =
+      append-room
+      (appending-next {R = λ x. x ≡ 16 * d + 2 + f} a h (λ x q. record { field = q .field; low = omega (arith, q .low); at = q .at })
+      (λ x e. record { field = f; low = lt; at = e }) (λ x q e. omega (arith, q .low, q .at)))
+      (16 * d + 2 + f) refl (λ z. ne (ev ∙ z))
+
+  pub slot-added : (s v : ℕ) → s ≡ 16 * d + 2 + f → v ≡ crossAt p W T (16 * d + 2 + f) → v ≢ 0
+      → Added n (Crossing p (Field d (f + 1)) W T) i (j + 1) M (set (set M′ (2 + j) s) (2 + n + j) v)
+  slot-added s v es ev ne =
+      added-join h (added-one j s v M′ (slot-room v ev ne) (omega (arith, a .long, h .size)))
+      (λ x g k q e. omega (arith, q .at .low, q .at .at, e .0))
+      (λ x g q. from x g q (ℕ-discrete (q .at .field) f))
+      (λ x g. ⊎-elim
+      (λ q. record { at = record { field = q .at .field; low = omega (arith, q .at .low); at = q .at .at }; region = q .region; kept = q .kept })
+      (λ e.
+      record {
+        at = record { field = f; low = omega arith; at = e .0 ∙ es };
+        region = e .1 ∙ ev ∙ ap (λ (y : ℕ). crossAt p W T y) (sym (e .0 ∙ es));
+        kept = λ z. ne (sym (e .1) ∙ z);
+      }))
+    where
+      from : (x g : ℕ) (q : Crossing p (Field d (f + 1)) W T x g) → Dec (q .at .field ≡ f) → Crossing p (Field d f) W T x g ⊎ ((x ≡ s) × (g ≡ v))
+      from x g q (yes z) =
+          let e : x ≡ 16 * d + 2 + f = omega (arith, q .at .at) in
+          inr (e ∙ sym es, q .region ∙ ap (λ (y : ℕ). crossAt p W T y) e ∙ sym ev)
+      from x g q (no z) =
+          inl (record { at = record { field = q .at .field; low = omega (arith, q .at .low); at = q .at .at }; region = q .region; kept = q .kept })
+
+  pub slot-passed : (v : ℕ) → v ≡ crossAt p W T (16 * d + 2 + f) → v ≡ 0 → Added n (Crossing p (Field d (f + 1)) W T) i j M M′
+  slot-passed v ev z =
+      added-like h (λ x g q. from x g q (ℕ-discrete (q .at .field) f))
+      (λ x g q. record { at = record { field = q .at .field; low = omega (arith, q .at .low); at = q .at .at }; region = q .region; kept = q .kept })
+    where
+      from : (x g : ℕ) (q : Crossing p (Field d (f + 1)) W T x g) → Dec (q .at .field ≡ f) → Crossing p (Field d f) W T x g
+      from x g q (yes e) =
+          let e′ : x ≡ 16 * d + 2 + f = omega (arith, q .at .at) in
+          absurd (q .kept (q .region ∙ ap (λ (y : ℕ). crossAt p W T y) e′ ∙ sym ev ∙ z))
+      from x g q (no e) =
+          record { at = record { field = q .at .field; low = omega (arith, q .at .low); at = q .at .at }; region = q .region; kept = q .kept }
+
+-- ---- the copies of the old cells from a up to b
+
+lift : {p : Places} {P Q : ℕ → Type 0} {W T : List ℕ} → ((x : ℕ) → P x → Q x) → (x h : ℕ) → Crossing p P W T x h → Crossing p Q W T x h
+lift f x h q = record { at = f x (q .at); region = q .region; kept = q .kept }
+
+pub copies-begin : (p : Places) (r n a j : ℕ) (W T M : List ℕ) → j ≤ n → Added n (Crossing p (CopySlot p r (Between a a) W T) W T) j j M M
+copies-begin p r n a j W T M l =
+    added-none (Crossing p (CopySlot p r (Between a a) W T) W T) j M l (λ x h q. omega (arith, q .at .among .0, q .at .among .1))
+
+module _ {p : Places} {r n a b c i j : ℕ} {W T M M′ : List ℕ} (w : Wiring p r (Between a b) W T) (la : a ≤ c) (lb : c < b)
+    (ap′ : Appending p r n (CopySlot p r (Between a b) W T) W T M i)
+    (h : Added n (Crossing p (CopySlot p r (Between a c) W T) W T) i j M M′) (x : ℕ) (e : x ≡ workOf W c) where
+  wider : (y : ℕ) → CopySlot p r (Between a c) W T y → CopySlot p r (Between a b) W T y
+  wider y q = slot-less (λ z l. (l .0, omega (arith, l .1))) y q
+
+  pub cell-null : x ≡ 0 → Added n (Crossing p (CopySlot p r (Between a (c + 1)) W T) W T) i j M M′
+  cell-null z =
+      added-like h (λ y g q. lift (λ y s. from y s (ℕ-discrete (s .cell) c)) y g q)
+      (λ y g q. lift (λ y s. slot-less (λ v l. (l .0, omega (arith, l .1))) y s) y g q)
+    where
+      from : (y : ℕ) (s : CopySlot p r (Between a (c + 1)) W T y) → Dec (s .cell ≡ c) → CopySlot p r (Between a c) W T y
+      from y s (yes u) = absurd (s .old .moved (ap (λ (v : ℕ). workOf W v) u ∙ sym e ∙ z))
+      from y s (no u) = record { cell = s .cell; among = (s .among .0, omega (arith, s .among .1)); old = s .old; field = s .field }
+
+  module _ (ne : x ≢ 0) (u : InUse p T c) (own : ownerOf p T (c / 16) ≡ r) where
+    one : (y : ℕ) → Field (x - 1) (refs W (x - 1)) y → CopySlot p r (λ z. z ≡ c) W T y
+    one y f =
+        record {
+          cell = c;
+          among = refl;
+          old = record { used = u; owner = own; moved = λ z. ne (e ∙ z) };
+          field = subst (λ (z : ℕ). Field (z - 1) (refs W (z - 1)) y) e f;
+        }
+
+    cells-apart : (y : ℕ) → CopySlot p r (Between a c) W T y → Field (x - 1) (refs W (x - 1)) y → ⊥
+    unfolding one
+    cells-apart y s f =
+        let q = one y f in
+        let z : s .cell ≡ c =
+        slots-apart w (s .cell) c y (s .among .0, omega (arith, s .among .1)) (la, lb) (s .old) (q .old) (s .field) (q .field) in
+        omega (arith, s .among .1)
+
+    pub cell-appending : Appending p r n (Field (x - 1) (refs W (x - 1))) W T M′ j
+    cell-appending =
+        appending-next ap′ h wider (λ y f. slot-less (λ z l. (omega arith, omega arith)) y (one y f)) cells-apart
+
+    pub cell-wired : Fields p (refs W (x - 1)) (x - 1) W
+    cell-wired = subst (λ (z : ℕ). Fields p (refs W (z - 1)) (z - 1) W) (sym e) (w .copies c (la, lb) (one′))
+      where
+        one′ : Old p r W T c
+        one′ = record { used = u; owner = own; moved = λ z. ne (e ∙ z) }
+
+    pub cell-added : {j′ : ℕ} {M″ : List ℕ} → Added n (Crossing p (Field (x - 1) (refs W (x - 1))) W T) j j′ M′ M″
+        → Added n (Crossing p (CopySlot p r (Between a (c + 1)) W T) W T) i j′ M M″
+    cell-added k =
+        added-join h k (λ y g g′ q q′. cells-apart y (q .at) (q′ .at))
+        (λ y g q. from y g q (ℕ-discrete (q .at .cell) c))
+        (λ y g. ⊎-elim (lift (λ y s. slot-less (λ v l. (l .0, omega (arith, l .1))) y s) y g)
+        (lift (λ y f. slot-less (λ v l. (omega arith, omega arith)) y (one y f)) y g))
+      where
+        from : (y g : ℕ) (q : Crossing p (CopySlot p r (Between a (c + 1)) W T) W T y g) → Dec (q .at .cell ≡ c)
+            → Crossing p (CopySlot p r (Between a c) W T) W T y g ⊎ Crossing p (Field (x - 1) (refs W (x - 1))) W T y g
+        from y g q (yes z) =
+            inr (record {
+              at = subst (λ (v : ℕ). Field (v - 1) (refs W (v - 1)) y) (ap (λ (v : ℕ). workOf W v) z ∙ sym e) (q .at .field);
+              region = q .region;
+              kept = q .kept;
+            })
+        from y g q (no z) =
+            let s = q .at in
+            inl (record {
+              at = record { cell = s .cell; among = (s .among .0, omega (arith, s .among .1)); old = s .old; field = s .field };
+              region = q .region;
+              kept = q .kept;
+            })
+
+-- the cells in use are the first of a page
+pub page-added : {p : Places} {r n k i j : ℕ} {W T M M′ : List ℕ} (q : ℕ) → k ≡ usedOf p T q → k ≤ 16
+    → Added n (Crossing p (CopySlot p r (Between (16 * q) (16 * q + k)) W T) W T) i j M M′
+    → Added n (Crossing p (CopySlot p r (Between (16 * q) (16 * (q + 1))) W T) W T) i j M M′
+page-added {p} {r} {n} {k} {i} {j} {W} {T} q e l h =
+    added-like h
+    (λ x g. lift
+    (λ x s.
+    record {
+      cell = s .cell;
+      among = (
+        s .among .0,
+        (let z : s .cell / 16 ≡ q = omega (arith, s .among .0, s .among .1) in
+            omega (arith, s .old .used .place, ap (λ (y : ℕ). usedOf p T y) z)),
+      );
+      old = s .old;
+      field = s .field;
+    }) x g)
+    (λ x g. lift (λ x s. slot-less (λ y m. (m .0, omega (arith, m .1))) x s) x g)
+
+module _ {p : Places} {r n q i j : ℕ} {W T M M′ : List ℕ} (w : Wiring p r (Between 0 (16 * p .pages)) W T) (lt : q < p .pages)
+    (a : Appending p r n (CopySlot p r (Between 0 (16 * p .pages)) W T) W T M i)
+    (h : Added n (Crossing p (CopySlot p r (Between 0 (16 * q)) W T) W T) i j M M′) where
+  pages-apart : (x : ℕ) → CopySlot p r (Between 0 (16 * q)) W T x → CopySlot p r (Between (16 * q) (16 * (q + 1))) W T x → ⊥
+  pages-apart x s′ s =
+      let l : 16 * q ≤ s .cell = s .among .0 in
+      let l′ : s′ .cell < 16 * q = s′ .among .1 in
+      let m : s .cell < 16 * (q + 1) = s .among .1 in
+      let z : s .cell ≡ s′ .cell =
+      slots-apart w (s .cell) (s′ .cell) x (omega arith, omega arith) (omega arith, omega arith) (s .old) (s′ .old) (s .field) (s′ .field) in
+      omega arith
+
+  pub page-appending : Appending p r n (CopySlot p r (Between (16 * q) (16 * (q + 1))) W T) W T M′ j
+  page-appending =
+      appending-next a h (λ x s. slot-less (λ y l. (l .0, omega (arith, l .1))) x s) (λ x s. slot-less (λ y l. (omega arith, omega (arith, l .1))) x s)
+      pages-apart
+
+  pub pages-added : {j′ : ℕ} {M″ : List ℕ} → Added n (Crossing p (CopySlot p r (Between (16 * q) (16 * (q + 1))) W T) W T) j j′ M′ M″
+      → Added n (Crossing p (CopySlot p r (Between 0 (16 * (q + 1))) W T) W T) i j′ M M″
+  pages-added k =
+      added-join h k (λ x g g′ s s′. pages-apart x (s .at) (s′ .at))
+      (λ x g s. from x g s (decLt (s .at .cell) (16 * q)))
+      (λ x g. ⊎-elim (lift (λ x s. slot-less (λ y l. (l .0, omega (arith, l .1))) x s) x g) (lift (λ x s. slot-less (λ y l. (omega arith, l .1)) x s) x g))
+    where
+      from : (x g : ℕ) (s : Crossing p (CopySlot p r (Between 0 (16 * (q + 1))) W T) W T x g) → Dec (s .at .cell < 16 * q)
+          → Crossing p (CopySlot p r (Between 0 (16 * q)) W T) W T x g ⊎ Crossing p (CopySlot p r (Between (16 * q) (16 * (q + 1))) W T) W T x g
+      from x g s (yes l) =
+          let t = s .at in
+          inl (record { at = record { cell = t .cell; among = (t .among .0, l); old = t .old; field = t .field }; region = s .region; kept = s .kept })
+      from x g s (no l) =
+          let t = s .at in
+          inr (record { at = record { cell = t .cell; among = (omega arith, t .among .1); old = t .old; field = t .field }; region = s .region; kept = s .kept })
+
+  pub pages-skipped : ownerOf p T q ≢ r → Added n (Crossing p (CopySlot p r (Between 0 (16 * (q + 1))) W T) W T) i j M M′
+  pages-skipped ne =
+      pages-added
+      (added-none (Crossing p (CopySlot p r (Between (16 * q) (16 * (q + 1))) W T) W T) j M′ (h .low)
+      (λ x g s.
+      let t = s .at in
+      ne (ap (λ (y : ℕ). ownerOf p T y) (let z : q ≡ t .cell / 16 = omega (arith, t .among .0, t .among .1) in z) ∙ t .old .owner)))

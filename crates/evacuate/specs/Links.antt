@@ -1,0 +1,277 @@
+-- The stages fit together: what the copy leaves is what the rewriting asks, and after it nothing outside r leads into r.
+use mathlib.Core.Path.{_≡_, refl, sym, ap, ap₂, _∙_, subst}
+use mathlib.Core.Logic.{_≢_, _⊎_, inl, inr, ⊎-elim}
+use mathlib.Core.Bool.{Bool, true, false, cond}
+use mathlib.Core.List.{List}
+use Prim.Native.Nat.{ℕ, zero, suc, _+_, _-_, _*_, _/_, _%_, _^_, _≤_, _<_}
+use native.Mathlib.Decide.{ℕ-discrete, decLt}
+use native.Mathlib.Omega.{arith}
+use borrow.Author.Tests.{eq-eqb, ne-eqb, le-leb, lt-leb, lt-ltb, le-ltb}
+use lib.Dec.{eqb, leb, ltb}
+use lib.ListN.{length, getD, set, length-set}
+use lib.Seq.{getD-set-same, getD-set-other}
+use Rattle.layout.specs.declared.Places.{Places}
+use Rattle.layout.specs.Places.{ownerOf}
+use Rattle.layout.specs.Cells.{workOf, fieldOf}
+use Rattle.promises.specs.Words.{InUse}
+use Rattle.evacuate.specs.Marks.{refs, marked, mark?}
+use Rattle.evacuate.specs.Passing.{Ready}
+use Rattle.evacuate.specs.Forward.{Moved, Copying, Forwards, forward}
+use Rattle.evacuate.specs.Rewrite.{Names, moveRef, move-null, move-in, move-out, Rewritten, refs-same, Old, Wiring, Between}
+use Rattle.evacuate.specs.Append.{crossAt, Crosses}
+use Rattle.evacuate.specs.Update.{Copies}
+
+-- whole tables in which r's survivors are marked; S holds of the slots outside r that point into r
+pub record Start (p : Places) (r : ℕ) (S : ℕ → Type 0) (W T : List ℕ) : Type 0 where
+  pub refs-few : (c : ℕ) → InUse p T c → refs W c ≤ 14
+  pub slots-used : (c f : ℕ) → InUse p T c → f < refs W c → fieldOf W c f ≢ 0 → InUse p T (fieldOf W c f - 1)
+  pub survivors : (c : ℕ) → c / 16 < p .pages → marked p T c ≡ 1 → ownerOf p T (c / 16) ≡ r
+  pub targets : (c : ℕ) → c / 16 < p .pages → marked p T c ≡ 1 → workOf W c ≢ r
+  pub idle : (c : ℕ) → InUse p T c → marked p T c ≡ 0 → workOf W c ≡ 0
+  pub closed : (b f d : ℕ) → b / 16 < p .pages → marked p T b ≡ 1 → f < refs W b → fieldOf W b f ≡ 1 + d → ownerOf p T (d / 16) ≡ r → marked p T d ≡ 1
+  pub held : (b f d : ℕ) → InUse p T b → ownerOf p T (b / 16) ≢ r → f < refs W b → fieldOf W b f ≡ 1 + d → ownerOf p T (d / 16) ≡ r → marked p T d ≡ 1
+  pub slots : (b f d : ℕ) → InUse p T b → ownerOf p T (b / 16) ≢ r → f < refs W b → fieldOf W b f ≡ 1 + d → ownerOf p T (d / 16) ≡ r → S (16 * b + 2 + f)
+  pub old : (x : ℕ) → S x → InUse p T (x / 16)
+  pub into : (b f : ℕ) → f < 14 → S (16 * b + 2 + f) → (fieldOf W b f ≢ 0) × (ownerOf p T ((fieldOf W b f - 1) / 16) ≡ r)
+
+module _ {p : Places} {r : ℕ} {S : ℕ → Type 0} {W₀ T₀ W T : List ℕ} (s : Start p r S W₀ T₀) (a₀ : Ready p W₀ T₀) (a : Ready p W T)
+    (F : Forwards p W₀ T₀ W T) where
+  -- a survivor's new home is not r
+  pub new-home : (c : ℕ) → c / 16 < p .pages → marked p T₀ c ≡ 1 → ownerOf p T (forward W c / 16) ≢ r
+  new-home c l on e = s .targets c l on (sym (F .moved c l on .home) ∙ e)
+
+  -- the cells of r with a forward reference are the survivors
+  pub old-survivor : (c : ℕ) → Old p r W T c → InUse p T₀ c × (marked p T₀ c ≡ 1)
+  old-survivor c u = ⊎-elim was new (F .only c (u .used))
+    where
+      was : InUse p T₀ c → InUse p T₀ c × (marked p T₀ c ≡ 1)
+      was v =
+          ⊎-elim (λ off. absurd (u .moved (F .copying .links c v off ∙ s .idle c v off))) (λ on. (v, on)) (mark? p T₀ c)
+
+      new : (b : ℕ) × (b / 16 < p .pages) × (marked p T₀ b ≡ 1) × (forward W b ≡ c) → InUse p T₀ c × (marked p T₀ c ≡ 1)
+      new q = absurd (new-home (q .0) (q .1) (q .2) (ap (λ (x : ℕ). ownerOf p T (x / 16)) (q .3) ∙ u .owner))
+
+  pub survivor-old : (c : ℕ) → c / 16 < p .pages → marked p T₀ c ≡ 1 → Old p r W T c
+  survivor-old c l on =
+      let u = a₀ .used c l on in
+      record {
+        used = F .copying .keeps c u;
+        owner = F .copying .owner c u ∙ s .survivors c l on;
+        moved = λ z. omega (arith, F .moved c l on .forward);
+      }
+
+  -- the words of the copy
+  pub copy-refs : (c : ℕ) → c / 16 < p .pages → marked p T₀ c ≡ 1 → refs W (forward W c) ≡ refs W₀ c
+  copy-refs c l on =
+      let e : 16 * forward W c ≡ 16 * forward W c + 0 = omega arith in
+      let e′ : 16 * c + 0 ≡ 16 * c = omega arith in
+      ap (λ (x : ℕ). x / 16)
+      (ap (λ (x : ℕ). getD W x 0) e ∙ F .moved c l on .body 0 (omega arith) (λ z. omega arith) ∙ ap (λ (x : ℕ). getD W₀ x 0) e′)
+
+  copy-slot : (c f : ℕ) → c / 16 < p .pages → marked p T₀ c ≡ 1 → f < 14 → fieldOf W (forward W c) f ≡ fieldOf W₀ c f
+  copy-slot c f l on lf =
+      let e : 16 * forward W c + 2 + f ≡ 16 * forward W c + (2 + f) = omega arith in
+      let e′ : 16 * c + (2 + f) ≡ 16 * c + 2 + f = omega arith in
+      ap (λ (x : ℕ). getD W x 0) e ∙ F .moved c l on .body (2 + f) (omega arith) (λ z. omega arith) ∙ ap (λ (x : ℕ). getD W₀ x 0) e′
+
+  pub forwards-wiring : Wiring p r (Between 0 (16 * p .pages)) W T
+  forwards-wiring =
+      record {
+        few = a .regular .room .few;
+        cells-long = a .cells-long;
+        tables-long = a .regular .room;
+        full = a .regular .full;
+        copies = λ c q u.
+            let v = old-survivor c u in
+            let l = v .0 .page in
+            let few : refs W₀ c ≤ 14 = s .refs-few c (v .0) in
+            let e = copy-refs c l (v .1) in
+            record {
+              pages = a .regular .room .few;
+              cells-long = a .cells-long;
+              page = F .moved c l (v .1) .used .page;
+              few = omega (arith, e);
+              names = λ f lf.
+                  let lf′ : f < refs W₀ c = omega (arith, e) in
+                  subst (λ (x : ℕ). Names p x) (sym (copy-slot c f l (v .1) (omega arith))) (λ ne. s .slots-used c f (v .0) lf′ ne .page);
+            };
+        once = λ b c q q′ u v e.
+            let x = old-survivor b u in
+            let y = old-survivor c v in
+            F .once b c (x .0 .page) (x .1) (y .0 .page) (y .1) (ap (λ (z : ℕ). z - 1) e);
+      }
+
+  -- ---- a reference to a cell in use, after the copy
+
+  -- 1 + forward where it names a survivor, itself where it names a cell of another region
+  pub ref-survivor : (b x : ℕ) → x ≡ 1 + b → b / 16 < p .pages → marked p T₀ b ≡ 1 → moveRef p r W T x ≡ 1 + forward W b
+  ref-survivor b x e l on =
+      let u = a₀ .used b l on in
+      let d : x - 1 ≡ b = omega arith in
+      sym (move-in p r W T x (λ z. omega arith)
+      (ap (λ (y : ℕ). ownerOf p T (y / 16)) d ∙ F .copying .owner b u ∙ s .survivors b l on))
+      ∙ ap (λ (y : ℕ). workOf W y) d ∙ omega (arith, F .moved b l on .forward)
+
+  pub ref-other : (b x : ℕ) → x ≡ 1 + b → InUse p T₀ b → ownerOf p T₀ (b / 16) ≢ r → moveRef p r W T x ≡ x
+  ref-other b x e u n =
+      let d : x - 1 ≡ b = omega arith in
+      sym (move-out p r W T x (λ z. omega arith)
+      (λ z. n (sym (F .copying .owner b u) ∙ ap (λ (y : ℕ). ownerOf p T (y / 16)) (sym d) ∙ z)))
+
+  -- a reference that names a cell in use outside r
+  Out : ℕ → Type 0
+  Out x = (b : ℕ) × (x ≡ 1 + b) × InUse p T b × (ownerOf p T (b / 16) ≢ r)
+
+  pub ref-out : (b x : ℕ) → x ≡ 1 + b → InUse p T₀ b → (ownerOf p T₀ (b / 16) ≡ r → marked p T₀ b ≡ 1)
+      → (c : ℕ) × (moveRef p r W T x ≡ 1 + c) × InUse p T c × (ownerOf p T (c / 16) ≢ r)
+  ref-out b x e u h = go (ℕ-discrete (ownerOf p T₀ (b / 16)) r)
+    where
+      go : Dec (ownerOf p T₀ (b / 16) ≡ r) → (c : ℕ) × (moveRef p r W T x ≡ 1 + c) × InUse p T c × (ownerOf p T (c / 16) ≢ r)
+      go (yes own) =
+          let on = h own in
+          (forward W b, ref-survivor b x e (u .page) on, F .moved b (u .page) on .used, new-home b (u .page) on)
+      go (no n) = (b, ref-other b x e u n ∙ e, F .copying .keeps b u, λ z. n (sym (F .copying .owner b u) ∙ z))
+
+  -- ---- after the rewriting of the remembered slots and of the copies' slots
+
+  module _ {W′ : List ℕ} (R : Rewritten p r (λ x. S x ⊎ Copies p r W T x) T W W′) where
+    -- a slot of a copy
+    pub copy-after : (c f : ℕ) → c / 16 < p .pages → marked p T₀ c ≡ 1 → f < refs W₀ c → fieldOf W′ (forward W c) f ≡ moveRef p r W T (fieldOf W₀ c f)
+    copy-after c f l on lf =
+        let few : refs W₀ c ≤ 14 = s .refs-few c (a₀ .used c l on) in
+        R .moved (16 * forward W c + 2 + f)
+        (inr (record {
+          cell = c;
+          among = (omega arith, omega arith);
+          old = survivor-old c l on;
+          field = record { field = f; low = omega (arith, copy-refs c l on); at = refl };
+        }))
+        ∙ ap (λ (x : ℕ). moveRef p r W T x) (copy-slot c f l on (omega arith))
+
+    -- a number of a copy, and the words past its fields
+    pub copy-number : (c f : ℕ) → c / 16 < p .pages → marked p T₀ c ≡ 1 → refs W₀ c ≤ f → f < 14 → fieldOf W′ (forward W c) f ≡ fieldOf W₀ c f
+    copy-number c f l on ge lf =
+        let d : ℕ = forward W c in
+        R .same (16 * d + 2 + f)
+        (⊎-elim
+        (λ q. F .moved c l on .new (subst (λ (x : ℕ). InUse p T₀ x) (let e : (16 * d + 2 + f) / 16 ≡ d = omega arith in e) (s .old (16 * d + 2 + f) q)))
+        (λ q.
+        let b : ℕ = q .cell in
+        let v = old-survivor b (q .old) in
+        let few : refs W₀ b ≤ 14 = s .refs-few b (v .0) in
+        let e : refs W (workOf W b - 1) ≡ refs W₀ b = copy-refs b (v .0 .page) (v .1) in
+        let lb : q .field .field < refs W (workOf W b - 1) = q .field .low in
+        let same : workOf W b - 1 ≡ d = omega (arith, q .field .at) in
+        omega (arith, q .field .at, ap (λ (x : ℕ). refs W x) same, copy-refs c l on)))
+        ∙ copy-slot c f l on lf
+
+    pub copy-head : (c : ℕ) → c / 16 < p .pages → marked p T₀ c ≡ 1 → refs W′ (forward W c) ≡ refs W₀ c
+    copy-head c l on = refs-same R (forward W c) ∙ copy-refs c l on
+
+    -- every slot of a cell in use outside r is null or names a cell in use outside r
+    slot-moves : (y f : ℕ) → InUse p T₀ y → ownerOf p T₀ (y / 16) ≢ r → f < refs W₀ y
+        → (fieldOf W′ y f ≡ 0) ⊎ ((b : ℕ) × (fieldOf W′ y f ≡ 1 + b) × InUse p T b × (ownerOf p T (b / 16) ≢ r))
+    slot-moves y f u n lf = go (ℕ-discrete (fieldOf W₀ y f) 0) (ℕ-discrete (ownerOf p T₀ ((fieldOf W₀ y f - 1) / 16)) r)
+      where
+        few : refs W₀ y ≤ 14
+        few = s .refs-few y u
+
+        before : fieldOf W y f ≡ fieldOf W₀ y f
+        before =
+            let e : 16 * y + 2 + f ≡ 16 * y + (2 + f) = omega arith in
+            ap (λ (x : ℕ). getD W x 0) e ∙ F .copying .words y (2 + f) (omega (arith, few)) u (λ z. omega arith) ∙ ap (λ (x : ℕ). getD W₀ x 0) (sym e)
+
+        -- it is no slot of a copy
+        no-copy : Copies p r W T (16 * y + 2 + f) → ⊥
+        no-copy q =
+            let b : ℕ = q .cell in
+            let v = old-survivor b (q .old) in
+            let fb : refs W₀ b ≤ 14 = s .refs-few b (v .0) in
+            let e : refs W (workOf W b - 1) ≡ refs W₀ b = copy-refs b (v .0 .page) (v .1) in
+            let same : y ≡ workOf W b - 1 = omega (arith, q .field .low, q .field .at, few) in
+            F .moved b (v .0 .page) (v .1) .new (subst (λ (x : ℕ). InUse p T₀ x) same u)
+
+        -- a slot that does not point into r stays
+        stays : (S (16 * y + 2 + f) → ⊥) → fieldOf W′ y f ≡ fieldOf W₀ y f
+        stays no-slot = R .same (16 * y + 2 + f) (⊎-elim no-slot no-copy) ∙ before
+
+        lf′ : f < 14
+        lf′ = omega (arith, few)
+
+        go : Dec (fieldOf W₀ y f ≡ 0) → Dec (ownerOf p T₀ ((fieldOf W₀ y f - 1) / 16) ≡ r)
+            → (fieldOf W′ y f ≡ 0) ⊎ ((b : ℕ) × (fieldOf W′ y f ≡ 1 + b) × InUse p T b × (ownerOf p T (b / 16) ≢ r))
+        go (yes z) own = inl (stays (λ q. s .into y f lf′ q .0 z) ∙ z)
+        go (no ne) (yes own) =
+            let t : ℕ = fieldOf W₀ y f - 1 in
+            let e : fieldOf W₀ y f ≡ 1 + t = omega arith in
+            let ub = s .slots-used y f u lf ne in
+            let on = s .held y f t u n lf e own in
+            let w = ref-out t (fieldOf W₀ y f) e ub (λ z. on) in
+            inr (
+              w .0,
+              R .moved (16 * y + 2 + f) (inl (s .slots y f t u n lf e own)) ∙ ap (λ (x : ℕ). moveRef p r W T x) before ∙ w .1,
+              w .2,
+              w .3,
+            )
+        go (no ne) (no out) =
+            let t : ℕ = fieldOf W₀ y f - 1 in
+            let e : fieldOf W₀ y f ≡ 1 + t = omega arith in
+            let ub = s .slots-used y f u lf ne in
+            inr (t, stays (λ q. out (s .into y f lf′ q .1)) ∙ e, F .copying .keeps t ub, λ z. out (sym (F .copying .owner t ub) ∙ z))
+
+    -- and so of every cell in use outside r: those that were, and the copies
+    pub slots-out : (y f : ℕ) → InUse p T y → ownerOf p T (y / 16) ≢ r → f < refs W′ y
+        → (fieldOf W′ y f ≡ 0) ⊎ ((b : ℕ) × (fieldOf W′ y f ≡ 1 + b) × InUse p T b × (ownerOf p T (b / 16) ≢ r))
+    slots-out y f u n lf = ⊎-elim was new (F .only y u)
+      where
+        same-head : InUse p T₀ y → refs W′ y ≡ refs W₀ y
+        same-head v =
+            let e : 16 * y ≡ 16 * y + 0 = omega arith in
+            refs-same R y
+            ∙ ap (λ (x : ℕ). x / 16)
+            (ap (λ (x : ℕ). getD W x 0) e ∙ F .copying .words y 0 (omega arith) v (λ z. omega arith) ∙ ap (λ (x : ℕ). getD W₀ x 0) (sym e))
+
+        was : InUse p T₀ y → (fieldOf W′ y f ≡ 0) ⊎ ((b : ℕ) × (fieldOf W′ y f ≡ 1 + b) × InUse p T b × (ownerOf p T (b / 16) ≢ r))
+        was v = slot-moves y f v (λ z. n (F .copying .owner y v ∙ z)) (omega (arith, same-head v))
+
+        new : (c : ℕ) × (c / 16 < p .pages) × (marked p T₀ c ≡ 1) × (forward W c ≡ y)
+            → (fieldOf W′ y f ≡ 0) ⊎ ((b : ℕ) × (fieldOf W′ y f ≡ 1 + b) × InUse p T b × (ownerOf p T (b / 16) ≢ r))
+        new q = go (ℕ-discrete (fieldOf W₀ (q .0) f) 0)
+          where
+            uc : InUse p T₀ (q .0)
+            uc = a₀ .used (q .0) (q .1) (q .2)
+
+            lc : f < refs W₀ (q .0)
+            lc = omega (arith, copy-head (q .0) (q .1) (q .2), ap (λ (x : ℕ). refs W′ x) (q .3))
+
+            value : fieldOf W′ y f ≡ moveRef p r W T (fieldOf W₀ (q .0) f)
+            value = ap (λ (x : ℕ). fieldOf W′ x f) (sym (q .3)) ∙ copy-after (q .0) f (q .1) (q .2) lc
+
+            go : Dec (fieldOf W₀ (q .0) f ≡ 0) → (fieldOf W′ y f ≡ 0) ⊎ ((b : ℕ) × (fieldOf W′ y f ≡ 1 + b) × InUse p T b × (ownerOf p T (b / 16) ≢ r))
+            go (yes z) = inl (value ∙ sym (move-null p r W T (fieldOf W₀ (q .0) f) z) ∙ z)
+            go (no ne) =
+                let t : ℕ = fieldOf W₀ (q .0) f - 1 in
+                let e : fieldOf W₀ (q .0) f ≡ 1 + t = omega arith in
+                let w = ref-out t (fieldOf W₀ (q .0) f) e (s .slots-used (q .0) f uc lc ne) (λ own. s .closed (q .0) f t (q .1) (q .2) lc e own) in
+                inr (w .0, value ∙ w .1, w .2, w .3)
+
+    -- the copies' slots that cross are crossing slots of the heap after the end
+    pub copies-cross : (x : ℕ) → Copies p r W T x → crossAt p W′ T x ≢ 0 → Crosses p r W′ T x
+    copies-cross x q ne =
+        let c : ℕ = q .cell in
+        let v = old-survivor c (q .old) in
+        let l = v .0 .page in
+        let m = F .moved c l (v .1) in
+        let few : refs W₀ c ≤ 14 = s .refs-few c (v .0) in
+        let e : refs W (workOf W c - 1) ≡ refs W₀ c = copy-refs c l (v .1) in
+        let lf : q .field .field < refs W (workOf W c - 1) = q .field .low in
+        let at : x ≡ 16 * (workOf W c - 1) + 2 + q .field .field = q .field .at in
+        let d : x / 16 ≡ forward W c = omega arith in
+        let d′ : x / 256 ≡ forward W c / 16 = omega arith in
+        record {
+          used = subst (λ (y : ℕ). InUse p T y) (sym d) (m .used);
+          field = omega arith;
+          ref = omega (arith, ap (λ (y : ℕ). refs W′ y) d, refs-same R (forward W c));
+          out = λ z. new-home c l (v .1) (ap (λ (y : ℕ). ownerOf p T y) (sym d′) ∙ z);
+          cross = ne;
+        }

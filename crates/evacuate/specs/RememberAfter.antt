@@ -1,0 +1,129 @@
+-- The remember table after an end names every crossing slot once, with the right region, and nothing else.
+use mathlib.Core.Path.{_≡_, refl, sym, ap, ap₂, _∙_, subst}
+use mathlib.Core.Logic.{_≢_, _⊎_, inl, inr, ⊎-elim}
+use mathlib.Core.List.{List}
+use Prim.Native.Nat.{ℕ, zero, suc, _+_, _-_, _*_, _/_, _%_, _≤_, _<_}
+use native.Mathlib.Decide.{ℕ-discrete}
+use native.Mathlib.Omega.{arith}
+use lib.ListN.{length, getD}
+use Rattle.layout.specs.declared.Places.{Places}
+use Rattle.layout.specs.Places.{ownerOf, usedIn, slotIn, slotRegionIn}
+use Rattle.layout.specs.Cells.{fieldOf}
+use Rattle.promises.specs.Words.{InUse}
+use Rattle.promises.specs.Crossing.{crossTo, other, regionOf}
+use Rattle.promises.specs.Slots.{Slot, region-of, slot-low, slot-cross, cross-slot}
+use Rattle.promises.specs.Whole.{EntryWhole, EntriesWhole, RememberWhole}
+use Rattle.evacuate.specs.Marks.{refs}
+use Rattle.evacuate.specs.Taking.{regionsOf}
+use Rattle.evacuate.specs.Passing.{Ready}
+use Rattle.evacuate.specs.Rewrite.{slot-now, slot-then}
+use Rattle.evacuate.specs.Entries.{crossOf, otherThan, cross-null, cross-ref, Stays}
+use Rattle.evacuate.specs.Append.{crossAt, Crosses, Crossing}
+use Rattle.evacuate.specs.Update.{Copies, Entry}
+use Rattle.evacuate.specs.Links.{copies-cross, slots-out}
+use Rattle.evacuate.specs.Table.{entry-cross, all-listed}
+use Rattle.evacuate.specs.Stages.{Before, Finished}
+use Rattle.evacuate.specs.Evacuated.{to-end, from-end, ready-after}
+
+other-than : (w h : ℕ) → other w h ≡ otherThan w h
+unfolding otherThan
+other-than w h = refl
+
+module _ {p : Places} {r m l t : ℕ} {gs : ℕ → ℕ} {W T M W′ T′ M′ : List ℕ} (b : Before p r (p .entries) m l gs W T M)
+    (f : Finished p r (p .entries) m l t gs W T M W′ T′ M′) (high : 1 < r) (low : r ≤ regionsOf p) (thread : t < p .threads) where
+  real : 1 ≤ r
+  real = omega arith
+
+  a₀ : Ready p W T
+  a₀ = b .plan .ready
+
+  a₁ : Ready p (f .cells) (f .tables)
+  a₁ = ready-after b f real low thread
+
+  -- a slot of a cell outside r is one after the release, and crosses where it did
+  module _ (x : ℕ) (u : InUse p (f .tables) (x / 16)) (out : ownerOf p (f .tables) (x / 16 / 16) ≢ r) (two : 2 ≤ x % 16) (few : x % 16 < refs W′ (x / 16) + 2) where
+    slot-after : Slot p W′ T′ x
+    slot-after = record { used = to-end b f real low thread (x / 16) u out .0; field = two; count = few }
+
+    value : (v : ℕ) → getD W′ x 0 ≡ v → (v ≡ 0) ⊎ ((c : ℕ) × (v ≡ 1 + c) × InUse p (f .tables) c × (ownerOf p (f .tables) (c / 16) ≢ r))
+        → other (ownerOf p T′ (x / 16 / 16)) (regionOf p T′ v) ≡ crossOf p (f .tables) (ownerOf p (f .tables) (x / 16 / 16)) v
+    value v e (inl z) = subst (λ (y : ℕ). other (ownerOf p T′ (x / 16 / 16)) (regionOf p T′ y) ≡ crossOf p (f .tables) (ownerOf p (f .tables) (x / 16 / 16)) y) (sym z) (cross-null p (f .tables) (ownerOf p (f .tables) (x / 16 / 16)) 0 refl)
+    value v e (inr q) =
+        let c : ℕ = q .0 in
+        let z : v ≡ suc c = omega (arith, q .1) in
+        let d = to-end b f real low thread c (q .2) (q .3) in
+        let w : ownerOf p T′ (x / 16 / 16) ≡ ownerOf p (f .tables) (x / 16 / 16) = to-end b f real low thread (x / 16) u out .1 in
+        let i : v - 1 ≡ c = omega arith in
+        ap (λ (y : ℕ). other (ownerOf p T′ (x / 16 / 16)) (regionOf p T′ y)) z
+        ∙ ap₂ (λ (g h : ℕ). other g h) w (region-of p T′ c (d .0) ∙ d .1)
+        ∙ other-than (ownerOf p (f .tables) (x / 16 / 16)) (ownerOf p (f .tables) (c / 16))
+        ∙ ap (λ (y : ℕ). otherThan (ownerOf p (f .tables) (x / 16 / 16)) (ownerOf p (f .tables) (y / 16))) (sym i)
+        ∙ cross-ref p (f .tables) (ownerOf p (f .tables) (x / 16 / 16)) v (λ y. omega arith)
+
+    cross-after : crossTo p W′ T′ x ≡ crossAt p W′ (f .tables) x
+    cross-after =
+        let y : ℕ = x / 16 in
+        let g : ℕ = x % 16 - 2 in
+        let at : 16 * (x / 16) + 2 + (x % 16 - 2) ≡ x = omega arith in
+        let h : fieldOf W′ (x / 16) (x % 16 - 2) ≡ getD W′ x 0 = ap (λ (z : ℕ). getD W′ z 0) at in
+        let s = slots-out (b .start) a₀ a₁ (f .forwards) (f .rewritten) (x / 16) (x % 16 - 2) u out (omega arith) in
+        let page : x / 16 / 16 ≡ x / 256 = omega arith in
+        slot-cross p W′ T′ x slot-after
+        ∙ value (getD W′ x 0) refl (subst (λ (v : ℕ). (v ≡ 0) ⊎ ((c : ℕ) × (v ≡ 1 + c) × InUse p (f .tables) c × (ownerOf p (f .tables) (c / 16) ≢ r))) h s)
+        ∙ ap (λ (z : ℕ). crossOf p (f .tables) (ownerOf p (f .tables) z) (getD W′ x 0)) page
+
+  page-of : (x : ℕ) → ownerOf p (f .tables) (x / 256) ≢ r → ownerOf p (f .tables) (x / 16 / 16) ≢ r
+  page-of x n = subst (λ (y : ℕ). ownerOf p (f .tables) y ≢ r) (let e : x / 256 ≡ x / 16 / 16 = omega arith in e) n
+
+  -- an entry of the new table
+  entry-crosses : (x h : ℕ) → Entry p r (p .entries) m W′ (f .tables) M x h → Crosses p r W′ (f .tables) x × (h ≡ crossAt p W′ (f .tables) x)
+  entry-crosses x h (inl q) = entry-cross (b .start) a₀ a₁ (f .forwards) (f .rewritten) (b .listed) x h q
+  entry-crosses x h (inr q) =
+      (copies-cross (b .start) a₀ a₁ (f .forwards) (f .rewritten) x (slot-then (f .rewritten) x (q .at)) (λ z. q .kept (q .region ∙ z)), q .region)
+
+  pub finished-remember : RememberWhole p W′ M′ T′
+  finished-remember =
+      record {
+        entries =
+            record {
+              room = f .remember .low;
+              named = λ i li. named i li;
+              once = λ i j l′ li. f .remember .once i j l′ li;
+              rest = f .remember .rest;
+            };
+        every = λ q lq h. every q lq h;
+      }
+    where
+      named : (i : ℕ) → i < usedIn M′ → EntryWhole p W′ M′ T′ i
+      named i li =
+          let x : ℕ = slotIn M′ i in
+          let c = entry-crosses (slotIn M′ i) (slotRegionIn (p .entries) M′ i) (f .remember .named i li) in
+          let o = page-of (slotIn M′ i) (c .0 .out) in
+          let e = cross-after (slotIn M′ i) (c .0 .used) o (c .0 .field) (c .0 .ref) in
+          let n : crossAt p W′ (f .tables) (slotIn M′ i) ≢ 0 = c .0 .cross in
+          record {
+            slot = slot-low p W′ T′ (slotIn M′ i) (slot-after (slotIn M′ i) (c .0 .used) o (c .0 .field) (c .0 .ref));
+            region = omega (arith, c .1);
+            right = e ∙ sym (c .1);
+          }
+
+      every : (q : ℕ) → q < 256 * p .pages → 0 < crossTo p W′ T′ q → (i : ℕ) × (i < usedIn M′) × (slotIn M′ i ≡ q)
+      every q lq h =
+          let s = cross-slot p W′ T′ q lq h in
+          let v = from-end b f real low thread (q / 16) (s .used) in
+          let e = cross-after q (v .0) (v .1) (s .field) (s .count) in
+          let c : Crosses p r W′ (f .tables) q =
+          record {
+            used = v .0;
+            field = s .field;
+            ref = s .count;
+            out = subst (λ (y : ℕ). ownerOf p (f .tables) y ≢ r) (let z : q / 16 / 16 ≡ q / 256 = omega arith in z) (v .1);
+            cross = λ z. omega (arith, e);
+          } in
+          let y = f .remember .every q (crossAt p W′ (f .tables) q) (entry q c) in
+          (y .0, y .1, y .2)
+        where
+          entry : (q : ℕ) → Crosses p r W′ (f .tables) q → Entry p r (p .entries) m W′ (f .tables) M q (crossAt p W′ (f .tables) q)
+          entry q c =
+              ⊎-elim inl (λ k. inr (record { at = slot-now (f .rewritten) q (k .at); region = k .region; kept = k .kept }))
+              (all-listed (b .start) a₀ a₁ (f .forwards) (f .rewritten) (b .listed) high q c)

@@ -1,0 +1,153 @@
+// Place and copy: targets in rising region number, survivors in rising cell number, each to the cell that a new object there would take.
+ghost use mathlib.Core.Path.{_≡_};
+ghost use mathlib.Core.Logic.{_≢_};
+ghost use Prim.Native.Nat.{ℕ, _+_, _*_, _/_, _<_, _≤_};
+ghost use lib.ListN.{length};
+ghost use Rattle.rules.specs.Regions.{regionAt};
+ghost use Rattle.layout.specs.Places.{sizesOf};
+ghost use Rattle.evacuate.specs.Cursor.{Points, Seeking, Sought};
+ghost use Rattle.evacuate.specs.Moves.{Copied, Movable, Step};
+ghost use Rattle.evacuate.specs.Passing.{Passing, Pass, order};
+ghost use Rattle.evacuate.specs.Copying.{PagePass, Plan, Copy};
+use layout::Places;
+
+// Where the next object of a target goes: a page, and a bound below which every free page lies.
+pub struct Cursor {
+    pub page: usize,
+    pub top: usize,
+}
+
+// The cursor's page if it has room, else the highest free page.
+pub fn next_page(p: Places, tables: &[u32], region: u32, at: Cursor) -> Cursor
+    requires { ⌜ Seeking p region (now tables) (at .page) (at .top) ⌝ }
+    ensures { λ r. ⌜ Sought p region (now (tables .entry)) (r .page) (r .top) ⌝ }
+{
+    let page = at.page;
+    if layout::tables::used(p, tables, page) < 16 {
+        return at;
+    }
+    let mut top = at.top;
+    let mut owner: u32 = 1;
+    while owner != 0 {
+        top -= 1;
+        owner = layout::tables::owner(p, tables, top);
+    }
+    Cursor {
+        page: top,
+        top: top + 1,
+    }
+}
+
+// The words of one cell go to another, with word 1 zero; word 1 of the old cell becomes the reference to the new one.
+pub fn copy_cell(cells: &mut [u32], old: usize, new: usize)
+    requires { ⌜ old ≢ new ⌝ }
+    requires { ⌜ (old < 16384) × (new < 16384) ⌝ }
+    requires { ⌜ (16 * old + 16 ≤ length (now cells)) × (16 * new + 16 ≤ length (now cells)) ⌝ }
+    ensures { λ _. ⌜ Copied old new (now (cells .entry)) (now (cells .exit)) ⌝ }
+{
+    let mut i: usize = 0;
+    while i < 16 {
+        let x = layout::cells::word(cells, old, i);
+        layout::cells::set_word(cells, new, i, x);
+        i += 1;
+    }
+    layout::cells::set_work(cells, new, 0);
+    layout::cells::set_work(cells, old, (new + 1) as u32);
+}
+
+// A survivor goes to the first unused cell of a page of the region, and its mark goes.
+pub fn move_cell(
+    p: Places,
+    cells: &mut [u32],
+    tables: &mut [u32],
+    region: u32,
+    page: usize,
+    cell: usize,
+)
+    requires { ⌜ Movable p region page (now cells) (now tables) cell ⌝ }
+    ensures { λ _. ⌜ Step p region page cell (now (cells .entry)) (now (tables .entry)) (now (cells .exit)) (now (tables .exit)) ⌝ }
+{
+    let new = pages::take_cell(p, tables, page, region);
+    copy_cell(cells, cell, new);
+    let home = cell / 16;
+    let place = cell % 16;
+    let marks = layout::tables::mark(p, tables, home);
+    layout::tables::set_mark(p, tables, home, marks - (1 << place));
+}
+
+// The survivors on a page that go to a region, in rising cell number.
+pub fn copy_page(
+    p: Places,
+    cells: &mut [u32],
+    tables: &mut [u32],
+    region: u32,
+    page: usize,
+    at: Cursor,
+) -> Cursor
+    requires { ⌜ Passing p region (now cells) (now tables) ⌝ }
+    requires { ⌜ Points p (now tables) region (at .page) (at .top) ⌝ }
+    requires { ⌜ page < p .pages ⌝ }
+    ensures { λ r. ⌜ PagePass p region page (r .page) (r .top) (now (cells .entry)) (now (tables .entry)) (now (cells .exit)) (now (tables .exit)) ⌝ }
+{
+    let mut next = at;
+    let mut left = layout::tables::mark(p, tables, page);
+    while left != 0 {
+        let i = u32::trailing_zeros(left);
+        let cell = 16 * page + layout::wide(i);
+        if layout::cells::work(cells, cell) == region {
+            next = next_page(p, tables, region, next);
+            move_cell(p, cells, tables, region, next.page, cell);
+        }
+        left = left - (1 << i);
+    }
+    next
+}
+
+// The survivors that go to a region.
+pub fn copy_pass(p: Places, cells: &mut [u32], tables: &mut [u32], region: u32)
+    requires { ⌜ Passing p region (now cells) (now tables) ⌝ }
+    ensures { λ _. ⌜ Pass p region (λ c. c / 16 < p .pages) (order region 0) (order region (16 * p .pages)) (now (cells .entry)) (now (tables .entry)) (now (cells .exit)) (now (tables .exit)) ⌝ }
+{
+    let pages = p.pages;
+    let mut next = Cursor {
+        page: pages::find_page(p, tables, region),
+        top: pages,
+    };
+    let mut page: usize = 0;
+    while page < pages {
+        next = copy_page(p, cells, tables, region, page, next);
+        page += 1;
+    }
+}
+
+// The region of a thread at a level, the control space at level 0.
+pub fn region_at(p: Places, thread: usize, level: usize) -> u32
+    requires { ⌜ (p .threads ≤ 16) × (p .depth ≤ 8) ⌝ }
+    requires { ⌜ (thread < p .threads) × (level ≤ p .depth) ⌝ }
+    ensures { λ r. ⌜ r ≡ regionAt (sizesOf p) thread level ⌝ }
+{
+    if level == 0 {
+        return 1;
+    }
+    (1 + thread * p.depth + level) as u32
+}
+
+// Every survivor, by target in rising level: the region of the thread at each level below the ending one.
+pub fn copy_survivors(
+    p: Places,
+    cells: &mut [u32],
+    tables: &mut [u32],
+    thread: usize,
+    levels: usize,
+)
+    requires { ⌜ Plan p levels (regionAt (sizesOf p) thread) (now cells) (now tables) ⌝ }
+    requires { ⌜ (thread < p .threads) × (levels ≤ p .depth) ⌝ }
+    ensures { λ _. ⌜ Copy p levels (regionAt (sizesOf p) thread) levels (now (cells .entry)) (now (tables .entry)) (now (cells .exit)) (now (tables .exit)) ⌝ }
+{
+    let mut level: usize = 0;
+    while level < levels {
+        let region = region_at(p, thread, level);
+        copy_pass(p, cells, tables, region);
+        level += 1;
+    }
+}

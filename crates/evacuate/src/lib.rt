@@ -1,0 +1,35 @@
+// The end of an epoch once its survivors are marked: word 1 of each cell of the ending region is the region that its object goes to, 0 if
+// it is freed, and its bit in the page's mark word says which is not 0. Four stages: place and copy, rewrite, remember, release.
+pub mod copy;
+pub mod release;
+pub mod remember;
+pub mod rewrite;
+
+ghost use mathlib.Core.Path.{_≡_};
+ghost use Prim.Native.Nat.{ℕ, _<_, _≤_};
+ghost use Rattle.layout.specs.Places.{depthOf, usedIn, sizesOf};
+ghost use Rattle.rules.specs.Regions.{regionAt};
+ghost use Rattle.evacuate.specs.Stages.{Before, Finished};
+use layout::Places;
+
+// The accepted end of a thread's innermost region, whose survivors are marked.
+pub fn evacuate(
+    p: Places,
+    cells: &mut [u32],
+    remember: &mut [u32],
+    tables: &mut [u32],
+    thread: usize,
+)
+    requires { ⌜ Before p (regionAt (sizesOf p) thread (depthOf (now tables) thread)) (p .entries) (usedIn (now remember)) (depthOf (now tables) thread) (regionAt (sizesOf p) thread) (now cells) (now tables) (now remember) ⌝ }
+    requires { ⌜ (thread < p .threads) × (1 ≤ depthOf (now tables) thread) × (depthOf (now tables) thread ≤ p .depth) ⌝ }
+    ensures { λ _. ⌜ Finished p (regionAt (sizesOf p) thread (depthOf (now (tables .entry)) thread)) (p .entries) (usedIn (now (remember .entry))) (depthOf (now (tables .entry)) thread) thread (regionAt (sizesOf p) thread) (now (cells .entry)) (now (tables .entry)) (now (remember .entry)) (now (cells .exit)) (now (tables .exit)) (now (remember .exit)) ⌝ }
+{
+    let level = layout::wide(layout::tables::depth(p, tables, thread));
+    let region = copy::region_at(p, thread, level);
+    copy::copy_survivors(p, cells, tables, thread, level);
+    rewrite::rewrite_slots(p, cells, tables, remember, region);
+    rewrite::rewrite_copies(p, cells, tables, region);
+    remember::update_remember(p, cells, tables, remember, region);
+    rewrite::rewrite_variables(p, cells, tables, region);
+    release::release(p, tables, region, thread);
+}

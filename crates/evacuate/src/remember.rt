@@ -1,0 +1,203 @@
+// Remember: entries of the ending region's slots go, entries into it get their new region or go, the copies' crossing slots come.
+ghost use mathlib.Core.Path.{_≡_};
+ghost use Prim.Native.Nat.{ℕ, _+_, _*_, _<_, _≤_, max};
+ghost use lib.ListN.{length, getD};
+ghost use Rattle.layout.specs.Places.{Room, ownerOf, usedIn};
+ghost use Rattle.evacuate.specs.Marks.{refs};
+ghost use Rattle.evacuate.specs.Rewrite.{Names, Field, Fields, CopySlot, Wiring, Between};
+ghost use Rattle.evacuate.specs.Entries.{crossOf, newRegion, Added, Stays, Entries, Cleared};
+ghost use Rattle.evacuate.specs.Append.{Appending, Crossing};
+ghost use Rattle.evacuate.specs.Update.{Updating, Updated};
+use layout::Places;
+
+// The region into which a slot of region `from` crosses that holds x, 0 if it does not cross.
+pub fn cross(p: Places, tables: &[u32], from: u32, x: u32) -> u32
+    requires { ⌜ Names p x ⌝ }
+    requires { ⌜ Room p (length (now tables)) ⌝ }
+    ensures { λ h. ⌜ h ≡ crossOf p (now (tables .entry)) from x ⌝ }
+{
+    if x == 0 {
+        return 0;
+    }
+    let to = layout::tables::owner(p, tables, layout::wide(x - 1) / 16);
+    if to <= 1 {
+        return 0;
+    }
+    if to == from {
+        return 0;
+    }
+    to
+}
+
+// The region of the entry of the slot at a position, with region g, after the end; 0 if the entry goes.
+pub fn new_region(p: Places, cells: &[u32], tables: &[u32], region: u32, at: usize, g: u32) -> u32
+    requires { ⌜ at < 256 * p .pages ⌝ }
+    requires { ⌜ 256 * p .pages ≤ length (now cells) ⌝ }
+    requires { ⌜ Room p (length (now tables)) ⌝ }
+    requires { ⌜ (g ≡ region → Names p (getD (now cells) at 0)) ⌝ }
+    ensures { λ h. ⌜ h ≡ newRegion p region (now (cells .entry)) (now (tables .entry)) at g ⌝ }
+{
+    let from = layout::tables::owner(p, tables, layout::cells::page_at(at));
+    if from == region {
+        return 0;
+    }
+    if g != region {
+        return g;
+    }
+    cross(p, tables, from, cells[at])
+}
+
+// The entries that stay move to the front, with their new regions; how many they are.
+pub fn filter_entries(
+    p: Places,
+    cells: &[u32],
+    tables: &[u32],
+    remember: &mut [u32],
+    region: u32,
+    used: usize,
+) -> usize
+    requires { ⌜ Entries p region (p .entries) used (now cells) (now remember) ⌝ }
+    requires { ⌜ Room p (length (now tables)) ⌝ }
+    ensures { λ j. ⌜ Added (p .entries) (Stays p region (p .entries) (now (cells .entry)) (now (tables .entry)) (now (remember .entry)) used) 0 j (now (remember .entry)) (now (remember .exit)) ⌝ }
+    ensures { λ j. ⌜ j ≤ used ⌝ }
+{
+    let entries = p.entries;
+    let mut j: usize = 0;
+    let mut i: usize = 0;
+    while i < used {
+        let at = layout::remember::slot(entries, remember, i);
+        let old = layout::remember::region(entries, remember, i);
+        let new = new_region(p, cells, tables, region, layout::wide(at), old);
+        if new != 0 {
+            layout::remember::set_slot(entries, remember, j, at);
+            layout::remember::set_region(entries, remember, j, new);
+            j += 1;
+        }
+        i += 1;
+    }
+    j
+}
+
+// Entries `from` up to `to` become zero.
+pub fn clear_entries(entries: usize, remember: &mut [u32], from: usize, to: usize)
+    requires { ⌜ (from ≤ to) × (to ≤ entries) ⌝ }
+    requires { ⌜ 2 * entries + 2 ≤ length (now remember) ⌝ }
+    ensures { λ _. ⌜ Cleared entries from to (now (remember .entry)) (now (remember .exit)) ⌝ }
+{
+    let mut i = from;
+    while i < to {
+        layout::remember::set_slot(entries, remember, i, 0);
+        layout::remember::set_region(entries, remember, i, 0);
+        i += 1;
+    }
+}
+
+// The crossing slots of a cell come after the first j entries; how many there are then.
+pub fn remember_cell(
+    p: Places,
+    cells: &[u32],
+    tables: &[u32],
+    remember: &mut [u32],
+    region: u32,
+    cell: usize,
+    j: usize,
+) -> usize
+    requires { ⌜ Appending p region (p .entries) (Field cell (refs (now cells) cell)) (now cells) (now tables) (now remember) j ⌝ }
+    requires { ⌜ Fields p (refs (now cells) cell) cell (now cells) ⌝ }
+    requires { ⌜ Room p (length (now tables)) ⌝ }
+    ensures { λ i. ⌜ Added (p .entries) (Crossing p (Field cell (refs (now (cells .entry)) cell)) (now (cells .entry)) (now (tables .entry))) j i (now (remember .entry)) (now (remember .exit)) ⌝ }
+{
+    let entries = p.entries;
+    let n = layout::wide(layout::cells::head(cells, cell) / 16);
+    let from = layout::tables::owner(p, tables, cell / 16);
+    let mut i = j;
+    let mut f: usize = 0;
+    while f < n {
+        let to = cross(p, tables, from, layout::cells::field(cells, cell, f));
+        if to != 0 {
+            layout::remember::set_slot(
+                entries,
+                remember,
+                i,
+                layout::cells::field_at(cell, f) as u32,
+            );
+            layout::remember::set_region(entries, remember, i, to);
+            i += 1;
+        }
+        f += 1;
+    }
+    i
+}
+
+// Those of the copies of a page's cells.
+pub fn remember_page(
+    p: Places,
+    cells: &[u32],
+    tables: &[u32],
+    remember: &mut [u32],
+    region: u32,
+    page: usize,
+    j: usize,
+) -> usize
+    requires { ⌜ Appending p region (p .entries) (CopySlot p region (Between (16 * page) (16 * (page + 1))) (now cells) (now tables)) (now cells) (now tables) (now remember) j ⌝ }
+    requires { ⌜ Wiring p region (Between (16 * page) (16 * (page + 1))) (now cells) (now tables) ⌝ }
+    requires { ⌜ page < p .pages ⌝ }
+    requires { ⌜ ownerOf p (now tables) page ≡ region ⌝ }
+    ensures { λ i. ⌜ Added (p .entries) (Crossing p (CopySlot p region (Between (16 * page) (16 * (page + 1))) (now (cells .entry)) (now (tables .entry))) (now (cells .entry)) (now (tables .entry))) j i (now (remember .entry)) (now (remember .exit)) ⌝ }
+{
+    let n = layout::wide(layout::tables::used(p, tables, page));
+    let mut i = j;
+    let mut a: usize = 0;
+    while a < n {
+        let forward = layout::wide(layout::cells::work(cells, 16 * page + a));
+        if forward != 0 {
+            i = remember_cell(p, cells, tables, remember, region, forward - 1, i);
+        }
+        a += 1;
+    }
+    i
+}
+
+// Those of all copies.
+pub fn remember_copies(
+    p: Places,
+    cells: &[u32],
+    tables: &[u32],
+    remember: &mut [u32],
+    region: u32,
+    j: usize,
+) -> usize
+    requires { ⌜ Appending p region (p .entries) (CopySlot p region (Between 0 (16 * p .pages)) (now cells) (now tables)) (now cells) (now tables) (now remember) j ⌝ }
+    requires { ⌜ Wiring p region (Between 0 (16 * p .pages)) (now cells) (now tables) ⌝ }
+    ensures { λ i. ⌜ Added (p .entries) (Crossing p (CopySlot p region (Between 0 (16 * p .pages)) (now (cells .entry)) (now (tables .entry))) (now (cells .entry)) (now (tables .entry))) j i (now (remember .entry)) (now (remember .exit)) ⌝ }
+{
+    let pages = p.pages;
+    let mut i = j;
+    let mut page: usize = 0;
+    while page < pages {
+        if layout::tables::owner(p, tables, page) == region {
+            i = remember_page(p, cells, tables, remember, region, page, i);
+        }
+        page += 1;
+    }
+    i
+}
+
+fn larger(a: usize, b: usize) -> usize
+    ensures { λ r. ⌜ r ≡ max a b ⌝ }
+{
+    if a < b { b } else { a }
+}
+
+// The remember table after the end.
+pub fn update_remember(p: Places, cells: &[u32], tables: &[u32], remember: &mut [u32], region: u32)
+    requires { ⌜ Updating p region (p .entries) (usedIn (now remember)) (now cells) (now tables) (now remember) ⌝ }
+    ensures { λ _. ⌜ Updated p region (p .entries) (usedIn (now (remember .entry))) (now (cells .entry)) (now (tables .entry)) (now (remember .entry)) (now (remember .exit)) ⌝ }
+{
+    let entries = p.entries;
+    let used = layout::wide(layout::remember::used(remember));
+    let kept = filter_entries(p, cells, tables, remember, region, used);
+    let all = remember_copies(p, cells, tables, remember, region, kept);
+    clear_entries(entries, remember, all, larger(all, used));
+    layout::remember::set_used(remember, all as u32);
+}

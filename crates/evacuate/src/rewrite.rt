@@ -1,0 +1,114 @@
+// Rewrite: references into the ending region go by the forward reference in word 1 of the old cell. They stand in the remembered slots,
+// in the copies' own slots and in the variables.
+ghost use mathlib.Core.Path.{_≡_};
+ghost use Prim.Native.Nat.{ℕ, _+_, _*_, _<_, _≤_};
+ghost use lib.ListN.{length};
+ghost use Rattle.layout.specs.Places.{Room, ownerOf, varOf, usedIn};
+ghost use Rattle.evacuate.specs.Marks.{refs};
+ghost use Rattle.evacuate.specs.Rewrite.{Names, moveRef, Rewritten, Remembered, Slots, Field, Fields, CopySlot, Wiring, Between, Variables};
+use layout::Places;
+
+// The reference x, by way of the forward reference where it names a cell of the region.
+pub fn forward_ref(p: Places, cells: &[u32], tables: &[u32], region: u32, x: u32) -> u32
+    requires { ⌜ Names p x ⌝ }
+    requires { ⌜ 256 * p .pages ≤ length (now cells) ⌝ }
+    requires { ⌜ Room p (length (now tables)) ⌝ }
+    ensures { λ y. ⌜ y ≡ moveRef p region (now (cells .entry)) (now (tables .entry)) x ⌝ }
+{
+    if x == 0 {
+        return x;
+    }
+    let cell = layout::wide(x - 1);
+    if layout::tables::owner(p, tables, cell / 16) == region {
+        return layout::cells::work(cells, cell);
+    }
+    x
+}
+
+// The remembered slots that point into the region.
+pub fn rewrite_slots(p: Places, cells: &mut [u32], tables: &[u32], remember: &[u32], region: u32)
+    requires { ⌜ Slots p region (p .entries) (usedIn (now remember)) (now remember) (now cells) ⌝ }
+    requires { ⌜ Room p (length (now tables)) ⌝ }
+    ensures { λ _. ⌜ Rewritten p region (Remembered region (p .entries) (usedIn (now (remember .entry))) (now (remember .entry))) (now (tables .entry)) (now (cells .entry)) (now (cells .exit)) ⌝ }
+{
+    let entries = p.entries;
+    let used = layout::wide(layout::remember::used(remember));
+    let mut i: usize = 0;
+    while i < used {
+        if layout::remember::region(entries, remember, i) == region {
+            let at = layout::wide(layout::remember::slot(entries, remember, i));
+            cells[at] = forward_ref(p, cells, tables, region, cells[at]);
+        }
+        i += 1;
+    }
+}
+
+// The reference fields of a cell.
+pub fn rewrite_cell(p: Places, cells: &mut [u32], tables: &[u32], region: u32, cell: usize)
+    requires { ⌜ Fields p (refs (now cells) cell) cell (now cells) ⌝ }
+    requires { ⌜ Room p (length (now tables)) ⌝ }
+    ensures { λ _. ⌜ Rewritten p region (Field cell (refs (now (cells .entry)) cell)) (now (tables .entry)) (now (cells .entry)) (now (cells .exit)) ⌝ }
+{
+    let n = layout::wide(layout::cells::head(cells, cell) / 16);
+    let mut f: usize = 0;
+    while f < n {
+        let x = forward_ref(
+            p,
+            cells,
+            tables,
+            region,
+            layout::cells::field(cells, cell, f),
+        );
+        layout::cells::set_field(cells, cell, f, x);
+        f += 1;
+    }
+}
+
+// The reference fields of the copies of a page's cells.
+pub fn rewrite_page(p: Places, cells: &mut [u32], tables: &[u32], region: u32, page: usize)
+    requires { ⌜ Wiring p region (Between (16 * page) (16 * (page + 1))) (now cells) (now tables) ⌝ }
+    requires { ⌜ page < p .pages ⌝ }
+    requires { ⌜ ownerOf p (now tables) page ≡ region ⌝ }
+    ensures { λ _. ⌜ Rewritten p region (CopySlot p region (Between (16 * page) (16 * (page + 1))) (now (cells .entry)) (now (tables .entry))) (now (tables .entry)) (now (cells .entry)) (now (cells .exit)) ⌝ }
+{
+    let n = layout::wide(layout::tables::used(p, tables, page));
+    let mut i: usize = 0;
+    while i < n {
+        let forward = layout::wide(layout::cells::work(cells, 16 * page + i));
+        if forward != 0 {
+            rewrite_cell(p, cells, tables, region, forward - 1);
+        }
+        i += 1;
+    }
+}
+
+// The reference fields of all copies.
+pub fn rewrite_copies(p: Places, cells: &mut [u32], tables: &[u32], region: u32)
+    requires { ⌜ Wiring p region (Between 0 (16 * p .pages)) (now cells) (now tables) ⌝ }
+    ensures { λ _. ⌜ Rewritten p region (CopySlot p region (Between 0 (16 * p .pages)) (now (cells .entry)) (now (tables .entry))) (now (tables .entry)) (now (cells .entry)) (now (cells .exit)) ⌝ }
+{
+    let pages = p.pages;
+    let mut page: usize = 0;
+    while page < pages {
+        if layout::tables::owner(p, tables, page) == region {
+            rewrite_page(p, cells, tables, region, page);
+        }
+        page += 1;
+    }
+}
+
+// The variables of all threads.
+pub fn rewrite_variables(p: Places, cells: &[u32], tables: &mut [u32], region: u32)
+    requires { ⌜ ((i : ℕ) → i < p .threads * p .variables → Names p (varOf p (now tables) i)) ⌝ }
+    requires { ⌜ 256 * p .pages ≤ length (now cells) ⌝ }
+    requires { ⌜ Room p (length (now tables)) ⌝ }
+    ensures { λ _. ⌜ Variables p (p .threads * p .variables) region (now (cells .entry)) (now (tables .entry)) (now (tables .exit)) ⌝ }
+{
+    let n = p.threads * p.variables;
+    let mut i: usize = 0;
+    while i < n {
+        let x = forward_ref(p, cells, tables, region, layout::tables::var(p, tables, i));
+        layout::tables::set_var(p, tables, i, x);
+        i += 1;
+    }
+}
