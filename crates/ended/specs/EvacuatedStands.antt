@@ -1,0 +1,191 @@
+-- The words after an accepted end stand for the heap that the rules leave.
+use Prim.Native.Nat.{ℕ, suc, _+_, _*_, _/_, _%_, _<_}
+use native.Mathlib.Omega.{arith}
+use native.Mathlib.Decide.{ℕ-discrete}
+use mathlib.Core.Path.{_≡_, sym, ap, subst, _∙_}
+use mathlib.Core.Logic.{_⊎_, inl, inr}
+use mathlib.Core.List.{map}
+use lib.ListN.{length, getD, set, length-set, length-map, List·getD-map}
+use lib.Seq.{ext-getD, getD-set-same, getD-set-other}
+use Rattle.rules.specs.declared.Sizes.{Sizes}
+use Rattle.rules.specs.Terms.{end}
+use Rattle.rules.specs.Regions.{regionAt}
+use Rattle.rules.specs.Graph.{Graph, ended}
+use Rattle.rules.specs.Rules as ru
+use Rattle.rules.specs.Rules.{Regioned, graph}
+use Rattle.laws.specs.GraphLaws.{Alive}
+use Rattle.laws.specs.EndLaws.{was-alive}
+use Rattle.laws.specs.RulesLaws.{Sound, region-pos, over, graph-ended, sound-code}
+use Rattle.laws.specs.SameRules.{renamed, Partners, partners-ended}
+use Rattle.layout.specs.Cells.{fieldOf}
+use Rattle.promises.specs.Words.{Words, Used, depthIn, depthsIn, headIn, refCount, numCount, refsIn, numsIn, varsIn, graphOf, heapOf}
+use Rattle.promises.specs.Whole.{WholeFor}
+use Rattle.promises.specs.StandsFor.{StandsFor}
+use Rattle.promises.specs.Reading.{words-closed, alive-used, used-home, getD-refs, getD-nums, getD-vars, length-refs, length-nums, length-vars, length-depths, depth-at}
+use Rattle.promises.specs.Agreed.{renamed-id, heap-stands}
+use Rattle.ended.specs.Evacuated.{Outside, Survivor, Evacuated}
+use Rattle.ended.specs.Rewriting.{cellAfter, after-kinds, outside-cell, survivor-cell}
+use Rattle.ended.specs.AfterEnd.{endOf, after-end}
+use Rattle.ended.specs.EvacuatedWhole.{evacuated-whole, in-cell, from-cell, reference-after, variable-after}
+
+-- partners of partners, where the first keep their numbers
+same-partners : (to : ℕ → ℕ) (f g h : Graph) → Partners (λ x. x) f g → Partners to g h → Partners to f h
+same-partners to f g h p q =
+    record {
+      home = λ x a. q .home x (alive x a) ∙ p .home x a;
+      apart = λ x y a b e. q .apart x y (alive x a) (alive y b) e;
+      onto = λ y a. let z = q .onto y a in let x = p .onto (z .0) (z .1) in (x .0, x .1, ap to (x .2) ∙ z .2);
+      refs = λ x a. q .refs x (alive x a) ∙ ap (map (renamed to)) (p .refs x a ∙ renamed-id (f .refs x));
+      vars = q .vars ∙ ap (map (renamed to)) (p .vars ∙ renamed-id (f .vars));
+    }
+  where
+    alive : (x : ℕ) → Alive f x → Alive g x
+    alive x a z = a (sym (p .home x a) ∙ z)
+
+module _ (s : Sizes) (w : Words) (t k : ℕ) (w′ : Words) (forward : ℕ → ℕ) (whole : WholeFor s w) (deep : depthIn w t ≡ suc k) (e : Evacuated s w t k w′ forward) where
+  abbrev r : ℕ
+  r = regionAt s t (suc k)
+
+  abbrev cell : ℕ → ℕ
+  cell = cellAfter s w r forward
+
+  abbrev There : ℕ → Type 0
+  There c = Alive (ended s (graphOf s w) r) c
+
+  abbrev pos : 0 < r
+  pos = region-pos s t (suc k)
+
+  whole′ : WholeFor s w′
+  whole′ = evacuated-whole s w t k w′ forward whole deep e
+
+  was-there : (c : ℕ) → There c → Used s w c
+  was-there c a = alive-used s w whole c (was-alive s (graphOf s w) r pos (words-closed s w whole) c a)
+
+  now-used : (c : ℕ) → There c → Used s w′ (cell c)
+  now-used c a = in-cell s w t k w′ forward whole deep e c a .used
+
+  head-same : (c : ℕ) → There c → headIn w′ (cell c) ≡ headIn w c
+  head-same c a = in-cell s w t k w′ forward whole deep e c a .object .head
+
+  -- a cell outside r was in use, a survivor's new cell was not
+  cells-apart : (b c : ℕ) → Outside s w r b ⊎ Survivor s w r b → Outside s w r c ⊎ Survivor s w r c → cell b ≡ cell c → b ≡ c
+  cells-apart b c (inl o) (inl p) q = sym (outside-cell s w whole r pos forward b o) ∙ q ∙ outside-cell s w whole r pos forward c p
+  cells-apart b c (inl o) (inr v) q =
+      absurd (e .went c v .fresh (subst (Used s w) (sym (outside-cell s w whole r pos forward b o) ∙ q ∙ survivor-cell s w whole r pos forward c v) (o .used)))
+  cells-apart b c (inr v) (inl o) q =
+      absurd (e .went b v .fresh (subst (Used s w) (sym (outside-cell s w whole r pos forward c o) ∙ sym q ∙ survivor-cell s w whole r pos forward b v) (o .used)))
+  cells-apart b c (inr v) (inr x) q = e .apart b c v x (sym (survivor-cell s w whole r pos forward b v) ∙ q ∙ survivor-cell s w whole r pos forward c x)
+
+  refs-after : (c : ℕ) → There c → refsIn w′ (cell c) ≡ map (renamed cell) (refsIn w c)
+  refs-after c a =
+      ext-getD 0 (refsIn w′ (cell c)) (map (renamed cell) (refsIn w c))
+      (long′ ∙ sym (length-map (refsIn w c) (renamed cell) ∙ length-refs s w whole c (was-there c a)))
+      (λ i l.
+      let m : i < refCount w c = omega (arith, long′) in
+      getD-refs w′ (cell c) i (omega (arith, same)) ∙ reference-after s w t k w′ forward whole deep e c a i m
+      ∙ ap (renamed cell) (sym (getD-refs w c i m)) ∙ sym (List·getD-map (renamed cell) (refsIn w c) i 0))
+    where
+      same : refCount w′ (cell c) ≡ refCount w c
+      same = ap (λ (n : ℕ). n / 16) (head-same c a)
+
+      long′ : length (refsIn w′ (cell c)) ≡ refCount w c
+      long′ = length-refs s w′ whole′ (cell c) (now-used c a) ∙ same
+
+  nums-after : (c : ℕ) → There c → numsIn w c ≡ numsIn w′ (cell c)
+  nums-after c a =
+      ext-getD 0 (numsIn w c) (numsIn w′ (cell c)) (long ∙ sym long′)
+      (λ i l.
+      let m : i < numCount w c = omega (arith, long) in
+      let f = whole .placed .formed c (was-there c a) .head in
+      getD-nums w c i m ∙ sym (getD-nums w′ (cell c) i (omega (arith, same)) ∙ ap (λ (n : ℕ). fieldOf (w′ .cells) (cell c) (n + i)) first
+      ∙ in-cell s w t k w′ forward whole deep e c a .object .others (refCount w c + i) (omega arith) (omega arith)))
+    where
+      same : numCount w′ (cell c) ≡ numCount w c
+      same = ap (λ (n : ℕ). n % 16) (head-same c a)
+
+      first : refCount w′ (cell c) ≡ refCount w c
+      first = ap (λ (n : ℕ). n / 16) (head-same c a)
+
+      long : length (numsIn w c) ≡ numCount w c
+      long = length-nums s w whole c (was-there c a)
+
+      long′ : length (numsIn w′ (cell c)) ≡ numCount w c
+      long′ = length-nums s w′ whole′ (cell c) (now-used c a) ∙ same
+
+  vars-after : varsIn s w′ ≡ map (renamed cell) (varsIn s w)
+  vars-after =
+      ext-getD 0 (varsIn s w′) (map (renamed cell) (varsIn s w))
+      (length-vars s w′ whole′ ∙ sym (length-map (varsIn s w) (renamed cell) ∙ length-vars s w whole))
+      (λ i l.
+      let m : i < s .threads * s .variables = omega (arith, length-vars s w′ whole′) in
+      getD-vars s w′ i m ∙ variable-after s w t k w′ forward whole deep e i m
+      ∙ ap (renamed cell) (sym (getD-vars s w i m)) ∙ sym (List·getD-map (renamed cell) (varsIn s w) i 0))
+
+  depths-after : t < s .threads → set (depthsIn s w) t k ≡ depthsIn s w′
+  depths-after th =
+      ext-getD 0 (set (depthsIn s w) t k) (depthsIn s w′) (long ∙ sym (length-depths s w′ whole′))
+      (λ i l. go i (omega (arith, long)) (ℕ-discrete i t))
+    where
+      long : length (set (depthsIn s w) t k) ≡ s .threads
+      long = length-set (depthsIn s w) t k ∙ length-depths s w whole
+
+      go : (i : ℕ) → i < s .threads → Dec (i ≡ t) → getD (set (depthsIn s w) t k) i 0 ≡ getD (depthsIn s w′) i 0
+      go i l (yes q) =
+          ap (λ (j : ℕ). getD (set (depthsIn s w) t k) j 0) q ∙ getD-set-same (depthsIn s w) t k 0 (omega (arith, length-depths s w whole))
+          ∙ sym (ap (λ (j : ℕ). getD (depthsIn s w′) j 0) q ∙ depth-at s w′ t th ∙ e .depth)
+      go i l (no n) = getD-set-other (depthsIn s w) t i k 0 n ∙ depth-at s w i l ∙ sym (depth-at s w′ i l ∙ e .depths i l n)
+
+  -- the graph of the words afterwards is the graph after the end
+  pub evacuated-partners : Partners cell (ended s (graphOf s w) r) (graphOf s w′)
+  unfolding ended
+  evacuated-partners =
+      record {
+        home = λ c a. used-home s w′ whole′ (cell c) (now-used c a) ∙ in-cell s w t k w′ forward whole deep e c a .owner;
+        apart = λ b c a d q. cells-apart b c (after-kinds s w whole r pos b a) (after-kinds s w whole r pos c d) q;
+        onto = λ c a. from-cell s w t k w′ forward whole deep e c (alive-used s w′ whole′ c a);
+        refs = refs-after;
+        vars = vars-after;
+      }
+
+  -- ---- and the heap after the end is what they stand for
+
+  pub evacuated-stands : t < s .threads → StandsFor s w′ (ru.after s (heapOf s w) (endOf t)) cell
+  evacuated-stands th = subst (λ (h : Regioned). StandsFor s w′ h cell) (sym (after-end s w t k th deep)) stands
+    where
+      H : Regioned
+      H = heapOf s w
+
+      h′ : Regioned
+      h′ = over s H r pos (set (H .heap .depths) t k)
+
+      base : StandsFor s w H (λ x. x)
+      base = heap-stands s w whole
+
+      partners : Partners cell (graph h′) (graphOf s w′)
+      partners =
+          subst (λ (g : Graph). Partners cell g (graphOf s w′)) (sym (graph-ended s H r pos (set (H .heap .depths) t k)))
+          (same-partners cell (ended s (graph H) r) (ended s (graphOf s w) r) (graphOf s w′)
+          (partners-ended s (λ x. x) (graph H) (graphOf s w) (base .sound .closed) (words-closed s w whole) (base .partners) r pos)
+          evacuated-partners)
+
+      sound : Sound h′
+      sound = subst Sound (after-end s w t k th deep) (unfold ru.after in (sound-code s H (base .sound) end t 0 0 0))
+
+      -- an object of the heap after the end is one of the graph after the end
+      there : (x : ℕ) → Alive (graph h′) x → Alive (ended s (graph H) r) x
+      there x a = subst (λ (g : Graph). Alive g x) (graph-ended s H r pos (set (H .heap .depths) t k)) a
+
+      now : (x : ℕ) → Alive (graph h′) x → There x
+      now x a z =
+          let p = partners-ended s (λ x. x) (graph H) (graphOf s w) (base .sound .closed) (words-closed s w whole) (base .partners) r pos in
+          there x a (sym (p .home x (there x a)) ∙ z)
+
+      stands : StandsFor s w′ h′ cell
+      stands =
+          record {
+            whole = whole′;
+            sound = sound;
+            depths = unfold heapOf in (depths-after th);
+            partners = partners;
+            nums = λ x a. base .nums x (was-alive s (graph H) r pos (base .sound .closed) x (there x a)) ∙ nums-after x (now x a);
+          }

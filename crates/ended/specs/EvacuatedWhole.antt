@@ -1,0 +1,136 @@
+-- The words after an accepted end are whole, and each object that is there has its cell with its words.
+use Prim.Native.Nat.{ℕ, zero, suc, _+_, _-_, _*_, _/_, _%_, _≤_, _<_}
+use native.Mathlib.Omega.{arith}
+use native.Mathlib.Decide.{ℕ-discrete}
+use mathlib.Core.Path.{_≡_, refl, sym, ap, subst, _∙_}
+use mathlib.Core.Logic.{_⊎_, inl, inr}
+use lib.ListN.{length}
+use Rattle.rules.specs.declared.Sizes.{Sizes}
+use Rattle.rules.specs.Terms.{InRange}
+use Rattle.rules.specs.Regions.{regionAt}
+use Rattle.rules.specs.Graph.{ended}
+use Rattle.laws.specs.GraphLaws.{Alive}
+use Rattle.laws.specs.EndLaws.{closed-ended}
+use Rattle.laws.specs.RulesLaws.{region-pos}
+use Rattle.laws.specs.SameRules.{renamed}
+use Rattle.layout.specs.Places.{placesOf, sizesAt, cellsWords, rememberWords, tablesWords, depthOf, varOf}
+use Rattle.layout.specs.Cells.{headOf, fieldOf, workOf}
+use Rattle.promises.specs.Words.{Words, Used, depthIn, refCount, graphOf}
+use Rattle.promises.specs.Whole.{SizesWhole, WholeFor, CellFormed, IsRef}
+use Rattle.promises.specs.Reading.{words-closed, getD-vars}
+use Rattle.ended.specs.Evacuated.{Outside, Survivor, Evacuated}
+use Rattle.ended.specs.InCells.{InCell, was-there, reference-there, object-in-cell, reference-in-cell}
+use Rattle.ended.specs.Rewriting.{cellAfter, outside-alive, survivor-alive, outside-cell, survivor-cell, rewritten-is}
+
+-- a reference that names an object that is there
+ref-alive : (s : Sizes) (w : Words) (to : ℕ → ℕ) (x : ℕ) → ((c : ℕ) → x ≡ suc c → Used s w (to c)) → IsRef (placesOf s) (w .tables) (renamed to x)
+ref-alive s w to zero f l = absurd (let z : ⊥ = omega arith in z)
+ref-alive s w to (suc c) f l = subst (Used s w) (let e : to c ≡ suc (to c) - 1 = omega arith in e) (f c refl)
+
+module _ (s : Sizes) (w : Words) (t k : ℕ) (w′ : Words) (forward : ℕ → ℕ) (whole : WholeFor s w) (deep : depthIn w t ≡ suc k) (e : Evacuated s w t k w′ forward) where
+  abbrev r : ℕ
+  r = regionAt s t (suc k)
+
+  abbrev cell : ℕ → ℕ
+  cell = cellAfter s w r forward
+
+  -- object c is there after the end
+  abbrev There : ℕ → Type 0
+  There c = Alive (ended s (graphOf s w) r) c
+
+  pos : 0 < r
+  pos = region-pos s t (suc k)
+
+  -- ---- every object that is there has its cell, and each cell in use is one's
+
+  pub in-cell : (c : ℕ) → There c → InCell s w r forward w′ c
+  in-cell = object-in-cell s w whole r pos forward w′ (e .stayed) (e .went)
+
+  pub from-cell : (c : ℕ) → Used s w′ c → (b : ℕ) × There b × (cell b ≡ c)
+  from-cell c u = go (e .only c u)
+    where
+      go : Outside s w r c ⊎ ((b : ℕ) × Survivor s w r b × (forward b ≡ c)) → (b : ℕ) × There b × (cell b ≡ c)
+      go (inl o) = (c, outside-alive s w whole r pos c o, outside-cell s w whole r pos forward c o)
+      go (inr (b, v, f)) = (b, survivor-alive s w whole r pos b v, survivor-cell s w whole r pos forward b v ∙ f)
+
+  -- ---- references and variables
+
+  pub reference-after : (c : ℕ) → There c → (f : ℕ) → f < refCount w c → fieldOf (w′ .cells) (cell c) f ≡ renamed cell (fieldOf (w .cells) c f)
+  reference-after = reference-in-cell s w whole r pos forward w′ (e .stayed) (e .went)
+
+  pub variable-after : (i : ℕ) → i < s .threads * s .variables → varOf (placesOf s) (w′ .tables) i ≡ renamed cell (varOf (placesOf s) (w .tables) i)
+  variable-after i l = e .variables i l ∙ rewritten-is s w whole r pos forward (varOf (placesOf s) (w .tables) i) (whole .placed .variables i l)
+
+  -- what they name is there
+  variable-there : (i : ℕ) → i < s .threads * s .variables → (y : ℕ) → varOf (placesOf s) (w .tables) i ≡ suc y → There y
+  unfolding ended
+  variable-there i l y q = closed-ended s (graphOf s w) r pos (words-closed s w whole) .vars i y (getD-vars s w i l ∙ q)
+
+  -- ---- whole
+
+  sized : sizesAt (w′ .tables) ≡ s
+  sized =
+      (λ i. record { threads = e .sizes 0 (omega arith) i; variables = e .sizes 1 (omega arith) i; depth = e .sizes 2 (omega arith) i; pages = e .sizes 3 (omega arith) i; entries = e .sizes 4 (omega arith) i })
+      ∙ whole .sized
+
+  same-sizes : sizesAt (w .tables) ≡ sizesAt (w′ .tables)
+  same-sizes = whole .sized ∙ sym sized
+
+  sizes-whole : SizesWhole (w′ .cells) (w′ .remember) (w′ .tables)
+  sizes-whole =
+      let z = whole .sizes in
+      record {
+        sized = omega (arith, z .sized, e .beyond .tables .long);
+        counted = omega (arith, z .counted, e .beyond .remember .long);
+        range = subst InRange same-sizes (z .range);
+        same = e .entries ∙ z .same ∙ sym (e .sizes 4 (omega arith));
+        cells = subst (λ (q : Sizes). cellsWords q ≤ length (w′ .cells)) same-sizes (omega (arith, z .cells, e .beyond .cells .long));
+        remember = subst (λ (q : Sizes). rememberWords q ≤ length (w′ .remember)) same-sizes (omega (arith, z .remember, e .beyond .remember .long));
+        tables = subst (λ (q : Sizes). tablesWords q ≤ length (w′ .tables)) same-sizes (omega (arith, z .tables, e .beyond .tables .long));
+      }
+
+  depths-low : (u : ℕ) → u < s .threads → depthOf (w′ .tables) u ≤ s .depth
+  depths-low u l = go (ℕ-discrete u t)
+    where
+      go : Dec (u ≡ t) → depthOf (w′ .tables) u ≤ s .depth
+      go (yes q) = omega (arith, ap (depthOf (w′ .tables)) q, ap (depthOf (w .tables)) q, e .depth, deep, whole .placed .depths u l)
+      go (no n) = omega (arith, e .depths u l n, whole .placed .depths u l)
+
+  -- an object's cell has the form of its old one
+  formed-in : (b : ℕ) → There b → CellFormed (w′ .cells) (cell b)
+  formed-in b a =
+      let o = in-cell b a .object in
+      let f = whole .placed .formed b (was-there s w whole r pos b a) in
+      record {
+        head = subst (λ (n : ℕ). n / 16 + n % 16 ≤ 14) (sym (o .head)) (f .head);
+        rest = λ i l m.
+            let m′ : headOf (w .cells) b / 16 + headOf (w .cells) b % 16 ≤ i = subst (λ (n : ℕ). n / 16 + n % 16 ≤ i) (o .head) m in
+            o .others i (omega arith) l ∙ f .rest i l m′;
+      }
+
+  references-in : (b : ℕ) → There b → (f : ℕ) → f < headOf (w′ .cells) (cell b) / 16 → IsRef (placesOf s) (w′ .tables) (fieldOf (w′ .cells) (cell b) f)
+  references-in b a f l =
+      let l′ : f < refCount w b = subst (λ (n : ℕ). f < n / 16) (in-cell b a .object .head) l in
+      subst (IsRef (placesOf s) (w′ .tables)) (sym (reference-after b a f l′))
+      (ref-alive s w′ cell (fieldOf (w .cells) b f) (λ y q. in-cell y (reference-there s w whole r pos b a f l′ y q) .used))
+
+  pub evacuated-whole : WholeFor s w′
+  evacuated-whole =
+      record {
+        sized = sized;
+        sizes = sizes-whole;
+        placed = record {
+          depths = depths-low;
+          pages = e .pages;
+          partial = e .partial;
+          counts = e .counts;
+          variables = λ i l. subst (IsRef (placesOf s) (w′ .tables)) (sym (variable-after i l))
+              (ref-alive s w′ cell (varOf (placesOf s) (w .tables) i) (λ y q. in-cell y (variable-there i l y q) .used));
+          references = λ c u. let b = from-cell c u in
+              subst (λ (x : ℕ). (f : ℕ) → f < headOf (w′ .cells) x / 16 → IsRef (placesOf s) (w′ .tables) (fieldOf (w′ .cells) x f)) (b .2) (references-in (b .0) (b .1));
+          formed = λ c u. let b = from-cell c u in subst (CellFormed (w′ .cells)) (b .2) (formed-in (b .0) (b .1));
+          marks = e .marks;
+          working = λ c u. let b = from-cell c u in ap (workOf (w′ .cells)) (sym (b .2)) ∙ in-cell (b .0) (b .1) .object .working;
+          remember = e .remember;
+        };
+      }

@@ -1,0 +1,23 @@
+-- From the words after an end of an epoch to the promise of code 2.
+
+-- the definition: what must be read
+pub mod Evacuated
+-- laws: they are whole, and stand for what the rules leave
+pub mod Rewriting
+pub mod InCells
+pub mod EvacuatedWhole
+pub mod AfterEnd
+pub mod EvacuatedStands
+pub mod WordsPlaced
+-- laws: the questions 12, 13 and 14
+pub mod EndQuestion
+pub mod EndPages
+pub mod CrossAfter
+pub mod SlotTests
+pub mod SlotsOutside
+pub mod SlotsThen
+pub mod EnoughEntries
+pub mod ByPages
+pub mod Census
+-- the promise
+pub mod EvacuatedDid

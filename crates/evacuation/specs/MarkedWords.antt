@@ -1,0 +1,77 @@
+-- Marking changes word 1 of the cells of r and the mark words alone: what else is read from the marked words is as it was.
+use mathlib.Core.Path.{_≡_, refl, sym, ap, _∙_, subst}
+use mathlib.Core.Logic.{_≢_, _⊎_, inl, inr}
+use mathlib.Core.List.{List}
+use Prim.Native.Nat.{ℕ, zero, suc, _+_, _-_, _*_, _/_, _%_, _^_, _≤_, _<_}
+use native.Mathlib.Decide.{ℕ-discrete, decLt}
+use native.Mathlib.Omega.{arith}
+use lib.ListN.{length, getD}
+use Rattle.rules.specs.declared.Sizes.{Sizes}
+use Rattle.rules.specs.Graph.{target}
+use Rattle.layout.specs.Places.{Room, placesOf, varAt, ownerAt, usedAt, depthAt, varOf, ownerOf, usedOf, depthOf, markAt}
+use Rattle.layout.specs.Cells.{headAt, fieldAt, headOf, fieldOf, workOf, pageOf}
+use Rattle.promises.specs.Words.{Words, InUse, Used, depthIn, ownerIn, graphOf}
+use Rattle.mark.specs.Survivors.{Marked}
+use Rattle.evacuate.specs.Marks.{marked}
+use Rattle.evacuate.specs.Stages.{Lives}
+use Rattle.ended.specs.Evacuated.{Outside, Survivor}
+
+module _ {s : Sizes} {w w₁ : Words} {r : ℕ} (m : Marked s w r w₁) (rm : Room (placesOf s) (length (w .tables))) where
+  -- ---- the tables
+
+  -- a word before the mark words or after them
+  pub table-same : (x : ℕ) → (placesOf s .marks ≤ x → placesOf s .counts ≤ x) → getD (w₁ .tables) x 0 ≡ getD (w .tables) x 0
+  table-same x h = m .tables x (λ page l e. let z : placesOf s .counts ≤ x = h (omega arith) in omega (arith, rm))
+
+  pub owner-same : (page : ℕ) → page < s .pages → ownerOf (placesOf s) (w₁ .tables) page ≡ ownerIn s w page
+  owner-same page l = table-same (ownerAt (placesOf s) page) (λ z. omega (arith, rm))
+
+  pub used-same : (page : ℕ) → page < s .pages → usedOf (placesOf s) (w₁ .tables) page ≡ usedOf (placesOf s) (w .tables) page
+  used-same page l = table-same (usedAt (placesOf s) page) (λ z. omega (arith, rm))
+
+  pub var-same : (i : ℕ) → i < s .threads * s .variables → varOf (placesOf s) (w₁ .tables) i ≡ varOf (placesOf s) (w .tables) i
+  var-same i l = table-same (varAt (placesOf s) i) (λ z. omega (arith, rm))
+
+  pub depth-same : (u : ℕ) → u < s .threads → depthOf (w₁ .tables) u ≡ depthIn w u
+  depth-same u l = table-same (depthAt u) (λ z. omega (arith, rm))
+
+  pub room-after : Room (placesOf s) (length (w₁ .tables))
+  room-after = subst (λ (n : ℕ). Room (placesOf s) n) (sym (m .tables-length)) rm
+
+  -- ---- cells in use
+
+  pub now-used : (c : ℕ) → Used s w c → InUse (placesOf s) (w₁ .tables) c
+  now-used c u = record { page = u .page; place = omega (arith, u .place, used-same (pageOf c) (u .page)) }
+
+  pub was-used : (c : ℕ) → InUse (placesOf s) (w₁ .tables) c → Used s w c
+  was-used c u = record { page = u .page; place = omega (arith, u .place, used-same (pageOf c) (u .page)) }
+
+  -- ---- the cells
+
+  pub head-same : (c : ℕ) → headOf (w₁ .cells) c ≡ headOf (w .cells) c
+  head-same c = m .cells (headAt c) (λ d e u o. omega arith)
+
+  pub field-same : (c f : ℕ) → f < 14 → fieldOf (w₁ .cells) c f ≡ fieldOf (w .cells) c f
+  field-same c f l = m .cells (fieldAt c f) (λ d e u o. omega arith)
+
+  -- ---- who lives on
+
+  pub outside-lives : (c : ℕ) → Outside s w r c → Lives (placesOf s) r (w₁ .tables) c
+  outside-lives c o =
+      record { used = now-used c (o .used); stays = λ z. absurd (o .owner (sym (owner-same (pageOf c) (o .used .page)) ∙ z)) }
+
+  pub survivor-lives : (c : ℕ) → Survivor s w r c → Lives (placesOf s) r (w₁ .tables) c
+  survivor-lives c v = record { used = now-used c (v .used); stays = λ z. m .survives c (v .used) (v .owner) (v .goes) }
+
+  pub lives-how : (c : ℕ) → Lives (placesOf s) r (w₁ .tables) c → Outside s w r c ⊎ Survivor s w r c
+  lives-how c v = go (ℕ-discrete (ownerIn s w (pageOf c)) r) (decLt 0 (target s (graphOf s w) r c))
+    where
+      u : Used s w c
+      u = was-used c (v .used)
+
+      go : Dec (ownerIn s w (pageOf c) ≡ r) → Dec (0 < target s (graphOf s w) r c) → Outside s w r c ⊎ Survivor s w r c
+      go (no n) d = inl (record { used = u; owner = n })
+      go (yes e) (yes l) = inr (record { used = u; owner = e; goes = l })
+      go (yes e) (no l) =
+          absurd (let on : marked (placesOf s) (w₁ .tables) c ≡ 1 = v .stays (owner-same (pageOf c) (u .page) ∙ e) in
+          let z : ⊥ = omega (arith, m .freed c u e (omega arith)) in z)

@@ -1,0 +1,1 @@
+// Specs only: marking, evacuation and the words that an end leaves fit together.
