@@ -1,0 +1,212 @@
+-- Survivors are marked, counted, and either unmarked or evacuated: at each way out the promise of code 2 holds.
+use Prim.Native.Nat.{_<_, _≤_, _^_}
+use mathlib.Core.Path.{_∙_}
+use native.Mathlib.Omega.{arith}
+use lib.ListN.{length}
+use borrow.Author.Needs.{needs}
+use Rattle.layout.specs.Places.{depthOf}
+use Rattle.promises.specs.Words.{words}
+use Rattle.epoch.specs.EndDid.{room-at, depth-high, shut, room-now, cells-now, small-now, used-now, shaped-now, holding-now, depth-now, out-pageless, out-full, goes-on, out-done}
+use Rattle.epoch.proofs.end.Statement.{statement}
+use Rattle.epoch.proofs.end.Tie as tie
+
+fits : (c : tie.After-depth) → length (c .before .before .before .before .before .args .tables .now) < 2 ^ 63
+fits c = omega arith
+
+depth-requires : tie.Need-depth-requires
+depth-requires c κs =
+    let a = c .before .before .before .before .args in
+    let pre = c .before .before .before .before .pre in
+    let w = words (a .cells .now) (a .remember .now) (a .tables .now) in
+    let f : length (a .tables .now) < 2 ^ 63 = omega arith in
+    (room-at (a .p) (pre .0) w (pre .1 .0) f (a .thread) (pre .1 .1), pre .1 .1)
+
+wide-requires : tie.Need-wide-requires
+wide-requires c κs =
+    search needs
+
+same-length : tie.Need-same-length
+same-length c =
+    search needs
+
+returns : tie.Need-returns
+returns c =
+    let a = c .before .before .before .before .before .before .before .args in
+    let pre = c .before .before .before .before .before .before .before .pre in
+    let w = words (a .cells .now) (a .remember .now) (a .tables .now) in
+    let f = fits (c .before .before) in
+    shut (a .p) (pre .0) w (pre .1 .0) f (a .thread) (pre .1 .1) (omega (arith, c .before .wide .ensures, c .before .before .depth .ensures, c .if1 .taken))
+
+mark-survivors-requires : tie.Need-mark-survivors-requires
+mark-survivors-requires c κs =
+    (c .before .before .before .before .before .before .before .before .before .before .pre .0, (c .before .before .before .before .before .before .before .before .before .before .pre .1 .0, (c .before .before .before .before .before .before .before .before .before .before .pre .1 .1, omega (arith, c .before .before .before .before .wide .ensures, c .before .before .before .before .before .depth .ensures, c .before .before .before .if1 .left))))
+
+needed-pages-requires : tie.Need-needed-pages-requires
+needed-pages-requires c κs =
+    let a = c .before .before .before .before .before .before .before .before .before .before .before .before .before .before .before .before .before .args in
+    let pre = c .before .before .before .before .before .before .before .before .before .before .before .before .before .before .before .before .before .pre in
+    let w = words (a .cells .now) (a .remember .now) (a .tables .now) in
+    let f = fits (c .before .before .before .before .before .before .before .before .before .before .before .before) in
+    let o : 1 ≤ depthOf (a .tables .now) (a .thread) = omega (arith, c .before .before .before .before .before .before .before .before .before .before .before .wide .ensures, c .before .before .before .before .before .before .before .before .before .before .before .before .depth .ensures, c .before .before .before .before .before .before .before .before .before .before .if1 .left) in
+    let m = c .before .before .before .before .before .before .mark-survivors .ensures in
+    (room-now (a .p) (pre .0) w (pre .1 .0) f (a .thread) (pre .1 .1) o _ m, (cells-now (a .p) (pre .0) w (pre .1 .0) f (a .thread) (pre .1 .1) o _ m, (small-now (a .p) (pre .0) w (pre .1 .0) f (a .thread) (pre .1 .1) o _ m, (pre .1 .1, omega (arith, depth-high (a .p) (pre .0) w (pre .1 .0) f (a .thread) (pre .1 .1), c .before .before .before .before .before .before .before .before .before .before .before .wide .ensures, c .before .before .before .before .before .before .before .before .before .before .before .before .depth .ensures)))))
+
+free-pages-requires : tie.Need-free-pages-requires
+free-pages-requires c κs =
+    let a = c .before .before .before .before .before .before .before .before .before .before .before .before .before .before .before .before .before .before .before .args in
+    let pre = c .before .before .before .before .before .before .before .before .before .before .before .before .before .before .before .before .before .before .before .pre in
+    let w = words (a .cells .now) (a .remember .now) (a .tables .now) in
+    let f = fits (c .before .before .before .before .before .before .before .before .before .before .before .before .before .before) in
+    let o : 1 ≤ depthOf (a .tables .now) (a .thread) = omega (arith, c .before .before .before .before .before .before .before .before .before .before .before .before .before .wide .ensures, c .before .before .before .before .before .before .before .before .before .before .before .before .before .before .depth .ensures, c .before .before .before .before .before .before .before .before .before .before .before .before .if1 .left) in
+    let m = c .before .before .before .before .before .before .before .before .mark-survivors .ensures in
+    room-now (a .p) (pre .0) w (pre .1 .0) f (a .thread) (pre .1 .1) o _ m
+
+unmark-requires : tie.Need-unmark-requires
+unmark-requires c κs =
+    let a = c .before .before .before .before .before .before .before .before .before .before .before .before .before .before .before .before .before .before .before .before .before .before .before .args in
+    let pre = c .before .before .before .before .before .before .before .before .before .before .before .before .before .before .before .before .before .before .before .before .before .before .before .pre in
+    let w = words (a .cells .now) (a .remember .now) (a .tables .now) in
+    let f = fits (c .before .before .before .before .before .before .before .before .before .before .before .before .before .before .before .before .before .before) in
+    let o : 1 ≤ depthOf (a .tables .now) (a .thread) = omega (arith, c .before .before .before .before .before .before .before .before .before .before .before .before .before .before .before .before .before .wide .ensures, c .before .before .before .before .before .before .before .before .before .before .before .before .before .before .before .before .before .before .depth .ensures, c .before .before .before .before .before .before .before .before .before .before .before .before .before .before .before .before .if1 .left) in
+    let m = c .before .before .before .before .before .before .before .before .before .before .before .before .mark-survivors .ensures in
+    (room-now (a .p) (pre .0) w (pre .1 .0) f (a .thread) (pre .1 .1) o _ m, (cells-now (a .p) (pre .0) w (pre .1 .0) f (a .thread) (pre .1 .1) o _ m, small-now (a .p) (pre .0) w (pre .1 .0) f (a .thread) (pre .1 .1) o _ m))
+
+same-length-2 : tie.Need-same-length-2
+same-length-2 c =
+    search needs
+
+same-length-3 : tie.Need-same-length-3
+same-length-3 c =
+    search needs
+
+same-length-4 : tie.Need-same-length-4
+same-length-4 c =
+    search needs
+
+returns-2 : tie.Need-returns-2
+returns-2 c =
+    let a = c .before .before .before .before .before .before .before .before .before .before .before .before .before .before .before .before .before .before .before .before .before .before .before .before .before .before .before .before .args in
+    let pre = c .before .before .before .before .before .before .before .before .before .before .before .before .before .before .before .before .before .before .before .before .before .before .before .before .before .before .before .before .pre in
+    let w = words (a .cells .now) (a .remember .now) (a .tables .now) in
+    let f = fits (c .before .before .before .before .before .before .before .before .before .before .before .before .before .before .before .before .before .before .before .before .before .before .before) in
+    let m = c .before .before .before .before .before .before .before .before .before .before .before .before .before .before .before .before .before .mark-survivors .ensures in
+    out-pageless (a .p) (pre .0) w (pre .1 .0) f (a .thread) (pre .1 .1) (c .before .before .before .before .before .before .before .before .before .before .before .before .before .before .before .before .before .before .before .before .before .before .wide .result) (c .before .before .before .before .before .before .before .before .before .before .needed-pages .result) (c .before .before .before .before .before .before .before .before .free-pages .result) (c .before .before .before .before .before .before .before .before .before .before .before .before .before .before .before .before .before .before .before .before .before .before .wide .ensures ∙ c .before .before .before .before .before .before .before .before .before .before .before .before .before .before .before .before .before .before .before .before .before .before .before .depth .ensures) (omega (arith, c .before .before .before .before .before .before .before .before .before .before .before .before .before .before .before .before .before .before .before .before .before .if1 .left)) m (c .before .before .before .before .before .before .before .before .before .before .needed-pages .ensures)
+    (c .before .before .before .before .before .before .before .before .free-pages .ensures) (c .before .before .before .before .unmark .ensures) (omega (arith, c .before .before .before .before .before .before .before .if2 .taken))
+
+region-at-requires : tie.Need-region-at-requires
+region-at-requires c κs =
+    let a = c .before .before .before .before .before .before .before .before .before .before .before .before .before .before .before .before .before .before .before .before .before .before .before .before .args in
+    let pre = c .before .before .before .before .before .before .before .before .before .before .before .before .before .before .before .before .before .before .before .before .before .before .before .before .pre in
+    let w = words (a .cells .now) (a .remember .now) (a .tables .now) in
+    let f = fits (c .before .before .before .before .before .before .before .before .before .before .before .before .before .before .before .before .before .before .before) in
+    let rm = room-at (a .p) (pre .0) w (pre .1 .0) f (a .thread) (pre .1 .1) in
+    (rm .threads-high, rm .depth-high, pre .1 .1, omega (arith, depth-high (a .p) (pre .0) w (pre .1 .0) f (a .thread) (pre .1 .1), c .before .before .before .before .before .before .before .before .before .before .before .before .before .before .before .before .before .before .wide .ensures, c .before .before .before .before .before .before .before .before .before .before .before .before .before .before .before .before .before .before .before .depth .ensures))
+
+count-crossing-requires : tie.Need-count-crossing-requires
+count-crossing-requires c κs =
+    let a = c .before .before .before .before .before .before .before .before .before .before .before .before .before .before .before .before .before .before .before .before .before .before .before .before .before .args in
+    let pre = c .before .before .before .before .before .before .before .before .before .before .before .before .before .before .before .before .before .before .before .before .before .before .before .before .before .pre in
+    let w = words (a .cells .now) (a .remember .now) (a .tables .now) in
+    let f = fits (c .before .before .before .before .before .before .before .before .before .before .before .before .before .before .before .before .before .before .before .before) in
+    let o : 1 ≤ depthOf (a .tables .now) (a .thread) = omega (arith, c .before .before .before .before .before .before .before .before .before .before .before .before .before .before .before .before .before .before .before .wide .ensures, c .before .before .before .before .before .before .before .before .before .before .before .before .before .before .before .before .before .before .before .before .depth .ensures, c .before .before .before .before .before .before .before .before .before .before .before .before .before .before .before .before .before .before .if1 .left) in
+    let m = c .before .before .before .before .before .before .before .before .before .before .before .before .before .before .mark-survivors .ensures in
+    (shaped-now (a .p) (pre .0) w (pre .1 .0) f (a .thread) (pre .1 .1) o _ m, (holding-now (a .p) (pre .0) w (pre .1 .0) f (a .thread) (pre .1 .1) o _ m, (small-now (a .p) (pre .0) w (pre .1 .0) f (a .thread) (pre .1 .1) o _ m, used-now (a .p) (pre .0) w (pre .1 .0) f (a .thread) (pre .1 .1) o _ m)))
+
+unmark-requires-2 : tie.Need-unmark-requires-2
+unmark-requires-2 c κs =
+    let a = c .before .before .before .before .before .before .before .before .before .before .before .before .before .before .before .before .before .before .before .before .before .before .before .before .before .before .before .before .before .args in
+    let pre = c .before .before .before .before .before .before .before .before .before .before .before .before .before .before .before .before .before .before .before .before .before .before .before .before .before .before .before .before .before .pre in
+    let w = words (a .cells .now) (a .remember .now) (a .tables .now) in
+    let f = fits (c .before .before .before .before .before .before .before .before .before .before .before .before .before .before .before .before .before .before .before .before .before .before .before .before) in
+    let o : 1 ≤ depthOf (a .tables .now) (a .thread) = omega (arith, c .before .before .before .before .before .before .before .before .before .before .before .before .before .before .before .before .before .before .before .before .before .before .before .wide .ensures, c .before .before .before .before .before .before .before .before .before .before .before .before .before .before .before .before .before .before .before .before .before .before .before .before .depth .ensures, c .before .before .before .before .before .before .before .before .before .before .before .before .before .before .before .before .before .before .before .before .before .before .if1 .left) in
+    let m = c .before .before .before .before .before .before .before .before .before .before .before .before .before .before .before .before .before .before .mark-survivors .ensures in
+    (room-now (a .p) (pre .0) w (pre .1 .0) f (a .thread) (pre .1 .1) o _ m, (cells-now (a .p) (pre .0) w (pre .1 .0) f (a .thread) (pre .1 .1) o _ m, small-now (a .p) (pre .0) w (pre .1 .0) f (a .thread) (pre .1 .1) o _ m))
+
+same-length-5 : tie.Need-same-length-5
+same-length-5 c =
+    search needs
+
+same-length-6 : tie.Need-same-length-6
+same-length-6 c =
+    search needs
+
+same-length-7 : tie.Need-same-length-7
+same-length-7 c =
+    search needs
+
+returns-3 : tie.Need-returns-3
+returns-3 c =
+    let a = c .before .before .before .before .before .before .before .before .before .before .before .before .before .before .before .before .before .before .before .before .before .before .before .before .before .before .before .before .before .before .before .before .before .before .args in
+    let pre = c .before .before .before .before .before .before .before .before .before .before .before .before .before .before .before .before .before .before .before .before .before .before .before .before .before .before .before .before .before .before .before .before .before .before .pre in
+    let w = words (a .cells .now) (a .remember .now) (a .tables .now) in
+    let f = fits (c .before .before .before .before .before .before .before .before .before .before .before .before .before .before .before .before .before .before .before .before .before .before .before .before .before .before .before .before .before) in
+    let m = c .before .before .before .before .before .before .before .before .before .before .before .before .before .before .before .before .before .before .before .before .before .before .before .mark-survivors .ensures in
+    out-full (a .p) (pre .0) w (pre .1 .0) f (a .thread) (pre .1 .1) (c .before .before .before .before .before .before .before .before .before .before .before .before .before .before .before .before .before .before .before .before .before .before .before .before .before .before .before .before .wide .result) (c .before .before .before .before .before .before .before .before .before .before .before .before .before .before .before .before .needed-pages .result) (c .before .before .before .before .before .before .before .before .before .before .before .before .before .before .free-pages .result) (c .before .before .before .before .before .before .before .before .before .before .before .before .before .before .before .before .before .before .before .before .before .before .before .before .before .before .before .before .wide .ensures ∙ c .before .before .before .before .before .before .before .before .before .before .before .before .before .before .before .before .before .before .before .before .before .before .before .before .before .before .before .before .before .depth .ensures) (omega (arith, c .before .before .before .before .before .before .before .before .before .before .before .before .before .before .before .before .before .before .before .before .before .before .before .before .before .before .before .if1 .left)) m (c .before .before .before .before .before .before .before .before .before .before .before .before .before .before .before .before .needed-pages .ensures)
+    (c .before .before .before .before .before .before .before .before .before .before .before .before .before .before .free-pages .ensures) (c .before .before .before .before .before .before .before .before .before .region-at .result) (c .before .before .before .before .before .before .before .before .count-crossing .result) (c .before .before .before .before .before .before .before .before .before .region-at .ensures) (c .before .before .before .before .before .before .before .before .count-crossing .ensures) (omega (arith, c .before .before .before .before .before .before .before .before .before .before .before .before .before .if2 .left)) (c .before .before .before .before .unmark2 .ensures)
+    (omega (arith, c .before .before .before .before .before .before .before .if3 .taken))
+
+evacuate-requires : tie.Need-evacuate-requires
+evacuate-requires c κs =
+    let a = c .before .before .before .before .before .before .before .before .before .before .before .before .before .before .before .before .before .before .before .before .before .before .before .before .before .before .before .before .before .before .args in
+    let pre = c .before .before .before .before .before .before .before .before .before .before .before .before .before .before .before .before .before .before .before .before .before .before .before .before .before .before .before .before .before .before .pre in
+    let w = words (a .cells .now) (a .remember .now) (a .tables .now) in
+    let f = fits (c .before .before .before .before .before .before .before .before .before .before .before .before .before .before .before .before .before .before .before .before .before .before .before .before .before) in
+    let o : 1 ≤ depthOf (a .tables .now) (a .thread) = omega (arith, c .before .before .before .before .before .before .before .before .before .before .before .before .before .before .before .before .before .before .before .before .before .before .before .before .wide .ensures, c .before .before .before .before .before .before .before .before .before .before .before .before .before .before .before .before .before .before .before .before .before .before .before .before .before .depth .ensures, c .before .before .before .before .before .before .before .before .before .before .before .before .before .before .before .before .before .before .before .before .before .before .before .if1 .left) in
+    let m = c .before .before .before .before .before .before .before .before .before .before .before .before .before .before .before .before .before .before .before .mark-survivors .ensures in
+    let e = depth-now (a .p) (pre .0) w (pre .1 .0) f (a .thread) (pre .1 .1) o _ m in (
+      goes-on (a .p) (pre .0) w (pre .1 .0) f (a .thread) (pre .1 .1) (c .before .before .before .before .before .before .before .before .before .before .before .before .before .before .before .before .before .before .before .before .before .before .before .before .wide .result) (c .before .before .before .before .before .before .before .before .before .before .before .before .needed-pages .result) (c .before .before .before .before .before .before .before .before .before .before .free-pages .result) (c .before .before .before .before .before .before .before .before .before .before .before .before .before .before .before .before .before .before .before .before .before .before .before .before .wide .ensures ∙ c .before .before .before .before .before .before .before .before .before .before .before .before .before .before .before .before .before .before .before .before .before .before .before .before .before .depth .ensures) (omega (arith, c .before .before .before .before .before .before .before .before .before .before .before .before .before .before .before .before .before .before .before .before .before .before .before .if1 .left)) m (c .before .before .before .before .before .before .before .before .before .before .before .before .needed-pages .ensures)
+          (c .before .before .before .before .before .before .before .before .before .before .free-pages .ensures) (c .before .before .before .before .before .region-at .result) (c .before .before .before .before .count-crossing .result) (c .before .before .before .before .before .region-at .ensures) (c .before .before .before .before .count-crossing .ensures) (omega (arith, c .before .before .before .before .before .before .before .before .before .if2 .left)) (omega (arith, c .before .before .before .if3 .left)),
+      (pre .1 .1, omega (arith, e, o), omega (arith, e, depth-high (a .p) (pre .0) w (pre .1 .0) f (a .thread) (pre .1 .1))),
+    )
+
+same-length-8 : tie.Need-same-length-8
+same-length-8 c =
+    search needs
+
+same-length-9 : tie.Need-same-length-9
+same-length-9 c =
+    search needs
+
+same-length-10 : tie.Need-same-length-10
+same-length-10 c =
+    search needs
+
+returns-4 : tie.Need-returns-4
+returns-4 c =
+    let a = c .before .before .before .before .before .before .before .before .before .before .before .before .before .before .before .before .before .before .before .before .before .before .before .before .before .before .before .before .before .before .before .before .before .before .before .before .before .args in
+    let pre = c .before .before .before .before .before .before .before .before .before .before .before .before .before .before .before .before .before .before .before .before .before .before .before .before .before .before .before .before .before .before .before .before .before .before .before .before .before .pre in
+    let w = words (a .cells .now) (a .remember .now) (a .tables .now) in
+    let f = fits (c .before .before .before .before .before .before .before .before .before .before .before .before .before .before .before .before .before .before .before .before .before .before .before .before .before .before .before .before .before .before .before .before) in
+    let m = c .before .before .before .before .before .before .before .before .before .before .before .before .before .before .before .before .before .before .before .before .before .before .before .before .before .before .mark-survivors .ensures in
+    out-done (a .p) (pre .0) w (pre .1 .0) f (a .thread) (pre .1 .1) (c .before .before .before .before .before .before .before .before .before .before .before .before .before .before .before .before .before .before .before .before .before .before .before .before .before .before .before .before .before .before .before .wide .result) (c .before .before .before .before .before .before .before .before .before .before .before .before .before .before .before .before .before .before .before .needed-pages .result) (c .before .before .before .before .before .before .before .before .before .before .before .before .before .before .before .before .before .free-pages .result) (c .before .before .before .before .before .before .before .before .before .before .before .before .before .before .before .before .before .before .before .before .before .before .before .before .before .before .before .before .before .before .before .wide .ensures ∙ c .before .before .before .before .before .before .before .before .before .before .before .before .before .before .before .before .before .before .before .before .before .before .before .before .before .before .before .before .before .before .before .before .depth .ensures) (omega (arith, c .before .before .before .before .before .before .before .before .before .before .before .before .before .before .before .before .before .before .before .before .before .before .before .before .before .before .before .before .before .before .if1 .left)) m (c .before .before .before .before .before .before .before .before .before .before .before .before .before .before .before .before .before .before .before .needed-pages .ensures)
+    (c .before .before .before .before .before .before .before .before .before .before .before .before .before .before .before .before .before .free-pages .ensures) (c .before .before .before .before .before .before .before .before .before .before .before .before .region-at .result) (c .before .before .before .before .before .before .before .before .before .before .before .count-crossing .result) (c .before .before .before .before .before .before .before .before .before .before .before .before .region-at .ensures) (c .before .before .before .before .before .before .before .before .before .before .before .count-crossing .ensures) (omega (arith, c .before .before .before .before .before .before .before .before .before .before .before .before .before .before .before .before .if2 .left)) (omega (arith, c .before .before .before .before .before .before .before .before .before .before .if3 .left))
+    (c .before .before .before .before .before .before .evacuate .ensures)
+
+pub end-spec : {M : Type 1} → statement M
+end-spec =
+    tie.close
+    (tie.spec
+    depth-requires
+    wide-requires
+    same-length
+    returns
+    mark-survivors-requires
+    needed-pages-requires
+    free-pages-requires
+    unmark-requires
+    same-length-2
+    same-length-3
+    same-length-4
+    returns-2
+    region-at-requires
+    count-crossing-requires
+    unmark-requires-2
+    same-length-5
+    same-length-6
+    same-length-7
+    returns-3
+    evacuate-requires
+    same-length-8
+    same-length-9
+    same-length-10
+    returns-4)

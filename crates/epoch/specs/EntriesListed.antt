@@ -1,0 +1,87 @@
+-- The remember table of whole words lists each crossing slot once, as the evacuation reads crossing off the marked words.
+use mathlib.Core.Path.{_≡_, refl, sym, ap, ap₂, _∙_, subst}
+use mathlib.Core.Logic.{_≢_}
+use mathlib.Core.Bool.{Bool, true, false, cond}
+use mathlib.Core.List.{List}
+use Prim.Native.Nat.{ℕ, zero, suc, _+_, _-_, _*_, _/_, _%_, _^_, _≤_, _<_}
+use native.Mathlib.Omega.{arith}
+use lib.Dec.{eqb, eqb·suc-zero}
+use lib.ListN.{length, getD}
+use Rattle.rules.specs.declared.Sizes.{Sizes}
+use Rattle.layout.specs.declared.Places.{Places}
+use Rattle.layout.specs.Places.{placesOf, Room, ownerOf, usedIn, slotIn, slotRegionIn}
+use Rattle.layout.specs.Cells.{pageOf, cellOf, wordOf, headOf, fieldAt, fieldOf}
+use Rattle.promises.specs.Words.{Words, Used, ownerIn}
+use Rattle.promises.specs.Whole.{WholeFor, IsRef}
+use Rattle.promises.specs.Crossing.{other, regionOf, crossTo}
+use Rattle.promises.specs.Slots.{Slot, region-of, slot-low, slot-cross, cross-slot, slot-field}
+use Rattle.mark.specs.Survivors.{Marked}
+use Rattle.evacuate.specs.Entries.{crossOf, otherThan}
+use Rattle.evacuate.specs.Append.{crossAt}
+use Rattle.evacuate.specs.Table.{IsSlot, Listed}
+use Rattle.epoch.specs.MarkedWords.{owner-same, use-now, use-then, head-same, word-same}
+
+module _ (s : Sizes) (w : Words) (k : WholeFor s w) (space : Room (placesOf s) (length (w .tables))) (r : ℕ) (w₁ : Words) (M : Marked s w r w₁) where
+  -- a slot, before and after the marking
+  pub slot-now : (x : ℕ) → Slot (placesOf s) (w .cells) (w .tables) x → IsSlot (placesOf s) (w₁ .cells) (w₁ .tables) x
+  slot-now x o =
+      record {
+        used = use-now s w k space r w₁ M (x / 16) (o .used);
+        field = o .field;
+        ref = subst (λ (h : ℕ). x % 16 < h / 16 + 2) (sym (head-same s w k space r w₁ M (x / 16))) (o .count);
+      }
+
+  pub slot-then : (x : ℕ) → IsSlot (placesOf s) (w₁ .cells) (w₁ .tables) x → Slot (placesOf s) (w .cells) (w .tables) x
+  slot-then x o =
+      record {
+        used = use-then s w k space r w₁ M (x / 16) (o .used);
+        field = o .field;
+        count = subst (λ (h : ℕ). x % 16 < h / 16 + 2) (head-same s w k space r w₁ M (x / 16)) (o .ref);
+      }
+
+  -- reference v of an object in region o
+  value-same : (o o′ : ℕ) → o ≡ o′ → (v : ℕ) → IsRef (placesOf s) (w .tables) v → crossOf (placesOf s) (w₁ .tables) o v ≡ other o′ (regionOf (placesOf s) (w .tables) v)
+  unfolding crossOf otherThan
+  value-same o o′ e zero f = refl
+  value-same o o′ e (suc y) f =
+      let y′ : suc y - 1 ≡ y = omega arith in
+      let u : Used s w y = subst (Used s w) y′ (f (omega arith)) in
+      ap₂ (λ (b : Bool) (x : ℕ). cond b 0 (other o (ownerOf (placesOf s) (w₁ .tables) (x / 16)))) (eqb·suc-zero y) y′
+      ∙ ap₂ (λ (a b : ℕ). other a b) e (owner-same s w k space r w₁ M (y / 16) (u .page) ∙ sym (region-of (placesOf s) (w .tables) y u))
+
+  slot-ref : (x : ℕ) → Slot (placesOf s) (w .cells) (w .tables) x → IsRef (placesOf s) (w .tables) (getD (w .cells) x 0)
+  slot-ref x o =
+      let f = slot-field (placesOf s) (w .cells) (w .tables) x o in
+      subst (λ (q : ℕ). IsRef (placesOf s) (w .tables) (getD (w .cells) q 0)) (f .0) (k .placed .references (cellOf x) (o .used) (wordOf x - 2) (f .1))
+
+  -- what the evacuation reads is what the whole check reads
+  pub cross-same : (x : ℕ) → Slot (placesOf s) (w .cells) (w .tables) x → crossAt (placesOf s) (w₁ .cells) (w₁ .tables) x ≡ crossTo (placesOf s) (w .cells) (w .tables) x
+  cross-same x o =
+      let page : x / 256 ≡ pageOf (cellOf x) = omega arith in
+      ap (λ (v : ℕ). crossOf (placesOf s) (w₁ .tables) (ownerOf (placesOf s) (w₁ .tables) (x / 256)) v) (word-same s w k space r w₁ M x (λ z. omega (arith, o .field)))
+      ∙ value-same (ownerOf (placesOf s) (w₁ .tables) (x / 256)) (ownerIn s w (pageOf (cellOf x)))
+      (ap (λ (q : ℕ). ownerOf (placesOf s) (w₁ .tables) q) page ∙ owner-same s w k space r w₁ M (pageOf (cellOf x)) (o .used .page)) (getD (w .cells) x 0) (slot-ref x o)
+      ∙ sym (slot-cross (placesOf s) (w .cells) (w .tables) x o)
+
+  entry-slot : (i : ℕ) → i < usedIn (w .remember) → Slot (placesOf s) (w .cells) (w .tables) (slotIn (w .remember) i)
+  entry-slot i l =
+      let e = k .placed .remember .entries .named i l in
+      cross-slot (placesOf s) (w .cells) (w .tables) (slotIn (w .remember) i) (e .slot) (omega (arith, e .region, e .right))
+
+  pub listed : Listed (placesOf s) (s .entries) (usedIn (w .remember)) (w₁ .cells) (w₁ .tables) (w .remember)
+  listed =
+      record {
+        slots = λ i l. slot-now (slotIn (w .remember) i) (entry-slot i l);
+        right = λ i l. sym (k .placed .remember .entries .named i l .right) ∙ sym (cross-same (slotIn (w .remember) i) (entry-slot i l));
+        real = λ i l z. omega (arith, k .placed .remember .entries .named i l .region);
+        every = λ x o ne. every x (slot-then x o) ne;
+      }
+    where
+      every : (x : ℕ) → Slot (placesOf s) (w .cells) (w .tables) x → crossAt (placesOf s) (w₁ .cells) (w₁ .tables) x ≢ 0
+          → (i : ℕ) × (i < usedIn (w .remember)) × (slotIn (w .remember) i ≡ x)
+      every x o ne =
+          let e = cross-same x o in
+          k .placed .remember .every x (slot-low (placesOf s) (w .cells) (w .tables) x o) (some (crossTo (placesOf s) (w .cells) (w .tables) x) (λ z. ne (e ∙ z)))
+        where
+          some : (n : ℕ) → n ≢ 0 → 0 < n
+          some n h = omega arith

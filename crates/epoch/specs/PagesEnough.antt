@@ -1,0 +1,131 @@
+-- The census of pages is what the copy asks: where the new pages that the rules count fit the free pages, every target has room.
+use mathlib.Core.Path.{_≡_, refl, sym, ap, ap₂, _∙_, subst, subst₂}
+use mathlib.Core.Logic.{_≢_}
+use mathlib.Core.Bool.{Bool, true, false, cond}
+use mathlib.Core.List.{List}
+use Prim.Native.Nat.{ℕ, zero, suc, _+_, _-_, _*_, _/_, _%_, _^_, _≤_, _<_}
+use native.Mathlib.Decide.{ℕ-discrete, decLt}
+use native.Mathlib.Nat.{zero-mul, one-mul}
+use native.Mathlib.Omega.{arith}
+use lib.Dec.{eqb}
+use lib.ListN.{length}
+use borrow.Author.Tests.{eq-eqb, ne-eqb}
+use Rattle.lists.specs.Bits.{bit-lt}
+use Rattle.lists.specs.Counting.{bit, sum, sum-same}
+use Rattle.rules.specs.declared.Sizes.{Sizes}
+use Rattle.rules.specs.Regions.{regionAt}
+use Rattle.rules.specs.Graph.{Graph, target, pagesOf, objectsIn}
+use Rattle.laws.specs.RegionLaws.{further-out}
+use Rattle.laws.specs.RulesLaws.{region-pos}
+use Rattle.laws.specs.Counts.{landed}
+use Rattle.layout.specs.declared.Places.{Places}
+use Rattle.layout.specs.Places.{placesOf, Room, ownerOf, markOf}
+use Rattle.layout.specs.Cells.{pageOf, placeOf, workOf}
+use Rattle.promises.specs.Words.{Words, Used, ownerIn, homeIn, depthIn, graphOf}
+use Rattle.promises.specs.Whole.{WholeFor, objectsOf}
+use Rattle.promises.specs.OwnedPages.{pagesOwned, objects-on-pages}
+use Rattle.mark.specs.Marks.{marked}
+use Rattle.mark.specs.Survivors.{Marked}
+use Rattle.mark.specs.Reached.{home-cell, cell-home}
+use Rattle.evacuate.specs.Marks.{hit, hits}
+use Rattle.evacuate.specs.Taking as ev
+use Rattle.evacuate.specs.Taking.{ownedOn}
+use Rattle.evacuate.specs.Copying.{need, Plan, region-bounds}
+use Rattle.ended.specs.Evacuated.{Survivor}
+use Rattle.ended.specs.EndQuestion.{pagesNeeded}
+use Rattle.ended.specs.EndPages.{morePages, new-pages-ended}
+use Rattle.ended.specs.WordsPlaced.{target-level}
+use Rattle.epoch.specs.MarkedWords.{owner-same, objects-same, ready}
+
+cond-bit : (b : Bool) → _≡_ {A = ℕ} (cond b 1 0) (bit b)
+cond-bit true = refl
+cond-bit false = refl
+
+-- ---- the marked cells are the survivors
+
+module _ (s : Sizes) (w : Words) (r : ℕ) (w₁ : Words) (M : Marked s w r w₁) where
+  pub marked-survivor : (c : ℕ) → pageOf c < s .pages → marked (placesOf s) (w₁ .tables) c ≡ 1 → Survivor s w r c
+  marked-survivor c l on =
+      let o = M .only c l on in
+      record { used = o .0; owner = o .1; goes = go (decLt 0 (target s (graphOf s w) r c)) (o .0) (o .1) }
+    where
+      go : Dec (0 < target s (graphOf s w) r c) → Used s w c → ownerIn s w (pageOf c) ≡ r → 0 < target s (graphOf s w) r c
+      go (yes h) u own = h
+      go (no n) u own = absurd (let z : marked (placesOf s) (w₁ .tables) c ≡ 0 = M .freed c u own (omega arith) in let y : ⊥ = omega arith in y)
+
+  pub unmarked-freed : (c : ℕ) → Used s w c → ownerIn s w (pageOf c) ≡ r → marked (placesOf s) (w₁ .tables) c ≢ 1 → target s (graphOf s w) r c ≡ 0
+  unmarked-freed c u own off = go (decLt 0 (target s (graphOf s w) r c))
+    where
+      go : Dec (0 < target s (graphOf s w) r c) → target s (graphOf s w) r c ≡ 0
+      go (yes h) = absurd (off (M .survives c u own h))
+      go (no n) = omega arith
+
+  zero-bit : (c : ℕ) → marked (placesOf s) (w₁ .tables) c ≢ 1 → marked (placesOf s) (w₁ .tables) c ≡ 0
+  zero-bit c off = omega (arith, bit-lt (placeOf c) (markOf (placesOf s) (w₁ .tables) (pageOf c)))
+
+  -- those that go to region q are as many as the rules say
+  pub hits-landed : WholeFor s w → 0 < r → (q : ℕ) → 0 < q → hits (placesOf s) (w₁ .cells) (w₁ .tables) q ≡ landed s (graphOf s w) r q
+  unfolding hits landed hit
+  hits-landed k rpos q pos = sum-same _ _ (16 * s .pages) (λ c l. each c l (ℕ-discrete (marked (placesOf s) (w₁ .tables) c) 1) (ℕ-discrete (homeIn s w c) r))
+    where
+      one : ℕ → ℕ
+      one c = cond (eqb (workOf (w₁ .cells) c) q) 1 0
+
+      each : (c : ℕ) → c < 16 * s .pages → Dec (marked (placesOf s) (w₁ .tables) c ≡ 1) → Dec (homeIn s w c ≡ r)
+          → marked (placesOf s) (w₁ .tables) c * cond (eqb (workOf (w₁ .cells) c) q) 1 0 ≡ cond (eqb (homeIn s w c) r) (cond (eqb (target s (graphOf s w) r c) q) 1 0) 0
+      each c l (yes on) (no n) = let o = M .only c (omega arith) on in absurd (n (cell-home s w k c r (o .0) (o .1)))
+      each c l (yes on) (yes e) =
+          let o = M .only c (omega arith) on in
+          ap (λ (b : ℕ). b * cond (eqb (workOf (w₁ .cells) c) q) 1 0) on ∙ one-mul _
+          ∙ ap (λ (x : ℕ). cond (eqb x q) 1 0) (M .goes c (o .0) (o .1))
+          ∙ sym (ap (λ (b : Bool). cond b (cond (eqb (target s (graphOf s w) r c) q) 1 0) 0) (eq-eqb (homeIn s w c) r e))
+      each c l (no off) (no n) =
+          ap (λ (b : ℕ). b * cond (eqb (workOf (w₁ .cells) c) q) 1 0) (zero-bit c off) ∙ zero-mul _
+          ∙ sym (ap (λ (b : Bool). cond b (cond (eqb (target s (graphOf s w) r c) q) 1 0) 0) (ne-eqb (homeIn s w c) r n))
+      each c l (no off) (yes e) =
+          let o = home-cell s w k c r e rpos in
+          let z : target s (graphOf s w) r c ≡ 0 = unmarked-freed c (o .0) (o .1) off in
+          ap (λ (b : ℕ). b * cond (eqb (workOf (w₁ .cells) c) q) 1 0) (zero-bit c off) ∙ zero-mul _
+          ∙ sym
+          (ap (λ (b : Bool). cond b (cond (eqb (target s (graphOf s w) r c) q) 1 0) 0) (eq-eqb (homeIn s w c) r e)
+          ∙ ap (λ (b : Bool). cond b 1 0) (ne-eqb (target s (graphOf s w) r c) q (λ (y : target s (graphOf s w) r c ≡ q). omega arith)))
+
+-- ---- the plan of the copy
+
+module _ (s : Sizes) (w : Words) (k : WholeFor s w) (space : Room (placesOf s) (length (w .tables))) (t j : ℕ) (th : t < s .threads) (deep : depthIn w t ≡ suc j)
+    (w₁ : Words) (M : Marked s w (regionAt s t (suc j)) w₁) where
+  abbrev r : ℕ
+  r = regionAt s t (suc j)
+
+  -- a survivor's word 1 is the region of a level around r
+  pub survivor-level : (c : ℕ) → Survivor s w r c → (l : ℕ) × (l < suc j) × (workOf (w₁ .cells) c ≡ regionAt s t l)
+  survivor-level c v =
+      let x = target-level s w k t j th deep c (cell-home s w k c r (v .used) (v .owner)) (v .goes) in
+      (x .0, omega (arith, x .1), M .goes c (v .used) (v .owner) ∙ x .2)
+
+  free-same : ev.pagesOwned (placesOf s) (w₁ .tables) 0 ≡ pagesOwned s w 0
+  unfolding ev.pagesOwned
+  free-same =
+      sum-same (ownedOn (placesOf s) (w₁ .tables) 0) (λ page. bit (eqb (ownerIn s w page) 0)) (s .pages)
+      (λ page l. ap (λ (x : ℕ). cond (eqb x 0) 1 0) (owner-same s w k space r w₁ M page l) ∙ cond-bit (eqb (ownerIn s w page) 0))
+
+  needs : sum (λ l. need (placesOf s) (regionAt s t l) (w₁ .cells) (w₁ .tables)) (suc j) ≡ pagesNeeded s w t j
+  needs =
+      sum-same (λ l. need (placesOf s) (regionAt s t l) (w₁ .cells) (w₁ .tables))
+      (λ l. morePages (objectsIn (graphOf s w) (regionAt s t l)) (landed s (graphOf s w) r (regionAt s t l))) (suc j)
+      (λ l h.
+      ap₂ (λ (a b : ℕ). morePages a b)
+      (objects-same s w k space r w₁ M (regionAt s t l) ∙ sym (objects-on-pages s w k (regionAt s t l) (region-pos s t l)))
+      (hits-landed s w r w₁ M k (region-pos s t (suc j)) (regionAt s t l) (region-pos s t l)))
+      ∙ sym (new-pages-ended s w k t j th deep)
+
+  pub plan : pagesNeeded s w t j ≤ pagesOwned s w 0 → Plan (placesOf s) (suc j) (regionAt s t) (w₁ .cells) (w₁ .tables)
+  plan h =
+      record {
+        ready = ready s w k space r w₁ M;
+        real = λ l m. region-pos s t l;
+        low = λ l m. region-bounds (placesOf s) t l th (omega (arith, k .placed .depths t th)) .1;
+        rising = λ a b l m. further-out s t a b l;
+        all = λ c l on. survivor-level c (marked-survivor s w r w₁ M c l on);
+        enough = subst₂ (λ (a b : ℕ). a ≤ b) (sym needs) (sym free-same) h;
+      }

@@ -1,0 +1,69 @@
+// Question 13: the new pages that the regions around the ending one need, against the free pages.
+ghost use mathlib.Core.Path.{_≡_};
+ghost use Prim.Native.Nat.{ℕ, _+_, _*_, _^_, _<_, _≤_};
+ghost use lib.ListN.{length};
+ghost use Rattle.layout.specs.Places.{Room, markOf};
+ghost use Rattle.epoch.specs.CensusCounts.{freeOne, freeIn, levelNeeds, needsBelow};
+use census::count::count_survivors;
+use layout::Places;
+use layout::regions::region_at;
+use layout::tables::count;
+use layout::tables::owner;
+use layout::wide;
+
+// 1 if a page is free, else 0.
+pub fn is_free(p: Places, tables: &[u32], page: usize) -> usize
+    requires { ⌜ Room p (length (now tables)) ⌝ }
+    requires { ⌜ page < p .pages ⌝ }
+    ensures { λ n. ⌜ n ≡ freeOne p (now (tables .entry)) page ⌝ }
+{
+    if owner(p, tables, page) == 0 {
+        return 1;
+    }
+    0
+}
+
+// How many pages are free.
+pub fn free_pages(p: Places, tables: &[u32]) -> usize
+    requires { ⌜ Room p (length (now tables)) ⌝ }
+    ensures { λ n. ⌜ n ≡ freeIn p (now (tables .entry)) (p .pages) ⌝ }
+{
+    let pages = p.pages;
+    let mut n: usize = 0;
+    let mut page: usize = 0;
+    while page < pages {
+        n += is_free(p, tables, page);
+        page += 1;
+    }
+    n
+}
+
+// How many new pages region g needs for the survivors that go to it.
+pub fn level_pages(p: Places, cells: &[u32], tables: &[u32], g: u32) -> usize
+    requires { ⌜ Room p (length (now tables)) ⌝ }
+    requires { ⌜ 256 * p .pages ≤ length (now cells) ⌝ }
+    requires { ⌜ ((page : ℕ) → page < p .pages → markOf p (now tables) page < 2 ^ 16) ⌝ }
+    requires { ⌜ (1 ≤ g) × (g ≤ 1 + p .threads * p .depth) ⌝ }
+    ensures { λ n. ⌜ n ≡ levelNeeds p (now (cells .entry)) (now (tables .entry)) g ⌝ }
+{
+    let have = wide(count(p, tables, wide(g)));
+    let come = count_survivors(p, cells, tables, g);
+    (have + come + 15) / 16 - (have + 15) / 16
+}
+
+// How many new pages the regions of a thread at the levels below the given one need.
+pub fn needed_pages(p: Places, cells: &[u32], tables: &[u32], thread: usize, levels: usize) -> usize
+    requires { ⌜ Room p (length (now tables)) ⌝ }
+    requires { ⌜ 256 * p .pages ≤ length (now cells) ⌝ }
+    requires { ⌜ ((page : ℕ) → page < p .pages → markOf p (now tables) page < 2 ^ 16) ⌝ }
+    requires { ⌜ (thread < p .threads) × (levels ≤ p .depth) ⌝ }
+    ensures { λ n. ⌜ n ≡ needsBelow p (now (cells .entry)) (now (tables .entry)) thread levels ⌝ }
+{
+    let mut n: usize = 0;
+    let mut level: usize = 0;
+    while level < levels {
+        n += level_pages(p, cells, tables, region_at(p, thread, level));
+        level += 1;
+    }
+    n
+}
