@@ -1,0 +1,81 @@
+-- A refusal is one of ask's; else the tables are zero but for the five sizes, and the remember table but for N.
+use mathlib.Core.Path.{refl}
+use native.Mathlib.Omega.{arith}
+use denote.Ref.{now}
+use Rattle.heap.specs.Prepare.{sizes, asked-range, asked-five, prepared-refused, prepared-done}
+use borrow.Author.Needs.{needs}
+use Rattle.heap.proofs.prepare.taldreku_prepare.Statement.{statement}
+use Rattle.heap.proofs.prepare.taldreku_prepare.Tie as tie
+use Rattle.layout.proofs.lengths.remember_words.Reads as remember-words-reads
+use Rattle.layout.proofs.lengths.tables_words.Reads as tables-words-reads
+use Rattle.layout.proofs.remember.set_entries.Reads as set-entries-reads
+use Rattle.layout.proofs.write_sizes.Reads as write-sizes-reads
+
+wide-requires : tie.Need-wide-requires
+wide-requires c κs = search needs
+
+wide-requires-2 : tie.Need-wide-requires-2
+wide-requires-2 c κs = search needs
+
+wide-requires-3 : tie.Need-wide-requires-3
+wide-requires-3 c κs = search needs
+
+wide-requires-4 : tie.Need-wide-requires-4
+wide-requires-4 c κs = search needs
+
+wide-requires-5 : tie.Need-wide-requires-5
+wide-requires-5 c κs = search needs
+
+ask-requires : tie.Need-ask-requires
+ask-requires c κs = search needs
+
+returns : tie.Need-returns
+returns c = prepared-refused (λ i. sizes (c .before .before .before .before .before .before .wide .ensures i) (c .before .before .before .before .before .wide2 .ensures i) (c .before .before .before .before .wide3 .ensures i) (c .before .before .before .wide4 .ensures i) (c .before .before .wide5 .ensures i)) (c .before .ask .ensures _ _ _ refl refl refl) (c .if1 .taken)
+
+tables-words-requires : tie.Need-tables-words-requires
+tables-words-requires c κs = asked-range (c .before .before .ask .ensures (now (c .before .before .before .before .before .before .before .before .before .before .before .args .cells)) (now (c .before .before .before .before .before .before .before .before .before .before .before .args .remember)) (now (c .before .before .before .before .before .before .before .before .before .before .before .args .tables)) refl refl refl) (c .before .if1 .left) .0
+
+clear-requires : tie.Need-clear-requires
+clear-requires c κs = (omega arith, omega (arith, asked-range (c .before .before .before .ask .ensures (now (c .before .before .before .before .before .before .before .before .before .before .before .before .args .cells)) (now (c .before .before .before .before .before .before .before .before .before .before .before .before .args .remember)) (now (c .before .before .before .before .before .before .before .before .before .before .before .before .args .tables)) refl refl refl) (c .before .before .if1 .left) .1 .tables, c .tables-words .ensures))
+
+write-sizes-requires : tie.Need-write-sizes-requires
+write-sizes-requires c κs = omega (arith, asked-five (c .before .before .before .before .before .before .before .ask .ensures (now (c .before .before .before .before .before .before .before .before .before .before .before .before .before .before .before .before .args .cells)) (now (c .before .before .before .before .before .before .before .before .before .before .before .before .before .before .before .before .args .remember)) (now (c .before .before .before .before .before .before .before .before .before .before .before .before .before .before .before .before .args .tables)) refl refl refl) (c .before .before .before .before .before .before .if1 .left), c .before .before .before .clear .ensures .long)
+
+remember-words-requires : tie.Need-remember-words-requires
+remember-words-requires c κs = asked-range (c .before .before .before .before .before .before .before .before .before .before .before .ask .ensures (now (c .before .before .before .before .before .before .before .before .before .before .before .before .before .before .before .before .before .before .before .before .args .cells)) (now (c .before .before .before .before .before .before .before .before .before .before .before .before .before .before .before .before .before .before .before .before .args .remember)) (now (c .before .before .before .before .before .before .before .before .before .before .before .before .before .before .before .before .before .before .before .before .args .tables)) refl refl refl) (c .before .before .before .before .before .before .before .before .before .before .if1 .left) .0
+
+clear-requires-2 : tie.Need-clear-requires-2
+clear-requires-2 c κs = (omega arith, omega (arith, asked-range (c .before .before .before .before .before .before .before .before .before .before .before .before .ask .ensures (now (c .before .before .before .before .before .before .before .before .before .before .before .before .before .before .before .before .before .before .before .before .before .args .cells)) (now (c .before .before .before .before .before .before .before .before .before .before .before .before .before .before .before .before .before .before .before .before .before .args .remember)) (now (c .before .before .before .before .before .before .before .before .before .before .before .before .before .before .before .before .before .before .before .before .before .args .tables)) refl refl refl) (c .before .before .before .before .before .before .before .before .before .before .before .if1 .left) .1 .remember, c .remember-words .ensures))
+
+set-entries-requires : tie.Need-set-entries-requires
+set-entries-requires c κs = omega (arith, asked-range (c .before .before .before .before .before .before .before .before .before .before .before .before .before .before .before .before .ask .ensures (now (c .before .before .before .before .before .before .before .before .before .before .before .before .before .before .before .before .before .before .before .before .before .before .before .before .before .args .cells)) (now (c .before .before .before .before .before .before .before .before .before .before .before .before .before .before .before .before .before .before .before .before .before .before .before .before .before .args .remember)) (now (c .before .before .before .before .before .before .before .before .before .before .before .before .before .before .before .before .before .before .before .before .before .before .before .before .before .args .tables)) refl refl refl) (c .before .before .before .before .before .before .before .before .before .before .before .before .before .before .before .if1 .left) .1 .remember, c .before .before .before .clear2 .ensures .long)
+
+same-length : tie.Need-same-length
+same-length c = search needs
+
+same-length-2 : tie.Need-same-length-2
+same-length-2 c = search needs
+
+returns-2 : tie.Need-returns-2
+returns-2 c = prepared-done (λ i. sizes (c .before .before .before .before .before .before .before .before .before .before .before .before .before .before .before .before .before .before .before .before .before .before .before .before .wide .ensures i) (c .before .before .before .before .before .before .before .before .before .before .before .before .before .before .before .before .before .before .before .before .before .before .before .wide2 .ensures i) (c .before .before .before .before .before .before .before .before .before .before .before .before .before .before .before .before .before .before .before .before .before .before .wide3 .ensures i) (c .before .before .before .before .before .before .before .before .before .before .before .before .before .before .before .before .before .before .before .before .before .wide4 .ensures i) (c .before .before .before .before .before .before .before .before .before .before .before .before .before .before .before .before .before .before .before .before .wide5 .ensures i)) (c .before .before .before .before .before .before .before .before .before .before .before .before .before .before .before .before .before .before .before .ask .ensures _ _ _ refl refl refl) (c .before .before .before .before .before .before .before .before .before .before .before .before .before .before .before .before .before .before .if1 .left) (c .before .before .before .before .before .before .before .before .before .before .before .before .before .before .before .before .tables-words .ensures) (c .before .before .before .before .before .before .before .before .before .before .before .before .before .before .before .clear .ensures) (c .before .before .before .before .before .before .before .before .before .before .before .write-sizes .ensures) (c .before .before .before .before .before .before .before .remember-words .ensures) (c .before .before .before .before .before .before .clear2 .ensures) (c .before .before .set-entries .ensures)
+
+pub taldreku-prepare-spec : {M : Type 1} → statement M
+taldreku-prepare-spec =
+    tie.close
+    (tie.spec
+    wide-requires
+    wide-requires-2
+    wide-requires-3
+    wide-requires-4
+    wide-requires-5
+    ask-requires
+    returns
+    tables-words-requires
+    clear-requires
+    write-sizes-requires
+    remember-words-requires
+    clear-requires-2
+    set-entries-requires
+    same-length
+    same-length-2
+    returns-2)

@@ -1,0 +1,60 @@
+-- What `commands` answers is the answer; an end starts from the words as they were.
+use Rattle.heap.specs.Running.{obeyed-answered, ends-ready, ends-did}
+use borrow.Author.Needs.{needs}
+use Rattle.heap.proofs.run.obey.Statement.{statement}
+use Rattle.heap.proofs.run.obey.Tie as tie
+
+obey-requires : tie.Need-obey-requires
+obey-requires c κs = search needs
+
+enum-known-o : tie.Need-enum-known-o
+enum-known-o c = search needs
+
+enum-known-o-2 : tie.Need-enum-known-o-2
+enum-known-o-2 c = search needs
+
+end-requires : tie.Need-end-requires
+end-requires c κs =
+    let r = ends-ready (c .before .before .before .before .before .before .before .before .before .before .before .before .before .before .before .before .before .before .before .args .p) (c .before .before .before .before .before .before .before .before .before .before .before .before .obey .result) (c .before .before .before .before .before .before .before .before .before .before .before .before .before .before .before .before .before .before .before .args .m) (c .before .before .before .before .before .before .before .before .before .before .before .before .before .before .before .before .before .before .before .pre) (c .before .before .before .before .before .before .before .before .before .before .before .before .obey .ensures) (c .before .before .before .before .o2 .given .1) in
+    (r .0, (r .1, r .2))
+
+same-length : tie.Need-same-length
+same-length c = search needs
+
+same-length-2 : tie.Need-same-length-2
+same-length-2 c = search needs
+
+same-length-3 : tie.Need-same-length-3
+same-length-3 c = search needs
+
+returns : tie.Need-returns
+returns c = obeyed-answered (c .before .before .before .before .before .before .before .before .before .before .before .before .before .before .before .before .args .p) (c .before .before .before .before .before .before .before .before .before .obey .result) (c .before .before .before .before .before .before .before .before .before .obey .ensures) (c .before .o .given .1)
+
+same-length-4 : tie.Need-same-length-4
+same-length-4 c = search needs
+
+same-length-5 : tie.Need-same-length-5
+same-length-5 c = search needs
+
+same-length-6 : tie.Need-same-length-6
+same-length-6 c = search needs
+
+returns-2 : tie.Need-returns-2
+returns-2 c = ends-did (c .before .before .before .before .before .before .before .before .before .before .before .before .before .before .before .before .before .before .before .before .before .before .before .before .before .before .args .p) (c .before .before .before .before .before .before .before .before .before .before .before .before .before .before .before .before .before .before .before .obey .result) (c .before .before .before .before .before .before .before .before .before .before .before .before .before .before .before .before .before .before .before .obey .ensures) (c .before .before .before .before .before .before .before .before .before .before .before .o2 .given .1) (c .before .before .before .before .before .before .end .ensures)
+
+pub obey-spec : {M : Type 1} → statement M
+obey-spec =
+    tie.close
+    (tie.spec
+    obey-requires
+    enum-known-o
+    enum-known-o-2
+    end-requires
+    same-length
+    same-length-2
+    same-length-3
+    returns
+    same-length-4
+    same-length-5
+    same-length-6
+    returns-2)

@@ -1,0 +1,3 @@
+// The epoch heap: prepare and run, on three lent slices of words.
+pub mod prepare;
+pub mod run;

@@ -1,0 +1,73 @@
+// prepare: the tables of an unused heap in three lent slices.
+ghost use mathlib.Core.Path.{_≡_};
+ghost use mathlib.Core.List.{List};
+ghost use Prim.Native.Nat.{ℕ, _≤_};
+ghost use lib.ListN.{length};
+ghost use Rattle.promises.specs.Words.{words};
+ghost use Rattle.promises.specs.Promises.{PrepareAsked, Prepared};
+ghost use Rattle.heap.specs.Prepare.{Cleared, sizes};
+use rules::Sizes;
+
+// The words `from` up to `to` become zero.
+fn clear(slice: &mut [u32], from: usize, to: usize)
+    requires { ⌜ (from ≤ to) × (to ≤ length (now slice)) ⌝ }
+    ensures { λ r. ⌜ Cleared from to (now (slice .entry)) (now (slice .exit)) ⌝ }
+{
+    let mut i = from;
+    while i < to {
+        slice[i] = 0;
+        i += 1;
+    }
+}
+
+// Questions 1 and 2, of slices of these lengths: the number of the one that says no, 0 if none does.
+fn ask(s: Sizes, cells: usize, remember: usize, tables: usize) -> u32
+    ensures { λ r. ⌜ ((c m t : List ℕ) → length c ≡ cells → length m ≡ remember → length t ≡ tables → PrepareAsked s (words c m t) r) ⌝ }
+{
+    if !layout::in_range(s) {
+        return 1;
+    }
+    if cells < layout::lengths::cells_words(s) {
+        return 2;
+    }
+    if remember < layout::lengths::remember_words(s) {
+        return 2;
+    }
+    if tables < layout::lengths::tables_words(s) {
+        return 2;
+    }
+    0
+}
+
+// Writes the tables of an unused heap of these sizes. Gives 0, or on refusal, with nothing written, 1 for a size out of range and 2 for
+// a slice that is too short. Words past the three lengths never change.
+#[no_mangle]
+pub extern "C" fn taldreku_prepare(
+    threads: u32,
+    variables: u32,
+    depth: u32,
+    pages: u32,
+    entries: u32,
+    cells: &mut [u32],
+    remember: &mut [u32],
+    tables: &mut [u32],
+) -> u32
+    ensures { λ r. ⌜ Prepared (sizes threads variables depth pages entries) (words (now (cells .entry)) (now (remember .entry)) (now (tables .entry))) r (words (now (cells .exit)) (now (remember .exit)) (now (tables .exit))) ⌝ }
+{
+    let s = Sizes {
+        threads: layout::wide(threads),
+        variables: layout::wide(variables),
+        depth: layout::wide(depth),
+        pages: layout::wide(pages),
+        entries: layout::wide(entries),
+    };
+    let q = ask(s, cells.len(), remember.len(), tables.len());
+    if q != 0 {
+        return q;
+    }
+    clear(tables, 0, layout::lengths::tables_words(s));
+    layout::write_sizes(tables, threads, variables, depth, pages, entries);
+    clear(remember, 0, layout::lengths::remember_words(s));
+    layout::remember::set_entries(remember, entries);
+    0
+}

@@ -1,0 +1,95 @@
+// run: the commands of a block, in order, on whole tables.
+ghost use mathlib.Core.Path.{_≡_};
+ghost use Prim.Native.Nat.{ℕ, _+_, _*_, _<_, _≤_};
+ghost use lib.ListN.{length};
+ghost use Rattle.layout.specs.Places.{sizesOf};
+ghost use Rattle.promises.specs.Words.{words};
+ghost use Rattle.promises.specs.Promises.{DidHere, Ran, commandAt, size};
+ghost use Rattle.commands.specs.Ready.{Ready};
+ghost use Rattle.heap.specs.Looping.{Looped};
+use commands::Obeyed;
+use layout::Places;
+use rules::Answer;
+use rules::Command;
+
+// One command: what `commands` answers, or the end of an epoch.
+fn obey(
+    p: Places,
+    cells: &mut [u32],
+    remember: &mut [u32],
+    tables: &mut [u32],
+    m: Command,
+) -> Answer
+    requires { ⌜ Ready p (now cells) (now remember) (now tables) ⌝ }
+    ensures { λ r. ⌜ DidHere (sizesOf p) (words (now (cells .entry)) (now (remember .entry)) (now (tables .entry))) m (words (now (cells .exit)) (now (remember .exit)) (now (tables .exit))) r ⌝ }
+{
+    let o = commands::obey::obey(p, cells, remember, tables, m);
+    match o {
+        Obeyed::Answered(a) => a,
+        Obeyed::Ends(t) => epoch::end(p, cells, remember, tables, t),
+    }
+}
+
+// Command i of a block.
+fn command_at(block: &[u32], i: usize) -> Command
+    requires { ⌜ (i < 2305843009213693952) × (5 * i + 5 ≤ length (now block)) ⌝ }
+    ensures { λ r. ⌜ r ≡ commandAt (now (block .entry)) i ⌝ }
+{
+    Command {
+        code: block[5 * i],
+        thread: block[5 * i + 1],
+        a: block[5 * i + 2],
+        b: block[5 * i + 3],
+        c: block[5 * i + 4],
+    }
+}
+
+// The commands of a block, in order, each with its two answer words.
+fn obey_block(
+    p: Places,
+    cells: &mut [u32],
+    remember: &mut [u32],
+    tables: &mut [u32],
+    block: &[u32],
+    answers: &mut [u32],
+)
+    requires { ⌜ Ready p (now cells) (now remember) (now tables) ⌝ }
+    requires { ⌜ 2 * size (now block) ≤ length (now answers) ⌝ }
+    ensures { λ _. ⌜ Looped (sizesOf p) (words (now (cells .entry)) (now (remember .entry)) (now (tables .entry))) (now (block .entry)) (now (answers .entry)) (words (now (cells .exit)) (now (remember .exit)) (now (tables .exit))) (now (answers .exit)) (size (now (block .entry))) ⌝ }
+{
+    let n = block.len() / 5;
+    let mut i: usize = 0;
+    while i < n {
+        let a = obey(p, cells, remember, tables, command_at(block, i));
+        answers[2 * i] = a.number;
+        answers[2 * i + 1] = a.value;
+        i += 1;
+    }
+}
+
+// Obeys the commands of a block and writes number and value for each. Gives 0; or on refusal, with tables and answers untouched, 3 for
+// tables that are not whole, 4 for a block that is no multiple of five words, 5 for fewer than two answer words for each command. Words
+// past the lengths, and the answer slice's extra words, never change.
+#[no_mangle]
+pub extern "C" fn taldreku_run(
+    cells: &mut [u32],
+    remember: &mut [u32],
+    tables: &mut [u32],
+    block: &[u32],
+    answers: &mut [u32],
+) -> u32
+    ensures { λ r. ⌜ Ran (words (now (cells .entry)) (now (remember .entry)) (now (tables .entry))) (now (block .entry)) (now (answers .entry)) r (words (now (cells .exit)) (now (remember .exit)) (now (tables .exit))) (now (answers .exit)) ⌝ }
+{
+    if !whole::whole(cells, remember, tables) {
+        return 3;
+    }
+    if block.len() % 5 != 0 {
+        return 4;
+    }
+    if answers.len() < 2 * (block.len() / 5) {
+        return 5;
+    }
+    let p = layout::find_places(layout::read_sizes(tables));
+    obey_block(p, cells, remember, tables, block, answers);
+    0
+}
