@@ -1,0 +1,92 @@
+//! Flavours of scripts: the sizes they draw from and how often each pattern is used.
+
+use crate::patterns::Pattern::{self, *};
+
+pub struct Flavour {
+    pub name: &'static str,
+    /// How often this flavour is chosen, in percent.
+    pub weight: usize,
+    /// Least and most of T, V, D, P and N.
+    pub sizes: [(usize, usize); 5],
+    /// Least and most commands before the last look around; a pattern that has begun is finished.
+    pub commands: (usize, usize),
+    /// Patterns with their weights.
+    pub patterns: &'static [(Pattern, usize)],
+}
+
+#[rustfmt::skip]
+pub const FLAVOURS: &[Flavour] = &[
+    Flavour {
+        name: "soup",
+        weight: 12,
+        sizes: [(1, 4), (1, 6), (1, 4), (1, 8), (0, 12)],
+        commands: (20, 300),
+        patterns: &[(Any, 60), (Refuse, 2), (Open, 3), (Close, 4), (Tangle, 2), (Probe, 3), (Share, 2), (Clear, 2)],
+    },
+    Flavour {
+        name: "deep",
+        weight: 24,
+        sizes: [(1, 3), (10, 16), (6, 8), (12, 32), (12, 200)],
+        commands: (120, 400),
+        patterns: &[(Descend, 6), (Tangle, 20), (Fan, 3), (Any, 10), (Probe, 5), (Overwrite, 2), (Clear, 1), (Share, 2), (Ring, 1), (Wide, 1), (Refuse, 1)],
+    },
+    Flavour {
+        name: "few pages",
+        weight: 12,
+        sizes: [(1, 3), (2, 8), (1, 3), (1, 4), (0, 64)],
+        commands: (60, 260),
+        patterns: &[(Press, 8), (Fill, 6), (Open, 4), (Close, 4), (List, 4), (Any, 10), (Tangle, 3), (Probe, 3), (Clear, 2), (Refuse, 1)],
+    },
+    Flavour {
+        name: "few entries",
+        weight: 12,
+        sizes: [(1, 3), (3, 8), (2, 6), (8, 24), (0, 4)],
+        commands: (60, 260),
+        patterns: &[(Fan, 10), (Again, 6), (Tangle, 8), (Descend, 5), (Overwrite, 4), (Any, 8), (Close, 4), (Share, 3), (Probe, 2), (Refuse, 1)],
+    },
+    Flavour {
+        name: "few of both",
+        weight: 7,
+        sizes: [(1, 3), (4, 8), (3, 5), (2, 5), (1, 3)],
+        commands: (60, 200),
+        patterns: &[(FullFan, 10), (Fan, 4), (Press, 3), (Any, 6), (Close, 4), (Clear, 4), (Tangle, 3)],
+    },
+    Flavour {
+        name: "lists and rings",
+        weight: 9,
+        sizes: [(1, 3), (2, 8), (1, 5), (4, 32), (4, 200)],
+        commands: (100, 400),
+        patterns: &[(List, 8), (Ring, 8), (Open, 6), (Close, 8), (Fill, 2), (Share, 4), (Probe, 6), (Any, 10), (Clear, 4), (Tangle, 4), (LongList, 4)],
+    },
+    Flavour {
+        name: "many threads",
+        weight: 10,
+        sizes: [(8, 16), (1, 8), (1, 8), (16, 32), (0, 100)],
+        commands: (100, 400),
+        patterns: &[(Open, 12), (Any, 30), (Tangle, 10), (Share, 12), (Close, 8), (Probe, 4), (Descend, 3), (Overwrite, 2), (Refuse, 2)],
+    },
+    Flavour {
+        name: "refused",
+        weight: 8,
+        sizes: [(1, 16), (1, 32), (1, 8), (1, 32), (0, 1024)],
+        commands: (30, 120),
+        patterns: &[(Refuse, 20), (Any, 10), (Open, 1), (Tangle, 1), (Again, 1)],
+    },
+    Flavour {
+        name: "short",
+        weight: 5,
+        sizes: [(1, 16), (1, 32), (1, 8), (1, 32), (0, 1024)],
+        commands: (0, 3),
+        patterns: &[(Any, 5), (Refuse, 5)],
+    },
+    Flavour {
+        name: "large",
+        weight: 1,
+        sizes: [(2, 16), (8, 32), (2, 8), (24, 32), (50, 1024)],
+        commands: (4000, 9000),
+        patterns: &[
+            (Any, 40), (Open, 4), (Close, 5), (List, 3), (Ring, 2), (Tangle, 6), (Descend, 2), (Share, 4), (Probe, 4), (Fill, 1), (Clear, 2), (Fan, 1),
+            (Overwrite, 1), (Wide, 3), (LongList, 1), (Refuse, 1),
+        ],
+    },
+];

@@ -1,0 +1,51 @@
+//! The second program: document 01's section "The program" over an object graph.
+
+use epochs::heap::Heap;
+use epochs::lines::{five_numbers, sizes};
+use std::io::{self, BufRead, BufWriter, Write};
+
+/// Reads the next line, without its line feed; false at the end of the input. The last line feed may be missing.
+fn next_line(input: &mut impl BufRead, line: &mut Vec<u8>) -> io::Result<bool> {
+    line.clear();
+    if input.read_until(b'\n', line)? == 0 {
+        return Ok(false);
+    }
+    if line.last() == Some(&b'\n') {
+        line.pop();
+    }
+    Ok(true)
+}
+
+fn run(mut input: impl BufRead, mut output: impl Write) -> io::Result<()> {
+    let mut line = Vec::new();
+    let limits = if next_line(&mut input, &mut line)? { sizes(&line) } else { None };
+    let Some(limits) = limits else {
+        writeln!(output, "sizes")?;
+        return output.flush();
+    };
+    let mut heap = Heap::new(limits);
+    let mut place: u64 = 1;
+    while next_line(&mut input, &mut line)? {
+        place += 1;
+        let Some(words) = five_numbers(&line) else {
+            writeln!(output, "line {place}")?;
+            return output.flush();
+        };
+        match heap.obey(words) {
+            Ok(value) => writeln!(output, "0 {value}")?,
+            Err(number) => writeln!(output, "{number} 0")?,
+        }
+    }
+    for row in heap.report() {
+        writeln!(output, "{} {} {} {}", row.thread, row.level, row.objects, row.pages)?;
+    }
+    writeln!(output, "{} {}", heap.free_pages(), heap.crossing_slots())?;
+    output.flush()
+}
+
+fn main() {
+    if let Err(error) = run(io::stdin().lock(), BufWriter::new(io::stdout().lock())) {
+        eprintln!("{error}");
+        std::process::exit(1);
+    }
+}
