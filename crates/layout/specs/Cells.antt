@@ -1,6 +1,6 @@
 -- The words of the cells: a page is 16 cells, a cell 16 words. Word 0 is 16 × r + d, word 1 working space, then r reference fields, d
 -- number fields, the rest zero. A reference is 0 for null, else 1 + cell number (16 × page + place).
-use Prim.Native.Nat.{ℕ, _+_, _*_, _/_, _%_, _≤_, _<_}
+use Prim.Native.Nat.{ℕ, _+_, _-_, _*_, _/_, _%_, _≤_, _<_}
 use mathlib.Core.List.{List}
 use lib.ListN.{getD}
 use native.Mathlib.Omega.{arith}
@@ -44,6 +44,14 @@ firstField Number head = head / 16
 abbrev pub kindAt : Kind → List ℕ → ℕ → ℕ → ℕ
 kindAt k c cell f = fieldAt cell (firstField k (headOf c cell) + f)
 
+-- word i of a cell with this word 0 is one of its reference fields
+abbrev pub IsReference : ℕ → ℕ → Type 0
+IsReference head i = (2 ≤ i) × (i < fieldCount Reference head + 2)
+
+-- word 0 of a cell with so many references and numbers
+abbrev pub headWord : ℕ → ℕ → ℕ
+headWord references numbers = 16 * references + numbers
+
 abbrev pub Formed : ℕ → Type 0
 Formed head = head / 16 + head % 16 ≤ 14
 
@@ -55,6 +63,14 @@ module _ (k : Kind) (c : List ℕ) (cell f : ℕ) where
       go : (k : Kind) → f < fieldCount k (headOf c cell) → firstField k (headOf c cell) + f < 14
       go Reference l = omega arith
       go Number l = omega arith
+
+-- ---- references: the cell that one other than null names, and the one that names a cell
+
+abbrev pub cellNamed : ℕ → ℕ
+cellNamed x = x - 1
+
+abbrev pub refTo : ℕ → ℕ
+refTo cell = cell + 1
 
 -- ---- cells and positions in the cells
 

@@ -2,9 +2,36 @@
 ghost use mathlib.Core.Path.{_≡_};
 ghost use Prim.Native.Nat.{ℕ, _+_, _*_, _-_, _<_, _≤_};
 ghost use lib.ListN.{length, set, getD};
-ghost use Prim.Native.Nat.{_/_, _%_};
-ghost use Rattle.layout.specs.Cells.{wordAt, headAt, headOf, workAt, workOf, fieldAt, fieldOf, fieldCount, firstField, pageOf, placeOf, cellOn, cellOf, wordOf};
+ghost use Prim.Native.Nat.{_/_, _%_, _^_};
+ghost use Rattle.layout.specs.Cells.{wordAt, headAt, headOf, workAt, workOf, fieldAt, fieldOf, fieldCount, firstField, headWord, IsReference, cellNamed, refTo, pageOf, placeOf, cellOn, cellOf, wordOf};
+ghost use Rattle.lists.specs.Says.{Says};
+ghost use Rattle.rules.specs.Graph.{pagesOf};
+ghost use Rattle.layout.specs.Places.{cellsWords, sizesOf};
 use crate::Kind;
+use crate::Places;
+
+// The words of a cell, the fields they have room for, and the cells of a page.
+pub const WORDS: usize = 16;
+
+pub const FIELDS: usize = 14;
+
+pub const CELLS: usize = 16;
+
+// How many pages so many objects use, the last one perhaps in part.
+pub fn pages_for(objects: usize) -> usize
+    requires { ⌜ objects < 2 ^ 63 ⌝ }
+    ensures { λ r. ⌜ r ≡ pagesOf objects ⌝ }
+{
+    (objects + 15) / 16
+}
+
+// How many words the cells have.
+pub fn words(p: Places) -> usize
+    requires { ⌜ p .pages ≤ 1024 ⌝ }
+    ensures { λ r. ⌜ r ≡ cellsWords (sizesOf p) ⌝ }
+{
+    256 * p.pages
+}
 
 // Word 0 of a cell.
 pub fn head(cells: &[u32], cell: usize) -> u32
@@ -71,6 +98,42 @@ pub fn first_field(kind: Kind, head: u32) -> usize
         Kind::Reference => 0,
         Kind::Number => h / 16,
     }
+}
+
+// Whether word i of a cell with this word 0 is one of its reference fields.
+pub fn is_reference(head: u32, i: usize) -> bool
+    ensures { λ r. ⌜ Says r (IsReference head i) ⌝ }
+{
+    if i < 2 {
+        return false;
+    }
+    if field_count(Kind::Reference, head) + 2 <= i {
+        return false;
+    }
+    true
+}
+
+// Word 0 of a cell with so many references and numbers.
+pub fn head_word(references: usize, numbers: usize) -> u32
+    requires { ⌜ references + numbers ≤ 14 ⌝ }
+    ensures { λ r. ⌜ r ≡ headWord references numbers ⌝ }
+{
+    (16 * references + numbers) as u32
+}
+
+// The cell that a reference other than null names, and the reference that names a cell.
+pub fn cell_named(x: u32) -> usize
+    requires { ⌜ 0 < x ⌝ }
+    ensures { λ r. ⌜ r ≡ cellNamed x ⌝ }
+{
+    crate::wide(x) - 1
+}
+
+pub fn ref_to(cell: usize) -> u32
+    requires { ⌜ cell < 16384 ⌝ }
+    ensures { λ r. ⌜ r ≡ refTo cell ⌝ }
+{
+    (cell + 1) as u32
 }
 
 // The position of field f of a cell, as a remember entry names it.
