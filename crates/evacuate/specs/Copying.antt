@@ -1,25 +1,23 @@
 -- The survivors are copied: those of one page that go to one target, of all pages, of all targets.
 use mathlib.Core.Path.{_≡_, refl, sym, ap, ap₂, _∙_, subst}
-use mathlib.Core.Logic.{_≢_, _⊎_, inl, inr, ⊎-elim}
+use mathlib.Core.Logic.{_≢_, ⊎-elim}
 use mathlib.Core.List.{List}
 use Prim.Native.Nat.{ℕ, zero, suc, _+_, _-_, _*_, _/_, _%_, _^_, _≤_, _<_}
 use native.Mathlib.Decide.{ℕ-discrete, decLt}
 use native.Mathlib.Omega.{arith}
-use lib.ListN.{length, getD}
 use lib.Count.{trailingZeros}
 use Rattle.lists.specs.Bits.{bitAt, bit-zero, clear-same, clear-other, Lowest, trailing-low}
 use Rattle.lists.specs.Counting.{sum, sum-more, sum-mono}
-use Rattle.rules.specs.declared.Sizes.{Sizes}
 use Rattle.rules.specs.Regions.{regionAt}
 use Rattle.rules.specs.Graph.{pagesOf}
 use Rattle.layout.specs.declared.Places.{Places}
 use Rattle.lists.specs.Products.{flat-low}
-use Rattle.layout.specs.Places.{Room, markAt, markOf, sizesOf}
+use Rattle.layout.specs.Places.{markOf, sizesOf}
 use Rattle.layout.specs.Cells.{workOf}
 use Rattle.promises.specs.Whole.{objectsOf}
 use Rattle.evacuate.specs.Marks.{marked, mark?, all-clear, hits}
 use Rattle.evacuate.specs.Taking.{regionsOf, pagesOwned, Next}
-use Rattle.evacuate.specs.Cursor.{Points, Seeking, Sought}
+use Rattle.evacuate.specs.Cursor.{Points, Seeking}
 use Rattle.evacuate.specs.Moves.{Movable, Step, step-off, step-on, step-points}
 use Rattle.evacuate.specs.Passing.{Ready, Moves, Moves.none, Moves.more, order, moves-later, moves-append, moves-map, moves-ready, moves-back, step-back, Others, moves-others, Spent, moves-spent, Passing, moves-passing, passing-usable, passing-movable, Pass}
 
@@ -53,24 +51,24 @@ page-begin {p} {g} q {page} {top} {W} {T} a =
       done = λ i l e on. absurd (let z : ⊥ = omega (arith, marked-at p T q i l) in z);
     }
 
-module _ {p : Places} {g q left page top : ℕ} {W T W′ T′ : List ℕ} (a : Passing p g W T) (lt : q < p .pages) (i x : ℕ) (e : x ≡ i)
+module _ {p : Places} {g q left page top : ℕ} {W T W′ T′ : List ℕ} (a : Passing p g W T) (lt : q < p .pages) (i x : ℕ) (e : x ≡ 16 * q + i)
     (l : Lowest left i) (low : i ≡ trailingZeros 32 left) (h : PageMoves p g q left page top W T W′ T′) where
-  page-on : marked p T′ (16 * q + x) ≡ 1
-  page-on = subst (λ (y : ℕ). marked p T′ (16 * q + y) ≡ 1) (sym e) (h .bits i (l .lt) (l .on))
+  page-on : marked p T′ x ≡ 1
+  page-on = subst (λ (y : ℕ). marked p T′ y ≡ 1) (sym e) (h .bits i (l .lt) (l .on))
 
   now : Passing p g W′ T′
   now = moves-passing a (h .moves)
 
-  pub page-seeking : workOf W′ (16 * q + x) ≡ g → Seeking p g T′ page top
+  pub page-seeking : workOf W′ x ≡ g → Seeking p g T′ page top
   page-seeking t =
       record {
         regular = now .ready .regular;
-        usable = passing-usable now (16 * q + x) (omega (arith, l .lt)) page-on t;
+        usable = passing-usable now x (omega (arith, l .lt)) page-on t;
         points = h .points;
       }
 
-  pub page-movable : workOf W′ (16 * q + x) ≡ g → {n : ℕ} → Next p g n T′ → Movable p g n W′ T′ (16 * q + x)
-  page-movable t n = passing-movable now (16 * q + x) (omega (arith, l .lt)) page-on t n
+  pub page-movable : workOf W′ x ≡ g → {n : ℕ} → Next p g n T′ → Movable p g n W′ T′ x
+  page-movable t n = passing-movable now x (omega (arith, l .lt)) page-on t n
 
   -- a bit that is left still was left, and lies above i
   still : (j : ℕ) → bitAt (left - 2 ^ i) j ≡ 1 → (bitAt left j ≡ 1) × (i < j)
@@ -83,12 +81,12 @@ module _ {p : Places} {g q left page top : ℕ} {W T W′ T′ : List ℕ} (a : 
           absurd (let y : bitAt left j ≡ 0 = trailing-low 32 left j (omega arith) in let w : ⊥ = omega (arith, clear-other i j left (l .on) n) in w)
       go (no n) (no m) = (sym (clear-other i j left (l .on) n) ∙ b, omega arith)
 
-  pub page-moved : {n m : ℕ} {W″ T″ : List ℕ} → Step p g n (16 * q + x) W′ T′ W″ T″ → Points p T′ g n m
+  pub page-moved : {n m : ℕ} {W″ T″ : List ℕ} → Step p g n x W′ T′ W″ T″ → Points p T′ g n m
       → PageMoves p g q (left - 1 * 2 ^ i % 2 ^ 32) n m W T W″ T″
   page-moved {n} {m} {W″} {T″} s pts =
       subst (λ (y : ℕ). PageMoves p g q (left - y) n m W T W″ T″) (sym (l .shl))
       (record {
-        last = order g (16 * q + x) + 1;
+        last = order g x + 1;
         moves = more (h .moves) refl (omega (arith, h .later i (l .lt) (l .on))) (omega arith) s;
         later = λ j lj b. omega (arith, still j b .1);
         high = omega (arith, l .lt);
@@ -101,13 +99,13 @@ module _ {p : Places} {g q left page top : ℕ} {W T W′ T′ : List ℕ} (a : 
     where
       done′ : (j : ℕ) → j < 16 → bitAt (left - 2 ^ i) j ≡ 0 → marked p T″ (16 * q + j) ≡ 1 → Dec (j ≡ i) → workOf W″ (16 * q + j) ≢ g
       done′ j lj b on (yes z) =
-          absurd (let w : marked p T″ (16 * q + j) ≡ 0 = subst (λ (y : ℕ). marked p T″ (16 * q + y) ≡ 0) (let v : x ≡ j = omega arith in v) (step-off s) in
+          absurd (let w : marked p T″ (16 * q + j) ≡ 0 = subst (λ (y : ℕ). marked p T″ y ≡ 0) (let v : x ≡ 16 * q + j = omega arith in v) (step-off s) in
           let y : ⊥ = omega arith in y)
       done′ j lj b on (no n) =
           let u = step-back (moves-ready (a .ready) (h .moves)) s (16 * q + j) (omega arith) on in
           λ z. h .done j lj (sym (clear-other i j left (l .on) n) ∙ b) (u .0) (sym (u .1) ∙ z)
 
-  pub page-left : workOf W′ (16 * q + x) ≢ g → PageMoves p g q (left - 1 * 2 ^ i % 2 ^ 32) page top W T W′ T′
+  pub page-left : workOf W′ x ≢ g → PageMoves p g q (left - 1 * 2 ^ i % 2 ^ 32) page top W T W′ T′
   page-left ne =
       subst (λ (y : ℕ). PageMoves p g q (left - y) page top W T W′ T′) (sym (l .shl))
       (record {
@@ -121,7 +119,7 @@ module _ {p : Places} {g q left page top : ℕ} {W T W′ T′ : List ℕ} (a : 
       })
     where
       done′ : (j : ℕ) → j < 16 → bitAt (left - 2 ^ i) j ≡ 0 → marked p T′ (16 * q + j) ≡ 1 → Dec (j ≡ i) → workOf W′ (16 * q + j) ≢ g
-      done′ j lj b on (yes z) = subst (λ (y : ℕ). workOf W′ (16 * q + y) ≢ g) (let v : x ≡ j = omega arith in v) ne
+      done′ j lj b on (yes z) = subst (λ (y : ℕ). workOf W′ y ≢ g) (let v : x ≡ 16 * q + j = omega arith in v) ne
       done′ j lj b on (no n) = h .done j lj (sym (clear-other i j left (l .on) n) ∙ b) on
 
 -- the survivors of page q that go to g, with the cursor
@@ -269,21 +267,10 @@ copy-marks {p} {n} {gs} {W} {T} {W′} {T′} a b q l =
     all-clear 16 (markOf p T′ q) (moves-ready (a .ready) (b .moves) .small q l)
     (λ i li. sym (marked-at p T′ q i li) ∙ copy-clean a b (16 * q + i) (omega arith))
 
--- ---- the targets of an end: the control space for level 0, else the thread's region at that level
-
-pub target-zero : (s : Sizes) (t l : ℕ) → l ≡ 0 → 1 ≡ regionAt s t l
-unfolding regionAt
-target-zero s t l e = ap (regionAt s t) (sym e)
-
-pub target-other : (s : Sizes) (t l : ℕ) → l ≢ 0 → 1 + t * s .depth + l ≡ regionAt s t l
-unfolding regionAt
-target-other s t zero ne = absurd (ne refl)
-target-other s t (suc l) ne = refl
-
 -- the region of a thread at a level is one of the regions
 pub region-bounds : (p : Places) (t l : ℕ) → t < p .threads → l ≤ p .depth → (1 ≤ regionAt (sizesOf p) t l) × (regionAt (sizesOf p) t l ≤ regionsOf p)
-region-bounds p t zero h k = (omega (arith, target-zero (sizesOf p) t 0 refl), omega (arith, target-zero (sizesOf p) t 0 refl))
+unfolding regionAt
+region-bounds p t zero h k = (omega arith, omega arith)
 region-bounds p t (suc l) h k =
-    let e = target-other (sizesOf p) t (suc l) (λ z. omega arith) in
     let f : t * p .depth + l < p .threads * p .depth = flat-low h (omega arith) in
-    (omega (arith, e), omega (arith, e))
+    (omega arith, omega arith)

@@ -23,7 +23,7 @@ pub fn next_page(p: Places, tables: &[u32], region: u32, at: Cursor) -> Cursor
     ensures { λ r. ⌜ Sought p region (now (tables .entry)) (r .page) (r .top) ⌝ }
 {
     let page = at.page;
-    if layout::tables::used(p, tables, page) < 16 {
+    if layout::tables::used(p, tables, page) < layout::cells::CELLS as u32 {
         return at;
     }
     let mut top = at.top;
@@ -46,13 +46,13 @@ pub fn copy_cell(cells: &mut [u32], old: usize, new: usize)
     ensures { λ _. ⌜ Copied old new (now (cells .entry)) (now (cells .exit)) ⌝ }
 {
     let mut i: usize = 0;
-    while i < 16 {
+    while i < layout::cells::WORDS {
         let x = layout::cells::word(cells, old, i);
         layout::cells::set_word(cells, new, i, x);
         i += 1;
     }
     layout::cells::set_work(cells, new, 0);
-    layout::cells::set_work(cells, old, (new + 1) as u32);
+    layout::cells::set_work(cells, old, layout::cells::ref_to(new));
 }
 
 // A survivor goes to the first unused cell of a page of the region, and its mark goes.
@@ -69,8 +69,8 @@ pub fn move_cell(
 {
     let new = pages::take_cell(p, tables, page, region);
     copy_cell(cells, cell, new);
-    let home = cell / 16;
-    let place = cell % 16;
+    let home = layout::cells::page_of(cell);
+    let place = layout::cells::place_of(cell);
     let marks = layout::tables::mark(p, tables, home);
     layout::tables::set_mark(p, tables, home, marks - (1 << place));
 }
@@ -93,7 +93,7 @@ pub fn copy_page(
     let mut left = layout::tables::mark(p, tables, page);
     while left != 0 {
         let i = u32::trailing_zeros(left);
-        let cell = 16 * page + layout::wide(i);
+        let cell = layout::cells::cell_on(page, layout::wide(i));
         if layout::cells::work(cells, cell) == region {
             next = next_page(p, tables, region, next);
             move_cell(p, cells, tables, region, next.page, cell);
@@ -120,18 +120,6 @@ pub fn copy_pass(p: Places, cells: &mut [u32], tables: &mut [u32], region: u32)
     }
 }
 
-// The region of a thread at a level, the control space at level 0.
-pub fn region_at(p: Places, thread: usize, level: usize) -> u32
-    requires { ⌜ (p .threads ≤ 16) × (p .depth ≤ 8) ⌝ }
-    requires { ⌜ (thread < p .threads) × (level ≤ p .depth) ⌝ }
-    ensures { λ r. ⌜ r ≡ regionAt (sizesOf p) thread level ⌝ }
-{
-    if level == 0 {
-        return 1;
-    }
-    (1 + thread * p.depth + level) as u32
-}
-
 // Every survivor, by target in rising level: the region of the thread at each level below the ending one.
 pub fn copy_survivors(
     p: Places,
@@ -146,7 +134,7 @@ pub fn copy_survivors(
 {
     let mut level: usize = 0;
     while level < levels {
-        let region = region_at(p, thread, level);
+        let region = layout::regions::region_at(p, thread, level);
         copy_pass(p, cells, tables, region);
         level += 1;
     }

@@ -25,7 +25,7 @@ pub fn evacuate(
     ensures { λ _. ⌜ Finished p (regionAt (sizesOf p) thread (depthOf (now (tables .entry)) thread)) (p .entries) (usedIn (now (remember .entry))) (depthOf (now (tables .entry)) thread) thread (regionAt (sizesOf p) thread) (now (cells .entry)) (now (tables .entry)) (now (remember .entry)) (now (cells .exit)) (now (tables .exit)) (now (remember .exit)) ⌝ }
 {
     let level = layout::wide(layout::tables::depth(p, tables, thread));
-    let region = copy::region_at(p, thread, level);
+    let region = layout::regions::region_at(p, thread, level);
     copy::copy_survivors(p, cells, tables, thread, level);
     rewrite::rewrite_slots(p, cells, tables, remember, region);
     rewrite::rewrite_copies(p, cells, tables, region);

@@ -8,6 +8,7 @@ ghost use Rattle.evacuate.specs.Rewrite.{Names, Field, Fields, CopySlot,
 ghost use Rattle.evacuate.specs.Entries.{crossOf, newRegion, Added, Stays, Entries, Cleared};
 ghost use Rattle.evacuate.specs.Append.{Appending, Crossing};
 ghost use Rattle.evacuate.specs.Update.{Updating, Updated};
+use layout::Kind;
 use layout::Places;
 
 // The region into which a slot of region `from` crosses that holds x, 0 if it does not cross.
@@ -19,7 +20,8 @@ pub fn cross(p: Places, tables: &[u32], from: u32, x: u32) -> u32
     if x == 0 {
         return 0;
     }
-    let to = layout::tables::owner(p, tables, layout::wide(x - 1) / 16);
+    let page = layout::cells::page_of(layout::cells::cell_named(x));
+    let to = layout::tables::owner(p, tables, page);
     if to <= 1 {
         return 0;
     }
@@ -108,8 +110,8 @@ pub fn remember_cell(
     ensures { λ i. ⌜ Added (p .entries) (Crossing p (Field cell (refs (now (cells .entry)) cell)) (now (cells .entry)) (now (tables .entry))) j i (now (remember .entry)) (now (remember .exit)) ⌝ }
 {
     let entries = p.entries;
-    let n = layout::wide(layout::cells::head(cells, cell) / 16);
-    let from = layout::tables::owner(p, tables, cell / 16);
+    let n = layout::cells::field_count(Kind::Reference, layout::cells::head(cells, cell));
+    let from = layout::tables::owner(p, tables, layout::cells::page_of(cell));
     let mut i = j;
     let mut f: usize = 0;
     while f < n {
@@ -149,9 +151,10 @@ pub fn remember_page(
     let mut i = j;
     let mut a: usize = 0;
     while a < n {
-        let forward = layout::wide(layout::cells::work(cells, 16 * page + a));
+        let forward = layout::cells::work(cells, layout::cells::cell_on(page, a));
         if forward != 0 {
-            i = remember_cell(p, cells, tables, remember, region, forward - 1, i);
+            let copy = layout::cells::cell_named(forward);
+            i = remember_cell(p, cells, tables, remember, region, copy, i);
         }
         a += 1;
     }

@@ -6,6 +6,7 @@ ghost use lib.ListN.{length};
 ghost use Rattle.layout.specs.Places.{Room, ownerOf, varOf, usedIn};
 ghost use Rattle.evacuate.specs.Marks.{refs};
 ghost use Rattle.evacuate.specs.Rewrite.{Names, moveRef, Rewritten, Remembered, Slots, Field, Fields, CopySlot, Wiring, Between, Variables};
+use layout::Kind;
 use layout::Places;
 
 // The reference x, by way of the forward reference where it names a cell of the region.
@@ -18,8 +19,8 @@ pub fn forward_ref(p: Places, cells: &[u32], tables: &[u32], region: u32, x: u32
     if x == 0 {
         return x;
     }
-    let cell = layout::wide(x - 1);
-    if layout::tables::owner(p, tables, cell / 16) == region {
+    let cell = layout::cells::cell_named(x);
+    if layout::tables::owner(p, tables, layout::cells::page_of(cell)) == region {
         return layout::cells::work(cells, cell);
     }
     x
@@ -49,7 +50,7 @@ pub fn rewrite_cell(p: Places, cells: &mut [u32], tables: &[u32], region: u32, c
     requires { ⌜ Room p (length (now tables)) ⌝ }
     ensures { λ _. ⌜ Rewritten p region (Field cell (refs (now (cells .entry)) cell)) (now (tables .entry)) (now (cells .entry)) (now (cells .exit)) ⌝ }
 {
-    let n = layout::wide(layout::cells::head(cells, cell) / 16);
+    let n = layout::cells::field_count(Kind::Reference, layout::cells::head(cells, cell));
     let mut f: usize = 0;
     while f < n {
         let x = forward_ref(
@@ -74,9 +75,9 @@ pub fn rewrite_page(p: Places, cells: &mut [u32], tables: &[u32], region: u32, p
     let n = layout::wide(layout::tables::used(p, tables, page));
     let mut i: usize = 0;
     while i < n {
-        let forward = layout::wide(layout::cells::work(cells, 16 * page + i));
+        let forward = layout::cells::work(cells, layout::cells::cell_on(page, i));
         if forward != 0 {
-            rewrite_cell(p, cells, tables, region, forward - 1);
+            rewrite_cell(p, cells, tables, region, layout::cells::cell_named(forward));
         }
         i += 1;
     }
@@ -104,7 +105,7 @@ pub fn rewrite_variables(p: Places, cells: &[u32], tables: &mut [u32], region: u
     requires { ⌜ Room p (length (now tables)) ⌝ }
     ensures { λ _. ⌜ Variables p (p .threads * p .variables) region (now (cells .entry)) (now (tables .entry)) (now (tables .exit)) ⌝ }
 {
-    let n = p.threads * p.variables;
+    let n = layout::tables::var_count(p);
     let mut i: usize = 0;
     while i < n {
         let x = forward_ref(p, cells, tables, region, layout::tables::var(p, tables, i));

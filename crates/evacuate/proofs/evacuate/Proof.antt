@@ -1,31 +1,14 @@
 -- What each stage asks follows from what the earlier ones leave.
 use native.Mathlib.Omega.{arith}
 use borrow.Author.Needs.{needs}
-use lib.ListN.{length, getD, set, length-set}
-use Prim.Native.Nat.{ℕ, _≤_, _<_, _+_, _-_, _*_, _/_, _%_, _^_}
-use mathlib.Core.List.{List}
-use mathlib.Core.Logic.{_≢_, _⊎_, inl, inr, ⊎-elim}
-use mathlib.Core.Path.{_≡_, refl, sym, ap, _∙_, subst}
-use mathlib.Core.Path.{subst₂}
+use Prim.Native.Nat.{ℕ}
+use mathlib.Core.Path.{_≡_, sym, ap, _∙_, subst₂}
 use Rattle.rules.specs.Regions.{regionAt}
-use Rattle.layout.specs.Places.{Room, depthOf, usedIn, sizesOf}
-use Rattle.evacuate.specs.Taking.{regionsOf}
-use Rattle.evacuate.specs.Rewrite.{Rewritten, Remembered}
+use Rattle.layout.specs.Places.{depthOf, usedIn, sizesOf}
 use Rattle.evacuate.specs.Copying.{region-bounds}
 use Rattle.evacuate.specs.Stages.{Before, Finished, slots-ask, tables-ask, copies-ask, rewritten-both, update-ask, variables-ask, release-ask, finished}
 use Rattle.evacuate.proofs.evacuate.Statement.{statement}
 use Rattle.evacuate.proofs.evacuate.Tie as tie
-use Rattle.evacuate.proofs.evacuate.Reads as reads
-use Rattle.evacuate.proofs.evacuate.Lts as lts
-use Rattle.evacuate.proofs.copy.copy_survivors.Reads as copy-survivors-reads
-use Rattle.evacuate.proofs.copy.region_at.Reads as region-at-reads
-use Rattle.evacuate.proofs.release.release.Reads as release-reads
-use Rattle.evacuate.proofs.remember.update_remember.Reads as update-remember-reads
-use Rattle.evacuate.proofs.rewrite.rewrite_copies.Reads as rewrite-copies-reads
-use Rattle.evacuate.proofs.rewrite.rewrite_slots.Reads as rewrite-slots-reads
-use Rattle.evacuate.proofs.rewrite.rewrite_variables.Reads as rewrite-variables-reads
-use Rattle.layout.proofs.tables.depth.Reads as depth-reads
-use Rattle.layout.proofs.wide.Reads as wide-reads
 
 level : (c : tie.After-region-at) → (let a = c .before .before .before .before .before .before .before .args in c .region-at .result ≡ regionAt (sizesOf (a .p)) (a .thread) (depthOf (a .tables .now) (a .thread)))
 level c = let a = c .before .before .before .before .before .before .before .args in c .region-at .ensures ∙ ap (regionAt (sizesOf (a .p)) (a .thread)) (c .before .wide .ensures ∙ c .before .before .depth .ensures)
@@ -48,7 +31,7 @@ wide-requires c κs = search needs
 region-at-requires : tie.Need-region-at-requires
 region-at-requires c κs =
     let rm = c .before .before .before .before .before .before .pre .0 .plan .ready .regular .room in
-    ((rm .threads-high, rm .depth-high), (c .before .before .before .before .before .before .pre .1 .0, omega (arith, c .before .before .before .before .before .before .pre .1 .2, c .wide .ensures, c .before .depth .ensures)))
+    (rm .threads-high, rm .depth-high, c .before .before .before .before .before .before .pre .1 .0, omega (arith, c .before .before .before .before .before .before .pre .1 .2, c .wide .ensures, c .before .depth .ensures))
 
 copy-survivors-requires : tie.Need-copy-survivors-requires
 copy-survivors-requires c κs = (begun (c .before .before) .plan, (c .before .before .before .before .before .before .before .before .before .pre .1 .0, omega (arith, c .before .before .before .before .before .before .before .before .before .pre .1 .2, c .before .before .before .wide .ensures, c .before .before .before .before .depth .ensures)))

@@ -1,20 +1,13 @@
 -- The words of the new cell below i are those of the old, and nothing else is changed.
 use native.Mathlib.Omega.{arith}
-use borrow.Author.Needs.{needs}
-use lib.ListN.{length, getD, set, length-set}
-use Prim.Native.Nat.{ℕ, _≤_, _<_, _+_, _-_, _*_, _/_, _%_, _^_}
+use lib.ListN.{length, getD, set}
+use Prim.Native.Nat.{ℕ, _≤_, _+_, _-_, _*_}
 use mathlib.Core.List.{List}
-use mathlib.Core.Logic.{_≢_, _⊎_, inl, inr, ⊎-elim}
 use mathlib.Core.Path.{_≡_, refl, sym, ap, _∙_, subst}
 use Rattle.layout.specs.Cells.{wordAt}
 use Rattle.evacuate.specs.Moves.{Half, half-start, half-next, half-copied, Copied}
 use Rattle.evacuate.proofs.copy.copy_cell.Statement.{statement}
 use Rattle.evacuate.proofs.copy.copy_cell.Tie as tie
-use Rattle.evacuate.proofs.copy.copy_cell.Reads as reads
-use Rattle.evacuate.proofs.copy.copy_cell.Lts as lts
-use Rattle.layout.proofs.cells.set_word.Reads as set-word-reads
-use Rattle.layout.proofs.cells.set_work.Reads as set-work-reads
-use Rattle.layout.proofs.cells.word.Reads as word-reads
 
 abbrev Inv-loop : tie.InvT-loop
 Inv-loop cells₀ old new i₀ cells i =
@@ -52,27 +45,24 @@ loop-again c =
 set-work-requires : tie.Need-set-work-requires Inv-loop μ-loop
 set-work-requires c κs = omega arith
 
-add-set-work : tie.Need-add-set-work Inv-loop μ-loop
-add-set-work c = omega arith
-
-cast-set-work : tie.Need-cast-set-work Inv-loop μ-loop
-cast-set-work c = omega arith
+ref-to-requires : tie.Need-ref-to-requires Inv-loop μ-loop
+ref-to-requires c κs = omega arith
 
 set-work-requires-2 : tie.Need-set-work-requires-2 Inv-loop μ-loop
-set-work-requires-2 c κs = omega (arith, c .before .before .before .set-work .kept .0)
+set-work-requires-2 c κs = omega (arith, c .before .before .before .before .set-work .kept .0)
 
 same-length : tie.Need-same-length Inv-loop μ-loop
-same-length c = c .before .before .set-work2 .kept .0 ∙ c .before .before .before .before .before .before .set-work .kept .0 ∙ c .before .before .before .before .before .before .before .before .before .loop .inv .1
+same-length c = c .before .before .set-work2 .kept .0 ∙ c .before .before .before .before .before .before .before .set-work .kept .0 ∙ c .before .before .before .before .before .before .before .before .before .before .loop .inv .1
 
 returns : tie.Need-returns Inv-loop μ-loop
 returns c =
-    let a = c .before .before .before .before .before .before .before .before .before .before .before .args in
-    let l = c .before .before .before .before .before .before .before .before .before .loop in
+    let a = c .before .before .before .before .before .before .before .before .before .before .before .before .args in
+    let l = c .before .before .before .before .before .before .before .before .before .before .loop in
     let e : l .i ≡ 16 = omega arith in
     let h : Half (a .old) (a .new) 16 (a .cells .now) (l .cells) = subst (λ (n : ℕ). Half (a .old) (a .new) n (a .cells .now) (l .cells)) e (l .inv .2) in
-    let z : c .before .before .set-work2 .last .0 ≡ set (set (l .cells) (16 * a .new + 1) 0) (16 * a .old + 1) (a .new + 1) =
-    c .before .before .set-work2 .ensures ∙ ap (λ (X : List ℕ). set X (16 * a .old + 1) (a .new + 1)) (c .before .before .before .before .before .before .set-work .ensures) in
-    subst (λ (X : List ℕ). Copied (a .old) (a .new) (a .cells .now) X) (sym z) (half-copied (c .before .before .before .before .before .before .before .before .before .before .before .pre .0) (c .before .before .before .before .before .before .before .before .before .before .before .pre .1 .1 .1) (c .before .before .before .before .before .before .before .before .before .before .before .pre .1 .1 .0) h (a .new + 1) (omega arith))
+    let z : c .before .before .set-work2 .last .0 ≡ set (set (l .cells) (16 * a .new + 1) 0) (16 * a .old + 1) (c .before .before .before .ref-to .result) =
+    c .before .before .set-work2 .ensures ∙ ap (λ (X : List ℕ). set X (16 * a .old + 1) (c .before .before .before .ref-to .result)) (c .before .before .before .before .before .before .before .set-work .ensures) in
+    subst (λ (X : List ℕ). Copied (a .old) (a .new) (a .cells .now) X) (sym z) (half-copied (c .before .before .before .before .before .before .before .before .before .before .before .before .pre .0) (c .before .before .before .before .before .before .before .before .before .before .before .before .pre .1 .1 .1) (c .before .before .before .before .before .before .before .before .before .before .before .before .pre .1 .1 .0) h (c .before .before .before .ref-to .result) (omega (arith, c .before .before .before .ref-to .ensures)))
 
 pub copy-cell-spec : {M : Type 1} → statement M
 copy-cell-spec =
@@ -87,8 +77,7 @@ copy-cell-spec =
     loop-less
     loop-again
     set-work-requires
-    add-set-work
-    cast-set-work
+    ref-to-requires
     set-work-requires-2
     same-length
     returns)

@@ -1,27 +1,18 @@
 -- The survivors at the bits that are not left have moved; the cursor points at the page for the next.
 use native.Mathlib.Omega.{arith}
 use borrow.Author.Needs.{needs}
-use lib.ListN.{length, getD, set, length-set}
-use Prim.Native.Nat.{ℕ, _≤_, _<_, _+_, _-_, _*_, _/_, _%_, _^_}
+use lib.ListN.{length}
+use Prim.Native.Nat.{ℕ, _<_, _+_, _-_, _*_, _%_, _^_}
 use mathlib.Core.List.{List}
-use mathlib.Core.Logic.{_≢_, _⊎_, inl, inr, ⊎-elim}
-use mathlib.Core.Path.{_≡_, refl, sym, ap, _∙_, subst}
-use mathlib.Core.Path.{subst₂}
+use mathlib.Core.Logic.{⊎-elim}
+use mathlib.Core.Path.{_≡_, refl, sym, ap, _∙_, subst, subst₂}
 use lib.Count.{trailingZeros}
 use Rattle.evacuate.specs.declared.copy.Cursor.{Cursor}
 use Rattle.lists.specs.Bits.{Lowest, lowest}
-use Rattle.layout.specs.Places.{Room}
-use Rattle.evacuate.specs.Passing.{moves-cells, moves-tables, moves-passing}
+use Rattle.evacuate.specs.Passing.{moves-cells, moves-tables}
 use Rattle.evacuate.specs.Copying.{PageMoves, page-begin, page-seeking, page-movable, page-moved, page-left, page-pass}
 use Rattle.evacuate.proofs.copy.copy_page.Statement.{statement}
 use Rattle.evacuate.proofs.copy.copy_page.Tie as tie
-use Rattle.evacuate.proofs.copy.copy_page.Reads as reads
-use Rattle.evacuate.proofs.copy.copy_page.Lts as lts
-use Rattle.evacuate.proofs.copy.move_cell.Reads as move-cell-reads
-use Rattle.evacuate.proofs.copy.next_page.Reads as next-page-reads
-use Rattle.layout.proofs.cells.work.Reads as work-reads
-use Rattle.layout.proofs.tables.mark.Reads as mark-reads
-use Rattle.layout.proofs.wide.Reads as wide-reads
 
 abbrev Inv-loop : tie.InvT-loop
 Inv-loop p cells₀ tables₀ region page next₀ left₀ cells tables next left =
@@ -33,6 +24,9 @@ abbrev μ-loop : tie.MeasureT-loop
 
 facts : (c : tie.In-loop Inv-loop μ-loop) → Lowest (c .before .loop .left) (trailingZeros 32 (c .before .loop .left))
 facts c = lowest (c .before .loop .left) (c .loop-test .taken) (c .before .loop .inv .0)
+
+cell : (c : tie.After-cell-on Inv-loop μ-loop) → c .cell-on .result ≡ 16 * c .before .before .before .before .before .before .before .before .args .page + trailingZeros 32 (c .before .before .before .loop .left)
+cell c = c .cell-on .ensures ∙ ap (λ (y : ℕ). 16 * c .before .before .before .before .before .before .before .before .args .page + y) (c .before .wide .ensures)
 
 mark-requires : tie.Need-mark-requires Inv-loop μ-loop
 mark-requires c κs = (c .before .before .before .pre .0 .ready .regular .room, c .before .before .before .pre .1 .1)
@@ -47,49 +41,47 @@ loop-holds c =
       subst (λ (x : ℕ). PageMoves (a .p) (a .region) (a .page) x (a .at .page) (a .at .top) (a .cells .now) (a .tables .now) (a .cells .now) (a .tables .now)) (sym e) (page-begin (a .page) (c .before .before .before .before .pre .1 .0)),
     )
 
-mul-cell : tie.Need-mul-cell Inv-loop μ-loop
-mul-cell c = omega (arith, c .before .before .before .before .before .before .pre .0 .ready .regular .room .few, c .before .before .before .before .before .before .pre .1 .1)
-
 wide-requires : tie.Need-wide-requires Inv-loop μ-loop
 wide-requires c κs = search needs
 
-add-cell : tie.Need-add-cell Inv-loop μ-loop
-add-cell c = omega (arith, facts (c .before), c .wide .ensures, c .before .before .before .before .before .before .before .pre .0 .ready .regular .room .few, c .before .before .before .before .before .before .before .pre .1 .1)
+cell-on-requires : tie.Need-cell-on-requires Inv-loop μ-loop
+cell-on-requires c κs = (omega (arith, c .before .before .before .before .before .before .before .pre .0 .ready .regular .room .few, c .before .before .before .before .before .before .before .pre .1 .1), omega (arith, facts (c .before), c .wide .ensures))
 
 work-requires : tie.Need-work-requires Inv-loop μ-loop
 work-requires c κs =
-    let f = facts (c .before .before) in
-    let few = c .before .before .before .before .before .before .before .before .pre .0 .ready .regular .room .few in
-    let long = c .before .before .before .before .before .before .before .before .pre .0 .ready .cells-long in
-    (omega (arith, c .before .wide .ensures, c .before .before .before .before .before .before .before .before .pre .1 .1), omega (arith, c .before .wide .ensures, c .before .before .before .before .before .before .before .before .pre .1 .1, c .before .before .before .loop .inv .1))
+    let f = facts (c .before .before .before) in
+    let few = c .before .before .before .before .before .before .before .before .before .pre .0 .ready .regular .room .few in
+    let long = c .before .before .before .before .before .before .before .before .before .pre .0 .ready .cells-long in
+    (omega (arith, cell (c .before), c .before .before .before .before .before .before .before .before .before .pre .1 .1), omega (arith, cell (c .before), c .before .before .before .before .before .before .before .before .before .pre .1 .1, c .before .before .before .before .loop .inv .1))
 
 next-page-requires : tie.Need-next-page-requires Inv-loop μ-loop
 next-page-requires c κs =
-    page-seeking (c .before .before .before .before .before .before .before .before .before .before .before .pre .0) (c .before .before .before .before .before .before .before .before .before .before .before .pre .1 .1) (trailingZeros 32 (c .before .before .before .before .before .before .loop .left)) (c .before .before .before .before .wide .result) (c .before .before .before .before .wide .ensures) (facts (c .before .before .before .before .before)) refl (c .before .before .before .before .before .before .loop .inv .3)
+    page-seeking (c .before .before .before .before .before .before .before .before .before .before .before .before .pre .0) (c .before .before .before .before .before .before .before .before .before .before .before .before .pre .1 .1) (trailingZeros 32 (c .before .before .before .before .before .before .before .loop .left)) (c .before .before .before .before .cell-on .result) (cell (c .before .before .before .before)) (facts (c .before .before .before .before .before .before)) refl (c .before .before .before .before .before .before .before .loop .inv .3)
     (sym (c .before .before .work .ensures) ∙ c .before .if1 .taken)
 
 move-cell-requires : tie.Need-move-cell-requires Inv-loop μ-loop
 move-cell-requires c κs =
-    page-movable (c .before .before .before .before .before .before .before .before .before .before .before .before .before .before .pre .0) (c .before .before .before .before .before .before .before .before .before .before .before .before .before .before .pre .1 .1) (trailingZeros 32 (c .before .before .before .before .before .before .before .before .before .loop .left)) (c .before .before .before .before .before .before .before .wide .result) (c .before .before .before .before .before .before .before .wide .ensures) (facts (c .before .before .before .before .before .before .before .before)) refl (c .before .before .before .before .before .before .before .before .before .loop .inv .3)
+    page-movable (c .before .before .before .before .before .before .before .before .before .before .before .before .before .before .before .pre .0) (c .before .before .before .before .before .before .before .before .before .before .before .before .before .before .before .pre .1 .1) (trailingZeros 32 (c .before .before .before .before .before .before .before .before .before .before .loop .left)) (c .before .before .before .before .before .before .before .cell-on .result) (cell (c .before .before .before .before .before .before .before)) (facts (c .before .before .before .before .before .before .before .before .before)) refl (c .before .before .before .before .before .before .before .before .before .before .loop .inv .3)
     (sym (c .before .before .before .before .before .work .ensures) ∙ c .before .before .before .before .if1 .taken) (c .before .before .next-page .ensures .next)
 
 shl-left : tie.Need-shl-left Inv-loop μ-loop
-shl-left c = omega (arith, facts (c .before .before .before .before))
+shl-left c = omega (arith, facts (c .before .before .before .before .before))
 
 sub-left : tie.Need-sub-left Inv-loop μ-loop
-sub-left c = omega (arith, facts (c .before .before .before .before))
+sub-left c = omega (arith, facts (c .before .before .before .before .before))
 
 loop-less : tie.Need-loop-less Inv-loop μ-loop
-loop-less c = omega (arith, facts (c .before .before .before .before))
+loop-less c = omega (arith, facts (c .before .before .before .before .before))
 
 loop-again : tie.Need-loop-again Inv-loop μ-loop
 loop-again c =
-    let a = c .before .before .before .before .before .before .before .before .before .before .args in
-    let l = c .before .before .before .before .before .loop in
+    let a = c .before .before .before .before .before .before .before .before .before .before .before .args in
+    let l = c .before .before .before .before .before .before .loop in
     let i : ℕ = trailingZeros 32 (l .left) in
-    let x = c .before .before .before .wide in
-    let f = facts (c .before .before .before .before) in
-    let low = c .before .before .before .before .before .before .before .before .before .before .pre .1 .1 in
+    let x = c .before .before .before .cell-on in
+    let e = cell (c .before .before .before) in
+    let f = facts (c .before .before .before .before .before) in
+    let low = c .before .before .before .before .before .before .before .before .before .before .before .pre .1 .1 in
     let P : Cursor → List ℕ → List ℕ → Type 0 =
     (λ n X Y. PageMoves (a .p) (a .region) (a .page) (l .left - 1 * 2 ^ i % 2 ^ 32) (n .page) (n .top) (a .cells .now) (a .tables .now) X Y) in
     let h : P (c .if1 .next) (c .if1 .cells) (c .if1 .tables) =
@@ -97,10 +89,10 @@ loop-again c =
     (λ w.
     subst (λ (n : Cursor). P n (c .if1 .cells) (c .if1 .tables)) (sym (w .12))
     (subst₂ (P (w .2 .result)) (sym (w .10)) (sym (w .11))
-    (page-moved (c .before .before .before .before .before .before .before .before .before .before .pre .0) low i (x .result) (x .ensures) f refl (l .inv .3) (w .5 .ensures) (w .2 .ensures .points))))
+    (page-moved (c .before .before .before .before .before .before .before .before .before .before .before .pre .0) low i (x .result) e f refl (l .inv .3) (w .5 .ensures) (w .2 .ensures .points))))
     (λ w.
     subst (λ (n : Cursor). P n (c .if1 .cells) (c .if1 .tables)) (sym (w .3))
-    (subst₂ (P (l .next)) (sym (w .1)) (sym (w .2)) (page-left (c .before .before .before .before .before .before .before .before .before .before .pre .0) low i (x .result) (x .ensures) f refl (l .inv .3) (λ z. w .0 .left (c .before .work .ensures ∙ z)))))
+    (subst₂ (P (l .next)) (sym (w .1)) (sym (w .2)) (page-left (c .before .before .before .before .before .before .before .before .before .before .before .pre .0) low i (x .result) e f refl (l .inv .3) (λ z. w .0 .left (c .before .work .ensures ∙ z)))))
     (c .if1 .came) in
     (omega (arith, f), moves-cells (h .moves), moves-tables (h .moves), h)
 
@@ -121,9 +113,8 @@ copy-page-spec =
     μ-loop
     mark-requires
     loop-holds
-    mul-cell
     wide-requires
-    add-cell
+    cell-on-requires
     work-requires
     next-page-requires
     move-cell-requires

@@ -1,20 +1,13 @@
 -- The survivors on the pages below that go to the region have moved; the cursor points at the page for the next.
 use native.Mathlib.Omega.{arith}
-use borrow.Author.Needs.{needs}
-use lib.ListN.{length, getD, set, length-set}
-use Prim.Native.Nat.{ℕ, _≤_, _<_, _+_, _-_, _*_, _/_, _%_, _^_}
-use mathlib.Core.List.{List}
-use mathlib.Core.Logic.{_≢_, _⊎_, inl, inr, ⊎-elim}
-use mathlib.Core.Path.{_≡_, refl, sym, ap, _∙_, subst}
+use lib.ListN.{length}
+use Prim.Native.Nat.{ℕ, _≤_, _<_, _-_, _*_, _/_}
+use mathlib.Core.Path.{_≡_, refl, subst}
 use Rattle.evacuate.specs.Cursor.{points-begin}
 use Rattle.evacuate.specs.Passing.{moves-cells, moves-tables, moves-passing, Pass, order}
 use Rattle.evacuate.specs.Copying.{PassMoves, pass-begin, pass-next}
 use Rattle.evacuate.proofs.copy.copy_pass.Statement.{statement}
 use Rattle.evacuate.proofs.copy.copy_pass.Tie as tie
-use Rattle.evacuate.proofs.copy.copy_pass.Reads as reads
-use Rattle.evacuate.proofs.copy.copy_pass.Lts as lts
-use Rattle.evacuate.proofs.copy.copy_page.Reads as copy-page-reads
-use Rattle.pages.proofs.find_page.Reads as find-page-reads
 
 abbrev Inv-loop : tie.InvT-loop
 Inv-loop p cells₀ tables₀ region pages next₀ page₀ cells tables next page =

@@ -1,21 +1,15 @@
 -- The survivors that go to the targets below have moved.
 use native.Mathlib.Omega.{arith}
-use borrow.Author.Needs.{needs}
-use lib.ListN.{length, getD, set, length-set}
-use Prim.Native.Nat.{ℕ, _≤_, _<_, _+_, _-_, _*_, _/_, _%_, _^_}
+use lib.ListN.{length}
+use Prim.Native.Nat.{ℕ, _≤_, _<_, _-_, _*_, _/_}
 use mathlib.Core.List.{List}
-use mathlib.Core.Logic.{_≢_, _⊎_, inl, inr, ⊎-elim}
-use mathlib.Core.Path.{_≡_, refl, sym, ap, _∙_, subst}
+use mathlib.Core.Path.{_≡_, refl, sym, subst}
 use Rattle.rules.specs.Regions.{regionAt}
 use Rattle.layout.specs.Places.{sizesOf}
 use Rattle.evacuate.specs.Passing.{Passing, Pass, order, moves-cells, moves-tables}
 use Rattle.evacuate.specs.Copying.{Copy, copy-begin, copy-passing, copy-next}
 use Rattle.evacuate.proofs.copy.copy_survivors.Statement.{statement}
 use Rattle.evacuate.proofs.copy.copy_survivors.Tie as tie
-use Rattle.evacuate.proofs.copy.copy_survivors.Reads as reads
-use Rattle.evacuate.proofs.copy.copy_survivors.Lts as lts
-use Rattle.evacuate.proofs.copy.copy_pass.Reads as copy-pass-reads
-use Rattle.evacuate.proofs.copy.region_at.Reads as region-at-reads
 
 abbrev Inv-loop : tie.InvT-loop
 Inv-loop p cells₀ tables₀ thread levels level₀ cells tables level =
@@ -29,7 +23,9 @@ loop-holds : tie.Need-loop-holds Inv-loop μ-loop
 loop-holds c = (omega arith, refl, refl, copy-begin (c .before .before .pre .0))
 
 region-at-requires : tie.Need-region-at-requires Inv-loop μ-loop
-region-at-requires c κs = ((c .before .before .before .before .pre .0 .ready .regular .room .threads-high, c .before .before .before .before .pre .0 .ready .regular .room .depth-high), (c .before .before .before .before .pre .1 .0, omega (arith, c .before .before .before .before .pre .1 .1)))
+region-at-requires c κs =
+    let rm = c .before .before .before .before .pre .0 .ready .regular .room in
+    (rm .threads-high, rm .depth-high, c .before .before .before .before .pre .1 .0, omega (arith, c .before .before .before .before .pre .1 .1))
 
 copy-pass-requires : tie.Need-copy-pass-requires Inv-loop μ-loop
 copy-pass-requires c κs =

@@ -1,24 +1,17 @@
 -- The cell is taken and copied, and the bit of the old cell was set, so it can be taken off.
 use native.Mathlib.Omega.{arith}
 use borrow.Author.Needs.{needs}
-use lib.ListN.{length, getD, set, length-set}
-use Prim.Native.Nat.{ℕ, _≤_, _<_, _+_, _-_, _*_, _/_, _%_, _^_}
+use lib.ListN.{getD, set}
+use Prim.Native.Nat.{ℕ, _-_, _*_, _%_, _^_}
 use mathlib.Core.List.{List}
-use mathlib.Core.Logic.{_≢_, _⊎_, inl, inr, ⊎-elim}
-use mathlib.Core.Path.{_≡_, refl, sym, ap, _∙_, subst}
-use Rattle.layout.specs.Places.{Room}
+use mathlib.Core.Path.{sym, ap, ap₂, _∙_, subst}
+use Rattle.layout.specs.Places.{Room, markAt, markOf}
 use Rattle.lists.specs.Bits.{shl-one}
 use Rattle.evacuate.specs.Marks.{marksAt}
 use Rattle.evacuate.specs.Taking.{Took}
-use Rattle.evacuate.specs.Moves.{Taken, movable-taken, count-fits, Step}
+use Rattle.evacuate.specs.Moves.{Taken, movable-taken, count-fits}
 use Rattle.evacuate.proofs.copy.move_cell.Statement.{statement}
 use Rattle.evacuate.proofs.copy.move_cell.Tie as tie
-use Rattle.evacuate.proofs.copy.move_cell.Reads as reads
-use Rattle.evacuate.proofs.copy.move_cell.Lts as lts
-use Rattle.evacuate.proofs.copy.copy_cell.Reads as copy-cell-reads
-use Rattle.layout.proofs.tables.mark.Reads as mark-reads
-use Rattle.layout.proofs.tables.set_mark.Reads as set-mark-reads
-use Rattle.pages.proofs.take_cell.Reads as take-cell-reads
 
 took : (c : tie.After-take-cell)
     → (let a = c .before .before .before .before .args in
@@ -40,10 +33,16 @@ copy-cell-requires c κs =
     let t = facts (c .before .before .before) in
     (t .apart, ((omega arith, omega arith), (omega arith, omega arith)))
 
+page-of-requires : tie.Need-page-of-requires
+page-of-requires c κs = search needs
+
+place-of-requires : tie.Need-place-of-requires
+place-of-requires c κs = search needs
+
 mark-requires : tie.Need-mark-requires
 mark-requires c κs =
-    let t = facts (c .before .before .before .before .before .before .before) in
-    (subst (λ (n : ℕ). Room (c .before .before .before .before .before .before .before .before .before .before .before .args .p) n) (sym (t .same)) (c .before .before .before .before .before .before .before .before .before .before .before .pre .regular .room), omega arith)
+    let t = facts (c .before .before .before .before .before .before .before .before .before) in
+    (subst (λ (n : ℕ). Room (c .before .before .before .before .before .before .before .before .before .before .before .before .before .args .p) n) (sym (t .same)) (c .before .before .before .before .before .before .before .before .before .before .before .before .before .pre .regular .room), omega arith)
 
 cast-set-mark : tie.Need-cast-set-mark
 cast-set-mark c = search needs
@@ -52,12 +51,12 @@ shl-set-mark : tie.Need-shl-set-mark
 shl-set-mark c = search needs
 
 sub-set-mark : tie.Need-sub-set-mark
-sub-set-mark c = omega (arith, facts (c .before .before .before .before .before .before .before .before .before), shl-one (c .before .before .before .before .before .before .before .before .before .before .before .before .before .args .cell % 16) (omega arith), c .before .mark .ensures)
+sub-set-mark c = omega (arith, facts (c .before .before .before .before .before .before .before .before .before .before .before), shl-one (c .before .before .before .place-of .result) (omega (arith, c .before .before .before .place-of .ensures)), c .before .mark .ensures, ap (λ (q : ℕ). markOf (c .before .before .before .before .before .before .before .before .before .before .before .before .before .before .before .args .p) (c .before .before .before .before .before .before .before .before .before .before .before .take-cell .last .1 .0) q) (c .before .before .before .before .page-of .ensures), ap (λ (i : ℕ). 2 ^ i) (c .before .before .before .place-of .ensures))
 
 set-mark-requires : tie.Need-set-mark-requires
 set-mark-requires c κs =
-    let t = facts (c .before .before .before .before .before .before .before .before .before) in
-    (subst (λ (n : ℕ). Room (c .before .before .before .before .before .before .before .before .before .before .before .before .before .args .p) n) (sym (t .same)) (c .before .before .before .before .before .before .before .before .before .before .before .before .before .pre .regular .room), omega arith)
+    let t = facts (c .before .before .before .before .before .before .before .before .before .before .before) in
+    (subst (λ (n : ℕ). Room (c .before .before .before .before .before .before .before .before .before .before .before .before .before .before .before .args .p) n) (sym (t .same)) (c .before .before .before .before .before .before .before .before .before .before .before .before .before .before .before .pre .regular .room), omega arith)
 
 same-length : tie.Need-same-length
 same-length c = search needs
@@ -67,18 +66,19 @@ same-length-2 c = search needs
 
 returns : tie.Need-returns
 returns c =
-    let a = c .before .before .before .before .before .before .before .before .before .before .before .before .before .before .before .before .args in
-    let X : List ℕ = c .before .before .before .before .before .before .before .before .before .before .before .before .take-cell .last .1 .0 in
+    let a = c .before .before .before .before .before .before .before .before .before .before .before .before .before .before .before .before .before .before .args in
+    let X : List ℕ = c .before .before .before .before .before .before .before .before .before .before .before .before .before .before .take-cell .last .1 .0 in
     let w : ℕ = marksAt (a .p) (a .cell) in
     record {
-      can = c .before .before .before .before .before .before .before .before .before .before .before .before .before .before .before .before .pre;
-      new = c .before .before .before .before .before .before .before .before .before .before .before .before .take-cell .result;
+      can = c .before .before .before .before .before .before .before .before .before .before .before .before .before .before .before .before .before .before .pre;
+      new = c .before .before .before .before .before .before .before .before .before .before .before .before .before .before .take-cell .result;
       mid = X;
-      took = took (c .before .before .before .before .before .before .before .before .before .before .before .before);
-      copied = c .before .before .before .before .before .before .before .before .copy-cell .ensures;
+      took = took (c .before .before .before .before .before .before .before .before .before .before .before .before .before .before);
+      copied = c .before .before .before .before .before .before .before .before .before .before .copy-cell .ensures;
       tables =
           c .before .before .set-mark .ensures
-          ∙ ap (λ (x : ℕ). set X w (x - 1 * 2 ^ (a .cell % 16) % 2 ^ 32)) (c .before .before .before .before .mark .ensures)
+          ∙ ap₂ (λ (q i : ℕ). set X (markAt (a .p) q) (c .before .before .before .before .mark .result - 1 * 2 ^ i % 2 ^ 32)) (c .before .before .before .before .before .before .before .page-of .ensures) (c .before .before .before .before .before .before .place-of .ensures)
+          ∙ ap (λ (x : ℕ). set X w (x - 1 * 2 ^ (a .cell % 16) % 2 ^ 32)) (c .before .before .before .before .mark .ensures ∙ ap (λ (q : ℕ). markOf (a .p) X q) (c .before .before .before .before .before .before .before .page-of .ensures))
           ∙ ap (λ (x : ℕ). set X w (getD X w 0 - x)) (shl-one (a .cell % 16) (omega arith));
     }
 
@@ -88,6 +88,8 @@ move-cell-spec =
     (tie.spec
     take-cell-requires
     copy-cell-requires
+    page-of-requires
+    place-of-requires
     mark-requires
     cast-set-mark
     shl-set-mark

@@ -1,19 +1,11 @@
 -- A free page lies below the bound as long as the page looked at last was not free; that page is the highest free one once it is.
 use native.Mathlib.Omega.{arith}
 use borrow.Author.Needs.{needs}
-use lib.ListN.{length, getD, set, length-set}
-use Prim.Native.Nat.{ℕ, _≤_, _<_, _+_, _-_, _*_, _/_, _%_, _^_}
-use mathlib.Core.List.{List}
-use mathlib.Core.Logic.{_≢_, _⊎_, inl, inr, ⊎-elim}
-use mathlib.Core.Path.{_≡_, refl, sym, ap, _∙_, subst}
-use Rattle.layout.specs.Places.{Room, usedOf}
+use Prim.Native.Nat.{_<_}
+use Rattle.layout.specs.Places.{usedOf}
 use Rattle.evacuate.specs.Cursor.{Falling, falling-start, falling-pos, falling-next, falling-found, falling-points, points-low, points-next, points-none, points-free}
 use Rattle.evacuate.proofs.copy.next_page.Statement.{statement}
 use Rattle.evacuate.proofs.copy.next_page.Tie as tie
-use Rattle.evacuate.proofs.copy.next_page.Reads as reads
-use Rattle.evacuate.proofs.copy.next_page.Lts as lts
-use Rattle.layout.proofs.tables.owner.Reads as owner-reads
-use Rattle.layout.proofs.tables.used.Reads as used-reads
 
 abbrev Inv-loop : tie.InvT-loop
 Inv-loop p tables region page top₀ owner₀ top owner =
@@ -25,6 +17,9 @@ abbrev μ-loop : tie.MeasureT-loop
 
 used-requires : tie.Need-used-requires Inv-loop μ-loop
 used-requires c κs = (c .before .pre .regular .room, points-low (c .before .pre .regular) (c .before .pre .usable) (c .before .pre .points))
+
+cast-if1 : tie.Need-cast-if1 Inv-loop μ-loop
+cast-if1 c = search needs
 
 returns : tie.Need-returns Inv-loop μ-loop
 returns c =
@@ -49,8 +44,8 @@ loop-less c = omega (arith, falling-pos (c .before .before .loop .inv) (c .befor
 loop-again : tie.Need-loop-again Inv-loop μ-loop
 loop-again c = falling-next (c .before .before .loop .inv) (c .before .loop-test .taken) (c .owner .result) (c .owner .ensures)
 
-add-t11 : tie.Need-add-t11 Inv-loop μ-loop
-add-t11 c = omega (arith, c .before .loop .inv .high, c .before .before .before .before .before .pre .regular .room)
+add-t12 : tie.Need-add-t12 Inv-loop μ-loop
+add-t12 c = omega (arith, c .before .loop .inv .high, c .before .before .before .before .before .pre .regular .room)
 
 returns-2 : tie.Need-returns-2 Inv-loop μ-loop
 returns-2 c =
@@ -65,11 +60,12 @@ next-page-spec =
     Inv-loop
     μ-loop
     used-requires
+    cast-if1
     returns
     loop-holds
     sub-top
     owner-requires
     loop-less
     loop-again
-    add-t11
+    add-t12
     returns-2)

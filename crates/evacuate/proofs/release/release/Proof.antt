@@ -1,23 +1,15 @@
 -- The depth stands apart from the pages and the counts.
 use native.Mathlib.Omega.{arith}
 use borrow.Author.Needs.{needs}
-use lib.ListN.{length, getD, set, length-set}
-use Prim.Native.Nat.{ℕ, _≤_, _<_, _+_, _-_, _*_, _/_, _%_, _^_}
+use lib.ListN.{set}
+use Prim.Native.Nat.{ℕ, _-_}
 use mathlib.Core.List.{List}
-use mathlib.Core.Logic.{_≢_, _⊎_, inl, inr, ⊎-elim}
-use mathlib.Core.Path.{_≡_, refl, sym, ap, _∙_, subst}
-use Rattle.layout.specs.Places.{Room, depthAt, countAt, depthOf}
+use mathlib.Core.Path.{ap, _∙_}
+use Rattle.layout.specs.Places.{depthAt, countAt, depthOf}
 use Rattle.evacuate.specs.Taking.{room-same}
-use Rattle.evacuate.specs.Release.{Ended, kept-depth}
+use Rattle.evacuate.specs.Release.{kept-depth}
 use Rattle.evacuate.proofs.release.release.Statement.{statement}
 use Rattle.evacuate.proofs.release.release.Tie as tie
-use Rattle.evacuate.proofs.release.release.Reads as reads
-use Rattle.evacuate.proofs.release.release.Lts as lts
-use Rattle.evacuate.proofs.release.release_pages.Reads as release-pages-reads
-use Rattle.layout.proofs.tables.depth.Reads as depth-reads
-use Rattle.layout.proofs.tables.set_count.Reads as set-count-reads
-use Rattle.layout.proofs.tables.set_depth.Reads as set-depth-reads
-use Rattle.layout.proofs.wide.Reads as wide-reads
 
 release-pages-requires : tie.Need-release-pages-requires
 release-pages-requires c κs = c .before .before .pre .0

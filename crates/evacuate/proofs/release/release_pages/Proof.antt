@@ -1,22 +1,15 @@
 -- The region's pages below are free, and nothing else is changed.
 use native.Mathlib.Omega.{arith}
-use borrow.Author.Needs.{needs}
-use lib.ListN.{length, getD, set, length-set}
-use Prim.Native.Nat.{ℕ, _≤_, _<_, _+_, _-_, _*_, _/_, _%_, _^_}
+use lib.ListN.{length, set}
+use Prim.Native.Nat.{ℕ, _≤_, _+_, _-_}
 use mathlib.Core.List.{List}
-use mathlib.Core.Logic.{_≢_, _⊎_, inl, inr, ⊎-elim}
+use mathlib.Core.Logic.{⊎-elim}
 use mathlib.Core.Path.{_≡_, refl, sym, ap, _∙_, subst}
-use Rattle.layout.specs.Places.{Room, ownerAt, usedAt, markAt}
+use Rattle.layout.specs.Places.{usedAt, markAt}
 use Rattle.evacuate.specs.Taking.{room-same}
 use Rattle.evacuate.specs.Release.{Released, release-start, release-left, release-page}
 use Rattle.evacuate.proofs.release.release_pages.Statement.{statement}
 use Rattle.evacuate.proofs.release.release_pages.Tie as tie
-use Rattle.evacuate.proofs.release.release_pages.Reads as reads
-use Rattle.evacuate.proofs.release.release_pages.Lts as lts
-use Rattle.layout.proofs.tables.owner.Reads as owner-reads
-use Rattle.layout.proofs.tables.set_mark.Reads as set-mark-reads
-use Rattle.layout.proofs.tables.set_owner.Reads as set-owner-reads
-use Rattle.layout.proofs.tables.set_used.Reads as set-used-reads
 
 abbrev Inv-loop : tie.InvT-loop
 Inv-loop p tables₀ region pages page₀ tables page =

@@ -1,18 +1,12 @@
 -- The entries below i are zero, and nothing else is changed.
 use native.Mathlib.Omega.{arith}
-use borrow.Author.Needs.{needs}
-use lib.ListN.{length, getD, set, length-set}
-use Prim.Native.Nat.{ℕ, _≤_, _<_, _+_, _-_, _*_, _/_, _%_, _^_}
+use lib.ListN.{length, set}
+use Prim.Native.Nat.{ℕ, _≤_, _+_, _-_}
 use mathlib.Core.List.{List}
-use mathlib.Core.Logic.{_≢_, _⊎_, inl, inr, ⊎-elim}
 use mathlib.Core.Path.{_≡_, refl, sym, ap, _∙_, subst}
 use Rattle.evacuate.specs.Entries.{Cleared, clear-start, clear-next}
 use Rattle.evacuate.proofs.remember.clear_entries.Statement.{statement}
 use Rattle.evacuate.proofs.remember.clear_entries.Tie as tie
-use Rattle.evacuate.proofs.remember.clear_entries.Reads as reads
-use Rattle.evacuate.proofs.remember.clear_entries.Lts as lts
-use Rattle.layout.proofs.remember.set_region.Reads as set-region-reads
-use Rattle.layout.proofs.remember.set_slot.Reads as set-slot-reads
 
 abbrev Inv-loop : tie.InvT-loop
 Inv-loop entries remember₀ from to i₀ remember i =

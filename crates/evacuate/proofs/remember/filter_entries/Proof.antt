@@ -1,25 +1,16 @@
 -- The entries below j are those of the entries below i that stay, with their new regions.
 use native.Mathlib.Omega.{arith}
 use borrow.Author.Needs.{needs}
-use lib.ListN.{length, getD, set, length-set}
-use Prim.Native.Nat.{ℕ, _≤_, _<_, _+_, _-_, _*_, _/_, _%_, _^_}
+use lib.ListN.{length, getD, set}
+use Prim.Native.Nat.{ℕ, _≤_, _+_, _-_}
 use mathlib.Core.List.{List}
-use mathlib.Core.Logic.{_≢_, _⊎_, inl, inr, ⊎-elim}
-use mathlib.Core.Path.{_≡_, refl, sym, ap, ap₂, _∙_, subst}
-use mathlib.Core.Path.{subst₂}
-use Rattle.layout.specs.Places.{Room, slotIn, slotRegionIn}
+use mathlib.Core.Logic.{⊎-elim}
+use mathlib.Core.Path.{_≡_, refl, sym, ap, ap₂, _∙_, subst, subst₂}
+use Rattle.layout.specs.Places.{slotIn, slotRegionIn}
 use Rattle.evacuate.specs.Rewrite.{Names}
-use Rattle.evacuate.specs.Entries.{newRegion, Added, Stays, Entries, filter-start, filter-keep, filter-drop, read-slot, read-region}
+use Rattle.evacuate.specs.Entries.{newRegion, Added, Stays, filter-start, filter-keep, filter-drop, read-slot, read-region}
 use Rattle.evacuate.proofs.remember.filter_entries.Statement.{statement}
 use Rattle.evacuate.proofs.remember.filter_entries.Tie as tie
-use Rattle.evacuate.proofs.remember.filter_entries.Reads as reads
-use Rattle.evacuate.proofs.remember.filter_entries.Lts as lts
-use Rattle.evacuate.proofs.remember.new_region.Reads as new-region-reads
-use Rattle.layout.proofs.remember.region.Reads as region-reads
-use Rattle.layout.proofs.remember.set_region.Reads as set-region-reads
-use Rattle.layout.proofs.remember.set_slot.Reads as set-slot-reads
-use Rattle.layout.proofs.remember.slot.Reads as slot-reads
-use Rattle.layout.proofs.wide.Reads as wide-reads
 
 abbrev Inv-loop : tie.InvT-loop
 Inv-loop p cells tables remember₀ region used entries j₀ i₀ remember j i =

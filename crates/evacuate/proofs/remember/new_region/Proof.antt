@@ -1,21 +1,15 @@
 -- The entry goes with its slot, stays where it leads elsewhere, and else leads where its slot now does.
 use native.Mathlib.Omega.{arith}
 use borrow.Author.Needs.{needs}
-use lib.ListN.{length, getD, set, length-set}
-use Prim.Native.Nat.{ℕ, _≤_, _<_, _+_, _-_, _*_, _/_, _%_, _^_}
+use lib.ListN.{getD}
+use Prim.Native.Nat.{ℕ, _/_}
 use mathlib.Core.List.{List}
-use mathlib.Core.Logic.{_≢_, _⊎_, inl, inr, ⊎-elim}
-use mathlib.Core.Path.{_≡_, refl, sym, ap, _∙_, subst}
+use mathlib.Core.Path.{_≡_, sym, ap, _∙_}
 use Rattle.layout.specs.declared.Places.{Places}
 use Rattle.layout.specs.Places.{ownerOf}
 use Rattle.evacuate.specs.Entries.{crossOf, new-gone, new-stays, new-moved}
 use Rattle.evacuate.proofs.remember.new_region.Statement.{statement}
 use Rattle.evacuate.proofs.remember.new_region.Tie as tie
-use Rattle.evacuate.proofs.remember.new_region.Reads as reads
-use Rattle.evacuate.proofs.remember.new_region.Lts as lts
-use Rattle.evacuate.proofs.remember.cross.Reads as cross-reads
-use Rattle.layout.proofs.cells.page_at.Reads as page-at-reads
-use Rattle.layout.proofs.tables.owner.Reads as owner-reads
 
 home : (p : Places) (T : List ℕ) (at w q : ℕ) → q ≡ at / 16 / 16 → w ≡ ownerOf p T q → ownerOf p T (at / 256) ≡ w
 home p T at w q e f = ap (λ (y : ℕ). ownerOf p T y) (let z : at / 256 ≡ q = omega arith in z) ∙ sym f

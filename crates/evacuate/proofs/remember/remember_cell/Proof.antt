@@ -1,30 +1,18 @@
 -- The crossing slots among the fields below f stand from entry j up to entry i.
 use native.Mathlib.Omega.{arith}
 use borrow.Author.Needs.{needs}
-use lib.ListN.{length, getD, set, length-set}
-use Prim.Native.Nat.{ℕ, _≤_, _<_, _+_, _-_, _*_, _/_, _%_, _^_}
+use lib.ListN.{length, set}
+use Prim.Native.Nat.{ℕ, _≤_, _<_, _+_, _-_, _*_, _/_}
 use mathlib.Core.List.{List}
-use mathlib.Core.Logic.{_≢_, _⊎_, inl, inr, ⊎-elim}
-use mathlib.Core.Path.{_≡_, refl, sym, ap, _∙_, subst}
-use mathlib.Core.Path.{subst₂}
-use Rattle.layout.specs.Places.{Room, ownerOf, slotIn, slotRegionIn}
-use Rattle.layout.specs.Cells.{fieldOf, fieldAt}
+use mathlib.Core.Logic.{⊎-elim}
+use mathlib.Core.Path.{_≡_, refl, sym, ap, _∙_, subst, subst₂}
+use Rattle.layout.specs.Places.{ownerOf}
 use Rattle.evacuate.specs.Marks.{refs}
 use Rattle.evacuate.specs.Rewrite.{Names, Field}
 use Rattle.evacuate.specs.Entries.{crossOf, Added}
 use Rattle.evacuate.specs.Append.{crossAt, Crossing, cell-start, slot-region, slot-room, slot-added, slot-passed}
 use Rattle.evacuate.proofs.remember.remember_cell.Statement.{statement}
 use Rattle.evacuate.proofs.remember.remember_cell.Tie as tie
-use Rattle.evacuate.proofs.remember.remember_cell.Reads as reads
-use Rattle.evacuate.proofs.remember.remember_cell.Lts as lts
-use Rattle.evacuate.proofs.remember.cross.Reads as cross-reads
-use Rattle.layout.proofs.cells.field.Reads as field-reads
-use Rattle.layout.proofs.cells.field_at.Reads as field-at-reads
-use Rattle.layout.proofs.cells.head.Reads as head-reads
-use Rattle.layout.proofs.remember.set_region.Reads as set-region-reads
-use Rattle.layout.proofs.remember.set_slot.Reads as set-slot-reads
-use Rattle.layout.proofs.tables.owner.Reads as owner-reads
-use Rattle.layout.proofs.wide.Reads as wide-reads
 
 abbrev Inv-loop : tie.InvT-loop
 Inv-loop p cells tables remember₀ region cell j entries n from i₀ f₀ remember i f =
@@ -34,78 +22,84 @@ abbrev μ-loop : tie.MeasureT-loop
 μ-loop p cells tables remember₀ region cell j entries n from i₀ f₀ remember i f =
     n - f
 
+owned : (c : tie.After-owner Inv-loop μ-loop) → c .owner .result ≡ ownerOf (c .before .before .before .before .before .before .before .args .p) (c .before .before .before .before .before .before .before .args .tables .now) (c .before .before .before .before .before .before .before .args .cell / 16)
+owned c = c .owner .ensures ∙ ap (λ (q : ℕ). ownerOf (c .before .before .before .before .before .before .before .args .p) (c .before .before .before .before .before .before .before .args .tables .now) q) (c .before .page-of .ensures)
+
 found : (c : tie.Then1 Inv-loop μ-loop)
-    → (let a = c .before .before .before .before .before .before .before .before .before .before .before .args in c .before .cross .result ≡ crossAt (a .p) (a .cells .now) (a .tables .now) (16 * a .cell + 2 + c .before .before .before .before .loop .f))
+    → (let a = c .before .before .before .before .before .before .before .before .before .before .before .before .args in c .before .cross .result ≡ crossAt (a .p) (a .cells .now) (a .tables .now) (16 * a .cell + 2 + c .before .before .before .before .loop .f))
 found c =
-    let a = c .before .before .before .before .before .before .before .before .before .before .before .args in
+    let a = c .before .before .before .before .before .before .before .before .before .before .before .before .args in
     let l = c .before .before .before .before .loop in
-    slot-region (c .before .before .before .before .before .before .before .before .before .before .before .pre .1 .0 .few) (c .before .before .before .before .before .before .before .before .before .before .before .pre .0) (omega (arith, l .inv .1, c .before .before .before .loop-test .taken)) (l .inv .4) (c .before .before .before .before .before .owner .result) (c .before .cross .result) (c .before .before .before .before .before .owner .ensures)
+    slot-region (c .before .before .before .before .before .before .before .before .before .before .before .before .pre .1 .0 .few) (c .before .before .before .before .before .before .before .before .before .before .before .before .pre .0) (omega (arith, l .inv .1, c .before .before .before .loop-test .taken)) (l .inv .4) (c .before .before .before .before .before .owner .result) (c .before .cross .result) (owned (c .before .before .before .before .before))
     (c .before .cross .ensures ∙ ap (λ (x : ℕ). crossOf (a .p) (a .tables .now) (c .before .before .before .before .before .owner .result) x) (c .before .before .field .ensures))
 
-roomy : (c : tie.Then1 Inv-loop μ-loop) → c .before .before .before .before .loop .i < c .before .before .before .before .before .before .before .before .before .before .before .args .p .entries
+roomy : (c : tie.Then1 Inv-loop μ-loop) → c .before .before .before .before .loop .i < c .before .before .before .before .before .before .before .before .before .before .before .before .args .p .entries
 roomy c =
     let l = c .before .before .before .before .loop in
-    slot-room (c .before .before .before .before .before .before .before .before .before .before .before .pre .1 .0 .few) (c .before .before .before .before .before .before .before .before .before .before .before .pre .0) (omega (arith, l .inv .1, c .before .before .before .loop-test .taken)) (l .inv .4) (c .before .cross .result) (found c) (c .if1 .taken)
+    slot-room (c .before .before .before .before .before .before .before .before .before .before .before .before .pre .1 .0 .few) (c .before .before .before .before .before .before .before .before .before .before .before .before .pre .0) (omega (arith, l .inv .1, c .before .before .before .loop-test .taken)) (l .inv .4) (c .before .cross .result) (found c) (c .if1 .taken)
 
 head-requires : tie.Need-head-requires Inv-loop μ-loop
 head-requires c κs = (omega (arith, c .before .before .before .pre .1 .0 .page, c .before .before .before .pre .1 .0 .pages), omega (arith, c .before .before .before .pre .1 .0 .page, c .before .before .before .pre .1 .0 .cells-long))
 
-wide-requires : tie.Need-wide-requires Inv-loop μ-loop
-wide-requires c κs = search needs
+field-count-requires : tie.Need-field-count-requires Inv-loop μ-loop
+field-count-requires c κs = search needs
+
+page-of-requires : tie.Need-page-of-requires Inv-loop μ-loop
+page-of-requires c κs = search needs
 
 owner-requires : tie.Need-owner-requires Inv-loop μ-loop
-owner-requires c κs = (c .before .before .before .before .before .pre .1 .1, c .before .before .before .before .before .pre .1 .0 .page)
+owner-requires c κs = (c .before .before .before .before .before .before .pre .1 .1, omega (arith, c .before .before .before .before .before .before .pre .1 .0 .page, c .page-of .ensures))
 
 loop-holds : tie.Need-loop-holds Inv-loop μ-loop
-loop-holds c = (omega arith, c .before .wide .ensures ∙ ap (λ (x : ℕ). x / 16) (c .before .before .head .ensures), c .owner .ensures, refl, cell-start _ _ _ _ _ _ _ (c .before .before .before .before .before .before .pre .0 .low))
+loop-holds c = (omega arith, c .before .before .field-count .ensures ∙ ap (λ (x : ℕ). x / 16) (c .before .before .before .head .ensures), owned c, refl, cell-start _ _ _ _ _ _ _ (c .before .before .before .before .before .before .before .pre .0 .low))
 
 field-requires : tie.Need-field-requires Inv-loop μ-loop
-field-requires c κs = (omega (arith, c .before .before .before .before .before .before .before .before .pre .1 .0 .page, c .before .before .before .before .before .before .before .before .pre .1 .0 .pages), omega (arith, c .before .before .before .before .before .before .before .before .pre .1 .0 .page, c .before .before .before .before .before .before .before .before .pre .1 .0 .cells-long), omega (arith, c .before .loop .inv .1, c .before .before .before .before .before .before .before .before .pre .1 .0 .few))
+field-requires c κs = (omega (arith, c .before .before .before .before .before .before .before .before .before .pre .1 .0 .page, c .before .before .before .before .before .before .before .before .before .pre .1 .0 .pages), omega (arith, c .before .before .before .before .before .before .before .before .before .pre .1 .0 .page, c .before .before .before .before .before .before .before .before .before .pre .1 .0 .cells-long), omega (arith, c .before .loop .inv .1, c .before .before .before .before .before .before .before .before .before .pre .1 .0 .few))
 
 cross-requires : tie.Need-cross-requires Inv-loop μ-loop
-cross-requires c κs = (subst (λ (x : ℕ). Names (c .before .before .before .before .before .before .before .before .before .args .p) x) (sym (c .field .ensures)) (c .before .before .before .before .before .before .before .before .before .pre .1 .0 .names (c .before .before .loop .f) (omega (arith, c .before .before .loop .inv .1))), c .before .before .before .before .before .before .before .before .before .pre .1 .1)
+cross-requires c κs = (subst (λ (x : ℕ). Names (c .before .before .before .before .before .before .before .before .before .before .args .p) x) (sym (c .field .ensures)) (c .before .before .before .before .before .before .before .before .before .before .pre .1 .0 .names (c .before .before .loop .f) (omega (arith, c .before .before .loop .inv .1))), c .before .before .before .before .before .before .before .before .before .before .pre .1 .1)
 
 field-at-requires : tie.Need-field-at-requires Inv-loop μ-loop
-field-at-requires c κs = (omega (arith, c .before .before .before .before .before .before .before .before .before .before .before .before .pre .1 .0 .page, c .before .before .before .before .before .before .before .before .before .before .before .before .pre .1 .0 .pages), omega (arith, c .before .before .before .before .before .loop .inv .1, c .before .before .before .before .before .before .before .before .before .before .before .before .pre .1 .0 .few, c .before .before .before .before .loop-test .taken))
+field-at-requires c κs = (omega (arith, c .before .before .before .before .before .before .before .before .before .before .before .before .before .pre .1 .0 .page, c .before .before .before .before .before .before .before .before .before .before .before .before .before .pre .1 .0 .pages), omega (arith, c .before .before .before .before .before .loop .inv .1, c .before .before .before .before .before .before .before .before .before .before .before .before .before .pre .1 .0 .few, c .before .before .before .before .loop-test .taken))
 
 cast-set-slot : tie.Need-cast-set-slot Inv-loop μ-loop
-cast-set-slot c = omega (arith, c .field-at .ensures, c .before .before .before .before .before .before .before .before .before .before .before .before .before .pre .1 .0 .page, c .before .before .before .before .before .before .before .before .before .before .before .before .before .pre .1 .0 .pages, c .before .before .before .before .before .before .loop .inv .1, c .before .before .before .before .before .before .before .before .before .before .before .before .before .pre .1 .0 .few, c .before .before .before .before .before .loop-test .taken)
+cast-set-slot c = omega (arith, c .field-at .ensures, c .before .before .before .before .before .before .before .before .before .before .before .before .before .before .pre .1 .0 .page, c .before .before .before .before .before .before .before .before .before .before .before .before .before .before .pre .1 .0 .pages, c .before .before .before .before .before .before .loop .inv .1, c .before .before .before .before .before .before .before .before .before .before .before .before .before .before .pre .1 .0 .few, c .before .before .before .before .before .loop-test .taken)
 
 set-slot-requires : tie.Need-set-slot-requires Inv-loop μ-loop
-set-slot-requires c κs = (omega (arith, c .before .before .before .before .before .before .before .before .before .before .before .before .before .pre .0 .long, c .before .before .before .before .before .before .loop .inv .3), roomy (c .before .before))
+set-slot-requires c κs = (omega (arith, c .before .before .before .before .before .before .before .before .before .before .before .before .before .before .pre .0 .long, c .before .before .before .before .before .before .loop .inv .3), roomy (c .before .before))
 
 set-region-requires : tie.Need-set-region-requires Inv-loop μ-loop
-set-region-requires c κs = (omega (arith, c .before .before .before .before .before .before .before .before .before .before .before .before .before .before .before .before .before .pre .0 .long, c .before .before .before .before .before .before .before .before .before .before .loop .inv .3, c .before .before .before .set-slot .kept .1 .0), roomy (c .before .before .before .before .before .before))
+set-region-requires c κs = (omega (arith, c .before .before .before .before .before .before .before .before .before .before .before .before .before .before .before .before .before .before .pre .0 .long, c .before .before .before .before .before .before .before .before .before .before .loop .inv .3, c .before .before .before .set-slot .kept .1 .0), roomy (c .before .before .before .before .before .before))
 
 add-i : tie.Need-add-i Inv-loop μ-loop
-add-i c = omega (arith, roomy (c .before .before .before .before .before .before .before .before .before), c .before .before .before .before .before .before .before .before .before .before .before .before .before .before .before .before .before .before .before .before .pre .1 .1 .entries-high)
+add-i c = omega (arith, roomy (c .before .before .before .before .before .before .before .before .before), c .before .before .before .before .before .before .before .before .before .before .before .before .before .before .before .before .before .before .before .before .before .pre .1 .1 .entries-high)
 
 add-f : tie.Need-add-f Inv-loop μ-loop
-add-f c = omega (arith, c .before .before .before .before .loop .inv .1, c .before .before .before .before .before .before .before .before .before .before .before .pre .1 .0 .few, c .before .before .before .loop-test .taken)
+add-f c = omega (arith, c .before .before .before .before .loop .inv .1, c .before .before .before .before .before .before .before .before .before .before .before .before .pre .1 .0 .few, c .before .before .before .loop-test .taken)
 
 loop-less : tie.Need-loop-less Inv-loop μ-loop
 loop-less c = omega (arith, c .before .before .before .loop-test .taken)
 
 loop-again : tie.Need-loop-again Inv-loop μ-loop
 loop-again c =
-    let a = c .before .before .before .before .before .before .before .before .before .before .before .args in
+    let a = c .before .before .before .before .before .before .before .before .before .before .before .before .args in
     let l = c .before .before .before .before .loop in
     let W : List ℕ = a .cells .now in
     let T : List ℕ = a .tables .now in
     let M : List ℕ = a .remember .now in
     let n : ℕ = a .p .entries in
-    let few = c .before .before .before .before .before .before .before .before .before .before .before .pre .1 .0 .few in
+    let few = c .before .before .before .before .before .before .before .before .before .before .before .before .pre .1 .0 .few in
     let lt : l .f < refs W (a .cell) = omega (arith, l .inv .1, c .before .before .before .loop-test .taken) in
     let v = c .before .cross in
     let ev : v .result ≡ crossAt (a .p) W T (16 * a .cell + 2 + l .f) =
-    slot-region few (c .before .before .before .before .before .before .before .before .before .before .before .pre .0) lt (l .inv .4) (c .before .before .before .before .before .owner .result) (v .result) (c .before .before .before .before .before .owner .ensures) (v .ensures ∙ ap (λ (x : ℕ). crossOf (a .p) T (c .before .before .before .before .before .owner .result) x) (c .before .before .field .ensures)) in
+    slot-region few (c .before .before .before .before .before .before .before .before .before .before .before .before .pre .0) lt (l .inv .4) (c .before .before .before .before .before .owner .result) (v .result) (owned (c .before .before .before .before .before)) (v .ensures ∙ ap (λ (x : ℕ). crossOf (a .p) T (c .before .before .before .before .before .owner .result) x) (c .before .before .field .ensures)) in
     let P : List ℕ → ℕ → Type 0 = (λ X y. Added n (Crossing (a .p) (Field (a .cell) (l .f + 1)) W T) (a .j) y M X) in
     let h : P (c .if1 .remember) (c .if1 .i) =
     ⊎-elim
     (λ z.
     subst₂ P (sym (z .10 ∙ z .7 .ensures ∙ ap (λ (X : List ℕ). set X (2 + n + l .i) (v .result)) (z .3 .ensures))) (sym (z .11))
-    (slot-added few (c .before .before .before .before .before .before .before .before .before .before .before .pre .0) lt (l .inv .4) (z .2 .result) (v .result) (z .2 .ensures) ev (z .0 .taken)))
-    (λ z. subst₂ P (sym (z .1)) (sym (z .2)) (slot-passed few (c .before .before .before .before .before .before .before .before .before .before .before .pre .0) lt (l .inv .4) (v .result) ev (z .0 .left)))
+    (slot-added few (c .before .before .before .before .before .before .before .before .before .before .before .before .pre .0) lt (l .inv .4) (z .2 .result) (v .result) (z .2 .ensures) ev (z .0 .taken)))
+    (λ z. subst₂ P (sym (z .1)) (sym (z .2)) (slot-passed few (c .before .before .before .before .before .before .before .before .before .before .before .before .pre .0) lt (l .inv .4) (v .result) ev (z .0 .left)))
     (c .if1 .came) in
     (omega (arith, c .before .before .before .loop-test .taken), l .inv .1, l .inv .2, h .size, h)
 
@@ -114,7 +108,7 @@ same-length c = c .before .loop .inv .3
 
 returns : tie.Need-returns Inv-loop μ-loop
 returns c =
-    let a = c .before .before .before .before .before .before .before .before .args in
+    let a = c .before .before .before .before .before .before .before .before .before .args in
     let l = c .before .loop in
     let e : l .f ≡ refs (a .cells .now) (a .cell) = omega (arith, l .inv .0, l .inv .1) in
     subst (λ (y : ℕ). Added (a .p .entries) (Crossing (a .p) (Field (a .cell) y) (a .cells .now) (a .tables .now)) (a .j) (l .i) (a .remember .now) (l .remember)) e (l .inv .4)
@@ -126,7 +120,8 @@ remember-cell-spec =
     Inv-loop
     μ-loop
     head-requires
-    wide-requires
+    field-count-requires
+    page-of-requires
     owner-requires
     loop-holds
     field-requires

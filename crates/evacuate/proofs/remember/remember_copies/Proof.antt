@@ -1,22 +1,15 @@
 -- The crossing slots of the copies of the region's cells on the pages below stand from entry j up to entry i.
 use native.Mathlib.Omega.{arith}
-use borrow.Author.Needs.{needs}
-use lib.ListN.{length, getD, set, length-set}
-use Prim.Native.Nat.{ℕ, _≤_, _<_, _+_, _-_, _*_, _/_, _%_, _^_}
+use lib.ListN.{length}
+use Prim.Native.Nat.{ℕ, _≤_, _+_, _-_, _*_}
 use mathlib.Core.List.{List}
-use mathlib.Core.Logic.{_≢_, _⊎_, inl, inr, ⊎-elim}
-use mathlib.Core.Path.{_≡_, refl, sym, ap, _∙_, subst}
-use mathlib.Core.Path.{subst₂}
-use Rattle.layout.specs.Places.{Room, ownerOf}
-use Rattle.evacuate.specs.Rewrite.{CopySlot, Wiring, Between, wiring-less}
+use mathlib.Core.Logic.{⊎-elim}
+use mathlib.Core.Path.{_≡_, refl, sym, _∙_, subst, subst₂}
+use Rattle.evacuate.specs.Rewrite.{CopySlot, Between, wiring-less}
 use Rattle.evacuate.specs.Entries.{Added}
 use Rattle.evacuate.specs.Append.{Crossing, copies-begin, page-appending, pages-added, pages-skipped}
 use Rattle.evacuate.proofs.remember.remember_copies.Statement.{statement}
 use Rattle.evacuate.proofs.remember.remember_copies.Tie as tie
-use Rattle.evacuate.proofs.remember.remember_copies.Reads as reads
-use Rattle.evacuate.proofs.remember.remember_copies.Lts as lts
-use Rattle.evacuate.proofs.remember.remember_page.Reads as remember-page-reads
-use Rattle.layout.proofs.tables.owner.Reads as owner-reads
 
 abbrev Inv-loop : tie.InvT-loop
 Inv-loop p cells tables remember₀ region j pages i₀ page₀ remember i page =

@@ -1,27 +1,20 @@
 -- The crossing slots of the copies of the page's cells below a stand from entry j up to entry i.
 use native.Mathlib.Omega.{arith}
 use borrow.Author.Needs.{needs}
-use lib.ListN.{length, getD, set, length-set}
-use Prim.Native.Nat.{ℕ, _≤_, _<_, _+_, _-_, _*_, _/_, _%_, _^_}
+use lib.ListN.{length}
+use Prim.Native.Nat.{ℕ, _≤_, _<_, _+_, _-_, _*_, _/_}
 use mathlib.Core.List.{List}
-use mathlib.Core.Logic.{_≢_, _⊎_, inl, inr, ⊎-elim}
-use mathlib.Core.Path.{_≡_, refl, sym, ap, _∙_, subst}
-use mathlib.Core.Path.{subst₂}
-use Rattle.layout.specs.Places.{Room, ownerOf, usedOf}
+use mathlib.Core.Logic.{⊎-elim}
+use mathlib.Core.Path.{_≡_, refl, sym, ap, _∙_, subst, subst₂}
+use Rattle.layout.specs.Places.{ownerOf, usedOf}
 use Rattle.layout.specs.Cells.{workOf}
 use Rattle.promises.specs.Words.{InUse}
 use Rattle.evacuate.specs.Marks.{refs}
-use Rattle.evacuate.specs.Rewrite.{CopySlot, Between, in-page, on-page}
+use Rattle.evacuate.specs.Rewrite.{Field, Fields, CopySlot, Between, in-page, on-page}
 use Rattle.evacuate.specs.Entries.{Added}
-use Rattle.evacuate.specs.Append.{Crossing, copies-begin, cell-appending, cell-wired, cell-added, cell-null, page-added}
+use Rattle.evacuate.specs.Append.{Appending, Crossing, copies-begin, cell-appending, cell-wired, cell-added, cell-null, page-added}
 use Rattle.evacuate.proofs.remember.remember_page.Statement.{statement}
 use Rattle.evacuate.proofs.remember.remember_page.Tie as tie
-use Rattle.evacuate.proofs.remember.remember_page.Reads as reads
-use Rattle.evacuate.proofs.remember.remember_page.Lts as lts
-use Rattle.evacuate.proofs.remember.remember_cell.Reads as remember-cell-reads
-use Rattle.layout.proofs.cells.work.Reads as work-reads
-use Rattle.layout.proofs.tables.used.Reads as used-reads
-use Rattle.layout.proofs.wide.Reads as wide-reads
 
 abbrev Inv-loop : tie.InvT-loop
 Inv-loop p cells tables remember₀ region page j n i₀ a₀ remember i a =
@@ -48,38 +41,37 @@ loop-holds c =
           (copies-begin (b .p) (b .region) (b .p .entries) (16 * b .page) (b .j) (b .cells .now) (b .tables .now) (b .remember .now) (c .before .before .before .before .before .pre .0 .low)),
     )
 
-mul-work : tie.Need-mul-work Inv-loop μ-loop
-mul-work c = omega (arith, c .before .before .before .before .before .before .before .pre .1 .0 .few, c .before .before .before .before .before .before .before .pre .1 .1 .0)
+cell-on-requires : tie.Need-cell-on-requires Inv-loop μ-loop
+cell-on-requires c κs = (omega (arith, c .before .before .before .before .before .before .before .pre .1 .0 .few, c .before .before .before .before .before .before .before .pre .1 .1 .0), omega (arith, c .before .before .before .before .before .before .before .pre .1 .0 .full (c .before .before .before .before .before .before .before .args .page) (c .before .before .before .before .before .before .before .pre .1 .1 .0), c .before .loop .inv .1))
 
-add-work : tie.Need-add-work Inv-loop μ-loop
-add-work c = omega (arith, c .before .before .before .before .before .before .before .pre .1 .0 .few, c .before .before .before .before .before .before .before .pre .1 .1 .0, c .before .before .before .before .before .before .before .pre .1 .0 .full (c .before .before .before .before .before .before .before .args .page) (c .before .before .before .before .before .before .before .pre .1 .1 .0), c .before .loop .inv .1)
+forward : (c : tie.After-work Inv-loop μ-loop) → c .work .result ≡ workOf (c .before .before .before .before .before .before .before .before .before .args .cells .now) (16 * c .before .before .before .before .before .before .before .before .before .args .page + c .before .before .before .loop .a)
+forward c = c .work .ensures ∙ ap (λ (x : ℕ). workOf (c .before .before .before .before .before .before .before .before .before .args .cells .now) x) (c .before .cell-on .ensures)
 
 work-requires : tie.Need-work-requires Inv-loop μ-loop
 work-requires c κs =
-    let full = c .before .before .before .before .before .before .before .pre .1 .0 .full (c .before .before .before .before .before .before .before .args .page) (c .before .before .before .before .before .before .before .pre .1 .1 .0) in
-    (omega (arith, c .before .before .before .before .before .before .before .pre .1 .0 .few, c .before .before .before .before .before .before .before .pre .1 .1 .0, c .before .loop .inv .1), omega (arith, c .before .before .before .before .before .before .before .pre .1 .1 .0, c .before .loop .inv .1, c .before .before .before .before .before .before .before .pre .1 .0 .cells-long))
+    let full = c .before .before .before .before .before .before .before .before .pre .1 .0 .full (c .before .before .before .before .before .before .before .before .args .page) (c .before .before .before .before .before .before .before .before .pre .1 .1 .0) in
+    (omega (arith, c .cell-on .ensures, c .before .before .before .before .before .before .before .before .pre .1 .0 .few, c .before .before .before .before .before .before .before .before .pre .1 .1 .0, c .before .before .loop .inv .1), omega (arith, c .cell-on .ensures, c .before .before .before .before .before .before .before .before .pre .1 .1 .0, c .before .before .loop .inv .1, c .before .before .before .before .before .before .before .before .pre .1 .0 .cells-long))
 
-wide-requires-2 : tie.Need-wide-requires-2 Inv-loop μ-loop
-wide-requires-2 c κs = search needs
-
-sub-remember-cell : tie.Need-sub-remember-cell Inv-loop μ-loop
-sub-remember-cell c = omega (arith, c .before .if1 .taken)
+cell-named-requires : tie.Need-cell-named-requires Inv-loop μ-loop
+cell-named-requires c κs = omega (arith, c .if1 .taken)
 
 remember-cell-requires : tie.Need-remember-cell-requires Inv-loop μ-loop
 remember-cell-requires c κs =
-    let b = c .before .before .before .before .before .before .before .before .before .before .before .args in
-    let l = c .before .before .before .before .before .loop in
-    let w = c .before .before .before .before .before .before .before .before .before .before .before .pre .1 .0 in
+    let b = c .before .before .before .before .before .before .before .before .before .before .before .before .args in
+    let l = c .before .before .before .before .before .before .loop in
+    let w = c .before .before .before .before .before .before .before .before .before .before .before .before .pre .1 .0 in
     let T : List ℕ = b .tables .now in
-    let full = w .full (b .page) (c .before .before .before .before .before .before .before .before .before .before .before .pre .1 .1 .0) in
-    let lt : l .a < usedOf (b .p) T (b .page) = omega (arith, l .inv .1, c .before .before .before .before .loop-test .taken) in
-    let u : InUse (b .p) T (16 * b .page + l .a) = in-page (b .p) (b .page) (l .a) T (c .before .before .before .before .before .before .before .before .before .before .before .pre .1 .1 .0) lt full in
-    let own : ownerOf (b .p) T ((16 * b .page + l .a) / 16) ≡ b .region = on-page (b .p) (b .page) (l .a) T (omega arith) ∙ c .before .before .before .before .before .before .before .before .before .before .before .pre .1 .1 .1 in
+    let full = w .full (b .page) (c .before .before .before .before .before .before .before .before .before .before .before .before .pre .1 .1 .0) in
+    let lt : l .a < usedOf (b .p) T (b .page) = omega (arith, l .inv .1, c .before .before .before .before .before .loop-test .taken) in
+    let u : InUse (b .p) T (16 * b .page + l .a) = in-page (b .p) (b .page) (l .a) T (c .before .before .before .before .before .before .before .before .before .before .before .before .pre .1 .1 .0) lt full in
+    let own : ownerOf (b .p) T ((16 * b .page + l .a) / 16) ≡ b .region = on-page (b .p) (b .page) (l .a) T (omega arith) ∙ c .before .before .before .before .before .before .before .before .before .before .before .before .pre .1 .1 .1 in
     let lb : 16 * b .page + l .a < 16 * (b .page + 1) = omega arith in
     let la : 16 * b .page ≤ 16 * b .page + l .a = omega arith in
-    let x : c .before .before .wide2 .result ≡ workOf (b .cells .now) (16 * b .page + l .a) = c .before .before .wide2 .ensures ∙ c .before .before .before .work .ensures in (
-      cell-appending w la lb (c .before .before .before .before .before .before .before .before .before .before .before .pre .0) (l .inv .3) (c .before .before .wide2 .result) x (c .before .if1 .taken) u own,
-      (cell-wired w la lb (c .before .before .before .before .before .before .before .before .before .before .before .pre .0) (l .inv .3) (c .before .before .wide2 .result) x (c .before .if1 .taken) u own, w .tables-long),
+    let W : List ℕ = b .cells .now in
+    let x : c .before .before .before .work .result ≡ workOf W (16 * b .page + l .a) = forward (c .before .before .before) in (
+      subst (λ (d : ℕ). Appending (b .p) (b .region) (b .p .entries) (Field d (refs W d)) W T (l .remember) (l .i)) (sym (c .before .cell-named .ensures))
+          (cell-appending w la lb (c .before .before .before .before .before .before .before .before .before .before .before .before .pre .0) (l .inv .3) (c .before .before .before .work .result) x (c .before .before .if1 .taken) u own),
+      (subst (λ (d : ℕ). Fields (b .p) (refs W d) d W) (sym (c .before .cell-named .ensures)) (cell-wired w la lb (c .before .before .before .before .before .before .before .before .before .before .before .before .pre .0) (l .inv .3) (c .before .before .before .work .result) x (c .before .before .if1 .taken) u own), w .tables-long),
     )
 
 add-a : tie.Need-add-a Inv-loop μ-loop
@@ -101,14 +93,16 @@ loop-again c =
     let lb : 16 * b .page + l .a < 16 * (b .page + 1) = omega arith in
     let la : 16 * b .page ≤ 16 * b .page + l .a = omega arith in
     let W : List ℕ = b .cells .now in
-    let x : c .before .wide2 .result ≡ workOf W (16 * b .page + l .a) = c .before .wide2 .ensures ∙ c .before .before .work .ensures in
+    let x : c .before .work .result ≡ workOf W (16 * b .page + l .a) = forward (c .before) in
     let P : ℕ → List ℕ → ℕ → Type 0 =
     (λ y X i. Added (b .p .entries) (Crossing (b .p) (CopySlot (b .p) (b .region) (Between (16 * b .page) y) W T) W T) (b .j) i (b .remember .now) X) in
     let e : 16 * b .page + l .a + 1 ≡ 16 * b .page + (l .a + 1) = omega arith in
     let h : P (16 * b .page + l .a + 1) (c .if1 .remember) (c .if1 .i) =
     ⊎-elim
-    (λ z. subst₂ (P (16 * b .page + l .a + 1)) (sym (z .5)) (sym (z .6)) (cell-added w la lb (c .before .before .before .before .before .before .before .before .before .before .pre .0) (l .inv .3) (c .before .wide2 .result) x (z .0 .taken) u own (z .2 .ensures)))
-    (λ z. subst₂ (P (16 * b .page + l .a + 1)) (sym (z .1)) (sym (z .2)) (cell-null w la lb (c .before .before .before .before .before .before .before .before .before .before .pre .0) (l .inv .3) (c .before .wide2 .result) x (z .0 .left)))
+    (λ z. subst₂ (P (16 * b .page + l .a + 1)) (sym (z .6)) (sym (z .7))
+    (cell-added w la lb (c .before .before .before .before .before .before .before .before .before .before .pre .0) (l .inv .3) (c .before .work .result) x (z .0 .taken) u own
+    (subst (λ (d : ℕ). Added (b .p .entries) (Crossing (b .p) (Field d (refs W d)) W T) (l .i) (z .3 .result) (l .remember) (z .3 .last .1 .1 .1 .0)) (z .1 .ensures) (z .3 .ensures))))
+    (λ z. subst₂ (P (16 * b .page + l .a + 1)) (sym (z .1)) (sym (z .2)) (cell-null w la lb (c .before .before .before .before .before .before .before .before .before .before .pre .0) (l .inv .3) (c .before .work .result) x (z .0 .left)))
     (c .if1 .came) in
     (omega (arith, c .before .before .before .loop-test .taken), l .inv .1, h .size, subst (λ (y : ℕ). P y (c .if1 .remember) (c .if1 .i)) e h)
 
@@ -131,11 +125,9 @@ remember-page-spec =
     used-requires
     wide-requires
     loop-holds
-    mul-work
-    add-work
+    cell-on-requires
     work-requires
-    wide-requires-2
-    sub-remember-cell
+    cell-named-requires
     remember-cell-requires
     add-a
     loop-less

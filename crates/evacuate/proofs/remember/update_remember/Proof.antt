@@ -1,24 +1,14 @@
 -- The entries that stay, then those of the copies, then zeros.
 use native.Mathlib.Omega.{arith}
 use borrow.Author.Needs.{needs}
-use lib.ListN.{length, getD, set, length-set}
-use Prim.Native.Nat.{ℕ, _≤_, _<_, _+_, _-_, _*_, _/_, _%_, _^_}
+use lib.ListN.{set}
+use Prim.Native.Nat.{ℕ}
 use mathlib.Core.List.{List}
-use mathlib.Core.Logic.{_≢_, _⊎_, inl, inr, ⊎-elim}
-use mathlib.Core.Path.{_≡_, refl, sym, ap, _∙_, subst}
-use Rattle.layout.specs.Places.{Room, usedIn}
+use mathlib.Core.Path.{refl, sym, _∙_, subst}
+use Rattle.layout.specs.Places.{usedIn}
 use Rattle.evacuate.specs.Update.{Updating, Updated, update-appending, updated}
 use Rattle.evacuate.proofs.remember.update_remember.Statement.{statement}
 use Rattle.evacuate.proofs.remember.update_remember.Tie as tie
-use Rattle.evacuate.proofs.remember.update_remember.Reads as reads
-use Rattle.evacuate.proofs.remember.update_remember.Lts as lts
-use Rattle.evacuate.proofs.remember.clear_entries.Reads as clear-entries-reads
-use Rattle.evacuate.proofs.remember.filter_entries.Reads as filter-entries-reads
-use Rattle.evacuate.proofs.remember.larger.Reads as larger-reads
-use Rattle.evacuate.proofs.remember.remember_copies.Reads as remember-copies-reads
-use Rattle.layout.proofs.remember.set_used.Reads as set-used-reads
-use Rattle.layout.proofs.remember.used.Reads as used-reads
-use Rattle.layout.proofs.wide.Reads as wide-reads
 
 updating : (c : tie.After-wide)
     → (let a = c .before .before .before .before .before .before .args in Updating (a .p) (a .region) (a .p .entries) (c .wide .result) (a .cells .now) (a .tables .now) (a .remember .now))

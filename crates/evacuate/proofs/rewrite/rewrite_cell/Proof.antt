@@ -1,24 +1,15 @@
 -- The reference fields below f are rewritten, and nothing else is changed.
 use native.Mathlib.Omega.{arith}
 use borrow.Author.Needs.{needs}
-use lib.ListN.{length, getD, set, length-set}
-use Prim.Native.Nat.{ℕ, _≤_, _<_, _+_, _-_, _*_, _/_, _%_, _^_}
+use lib.ListN.{length}
+use Prim.Native.Nat.{ℕ, _≤_, _+_, _-_, _/_}
 use mathlib.Core.List.{List}
-use mathlib.Core.Logic.{_≢_, _⊎_, inl, inr, ⊎-elim}
 use mathlib.Core.Path.{_≡_, refl, sym, ap, _∙_, subst}
-use Rattle.layout.specs.Places.{Room}
-use Rattle.layout.specs.Cells.{headOf, fieldOf, fieldAt}
+use Rattle.layout.specs.Cells.{fieldOf}
 use Rattle.evacuate.specs.Marks.{refs}
 use Rattle.evacuate.specs.Rewrite.{Names, moveRef, Rewritten, Field, fields-start, field-names, field-moved}
 use Rattle.evacuate.proofs.rewrite.rewrite_cell.Statement.{statement}
 use Rattle.evacuate.proofs.rewrite.rewrite_cell.Tie as tie
-use Rattle.evacuate.proofs.rewrite.rewrite_cell.Reads as reads
-use Rattle.evacuate.proofs.rewrite.rewrite_cell.Lts as lts
-use Rattle.evacuate.proofs.rewrite.forward_ref.Reads as forward-ref-reads
-use Rattle.layout.proofs.cells.field.Reads as field-reads
-use Rattle.layout.proofs.cells.head.Reads as head-reads
-use Rattle.layout.proofs.cells.set_field.Reads as set-field-reads
-use Rattle.layout.proofs.wide.Reads as wide-reads
 
 abbrev Inv-loop : tie.InvT-loop
 Inv-loop p cells₀ tables region cell n f₀ cells f =
@@ -31,11 +22,11 @@ abbrev μ-loop : tie.MeasureT-loop
 head-requires : tie.Need-head-requires Inv-loop μ-loop
 head-requires c κs = (omega (arith, c .before .before .before .pre .0 .page, c .before .before .before .pre .0 .pages), omega (arith, c .before .before .before .pre .0 .page, c .before .before .before .pre .0 .cells-long))
 
-wide-requires : tie.Need-wide-requires Inv-loop μ-loop
-wide-requires c κs = search needs
+field-count-requires : tie.Need-field-count-requires Inv-loop μ-loop
+field-count-requires c κs = search needs
 
 loop-holds : tie.Need-loop-holds Inv-loop μ-loop
-loop-holds c = (omega arith, c .wide .ensures ∙ ap (λ (x : ℕ). x / 16) (c .before .head .ensures), refl, fields-start _ _ _ _ _)
+loop-holds c = (omega arith, c .field-count .ensures ∙ ap (λ (x : ℕ). x / 16) (c .before .head .ensures), refl, fields-start _ _ _ _ _)
 
 field-requires : tie.Need-field-requires Inv-loop μ-loop
 field-requires c κs = (omega (arith, c .before .before .before .before .before .before .before .before .pre .0 .page, c .before .before .before .before .before .before .before .before .pre .0 .pages), omega (arith, c .before .before .before .before .before .before .before .before .pre .0 .page, c .before .before .before .before .before .before .before .before .pre .0 .cells-long, c .before .before .loop .inv .2), omega (arith, c .before .before .loop .inv .1, c .before .before .before .before .before .before .before .before .pre .0 .few))
@@ -82,7 +73,7 @@ rewrite-cell-spec =
     Inv-loop
     μ-loop
     head-requires
-    wide-requires
+    field-count-requires
     loop-holds
     field-requires
     forward-ref-requires

@@ -1,19 +1,13 @@
 -- The slots of the copies of the region's cells on the pages below are rewritten, and nothing else is changed.
 use native.Mathlib.Omega.{arith}
-use borrow.Author.Needs.{needs}
-use lib.ListN.{length, getD, set, length-set}
-use Prim.Native.Nat.{ℕ, _≤_, _<_, _+_, _-_, _*_, _/_, _%_, _^_}
+use lib.ListN.{length}
+use Prim.Native.Nat.{ℕ, _≤_, _+_, _-_, _*_}
 use mathlib.Core.List.{List}
-use mathlib.Core.Logic.{_≢_, _⊎_, inl, inr, ⊎-elim}
-use mathlib.Core.Path.{_≡_, refl, sym, ap, _∙_, subst}
-use Rattle.layout.specs.Places.{Room, ownerOf}
-use Rattle.evacuate.specs.Rewrite.{Rewritten, CopySlot, Wiring, Between, copies-start, page-wired, pages-next, pages-left}
+use mathlib.Core.Logic.{⊎-elim}
+use mathlib.Core.Path.{_≡_, refl, sym, _∙_, subst}
+use Rattle.evacuate.specs.Rewrite.{Rewritten, CopySlot, Between, copies-start, page-wired, pages-next, pages-left}
 use Rattle.evacuate.proofs.rewrite.rewrite_copies.Statement.{statement}
 use Rattle.evacuate.proofs.rewrite.rewrite_copies.Tie as tie
-use Rattle.evacuate.proofs.rewrite.rewrite_copies.Reads as reads
-use Rattle.evacuate.proofs.rewrite.rewrite_copies.Lts as lts
-use Rattle.evacuate.proofs.rewrite.rewrite_page.Reads as rewrite-page-reads
-use Rattle.layout.proofs.tables.owner.Reads as owner-reads
 
 abbrev Inv-loop : tie.InvT-loop
 Inv-loop p cells₀ tables region pages page₀ cells page =

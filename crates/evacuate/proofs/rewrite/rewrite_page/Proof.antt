@@ -1,24 +1,18 @@
 -- The slots of the copies of the page's cells below i are rewritten, and nothing else is changed.
 use native.Mathlib.Omega.{arith}
 use borrow.Author.Needs.{needs}
-use lib.ListN.{length, getD, set, length-set}
-use Prim.Native.Nat.{ℕ, _≤_, _<_, _+_, _-_, _*_, _/_, _%_, _^_}
+use lib.ListN.{length}
+use Prim.Native.Nat.{ℕ, _≤_, _<_, _+_, _-_, _*_, _/_}
 use mathlib.Core.List.{List}
-use mathlib.Core.Logic.{_≢_, _⊎_, inl, inr, ⊎-elim}
+use mathlib.Core.Logic.{⊎-elim}
 use mathlib.Core.Path.{_≡_, refl, sym, ap, _∙_, subst}
-use Rattle.layout.specs.Places.{Room, ownerOf, usedOf}
+use Rattle.layout.specs.Places.{ownerOf, usedOf}
 use Rattle.layout.specs.Cells.{workOf}
 use Rattle.promises.specs.Words.{InUse}
 use Rattle.evacuate.specs.Marks.{refs}
-use Rattle.evacuate.specs.Rewrite.{Rewritten, CopySlot, Wiring, Between, copies-start, copy-fields, copy-moved, copy-null, page-done, in-page, on-page}
+use Rattle.evacuate.specs.Rewrite.{Rewritten, Field, Fields, CopySlot, Between, copies-start, copy-fields, copy-moved, copy-null, page-done, in-page, on-page}
 use Rattle.evacuate.proofs.rewrite.rewrite_page.Statement.{statement}
 use Rattle.evacuate.proofs.rewrite.rewrite_page.Tie as tie
-use Rattle.evacuate.proofs.rewrite.rewrite_page.Reads as reads
-use Rattle.evacuate.proofs.rewrite.rewrite_page.Lts as lts
-use Rattle.evacuate.proofs.rewrite.rewrite_cell.Reads as rewrite-cell-reads
-use Rattle.layout.proofs.cells.work.Reads as work-reads
-use Rattle.layout.proofs.tables.used.Reads as used-reads
-use Rattle.layout.proofs.wide.Reads as wide-reads
 
 abbrev Inv-loop : tie.InvT-loop
 Inv-loop p cells₀ tables region page n i₀ cells i =
@@ -45,36 +39,34 @@ loop-holds c =
           (copies-start (a .p) (a .region) (16 * a .page) (a .tables .now) (a .cells .now)),
     )
 
-mul-work : tie.Need-mul-work Inv-loop μ-loop
-mul-work c = omega (arith, c .before .before .before .before .before .before .before .pre .0 .few, c .before .before .before .before .before .before .before .pre .1 .0)
+cell-on-requires : tie.Need-cell-on-requires Inv-loop μ-loop
+cell-on-requires c κs = (omega (arith, c .before .before .before .before .before .before .before .pre .0 .few, c .before .before .before .before .before .before .before .pre .1 .0), omega (arith, c .before .before .before .before .before .before .before .pre .0 .full (c .before .before .before .before .before .before .before .args .page) (c .before .before .before .before .before .before .before .pre .1 .0), c .before .before .loop .inv .1))
 
-add-work : tie.Need-add-work Inv-loop μ-loop
-add-work c = omega (arith, c .before .before .before .before .before .before .before .pre .0 .few, c .before .before .before .before .before .before .before .pre .1 .0, c .before .before .before .before .before .before .before .pre .0 .full (c .before .before .before .before .before .before .before .args .page) (c .before .before .before .before .before .before .before .pre .1 .0), c .before .before .loop .inv .1)
+forward : (c : tie.After-work Inv-loop μ-loop) → c .work .result ≡ workOf (c .before .before .before .before .loop .cells) (16 * c .before .before .before .before .before .before .before .before .before .args .page + c .before .before .before .before .loop .i)
+forward c = c .work .ensures ∙ ap (λ (x : ℕ). workOf (c .before .before .before .before .loop .cells) x) (c .before .cell-on .ensures)
 
 work-requires : tie.Need-work-requires Inv-loop μ-loop
 work-requires c κs =
-    let full = c .before .before .before .before .before .before .before .pre .0 .full (c .before .before .before .before .before .before .before .args .page) (c .before .before .before .before .before .before .before .pre .1 .0) in
-    (omega (arith, c .before .before .before .before .before .before .before .pre .0 .few, c .before .before .before .before .before .before .before .pre .1 .0, c .before .before .loop .inv .1), omega (arith, c .before .before .before .before .before .before .before .pre .1 .0, c .before .before .loop .inv .1, c .before .before .loop .inv .2, c .before .before .before .before .before .before .before .pre .0 .cells-long))
+    let full = c .before .before .before .before .before .before .before .before .pre .0 .full (c .before .before .before .before .before .before .before .before .args .page) (c .before .before .before .before .before .before .before .before .pre .1 .0) in
+    (omega (arith, c .cell-on .ensures, c .before .before .before .before .before .before .before .before .pre .0 .few, c .before .before .before .before .before .before .before .before .pre .1 .0, c .before .before .before .loop .inv .1), omega (arith, c .cell-on .ensures, c .before .before .before .before .before .before .before .before .pre .1 .0, c .before .before .before .loop .inv .1, c .before .before .before .loop .inv .2, c .before .before .before .before .before .before .before .before .pre .0 .cells-long))
 
-wide-requires-2 : tie.Need-wide-requires-2 Inv-loop μ-loop
-wide-requires-2 c κs = search needs
-
-sub-rewrite-cell : tie.Need-sub-rewrite-cell Inv-loop μ-loop
-sub-rewrite-cell c = omega (arith, c .before .if1 .taken)
+cell-named-requires : tie.Need-cell-named-requires Inv-loop μ-loop
+cell-named-requires c κs = omega (arith, c .before .if1 .taken)
 
 rewrite-cell-requires : tie.Need-rewrite-cell-requires Inv-loop μ-loop
 rewrite-cell-requires c κs =
-    let a = c .before .before .before .before .before .before .before .before .before .before .before .args in
-    let l = c .before .before .before .before .before .before .loop in
-    let w = c .before .before .before .before .before .before .before .before .before .before .before .pre .0 in
+    let a = c .before .before .before .before .before .before .before .before .before .before .before .before .args in
+    let l = c .before .before .before .before .before .before .before .loop in
+    let w = c .before .before .before .before .before .before .before .before .before .before .before .before .pre .0 in
     let T : List ℕ = a .tables .now in
-    let full = w .full (a .page) (c .before .before .before .before .before .before .before .before .before .before .before .pre .1 .0) in
-    let lt : l .i < usedOf (a .p) T (a .page) = omega (arith, l .inv .1, c .before .before .before .before .before .loop-test .taken) in
-    let u : InUse (a .p) T (16 * a .page + l .i) = in-page (a .p) (a .page) (l .i) T (c .before .before .before .before .before .before .before .before .before .before .before .pre .1 .0) lt full in
-    let own : ownerOf (a .p) T ((16 * a .page + l .i) / 16) ≡ a .region = on-page (a .p) (a .page) (l .i) T (omega arith) ∙ c .before .before .before .before .before .before .before .before .before .before .before .pre .1 .1 in
+    let full = w .full (a .page) (c .before .before .before .before .before .before .before .before .before .before .before .before .pre .1 .0) in
+    let lt : l .i < usedOf (a .p) T (a .page) = omega (arith, l .inv .1, c .before .before .before .before .before .before .loop-test .taken) in
+    let u : InUse (a .p) T (16 * a .page + l .i) = in-page (a .p) (a .page) (l .i) T (c .before .before .before .before .before .before .before .before .before .before .before .before .pre .1 .0) lt full in
+    let own : ownerOf (a .p) T ((16 * a .page + l .i) / 16) ≡ a .region = on-page (a .p) (a .page) (l .i) T (omega arith) ∙ c .before .before .before .before .before .before .before .before .before .before .before .before .pre .1 .1 in
     let lb : 16 * a .page + l .i < 16 * (a .page + 1) = omega arith in
     let la : 16 * a .page ≤ 16 * a .page + l .i = omega arith in
-    (copy-fields w la lb (l .inv .3) (c .before .before .wide2 .result) (c .before .before .wide2 .ensures ∙ c .before .before .before .work .ensures) (c .before .if1 .taken) u own, w .tables-long)
+    let f = copy-fields w la lb (l .inv .3) (c .before .before .before .work .result) (forward (c .before .before .before)) (c .before .before .if1 .taken) u own in
+    (subst (λ (d : ℕ). Fields (a .p) (refs (l .cells) d) d (l .cells)) (sym (c .cell-named .ensures)) f, w .tables-long)
 
 add-i : tie.Need-add-i Inv-loop μ-loop
 add-i c = omega (arith, c .before .before .before .before .before .before .before .before .before .before .pre .0 .full (c .before .before .before .before .before .before .before .before .before .before .args .page) (c .before .before .before .before .before .before .before .before .before .before .pre .1 .0), c .before .before .before .before .before .loop .inv .1, c .before .before .before .before .loop-test .taken)
@@ -94,14 +86,16 @@ loop-again c =
     let own : ownerOf (a .p) T ((16 * a .page + l .i) / 16) ≡ a .region = on-page (a .p) (a .page) (l .i) T (omega arith) ∙ c .before .before .before .before .before .before .before .before .before .before .pre .1 .1 in
     let lb : 16 * a .page + l .i < 16 * (a .page + 1) = omega arith in
     let la : 16 * a .page ≤ 16 * a .page + l .i = omega arith in
-    let x : c .before .wide2 .result ≡ workOf (l .cells) (16 * a .page + l .i) = c .before .wide2 .ensures ∙ c .before .before .work .ensures in
+    let x : c .before .work .result ≡ workOf (l .cells) (16 * a .page + l .i) = forward (c .before) in
     let P : ℕ → List ℕ → Type 0 =
     (λ y X. Rewritten (a .p) (a .region) (CopySlot (a .p) (a .region) (Between (16 * a .page) y) (a .cells .now) T) T (a .cells .now) X) in
     let e : 16 * a .page + l .i + 1 ≡ 16 * a .page + (l .i + 1) = omega arith in
     let h : P (16 * a .page + l .i + 1) (c .if1 .cells) =
     ⊎-elim
-    (λ z. subst (P (16 * a .page + l .i + 1)) (sym (z .5)) (copy-moved w la lb (l .inv .3) (c .before .wide2 .result) x (z .0 .taken) u own (z .2 .ensures)))
-    (λ z. subst (P (16 * a .page + l .i + 1)) (sym (z .1)) (copy-null w la lb (l .inv .3) (c .before .wide2 .result) x (z .0 .left)))
+    (λ z. subst (P (16 * a .page + l .i + 1)) (sym (z .6))
+    (copy-moved w la lb (l .inv .3) (c .before .work .result) x (z .0 .taken) u own
+    (subst (λ (d : ℕ). Rewritten (a .p) (a .region) (Field d (refs (l .cells) d)) T (l .cells) (z .3 .last .1 .0)) (z .2 .ensures) (z .3 .ensures))))
+    (λ z. subst (P (16 * a .page + l .i + 1)) (sym (z .1)) (copy-null w la lb (l .inv .3) (c .before .work .result) x (z .0 .left)))
     (c .if1 .came) in
     (omega (arith, c .before .before .before .before .loop-test .taken), l .inv .1, h .size, subst (λ (y : ℕ). P y (c .if1 .cells)) e h)
 
@@ -124,11 +118,9 @@ rewrite-page-spec =
     used-requires
     wide-requires
     loop-holds
-    mul-work
-    add-work
+    cell-on-requires
     work-requires
-    wide-requires-2
-    sub-rewrite-cell
+    cell-named-requires
     rewrite-cell-requires
     add-i
     loop-less

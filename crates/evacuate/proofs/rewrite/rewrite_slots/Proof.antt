@@ -1,22 +1,15 @@
 -- The remembered slots of the entries below i are rewritten, and nothing else is changed.
 use native.Mathlib.Omega.{arith}
 use borrow.Author.Needs.{needs}
-use lib.ListN.{length, getD, set, length-set}
-use Prim.Native.Nat.{ℕ, _≤_, _<_, _+_, _-_, _*_, _/_, _%_, _^_}
+use lib.ListN.{length, getD}
+use Prim.Native.Nat.{ℕ, _≤_, _<_, _+_, _-_, _*_}
 use mathlib.Core.List.{List}
-use mathlib.Core.Logic.{_≢_, _⊎_, inl, inr, ⊎-elim}
-use mathlib.Core.Path.{_≡_, refl, sym, ap, _∙_, subst}
-use Rattle.layout.specs.Places.{Room, usedIn, slotIn, slotRegionIn}
-use Rattle.evacuate.specs.Rewrite.{Names, moveRef, Rewritten, Remembered, slots-start, slot-names, slot-moved, slot-left}
+use mathlib.Core.Logic.{⊎-elim}
+use mathlib.Core.Path.{_≡_, refl, sym, _∙_, subst}
+use Rattle.layout.specs.Places.{usedIn, slotIn}
+use Rattle.evacuate.specs.Rewrite.{Names, Rewritten, Remembered, slots-start, slot-names, slot-moved, slot-left}
 use Rattle.evacuate.proofs.rewrite.rewrite_slots.Statement.{statement}
 use Rattle.evacuate.proofs.rewrite.rewrite_slots.Tie as tie
-use Rattle.evacuate.proofs.rewrite.rewrite_slots.Reads as reads
-use Rattle.evacuate.proofs.rewrite.rewrite_slots.Lts as lts
-use Rattle.evacuate.proofs.rewrite.forward_ref.Reads as forward-ref-reads
-use Rattle.layout.proofs.remember.region.Reads as region-reads
-use Rattle.layout.proofs.remember.slot.Reads as slot-reads
-use Rattle.layout.proofs.remember.used.Reads as used-reads
-use Rattle.layout.proofs.wide.Reads as wide-reads
 
 abbrev Inv-loop : tie.InvT-loop
 Inv-loop p cells₀ tables remember region entries used i₀ cells i =

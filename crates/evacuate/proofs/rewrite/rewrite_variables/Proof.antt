@@ -1,22 +1,15 @@
 -- The variables below i are rewritten, and nothing else is changed.
 use native.Mathlib.Omega.{arith}
-use borrow.Author.Needs.{needs}
-use lib.ListN.{length, getD, set, length-set}
-use Prim.Native.Nat.{ℕ, _≤_, _<_, _+_, _-_, _*_, _/_, _%_, _^_}
+use lib.ListN.{length}
+use Prim.Native.Nat.{ℕ, _≤_, _<_, _+_, _-_, _*_}
 use mathlib.Core.List.{List}
-use mathlib.Core.Logic.{_≢_, _⊎_, inl, inr, ⊎-elim}
 use mathlib.Core.Path.{_≡_, refl, sym, ap, _∙_, subst}
 use native.Mathlib.Nat.{mul-le-mul}
-use Rattle.layout.specs.Places.{Room, varOf}
+use Rattle.layout.specs.Places.{varOf}
 use Rattle.evacuate.specs.Taking.{room-same}
 use Rattle.evacuate.specs.Rewrite.{Names, moveRef, Variables, variables-start, variables-next, variables-names}
 use Rattle.evacuate.proofs.rewrite.rewrite_variables.Statement.{statement}
 use Rattle.evacuate.proofs.rewrite.rewrite_variables.Tie as tie
-use Rattle.evacuate.proofs.rewrite.rewrite_variables.Reads as reads
-use Rattle.evacuate.proofs.rewrite.rewrite_variables.Lts as lts
-use Rattle.evacuate.proofs.rewrite.forward_ref.Reads as forward-ref-reads
-use Rattle.layout.proofs.tables.set_var.Reads as set-var-reads
-use Rattle.layout.proofs.tables.var.Reads as var-reads
 
 abbrev Inv-loop : tie.InvT-loop
 Inv-loop p cells tables₀ region n i₀ tables i =
@@ -26,22 +19,25 @@ abbrev μ-loop : tie.MeasureT-loop
 μ-loop p cells tables₀ region n i₀ tables i =
     p .threads * p .variables - i
 
-mul-n : tie.Need-mul-n Inv-loop μ-loop
-mul-n c = omega (arith, mul-le-mul (c .before .before .before .pre .1 .1 .threads-high) (c .before .before .before .pre .1 .1 .variables-high))
+var-count-requires : tie.Need-var-count-requires Inv-loop μ-loop
+var-count-requires c κs = (c .before .before .pre .1 .1 .threads-high, c .before .before .pre .1 .1 .variables-high)
 
 loop-holds : tie.Need-loop-holds Inv-loop μ-loop
 loop-holds c = (omega arith, refl, variables-start _ _ _ _)
 
+low : (c : tie.In-loop Inv-loop μ-loop) → c .before .loop .i < c .before .before .before .before .before .args .p .threads * c .before .before .before .before .before .args .p .variables
+low c = subst (λ (n : ℕ). c .before .loop .i < n) (c .before .before .var-count .ensures) (c .loop-test .taken)
+
 var-requires : tie.Need-var-requires Inv-loop μ-loop
-var-requires c κs = (room-same (c .before .before .loop .inv .1) (c .before .before .before .before .before .before .pre .1 .1), c .before .loop-test .taken)
+var-requires c κs = (room-same (c .before .before .loop .inv .1) (c .before .before .before .before .before .before .pre .1 .1), low (c .before))
 
 forward-ref-requires : tie.Need-forward-ref-requires Inv-loop μ-loop
 forward-ref-requires c κs =
     let l = c .before .before .before .loop in
-    (subst (λ (x : ℕ). Names (c .before .before .before .before .before .before .before .args .p) x) (sym (c .var .ensures)) (variables-names (l .inv .2) (c .before .before .before .before .before .before .before .pre .0 (l .i) (c .before .before .loop-test .taken))), (c .before .before .before .before .before .before .before .pre .1 .0, room-same (l .inv .1) (c .before .before .before .before .before .before .before .pre .1 .1)))
+    (subst (λ (x : ℕ). Names (c .before .before .before .before .before .before .before .args .p) x) (sym (c .var .ensures)) (variables-names (l .inv .2) (c .before .before .before .before .before .before .before .pre .0 (l .i) (low (c .before .before)))), (c .before .before .before .before .before .before .before .pre .1 .0, room-same (l .inv .1) (c .before .before .before .before .before .before .before .pre .1 .1)))
 
 set-var-requires : tie.Need-set-var-requires Inv-loop μ-loop
-set-var-requires c κs = (room-same (c .before .before .before .before .before .loop .inv .1) (c .before .before .before .before .before .before .before .before .before .pre .1 .1), c .before .before .before .before .loop-test .taken)
+set-var-requires c κs = (room-same (c .before .before .before .before .before .loop .inv .1) (c .before .before .before .before .before .before .before .before .before .pre .1 .1), low (c .before .before .before .before))
 
 add-i : tie.Need-add-i Inv-loop μ-loop
 add-i c = omega (arith, mul-le-mul (c .before .before .before .before .before .before .before .before .before .before .before .before .pre .1 .1 .threads-high) (c .before .before .before .before .before .before .before .before .before .before .before .before .pre .1 .1 .variables-high))
@@ -57,8 +53,8 @@ loop-again c =
     c .before .before .before .before .forward-ref .ensures ∙ ap (λ (x : ℕ). moveRef (a .p) (a .region) (a .cells .now) (l .tables) x) (c .before .before .before .before .before .var .ensures) in
     let h : Variables (a .p) (l .i + 1) (a .region) (a .cells .now) (a .tables .now) (c .before .before .set-var .last .1 .0) =
     subst (λ (X : List ℕ). Variables (a .p) (l .i + 1) (a .region) (a .cells .now) (a .tables .now) X) (sym (c .before .before .set-var .ensures))
-    (variables-next (c .before .before .before .before .before .before .before .loop-test .taken) (c .before .before .before .before .before .before .before .before .before .before .before .before .pre .1 .1) (l .inv .2) (c .before .before .before .before .forward-ref .result) ev) in
-    (omega (arith, c .before .before .before .before .before .before .before .loop-test .taken), h .size, h)
+    (variables-next (low (c .before .before .before .before .before .before .before)) (c .before .before .before .before .before .before .before .before .before .before .before .before .pre .1 .1) (l .inv .2) (c .before .before .before .before .forward-ref .result) ev) in
+    (omega (arith, low (c .before .before .before .before .before .before .before)), h .size, h)
 
 same-length : tie.Need-same-length Inv-loop μ-loop
 same-length c = c .before .loop .inv .1
@@ -76,7 +72,7 @@ rewrite-variables-spec =
     (tie.spec
     Inv-loop
     μ-loop
-    mul-n
+    var-count-requires
     loop-holds
     var-requires
     forward-ref-requires
