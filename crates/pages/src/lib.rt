@@ -19,7 +19,7 @@ pub fn find_page(p: Places, tables: &[u32], region: u32) -> usize
     while page < pages {
         let owner = layout::tables::owner(p, tables, page);
         if owner == region {
-            if layout::tables::used(p, tables, page) < 16 {
+            if layout::tables::used(p, tables, page) < layout::cells::CELLS as u32 {
                 return page;
             }
         }

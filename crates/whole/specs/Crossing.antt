@@ -4,6 +4,7 @@ use mathlib.Core.List.{List}
 use mathlib.Core.Bool.{Bool, true, false, cond}
 use mathlib.Core.Path.{_≡_, refl, sym, ap, subst, _∙_}
 use native.Mathlib.Omega.{arith}
+use native.Mathlib.Decide.{decLt}
 use borrow.Author.Tests.{lt-ltb, le-ltb, le-leb, lt-leb, eq-eqb, ne-eqb, eqb-true}
 use lib.Dec.{ltb, leb, eqb}
 use lib.ListN.{getD}
@@ -11,7 +12,7 @@ use Rattle.lists.specs.Counting.{count, count-positive, count-zero, count-to, s
 use Rattle.lists.specs.Says.{Says}
 use Rattle.layout.specs.declared.Places.{Places}
 use Rattle.layout.specs.Places.{ownerOf, usedOf}
-use Rattle.layout.specs.Cells.{headAt, headOf, fieldAt, fieldOf, pageOf, placeOf, cellOn, cellOf, wordOf}
+use Rattle.layout.specs.Cells.{headAt, headOf, fieldAt, fieldOf, IsReference, pageOf, placeOf, cellOn, cellOf, wordOf}
 use Rattle.promises.specs.Crossing.{other, regionOf, crossTo, crossing}
 use Rattle.whole.specs.Cells.{page-on, place-on}
 
@@ -105,18 +106,21 @@ module _ (p : Places) (c t : List ℕ) where
         let q : pageOf (cellOf at) ≡ page = omega arith in
         sym (unused-none at (cellOf at) refl (omega (arith, ap (usedOf p t) q)))
 
-    pub cross-low : {word : ℕ} → word ≡ wordOf at → word < 2 → 0 ≡ crossTo p c t at
-    cross-low f l = sym (low-none at (omega arith))
+    -- the word is none of the cell's reference fields
+    pub cross-other : {word head : ℕ} → word ≡ wordOf at → head ≡ headOf c cell → (IsReference head word → ⊥) → 0 ≡ crossTo p c t at
+    cross-other {word} {head} f g n = go (decLt word 2) (decLt word (head / 16 + 2))
+      where
+        go : Dec (word < 2) → Dec (word < head / 16 + 2) → 0 ≡ crossTo p c t at
+        go (yes l) d = sym (low-none at (omega arith))
+        go (no l) (yes m) = absurd (n (omega arith, m))
+        go (no l) (no m) = sym (high-none at cell word (sym e) (sym f) (omega arith))
 
-    pub cross-high : {word refs : ℕ} → word ≡ wordOf at → refs ≡ headOf c cell / 16 → refs + 2 ≤ word → 0 ≡ crossTo p c t at
-    cross-high {word} f g l = sym (high-none at cell word (sym e) (sym f) (omega arith))
-
-    pub cross-slot : {page used place word refs owner region r : ℕ} → page ≡ pageOf cell → place ≡ placeOf cell → used ≡ usedOf p t page
-        → word ≡ wordOf at → refs ≡ headOf c cell / 16 → owner ≡ ownerOf p t page → region ≡ regionOf p t (getD c at 0) → r ≡ other owner region
-        → place < used → 2 ≤ word → word < refs + 2 → r ≡ crossTo p c t at
-    cross-slot {page} {used} {place} {word} {refs} {owner} {region} f g h i j k l m u v w =
+    pub cross-slot : {page used place word head owner region r : ℕ} → page ≡ pageOf cell → place ≡ placeOf cell → used ≡ usedOf p t page
+        → word ≡ wordOf at → head ≡ headOf c cell → owner ≡ ownerOf p t page → region ≡ regionOf p t (getD c at 0) → r ≡ other owner region
+        → place < used → IsReference head word → r ≡ crossTo p c t at
+    cross-slot {page} {used} {place} {word} {head} {owner} {region} f g h i j k l m u v =
         m ∙ ap (λ (y : ℕ). other y region) (k ∙ ap (ownerOf p t) f) ∙ ap (λ (y : ℕ). other (ownerOf p t (pageOf cell)) y) l
-        ∙ sym (slot-of at cell word (sym e) (sym i) (omega (arith, ap (usedOf p t) f)) v (omega arith))
+        ∙ sym (slot-of at cell word (sym e) (sym i) (omega (arith, ap (usedOf p t) f)) (v .0) (omega (arith, v .1)))
 
 -- the region of a reference, as the code read its page
 module _ (p : Places) (t : List ℕ) (x : ℕ) where

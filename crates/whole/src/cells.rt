@@ -27,7 +27,7 @@ pub fn cells_whole(p: Places, cells: &[u32], tables: &[u32]) -> bool
             let head = layout::cells::head(cells, cell);
             let refs = layout::cells::field_count(Kind::Reference, head);
             let all = refs + layout::cells::field_count(Kind::Number, head);
-            if 14 < all {
+            if layout::cells::FIELDS < all {
                 ok = false;
                 break 'pages;
             }
@@ -36,7 +36,7 @@ pub fn cells_whole(p: Places, cells: &[u32], tables: &[u32]) -> bool
                 break 'pages;
             }
             let mut f = 0;
-            'fields: while f < 14 {
+            'fields: while f < layout::cells::FIELDS {
                 if f < refs {
                     if !is_ref(p, tables, layout::cells::field(cells, cell, f)) {
                         ok = false;

@@ -17,7 +17,7 @@ pub fn entry_whole(p: Places, cells: &[u32], remember: &[u32], tables: &[u32], i
     ensures { λ r. ⌜ Says r (EntryWhole p (now (cells .entry)) (now (remember .entry)) (now (tables .entry)) i) ⌝ }
 {
     let at = layout::wide(layout::remember::slot(p.entries, remember, i));
-    if 256 * p.pages <= at {
+    if layout::cells::words(p) <= at {
         return false;
     }
     let region = layout::remember::region(p.entries, remember, i);

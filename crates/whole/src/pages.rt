@@ -61,7 +61,7 @@ pub fn page_whole(p: Places, tables: &[u32], page: usize) -> bool
     if used < 1 {
         return false;
     }
-    if 16 < used {
+    if layout::cells::CELLS < used {
         return false;
     }
     if owner == 1 {

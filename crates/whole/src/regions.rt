@@ -20,7 +20,7 @@ pub fn regions_whole(p: Places, tables: &[u32]) -> bool
         let owner = layout::wide(layout::tables::owner(p, tables, page));
         if owner != 0 {
             let used = layout::wide(layout::tables::used(p, tables, page));
-            if used < 16 {
+            if used < layout::cells::CELLS {
                 if partly[owner] {
                     return false;
                 }
@@ -30,7 +30,7 @@ pub fn regions_whole(p: Places, tables: &[u32]) -> bool
         }
         page += 1;
     }
-    let last = 1 + p.threads * p.depth;
+    let last = layout::regions::last_region(p);
     let mut g = 1;
     while g <= last {
         if layout::wide(layout::tables::count(p, tables, g)) != objects[g] {

@@ -20,7 +20,7 @@ pub fn region_of(p: Places, tables: &[u32], x: u32) -> u32
     if x == 0 {
         return 0;
     }
-    let page = layout::cells::page_of(layout::wide(x - 1));
+    let page = layout::cells::page_of(layout::cells::cell_named(x));
     if p.pages <= page {
         return 0;
     }
@@ -53,12 +53,8 @@ pub fn cross_to(p: Places, cells: &[u32], tables: &[u32], at: usize) -> u32
     if used <= layout::cells::place_of(cell) {
         return 0;
     }
-    let word = layout::cells::word_of(at);
-    if word < 2 {
-        return 0;
-    }
-    let refs = layout::cells::field_count(Kind::Reference, layout::cells::head(cells, cell));
-    if refs + 2 <= word {
+    let head = layout::cells::head(cells, cell);
+    if !layout::cells::is_reference(head, layout::cells::word_of(at)) {
         return 0;
     }
     let owner = layout::tables::owner(p, tables, page);

@@ -14,7 +14,7 @@ pub fn is_ref(p: Places, tables: &[u32], x: u32) -> bool
     if x == 0 {
         return true;
     }
-    let cell = layout::wide(x - 1);
+    let cell = layout::cells::cell_named(x);
     let page = layout::cells::page_of(cell);
     if p.pages <= page {
         return false;
@@ -30,7 +30,7 @@ pub fn variables_whole(p: Places, tables: &[u32]) -> bool
     requires { ⌜ Room p (length (now tables)) ⌝ }
     ensures { λ r. ⌜ Says r (VariablesWhole p (now (tables .entry))) ⌝ }
 {
-    let end = p.threads * p.variables;
+    let end = layout::tables::var_count(p);
     let mut i = 0;
     while i < end {
         if !is_ref(p, tables, layout::tables::var(p, tables, i)) {

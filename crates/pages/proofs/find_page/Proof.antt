@@ -24,6 +24,9 @@ owner-requires c κs = search needs
 used-requires : tie.Need-used-requires Inv-loop μ-loop
 used-requires c κs = search needs
 
+cast-if2 : tie.Need-cast-if2 Inv-loop μ-loop
+cast-if2 c = search needs
+
 returns : tie.Need-returns Inv-loop μ-loop
 returns c =
     inl (record {
@@ -57,6 +60,7 @@ find-page-spec =
     loop-holds
     owner-requires
     used-requires
+    cast-if2
     returns
     add-page
     loop-less

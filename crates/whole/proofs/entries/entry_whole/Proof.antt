@@ -14,8 +14,8 @@ slot-requires c κs = search needs
 wide-requires : tie.Need-wide-requires
 wide-requires c κs = search needs
 
-mul-if1 : tie.Need-mul-if1
-mul-if1 c = search needs
+words-requires : tie.Need-words-requires
+words-requires c κs = search needs
 
 returns : tie.Need-returns
 returns c = says-no (λ h. omega (arith, h .slot))
@@ -41,7 +41,7 @@ entry-whole-spec =
     (tie.spec
     slot-requires
     wide-requires
-    mul-if1
+    words-requires
     returns
     region-requires
     returns-2

@@ -91,11 +91,8 @@ loop-again c = (
       (c .if1 .came),
 )
 
-mul-last : tie.Need-mul-last Inv-loop μ-loop Inv-loop2 μ-loop2
-mul-last c = omega (arith, region-few (c .before .before .before .before .args .p) (length (now (c .before .before .before .before .args .tables))) (c .before .before .before .before .pre .0))
-
-add-last : tie.Need-add-last Inv-loop μ-loop Inv-loop2 μ-loop2
-add-last c = omega (arith, region-few (c .before .before .before .before .args .p) (length (now (c .before .before .before .before .args .tables))) (c .before .before .before .before .pre .0))
+last-region-requires : tie.Need-last-region-requires Inv-loop μ-loop Inv-loop2 μ-loop2
+last-region-requires c κs = search needs
 
 loop2-holds : tie.Need-loop2-holds Inv-loop μ-loop Inv-loop2 μ-loop2
 loop2-holds c = (omega arith, omega arith, omega (arith, region-few (c .before .before .before .before .args .p) (length (now (c .before .before .before .before .args .tables))) (c .before .before .before .before .pre .0)), c .before .before .loop .inv .1 .places, λ k l m. absurd (let z : ⊥ = omega arith in z))
@@ -158,8 +155,7 @@ regions-whole-spec =
     add-page
     loop-less
     loop-again
-    mul-last
-    add-last
+    last-region-requires
     loop2-holds
     count-requires
     wide-requires-3

@@ -1,9 +1,10 @@
 -- The word at a position is a slot where its cell is in use and the word is one of its references.
 use borrow.Author.Needs.{needs}
-use mathlib.Core.Path.{ap, _∙_}
+use borrow.Author.Tests.{not-true, not-false}
+use Rattle.lists.specs.Says.{said-no}
+use mathlib.Core.Path.{_∙_}
 use denote.Ref.{now}
-use Prim.Native.Nat.{ℕ, _/_}
-use Rattle.whole.specs.Crossing.{cross-unused, cross-low, cross-high, cross-slot}
+use Rattle.whole.specs.Crossing.{cross-unused, cross-other, cross-slot}
 use Rattle.whole.proofs.remember.cross_to.Statement.{statement}
 use Rattle.whole.proofs.remember.cross_to.Tie as tie
 
@@ -25,23 +26,17 @@ place-of-requires c κs = search needs
 returns : tie.Need-returns
 returns c = cross-unused (c .before .before .before .before .before .before .before .before .args .p) (now (c .before .before .before .before .before .before .before .before .args .cells)) (now (c .before .before .before .before .before .before .before .before .args .tables)) (c .before .before .before .before .before .before .before .before .args .at) (c .before .before .before .before .before .cell-of .result) (c .before .before .before .before .before .cell-of .ensures) (c .before .before .before .before .page-of .ensures) (c .before .place-of .ensures) (c .before .before .wide .ensures ∙ c .before .before .before .used .ensures) (c .if1 .taken)
 
-word-of-requires : tie.Need-word-of-requires
-word-of-requires c κs = search needs
-
-returns-2 : tie.Need-returns-2
-returns-2 c = cross-low (c .before .before .before .before .before .before .before .before .before .before .args .p) (now (c .before .before .before .before .before .before .before .before .before .before .args .cells)) (now (c .before .before .before .before .before .before .before .before .before .before .args .tables)) (c .before .before .before .before .before .before .before .before .before .before .args .at) (c .before .before .before .before .before .before .before .cell-of .result) (c .before .before .before .before .before .before .before .cell-of .ensures) (c .before .word-of .ensures) (c .if2 .taken)
-
 head-requires : tie.Need-head-requires
 head-requires c κs = search needs
 
-field-count-requires : tie.Need-field-count-requires
-field-count-requires c κs = search needs
+word-of-requires : tie.Need-word-of-requires
+word-of-requires c κs = search needs
 
-add-if3 : tie.Need-add-if3
-add-if3 c = search needs
+is-reference-requires : tie.Need-is-reference-requires
+is-reference-requires c κs = search needs
 
-returns-3 : tie.Need-returns-3
-returns-3 c = cross-high (c .before .before .before .before .before .before .before .before .before .before .before .before .before .args .p) (now (c .before .before .before .before .before .before .before .before .before .before .before .before .before .args .cells)) (now (c .before .before .before .before .before .before .before .before .before .before .before .before .before .args .tables)) (c .before .before .before .before .before .before .before .before .before .before .before .before .before .args .at) (c .before .before .before .before .before .before .before .before .before .before .cell-of .result) (c .before .before .before .before .before .before .before .before .before .before .cell-of .ensures) (c .before .before .before .before .word-of .ensures) (c .before .field-count .ensures ∙ ap (λ (h : ℕ). h / 16) (c .before .before .head .ensures)) (c .if3 .taken)
+returns-2 : tie.Need-returns-2
+returns-2 c = cross-other (c .before .before .before .before .before .before .before .before .before .before .before .before .args .p) (now (c .before .before .before .before .before .before .before .before .before .before .before .before .args .cells)) (now (c .before .before .before .before .before .before .before .before .before .before .before .before .args .tables)) (c .before .before .before .before .before .before .before .before .before .before .before .before .args .at) (c .before .before .before .before .before .before .before .before .before .cell-of .result) (c .before .before .before .before .before .before .before .before .before .cell-of .ensures) (c .before .before .word-of .ensures) (c .before .before .before .head .ensures) (said-no _ (c .before .is-reference .ensures) (not-true _ (c .if2 .taken)))
 
 owner-requires : tie.Need-owner-requires
 owner-requires c κs = search needs
@@ -58,8 +53,10 @@ region-of-requires c κs = search needs
 other-region-requires : tie.Need-other-region-requires
 other-region-requires c κs = search needs
 
-returns-4 : tie.Need-returns-4
-returns-4 c = cross-slot (c .before .before .before .before .before .before .before .before .before .before .before .before .before .before .before .before .before .args .p) (now (c .before .before .before .before .before .before .before .before .before .before .before .before .before .before .before .before .before .args .cells)) (now (c .before .before .before .before .before .before .before .before .before .before .before .before .before .before .before .before .before .args .tables)) (c .before .before .before .before .before .before .before .before .before .before .before .before .before .before .before .before .before .args .at) (c .before .before .before .before .before .before .before .before .before .before .before .before .before .before .cell-of .result) (c .before .before .before .before .before .before .before .before .before .before .before .before .before .before .cell-of .ensures) (c .before .before .before .before .before .before .before .before .before .before .before .before .before .page-of .ensures) (c .before .before .before .before .before .before .before .before .before .before .place-of .ensures) (c .before .before .before .before .before .before .before .before .before .before .before .wide .ensures ∙ c .before .before .before .before .before .before .before .before .before .before .before .before .used .ensures) (c .before .before .before .before .before .before .before .before .word-of .ensures) (c .before .before .before .before .before .field-count .ensures ∙ ap (λ (h : ℕ). h / 16) (c .before .before .before .before .before .before .head .ensures)) (c .before .before .before .owner .ensures) (c .before .region-of .ensures) (c .other-region .ensures) (c .before .before .before .before .before .before .before .before .before .if1 .left) (c .before .before .before .before .before .before .before .if2 .left) (c .before .before .before .before .if3 .left)
+returns-3 : tie.Need-returns-3
+returns-3 c =
+    cross-slot (c .before .before .before .before .before .before .before .before .before .before .before .before .before .before .before .before .args .p) (now (c .before .before .before .before .before .before .before .before .before .before .before .before .before .before .before .before .args .cells)) (now (c .before .before .before .before .before .before .before .before .before .before .before .before .before .before .before .before .args .tables)) (c .before .before .before .before .before .before .before .before .before .before .before .before .before .before .before .before .args .at) (c .before .before .before .before .before .before .before .before .before .before .before .before .before .cell-of .result) (c .before .before .before .before .before .before .before .before .before .before .before .before .before .cell-of .ensures) (c .before .before .before .before .before .before .before .before .before .before .before .before .page-of .ensures) (c .before .before .before .before .before .before .before .before .before .place-of .ensures) (c .before .before .before .before .before .before .before .before .before .before .wide .ensures ∙ c .before .before .before .before .before .before .before .before .before .before .before .used .ensures) (c .before .before .before .before .before .before .word-of .ensures) (c .before .before .before .before .before .before .before .head .ensures)
+    (c .before .before .before .owner .ensures) (c .before .region-of .ensures) (c .other-region .ensures) (c .before .before .before .before .before .before .before .before .if1 .left) (c .before .before .before .before .before .is-reference .ensures .0 (not-false _ (c .before .before .before .before .if2 .left)))
 
 pub cross-to-spec : {M : Type 1} → statement M
 cross-to-spec =
@@ -71,15 +68,13 @@ cross-to-spec =
     wide-requires
     place-of-requires
     returns
-    word-of-requires
-    returns-2
     head-requires
-    field-count-requires
-    add-if3
-    returns-3
+    word-of-requires
+    is-reference-requires
+    returns-2
     owner-requires
     mul-region-of
     shared-slice-read-region-of
     region-of-requires
     other-region-requires
-    returns-4)
+    returns-3)

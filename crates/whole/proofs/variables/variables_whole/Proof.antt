@@ -22,8 +22,8 @@ abbrev μ-loop : tie.MeasureT-loop
 μ-loop p tables end i₀ i =
     end - i
 
-mul-end : tie.Need-mul-end Inv-loop μ-loop
-mul-end c = omega (arith, mul-le-mul (c .before .before .pre .threads-high) (c .before .before .pre .variables-high))
+var-count-requires : tie.Need-var-count-requires Inv-loop μ-loop
+var-count-requires c κs = (c .before .pre .threads-high, c .before .pre .variables-high)
 
 loop-holds : tie.Need-loop-holds Inv-loop μ-loop
 loop-holds c = (omega arith, λ k l. absurd (not-suc-le-zero l))
@@ -35,7 +35,7 @@ is-ref-requires : tie.Need-is-ref-requires Inv-loop μ-loop
 is-ref-requires c κs = search needs
 
 returns : tie.Need-returns Inv-loop μ-loop
-returns c = says-no (λ h. said-no _ (c .before .is-ref .ensures) (not-true _ (c .if1 .taken)) (subst (λ (x : ℕ). IsRef (c .before .before .before .before .before .before .before .args .p) (now (c .before .before .before .before .before .before .before .args .tables)) x) (sym (c .before .before .var .ensures)) (h (c .before .before .before .before .loop .i) (c .before .before .before .loop-test .taken))))
+returns c = says-no (λ h. said-no _ (c .before .is-ref .ensures) (not-true _ (c .if1 .taken)) (subst (λ (x : ℕ). IsRef (c .before .before .before .before .before .before .before .args .p) (now (c .before .before .before .before .before .before .before .args .tables)) x) (sym (c .before .before .var .ensures)) (h (c .before .before .before .before .loop .i) (omega (arith, c .before .before .before .before .before .var-count .ensures, c .before .before .before .loop-test .taken)))))
 
 add-i : tie.Need-add-i Inv-loop μ-loop
 add-i c = omega arith
@@ -55,7 +55,7 @@ variables-whole-spec =
     (tie.spec
     Inv-loop
     μ-loop
-    mul-end
+    var-count-requires
     loop-holds
     var-requires
     is-ref-requires
