@@ -3,6 +3,7 @@ use Prim.Native.Nat.{ℕ, _-_, _≤_, _<_}
 use mathlib.Core.List.{List}
 use mathlib.Core.Bool.{Bool, cond}
 use mathlib.Core.Path.{_≡_, sym, ap, ap₂, _∙_}
+use native.Mathlib.Omega.{arith}
 use lib.Dec.{ltb, eqb}
 use borrow.Author.Tests.{lt-ltb, le-ltb, le-leb, lt-leb, eq-eqb, ne-eqb}
 use Rattle.layout.specs.declared.Places.{Places}
@@ -24,24 +25,25 @@ module _ (o g : ℕ) where
   other-crosses : 1 < g → (g ≡ o → ⊥) → other o g ≡ g
   other-crosses l e = other-far l ∙ ap (λ (b : Bool). cond b 0 g) (ne-eqb g o e)
 
--- y is x as the code widened it; the page of x's cell is not there, or its owner is g
-module _ (p : Places) (t : List ℕ) (page x y : ℕ) (q : y ≡ x) where
-  region-there : (y ≡ 0 → ⊥) → pageOf (y - 1) < p .pages → regionOf p t x ≡ ownerOf p t (pageOf (y - 1))
-  region-there z l =
-      sym (ap (regionOf p t) q)
-      ∙ ap₂ (λ (a b : Bool). cond a 0 (cond b (ownerOf p t (pageOf (y - 1))) 0)) (ne-eqb y 0 z) (lt-ltb (pageOf (y - 1)) (p .pages) l)
+pub cross-null : (p : Places) (t : List ℕ) (page x : ℕ) → x ≡ 0 → 0 ≡ other (ownerOf p t page) (regionOf p t x)
+cross-null p t page x z =
+    sym (ap (λ (a : Bool). other (ownerOf p t page) (cond a 0 (cond (ltb (pageOf (x - 1)) (p .pages)) (ownerOf p t (pageOf (x - 1))) 0))) (eq-eqb x 0 z))
 
-  pub cross-null : y ≡ 0 → 0 ≡ other (ownerOf p t page) (regionOf p t x)
-  cross-null z = sym (ap (λ (g : ℕ). other (ownerOf p t page) g) (sym (ap (regionOf p t) q) ∙ ap (λ (a : Bool). cond a 0 (cond (ltb (pageOf (y - 1)) (p .pages)) (ownerOf p t (pageOf (y - 1))) 0)) (eq-eqb y 0 z)))
+-- b is the cell that x names; its page is not there, or its owner is g
+module _ (p : Places) (t : List ℕ) (page x b : ℕ) (q : b ≡ x - 1) (z : x ≡ 0 → ⊥) where
+  region-there : pageOf b < p .pages → regionOf p t x ≡ ownerOf p t (pageOf b)
+  region-there l =
+      ap₂ (λ (a d : Bool). cond a 0 (cond d (ownerOf p t (pageOf (x - 1))) 0)) (ne-eqb x 0 z) (lt-ltb (pageOf (x - 1)) (p .pages) (omega arith))
+      ∙ ap (λ (i : ℕ). ownerOf p t (pageOf i)) (sym q)
 
-  pub cross-past : (y ≡ 0 → ⊥) → p .pages ≤ pageOf (y - 1) → 0 ≡ other (ownerOf p t page) (regionOf p t x)
-  cross-past z l =
-      sym (ap (λ (g : ℕ). other (ownerOf p t page) g) (sym (ap (regionOf p t) q)
-      ∙ ap₂ (λ (a b : Bool). cond a 0 (cond b (ownerOf p t (pageOf (y - 1))) 0)) (ne-eqb y 0 z) (le-ltb (pageOf (y - 1)) (p .pages) l)))
+  pub cross-past : p .pages ≤ pageOf b → 0 ≡ other (ownerOf p t page) (regionOf p t x)
+  cross-past l =
+      sym (ap₂ (λ (a d : Bool). other (ownerOf p t page) (cond a 0 (cond d (ownerOf p t (pageOf (x - 1))) 0))) (ne-eqb x 0 z)
+      (le-ltb (pageOf (x - 1)) (p .pages) (omega arith)))
 
-  module _ (z : y ≡ 0 → ⊥) (l : pageOf (y - 1) < p .pages) (g : ℕ) (e : g ≡ ownerOf p t (pageOf (y - 1))) where
+  module _ (l : pageOf b < p .pages) (g : ℕ) (e : g ≡ ownerOf p t (pageOf b)) where
     into : regionOf p t x ≡ g
-    into = region-there z l ∙ sym e
+    into = region-there l ∙ sym e
 
     pub cross-none : g ≤ 1 → 0 ≡ other (ownerOf p t page) (regionOf p t x)
     cross-none h = sym (ap (λ (r : ℕ). other (ownerOf p t page) r) into ∙ other-none (ownerOf p t page) g h)

@@ -46,20 +46,20 @@ used-both x f n e = go (ℕ-discrete x 0) (decLt f n)
     go (no z) (yes l) = (omega arith, l)
     go (no z) (no l) = absurd (let o : ⊥ = omega (arith, used-past x f n z (omega arith)) in o)
 
--- y is x as the code widened it, h its word 0, n the count of its fields
-module _ (k : Kind) (c : List ℕ) (x f y h n : ℕ) (q : y ≡ x) (g : h ≡ headOf c (y - 1)) (e : n ≡ fieldCount k h) where
+-- b is the cell that x names, h its word 0, n the count of its fields
+module _ (k : Kind) (c : List ℕ) (x f b h n : ℕ) (q : b ≡ x - 1) (g : h ≡ headOf c b) (e : n ≡ fieldCount k h) where
   count-is : n ≡ fieldCount k (headOf c (x - 1))
-  count-is = e ∙ ap (fieldCount k) (g ∙ ap (λ (z : ℕ). headOf c (z - 1)) q)
+  count-is = e ∙ ap (fieldCount k) (g ∙ ap (headOf c) q)
 
-  pub asked-fine : (y ≡ 0 → ⊥) → f < n → 0 ≡ used x f (fieldCount k (headOf c (x - 1)))
-  asked-fine z l = used-fine x f (fieldCount k (headOf c (x - 1))) (λ (a : x ≡ 0). z (q ∙ a)) (omega (arith, count-is))
+  pub asked-fine : (x ≡ 0 → ⊥) → f < n → 0 ≡ used x f (fieldCount k (headOf c (x - 1)))
+  asked-fine z l = used-fine x f (fieldCount k (headOf c (x - 1))) z (omega (arith, count-is))
 
-  pub asked-past : (y ≡ 0 → ⊥) → n ≤ f → 10 ≡ used x f (fieldCount k (headOf c (x - 1)))
-  asked-past z l = used-past x f (fieldCount k (headOf c (x - 1))) (λ (a : x ≡ 0). z (q ∙ a)) (omega (arith, count-is))
+  pub asked-past : (x ≡ 0 → ⊥) → n ≤ f → 10 ≡ used x f (fieldCount k (headOf c (x - 1)))
+  asked-past z l = used-past x f (fieldCount k (headOf c (x - 1))) z (omega (arith, count-is))
 
 -- the first field of its kind, and the field's place among the 14
-pub first-is : (k : Kind) (c : List ℕ) (x y h n : ℕ) → y ≡ x → h ≡ headOf c (y - 1) → n ≡ firstField k h → n ≡ firstField k (headOf c (x - 1))
-first-is k c x y h n q g e = e ∙ ap (firstField k) (g ∙ ap (λ (z : ℕ). headOf c (z - 1)) q)
+pub first-is : (k : Kind) (c : List ℕ) (x b h n : ℕ) → b ≡ x - 1 → h ≡ headOf c b → n ≡ firstField k h → n ≡ firstField k (headOf c (x - 1))
+first-is k c x b h n q g e = e ∙ ap (firstField k) (g ∙ ap (headOf c) q)
 
-pub place-is : (k : Kind) (c : List ℕ) (x f y i : ℕ) → y ≡ x → i ≡ firstField k (headOf c (x - 1)) + f → fieldAt (y - 1) i ≡ kindAt k c (x - 1) f
-place-is k c x f y i q e = ap₂ (λ (u v : ℕ). fieldAt (u - 1) v) q e
+pub place-is : (k : Kind) (c : List ℕ) (x f b i : ℕ) → b ≡ x - 1 → i ≡ firstField k (headOf c (x - 1)) + f → fieldAt b i ≡ kindAt k c (x - 1) f
+place-is k c x f b i q e = ap₂ fieldAt q e

@@ -62,8 +62,8 @@ pub record Stored (p : Places) (c m t : List ℕ) (x f v : ℕ) (c′ m′ : Lis
   pub full : (r ≡ 0 → ⊥) → c′ ≡ c
 
 -- y is x as the code widened it, page its page: what the crossing test gives
-pub cross-is : (p : Places) (t : List ℕ) (x v y page : ℕ) {r : ℕ} → y ≡ x → page ≡ pageOf (y - 1) → r ≡ other (ownerOf p t page) (regionOf p t v) → r ≡ crossOf p t x v
-cross-is p t x v y page q e h = h ∙ ap (λ (i : ℕ). other (ownerOf p t i) (regionOf p t v)) (e ∙ ap (λ (i : ℕ). pageOf (i - 1)) q)
+pub cross-is : (p : Places) (t : List ℕ) (x v b page : ℕ) {r : ℕ} → b ≡ x - 1 → page ≡ pageOf b → r ≡ other (ownerOf p t page) (regionOf p t v) → r ≡ crossOf p t x v
+cross-is p t x v b page q e h = h ∙ ap (λ (i : ℕ). other (ownerOf p t i) (regionOf p t v)) (e ∙ ap pageOf q)
 
 -- the slot, what it crossed into and what it will, as the code has them
 pub record Seen (p : Places) (c t : List ℕ) (x f v at was will : ℕ) : Type 0 where

@@ -19,11 +19,10 @@ pub fn field_question(kind: Kind, cells: &[u32], x: u32, f: usize) -> u32
     requires { ⌜ NamesCell x (length (now cells)) ⌝ }
     ensures { λ r. ⌜ r ≡ used x f (fieldCount kind (headOf (now (cells .entry)) (x - 1))) ⌝ }
 {
-    let y = layout::wide(x);
-    if y == 0 {
+    if x == 0 {
         return 9;
     }
-    let head = layout::cells::head(cells, y - 1);
+    let head = layout::cells::head(cells, layout::cells::cell_named(x));
     if f < layout::cells::field_count(kind, head) {
         return 0;
     }
@@ -35,7 +34,7 @@ fn field_number(kind: Kind, cells: &[u32], x: u32, f: usize) -> usize
     requires { ⌜ Field kind (now cells) x f ⌝ }
     ensures { λ r. ⌜ r ≡ firstField kind (headOf (now (cells .entry)) (x - 1)) + f ⌝ }
 {
-    let head = layout::cells::head(cells, layout::wide(x) - 1);
+    let head = layout::cells::head(cells, layout::cells::cell_named(x));
     layout::cells::first_field(kind, head) + f
 }
 
@@ -45,7 +44,7 @@ pub fn field_position(kind: Kind, cells: &[u32], x: u32, f: usize) -> usize
     ensures { λ r. ⌜ r ≡ kindAt kind (now (cells .entry)) (x - 1) f ⌝ }
 {
     let i = field_number(kind, cells, x, f);
-    layout::cells::field_at(layout::wide(x) - 1, i)
+    layout::cells::field_at(layout::cells::cell_named(x), i)
 }
 
 pub fn read_field(kind: Kind, cells: &[u32], x: u32, f: usize) -> u32
@@ -53,7 +52,7 @@ pub fn read_field(kind: Kind, cells: &[u32], x: u32, f: usize) -> u32
     ensures { λ r. ⌜ r ≡ getD (now (cells .entry)) (kindAt kind (now (cells .entry)) (x - 1) f) 0 ⌝ }
 {
     let i = field_number(kind, cells, x, f);
-    layout::cells::field(cells, layout::wide(x) - 1, i)
+    layout::cells::field(cells, layout::cells::cell_named(x), i)
 }
 
 pub fn write_field(kind: Kind, cells: &mut [u32], x: u32, f: usize, v: u32)
@@ -61,7 +60,7 @@ pub fn write_field(kind: Kind, cells: &mut [u32], x: u32, f: usize, v: u32)
     ensures { λ r. ⌜ now (cells .exit) ≡ set (now (cells .entry)) (kindAt kind (now (cells .entry)) (x - 1) f) v ⌝ }
 {
     let i = field_number(kind, cells, x, f);
-    layout::cells::set_field(cells, layout::wide(x) - 1, i, v);
+    layout::cells::set_field(cells, layout::cells::cell_named(x), i, v);
 }
 
 // Code 6: reference f of the object in variable b is loaded into variable a; value 1 for an object, 0 for null.

@@ -28,11 +28,11 @@ fn blank(cells: &mut [u32], cell: usize, references: usize, numbers: usize)
     ensures { λ r. ⌜ Blank (now (cells .entry)) cell (16 * references + numbers) (now (cells .exit)) ⌝ }
 {
     let mut f: usize = 0;
-    while f < 14 {
+    while f < layout::cells::FIELDS {
         layout::cells::set_field(cells, cell, f, 0);
         f += 1;
     }
-    layout::cells::set_head(cells, cell, (16 * references + numbers) as u32);
+    layout::cells::set_head(cells, cell, layout::cells::head_word(references, numbers));
     layout::cells::set_work(cells, cell, 0);
 }
 
@@ -62,7 +62,7 @@ pub fn new_object(
     }
     let cell = pages::take_cell(p, tables, page, region);
     blank(cells, cell, b, c);
-    write_var(p, tables, t, a, (cell + 1) as u32);
+    write_var(p, tables, t, a, layout::cells::ref_to(cell));
     Answer {
         number: 0,
         value: 0,

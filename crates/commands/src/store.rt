@@ -25,11 +25,10 @@ fn crosses(p: Places, tables: &[u32], page: usize, x: u32) -> u32
     requires { ⌜ page < p .pages ⌝ }
     ensures { λ r. ⌜ r ≡ other (ownerOf p (now (tables .entry)) page) (regionOf p (now (tables .entry)) x) ⌝ }
 {
-    let y = layout::wide(x);
-    if y == 0 {
+    if x == 0 {
         return 0;
     }
-    let to = layout::cells::page_of(y - 1);
+    let to = layout::cells::page_of(layout::cells::cell_named(x));
     if p.pages <= to {
         return 0;
     }
@@ -127,7 +126,7 @@ fn store_slot(
     requires { ⌜ Storing p (now cells) (now remember) (now tables) x f ⌝ }
     ensures { λ r. ⌜ Stored p (now (cells .entry)) (now (remember .entry)) (now (tables .entry)) x f v (now (cells .exit)) (now (remember .exit)) r ⌝ }
 {
-    let page = layout::cells::page_of(layout::wide(x) - 1);
+    let page = layout::cells::page_of(layout::cells::cell_named(x));
     let old = read_field(Kind::Reference, cells, x, f);
     let was = crosses(p, tables, page, old);
     let will = crosses(p, tables, page, v);

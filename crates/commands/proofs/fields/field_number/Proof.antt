@@ -5,11 +5,8 @@ use borrow.Author.Needs.{needs}
 use Rattle.commands.proofs.fields.field_number.Statement.{statement}
 use Rattle.commands.proofs.fields.field_number.Tie as tie
 
-wide-requires : tie.Need-wide-requires
-wide-requires c κs = search needs
-
-sub-head : tie.Need-sub-head
-sub-head c = search needs
+cell-named-requires : tie.Need-cell-named-requires
+cell-named-requires c κs = search needs
 
 head-requires : tie.Need-head-requires
 head-requires c κs = search needs
@@ -21,22 +18,22 @@ add-result : tie.Need-add-result
 add-result c =
     let pre = c .before .before .before .before .pre in
     let args = c .before .before .before .before .args in
-    let wide = c .before .before .wide in
+    let cell = c .before .before .cell-named in
     let head = c .before .head in
     let first-field = c .first-field in
     omega
-    (arith, pre .field, first-is (args .kind) (args .cells .now) (args .x) (wide .result) (head .result) (first-field .result) (wide .ensures) (head .ensures) (first-field .ensures))
+    (arith, pre .field, first-is (args .kind) (args .cells .now) (args .x) (cell .result) (head .result) (first-field .result) (cell .ensures) (head .ensures) (first-field .ensures))
 
 returns : tie.Need-returns
 returns c =
     let args = c .before .before .before .before .args in
-    let wide = c .before .before .wide in
+    let cell = c .before .before .cell-named in
     let head = c .before .head in
     let first-field = c .first-field in
     omega
-    (arith, first-is (args .kind) (args .cells .now) (args .x) (wide .result) (head .result) (first-field .result) (wide .ensures) (head .ensures) (first-field .ensures))
+    (arith, first-is (args .kind) (args .cells .now) (args .x) (cell .result) (head .result) (first-field .result) (cell .ensures) (head .ensures) (first-field .ensures))
 
 pub field-number-spec : {M : Type 1} → statement M
 field-number-spec =
     tie.close
-    (tie.spec wide-requires sub-head head-requires first-field-requires add-result returns)
+    (tie.spec cell-named-requires head-requires first-field-requires add-result returns)

@@ -10,11 +10,8 @@ use Rattle.commands.proofs.fields.read_field.Tie as tie
 field-number-requires : tie.Need-field-number-requires
 field-number-requires c κs = search needs
 
-wide-requires : tie.Need-wide-requires
-wide-requires c κs = search needs
-
-sub-field : tie.Need-sub-field
-sub-field c = search needs
+cell-named-requires : tie.Need-cell-named-requires
+cell-named-requires c κs = search needs
 
 field-requires : tie.Need-field-requires
 field-requires c κs = search needs
@@ -23,11 +20,11 @@ returns : tie.Need-returns
 returns c =
     let args = c .before .before .before .before .args in
     let field-number = c .before .before .field-number in
-    let wide = c .before .wide in
+    let cell = c .before .cell-named in
     let field = c .field in
     field .ensures ∙ ap (λ (i : ℕ). getD (args .cells .now) i 0)
-    (place-is (args .kind) (args .cells .now) (args .x) (args .f) (wide .result) (field-number .result) (wide .ensures) (field-number .ensures))
+    (place-is (args .kind) (args .cells .now) (args .x) (args .f) (cell .result) (field-number .result) (cell .ensures) (field-number .ensures))
 
 pub read-field-spec : {M : Type 1} → statement M
 read-field-spec =
-    tie.close (tie.spec field-number-requires wide-requires sub-field field-requires returns)
+    tie.close (tie.spec field-number-requires cell-named-requires field-requires returns)

@@ -10,11 +10,8 @@ use Rattle.commands.proofs.fields.write_field.Tie as tie
 field-number-requires : tie.Need-field-number-requires
 field-number-requires c κs = search needs
 
-wide-requires : tie.Need-wide-requires
-wide-requires c κs = search needs
-
-sub-set-field : tie.Need-sub-set-field
-sub-set-field c = search needs
+cell-named-requires : tie.Need-cell-named-requires
+cell-named-requires c κs = search needs
 
 set-field-requires : tie.Need-set-field-requires
 set-field-requires c κs = search needs
@@ -26,18 +23,17 @@ returns : tie.Need-returns
 returns c =
     let args = c .before .before .before .before .before .before .before .before .args in
     let field-number = c .before .before .before .before .before .field-number in
-    let wide = c .before .before .before .wide in
+    let cell = c .before .before .before .cell-named in
     let set-field = c .before .before .set-field in
     set-field .ensures ∙ ap (λ (i : ℕ). set (args .cells .now) i (args .v))
-    (place-is (args .kind) (args .cells .now) (args .x) (args .f) (wide .result) (field-number .result) (wide .ensures) (field-number .ensures))
+    (place-is (args .kind) (args .cells .now) (args .x) (args .f) (cell .result) (field-number .result) (cell .ensures) (field-number .ensures))
 
 pub write-field-spec : {M : Type 1} → statement M
 write-field-spec =
     tie.close
     (tie.spec
     field-number-requires
-    wide-requires
-    sub-set-field
+    cell-named-requires
     set-field-requires
     same-length
     returns)

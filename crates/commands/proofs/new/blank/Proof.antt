@@ -1,6 +1,9 @@
 -- Every word of the cell is written. Invariant: the first `f` fields are 0.
 use native.Mathlib.Omega.{arith}
-use Prim.Native.Nat.{_≤_, _*_, _+_, _-_}
+use Prim.Native.Nat.{ℕ, _≤_, _*_, _+_, _-_}
+use mathlib.Core.Path.{ap, _∙_}
+use lib.ListN.{set}
+use Rattle.layout.specs.Cells.{headAt}
 use Rattle.commands.specs.Blank.{Zeroed, zeroed-none, zeroed-more, blanked}
 use Rattle.commands.proofs.new.blank.Statement.{statement}
 use Rattle.commands.proofs.new.blank.Tie as tie
@@ -31,40 +34,34 @@ loop-again c =
     let set-field = c .before .before .set-field in
     (omega arith, zeroed-more (args .cells .now) (loop .cells) (args .cell) (pre .1) (loop .f) (omega arith) (loop .inv .1) (set-field .ensures))
 
-mul-set-head : tie.Need-mul-set-head Inv-loop μ-loop
-mul-set-head c = omega arith
-
-add-set-head : tie.Need-add-set-head Inv-loop μ-loop
-add-set-head c = omega arith
-
-cast-set-head : tie.Need-cast-set-head Inv-loop μ-loop
-cast-set-head c = omega arith
+head-word-requires : tie.Need-head-word-requires Inv-loop μ-loop
+head-word-requires c κs = omega arith
 
 set-head-requires : tie.Need-set-head-requires Inv-loop μ-loop
-set-head-requires c κs = omega (arith, c .before .before .loop .inv .1 .long)
+set-head-requires c κs = omega (arith, c .before .before .before .loop .inv .1 .long)
 
 set-work-requires : tie.Need-set-work-requires Inv-loop μ-loop
 set-work-requires c κs =
-    let loop = c .before .before .before .before .before .before .loop in
+    let loop = c .before .before .before .before .before .before .before .loop in
     let set-head = c .before .before .before .set-head in
     omega (arith, loop .inv .1 .long, set-head .kept .0)
 
 same-length : tie.Need-same-length Inv-loop μ-loop
 same-length c =
-    let loop = c .before .before .before .before .before .before .before .before .before .loop in
+    let loop = c .before .before .before .before .before .before .before .before .before .before .loop in
     let set-head = c .before .before .before .before .before .before .set-head in
     let set-work = c .before .before .set-work in
     omega (arith, set-work .kept .0, set-head .kept .0, loop .inv .1 .long)
 
 returns : tie.Need-returns Inv-loop μ-loop
 returns c =
-    let args = c .before .before .before .before .before .before .before .before .before .before .before .args in
-    let pre = c .before .before .before .before .before .before .before .before .before .before .before .pre in
-    let loop = c .before .before .before .before .before .before .before .before .before .loop in
+    let args = c .before .before .before .before .before .before .before .before .before .before .before .before .args in
+    let pre = c .before .before .before .before .before .before .before .before .before .before .before .before .pre in
+    let loop = c .before .before .before .before .before .before .before .before .before .before .loop in
     let set-head = c .before .before .before .before .before .before .set-head in
     let set-work = c .before .before .set-work in
     blanked (args .cells .now) (loop .cells) (args .cell) (pre .1) (loop .f) (16 * args .references + args .numbers) (omega arith) (loop .inv .1)
-    (set-head .ensures) (set-work .ensures)
+    (set-head .ensures ∙ ap (λ (x : ℕ). set (loop .cells) (headAt (args .cell)) x) (c .before .before .before .before .before .before .before .head-word .ensures)) (set-work .ensures)
 
 pub blank-spec : {M : Type 1} → statement M
 blank-spec =
@@ -77,9 +74,7 @@ blank-spec =
     add-f
     loop-less
     loop-again
-    mul-set-head
-    add-set-head
-    cast-set-head
+    head-word-requires
     set-head-requires
     set-work-requires
     same-length

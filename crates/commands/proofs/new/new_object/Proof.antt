@@ -1,8 +1,9 @@
 -- A page is found, its first unused cell taken and written, and the variable names it.
 use native.Mathlib.Omega.{arith}
-use Prim.Native.Nat.{_+_, _*_, _<_, _≤_}
-use lib.ListN.{length}
-use Rattle.commands.specs.Ready.{placed, placed-still}
+use Prim.Native.Nat.{ℕ, _+_, _*_, _<_, _≤_}
+use mathlib.Core.Path.{ap, _∙_}
+use lib.ListN.{length, set}
+use Rattle.commands.specs.Ready.{variableAt, placed, placed-still}
 use Rattle.commands.specs.Making.{region-real, can-take, cell-inside, new-refused, new-done}
 use borrow.Author.Needs.{needs}
 use Rattle.commands.proofs.new.new_object.Statement.{statement}
@@ -65,18 +66,15 @@ blank-requires c κs =
     let room = inside (c .before .before .before) in
     (room .0, room .1, c .before .before .before .before .before .before .before .before .before .before .before .before .before .before .pre .1 .2)
 
-add-write-var : tie.Need-add-write-var
-add-write-var c = omega (arith, inside (c .before .before .before .before .before .before .before) .0)
-
-cast-write-var : tie.Need-cast-write-var
-cast-write-var c = omega (arith, inside (c .before .before .before .before .before .before .before) .0)
+ref-to-requires : tie.Need-ref-to-requires
+ref-to-requires c κs = inside (c .before .before .before .before .before .before .before) .0
 
 write-var-requires : tie.Need-write-var-requires
 write-var-requires c κs =
-    let args = c .before .before .before .before .before .before .before .before .before .before .before .before .before .before .before .before .before .before .args in
-    let pre = c .before .before .before .before .before .before .before .before .before .before .before .before .before .before .before .before .before .before .pre in
-    let good = c .before .before .before .before .before .before .before .before .before .before .before .before .before .before .before .before .before .before .good in
-    let take-cell = c .before .before .before .before .before .before .before .take-cell in (
+    let args = c .before .before .before .before .before .before .before .before .before .before .before .before .before .before .before .before .before .before .before .args in
+    let pre = c .before .before .before .before .before .before .before .before .before .before .before .before .before .before .before .before .before .before .before .pre in
+    let good = c .before .before .before .before .before .before .before .before .before .before .before .before .before .before .before .before .before .before .before .good in
+    let take-cell = c .before .before .before .before .before .before .before .before .take-cell in (
       placed-still (args .p) (take-cell .kept .1 .0)
           (placed (args .p) (args .cells .now) (args .remember .now) (args .tables .now) (pre .0) (omega (arith, good .1 .1 .1 .0))),
       (pre .1 .0, pre .1 .1),
@@ -90,16 +88,16 @@ same-length-3 c = search needs
 
 returns-2 : tie.Need-returns-2
 returns-2 c =
-    let args = c .before .before .before .before .before .before .before .before .before .before .before .before .before .before .before .before .before .before .before .before .before .args in
-    let pre = c .before .before .before .before .before .before .before .before .before .before .before .before .before .before .before .before .before .before .before .before .before .pre in
-    let innermost = c .before .before .before .before .before .before .before .before .before .before .before .before .before .before .before .before .innermost in
-    let find-page = c .before .before .before .before .before .before .before .before .before .before .before .before .before .before .find-page in
-    let take-cell = c .before .before .before .before .before .before .before .before .before .before .take-cell in
-    let blank = c .before .before .before .before .before .before .blank in
+    let args = c .before .before .before .before .before .before .before .before .before .before .before .before .before .before .before .before .before .before .before .before .before .before .args in
+    let pre = c .before .before .before .before .before .before .before .before .before .before .before .before .before .before .before .before .before .before .before .before .before .before .pre in
+    let innermost = c .before .before .before .before .before .before .before .before .before .before .before .before .before .before .before .before .before .innermost in
+    let find-page = c .before .before .before .before .before .before .before .before .before .before .before .before .before .before .before .find-page in
+    let take-cell = c .before .before .before .before .before .before .before .before .before .before .before .take-cell in
+    let blank = c .before .before .before .before .before .before .before .blank in
     let write-var = c .before .before .write-var in
     new-done (args .p) (args .cells .now) (args .remember .now) (args .tables .now) (pre .0) (args .t) (pre .1 .0) (innermost .result)
     (innermost .ensures) (args .a) (args .b) (args .c) (pre .1 .1) (pre .1 .2) (find-page .result) (find-page .ensures) (omega arith)
-    (take-cell .result) (take-cell .ensures .0) (take-cell .last .1 .0) (take-cell .ensures .1) (blank .last .0) (blank .ensures) (write-var .ensures)
+    (take-cell .result) (take-cell .ensures .0) (take-cell .last .1 .0) (take-cell .ensures .1) (blank .last .0) (blank .ensures) (write-var .ensures ∙ ap (λ (x : ℕ). set (take-cell .last .1 .0) (variableAt (args .p) (args .t) (args .a)) x) (c .before .before .before .ref-to .ensures))
 
 pub new-object-spec : {M : Type 1} → statement M
 new-object-spec =
@@ -111,8 +109,7 @@ new-object-spec =
     returns
     take-cell-requires
     blank-requires
-    add-write-var
-    cast-write-var
+    ref-to-requires
     write-var-requires
     same-length-2
     same-length-3

@@ -6,11 +6,8 @@ use borrow.Author.Needs.{needs}
 use Rattle.commands.proofs.store.store_slot.Statement.{statement}
 use Rattle.commands.proofs.store.store_slot.Tie as tie
 
-wide-requires : tie.Need-wide-requires
-wide-requires c κs = search needs
-
-sub-page-of : tie.Need-sub-page-of
-sub-page-of c = search needs
+cell-named-requires : tie.Need-cell-named-requires
+cell-named-requires c κs = search needs
 
 page-of-requires : tie.Need-page-of-requires
 page-of-requires c κs = search needs
@@ -31,13 +28,13 @@ seen : (c : tie.After-field-position) → (let a = c .before .before .before .be
     Seen (a .p) (a .cells .now) (a .tables .now) (a .x) (a .f) (a .v) (c .field-position .result) (c .before .before .before .crosses .result) (c .before .before .crosses2 .result))
 seen c =
     let a = c .before .before .before .before .before .before .before .before .before .before .before .args in
-    let wide = c .before .before .before .before .before .before .before .wide in
+    let cell = c .before .before .before .before .before .before .before .cell-named in
     let page = c .before .before .before .before .before .before .page-of in
     let old = c .before .before .before .before .read-field in
     record {
       slot = c .field-position .ensures;
-      before = cross-is (a .p) (a .tables .now) (a .x) (old .result) (wide .result) (page .result) (wide .ensures) (page .ensures) (c .before .before .before .crosses .ensures) ∙ ap (crossOf (a .p) (a .tables .now) (a .x)) (old .ensures);
-      after = cross-is (a .p) (a .tables .now) (a .x) (a .v) (wide .result) (page .result) (wide .ensures) (page .ensures) (c .before .before .crosses2 .ensures);
+      before = cross-is (a .p) (a .tables .now) (a .x) (old .result) (cell .result) (page .result) (cell .ensures) (page .ensures) (c .before .before .before .crosses .ensures) ∙ ap (crossOf (a .p) (a .tables .now) (a .x)) (old .ensures);
+      after = cross-is (a .p) (a .tables .now) (a .x) (a .v) (cell .result) (page .result) (cell .ensures) (page .ensures) (c .before .before .crosses2 .ensures);
     }
 
 remember-slot-requires : tie.Need-remember-slot-requires
@@ -89,8 +86,7 @@ pub store-slot-spec : {M : Type 1} → statement M
 store-slot-spec =
     tie.close
     (tie.spec
-    wide-requires
-    sub-page-of
+    cell-named-requires
     page-of-requires
     read-field-requires
     crosses-requires
