@@ -60,28 +60,28 @@ module _ (p : Places) (W T : List ℕ) (r : ℕ) where
   unfolding crossAfter
   cross-null «from» x z = sym (ap (λ (b : Bool). cond b 0 (crossOne «from» (homeAfter p W T r (x - 1)))) (eq-eqb x 0 z))
 
-  -- y is the reference as a word of the code
-  cross-some : («from» x y h : ℕ) → (x ≡ 0 → ⊥) → y ≡ x → h ≡ homeAfter p W T r (y - 1) → crossAfter p W T r «from» x ≡ crossOne «from» h
+  -- c is the cell that x names
+  cross-some : («from» x c h : ℕ) → (x ≡ 0 → ⊥) → c ≡ x - 1 → h ≡ homeAfter p W T r c → crossAfter p W T r «from» x ≡ crossOne «from» h
   unfolding crossAfter
-  cross-some «from» x y h n ey e =
+  cross-some «from» x c h n ec e =
       ap (λ (b : Bool). cond b 0 (crossOne «from» (homeAfter p W T r (x - 1)))) (ne-eqb x 0 n)
-      ∙ ap (crossOne «from») (ap (λ (z : ℕ). homeAfter p W T r (z - 1)) (sym ey) ∙ sym e)
+      ∙ ap (crossOne «from») (ap (homeAfter p W T r) (sym ec) ∙ sym e)
 
-  pub cross-inside : («from» x y h : ℕ) → (x ≡ 0 → ⊥) → y ≡ x → h ≡ homeAfter p W T r (y - 1) → h ≡ «from» → 0 ≡ crossAfter p W T r «from» x
-  cross-inside «from» x y h n ey e d =
-      sym (cross-some «from» x y h n ey e ∙ ap (λ (b : Bool). cond (not b && not (eqb h 1)) 1 0) (eq-eqb «from» h (sym d)))
+  pub cross-inside : («from» x c h : ℕ) → (x ≡ 0 → ⊥) → c ≡ x - 1 → h ≡ homeAfter p W T r c → h ≡ «from» → 0 ≡ crossAfter p W T r «from» x
+  cross-inside «from» x c h n ec e d =
+      sym (cross-some «from» x c h n ec e ∙ ap (λ (b : Bool). cond (not b && not (eqb h 1)) 1 0) (eq-eqb «from» h (sym d)))
 
-  pub cross-control : («from» x y h : ℕ) → (x ≡ 0 → ⊥) → y ≡ x → h ≡ homeAfter p W T r (y - 1) → (h ≡ «from» → ⊥) → h ≡ 1 → 0 ≡ crossAfter p W T r «from» x
-  cross-control «from» x y h n ey e d c =
+  pub cross-control : («from» x c h : ℕ) → (x ≡ 0 → ⊥) → c ≡ x - 1 → h ≡ homeAfter p W T r c → (h ≡ «from» → ⊥) → h ≡ 1 → 0 ≡ crossAfter p W T r «from» x
+  cross-control «from» x c h n ec e d o =
       sym
-      (cross-some «from» x y h n ey e
-      ∙ ap₂ (λ (a b : Bool). cond (not a && not b) 1 0) (ne-eqb «from» h (λ z. d (sym z))) (eq-eqb h 1 c))
+      (cross-some «from» x c h n ec e
+      ∙ ap₂ (λ (a b : Bool). cond (not a && not b) 1 0) (ne-eqb «from» h (λ z. d (sym z))) (eq-eqb h 1 o))
 
-  pub cross-out : («from» x y h : ℕ) → (x ≡ 0 → ⊥) → y ≡ x → h ≡ homeAfter p W T r (y - 1) → (h ≡ «from» → ⊥) → (h ≡ 1 → ⊥) → 1 ≡ crossAfter p W T r «from» x
-  cross-out «from» x y h n ey e d c =
+  pub cross-out : («from» x c h : ℕ) → (x ≡ 0 → ⊥) → c ≡ x - 1 → h ≡ homeAfter p W T r c → (h ≡ «from» → ⊥) → (h ≡ 1 → ⊥) → 1 ≡ crossAfter p W T r «from» x
+  cross-out «from» x c h n ec e d o =
       sym
-      (cross-some «from» x y h n ey e
-      ∙ ap₂ (λ (a b : Bool). cond (not a && not b) 1 0) (ne-eqb «from» h (λ z. d (sym z))) (ne-eqb h 1 c))
+      (cross-some «from» x c h n ec e
+      ∙ ap₂ (λ (a b : Bool). cond (not a && not b) 1 0) (ne-eqb «from» h (λ z. d (sym z))) (ne-eqb h 1 o))
 
   cond-le : (b : Bool) (x : ℕ) → x ≤ 1 → cond b 0 x ≤ 1
   cond-le true x l = omega arith
@@ -100,17 +100,17 @@ module _ (p : Places) (W T : List ℕ) (r : ℕ) where
   slot-le q = cond-le (eqb (owner p T (cellOf q)) r) _ (cross-le (owner p T (cellOf q)) (getD W q 0))
 
   -- the slot at q, as the code came to it
-  pub slot-in : (q a page o : ℕ) → a ≡ cellOf q → page ≡ pageOf a → o ≡ ownerOf p T page → o ≡ r → 0 ≡ slotCrosses p W T r q
+  pub slot-in : (q page o : ℕ) → page ≡ pageOf (cellOf q) → o ≡ ownerOf p T page → o ≡ r → 0 ≡ slotCrosses p W T r q
   unfolding slotCrosses
-  slot-in q a page o ea ep eo n =
-      let f : o ≡ owner p T (cellOf q) = eo ∙ ap (λ (z : ℕ). ownerOf p T z) (ep ∙ ap pageOf ea) in
+  slot-in q page o ep eo n =
+      let f : o ≡ owner p T (cellOf q) = eo ∙ ap (λ (z : ℕ). ownerOf p T z) ep in
       sym (ap (λ (b : Bool). cond b 0 (crossAfter p W T r (owner p T (cellOf q)) (getD W q 0))) (eq-eqb (owner p T (cellOf q)) r (sym f ∙ n)))
 
-  pub slot-out : (q a page o v x : ℕ) → a ≡ cellOf q → page ≡ pageOf a → o ≡ ownerOf p T page → (o ≡ r → ⊥) → v ≡ getD W q 0 → x ≡ crossAfter p W T r o v
+  pub slot-out : (q page o v x : ℕ) → page ≡ pageOf (cellOf q) → o ≡ ownerOf p T page → (o ≡ r → ⊥) → v ≡ getD W q 0 → x ≡ crossAfter p W T r o v
       → x ≡ slotCrosses p W T r q
   unfolding slotCrosses
-  slot-out q a page o v x ea ep eo n ev ex =
-      let f : o ≡ owner p T (cellOf q) = eo ∙ ap (λ (z : ℕ). ownerOf p T z) (ep ∙ ap pageOf ea) in
+  slot-out q page o v x ep eo n ev ex =
+      let f : o ≡ owner p T (cellOf q) = eo ∙ ap (λ (z : ℕ). ownerOf p T z) ep in
       ex ∙ ap₂ (crossAfter p W T r) f ev
       ∙ sym (ap (λ (b : Bool). cond b 0 (crossAfter p W T r (owner p T (cellOf q)) (getD W q 0))) (ne-eqb (owner p T (cellOf q)) r (λ z. n (f ∙ z))))
 

@@ -14,11 +14,12 @@ ghost use Rattle.census.specs.Counted.{onPage, overMarked};
 ghost use Rattle.census.specs.After.{homeAfter, crossAfter, cellCrosses, slotCrosses, entriesCross, crossingAfter};
 use layout::Kind;
 use layout::Places;
-use layout::cells::cell_of;
+use layout::cells::cell_named;
 use layout::cells::cell_on;
 use layout::cells::field;
 use layout::cells::field_count;
 use layout::cells::head;
+use layout::cells::page_at;
 use layout::cells::page_of;
 use layout::cells::work;
 use layout::remember::slot;
@@ -51,7 +52,7 @@ pub fn crosses(p: Places, cells: &[u32], tables: &[u32], r: u32, home: u32, x: u
     if x == 0 {
         return 0;
     }
-    let h = home_after(p, cells, tables, r, wide(x) - 1);
+    let h = home_after(p, cells, tables, r, cell_named(x));
     if h == home {
         return 0;
     }
@@ -133,7 +134,7 @@ pub fn cross_entry(
     ensures { λ n. ⌜ n ≡ slotCrosses p (now (cells .entry)) (now (tables .entry)) r (slotIn (now (remember .entry)) i) ⌝ }
 {
     let at = wide(slot(p.entries, remember, i));
-    let home = owner(p, tables, page_of(cell_of(at)));
+    let home = owner(p, tables, page_at(at));
     if home == r {
         return 0;
     }

@@ -148,41 +148,41 @@ drained {p} {r} {g} {W₀} {T₀} {S₀} {W} {T} {top} {n} z h =
     all c (held i own off) = new c (h .all-held c i own) off
     all c (via {b = b} q f lt e own off) = new c (h .closed b f c (all b q) lt e own) off
 
--- what a turn of the drain needs of numbers, and hands to the scan; x is the top as the code read it
-pub record Facts (p : Places) (x len n : ℕ) : Type 0 where
-  pub page : pageOf (x - 1) < p .pages
+-- what a turn of the drain needs of numbers, and hands to the scan; b is the cell on top as the code has it
+pub record Facts (p : Places) (b len n : ℕ) : Type 0 where
+  pub page : pageOf b < p .pages
   pub few : p .pages ≤ 1024
   pub long : 256 * p .pages ≤ len
   pub counted : n ≤ 16 * p .pages
 
-module _ {p : Places} {r g : ℕ} {W₀ T₀ S₀ W T : List ℕ} {top n : ℕ} (h : Draining p r g W₀ T₀ S₀ W T top n) (ne : top ≢ 0) (x : ℕ) (e : x ≡ top) where
-  pub turn-facts : Facts p x (length W) n
+module _ {p : Places} {r g : ℕ} {W₀ T₀ S₀ W T : List ℕ} {top n : ℕ} (h : Draining p r g W₀ T₀ S₀ W T top n) (ne : top ≢ 0) (b : ℕ) (e : b ≡ top - 1) where
+  pub turn-facts : Facts p b (length W) n
   turn-facts =
       let s = h .marking .shaped in
       record {
-        page = subst (λ (y : ℕ). pageOf (y - 1) < p .pages) (sym e) (popped-top (h .stack) ne (h .marking) .0 .page);
+        page = subst (λ (y : ℕ). pageOf y < p .pages) (sym e) (popped-top (h .stack) ne (h .marking) .0 .page);
         few = s .room .few;
         long = s .cells-long;
         counted = draining-few h;
       }
 
   -- X is the cells after the pop, y the link that was read
-  pub turn-asks : (X : List ℕ) → X ≡ set W (workAt (x - 1)) g → Shaped p X T × InUse p T (x - 1)
+  pub turn-asks : (X : List ℕ) → X ≡ set W (workAt b) g → Shaped p X T × InUse p T b
   turn-asks X a =
-      subst (λ (Y : List ℕ). Shaped p Y T × InUse p T (x - 1)) (sym a)
-      (subst (λ (y : ℕ). Shaped p (set W (workAt (y - 1)) g) T × InUse p T (y - 1)) (sym e)
+      subst (λ (Y : List ℕ). Shaped p Y T × InUse p T b) (sym a)
+      (subst (λ (y : ℕ). Shaped p (set W (workAt y) g) T × InUse p T y) (sym e)
       (let q = popped-top (h .stack) ne (h .marking) in (q .2 .shaped, q .0)))
 
-  pub turn-read : (X : List ℕ) (y : ℕ) → X ≡ set W (workAt (x - 1)) g → y ≡ workOf W (x - 1) → {W′ T′ : List ℕ} {top′ : ℕ}
-      → Pushing p r (fieldOf X (x - 1)) (refCount X (x - 1)) X T y W′ T′ top′ (refCount X (x - 1)) → Draining p r g W₀ T₀ S₀ W′ T′ top′ (n + 1)
-  turn-read X y a b {W′} {T′} {top′} s =
+  pub turn-read : (X : List ℕ) (y : ℕ) → X ≡ set W (workAt b) g → y ≡ workOf W b → {W′ T′ : List ℕ} {top′ : ℕ}
+      → Pushing p r (fieldOf X b) (refCount X b) X T y W′ T′ top′ (refCount X b) → Draining p r g W₀ T₀ S₀ W′ T′ top′ (n + 1)
+  turn-read X y a d {W′} {T′} {top′} s =
       draining-turn h ne
       (subst
       (λ (z : ℕ).
-      let X : List ℕ = set W (workAt (z - 1)) g in
-      Pushing p r (fieldOf X (z - 1)) (refCount X (z - 1)) X T (workOf W (z - 1)) W′ T′ top′ (refCount X (z - 1)))
+      let X : List ℕ = set W (workAt z) g in
+      Pushing p r (fieldOf X z) (refCount X z) X T (workOf W z) W′ T′ top′ (refCount X z))
       e
-      (subst₂ (λ (Y : List ℕ) (z : ℕ). Pushing p r (fieldOf Y (x - 1)) (refCount Y (x - 1)) Y T z W′ T′ top′ (refCount Y (x - 1))) a b s))
+      (subst₂ (λ (Y : List ℕ) (z : ℕ). Pushing p r (fieldOf Y b) (refCount Y b) Y T z W′ T′ top′ (refCount Y b)) a d s))
 
 pub draining-kept : {p : Places} {r g : ℕ} {W₀ T₀ S₀ W T : List ℕ} {top n : ℕ} → Draining p r g W₀ T₀ S₀ W T top n → Kept p W₀ T₀ W T
 draining-kept h = h .marking .kept

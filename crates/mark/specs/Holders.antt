@@ -116,11 +116,10 @@ module _ (p : Places) (W m T : List ℕ) (r g i : ℕ) where
       (ap₂ (λ (b d : Bool). cond b (cond d (getD W (slotIn m i) 0) 0) 0) (eq-eqb (slotRegionIn (p .entries) m i) r a) (eq-eqb (slotCalls p m T r i) g n))
 
   -- the region that the slot of entry i calls for, as the code came to it
-  pub slot-call : (a b at page q u : ℕ) → a ≡ slotIn m i → at ≡ a → b ≡ cellOf at → page ≡ pageOf b → q ≡ ownerOf p T page → u ≡ join (sizesOf p) r q
+  pub slot-call : (a at page q u : ℕ) → a ≡ slotIn m i → at ≡ a → page ≡ pageOf (cellOf at) → q ≡ ownerOf p T page → u ≡ join (sizesOf p) r q
       → u ≡ slotCalls p m T r i
-  slot-call a b at page q u ea eat eb ep eq eu =
-      let cell : b ≡ cellOf (slotIn m i) = eb ∙ ap cellOf (eat ∙ ea) in
-      eu ∙ ap (join (sizesOf p) r) (eq ∙ ap (λ (z : ℕ). ownerOf p T z) (ep ∙ ap pageOf cell))
+  slot-call a at page q u ea eat ep eq eu =
+      eu ∙ ap (join (sizesOf p) r) (eq ∙ ap (λ (z : ℕ). ownerOf p T z) (ep ∙ ap (λ (z : ℕ). pageOf (cellOf z)) (eat ∙ ea)))
 
 -- ---- a marking changes none of it
 

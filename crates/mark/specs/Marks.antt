@@ -196,15 +196,15 @@ module _ (p : Places) (T : List ℕ) (c : ℕ) (long : markAt p (pageOf c) < len
 pub push-null : {p : Places} {r : ℕ} {W T : List ℕ} {top x : ℕ} → x ≡ 0 → Pushed p r W T top x W T top
 push-null z = inl (record { cells = refl; tables = refl; stack = refl; why = λ l. absurd (let y : ⊥ = omega arith in y) })
 
-pub push-foreign : {p : Places} {r : ℕ} {W T : List ℕ} {top x : ℕ} (y page : ℕ) → y ≡ x → page ≡ pageOf (y - 1) → (ownerOf p T page ≡ r → ⊥) → Pushed p r W T top x W T top
-push-foreign {p} {T} y page ey ep n =
-    inl (record { cells = refl; tables = refl; stack = refl; why = λ l e. absurd (n (ap (λ (z : ℕ). ownerOf p T z) (ep ∙ ap (λ (z : ℕ). pageOf (z - 1)) ey) ∙ e)) })
+pub push-foreign : {p : Places} {r : ℕ} {W T : List ℕ} {top x : ℕ} (b page : ℕ) → b ≡ x - 1 → page ≡ pageOf b → (ownerOf p T page ≡ r → ⊥) → Pushed p r W T top x W T top
+push-foreign {p} {T} b page eb ep n =
+    inl (record { cells = refl; tables = refl; stack = refl; why = λ l e. absurd (n (ap (λ (z : ℕ). ownerOf p T z) (ep ∙ ap pageOf eb) ∙ e)) })
 
-pub push-marked : {p : Places} {r : ℕ} {W T : List ℕ} {top x : ℕ} (y page i w : ℕ) → y ≡ x → page ≡ pageOf (y - 1) → i ≡ placeOf (y - 1) → w ≡ markOf p T page → bitAt w i ≡ 1
+pub push-marked : {p : Places} {r : ℕ} {W T : List ℕ} {top x : ℕ} (b page i w : ℕ) → b ≡ x - 1 → page ≡ pageOf b → i ≡ placeOf b → w ≡ markOf p T page → bitAt w i ≡ 1
     → Pushed p r W T top x W T top
-push-marked {p} {T} {x} y page i w ey ep ei ew on =
-    let pg : page ≡ pageOf (x - 1) = ep ∙ ap (λ (z : ℕ). pageOf (z - 1)) ey in
-    let pl : i ≡ placeOf (x - 1) = ei ∙ ap (λ (z : ℕ). placeOf (z - 1)) ey in
+push-marked {p} {T} {x} b page i w eb ep ei ew on =
+    let pg : page ≡ pageOf (x - 1) = ep ∙ ap pageOf eb in
+    let pl : i ≡ placeOf (x - 1) = ei ∙ ap placeOf eb in
     inl
     (record {
       cells = refl;
@@ -214,21 +214,21 @@ push-marked {p} {T} {x} y page i w ey ep ei ew on =
           ap (λ (z : ℕ). bitAt (markOf p T z) (placeOf (x - 1))) (sym pg) ∙ ap (λ (z : ℕ). bitAt z (placeOf (x - 1))) (sym ew) ∙ ap (bitAt w) (sym pl) ∙ on;
     })
 
-pub push-links : {p : Places} {r : ℕ} {W T : List ℕ} {top x : ℕ} {W′ T′ : List ℕ} {top′ : ℕ} (y page i w w′ : ℕ) → 0 < x → y ≡ x → page ≡ pageOf (y - 1) → i ≡ placeOf (y - 1) → w ≡ markOf p T page → ownerOf p T page ≡ r
-    → bitAt w i ≡ 0 → w′ ≡ w + 2 ^ i → W′ ≡ set W (workAt (y - 1)) top → T′ ≡ set T (markAt p page) w′ → top′ ≡ x
+pub push-links : {p : Places} {r : ℕ} {W T : List ℕ} {top x : ℕ} {W′ T′ : List ℕ} {top′ : ℕ} (b page i w w′ : ℕ) → 0 < x → b ≡ x - 1 → page ≡ pageOf b → i ≡ placeOf b → w ≡ markOf p T page → ownerOf p T page ≡ r
+    → bitAt w i ≡ 0 → w′ ≡ w + 2 ^ i → W′ ≡ set W (workAt b) top → T′ ≡ set T (markAt p page) w′ → top′ ≡ x
     → Pushed p r W T top x W′ T′ top′
-push-links {p} {r} {W} {T} {top} {x} y page i w w′ pos ey ep ei ew own off ew′ a b e =
-    let pg : page ≡ pageOf (x - 1) = ep ∙ ap (λ (z : ℕ). pageOf (z - 1)) ey in
-    let pl : i ≡ placeOf (x - 1) = ei ∙ ap (λ (z : ℕ). placeOf (z - 1)) ey in
+push-links {p} {r} {W} {T} {top} {x} b page i w w′ pos eb ep ei ew own off ew′ cs ts e =
+    let pg : page ≡ pageOf (x - 1) = ep ∙ ap pageOf eb in
+    let pl : i ≡ placeOf (x - 1) = ei ∙ ap placeOf eb in
     let wd : w ≡ markOf p T (pageOf (x - 1)) = ew ∙ ap (λ (z : ℕ). markOf p T z) pg in
     inr
     (record {
       some = pos;
       owned = ap (λ (z : ℕ). ownerOf p T z) (sym pg) ∙ own;
       off = ap (λ (z : ℕ). bitAt z (placeOf (x - 1))) (sym wd) ∙ ap (bitAt w) (sym pl) ∙ off;
-      cells = a ∙ ap (λ (z : ℕ). set W (workAt (z - 1)) top) ey;
+      cells = cs ∙ ap (λ (z : ℕ). set W (workAt z) top) eb;
       tables =
-          b ∙ ap (λ (z : ℕ). set T (markAt p z) w′) pg
+          ts ∙ ap (λ (z : ℕ). set T (markAt p z) w′) pg
           ∙ ap (set T (markAt p (pageOf (x - 1)))) (ew′ ∙ ap (λ (z : ℕ). z + 2 ^ i) wd ∙ ap (λ (z : ℕ). markOf p T (pageOf (x - 1)) + 2 ^ z) pl);
       stack = e;
     })

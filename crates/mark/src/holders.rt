@@ -10,14 +10,15 @@ ghost use Rattle.mark.specs.Pushes.{Pushing};
 ghost use Rattle.mark.specs.Holders.{varCalls, varHeld, slotHeld, Holding};
 use crate::push::push;
 use layout::Places;
-use layout::cells::cell_of;
-use layout::cells::page_of;
+use layout::cells::page_at;
 use layout::regions::join;
 use layout::remember::region;
 use layout::remember::slot;
 use layout::remember::used;
 use layout::tables::owner;
 use layout::tables::var;
+use layout::tables::var_count;
+use layout::tables::var_thread;
 use layout::wide;
 
 // The region that variable i calls for: outer if it is the ending thread's, else the control space.
@@ -25,7 +26,7 @@ pub fn variable_calls(p: Places, thread: usize, outer: u32, i: usize) -> u32
     requires { ⌜ 1 ≤ p .variables ⌝ }
     ensures { λ q. ⌜ q ≡ varCalls p thread outer i ⌝ }
 {
-    if i / p.variables != thread {
+    if var_thread(p, i) != thread {
         return 1;
     }
     outer
@@ -62,7 +63,7 @@ pub fn slot_for(
         return 0;
     }
     let at = wide(slot(p.entries, remember, i));
-    if join(p, r, owner(p, tables, page_of(cell_of(at)))) != g {
+    if join(p, r, owner(p, tables, page_at(at))) != g {
         return 0;
     }
     cells[at]
@@ -83,7 +84,7 @@ pub fn push_variables(
     requires { ⌜ ((m : List ℕ) × Holding p (now cells) m (now tables)) ⌝ }
     ensures { λ t. ⌜ Pushing p r (varHeld p (now (tables .entry)) thread outer g) (p .threads * p .variables) (now (cells .entry)) (now (tables .entry)) top (now (cells .exit)) (now (tables .exit)) t (p .threads * p .variables) ⌝ }
 {
-    let n = p.threads * p.variables;
+    let n = var_count(p);
     let mut t = top;
     let mut i: usize = 0;
     while i < n {

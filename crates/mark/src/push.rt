@@ -9,6 +9,7 @@ use crate::bits::bit_at;
 use crate::bits::with_bit;
 use layout::Kind;
 use layout::Places;
+use layout::cells::cell_named;
 use layout::cells::field;
 use layout::cells::field_count;
 use layout::cells::head;
@@ -18,7 +19,6 @@ use layout::cells::set_work;
 use layout::tables::mark;
 use layout::tables::owner;
 use layout::tables::set_mark;
-use layout::wide;
 
 // If reference x names an object of r that is not marked, it is marked and goes on the stack, whose new top is returned.
 pub fn push(p: Places, cells: &mut [u32], tables: &mut [u32], r: u32, x: u32, top: u32) -> u32
@@ -29,7 +29,7 @@ pub fn push(p: Places, cells: &mut [u32], tables: &mut [u32], r: u32, x: u32, to
     if x == 0 {
         return top;
     }
-    let c = wide(x) - 1;
+    let c = cell_named(x);
     let page = page_of(c);
     if owner(p, tables, page) != r {
         return top;

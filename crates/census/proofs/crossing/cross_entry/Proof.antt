@@ -5,7 +5,7 @@ use native.Mathlib.Omega.{arith}
 use borrow.Author.Needs.{needs}
 use lib.ListN.{getD}
 use Rattle.layout.specs.Places.{slotIn}
-use Rattle.layout.specs.Cells.{cellOf}
+use Rattle.layout.specs.Cells.{pageOf, cellOf}
 use Rattle.promises.specs.Whole.{IsRef}
 use Rattle.census.specs.After.{slot-in, slot-out}
 use Rattle.census.proofs.crossing.cross_entry.Statement.{statement}
@@ -18,34 +18,31 @@ slot-requires c κs =
 wide-requires : tie.Need-wide-requires
 wide-requires c κs = search needs
 
-cell-of-requires : tie.Need-cell-of-requires
-cell-of-requires c κs = search needs
-
-page-of-requires : tie.Need-page-of-requires
-page-of-requires c κs = search needs
+page-at-requires : tie.Need-page-at-requires
+page-at-requires c κs = search needs
 
 owner-requires : tie.Need-owner-requires
 owner-requires c κs =
-    (c .before .before .before .before .before .before .before .pre .0 .room, omega (arith, c .page-of .ensures, c .before .cell-of .ensures, (c .before .before .wide .ensures ∙ c .before .before .before .slot .ensures), c .before .before .before .before .before .before .before .pre .1 .0 .slot (c .before .before .before .before .before .before .before .args .i) (c .before .before .before .before .before .before .before .pre .1 .1)))
+    (c .before .before .before .before .before .before .pre .0 .room, omega (arith, c .page-at .ensures, c .before .wide .ensures ∙ c .before .before .slot .ensures, c .before .before .before .before .before .before .pre .1 .0 .slot (c .before .before .before .before .before .before .args .i) (c .before .before .before .before .before .before .pre .1 .1)))
 
 returns : tie.Need-returns
 returns c =
-    slot-in (c .before .before .before .before .before .before .before .before .before .args .p) (c .before .before .before .before .before .before .before .before .before .args .cells .now) (c .before .before .before .before .before .before .before .before .before .args .tables .now) (c .before .before .before .before .before .before .before .before .before .args .r) (slotIn (c .before .before .before .before .before .before .before .before .before .args .remember .now) (c .before .before .before .before .before .before .before .before .before .args .i)) _ _ _ (c .before .before .before .cell-of .ensures ∙ ap cellOf (c .before .before .before .before .wide .ensures ∙ c .before .before .before .before .before .slot .ensures)) (c .before .before .page-of .ensures) (c .before .owner .ensures) (c .if1 .taken)
+    slot-in (c .before .before .before .before .before .before .before .before .args .p) (c .before .before .before .before .before .before .before .before .args .cells .now) (c .before .before .before .before .before .before .before .before .args .tables .now) (c .before .before .before .before .before .before .before .before .args .r) (slotIn (c .before .before .before .before .before .before .before .before .args .remember .now) (c .before .before .before .before .before .before .before .before .args .i)) _ _ (c .before .before .page-at .ensures ∙ ap (λ (z : ℕ). pageOf (cellOf z)) (c .before .before .before .wide .ensures ∙ c .before .before .before .before .slot .ensures)) (c .before .owner .ensures) (c .if1 .taken)
 
 mul-crosses : tie.Need-mul-crosses
 mul-crosses c = search needs
 
 shared-slice-read-crosses : tie.Need-shared-slice-read-crosses
 shared-slice-read-crosses c =
-    omega (arith, (c .before .before .before .before .before .wide .ensures ∙ c .before .before .before .before .before .before .slot .ensures), c .before .before .before .before .before .before .before .before .before .before .pre .1 .0 .slot (c .before .before .before .before .before .before .before .before .before .before .args .i) (c .before .before .before .before .before .before .before .before .before .before .pre .1 .1), c .before .before .before .before .before .before .before .before .before .before .pre .0 .cells-long)
+    omega (arith, (c .before .before .before .before .wide .ensures ∙ c .before .before .before .before .before .slot .ensures), c .before .before .before .before .before .before .before .before .before .pre .1 .0 .slot (c .before .before .before .before .before .before .before .before .before .args .i) (c .before .before .before .before .before .before .before .before .before .pre .1 .1), c .before .before .before .before .before .before .before .before .before .pre .0 .cells-long)
 
 crosses-requires : tie.Need-crosses-requires
 crosses-requires c κs =
-    (c .before .before .before .before .before .before .before .before .before .before .pre .0 .room, (c .before .before .before .before .before .before .before .before .before .before .pre .0 .cells-long, subst (λ (z : ℕ). IsRef (c .before .before .before .before .before .before .before .before .before .before .args .p) (c .before .before .before .before .before .before .before .before .before .before .args .tables .now) (getD (c .before .before .before .before .before .before .before .before .before .before .args .cells .now) z 0)) (sym (c .before .before .before .before .before .wide .ensures ∙ c .before .before .before .before .before .before .slot .ensures)) (c .before .before .before .before .before .before .before .before .before .before .pre .1 .0 .slots (c .before .before .before .before .before .before .before .before .before .before .args .i) (c .before .before .before .before .before .before .before .before .before .before .pre .1 .1))))
+    (c .before .before .before .before .before .before .before .before .before .pre .0 .room, (c .before .before .before .before .before .before .before .before .before .pre .0 .cells-long, subst (λ (z : ℕ). IsRef (c .before .before .before .before .before .before .before .before .before .args .p) (c .before .before .before .before .before .before .before .before .before .args .tables .now) (getD (c .before .before .before .before .before .before .before .before .before .args .cells .now) z 0)) (sym (c .before .before .before .before .wide .ensures ∙ c .before .before .before .before .before .slot .ensures)) (c .before .before .before .before .before .before .before .before .before .pre .1 .0 .slots (c .before .before .before .before .before .before .before .before .before .args .i) (c .before .before .before .before .before .before .before .before .before .pre .1 .1))))
 
 returns-2 : tie.Need-returns-2
 returns-2 c =
-    slot-out (c .before .before .before .before .before .before .before .before .before .before .before .args .p) (c .before .before .before .before .before .before .before .before .before .before .before .args .cells .now) (c .before .before .before .before .before .before .before .before .before .before .before .args .tables .now) (c .before .before .before .before .before .before .before .before .before .before .before .args .r) (slotIn (c .before .before .before .before .before .before .before .before .before .before .before .args .remember .now) (c .before .before .before .before .before .before .before .before .before .before .before .args .i)) _ _ _ _ _ (c .before .before .before .before .before .cell-of .ensures ∙ ap cellOf (c .before .before .before .before .before .before .wide .ensures ∙ c .before .before .before .before .before .before .before .slot .ensures)) (c .before .before .before .before .page-of .ensures) (c .before .before .before .owner .ensures) (c .before .before .if1 .left) (ap (λ (z : ℕ). getD (c .before .before .before .before .before .before .before .before .before .before .before .args .cells .now) z 0) (c .before .before .before .before .before .before .wide .ensures ∙ c .before .before .before .before .before .before .before .slot .ensures)) (c .crosses .ensures)
+    slot-out (c .before .before .before .before .before .before .before .before .before .before .args .p) (c .before .before .before .before .before .before .before .before .before .before .args .cells .now) (c .before .before .before .before .before .before .before .before .before .before .args .tables .now) (c .before .before .before .before .before .before .before .before .before .before .args .r) (slotIn (c .before .before .before .before .before .before .before .before .before .before .args .remember .now) (c .before .before .before .before .before .before .before .before .before .before .args .i)) _ _ _ _ (c .before .before .before .before .page-at .ensures ∙ ap (λ (z : ℕ). pageOf (cellOf z)) (c .before .before .before .before .before .wide .ensures ∙ c .before .before .before .before .before .before .slot .ensures)) (c .before .before .before .owner .ensures) (c .before .before .if1 .left) (ap (λ (z : ℕ). getD (c .before .before .before .before .before .before .before .before .before .before .args .cells .now) z 0) (c .before .before .before .before .before .wide .ensures ∙ c .before .before .before .before .before .before .slot .ensures)) (c .crosses .ensures)
 
 pub cross-entry-spec : {M : Type 1} → statement M
 cross-entry-spec =
@@ -53,8 +50,7 @@ cross-entry-spec =
     (tie.spec
     slot-requires
     wide-requires
-    cell-of-requires
-    page-of-requires
+    page-at-requires
     owner-requires
     returns
     mul-crosses

@@ -22,41 +22,36 @@ loop-holds : tie.Need-loop-holds Inv-loop μ-loop
 loop-holds c =
     (refl, refl, λ W T S h. draining-start h)
 
-wide-requires : tie.Need-wide-requires Inv-loop μ-loop
-wide-requires c κs =
-    search needs
-
-sub-c : tie.Need-sub-c Inv-loop μ-loop
-sub-c c =
-    omega arith
+cell-named-requires : tie.Need-cell-named-requires Inv-loop μ-loop
+cell-named-requires c κs = omega arith
 
 work-requires : tie.Need-work-requires Inv-loop μ-loop
 work-requires c κs =
-    omega (arith, turn-facts (c .before .before .before .loop .inv .2 (c .before .before .before .before .before .before .pre .0) (c .before .before .before .before .before .before .pre .1) (c .before .before .before .before .before .before .pre .2) (c .before .before .before .before .before .before .pre .3)) (c .before .before .loop-test .taken) (c .before .wide .result) (c .before .wide .ensures))
+    omega (arith, turn-facts (c .before .before .before .loop .inv .2 (c .before .before .before .before .before .before .pre .0) (c .before .before .before .before .before .before .pre .1) (c .before .before .before .before .before .before .pre .2) (c .before .before .before .before .before .before .pre .3)) (c .before .before .loop-test .taken) (c .before .cell-named .result) (c .before .cell-named .ensures))
 
 set-work-requires : tie.Need-set-work-requires Inv-loop μ-loop
 set-work-requires c κs =
-    omega (arith, turn-facts (c .before .before .before .before .before .loop .inv .2 (c .before .before .before .before .before .before .before .before .pre .0) (c .before .before .before .before .before .before .before .before .pre .1) (c .before .before .before .before .before .before .before .before .pre .2) (c .before .before .before .before .before .before .before .before .pre .3)) (c .before .before .before .before .loop-test .taken) (c .before .before .before .wide .result) (c .before .before .before .wide .ensures))
+    omega (arith, turn-facts (c .before .before .before .before .before .loop .inv .2 (c .before .before .before .before .before .before .before .before .pre .0) (c .before .before .before .before .before .before .before .before .pre .1) (c .before .before .before .before .before .before .before .before .pre .2) (c .before .before .before .before .before .before .before .before .pre .3)) (c .before .before .before .before .loop-test .taken) (c .before .before .before .cell-named .result) (c .before .before .before .cell-named .ensures))
 
 scan-requires : tie.Need-scan-requires Inv-loop μ-loop
 scan-requires c κs =
-    turn-asks (c .before .before .before .before .before .before .before .before .before .before .loop .inv .2 (c .before .before .before .before .before .before .before .before .before .before .before .before .before .pre .0) (c .before .before .before .before .before .before .before .before .before .before .before .before .before .pre .1) (c .before .before .before .before .before .before .before .before .before .before .before .before .before .pre .2) (c .before .before .before .before .before .before .before .before .before .before .before .before .before .pre .3)) (c .before .before .before .before .before .before .before .before .before .loop-test .taken) (c .before .before .before .before .before .before .before .before .wide .result) (c .before .before .before .before .before .before .before .before .wide .ensures) _ (c .before .before .before .before .set-work .ensures)
+    turn-asks (c .before .before .before .before .before .before .before .before .before .before .loop .inv .2 (c .before .before .before .before .before .before .before .before .before .before .before .before .before .pre .0) (c .before .before .before .before .before .before .before .before .before .before .before .before .before .pre .1) (c .before .before .before .before .before .before .before .before .before .before .before .before .before .pre .2) (c .before .before .before .before .before .before .before .before .before .before .before .before .before .pre .3)) (c .before .before .before .before .before .before .before .before .before .loop-test .taken) (c .before .before .before .before .before .before .before .before .cell-named .result) (c .before .before .before .before .before .before .before .before .cell-named .ensures) _ (c .before .before .before .before .set-work .ensures)
 
 add-count : tie.Need-add-count Inv-loop μ-loop
 add-count c =
-    omega (arith, turn-facts (c .before .before .before .before .before .before .before .before .before .before .before .before .before .before .before .loop .inv .2 (c .before .before .before .before .before .before .before .before .before .before .before .before .before .before .before .before .before .before .pre .0) (c .before .before .before .before .before .before .before .before .before .before .before .before .before .before .before .before .before .before .pre .1) (c .before .before .before .before .before .before .before .before .before .before .before .before .before .before .before .before .before .before .pre .2) (c .before .before .before .before .before .before .before .before .before .before .before .before .before .before .before .before .before .before .pre .3)) (c .before .before .before .before .before .before .before .before .before .before .before .before .before .before .loop-test .taken) (c .before .before .before .before .before .before .before .before .before .before .before .before .before .wide .result) (c .before .before .before .before .before .before .before .before .before .before .before .before .before .wide .ensures))
+    omega (arith, turn-facts (c .before .before .before .before .before .before .before .before .before .before .before .before .before .before .before .loop .inv .2 (c .before .before .before .before .before .before .before .before .before .before .before .before .before .before .before .before .before .before .pre .0) (c .before .before .before .before .before .before .before .before .before .before .before .before .before .before .before .before .before .before .pre .1) (c .before .before .before .before .before .before .before .before .before .before .before .before .before .before .before .before .before .before .pre .2) (c .before .before .before .before .before .before .before .before .before .before .before .before .before .before .before .before .before .before .pre .3)) (c .before .before .before .before .before .before .before .before .before .before .before .before .before .before .loop-test .taken) (c .before .before .before .before .before .before .before .before .before .before .before .before .before .cell-named .result) (c .before .before .before .before .before .before .before .before .before .before .before .before .before .cell-named .ensures))
 
 loop-less : tie.Need-loop-less Inv-loop μ-loop
 loop-less c =
-    omega (arith, turn-facts (c .before .before .before .before .before .before .before .before .before .before .before .before .before .before .before .loop .inv .2 (c .before .before .before .before .before .before .before .before .before .before .before .before .before .before .before .before .before .before .pre .0) (c .before .before .before .before .before .before .before .before .before .before .before .before .before .before .before .before .before .before .pre .1) (c .before .before .before .before .before .before .before .before .before .before .before .before .before .before .before .before .before .before .pre .2) (c .before .before .before .before .before .before .before .before .before .before .before .before .before .before .before .before .before .before .pre .3)) (c .before .before .before .before .before .before .before .before .before .before .before .before .before .before .loop-test .taken) (c .before .before .before .before .before .before .before .before .before .before .before .before .before .wide .result) (c .before .before .before .before .before .before .before .before .before .before .before .before .before .wide .ensures))
+    omega (arith, turn-facts (c .before .before .before .before .before .before .before .before .before .before .before .before .before .before .before .loop .inv .2 (c .before .before .before .before .before .before .before .before .before .before .before .before .before .before .before .before .before .before .pre .0) (c .before .before .before .before .before .before .before .before .before .before .before .before .before .before .before .before .before .before .pre .1) (c .before .before .before .before .before .before .before .before .before .before .before .before .before .before .before .before .before .before .pre .2) (c .before .before .before .before .before .before .before .before .before .before .before .before .before .before .before .before .before .before .pre .3)) (c .before .before .before .before .before .before .before .before .before .before .before .before .before .before .loop-test .taken) (c .before .before .before .before .before .before .before .before .before .before .before .before .before .cell-named .result) (c .before .before .before .before .before .before .before .before .before .before .before .before .before .cell-named .ensures))
 
 loop-again : tie.Need-loop-again Inv-loop μ-loop
 loop-again c =
-    let k = draining-kept (turn-read (c .before .before .before .before .before .before .before .before .before .before .before .before .before .before .before .loop .inv .2 (c .before .before .before .before .before .before .before .before .before .before .before .before .before .before .before .before .before .before .pre .0) (c .before .before .before .before .before .before .before .before .before .before .before .before .before .before .before .before .before .before .pre .1) (c .before .before .before .before .before .before .before .before .before .before .before .before .before .before .before .before .before .before .pre .2) (c .before .before .before .before .before .before .before .before .before .before .before .before .before .before .before .before .before .before .pre .3)) (c .before .before .before .before .before .before .before .before .before .before .before .before .before .before .loop-test .taken) (c .before .before .before .before .before .before .before .before .before .before .before .before .before .wide .result) (c .before .before .before .before .before .before .before .before .before .before .before .before .before .wide .ensures) _ _ (c .before .before .before .before .before .before .before .before .before .set-work .ensures) (c .before .before .before .before .before .before .before .before .before .before .before .work .ensures) (c .before .before .before .before .scan .ensures)) in
+    let k = draining-kept (turn-read (c .before .before .before .before .before .before .before .before .before .before .before .before .before .before .before .loop .inv .2 (c .before .before .before .before .before .before .before .before .before .before .before .before .before .before .before .before .before .before .pre .0) (c .before .before .before .before .before .before .before .before .before .before .before .before .before .before .before .before .before .before .pre .1) (c .before .before .before .before .before .before .before .before .before .before .before .before .before .before .before .before .before .before .pre .2) (c .before .before .before .before .before .before .before .before .before .before .before .before .before .before .before .before .before .before .pre .3)) (c .before .before .before .before .before .before .before .before .before .before .before .before .before .before .loop-test .taken) (c .before .before .before .before .before .before .before .before .before .before .before .before .before .cell-named .result) (c .before .before .before .before .before .before .before .before .before .before .before .before .before .cell-named .ensures) _ _ (c .before .before .before .before .before .before .before .before .before .set-work .ensures) (c .before .before .before .before .before .before .before .before .before .before .before .work .ensures) (c .before .before .before .before .scan .ensures)) in
     let k₀ = c .before .before .before .before .before .before .before .before .before .before .before .before .before .before .before .before .before .before .pre .3 .marking .kept in (
       k .cells-length ∙ sym (k₀ .cells-length),
       k .tables-length ∙ sym (k₀ .tables-length),
-      λ W T S h. turn-read (c .before .before .before .before .before .before .before .before .before .before .before .before .before .before .before .loop .inv .2 W T S h) (c .before .before .before .before .before .before .before .before .before .before .before .before .before .before .loop-test .taken) (c .before .before .before .before .before .before .before .before .before .before .before .before .before .wide .result) (c .before .before .before .before .before .before .before .before .before .before .before .before .before .wide .ensures) _ _ (c .before .before .before .before .before .before .before .before .before .set-work .ensures) (c .before .before .before .before .before .before .before .before .before .before .before .work .ensures) (c .before .before .before .before .scan .ensures),
+      λ W T S h. turn-read (c .before .before .before .before .before .before .before .before .before .before .before .before .before .before .before .loop .inv .2 W T S h) (c .before .before .before .before .before .before .before .before .before .before .before .before .before .before .loop-test .taken) (c .before .before .before .before .before .before .before .before .before .before .before .before .before .cell-named .result) (c .before .before .before .before .before .before .before .before .before .before .before .before .before .cell-named .ensures) _ _ (c .before .before .before .before .before .before .before .before .before .set-work .ensures) (c .before .before .before .before .before .before .before .before .before .before .before .work .ensures) (c .before .before .before .before .scan .ensures),
     )
 
 same-length : tie.Need-same-length Inv-loop μ-loop
@@ -78,8 +73,7 @@ drain-spec =
     Inv-loop
     μ-loop
     loop-holds
-    wide-requires
-    sub-c
+    cell-named-requires
     work-requires
     set-work-requires
     scan-requires

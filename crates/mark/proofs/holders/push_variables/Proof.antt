@@ -25,13 +25,12 @@ abbrev μ-loop : tie.MeasureT-loop
 μ-loop p cells₀ tables₀ r thread outer g top n t₀ i₀ cells tables t i =
     n - i
 
-mul-n : tie.Need-mul-n Inv-loop μ-loop
-mul-n c =
-    omega (arith, product-low (c .before .before .before .args .p) (c .before .before .before .pre .0 .room))
+var-count-requires : tie.Need-var-count-requires Inv-loop μ-loop
+var-count-requires c κs = (c .before .before .pre .0 .room .threads-high, c .before .before .pre .0 .room .variables-high)
 
 loop-holds : tie.Need-loop-holds Inv-loop μ-loop
 loop-holds c =
-    (omega arith, refl, product-low (c .before .before .before .args .p) (c .before .before .before .pre .0 .room), refl, refl, pushing-start _ _ _ _ _ _ _)
+    (omega arith, c .var-count .ensures, omega (arith, c .var-count .ensures, product-low (c .before .before .before .args .p) (c .before .before .before .pre .0 .room)), refl, refl, pushing-start _ _ _ _ _ _ _)
 
 variable-for-requires : tie.Need-variable-for-requires Inv-loop μ-loop
 variable-for-requires c κs =
@@ -84,7 +83,7 @@ push-variables-spec =
     (tie.spec
     Inv-loop
     μ-loop
-    mul-n
+    var-count-requires
     loop-holds
     variable-for-requires
     push-requires

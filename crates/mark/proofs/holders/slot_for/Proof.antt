@@ -22,11 +22,8 @@ slot-requires c κs = search needs
 wide-requires : tie.Need-wide-requires
 wide-requires c κs = search needs
 
-cell-of-requires : tie.Need-cell-of-requires
-cell-of-requires c κs = search needs
-
-page-of-requires : tie.Need-page-of-requires
-page-of-requires c κs = search needs
+page-at-requires : tie.Need-page-at-requires
+page-at-requires c κs = search needs
 
 owner-requires : tie.Need-owner-requires
 owner-requires c κs = search needs
@@ -36,7 +33,7 @@ join-requires c κs = search needs
 
 returns-2 : tie.Need-returns-2
 returns-2 c =
-    slot-none (c .before .before .before .before .before .before .before .before .before .before .before .before .args .p) (c .before .before .before .before .before .before .before .before .before .before .before .before .args .cells .now) (c .before .before .before .before .before .before .before .before .before .before .before .before .args .remember .now) (c .before .before .before .before .before .before .before .before .before .before .before .before .args .tables .now) (c .before .before .before .before .before .before .before .before .before .before .before .before .args .r) (c .before .before .before .before .before .before .before .before .before .before .before .before .args .g) (c .before .before .before .before .before .before .before .before .before .before .before .before .args .i) (sym (c .before .before .before .before .before .before .before .before .region .ensures) ∙ c .before .before .before .before .before .before .before .if1 .left) (λ e. c .if2 .taken (slot-call (c .before .before .before .before .before .before .before .before .before .before .before .before .args .p) (c .before .before .before .before .before .before .before .before .before .before .before .before .args .cells .now) (c .before .before .before .before .before .before .before .before .before .before .before .before .args .remember .now) (c .before .before .before .before .before .before .before .before .before .before .before .before .args .tables .now) (c .before .before .before .before .before .before .before .before .before .before .before .before .args .r) (c .before .before .before .before .before .before .before .before .before .before .before .before .args .g) (c .before .before .before .before .before .before .before .before .before .before .before .before .args .i) _ _ _ _ _ _ (c .before .before .before .before .before .before .slot .ensures) (c .before .before .before .before .before .wide .ensures) (c .before .before .before .before .cell-of .ensures) (c .before .before .before .page-of .ensures) (c .before .before .owner .ensures) (c .before .join .ensures) ∙ e))
+    slot-none (c .before .before .before .before .before .before .before .before .before .before .before .args .p) (c .before .before .before .before .before .before .before .before .before .before .before .args .cells .now) (c .before .before .before .before .before .before .before .before .before .before .before .args .remember .now) (c .before .before .before .before .before .before .before .before .before .before .before .args .tables .now) (c .before .before .before .before .before .before .before .before .before .before .before .args .r) (c .before .before .before .before .before .before .before .before .before .before .before .args .g) (c .before .before .before .before .before .before .before .before .before .before .before .args .i) (sym (c .before .before .before .before .before .before .before .region .ensures) ∙ c .before .before .before .before .before .before .if1 .left) (λ e. c .if2 .taken (slot-call (c .before .before .before .before .before .before .before .before .before .before .before .args .p) (c .before .before .before .before .before .before .before .before .before .before .before .args .cells .now) (c .before .before .before .before .before .before .before .before .before .before .before .args .remember .now) (c .before .before .before .before .before .before .before .before .before .before .before .args .tables .now) (c .before .before .before .before .before .before .before .before .before .before .before .args .r) (c .before .before .before .before .before .before .before .before .before .before .before .args .g) (c .before .before .before .before .before .before .before .before .before .before .before .args .i) _ _ _ _ _ (c .before .before .before .before .before .slot .ensures) (c .before .before .before .before .wide .ensures) (c .before .before .before .page-at .ensures) (c .before .before .owner .ensures) (c .before .join .ensures) ∙ e))
 
 mul-result : tie.Need-mul-result
 mul-result c = search needs
@@ -46,7 +43,7 @@ shared-slice-read-result c = search needs
 
 returns-3 : tie.Need-returns-3
 returns-3 c =
-    ap (λ (z : ℕ). getD (c .before .before .before .before .before .before .before .before .before .before .before .before .before .args .cells .now) z 0) (c .before .before .before .before .before .before .wide .ensures ∙ c .before .before .before .before .before .before .before .slot .ensures) ∙ slot-some (c .before .before .before .before .before .before .before .before .before .before .before .before .before .args .p) (c .before .before .before .before .before .before .before .before .before .before .before .before .before .args .cells .now) (c .before .before .before .before .before .before .before .before .before .before .before .before .before .args .remember .now) (c .before .before .before .before .before .before .before .before .before .before .before .before .before .args .tables .now) (c .before .before .before .before .before .before .before .before .before .before .before .before .before .args .r) (c .before .before .before .before .before .before .before .before .before .before .before .before .before .args .g) (c .before .before .before .before .before .before .before .before .before .before .before .before .before .args .i) (sym (c .before .before .before .before .before .before .before .before .before .region .ensures) ∙ c .before .before .before .before .before .before .before .before .if1 .left) (sym (slot-call (c .before .before .before .before .before .before .before .before .before .before .before .before .before .args .p) (c .before .before .before .before .before .before .before .before .before .before .before .before .before .args .cells .now) (c .before .before .before .before .before .before .before .before .before .before .before .before .before .args .remember .now) (c .before .before .before .before .before .before .before .before .before .before .before .before .before .args .tables .now) (c .before .before .before .before .before .before .before .before .before .before .before .before .before .args .r) (c .before .before .before .before .before .before .before .before .before .before .before .before .before .args .g) (c .before .before .before .before .before .before .before .before .before .before .before .before .before .args .i) _ _ _ _ _ _ (c .before .before .before .before .before .before .before .slot .ensures) (c .before .before .before .before .before .before .wide .ensures) (c .before .before .before .before .before .cell-of .ensures) (c .before .before .before .before .page-of .ensures) (c .before .before .before .owner .ensures) (c .before .before .join .ensures)) ∙ c .before .if2 .left)
+    ap (λ (z : ℕ). getD (c .before .before .before .before .before .before .before .before .before .before .before .before .args .cells .now) z 0) (c .before .before .before .before .before .wide .ensures ∙ c .before .before .before .before .before .before .slot .ensures) ∙ slot-some (c .before .before .before .before .before .before .before .before .before .before .before .before .args .p) (c .before .before .before .before .before .before .before .before .before .before .before .before .args .cells .now) (c .before .before .before .before .before .before .before .before .before .before .before .before .args .remember .now) (c .before .before .before .before .before .before .before .before .before .before .before .before .args .tables .now) (c .before .before .before .before .before .before .before .before .before .before .before .before .args .r) (c .before .before .before .before .before .before .before .before .before .before .before .before .args .g) (c .before .before .before .before .before .before .before .before .before .before .before .before .args .i) (sym (c .before .before .before .before .before .before .before .before .region .ensures) ∙ c .before .before .before .before .before .before .before .if1 .left) (sym (slot-call (c .before .before .before .before .before .before .before .before .before .before .before .before .args .p) (c .before .before .before .before .before .before .before .before .before .before .before .before .args .cells .now) (c .before .before .before .before .before .before .before .before .before .before .before .before .args .remember .now) (c .before .before .before .before .before .before .before .before .before .before .before .before .args .tables .now) (c .before .before .before .before .before .before .before .before .before .before .before .before .args .r) (c .before .before .before .before .before .before .before .before .before .before .before .before .args .g) (c .before .before .before .before .before .before .before .before .before .before .before .before .args .i) _ _ _ _ _ (c .before .before .before .before .before .before .slot .ensures) (c .before .before .before .before .before .wide .ensures) (c .before .before .before .before .page-at .ensures) (c .before .before .before .owner .ensures) (c .before .before .join .ensures)) ∙ c .before .if2 .left)
 
 pub slot-for-spec : {M : Type 1} → statement M
 slot-for-spec =
@@ -56,8 +53,7 @@ slot-for-spec =
     returns
     slot-requires
     wide-requires
-    cell-of-requires
-    page-of-requires
+    page-at-requires
     owner-requires
     join-requires
     returns-2

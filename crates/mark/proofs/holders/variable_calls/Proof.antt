@@ -8,14 +8,14 @@ use Rattle.mark.specs.Holders.{calls-own, calls-other}
 use Rattle.mark.proofs.holders.variable_calls.Statement.{statement}
 use Rattle.mark.proofs.holders.variable_calls.Tie as tie
 
-div-if1 : tie.Need-div-if1
-div-if1 c = search needs
+var-thread-requires : tie.Need-var-thread-requires
+var-thread-requires c κs = search needs
 
 returns : tie.Need-returns
-returns c = calls-other (c .before .before .args .p) (c .before .before .args .thread) (c .before .before .args .outer) (c .before .before .args .i) (c .if1 .taken)
+returns c = calls-other (c .before .before .args .p) (c .before .before .args .thread) (c .before .before .args .outer) (c .before .before .args .i) (λ e. c .if1 .taken (c .before .var-thread .ensures ∙ e))
 
 returns-2 : tie.Need-returns-2
-returns-2 c = calls-own (c .before .before .args .p) (c .before .before .args .thread) (c .before .before .args .outer) (c .before .before .args .i) (c .if1 .left)
+returns-2 c = calls-own (c .before .before .args .p) (c .before .before .args .thread) (c .before .before .args .outer) (c .before .before .args .i) (sym (c .before .var-thread .ensures) ∙ c .if1 .left)
 
 pub variable-calls-spec : {M : Type 1} → statement M
-variable-calls-spec = tie.close (tie.spec div-if1 returns returns-2)
+variable-calls-spec = tie.close (tie.spec var-thread-requires returns returns-2)

@@ -22,11 +22,8 @@ returns : tie.Need-returns
 returns c =
     push-null (omega arith)
 
-wide-requires : tie.Need-wide-requires
-wide-requires c κs = search needs
-
-sub-c : tie.Need-sub-c
-sub-c c = search needs
+cell-named-requires : tie.Need-cell-named-requires
+cell-named-requires c κs = search needs
 
 page-of-requires : tie.Need-page-of-requires
 page-of-requires c κs = search needs
@@ -40,7 +37,7 @@ same-length c = search needs
 
 returns-2 : tie.Need-returns-2
 returns-2 c =
-    push-foreign _ _ (c .before .before .before .before .wide .ensures) (c .before .before .before .page-of .ensures) (λ z. c .if2 .taken (c .before .owner .ensures ∙ z))
+    push-foreign _ _ (c .before .before .before .before .cell-named .ensures) (c .before .before .before .page-of .ensures) (λ z. c .if2 .taken (c .before .owner .ensures ∙ z))
 
 mark-requires : tie.Need-mark-requires
 mark-requires c κs =
@@ -57,7 +54,7 @@ same-length-2 c = search needs
 
 returns-3 : tie.Need-returns-3
 returns-3 c =
-    push-marked _ _ _ _ (c .before .before .before .before .before .before .before .before .before .wide .ensures) (c .before .before .before .before .before .before .before .before .page-of .ensures) (c .before .before .place-of .ensures) (c .before .before .before .mark .ensures) (omega (arith, c .if3 .taken, c .before .bit-at .ensures, bit-lt (c .before .before .place-of .result) (c .before .before .before .mark .result)))
+    push-marked _ _ _ _ (c .before .before .before .before .before .before .before .before .before .cell-named .ensures) (c .before .before .before .before .before .before .before .before .page-of .ensures) (c .before .before .place-of .ensures) (c .before .before .before .mark .ensures) (omega (arith, c .if3 .taken, c .before .bit-at .ensures, bit-lt (c .before .before .place-of .result) (c .before .before .before .mark .result)))
 
 with-bit-requires : tie.Need-with-bit-requires
 with-bit-requires c κs = search needs
@@ -78,7 +75,7 @@ same-length-4 c = search needs
 
 returns-4 : tie.Need-returns-4
 returns-4 c =
-    push-links _ _ _ _ _ (omega arith) (c .before .before .before .before .before .before .before .before .before .before .before .before .before .before .before .before .before .before .wide .ensures) (c .before .before .before .before .before .before .before .before .before .before .before .before .before .before .before .before .before .page-of .ensures) (c .before .before .before .before .before .before .before .before .before .before .before .place-of .ensures) (c .before .before .before .before .before .before .before .before .before .before .before .before .mark .ensures) (sym (c .before .before .before .before .before .before .before .before .before .before .before .before .before .before .before .owner .ensures) ∙ c .before .before .before .before .before .before .before .before .before .before .before .before .before .before .if2 .left)
+    push-links _ _ _ _ _ (omega arith) (c .before .before .before .before .before .before .before .before .before .before .before .before .before .before .before .before .before .before .cell-named .ensures) (c .before .before .before .before .before .before .before .before .before .before .before .before .before .before .before .before .before .page-of .ensures) (c .before .before .before .before .before .before .before .before .before .before .before .place-of .ensures) (c .before .before .before .before .before .before .before .before .before .before .before .before .mark .ensures) (sym (c .before .before .before .before .before .before .before .before .before .before .before .before .before .before .before .owner .ensures) ∙ c .before .before .before .before .before .before .before .before .before .before .before .before .before .before .if2 .left)
     (sym (c .before .before .before .before .before .before .before .before .before .before .bit-at .ensures) ∙ c .before .before .before .before .before .before .before .before .before .if3 .left) (c .before .before .before .before .before .before .before .with-bit .ensures) (c .before .before .set-work .ensures) (c .before .before .before .before .before .before .set-mark .ensures) refl
 
 pub push-spec : {M : Type 1} → statement M
@@ -86,8 +83,7 @@ push-spec =
     tie.close
     (tie.spec
     returns
-    wide-requires
-    sub-c
+    cell-named-requires
     page-of-requires
     owner-requires
     same-length
