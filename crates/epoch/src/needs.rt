@@ -6,6 +6,7 @@ ghost use Rattle.layout.specs.Places.{Room, markOf};
 ghost use Rattle.epoch.specs.CensusCounts.{freeOne, freeIn, levelNeeds, needsBelow};
 use census::count::count_survivors;
 use layout::Places;
+use layout::cells::pages_for;
 use layout::regions::region_at;
 use layout::tables::count;
 use layout::tables::owner;
@@ -48,7 +49,7 @@ pub fn level_pages(p: Places, cells: &[u32], tables: &[u32], g: u32) -> usize
 {
     let have = wide(count(p, tables, wide(g)));
     let come = count_survivors(p, cells, tables, g);
-    (have + come + 15) / 16 - (have + 15) / 16
+    pages_for(have + come) - pages_for(have)
 }
 
 // How many new pages the regions of a thread at the levels below the given one need.
