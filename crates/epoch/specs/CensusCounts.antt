@@ -24,12 +24,12 @@ use Rattle.ended.specs.EndQuestion.{pagesNeeded, crossingAfter}
 use Rattle.ended.specs.EndPages.{morePages, new-pages-counted}
 use Rattle.epoch.specs.MarkedWords.{owner-same, count-same}
 
--- 1 for a free page, and the free pages among the first n
-unfoldable pub freeOne : Places → List ℕ → ℕ → ℕ
-freeOne p T page = bit (eqb (ownerOf p T page) 0)
+-- 1 for a page of g, and the pages of g among the first n; the free pages are those of 0
+unfoldable pub ownedOne : Places → List ℕ → ℕ → ℕ → ℕ
+ownedOne p T g page = bit (eqb (ownerOf p T page) g)
 
-abbrev pub freeIn : Places → List ℕ → ℕ → ℕ
-freeIn p T n = sum (freeOne p T) n
+abbrev pub ownedIn : Places → List ℕ → ℕ → ℕ → ℕ
+ownedIn p T g n = sum (ownedOne p T g) n
 
 -- the new pages for region g, and for the regions of thread t at the levels below n
 unfoldable pub levelNeeds : Places → List ℕ → List ℕ → ℕ → ℕ
@@ -55,17 +55,17 @@ unfolding levelNeeds
 needs-high p W T g = omega (arith, over-high p W T g (p .pages))
 
 -- o is the page's owner as the code read it
-pub free-yes : (p : Places) (T : List ℕ) (page o : ℕ) → o ≡ ownerOf p T page → o ≡ 0 → 1 ≡ freeOne p T page
-unfolding freeOne
-free-yes p T page o e z = sym (ap bit (eq-eqb (ownerOf p T page) 0 (sym e ∙ z)))
+pub owned-yes : (p : Places) (T : List ℕ) (g page o : ℕ) → o ≡ ownerOf p T page → o ≡ g → 1 ≡ ownedOne p T g page
+unfolding ownedOne
+owned-yes p T g page o e z = sym (ap bit (eq-eqb (ownerOf p T page) g (sym e ∙ z)))
 
-pub free-no : (p : Places) (T : List ℕ) (page o : ℕ) → o ≡ ownerOf p T page → (o ≡ 0 → ⊥) → 0 ≡ freeOne p T page
-unfolding freeOne
-free-no p T page o e n = sym (ap bit (ne-eqb (ownerOf p T page) 0 (λ z. n (e ∙ z))))
+pub owned-no : (p : Places) (T : List ℕ) (g page o : ℕ) → o ≡ ownerOf p T page → (o ≡ g → ⊥) → 0 ≡ ownedOne p T g page
+unfolding ownedOne
+owned-no p T g page o e n = sym (ap bit (ne-eqb (ownerOf p T page) g (λ z. n (e ∙ z))))
 
-pub free-le : (p : Places) (T : List ℕ) (page : ℕ) → freeOne p T page ≤ 1
-unfolding freeOne
-free-le p T page = bit-le (eqb (ownerOf p T page) 0)
+pub owned-le : (p : Places) (T : List ℕ) (g page : ℕ) → ownedOne p T g page ≤ 1
+unfolding ownedOne
+owned-le p T g page = bit-le (eqb (ownerOf p T page) g)
 
 -- ---- as the rules count
 
@@ -80,8 +80,8 @@ module _ (s : Sizes) (w : Words) (k : WholeFor s w) (space : Room (placesOf s) (
       (goes-landed s w k (regionAt s t (suc j)) w₁ M (region-pos s t (suc j)) (regionAt s t l) (region-pos s t l)))
       ∙ sym (new-pages-counted s w k t j th deep)
 
-  pub free-are : freeIn (placesOf s) (w₁ .tables) (s .pages) ≡ pagesOwned s w 0
-  unfolding freeOne
+  pub free-are : ownedIn (placesOf s) (w₁ .tables) 0 (s .pages) ≡ pagesOwned s w 0
+  unfolding ownedOne
   free-are = sum-same _ _ (s .pages) (λ page l. ap (λ (x : ℕ). bit (eqb x 0)) (owner-same s w k space (regionAt s t (suc j)) w₁ M page l))
 
   pub crossing-are : ce.crossingAfter (placesOf s) (w₁ .cells) (w₁ .remember) (w₁ .tables) (regionAt s t (suc j)) ≡ crossingAfter s w t j

@@ -27,7 +27,7 @@ use Rattle.ended.specs.AfterEnd.{endOf}
 use Rattle.ended.specs.EndQuestion.{pagesNeeded, crossingAfter, refused-shut, refused-pageless, refused-full}
 use Rattle.ended.specs.EvacuatedDid.{ended-did}
 use Rattle.epoch.specs.MarkedWords.{use-now}
-use Rattle.epoch.specs.CensusCounts.{freeIn, needsBelow, needs-are, free-are, crossing-are}
+use Rattle.epoch.specs.CensusCounts.{ownedIn, needsBelow, needs-are, free-are, crossing-are}
 use Rattle.epoch.specs.MayEvacuate.{before-same}
 
 module _ (p : Places) (e : p ≡ placesOf (sizesOf p)) (w : Words) (k : WholeFor (sizesOf p) w) (fits : length (w .tables) < 2 ^ 63) (t : ℕ) (th : t < p .threads) where
@@ -91,9 +91,9 @@ module _ (p : Places) (e : p ≡ placesOf (sizesOf p)) (w : Words) (k : WholeFor
         ap₂ (λ (q : Places) (n : ℕ). needsBelow q (w₁ .cells) (w₁ .tables) t n) e deep
         ∙ needs-are (sizesOf p) w k room-of t (depthOf (w .tables) t - 1) th deep w₁ marks
 
-    free : freeIn p (w₁ .tables) (p .pages) ≡ pagesOwned (sizesOf p) w 0
+    free : ownedIn p (w₁ .tables) 0 (p .pages) ≡ pagesOwned (sizesOf p) w 0
     free =
-        ap (λ (q : Places). freeIn q (w₁ .tables) (q .pages)) e
+        ap (λ (q : Places). ownedIn q (w₁ .tables) 0 (q .pages)) e
         ∙ free-are (sizesOf p) w k room-of t (depthOf (w .tables) t - 1) th deep w₁ marks
 
     crossing : ce.crossingAfter p (w₁ .cells) (w .remember) (w₁ .tables) (regionAt (sizesOf p) t (depthOf (w .tables) t)) ≡ crossingAfter (sizesOf p) w t (depthOf (w .tables) t - 1)
@@ -114,11 +114,11 @@ module _ (p : Places) (e : p ≡ placesOf (sizesOf p)) (w : Words) (k : WholeFor
           (sym (cells-back (sizesOf p) w k (regionAt (sizesOf p) t (depthOf (w .tables) t)) w₁ M undone))
           (sym (tables-back (sizesOf p) w k (regionAt (sizesOf p) t (depthOf (w .tables) t)) w₁ M undone)) d
 
-      pub pageless : freeIn p (w₁ .tables) (p .pages) < needsBelow p (w₁ .cells) (w₁ .tables) t (depthOf (w .tables) t)
+      pub pageless : ownedIn p (w₁ .tables) 0 (p .pages) < needsBelow p (w₁ .cells) (w₁ .tables) t (depthOf (w .tables) t)
           → DidHere (sizesOf p) w (endOf t) (words W (w .remember) T) (refused 13)
       pageless l = back 13 (refused-pageless (sizesOf p) w k t th (depthOf (w .tables) t - 1) deep (subst₂ (λ (a b : ℕ). a < b) free needs l))
 
-      pub full : needsBelow p (w₁ .cells) (w₁ .tables) t (depthOf (w .tables) t) ≤ freeIn p (w₁ .tables) (p .pages)
+      pub full : needsBelow p (w₁ .cells) (w₁ .tables) t (depthOf (w .tables) t) ≤ ownedIn p (w₁ .tables) 0 (p .pages)
           → p .entries < ce.crossingAfter p (w₁ .cells) (w .remember) (w₁ .tables) (regionAt (sizesOf p) t (depthOf (w .tables) t))
           → DidHere (sizesOf p) w (endOf t) (words W (w .remember) T) (refused 14)
       full l m =
@@ -128,7 +128,7 @@ module _ (p : Places) (e : p ≡ placesOf (sizesOf p)) (w : Words) (k : WholeFor
 
     -- ---- accepted
 
-    module _ (pages : needsBelow p (w₁ .cells) (w₁ .tables) t (depthOf (w .tables) t) ≤ freeIn p (w₁ .tables) (p .pages))
+    module _ (pages : needsBelow p (w₁ .cells) (w₁ .tables) t (depthOf (w .tables) t) ≤ ownedIn p (w₁ .tables) 0 (p .pages))
         (entries : ce.crossingAfter p (w₁ .cells) (w .remember) (w₁ .tables) (regionAt (sizesOf p) t (depthOf (w .tables) t)) ≤ p .entries) where
       enough : pagesNeeded (sizesOf p) w t (depthOf (w .tables) t - 1) ≤ pagesOwned (sizesOf p) w 0
       enough = subst₂ (λ (a b : ℕ). a ≤ b) needs free pages
@@ -167,7 +167,7 @@ module _ (p : Places) (e : p ≡ placesOf (sizesOf p)) (w : Words) (k : WholeFor
 module _ (p : Places) (e : p ≡ placesOf (sizesOf p)) (w : Words) (k : WholeFor (sizesOf p) w) (fits : length (w .tables) < 2 ^ 63) (t : ℕ) (th : t < p .threads)
     (level needed free : ℕ) (el : level ≡ depthOf (w .tables) t) (deep : 0 < level)
     {W₁ T₁ : List ℕ} (M : Marked (sizesOf p) w (regionAt (sizesOf p) t (depthOf (w .tables) t)) (words W₁ (w .remember) T₁))
-    (en : needed ≡ needsBelow p W₁ T₁ t level) (ef : free ≡ freeIn p T₁ (p .pages)) where
+    (en : needed ≡ needsBelow p W₁ T₁ t level) (ef : free ≡ ownedIn p T₁ 0 (p .pages)) where
   deep-enough : 1 ≤ depthOf (w .tables) t
   deep-enough = omega arith
 
@@ -181,7 +181,7 @@ module _ (p : Places) (e : p ≡ placesOf (sizesOf p)) (w : Words) (k : WholeFor
     crossing-is : crossing ≡ ce.crossingAfter p W₁ (w .remember) T₁ (regionAt (sizesOf p) t (depthOf (w .tables) t))
     crossing-is = ec ∙ ap (λ (g : ℕ). ce.crossingAfter p W₁ (w .remember) T₁ g) (er ∙ ap (regionAt (sizesOf p) t) el)
 
-    fit : needsBelow p W₁ T₁ t (depthOf (w .tables) t) ≤ freeIn p T₁ (p .pages)
+    fit : needsBelow p W₁ T₁ t (depthOf (w .tables) t) ≤ ownedIn p T₁ 0 (p .pages)
     fit = subst₂ (λ (a b : ℕ). a ≤ b) needed-is ef l
 
     pub out-full : {W T : List ℕ} → Unmarked p (p .pages) W₁ T₁ W T → p .entries < crossing → DidHere (sizesOf p) w (endOf t) (words W (w .remember) T) (refused 14)

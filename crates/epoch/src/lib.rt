@@ -39,9 +39,10 @@ pub fn end(
             value: 0,
         };
     }
+    let region = region_at(p, thread, level);
     mark_survivors(p, cells, remember, tables, thread);
     let needed = needs::needed_pages(p, cells, tables, thread, level);
-    let free = needs::free_pages(p, tables);
+    let free = needs::owned_pages(p, tables, 0);
     if free < needed {
         unmark(p, cells, tables);
         return Answer {
@@ -49,7 +50,7 @@ pub fn end(
             value: 0,
         };
     }
-    let crossing = count_crossing(p, cells, remember, tables, region_at(p, thread, level));
+    let crossing = count_crossing(p, cells, remember, tables, region);
     let entries = p.entries;
     if entries < crossing {
         unmark(p, cells, tables);

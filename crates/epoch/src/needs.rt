@@ -1,9 +1,9 @@
-// Question 13: the new pages that the regions around the ending one need, against the free pages.
+// Question 13: the new pages that the regions around the ending one need, against the free pages, which are those of owner 0.
 ghost use mathlib.Core.Path.{_≡_};
 ghost use Prim.Native.Nat.{ℕ, _+_, _*_, _^_, _<_, _≤_};
 ghost use lib.ListN.{length};
 ghost use Rattle.layout.specs.Places.{Room, markOf};
-ghost use Rattle.epoch.specs.CensusCounts.{freeOne, freeIn, levelNeeds, needsBelow};
+ghost use Rattle.epoch.specs.CensusCounts.{ownedOne, ownedIn, levelNeeds, needsBelow};
 use census::count::count_survivors;
 use layout::Places;
 use layout::cells::pages_for;
@@ -12,28 +12,28 @@ use layout::tables::count;
 use layout::tables::owner;
 use layout::wide;
 
-// 1 if a page is free, else 0.
-pub fn is_free(p: Places, tables: &[u32], page: usize) -> usize
+// 1 if a page belongs to g, else 0.
+pub fn is_owned(p: Places, tables: &[u32], g: u32, page: usize) -> usize
     requires { ⌜ Room p (length (now tables)) ⌝ }
     requires { ⌜ page < p .pages ⌝ }
-    ensures { λ n. ⌜ n ≡ freeOne p (now (tables .entry)) page ⌝ }
+    ensures { λ n. ⌜ n ≡ ownedOne p (now (tables .entry)) g page ⌝ }
 {
-    if owner(p, tables, page) == 0 {
+    if owner(p, tables, page) == g {
         return 1;
     }
     0
 }
 
-// How many pages are free.
-pub fn free_pages(p: Places, tables: &[u32]) -> usize
+// How many pages belong to g.
+pub fn owned_pages(p: Places, tables: &[u32], g: u32) -> usize
     requires { ⌜ Room p (length (now tables)) ⌝ }
-    ensures { λ n. ⌜ n ≡ freeIn p (now (tables .entry)) (p .pages) ⌝ }
+    ensures { λ n. ⌜ n ≡ ownedIn p (now (tables .entry)) g (p .pages) ⌝ }
 {
     let pages = p.pages;
     let mut n: usize = 0;
     let mut page: usize = 0;
     while page < pages {
-        n += is_free(p, tables, page);
+        n += is_owned(p, tables, g, page);
         page += 1;
     }
     n

@@ -37,37 +37,46 @@ returns c =
     let f = fits (c .before .before) in
     shut (a .p) (pre .0) w (pre .1 .0) f (a .thread) (pre .1 .1) (omega (arith, c .before .wide .ensures, c .before .before .depth .ensures, c .if1 .taken))
 
+region-at-requires : tie.Need-region-at-requires
+region-at-requires c κs =
+    let a = c .before .before .before .before .before .before .before .args in
+    let pre = c .before .before .before .before .before .before .before .pre in
+    let w = words (a .cells .now) (a .remember .now) (a .tables .now) in
+    let f = fits (c .before .before) in
+    let rm = room-at (a .p) (pre .0) w (pre .1 .0) f (a .thread) (pre .1 .1) in
+    (rm .threads-high, rm .depth-high, pre .1 .1, omega (arith, depth-high (a .p) (pre .0) w (pre .1 .0) f (a .thread) (pre .1 .1), c .before .wide .ensures, c .before .before .depth .ensures))
+
 mark-survivors-requires : tie.Need-mark-survivors-requires
 mark-survivors-requires c κs =
-    (c .before .before .before .before .before .before .before .before .before .before .pre .0, (c .before .before .before .before .before .before .before .before .before .before .pre .1 .0, (c .before .before .before .before .before .before .before .before .before .before .pre .1 .1, omega (arith, c .before .before .before .before .wide .ensures, c .before .before .before .before .before .depth .ensures, c .before .before .before .if1 .left))))
+    (c .before .before .before .before .before .before .before .before .before .before .before .pre .0, (c .before .before .before .before .before .before .before .before .before .before .before .pre .1 .0, (c .before .before .before .before .before .before .before .before .before .before .before .pre .1 .1, omega (arith, c .before .before .before .before .before .wide .ensures, c .before .before .before .before .before .before .depth .ensures, c .before .before .before .before .if1 .left))))
 
 needed-pages-requires : tie.Need-needed-pages-requires
 needed-pages-requires c κs =
-    let a = c .before .before .before .before .before .before .before .before .before .before .before .before .before .before .before .before .before .args in
-    let pre = c .before .before .before .before .before .before .before .before .before .before .before .before .before .before .before .before .before .pre in
+    let a = c .before .before .before .before .before .before .before .before .before .before .before .before .before .before .before .before .before .before .args in
+    let pre = c .before .before .before .before .before .before .before .before .before .before .before .before .before .before .before .before .before .before .pre in
     let w = words (a .cells .now) (a .remember .now) (a .tables .now) in
-    let f = fits (c .before .before .before .before .before .before .before .before .before .before .before .before) in
-    let o : 1 ≤ depthOf (a .tables .now) (a .thread) = omega (arith, c .before .before .before .before .before .before .before .before .before .before .before .wide .ensures, c .before .before .before .before .before .before .before .before .before .before .before .before .depth .ensures, c .before .before .before .before .before .before .before .before .before .before .if1 .left) in
+    let f = fits (c .before .before .before .before .before .before .before .before .before .before .before .before .before) in
+    let o : 1 ≤ depthOf (a .tables .now) (a .thread) = omega (arith, c .before .before .before .before .before .before .before .before .before .before .before .before .wide .ensures, c .before .before .before .before .before .before .before .before .before .before .before .before .before .depth .ensures, c .before .before .before .before .before .before .before .before .before .before .before .if1 .left) in
     let m = c .before .before .before .before .before .before .mark-survivors .ensures in
-    (room-now (a .p) (pre .0) w (pre .1 .0) f (a .thread) (pre .1 .1) o _ m, (cells-now (a .p) (pre .0) w (pre .1 .0) f (a .thread) (pre .1 .1) o _ m, (small-now (a .p) (pre .0) w (pre .1 .0) f (a .thread) (pre .1 .1) o _ m, (pre .1 .1, omega (arith, depth-high (a .p) (pre .0) w (pre .1 .0) f (a .thread) (pre .1 .1), c .before .before .before .before .before .before .before .before .before .before .before .wide .ensures, c .before .before .before .before .before .before .before .before .before .before .before .before .depth .ensures)))))
+    (room-now (a .p) (pre .0) w (pre .1 .0) f (a .thread) (pre .1 .1) o _ m, (cells-now (a .p) (pre .0) w (pre .1 .0) f (a .thread) (pre .1 .1) o _ m, (small-now (a .p) (pre .0) w (pre .1 .0) f (a .thread) (pre .1 .1) o _ m, (pre .1 .1, omega (arith, depth-high (a .p) (pre .0) w (pre .1 .0) f (a .thread) (pre .1 .1), c .before .before .before .before .before .before .before .before .before .before .before .before .wide .ensures, c .before .before .before .before .before .before .before .before .before .before .before .before .before .depth .ensures)))))
 
-free-pages-requires : tie.Need-free-pages-requires
-free-pages-requires c κs =
-    let a = c .before .before .before .before .before .before .before .before .before .before .before .before .before .before .before .before .before .before .before .args in
-    let pre = c .before .before .before .before .before .before .before .before .before .before .before .before .before .before .before .before .before .before .before .pre in
+owned-pages-requires : tie.Need-owned-pages-requires
+owned-pages-requires c κs =
+    let a = c .before .before .before .before .before .before .before .before .before .before .before .before .before .before .before .before .before .before .before .before .args in
+    let pre = c .before .before .before .before .before .before .before .before .before .before .before .before .before .before .before .before .before .before .before .before .pre in
     let w = words (a .cells .now) (a .remember .now) (a .tables .now) in
-    let f = fits (c .before .before .before .before .before .before .before .before .before .before .before .before .before .before) in
-    let o : 1 ≤ depthOf (a .tables .now) (a .thread) = omega (arith, c .before .before .before .before .before .before .before .before .before .before .before .before .before .wide .ensures, c .before .before .before .before .before .before .before .before .before .before .before .before .before .before .depth .ensures, c .before .before .before .before .before .before .before .before .before .before .before .before .if1 .left) in
+    let f = fits (c .before .before .before .before .before .before .before .before .before .before .before .before .before .before .before) in
+    let o : 1 ≤ depthOf (a .tables .now) (a .thread) = omega (arith, c .before .before .before .before .before .before .before .before .before .before .before .before .before .before .wide .ensures, c .before .before .before .before .before .before .before .before .before .before .before .before .before .before .before .depth .ensures, c .before .before .before .before .before .before .before .before .before .before .before .before .before .if1 .left) in
     let m = c .before .before .before .before .before .before .before .before .mark-survivors .ensures in
     room-now (a .p) (pre .0) w (pre .1 .0) f (a .thread) (pre .1 .1) o _ m
 
 unmark-requires : tie.Need-unmark-requires
 unmark-requires c κs =
-    let a = c .before .before .before .before .before .before .before .before .before .before .before .before .before .before .before .before .before .before .before .before .before .before .before .args in
-    let pre = c .before .before .before .before .before .before .before .before .before .before .before .before .before .before .before .before .before .before .before .before .before .before .before .pre in
+    let a = c .before .before .before .before .before .before .before .before .before .before .before .before .before .before .before .before .before .before .before .before .before .before .before .before .args in
+    let pre = c .before .before .before .before .before .before .before .before .before .before .before .before .before .before .before .before .before .before .before .before .before .before .before .before .pre in
     let w = words (a .cells .now) (a .remember .now) (a .tables .now) in
-    let f = fits (c .before .before .before .before .before .before .before .before .before .before .before .before .before .before .before .before .before .before) in
-    let o : 1 ≤ depthOf (a .tables .now) (a .thread) = omega (arith, c .before .before .before .before .before .before .before .before .before .before .before .before .before .before .before .before .before .wide .ensures, c .before .before .before .before .before .before .before .before .before .before .before .before .before .before .before .before .before .before .depth .ensures, c .before .before .before .before .before .before .before .before .before .before .before .before .before .before .before .before .if1 .left) in
+    let f = fits (c .before .before .before .before .before .before .before .before .before .before .before .before .before .before .before .before .before .before .before) in
+    let o : 1 ≤ depthOf (a .tables .now) (a .thread) = omega (arith, c .before .before .before .before .before .before .before .before .before .before .before .before .before .before .before .before .before .before .wide .ensures, c .before .before .before .before .before .before .before .before .before .before .before .before .before .before .before .before .before .before .before .depth .ensures, c .before .before .before .before .before .before .before .before .before .before .before .before .before .before .before .before .before .if1 .left) in
     let m = c .before .before .before .before .before .before .before .before .before .before .before .before .mark-survivors .ensures in
     (room-now (a .p) (pre .0) w (pre .1 .0) f (a .thread) (pre .1 .1) o _ m, (cells-now (a .p) (pre .0) w (pre .1 .0) f (a .thread) (pre .1 .1) o _ m, small-now (a .p) (pre .0) w (pre .1 .0) f (a .thread) (pre .1 .1) o _ m))
 
@@ -85,22 +94,13 @@ same-length-4 c =
 
 returns-2 : tie.Need-returns-2
 returns-2 c =
-    let a = c .before .before .before .before .before .before .before .before .before .before .before .before .before .before .before .before .before .before .before .before .before .before .before .before .before .before .before .before .args in
-    let pre = c .before .before .before .before .before .before .before .before .before .before .before .before .before .before .before .before .before .before .before .before .before .before .before .before .before .before .before .before .pre in
+    let a = c .before .before .before .before .before .before .before .before .before .before .before .before .before .before .before .before .before .before .before .before .before .before .before .before .before .before .before .before .before .args in
+    let pre = c .before .before .before .before .before .before .before .before .before .before .before .before .before .before .before .before .before .before .before .before .before .before .before .before .before .before .before .before .before .pre in
     let w = words (a .cells .now) (a .remember .now) (a .tables .now) in
-    let f = fits (c .before .before .before .before .before .before .before .before .before .before .before .before .before .before .before .before .before .before .before .before .before .before .before) in
+    let f = fits (c .before .before .before .before .before .before .before .before .before .before .before .before .before .before .before .before .before .before .before .before .before .before .before .before) in
     let m = c .before .before .before .before .before .before .before .before .before .before .before .before .before .before .before .before .before .mark-survivors .ensures in
-    out-pageless (a .p) (pre .0) w (pre .1 .0) f (a .thread) (pre .1 .1) (c .before .before .before .before .before .before .before .before .before .before .before .before .before .before .before .before .before .before .before .before .before .before .wide .result) (c .before .before .before .before .before .before .before .before .before .before .needed-pages .result) (c .before .before .before .before .before .before .before .before .free-pages .result) (c .before .before .before .before .before .before .before .before .before .before .before .before .before .before .before .before .before .before .before .before .before .before .wide .ensures ∙ c .before .before .before .before .before .before .before .before .before .before .before .before .before .before .before .before .before .before .before .before .before .before .before .depth .ensures) (omega (arith, c .before .before .before .before .before .before .before .before .before .before .before .before .before .before .before .before .before .before .before .before .before .if1 .left)) m (c .before .before .before .before .before .before .before .before .before .before .needed-pages .ensures)
-    (c .before .before .before .before .before .before .before .before .free-pages .ensures) (c .before .before .before .before .unmark .ensures) (omega (arith, c .before .before .before .before .before .before .before .if2 .taken))
-
-region-at-requires : tie.Need-region-at-requires
-region-at-requires c κs =
-    let a = c .before .before .before .before .before .before .before .before .before .before .before .before .before .before .before .before .before .before .before .before .before .before .before .before .args in
-    let pre = c .before .before .before .before .before .before .before .before .before .before .before .before .before .before .before .before .before .before .before .before .before .before .before .before .pre in
-    let w = words (a .cells .now) (a .remember .now) (a .tables .now) in
-    let f = fits (c .before .before .before .before .before .before .before .before .before .before .before .before .before .before .before .before .before .before .before) in
-    let rm = room-at (a .p) (pre .0) w (pre .1 .0) f (a .thread) (pre .1 .1) in
-    (rm .threads-high, rm .depth-high, pre .1 .1, omega (arith, depth-high (a .p) (pre .0) w (pre .1 .0) f (a .thread) (pre .1 .1), c .before .before .before .before .before .before .before .before .before .before .before .before .before .before .before .before .before .before .wide .ensures, c .before .before .before .before .before .before .before .before .before .before .before .before .before .before .before .before .before .before .before .depth .ensures))
+    out-pageless (a .p) (pre .0) w (pre .1 .0) f (a .thread) (pre .1 .1) (c .before .before .before .before .before .before .before .before .before .before .before .before .before .before .before .before .before .before .before .before .before .before .before .wide .result) (c .before .before .before .before .before .before .before .before .before .before .needed-pages .result) (c .before .before .before .before .before .before .before .before .owned-pages .result) (c .before .before .before .before .before .before .before .before .before .before .before .before .before .before .before .before .before .before .before .before .before .before .before .wide .ensures ∙ c .before .before .before .before .before .before .before .before .before .before .before .before .before .before .before .before .before .before .before .before .before .before .before .before .depth .ensures) (omega (arith, c .before .before .before .before .before .before .before .before .before .before .before .before .before .before .before .before .before .before .before .before .before .before .if1 .left)) m (c .before .before .before .before .before .before .before .before .before .before .needed-pages .ensures)
+    (c .before .before .before .before .before .before .before .before .owned-pages .ensures) (c .before .before .before .before .unmark .ensures) (omega (arith, c .before .before .before .before .before .before .before .if2 .taken))
 
 count-crossing-requires : tie.Need-count-crossing-requires
 count-crossing-requires c κs =
@@ -109,7 +109,7 @@ count-crossing-requires c κs =
     let w = words (a .cells .now) (a .remember .now) (a .tables .now) in
     let f = fits (c .before .before .before .before .before .before .before .before .before .before .before .before .before .before .before .before .before .before .before .before) in
     let o : 1 ≤ depthOf (a .tables .now) (a .thread) = omega (arith, c .before .before .before .before .before .before .before .before .before .before .before .before .before .before .before .before .before .before .before .wide .ensures, c .before .before .before .before .before .before .before .before .before .before .before .before .before .before .before .before .before .before .before .before .depth .ensures, c .before .before .before .before .before .before .before .before .before .before .before .before .before .before .before .before .before .before .if1 .left) in
-    let m = c .before .before .before .before .before .before .before .before .before .before .before .before .before .before .mark-survivors .ensures in
+    let m = c .before .before .before .before .before .before .before .before .before .before .before .before .before .mark-survivors .ensures in
     (shaped-now (a .p) (pre .0) w (pre .1 .0) f (a .thread) (pre .1 .1) o _ m, (holding-now (a .p) (pre .0) w (pre .1 .0) f (a .thread) (pre .1 .1) o _ m, (small-now (a .p) (pre .0) w (pre .1 .0) f (a .thread) (pre .1 .1) o _ m, used-now (a .p) (pre .0) w (pre .1 .0) f (a .thread) (pre .1 .1) o _ m)))
 
 unmark-requires-2 : tie.Need-unmark-requires-2
@@ -119,7 +119,7 @@ unmark-requires-2 c κs =
     let w = words (a .cells .now) (a .remember .now) (a .tables .now) in
     let f = fits (c .before .before .before .before .before .before .before .before .before .before .before .before .before .before .before .before .before .before .before .before .before .before .before .before) in
     let o : 1 ≤ depthOf (a .tables .now) (a .thread) = omega (arith, c .before .before .before .before .before .before .before .before .before .before .before .before .before .before .before .before .before .before .before .before .before .before .before .wide .ensures, c .before .before .before .before .before .before .before .before .before .before .before .before .before .before .before .before .before .before .before .before .before .before .before .before .depth .ensures, c .before .before .before .before .before .before .before .before .before .before .before .before .before .before .before .before .before .before .before .before .before .before .if1 .left) in
-    let m = c .before .before .before .before .before .before .before .before .before .before .before .before .before .before .before .before .before .before .mark-survivors .ensures in
+    let m = c .before .before .before .before .before .before .before .before .before .before .before .before .before .before .before .before .before .mark-survivors .ensures in
     (room-now (a .p) (pre .0) w (pre .1 .0) f (a .thread) (pre .1 .1) o _ m, (cells-now (a .p) (pre .0) w (pre .1 .0) f (a .thread) (pre .1 .1) o _ m, small-now (a .p) (pre .0) w (pre .1 .0) f (a .thread) (pre .1 .1) o _ m))
 
 same-length-5 : tie.Need-same-length-5
@@ -140,9 +140,9 @@ returns-3 c =
     let pre = c .before .before .before .before .before .before .before .before .before .before .before .before .before .before .before .before .before .before .before .before .before .before .before .before .before .before .before .before .before .before .before .before .before .before .pre in
     let w = words (a .cells .now) (a .remember .now) (a .tables .now) in
     let f = fits (c .before .before .before .before .before .before .before .before .before .before .before .before .before .before .before .before .before .before .before .before .before .before .before .before .before .before .before .before .before) in
-    let m = c .before .before .before .before .before .before .before .before .before .before .before .before .before .before .before .before .before .before .before .before .before .before .before .mark-survivors .ensures in
-    out-full (a .p) (pre .0) w (pre .1 .0) f (a .thread) (pre .1 .1) (c .before .before .before .before .before .before .before .before .before .before .before .before .before .before .before .before .before .before .before .before .before .before .before .before .before .before .before .before .wide .result) (c .before .before .before .before .before .before .before .before .before .before .before .before .before .before .before .before .needed-pages .result) (c .before .before .before .before .before .before .before .before .before .before .before .before .before .before .free-pages .result) (c .before .before .before .before .before .before .before .before .before .before .before .before .before .before .before .before .before .before .before .before .before .before .before .before .before .before .before .before .wide .ensures ∙ c .before .before .before .before .before .before .before .before .before .before .before .before .before .before .before .before .before .before .before .before .before .before .before .before .before .before .before .before .before .depth .ensures) (omega (arith, c .before .before .before .before .before .before .before .before .before .before .before .before .before .before .before .before .before .before .before .before .before .before .before .before .before .before .before .if1 .left)) m (c .before .before .before .before .before .before .before .before .before .before .before .before .before .before .before .before .needed-pages .ensures)
-    (c .before .before .before .before .before .before .before .before .before .before .before .before .before .before .free-pages .ensures) (c .before .before .before .before .before .before .before .before .before .region-at .result) (c .before .before .before .before .before .before .before .before .count-crossing .result) (c .before .before .before .before .before .before .before .before .before .region-at .ensures) (c .before .before .before .before .before .before .before .before .count-crossing .ensures) (omega (arith, c .before .before .before .before .before .before .before .before .before .before .before .before .before .if2 .left)) (c .before .before .before .before .unmark2 .ensures)
+    let m = c .before .before .before .before .before .before .before .before .before .before .before .before .before .before .before .before .before .before .before .before .before .before .mark-survivors .ensures in
+    out-full (a .p) (pre .0) w (pre .1 .0) f (a .thread) (pre .1 .1) (c .before .before .before .before .before .before .before .before .before .before .before .before .before .before .before .before .before .before .before .before .before .before .before .before .before .before .before .before .wide .result) (c .before .before .before .before .before .before .before .before .before .before .before .before .before .before .before .needed-pages .result) (c .before .before .before .before .before .before .before .before .before .before .before .before .before .owned-pages .result) (c .before .before .before .before .before .before .before .before .before .before .before .before .before .before .before .before .before .before .before .before .before .before .before .before .before .before .before .before .wide .ensures ∙ c .before .before .before .before .before .before .before .before .before .before .before .before .before .before .before .before .before .before .before .before .before .before .before .before .before .before .before .before .before .depth .ensures) (omega (arith, c .before .before .before .before .before .before .before .before .before .before .before .before .before .before .before .before .before .before .before .before .before .before .before .before .before .before .before .if1 .left)) m (c .before .before .before .before .before .before .before .before .before .before .before .before .before .before .before .needed-pages .ensures)
+    (c .before .before .before .before .before .before .before .before .before .before .before .before .before .owned-pages .ensures) (c .before .before .before .before .before .before .before .before .before .before .before .before .before .before .before .before .before .before .before .before .before .before .before .before .before .before .region-at .result) (c .before .before .before .before .before .before .before .before .count-crossing .result) (c .before .before .before .before .before .before .before .before .before .before .before .before .before .before .before .before .before .before .before .before .before .before .before .before .before .before .region-at .ensures) (c .before .before .before .before .before .before .before .before .count-crossing .ensures) (omega (arith, c .before .before .before .before .before .before .before .before .before .before .before .before .if2 .left)) (c .before .before .before .before .unmark2 .ensures)
     (omega (arith, c .before .before .before .before .before .before .before .if3 .taken))
 
 evacuate-requires : tie.Need-evacuate-requires
@@ -152,10 +152,10 @@ evacuate-requires c κs =
     let w = words (a .cells .now) (a .remember .now) (a .tables .now) in
     let f = fits (c .before .before .before .before .before .before .before .before .before .before .before .before .before .before .before .before .before .before .before .before .before .before .before .before .before) in
     let o : 1 ≤ depthOf (a .tables .now) (a .thread) = omega (arith, c .before .before .before .before .before .before .before .before .before .before .before .before .before .before .before .before .before .before .before .before .before .before .before .before .wide .ensures, c .before .before .before .before .before .before .before .before .before .before .before .before .before .before .before .before .before .before .before .before .before .before .before .before .before .depth .ensures, c .before .before .before .before .before .before .before .before .before .before .before .before .before .before .before .before .before .before .before .before .before .before .before .if1 .left) in
-    let m = c .before .before .before .before .before .before .before .before .before .before .before .before .before .before .before .before .before .before .before .mark-survivors .ensures in
+    let m = c .before .before .before .before .before .before .before .before .before .before .before .before .before .before .before .before .before .before .mark-survivors .ensures in
     let e = depth-now (a .p) (pre .0) w (pre .1 .0) f (a .thread) (pre .1 .1) o _ m in (
-      goes-on (a .p) (pre .0) w (pre .1 .0) f (a .thread) (pre .1 .1) (c .before .before .before .before .before .before .before .before .before .before .before .before .before .before .before .before .before .before .before .before .before .before .before .before .wide .result) (c .before .before .before .before .before .before .before .before .before .before .before .before .needed-pages .result) (c .before .before .before .before .before .before .before .before .before .before .free-pages .result) (c .before .before .before .before .before .before .before .before .before .before .before .before .before .before .before .before .before .before .before .before .before .before .before .before .wide .ensures ∙ c .before .before .before .before .before .before .before .before .before .before .before .before .before .before .before .before .before .before .before .before .before .before .before .before .before .depth .ensures) (omega (arith, c .before .before .before .before .before .before .before .before .before .before .before .before .before .before .before .before .before .before .before .before .before .before .before .if1 .left)) m (c .before .before .before .before .before .before .before .before .before .before .before .before .needed-pages .ensures)
-          (c .before .before .before .before .before .before .before .before .before .before .free-pages .ensures) (c .before .before .before .before .before .region-at .result) (c .before .before .before .before .count-crossing .result) (c .before .before .before .before .before .region-at .ensures) (c .before .before .before .before .count-crossing .ensures) (omega (arith, c .before .before .before .before .before .before .before .before .before .if2 .left)) (omega (arith, c .before .before .before .if3 .left)),
+      goes-on (a .p) (pre .0) w (pre .1 .0) f (a .thread) (pre .1 .1) (c .before .before .before .before .before .before .before .before .before .before .before .before .before .before .before .before .before .before .before .before .before .before .before .before .wide .result) (c .before .before .before .before .before .before .before .before .before .before .before .needed-pages .result) (c .before .before .before .before .before .before .before .before .before .owned-pages .result) (c .before .before .before .before .before .before .before .before .before .before .before .before .before .before .before .before .before .before .before .before .before .before .before .before .wide .ensures ∙ c .before .before .before .before .before .before .before .before .before .before .before .before .before .before .before .before .before .before .before .before .before .before .before .before .before .depth .ensures) (omega (arith, c .before .before .before .before .before .before .before .before .before .before .before .before .before .before .before .before .before .before .before .before .before .before .before .if1 .left)) m (c .before .before .before .before .before .before .before .before .before .before .before .needed-pages .ensures)
+          (c .before .before .before .before .before .before .before .before .before .owned-pages .ensures) (c .before .before .before .before .before .before .before .before .before .before .before .before .before .before .before .before .before .before .before .before .before .before .region-at .result) (c .before .before .before .before .count-crossing .result) (c .before .before .before .before .before .before .before .before .before .before .before .before .before .before .before .before .before .before .before .before .before .before .region-at .ensures) (c .before .before .before .before .count-crossing .ensures) (omega (arith, c .before .before .before .before .before .before .before .before .if2 .left)) (omega (arith, c .before .before .before .if3 .left)),
       (pre .1 .1, omega (arith, e, o), omega (arith, e, depth-high (a .p) (pre .0) w (pre .1 .0) f (a .thread) (pre .1 .1))),
     )
 
@@ -177,9 +177,9 @@ returns-4 c =
     let pre = c .before .before .before .before .before .before .before .before .before .before .before .before .before .before .before .before .before .before .before .before .before .before .before .before .before .before .before .before .before .before .before .before .before .before .before .before .before .pre in
     let w = words (a .cells .now) (a .remember .now) (a .tables .now) in
     let f = fits (c .before .before .before .before .before .before .before .before .before .before .before .before .before .before .before .before .before .before .before .before .before .before .before .before .before .before .before .before .before .before .before .before) in
-    let m = c .before .before .before .before .before .before .before .before .before .before .before .before .before .before .before .before .before .before .before .before .before .before .before .before .before .before .mark-survivors .ensures in
-    out-done (a .p) (pre .0) w (pre .1 .0) f (a .thread) (pre .1 .1) (c .before .before .before .before .before .before .before .before .before .before .before .before .before .before .before .before .before .before .before .before .before .before .before .before .before .before .before .before .before .before .before .wide .result) (c .before .before .before .before .before .before .before .before .before .before .before .before .before .before .before .before .before .before .before .needed-pages .result) (c .before .before .before .before .before .before .before .before .before .before .before .before .before .before .before .before .before .free-pages .result) (c .before .before .before .before .before .before .before .before .before .before .before .before .before .before .before .before .before .before .before .before .before .before .before .before .before .before .before .before .before .before .before .wide .ensures ∙ c .before .before .before .before .before .before .before .before .before .before .before .before .before .before .before .before .before .before .before .before .before .before .before .before .before .before .before .before .before .before .before .before .depth .ensures) (omega (arith, c .before .before .before .before .before .before .before .before .before .before .before .before .before .before .before .before .before .before .before .before .before .before .before .before .before .before .before .before .before .before .if1 .left)) m (c .before .before .before .before .before .before .before .before .before .before .before .before .before .before .before .before .before .before .before .needed-pages .ensures)
-    (c .before .before .before .before .before .before .before .before .before .before .before .before .before .before .before .before .before .free-pages .ensures) (c .before .before .before .before .before .before .before .before .before .before .before .before .region-at .result) (c .before .before .before .before .before .before .before .before .before .before .before .count-crossing .result) (c .before .before .before .before .before .before .before .before .before .before .before .before .region-at .ensures) (c .before .before .before .before .before .before .before .before .before .before .before .count-crossing .ensures) (omega (arith, c .before .before .before .before .before .before .before .before .before .before .before .before .before .before .before .before .if2 .left)) (omega (arith, c .before .before .before .before .before .before .before .before .before .before .if3 .left))
+    let m = c .before .before .before .before .before .before .before .before .before .before .before .before .before .before .before .before .before .before .before .before .before .before .before .before .before .mark-survivors .ensures in
+    out-done (a .p) (pre .0) w (pre .1 .0) f (a .thread) (pre .1 .1) (c .before .before .before .before .before .before .before .before .before .before .before .before .before .before .before .before .before .before .before .before .before .before .before .before .before .before .before .before .before .before .before .wide .result) (c .before .before .before .before .before .before .before .before .before .before .before .before .before .before .before .before .before .before .needed-pages .result) (c .before .before .before .before .before .before .before .before .before .before .before .before .before .before .before .before .owned-pages .result) (c .before .before .before .before .before .before .before .before .before .before .before .before .before .before .before .before .before .before .before .before .before .before .before .before .before .before .before .before .before .before .before .wide .ensures ∙ c .before .before .before .before .before .before .before .before .before .before .before .before .before .before .before .before .before .before .before .before .before .before .before .before .before .before .before .before .before .before .before .before .depth .ensures) (omega (arith, c .before .before .before .before .before .before .before .before .before .before .before .before .before .before .before .before .before .before .before .before .before .before .before .before .before .before .before .before .before .before .if1 .left)) m (c .before .before .before .before .before .before .before .before .before .before .before .before .before .before .before .before .before .before .needed-pages .ensures)
+    (c .before .before .before .before .before .before .before .before .before .before .before .before .before .before .before .before .owned-pages .ensures) (c .before .before .before .before .before .before .before .before .before .before .before .before .before .before .before .before .before .before .before .before .before .before .before .before .before .before .before .before .before .region-at .result) (c .before .before .before .before .before .before .before .before .before .before .before .count-crossing .result) (c .before .before .before .before .before .before .before .before .before .before .before .before .before .before .before .before .before .before .before .before .before .before .before .before .before .before .before .before .before .region-at .ensures) (c .before .before .before .before .before .before .before .before .before .before .before .count-crossing .ensures) (omega (arith, c .before .before .before .before .before .before .before .before .before .before .before .before .before .before .before .if2 .left)) (omega (arith, c .before .before .before .before .before .before .before .before .before .before .if3 .left))
     (c .before .before .before .before .before .before .evacuate .ensures)
 
 pub end-spec : {M : Type 1} → statement M
@@ -190,15 +190,15 @@ end-spec =
     wide-requires
     same-length
     returns
+    region-at-requires
     mark-survivors-requires
     needed-pages-requires
-    free-pages-requires
+    owned-pages-requires
     unmark-requires
     same-length-2
     same-length-3
     same-length-4
     returns-2
-    region-at-requires
     count-crossing-requires
     unmark-requires-2
     same-length-5

@@ -1,33 +1,33 @@
--- n counts the free pages passed.
+-- n counts the pages of g passed.
 use Prim.Native.Nat.{_≤_, _-_}
 use mathlib.Core.Path.{_≡_, refl, ap, _∙_}
 use native.Mathlib.Omega.{arith}
 use Rattle.lists.specs.Counting.{sum-more}
-use Rattle.epoch.specs.CensusCounts.{freeOne, freeIn, free-le}
-use Rattle.epoch.proofs.needs.free_pages.Statement.{statement}
-use Rattle.epoch.proofs.needs.free_pages.Tie as tie
+use Rattle.epoch.specs.CensusCounts.{ownedOne, ownedIn, owned-le}
+use Rattle.epoch.proofs.needs.owned_pages.Statement.{statement}
+use Rattle.epoch.proofs.needs.owned_pages.Tie as tie
 
 abbrev Inv-loop : tie.InvT-loop
-Inv-loop p tables pages n₀ page₀ n page =
-    (page ≤ pages) × (pages ≡ p .pages) × (n ≡ freeIn p tables page) × (n ≤ page)
+Inv-loop p tables g pages n₀ page₀ n page =
+    (page ≤ pages) × (pages ≡ p .pages) × (n ≡ ownedIn p tables g page) × (n ≤ page)
 
 abbrev μ-loop : tie.MeasureT-loop
-μ-loop p tables pages n₀ page₀ n page =
+μ-loop p tables g pages n₀ page₀ n page =
     pages - page
 
 loop-holds : tie.Need-loop-holds Inv-loop μ-loop
 loop-holds c =
     (omega arith, refl, refl, omega arith)
 
-is-free-requires : tie.Need-is-free-requires Inv-loop μ-loop
-is-free-requires c κs =
+is-owned-requires : tie.Need-is-owned-requires Inv-loop μ-loop
+is-owned-requires c κs =
     (c .before .before .before .pre, omega arith)
 
 add-n : tie.Need-add-n Inv-loop μ-loop
 add-n c =
     let a = c .before .before .before .before .args in
     let l = c .before .before .loop in
-    omega (arith, c .is-free .ensures, free-le (a .p) (a .tables .now) (l .page), l .inv .3, c .before .before .before .before .pre)
+    omega (arith, c .is-owned .ensures, owned-le (a .p) (a .tables .now) (a .g) (l .page), l .inv .3, c .before .before .before .before .pre)
 
 add-page : tie.Need-add-page Inv-loop μ-loop
 add-page c =
@@ -41,23 +41,23 @@ loop-again : tie.Need-loop-again Inv-loop μ-loop
 loop-again c =
     let a = c .before .before .before .before .args in
     let l = c .before .before .loop in
-    let m = sum-more (freeOne (a .p) (a .tables .now)) (l .page) in
-    (omega arith, l .inv .1, omega (arith, c .is-free .ensures, m, l .inv .2), omega (arith, c .is-free .ensures, free-le (a .p) (a .tables .now) (l .page), l .inv .3))
+    let m = sum-more (ownedOne (a .p) (a .tables .now) (a .g)) (l .page) in
+    (omega arith, l .inv .1, omega (arith, c .is-owned .ensures, m, l .inv .2), omega (arith, c .is-owned .ensures, owned-le (a .p) (a .tables .now) (a .g) (l .page), l .inv .3))
 
 returns : tie.Need-returns Inv-loop μ-loop
 returns c =
     let a = c .before .before .before .args in
     let e : c .before .loop .page ≡ a .p .pages = omega arith in
-    c .before .loop .inv .2 ∙ ap (freeIn (a .p) (a .tables .now)) e
+    c .before .loop .inv .2 ∙ ap (ownedIn (a .p) (a .tables .now) (a .g)) e
 
-pub free-pages-spec : {M : Type 1} → statement M
-free-pages-spec =
+pub owned-pages-spec : {M : Type 1} → statement M
+owned-pages-spec =
     tie.close
     (tie.spec
     Inv-loop
     μ-loop
     loop-holds
-    is-free-requires
+    is-owned-requires
     add-n
     add-page
     loop-less
