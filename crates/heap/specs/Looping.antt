@@ -1,5 +1,5 @@
 -- What the loop of run keeps: the chain of the commands so far, with their answers in the first words of the answer slice.
-use Prim.Native.Nat.{ℕ, suc, _+_, _*_, _%_, _≤_, _<_}
+use Prim.Native.Nat.{ℕ, suc, _+_, _*_, _≤_, _<_}
 use native.Mathlib.Omega.{arith}
 use native.Mathlib.Numerals.{add-one}
 use mathlib.Core.Path.{_≡_, refl, sym, ap₂, subst, _∙_}
@@ -56,23 +56,31 @@ module _ (as′ : List ℕ) (i n v : ℕ) (fits : 2 * i + 1 < length as′) wher
         rest = drop-set-lt (2 * m) (set as′ (2 * i) n) (2 * i + 1) v (omega arith) ∙ drop-set-lt (2 * m) as′ (2 * i) n (omega arith) ∙ k .rest;
       }
 
--- ---- the refusals of run
+-- ---- the questions of run
 
 pub same-from : (n : ℕ) (l : List ℕ) → SameFrom n l l
 same-from n l = record { long = refl; rest = refl }
 
-ran-refused : (w : Words) (block lent : List ℕ) (q : ℕ) → RunAsked w block lent (suc q) → Ran w block lent (suc q) w lent
-ran-refused w block lent q a =
-    record { asked = a; refused = λ n. (refl, refl); obeyed = λ z. absurd (omega arith); spare = same-from (2 * size block) lent }
+-- a refused run changes nothing
+pub ran-refused : {w : Words} {block lent : List ℕ} {q : ℕ} → RunAsked w block lent q → (q ≡ 0 → ⊥) → Ran w block lent q w lent
+ran-refused {w} {block} {lent} a n =
+    record { asked = a; refused = λ m. (refl, refl); obeyed = λ z. absurd (n z); spare = same-from (2 * size block) lent }
 
-pub ran-not-whole : (w : Words) (block lent : List ℕ) → (WholeWords w → ⊥) → Ran w block lent 3 w lent
-ran-not-whole w block lent n = ran-refused w block lent 2 (notWhole refl n)
+pub asked-none : {w : Words} {block lent : List ℕ} {q : ℕ} → RunAsked w block lent q → q ≡ 0 → RunAsked w block lent 0
+asked-none {w} {block} {lent} a e = subst (RunAsked w block lent) e a
 
-pub ran-uneven : (w : Words) (block lent : List ℕ) → WholeWords w → (length block % 5 ≡ 0 → ⊥) → Ran w block lent 4 w lent
-ran-uneven w block lent k n = ran-refused w block lent 3 (uneven refl k n)
+-- what holds where none says no
+pub asked-whole : {w : Words} {block lent : List ℕ} → RunAsked w block lent 0 → WholeWords w
+asked-whole (accepted e k f l) = k
+asked-whole (notWhole e n) = absurd (let z : ⊥ = omega arith in z)
+asked-whole (uneven e k n) = k
+asked-whole (short e k f l) = k
 
-pub ran-short : (w : Words) (block lent : List ℕ) → WholeWords w → length block % 5 ≡ 0 → length lent < 2 * size block → Ran w block lent 5 w lent
-ran-short w block lent k e l = ran-refused w block lent 4 (short refl k e l)
+pub asked-room : {w : Words} {block lent : List ℕ} → RunAsked w block lent 0 → 2 * size block ≤ length lent
+asked-room (accepted e k f l) = l
+asked-room (notWhole e n) = absurd (let z : ⊥ = omega arith in z)
+asked-room (uneven e k n) = absurd (let z : ⊥ = omega arith in z)
+asked-room (short e k f l) = absurd (let z : ⊥ = omega arith in z)
 
 -- ---- what every command keeps
 
@@ -82,11 +90,6 @@ did-whole s {w} k d = d .next (heapOf s w) (λ c. c) (heap-stands s w k) .stands
 pub chain-whole : (s : Sizes) {w w′ : Words} {ms : List Command} {as′ : List Answer} → WholeFor s w → Chain s w ms as′ w′ → WholeFor s w′
 chain-whole s k none = k
 chain-whole s k (more d c) = chain-whole s (did-whole s k d) c
-
--- the accepted run: its chain is complete
-pub ran-accepted : (w : Words) (block lent : List ℕ) (w′ : Words) (answers : List ℕ) → WholeWords w → length block % 5 ≡ 0 → 2 * size block ≤ length lent
-    → Chain (sizesIn w) w (listed (commandAt block) (size block)) (listed (answerAt answers) (size block)) w′ → SameFrom (2 * size block) lent answers → Ran w block lent 0 w′ answers
-ran-accepted w block lent w′ answers k e l c p = record { asked = accepted refl k e l; refused = λ n. absurd (n refl); obeyed = λ z. c; spare = p }
 
 -- ---- the state of the loop: i commands of the block were obeyed, from the words w to w₁
 
@@ -115,8 +118,12 @@ pub looped-to : {s : Sizes} {w w₁ : Words} {block lent answers : List ℕ} {i 
 looped-to {s} {w} {w₁} {block} {lent} {answers} l e = subst (λ (k : ℕ). Looped s w block lent w₁ answers k) e l
 
 -- the whole block
-pub looped-ran : {s : Sizes} {w w₁ : Words} {block lent answers : List ℕ} → WholeWords w → s ≡ sizesIn w → length block % 5 ≡ 0 → 2 * size block ≤ length lent
+pub looped-ran : {s : Sizes} {w w₁ : Words} {block lent answers : List ℕ} → RunAsked w block lent 0 → s ≡ sizesIn w
     → Looped s w block lent w₁ answers (size block) → Ran w block lent 0 w₁ answers
-looped-ran {s} {w} {w₁} {block} {lent} {answers} k e f room l =
-    ran-accepted w block lent w₁ answers k f room
-    (subst (λ (z : Sizes). Chain z w (listed (commandAt block) (size block)) (listed (answerAt answers) (size block)) w₁) e (l .chain)) (l .spare)
+looped-ran {s} {w} {w₁} {block} {lent} {answers} a e l =
+    record {
+      asked = a;
+      refused = λ n. absurd (n refl);
+      obeyed = λ z. subst (λ (x : Sizes). Chain x w (listed (commandAt block) (size block)) (listed (answerAt answers) (size block)) w₁) e (l .chain);
+      spare = l .spare;
+    }

@@ -1,5 +1,5 @@
 -- One command and a block, from what `commands` and `epoch` promise.
-use Prim.Native.Nat.{ℕ, zero, suc, _+_, _*_, _/_, _%_, _≤_, _<_}
+use Prim.Native.Nat.{ℕ, _+_, _*_, _≤_, _<_}
 use native.Mathlib.Omega.{arith}
 use mathlib.Core.Path.{_≡_, refl, sym, ap, subst, subst₂, _∙_}
 use mathlib.Core.List.{List}
@@ -12,7 +12,7 @@ use Rattle.layout.specs.declared.Places.{Places}
 use Rattle.layout.specs.Places.{sizesOf, sizesAt, placesOf}
 use Rattle.promises.specs.Words.{Words, words, sizesIn}
 use Rattle.promises.specs.Whole.{Whole, WholeFor, WholeWords}
-use Rattle.promises.specs.Promises.{DidHere, commandAt, size, Ran}
+use Rattle.promises.specs.Promises.{DidHere, commandAt, size, RunAsked, Ran}
 use Rattle.promises.specs.Here.{did-anywhere}
 use Rattle.commands.specs.declared.Decoded.the-variants.{End}
 use Rattle.commands.specs.declared.Obeyed.{Obeyed}
@@ -40,6 +40,10 @@ ends-did p o {c} {m} {t} {c′} {m′} {t′} {x} {u} {w} {a} did e d =
     let v : (x ≡ commandFor (End u)) × (u < p .threads) × (words c′ m′ t′ ≡ words c m t) = subst (Obeys p c m t x c′ m′ t′) e did in
     subst₂ (λ (b : Words) (y : Command). DidHere (sizesOf p) b y w a) (v .2) (sym (v .0)) d
 
+-- the same command
+pub did-same : {s : Sizes} {w w′ : Words} {x y : Command} {a : Answer} → DidHere s w x w′ a → x ≡ y → DidHere s w y w′ a
+did-same {s} {w} {w′} {a = a} d e = subst (λ (m : Command). DidHere s w m w′ a) e d
+
 -- the state of the loop, with what each turn asks
 pub record Turning (p : Places) (w : Words) (block lent : List ℕ) (c m t answers : List ℕ) (i : ℕ) : Type 0 where
   pub places : p ≡ placesOf (sizesOf p)
@@ -65,9 +69,9 @@ pub turn-fits : {p : Places} {w : Words} {block lent c m t answers : List ℕ} {
 turn-fits k l = omega (arith, k .room, k .looped .spare .long)
 
 pub turn-more : {p : Places} {w : Words} {block lent c m t answers : List ℕ} {i : ℕ} → Turning p w block lent c m t answers i → i < size block
-    → {c′ m′ t′ : List ℕ} {x : Command} {a : Answer} → x ≡ commandAt block i → DidHere (sizesOf p) (words c m t) x (words c′ m′ t′) a
+    → {c′ m′ t′ : List ℕ} {a : Answer} → DidHere (sizesOf p) (words c m t) (commandAt block i) (words c′ m′ t′) a
     → Turning p w block lent c′ m′ t′ (written answers i (a .number) (a .value)) (i + 1)
-turn-more {p} {w} {block} {lent} {c} {m} {t} {answers} {i} k l {c′} {m′} {t′} {x} {a} e d =
+turn-more {p} {w} {block} {lent} {c} {m} {t} {answers} {i} k l {c′} {m′} {t′} {a} d =
     record {
       places = k .places;
       room = k .room;
@@ -75,8 +79,7 @@ turn-more {p} {w} {block} {lent} {c} {m} {t} {answers} {i} k l {c′} {m′} {t�
       cells-long = d .beyond .cells .long ∙ k .cells-long;
       remember-long = d .beyond .remember .long ∙ k .remember-long;
       tables-long = d .beyond .tables .long ∙ k .tables-long;
-      looped = looped-more a (k .looped) l (k .room)
-          (did-anywhere (sizesOf p) (words c m t) (commandAt block i) (words c′ m′ t′) a (subst (λ (y : Command). DidHere (sizesOf p) (words c m t) y (words c′ m′ t′) a) e d));
+      looped = looped-more a (k .looped) l (k .room) (did-anywhere (sizesOf p) (words c m t) (commandAt block i) (words c′ m′ t′) a d);
     }
 
 -- the tables that the check found whole, for the places that are found in them
@@ -89,6 +92,6 @@ pub found-range : {c m t : List ℕ} {s : Sizes} → Whole c m t → s ≡ sizes
 found-range k e = subst InRange (sym e) (k .sizes .range)
 
 -- the whole block
-pub looped-found : {c m t block lent answers : List ℕ} {s : Sizes} {p : Places} {w′ : Words} → Whole c m t → s ≡ sizesAt t → p ≡ placesOf s
-    → length block % 5 ≡ 0 → 2 * size block ≤ length lent → Looped (sizesOf p) (words c m t) block lent w′ answers (size block) → Ran (words c m t) block lent 0 w′ answers
-looped-found {s = s} {p = p} k e f g room l = looped-ran k (ap sizesOf f ∙ e) g room l
+pub looped-found : {c m t block lent answers : List ℕ} {s : Sizes} {p : Places} {w′ : Words} → RunAsked (words c m t) block lent 0 → s ≡ sizesAt t → p ≡ placesOf s
+    → Looped (sizesOf p) (words c m t) block lent w′ answers (size block) → Ran (words c m t) block lent 0 w′ answers
+looped-found a e f l = looped-ran a (ap sizesOf f ∙ e) l

@@ -4,9 +4,8 @@ ghost use Prim.Native.Nat.{ℕ, _+_, _*_, _<_, _≤_};
 ghost use lib.ListN.{length};
 ghost use Rattle.layout.specs.Places.{sizesOf};
 ghost use Rattle.promises.specs.Words.{words};
-ghost use Rattle.promises.specs.Promises.{DidHere, Ran, commandAt, size};
+ghost use Rattle.promises.specs.Promises.{DidHere, Ran, RunAsked, commandAt};
 ghost use Rattle.commands.specs.Ready.{Ready};
-ghost use Rattle.heap.specs.Looping.{Looped};
 use commands::Obeyed;
 use layout::Places;
 use rules::Answer;
@@ -44,27 +43,58 @@ fn command_at(block: &[u32], i: usize) -> Command
     }
 }
 
+// Command i of a block, obeyed.
+fn obey_at(
+    p: Places,
+    cells: &mut [u32],
+    remember: &mut [u32],
+    tables: &mut [u32],
+    block: &[u32],
+    i: usize,
+) -> Answer
+    requires { ⌜ Ready p (now cells) (now remember) (now tables) ⌝ }
+    requires { ⌜ (i < 2305843009213693952) × (5 * i + 5 ≤ length (now block)) ⌝ }
+    ensures { λ r. ⌜ DidHere (sizesOf p) (words (now (cells .entry)) (now (remember .entry)) (now (tables .entry))) (commandAt (now (block .entry)) i) (words (now (cells .exit)) (now (remember .exit)) (now (tables .exit))) r ⌝ }
+{
+    obey(p, cells, remember, tables, command_at(block, i))
+}
+
 // The commands of a block, in order, each with its two answer words.
 fn obey_block(
-    p: Places,
     cells: &mut [u32],
     remember: &mut [u32],
     tables: &mut [u32],
     block: &[u32],
     answers: &mut [u32],
 )
-    requires { ⌜ Ready p (now cells) (now remember) (now tables) ⌝ }
-    requires { ⌜ 2 * size (now block) ≤ length (now answers) ⌝ }
-    ensures { λ _. ⌜ Looped (sizesOf p) (words (now (cells .entry)) (now (remember .entry)) (now (tables .entry))) (now (block .entry)) (now (answers .entry)) (words (now (cells .exit)) (now (remember .exit)) (now (tables .exit))) (now (answers .exit)) (size (now (block .entry))) ⌝ }
+    requires { ⌜ RunAsked (words (now cells) (now remember) (now tables)) (now block) (now answers) 0 ⌝ }
+    ensures { λ _. ⌜ Ran (words (now (cells .entry)) (now (remember .entry)) (now (tables .entry))) (now (block .entry)) (now (answers .entry)) 0 (words (now (cells .exit)) (now (remember .exit)) (now (tables .exit))) (now (answers .exit)) ⌝ }
 {
+    let p = layout::find_places(layout::read_sizes(tables));
     let n = block.len() / 5;
     let mut i: usize = 0;
     while i < n {
-        let a = obey(p, cells, remember, tables, command_at(block, i));
+        let a = obey_at(p, cells, remember, tables, block, i);
         answers[2 * i] = a.number;
         answers[2 * i + 1] = a.value;
         i += 1;
     }
+}
+
+// Questions 3, 4 and 5: the number of the first that says no, 0 if none does.
+fn ask(cells: &[u32], remember: &[u32], tables: &[u32], block: &[u32], answers: &[u32]) -> u32
+    ensures { λ q. ⌜ RunAsked (words (now (cells .entry)) (now (remember .entry)) (now (tables .entry))) (now (block .entry)) (now (answers .entry)) q ⌝ }
+{
+    if !whole::whole(cells, remember, tables) {
+        return 3;
+    }
+    if block.len() % 5 != 0 {
+        return 4;
+    }
+    if answers.len() < 2 * (block.len() / 5) {
+        return 5;
+    }
+    0
 }
 
 // Obeys the commands of a block and writes number and value for each. Gives 0; or on refusal, with tables and answers untouched, 3 for
@@ -80,16 +110,10 @@ pub extern "C" fn taldreku_run(
 ) -> u32
     ensures { λ r. ⌜ Ran (words (now (cells .entry)) (now (remember .entry)) (now (tables .entry))) (now (block .entry)) (now (answers .entry)) r (words (now (cells .exit)) (now (remember .exit)) (now (tables .exit))) (now (answers .exit)) ⌝ }
 {
-    if !whole::whole(cells, remember, tables) {
-        return 3;
+    let q = ask(cells, remember, tables, block, answers);
+    if q != 0 {
+        return q;
     }
-    if block.len() % 5 != 0 {
-        return 4;
-    }
-    if answers.len() < 2 * (block.len() / 5) {
-        return 5;
-    }
-    let p = layout::find_places(layout::read_sizes(tables));
-    obey_block(p, cells, remember, tables, block, answers);
+    obey_block(cells, remember, tables, block, answers);
     0
 }

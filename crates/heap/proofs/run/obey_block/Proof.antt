@@ -5,54 +5,58 @@ use mathlib.Core.Path.{_≡_, refl}
 use native.Mathlib.Omega.{arith}
 use Rattle.promises.specs.Words.{words}
 use Rattle.promises.specs.Promises.{size}
-use Rattle.heap.specs.Running.{Turning, turn-start, turn-ready, turn-fits, turn-more, turn-end}
+use Rattle.heap.specs.Looping.{asked-whole, asked-room}
+use Rattle.heap.specs.Running.{Turning, turn-start, turn-ready, turn-fits, turn-more, turn-end, whole-ready, found-range, looped-found}
 use Rattle.heap.proofs.run.obey_block.Statement.{statement}
 use Rattle.heap.proofs.run.obey_block.Tie as tie
 
 abbrev Inv-loop : tie.InvT-loop
-Inv-loop p cells₀ remember₀ tables₀ block answers₀ n i₀ cells remember tables answers i = Turning p (words cells₀ remember₀ tables₀) block answers₀ cells remember tables answers i × (n ≡ size block) × (n < 2305843009213693952)
+Inv-loop cells₀ remember₀ tables₀ block answers₀ p n i₀ cells remember tables answers i = Turning p (words cells₀ remember₀ tables₀) block answers₀ cells remember tables answers i × (n ≡ size block) × (n < 2305843009213693952)
 
 abbrev μ-loop : tie.MeasureT-loop
-μ-loop p cells₀ remember₀ tables₀ block answers₀ n i₀ cells remember tables answers i = n - i
+μ-loop cells₀ remember₀ tables₀ block answers₀ p n i₀ cells remember tables answers i = n - i
+
+read-sizes-requires : tie.Need-read-sizes-requires Inv-loop μ-loop
+read-sizes-requires c κs = asked-whole (c .before .before .before .before .before .before .pre) .sizes .sized
+
+find-places-requires : tie.Need-find-places-requires Inv-loop μ-loop
+find-places-requires c κs = found-range (asked-whole (c .before .before .before .before .before .before .before .pre)) (c .read-sizes .ensures)
 
 loop-holds : tie.Need-loop-holds Inv-loop μ-loop
-loop-holds c = (turn-start (c .before .before .before .before .before .pre .0) (c .before .before .before .before .before .pre .1), refl, omega arith)
+loop-holds c = (turn-start (whole-ready (asked-whole (c .before .before .before .before .before .before .before .before .pre)) (c .before .read-sizes .ensures) (c .find-places .ensures)) (asked-room (c .before .before .before .before .before .before .before .before .pre)), refl, omega arith)
 
-command-at-requires : tie.Need-command-at-requires Inv-loop μ-loop
-command-at-requires c κs = omega (arith, c .before .before .before .before .loop .inv .1)
-
-obey-requires : tie.Need-obey-requires Inv-loop μ-loop
-obey-requires c κs = turn-ready (c .before .before .before .before .before .loop .inv .0)
+obey-at-requires : tie.Need-obey-at-requires Inv-loop μ-loop
+obey-at-requires c κs = (turn-ready (c .before .before .before .before .loop .inv .0), omega (arith, c .before .before .before .before .loop .inv .1, c .before .before .before .before .loop .inv .2))
 
 mul-answers : tie.Need-mul-answers Inv-loop μ-loop
-mul-answers c = omega (arith, c .before .before .before .before .before .before .before .before .before .before .before .before .loop .inv .1, c .before .before .before .before .before .before .before .before .before .before .before .before .loop .inv .2)
+mul-answers c = omega (arith, c .before .before .before .before .before .before .before .before .before .before .before .loop .inv .1, c .before .before .before .before .before .before .before .before .before .before .before .loop .inv .2)
 
 mul-answers-2 : tie.Need-mul-answers-2 Inv-loop μ-loop
-mul-answers-2 c = omega (arith, c .before .before .before .before .before .before .before .before .before .before .before .before .loop .inv .1, c .before .before .before .before .before .before .before .before .before .before .before .before .loop .inv .2)
+mul-answers-2 c = omega (arith, c .before .before .before .before .before .before .before .before .before .before .before .loop .inv .1, c .before .before .before .before .before .before .before .before .before .before .before .loop .inv .2)
 
 slice-write-answers : tie.Need-slice-write-answers Inv-loop μ-loop
-slice-write-answers c = omega (arith, turn-fits (c .before .before .before .before .before .before .before .before .before .before .before .before .loop .inv .0) (omega (arith, c .before .before .before .before .before .before .before .before .before .before .before .before .loop .inv .1)))
+slice-write-answers c = omega (arith, turn-fits (c .before .before .before .before .before .before .before .before .before .before .before .loop .inv .0) (omega (arith, c .before .before .before .before .before .before .before .before .before .before .before .loop .inv .1)))
 
 mul-answers-3 : tie.Need-mul-answers-3 Inv-loop μ-loop
-mul-answers-3 c = omega (arith, c .before .before .before .before .before .before .before .before .before .before .before .before .loop .inv .1, c .before .before .before .before .before .before .before .before .before .before .before .before .loop .inv .2)
+mul-answers-3 c = omega (arith, c .before .before .before .before .before .before .before .before .before .before .before .loop .inv .1, c .before .before .before .before .before .before .before .before .before .before .before .loop .inv .2)
 
 add-answers : tie.Need-add-answers Inv-loop μ-loop
-add-answers c = omega (arith, c .before .before .before .before .before .before .before .before .before .before .before .before .loop .inv .1, c .before .before .before .before .before .before .before .before .before .before .before .before .loop .inv .2)
+add-answers c = omega (arith, c .before .before .before .before .before .before .before .before .before .before .before .loop .inv .1, c .before .before .before .before .before .before .before .before .before .before .before .loop .inv .2)
 
 mul-answers-4 : tie.Need-mul-answers-4 Inv-loop μ-loop
-mul-answers-4 c = omega (arith, c .before .before .before .before .before .before .before .before .before .before .before .before .loop .inv .1, c .before .before .before .before .before .before .before .before .before .before .before .before .loop .inv .2)
+mul-answers-4 c = omega (arith, c .before .before .before .before .before .before .before .before .before .before .before .loop .inv .1, c .before .before .before .before .before .before .before .before .before .before .before .loop .inv .2)
 
 slice-write-answers-2 : tie.Need-slice-write-answers-2 Inv-loop μ-loop
-slice-write-answers-2 c = lt-length-set (c .before .before .before .before .before .before .before .before .before .before .before .before .loop .answers) (2 * c .before .before .before .before .before .before .before .before .before .before .before .before .loop .i) _ (turn-fits (c .before .before .before .before .before .before .before .before .before .before .before .before .loop .inv .0) (omega (arith, c .before .before .before .before .before .before .before .before .before .before .before .before .loop .inv .1)))
+slice-write-answers-2 c = lt-length-set (c .before .before .before .before .before .before .before .before .before .before .before .loop .answers) (2 * c .before .before .before .before .before .before .before .before .before .before .before .loop .i) _ (turn-fits (c .before .before .before .before .before .before .before .before .before .before .before .loop .inv .0) (omega (arith, c .before .before .before .before .before .before .before .before .before .before .before .loop .inv .1)))
 
 add-i : tie.Need-add-i Inv-loop μ-loop
-add-i c = omega (arith, c .before .before .before .before .before .before .before .before .before .before .before .before .loop .inv .1, c .before .before .before .before .before .before .before .before .before .before .before .before .loop .inv .2)
+add-i c = omega (arith, c .before .before .before .before .before .before .before .before .before .before .before .loop .inv .1, c .before .before .before .before .before .before .before .before .before .before .before .loop .inv .2)
 
 loop-less : tie.Need-loop-less Inv-loop μ-loop
-loop-less c = omega (arith, c .before .before .before .before .before .before .before .before .before .before .before .before .loop .inv .1)
+loop-less c = omega (arith, c .before .before .before .before .before .before .before .before .before .before .before .loop .inv .1)
 
 loop-again : tie.Need-loop-again Inv-loop μ-loop
-loop-again c = (turn-more (c .before .before .before .before .before .before .before .before .before .before .before .before .loop .inv .0) (omega (arith, c .before .before .before .before .before .before .before .before .before .before .before .before .loop .inv .1)) (c .before .before .before .before .before .before .before .command-at .ensures) (c .before .before .before .before .before .before .obey .ensures), c .before .before .before .before .before .before .before .before .before .before .before .before .loop .inv .1, c .before .before .before .before .before .before .before .before .before .before .before .before .loop .inv .2)
+loop-again c = (turn-more (c .before .before .before .before .before .before .before .before .before .before .before .loop .inv .0) (omega (arith, c .before .before .before .before .before .before .before .before .before .before .before .loop .inv .1)) (c .before .before .before .before .before .before .obey-at .ensures), c .before .before .before .before .before .before .before .before .before .before .before .loop .inv .1, c .before .before .before .before .before .before .before .before .before .before .before .loop .inv .2)
 
 same-length : tie.Need-same-length Inv-loop μ-loop
 same-length c = c .before .loop .inv .0 .cells-long
@@ -67,7 +71,7 @@ same-length-4 : tie.Need-same-length-4 Inv-loop μ-loop
 same-length-4 c = c .before .loop .inv .0 .looped .spare .long
 
 returns : tie.Need-returns Inv-loop μ-loop
-returns c = turn-end (c .before .loop .inv .0) (omega (arith, c .before .loop .inv .1))
+returns c = looped-found (c .before .before .before .before .before .before .before .before .before .before .pre) (c .before .before .before .read-sizes .ensures) (c .before .before .find-places .ensures) (turn-end (c .before .loop .inv .0) (omega (arith, c .before .loop .inv .1)))
 
 pub obey-block-spec : {M : Type 1} → statement M
 obey-block-spec =
@@ -75,9 +79,10 @@ obey-block-spec =
     (tie.spec
     Inv-loop
     μ-loop
+    read-sizes-requires
+    find-places-requires
     loop-holds
-    command-at-requires
-    obey-requires
+    obey-at-requires
     mul-answers
     mul-answers-2
     slice-write-answers
