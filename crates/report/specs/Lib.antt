@@ -1,0 +1,11 @@
+-- What the report says, and that it says so of every heap that the words stand for.
+
+-- definitions: what must be read
+pub mod Report
+-- what the tables say
+pub mod Tables
+-- the numbers that pass a test, and the open regions one after the other
+pub mod Passing
+pub mod Opened
+-- the tables say what the rules say of every heap
+pub mod Stands

@@ -1,0 +1,66 @@
+-- The report (01, "The questions, in order"): rows stand by region number: thread, level, objects, pages, the control space as thread 0
+-- level 0; then free pages and crossing slots.
+use Prim.Native.Nat.{ℕ, suc, _≤_, _<_}
+use mathlib.Core.Path.{_≡_}
+use mathlib.Core.List.{List, _++_, map}
+use mathlib.Core.Bool.{Bool, cond, _||_}
+use lib.ListN.{length, getD, drop}
+use lib.Dec.{leb, eqb}
+use Rattle.lists.specs.Members.{keep}
+use Rattle.lists.specs.Listed.{listed}
+use Rattle.rules.specs.declared.Sizes.{Sizes}
+use Rattle.rules.specs.Regions.{threadOf, levelOf, regions}
+use Rattle.rules.specs.Graph.{Graph, crossing, pagesOf, objectsIn, freePages}
+use Rattle.rules.specs.Rules.{Regioned, graph}
+use Rattle.promises.specs.Words.{Words, sizesIn, depthsIn}
+use Rattle.promises.specs.Whole.{WholeWords}
+use Rattle.promises.specs.StandsFor.{StandsFor}
+use Rattle.report.specs.declared.Row.{Row}
+use Rattle.report.specs.declared.Reported.{Reported}
+
+-- ---- the rows
+
+-- region q is the control space, or its thread's depth reaches its level
+unfoldable pub isOpen : Sizes → List ℕ → ℕ → Bool
+isOpen s depths q = eqb q 1 || leb (levelOf s q) (getD depths (threadOf s q) 0)
+
+-- the control space and each open region, by rising number
+unfoldable pub openRegions : Sizes → List ℕ → List ℕ
+openRegions s depths = keep (isOpen s depths) (listed suc (regions s))
+
+-- a region's row, with so many objects
+abbrev pub rowWith : Sizes → ℕ → ℕ → Row
+rowWith s q objects =
+    record { thread = cond (eqb q 1) 0 (threadOf s q); level = cond (eqb q 1) 0 (levelOf s q); objects = objects; pages = pagesOf objects }
+
+unfoldable pub rows : Sizes → Regioned → List Row
+rows s h = map (λ q. rowWith s q (objectsIn (graph h) q)) (openRegions s (h .heap .depths))
+
+-- what stands for a row that is not there
+abbrev pub noRow : Row
+noRow = record { thread = 0; level = 0; objects = 0; pages = 0 }
+
+-- ---- the questions 3 and 15 in order: q is the first that says no, 0 if none does
+
+-- how many rows there are
+abbrev pub rowCount : Words → ℕ
+rowCount w = length (openRegions (sizesIn w) (depthsIn (sizesIn w) w))
+
+pub data ReportAsked (w : Words) (lent : List Row) (q : ℕ) : Type 0 where
+  notWhole : q ≡ 3 → (WholeWords w → ⊥) → ReportAsked w lent q
+  short : q ≡ 15 → WholeWords w → length lent < rowCount w → ReportAsked w lent q
+  accepted : q ≡ 0 → WholeWords w → rowCount w ≤ length lent → ReportAsked w lent q
+
+-- ---- the report
+
+-- of the heap h: the rows, then the spare rows as they were, and the two figures
+pub record Figures (s : Sizes) (h : Regioned) (lent : List Row) (r : Reported) (left : List Row) : Type 0 where
+  pub written : left ≡ rows s h ++ drop (length (rows s h)) lent
+  pub free : r .«free_pages» ≡ freePages s (graph h)
+  pub crossing : r .«crossing_slots» ≡ crossing (graph h)
+
+-- the report on the words w with lent rows gave r and left these rows
+pub record Told (w : Words) (lent : List Row) (r : Reported) (left : List Row) : Type 0 where
+  pub asked : ReportAsked w lent (r .number)
+  pub refused : (r .number ≡ 0 → ⊥) → (left ≡ lent) × (r .«free_pages» ≡ 0) × (r .«crossing_slots» ≡ 0)
+  pub told : r .number ≡ 0 → (h : Regioned) (cellOf : ℕ → ℕ) → StandsFor (sizesIn w) w h cellOf → Figures (sizesIn w) h lent r left

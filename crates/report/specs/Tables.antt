@@ -1,0 +1,87 @@
+-- What the tables alone say, as the code reads them.
+use Prim.Native.Nat.{ℕ, _^_, _≤_, _<_}
+use mathlib.Core.Path.{_≡_, refl, sym, ap, subst, _∙_}
+use mathlib.Core.List.{List, map}
+use mathlib.Core.Bool.{Bool, cond}
+use lib.Dec.{eqb}
+use lib.ListN.{length}
+use borrow.Author.Tests.{eq-eqb, ne-eqb}
+use Rattle.lists.specs.Counting.{bit, sum}
+use Rattle.rules.specs.declared.Sizes.{Sizes}
+use Rattle.rules.specs.Regions.{threadOf, levelOf}
+use Rattle.rules.specs.Graph.{pagesOf}
+use Rattle.rules.specs.Rules.{Regioned}
+use Rattle.layout.specs.declared.Places.{Places}
+use Rattle.layout.specs.Places.{Room, room, sizesAt, placesOf, sizesOf, ownerOf, countOf}
+use Rattle.promises.specs.Words.{words, depthsAt}
+use Rattle.promises.specs.Whole.{WholeFor, Whole}
+use Rattle.promises.specs.StandsFor.{StandsFor}
+use Rattle.promises.specs.Agreed.{whole-for}
+use Rattle.promises.specs.Reading.{range, tables-room}
+use Rattle.report.specs.declared.Row.{Row}
+use Rattle.report.specs.Report.{rowWith, openRegions}
+
+-- these are the tables of whole words, and the places are theirs
+pub record WholeTables (p : Places) (t : List ℕ) : Type 0 where
+  pub places : p ≡ placesOf (sizesOf p)
+  pub cells : List ℕ
+  pub remember : List ℕ
+  pub whole : WholeFor (sizesOf p) (words cells remember t)
+
+-- a claim about every heap that words with these tables stand for
+abbrev pub EveryHeap : Places → List ℕ → (Regioned → Type 0) → Type 0
+EveryHeap p t P = (c m : List ℕ) (h : Regioned) (cellOf : ℕ → ℕ) → StandsFor (sizesOf p) (words c m t) h cellOf → P h
+
+unfoldable pub rowIn : Places → List ℕ → ℕ → Row
+rowIn p t q = rowWith (sizesOf p) q (countOf p t q)
+
+abbrev pub openIn : Places → List ℕ → List ℕ
+openIn p t = openRegions (sizesOf p) (depthsAt (sizesOf p) t)
+
+unfoldable pub rowsIn : Places → List ℕ → List Row
+rowsIn p t = map (rowIn p t) (openIn p t)
+
+-- 1 for a free page, and the free pages
+abbrev pub freeOne : Places → List ℕ → ℕ → ℕ
+freeOne p t page = bit (eqb (ownerOf p t page) 0)
+
+abbrev pub freeIn : Places → List ℕ → ℕ
+freeIn p t = sum (freeOne p t) (p .pages)
+
+pub tables-room-of : (p : Places) (t : List ℕ) → WholeTables p t → length t < 2 ^ 63 → Room p (length t)
+tables-room-of p t k f =
+    let w = words (k .cells) (k .remember) t in
+    subst (λ (q : Places). Room q (length t)) (sym (k .places)) (room (sizesOf p) (length t) (range (sizesOf p) w (k .whole)) (tables-room (sizesOf p) w (k .whole)) f)
+
+pub threads-low : (p : Places) (t : List ℕ) → WholeTables p t → 1 ≤ p .threads
+threads-low p t k = range (sizesOf p) (words (k .cells) (k .remember) t) (k .whole) .threads-low
+
+-- a row as the code makes it
+module _ (p : Places) (t : List ℕ) (q : ℕ) {objects pages : ℕ} where
+  pub row-control : q ≡ 1 → objects ≡ countOf p t q → pages ≡ pagesOf objects → record { thread = 0; level = 0; objects = objects; pages = pages } ≡ rowIn p t q
+  unfolding rowIn
+  row-control e o g =
+      let b = eq-eqb q 1 e in
+      λ i. record {
+        thread = sym (ap (λ (c : Bool). cond c 0 (threadOf (sizesOf p) q)) b) i;
+        level = sym (ap (λ (c : Bool). cond c 0 (levelOf (sizesOf p) q)) b) i;
+        objects = o i;
+        pages = (g ∙ ap pagesOf o) i;
+      }
+
+  pub row-thread : {thread level : ℕ} → (q ≡ 1 → ⊥) → objects ≡ countOf p t q → pages ≡ pagesOf objects → thread ≡ threadOf (sizesOf p) q → level ≡ levelOf (sizesOf p) q
+      → record { thread = thread; level = level; objects = objects; pages = pages } ≡ rowIn p t q
+  unfolding rowIn
+  row-thread n o g th lv =
+      let b = ne-eqb q 1 n in
+      λ i. record {
+        thread = (th ∙ sym (ap (λ (c : Bool). cond c 0 (threadOf (sizesOf p) q)) b)) i;
+        level = (lv ∙ sym (ap (λ (c : Bool). cond c 0 (levelOf (sizesOf p) q)) b)) i;
+        objects = o i;
+        pages = (g ∙ ap pagesOf o) i;
+      }
+
+-- the places that were found for whole words
+pub whole-tables : {c m t : List ℕ} {s : Sizes} {p : Places} → Whole c m t → s ≡ sizesAt t → p ≡ placesOf s → WholeTables p t
+whole-tables {c} {m} {t} {s} {p} k e f =
+    subst (λ (q : Places). WholeTables q t) (sym (f ∙ ap placesOf e)) (record { places = refl; cells = c; remember = m; whole = whole-for (words c m t) k })

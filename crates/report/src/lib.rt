@@ -1,0 +1,152 @@
+// The report (01): a row for the control space and each open region, by region number, then free pages and crossing slots. It reads the
+// tables and changes none of them.
+ghost use mathlib.Core.Path.{_≡_};
+ghost use Prim.Native.Nat.{ℕ, _+_, _*_, _<_, _≤_};
+ghost use mathlib.Core.List.{List};
+ghost use lib.ListN.{length, getD};
+ghost use Rattle.rules.specs.declared.Sizes.{Sizes};
+ghost use Rattle.rules.specs.Graph.{pagesOf, crossing, freePages};
+ghost use Rattle.rules.specs.Rules.{Regioned, graph};
+ghost use Rattle.layout.specs.Places.{Room, sizesOf, usedIn};
+ghost use Rattle.promises.specs.Words.{words, depthsAt};
+ghost use Rattle.promises.specs.StandsFor.{StandsFor};
+ghost use Rattle.report.specs.Report.{rows, noRow};
+ghost use Rattle.report.specs.Opened.{Next};
+ghost use Rattle.report.specs.Tables.{WholeTables, EveryHeap, rowIn, rowsIn, freeOne, freeIn};
+use layout::Places;
+use layout::regions::level_of;
+use layout::regions::region_at;
+use layout::regions::thread_of;
+use layout::tables::count;
+use layout::tables::depth;
+use layout::tables::owner;
+use layout::wide;
+use whole::pages::is_open;
+
+// A region's row; the control space has thread 0 and level 0.
+pub struct Row {
+    pub thread: u32,
+    pub level: u32,
+    pub objects: u32,
+    pub pages: u32,
+}
+
+// 0 if the rows were written, else the number of the question that said no; and the two figures.
+pub struct Reported {
+    pub number: u32,
+    pub free_pages: u32,
+    pub crossing_slots: u32,
+}
+
+// How many pages a region of so many objects uses.
+pub fn pages_of(objects: u32) -> u32
+    ensures { λ n. ⌜ n ≡ pagesOf objects ⌝ }
+{
+    ((wide(objects) + 15) / 16) as u32
+}
+
+// The row of a region.
+pub fn row_of(p: Places, tables: &[u32], region: usize) -> Row
+    requires { ⌜ WholeTables p (now tables) ⌝ }
+    requires { ⌜ (1 ≤ region) × (region ≤ 1 + p .threads * p .depth) ⌝ }
+    ensures { λ r. ⌜ r ≡ rowIn p (now (tables .entry)) region ⌝ }
+{
+    let objects = count(p, tables, region);
+    let pages = pages_of(objects);
+    if region == 1 {
+        return Row {
+            thread: 0,
+            level: 0,
+            objects,
+            pages,
+        };
+    }
+    Row {
+        thread: thread_of(p, region) as u32,
+        level: level_of(p, region) as u32,
+        objects,
+        pages,
+    }
+}
+
+// The next open region by number; one past the last region if there is none.
+pub fn next_open(p: Places, tables: &[u32], region: usize) -> usize
+    requires { ⌜ WholeTables p (now tables) ⌝ }
+    requires { ⌜ (1 ≤ region) × (region ≤ 1 + p .threads * p .depth) ⌝ }
+    ensures { λ r. ⌜ Next (sizesOf p) (depthsAt (sizesOf p) (now (tables .entry))) region r ⌝ }
+{
+    let last = wide(region_at(p, p.threads - 1, p.depth));
+    let mut next = region + 1;
+    while next <= last {
+        if is_open(p, tables, next) {
+            return next;
+        }
+        next += 1;
+    }
+    next
+}
+
+// How many rows there are: one for the control space, and one for each open region.
+pub fn row_count(p: Places, tables: &[u32]) -> usize
+    requires { ⌜ WholeTables p (now tables) ⌝ }
+    ensures { λ n. ⌜ (n ≡ length (rowsIn p (now (tables .entry)))) × EveryHeap p (now (tables .entry)) (λ h. n ≡ length (rows (sizesOf p) h)) ⌝ }
+{
+    let threads = p.threads;
+    let mut n: usize = 1;
+    let mut thread: usize = 0;
+    while thread < threads {
+        n += wide(depth(p, tables, thread));
+        thread += 1;
+    }
+    n
+}
+
+// Row k, by region number.
+pub fn row_at(p: Places, tables: &[u32], k: usize) -> Row
+    requires { ⌜ WholeTables p (now tables) ⌝ }
+    requires { ⌜ k < length (rowsIn p (now tables)) ⌝ }
+    ensures { λ r. ⌜ (r ≡ getD (rowsIn p (now (tables .entry))) k noRow) × EveryHeap p (now (tables .entry)) (λ h. r ≡ getD (rows (sizesOf p) h) k noRow) ⌝ }
+{
+    let mut region: usize = 1;
+    let mut i: usize = 0;
+    while i < k {
+        region = next_open(p, tables, region);
+        i += 1;
+    }
+    row_of(p, tables, region)
+}
+
+// 1 if a page is free, else 0.
+fn is_free(p: Places, tables: &[u32], page: usize) -> u32
+    requires { ⌜ Room p (length (now tables)) ⌝ }
+    requires { ⌜ page < p .pages ⌝ }
+    ensures { λ n. ⌜ n ≡ freeOne p (now (tables .entry)) page ⌝ }
+{
+    if owner(p, tables, page) == 0 {
+        return 1;
+    }
+    0
+}
+
+// How many pages are free.
+pub fn free_pages(p: Places, tables: &[u32]) -> u32
+    requires { ⌜ WholeTables p (now tables) ⌝ }
+    ensures { λ n. ⌜ (n ≡ freeIn p (now (tables .entry))) × EveryHeap p (now (tables .entry)) (λ h. n ≡ freePages (sizesOf p) (graph h)) ⌝ }
+{
+    let pages = p.pages;
+    let mut n: u32 = 0;
+    let mut page: usize = 0;
+    while page < pages {
+        n += is_free(p, tables, page);
+        page += 1;
+    }
+    n
+}
+
+// How many slots are crossing: the remember table names each once.
+pub fn crossing_slots(remember: &[u32]) -> u32
+    requires { ⌜ 2 ≤ length (now remember) ⌝ }
+    ensures { λ n. ⌜ (n ≡ usedIn (now (remember .entry))) × ((s : Sizes) (c t : List ℕ) (h : Regioned) (cellOf : ℕ → ℕ) → StandsFor s (words c (now (remember .entry)) t) h cellOf → n ≡ crossing (graph h)) ⌝ }
+{
+    layout::remember::used(remember)
+}
