@@ -1,13 +1,14 @@
 /* Taldreku: an epoch heap in three lent slices of 32-bit words.
  *
- * The caller asks for the three lengths, lends three arrays, has them prepared, and then runs blocks of commands on them. Every function
- * takes any values at all, always returns, and either does its work or gives one of the refusal numbers below and changes nothing.
+ * The caller asks for the three lengths, lends three arrays, has them prepared, and then runs blocks of commands on them and has reports
+ * of them. Every function takes any values at all, always returns, and either does its work or gives one of the refusal numbers below and
+ * changes nothing.
  *
- * An array is passed as a pointer and its length in words. Longer arrays than asked for are accepted, and their extra words never
- * change. The arrays of one call must not overlap, and nobody else may write them during the call. No function keeps a pointer, none
+ * An array is passed as a pointer and its length in words, a list of rows in rows. Longer arrays than asked for are accepted, and their
+ * extra words and rows never change. The arrays of one call must not overlap, and nobody else may write them during the call. No function keeps a pointer, none
  * allocates, and none calls back.
  *
- * Link with libheap.a and liblayout.a (see README.md).
+ * Link with libheap.a, libreport.a and liblayout.a (see README.md).
  */
 #ifndef TALDREKU_H
 #define TALDREKU_H
@@ -33,7 +34,7 @@ enum taldreku_number {
     /* prepare: nothing was written */
     TALDREKU_SIZES = 1,          /* a size is out of range */
     TALDREKU_SHORT = 2,          /* one of the three arrays is too short */
-    /* run: tables and answers are untouched */
+    /* run: tables and answers are untouched; report: no row was written, and both figures are 0 */
     TALDREKU_NOT_WHOLE = 3,      /* the tables are not those of a heap */
     TALDREKU_BLOCK = 4,          /* the block is no multiple of five words */
     TALDREKU_ANSWERS = 5,        /* the answer array has fewer than two words for each command */
@@ -46,7 +47,9 @@ enum taldreku_number {
     TALDREKU_DEPTH = 11,         /* start: the thread's epochs are nested to the full depth */
     TALDREKU_NO_EPOCH = 12,      /* end: the thread has no open epoch */
     TALDREKU_PAGES = 13,         /* a new object or an end needs more pages than are free */
-    TALDREKU_ENTRIES = 14        /* a store or an end would leave more crossing slots than there are remember entries */
+    TALDREKU_ENTRIES = 14,       /* a store or an end would leave more crossing slots than there are remember entries */
+    /* report: no row was written, and both figures are 0 */
+    TALDREKU_ROWS = 15           /* there is not a row for the control space and each open region */
 };
 
 /* A command is five words: code, thread, a, b, c. Operands that a code does not use are 0. Fields count from 0. */
@@ -73,6 +76,21 @@ uint32_t taldreku_prepare(uint32_t threads, uint32_t variables, uint32_t depth, 
 uint32_t taldreku_run(uint32_t *cells, size_t cells_words, uint32_t *remember, size_t remember_words,
                       uint32_t *tables, size_t tables_words, const uint32_t *block, size_t block_words,
                       uint32_t *answers, size_t answers_words);
+
+/* The row of a region: its thread and level, both 0 for the control space, its objects and its pages. */
+struct taldreku_row {
+    uint32_t thread, level, objects, pages;
+};
+
+/* The result of a report: 0, 3 or 15, and the two figures. */
+struct taldreku_reported {
+    uint32_t number, free_pages, crossing_slots;
+};
+
+/* Writes a row for the control space and one for each open region, by region number: the control space, then thread by thread from the
+ * outermost region in. 1 + threads * depth rows are always enough. Only the rows are written. */
+struct taldreku_reported taldreku_report(const uint32_t *cells, size_t cells_words, const uint32_t *remember, size_t remember_words,
+                                         const uint32_t *tables, size_t tables_words, struct taldreku_row *rows, size_t rows_count);
 
 #ifdef __cplusplus
 }

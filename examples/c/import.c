@@ -5,7 +5,7 @@
 #include <stdio.h>
 #include <stdlib.h>
 
-enum { THREADS = 2, VARIABLES = 4, DEPTH = 2, PAGES = 8, ENTRIES = 16, WHEELS = 20 };
+enum { THREADS = 2, VARIABLES = 4, DEPTH = 2, PAGES = 8, ENTRIES = 16, WHEELS = 20, ROWS = 1 + THREADS * DEPTH };
 
 /* the variables of a thread */
 enum { REGISTER = 0, WHEEL = 1, LAST = 2, FOUND = 3 };
@@ -41,6 +41,21 @@ static void run(const char *what) {
     commands = 0;
 }
 
+/* Prints the report as a table. Spare rows never change: a mark that no row has, set beforehand, shows where the rows end. */
+static void report(void) {
+    struct taldreku_row rows[ROWS];
+    for (size_t i = 0; i < ROWS; i++) rows[i].thread = THREADS;
+    struct taldreku_reported r = taldreku_report(cells, cells_words, remember, remember_words, tables, tables_words, rows, ROWS);
+    if (r.number != TALDREKU_DONE) {
+        printf("report: refused with %u\n", (unsigned)r.number);
+        exit(1);
+    }
+    printf("thread  level  objects  pages\n");
+    for (size_t i = 0; i < ROWS && rows[i].thread < THREADS; i++)
+        printf("%6u %6u %8u %6u\n", (unsigned)rows[i].thread, (unsigned)rows[i].level, (unsigned)rows[i].objects, (unsigned)rows[i].pages);
+    printf("%u pages free, %u slots crossing\n", (unsigned)r.free_pages, (unsigned)r.crossing_slots);
+}
+
 /* A sheet of wheels. The register keeps the second, which leads to the first; the others are thrown away at the end. */
 static void sheet(uint32_t thread, uint32_t pressure) {
     command(TALDREKU_START, thread, 0, 0, 0);
@@ -54,7 +69,6 @@ static void sheet(uint32_t thread, uint32_t pressure) {
     }
     command(TALDREKU_CLEAR, thread, WHEEL, 0, 0);
     command(TALDREKU_CLEAR, thread, LAST, 0, 0);
-    command(TALDREKU_END, thread, 0, 0, 0);
 }
 
 int main(void) {
@@ -83,6 +97,10 @@ int main(void) {
     run("sheet of thread 0");
     sheet(1, 700);
     run("sheet of thread 1");
+    report();
+    command(TALDREKU_END, 0, 0, 0, 0);
+    command(TALDREKU_END, 1, 0, 0, 0);
+    run("end of the sheets");
     command(TALDREKU_END, 1, 0, 0, 0);
     command(TALDREKU_END, 0, 0, 0, 0);
     run("end of the workbook");
@@ -103,6 +121,13 @@ int main(void) {
     command(TALDREKU_READ, 1, FOUND, 0, 0);
     if (taldreku_run(cells, cells_words, remember, remember_words, tables, tables_words, block, 5, answers, 2) != TALDREKU_DONE) return 1;
     printf("a null variable: refused with %u\n", (unsigned)answers[0]);
+
+    /* and so is a report without room for its rows */
+    struct taldreku_row row;
+    struct taldreku_reported none = taldreku_report(cells, cells_words, remember, remember_words, tables, tables_words, &row, 0);
+    printf("a report without rows: refused with %u, figures %u and %u\n", (unsigned)none.number, (unsigned)none.free_pages,
+           (unsigned)none.crossing_slots);
+    report();
 
     free(cells);
     free(remember);

@@ -9,3 +9,5 @@ pub mod Passing
 pub mod Opened
 -- the tables say what the rules say of every heap
 pub mod Stands
+-- the rows in a lent list
+pub mod Lent

@@ -40,16 +40,16 @@ rows s h = map (λ q. rowWith s q (objectsIn (graph h) q)) (openRegions s (h .he
 abbrev pub noRow : Row
 noRow = record { thread = 0; level = 0; objects = 0; pages = 0 }
 
--- ---- the questions 3 and 15 in order: q is the first that says no, 0 if none does
+-- ---- the questions 3 and 15 in order, of a lent list of so many rows: q is the first that says no, 0 if none does
 
 -- how many rows there are
 abbrev pub rowCount : Words → ℕ
 rowCount w = length (openRegions (sizesIn w) (depthsIn (sizesIn w) w))
 
-pub data ReportAsked (w : Words) (lent : List Row) (q : ℕ) : Type 0 where
-  notWhole : q ≡ 3 → (WholeWords w → ⊥) → ReportAsked w lent q
-  short : q ≡ 15 → WholeWords w → length lent < rowCount w → ReportAsked w lent q
-  accepted : q ≡ 0 → WholeWords w → rowCount w ≤ length lent → ReportAsked w lent q
+pub data ReportAsked (w : Words) (room q : ℕ) : Type 0 where
+  notWhole : q ≡ 3 → (WholeWords w → ⊥) → ReportAsked w room q
+  short : q ≡ 15 → WholeWords w → room < rowCount w → ReportAsked w room q
+  accepted : q ≡ 0 → WholeWords w → rowCount w ≤ room → ReportAsked w room q
 
 -- ---- the report
 
@@ -61,6 +61,6 @@ pub record Figures (s : Sizes) (h : Regioned) (lent : List Row) (r : Reported) (
 
 -- the report on the words w with lent rows gave r and left these rows
 pub record Told (w : Words) (lent : List Row) (r : Reported) (left : List Row) : Type 0 where
-  pub asked : ReportAsked w lent (r .number)
+  pub asked : ReportAsked w (length lent) (r .number)
   pub refused : (r .number ≡ 0 → ⊥) → (left ≡ lent) × (r .«free_pages» ≡ 0) × (r .«crossing_slots» ≡ 0)
   pub told : r .number ≡ 0 → (h : Regioned) (cellOf : ℕ → ℕ) → StandsFor (sizesIn w) w h cellOf → Figures (sizesIn w) h lent r left

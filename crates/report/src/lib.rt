@@ -23,7 +23,10 @@ use layout::tables::owner;
 use layout::wide;
 use whole::pages::is_open;
 
+pub mod lent;
+
 // A region's row; the control space has thread 0 and level 0.
+#[repr(C)]
 pub struct Row {
     pub thread: u32,
     pub level: u32,
@@ -32,6 +35,7 @@ pub struct Row {
 }
 
 // 0 if the rows were written, else the number of the question that said no; and the two figures.
+#[repr(C)]
 pub struct Reported {
     pub number: u32,
     pub free_pages: u32,

@@ -1,0 +1,65 @@
+-- The first question that says no decides; else the figures are those of the places that the tables name.
+use mathlib.Core.Path.{refl, sym, subst, _∙_}
+use Rattle.lists.specs.Says.{said-no}
+use Rattle.lists.specs.Tests.{not-is}
+use Rattle.layout.specs.declared.Places.{Places}
+use Rattle.promises.specs.Words.{words}
+use Rattle.report.specs.declared.lent.Asked.{Asked}
+use Rattle.report.specs.Tables.{WholeTables, whole-tables}
+use Rattle.report.specs.Lent.{Asking, asking-not-whole, asking-short, asking-all}
+use borrow.Author.Needs.{needs}
+use Rattle.report.proofs.lent.ask.Statement.{statement}
+use Rattle.report.proofs.lent.ask.Tie as tie
+
+whole-requires : tie.Need-whole-requires
+whole-requires c κs = search needs
+
+refused-requires : tie.Need-refused-requires
+refused-requires c κs = search needs
+
+returns : tie.Need-returns
+returns c =
+    let a = c .before .before .before .before .before .before .args in
+    subst (λ (r : Asked). Asking (words (a .cells .now) (a .remember .now) (a .tables .now)) (a .room) r) (sym (c .refused .ensures)) (asking-not-whole (words (a .cells .now) (a .remember .now) (a .tables .now)) (a .room) (said-no _ (c .before .before .whole .ensures) (not-is _ (c .before .if1 .taken))))
+
+places-requires : tie.Need-places-requires
+places-requires c κs = whole-tables (c .before .whole .ensures .0 (not-is _ (c .if1 .left))) refl refl
+
+row-count-requires : tie.Need-row-count-requires
+row-count-requires c κs = whole-tables (c .before .before .whole .ensures .0 (not-is _ (c .before .if1 .left))) refl (c .places .ensures)
+
+refused-requires-2 : tie.Need-refused-requires-2
+refused-requires-2 c κs = search needs
+
+returns-2 : tie.Need-returns-2
+returns-2 c =
+    let a = c .before .before .before .before .before .before .before .before .before .args in
+    subst (λ (r : Asked). Asking (words (a .cells .now) (a .remember .now) (a .tables .now)) (a .room) r) (sym (c .refused2 .ensures))
+    (asking-short (words (a .cells .now) (a .remember .now) (a .tables .now)) (a .room) (c .before .before .before .before .before .whole .ensures .0 (not-is _ (c .before .before .before .before .if1 .left))) (c .before .before .before .places .result) (c .before .before .before .places .ensures) (c .before .before .row-count .result) (c .before .before .row-count .ensures .0) (c .before .if2 .taken))
+
+free-pages-requires : tie.Need-free-pages-requires
+free-pages-requires c κs = whole-tables (c .before .before .before .before .whole .ensures .0 (not-is _ (c .before .before .before .if1 .left))) refl (c .before .before .places .ensures)
+
+crossing-slots-requires : tie.Need-crossing-slots-requires
+crossing-slots-requires c κs = (c .before .before .before .before .before .whole .ensures .0 (not-is _ (c .before .before .before .before .if1 .left))) .sizes .counted
+
+returns-3 : tie.Need-returns-3
+returns-3 c =
+    let a = c .before .before .before .before .before .before .before .before .before .before .args in
+    asking-all (words (a .cells .now) (a .remember .now) (a .tables .now)) (a .room) (c .before .before .before .before .before .before .whole .ensures .0 (not-is _ (c .before .before .before .before .before .if1 .left))) (c .before .before .before .before .places .result) (c .before .before .before .before .places .ensures) (c .before .before .before .row-count .result) (c .before .before .before .row-count .ensures .0)
+    (c .before .free-pages .result) (c .crossing-slots .result) (c .before .before .if2 .left) (c .before .free-pages .ensures .1) (c .crossing-slots .ensures .1)
+
+pub ask-spec : {M : Type 1} → statement M
+ask-spec =
+    tie.close
+    (tie.spec
+    whole-requires
+    refused-requires
+    returns
+    places-requires
+    row-count-requires
+    refused-requires-2
+    returns-2
+    free-pages-requires
+    crossing-slots-requires
+    returns-3)

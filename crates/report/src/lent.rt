@@ -1,0 +1,113 @@
+// The report in a lent list of rows, also from C.
+ghost use mathlib.Core.Path.{_≡_};
+ghost use mathlib.Core.List.{List};
+ghost use Prim.Native.Nat.{ℕ, _+_, _*_, _<_, _≤_};
+ghost use lib.ListN.{length};
+ghost use Rattle.layout.specs.Places.{sizesAt};
+ghost use Rattle.promises.specs.Words.{words, depthsAt};
+ghost use Rattle.report.specs.Report.{Told};
+ghost use Rattle.report.specs.Opened.{Next};
+ghost use Rattle.report.specs.Tables.{WholeTables, rowIn, rowsIn};
+ghost use Rattle.report.specs.Lent.{placesIn, RegionOf, refusing, Asking, written};
+use crate::Reported;
+use crate::Row;
+use crate::next_open;
+use crate::row_count;
+use crate::row_of;
+use layout::Places;
+
+// What the questions gave: their number, how many rows to write, and the figures. On refusal there is no row to write.
+struct Asked {
+    number: u32,
+    rows: usize,
+    free_pages: u32,
+    crossing_slots: u32,
+}
+
+fn refused(number: u32) -> Asked
+    ensures { λ r. ⌜ r ≡ refusing number ⌝ }
+{
+    Asked {
+        number,
+        rows: 0,
+        free_pages: 0,
+        crossing_slots: 0,
+    }
+}
+
+// The places that the tables name.
+fn places(tables: &[u32]) -> Places
+    requires { ⌜ WholeTables (placesIn (now tables)) (now tables) ⌝ }
+    ensures { λ p. ⌜ p ≡ placesIn (now (tables .entry)) ⌝ }
+{
+    layout::find_places(layout::read_sizes(tables))
+}
+
+// Questions 3 and 15, of a list of so many rows.
+fn ask(cells: &[u32], remember: &[u32], tables: &[u32], room: usize) -> Asked
+    ensures { λ r. ⌜ Asking (words (now (cells .entry)) (now (remember .entry)) (now (tables .entry))) room r ⌝ }
+{
+    if !whole::whole(cells, remember, tables) {
+        return refused(3);
+    }
+    let p = places(tables);
+    let rows = row_count(p, tables);
+    if room < rows {
+        return refused(15);
+    }
+    Asked {
+        number: 0,
+        rows,
+        free_pages: crate::free_pages(p, tables),
+        crossing_slots: crate::crossing_slots(remember),
+    }
+}
+
+// The row of a region, and the next open region, by the places that the tables name.
+fn row_in(tables: &[u32], region: usize) -> Row
+    requires { ⌜ RegionOf (now tables) region ⌝ }
+    ensures { λ r. ⌜ r ≡ rowIn (placesIn (now (tables .entry))) (now (tables .entry)) region ⌝ }
+{
+    row_of(places(tables), tables, region)
+}
+
+fn open_after(tables: &[u32], region: usize) -> usize
+    requires { ⌜ RegionOf (now tables) region ⌝ }
+    ensures { λ r. ⌜ Next (sizesAt (now (tables .entry))) (depthsAt (sizesAt (now (tables .entry))) (now (tables .entry))) region r ⌝ }
+{
+    next_open(places(tables), tables, region)
+}
+
+// The first n rows are written, and the rest stay.
+fn fill(rows: &mut [Row], tables: &[u32], n: usize)
+    requires { ⌜ (n ≤ length (now rows)) × (n ≤ length (rowsIn (placesIn (now tables)) (now tables))) × (0 < n → WholeTables (placesIn (now tables)) (now tables)) ⌝ }
+    ensures { λ _. ⌜ now (rows .exit) ≡ written (rowsIn (placesIn (now (tables .entry))) (now (tables .entry))) n (now (rows .entry)) ⌝ }
+{
+    let mut k: usize = 0;
+    let mut region: usize = 1;
+    while k < n {
+        rows[k] = row_in(tables, region);
+        region = open_after(tables, region);
+        k += 1;
+    }
+}
+
+// Writes a row for the control space and each open region, by region number. Gives 0 with free pages and crossing slots; or on refusal,
+// with no row written and both figures 0, 3 for tables that are not whole, 15 for too few rows. Spare rows never change.
+#[no_mangle]
+pub extern "C" fn taldreku_report(
+    cells: &[u32],
+    remember: &[u32],
+    tables: &[u32],
+    rows: &mut [Row],
+) -> Reported
+    ensures { λ r. ⌜ Told (words (now (cells .entry)) (now (remember .entry)) (now (tables .entry))) (now (rows .entry)) r (now (rows .exit)) ⌝ }
+{
+    let a = ask(cells, remember, tables, rows.len());
+    fill(rows, tables, a.rows);
+    Reported {
+        number: a.number,
+        free_pages: a.free_pages,
+        crossing_slots: a.crossing_slots,
+    }
+}
