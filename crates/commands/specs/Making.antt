@@ -1,5 +1,5 @@
 -- Code 3 does what the rules say: 13 exactly if the region has no partly filled page and no page is free, else a new object.
-use Prim.Native.Nat.{ℕ, _+_, _-_, _*_, _^_, _≤_, _<_}
+use Prim.Native.Nat.{ℕ, _+_, _-_, _*_, _%_, _^_, _≤_, _<_}
 use native.Mathlib.Omega.{arith}
 use mathlib.Core.Path.{_≡_, refl, sym, ap, ap₂, subst, _∙_}
 use mathlib.Core.Logic.{_⊎_, inl, inr}
@@ -7,7 +7,7 @@ use mathlib.Core.List.{List, [], _∷_, _++_}
 use mathlib.Core.Bool.{Bool, true, false, cond, _&&_}
 use lib.ListN.{length, set}
 use lib.Dec.{leb, eqb}
-use borrow.Author.Tests.{lt-ltb, le-leb}
+use borrow.Author.Tests.{lt-ltb, le-leb, eqb-true}
 use Rattle.lists.specs.Counting.{sum-high}
 use Rattle.lists.specs.Products.{flat-low}
 use Rattle.rules.specs.declared.Sizes.{Sizes}
@@ -28,13 +28,13 @@ use Rattle.promises.specs.Reading.{range, cells-room, tables-room}
 use Rattle.promises.specs.Agreed.{heap-stands}
 use Rattle.promises.specs.Here.{here-depth}
 use Rattle.promises.specs.Questions.{did-refused, did-moved}
-use Rattle.promises.specs.NewPages.{innermost-pos, innermost-low, innermost-open, PartlyFilled, FreePage, new-fits, new-lacks}
+use Rattle.promises.specs.NewPages.{innermost-pos, innermost-low, innermost-open, partly-filled, PartlyFilled, FreePage, new-fits, new-lacks}
 use Rattle.promises.specs.Changes.{withTables, withVariable, withNew}
 use Rattle.promises.specs.TakeCell.{Took}
 use Rattle.promises.specs.NewCell.{Blank, new-whole, new-beyond}
 use Rattle.promises.specs.FrameVariable.{variable-beyond}
 use Rattle.promises.specs.FrameNew.{blankObject, made-stands, to-old, withCell}
-use Rattle.pages.specs.Pages.{Found, taken}
+use Rattle.pages.specs.Pages.{Filled, Found, taken}
 use Rattle.pages.specs.Took.{found-room, taken-took}
 use Rattle.commands.specs.declared.Decoded.the-variants.{New}
 use Rattle.commands.specs.Decoding.{commandFor}
@@ -87,6 +87,10 @@ module _ (p : Places) (c m t : List ℕ) (r : Ready p c m t) (u : ℕ) (l : u < 
 
   count-inside : countAt P g < length t
   count-inside = omega (arith, region-real, count-room s, tables-room s w k)
+
+  -- where its objects fill pages, none is partly filled
+  pub region-filled : Filled p t g
+  region-filled = subst (λ (q : Places). Filled q t g) (sym (r .places)) (λ e page h f. partly-filled s w k g (region-real .0) (region-real .1) page h f (eqb-true (objects % 16) 0 e))
 
   module _ (page : ℕ) (found′ : Found p t g page) where
     found : Found P t g page

@@ -53,7 +53,7 @@ pub fn new_object(
     ensures { λ r. ⌜ Does p (now (cells .entry)) (now (remember .entry)) (now (tables .entry)) (New t a b c) (now (cells .exit)) (now (remember .entry)) (now (tables .exit)) r ⌝ }
 {
     let region = innermost(p, tables, t);
-    let page = pages::find_page(p, tables, region);
+    let page = pages::page_for(p, tables, t, region);
     if p.pages <= page {
         return Answer {
             number: 13,

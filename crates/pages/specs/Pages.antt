@@ -2,8 +2,10 @@
 use mathlib.Core.Path.{_≡_, refl, sym, ap, _∙_, subst}
 use mathlib.Core.Logic.{_≢_, _⊎_, inl, inr, ⊎-elim}
 use mathlib.Core.List.{List}
-use Prim.Native.Nat.{ℕ, zero, suc, _+_, _-_, _*_, _≤_, _<_}
-use native.Mathlib.Decide.{ℕ-discrete}
+use mathlib.Core.Bool.{Bool, true}
+use lib.Dec.{eqb}
+use Prim.Native.Nat.{ℕ, zero, suc, _+_, _-_, _*_, _%_, _≤_, _<_}
+use native.Mathlib.Decide.{decLt, ℕ-discrete}
 use native.Mathlib.Omega.{arith}
 use lib.ListN.{length, set}
 use Rattle.layout.specs.declared.Places.{Places}
@@ -24,9 +26,58 @@ pub record Fresh (p : Places) (t : List ℕ) (g n page : ℕ) : Type 0 where
 abbrev pub Found : Places → List ℕ → ℕ → ℕ → Type 0
 Found p t g page = Partly p t g page ⊎ Fresh p t g (p .pages) page
 
+-- the highest-numbered free page, the number of pages if there is none
+pub record Highest (p : Places) (t : List ℕ) (page : ℕ) : Type 0 where
+  pub last : (x : ℕ) → x < p .pages → ownerOf p t x ≡ 0 → (x ≤ page) × (page < p .pages)
+  pub free : page < p .pages → ownerOf p t page ≡ 0
+
+-- whether so many objects fill their pages
+abbrev pub fillsPages : ℕ → Bool
+fillsPages n = eqb (n % 16) 0
+
+-- a region whose objects fill their pages has no partly filled page
+abbrev pub Filled : Places → List ℕ → ℕ → Type 0
+Filled p t g = fillsPages (countOf p t g) ≡ true → (page : ℕ) → page < p .pages → Partial p t g page → ⊥
+
 -- the tables after an object of region g took the first unused cell of a page
 abbrev pub taken : Places → List ℕ → ℕ → ℕ → List ℕ
 taken p t page g = set (set (set t (ownerAt p page) g) (usedAt p page) (usedOf p t page + 1)) (countAt p g) (countOf p t g + 1)
+
+-- ---- a page for a new object
+
+-- no page from n on is free
+abbrev pub NoneFrom : Places → List ℕ → ℕ → Type 0
+NoneFrom p t n = (x : ℕ) → n ≤ x → x < p .pages → ownerOf p t x ≡ 0 → ⊥
+
+pub none-from : (p : Places) (t : List ℕ) {n : ℕ} → 0 < n → (ownerOf p t (n - 1) ≡ 0 → ⊥) → NoneFrom p t n → NoneFrom p t (n - 1)
+none-from p t {n} pos used none x l m e = go (ℕ-discrete x (n - 1))
+  where
+    go : Dec (x ≡ n - 1) → ⊥
+    go (yes d) = used (subst (λ (y : ℕ). ownerOf p t y ≡ 0) d e)
+    go (no d) = none x (omega arith) m e
+
+pub highest-found : (p : Places) (t : List ℕ) {n : ℕ} → 0 < n → n ≤ p .pages → ownerOf p t (n - 1) ≡ 0 → NoneFrom p t n → Highest p t (n - 1)
+highest-found p t {n} pos low e none = record { last = λ x l d. (go x l d (decLt x n), omega arith); free = λ l. e }
+  where
+    go : (x : ℕ) → x < p .pages → ownerOf p t x ≡ 0 → Dec (x < n) → x ≤ n - 1
+    go x l d (yes h) = omega arith
+    go x l d (no h) = absurd (none x (omega arith) l d)
+
+pub highest-none : {p : Places} {t : List ℕ} {n : ℕ} → n ≤ 0 → NoneFrom p t n → Highest p t (p .pages)
+highest-none {p} {t} {n} z none =
+    record { last = λ x l e. absurd (none x (omega arith) l e); free = λ l. absurd (let f : ⊥ = omega arith in f) }
+
+pub fresh-filled : (p : Places) (t : List ℕ) (g : ℕ) {page : ℕ} → Filled p t g → fillsPages (countOf p t g) ≡ true → Highest p t page → Found p t g page
+fresh-filled p t g none full h =
+    inr (record {
+      none = λ x l e. go x l e (decLt (usedOf p t x) 16);
+      last = h .last;
+      free = h .free;
+    })
+  where
+    go : (x : ℕ) → x < p .pages → ownerOf p t x ≡ g → Dec (usedOf p t x < 16) → 16 ≤ usedOf p t x
+    go x l e (yes u) = absurd (none full x l (record { owner = e; part = u }))
+    go x l e (no u) = omega arith
 
 -- ---- a turn of the search
 

@@ -3,10 +3,47 @@
 ghost use mathlib.Core.Path.{_≡_};
 ghost use Prim.Native.Nat.{ℕ, _+_, _*_, _^_, _<_, _≤_};
 ghost use lib.ListN.{length};
+ghost use Rattle.lists.specs.Says.{Says};
 ghost use Rattle.layout.specs.Places.{Room, usedOf, countOf};
 ghost use Rattle.layout.specs.Cells.{cellOn};
-ghost use Rattle.pages.specs.Pages.{Found, taken};
+ghost use Rattle.pages.specs.Pages.{fillsPages, Filled, Found, Highest, Partly, taken};
 use layout::Places;
+
+// Whether so many objects leave no cell of their region's pages unused.
+fn fills_pages(objects: u32) -> bool
+    ensures { λ r. ⌜ r ≡ fillsPages objects ⌝ }
+{
+    objects % layout::cells::CELLS as u32 == 0
+}
+
+// Whether a page is the region's and has an unused cell.
+fn is_partly(p: Places, tables: &[u32], region: u32, page: usize) -> bool
+    requires { ⌜ Room p (length (now tables)) ⌝ }
+    ensures { λ r. ⌜ Says r (Partly p (now (tables .entry)) region page) ⌝ }
+{
+    if page < p.pages {
+        if layout::tables::owner(p, tables, page) == region {
+            return layout::tables::used(p, tables, page) < layout::cells::CELLS as u32;
+        }
+    }
+    false
+}
+
+// The highest-numbered free page; the number of pages if there is none.
+fn free_page(p: Places, tables: &[u32]) -> usize
+    requires { ⌜ Room p (length (now tables)) ⌝ }
+    ensures { λ r. ⌜ Highest p (now (tables .entry)) r ⌝ }
+{
+    let pages = p.pages;
+    let mut page = pages;
+    while 0 < page {
+        page -= 1;
+        if layout::tables::owner(p, tables, page) == 0 {
+            return page;
+        }
+    }
+    pages
+}
 
 // The partly filled page of a region; if it has none the highest-numbered free page; the number of pages if there is none.
 pub fn find_page(p: Places, tables: &[u32], region: u32) -> usize
@@ -29,6 +66,32 @@ pub fn find_page(p: Places, tables: &[u32], region: u32) -> usize
         page += 1;
     }
     last
+}
+
+// The same page for a thread's next object, found without a search where it is known: filled pages leave only the free ones, and a thread
+// mostly holds what lies on the page that it fills.
+pub fn page_for(p: Places, tables: &[u32], thread: usize, region: u32) -> usize
+    requires { ⌜ Room p (length (now tables)) ⌝ }
+    requires { ⌜ thread < p .threads ⌝ }
+    requires { ⌜ (1 ≤ region) × (region ≤ 1 + p .threads * p .depth) × Filled p (now tables) region ⌝ }
+    ensures { λ r. ⌜ Found p (now (tables .entry)) region r ⌝ }
+{
+    if fills_pages(layout::tables::count(p, tables, layout::wide(region))) {
+        return free_page(p, tables);
+    }
+    let variables = p.variables;
+    let mut a: usize = 0;
+    while a < variables {
+        let x = layout::tables::var(p, tables, layout::tables::var_number(p, thread, a));
+        if x != 0 {
+            let page = layout::cells::page_of(layout::cells::cell_named(x));
+            if is_partly(p, tables, region, page) {
+                return page;
+            }
+        }
+        a += 1;
+    }
+    find_page(p, tables, region)
 }
 
 // The first unused cell of a page becomes an object of the region: the page's owner, its cells in use and the region's objects follow.

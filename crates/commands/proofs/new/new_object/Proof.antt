@@ -4,7 +4,7 @@ use Prim.Native.Nat.{ℕ, _+_, _*_, _<_, _≤_}
 use mathlib.Core.Path.{ap, _∙_}
 use lib.ListN.{length, set}
 use Rattle.commands.specs.Ready.{variableAt, placed, placed-still}
-use Rattle.commands.specs.Making.{region-real, can-take, cell-inside, new-refused, new-done}
+use Rattle.commands.specs.Making.{region-real, region-filled, can-take, cell-inside, new-refused, new-done}
 use borrow.Author.Needs.{needs}
 use Rattle.commands.proofs.new.new_object.Statement.{statement}
 use Rattle.commands.proofs.new.new_object.Tie as tie
@@ -17,11 +17,18 @@ innermost-requires c κs =
       (pre .1 .0, pre .0 .whole .placed .depths (args .t) (pre .1 .0)),
     )
 
-find-page-requires : tie.Need-find-page-requires
-find-page-requires c κs =
+page-for-requires : tie.Need-page-for-requires
+page-for-requires c κs =
     let args = c .before .before .before .before .before .before .args in
     let pre = c .before .before .before .before .before .before .pre in
-    (placed (args .p) (args .cells .now) (args .remember .now) (args .tables .now) (pre .0) (omega arith)) .room
+    let innermost = c .before .innermost in
+    let real = region-real (args .p) (args .cells .now) (args .remember .now) (args .tables .now) (pre .0) (args .t) (pre .1 .0) (innermost .result) (innermost .ensures) in (
+      placed (args .p) (args .cells .now) (args .remember .now) (args .tables .now) (pre .0) (omega arith) .room,
+      (
+        pre .1 .0,
+        (real .0, real .1, region-filled (args .p) (args .cells .now) (args .remember .now) (args .tables .now) (pre .0) (args .t) (pre .1 .0) (innermost .result) (innermost .ensures)),
+      ),
+    )
 
 same-length : tie.Need-same-length
 same-length c = search needs
@@ -31,22 +38,22 @@ returns c =
     let args = c .before .before .before .before .before .before .before .before .before .args in
     let pre = c .before .before .before .before .before .before .before .before .before .pre in
     let innermost = c .before .before .before .before .innermost in
-    let find-page = c .before .before .find-page in
+    let page-for = c .before .before .page-for in
     let if1 = c .if1 in
     new-refused (args .p) (args .cells .now) (args .remember .now) (args .tables .now) (pre .0) (args .t) (pre .1 .0) (innermost .result)
-    (innermost .ensures) (args .a) (args .b) (args .c) (pre .1 .1) (pre .1 .2) (find-page .result) (find-page .ensures) (if1 .taken)
+    (innermost .ensures) (args .a) (args .b) (args .c) (pre .1 .1) (pre .1 .2) (page-for .result) (page-for .ensures) (if1 .taken)
 
 take-cell-requires : tie.Need-take-cell-requires
 take-cell-requires c κs =
     let args = c .before .before .before .before .before .before .before .before .before .before .args in
     let pre = c .before .before .before .before .before .before .before .before .before .before .pre in
     let innermost = c .before .before .before .before .before .innermost in
-    let page = c .before .before .before .find-page in
+    let page = c .before .before .before .page-for in
     let real = region-real (args .p) (args .cells .now) (args .remember .now) (args .tables .now) (pre .0) (args .t) (pre .1 .0) (innermost .result) (innermost .ensures) in
     let take =
     can-take (args .p) (args .cells .now) (args .remember .now) (args .tables .now) (pre .0) (args .t) (pre .1 .0) (innermost .result) (innermost .ensures)
     (page .result) (page .ensures) (omega arith) in (
-      placed (args .p) (args .cells .now) (args .remember .now) (args .tables .now) (pre .0) (omega arith) .room,
+      placed (args .p) (args .cells .now) (args .remember .now) (args .tables .now) (pre .0) (omega (arith, c .before .before .before .before .before .before .before .before .before .before .good .1 .1 .1 .0)) .room,
       ((omega arith, take .0), (real .0, real .1, take .1)),
     )
 
@@ -56,7 +63,7 @@ inside c =
     let args = c .before .before .before .before .before .before .before .before .before .before .before .args in
     let pre = c .before .before .before .before .before .before .before .before .before .before .before .pre in
     let innermost = c .before .before .before .before .before .before .innermost in
-    let page = c .before .before .before .before .find-page in
+    let page = c .before .before .before .before .page-for in
     let take = c .take-cell in
     cell-inside (args .p) (args .cells .now) (args .remember .now) (args .tables .now) (pre .0) (args .t) (pre .1 .0) (innermost .result) (innermost .ensures)
     (page .result) (page .ensures) (omega arith) (take .result) (take .ensures .0) (take .last .1 .0) (take .ensures .1)
@@ -91,12 +98,12 @@ returns-2 c =
     let args = c .before .before .before .before .before .before .before .before .before .before .before .before .before .before .before .before .before .before .before .before .before .before .args in
     let pre = c .before .before .before .before .before .before .before .before .before .before .before .before .before .before .before .before .before .before .before .before .before .before .pre in
     let innermost = c .before .before .before .before .before .before .before .before .before .before .before .before .before .before .before .before .before .innermost in
-    let find-page = c .before .before .before .before .before .before .before .before .before .before .before .before .before .before .before .find-page in
+    let page-for = c .before .before .before .before .before .before .before .before .before .before .before .before .before .before .before .page-for in
     let take-cell = c .before .before .before .before .before .before .before .before .before .before .before .take-cell in
     let blank = c .before .before .before .before .before .before .before .blank in
     let write-var = c .before .before .write-var in
     new-done (args .p) (args .cells .now) (args .remember .now) (args .tables .now) (pre .0) (args .t) (pre .1 .0) (innermost .result)
-    (innermost .ensures) (args .a) (args .b) (args .c) (pre .1 .1) (pre .1 .2) (find-page .result) (find-page .ensures) (omega arith)
+    (innermost .ensures) (args .a) (args .b) (args .c) (pre .1 .1) (pre .1 .2) (page-for .result) (page-for .ensures) (omega arith)
     (take-cell .result) (take-cell .ensures .0) (take-cell .last .1 .0) (take-cell .ensures .1) (blank .last .0) (blank .ensures) (write-var .ensures ∙ ap (λ (x : ℕ). set (take-cell .last .1 .0) (variableAt (args .p) (args .t) (args .a)) x) (c .before .before .before .ref-to .ensures))
 
 pub new-object-spec : {M : Type 1} → statement M
@@ -104,7 +111,7 @@ new-object-spec =
     tie.close
     (tie.spec
     innermost-requires
-    find-page-requires
+    page-for-requires
     same-length
     returns
     take-cell-requires
