@@ -1,10 +1,9 @@
 -- The rows in a lent list, and what the questions give.
-use Prim.Native.Nat.{ℕ, zero, suc, _+_, _≤_, _<_}
+use Prim.Native.Nat.{ℕ, suc, _+_, _≤_, _<_}
 use native.Mathlib.Omega.{arith}
-use native.Mathlib.Nat.{min-eq-left}
 use native.Mathlib.Numerals.{add-one}
-use mathlib.Core.Path.{_≡_, refl, sym, ap, ap₂, subst, _∙_}
-use mathlib.Core.List.{List, [], _∷_, _++_}
+use mathlib.Core.Path.{_≡_, refl, sym, ap, subst, _∙_}
+use mathlib.Core.List.{List, _++_}
 use lib.ListN.{length, getD, set, take, drop, length-append, length-drop}
 use lib.Seq.{length-take-le, take-suc, drop-cons, append-snoc, set-at, take-length}
 use Rattle.rules.specs.declared.Sizes.{Sizes}
@@ -17,9 +16,8 @@ use Rattle.promises.specs.Words.{Words, words, sizesIn}
 use Rattle.promises.specs.Whole.{WholeWords}
 use Rattle.promises.specs.StandsFor.{StandsFor}
 use Rattle.report.specs.declared.Row.{Row}
-use Rattle.report.specs.declared.Reported.{Reported}
 use Rattle.report.specs.declared.lent.Asked.{Asked}
-use Rattle.report.specs.Report.{noRow, rows, rowCount, ReportAsked, notWhole, short, accepted, Figures, Told}
+use Rattle.report.specs.Report.{noRow, rows, rowCount, ReportAsked, notWhole, short, accepted, Told}
 use Rattle.report.specs.Passing.{length-map}
 use Rattle.report.specs.Tables.{WholeTables, EveryHeap, rowIn, openIn, rowsIn, whole-tables}
 use Rattle.report.specs.Stands.{rows-stand}

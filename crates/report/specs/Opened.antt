@@ -6,10 +6,10 @@ use native.Mathlib.Nat.{mul-comm, suc-mul, div-lt-iff-lt-mul}
 use mathlib.Core.Path.{_≡_, refl, sym, ap, ap₂, subst, _∙_}
 use mathlib.Core.List.{List}
 use mathlib.Core.Bool.{Bool, true, false, _||_}
-use lib.Dec.{leb, eqb}
+use lib.Dec.{leb}
 use lib.ListN.{length, getD}
 use borrow.Author.Tests.{ne-eqb, le-leb, lt-leb}
-use Rattle.lists.specs.Counting.{bit, sum, count, sum-add, sum-same, sum-blocks, sum-first, count-yes, count-to}
+use Rattle.lists.specs.Counting.{bit, sum, count, sum-add, sum-blocks, sum-first, count-yes, count-to}
 use Rattle.lists.specs.Products.{flat-row, flat-place}
 use Rattle.rules.specs.declared.Sizes.{Sizes}
 use Rattle.rules.specs.Regions.{threadOf, levelOf, regionAt, regions}
@@ -24,11 +24,15 @@ use Rattle.report.specs.Tables.{rowIn, openIn, rowsIn}
 
 -- ---- one after the other
 
+-- no region between q and r is open
+abbrev pub NoneOpen : Sizes → List ℕ → ℕ → ℕ → Type 0
+NoneOpen s depths q r = (x : ℕ) → q < x → x < r → isOpen s depths x ≡ false
+
 -- r is the next open region after q, one past the last region if there is none
 pub record Next (s : Sizes) (depths : List ℕ) (q r : ℕ) : Type 0 where
   pub above : q < r
   pub high : r ≤ suc (regions s)
-  pub between : (x : ℕ) → q < x → x < r → isOpen s depths x ≡ false
+  pub between : NoneOpen s depths q r
   pub opened : r ≤ regions s → isOpen s depths r ≡ true
 
 -- q is open region k, one past the last region if there are only k
@@ -51,6 +55,13 @@ module _ (s : Sizes) (depths : List ℕ) where
       let rest : count b (r - 1) ≡ count b (q - 1 + 1) =
       count-to b (q - 1 + 1) (r - 1) (omega (arith, n .above, t .low)) (λ x h m. n .between (suc x) (omega (arith, t .low)) (omega arith)) in
       record { low = omega (arith, n .above); high = n .high; before = rest ∙ past ∙ ap (λ (m : ℕ). m + 1) (t .before); opened = n .opened }
+
+  pub none-next : (q r : ℕ) → NoneOpen s depths q r → isOpen s depths r ≡ false → NoneOpen s depths q (r + 1)
+  none-next q r h e x l m = go (ℕ-discrete x r)
+    where
+      go : Dec (x ≡ r) → isOpen s depths x ≡ false
+      go (yes z) = ap (isOpen s depths) z ∙ e
+      go (no z) = h x l (omega arith)
 
   -- while there are more than k
   pub turn-region : (k q : ℕ) → Turn s depths k q → k < length (openRegions s depths) → q ≤ regions s
@@ -92,13 +103,6 @@ module _ (p : Places) (t : List ℕ) where
       low : threadOf (sizesOf p) q < p .threads → Dec (depthOf t (threadOf (sizesOf p) q) < levelOf (sizesOf p) q) → getD (depthsAt (sizesOf p) t) (threadOf (sizesOf p) q) 0 < levelOf (sizesOf p) q
       low th (yes h) = omega (arith, depth-at (sizesOf p) (words t t t) (threadOf (sizesOf p) q) th)
       low th (no h) = absurd (n (record { real = l; thread = th; level = omega arith }))
-
-pub between-next : (b : ℕ → Bool) (q r : ℕ) → ((x : ℕ) → q < x → x < r → b x ≡ false) → b r ≡ false → (x : ℕ) → q < x → x < r + 1 → b x ≡ false
-between-next b q r h e x l m = go (ℕ-discrete x r)
-  where
-    go : Dec (x ≡ r) → b x ≡ false
-    go (yes z) = ap b z ∙ e
-    go (no z) = h x l (omega arith)
 
 -- the last region is the last thread's at the full depth
 pub last-region : (s : Sizes) → 1 ≤ s .threads → 1 ≤ s .depth → regionAt s (s .threads - 1) (s .depth) ≡ regions s

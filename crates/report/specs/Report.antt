@@ -10,7 +10,7 @@ use Rattle.lists.specs.Members.{keep}
 use Rattle.lists.specs.Listed.{listed}
 use Rattle.rules.specs.declared.Sizes.{Sizes}
 use Rattle.rules.specs.Regions.{threadOf, levelOf, regions}
-use Rattle.rules.specs.Graph.{Graph, crossing, pagesOf, objectsIn, freePages}
+use Rattle.rules.specs.Graph.{crossing, pagesOf, objectsIn, freePages}
 use Rattle.rules.specs.Rules.{Regioned, graph}
 use Rattle.promises.specs.Words.{Words, sizesIn, depthsIn}
 use Rattle.promises.specs.Whole.{WholeWords}
@@ -28,10 +28,13 @@ isOpen s depths q = eqb q 1 || leb (levelOf s q) (getD depths (threadOf s q) 0)
 unfoldable pub openRegions : Sizes → List ℕ → List ℕ
 openRegions s depths = keep (isOpen s depths) (listed suc (regions s))
 
+-- 01: a region of n objects uses n / 16 pages, rounded up (`pagesOf`)
+abbrev pub rowOf : ℕ → ℕ → ℕ → Row
+rowOf thread level objects = record { thread = thread; level = level; objects = objects; pages = pagesOf objects }
+
 -- a region's row, with so many objects
 abbrev pub rowWith : Sizes → ℕ → ℕ → Row
-rowWith s q objects =
-    record { thread = cond (eqb q 1) 0 (threadOf s q); level = cond (eqb q 1) 0 (levelOf s q); objects = objects; pages = pagesOf objects }
+rowWith s q objects = cond (eqb q 1) (rowOf 0 0 objects) (rowOf (threadOf s q) (levelOf s q) objects)
 
 unfoldable pub rows : Sizes → Regioned → List Row
 rows s h = map (λ q. rowWith s q (objectsIn (graph h) q)) (openRegions s (h .heap .depths))

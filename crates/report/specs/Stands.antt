@@ -1,22 +1,19 @@
 -- The tables say what the rules say of every heap that words with these tables stand for.
 use Prim.Native.Nat.{ℕ, suc, _+_, _<_}
 use native.Mathlib.Omega.{arith}
-use mathlib.Core.Path.{_≡_, refl, sym, ap, ap₂, subst, _∙_}
+use mathlib.Core.Path.{_≡_, sym, ap, _∙_}
 use mathlib.Core.List.{List, map}
 use lib.ListN.{length, getD}
 use Rattle.lists.specs.Counting.{sum, sum-same}
-use Rattle.rules.specs.declared.Sizes.{Sizes}
 use Rattle.rules.specs.Regions.{regions}
 use Rattle.rules.specs.Graph.{objectsIn, freePages}
-use Rattle.rules.specs.Rules.{Regioned, graph}
+use Rattle.rules.specs.Rules.{graph}
 use Rattle.layout.specs.declared.Places.{Places}
 use Rattle.layout.specs.Places.{placesOf, sizesOf, depthOf, countOf}
-use Rattle.promises.specs.Words.{Words, words, depthsAt, depthsIn}
-use Rattle.promises.specs.StandsFor.{StandsFor}
+use Rattle.promises.specs.Words.{words, depthsAt}
 use Rattle.promises.specs.Reading.{range, depth-at}
 use Rattle.promises.specs.Agreed.{objects-agree}
 use Rattle.promises.specs.OwnedPages.{counted-objects, heap-free}
-use Rattle.report.specs.declared.Row.{Row}
 use Rattle.report.specs.Report.{isOpen, openRegions, rowWith, rows}
 use Rattle.report.specs.Passing.{length-map, map-passing}
 use Rattle.report.specs.Opened.{rows-counted}

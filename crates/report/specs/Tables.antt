@@ -1,6 +1,6 @@
 -- What the tables alone say, as the code reads them.
 use Prim.Native.Nat.{ℕ, _^_, _≤_, _<_}
-use mathlib.Core.Path.{_≡_, refl, sym, ap, subst, _∙_}
+use mathlib.Core.Path.{_≡_, refl, sym, ap, ap₂, subst, _∙_}
 use mathlib.Core.List.{List, map}
 use mathlib.Core.Bool.{Bool, cond}
 use lib.Dec.{eqb}
@@ -9,7 +9,6 @@ use borrow.Author.Tests.{eq-eqb, ne-eqb}
 use Rattle.lists.specs.Counting.{bit, sum}
 use Rattle.rules.specs.declared.Sizes.{Sizes}
 use Rattle.rules.specs.Regions.{threadOf, levelOf}
-use Rattle.rules.specs.Graph.{pagesOf}
 use Rattle.rules.specs.Rules.{Regioned}
 use Rattle.layout.specs.declared.Places.{Places}
 use Rattle.layout.specs.Places.{Room, room, sizesAt, placesOf, sizesOf, ownerOf, countOf}
@@ -19,7 +18,7 @@ use Rattle.promises.specs.StandsFor.{StandsFor}
 use Rattle.promises.specs.Agreed.{whole-for}
 use Rattle.promises.specs.Reading.{range, tables-room}
 use Rattle.report.specs.declared.Row.{Row}
-use Rattle.report.specs.Report.{rowWith, openRegions}
+use Rattle.report.specs.Report.{rowOf, rowWith, openRegions}
 
 -- these are the tables of whole words, and the places are theirs
 pub record WholeTables (p : Places) (t : List ℕ) : Type 0 where
@@ -57,29 +56,17 @@ pub threads-low : (p : Places) (t : List ℕ) → WholeTables p t → 1 ≤ p .t
 threads-low p t k = range (sizesOf p) (words (k .cells) (k .remember) t) (k .whole) .threads-low
 
 -- a row as the code makes it
-module _ (p : Places) (t : List ℕ) (q : ℕ) {objects pages : ℕ} where
-  pub row-control : q ≡ 1 → objects ≡ countOf p t q → pages ≡ pagesOf objects → record { thread = 0; level = 0; objects = objects; pages = pages } ≡ rowIn p t q
+module _ (p : Places) (t : List ℕ) (q : ℕ) {objects : ℕ} (o : objects ≡ countOf p t q) where
+  pub row-control : q ≡ 1 → rowOf 0 0 objects ≡ rowIn p t q
   unfolding rowIn
-  row-control e o g =
-      let b = eq-eqb q 1 e in
-      λ i. record {
-        thread = sym (ap (λ (c : Bool). cond c 0 (threadOf (sizesOf p) q)) b) i;
-        level = sym (ap (λ (c : Bool). cond c 0 (levelOf (sizesOf p) q)) b) i;
-        objects = o i;
-        pages = (g ∙ ap pagesOf o) i;
-      }
+  row-control e =
+      ap (rowOf 0 0) o ∙ sym (ap (λ (b : Bool). cond b (rowOf 0 0 (countOf p t q)) (rowOf (threadOf (sizesOf p) q) (levelOf (sizesOf p) q) (countOf p t q))) (eq-eqb q 1 e))
 
-  pub row-thread : {thread level : ℕ} → (q ≡ 1 → ⊥) → objects ≡ countOf p t q → pages ≡ pagesOf objects → thread ≡ threadOf (sizesOf p) q → level ≡ levelOf (sizesOf p) q
-      → record { thread = thread; level = level; objects = objects; pages = pages } ≡ rowIn p t q
+  pub row-thread : {thread level : ℕ} → (q ≡ 1 → ⊥) → thread ≡ threadOf (sizesOf p) q → level ≡ levelOf (sizesOf p) q → rowOf thread level objects ≡ rowIn p t q
   unfolding rowIn
-  row-thread n o g th lv =
-      let b = ne-eqb q 1 n in
-      λ i. record {
-        thread = (th ∙ sym (ap (λ (c : Bool). cond c 0 (threadOf (sizesOf p) q)) b)) i;
-        level = (lv ∙ sym (ap (λ (c : Bool). cond c 0 (levelOf (sizesOf p) q)) b)) i;
-        objects = o i;
-        pages = (g ∙ ap pagesOf o) i;
-      }
+  row-thread n th lv =
+      ap₂ (λ (x y : ℕ). rowOf x y objects) th lv ∙ ap (rowOf (threadOf (sizesOf p) q) (levelOf (sizesOf p) q)) o
+      ∙ sym (ap (λ (b : Bool). cond b (rowOf 0 0 (countOf p t q)) (rowOf (threadOf (sizesOf p) q) (levelOf (sizesOf p) q) (countOf p t q))) (ne-eqb q 1 n))
 
 -- the places that were found for whole words
 pub whole-tables : {c m t : List ℕ} {s : Sizes} {p : Places} → Whole c m t → s ≡ sizesAt t → p ≡ placesOf s → WholeTables p t

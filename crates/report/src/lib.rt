@@ -10,7 +10,7 @@ ghost use Rattle.rules.specs.Rules.{Regioned, graph};
 ghost use Rattle.layout.specs.Places.{Room, sizesOf, usedIn};
 ghost use Rattle.promises.specs.Words.{words, depthsAt};
 ghost use Rattle.promises.specs.StandsFor.{StandsFor};
-ghost use Rattle.report.specs.Report.{rows, noRow};
+ghost use Rattle.report.specs.Report.{rowOf, rows, noRow};
 ghost use Rattle.report.specs.Opened.{Next};
 ghost use Rattle.report.specs.Tables.{WholeTables, EveryHeap, rowIn, rowsIn, freeOne, freeIn};
 use layout::Places;
@@ -49,6 +49,19 @@ pub fn pages_of(objects: u32) -> u32
     ((wide(objects) + 15) / 16) as u32
 }
 
+// A row with the pages that so many objects use.
+fn row_with(thread: u32, level: u32, objects: u32) -> Row
+    ensures { λ r. ⌜ r ≡ rowOf thread level objects ⌝ }
+{
+    let pages = pages_of(objects);
+    Row {
+        thread,
+        level,
+        objects,
+        pages,
+    }
+}
+
 // The row of a region.
 pub fn row_of(p: Places, tables: &[u32], region: usize) -> Row
     requires { ⌜ WholeTables p (now tables) ⌝ }
@@ -56,21 +69,14 @@ pub fn row_of(p: Places, tables: &[u32], region: usize) -> Row
     ensures { λ r. ⌜ r ≡ rowIn p (now (tables .entry)) region ⌝ }
 {
     let objects = count(p, tables, region);
-    let pages = pages_of(objects);
     if region == 1 {
-        return Row {
-            thread: 0,
-            level: 0,
-            objects,
-            pages,
-        };
+        return row_with(0, 0, objects);
     }
-    Row {
-        thread: thread_of(p, region) as u32,
-        level: level_of(p, region) as u32,
+    row_with(
+        thread_of(p, region) as u32,
+        level_of(p, region) as u32,
         objects,
-        pages,
-    }
+    )
 }
 
 // The next open region by number; one past the last region if there is none.

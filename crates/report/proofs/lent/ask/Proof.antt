@@ -1,11 +1,10 @@
 -- The first question that says no decides; else the figures are those of the places that the tables name.
-use mathlib.Core.Path.{refl, sym, subst, _∙_}
+use mathlib.Core.Path.{refl, sym, subst}
 use Rattle.lists.specs.Says.{said-no}
 use Rattle.lists.specs.Tests.{not-is}
-use Rattle.layout.specs.declared.Places.{Places}
 use Rattle.promises.specs.Words.{words}
 use Rattle.report.specs.declared.lent.Asked.{Asked}
-use Rattle.report.specs.Tables.{WholeTables, whole-tables}
+use Rattle.report.specs.Tables.{whole-tables}
 use Rattle.report.specs.Lent.{Asking, asking-not-whole, asking-short, asking-all}
 use borrow.Author.Needs.{needs}
 use Rattle.report.proofs.lent.ask.Statement.{statement}
