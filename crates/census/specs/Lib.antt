@@ -2,4 +2,3 @@
 pub mod Counted
 pub mod After
 pub mod Crossed
-pub mod Asked

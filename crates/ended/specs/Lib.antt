@@ -9,15 +9,8 @@ pub mod EvacuatedWhole
 pub mod AfterEnd
 pub mod EvacuatedStands
 pub mod WordsPlaced
--- laws: the questions 12, 13 and 14
+-- laws: the questions 12, 13 and 14, and the pages that regions take
 pub mod EndQuestion
 pub mod EndPages
-pub mod CrossAfter
-pub mod SlotTests
-pub mod SlotsOutside
-pub mod SlotsThen
-pub mod EnoughEntries
-pub mod ByPages
-pub mod Census
 -- the promise
 pub mod EvacuatedDid
