@@ -5,17 +5,17 @@ use Prim.Native.Nat.{ℕ, zero, suc, _+_, _-_, _*_, _/_, _≤_, _<_}
 use native.Mathlib.Omega.{arith}
 use lib.Dec.{eqb}
 use lib.ListN.{length}
-use borrow.Author.Tests.{eq-eqb, ne-eqb}
-use Rattle.lists.specs.Counting.{bit, bit-le, sum, sum-same, sum-high}
+use Rattle.lists.specs.Counting.{bit, sum, sum-same, sum-high}
 use Rattle.rules.specs.declared.Sizes.{Sizes}
 use Rattle.rules.specs.Regions.{regionAt}
 use Rattle.laws.specs.RulesLaws.{region-pos}
 use Rattle.laws.specs.RegionLaws.{region-high}
 use Rattle.layout.specs.declared.Places.{Places}
-use Rattle.layout.specs.Places.{placesOf, sizesOf, Room, ownerOf, countOf, markOf}
+use Rattle.layout.specs.Places.{placesOf, sizesOf, Room, countOf, markOf}
 use Rattle.promises.specs.Words.{Words, depthIn}
 use Rattle.promises.specs.Whole.{WholeFor}
 use Rattle.promises.specs.OwnedPages.{pagesOwned}
+use Rattle.pages.specs.Owned.{ownedOne, ownedIn}
 use Rattle.mark.specs.Survivors.{Marked}
 use Rattle.census.specs.Counted.{onPage, overMarked, goesTo, goes-le, page-high, goes-landed}
 use Rattle.census.specs.After as ce
@@ -23,13 +23,6 @@ use Rattle.census.specs.Crossed.{crossing-after}
 use Rattle.ended.specs.EndQuestion.{pagesNeeded, crossingAfter}
 use Rattle.ended.specs.EndPages.{morePages, new-pages-counted}
 use Rattle.epoch.specs.MarkedWords.{owner-same, count-same}
-
--- 1 for a page of g, and the pages of g among the first n; the free pages are those of 0
-unfoldable pub ownedOne : Places → List ℕ → ℕ → ℕ → ℕ
-ownedOne p T g page = bit (eqb (ownerOf p T page) g)
-
-abbrev pub ownedIn : Places → List ℕ → ℕ → ℕ → ℕ
-ownedIn p T g n = sum (ownedOne p T g) n
 
 -- the new pages for region g, and for the regions of thread t at the levels below n
 unfoldable pub levelNeeds : Places → List ℕ → List ℕ → ℕ → ℕ
@@ -53,19 +46,6 @@ level-needs p W T g have come e f = ap₂ (λ (a b : ℕ). morePages a b) e f
 pub needs-high : (p : Places) (W T : List ℕ) (g : ℕ) → levelNeeds p W T g ≤ p .pages + 1
 unfolding levelNeeds
 needs-high p W T g = omega (arith, over-high p W T g (p .pages))
-
--- o is the page's owner as the code read it
-pub owned-yes : (p : Places) (T : List ℕ) (g page o : ℕ) → o ≡ ownerOf p T page → o ≡ g → 1 ≡ ownedOne p T g page
-unfolding ownedOne
-owned-yes p T g page o e z = sym (ap bit (eq-eqb (ownerOf p T page) g (sym e ∙ z)))
-
-pub owned-no : (p : Places) (T : List ℕ) (g page o : ℕ) → o ≡ ownerOf p T page → (o ≡ g → ⊥) → 0 ≡ ownedOne p T g page
-unfolding ownedOne
-owned-no p T g page o e n = sym (ap bit (ne-eqb (ownerOf p T page) g (λ z. n (e ∙ z))))
-
-pub owned-le : (p : Places) (T : List ℕ) (g page : ℕ) → ownedOne p T g page ≤ 1
-unfolding ownedOne
-owned-le p T g page = bit-le (eqb (ownerOf p T page) g)
 
 -- ---- as the rules count
 

@@ -27,7 +27,8 @@ use Rattle.ended.specs.AfterEnd.{endOf}
 use Rattle.ended.specs.EndQuestion.{pagesNeeded, crossingAfter, refused-shut, refused-pageless, refused-full}
 use Rattle.ended.specs.EvacuatedDid.{ended-did}
 use Rattle.epoch.specs.MarkedWords.{use-now}
-use Rattle.epoch.specs.CensusCounts.{ownedIn, needsBelow, needs-are, free-are, crossing-are}
+use Rattle.pages.specs.Owned.{ownedIn}
+use Rattle.epoch.specs.CensusCounts.{needsBelow, needs-are, free-are, crossing-are}
 use Rattle.epoch.specs.MayEvacuate.{before-same}
 
 module _ (p : Places) (e : p ≡ placesOf (sizesOf p)) (w : Words) (k : WholeFor (sizesOf p) w) (fits : length (w .tables) < 2 ^ 63) (t : ℕ) (th : t < p .threads) where

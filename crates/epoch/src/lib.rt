@@ -42,7 +42,7 @@ pub fn end(
     let region = region_at(p, thread, level);
     mark_survivors(p, cells, remember, tables, thread);
     let needed = needs::needed_pages(p, cells, tables, thread, level);
-    let free = needs::owned_pages(p, tables, 0);
+    let free = pages::owned_pages(p, tables, 0);
     if free < needed {
         unmark(p, cells, tables);
         return Answer {

@@ -3,41 +3,13 @@ ghost use mathlib.Core.Path.{_≡_};
 ghost use Prim.Native.Nat.{ℕ, _+_, _*_, _^_, _<_, _≤_};
 ghost use lib.ListN.{length};
 ghost use Rattle.layout.specs.Places.{Room, markOf};
-ghost use Rattle.epoch.specs.CensusCounts.{ownedOne, ownedIn, levelNeeds, needsBelow};
+ghost use Rattle.epoch.specs.CensusCounts.{levelNeeds, needsBelow};
 use census::count::count_survivors;
 use layout::Places;
 use layout::cells::pages_for;
 use layout::regions::region_at;
 use layout::tables::count;
-use layout::tables::owner;
 use layout::wide;
-
-// 1 if a page belongs to g, else 0.
-pub fn is_owned(p: Places, tables: &[u32], g: u32, page: usize) -> usize
-    requires { ⌜ Room p (length (now tables)) ⌝ }
-    requires { ⌜ page < p .pages ⌝ }
-    ensures { λ n. ⌜ n ≡ ownedOne p (now (tables .entry)) g page ⌝ }
-{
-    if owner(p, tables, page) == g {
-        return 1;
-    }
-    0
-}
-
-// How many pages belong to g.
-pub fn owned_pages(p: Places, tables: &[u32], g: u32) -> usize
-    requires { ⌜ Room p (length (now tables)) ⌝ }
-    ensures { λ n. ⌜ n ≡ ownedIn p (now (tables .entry)) g (p .pages) ⌝ }
-{
-    let pages = p.pages;
-    let mut n: usize = 0;
-    let mut page: usize = 0;
-    while page < pages {
-        n += is_owned(p, tables, g, page);
-        page += 1;
-    }
-    n
-}
 
 // How many new pages region g needs for the survivors that go to it.
 pub fn level_pages(p: Places, cells: &[u32], tables: &[u32], g: u32) -> usize

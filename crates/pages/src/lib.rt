@@ -1,13 +1,41 @@
-// The cell that an object gets: the first unused cell of its region's partly filled page, else the first cell of the highest-numbered
-// free page.
+// The pages of a region, and the cell that an object gets: the first unused cell of its region's partly filled page, else the first cell
+// of the highest-numbered free page.
 ghost use mathlib.Core.Path.{_≡_};
 ghost use Prim.Native.Nat.{ℕ, _+_, _*_, _^_, _<_, _≤_};
 ghost use lib.ListN.{length};
 ghost use Rattle.lists.specs.Says.{Says};
 ghost use Rattle.layout.specs.Places.{Room, usedOf, countOf};
 ghost use Rattle.layout.specs.Cells.{cellOn};
+ghost use Rattle.pages.specs.Owned.{ownedOne, ownedIn};
 ghost use Rattle.pages.specs.Pages.{fillsPages, Filled, Found, Highest, Partly, taken};
 use layout::Places;
+
+// 1 if a page belongs to region g, else 0.
+fn is_owned(p: Places, tables: &[u32], g: u32, page: usize) -> usize
+    requires { ⌜ Room p (length (now tables)) ⌝ }
+    requires { ⌜ page < p .pages ⌝ }
+    ensures { λ n. ⌜ n ≡ ownedOne p (now (tables .entry)) g page ⌝ }
+{
+    if layout::tables::owner(p, tables, page) == g {
+        return 1;
+    }
+    0
+}
+
+// How many pages belong to region g; those of 0 are free.
+pub fn owned_pages(p: Places, tables: &[u32], g: u32) -> usize
+    requires { ⌜ Room p (length (now tables)) ⌝ }
+    ensures { λ n. ⌜ n ≡ ownedIn p (now (tables .entry)) g (p .pages) ⌝ }
+{
+    let pages = p.pages;
+    let mut n: usize = 0;
+    let mut page: usize = 0;
+    while page < pages {
+        n += is_owned(p, tables, g, page);
+        page += 1;
+    }
+    n
+}
 
 // Whether so many objects leave no cell of their region's pages unused.
 fn fills_pages(objects: u32) -> bool

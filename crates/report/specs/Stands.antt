@@ -14,6 +14,7 @@ use Rattle.promises.specs.Words.{words, depthsAt}
 use Rattle.promises.specs.Reading.{range, depth-at}
 use Rattle.promises.specs.Agreed.{objects-agree}
 use Rattle.promises.specs.OwnedPages.{counted-objects, heap-free}
+use Rattle.pages.specs.Owned.{ownedOne}
 use Rattle.report.specs.Report.{isOpen, openRegions, rowWith, rows}
 use Rattle.report.specs.Passing.{length-map, map-passing}
 use Rattle.report.specs.Opened.{rows-counted}
@@ -43,4 +44,5 @@ module _ (p : Places) (t : List ℕ) (e : p ≡ placesOf (sizesOf p)) where
           ∙ sym (objects-agree (sizesOf p) (words c m t) h cellOf st q pos))
 
   pub free-stands : EveryHeap p t (λ h. freeIn p t ≡ freePages (sizesOf p) (graph h))
+  unfolding ownedOne
   free-stands c m h cellOf st = ap (λ (r : Places). freeIn r t) e ∙ heap-free (sizesOf p) (words c m t) h cellOf st

@@ -17,6 +17,7 @@ use Rattle.promises.specs.Whole.{WholeFor, Whole}
 use Rattle.promises.specs.StandsFor.{StandsFor}
 use Rattle.promises.specs.Agreed.{whole-for}
 use Rattle.promises.specs.Reading.{range, tables-room}
+use Rattle.pages.specs.Owned.{ownedIn}
 use Rattle.report.specs.declared.Row.{Row}
 use Rattle.report.specs.Report.{rowOf, rowWith, openRegions}
 
@@ -40,12 +41,9 @@ openIn p t = openRegions (sizesOf p) (depthsAt (sizesOf p) t)
 unfoldable pub rowsIn : Places → List ℕ → List Row
 rowsIn p t = map (rowIn p t) (openIn p t)
 
--- 1 for a free page, and the free pages
-abbrev pub freeOne : Places → List ℕ → ℕ → ℕ
-freeOne p t page = bit (eqb (ownerOf p t page) 0)
-
+-- the free pages
 abbrev pub freeIn : Places → List ℕ → ℕ
-freeIn p t = sum (freeOne p t) (p .pages)
+freeIn p t = ownedIn p t 0 (p .pages)
 
 pub tables-room-of : (p : Places) (t : List ℕ) → WholeTables p t → length t < 2 ^ 63 → Room p (length t)
 tables-room-of p t k f =

@@ -12,14 +12,13 @@ ghost use Rattle.promises.specs.Words.{words, depthsAt};
 ghost use Rattle.promises.specs.StandsFor.{StandsFor};
 ghost use Rattle.report.specs.Report.{rowOf, rows, noRow};
 ghost use Rattle.report.specs.Opened.{Next};
-ghost use Rattle.report.specs.Tables.{WholeTables, EveryHeap, rowIn, rowsIn, freeOne, freeIn};
+ghost use Rattle.report.specs.Tables.{WholeTables, EveryHeap, rowIn, rowsIn, freeIn};
 use layout::Places;
 use layout::regions::level_of;
 use layout::regions::region_at;
 use layout::regions::thread_of;
 use layout::tables::count;
 use layout::tables::depth;
-use layout::tables::owner;
 use layout::wide;
 use whole::pages::is_open;
 
@@ -42,18 +41,11 @@ pub struct Reported {
     pub crossing_slots: u32,
 }
 
-// How many pages a region of so many objects uses.
-pub fn pages_of(objects: u32) -> u32
-    ensures { λ n. ⌜ n ≡ pagesOf objects ⌝ }
-{
-    ((wide(objects) + 15) / 16) as u32
-}
-
 // A row with the pages that so many objects use.
 fn row_with(thread: u32, level: u32, objects: u32) -> Row
     ensures { λ r. ⌜ r ≡ rowOf thread level objects ⌝ }
 {
-    let pages = pages_of(objects);
+    let pages = layout::cells::pages_for(wide(objects)) as u32;
     Row {
         thread,
         level,
@@ -126,31 +118,12 @@ pub fn row_at(p: Places, tables: &[u32], k: usize) -> Row
     row_of(p, tables, region)
 }
 
-// 1 if a page is free, else 0.
-fn is_free(p: Places, tables: &[u32], page: usize) -> u32
-    requires { ⌜ Room p (length (now tables)) ⌝ }
-    requires { ⌜ page < p .pages ⌝ }
-    ensures { λ n. ⌜ n ≡ freeOne p (now (tables .entry)) page ⌝ }
-{
-    if owner(p, tables, page) == 0 {
-        return 1;
-    }
-    0
-}
-
 // How many pages are free.
 pub fn free_pages(p: Places, tables: &[u32]) -> u32
     requires { ⌜ WholeTables p (now tables) ⌝ }
     ensures { λ n. ⌜ (n ≡ freeIn p (now (tables .entry))) × EveryHeap p (now (tables .entry)) (λ h. n ≡ freePages (sizesOf p) (graph h)) ⌝ }
 {
-    let pages = p.pages;
-    let mut n: u32 = 0;
-    let mut page: usize = 0;
-    while page < pages {
-        n += is_free(p, tables, page);
-        page += 1;
-    }
-    n
+    pages::owned_pages(p, tables, 0) as u32
 }
 
 // How many slots are crossing: the remember table names each once.

@@ -1,8 +1,8 @@
 -- The owner is compared with g.
 use borrow.Author.Needs.{needs}
-use Rattle.epoch.specs.CensusCounts.{owned-yes, owned-no}
-use Rattle.epoch.proofs.needs.is_owned.Statement.{statement}
-use Rattle.epoch.proofs.needs.is_owned.Tie as tie
+use Rattle.pages.specs.Owned.{owned-yes, owned-no}
+use Rattle.pages.proofs.is_owned.Statement.{statement}
+use Rattle.pages.proofs.is_owned.Tie as tie
 
 owner-requires : tie.Need-owner-requires
 owner-requires c κs = search needs

@@ -3,9 +3,9 @@ use Prim.Native.Nat.{_≤_, _-_}
 use mathlib.Core.Path.{_≡_, refl, ap, _∙_}
 use native.Mathlib.Omega.{arith}
 use Rattle.lists.specs.Counting.{sum-more}
-use Rattle.epoch.specs.CensusCounts.{ownedOne, ownedIn, owned-le}
-use Rattle.epoch.proofs.needs.owned_pages.Statement.{statement}
-use Rattle.epoch.proofs.needs.owned_pages.Tie as tie
+use Rattle.pages.specs.Owned.{ownedOne, ownedIn, owned-le}
+use Rattle.pages.proofs.owned_pages.Statement.{statement}
+use Rattle.pages.proofs.owned_pages.Tie as tie
 
 abbrev Inv-loop : tie.InvT-loop
 Inv-loop p tables g pages n₀ page₀ n page =
