@@ -2,6 +2,8 @@
 
 -- definitions: what must be read
 pub mod Report
+-- and what they give in three runs
+pub mod Examples
 -- what the tables say
 pub mod Tables
 -- the numbers that pass a test, and the open regions one after the other

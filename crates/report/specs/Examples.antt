@@ -1,0 +1,69 @@
+-- Reports that the checker computes: of 01's sample run, of its heap before the end of the epoch, and of one in which a slot of an object
+-- that nobody reaches is crossing.
+use Prim.Native.Nat.{ℕ}
+use mathlib.Core.Path.{_≡_, refl}
+use mathlib.Core.List.{List, [], _∷_, map}
+use Rattle.lists.specs.Members
+use Rattle.lists.specs.Listed
+use Rattle.rules.specs.declared.Sizes.{Sizes}
+use Rattle.rules.specs.declared.Command.{Command}
+use Rattle.rules.specs.Terms
+use Rattle.rules.specs.NeverFreeing as nf
+use Rattle.rules.specs.Flow as fl
+use Rattle.rules.specs.Regions as rg
+use Rattle.rules.specs.Graph as gr
+use Rattle.rules.specs.Rules as ru
+use Rattle.report.specs.declared.Row.{Row}
+use Rattle.report.specs.Report as re
+
+-- a report's rows, free pages and crossing slots
+pub record Outcome : Type 0 where
+  pub rows : List Row
+  pub free : ℕ
+  pub crossing : ℕ
+
+pub record Case : Type 0 where
+  pub script : List Command
+  pub expected : Outcome
+
+abbrev small : Sizes
+small = record { threads = 2; variables = 4; depth = 2; pages = 8; entries = 4 }
+
+abbrev do′ : ℕ → ℕ → ℕ → ℕ → ℕ → Command
+do′ k t a b c = record { code = k; thread = t; a = a; b = b; c = c }
+
+abbrev row : ℕ → ℕ → ℕ → ℕ → Row
+row t k n p = record { thread = t; level = k; objects = n; pages = p }
+
+abbrev case′ : List Command → List Row → ℕ → ℕ → Case
+case′ ms rs f x = record { script = ms; expected = record { rows = rs; free = f; crossing = x } }
+
+abbrev cases : List Case
+cases =
+    -- the sample run
+    case′
+    (do′ 1 0 0 0 0 ∷ do′ 3 0 0 1 1 ∷ do′ 3 0 1 0 1 ∷ do′ 9 0 1 0 77 ∷ do′ 7 0 0 0 1 ∷ do′ 3 1 0 1 0 ∷ do′ 5 0 1 0 0 ∷ do′ 2 0 0 0 0 ∷ do′ 6 0 2 0 0 ∷ do′ 8 0 2 0 0 ∷ [])
+    (row 0 0 3 1 ∷ []) 7 0
+    -- before its epoch ends
+    ∷ case′
+    (do′ 1 0 0 0 0 ∷ do′ 3 0 0 1 1 ∷ do′ 3 0 1 0 1 ∷ do′ 9 0 1 0 77 ∷ do′ 7 0 0 0 1 ∷ do′ 3 1 0 1 0 ∷ do′ 5 0 1 0 0 ∷ [])
+    (row 0 0 1 1 ∷ row 0 1 2 1 ∷ []) 6 0
+    -- an object of the control space points into an epoch and is dropped; two epochs of the other thread are open and empty
+    ∷ case′
+    (do′ 3 0 0 1 0 ∷ do′ 1 0 0 0 0 ∷ do′ 3 0 1 0 0 ∷ do′ 7 0 0 0 1 ∷ do′ 5 0 0 0 0 ∷ do′ 1 1 0 0 0 ∷ do′ 1 1 0 0 0 ∷ [])
+    (row 0 0 1 1 ∷ row 0 1 1 1 ∷ row 1 1 0 0 ∷ row 1 2 0 0 ∷ []) 6 1
+    ∷ []
+
+abbrev outcome : Case → Outcome
+outcome k =
+    let h = ru.run small (ru.unused small) (k .script) .last in
+    record { rows = re.rows small h; free = gr.freePages small (ru.graph h); crossing = gr.crossing (ru.graph h) }
+
+pub reports : map outcome cases ≡ map (λ k. k .expected) cases
+unfolding
+    Terms.ask nf.empty nf.operands nf.state nf.question nf.effect nf.value
+    rg.outermost fl.called fl.rounds fl.flow
+    rg.regionAt rg.parent rg.join Members.keep Members.tally Listed.listed gr.slotsOf gr.slotsBelow gr.slots gr.varsFrom gr.calls gr.inside gr.remembered gr.crossing gr.objectsIn gr.freePages gr.newPages
+    ru.unused ru.moved ru.ended ru.homesAfter ru.after ru.room ru.question ru.answered ru.step ru.run
+    re.isOpen re.openRegions re.rows
+reports = refl
