@@ -18,9 +18,9 @@ use Rattle.laws.specs.Counts.{landed}
 use Rattle.layout.specs.declared.Places.{Places}
 use Rattle.layout.specs.Places.{placesOf, markOf}
 use Rattle.layout.specs.Cells.{workOf, pageOf, placeOf, cellOn}
+use Rattle.layout.specs.Marks.{marked}
 use Rattle.promises.specs.Words.{Words, Used, ownerIn, homeIn, graphOf}
 use Rattle.promises.specs.Whole.{WholeFor}
-use Rattle.mark.specs.Marks.{marked}
 use Rattle.mark.specs.Reached.{home-cell, cell-home}
 use Rattle.mark.specs.Survivors.{Marked}
 use Rattle.mark.specs.Unmark.{Walked, walk-next, walk-end, none-left}

@@ -19,13 +19,14 @@ use Rattle.laws.specs.Counts.{crossIn, crossAt, crossing-sum, crossRef}
 use Rattle.layout.specs.declared.Places.{Places}
 use Rattle.layout.specs.Places.{placesOf, markOf, usedIn, slotIn, Room}
 use Rattle.layout.specs.Cells.{headOf, workOf, fieldAt, fieldOf, pageOf, placeOf, cellOf, wordOf}
+use Rattle.layout.specs.Marks.{marked}
 use Rattle.promises.specs.Words.{Words, Used, ownerIn, homeIn, refCount, refsIn, graphOf}
 use Rattle.promises.specs.Whole.{WholeFor, IsRef}
 use Rattle.promises.specs.Crossing.{other, regionOf, crossTo}
 use Rattle.promises.specs.Crossings.{cross-in-sum}
 use Rattle.promises.specs.Slots.{Slot, region-of, slot-cross, cross-slot, field-slot}
 use Rattle.promises.specs.Reading.{used-home, used-owned, used-alive, alive-used, length-refs, getD-refs}
-use Rattle.mark.specs.Marks.{owner, marked, Kept, kept-refs, kept-field, kept-owner}
+use Rattle.mark.specs.Marks.{owner, Kept, kept-refs, kept-field, kept-owner}
 use Rattle.mark.specs.Reached.{home-cell, cell-home, is-other}
 use Rattle.mark.specs.Survivors.{Marked, marked-kept}
 use Rattle.census.specs.Counted.{overMarked, over-cells}

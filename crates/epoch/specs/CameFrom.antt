@@ -11,9 +11,10 @@ use lib.Dec.{eqb}
 use lib.ListN.{length, getD}
 use Rattle.layout.specs.declared.Places.{Places}
 use Rattle.layout.specs.Places.{ownerOf}
-use Rattle.layout.specs.Cells.{workOf, fieldOf}
+use Rattle.layout.specs.Cells.{workOf, fieldOf, refsOf}
+use Rattle.layout.specs.Marks.{marked}
 use Rattle.promises.specs.Words.{InUse}
-use Rattle.evacuate.specs.Marks.{refs, marked, mark?}
+use Rattle.evacuate.specs.Marks.{mark?}
 use Rattle.evacuate.specs.Passing.{Ready}
 use Rattle.evacuate.specs.Forward.{Forwards, forward}
 use Rattle.evacuate.specs.Rewrite.{moveRef, move-null, move-in, move-out, Rewritten, refs-same, Old}
@@ -31,7 +32,7 @@ cellNow p r T₀ W c = cond (eqb (ownerOf p T₀ (c / 16)) r) (forward W c) c
 pub record Came (p : Places) (r : ℕ) (home : ℕ → ℕ) (W₀ T₀ W : List ℕ) (x q : ℕ) : Type 0 where
   pub lives : Lives p r T₀ (q / 16)
   pub field : 2 ≤ q % 16
-  pub ref : q % 16 < refs W₀ (q / 16) + 2
+  pub ref : q % 16 < refsOf W₀ (q / 16) + 2
   pub at : x ≡ 16 * cellNow p r T₀ W (q / 16) + q % 16
   pub names : ℕ
   pub value : getD W₀ q 0 ≡ suc names
@@ -62,7 +63,7 @@ module _ {p : Places} {r : ℕ} {S : ℕ → Type 0} {W₀ T₀ W T W′ : List 
         moved = λ z. omega (arith, F .moved c l on .forward);
       }
 
-  copy-refs : (c : ℕ) → c / 16 < p .pages → marked p T₀ c ≡ 1 → refs W (forward W c) ≡ refs W₀ c
+  copy-refs : (c : ℕ) → c / 16 < p .pages → marked p T₀ c ≡ 1 → refsOf W (forward W c) ≡ refsOf W₀ c
   copy-refs c l on =
       let e : 16 * forward W c ≡ 16 * forward W c + 0 = omega arith in
       let e′ : 16 * c + 0 ≡ 16 * c = omega arith in
@@ -74,8 +75,8 @@ module _ {p : Places} {r : ℕ} {S : ℕ → Type 0} {W₀ T₀ W T W′ : List 
   no-copy x u q =
       let b : ℕ = q .cell in
       let v = survivor b (q .old) in
-      let few : refs W₀ b ≤ 14 = s .refs-few b (v .0) in
-      let e : refs W (workOf W b - 1) ≡ refs W₀ b = copy-refs b (v .0 .page) (v .1) in
+      let few : refsOf W₀ b ≤ 14 = s .refs-few b (v .0) in
+      let e : refsOf W (workOf W b - 1) ≡ refsOf W₀ b = copy-refs b (v .0 .page) (v .1) in
       let same : x / 16 ≡ workOf W b - 1 = omega (arith, q .field .low, q .field .at) in
       F .moved b (v .0 .page) (v .1) .new (subst (λ (y : ℕ). InUse p T₀ y) same u)
 
@@ -84,10 +85,10 @@ module _ {p : Places} {r : ℕ} {S : ℕ → Type 0} {W₀ T₀ W T W′ : List 
   same-other : (v : ℕ) → InUse p T₀ (v - 1) → v ≢ 0 → ownerOf p T₀ ((v - 1) / 16) ≢ r → moveRef p r W T v ≡ v
   same-other v u ne out = sym (move-out p r W T v ne (λ z. out (sym (F .copying .owner (v - 1) u) ∙ z)))
 
-  old-value : (y f : ℕ) → InUse p T₀ y → ownerOf p T₀ (y / 16) ≢ r → f < refs W₀ y → fieldOf W′ y f ≡ moveRef p r W T (fieldOf W₀ y f)
+  old-value : (y f : ℕ) → InUse p T₀ y → ownerOf p T₀ (y / 16) ≢ r → f < refsOf W₀ y → fieldOf W′ y f ≡ moveRef p r W T (fieldOf W₀ y f)
   old-value y f u n lf = go (ℕ-discrete (fieldOf W₀ y f) 0) (ℕ-discrete (ownerOf p T₀ ((fieldOf W₀ y f - 1) / 16)) r)
     where
-      few : refs W₀ y ≤ 14
+      few : refsOf W₀ y ≤ 14
       few = s .refs-few y u
 
       low : f < 14
@@ -112,9 +113,9 @@ module _ {p : Places} {r : ℕ} {S : ℕ → Type 0} {W₀ T₀ W T W′ : List 
       go (no ne) (no out) =
           stays (λ q. out (s .into y f low q .1)) ∙ sym (same-other (fieldOf W₀ y f) (s .slots-used y f u lf ne) ne out)
 
-  copy-value : (c f : ℕ) → c / 16 < p .pages → marked p T₀ c ≡ 1 → f < refs W₀ c → fieldOf W′ (forward W c) f ≡ moveRef p r W T (fieldOf W₀ c f)
+  copy-value : (c f : ℕ) → c / 16 < p .pages → marked p T₀ c ≡ 1 → f < refsOf W₀ c → fieldOf W′ (forward W c) f ≡ moveRef p r W T (fieldOf W₀ c f)
   copy-value c f l on lf =
-      let few : refs W₀ c ≤ 14 = s .refs-few c (a₀ .used c l on) in
+      let few : refsOf W₀ c ≤ 14 = s .refs-few c (a₀ .used c l on) in
       let e : 16 * forward W c + 2 + f ≡ 16 * forward W c + (2 + f) = omega arith in
       let e′ : 16 * c + (2 + f) ≡ 16 * c + 2 + f = omega arith in
       R .moved (16 * forward W c + 2 + f)
@@ -152,7 +153,7 @@ module _ {p : Places} {r : ℕ} {S : ℕ → Type 0} {W₀ T₀ W T W′ : List 
         )
 
     -- what a field of a living object names lives
-    names-lives : (c f d : ℕ) → Lives p r T₀ c → f < refs W₀ c → fieldOf W₀ c f ≡ suc d → Lives p r T₀ d
+    names-lives : (c f d : ℕ) → Lives p r T₀ c → f < refsOf W₀ c → fieldOf W₀ c f ≡ suc d → Lives p r T₀ d
     names-lives c f d l lf e =
         record { used = subst (λ (y : ℕ). InUse p T₀ y) d′ (s .slots-used c f (l .used) lf (λ z. omega arith)); stays = λ own. on own (ℕ-discrete (ownerOf p T₀ (c / 16)) r) }
       where
@@ -167,7 +168,7 @@ module _ {p : Places} {r : ℕ} {S : ℕ → Type 0} {W₀ T₀ W T W′ : List 
         on own (no n) = s .held c f d (l .used) n lf e′ own
 
     -- what crosses afterwards: the value before
-    crossed : (c f x : ℕ) → Lives p r T₀ c → f < refs W₀ c → getD W′ x 0 ≡ moveRef p r W T (fieldOf W₀ c f) → ownerOf p T (x / 256) ≡ home c → crossAt p W′ T x ≢ 0
+    crossed : (c f x : ℕ) → Lives p r T₀ c → f < refsOf W₀ c → getD W′ x 0 ≡ moveRef p r W T (fieldOf W₀ c f) → ownerOf p T (x / 256) ≡ home c → crossAt p W′ T x ≢ 0
         → (d : ℕ) × (fieldOf W₀ c f ≡ suc d) × (1 < home d) × (home c ≢ home d)
     crossed c f x l lf val own ne =
         let v = cross-value p T (ownerOf p T (x / 256)) (getD W′ x 0) (crossAt p W′ T x) refl ne in
@@ -197,13 +198,13 @@ module _ {p : Places} {r : ℕ} {S : ℕ → Type 0} {W₀ T₀ W T W′ : List 
         let own : ownerOf p T (x / 256) ≡ ownerOf p T₀ (x / 16 / 16) = ap (λ (y : ℕ). ownerOf p T y) page ∙ F .copying .owner (x / 16) u in
         let out : ownerOf p T₀ (x / 16 / 16) ≢ r = (λ z. q .out (own ∙ z)) in
         let e : 16 * (x / 16) ≡ 16 * (x / 16) + 0 = omega arith in
-        let head : refs W′ (x / 16) ≡ refs W₀ (x / 16) =
+        let head : refsOf W′ (x / 16) ≡ refsOf W₀ (x / 16) =
         refs-same R (x / 16)
         ∙ ap (λ (y : ℕ). y / 16)
         (ap (λ (y : ℕ). getD W y 0) e ∙ F .copying .words (x / 16) 0 (omega arith) u (λ w. omega arith) ∙ ap (λ (y : ℕ). getD W₀ y 0) (sym e)) in
         let l : Lives p r T₀ (x / 16) = record { used = u; stays = λ z. absurd (out z) } in
-        let ref : x % 16 < refs W₀ (x / 16) + 2 = subst (λ (n : ℕ). x % 16 < n + 2) head (q .ref) in
-        let lf : x % 16 - 2 < refs W₀ (x / 16) = omega (arith, q .field) in
+        let ref : x % 16 < refsOf W₀ (x / 16) + 2 = subst (λ (n : ℕ). x % 16 < n + 2) head (q .ref) in
+        let lf : x % 16 - 2 < refsOf W₀ (x / 16) = omega (arith, q .field) in
         let at : 16 * (x / 16) + 2 + (x % 16 - 2) ≡ x = omega (arith, q .field) in
         let z =
         crossed (x / 16) (x % 16 - 2) x l lf (ap (λ (y : ℕ). getD W′ y 0) (sym at) ∙ old-value (x / 16) (x % 16 - 2) u out lf) (own ∙ sym (stays (x / 16) u out)) (q .cross) in
@@ -230,12 +231,12 @@ module _ {p : Places} {r : ℕ} {S : ℕ → Type 0} {W₀ T₀ W T W′ : List 
         l : Lives p r T₀ c
         l = record { used = u; stays = λ z. on }
 
-        head : refs W′ (x / 16) ≡ refs W₀ c
-        head = refs-same R (x / 16) ∙ ap (λ (y : ℕ). refs W y) (sym e) ∙ copy-refs c lc on
+        head : refsOf W′ (x / 16) ≡ refsOf W₀ c
+        head = refs-same R (x / 16) ∙ ap (λ (y : ℕ). refsOf W y) (sym e) ∙ copy-refs c lc on
 
         go : (f i : ℕ) → i ≡ x % 16 → Came p r home W₀ T₀ W x (16 * c + i)
         go f i ei =
-            let lf : x % 16 - 2 < refs W₀ c = omega (arith, q .field, q .ref, head) in
+            let lf : x % 16 - 2 < refsOf W₀ c = omega (arith, q .field, q .ref, head) in
             let cell : (16 * c + i) / 16 ≡ c = omega arith in
             let word : (16 * c + i) % 16 ≡ x % 16 = omega arith in
             let at : 16 * forward W c + 2 + (x % 16 - 2) ≡ x = omega (arith, q .field) in
@@ -248,7 +249,7 @@ module _ {p : Places} {r : ℕ} {S : ℕ → Type 0} {W₀ T₀ W T W′ : List 
             record {
               lives = subst (λ (y : ℕ). Lives p r T₀ y) (sym cell) l;
               field = omega (arith, q .field);
-              ref = subst (λ (y : ℕ). (16 * c + i) % 16 < refs W₀ y + 2) (sym cell) (omega (arith, q .ref, head));
+              ref = subst (λ (y : ℕ). (16 * c + i) % 16 < refsOf W₀ y + 2) (sym cell) (omega (arith, q .ref, head));
               at =
                   subst (λ (y : ℕ). x ≡ 16 * cellNow p r T₀ W y + (16 * c + i) % 16) (sym cell)
                   (omega (arith, now-in c (s .survivors c lc on)));

@@ -11,12 +11,13 @@ use Rattle.rules.specs.Regions.{regionAt}
 use Rattle.layout.specs.declared.Places.{Places}
 use Rattle.layout.specs.Places.{placesOf, sizesOf, Room, depthAt, depthOf, markOf, usedIn}
 use Rattle.layout.specs.Cells.{pageOf}
+use Rattle.layout.specs.Marks.{marked}
 use Rattle.promises.specs.Words.{Words, words, InUse, depthIn}
 use Rattle.promises.specs.Whole.{WholeFor}
 use Rattle.promises.specs.Promises.{DidHere}
 use Rattle.promises.specs.OwnedPages.{pagesOwned}
 use Rattle.promises.specs.Reading.{cells-room}
-use Rattle.mark.specs.Marks.{Kept, Shaped, marked, kept-shaped, kept-room}
+use Rattle.mark.specs.Marks.{Kept, Shaped, kept-shaped, kept-room}
 use Rattle.mark.specs.Holders.{Holding, holding-kept}
 use Rattle.mark.specs.Survivors.{Marked, marked-kept, space-of, shaped-at, holding-at}
 use Rattle.mark.specs.Unmark.{Unmarked, cells-back, tables-back}

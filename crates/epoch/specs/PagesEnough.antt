@@ -21,10 +21,10 @@ use Rattle.laws.specs.Counts.{landed}
 use Rattle.layout.specs.declared.Places.{Places}
 use Rattle.layout.specs.Places.{placesOf, Room, ownerOf, markOf}
 use Rattle.layout.specs.Cells.{pageOf, placeOf, workOf}
+use Rattle.layout.specs.Marks.{marked}
 use Rattle.promises.specs.Words.{Words, Used, ownerIn, homeIn, depthIn, graphOf}
 use Rattle.promises.specs.Whole.{WholeFor, objectsOf}
 use Rattle.promises.specs.OwnedPages.{pagesOwned, objects-on-pages}
-use Rattle.mark.specs.Marks.{marked}
 use Rattle.mark.specs.Survivors.{Marked}
 use Rattle.mark.specs.Reached.{home-cell, cell-home}
 use Rattle.evacuate.specs.Marks.{hit, hits}

@@ -19,14 +19,13 @@ use Rattle.laws.specs.Counts.{crossRef}
 use Rattle.laws.specs.EndLaws.{home-went, home-stayed}
 use Rattle.layout.specs.declared.Places.{Places}
 use Rattle.layout.specs.Places.{placesOf, Room, ownerOf, usedIn}
-use Rattle.layout.specs.Cells.{pageOf, workOf}
+use Rattle.layout.specs.Cells.{pageOf, workOf, refsOf}
+use Rattle.layout.specs.Marks.{marked}
 use Rattle.promises.specs.Words.{Words, Used, InUse, ownerIn, depthIn, refCount, graphOf}
 use Rattle.promises.specs.Whole.{WholeFor}
 use Rattle.promises.specs.Reading.{used-home}
-use Rattle.mark.specs.Marks.{marked}
 use Rattle.mark.specs.Survivors.{Marked}
 use Rattle.mark.specs.Reached.{cell-home}
-use Rattle.evacuate.specs.Marks.{refs}
 use Rattle.evacuate.specs.Forward.{Forwards}
 use Rattle.evacuate.specs.Rewrite.{Rewritten, Remembered}
 use Rattle.evacuate.specs.Update.{Copies}
@@ -99,7 +98,7 @@ module _ (s : Sizes) (w : Words) (k : WholeFor s w) (space : Room (placesOf s) (
   counts : (W : List ℕ) (x q : ℕ) → Came (placesOf s) r (after .home) (w₁ .cells) (w₁ .tables) W x q → 0 < crossesPast s w r q
   unfolding crossesPast
   counts W x q c =
-      let e : refs (w₁ .cells) (q / 16) ≡ refCount w (q / 16) = ap (λ (h : ℕ). h / 16) (head-same s w k space r w₁ M (q / 16)) in
+      let e : refsOf (w₁ .cells) (q / 16) ≡ refCount w (q / 16) = ap (λ (h : ℕ). h / 16) (head-same s w k space r w₁ M (q / 16)) in
       let v : getD (w .cells) q 0 ≡ suc (c .names) = sym (word-same s w k space r w₁ M q (λ z. omega (arith, c .field))) ∙ c .value in
       let one : wordCrosses s w r (q / 16) (q % 16) (getD (w .cells) q 0) ≡ 1 =
       word-slot s w k r pos (q / 16) (q % 16) (getD (w .cells) q 0) (lives-alive (q / 16) (c .lives)) (c .field) (subst (λ (n : ℕ). q % 16 < n + 2) e (c .ref))

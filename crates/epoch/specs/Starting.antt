@@ -16,14 +16,13 @@ use Rattle.laws.specs.RulesLaws.{region-pos}
 use Rattle.laws.specs.EndLaws.{home-went, home-stayed, was-alive, closed-ended}
 use Rattle.layout.specs.declared.Places.{Places}
 use Rattle.layout.specs.Places.{placesOf, Room, ownerOf, varOf, usedIn}
-use Rattle.layout.specs.Cells.{pageOf, workAt, workOf, headOf, fieldOf}
+use Rattle.layout.specs.Cells.{pageOf, workAt, workOf, headOf, fieldOf, refsOf}
+use Rattle.layout.specs.Marks.{marked}
 use Rattle.promises.specs.Words.{Words, Used, InUse, ownerIn, homeIn, depthIn, refCount, refsIn, varsIn, graphOf}
 use Rattle.promises.specs.Whole.{WholeFor, IsRef}
 use Rattle.promises.specs.Reading.{used-home, used-alive, alive-used, words-closed, length-refs, getD-refs, getD-vars}
-use Rattle.mark.specs.Marks.{marked}
 use Rattle.mark.specs.Survivors.{Marked}
 use Rattle.mark.specs.Reached.{cell-home}
-use Rattle.evacuate.specs.Marks.{refs}
 use Rattle.evacuate.specs.Rewrite.{Remembered}
 use Rattle.evacuate.specs.Links.{Start}
 use Rattle.evacuate.specs.Table.{remembered-old, remembered-into, remembered-slots}
@@ -74,13 +73,13 @@ module _ (s : Sizes) (w : Words) (k : WholeFor s w) (space : Room (placesOf s) (
   few : (c : ℕ) → Used s w c → refCount w c ≤ 14
   few c u = omega (arith, k .placed .formed c u .head)
 
-  refs-then : (c : ℕ) → refs (w₁ .cells) c ≡ refCount w c
+  refs-then : (c : ℕ) → refsOf (w₁ .cells) c ≡ refCount w c
   refs-then c = ap (λ (h : ℕ). h / 16) (head-same s w k space r w₁ M c)
 
   field-then : (c f : ℕ) → f < 14 → fieldOf (w₁ .cells) c f ≡ fieldOf (w .cells) c f
   field-then c f l = word-same s w k space r w₁ M (16 * c + 2 + f) (λ z. omega arith)
 
-  pub points : (b f d : ℕ) → InUse (placesOf s) (w₁ .tables) b → f < refs (w₁ .cells) b → fieldOf (w₁ .cells) b f ≡ suc d → Points s w b f d
+  pub points : (b f d : ℕ) → InUse (placesOf s) (w₁ .tables) b → f < refsOf (w₁ .cells) b → fieldOf (w₁ .cells) b f ≡ suc d → Points s w b f d
   points b f d u l e =
       let v : Used s w b = use-then s w k space r w₁ M b u in
       let l′ : f < refCount w b = omega (arith, refs-then b) in
@@ -146,13 +145,13 @@ module _ (s : Sizes) (w : Words) (k : WholeFor s w) (space : Room (placesOf s) (
         into = remembered-into high L;
       }
     where
-      few′ : (c : ℕ) → InUse (placesOf s) (w₁ .tables) c → refs (w₁ .cells) c ≤ 14
+      few′ : (c : ℕ) → InUse (placesOf s) (w₁ .tables) c → refsOf (w₁ .cells) c ≤ 14
       few′ c u = omega (arith, refs-then s w k space r pos w₁ M c, few s w k space r pos w₁ M c (use-then s w k space r w₁ M c u))
 
       suc-of : {x d : ℕ} → x ≡ 1 + d → x ≡ suc d
       suc-of e = omega arith
 
-      used′ : (c f : ℕ) → InUse (placesOf s) (w₁ .tables) c → f < refs (w₁ .cells) c → fieldOf (w₁ .cells) c f ≢ 0 → InUse (placesOf s) (w₁ .tables) (fieldOf (w₁ .cells) c f - 1)
+      used′ : (c f : ℕ) → InUse (placesOf s) (w₁ .tables) c → f < refsOf (w₁ .cells) c → fieldOf (w₁ .cells) c f ≢ 0 → InUse (placesOf s) (w₁ .tables) (fieldOf (w₁ .cells) c f - 1)
       used′ c f u l ne =
           let e : fieldOf (w₁ .cells) c f ≡ suc (fieldOf (w₁ .cells) c f - 1) = omega arith in
           use-now s w k space r w₁ M (fieldOf (w₁ .cells) c f - 1) (points s w k space r pos w₁ M c f (fieldOf (w₁ .cells) c f - 1) u l e .there)

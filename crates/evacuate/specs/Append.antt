@@ -12,9 +12,8 @@ use lib.ListN.{length, getD, set, length-set}
 use lib.Seq.{getD-set-same, getD-set-other}
 use Rattle.layout.specs.declared.Places.{Places}
 use Rattle.layout.specs.Places.{ownerOf, usedOf, slotIn, slotRegionIn}
-use Rattle.layout.specs.Cells.{workOf, fieldOf}
+use Rattle.layout.specs.Cells.{workOf, fieldOf, refsOf}
 use Rattle.promises.specs.Words.{InUse}
-use Rattle.evacuate.specs.Marks.{refs}
 use Rattle.evacuate.specs.Rewrite.{Names, Field, Fields, CopySlot, Old, Wiring, Between, slots-apart, slot-less}
 use Rattle.evacuate.specs.Entries.{crossOf, newRegion, Added, added-none, added-one, added-join, added-like, slot-below, region-below, slot-above, region-above, Stays}
 
@@ -26,7 +25,7 @@ crossAt p W T x = crossOf p T (ownerOf p T (x / 256)) (getD W x 0)
 pub record Crosses (p : Places) (r : ℕ) (W T : List ℕ) (x : ℕ) : Type 0 where
   pub used : InUse p T (x / 16)
   pub field : 2 ≤ x % 16
-  pub ref : x % 16 < refs W (x / 16) + 2
+  pub ref : x % 16 < refsOf W (x / 16) + 2
   pub out : ownerOf p T (x / 256) ≢ r
   pub cross : crossAt p W T x ≢ 0
 
@@ -183,16 +182,16 @@ module _ {p : Places} {r n a b c i j : ℕ} {W T M M′ : List ℕ} (w : Wiring 
       from y s (no u) = record { cell = s .cell; among = (s .among .0, omega (arith, s .among .1)); old = s .old; field = s .field }
 
   module _ (ne : x ≢ 0) (u : InUse p T c) (own : ownerOf p T (c / 16) ≡ r) where
-    one : (y : ℕ) → Field (x - 1) (refs W (x - 1)) y → CopySlot p r (λ z. z ≡ c) W T y
+    one : (y : ℕ) → Field (x - 1) (refsOf W (x - 1)) y → CopySlot p r (λ z. z ≡ c) W T y
     one y f =
         record {
           cell = c;
           among = refl;
           old = record { used = u; owner = own; moved = λ z. ne (e ∙ z) };
-          field = subst (λ (z : ℕ). Field (z - 1) (refs W (z - 1)) y) e f;
+          field = subst (λ (z : ℕ). Field (z - 1) (refsOf W (z - 1)) y) e f;
         }
 
-    cells-apart : (y : ℕ) → CopySlot p r (Between a c) W T y → Field (x - 1) (refs W (x - 1)) y → ⊥
+    cells-apart : (y : ℕ) → CopySlot p r (Between a c) W T y → Field (x - 1) (refsOf W (x - 1)) y → ⊥
     unfolding one
     cells-apart y s f =
         let q = one y f in
@@ -200,17 +199,17 @@ module _ {p : Places} {r n a b c i j : ℕ} {W T M M′ : List ℕ} (w : Wiring 
         slots-apart w (s .cell) c y (s .among .0, omega (arith, s .among .1)) (la, lb) (s .old) (q .old) (s .field) (q .field) in
         omega (arith, s .among .1)
 
-    pub cell-appending : Appending p r n (Field (x - 1) (refs W (x - 1))) W T M′ j
+    pub cell-appending : Appending p r n (Field (x - 1) (refsOf W (x - 1))) W T M′ j
     cell-appending =
         appending-next ap′ h wider (λ y f. slot-less (λ z l. (omega arith, omega arith)) y (one y f)) cells-apart
 
-    pub cell-wired : Fields p (refs W (x - 1)) (x - 1) W
-    cell-wired = subst (λ (z : ℕ). Fields p (refs W (z - 1)) (z - 1) W) (sym e) (w .copies c (la, lb) (one′))
+    pub cell-wired : Fields p (refsOf W (x - 1)) (x - 1) W
+    cell-wired = subst (λ (z : ℕ). Fields p (refsOf W (z - 1)) (z - 1) W) (sym e) (w .copies c (la, lb) (one′))
       where
         one′ : Old p r W T c
         one′ = record { used = u; owner = own; moved = λ z. ne (e ∙ z) }
 
-    pub cell-added : {j′ : ℕ} {M″ : List ℕ} → Added n (Crossing p (Field (x - 1) (refs W (x - 1))) W T) j j′ M′ M″
+    pub cell-added : {j′ : ℕ} {M″ : List ℕ} → Added n (Crossing p (Field (x - 1) (refsOf W (x - 1))) W T) j j′ M′ M″
         → Added n (Crossing p (CopySlot p r (Between a (c + 1)) W T) W T) i j′ M M″
     cell-added k =
         added-join h k (λ y g g′ q q′. cells-apart y (q .at) (q′ .at))
@@ -219,10 +218,10 @@ module _ {p : Places} {r n a b c i j : ℕ} {W T M M′ : List ℕ} (w : Wiring 
         (lift (λ y f. slot-less (λ v l. (omega arith, omega arith)) y (one y f)) y g))
       where
         from : (y g : ℕ) (q : Crossing p (CopySlot p r (Between a (c + 1)) W T) W T y g) → Dec (q .at .cell ≡ c)
-            → Crossing p (CopySlot p r (Between a c) W T) W T y g ⊎ Crossing p (Field (x - 1) (refs W (x - 1))) W T y g
+            → Crossing p (CopySlot p r (Between a c) W T) W T y g ⊎ Crossing p (Field (x - 1) (refsOf W (x - 1))) W T y g
         from y g q (yes z) =
             inr (record {
-              at = subst (λ (v : ℕ). Field (v - 1) (refs W (v - 1)) y) (ap (λ (v : ℕ). workOf W v) z ∙ sym e) (q .at .field);
+              at = subst (λ (v : ℕ). Field (v - 1) (refsOf W (v - 1)) y) (ap (λ (v : ℕ). workOf W v) z ∙ sym e) (q .at .field);
               region = q .region;
               kept = q .kept;
             })

@@ -14,8 +14,9 @@ use Rattle.layout.specs.declared.Places.{Places}
 use Rattle.lists.specs.Products.{flat-low}
 use Rattle.layout.specs.Places.{markOf, sizesOf}
 use Rattle.layout.specs.Cells.{workOf}
+use Rattle.layout.specs.Marks.{marked}
 use Rattle.promises.specs.Whole.{objectsOf}
-use Rattle.evacuate.specs.Marks.{marked, mark?, all-clear, hits}
+use Rattle.evacuate.specs.Marks.{mark?, all-clear, hits}
 use Rattle.evacuate.specs.Taking.{regionsOf, pagesOwned, Next}
 use Rattle.evacuate.specs.Cursor.{Points, Seeking}
 use Rattle.evacuate.specs.Moves.{Movable, Step, step-off, step-on, step-points}

@@ -13,11 +13,12 @@ use Rattle.lists.specs.Counting.{sum-same}
 use Rattle.laws.specs.SameRules.{renamed}
 use Rattle.layout.specs.declared.Places.{Places}
 use Rattle.layout.specs.Places.{Room, depthAt, varAt, ownerAt, usedAt, markAt, countAt, depthOf, varOf, ownerOf, usedOf, markOf, countOf, usedIn, slotIn, slotRegionIn}
-use Rattle.layout.specs.Cells.{headOf, workOf, fieldOf}
+use Rattle.layout.specs.Cells.{headOf, workOf, fieldOf, refsOf}
+use Rattle.layout.specs.Marks.{marked}
 use Rattle.promises.specs.Words.{InUse}
 use Rattle.promises.specs.Whole.{objectsOn, objectsOf, RememberWhole}
 use Rattle.pages.specs.Pages.{Partly}
-use Rattle.evacuate.specs.Marks.{refs, marked, mark?, sameThen}
+use Rattle.evacuate.specs.Marks.{mark?, sameThen}
 use Rattle.evacuate.specs.Taking.{regionsOf, endOf, Regular, room-same}
 use Rattle.evacuate.specs.Passing.{Ready, moves-ready, moves-tables}
 use Rattle.evacuate.specs.Copying.{Plan, Copy, copy-marks}
@@ -49,8 +50,8 @@ pub record Evacuated (p : Places) (r t : ℕ) (W T M W′ T′ M′ : List ℕ) 
   -- their words: references go by the map, all else is as it was, word 1 is zero
   pub head : (c : ℕ) → Lives p r T c → headOf W′ (cellAfter p r T W′ c) ≡ headOf W c
   pub work : (c : ℕ) → Lives p r T c → workOf W′ (cellAfter p r T W′ c) ≡ 0
-  pub slots : (c f : ℕ) → Lives p r T c → f < refs W c → fieldOf W′ (cellAfter p r T W′ c) f ≡ renamed (cellAfter p r T W′) (fieldOf W c f)
-  pub rest : (c f : ℕ) → Lives p r T c → refs W c ≤ f → f < 14 → fieldOf W′ (cellAfter p r T W′ c) f ≡ fieldOf W c f
+  pub slots : (c f : ℕ) → Lives p r T c → f < refsOf W c → fieldOf W′ (cellAfter p r T W′ c) f ≡ renamed (cellAfter p r T W′) (fieldOf W c f)
+  pub rest : (c f : ℕ) → Lives p r T c → refsOf W c ≤ f → f < 14 → fieldOf W′ (cellAfter p r T W′ c) f ≡ fieldOf W c f
   pub vars : (i : ℕ) → i < p .threads * p .variables → varOf p T′ i ≡ renamed (cellAfter p r T W′) (varOf p T i)
   -- pages and counts; r has none, and no mark is set
   pub regular : Regular p T′
@@ -219,7 +220,7 @@ module _ {p : Places} {r n m l t : ℕ} {gs : ℕ → ℕ} {W T M W′ T′ M′
       go (no ne) = ref-other (b .start) a₀ a₁ (f .forwards) y (suc y) (omega arith) (v .used) ne ∙ omega (arith, cell-out y ne)
 
   -- the references of a cell that lives on lead to cells that do
-  slot-lives : (c g : ℕ) → Lives p r T c → g < refs W c → fieldOf W c g ≢ 0 → Lives p r T (fieldOf W c g - 1)
+  slot-lives : (c g : ℕ) → Lives p r T c → g < refsOf W c → fieldOf W c g ≢ 0 → Lives p r T (fieldOf W c g - 1)
   slot-lives c g v lg ne =
       record {
         used = b .start .slots-used c g (v .used) lg ne;
@@ -234,10 +235,10 @@ module _ {p : Places} {r n m l t : ℕ} {gs : ℕ → ℕ} {W T M W′ T′ M′
       go own (no z) = b .start .held c g (fieldOf W c g - 1) (v .used) z lg e own
 
   -- a slot of a cell of another region
-  out-slot : (c g : ℕ) → Lives p r T c → ownerOf p T (c / 16) ≢ r → g < refs W c → fieldOf W′ c g ≡ moveRef p r (f .cells) (f .tables) (fieldOf W c g)
+  out-slot : (c g : ℕ) → Lives p r T c → ownerOf p T (c / 16) ≢ r → g < refsOf W c → fieldOf W′ c g ≡ moveRef p r (f .cells) (f .tables) (fieldOf W c g)
   out-slot c g v ne lg = go (ℕ-discrete (fieldOf W c g) 0) (ℕ-discrete (ownerOf p T ((fieldOf W c g - 1) / 16)) r)
     where
-      few : refs W c ≤ 14
+      few : refsOf W c ≤ 14
       few = b .start .refs-few c (v .used)
 
       x : ℕ
@@ -251,7 +252,7 @@ module _ {p : Places} {r n m l t : ℕ} {gs : ℕ → ℕ} {W T M W′ T′ M′
           record {
             used = subst (λ (y : ℕ). InUse p T y) (sym at) (v .used);
             field = omega (arith, few);
-            ref = omega (arith, few, ap (λ (y : ℕ). refs W y) at);
+            ref = omega (arith, few, ap (λ (y : ℕ). refsOf W y) at);
           }
 
       was : fieldOf (f .cells) c g ≡ fieldOf W c g
@@ -275,13 +276,13 @@ module _ {p : Places} {r n m l t : ℕ} {gs : ℕ → ℕ} {W T M W′ T′ M′
           ∙ ap (λ (y : ℕ). moveRef p r (f .cells) (f .tables) y) was
 
   -- a word of such a cell that is no slot
-  out-rest : (c g : ℕ) → Lives p r T c → refs W c ≤ g → g < 14 → fieldOf W′ c g ≡ fieldOf W c g
+  out-rest : (c g : ℕ) → Lives p r T c → refsOf W c ≤ g → g < 14 → fieldOf W′ c g ≡ fieldOf W c g
   out-rest c g v ge lg =
       f .rewritten .same (16 * c + 2 + g)
       (⊎-elim
       (λ q.
       let i = b .listed .slots (q .entry) (q .low) in
-      omega (arith, i .ref, q .slot, ap (λ (y : ℕ). refs W y) (let e : slotIn M (q .entry) / 16 ≡ c = omega (arith, q .slot) in e)))
+      omega (arith, i .ref, q .slot, ap (λ (y : ℕ). refsOf W y) (let e : slotIn M (q .entry) / 16 ≡ c = omega (arith, q .slot) in e)))
       (no-copy (b .start) a₀ a₁ (f .forwards) (f .rewritten) (b .listed) (16 * c + 2 + g)
       (subst (λ (y : ℕ). InUse p T y) (let e : c ≡ (16 * c + 2 + g) / 16 = omega arith in e) (v .used))))
       ∙ ap (λ (y : ℕ). getD (f .cells) y 0) (let e : 16 * c + 2 + g ≡ 16 * c + (2 + g) = omega arith in e)

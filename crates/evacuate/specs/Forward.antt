@@ -10,8 +10,9 @@ use lib.ListN.{length, getD}
 use Rattle.layout.specs.declared.Places.{Places}
 use Rattle.layout.specs.Places.{ownerOf}
 use Rattle.layout.specs.Cells.{workOf}
+use Rattle.layout.specs.Marks.{marked}
 use Rattle.promises.specs.Words.{InUse}
-use Rattle.evacuate.specs.Marks.{marked, mark?}
+use Rattle.evacuate.specs.Marks.{mark?}
 use Rattle.evacuate.specs.Taking.{endOf}
 use Rattle.evacuate.specs.Moves.{Step, step-size, step-rest, step-off, step-on}
 use Rattle.evacuate.specs.Moves.{step-new, step-in-use, step-home, step-keeps, step-owner, step-only, step-link, step-words}

@@ -12,9 +12,10 @@ use lib.ListN.{length, getD, set, length-set}
 use lib.Seq.{getD-set-same, getD-set-other}
 use Rattle.layout.specs.declared.Places.{Places}
 use Rattle.layout.specs.Places.{ownerOf}
-use Rattle.layout.specs.Cells.{workOf, fieldOf}
+use Rattle.layout.specs.Cells.{workOf, fieldOf, refsOf}
+use Rattle.layout.specs.Marks.{marked}
 use Rattle.promises.specs.Words.{InUse}
-use Rattle.evacuate.specs.Marks.{refs, marked, mark?}
+use Rattle.evacuate.specs.Marks.{mark?}
 use Rattle.evacuate.specs.Passing.{Ready}
 use Rattle.evacuate.specs.Forward.{Moved, Copying, Forwards, forward}
 use Rattle.evacuate.specs.Rewrite.{Names, moveRef, move-null, move-in, move-out, Rewritten, refs-same, Old, Wiring, Between}
@@ -23,14 +24,14 @@ use Rattle.evacuate.specs.Update.{Copies}
 
 -- whole tables in which r's survivors are marked; S holds of the slots outside r that point into r
 pub record Start (p : Places) (r : ℕ) (S : ℕ → Type 0) (W T : List ℕ) : Type 0 where
-  pub refs-few : (c : ℕ) → InUse p T c → refs W c ≤ 14
-  pub slots-used : (c f : ℕ) → InUse p T c → f < refs W c → fieldOf W c f ≢ 0 → InUse p T (fieldOf W c f - 1)
+  pub refs-few : (c : ℕ) → InUse p T c → refsOf W c ≤ 14
+  pub slots-used : (c f : ℕ) → InUse p T c → f < refsOf W c → fieldOf W c f ≢ 0 → InUse p T (fieldOf W c f - 1)
   pub survivors : (c : ℕ) → c / 16 < p .pages → marked p T c ≡ 1 → ownerOf p T (c / 16) ≡ r
   pub targets : (c : ℕ) → c / 16 < p .pages → marked p T c ≡ 1 → workOf W c ≢ r
   pub idle : (c : ℕ) → InUse p T c → marked p T c ≡ 0 → workOf W c ≡ 0
-  pub closed : (b f d : ℕ) → b / 16 < p .pages → marked p T b ≡ 1 → f < refs W b → fieldOf W b f ≡ 1 + d → ownerOf p T (d / 16) ≡ r → marked p T d ≡ 1
-  pub held : (b f d : ℕ) → InUse p T b → ownerOf p T (b / 16) ≢ r → f < refs W b → fieldOf W b f ≡ 1 + d → ownerOf p T (d / 16) ≡ r → marked p T d ≡ 1
-  pub slots : (b f d : ℕ) → InUse p T b → ownerOf p T (b / 16) ≢ r → f < refs W b → fieldOf W b f ≡ 1 + d → ownerOf p T (d / 16) ≡ r → S (16 * b + 2 + f)
+  pub closed : (b f d : ℕ) → b / 16 < p .pages → marked p T b ≡ 1 → f < refsOf W b → fieldOf W b f ≡ 1 + d → ownerOf p T (d / 16) ≡ r → marked p T d ≡ 1
+  pub held : (b f d : ℕ) → InUse p T b → ownerOf p T (b / 16) ≢ r → f < refsOf W b → fieldOf W b f ≡ 1 + d → ownerOf p T (d / 16) ≡ r → marked p T d ≡ 1
+  pub slots : (b f d : ℕ) → InUse p T b → ownerOf p T (b / 16) ≢ r → f < refsOf W b → fieldOf W b f ≡ 1 + d → ownerOf p T (d / 16) ≡ r → S (16 * b + 2 + f)
   pub old : (x : ℕ) → S x → InUse p T (x / 16)
   pub into : (b f : ℕ) → f < 14 → S (16 * b + 2 + f) → (fieldOf W b f ≢ 0) × (ownerOf p T ((fieldOf W b f - 1) / 16) ≡ r)
 
@@ -61,7 +62,7 @@ module _ {p : Places} {r : ℕ} {S : ℕ → Type 0} {W₀ T₀ W T : List ℕ} 
       }
 
   -- the words of the copy
-  pub copy-refs : (c : ℕ) → c / 16 < p .pages → marked p T₀ c ≡ 1 → refs W (forward W c) ≡ refs W₀ c
+  pub copy-refs : (c : ℕ) → c / 16 < p .pages → marked p T₀ c ≡ 1 → refsOf W (forward W c) ≡ refsOf W₀ c
   copy-refs c l on =
       let e : 16 * forward W c ≡ 16 * forward W c + 0 = omega arith in
       let e′ : 16 * c + 0 ≡ 16 * c = omega arith in
@@ -84,7 +85,7 @@ module _ {p : Places} {r : ℕ} {S : ℕ → Type 0} {W₀ T₀ W T : List ℕ} 
         copies = λ c q u.
             let v = old-survivor c u in
             let l = v .0 .page in
-            let few : refs W₀ c ≤ 14 = s .refs-few c (v .0) in
+            let few : refsOf W₀ c ≤ 14 = s .refs-few c (v .0) in
             let e = copy-refs c l (v .1) in
             record {
               pages = a .regular .room .few;
@@ -92,7 +93,7 @@ module _ {p : Places} {r : ℕ} {S : ℕ → Type 0} {W₀ T₀ W T : List ℕ} 
               page = F .moved c l (v .1) .used .page;
               few = omega (arith, e);
               names = λ f lf.
-                  let lf′ : f < refs W₀ c = omega (arith, e) in
+                  let lf′ : f < refsOf W₀ c = omega (arith, e) in
                   subst (λ (x : ℕ). Names p x) (sym (copy-slot c f l (v .1) (omega arith))) (λ ne. s .slots-used c f (v .0) lf′ ne .page);
             };
         once = λ b c q q′ u v e.
@@ -136,9 +137,9 @@ module _ {p : Places} {r : ℕ} {S : ℕ → Type 0} {W₀ T₀ W T : List ℕ} 
 
   module _ {W′ : List ℕ} (R : Rewritten p r (λ x. S x ⊎ Copies p r W T x) T W W′) where
     -- a slot of a copy
-    pub copy-after : (c f : ℕ) → c / 16 < p .pages → marked p T₀ c ≡ 1 → f < refs W₀ c → fieldOf W′ (forward W c) f ≡ moveRef p r W T (fieldOf W₀ c f)
+    pub copy-after : (c f : ℕ) → c / 16 < p .pages → marked p T₀ c ≡ 1 → f < refsOf W₀ c → fieldOf W′ (forward W c) f ≡ moveRef p r W T (fieldOf W₀ c f)
     copy-after c f l on lf =
-        let few : refs W₀ c ≤ 14 = s .refs-few c (a₀ .used c l on) in
+        let few : refsOf W₀ c ≤ 14 = s .refs-few c (a₀ .used c l on) in
         R .moved (16 * forward W c + 2 + f)
         (inr (record {
           cell = c;
@@ -149,7 +150,7 @@ module _ {p : Places} {r : ℕ} {S : ℕ → Type 0} {W₀ T₀ W T : List ℕ} 
         ∙ ap (λ (x : ℕ). moveRef p r W T x) (copy-slot c f l on (omega arith))
 
     -- a number of a copy, and the words past its fields
-    pub copy-number : (c f : ℕ) → c / 16 < p .pages → marked p T₀ c ≡ 1 → refs W₀ c ≤ f → f < 14 → fieldOf W′ (forward W c) f ≡ fieldOf W₀ c f
+    pub copy-number : (c f : ℕ) → c / 16 < p .pages → marked p T₀ c ≡ 1 → refsOf W₀ c ≤ f → f < 14 → fieldOf W′ (forward W c) f ≡ fieldOf W₀ c f
     copy-number c f l on ge lf =
         let d : ℕ = forward W c in
         R .same (16 * d + 2 + f)
@@ -158,22 +159,22 @@ module _ {p : Places} {r : ℕ} {S : ℕ → Type 0} {W₀ T₀ W T : List ℕ} 
         (λ q.
         let b : ℕ = q .cell in
         let v = old-survivor b (q .old) in
-        let few : refs W₀ b ≤ 14 = s .refs-few b (v .0) in
-        let e : refs W (workOf W b - 1) ≡ refs W₀ b = copy-refs b (v .0 .page) (v .1) in
-        let lb : q .field .field < refs W (workOf W b - 1) = q .field .low in
+        let few : refsOf W₀ b ≤ 14 = s .refs-few b (v .0) in
+        let e : refsOf W (workOf W b - 1) ≡ refsOf W₀ b = copy-refs b (v .0 .page) (v .1) in
+        let lb : q .field .field < refsOf W (workOf W b - 1) = q .field .low in
         let same : workOf W b - 1 ≡ d = omega (arith, q .field .at) in
-        omega (arith, q .field .at, ap (λ (x : ℕ). refs W x) same, copy-refs c l on)))
+        omega (arith, q .field .at, ap (λ (x : ℕ). refsOf W x) same, copy-refs c l on)))
         ∙ copy-slot c f l on lf
 
-    pub copy-head : (c : ℕ) → c / 16 < p .pages → marked p T₀ c ≡ 1 → refs W′ (forward W c) ≡ refs W₀ c
+    pub copy-head : (c : ℕ) → c / 16 < p .pages → marked p T₀ c ≡ 1 → refsOf W′ (forward W c) ≡ refsOf W₀ c
     copy-head c l on = refs-same R (forward W c) ∙ copy-refs c l on
 
     -- every slot of a cell in use outside r is null or names a cell in use outside r
-    slot-moves : (y f : ℕ) → InUse p T₀ y → ownerOf p T₀ (y / 16) ≢ r → f < refs W₀ y
+    slot-moves : (y f : ℕ) → InUse p T₀ y → ownerOf p T₀ (y / 16) ≢ r → f < refsOf W₀ y
         → (fieldOf W′ y f ≡ 0) ⊎ ((b : ℕ) × (fieldOf W′ y f ≡ 1 + b) × InUse p T b × (ownerOf p T (b / 16) ≢ r))
     slot-moves y f u n lf = go (ℕ-discrete (fieldOf W₀ y f) 0) (ℕ-discrete (ownerOf p T₀ ((fieldOf W₀ y f - 1) / 16)) r)
       where
-        few : refs W₀ y ≤ 14
+        few : refsOf W₀ y ≤ 14
         few = s .refs-few y u
 
         before : fieldOf W y f ≡ fieldOf W₀ y f
@@ -186,8 +187,8 @@ module _ {p : Places} {r : ℕ} {S : ℕ → Type 0} {W₀ T₀ W T : List ℕ} 
         no-copy q =
             let b : ℕ = q .cell in
             let v = old-survivor b (q .old) in
-            let fb : refs W₀ b ≤ 14 = s .refs-few b (v .0) in
-            let e : refs W (workOf W b - 1) ≡ refs W₀ b = copy-refs b (v .0 .page) (v .1) in
+            let fb : refsOf W₀ b ≤ 14 = s .refs-few b (v .0) in
+            let e : refsOf W (workOf W b - 1) ≡ refsOf W₀ b = copy-refs b (v .0 .page) (v .1) in
             let same : y ≡ workOf W b - 1 = omega (arith, q .field .low, q .field .at, few) in
             F .moved b (v .0 .page) (v .1) .new (subst (λ (x : ℕ). InUse p T₀ x) same u)
 
@@ -220,11 +221,11 @@ module _ {p : Places} {r : ℕ} {S : ℕ → Type 0} {W₀ T₀ W T : List ℕ} 
             inr (t, stays (λ q. out (s .into y f lf′ q .1)) ∙ e, F .copying .keeps t ub, λ z. out (sym (F .copying .owner t ub) ∙ z))
 
     -- and so of every cell in use outside r: those that were, and the copies
-    pub slots-out : (y f : ℕ) → InUse p T y → ownerOf p T (y / 16) ≢ r → f < refs W′ y
+    pub slots-out : (y f : ℕ) → InUse p T y → ownerOf p T (y / 16) ≢ r → f < refsOf W′ y
         → (fieldOf W′ y f ≡ 0) ⊎ ((b : ℕ) × (fieldOf W′ y f ≡ 1 + b) × InUse p T b × (ownerOf p T (b / 16) ≢ r))
     slots-out y f u n lf = ⊎-elim was new (F .only y u)
       where
-        same-head : InUse p T₀ y → refs W′ y ≡ refs W₀ y
+        same-head : InUse p T₀ y → refsOf W′ y ≡ refsOf W₀ y
         same-head v =
             let e : 16 * y ≡ 16 * y + 0 = omega arith in
             refs-same R y
@@ -241,8 +242,8 @@ module _ {p : Places} {r : ℕ} {S : ℕ → Type 0} {W₀ T₀ W T : List ℕ} 
             uc : InUse p T₀ (q .0)
             uc = a₀ .used (q .0) (q .1) (q .2)
 
-            lc : f < refs W₀ (q .0)
-            lc = omega (arith, copy-head (q .0) (q .1) (q .2), ap (λ (x : ℕ). refs W′ x) (q .3))
+            lc : f < refsOf W₀ (q .0)
+            lc = omega (arith, copy-head (q .0) (q .1) (q .2), ap (λ (x : ℕ). refsOf W′ x) (q .3))
 
             value : fieldOf W′ y f ≡ moveRef p r W T (fieldOf W₀ (q .0) f)
             value = ap (λ (x : ℕ). fieldOf W′ x f) (sym (q .3)) ∙ copy-after (q .0) f (q .1) (q .2) lc
@@ -262,16 +263,16 @@ module _ {p : Places} {r : ℕ} {S : ℕ → Type 0} {W₀ T₀ W T : List ℕ} 
         let v = old-survivor c (q .old) in
         let l = v .0 .page in
         let m = F .moved c l (v .1) in
-        let few : refs W₀ c ≤ 14 = s .refs-few c (v .0) in
-        let e : refs W (workOf W c - 1) ≡ refs W₀ c = copy-refs c l (v .1) in
-        let lf : q .field .field < refs W (workOf W c - 1) = q .field .low in
+        let few : refsOf W₀ c ≤ 14 = s .refs-few c (v .0) in
+        let e : refsOf W (workOf W c - 1) ≡ refsOf W₀ c = copy-refs c l (v .1) in
+        let lf : q .field .field < refsOf W (workOf W c - 1) = q .field .low in
         let at : x ≡ 16 * (workOf W c - 1) + 2 + q .field .field = q .field .at in
         let d : x / 16 ≡ forward W c = omega arith in
         let d′ : x / 256 ≡ forward W c / 16 = omega arith in
         record {
           used = subst (λ (y : ℕ). InUse p T y) (sym d) (m .used);
           field = omega arith;
-          ref = omega (arith, ap (λ (y : ℕ). refs W′ y) d, refs-same R (forward W c));
+          ref = omega (arith, ap (λ (y : ℕ). refsOf W′ y) d, refs-same R (forward W c));
           out = λ z. new-home c l (v .1) (ap (λ (y : ℕ). ownerOf p T y) (sym d′) ∙ z);
           cross = ne;
         }

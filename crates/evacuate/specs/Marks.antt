@@ -13,7 +13,8 @@ use Rattle.lists.specs.Bits.{bitAt, bit-lt, no-bits, none-high}
 use Rattle.lists.specs.Counting.{sum}
 use Rattle.layout.specs.declared.Places.{Places}
 use Rattle.layout.specs.Places.{markAt, markOf}
-use Rattle.layout.specs.Cells.{headOf, workOf}
+use Rattle.layout.specs.Cells.{workOf}
+use Rattle.layout.specs.Marks.{marked}
 
 -- ---- x where a and b are the same, else 0
 
@@ -26,20 +27,11 @@ then-yes a b x e = ap (λ (t : Bool). cond t x 0) (eq-eqb a b e)
 pub then-no : (a b x : ℕ) → a ≢ b → sameThen a b x ≡ 0
 then-no a b x ne = ap (λ (t : Bool). cond t x 0) (ne-eqb a b ne)
 
--- ---- the reference fields of a cell
-
-abbrev pub refs : List ℕ → ℕ → ℕ
-refs W c = headOf W c / 16
-
 -- ---- marks
 
 -- where the mark word of cell c's page stands
 abbrev pub marksAt : Places → ℕ → ℕ
 marksAt p c = markAt p (c / 16)
-
--- the cell's bit there
-abbrev pub marked : Places → List ℕ → ℕ → ℕ
-marked p T c = bitAt (markOf p T (c / 16)) (c % 16)
 
 -- a cell is marked or not
 pub mark? : (p : Places) (T : List ℕ) (c : ℕ) → (marked p T c ≡ 0) ⊎ (marked p T c ≡ 1)

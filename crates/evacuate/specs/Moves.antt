@@ -13,10 +13,11 @@ use Rattle.rules.specs.Graph.{pagesOf}
 use Rattle.layout.specs.declared.Places.{Places}
 use Rattle.layout.specs.Places.{Room, ownerAt, usedAt, markAt, countAt, ownerOf, usedOf, markOf, countOf}
 use Rattle.layout.specs.Cells.{workOf}
+use Rattle.layout.specs.Marks.{marked}
 use Rattle.promises.specs.Words.{InUse}
 use Rattle.promises.specs.Whole.{objectsOn, objectsOf}
 use Rattle.pages.specs.Pages.{Partly}
-use Rattle.evacuate.specs.Marks.{marksAt, marked, sameThen, then-yes, then-no}
+use Rattle.evacuate.specs.Marks.{marksAt, sameThen, then-yes, then-no}
 use Rattle.evacuate.specs.Cursor.{Points, took-points, points-same}
 use Rattle.evacuate.specs.Taking.{regionsOf, endOf, ownedOn, pagesOwned, Next, Took, Regular}
 use Rattle.evacuate.specs.Taking.{took-length, took-other, took-marks, took-regular, took-objects, took-objects-other, took-pages, took-new, took-in-use, took-home, took-keeps, took-only}

@@ -14,9 +14,10 @@ use Rattle.rules.specs.Graph.{pagesOf}
 use Rattle.layout.specs.declared.Places.{Places}
 use Rattle.layout.specs.Places.{Room, markOf}
 use Rattle.layout.specs.Cells.{workOf}
+use Rattle.layout.specs.Marks.{marked}
 use Rattle.promises.specs.Words.{InUse}
 use Rattle.promises.specs.Whole.{objectsOf}
-use Rattle.evacuate.specs.Marks.{marksAt, marked, mark?, all-clear, hit, hit-yes, hit-no, hit-same, hits}
+use Rattle.evacuate.specs.Marks.{marksAt, mark?, all-clear, hit, hit-yes, hit-no, hit-same, hits}
 use Rattle.evacuate.specs.Taking.{regionsOf, pagesOwned, Usable, Next, Regular, usable}
 use Rattle.evacuate.specs.Cursor.{Points}
 use Rattle.evacuate.specs.Moves.{Movable, Step, step-regular, step-size, step-objects, step-objects-other, step-pages, step-off, step-on, step-small}

@@ -8,12 +8,11 @@ use native.Mathlib.Omega.{arith}
 use lib.ListN.{length, getD}
 use Rattle.layout.specs.declared.Places.{Places}
 use Rattle.layout.specs.Places.{ownerOf, usedIn, slotIn, slotRegionIn}
-use Rattle.layout.specs.Cells.{fieldOf}
+use Rattle.layout.specs.Cells.{fieldOf, refsOf}
 use Rattle.promises.specs.Words.{InUse}
 use Rattle.promises.specs.Crossing.{crossTo, other, regionOf}
 use Rattle.promises.specs.Slots.{Slot, region-of, slot-low, slot-cross, cross-slot}
 use Rattle.promises.specs.Whole.{EntryWhole, EntriesWhole, RememberWhole}
-use Rattle.evacuate.specs.Marks.{refs}
 use Rattle.evacuate.specs.Taking.{regionsOf}
 use Rattle.evacuate.specs.Passing.{Ready}
 use Rattle.evacuate.specs.Rewrite.{slot-now, slot-then}
@@ -41,7 +40,7 @@ module _ {p : Places} {r m l t : ℕ} {gs : ℕ → ℕ} {W T M W′ T′ M′ :
   a₁ = ready-after b f real low thread
 
   -- a slot of a cell outside r is one after the release, and crosses where it did
-  module _ (x : ℕ) (u : InUse p (f .tables) (x / 16)) (out : ownerOf p (f .tables) (x / 16 / 16) ≢ r) (two : 2 ≤ x % 16) (few : x % 16 < refs W′ (x / 16) + 2) where
+  module _ (x : ℕ) (u : InUse p (f .tables) (x / 16)) (out : ownerOf p (f .tables) (x / 16 / 16) ≢ r) (two : 2 ≤ x % 16) (few : x % 16 < refsOf W′ (x / 16) + 2) where
     slot-after : Slot p W′ T′ x
     slot-after = record { used = to-end b f real low thread (x / 16) u out .0; field = two; count = few }
 

@@ -12,9 +12,8 @@ use lib.ListN.{length, getD, set, length-set}
 use lib.Seq.{getD-set-same, getD-set-other}
 use Rattle.layout.specs.declared.Places.{Places}
 use Rattle.layout.specs.Places.{Room, varAt, ownerAt, varOf, ownerOf, usedOf, slotIn, slotRegionIn}
-use Rattle.layout.specs.Cells.{workOf, fieldOf}
+use Rattle.layout.specs.Cells.{workOf, fieldOf, refsOf}
 use Rattle.promises.specs.Words.{InUse}
-use Rattle.evacuate.specs.Marks.{refs}
 
 -- the reference x, by way of word 1 where it names a cell of r
 unfoldable pub moveRef : (p : Places) (r : ℕ) (W T : List ℕ) → ℕ → ℕ
@@ -57,7 +56,7 @@ module _ {p : Places} {r : ℕ} {P : ℕ → Type 0} {T W W′ : List ℕ} (h : 
   pub link-same : (c : ℕ) → workOf W′ c ≡ workOf W c
   link-same c = head-same (16 * c + 1) (omega arith)
 
-  pub refs-same : (c : ℕ) → refs W′ c ≡ refs W c
+  pub refs-same : (c : ℕ) → refsOf W′ c ≡ refsOf W c
   refs-same c = ap (λ (x : ℕ). x / 16) (head-same (16 * c) (omega arith))
 
   pub ref-same : (x : ℕ) → moveRef p r W′ T x ≡ moveRef p r W T x
@@ -194,14 +193,14 @@ pub record CopySlot (p : Places) (r : ℕ) (Q : ℕ → Type 0) (W T : List ℕ)
   pub cell : ℕ
   pub among : Q cell
   pub old : Old p r W T cell
-  pub field : Field (workOf W cell - 1) (refs W (workOf W cell - 1)) x
+  pub field : Field (workOf W cell - 1) (refsOf W (workOf W cell - 1)) x
 
 pub record Wiring (p : Places) (r : ℕ) (Q : ℕ → Type 0) (W T : List ℕ) : Type 0 where
   pub few : p .pages ≤ 1024
   pub cells-long : 256 * p .pages ≤ length W
   pub tables-long : Room p (length T)
   pub full : (q : ℕ) → q < p .pages → usedOf p T q ≤ 16
-  pub copies : (c : ℕ) → Q c → Old p r W T c → Fields p (refs W (workOf W c - 1)) (workOf W c - 1) W
+  pub copies : (c : ℕ) → Q c → Old p r W T c → Fields p (refsOf W (workOf W c - 1)) (workOf W c - 1) W
   pub once : (b c : ℕ) → Q b → Q c → Old p r W T b → Old p r W T c → workOf W b ≡ workOf W c → b ≡ c
 
 module _ {p : Places} {r : ℕ} {P : ℕ → Type 0} {W T W′ : List ℕ} (h : Rewritten p r P T W W′) where
@@ -211,14 +210,14 @@ module _ {p : Places} {r : ℕ} {P : ℕ → Type 0} {W T W′ : List ℕ} (h : 
   old-then : {p : Places} (c : ℕ) → Old p r W′ T c → Old p r W T c
   old-then c u = record { used = u .used; owner = u .owner; moved = λ z. u .moved (link-same h c ∙ z) }
 
-  cell-fields : (c x : ℕ) → Field (workOf W c - 1) (refs W (workOf W c - 1)) x → Field (workOf W′ c - 1) (refs W′ (workOf W′ c - 1)) x
+  cell-fields : (c x : ℕ) → Field (workOf W c - 1) (refsOf W (workOf W c - 1)) x → Field (workOf W′ c - 1) (refsOf W′ (workOf W′ c - 1)) x
   cell-fields c x q =
-      subst (λ (y : ℕ). Field (y - 1) (refs W′ (y - 1)) x) (sym (link-same h c))
+      subst (λ (y : ℕ). Field (y - 1) (refsOf W′ (y - 1)) x) (sym (link-same h c))
       (record { field = q .field; low = omega (arith, q .low, refs-same h (workOf W c - 1)); at = q .at })
 
-  fields-cell : (c x : ℕ) → Field (workOf W′ c - 1) (refs W′ (workOf W′ c - 1)) x → Field (workOf W c - 1) (refs W (workOf W c - 1)) x
+  fields-cell : (c x : ℕ) → Field (workOf W′ c - 1) (refsOf W′ (workOf W′ c - 1)) x → Field (workOf W c - 1) (refsOf W (workOf W c - 1)) x
   fields-cell c x q =
-      let q′ : Field (workOf W c - 1) (refs W′ (workOf W c - 1)) x = subst (λ (y : ℕ). Field (y - 1) (refs W′ (y - 1)) x) (link-same h c) q in
+      let q′ : Field (workOf W c - 1) (refsOf W′ (workOf W c - 1)) x = subst (λ (y : ℕ). Field (y - 1) (refsOf W′ (y - 1)) x) (link-same h c) q in
       record { field = q′ .field; low = omega (arith, q′ .low, refs-same h (workOf W c - 1)); at = q′ .at }
 
   pub slot-now : {p : Places} {Q : ℕ → Type 0} (x : ℕ) → CopySlot p r Q W T x → CopySlot p r Q W′ T x
@@ -235,22 +234,22 @@ module _ {p : Places} {r : ℕ} {P : ℕ → Type 0} {W T W′ : List ℕ} (h : 
         cells-long = omega (arith, a .cells-long, h .size);
         tables-long = a .tables-long;
         full = a .full;
-        copies = λ c q u. subst (λ (y : ℕ). Fields p (refs W′ (y - 1)) (y - 1) W′) (sym (link-same h c)) (copies′ c q (old-then c u));
+        copies = λ c q u. subst (λ (y : ℕ). Fields p (refsOf W′ (y - 1)) (y - 1) W′) (sym (link-same h c)) (copies′ c q (old-then c u));
         once = λ b c q q′ u v e. a .once b c q q′ (old-then b u) (old-then c v) (sym (link-same h b) ∙ e ∙ link-same h c);
       }
     where
-      copies′ : (c : ℕ) → Q c → Old p r W T c → Fields p (refs W′ (workOf W c - 1)) (workOf W c - 1) W′
+      copies′ : (c : ℕ) → Q c → Old p r W T c → Fields p (refsOf W′ (workOf W c - 1)) (workOf W c - 1) W′
       copies′ c q u =
           let w = a .copies c q u in
           let d : ℕ = workOf W c - 1 in
-          let e : refs W′ d ≡ refs W d = refs-same h d in
+          let e : refsOf W′ d ≡ refsOf W d = refs-same h d in
           record {
             pages = w .pages;
             cells-long = omega (arith, w .cells-long, h .size);
             page = w .page;
             few = omega (arith, w .few);
             names = λ f l.
-                let l′ : f < refs W d = omega arith in
+                let l′ : f < refsOf W d = omega arith in
                 subst (λ (x : ℕ). Names p x)
                 (sym (h .same (16 * d + 2 + f)
                 (apart (16 * d + 2 + f) (record { cell = c; among = q; old = u; field = record { field = f; low = l′; at = refl } }))))
@@ -259,7 +258,7 @@ module _ {p : Places} {r : ℕ} {P : ℕ → Type 0} {W T W′ : List ℕ} (h : 
 
 -- slots of copies of different cells are different
 pub slots-apart : {p : Places} {r : ℕ} {Q : ℕ → Type 0} {W T : List ℕ} → Wiring p r Q W T → (b c x : ℕ) → Q b → Q c → Old p r W T b → Old p r W T c
-    → Field (workOf W b - 1) (refs W (workOf W b - 1)) x → Field (workOf W c - 1) (refs W (workOf W c - 1)) x → b ≡ c
+    → Field (workOf W b - 1) (refsOf W (workOf W b - 1)) x → Field (workOf W c - 1) (refsOf W (workOf W c - 1)) x → b ≡ c
 slots-apart {p} {r} {Q} {W} {T} a b c x qb qc ub uc fb fc =
     a .once b c qb qc ub uc
     (let nb : workOf W b ≢ 0 = ub .moved in
@@ -307,9 +306,9 @@ module _ {p : Places} {r a b c : ℕ} {T W W′ : List ℕ} (w : Wiring p r (Bet
   here-wired : Wiring p r (λ y. y ≡ c) W′ T
   here-wired = wiring-now h (wiring-less (λ y e. (omega arith, omega arith)) w) earlier-apart
 
-  pub copy-fields : (x : ℕ) → x ≡ workOf W′ c → x ≢ 0 → InUse p T c → ownerOf p T (c / 16) ≡ r → Fields p (refs W′ (x - 1)) (x - 1) W′
+  pub copy-fields : (x : ℕ) → x ≡ workOf W′ c → x ≢ 0 → InUse p T c → ownerOf p T (c / 16) ≡ r → Fields p (refsOf W′ (x - 1)) (x - 1) W′
   copy-fields x e ne u own =
-      subst (λ (y : ℕ). Fields p (refs W′ (y - 1)) (y - 1) W′) (sym e)
+      subst (λ (y : ℕ). Fields p (refsOf W′ (y - 1)) (y - 1) W′) (sym e)
       (here-wired .copies c refl (record { used = u; owner = own; moved = λ z. ne (e ∙ z) }))
 
   pub copy-left : (Old p r W T c → ⊥) → Rewritten p r (CopySlot p r (Between a (c + 1)) W T) T W W′
@@ -325,7 +324,7 @@ module _ {p : Places} {r a b c : ℕ} {T W W′ : List ℕ} (w : Wiring p r (Bet
   copy-null x e z = copy-left (λ u. u .moved (sym (link-same h c) ∙ sym e ∙ z))
 
   pub copy-moved : {W″ : List ℕ} (x : ℕ) → x ≡ workOf W′ c → x ≢ 0 → InUse p T c → ownerOf p T (c / 16) ≡ r
-      → Rewritten p r (Field (x - 1) (refs W′ (x - 1))) T W′ W″ → Rewritten p r (CopySlot p r (Between a (c + 1)) W T) T W W″
+      → Rewritten p r (Field (x - 1) (refsOf W′ (x - 1))) T W′ W″ → Rewritten p r (CopySlot p r (Between a (c + 1)) W T) T W W″
   copy-moved {W″} x e ne u own k =
       rewritten-join h k (λ y q f. earlier-apart y (one y f) q) (λ y q. from y q (ℕ-discrete (q .cell) c))
       (λ y. ⊎-elim (λ q. slot-less (λ z l. (l .0, omega (arith, l .1))) y q)
@@ -335,9 +334,9 @@ module _ {p : Places} {r a b c : ℕ} {T W W′ : List ℕ} (w : Wiring p r (Bet
       old = record { used = u; owner = own; moved = λ z. ne (e ∙ link-same h c ∙ z) }
 
       -- the fields as the words before have them
-      one : (y : ℕ) → Field (x - 1) (refs W′ (x - 1)) y → CopySlot p r (λ z. z ≡ c) W T y
+      one : (y : ℕ) → Field (x - 1) (refsOf W′ (x - 1)) y → CopySlot p r (λ z. z ≡ c) W T y
       one y f =
-          let f′ : Field (workOf W c - 1) (refs W′ (workOf W c - 1)) y = subst (λ (z : ℕ). Field (z - 1) (refs W′ (z - 1)) y) (e ∙ link-same h c) f in
+          let f′ : Field (workOf W c - 1) (refsOf W′ (workOf W c - 1)) y = subst (λ (z : ℕ). Field (z - 1) (refsOf W′ (z - 1)) y) (e ∙ link-same h c) f in
           record {
             cell = c;
             among = refl;
@@ -346,10 +345,10 @@ module _ {p : Places} {r a b c : ℕ} {T W W′ : List ℕ} (w : Wiring p r (Bet
           }
 
       from : (y : ℕ) (q : CopySlot p r (Between a (c + 1)) W T y) → Dec (q .cell ≡ c)
-          → CopySlot p r (Between a c) W T y ⊎ Field (x - 1) (refs W′ (x - 1)) y
+          → CopySlot p r (Between a c) W T y ⊎ Field (x - 1) (refsOf W′ (x - 1)) y
       from y q (yes z) =
-          let f : Field (workOf W c - 1) (refs W (workOf W c - 1)) y = subst (λ (v : ℕ). Field (workOf W v - 1) (refs W (workOf W v - 1)) y) z (q .field) in
-          inr (subst (λ (v : ℕ). Field (v - 1) (refs W′ (v - 1)) y) (sym (e ∙ link-same h c))
+          let f : Field (workOf W c - 1) (refsOf W (workOf W c - 1)) y = subst (λ (v : ℕ). Field (workOf W v - 1) (refsOf W (workOf W v - 1)) y) z (q .field) in
+          inr (subst (λ (v : ℕ). Field (v - 1) (refsOf W′ (v - 1)) y) (sym (e ∙ link-same h c))
           (record { field = f .field; low = omega (arith, f .low, refs-same h (workOf W c - 1)); at = f .at }))
       from y q (no n) = inl (record { cell = q .cell; among = (q .among .0, omega (arith, q .among .1)); old = q .old; field = q .field })
 

@@ -8,9 +8,9 @@ use native.Mathlib.Omega.{arith}
 use lib.ListN.{length, getD}
 use Rattle.layout.specs.declared.Places.{Places}
 use Rattle.layout.specs.Places.{Room, depthAt, varAt, depthOf, varOf, ownerOf, slotIn, slotRegionIn}
-use Rattle.layout.specs.Cells.{workOf, fieldOf}
+use Rattle.layout.specs.Cells.{workOf, fieldOf, refsOf}
+use Rattle.layout.specs.Marks.{marked}
 use Rattle.promises.specs.Words.{InUse}
-use Rattle.evacuate.specs.Marks.{refs, marked}
 use Rattle.evacuate.specs.Passing.{Ready, moves-ready, moves-cells, moves-tables}
 use Rattle.evacuate.specs.Copying.{Plan, Copy}
 use Rattle.evacuate.specs.Forward.{Forwards, forward, copy-forwards}
@@ -93,8 +93,8 @@ module _ {p : Places} {r n m l : ℕ} {gs : ℕ → ℕ} {W T M W₁ T₁ : List
         no-old x u q =
             let d : ℕ = q .cell in
             let w = old-survivor (b .start) a₀ a₁ F d (q .old) in
-            let few : refs W d ≤ 14 = b .start .refs-few d (w .0) in
-            let e : refs W₁ (workOf W₁ d - 1) ≡ refs W d = copy-refs (b .start) a₀ a₁ F d (w .0 .page) (w .1) in
+            let few : refsOf W d ≤ 14 = b .start .refs-few d (w .0) in
+            let e : refsOf W₁ (workOf W₁ d - 1) ≡ refsOf W d = copy-refs (b .start) a₀ a₁ F d (w .0 .page) (w .1) in
             let same : x / 16 ≡ workOf W₁ d - 1 = omega (arith, q .field .low, q .field .at) in
             F .moved d (w .0 .page) (w .1) .new (subst (λ (y : ℕ). InUse p T y) same u)
 
@@ -108,13 +108,13 @@ module _ {p : Places} {r n m l : ℕ} {gs : ℕ → ℕ} {W T M W₁ T₁ : List
 
   -- ---- the remember table
   module _ {W₃ : List ℕ} (R : Rewritten p r (λ x. Remembered r n m M x ⊎ Copies p r W₁ T₁ x) T₁ W₁ W₃) where
-    copies-names : (d f : ℕ) → d / 16 < p .pages → marked p T d ≡ 1 → f < refs W d → Names p (fieldOf W₃ (forward W₁ d) f)
+    copies-names : (d f : ℕ) → d / 16 < p .pages → marked p T d ≡ 1 → f < refsOf W d → Names p (fieldOf W₃ (forward W₁ d) f)
     copies-names d f ld on lf ne = go (slots-out (b .start) a₀ a₁ F R (forward W₁ d) f (F .moved d ld on .used) out lf′)
       where
         out : ownerOf p T₁ (forward W₁ d / 16) ≢ r
         out = λ z. b .start .targets d ld on (sym (F .moved d ld on .home) ∙ z)
 
-        lf′ : f < refs W₃ (forward W₁ d)
+        lf′ : f < refsOf W₃ (forward W₁ d)
         lf′ = omega (arith, copy-head (b .start) a₀ a₁ F R d ld on)
 
         go : (fieldOf W₃ (forward W₁ d) f ≡ 0) ⊎ ((x : ℕ) × (fieldOf W₃ (forward W₁ d) f ≡ 1 + x) × InUse p T₁ x × (ownerOf p T₁ (x / 16) ≢ r))
@@ -131,14 +131,14 @@ module _ {p : Places} {r n m l : ℕ} {gs : ℕ → ℕ} {W T M W₁ T₁ : List
           tables-long = w .tables-long;
           full = w .full;
           copies = λ d q u.
-              subst (λ (y : ℕ). Fields p (refs W₃ (y - 1)) (y - 1) W₃) (sym (link-same R d)) (fields d q (then d u));
+              subst (λ (y : ℕ). Fields p (refsOf W₃ (y - 1)) (y - 1) W₃) (sym (link-same R d)) (fields d q (then d u));
           once = λ d e q q′ u u′ z. w .once d e q q′ (then d u) (then e u′) (sym (link-same R d) ∙ z ∙ link-same R e);
         }
       where
         then : (d : ℕ) → Old p r W₃ T₁ d → Old p r W₁ T₁ d
         then d u = record { used = u .used; owner = u .owner; moved = λ z. u .moved (link-same R d ∙ z) }
 
-        fields : (d : ℕ) → Between 0 (16 * p .pages) d → Old p r W₁ T₁ d → Fields p (refs W₃ (workOf W₁ d - 1)) (workOf W₁ d - 1) W₃
+        fields : (d : ℕ) → Between 0 (16 * p .pages) d → Old p r W₁ T₁ d → Fields p (refsOf W₃ (workOf W₁ d - 1)) (workOf W₁ d - 1) W₃
         fields d q u =
             let x = old-survivor (b .start) a₀ a₁ F d u in
             let w = forwards-wiring (b .start) a₀ a₁ F .copies d q u in
@@ -171,14 +171,14 @@ module _ {p : Places} {r n m l : ℕ} {gs : ℕ → ℕ} {W T M W₁ T₁ : List
         at : 16 * y + 2 + f ≡ slotIn M i
         at = omega (arith, t .field)
 
-        same : refs W₃ y ≡ refs W y
+        same : refsOf W₃ y ≡ refsOf W y
         same =
             let e : 16 * y ≡ 16 * y + 0 = omega arith in
             refs-same R y
             ∙ ap (λ (z : ℕ). z / 16)
             (ap (λ (z : ℕ). getD W₁ z 0) e ∙ F .copying .words y 0 (omega arith) (t .used) (λ z. omega arith) ∙ ap (λ (z : ℕ). getD W z 0) (sym e))
 
-        lf : f < refs W₃ y
+        lf : f < refsOf W₃ y
         lf = omega (arith, t .field, t .ref, same)
 
         out : ownerOf p T₁ (y / 16) ≢ r

@@ -12,9 +12,9 @@ use lib.ListN.{length, getD, set, length-set}
 use lib.Seq.{getD-set-same, getD-set-other}
 use Rattle.layout.specs.declared.Places.{Places}
 use Rattle.layout.specs.Places.{ownerOf, slotIn, slotRegionIn}
-use Rattle.layout.specs.Cells.{workOf, fieldOf}
+use Rattle.layout.specs.Cells.{workOf, fieldOf, refsOf}
+use Rattle.layout.specs.Marks.{marked}
 use Rattle.promises.specs.Words.{InUse}
-use Rattle.evacuate.specs.Marks.{refs, marked}
 use Rattle.evacuate.specs.Passing.{Ready}
 use Rattle.evacuate.specs.Forward.{Forwards, forward}
 use Rattle.evacuate.specs.Rewrite.{Rewritten, refs-same, Remembered}
@@ -56,7 +56,7 @@ value-cross p T w x h v =
 pub record IsSlot (p : Places) (W T : List ℕ) (x : ℕ) : Type 0 where
   pub used : InUse p T (x / 16)
   pub field : 2 ≤ x % 16
-  pub ref : x % 16 < refs W (x / 16) + 2
+  pub ref : x % 16 < refsOf W (x / 16) + 2
 
 pub record Listed (p : Places) (n m : ℕ) (W T M : List ℕ) : Type 0 where
   pub slots : (i : ℕ) → i < m → IsSlot p W T (slotIn M i)
@@ -72,8 +72,8 @@ module _ {p : Places} {r n m : ℕ} {M W₀ T₀ W T W′ : List ℕ} (s : Start
   no-copy x u q =
       let b : ℕ = q .cell in
       let v = old-survivor s a₀ a F b (q .old) in
-      let few : refs W₀ b ≤ 14 = s .refs-few b (v .0) in
-      let e : refs W (workOf W b - 1) ≡ refs W₀ b = copy-refs s a₀ a F b (v .0 .page) (v .1) in
+      let few : refsOf W₀ b ≤ 14 = s .refs-few b (v .0) in
+      let e : refsOf W (workOf W b - 1) ≡ refsOf W₀ b = copy-refs s a₀ a F b (v .0 .page) (v .1) in
       let same : x / 16 ≡ workOf W b - 1 = omega (arith, q .field .low, q .field .at) in
       F .moved b (v .0 .page) (v .1) .new (subst (λ (y : ℕ). InUse p T₀ y) same u)
 
@@ -131,7 +131,7 @@ module _ {p : Places} {r n m : ℕ} {M W₀ T₀ W T W′ : List ℕ} (s : Start
       t : IsSlot p W₀ T₀ (slotIn M (q .entry))
       t = L .slots (q .entry) (q .low)
 
-      head : refs W′ (slotIn M (q .entry) / 16) ≡ refs W₀ (slotIn M (q .entry) / 16)
+      head : refsOf W′ (slotIn M (q .entry) / 16) ≡ refsOf W₀ (slotIn M (q .entry) / 16)
       head =
           let z : ℕ = slotIn M (q .entry) / 16 in
           let e : 16 * z ≡ 16 * z + 0 = omega arith in
@@ -224,7 +224,7 @@ module _ {p : Places} {r n m : ℕ} {M W₀ T₀ W T W′ : List ℕ} (s : Start
       old : InUse p T₀ (x / 16) → Stays p r n W′ T M m x (crossAt p W′ T x)
       old u =
           let e : 16 * (x / 16) ≡ 16 * (x / 16) + 0 = omega arith in
-          let head : refs W′ (x / 16) ≡ refs W₀ (x / 16) =
+          let head : refsOf W′ (x / 16) ≡ refsOf W₀ (x / 16) =
           refs-same R (x / 16)
           ∙ ap (λ (y : ℕ). y / 16)
           (ap (λ (y : ℕ). getD W y 0) e ∙ F .copying .words (x / 16) 0 (omega arith) u (λ w. omega arith) ∙ ap (λ (y : ℕ). getD W₀ y 0) (sym e)) in
@@ -235,7 +235,7 @@ module _ {p : Places} {r n m : ℕ} {M W₀ T₀ W T W′ : List ℕ} (s : Start
           let c : ℕ = u .0 in
           let lc : c / 16 < p .pages = u .1 in
           let e : workOf W c - 1 ≡ x / 16 = u .3 in
-          let e′ : refs W (workOf W c - 1) ≡ refs W (x / 16) = ap (λ (y : ℕ). refs W y) e in
+          let e′ : refsOf W (workOf W c - 1) ≡ refsOf W (x / 16) = ap (λ (y : ℕ). refsOf W y) e in
           record {
             at =
                 record {
@@ -261,7 +261,7 @@ module _ {p : Places} {r n m : ℕ} {W T M : List ℕ} (high : 1 < r) (L : Liste
       let v = cross-value p T (ownerOf p T ((16 * b + 2 + f) / 256)) (fieldOf W b f) r e (λ z. omega arith) in
       (v .real, sym (v .region))
 
-  pub remembered-slots : (b f d : ℕ) → InUse p T b → ownerOf p T (b / 16) ≢ r → f < refs W b → refs W b ≤ 14 → fieldOf W b f ≡ 1 + d → ownerOf p T (d / 16) ≡ r
+  pub remembered-slots : (b f d : ℕ) → InUse p T b → ownerOf p T (b / 16) ≢ r → f < refsOf W b → refsOf W b ≤ 14 → fieldOf W b f ≡ 1 + d → ownerOf p T (d / 16) ≡ r
       → Remembered r n m M (16 * b + 2 + f)
   remembered-slots b f d u out lf few e own =
       let x : ℕ = 16 * b + 2 + f in
@@ -271,7 +271,7 @@ module _ {p : Places} {r n m : ℕ} {W T M : List ℕ} (high : 1 < r) (L : Liste
       record {
         used = subst (λ (y : ℕ). InUse p T y) (sym at) u;
         field = omega arith;
-        ref = omega (arith, ap (λ (y : ℕ). refs W y) at);
+        ref = omega (arith, ap (λ (y : ℕ). refsOf W y) at);
       } in
       let d′ : fieldOf W b f - 1 ≡ d = omega arith in
       let c : r ≡ crossAt p W T (16 * b + 2 + f) =

@@ -3,7 +3,7 @@ ghost use mathlib.Core.Path.{_≡_};
 ghost use Prim.Native.Nat.{ℕ, _+_, _*_, _<_, _≤_, max};
 ghost use lib.ListN.{length, getD};
 ghost use Rattle.layout.specs.Places.{Room, ownerOf, usedIn};
-ghost use Rattle.evacuate.specs.Marks.{refs};
+ghost use Rattle.layout.specs.Cells.{refsOf};
 ghost use Rattle.evacuate.specs.Rewrite.{Names, Field, Fields, CopySlot, Wiring, Between};
 ghost use Rattle.evacuate.specs.Entries.{crossOf, newRegion, Added, Stays, Entries, Cleared};
 ghost use Rattle.evacuate.specs.Append.{Appending, Crossing};
@@ -104,10 +104,10 @@ pub fn remember_cell(
     cell: usize,
     j: usize,
 ) -> usize
-    requires { ⌜ Appending p region (p .entries) (Field cell (refs (now cells) cell)) (now cells) (now tables) (now remember) j ⌝ }
-    requires { ⌜ Fields p (refs (now cells) cell) cell (now cells) ⌝ }
+    requires { ⌜ Appending p region (p .entries) (Field cell (refsOf (now cells) cell)) (now cells) (now tables) (now remember) j ⌝ }
+    requires { ⌜ Fields p (refsOf (now cells) cell) cell (now cells) ⌝ }
     requires { ⌜ Room p (length (now tables)) ⌝ }
-    ensures { λ i. ⌜ Added (p .entries) (Crossing p (Field cell (refs (now (cells .entry)) cell)) (now (cells .entry)) (now (tables .entry))) j i (now (remember .entry)) (now (remember .exit)) ⌝ }
+    ensures { λ i. ⌜ Added (p .entries) (Crossing p (Field cell (refsOf (now (cells .entry)) cell)) (now (cells .entry)) (now (tables .entry))) j i (now (remember .entry)) (now (remember .exit)) ⌝ }
 {
     let entries = p.entries;
     let n = layout::cells::field_count(Kind::Reference, layout::cells::head(cells, cell));

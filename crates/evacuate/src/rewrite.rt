@@ -4,7 +4,7 @@ ghost use mathlib.Core.Path.{_≡_};
 ghost use Prim.Native.Nat.{ℕ, _+_, _*_, _<_, _≤_};
 ghost use lib.ListN.{length};
 ghost use Rattle.layout.specs.Places.{Room, ownerOf, varOf, usedIn};
-ghost use Rattle.evacuate.specs.Marks.{refs};
+ghost use Rattle.layout.specs.Cells.{refsOf};
 ghost use Rattle.evacuate.specs.Rewrite.{Names, moveRef, Rewritten, Remembered, Slots, Field, Fields, CopySlot, Wiring, Between, Variables};
 use layout::Kind;
 use layout::Places;
@@ -46,9 +46,9 @@ pub fn rewrite_slots(p: Places, cells: &mut [u32], tables: &[u32], remember: &[u
 
 // The reference fields of a cell.
 pub fn rewrite_cell(p: Places, cells: &mut [u32], tables: &[u32], region: u32, cell: usize)
-    requires { ⌜ Fields p (refs (now cells) cell) cell (now cells) ⌝ }
+    requires { ⌜ Fields p (refsOf (now cells) cell) cell (now cells) ⌝ }
     requires { ⌜ Room p (length (now tables)) ⌝ }
-    ensures { λ _. ⌜ Rewritten p region (Field cell (refs (now (cells .entry)) cell)) (now (tables .entry)) (now (cells .entry)) (now (cells .exit)) ⌝ }
+    ensures { λ _. ⌜ Rewritten p region (Field cell (refsOf (now (cells .entry)) cell)) (now (tables .entry)) (now (cells .entry)) (now (cells .exit)) ⌝ }
 {
     let n = layout::cells::field_count(Kind::Reference, layout::cells::head(cells, cell));
     let mut f: usize = 0;

@@ -10,9 +10,9 @@ use Rattle.rules.specs.declared.Sizes.{Sizes}
 use Rattle.rules.specs.Graph.{target}
 use Rattle.layout.specs.Places.{Room, placesOf, varAt, ownerAt, usedAt, depthAt, varOf, ownerOf, usedOf, depthOf, markAt}
 use Rattle.layout.specs.Cells.{headAt, fieldAt, headOf, fieldOf, workOf, pageOf}
+use Rattle.layout.specs.Marks.{marked}
 use Rattle.promises.specs.Words.{Words, InUse, Used, depthIn, ownerIn, graphOf}
 use Rattle.mark.specs.Survivors.{Marked}
-use Rattle.evacuate.specs.Marks.{marked}
 use Rattle.evacuate.specs.Stages.{Lives}
 use Rattle.ended.specs.Evacuated.{Outside, Survivor}
 

@@ -8,16 +8,17 @@ use lib.ListN.{length, getD, set}
 use Rattle.lists.specs.Members.{In, Distinct, in?, in-append, in-left, in-right}
 use Rattle.lists.specs.Pigeonhole.{distinct-few}
 use Rattle.layout.specs.declared.Places.{Places}
-use Rattle.layout.specs.Cells.{workAt, workOf, fieldOf, pageOf}
+use Rattle.layout.specs.Cells.{workAt, workOf, fieldOf, pageOf, refsOf}
+use Rattle.layout.specs.Marks.{marked}
 use Rattle.promises.specs.Words.{InUse}
 use Rattle.promises.specs.Whole.{IsRef}
-use Rattle.mark.specs.Marks.{refCount, owner, marked, Shaped, Reach, Reach.held, Reach.via, Chain, named, named-in, named-from, Kept, kept-refs, kept-field, kept-owner, kept-shaped}
+use Rattle.mark.specs.Marks.{owner, Shaped, Reach, Reach.held, Reach.via, Chain, named, named-in, named-from, Kept, kept-refs, kept-field, kept-owner, kept-shaped}
 use Rattle.mark.specs.Marking.{Marking, marking-start, popped-top}
 use Rattle.mark.specs.Pushes.{Pushing, pushes-kept, pushes-marking}
 
 -- every cell of r that a done cell's slots name is marked
 abbrev pub Closed : (p : Places) (r : ℕ) (W₀ T₀ D T : List ℕ) → Type 0
-Closed p r W₀ T₀ D T = (c f d : ℕ) → In c D → f < refCount W₀ c → fieldOf W₀ c f ≡ 1 + d → owner p T₀ d ≡ r → marked p T d ≡ 1
+Closed p r W₀ T₀ D T = (c f d : ℕ) → In c D → f < refsOf W₀ c → fieldOf W₀ c f ≡ 1 + d → owner p T₀ d ≡ r → marked p T d ≡ 1
 
 -- every cell of r that is held is marked
 abbrev pub AllHeld : (p : Places) (r : ℕ) (T₀ S₀ T : List ℕ) → Type 0
@@ -70,20 +71,20 @@ draining-few {p} h =
 draining-turn : {p : Places} {r g : ℕ} {W₀ T₀ S₀ W T : List ℕ} {top n : ℕ} → Draining p r g W₀ T₀ S₀ W T top n → top ≢ 0
     → {W′ T′ : List ℕ} {top′ : ℕ}
     → (let X : List ℕ = set W (workAt (top - 1)) g in
-    Pushing p r (fieldOf X (top - 1)) (refCount X (top - 1)) X T (workOf W (top - 1)) W′ T′ top′ (refCount X (top - 1)))
+    Pushing p r (fieldOf X (top - 1)) (refsOf X (top - 1)) X T (workOf W (top - 1)) W′ T′ top′ (refsOf X (top - 1)))
     → Draining p r g W₀ T₀ S₀ W′ T′ top′ (n + 1)
 draining-turn {p} {r} {g} {W₀} {T₀} {S₀} {W} {T} {top} {n} h ne {W′} {T′} {top′} s =
     let b : ℕ = top - 1 in
     let X : List ℕ = set W (workAt b) g in
     let q = popped-top (h .stack) ne (h .marking) in
     let m = q .2 in
-    let few : refCount X b ≤ 14 = m .shaped .refs-few b (q .0) in
-    let same : refCount X b ≡ refCount W₀ b = kept-refs (m .kept) b in
+    let few : refsOf X b ≤ 14 = m .shaped .refs-few b (q .0) in
+    let same : refsOf X b ≡ refsOf W₀ b = kept-refs (m .kept) b in
     let m′ =
-    pushes-marking (fieldOf X b) (refCount X b) (m .shaped) m
+    pushes-marking (fieldOf X b) (refsOf X b) (m .shaped) m
     (λ c y own off.
     let f : ℕ = y .field in
-    let lt : f < refCount X b = y .counted in
+    let lt : f < refsOf X b = y .counted in
     via (m .reached b (inr (inl refl))) f (omega arith) (sym (kept-field (m .kept) b f (omega arith)) ∙ y .names) own off)
     (s .pushes) in
     record {
@@ -95,7 +96,7 @@ draining-turn {p} {r} {g} {W₀} {T₀} {S₀} {W} {T} {top} {n} h ne {W′} {T�
       closed = λ c f d i lt e own.
           ⊎-elim
           (λ (z : c ≡ b).
-          let lt′ : f < refCount W₀ b = subst (λ (x : ℕ). f < refCount W₀ x) z lt in
+          let lt′ : f < refsOf W₀ b = subst (λ (x : ℕ). f < refsOf W₀ x) z lt in
           let e′ : fieldOf W₀ b f ≡ 1 + d = subst (λ (x : ℕ). fieldOf W₀ x f ≡ 1 + d) z e in
           let e″ : fieldOf X b f ≡ 1 + d = kept-field (m .kept) b f (omega arith) ∙ e′ in
           let w : fieldOf X b f - 1 ≡ d = omega arith in
@@ -174,15 +175,15 @@ module _ {p : Places} {r g : ℕ} {W₀ T₀ S₀ W T : List ℕ} {top n : ℕ} 
       (let q = popped-top (h .stack) ne (h .marking) in (q .2 .shaped, q .0)))
 
   pub turn-read : (X : List ℕ) (y : ℕ) → X ≡ set W (workAt b) g → y ≡ workOf W b → {W′ T′ : List ℕ} {top′ : ℕ}
-      → Pushing p r (fieldOf X b) (refCount X b) X T y W′ T′ top′ (refCount X b) → Draining p r g W₀ T₀ S₀ W′ T′ top′ (n + 1)
+      → Pushing p r (fieldOf X b) (refsOf X b) X T y W′ T′ top′ (refsOf X b) → Draining p r g W₀ T₀ S₀ W′ T′ top′ (n + 1)
   turn-read X y a d {W′} {T′} {top′} s =
       draining-turn h ne
       (subst
       (λ (z : ℕ).
       let X : List ℕ = set W (workAt z) g in
-      Pushing p r (fieldOf X z) (refCount X z) X T (workOf W z) W′ T′ top′ (refCount X z))
+      Pushing p r (fieldOf X z) (refsOf X z) X T (workOf W z) W′ T′ top′ (refsOf X z))
       e
-      (subst₂ (λ (Y : List ℕ) (z : ℕ). Pushing p r (fieldOf Y b) (refCount Y b) Y T z W′ T′ top′ (refCount Y b)) a d s))
+      (subst₂ (λ (Y : List ℕ) (z : ℕ). Pushing p r (fieldOf Y b) (refsOf Y b) Y T z W′ T′ top′ (refsOf Y b)) a d s))
 
 pub draining-kept : {p : Places} {r g : ℕ} {W₀ T₀ S₀ W T : List ℕ} {top n : ℕ} → Draining p r g W₀ T₀ S₀ W T top n → Kept p W₀ T₀ W T
 draining-kept h = h .marking .kept

@@ -9,10 +9,11 @@ use native.Mathlib.Omega.{arith}
 use lib.ListN.{length, getD}
 use Rattle.lists.specs.Members.{In, in?}
 use Rattle.layout.specs.declared.Places.{Places}
-use Rattle.layout.specs.Cells.{workOf, fieldOf, pageOf}
+use Rattle.layout.specs.Cells.{workOf, fieldOf, pageOf, refsOf}
+use Rattle.layout.specs.Marks.{marked}
 use Rattle.promises.specs.Words.{InUse}
 use Rattle.promises.specs.Whole.{IsRef}
-use Rattle.mark.specs.Marks.{refCount, owner, marked, Shaped, Kept, kept-refl, kept-trans, kept-refs, kept-field, kept-owner}
+use Rattle.mark.specs.Marks.{owner, Shaped, Kept, kept-refl, kept-trans, kept-refs, kept-field, kept-owner}
 use Rattle.mark.specs.Marks.{Reach, Reach.held, Reach.via, Leads, Leads.here, Leads.step}
 use Rattle.mark.specs.Draining.{Drained}
 
@@ -39,7 +40,7 @@ pub record Levels (p : Places) (r n : ℕ) (gs : ℕ → ℕ) (calls : ℕ → L
   pub found : (c : ℕ) → pageOf c < p .pages → marked p T c ≡ 1 → (l : ℕ) × First p r W₀ T₀ calls n c l × (workOf W c ≡ gs l)
   pub lost : (c : ℕ) → pageOf c < p .pages → marked p T c ≡ 0 → (workOf W c ≡ workOf W₀ c) × ((l : ℕ) → l < n → Held p r W₀ T₀ calls l c → ⊥)
   pub beyond : (c : ℕ) → p .pages ≤ pageOf c → workOf W c ≡ workOf W₀ c
-  pub closed : (b f d : ℕ) → InUse p T₀ b → marked p T b ≡ 1 → f < refCount W₀ b → fieldOf W₀ b f ≡ 1 + d → owner p T₀ d ≡ r → marked p T d ≡ 1
+  pub closed : (b f d : ℕ) → InUse p T₀ b → marked p T b ≡ 1 → f < refsOf W₀ b → fieldOf W₀ b f ≡ 1 + d → owner p T₀ d ≡ r → marked p T d ≡ 1
 
 pub levels-start : {p : Places} (r : ℕ) (gs : ℕ → ℕ) (calls : ℕ → List ℕ) {W T : List ℕ} → Shaped p W T → ((c : ℕ) → pageOf c < p .pages → marked p T c ≡ 0)
     → Levels p r 0 gs calls W T W T
@@ -74,7 +75,7 @@ module _ {p : Places} {r n : ℕ} {gs : ℕ → ℕ} {calls : ℕ → List ℕ} 
       let h = reach-held b q in
       let i = d .complete c (via q f lt e own off) in
       let u = d .in-use b (d .complete b q) in
-      let few : refCount W b ≤ 14 = L .shaped .refs-few b u in
+      let few : refsOf W b ≤ 14 = L .shaped .refs-few b u in
       record {
         first = h .first;
         called = h .called;
@@ -83,12 +84,12 @@ module _ {p : Places} {r n : ℕ} {gs : ℕ → ℕ} {calls : ℕ → List ℕ} 
             (sym (kept-owner (L .kept) (s₀ .room) c (d .in-use c i .page)) ∙ own);
       }
 
-  next-closed : (b f c : ℕ) → InUse p T₀ b → marked p T′ b ≡ 1 → f < refCount W₀ b → fieldOf W₀ b f ≡ 1 + c → owner p T₀ c ≡ r → marked p T′ c ≡ 1
+  next-closed : (b f c : ℕ) → InUse p T₀ b → marked p T′ b ≡ 1 → f < refsOf W₀ b → fieldOf W₀ b f ≡ 1 + c → owner p T₀ c ≡ r → marked p T′ c ≡ 1
   next-closed b f c u h lt e own = go (in? b (d .done))
     where
       go : Dec (In b (d .done)) → marked p T′ c ≡ 1
       go (yes i) =
-          let few : refCount W₀ b ≤ 14 = s₀ .refs-few b u in
+          let few : refsOf W₀ b ≤ 14 = s₀ .refs-few b u in
           let v = s₀ .references b u f lt (omega arith) in
           let w : fieldOf W₀ b f - 1 ≡ c = omega arith in
           d .closed b f c i (omega (arith, kept-refs (L .kept) b)) (kept-field (L .kept) b f (omega arith) ∙ e)

@@ -10,9 +10,10 @@ use Rattle.lists.specs.Members.{In, Distinct}
 use Rattle.layout.specs.declared.Places.{Places}
 use Rattle.layout.specs.Places.{Room, markAt, markOf}
 use Rattle.layout.specs.Cells.{workAt, workOf, pageOf, placeOf}
+use Rattle.layout.specs.Marks.{marked}
 use Rattle.promises.specs.Words.{InUse}
 use Rattle.promises.specs.Whole.{IsRef}
-use Rattle.mark.specs.Marks.{owner, marked, Shaped, Reach, Chain, Skipped, Linked, Pushed, Kept, kept-refl, kept-trans, kept-owner, kept-in-use, in-use-kept, kept-shaped}
+use Rattle.mark.specs.Marks.{owner, Shaped, Reach, Chain, Skipped, Linked, Pushed, Kept, kept-refl, kept-trans, kept-owner, kept-in-use, in-use-kept, kept-shaped}
 use Rattle.mark.specs.Marks.{mark-same, mark-other, mark-other-cell}
 
 -- ---- the words after a push

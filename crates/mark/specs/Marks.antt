@@ -11,37 +11,31 @@ use Rattle.lists.specs.Bits.{bitAt, set-same, set-other}
 use Rattle.lists.specs.Members.{In}
 use Rattle.layout.specs.declared.Places.{Places}
 use Rattle.layout.specs.Places.{Room, ownerOf, usedOf, markAt, markOf}
-use Rattle.layout.specs.Cells.{headOf, workAt, workOf, fieldOf, pageOf, placeOf}
+use Rattle.layout.specs.Cells.{headOf, workAt, workOf, fieldOf, refsOf, pageOf, placeOf}
+use Rattle.layout.specs.Marks.{marked}
 use Rattle.promises.specs.Words.{InUse}
 use Rattle.promises.specs.Whole.{IsRef}
-
-abbrev pub refCount : List ℕ → ℕ → ℕ
-refCount W c = headOf W c / 16
 
 -- the region that owns the page of a cell
 abbrev pub owner : Places → List ℕ → ℕ → ℕ
 owner p T c = ownerOf p T (pageOf c)
 
--- the cell's bit in the working word of its page
-abbrev pub marked : Places → List ℕ → ℕ → ℕ
-marked p T c = bitAt (markOf p T (pageOf c)) (placeOf c)
-
 -- the slices are long enough, and cells in use have at most 14 references, each null or to a cell in use
 pub record Shaped (p : Places) (W T : List ℕ) : Type 0 where
   pub room : Room p (length T)
   pub cells-long : 256 * p .pages ≤ length W
-  pub refs-few : (c : ℕ) → InUse p T c → refCount W c ≤ 14
-  pub references : (c : ℕ) → InUse p T c → (f : ℕ) → f < refCount W c → IsRef p T (fieldOf W c f)
+  pub refs-few : (c : ℕ) → InUse p T c → refsOf W c ≤ 14
+  pub references : (c : ℕ) → InUse p T c → (f : ℕ) → f < refsOf W c → IsRef p T (fieldOf W c f)
 
 -- c is r's and not marked, and a chain of slots inside r leads to it from one of the cells S, over cells that are not marked
 pub data Reach (p : Places) (r : ℕ) (W T S : List ℕ) : ℕ → Type 0 where
   held : {c : ℕ} → In c S → owner p T c ≡ r → marked p T c ≡ 0 → Reach p r W T S c
-  via : {b c : ℕ} → Reach p r W T S b → (f : ℕ) → f < refCount W b → fieldOf W b f ≡ 1 + c → owner p T c ≡ r → marked p T c ≡ 0 → Reach p r W T S c
+  via : {b c : ℕ} → Reach p r W T S b → (f : ℕ) → f < refsOf W b → fieldOf W b f ≡ 1 + c → owner p T c ≡ r → marked p T c ≡ 0 → Reach p r W T S c
 
 -- a chain of slots inside r, from x to c
 pub data Leads (p : Places) (r : ℕ) (W T : List ℕ) (x : ℕ) : ℕ → Type 0 where
   here : owner p T x ≡ r → Leads p r W T x x
-  step : {b c : ℕ} → Leads p r W T x b → (f : ℕ) → f < refCount W b → fieldOf W b f ≡ 1 + c → owner p T c ≡ r → Leads p r W T x c
+  step : {b c : ℕ} → Leads p r W T x b → (f : ℕ) → f < refsOf W b → fieldOf W b f ≡ 1 + c → owner p T c ≡ r → Leads p r W T x c
 
 -- the pending cells, linked through word 1, the bottom's link null
 abbrev pub Chain : List ℕ → ℕ → List ℕ → Type 0
@@ -132,7 +126,7 @@ kept-trans a b =
     }
 
 module _ {p : Places} {W T W′ T′ : List ℕ} (k : Kept p W T W′ T′) where
-  pub kept-refs : (c : ℕ) → refCount W′ c ≡ refCount W c
+  pub kept-refs : (c : ℕ) → refsOf W′ c ≡ refsOf W c
   kept-refs c = ap (λ (x : ℕ). x / 16) (k .words (16 * c) (omega arith))
 
   pub kept-field : (c f : ℕ) → f < 14 → fieldOf W′ c f ≡ fieldOf W c f
@@ -162,8 +156,8 @@ module _ {p : Places} {W T W′ T′ : List ℕ} (k : Kept p W T W′ T′) wher
         refs-few = λ c u. omega (arith, s .refs-few c (in-use-kept (s .room) c u), kept-refs c);
         references = λ c u f h.
             let v : InUse p T c = in-use-kept (s .room) c u in
-            let l : refCount W c ≤ 14 = s .refs-few c v in
-            let b : f < refCount W c = omega (arith, kept-refs c) in
+            let l : refsOf W c ≤ 14 = s .refs-few c v in
+            let b : f < refsOf W c = omega (arith, kept-refs c) in
             let e : fieldOf W′ c f ≡ fieldOf W c f = kept-field c f (omega arith) in
             subst (IsRef p T′) (sym e) (λ n. kept-in-use (s .room) (fieldOf W c f - 1) (s .references c v f b n));
       }

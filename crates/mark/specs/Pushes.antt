@@ -9,7 +9,8 @@ use Rattle.lists.specs.Members.{In}
 use Rattle.layout.specs.declared.Places.{Places}
 use Rattle.promises.specs.Words.{InUse}
 use Rattle.promises.specs.Whole.{IsRef}
-use Rattle.mark.specs.Marks.{owner, marked, Shaped, Reach, Pushed, Kept, kept-refl, kept-trans, kept-owner, kept-in-use, kept-shaped}
+use Rattle.layout.specs.Marks.{marked}
+use Rattle.mark.specs.Marks.{owner, Shaped, Reach, Pushed, Kept, kept-refl, kept-trans, kept-owner, kept-in-use, kept-shaped}
 use Rattle.mark.specs.Marking.{Marking, pushed-kept, pushed-mono, pushed-on, pushed-marking}
 
 pub data Pushes (p : Places) (r : ℕ) (P : ℕ → Type 0) (W T : List ℕ) (top : ℕ) : List ℕ → List ℕ → ℕ → Type 0 where

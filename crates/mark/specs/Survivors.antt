@@ -17,10 +17,11 @@ use Rattle.laws.specs.GraphLaws.{Reaches, target-within, target-called}
 use Rattle.layout.specs.declared.Places.{Places}
 use Rattle.layout.specs.Places.{placesOf, sizesOf, depthOf, markAt, markOf, Room, room}
 use Rattle.layout.specs.Cells.{workAt, workOf, pageOf, placeOf}
+use Rattle.layout.specs.Marks.{marked}
 use Rattle.promises.specs.Words.{Words, words, Used, ownerIn, homeIn, depthIn, graphOf}
 use Rattle.promises.specs.Whole.{WholeFor}
 use Rattle.promises.specs.Reading.{range, tables-room}
-use Rattle.mark.specs.Marks.{marked, Shaped, Kept}
+use Rattle.mark.specs.Marks.{Shaped, Kept}
 use Rattle.mark.specs.Levels.{Held, First, Levels, leads-used, leads-owned, leads-from}
 use Rattle.mark.specs.Holders.{Holding, held-used}
 use Rattle.mark.specs.Rounds.{levelCells}

@@ -13,10 +13,10 @@ use Rattle.rules.specs.declared.Sizes.{Sizes}
 use Rattle.layout.specs.declared.Places.{Places}
 use Rattle.layout.specs.Places.{placesOf, markAt, markOf, Room}
 use Rattle.layout.specs.Cells.{workAt, workOf, pageOf, placeOf, cellOn}
+use Rattle.layout.specs.Marks.{marked}
 use Rattle.rules.specs.Graph.{target}
 use Rattle.promises.specs.Words.{Words, Used, ownerIn, usedIn, graphOf}
 use Rattle.promises.specs.Whole.{WholeFor}
-use Rattle.mark.specs.Marks.{marked}
 use Rattle.mark.specs.Survivors.{Marked}
 
 -- ---- the set bits of a word, one after another: after k of them are cleared, left remains

@@ -1,9 +1,9 @@
 // The stack of objects to look at, threaded through word 1 of the pending cells.
 ghost use Prim.Native.Nat.{ℕ};
-ghost use Rattle.layout.specs.Cells.{fieldOf};
+ghost use Rattle.layout.specs.Cells.{fieldOf, refsOf};
 ghost use Rattle.promises.specs.Words.{InUse};
 ghost use Rattle.promises.specs.Whole.{IsRef};
-ghost use Rattle.mark.specs.Marks.{Shaped, Pushed, refCount};
+ghost use Rattle.mark.specs.Marks.{Shaped, Pushed};
 ghost use Rattle.mark.specs.Pushes.{Pushing};
 use crate::bits::bit_at;
 use crate::bits::with_bit;
@@ -48,7 +48,7 @@ pub fn push(p: Places, cells: &mut [u32], tables: &mut [u32], r: u32, x: u32, to
 pub fn scan(p: Places, cells: &mut [u32], tables: &mut [u32], r: u32, c: usize, top: u32) -> u32
     requires { ⌜ Shaped p (now cells) (now tables) ⌝ }
     requires { ⌜ InUse p (now tables) c ⌝ }
-    ensures { λ t. ⌜ Pushing p r (fieldOf (now (cells .entry)) c) (refCount (now (cells .entry)) c) (now (cells .entry)) (now (tables .entry)) top (now (cells .exit)) (now (tables .exit)) t (refCount (now (cells .entry)) c) ⌝ }
+    ensures { λ t. ⌜ Pushing p r (fieldOf (now (cells .entry)) c) (refsOf (now (cells .entry)) c) (now (cells .entry)) (now (tables .entry)) top (now (cells .exit)) (now (tables .exit)) t (refsOf (now (cells .entry)) c) ⌝ }
 {
     let n = field_count(Kind::Reference, head(cells, c));
     let mut t = top;

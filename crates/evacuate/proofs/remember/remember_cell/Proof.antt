@@ -7,7 +7,7 @@ use mathlib.Core.List.{List}
 use mathlib.Core.Logic.{⊎-elim}
 use mathlib.Core.Path.{_≡_, refl, sym, ap, _∙_, subst, subst₂}
 use Rattle.layout.specs.Places.{ownerOf}
-use Rattle.evacuate.specs.Marks.{refs}
+use Rattle.layout.specs.Cells.{refsOf}
 use Rattle.evacuate.specs.Rewrite.{Names, Field}
 use Rattle.evacuate.specs.Entries.{crossOf, Added}
 use Rattle.evacuate.specs.Append.{crossAt, Crossing, cell-start, slot-region, slot-room, slot-added, slot-passed}
@@ -16,7 +16,7 @@ use Rattle.evacuate.proofs.remember.remember_cell.Tie as tie
 
 abbrev Inv-loop : tie.InvT-loop
 Inv-loop p cells tables remember₀ region cell j entries n from i₀ f₀ remember i f =
-    (f ≤ n) × (n ≡ refs cells cell) × (from ≡ ownerOf p tables (cell / 16)) × (length remember ≡ length remember₀) × Added (p .entries) (Crossing p (Field cell f) cells tables) j i remember₀ remember
+    (f ≤ n) × (n ≡ refsOf cells cell) × (from ≡ ownerOf p tables (cell / 16)) × (length remember ≡ length remember₀) × Added (p .entries) (Crossing p (Field cell f) cells tables) j i remember₀ remember
 
 abbrev μ-loop : tie.MeasureT-loop
 μ-loop p cells tables remember₀ region cell j entries n from i₀ f₀ remember i f =
@@ -89,7 +89,7 @@ loop-again c =
     let M : List ℕ = a .remember .now in
     let n : ℕ = a .p .entries in
     let few = c .before .before .before .before .before .before .before .before .before .before .before .before .pre .1 .0 .few in
-    let lt : l .f < refs W (a .cell) = omega (arith, l .inv .1, c .before .before .before .loop-test .taken) in
+    let lt : l .f < refsOf W (a .cell) = omega (arith, l .inv .1, c .before .before .before .loop-test .taken) in
     let v = c .before .cross in
     let ev : v .result ≡ crossAt (a .p) W T (16 * a .cell + 2 + l .f) =
     slot-region few (c .before .before .before .before .before .before .before .before .before .before .before .before .pre .0) lt (l .inv .4) (c .before .before .before .before .before .owner .result) (v .result) (owned (c .before .before .before .before .before)) (v .ensures ∙ ap (λ (x : ℕ). crossOf (a .p) T (c .before .before .before .before .before .owner .result) x) (c .before .before .field .ensures)) in
@@ -110,7 +110,7 @@ returns : tie.Need-returns Inv-loop μ-loop
 returns c =
     let a = c .before .before .before .before .before .before .before .before .before .args in
     let l = c .before .loop in
-    let e : l .f ≡ refs (a .cells .now) (a .cell) = omega (arith, l .inv .0, l .inv .1) in
+    let e : l .f ≡ refsOf (a .cells .now) (a .cell) = omega (arith, l .inv .0, l .inv .1) in
     subst (λ (y : ℕ). Added (a .p .entries) (Crossing (a .p) (Field (a .cell) y) (a .cells .now) (a .tables .now)) (a .j) (l .i) (a .remember .now) (l .remember)) e (l .inv .4)
 
 pub remember-cell-spec : {M : Type 1} → statement M

@@ -7,9 +7,8 @@ use mathlib.Core.List.{List}
 use mathlib.Core.Logic.{⊎-elim}
 use mathlib.Core.Path.{_≡_, refl, sym, ap, _∙_, subst, subst₂}
 use Rattle.layout.specs.Places.{ownerOf, usedOf}
-use Rattle.layout.specs.Cells.{workOf}
+use Rattle.layout.specs.Cells.{workOf, refsOf}
 use Rattle.promises.specs.Words.{InUse}
-use Rattle.evacuate.specs.Marks.{refs}
 use Rattle.evacuate.specs.Rewrite.{Field, Fields, CopySlot, Between, in-page, on-page}
 use Rattle.evacuate.specs.Entries.{Added}
 use Rattle.evacuate.specs.Append.{Appending, Crossing, copies-begin, cell-appending, cell-wired, cell-added, cell-null, page-added}
@@ -69,9 +68,9 @@ remember-cell-requires c κs =
     let la : 16 * b .page ≤ 16 * b .page + l .a = omega arith in
     let W : List ℕ = b .cells .now in
     let x : c .before .before .before .work .result ≡ workOf W (16 * b .page + l .a) = forward (c .before .before .before) in (
-      subst (λ (d : ℕ). Appending (b .p) (b .region) (b .p .entries) (Field d (refs W d)) W T (l .remember) (l .i)) (sym (c .before .cell-named .ensures))
+      subst (λ (d : ℕ). Appending (b .p) (b .region) (b .p .entries) (Field d (refsOf W d)) W T (l .remember) (l .i)) (sym (c .before .cell-named .ensures))
           (cell-appending w la lb (c .before .before .before .before .before .before .before .before .before .before .before .before .pre .0) (l .inv .3) (c .before .before .before .work .result) x (c .before .before .if1 .taken) u own),
-      (subst (λ (d : ℕ). Fields (b .p) (refs W d) d W) (sym (c .before .cell-named .ensures)) (cell-wired w la lb (c .before .before .before .before .before .before .before .before .before .before .before .before .pre .0) (l .inv .3) (c .before .before .before .work .result) x (c .before .before .if1 .taken) u own), w .tables-long),
+      (subst (λ (d : ℕ). Fields (b .p) (refsOf W d) d W) (sym (c .before .cell-named .ensures)) (cell-wired w la lb (c .before .before .before .before .before .before .before .before .before .before .before .before .pre .0) (l .inv .3) (c .before .before .before .work .result) x (c .before .before .if1 .taken) u own), w .tables-long),
     )
 
 add-a : tie.Need-add-a Inv-loop μ-loop
@@ -101,7 +100,7 @@ loop-again c =
     ⊎-elim
     (λ z. subst₂ (P (16 * b .page + l .a + 1)) (sym (z .6)) (sym (z .7))
     (cell-added w la lb (c .before .before .before .before .before .before .before .before .before .before .pre .0) (l .inv .3) (c .before .work .result) x (z .0 .taken) u own
-    (subst (λ (d : ℕ). Added (b .p .entries) (Crossing (b .p) (Field d (refs W d)) W T) (l .i) (z .3 .result) (l .remember) (z .3 .last .1 .1 .1 .0)) (z .1 .ensures) (z .3 .ensures))))
+    (subst (λ (d : ℕ). Added (b .p .entries) (Crossing (b .p) (Field d (refsOf W d)) W T) (l .i) (z .3 .result) (l .remember) (z .3 .last .1 .1 .1 .0)) (z .1 .ensures) (z .3 .ensures))))
     (λ z. subst₂ (P (16 * b .page + l .a + 1)) (sym (z .1)) (sym (z .2)) (cell-null w la lb (c .before .before .before .before .before .before .before .before .before .before .pre .0) (l .inv .3) (c .before .work .result) x (z .0 .left)))
     (c .if1 .came) in
     (omega (arith, c .before .before .before .loop-test .taken), l .inv .1, h .size, subst (λ (y : ℕ). P y (c .if1 .remember) (c .if1 .i)) e h)

@@ -5,15 +5,14 @@ use lib.ListN.{length}
 use Prim.Native.Nat.{ℕ, _≤_, _+_, _-_, _/_}
 use mathlib.Core.List.{List}
 use mathlib.Core.Path.{_≡_, refl, sym, ap, _∙_, subst}
-use Rattle.layout.specs.Cells.{fieldOf}
-use Rattle.evacuate.specs.Marks.{refs}
+use Rattle.layout.specs.Cells.{fieldOf, refsOf}
 use Rattle.evacuate.specs.Rewrite.{Names, moveRef, Rewritten, Field, fields-start, field-names, field-moved}
 use Rattle.evacuate.proofs.rewrite.rewrite_cell.Statement.{statement}
 use Rattle.evacuate.proofs.rewrite.rewrite_cell.Tie as tie
 
 abbrev Inv-loop : tie.InvT-loop
 Inv-loop p cells₀ tables region cell n f₀ cells f =
-    (f ≤ n) × (n ≡ refs cells₀ cell) × (length cells ≡ length cells₀) × Rewritten p region (Field cell f) tables cells₀ cells
+    (f ≤ n) × (n ≡ refsOf cells₀ cell) × (length cells ≡ length cells₀) × Rewritten p region (Field cell f) tables cells₀ cells
 
 abbrev μ-loop : tie.MeasureT-loop
 μ-loop p cells₀ tables region cell n f₀ cells f =
@@ -63,7 +62,7 @@ returns : tie.Need-returns Inv-loop μ-loop
 returns c =
     let a = c .before .before .before .before .before .before .before .args in
     let l = c .before .loop in
-    let e : l .f ≡ refs (a .cells .now) (a .cell) = omega (arith, l .inv .0, l .inv .1) in
+    let e : l .f ≡ refsOf (a .cells .now) (a .cell) = omega (arith, l .inv .0, l .inv .1) in
     subst (λ (y : ℕ). Rewritten (a .p) (a .region) (Field (a .cell) y) (a .tables .now) (a .cells .now) (l .cells)) e (l .inv .3)
 
 pub rewrite-cell-spec : {M : Type 1} → statement M

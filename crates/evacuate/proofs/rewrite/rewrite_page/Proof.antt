@@ -7,9 +7,8 @@ use mathlib.Core.List.{List}
 use mathlib.Core.Logic.{⊎-elim}
 use mathlib.Core.Path.{_≡_, refl, sym, ap, _∙_, subst}
 use Rattle.layout.specs.Places.{ownerOf, usedOf}
-use Rattle.layout.specs.Cells.{workOf}
+use Rattle.layout.specs.Cells.{workOf, refsOf}
 use Rattle.promises.specs.Words.{InUse}
-use Rattle.evacuate.specs.Marks.{refs}
 use Rattle.evacuate.specs.Rewrite.{Rewritten, Field, Fields, CopySlot, Between, copies-start, copy-fields, copy-moved, copy-null, page-done, in-page, on-page}
 use Rattle.evacuate.proofs.rewrite.rewrite_page.Statement.{statement}
 use Rattle.evacuate.proofs.rewrite.rewrite_page.Tie as tie
@@ -66,7 +65,7 @@ rewrite-cell-requires c κs =
     let lb : 16 * a .page + l .i < 16 * (a .page + 1) = omega arith in
     let la : 16 * a .page ≤ 16 * a .page + l .i = omega arith in
     let f = copy-fields w la lb (l .inv .3) (c .before .before .before .work .result) (forward (c .before .before .before)) (c .before .before .if1 .taken) u own in
-    (subst (λ (d : ℕ). Fields (a .p) (refs (l .cells) d) d (l .cells)) (sym (c .cell-named .ensures)) f, w .tables-long)
+    (subst (λ (d : ℕ). Fields (a .p) (refsOf (l .cells) d) d (l .cells)) (sym (c .cell-named .ensures)) f, w .tables-long)
 
 add-i : tie.Need-add-i Inv-loop μ-loop
 add-i c = omega (arith, c .before .before .before .before .before .before .before .before .before .before .pre .0 .full (c .before .before .before .before .before .before .before .before .before .before .args .page) (c .before .before .before .before .before .before .before .before .before .before .pre .1 .0), c .before .before .before .before .before .loop .inv .1, c .before .before .before .before .loop-test .taken)
@@ -94,7 +93,7 @@ loop-again c =
     ⊎-elim
     (λ z. subst (P (16 * a .page + l .i + 1)) (sym (z .6))
     (copy-moved w la lb (l .inv .3) (c .before .work .result) x (z .0 .taken) u own
-    (subst (λ (d : ℕ). Rewritten (a .p) (a .region) (Field d (refs (l .cells) d)) T (l .cells) (z .3 .last .1 .0)) (z .2 .ensures) (z .3 .ensures))))
+    (subst (λ (d : ℕ). Rewritten (a .p) (a .region) (Field d (refsOf (l .cells) d)) T (l .cells) (z .3 .last .1 .0)) (z .2 .ensures) (z .3 .ensures))))
     (λ z. subst (P (16 * a .page + l .i + 1)) (sym (z .1)) (copy-null w la lb (l .inv .3) (c .before .work .result) x (z .0 .left)))
     (c .if1 .came) in
     (omega (arith, c .before .before .before .before .loop-test .taken), l .inv .1, h .size, subst (λ (y : ℕ). P y (c .if1 .cells)) e h)

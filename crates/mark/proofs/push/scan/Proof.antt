@@ -5,16 +5,16 @@ use Prim.Native.Nat.{ℕ, _≤_, _<_, _+_, _-_, _/_}
 use native.Mathlib.Omega.{arith}
 use borrow.Author.Needs.{needs}
 use lib.ListN.{length}
-use Rattle.layout.specs.Cells.{fieldOf}
-use Rattle.mark.specs.Marks.{refCount, kept-field}
+use Rattle.layout.specs.Cells.{fieldOf, refsOf}
+use Rattle.mark.specs.Marks.{kept-field}
 use Rattle.mark.specs.Pushes.{Pushing, pushing-start, pushing-kept, pushing-shaped, ref-read, push-read, pushes-kept}
 use Rattle.mark.proofs.push.scan.Statement.{statement}
 use Rattle.mark.proofs.push.scan.Tie as tie
 
 abbrev Inv-loop : tie.InvT-loop
 Inv-loop p cells₀ tables₀ r c top n t₀ f₀ cells tables t f =
-    (f ≤ n) × (n ≡ refCount cells₀ c) × (n ≤ 14) × (length cells ≡ length cells₀) × (length tables ≡ length tables₀)
-    × Pushing p r (fieldOf cells₀ c) (refCount cells₀ c) cells₀ tables₀ top cells tables t f
+    (f ≤ n) × (n ≡ refsOf cells₀ c) × (n ≤ 14) × (length cells ≡ length cells₀) × (length tables ≡ length tables₀)
+    × Pushing p r (fieldOf cells₀ c) (refsOf cells₀ c) cells₀ tables₀ top cells tables t f
 
 abbrev μ-loop : tie.MeasureT-loop
 μ-loop p cells₀ tables₀ r c top n t₀ f₀ cells tables t f = n - f
@@ -29,7 +29,7 @@ field-count-requires c κs =
 
 loop-holds : tie.Need-loop-holds Inv-loop μ-loop
 loop-holds c =
-    let e : c .field-count .result ≡ refCount (c .before .before .before .before .before .args .cells .now) (c .before .before .before .before .before .args .c) = c .field-count .ensures ∙ ap (λ (x : ℕ). x / 16) (c .before .head .ensures) in
+    let e : c .field-count .result ≡ refsOf (c .before .before .before .before .before .args .cells .now) (c .before .before .before .before .before .args .c) = c .field-count .ensures ∙ ap (λ (x : ℕ). x / 16) (c .before .head .ensures) in
     (omega arith, e, omega (arith, c .before .before .before .before .before .pre .0 .refs-few (c .before .before .before .before .before .args .c) (c .before .before .before .before .before .pre .1)), refl, refl, pushing-start _ _ _ _ _ _ _)
 
 field-requires : tie.Need-field-requires Inv-loop μ-loop
@@ -39,7 +39,7 @@ field-requires c κs =
 push-requires : tie.Need-push-requires Inv-loop μ-loop
 push-requires c κs =
     let l = c .before .before .before .before .before .loop in
-    let lt : l .f < refCount (c .before .before .before .before .before .before .before .before .before .before .before .args .cells .now) (c .before .before .before .before .before .before .before .before .before .before .before .args .c) = omega arith in
+    let lt : l .f < refsOf (c .before .before .before .before .before .before .before .before .before .before .before .args .cells .now) (c .before .before .before .before .before .before .before .before .before .before .before .args .c) = omega arith in
     let u = c .before .before .before .before .before .before .before .before .before .before .before .pre .0 .references (c .before .before .before .before .before .before .before .before .before .before .before .args .c) (c .before .before .before .before .before .before .before .before .before .before .before .pre .1) in
     let k = pushing-kept (c .before .before .before .before .before .before .before .before .before .before .before .pre .0) u lt (l .inv .5) in
     (pushing-shaped (c .before .before .before .before .before .before .before .before .before .before .before .pre .0) u lt (l .inv .5), ref-read (c .before .before .before .before .before .before .before .before .before .before .before .pre .0) u lt (l .inv .5) (c .field .result) (c .field .ensures ∙ kept-field k (c .before .before .before .before .before .before .before .before .before .before .before .args .c) (l .f) (omega arith)))
@@ -55,7 +55,7 @@ loop-less c =
 loop-again : tie.Need-loop-again Inv-loop μ-loop
 loop-again c =
     let l = c .before .before .before .before .before .before .before .before .before .before .loop in
-    let lt : l .f < refCount (c .before .before .before .before .before .before .before .before .before .before .before .before .before .before .before .before .args .cells .now) (c .before .before .before .before .before .before .before .before .before .before .before .before .before .before .before .before .args .c) = omega arith in
+    let lt : l .f < refsOf (c .before .before .before .before .before .before .before .before .before .before .before .before .before .before .before .before .args .cells .now) (c .before .before .before .before .before .before .before .before .before .before .before .before .before .before .before .before .args .c) = omega arith in
     let u = c .before .before .before .before .before .before .before .before .before .before .before .before .before .before .before .before .pre .0 .references (c .before .before .before .before .before .before .before .before .before .before .before .before .before .before .before .before .args .c) (c .before .before .before .before .before .before .before .before .before .before .before .before .before .before .before .before .pre .1) in
     let k = pushing-kept (c .before .before .before .before .before .before .before .before .before .before .before .before .before .before .before .before .pre .0) u lt (l .inv .5) in
     let h = push-read (c .before .before .before .before .before .before .before .before .before .before .before .before .before .before .before .before .pre .0) u lt (l .inv .5) (c .before .before .before .before .before .field .result) (c .before .before .before .before .before .field .ensures ∙ kept-field k (c .before .before .before .before .before .before .before .before .before .before .before .before .before .before .before .before .args .c) (l .f) (omega arith)) (c .before .before .before .before .push .ensures) in
@@ -73,8 +73,8 @@ same-length-2 c =
 returns : tie.Need-returns Inv-loop μ-loop
 returns c =
     let l = c .before .loop in
-    let e : l .f ≡ refCount (c .before .before .before .before .before .before .before .args .cells .now) (c .before .before .before .before .before .before .before .args .c) = omega arith in
-    subst (λ (f : ℕ). Pushing (c .before .before .before .before .before .before .before .args .p) (c .before .before .before .before .before .before .before .args .r) (fieldOf (c .before .before .before .before .before .before .before .args .cells .now) (c .before .before .before .before .before .before .before .args .c)) (refCount (c .before .before .before .before .before .before .before .args .cells .now) (c .before .before .before .before .before .before .before .args .c)) (c .before .before .before .before .before .before .before .args .cells .now) (c .before .before .before .before .before .before .before .args .tables .now) (c .before .before .before .before .before .before .before .args .top) (l .cells) (l .tables) (l .t) f) e (l .inv .5)
+    let e : l .f ≡ refsOf (c .before .before .before .before .before .before .before .args .cells .now) (c .before .before .before .before .before .before .before .args .c) = omega arith in
+    subst (λ (f : ℕ). Pushing (c .before .before .before .before .before .before .before .args .p) (c .before .before .before .before .before .before .before .args .r) (fieldOf (c .before .before .before .before .before .before .before .args .cells .now) (c .before .before .before .before .before .before .before .args .c)) (refsOf (c .before .before .before .before .before .before .before .args .cells .now) (c .before .before .before .before .before .before .before .args .c)) (c .before .before .before .before .before .before .before .args .cells .now) (c .before .before .before .before .before .before .before .args .tables .now) (c .before .before .before .before .before .before .before .args .top) (l .cells) (l .tables) (l .t) f) e (l .inv .5)
 
 pub scan-spec : {M : Type 1} → statement M
 scan-spec =
