@@ -38,7 +38,7 @@ pub record Chained (s : Sizes) (h : Regioned) (cellOf : ℕ → ℕ) {w w′ : W
   pub allowed : less ms as′ ≡ ru.allowed s h ms
   pub followed : Followed s c (pairsOf h cellOf) (pairsOf (ru.run s h ms .last) cell)
 
-chained : (s : Sizes) {w w′ : Words} {ms : List Command} {as′ : List Answer} (c : Chain s w ms as′ w′) (h : Regioned) (cellOf : ℕ → ℕ) → StandsFor s w h cellOf → Chained s h cellOf c
+pub chained : (s : Sizes) {w w′ : Words} {ms : List Command} {as′ : List Answer} (c : Chain s w ms as′ w′) (h : Regioned) (cellOf : ℕ → ℕ) → StandsFor s w h cellOf → Chained s h cellOf c
 unfolding ru.run ru.allowed less
 chained s none h cellOf st = record { cell = cellOf; stands = st; answers = refl; allowed = refl; followed = refl }
 chained s (more {m = m} {a = a} {ms = ms} {as′ = as′} did rest) h cellOf st =

@@ -7,7 +7,7 @@ use native.Mathlib.Omega.{arith}
 use lib.ListN.{length, getD, drop, set, length-set}
 use lib.Seq.{drop-drop}
 use lib.Dec.{ltb}
-use borrow.Author.Tests.{ltb-false}
+use borrow.Author.Tests.{ltb-true, ltb-false}
 use Rattle.lists.specs.Stores.{put, past}
 use Rattle.script.specs.declared.Line.{Line}
 use Rattle.script.specs.declared.Line.the-variants.{Numbers, Malformed}
@@ -17,7 +17,7 @@ use Rattle.script.specs.declared.Step.the-variants.{More, Ended}
 use Rattle.script.specs.declared.Filled.{Filled}
 use Rattle.script.specs.declared.Filled.the-variants.{Done, Full, Broken}
 use Rattle.script.specs.Reading.{started, stepOf}
-use Rattle.script.specs.TextLaws.{reading}
+use Rattle.script.specs.TextLaws.{found, left}
 use Rattle.script.specs.Blocks.{wordsPut, filled}
 use Rattle.script.specs.BlocksCases.{stepped, length-words}
 
@@ -101,34 +101,34 @@ usedIn (Done s n) = n
 usedIn (Full at n) = n
 usedIn (Broken n) = n
 
--- the lines that follow the commands taken, if more bytes come after the buffer
-unfoldable pub Follow : Filled → List ℕ → List ℕ → List Line → Type 0
-Follow (Done s n) text more ls = ls ≡ reading s more
-Follow (Full at n) text more ls = ls ≡ reading started (drop at text ++ more)
-Follow (Broken n) text more ls = (rest : List Line) × (ls ≡ Malformed ∷ rest)
+-- what follows the commands taken: lines, and the reader after them
+unfoldable pub Follow : Filled → List ℕ → List Line → Reader → Type 0
+Follow (Done s n) text ls r = (ls ≡ []) × (r ≡ s)
+Follow (Full at n) text ls r = (ls ≡ found started (drop at text)) × (r ≡ left started (drop at text))
+Follow (Broken n) text ls r = (rest : List Line) × (ls ≡ Malformed ∷ rest)
 
 -- these lines are the commands that the block took behind its first n words, and those that follow
-pub record Taken (ls : List Line) (text more : List ℕ) (n : ℕ) (p : Filled × List ℕ) : Type 0 where
+pub record Taken (ls : List Line) (r : Reader) (text : List ℕ) (n : ℕ) (p : Filled × List ℕ) : Type 0 where
   pub count : ℕ
   pub used : usedIn (p .0) ≡ n + 5 * count
   pub after : List Line
-  pub found : ls ≡ commandsIn (p .1) n count ++ after
-  pub follow : Follow (p .0) text more after
+  pub lines : ls ≡ commandsIn (p .1) n count ++ after
+  pub follow : Follow (p .0) text after r
 
-module _ (text more xs : List ℕ) (at : ℕ) (f : drop at text ≡ xs) (block : List ℕ) (n : ℕ) (room : n + 5 ≤ length block) where
+module _ (text xs : List ℕ) (at : ℕ) (f : drop at text ≡ xs) (block : List ℕ) (n : ℕ) (room : n + 5 ≤ length block) where
   -- a line of five numbers: it fills the block, or there is room for another
   taken-numbers : (code thread a b c : ℕ) (t : Bool) → ltb (length block) (n + 5 + 5) ≡ t
-      → ((w : List ℕ) → n + 5 + 5 ≤ length w → Taken (reading started (xs ++ more)) text more (n + 5) (filled started xs at w (n + 5)))
-      → Taken (Numbers code thread a b c ∷ reading started (xs ++ more)) text more n
+      → ((w : List ℕ) → n + 5 + 5 ≤ length w → Taken (found started xs) (left started xs) text (n + 5) (filled started xs at w (n + 5)))
+      → Taken (Numbers code thread a b c ∷ found started xs) (left started xs) text n
       (cond t (Full at (n + 5), wordsPut block n code thread a b c) (filled started xs at (wordsPut block n code thread a b c) (n + 5)))
   unfolding commandsIn Follow
   taken-numbers code thread a b c true e rest =
       record {
         count = 1;
         used = omega arith;
-        after = reading started (xs ++ more);
-        found = ap (λ (l : Line). l ∷ reading started (xs ++ more)) (sym (words-are block n code thread a b c room));
-        follow = ap (λ (l : List ℕ). reading started (l ++ more)) (sym f);
+        after = found started xs;
+        lines = ap (λ (l : Line). l ∷ found started xs) (sym (words-are block n code thread a b c room));
+        follow = (ap (found started) (sym f), ap (left started) (sym f));
       }
   taken-numbers code thread a b c false e rest =
       let w : List ℕ = wordsPut block n code thread a b c in
@@ -140,29 +140,61 @@ module _ (text more xs : List ℕ) (at : ℕ) (f : drop at text ≡ xs) (block :
         count = suc (g .count);
         used = omega (arith, g .used);
         after = g .after;
-        found = ap₂ (λ (l : Line) (ls : List Line). l ∷ ls) (sym (same ∙ words-are block n code thread a b c room)) (g .found);
+        lines = ap₂ (λ (l : Line) (ls : List Line). l ∷ ls) (sym (same ∙ words-are block n code thread a b c room)) (g .lines);
         follow = g .follow;
       }
 
   taken-step : (y : Step)
-      → ((s : Reader) (w : List ℕ) (m : ℕ) → m + 5 ≤ length w → Taken (reading s (xs ++ more)) text more m (filled s xs at w m))
-      → Taken (elim y as (λ z. List Line) [ More s ↦ reading s (xs ++ more) | Ended l ↦ l ∷ reading started (xs ++ more) ]) text more n (stepped y xs at block n)
+      → ((s : Reader) (w : List ℕ) (m : ℕ) → m + 5 ≤ length w → Taken (found s xs) (left s xs) text m (filled s xs at w m))
+      → Taken (elim y as (λ z. List Line) [ More s ↦ found s xs | Ended l ↦ l ∷ found started xs ])
+      (elim y as (λ z. Reader) [ More s ↦ left s xs | Ended l ↦ left started xs ]) text n (stepped y xs at block n)
   unfolding stepped commandsIn Follow
   taken-step (More s) rest = rest s block n room
   taken-step (Ended (Numbers code thread a b c)) rest =
       taken-numbers code thread a b c (ltb (length block) (n + 5 + 5)) refl (λ w h. rest started w (n + 5) h)
   taken-step (Ended Malformed) rest =
-      record { count = 0; used = omega arith; after = Malformed ∷ reading started (xs ++ more); found = refl; follow = (reading started (xs ++ more), refl) }
+      record { count = 0; used = omega arith; after = Malformed ∷ found started xs; lines = refl; follow = (found started xs, refl) }
 
-taken-all : (text more bs : List ℕ) (r : Reader) (at : ℕ) (block : List ℕ) (n : ℕ) → drop at text ≡ bs → n + 5 ≤ length block
-    → Taken (reading r (bs ++ more)) text more n (filled r bs at block n)
-unfolding reading filled stepped commandsIn Follow
-taken-all text more [] r at block n e room = record { count = 0; used = omega arith; after = reading r more; found = refl; follow = refl }
-taken-all text more (x ∷ xs) r at block n e room =
+taken-all : (text bs : List ℕ) (r : Reader) (at : ℕ) (block : List ℕ) (n : ℕ) → drop at text ≡ bs → n + 5 ≤ length block
+    → Taken (found r bs) (left r bs) text n (filled r bs at block n)
+unfolding found left filled stepped commandsIn Follow
+taken-all text [] r at block n e room = record { count = 0; used = omega arith; after = []; lines = refl; follow = (refl, refl) }
+taken-all text (x ∷ xs) r at block n e room =
     let f : drop (at + 1) text ≡ xs = sym (drop-drop 1 at text) ∙ ap (drop 1) e in
-    taken-step text more xs (at + 1) f block n room (stepOf r x) (λ s w m h. taken-all text more xs s (at + 1) w m f h)
+    taken-step text xs (at + 1) f block n room (stepOf r x) (λ s w m h. taken-all text xs s (at + 1) w m f h)
 
--- A block takes the commands of the next lines of the text, in order, and leaves the rest.
-pub block-reads : (r : Reader) (text : List ℕ) (at : ℕ) (more block : List ℕ) (n : ℕ) → n + 5 ≤ length block
-    → Taken (reading r (drop at text ++ more)) text more n (filled r (drop at text) at block n)
-block-reads r text at more block n room = taken-all text more (drop at text) r at block n refl room
+-- A block takes the commands of the next lines of a piece of text, in order, and leaves the rest.
+pub block-reads : (r : Reader) (text : List ℕ) (at : ℕ) (block : List ℕ) (n : ℕ) → n + 5 ≤ length block
+    → Taken (found r (drop at text)) (left r (drop at text)) text n (filled r (drop at text) at block n)
+block-reads r text at block n room = taken-all text (drop at text) r at block n refl room
+
+-- ---- how much it takes
+
+pub length-found : (bs : List ℕ) (r : Reader) → length (found r bs) ≤ length bs
+unfolding found
+length-found [] r = omega arith
+length-found (b ∷ bs) r = go (stepOf r b) (λ s. length-found bs s)
+  where
+    go : (x : Step) → ((s : Reader) → length (found s bs) ≤ length bs)
+        → length {A = Line} (elim x as (λ y. List Line) [ More s ↦ found s bs | Ended l ↦ l ∷ found started bs ]) ≤ suc (length bs)
+    go (More s) h = omega (arith, h s)
+    go (Ended l) h = omega (arith, h started)
+
+-- a block with five words for each byte, and five more, is not filled
+pub never-full : (bs : List ℕ) (r : Reader) (at : ℕ) (block : List ℕ) (n : ℕ) → n + 5 * length bs + 5 ≤ length block
+    → (e m : ℕ) → filled r bs at block n .0 ≡ Full e m → ⊥
+unfolding filled stepped
+never-full [] r at block n h e m q = let z : _≡_ {A = ℕ} 0 1 = cc in omega arith
+never-full (x ∷ xs) r at block n h e m q = go (stepOf r x) (λ s w k l. never-full xs s (at + 1) w k l e m) q
+  where
+    ask : (code thread a b c : ℕ) (t : Bool) → ltb (length block) (n + 5 + 5) ≡ t
+        → ((s : Reader) (w : List ℕ) (k : ℕ) → k + 5 * length xs + 5 ≤ length w → filled s xs (at + 1) w k .0 ≡ Full e m → ⊥)
+        → cond t (Full (at + 1) (n + 5), wordsPut block n code thread a b c) (filled started xs (at + 1) (wordsPut block n code thread a b c) (n + 5)) .0 ≡ Full e m → ⊥
+    ask code thread a b c true q f z = omega (arith, ltb-true (length block) (n + 5 + 5) q)
+    ask code thread a b c false q f z = f started (wordsPut block n code thread a b c) (n + 5) (omega (arith, length-words block n code thread a b c)) z
+
+    go : (y : Step) → ((s : Reader) (w : List ℕ) (k : ℕ) → k + 5 * length xs + 5 ≤ length w → filled s xs (at + 1) w k .0 ≡ Full e m → ⊥)
+        → stepped y xs (at + 1) block n .0 ≡ Full e m → ⊥
+    go (More s) f q = f s block n (omega arith) q
+    go (Ended (Numbers code thread a b c)) f q = ask code thread a b c (ltb (length block) (n + 5 + 5)) refl f q
+    go (Ended Malformed) f q = let z : _≡_ {A = ℕ} 0 1 = cc in omega arith

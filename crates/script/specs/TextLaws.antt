@@ -117,28 +117,29 @@ reads-pieces pieces = piecewise-reads pieces started ∙ reads-text (flatten pie
 
 -- ---- a buffer, line by line
 
--- what is found in the rest of a text, this buffer and more, after a scan of the buffer
-unfoldable pub onwards : Scan → List ℕ → List ℕ → List Line
-onwards (Open s) text more = reading s more
-onwards (Found l n) text more = l ∷ reading started (drop n text ++ more)
+-- what a piece of a text brings, its lines and the reader after it, by a scan of it: none, or a line and what the rest brings
+unfoldable pub Brings : Scan → List ℕ → List Line → Reader → Type 0
+Brings (Open s) text ls r = (ls ≡ []) × (r ≡ s)
+Brings (Found l n) text ls r = (ls ≡ l ∷ found started (drop n text)) × (r ≡ left started (drop n text))
 
-scan-onwards : (bs : List ℕ) (r : Reader) (text : List ℕ) (at : ℕ) (more : List ℕ) → drop at text ≡ bs → reading r (bs ++ more) ≡ onwards (scanned r bs at) text more
-unfolding reading scanned onwards
-scan-onwards [] r text at more e = refl
-scan-onwards (b ∷ bs) r text at more e = go (stepOf r b) (λ s. scan-onwards bs s text (at + 1) more f)
+scan-brings : (bs : List ℕ) (r : Reader) (text : List ℕ) (at : ℕ) → drop at text ≡ bs → Brings (scanned r bs at) text (found r bs) (left r bs)
+unfolding found left scanned Brings
+scan-brings [] r text at e = (refl, refl)
+scan-brings (b ∷ bs) r text at e = go (stepOf r b) (λ s. scan-brings bs s text (at + 1) f)
   where
     f : drop (at + 1) text ≡ bs
     f = sym (drop-drop 1 at text) ∙ ap (drop 1) e
 
-    go : (x : Step) → ((s : Reader) → reading s (bs ++ more) ≡ onwards (scanned s bs (at + 1)) text more)
-        → elim x as (λ y. List Line) [ More s ↦ reading s (bs ++ more) | Ended l ↦ l ∷ reading started (bs ++ more) ]
-        ≡ onwards (elim x as (λ y. Scan) [ More s ↦ scanned s bs (at + 1) | Ended l ↦ Found l (at + 1) ]) text more
+    go : (x : Step) → ((s : Reader) → Brings (scanned s bs (at + 1)) text (found s bs) (left s bs))
+        → Brings (elim x as (λ y. Scan) [ More s ↦ scanned s bs (at + 1) | Ended l ↦ Found l (at + 1) ]) text
+        (elim x as (λ y. List Line) [ More s ↦ found s bs | Ended l ↦ l ∷ found started bs ])
+        (elim x as (λ y. Reader) [ More s ↦ left s bs | Ended l ↦ left started bs ])
     go (More s) h = h s
-    go (Ended l) h = ap (λ (t : List ℕ). l ∷ reading started (t ++ more)) (sym f)
+    go (Ended l) h = (ap (λ (t : List ℕ). l ∷ found started t) (sym f), ap (left started) (sym f))
 
--- A scan takes the next line of the text, if it ends in the buffer, and leaves the rest.
-pub scan-reads : (r : Reader) (text : List ℕ) (at : ℕ) (more : List ℕ) → reading r (drop at text ++ more) ≡ onwards (scanned r (drop at text) at) text more
-scan-reads r text at more = scan-onwards (drop at text) r text at more refl
+-- A scan takes the next line of a piece, if one ends in it, and leaves the rest.
+pub scan-reads : (r : Reader) (text : List ℕ) (at : ℕ) → Brings (scanned r (drop at text) at) text (found r (drop at text)) (left r (drop at text))
+scan-reads r text at = scan-brings (drop at text) r text at refl
 
 -- a scan that finds a line goes on by a byte at least, and stays within the buffer
 scan-bounds : (bs : List ℕ) (r : Reader) (at : ℕ) (l : Line) (n : ℕ) → scanned r bs at ≡ Found l n → (at < n) × (n ≤ at + length bs)

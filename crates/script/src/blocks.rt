@@ -61,7 +61,7 @@ pub fn read_block(text: &[u8], from: usize, r: Reader, block: &mut [u32], used: 
 // The answers to so many commands, a line each.
 pub fn put_answers(out: &mut [u8], at: usize, answers: &[u32], count: usize) -> usize
     requires { ⌜ (at + 22 * count ≤ length (now out)) × (2 * count ≤ length (now answers)) ⌝ }
-    ensures { λ r. ⌜ Put (now (out .entry)) at (stacked (answerLine (now (answers .entry))) count) (now (out .exit)) r ⌝ }
+    ensures { λ r. ⌜ Put (now (out .entry)) at (stacked (answerLine (now (answers .entry))) count) (now (out .exit)) r × (r ≤ at + 22 * count) ⌝ }
 {
     let mut end = at;
     let mut i = 0;

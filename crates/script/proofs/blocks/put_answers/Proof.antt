@@ -67,7 +67,7 @@ same-length c = omega arith
 returns : tie.Need-returns Inv-loop μ-loop
 returns c =
     let all : c .before .loop .i ≡ c .before .before .before .before .args .count = omega arith in
-    put-text (ap (stacked (answerLine (c .before .before .before .before .args .answers .now))) all) (c .before .loop .inv .3)
+    (put-text (ap (stacked (answerLine (c .before .before .before .before .args .answers .now))) all) (c .before .loop .inv .3), omega arith)
 
 pub put-answers-spec : {M : Type 1} → statement M
 put-answers-spec =
