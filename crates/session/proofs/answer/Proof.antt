@@ -1,0 +1,49 @@
+-- The commands are obeyed, and their answers written.
+use mathlib.Core.Path.{sym}
+use native.Mathlib.Omega.{arith}
+use lib.Seq.{length-take-le}
+use Rattle.session.specs.Obeying.{answered}
+use borrow.Author.Needs.{needs}
+use Rattle.session.proofs.answer.Statement.{statement}
+use Rattle.session.proofs.answer.Tie as tie
+
+slice-aggregate-taldreku-run : tie.Need-slice-aggregate-taldreku-run
+slice-aggregate-taldreku-run c = sym (length-take-le _ _ (c .before .before .before .before .before .before .before .before .before .before .pre .0 .words))
+
+taldreku-run-requires : tie.Need-taldreku-run-requires
+taldreku-run-requires c κs = search needs
+
+put-answers-requires : tie.Need-put-answers-requires
+put-answers-requires c κs = search needs
+
+same-length : tie.Need-same-length
+same-length c = search needs
+
+same-length-2 : tie.Need-same-length-2
+same-length-2 c = search needs
+
+same-length-3 : tie.Need-same-length-3
+same-length-3 c = search needs
+
+same-length-4 : tie.Need-same-length-4
+same-length-4 c = search needs
+
+same-length-5 : tie.Need-same-length-5
+same-length-5 c = search needs
+
+returns : tie.Need-returns
+returns c = (answered (c .before .before .before .before .before .before .before .before .before .before .before .before .before .before .before .before .before .before .before .before .before .before .before .before .before .args .used) (c .before .before .before .before .before .before .before .before .before .before .before .before .before .before .before .before .before .before .before .before .before .before .before .before .before .pre .0) (c .before .before .before .before .before .before .before .before .before .before .before .before .before .taldreku-run .ensures) (c .before .before .put-answers .ensures .0), omega (arith, c .before .before .put-answers .ensures .1))
+
+pub answer-spec : {M : Type 1} → statement M
+answer-spec =
+    tie.close
+    (tie.spec
+    slice-aggregate-taldreku-run
+    taldreku-run-requires
+    put-answers-requires
+    same-length
+    same-length-2
+    same-length-3
+    same-length-4
+    same-length-5
+    returns)
