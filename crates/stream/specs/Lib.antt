@@ -1,0 +1,2 @@
+-- The buffers of the loop.
+pub mod Buffers
