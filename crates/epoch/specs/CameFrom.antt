@@ -17,12 +17,13 @@ use Rattle.promises.specs.Words.{InUse}
 use Rattle.evacuate.specs.Marks.{mark?}
 use Rattle.evacuate.specs.Passing.{Ready}
 use Rattle.evacuate.specs.Forward.{Forwards, forward}
-use Rattle.evacuate.specs.Rewrite.{moveRef, move-null, move-in, move-out, Rewritten, refs-same, Old}
+use Rattle.evacuate.specs.Rewrite.{moveRef, move-null, move-in, move-out, Rewritten, refs-same}
 use Rattle.evacuate.specs.Append.{crossAt, Crosses}
 use Rattle.evacuate.specs.Update.{Copies}
 use Rattle.evacuate.specs.Links.{Start}
 use Rattle.evacuate.specs.Table.{cross-value}
 use Rattle.evacuate.specs.Stages.{Lives}
+use Rattle.evacuate.specs.RewriteCopies.{Old}
 
 -- the cell that an object has after the copy
 unfoldable pub cellNow : Places → ℕ → List ℕ → List ℕ → ℕ → ℕ

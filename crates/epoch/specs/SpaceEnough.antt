@@ -27,10 +27,11 @@ use Rattle.promises.specs.Reading.{used-home}
 use Rattle.mark.specs.Survivors.{Marked}
 use Rattle.mark.specs.Reached.{cell-home}
 use Rattle.evacuate.specs.Forward.{Forwards}
-use Rattle.evacuate.specs.Rewrite.{Rewritten, Remembered}
+use Rattle.evacuate.specs.Rewrite.{Rewritten}
 use Rattle.evacuate.specs.Update.{Copies}
 use Rattle.evacuate.specs.Append.{Crosses}
 use Rattle.evacuate.specs.Stages.{Lives, Space}
+use Rattle.evacuate.specs.RewriteSlots.{Remembered}
 use Rattle.ended.specs.EndQuestion.{crossingAfter}
 use Rattle.epoch.specs.MarkedWords.{owner-same, use-then, head-same, word-same, ready}
 use Rattle.epoch.specs.PagesEnough.{marked-survivor}

@@ -23,10 +23,10 @@ use Rattle.promises.specs.Whole.{WholeFor, IsRef}
 use Rattle.promises.specs.Reading.{used-home, used-alive, alive-used, words-closed, length-refs, getD-refs, getD-vars}
 use Rattle.mark.specs.Survivors.{Marked}
 use Rattle.mark.specs.Reached.{cell-home}
-use Rattle.evacuate.specs.Rewrite.{Remembered}
 use Rattle.evacuate.specs.Links.{Start}
 use Rattle.evacuate.specs.Table.{remembered-old, remembered-into, remembered-slots}
 use Rattle.evacuate.specs.Stages.{Lives}
+use Rattle.evacuate.specs.RewriteSlots.{Remembered}
 use Rattle.ended.specs.Evacuated.{Survivor}
 use Rattle.epoch.specs.MarkedWords.{owner-same, var-same, use-now, use-then, head-same, word-same}
 use Rattle.epoch.specs.PagesEnough.{marked-survivor, unmarked-freed, survivor-level}

@@ -1,21 +1,21 @@
 -- The crossing slots of the copies come into the remember table.
-use mathlib.Core.Path.{_≡_, refl, sym, ap, ap₂, _∙_, subst}
+use mathlib.Core.Path.{_≡_, refl, sym, ap, _∙_, subst}
 use mathlib.Core.Logic.{_≢_, _⊎_, inl, inr, ⊎-elim}
-use mathlib.Core.Bool.{Bool, true, false, cond}
+use mathlib.Core.Bool.{cond}
 use mathlib.Core.List.{List}
-use Prim.Native.Nat.{ℕ, zero, suc, _+_, _-_, _*_, _/_, _%_, _^_, _≤_, _<_}
+use Prim.Native.Nat.{ℕ, _+_, _-_, _*_, _/_, _%_, _≤_, _<_}
 use native.Mathlib.Decide.{ℕ-discrete, decLt}
 use native.Mathlib.Omega.{arith}
-use borrow.Author.Tests.{eq-eqb, ne-eqb, le-leb, lt-leb, lt-ltb, le-ltb}
-use lib.Dec.{eqb, leb, ltb}
-use lib.ListN.{length, getD, set, length-set}
-use lib.Seq.{getD-set-same, getD-set-other}
+use borrow.Author.Tests.{lt-ltb, le-ltb}
+use lib.Dec.{ltb}
+use lib.ListN.{length, getD, set}
 use Rattle.layout.specs.declared.Places.{Places}
-use Rattle.layout.specs.Places.{ownerOf, usedOf, slotIn, slotRegionIn}
+use Rattle.layout.specs.Places.{ownerOf, usedOf, slotIn}
 use Rattle.layout.specs.Cells.{workOf, fieldOf, refsOf}
 use Rattle.promises.specs.Words.{InUse}
-use Rattle.evacuate.specs.Rewrite.{Names, Field, Fields, CopySlot, Old, Wiring, Between, slots-apart, slot-less}
-use Rattle.evacuate.specs.Entries.{crossOf, newRegion, Added, added-none, added-one, added-join, added-like, slot-below, region-below, slot-above, region-above, Stays}
+use Rattle.evacuate.specs.Entries.{crossOf, Added, added-none, added-one, added-join, added-like, slot-below}
+use Rattle.evacuate.specs.RewriteSlots.{Field, Fields}
+use Rattle.evacuate.specs.RewriteCopies.{CopySlot, Old, Wiring, Between, slots-apart, slot-less}
 
 -- the region into which the word at x crosses, if it is a slot
 abbrev pub crossAt : (p : Places) (W T : List ℕ) → ℕ → ℕ

@@ -1,16 +1,15 @@
 -- The page cursor of a pass: the page that the target's next object goes to, and a bound below which every free page lies. Free pages
 -- only become fewer during an end, so the bound only falls.
-use mathlib.Core.Path.{_≡_, refl, sym, ap, _∙_, subst}
+use mathlib.Core.Path.{_≡_, sym, ap, _∙_, subst}
 use mathlib.Core.Logic.{_≢_, _⊎_, inl, inr, ⊎-elim}
 use mathlib.Core.List.{List}
-use Prim.Native.Nat.{ℕ, zero, suc, _+_, _-_, _*_, _≤_, _<_}
+use Prim.Native.Nat.{ℕ, _+_, _-_, _≤_, _<_}
 use native.Mathlib.Decide.{ℕ-discrete, decLt}
 use native.Mathlib.Omega.{arith}
-use lib.ListN.{length, getD}
 use Rattle.layout.specs.declared.Places.{Places}
-use Rattle.layout.specs.Places.{Room, ownerOf, usedOf}
+use Rattle.layout.specs.Places.{ownerOf, usedOf}
 use Rattle.pages.specs.Pages.{Partly, Fresh, Found}
-use Rattle.evacuate.specs.Taking.{regionsOf, Usable, Next, Took, Regular, took-owner, took-used, took-owner-other, took-used-other}
+use Rattle.evacuate.specs.Taking.{regionsOf, Usable, Next, Took, Regular, took-owner, took-owner-other, took-used-other}
 
 -- page q of g has become full, and no page of g has room
 pub record Full (p : Places) (T : List ℕ) (g q : ℕ) : Type 0 where

@@ -1,10 +1,10 @@
 -- The words after an end: which cells live on and where, their words, the variables, the pages, the remember table, and what never changes.
 use mathlib.Core.Path.{_≡_, refl, sym, ap, ap₂, _∙_, subst}
 use mathlib.Core.Logic.{_≢_, _⊎_, inl, inr, ⊎-elim}
-use mathlib.Core.Bool.{Bool, true, false, cond}
+use mathlib.Core.Bool.{Bool, cond}
 use mathlib.Core.List.{List}
-use Prim.Native.Nat.{ℕ, zero, suc, _+_, _-_, _*_, _/_, _%_, _^_, _≤_, _<_}
-use native.Mathlib.Decide.{ℕ-discrete, decLt}
+use Prim.Native.Nat.{ℕ, zero, suc, _+_, _-_, _*_, _/_, _≤_, _<_}
+use native.Mathlib.Decide.{ℕ-discrete}
 use native.Mathlib.Omega.{arith}
 use borrow.Author.Tests.{eq-eqb, ne-eqb}
 use lib.Dec.{eqb}
@@ -12,23 +12,24 @@ use lib.ListN.{length, getD}
 use Rattle.lists.specs.Counting.{sum-same}
 use Rattle.laws.specs.SameRules.{renamed}
 use Rattle.layout.specs.declared.Places.{Places}
-use Rattle.layout.specs.Places.{Room, depthAt, varAt, ownerAt, usedAt, markAt, countAt, depthOf, varOf, ownerOf, usedOf, markOf, countOf, usedIn, slotIn, slotRegionIn}
+use Rattle.layout.specs.Places.{Room, depthAt, varAt, ownerAt, usedAt, markAt, countAt, depthOf, varOf, ownerOf, usedOf, markOf, slotIn}
 use Rattle.layout.specs.Cells.{headOf, workOf, fieldOf, refsOf}
 use Rattle.layout.specs.Marks.{marked}
 use Rattle.promises.specs.Words.{InUse}
-use Rattle.promises.specs.Whole.{objectsOn, objectsOf, RememberWhole}
+use Rattle.promises.specs.Whole.{objectsOn}
 use Rattle.pages.specs.Pages.{Partly}
 use Rattle.evacuate.specs.Marks.{mark?, sameThen}
 use Rattle.evacuate.specs.Taking.{regionsOf, endOf, Regular, room-same}
-use Rattle.evacuate.specs.Passing.{Ready, moves-ready, moves-tables}
-use Rattle.evacuate.specs.Copying.{Plan, Copy, copy-marks}
-use Rattle.evacuate.specs.Forward.{Forwards, forward}
-use Rattle.evacuate.specs.Rewrite.{moveRef, move-null, Rewritten, link-same, head-same, refs-same, ref-same, Remembered, Variables}
-use Rattle.evacuate.specs.Release.{Blank, Alike, Ended, ended-size, ended-word, ended-depth, ended-rest, ended-blank, ended-alike, ended-use, ended-used, ended-regular}
+use Rattle.evacuate.specs.Passing.{Ready, moves-ready}
+use Rattle.evacuate.specs.Copying.{copy-marks}
+use Rattle.evacuate.specs.Forward.{forward}
+use Rattle.evacuate.specs.Rewrite.{moveRef, move-null, link-same, head-same, ref-same}
+use Rattle.evacuate.specs.Release.{Blank, ended-size, ended-depth, ended-rest, ended-blank, ended-alike, ended-use, ended-used, ended-regular}
 use Rattle.evacuate.specs.Update.{Copies}
-use Rattle.evacuate.specs.Links.{Start, old-survivor, ref-survivor, ref-other, copy-refs, copy-after, copy-number, new-home}
-use Rattle.evacuate.specs.Table.{IsSlot, Listed, no-copy, before, into-not}
+use Rattle.evacuate.specs.Links.{old-survivor, ref-survivor, ref-other, copy-refs, copy-after, copy-number, new-home}
+use Rattle.evacuate.specs.Table.{IsSlot, no-copy, before, into-not}
 use Rattle.evacuate.specs.Stages.{Lives, Before, Finished}
+use Rattle.evacuate.specs.RewriteSlots.{Remembered}
 
 -- the cell of an object after the end of r, as the words before and after say: a survivor's forward reference stands in word 1 of its old cell
 unfoldable pub cellAfter : Places → ℕ → List ℕ → List ℕ → ℕ → ℕ

@@ -1,10 +1,10 @@
 -- What a run of moves means for the objects: the forward reference in word 1 of a survivor's old cell is a one-to-one map from the survivors
 -- to cells that were not in use; contents are equal, and nothing else in use is changed.
-use mathlib.Core.Path.{_≡_, refl, sym, ap, ap₂, _∙_, subst}
+use mathlib.Core.Path.{_≡_, refl, sym, ap, _∙_, subst}
 use mathlib.Core.Logic.{_≢_, _⊎_, inl, inr, ⊎-elim}
 use mathlib.Core.List.{List}
-use Prim.Native.Nat.{ℕ, zero, suc, _+_, _-_, _*_, _/_, _%_, _^_, _≤_, _<_}
-use native.Mathlib.Decide.{ℕ-discrete, decLt}
+use Prim.Native.Nat.{ℕ, _+_, _-_, _*_, _/_, _≤_, _<_}
+use native.Mathlib.Decide.{ℕ-discrete}
 use native.Mathlib.Omega.{arith}
 use lib.ListN.{length, getD}
 use Rattle.layout.specs.declared.Places.{Places}
@@ -12,10 +12,8 @@ use Rattle.layout.specs.Places.{ownerOf}
 use Rattle.layout.specs.Cells.{workOf}
 use Rattle.layout.specs.Marks.{marked}
 use Rattle.promises.specs.Words.{InUse}
-use Rattle.evacuate.specs.Marks.{mark?}
 use Rattle.evacuate.specs.Taking.{endOf}
-use Rattle.evacuate.specs.Moves.{Step, step-size, step-rest, step-off, step-on}
-use Rattle.evacuate.specs.Moves.{step-new, step-in-use, step-home, step-keeps, step-owner, step-only, step-link, step-words}
+use Rattle.evacuate.specs.Moves.{Step, step-size, step-rest, step-off, step-on, step-new, step-in-use, step-home, step-keeps, step-owner, step-only, step-link, step-words}
 use Rattle.evacuate.specs.Passing.{Ready, Moves, Moves.none, Moves.more, step-back, moves-ready}
 use Rattle.evacuate.specs.Copying.{Plan, Copy, copy-clean}
 

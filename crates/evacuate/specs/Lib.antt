@@ -7,6 +7,8 @@ pub mod Passing
 pub mod Copying
 pub mod Forward
 pub mod Rewrite
+pub mod RewriteSlots
+pub mod RewriteCopies
 pub mod Entries
 pub mod Append
 pub mod Update

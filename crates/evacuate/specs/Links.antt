@@ -1,15 +1,11 @@
 -- The stages fit together: what the copy leaves is what the rewriting asks, and after it nothing outside r leads into r.
-use mathlib.Core.Path.{_≡_, refl, sym, ap, ap₂, _∙_, subst}
+use mathlib.Core.Path.{_≡_, refl, sym, ap, _∙_, subst}
 use mathlib.Core.Logic.{_≢_, _⊎_, inl, inr, ⊎-elim}
-use mathlib.Core.Bool.{Bool, true, false, cond}
 use mathlib.Core.List.{List}
-use Prim.Native.Nat.{ℕ, zero, suc, _+_, _-_, _*_, _/_, _%_, _^_, _≤_, _<_}
-use native.Mathlib.Decide.{ℕ-discrete, decLt}
+use Prim.Native.Nat.{ℕ, _+_, _-_, _*_, _/_, _≤_, _<_}
+use native.Mathlib.Decide.{ℕ-discrete}
 use native.Mathlib.Omega.{arith}
-use borrow.Author.Tests.{eq-eqb, ne-eqb, le-leb, lt-leb, lt-ltb, le-ltb}
-use lib.Dec.{eqb, leb, ltb}
-use lib.ListN.{length, getD, set, length-set}
-use lib.Seq.{getD-set-same, getD-set-other}
+use lib.ListN.{getD}
 use Rattle.layout.specs.declared.Places.{Places}
 use Rattle.layout.specs.Places.{ownerOf}
 use Rattle.layout.specs.Cells.{workOf, fieldOf, refsOf}
@@ -17,10 +13,11 @@ use Rattle.layout.specs.Marks.{marked}
 use Rattle.promises.specs.Words.{InUse}
 use Rattle.evacuate.specs.Marks.{mark?}
 use Rattle.evacuate.specs.Passing.{Ready}
-use Rattle.evacuate.specs.Forward.{Moved, Copying, Forwards, forward}
-use Rattle.evacuate.specs.Rewrite.{Names, moveRef, move-null, move-in, move-out, Rewritten, refs-same, Old, Wiring, Between}
+use Rattle.evacuate.specs.Forward.{Forwards, forward}
+use Rattle.evacuate.specs.Rewrite.{Names, moveRef, move-null, move-in, move-out, Rewritten, refs-same}
 use Rattle.evacuate.specs.Append.{crossAt, Crosses}
 use Rattle.evacuate.specs.Update.{Copies}
+use Rattle.evacuate.specs.RewriteCopies.{Old, Wiring, Between}
 
 -- whole tables in which r's survivors are marked; S holds of the slots outside r that point into r
 pub record Start (p : Places) (r : ℕ) (S : ℕ → Type 0) (W T : List ℕ) : Type 0 where

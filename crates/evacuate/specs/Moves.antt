@@ -1,8 +1,8 @@
 -- One survivor is moved: a cell is taken, its words are copied, its mark goes.
 use mathlib.Core.Path.{_≡_, refl, sym, ap, ap₂, _∙_, subst}
-use mathlib.Core.Logic.{_≢_, _⊎_, inl, inr, ⊎-elim}
+use mathlib.Core.Logic.{_≢_, _⊎_, inl, inr}
 use mathlib.Core.List.{List}
-use Prim.Native.Nat.{ℕ, zero, suc, _+_, _-_, _*_, _/_, _%_, _^_, _≤_, _<_}
+use Prim.Native.Nat.{ℕ, _+_, _-_, _*_, _/_, _%_, _^_, _≤_, _<_}
 use native.Mathlib.Decide.{ℕ-discrete, decLt}
 use native.Mathlib.Omega.{arith}
 use lib.ListN.{length, getD, set, length-set}
@@ -19,8 +19,7 @@ use Rattle.promises.specs.Whole.{objectsOn, objectsOf}
 use Rattle.pages.specs.Pages.{Partly}
 use Rattle.evacuate.specs.Marks.{marksAt, sameThen, then-yes, then-no}
 use Rattle.evacuate.specs.Cursor.{Points, took-points, points-same}
-use Rattle.evacuate.specs.Taking.{regionsOf, endOf, ownedOn, pagesOwned, Next, Took, Regular}
-use Rattle.evacuate.specs.Taking.{took-length, took-other, took-marks, took-regular, took-objects, took-objects-other, took-pages, took-new, took-in-use, took-home, took-keeps, took-only}
+use Rattle.evacuate.specs.Taking.{regionsOf, endOf, ownedOn, pagesOwned, Next, Took, Regular, took-length, took-other, took-marks, took-regular, took-objects, took-objects-other, took-pages, took-new, took-in-use, took-home, took-keeps, took-only}
 
 -- ---- the words of a cell
 

@@ -1,27 +1,22 @@
 -- Runs of moves: one page, all pages, all targets.
 use mathlib.Core.Path.{_≡_, refl, sym, ap, ap₂, _∙_, subst}
-use mathlib.Core.Logic.{_≢_, _⊎_, inl, inr, ⊎-elim}
+use mathlib.Core.Logic.{_≢_, ⊎-elim}
 use mathlib.Core.List.{List}
-use Prim.Native.Nat.{ℕ, zero, suc, _+_, _-_, _*_, _/_, _%_, _^_, _≤_, _<_}
-use native.Mathlib.Decide.{ℕ-discrete, decLt}
+use Prim.Native.Nat.{ℕ, _+_, _*_, _/_, _^_, _≤_, _<_}
 use native.Mathlib.Nat.{zero-mul, one-mul}
 use native.Mathlib.Omega.{arith}
-use lib.ListN.{length, getD, set, length-set}
-use lib.Count.{trailingZeros}
-use Rattle.lists.specs.Bits.{bitAt, bit-zero, clear-same, clear-other, Lowest, trailing-low}
-use Rattle.lists.specs.Counting.{sum, sum-change, sum-part, sum-more, sum-mono}
+use lib.ListN.{length}
+use Rattle.lists.specs.Counting.{sum-change, sum-part}
 use Rattle.rules.specs.Graph.{pagesOf}
 use Rattle.layout.specs.declared.Places.{Places}
-use Rattle.layout.specs.Places.{Room, markOf}
+use Rattle.layout.specs.Places.{markOf}
 use Rattle.layout.specs.Cells.{workOf}
 use Rattle.layout.specs.Marks.{marked}
 use Rattle.promises.specs.Words.{InUse}
 use Rattle.promises.specs.Whole.{objectsOf}
-use Rattle.evacuate.specs.Marks.{marksAt, mark?, all-clear, hit, hit-yes, hit-no, hit-same, hits}
+use Rattle.evacuate.specs.Marks.{mark?, hit, hit-yes, hit-no, hit-same, hits}
 use Rattle.evacuate.specs.Taking.{regionsOf, pagesOwned, Usable, Next, Regular, usable}
-use Rattle.evacuate.specs.Cursor.{Points}
-use Rattle.evacuate.specs.Moves.{Movable, Step, step-regular, step-size, step-objects, step-objects-other, step-pages, step-off, step-on, step-small}
-use Rattle.evacuate.specs.Moves.{step-keeps, step-link, step-points}
+use Rattle.evacuate.specs.Moves.{Movable, Step, step-regular, step-size, step-objects, step-objects-other, step-pages, step-off, step-on, step-small, step-keeps, step-link}
 
 -- what holds before and after each move
 pub record Ready (p : Places) (W T : List ℕ) : Type 0 where

@@ -2,27 +2,26 @@
 use mathlib.Core.Path.{_≡_, refl, sym, ap, ap₂, _∙_, subst}
 use mathlib.Core.Logic.{_≢_, _⊎_, inl, inr, ⊎-elim}
 use mathlib.Core.List.{List}
-use Prim.Native.Nat.{ℕ, zero, suc, _+_, _-_, _*_, _/_, _%_, _≤_, _<_}
-use native.Mathlib.Decide.{ℕ-discrete}
+use Prim.Native.Nat.{ℕ, suc, _+_, _-_, _*_, _/_, _%_, _≤_, _<_}
 use native.Mathlib.Omega.{arith}
-use lib.ListN.{length, getD}
+use lib.ListN.{getD}
 use Rattle.layout.specs.declared.Places.{Places}
 use Rattle.layout.specs.Places.{ownerOf, usedIn, slotIn, slotRegionIn}
 use Rattle.layout.specs.Cells.{fieldOf, refsOf}
 use Rattle.promises.specs.Words.{InUse}
 use Rattle.promises.specs.Crossing.{crossTo, other, regionOf}
 use Rattle.promises.specs.Slots.{Slot, region-of, slot-low, slot-cross, cross-slot}
-use Rattle.promises.specs.Whole.{EntryWhole, EntriesWhole, RememberWhole}
+use Rattle.promises.specs.Whole.{EntryWhole, RememberWhole}
 use Rattle.evacuate.specs.Taking.{regionsOf}
 use Rattle.evacuate.specs.Passing.{Ready}
-use Rattle.evacuate.specs.Rewrite.{slot-now, slot-then}
-use Rattle.evacuate.specs.Entries.{crossOf, otherThan, cross-null, cross-ref, Stays}
-use Rattle.evacuate.specs.Append.{crossAt, Crosses, Crossing}
-use Rattle.evacuate.specs.Update.{Copies, Entry}
+use Rattle.evacuate.specs.Entries.{crossOf, otherThan, cross-null, cross-ref}
+use Rattle.evacuate.specs.Append.{crossAt, Crosses}
+use Rattle.evacuate.specs.Update.{Entry}
 use Rattle.evacuate.specs.Links.{copies-cross, slots-out}
 use Rattle.evacuate.specs.Table.{entry-cross, all-listed}
 use Rattle.evacuate.specs.Stages.{Before, Finished}
 use Rattle.evacuate.specs.Evacuated.{to-end, from-end, ready-after}
+use Rattle.evacuate.specs.RewriteCopies.{slot-now, slot-then}
 
 other-than : (w h : ℕ) → other w h ≡ otherThan w h
 unfolding otherThan

@@ -1,9 +1,8 @@
 -- An end after the marking, stage by stage: what each stage asks follows from what the earlier ones leave.
-use mathlib.Core.Path.{_≡_, refl, sym, ap, ap₂, _∙_, subst}
+use mathlib.Core.Path.{_≡_, sym, ap, _∙_, subst}
 use mathlib.Core.Logic.{_≢_, _⊎_, inl, inr, ⊎-elim}
 use mathlib.Core.List.{List}
-use Prim.Native.Nat.{ℕ, zero, suc, _+_, _-_, _*_, _/_, _%_, _^_, _≤_, _<_}
-use native.Mathlib.Decide.{ℕ-discrete, decLt}
+use Prim.Native.Nat.{ℕ, _+_, _-_, _*_, _/_, _%_, _≤_, _<_}
 use native.Mathlib.Omega.{arith}
 use lib.ListN.{length, getD}
 use Rattle.layout.specs.declared.Places.{Places}
@@ -11,15 +10,17 @@ use Rattle.layout.specs.Places.{Room, depthAt, varAt, depthOf, varOf, ownerOf, 
 use Rattle.layout.specs.Cells.{workOf, fieldOf, refsOf}
 use Rattle.layout.specs.Marks.{marked}
 use Rattle.promises.specs.Words.{InUse}
-use Rattle.evacuate.specs.Passing.{Ready, moves-ready, moves-cells, moves-tables}
+use Rattle.evacuate.specs.Passing.{Ready, moves-ready, moves-tables}
 use Rattle.evacuate.specs.Copying.{Plan, Copy}
 use Rattle.evacuate.specs.Forward.{Forwards, forward, copy-forwards}
-use Rattle.evacuate.specs.Rewrite.{Names, moveRef, Rewritten, rewritten-join, link-same, refs-same, Remembered, Slots, Fields, Old, Wiring, wiring-now, Between, slot-now, slot-then, Variables}
+use Rattle.evacuate.specs.Rewrite.{Names, Rewritten, rewritten-join, link-same, refs-same}
 use Rattle.evacuate.specs.Append.{Crosses}
 use Rattle.evacuate.specs.Update.{Copies, Updating, Updated}
 use Rattle.evacuate.specs.Release.{Ended}
 use Rattle.evacuate.specs.Links.{Start, old-survivor, copy-refs, forwards-wiring, copy-head, copies-cross, slots-out}
 use Rattle.evacuate.specs.Table.{IsSlot, Listed, entry-cross, entry-apart, cross-value}
+use Rattle.evacuate.specs.RewriteSlots.{Remembered, Slots, Fields, Variables}
+use Rattle.evacuate.specs.RewriteCopies.{Old, Wiring, wiring-now, Between, slot-now, slot-then}
 
 -- cell c is in use, and if it is r's its object survives
 pub record Lives (p : Places) (r : ℕ) (T : List ℕ) (c : ℕ) : Type 0 where

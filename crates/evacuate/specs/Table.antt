@@ -1,15 +1,11 @@
 -- The remember table before and after an end: what the update asks follows from a whole table, and what it leaves names each crossing slot once.
-use mathlib.Core.Path.{_≡_, refl, sym, ap, ap₂, _∙_, subst}
+use mathlib.Core.Path.{_≡_, refl, sym, ap, _∙_, subst}
 use mathlib.Core.Logic.{_≢_, _⊎_, inl, inr, ⊎-elim}
-use mathlib.Core.Bool.{Bool, true, false, cond}
 use mathlib.Core.List.{List}
-use Prim.Native.Nat.{ℕ, zero, suc, _+_, _-_, _*_, _/_, _%_, _^_, _≤_, _<_}
+use Prim.Native.Nat.{ℕ, _+_, _-_, _*_, _/_, _%_, _≤_, _<_}
 use native.Mathlib.Decide.{ℕ-discrete, decLt}
 use native.Mathlib.Omega.{arith}
-use borrow.Author.Tests.{eq-eqb, ne-eqb, le-leb, lt-leb, lt-ltb, le-ltb}
-use lib.Dec.{eqb, leb, ltb}
-use lib.ListN.{length, getD, set, length-set}
-use lib.Seq.{getD-set-same, getD-set-other}
+use lib.ListN.{getD}
 use Rattle.layout.specs.declared.Places.{Places}
 use Rattle.layout.specs.Places.{ownerOf, slotIn, slotRegionIn}
 use Rattle.layout.specs.Cells.{workOf, fieldOf, refsOf}
@@ -17,11 +13,12 @@ use Rattle.layout.specs.Marks.{marked}
 use Rattle.promises.specs.Words.{InUse}
 use Rattle.evacuate.specs.Passing.{Ready}
 use Rattle.evacuate.specs.Forward.{Forwards, forward}
-use Rattle.evacuate.specs.Rewrite.{Rewritten, refs-same, Remembered}
+use Rattle.evacuate.specs.Rewrite.{Rewritten, refs-same}
 use Rattle.evacuate.specs.Entries.{crossOf, cross-null, cross-ref, other-control, other-same, other-yes, newRegion, new-gone, new-stays, new-moved, Stays}
 use Rattle.evacuate.specs.Append.{crossAt, Crosses, Crossing}
 use Rattle.evacuate.specs.Update.{Copies}
 use Rattle.evacuate.specs.Links.{Start, old-survivor, survivor-old, copy-refs}
+use Rattle.evacuate.specs.RewriteSlots.{Remembered}
 
 -- ---- what a crossing value says
 

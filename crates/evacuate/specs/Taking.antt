@@ -1,8 +1,8 @@
 -- Regular pages, and what a cell that is taken does to them: counts, free pages, the pages of a region.
-use mathlib.Core.Path.{_≡_, refl, sym, ap, ap₂, _∙_, subst}
+use mathlib.Core.Path.{_≡_, sym, ap, ap₂, _∙_, subst}
 use mathlib.Core.Logic.{_≢_, _⊎_, inl, inr, ⊎-elim}
 use mathlib.Core.List.{List}
-use Prim.Native.Nat.{ℕ, zero, suc, _+_, _-_, _*_, _/_, _%_, _^_, _≤_, _<_}
+use Prim.Native.Nat.{ℕ, zero, suc, _+_, _*_, _/_, _%_, _≤_, _<_}
 use native.Mathlib.Decide.{ℕ-discrete, decLt}
 use native.Mathlib.Omega.{arith}
 use lib.ListN.{length, getD, set, length-set}
@@ -14,7 +14,7 @@ use Rattle.layout.specs.Places.{Room, ownerAt, usedAt, markAt, countAt, ownerOf
 use Rattle.layout.specs.Cells.{cellOn}
 use Rattle.promises.specs.Words.{InUse}
 use Rattle.promises.specs.Whole.{objectsOn, objectsOf}
-use Rattle.pages.specs.Pages.{Partly, Fresh, Found, taken}
+use Rattle.pages.specs.Pages.{Partly, Found, taken}
 use Rattle.evacuate.specs.Marks.{sameThen, then-yes, then-no}
 
 -- the regions are numbered from 1 to this, and the tables end behind their counts

@@ -1,20 +1,17 @@
 -- The remember table after an end: the entries that stay, then the crossing slots of the copies, then zeros.
-use mathlib.Core.Path.{_≡_, refl, sym, ap, ap₂, _∙_, subst}
-use mathlib.Core.Logic.{_≢_, _⊎_, inl, inr, ⊎-elim}
-use mathlib.Core.Bool.{Bool, true, false, cond}
+use mathlib.Core.Path.{_≡_, sym, _∙_, subst}
+use mathlib.Core.Logic.{_≢_, _⊎_}
 use mathlib.Core.List.{List}
-use Prim.Native.Nat.{ℕ, zero, suc, _+_, _-_, _*_, _/_, _%_, _^_, _≤_, _<_, max}
-use native.Mathlib.Decide.{ℕ-discrete, decLt}
+use Prim.Native.Nat.{ℕ, zero, _+_, _*_, _≤_, _<_, max}
+use native.Mathlib.Decide.{decLt}
 use native.Mathlib.Omega.{arith}
-use borrow.Author.Tests.{eq-eqb, ne-eqb, le-leb, lt-leb, lt-ltb, le-ltb}
-use lib.Dec.{eqb, leb, ltb}
 use lib.ListN.{length, getD, set, length-set}
 use lib.Seq.{getD-set-same, getD-set-other}
 use Rattle.layout.specs.declared.Places.{Places}
-use Rattle.layout.specs.Places.{ownerOf, usedIn, slotIn, slotRegionIn}
-use Rattle.evacuate.specs.Rewrite.{CopySlot, Wiring, Between}
+use Rattle.layout.specs.Places.{usedIn, slotIn, slotRegionIn}
 use Rattle.evacuate.specs.Entries.{Added, added-join, slot-above, region-above, Stays, Entries, Cleared}
 use Rattle.evacuate.specs.Append.{crossAt, Crosses, Crossing, Appending}
+use Rattle.evacuate.specs.RewriteCopies.{CopySlot, Wiring, Between}
 
 abbrev pub Copies : (p : Places) (r : ℕ) (W T : List ℕ) → ℕ → Type 0
 Copies p r W T = CopySlot p r (Between 0 (16 * p .pages)) W T

@@ -4,10 +4,12 @@ ghost use Prim.Native.Nat.{ℕ, _+_, _*_, _<_, _≤_, max};
 ghost use lib.ListN.{length, getD};
 ghost use Rattle.layout.specs.Places.{Room, ownerOf, usedIn};
 ghost use Rattle.layout.specs.Cells.{refsOf};
-ghost use Rattle.evacuate.specs.Rewrite.{Names, Field, Fields, CopySlot, Wiring, Between};
+ghost use Rattle.evacuate.specs.Rewrite.{Names};
 ghost use Rattle.evacuate.specs.Entries.{crossOf, newRegion, Added, Stays, Entries, Cleared};
 ghost use Rattle.evacuate.specs.Append.{Appending, Crossing};
 ghost use Rattle.evacuate.specs.Update.{Updating, Updated};
+ghost use Rattle.evacuate.specs.RewriteSlots.{Field, Fields};
+ghost use Rattle.evacuate.specs.RewriteCopies.{CopySlot, Wiring, Between};
 use layout::Kind;
 use layout::Places;
 

@@ -5,7 +5,9 @@ ghost use Prim.Native.Nat.{ℕ, _+_, _*_, _<_, _≤_};
 ghost use lib.ListN.{length};
 ghost use Rattle.layout.specs.Places.{Room, ownerOf, varOf, usedIn};
 ghost use Rattle.layout.specs.Cells.{refsOf};
-ghost use Rattle.evacuate.specs.Rewrite.{Names, moveRef, Rewritten, Remembered, Slots, Field, Fields, CopySlot, Wiring, Between, Variables};
+ghost use Rattle.evacuate.specs.Rewrite.{Names, moveRef, Rewritten};
+ghost use Rattle.evacuate.specs.RewriteSlots.{Remembered, Slots, Field, Fields, Variables};
+ghost use Rattle.evacuate.specs.RewriteCopies.{CopySlot, Wiring, Between};
 use layout::Kind;
 use layout::Places;
 

@@ -8,9 +8,10 @@ use mathlib.Core.Logic.{⊎-elim}
 use mathlib.Core.Path.{_≡_, refl, sym, ap, _∙_, subst, subst₂}
 use Rattle.layout.specs.Places.{ownerOf}
 use Rattle.layout.specs.Cells.{refsOf}
-use Rattle.evacuate.specs.Rewrite.{Names, Field}
+use Rattle.evacuate.specs.Rewrite.{Names}
 use Rattle.evacuate.specs.Entries.{crossOf, Added}
 use Rattle.evacuate.specs.Append.{crossAt, Crossing, cell-start, slot-region, slot-room, slot-added, slot-passed}
+use Rattle.evacuate.specs.RewriteSlots.{Field}
 use Rattle.evacuate.proofs.remember.remember_cell.Statement.{statement}
 use Rattle.evacuate.proofs.remember.remember_cell.Tie as tie
 

@@ -5,9 +5,9 @@ use Prim.Native.Nat.{ℕ, _≤_, _+_, _-_, _*_}
 use mathlib.Core.List.{List}
 use mathlib.Core.Logic.{⊎-elim}
 use mathlib.Core.Path.{_≡_, refl, sym, _∙_, subst, subst₂}
-use Rattle.evacuate.specs.Rewrite.{CopySlot, Between, wiring-less}
 use Rattle.evacuate.specs.Entries.{Added}
 use Rattle.evacuate.specs.Append.{Crossing, copies-begin, page-appending, pages-added, pages-skipped}
+use Rattle.evacuate.specs.RewriteCopies.{CopySlot, Between, wiring-less}
 use Rattle.evacuate.proofs.remember.remember_copies.Statement.{statement}
 use Rattle.evacuate.proofs.remember.remember_copies.Tie as tie
 

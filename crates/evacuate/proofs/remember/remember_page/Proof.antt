@@ -9,9 +9,10 @@ use mathlib.Core.Path.{_≡_, refl, sym, ap, _∙_, subst, subst₂}
 use Rattle.layout.specs.Places.{ownerOf, usedOf}
 use Rattle.layout.specs.Cells.{workOf, refsOf}
 use Rattle.promises.specs.Words.{InUse}
-use Rattle.evacuate.specs.Rewrite.{Field, Fields, CopySlot, Between, in-page, on-page}
 use Rattle.evacuate.specs.Entries.{Added}
 use Rattle.evacuate.specs.Append.{Appending, Crossing, copies-begin, cell-appending, cell-wired, cell-added, cell-null, page-added}
+use Rattle.evacuate.specs.RewriteSlots.{Field, Fields}
+use Rattle.evacuate.specs.RewriteCopies.{CopySlot, Between, in-page, on-page}
 use Rattle.evacuate.proofs.remember.remember_page.Statement.{statement}
 use Rattle.evacuate.proofs.remember.remember_page.Tie as tie
 

@@ -6,7 +6,8 @@ use Prim.Native.Nat.{ℕ, _≤_, _+_, _-_, _/_}
 use mathlib.Core.List.{List}
 use mathlib.Core.Path.{_≡_, refl, sym, ap, _∙_, subst}
 use Rattle.layout.specs.Cells.{fieldOf, refsOf}
-use Rattle.evacuate.specs.Rewrite.{Names, moveRef, Rewritten, Field, fields-start, field-names, field-moved}
+use Rattle.evacuate.specs.Rewrite.{Names, moveRef, Rewritten}
+use Rattle.evacuate.specs.RewriteSlots.{Field, fields-start, field-names, field-moved}
 use Rattle.evacuate.proofs.rewrite.rewrite_cell.Statement.{statement}
 use Rattle.evacuate.proofs.rewrite.rewrite_cell.Tie as tie
 

@@ -5,7 +5,8 @@ use Prim.Native.Nat.{ℕ, _≤_, _+_, _-_, _*_}
 use mathlib.Core.List.{List}
 use mathlib.Core.Logic.{⊎-elim}
 use mathlib.Core.Path.{_≡_, refl, sym, _∙_, subst}
-use Rattle.evacuate.specs.Rewrite.{Rewritten, CopySlot, Between, copies-start, page-wired, pages-next, pages-left}
+use Rattle.evacuate.specs.Rewrite.{Rewritten}
+use Rattle.evacuate.specs.RewriteCopies.{CopySlot, Between, copies-start, page-wired, pages-next, pages-left}
 use Rattle.evacuate.proofs.rewrite.rewrite_copies.Statement.{statement}
 use Rattle.evacuate.proofs.rewrite.rewrite_copies.Tie as tie
 

@@ -9,7 +9,9 @@ use mathlib.Core.Path.{_≡_, refl, sym, ap, _∙_, subst}
 use Rattle.layout.specs.Places.{ownerOf, usedOf}
 use Rattle.layout.specs.Cells.{workOf, refsOf}
 use Rattle.promises.specs.Words.{InUse}
-use Rattle.evacuate.specs.Rewrite.{Rewritten, Field, Fields, CopySlot, Between, copies-start, copy-fields, copy-moved, copy-null, page-done, in-page, on-page}
+use Rattle.evacuate.specs.Rewrite.{Rewritten}
+use Rattle.evacuate.specs.RewriteSlots.{Field, Fields}
+use Rattle.evacuate.specs.RewriteCopies.{CopySlot, Between, copies-start, copy-fields, copy-moved, copy-null, page-done, in-page, on-page}
 use Rattle.evacuate.proofs.rewrite.rewrite_page.Statement.{statement}
 use Rattle.evacuate.proofs.rewrite.rewrite_page.Tie as tie
 

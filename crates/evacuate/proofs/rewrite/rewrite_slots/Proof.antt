@@ -7,7 +7,8 @@ use mathlib.Core.List.{List}
 use mathlib.Core.Logic.{⊎-elim}
 use mathlib.Core.Path.{_≡_, refl, sym, _∙_, subst}
 use Rattle.layout.specs.Places.{usedIn, slotIn}
-use Rattle.evacuate.specs.Rewrite.{Names, Rewritten, Remembered, slots-start, slot-names, slot-moved, slot-left}
+use Rattle.evacuate.specs.Rewrite.{Names, Rewritten}
+use Rattle.evacuate.specs.RewriteSlots.{Remembered, slots-start, slot-names, slot-moved, slot-left}
 use Rattle.evacuate.proofs.rewrite.rewrite_slots.Statement.{statement}
 use Rattle.evacuate.proofs.rewrite.rewrite_slots.Tie as tie
 

@@ -7,7 +7,8 @@ use mathlib.Core.Path.{_≡_, refl, sym, ap, _∙_, subst}
 use native.Mathlib.Nat.{mul-le-mul}
 use Rattle.layout.specs.Places.{varOf}
 use Rattle.evacuate.specs.Taking.{room-same}
-use Rattle.evacuate.specs.Rewrite.{Names, moveRef, Variables, variables-start, variables-next, variables-names}
+use Rattle.evacuate.specs.Rewrite.{Names, moveRef}
+use Rattle.evacuate.specs.RewriteSlots.{Variables, variables-start, variables-next, variables-names}
 use Rattle.evacuate.proofs.rewrite.rewrite_variables.Statement.{statement}
 use Rattle.evacuate.proofs.rewrite.rewrite_variables.Tie as tie
 
