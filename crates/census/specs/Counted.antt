@@ -2,14 +2,13 @@
 use mathlib.Core.Path.{_≡_, refl, sym, ap, ap₂, _∙_, subst}
 use mathlib.Core.Bool.{Bool, true, false, cond}
 use mathlib.Core.List.{List}
-use Prim.Native.Nat.{ℕ, zero, suc, _+_, _-_, _*_, _/_, _%_, _^_, _≤_, _<_}
+use Prim.Native.Nat.{ℕ, zero, suc, _+_, _-_, _*_, _^_, _≤_, _<_}
 use native.Mathlib.Omega.{arith}
-use native.Mathlib.Decide.{ℕ-discrete, decLt}
-use native.Mathlib.Nat.{one-mul, zero-mul, mul-le-mul}
-use lib.Count.{ones, trailingZeros}
+use native.Mathlib.Decide.{ℕ-discrete}
+use native.Mathlib.Nat.{one-mul, zero-mul}
+use lib.Count.{ones}
 use lib.Dec.{eqb}
-use lib.ListN.{length, getD}
-use borrow.Author.Tests.{eq-eqb, ne-eqb, eqb-true}
+use borrow.Author.Tests.{eq-eqb, ne-eqb}
 use Rattle.lists.specs.Counting.{bit, bit-le, sum, sum-same, sum-high, sum-blocks}
 use Rattle.lists.specs.Bits.{bitAt, bit-lt, Lowest, bitSum, bit-sum-clear, bit-sum-zero}
 use Rattle.rules.specs.declared.Sizes.{Sizes}
@@ -19,7 +18,7 @@ use Rattle.layout.specs.declared.Places.{Places}
 use Rattle.layout.specs.Places.{placesOf, markOf}
 use Rattle.layout.specs.Cells.{workOf, pageOf, placeOf, cellOn}
 use Rattle.layout.specs.Marks.{marked}
-use Rattle.promises.specs.Words.{Words, Used, ownerIn, homeIn, graphOf}
+use Rattle.promises.specs.Words.{Words, homeIn, graphOf}
 use Rattle.promises.specs.Whole.{WholeFor}
 use Rattle.mark.specs.Reached.{home-cell, cell-home}
 use Rattle.mark.specs.Survivors.{Marked}

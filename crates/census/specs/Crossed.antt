@@ -2,13 +2,13 @@
 use mathlib.Core.Path.{_≡_, refl, sym, ap, ap₂, _∙_, subst}
 use mathlib.Core.Bool.{Bool, true, false, cond, not, _&&_}
 use mathlib.Core.List.{List}
-use Prim.Native.Nat.{ℕ, zero, suc, _+_, _-_, _*_, _/_, _%_, _≤_, _<_}
+use Prim.Native.Nat.{ℕ, zero, suc, _+_, _-_, _*_, _/_, _≤_, _<_}
 use native.Mathlib.Omega.{arith}
 use native.Mathlib.Decide.{ℕ-discrete, decLt}
 use native.Mathlib.Nat.{one-mul, zero-mul}
 use lib.Dec.{eqb, ltb}
 use lib.ListN.{length, getD}
-use borrow.Author.Tests.{eq-eqb, ne-eqb, lt-ltb, le-ltb, ltb-true}
+use borrow.Author.Tests.{eq-eqb, ne-eqb, lt-ltb, le-ltb}
 use Rattle.lists.specs.Counting.{sum, sum-same, sum-none, sum-plus, sum-add, sum-blocks}
 use Rattle.lists.specs.OneToOne.{Paired, sum-paired}
 use Rattle.lists.specs.Bits.{bit-lt}
@@ -29,7 +29,7 @@ use Rattle.promises.specs.Reading.{used-home, used-owned, used-alive, alive-use
 use Rattle.mark.specs.Marks.{owner, Kept, kept-refs, kept-field, kept-owner}
 use Rattle.mark.specs.Reached.{home-cell, cell-home, is-other}
 use Rattle.mark.specs.Survivors.{Marked, marked-kept}
-use Rattle.census.specs.Counted.{overMarked, over-cells}
+use Rattle.census.specs.Counted.{over-cells}
 use Rattle.census.specs.After.{homeAfter, crossOne, crossAfter, cellCrosses, slotCrosses, entriesCross, crossingAfter}
 
 module _ (s : Sizes) (w : Words) (k : WholeFor s w) (space : Room (placesOf s) (length (w .tables))) (r : ℕ) (pos : 1 < r) (w′ : Words) (M : Marked s w r w′) where

@@ -1,10 +1,10 @@
 -- The words that an evacuation of marked words leaves are those after an accepted end.
 use mathlib.Core.Path.{_≡_, refl, sym, ap, ap₂, _∙_, subst}
-use mathlib.Core.Logic.{_≢_, _⊎_, inl, inr, ⊎-elim}
+use mathlib.Core.Logic.{_≢_, _⊎_, inl, inr}
 use mathlib.Core.Bool.{Bool, cond}
 use mathlib.Core.List.{List}
-use Prim.Native.Nat.{ℕ, zero, suc, _+_, _-_, _*_, _/_, _%_, _^_, _≤_, _<_}
-use native.Mathlib.Decide.{ℕ-discrete, decLt}
+use Prim.Native.Nat.{ℕ, zero, suc, _+_, _-_, _*_, _/_, _^_, _≤_, _<_}
+use native.Mathlib.Decide.{ℕ-discrete}
 use native.Mathlib.Nat.{div-add-mod'}
 use native.Mathlib.Omega.{arith}
 use borrow.Author.Tests.{eq-eqb, ne-eqb}
@@ -16,20 +16,20 @@ use Rattle.rules.specs.Regions.{regionAt, threadOf, levelOf}
 use Rattle.rules.specs.Graph.{target}
 use Rattle.laws.specs.SameRules.{renamed}
 use Rattle.laws.specs.RegionLaws.{region-high, thread-at, level-at}
-use Rattle.layout.specs.Places.{Room, room, placesOf, depthAt, varOf, ownerOf, usedOf, countOf, depthOf, usedIn, tablesWords, count-room, sizesOf}
+use Rattle.layout.specs.Places.{Room, room, placesOf, depthAt, varOf, ownerOf, usedOf, depthOf, usedIn, tablesWords, count-room}
 use Rattle.layout.specs.Cells.{fieldOf, pageOf}
-use Rattle.promises.specs.Words.{Words, words, Used, depthIn, ownerIn, refCount, graphOf}
-use Rattle.promises.specs.Whole.{WholeFor, Open, PageWhole, Partial}
-use Rattle.promises.specs.StandsFor.{SameFrom, SameBeyond}
+use Rattle.promises.specs.Words.{Words, words, Used, depthIn, ownerIn, graphOf}
+use Rattle.promises.specs.Whole.{WholeFor, Open}
+use Rattle.promises.specs.StandsFor.{SameFrom}
 use Rattle.promises.specs.Reading.{range, tables-room, used-home}
 use Rattle.mark.specs.Survivors.{Marked}
-use Rattle.evacuate.specs.Taking.{regionsOf, endOf}
+use Rattle.evacuate.specs.Taking.{regionsOf}
 use Rattle.evacuate.specs.Copying.{region-bounds}
 use Rattle.evacuate.specs.Stages.{Lives, Before, Finished}
 use Rattle.evacuate.specs.Evacuated as ev
 use Rattle.evacuate.specs.Evacuated.{cellAfter, homeAfter, finished-evacuated}
 use Rattle.evacuate.specs.RememberAfter.{finished-remember}
-use Rattle.ended.specs.Evacuated.{Evacuated, Outside, Survivor, SameObject, Stayed, Went, rewritten}
+use Rattle.ended.specs.Evacuated.{Evacuated, Outside, Survivor, SameObject, rewritten}
 use Rattle.ended.specs.WordsPlaced.{target-level}
 use Rattle.evacuation.specs.MarkedWords as mw
 

@@ -1,15 +1,14 @@
 -- Marking changes word 1 of the cells of r and the mark words alone: what else is read from the marked words is as it was.
-use mathlib.Core.Path.{_≡_, refl, sym, ap, _∙_, subst}
-use mathlib.Core.Logic.{_≢_, _⊎_, inl, inr}
-use mathlib.Core.List.{List}
-use Prim.Native.Nat.{ℕ, zero, suc, _+_, _-_, _*_, _/_, _%_, _^_, _≤_, _<_}
+use mathlib.Core.Path.{_≡_, sym, _∙_, subst}
+use mathlib.Core.Logic.{_⊎_, inl, inr}
+use Prim.Native.Nat.{ℕ, _*_, _≤_, _<_}
 use native.Mathlib.Decide.{ℕ-discrete, decLt}
 use native.Mathlib.Omega.{arith}
 use lib.ListN.{length, getD}
 use Rattle.rules.specs.declared.Sizes.{Sizes}
 use Rattle.rules.specs.Graph.{target}
-use Rattle.layout.specs.Places.{Room, placesOf, varAt, ownerAt, usedAt, depthAt, varOf, ownerOf, usedOf, depthOf, markAt}
-use Rattle.layout.specs.Cells.{headAt, fieldAt, headOf, fieldOf, workOf, pageOf}
+use Rattle.layout.specs.Places.{Room, placesOf, varAt, ownerAt, usedAt, depthAt, varOf, ownerOf, usedOf, depthOf}
+use Rattle.layout.specs.Cells.{headAt, fieldAt, headOf, fieldOf, pageOf}
 use Rattle.layout.specs.Marks.{marked}
 use Rattle.promises.specs.Words.{Words, InUse, Used, depthIn, ownerIn, graphOf}
 use Rattle.mark.specs.Survivors.{Marked}

@@ -1,14 +1,14 @@
 -- The holders at the end of region r, read from the words: all variables, and the remembered slots that point into r. Each holds a
 -- reference and calls for a region.
-use mathlib.Core.Path.{_≡_, refl, sym, ap, ap₂, _∙_, subst}
-use mathlib.Core.Logic.{_⊎_, inl, inr, ⊎-elim}
+use mathlib.Core.Path.{_≡_, sym, ap, ap₂, _∙_, subst}
+use mathlib.Core.Logic.{inl, ⊎-elim}
 use mathlib.Core.Bool.{Bool, true, false, cond}
 use mathlib.Core.List.{List, _++_}
-use Prim.Native.Nat.{ℕ, _+_, _-_, _*_, _/_, _%_, _≤_, _<_}
+use Prim.Native.Nat.{ℕ, _+_, _-_, _*_, _/_, _≤_, _<_}
 use native.Mathlib.Omega.{arith}
 use lib.Dec.{eqb}
 use lib.ListN.{length, getD}
-use borrow.Author.Tests.{eq-eqb, ne-eqb, eqb-true}
+use borrow.Author.Tests.{eq-eqb, ne-eqb}
 use Rattle.lists.specs.Members.{In, in-append}
 use Rattle.rules.specs.Regions.{join}
 use Rattle.layout.specs.declared.Places.{Places}
@@ -16,7 +16,7 @@ use Rattle.layout.specs.Places.{Room, sizesOf, varOf, ownerOf, usedIn, slotIn, 
 use Rattle.layout.specs.Cells.{pageOf, cellOf, wordOf}
 use Rattle.promises.specs.Words.{InUse}
 use Rattle.promises.specs.Whole.{IsRef}
-use Rattle.mark.specs.Marks.{Kept, kept-in-use, kept-owner, Shaped, named, named-from, named-same}
+use Rattle.mark.specs.Marks.{Kept, kept-in-use, kept-owner, named, named-from, named-same}
 
 -- reference x of a holder that calls for q, or null if that is not g
 abbrev pub heldFor : ℕ → ℕ → ℕ → ℕ

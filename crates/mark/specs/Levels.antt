@@ -1,20 +1,16 @@
 -- Several drains, outermost level first: each cell of r that a held cell leads to goes to the first level of a holder whose chain reaches
 -- it. `calls l` lists the cells that holders of level l hold, `gs l` is the region that they call for.
-use mathlib.Core.Path.{_≡_, refl, sym, ap, _∙_, subst}
-use mathlib.Core.Logic.{_≢_, _⊎_, inl, inr, ⊎-elim}
-use mathlib.Core.List.{List, [], _∷_}
-use Prim.Native.Nat.{ℕ, zero, suc, _+_, _-_, _*_, _/_, _%_, _≤_, _<_}
+use mathlib.Core.Path.{_≡_, refl, sym, _∙_, subst}
+use mathlib.Core.List.{List}
+use Prim.Native.Nat.{ℕ, _+_, _-_, _≤_, _<_}
 use native.Mathlib.Decide.{ℕ-discrete}
 use native.Mathlib.Omega.{arith}
-use lib.ListN.{length, getD}
 use Rattle.lists.specs.Members.{In, in?}
 use Rattle.layout.specs.declared.Places.{Places}
 use Rattle.layout.specs.Cells.{workOf, fieldOf, pageOf, refsOf}
 use Rattle.layout.specs.Marks.{marked}
 use Rattle.promises.specs.Words.{InUse}
-use Rattle.promises.specs.Whole.{IsRef}
-use Rattle.mark.specs.Marks.{owner, Shaped, Kept, kept-refl, kept-trans, kept-refs, kept-field, kept-owner}
-use Rattle.mark.specs.Marks.{Reach, Reach.held, Reach.via, Leads, Leads.here, Leads.step}
+use Rattle.mark.specs.Marks.{owner, Shaped, Kept, kept-refl, kept-trans, kept-refs, kept-field, kept-owner, Reach, Reach.held, Reach.via, Leads, Leads.here, Leads.step}
 use Rattle.mark.specs.Draining.{Drained}
 
 -- a cell that a holder of level l holds leads to c

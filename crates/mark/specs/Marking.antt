@@ -1,10 +1,10 @@
 -- The state of a marking: pending cells S, linked into a stack, and done cells D. A push and a pop keep it.
-use mathlib.Core.Path.{_≡_, refl, sym, ap, _∙_, subst, subst₂, subst₃}
+use mathlib.Core.Path.{_≡_, refl, sym, _∙_, subst, subst₂, subst₃}
 use mathlib.Core.Logic.{_≢_, _⊎_, inl, inr, ⊎-elim}
 use mathlib.Core.List.{List, [], _∷_}
-use Prim.Native.Nat.{ℕ, zero, suc, _+_, _-_, _*_, _/_, _%_, _^_, _≤_, _<_}
+use Prim.Native.Nat.{ℕ, _+_, _-_, _^_, _<_}
 use native.Mathlib.Omega.{arith}
-use lib.ListN.{length, getD, set, length-set}
+use lib.ListN.{length, set, length-set}
 use lib.Seq.{getD-set-same, getD-set-other}
 use Rattle.lists.specs.Members.{In, Distinct}
 use Rattle.layout.specs.declared.Places.{Places}
@@ -13,8 +13,7 @@ use Rattle.layout.specs.Cells.{workAt, workOf, pageOf, placeOf}
 use Rattle.layout.specs.Marks.{marked}
 use Rattle.promises.specs.Words.{InUse}
 use Rattle.promises.specs.Whole.{IsRef}
-use Rattle.mark.specs.Marks.{owner, Shaped, Reach, Chain, Skipped, Linked, Pushed, Kept, kept-refl, kept-trans, kept-owner, kept-in-use, in-use-kept, kept-shaped}
-use Rattle.mark.specs.Marks.{mark-same, mark-other, mark-other-cell}
+use Rattle.mark.specs.Marks.{owner, Shaped, Reach, Chain, Linked, Pushed, Kept, kept-refl, kept-trans, kept-owner, kept-in-use, in-use-kept, kept-shaped, mark-same, mark-other, mark-other-cell}
 
 -- ---- the words after a push
 

@@ -1,13 +1,12 @@
 -- A run of pushes, of references ref k for k below n: what a scan of a cell's slots does, and what pushing the holders' references does.
-use mathlib.Core.Path.{_≡_, refl, sym, ap, _∙_, subst}
-use mathlib.Core.Logic.{_≢_, _⊎_, inl, inr}
+use mathlib.Core.Path.{_≡_, sym, ap, _∙_, subst}
+use mathlib.Core.Logic.{_⊎_}
 use mathlib.Core.List.{List}
 use Prim.Native.Nat.{ℕ, _+_, _-_, _<_}
 use native.Mathlib.Decide.{ℕ-discrete}
 use native.Mathlib.Omega.{arith}
 use Rattle.lists.specs.Members.{In}
 use Rattle.layout.specs.declared.Places.{Places}
-use Rattle.promises.specs.Words.{InUse}
 use Rattle.promises.specs.Whole.{IsRef}
 use Rattle.layout.specs.Marks.{marked}
 use Rattle.mark.specs.Marks.{owner, Shaped, Reach, Pushed, Kept, kept-refl, kept-trans, kept-owner, kept-in-use, kept-shaped}

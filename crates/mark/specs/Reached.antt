@@ -1,34 +1,32 @@
 -- Whole words against the rules: chains of slots are the rules' chains, and the holders that marking takes from the words are the rules'
 -- holders, each at the level of the region that it calls for.
 use mathlib.Core.Path.{_≡_, refl, sym, ap, ap₂, _∙_, subst}
-use mathlib.Core.Logic.{_⊎_, inl, inr, ⊎-elim}
+use mathlib.Core.Logic.{⊎-elim}
 use mathlib.Core.Bool.{Bool, true, false, cond}
-use mathlib.Core.List.{List, _++_}
-use Prim.Native.Nat.{ℕ, zero, suc, _+_, _-_, _*_, _/_, _%_, _≤_, _<_}
+use mathlib.Core.List.{List}
+use Prim.Native.Nat.{ℕ, suc, _+_, _-_, _*_, _/_, _%_, _≤_, _<_}
 use native.Mathlib.Omega.{arith}
 use native.Mathlib.Numerals.{one-add}
 use native.Mathlib.Nat.{div-add-mod', mod-lt}
 use native.Mathlib.Decide.{ℕ-discrete, decLt}
 use lib.Dec.{eqb, leb}
 use lib.ListN.{length, getD}
-use borrow.Author.Tests.{eq-eqb, ne-eqb, eqb-true, eqb-false, leb-false, lt-leb}
+use borrow.Author.Tests.{ne-eqb, eqb-true, eqb-false, leb-false, lt-leb}
 use Rattle.lists.specs.Members.{In, in-append, in-left, in-right, getD-in}
 use Rattle.rules.specs.declared.Sizes.{Sizes}
-use Rattle.rules.specs.Regions.{regionAt, threadOf, levelOf, parent, join}
-use Rattle.rules.specs.Graph.{Graph}
+use Rattle.rules.specs.Regions.{regionAt, threadOf, parent, join}
 use Rattle.laws.specs.RegionLaws.{region-high, thread-at, parent-at, join-control, join-other, join-same}
 use Rattle.laws.specs.GraphLaws as gl
-use Rattle.laws.specs.GraphLaws.{Alive, Refers, Holds, bySlot, byOwn, byOther}
-use Rattle.layout.specs.declared.Places.{Places}
-use Rattle.layout.specs.Places.{placesOf, sizesOf, varOf, ownerOf, usedIn, slotIn, slotRegionIn, Room}
-use Rattle.layout.specs.Cells.{headOf, fieldAt, fieldOf, pageOf, placeOf, cellOf, wordOf}
-use Rattle.promises.specs.Words.{Words, Used, InUse, ownerIn, homeIn, depthIn, refCount, refsIn, varsIn, graphOf}
+use Rattle.laws.specs.GraphLaws.{Refers, Holds, bySlot, byOwn, byOther}
+use Rattle.layout.specs.Places.{placesOf, varOf, usedIn, slotIn, slotRegionIn, Room}
+use Rattle.layout.specs.Cells.{fieldAt, fieldOf, pageOf, cellOf, wordOf}
+use Rattle.promises.specs.Words.{Words, Used, ownerIn, homeIn, depthIn, refCount, refsIn, varsIn, graphOf}
 use Rattle.promises.specs.Crossing.{other, regionOf, crossTo}
 use Rattle.promises.specs.Whole.{WholeFor, IsRef}
-use Rattle.promises.specs.Slots.{Slot, crossesTo, region-of, slot-low, slot-cross, cross-slot, slot-field, field-slot}
+use Rattle.promises.specs.Slots.{Slot, region-of, slot-low, slot-cross, cross-slot, slot-field, field-slot}
 use Rattle.promises.specs.Reading.{range, cells-room, remember-room, used-home, used-owned, used-alive, alive-used, cell-low, length-refs, getD-refs, length-vars, getD-vars, inside-list, in-place}
 use Rattle.mark.specs.Marks.{Shaped, Leads, Leads.here, Leads.step, named, named-in, named-from}
-use Rattle.mark.specs.Holders.{heldFor, varCalls, varHeld, slotCalls, slotHeld, heldCells, Holding, calls-own, calls-other, var-some, slot-some}
+use Rattle.mark.specs.Holders.{varCalls, varHeld, slotCalls, slotHeld, heldCells, Holding, calls-own, calls-other, var-some, slot-some}
 
 -- ---- numbers that are chosen by tests
 

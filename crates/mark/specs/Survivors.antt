@@ -1,14 +1,13 @@
 -- What marking promises: word 1 of each object of the ending region is the region that it goes to by the rules, and its bit says whether
 -- it survives.
 use mathlib.Core.Path.{_≡_, refl, sym, ap, ap₂, _∙_, subst, subst₂}
-use mathlib.Core.Logic.{_⊎_, inl, inr, ⊎-elim}
+use mathlib.Core.Logic.{inl, inr, ⊎-elim}
 use mathlib.Core.List.{List}
 use Prim.Native.Nat.{ℕ, zero, suc, _+_, _-_, _*_, _/_, _%_, _^_, _≤_, _<_}
 use native.Mathlib.Omega.{arith}
 use native.Mathlib.Decide.{ℕ-discrete, decLt}
 use lib.ListN.{length, getD}
 use Rattle.lists.specs.Bits.{bitAt, bit-lt, bit-zero, no-bits, high-none, none-high}
-use Rattle.lists.specs.Members.{In}
 use Rattle.rules.specs.declared.Sizes.{Sizes}
 use Rattle.rules.specs.Regions.{regionAt}
 use Rattle.rules.specs.Graph.{target}
@@ -18,14 +17,14 @@ use Rattle.layout.specs.declared.Places.{Places}
 use Rattle.layout.specs.Places.{placesOf, sizesOf, depthOf, markAt, markOf, Room, room}
 use Rattle.layout.specs.Cells.{workAt, workOf, pageOf, placeOf}
 use Rattle.layout.specs.Marks.{marked}
-use Rattle.promises.specs.Words.{Words, words, Used, ownerIn, homeIn, depthIn, graphOf}
+use Rattle.promises.specs.Words.{Words, words, Used, ownerIn, depthIn, graphOf}
 use Rattle.promises.specs.Whole.{WholeFor}
 use Rattle.promises.specs.Reading.{range, tables-room}
 use Rattle.mark.specs.Marks.{Shaped, Kept}
 use Rattle.mark.specs.Levels.{Held, First, Levels, leads-used, leads-owned, leads-from}
 use Rattle.mark.specs.Holders.{Holding, held-used}
 use Rattle.mark.specs.Rounds.{levelCells}
-use Rattle.mark.specs.Reached.{home-cell, cell-home, chain-rules, rules-chain, whole-shaped, whole-holding, held-holds, holds-held}
+use Rattle.mark.specs.Reached.{cell-home, chain-rules, rules-chain, whole-shaped, whole-holding, held-holds, holds-held}
 
 -- the words w, whose region r ends, became w′ by marking
 pub record Marked (s : Sizes) (w : Words) (r : ℕ) (w′ : Words) : Type 0 where

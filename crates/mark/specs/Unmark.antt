@@ -1,8 +1,8 @@
 -- Marks and word 1 are cleared again: what a refused end leaves is what it found.
-use mathlib.Core.Path.{_≡_, refl, sym, ap, ap₂, _∙_, subst, subst₂}
+use mathlib.Core.Path.{_≡_, refl, sym, ap, _∙_, subst, subst₂}
 use mathlib.Core.Logic.{_≢_}
 use mathlib.Core.List.{List}
-use Prim.Native.Nat.{ℕ, zero, suc, _+_, _-_, _*_, _/_, _%_, _^_, _≤_, _<_}
+use Prim.Native.Nat.{ℕ, _+_, _-_, _*_, _/_, _%_, _^_, _≤_, _<_}
 use native.Mathlib.Decide.{ℕ-discrete, decLt}
 use native.Mathlib.Omega.{arith}
 use lib.Count.{ones, trailingZeros}
@@ -11,7 +11,7 @@ use lib.Seq.{getD-set-same, getD-set-other, ext-getD}
 use Rattle.lists.specs.Bits.{bitAt, bit-lt, bit-zero, clear-same, clear-other, clear-ones, ones-zero, Lowest, lowest}
 use Rattle.rules.specs.declared.Sizes.{Sizes}
 use Rattle.layout.specs.declared.Places.{Places}
-use Rattle.layout.specs.Places.{placesOf, markAt, markOf, Room}
+use Rattle.layout.specs.Places.{placesOf, markAt, markOf}
 use Rattle.layout.specs.Cells.{workAt, workOf, pageOf, placeOf, cellOn}
 use Rattle.layout.specs.Marks.{marked}
 use Rattle.rules.specs.Graph.{target}

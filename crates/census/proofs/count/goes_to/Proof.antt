@@ -1,7 +1,4 @@
 -- Word 1 is compared with g.
-use Prim.Native.Nat.{ℕ, _≤_, _<_, _+_, _-_, _*_, _/_}
-use mathlib.Core.Path.{_≡_, refl, sym, ap, ap₂, _∙_, subst}
-use native.Mathlib.Omega.{arith}
 use borrow.Author.Needs.{needs}
 use Rattle.census.specs.Counted.{goes-yes, goes-no}
 use Rattle.census.proofs.count.goes_to.Statement.{statement}

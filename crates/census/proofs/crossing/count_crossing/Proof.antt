@@ -1,8 +1,7 @@
 -- The two counts together.
-use Prim.Native.Nat.{ℕ, _≤_, _<_, _+_, _-_, _*_, _/_}
-use mathlib.Core.Path.{_≡_, refl, sym, ap, ap₂, _∙_, subst}
+use Prim.Native.Nat.{ℕ, _+_}
+use mathlib.Core.Path.{ap₂}
 use native.Mathlib.Omega.{arith}
-use borrow.Author.Needs.{needs}
 use Rattle.census.proofs.crossing.count_crossing.Statement.{statement}
 use Rattle.census.proofs.crossing.count_crossing.Tie as tie
 

@@ -1,12 +1,12 @@
 -- n counts the first f slots.
-use Prim.Native.Nat.{ℕ, _≤_, _<_, _+_, _-_, _*_, _/_}
+use Prim.Native.Nat.{ℕ, _≤_, _-_, _/_}
 use mathlib.Core.Path.{_≡_, refl, sym, ap, ap₂, _∙_, subst}
 use native.Mathlib.Omega.{arith}
 use borrow.Author.Needs.{needs}
 use Rattle.lists.specs.Counting.{sum, sum-more}
 use Rattle.layout.specs.Cells.{headOf, workOf, fieldOf}
 use Rattle.promises.specs.Whole.{IsRef}
-use Rattle.census.specs.After.{crossAfter, cellCrosses, cross-le, cells-cross}
+use Rattle.census.specs.After.{crossAfter, cross-le, cells-cross}
 use Rattle.census.proofs.crossing.cross_cell.Statement.{statement}
 use Rattle.census.proofs.crossing.cross_cell.Tie as tie
 

@@ -1,8 +1,7 @@
 -- n is the sum over the pages passed.
-use Prim.Native.Nat.{ℕ, _≤_, _<_, _+_, _-_, _*_, _/_}
-use mathlib.Core.Path.{_≡_, refl, sym, ap, ap₂, _∙_, subst}
+use Prim.Native.Nat.{_≤_, _-_, _*_}
+use mathlib.Core.Path.{_≡_, refl, ap, _∙_}
 use native.Mathlib.Omega.{arith}
-use borrow.Author.Needs.{needs}
 use Rattle.lists.specs.Counting.{sum-more}
 use Rattle.layout.specs.Places.{markOf}
 use Rattle.layout.specs.Cells.{cellOn}

@@ -1,6 +1,4 @@
 -- A slot crosses if what it names lies elsewhere and not in the control space.
-use Prim.Native.Nat.{ℕ, _≤_, _<_, _+_, _-_, _*_, _/_}
-use mathlib.Core.Path.{_≡_, refl, sym, ap, ap₂, _∙_, subst}
 use native.Mathlib.Omega.{arith}
 use borrow.Author.Needs.{needs}
 use Rattle.census.specs.After.{cross-null, cross-inside, cross-control, cross-out}

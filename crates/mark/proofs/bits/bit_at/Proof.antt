@@ -1,5 +1,4 @@
 -- A bit is read by a shift.
-use native.Mathlib.Omega.{arith}
 use borrow.Author.Needs.{needs}
 use Rattle.lists.specs.Bits.{bit-shr}
 use Rattle.mark.proofs.bits.bit_at.Statement.{statement}

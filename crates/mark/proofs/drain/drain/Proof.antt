@@ -1,11 +1,10 @@
 -- Popped cells are done: marked, with g in word 1, and what they name is marked. No cell is popped twice, so the turns are few.
 use mathlib.Core.Path.{_≡_, refl, sym, _∙_}
 use mathlib.Core.List.{List}
-use Prim.Native.Nat.{ℕ, _≤_, _<_, _+_, _-_, _*_}
+use Prim.Native.Nat.{ℕ, _+_, _-_, _*_}
 use native.Mathlib.Omega.{arith}
-use borrow.Author.Needs.{needs}
 use lib.ListN.{length}
-use Rattle.mark.specs.Draining.{Pending, Draining, Facts, draining-start, turn-facts, turn-asks, turn-read, draining-kept, drained}
+use Rattle.mark.specs.Draining.{Pending, Draining, draining-start, turn-facts, turn-asks, turn-read, draining-kept, drained}
 use Rattle.mark.proofs.drain.drain.Statement.{statement}
 use Rattle.mark.proofs.drain.drain.Tie as tie
 

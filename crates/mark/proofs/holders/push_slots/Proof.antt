@@ -1,13 +1,12 @@
 -- What the slots of the first i entries hold for g is pushed.
-use mathlib.Core.Path.{_≡_, refl, sym, ap, _∙_, subst}
-use mathlib.Core.List.{List}
-use Prim.Native.Nat.{ℕ, _≤_, _<_, _+_, _-_, _*_, _/_}
+use mathlib.Core.Path.{_≡_, refl, _∙_, subst}
+use Prim.Native.Nat.{ℕ, _≤_, _<_, _-_}
 use native.Mathlib.Omega.{arith}
 use borrow.Author.Needs.{needs}
 use lib.ListN.{length}
 use Rattle.mark.specs.Pushes.{Pushing, pushing-start, pushing-kept, pushing-shaped, ref-read, push-read, pushes-kept}
 use Rattle.layout.specs.Places.{usedIn}
-use Rattle.mark.specs.Holders.{slotHeld, Holding, slot-held-ref, holding-kept, kept-slot-held}
+use Rattle.mark.specs.Holders.{slotHeld, slot-held-ref, kept-slot-held}
 use Rattle.mark.proofs.holders.push_slots.Statement.{statement}
 use Rattle.mark.proofs.holders.push_slots.Tie as tie
 

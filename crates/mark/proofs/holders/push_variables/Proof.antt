@@ -1,15 +1,13 @@
 -- What the first i variables hold for g is pushed.
-use mathlib.Core.Path.{_≡_, refl, sym, ap, _∙_, subst}
-use mathlib.Core.List.{List}
-use Prim.Native.Nat.{ℕ, _≤_, _<_, _+_, _-_, _*_, _/_}
+use mathlib.Core.Path.{_≡_, refl, _∙_, subst}
+use Prim.Native.Nat.{ℕ, _≤_, _<_, _-_, _*_}
 use native.Mathlib.Omega.{arith}
-use borrow.Author.Needs.{needs}
 use lib.ListN.{length}
 use Rattle.mark.specs.Pushes.{Pushing, pushing-start, pushing-kept, pushing-shaped, ref-read, push-read, pushes-kept}
 use native.Mathlib.Nat.{mul-le-mul}
 use Rattle.layout.specs.declared.Places.{Places}
 use Rattle.layout.specs.Places.{Room}
-use Rattle.mark.specs.Holders.{varHeld, Holding, var-held-ref, holding-kept, kept-var-held}
+use Rattle.mark.specs.Holders.{varHeld, var-held-ref, kept-var-held}
 use Rattle.mark.proofs.holders.push_variables.Statement.{statement}
 use Rattle.mark.proofs.holders.push_variables.Tie as tie
 

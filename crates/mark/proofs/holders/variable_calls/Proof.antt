@@ -1,8 +1,5 @@
 -- The ending thread's variables call for its parent, the others for the control space.
-use mathlib.Core.Path.{_≡_, refl, sym, ap, _∙_, subst}
-use mathlib.Core.List.{List}
-use Prim.Native.Nat.{ℕ, _≤_, _<_, _+_, _-_, _*_, _/_}
-use native.Mathlib.Omega.{arith}
+use mathlib.Core.Path.{sym, _∙_}
 use borrow.Author.Needs.{needs}
 use Rattle.mark.specs.Holders.{calls-own, calls-other}
 use Rattle.mark.proofs.holders.variable_calls.Statement.{statement}

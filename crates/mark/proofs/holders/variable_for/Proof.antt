@@ -1,8 +1,4 @@
 -- A variable is held for g if g is what it calls for.
-use mathlib.Core.Path.{_≡_, refl, sym, ap, _∙_, subst}
-use mathlib.Core.List.{List}
-use Prim.Native.Nat.{ℕ, _≤_, _<_, _+_, _-_, _*_, _/_}
-use native.Mathlib.Omega.{arith}
 use borrow.Author.Needs.{needs}
 use Rattle.mark.specs.Holders.{var-none, var-some}
 use Rattle.mark.proofs.holders.variable_for.Statement.{statement}

@@ -1,22 +1,11 @@
 -- Null, another region's object and one that is marked are passed over; else the bit is set and the old top goes into word 1.
-use mathlib.Core.Path.{_≡_, refl, sym, ap, _∙_}
+use mathlib.Core.Path.{refl, sym, _∙_}
 use native.Mathlib.Omega.{arith}
 use Rattle.lists.specs.Bits.{bit-lt}
 use Rattle.mark.specs.Marks.{push-null, push-foreign, push-marked, push-links}
 use borrow.Author.Needs.{needs}
 use Rattle.mark.proofs.push.push.Statement.{statement}
 use Rattle.mark.proofs.push.push.Tie as tie
-use Rattle.mark.proofs.push.push.Reads as reads
-use Rattle.mark.proofs.push.push.Lts as lts
-use Rattle.layout.proofs.cells.page_of.Reads as page-of-reads
-use Rattle.layout.proofs.cells.place_of.Reads as place-of-reads
-use Rattle.layout.proofs.cells.set_work.Reads as set-work-reads
-use Rattle.layout.proofs.tables.mark.Reads as mark-reads
-use Rattle.layout.proofs.tables.owner.Reads as owner-reads
-use Rattle.layout.proofs.tables.set_mark.Reads as set-mark-reads
-use Rattle.layout.proofs.wide.Reads as wide-reads
-use Rattle.mark.proofs.bits.bit_at.Reads as bit-at-reads
-use Rattle.mark.proofs.bits.with_bit.Reads as with-bit-reads
 
 returns : tie.Need-returns
 returns c =
