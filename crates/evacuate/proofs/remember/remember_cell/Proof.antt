@@ -37,7 +37,7 @@ found c =
 roomy : (c : tie.Then1 Inv-loop μ-loop) → c .before .before .before .before .loop .i < c .before .before .before .before .before .before .before .before .before .before .before .before .args .p .entries
 roomy c =
     let l = c .before .before .before .before .loop in
-    slot-room (c .before .before .before .before .before .before .before .before .before .before .before .before .pre .1 .0 .few) (c .before .before .before .before .before .before .before .before .before .before .before .before .pre .0) (omega (arith, l .inv .1, c .before .before .before .loop-test .taken)) (l .inv .4) (c .before .cross .result) (found c) (c .if1 .taken)
+    slot-room (c .before .before .before .before .before .before .before .before .before .before .before .before .pre .1 .0 .few) (c .before .before .before .before .before .before .before .before .before .before .before .before .pre .0) (omega (arith, l .inv .1, c .before .before .before .loop-test .taken)) (l .inv .4) (c .before .cross .result) (found c) (λ z. omega (arith, c .if1 .taken))
 
 head-requires : tie.Need-head-requires Inv-loop μ-loop
 head-requires c κs = (omega (arith, c .before .before .before .pre .1 .0 .page, c .before .before .before .pre .1 .0 .pages), omega (arith, c .before .before .before .pre .1 .0 .page, c .before .before .before .pre .1 .0 .cells-long))
@@ -99,8 +99,8 @@ loop-again c =
     ⊎-elim
     (λ z.
     subst₂ P (sym (z .10 ∙ z .7 .ensures ∙ ap (λ (X : List ℕ). set X (2 + n + l .i) (v .result)) (z .3 .ensures))) (sym (z .11))
-    (slot-added few (c .before .before .before .before .before .before .before .before .before .before .before .before .pre .0) lt (l .inv .4) (z .2 .result) (v .result) (z .2 .ensures) ev (z .0 .taken)))
-    (λ z. subst₂ P (sym (z .1)) (sym (z .2)) (slot-passed few (c .before .before .before .before .before .before .before .before .before .before .before .before .pre .0) lt (l .inv .4) (v .result) ev (z .0 .left)))
+    (slot-added few (c .before .before .before .before .before .before .before .before .before .before .before .before .pre .0) lt (l .inv .4) (z .2 .result) (v .result) (z .2 .ensures) ev (λ y. omega (arith, z .0 .taken))))
+    (λ z. subst₂ P (sym (z .1)) (sym (z .2)) (slot-passed few (c .before .before .before .before .before .before .before .before .before .before .before .before .pre .0) lt (l .inv .4) (v .result) ev (omega (arith, z .0 .left))))
     (c .if1 .came) in
     (omega (arith, c .before .before .before .loop-test .taken), l .inv .1, l .inv .2, h .size, h)
 

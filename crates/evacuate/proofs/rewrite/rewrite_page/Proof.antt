@@ -66,7 +66,7 @@ rewrite-cell-requires c κs =
     let own : ownerOf (a .p) T ((16 * a .page + l .i) / 16) ≡ a .region = on-page (a .p) (a .page) (l .i) T (omega arith) ∙ c .before .before .before .before .before .before .before .before .before .before .before .before .pre .1 .1 in
     let lb : 16 * a .page + l .i < 16 * (a .page + 1) = omega arith in
     let la : 16 * a .page ≤ 16 * a .page + l .i = omega arith in
-    let f = copy-fields w la lb (l .inv .3) (c .before .before .before .work .result) (forward (c .before .before .before)) (c .before .before .if1 .taken) u own in
+    let f = copy-fields w la lb (l .inv .3) (c .before .before .before .work .result) (forward (c .before .before .before)) (λ z. omega (arith, c .before .before .if1 .taken)) u own in
     (subst (λ (d : ℕ). Fields (a .p) (refsOf (l .cells) d) d (l .cells)) (sym (c .cell-named .ensures)) f, w .tables-long)
 
 add-i : tie.Need-add-i Inv-loop μ-loop
@@ -94,9 +94,9 @@ loop-again c =
     let h : P (16 * a .page + l .i + 1) (c .if1 .cells) =
     ⊎-elim
     (λ z. subst (P (16 * a .page + l .i + 1)) (sym (z .6))
-    (copy-moved w la lb (l .inv .3) (c .before .work .result) x (z .0 .taken) u own
+    (copy-moved w la lb (l .inv .3) (c .before .work .result) x (λ y. omega (arith, z .0 .taken)) u own
     (subst (λ (d : ℕ). Rewritten (a .p) (a .region) (Field d (refsOf (l .cells) d)) T (l .cells) (z .3 .last .1 .0)) (z .2 .ensures) (z .3 .ensures))))
-    (λ z. subst (P (16 * a .page + l .i + 1)) (sym (z .1)) (copy-null w la lb (l .inv .3) (c .before .work .result) x (z .0 .left)))
+    (λ z. subst (P (16 * a .page + l .i + 1)) (sym (z .1)) (copy-null w la lb (l .inv .3) (c .before .work .result) x (omega (arith, z .0 .left))))
     (c .if1 .came) in
     (omega (arith, c .before .before .before .before .loop-test .taken), l .inv .1, h .size, subst (λ (y : ℕ). P y (c .if1 .cells)) e h)
 
