@@ -53,7 +53,7 @@ array-read-if3 : tie.Need-array-read-if3 Inv-loop μ-loop Inv-loop2 μ-loop2
 array-read-if3 c = omega (arith, c .before .before .before .before .before .before .before .loop .inv .1 .flags, (owner-room (c .before .before .before .before .before .before .before .before .before .args .p) (now (c .before .before .before .before .before .before .before .before .before .args .tables)) (length (now (c .before .before .before .before .before .before .before .before .before .args .tables))) (c .before .before .before .before .before .before .before .loop .page) (c .before .before .before .before .before .before .before .before .before .pre .0) (c .before .before .before .before .before .before .before .before .before .pre .1) (c .before .before .before .before .before .before .loop-test .taken) (c .before .before .before .before .wide .ensures ∙ c .before .before .before .before .before .owner .ensures)))
 
 returns : tie.Need-returns Inv-loop μ-loop Inv-loop2 μ-loop2
-returns c = says-no (λ h. twice (c .before .before .before .before .before .before .before .before .before .before .args .p) (now (c .before .before .before .before .before .before .before .before .before .before .args .tables)) (c .before .before .before .before .before .before .before .before .loop .objects) (c .before .before .before .before .before .before .before .before .loop .partly) (c .before .before .before .before .before .before .before .before .loop .page) (c .before .before .before .before .before .wide .result) (c .before .before .wide2 .result) (c .before .before .before .before .before .before .before .before .loop .inv .1) (c .before .before .before .before .before .wide .ensures ∙ c .before .before .before .before .before .before .owner .ensures) (c .before .before .wide2 .ensures ∙ c .before .before .before .used .ensures) (owner-room (c .before .before .before .before .before .before .before .before .before .before .args .p) (now (c .before .before .before .before .before .before .before .before .before .before .args .tables)) (length (now (c .before .before .before .before .before .before .before .before .before .before .args .tables))) (c .before .before .before .before .before .before .before .before .loop .page) (c .before .before .before .before .before .before .before .before .before .before .pre .0) (c .before .before .before .before .before .before .before .before .before .before .pre .1) (c .before .before .before .before .before .before .before .loop-test .taken) (c .before .before .before .before .before .wide .ensures ∙ c .before .before .before .before .before .before .owner .ensures)) (c .before .before .before .before .before .before .before .loop-test .taken) (c .before .if2 .taken) (c .if3 .taken) (h .partial))
+returns c = says-no (λ h. twice (c .before .before .before .before .before .before .before .before .before .before .args .p) (now (c .before .before .before .before .before .before .before .before .before .before .args .tables)) (c .before .before .before .before .before .before .before .before .loop .objects) (c .before .before .before .before .before .before .before .before .loop .partly) (c .before .before .before .before .before .before .before .before .loop .page) (c .before .before .before .before .before .wide .result) (c .before .before .wide2 .result) (c .before .before .before .before .before .before .before .before .loop .inv .1) (c .before .before .before .before .before .wide .ensures ∙ c .before .before .before .before .before .before .owner .ensures) (c .before .before .wide2 .ensures ∙ c .before .before .before .used .ensures) (owner-room (c .before .before .before .before .before .before .before .before .before .before .args .p) (now (c .before .before .before .before .before .before .before .before .before .before .args .tables)) (length (now (c .before .before .before .before .before .before .before .before .before .before .args .tables))) (c .before .before .before .before .before .before .before .before .loop .page) (c .before .before .before .before .before .before .before .before .before .before .pre .0) (c .before .before .before .before .before .before .before .before .before .before .pre .1) (c .before .before .before .before .before .before .before .loop-test .taken) (c .before .before .before .before .before .wide .ensures ∙ c .before .before .before .before .before .before .owner .ensures)) (c .before .before .before .before .before .before .before .loop-test .taken) (omega (arith, c .before .if2 .taken)) (c .if3 .taken) (h .partial))
 
 array-write-partly : tie.Need-array-write-partly Inv-loop μ-loop Inv-loop2 μ-loop2
 array-write-partly c = omega (arith, c .before .before .before .before .before .before .before .before .loop .inv .1 .flags, (owner-room (c .before .before .before .before .before .before .before .before .before .before .args .p) (now (c .before .before .before .before .before .before .before .before .before .before .args .tables)) (length (now (c .before .before .before .before .before .before .before .before .before .before .args .tables))) (c .before .before .before .before .before .before .before .before .loop .page) (c .before .before .before .before .before .before .before .before .before .before .pre .0) (c .before .before .before .before .before .before .before .before .before .before .pre .1) (c .before .before .before .before .before .before .before .loop-test .taken) (c .before .before .before .before .before .wide .ensures ∙ c .before .before .before .before .before .before .owner .ensures)))
@@ -82,9 +82,9 @@ loop-again c = (
   ⊎-elim
       (λ w. ⊎-elim
       (λ v. subst₂ (λ (a : List ℕ) (b : List Bool). Tallied (c .before .before .before .before .before .before .args .p) (now (c .before .before .before .before .before .before .args .tables)) a b (c .before .before .before .before .loop .page + 1)) (sym (w .4)) (sym (w .5 ∙ v .2))
-      (tallied-part (c .before .before .before .before .before .before .args .p) (now (c .before .before .before .before .before .before .args .tables)) (c .before .before .before .before .loop .objects) (c .before .before .before .before .loop .partly) (c .before .before .before .before .loop .page) (c .before .wide .result) (w .2 .result) (c .before .before .before .before .loop .inv .1) (c .before .wide .ensures ∙ c .before .before .owner .ensures) (w .2 .ensures ∙ w .1 .ensures) (omega (arith, w .0 .taken)) (owner-room (c .before .before .before .before .before .before .args .p) (now (c .before .before .before .before .before .before .args .tables)) (length (now (c .before .before .before .before .before .before .args .tables))) (c .before .before .before .before .loop .page) (c .before .before .before .before .before .before .pre .0) (c .before .before .before .before .before .before .pre .1) (c .before .before .before .loop-test .taken) (c .before .wide .ensures ∙ c .before .before .owner .ensures)) (v .0 .taken) (v .1 .left)))
+      (tallied-part (c .before .before .before .before .before .before .args .p) (now (c .before .before .before .before .before .before .args .tables)) (c .before .before .before .before .loop .objects) (c .before .before .before .before .loop .partly) (c .before .before .before .before .loop .page) (c .before .wide .result) (w .2 .result) (c .before .before .before .before .loop .inv .1) (c .before .wide .ensures ∙ c .before .before .owner .ensures) (w .2 .ensures ∙ w .1 .ensures) (omega (arith, w .0 .taken)) (owner-room (c .before .before .before .before .before .before .args .p) (now (c .before .before .before .before .before .before .args .tables)) (length (now (c .before .before .before .before .before .before .args .tables))) (c .before .before .before .before .loop .page) (c .before .before .before .before .before .before .pre .0) (c .before .before .before .before .before .before .pre .1) (c .before .before .before .loop-test .taken) (c .before .wide .ensures ∙ c .before .before .owner .ensures)) (omega (arith, v .0 .taken)) (v .1 .left)))
       (λ v. subst₂ (λ (a : List ℕ) (b : List Bool). Tallied (c .before .before .before .before .before .before .args .p) (now (c .before .before .before .before .before .before .args .tables)) a b (c .before .before .before .before .loop .page + 1)) (sym (w .4)) (sym (w .5 ∙ v .1))
-      (tallied-full (c .before .before .before .before .before .before .args .p) (now (c .before .before .before .before .before .before .args .tables)) (c .before .before .before .before .loop .objects) (c .before .before .before .before .loop .partly) (c .before .before .before .before .loop .page) (c .before .wide .result) (w .2 .result) (c .before .before .before .before .loop .inv .1) (c .before .wide .ensures ∙ c .before .before .owner .ensures) (w .2 .ensures ∙ w .1 .ensures) (omega (arith, w .0 .taken)) (owner-room (c .before .before .before .before .before .before .args .p) (now (c .before .before .before .before .before .before .args .tables)) (length (now (c .before .before .before .before .before .before .args .tables))) (c .before .before .before .before .loop .page) (c .before .before .before .before .before .before .pre .0) (c .before .before .before .before .before .before .pre .1) (c .before .before .before .loop-test .taken) (c .before .wide .ensures ∙ c .before .before .owner .ensures)) (v .0 .left)))
+      (tallied-full (c .before .before .before .before .before .before .args .p) (now (c .before .before .before .before .before .before .args .tables)) (c .before .before .before .before .loop .objects) (c .before .before .before .before .loop .partly) (c .before .before .before .before .loop .page) (c .before .wide .result) (w .2 .result) (c .before .before .before .before .loop .inv .1) (c .before .wide .ensures ∙ c .before .before .owner .ensures) (w .2 .ensures ∙ w .1 .ensures) (omega (arith, w .0 .taken)) (owner-room (c .before .before .before .before .before .before .args .p) (now (c .before .before .before .before .before .before .args .tables)) (length (now (c .before .before .before .before .before .before .args .tables))) (c .before .before .before .before .loop .page) (c .before .before .before .before .before .before .pre .0) (c .before .before .before .before .before .before .pre .1) (c .before .before .before .loop-test .taken) (c .before .wide .ensures ∙ c .before .before .owner .ensures)) (omega (arith, v .0 .left))))
       (w .3 .came))
       (λ w. subst₂ (λ (a : List ℕ) (b : List Bool). Tallied (c .before .before .before .before .before .before .args .p) (now (c .before .before .before .before .before .before .args .tables)) a b (c .before .before .before .before .loop .page + 1)) (sym (w .1)) (sym (w .2))
       (tallied-free (c .before .before .before .before .before .before .args .p) (now (c .before .before .before .before .before .before .args .tables)) (c .before .before .before .before .loop .objects) (c .before .before .before .before .loop .partly) (c .before .before .before .before .loop .page) (c .before .wide .result) _ (c .before .before .before .before .loop .inv .1) (c .before .wide .ensures ∙ c .before .before .owner .ensures) refl (w .0 .left)))
