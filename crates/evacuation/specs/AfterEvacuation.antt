@@ -1,7 +1,7 @@
 -- The words that an evacuation of marked words leaves are those after an accepted end.
 use mathlib.Core.Path.{_≡_, refl, sym, ap, ap₂, _∙_, subst}
 use mathlib.Core.Logic.{_≢_, _⊎_, inl, inr}
-use mathlib.Core.Bool.{Bool, cond}
+use mathlib.Core.Bool.{Bool, false, cond}
 use mathlib.Core.List.{List}
 use Prim.Native.Nat.{ℕ, zero, suc, _+_, _-_, _*_, _/_, _^_, _≤_, _<_}
 use native.Mathlib.Decide.{ℕ-discrete}
@@ -83,7 +83,7 @@ module _ (s : Sizes) (w : Words) (whole : WholeFor s w) (t k : ℕ) (th : t < s 
       u : Used s w y
       u = subst (λ (z : ℕ). Used s w z) e (h (λ z. omega arith))
 
-      non : eqb (suc y) 0 ≡ mathlib.Core.Bool.false
+      non : eqb (suc y) 0 ≡ false
       non = ne-eqb (suc y) 0 (λ (z : suc y ≡ 0). omega arith)
 
       go : Dec (ownerIn s w (pageOf (suc y - 1)) ≡ regionAt s t (suc k))

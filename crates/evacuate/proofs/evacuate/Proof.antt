@@ -23,21 +23,28 @@ begun c =
     (sym (level c)) (sym (c .before .wide .ensures ∙ c .before .before .depth .ensures)) (c .before .before .before .before .before .before .before .pre .0)
 
 depth-requires : tie.Need-depth-requires
-depth-requires c κs = (c .before .before .before .before .pre .0 .plan .ready .regular .room, c .before .before .before .before .pre .1 .0)
+depth-requires c κs =
+    let pre = c .before .before .before .before .pre in
+    (pre .0 .plan .ready .regular .room, pre .1 .0)
 
 wide-requires : tie.Need-wide-requires
 wide-requires c κs = search needs
 
 region-at-requires : tie.Need-region-at-requires
 region-at-requires c κs =
-    let rm = c .before .before .before .before .before .before .pre .0 .plan .ready .regular .room in
-    (rm .threads-high, rm .depth-high, c .before .before .before .before .before .before .pre .1 .0, omega (arith, c .before .before .before .before .before .before .pre .1 .2, c .wide .ensures, c .before .depth .ensures))
+    let pre = c .before .before .before .before .before .before .pre in
+    let rm = pre .0 .plan .ready .regular .room in
+    (rm .threads-high, rm .depth-high, pre .1 .0, omega (arith, pre .1 .2, c .wide .ensures, c .before .depth .ensures))
 
 copy-survivors-requires : tie.Need-copy-survivors-requires
-copy-survivors-requires c κs = (begun (c .before .before) .plan, (c .before .before .before .before .before .before .before .before .before .pre .1 .0, omega (arith, c .before .before .before .before .before .before .before .before .before .pre .1 .2, c .before .before .before .wide .ensures, c .before .before .before .before .depth .ensures)))
+copy-survivors-requires c κs =
+    let pre = c .before .before .before .before .before .before .before .before .before .pre in
+    (begun (c .before .before) .plan, (pre .1 .0, omega (arith, pre .1 .2, c .before .before .before .wide .ensures, c .before .before .before .before .depth .ensures)))
 
 rewrite-slots-requires : tie.Need-rewrite-slots-requires
-rewrite-slots-requires c κs = (slots-ask (begun (c .before .before .before .before .before .before .before .before .before .before)) (c .before .before .before .before .before .before .before .copy-survivors .ensures), tables-ask (begun (c .before .before .before .before .before .before .before .before .before .before)) (c .before .before .before .before .before .before .before .copy-survivors .ensures))
+rewrite-slots-requires c κs =
+    let copy-survivors = c .before .before .before .before .before .before .before .copy-survivors in
+    (slots-ask (begun (c .before .before .before .before .before .before .before .before .before .before)) (copy-survivors .ensures), tables-ask (begun (c .before .before .before .before .before .before .before .before .before .before)) (copy-survivors .ensures))
 
 rewrite-copies-requires : tie.Need-rewrite-copies-requires
 rewrite-copies-requires c κs = copies-ask (begun (c .before .before .before .before .before .before .before .before .before .before .before .before .before .before .before)) (c .before .before .before .before .before .before .before .before .before .before .before .before .copy-survivors .ensures) (c .before .before .before .before .rewrite-slots .ensures)
@@ -57,13 +64,14 @@ rewrite-variables-requires c κs =
 
 release-requires : tie.Need-release-requires
 release-requires c κs =
+    let pre = c .before .before .before .before .before .before .before .before .before .before .before .before .before .before .before .before .before .before .before .before .before .before .before .before .before .before .before .before .before .before .before .before .before .before .before .before .before .pre in
     let a = c .before .before .before .before .before .before .before .before .before .before .before .before .before .before .before .before .before .before .before .before .before .before .before .before .before .before .before .before .before .before .before .before .before .before .before .before .before .args in
     let b = begun (c .before .before .before .before .before .before .before .before .before .before .before .before .before .before .before .before .before .before .before .before .before .before .before .before .before .before .before .before .before .before) in
     let k = c .before .before .before .before .before .before .before .before .before .before .before .before .before .before .before .before .before .before .before .before .before .before .before .before .before .before .before .copy-survivors .ensures in
-    let z = release-ask (a .thread) b k (c .before .before .before .before .before .before .before .before .before .before .before .before .before .before .before .before .before .before .before .before .before .before .before .before .before .before .before .before .before .before .before .before .before .before .before .before .before .pre .1 .0) (c .before .before .before .before .before .before .before .before .before .before .before .before .before .before .before .before .before .before .before .before .before .before .before .before .before .before .before .before .before .before .before .before .before .before .before .before .before .pre .1 .1) (c .before .before .before .rewrite-variables .ensures) in
-    let g = region-bounds (a .p) (a .thread) (depthOf (a .tables .now) (a .thread)) (c .before .before .before .before .before .before .before .before .before .before .before .before .before .before .before .before .before .before .before .before .before .before .before .before .before .before .before .before .before .before .before .before .before .before .before .before .before .pre .1 .0) (c .before .before .before .before .before .before .before .before .before .before .before .before .before .before .before .before .before .before .before .before .before .before .before .before .before .before .before .before .before .before .before .before .before .before .before .before .before .pre .1 .2) in
+    let z = release-ask (a .thread) b k (pre .1 .0) (pre .1 .1) (c .before .before .before .rewrite-variables .ensures) in
+    let g = region-bounds (a .p) (a .thread) (depthOf (a .tables .now) (a .thread)) (pre .1 .0) (pre .1 .2) in
     let e = level (c .before .before .before .before .before .before .before .before .before .before .before .before .before .before .before .before .before .before .before .before .before .before .before .before .before .before .before .before .before .before) in
-    (z .0, ((omega (arith, g .0), omega (arith, g .1)), (c .before .before .before .before .before .before .before .before .before .before .before .before .before .before .before .before .before .before .before .before .before .before .before .before .before .before .before .before .before .before .before .before .before .before .before .before .before .pre .1 .0, omega (arith, z .1, c .before .before .before .before .before .before .before .before .before .before .before .before .before .before .before .before .before .before .before .before .before .before .before .before .before .before .before .before .before .before .before .before .before .before .before .before .before .pre .1 .1))))
+    (z .0, ((omega (arith, g .0), omega (arith, g .1)), (pre .1 .0, omega (arith, z .1, pre .1 .1))))
 
 same-length : tie.Need-same-length
 same-length c = c .before .before .before .before .before .before .before .before .before .before .before .before .before .before .before .before .before .rewrite-copies .kept .1 .0 ∙ c .before .before .before .before .before .before .before .before .before .before .before .before .before .before .before .before .before .before .before .before .before .before .rewrite-slots .kept .1 .0 ∙ c .before .before .before .before .before .before .before .before .before .before .before .before .before .before .before .before .before .before .before .before .before .before .before .before .before .before .before .before .before .before .copy-survivors .kept .1 .0
@@ -76,13 +84,15 @@ same-length-3 c = c .before .before .release .kept .1 .0 ∙ c .before .before .
 
 returns : tie.Need-returns
 returns c =
+    let rewrite-copies = c .before .before .before .before .before .before .before .before .before .before .before .before .before .before .before .before .before .rewrite-copies in
+    let update-remember = c .before .before .before .before .before .before .before .before .before .before .before .update-remember in
     let a = c .before .before .before .before .before .before .before .before .before .before .before .before .before .before .before .before .before .before .before .before .before .before .before .before .before .before .before .before .before .before .before .before .before .before .before .before .before .before .before .before .args in
     let b = begun (c .before .before .before .before .before .before .before .before .before .before .before .before .before .before .before .before .before .before .before .before .before .before .before .before .before .before .before .before .before .before .before .before .before) in
     let k = c .before .before .before .before .before .before .before .before .before .before .before .before .before .before .before .before .before .before .before .before .before .before .before .before .before .before .before .before .before .before .copy-survivors .ensures in
     let F : ℕ → ℕ → Type 0 =
-    (λ g l. Finished (a .p) g (a .p .entries) (usedIn (a .remember .now)) l (a .thread) (regionAt (sizesOf (a .p)) (a .thread)) (a .cells .now) (a .tables .now) (a .remember .now) (c .before .before .before .before .before .before .before .before .before .before .before .before .before .before .before .before .before .rewrite-copies .last .1 .0) (c .before .before .release .last .1 .0) (c .before .before .before .before .before .before .before .before .before .before .before .update-remember .last .1 .1 .1 .0)) in
+    (λ g l. Finished (a .p) g (a .p .entries) (usedIn (a .remember .now)) l (a .thread) (regionAt (sizesOf (a .p)) (a .thread)) (a .cells .now) (a .tables .now) (a .remember .now) (rewrite-copies .last .1 .0) (c .before .before .release .last .1 .0) (update-remember .last .1 .1 .1 .0)) in
     subst₂ F (level (c .before .before .before .before .before .before .before .before .before .before .before .before .before .before .before .before .before .before .before .before .before .before .before .before .before .before .before .before .before .before .before .before .before)) (c .before .before .before .before .before .before .before .before .before .before .before .before .before .before .before .before .before .before .before .before .before .before .before .before .before .before .before .before .before .before .before .before .before .before .wide .ensures ∙ c .before .before .before .before .before .before .before .before .before .before .before .before .before .before .before .before .before .before .before .before .before .before .before .before .before .before .before .before .before .before .before .before .before .before .before .depth .ensures)
-    (finished b k (c .before .before .before .before .before .before .before .before .before .before .before .before .before .before .before .before .before .before .before .before .before .before .rewrite-slots .ensures) (c .before .before .before .before .before .before .before .before .before .before .before .before .before .before .before .before .before .rewrite-copies .ensures) (c .before .before .before .before .before .before .before .before .before .before .before .update-remember .ensures) (c .before .before .before .before .before .before .rewrite-variables .ensures) (c .before .before .release .ensures))
+    (finished b k (c .before .before .before .before .before .before .before .before .before .before .before .before .before .before .before .before .before .before .before .before .before .before .rewrite-slots .ensures) (rewrite-copies .ensures) (update-remember .ensures) (c .before .before .before .before .before .before .rewrite-variables .ensures) (c .before .before .release .ensures))
 
 pub evacuate-spec : {M : Type 1} → statement M
 evacuate-spec =

@@ -30,13 +30,17 @@ returns-4 : tie.Need-returns-4
 returns-4 c = says-no (λ h. said-no _ (c .before .variables-whole .ensures) (not-true _ (c .if4 .taken)) (h .variables))
 
 cells-whole-requires : tie.Need-cells-whole-requires
-cells-whole-requires c κs = (c .before .before .before .before .before .before .before .before .before .before .before .pre .0, (c .before .before .before .before .before .before .before .before .before .before .before .pre .1 .0, c .before .before .before .before .before .pages-whole .ensures .0 (not-false _ (c .before .before .before .before .if2 .left))))
+cells-whole-requires c κs =
+    let pre = c .before .before .before .before .before .before .before .before .before .before .before .pre in
+    (pre .0, (pre .1 .0, c .before .before .before .before .before .pages-whole .ensures .0 (not-false _ (c .before .before .before .before .if2 .left))))
 
 returns-5 : tie.Need-returns-5
 returns-5 c = says-no (λ h. said-no _ (c .before .cells-whole .ensures) (not-true _ (c .if5 .taken)) (cells-of h))
 
 remember-whole-requires : tie.Need-remember-whole-requires
-remember-whole-requires c κs = (c .before .before .before .before .before .before .before .before .before .before .before .before .before .pre .0, (c .before .before .before .before .before .before .before .before .before .before .before .before .before .pre .1 .0, (c .before .before .before .before .before .before .before .before .before .before .before .before .before .pre .1 .1, (c .before .before .before .before .before .before .before .pages-whole .ensures .0 (not-false _ (c .before .before .before .before .before .before .if2 .left)), c .before .cells-whole .ensures .0 (not-false _ (c .if5 .left))))))
+remember-whole-requires c κs =
+    let pre = c .before .before .before .before .before .before .before .before .before .before .before .before .before .pre in
+    (pre .0, (pre .1 .0, (pre .1 .1, (c .before .before .before .before .before .before .before .pages-whole .ensures .0 (not-false _ (c .before .before .before .before .before .before .if2 .left)), c .before .cells-whole .ensures .0 (not-false _ (c .if5 .left))))))
 
 returns-6 : tie.Need-returns-6
 returns-6 c = says-no (λ h. said-no _ (c .before .remember-whole .ensures) (not-true _ (c .if6 .taken)) (h .remember))

@@ -23,7 +23,9 @@ find-places-requires : tie.Need-find-places-requires
 find-places-requires c κs = rw (c .read-sizes .ensures) ((c .before .before .sizes-whole .ensures .0 (not-false _ (c .before .if1 .left))) .range)
 
 placed-whole-requires : tie.Need-placed-whole-requires
-placed-whole-requires c κs = let w = c .before .before .before .sizes-whole .ensures .0 (not-false _ (c .before .before .if1 .left)) in rw (c .find-places .ensures ∙ ap placesOf (c .before .read-sizes .ensures)) (room (sizesAt (now (c .before .before .before .before .before .before .before .args .tables))) (length (now (c .before .before .before .before .before .before .before .args .tables))) (w .range) (w .tables) (omega arith), (w .cells, w .remember))
+placed-whole-requires c κs =
+    let args = c .before .before .before .before .before .before .before .args in
+    let w = c .before .before .before .sizes-whole .ensures .0 (not-false _ (c .before .before .if1 .left)) in rw (c .find-places .ensures ∙ ap placesOf (c .before .read-sizes .ensures)) (room (sizesAt (now (args .tables))) (length (now (args .tables))) (w .range) (w .tables) (omega arith), (w .cells, w .remember))
 
 returns-2 : tie.Need-returns-2
 returns-2 c = says-no (λ h. said-no _ (c .before .placed-whole .ensures) (not-true _ (c .if2 .taken)) (rw (c .before .before .find-places .ensures ∙ ap placesOf (c .before .before .before .read-sizes .ensures)) (h .placed)))

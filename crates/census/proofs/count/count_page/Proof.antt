@@ -32,15 +32,20 @@ cell-on-requires c κs =
 
 goes-to-requires : tie.Need-goes-to-requires Inv-loop μ-loop
 goes-to-requires c κs =
-    omega (arith, walk-lowest (c .before .before .before .loop .inv .1) (omega (arith, c .before .before .before .loop .inv .0)), c .before .wide .ensures, c .cell-on .ensures, c .before .before .before .before .before .pre .1, c .before .before .before .before .before .pre .2)
+    let pre = c .before .before .before .before .before .pre in
+    let loop = c .before .before .before .loop in
+    omega (arith, walk-lowest (loop .inv .1) (omega (arith, loop .inv .0)), c .before .wide .ensures, c .cell-on .ensures, pre .1, pre .2)
 
 add-n : tie.Need-add-n Inv-loop μ-loop
 add-n c =
-    omega (arith, c .goes-to .ensures, goes-le (c .before .before .before .before .before .before .args .cells .now) (c .before .before .before .before .before .before .args .g) (c .before .cell-on .result), c .before .before .before .before .loop .inv .3, ones-le 16 (c .before .before .before .before .before .before .args .w) (c .before .before .before .before .before .before .pre .0), c .before .before .before .before .loop .inv .0)
+    let args = c .before .before .before .before .before .before .args in
+    let loop = c .before .before .before .before .loop in
+    omega (arith, c .goes-to .ensures, goes-le (args .cells .now) (args .g) (c .before .cell-on .result), loop .inv .3, ones-le 16 (args .w) (c .before .before .before .before .before .before .pre .0), loop .inv .0)
 
 without-bit-requires : tie.Need-without-bit-requires Inv-loop μ-loop
 without-bit-requires c κs =
-    let l = walk-lowest (c .before .before .before .before .loop .inv .1) (omega (arith, c .before .before .before .before .loop .inv .0)) in (l .lt, l .on)
+    let loop = c .before .before .before .before .loop in
+    let l = walk-lowest (loop .inv .1) (omega (arith, loop .inv .0)) in (l .lt, l .on)
 
 add-k : tie.Need-add-k Inv-loop μ-loop
 add-k c =
@@ -52,8 +57,11 @@ loop-less c =
 
 loop-again : tie.Need-loop-again Inv-loop μ-loop
 loop-again c =
-    let l = walk-lowest (c .before .before .before .before .before .loop .inv .1) (omega (arith, c .before .before .before .before .before .loop .inv .0)) in
-    (c .before .before .before .before .before .loop .inv .0, walk-turn (trailingZeros 32 (c .before .before .before .before .before .loop .left)) (c .without-bit .result) (c .before .before .before .before .before .loop .inv .1) l (c .without-bit .ensures), summed-next (trailingZeros 32 (c .before .before .before .before .before .loop .left)) (c .without-bit .result) (c .before .before .before .before .before .loop .n + c .before .goes-to .result) (c .before .goes-to .result) l (c .without-bit .ensures) (c .before .goes-to .ensures ∙ ap (goesTo (c .before .before .before .before .before .before .before .args .cells .now) (c .before .before .before .before .before .before .before .args .g)) (c .before .before .cell-on .ensures ∙ ap (cellOn (c .before .before .before .before .before .before .before .args .page)) (c .before .before .before .wide .ensures))) refl (c .before .before .before .before .before .loop .inv .2), omega (arith, c .before .goes-to .ensures, goes-le (c .before .before .before .before .before .before .before .args .cells .now) (c .before .before .before .before .before .before .before .args .g) (c .before .before .cell-on .result), c .before .before .before .before .before .loop .inv .3))
+    let args = c .before .before .before .before .before .before .before .args in
+    let loop = c .before .before .before .before .before .loop in
+    let goes-to = c .before .goes-to in
+    let l = walk-lowest (loop .inv .1) (omega (arith, loop .inv .0)) in
+    (loop .inv .0, walk-turn (trailingZeros 32 (loop .left)) (c .without-bit .result) (loop .inv .1) l (c .without-bit .ensures), summed-next (trailingZeros 32 (loop .left)) (c .without-bit .result) (loop .n + goes-to .result) (goes-to .result) l (c .without-bit .ensures) (goes-to .ensures ∙ ap (goesTo (args .cells .now) (args .g)) (c .before .before .cell-on .ensures ∙ ap (cellOn (args .page)) (c .before .before .before .wide .ensures))) refl (loop .inv .2), omega (arith, goes-to .ensures, goes-le (args .cells .now) (args .g) (c .before .before .cell-on .result), loop .inv .3))
 
 returns : tie.Need-returns Inv-loop μ-loop
 returns c =

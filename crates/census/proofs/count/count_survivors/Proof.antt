@@ -26,11 +26,14 @@ mark-requires c κs =
 
 count-page-requires : tie.Need-count-page-requires Inv-loop μ-loop
 count-page-requires c κs =
-    (omega (arith, c .mark .ensures, c .before .before .before .before .before .pre .1 .1 (c .before .before .loop .page) (omega arith)), omega (arith, c .before .before .before .before .before .pre .0), omega (arith, c .before .before .before .before .before .pre .1 .0))
+    let pre = c .before .before .before .before .before .pre in
+    (omega (arith, c .mark .ensures, pre .1 .1 (c .before .before .loop .page) (omega arith)), omega (arith, pre .0), omega (arith, pre .1 .0))
 
 add-n : tie.Need-add-n Inv-loop μ-loop
 add-n c =
-    omega (arith, c .count-page .ensures, page-high (goesTo (c .before .before .before .before .before .before .args .cells .now) (c .before .before .before .before .before .before .args .g)) 1 (goes-le (c .before .before .before .before .before .before .args .cells .now) (c .before .before .before .before .before .before .args .g)) (c .before .before .before .loop .page) (c .before .mark .result), c .before .before .before .loop .inv .3, c .before .before .before .before .before .before .pre .0)
+    let args = c .before .before .before .before .before .before .args in
+    let loop = c .before .before .before .loop in
+    omega (arith, c .count-page .ensures, page-high (goesTo (args .cells .now) (args .g)) 1 (goes-le (args .cells .now) (args .g)) (loop .page) (c .before .mark .result), loop .inv .3, c .before .before .before .before .before .before .pre .0)
 
 add-page : tie.Need-add-page Inv-loop μ-loop
 add-page c =
@@ -42,13 +45,16 @@ loop-less c =
 
 loop-again : tie.Need-loop-again Inv-loop μ-loop
 loop-again c =
-    let e = c .count-page .ensures ∙ ap (onPage (goesTo (c .before .before .before .before .before .before .args .cells .now) (c .before .before .before .before .before .before .args .g)) (c .before .before .before .loop .page)) (c .before .mark .ensures) in
-    let m = sum-more (λ page. onPage (goesTo (c .before .before .before .before .before .before .args .cells .now) (c .before .before .before .before .before .before .args .g)) page (markOf (c .before .before .before .before .before .before .args .p) (c .before .before .before .before .before .before .args .tables .now) page)) (c .before .before .before .loop .page) in
-    (omega arith, c .before .before .before .loop .inv .1, omega (arith, e, m, c .before .before .before .loop .inv .2), omega (arith, c .count-page .ensures, page-high (goesTo (c .before .before .before .before .before .before .args .cells .now) (c .before .before .before .before .before .before .args .g)) 1 (goes-le (c .before .before .before .before .before .before .args .cells .now) (c .before .before .before .before .before .before .args .g)) (c .before .before .before .loop .page) (c .before .mark .result), c .before .before .before .loop .inv .3))
+    let args = c .before .before .before .before .before .before .args in
+    let loop = c .before .before .before .loop in
+    let e = c .count-page .ensures ∙ ap (onPage (goesTo (args .cells .now) (args .g)) (loop .page)) (c .before .mark .ensures) in
+    let m = sum-more (λ page. onPage (goesTo (args .cells .now) (args .g)) page (markOf (args .p) (args .tables .now) page)) (loop .page) in
+    (omega arith, loop .inv .1, omega (arith, e, m, loop .inv .2), omega (arith, c .count-page .ensures, page-high (goesTo (args .cells .now) (args .g)) 1 (goes-le (args .cells .now) (args .g)) (loop .page) (c .before .mark .result), loop .inv .3))
 
 returns : tie.Need-returns Inv-loop μ-loop
 returns c =
-    let e : c .before .loop .page ≡ c .before .before .before .before .args .p .pages = omega arith in c .before .loop .inv .2 ∙ ap (overMarked (c .before .before .before .before .args .p) (c .before .before .before .before .args .tables .now) (goesTo (c .before .before .before .before .args .cells .now) (c .before .before .before .before .args .g))) e
+    let args = c .before .before .before .before .args in
+    let e : c .before .loop .page ≡ args .p .pages = omega arith in c .before .loop .inv .2 ∙ ap (overMarked (args .p) (args .tables .now) (goesTo (args .cells .now) (args .g))) e
 
 pub count-survivors-spec : {M : Type 1} → statement M
 count-survivors-spec =

@@ -9,11 +9,13 @@ work-requires c κs = search needs
 
 returns : tie.Need-returns
 returns c =
-    goes-yes (c .before .before .before .args .cells .now) (c .before .before .before .args .g) (c .before .before .before .args .c) _ (c .before .work .ensures) (c .if1 .taken)
+    let args = c .before .before .before .args in
+    goes-yes (args .cells .now) (args .g) (args .c) _ (c .before .work .ensures) (c .if1 .taken)
 
 returns-2 : tie.Need-returns-2
 returns-2 c =
-    goes-no (c .before .before .before .args .cells .now) (c .before .before .before .args .g) (c .before .before .before .args .c) _ (c .before .work .ensures) (c .if1 .left)
+    let args = c .before .before .before .args in
+    goes-no (args .cells .now) (args .g) (args .c) _ (c .before .work .ensures) (c .if1 .left)
 
 pub goes-to-spec : {M : Type 1} → statement M
 goes-to-spec = tie.close (tie.spec work-requires returns returns-2)

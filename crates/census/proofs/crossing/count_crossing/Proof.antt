@@ -7,11 +7,13 @@ use Rattle.census.proofs.crossing.count_crossing.Tie as tie
 
 cross-entries-requires : tie.Need-cross-entries-requires
 cross-entries-requires c κs =
-    (c .before .before .before .pre .0, c .before .before .before .pre .1 .0)
+    let pre = c .before .before .before .pre in
+    (pre .0, pre .1 .0)
 
 cross-survivors-requires : tie.Need-cross-survivors-requires
 cross-survivors-requires c κs =
-    (c .before .before .before .before .pre .0, (c .before .before .before .before .pre .1 .1 .0, c .before .before .before .before .pre .1 .1 .1))
+    let pre = c .before .before .before .before .pre in
+    (pre .0, (pre .1 .1 .0, pre .1 .1 .1))
 
 add-result : tie.Need-add-result
 add-result c =

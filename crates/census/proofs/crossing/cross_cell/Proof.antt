@@ -20,11 +20,13 @@ abbrev μ-loop : tie.MeasureT-loop
 
 work-requires : tie.Need-work-requires Inv-loop μ-loop
 work-requires c κs =
-    omega (arith, c .before .before .pre .1 .page, c .before .before .pre .0 .cells-long, c .before .before .pre .0 .room)
+    let pre = c .before .before .pre in
+    omega (arith, pre .1 .page, pre .0 .cells-long, pre .0 .room)
 
 head-requires : tie.Need-head-requires Inv-loop μ-loop
 head-requires c κs =
-    omega (arith, c .before .before .before .pre .1 .page, c .before .before .before .pre .0 .cells-long, c .before .before .before .pre .0 .room)
+    let pre = c .before .before .before .pre in
+    omega (arith, pre .1 .page, pre .0 .cells-long, pre .0 .room)
 
 field-count-requires : tie.Need-field-count-requires Inv-loop μ-loop
 field-count-requires c κs =
@@ -32,20 +34,27 @@ field-count-requires c κs =
 
 loop-holds : tie.Need-loop-holds Inv-loop μ-loop
 loop-holds c =
-    let e : c .field-count .result ≡ headOf (c .before .before .before .before .before .args .cells .now) (c .before .before .before .before .before .args .c) / 16 = c .field-count .ensures ∙ ap (λ (x : ℕ). x / 16) (c .before .head .ensures) in
-    (omega arith, e, omega (arith, c .before .before .before .before .before .pre .0 .refs-few (c .before .before .before .before .before .args .c) (c .before .before .before .before .before .pre .1)), c .before .before .work .ensures, refl, omega arith)
+    let args = c .before .before .before .before .before .args in
+    let pre = c .before .before .before .before .before .pre in
+    let e : c .field-count .result ≡ headOf (args .cells .now) (args .c) / 16 = c .field-count .ensures ∙ ap (λ (x : ℕ). x / 16) (c .before .head .ensures) in
+    (omega arith, e, omega (arith, pre .0 .refs-few (args .c) (pre .1)), c .before .before .work .ensures, refl, omega arith)
 
 field-requires : tie.Need-field-requires Inv-loop μ-loop
 field-requires c κs =
-    omega (arith, c .before .before .before .before .before .before .before .pre .1 .page, c .before .before .before .before .before .before .before .pre .0 .cells-long, c .before .before .before .before .before .before .before .pre .0 .room)
+    let pre = c .before .before .before .before .before .before .before .pre in
+    omega (arith, pre .1 .page, pre .0 .cells-long, pre .0 .room)
 
 crosses-requires : tie.Need-crosses-requires Inv-loop μ-loop
 crosses-requires c κs =
-    (c .before .before .before .before .before .before .before .before .pre .0 .room, (c .before .before .before .before .before .before .before .before .pre .0 .cells-long, subst (IsRef (c .before .before .before .before .before .before .before .before .args .p) (c .before .before .before .before .before .before .before .before .args .tables .now)) (sym (c .field .ensures)) (c .before .before .before .before .before .before .before .before .pre .0 .references (c .before .before .before .before .before .before .before .before .args .c) (c .before .before .before .before .before .before .before .before .pre .1) (c .before .before .loop .f) (omega arith))))
+    let pre = c .before .before .before .before .before .before .before .before .pre in
+    let args = c .before .before .before .before .before .before .before .before .args in
+    (pre .0 .room, (pre .0 .cells-long, subst (IsRef (args .p) (args .tables .now)) (sym (c .field .ensures)) (pre .0 .references (args .c) (pre .1) (c .before .before .loop .f) (omega arith))))
 
 add-n : tie.Need-add-n Inv-loop μ-loop
 add-n c =
-    omega (arith, c .before .before .before .loop .inv .5, c .before .before .before .loop .inv .2, c .crosses .ensures, cross-le (c .before .before .before .before .before .before .before .before .before .args .p) (c .before .before .before .before .before .before .before .before .before .args .cells .now) (c .before .before .before .before .before .before .before .before .before .args .tables .now) (c .before .before .before .before .before .before .before .before .before .args .r) (c .before .before .before .before .before .before .work .result) (c .before .field .result))
+    let args = c .before .before .before .before .before .before .before .before .before .args in
+    let loop = c .before .before .before .loop in
+    omega (arith, loop .inv .5, loop .inv .2, c .crosses .ensures, cross-le (args .p) (args .cells .now) (args .tables .now) (args .r) (c .before .before .before .before .before .before .work .result) (c .before .field .result))
 
 add-f : tie.Need-add-f Inv-loop μ-loop
 add-f c =
@@ -57,15 +66,19 @@ loop-less c =
 
 loop-again : tie.Need-loop-again Inv-loop μ-loop
 loop-again c =
-    let e = c .crosses .ensures ∙ ap₂ (crossAfter (c .before .before .before .before .before .before .before .before .before .args .p) (c .before .before .before .before .before .before .before .before .before .args .cells .now) (c .before .before .before .before .before .before .before .before .before .args .tables .now) (c .before .before .before .before .before .before .before .before .before .args .r)) (c .before .before .before .loop .inv .3) (c .before .field .ensures) in
-    let m = sum-more (λ f. crossAfter (c .before .before .before .before .before .before .before .before .before .args .p) (c .before .before .before .before .before .before .before .before .before .args .cells .now) (c .before .before .before .before .before .before .before .before .before .args .tables .now) (c .before .before .before .before .before .before .before .before .before .args .r) (workOf (c .before .before .before .before .before .before .before .before .before .args .cells .now) (c .before .before .before .before .before .before .before .before .before .args .c)) (fieldOf (c .before .before .before .before .before .before .before .before .before .args .cells .now) (c .before .before .before .before .before .before .before .before .before .args .c) f)) (c .before .before .before .loop .f) in
-    let b = cross-le (c .before .before .before .before .before .before .before .before .before .args .p) (c .before .before .before .before .before .before .before .before .before .args .cells .now) (c .before .before .before .before .before .before .before .before .before .args .tables .now) (c .before .before .before .before .before .before .before .before .before .args .r) (workOf (c .before .before .before .before .before .before .before .before .before .args .cells .now) (c .before .before .before .before .before .before .before .before .before .args .c)) (fieldOf (c .before .before .before .before .before .before .before .before .before .args .cells .now) (c .before .before .before .before .before .before .before .before .before .args .c) (c .before .before .before .loop .f)) in
-    (omega arith, c .before .before .before .loop .inv .1, c .before .before .before .loop .inv .2, c .before .before .before .loop .inv .3, omega (arith, e, m, c .before .before .before .loop .inv .4), omega (arith, e, b, c .before .before .before .loop .inv .5))
+    let args = c .before .before .before .before .before .before .before .before .before .args in
+    let loop = c .before .before .before .loop in
+    let e = c .crosses .ensures ∙ ap₂ (crossAfter (args .p) (args .cells .now) (args .tables .now) (args .r)) (loop .inv .3) (c .before .field .ensures) in
+    let m = sum-more (λ f. crossAfter (args .p) (args .cells .now) (args .tables .now) (args .r) (workOf (args .cells .now) (args .c)) (fieldOf (args .cells .now) (args .c) f)) (loop .f) in
+    let b = cross-le (args .p) (args .cells .now) (args .tables .now) (args .r) (workOf (args .cells .now) (args .c)) (fieldOf (args .cells .now) (args .c) (loop .f)) in
+    (omega arith, loop .inv .1, loop .inv .2, loop .inv .3, omega (arith, e, m, loop .inv .4), omega (arith, e, b, loop .inv .5))
 
 returns : tie.Need-returns Inv-loop μ-loop
 returns c =
-    let e : c .before .loop .f ≡ headOf (c .before .before .before .before .before .before .before .args .cells .now) (c .before .before .before .before .before .before .before .args .c) / 16 = omega arith in
-    (cells-cross (c .before .before .before .before .before .before .before .args .p) (c .before .before .before .before .before .before .before .args .cells .now) (c .before .before .before .before .before .before .before .args .tables .now) (c .before .before .before .before .before .before .before .args .r) (c .before .before .before .before .before .before .before .args .c) (c .before .loop .f) (c .before .loop .n) e (c .before .loop .inv .4), omega (arith, c .before .loop .inv .5, c .before .loop .inv .2, c .before .loop .inv .0))
+    let args = c .before .before .before .before .before .before .before .args in
+    let loop = c .before .loop in
+    let e : loop .f ≡ headOf (args .cells .now) (args .c) / 16 = omega arith in
+    (cells-cross (args .p) (args .cells .now) (args .tables .now) (args .r) (args .c) (loop .f) (loop .n) e (loop .inv .4), omega (arith, loop .inv .5, loop .inv .2, loop .inv .0))
 
 pub cross-cell-spec : {M : Type 1} → statement M
 cross-cell-spec =

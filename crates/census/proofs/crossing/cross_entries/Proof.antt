@@ -27,15 +27,19 @@ wide-requires c κs =
 
 loop-holds : tie.Need-loop-holds Inv-loop μ-loop
 loop-holds c =
-    (omega arith, c .wide .ensures ∙ c .before .used .ensures, omega (arith, c .wide .ensures, c .before .used .ensures, c .before .before .before .before .before .pre .1 .few, c .before .before .before .before .before .pre .0 .room), refl, omega arith)
+    let pre = c .before .before .before .before .before .pre in
+    (omega arith, c .wide .ensures ∙ c .before .used .ensures, omega (arith, c .wide .ensures, c .before .used .ensures, pre .1 .few, pre .0 .room), refl, omega arith)
 
 cross-entry-requires : tie.Need-cross-entry-requires Inv-loop μ-loop
 cross-entry-requires c κs =
-    (c .before .before .before .before .before .before .before .pre .0, (c .before .before .before .before .before .before .before .pre .1, omega arith))
+    let pre = c .before .before .before .before .before .before .before .pre in
+    (pre .0, (pre .1, omega arith))
 
 add-n : tie.Need-add-n Inv-loop μ-loop
 add-n c =
-    omega (arith, c .cross-entry .ensures, slot-le (c .before .before .before .before .before .before .before .before .args .p) (c .before .before .before .before .before .before .before .before .args .cells .now) (c .before .before .before .before .before .before .before .before .args .tables .now) (c .before .before .before .before .before .before .before .before .args .r) (slotIn (c .before .before .before .before .before .before .before .before .args .remember .now) (c .before .before .loop .i)), c .before .before .loop .inv .4, c .before .before .loop .inv .2)
+    let args = c .before .before .before .before .before .before .before .before .args in
+    let loop = c .before .before .loop in
+    omega (arith, c .cross-entry .ensures, slot-le (args .p) (args .cells .now) (args .tables .now) (args .r) (slotIn (args .remember .now) (loop .i)), loop .inv .4, loop .inv .2)
 
 add-i : tie.Need-add-i Inv-loop μ-loop
 add-i c =
@@ -47,13 +51,17 @@ loop-less c =
 
 loop-again : tie.Need-loop-again Inv-loop μ-loop
 loop-again c =
-    let m = sum-more (λ i. slotCrosses (c .before .before .before .before .before .before .before .before .args .p) (c .before .before .before .before .before .before .before .before .args .cells .now) (c .before .before .before .before .before .before .before .before .args .tables .now) (c .before .before .before .before .before .before .before .before .args .r) (slotIn (c .before .before .before .before .before .before .before .before .args .remember .now) i)) (c .before .before .loop .i) in
-    (omega arith, c .before .before .loop .inv .1, c .before .before .loop .inv .2, omega (arith, c .cross-entry .ensures, m, c .before .before .loop .inv .3), omega (arith, c .cross-entry .ensures, slot-le (c .before .before .before .before .before .before .before .before .args .p) (c .before .before .before .before .before .before .before .before .args .cells .now) (c .before .before .before .before .before .before .before .before .args .tables .now) (c .before .before .before .before .before .before .before .before .args .r) (slotIn (c .before .before .before .before .before .before .before .before .args .remember .now) (c .before .before .loop .i)), c .before .before .loop .inv .4))
+    let args = c .before .before .before .before .before .before .before .before .args in
+    let loop = c .before .before .loop in
+    let m = sum-more (λ i. slotCrosses (args .p) (args .cells .now) (args .tables .now) (args .r) (slotIn (args .remember .now) i)) (loop .i) in
+    (omega arith, loop .inv .1, loop .inv .2, omega (arith, c .cross-entry .ensures, m, loop .inv .3), omega (arith, c .cross-entry .ensures, slot-le (args .p) (args .cells .now) (args .tables .now) (args .r) (slotIn (args .remember .now) (loop .i)), loop .inv .4))
 
 returns : tie.Need-returns Inv-loop μ-loop
 returns c =
-    let e : c .before .loop .i ≡ usedIn (c .before .before .before .before .before .before .before .args .remember .now) = omega arith in
-    (c .before .loop .inv .3 ∙ ap (sum (λ i. slotCrosses (c .before .before .before .before .before .before .before .args .p) (c .before .before .before .before .before .before .before .args .cells .now) (c .before .before .before .before .before .before .before .args .tables .now) (c .before .before .before .before .before .before .before .args .r) (slotIn (c .before .before .before .before .before .before .before .args .remember .now) i))) e, omega (arith, c .before .loop .inv .4, c .before .loop .inv .2, c .before .loop .inv .0))
+    let args = c .before .before .before .before .before .before .before .args in
+    let loop = c .before .loop in
+    let e : loop .i ≡ usedIn (args .remember .now) = omega arith in
+    (loop .inv .3 ∙ ap (sum (λ i. slotCrosses (args .p) (args .cells .now) (args .tables .now) (args .r) (slotIn (args .remember .now) i))) e, omega (arith, loop .inv .4, loop .inv .2, loop .inv .0))
 
 pub cross-entries-spec : {M : Type 1} → statement M
 cross-entries-spec =

@@ -13,7 +13,8 @@ use Rattle.census.proofs.crossing.cross_entry.Tie as tie
 
 slot-requires : tie.Need-slot-requires
 slot-requires c κs =
-    (c .before .before .before .pre .1 .0 .long, omega (arith, c .before .before .before .pre .1 .0 .few, c .before .before .before .pre .1 .1))
+    let pre = c .before .before .before .pre in
+    (pre .1 .0 .long, omega (arith, pre .1 .0 .few, pre .1 .1))
 
 wide-requires : tie.Need-wide-requires
 wide-requires c κs = search needs
@@ -23,26 +24,34 @@ page-at-requires c κs = search needs
 
 owner-requires : tie.Need-owner-requires
 owner-requires c κs =
-    (c .before .before .before .before .before .before .pre .0 .room, omega (arith, c .page-at .ensures, c .before .wide .ensures ∙ c .before .before .slot .ensures, c .before .before .before .before .before .before .pre .1 .0 .slot (c .before .before .before .before .before .before .args .i) (c .before .before .before .before .before .before .pre .1 .1)))
+    let pre = c .before .before .before .before .before .before .pre in
+    (pre .0 .room, omega (arith, c .page-at .ensures, c .before .wide .ensures ∙ c .before .before .slot .ensures, pre .1 .0 .slot (c .before .before .before .before .before .before .args .i) (pre .1 .1)))
 
 returns : tie.Need-returns
 returns c =
-    slot-in (c .before .before .before .before .before .before .before .before .args .p) (c .before .before .before .before .before .before .before .before .args .cells .now) (c .before .before .before .before .before .before .before .before .args .tables .now) (c .before .before .before .before .before .before .before .before .args .r) (slotIn (c .before .before .before .before .before .before .before .before .args .remember .now) (c .before .before .before .before .before .before .before .before .args .i)) _ _ (c .before .before .page-at .ensures ∙ ap (λ (z : ℕ). pageOf (cellOf z)) (c .before .before .before .wide .ensures ∙ c .before .before .before .before .slot .ensures)) (c .before .owner .ensures) (c .if1 .taken)
+    let args = c .before .before .before .before .before .before .before .before .args in
+    slot-in (args .p) (args .cells .now) (args .tables .now) (args .r) (slotIn (args .remember .now) (args .i)) _ _ (c .before .before .page-at .ensures ∙ ap (λ (z : ℕ). pageOf (cellOf z)) (c .before .before .before .wide .ensures ∙ c .before .before .before .before .slot .ensures)) (c .before .owner .ensures) (c .if1 .taken)
 
 mul-crosses : tie.Need-mul-crosses
 mul-crosses c = search needs
 
 shared-slice-read-crosses : tie.Need-shared-slice-read-crosses
 shared-slice-read-crosses c =
-    omega (arith, (c .before .before .before .before .wide .ensures ∙ c .before .before .before .before .before .slot .ensures), c .before .before .before .before .before .before .before .before .before .pre .1 .0 .slot (c .before .before .before .before .before .before .before .before .before .args .i) (c .before .before .before .before .before .before .before .before .before .pre .1 .1), c .before .before .before .before .before .before .before .before .before .pre .0 .cells-long)
+    let pre = c .before .before .before .before .before .before .before .before .before .pre in
+    omega (arith, (c .before .before .before .before .wide .ensures ∙ c .before .before .before .before .before .slot .ensures), pre .1 .0 .slot (c .before .before .before .before .before .before .before .before .before .args .i) (pre .1 .1), pre .0 .cells-long)
 
 crosses-requires : tie.Need-crosses-requires
 crosses-requires c κs =
-    (c .before .before .before .before .before .before .before .before .before .pre .0 .room, (c .before .before .before .before .before .before .before .before .before .pre .0 .cells-long, subst (λ (z : ℕ). IsRef (c .before .before .before .before .before .before .before .before .before .args .p) (c .before .before .before .before .before .before .before .before .before .args .tables .now) (getD (c .before .before .before .before .before .before .before .before .before .args .cells .now) z 0)) (sym (c .before .before .before .before .wide .ensures ∙ c .before .before .before .before .before .slot .ensures)) (c .before .before .before .before .before .before .before .before .before .pre .1 .0 .slots (c .before .before .before .before .before .before .before .before .before .args .i) (c .before .before .before .before .before .before .before .before .before .pre .1 .1))))
+    let pre = c .before .before .before .before .before .before .before .before .before .pre in
+    let args = c .before .before .before .before .before .before .before .before .before .args in
+    (pre .0 .room, (pre .0 .cells-long, subst (λ (z : ℕ). IsRef (args .p) (args .tables .now) (getD (args .cells .now) z 0)) (sym (c .before .before .before .before .wide .ensures ∙ c .before .before .before .before .before .slot .ensures)) (pre .1 .0 .slots (args .i) (pre .1 .1))))
 
 returns-2 : tie.Need-returns-2
 returns-2 c =
-    slot-out (c .before .before .before .before .before .before .before .before .before .before .args .p) (c .before .before .before .before .before .before .before .before .before .before .args .cells .now) (c .before .before .before .before .before .before .before .before .before .before .args .tables .now) (c .before .before .before .before .before .before .before .before .before .before .args .r) (slotIn (c .before .before .before .before .before .before .before .before .before .before .args .remember .now) (c .before .before .before .before .before .before .before .before .before .before .args .i)) _ _ _ _ (c .before .before .before .before .page-at .ensures ∙ ap (λ (z : ℕ). pageOf (cellOf z)) (c .before .before .before .before .before .wide .ensures ∙ c .before .before .before .before .before .before .slot .ensures)) (c .before .before .before .owner .ensures) (c .before .before .if1 .left) (ap (λ (z : ℕ). getD (c .before .before .before .before .before .before .before .before .before .before .args .cells .now) z 0) (c .before .before .before .before .before .wide .ensures ∙ c .before .before .before .before .before .before .slot .ensures)) (c .crosses .ensures)
+    let args = c .before .before .before .before .before .before .before .before .before .before .args in
+    let slot = c .before .before .before .before .before .before .slot in
+    let wide = c .before .before .before .before .before .wide in
+    slot-out (args .p) (args .cells .now) (args .tables .now) (args .r) (slotIn (args .remember .now) (args .i)) _ _ _ _ (c .before .before .before .before .page-at .ensures ∙ ap (λ (z : ℕ). pageOf (cellOf z)) (wide .ensures ∙ slot .ensures)) (c .before .before .before .owner .ensures) (c .before .before .if1 .left) (ap (λ (z : ℕ). getD (args .cells .now) z 0) (wide .ensures ∙ slot .ensures)) (c .crosses .ensures)
 
 pub cross-entry-spec : {M : Type 1} → statement M
 cross-entry-spec =

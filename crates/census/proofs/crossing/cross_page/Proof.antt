@@ -30,20 +30,26 @@ wide-requires c κs =
 
 cell-on-requires : tie.Need-cell-on-requires Inv-loop μ-loop
 cell-on-requires c κs =
-    omega (arith, walk-lowest (c .before .before .loop .inv .1) (omega (arith, c .before .before .loop .inv .0)), c .wide .ensures, c .before .before .before .before .before .pre .1 .0 .1, c .before .before .before .before .before .pre .0 .room)
+    let pre = c .before .before .before .before .before .pre in
+    omega (arith, walk-lowest (c .before .before .loop .inv .1) (omega (arith, c .before .before .loop .inv .0)), c .wide .ensures, pre .1 .0 .1, pre .0 .room)
 
 cross-cell-requires : tie.Need-cross-cell-requires Inv-loop μ-loop
 cross-cell-requires c κs =
-    let l = walk-lowest (c .before .before .before .loop .inv .1) (omega (arith, c .before .before .before .loop .inv .0)) in
-    (c .before .before .before .before .before .before .pre .0, subst (InUse (c .before .before .before .before .before .before .args .p) (c .before .before .before .before .before .before .args .tables .now)) (sym (c .cell-on .ensures ∙ ap (cellOn (c .before .before .before .before .before .before .args .page)) (c .before .wide .ensures))) (c .before .before .before .before .before .before .pre .1 .1 (trailingZeros 32 (c .before .before .before .loop .left)) (l .lt) (c .before .before .before .loop .inv .1 .under (trailingZeros 32 (c .before .before .before .loop .left)) (l .on))))
+    let pre = c .before .before .before .before .before .before .pre in
+    let args = c .before .before .before .before .before .before .args in
+    let loop = c .before .before .before .loop in
+    let l = walk-lowest (loop .inv .1) (omega (arith, loop .inv .0)) in
+    (pre .0, subst (InUse (args .p) (args .tables .now)) (sym (c .cell-on .ensures ∙ ap (cellOn (args .page)) (c .before .wide .ensures))) (pre .1 .1 (trailingZeros 32 (loop .left)) (l .lt) (loop .inv .1 .under (trailingZeros 32 (loop .left)) (l .on))))
 
 add-n : tie.Need-add-n Inv-loop μ-loop
 add-n c =
-    omega (arith, c .cross-cell .ensures .1, c .before .before .before .before .loop .inv .3, ones-le 16 (c .before .before .before .before .before .before .before .args .w) (c .before .before .before .before .before .before .before .pre .1 .0 .0), c .before .before .before .before .loop .inv .0)
+    let loop = c .before .before .before .before .loop in
+    omega (arith, c .cross-cell .ensures .1, loop .inv .3, ones-le 16 (c .before .before .before .before .before .before .before .args .w) (c .before .before .before .before .before .before .before .pre .1 .0 .0), loop .inv .0)
 
 without-bit-requires : tie.Need-without-bit-requires Inv-loop μ-loop
 without-bit-requires c κs =
-    let l = walk-lowest (c .before .before .before .before .loop .inv .1) (omega (arith, c .before .before .before .before .loop .inv .0)) in (l .lt, l .on)
+    let loop = c .before .before .before .before .loop in
+    let l = walk-lowest (loop .inv .1) (omega (arith, loop .inv .0)) in (l .lt, l .on)
 
 add-k : tie.Need-add-k Inv-loop μ-loop
 add-k c =
@@ -55,12 +61,16 @@ loop-less c =
 
 loop-again : tie.Need-loop-again Inv-loop μ-loop
 loop-again c =
-    let l = walk-lowest (c .before .before .before .before .before .loop .inv .1) (omega (arith, c .before .before .before .before .before .loop .inv .0)) in
-    (c .before .before .before .before .before .loop .inv .0, walk-turn (trailingZeros 32 (c .before .before .before .before .before .loop .left)) (c .without-bit .result) (c .before .before .before .before .before .loop .inv .1) l (c .without-bit .ensures), summed-next (trailingZeros 32 (c .before .before .before .before .before .loop .left)) (c .without-bit .result) (c .before .before .before .before .before .loop .n + c .before .cross-cell .result) (c .before .cross-cell .result) l (c .without-bit .ensures) (c .before .cross-cell .ensures .0 ∙ ap (cellCrosses (c .before .before .before .before .before .before .before .before .args .p) (c .before .before .before .before .before .before .before .before .args .cells .now) (c .before .before .before .before .before .before .before .before .args .tables .now) (c .before .before .before .before .before .before .before .before .args .r)) (c .before .before .cell-on .ensures ∙ ap (cellOn (c .before .before .before .before .before .before .before .before .args .page)) (c .before .before .before .wide .ensures))) refl (c .before .before .before .before .before .loop .inv .2), omega (arith, c .before .cross-cell .ensures .1, c .before .before .before .before .before .loop .inv .3))
+    let args = c .before .before .before .before .before .before .before .before .args in
+    let loop = c .before .before .before .before .before .loop in
+    let cross-cell = c .before .cross-cell in
+    let l = walk-lowest (loop .inv .1) (omega (arith, loop .inv .0)) in
+    (loop .inv .0, walk-turn (trailingZeros 32 (loop .left)) (c .without-bit .result) (loop .inv .1) l (c .without-bit .ensures), summed-next (trailingZeros 32 (loop .left)) (c .without-bit .result) (loop .n + cross-cell .result) (cross-cell .result) l (c .without-bit .ensures) (cross-cell .ensures .0 ∙ ap (cellCrosses (args .p) (args .cells .now) (args .tables .now) (args .r)) (c .before .before .cell-on .ensures ∙ ap (cellOn (args .page)) (c .before .before .before .wide .ensures))) refl (loop .inv .2), omega (arith, cross-cell .ensures .1, loop .inv .3))
 
 returns : tie.Need-returns Inv-loop μ-loop
 returns c =
-    (summed-end (c .before .loop .inv .1) (omega (arith, c .before .loop .inv .0, c .loop-test .left)) (c .before .loop .inv .2), omega (arith, c .before .loop .inv .3, c .before .loop .inv .1 .count, c .before .loop .inv .0, ones-le 16 (c .before .before .before .before .args .w) (c .before .before .before .before .pre .1 .0 .0)))
+    let loop = c .before .loop in
+    (summed-end (loop .inv .1) (omega (arith, loop .inv .0, c .loop-test .left)) (loop .inv .2), omega (arith, loop .inv .3, loop .inv .1 .count, loop .inv .0, ones-le 16 (c .before .before .before .before .args .w) (c .before .before .before .before .pre .1 .0 .0)))
 
 pub cross-page-spec : {M : Type 1} → statement M
 cross-page-spec =

@@ -28,7 +28,10 @@ mark-requires c κs =
 
 cross-page-requires : tie.Need-cross-page-requires Inv-loop μ-loop
 cross-page-requires c κs =
-    (c .before .before .before .before .before .pre .0, ((omega (arith, c .mark .ensures, c .before .before .before .before .before .pre .1 .0 (c .before .before .loop .page) (omega arith)), omega arith), λ i l b. c .before .before .before .before .before .pre .1 .1 (cellOn (c .before .before .loop .page) i) (omega arith) (marked-on (c .before .before .before .before .before .args .p) (c .before .before .before .before .before .args .tables .now) (c .before .before .loop .page) i (c .mark .result) l (c .mark .ensures) b)))
+    let pre = c .before .before .before .before .before .pre in
+    let args = c .before .before .before .before .before .args in
+    let loop = c .before .before .loop in
+    (pre .0, ((omega (arith, c .mark .ensures, pre .1 .0 (loop .page) (omega arith)), omega arith), λ i l b. pre .1 .1 (cellOn (loop .page) i) (omega arith) (marked-on (args .p) (args .tables .now) (loop .page) i (c .mark .result) l (c .mark .ensures) b)))
 
 add-n : tie.Need-add-n Inv-loop μ-loop
 add-n c =
@@ -44,13 +47,16 @@ loop-less c =
 
 loop-again : tie.Need-loop-again Inv-loop μ-loop
 loop-again c =
-    let e = c .cross-page .ensures .0 ∙ ap (onPage (cellCrosses (c .before .before .before .before .before .before .args .p) (c .before .before .before .before .before .before .args .cells .now) (c .before .before .before .before .before .before .args .tables .now) (c .before .before .before .before .before .before .args .r)) (c .before .before .before .loop .page)) (c .before .mark .ensures) in
-    let m = sum-more (λ page. onPage (cellCrosses (c .before .before .before .before .before .before .args .p) (c .before .before .before .before .before .before .args .cells .now) (c .before .before .before .before .before .before .args .tables .now) (c .before .before .before .before .before .before .args .r)) page (markOf (c .before .before .before .before .before .before .args .p) (c .before .before .before .before .before .before .args .tables .now) page)) (c .before .before .before .loop .page) in
-    (omega arith, c .before .before .before .loop .inv .1, omega (arith, e, m, c .before .before .before .loop .inv .2), omega (arith, c .cross-page .ensures .1, c .before .before .before .loop .inv .3))
+    let args = c .before .before .before .before .before .before .args in
+    let loop = c .before .before .before .loop in
+    let e = c .cross-page .ensures .0 ∙ ap (onPage (cellCrosses (args .p) (args .cells .now) (args .tables .now) (args .r)) (loop .page)) (c .before .mark .ensures) in
+    let m = sum-more (λ page. onPage (cellCrosses (args .p) (args .cells .now) (args .tables .now) (args .r)) page (markOf (args .p) (args .tables .now) page)) (loop .page) in
+    (omega arith, loop .inv .1, omega (arith, e, m, loop .inv .2), omega (arith, c .cross-page .ensures .1, loop .inv .3))
 
 returns : tie.Need-returns Inv-loop μ-loop
 returns c =
-    let e : c .before .loop .page ≡ c .before .before .before .before .args .p .pages = omega arith in (c .before .loop .inv .2 ∙ ap (overMarked (c .before .before .before .before .args .p) (c .before .before .before .before .args .tables .now) (cellCrosses (c .before .before .before .before .args .p) (c .before .before .before .before .args .cells .now) (c .before .before .before .before .args .tables .now) (c .before .before .before .before .args .r))) e, omega (arith, c .before .loop .inv .3, c .before .before .before .before .pre .0 .room))
+    let args = c .before .before .before .before .args in
+    let e : c .before .loop .page ≡ args .p .pages = omega arith in (c .before .loop .inv .2 ∙ ap (overMarked (args .p) (args .tables .now) (cellCrosses (args .p) (args .cells .now) (args .tables .now) (args .r))) e, omega (arith, c .before .loop .inv .3, c .before .before .before .before .pre .0 .room))
 
 pub cross-survivors-spec : {M : Type 1} → statement M
 cross-survivors-spec =

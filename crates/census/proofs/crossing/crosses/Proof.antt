@@ -7,26 +7,31 @@ use Rattle.census.proofs.crossing.crosses.Tie as tie
 
 returns : tie.Need-returns
 returns c =
-    cross-null (c .before .before .before .args .p) (c .before .before .before .args .cells .now) (c .before .before .before .args .tables .now) (c .before .before .before .args .r) (c .before .before .before .args .home) (c .before .before .before .args .x) (c .if1 .taken)
+    let args = c .before .before .before .args in
+    cross-null (args .p) (args .cells .now) (args .tables .now) (args .r) (args .home) (args .x) (c .if1 .taken)
 
 cell-named-requires : tie.Need-cell-named-requires
 cell-named-requires c κs = search needs
 
 home-after-requires : tie.Need-home-after-requires
 home-after-requires c κs =
-    (c .before .before .before .before .pre .0, (omega (arith, c .cell-named .ensures, c .before .before .before .before .pre .1 .1 (omega (arith, c .before .if1 .left)) .page), c .before .before .before .before .pre .1 .0))
+    let pre = c .before .before .before .before .pre in
+    (pre .0, (omega (arith, c .cell-named .ensures, pre .1 .1 (omega (arith, c .before .if1 .left)) .page), pre .1 .0))
 
 returns-2 : tie.Need-returns-2
 returns-2 c =
-    cross-inside (c .before .before .before .before .before .before .args .p) (c .before .before .before .before .before .before .args .cells .now) (c .before .before .before .before .before .before .args .tables .now) (c .before .before .before .before .before .before .args .r) (c .before .before .before .before .before .before .args .home) (c .before .before .before .before .before .before .args .x) _ _ (c .before .before .before .if1 .left) (c .before .before .cell-named .ensures) (c .before .home-after .ensures) (c .if2 .taken)
+    let args = c .before .before .before .before .before .before .args in
+    cross-inside (args .p) (args .cells .now) (args .tables .now) (args .r) (args .home) (args .x) _ _ (c .before .before .before .if1 .left) (c .before .before .cell-named .ensures) (c .before .home-after .ensures) (c .if2 .taken)
 
 returns-3 : tie.Need-returns-3
 returns-3 c =
-    cross-control (c .before .before .before .before .before .before .before .args .p) (c .before .before .before .before .before .before .before .args .cells .now) (c .before .before .before .before .before .before .before .args .tables .now) (c .before .before .before .before .before .before .before .args .r) (c .before .before .before .before .before .before .before .args .home) (c .before .before .before .before .before .before .before .args .x) _ _ (c .before .before .before .before .if1 .left) (c .before .before .before .cell-named .ensures) (c .before .before .home-after .ensures) (c .before .if2 .left) (c .if3 .taken)
+    let args = c .before .before .before .before .before .before .before .args in
+    cross-control (args .p) (args .cells .now) (args .tables .now) (args .r) (args .home) (args .x) _ _ (c .before .before .before .before .if1 .left) (c .before .before .before .cell-named .ensures) (c .before .before .home-after .ensures) (c .before .if2 .left) (c .if3 .taken)
 
 returns-4 : tie.Need-returns-4
 returns-4 c =
-    cross-out (c .before .before .before .before .before .before .before .args .p) (c .before .before .before .before .before .before .before .args .cells .now) (c .before .before .before .before .before .before .before .args .tables .now) (c .before .before .before .before .before .before .before .args .r) (c .before .before .before .before .before .before .before .args .home) (c .before .before .before .before .before .before .before .args .x) _ _ (c .before .before .before .before .if1 .left) (c .before .before .before .cell-named .ensures) (c .before .before .home-after .ensures) (c .before .if2 .left) (c .if3 .left)
+    let args = c .before .before .before .before .before .before .before .args in
+    cross-out (args .p) (args .cells .now) (args .tables .now) (args .r) (args .home) (args .x) _ _ (c .before .before .before .before .if1 .left) (c .before .before .before .cell-named .ensures) (c .before .before .home-after .ensures) (c .before .if2 .left) (c .if3 .left)
 
 pub crosses-spec : {M : Type 1} → statement M
 crosses-spec =

@@ -10,19 +10,23 @@ page-of-requires c κs = search needs
 
 owner-requires : tie.Need-owner-requires
 owner-requires c κs =
-    (c .before .before .before .pre .0, omega (arith, c .before .before .before .pre .1))
+    let pre = c .before .before .before .pre in
+    (pre .0, omega (arith, pre .1))
 
 returns : tie.Need-returns
 returns c =
-    after-other (c .before .before .before .before .before .args .p) (c .before .before .before .before .before .args .cells .now) (c .before .before .before .before .before .args .tables .now) (c .before .before .before .before .before .args .r) (c .before .before .before .before .before .args .c) _ _ (c .before .before .page-of .ensures) (c .before .owner .ensures) (c .if1 .taken)
+    let args = c .before .before .before .before .before .args in
+    after-other (args .p) (args .cells .now) (args .tables .now) (args .r) (args .c) _ _ (c .before .before .page-of .ensures) (c .before .owner .ensures) (c .if1 .taken)
 
 work-requires : tie.Need-work-requires
 work-requires c κs =
-    omega (arith, c .before .before .before .before .before .pre .0, c .before .before .before .before .before .pre .1)
+    let pre = c .before .before .before .before .before .pre in
+    omega (arith, pre .0, pre .1)
 
 returns-2 : tie.Need-returns-2
 returns-2 c =
-    after-moved (c .before .before .before .before .before .before .args .p) (c .before .before .before .before .before .before .args .cells .now) (c .before .before .before .before .before .before .args .tables .now) (c .before .before .before .before .before .before .args .r) (c .before .before .before .before .before .before .args .c) _ _ _ (c .before .before .before .page-of .ensures) (c .before .before .owner .ensures) (c .before .if1 .left) (c .work .ensures)
+    let args = c .before .before .before .before .before .before .args in
+    after-moved (args .p) (args .cells .now) (args .tables .now) (args .r) (args .c) _ _ _ (c .before .before .before .page-of .ensures) (c .before .before .owner .ensures) (c .before .if1 .left) (c .work .ensures)
 
 pub home-after-spec : {M : Type 1} → statement M
 home-after-spec =

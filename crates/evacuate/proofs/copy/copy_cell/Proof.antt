@@ -34,12 +34,14 @@ loop-less c = omega arith
 
 loop-again : tie.Need-loop-again Inv-loop μ-loop
 loop-again c =
+    let pre = c .before .before .before .before .before .before .before .before .before .pre in
+    let set-word = c .before .before .set-word in
     let a = c .before .before .before .before .before .before .before .before .before .args in
     let l = c .before .before .before .before .before .before .before .loop in
     let at : ℕ = wordAt (a .new) (l .i) in
-    let e : c .before .before .set-word .last .0 ≡ set (l .cells) at (getD (l .cells) (wordAt (a .old) (l .i)) 0) = c .before .before .set-word .ensures ∙ ap (λ (x : ℕ). set (l .cells) at x) (c .before .before .before .before .word .ensures) in
-    let h : Half (a .old) (a .new) (l .i + 1) (a .cells .now) (c .before .before .set-word .last .0) =
-    subst (λ (X : List ℕ). Half (a .old) (a .new) (l .i + 1) (a .cells .now) X) (sym e) (half-next (c .before .before .before .before .before .before .before .before .before .pre .0) (c .before .before .before .before .before .before .loop-test .taken) (c .before .before .before .before .before .before .before .before .before .pre .1 .1 .1) (l .inv .2)) in
+    let e : set-word .last .0 ≡ set (l .cells) at (getD (l .cells) (wordAt (a .old) (l .i)) 0) = set-word .ensures ∙ ap (λ (x : ℕ). set (l .cells) at x) (c .before .before .before .before .word .ensures) in
+    let h : Half (a .old) (a .new) (l .i + 1) (a .cells .now) (set-word .last .0) =
+    subst (λ (X : List ℕ). Half (a .old) (a .new) (l .i + 1) (a .cells .now) X) (sym e) (half-next (pre .0) (c .before .before .before .before .before .before .loop-test .taken) (pre .1 .1 .1) (l .inv .2)) in
     (omega arith, h .size, h)
 
 set-work-requires : tie.Need-set-work-requires Inv-loop μ-loop
@@ -56,13 +58,15 @@ same-length c = c .before .before .set-work2 .kept .0 ∙ c .before .before .bef
 
 returns : tie.Need-returns Inv-loop μ-loop
 returns c =
+    let pre = c .before .before .before .before .before .before .before .before .before .before .before .before .pre in
+    let ref-to = c .before .before .before .ref-to in
     let a = c .before .before .before .before .before .before .before .before .before .before .before .before .args in
     let l = c .before .before .before .before .before .before .before .before .before .before .loop in
     let e : l .i ≡ 16 = omega arith in
     let h : Half (a .old) (a .new) 16 (a .cells .now) (l .cells) = subst (λ (n : ℕ). Half (a .old) (a .new) n (a .cells .now) (l .cells)) e (l .inv .2) in
-    let z : c .before .before .set-work2 .last .0 ≡ set (set (l .cells) (16 * a .new + 1) 0) (16 * a .old + 1) (c .before .before .before .ref-to .result) =
-    c .before .before .set-work2 .ensures ∙ ap (λ (X : List ℕ). set X (16 * a .old + 1) (c .before .before .before .ref-to .result)) (c .before .before .before .before .before .before .before .set-work .ensures) in
-    subst (λ (X : List ℕ). Copied (a .old) (a .new) (a .cells .now) X) (sym z) (half-copied (c .before .before .before .before .before .before .before .before .before .before .before .before .pre .0) (c .before .before .before .before .before .before .before .before .before .before .before .before .pre .1 .1 .1) (c .before .before .before .before .before .before .before .before .before .before .before .before .pre .1 .1 .0) h (c .before .before .before .ref-to .result) (omega (arith, c .before .before .before .ref-to .ensures)))
+    let z : c .before .before .set-work2 .last .0 ≡ set (set (l .cells) (16 * a .new + 1) 0) (16 * a .old + 1) (ref-to .result) =
+    c .before .before .set-work2 .ensures ∙ ap (λ (X : List ℕ). set X (16 * a .old + 1) (ref-to .result)) (c .before .before .before .before .before .before .before .set-work .ensures) in
+    subst (λ (X : List ℕ). Copied (a .old) (a .new) (a .cells .now) X) (sym z) (half-copied (pre .0) (pre .1 .1 .1) (pre .1 .1 .0) h (ref-to .result) (omega (arith, ref-to .ensures)))
 
 pub copy-cell-spec : {M : Type 1} → statement M
 copy-cell-spec =

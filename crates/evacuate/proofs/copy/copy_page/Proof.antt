@@ -29,39 +29,49 @@ cell : (c : tie.After-cell-on Inv-loop μ-loop) → c .cell-on .result ≡ 16 * 
 cell c = c .cell-on .ensures ∙ ap (λ (y : ℕ). 16 * c .before .before .before .before .before .before .before .before .args .page + y) (c .before .wide .ensures)
 
 mark-requires : tie.Need-mark-requires Inv-loop μ-loop
-mark-requires c κs = (c .before .before .before .pre .0 .ready .regular .room, c .before .before .before .pre .1 .1)
+mark-requires c κs =
+    let pre = c .before .before .before .pre in
+    (pre .0 .ready .regular .room, pre .1 .1)
 
 loop-holds : tie.Need-loop-holds Inv-loop μ-loop
 loop-holds c =
+    let pre = c .before .before .before .before .pre in
     let a = c .before .before .before .before .args in
     let e = c .mark .ensures in (
-      subst (λ (x : ℕ). x < 2 ^ 16) (sym e) (c .before .before .before .before .pre .0 .ready .small (a .page) (c .before .before .before .before .pre .1 .1)),
+      subst (λ (x : ℕ). x < 2 ^ 16) (sym e) (pre .0 .ready .small (a .page) (pre .1 .1)),
       refl,
       refl,
-      subst (λ (x : ℕ). PageMoves (a .p) (a .region) (a .page) x (a .at .page) (a .at .top) (a .cells .now) (a .tables .now) (a .cells .now) (a .tables .now)) (sym e) (page-begin (a .page) (c .before .before .before .before .pre .1 .0)),
+      subst (λ (x : ℕ). PageMoves (a .p) (a .region) (a .page) x (a .at .page) (a .at .top) (a .cells .now) (a .tables .now) (a .cells .now) (a .tables .now)) (sym e) (page-begin (a .page) (pre .1 .0)),
     )
 
 wide-requires : tie.Need-wide-requires Inv-loop μ-loop
 wide-requires c κs = search needs
 
 cell-on-requires : tie.Need-cell-on-requires Inv-loop μ-loop
-cell-on-requires c κs = (omega (arith, c .before .before .before .before .before .before .before .pre .0 .ready .regular .room .few, c .before .before .before .before .before .before .before .pre .1 .1), omega (arith, facts (c .before), c .wide .ensures))
+cell-on-requires c κs =
+    let pre = c .before .before .before .before .before .before .before .pre in
+    (omega (arith, pre .0 .ready .regular .room .few, pre .1 .1), omega (arith, facts (c .before), c .wide .ensures))
 
 work-requires : tie.Need-work-requires Inv-loop μ-loop
 work-requires c κs =
+    let pre = c .before .before .before .before .before .before .before .before .before .pre in
     let f = facts (c .before .before .before) in
-    let few = c .before .before .before .before .before .before .before .before .before .pre .0 .ready .regular .room .few in
-    let long = c .before .before .before .before .before .before .before .before .before .pre .0 .ready .cells-long in
-    (omega (arith, cell (c .before), c .before .before .before .before .before .before .before .before .before .pre .1 .1), omega (arith, cell (c .before), c .before .before .before .before .before .before .before .before .before .pre .1 .1, c .before .before .before .before .loop .inv .1))
+    let few = pre .0 .ready .regular .room .few in
+    let long = pre .0 .ready .cells-long in
+    (omega (arith, cell (c .before), pre .1 .1), omega (arith, cell (c .before), pre .1 .1, c .before .before .before .before .loop .inv .1))
 
 next-page-requires : tie.Need-next-page-requires Inv-loop μ-loop
 next-page-requires c κs =
-    page-seeking (c .before .before .before .before .before .before .before .before .before .before .before .before .pre .0) (c .before .before .before .before .before .before .before .before .before .before .before .before .pre .1 .1) (trailingZeros 32 (c .before .before .before .before .before .before .before .loop .left)) (c .before .before .before .before .cell-on .result) (cell (c .before .before .before .before)) (facts (c .before .before .before .before .before .before)) refl (c .before .before .before .before .before .before .before .loop .inv .3)
+    let pre = c .before .before .before .before .before .before .before .before .before .before .before .before .pre in
+    let loop = c .before .before .before .before .before .before .before .loop in
+    page-seeking (pre .0) (pre .1 .1) (trailingZeros 32 (loop .left)) (c .before .before .before .before .cell-on .result) (cell (c .before .before .before .before)) (facts (c .before .before .before .before .before .before)) refl (loop .inv .3)
     (sym (c .before .before .work .ensures) ∙ c .before .if1 .taken)
 
 move-cell-requires : tie.Need-move-cell-requires Inv-loop μ-loop
 move-cell-requires c κs =
-    page-movable (c .before .before .before .before .before .before .before .before .before .before .before .before .before .before .before .pre .0) (c .before .before .before .before .before .before .before .before .before .before .before .before .before .before .before .pre .1 .1) (trailingZeros 32 (c .before .before .before .before .before .before .before .before .before .before .loop .left)) (c .before .before .before .before .before .before .before .cell-on .result) (cell (c .before .before .before .before .before .before .before)) (facts (c .before .before .before .before .before .before .before .before .before)) refl (c .before .before .before .before .before .before .before .before .before .before .loop .inv .3)
+    let pre = c .before .before .before .before .before .before .before .before .before .before .before .before .before .before .before .pre in
+    let loop = c .before .before .before .before .before .before .before .before .before .before .loop in
+    page-movable (pre .0) (pre .1 .1) (trailingZeros 32 (loop .left)) (c .before .before .before .before .before .before .before .cell-on .result) (cell (c .before .before .before .before .before .before .before)) (facts (c .before .before .before .before .before .before .before .before .before)) refl (loop .inv .3)
     (sym (c .before .before .before .before .before .work .ensures) ∙ c .before .before .before .before .if1 .taken) (c .before .before .next-page .ensures .next)
 
 shl-left : tie.Need-shl-left Inv-loop μ-loop
@@ -75,13 +85,14 @@ loop-less c = omega (arith, facts (c .before .before .before .before .before))
 
 loop-again : tie.Need-loop-again Inv-loop μ-loop
 loop-again c =
+    let pre = c .before .before .before .before .before .before .before .before .before .before .before .pre in
     let a = c .before .before .before .before .before .before .before .before .before .before .before .args in
     let l = c .before .before .before .before .before .before .loop in
     let i : ℕ = trailingZeros 32 (l .left) in
     let x = c .before .before .before .cell-on in
     let e = cell (c .before .before .before) in
     let f = facts (c .before .before .before .before .before) in
-    let low = c .before .before .before .before .before .before .before .before .before .before .before .pre .1 .1 in
+    let low = pre .1 .1 in
     let P : Cursor → List ℕ → List ℕ → Type 0 =
     (λ n X Y. PageMoves (a .p) (a .region) (a .page) (l .left - 1 * 2 ^ i % 2 ^ 32) (n .page) (n .top) (a .cells .now) (a .tables .now) X Y) in
     let h : P (c .if1 .next) (c .if1 .cells) (c .if1 .tables) =
@@ -89,10 +100,10 @@ loop-again c =
     (λ w.
     subst (λ (n : Cursor). P n (c .if1 .cells) (c .if1 .tables)) (sym (w .12))
     (subst₂ (P (w .2 .result)) (sym (w .10)) (sym (w .11))
-    (page-moved (c .before .before .before .before .before .before .before .before .before .before .before .pre .0) low i (x .result) e f refl (l .inv .3) (w .5 .ensures) (w .2 .ensures .points))))
+    (page-moved (pre .0) low i (x .result) e f refl (l .inv .3) (w .5 .ensures) (w .2 .ensures .points))))
     (λ w.
     subst (λ (n : Cursor). P n (c .if1 .cells) (c .if1 .tables)) (sym (w .3))
-    (subst₂ (P (l .next)) (sym (w .1)) (sym (w .2)) (page-left (c .before .before .before .before .before .before .before .before .before .before .before .pre .0) low i (x .result) e f refl (l .inv .3) (λ z. w .0 .left (c .before .work .ensures ∙ z)))))
+    (subst₂ (P (l .next)) (sym (w .1)) (sym (w .2)) (page-left (pre .0) low i (x .result) e f refl (l .inv .3) (λ z. w .0 .left (c .before .work .ensures ∙ z)))))
     (c .if1 .came) in
     (omega (arith, f), moves-cells (h .moves), moves-tables (h .moves), h)
 

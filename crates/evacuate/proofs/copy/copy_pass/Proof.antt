@@ -24,7 +24,9 @@ loop-holds : tie.Need-loop-holds Inv-loop μ-loop
 loop-holds c = (omega arith, refl, refl, pass-begin (points-begin (c .find-page .ensures)))
 
 copy-page-requires : tie.Need-copy-page-requires Inv-loop μ-loop
-copy-page-requires c κs = (moves-passing (c .before .before .before .before .before .before .before .before .pre) (c .before .before .before .loop .inv .3 .pass .moves), (c .before .before .before .loop .inv .3 .points, c .before .before .loop-test .taken))
+copy-page-requires c κs =
+    let loop = c .before .before .before .loop in
+    (moves-passing (c .before .before .before .before .before .before .before .before .pre) (loop .inv .3 .pass .moves), (loop .inv .3 .points, c .before .before .loop-test .taken))
 
 add-page : tie.Need-add-page Inv-loop μ-loop
 add-page c = omega (arith, c .before .before .before .before .before .before .before .before .before .before .before .before .before .pre .ready .regular .room .few)

@@ -24,8 +24,9 @@ loop-holds c = (omega arith, refl, refl, copy-begin (c .before .before .pre .0))
 
 region-at-requires : tie.Need-region-at-requires Inv-loop μ-loop
 region-at-requires c κs =
-    let rm = c .before .before .before .before .pre .0 .ready .regular .room in
-    (rm .threads-high, rm .depth-high, c .before .before .before .before .pre .1 .0, omega (arith, c .before .before .before .before .pre .1 .1))
+    let pre = c .before .before .before .before .pre in
+    let rm = pre .0 .ready .regular .room in
+    (rm .threads-high, rm .depth-high, pre .1 .0, omega (arith, pre .1 .1))
 
 copy-pass-requires : tie.Need-copy-pass-requires Inv-loop μ-loop
 copy-pass-requires c κs =
@@ -34,19 +35,22 @@ copy-pass-requires c κs =
     subst (λ (g : ℕ). Passing (a .p) g (l .cells) (l .tables)) (sym (c .before .before .region-at .ensures)) (copy-passing (c .before .before .before .before .before .before .before .pre .0) (c .before .before .before .loop-test .taken) (l .inv .3))
 
 add-level : tie.Need-add-level Inv-loop μ-loop
-add-level c = omega (arith, c .before .before .before .before .before .before .before .before .before .before .before .before .pre .0 .ready .regular .room .depth-high, c .before .before .before .before .before .before .before .before .before .before .before .before .pre .1 .1)
+add-level c =
+    let pre = c .before .before .before .before .before .before .before .before .before .before .before .before .pre in
+    omega (arith, pre .0 .ready .regular .room .depth-high, pre .1 .1)
 
 loop-less : tie.Need-loop-less Inv-loop μ-loop
 loop-less c = omega arith
 
 loop-again : tie.Need-loop-again Inv-loop μ-loop
 loop-again c =
+    let copy-pass = c .before .before .before .before .copy-pass in
     let a = c .before .before .before .before .before .before .before .before .before .before .before .before .args in
     let l = c .before .before .before .before .before .before .before .before .before .loop in
-    let X : List ℕ = c .before .before .before .before .copy-pass .last .1 .0 in
-    let Y : List ℕ = c .before .before .before .before .copy-pass .last .1 .1 .0 in
+    let X : List ℕ = copy-pass .last .1 .0 in
+    let Y : List ℕ = copy-pass .last .1 .1 .0 in
     let d : Pass (a .p) (regionAt (sizesOf (a .p)) (a .thread) (l .level)) (λ x. x / 16 < a .p .pages) (order (regionAt (sizesOf (a .p)) (a .thread) (l .level)) 0) (order (regionAt (sizesOf (a .p)) (a .thread) (l .level)) (16 * a .p .pages)) (l .cells) (l .tables) X Y =
-    subst (λ (g : ℕ). Pass (a .p) g (λ x. x / 16 < a .p .pages) (order g 0) (order g (16 * a .p .pages)) (l .cells) (l .tables) X Y) (c .before .before .before .before .before .before .before .region-at .ensures) (c .before .before .before .before .copy-pass .ensures) in
+    subst (λ (g : ℕ). Pass (a .p) g (λ x. x / 16 < a .p .pages) (order g 0) (order g (16 * a .p .pages)) (l .cells) (l .tables) X Y) (c .before .before .before .before .before .before .before .region-at .ensures) (copy-pass .ensures) in
     let h = copy-next (c .before .before .before .before .before .before .before .before .before .before .before .before .pre .0) (c .before .before .before .before .before .before .before .before .loop-test .taken) (l .inv .3) d in
     (omega arith, moves-cells (h .moves), moves-tables (h .moves), h)
 

@@ -51,7 +51,9 @@ shl-set-mark : tie.Need-shl-set-mark
 shl-set-mark c = search needs
 
 sub-set-mark : tie.Need-sub-set-mark
-sub-set-mark c = omega (arith, facts (c .before .before .before .before .before .before .before .before .before .before .before), shl-one (c .before .before .before .place-of .result) (omega (arith, c .before .before .before .place-of .ensures)), c .before .mark .ensures, ap (λ (q : ℕ). markOf (c .before .before .before .before .before .before .before .before .before .before .before .before .before .before .before .args .p) (c .before .before .before .before .before .before .before .before .before .before .before .take-cell .last .1 .0) q) (c .before .before .before .before .page-of .ensures), ap (λ (i : ℕ). 2 ^ i) (c .before .before .before .place-of .ensures))
+sub-set-mark c =
+    let place-of = c .before .before .before .place-of in
+    omega (arith, facts (c .before .before .before .before .before .before .before .before .before .before .before), shl-one (place-of .result) (omega (arith, place-of .ensures)), c .before .mark .ensures, ap (λ (q : ℕ). markOf (c .before .before .before .before .before .before .before .before .before .before .before .before .before .before .before .args .p) (c .before .before .before .before .before .before .before .before .before .before .before .take-cell .last .1 .0) q) (c .before .before .before .before .page-of .ensures), ap (λ (i : ℕ). 2 ^ i) (place-of .ensures))
 
 set-mark-requires : tie.Need-set-mark-requires
 set-mark-requires c κs =
@@ -66,19 +68,22 @@ same-length-2 c = search needs
 
 returns : tie.Need-returns
 returns c =
+    let take-cell = c .before .before .before .before .before .before .before .before .before .before .before .before .before .before .take-cell in
+    let page-of = c .before .before .before .before .before .before .before .page-of in
+    let mark = c .before .before .before .before .mark in
     let a = c .before .before .before .before .before .before .before .before .before .before .before .before .before .before .before .before .before .before .args in
-    let X : List ℕ = c .before .before .before .before .before .before .before .before .before .before .before .before .before .before .take-cell .last .1 .0 in
+    let X : List ℕ = take-cell .last .1 .0 in
     let w : ℕ = marksAt (a .p) (a .cell) in
     record {
       can = c .before .before .before .before .before .before .before .before .before .before .before .before .before .before .before .before .before .before .pre;
-      new = c .before .before .before .before .before .before .before .before .before .before .before .before .before .before .take-cell .result;
+      new = take-cell .result;
       mid = X;
       took = took (c .before .before .before .before .before .before .before .before .before .before .before .before .before .before);
       copied = c .before .before .before .before .before .before .before .before .before .before .copy-cell .ensures;
       tables =
           c .before .before .set-mark .ensures
-          ∙ ap₂ (λ (q i : ℕ). set X (markAt (a .p) q) (c .before .before .before .before .mark .result - 1 * 2 ^ i % 2 ^ 32)) (c .before .before .before .before .before .before .before .page-of .ensures) (c .before .before .before .before .before .before .place-of .ensures)
-          ∙ ap (λ (x : ℕ). set X w (x - 1 * 2 ^ (a .cell % 16) % 2 ^ 32)) (c .before .before .before .before .mark .ensures ∙ ap (λ (q : ℕ). markOf (a .p) X q) (c .before .before .before .before .before .before .before .page-of .ensures))
+          ∙ ap₂ (λ (q i : ℕ). set X (markAt (a .p) q) (mark .result - 1 * 2 ^ i % 2 ^ 32)) (page-of .ensures) (c .before .before .before .before .before .before .place-of .ensures)
+          ∙ ap (λ (x : ℕ). set X w (x - 1 * 2 ^ (a .cell % 16) % 2 ^ 32)) (mark .ensures ∙ ap (λ (q : ℕ). markOf (a .p) X q) (page-of .ensures))
           ∙ ap (λ (x : ℕ). set X w (getD X w 0 - x)) (shl-one (a .cell % 16) (omega arith));
     }
 

@@ -23,8 +23,9 @@ cast-if1 c = search needs
 
 returns : tie.Need-returns Inv-loop μ-loop
 returns c =
+    let args = c .before .before .before .args in
     let h = c .before .before .before .pre in
-    let l : usedOf (c .before .before .before .args .p) (c .before .before .before .args .tables .now) (c .before .before .before .args .at .page) < 16 = omega (arith, c .before .used .ensures) in
+    let l : usedOf (args .p) (args .tables .now) (args .at .page) < 16 = omega (arith, c .before .used .ensures) in
     record { next = points-next (h .regular) (h .usable) (h .points) l; points = h .points }
 
 loop-holds : tie.Need-loop-holds Inv-loop μ-loop

@@ -42,6 +42,8 @@ loop-less c = omega arith
 
 loop-again : tie.Need-loop-again Inv-loop μ-loop
 loop-again c =
+    let pre = c .before .before .before .before .before .before .pre in
+    let loop-test = c .before .before .before .loop-test in
     let a = c .before .before .before .before .before .before .args in
     let l = c .before .before .before .before .loop in
     let P : List ℕ → Type 0 = (λ X. Released (a .p) (a .region) (l .page + 1) (a .tables .now) X) in
@@ -53,8 +55,8 @@ loop-again c =
     (z .13 ∙ z .10 .ensures
     ∙ ap (λ (X : List ℕ). set X (markAt (a .p) (l .page)) 0)
     (z .6 .ensures ∙ ap (λ (X : List ℕ). set X (usedAt (a .p) (l .page)) 0) (z .2 .ensures))))
-    (release-page (c .before .before .before .before .before .before .pre) (c .before .before .before .loop-test .taken) (l .inv .2) (sym (c .before .owner .ensures) ∙ z .0 .taken)))
-    (λ z. subst P (sym (z .1)) (release-left (c .before .before .before .before .before .before .pre) (c .before .before .before .loop-test .taken) (l .inv .2) (λ e. z .0 .left (c .before .owner .ensures ∙ e))))
+    (release-page (pre) (loop-test .taken) (l .inv .2) (sym (c .before .owner .ensures) ∙ z .0 .taken)))
+    (λ z. subst P (sym (z .1)) (release-left (pre) (loop-test .taken) (l .inv .2) (λ e. z .0 .left (c .before .owner .ensures ∙ e))))
     (c .if1 .came) in
     (omega arith, h .size, h)
 

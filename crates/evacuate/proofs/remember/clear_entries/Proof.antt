@@ -26,20 +26,24 @@ set-region-requires : tie.Need-set-region-requires Inv-loop μ-loop
 set-region-requires c κs = (omega (arith, c .before .before .before .before .before .before .loop .inv .2, c .before .before .before .set-slot .kept .1 .0), omega (arith, c .before .before .before .before .before .before .before .before .pre .0))
 
 add-i : tie.Need-add-i Inv-loop μ-loop
-add-i c = omega (arith, c .before .before .before .before .before .before .before .before .before .before .before .pre .0, c .before .before .before .before .before .before .before .before .before .before .before .pre .1)
+add-i c =
+    let pre = c .before .before .before .before .before .before .before .before .before .before .before .pre in
+    omega (arith, pre .0, pre .1)
 
 loop-less : tie.Need-loop-less Inv-loop μ-loop
 loop-less c = omega arith
 
 loop-again : tie.Need-loop-again Inv-loop μ-loop
 loop-again c =
+    let pre = c .before .before .before .before .before .before .before .before .before .before .before .pre in
+    let set-region = c .before .before .set-region in
     let a = c .before .before .before .before .before .before .before .before .before .before .before .args in
     let l = c .before .before .before .before .before .before .before .before .before .loop in
-    let e : c .before .before .set-region .last .1 .0 ≡ set (set (l .remember) (2 + l .i) 0) (2 + a .entries + l .i) 0 =
-    c .before .before .set-region .ensures ∙ ap (λ (X : List ℕ). set X (2 + a .entries + l .i) 0) (c .before .before .before .before .before .before .set-slot .ensures) in
-    let h : Cleared (a .entries) (a .from) (l .i + 1) (a .remember .now) (c .before .before .set-region .last .1 .0) =
+    let e : set-region .last .1 .0 ≡ set (set (l .remember) (2 + l .i) 0) (2 + a .entries + l .i) 0 =
+    set-region .ensures ∙ ap (λ (X : List ℕ). set X (2 + a .entries + l .i) 0) (c .before .before .before .before .before .before .set-slot .ensures) in
+    let h : Cleared (a .entries) (a .from) (l .i + 1) (a .remember .now) (set-region .last .1 .0) =
     subst (λ (X : List ℕ). Cleared (a .entries) (a .from) (l .i + 1) (a .remember .now) X) (sym e)
-    (clear-next (l .inv .0) (omega (arith, c .before .before .before .before .before .before .before .before .before .before .before .pre .0)) (omega (arith, c .before .before .before .before .before .before .before .before .before .before .before .pre .1)) (l .inv .3)) in
+    (clear-next (l .inv .0) (omega (arith, pre .0)) (omega (arith, pre .1)) (l .inv .3)) in
     (omega arith, omega arith, h .size, h)
 
 same-length : tie.Need-same-length Inv-loop μ-loop

@@ -22,7 +22,9 @@ page : (c : tie.After-page-of) → c .page-of .result ≡ (c .before .before .be
 page c = c .page-of .ensures ∙ ap (λ (y : ℕ). y / 16) (c .before .cell-named .ensures)
 
 owner-requires : tie.Need-owner-requires
-owner-requires c κs = (c .before .before .before .before .pre .1, omega (arith, c .before .before .before .before .pre .0 (c .before .before .if1 .left), page c))
+owner-requires c κs =
+    let pre = c .before .before .before .before .pre in
+    (pre .1, omega (arith, pre .0 (c .before .before .if1 .left), page c))
 
 returns-2 : tie.Need-returns-2
 returns-2 c =

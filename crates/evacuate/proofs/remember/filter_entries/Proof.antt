@@ -24,26 +24,31 @@ loop-holds : tie.Need-loop-holds Inv-loop μ-loop
 loop-holds c = (omega arith, omega arith, refl, filter-start _ _ _ _ _ _)
 
 slot-requires : tie.Need-slot-requires Inv-loop μ-loop
-slot-requires c κs = (omega (arith, c .before .before .before .before .before .before .pre .0 .long, c .before .before .loop .inv .2), omega (arith, c .before .before .before .before .before .before .pre .0 .few))
+slot-requires c κs =
+    let pre = c .before .before .before .before .before .before .pre in
+    (omega (arith, pre .0 .long, c .before .before .loop .inv .2), omega (arith, pre .0 .few))
 
 region-requires : tie.Need-region-requires Inv-loop μ-loop
-region-requires c κs = (omega (arith, c .before .before .before .before .before .before .before .before .pre .0 .long, c .before .before .before .before .loop .inv .2), omega (arith, c .before .before .before .before .before .before .before .before .pre .0 .few))
+region-requires c κs =
+    let pre = c .before .before .before .before .before .before .before .before .pre in
+    (omega (arith, pre .0 .long, c .before .before .before .before .loop .inv .2), omega (arith, pre .0 .few))
 
 wide-requires : tie.Need-wide-requires Inv-loop μ-loop
 wide-requires c κs = search needs
 
 new-region-requires : tie.Need-new-region-requires Inv-loop μ-loop
 new-region-requires c κs =
+    let pre = c .before .before .before .before .before .before .before .before .before .before .pre in
     let a = c .before .before .before .before .before .before .before .before .before .before .args in
     let l = c .before .before .before .before .before .before .loop in
-    let s = c .before .before .before .before .before .before .before .before .before .before .pre .0 in
+    let s = pre .0 in
     let lt = c .before .before .before .before .before .loop-test .taken in
     let e : c .wide .result ≡ slotIn (a .remember .now) (l .i) = c .wide .ensures ∙ c .before .before .before .slot .ensures ∙ read-slot s lt (l .inv .1) (l .inv .3) in (
       omega (arith, s .low (l .i) lt),
       (
         s .cells-long,
         (
-          c .before .before .before .before .before .before .before .before .before .before .pre .1,
+          pre .1,
           λ z.
               subst (λ (y : ℕ). Names (a .p) (getD (a .cells .now) y 0)) (sym e)
               (s .names (l .i) lt (sym (c .before .region .ensures ∙ read-region s lt (l .inv .1) (l .inv .3)) ∙ z)),
@@ -52,22 +57,33 @@ new-region-requires c κs =
     )
 
 set-slot-requires : tie.Need-set-slot-requires Inv-loop μ-loop
-set-slot-requires c κs = (omega (arith, c .before .before .before .before .before .before .before .before .before .before .before .before .before .pre .0 .long, c .before .before .before .before .before .before .before .before .before .loop .inv .2), omega (arith, c .before .before .before .before .before .before .before .before .before .before .before .before .before .pre .0 .few, c .before .before .before .before .before .before .before .before .before .loop .inv .1, c .before .before .before .before .before .before .before .before .loop-test .taken))
+set-slot-requires c κs =
+    let pre = c .before .before .before .before .before .before .before .before .before .before .before .before .before .pre in
+    let loop = c .before .before .before .before .before .before .before .before .before .loop in
+    (omega (arith, pre .0 .long, loop .inv .2), omega (arith, pre .0 .few, loop .inv .1, c .before .before .before .before .before .before .before .before .loop-test .taken))
 
 set-region-requires : tie.Need-set-region-requires Inv-loop μ-loop
-set-region-requires c κs = (omega (arith, c .before .before .before .before .before .before .before .before .before .before .before .before .before .before .before .before .before .pre .0 .long, c .before .before .before .before .before .before .before .before .before .before .before .before .before .loop .inv .2, c .before .before .before .set-slot .kept .1 .0), omega (arith, c .before .before .before .before .before .before .before .before .before .before .before .before .before .before .before .before .before .pre .0 .few, c .before .before .before .before .before .before .before .before .before .before .before .before .before .loop .inv .1, c .before .before .before .before .before .before .before .before .before .before .before .before .loop-test .taken))
+set-region-requires c κs =
+    let pre = c .before .before .before .before .before .before .before .before .before .before .before .before .before .before .before .before .before .pre in
+    let loop = c .before .before .before .before .before .before .before .before .before .before .before .before .before .loop in
+    (omega (arith, pre .0 .long, loop .inv .2, c .before .before .before .set-slot .kept .1 .0), omega (arith, pre .0 .few, loop .inv .1, c .before .before .before .before .before .before .before .before .before .before .before .before .loop-test .taken))
 
 add-j : tie.Need-add-j Inv-loop μ-loop
-add-j c = omega (arith, c .before .before .before .before .before .before .before .before .before .before .before .before .before .before .before .before .before .before .before .before .pre .0 .few, c .before .before .before .before .before .before .before .before .before .before .before .before .before .before .before .before .loop .inv .1, c .before .before .before .before .before .before .before .before .before .before .before .before .before .before .before .loop-test .taken, c .before .before .before .before .before .before .before .before .before .before .before .before .before .before .before .before .before .before .before .before .pre .1 .entries-high)
+add-j c =
+    let pre = c .before .before .before .before .before .before .before .before .before .before .before .before .before .before .before .before .before .before .before .before .pre in
+    omega (arith, pre .0 .few, c .before .before .before .before .before .before .before .before .before .before .before .before .before .before .before .before .loop .inv .1, c .before .before .before .before .before .before .before .before .before .before .before .before .before .before .before .loop-test .taken, pre .1 .entries-high)
 
 add-i : tie.Need-add-i Inv-loop μ-loop
-add-i c = omega (arith, c .before .before .before .before .before .before .before .before .before .before .before .before .pre .0 .few, c .before .before .before .before .before .before .before .loop-test .taken, c .before .before .before .before .before .before .before .before .before .before .before .before .pre .1 .entries-high)
+add-i c =
+    let pre = c .before .before .before .before .before .before .before .before .before .before .before .before .pre in
+    omega (arith, pre .0 .few, c .before .before .before .before .before .before .before .loop-test .taken, pre .1 .entries-high)
 
 loop-less : tie.Need-loop-less Inv-loop μ-loop
 loop-less c = omega (arith, c .before .before .before .before .before .before .before .loop-test .taken)
 
 loop-again : tie.Need-loop-again Inv-loop μ-loop
 loop-again c =
+    let slot = c .before .before .before .before .before .slot in
     let a = c .before .before .before .before .before .before .before .before .before .before .before .before .args in
     let l = c .before .before .before .before .before .before .before .before .loop in
     let s = c .before .before .before .before .before .before .before .before .before .before .before .before .pre .0 in
@@ -78,13 +94,13 @@ loop-again c =
     let n : ℕ = a .p .entries in
     let v = c .before .new-region in
     let ev : v .result ≡ newRegion (a .p) (a .region) W T (slotIn (l .remember) (l .i)) (slotRegionIn n (l .remember) (l .i)) =
-    v .ensures ∙ ap₂ (λ (x y : ℕ). newRegion (a .p) (a .region) W T x y) (c .before .before .wide .ensures ∙ c .before .before .before .before .before .slot .ensures) (c .before .before .before .region .ensures) in
+    v .ensures ∙ ap₂ (λ (x y : ℕ). newRegion (a .p) (a .region) W T x y) (c .before .before .wide .ensures ∙ slot .ensures) (c .before .before .before .region .ensures) in
     let P : List ℕ → ℕ → Type 0 = (λ X y. (y ≤ l .i + 1) × (length X ≡ length M) × Added n (Stays (a .p) (a .region) n W T M (l .i + 1)) 0 y M X) in
     let h : P (c .if1 .remember) (c .if1 .j) =
     ⊎-elim
     (λ z.
     subst₂ P (sym (z .9 ∙ z .6 .ensures ∙ ap (λ (X : List ℕ). set X (2 + n + l .j) (v .result)) (z .2 .ensures))) (sym (z .10))
-    (let k = filter-keep s lt (l .inv .1) (l .inv .3) (c .before .before .before .before .before .slot .result) (v .result) (c .before .before .before .before .before .slot .ensures) ev (z .0 .taken) in (omega (arith, l .inv .1), k .size, k)))
+    (let k = filter-keep s lt (l .inv .1) (l .inv .3) (slot .result) (v .result) (slot .ensures) ev (z .0 .taken) in (omega (arith, l .inv .1), k .size, k)))
     (λ z. subst₂ P (sym (z .1)) (sym (z .2))
     (let k = filter-drop s lt (l .inv .1) (l .inv .3) (v .result) ev (z .0 .left) in (omega (arith, l .inv .1), k .size, k)))
     (c .if1 .came) in

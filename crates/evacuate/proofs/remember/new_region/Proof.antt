@@ -18,7 +18,9 @@ page-at-requires : tie.Need-page-at-requires
 page-at-requires c κs = search needs
 
 owner-requires : tie.Need-owner-requires
-owner-requires c κs = (c .before .before .before .pre .1 .1 .0, omega (arith, c .page-at .ensures, c .before .before .before .pre .0))
+owner-requires c κs =
+    let pre = c .before .before .before .pre in
+    (pre .1 .1 .0, omega (arith, c .page-at .ensures, pre .0))
 
 returns : tie.Need-returns
 returns c =
@@ -27,22 +29,29 @@ returns c =
 
 returns-2 : tie.Need-returns-2
 returns-2 c =
+    let page-at = c .before .before .before .page-at in
     let a = c .before .before .before .before .before .before .args in
-    new-stays _ _ _ _ _ _ (λ z. c .before .if1 .left (sym (home (a .p) (a .tables .now) (a .at) (c .before .before .owner .result) (c .before .before .before .page-at .result) (c .before .before .before .page-at .ensures) (c .before .before .owner .ensures)) ∙ z)) (c .if2 .taken)
+    new-stays _ _ _ _ _ _ (λ z. c .before .if1 .left (sym (home (a .p) (a .tables .now) (a .at) (c .before .before .owner .result) (page-at .result) (page-at .ensures) (c .before .before .owner .ensures)) ∙ z)) (c .if2 .taken)
 
 mul-cross : tie.Need-mul-cross
 mul-cross c = omega (arith, c .before .before .before .before .before .before .pre)
 
 shared-slice-read-cross : tie.Need-shared-slice-read-cross
-shared-slice-read-cross c = omega (arith, c .before .before .before .before .before .before .before .pre .0, c .before .before .before .before .before .before .before .pre .1 .0)
+shared-slice-read-cross c =
+    let pre = c .before .before .before .before .before .before .before .pre in
+    omega (arith, pre .0, pre .1 .0)
 
 cross-requires : tie.Need-cross-requires
-cross-requires c κs = (c .before .before .before .before .before .before .before .pre .1 .1 .1 (c .before .if2 .left), c .before .before .before .before .before .before .before .pre .1 .1 .0)
+cross-requires c κs =
+    let pre = c .before .before .before .before .before .before .before .pre in
+    (pre .1 .1 .1 (c .before .if2 .left), pre .1 .1 .0)
 
 returns-3 : tie.Need-returns-3
 returns-3 c =
+    let page-at = c .before .before .before .before .before .page-at in
+    let owner = c .before .before .before .before .owner in
     let a = c .before .before .before .before .before .before .before .before .args in
-    let e = home (a .p) (a .tables .now) (a .at) (c .before .before .before .before .owner .result) (c .before .before .before .before .before .page-at .result) (c .before .before .before .before .before .page-at .ensures) (c .before .before .before .before .owner .ensures) in
+    let e = home (a .p) (a .tables .now) (a .at) (owner .result) (page-at .result) (page-at .ensures) (owner .ensures) in
     c .cross .ensures ∙ ap (λ (y : ℕ). crossOf (a .p) (a .tables .now) y (getD (a .cells .now) (a .at) 0)) (sym e)
     ∙ new-moved _ _ _ _ _ _ (λ z. c .before .before .before .if1 .left (sym e ∙ z)) (c .before .before .if2 .left)
 

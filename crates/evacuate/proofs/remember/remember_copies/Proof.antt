@@ -27,10 +27,12 @@ owner-requires c κs = (c .before .before .before .before .before .pre .1 .table
 
 remember-page-requires : tie.Need-remember-page-requires Inv-loop μ-loop
 remember-page-requires c κs =
-    let q : ℕ = c .before .before .before .before .loop .page in
+    let pre = c .before .before .before .before .before .before .before .before .pre in
+    let loop = c .before .before .before .before .loop in
+    let q : ℕ = loop .page in
     let t = c .before .before .before .loop-test .taken in (
-      page-appending (c .before .before .before .before .before .before .before .before .pre .1) t (c .before .before .before .before .before .before .before .before .pre .0) (c .before .before .before .before .loop .inv .2),
-      (wiring-less (λ y l. (omega arith, omega (arith, l .1))) (c .before .before .before .before .before .before .before .before .pre .1), (t, sym (c .before .before .owner .ensures) ∙ c .before .if1 .taken)),
+      page-appending (pre .1) t (pre .0) (loop .inv .2),
+      (wiring-less (λ y l. (omega arith, omega (arith, l .1))) (pre .1), (t, sym (c .before .before .owner .ensures) ∙ c .before .if1 .taken)),
     )
 
 add-page : tie.Need-add-page Inv-loop μ-loop
@@ -41,6 +43,8 @@ loop-less c = omega (arith, c .before .before .loop-test .taken)
 
 loop-again : tie.Need-loop-again Inv-loop μ-loop
 loop-again c =
+    let pre = c .before .before .before .before .before .before .before .pre in
+    let loop-test = c .before .before .loop-test in
     let b = c .before .before .before .before .before .before .before .args in
     let l = c .before .before .before .loop in
     let W : List ℕ = b .cells .now in
@@ -49,10 +53,10 @@ loop-again c =
     (λ X y. Added (b .p .entries) (Crossing (b .p) (CopySlot (b .p) (b .region) (Between 0 (16 * (l .page + 1))) W T) W T) (b .j) y (b .remember .now) X) in
     let h : P (c .if1 .remember) (c .if1 .i) =
     ⊎-elim
-    (λ z. subst₂ P (sym (z .5)) (sym (z .6)) (pages-added (c .before .before .before .before .before .before .before .pre .1) (c .before .before .loop-test .taken) (c .before .before .before .before .before .before .before .pre .0) (l .inv .2) (z .2 .ensures)))
-    (λ z. subst₂ P (sym (z .1)) (sym (z .2)) (pages-skipped (c .before .before .before .before .before .before .before .pre .1) (c .before .before .loop-test .taken) (c .before .before .before .before .before .before .before .pre .0) (l .inv .2) (λ w. z .0 .left (c .before .owner .ensures ∙ w))))
+    (λ z. subst₂ P (sym (z .5)) (sym (z .6)) (pages-added (pre .1) (loop-test .taken) (pre .0) (l .inv .2) (z .2 .ensures)))
+    (λ z. subst₂ P (sym (z .1)) (sym (z .2)) (pages-skipped (pre .1) (loop-test .taken) (pre .0) (l .inv .2) (λ w. z .0 .left (c .before .owner .ensures ∙ w))))
     (c .if1 .came) in
-    (omega (arith, c .before .before .loop-test .taken), h .size, h)
+    (omega (arith, loop-test .taken), h .size, h)
 
 same-length : tie.Need-same-length Inv-loop μ-loop
 same-length c = c .before .loop .inv .1

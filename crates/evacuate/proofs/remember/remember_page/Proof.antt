@@ -42,54 +42,63 @@ loop-holds c =
     )
 
 cell-on-requires : tie.Need-cell-on-requires Inv-loop μ-loop
-cell-on-requires c κs = (omega (arith, c .before .before .before .before .before .before .before .pre .1 .0 .few, c .before .before .before .before .before .before .before .pre .1 .1 .0), omega (arith, c .before .before .before .before .before .before .before .pre .1 .0 .full (c .before .before .before .before .before .before .before .args .page) (c .before .before .before .before .before .before .before .pre .1 .1 .0), c .before .loop .inv .1))
+cell-on-requires c κs =
+    let pre = c .before .before .before .before .before .before .before .pre in
+    (omega (arith, pre .1 .0 .few, pre .1 .1 .0), omega (arith, pre .1 .0 .full (c .before .before .before .before .before .before .before .args .page) (pre .1 .1 .0), c .before .loop .inv .1))
 
 forward : (c : tie.After-work Inv-loop μ-loop) → c .work .result ≡ workOf (c .before .before .before .before .before .before .before .before .before .args .cells .now) (16 * c .before .before .before .before .before .before .before .before .before .args .page + c .before .before .before .loop .a)
 forward c = c .work .ensures ∙ ap (λ (x : ℕ). workOf (c .before .before .before .before .before .before .before .before .before .args .cells .now) x) (c .before .cell-on .ensures)
 
 work-requires : tie.Need-work-requires Inv-loop μ-loop
 work-requires c κs =
-    let full = c .before .before .before .before .before .before .before .before .pre .1 .0 .full (c .before .before .before .before .before .before .before .before .args .page) (c .before .before .before .before .before .before .before .before .pre .1 .1 .0) in
-    (omega (arith, c .cell-on .ensures, c .before .before .before .before .before .before .before .before .pre .1 .0 .few, c .before .before .before .before .before .before .before .before .pre .1 .1 .0, c .before .before .loop .inv .1), omega (arith, c .cell-on .ensures, c .before .before .before .before .before .before .before .before .pre .1 .1 .0, c .before .before .loop .inv .1, c .before .before .before .before .before .before .before .before .pre .1 .0 .cells-long))
+    let pre = c .before .before .before .before .before .before .before .before .pre in
+    let full = pre .1 .0 .full (c .before .before .before .before .before .before .before .before .args .page) (pre .1 .1 .0) in
+    (omega (arith, c .cell-on .ensures, pre .1 .0 .few, pre .1 .1 .0, c .before .before .loop .inv .1), omega (arith, c .cell-on .ensures, pre .1 .1 .0, c .before .before .loop .inv .1, pre .1 .0 .cells-long))
 
 cell-named-requires : tie.Need-cell-named-requires Inv-loop μ-loop
 cell-named-requires c κs = omega (arith, c .if1 .taken)
 
 remember-cell-requires : tie.Need-remember-cell-requires Inv-loop μ-loop
 remember-cell-requires c κs =
+    let pre = c .before .before .before .before .before .before .before .before .before .before .before .before .pre in
+    let work = c .before .before .before .work in
     let b = c .before .before .before .before .before .before .before .before .before .before .before .before .args in
     let l = c .before .before .before .before .before .before .loop in
-    let w = c .before .before .before .before .before .before .before .before .before .before .before .before .pre .1 .0 in
+    let w = pre .1 .0 in
     let T : List ℕ = b .tables .now in
-    let full = w .full (b .page) (c .before .before .before .before .before .before .before .before .before .before .before .before .pre .1 .1 .0) in
+    let full = w .full (b .page) (pre .1 .1 .0) in
     let lt : l .a < usedOf (b .p) T (b .page) = omega (arith, l .inv .1, c .before .before .before .before .before .loop-test .taken) in
-    let u : InUse (b .p) T (16 * b .page + l .a) = in-page (b .p) (b .page) (l .a) T (c .before .before .before .before .before .before .before .before .before .before .before .before .pre .1 .1 .0) lt full in
-    let own : ownerOf (b .p) T ((16 * b .page + l .a) / 16) ≡ b .region = on-page (b .p) (b .page) (l .a) T (omega arith) ∙ c .before .before .before .before .before .before .before .before .before .before .before .before .pre .1 .1 .1 in
+    let u : InUse (b .p) T (16 * b .page + l .a) = in-page (b .p) (b .page) (l .a) T (pre .1 .1 .0) lt full in
+    let own : ownerOf (b .p) T ((16 * b .page + l .a) / 16) ≡ b .region = on-page (b .p) (b .page) (l .a) T (omega arith) ∙ pre .1 .1 .1 in
     let lb : 16 * b .page + l .a < 16 * (b .page + 1) = omega arith in
     let la : 16 * b .page ≤ 16 * b .page + l .a = omega arith in
     let W : List ℕ = b .cells .now in
-    let x : c .before .before .before .work .result ≡ workOf W (16 * b .page + l .a) = forward (c .before .before .before) in (
+    let x : work .result ≡ workOf W (16 * b .page + l .a) = forward (c .before .before .before) in (
       subst (λ (d : ℕ). Appending (b .p) (b .region) (b .p .entries) (Field d (refsOf W d)) W T (l .remember) (l .i)) (sym (c .before .cell-named .ensures))
-          (cell-appending w la lb (c .before .before .before .before .before .before .before .before .before .before .before .before .pre .0) (l .inv .3) (c .before .before .before .work .result) x (c .before .before .if1 .taken) u own),
-      (subst (λ (d : ℕ). Fields (b .p) (refsOf W d) d W) (sym (c .before .cell-named .ensures)) (cell-wired w la lb (c .before .before .before .before .before .before .before .before .before .before .before .before .pre .0) (l .inv .3) (c .before .before .before .work .result) x (c .before .before .if1 .taken) u own), w .tables-long),
+          (cell-appending w la lb (pre .0) (l .inv .3) (work .result) x (c .before .before .if1 .taken) u own),
+      (subst (λ (d : ℕ). Fields (b .p) (refsOf W d) d W) (sym (c .before .cell-named .ensures)) (cell-wired w la lb (pre .0) (l .inv .3) (work .result) x (c .before .before .if1 .taken) u own), w .tables-long),
     )
 
 add-a : tie.Need-add-a Inv-loop μ-loop
-add-a c = omega (arith, c .before .before .before .before .before .before .before .before .before .before .pre .1 .0 .full (c .before .before .before .before .before .before .before .before .before .before .args .page) (c .before .before .before .before .before .before .before .before .before .before .pre .1 .1 .0), c .before .before .before .before .loop .inv .1, c .before .before .before .loop-test .taken)
+add-a c =
+    let pre = c .before .before .before .before .before .before .before .before .before .before .pre in
+    omega (arith, pre .1 .0 .full (c .before .before .before .before .before .before .before .before .before .before .args .page) (pre .1 .1 .0), c .before .before .before .before .loop .inv .1, c .before .before .before .loop-test .taken)
 
 loop-less : tie.Need-loop-less Inv-loop μ-loop
 loop-less c = omega (arith, c .before .before .before .loop-test .taken)
 
 loop-again : tie.Need-loop-again Inv-loop μ-loop
 loop-again c =
+    let pre = c .before .before .before .before .before .before .before .before .before .before .pre in
+    let loop-test = c .before .before .before .loop-test in
     let b = c .before .before .before .before .before .before .before .before .before .before .args in
     let l = c .before .before .before .before .loop in
-    let w = c .before .before .before .before .before .before .before .before .before .before .pre .1 .0 in
+    let w = pre .1 .0 in
     let T : List ℕ = b .tables .now in
-    let full = w .full (b .page) (c .before .before .before .before .before .before .before .before .before .before .pre .1 .1 .0) in
-    let lt : l .a < usedOf (b .p) T (b .page) = omega (arith, l .inv .1, c .before .before .before .loop-test .taken) in
-    let u : InUse (b .p) T (16 * b .page + l .a) = in-page (b .p) (b .page) (l .a) T (c .before .before .before .before .before .before .before .before .before .before .pre .1 .1 .0) lt full in
-    let own : ownerOf (b .p) T ((16 * b .page + l .a) / 16) ≡ b .region = on-page (b .p) (b .page) (l .a) T (omega arith) ∙ c .before .before .before .before .before .before .before .before .before .before .pre .1 .1 .1 in
+    let full = w .full (b .page) (pre .1 .1 .0) in
+    let lt : l .a < usedOf (b .p) T (b .page) = omega (arith, l .inv .1, loop-test .taken) in
+    let u : InUse (b .p) T (16 * b .page + l .a) = in-page (b .p) (b .page) (l .a) T (pre .1 .1 .0) lt full in
+    let own : ownerOf (b .p) T ((16 * b .page + l .a) / 16) ≡ b .region = on-page (b .p) (b .page) (l .a) T (omega arith) ∙ pre .1 .1 .1 in
     let lb : 16 * b .page + l .a < 16 * (b .page + 1) = omega arith in
     let la : 16 * b .page ≤ 16 * b .page + l .a = omega arith in
     let W : List ℕ = b .cells .now in
@@ -100,21 +109,22 @@ loop-again c =
     let h : P (16 * b .page + l .a + 1) (c .if1 .remember) (c .if1 .i) =
     ⊎-elim
     (λ z. subst₂ (P (16 * b .page + l .a + 1)) (sym (z .6)) (sym (z .7))
-    (cell-added w la lb (c .before .before .before .before .before .before .before .before .before .before .pre .0) (l .inv .3) (c .before .work .result) x (z .0 .taken) u own
+    (cell-added w la lb (pre .0) (l .inv .3) (c .before .work .result) x (z .0 .taken) u own
     (subst (λ (d : ℕ). Added (b .p .entries) (Crossing (b .p) (Field d (refsOf W d)) W T) (l .i) (z .3 .result) (l .remember) (z .3 .last .1 .1 .1 .0)) (z .1 .ensures) (z .3 .ensures))))
-    (λ z. subst₂ (P (16 * b .page + l .a + 1)) (sym (z .1)) (sym (z .2)) (cell-null w la lb (c .before .before .before .before .before .before .before .before .before .before .pre .0) (l .inv .3) (c .before .work .result) x (z .0 .left)))
+    (λ z. subst₂ (P (16 * b .page + l .a + 1)) (sym (z .1)) (sym (z .2)) (cell-null w la lb (pre .0) (l .inv .3) (c .before .work .result) x (z .0 .left)))
     (c .if1 .came) in
-    (omega (arith, c .before .before .before .loop-test .taken), l .inv .1, h .size, subst (λ (y : ℕ). P y (c .if1 .remember) (c .if1 .i)) e h)
+    (omega (arith, loop-test .taken), l .inv .1, h .size, subst (λ (y : ℕ). P y (c .if1 .remember) (c .if1 .i)) e h)
 
 same-length : tie.Need-same-length Inv-loop μ-loop
 same-length c = c .before .loop .inv .2
 
 returns : tie.Need-returns Inv-loop μ-loop
 returns c =
+    let pre = c .before .before .before .before .before .before .before .pre in
     let b = c .before .before .before .before .before .before .before .args in
     let l = c .before .loop in
     let e : l .a ≡ usedOf (b .p) (b .tables .now) (b .page) = omega (arith, l .inv .0, l .inv .1) in
-    page-added (b .page) e (omega (arith, c .before .before .before .before .before .before .before .pre .1 .0 .full (b .page) (c .before .before .before .before .before .before .before .pre .1 .1 .0))) (l .inv .3)
+    page-added (b .page) e (omega (arith, pre .1 .0 .full (b .page) (pre .1 .1 .0))) (l .inv .3)
 
 pub remember-page-spec : {M : Type 1} → statement M
 remember-page-spec =

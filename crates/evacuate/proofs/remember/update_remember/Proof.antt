@@ -33,8 +33,9 @@ larger-requires c κs = search needs
 
 clear-entries-requires : tie.Need-clear-entries-requires
 clear-entries-requires c κs =
+    let remember-copies = c .before .before .before .before .remember-copies in
     let u = updating (c .before .before .before .before .before .before .before .before .before .before) in
-    ((omega (arith, c .larger .ensures), omega (arith, c .larger .ensures, c .before .before .before .before .remember-copies .ensures .low, u .entries .few)), omega (arith, u .entries .long, c .before .before .before .before .remember-copies .kept .1 .1 .1 .0, c .before .before .before .before .before .before .before .before .filter-entries .kept .1 .1 .1 .0))
+    ((omega (arith, c .larger .ensures), omega (arith, c .larger .ensures, remember-copies .ensures .low, u .entries .few)), omega (arith, u .entries .long, remember-copies .kept .1 .1 .1 .0, c .before .before .before .before .before .before .before .before .filter-entries .kept .1 .1 .1 .0))
 
 cast-set-used : tie.Need-cast-set-used
 cast-set-used c = omega (arith, c .before .before .before .before .before .before .before .before .remember-copies .ensures .low, c .before .before .before .before .before .before .before .before .before .before .before .before .before .before .before .before .before .before .before .before .pre .small)
@@ -47,10 +48,13 @@ same-length c = c .before .before .set-used .kept .0 ∙ c .before .before .befo
 
 returns : tie.Need-returns
 returns c =
+    let filter-entries = c .before .before .before .before .before .before .before .before .before .before .before .before .before .before .before .filter-entries in
+    let remember-copies = c .before .before .before .before .before .before .before .before .before .before .before .remember-copies in
+    let clear-entries = c .before .before .before .before .before .before .clear-entries in
     let a = c .before .before .before .before .before .before .before .before .before .before .before .before .before .before .before .before .before .before .before .before .before .before .before .args in
-    let h = updated (updating (c .before .before .before .before .before .before .before .before .before .before .before .before .before .before .before .before .before)) (c .before .before .before .before .before .before .before .before .before .before .before .before .before .before .before .filter-entries .ensures .0) (c .before .before .before .before .before .before .before .before .before .before .before .before .before .before .before .filter-entries .ensures .1) (c .before .before .before .before .before .before .before .before .before .before .before .remember-copies .ensures) (c .before .before .before .before .before .before .before .larger .ensures) (c .before .before .before .before .before .before .clear-entries .ensures) refl in
+    let h = updated (updating (c .before .before .before .before .before .before .before .before .before .before .before .before .before .before .before .before .before)) (filter-entries .ensures .0) (filter-entries .ensures .1) (remember-copies .ensures) (c .before .before .before .before .before .before .before .larger .ensures) (clear-entries .ensures) refl in
     subst (λ (X : List ℕ). Updated (a .p) (a .region) (a .p .entries) (usedIn (a .remember .now)) (a .cells .now) (a .tables .now) (a .remember .now) X) (sym (c .before .before .set-used .ensures))
-    (subst (λ (y : ℕ). Updated (a .p) (a .region) (a .p .entries) y (a .cells .now) (a .tables .now) (a .remember .now) (set (c .before .before .before .before .before .before .clear-entries .last .1 .0) 1 (c .before .before .before .before .before .before .before .before .before .before .before .remember-copies .result))) (c .before .before .before .before .before .before .before .before .before .before .before .before .before .before .before .before .before .wide .ensures ∙ c .before .before .before .before .before .before .before .before .before .before .before .before .before .before .before .before .before .before .used .ensures) h)
+    (subst (λ (y : ℕ). Updated (a .p) (a .region) (a .p .entries) y (a .cells .now) (a .tables .now) (a .remember .now) (set (clear-entries .last .1 .0) 1 (remember-copies .result))) (c .before .before .before .before .before .before .before .before .before .before .before .before .before .before .before .before .before .wide .ensures ∙ c .before .before .before .before .before .before .before .before .before .before .before .before .before .before .before .before .before .before .used .ensures) h)
 
 pub update-remember-spec : {M : Type 1} → statement M
 update-remember-spec =

@@ -19,10 +19,16 @@ page-of-requires : tie.Need-page-of-requires
 page-of-requires c κs = search needs
 
 owner-requires : tie.Need-owner-requires
-owner-requires c κs = (c .before .before .before .before .before .pre .1 .1, omega (arith, c .before .before .before .before .before .pre .0 (c .before .before .if1 .left), c .before .cell-named .ensures, c .page-of .ensures))
+owner-requires c κs =
+    let pre = c .before .before .before .before .before .pre in
+    (pre .1 .1, omega (arith, pre .0 (c .before .before .if1 .left), c .before .cell-named .ensures, c .page-of .ensures))
 
 work-requires : tie.Need-work-requires
-work-requires c κs = (omega (arith, c .before .before .before .before .before .before .before .pre .0 (c .before .before .before .before .if1 .left), c .before .before .before .cell-named .ensures, c .before .before .before .before .before .before .before .pre .1 .1 .few), omega (arith, c .before .before .before .before .before .before .before .pre .0 (c .before .before .before .before .if1 .left), c .before .before .before .cell-named .ensures, c .before .before .before .before .before .before .before .pre .1 .0))
+work-requires c κs =
+    let pre = c .before .before .before .before .before .before .before .pre in
+    let if1 = c .before .before .before .before .if1 in
+    let cell-named = c .before .before .before .cell-named in
+    (omega (arith, pre .0 (if1 .left), cell-named .ensures, pre .1 .1 .few), omega (arith, pre .0 (if1 .left), cell-named .ensures, pre .1 .0))
 
 returns-2 : tie.Need-returns-2
 returns-2 c =

@@ -20,7 +20,9 @@ abbrev μ-loop : tie.MeasureT-loop
     n - f
 
 head-requires : tie.Need-head-requires Inv-loop μ-loop
-head-requires c κs = (omega (arith, c .before .before .before .pre .0 .page, c .before .before .before .pre .0 .pages), omega (arith, c .before .before .before .pre .0 .page, c .before .before .before .pre .0 .cells-long))
+head-requires c κs =
+    let pre = c .before .before .before .pre in
+    (omega (arith, pre .0 .page, pre .0 .pages), omega (arith, pre .0 .page, pre .0 .cells-long))
 
 field-count-requires : tie.Need-field-count-requires Inv-loop μ-loop
 field-count-requires c κs = search needs
@@ -29,15 +31,21 @@ loop-holds : tie.Need-loop-holds Inv-loop μ-loop
 loop-holds c = (omega arith, c .field-count .ensures ∙ ap (λ (x : ℕ). x / 16) (c .before .head .ensures), refl, fields-start _ _ _ _ _)
 
 field-requires : tie.Need-field-requires Inv-loop μ-loop
-field-requires c κs = (omega (arith, c .before .before .before .before .before .before .before .before .pre .0 .page, c .before .before .before .before .before .before .before .before .pre .0 .pages), omega (arith, c .before .before .before .before .before .before .before .before .pre .0 .page, c .before .before .before .before .before .before .before .before .pre .0 .cells-long, c .before .before .loop .inv .2), omega (arith, c .before .before .loop .inv .1, c .before .before .before .before .before .before .before .before .pre .0 .few))
+field-requires c κs =
+    let pre = c .before .before .before .before .before .before .before .before .pre in
+    (omega (arith, pre .0 .page, pre .0 .pages), omega (arith, pre .0 .page, pre .0 .cells-long, c .before .before .loop .inv .2), omega (arith, c .before .before .loop .inv .1, pre .0 .few))
 
 forward-ref-requires : tie.Need-forward-ref-requires Inv-loop μ-loop
 forward-ref-requires c κs =
+    let pre = c .before .before .before .before .before .before .before .before .before .pre in
     let l = c .before .before .before .loop in
-    (subst (λ (x : ℕ). Names (c .before .before .before .before .before .before .before .before .before .args .p) x) (sym (c .field .ensures)) (field-names (c .before .before .before .before .before .before .before .before .before .pre .0) (omega (arith, l .inv .1)) (l .inv .3)), (omega (arith, c .before .before .before .before .before .before .before .before .before .pre .0 .cells-long, l .inv .2), c .before .before .before .before .before .before .before .before .before .pre .1))
+    (subst (λ (x : ℕ). Names (c .before .before .before .before .before .before .before .before .before .args .p) x) (sym (c .field .ensures)) (field-names (pre .0) (omega (arith, l .inv .1)) (l .inv .3)), (omega (arith, pre .0 .cells-long, l .inv .2), pre .1))
 
 set-field-requires : tie.Need-set-field-requires Inv-loop μ-loop
-set-field-requires c κs = (omega (arith, c .before .before .before .before .before .before .before .before .before .before .before .pre .0 .page, c .before .before .before .before .before .before .before .before .before .before .before .pre .0 .pages), omega (arith, c .before .before .before .before .before .before .before .before .before .before .before .pre .0 .page, c .before .before .before .before .before .before .before .before .before .before .before .pre .0 .cells-long, c .before .before .before .before .before .loop .inv .2), omega (arith, c .before .before .before .before .before .loop .inv .1, c .before .before .before .before .before .before .before .before .before .before .before .pre .0 .few))
+set-field-requires c κs =
+    let pre = c .before .before .before .before .before .before .before .before .before .before .before .pre in
+    let loop = c .before .before .before .before .before .loop in
+    (omega (arith, pre .0 .page, pre .0 .pages), omega (arith, pre .0 .page, pre .0 .cells-long, loop .inv .2), omega (arith, loop .inv .1, pre .0 .few))
 
 add-f : tie.Need-add-f Inv-loop μ-loop
 add-f c = omega (arith, c .before .before .before .before .before .before .before .before .loop .inv .1, c .before .before .before .before .before .before .before .before .before .before .before .before .before .before .pre .0 .few)
@@ -47,13 +55,14 @@ loop-less c = omega arith
 
 loop-again : tie.Need-loop-again Inv-loop μ-loop
 loop-again c =
+    let forward-ref = c .before .before .before .before .forward-ref in
     let a = c .before .before .before .before .before .before .before .before .before .before .before .before .before .before .args in
     let l = c .before .before .before .before .before .before .before .before .loop in
-    let ev : c .before .before .before .before .forward-ref .result ≡ moveRef (a .p) (a .region) (l .cells) (a .tables .now) (fieldOf (l .cells) (a .cell) (l .f)) =
-    c .before .before .before .before .forward-ref .ensures ∙ ap (λ (x : ℕ). moveRef (a .p) (a .region) (l .cells) (a .tables .now) x) (c .before .before .before .before .before .field .ensures) in
+    let ev : forward-ref .result ≡ moveRef (a .p) (a .region) (l .cells) (a .tables .now) (fieldOf (l .cells) (a .cell) (l .f)) =
+    forward-ref .ensures ∙ ap (λ (x : ℕ). moveRef (a .p) (a .region) (l .cells) (a .tables .now) x) (c .before .before .before .before .before .field .ensures) in
     let h : Rewritten (a .p) (a .region) (Field (a .cell) (l .f + 1)) (a .tables .now) (a .cells .now) (c .before .before .set-field .last .0) =
     subst (λ (X : List ℕ). Rewritten (a .p) (a .region) (Field (a .cell) (l .f + 1)) (a .tables .now) (a .cells .now) X) (sym (c .before .before .set-field .ensures))
-    (field-moved (c .before .before .before .before .before .before .before .before .before .before .before .before .before .before .pre .0) (omega (arith, l .inv .1)) (l .inv .3) (c .before .before .before .before .forward-ref .result) ev) in
+    (field-moved (c .before .before .before .before .before .before .before .before .before .before .before .before .before .before .pre .0) (omega (arith, l .inv .1)) (l .inv .3) (forward-ref .result) ev) in
     (omega arith, l .inv .1, h .size, h)
 
 same-length : tie.Need-same-length Inv-loop μ-loop

@@ -19,13 +19,17 @@ abbrev μ-loop : tie.MeasureT-loop
     p .pages - page
 
 loop-holds : tie.Need-loop-holds Inv-loop μ-loop
-loop-holds c = (omega arith, refl, copies-start (c .before .before .args .p) (c .before .before .args .region) 0 (c .before .before .args .tables .now) (c .before .before .args .cells .now))
+loop-holds c =
+    let args = c .before .before .args in
+    (omega arith, refl, copies-start (args .p) (args .region) 0 (args .tables .now) (args .cells .now))
 
 owner-requires : tie.Need-owner-requires Inv-loop μ-loop
 owner-requires c κs = (c .before .before .before .before .pre .tables-long, c .loop-test .taken)
 
 rewrite-page-requires : tie.Need-rewrite-page-requires Inv-loop μ-loop
-rewrite-page-requires c κs = (page-wired (c .before .before .before .before .before .before .before .pre) (c .before .before .before .loop-test .taken) (c .before .before .before .before .loop .inv .2), (c .before .before .before .loop-test .taken, sym (c .before .before .owner .ensures) ∙ c .before .if1 .taken))
+rewrite-page-requires c κs =
+    let loop-test = c .before .before .before .loop-test in
+    (page-wired (c .before .before .before .before .before .before .before .pre) (loop-test .taken) (c .before .before .before .before .loop .inv .2), (loop-test .taken, sym (c .before .before .owner .ensures) ∙ c .before .if1 .taken))
 
 add-page : tie.Need-add-page Inv-loop μ-loop
 add-page c = omega (arith, c .before .before .before .before .before .before .pre .few, c .before .before .loop-test .taken)
@@ -35,16 +39,18 @@ loop-less c = omega (arith, c .before .before .loop-test .taken)
 
 loop-again : tie.Need-loop-again Inv-loop μ-loop
 loop-again c =
+    let pre = c .before .before .before .before .before .before .pre in
+    let loop-test = c .before .before .loop-test in
     let a = c .before .before .before .before .before .before .args in
     let l = c .before .before .before .loop in
     let P : List ℕ → Type 0 =
     (λ X. Rewritten (a .p) (a .region) (CopySlot (a .p) (a .region) (Between 0 (16 * (l .page + 1))) (a .cells .now) (a .tables .now)) (a .tables .now) (a .cells .now) X) in
     let h : P (c .if1 .cells) =
     ⊎-elim
-    (λ z. subst P (sym (z .5)) (pages-next (c .before .before .before .before .before .before .pre) (c .before .before .loop-test .taken) (l .inv .2) (z .2 .ensures)))
-    (λ z. subst P (sym (z .1)) (pages-left (c .before .before .before .before .before .before .pre) (c .before .before .loop-test .taken) (l .inv .2) (λ w. z .0 .left (c .before .owner .ensures ∙ w))))
+    (λ z. subst P (sym (z .5)) (pages-next (pre) (loop-test .taken) (l .inv .2) (z .2 .ensures)))
+    (λ z. subst P (sym (z .1)) (pages-left (pre) (loop-test .taken) (l .inv .2) (λ w. z .0 .left (c .before .owner .ensures ∙ w))))
     (c .if1 .came) in
-    (omega (arith, c .before .before .loop-test .taken), h .size, h)
+    (omega (arith, loop-test .taken), h .size, h)
 
 same-length : tie.Need-same-length Inv-loop μ-loop
 same-length c = c .before .loop .inv .1

@@ -41,50 +41,59 @@ loop-holds c =
     )
 
 cell-on-requires : tie.Need-cell-on-requires Inv-loop μ-loop
-cell-on-requires c κs = (omega (arith, c .before .before .before .before .before .before .before .pre .0 .few, c .before .before .before .before .before .before .before .pre .1 .0), omega (arith, c .before .before .before .before .before .before .before .pre .0 .full (c .before .before .before .before .before .before .before .args .page) (c .before .before .before .before .before .before .before .pre .1 .0), c .before .before .loop .inv .1))
+cell-on-requires c κs =
+    let pre = c .before .before .before .before .before .before .before .pre in
+    (omega (arith, pre .0 .few, pre .1 .0), omega (arith, pre .0 .full (c .before .before .before .before .before .before .before .args .page) (pre .1 .0), c .before .before .loop .inv .1))
 
 forward : (c : tie.After-work Inv-loop μ-loop) → c .work .result ≡ workOf (c .before .before .before .before .loop .cells) (16 * c .before .before .before .before .before .before .before .before .before .args .page + c .before .before .before .before .loop .i)
 forward c = c .work .ensures ∙ ap (λ (x : ℕ). workOf (c .before .before .before .before .loop .cells) x) (c .before .cell-on .ensures)
 
 work-requires : tie.Need-work-requires Inv-loop μ-loop
 work-requires c κs =
-    let full = c .before .before .before .before .before .before .before .before .pre .0 .full (c .before .before .before .before .before .before .before .before .args .page) (c .before .before .before .before .before .before .before .before .pre .1 .0) in
-    (omega (arith, c .cell-on .ensures, c .before .before .before .before .before .before .before .before .pre .0 .few, c .before .before .before .before .before .before .before .before .pre .1 .0, c .before .before .before .loop .inv .1), omega (arith, c .cell-on .ensures, c .before .before .before .before .before .before .before .before .pre .1 .0, c .before .before .before .loop .inv .1, c .before .before .before .loop .inv .2, c .before .before .before .before .before .before .before .before .pre .0 .cells-long))
+    let pre = c .before .before .before .before .before .before .before .before .pre in
+    let loop = c .before .before .before .loop in
+    let full = pre .0 .full (c .before .before .before .before .before .before .before .before .args .page) (pre .1 .0) in
+    (omega (arith, c .cell-on .ensures, pre .0 .few, pre .1 .0, loop .inv .1), omega (arith, c .cell-on .ensures, pre .1 .0, loop .inv .1, loop .inv .2, pre .0 .cells-long))
 
 cell-named-requires : tie.Need-cell-named-requires Inv-loop μ-loop
 cell-named-requires c κs = omega (arith, c .before .if1 .taken)
 
 rewrite-cell-requires : tie.Need-rewrite-cell-requires Inv-loop μ-loop
 rewrite-cell-requires c κs =
+    let pre = c .before .before .before .before .before .before .before .before .before .before .before .before .pre in
     let a = c .before .before .before .before .before .before .before .before .before .before .before .before .args in
     let l = c .before .before .before .before .before .before .before .loop in
-    let w = c .before .before .before .before .before .before .before .before .before .before .before .before .pre .0 in
+    let w = pre .0 in
     let T : List ℕ = a .tables .now in
-    let full = w .full (a .page) (c .before .before .before .before .before .before .before .before .before .before .before .before .pre .1 .0) in
+    let full = w .full (a .page) (pre .1 .0) in
     let lt : l .i < usedOf (a .p) T (a .page) = omega (arith, l .inv .1, c .before .before .before .before .before .before .loop-test .taken) in
-    let u : InUse (a .p) T (16 * a .page + l .i) = in-page (a .p) (a .page) (l .i) T (c .before .before .before .before .before .before .before .before .before .before .before .before .pre .1 .0) lt full in
-    let own : ownerOf (a .p) T ((16 * a .page + l .i) / 16) ≡ a .region = on-page (a .p) (a .page) (l .i) T (omega arith) ∙ c .before .before .before .before .before .before .before .before .before .before .before .before .pre .1 .1 in
+    let u : InUse (a .p) T (16 * a .page + l .i) = in-page (a .p) (a .page) (l .i) T (pre .1 .0) lt full in
+    let own : ownerOf (a .p) T ((16 * a .page + l .i) / 16) ≡ a .region = on-page (a .p) (a .page) (l .i) T (omega arith) ∙ pre .1 .1 in
     let lb : 16 * a .page + l .i < 16 * (a .page + 1) = omega arith in
     let la : 16 * a .page ≤ 16 * a .page + l .i = omega arith in
     let f = copy-fields w la lb (l .inv .3) (c .before .before .before .work .result) (forward (c .before .before .before)) (λ z. omega (arith, c .before .before .if1 .taken)) u own in
     (subst (λ (d : ℕ). Fields (a .p) (refsOf (l .cells) d) d (l .cells)) (sym (c .cell-named .ensures)) f, w .tables-long)
 
 add-i : tie.Need-add-i Inv-loop μ-loop
-add-i c = omega (arith, c .before .before .before .before .before .before .before .before .before .before .pre .0 .full (c .before .before .before .before .before .before .before .before .before .before .args .page) (c .before .before .before .before .before .before .before .before .before .before .pre .1 .0), c .before .before .before .before .before .loop .inv .1, c .before .before .before .before .loop-test .taken)
+add-i c =
+    let pre = c .before .before .before .before .before .before .before .before .before .before .pre in
+    omega (arith, pre .0 .full (c .before .before .before .before .before .before .before .before .before .before .args .page) (pre .1 .0), c .before .before .before .before .before .loop .inv .1, c .before .before .before .before .loop-test .taken)
 
 loop-less : tie.Need-loop-less Inv-loop μ-loop
 loop-less c = omega (arith, c .before .before .before .before .loop-test .taken)
 
 loop-again : tie.Need-loop-again Inv-loop μ-loop
 loop-again c =
+    let pre = c .before .before .before .before .before .before .before .before .before .before .pre in
+    let loop-test = c .before .before .before .before .loop-test in
     let a = c .before .before .before .before .before .before .before .before .before .before .args in
     let l = c .before .before .before .before .before .loop in
-    let w = c .before .before .before .before .before .before .before .before .before .before .pre .0 in
+    let w = pre .0 in
     let T : List ℕ = a .tables .now in
-    let full = w .full (a .page) (c .before .before .before .before .before .before .before .before .before .before .pre .1 .0) in
-    let lt : l .i < usedOf (a .p) T (a .page) = omega (arith, l .inv .1, c .before .before .before .before .loop-test .taken) in
-    let u : InUse (a .p) T (16 * a .page + l .i) = in-page (a .p) (a .page) (l .i) T (c .before .before .before .before .before .before .before .before .before .before .pre .1 .0) lt full in
-    let own : ownerOf (a .p) T ((16 * a .page + l .i) / 16) ≡ a .region = on-page (a .p) (a .page) (l .i) T (omega arith) ∙ c .before .before .before .before .before .before .before .before .before .before .pre .1 .1 in
+    let full = w .full (a .page) (pre .1 .0) in
+    let lt : l .i < usedOf (a .p) T (a .page) = omega (arith, l .inv .1, loop-test .taken) in
+    let u : InUse (a .p) T (16 * a .page + l .i) = in-page (a .p) (a .page) (l .i) T (pre .1 .0) lt full in
+    let own : ownerOf (a .p) T ((16 * a .page + l .i) / 16) ≡ a .region = on-page (a .p) (a .page) (l .i) T (omega arith) ∙ pre .1 .1 in
     let lb : 16 * a .page + l .i < 16 * (a .page + 1) = omega arith in
     let la : 16 * a .page ≤ 16 * a .page + l .i = omega arith in
     let x : c .before .work .result ≡ workOf (l .cells) (16 * a .page + l .i) = forward (c .before) in
@@ -98,17 +107,18 @@ loop-again c =
     (subst (λ (d : ℕ). Rewritten (a .p) (a .region) (Field d (refsOf (l .cells) d)) T (l .cells) (z .3 .last .1 .0)) (z .2 .ensures) (z .3 .ensures))))
     (λ z. subst (P (16 * a .page + l .i + 1)) (sym (z .1)) (copy-null w la lb (l .inv .3) (c .before .work .result) x (omega (arith, z .0 .left))))
     (c .if1 .came) in
-    (omega (arith, c .before .before .before .before .loop-test .taken), l .inv .1, h .size, subst (λ (y : ℕ). P y (c .if1 .cells)) e h)
+    (omega (arith, loop-test .taken), l .inv .1, h .size, subst (λ (y : ℕ). P y (c .if1 .cells)) e h)
 
 same-length : tie.Need-same-length Inv-loop μ-loop
 same-length c = c .before .loop .inv .2
 
 returns : tie.Need-returns Inv-loop μ-loop
 returns c =
+    let pre = c .before .before .before .before .before .before .pre in
     let a = c .before .before .before .before .before .before .args in
     let l = c .before .loop in
     let e : l .i ≡ usedOf (a .p) (a .tables .now) (a .page) = omega (arith, l .inv .0, l .inv .1) in
-    page-done (a .page) e (omega (arith, c .before .before .before .before .before .before .pre .0 .full (a .page) (c .before .before .before .before .before .before .pre .1 .0))) (l .inv .3)
+    page-done (a .page) e (omega (arith, pre .0 .full (a .page) (pre .1 .0))) (l .inv .3)
 
 pub rewrite-page-spec : {M : Type 1} → statement M
 rewrite-page-spec =

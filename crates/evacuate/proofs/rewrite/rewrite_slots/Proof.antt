@@ -33,10 +33,14 @@ loop-holds : tie.Need-loop-holds Inv-loop μ-loop
 loop-holds c = (omega arith, c .wide .ensures ∙ c .before .used .ensures, refl, slots-start _ _ _ _ _ _)
 
 region-requires : tie.Need-region-requires Inv-loop μ-loop
-region-requires c κs = (omega (arith, c .before .before .before .before .before .before .before .pre .0 .long), omega (arith, c .before .before .before .before .before .before .before .pre .0 .few, c .before .loop .inv .1))
+region-requires c κs =
+    let pre = c .before .before .before .before .before .before .before .pre in
+    (omega (arith, pre .0 .long), omega (arith, pre .0 .few, c .before .loop .inv .1))
 
 slot-requires : tie.Need-slot-requires Inv-loop μ-loop
-slot-requires c κs = (omega (arith, c .before .before .before .before .before .before .before .before .before .pre .0 .long), omega (arith, c .before .before .before .before .before .before .before .before .before .pre .0 .few, c .before .before .before .loop .inv .1))
+slot-requires c κs =
+    let pre = c .before .before .before .before .before .before .before .before .before .pre in
+    (omega (arith, pre .0 .long), omega (arith, pre .0 .few, c .before .before .before .loop .inv .1))
 
 wide-requires-2 : tie.Need-wide-requires-2 Inv-loop μ-loop
 wide-requires-2 c κs = search needs
@@ -49,12 +53,13 @@ slice-reshared-read-forward-ref c = omega (arith, c .before .wide2 .ensures, c .
 
 forward-ref-requires : tie.Need-forward-ref-requires Inv-loop μ-loop
 forward-ref-requires c κs =
+    let pre = c .before .before .before .before .before .before .before .before .before .before .before .before .pre in
     let a = c .before .before .before .before .before .before .before .before .before .before .before .before .args in
     let l = c .before .before .before .before .before .before .loop in
-    let s = c .before .before .before .before .before .before .before .before .before .before .before .before .pre .0 in
+    let s = pre .0 in
     let lt : l .i < usedIn (a .remember .now) = omega (arith, l .inv .1) in (
       subst (λ (y : ℕ). Names (a .p) (getD (l .cells) y 0)) (sym (c .before .wide2 .ensures ∙ c .before .before .slot .ensures)) (slot-names s lt (l .inv .3) (sym (c .before .before .before .before .region .ensures) ∙ c .before .before .before .if1 .taken)),
-      (omega (arith, s .cells-long, l .inv .2), c .before .before .before .before .before .before .before .before .before .before .before .before .pre .1),
+      (omega (arith, s .cells-long, l .inv .2), pre .1),
     )
 
 mul-cells : tie.Need-mul-cells Inv-loop μ-loop
@@ -64,7 +69,9 @@ slice-write-cells : tie.Need-slice-write-cells Inv-loop μ-loop
 slice-write-cells c = omega (arith, c .before .before .wide2 .ensures, c .before .before .before .slot .ensures, low (c .before .before .before .before .before .before), c .before .before .before .before .before .before .before .before .before .before .before .before .before .pre .0 .cells-long, c .before .before .before .before .before .before .before .loop .inv .2)
 
 add-i : tie.Need-add-i Inv-loop μ-loop
-add-i c = omega (arith, c .before .before .before .before .before .before .before .before .before .pre .0 .few, c .before .before .before .loop .inv .1, c .before .before .before .before .before .before .before .before .before .pre .1 .entries-high)
+add-i c =
+    let pre = c .before .before .before .before .before .before .before .before .before .pre in
+    omega (arith, pre .0 .few, c .before .before .before .loop .inv .1, pre .1 .entries-high)
 
 loop-less : tie.Need-loop-less Inv-loop μ-loop
 loop-less c = omega arith

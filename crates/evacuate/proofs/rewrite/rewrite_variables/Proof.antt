@@ -34,27 +34,31 @@ var-requires c κs = (room-same (c .before .before .loop .inv .1) (c .before .be
 
 forward-ref-requires : tie.Need-forward-ref-requires Inv-loop μ-loop
 forward-ref-requires c κs =
+    let pre = c .before .before .before .before .before .before .before .pre in
     let l = c .before .before .before .loop in
-    (subst (λ (x : ℕ). Names (c .before .before .before .before .before .before .before .args .p) x) (sym (c .var .ensures)) (variables-names (l .inv .2) (c .before .before .before .before .before .before .before .pre .0 (l .i) (low (c .before .before)))), (c .before .before .before .before .before .before .before .pre .1 .0, room-same (l .inv .1) (c .before .before .before .before .before .before .before .pre .1 .1)))
+    (subst (λ (x : ℕ). Names (c .before .before .before .before .before .before .before .args .p) x) (sym (c .var .ensures)) (variables-names (l .inv .2) (pre .0 (l .i) (low (c .before .before)))), (pre .1 .0, room-same (l .inv .1) (pre .1 .1)))
 
 set-var-requires : tie.Need-set-var-requires Inv-loop μ-loop
 set-var-requires c κs = (room-same (c .before .before .before .before .before .loop .inv .1) (c .before .before .before .before .before .before .before .before .before .pre .1 .1), low (c .before .before .before .before))
 
 add-i : tie.Need-add-i Inv-loop μ-loop
-add-i c = omega (arith, mul-le-mul (c .before .before .before .before .before .before .before .before .before .before .before .before .pre .1 .1 .threads-high) (c .before .before .before .before .before .before .before .before .before .before .before .before .pre .1 .1 .variables-high))
+add-i c =
+    let pre = c .before .before .before .before .before .before .before .before .before .before .before .before .pre in
+    omega (arith, mul-le-mul (pre .1 .1 .threads-high) (pre .1 .1 .variables-high))
 
 loop-less : tie.Need-loop-less Inv-loop μ-loop
 loop-less c = omega arith
 
 loop-again : tie.Need-loop-again Inv-loop μ-loop
 loop-again c =
+    let forward-ref = c .before .before .before .before .forward-ref in
     let a = c .before .before .before .before .before .before .before .before .before .before .before .before .args in
     let l = c .before .before .before .before .before .before .before .before .loop in
-    let ev : c .before .before .before .before .forward-ref .result ≡ moveRef (a .p) (a .region) (a .cells .now) (l .tables) (varOf (a .p) (l .tables) (l .i)) =
-    c .before .before .before .before .forward-ref .ensures ∙ ap (λ (x : ℕ). moveRef (a .p) (a .region) (a .cells .now) (l .tables) x) (c .before .before .before .before .before .var .ensures) in
+    let ev : forward-ref .result ≡ moveRef (a .p) (a .region) (a .cells .now) (l .tables) (varOf (a .p) (l .tables) (l .i)) =
+    forward-ref .ensures ∙ ap (λ (x : ℕ). moveRef (a .p) (a .region) (a .cells .now) (l .tables) x) (c .before .before .before .before .before .var .ensures) in
     let h : Variables (a .p) (l .i + 1) (a .region) (a .cells .now) (a .tables .now) (c .before .before .set-var .last .1 .0) =
     subst (λ (X : List ℕ). Variables (a .p) (l .i + 1) (a .region) (a .cells .now) (a .tables .now) X) (sym (c .before .before .set-var .ensures))
-    (variables-next (low (c .before .before .before .before .before .before .before)) (c .before .before .before .before .before .before .before .before .before .before .before .before .pre .1 .1) (l .inv .2) (c .before .before .before .before .forward-ref .result) ev) in
+    (variables-next (low (c .before .before .before .before .before .before .before)) (c .before .before .before .before .before .before .before .before .before .before .before .before .pre .1 .1) (l .inv .2) (forward-ref .result) ev) in
     (omega (arith, low (c .before .before .before .before .before .before .before)), h .size, h)
 
 same-length : tie.Need-same-length Inv-loop μ-loop

@@ -33,17 +33,22 @@ loop-holds c =
 
 slot-for-requires : tie.Need-slot-for-requires Inv-loop μ-loop
 slot-for-requires c κs =
-    let lt : c .before .before .before .loop .i < usedIn (c .before .before .before .before .before .before .before .before .before .args .remember .now) = omega arith in
-    let s = pushing-shaped (c .before .before .before .before .before .before .before .before .before .pre .0) (slot-held-ref (c .before .before .before .before .before .before .before .before .before .pre .1) _ _) lt (c .before .before .before .loop .inv .5) in
-    (s .room, ((s .cells-long, c .before .before .before .before .before .before .before .before .before .pre .1 .long), (omega arith, c .before .before .before .before .before .before .before .before .before .pre .1 .slot (c .before .before .before .loop .i) lt)))
+    let pre = c .before .before .before .before .before .before .before .before .before .pre in
+    let loop = c .before .before .before .loop in
+    let lt : loop .i < usedIn (c .before .before .before .before .before .before .before .before .before .args .remember .now) = omega arith in
+    let s = pushing-shaped (pre .0) (slot-held-ref (pre .1) _ _) lt (loop .inv .5) in
+    (s .room, ((s .cells-long, pre .1 .long), (omega arith, pre .1 .slot (loop .i) lt)))
 
 push-requires : tie.Need-push-requires Inv-loop μ-loop
 push-requires c κs =
-    let lt : c .before .before .before .before .before .before .loop .i < usedIn (c .before .before .before .before .before .before .before .before .before .before .before .before .args .remember .now) = omega arith in
-    let u = slot-held-ref (c .before .before .before .before .before .before .before .before .before .before .before .before .pre .1) (c .before .before .before .before .before .before .before .before .before .before .before .before .args .r) (c .before .before .before .before .before .before .before .before .before .before .before .before .args .g) in
-    let k = pushing-kept (c .before .before .before .before .before .before .before .before .before .before .before .before .pre .0) u lt (c .before .before .before .before .before .before .loop .inv .5) in (
-      pushing-shaped (c .before .before .before .before .before .before .before .before .before .before .before .before .pre .0) u lt (c .before .before .before .before .before .before .loop .inv .5),
-      ref-read (c .before .before .before .before .before .before .before .before .before .before .before .before .pre .0) u lt (c .before .before .before .before .before .before .loop .inv .5) (c .before .before .slot-for .result) (c .before .before .slot-for .ensures ∙ kept-slot-held k (c .before .before .before .before .before .before .before .before .before .before .before .before .pre .0 .room) (c .before .before .before .before .before .before .before .before .before .before .before .before .pre .1) _ _ _ lt),
+    let args = c .before .before .before .before .before .before .before .before .before .before .before .before .args in
+    let pre = c .before .before .before .before .before .before .before .before .before .before .before .before .pre in
+    let loop = c .before .before .before .before .before .before .loop in
+    let lt : loop .i < usedIn (args .remember .now) = omega arith in
+    let u = slot-held-ref (pre .1) (args .r) (args .g) in
+    let k = pushing-kept (pre .0) u lt (loop .inv .5) in (
+      pushing-shaped (pre .0) u lt (loop .inv .5),
+      ref-read (pre .0) u lt (loop .inv .5) (c .before .before .slot-for .result) (c .before .before .slot-for .ensures ∙ kept-slot-held k (pre .0 .room) (pre .1) _ _ _ lt),
     )
 
 add-i : tie.Need-add-i Inv-loop μ-loop
@@ -56,12 +61,16 @@ loop-less c =
 
 loop-again : tie.Need-loop-again Inv-loop μ-loop
 loop-again c =
-    let lt : c .before .before .before .before .before .before .before .before .before .before .before .loop .i < usedIn (c .before .before .before .before .before .before .before .before .before .before .before .before .before .before .before .before .before .args .remember .now) = omega arith in
-    let u = slot-held-ref (c .before .before .before .before .before .before .before .before .before .before .before .before .before .before .before .before .before .pre .1) (c .before .before .before .before .before .before .before .before .before .before .before .before .before .before .before .before .before .args .r) (c .before .before .before .before .before .before .before .before .before .before .before .before .before .before .before .before .before .args .g) in
-    let k = pushing-kept (c .before .before .before .before .before .before .before .before .before .before .before .before .before .before .before .before .before .pre .0) u lt (c .before .before .before .before .before .before .before .before .before .before .before .loop .inv .5) in
-    let h = push-read (c .before .before .before .before .before .before .before .before .before .before .before .before .before .before .before .before .before .pre .0) u lt (c .before .before .before .before .before .before .before .before .before .before .before .loop .inv .5) (c .before .before .before .before .before .before .before .slot-for .result) (c .before .before .before .before .before .before .before .slot-for .ensures ∙ kept-slot-held k (c .before .before .before .before .before .before .before .before .before .before .before .before .before .before .before .before .before .pre .0 .room) (c .before .before .before .before .before .before .before .before .before .before .before .before .before .before .before .before .before .pre .1) _ _ _ lt) (c .before .before .before .before .push .ensures) in
-    let k′ = pushes-kept _ _ (c .before .before .before .before .before .before .before .before .before .before .before .before .before .before .before .before .before .pre .0) (h .pushes) in
-    (omega arith, c .before .before .before .before .before .before .before .before .before .before .before .loop .inv .1, c .before .before .before .before .before .before .before .before .before .before .before .loop .inv .2, k′ .cells-length, k′ .tables-length, h)
+    let args = c .before .before .before .before .before .before .before .before .before .before .before .before .before .before .before .before .before .args in
+    let pre = c .before .before .before .before .before .before .before .before .before .before .before .before .before .before .before .before .before .pre in
+    let loop = c .before .before .before .before .before .before .before .before .before .before .before .loop in
+    let slot-for = c .before .before .before .before .before .before .before .slot-for in
+    let lt : loop .i < usedIn (args .remember .now) = omega arith in
+    let u = slot-held-ref (pre .1) (args .r) (args .g) in
+    let k = pushing-kept (pre .0) u lt (loop .inv .5) in
+    let h = push-read (pre .0) u lt (loop .inv .5) (slot-for .result) (slot-for .ensures ∙ kept-slot-held k (pre .0 .room) (pre .1) _ _ _ lt) (c .before .before .before .before .push .ensures) in
+    let k′ = pushes-kept _ _ (pre .0) (h .pushes) in
+    (omega arith, loop .inv .1, loop .inv .2, k′ .cells-length, k′ .tables-length, h)
 
 same-length : tie.Need-same-length Inv-loop μ-loop
 same-length c =
@@ -73,8 +82,10 @@ same-length-2 c =
 
 returns : tie.Need-returns Inv-loop μ-loop
 returns c =
-    let e : c .before .loop .i ≡ usedIn (c .before .before .before .before .before .before .before .args .remember .now) = omega arith in
-    subst (λ (f : ℕ). Pushing (c .before .before .before .before .before .before .before .args .p) (c .before .before .before .before .before .before .before .args .r) (slotHeld (c .before .before .before .before .before .before .before .args .p) (c .before .before .before .before .before .before .before .args .cells .now) (c .before .before .before .before .before .before .before .args .remember .now) (c .before .before .before .before .before .before .before .args .tables .now) (c .before .before .before .before .before .before .before .args .r) (c .before .before .before .before .before .before .before .args .g)) (usedIn (c .before .before .before .before .before .before .before .args .remember .now)) (c .before .before .before .before .before .before .before .args .cells .now) (c .before .before .before .before .before .before .before .args .tables .now) (c .before .before .before .before .before .before .before .args .top) (c .before .loop .cells) (c .before .loop .tables) (c .before .loop .t) f) e (c .before .loop .inv .5)
+    let args = c .before .before .before .before .before .before .before .args in
+    let loop = c .before .loop in
+    let e : loop .i ≡ usedIn (args .remember .now) = omega arith in
+    subst (λ (f : ℕ). Pushing (args .p) (args .r) (slotHeld (args .p) (args .cells .now) (args .remember .now) (args .tables .now) (args .r) (args .g)) (usedIn (args .remember .now)) (args .cells .now) (args .tables .now) (args .top) (loop .cells) (loop .tables) (loop .t) f) e (loop .inv .5)
 
 pub push-slots-spec : {M : Type 1} → statement M
 push-slots-spec =

@@ -32,17 +32,23 @@ loop-holds c =
 
 variable-for-requires : tie.Need-variable-for-requires Inv-loop μ-loop
 variable-for-requires c κs =
-    let lt : c .before .before .loop .i < c .before .before .before .before .before .before .args .p .threads * c .before .before .before .before .before .before .args .p .variables = omega arith in
-    let s = pushing-shaped (c .before .before .before .before .before .before .pre .0) (var-held-ref (c .before .before .before .before .before .before .pre .1 .1) _ _ _) lt (c .before .before .loop .inv .5) in
-    (s .room, (c .before .before .before .before .before .before .pre .1 .1 .some, lt))
+    let args = c .before .before .before .before .before .before .args in
+    let pre = c .before .before .before .before .before .before .pre in
+    let lt : c .before .before .loop .i < args .p .threads * args .p .variables = omega arith in
+    let s = pushing-shaped (pre .0) (var-held-ref (pre .1 .1) _ _ _) lt (c .before .before .loop .inv .5) in
+    (s .room, (pre .1 .1 .some, lt))
 
 push-requires : tie.Need-push-requires Inv-loop μ-loop
 push-requires c κs =
-    let lt : c .before .before .before .before .before .loop .i < c .before .before .before .before .before .before .before .before .before .args .p .threads * c .before .before .before .before .before .before .before .before .before .args .p .variables = omega arith in
-    let u = var-held-ref (c .before .before .before .before .before .before .before .before .before .pre .1 .1) (c .before .before .before .before .before .before .before .before .before .args .thread) (c .before .before .before .before .before .before .before .before .before .args .outer) (c .before .before .before .before .before .before .before .before .before .args .g) in
-    let k = pushing-kept (c .before .before .before .before .before .before .before .before .before .pre .0) u lt (c .before .before .before .before .before .loop .inv .5) in (
-      pushing-shaped (c .before .before .before .before .before .before .before .before .before .pre .0) u lt (c .before .before .before .before .before .loop .inv .5),
-      ref-read (c .before .before .before .before .before .before .before .before .before .pre .0) u lt (c .before .before .before .before .before .loop .inv .5) (c .before .before .variable-for .result) (c .before .before .variable-for .ensures ∙ kept-var-held k (c .before .before .before .before .before .before .before .before .before .pre .0 .room) (c .before .before .before .before .before .before .before .before .before .pre .1 .1) _ _ _ _ lt),
+    let args = c .before .before .before .before .before .before .before .before .before .args in
+    let pre = c .before .before .before .before .before .before .before .before .before .pre in
+    let loop = c .before .before .before .before .before .loop in
+    let variable-for = c .before .before .variable-for in
+    let lt : loop .i < args .p .threads * args .p .variables = omega arith in
+    let u = var-held-ref (pre .1 .1) (args .thread) (args .outer) (args .g) in
+    let k = pushing-kept (pre .0) u lt (loop .inv .5) in (
+      pushing-shaped (pre .0) u lt (loop .inv .5),
+      ref-read (pre .0) u lt (loop .inv .5) (variable-for .result) (variable-for .ensures ∙ kept-var-held k (pre .0 .room) (pre .1 .1) _ _ _ _ lt),
     )
 
 add-i : tie.Need-add-i Inv-loop μ-loop
@@ -55,12 +61,16 @@ loop-less c =
 
 loop-again : tie.Need-loop-again Inv-loop μ-loop
 loop-again c =
-    let lt : c .before .before .before .before .before .before .before .before .before .before .loop .i < c .before .before .before .before .before .before .before .before .before .before .before .before .before .before .args .p .threads * c .before .before .before .before .before .before .before .before .before .before .before .before .before .before .args .p .variables = omega arith in
-    let u = var-held-ref (c .before .before .before .before .before .before .before .before .before .before .before .before .before .before .pre .1 .1) (c .before .before .before .before .before .before .before .before .before .before .before .before .before .before .args .thread) (c .before .before .before .before .before .before .before .before .before .before .before .before .before .before .args .outer) (c .before .before .before .before .before .before .before .before .before .before .before .before .before .before .args .g) in
-    let k = pushing-kept (c .before .before .before .before .before .before .before .before .before .before .before .before .before .before .pre .0) u lt (c .before .before .before .before .before .before .before .before .before .before .loop .inv .5) in
-    let h = push-read (c .before .before .before .before .before .before .before .before .before .before .before .before .before .before .pre .0) u lt (c .before .before .before .before .before .before .before .before .before .before .loop .inv .5) (c .before .before .before .before .before .before .before .variable-for .result) (c .before .before .before .before .before .before .before .variable-for .ensures ∙ kept-var-held k (c .before .before .before .before .before .before .before .before .before .before .before .before .before .before .pre .0 .room) (c .before .before .before .before .before .before .before .before .before .before .before .before .before .before .pre .1 .1) _ _ _ _ lt) (c .before .before .before .before .push .ensures) in
-    let k′ = pushes-kept _ _ (c .before .before .before .before .before .before .before .before .before .before .before .before .before .before .pre .0) (h .pushes) in
-    (omega arith, c .before .before .before .before .before .before .before .before .before .before .loop .inv .1, c .before .before .before .before .before .before .before .before .before .before .loop .inv .2, k′ .cells-length, k′ .tables-length, h)
+    let args = c .before .before .before .before .before .before .before .before .before .before .before .before .before .before .args in
+    let pre = c .before .before .before .before .before .before .before .before .before .before .before .before .before .before .pre in
+    let loop = c .before .before .before .before .before .before .before .before .before .before .loop in
+    let variable-for = c .before .before .before .before .before .before .before .variable-for in
+    let lt : loop .i < args .p .threads * args .p .variables = omega arith in
+    let u = var-held-ref (pre .1 .1) (args .thread) (args .outer) (args .g) in
+    let k = pushing-kept (pre .0) u lt (loop .inv .5) in
+    let h = push-read (pre .0) u lt (loop .inv .5) (variable-for .result) (variable-for .ensures ∙ kept-var-held k (pre .0 .room) (pre .1 .1) _ _ _ _ lt) (c .before .before .before .before .push .ensures) in
+    let k′ = pushes-kept _ _ (pre .0) (h .pushes) in
+    (omega arith, loop .inv .1, loop .inv .2, k′ .cells-length, k′ .tables-length, h)
 
 same-length : tie.Need-same-length Inv-loop μ-loop
 same-length c =
@@ -72,8 +82,10 @@ same-length-2 c =
 
 returns : tie.Need-returns Inv-loop μ-loop
 returns c =
-    let e : c .before .loop .i ≡ c .before .before .before .before .before .args .p .threads * c .before .before .before .before .before .args .p .variables = omega arith in
-    subst (λ (f : ℕ). Pushing (c .before .before .before .before .before .args .p) (c .before .before .before .before .before .args .r) (varHeld (c .before .before .before .before .before .args .p) (c .before .before .before .before .before .args .tables .now) (c .before .before .before .before .before .args .thread) (c .before .before .before .before .before .args .outer) (c .before .before .before .before .before .args .g)) (c .before .before .before .before .before .args .p .threads * c .before .before .before .before .before .args .p .variables) (c .before .before .before .before .before .args .cells .now) (c .before .before .before .before .before .args .tables .now) (c .before .before .before .before .before .args .top) (c .before .loop .cells) (c .before .loop .tables) (c .before .loop .t) f) e (c .before .loop .inv .5)
+    let args = c .before .before .before .before .before .args in
+    let loop = c .before .loop in
+    let e : loop .i ≡ args .p .threads * args .p .variables = omega arith in
+    subst (λ (f : ℕ). Pushing (args .p) (args .r) (varHeld (args .p) (args .tables .now) (args .thread) (args .outer) (args .g)) (args .p .threads * args .p .variables) (args .cells .now) (args .tables .now) (args .top) (loop .cells) (loop .tables) (loop .t) f) e (loop .inv .5)
 
 pub push-variables-spec : {M : Type 1} → statement M
 push-variables-spec =

@@ -12,7 +12,8 @@ region-requires c κs = search needs
 
 returns : tie.Need-returns
 returns c =
-    slot-elsewhere (c .before .before .before .before .before .args .p) (c .before .before .before .before .before .args .cells .now) (c .before .before .before .before .before .args .remember .now) (c .before .before .before .before .before .args .tables .now) (c .before .before .before .before .before .args .r) (c .before .before .before .before .before .args .g) (c .before .before .before .before .before .args .i) (λ e. c .if1 .taken (c .before .region .ensures ∙ e))
+    let args = c .before .before .before .before .before .args in
+    slot-elsewhere (args .p) (args .cells .now) (args .remember .now) (args .tables .now) (args .r) (args .g) (args .i) (λ e. c .if1 .taken (c .before .region .ensures ∙ e))
 
 slot-requires : tie.Need-slot-requires
 slot-requires c κs = search needs
@@ -31,7 +32,8 @@ join-requires c κs = search needs
 
 returns-2 : tie.Need-returns-2
 returns-2 c =
-    slot-none (c .before .before .before .before .before .before .before .before .before .before .before .args .p) (c .before .before .before .before .before .before .before .before .before .before .before .args .cells .now) (c .before .before .before .before .before .before .before .before .before .before .before .args .remember .now) (c .before .before .before .before .before .before .before .before .before .before .before .args .tables .now) (c .before .before .before .before .before .before .before .before .before .before .before .args .r) (c .before .before .before .before .before .before .before .before .before .before .before .args .g) (c .before .before .before .before .before .before .before .before .before .before .before .args .i) (sym (c .before .before .before .before .before .before .before .region .ensures) ∙ c .before .before .before .before .before .before .if1 .left) (λ e. c .if2 .taken (slot-call (c .before .before .before .before .before .before .before .before .before .before .before .args .p) (c .before .before .before .before .before .before .before .before .before .before .before .args .cells .now) (c .before .before .before .before .before .before .before .before .before .before .before .args .remember .now) (c .before .before .before .before .before .before .before .before .before .before .before .args .tables .now) (c .before .before .before .before .before .before .before .before .before .before .before .args .r) (c .before .before .before .before .before .before .before .before .before .before .before .args .g) (c .before .before .before .before .before .before .before .before .before .before .before .args .i) _ _ _ _ _ (c .before .before .before .before .before .slot .ensures) (c .before .before .before .before .wide .ensures) (c .before .before .before .page-at .ensures) (c .before .before .owner .ensures) (c .before .join .ensures) ∙ e))
+    let args = c .before .before .before .before .before .before .before .before .before .before .before .args in
+    slot-none (args .p) (args .cells .now) (args .remember .now) (args .tables .now) (args .r) (args .g) (args .i) (sym (c .before .before .before .before .before .before .before .region .ensures) ∙ c .before .before .before .before .before .before .if1 .left) (λ e. c .if2 .taken (slot-call (args .p) (args .cells .now) (args .remember .now) (args .tables .now) (args .r) (args .g) (args .i) _ _ _ _ _ (c .before .before .before .before .before .slot .ensures) (c .before .before .before .before .wide .ensures) (c .before .before .before .page-at .ensures) (c .before .before .owner .ensures) (c .before .join .ensures) ∙ e))
 
 mul-result : tie.Need-mul-result
 mul-result c = search needs
@@ -41,7 +43,10 @@ shared-slice-read-result c = search needs
 
 returns-3 : tie.Need-returns-3
 returns-3 c =
-    ap (λ (z : ℕ). getD (c .before .before .before .before .before .before .before .before .before .before .before .before .args .cells .now) z 0) (c .before .before .before .before .before .wide .ensures ∙ c .before .before .before .before .before .before .slot .ensures) ∙ slot-some (c .before .before .before .before .before .before .before .before .before .before .before .before .args .p) (c .before .before .before .before .before .before .before .before .before .before .before .before .args .cells .now) (c .before .before .before .before .before .before .before .before .before .before .before .before .args .remember .now) (c .before .before .before .before .before .before .before .before .before .before .before .before .args .tables .now) (c .before .before .before .before .before .before .before .before .before .before .before .before .args .r) (c .before .before .before .before .before .before .before .before .before .before .before .before .args .g) (c .before .before .before .before .before .before .before .before .before .before .before .before .args .i) (sym (c .before .before .before .before .before .before .before .before .region .ensures) ∙ c .before .before .before .before .before .before .before .if1 .left) (sym (slot-call (c .before .before .before .before .before .before .before .before .before .before .before .before .args .p) (c .before .before .before .before .before .before .before .before .before .before .before .before .args .cells .now) (c .before .before .before .before .before .before .before .before .before .before .before .before .args .remember .now) (c .before .before .before .before .before .before .before .before .before .before .before .before .args .tables .now) (c .before .before .before .before .before .before .before .before .before .before .before .before .args .r) (c .before .before .before .before .before .before .before .before .before .before .before .before .args .g) (c .before .before .before .before .before .before .before .before .before .before .before .before .args .i) _ _ _ _ _ (c .before .before .before .before .before .before .slot .ensures) (c .before .before .before .before .before .wide .ensures) (c .before .before .before .before .page-at .ensures) (c .before .before .before .owner .ensures) (c .before .before .join .ensures)) ∙ c .before .if2 .left)
+    let args = c .before .before .before .before .before .before .before .before .before .before .before .before .args in
+    let slot = c .before .before .before .before .before .before .slot in
+    let wide = c .before .before .before .before .before .wide in
+    ap (λ (z : ℕ). getD (args .cells .now) z 0) (wide .ensures ∙ slot .ensures) ∙ slot-some (args .p) (args .cells .now) (args .remember .now) (args .tables .now) (args .r) (args .g) (args .i) (sym (c .before .before .before .before .before .before .before .before .region .ensures) ∙ c .before .before .before .before .before .before .before .if1 .left) (sym (slot-call (args .p) (args .cells .now) (args .remember .now) (args .tables .now) (args .r) (args .g) (args .i) _ _ _ _ _ (slot .ensures) (wide .ensures) (c .before .before .before .before .page-at .ensures) (c .before .before .before .owner .ensures) (c .before .before .join .ensures)) ∙ c .before .if2 .left)
 
 pub slot-for-spec : {M : Type 1} → statement M
 slot-for-spec =

@@ -9,10 +9,14 @@ var-thread-requires : tie.Need-var-thread-requires
 var-thread-requires c κs = search needs
 
 returns : tie.Need-returns
-returns c = calls-other (c .before .before .args .p) (c .before .before .args .thread) (c .before .before .args .outer) (c .before .before .args .i) (λ e. c .if1 .taken (c .before .var-thread .ensures ∙ e))
+returns c =
+    let args = c .before .before .args in
+    calls-other (args .p) (args .thread) (args .outer) (args .i) (λ e. c .if1 .taken (c .before .var-thread .ensures ∙ e))
 
 returns-2 : tie.Need-returns-2
-returns-2 c = calls-own (c .before .before .args .p) (c .before .before .args .thread) (c .before .before .args .outer) (c .before .before .args .i) (sym (c .before .var-thread .ensures) ∙ c .if1 .left)
+returns-2 c =
+    let args = c .before .before .args in
+    calls-own (args .p) (args .thread) (args .outer) (args .i) (sym (c .before .var-thread .ensures) ∙ c .if1 .left)
 
 pub variable-calls-spec : {M : Type 1} → statement M
 variable-calls-spec = tie.close (tie.spec var-thread-requires returns returns-2)

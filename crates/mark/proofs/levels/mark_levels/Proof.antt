@@ -21,8 +21,10 @@ abbrev μ-loop : tie.MeasureT-loop
 
 loop-holds : tie.Need-loop-holds Inv-loop μ-loop
 loop-holds c =
-    let e : 0 ≡ c .before .before .before .args .depth - c .before .before .before .args .depth = omega arith in
-    (omega arith, refl, refl, levels-at e (levels-start _ _ _ (c .before .before .before .pre .0) (c .before .before .before .pre .1 .1 .0)))
+    let args = c .before .before .before .args in
+    let pre = c .before .before .before .pre in
+    let e : 0 ≡ args .depth - args .depth = omega arith in
+    (omega arith, refl, refl, levels-at e (levels-start _ _ _ (pre .0) (pre .1 .1 .0)))
 
 sub-level : tie.Need-sub-level Inv-loop μ-loop
 sub-level c = omega arith
@@ -33,15 +35,24 @@ region-at-requires c κs =
 
 push-variables-requires : tie.Need-push-variables-requires Inv-loop μ-loop
 push-variables-requires c κs =
-    (c .before .before .before .before .loop .inv .3 .shaped, (c .before .before .before .before .before .before .before .before .args .remember .now, round-holding (c .before .before .before .before .before .before .before .before .pre .0) (c .before .before .before .before .before .before .before .before .pre .1 .0) (c .before .before .before .before .before .before .before .before .args .thread) (c .before .before .before .before .before .before .before .before .args .outer) (c .before .before .before .before .loop .inv .3)))
+    let args = c .before .before .before .before .before .before .before .before .args in
+    let pre = c .before .before .before .before .before .before .before .before .pre in
+    let loop = c .before .before .before .before .loop in
+    (loop .inv .3 .shaped, (args .remember .now, round-holding (pre .0) (pre .1 .0) (args .thread) (args .outer) (loop .inv .3)))
 
 push-slots-requires : tie.Need-push-slots-requires Inv-loop μ-loop
 push-slots-requires c κs =
-    round-slots (c .before .before .before .before .before .before .before .before .before .before .before .before .before .before .before .pre .0) (c .before .before .before .before .before .before .before .before .before .before .before .before .before .before .before .pre .1 .0) (c .before .before .before .before .before .before .before .before .before .before .before .before .before .before .before .args .thread) (c .before .before .before .before .before .before .before .before .before .before .before .before .before .before .before .args .outer) (c .before .before .before .before .before .before .before .before .before .before .before .loop .inv .3) (c .before .before .before .before .before .before .push-variables .ensures)
+    let pre = c .before .before .before .before .before .before .before .before .before .before .before .before .before .before .before .pre in
+    let args = c .before .before .before .before .before .before .before .before .before .before .before .before .before .before .before .args in
+    round-slots (pre .0) (pre .1 .0) (args .thread) (args .outer) (c .before .before .before .before .before .before .before .before .before .before .before .loop .inv .3) (c .before .before .before .before .before .before .push-variables .ensures)
 
 drain-requires : tie.Need-drain-requires Inv-loop μ-loop
 drain-requires c κs =
-    (c .before .before .before .before .before .before .before .before .before .before .before .before .before .before .before .before .before .before .loop .cells, c .before .before .before .before .before .before .before .before .before .before .before .before .before .before .before .before .before .before .loop .tables, heldCells (c .before .before .before .before .before .before .before .before .before .before .before .before .before .before .before .before .before .before .before .before .before .before .args .p) (c .before .before .before .before .before .before .before .before .before .before .before .before .before .before .before .before .before .before .before .before .before .before .args .cells .now) (c .before .before .before .before .before .before .before .before .before .before .before .before .before .before .before .before .before .before .before .before .before .before .args .remember .now) (c .before .before .before .before .before .before .before .before .before .before .before .before .before .before .before .before .before .before .before .before .before .before .args .tables .now) (c .before .before .before .before .before .before .before .before .before .before .before .before .before .before .before .before .before .before .before .before .before .before .args .r) (c .before .before .before .before .before .before .before .before .before .before .before .before .before .before .before .before .before .before .before .before .before .before .args .thread) (c .before .before .before .before .before .before .before .before .before .before .before .before .before .before .before .before .before .before .before .before .before .before .args .outer) (c .before .before .before .before .before .before .before .before .before .before .before .before .before .before .before .before .region-at .result), round-pending (c .before .before .before .before .before .before .before .before .before .before .before .before .before .before .before .before .before .before .before .before .before .before .pre .0) (c .before .before .before .before .before .before .before .before .before .before .before .before .before .before .before .before .before .before .before .before .before .before .pre .1 .0) (c .before .before .before .before .before .before .before .before .before .before .before .before .before .before .before .before .before .before .before .before .before .before .args .thread) (c .before .before .before .before .before .before .before .before .before .before .before .before .before .before .before .before .before .before .before .before .before .before .args .outer) (c .before .before .before .before .before .before .before .before .before .before .before .before .before .before .before .before .before .before .loop .inv .3) (c .before .before .before .before .before .before .before .before .before .before .before .before .before .before .before .before .region-at .result) (c .before .before .before .before .before .before .before .before .before .before .before .before .before .before .before .before .region-at .ensures) (c .before .before .before .before .before .before .before .before .before .before .before .before .before .push-variables .ensures) (c .before .before .before .before .before .before .push-slots .ensures))
+    let args = c .before .before .before .before .before .before .before .before .before .before .before .before .before .before .before .before .before .before .before .before .before .before .args in
+    let pre = c .before .before .before .before .before .before .before .before .before .before .before .before .before .before .before .before .before .before .before .before .before .before .pre in
+    let loop = c .before .before .before .before .before .before .before .before .before .before .before .before .before .before .before .before .before .before .loop in
+    let region-at = c .before .before .before .before .before .before .before .before .before .before .before .before .before .before .before .before .region-at in
+    (loop .cells, loop .tables, heldCells (args .p) (args .cells .now) (args .remember .now) (args .tables .now) (args .r) (args .thread) (args .outer) (region-at .result), round-pending (pre .0) (pre .1 .0) (args .thread) (args .outer) (loop .inv .3) (region-at .result) (region-at .ensures) (c .before .before .before .before .before .before .before .before .before .before .before .before .before .push-variables .ensures) (c .before .before .before .before .before .before .push-slots .ensures))
 
 sub-left : tie.Need-sub-left Inv-loop μ-loop
 sub-left c = omega (arith, c .before .before .before .before .before .before .before .before .before .before .before .before .before .before .before .before .before .before .before .before .before .before .loop-test .taken)
@@ -52,12 +63,16 @@ loop-less c =
 
 loop-again : tie.Need-loop-again Inv-loop μ-loop
 loop-again c =
-    let g = c .before .before .before .before .before .before .before .before .before .before .before .before .before .before .before .before .before .before .before .before .before .region-at .result in
-    let e = c .before .before .before .before .before .before .before .before .before .before .before .before .before .before .before .before .before .before .before .before .before .region-at .ensures in
-    let d = round-pending (c .before .before .before .before .before .before .before .before .before .before .before .before .before .before .before .before .before .before .before .before .before .before .before .before .before .before .before .pre .0) (c .before .before .before .before .before .before .before .before .before .before .before .before .before .before .before .before .before .before .before .before .before .before .before .before .before .before .before .pre .1 .0) (c .before .before .before .before .before .before .before .before .before .before .before .before .before .before .before .before .before .before .before .before .before .before .before .before .before .before .before .args .thread) (c .before .before .before .before .before .before .before .before .before .before .before .before .before .before .before .before .before .before .before .before .before .before .before .before .before .before .before .args .outer) (c .before .before .before .before .before .before .before .before .before .before .before .before .before .before .before .before .before .before .before .before .before .before .before .loop .inv .3) g e (c .before .before .before .before .before .before .before .before .before .before .before .before .before .before .before .before .before .before .push-variables .ensures) (c .before .before .before .before .before .before .before .before .before .before .before .push-slots .ensures) in
-    let n = round-levels (c .before .before .before .before .before .before .before .before .before .before .before .before .before .before .before .before .before .before .before .before .before .before .before .before .before .before .before .pre .0) (c .before .before .before .before .before .before .before .before .before .before .before .before .before .before .before .before .before .before .before .before .before .before .before .before .before .before .before .pre .1 .0) (c .before .before .before .before .before .before .before .before .before .before .before .before .before .before .before .before .before .before .before .before .before .before .before .before .before .before .before .args .thread) (c .before .before .before .before .before .before .before .before .before .before .before .before .before .before .before .before .before .before .before .before .before .before .before .before .before .before .before .args .outer) (c .before .before .before .before .before .before .before .before .before .before .before .before .before .before .before .before .before .before .before .before .before .before .before .loop .inv .3) g e (c .before .before .before .before .drain .ensures _ _ _ d) in
-    let d : c .before .before .before .before .before .before .before .before .before .before .before .before .before .before .before .before .before .before .before .before .before .before .before .before .before .before .before .args .depth - c .before .before .before .before .before .before .before .before .before .before .before .before .before .before .before .before .before .before .before .before .before .before .before .loop .left + 1 ≡ c .before .before .before .before .before .before .before .before .before .before .before .before .before .before .before .before .before .before .before .before .before .before .before .before .before .before .before .args .depth - (c .before .before .before .before .before .before .before .before .before .before .before .before .before .before .before .before .before .before .before .before .before .before .before .loop .left - 1) = omega (arith, c .before .before .before .before .before .before .before .before .before .before .before .before .before .before .before .before .before .before .before .before .before .before .loop-test .taken, c .before .before .before .before .before .before .before .before .before .before .before .before .before .before .before .before .before .before .before .before .before .before .before .loop .inv .0) in
-    (omega (arith, c .before .before .before .before .before .before .before .before .before .before .before .before .before .before .before .before .before .before .before .before .before .before .before .loop .inv .0), n .kept .cells-length, n .kept .tables-length, levels-at d n)
+    let pre = c .before .before .before .before .before .before .before .before .before .before .before .before .before .before .before .before .before .before .before .before .before .before .before .before .before .before .before .pre in
+    let args = c .before .before .before .before .before .before .before .before .before .before .before .before .before .before .before .before .before .before .before .before .before .before .before .before .before .before .before .args in
+    let loop = c .before .before .before .before .before .before .before .before .before .before .before .before .before .before .before .before .before .before .before .before .before .before .before .loop in
+    let region-at = c .before .before .before .before .before .before .before .before .before .before .before .before .before .before .before .before .before .before .before .before .before .region-at in
+    let g = region-at .result in
+    let e = region-at .ensures in
+    let d = round-pending (pre .0) (pre .1 .0) (args .thread) (args .outer) (loop .inv .3) g e (c .before .before .before .before .before .before .before .before .before .before .before .before .before .before .before .before .before .before .push-variables .ensures) (c .before .before .before .before .before .before .before .before .before .before .before .push-slots .ensures) in
+    let n = round-levels (pre .0) (pre .1 .0) (args .thread) (args .outer) (loop .inv .3) g e (c .before .before .before .before .drain .ensures _ _ _ d) in
+    let d : args .depth - loop .left + 1 ≡ args .depth - (loop .left - 1) = omega (arith, c .before .before .before .before .before .before .before .before .before .before .before .before .before .before .before .before .before .before .before .before .before .before .loop-test .taken, loop .inv .0) in
+    (omega (arith, loop .inv .0), n .kept .cells-length, n .kept .tables-length, levels-at d n)
 
 same-length : tie.Need-same-length Inv-loop μ-loop
 same-length c =

@@ -19,7 +19,8 @@ page-of-requires c κs = search needs
 
 owner-requires : tie.Need-owner-requires
 owner-requires c κs =
-    (c .before .before .before .before .before .before .pre .0 .room, omega (arith, c .before .before .before .before .before .before .pre .1 (omega arith) .page))
+    let pre = c .before .before .before .before .before .before .pre in
+    (pre .0 .room, omega (arith, pre .1 (omega arith) .page))
 
 same-length : tie.Need-same-length
 same-length c = search needs
@@ -30,7 +31,8 @@ returns-2 c =
 
 mark-requires : tie.Need-mark-requires
 mark-requires c κs =
-    (c .before .before .before .before .before .before .before .before .before .pre .0 .room, omega (arith, c .before .before .before .before .before .before .before .before .before .pre .1 (omega arith) .page))
+    let pre = c .before .before .before .before .before .before .before .before .before .pre in
+    (pre .0 .room, omega (arith, pre .1 (omega arith) .page))
 
 place-of-requires : tie.Need-place-of-requires
 place-of-requires c κs = search needs
@@ -43,18 +45,21 @@ same-length-2 c = search needs
 
 returns-3 : tie.Need-returns-3
 returns-3 c =
-    push-marked _ _ _ _ (c .before .before .before .before .before .before .before .before .before .cell-named .ensures) (c .before .before .before .before .before .before .before .before .page-of .ensures) (c .before .before .place-of .ensures) (c .before .before .before .mark .ensures) (omega (arith, c .if3 .taken, c .before .bit-at .ensures, bit-lt (c .before .before .place-of .result) (c .before .before .before .mark .result)))
+    let mark = c .before .before .before .mark in
+    push-marked _ _ _ _ (c .before .before .before .before .before .before .before .before .before .cell-named .ensures) (c .before .before .before .before .before .before .before .before .page-of .ensures) (c .before .before .place-of .ensures) (mark .ensures) (omega (arith, c .if3 .taken, c .before .bit-at .ensures, bit-lt (c .before .before .place-of .result) (mark .result)))
 
 with-bit-requires : tie.Need-with-bit-requires
 with-bit-requires c κs = search needs
 
 set-mark-requires : tie.Need-set-mark-requires
 set-mark-requires c κs =
-    (c .before .before .before .before .before .before .before .before .before .before .before .before .before .before .before .pre .0 .room, omega (arith, c .before .before .before .before .before .before .before .before .before .before .before .before .before .before .before .pre .1 (omega arith) .page))
+    let pre = c .before .before .before .before .before .before .before .before .before .before .before .before .before .before .before .pre in
+    (pre .0 .room, omega (arith, pre .1 (omega arith) .page))
 
 set-work-requires : tie.Need-set-work-requires
 set-work-requires c κs =
-    omega (arith, c .before .before .before .before .before .before .before .before .before .before .before .before .before .before .before .before .before .before .before .pre .1 (omega arith) .page, c .before .before .before .before .before .before .before .before .before .before .before .before .before .before .before .before .before .before .before .pre .0 .cells-long, c .before .before .before .before .before .before .before .before .before .before .before .before .before .before .before .before .before .before .before .pre .0 .room)
+    let pre = c .before .before .before .before .before .before .before .before .before .before .before .before .before .before .before .before .before .before .before .pre in
+    omega (arith, pre .1 (omega arith) .page, pre .0 .cells-long, pre .0 .room)
 
 same-length-3 : tie.Need-same-length-3
 same-length-3 c = search needs

@@ -20,7 +20,8 @@ abbrev μ-loop : tie.MeasureT-loop
 
 head-requires : tie.Need-head-requires Inv-loop μ-loop
 head-requires c κs =
-    omega (arith, c .before .before .before .pre .1 .page, c .before .before .before .pre .0 .cells-long, c .before .before .before .pre .0 .room)
+    let pre = c .before .before .before .pre in
+    omega (arith, pre .1 .page, pre .0 .cells-long, pre .0 .room)
 
 field-count-requires : tie.Need-field-count-requires Inv-loop μ-loop
 field-count-requires c κs =
@@ -28,20 +29,25 @@ field-count-requires c κs =
 
 loop-holds : tie.Need-loop-holds Inv-loop μ-loop
 loop-holds c =
-    let e : c .field-count .result ≡ refsOf (c .before .before .before .before .before .args .cells .now) (c .before .before .before .before .before .args .c) = c .field-count .ensures ∙ ap (λ (x : ℕ). x / 16) (c .before .head .ensures) in
-    (omega arith, e, omega (arith, c .before .before .before .before .before .pre .0 .refs-few (c .before .before .before .before .before .args .c) (c .before .before .before .before .before .pre .1)), refl, refl, pushing-start _ _ _ _ _ _ _)
+    let args = c .before .before .before .before .before .args in
+    let pre = c .before .before .before .before .before .pre in
+    let e : c .field-count .result ≡ refsOf (args .cells .now) (args .c) = c .field-count .ensures ∙ ap (λ (x : ℕ). x / 16) (c .before .head .ensures) in
+    (omega arith, e, omega (arith, pre .0 .refs-few (args .c) (pre .1)), refl, refl, pushing-start _ _ _ _ _ _ _)
 
 field-requires : tie.Need-field-requires Inv-loop μ-loop
 field-requires c κs =
-    omega (arith, c .before .before .before .before .before .before .before .before .before .before .pre .1 .page, c .before .before .before .before .before .before .before .before .before .before .pre .0 .cells-long, c .before .before .before .before .before .before .before .before .before .before .pre .0 .room)
+    let pre = c .before .before .before .before .before .before .before .before .before .before .pre in
+    omega (arith, pre .1 .page, pre .0 .cells-long, pre .0 .room)
 
 push-requires : tie.Need-push-requires Inv-loop μ-loop
 push-requires c κs =
+    let args = c .before .before .before .before .before .before .before .before .before .before .before .args in
+    let pre = c .before .before .before .before .before .before .before .before .before .before .before .pre in
     let l = c .before .before .before .before .before .loop in
-    let lt : l .f < refsOf (c .before .before .before .before .before .before .before .before .before .before .before .args .cells .now) (c .before .before .before .before .before .before .before .before .before .before .before .args .c) = omega arith in
-    let u = c .before .before .before .before .before .before .before .before .before .before .before .pre .0 .references (c .before .before .before .before .before .before .before .before .before .before .before .args .c) (c .before .before .before .before .before .before .before .before .before .before .before .pre .1) in
-    let k = pushing-kept (c .before .before .before .before .before .before .before .before .before .before .before .pre .0) u lt (l .inv .5) in
-    (pushing-shaped (c .before .before .before .before .before .before .before .before .before .before .before .pre .0) u lt (l .inv .5), ref-read (c .before .before .before .before .before .before .before .before .before .before .before .pre .0) u lt (l .inv .5) (c .field .result) (c .field .ensures ∙ kept-field k (c .before .before .before .before .before .before .before .before .before .before .before .args .c) (l .f) (omega arith)))
+    let lt : l .f < refsOf (args .cells .now) (args .c) = omega arith in
+    let u = pre .0 .references (args .c) (pre .1) in
+    let k = pushing-kept (pre .0) u lt (l .inv .5) in
+    (pushing-shaped (pre .0) u lt (l .inv .5), ref-read (pre .0) u lt (l .inv .5) (c .field .result) (c .field .ensures ∙ kept-field k (args .c) (l .f) (omega arith)))
 
 add-f : tie.Need-add-f Inv-loop μ-loop
 add-f c =
@@ -53,12 +59,15 @@ loop-less c =
 
 loop-again : tie.Need-loop-again Inv-loop μ-loop
 loop-again c =
+    let args = c .before .before .before .before .before .before .before .before .before .before .before .before .before .before .before .before .args in
+    let pre = c .before .before .before .before .before .before .before .before .before .before .before .before .before .before .before .before .pre in
+    let field = c .before .before .before .before .before .field in
     let l = c .before .before .before .before .before .before .before .before .before .before .loop in
-    let lt : l .f < refsOf (c .before .before .before .before .before .before .before .before .before .before .before .before .before .before .before .before .args .cells .now) (c .before .before .before .before .before .before .before .before .before .before .before .before .before .before .before .before .args .c) = omega arith in
-    let u = c .before .before .before .before .before .before .before .before .before .before .before .before .before .before .before .before .pre .0 .references (c .before .before .before .before .before .before .before .before .before .before .before .before .before .before .before .before .args .c) (c .before .before .before .before .before .before .before .before .before .before .before .before .before .before .before .before .pre .1) in
-    let k = pushing-kept (c .before .before .before .before .before .before .before .before .before .before .before .before .before .before .before .before .pre .0) u lt (l .inv .5) in
-    let h = push-read (c .before .before .before .before .before .before .before .before .before .before .before .before .before .before .before .before .pre .0) u lt (l .inv .5) (c .before .before .before .before .before .field .result) (c .before .before .before .before .before .field .ensures ∙ kept-field k (c .before .before .before .before .before .before .before .before .before .before .before .before .before .before .before .before .args .c) (l .f) (omega arith)) (c .before .before .before .before .push .ensures) in
-    let k′ = pushes-kept _ _ (c .before .before .before .before .before .before .before .before .before .before .before .before .before .before .before .before .pre .0) (h .pushes) in
+    let lt : l .f < refsOf (args .cells .now) (args .c) = omega arith in
+    let u = pre .0 .references (args .c) (pre .1) in
+    let k = pushing-kept (pre .0) u lt (l .inv .5) in
+    let h = push-read (pre .0) u lt (l .inv .5) (field .result) (field .ensures ∙ kept-field k (args .c) (l .f) (omega arith)) (c .before .before .before .before .push .ensures) in
+    let k′ = pushes-kept _ _ (pre .0) (h .pushes) in
     (omega arith, l .inv .1, l .inv .2, k′ .cells-length, k′ .tables-length, h)
 
 same-length : tie.Need-same-length Inv-loop μ-loop
@@ -71,9 +80,10 @@ same-length-2 c =
 
 returns : tie.Need-returns Inv-loop μ-loop
 returns c =
+    let args = c .before .before .before .before .before .before .before .args in
     let l = c .before .loop in
-    let e : l .f ≡ refsOf (c .before .before .before .before .before .before .before .args .cells .now) (c .before .before .before .before .before .before .before .args .c) = omega arith in
-    subst (λ (f : ℕ). Pushing (c .before .before .before .before .before .before .before .args .p) (c .before .before .before .before .before .before .before .args .r) (fieldOf (c .before .before .before .before .before .before .before .args .cells .now) (c .before .before .before .before .before .before .before .args .c)) (refsOf (c .before .before .before .before .before .before .before .args .cells .now) (c .before .before .before .before .before .before .before .args .c)) (c .before .before .before .before .before .before .before .args .cells .now) (c .before .before .before .before .before .before .before .args .tables .now) (c .before .before .before .before .before .before .before .args .top) (l .cells) (l .tables) (l .t) f) e (l .inv .5)
+    let e : l .f ≡ refsOf (args .cells .now) (args .c) = omega arith in
+    subst (λ (f : ℕ). Pushing (args .p) (args .r) (fieldOf (args .cells .now) (args .c)) (refsOf (args .cells .now) (args .c)) (args .cells .now) (args .tables .now) (args .top) (l .cells) (l .tables) (l .t) f) e (l .inv .5)
 
 pub scan-spec : {M : Type 1} → statement M
 scan-spec =

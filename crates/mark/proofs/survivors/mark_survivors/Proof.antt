@@ -9,25 +9,33 @@ use Rattle.mark.proofs.survivors.mark_survivors.Tie as tie
 
 depth-requires : tie.Need-depth-requires
 depth-requires c κs =
-    (space-of (c .before .before .before .before .args .p) (c .before .before .before .before .pre .0) (words (c .before .before .before .before .args .cells .now) (c .before .before .before .before .args .remember .now) (c .before .before .before .before .args .tables .now)) (c .before .before .before .before .pre .1 .0) (omega arith), c .before .before .before .before .pre .1 .1 .0)
+    let args = c .before .before .before .before .args in
+    let pre = c .before .before .before .before .pre in
+    (space-of (args .p) (pre .0) (words (args .cells .now) (args .remember .now) (args .tables .now)) (pre .1 .0) (omega arith), pre .1 .1 .0)
 
 wide-requires : tie.Need-wide-requires
 wide-requires c κs = search needs
 
 region-at-requires : tie.Need-region-at-requires
 region-at-requires c κs =
-    omega (arith, space-of (c .before .before .before .before .before .before .args .p) (c .before .before .before .before .before .before .pre .0) (words (c .before .before .before .before .before .before .args .cells .now) (c .before .before .before .before .before .before .args .remember .now) (c .before .before .before .before .before .before .args .tables .now)) (c .before .before .before .before .before .before .pre .1 .0) (omega arith), c .before .before .before .before .before .before .pre .1 .0 .placed .depths (c .before .before .before .before .before .before .args .thread) (c .before .before .before .before .before .before .pre .1 .1 .0), c .before .before .before .before .before .before .pre .1 .1 .0)
+    let args = c .before .before .before .before .before .before .args in
+    let pre = c .before .before .before .before .before .before .pre in
+    omega (arith, space-of (args .p) (pre .0) (words (args .cells .now) (args .remember .now) (args .tables .now)) (pre .1 .0) (omega arith), pre .1 .0 .placed .depths (args .thread) (pre .1 .1 .0), pre .1 .1 .0)
 
 sub-region-at : tie.Need-sub-region-at
 sub-region-at c = search needs
 
 region-at-requires-2 : tie.Need-region-at-requires-2
 region-at-requires-2 c κs =
-    omega (arith, space-of (c .before .before .before .before .before .before .before .args .p) (c .before .before .before .before .before .before .before .pre .0) (words (c .before .before .before .before .before .before .before .args .cells .now) (c .before .before .before .before .before .before .before .args .remember .now) (c .before .before .before .before .before .before .before .args .tables .now)) (c .before .before .before .before .before .before .before .pre .1 .0) (omega arith), c .before .before .before .before .before .before .before .pre .1 .0 .placed .depths (c .before .before .before .before .before .before .before .args .thread) (c .before .before .before .before .before .before .before .pre .1 .1 .0), c .before .before .before .before .before .before .before .pre .1 .1 .0)
+    let args = c .before .before .before .before .before .before .before .args in
+    let pre = c .before .before .before .before .before .before .before .pre in
+    omega (arith, space-of (args .p) (pre .0) (words (args .cells .now) (args .remember .now) (args .tables .now)) (pre .1 .0) (omega arith), pre .1 .0 .placed .depths (args .thread) (pre .1 .1 .0), pre .1 .1 .0)
 
 mark-levels-requires : tie.Need-mark-levels-requires
 mark-levels-requires c κs =
-    (shaped-at (c .before .before .before .before .before .before .before .before .before .before .args .p) (c .before .before .before .before .before .before .before .before .before .before .pre .0) (words (c .before .before .before .before .before .before .before .before .before .before .args .cells .now) (c .before .before .before .before .before .before .before .before .before .before .args .remember .now) (c .before .before .before .before .before .before .before .before .before .before .args .tables .now)) (c .before .before .before .before .before .before .before .before .before .before .pre .1 .0) (omega arith), (holding-at (c .before .before .before .before .before .before .before .before .before .before .args .p) (c .before .before .before .before .before .before .before .before .before .before .pre .0) (words (c .before .before .before .before .before .before .before .before .before .before .args .cells .now) (c .before .before .before .before .before .before .before .before .before .before .args .remember .now) (c .before .before .before .before .before .before .before .before .before .before .args .tables .now)) (c .before .before .before .before .before .before .before .before .before .before .pre .1 .0) (omega arith), (clean-at (c .before .before .before .before .before .before .before .before .before .before .args .p) (c .before .before .before .before .before .before .before .before .before .before .pre .0) (words (c .before .before .before .before .before .before .before .before .before .before .args .cells .now) (c .before .before .before .before .before .before .before .before .before .before .args .remember .now) (c .before .before .before .before .before .before .before .before .before .before .args .tables .now)) (c .before .before .before .before .before .before .before .before .before .before .pre .1 .0) (omega arith), (c .before .before .before .before .before .before .before .before .before .before .pre .1 .1 .0, omega (arith, c .before .before .before .before .before .before .before .before .before .before .pre .1 .0 .placed .depths (c .before .before .before .before .before .before .before .before .before .before .args .thread) (c .before .before .before .before .before .before .before .before .before .before .pre .1 .1 .0))))))
+    let args = c .before .before .before .before .before .before .before .before .before .before .args in
+    let pre = c .before .before .before .before .before .before .before .before .before .before .pre in
+    (shaped-at (args .p) (pre .0) (words (args .cells .now) (args .remember .now) (args .tables .now)) (pre .1 .0) (omega arith), (holding-at (args .p) (pre .0) (words (args .cells .now) (args .remember .now) (args .tables .now)) (pre .1 .0) (omega arith), (clean-at (args .p) (pre .0) (words (args .cells .now) (args .remember .now) (args .tables .now)) (pre .1 .0) (omega arith), (pre .1 .1 .0, omega (arith, pre .1 .0 .placed .depths (args .thread) (pre .1 .1 .0))))))
 
 same-length : tie.Need-same-length
 same-length c = search needs
@@ -37,7 +45,9 @@ same-length-2 c = search needs
 
 returns : tie.Need-returns
 returns c =
-    marked-at (c .before .before .before .before .before .before .before .before .before .before .before .before .before .before .before .args .p) (c .before .before .before .before .before .before .before .before .before .before .before .before .before .before .before .pre .0) (words (c .before .before .before .before .before .before .before .before .before .before .before .before .before .before .before .args .cells .now) (c .before .before .before .before .before .before .before .before .before .before .before .before .before .before .before .args .remember .now) (c .before .before .before .before .before .before .before .before .before .before .before .before .before .before .before .args .tables .now)) (c .before .before .before .before .before .before .before .before .before .before .before .before .before .before .before .pre .1 .0) (omega arith) (c .before .before .before .before .before .before .before .before .before .before .before .before .before .before .before .args .thread) _ _ _ (c .before .before .before .before .before .before .before .before .before .before .before .before .before .before .before .pre .1 .1 .0) (omega (arith, c .before .before .before .before .before .before .before .before .before .before .before .before .before .before .before .pre .1 .1 .1)) (c .before .before .before .before .before .before .before .before .before .wide .ensures ∙ c .before .before .before .before .before .before .before .before .before .before .depth .ensures) (c .before .before .before .before .before .before .before .before .region-at .ensures) (c .before .before .before .before .before .before .before .region-at2 .ensures) (c .before .before .before .before .mark-levels .ensures)
+    let args = c .before .before .before .before .before .before .before .before .before .before .before .before .before .before .before .args in
+    let pre = c .before .before .before .before .before .before .before .before .before .before .before .before .before .before .before .pre in
+    marked-at (args .p) (pre .0) (words (args .cells .now) (args .remember .now) (args .tables .now)) (pre .1 .0) (omega arith) (args .thread) _ _ _ (pre .1 .1 .0) (omega (arith, pre .1 .1 .1)) (c .before .before .before .before .before .before .before .before .before .wide .ensures ∙ c .before .before .before .before .before .before .before .before .before .before .depth .ensures) (c .before .before .before .before .before .before .before .before .region-at .ensures) (c .before .before .before .before .before .before .before .region-at2 .ensures) (c .before .before .before .before .mark-levels .ensures)
 
 pub mark-survivors-spec : {M : Type 1} → statement M
 mark-survivors-spec =

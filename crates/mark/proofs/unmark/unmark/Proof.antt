@@ -26,8 +26,10 @@ mark-requires c κs =
 
 unmark-page-requires : tie.Need-unmark-page-requires Inv-loop μ-loop
 unmark-page-requires c κs =
-    let e = c .mark .ensures ∙ unmark-word (c .before .before .before .before .loop .inv .4) in
-    (omega (arith, c .before .before .before .before .before .before .before .pre .1 .1 (c .before .before .before .before .loop .page) (omega arith)), omega (arith, c .before .before .before .before .before .before .before .pre .0), omega (arith, c .before .before .before .before .before .before .before .pre .1 .0, c .before .before .before .before .loop .inv .2))
+    let pre = c .before .before .before .before .before .before .before .pre in
+    let loop = c .before .before .before .before .loop in
+    let e = c .mark .ensures ∙ unmark-word (loop .inv .4) in
+    (omega (arith, pre .1 .1 (loop .page) (omega arith)), omega (arith, pre .0), omega (arith, pre .1 .0, loop .inv .2))
 
 set-mark-requires : tie.Need-set-mark-requires Inv-loop μ-loop
 set-mark-requires c κs =
@@ -43,8 +45,9 @@ loop-less c =
 
 loop-again : tie.Need-loop-again Inv-loop μ-loop
 loop-again c =
-    let v = unmark-turn (omega (arith, c .before .before .before .before .before .before .before .before .before .before .before .before .before .before .pre .0)) (omega arith) (c .before .before .before .before .before .before .before .mark .ensures) (c .before .before .before .before .before .before .before .before .before .before .before .loop .inv .4) (c .before .before .before .before .before .before .unmark-page .ensures) (c .before .before .set-mark .ensures) in
-    (omega arith, c .before .before .before .before .before .before .before .before .before .before .before .loop .inv .1, v .cells-length, v .tables-length, v)
+    let loop = c .before .before .before .before .before .before .before .before .before .before .before .loop in
+    let v = unmark-turn (omega (arith, c .before .before .before .before .before .before .before .before .before .before .before .before .before .before .pre .0)) (omega arith) (c .before .before .before .before .before .before .before .mark .ensures) (loop .inv .4) (c .before .before .before .before .before .before .unmark-page .ensures) (c .before .before .set-mark .ensures) in
+    (omega arith, loop .inv .1, v .cells-length, v .tables-length, v)
 
 same-length : tie.Need-same-length Inv-loop μ-loop
 same-length c =
@@ -56,8 +59,10 @@ same-length-2 c =
 
 returns : tie.Need-returns Inv-loop μ-loop
 returns c =
-    let e : c .before .loop .page ≡ c .before .before .before .before .args .p .pages = omega arith in
-    subst (λ (n : ℕ). Unmarked (c .before .before .before .before .args .p) n (c .before .before .before .before .args .cells .now) (c .before .before .before .before .args .tables .now) (c .before .loop .cells) (c .before .loop .tables)) e (c .before .loop .inv .4)
+    let args = c .before .before .before .before .args in
+    let loop = c .before .loop in
+    let e : loop .page ≡ args .p .pages = omega arith in
+    subst (λ (n : ℕ). Unmarked (args .p) n (args .cells .now) (args .tables .now) (loop .cells) (loop .tables)) e (loop .inv .4)
 
 pub unmark-spec : {M : Type 1} → statement M
 unmark-spec =

@@ -28,15 +28,19 @@ wide-requires c κs =
 
 cell-on-requires : tie.Need-cell-on-requires Inv-loop μ-loop
 cell-on-requires c κs =
-    omega (arith, walk-lowest (c .before .before .before .loop .inv .2) (omega (arith, c .before .before .before .loop .inv .0)), c .wide .ensures, c .before .before .before .before .before .pre .1)
+    let loop = c .before .before .before .loop in
+    omega (arith, walk-lowest (loop .inv .2) (omega (arith, loop .inv .0)), c .wide .ensures, c .before .before .before .before .before .pre .1)
 
 set-work-requires : tie.Need-set-work-requires Inv-loop μ-loop
 set-work-requires c κs =
-    omega (arith, walk-lowest (c .before .before .before .before .loop .inv .2) (omega (arith, c .before .before .before .before .loop .inv .0)), c .before .wide .ensures, c .cell-on .ensures, c .before .before .before .before .before .before .pre .1, c .before .before .before .before .before .before .pre .2, c .before .before .before .before .loop .inv .1)
+    let pre = c .before .before .before .before .before .before .pre in
+    let loop = c .before .before .before .before .loop in
+    omega (arith, walk-lowest (loop .inv .2) (omega (arith, loop .inv .0)), c .before .wide .ensures, c .cell-on .ensures, pre .1, pre .2, loop .inv .1)
 
 without-bit-requires : tie.Need-without-bit-requires Inv-loop μ-loop
 without-bit-requires c κs =
-    let l = walk-lowest (c .before .before .before .before .before .before .before .loop .inv .2) (omega (arith, c .before .before .before .before .before .before .before .loop .inv .0)) in (l .lt, l .on)
+    let loop = c .before .before .before .before .before .before .before .loop in
+    let l = walk-lowest (loop .inv .2) (omega (arith, loop .inv .0)) in (l .lt, l .on)
 
 add-k : tie.Need-add-k Inv-loop μ-loop
 add-k c =
@@ -48,9 +52,11 @@ loop-less c =
 
 loop-again : tie.Need-loop-again Inv-loop μ-loop
 loop-again c =
-    let l = walk-lowest (c .before .before .before .before .before .before .before .before .loop .inv .2) (omega (arith, c .before .before .before .before .before .before .before .before .loop .inv .0)) in
-    let t = page-turn (trailingZeros 32 (c .before .before .before .before .before .before .before .before .loop .left)) (c .before .before .before .before .cell-on .result) (c .without-bit .result) _ (c .before .before .before .before .cell-on .ensures ∙ ap (cellOn (c .before .before .before .before .before .before .before .before .before .before .args .page)) (c .before .before .before .before .before .wide .ensures)) (c .before .before .before .before .before .before .before .before .before .before .pre .2) (c .before .before .before .before .before .before .before .before .loop .inv .2) l (c .before .before .before .before .before .before .before .before .loop .inv .3) (c .before .before .before .set-work .ensures) (c .without-bit .ensures) in
-    (c .before .before .before .before .before .before .before .before .loop .inv .0, t .1 .cells-length, t .0, t .1)
+    let loop = c .before .before .before .before .before .before .before .before .loop in
+    let cell-on = c .before .before .before .before .cell-on in
+    let l = walk-lowest (loop .inv .2) (omega (arith, loop .inv .0)) in
+    let t = page-turn (trailingZeros 32 (loop .left)) (cell-on .result) (c .without-bit .result) _ (cell-on .ensures ∙ ap (cellOn (c .before .before .before .before .before .before .before .before .before .before .args .page)) (c .before .before .before .before .before .wide .ensures)) (c .before .before .before .before .before .before .before .before .before .before .pre .2) (loop .inv .2) l (loop .inv .3) (c .before .before .before .set-work .ensures) (c .without-bit .ensures) in
+    (loop .inv .0, t .1 .cells-length, t .0, t .1)
 
 same-length : tie.Need-same-length Inv-loop μ-loop
 same-length c =

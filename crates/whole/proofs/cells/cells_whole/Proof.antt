@@ -50,14 +50,18 @@ wide-requires : tie.Need-wide-requires Inv-fields μ-fields Inv-cells μ-cells I
 wide-requires c κs = search needs
 
 cells-holds : tie.Need-cells-holds Inv-fields μ-fields Inv-cells μ-cells Inv-pages μ-pages
-cells-holds c = (c .before .before .before .pages .inv .0, omega arith, omega (arith, c .before .before .before .before .before .before .pre .1 .1 (c .before .before .before .pages .page) (c .before .before .pages-test .taken) .whole .cells), λ k l. absurd (not-suc-le-zero l))
+cells-holds c =
+    let pages = c .before .before .before .pages in
+    (pages .inv .0, omega arith, omega (arith, c .before .before .before .before .before .before .pre .1 .1 (pages .page) (c .before .before .pages-test .taken) .whole .cells), λ k l. absurd (not-suc-le-zero l))
 
 cell-on-requires :
     tie.Need-cell-on-requires Inv-fields μ-fields Inv-cells μ-cells Inv-pages μ-pages
 cell-on-requires c κs = omega (arith, c .before .before .before .before .before .before .before .before .pre .0 .few, c .before .cells .inv)
 
 head-requires : tie.Need-head-requires Inv-fields μ-fields Inv-cells μ-cells Inv-pages μ-pages
-head-requires c κs = omega (arith, c .before .before .before .before .before .before .before .before .before .pre .0 .few, c .before .before .before .before .before .before .before .before .before .pre .1 .0, c .cell-on .ensures)
+head-requires c κs =
+    let pre = c .before .before .before .before .before .before .before .before .before .pre in
+    omega (arith, pre .0 .few, pre .1 .0, c .cell-on .ensures)
 
 field-count-requires :
     tie.Need-field-count-requires Inv-fields μ-fields Inv-cells μ-cells Inv-pages μ-pages
@@ -71,10 +75,14 @@ add-all : tie.Need-add-all Inv-fields μ-fields Inv-cells μ-cells Inv-pages μ-
 add-all c = omega arith
 
 work-requires : tie.Need-work-requires Inv-fields μ-fields Inv-cells μ-cells Inv-pages μ-pages
-work-requires c κs = omega (arith, c .before .before .before .before .before .before .before .before .before .before .before .before .before .pre .0 .few, c .before .before .before .before .before .before .before .before .before .before .before .before .before .pre .1 .0, c .before .before .before .before .cell-on .ensures)
+work-requires c κs =
+    let pre = c .before .before .before .before .before .before .before .before .before .before .before .before .before .pre in
+    omega (arith, pre .0 .few, pre .1 .0, c .before .before .before .before .cell-on .ensures)
 
 fields-holds : tie.Need-fields-holds Inv-fields μ-fields Inv-cells μ-cells Inv-pages μ-pages
-fields-holds c = (c .before .before .before .before .before .before .before .before .cells .inv .0, omega arith, omega (arith, c .before .before .before .before .before .before .before .before .before .before .before .before .before .before .before .pre .0 .few, c .before .before .before .before .before .before .before .before .before .before .before .before .before .before .before .pre .1 .0, c .before .before .before .before .before .before .cell-on .ensures), λ j l. absurd (not-suc-le-zero l))
+fields-holds c =
+    let pre = c .before .before .before .before .before .before .before .before .before .before .before .before .before .before .before .pre in
+    (c .before .before .before .before .before .before .before .before .cells .inv .0, omega arith, omega (arith, pre .0 .few, pre .1 .0, c .before .before .before .before .before .before .cell-on .ensures), λ j l. absurd (not-suc-le-zero l))
 
 field-requires : tie.Need-field-requires Inv-fields μ-fields Inv-cells μ-cells Inv-pages μ-pages
 field-requires c κs = omega (arith, c .before .before .fields .inv .2)
@@ -93,15 +101,18 @@ fields-less : tie.Need-fields-less Inv-fields μ-fields Inv-cells μ-cells Inv-p
 fields-less c = omega arith
 
 fields-again : tie.Need-fields-again Inv-fields μ-fields Inv-cells μ-cells Inv-pages μ-pages
-fields-again c = (
-  c .before .before .fields .inv .0,
-  omega arith,
-  c .before .before .fields .inv .2,
-  below-more _ _ (c .before .before .fields .inv .3)
-      (⊎-elim (λ w. field-ref (c .before .before .before .before .before .before .before .field-count .ensures ∙ ap (λ (h : ℕ). h / 16) (c .before .before .before .before .before .before .before .before .head .ensures)) (w .1 .ensures) (w .0 .taken) (w .2 .ensures .0 (not-false _ (w .3 .left))))
-      (⊎-elim (λ w. field-rest (c .before .before .before .before .before .before .before .field-count .ensures ∙ ap (λ (h : ℕ). h / 16) (c .before .before .before .before .before .before .before .before .head .ensures)) (w .2 .ensures) (w .0 .left) (w .3 .left)) (λ w. field-num (c .before .before .before .before .before .before .before .field-count .ensures ∙ ap (λ (h : ℕ). h / 16) (c .before .before .before .before .before .before .before .before .head .ensures)) (c .before .before .before .before .before .before .field-count2 .ensures ∙ ap (λ (h : ℕ). h % 16) (c .before .before .before .before .before .before .before .before .head .ensures)) (w .0 .left) (w .1 .left)))
-      (c .if3 .came)),
-)
+fields-again c =
+    let head = c .before .before .before .before .before .before .before .before .head in
+    let field-count = c .before .before .before .before .before .before .before .field-count in
+    let fields = c .before .before .fields in (
+      fields .inv .0,
+      omega arith,
+      fields .inv .2,
+      below-more _ _ (fields .inv .3)
+          (⊎-elim (λ w. field-ref (field-count .ensures ∙ ap (λ (h : ℕ). h / 16) (head .ensures)) (w .1 .ensures) (w .0 .taken) (w .2 .ensures .0 (not-false _ (w .3 .left))))
+          (⊎-elim (λ w. field-rest (field-count .ensures ∙ ap (λ (h : ℕ). h / 16) (head .ensures)) (w .2 .ensures) (w .0 .left) (w .3 .left)) (λ w. field-num (field-count .ensures ∙ ap (λ (h : ℕ). h / 16) (head .ensures)) (c .before .before .before .before .before .before .field-count2 .ensures ∙ ap (λ (h : ℕ). h % 16) (head .ensures)) (w .0 .left) (w .1 .left)))
+          (c .if3 .came)),
+    )
 
 add-place : tie.Need-add-place Inv-fields μ-fields Inv-cells μ-cells Inv-pages μ-pages
 add-place c = omega arith
@@ -110,13 +121,15 @@ cells-less : tie.Need-cells-less Inv-fields μ-fields Inv-cells μ-cells Inv-pag
 cells-less c = omega arith
 
 cells-again : tie.Need-cells-again Inv-fields μ-fields Inv-cells μ-cells Inv-pages μ-pages
-cells-again c = (
-  c .before .fields .inv .0,
-  omega arith,
-  c .before .before .before .before .before .before .before .before .before .before .cells .inv .2,
-  below-more _ _ (c .before .before .before .before .before .before .before .before .before .before .cells .inv .3) (subst (λ (k : ℕ). CellWhole (c .before .before .before .before .before .before .before .before .before .before .before .before .before .before .before .before .before .args .p) (now (c .before .before .before .before .before .before .before .before .before .before .before .before .before .before .before .before .before .args .cells)) (now (c .before .before .before .before .before .before .before .before .before .before .before .before .before .before .before .before .before .args .tables)) k) (c .before .before .before .before .before .before .before .before .cell-on .ensures)
-      (record { head = omega (arith, (c .before .before .before .before .before .before .field-count .ensures ∙ ap (λ (h : ℕ). h / 16) (c .before .before .before .before .before .before .before .head .ensures)), (c .before .before .before .before .before .field-count2 .ensures ∙ ap (λ (h : ℕ). h % 16) (c .before .before .before .before .before .before .before .head .ensures)), c .before .before .before .before .if1 .left); working = sym (c .before .before .before .work .ensures) ∙ c .before .before .if2 .left; fields = λ f l. c .before .fields .inv .3 f (omega arith) })),
-)
+cells-again c =
+    let args = c .before .before .before .before .before .before .before .before .before .before .before .before .before .before .before .before .before .args in
+    let cells = c .before .before .before .before .before .before .before .before .before .before .cells in (
+      c .before .fields .inv .0,
+      omega arith,
+      cells .inv .2,
+      below-more _ _ (cells .inv .3) (subst (λ (k : ℕ). CellWhole (args .p) (now (args .cells)) (now (args .tables)) k) (c .before .before .before .before .before .before .before .before .cell-on .ensures)
+          (record { head = omega (arith, (c .before .before .before .before .before .before .field-count .ensures ∙ ap (λ (h : ℕ). h / 16) (c .before .before .before .before .before .before .before .head .ensures)), (c .before .before .before .before .before .field-count2 .ensures ∙ ap (λ (h : ℕ). h % 16) (c .before .before .before .before .before .before .before .head .ensures)), c .before .before .before .before .if1 .left); working = sym (c .before .before .before .work .ensures) ∙ c .before .before .if2 .left; fields = λ f l. c .before .fields .inv .3 f (omega arith) })),
+    )
 
 add-page : tie.Need-add-page Inv-fields μ-fields Inv-cells μ-cells Inv-pages μ-pages
 add-page c = omega arith
@@ -128,10 +141,14 @@ pages-again : tie.Need-pages-again Inv-fields μ-fields Inv-cells μ-cells Inv-p
 pages-again c = (c .before .cells .inv .0, omega arith, below-more _ _ (c .before .before .before .before .before .pages .inv .2) (λ k l. c .before .cells .inv .3 k (omega (arith, (c .before .before .wide .ensures ∙ c .before .before .before .used .ensures)))))
 
 returns : tie.Need-returns Inv-fields μ-fields Inv-cells μ-cells Inv-pages μ-pages
-returns c = (λ e. all-pages (c .before .before .before .before .args .p) (now (c .before .before .before .before .args .cells)) (now (c .before .before .before .before .args .tables)) (λ k l. c .before .pages .inv .2 k (omega arith)), λ h. c .before .pages .inv .0)
+returns c =
+    let args = c .before .before .before .before .args in
+    (λ e. all-pages (args .p) (now (args .cells)) (now (args .tables)) (λ k l. c .before .pages .inv .2 k (omega arith)), λ h. c .before .pages .inv .0)
 
 returns-2 : tie.Need-returns-2 Inv-fields μ-fields Inv-cells μ-cells Inv-pages μ-pages
-returns-2 c = says-no (λ h. let z : ⊥ = omega (arith, (c .before .before .field-count .ensures ∙ ap (λ (h : ℕ). h / 16) (c .before .before .before .head .ensures)), (c .before .field-count2 .ensures ∙ ap (λ (h : ℕ). h % 16) (c .before .before .before .head .ensures)), (reached h (c .before .before .before .before .cell-on .ensures) (c .before .before .before .before .before .before .before .wide .ensures ∙ c .before .before .before .before .before .before .before .before .used .ensures) (c .before .before .before .before .before .before .before .before .before .pages-test .taken) (c .before .before .before .before .before .before .cells .inv .2) (c .before .before .before .before .before .cells-test .taken)) .head) in z)
+returns-2 c =
+    let head = c .before .before .before .head in
+    says-no (λ h. let z : ⊥ = omega (arith, (c .before .before .field-count .ensures ∙ ap (λ (h : ℕ). h / 16) (head .ensures)), (c .before .field-count2 .ensures ∙ ap (λ (h : ℕ). h % 16) (head .ensures)), (reached h (c .before .before .before .before .cell-on .ensures) (c .before .before .before .before .before .before .before .wide .ensures ∙ c .before .before .before .before .before .before .before .before .used .ensures) (c .before .before .before .before .before .before .before .before .before .pages-test .taken) (c .before .before .before .before .before .before .cells .inv .2) (c .before .before .before .before .before .cells-test .taken)) .head) in z)
 
 returns-3 : tie.Need-returns-3 Inv-fields μ-fields Inv-cells μ-cells Inv-pages μ-pages
 returns-3 c = says-no (λ h. c .if2 .taken (c .before .work .ensures ∙ (reached h (c .before .before .before .before .before .before .cell-on .ensures) (c .before .before .before .before .before .before .before .before .before .wide .ensures ∙ c .before .before .before .before .before .before .before .before .before .before .used .ensures) (c .before .before .before .before .before .before .before .before .before .before .before .pages-test .taken) (c .before .before .before .before .before .before .before .before .cells .inv .2) (c .before .before .before .before .before .before .before .cells-test .taken)) .working))
@@ -140,7 +157,9 @@ returns-4 : tie.Need-returns-4 Inv-fields μ-fields Inv-cells μ-cells Inv-pages
 returns-4 c = says-no (λ h. said-no _ (c .before .is-ref .ensures) (not-true _ (c .if4 .taken)) (field-is-ref ((reached h (c .before .before .before .before .before .before .before .before .before .before .before .before .cell-on .ensures) (c .before .before .before .before .before .before .before .before .before .before .before .before .before .before .before .wide .ensures ∙ c .before .before .before .before .before .before .before .before .before .before .before .before .before .before .before .before .used .ensures) (c .before .before .before .before .before .before .before .before .before .before .before .before .before .before .before .before .before .pages-test .taken) (c .before .before .before .before .before .before .before .before .before .before .before .before .before .before .cells .inv .2) (c .before .before .before .before .before .before .before .before .before .before .before .before .before .cells-test .taken)) .fields (c .before .before .before .before .before .fields .f) (c .before .before .before .before .fields-test .taken)) (c .before .before .before .before .before .before .before .before .before .before .field-count .ensures ∙ ap (λ (h : ℕ). h / 16) (c .before .before .before .before .before .before .before .before .before .before .before .head .ensures)) (c .before .before .field .ensures) (c .before .before .before .if3 .taken)))
 
 returns-5 : tie.Need-returns-5 Inv-fields μ-fields Inv-cells μ-cells Inv-pages μ-pages
-returns-5 c = says-no (λ h. c .if6 .taken (c .before .field2 .ensures ∙ (reached h (c .before .before .before .before .before .before .before .before .before .before .before .before .cell-on .ensures) (c .before .before .before .before .before .before .before .before .before .before .before .before .before .before .before .wide .ensures ∙ c .before .before .before .before .before .before .before .before .before .before .before .before .before .before .before .before .used .ensures) (c .before .before .before .before .before .before .before .before .before .before .before .before .before .before .before .before .before .pages-test .taken) (c .before .before .before .before .before .before .before .before .before .before .before .before .before .before .cells .inv .2) (c .before .before .before .before .before .before .before .before .before .before .before .before .before .cells-test .taken)) .fields (c .before .before .before .before .before .fields .f) (c .before .before .before .before .fields-test .taken) .rest (omega (arith, (c .before .before .before .before .before .before .before .before .before .before .field-count .ensures ∙ ap (λ (h : ℕ). h / 16) (c .before .before .before .before .before .before .before .before .before .before .before .head .ensures)), (c .before .before .before .before .before .before .before .before .before .field-count2 .ensures ∙ ap (λ (h : ℕ). h % 16) (c .before .before .before .before .before .before .before .before .before .before .before .head .ensures)), c .before .before .if5 .taken))))
+returns-5 c =
+    let head = c .before .before .before .before .before .before .before .before .before .before .before .head in
+    says-no (λ h. c .if6 .taken (c .before .field2 .ensures ∙ (reached h (c .before .before .before .before .before .before .before .before .before .before .before .before .cell-on .ensures) (c .before .before .before .before .before .before .before .before .before .before .before .before .before .before .before .wide .ensures ∙ c .before .before .before .before .before .before .before .before .before .before .before .before .before .before .before .before .used .ensures) (c .before .before .before .before .before .before .before .before .before .before .before .before .before .before .before .before .before .pages-test .taken) (c .before .before .before .before .before .before .before .before .before .before .before .before .before .before .cells .inv .2) (c .before .before .before .before .before .before .before .before .before .before .before .before .before .cells-test .taken)) .fields (c .before .before .before .before .before .fields .f) (c .before .before .before .before .fields-test .taken) .rest (omega (arith, (c .before .before .before .before .before .before .before .before .before .before .field-count .ensures ∙ ap (λ (h : ℕ). h / 16) (head .ensures)), (c .before .before .before .before .before .before .before .before .before .field-count2 .ensures ∙ ap (λ (h : ℕ). h % 16) (head .ensures)), c .before .before .if5 .taken))))
 
 pub cells-whole-spec : {M : Type 1} → statement M
 cells-whole-spec =

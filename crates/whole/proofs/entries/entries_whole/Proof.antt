@@ -17,13 +17,17 @@ returns : tie.Need-returns
 returns c = says-no (λ h. omega (arith, h .room))
 
 named-whole-requires : tie.Need-named-whole-requires
-named-whole-requires c κs = (c .before .before .before .before .before .before .before .pre .0, (c .before .before .before .before .before .before .before .pre .1 .0, (c .before .before .before .before .before .before .before .pre .1 .1, (c .before .before .wide .ensures ∙ c .before .before .before .used .ensures, c .if1 .left))))
+named-whole-requires c κs =
+    let pre = c .before .before .before .before .before .before .before .pre in
+    (pre .0, (pre .1 .0, (pre .1 .1, (c .before .before .wide .ensures ∙ c .before .before .before .used .ensures, c .if1 .left))))
 
 returns-2 : tie.Need-returns-2
 returns-2 c = says-no (λ h. said-no _ (c .before .named-whole .ensures) (not-true _ (c .if2 .taken)) (h .named))
 
 once-requires : tie.Need-once-requires
-once-requires c κs = (c .before .before .before .before .before .before .before .before .before .pre .1 .1, ((c .before .before .before .before .wide .ensures ∙ c .before .before .before .before .before .used .ensures, c .before .before .if1 .left), λ i l. omega (arith, c .before .before .before .before .before .before .before .before .before .pre .0 .few, (c .before .named-whole .ensures .0 (not-false _ (c .if2 .left))) i (omega arith) .slot)))
+once-requires c κs =
+    let pre = c .before .before .before .before .before .before .before .before .before .pre in
+    (pre .1 .1, ((c .before .before .before .before .wide .ensures ∙ c .before .before .before .before .before .used .ensures, c .before .before .if1 .left), λ i l. omega (arith, pre .0 .few, (c .before .named-whole .ensures .0 (not-false _ (c .if2 .left))) i (omega arith) .slot)))
 
 returns-3 : tie.Need-returns-3
 returns-3 c = says-no (λ h. said-no _ (c .before .once .ensures) (not-true _ (c .if3 .taken)) (h .once))

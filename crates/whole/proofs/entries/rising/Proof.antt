@@ -30,7 +30,10 @@ slot-requires-2 : tie.Need-slot-requires-2 Inv-loop μ-loop
 slot-requires-2 c κs = search needs
 
 returns : tie.Need-returns Inv-loop μ-loop
-returns c = says-no (λ h. let z : ⊥ = omega (arith, rising-at (now (c .before .before .before .before .before .before .args .remember)) (usedIn (now (c .before .before .before .before .before .before .args .remember))) (c .before .before .before .before .loop .i) h (c .before .before .before .before .loop .inv .0) (omega arith)) in z)
+returns c =
+    let args = c .before .before .before .before .before .before .args in
+    let loop = c .before .before .before .before .loop in
+    says-no (λ h. let z : ⊥ = omega (arith, rising-at (now (args .remember)) (usedIn (now (args .remember))) (loop .i) h (loop .inv .0) (omega arith)) in z)
 
 add-i : tie.Need-add-i Inv-loop μ-loop
 add-i c = omega arith
@@ -39,7 +42,9 @@ loop-less : tie.Need-loop-less Inv-loop μ-loop
 loop-less c = omega arith
 
 loop-again : tie.Need-loop-again Inv-loop μ-loop
-loop-again c = (omega arith, rising-more (now (c .before .before .before .before .before .before .args .remember)) (c .before .before .before .before .loop .i) (c .before .before .before .before .loop .inv .1) (c .before .before .before .before .loop .inv .0) (c .before .before .slot .ensures) (c .before .slot2 .ensures) (c .if1 .left))
+loop-again c =
+    let loop = c .before .before .before .before .loop in
+    (omega arith, rising-more (now (c .before .before .before .before .before .before .args .remember)) (loop .i) (loop .inv .1) (loop .inv .0) (c .before .before .slot .ensures) (c .before .slot2 .ensures) (c .if1 .left))
 
 returns-2 : tie.Need-returns-2 Inv-loop μ-loop
 returns-2 c = says-yes (λ k l. c .before .loop .inv .1 k (omega arith))

@@ -30,13 +30,19 @@ wide-requires : tie.Need-wide-requires Inv-loop μ-loop
 wide-requires c κs = search needs
 
 array-read-if1 : tie.Need-array-read-if1 Inv-loop μ-loop
-array-read-if1 c = omega (arith, c .before .before .before .loop .inv .1 .long, (c .before .before .before .before .before .pre .1 .1 (c .before .before .before .loop .i) (c .before .before .loop-test .taken)))
+array-read-if1 c =
+    let loop = c .before .before .before .loop in
+    omega (arith, loop .inv .1 .long, (c .before .before .before .before .before .pre .1 .1 (loop .i) (c .before .before .loop-test .taken)))
 
 returns : tie.Need-returns Inv-loop μ-loop
-returns c = says-no (λ h. let r = c .before .before .before .before .loop .inv .1 .only (c .before .wide .result) (c .if1 .taken) in h (r .0) (c .before .before .before .before .loop .i) (r .1) (omega arith) (r .2 ∙ c .before .wide .ensures ∙ c .before .before .slot .ensures))
+returns c =
+    let loop = c .before .before .before .before .loop in
+    says-no (λ h. let r = loop .inv .1 .only (c .before .wide .result) (c .if1 .taken) in h (r .0) (loop .i) (r .1) (omega arith) (r .2 ∙ c .before .wide .ensures ∙ c .before .before .slot .ensures))
 
 array-write-seen : tie.Need-array-write-seen Inv-loop μ-loop
-array-write-seen c = omega (arith, c .before .before .before .before .loop .inv .1 .long, (c .before .before .before .before .before .before .pre .1 .1 (c .before .before .before .before .loop .i) (c .before .before .before .loop-test .taken)))
+array-write-seen c =
+    let loop = c .before .before .before .before .loop in
+    omega (arith, loop .inv .1 .long, (c .before .before .before .before .before .before .pre .1 .1 (loop .i) (c .before .before .before .loop-test .taken)))
 
 add-i : tie.Need-add-i Inv-loop μ-loop
 add-i c = omega arith
@@ -45,10 +51,13 @@ loop-less : tie.Need-loop-less Inv-loop μ-loop
 loop-less c = omega arith
 
 loop-again : tie.Need-loop-again Inv-loop μ-loop
-loop-again c = let e : c .before .wide .result ≡ slotIn (now (c .before .before .before .before .before .before .args .remember)) (c .before .before .before .before .loop .i) = c .before .wide .ensures ∙ c .before .before .slot .ensures in (
-  omega arith,
-  subst (λ (q : ℕ). Seen (slotIn (now (c .before .before .before .before .before .before .args .remember))) 262144 (set (c .before .before .before .before .loop .seen) q true) (c .before .before .before .before .loop .i + 1)) (sym e) (seen-more (c .before .before .before .before .loop .inv .1) (c .before .before .before .before .before .before .pre .1 .1 (c .before .before .before .before .loop .i) (c .before .before .before .loop-test .taken)) (ap (λ (q : ℕ). getD (c .before .before .before .before .loop .seen) q false) (sym e) ∙ c .if1 .left)),
-)
+loop-again c =
+    let args = c .before .before .before .before .before .before .args in
+    let loop = c .before .before .before .before .loop in
+    let e : c .before .wide .result ≡ slotIn (now (args .remember)) (loop .i) = c .before .wide .ensures ∙ c .before .before .slot .ensures in (
+      omega arith,
+      subst (λ (q : ℕ). Seen (slotIn (now (args .remember))) 262144 (set (loop .seen) q true) (loop .i + 1)) (sym e) (seen-more (loop .inv .1) (c .before .before .before .before .before .before .pre .1 .1 (loop .i) (c .before .before .before .loop-test .taken)) (ap (λ (q : ℕ). getD (loop .seen) q false) (sym e) ∙ c .if1 .left)),
+    )
 
 returns-2 : tie.Need-returns-2 Inv-loop μ-loop
 returns-2 c = says-yes (λ a b l m. c .before .loop .inv .1 .once a b l (omega arith))

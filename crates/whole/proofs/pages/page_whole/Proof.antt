@@ -47,18 +47,22 @@ is-open-requires : tie.Need-is-open-requires
 is-open-requires c κs = search needs
 
 returns-7 : tie.Need-returns-7
-returns-7 c = says-no (λ h. said-no _ (c .before .is-open .ensures) (not-true _ (c .if7 .taken)) (subst (λ (g : ℕ). Open (c .before .before .before .before .before .before .before .before .before .before .before .before .before .args .p) (now (c .before .before .before .before .before .before .before .before .before .before .before .before .before .args .tables)) g) (sym (c .before .before .before .before .before .before .before .before .wide .ensures ∙ c .before .before .before .before .before .before .before .before .before .owner .ensures)) (h .whole .region (omega arith))))
+returns-7 c =
+    let args = c .before .before .before .before .before .before .before .before .before .before .before .before .before .args in
+    says-no (λ h. said-no _ (c .before .is-open .ensures) (not-true _ (c .if7 .taken)) (subst (λ (g : ℕ). Open (args .p) (now (args .tables)) g) (sym (c .before .before .before .before .before .before .before .before .wide .ensures ∙ c .before .before .before .before .before .before .before .before .before .owner .ensures)) (h .whole .region (omega arith))))
 
 returns-8 : tie.Need-returns-8
-returns-8 c = says-yes (record {
-  whole = record {
-    free = λ e. absurd (let z : ⊥ = omega arith in z);
-    taken = λ l. omega arith;
-    cells = omega arith;
-    region = λ l. subst (λ (g : ℕ). Open (c .before .before .before .before .before .before .before .before .before .before .before .before .before .args .p) (now (c .before .before .before .before .before .before .before .before .before .before .before .before .before .args .tables)) g) (c .before .before .before .before .before .before .before .before .wide .ensures ∙ c .before .before .before .before .before .before .before .before .before .owner .ensures) (c .before .is-open .ensures .0 (not-false _ (c .if7 .left)));
-  };
-  mark = sym (c .before .before .before .before .before .before .before .before .before .before .before .mark .ensures) ∙ c .before .before .before .before .before .before .before .before .before .before .if1 .left;
-})
+returns-8 c =
+    let args = c .before .before .before .before .before .before .before .before .before .before .before .before .before .args in
+    says-yes (record {
+      whole = record {
+        free = λ e. absurd (let z : ⊥ = omega arith in z);
+        taken = λ l. omega arith;
+        cells = omega arith;
+        region = λ l. subst (λ (g : ℕ). Open (args .p) (now (args .tables)) g) (c .before .before .before .before .before .before .before .before .wide .ensures ∙ c .before .before .before .before .before .before .before .before .before .owner .ensures) (c .before .is-open .ensures .0 (not-false _ (c .if7 .left)));
+      };
+      mark = sym (c .before .before .before .before .before .before .before .before .before .before .before .mark .ensures) ∙ c .before .before .before .before .before .before .before .before .before .before .if1 .left;
+    })
 
 pub page-whole-spec : {M : Type 1} → statement M
 page-whole-spec =

@@ -50,25 +50,57 @@ wide-requires-2 : tie.Need-wide-requires-2 Inv-loop μ-loop Inv-loop2 μ-loop2
 wide-requires-2 c κs = search needs
 
 array-read-if3 : tie.Need-array-read-if3 Inv-loop μ-loop Inv-loop2 μ-loop2
-array-read-if3 c = omega (arith, c .before .before .before .before .before .before .before .loop .inv .1 .flags, (owner-room (c .before .before .before .before .before .before .before .before .before .args .p) (now (c .before .before .before .before .before .before .before .before .before .args .tables)) (length (now (c .before .before .before .before .before .before .before .before .before .args .tables))) (c .before .before .before .before .before .before .before .loop .page) (c .before .before .before .before .before .before .before .before .before .pre .0) (c .before .before .before .before .before .before .before .before .before .pre .1) (c .before .before .before .before .before .before .loop-test .taken) (c .before .before .before .before .wide .ensures ∙ c .before .before .before .before .before .owner .ensures)))
+array-read-if3 c =
+    let args = c .before .before .before .before .before .before .before .before .before .args in
+    let pre = c .before .before .before .before .before .before .before .before .before .pre in
+    let loop = c .before .before .before .before .before .before .before .loop in
+    omega (arith, loop .inv .1 .flags, (owner-room (args .p) (now (args .tables)) (length (now (args .tables))) (loop .page) (pre .0) (pre .1) (c .before .before .before .before .before .before .loop-test .taken) (c .before .before .before .before .wide .ensures ∙ c .before .before .before .before .before .owner .ensures)))
 
 returns : tie.Need-returns Inv-loop μ-loop Inv-loop2 μ-loop2
-returns c = says-no (λ h. twice (c .before .before .before .before .before .before .before .before .before .before .args .p) (now (c .before .before .before .before .before .before .before .before .before .before .args .tables)) (c .before .before .before .before .before .before .before .before .loop .objects) (c .before .before .before .before .before .before .before .before .loop .partly) (c .before .before .before .before .before .before .before .before .loop .page) (c .before .before .before .before .before .wide .result) (c .before .before .wide2 .result) (c .before .before .before .before .before .before .before .before .loop .inv .1) (c .before .before .before .before .before .wide .ensures ∙ c .before .before .before .before .before .before .owner .ensures) (c .before .before .wide2 .ensures ∙ c .before .before .before .used .ensures) (owner-room (c .before .before .before .before .before .before .before .before .before .before .args .p) (now (c .before .before .before .before .before .before .before .before .before .before .args .tables)) (length (now (c .before .before .before .before .before .before .before .before .before .before .args .tables))) (c .before .before .before .before .before .before .before .before .loop .page) (c .before .before .before .before .before .before .before .before .before .before .pre .0) (c .before .before .before .before .before .before .before .before .before .before .pre .1) (c .before .before .before .before .before .before .before .loop-test .taken) (c .before .before .before .before .before .wide .ensures ∙ c .before .before .before .before .before .before .owner .ensures)) (c .before .before .before .before .before .before .before .loop-test .taken) (omega (arith, c .before .if2 .taken)) (c .if3 .taken) (h .partial))
+returns c =
+    let args = c .before .before .before .before .before .before .before .before .before .before .args in
+    let pre = c .before .before .before .before .before .before .before .before .before .before .pre in
+    let loop = c .before .before .before .before .before .before .before .before .loop in
+    let loop-test = c .before .before .before .before .before .before .before .loop-test in
+    let owner = c .before .before .before .before .before .before .owner in
+    let wide = c .before .before .before .before .before .wide in
+    says-no (λ h. twice (args .p) (now (args .tables)) (loop .objects) (loop .partly) (loop .page) (wide .result) (c .before .before .wide2 .result) (loop .inv .1) (wide .ensures ∙ owner .ensures) (c .before .before .wide2 .ensures ∙ c .before .before .before .used .ensures) (owner-room (args .p) (now (args .tables)) (length (now (args .tables))) (loop .page) (pre .0) (pre .1) (loop-test .taken) (wide .ensures ∙ owner .ensures)) (loop-test .taken) (omega (arith, c .before .if2 .taken)) (c .if3 .taken) (h .partial))
 
 array-write-partly : tie.Need-array-write-partly Inv-loop μ-loop Inv-loop2 μ-loop2
-array-write-partly c = omega (arith, c .before .before .before .before .before .before .before .before .loop .inv .1 .flags, (owner-room (c .before .before .before .before .before .before .before .before .before .before .args .p) (now (c .before .before .before .before .before .before .before .before .before .before .args .tables)) (length (now (c .before .before .before .before .before .before .before .before .before .before .args .tables))) (c .before .before .before .before .before .before .before .before .loop .page) (c .before .before .before .before .before .before .before .before .before .before .pre .0) (c .before .before .before .before .before .before .before .before .before .before .pre .1) (c .before .before .before .before .before .before .before .loop-test .taken) (c .before .before .before .before .before .wide .ensures ∙ c .before .before .before .before .before .before .owner .ensures)))
+array-write-partly c =
+    let args = c .before .before .before .before .before .before .before .before .before .before .args in
+    let pre = c .before .before .before .before .before .before .before .before .before .before .pre in
+    let loop = c .before .before .before .before .before .before .before .before .loop in
+    omega (arith, loop .inv .1 .flags, (owner-room (args .p) (now (args .tables)) (length (now (args .tables))) (loop .page) (pre .0) (pre .1) (c .before .before .before .before .before .before .before .loop-test .taken) (c .before .before .before .before .before .wide .ensures ∙ c .before .before .before .before .before .before .owner .ensures)))
 
 mul-objects : tie.Need-mul-objects Inv-loop μ-loop Inv-loop2 μ-loop2
-mul-objects c = omega (arith, (owner-room (c .before .before .before .before .before .before .before .before .before .args .p) (now (c .before .before .before .before .before .before .before .before .before .args .tables)) (length (now (c .before .before .before .before .before .before .before .before .before .args .tables))) (c .before .before .before .before .before .before .before .loop .page) (c .before .before .before .before .before .before .before .before .before .pre .0) (c .before .before .before .before .before .before .before .before .before .pre .1) (c .before .before .before .before .before .before .loop-test .taken) (c .before .before .before .before .wide .ensures ∙ c .before .before .before .before .before .owner .ensures)))
+mul-objects c =
+    let args = c .before .before .before .before .before .before .before .before .before .args in
+    let pre = c .before .before .before .before .before .before .before .before .before .pre in
+    omega (arith, (owner-room (args .p) (now (args .tables)) (length (now (args .tables))) (c .before .before .before .before .before .before .before .loop .page) (pre .0) (pre .1) (c .before .before .before .before .before .before .loop-test .taken) (c .before .before .before .before .wide .ensures ∙ c .before .before .before .before .before .owner .ensures)))
 
 array-read-objects : tie.Need-array-read-objects Inv-loop μ-loop Inv-loop2 μ-loop2
-array-read-objects c = omega (arith, c .before .before .before .before .before .before .before .loop .inv .1 .places, (owner-room (c .before .before .before .before .before .before .before .before .before .args .p) (now (c .before .before .before .before .before .before .before .before .before .args .tables)) (length (now (c .before .before .before .before .before .before .before .before .before .args .tables))) (c .before .before .before .before .before .before .before .loop .page) (c .before .before .before .before .before .before .before .before .before .pre .0) (c .before .before .before .before .before .before .before .before .before .pre .1) (c .before .before .before .before .before .before .loop-test .taken) (c .before .before .before .before .wide .ensures ∙ c .before .before .before .before .before .owner .ensures)))
+array-read-objects c =
+    let args = c .before .before .before .before .before .before .before .before .before .args in
+    let pre = c .before .before .before .before .before .before .before .before .before .pre in
+    let loop = c .before .before .before .before .before .before .before .loop in
+    omega (arith, loop .inv .1 .places, (owner-room (args .p) (now (args .tables)) (length (now (args .tables))) (loop .page) (pre .0) (pre .1) (c .before .before .before .before .before .before .loop-test .taken) (c .before .before .before .before .wide .ensures ∙ c .before .before .before .before .before .owner .ensures)))
 
 add-objects : tie.Need-add-objects Inv-loop μ-loop Inv-loop2 μ-loop2
-add-objects c = omega (arith, c .before .before .before .before .before .before .before .before .before .pre .1 (c .before .before .before .before .before .before .before .loop .page) (c .before .before .before .before .before .before .loop-test .taken) .whole .cells, objects-low (c .before .before .before .before .before .before .before .before .before .args .p) (now (c .before .before .before .before .before .before .before .before .before .args .tables)) (c .before .before .before .before .before .before .before .loop .objects) (c .before .before .before .before .before .before .before .loop .partly) (c .before .before .before .before .before .before .before .loop .page) (c .before .before .before .before .wide .result) (c .before .before .before .before .before .before .before .loop .inv .1) (λ k l. c .before .before .before .before .before .before .before .before .before .pre .1 k (omega arith) .whole .cells) (omega arith) (owner-room (c .before .before .before .before .before .before .before .before .before .args .p) (now (c .before .before .before .before .before .before .before .before .before .args .tables)) (length (now (c .before .before .before .before .before .before .before .before .before .args .tables))) (c .before .before .before .before .before .before .before .loop .page) (c .before .before .before .before .before .before .before .before .before .pre .0) (c .before .before .before .before .before .before .before .before .before .pre .1) (c .before .before .before .before .before .before .loop-test .taken) (c .before .before .before .before .wide .ensures ∙ c .before .before .before .before .before .owner .ensures)))
+add-objects c =
+    let pre = c .before .before .before .before .before .before .before .before .before .pre in
+    let args = c .before .before .before .before .before .before .before .before .before .args in
+    let loop = c .before .before .before .before .before .before .before .loop in
+    let loop-test = c .before .before .before .before .before .before .loop-test in
+    let wide = c .before .before .before .before .wide in
+    omega (arith, pre .1 (loop .page) (loop-test .taken) .whole .cells, objects-low (args .p) (now (args .tables)) (loop .objects) (loop .partly) (loop .page) (wide .result) (loop .inv .1) (λ k l. pre .1 k (omega arith) .whole .cells) (omega arith) (owner-room (args .p) (now (args .tables)) (length (now (args .tables))) (loop .page) (pre .0) (pre .1) (loop-test .taken) (wide .ensures ∙ c .before .before .before .before .before .owner .ensures)))
 
 array-write-objects : tie.Need-array-write-objects Inv-loop μ-loop Inv-loop2 μ-loop2
-array-write-objects c = omega (arith, c .before .before .before .before .before .before .before .loop .inv .1 .places, (owner-room (c .before .before .before .before .before .before .before .before .before .args .p) (now (c .before .before .before .before .before .before .before .before .before .args .tables)) (length (now (c .before .before .before .before .before .before .before .before .before .args .tables))) (c .before .before .before .before .before .before .before .loop .page) (c .before .before .before .before .before .before .before .before .before .pre .0) (c .before .before .before .before .before .before .before .before .before .pre .1) (c .before .before .before .before .before .before .loop-test .taken) (c .before .before .before .before .wide .ensures ∙ c .before .before .before .before .before .owner .ensures)))
+array-write-objects c =
+    let args = c .before .before .before .before .before .before .before .before .before .args in
+    let pre = c .before .before .before .before .before .before .before .before .before .pre in
+    let loop = c .before .before .before .before .before .before .before .loop in
+    omega (arith, loop .inv .1 .places, (owner-room (args .p) (now (args .tables)) (length (now (args .tables))) (loop .page) (pre .0) (pre .1) (c .before .before .before .before .before .before .loop-test .taken) (c .before .before .before .before .wide .ensures ∙ c .before .before .before .before .before .owner .ensures)))
 
 add-page : tie.Need-add-page Inv-loop μ-loop Inv-loop2 μ-loop2
 add-page c = omega arith
@@ -77,25 +109,33 @@ loop-less : tie.Need-loop-less Inv-loop μ-loop Inv-loop2 μ-loop2
 loop-less c = omega arith
 
 loop-again : tie.Need-loop-again Inv-loop μ-loop Inv-loop2 μ-loop2
-loop-again c = (
-  omega arith,
-  ⊎-elim
-      (λ w. ⊎-elim
-      (λ v. subst₂ (λ (a : List ℕ) (b : List Bool). Tallied (c .before .before .before .before .before .before .args .p) (now (c .before .before .before .before .before .before .args .tables)) a b (c .before .before .before .before .loop .page + 1)) (sym (w .4)) (sym (w .5 ∙ v .2))
-      (tallied-part (c .before .before .before .before .before .before .args .p) (now (c .before .before .before .before .before .before .args .tables)) (c .before .before .before .before .loop .objects) (c .before .before .before .before .loop .partly) (c .before .before .before .before .loop .page) (c .before .wide .result) (w .2 .result) (c .before .before .before .before .loop .inv .1) (c .before .wide .ensures ∙ c .before .before .owner .ensures) (w .2 .ensures ∙ w .1 .ensures) (omega (arith, w .0 .taken)) (owner-room (c .before .before .before .before .before .before .args .p) (now (c .before .before .before .before .before .before .args .tables)) (length (now (c .before .before .before .before .before .before .args .tables))) (c .before .before .before .before .loop .page) (c .before .before .before .before .before .before .pre .0) (c .before .before .before .before .before .before .pre .1) (c .before .before .before .loop-test .taken) (c .before .wide .ensures ∙ c .before .before .owner .ensures)) (omega (arith, v .0 .taken)) (v .1 .left)))
-      (λ v. subst₂ (λ (a : List ℕ) (b : List Bool). Tallied (c .before .before .before .before .before .before .args .p) (now (c .before .before .before .before .before .before .args .tables)) a b (c .before .before .before .before .loop .page + 1)) (sym (w .4)) (sym (w .5 ∙ v .1))
-      (tallied-full (c .before .before .before .before .before .before .args .p) (now (c .before .before .before .before .before .before .args .tables)) (c .before .before .before .before .loop .objects) (c .before .before .before .before .loop .partly) (c .before .before .before .before .loop .page) (c .before .wide .result) (w .2 .result) (c .before .before .before .before .loop .inv .1) (c .before .wide .ensures ∙ c .before .before .owner .ensures) (w .2 .ensures ∙ w .1 .ensures) (omega (arith, w .0 .taken)) (owner-room (c .before .before .before .before .before .before .args .p) (now (c .before .before .before .before .before .before .args .tables)) (length (now (c .before .before .before .before .before .before .args .tables))) (c .before .before .before .before .loop .page) (c .before .before .before .before .before .before .pre .0) (c .before .before .before .before .before .before .pre .1) (c .before .before .before .loop-test .taken) (c .before .wide .ensures ∙ c .before .before .owner .ensures)) (omega (arith, v .0 .left))))
-      (w .3 .came))
-      (λ w. subst₂ (λ (a : List ℕ) (b : List Bool). Tallied (c .before .before .before .before .before .before .args .p) (now (c .before .before .before .before .before .before .args .tables)) a b (c .before .before .before .before .loop .page + 1)) (sym (w .1)) (sym (w .2))
-      (tallied-free (c .before .before .before .before .before .before .args .p) (now (c .before .before .before .before .before .before .args .tables)) (c .before .before .before .before .loop .objects) (c .before .before .before .before .loop .partly) (c .before .before .before .before .loop .page) (c .before .wide .result) _ (c .before .before .before .before .loop .inv .1) (c .before .wide .ensures ∙ c .before .before .owner .ensures) refl (w .0 .left)))
-      (c .if1 .came),
-)
+loop-again c =
+    let args = c .before .before .before .before .before .before .args in
+    let pre = c .before .before .before .before .before .before .pre in
+    let loop = c .before .before .before .before .loop in
+    let loop-test = c .before .before .before .loop-test in
+    let owner = c .before .before .owner in
+    let wide = c .before .wide in (
+      omega arith,
+      ⊎-elim
+          (λ w. ⊎-elim
+          (λ v. subst₂ (λ (a : List ℕ) (b : List Bool). Tallied (args .p) (now (args .tables)) a b (loop .page + 1)) (sym (w .4)) (sym (w .5 ∙ v .2))
+          (tallied-part (args .p) (now (args .tables)) (loop .objects) (loop .partly) (loop .page) (wide .result) (w .2 .result) (loop .inv .1) (wide .ensures ∙ owner .ensures) (w .2 .ensures ∙ w .1 .ensures) (omega (arith, w .0 .taken)) (owner-room (args .p) (now (args .tables)) (length (now (args .tables))) (loop .page) (pre .0) (pre .1) (loop-test .taken) (wide .ensures ∙ owner .ensures)) (omega (arith, v .0 .taken)) (v .1 .left)))
+          (λ v. subst₂ (λ (a : List ℕ) (b : List Bool). Tallied (args .p) (now (args .tables)) a b (loop .page + 1)) (sym (w .4)) (sym (w .5 ∙ v .1))
+          (tallied-full (args .p) (now (args .tables)) (loop .objects) (loop .partly) (loop .page) (wide .result) (w .2 .result) (loop .inv .1) (wide .ensures ∙ owner .ensures) (w .2 .ensures ∙ w .1 .ensures) (omega (arith, w .0 .taken)) (owner-room (args .p) (now (args .tables)) (length (now (args .tables))) (loop .page) (pre .0) (pre .1) (loop-test .taken) (wide .ensures ∙ owner .ensures)) (omega (arith, v .0 .left))))
+          (w .3 .came))
+          (λ w. subst₂ (λ (a : List ℕ) (b : List Bool). Tallied (args .p) (now (args .tables)) a b (loop .page + 1)) (sym (w .1)) (sym (w .2))
+          (tallied-free (args .p) (now (args .tables)) (loop .objects) (loop .partly) (loop .page) (wide .result) _ (loop .inv .1) (wide .ensures ∙ owner .ensures) refl (w .0 .left)))
+          (c .if1 .came),
+    )
 
 last-region-requires : tie.Need-last-region-requires Inv-loop μ-loop Inv-loop2 μ-loop2
 last-region-requires c κs = search needs
 
 loop2-holds : tie.Need-loop2-holds Inv-loop μ-loop Inv-loop2 μ-loop2
-loop2-holds c = (omega arith, omega arith, omega (arith, region-few (c .before .before .before .before .args .p) (length (now (c .before .before .before .before .args .tables))) (c .before .before .before .before .pre .0)), c .before .before .loop .inv .1 .places, λ k l m. absurd (let z : ⊥ = omega arith in z))
+loop2-holds c =
+    let args = c .before .before .before .before .args in
+    (omega arith, omega arith, omega (arith, region-few (args .p) (length (now (args .tables))) (c .before .before .before .before .pre .0)), c .before .before .loop .inv .1 .places, λ k l m. absurd (let z : ⊥ = omega arith in z))
 
 count-requires : tie.Need-count-requires Inv-loop μ-loop Inv-loop2 μ-loop2
 count-requires c κs = (c .before .before .before .before .before .before .pre .0, omega arith)
@@ -110,10 +150,14 @@ array-read-if4 : tie.Need-array-read-if4 Inv-loop μ-loop Inv-loop2 μ-loop2
 array-read-if4 c = omega arith
 
 returns-2 : tie.Need-returns-2 Inv-loop μ-loop Inv-loop2 μ-loop2
-returns-2 c = says-no (λ h. c .if4 .taken (
-    let e : c .before .before .before .before .before .before .before .loop .page ≡ c .before .before .before .before .before .before .before .before .before .args .p .pages = omega arith in
-    c .before .wide3 .ensures ∙ c .before .before .count .ensures ∙ h .counts (c .before .before .before .before .loop2 .g) (c .before .before .before .before .loop2 .inv .0) (omega arith)
-    ∙ ap (sum (objectsOn (c .before .before .before .before .before .before .before .before .before .args .p) (now (c .before .before .before .before .before .before .before .before .before .args .tables)) (c .before .before .before .before .loop2 .g))) (sym e) ∙ sym (c .before .before .before .before .before .before .before .loop .inv .1 .counted (c .before .before .before .before .loop2 .g) (c .before .before .before .before .loop2 .inv .0) (omega arith))))
+returns-2 c =
+    let args = c .before .before .before .before .before .before .before .before .before .args in
+    let loop = c .before .before .before .before .before .before .before .loop in
+    let loop2 = c .before .before .before .before .loop2 in
+    says-no (λ h. c .if4 .taken (
+    let e : loop .page ≡ args .p .pages = omega arith in
+    c .before .wide3 .ensures ∙ c .before .before .count .ensures ∙ h .counts (loop2 .g) (loop2 .inv .0) (omega arith)
+    ∙ ap (sum (objectsOn (args .p) (now (args .tables)) (loop2 .g))) (sym e) ∙ sym (loop .inv .1 .counted (loop2 .g) (loop2 .inv .0) (omega arith))))
 
 add-g : tie.Need-add-g Inv-loop μ-loop Inv-loop2 μ-loop2
 add-g c = omega arith
@@ -122,14 +166,19 @@ loop2-less : tie.Need-loop2-less Inv-loop μ-loop Inv-loop2 μ-loop2
 loop2-less c = omega arith
 
 loop2-again : tie.Need-loop2-again Inv-loop μ-loop Inv-loop2 μ-loop2
-loop2-again c = (omega arith, omega arith, c .before .before .before .before .loop2 .inv .2, c .before .before .before .before .loop2 .inv .3, below-more _ _ (c .before .before .before .before .loop2 .inv .4) (λ l. sym (c .before .wide3 .ensures ∙ c .before .before .count .ensures) ∙ c .if4 .left))
+loop2-again c =
+    let loop2 = c .before .before .before .before .loop2 in
+    (omega arith, omega arith, loop2 .inv .2, loop2 .inv .3, below-more _ _ (loop2 .inv .4) (λ l. sym (c .before .wide3 .ensures ∙ c .before .before .count .ensures) ∙ c .if4 .left))
 
 returns-3 : tie.Need-returns-3 Inv-loop μ-loop Inv-loop2 μ-loop2
-returns-3 c = says-yes (
-    let e : c .before .before .before .before .loop .page ≡ c .before .before .before .before .before .before .args .p .pages = omega arith in
+returns-3 c =
+    let args = c .before .before .before .before .before .before .args in
+    let loop = c .before .before .before .before .loop in
+    says-yes (
+    let e : loop .page ≡ args .p .pages = omega arith in
     record {
-      partial = λ g l a b k m. c .before .before .before .before .loop .inv .1 .once g l a b k (omega arith);
-      counts = λ g l m. c .before .loop2 .inv .4 g (omega arith) l ∙ c .before .before .before .before .loop .inv .1 .counted g l (omega (arith, c .before .loop2 .inv .2)) ∙ ap (sum (objectsOn (c .before .before .before .before .before .before .args .p) (now (c .before .before .before .before .before .before .args .tables)) g)) e;
+      partial = λ g l a b k m. loop .inv .1 .once g l a b k (omega arith);
+      counts = λ g l m. c .before .loop2 .inv .4 g (omega arith) l ∙ loop .inv .1 .counted g l (omega (arith, c .before .loop2 .inv .2)) ∙ ap (sum (objectsOn (args .p) (now (args .tables)) g)) e;
     })
 
 pub regions-whole-spec : {M : Type 1} → statement M

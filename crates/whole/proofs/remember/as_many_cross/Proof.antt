@@ -49,27 +49,35 @@ wide-requires : tie.Need-wide-requires Inv-fields μ-fields Inv-cells μ-cells I
 wide-requires c κs = search needs
 
 cells-holds : tie.Need-cells-holds Inv-fields μ-fields Inv-cells μ-cells Inv-pages μ-pages
-cells-holds c = (omega arith, omega (arith, c .before .before .before .before .before .before .before .pre .1 .1 .0 (c .before .before .before .before .pages .page) (c .before .before .before .pages-test .taken) .whole .cells), c .before .before .before .before .pages .inv .1, c .before .before .before .before .pages .inv .2)
+cells-holds c =
+    let pages = c .before .before .before .before .pages in
+    (omega arith, omega (arith, c .before .before .before .before .before .before .before .pre .1 .1 .0 (pages .page) (c .before .before .before .pages-test .taken) .whole .cells), pages .inv .1, pages .inv .2)
 
 cell-on-requires :
     tie.Need-cell-on-requires Inv-fields μ-fields Inv-cells μ-cells Inv-pages μ-pages
 cell-on-requires c κs = omega (arith, c .before .before .before .before .before .before .before .before .before .pre .0 .few, c .before .cells .inv)
 
 head-requires : tie.Need-head-requires Inv-fields μ-fields Inv-cells μ-cells Inv-pages μ-pages
-head-requires c κs = omega (arith, c .before .before .before .before .before .before .before .before .before .before .pre .0 .few, c .before .before .before .before .before .before .before .before .before .before .pre .1 .0, c .cell-on .ensures)
+head-requires c κs =
+    let pre = c .before .before .before .before .before .before .before .before .before .before .pre in
+    omega (arith, pre .0 .few, pre .1 .0, c .cell-on .ensures)
 
 field-count-requires :
     tie.Need-field-count-requires Inv-fields μ-fields Inv-cells μ-cells Inv-pages μ-pages
 field-count-requires c κs = search needs
 
 fields-holds : tie.Need-fields-holds Inv-fields μ-fields Inv-cells μ-cells Inv-pages μ-pages
-fields-holds c = (
-  omega arith,
-  omega (arith, (c .field-count .ensures ∙ ap (λ (h : ℕ). h / 16) (c .before .head .ensures)), (reached (c .before .before .before .before .before .before .before .before .before .before .before .before .pre .1 .1 .1 .0) (c .before .before .cell-on .ensures) (c .before .before .before .before .before .wide .ensures ∙ c .before .before .before .before .before .before .used .ensures) (c .before .before .before .before .before .before .before .before .pages-test .taken) (c .before .before .before .before .cells .inv .1) (c .before .before .before .cells-test .taken)) .head),
-  omega (arith, c .before .before .before .before .before .before .before .before .before .before .before .before .pre .0 .few, c .before .before .before .before .before .before .before .before .before .before .before .before .pre .1 .0, c .before .before .cell-on .ensures),
-  c .before .before .before .before .cells .inv .2,
-  c .before .before .before .before .cells .inv .3 ∙ ap (λ (k : ℕ). crossingTo (c .before .before .before .before .before .before .before .before .before .before .before .before .args .p) (now (c .before .before .before .before .before .before .before .before .before .before .before .before .args .cells)) (now (c .before .before .before .before .before .before .before .before .before .before .before .before .args .tables)) (headAt k)) (sym (c .before .before .cell-on .ensures)) ∙ sym (to-fields (c .before .before .before .before .before .before .before .before .before .before .before .before .args .p) (now (c .before .before .before .before .before .before .before .before .before .before .before .before .args .cells)) (now (c .before .before .before .before .before .before .before .before .before .before .before .before .args .tables)) (c .before .before .cell-on .result)),
-)
+fields-holds c =
+    let pre = c .before .before .before .before .before .before .before .before .before .before .before .before .pre in
+    let args = c .before .before .before .before .before .before .before .before .before .before .before .before .args in
+    let cells = c .before .before .before .before .cells in
+    let cell-on = c .before .before .cell-on in (
+      omega arith,
+      omega (arith, (c .field-count .ensures ∙ ap (λ (h : ℕ). h / 16) (c .before .head .ensures)), (reached (pre .1 .1 .1 .0) (cell-on .ensures) (c .before .before .before .before .before .wide .ensures ∙ c .before .before .before .before .before .before .used .ensures) (c .before .before .before .before .before .before .before .before .pages-test .taken) (cells .inv .1) (c .before .before .before .cells-test .taken)) .head),
+      omega (arith, pre .0 .few, pre .1 .0, cell-on .ensures),
+      cells .inv .2,
+      cells .inv .3 ∙ ap (λ (k : ℕ). crossingTo (args .p) (now (args .cells)) (now (args .tables)) (headAt k)) (sym (cell-on .ensures)) ∙ sym (to-fields (args .p) (now (args .cells)) (now (args .tables)) (cell-on .result)),
+    )
 
 field-requires : tie.Need-field-requires Inv-fields μ-fields Inv-cells μ-cells Inv-pages μ-pages
 field-requires c κs = omega (arith, c .before .fields .inv)
@@ -92,16 +100,31 @@ fields-less : tie.Need-fields-less Inv-fields μ-fields Inv-cells μ-cells Inv-p
 fields-less c = omega arith
 
 fields-again : tie.Need-fields-again Inv-fields μ-fields Inv-cells μ-cells Inv-pages μ-pages
-fields-again c = (
-  omega arith,
-  c .before .before .before .before .before .fields .inv .1,
-  c .before .before .before .before .before .fields .inv .2,
-  ⊎-elim (λ w. omega (arith, w .1 .left, w .2)) (λ w. omega (arith, w .1, c .before .before .before .before .before .fields .inv .3)) (c .if1 .came),
-  ⊎-elim
-      (λ w. w .2 ∙ ap (λ (k : ℕ). k + 1) (c .before .before .before .before .before .fields .inv .4) ∙ sym (crosses-yes (c .before .before .before .before .before .before .before .before .before .before .before .before .before .before .before .before .before .before .args .p) (now (c .before .before .before .before .before .before .before .before .before .before .before .before .before .before .before .before .before .before .args .cells)) (now (c .before .before .before .before .before .before .before .before .before .before .before .before .before .before .before .before .before .before .args .tables)) (c .before .before .before .before .before .before .before .before .cell-on .result) (c .before .before .before .before .before .fields .f) (crosses-at (c .before .before .before .before .before .before .before .before .before .before .before .before .before .before .before .before .before .before .args .p) (now (c .before .before .before .before .before .before .before .before .before .before .before .before .before .before .before .before .before .before .args .cells)) (now (c .before .before .before .before .before .before .before .before .before .before .before .before .before .before .before .before .before .before .args .tables)) (c .before .before .before .before .before .before .before .before .before .before .before .before .before .before .before .pages .page) (c .before .before .before .before .before .before .before .before .before .before .cells .place) (c .before .before .before .before .before .before .before .before .cell-on .result) (c .before .before .before .before .before .fields .f) (c .before .before .before .before .before .before .before .before .before .before .before .before .before .owner .result) (c .before .before .before .field .result) (c .before .before .region-of .result) (c .before .other-region .result) (c .before .before .before .before .before .before .before .before .cell-on .ensures) (c .before .before .before .before .before .before .before .before .before .before .before .before .before .owner .ensures) (c .before .before .before .field .ensures) (c .before .before .region-of .ensures) (c .before .other-region .ensures) (c .before .before .before .before .before .before .before .before .before .before .before .wide .ensures ∙ c .before .before .before .before .before .before .before .before .before .before .before .before .used .ensures) (c .before .before .before .before .before .before .field-count .ensures ∙ ap (λ (h : ℕ). h / 16) (c .before .before .before .before .before .before .before .head .ensures)) (c .before .before .before .before .before .before .before .before .before .before .cells .inv .1) (c .before .before .before .before .before .fields .inv .1) (c .before .before .before .before .before .before .before .before .before .cells-test .taken) (c .before .before .before .before .fields-test .taken)) (w .0 .taken)))
-      (λ w. w .1 ∙ c .before .before .before .before .before .fields .inv .4 ∙ sym (crosses-no (c .before .before .before .before .before .before .before .before .before .before .before .before .before .before .before .before .before .before .args .p) (now (c .before .before .before .before .before .before .before .before .before .before .before .before .before .before .before .before .before .before .args .cells)) (now (c .before .before .before .before .before .before .before .before .before .before .before .before .before .before .before .before .before .before .args .tables)) (c .before .before .before .before .before .before .before .before .cell-on .result) (c .before .before .before .before .before .fields .f) (crosses-at (c .before .before .before .before .before .before .before .before .before .before .before .before .before .before .before .before .before .before .args .p) (now (c .before .before .before .before .before .before .before .before .before .before .before .before .before .before .before .before .before .before .args .cells)) (now (c .before .before .before .before .before .before .before .before .before .before .before .before .before .before .before .before .before .before .args .tables)) (c .before .before .before .before .before .before .before .before .before .before .before .before .before .before .before .pages .page) (c .before .before .before .before .before .before .before .before .before .before .cells .place) (c .before .before .before .before .before .before .before .before .cell-on .result) (c .before .before .before .before .before .fields .f) (c .before .before .before .before .before .before .before .before .before .before .before .before .before .owner .result) (c .before .before .before .field .result) (c .before .before .region-of .result) (c .before .other-region .result) (c .before .before .before .before .before .before .before .before .cell-on .ensures) (c .before .before .before .before .before .before .before .before .before .before .before .before .before .owner .ensures) (c .before .before .before .field .ensures) (c .before .before .region-of .ensures) (c .before .other-region .ensures) (c .before .before .before .before .before .before .before .before .before .before .before .wide .ensures ∙ c .before .before .before .before .before .before .before .before .before .before .before .before .used .ensures) (c .before .before .before .before .before .before .field-count .ensures ∙ ap (λ (h : ℕ). h / 16) (c .before .before .before .before .before .before .before .head .ensures)) (c .before .before .before .before .before .before .before .before .before .before .cells .inv .1) (c .before .before .before .before .before .fields .inv .1) (c .before .before .before .before .before .before .before .before .before .cells-test .taken) (c .before .before .before .before .fields-test .taken)) (w .0 .left)))
-      (c .if1 .came),
-)
+fields-again c =
+    let args = c .before .before .before .before .before .before .before .before .before .before .before .before .before .before .before .before .before .before .args in
+    let pages = c .before .before .before .before .before .before .before .before .before .before .before .before .before .before .before .pages in
+    let owner = c .before .before .before .before .before .before .before .before .before .before .before .before .before .owner in
+    let used = c .before .before .before .before .before .before .before .before .before .before .before .before .used in
+    let wide = c .before .before .before .before .before .before .before .before .before .before .before .wide in
+    let cells = c .before .before .before .before .before .before .before .before .before .before .cells in
+    let cells-test = c .before .before .before .before .before .before .before .before .before .cells-test in
+    let cell-on = c .before .before .before .before .before .before .before .before .cell-on in
+    let head = c .before .before .before .before .before .before .before .head in
+    let field-count = c .before .before .before .before .before .before .field-count in
+    let fields = c .before .before .before .before .before .fields in
+    let fields-test = c .before .before .before .before .fields-test in
+    let field = c .before .before .before .field in
+    let region-of = c .before .before .region-of in
+    let other-region = c .before .other-region in (
+      omega arith,
+      fields .inv .1,
+      fields .inv .2,
+      ⊎-elim (λ w. omega (arith, w .1 .left, w .2)) (λ w. omega (arith, w .1, fields .inv .3)) (c .if1 .came),
+      ⊎-elim
+          (λ w. w .2 ∙ ap (λ (k : ℕ). k + 1) (fields .inv .4) ∙ sym (crosses-yes (args .p) (now (args .cells)) (now (args .tables)) (cell-on .result) (fields .f) (crosses-at (args .p) (now (args .cells)) (now (args .tables)) (pages .page) (cells .place) (cell-on .result) (fields .f) (owner .result) (field .result) (region-of .result) (other-region .result) (cell-on .ensures) (owner .ensures) (field .ensures) (region-of .ensures) (other-region .ensures) (wide .ensures ∙ used .ensures) (field-count .ensures ∙ ap (λ (h : ℕ). h / 16) (head .ensures)) (cells .inv .1) (fields .inv .1) (cells-test .taken) (fields-test .taken)) (w .0 .taken)))
+          (λ w. w .1 ∙ fields .inv .4 ∙ sym (crosses-no (args .p) (now (args .cells)) (now (args .tables)) (cell-on .result) (fields .f) (crosses-at (args .p) (now (args .cells)) (now (args .tables)) (pages .page) (cells .place) (cell-on .result) (fields .f) (owner .result) (field .result) (region-of .result) (other-region .result) (cell-on .ensures) (owner .ensures) (field .ensures) (region-of .ensures) (other-region .ensures) (wide .ensures ∙ used .ensures) (field-count .ensures ∙ ap (λ (h : ℕ). h / 16) (head .ensures)) (cells .inv .1) (fields .inv .1) (cells-test .taken) (fields-test .taken)) (w .0 .left)))
+          (c .if1 .came),
+    )
 
 add-place : tie.Need-add-place Inv-fields μ-fields Inv-cells μ-cells Inv-pages μ-pages
 add-place c = omega arith
@@ -110,12 +133,17 @@ cells-less : tie.Need-cells-less Inv-fields μ-fields Inv-cells μ-cells Inv-pag
 cells-less c = omega arith
 
 cells-again : tie.Need-cells-again Inv-fields μ-fields Inv-cells μ-cells Inv-pages μ-pages
-cells-again c = let e : c .before .before .before .before .cell-on .result + 1 ≡ cellOn (c .before .before .before .before .before .before .before .before .before .before .before .pages .page) (c .before .before .before .before .before .before .cells .place + 1) = omega (arith, c .before .before .before .before .cell-on .ensures) in (
-  omega arith,
-  c .before .before .before .before .before .before .cells .inv .1,
-  c .before .fields .inv .3,
-  c .before .fields .inv .4 ∙ sym (to-next-cell (c .before .before .before .before .before .before .before .before .before .before .before .before .before .before .args .p) (now (c .before .before .before .before .before .before .before .before .before .before .before .before .before .before .args .cells)) (now (c .before .before .before .before .before .before .before .before .before .before .before .before .before .before .args .tables)) (c .before .before .before .before .cell-on .result) (c .before .fields .f) (omega (arith, (c .before .before .field-count .ensures ∙ ap (λ (h : ℕ). h / 16) (c .before .before .before .head .ensures)))) (omega (arith, c .before .fields .inv))) ∙ ap (λ (k : ℕ). crossingTo (c .before .before .before .before .before .before .before .before .before .before .before .before .before .before .args .p) (now (c .before .before .before .before .before .before .before .before .before .before .before .before .before .before .args .cells)) (now (c .before .before .before .before .before .before .before .before .before .before .before .before .before .before .args .tables)) (headAt k)) e,
-)
+cells-again c =
+    let args = c .before .before .before .before .before .before .before .before .before .before .before .before .before .before .args in
+    let cells = c .before .before .before .before .before .before .cells in
+    let cell-on = c .before .before .before .before .cell-on in
+    let fields = c .before .fields in
+    let e : cell-on .result + 1 ≡ cellOn (c .before .before .before .before .before .before .before .before .before .before .before .pages .page) (cells .place + 1) = omega (arith, cell-on .ensures) in (
+      omega arith,
+      cells .inv .1,
+      fields .inv .3,
+      fields .inv .4 ∙ sym (to-next-cell (args .p) (now (args .cells)) (now (args .tables)) (cell-on .result) (fields .f) (omega (arith, (c .before .before .field-count .ensures ∙ ap (λ (h : ℕ). h / 16) (c .before .before .before .head .ensures)))) (omega (arith, fields .inv))) ∙ ap (λ (k : ℕ). crossingTo (args .p) (now (args .cells)) (now (args .tables)) (headAt k)) e,
+    )
 
 add-page : tie.Need-add-page Inv-fields μ-fields Inv-cells μ-cells Inv-pages μ-pages
 add-page c = omega arith
@@ -124,17 +152,23 @@ pages-less : tie.Need-pages-less Inv-fields μ-fields Inv-cells μ-cells Inv-pag
 pages-less c = omega arith
 
 pages-again : tie.Need-pages-again Inv-fields μ-fields Inv-cells μ-cells Inv-pages μ-pages
-pages-again c = (omega arith, c .before .cells .inv .2, c .before .cells .inv .3 ∙ sym (to-next-page (c .before .before .before .before .before .before .before .before .before .args .p) (now (c .before .before .before .before .before .before .before .before .before .args .cells)) (now (c .before .before .before .before .before .before .before .before .before .args .tables)) (c .before .before .before .before .before .before .pages .page) (c .before .cells .place) (omega (arith, (c .before .before .wide .ensures ∙ c .before .before .before .used .ensures))) (omega (arith, c .before .cells .inv))))
+pages-again c =
+    let args = c .before .before .before .before .before .before .before .before .before .args in
+    let cells = c .before .cells in
+    (omega arith, cells .inv .2, cells .inv .3 ∙ sym (to-next-page (args .p) (now (args .cells)) (now (args .tables)) (c .before .before .before .before .before .before .pages .page) (cells .place) (omega (arith, (c .before .before .wide .ensures ∙ c .before .before .before .used .ensures))) (omega (arith, cells .inv))))
 
 returns : tie.Need-returns Inv-fields μ-fields Inv-cells μ-cells Inv-pages μ-pages
-returns c = ⊎-elim
+returns c =
+    let args = c .before .before .before .before .args in
+    let pages = c .before .pages in
+    ⊎-elim
     (λ w.
-    let e : headAt (cellOn (c .before .pages .page) 0) ≡ 256 * c .before .before .before .before .args .p .pages = omega (arith, w .0 .left, c .before .pages .inv .0) in
-    says-all (c .pages-test .n) (crossingTo (c .before .before .before .before .args .p) (now (c .before .before .before .before .args .cells)) (now (c .before .before .before .before .args .tables)) (256 * c .before .before .before .before .args .p .pages)) (c .before .before .before .before .args .entries) (w .1 ∙ c .before .pages .inv .2 ∙ ap (crossingTo (c .before .before .before .before .args .p) (now (c .before .before .before .before .args .cells)) (now (c .before .before .before .before .args .tables))) e))
+    let e : headAt (cellOn (pages .page) 0) ≡ 256 * args .p .pages = omega (arith, w .0 .left, pages .inv .0) in
+    says-all (c .pages-test .n) (crossingTo (args .p) (now (args .cells)) (now (args .tables)) (256 * args .p .pages)) (args .entries) (w .1 ∙ pages .inv .2 ∙ ap (crossingTo (args .p) (now (args .cells)) (now (args .tables))) e))
     (λ w.
-    let l : crossingTo (c .before .before .before .before .args .p) (now (c .before .before .before .before .args .cells)) (now (c .before .before .before .before .args .tables)) (fieldAt (w .6 .result) (w .9 .f + 1)) ≤ crossingTo (c .before .before .before .before .args .p) (now (c .before .before .before .before .args .cells)) (now (c .before .before .before .before .args .tables)) (256 * c .before .before .before .before .args .p .pages) = counted-so-far (c .before .before .before .before .args .p) (now (c .before .before .before .before .args .cells)) (now (c .before .before .before .before .args .tables)) (fieldAt (w .6 .result) (w .9 .f + 1)) (256 * c .before .before .before .before .args .p .pages) (omega (arith, w .6 .ensures, w .0 .taken, w .4 .inv .1, w .5 .taken, w .9 .inv .1, w .10 .taken)) in
-    let m : crossingTo (c .before .before .before .before .args .p) (now (c .before .before .before .before .args .cells)) (now (c .before .before .before .before .args .tables)) (fieldAt (w .6 .result) (w .9 .f + 1)) ≡ crossingTo (c .before .before .before .before .args .p) (now (c .before .before .before .before .args .cells)) (now (c .before .before .before .before .args .tables)) (fieldAt (w .6 .result) (w .9 .f)) + 1 = crosses-yes (c .before .before .before .before .args .p) (now (c .before .before .before .before .args .cells)) (now (c .before .before .before .before .args .tables)) (w .6 .result) (w .9 .f) (crosses-at (c .before .before .before .before .args .p) (now (c .before .before .before .before .args .cells)) (now (c .before .before .before .before .args .tables)) (c .before .pages .page) (w .4 .place) (w .6 .result) (w .9 .f) (w .1 .result) (w .11 .result) (w .12 .result) (w .13 .result) (w .6 .ensures) (w .1 .ensures) (w .11 .ensures) (w .12 .ensures) (w .13 .ensures) (w .3 .ensures ∙ w .2 .ensures) (w .8 .ensures ∙ ap (λ (h : ℕ). h / 16) (w .7 .ensures)) (w .4 .inv .1) (w .9 .inv .1) (w .5 .taken) (w .10 .taken)) (w .14 .taken) in
-    says-more (c .pages-test .n) (crossingTo (c .before .before .before .before .args .p) (now (c .before .before .before .before .args .cells)) (now (c .before .before .before .before .args .tables)) (256 * c .before .before .before .before .args .p .pages)) (c .before .before .before .before .args .entries) (omega (arith, w .15 .taken, w .16)) (omega (arith, w .15 .taken, w .9 .inv .4)))
+    let l : crossingTo (args .p) (now (args .cells)) (now (args .tables)) (fieldAt (w .6 .result) (w .9 .f + 1)) ≤ crossingTo (args .p) (now (args .cells)) (now (args .tables)) (256 * args .p .pages) = counted-so-far (args .p) (now (args .cells)) (now (args .tables)) (fieldAt (w .6 .result) (w .9 .f + 1)) (256 * args .p .pages) (omega (arith, w .6 .ensures, w .0 .taken, w .4 .inv .1, w .5 .taken, w .9 .inv .1, w .10 .taken)) in
+    let m : crossingTo (args .p) (now (args .cells)) (now (args .tables)) (fieldAt (w .6 .result) (w .9 .f + 1)) ≡ crossingTo (args .p) (now (args .cells)) (now (args .tables)) (fieldAt (w .6 .result) (w .9 .f)) + 1 = crosses-yes (args .p) (now (args .cells)) (now (args .tables)) (w .6 .result) (w .9 .f) (crosses-at (args .p) (now (args .cells)) (now (args .tables)) (pages .page) (w .4 .place) (w .6 .result) (w .9 .f) (w .1 .result) (w .11 .result) (w .12 .result) (w .13 .result) (w .6 .ensures) (w .1 .ensures) (w .11 .ensures) (w .12 .ensures) (w .13 .ensures) (w .3 .ensures ∙ w .2 .ensures) (w .8 .ensures ∙ ap (λ (h : ℕ). h / 16) (w .7 .ensures)) (w .4 .inv .1) (w .9 .inv .1) (w .5 .taken) (w .10 .taken)) (w .14 .taken) in
+    says-more (c .pages-test .n) (crossingTo (args .p) (now (args .cells)) (now (args .tables)) (256 * args .p .pages)) (args .entries) (omega (arith, w .15 .taken, w .16)) (omega (arith, w .15 .taken, w .9 .inv .4)))
     (c .pages-test .came)
 
 pub as-many-cross-spec : {M : Type 1} → statement M

@@ -24,7 +24,10 @@ place-of-requires : tie.Need-place-of-requires
 place-of-requires c κs = search needs
 
 returns : tie.Need-returns
-returns c = cross-unused (c .before .before .before .before .before .before .before .before .args .p) (now (c .before .before .before .before .before .before .before .before .args .cells)) (now (c .before .before .before .before .before .before .before .before .args .tables)) (c .before .before .before .before .before .before .before .before .args .at) (c .before .before .before .before .before .cell-of .result) (c .before .before .before .before .before .cell-of .ensures) (c .before .before .before .before .page-of .ensures) (c .before .place-of .ensures) (c .before .before .wide .ensures ∙ c .before .before .before .used .ensures) (c .if1 .taken)
+returns c =
+    let args = c .before .before .before .before .before .before .before .before .args in
+    let cell-of = c .before .before .before .before .before .cell-of in
+    cross-unused (args .p) (now (args .cells)) (now (args .tables)) (args .at) (cell-of .result) (cell-of .ensures) (c .before .before .before .before .page-of .ensures) (c .before .place-of .ensures) (c .before .before .wide .ensures ∙ c .before .before .before .used .ensures) (c .if1 .taken)
 
 head-requires : tie.Need-head-requires
 head-requires c κs = search needs
@@ -36,7 +39,10 @@ is-reference-requires : tie.Need-is-reference-requires
 is-reference-requires c κs = search needs
 
 returns-2 : tie.Need-returns-2
-returns-2 c = cross-other (c .before .before .before .before .before .before .before .before .before .before .before .before .args .p) (now (c .before .before .before .before .before .before .before .before .before .before .before .before .args .cells)) (now (c .before .before .before .before .before .before .before .before .before .before .before .before .args .tables)) (c .before .before .before .before .before .before .before .before .before .before .before .before .args .at) (c .before .before .before .before .before .before .before .before .before .cell-of .result) (c .before .before .before .before .before .before .before .before .before .cell-of .ensures) (c .before .before .word-of .ensures) (c .before .before .before .head .ensures) (said-no _ (c .before .is-reference .ensures) (not-true _ (c .if2 .taken)))
+returns-2 c =
+    let args = c .before .before .before .before .before .before .before .before .before .before .before .before .args in
+    let cell-of = c .before .before .before .before .before .before .before .before .before .cell-of in
+    cross-other (args .p) (now (args .cells)) (now (args .tables)) (args .at) (cell-of .result) (cell-of .ensures) (c .before .before .word-of .ensures) (c .before .before .before .head .ensures) (said-no _ (c .before .is-reference .ensures) (not-true _ (c .if2 .taken)))
 
 owner-requires : tie.Need-owner-requires
 owner-requires c κs = search needs
@@ -55,7 +61,9 @@ other-region-requires c κs = search needs
 
 returns-3 : tie.Need-returns-3
 returns-3 c =
-    cross-slot (c .before .before .before .before .before .before .before .before .before .before .before .before .before .before .before .before .args .p) (now (c .before .before .before .before .before .before .before .before .before .before .before .before .before .before .before .before .args .cells)) (now (c .before .before .before .before .before .before .before .before .before .before .before .before .before .before .before .before .args .tables)) (c .before .before .before .before .before .before .before .before .before .before .before .before .before .before .before .before .args .at) (c .before .before .before .before .before .before .before .before .before .before .before .before .before .cell-of .result) (c .before .before .before .before .before .before .before .before .before .before .before .before .before .cell-of .ensures) (c .before .before .before .before .before .before .before .before .before .before .before .before .page-of .ensures) (c .before .before .before .before .before .before .before .before .before .place-of .ensures) (c .before .before .before .before .before .before .before .before .before .before .wide .ensures ∙ c .before .before .before .before .before .before .before .before .before .before .before .used .ensures) (c .before .before .before .before .before .before .word-of .ensures) (c .before .before .before .before .before .before .before .head .ensures)
+    let args = c .before .before .before .before .before .before .before .before .before .before .before .before .before .before .before .before .args in
+    let cell-of = c .before .before .before .before .before .before .before .before .before .before .before .before .before .cell-of in
+    cross-slot (args .p) (now (args .cells)) (now (args .tables)) (args .at) (cell-of .result) (cell-of .ensures) (c .before .before .before .before .before .before .before .before .before .before .before .before .page-of .ensures) (c .before .before .before .before .before .before .before .before .before .place-of .ensures) (c .before .before .before .before .before .before .before .before .before .before .wide .ensures ∙ c .before .before .before .before .before .before .before .before .before .before .before .used .ensures) (c .before .before .before .before .before .before .word-of .ensures) (c .before .before .before .before .before .before .before .head .ensures)
     (c .before .before .before .owner .ensures) (c .before .region-of .ensures) (c .other-region .ensures) (c .before .before .before .before .before .before .before .before .if1 .left) (c .before .before .before .before .before .is-reference .ensures .0 (not-false _ (c .before .before .before .before .if2 .left)))
 
 pub cross-to-spec : {M : Type 1} → statement M

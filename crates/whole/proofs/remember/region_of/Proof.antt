@@ -6,7 +6,9 @@ use Rattle.whole.proofs.remember.region_of.Statement.{statement}
 use Rattle.whole.proofs.remember.region_of.Tie as tie
 
 returns : tie.Need-returns
-returns c = region-null (c .before .before .args .p) (now (c .before .before .args .tables)) (c .before .before .args .x) (c .if1 .taken)
+returns c =
+    let args = c .before .before .args in
+    region-null (args .p) (now (args .tables)) (args .x) (c .if1 .taken)
 
 cell-named-requires : tie.Need-cell-named-requires
 cell-named-requires c κs = search needs
@@ -15,13 +17,17 @@ page-of-requires : tie.Need-page-of-requires
 page-of-requires c κs = search needs
 
 returns-2 : tie.Need-returns-2
-returns-2 c = region-out (c .before .before .before .before .before .before .args .p) (now (c .before .before .before .before .before .before .args .tables)) (c .before .before .before .before .before .before .args .x) (c .before .before .before .before .if1 .left) (c .before .before .before .cell-named .ensures) (c .before .before .page-of .ensures) (c .if2 .taken)
+returns-2 c =
+    let args = c .before .before .before .before .before .before .args in
+    region-out (args .p) (now (args .tables)) (args .x) (c .before .before .before .before .if1 .left) (c .before .before .before .cell-named .ensures) (c .before .before .page-of .ensures) (c .if2 .taken)
 
 owner-requires : tie.Need-owner-requires
 owner-requires c κs = search needs
 
 returns-3 : tie.Need-returns-3
-returns-3 c = region-there (c .before .before .before .before .before .before .before .args .p) (now (c .before .before .before .before .before .before .before .args .tables)) (c .before .before .before .before .before .before .before .args .x) (c .before .before .before .before .before .if1 .left) (c .before .before .before .before .cell-named .ensures) (c .before .before .before .page-of .ensures) (c .before .if2 .left) (c .owner .ensures)
+returns-3 c =
+    let args = c .before .before .before .before .before .before .before .args in
+    region-there (args .p) (now (args .tables)) (args .x) (c .before .before .before .before .before .if1 .left) (c .before .before .before .before .cell-named .ensures) (c .before .before .before .page-of .ensures) (c .before .if2 .left) (c .owner .ensures)
 
 pub region-of-spec : {M : Type 1} → statement M
 region-of-spec =

@@ -10,7 +10,9 @@ use Rattle.whole.proofs.remember.remember_whole.Statement.{statement}
 use Rattle.whole.proofs.remember.remember_whole.Tie as tie
 
 entries-whole-requires : tie.Need-entries-whole-requires
-entries-whole-requires c κs = (c .before .before .before .pre .0, (c .before .before .before .pre .1 .0, c .before .before .before .pre .1 .1 .0))
+entries-whole-requires c κs =
+    let pre = c .before .before .before .pre in
+    (pre .0, (pre .1 .0, pre .1 .1 .0))
 
 returns : tie.Need-returns
 returns c = says-no (λ h. said-no _ (c .before .entries-whole .ensures) (not-true _ (c .if1 .taken)) (h .entries))
@@ -22,13 +24,19 @@ wide-requires : tie.Need-wide-requires
 wide-requires c κs = search needs
 
 as-many-cross-requires : tie.Need-as-many-cross-requires
-as-many-cross-requires c κs = (c .before .before .before .before .before .before .before .pre .0, (c .before .before .before .before .before .before .before .pre .1 .0, (c .before .before .before .before .before .before .before .pre .1 .1 .1 .0, (c .before .before .before .before .before .before .before .pre .1 .1 .1 .1, omega (arith, c .wide .ensures, c .before .used .ensures, c .before .before .before .before .before .before .before .pre .0 .entries-high, (c .before .before .before .entries-whole .ensures .0 (not-false _ (c .before .before .if1 .left))) .room)))))
+as-many-cross-requires c κs =
+    let pre = c .before .before .before .before .before .before .before .pre in
+    (pre .0, (pre .1 .0, (pre .1 .1 .1 .0, (pre .1 .1 .1 .1, omega (arith, c .wide .ensures, c .before .used .ensures, pre .0 .entries-high, (c .before .before .before .entries-whole .ensures .0 (not-false _ (c .before .before .if1 .left))) .room)))))
 
 returns-2 : tie.Need-returns-2
-returns-2 c = says-no (λ h. said-no _ (c .before .as-many-cross .ensures) (not-true _ (c .if2 .taken)) (every-counted (c .before .before .before .before .before .before .before .before .before .args .p) (now (c .before .before .before .before .before .before .before .before .before .args .cells)) (now (c .before .before .before .before .before .before .before .before .before .args .remember)) (now (c .before .before .before .before .before .before .before .before .before .args .tables)) (h .entries) h ∙ sym (c .before .before .wide .ensures ∙ c .before .before .before .used .ensures)))
+returns-2 c =
+    let args = c .before .before .before .before .before .before .before .before .before .args in
+    says-no (λ h. said-no _ (c .before .as-many-cross .ensures) (not-true _ (c .if2 .taken)) (every-counted (args .p) (now (args .cells)) (now (args .remember)) (now (args .tables)) (h .entries) h ∙ sym (c .before .before .wide .ensures ∙ c .before .before .before .used .ensures)))
 
 returns-3 : tie.Need-returns-3
-returns-3 c = says-yes (counted-every (c .before .before .before .before .before .before .before .before .before .args .p) (now (c .before .before .before .before .before .before .before .before .before .args .cells)) (now (c .before .before .before .before .before .before .before .before .before .args .remember)) (now (c .before .before .before .before .before .before .before .before .before .args .tables)) (c .before .before .before .before .before .entries-whole .ensures .0 (not-false _ (c .before .before .before .before .if1 .left))) (c .before .as-many-cross .ensures .0 (not-false _ (c .if2 .left)) ∙ (c .before .before .wide .ensures ∙ c .before .before .before .used .ensures)))
+returns-3 c =
+    let args = c .before .before .before .before .before .before .before .before .before .args in
+    says-yes (counted-every (args .p) (now (args .cells)) (now (args .remember)) (now (args .tables)) (c .before .before .before .before .before .entries-whole .ensures .0 (not-false _ (c .before .before .before .before .if1 .left))) (c .before .as-many-cross .ensures .0 (not-false _ (c .if2 .left)) ∙ (c .before .before .wide .ensures ∙ c .before .before .before .used .ensures)))
 
 pub remember-whole-spec : {M : Type 1} → statement M
 remember-whole-spec =

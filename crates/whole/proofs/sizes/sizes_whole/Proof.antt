@@ -52,15 +52,17 @@ returns-7 : tie.Need-returns-7
 returns-7 c = says-no (λ h. omega (arith, h .tables, ap tablesWords (c .before .before .before .before .before .before .before .before .before .before .before .before .read-sizes .ensures)))
 
 returns-8 : tie.Need-returns-8
-returns-8 c = says-yes (record {
-  sized = omega arith;
-  counted = omega arith;
-  range = rw (c .before .before .before .before .before .before .before .before .before .before .before .before .read-sizes .ensures) at (c .before .before .before .before .before .before .before .before .before .before .before .in-range .ensures .0 (not-false _ (c .before .before .before .before .before .before .before .before .before .before .if3 .left)));
-  same = omega (arith, ap (λ (s : Sizes). s .entries) (c .before .before .before .before .before .before .before .before .before .before .before .before .read-sizes .ensures));
-  cells = omega (arith, ap (λ (s : Sizes). s .pages) (c .before .before .before .before .before .before .before .before .before .before .before .before .read-sizes .ensures));
-  remember = omega (arith, ap (λ (s : Sizes). s .entries) (c .before .before .before .before .before .before .before .before .before .before .before .before .read-sizes .ensures));
-  tables = omega (arith, ap tablesWords (c .before .before .before .before .before .before .before .before .before .before .before .before .read-sizes .ensures));
-})
+returns-8 c =
+    let read-sizes = c .before .before .before .before .before .before .before .before .before .before .before .before .read-sizes in
+    says-yes (record {
+      sized = omega arith;
+      counted = omega arith;
+      range = rw (read-sizes .ensures) at (c .before .before .before .before .before .before .before .before .before .before .before .in-range .ensures .0 (not-false _ (c .before .before .before .before .before .before .before .before .before .before .if3 .left)));
+      same = omega (arith, ap (λ (s : Sizes). s .entries) (read-sizes .ensures));
+      cells = omega (arith, ap (λ (s : Sizes). s .pages) (read-sizes .ensures));
+      remember = omega (arith, ap (λ (s : Sizes). s .entries) (read-sizes .ensures));
+      tables = omega (arith, ap tablesWords (read-sizes .ensures));
+    })
 
 pub sizes-whole-spec : {M : Type 1} → statement M
 sizes-whole-spec =

@@ -35,7 +35,9 @@ is-ref-requires : tie.Need-is-ref-requires Inv-loop μ-loop
 is-ref-requires c κs = search needs
 
 returns : tie.Need-returns Inv-loop μ-loop
-returns c = says-no (λ h. said-no _ (c .before .is-ref .ensures) (not-true _ (c .if1 .taken)) (subst (λ (x : ℕ). IsRef (c .before .before .before .before .before .before .before .args .p) (now (c .before .before .before .before .before .before .before .args .tables)) x) (sym (c .before .before .var .ensures)) (h (c .before .before .before .before .loop .i) (omega (arith, c .before .before .before .before .before .var-count .ensures, c .before .before .before .loop-test .taken)))))
+returns c =
+    let args = c .before .before .before .before .before .before .before .args in
+    says-no (λ h. said-no _ (c .before .is-ref .ensures) (not-true _ (c .if1 .taken)) (subst (λ (x : ℕ). IsRef (args .p) (now (args .tables)) x) (sym (c .before .before .var .ensures)) (h (c .before .before .before .before .loop .i) (omega (arith, c .before .before .before .before .before .var-count .ensures, c .before .before .before .loop-test .taken)))))
 
 add-i : tie.Need-add-i Inv-loop μ-loop
 add-i c = omega arith
@@ -44,7 +46,9 @@ loop-less : tie.Need-loop-less Inv-loop μ-loop
 loop-less c = omega arith
 
 loop-again : tie.Need-loop-again Inv-loop μ-loop
-loop-again c = (omega arith, below-more _ _ (c .before .before .before .before .loop .inv .1) (subst (λ (x : ℕ). IsRef (c .before .before .before .before .before .before .before .args .p) (now (c .before .before .before .before .before .before .before .args .tables)) x) (c .before .before .var .ensures) (c .before .is-ref .ensures .0 (not-false _ (c .if1 .left)))))
+loop-again c =
+    let args = c .before .before .before .before .before .before .before .args in
+    (omega arith, below-more _ _ (c .before .before .before .before .loop .inv .1) (subst (λ (x : ℕ). IsRef (args .p) (now (args .tables)) x) (c .before .before .var .ensures) (c .before .is-ref .ensures .0 (not-false _ (c .if1 .left)))))
 
 returns-2 : tie.Need-returns-2 Inv-loop μ-loop
 returns-2 c = says-yes (λ k l. c .before .loop .inv .1 k (omega arith))
