@@ -21,7 +21,21 @@ fn say(name: &[u8], accepted: bool) {
     }
 }
 
-// What prepare leaves for T 2, V 2, D 2, P 2, N 2, and for the smallest sizes; and slices that are a word too short, or empty.
+// Changes are pairs: a position, and the word that it becomes.
+fn change(words: &mut [u32], changes: &[u32]) {
+    let mut i: usize = 0;
+    while i + 1 < changes.len() {
+        put(words, layout::wide(changes[i]), changes[i + 1]);
+        i += 2;
+    }
+}
+
+// Checks the tables and writes the line.
+fn check(name: &[u8], cells: &[u32], remember: &[u32], tables: &[u32]) {
+    say(name, whole::whole(cells, remember, tables));
+}
+
+// What prepare leaves for T 2, V 2, D 2, P 2, N 2; and slices that are a word too short, or empty.
 fn fresh() {
     let cells = [0u32; 512];
     let remember: [u32; 6] = [2, 0, 0, 0, 0, 0];
@@ -49,50 +63,21 @@ fn fresh() {
         0,
         0,
     ];
-    say(b"fresh", whole::whole(&cells, &remember, &tables));
-    say(
-        b"cells too short",
-        whole::whole(&cells[..511], &remember, &tables),
-    );
-    say(
-        b"remember table too short",
-        whole::whole(&cells, &remember[..5], &tables),
-    );
-    say(
-        b"tables too short",
-        whole::whole(&cells, &remember, &tables[..21]),
-    );
-    say(
-        b"tables without sizes",
-        whole::whole(&cells, &remember, &tables[..4]),
-    );
-    say(
-        b"remember table without N",
-        whole::whole(&cells, &remember[..0], &tables),
-    );
-    say(
-        b"no words",
-        whole::whole(&cells[..0], &remember[..0], &tables[..0]),
-    );
+    check(b"fresh", &cells, &remember, &tables);
+    check(b"cells too short", &cells[..511], &remember, &tables);
+    check(b"remember table too short", &cells, &remember[..5], &tables);
+    check(b"tables too short", &cells, &remember, &tables[..21]);
+    check(b"tables without sizes", &cells, &remember, &tables[..4]);
+    check(b"remember table without N", &cells, &remember[..0], &tables);
+    check(b"no words", &cells[..0], &remember[..0], &tables[..0]);
 }
 
+// What prepare leaves for the smallest sizes.
 fn smallest() {
     let cells = [0u32; 256];
     let remember: [u32; 2] = [0, 0];
     let tables: [u32; 12] = [1, 1, 1, 1, 0, 0, 0, 0, 0, 0, 0, 0];
-    say(
-        b"fresh and smallest",
-        whole::whole(&cells, &remember, &tables),
-    );
-}
-
-// Changes are pairs: a position, and the word that it becomes.
-fn change(words: &mut [u32], changes: &[u32]) {
-    let mut i: usize = 0;
-    while i + 1 < changes.len() {
-        put(words, layout::wide(changes[i]), changes[i + 1]);
-        i += 2;
-    }
+    check(b"fresh and smallest", &cells, &remember, &tables);
 }
 
 // The heap in use: T 2, V 2, D 2, P 4, N 2. Thread 0 has one epoch open, so region 2 is open. Page 0 is the control space's: cell 0 has
@@ -139,31 +124,42 @@ fn attempt(name: &[u8], cells_changes: &[u32], remember_changes: &[u32], tables_
     change(&mut cells, cells_changes);
     change(&mut remember, remember_changes);
     change(&mut tables, tables_changes);
-    say(name, whole::whole(&cells, &remember, &tables));
+    check(name, &cells, &remember, &tables);
 }
 
-// Sizes in range, and N the same in both places.
-fn sizes() {
+// Sizes in range.
+fn threads() {
     attempt(b"in use", &[], &[], &[]);
     attempt(b"no thread", &[], &[], &[0, 0]);
     attempt(b"17 threads", &[], &[], &[0, 17]);
     attempt(b"4294967295 threads", &[], &[], &[0, 4294967295]);
+}
+
+fn variables_and_levels() {
     attempt(b"no variable", &[], &[], &[1, 0]);
     attempt(b"33 variables", &[], &[], &[1, 33]);
     attempt(b"no level", &[], &[], &[2, 0]);
     attempt(b"9 levels", &[], &[], &[2, 9]);
+}
+
+// Pages and entries, and N the same in both places.
+fn pages_and_entries() {
     attempt(b"no page", &[], &[], &[3, 0]);
     attempt(b"1025 pages", &[], &[], &[3, 1025]);
     attempt(b"4097 entries", &[], &[0, 4097], &[4, 4097]);
     attempt(b"another N in the remember table", &[], &[0, 3], &[]);
 }
 
-// Depths, pages, partly filled pages, object counts and working words of pages.
-fn pages() {
+// Depths, and the owners of pages.
+fn owners() {
     attempt(b"a depth above D", &[], &[], &[6, 3]);
     attempt(b"a page of a closed region", &[], &[], &[5, 0]);
     attempt(b"a page of no region", &[], &[], &[12, 6]);
     attempt(b"a used page without cells", &[], &[], &[13, 1]);
+}
+
+// Cells in use on a page, and partly filled pages.
+fn used() {
     attempt(b"a page of 17 cells", &[], &[], &[15, 17, 23, 17]);
     attempt(b"a free page with a cell", &[], &[], &[17, 1]);
     attempt(b"two partly filled pages", &[], &[], &[13, 1, 17, 1, 23, 3]);
@@ -173,22 +169,36 @@ fn pages() {
         &[],
         &[13, 1, 15, 16, 17, 1, 23, 17],
     );
+}
+
+// Object counts, and working words of pages.
+fn counts() {
     attempt(b"an object too many", &[], &[], &[23, 3]);
     attempt(b"an object in a closed region", &[], &[], &[27, 1]);
     attempt(b"a working word of a page", &[], &[], &[22, 1]);
 }
 
-// References, and the form and the working word of cells in use.
-fn references() {
+// References.
+fn variables() {
     attempt(b"a variable of a cell not in use", &[], &[], &[9, 3]);
     attempt(b"a variable of a free page", &[], &[], &[9, 33]);
     attempt(b"a variable past the cells", &[], &[], &[10, 65]);
     attempt(b"a variable 4294967295", &[], &[], &[10, 4294967295]);
+}
+
+fn references() {
     attempt(b"a reference to a cell not in use", &[258, 3], &[], &[]);
     attempt(b"a reference 4294967295", &[258, 4294967295], &[], &[]);
+}
+
+// The form of cells in use, and their working words.
+fn fields() {
     attempt(b"15 fields", &[16, 240], &[], &[]);
     attempt(b"14 fields", &[16, 14], &[], &[]);
     attempt(b"word 0 of 4294967295", &[16, 4294967295], &[], &[]);
+}
+
+fn words() {
     attempt(b"a word after the fields", &[4, 1], &[], &[]);
     attempt(b"any number", &[3, 4294967295], &[], &[]);
     attempt(b"a working word of a cell", &[17, 1], &[], &[]);
@@ -196,7 +206,7 @@ fn references() {
 }
 
 // The remember table.
-fn remember() {
+fn entries_used() {
     attempt(
         b"a crossing slot that no entry names",
         &[],
@@ -205,6 +215,9 @@ fn remember() {
     );
     attempt(b"more entries used than there are", &[], &[1, 3], &[]);
     attempt(b"an entry twice", &[], &[1, 2, 3, 2, 5, 2], &[]);
+}
+
+fn entries() {
     attempt(b"an entry with the wrong region", &[], &[4, 3], &[]);
     attempt(
         b"an entry for a slot that does not cross",
@@ -214,8 +227,14 @@ fn remember() {
     );
     attempt(b"an entry for a number", &[], &[2, 3], &[]);
     attempt(b"an entry past the cells", &[], &[2, 4294967295], &[]);
+}
+
+fn entries_not_used() {
     attempt(b"a slot in an entry not used", &[], &[3, 7], &[]);
     attempt(b"a region in an entry not used", &[], &[5, 2], &[]);
+}
+
+fn two_crossing_slots() {
     attempt(
         b"two crossing slots",
         &[16, 16, 18, 17],
@@ -239,8 +258,18 @@ fn remember() {
 fn main() {
     fresh();
     smallest();
-    sizes();
-    pages();
+    threads();
+    variables_and_levels();
+    pages_and_entries();
+    owners();
+    used();
+    counts();
+    variables();
     references();
-    remember();
+    fields();
+    words();
+    entries_used();
+    entries();
+    entries_not_used();
+    two_crossing_slots();
 }
