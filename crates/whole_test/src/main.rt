@@ -1,7 +1,9 @@
 // Runs the check of lent tables on fresh tables, on tables of a heap in use and on damaged ones, one damage or more for each condition
 // of 01's paragraph on whole tables, and writes a line for each.
+ghost use Prim.Native.Nat.{_/_};
 ghost use mathlib.Core.Path.{_≡_};
-ghost use lib.ListN.{set};
+ghost use lib.ListN.{length, set};
+ghost use Rattle.whole_test.specs.Changed.{changed};
 
 // Word `at` becomes x, where there is such a word.
 fn put(words: &mut [u32], at: usize, x: u32)
@@ -22,11 +24,14 @@ fn say(name: &[u8], accepted: bool) {
 }
 
 // Changes are pairs: a position, and the word that it becomes.
-fn change(words: &mut [u32], changes: &[u32]) {
+fn change(words: &mut [u32], changes: &[u32])
+    ensures { λ _. ⌜ now (words .exit) ≡ changed (now (words .entry)) (now (changes .entry)) (length (now (changes .entry)) / 2) ⌝ }
+{
+    let n = changes.len() / 2;
     let mut i: usize = 0;
-    while i + 1 < changes.len() {
-        put(words, layout::wide(changes[i]), changes[i + 1]);
-        i += 2;
+    while i < n {
+        put(words, layout::wide(changes[2 * i]), changes[2 * i + 1]);
+        i += 1;
     }
 }
 
@@ -127,111 +132,115 @@ fn attempt(name: &[u8], cells_changes: &[u32], remember_changes: &[u32], tables_
     check(name, &cells, &remember, &tables);
 }
 
+// Changes of one of the three.
+fn attempt_cells(name: &[u8], changes: &[u32]) {
+    attempt(name, changes, &[], &[]);
+}
+
+fn attempt_remember(name: &[u8], changes: &[u32]) {
+    attempt(name, &[], changes, &[]);
+}
+
+fn attempt_tables(name: &[u8], changes: &[u32]) {
+    attempt(name, &[], &[], changes);
+}
+
 // Sizes in range.
 fn threads() {
-    attempt(b"in use", &[], &[], &[]);
-    attempt(b"no thread", &[], &[], &[0, 0]);
-    attempt(b"17 threads", &[], &[], &[0, 17]);
-    attempt(b"4294967295 threads", &[], &[], &[0, 4294967295]);
+    attempt_tables(b"in use", &[]);
+    attempt_tables(b"no thread", &[0, 0]);
+    attempt_tables(b"17 threads", &[0, 17]);
+    attempt_tables(b"4294967295 threads", &[0, 4294967295]);
 }
 
 fn variables_and_levels() {
-    attempt(b"no variable", &[], &[], &[1, 0]);
-    attempt(b"33 variables", &[], &[], &[1, 33]);
-    attempt(b"no level", &[], &[], &[2, 0]);
-    attempt(b"9 levels", &[], &[], &[2, 9]);
+    attempt_tables(b"no variable", &[1, 0]);
+    attempt_tables(b"33 variables", &[1, 33]);
+    attempt_tables(b"no level", &[2, 0]);
+    attempt_tables(b"9 levels", &[2, 9]);
 }
 
 // Pages and entries, and N the same in both places.
 fn pages_and_entries() {
-    attempt(b"no page", &[], &[], &[3, 0]);
-    attempt(b"1025 pages", &[], &[], &[3, 1025]);
+    attempt_tables(b"no page", &[3, 0]);
+    attempt_tables(b"1025 pages", &[3, 1025]);
     attempt(b"4097 entries", &[], &[0, 4097], &[4, 4097]);
-    attempt(b"another N in the remember table", &[], &[0, 3], &[]);
+    attempt_remember(b"another N in the remember table", &[0, 3]);
 }
 
 // Depths, and the owners of pages.
 fn owners() {
-    attempt(b"a depth above D", &[], &[], &[6, 3]);
-    attempt(b"a page of a closed region", &[], &[], &[5, 0]);
-    attempt(b"a page of no region", &[], &[], &[12, 6]);
-    attempt(b"a used page without cells", &[], &[], &[13, 1]);
+    attempt_tables(b"a depth above D", &[6, 3]);
+    attempt_tables(b"a page of a closed region", &[5, 0]);
+    attempt_tables(b"a page of no region", &[12, 6]);
+    attempt_tables(b"a used page without cells", &[13, 1]);
 }
 
 // Cells in use on a page, and partly filled pages.
 fn used() {
-    attempt(b"a page of 17 cells", &[], &[], &[15, 17, 23, 17]);
-    attempt(b"a free page with a cell", &[], &[], &[17, 1]);
-    attempt(b"two partly filled pages", &[], &[], &[13, 1, 17, 1, 23, 3]);
-    attempt(
+    attempt_tables(b"a page of 17 cells", &[15, 17, 23, 17]);
+    attempt_tables(b"a free page with a cell", &[17, 1]);
+    attempt_tables(b"two partly filled pages", &[13, 1, 17, 1, 23, 3]);
+    attempt_tables(
         b"a full page and a partly filled one",
-        &[],
-        &[],
         &[13, 1, 15, 16, 17, 1, 23, 17],
     );
 }
 
 // Object counts, and working words of pages.
 fn counts() {
-    attempt(b"an object too many", &[], &[], &[23, 3]);
-    attempt(b"an object in a closed region", &[], &[], &[27, 1]);
-    attempt(b"a working word of a page", &[], &[], &[22, 1]);
+    attempt_tables(b"an object too many", &[23, 3]);
+    attempt_tables(b"an object in a closed region", &[27, 1]);
+    attempt_tables(b"a working word of a page", &[22, 1]);
 }
 
 // References.
 fn variables() {
-    attempt(b"a variable of a cell not in use", &[], &[], &[9, 3]);
-    attempt(b"a variable of a free page", &[], &[], &[9, 33]);
-    attempt(b"a variable past the cells", &[], &[], &[10, 65]);
-    attempt(b"a variable 4294967295", &[], &[], &[10, 4294967295]);
+    attempt_tables(b"a variable of a cell not in use", &[9, 3]);
+    attempt_tables(b"a variable of a free page", &[9, 33]);
+    attempt_tables(b"a variable past the cells", &[10, 65]);
+    attempt_tables(b"a variable 4294967295", &[10, 4294967295]);
 }
 
 fn references() {
-    attempt(b"a reference to a cell not in use", &[258, 3], &[], &[]);
-    attempt(b"a reference 4294967295", &[258, 4294967295], &[], &[]);
+    attempt_cells(b"a reference to a cell not in use", &[258, 3]);
+    attempt_cells(b"a reference 4294967295", &[258, 4294967295]);
 }
 
 // The form of cells in use, and their working words.
 fn fields() {
-    attempt(b"15 fields", &[16, 240], &[], &[]);
-    attempt(b"14 fields", &[16, 14], &[], &[]);
-    attempt(b"word 0 of 4294967295", &[16, 4294967295], &[], &[]);
+    attempt_cells(b"15 fields", &[16, 240]);
+    attempt_cells(b"14 fields", &[16, 14]);
+    attempt_cells(b"word 0 of 4294967295", &[16, 4294967295]);
 }
 
 fn words() {
-    attempt(b"a word after the fields", &[4, 1], &[], &[]);
-    attempt(b"any number", &[3, 4294967295], &[], &[]);
-    attempt(b"a working word of a cell", &[17, 1], &[], &[]);
-    attempt(b"words of cells not in use", &[32, 999, 600, 5], &[], &[]);
+    attempt_cells(b"a word after the fields", &[4, 1]);
+    attempt_cells(b"any number", &[3, 4294967295]);
+    attempt_cells(b"a working word of a cell", &[17, 1]);
+    attempt_cells(b"words of cells not in use", &[32, 999, 600, 5]);
 }
 
 // The remember table.
 fn entries_used() {
-    attempt(
-        b"a crossing slot that no entry names",
-        &[],
-        &[1, 0, 2, 0, 4, 0],
-        &[],
-    );
-    attempt(b"more entries used than there are", &[], &[1, 3], &[]);
-    attempt(b"an entry twice", &[], &[1, 2, 3, 2, 5, 2], &[]);
+    attempt_remember(b"a crossing slot that no entry names", &[1, 0, 2, 0, 4, 0]);
+    attempt_remember(b"more entries used than there are", &[1, 3]);
+    attempt_remember(b"an entry twice", &[1, 2, 3, 2, 5, 2]);
 }
 
 fn entries() {
-    attempt(b"an entry with the wrong region", &[], &[4, 3], &[]);
-    attempt(
+    attempt_remember(b"an entry with the wrong region", &[4, 3]);
+    attempt_remember(
         b"an entry for a slot that does not cross",
-        &[],
         &[1, 2, 3, 258, 5, 1],
-        &[],
     );
-    attempt(b"an entry for a number", &[], &[2, 3], &[]);
-    attempt(b"an entry past the cells", &[], &[2, 4294967295], &[]);
+    attempt_remember(b"an entry for a number", &[2, 3]);
+    attempt_remember(b"an entry past the cells", &[2, 4294967295]);
 }
 
 fn entries_not_used() {
-    attempt(b"a slot in an entry not used", &[], &[3, 7], &[]);
-    attempt(b"a region in an entry not used", &[], &[5, 2], &[]);
+    attempt_remember(b"a slot in an entry not used", &[3, 7]);
+    attempt_remember(b"a region in an entry not used", &[5, 2]);
 }
 
 fn two_crossing_slots() {
