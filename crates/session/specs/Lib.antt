@@ -2,6 +2,7 @@
 
 -- definitions: what must be read
 pub mod Printed
+pub mod Examples
 pub mod Pieces
 pub mod Stages
 -- from what the callees promise to each stage
