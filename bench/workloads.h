@@ -1,0 +1,48 @@
+/* The streams of commands that both heaps obey, each from a fixed seed. */
+#ifndef WORKLOADS_H
+#define WORKLOADS_H
+
+#include <stddef.h>
+#include <stdint.h>
+
+#include "import.h"
+
+typedef struct {
+    uint32_t *words;
+    size_t commands, room;
+} Stream;
+
+typedef struct {
+    const char *name;
+    uint32_t threads, variables, depth, pages, entries;
+    Stream before, timed;
+    size_t block;           /* commands in a block of the timed stream */
+} Workload;
+
+typedef enum { BACKWARDS, FORWARDS } Links;
+
+void free_workload(Workload *w);
+
+/* The import, and what it ends with. */
+Workload import_commands(const char *name, size_t block, Imported *imported);
+
+/* Makes a list of objects in one epoch; timed. */
+Workload make_list(const char *name, uint32_t objects, Links links);
+/* Ends an epoch with a list of which so many survive, in a heap of so many pages; only the end is timed. */
+Workload end_list(const char *name, uint32_t pages, uint32_t objects, uint32_t survivors, Links links);
+/* Ends fifteen epochs of 480 objects, of which few or many survive; only the ends are timed. */
+Workload end_fifteen(const char *name, int many);
+/* Starts and ends 500 epochs with nothing in them. */
+Workload end_empty(const char *name, uint32_t pages);
+/* Ends an epoch of one page, of which one object survives, in a heap of so many pages, the others free or nearly all in use. */
+Workload end_page(const char *name, uint32_t pages, int filled);
+
+/* Stores that cross or do not, with so many entries already in the remember table. */
+Workload stores(const char *name, int crossing, uint32_t entries);
+Workload new_objects(const char *name, uint32_t pages);
+/* Loads, reads and comparisons along random links between so many objects. */
+Workload loads(const char *name, uint32_t pages, uint32_t objects, size_t block);
+/* An empty block, so nothing but the check, on so many objects and so many entries. */
+Workload check(const char *name, uint32_t objects, uint32_t entries);
+
+#endif
