@@ -1,5 +1,6 @@
 /* Runs every workload on our heap and on the hand-written one, interleaved, and prints nanoseconds a command and the ratio. Every answer word
- * of every timed run is compared, and the tables at the end; a difference stops the program. */
+ * of every timed run is compared, and the tables after it; a difference stops the program. For bench/counts the
+ * command line may name one row, which is then run once. */
 #define _POSIX_C_SOURCE 199309L
 #include <stdio.h>
 #include <stdlib.h>
@@ -12,7 +13,8 @@
 #include "workloads.h"
 
 enum { AT_LEAST = 9, AT_MOST = 301, BLOCK_BEFORE = 1000 };
-static const double LONG_ENOUGH = 1e8;      /* nanoseconds after which AT_LEAST runs are enough */
+static const double LONG_ENOUGH = 2e8;      /* nanoseconds after which AT_LEAST runs are enough */
+static const char *picked;
 
 typedef uint32_t (*Run)(uint32_t *, size_t, uint32_t *, size_t, uint32_t *, size_t, const uint32_t *, size_t, uint32_t *, size_t);
 
@@ -74,8 +76,8 @@ static void run_stream(Run run, Lent *l, const Stream *s, size_t block, uint32_t
     }
 }
 
-/* Nanoseconds for the timed stream; a stream of no command is one empty block. */
-static double time_stream(Run run, Lent *l, const Workload *w, uint32_t *answers) {
+/* Nanoseconds for the timed stream; a stream of no command is one empty block. Not inlined: bench/counts looks for its name. */
+__attribute__((noinline)) static double time_stream(Run run, Lent *l, const Workload *w, uint32_t *answers) {
     double from = now();
     if (w->timed.commands == 0) {
         if (run_block(run, l, NULL, 0, answers) != TALDREKU_DONE) stop(w->name, "a block was refused");
@@ -109,17 +111,19 @@ static void same_tables(const Workload *w, Lent *ours, Lent *plain) {
     if (!agree(ours, plain)) stop(w->name, "the tables differ");
 }
 
+/* Medians, in nanoseconds for the timed stream: our time, that of the checks in it, that by hand; and of by hand to ours, run by run, with the
+ * checks and without. */
 typedef struct {
-    double ours, checks, plain;     /* nanoseconds for the timed stream */
+    double ours, checks, plain, ratio, ratio_less;
 } Times;
 
-/* Medians of interleaved runs, each from the tables as the untimed stream left them. */
+/* Interleaved runs, each from the tables as the untimed stream left them. */
 static Times measure(const Workload *w) {
-    static double times[3][AT_MOST];
+    static double ours[AT_MOST], checks[AT_MOST], plain[AT_MOST], ratio[AT_MOST], ratio_less[AT_MOST];
     Lent kept[2] = {lend(w), lend(w)}, heap[2] = {lend(w), lend(w)};
     size_t most = w->before.commands > w->timed.commands ? w->before.commands : w->timed.commands, n = 0;
     uint32_t *answers[2] = {room(2 * most), room(2 * most)};
-    Run plain = w->timed.commands == 0 ? check_by_hand : plain_run;
+    Run by_hand = w->timed.commands == 0 ? check_by_hand : plain_run;
 
     if (taldreku_prepare(w->threads, w->variables, w->depth, w->pages, w->entries, kept[0].cells, kept[0].cells_words, kept[0].remember,
                          kept[0].remember_words, kept[0].tables, kept[0].tables_words) != TALDREKU_DONE
@@ -131,39 +135,42 @@ static Times measure(const Workload *w) {
     if (memcmp(answers[0], answers[1], 2 * w->before.commands * sizeof(uint32_t)) != 0) stop(w->name, "the answers differ before it is timed");
     same_tables(w, &kept[0], &kept[1]);
 
-    for (double spent = 0; n < AT_MOST && (n < AT_LEAST || spent < LONG_ENOUGH); n++) {
+    for (double spent = 0; n < (picked ? 1 : AT_MOST) && (n < AT_LEAST || spent < LONG_ENOUGH); n++) {
         memset(answers[0], 255, 2 * w->timed.commands * sizeof(uint32_t));
         memset(answers[1], 254, 2 * w->timed.commands * sizeof(uint32_t));
         for (int k = 0; k < 2; k++) {
-            int side = (int)(n + (size_t)k) % 2;
+            size_t side = (n + (size_t)k) % 2;
             restore(&heap[side], &kept[side]);
-            double t = time_stream(side == 0 ? taldreku_run : plain, &heap[side], w, answers[side]);
-            times[side == 0 ? 0 : 2][n] = t;
-            spent += t;
+            (side == 0 ? ours : plain)[n] = time_stream(side == 0 ? taldreku_run : by_hand, &heap[side], w, answers[side]);
         }
         if (memcmp(answers[0], answers[1], 2 * w->timed.commands * sizeof(uint32_t)) != 0) stop(w->name, "the answers differ");
         if (n == 0) same_tables(w, &heap[0], &heap[1]);
         restore(&heap[0], &kept[0]);
-        times[1][n] = time_checks(taldreku_run, &heap[0], w, answers[0]);
-        spent += times[1][n];
+        checks[n] = time_checks(taldreku_run, &heap[0], w, answers[0]);
+        ratio[n] = plain[n] / ours[n];
+        ratio_less[n] = plain[n] / (ours[n] - checks[n]);
+        spent += ours[n] + checks[n] + plain[n];
     }
     for (int side = 0; side < 2; side++) {
         give_back(&kept[side]);
         give_back(&heap[side]);
         free(answers[side]);
     }
-    return (Times){.ours = median(times[0], n), .checks = median(times[1], n), .plain = median(times[2], n)};
+    return (Times){.ours = median(ours, n), .checks = median(checks, n), .plain = median(plain, n), .ratio = median(ratio, n),
+                   .ratio_less = median(ratio_less, n)};
 }
 
-/* One row of the table. The last column leaves the check out of ours. */
+/* One row of the table. The last column leaves the checks out of ours, where they are not nearly all of it. */
 static Times row(Workload w) {
-    Times t = measure(&w);
-    double commands = w.timed.commands == 0 ? 1 : (double)w.timed.commands;
-    printf("| %s | %.0f | %.1f | %.1f | %.1f | %.2f |", w.name, commands, t.ours / commands, t.checks / commands, t.plain / commands,
-           t.plain / t.ours);
-    if (w.timed.commands == 0) printf(" |\n");
-    else printf(" %.2f |\n", t.plain / (t.ours - t.checks));
-    fflush(stdout);
+    Times t = {0};
+    if (!picked || strcmp(w.name, picked) == 0) {
+        t = measure(&w);
+        double commands = w.timed.commands == 0 ? 1 : (double)w.timed.commands;
+        printf("| %s | %.0f | %.1f | %.1f | %.1f | %.3f |", w.name, commands, t.ours / commands, t.checks / commands, t.plain / commands, t.ratio);
+        if (w.timed.commands == 0 || t.checks > 0.9 * t.ours) printf(" |\n");
+        else printf(" %.2f |\n", t.ratio_less);
+        fflush(stdout);
+    }
     free_workload(&w);
     return t;
 }
@@ -200,9 +207,9 @@ static void natural(const char *name, Imported (*import)(void), Imported wanted,
 
 static void by_heaps(void) {
     Imported imported;
-    printf("| workload | commands | ours, ns a command | of these the check | by hand | ratio | ratio less the check |\n|---|--:|--:|--:|--:|--:|--:|\n");
-    Times t = row(import_commands("import, blocks of 1,000", 1000, &imported));
-    row(import_commands("import, blocks of 5", 5, &imported));
+    printf("\n| workload | commands | ours, ns a command | of these the check | by hand | ratio | ratio less the check |\n|---|--:|--:|--:|--:|--:|--:|\n");
+    Times t = row(import_commands("import, blocks of 1,000", 1000, SHEETS, &imported));
+    row(import_commands("import of one sheet a thread, blocks of 5", 5, 1, &imported));
     row(end_fifteen("15 ends of 480 objects, few survive", 0));
     row(end_fifteen("15 ends of 480 objects, nine in ten survive", 1));
     row(end_empty("start and end of empty epochs, 1,024 pages", 1024));
@@ -225,7 +232,8 @@ static void by_heaps(void) {
     row(check("the check alone, 16,000 objects", 16000, 0));
     row(check("the check alone, 8,000 objects, 4,000 entries", 8000, 4000));
 
-    Workload w = import_commands("", 1000, &imported);
+    if (picked) return;
+    Workload w = import_commands("", 1000, SHEETS, &imported);
     double commands = (double)w.timed.commands;
     free_workload(&w);
     printf("\n| the import of %u objects, written on | ns an object | ns for what is a command above |\n|---|--:|--:|\n", imported.objects);
@@ -240,6 +248,7 @@ static void by_heaps(void) {
 }
 
 static void by_growth(void) {
+    if (picked) return;
     printf("\n| how the cost of an end grows, ns | ours, smaller | larger | growth | by hand, smaller | larger | growth |\n"
            "|---|--:|--:|--:|--:|--:|--:|\n");
     growth("a survivor, 160 to 1,600, 1,024 pages", end_list("", 1024, 160, 160, BACKWARDS), 160, end_list("", 1024, 1600, 1600, BACKWARDS), 1600);
@@ -252,7 +261,8 @@ static void by_growth(void) {
     growth("an end of one page, 32 to 1,024 pages, others in use", end_page("", 32, 1), 1, end_page("", 1024, 1), 1);
 }
 
-int main(void) {
+int main(int words, char **word) {
+    if (words == 2) picked = word[1];
     by_heaps();
     by_growth();
     return 0;

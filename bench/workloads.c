@@ -73,7 +73,7 @@ static void row(Stream *s, uint32_t *state, uint32_t thread, uint32_t sheet, uin
     imported->objects += 1 + WHEELS;
 }
 
-Workload import_commands(const char *name, size_t block, Imported *imported) {
+Workload import_commands(const char *name, size_t block, uint32_t sheets, Imported *imported) {
     Workload w = {.name = name, .threads = SHEET_THREADS + 1, .variables = 8, .depth = 2, .pages = 1024, .entries = 4096, .block = block};
     uint32_t state = IMPORT_SEED;
     Stream *s = &w.timed;
@@ -82,7 +82,7 @@ Workload import_commands(const char *name, size_t block, Imported *imported) {
         start(s, thread);
         make(s, thread, BOOK, SHEETS, 0);
     }
-    for (uint32_t sheet = 0; sheet < SHEETS; sheet++) {
+    for (uint32_t sheet = 0; sheet < sheets; sheet++) {
         for (uint32_t thread = 0; thread < SHEET_THREADS; thread++) start(s, thread);
         for (uint32_t number = 0; number < ROWS; number++)
             for (uint32_t thread = 0; thread < SHEET_THREADS; thread++) row(s, &state, thread, sheet, number, imported);

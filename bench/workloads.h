@@ -23,8 +23,8 @@ typedef enum { BACKWARDS, FORWARDS } Links;
 
 void free_workload(Workload *w);
 
-/* The import, and what it ends with. */
-Workload import_commands(const char *name, size_t block, Imported *imported);
+/* The import of so many sheets a thread, and what it ends with. */
+Workload import_commands(const char *name, size_t block, uint32_t sheets, Imported *imported);
 
 /* Makes a list of objects in one epoch; timed. */
 Workload make_list(const char *name, uint32_t objects, Links links);
