@@ -12,8 +12,8 @@
 #include "taldreku.h"
 #include "workloads.h"
 
-enum { AT_LEAST = 9, AT_MOST = 301, BLOCK_BEFORE = 1000 };
-static const double LONG_ENOUGH = 2e8;      /* nanoseconds after which AT_LEAST runs are enough */
+enum { AT_LEAST = 9, AT_MOST = 301, BLOCK_BEFORE = 1000 };      /* runs of a row; commands in an untimed block */
+static const double LONG_ENOUGH = 3e8;                          /* nanoseconds after which AT_LEAST runs are enough */
 static const char *picked;
 
 typedef uint32_t (*Run)(uint32_t *, size_t, uint32_t *, size_t, uint32_t *, size_t, const uint32_t *, size_t, uint32_t *, size_t);
@@ -76,25 +76,38 @@ static void run_stream(Run run, Lent *l, const Stream *s, size_t block, uint32_t
     }
 }
 
-/* Nanoseconds for the timed stream; a stream of no command is one empty block. Not inlined: bench/counts looks for its name. */
-__attribute__((noinline)) static double time_stream(Run run, Lent *l, const Workload *w, uint32_t *answers) {
-    double from = now();
-    if (w->timed.commands == 0) {
-        if (run_block(run, l, NULL, 0, answers) != TALDREKU_DONE) stop(w->name, "a block was refused");
-    } else
-        run_stream(run, l, &w->timed, w->block, answers, w->name);
-    return now() - from;
+/* A stream of no command is one empty block. */
+static size_t blocks_of(const Workload *w) { return w->timed.commands == 0 ? 1 : (w->timed.commands + w->block - 1) / w->block; }
+
+/* Nanoseconds for each block of the timed stream; or, before each block, for an empty one, which is what the check of the tables costs. Not
+ * inlined: bench/counts looks for its name. */
+__attribute__((noinline)) static void time_stream(Run run, Lent *l, const Workload *w, uint32_t *answers, double *times) {
+    for (size_t i = 0; i < blocks_of(w); i++) {
+        size_t at = i * w->block, n = w->timed.commands - at < w->block ? w->timed.commands - at : w->block;
+        double from = now();
+        uint32_t number = run_block(run, l, w->timed.words + 5 * at, n, answers + 2 * at);
+        times[i] = now() - from;
+        if (number != TALDREKU_DONE) stop(w->name, "a block was refused");
+    }
 }
 
-/* The same stream with an empty block before each block, of which only the empty blocks are timed: what the check of the tables costs. */
-static double time_checks(Run run, Lent *l, const Workload *w, uint32_t *answers) {
-    double sum = 0;
-    for (size_t i = 0; i < w->timed.commands; i += w->block) {
-        size_t n = w->timed.commands - i < w->block ? w->timed.commands - i : w->block;
+static void time_checks(Run run, Lent *l, const Workload *w, uint32_t *answers, double *times) {
+    for (size_t i = 0; i < blocks_of(w); i++) {
+        size_t at = i * w->block, n = w->timed.commands - at < w->block ? w->timed.commands - at : w->block;
         double from = now();
-        run_block(run, l, NULL, 0, answers);
-        sum += now() - from;
-        run_block(run, l, w->timed.words + 5 * i, n, answers + 2 * i);
+        run_block(run, l, NULL, 0, NULL);
+        times[i] = now() - from;
+        run_block(run, l, w->timed.words + 5 * at, n, answers + 2 * at);
+    }
+}
+
+/* The median of each block's runs, summed over the blocks. */
+static double typical(const double *times, size_t blocks, size_t runs) {
+    static double column[AT_MOST];
+    double sum = 0;
+    for (size_t i = 0; i < blocks; i++) {
+        for (size_t n = 0; n < runs; n++) column[n] = times[n * blocks + i];
+        sum += median(column, runs);
     }
     return sum;
 }
@@ -111,17 +124,17 @@ static void same_tables(const Workload *w, Lent *ours, Lent *plain) {
     if (!agree(ours, plain)) stop(w->name, "the tables differ");
 }
 
-/* Medians, in nanoseconds for the timed stream: our time, that of the checks in it, that by hand; and of by hand to ours, run by run, with the
- * checks and without. */
+/* Nanoseconds for the timed stream: ours, of these the checks of the tables, and by hand. */
 typedef struct {
-    double ours, checks, plain, ratio, ratio_less;
+    double ours, checks, plain;
 } Times;
 
 /* Interleaved runs, each from the tables as the untimed stream left them. */
 static Times measure(const Workload *w) {
-    static double ours[AT_MOST], checks[AT_MOST], plain[AT_MOST], ratio[AT_MOST], ratio_less[AT_MOST];
+    size_t blocks = blocks_of(w), n = 0;
+    double *ours = room(2 * blocks * AT_MOST), *checks = room(2 * blocks * AT_MOST), *plain = room(2 * blocks * AT_MOST);
     Lent kept[2] = {lend(w), lend(w)}, heap[2] = {lend(w), lend(w)};
-    size_t most = w->before.commands > w->timed.commands ? w->before.commands : w->timed.commands, n = 0;
+    size_t most = w->before.commands > w->timed.commands ? w->before.commands : w->timed.commands;
     uint32_t *answers[2] = {room(2 * most), room(2 * most)};
     Run by_hand = w->timed.commands == 0 ? check_by_hand : plain_run;
 
@@ -135,29 +148,29 @@ static Times measure(const Workload *w) {
     if (memcmp(answers[0], answers[1], 2 * w->before.commands * sizeof(uint32_t)) != 0) stop(w->name, "the answers differ before it is timed");
     same_tables(w, &kept[0], &kept[1]);
 
-    for (double spent = 0; n < (picked ? 1 : AT_MOST) && (n < AT_LEAST || spent < LONG_ENOUGH); n++) {
+    for (double began = now(); n < (picked ? 1 : AT_MOST) && (n < AT_LEAST || now() - began < LONG_ENOUGH); n++) {
         memset(answers[0], 255, 2 * w->timed.commands * sizeof(uint32_t));
         memset(answers[1], 254, 2 * w->timed.commands * sizeof(uint32_t));
-        for (int k = 0; k < 2; k++) {
-            size_t side = (n + (size_t)k) % 2;
+        for (size_t k = 0; k < 2; k++) {
+            size_t side = (n + k) % 2;
             restore(&heap[side], &kept[side]);
-            (side == 0 ? ours : plain)[n] = time_stream(side == 0 ? taldreku_run : by_hand, &heap[side], w, answers[side]);
+            time_stream(side == 0 ? taldreku_run : by_hand, &heap[side], w, answers[side], (side == 0 ? ours : plain) + n * blocks);
         }
         if (memcmp(answers[0], answers[1], 2 * w->timed.commands * sizeof(uint32_t)) != 0) stop(w->name, "the answers differ");
         if (n == 0) same_tables(w, &heap[0], &heap[1]);
         restore(&heap[0], &kept[0]);
-        checks[n] = time_checks(taldreku_run, &heap[0], w, answers[0]);
-        ratio[n] = plain[n] / ours[n];
-        ratio_less[n] = plain[n] / (ours[n] - checks[n]);
-        spent += ours[n] + checks[n] + plain[n];
+        time_checks(taldreku_run, &heap[0], w, answers[0], checks + n * blocks);
     }
+    Times t = {.ours = typical(ours, blocks, n), .checks = typical(checks, blocks, n), .plain = typical(plain, blocks, n)};
+    free(ours);
+    free(checks);
+    free(plain);
     for (int side = 0; side < 2; side++) {
         give_back(&kept[side]);
         give_back(&heap[side]);
         free(answers[side]);
     }
-    return (Times){.ours = median(ours, n), .checks = median(checks, n), .plain = median(plain, n), .ratio = median(ratio, n),
-                   .ratio_less = median(ratio_less, n)};
+    return t;
 }
 
 /* One row of the table. The last column leaves the checks out of ours, where they are not nearly all of it. */
@@ -166,9 +179,10 @@ static Times row(Workload w) {
     if (!picked || strcmp(w.name, picked) == 0) {
         t = measure(&w);
         double commands = w.timed.commands == 0 ? 1 : (double)w.timed.commands;
-        printf("| %s | %.0f | %.1f | %.1f | %.1f | %.3f |", w.name, commands, t.ours / commands, t.checks / commands, t.plain / commands, t.ratio);
+        printf("| %s | %.0f | %.1f | %.1f | %.1f | %.3f |", w.name, commands, t.ours / commands, t.checks / commands, t.plain / commands,
+               t.plain / t.ours);
         if (w.timed.commands == 0 || t.checks > 0.9 * t.ours) printf(" |\n");
-        else printf(" %.2f |\n", t.ratio_less);
+        else printf(" %.2f |\n", t.plain / (t.ours - t.checks));
         fflush(stdout);
     }
     free_workload(&w);
