@@ -22,6 +22,10 @@ pub record CellWhole (p : Places) (c t : List ℕ) (k : ℕ) : Type 0 where
   pub working : workOf c k ≡ 0
   pub fields : (f : ℕ) → f < 14 → FieldWhole p c t k f
 
+-- the fields of cell k from f on are zero
+abbrev pub ZeroFrom : List ℕ → ℕ → ℕ → Type 0
+ZeroFrom c k f = (g : ℕ) → g < 14 → f ≤ g → fieldOf c k g ≡ 0
+
 -- every cell in use
 abbrev pub CellsWhole : Places → List ℕ → List ℕ → Type 0
 CellsWhole p c t = (k : ℕ) → InUse p t k → CellWhole p c t k
@@ -49,20 +53,17 @@ all-pages p c t h k u =
     let e : cellOn (pageOf k) (placeOf k) ≡ k = omega arith in
     subst (λ (x : ℕ). CellWhole p c t x) e (h (pageOf k) (u .page) (placeOf k) (u .place))
 
--- the three ways in which the code finds a field whole: r and d are the counts, and y the word, as it read them
-module _ {p : Places} {c t : List ℕ} {k f : ℕ} where
-  pub field-ref : {r y : ℕ} → r ≡ headOf c k / 16 → y ≡ fieldOf c k f → f < r → IsRef p t y → FieldWhole p c t k f
-  field-ref e q l i = record { reference = λ m. subst (λ (z : ℕ). IsRef p t z) q i; rest = λ m. absurd (let z : ⊥ = omega arith in z) }
+-- the fields as the code finds them whole: r is the count of references and d that of numbers, as it read them
+module _ {p : Places} {c t : List ℕ} {k r d : ℕ} (e : r ≡ headOf c k / 16) (q : d ≡ headOf c k % 16) where
+  pub fields-whole : ((f : ℕ) → f < r → IsRef p t (fieldOf c k f)) → ZeroFrom c k (r + d) → (f : ℕ) → f < 14 → FieldWhole p c t k f
+  fields-whole refs rest f l = record { reference = λ m. refs f (omega arith); rest = λ m. rest f l (omega arith) }
 
-  pub field-num : {r d : ℕ} → r ≡ headOf c k / 16 → d ≡ headOf c k % 16 → r ≤ f → f < r + d → FieldWhole p c t k f
-  field-num e q l m = record { reference = λ a. absurd (let z : ⊥ = omega arith in z); rest = λ a. absurd (let z : ⊥ = omega arith in z) }
+  -- and what whole fields say
+  pub zero-rest : ((f : ℕ) → f < 14 → FieldWhole p c t k f) → ZeroFrom c k (r + d)
+  zero-rest w f l m = w f l .rest (omega arith)
 
-  pub field-rest : {r y : ℕ} → r ≡ headOf c k / 16 → y ≡ fieldOf c k f → r ≤ f → y ≡ 0 → FieldWhole p c t k f
-  field-rest e q l z = record { reference = λ a. absurd (let z : ⊥ = omega arith in z); rest = λ a. omega arith }
-
-  -- and what a whole field says of them
-  pub field-is-ref : {r y : ℕ} → FieldWhole p c t k f → r ≡ headOf c k / 16 → y ≡ fieldOf c k f → f < r → IsRef p t y
-  field-is-ref w e q l = subst (λ (z : ℕ). IsRef p t z) (sym q) (w .reference (omega arith))
+pub field-is-ref : {p : Places} {c t : List ℕ} {k f r y : ℕ} → FieldWhole p c t k f → r ≡ headOf c k / 16 → y ≡ fieldOf c k f → f < r → IsRef p t y
+field-is-ref {p} {c} {t} w e q l = subst (λ (z : ℕ). IsRef p t z) (sym q) (w .reference (omega arith))
 
 -- a reference that is not null: the cell that it names, its page and place, and the cells in use there, as the code read them
 module _ {p : Places} {t : List ℕ} {x cell page place used : ℕ} where

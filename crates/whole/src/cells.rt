@@ -1,13 +1,28 @@
 // Every cell in use has 01's form, its working word is zero, and its references are null or name a cell in use.
-ghost use Prim.Native.Nat.{ℕ, _*_, _≤_};
+ghost use Prim.Native.Nat.{ℕ, _+_, _*_, _<_, _≤_};
 ghost use lib.ListN.{length};
 ghost use Rattle.lists.specs.Says.{Says};
 ghost use Rattle.layout.specs.Places.{Room};
 ghost use Rattle.whole.specs.Pages.{PagesWhole};
-ghost use Rattle.whole.specs.Cells.{CellsWhole};
+ghost use Rattle.whole.specs.Cells.{CellsWhole, ZeroFrom};
 use crate::variables::is_ref;
 use layout::Kind;
 use layout::Places;
+
+// Whether a cell's fields are zero, the first few left out.
+pub fn zero_from(cells: &[u32], cell: usize, first: usize) -> bool
+    requires { ⌜ (cell < 16384) × (16 * cell + 16 ≤ length (now cells)) ⌝ }
+    ensures { λ r. ⌜ Says r (ZeroFrom (now (cells .entry)) cell first) ⌝ }
+{
+    let mut f = first;
+    while f < layout::cells::FIELDS {
+        if layout::cells::field(cells, cell, f) != 0 {
+            return false;
+        }
+        f += 1;
+    }
+    true
+}
 
 // A field that is a number may hold any word, so it is not read.
 pub fn cells_whole(p: Places, cells: &[u32], tables: &[u32]) -> bool
@@ -36,19 +51,16 @@ pub fn cells_whole(p: Places, cells: &[u32], tables: &[u32]) -> bool
                 break 'pages;
             }
             let mut f = 0;
-            'fields: while f < layout::cells::FIELDS {
-                if f < refs {
-                    if !is_ref(p, tables, layout::cells::field(cells, cell, f)) {
-                        ok = false;
-                        break 'pages;
-                    }
-                } else if all <= f {
-                    if layout::cells::field(cells, cell, f) != 0 {
-                        ok = false;
-                        break 'pages;
-                    }
+            'fields: while f < refs {
+                if !is_ref(p, tables, layout::cells::field(cells, cell, f)) {
+                    ok = false;
+                    break 'pages;
                 }
                 f += 1;
+            }
+            if !zero_from(cells, cell, all) {
+                ok = false;
+                break 'pages;
             }
             place += 1;
         }
