@@ -1,6 +1,6 @@
-/* Runs every workload on our heap and on the hand-written one, interleaved, and prints nanoseconds a command and the ratio. Every answer word
- * of every timed run is compared, and the tables after it; a difference stops the program. For bench/counts the
- * command line may name one row, which is then run once. */
+/* Runs every workload on our heap and on the hand-written one, interleaved, and prints nanoseconds a command and the ratio. Every answer word of
+ * every timed run is compared, and the tables after it; a difference stops the program. For bench/counts the command line may name one row,
+ * which is then run once. */
 #define _POSIX_C_SOURCE 199309L
 #include <stdio.h>
 #include <stdlib.h>
@@ -189,11 +189,11 @@ static Times row(Workload w) {
     return t;
 }
 
-/* Growth: what an end costs by itself, ours and the hand-written heap's. */
-static void end_of(Workload w, double survivors, double cost[2]) {
+/* Growth: what an end costs without the check, for each survivor or each end, ours and the hand-written heap's. */
+static void end_of(Workload w, double times, double cost[2]) {
     Times t = measure(&w);
-    cost[0] = (t.ours - t.checks) / survivors;
-    cost[1] = t.plain / survivors;
+    cost[0] = (t.ours - t.checks) / times;
+    cost[1] = t.plain / times;
     free_workload(&w);
 }
 
@@ -271,8 +271,8 @@ static void by_growth(void) {
     growth("a survivor, 160 to 1,600, pages to fit", end_list("", 20, 160, 160, BACKWARDS), 160, end_list("", 200, 1600, 1600, BACKWARDS), 1600);
     growth("a survivor, 1,600 to 8,176, pages to fit", end_list("", 200, 1600, 1600, BACKWARDS), 1600, end_list("", 1024, 8176, 8176, BACKWARDS),
            8176);
-    growth("an end of one page, 32 to 1,024 pages, others free", end_page("", 32, 0), 1, end_page("", 1024, 0), 1);
-    growth("an end of one page, 32 to 1,024 pages, others in use", end_page("", 32, 1), 1, end_page("", 1024, 1), 1);
+    growth("an end of one page, 32 to 1,024 pages, others free", end_pages("", 32, 0), 16, end_pages("", 1024, 0), 16);
+    growth("an end of one page, 32 to 1,024 pages, others in use", end_pages("", 32, 1), 16, end_pages("", 1024, 1), 16);
 }
 
 int main(int words, char **word) {

@@ -170,14 +170,15 @@ Workload end_empty(const char *name, uint32_t pages) {
     return w;
 }
 
-Workload end_page(const char *name, uint32_t pages, int filled) {
-    Workload w = {.name = name, .threads = 2, .variables = 4, .depth = 1, .pages = pages, .entries = 4096, .block = 1};
-    Stream *s = &w.before;
+Workload end_pages(const char *name, uint32_t pages, int filled) {
+    Workload w = {.name = name, .threads = 16, .variables = 4, .depth = 1, .pages = pages, .entries = 4096, .block = 16};
     if (filled)
-        for (uint32_t i = 0; i < 16 * (pages - 4); i++) make(s, 1, 0, 0, 1);
-    start(s, 0);
-    for (uint32_t i = 0; i < 16; i++) make(s, 0, 0, 1, 1);
-    end(&w.timed, 0);
+        for (uint32_t i = 0; i < 16 * (pages - 18); i++) make(&w.before, 0, 0, 0, 1);
+    for (uint32_t t = 0; t < 16; t++) {
+        start(&w.before, t);
+        for (uint32_t i = 0; i < 16; i++) make(&w.before, t, 0, 1, 1);
+        end(&w.timed, t);
+    }
     return w;
 }
 

@@ -34,8 +34,8 @@ Workload end_list(const char *name, uint32_t pages, uint32_t objects, uint32_t s
 Workload end_fifteen(const char *name, int many);
 /* Starts and ends 500 epochs with nothing in them. */
 Workload end_empty(const char *name, uint32_t pages);
-/* Ends an epoch of one page, of which one object survives, in a heap of so many pages, the others free or nearly all in use. */
-Workload end_page(const char *name, uint32_t pages, int filled);
+/* Ends sixteen epochs of one page, of each of which one object survives, in a heap of so many pages, the others free or nearly all in use. */
+Workload end_pages(const char *name, uint32_t pages, int filled);
 
 /* Stores that cross or do not, with so many entries already in the remember table. */
 Workload stores(const char *name, int crossing, uint32_t entries);
