@@ -52,13 +52,17 @@ mark-survivors-requires c κs =
 
 needed-pages-requires : tie.Need-needed-pages-requires
 needed-pages-requires c κs =
+    let depth = c .before .before .before .before .before .before .before .before .before .before .before .before .before .depth in
+    let wide = c .before .before .before .before .before .before .before .before .before .before .before .before .wide in
+    let if1 = c .before .before .before .before .before .before .before .before .before .before .before .if1 in
+    let mark-survivors = c .before .before .before .before .before .before .mark-survivors in
     let a = c .before .before .before .before .before .before .before .before .before .before .before .before .before .before .before .before .before .before .args in
     let pre = c .before .before .before .before .before .before .before .before .before .before .before .before .before .before .before .before .before .before .pre in
     let w = words (a .cells .now) (a .remember .now) (a .tables .now) in
     let f = fits (c .before .before .before .before .before .before .before .before .before .before .before .before .before) in
-    let o : 1 ≤ depthOf (a .tables .now) (a .thread) = omega (arith, c .before .before .before .before .before .before .before .before .before .before .before .before .wide .ensures, c .before .before .before .before .before .before .before .before .before .before .before .before .before .depth .ensures, c .before .before .before .before .before .before .before .before .before .before .before .if1 .left) in
-    let m = c .before .before .before .before .before .before .mark-survivors .ensures in
-    (room-now (a .p) (pre .0) w (pre .1 .0) f (a .thread) (pre .1 .1) o _ m, (cells-now (a .p) (pre .0) w (pre .1 .0) f (a .thread) (pre .1 .1) o _ m, (small-now (a .p) (pre .0) w (pre .1 .0) f (a .thread) (pre .1 .1) o _ m, (pre .1 .1, omega (arith, depth-high (a .p) (pre .0) w (pre .1 .0) f (a .thread) (pre .1 .1), c .before .before .before .before .before .before .before .before .before .before .before .before .wide .ensures, c .before .before .before .before .before .before .before .before .before .before .before .before .before .depth .ensures)))))
+    let o : 1 ≤ depthOf (a .tables .now) (a .thread) = omega (arith, wide .ensures, depth .ensures, if1 .left) in
+    let m = mark-survivors .ensures in
+    (room-now (a .p) (pre .0) w (pre .1 .0) f (a .thread) (pre .1 .1) o _ m, (cells-now (a .p) (pre .0) w (pre .1 .0) f (a .thread) (pre .1 .1) o _ m, (small-now (a .p) (pre .0) w (pre .1 .0) f (a .thread) (pre .1 .1) o _ m, (pre .1 .1, omega (arith, depth-high (a .p) (pre .0) w (pre .1 .0) f (a .thread) (pre .1 .1), wide .ensures, depth .ensures)))))
 
 owned-pages-requires : tie.Need-owned-pages-requires
 owned-pages-requires c κs =
@@ -72,12 +76,16 @@ owned-pages-requires c κs =
 
 unmark-requires : tie.Need-unmark-requires
 unmark-requires c κs =
+    let depth = c .before .before .before .before .before .before .before .before .before .before .before .before .before .before .before .before .before .before .before .depth in
+    let wide = c .before .before .before .before .before .before .before .before .before .before .before .before .before .before .before .before .before .before .wide in
+    let if1 = c .before .before .before .before .before .before .before .before .before .before .before .before .before .before .before .before .before .if1 in
+    let mark-survivors = c .before .before .before .before .before .before .before .before .before .before .before .before .mark-survivors in
     let a = c .before .before .before .before .before .before .before .before .before .before .before .before .before .before .before .before .before .before .before .before .before .before .before .before .args in
     let pre = c .before .before .before .before .before .before .before .before .before .before .before .before .before .before .before .before .before .before .before .before .before .before .before .before .pre in
     let w = words (a .cells .now) (a .remember .now) (a .tables .now) in
     let f = fits (c .before .before .before .before .before .before .before .before .before .before .before .before .before .before .before .before .before .before .before) in
-    let o : 1 ≤ depthOf (a .tables .now) (a .thread) = omega (arith, c .before .before .before .before .before .before .before .before .before .before .before .before .before .before .before .before .before .before .wide .ensures, c .before .before .before .before .before .before .before .before .before .before .before .before .before .before .before .before .before .before .before .depth .ensures, c .before .before .before .before .before .before .before .before .before .before .before .before .before .before .before .before .before .if1 .left) in
-    let m = c .before .before .before .before .before .before .before .before .before .before .before .before .mark-survivors .ensures in
+    let o : 1 ≤ depthOf (a .tables .now) (a .thread) = omega (arith, wide .ensures, depth .ensures, if1 .left) in
+    let m = mark-survivors .ensures in
     (room-now (a .p) (pre .0) w (pre .1 .0) f (a .thread) (pre .1 .1) o _ m, (cells-now (a .p) (pre .0) w (pre .1 .0) f (a .thread) (pre .1 .1) o _ m, small-now (a .p) (pre .0) w (pre .1 .0) f (a .thread) (pre .1 .1) o _ m))
 
 same-length-2 : tie.Need-same-length-2
@@ -94,32 +102,48 @@ same-length-4 c =
 
 returns-2 : tie.Need-returns-2
 returns-2 c =
+    let depth = c .before .before .before .before .before .before .before .before .before .before .before .before .before .before .before .before .before .before .before .before .before .before .before .before .depth in
+    let wide = c .before .before .before .before .before .before .before .before .before .before .before .before .before .before .before .before .before .before .before .before .before .before .before .wide in
+    let if1 = c .before .before .before .before .before .before .before .before .before .before .before .before .before .before .before .before .before .before .before .before .before .before .if1 in
+    let mark-survivors = c .before .before .before .before .before .before .before .before .before .before .before .before .before .before .before .before .before .mark-survivors in
+    let needed-pages = c .before .before .before .before .before .before .before .before .before .before .needed-pages in
+    let owned-pages = c .before .before .before .before .before .before .before .before .owned-pages in
+    let if2 = c .before .before .before .before .before .before .before .if2 in
+    let unmark = c .before .before .before .before .unmark in
     let a = c .before .before .before .before .before .before .before .before .before .before .before .before .before .before .before .before .before .before .before .before .before .before .before .before .before .before .before .before .before .args in
     let pre = c .before .before .before .before .before .before .before .before .before .before .before .before .before .before .before .before .before .before .before .before .before .before .before .before .before .before .before .before .before .pre in
     let w = words (a .cells .now) (a .remember .now) (a .tables .now) in
     let f = fits (c .before .before .before .before .before .before .before .before .before .before .before .before .before .before .before .before .before .before .before .before .before .before .before .before) in
-    let m = c .before .before .before .before .before .before .before .before .before .before .before .before .before .before .before .before .before .mark-survivors .ensures in
-    out-pageless (a .p) (pre .0) w (pre .1 .0) f (a .thread) (pre .1 .1) (c .before .before .before .before .before .before .before .before .before .before .before .before .before .before .before .before .before .before .before .before .before .before .before .wide .result) (c .before .before .before .before .before .before .before .before .before .before .needed-pages .result) (c .before .before .before .before .before .before .before .before .owned-pages .result) (c .before .before .before .before .before .before .before .before .before .before .before .before .before .before .before .before .before .before .before .before .before .before .before .wide .ensures ∙ c .before .before .before .before .before .before .before .before .before .before .before .before .before .before .before .before .before .before .before .before .before .before .before .before .depth .ensures) (omega (arith, c .before .before .before .before .before .before .before .before .before .before .before .before .before .before .before .before .before .before .before .before .before .before .if1 .left)) m (c .before .before .before .before .before .before .before .before .before .before .needed-pages .ensures)
-    (c .before .before .before .before .before .before .before .before .owned-pages .ensures) (c .before .before .before .before .unmark .ensures) (omega (arith, c .before .before .before .before .before .before .before .if2 .taken))
+    let m = mark-survivors .ensures in
+    out-pageless (a .p) (pre .0) w (pre .1 .0) f (a .thread) (pre .1 .1) (wide .result) (needed-pages .result) (owned-pages .result) (wide .ensures ∙ depth .ensures) (omega (arith, if1 .left)) m (needed-pages .ensures)
+    (owned-pages .ensures) (unmark .ensures) (omega (arith, if2 .taken))
 
 count-crossing-requires : tie.Need-count-crossing-requires
 count-crossing-requires c κs =
+    let depth = c .before .before .before .before .before .before .before .before .before .before .before .before .before .before .before .before .before .before .before .before .depth in
+    let wide = c .before .before .before .before .before .before .before .before .before .before .before .before .before .before .before .before .before .before .before .wide in
+    let if1 = c .before .before .before .before .before .before .before .before .before .before .before .before .before .before .before .before .before .before .if1 in
+    let mark-survivors = c .before .before .before .before .before .before .before .before .before .before .before .before .before .mark-survivors in
     let a = c .before .before .before .before .before .before .before .before .before .before .before .before .before .before .before .before .before .before .before .before .before .before .before .before .before .args in
     let pre = c .before .before .before .before .before .before .before .before .before .before .before .before .before .before .before .before .before .before .before .before .before .before .before .before .before .pre in
     let w = words (a .cells .now) (a .remember .now) (a .tables .now) in
     let f = fits (c .before .before .before .before .before .before .before .before .before .before .before .before .before .before .before .before .before .before .before .before) in
-    let o : 1 ≤ depthOf (a .tables .now) (a .thread) = omega (arith, c .before .before .before .before .before .before .before .before .before .before .before .before .before .before .before .before .before .before .before .wide .ensures, c .before .before .before .before .before .before .before .before .before .before .before .before .before .before .before .before .before .before .before .before .depth .ensures, c .before .before .before .before .before .before .before .before .before .before .before .before .before .before .before .before .before .before .if1 .left) in
-    let m = c .before .before .before .before .before .before .before .before .before .before .before .before .before .mark-survivors .ensures in
+    let o : 1 ≤ depthOf (a .tables .now) (a .thread) = omega (arith, wide .ensures, depth .ensures, if1 .left) in
+    let m = mark-survivors .ensures in
     (shaped-now (a .p) (pre .0) w (pre .1 .0) f (a .thread) (pre .1 .1) o _ m, (holding-now (a .p) (pre .0) w (pre .1 .0) f (a .thread) (pre .1 .1) o _ m, (small-now (a .p) (pre .0) w (pre .1 .0) f (a .thread) (pre .1 .1) o _ m, used-now (a .p) (pre .0) w (pre .1 .0) f (a .thread) (pre .1 .1) o _ m)))
 
 unmark-requires-2 : tie.Need-unmark-requires-2
 unmark-requires-2 c κs =
+    let depth = c .before .before .before .before .before .before .before .before .before .before .before .before .before .before .before .before .before .before .before .before .before .before .before .before .depth in
+    let wide = c .before .before .before .before .before .before .before .before .before .before .before .before .before .before .before .before .before .before .before .before .before .before .before .wide in
+    let if1 = c .before .before .before .before .before .before .before .before .before .before .before .before .before .before .before .before .before .before .before .before .before .before .if1 in
+    let mark-survivors = c .before .before .before .before .before .before .before .before .before .before .before .before .before .before .before .before .before .mark-survivors in
     let a = c .before .before .before .before .before .before .before .before .before .before .before .before .before .before .before .before .before .before .before .before .before .before .before .before .before .before .before .before .before .args in
     let pre = c .before .before .before .before .before .before .before .before .before .before .before .before .before .before .before .before .before .before .before .before .before .before .before .before .before .before .before .before .before .pre in
     let w = words (a .cells .now) (a .remember .now) (a .tables .now) in
     let f = fits (c .before .before .before .before .before .before .before .before .before .before .before .before .before .before .before .before .before .before .before .before .before .before .before .before) in
-    let o : 1 ≤ depthOf (a .tables .now) (a .thread) = omega (arith, c .before .before .before .before .before .before .before .before .before .before .before .before .before .before .before .before .before .before .before .before .before .before .before .wide .ensures, c .before .before .before .before .before .before .before .before .before .before .before .before .before .before .before .before .before .before .before .before .before .before .before .before .depth .ensures, c .before .before .before .before .before .before .before .before .before .before .before .before .before .before .before .before .before .before .before .before .before .before .if1 .left) in
-    let m = c .before .before .before .before .before .before .before .before .before .before .before .before .before .before .before .before .before .mark-survivors .ensures in
+    let o : 1 ≤ depthOf (a .tables .now) (a .thread) = omega (arith, wide .ensures, depth .ensures, if1 .left) in
+    let m = mark-survivors .ensures in
     (room-now (a .p) (pre .0) w (pre .1 .0) f (a .thread) (pre .1 .1) o _ m, (cells-now (a .p) (pre .0) w (pre .1 .0) f (a .thread) (pre .1 .1) o _ m, small-now (a .p) (pre .0) w (pre .1 .0) f (a .thread) (pre .1 .1) o _ m))
 
 same-length-5 : tie.Need-same-length-5
@@ -136,26 +160,47 @@ same-length-7 c =
 
 returns-3 : tie.Need-returns-3
 returns-3 c =
+    let depth = c .before .before .before .before .before .before .before .before .before .before .before .before .before .before .before .before .before .before .before .before .before .before .before .before .before .before .before .before .before .depth in
+    let wide = c .before .before .before .before .before .before .before .before .before .before .before .before .before .before .before .before .before .before .before .before .before .before .before .before .before .before .before .before .wide in
+    let if1 = c .before .before .before .before .before .before .before .before .before .before .before .before .before .before .before .before .before .before .before .before .before .before .before .before .before .before .before .if1 in
+    let region-at = c .before .before .before .before .before .before .before .before .before .before .before .before .before .before .before .before .before .before .before .before .before .before .before .before .before .before .region-at in
+    let mark-survivors = c .before .before .before .before .before .before .before .before .before .before .before .before .before .before .before .before .before .before .before .before .before .before .mark-survivors in
+    let needed-pages = c .before .before .before .before .before .before .before .before .before .before .before .before .before .before .before .needed-pages in
+    let owned-pages = c .before .before .before .before .before .before .before .before .before .before .before .before .before .owned-pages in
+    let if2 = c .before .before .before .before .before .before .before .before .before .before .before .before .if2 in
+    let count-crossing = c .before .before .before .before .before .before .before .before .count-crossing in
+    let if3 = c .before .before .before .before .before .before .before .if3 in
+    let unmark2 = c .before .before .before .before .unmark2 in
     let a = c .before .before .before .before .before .before .before .before .before .before .before .before .before .before .before .before .before .before .before .before .before .before .before .before .before .before .before .before .before .before .before .before .before .before .args in
     let pre = c .before .before .before .before .before .before .before .before .before .before .before .before .before .before .before .before .before .before .before .before .before .before .before .before .before .before .before .before .before .before .before .before .before .before .pre in
     let w = words (a .cells .now) (a .remember .now) (a .tables .now) in
     let f = fits (c .before .before .before .before .before .before .before .before .before .before .before .before .before .before .before .before .before .before .before .before .before .before .before .before .before .before .before .before .before) in
-    let m = c .before .before .before .before .before .before .before .before .before .before .before .before .before .before .before .before .before .before .before .before .before .before .mark-survivors .ensures in
-    out-full (a .p) (pre .0) w (pre .1 .0) f (a .thread) (pre .1 .1) (c .before .before .before .before .before .before .before .before .before .before .before .before .before .before .before .before .before .before .before .before .before .before .before .before .before .before .before .before .wide .result) (c .before .before .before .before .before .before .before .before .before .before .before .before .before .before .before .needed-pages .result) (c .before .before .before .before .before .before .before .before .before .before .before .before .before .owned-pages .result) (c .before .before .before .before .before .before .before .before .before .before .before .before .before .before .before .before .before .before .before .before .before .before .before .before .before .before .before .before .wide .ensures ∙ c .before .before .before .before .before .before .before .before .before .before .before .before .before .before .before .before .before .before .before .before .before .before .before .before .before .before .before .before .before .depth .ensures) (omega (arith, c .before .before .before .before .before .before .before .before .before .before .before .before .before .before .before .before .before .before .before .before .before .before .before .before .before .before .before .if1 .left)) m (c .before .before .before .before .before .before .before .before .before .before .before .before .before .before .before .needed-pages .ensures)
-    (c .before .before .before .before .before .before .before .before .before .before .before .before .before .owned-pages .ensures) (c .before .before .before .before .before .before .before .before .before .before .before .before .before .before .before .before .before .before .before .before .before .before .before .before .before .before .region-at .result) (c .before .before .before .before .before .before .before .before .count-crossing .result) (c .before .before .before .before .before .before .before .before .before .before .before .before .before .before .before .before .before .before .before .before .before .before .before .before .before .before .region-at .ensures) (c .before .before .before .before .before .before .before .before .count-crossing .ensures) (omega (arith, c .before .before .before .before .before .before .before .before .before .before .before .before .if2 .left)) (c .before .before .before .before .unmark2 .ensures)
-    (omega (arith, c .before .before .before .before .before .before .before .if3 .taken))
+    let m = mark-survivors .ensures in
+    out-full (a .p) (pre .0) w (pre .1 .0) f (a .thread) (pre .1 .1) (wide .result) (needed-pages .result) (owned-pages .result) (wide .ensures ∙ depth .ensures) (omega (arith, if1 .left)) m (needed-pages .ensures)
+    (owned-pages .ensures) (region-at .result) (count-crossing .result) (region-at .ensures) (count-crossing .ensures) (omega (arith, if2 .left)) (unmark2 .ensures)
+    (omega (arith, if3 .taken))
 
 evacuate-requires : tie.Need-evacuate-requires
 evacuate-requires c κs =
+    let depth = c .before .before .before .before .before .before .before .before .before .before .before .before .before .before .before .before .before .before .before .before .before .before .before .before .before .depth in
+    let wide = c .before .before .before .before .before .before .before .before .before .before .before .before .before .before .before .before .before .before .before .before .before .before .before .before .wide in
+    let if1 = c .before .before .before .before .before .before .before .before .before .before .before .before .before .before .before .before .before .before .before .before .before .before .before .if1 in
+    let region-at = c .before .before .before .before .before .before .before .before .before .before .before .before .before .before .before .before .before .before .before .before .before .before .region-at in
+    let mark-survivors = c .before .before .before .before .before .before .before .before .before .before .before .before .before .before .before .before .before .before .mark-survivors in
+    let needed-pages = c .before .before .before .before .before .before .before .before .before .before .before .needed-pages in
+    let owned-pages = c .before .before .before .before .before .before .before .before .before .owned-pages in
+    let if2 = c .before .before .before .before .before .before .before .before .if2 in
+    let count-crossing = c .before .before .before .before .count-crossing in
+    let if3 = c .before .before .before .if3 in
     let a = c .before .before .before .before .before .before .before .before .before .before .before .before .before .before .before .before .before .before .before .before .before .before .before .before .before .before .before .before .before .before .args in
     let pre = c .before .before .before .before .before .before .before .before .before .before .before .before .before .before .before .before .before .before .before .before .before .before .before .before .before .before .before .before .before .before .pre in
     let w = words (a .cells .now) (a .remember .now) (a .tables .now) in
     let f = fits (c .before .before .before .before .before .before .before .before .before .before .before .before .before .before .before .before .before .before .before .before .before .before .before .before .before) in
-    let o : 1 ≤ depthOf (a .tables .now) (a .thread) = omega (arith, c .before .before .before .before .before .before .before .before .before .before .before .before .before .before .before .before .before .before .before .before .before .before .before .before .wide .ensures, c .before .before .before .before .before .before .before .before .before .before .before .before .before .before .before .before .before .before .before .before .before .before .before .before .before .depth .ensures, c .before .before .before .before .before .before .before .before .before .before .before .before .before .before .before .before .before .before .before .before .before .before .before .if1 .left) in
-    let m = c .before .before .before .before .before .before .before .before .before .before .before .before .before .before .before .before .before .before .mark-survivors .ensures in
+    let o : 1 ≤ depthOf (a .tables .now) (a .thread) = omega (arith, wide .ensures, depth .ensures, if1 .left) in
+    let m = mark-survivors .ensures in
     let e = depth-now (a .p) (pre .0) w (pre .1 .0) f (a .thread) (pre .1 .1) o _ m in (
-      goes-on (a .p) (pre .0) w (pre .1 .0) f (a .thread) (pre .1 .1) (c .before .before .before .before .before .before .before .before .before .before .before .before .before .before .before .before .before .before .before .before .before .before .before .before .wide .result) (c .before .before .before .before .before .before .before .before .before .before .before .needed-pages .result) (c .before .before .before .before .before .before .before .before .before .owned-pages .result) (c .before .before .before .before .before .before .before .before .before .before .before .before .before .before .before .before .before .before .before .before .before .before .before .before .wide .ensures ∙ c .before .before .before .before .before .before .before .before .before .before .before .before .before .before .before .before .before .before .before .before .before .before .before .before .before .depth .ensures) (omega (arith, c .before .before .before .before .before .before .before .before .before .before .before .before .before .before .before .before .before .before .before .before .before .before .before .if1 .left)) m (c .before .before .before .before .before .before .before .before .before .before .before .needed-pages .ensures)
-          (c .before .before .before .before .before .before .before .before .before .owned-pages .ensures) (c .before .before .before .before .before .before .before .before .before .before .before .before .before .before .before .before .before .before .before .before .before .before .region-at .result) (c .before .before .before .before .count-crossing .result) (c .before .before .before .before .before .before .before .before .before .before .before .before .before .before .before .before .before .before .before .before .before .before .region-at .ensures) (c .before .before .before .before .count-crossing .ensures) (omega (arith, c .before .before .before .before .before .before .before .before .if2 .left)) (omega (arith, c .before .before .before .if3 .left)),
+      goes-on (a .p) (pre .0) w (pre .1 .0) f (a .thread) (pre .1 .1) (wide .result) (needed-pages .result) (owned-pages .result) (wide .ensures ∙ depth .ensures) (omega (arith, if1 .left)) m (needed-pages .ensures)
+          (owned-pages .ensures) (region-at .result) (count-crossing .result) (region-at .ensures) (count-crossing .ensures) (omega (arith, if2 .left)) (omega (arith, if3 .left)),
       (pre .1 .1, omega (arith, e, o), omega (arith, e, depth-high (a .p) (pre .0) w (pre .1 .0) f (a .thread) (pre .1 .1))),
     )
 
@@ -173,14 +218,25 @@ same-length-10 c =
 
 returns-4 : tie.Need-returns-4
 returns-4 c =
+    let depth = c .before .before .before .before .before .before .before .before .before .before .before .before .before .before .before .before .before .before .before .before .before .before .before .before .before .before .before .before .before .before .before .before .depth in
+    let wide = c .before .before .before .before .before .before .before .before .before .before .before .before .before .before .before .before .before .before .before .before .before .before .before .before .before .before .before .before .before .before .before .wide in
+    let if1 = c .before .before .before .before .before .before .before .before .before .before .before .before .before .before .before .before .before .before .before .before .before .before .before .before .before .before .before .before .before .before .if1 in
+    let region-at = c .before .before .before .before .before .before .before .before .before .before .before .before .before .before .before .before .before .before .before .before .before .before .before .before .before .before .before .before .before .region-at in
+    let mark-survivors = c .before .before .before .before .before .before .before .before .before .before .before .before .before .before .before .before .before .before .before .before .before .before .before .before .before .mark-survivors in
+    let needed-pages = c .before .before .before .before .before .before .before .before .before .before .before .before .before .before .before .before .before .before .needed-pages in
+    let owned-pages = c .before .before .before .before .before .before .before .before .before .before .before .before .before .before .before .before .owned-pages in
+    let if2 = c .before .before .before .before .before .before .before .before .before .before .before .before .before .before .before .if2 in
+    let count-crossing = c .before .before .before .before .before .before .before .before .before .before .before .count-crossing in
+    let if3 = c .before .before .before .before .before .before .before .before .before .before .if3 in
+    let evacuate = c .before .before .before .before .before .before .evacuate in
     let a = c .before .before .before .before .before .before .before .before .before .before .before .before .before .before .before .before .before .before .before .before .before .before .before .before .before .before .before .before .before .before .before .before .before .before .before .before .before .args in
     let pre = c .before .before .before .before .before .before .before .before .before .before .before .before .before .before .before .before .before .before .before .before .before .before .before .before .before .before .before .before .before .before .before .before .before .before .before .before .before .pre in
     let w = words (a .cells .now) (a .remember .now) (a .tables .now) in
     let f = fits (c .before .before .before .before .before .before .before .before .before .before .before .before .before .before .before .before .before .before .before .before .before .before .before .before .before .before .before .before .before .before .before .before) in
-    let m = c .before .before .before .before .before .before .before .before .before .before .before .before .before .before .before .before .before .before .before .before .before .before .before .before .before .mark-survivors .ensures in
-    out-done (a .p) (pre .0) w (pre .1 .0) f (a .thread) (pre .1 .1) (c .before .before .before .before .before .before .before .before .before .before .before .before .before .before .before .before .before .before .before .before .before .before .before .before .before .before .before .before .before .before .before .wide .result) (c .before .before .before .before .before .before .before .before .before .before .before .before .before .before .before .before .before .before .needed-pages .result) (c .before .before .before .before .before .before .before .before .before .before .before .before .before .before .before .before .owned-pages .result) (c .before .before .before .before .before .before .before .before .before .before .before .before .before .before .before .before .before .before .before .before .before .before .before .before .before .before .before .before .before .before .before .wide .ensures ∙ c .before .before .before .before .before .before .before .before .before .before .before .before .before .before .before .before .before .before .before .before .before .before .before .before .before .before .before .before .before .before .before .before .depth .ensures) (omega (arith, c .before .before .before .before .before .before .before .before .before .before .before .before .before .before .before .before .before .before .before .before .before .before .before .before .before .before .before .before .before .before .if1 .left)) m (c .before .before .before .before .before .before .before .before .before .before .before .before .before .before .before .before .before .before .needed-pages .ensures)
-    (c .before .before .before .before .before .before .before .before .before .before .before .before .before .before .before .before .owned-pages .ensures) (c .before .before .before .before .before .before .before .before .before .before .before .before .before .before .before .before .before .before .before .before .before .before .before .before .before .before .before .before .before .region-at .result) (c .before .before .before .before .before .before .before .before .before .before .before .count-crossing .result) (c .before .before .before .before .before .before .before .before .before .before .before .before .before .before .before .before .before .before .before .before .before .before .before .before .before .before .before .before .before .region-at .ensures) (c .before .before .before .before .before .before .before .before .before .before .before .count-crossing .ensures) (omega (arith, c .before .before .before .before .before .before .before .before .before .before .before .before .before .before .before .if2 .left)) (omega (arith, c .before .before .before .before .before .before .before .before .before .before .if3 .left))
-    (c .before .before .before .before .before .before .evacuate .ensures)
+    let m = mark-survivors .ensures in
+    out-done (a .p) (pre .0) w (pre .1 .0) f (a .thread) (pre .1 .1) (wide .result) (needed-pages .result) (owned-pages .result) (wide .ensures ∙ depth .ensures) (omega (arith, if1 .left)) m (needed-pages .ensures)
+    (owned-pages .ensures) (region-at .result) (count-crossing .result) (region-at .ensures) (count-crossing .ensures) (omega (arith, if2 .left)) (omega (arith, if3 .left))
+    (evacuate .ensures)
 
 pub end-spec : {M : Type 1} → statement M
 end-spec =

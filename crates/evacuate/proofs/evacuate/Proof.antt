@@ -74,7 +74,11 @@ release-requires c κs =
     (z .0, ((omega (arith, g .0), omega (arith, g .1)), (pre .1 .0, omega (arith, z .1, pre .1 .1))))
 
 same-length : tie.Need-same-length
-same-length c = c .before .before .before .before .before .before .before .before .before .before .before .before .before .before .before .before .before .rewrite-copies .kept .1 .0 ∙ c .before .before .before .before .before .before .before .before .before .before .before .before .before .before .before .before .before .before .before .before .before .before .rewrite-slots .kept .1 .0 ∙ c .before .before .before .before .before .before .before .before .before .before .before .before .before .before .before .before .before .before .before .before .before .before .before .before .before .before .before .before .before .before .copy-survivors .kept .1 .0
+same-length c =
+    let copy-survivors = c .before .before .before .before .before .before .before .before .before .before .before .before .before .before .before .before .before .before .before .before .before .before .before .before .before .before .before .before .before .before .copy-survivors in
+    let rewrite-slots = c .before .before .before .before .before .before .before .before .before .before .before .before .before .before .before .before .before .before .before .before .before .before .rewrite-slots in
+    let rewrite-copies = c .before .before .before .before .before .before .before .before .before .before .before .before .before .before .before .before .before .rewrite-copies in
+    rewrite-copies .kept .1 .0 ∙ rewrite-slots .kept .1 .0 ∙ copy-survivors .kept .1 .0
 
 same-length-2 : tie.Need-same-length-2
 same-length-2 c = c .before .before .before .before .before .before .before .before .before .before .before .update-remember .kept .1 .1 .1 .0
@@ -84,15 +88,20 @@ same-length-3 c = c .before .before .release .kept .1 .0 ∙ c .before .before .
 
 returns : tie.Need-returns
 returns c =
+    let depth = c .before .before .before .before .before .before .before .before .before .before .before .before .before .before .before .before .before .before .before .before .before .before .before .before .before .before .before .before .before .before .before .before .before .before .before .depth in
+    let wide = c .before .before .before .before .before .before .before .before .before .before .before .before .before .before .before .before .before .before .before .before .before .before .before .before .before .before .before .before .before .before .before .before .before .before .wide in
+    let copy-survivors = c .before .before .before .before .before .before .before .before .before .before .before .before .before .before .before .before .before .before .before .before .before .before .before .before .before .before .before .before .before .before .copy-survivors in
+    let rewrite-slots = c .before .before .before .before .before .before .before .before .before .before .before .before .before .before .before .before .before .before .before .before .before .before .rewrite-slots in
+    let rewrite-variables = c .before .before .before .before .before .before .rewrite-variables in
     let rewrite-copies = c .before .before .before .before .before .before .before .before .before .before .before .before .before .before .before .before .before .rewrite-copies in
     let update-remember = c .before .before .before .before .before .before .before .before .before .before .before .update-remember in
     let a = c .before .before .before .before .before .before .before .before .before .before .before .before .before .before .before .before .before .before .before .before .before .before .before .before .before .before .before .before .before .before .before .before .before .before .before .before .before .before .before .before .args in
     let b = begun (c .before .before .before .before .before .before .before .before .before .before .before .before .before .before .before .before .before .before .before .before .before .before .before .before .before .before .before .before .before .before .before .before .before) in
-    let k = c .before .before .before .before .before .before .before .before .before .before .before .before .before .before .before .before .before .before .before .before .before .before .before .before .before .before .before .before .before .before .copy-survivors .ensures in
+    let k = copy-survivors .ensures in
     let F : ℕ → ℕ → Type 0 =
     (λ g l. Finished (a .p) g (a .p .entries) (usedIn (a .remember .now)) l (a .thread) (regionAt (sizesOf (a .p)) (a .thread)) (a .cells .now) (a .tables .now) (a .remember .now) (rewrite-copies .last .1 .0) (c .before .before .release .last .1 .0) (update-remember .last .1 .1 .1 .0)) in
-    subst₂ F (level (c .before .before .before .before .before .before .before .before .before .before .before .before .before .before .before .before .before .before .before .before .before .before .before .before .before .before .before .before .before .before .before .before .before)) (c .before .before .before .before .before .before .before .before .before .before .before .before .before .before .before .before .before .before .before .before .before .before .before .before .before .before .before .before .before .before .before .before .before .before .wide .ensures ∙ c .before .before .before .before .before .before .before .before .before .before .before .before .before .before .before .before .before .before .before .before .before .before .before .before .before .before .before .before .before .before .before .before .before .before .before .depth .ensures)
-    (finished b k (c .before .before .before .before .before .before .before .before .before .before .before .before .before .before .before .before .before .before .before .before .before .before .rewrite-slots .ensures) (rewrite-copies .ensures) (update-remember .ensures) (c .before .before .before .before .before .before .rewrite-variables .ensures) (c .before .before .release .ensures))
+    subst₂ F (level (c .before .before .before .before .before .before .before .before .before .before .before .before .before .before .before .before .before .before .before .before .before .before .before .before .before .before .before .before .before .before .before .before .before)) (wide .ensures ∙ depth .ensures)
+    (finished b k (rewrite-slots .ensures) (rewrite-copies .ensures) (update-remember .ensures) (rewrite-variables .ensures) (c .before .before .release .ensures))
 
 pub evacuate-spec : {M : Type 1} → statement M
 evacuate-spec =

@@ -28,8 +28,11 @@ count-requires c κs = search needs
 
 add-n : tie.Need-add-n Inv-loop μ-loop
 add-n c =
-    let e = c .before .before .before .before .before .before .before .before .before .before .taldreku-run .kept .1 .1 .1 .1 .0 ∙ c .before .before .before .before .before .before .before .before .before .before .before .before .before .before .before .before .loop .inv .6 in
-    omega (arith, answers-few _ _ _ _ (c .count .ensures) (omega (arith, e, c .before .before .before .before .before .before .before .before .before .before .before .before .before .before .before .before .before .before .before .before .before .before .pre)), c .before .before .before .before .before .before .before .before .before .before .before .before .before .before .before .before .loop .inv .1, c .before .before .before .before .before .before .before .before .before .before .before .before .before .before .before .before .loop .inv .2)
+    let pre = c .before .before .before .before .before .before .before .before .before .before .before .before .before .before .before .before .before .before .before .before .before .before .pre in
+    let loop = c .before .before .before .before .before .before .before .before .before .before .before .before .before .before .before .before .loop in
+    let taldreku-run = c .before .before .before .before .before .before .before .before .before .before .taldreku-run in
+    let e = taldreku-run .kept .1 .1 .1 .1 .0 ∙ loop .inv .6 in
+    omega (arith, answers-few _ _ _ _ (c .count .ensures) (omega (arith, e, pre)), loop .inv .1, loop .inv .2)
 
 add-i : tie.Need-add-i Inv-loop μ-loop
 add-i c = omega (arith, c .before .before .before .before .before .before .before .before .before .before .before .before .before .before .before .before .loop .inv .1)

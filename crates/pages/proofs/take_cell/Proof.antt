@@ -27,7 +27,12 @@ set-used-requires : tie.Need-set-used-requires
 set-used-requires c κs = search needs
 
 add-set-count : tie.Need-add-set-count
-add-set-count c = omega (arith, c .before .before .before .before .before .before .before .before .before .count .ensures, c .before .before .before .before .before .before .before .before .before .before .before .before .before .before .before .pre, ap (λ (x : ℕ). countOf (c .before .before .before .before .before .before .before .before .before .before .before .before .before .before .before .args .p) (c .before .before .before .before .before .before .before .before .before .before .before .before .before .before .before .args .tables .now) x) (c .before .before .before .before .before .before .before .before .before .before .before .wide .ensures))
+add-set-count c =
+    let pre = c .before .before .before .before .before .before .before .before .before .before .before .before .before .before .before .pre in
+    let args = c .before .before .before .before .before .before .before .before .before .before .before .before .before .before .before .args in
+    let wide = c .before .before .before .before .before .before .before .before .before .before .before .wide in
+    let count = c .before .before .before .before .before .before .before .before .before .count in
+    omega (arith, count .ensures, pre, ap (λ (x : ℕ). countOf (args .p) (args .tables .now) x) (wide .ensures))
 
 set-count-requires : tie.Need-set-count-requires
 set-count-requires c κs = search needs
@@ -42,9 +47,17 @@ same-length : tie.Need-same-length
 same-length c = search needs
 
 returns : tie.Need-returns
-returns c = (
-  omega (arith, c .cell-on .ensures, c .before .wide2 .ensures, c .before .before .before .before .before .before .before .before .before .before .before .before .before .before .before .before .before .used .ensures),
-  took (c .before .before .before .before .before .before .before .before .before .before .before .before .before .before .before .before .before .before .before .before .args .p) (c .before .before .before .before .before .before .before .before .before .before .before .before .before .before .before .before .before .before .before .before .args .tables .now) (c .before .before .before .before .before .before .before .before .before .before .before .before .before .before .before .before .before .before .before .before .args .page) (c .before .before .before .before .before .before .before .before .before .before .before .before .before .before .before .before .wide .ensures) (c .before .before .before .before .before .before .before .before .before .before .before .before .before .before .before .before .before .used .ensures) (c .before .before .before .before .before .before .before .before .before .before .before .before .before .before .count .ensures) (c .before .before .before .before .before .before .before .before .before .before .before .before .set-owner .ensures) (c .before .before .before .before .before .before .before .before .set-used .ensures) (c .before .before .before .before .set-count .ensures),
+returns c =
+    let args = c .before .before .before .before .before .before .before .before .before .before .before .before .before .before .before .before .before .before .before .before .args in
+    let used = c .before .before .before .before .before .before .before .before .before .before .before .before .before .before .before .before .before .used in
+    let wide = c .before .before .before .before .before .before .before .before .before .before .before .before .before .before .before .before .wide in
+    let count = c .before .before .before .before .before .before .before .before .before .before .before .before .before .before .count in
+    let set-owner = c .before .before .before .before .before .before .before .before .before .before .before .before .set-owner in
+    let set-used = c .before .before .before .before .before .before .before .before .set-used in
+    let set-count = c .before .before .before .before .set-count in
+    (
+  omega (arith, c .cell-on .ensures, c .before .wide2 .ensures, used .ensures),
+  took (args .p) (args .tables .now) (args .page) (wide .ensures) (used .ensures) (count .ensures) (set-owner .ensures) (set-used .ensures) (set-count .ensures),
 )
 
 pub take-cell-spec : {M : Type 1} → statement M

@@ -46,7 +46,17 @@ returns-6 : tie.Need-returns-6
 returns-6 c = says-no (λ h. said-no _ (c .before .remember-whole .ensures) (not-true _ (c .if6 .taken)) (h .remember))
 
 returns-7 : tie.Need-returns-7
-returns-7 c = says-yes (whole-of (c .before .before .before .before .before .before .before .before .before .before .before .depths-whole .ensures .0 (not-false _ (c .before .before .before .before .before .before .before .before .before .before .if1 .left))) (c .before .before .before .before .before .before .before .before .before .pages-whole .ensures .0 (not-false _ (c .before .before .before .before .before .before .before .before .if2 .left))) (c .before .before .before .before .before .before .before .regions-whole .ensures .0 (not-false _ (c .before .before .before .before .before .before .if3 .left))) (c .before .before .before .before .before .variables-whole .ensures .0 (not-false _ (c .before .before .before .before .if4 .left))) (c .before .before .before .cells-whole .ensures .0 (not-false _ (c .before .before .if5 .left))) (c .before .remember-whole .ensures .0 (not-false _ (c .if6 .left))))
+returns-7 c =
+    let depths-whole = c .before .before .before .before .before .before .before .before .before .before .before .depths-whole in
+    let if1 = c .before .before .before .before .before .before .before .before .before .before .if1 in
+    let pages-whole = c .before .before .before .before .before .before .before .before .before .pages-whole in
+    let if2 = c .before .before .before .before .before .before .before .before .if2 in
+    let regions-whole = c .before .before .before .before .before .before .before .regions-whole in
+    let if3 = c .before .before .before .before .before .before .if3 in
+    let variables-whole = c .before .before .before .before .before .variables-whole in
+    let if4 = c .before .before .before .before .if4 in
+    let cells-whole = c .before .before .before .cells-whole in
+    says-yes (whole-of (depths-whole .ensures .0 (not-false _ (if1 .left))) (pages-whole .ensures .0 (not-false _ (if2 .left))) (regions-whole .ensures .0 (not-false _ (if3 .left))) (variables-whole .ensures .0 (not-false _ (if4 .left))) (cells-whole .ensures .0 (not-false _ (c .before .before .if5 .left))) (c .before .remember-whole .ensures .0 (not-false _ (c .if6 .left))))
 
 pub placed-whole-spec : {M : Type 1} → statement M
 placed-whole-spec =

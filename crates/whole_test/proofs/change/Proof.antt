@@ -51,7 +51,11 @@ loop-less : tie.Need-loop-less Inv-loop μ-loop
 loop-less c = omega arith
 
 loop-again : tie.Need-loop-again Inv-loop μ-loop
-loop-again c = (omega arith, c .before .before .before .before .before .before .before .before .loop .inv .1, changed-more (c .before .before .before .before .before .before .before .before .before .before .before .args .words .now) (c .before .before .before .before .before .before .before .before .before .before .before .args .changes .now) (c .before .before .before .before .before .before .before .before .loop .i) _ _ _ (c .before .before .before .before .before .before .before .before .loop .inv .2) (c .before .before .before .before .wide .ensures) (c .before .before .put .ensures), c .before .before .put .kept .0 ∙ c .before .before .before .before .before .before .before .before .loop .inv .3)
+loop-again c =
+    let args = c .before .before .before .before .before .before .before .before .before .before .before .args in
+    let loop = c .before .before .before .before .before .before .before .before .loop in
+    let wide = c .before .before .before .before .wide in
+    (omega arith, loop .inv .1, changed-more (args .words .now) (args .changes .now) (loop .i) _ _ _ (loop .inv .2) (wide .ensures) (c .before .before .put .ensures), c .before .before .put .kept .0 ∙ loop .inv .3)
 
 same-length : tie.Need-same-length Inv-loop μ-loop
 same-length c = c .before .loop .inv .3

@@ -61,11 +61,12 @@ loop-less c =
 
 loop-again : tie.Need-loop-again Inv-loop μ-loop
 loop-again c =
+    let wide = c .before .before .before .wide in
     let args = c .before .before .before .before .before .before .before .before .args in
     let loop = c .before .before .before .before .before .loop in
     let cross-cell = c .before .cross-cell in
     let l = walk-lowest (loop .inv .1) (omega (arith, loop .inv .0)) in
-    (loop .inv .0, walk-turn (trailingZeros 32 (loop .left)) (c .without-bit .result) (loop .inv .1) l (c .without-bit .ensures), summed-next (trailingZeros 32 (loop .left)) (c .without-bit .result) (loop .n + cross-cell .result) (cross-cell .result) l (c .without-bit .ensures) (cross-cell .ensures .0 ∙ ap (cellCrosses (args .p) (args .cells .now) (args .tables .now) (args .r)) (c .before .before .cell-on .ensures ∙ ap (cellOn (args .page)) (c .before .before .before .wide .ensures))) refl (loop .inv .2), omega (arith, cross-cell .ensures .1, loop .inv .3))
+    (loop .inv .0, walk-turn (trailingZeros 32 (loop .left)) (c .without-bit .result) (loop .inv .1) l (c .without-bit .ensures), summed-next (trailingZeros 32 (loop .left)) (c .without-bit .result) (loop .n + cross-cell .result) (cross-cell .result) l (c .without-bit .ensures) (cross-cell .ensures .0 ∙ ap (cellCrosses (args .p) (args .cells .now) (args .tables .now) (args .r)) (c .before .before .cell-on .ensures ∙ ap (cellOn (args .page)) (wide .ensures))) refl (loop .inv .2), omega (arith, cross-cell .ensures .1, loop .inv .3))
 
 returns : tie.Need-returns Inv-loop μ-loop
 returns c =

@@ -52,8 +52,11 @@ shl-set-mark c = search needs
 
 sub-set-mark : tie.Need-sub-set-mark
 sub-set-mark c =
+    let args = c .before .before .before .before .before .before .before .before .before .before .before .before .before .before .before .args in
+    let take-cell = c .before .before .before .before .before .before .before .before .before .before .before .take-cell in
+    let page-of = c .before .before .before .before .page-of in
     let place-of = c .before .before .before .place-of in
-    omega (arith, facts (c .before .before .before .before .before .before .before .before .before .before .before), shl-one (place-of .result) (omega (arith, place-of .ensures)), c .before .mark .ensures, ap (λ (q : ℕ). markOf (c .before .before .before .before .before .before .before .before .before .before .before .before .before .before .before .args .p) (c .before .before .before .before .before .before .before .before .before .before .before .take-cell .last .1 .0) q) (c .before .before .before .before .page-of .ensures), ap (λ (i : ℕ). 2 ^ i) (place-of .ensures))
+    omega (arith, facts (c .before .before .before .before .before .before .before .before .before .before .before), shl-one (place-of .result) (omega (arith, place-of .ensures)), c .before .mark .ensures, ap (λ (q : ℕ). markOf (args .p) (take-cell .last .1 .0) q) (page-of .ensures), ap (λ (i : ℕ). 2 ^ i) (place-of .ensures))
 
 set-mark-requires : tie.Need-set-mark-requires
 set-mark-requires c κs =

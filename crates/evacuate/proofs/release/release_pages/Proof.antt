@@ -32,7 +32,13 @@ set-used-requires : tie.Need-set-used-requires Inv-loop μ-loop
 set-used-requires c κs = (room-same (c .before .before .before .set-owner .kept .1 .0 ∙ c .before .before .before .before .before .before .before .before .before .loop .inv .1) (c .before .before .before .before .before .before .before .before .before .before .before .pre), c .before .before .before .before .before .before .before .before .loop-test .taken)
 
 set-mark-requires : tie.Need-set-mark-requires Inv-loop μ-loop
-set-mark-requires c κs = (room-same (c .before .before .before .set-used .kept .1 .0 ∙ c .before .before .before .before .before .before .before .set-owner .kept .1 .0 ∙ c .before .before .before .before .before .before .before .before .before .before .before .before .before .loop .inv .1) (c .before .before .before .before .before .before .before .before .before .before .before .before .before .before .before .pre), c .before .before .before .before .before .before .before .before .before .before .before .before .loop-test .taken)
+set-mark-requires c κs =
+    let pre = c .before .before .before .before .before .before .before .before .before .before .before .before .before .before .before .pre in
+    let loop = c .before .before .before .before .before .before .before .before .before .before .before .before .before .loop in
+    let loop-test = c .before .before .before .before .before .before .before .before .before .before .before .before .loop-test in
+    let set-owner = c .before .before .before .before .before .before .before .set-owner in
+    let set-used = c .before .before .before .set-used in
+    (room-same (set-used .kept .1 .0 ∙ set-owner .kept .1 .0 ∙ loop .inv .1) (pre), loop-test .taken)
 
 add-page : tie.Need-add-page Inv-loop μ-loop
 add-page c = omega (arith, c .before .before .before .before .before .before .pre .few)

@@ -41,20 +41,28 @@ cast-set-used : tie.Need-cast-set-used
 cast-set-used c = omega (arith, c .before .before .before .before .before .before .before .before .remember-copies .ensures .low, c .before .before .before .before .before .before .before .before .before .before .before .before .before .before .before .before .before .before .before .before .pre .small)
 
 set-used-requires : tie.Need-set-used-requires
-set-used-requires c κs = omega (arith, c .before .before .before .before .before .before .before .before .before .before .before .before .before .before .before .before .before .before .before .before .pre .entries .long, c .before .before .before .clear-entries .kept .1 .0, c .before .before .before .before .before .before .before .before .remember-copies .kept .1 .1 .1 .0, c .before .before .before .before .before .before .before .before .before .before .before .before .filter-entries .kept .1 .1 .1 .0)
+set-used-requires c κs =
+    let pre = c .before .before .before .before .before .before .before .before .before .before .before .before .before .before .before .before .before .before .before .before .pre in
+    let filter-entries = c .before .before .before .before .before .before .before .before .before .before .before .before .filter-entries in
+    let remember-copies = c .before .before .before .before .before .before .before .before .remember-copies in
+    let clear-entries = c .before .before .before .clear-entries in
+    omega (arith, pre .entries .long, clear-entries .kept .1 .0, remember-copies .kept .1 .1 .1 .0, filter-entries .kept .1 .1 .1 .0)
 
 same-length : tie.Need-same-length
 same-length c = c .before .before .set-used .kept .0 ∙ c .before .before .before .before .before .before .clear-entries .kept .1 .0 ∙ c .before .before .before .before .before .before .before .before .before .before .before .remember-copies .kept .1 .1 .1 .0 ∙ c .before .before .before .before .before .before .before .before .before .before .before .before .before .before .before .filter-entries .kept .1 .1 .1 .0
 
 returns : tie.Need-returns
 returns c =
+    let used = c .before .before .before .before .before .before .before .before .before .before .before .before .before .before .before .before .before .before .used in
+    let wide = c .before .before .before .before .before .before .before .before .before .before .before .before .before .before .before .before .before .wide in
+    let larger = c .before .before .before .before .before .before .before .larger in
     let filter-entries = c .before .before .before .before .before .before .before .before .before .before .before .before .before .before .before .filter-entries in
     let remember-copies = c .before .before .before .before .before .before .before .before .before .before .before .remember-copies in
     let clear-entries = c .before .before .before .before .before .before .clear-entries in
     let a = c .before .before .before .before .before .before .before .before .before .before .before .before .before .before .before .before .before .before .before .before .before .before .before .args in
-    let h = updated (updating (c .before .before .before .before .before .before .before .before .before .before .before .before .before .before .before .before .before)) (filter-entries .ensures .0) (filter-entries .ensures .1) (remember-copies .ensures) (c .before .before .before .before .before .before .before .larger .ensures) (clear-entries .ensures) refl in
+    let h = updated (updating (c .before .before .before .before .before .before .before .before .before .before .before .before .before .before .before .before .before)) (filter-entries .ensures .0) (filter-entries .ensures .1) (remember-copies .ensures) (larger .ensures) (clear-entries .ensures) refl in
     subst (λ (X : List ℕ). Updated (a .p) (a .region) (a .p .entries) (usedIn (a .remember .now)) (a .cells .now) (a .tables .now) (a .remember .now) X) (sym (c .before .before .set-used .ensures))
-    (subst (λ (y : ℕ). Updated (a .p) (a .region) (a .p .entries) y (a .cells .now) (a .tables .now) (a .remember .now) (set (clear-entries .last .1 .0) 1 (remember-copies .result))) (c .before .before .before .before .before .before .before .before .before .before .before .before .before .before .before .before .before .wide .ensures ∙ c .before .before .before .before .before .before .before .before .before .before .before .before .before .before .before .before .before .before .used .ensures) h)
+    (subst (λ (y : ℕ). Updated (a .p) (a .region) (a .p .entries) y (a .cells .now) (a .tables .now) (a .remember .now) (set (clear-entries .last .1 .0) 1 (remember-copies .result))) (wide .ensures ∙ used .ensures) h)
 
 pub update-remember-spec : {M : Type 1} → statement M
 update-remember-spec =

@@ -36,19 +36,40 @@ tables-words-requires : tie.Need-tables-words-requires
 tables-words-requires c κs = asked-range (c .before .before .ask .ensures (now (c .before .before .before .before .before .before .before .before .before .before .before .args .cells)) (now (c .before .before .before .before .before .before .before .before .before .before .before .args .remember)) (now (c .before .before .before .before .before .before .before .before .before .before .before .args .tables)) refl refl refl) (c .before .if1 .left) .0
 
 clear-requires : tie.Need-clear-requires
-clear-requires c κs = (omega arith, omega (arith, asked-range (c .before .before .before .ask .ensures (now (c .before .before .before .before .before .before .before .before .before .before .before .before .args .cells)) (now (c .before .before .before .before .before .before .before .before .before .before .before .before .args .remember)) (now (c .before .before .before .before .before .before .before .before .before .before .before .before .args .tables)) refl refl refl) (c .before .before .if1 .left) .1 .tables, c .tables-words .ensures))
+clear-requires c κs =
+    let args = c .before .before .before .before .before .before .before .before .before .before .before .before .args in
+    let ask = c .before .before .before .ask in
+    (omega arith, omega (arith, asked-range (ask .ensures (now (args .cells)) (now (args .remember)) (now (args .tables)) refl refl refl) (c .before .before .if1 .left) .1 .tables, c .tables-words .ensures))
 
 write-sizes-requires : tie.Need-write-sizes-requires
-write-sizes-requires c κs = omega (arith, asked-five (c .before .before .before .before .before .before .before .ask .ensures (now (c .before .before .before .before .before .before .before .before .before .before .before .before .before .before .before .before .args .cells)) (now (c .before .before .before .before .before .before .before .before .before .before .before .before .before .before .before .before .args .remember)) (now (c .before .before .before .before .before .before .before .before .before .before .before .before .before .before .before .before .args .tables)) refl refl refl) (c .before .before .before .before .before .before .if1 .left), c .before .before .before .clear .ensures .long)
+write-sizes-requires c κs =
+    let args = c .before .before .before .before .before .before .before .before .before .before .before .before .before .before .before .before .args in
+    let ask = c .before .before .before .before .before .before .before .ask in
+    let if1 = c .before .before .before .before .before .before .if1 in
+    let clear = c .before .before .before .clear in
+    omega (arith, asked-five (ask .ensures (now (args .cells)) (now (args .remember)) (now (args .tables)) refl refl refl) (if1 .left), clear .ensures .long)
 
 remember-words-requires : tie.Need-remember-words-requires
-remember-words-requires c κs = asked-range (c .before .before .before .before .before .before .before .before .before .before .before .ask .ensures (now (c .before .before .before .before .before .before .before .before .before .before .before .before .before .before .before .before .before .before .before .before .args .cells)) (now (c .before .before .before .before .before .before .before .before .before .before .before .before .before .before .before .before .before .before .before .before .args .remember)) (now (c .before .before .before .before .before .before .before .before .before .before .before .before .before .before .before .before .before .before .before .before .args .tables)) refl refl refl) (c .before .before .before .before .before .before .before .before .before .before .if1 .left) .0
+remember-words-requires c κs =
+    let args = c .before .before .before .before .before .before .before .before .before .before .before .before .before .before .before .before .before .before .before .before .args in
+    let ask = c .before .before .before .before .before .before .before .before .before .before .before .ask in
+    let if1 = c .before .before .before .before .before .before .before .before .before .before .if1 in
+    asked-range (ask .ensures (now (args .cells)) (now (args .remember)) (now (args .tables)) refl refl refl) (if1 .left) .0
 
 clear-requires-2 : tie.Need-clear-requires-2
-clear-requires-2 c κs = (omega arith, omega (arith, asked-range (c .before .before .before .before .before .before .before .before .before .before .before .before .ask .ensures (now (c .before .before .before .before .before .before .before .before .before .before .before .before .before .before .before .before .before .before .before .before .before .args .cells)) (now (c .before .before .before .before .before .before .before .before .before .before .before .before .before .before .before .before .before .before .before .before .before .args .remember)) (now (c .before .before .before .before .before .before .before .before .before .before .before .before .before .before .before .before .before .before .before .before .before .args .tables)) refl refl refl) (c .before .before .before .before .before .before .before .before .before .before .before .if1 .left) .1 .remember, c .remember-words .ensures))
+clear-requires-2 c κs =
+    let args = c .before .before .before .before .before .before .before .before .before .before .before .before .before .before .before .before .before .before .before .before .before .args in
+    let ask = c .before .before .before .before .before .before .before .before .before .before .before .before .ask in
+    let if1 = c .before .before .before .before .before .before .before .before .before .before .before .if1 in
+    (omega arith, omega (arith, asked-range (ask .ensures (now (args .cells)) (now (args .remember)) (now (args .tables)) refl refl refl) (if1 .left) .1 .remember, c .remember-words .ensures))
 
 set-entries-requires : tie.Need-set-entries-requires
-set-entries-requires c κs = omega (arith, asked-range (c .before .before .before .before .before .before .before .before .before .before .before .before .before .before .before .before .ask .ensures (now (c .before .before .before .before .before .before .before .before .before .before .before .before .before .before .before .before .before .before .before .before .before .before .before .before .before .args .cells)) (now (c .before .before .before .before .before .before .before .before .before .before .before .before .before .before .before .before .before .before .before .before .before .before .before .before .before .args .remember)) (now (c .before .before .before .before .before .before .before .before .before .before .before .before .before .before .before .before .before .before .before .before .before .before .before .before .before .args .tables)) refl refl refl) (c .before .before .before .before .before .before .before .before .before .before .before .before .before .before .before .if1 .left) .1 .remember, c .before .before .before .clear2 .ensures .long)
+set-entries-requires c κs =
+    let args = c .before .before .before .before .before .before .before .before .before .before .before .before .before .before .before .before .before .before .before .before .before .before .before .before .before .args in
+    let ask = c .before .before .before .before .before .before .before .before .before .before .before .before .before .before .before .before .ask in
+    let if1 = c .before .before .before .before .before .before .before .before .before .before .before .before .before .before .before .if1 in
+    let clear2 = c .before .before .before .clear2 in
+    omega (arith, asked-range (ask .ensures (now (args .cells)) (now (args .remember)) (now (args .tables)) refl refl refl) (if1 .left) .1 .remember, clear2 .ensures .long)
 
 same-length : tie.Need-same-length
 same-length c = search needs
@@ -57,7 +78,20 @@ same-length-2 : tie.Need-same-length-2
 same-length-2 c = search needs
 
 returns-2 : tie.Need-returns-2
-returns-2 c = prepared-done (λ i. sizes (c .before .before .before .before .before .before .before .before .before .before .before .before .before .before .before .before .before .before .before .before .before .before .before .before .wide .ensures i) (c .before .before .before .before .before .before .before .before .before .before .before .before .before .before .before .before .before .before .before .before .before .before .before .wide2 .ensures i) (c .before .before .before .before .before .before .before .before .before .before .before .before .before .before .before .before .before .before .before .before .before .before .wide3 .ensures i) (c .before .before .before .before .before .before .before .before .before .before .before .before .before .before .before .before .before .before .before .before .before .wide4 .ensures i) (c .before .before .before .before .before .before .before .before .before .before .before .before .before .before .before .before .before .before .before .before .wide5 .ensures i)) (c .before .before .before .before .before .before .before .before .before .before .before .before .before .before .before .before .before .before .before .ask .ensures _ _ _ refl refl refl) (c .before .before .before .before .before .before .before .before .before .before .before .before .before .before .before .before .before .before .if1 .left) (c .before .before .before .before .before .before .before .before .before .before .before .before .before .before .before .before .tables-words .ensures) (c .before .before .before .before .before .before .before .before .before .before .before .before .before .before .before .clear .ensures) (c .before .before .before .before .before .before .before .before .before .before .before .write-sizes .ensures) (c .before .before .before .before .before .before .before .remember-words .ensures) (c .before .before .before .before .before .before .clear2 .ensures) (c .before .before .set-entries .ensures)
+returns-2 c =
+    let wide = c .before .before .before .before .before .before .before .before .before .before .before .before .before .before .before .before .before .before .before .before .before .before .before .before .wide in
+    let wide2 = c .before .before .before .before .before .before .before .before .before .before .before .before .before .before .before .before .before .before .before .before .before .before .before .wide2 in
+    let wide3 = c .before .before .before .before .before .before .before .before .before .before .before .before .before .before .before .before .before .before .before .before .before .before .wide3 in
+    let wide4 = c .before .before .before .before .before .before .before .before .before .before .before .before .before .before .before .before .before .before .before .before .before .wide4 in
+    let wide5 = c .before .before .before .before .before .before .before .before .before .before .before .before .before .before .before .before .before .before .before .before .wide5 in
+    let ask = c .before .before .before .before .before .before .before .before .before .before .before .before .before .before .before .before .before .before .before .ask in
+    let if1 = c .before .before .before .before .before .before .before .before .before .before .before .before .before .before .before .before .before .before .if1 in
+    let tables-words = c .before .before .before .before .before .before .before .before .before .before .before .before .before .before .before .before .tables-words in
+    let clear = c .before .before .before .before .before .before .before .before .before .before .before .before .before .before .before .clear in
+    let write-sizes = c .before .before .before .before .before .before .before .before .before .before .before .write-sizes in
+    let remember-words = c .before .before .before .before .before .before .before .remember-words in
+    let clear2 = c .before .before .before .before .before .before .clear2 in
+    prepared-done (λ i. sizes (wide .ensures i) (wide2 .ensures i) (wide3 .ensures i) (wide4 .ensures i) (wide5 .ensures i)) (ask .ensures _ _ _ refl refl refl) (if1 .left) (tables-words .ensures) (clear .ensures) (write-sizes .ensures) (remember-words .ensures) (clear2 .ensures) (c .before .before .set-entries .ensures)
 
 pub taldreku-prepare-spec : {M : Type 1} → statement M
 taldreku-prepare-spec =

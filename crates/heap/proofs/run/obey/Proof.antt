@@ -15,7 +15,11 @@ enum-known-o-2 c = search needs
 
 end-requires : tie.Need-end-requires
 end-requires c κs =
-    let r = ends-ready (c .before .before .before .before .before .before .before .before .before .before .before .before .before .before .before .before .before .before .before .args .p) (c .before .before .before .before .before .before .before .before .before .before .before .before .obey .result) (c .before .before .before .before .before .before .before .before .before .before .before .before .before .before .before .before .before .before .before .args .m) (c .before .before .before .before .before .before .before .before .before .before .before .before .before .before .before .before .before .before .before .pre) (c .before .before .before .before .before .before .before .before .before .before .before .before .obey .ensures) (c .before .before .before .before .o2 .given .1) in
+    let args = c .before .before .before .before .before .before .before .before .before .before .before .before .before .before .before .before .before .before .before .args in
+    let pre = c .before .before .before .before .before .before .before .before .before .before .before .before .before .before .before .before .before .before .before .pre in
+    let obey = c .before .before .before .before .before .before .before .before .before .before .before .before .obey in
+    let o2 = c .before .before .before .before .o2 in
+    let r = ends-ready (args .p) (obey .result) (args .m) (pre) (obey .ensures) (o2 .given .1) in
     (r .0, (r .1, r .2))
 
 same-length : tie.Need-same-length
@@ -40,7 +44,12 @@ same-length-6 : tie.Need-same-length-6
 same-length-6 c = search needs
 
 returns-2 : tie.Need-returns-2
-returns-2 c = ends-did (c .before .before .before .before .before .before .before .before .before .before .before .before .before .before .before .before .before .before .before .before .before .before .before .before .before .before .args .p) (c .before .before .before .before .before .before .before .before .before .before .before .before .before .before .before .before .before .before .before .obey .result) (c .before .before .before .before .before .before .before .before .before .before .before .before .before .before .before .before .before .before .before .obey .ensures) (c .before .before .before .before .before .before .before .before .before .before .before .o2 .given .1) (c .before .before .before .before .before .before .end .ensures)
+returns-2 c =
+    let args = c .before .before .before .before .before .before .before .before .before .before .before .before .before .before .before .before .before .before .before .before .before .before .before .before .before .before .args in
+    let obey = c .before .before .before .before .before .before .before .before .before .before .before .before .before .before .before .before .before .before .before .obey in
+    let o2 = c .before .before .before .before .before .before .before .before .before .before .before .o2 in
+    let end = c .before .before .before .before .before .before .end in
+    ends-did (args .p) (obey .result) (obey .ensures) (o2 .given .1) (end .ensures)
 
 pub obey-spec : {M : Type 1} → statement M
 obey-spec =

@@ -32,8 +32,13 @@ join-requires c κs = search needs
 
 returns-2 : tie.Need-returns-2
 returns-2 c =
+    let region = c .before .before .before .before .before .before .before .region in
+    let if1 = c .before .before .before .before .before .before .if1 in
+    let slot = c .before .before .before .before .before .slot in
+    let wide = c .before .before .before .before .wide in
+    let page-at = c .before .before .before .page-at in
     let args = c .before .before .before .before .before .before .before .before .before .before .before .args in
-    slot-none (args .p) (args .cells .now) (args .remember .now) (args .tables .now) (args .r) (args .g) (args .i) (sym (c .before .before .before .before .before .before .before .region .ensures) ∙ c .before .before .before .before .before .before .if1 .left) (λ e. c .if2 .taken (slot-call (args .p) (args .cells .now) (args .remember .now) (args .tables .now) (args .r) (args .g) (args .i) _ _ _ _ _ (c .before .before .before .before .before .slot .ensures) (c .before .before .before .before .wide .ensures) (c .before .before .before .page-at .ensures) (c .before .before .owner .ensures) (c .before .join .ensures) ∙ e))
+    slot-none (args .p) (args .cells .now) (args .remember .now) (args .tables .now) (args .r) (args .g) (args .i) (sym (region .ensures) ∙ if1 .left) (λ e. c .if2 .taken (slot-call (args .p) (args .cells .now) (args .remember .now) (args .tables .now) (args .r) (args .g) (args .i) _ _ _ _ _ (slot .ensures) (wide .ensures) (page-at .ensures) (c .before .before .owner .ensures) (c .before .join .ensures) ∙ e))
 
 mul-result : tie.Need-mul-result
 mul-result c = search needs
@@ -43,10 +48,14 @@ shared-slice-read-result c = search needs
 
 returns-3 : tie.Need-returns-3
 returns-3 c =
+    let region = c .before .before .before .before .before .before .before .before .region in
+    let if1 = c .before .before .before .before .before .before .before .if1 in
+    let page-at = c .before .before .before .before .page-at in
+    let owner = c .before .before .before .owner in
     let args = c .before .before .before .before .before .before .before .before .before .before .before .before .args in
     let slot = c .before .before .before .before .before .before .slot in
     let wide = c .before .before .before .before .before .wide in
-    ap (λ (z : ℕ). getD (args .cells .now) z 0) (wide .ensures ∙ slot .ensures) ∙ slot-some (args .p) (args .cells .now) (args .remember .now) (args .tables .now) (args .r) (args .g) (args .i) (sym (c .before .before .before .before .before .before .before .before .region .ensures) ∙ c .before .before .before .before .before .before .before .if1 .left) (sym (slot-call (args .p) (args .cells .now) (args .remember .now) (args .tables .now) (args .r) (args .g) (args .i) _ _ _ _ _ (slot .ensures) (wide .ensures) (c .before .before .before .before .page-at .ensures) (c .before .before .before .owner .ensures) (c .before .before .join .ensures)) ∙ c .before .if2 .left)
+    ap (λ (z : ℕ). getD (args .cells .now) z 0) (wide .ensures ∙ slot .ensures) ∙ slot-some (args .p) (args .cells .now) (args .remember .now) (args .tables .now) (args .r) (args .g) (args .i) (sym (region .ensures) ∙ if1 .left) (sym (slot-call (args .p) (args .cells .now) (args .remember .now) (args .tables .now) (args .r) (args .g) (args .i) _ _ _ _ _ (slot .ensures) (wide .ensures) (page-at .ensures) (owner .ensures) (c .before .before .join .ensures)) ∙ c .before .if2 .left)
 
 pub slot-for-spec : {M : Type 1} → statement M
 slot-for-spec =

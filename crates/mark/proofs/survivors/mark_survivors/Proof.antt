@@ -45,9 +45,14 @@ same-length-2 c = search needs
 
 returns : tie.Need-returns
 returns c =
+    let depth = c .before .before .before .before .before .before .before .before .before .before .depth in
+    let wide = c .before .before .before .before .before .before .before .before .before .wide in
+    let region-at = c .before .before .before .before .before .before .before .before .region-at in
+    let region-at2 = c .before .before .before .before .before .before .before .region-at2 in
+    let mark-levels = c .before .before .before .before .mark-levels in
     let args = c .before .before .before .before .before .before .before .before .before .before .before .before .before .before .before .args in
     let pre = c .before .before .before .before .before .before .before .before .before .before .before .before .before .before .before .pre in
-    marked-at (args .p) (pre .0) (words (args .cells .now) (args .remember .now) (args .tables .now)) (pre .1 .0) (omega arith) (args .thread) _ _ _ (pre .1 .1 .0) (omega (arith, pre .1 .1 .1)) (c .before .before .before .before .before .before .before .before .before .wide .ensures ∙ c .before .before .before .before .before .before .before .before .before .before .depth .ensures) (c .before .before .before .before .before .before .before .before .region-at .ensures) (c .before .before .before .before .before .before .before .region-at2 .ensures) (c .before .before .before .before .mark-levels .ensures)
+    marked-at (args .p) (pre .0) (words (args .cells .now) (args .remember .now) (args .tables .now)) (pre .1 .0) (omega arith) (args .thread) _ _ _ (pre .1 .1 .0) (omega (arith, pre .1 .1 .1)) (wide .ensures ∙ depth .ensures) (region-at .ensures) (region-at2 .ensures) (mark-levels .ensures)
 
 pub mark-survivors-spec : {M : Type 1} → statement M
 mark-survivors-spec =

@@ -58,13 +58,27 @@ same-length : tie.Need-same-length Inv-loop μ-loop
 same-length c = omega arith
 
 returns : tie.Need-returns Inv-loop μ-loop
-returns c = took (sym (c .before .before .before .before .before .before .before .before .before .before .before .before .before .before .before .loop .inv .0) ∙ fill-full _ _ _ _ _ (c .before .before .before .before .before .before .before .before .before .before .before .before .before .before .loop-test .taken) (c .before .before .before .before .before .before .before .before .before .before .line .given .0 .0) (sym (c .before .before .before .before .before .before .before .before .before .before .before .before .step .ensures) ∙ c .before .before .before .before .before .before .before .before .before .before .line .given .1) _ _ _ _ _ (c .before .before .before .before .before .before .before .line2 .given .1) (c .before .before .before .before .put-words .last .0) (c .before .before .before .before .put-words .ensures) (c .if1 .taken))
+returns c =
+    let loop = c .before .before .before .before .before .before .before .before .before .before .before .before .before .before .before .loop in
+    let loop-test = c .before .before .before .before .before .before .before .before .before .before .before .before .before .before .loop-test in
+    let step = c .before .before .before .before .before .before .before .before .before .before .before .before .step in
+    let line = c .before .before .before .before .before .before .before .before .before .before .line in
+    let line2 = c .before .before .before .before .before .before .before .line2 in
+    let put-words = c .before .before .before .before .put-words in
+    took (sym (loop .inv .0) ∙ fill-full _ _ _ _ _ (loop-test .taken) (line .given .0 .0) (sym (step .ensures) ∙ line .given .1) _ _ _ _ _ (line2 .given .1) (put-words .last .0) (put-words .ensures) (c .if1 .taken))
 
 loop-less-2 : tie.Need-loop-less-2 Inv-loop μ-loop
 loop-less-2 c = omega arith
 
 loop-again-2 : tie.Need-loop-again-2 Inv-loop μ-loop
-loop-again-2 c = (sym (fill-on _ _ _ _ _ (c .before .before .before .before .before .before .before .before .before .before .before .before .before .before .loop-test .taken) (c .before .before .before .before .before .before .before .before .before .before .line .given .0 .0) (sym (c .before .before .before .before .before .before .before .before .before .before .before .before .step .ensures) ∙ c .before .before .before .before .before .before .before .before .before .before .line .given .1) _ _ _ _ _ (c .before .before .before .before .before .before .before .line2 .given .1) (c .before .before .before .before .put-words .last .0) (c .before .before .before .before .put-words .ensures) (c .if1 .left) _ (c .before .start .ensures)) ∙ c .before .before .before .before .before .before .before .before .before .before .before .before .before .before .before .loop .inv .0, omega arith, omega arith)
+loop-again-2 c =
+    let loop = c .before .before .before .before .before .before .before .before .before .before .before .before .before .before .before .loop in
+    let loop-test = c .before .before .before .before .before .before .before .before .before .before .before .before .before .before .loop-test in
+    let step = c .before .before .before .before .before .before .before .before .before .before .before .before .step in
+    let line = c .before .before .before .before .before .before .before .before .before .before .line in
+    let line2 = c .before .before .before .before .before .before .before .line2 in
+    let put-words = c .before .before .before .before .put-words in
+    (sym (fill-on _ _ _ _ _ (loop-test .taken) (line .given .0 .0) (sym (step .ensures) ∙ line .given .1) _ _ _ _ _ (line2 .given .1) (put-words .last .0) (put-words .ensures) (c .if1 .left) _ (c .before .start .ensures)) ∙ loop .inv .0, omega arith, omega arith)
 
 enum-told : tie.Need-enum-told Inv-loop μ-loop
 enum-told c = search needs

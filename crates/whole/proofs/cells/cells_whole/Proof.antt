@@ -74,7 +74,11 @@ work-requires : tie.Need-work-requires Inv-fields μ-fields Inv-cells μ-cells I
 work-requires c κs = omega (arith, c .before .before .before .before .before .before .before .before .before .before .before .before .before .pre .0 .few, c .before .before .before .before .before .before .before .before .before .before .before .before .before .pre .1 .0, c .before .before .before .before .cell-on .ensures)
 
 fields-holds : tie.Need-fields-holds Inv-fields μ-fields Inv-cells μ-cells Inv-pages μ-pages
-fields-holds c = (c .before .before .before .before .before .before .before .before .cells .inv .0, omega arith, omega (arith, c .before .before .before .before .before .before .before .before .before .before .before .before .before .before .before .pre .0 .few, c .before .before .before .before .before .before .before .before .before .before .before .before .before .before .before .pre .1 .0, c .before .before .before .before .before .before .cell-on .ensures), omega (arith, c .before .before .if1 .left), λ j l. absurd (not-suc-le-zero l))
+fields-holds c =
+    let pre = c .before .before .before .before .before .before .before .before .before .before .before .before .before .before .before .pre in
+    let cells = c .before .before .before .before .before .before .before .before .cells in
+    let cell-on = c .before .before .before .before .before .before .cell-on in
+    (cells .inv .0, omega arith, omega (arith, pre .0 .few, pre .1 .0, cell-on .ensures), omega (arith, c .before .before .if1 .left), λ j l. absurd (not-suc-le-zero l))
 
 field-requires : tie.Need-field-requires Inv-fields μ-fields Inv-cells μ-cells Inv-pages μ-pages
 field-requires c κs = omega (arith, c .before .fields .inv .2)
@@ -89,12 +93,15 @@ fields-less : tie.Need-fields-less Inv-fields μ-fields Inv-cells μ-cells Inv-p
 fields-less c = omega arith
 
 fields-again : tie.Need-fields-again Inv-fields μ-fields Inv-cells μ-cells Inv-pages μ-pages
-fields-again c = (
-  c .before .before .before .before .fields .inv .0,
+fields-again c =
+    let args = c .before .before .before .before .before .before .before .before .before .before .before .before .before .before .before .before .before .before .before .before .args in
+    let fields = c .before .before .before .before .fields in
+    (
+  fields .inv .0,
   omega arith,
-  c .before .before .before .before .fields .inv .2,
-  c .before .before .before .before .fields .inv .3,
-  below-more _ _ (c .before .before .before .before .fields .inv .4) (subst (λ (y : ℕ). IsRef (c .before .before .before .before .before .before .before .before .before .before .before .before .before .before .before .before .before .before .before .before .args .p) (now (c .before .before .before .before .before .before .before .before .before .before .before .before .before .before .before .before .before .before .before .before .args .tables)) y) (c .before .before .field .ensures) (c .before .is-ref .ensures .0 (not-false _ (c .if3 .left)))),
+  fields .inv .2,
+  fields .inv .3,
+  below-more _ _ (fields .inv .4) (subst (λ (y : ℕ). IsRef (args .p) (now (args .tables)) y) (c .before .before .field .ensures) (c .before .is-ref .ensures .0 (not-false _ (c .if3 .left)))),
 )
 
 zero-from-requires : tie.Need-zero-from-requires Inv-fields μ-fields Inv-cells μ-cells Inv-pages μ-pages
@@ -107,12 +114,23 @@ cells-less : tie.Need-cells-less Inv-fields μ-fields Inv-cells μ-cells Inv-pag
 cells-less c = omega arith
 
 cells-again : tie.Need-cells-again Inv-fields μ-fields Inv-cells μ-cells Inv-pages μ-pages
-cells-again c = (
-  c .before .before .before .fields .inv .0,
+cells-again c =
+    let args = c .before .before .before .before .before .before .before .before .before .before .before .before .before .before .before .before .before .before .before .args in
+    let cells = c .before .before .before .before .before .before .before .before .before .before .before .before .cells in
+    let cell-on = c .before .before .before .before .before .before .before .before .before .before .cell-on in
+    let head2 = c .before .before .before .before .before .before .before .before .before .head in
+    let field-count = c .before .before .before .before .before .before .before .before .field-count in
+    let field-count2 = c .before .before .before .before .before .before .before .field-count2 in
+    let if1 = c .before .before .before .before .before .before .if1 in
+    let work = c .before .before .before .before .before .work in
+    let if2 = c .before .before .before .before .if2 in
+    let fields2 = c .before .before .before .fields in
+    (
+  fields2 .inv .0,
   omega arith,
-  c .before .before .before .before .before .before .before .before .before .before .before .before .cells .inv .2,
-  below-more _ _ (c .before .before .before .before .before .before .before .before .before .before .before .before .cells .inv .3) (subst (λ (k : ℕ). CellWhole (c .before .before .before .before .before .before .before .before .before .before .before .before .before .before .before .before .before .before .before .args .p) (now (c .before .before .before .before .before .before .before .before .before .before .before .before .before .before .before .before .before .before .before .args .cells)) (now (c .before .before .before .before .before .before .before .before .before .before .before .before .before .before .before .before .before .before .before .args .tables)) k) (c .before .before .before .before .before .before .before .before .before .before .cell-on .ensures)
-      (record { head = omega (arith, (c .before .before .before .before .before .before .before .before .field-count .ensures ∙ ap (λ (h : ℕ). h / 16) (c .before .before .before .before .before .before .before .before .before .head .ensures)), (c .before .before .before .before .before .before .before .field-count2 .ensures ∙ ap (λ (h : ℕ). h % 16) (c .before .before .before .before .before .before .before .before .before .head .ensures)), c .before .before .before .before .before .before .if1 .left); working = sym (c .before .before .before .before .before .work .ensures) ∙ c .before .before .before .before .if2 .left; fields = fields-whole (c .before .before .before .before .before .before .before .before .field-count .ensures ∙ ap (λ (h : ℕ). h / 16) (c .before .before .before .before .before .before .before .before .before .head .ensures)) (c .before .before .before .before .before .before .before .field-count2 .ensures ∙ ap (λ (h : ℕ). h % 16) (c .before .before .before .before .before .before .before .before .before .head .ensures)) (λ f l. c .before .before .before .fields .inv .4 f (omega arith)) (c .before .zero-from .ensures .0 (not-false _ (c .if4 .left))) })),
+  cells .inv .2,
+  below-more _ _ (cells .inv .3) (subst (λ (k : ℕ). CellWhole (args .p) (now (args .cells)) (now (args .tables)) k) (cell-on .ensures)
+      (record { head = omega (arith, (field-count .ensures ∙ ap (λ (h : ℕ). h / 16) (head2 .ensures)), (field-count2 .ensures ∙ ap (λ (h : ℕ). h % 16) (head2 .ensures)), if1 .left); working = sym (work .ensures) ∙ if2 .left; fields = fields-whole (field-count .ensures ∙ ap (λ (h : ℕ). h / 16) (head2 .ensures)) (field-count2 .ensures ∙ ap (λ (h : ℕ). h % 16) (head2 .ensures)) (λ f l. fields2 .inv .4 f (omega arith)) (c .before .zero-from .ensures .0 (not-false _ (c .if4 .left))) })),
 )
 
 add-page : tie.Need-add-page Inv-fields μ-fields Inv-cells μ-cells Inv-pages μ-pages
@@ -128,16 +146,52 @@ returns : tie.Need-returns Inv-fields μ-fields Inv-cells μ-cells Inv-pages μ-
 returns c = (λ e. all-pages (c .before .before .before .before .args .p) (now (c .before .before .before .before .args .cells)) (now (c .before .before .before .before .args .tables)) (λ k l. c .before .pages .inv .2 k (omega arith)), λ h. c .before .pages .inv .0)
 
 returns-2 : tie.Need-returns-2 Inv-fields μ-fields Inv-cells μ-cells Inv-pages μ-pages
-returns-2 c = says-no (λ h. let z : ⊥ = omega (arith, (c .before .before .field-count .ensures ∙ ap (λ (h : ℕ). h / 16) (c .before .before .before .head .ensures)), (c .before .field-count2 .ensures ∙ ap (λ (h : ℕ). h % 16) (c .before .before .before .head .ensures)), (reached h (c .before .before .before .before .cell-on .ensures) (c .before .before .before .before .before .before .before .wide .ensures ∙ c .before .before .before .before .before .before .before .before .used .ensures) (c .before .before .before .before .before .before .before .before .before .pages-test .taken) (c .before .before .before .before .before .before .cells .inv .2) (c .before .before .before .before .before .cells-test .taken)) .head) in z)
+returns-2 c =
+    let pages-test = c .before .before .before .before .before .before .before .before .before .pages-test in
+    let used = c .before .before .before .before .before .before .before .before .used in
+    let wide = c .before .before .before .before .before .before .before .wide in
+    let cells = c .before .before .before .before .before .before .cells in
+    let cells-test = c .before .before .before .before .before .cells-test in
+    let cell-on = c .before .before .before .before .cell-on in
+    let head = c .before .before .before .head in
+    says-no (λ h. let z : ⊥ = omega (arith, (c .before .before .field-count .ensures ∙ ap (λ (h : ℕ). h / 16) (head .ensures)), (c .before .field-count2 .ensures ∙ ap (λ (h : ℕ). h % 16) (head .ensures)), (reached h (cell-on .ensures) (wide .ensures ∙ used .ensures) (pages-test .taken) (cells .inv .2) (cells-test .taken)) .head) in z)
 
 returns-3 : tie.Need-returns-3 Inv-fields μ-fields Inv-cells μ-cells Inv-pages μ-pages
-returns-3 c = says-no (λ h. c .if2 .taken (c .before .work .ensures ∙ (reached h (c .before .before .before .before .before .before .cell-on .ensures) (c .before .before .before .before .before .before .before .before .before .wide .ensures ∙ c .before .before .before .before .before .before .before .before .before .before .used .ensures) (c .before .before .before .before .before .before .before .before .before .before .before .pages-test .taken) (c .before .before .before .before .before .before .before .before .cells .inv .2) (c .before .before .before .before .before .before .before .cells-test .taken)) .working))
+returns-3 c =
+    let pages-test = c .before .before .before .before .before .before .before .before .before .before .before .pages-test in
+    let used = c .before .before .before .before .before .before .before .before .before .before .used in
+    let wide = c .before .before .before .before .before .before .before .before .before .wide in
+    let cells = c .before .before .before .before .before .before .before .before .cells in
+    let cells-test = c .before .before .before .before .before .before .before .cells-test in
+    let cell-on = c .before .before .before .before .before .before .cell-on in
+    says-no (λ h. c .if2 .taken (c .before .work .ensures ∙ (reached h (cell-on .ensures) (wide .ensures ∙ used .ensures) (pages-test .taken) (cells .inv .2) (cells-test .taken)) .working))
 
 returns-4 : tie.Need-returns-4 Inv-fields μ-fields Inv-cells μ-cells Inv-pages μ-pages
-returns-4 c = says-no (λ h. said-no _ (c .before .is-ref .ensures) (not-true _ (c .if3 .taken)) (field-is-ref ((reached h (c .before .before .before .before .before .before .before .before .before .before .before .cell-on .ensures) (c .before .before .before .before .before .before .before .before .before .before .before .before .before .before .wide .ensures ∙ c .before .before .before .before .before .before .before .before .before .before .before .before .before .before .before .used .ensures) (c .before .before .before .before .before .before .before .before .before .before .before .before .before .before .before .before .pages-test .taken) (c .before .before .before .before .before .before .before .before .before .before .before .before .before .cells .inv .2) (c .before .before .before .before .before .before .before .before .before .before .before .before .cells-test .taken)) .fields (c .before .before .before .before .fields .f) (omega (arith, c .before .before .before .before .fields .inv .3))) (c .before .before .before .before .before .before .before .before .before .field-count .ensures ∙ ap (λ (h : ℕ). h / 16) (c .before .before .before .before .before .before .before .before .before .before .head .ensures)) (c .before .before .field .ensures) (c .before .before .before .fields-test .taken)))
+returns-4 c =
+    let pages-test = c .before .before .before .before .before .before .before .before .before .before .before .before .before .before .before .before .pages-test in
+    let used = c .before .before .before .before .before .before .before .before .before .before .before .before .before .before .before .used in
+    let wide = c .before .before .before .before .before .before .before .before .before .before .before .before .before .before .wide in
+    let cells = c .before .before .before .before .before .before .before .before .before .before .before .before .before .cells in
+    let cells-test = c .before .before .before .before .before .before .before .before .before .before .before .before .cells-test in
+    let cell-on = c .before .before .before .before .before .before .before .before .before .before .before .cell-on in
+    let head = c .before .before .before .before .before .before .before .before .before .before .head in
+    let field-count = c .before .before .before .before .before .before .before .before .before .field-count in
+    let fields = c .before .before .before .before .fields in
+    let fields-test = c .before .before .before .fields-test in
+    says-no (λ h. said-no _ (c .before .is-ref .ensures) (not-true _ (c .if3 .taken)) (field-is-ref ((reached h (cell-on .ensures) (wide .ensures ∙ used .ensures) (pages-test .taken) (cells .inv .2) (cells-test .taken)) .fields (fields .f) (omega (arith, fields .inv .3))) (field-count .ensures ∙ ap (λ (h : ℕ). h / 16) (head .ensures)) (c .before .before .field .ensures) (fields-test .taken)))
 
 returns-5 : tie.Need-returns-5 Inv-fields μ-fields Inv-cells μ-cells Inv-pages μ-pages
-returns-5 c = says-no (λ h. said-no _ (c .before .zero-from .ensures) (not-true _ (c .if4 .taken)) (zero-rest (c .before .before .before .before .before .before .before .before .field-count .ensures ∙ ap (λ (h : ℕ). h / 16) (c .before .before .before .before .before .before .before .before .before .head .ensures)) (c .before .before .before .before .before .before .before .field-count2 .ensures ∙ ap (λ (h : ℕ). h % 16) (c .before .before .before .before .before .before .before .before .before .head .ensures)) ((reached h (c .before .before .before .before .before .before .before .before .before .before .cell-on .ensures) (c .before .before .before .before .before .before .before .before .before .before .before .before .before .wide .ensures ∙ c .before .before .before .before .before .before .before .before .before .before .before .before .before .before .used .ensures) (c .before .before .before .before .before .before .before .before .before .before .before .before .before .before .before .pages-test .taken) (c .before .before .before .before .before .before .before .before .before .before .before .before .cells .inv .2) (c .before .before .before .before .before .before .before .before .before .before .before .cells-test .taken)) .fields)))
+returns-5 c =
+    let pages-test = c .before .before .before .before .before .before .before .before .before .before .before .before .before .before .before .pages-test in
+    let used = c .before .before .before .before .before .before .before .before .before .before .before .before .before .before .used in
+    let wide = c .before .before .before .before .before .before .before .before .before .before .before .before .before .wide in
+    let cells = c .before .before .before .before .before .before .before .before .before .before .before .before .cells in
+    let cells-test = c .before .before .before .before .before .before .before .before .before .before .before .cells-test in
+    let cell-on = c .before .before .before .before .before .before .before .before .before .before .cell-on in
+    let head = c .before .before .before .before .before .before .before .before .before .head in
+    let field-count = c .before .before .before .before .before .before .before .before .field-count in
+    let field-count2 = c .before .before .before .before .before .before .before .field-count2 in
+    says-no (λ h. said-no _ (c .before .zero-from .ensures) (not-true _ (c .if4 .taken)) (zero-rest (field-count .ensures ∙ ap (λ (h : ℕ). h / 16) (head .ensures)) (field-count2 .ensures ∙ ap (λ (h : ℕ). h % 16) (head .ensures)) ((reached h (cell-on .ensures) (wide .ensures ∙ used .ensures) (pages-test .taken) (cells .inv .2) (cells-test .taken)) .fields)))
 
 pub cells-whole-spec : {M : Type 1} → statement M
 cells-whole-spec =

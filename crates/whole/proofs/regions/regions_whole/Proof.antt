@@ -58,13 +58,14 @@ array-read-if3 c =
 
 returns : tie.Need-returns Inv-loop μ-loop Inv-loop2 μ-loop2
 returns c =
+    let used = c .before .before .before .used in
     let args = c .before .before .before .before .before .before .before .before .before .before .args in
     let pre = c .before .before .before .before .before .before .before .before .before .before .pre in
     let loop = c .before .before .before .before .before .before .before .before .loop in
     let loop-test = c .before .before .before .before .before .before .before .loop-test in
     let owner = c .before .before .before .before .before .before .owner in
     let wide = c .before .before .before .before .before .wide in
-    says-no (λ h. twice (args .p) (now (args .tables)) (loop .objects) (loop .partly) (loop .page) (wide .result) (c .before .before .wide2 .result) (loop .inv .1) (wide .ensures ∙ owner .ensures) (c .before .before .wide2 .ensures ∙ c .before .before .before .used .ensures) (owner-room (args .p) (now (args .tables)) (length (now (args .tables))) (loop .page) (pre .0) (pre .1) (loop-test .taken) (wide .ensures ∙ owner .ensures)) (loop-test .taken) (omega (arith, c .before .if2 .taken)) (c .if3 .taken) (h .partial))
+    says-no (λ h. twice (args .p) (now (args .tables)) (loop .objects) (loop .partly) (loop .page) (wide .result) (c .before .before .wide2 .result) (loop .inv .1) (wide .ensures ∙ owner .ensures) (c .before .before .wide2 .ensures ∙ used .ensures) (owner-room (args .p) (now (args .tables)) (length (now (args .tables))) (loop .page) (pre .0) (pre .1) (loop-test .taken) (wide .ensures ∙ owner .ensures)) (loop-test .taken) (omega (arith, c .before .if2 .taken)) (c .if3 .taken) (h .partial))
 
 array-write-partly : tie.Need-array-write-partly Inv-loop μ-loop Inv-loop2 μ-loop2
 array-write-partly c =

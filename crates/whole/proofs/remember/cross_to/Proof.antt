@@ -61,10 +61,20 @@ other-region-requires c κs = search needs
 
 returns-3 : tie.Need-returns-3
 returns-3 c =
+    let page-of = c .before .before .before .before .before .before .before .before .before .before .before .before .page-of in
+    let used = c .before .before .before .before .before .before .before .before .before .before .before .used in
+    let wide = c .before .before .before .before .before .before .before .before .before .before .wide in
+    let place-of = c .before .before .before .before .before .before .before .before .before .place-of in
+    let if1 = c .before .before .before .before .before .before .before .before .if1 in
+    let head = c .before .before .before .before .before .before .before .head in
+    let word-of = c .before .before .before .before .before .before .word-of in
+    let is-reference = c .before .before .before .before .before .is-reference in
+    let if2 = c .before .before .before .before .if2 in
+    let owner = c .before .before .before .owner in
     let args = c .before .before .before .before .before .before .before .before .before .before .before .before .before .before .before .before .args in
     let cell-of = c .before .before .before .before .before .before .before .before .before .before .before .before .before .cell-of in
-    cross-slot (args .p) (now (args .cells)) (now (args .tables)) (args .at) (cell-of .result) (cell-of .ensures) (c .before .before .before .before .before .before .before .before .before .before .before .before .page-of .ensures) (c .before .before .before .before .before .before .before .before .before .place-of .ensures) (c .before .before .before .before .before .before .before .before .before .before .wide .ensures ∙ c .before .before .before .before .before .before .before .before .before .before .before .used .ensures) (c .before .before .before .before .before .before .word-of .ensures) (c .before .before .before .before .before .before .before .head .ensures)
-    (c .before .before .before .owner .ensures) (c .before .region-of .ensures) (c .other-region .ensures) (c .before .before .before .before .before .before .before .before .if1 .left) (c .before .before .before .before .before .is-reference .ensures .0 (not-false _ (c .before .before .before .before .if2 .left)))
+    cross-slot (args .p) (now (args .cells)) (now (args .tables)) (args .at) (cell-of .result) (cell-of .ensures) (page-of .ensures) (place-of .ensures) (wide .ensures ∙ used .ensures) (word-of .ensures) (head .ensures)
+    (owner .ensures) (c .before .region-of .ensures) (c .other-region .ensures) (if1 .left) (is-reference .ensures .0 (not-false _ (if2 .left)))
 
 pub cross-to-spec : {M : Type 1} → statement M
 cross-to-spec =
