@@ -1,16 +1,16 @@
 -- The open regions one after the other, and how many they are.
-use Prim.Native.Nat.{ℕ, zero, suc, _+_, _*_, _-_, _/_, _%_, _≤_, _<_}
+use Prim.Native.Nat.{ℕ, zero, suc, _+_, _*_, _-_, _/_, _%_, _≤_, _<_, min}
 use native.Mathlib.Omega.{arith}
 use native.Mathlib.Decide.{decLt, ℕ-discrete}
 use native.Mathlib.Nat.{mul-comm, suc-mul, div-lt-iff-lt-mul}
 use mathlib.Core.Path.{_≡_, refl, sym, ap, ap₂, subst, _∙_}
 use mathlib.Core.List.{List}
 use mathlib.Core.Bool.{Bool, true, false, _||_}
-use lib.Dec.{leb}
+use lib.Dec.{leb, ltb}
 use lib.ListN.{length, getD}
-use borrow.Author.Tests.{ne-eqb, le-leb, lt-leb}
+use borrow.Author.Tests.{ne-eqb, le-leb, lt-leb, lt-ltb}
 use Rattle.lists.specs.Counting.{bit, sum, count, sum-add, sum-blocks, sum-first, count-yes, count-to}
-use Rattle.lists.specs.Products.{flat-row, flat-place}
+use Rattle.lists.specs.Products.{flat-low, flat-row, flat-place}
 use Rattle.rules.specs.declared.Sizes.{Sizes}
 use Rattle.rules.specs.Regions.{threadOf, levelOf, regionAt, regions}
 use Rattle.layout.specs.declared.Places.{Places}
@@ -129,20 +129,46 @@ module _ (s : Sizes) (depths : List ℕ) (d : 1 ≤ s .depth) (deep : (k : ℕ) 
       level : suc (suc (s .depth * k + j)) - 2 ≡ k * s .depth + j → levelOf s (suc (suc (s .depth * k + j))) ≡ suc j
       level f = ap (λ (x : ℕ). x % s .depth + 1) f ∙ omega (arith, flat-place k l)
 
+  one-open : (k j x : ℕ) → j < s .depth → x ≡ suc (suc (s .depth * k + j)) → bit (isOpen s depths x) ≡ bit (ltb j (getD depths k 0))
+  one-open k j x l e = ap bit (ap (isOpen s depths) e ∙ thread-at k j l)
+
   -- one for the control space, and as many for a thread as it is deep
-  pub rows-counted : length (openRegions s depths) ≡ 1 + sum (λ k. getD depths k 0) (s .threads)
-  unfolding openRegions isOpen
-  rows-counted =
-      let b : ℕ → ℕ = λ i. bit (isOpen s depths (suc i)) in
-      let e : regions s ≡ 1 + s .depth * s .threads = omega (arith, mul-comm (s .depth) (s .threads)) in
-      length-passing (isOpen s depths) (regions s) ∙ ap (sum b) e ∙ sum-add b 1 (s .depth * s .threads)
-      ∙ ap (λ (n : ℕ). 1 + n) (sum-blocks (s .depth) (λ i. bit (isOpen s depths (suc (1 + i)))) (λ k. getD depths k 0) (s .threads) block)
+  passed-threads : (n : ℕ) → n ≤ s .threads → passed (isOpen s depths) (1 + s .depth * n) ≡ 1 + sum (λ k. getD depths k 0) n
+  unfolding isOpen
+  passed-threads n l =
+      sum-add (λ i. bit (isOpen s depths (suc i))) 1 (s .depth * n)
+      ∙ ap (λ (m : ℕ). 1 + m) (sum-blocks (s .depth) (λ i. bit (isOpen s depths (suc (1 + i)))) (λ k. getD depths k 0) n block)
     where
-      block : (k : ℕ) → k < s .threads → sum (λ j. bit (isOpen s depths (suc (1 + (s .depth * k + j))))) (s .depth) ≡ getD depths k 0
-      block k l =
-          sum-first (λ j. bit (isOpen s depths (suc (1 + (s .depth * k + j))))) (getD depths k 0) (s .depth)
-          (λ j m. ap bit (ap (isOpen s depths) (let z : suc (1 + (s .depth * k + j)) ≡ suc (suc (s .depth * k + j)) = omega arith in z) ∙ thread-at k j m))
-          ∙ omega (arith, deep k l)
+      block : (k : ℕ) → k < n → sum (λ j. bit (isOpen s depths (suc (1 + (s .depth * k + j))))) (s .depth) ≡ getD depths k 0
+      block k m =
+          sum-first (λ j. bit (isOpen s depths (suc (1 + (s .depth * k + j))))) (getD depths k 0) (s .depth) (λ j h. one-open k j (suc (1 + (s .depth * k + j))) h (omega arith))
+          ∙ omega (arith, deep k (omega arith))
+
+  pub rows-counted : length (openRegions s depths) ≡ 1 + sum (λ k. getD depths k 0) (s .threads)
+  unfolding openRegions
+  rows-counted =
+      let e : regions s ≡ 1 + s .depth * s .threads = omega (arith, mul-comm (s .depth) (s .threads)) in
+      length-passing (isOpen s depths) (regions s) ∙ ap (passed (isOpen s depths)) e ∙ passed-threads (s .threads) (omega arith)
+
+  -- an open region comes after those of the threads before it, and those around it
+  pub turn-level : (n k : ℕ) → n < s .threads → 1 ≤ k → k ≤ getD depths n 0 → Turn s depths (sum (λ i. getD depths i 0) n + k) (regionAt s n k)
+  unfolding regionAt
+  turn-level n zero l low m = absurd (omega arith)
+  turn-level n (suc k) l low m =
+      let e : s .depth * n ≡ n * s .depth = mul-comm (s .depth) n in
+      let at : 1 + n * s .depth + suc k ≡ suc (suc (s .depth * n + k)) = omega arith in
+      let before : 1 + n * s .depth + suc k - 1 ≡ 1 + s .depth * n + k = omega arith in
+      let h : k < s .depth = omega (arith, deep n l) in
+      let own : sum (λ j. bit (isOpen s depths (suc (1 + s .depth * n + j)))) k ≡ min (getD depths n 0) k =
+      sum-first (λ j. bit (isOpen s depths (suc (1 + s .depth * n + j)))) (getD depths n 0) k (λ j i. one-open n j (suc (1 + s .depth * n + j)) (omega arith) (omega arith)) in
+      let all : passed (isOpen s depths) (1 + s .depth * n + k) ≡ sum (λ i. getD depths i 0) n + suc k =
+      sum-add (λ i. bit (isOpen s depths (suc i))) (1 + s .depth * n) k ∙ omega (arith, passed-threads n (omega arith), own) in
+      record {
+        low = omega arith;
+        high = omega (arith, flat-low {t = n} {n = s .threads} {a = k} {v = s .depth} l h);
+        before = ap (passed (isOpen s depths)) before ∙ all;
+        opened = λ z. ap (isOpen s depths) at ∙ thread-at n k h ∙ lt-ltb k (getD depths n 0) m;
+      }
 
 -- ---- the rows, while the open regions are passed
 

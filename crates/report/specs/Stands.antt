@@ -1,11 +1,12 @@
 -- The tables say what the rules say of every heap that words with these tables stand for.
-use Prim.Native.Nat.{ℕ, suc, _+_, _<_}
+use Prim.Native.Nat.{ℕ, suc, _+_, _≤_, _<_}
 use native.Mathlib.Omega.{arith}
-use mathlib.Core.Path.{_≡_, sym, ap, _∙_}
+use native.Mathlib.Decide.{decLt}
+use mathlib.Core.Path.{_≡_, sym, ap, subst, _∙_}
 use mathlib.Core.List.{List, map}
 use lib.ListN.{length, getD}
-use Rattle.lists.specs.Counting.{sum, sum-same}
-use Rattle.rules.specs.Regions.{regions}
+use Rattle.lists.specs.Counting.{sum, sum-same, sum-more}
+use Rattle.rules.specs.Regions.{regionAt, regions}
 use Rattle.rules.specs.Graph.{objectsIn, freePages}
 use Rattle.rules.specs.Rules.{graph}
 use Rattle.layout.specs.declared.Places.{Places}
@@ -17,18 +18,47 @@ use Rattle.promises.specs.OwnedPages.{counted-objects, heap-free}
 use Rattle.pages.specs.Owned.{ownedOne}
 use Rattle.report.specs.Report.{isOpen, openRegions, rowWith, rows}
 use Rattle.report.specs.Passing.{length-map, map-passing}
-use Rattle.report.specs.Opened.{rows-counted}
+use Rattle.report.specs.Opened.{Turn, rows-counted, turn-level}
 use Rattle.report.specs.Tables.{WholeTables, EveryHeap, rowIn, rowsIn, freeIn}
 
--- as many rows as the depths say
-pub row-count : (p : Places) (t : List ℕ) → WholeTables p t → 1 + sum (depthOf t) (p .threads) ≡ length (rowsIn p t)
-unfolding rowsIn
-row-count p t k =
-    let s = sizesOf p in
-    let w = words (k .cells) (k .remember) t in
-    sym (length-map (rowIn p t) (openRegions s (depthsAt s t))
-    ∙ rows-counted s (depthsAt s t) (range s w (k .whole) .depth-low) (λ i l. omega (arith, depth-at s w i l, k .whole .placed .depths i l))
-    ∙ ap (λ (n : ℕ). 1 + n) (sum-same (λ i. getD (depthsAt s t) i 0) (depthOf t) (p .threads) (λ i l. depth-at s w i l)))
+module _ (p : Places) (t : List ℕ) (k : WholeTables p t) where
+  abbrev depths : List ℕ
+  depths = depthsAt (sizesOf p) t
+
+  depth-is : (i : ℕ) → i < p .threads → getD depths i 0 ≡ depthOf t i
+  depth-is i l = depth-at (sizesOf p) (words (k .cells) (k .remember) t) i l
+
+  deep : (i : ℕ) → i < p .threads → getD depths i 0 ≤ p .depth
+  deep i l = omega (arith, depth-is i l, k .whole .placed .depths i l)
+
+  some-depth : 1 ≤ p .depth
+  some-depth = range (sizesOf p) (words (k .cells) (k .remember) t) (k .whole) .depth-low
+
+  depths-sum : (n : ℕ) → n ≤ p .threads → sum (λ i. getD depths i 0) n ≡ sum (depthOf t) n
+  depths-sum n l = sum-same (λ i. getD depths i 0) (depthOf t) n (λ i h. depth-is i (omega arith))
+
+  -- as many rows as the depths say
+  pub row-count : 1 + sum (depthOf t) (p .threads) ≡ length (rowsIn p t)
+  unfolding rowsIn
+  row-count =
+      sym (length-map (rowIn p t) (openRegions (sizesOf p) depths) ∙ rows-counted (sizesOf p) depths some-depth deep
+      ∙ ap (λ (n : ℕ). 1 + n) (depths-sum (p .threads) (omega arith)))
+
+  -- a thread whose levels do not reach row k is not the last
+  pub not-last : (n l : ℕ) → n < p .threads → depthOf t n < l → sum (depthOf t) n + l < length (rowsIn p t) → n + 1 < p .threads
+  not-last n l h m few = go (decLt (n + 1) (p .threads))
+    where
+      go : Dec (n + 1 < p .threads) → n + 1 < p .threads
+      go (yes y) = y
+      go (no y) =
+          let e : n + 1 ≡ p .threads = omega arith in
+          absurd (let z : ⊥ = omega (arith, row-count, ap (sum (depthOf t)) e, sum-more (depthOf t) n) in z)
+
+  -- level l of thread n, while open, is the open region after so many
+  pub turn-at : (n l : ℕ) → n < p .threads → 1 ≤ l → l ≤ depthOf t n → Turn (sizesOf p) depths (sum (depthOf t) n + l) (regionAt (sizesOf p) n l)
+  turn-at n l h low m =
+      subst (λ (i : ℕ). Turn (sizesOf p) depths (i + l) (regionAt (sizesOf p) n l)) (depths-sum n (omega arith))
+      (turn-level (sizesOf p) depths some-depth deep n l h low (omega (arith, depth-is n h)))
 
 module _ (p : Places) (t : List ℕ) (e : p ≡ placesOf (sizesOf p)) where
   pub rows-stand : EveryHeap p t (λ h. rowsIn p t ≡ rows (sizesOf p) h)

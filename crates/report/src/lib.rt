@@ -11,7 +11,7 @@ ghost use Rattle.layout.specs.Places.{Room, sizesOf, usedIn};
 ghost use Rattle.promises.specs.Words.{words, depthsAt};
 ghost use Rattle.promises.specs.StandsFor.{StandsFor};
 ghost use Rattle.report.specs.Report.{rowOf, rows, noRow};
-ghost use Rattle.report.specs.Opened.{Next};
+ghost use Rattle.report.specs.Opened.{Next, Turn};
 ghost use Rattle.report.specs.Tables.{WholeTables, EveryHeap, rowIn, rowsIn, freeIn};
 use layout::Places;
 use layout::regions::level_of;
@@ -64,11 +64,9 @@ pub fn row_of(p: Places, tables: &[u32], region: usize) -> Row
     if region == 1 {
         return row_with(0, 0, objects);
     }
-    row_with(
-        thread_of(p, region) as u32,
-        level_of(p, region) as u32,
-        objects,
-    )
+    let thread = thread_of(p, region) as u32;
+    let level = level_of(p, region) as u32;
+    row_with(thread, level, objects)
 }
 
 // The next open region by number; one past the last region if there is none.
@@ -103,19 +101,33 @@ pub fn row_count(p: Places, tables: &[u32]) -> usize
     n
 }
 
+// Open region k by number, the control space being 0: level k, less the open levels of the threads that are passed.
+fn open_region(p: Places, tables: &[u32], k: usize) -> usize
+    requires { ⌜ WholeTables p (now tables) ⌝ }
+    requires { ⌜ k < length (rowsIn p (now tables)) ⌝ }
+    ensures { λ r. ⌜ Turn (sizesOf p) (depthsAt (sizesOf p) (now (tables .entry))) k r ⌝ }
+{
+    if k == 0 {
+        return 1;
+    }
+    let mut level = k;
+    let mut thread: usize = 0;
+    let mut deep = wide(depth(p, tables, 0));
+    while deep < level {
+        level -= deep;
+        thread += 1;
+        deep = wide(depth(p, tables, thread));
+    }
+    wide(region_at(p, thread, level))
+}
+
 // Row k, by region number.
 pub fn row_at(p: Places, tables: &[u32], k: usize) -> Row
     requires { ⌜ WholeTables p (now tables) ⌝ }
     requires { ⌜ k < length (rowsIn p (now tables)) ⌝ }
     ensures { λ r. ⌜ (r ≡ getD (rowsIn p (now (tables .entry))) k noRow) × EveryHeap p (now (tables .entry)) (λ h. r ≡ getD (rows (sizesOf p) h) k noRow) ⌝ }
 {
-    let mut region: usize = 1;
-    let mut i: usize = 0;
-    while i < k {
-        region = next_open(p, tables, region);
-        i += 1;
-    }
-    row_of(p, tables, region)
+    row_of(p, tables, open_region(p, tables, k))
 }
 
 // How many pages are free.

@@ -27,8 +27,8 @@ thread-of-requires c κs =
     let space = tables-room-of (a .p) (a .tables .now) (c .before .before .before .pre .0) (omega arith) in
     (space .depth-low, omega (arith, c .before .before .before .pre .1))
 
-cast-row-with : tie.Need-cast-row-with
-cast-row-with c =
+cast-thread : tie.Need-cast-thread
+cast-thread c =
     let a = c .before .before .before .before .args in
     let space = tables-room-of (a .p) (a .tables .now) (c .before .before .before .before .pre .0) (omega arith) in
     omega (arith, c .thread-of .ensures, div-le-self (a .region - 2) (a .p .depth), c .before .before .before .before .pre .1, mul-le-mul (space .threads-high) (space .depth-high))
@@ -39,8 +39,8 @@ level-of-requires c κs =
     let space = tables-room-of (a .p) (a .tables .now) (c .before .before .before .before .pre .0) (omega arith) in
     (space .depth-low, space .depth-high, omega (arith, c .before .before .before .before .pre .1))
 
-cast-row-with-2 : tie.Need-cast-row-with-2
-cast-row-with-2 c =
+cast-level : tie.Need-cast-level
+cast-level c =
     let a = c .before .before .before .before .before .args in
     let space = tables-room-of (a .p) (a .tables .now) (c .before .before .before .before .before .pre .0) (omega arith) in
     omega (arith, c .level-of .ensures, mod-lt (a .region - 2) (space .depth-low), space .depth-high)
@@ -61,8 +61,8 @@ row-of-spec =
     row-with-requires
     returns
     thread-of-requires
-    cast-row-with
+    cast-thread
     level-of-requires
-    cast-row-with-2
+    cast-level
     row-with-requires-2
     returns-2)

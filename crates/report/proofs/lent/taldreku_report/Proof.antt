@@ -194,7 +194,7 @@ module _ {M : Type 1} (𝓤 : URA M) (H : Heap 𝓤) (A : Atoms 𝓤) (W : Given
         -- what the parameters own, and the tokens, each by itself
         move ! (21 ∷ []) $ fsplit ! $ move ! (1 ∷ []) $ fsplit ! $ move ! (1 ∷ []) $ fsplit ! $ move ! (1 ∷ []) $ fsplit ! $ move ! (25 ∷ []) $ split ! $ move ! (1 ∷ []) $ split ! $ move ! (1 ∷ []) $ split ! $ move ! (1 ∷ []) $ split ! $
         keep ! (4 ∷ 3 ∷ 2 ∷ 0 ∷ 9 ∷ 8 ∷ 7 ∷ 5 ∷ 10 ∷ 11 ∷ 12 ∷ 13 ∷ 14 ∷ 15 ∷ 16 ∷ 17 ∷ 18 ∷ 19 ∷ 20 ∷ 21 ∷ 22 ∷ 23 ∷ 24 ∷ 25 ∷ 26 ∷ 27 ∷ 28 ∷ 29 ∷ []) $
-        -- [the four tokens; cells; remember; tables; rows; the locals, from _9 down]: the words are copied, and `ask` is called with the copies and their tokens
+        -- [the four tokens; cells; remember; tables; rows; the locals, from _9 down]: `ask` is called with copies of the words and their tokens
         move ! (4 ∷ []) $ use1 W (‵ Cells ⊛ ‵ Cells) (shr-slice-copy 𝓤 H A W (named 0) κ₀ u32 .twice x₀ (s₀ ∷ [])) $ split ! $
         move ! (6 ∷ []) $ use1 W (‵ Remember ⊛ ‵ Remember) (shr-slice-copy 𝓤 H A W (named 1) κ₁ u32 .twice x₁ (s₁ ∷ [])) $ split ! $
         move ! (8 ∷ []) $ use1 W (‵ Tabled ⊛ ‵ Tabled) (shr-slice-copy 𝓤 H A W (named 2) κ₂ u32 .twice x₂ (s₂ ∷ [])) $ split ! $
