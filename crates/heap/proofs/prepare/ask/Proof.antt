@@ -7,10 +7,6 @@ use Rattle.promises.specs.Promises.{outOfRange, short, accepted}
 use borrow.Author.Needs.{needs}
 use Rattle.heap.proofs.prepare.ask.Statement.{statement}
 use Rattle.heap.proofs.prepare.ask.Tie as tie
-use Rattle.layout.proofs.in_range.Reads as in-range-reads
-use Rattle.layout.proofs.lengths.cells_words.Reads as cells-words-reads
-use Rattle.layout.proofs.lengths.remember_words.Reads as remember-words-reads
-use Rattle.layout.proofs.lengths.tables_words.Reads as tables-words-reads
 
 in-range-requires : tie.Need-in-range-requires
 in-range-requires c κs = search needs

@@ -6,10 +6,6 @@ use Rattle.heap.specs.Prepare.{sizes, asked-range, asked-five, prepared-
 use borrow.Author.Needs.{needs}
 use Rattle.heap.proofs.prepare.taldreku_prepare.Statement.{statement}
 use Rattle.heap.proofs.prepare.taldreku_prepare.Tie as tie
-use Rattle.layout.proofs.lengths.remember_words.Reads as remember-words-reads
-use Rattle.layout.proofs.lengths.tables_words.Reads as tables-words-reads
-use Rattle.layout.proofs.remember.set_entries.Reads as set-entries-reads
-use Rattle.layout.proofs.write_sizes.Reads as write-sizes-reads
 
 wide-requires : tie.Need-wide-requires
 wide-requires c κs = search needs
