@@ -1,7 +1,6 @@
 -- The end of the input: the report, and a line that has begun.
 use Prim.Native.Nat.{ℕ, _+_, _*_, _≤_, _<_}
 use native.Mathlib.Omega.{arith}
-use native.Mathlib.Nat.{mul-le-mul}
 use native.Mathlib.Numerals.{add-one}
 use mathlib.Core.Path.{_≡_, refl, sym, ap, ap₂, subst, _∙_}
 use mathlib.Core.List.{List, [], _∷_, _++_, append-assoc, append-nil}
@@ -9,7 +8,7 @@ use mathlib.Core.Bool.{Bool, true, false, cond, not}
 use lib.ListN.{length, getD, take, length-append}
 use lib.Seq.{take-suc, take-length}
 use Rattle.lists.specs.Says.{true-not-false}
-use Rattle.lists.specs.Counting.{sum, sum-high}
+use Rattle.lists.specs.Counting.{sum-high}
 use Rattle.rules.specs.declared.Sizes.{Sizes}
 use Rattle.rules.specs.Terms.{InRange}
 use Rattle.rules.specs.Graph.{crossing, freePages}
@@ -38,10 +37,10 @@ use Rattle.session.specs.declared.Stage.{Stage}
 use Rattle.session.specs.declared.Stage.the-variants.{Opening, Running, Stopped}
 use Rattle.session.specs.declared.Fed.{Fed}
 use Rattle.session.specs.Printed.{Session, opening, running, stopped, rowText, rowsText, reported, takesAll, printsAll, endsWith}
-use Rattle.session.specs.Pieces.{Machine, machine, feed, feedPrints, missing, closePrints}
-use Rattle.session.specs.Stages.{Lent, Here, Holds, stageOf, At, Placed, Feeds, begunAt, Closes}
+use Rattle.session.specs.Pieces.{Machine, feed, feedPrints, missing, closePrints}
+use Rattle.session.specs.Stages.{Here, Holds, stageOf, At, Feeds, begunAt, Closes}
 use Rattle.session.specs.Obeying.{stopped-takes, stopped-prints}
-use Rattle.session.specs.Opening.{at-opening, at-running, at-stopped, placed-here}
+use Rattle.session.specs.Opening.{at-opening, at-running, at-stopped}
 
 -- ---- rows
 
@@ -189,11 +188,10 @@ idle {m} {stage} {w} a e = go (m .session) refl (ap begunAt (sym (a .stage-is)) 
 
 module _ {m : Machine} {stage : Stage} {w : Words} (a : At m stage w) where
   pub closed-begun : begunAt stage ≡ true → {out middle after : List ℕ} {x : Fed} {end : ℕ} {c mm t : List ℕ} → Feeds m (10 ∷ []) out x middle (words c mm t)
-      → x .length + 5698 ≤ length out → end ≤ x .length + 5698
       → ((y : Machine) (cells : List ℕ) → At y (x .stage) (words cells mm t) → Put middle (x .length) (endsWith (y .session)) after end)
-      → Closes m out end after (words c mm t)
+      → x .length + 5698 ≤ length out → end ≤ x .length + 5698 → Closes m out end after (words c mm t)
   unfolding closePrints
-  closed-begun e {out} {middle} {after} {x} {end} {c} {mm} {t} f room low p =
+  closed-begun e {out} {middle} {after} {x} {end} {c} {mm} {t} f p room low =
       let q = begun-missing a e in
       let g = p (feed m (10 ∷ [])) c (f .is-at) in
       record {

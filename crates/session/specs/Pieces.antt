@@ -7,7 +7,6 @@ use Rattle.script.specs.declared.Line.{Line}
 use Rattle.script.specs.declared.Reader.{Reader}
 use Rattle.script.specs.declared.Last.the-variants.{Nothing, Unended}
 use Rattle.script.specs.Reading.{started, endOf, stepOf, fresh, lastOf}
-use Rattle.script.specs.Text.{textSays}
 use Rattle.script.specs.TextLaws.{lastly, found, left, piecewise, reads-pieces}
 use Rattle.session.specs.Printed.{Session, opening, takes, prints, takesAll, printsAll, endsWith, printed}
 

@@ -1,6 +1,5 @@
 // The program's loop: it reads a script from a file, to its end, and writes to standard output.
-ghost use Prim.Native.Nat.{ℕ, _+_, _<_, _≤_};
-ghost use mathlib.Core.Path.{_≡_};
+ghost use Prim.Native.Nat.{_+_, _<_, _≤_};
 ghost use lib.ListN.{length};
 ghost use Rattle.promises.specs.Words.{words};
 ghost use Rattle.session.specs.Stages.{Lent, Placed, lineOf};
