@@ -54,11 +54,10 @@ returns c =
     let count = c .before .before .before .before .before .before .before .before .before .before .before .before .before .before .count in
     let set-owner = c .before .before .before .before .before .before .before .before .before .before .before .before .set-owner in
     let set-used = c .before .before .before .before .before .before .before .before .set-used in
-    let set-count = c .before .before .before .before .set-count in
-    (
-  omega (arith, c .cell-on .ensures, c .before .wide2 .ensures, used .ensures),
-  took (args .p) (args .tables .now) (args .page) (wide .ensures) (used .ensures) (count .ensures) (set-owner .ensures) (set-used .ensures) (set-count .ensures),
-)
+    let set-count = c .before .before .before .before .set-count in (
+      omega (arith, c .cell-on .ensures, c .before .wide2 .ensures, used .ensures),
+      took (args .p) (args .tables .now) (args .page) (wide .ensures) (used .ensures) (count .ensures) (set-owner .ensures) (set-used .ensures) (set-count .ensures),
+    )
 
 pub take-cell-spec : {M : Type 1} → statement M
 take-cell-spec =

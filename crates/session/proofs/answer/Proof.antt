@@ -32,7 +32,11 @@ same-length-5 : tie.Need-same-length-5
 same-length-5 c = search needs
 
 returns : tie.Need-returns
-returns c = (answered (c .before .before .before .before .before .before .before .before .before .before .before .before .before .before .before .before .before .before .before .before .before .before .before .before .before .args .used) (c .before .before .before .before .before .before .before .before .before .before .before .before .before .before .before .before .before .before .before .before .before .before .before .before .before .pre .0) (c .before .before .before .before .before .before .before .before .before .before .before .before .before .taldreku-run .ensures) (c .before .before .put-answers .ensures .0), omega (arith, c .before .before .put-answers .ensures .1))
+returns c =
+    let args = c .before .before .before .before .before .before .before .before .before .before .before .before .before .before .before .before .before .before .before .before .before .before .before .before .before .args in
+    let pre = c .before .before .before .before .before .before .before .before .before .before .before .before .before .before .before .before .before .before .before .before .before .before .before .before .before .pre in
+    let taldreku-run = c .before .before .before .before .before .before .before .before .before .before .before .before .before .taldreku-run in
+    (answered (args .used) (pre .0) (taldreku-run .ensures) (c .before .before .put-answers .ensures .0), omega (arith, c .before .before .put-answers .ensures .1))
 
 pub answer-spec : {M : Type 1} → statement M
 answer-spec =

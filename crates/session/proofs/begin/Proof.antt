@@ -21,7 +21,12 @@ start-requires : tie.Need-start-requires
 start-requires c κs = search needs
 
 obey-requires : tie.Need-obey-requires
-obey-requires c κs = ((c .before .before .before .before .before .before .before .before .before .before .before .before .before .before .before .before .before .before .before .before .before .before .before .before .before .before .before .before .before .pre .0, omega (arith, c .before .before .before .before .before .before .before .before .before .before .before .before .before .before .before .before .before .before .before .before .before .before .before .before .before .before .before .before .before .good .1 .0 .1)), begun-here (c .before .before .before .before .before .before .before .before .before .before .before .before .before .before .prepare .ensures) (c .before .before .before .before .before .before .before .if1 .taken))
+obey-requires c κs =
+    let pre = c .before .before .before .before .before .before .before .before .before .before .before .before .before .before .before .before .before .before .before .before .before .before .before .before .before .before .before .before .before .pre in
+    let good = c .before .before .before .before .before .before .before .before .before .before .before .before .before .before .before .before .before .before .before .before .before .before .before .before .before .before .before .before .before .good in
+    let prepare = c .before .before .before .before .before .before .before .before .before .before .before .before .before .before .prepare in
+    let if1 = c .before .before .before .before .before .before .before .if1 in
+    ((pre .0, omega (arith, good .1 .0 .1)), begun-here (prepare .ensures) (if1 .taken))
 
 put-sizes-requires : tie.Need-put-sizes-requires
 put-sizes-requires c κs = search needs
@@ -48,7 +53,14 @@ same-length-6 : tie.Need-same-length-6
 same-length-6 c = search needs
 
 returns-2 : tie.Need-returns-2
-returns-2 c = (opened-on _ _ (c .before .before .before .before .before .before .before .before .before .before .before .before .before .before .before .before .before .before .before .before .before .before .before .before .before .before .before .before .before .before .before .before .before .before .read-line .ensures) (c .before .before .before .before .before .before .before .before .before .before .before .before .before .before .before .before .before .before .before .before .before .before .before .before .before .before .before .before .before .before .before .before .scan2 .given .1) (c .before .before .before .before .before .before .before .before .before .before .before .before .before .before .before .before .before .before .before .before .before .before .before .before .before .before .before .prepare .ensures) (c .before .before .before .before .before .before .before .before .before .before .before .before .before .before .before .before .before .before .before .before .if1 .taken) (c .before .before .before .before .before .before .before .before .before .before .before .before .before .before .before .before .before .before .before .start .ensures) (c .before .before .before .before .before .before .before .before .before .before .before .before .obey .ensures .0), c .before .before .before .before .before .before .before .before .before .before .before .before .obey .ensures .1)
+returns-2 c =
+    let read-line = c .before .before .before .before .before .before .before .before .before .before .before .before .before .before .before .before .before .before .before .before .before .before .before .before .before .before .before .before .before .before .before .before .before .before .read-line in
+    let scan2 = c .before .before .before .before .before .before .before .before .before .before .before .before .before .before .before .before .before .before .before .before .before .before .before .before .before .before .before .before .before .before .before .before .scan2 in
+    let prepare = c .before .before .before .before .before .before .before .before .before .before .before .before .before .before .before .before .before .before .before .before .before .before .before .before .before .before .before .prepare in
+    let if1 = c .before .before .before .before .before .before .before .before .before .before .before .before .before .before .before .before .before .before .before .before .if1 in
+    let start = c .before .before .before .before .before .before .before .before .before .before .before .before .before .before .before .before .before .before .before .start in
+    let obey = c .before .before .before .before .before .before .before .before .before .before .before .before .obey in
+    (opened-on _ _ (read-line .ensures) (scan2 .given .1) (prepare .ensures) (if1 .taken) (start .ensures) (obey .ensures .0), obey .ensures .1)
 
 same-length-7 : tie.Need-same-length-7
 same-length-7 c = search needs
@@ -63,7 +75,12 @@ same-length-10 : tie.Need-same-length-10
 same-length-10 c = search needs
 
 returns-3 : tie.Need-returns-3
-returns-3 c = (opened-refused _ _ (c .before .before .before .before .before .before .before .before .before .before .before .before .before .before .before .before .before .before .read-line .ensures) (c .before .before .before .before .before .before .before .before .before .before .before .before .before .before .before .before .scan2 .given .1) (c .before .before .before .before .before .before .before .before .before .before .before .prepare .ensures) (c .before .before .before .before .if1 .left) (c .before .before .put-sizes .ensures), omega (arith, c .before .before .put-sizes .ensures .end-is))
+returns-3 c =
+    let read-line = c .before .before .before .before .before .before .before .before .before .before .before .before .before .before .before .before .before .before .read-line in
+    let scan2 = c .before .before .before .before .before .before .before .before .before .before .before .before .before .before .before .before .scan2 in
+    let prepare = c .before .before .before .before .before .before .before .before .before .before .before .prepare in
+    let if1 = c .before .before .before .before .if1 in
+    (opened-refused _ _ (read-line .ensures) (scan2 .given .1) (prepare .ensures) (if1 .left) (c .before .before .put-sizes .ensures), omega (arith, c .before .before .put-sizes .ensures .end-is))
 
 pub begin-spec : {M : Type 1} → statement M
 begin-spec =

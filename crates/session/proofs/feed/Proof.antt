@@ -15,7 +15,10 @@ enum-known-stage-2 : tie.Need-enum-known-stage-2
 enum-known-stage-2 c = search needs
 
 obey-requires : tie.Need-obey-requires
-obey-requires c κs = ((c .before .before .before .before .before .before .before .before .before .before .before .before .before .before .before .before .pre .0 .0, line-low _ _ (c .before .before .before .before .before .before .before .stage2 .given .1) (c .before .before .before .before .before .before .before .before .before .before .before .before .before .before .before .before .pre .0 .1)), placed-here (c .before .before .before .before .before .before .before .before .before .before .before .before .before .before .before .before .pre .1) (c .before .before .before .before .before .before .before .stage2 .given .1))
+obey-requires c κs =
+    let pre = c .before .before .before .before .before .before .before .before .before .before .before .before .before .before .before .before .pre in
+    let stage2 = c .before .before .before .before .before .before .before .stage2 in
+    ((pre .0 .0, line-low _ _ (stage2 .given .1) (pre .0 .1)), placed-here (pre .1) (stage2 .given .1))
 
 enum-told : tie.Need-enum-told
 enum-told c = search needs

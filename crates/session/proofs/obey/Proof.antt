@@ -14,10 +14,18 @@ words-in-requires : tie.Need-words-in-requires
 words-in-requires c κs = search needs
 
 answer-requires : tie.Need-answer-requires
-answer-requires c κs = ((few-counted (was-few (was-read (c .before .before .before .before .before .before .before .before .before .before .before .before .before .before .before .before .before .before .pre .0 .0) (c .before .before .before .before .before .before .before .before .before .read-block .ensures)) (c .before .before .before .before .before .before .words-in .ensures)) (c .before .before .before .before .before .before .before .before .before .read-block .kept .1 .1 .1 .0) (c .before .before .before .before .before .before .before .before .before .before .before .before .before .before .before .before .before .before .pre .0 .0)), c .before .before .before .before .before .before .before .before .before .before .before .before .before .before .before .before .before .before .pre .1)
+answer-requires c κs =
+    let pre = c .before .before .before .before .before .before .before .before .before .before .before .before .before .before .before .before .before .before .pre in
+    let read-block = c .before .before .before .before .before .before .before .before .before .read-block in
+    let words-in = c .before .before .before .before .before .before .words-in in
+    ((few-counted (was-few (was-read (pre .0 .0) (read-block .ensures)) (words-in .ensures)) (read-block .kept .1 .1 .1 .0) (pre .0 .0)), pre .1)
 
 add-next : tie.Need-add-next
-add-next c = omega (arith, (was-few (was-read (c .before .before .before .before .before .before .before .before .before .before .before .before .before .before .before .before .before .before .before .before .before .before .before .before .before .before .before .before .before .pre .0 .0) (c .before .before .before .before .before .before .before .before .before .before .before .before .before .before .before .before .before .before .before .before .read-block .ensures)) (c .before .before .before .before .before .before .before .before .before .before .before .before .before .before .before .before .before .words-in .ensures)) .few, c .before .before .before .before .before .before .before .before .before .before .before .before .before .before .before .before .before .before .before .before .before .before .before .before .before .before .before .before .before .pre .0 .1)
+add-next c =
+    let pre = c .before .before .before .before .before .before .before .before .before .before .before .before .before .before .before .before .before .before .before .before .before .before .before .before .before .before .before .before .before .pre in
+    let read-block = c .before .before .before .before .before .before .before .before .before .before .before .before .before .before .before .before .before .before .before .before .read-block in
+    let words-in = c .before .before .before .before .before .before .before .before .before .before .before .before .before .before .before .before .before .words-in in
+    omega (arith, (was-few (was-read (pre .0 .0) (read-block .ensures)) (words-in .ensures)) .few, pre .0 .1)
 
 enum-known-filled : tie.Need-enum-known-filled
 enum-known-filled c = search needs
@@ -26,7 +34,12 @@ enum-told : tie.Need-enum-told
 enum-told c = search needs
 
 put-line-requires : tie.Need-put-line-requires
-put-line-requires c κs = omega (arith, (was-few (was-read (c .before .before .before .before .before .before .before .before .before .before .before .before .before .before .before .before .before .before .before .before .before .before .before .before .before .before .before .before .before .before .before .before .pre .0 .0) (c .before .before .before .before .before .before .before .before .before .before .before .before .before .before .before .before .before .before .before .before .before .before .before .read-block .ensures)) (c .before .before .before .before .before .before .before .before .before .before .before .before .before .before .before .before .before .before .before .before .words-in .ensures)) .few, c .before .before .before .before .before .before .before .before .before .before .before .before .before .answer .ensures .1, c .before .before .before .before .before .before .before .before .before .before .before .before .before .before .before .before .before .before .before .before .before .before .before .before .before .before .before .before .before .before .before .before .pre .0 .0 .text-room)
+put-line-requires c κs =
+    let pre = c .before .before .before .before .before .before .before .before .before .before .before .before .before .before .before .before .before .before .before .before .before .before .before .before .before .before .before .before .before .before .before .before .pre in
+    let read-block = c .before .before .before .before .before .before .before .before .before .before .before .before .before .before .before .before .before .before .before .before .before .before .before .read-block in
+    let words-in = c .before .before .before .before .before .before .before .before .before .before .before .before .before .before .before .before .before .before .before .before .words-in in
+    let answer = c .before .before .before .before .before .before .before .before .before .before .before .before .before .answer in
+    omega (arith, (was-few (was-read (pre .0 .0) (read-block .ensures)) (words-in .ensures)) .few, answer .ensures .1, pre .0 .0 .text-room)
 
 enum-told-2 : tie.Need-enum-told-2
 enum-told-2 c = search needs
@@ -51,7 +64,13 @@ same-length-6 c = search needs
 
 returns : tie.Need-returns
 unfolding Holds
-returns c = (λ s h l k. obeyed-all (was-read (c .before .before .before .before .before .before .before .before .before .before .before .before .before .before .before .before .before .before .before .before .before .before .before .before .before .before .before .before .before .before .before .before .pre .0 .0) (c .before .before .before .before .before .before .before .before .before .before .before .before .before .before .before .before .before .before .before .before .before .before .before .read-block .ensures)) s h (c .before .before .before .before .before .before .before .before .before .before .before .before .before .before .before .before .before .before .before .before .before .before .before .before .before .before .before .before .before .before .before .before .args .line) (c .before .before .before .before .before .before .before .before .before .before .before .before .before .before .before .before .before .before .before .before .words-in .result) (c .before .before .before .before .before .before .before .before .before .before .before .before .before .before .before .before .before .before .before .before .words-in .ensures) (few-counted (was-few (was-read (c .before .before .before .before .before .before .before .before .before .before .before .before .before .before .before .before .before .before .before .before .before .before .before .before .before .before .before .before .before .before .before .before .pre .0 .0) (c .before .before .before .before .before .before .before .before .before .before .before .before .before .before .before .before .before .before .before .before .before .before .before .read-block .ensures)) (c .before .before .before .before .before .before .before .before .before .before .before .before .before .before .before .before .before .before .before .before .words-in .ensures)) (c .before .before .before .before .before .before .before .before .before .before .before .before .before .before .before .before .before .before .before .before .before .before .before .read-block .kept .1 .1 .1 .0) (c .before .before .before .before .before .before .before .before .before .before .before .before .before .before .before .before .before .before .before .before .before .before .before .before .before .before .before .before .before .before .before .before .pre .0 .0)) (c .before .before .before .before .before .before .before .before .before .before .before .before .before .answer .ensures .0 s h (l .0) (l .1)) k (c .before .filled .given .1), omega (arith, (was-few (was-read (c .before .before .before .before .before .before .before .before .before .before .before .before .before .before .before .before .before .before .before .before .before .before .before .before .before .before .before .before .before .before .before .before .pre .0 .0) (c .before .before .before .before .before .before .before .before .before .before .before .before .before .before .before .before .before .before .before .before .before .before .before .read-block .ensures)) (c .before .before .before .before .before .before .before .before .before .before .before .before .before .before .before .before .before .before .before .before .words-in .ensures)) .few, c .before .before .before .before .before .before .before .before .before .before .before .before .before .answer .ensures .1))
+returns c =
+    let pre = c .before .before .before .before .before .before .before .before .before .before .before .before .before .before .before .before .before .before .before .before .before .before .before .before .before .before .before .before .before .before .before .before .pre in
+    let args = c .before .before .before .before .before .before .before .before .before .before .before .before .before .before .before .before .before .before .before .before .before .before .before .before .before .before .before .before .before .before .before .before .args in
+    let read-block = c .before .before .before .before .before .before .before .before .before .before .before .before .before .before .before .before .before .before .before .before .before .before .before .read-block in
+    let words-in = c .before .before .before .before .before .before .before .before .before .before .before .before .before .before .before .before .before .before .before .before .words-in in
+    let answer = c .before .before .before .before .before .before .before .before .before .before .before .before .before .answer in
+    (λ s h l k. obeyed-all (was-read (pre .0 .0) (read-block .ensures)) s h (args .line) (words-in .result) (words-in .ensures) (few-counted (was-few (was-read (pre .0 .0) (read-block .ensures)) (words-in .ensures)) (read-block .kept .1 .1 .1 .0) (pre .0 .0)) (answer .ensures .0 s h (l .0) (l .1)) k (c .before .filled .given .1), omega (arith, (was-few (was-read (pre .0 .0) (read-block .ensures)) (words-in .ensures)) .few, answer .ensures .1))
 
 same-length-7 : tie.Need-same-length-7
 same-length-7 c = search needs
@@ -73,7 +92,14 @@ same-length-12 c = search needs
 
 returns-2 : tie.Need-returns-2
 unfolding Holds
-returns-2 c = (λ s h l k. obeyed-broken (was-read (c .before .before .before .before .before .before .before .before .before .before .before .before .before .before .before .before .before .before .before .before .before .before .before .before .before .before .before .before .before .before .before .before .before .before .before .pre .0 .0) (c .before .before .before .before .before .before .before .before .before .before .before .before .before .before .before .before .before .before .before .before .before .before .before .before .before .before .read-block .ensures)) s h (c .before .before .before .before .before .before .before .before .before .before .before .before .before .before .before .before .before .before .before .before .before .before .before .before .before .before .before .before .before .before .before .before .before .before .before .args .line) (c .before .before .before .before .before .before .before .before .before .before .before .before .before .before .before .before .before .before .before .before .before .before .before .words-in .result) (c .before .before .before .before .before .before .before .before .before .before .before .before .before .before .before .before .before .before .before .before .before .before .before .words-in .ensures) (few-counted (was-few (was-read (c .before .before .before .before .before .before .before .before .before .before .before .before .before .before .before .before .before .before .before .before .before .before .before .before .before .before .before .before .before .before .before .before .before .before .before .pre .0 .0) (c .before .before .before .before .before .before .before .before .before .before .before .before .before .before .before .before .before .before .before .before .before .before .before .before .before .before .read-block .ensures)) (c .before .before .before .before .before .before .before .before .before .before .before .before .before .before .before .before .before .before .before .before .before .before .before .words-in .ensures)) (c .before .before .before .before .before .before .before .before .before .before .before .before .before .before .before .before .before .before .before .before .before .before .before .before .before .before .read-block .kept .1 .1 .1 .0) (c .before .before .before .before .before .before .before .before .before .before .before .before .before .before .before .before .before .before .before .before .before .before .before .before .before .before .before .before .before .before .before .before .before .before .before .pre .0 .0)) (c .before .before .before .before .before .before .before .before .before .before .before .before .before .before .before .before .answer .ensures .0 s h (l .0) (l .1)) k (c .before .before .before .before .enum-told .given .1) (omega (arith, (was-few (was-read (c .before .before .before .before .before .before .before .before .before .before .before .before .before .before .before .before .before .before .before .before .before .before .before .before .before .before .before .before .before .before .before .before .before .before .before .pre .0 .0) (c .before .before .before .before .before .before .before .before .before .before .before .before .before .before .before .before .before .before .before .before .before .before .before .before .before .before .read-block .ensures)) (c .before .before .before .before .before .before .before .before .before .before .before .before .before .before .before .before .before .before .before .before .before .before .before .words-in .ensures)) .few, c .before .before .before .before .before .before .before .before .before .before .before .before .before .before .before .before .answer .ensures .1, c .before .before .before .before .before .before .before .before .before .before .before .before .before .before .before .before .before .before .before .before .before .before .before .before .before .before .before .before .before .before .before .before .before .before .before .pre .0 .0 .text-room)) (omega (arith, (was-few (was-read (c .before .before .before .before .before .before .before .before .before .before .before .before .before .before .before .before .before .before .before .before .before .before .before .before .before .before .before .before .before .before .before .before .before .before .before .pre .0 .0) (c .before .before .before .before .before .before .before .before .before .before .before .before .before .before .before .before .before .before .before .before .before .before .before .before .before .before .read-block .ensures)) (c .before .before .before .before .before .before .before .before .before .before .before .before .before .before .before .before .before .before .before .before .before .before .before .words-in .ensures)) .few, c .before .before .before .before .before .before .before .before .before .before .before .before .before .before .before .before .before .before .before .before .before .before .before .before .before .before .before .before .before .before .before .before .before .before .before .pre .0 .1)) (c .before .before .put-line .ensures), omega (arith, (was-few (was-read (c .before .before .before .before .before .before .before .before .before .before .before .before .before .before .before .before .before .before .before .before .before .before .before .before .before .before .before .before .before .before .before .before .before .before .before .pre .0 .0) (c .before .before .before .before .before .before .before .before .before .before .before .before .before .before .before .before .before .before .before .before .before .before .before .before .before .before .read-block .ensures)) (c .before .before .before .before .before .before .before .before .before .before .before .before .before .before .before .before .before .before .before .before .before .before .before .words-in .ensures)) .few, c .before .before .before .before .before .before .before .before .before .before .before .before .before .before .before .before .answer .ensures .1, c .before .before .put-line .ensures .end-is, line-length _ (let b : c .before .before .before .before .before .before .before .before .before .before .before .before .before .before .before .before .before .before .before .before .before .before .before .before .before .before .before .before .before .before .before .before .before .before .before .args .line + c .before .before .before .before .before .before .before .before .before .before .before .before .before .before .before .before .before .before .before .before .before .before .before .words-in .result / 5 < 18446744073709551616 = omega (arith, (was-few (was-read (c .before .before .before .before .before .before .before .before .before .before .before .before .before .before .before .before .before .before .before .before .before .before .before .before .before .before .before .before .before .before .before .before .before .before .before .pre .0 .0) (c .before .before .before .before .before .before .before .before .before .before .before .before .before .before .before .before .before .before .before .before .before .before .before .before .before .before .read-block .ensures)) (c .before .before .before .before .before .before .before .before .before .before .before .before .before .before .before .before .before .before .before .before .before .before .before .words-in .ensures)) .few, c .before .before .before .before .before .before .before .before .before .before .before .before .before .before .before .before .before .before .before .before .before .before .before .before .before .before .before .before .before .before .before .before .before .before .before .pre .0 .1) in b)))
+returns-2 c =
+    let pre = c .before .before .before .before .before .before .before .before .before .before .before .before .before .before .before .before .before .before .before .before .before .before .before .before .before .before .before .before .before .before .before .before .before .before .before .pre in
+    let args = c .before .before .before .before .before .before .before .before .before .before .before .before .before .before .before .before .before .before .before .before .before .before .before .before .before .before .before .before .before .before .before .before .before .before .before .args in
+    let read-block = c .before .before .before .before .before .before .before .before .before .before .before .before .before .before .before .before .before .before .before .before .before .before .before .before .before .before .read-block in
+    let words-in = c .before .before .before .before .before .before .before .before .before .before .before .before .before .before .before .before .before .before .before .before .before .before .before .words-in in
+    let answer = c .before .before .before .before .before .before .before .before .before .before .before .before .before .before .before .before .answer in
+    let enum-told = c .before .before .before .before .enum-told in
+    (λ s h l k. obeyed-broken (was-read (pre .0 .0) (read-block .ensures)) s h (args .line) (words-in .result) (words-in .ensures) (few-counted (was-few (was-read (pre .0 .0) (read-block .ensures)) (words-in .ensures)) (read-block .kept .1 .1 .1 .0) (pre .0 .0)) (answer .ensures .0 s h (l .0) (l .1)) k (enum-told .given .1) (omega (arith, (was-few (was-read (pre .0 .0) (read-block .ensures)) (words-in .ensures)) .few, answer .ensures .1, pre .0 .0 .text-room)) (omega (arith, (was-few (was-read (pre .0 .0) (read-block .ensures)) (words-in .ensures)) .few, pre .0 .1)) (c .before .before .put-line .ensures), omega (arith, (was-few (was-read (pre .0 .0) (read-block .ensures)) (words-in .ensures)) .few, answer .ensures .1, c .before .before .put-line .ensures .end-is, line-length _ (let b : args .line + words-in .result / 5 < 18446744073709551616 = omega (arith, (was-few (was-read (pre .0 .0) (read-block .ensures)) (words-in .ensures)) .few, pre .0 .1) in b)))
 
 same-length-13 : tie.Need-same-length-13
 same-length-13 c = search needs
@@ -94,7 +120,10 @@ same-length-18 : tie.Need-same-length-18
 same-length-18 c = search needs
 
 returns-3 : tie.Need-returns-3
-returns-3 c = (λ s h l k. absurd (never (c .before .before .before .before .before .before .before .before .before .before .before .before .before .before .before .before .before .before .before .before .before .before .before .before .before .before .before .before .before .before .before .pre .0 .0) (c .before .before .before .before .before .before .before .before .before .before .before .before .before .before .before .before .before .before .before .before .before .before .read-block .ensures) (c .enum-told2 .given .1)), omega arith)
+returns-3 c =
+    let pre = c .before .before .before .before .before .before .before .before .before .before .before .before .before .before .before .before .before .before .before .before .before .before .before .before .before .before .before .before .before .before .before .pre in
+    let read-block = c .before .before .before .before .before .before .before .before .before .before .before .before .before .before .before .before .before .before .before .before .before .before .read-block in
+    (λ s h l k. absurd (never (pre .0 .0) (read-block .ensures) (c .enum-told2 .given .1)), omega arith)
 
 pub obey-spec : {M : Type 1} → statement M
 obey-spec =

@@ -69,18 +69,8 @@ same-length-4 c = search needs
 
 returns-4 : tie.Need-returns-4
 returns-4 c =
-    let cell-named = c .before .before .before .before .before .before .before .before .before .before .before .before .before .before .before .before .before .before .cell-named in
-    let page-of = c .before .before .before .before .before .before .before .before .before .before .before .before .before .before .before .before .before .page-of in
-    let owner = c .before .before .before .before .before .before .before .before .before .before .before .before .before .before .before .owner in
-    let if2 = c .before .before .before .before .before .before .before .before .before .before .before .before .before .before .if2 in
-    let mark = c .before .before .before .before .before .before .before .before .before .before .before .before .mark in
-    let place-of = c .before .before .before .before .before .before .before .before .before .before .before .place-of in
-    let bit-at = c .before .before .before .before .before .before .before .before .before .before .bit-at in
-    let if3 = c .before .before .before .before .before .before .before .before .before .if3 in
-    let with-bit = c .before .before .before .before .before .before .before .with-bit in
-    let set-mark = c .before .before .before .before .before .before .set-mark in
-    push-links _ _ _ _ _ (omega arith) (cell-named .ensures) (page-of .ensures) (place-of .ensures) (mark .ensures) (sym (owner .ensures) ∙ if2 .left)
-    (sym (bit-at .ensures) ∙ if3 .left) (with-bit .ensures) (c .before .before .set-work .ensures) (set-mark .ensures) refl
+    push-links _ _ _ _ _ (omega arith) (c .before .before .before .before .before .before .before .before .before .before .before .before .before .before .before .before .before .before .cell-named .ensures) (c .before .before .before .before .before .before .before .before .before .before .before .before .before .before .before .before .before .page-of .ensures) (c .before .before .before .before .before .before .before .before .before .before .before .place-of .ensures) (c .before .before .before .before .before .before .before .before .before .before .before .before .mark .ensures) (sym (c .before .before .before .before .before .before .before .before .before .before .before .before .before .before .before .owner .ensures) ∙ c .before .before .before .before .before .before .before .before .before .before .before .before .before .before .if2 .left)
+    (sym (c .before .before .before .before .before .before .before .before .before .before .bit-at .ensures) ∙ c .before .before .before .before .before .before .before .before .before .if3 .left) (c .before .before .before .before .before .before .before .with-bit .ensures) (c .before .before .set-work .ensures) (c .before .before .before .before .before .before .set-mark .ensures) refl
 
 pub push-spec : {M : Type 1} → statement M
 push-spec =

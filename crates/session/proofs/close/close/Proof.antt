@@ -16,7 +16,10 @@ feed-requires : tie.Need-feed-requires
 feed-requires c κs = ((omega (arith, c .before .before .before .before .before .before .before .before .before .before .before .before .before .before .before .pre .0), c .before .before .before .before .before .before .before .before .before .before .before .before .before .before .before .pre .0 .3), c .before .before .before .before .before .before .before .before .before .before .before .before .before .before .before .pre .1)
 
 put-end-requires : tie.Need-put-end-requires
-put-end-requires c κs = ((_, (_, c .before .before .before .before .before .before .before .before .before .before .before .before .before .before .before .feed .ensures .0 (c .before .before .before .before .before .before .before .before .before .before .before .before .before .before .before .before .before .before .before .before .before .before .before .before .before .before .before .before .before .before .before .pre .1 .0) (c .before .before .before .before .before .before .before .before .before .before .before .before .before .before .before .before .before .before .before .before .before .before .before .before .before .before .before .before .before .before .before .pre .1 .1) .is-at)), omega (arith, c .before .before .before .before .before .before .before .before .before .before .before .before .before .before .before .feed .ensures .1, c .before .before .before .before .before .before .before .before .before .before .before .before .before .before .before .before .before .before .before .before .before .before .before .before .before .before .before .before .before .before .before .pre .0 .2))
+put-end-requires c κs =
+    let pre = c .before .before .before .before .before .before .before .before .before .before .before .before .before .before .before .before .before .before .before .before .before .before .before .before .before .before .before .before .before .before .before .pre in
+    let feed = c .before .before .before .before .before .before .before .before .before .before .before .before .before .before .before .feed in
+    ((_, (_, feed .ensures .0 (pre .1 .0) (pre .1 .1) .is-at)), omega (arith, feed .ensures .1, pre .0 .2))
 
 put-end-requires-2 : tie.Need-put-end-requires-2
 put-end-requires-2 c κs = ((_, c .before .before .before .before .before .before .before .before .before .before .before .pre .1), omega (arith, c .before .before .before .before .before .before .before .before .before .before .before .pre .0 .2))
@@ -40,7 +43,12 @@ same-length-6 : tie.Need-same-length-6
 same-length-6 c = search needs
 
 returns : tie.Need-returns
-returns c = (λ m a. closed-begun a (sym (c .before .before .before .before .before .before .before .before .before .before .before .before .before .before .before .before .before .before .before .before .before .before .before .before .before .before .before .is-begun .ensures) ∙ (c .before .before .before .before .before .before .before .before .before .before .before .before .before .before .before .before .before .before .before .before .before .before .before .before .before .before .if1 .taken)) (c .before .before .before .before .before .before .before .before .before .before .before .before .before .before .before .before .before .before .feed .ensures .0 m a) (c .before .before .put-end .ensures .0) (omega (arith, c .before .before .before .before .before .before .before .before .before .before .before .before .before .before .before .before .before .before .feed .ensures .1, c .before .before .before .before .before .before .before .before .before .before .before .before .before .before .before .before .before .before .before .before .before .before .before .before .before .before .before .before .before .before .before .before .before .before .pre .0 .2)) (omega (arith, c .before .before .put-end .ensures .1)), omega (arith, c .before .before .before .before .before .before .before .before .before .before .before .before .before .before .before .before .before .before .feed .ensures .1, c .before .before .put-end .ensures .1))
+returns c =
+    let pre = c .before .before .before .before .before .before .before .before .before .before .before .before .before .before .before .before .before .before .before .before .before .before .before .before .before .before .before .before .before .before .before .before .before .before .pre in
+    let is-begun = c .before .before .before .before .before .before .before .before .before .before .before .before .before .before .before .before .before .before .before .before .before .before .before .before .before .before .before .is-begun in
+    let if1 = c .before .before .before .before .before .before .before .before .before .before .before .before .before .before .before .before .before .before .before .before .before .before .before .before .before .before .if1 in
+    let feed = c .before .before .before .before .before .before .before .before .before .before .before .before .before .before .before .before .before .before .feed in
+    (λ m a. closed-begun a (sym (is-begun .ensures) ∙ (if1 .taken)) (feed .ensures .0 m a) (c .before .before .put-end .ensures .0) (omega (arith, feed .ensures .1, pre .0 .2)) (omega (arith, c .before .before .put-end .ensures .1)), omega (arith, feed .ensures .1, c .before .before .put-end .ensures .1))
 
 same-length-7 : tie.Need-same-length-7
 same-length-7 c = search needs

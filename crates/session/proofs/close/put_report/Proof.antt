@@ -29,11 +29,17 @@ same-length c = search needs
 
 returns : tie.Need-returns
 returns c =
-    let free = c .before .before .before .before .before .free-pages .ok in
-    let slots = c .before .before .before .crossing-slots .ok in
-    let fits : (c .before .before .before .before .before .free-pages .result < 4294967296) × (c .before .before .before .crossing-slots .result < 4294967296) = omega (arith, free, slots) in
-    let rows = c .before .before .before .before .before .before .before .before .put-rows .ensures in
-    (report-put (c .before .before .before .before .before .before .before .before .before .before .before .before .before .before .before .pre .0 .1) (c .before .before .before .before .before .before .before .before .before .before .before .read-sizes .ensures) (c .before .before .before .before .before .before .before .before .before .before .find-places .ensures) (c .before .before .before .before .before .before .before .before .before .before .before .before .before .before .before .pre .1) (rows .0) (rows .1) fits (c .before .before .put-two .ensures) (c .before .before .before .before .before .free-pages .ensures .1) (c .before .before .before .crossing-slots .ensures .1), report-end (c .before .before .before .before .before .before .before .before .before .before .before .before .before .before .before .pre .0 .1) (c .before .before .before .before .before .before .before .before .before .before .before .read-sizes .ensures) (c .before .before .before .before .before .before .before .before .before .before .find-places .ensures) (c .before .before .before .before .before .before .before .before .before .before .before .before .before .before .before .pre .1) (rows .0) (rows .1) fits (c .before .before .put-two .ensures))
+    let pre = c .before .before .before .before .before .before .before .before .before .before .before .before .before .before .before .pre in
+    let read-sizes = c .before .before .before .before .before .before .before .before .before .before .before .read-sizes in
+    let find-places = c .before .before .before .before .before .before .before .before .before .before .find-places in
+    let put-rows = c .before .before .before .before .before .before .before .before .put-rows in
+    let free-pages = c .before .before .before .before .before .free-pages in
+    let crossing-slots = c .before .before .before .crossing-slots in
+    let free = free-pages .ok in
+    let slots = crossing-slots .ok in
+    let fits : (free-pages .result < 4294967296) × (crossing-slots .result < 4294967296) = omega (arith, free, slots) in
+    let rows = put-rows .ensures in
+    (report-put (pre .0 .1) (read-sizes .ensures) (find-places .ensures) (pre .1) (rows .0) (rows .1) fits (c .before .before .put-two .ensures) (free-pages .ensures .1) (crossing-slots .ensures .1), report-end (pre .0 .1) (read-sizes .ensures) (find-places .ensures) (pre .1) (rows .0) (rows .1) fits (c .before .before .put-two .ensures))
 
 pub put-report-spec : {M : Type 1} → statement M
 put-report-spec =

@@ -36,13 +36,18 @@ loop-less c = omega arith
 
 loop-again : tie.Need-loop-again Inv-loop μ-loop
 loop-again c =
-    let rs = rowsIn (c .before .before .before .before .before .before .before .before .before .before .args .p) (c .before .before .before .before .before .before .before .before .before .before .args .tables .now) in
-    let r = c .before .before .before .before .row-at .result in
-    let ok = c .before .before .before .before .row-at .ok in
+    let args = c .before .before .before .before .before .before .before .before .before .before .args in
+    let pre = c .before .before .before .before .before .before .before .before .before .before .pre in
+    let row-count = c .before .before .before .before .before .before .before .row-count in
+    let loop = c .before .before .before .before .before .before .loop in
+    let row-at = c .before .before .before .before .row-at in
+    let rs = rowsIn (args .p) (args .tables .now) in
+    let r = row-at .result in
+    let ok = row-at .ok in
     let fits : (r .thread < 4294967296) × (r .level < 4294967296) × (r .objects < 4294967296) × (r .pages < 4294967296) = omega (arith, ok) in
-    let h : c .before .before .before .before .before .before .loop .k < length rs = omega (arith, c .before .before .before .before .before .before .before .row-count .ensures .0) in
-    let room : c .before .before .before .before .before .before .before .before .before .before .args .at + 44 * (c .before .before .before .before .before .before .loop .k + 1) ≤ length (c .before .before .before .before .before .before .before .before .before .before .args .out .now) = omega (arith, c .before .before .before .before .before .before .before .row-count .ensures .0, rows-few _ _ (c .before .before .before .before .before .before .before .before .before .before .pre .0), c .before .before .before .before .before .before .before .before .before .before .pre .1) in
-    (omega arith, row-end rs (c .before .before .before .before .before .before .loop .k) h (c .before .before .before .before .row-at .ensures .0) fits (c .before .before .before .before .before .before .loop .inv .1) room (c .before .before .before .before .before .before .loop .inv .3) (c .before .before .put-four .ensures), (c .before .before .put-four .kept .0) ∙ (c .before .before .before .before .before .before .loop .inv .2), row-next rs (c .before .before .before .before .before .before .loop .k) h (c .before .before .before .before .row-at .ensures .0) fits (c .before .before .before .before .before .before .loop .inv .1) room (c .before .before .before .before .before .before .loop .inv .3) (c .before .before .put-four .ensures))
+    let h : loop .k < length rs = omega (arith, row-count .ensures .0) in
+    let room : args .at + 44 * (loop .k + 1) ≤ length (args .out .now) = omega (arith, row-count .ensures .0, rows-few _ _ (pre .0), pre .1) in
+    (omega arith, row-end rs (loop .k) h (row-at .ensures .0) fits (loop .inv .1) room (loop .inv .3) (c .before .before .put-four .ensures), (c .before .before .put-four .kept .0) ∙ (loop .inv .2), row-next rs (loop .k) h (row-at .ensures .0) fits (loop .inv .1) room (loop .inv .3) (c .before .before .put-four .ensures))
 
 same-length : tie.Need-same-length Inv-loop μ-loop
 same-length c = omega arith

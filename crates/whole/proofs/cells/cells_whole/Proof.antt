@@ -95,14 +95,13 @@ fields-less c = omega arith
 fields-again : tie.Need-fields-again Inv-fields μ-fields Inv-cells μ-cells Inv-pages μ-pages
 fields-again c =
     let args = c .before .before .before .before .before .before .before .before .before .before .before .before .before .before .before .before .before .before .before .before .args in
-    let fields = c .before .before .before .before .fields in
-    (
-  fields .inv .0,
-  omega arith,
-  fields .inv .2,
-  fields .inv .3,
-  below-more _ _ (fields .inv .4) (subst (λ (y : ℕ). IsRef (args .p) (now (args .tables)) y) (c .before .before .field .ensures) (c .before .is-ref .ensures .0 (not-false _ (c .if3 .left)))),
-)
+    let fields = c .before .before .before .before .fields in (
+      fields .inv .0,
+      omega arith,
+      fields .inv .2,
+      fields .inv .3,
+      below-more _ _ (fields .inv .4) (subst (λ (y : ℕ). IsRef (args .p) (now (args .tables)) y) (c .before .before .field .ensures) (c .before .is-ref .ensures .0 (not-false _ (c .if3 .left)))),
+    )
 
 zero-from-requires : tie.Need-zero-from-requires Inv-fields μ-fields Inv-cells μ-cells Inv-pages μ-pages
 zero-from-requires c κs = c .before .fields .inv .2
@@ -124,14 +123,13 @@ cells-again c =
     let if1 = c .before .before .before .before .before .before .if1 in
     let work = c .before .before .before .before .before .work in
     let if2 = c .before .before .before .before .if2 in
-    let fields2 = c .before .before .before .fields in
-    (
-  fields2 .inv .0,
-  omega arith,
-  cells .inv .2,
-  below-more _ _ (cells .inv .3) (subst (λ (k : ℕ). CellWhole (args .p) (now (args .cells)) (now (args .tables)) k) (cell-on .ensures)
-      (record { head = omega (arith, (field-count .ensures ∙ ap (λ (h : ℕ). h / 16) (head2 .ensures)), (field-count2 .ensures ∙ ap (λ (h : ℕ). h % 16) (head2 .ensures)), if1 .left); working = sym (work .ensures) ∙ if2 .left; fields = fields-whole (field-count .ensures ∙ ap (λ (h : ℕ). h / 16) (head2 .ensures)) (field-count2 .ensures ∙ ap (λ (h : ℕ). h % 16) (head2 .ensures)) (λ f l. fields2 .inv .4 f (omega arith)) (c .before .zero-from .ensures .0 (not-false _ (c .if4 .left))) })),
-)
+    let fields2 = c .before .before .before .fields in (
+      fields2 .inv .0,
+      omega arith,
+      cells .inv .2,
+      below-more _ _ (cells .inv .3) (subst (λ (k : ℕ). CellWhole (args .p) (now (args .cells)) (now (args .tables)) k) (cell-on .ensures)
+          (record { head = omega (arith, (field-count .ensures ∙ ap (λ (h : ℕ). h / 16) (head2 .ensures)), (field-count2 .ensures ∙ ap (λ (h : ℕ). h % 16) (head2 .ensures)), if1 .left); working = sym (work .ensures) ∙ if2 .left; fields = fields-whole (field-count .ensures ∙ ap (λ (h : ℕ). h / 16) (head2 .ensures)) (field-count2 .ensures ∙ ap (λ (h : ℕ). h % 16) (head2 .ensures)) (λ f l. fields2 .inv .4 f (omega arith)) (c .before .zero-from .ensures .0 (not-false _ (c .if4 .left))) })),
+    )
 
 add-page : tie.Need-add-page Inv-fields μ-fields Inv-cells μ-cells Inv-pages μ-pages
 add-page c = omega arith
