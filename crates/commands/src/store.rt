@@ -86,18 +86,18 @@ fn remove_entry(entries: usize, remember: &mut [u32], used: usize, i: usize)
     layout::remember::set_used(remember, last as u32);
 }
 
-// Slot `at` crossed into `was` and is to cross into `will`: its entry goes, comes or changes its region, or there is no room (14).
+// Slot `at` crossed into `was` and is to cross into `will`: its entry stays, goes, comes or changes its region, or there is no room (14).
 fn remember_slot(entries: usize, remember: &mut [u32], at: usize, was: u32, will: u32) -> u32
     requires { ⌜ 2 * entries + 2 ≤ length (now remember) ⌝ }
     requires { ⌜ (entries ≤ 4096) × (usedIn (now remember) ≤ entries) × (at < 262144) ⌝ }
     requires { ⌜ (0 < was → (i : ℕ) × (i < usedIn (now remember)) × (slotIn (now remember) i ≡ at)) ⌝ }
     ensures { λ r. ⌜ Remembered entries (now (remember .entry)) at was will (now (remember .exit)) r ⌝ }
 {
+    if was == will {
+        return 0;
+    }
     let used = layout::wide(layout::remember::used(remember));
     if was == 0 {
-        if will == 0 {
-            return 0;
-        }
         if entries <= used {
             return 14;
         }

@@ -10,7 +10,7 @@ use Rattle.promises.specs.EntryEdits.{added-exact, changed-exact, remove
 
 -- slot `at` crossed into was and will cross into will, 0 for none; r is the answer's number
 pub data Remembered (N : ℕ) (m : List ℕ) (at was will : ℕ) (m′ : List ℕ) (r : ℕ) : Type 0 where
-  kept : was ≡ 0 → will ≡ 0 → m′ ≡ m → r ≡ 0 → Remembered N m at was will m′ r
+  kept : was ≡ will → m′ ≡ m → r ≡ 0 → Remembered N m at was will m′ r
   full : was ≡ 0 → 0 < will → N ≤ usedIn m → m′ ≡ m → r ≡ 14 → Remembered N m at was will m′ r
   came : was ≡ 0 → 0 < will → usedIn m < N → m′ ≡ added N m at will → r ≡ 0 → Remembered N m at was will m′ r
   moved : (i : ℕ) → 0 < was → 0 < will → i < usedIn m → slotIn m i ≡ at → m′ ≡ changed N m i will → r ≡ 0 → Remembered N m at was will m′ r
@@ -19,7 +19,7 @@ pub data Remembered (N : ℕ) (m : List ℕ) (at was will : ℕ) (m′ : List �
 -- a table exact for f becomes one exact for f′, which differs at the slot alone
 pub remembered-exact : (f f′ : ℕ → ℕ) (n N : ℕ) (m m′ : List ℕ) → 2 * N + 2 ≤ length m → Exact f n N m → (at was will r : ℕ) → at < n → Elsewhere f f′ at → f at ≡ was → f′ at ≡ will
     → Remembered N m at was will m′ r → r ≡ 0 → Exact f′ n N m′
-remembered-exact f f′ n N m m′ long x at was will r low e before after (kept a b q z) o = subst (Exact f′ n N) (sym q) (exact-same f f′ n N m x at low e (after ∙ b ∙ sym (before ∙ a)))
+remembered-exact f f′ n N m m′ long x at was will r low e before after (kept a q z) o = subst (Exact f′ n N) (sym q) (exact-same f f′ n N m x at low e (after ∙ sym (before ∙ a)))
 remembered-exact f f′ n N m m′ long x at was will r low e before after (full a b h q z) o = absurd (let p : ⊥ = omega arith in p)
 remembered-exact f f′ n N m m′ long x at was will r low e before after (came a b h q z) o = subst (Exact f′ n N) (sym q) (added-exact N m long h at will f f′ n x low e b after (before ∙ a))
 remembered-exact f f′ n N m m′ long x at was will r low e before after (moved i a b h s q z) o = subst (Exact f′ n N) (sym q) (changed-exact N m long i h (x .room) will at f f′ n x low e b after s)
@@ -35,7 +35,7 @@ module _ (N : ℕ) (m : List ℕ) (at was will : ℕ) (m′ : List ℕ) (r : ℕ
     pub same : m′ ≡ m
 
   pub remembered-full : Remembered N m at was will m′ r → (r ≡ 0 → ⊥) → NoRoom
-  remembered-full (kept a b e q) z = absurd (z q)
+  remembered-full (kept a e q) z = absurd (z q)
   remembered-full (full a b h e q) z = record { number = q; before = a; after = b; many = h; same = e }
   remembered-full (came a b h e q) z = absurd (z q)
   remembered-full (moved i a b h s e q) z = absurd (z q)
@@ -43,7 +43,7 @@ module _ (N : ℕ) (m : List ℕ) (at was will : ℕ) (m′ : List ℕ) (r : ℕ
 
   module _ (long : 2 * N + 2 ≤ length m) (few : usedIn m ≤ N) where
     pub remembered-edited : Remembered N m at was will m′ r → Edited N m m′
-    remembered-edited (kept a b e q) = subst (Edited N m) (sym e) (record { long = refl; size = refl; spare = λ j l. refl })
+    remembered-edited (kept a e q) = subst (Edited N m) (sym e) (record { long = refl; size = refl; spare = λ j l. refl })
     remembered-edited (full a b h e q) = subst (Edited N m) (sym e) (record { long = refl; size = refl; spare = λ j l. refl })
     remembered-edited (came a b h e q) = subst (Edited N m) (sym e) (added-edited N m long h at will)
     remembered-edited (moved i a b h s e q) = subst (Edited N m) (sym e) (changed-edited N m long i h few will)

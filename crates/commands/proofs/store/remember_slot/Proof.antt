@@ -6,6 +6,9 @@ use borrow.Author.Needs.{needs}
 use Rattle.commands.proofs.store.remember_slot.Statement.{statement}
 use Rattle.commands.proofs.store.remember_slot.Tie as tie
 
+returns : tie.Need-returns
+returns c = kept (c .if1 .taken) refl refl
+
 used-requires : tie.Need-used-requires
 used-requires c κs = search needs
 
@@ -15,36 +18,29 @@ wide-requires c κs = search needs
 same-length : tie.Need-same-length
 same-length c = search needs
 
-returns : tie.Need-returns
-returns c = kept (c .before .if1 .taken) (c .if2 .taken) refl refl
-
-same-length-2 : tie.Need-same-length-2
-same-length-2 c = search needs
-
 returns-2 : tie.Need-returns-2
 returns-2 c =
-    let used = c .before .before .before .before .used in
-    let wide = c .before .before .before .wide in
-    let if1 = c .before .before .if1 in
-    full (if1 .taken) (omega arith) (omega (arith, wide .ensures, used .ensures)) refl refl
+    let used = c .before .before .before .used in
+    let wide = c .before .before .wide in
+    full (c .before .if2 .taken) (omega arith) (omega (arith, wide .ensures, used .ensures)) refl refl
 
 add-entry-requires : tie.Need-add-entry-requires
 add-entry-requires c κs = search needs
 
-same-length-3 : tie.Need-same-length-3
-same-length-3 c = search needs
+same-length-2 : tie.Need-same-length-2
+same-length-2 c = search needs
 
 returns-3 : tie.Need-returns-3
 returns-3 c =
-    let used = c .before .before .before .before .before .before .before .before .used in
-    let wide = c .before .before .before .before .before .before .before .wide in
-    let if1 = c .before .before .before .before .before .before .if1 in
+    let used = c .before .before .before .before .before .before .before .used in
+    let wide = c .before .before .before .before .before .before .wide in
+    let if2 = c .before .before .before .before .before .if2 in
     let add-entry = c .before .before .add-entry in
-    came (if1 .taken) (omega arith) (omega (arith, wide .ensures, used .ensures)) (add-entry .ensures) refl
+    came (if2 .taken) (omega arith) (omega (arith, wide .ensures, used .ensures)) (add-entry .ensures) refl
 
 find-entry-requires : tie.Need-find-entry-requires
 find-entry-requires c κs =
-    let pre = c .before .before .before .before .before .before .pre in
+    let pre = c .before .before .before .before .before .before .before .pre in
     let wide = c .before .before .wide in
     let used = c .before .before .before .used in
     let named = pre .1 .1 (omega arith) in (
@@ -55,8 +51,8 @@ find-entry-requires c κs =
 remove-entry-requires : tie.Need-remove-entry-requires
 remove-entry-requires c κs = search needs
 
-same-length-4 : tie.Need-same-length-4
-same-length-4 c = search needs
+same-length-3 : tie.Need-same-length-3
+same-length-3 c = search needs
 
 returns-4 : tie.Need-returns-4
 returns-4 c =
@@ -71,8 +67,8 @@ returns-4 c =
 set-region-requires : tie.Need-set-region-requires
 set-region-requires c κs = search needs
 
-same-length-5 : tie.Need-same-length-5
-same-length-5 c = search needs
+same-length-4 : tie.Need-same-length-4
+same-length-4 c = search needs
 
 returns-5 : tie.Need-returns-5
 returns-5 c =
@@ -87,19 +83,18 @@ pub remember-slot-spec : {M : Type 1} → statement M
 remember-slot-spec =
     tie.close
     (tie.spec
+    returns
     used-requires
     wide-requires
     same-length
-    returns
-    same-length-2
     returns-2
     add-entry-requires
-    same-length-3
+    same-length-2
     returns-3
     find-entry-requires
     remove-entry-requires
-    same-length-4
+    same-length-3
     returns-4
     set-region-requires
-    same-length-5
+    same-length-4
     returns-5)
