@@ -1,8 +1,10 @@
 // The entries that are used name crossing slots, each another, with the right region; those that are not used are zero.
 ghost use mathlib.Core.Path.{_≡_};
-ghost use Prim.Native.Nat.{ℕ, _+_, _*_, _≤_, _<_};
+ghost use Prim.Native.Nat.{ℕ, _+_, _*_, _^_, _≤_, _<_};
 ghost use lib.ListN.{length};
 ghost use Rattle.lists.specs.Says.{Says};
+ghost use Rattle.lists.specs.Bits.{bitAt};
+ghost use Rattle.lists.specs.Seen.{bitIn, withBit};
 ghost use Rattle.layout.specs.Places.{Room, usedIn, slotIn};
 ghost use Rattle.promises.specs.Whole.{EntryWhole, EntriesWhole};
 ghost use Rattle.whole.specs.Entries.{NamedWhole, RestZero, Once, Rising};
@@ -84,7 +86,31 @@ pub fn rising(p: Places, remember: &[u32], used: usize) -> bool
     true
 }
 
-// Whether no slot is seen twice, by a table of all that were seen.
+// A slot's bit in a table of those seen, 32 to a word.
+fn seen_bit(seen: &[u32], at: usize) -> u32
+    requires { ⌜ at < 32 * length (now seen) ⌝ }
+    ensures { λ r. ⌜ r ≡ bitIn (now (seen .entry)) at ⌝ }
+{
+    (seen[at / 32] >> (at % 32)) % 2
+}
+
+// A word with a bit set that is not set.
+fn with_bit(w: u32, i: usize) -> u32
+    requires { ⌜ (i < 32) × (bitAt w i ≡ 0) ⌝ }
+    ensures { λ r. ⌜ r ≡ w + 2 ^ i ⌝ }
+{
+    w + (1 << i)
+}
+
+// The slot's bit is set that was not.
+fn see(seen: &mut [u32], at: usize)
+    requires { ⌜ (at < 32 * length (now seen)) × (bitIn (now seen) at ≡ 0) ⌝ }
+    ensures { λ _. ⌜ now (seen .exit) ≡ withBit (now (seen .entry)) at ⌝ }
+{
+    seen[at / 32] = with_bit(seen[at / 32], at % 32);
+}
+
+// Whether no slot is seen twice, by a table with a bit for each.
 pub fn seen_once(p: Places, remember: &[u32], used: usize) -> bool
     requires { ⌜ 2 * p .entries + 2 ≤ length (now remember) ⌝ }
     requires { ⌜ (used ≡ usedIn (now remember)) × (used ≤ p .entries) ⌝ }
@@ -92,14 +118,14 @@ pub fn seen_once(p: Places, remember: &[u32], used: usize) -> bool
     ensures { λ r. ⌜ Says r (Once (now (remember .entry))) ⌝ }
 {
     let entries = p.entries;
-    let mut seen = [false; 262144];
+    let mut seen = [0u32; 8192];
     let mut i = 0;
     while i < used {
         let at = layout::wide(layout::remember::slot(entries, remember, i));
-        if seen[at] {
+        if seen_bit(&seen, at) != 0 {
             return false;
         }
-        seen[at] = true;
+        see(&mut seen, at);
         i += 1;
     }
     true
