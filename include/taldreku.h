@@ -5,8 +5,8 @@
  * changes nothing.
  *
  * An array is passed as a pointer and its length in words, a list of rows in rows. Longer arrays than asked for are accepted, and their
- * extra words and rows never change. The arrays of one call must not overlap, and nobody else may write them during the call. No function keeps a pointer, none
- * allocates, and none calls back.
+ * extra words and rows never change. The arrays of one call must not overlap, and nobody else may write them during the call. No function
+ * keeps a pointer, none allocates, and none calls back. A call takes less than 64 KB of stack.
  *
  * Link with libheap.a, libreport.a and liblayout.a (see README.md).
  */
