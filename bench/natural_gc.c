@@ -2,23 +2,7 @@
  * row is dropped. */
 #include <gc.h>
 
-#include "import.h"
-
-typedef struct wheel {
-    struct wheel *before;
-    uint32_t position, pressure;
-} wheel;
-
-typedef struct row {
-    struct row *before;
-    wheel *last;
-    uint32_t number;
-} row;
-
-typedef struct node {
-    struct node *before;
-    wheel *kept;
-} node;
+#include "natural.h"
 
 Imported import_gc(void) {
     GC_INIT();

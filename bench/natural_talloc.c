@@ -2,23 +2,7 @@
  * what is kept is moved to the context that keeps it, with what it leads to. */
 #include <talloc.h>
 
-#include "import.h"
-
-typedef struct wheel {
-    struct wheel *before;
-    uint32_t position, pressure;
-} wheel;
-
-typedef struct row {
-    struct row *before;
-    wheel *last;
-    uint32_t number;
-} row;
-
-typedef struct node {
-    struct node *before;
-    wheel *kept;
-} node;
+#include "natural.h"
 
 /* The wheels from this one back to the first of its row, as far as they are still the sheet's. */
 static void move_wheels(void *to, void *sheet, wheel *w) {
