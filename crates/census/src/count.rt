@@ -5,11 +5,11 @@ ghost use lib.ListN.{length};
 ghost use Rattle.layout.specs.Places.{Room, markOf};
 ghost use Rattle.census.specs.Counted.{goesTo, onPage, overMarked};
 use layout::Places;
+use layout::bits::without_bit;
 use layout::cells::cell_on;
 use layout::cells::work;
 use layout::tables::mark;
 use layout::wide;
-use mark::bits::without_bit;
 
 // 1 if the object in cell c goes to g, else 0.
 pub fn goes_to(cells: &[u32], c: usize, g: u32) -> usize

@@ -15,6 +15,7 @@ ghost use Rattle.census.specs.Counted.{onPage, overMarked};
 ghost use Rattle.census.specs.After.{homeAfter, crossAfter, cellCrosses, slotCrosses, entriesCross, crossingAfter};
 use layout::Kind;
 use layout::Places;
+use layout::bits::without_bit;
 use layout::cells::cell_named;
 use layout::cells::cell_on;
 use layout::cells::field;
@@ -28,7 +29,6 @@ use layout::remember::used;
 use layout::tables::mark;
 use layout::tables::owner;
 use layout::wide;
-use mark::bits::without_bit;
 
 // The region of cell c after the end.
 pub fn home_after(p: Places, cells: &[u32], tables: &[u32], r: u32, c: usize) -> u32

@@ -1,9 +1,8 @@
 // The entries that are used name crossing slots, each another, with the right region; those that are not used are zero.
 ghost use mathlib.Core.Path.{_≡_};
-ghost use Prim.Native.Nat.{ℕ, _+_, _*_, _^_, _≤_, _<_};
+ghost use Prim.Native.Nat.{ℕ, _+_, _*_, _≤_, _<_};
 ghost use lib.ListN.{length};
 ghost use Rattle.lists.specs.Says.{Says};
-ghost use Rattle.lists.specs.Bits.{bitAt};
 ghost use Rattle.lists.specs.Seen.{bitIn, withBit};
 ghost use Rattle.layout.specs.Places.{Room, usedIn, slotIn};
 ghost use Rattle.promises.specs.Whole.{EntryWhole, EntriesWhole};
@@ -91,15 +90,7 @@ fn seen_bit(seen: &[u32], at: usize) -> u32
     requires { ⌜ at < 32 * length (now seen) ⌝ }
     ensures { λ r. ⌜ r ≡ bitIn (now (seen .entry)) at ⌝ }
 {
-    (seen[at / 32] >> (at % 32)) % 2
-}
-
-// A word with a bit set that is not set.
-fn with_bit(w: u32, i: usize) -> u32
-    requires { ⌜ (i < 32) × (bitAt w i ≡ 0) ⌝ }
-    ensures { λ r. ⌜ r ≡ w + 2 ^ i ⌝ }
-{
-    w + (1 << i)
+    layout::bits::bit_at(seen[at / 32], at % 32)
 }
 
 // The slot's bit is set that was not.
@@ -107,7 +98,7 @@ fn see(seen: &mut [u32], at: usize)
     requires { ⌜ (at < 32 * length (now seen)) × (bitIn (now seen) at ≡ 0) ⌝ }
     ensures { λ _. ⌜ now (seen .exit) ≡ withBit (now (seen .entry)) at ⌝ }
 {
-    seen[at / 32] = with_bit(seen[at / 32], at % 32);
+    seen[at / 32] = layout::bits::with_bit(seen[at / 32], at % 32);
 }
 
 // Whether no slot is seen twice, by a table with a bit for each.
