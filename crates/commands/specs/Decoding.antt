@@ -10,7 +10,7 @@ use Rattle.lists.specs.Says.{true-not-false}
 use Rattle.lists.specs.Tests.{both-true}
 use Rattle.rules.specs.declared.Sizes.{Sizes}
 use Rattle.rules.specs.declared.Command.{Command}
-use Rattle.rules.specs.Terms.{Code, unknown, start, end, new, copy, clear, load, store, read, write, same, decode, ask}
+use Rattle.rules.specs.Terms.{Code, unknown, start, end, new, copy, clear, load, store, read, write, same, decode, ask, limits}
 use Rattle.rules.specs.NeverFreeing.{NeverFreeing, operands, known, question, state}
 use Rattle.rules.specs.Rules.{first}
 use Rattle.commands.specs.declared.Decoded.{Decoded}
@@ -41,7 +41,7 @@ known-then true d = d
 known-then false d = Refused 6
 
 unfoldable pub decodedBy : Sizes → Code → ℕ → ℕ → ℕ → ℕ → Decoded
-decodedBy s o t a b c = known-then (known o) (checkedBy (ltb t (s .threads)) (operands s o a b c) (named o t a b c))
+decodedBy s o t a b c = known-then (known o) (checkedBy (ltb t (s .threads)) (operands (limits s) o a b c) (named o t a b c))
 
 abbrev pub decodedOf : Sizes → Command → Decoded
 decodedOf s m = decodedBy s (decode (m .code)) (m .thread) (m .a) (m .b) (m .c)
@@ -63,7 +63,7 @@ numberOf (Refused q) = q
 -- questions 6, 7 and 8, by the rules' own tests
 unfoldable pub asked : Sizes → Command → ℕ
 asked s m =
-    ask (known (decode (m .code))) 6 (ask (ltb (m .thread) (s .threads)) 7 (ask (operands s (decode (m .code)) (m .a) (m .b) (m .c)) 8 0))
+    ask (known (decode (m .code))) 6 (ask (ltb (m .thread) (s .threads)) 7 (ask (operands (limits s) (decode (m .code)) (m .a) (m .b) (m .c)) 8 0))
 
 checked-number : (k x y : Bool) (d : Decoded) → (k ≡ true → numberOf d ≡ 0) → numberOf (known-then k (checkedBy x y d)) ≡ ask k 6 (ask x 7 (ask y 8 0))
 unfolding ask
@@ -85,9 +85,9 @@ named-number read t a b c e = refl
 named-number write t a b c e = refl
 named-number same t a b c e = refl
 
-number-by : (s : Sizes) (o : Code) (t a b c : ℕ) → numberOf (decodedBy s o t a b c) ≡ ask (known o) 6 (ask (ltb t (s .threads)) 7 (ask (operands s o a b c) 8 0))
+number-by : (s : Sizes) (o : Code) (t a b c : ℕ) → numberOf (decodedBy s o t a b c) ≡ ask (known o) 6 (ask (ltb t (s .threads)) 7 (ask (operands (limits s) o a b c) 8 0))
 unfolding decodedBy
-number-by s o t a b c = checked-number (known o) (ltb t (s .threads)) (operands s o a b c) (named o t a b c) (named-number o t a b c)
+number-by s o t a b c = checked-number (known o) (ltb t (s .threads)) (operands (limits s) o a b c) (named o t a b c) (named-number o t a b c)
 
 -- the decoded command's number is the rules' answer to questions 6 to 8
 pub decoded-number : (s : Sizes) (m : Command) → numberOf (decodedOf s m) ≡ asked s m
@@ -103,9 +103,9 @@ ask-first true true true q = refl
 
 -- and the questions that follow, 9 to 12, are asked where it is 0
 pub question-first : (s : Sizes) (n : NeverFreeing) (m : Command)
-    → question s n m ≡ first (asked s m) (state s n (decode (m .code)) (m .thread) (m .a) (m .b) (m .c))
+    → question (limits s) n m ≡ first (asked s m) (state (limits s) n (decode (m .code)) (m .thread) (m .a) (m .b) (m .c))
 unfolding question asked
-question-first s n m = ask-first (known (decode (m .code))) (ltb (m .thread) (s .threads)) (operands s (decode (m .code)) (m .a) (m .b) (m .c)) _
+question-first s n m = ask-first (known (decode (m .code))) (ltb (m .thread) (s .threads)) (operands (limits s) (decode (m .code)) (m .a) (m .b) (m .c)) _
 
 all-true : (k x y : Bool) → ask k 6 (ask x 7 (ask y 8 0)) ≡ 0 → (k ≡ true) × (x ≡ true) × (y ≡ true)
 unfolding ask
@@ -119,18 +119,18 @@ pub decoded-named : (s : Sizes) (m : Command) → asked s m ≡ 0
     → decodedOf s m ≡ named (decode (m .code)) (m .thread) (m .a) (m .b) (m .c)
 unfolding asked decodedBy
 decoded-named s m e =
-    let r = all-true (known (decode (m .code))) (ltb (m .thread) (s .threads)) (operands s (decode (m .code)) (m .a) (m .b) (m .c)) e in
-    let o = operands s (decode (m .code)) (m .a) (m .b) (m .c) in
+    let r = all-true (known (decode (m .code))) (ltb (m .thread) (s .threads)) (operands (limits s) (decode (m .code)) (m .a) (m .b) (m .c)) e in
+    let o = operands (limits s) (decode (m .code)) (m .a) (m .b) (m .c) in
     let d = named (decode (m .code)) (m .thread) (m .a) (m .b) (m .c) in
     ap₂ (λ (k x : Bool). known-then k (checkedBy x o d)) (r .0) (r .1) ∙ ap (λ (y : Bool). checkedBy true y d) (r .2)
 
 -- an arm of the match: the operands as the code has them
 pub arm : (s : Sizes) (m : Command) (o : Code) (t a b c : ℕ) → decode (m .code) ≡ o → known o ≡ true → t ≡ m .thread → a ≡ m .a → b ≡ m .b → c ≡ m .c
-    → (v : Bool) → v ≡ operands s o a b c → {r : Decoded} → r ≡ checkedBy (ltb t (s .threads)) v (named o t a b c) → r ≡ decodedOf s m
+    → (v : Bool) → v ≡ operands (limits s) o a b c → {r : Decoded} → r ≡ checkedBy (ltb t (s .threads)) v (named o t a b c) → r ≡ decodedOf s m
 unfolding decodedBy
 arm s m o t a b c e k et ea eb ec v ev er =
     er ∙ ap (λ (z : Bool). checkedBy (ltb t (s .threads)) z (named o t a b c)) ev
-    ∙ sym (ap (λ (z : Bool). known-then z (checkedBy (ltb t (s .threads)) (operands s o a b c) (named o t a b c))) k)
+    ∙ sym (ap (λ (z : Bool). known-then z (checkedBy (ltb t (s .threads)) (operands (limits s) o a b c) (named o t a b c))) k)
     ∙ ap₂ (λ (x y : ℕ). decodedBy s o x y b c) et ea ∙ ap₂ (λ (x y : ℕ). decodedBy s o (m .thread) (m .a) x y) eb ec
     ∙ ap (λ (z : Code). decodedBy s z (m .thread) (m .a) (m .b) (m .c)) (sym e)
 
@@ -217,7 +217,7 @@ code-back (suc (suc (suc (suc (suc (suc (suc (suc (suc (suc (suc n))))))))))) e 
 three : (x y z : Bool) → (x && y && z) ≡ true → (x ≡ true) × (y ≡ true) × (z ≡ true)
 three x y z e = let p = both-true (x && y) z e in let q = both-true x y (p .0) in (q .0, q .1, p .1)
 
-back-by : (s : Sizes) (o : Code) (n t a b c : ℕ) → n ≡ codeOf o → known o ≡ true → t < s .threads → operands s o a b c ≡ true
+back-by : (s : Sizes) (o : Code) (n t a b c : ℕ) → n ≡ codeOf o → known o ≡ true → t < s .threads → operands (limits s) o a b c ≡ true
     → Means s (record { code = n; thread = t; a = a; b = b; c = c }) (named o t a b c)
 unfolding operands
 back-by s unknown n t a b c e k l q = absurd (true-not-false k)
@@ -256,16 +256,16 @@ pub decoded-means : (s : Sizes) (m : Command) (d : Decoded) → d ≡ decodedOf 
 unfolding asked
 decoded-means s m d e z =
     let f : asked s m ≡ 0 = sym (decoded-number s m) ∙ sym (ap numberOf e) ∙ z in
-    let r = all-true (known (decode (m .code))) (ltb (m .thread) (s .threads)) (operands s (decode (m .code)) (m .a) (m .b) (m .c)) f in
+    let r = all-true (known (decode (m .code))) (ltb (m .thread) (s .threads)) (operands (limits s) (decode (m .code)) (m .a) (m .b) (m .c)) f in
     subst (Means s m) (sym (e ∙ decoded-named s m f))
     (back-by s (decode (m .code)) (m .code) (m .thread) (m .a) (m .b) (m .c) (code-back (m .code) (r .0)) (r .0) (ltb-true (m .thread) (s .threads) (r .1)) (r .2))
 
 -- and what was refused is refused by the rules, with the same number
-pub decoded-refused : (s : Sizes) (m : Command) (q : ℕ) → Refused q ≡ decodedOf s m → 0 < q → (n : NeverFreeing) → question s n m ≡ q
+pub decoded-refused : (s : Sizes) (m : Command) (q : ℕ) → Refused q ≡ decodedOf s m → 0 < q → (n : NeverFreeing) → question (limits s) n m ≡ q
 decoded-refused s m zero e z n = absurd (let o : ⊥ = omega arith in o)
 decoded-refused s m (suc q) e z n =
     question-first s n m
-    ∙ ap (λ (x : ℕ). first x (state s n (decode (m .code)) (m .thread) (m .a) (m .b) (m .c))) (sym (decoded-number s m) ∙ sym (ap numberOf e))
+    ∙ ap (λ (x : ℕ). first x (state (limits s) n (decode (m .code)) (m .thread) (m .a) (m .b) (m .c))) (sym (decoded-number s m) ∙ sym (ap numberOf e))
 
 no-zero : (k x y : Bool) (d : Decoded) → ((q : ℕ) → Refused q ≡ d → ⊥) ⊎ (k ≡ false) → (q : ℕ) → Refused q ≡ known-then k (checkedBy x y d) → 0 < q
 no-zero false x y d h q e = omega (arith, ap numberOf e)
@@ -305,4 +305,4 @@ pub refused-number : (s : Sizes) (m : Command) (q : ℕ) → Refused q ≡ decod
 unfolding decodedBy
 refused-number s m q e =
     let o = decode (m .code) in
-    no-zero (known o) (ltb (m .thread) (s .threads)) (operands s o (m .a) (m .b) (m .c)) (named o (m .thread) (m .a) (m .b) (m .c)) (named-not o (m .thread) (m .a) (m .b) (m .c)) q e
+    no-zero (known o) (ltb (m .thread) (s .threads)) (operands (limits s) o (m .a) (m .b) (m .c)) (named o (m .thread) (m .a) (m .b) (m .c)) (named-not o (m .thread) (m .a) (m .b) (m .c)) q e

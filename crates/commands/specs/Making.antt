@@ -11,7 +11,7 @@ use borrow.Author.Tests.{lt-ltb, le-leb, eqb-true}
 use Rattle.lists.specs.Counting.{sum-high}
 use Rattle.lists.specs.Products.{flat-low}
 use Rattle.rules.specs.declared.Sizes.{Sizes}
-use Rattle.rules.specs.Terms.{ask, refused, done}
+use Rattle.rules.specs.Terms.{ask, refused, done, limits}
 use Rattle.rules.specs.NeverFreeing as nf
 use Rattle.rules.specs.NeverFreeing.{place}
 use Rattle.rules.specs.Regions.{regionAt, regions}
@@ -132,7 +132,7 @@ module _ (p : Places) (c m t : List ℕ) (r : Ready p c m t) (u : ℕ) (l : u < 
   -- ---- the command
 
   module _ (a b d : ℕ) (n : a < p .variables) (few : b + d ≤ 14) where
-    new-asked : nf.question s (H .heap) (commandFor (New u a b d)) ≡ 0
+    new-asked : nf.question (limits s) (H .heap) (commandFor (New u a b d)) ≡ 0
     unfolding nf.question nf.operands nf.state ask
     new-asked =
         ap₂ (λ (x y : Bool). ask x 7 (ask (y && leb (b + d) 14) 8 0)) (lt-ltb u (p .threads) l) (lt-ltb a (p .variables) n)
@@ -140,7 +140,7 @@ module _ (p : Places) (c m t : List ℕ) (r : Ready p c m t) (u : ℕ) (l : u < 
 
     -- the heap with the new object
     abbrev h₁ : Regioned
-    h₁ = withVariable (withNew H (blankObject b d) g) (place s u a) (length (H .heap .objects) + 1)
+    h₁ = withVariable (withNew H (blankObject b d) g) (place (limits s) u a) (length (H .heap .objects) + 1)
 
     new-after : ru.after s H (commandFor (New u a b d)) ≡ h₁
     unfolding ru.after ru.homesAfter nf.effect
@@ -179,9 +179,9 @@ module _ (p : Places) (c m t : List ℕ) (r : Ready p c m t) (u : ℕ) (l : u < 
             (new-question ∙ ap (λ (x : Bool). ask x 13 0)
             (new-fits s w H (λ x. x) (heap-stands s w k) g (region-real .0) (region-real .1) (H .heap .depths) (h₁ .heap .vars) (blankObject b d) (some-found page f low))) new-after refl
             (beyond-both (new-beyond s w k g cell b d t₁ c₁ tk blank few (region-real .0) (region-real .1) region-open)
-            (variable-beyond s w₁ k₁ (place s u a) (cell + 1) (flat-low l n)))
+            (variable-beyond s w₁ k₁ (place (limits s) u a) (cell + 1) (flat-low l n)))
             (λ so. record {
               cell = withCell H (λ x. x) cell;
-              stands = made-stands s w H (λ x. x) (heap-stands s w k) g cell b d t₁ c₁ tk blank few (region-real .0) (region-real .1) region-open (place s u a) (flat-low l n) so;
+              stands = made-stands s w H (λ x. x) (heap-stands s w k) g cell b d t₁ c₁ tk blank few (region-real .0) (region-real .1) region-open (place (limits s) u a) (flat-low l n) so;
               stays = λ x al z. to-old s w H (λ x. x) (heap-stands s w k) g cell b d t₁ c₁ tk blank few (region-real .0) (region-real .1) region-open x al;
             }))

@@ -9,7 +9,7 @@ use lib.Dec.{ltb, eqb}
 use borrow.Author.Tests.{lt-ltb}
 use Rattle.lists.specs.Counting.{bit}
 use Rattle.rules.specs.declared.Sizes.{Sizes}
-use Rattle.rules.specs.Terms.{ask, refused, done}
+use Rattle.rules.specs.Terms.{ask, refused, done, limits}
 use Rattle.rules.specs.NeverFreeing as nf
 use Rattle.rules.specs.NeverFreeing.{noObject, used, varOf, objectOf, place}
 use Rattle.rules.specs.Rules as ru
@@ -51,7 +51,7 @@ module _ (p : Places) (c m t : List ℕ) (r : Ready p c m t) (u a : ℕ) (l : u 
   pub is-ref : IsRef (placesOf s) t x
   is-ref = subst (IsRef (placesOf s) t) (sym e) (var-ref s w k u a l n)
 
-  pub heap-var : varOf s (H .heap) u a ≡ x
+  pub heap-var : varOf (limits s) (H .heap) u a ≡ x
   heap-var = here-var s w u a l n ∙ sym e
 
   pub names-cell : NamesCell x (length c)
@@ -59,7 +59,7 @@ module _ (p : Places) (c m t : List ℕ) (r : Ready p c m t) (u a : ℕ) (l : u 
 
   -- q is the answer to questions 9 and 10 of field f
   module _ (d : Kind) (f q : ℕ) (g : q ≡ used x f (fieldCount d (headOf c (x - 1)))) where
-    pub asked-is : used (varOf s (H .heap) u a) f (length (fieldsOf d (objectOf (H .heap) (varOf s (H .heap) u a)))) ≡ q
+    pub asked-is : used (varOf (limits s) (H .heap) u a) f (length (fieldsOf d (objectOf (H .heap) (varOf (limits s) (H .heap) u a)))) ≡ q
     asked-is = asked-field s w k d f u a l n ∙ ap (λ (z : ℕ). used z f (fieldCount d (headOf c (z - 1)))) (sym e) ∙ sym g
 
     module _ (z : q ≡ 0) where
@@ -74,17 +74,17 @@ module _ (p : Places) (c m t : List ℕ) (r : Ready p c m t) (u a : ℕ) (l : u 
           let o = names-cell (within .0) in
           record { real = within .0; few = o .0; inside = o .1; field = kind-low d c (x - 1) f (k .placed .formed (x - 1) in-use .head) (within .1) }
 
-      pub heap-word : getD (fieldsOf d (objectOf (H .heap) (varOf s (H .heap) u a))) f 0 ≡ getD c (kindAt d c (x - 1) f) 0
+      pub heap-word : getD (fieldsOf d (objectOf (H .heap) (varOf (limits s) (H .heap) u a))) f 0 ≡ getD c (kindAt d c (x - 1) f) 0
       heap-word =
           ap (λ (v : ℕ). getD (fieldsOf d (objectOf (H .heap) v)) f 0) heap-var ∙ field-word s w k d f x is-ref (within .0) (within .1)
 
   -- ---- code 8
 
   module _ (b q : ℕ) (g : q ≡ used x b (fieldCount Number (headOf c (x - 1)))) where
-    read-asked : nf.question s (H .heap) (commandFor (Read u a b)) ≡ q
+    read-asked : nf.question (limits s) (H .heap) (commandFor (Read u a b)) ≡ q
     unfolding nf.question nf.operands nf.state ask
     read-asked =
-        ap₂ (λ (i j : Bool). ask i 7 (ask (j && true) 8 (used (varOf s (H .heap) u a) b (length (objectOf (H .heap) (varOf s (H .heap) u a) .nums))))) (lt-ltb u (p .threads) l) (lt-ltb a (p .variables) n)
+        ap₂ (λ (i j : Bool). ask i 7 (ask (j && true) 8 (used (varOf (limits s) (H .heap) u a) b (length (objectOf (H .heap) (varOf (limits s) (H .heap) u a) .nums))))) (lt-ltb u (p .threads) l) (lt-ltb a (p .variables) n)
         ∙ asked-is Number b q g
 
     pub read-refused : (q ≡ 0 → ⊥) → Does p c m t (Read u a b) c m t (refused q)
@@ -97,10 +97,10 @@ module _ (p : Places) (c m t : List ℕ) (r : Ready p c m t) (u a : ℕ) (l : u 
   -- ---- code 9
 
   module _ (b v q : ℕ) (g : q ≡ used x b (fieldCount Number (headOf c (x - 1)))) where
-    write-asked : nf.question s (H .heap) (commandFor (Write u a b v)) ≡ q
+    write-asked : nf.question (limits s) (H .heap) (commandFor (Write u a b v)) ≡ q
     unfolding nf.question nf.operands nf.state ask
     write-asked =
-        ap₂ (λ (i j : Bool). ask i 7 (ask j 8 (used (varOf s (H .heap) u a) b (length (objectOf (H .heap) (varOf s (H .heap) u a) .nums))))) (lt-ltb u (p .threads) l) (lt-ltb a (p .variables) n)
+        ap₂ (λ (i j : Bool). ask i 7 (ask j 8 (used (varOf (limits s) (H .heap) u a) b (length (objectOf (H .heap) (varOf (limits s) (H .heap) u a) .nums))))) (lt-ltb u (p .threads) l) (lt-ltb a (p .variables) n)
         ∙ asked-is Number b q g
 
     pub write-refused : (q ≡ 0 → ⊥) → Does p c m t (Write u a b v) c m t (refused q)
@@ -116,7 +116,7 @@ module _ (p : Places) (c m t : List ℕ) (r : Ready p c m t) (u a : ℕ) (l : u 
       write-after : ru.after s H (commandFor (Write u a b v)) ≡ h′
       unfolding ru.after ru.homesAfter nf.effect
       write-after =
-          let i : varOf s (H .heap) u a ≡ suc y = heap-var ∙ (let o : x ≡ suc y = omega (arith, within Number b q g z) in o) in
+          let i : varOf (limits s) (H .heap) u a ≡ suc y = heap-var ∙ (let o : x ≡ suc y = omega (arith, within Number b q g z) in o) in
           ap (λ (j : ℕ). record { heap = nf.withObject (H .heap) j (record { refs = objectOf (H .heap) j .refs; nums = set (objectOf (H .heap) j .nums) b v }); homes = H .homes }) i
 
       pub write-done : {c′ : List ℕ} → c′ ≡ set c (kindAt Number c (x - 1) b) v → Does p c m t (Write u a b v) c′ m t (done 0)
@@ -133,11 +133,11 @@ module _ (p : Places) (c m t : List ℕ) (r : Ready p c m t) (u a : ℕ) (l : u 
   -- ---- code 6, into variable a′
 
   module _ (a′ : ℕ) (n′ : a′ < p .variables) (f q : ℕ) (g : q ≡ used x f (fieldCount Reference (headOf c (x - 1)))) where
-    load-asked : nf.question s (H .heap) (commandFor (Load u a′ a f)) ≡ q
+    load-asked : nf.question (limits s) (H .heap) (commandFor (Load u a′ a f)) ≡ q
     unfolding nf.question nf.operands nf.state ask
     load-asked =
-        ap (λ (i : Bool). ask i 7 (ask (ltb a′ (p .variables) && ltb a (p .variables)) 8 (used (varOf s (H .heap) u a) f (length (objectOf (H .heap) (varOf s (H .heap) u a) .refs))))) (lt-ltb u (p .threads) l)
-        ∙ ap₂ (λ (i j : Bool). ask (i && j) 8 (used (varOf s (H .heap) u a) f (length (objectOf (H .heap) (varOf s (H .heap) u a) .refs)))) (lt-ltb a′ (p .variables) n′) (lt-ltb a (p .variables) n)
+        ap (λ (i : Bool). ask i 7 (ask (ltb a′ (p .variables) && ltb a (p .variables)) 8 (used (varOf (limits s) (H .heap) u a) f (length (objectOf (H .heap) (varOf (limits s) (H .heap) u a) .refs))))) (lt-ltb u (p .threads) l)
+        ∙ ap₂ (λ (i j : Bool). ask (i && j) 8 (used (varOf (limits s) (H .heap) u a) f (length (objectOf (H .heap) (varOf (limits s) (H .heap) u a) .refs)))) (lt-ltb a′ (p .variables) n′) (lt-ltb a (p .variables) n)
         ∙ asked-is Reference f q g
 
     pub load-refused : (q ≡ 0 → ⊥) → Does p c m t (Load u a′ a f) c m t (refused q)
@@ -148,5 +148,5 @@ module _ (p : Places) (c m t : List ℕ) (r : Ready p c m t) (u a : ℕ) (l : u 
     load-done z v d i o h =
         let word = heap-word Reference f q g z ∙ sym d in
         subst (λ (t′ : List ℕ). Does p c m t (Load u a′ a f) c m t′ (done i)) (sym h)
-        (variable-did s w k u a′ v l n′ (commandFor (Load u a′ a f)) i (load-asked ∙ z) refl (ap (λ (j : ℕ). withVariable H (place s u a′) j) word)
+        (variable-did s w k u a′ v l n′ (commandFor (Load u a′ a f)) i (load-asked ∙ z) refl (ap (λ (j : ℕ). withVariable H (place (limits s) u a′) j) word)
         (ap (λ (j : ℕ). bit (not (eqb j 0))) word ∙ sym o))

@@ -9,7 +9,7 @@ use lib.ListN.{length, getD, set, length-set}
 use lib.Dec.{ltb, leb}
 use borrow.Author.Tests.{lt-ltb, le-leb, lt-leb}
 use Rattle.rules.specs.declared.Sizes.{Sizes}
-use Rattle.rules.specs.Terms.{ask, refused, done, store}
+use Rattle.rules.specs.Terms.{ask, refused, done, store, limits}
 use Rattle.rules.specs.NeverFreeing as nf
 use Rattle.rules.specs.NeverFreeing.{Object, noObject, used, varOf, objectOf}
 use Rattle.rules.specs.Graph.{crossing}
@@ -113,11 +113,11 @@ module _ (p : Places) (c m t : List ℕ) (r : Ready p c m t) (u a : ℕ) (l : u 
   abbrev y : ℕ
   y = x - 1
 
-  store-asked : nf.question s (H .heap) (commandFor (Store u a f b)) ≡ q
+  store-asked : nf.question (limits s) (H .heap) (commandFor (Store u a f b)) ≡ q
   unfolding nf.question nf.operands nf.state ask
   store-asked =
-      ap (λ (i : Bool). ask i 7 (ask (ltb a (p .variables) && ltb b (p .variables)) 8 (used (varOf s (H .heap) u a) f (length (objectOf (H .heap) (varOf s (H .heap) u a) .refs))))) (lt-ltb u (p .threads) l)
-      ∙ ap₂ (λ (i j : Bool). ask (i && j) 8 (used (varOf s (H .heap) u a) f (length (objectOf (H .heap) (varOf s (H .heap) u a) .refs)))) (lt-ltb a (p .variables) n) (lt-ltb b (p .variables) o)
+      ap (λ (i : Bool). ask i 7 (ask (ltb a (p .variables) && ltb b (p .variables)) 8 (used (varOf (limits s) (H .heap) u a) f (length (objectOf (H .heap) (varOf (limits s) (H .heap) u a) .refs))))) (lt-ltb u (p .threads) l)
+      ∙ ap₂ (λ (i j : Bool). ask (i && j) 8 (used (varOf (limits s) (H .heap) u a) f (length (objectOf (H .heap) (varOf (limits s) (H .heap) u a) .refs)))) (lt-ltb a (p .variables) n) (lt-ltb b (p .variables) o)
       ∙ asked-is p c m t r u a l n x e Reference f q g
 
   pub store-refused : (q ≡ 0 → ⊥) → Does p c m t (Store u a f b) c m t (refused q)
@@ -166,7 +166,7 @@ module _ (p : Places) (c m t : List ℕ) (r : Ready p c m t) (u a : ℕ) (l : u 
       store-after : ru.after s H (commandFor (Store u a f b)) ≡ h′
       unfolding ru.after ru.homesAfter nf.effect
       store-after =
-          let i : varOf s (H .heap) u a ≡ suc y = heap-var p c m t r u a l n x e ∙ (let h : x ≡ suc y = omega (arith, within p c m t r u a l n x e Reference f q g z) in h) in
+          let i : varOf (limits s) (H .heap) u a ≡ suc y = heap-var p c m t r u a l n x e ∙ (let h : x ≡ suc y = omega (arith, within p c m t r u a l n x e Reference f q g z) in h) in
           ap₂ (λ (i j : ℕ). record { heap = nf.withObject (H .heap) i (record { refs = set (objectOf (H .heap) i .refs) f j; nums = objectOf (H .heap) i .nums }); homes = H .homes }) i (here-var s w u b l o ∙ sym ev)
 
       sound : Sound h′

@@ -11,7 +11,7 @@ use Rattle.lists.specs.Counting.{bit}
 use Rattle.lists.specs.Products.{flat-low}
 use Rattle.rules.specs.declared.Command.{Command}
 use Rattle.rules.specs.declared.Sizes.{Sizes}
-use Rattle.rules.specs.Terms.{ask, refused, done}
+use Rattle.rules.specs.Terms.{ask, refused, done, limits}
 use Rattle.rules.specs.NeverFreeing as nf
 use Rattle.rules.specs.NeverFreeing.{place}
 use Rattle.rules.specs.Rules as ru
@@ -33,18 +33,18 @@ use Rattle.commands.specs.Ready.{Ready, variable, variableAt}
 use Rattle.commands.specs.Does.{Does}
 
 -- a variable gets a reference that the rules give it
-pub variable-did : (s : Sizes) (w : Words) (k : WholeFor s w) (t a v : ℕ) → t < s .threads → a < s .variables → (m : Command) (x : ℕ) → nf.question s (heapOf s w .heap) m ≡ 0
-    → (eqb (m .code) 2 || eqb (m .code) 7) ≡ false → ru.after s (heapOf s w) m ≡ withVariable (heapOf s w) (place s t a) v → nf.valueOf s (heapOf s w .heap) m ≡ x
-    → DidHere s w m (withTables w (set (w .tables) (varAt (placesOf s) (place s t a)) v)) (done x)
+pub variable-did : (s : Sizes) (w : Words) (k : WholeFor s w) (t a v : ℕ) → t < s .threads → a < s .variables → (m : Command) (x : ℕ) → nf.question (limits s) (heapOf s w .heap) m ≡ 0
+    → (eqb (m .code) 2 || eqb (m .code) 7) ≡ false → ru.after s (heapOf s w) m ≡ withVariable (heapOf s w) (place (limits s) t a) v → nf.valueOf (limits s) (heapOf s w .heap) m ≡ x
+    → DidHere s w m (withTables w (set (w .tables) (varAt (placesOf s) (place (limits s) t a)) v)) (done x)
 variable-did s w k t a v l n m x q e f y =
-    let h = withVariable (heapOf s w) (place s t a) v in
-    did-done s w k m (withTables w (set (w .tables) (varAt (placesOf s) (place s t a)) v)) h x (question-fine s (heapOf s w) h m f refl refl q e) f y
-    (variable-beyond s w k (place s t a) v (flat-low l n))
-    (λ so. variable-stands s w (heapOf s w) (λ c. c) (heap-stands s w k) (place s t a) v v (flat-low l n) (sym (renamed-same v)) so)
+    let h = withVariable (heapOf s w) (place (limits s) t a) v in
+    did-done s w k m (withTables w (set (w .tables) (varAt (placesOf s) (place (limits s) t a)) v)) h x (question-fine s (heapOf s w) h m f refl refl q e) f y
+    (variable-beyond s w k (place (limits s) t a) v (flat-low l n))
+    (λ so. variable-stands s w (heapOf s w) (λ c. c) (heap-stands s w k) (place (limits s) t a) v v (flat-low l n) (sym (renamed-same v)) so)
 
 -- a command that changes nothing
-pub unchanged-did : (s : Sizes) (w : Words) (k : WholeFor s w) (m : Command) (x : ℕ) → nf.question s (heapOf s w .heap) m ≡ 0
-    → (eqb (m .code) 2 || eqb (m .code) 7) ≡ false → ru.after s (heapOf s w) m ≡ heapOf s w → nf.valueOf s (heapOf s w .heap) m ≡ x → DidHere s w m w (done x)
+pub unchanged-did : (s : Sizes) (w : Words) (k : WholeFor s w) (m : Command) (x : ℕ) → nf.question (limits s) (heapOf s w .heap) m ≡ 0
+    → (eqb (m .code) 2 || eqb (m .code) 7) ≡ false → ru.after s (heapOf s w) m ≡ heapOf s w → nf.valueOf (limits s) (heapOf s w .heap) m ≡ x → DidHere s w m w (done x)
 unchanged-did s w k m x q e f y =
     did-done s w k m w (heapOf s w) x (question-fine s (heapOf s w) (heapOf s w) m f refl refl q e) f y (same-beyond s w) (λ so. heap-stands s w k)
 
@@ -64,7 +64,7 @@ module _ (p : Places) (c m t : List ℕ) (r : Ready p c m t) where
   -- ---- code 1
 
   module _ (u : ℕ) (l : u < p .threads) (d : ℕ) (e : d ≡ depthOf t u) where
-    start-asked : nf.question s (H .heap) (commandFor (Start u)) ≡ ask (ltb d (p .depth)) 11 0
+    start-asked : nf.question (limits s) (H .heap) (commandFor (Start u)) ≡ ask (ltb d (p .depth)) 11 0
     unfolding nf.question nf.operands nf.state ask
     start-asked =
         ap (λ (x : Bool). ask x 7 (ask (ltb (nf.depthOf (H .heap) u) (p .depth)) 11 0)) (lt-ltb u (p .threads) l)
@@ -91,7 +91,7 @@ module _ (p : Places) (c m t : List ℕ) (r : Ready p c m t) where
   -- ---- code 4
 
   module _ (u a b v : ℕ) (l : u < p .threads) (n : a < p .variables) (o : b < p .variables) (q : v < p .threads) where
-    copy-asked : nf.question s (H .heap) (commandFor (Copy u a b v)) ≡ 0
+    copy-asked : nf.question (limits s) (H .heap) (commandFor (Copy u a b v)) ≡ 0
     unfolding nf.question nf.operands nf.state ask
     copy-asked =
         ap₂ (λ (x y : Bool). ask x 7 (ask (y && ltb b (p .variables) && ltb v (p .threads)) 8 0)) (lt-ltb u (p .threads) l) (lt-ltb a (p .variables) n)
@@ -102,12 +102,12 @@ module _ (p : Places) (c m t : List ℕ) (r : Ready p c m t) where
     copy-done x e g =
         subst (λ (z : List ℕ). Does p c m t (Copy u a b v) c m z (done 0)) (sym g)
         (variable-did s w k u a x l n (commandFor (Copy u a b v)) 0 copy-asked refl
-        (ap (λ (z : ℕ). withVariable H (place s u a) z) (here-var s w v b q o ∙ sym e)) refl)
+        (ap (λ (z : ℕ). withVariable H (place (limits s) u a) z) (here-var s w v b q o ∙ sym e)) refl)
 
   -- ---- code 5
 
   module _ (u a : ℕ) (l : u < p .threads) (n : a < p .variables) where
-    clear-asked : nf.question s (H .heap) (commandFor (Clear u a)) ≡ 0
+    clear-asked : nf.question (limits s) (H .heap) (commandFor (Clear u a)) ≡ 0
     unfolding nf.question nf.operands nf.state ask
     clear-asked = ap₂ (λ (x y : Bool). ask x 7 (ask (y && true && true) 8 0)) (lt-ltb u (p .threads) l) (lt-ltb a (p .variables) n)
 
@@ -119,7 +119,7 @@ module _ (p : Places) (c m t : List ℕ) (r : Ready p c m t) where
   -- ---- code 10
 
   module _ (u a b : ℕ) (l : u < p .threads) (n : a < p .variables) (o : b < p .variables) where
-    same-asked : nf.question s (H .heap) (commandFor (Same u a b)) ≡ 0
+    same-asked : nf.question (limits s) (H .heap) (commandFor (Same u a b)) ≡ 0
     unfolding nf.question nf.operands nf.state ask
     same-asked =
         ap₂ (λ (x y : Bool). ask x 7 (ask (y && ltb b (p .variables) && true) 8 0)) (lt-ltb u (p .threads) l) (lt-ltb a (p .variables) n)

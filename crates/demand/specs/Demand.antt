@@ -12,7 +12,7 @@ use Rattle.promises.specs.Whole.{WholeAt, WholeFor, WholeWords}
 use Rattle.rules.specs.declared.Sizes.{Sizes}
 use Rattle.rules.specs.declared.Command.{Command}
 use Rattle.rules.specs.declared.Answer.{Answer}
-use Rattle.rules.specs.Terms.{ask}
+use Rattle.rules.specs.Terms.{ask, Limits, limits}
 use Rattle.lists.specs.Members.{keep}
 use Rattle.rules.specs.NeverFreeing as nf
 use Rattle.rules.specs.NeverFreeing.{NeverFreeing}
@@ -54,7 +54,7 @@ chained s (more {m = m} {a = a} {ms = ms} {as′ = as′} did rest) h cellOf st 
 
 -- ---- one block
 
-run-append : (s : Sizes) (n : NeverFreeing) (xs ys : List Command)
+run-append : (s : Limits) (n : NeverFreeing) (xs ys : List Command)
     → (nf.run s n (xs ++ ys) .answers ≡ nf.run s n xs .answers ++ nf.run s (nf.run s n xs .last) ys .answers) × (nf.run s n (xs ++ ys) .last ≡ nf.run s (nf.run s n xs .last) ys .last)
 unfolding nf.run
 run-append s n [] ys = (refl, refl)
@@ -77,8 +77,8 @@ pub record OneRun (s : Sizes) {w : Words} (b : Block) (ran : Ran w (b .block) (b
   pub cell : ℕ → ℕ
   pub stands : StandsFor s (b .words) heap cell
   pub refusal : b .number ≡ refusal b
-  pub answers : nf.run s (h .heap) (givenBy b) .answers ≡ repliesOf b
-  pub last : nf.run s (h .heap) (givenBy b) .last ≡ heap .heap
+  pub answers : nf.run (limits s) (h .heap) (givenBy b) .answers ≡ repliesOf b
+  pub last : nf.run (limits s) (h .heap) (givenBy b) .last ≡ heap .heap
   pub followed : (e : b .number ≡ 0) → Followed (sizesIn w) (ran .obeyed e) (pairsOf h cellOf) (pairsOf heap cell)
   pub same : (b .number ≡ 0 → ⊥) → pairsOf heap cell ≡ pairsOf h cellOf
 
@@ -137,8 +137,8 @@ pub record AllRuns (s : Sizes) {w w′ : Words} {bs : List Block} (runs : Runs w
   pub cell : ℕ → ℕ
   pub stands : StandsFor s w′ heap cell
   pub refusals : Refusals bs
-  pub answers : nf.run s (h .heap) (given bs) .answers ≡ replies bs
-  pub last : nf.run s (h .heap) (given bs) .last ≡ heap .heap
+  pub answers : nf.run (limits s) (h .heap) (given bs) .answers ≡ replies bs
+  pub last : nf.run (limits s) (h .heap) (given bs) .last ≡ heap .heap
   pub traced : Traced runs (pairsOf h cellOf) (pairsOf heap cell)
 
 all-runs : (s : Sizes) {w w′ : Words} {bs : List Block} (runs : Runs w bs w′) (h : Regioned) (cellOf : ℕ → ℕ) → StandsFor s w h cellOf → AllRuns s runs h cellOf
@@ -147,14 +147,14 @@ all-runs s stop h cellOf st = record { heap = h; cell = cellOf; stands = st; ref
 all-runs s (next {b = b} {bs = bs} ran rest) h cellOf st =
     let o = one-run b ran h cellOf s st in
     let r = all-runs s rest (o .heap) (o .cell) (o .stands) in
-    let k = run-append s (h .heap) (givenBy b) (given bs) in
+    let k = run-append (limits s) (h .heap) (givenBy b) (given bs) in
     record {
       heap = r .heap;
       cell = r .cell;
       stands = r .stands;
       refusals = (o .refusal, r .refusals);
-      answers = k .0 ∙ ap₂ (λ (x y : List Answer). x ++ y) (o .answers) (ap (λ (n : NeverFreeing). nf.run s n (given bs) .answers) (o .last) ∙ r .answers);
-      last = k .1 ∙ ap (λ (n : NeverFreeing). nf.run s n (given bs) .last) (o .last) ∙ r .last;
+      answers = k .0 ∙ ap₂ (λ (x y : List Answer). x ++ y) (o .answers) (ap (λ (n : NeverFreeing). nf.run (limits s) n (given bs) .answers) (o .last) ∙ r .answers);
+      last = k .1 ∙ ap (λ (n : NeverFreeing). nf.run (limits s) n (given bs) .last) (o .last) ∙ r .last;
       traced = (pairsOf (o .heap) (o .cell), o .followed, o .same, r .traced);
     }
 

@@ -8,7 +8,7 @@ use lib.Dec.{leb, eqb}
 use Rattle.rules.specs.declared.Sizes.{Sizes}
 use Rattle.rules.specs.declared.Command.{Command}
 use Rattle.rules.specs.declared.Answer.{Answer}
-use Rattle.rules.specs.Terms.{ask}
+use Rattle.rules.specs.Terms.{ask, limits}
 use Rattle.lists.specs.Members.{keep}
 use Rattle.rules.specs.NeverFreeing as nf
 use Rattle.rules.specs.NeverFreeing.{NeverFreeing, Object, noObject, depthOf, varOf}
@@ -80,7 +80,7 @@ pub record Paired (s : Sizes) (w : Words) (n : NeverFreeing) (pairs : List ℕ) 
   pub each : (c : ℕ) → Used s w c → (x : ℕ) × (getD pairs x 0 ≡ suc c)
   pub one : (x y c : ℕ) → getD pairs x 0 ≡ suc c → getD pairs y 0 ≡ suc c → x ≡ y
   pub alike : (x c : ℕ) → getD pairs x 0 ≡ suc c → Alike w pairs (getD (n .objects) x noObject) c
-  pub variables : (t a : ℕ) → t < s .threads → a < s .variables → Leads pairs (varOf s n t a) (varIn s w t a)
+  pub variables : (t a : ℕ) → t < s .threads → a < s .variables → Leads pairs (varOf (limits s) n t a) (varIn s w t a)
   pub depths : (t : ℕ) → t < s .threads → depthOf n t ≡ depthIn w t
 
 -- ---- how pairs come and go
@@ -120,9 +120,10 @@ Traced (next {w = w} {b = b} ran rest) pairs pairs′ =
 
 -- ---- the claim, of the words w that prepare wrote, the blocks bs, and the words w′ at the end
 
+-- The heap that never frees is given T, V and D (`limits s`) and the commands `given bs`; pages, entries and words do not reach it.
 pub record DemandThree (s : Sizes) {w w′ : Words} {bs : List Block} (runs : Runs w bs w′) : Type 0 where
   pub refusals : Refusals bs
-  pub answers : nf.run s (nf.empty s) (given bs) .answers ≡ replies bs
+  pub answers : nf.run (limits s) (nf.empty (limits s)) (given bs) .answers ≡ replies bs
   pub pairs : List ℕ
   pub history : Traced runs [] pairs
-  pub paired : Paired s w′ (nf.run s (nf.empty s) (given bs) .last) pairs
+  pub paired : Paired s w′ (nf.run (limits s) (nf.empty (limits s)) (given bs) .last) pairs

@@ -15,7 +15,7 @@ use Rattle.lists.specs.Products.{flat-low}
 use Rattle.rules.specs.declared.Sizes.{Sizes}
 use Rattle.rules.specs.declared.Command.{Command}
 use Rattle.rules.specs.declared.Answer.{Answer}
-use Rattle.rules.specs.Terms.{Code, unknown, start, end, new, copy, clear, load, store, read, write, same, decode, ask}
+use Rattle.rules.specs.Terms.{Code, unknown, start, end, new, copy, clear, load, store, read, write, same, decode, ask, Limits, limits}
 use Rattle.lists.specs.Members.{In}
 use Rattle.rules.specs.NeverFreeing as nf
 use Rattle.rules.specs.NeverFreeing.{Object, noObject, depthOf, place}
@@ -220,7 +220,7 @@ homes-plain s h read t p = refl
 homes-plain s h write t p = refl
 homes-plain s h same t p = refl
 
-objects-plain : (s : Sizes) (n : nf.NeverFreeing) (o : Code) (t a b c : ℕ) → Plain o → length (nf.effect s n o t a b c .objects) ≡ length (n .objects)
+objects-plain : (s : Limits) (n : nf.NeverFreeing) (o : Code) (t a b c : ℕ) → Plain o → length (nf.effect s n o t a b c .objects) ≡ length (n .objects)
 unfolding nf.effect
 objects-plain s n unknown t a b c p = refl
 objects-plain s n start t a b c p = refl
@@ -246,22 +246,22 @@ both-hold : (b c : Bool) → T (b && c) → T b × T c
 both-hold true c t = (tt, t)
 
 module _ (s : Sizes) (h : Regioned) (m : Command) (e : ru.question s h m ≡ 0) where
-  asked : nf.question s (h .heap) m ≡ 0
+  asked : nf.question (limits s) (h .heap) m ≡ 0
   unfolding ru.question
-  asked = first-zero (nf.question s (h .heap) m) (ru.room s h m (ru.after s h m)) e
+  asked = first-zero (nf.question (limits s) (h .heap) m) (ru.room s h m (ru.after s h m)) e
 
   thread-ok : m .thread < s .threads
   unfolding nf.question
   thread-ok = ltb→lt _ _ (ask-zero _ 6 _ (ask-zero _ 5 _ asked .1) .0)
 
-  operands-ok : T (nf.operands s (decode (m .code)) (m .a) (m .b) (m .c))
+  operands-ok : T (nf.operands (limits s) (decode (m .code)) (m .a) (m .b) (m .c))
   unfolding nf.question
   operands-ok = ask-zero _ 7 _ (ask-zero _ 6 _ (ask-zero _ 5 _ asked .1) .1) .0
 
   new-ok : m .code ≡ 3 → m .a < s .variables
   unfolding nf.operands
   new-ok k =
-      let t : T (ltb (m .a) (s .variables) && leb (m .b + m .c) 14) = subst (λ (o : ℕ). T (nf.operands s (decode o) (m .a) (m .b) (m .c))) k operands-ok in
+      let t : T (ltb (m .a) (s .variables) && leb (m .b + m .c) 14) = subst (λ (o : ℕ). T (nf.operands (limits s) (decode o) (m .a) (m .b) (m .c))) k operands-ok in
       ltb→lt _ _ (both-hold (ltb (m .a) (s .variables)) (leb (m .b + m .c) 14) t .0)
 
 module _ (s : Sizes) (w w₁ : Words) (m : Command) (a : Answer) (h : Regioned) (cellOf : ℕ → ℕ) (st : StandsFor s w h cellOf) where
@@ -284,9 +284,9 @@ module _ (s : Sizes) (w w₁ : Words) (m : Command) (a : Answer) (h : Regioned) 
       new-pair : m .code ≡ 3 → pairOf h₁ (b .cell) (length (h .heap .objects)) ≡ varIn s w₁ (m .thread) (m .a)
       new-pair k =
           let n = length (h .heap .objects) in
-          let p = place s (m .thread) (m .a) in
+          let p = place (limits s) (m .thread) (m .a) in
           let va = new-ok s h m e k in
-          let vs : h₁ .heap .vars ≡ set (h .heap .vars) p (n + 1) = unfold nf.effect in ap (λ (o : ℕ). nf.effect s (h .heap) (decode o) (m .thread) (m .a) (m .b) (m .c) .vars) k in
+          let vs : h₁ .heap .vars ≡ set (h .heap .vars) p (n + 1) = unfold nf.effect in ap (λ (o : ℕ). nf.effect (limits s) (h .heap) (decode o) (m .thread) (m .a) (m .b) (m .c) .vars) k in
           let hs : h₁ .homes ≡ h .homes ++ innermost s h (m .thread) ∷ [] = unfold ru.homesAfter in ap (λ (o : ℕ). ru.homesAfter s h (decode o) (m .thread)) k in
           let home : graph h₁ .home n ≡ innermost s h (m .thread) = ap (λ (l : List ℕ). getD l n 0) hs ∙ getD-at (h .homes) (innermost s h (m .thread)) [] 0 n (st .sound .aligned) in
           let long : length (h .heap .vars) ≡ s .threads * s .variables = sym (length-map (h .heap .vars) (renamed cellOf)) ∙ ap (λ (l : List ℕ). length l) (sym (st .partners .vars)) ∙ length-vars s w (st .whole) in
@@ -298,7 +298,7 @@ module _ (s : Sizes) (w w₁ : Words) (m : Command) (a : Answer) (h : Regioned) 
       made-pairs k =
           pairs-made h h₁ cellOf (b .cell) (b .stays) (st .sound .aligned) (innermost s h (m .thread))
           (unfold ru.homesAfter in ap (λ (o : ℕ). ru.homesAfter s h (decode o) (m .thread)) k)
-          (unfold nf.effect in ap (λ (o : ℕ). length (nf.effect s (h .heap) (decode o) (m .thread) (m .a) (m .b) (m .c) .objects)) k ∙ length-append (h .heap .objects) _ ∙ add-one _)
+          (unfold nf.effect in ap (λ (o : ℕ). length (nf.effect (limits s) (h .heap) (decode o) (m .thread) (m .a) (m .b) (m .c) .objects)) k ∙ length-append (h .heap .objects) _ ∙ add-one _)
           ∙ ap (λ (v : ℕ). pairsOf h cellOf ++ v ∷ []) (new-pair k)
 
       homes : m .code ≡ 2 → (x : ℕ) → graph h₁ .home x ≡ ended s (graph h) r .home x
@@ -309,10 +309,10 @@ module _ (s : Sizes) (w w₁ : Words) (m : Command) (a : Answer) (h : Regioned) 
           ∙ ap (λ (d : ℕ). ended s (graph h) (regionAt s (m .thread) d) .home x) (ap (λ (l : List ℕ). getD l (m .thread) 0) (st .depths) ∙ depth-at s w (m .thread) th)
 
       objects : m .code ≡ 2 → h₁ .heap .objects ≡ h .heap .objects
-      objects k = unfold nf.effect in ap (λ (o : ℕ). nf.effect s (h .heap) (decode o) (m .thread) (m .a) (m .b) (m .c) .objects) k
+      objects k = unfold nf.effect in ap (λ (o : ℕ). nf.effect (limits s) (h .heap) (decode o) (m .thread) (m .a) (m .b) (m .c) .objects) k
 
       vars : m .code ≡ 2 → h₁ .heap .vars ≡ h .heap .vars
-      vars k = unfold nf.effect in ap (λ (o : ℕ). nf.effect s (h .heap) (decode o) (m .thread) (m .a) (m .b) (m .c) .vars) k
+      vars k = unfold nf.effect in ap (λ (o : ℕ). nf.effect (limits s) (h .heap) (decode o) (m .thread) (m .a) (m .b) (m .c) .vars) k
 
       go : Dec (m .code ≡ 3) → Dec (m .code ≡ 2) → Changes s w m a w₁ (pairsOf h cellOf) (pairsOf h₁ (b .cell))
       go (yes k) d = made z k (made-pairs k)
@@ -323,7 +323,7 @@ module _ (s : Sizes) (w w₁ : Words) (m : Command) (a : Answer) (h : Regioned) 
           (pairs-moved s w w₁ h h₁ cellOf (b .cell) st (b .stands) (b .stays) r pos (homes k) (objects k) (vars k))
       go (no j) (no k) =
           let p = plain (m .code) j k in
-          kept (λ y. j) (λ y. k) (pairs-kept h h₁ cellOf (b .cell) (b .stays) (objects-plain s (h .heap) (decode (m .code)) (m .thread) (m .a) (m .b) (m .c) p)
+          kept (λ y. j) (λ y. k) (pairs-kept h h₁ cellOf (b .cell) (b .stays) (objects-plain (limits s) (h .heap) (decode (m .code)) (m .thread) (m .a) (m .b) (m .c) p)
           (λ x. ap (λ (l : List ℕ). getD l x 0) (homes-plain s h (decode (m .code)) (m .thread) p)))
 
 pub did-changes : (s : Sizes) {w w′ : Words} {m : Command} {a : Answer} (d : Did s w m w′ a) (h : Regioned) (cellOf : ℕ → ℕ) (st : StandsFor s w h cellOf)

@@ -8,7 +8,7 @@ use lib.ListN.{set}
 use lib.Dec.{ltb, leb}
 use borrow.Author.Tests.{lt-ltb, le-leb, lt-leb}
 use Rattle.rules.specs.declared.Sizes.{Sizes}
-use Rattle.rules.specs.Terms.{ask, refused}
+use Rattle.rules.specs.Terms.{ask, refused, limits}
 use Rattle.rules.specs.NeverFreeing as nf
 use Rattle.rules.specs.NeverFreeing.{depthOf}
 use Rattle.rules.specs.Regions.{regionAt}
@@ -37,7 +37,7 @@ crossingAfter s w t k = crossing (ended s (graphOf s w) (regionAt s t (suc k)))
 
 module _ (s : Sizes) (w : Words) (whole : WholeFor s w) (t : ℕ) (th : t < s .threads) where
   -- 6 to 12
-  asked : nf.question s (heapOf s w .heap) (endOf t) ≡ ask (ltb 0 (depthIn w t)) 12 0
+  asked : nf.question (limits s) (heapOf s w .heap) (endOf t) ≡ ask (ltb 0 (depthIn w t)) 12 0
   unfolding nf.question nf.operands nf.state ask
   asked =
       ap (λ (b : Bool). ask b 7 (ask (ltb 0 (depthOf (heapOf s w .heap) t)) 12 0)) (lt-ltb t (s .threads) th)

@@ -12,7 +12,7 @@ use Rattle.lists.specs.Members.{keep}
 use Rattle.rules.specs.declared.Sizes.{Sizes}
 use Rattle.rules.specs.declared.Command.{Command}
 use Rattle.rules.specs.declared.Answer.{Answer}
-use Rattle.rules.specs.Terms.{Code, unknown, start, end, new, copy, clear, load, store, read, write, same, decode, refused, ask}
+use Rattle.rules.specs.Terms.{Code, unknown, start, end, new, copy, clear, load, store, read, write, same, decode, refused, ask, Limits, limits}
 use Rattle.rules.specs.NeverFreeing as nf
 use Rattle.rules.specs.Graph.{crossing, freePages, newPages}
 use Rattle.rules.specs.Rules as ru
@@ -26,7 +26,7 @@ ask-le false q rest h k = h
 used-le : (v i n : ℕ) → nf.used v i n ≤ 12
 used-le v i n = ask-le (not (eqb v 0)) 9 _ (omega arith) (ask-le (ltb i n) 10 0 (omega arith) (omega arith))
 
-state-le : (s : Sizes) (n : nf.NeverFreeing) (o : Code) (t a b c : ℕ) → nf.state s n o t a b c ≤ 12
+state-le : (s : Limits) (n : nf.NeverFreeing) (o : Code) (t a b c : ℕ) → nf.state s n o t a b c ≤ 12
 unfolding nf.state
 state-le s n unknown t a b c = omega arith
 state-le s n start t a b c = ask-le (ltb (nf.depthOf n t) (s .depth)) 11 0 (omega arith) (omega arith)
@@ -41,7 +41,7 @@ state-le s n write t a b c = used-le (nf.varOf s n t a) b (length (nf.objectOf n
 state-le s n same t a b c = omega arith
 
 -- the never-freeing heap refuses with 6 to 12 only
-pub question-le : (s : Sizes) (n : nf.NeverFreeing) (m : Command) → nf.question s n m ≤ 12
+pub question-le : (s : Limits) (n : nf.NeverFreeing) (m : Command) → nf.question s n m ≤ 12
 unfolding nf.question
 question-le s n m =
     ask-le (nf.known (decode (m .code))) 6 _ (omega arith) (ask-le (ltb (m .thread) (s .threads)) 7 _ (omega arith)
@@ -61,23 +61,23 @@ room-cases s h m h′ = go (leb (newPages s (graph h) (graph h′)) (freePages s
 -- a command is refused for want of pages or entries, and changes nothing; or it does what it does on the heap that never frees
 pub data Agrees (s : Sizes) (h : Regioned) (m : Command) : Type 0 where
   lacks : ru.step s h m .next ≡ h → lacking (ru.step s h m .answer) ≡ true → Agrees s h m
-  agrees : nf.step s (h .heap) m .heap ≡ ru.step s h m .next .heap → nf.step s (h .heap) m .answer ≡ ru.step s h m .answer
+  agrees : nf.step (limits s) (h .heap) m .heap ≡ ru.step s h m .next .heap → nf.step (limits s) (h .heap) m .answer ≡ ru.step s h m .answer
       → lacking (ru.step s h m .answer) ≡ false → Agrees s h m
 
 pub step-agrees : (s : Sizes) (h : Regioned) (m : Command) → Agrees s h m
 unfolding nf.answered ru.answered ru.after
-step-agrees s h m = go (nf.question s (h .heap) m) refl (ru.room s h m (ru.after s h m)) refl (question-le s (h .heap) m) (room-cases s h m (ru.after s h m))
+step-agrees s h m = go (nf.question (limits s) (h .heap) m) refl (ru.room s h m (ru.after s h m)) refl (question-le (limits s) (h .heap) m) (room-cases s h m (ru.after s h m))
   where
     small : (q : ℕ) → q ≤ 12 → (eqb q 13 || eqb q 14) ≡ false
     small q l = ap₂ _||_ (ne-eqb q 13 (omega arith)) (ne-eqb q 14 (omega arith))
 
-    nf-is : (q : ℕ) → nf.question s (h .heap) m ≡ q → nf.step s (h .heap) m ≡ nf.answered s (h .heap) m q
-    nf-is q e = unfold nf.step in ap (nf.answered s (h .heap) m) e
+    nf-is : (q : ℕ) → nf.question (limits s) (h .heap) m ≡ q → nf.step (limits s) (h .heap) m ≡ nf.answered (limits s) (h .heap) m q
+    nf-is q e = unfold nf.step in ap (nf.answered (limits s) (h .heap) m) e
 
-    ru-is : (q w : ℕ) → nf.question s (h .heap) m ≡ q → ru.room s h m (ru.after s h m) ≡ w → ru.step s h m ≡ ru.answered s h m (first q w)
+    ru-is : (q w : ℕ) → nf.question (limits s) (h .heap) m ≡ q → ru.room s h m (ru.after s h m) ≡ w → ru.step s h m ≡ ru.answered s h m (first q w)
     ru-is q w e f = unfold ru.step ru.question in ap₂ (λ (a b : ℕ). ru.answered s h m (first a b)) e f
 
-    go : (q : ℕ) → nf.question s (h .heap) m ≡ q → (w : ℕ) → ru.room s h m (ru.after s h m) ≡ w → nf.question s (h .heap) m ≤ 12
+    go : (q : ℕ) → nf.question (limits s) (h .heap) m ≡ q → (w : ℕ) → ru.room s h m (ru.after s h m) ≡ w → nf.question (limits s) (h .heap) m ≤ 12
         → (ru.room s h m (ru.after s h m) ≡ 0) ⊎ (lacking (refused (ru.room s h m (ru.after s h m))) ≡ true) → Agrees s h m
     go zero e zero f l r =
         let n = nf-is 0 e in
@@ -96,7 +96,7 @@ step-agrees s h m = go (nf.question s (h .heap) m) refl (ru.room s h m (ru.after
 
 -- and so through a list of commands
 pub run-agrees : (s : Sizes) (h : Regioned) (ms : List Command)
-    → (nf.run s (h .heap) (ru.allowed s h ms) .answers ≡ keep (λ a. not (lacking a)) (ru.run s h ms .answers)) × (nf.run s (h .heap) (ru.allowed s h ms) .last ≡ ru.run s h ms .last .heap)
+    → (nf.run (limits s) (h .heap) (ru.allowed s h ms) .answers ≡ keep (λ a. not (lacking a)) (ru.run s h ms .answers)) × (nf.run (limits s) (h .heap) (ru.allowed s h ms) .last ≡ ru.run s h ms .last .heap)
 unfolding ru.allowed ru.run nf.run keep
 run-agrees s h [] = (refl, refl)
 run-agrees s h (m ∷ ms) = go (step-agrees s h m) (run-agrees s (ru.step s h m .next) ms)
@@ -112,7 +112,7 @@ run-agrees s h (m ∷ ms) = go (step-agrees s h m) (run-agrees s (ru.step s h m 
 
     -- what is claimed, for the commands l and the answers k from the heap n
     Same : nf.NeverFreeing → List Command → List Answer → Type 0
-    Same n l k = (nf.run s n l .answers ≡ k) × (nf.run s n l .last ≡ ru.run s h′ ms .last .heap)
+    Same n l k = (nf.run (limits s) n l .answers ≡ k) × (nf.run (limits s) n l .last ≡ ru.run s h′ ms .last .heap)
 
     -- where the test comes out as t
     Come : Bool → Type 0

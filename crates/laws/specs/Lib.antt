@@ -13,4 +13,3 @@ pub mod LikeSteps
 pub mod Placed
 pub mod Survivors
 pub mod Agree
-pub mod GivenSizes

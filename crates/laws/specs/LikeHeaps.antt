@@ -15,7 +15,7 @@ use borrow.Author.Tests.{eq-eqb, ne-eqb}
 use Rattle.lists.specs.Counting.{bit}
 use Rattle.rules.specs.declared.Sizes.{Sizes}
 use Rattle.rules.specs.declared.Command.{Command}
-use Rattle.rules.specs.Terms.{Code, unknown, start, end, new, copy, clear, load, store, read, write, same, decode, ask}
+use Rattle.rules.specs.Terms.{Code, unknown, start, end, new, copy, clear, load, store, read, write, same, decode, ask, limits}
 use Rattle.lists.specs.Members.{In}
 use Rattle.rules.specs.NeverFreeing as nf
 use Rattle.rules.specs.NeverFreeing.{Object, noObject, depthOf, varOf, objectOf, place, used}
@@ -105,7 +105,7 @@ module _ (s : Sizes) (to : ℕ → ℕ) (h k : Regioned) (l : Like to h k) where
   nums-count : (i : ℕ) → length (objectOf (k .heap) (getD (k .heap .vars) i 0) .nums) ≡ length (objectOf (h .heap) (getD (h .heap .vars) i 0) .nums)
   nums-count i = ap (λ (vs : List ℕ). length vs) (var-nums i)
 
-  state-like : (o : Code) (t a b c : ℕ) → nf.state s (k .heap) o t a b c ≡ nf.state s (h .heap) o t a b c
+  state-like : (o : Code) (t a b c : ℕ) → nf.state (limits s) (k .heap) o t a b c ≡ nf.state (limits s) (h .heap) o t a b c
   unfolding nf.state
   state-like unknown t a b c = refl
   state-like start t a b c = ap (λ (ds : List ℕ). ask (ltb (getD ds t 0) (s .depth)) 11 0) (l .depths)
@@ -113,16 +113,16 @@ module _ (s : Sizes) (to : ℕ → ℕ) (h k : Regioned) (l : Like to h k) where
   state-like new t a b c = refl
   state-like copy t a b c = refl
   state-like clear t a b c = refl
-  state-like load t a b c = used-like (place s t b) c _ _ (refs-count (place s t b))
-  state-like store t a b c = used-like (place s t a) b _ _ (refs-count (place s t a))
-  state-like read t a b c = used-like (place s t a) b _ _ (nums-count (place s t a))
-  state-like write t a b c = used-like (place s t a) b _ _ (nums-count (place s t a))
+  state-like load t a b c = used-like (place (limits s) t b) c _ _ (refs-count (place (limits s) t b))
+  state-like store t a b c = used-like (place (limits s) t a) b _ _ (refs-count (place (limits s) t a))
+  state-like read t a b c = used-like (place (limits s) t a) b _ _ (nums-count (place (limits s) t a))
+  state-like write t a b c = used-like (place (limits s) t a) b _ _ (nums-count (place (limits s) t a))
   state-like same t a b c = refl
 
-  pub question-like : (m : Command) → nf.question s (k .heap) m ≡ nf.question s (h .heap) m
+  pub question-like : (m : Command) → nf.question (limits s) (k .heap) m ≡ nf.question (limits s) (h .heap) m
   unfolding nf.question
   question-like m =
-      ap (λ (q : ℕ). ask (nf.known (decode (m .code))) 6 (ask (ltb (m .thread) (s .threads)) 7 (ask (nf.operands s (decode (m .code)) (m .a) (m .b) (m .c)) 8 q)))
+      ap (λ (q : ℕ). ask (nf.known (decode (m .code))) 6 (ask (ltb (m .thread) (s .threads)) 7 (ask (nf.operands (limits s) (decode (m .code)) (m .a) (m .b) (m .c)) 8 q)))
       (state-like (decode (m .code)) (m .thread) (m .a) (m .b) (m .c))
 
   same-object : (v u : ℕ) → Live v → Live u → eqb (renamed to v) (renamed to u) ≡ eqb v u
@@ -136,7 +136,7 @@ module _ (s : Sizes) (to : ℕ → ℕ) (h k : Regioned) (l : Like to h k) where
       go (no n) =
           ne-eqb (suc (to x)) (suc (to y)) (λ e. n (l .partners .apart x y (f x refl) (g y refl) (suc-inj e))) ∙ sym (ne-eqb (suc x) (suc y) (λ e. n (suc-inj e)))
 
-  pub value-like : (o : Code) (t a b c : ℕ) → nf.value s (k .heap) o t a b c ≡ nf.value s (h .heap) o t a b c
+  pub value-like : (o : Code) (t a b c : ℕ) → nf.value (limits s) (k .heap) o t a b c ≡ nf.value (limits s) (h .heap) o t a b c
   unfolding nf.value
   value-like unknown t a b c = refl
   value-like start t a b c = refl
@@ -144,12 +144,12 @@ module _ (s : Sizes) (to : ℕ → ℕ) (h k : Regioned) (l : Like to h k) where
   value-like new t a b c = refl
   value-like copy t a b c = refl
   value-like clear t a b c = refl
-  value-like load t a b c = ap (λ (e : Bool). bit (not e)) (ap (λ (v : ℕ). eqb v 0) (var-ref (place s t b) c) ∙ null-like to (getD (objectOf (h .heap) (varOf s (h .heap) t b) .refs) c 0))
+  value-like load t a b c = ap (λ (e : Bool). bit (not e)) (ap (λ (v : ℕ). eqb v 0) (var-ref (place (limits s) t b) c) ∙ null-like to (getD (objectOf (h .heap) (varOf (limits s) (h .heap) t b) .refs) c 0))
   value-like store t a b c = refl
-  value-like read t a b c = ap (λ (vs : List ℕ). getD vs b 0) (var-nums (place s t a))
+  value-like read t a b c = ap (λ (vs : List ℕ). getD vs b 0) (var-nums (place (limits s) t a))
   value-like write t a b c = refl
   value-like same t a b c =
-      ap bit (ap₂ eqb (var-like (place s t a)) (var-like (place s t b)) ∙ same-object _ _ (var-live (place s t a)) (var-live (place s t b)))
+      ap bit (ap₂ eqb (var-like (place (limits s) t a)) (var-like (place (limits s) t b)) ∙ same-object _ _ (var-live (place (limits s) t a)) (var-live (place (limits s) t b)))
 
   -- ---- the heaps after a command
 
@@ -368,7 +368,7 @@ module _ (s : Sizes) (to : ℕ → ℕ) (h k : Regioned) (l : Like to h k) where
           keeps = λ x a. refl;
         }
 
-  pub after-like : (o : Code) (t a b c : ℕ) → nf.state s (h .heap) o t a b c ≡ 0 → Sound (afterCode s h o t a b c) → Sound (afterCode s k o t a b c)
+  pub after-like : (o : Code) (t a b c : ℕ) → nf.state (limits s) (h .heap) o t a b c ≡ 0 → Sound (afterCode s h o t a b c) → Sound (afterCode s k o t a b c)
       → After (afterCode s h o t a b c) (afterCode s k o t a b c)
   unfolding nf.effect ru.homesAfter nf.state
   after-like unknown t a b c e sh sk = same-after
@@ -384,18 +384,18 @@ module _ (s : Sizes) (to : ℕ → ℕ) (h k : Regioned) (l : Like to h k) where
       subst (λ (r : ℕ). Sound (over s r k (set (k .heap .depths) t (depthOf (k .heap) t - 1))) → After (over s (innermost s h t) h (set (h .heap .depths) t (depthOf (h .heap) t - 1))) (over s r k (set (k .heap .depths) t (depthOf (k .heap) t - 1))))
       (sym q) (λ sk′. end-after (innermost s h t) (region-pos s t (depthOf (h .heap) t)) _ _ ds sh sk′) sk
   after-like new t a b c e sh sk =
-      subst (λ (r : ℕ). Sound (grownBy r b (replicate c 0) (place s t a) k) → After (grownBy (innermost s h t) b (replicate c 0) (place s t a) h) (grownBy r b (replicate c 0) (place s t a) k)) (sym (innermost-like t))
-      (λ sk′. new-after (innermost s h t) b (replicate c 0) (place s t a) (region-pos s t (depthOf (h .heap) t)) sh sk′) sk
-  after-like copy t a b c e sh sk = vars-after (place s t a) _ _ (var-like (place s c b)) sh sk
-  after-like clear t a b c e sh sk = vars-after (place s t a) 0 0 refl sh sk
-  after-like load t a b c e sh sk = vars-after (place s t a) _ _ (var-ref (place s t b) c) sh sk
+      subst (λ (r : ℕ). Sound (grownBy r b (replicate c 0) (place (limits s) t a) k) → After (grownBy (innermost s h t) b (replicate c 0) (place (limits s) t a) h) (grownBy r b (replicate c 0) (place (limits s) t a) k)) (sym (innermost-like t))
+      (λ sk′. new-after (innermost s h t) b (replicate c 0) (place (limits s) t a) (region-pos s t (depthOf (h .heap) t)) sh sk′) sk
+  after-like copy t a b c e sh sk = vars-after (place (limits s) t a) _ _ (var-like (place (limits s) c b)) sh sk
+  after-like clear t a b c e sh sk = vars-after (place (limits s) t a) 0 0 refl sh sk
+  after-like load t a b c e sh sk = vars-after (place (limits s) t a) _ _ (var-ref (place (limits s) t b) c) sh sk
   after-like store t a b c e sh sk =
-      let x = used-there (varOf s (h .heap) t a) b (length (objectOf (h .heap) (varOf s (h .heap) t a) .refs)) e in
-      object-after (place s t a) (x .0) (x .1) _ _
-      (ap₂ (λ (vs : List ℕ) (v : ℕ). set vs b v) (var-refs (place s t a)) (var-like (place s t c)) ∙ sym (map-set (renamed to) (objectOf (h .heap) (varOf s (h .heap) t a) .refs) b (varOf s (h .heap) t c)))
-      (var-nums (place s t a)) sh sk
+      let x = used-there (varOf (limits s) (h .heap) t a) b (length (objectOf (h .heap) (varOf (limits s) (h .heap) t a) .refs)) e in
+      object-after (place (limits s) t a) (x .0) (x .1) _ _
+      (ap₂ (λ (vs : List ℕ) (v : ℕ). set vs b v) (var-refs (place (limits s) t a)) (var-like (place (limits s) t c)) ∙ sym (map-set (renamed to) (objectOf (h .heap) (varOf (limits s) (h .heap) t a) .refs) b (varOf (limits s) (h .heap) t c)))
+      (var-nums (place (limits s) t a)) sh sk
   after-like read t a b c e sh sk = same-after
   after-like write t a b c e sh sk =
-      let x = used-there (varOf s (h .heap) t a) b (length (objectOf (h .heap) (varOf s (h .heap) t a) .nums)) e in
-      object-after (place s t a) (x .0) (x .1) _ _ (var-refs (place s t a)) (ap (λ (vs : List ℕ). set vs b c) (var-nums (place s t a))) sh sk
+      let x = used-there (varOf (limits s) (h .heap) t a) b (length (objectOf (h .heap) (varOf (limits s) (h .heap) t a) .nums)) e in
+      object-after (place (limits s) t a) (x .0) (x .1) _ _ (var-refs (place (limits s) t a)) (ap (λ (vs : List ℕ). set vs b c) (var-nums (place (limits s) t a))) sh sk
   after-like same t a b c e sh sk = same-after

@@ -6,7 +6,7 @@ use mathlib.Core.Bool.{Bool, true, false, cond, _||_}
 use lib.Dec.{leb, eqb}
 use Rattle.rules.specs.declared.Sizes.{Sizes}
 use Rattle.rules.specs.declared.Command.{Command}
-use Rattle.rules.specs.Terms.{Code, decode, ask, done}
+use Rattle.rules.specs.Terms.{Code, decode, ask, done, Limits, limits}
 use Rattle.rules.specs.NeverFreeing as nf
 use Rattle.rules.specs.NeverFreeing.{NeverFreeing}
 use Rattle.rules.specs.Graph.{target, ended, objectsIn, pagesOf, newPages, freePages, crossing}
@@ -25,7 +25,7 @@ unfolding ask
 ask-zero true q rest e = e
 ask-zero false q rest e = absurd (omega arith)
 
-state-zero : (s : Sizes) (n : NeverFreeing) (m : Command) → nf.question s n m ≡ 0 → nf.state s n (decode (m .code)) (m .thread) (m .a) (m .b) (m .c) ≡ 0
+state-zero : (s : Limits) (n : NeverFreeing) (m : Command) → nf.question s n m ≡ 0 → nf.state s n (decode (m .code)) (m .thread) (m .a) (m .b) (m .c) ≡ 0
 unfolding nf.question
 state-zero s n m e = ask-zero _ 7 _ (ask-zero _ 6 _ (ask-zero _ 5 _ e))
 
@@ -45,9 +45,9 @@ module _ (s : Sizes) (to : ℕ → ℕ) (h k : Regioned) (l : Like to h k) (m : 
 
   pub step-like : StepLike
   unfolding ru.step ru.answered ru.question ru.after
-  step-like = go (nf.question s (h .heap) m) refl
+  step-like = go (nf.question (limits s) (h .heap) m) refl
     where
-      nf-k : nf.question s (k .heap) m ≡ nf.question s (h .heap) m
+      nf-k : nf.question (limits s) (k .heap) m ≡ nf.question (limits s) (h .heap) m
       nf-k = question-like s to h k l m
 
       both : (q : ℕ) → ru.question s h m ≡ q → ru.question s k m ≡ q → After s to h k l (ru.answered s h m q .next) (ru.answered s k m q .next)
@@ -61,7 +61,7 @@ module _ (s : Sizes) (to : ℕ → ℕ) (h k : Regioned) (l : Like to h k) (m : 
       refused-both : (q : ℕ) → ru.question s h m ≡ suc q → ru.question s k m ≡ suc q → StepLike
       refused-both q e f = both (suc q) e f (same-after s to h k l) refl
 
-      go : (q : ℕ) → nf.question s (h .heap) m ≡ q → StepLike
+      go : (q : ℕ) → nf.question (limits s) (h .heap) m ≡ q → StepLike
       go (suc q) e = refused-both q (ap (λ (x : ℕ). first x (ru.room s h m (ru.after s h m))) e) (ap (λ (x : ℕ). first x (ru.room s k m (ru.after s k m))) (nf-k ∙ e))
       go zero e = done-both (ru.room s h m (ru.after s h m)) refl
         where
@@ -70,7 +70,7 @@ module _ (s : Sizes) (to : ℕ → ℕ) (h k : Regioned) (l : Like to h k) (m : 
 
           after : After s to h k l (ru.after s h m) (ru.after s k m)
           after =
-              after-like s to h k l (decode (m .code)) (m .thread) (m .a) (m .b) (m .c) (state-zero s (h .heap) m e)
+              after-like s to h k l (decode (m .code)) (m .thread) (m .a) (m .b) (m .c) (state-zero (limits s) (h .heap) m e)
               (sound-code s h (l .sound) (decode (m .code)) (m .thread) (m .a) (m .b) (m .c)) (sound-code s k (l .sound′) (decode (m .code)) (m .thread) (m .a) (m .b) (m .c))
 
           at-h : (w : ℕ) → ru.room s h m (ru.after s h m) ≡ w → ru.question s h m ≡ w

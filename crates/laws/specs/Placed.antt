@@ -10,7 +10,7 @@ use lib.Seq.{getD-set-same, getD-set-other, getD-at}
 use lib.Dec.{T, ltb→lt}
 use Rattle.rules.specs.declared.Sizes.{Sizes}
 use Rattle.rules.specs.declared.Command.{Command}
-use Rattle.rules.specs.Terms.{Code, unknown, start, end, new, copy, clear, load, store, read, write, same, decode, ask}
+use Rattle.rules.specs.Terms.{Code, unknown, start, end, new, copy, clear, load, store, read, write, same, decode, ask, Limits, limits}
 use Rattle.rules.specs.NeverFreeing as nf
 use Rattle.rules.specs.NeverFreeing.{NeverFreeing, depthOf}
 use Rattle.rules.specs.Regions.{regionAt, parent, join}
@@ -38,7 +38,7 @@ unfolding ask
 ask-zero true q rest e = (tt, e)
 ask-zero false q rest e = absurd (omega arith)
 
-module _ (s : Sizes) (n : NeverFreeing) (m : Command) (e : nf.question s n m ≡ 0) where
+module _ (s : Limits) (n : NeverFreeing) (m : Command) (e : nf.question s n m ≡ 0) where
   thread-ok : m .thread < s .threads
   unfolding nf.question
   thread-ok = ltb→lt _ _ (ask-zero _ 6 _ (ask-zero _ 5 _ e .1) .0)
@@ -194,8 +194,8 @@ placed-same s h p n e =
 
 -- ---- every command
 
-placed-code : (s : Sizes) (h : Regioned) → Placed s h → (o : Code) (t a b c : ℕ) → t < s .threads → nf.state s (h .heap) o t a b c ≡ 0
-    → Placed s (record { heap = nf.effect s (h .heap) o t a b c; homes = ru.homesAfter s h o t })
+placed-code : (s : Sizes) (h : Regioned) → Placed s h → (o : Code) (t a b c : ℕ) → t < s .threads → nf.state (limits s) (h .heap) o t a b c ≡ 0
+    → Placed s (record { heap = nf.effect (limits s) (h .heap) o t a b c; homes = ru.homesAfter s h o t })
 unfolding nf.effect ru.homesAfter nf.state
 placed-code s h p unknown t a b c th q = p
 placed-code s h p start t a b c th q = placed-start s h p t (ltb→lt _ _ (ask-zero _ 10 _ q .0))
@@ -226,8 +226,8 @@ placed-step s h m p = go (ru.question s h m) refl
   where
     go : (q : ℕ) → ru.question s h m ≡ q → Placed s (ru.answered s h m q .next)
     go zero e =
-        let z = first-zero (nf.question s (h .heap) m) (ru.room s h m (ru.after s h m)) e .0 in
-        placed-code s h p (decode (m .code)) (m .thread) (m .a) (m .b) (m .c) (thread-ok s (h .heap) m z) (state-ok s (h .heap) m z)
+        let z = first-zero (nf.question (limits s) (h .heap) m) (ru.room s h m (ru.after s h m)) e .0 in
+        placed-code s h p (decode (m .code)) (m .thread) (m .a) (m .b) (m .c) (thread-ok (limits s) (h .heap) m z) (state-ok (limits s) (h .heap) m z)
     go (suc q) e = p
 
 pub placed-unused : (s : Sizes) → Placed s (ru.unused s)

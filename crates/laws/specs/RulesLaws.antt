@@ -14,7 +14,7 @@ use borrow.Author.Tests.{ne-eqb}
 use Rattle.lists.specs.Members.{In, getD-in}
 use Rattle.rules.specs.declared.Sizes.{Sizes}
 use Rattle.rules.specs.declared.Command.{Command}
-use Rattle.rules.specs.Terms.{Code, unknown, start, end, new, copy, clear, load, store, read, write, same, decode}
+use Rattle.rules.specs.Terms.{Code, unknown, start, end, new, copy, clear, load, store, read, write, same, decode, limits}
 use Rattle.rules.specs.NeverFreeing as nf
 use Rattle.rules.specs.NeverFreeing.{Object, noObject, depthOf, varOf, objectOf, place}
 use Rattle.rules.specs.Flow.{Call, called, flow}
@@ -186,24 +186,24 @@ sound-depth h k ds = record { aligned = k .aligned; closed = k .closed }
 
 -- the heap after a command, whose code and operands are given
 abbrev pub afterCode : Sizes → Regioned → Code → ℕ → ℕ → ℕ → ℕ → Regioned
-afterCode s h o t a b c = record { heap = nf.effect s (h .heap) o t a b c; homes = ru.homesAfter s h o t }
+afterCode s h o t a b c = record { heap = nf.effect (limits s) (h .heap) o t a b c; homes = ru.homesAfter s h o t }
 
 pub sound-code : (s : Sizes) (h : Regioned) → Sound h → (o : Code) (t a b c : ℕ) → Sound (afterCode s h o t a b c)
 unfolding nf.effect ru.homesAfter
 sound-code s h k unknown t a b c = k
 sound-code s h k start t a b c = sound-depth h k _
 sound-code s h k end t a b c = sound-ended s h (innermost s h t) (region-pos s t (depthOf (h .heap) t)) _ k
-sound-code s h k new t a b c = sound-new h k (place s t a) (innermost s h t) b (replicate c 0) (region-pos s t (depthOf (h .heap) t))
-sound-code s h k copy t a b c = sound-var h k (place s t a) _ (λ x e. k .closed .vars (place s c b) x e)
-sound-code s h k clear t a b c = sound-var h k (place s t a) 0 (λ x e. absurd (omega arith))
-sound-code s h k load t a b c = sound-var h k (place s t a) _ (λ x e. object-refs h (k .closed) (place s t b) x (getD-in (objectOf (h .heap) (varOf s (h .heap) t b) .refs) c x e))
-sound-code s h k store t a b c = sound-object h k (pred (varOf s (h .heap) t a)) _ (λ y i. go y (in-set (objectOf (h .heap) (varOf s (h .heap) t a) .refs) b (varOf s (h .heap) t c) (suc y) i))
+sound-code s h k new t a b c = sound-new h k (place (limits s) t a) (innermost s h t) b (replicate c 0) (region-pos s t (depthOf (h .heap) t))
+sound-code s h k copy t a b c = sound-var h k (place (limits s) t a) _ (λ x e. k .closed .vars (place (limits s) c b) x e)
+sound-code s h k clear t a b c = sound-var h k (place (limits s) t a) 0 (λ x e. absurd (omega arith))
+sound-code s h k load t a b c = sound-var h k (place (limits s) t a) _ (λ x e. object-refs h (k .closed) (place (limits s) t b) x (getD-in (objectOf (h .heap) (varOf (limits s) (h .heap) t b) .refs) c x e))
+sound-code s h k store t a b c = sound-object h k (pred (varOf (limits s) (h .heap) t a)) _ (λ y i. go y (in-set (objectOf (h .heap) (varOf (limits s) (h .heap) t a) .refs) b (varOf (limits s) (h .heap) t c) (suc y) i))
   where
-    go : (y : ℕ) → (suc y ≡ varOf s (h .heap) t c) ⊎ In (suc y) (objectOf (h .heap) (varOf s (h .heap) t a) .refs) → Alive (graph h) y
-    go y (inl e) = k .closed .vars (place s t c) y (sym e)
-    go y (inr i) = object-refs h (k .closed) (place s t a) y i
+    go : (y : ℕ) → (suc y ≡ varOf (limits s) (h .heap) t c) ⊎ In (suc y) (objectOf (h .heap) (varOf (limits s) (h .heap) t a) .refs) → Alive (graph h) y
+    go y (inl e) = k .closed .vars (place (limits s) t c) y (sym e)
+    go y (inr i) = object-refs h (k .closed) (place (limits s) t a) y i
 sound-code s h k read t a b c = k
-sound-code s h k write t a b c = sound-object h k (pred (varOf s (h .heap) t a)) _ (λ y i. object-refs h (k .closed) (place s t a) y i)
+sound-code s h k write t a b c = sound-object h k (pred (varOf (limits s) (h .heap) t a)) _ (λ y i. object-refs h (k .closed) (place (limits s) t a) y i)
 sound-code s h k same t a b c = k
 
 pub no-dangling : (s : Sizes) (h : Regioned) (m : Command) → Sound h → Sound (ru.step s h m .next)

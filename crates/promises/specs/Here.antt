@@ -5,6 +5,7 @@ use mathlib.Core.List.{List, [], _∷_, map}
 use Rattle.rules.specs.declared.Sizes.{Sizes}
 use Rattle.rules.specs.declared.Command.{Command}
 use Rattle.rules.specs.declared.Answer.{Answer}
+use Rattle.rules.specs.Terms.{limits}
 use Rattle.rules.specs.NeverFreeing.{Object, depthOf, varOf, objectOf}
 use Rattle.laws.specs.GraphLaws.{Alive}
 use Rattle.laws.specs.SameRules.{renamed}
@@ -104,7 +105,7 @@ module _ (s : Sizes) (w : Words) where
   unfolding heapOf
   here-depth t l = depth-at s w t l
 
-  pub here-var : (t a : ℕ) → t < s .threads → a < s .variables → varOf s (heapOf s w .heap) t a ≡ varIn s w t a
+  pub here-var : (t a : ℕ) → t < s .threads → a < s .variables → varOf (limits s) (heapOf s w .heap) t a ≡ varIn s w t a
   unfolding heapOf
   here-var t a l m = var-at s w t a l m
 

@@ -12,7 +12,7 @@ use Rattle.lists.specs.Counting.{sum-none}
 use Rattle.lists.specs.Products.{flat-low}
 use Rattle.rules.specs.declared.Sizes.{Sizes}
 use Rattle.rules.specs.declared.Command.{Command}
-use Rattle.rules.specs.Terms.{ask, refused, done}
+use Rattle.rules.specs.Terms.{ask, refused, done, limits}
 use Rattle.rules.specs.NeverFreeing as nf
 use Rattle.rules.specs.NeverFreeing.{Object, used, varOf, objectOf}
 use Rattle.rules.specs.Regions.{regions}
@@ -54,17 +54,17 @@ module _ (s : Sizes) (w : Words) (k : WholeFor s w) (m : Command) where
       }
 
   -- one of the questions 6 to 12
-  pub did-asked : (q : ℕ) → 0 < q → nf.question s (H .heap) m ≡ q → DidHere s w m w (refused q)
+  pub did-asked : (q : ℕ) → 0 < q → nf.question (limits s) (H .heap) m ≡ q → DidHere s w m w (refused q)
   unfolding ru.question
   did-asked zero z e = absurd (let o : ⊥ = omega arith in o)
   did-asked (suc q) z e = did-refused (suc q) z (ap (λ (n : ℕ). first n (ru.room s H m (ru.after s H m))) e)
 
   -- 13 or 14
-  pub did-lacked : (q : ℕ) → 0 < q → nf.question s (H .heap) m ≡ 0 → ru.room s H m (ru.after s H m) ≡ q → DidHere s w m w (refused q)
+  pub did-lacked : (q : ℕ) → 0 < q → nf.question (limits s) (H .heap) m ≡ 0 → ru.room s H m (ru.after s H m) ≡ q → DidHere s w m w (refused q)
   unfolding ru.question
   did-lacked q z e f = did-refused q z (ap₂ first e f)
 
-  module _ (w′ : Words) (h′ : Regioned) (v : ℕ) (e : ru.question s H m ≡ 0) (n : ru.after s H m ≡ h′) (f : nf.valueOf s (H .heap) m ≡ v)
+  module _ (w′ : Words) (h′ : Regioned) (v : ℕ) (e : ru.question s H m ≡ 0) (n : ru.after s H m ≡ h′) (f : nf.valueOf (limits s) (H .heap) m ≡ v)
       (b : SameBeyond s w w′) where
     -- all say yes; the objects whose home stays keep their cells
     pub did-moved : (Sound h′ → Became s H (λ c. c) w′ h′) → DidHere s w m w′ (done v)
@@ -109,7 +109,7 @@ module _ (s : Sizes) (h h′ : Regioned) (m : Command) (n : ru.after s h m ≡ h
   room-fine e =
       ap₂ (λ (b c : Bool). ask b 13 (cond c (ask (leb (crossing (graph (ru.after s h m))) (s .entries)) 14 0) 0)) pages-fine e
 
-  pub question-fine : nf.question s (h .heap) m ≡ 0 → (eqb (m .code) 2 || eqb (m .code) 7) ≡ false → ru.question s h m ≡ 0
+  pub question-fine : nf.question (limits s) (h .heap) m ≡ 0 → (eqb (m .code) 2 || eqb (m .code) 7) ≡ false → ru.question s h m ≡ 0
   unfolding ru.question
   question-fine ok e = ap₂ first ok (room-fine e)
 
@@ -160,6 +160,6 @@ module _ (s : Sizes) (w : Words) (k : WholeFor s w) where
 
     -- the questions of variable a of thread t
     pub asked-field : (t a : ℕ) → t < s .threads → a < s .variables
-        → used (varOf s (heapOf s w .heap) t a) f (length (fieldsOf d (objectOf (heapOf s w .heap) (varOf s (heapOf s w .heap) t a)))) ≡ used (varIn s w t a) f (fieldCount d (headOf (w .cells) (varIn s w t a - 1)))
+        → used (varOf (limits s) (heapOf s w .heap) t a) f (length (fieldsOf d (objectOf (heapOf s w .heap) (varOf (limits s) (heapOf s w .heap) t a)))) ≡ used (varIn s w t a) f (fieldCount d (headOf (w .cells) (varIn s w t a - 1)))
     asked-field t a l n =
         ap (λ (v : ℕ). used v f (length (fieldsOf d (objectOf (heapOf s w .heap) v)))) (here-var s w t a l n) ∙ used-fields (varIn s w t a) (var-ref t a l n)
