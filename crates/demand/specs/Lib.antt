@@ -3,5 +3,6 @@ pub mod DemandThree
 pub mod Pairing
 pub mod MovesUnique
 pub mod Following
+pub mod PairsDetermined
 pub mod Preparing
 pub mod Demand

@@ -1,0 +1,167 @@
+-- The history of the pairs leaves no choice: what the runs did to the words determines which objects are paired.
+use Prim.Native.Nat.{ℕ, zero, suc, _<_}
+use native.Mathlib.Omega.{arith}
+use native.Mathlib.Decide.{ℕ-discrete}
+use mathlib.Core.Path.{_≡_, refl, sym, ap, ap₂, subst, _∙_}
+use mathlib.Core.Logic.{inl, inr, ⊎-elim}
+use mathlib.Core.List.{List, [], _∷_, _++_, map}
+use lib.ListN.{length, getD, List·getD-append}
+use lib.Seq.{getD-at}
+use Rattle.lists.specs.Members.{In, in-append}
+use Rattle.rules.specs.declared.Sizes.{Sizes}
+use Rattle.rules.specs.declared.Command.{Command}
+use Rattle.rules.specs.declared.Answer.{Answer}
+use Rattle.rules.specs.Regions.{regionAt}
+use Rattle.rules.specs.Rules as ru
+use Rattle.laws.specs.RulesLaws.{region-pos}
+use Rattle.promises.specs.Words.{Words, Used, sizesIn, depthIn, varIn, heapOf}
+use Rattle.promises.specs.Whole.{WholeFor}
+use Rattle.promises.specs.Promises.{Chain, none, more, Did, RunAsked, notWhole, uneven, short, accepted, Ran}
+use Rattle.promises.specs.Reading.{inside-list, used-alive}
+use Rattle.promises.specs.Agreed.{heap-stands, back, whole-for}
+use Rattle.demand.specs.DemandThree.{Block, Runs, stop, next, Moves, Changes, made, moved, kept, Followed, Traced}
+use Rattle.demand.specs.Pairing.{pairsOf, pair-alive, stands-paired}
+use Rattle.demand.specs.MovesUnique.{moves-unique}
+use Rattle.demand.specs.Following.{did-changes}
+
+-- every pair leads to a cell in use
+abbrev pub Living : Sizes → Words → List ℕ → Type 0
+Living s w pairs = (c : ℕ) → In (suc c) pairs → Used s w c
+
+-- ---- one command, of whole words
+
+module _ {s : Sizes} {w w₁ : Words} {m : Command} {a : Answer} (k : WholeFor s w) (did : Did s w m w₁ a) where
+  -- the pairs of every cell in use with itself, before and after
+  pairs : List ℕ
+  pairs = pairsOf (heapOf s w) (λ c. c)
+
+  pairs₁ : List ℕ
+  pairs₁ = pairsOf (ru.step s (heapOf s w) m .next) (did .next (heapOf s w) (λ c. c) (heap-stands s w k) .cell)
+
+  pub whole-next : WholeFor s w₁
+  whole-next = did .next (heapOf s w) (λ c. c) (heap-stands s w k) .stands .whole
+
+  before : (c : ℕ) → Used s w c → getD pairs c 0 ≡ suc c
+  unfolding pairs
+  before c u = pair-alive s w (heapOf s w) (λ x. x) (heap-stands s w k) c (back s w k c (used-alive s w k c u))
+
+  after : (x c : ℕ) → getD pairs₁ x 0 ≡ suc c → Used s w₁ c
+  unfolding pairs₁
+  after x c e = stands-paired s w₁ (ru.step s (heapOf s w) m .next) (did .next (heapOf s w) (λ c. c) (heap-stands s w k) .cell) (did .next (heapOf s w) (λ c. c) (heap-stands s w k) .stands) .used x c e .0
+
+  change : Changes s w m a w₁ pairs pairs₁
+  unfolding pairs pairs₁
+  change = did-changes s did (heapOf s w) (λ c. c) (heap-stands s w k)
+
+  -- a cell in use stays in use unless an epoch ends
+  used-stays : (a .number ≡ 0 → m .code ≡ 2 → ⊥) → (c : ℕ) → Used s w c → Used s w₁ c
+  used-stays n c u = go change
+    where
+      go : Changes s w m a w₁ pairs pairs₁ → Used s w₁ c
+      go (made z o e) =
+          after c c (ap (λ (l : List ℕ). getD l c 0) e ∙ List·getD-append pairs (varIn s w₁ (m .thread) (m .a) ∷ []) 0 c (inside-list pairs c c (before c u)) ∙ before c u)
+      go (moved z o move mv e) = absurd (n z o)
+      go (kept o q e) = after c c (ap (λ (l : List ℕ). getD l c 0) e ∙ before c u)
+
+  -- the variable of a new object names it
+  new-used : a .number ≡ 0 → m .code ≡ 3 → (c : ℕ) → varIn s w₁ (m .thread) (m .a) ≡ suc c → Used s w₁ c
+  new-used z o c v = go change
+    where
+      go : Changes s w m a w₁ pairs pairs₁ → Used s w₁ c
+      go (made z′ o′ e) =
+          after (length pairs) c (ap (λ (l : List ℕ). getD l (length pairs) 0) e ∙ getD-at pairs (varIn s w₁ (m .thread) (m .a)) [] 0 (length pairs) refl ∙ v)
+      go (moved z′ o′ move mv e) = absurd (let y : ⊥ = omega (arith, o, o′) in y)
+      go (kept n q e) = absurd (n z o)
+
+  pub living-next : {p p₁ : List ℕ} → Living s w p → Changes s w m a w₁ p p₁ → Living s w₁ p₁
+  living-next {p} {p₁} l (made z o e) c i = ⊎-elim old new (in-append (suc c) p (varIn s w₁ (m .thread) (m .a) ∷ []) (subst (λ (q : List ℕ). In (suc c) q) e i))
+    where
+      old : In (suc c) p → Used s w₁ c
+      old j = used-stays (λ z′ o′. omega (arith, o, o′)) c (l c j)
+
+      new : In (suc c) (varIn s w₁ (m .thread) (m .a) ∷ []) → Used s w₁ c
+      new (inl v) = new-used z o c (sym v)
+      new (inr j) = absurd j
+  living-next {p} {p₁} l (moved z o move mv e) c i = go p l (subst (λ (q : List ℕ). In (suc c) q) e i)
+    where
+      from : (v : ℕ) → ((d : ℕ) → v ≡ suc d → Used s w d) → suc c ≡ move v → Used s w₁ c
+      from zero h q = absurd (let y : ⊥ = omega (arith, mv .null) in y)
+      from (suc d) h q = mv .lands d c (h d refl) (sym q)
+
+      go : (p : List ℕ) → Living s w p → In (suc c) (map move p) → Used s w₁ c
+      go (v ∷ p) h (inl q) = from v (λ d y. h d (inl (sym y))) q
+      go (v ∷ p) h (inr j) = go p (λ d y. h d (inr y)) j
+  living-next {p} {p₁} l (kept n o e) c i = used-stays o c (l c (subst (λ (q : List ℕ). In (suc c) q) e i))
+
+  -- two moves of the same end give the same pairs
+  moved-same : (r : ℕ) → 0 < r → (f g : ℕ → ℕ) → Moves s w r w₁ f → Moves s w r w₁ g → (p : List ℕ) → Living s w p → map f p ≡ map g p
+  moved-same r pos f g mf mg [] l = refl
+  moved-same r pos f g mf mg (v ∷ p) l =
+      ap₂ (λ (x : ℕ) (xs : List ℕ). x ∷ xs) (at v (λ d y. l d (inl (sym y)))) (moved-same r pos f g mf mg p (λ d y. l d (inr y)))
+    where
+      at : (v : ℕ) → ((d : ℕ) → v ≡ suc d → Used s w d) → f v ≡ g v
+      at zero h = mf .null ∙ sym (mg .null)
+      at (suc d) h = moves-unique s w w₁ k whole-next r pos f g mf mg d (h d refl)
+
+  pub changes-same : {p q₁ q₂ : List ℕ} → Living s w p → Changes s w m a w₁ p q₁ → Changes s w m a w₁ p q₂ → q₁ ≡ q₂
+  changes-same l (made z o e) (made z′ o′ e′) = e ∙ sym e′
+  changes-same l (made z o e) (moved z′ o′ move mv e′) = absurd (let y : ⊥ = omega (arith, o, o′) in y)
+  changes-same l (made z o e) (kept n n′ e′) = absurd (n z o)
+  changes-same l (moved z o move mv e) (made z′ o′ e′) = absurd (let y : ⊥ = omega (arith, o, o′) in y)
+  changes-same {p} l (moved z o f mf e) (moved z′ o′ g mg e′) =
+      e ∙ moved-same (regionAt s (m .thread) (depthIn w (m .thread))) (region-pos s (m .thread) (depthIn w (m .thread))) f g mf mg p l ∙ sym e′
+  changes-same l (moved z o move mv e) (kept n n′ e′) = absurd (n′ z o)
+  changes-same l (kept n n′ e) (made z o e′) = absurd (n z o)
+  changes-same l (kept n n′ e) (moved z o move mv e′) = absurd (n′ z o)
+  changes-same l (kept n n′ e) (kept o o′ e′) = e ∙ sym e′
+
+-- ---- the commands of a block
+
+pub record OneHistory (s : Sizes) (w : Words) (p q : List ℕ) : Type 0 where
+  pub same : p ≡ q
+  pub whole : WholeFor s w
+  pub living : Living s w p
+
+followed-same : (s : Sizes) {w w′ : Words} {ms : List Command} {as′ : List Answer} (c : Chain s w ms as′ w′) → WholeFor s w → (start p q : List ℕ) → Living s w start
+    → Followed s c start p → Followed s c start q → OneHistory s w′ p q
+followed-same s {w} none k start p q l e f =
+    record { same = e ∙ sym f; whole = k; living = subst (λ (x : List ℕ). Living s w x) (sym e) l }
+followed-same s (more did rest) k start p q l e f =
+    followed-same s rest (whole-next k did) (e .0) p q (living-next k did l (e .1)) (e .2)
+    (subst (λ (x : List ℕ). Followed s rest x q) (sym (changes-same k did l (e .1) (f .1))) (f .2))
+
+-- ---- the list of blocks
+
+-- a block that was not refused found whole words
+accepted-whole : {w : Words} {block lent : List ℕ} {n : ℕ} → RunAsked w block lent n → n ≡ 0 → WholeFor (sizesIn w) w
+accepted-whole (notWhole e n) z = absurd (let y : ⊥ = omega arith in y)
+accepted-whole (uneven e k n) z = absurd (let y : ⊥ = omega arith in y)
+accepted-whole (short e k n l) z = absurd (let y : ⊥ = omega arith in y)
+accepted-whole {w} (accepted e k n l) z = whole-for w k
+
+-- the pairs after a block, which a refused one does not change
+module _ {w : Words} (b : Block) (ran : Ran w (b .block) (b .lent) (b .number) (b .words) (b .answers)) (start p q : List ℕ) (l : Living (sizesIn w) w start)
+    (e : (z : b .number ≡ 0) → Followed (sizesIn w) (ran .obeyed z) start p) (f : (z : b .number ≡ 0) → Followed (sizesIn w) (ran .obeyed z) start q)
+    (e′ : (b .number ≡ 0 → ⊥) → p ≡ start) (f′ : (b .number ≡ 0 → ⊥) → q ≡ start) where
+  block-same : (p ≡ q) × Living (sizesIn (b .words)) (b .words) p
+  block-same = go (ℕ-discrete (b .number) 0)
+    where
+      go : Dec (b .number ≡ 0) → (p ≡ q) × Living (sizesIn (b .words)) (b .words) p
+      go (yes z) =
+          let h = followed-same (sizesIn w) (ran .obeyed z) (accepted-whole (ran .asked) z) start p q l (e z) (f z) in
+          (h .same, subst (λ (s : Sizes). Living s (b .words) p) (sym (h .whole .sized)) (h .living))
+      go (no n) = (
+        e′ n ∙ sym (f′ n),
+        subst (λ (x : List ℕ). Living (sizesIn (b .words)) (b .words) x) (sym (e′ n)) (subst (λ (v : Words). Living (sizesIn v) v start) (sym (ran .refused n .0)) l),
+      )
+
+-- from any pairs that lead to cells in use
+pub traced-same : {w w′ : Words} {bs : List Block} (runs : Runs w bs w′) (start p q : List ℕ) → Living (sizesIn w) w start → Traced runs start p → Traced runs start q → p ≡ q
+traced-same stop start p q l e f = e ∙ sym f
+traced-same (next {b = b} ran rest) start p q l e f =
+    let h = block-same b ran start (e .0) (f .0) l (e .1) (f .1) (e .2) (f .2) in
+    traced-same rest (e .0) p q (h .1) (e .3) (subst (λ (x : List ℕ). Traced rest x q) (sym (h .0)) (f .3))
+
+-- from prepare on: after it there is no pair
+pub pairs-determined : {w w′ : Words} {bs : List Block} (runs : Runs w bs w′) (p q : List ℕ) → Traced runs [] p → Traced runs [] q → p ≡ q
+pairs-determined runs p q e f = traced-same runs [] p q (λ c i. absurd i) e f
