@@ -8,7 +8,6 @@ use mathlib.Core.Bool.{Bool, true, false, cond, not}
 use lib.ListN.{length}
 use lib.Dec.{leb, eqb}
 use borrow.Author.Tests.{eq-eqb, ne-eqb, le-leb, lt-leb}
-use Rattle.promises.specs.Whole.{WholeAt, WholeFor, WholeWords}
 use Rattle.rules.specs.declared.Sizes.{Sizes}
 use Rattle.rules.specs.declared.Command.{Command}
 use Rattle.rules.specs.declared.Answer.{Answer}
@@ -20,37 +19,30 @@ use Rattle.rules.specs.Rules as ru
 use Rattle.rules.specs.Rules.{Regioned, lacking}
 use Rattle.laws.specs.Agree.{run-agrees}
 use Rattle.promises.specs.Words.{Words, sizesIn}
-use Rattle.layout.specs.Places.{placesOf}
 use Rattle.lists.specs.Listed.{listed}
 use Rattle.promises.specs.StandsFor.{StandsFor}
 use Rattle.promises.specs.Promises.{Chain, none, more, commandsIn, answersIn, size, RunAsked, notWhole, uneven, short, accepted, Ran, Prepared}
+use Rattle.promises.specs.Agreed.{whole-words}
+use Rattle.promises.specs.Preparing.{prepared-stands}
+use Rattle.promises.specs.Chained.{chained}
 use Rattle.demand.specs.DemandThree.{Block, Runs, stop, next, refusal, Refusals, less, given, replies, Paired, Followed, Traced, DemandThree}
 use Rattle.demand.specs.Pairing.{pairsOf, stands-paired}
 use Rattle.demand.specs.Following.{did-changes}
-use Rattle.demand.specs.Preparing.{prepared-stands}
 
 -- ---- the commands of a block
 
-pub record Chained (s : Sizes) (h : Regioned) (cellOf : ℕ → ℕ) {w w′ : Words} {ms : List Command} {as′ : List Answer} (c : Chain s w ms as′ w′) : Type 0 where
-  pub cell : ℕ → ℕ
-  pub stands : StandsFor s w′ (ru.run s h ms .last) cell
-  pub answers : as′ ≡ ru.run s h ms .answers
-  pub allowed : less ms as′ ≡ ru.allowed s h ms
-  pub followed : Followed s c (pairsOf h cellOf) (pairsOf (ru.run s h ms .last) cell)
-
-pub chained : (s : Sizes) {w w′ : Words} {ms : List Command} {as′ : List Answer} (c : Chain s w ms as′ w′) (h : Regioned) (cellOf : ℕ → ℕ) → StandsFor s w h cellOf → Chained s h cellOf c
+less-allowed : (s : Sizes) (h : Regioned) (ms : List Command) → less ms (ru.run s h ms .answers) ≡ ru.allowed s h ms
 unfolding ru.run ru.allowed less
-chained s none h cellOf st = record { cell = cellOf; stands = st; answers = refl; allowed = refl; followed = refl }
-chained s (more {m = m} {a = a} {ms = ms} {as′ = as′} did rest) h cellOf st =
+less-allowed s h [] = refl
+less-allowed s h (m ∷ ms) = ap (λ (xs : List Command). cond (lacking (ru.step s h m .answer)) xs (m ∷ xs)) (less-allowed s (ru.step s h m .next) ms)
+
+chain-followed : (s : Sizes) {w w′ : Words} {ms : List Command} {as′ : List Answer} (c : Chain s w ms as′ w′) (h : Regioned) (cellOf : ℕ → ℕ) (st : StandsFor s w h cellOf)
+    → Followed s c (pairsOf h cellOf) (pairsOf (ru.run s h ms .last) (chained s c h cellOf st .cell))
+unfolding ru.run chained
+chain-followed s none h cellOf st = refl
+chain-followed s (more {m = m} did rest) h cellOf st =
     let b = did .next h cellOf st in
-    let r = chained s rest (ru.step s h m .next) (b .cell) (b .stands) in
-    record {
-      cell = r .cell;
-      stands = r .stands;
-      answers = ap₂ (λ (x : Answer) (xs : List Answer). x ∷ xs) (did .answer h cellOf st) (r .answers);
-      allowed = ap₂ (λ (x : Answer) (xs : List Command). cond (lacking x) xs (m ∷ xs)) (did .answer h cellOf st) (r .allowed);
-      followed = (pairsOf (ru.step s h m .next) (b .cell), did-changes s did h cellOf st, r .followed);
-    }
+    (pairsOf (ru.step s h m .next) (b .cell), did-changes s did h cellOf st, chain-followed s rest (ru.step s h m .next) (b .cell) (b .stands))
 
 -- ---- one block
 
@@ -60,10 +52,6 @@ unfolding nf.run
 run-append s n [] ys = (refl, refl)
 run-append s n (m ∷ xs) ys =
     let r = run-append s (nf.step s n m .heap) xs ys in (ap (λ (as′ : List Answer). nf.step s n m .answer ∷ as′) (r .0), r .1)
-
-pub whole-words : (s : Sizes) (w : Words) → WholeFor s w → WholeWords w
-whole-words s w k =
-    record { sizes = k .sizes; placed = subst (λ (z : Sizes). WholeAt (placesOf z) (w .cells) (w .remember) (w .tables)) (sym (k .sized)) (k .placed) }
 
 -- what a block gives, and its answers
 abbrev givenBy : Block → List Command
@@ -103,14 +91,15 @@ module _ {w : Words} (b : Block) (ran : Ran w (b .block) (b .lent) (b .number) (
       let f : eqb (b .number) 0 ≡ true = eq-eqb (b .number) 0 z in
       let c = chained (sizesIn w) (ran .obeyed z) h cellOf st in
       let k = run-agrees (sizesIn w) h (commandsIn (b .block)) in
+      let l : less (commandsIn (b .block)) (answersIn (b .block) (b .answers)) ≡ ru.allowed (sizesIn w) h (commandsIn (b .block)) = ap (less (commandsIn (b .block))) (c .answers) ∙ less-allowed (sizesIn w) h (commandsIn (b .block)) in
       record {
         heap = ru.run (sizesIn w) h (commandsIn (b .block)) .last;
         cell = c .cell;
         stands = c .stands;
         refusal = e;
-        answers = rw (f, c .allowed) (k .0 ∙ ap (keep (λ a. not (lacking a))) (sym (c .answers)));
-        last = rw (f, c .allowed) (k .1);
-        followed = λ y. subst (λ (x : b .number ≡ 0). Followed (sizesIn w) (ran .obeyed x) (pairsOf h cellOf) (pairsOf (ru.run (sizesIn w) h (commandsIn (b .block)) .last) (c .cell))) (ℕ-set (b .number) 0 z y) (c .followed);
+        answers = rw (f, l) (k .0 ∙ ap (keep (λ a. not (lacking a))) (sym (c .answers)));
+        last = rw (f, l) (k .1);
+        followed = λ y. subst (λ (x : b .number ≡ 0). Followed (sizesIn w) (ran .obeyed x) (pairsOf h cellOf) (pairsOf (ru.run (sizesIn w) h (commandsIn (b .block)) .last) (c .cell))) (ℕ-set (b .number) 0 z y) (chain-followed (sizesIn w) (ran .obeyed z) h cellOf st);
         same = λ n. absurd (n z);
       }
 

@@ -4,5 +4,4 @@ pub mod Pairing
 pub mod MovesUnique
 pub mod Following
 pub mod PairsDetermined
-pub mod Preparing
 pub mod Demand

@@ -15,6 +15,9 @@ pub mod Remember
 pub mod OwnedPages
 pub mod Crossings
 pub mod Determined
+-- theorems: prepared words and a chain of commands beside the rules' unused heap and run
+pub mod Preparing
+pub mod Chained
 -- the questions in words, refusals, and a command that is done
 pub mod Questions
 pub mod NewPages

@@ -15,7 +15,8 @@ use Rattle.promises.specs.Words.{Words}
 use Rattle.promises.specs.Whole.{WholeWords}
 use Rattle.promises.specs.StandsFor.{StandsFor}
 use Rattle.promises.specs.Promises.{Chain, none, more, commandAt, answerAt, size, commandsIn, answersIn, RunAsked, notWhole, uneven, short, accepted, Ran}
-use Rattle.demand.specs.Demand.{chained, whole-words}
+use Rattle.promises.specs.Agreed.{whole-words}
+use Rattle.promises.specs.Chained.{chained}
 use Rattle.script.specs.declared.Line.{Line}
 use Rattle.script.specs.declared.Line.the-variants.{Numbers, Malformed}
 use Rattle.script.specs.declared.Reader.{Reader}

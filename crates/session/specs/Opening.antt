@@ -18,7 +18,7 @@ use Rattle.promises.specs.Words.{Words}
 use Rattle.promises.specs.StandsFor.{StandsFor}
 use Rattle.promises.specs.Promises as pr
 use Rattle.promises.specs.Promises.{LongEnough, PrepareAsked, outOfRange, short, Unused, Prepared}
-use Rattle.demand.specs.Preparing.{prepared-stands}
+use Rattle.promises.specs.Preparing.{prepared-stands}
 use Rattle.script.specs.declared.Line.{Line}
 use Rattle.script.specs.declared.Line.the-variants.{Numbers, Malformed}
 use Rattle.script.specs.declared.Reader.{Reader}
