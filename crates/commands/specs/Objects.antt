@@ -25,8 +25,8 @@ use Rattle.promises.specs.Reading.{range, cells-room, used-alive}
 use Rattle.promises.specs.Agreed.{heap-stands, back}
 use Rattle.promises.specs.Here.{here-var}
 use Rattle.promises.specs.Questions.{did-asked, did-done, question-fine, fieldsOf, var-ref, asked-field, field-word}
-use Rattle.promises.specs.Changes.{withCells, withVariable, withObject}
-use Rattle.promises.specs.FrameNumber.{withNumber, number-stands, number-beyond}
+use Rattle.promises.specs.Changes.{withCells, withVariable, withObject, withField}
+use Rattle.promises.specs.FrameNumber.{number-stands, number-beyond}
 use Rattle.commands.specs.declared.Decoded.the-variants.{Load, Read, Write}
 use Rattle.commands.specs.Decoding.{commandFor}
 use Rattle.commands.specs.Ready.{Ready, variable, variableAt}
@@ -111,7 +111,7 @@ module _ (p : Places) (c m t : List ℕ) (r : Ready p c m t) (u a : ℕ) (l : u 
       y = x - 1
 
       abbrev h′ : Regioned
-      h′ = withObject H y (withNumber (getD (H .heap .objects) y noObject) b v)
+      h′ = withObject H y (withField Number (getD (H .heap .objects) y noObject) b v)
 
       write-after : ru.after s H (commandFor (Write u a b v)) ≡ h′
       unfolding ru.after ru.homesAfter nf.effect

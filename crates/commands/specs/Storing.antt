@@ -28,10 +28,10 @@ use Rattle.promises.specs.Reading.{used-alive, remember-room}
 use Rattle.promises.specs.Agreed.{heap-stands, back}
 use Rattle.promises.specs.Here.{here-var}
 use Rattle.promises.specs.Questions.{did-asked, did-lacked, did-done, room-crossing}
-use Rattle.promises.specs.Changes.{withObject, renamed-same}
+use Rattle.promises.specs.Changes.{withObject, withField, renamed-same}
 use Rattle.promises.specs.Slots.{crossesTo}
 use Rattle.promises.specs.Remembering.{Remembered, remembered-full}
-use Rattle.promises.specs.FrameReference.{withReference, storedWords, Followed, reference-named, reference-beyond, reference-stands, reference-fits, reference-full}
+use Rattle.promises.specs.FrameReference.{storedWords, Followed, reference-named, reference-beyond, reference-stands, reference-fits, reference-full}
 use Rattle.commands.specs.declared.Decoded.the-variants.{Store}
 use Rattle.commands.specs.Decoding.{commandFor}
 use Rattle.commands.specs.Ready.{Ready, variable, placed}
@@ -161,7 +161,7 @@ module _ (p : Places) (c m t : List ℕ) (r : Ready p c m t) (u a : ℕ) (l : u 
       object = getD (H .heap .objects) y noObject
 
       abbrev h′ : Regioned
-      h′ = withObject H y (withReference object f v)
+      h′ = withObject H y (withField Reference object f v)
 
       store-after : ru.after s H (commandFor (Store u a f b)) ≡ h′
       unfolding ru.after ru.homesAfter nf.effect

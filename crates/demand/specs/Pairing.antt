@@ -15,11 +15,12 @@ use Rattle.rules.specs.NeverFreeing.{noObject}
 use Rattle.laws.specs.GraphLaws.{Alive}
 use Rattle.laws.specs.SameRules.{renamed}
 use Rattle.rules.specs.Rules.{Regioned, graph}
+use Rattle.layout.specs.declared.Kind.the-variants.{Number}
 use Rattle.promises.specs.Words.{Words, graphOf, Used}
 use Rattle.lists.specs.Listed.{listed, length-listed, getD-listed}
 use Rattle.promises.specs.StandsFor.{StandsFor}
 use Rattle.demand.specs.DemandThree.{Leads, null, partners, Alike, Paired}
-use Rattle.promises.specs.Reading.{getD-refs, getD-nums, var-at, depth-at, inside-list, used-owned, used-alive, alive-used, length-refs, length-nums}
+use Rattle.promises.specs.Reading.{getD-refs, getD-fields, var-at, depth-at, inside-list, used-owned, used-alive, alive-used, length-refs, length-fields}
 
 -- the partner of object x, as a reference
 abbrev pub pairOf : Regioned → (ℕ → ℕ) → ℕ → ℕ
@@ -74,8 +75,8 @@ module _ (s : Sizes) (w : Words) (h : Regioned) (cellOf : ℕ → ℕ) (st : Sta
       let f = st .partners .refs x a in
       record {
         r = sym (length-map (graph h .refs x) (renamed cellOf)) ∙ ap (λ (l : List ℕ). length l) (sym f) ∙ length-refs s w (st .whole) (cellOf x) u;
-        d = ap (λ (l : List ℕ). length l) (st .nums x a) ∙ length-nums s w (st .whole) (cellOf x) u;
-        numbers = λ i l. ap (λ (k : List ℕ). getD k i 0) (st .nums x a) ∙ getD-nums w (cellOf x) i l;
+        d = ap (λ (l : List ℕ). length l) (st .nums x a) ∙ length-fields s w (st .whole) Number (cellOf x) u;
+        numbers = λ i l. ap (λ (k : List ℕ). getD k i 0) (st .nums x a) ∙ getD-fields Number w (cellOf x) i l;
         references = λ i l. leads (getD (graph h .refs x) i 0) _ (λ y e. st .sound .closed .refs x y a (getD-in (graph h .refs x) i y e))
             (sym (getD-refs w (cellOf x) i l) ∙ ap (λ (k : List ℕ). getD k i 0) f ∙ List·getD-map (renamed cellOf) (graph h .refs x) i 0);
       }

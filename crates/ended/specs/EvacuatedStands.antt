@@ -1,10 +1,10 @@
 -- The words after an accepted end stand for the heap that the rules leave.
-use Prim.Native.Nat.{ℕ, suc, _+_, _*_, _/_, _%_, _<_}
+use Prim.Native.Nat.{ℕ, suc, _+_, _*_, _<_}
 use native.Mathlib.Omega.{arith}
 use native.Mathlib.Decide.{ℕ-discrete}
-use mathlib.Core.Path.{_≡_, sym, ap, subst, _∙_}
+use mathlib.Core.Path.{_≡_, refl, sym, ap, subst, _∙_}
 use mathlib.Core.Logic.{_⊎_, inl, inr}
-use mathlib.Core.List.{map}
+use mathlib.Core.List.{map, map-id}
 use lib.ListN.{length, getD, set, length-set, length-map, List·getD-map}
 use lib.Seq.{ext-getD, getD-set-same, getD-set-other}
 use Rattle.rules.specs.declared.Sizes.{Sizes}
@@ -17,11 +17,13 @@ use Rattle.laws.specs.GraphLaws.{Alive}
 use Rattle.laws.specs.EndLaws.{was-alive}
 use Rattle.laws.specs.RulesLaws.{Sound, region-pos, over, graph-ended, sound-code}
 use Rattle.laws.specs.SameRules.{renamed, Partners, partners-ended}
-use Rattle.layout.specs.Cells.{fieldOf}
-use Rattle.promises.specs.Words.{Words, Used, depthIn, depthsIn, headIn, refCount, numCount, refsIn, numsIn, varsIn, graphOf, heapOf}
+use Rattle.layout.specs.declared.Kind.{Kind}
+use Rattle.layout.specs.declared.Kind.the-variants.{Reference, Number}
+use Rattle.layout.specs.Cells.{fieldOf, fieldCount, firstField}
+use Rattle.promises.specs.Words.{Words, Used, depthIn, depthsIn, headIn, refCount, fieldsIn, refsIn, numsIn, varsIn, graphOf, heapOf}
 use Rattle.promises.specs.Whole.{WholeFor}
 use Rattle.promises.specs.StandsFor.{StandsFor}
-use Rattle.promises.specs.Reading.{words-closed, alive-used, used-home, getD-refs, getD-nums, getD-vars, length-refs, length-nums, length-vars, length-depths, depth-at}
+use Rattle.promises.specs.Reading.{words-closed, alive-used, used-home, getD-fields, getD-vars, length-fields, length-vars, length-depths, depth-at}
 use Rattle.promises.specs.Agreed.{renamed-id, heap-stands}
 use Rattle.ended.specs.Evacuated.{Outside, Survivor, Evacuated}
 use Rattle.ended.specs.Rewriting.{cellAfter, after-kinds, outside-cell, survivor-cell}
@@ -76,41 +78,31 @@ module _ (s : Sizes) (w : Words) (t k : ℕ) (w′ : Words) (forward : ℕ → �
       absurd (e .went b v .fresh (subst (Used s w) (sym (outside-cell s w whole r pos forward c o) ∙ sym q ∙ survivor-cell s w whole r pos forward b v) (o .used)))
   cells-apart b c (inr v) (inr x) q = e .apart b c v x (sym (survivor-cell s w whole r pos forward b v) ∙ q ∙ survivor-cell s w whole r pos forward c x)
 
+  -- the fields of a kind, each of which became what g makes of it
+  fields-after : (d : Kind) (g : ℕ → ℕ) → g 0 ≡ 0 → (c : ℕ) → There c
+      → ((i : ℕ) → i < fieldCount d (headIn w c) → fieldOf (w′ .cells) (cell c) (firstField d (headIn w c) + i) ≡ g (fieldOf (w .cells) c (firstField d (headIn w c) + i)))
+      → fieldsIn d w′ (cell c) ≡ map g (fieldsIn d w c)
+  fields-after d g z c a became =
+      ext-getD 0 (fieldsIn d w′ (cell c)) (map g (fieldsIn d w c)) (long′ ∙ sym (length-map (fieldsIn d w c) g ∙ length-fields s w whole d c (was-there c a)))
+      (λ i l.
+      let m : i < fieldCount d (headIn w c) = omega (arith, long′) in
+      getD-fields d w′ (cell c) i (omega (arith, same)) ∙ ap (λ (n : ℕ). fieldOf (w′ .cells) (cell c) (firstField d n + i)) (head-same c a) ∙ became i m
+      ∙ ap g (sym (getD-fields d w c i m)) ∙ sym (ap (getD (map g (fieldsIn d w c)) i) (sym z) ∙ List·getD-map g (fieldsIn d w c) i 0))
+    where
+      same : fieldCount d (headIn w′ (cell c)) ≡ fieldCount d (headIn w c)
+      same = ap (fieldCount d) (head-same c a)
+
+      long′ : length (fieldsIn d w′ (cell c)) ≡ fieldCount d (headIn w c)
+      long′ = length-fields s w′ whole′ d (cell c) (now-used c a) ∙ same
+
   refs-after : (c : ℕ) → There c → refsIn w′ (cell c) ≡ map (renamed cell) (refsIn w c)
-  refs-after c a =
-      ext-getD 0 (refsIn w′ (cell c)) (map (renamed cell) (refsIn w c))
-      (long′ ∙ sym (length-map (refsIn w c) (renamed cell) ∙ length-refs s w whole c (was-there c a)))
-      (λ i l.
-      let m : i < refCount w c = omega (arith, long′) in
-      getD-refs w′ (cell c) i (omega (arith, same)) ∙ reference-after s w t k w′ forward whole deep e c a i m
-      ∙ ap (renamed cell) (sym (getD-refs w c i m)) ∙ sym (List·getD-map (renamed cell) (refsIn w c) i 0))
-    where
-      same : refCount w′ (cell c) ≡ refCount w c
-      same = ap (λ (n : ℕ). n / 16) (head-same c a)
+  refs-after c a = fields-after Reference (renamed cell) refl c a (λ i l. reference-after s w t k w′ forward whole deep e c a (0 + i) (omega arith))
 
-      long′ : length (refsIn w′ (cell c)) ≡ refCount w c
-      long′ = length-refs s w′ whole′ (cell c) (now-used c a) ∙ same
-
-  nums-after : (c : ℕ) → There c → numsIn w c ≡ numsIn w′ (cell c)
+  nums-after : (c : ℕ) → There c → numsIn w′ (cell c) ≡ numsIn w c
   nums-after c a =
-      ext-getD 0 (numsIn w c) (numsIn w′ (cell c)) (long ∙ sym long′)
-      (λ i l.
-      let m : i < numCount w c = omega (arith, long) in
       let f = whole .placed .formed c (was-there c a) .head in
-      getD-nums w c i m ∙ sym (getD-nums w′ (cell c) i (omega (arith, same)) ∙ ap (λ (n : ℕ). fieldOf (w′ .cells) (cell c) (n + i)) first
-      ∙ in-cell s w t k w′ forward whole deep e c a .object .others (refCount w c + i) (omega arith) (omega arith)))
-    where
-      same : numCount w′ (cell c) ≡ numCount w c
-      same = ap (λ (n : ℕ). n % 16) (head-same c a)
-
-      first : refCount w′ (cell c) ≡ refCount w c
-      first = ap (λ (n : ℕ). n / 16) (head-same c a)
-
-      long : length (numsIn w c) ≡ numCount w c
-      long = length-nums s w whole c (was-there c a)
-
-      long′ : length (numsIn w′ (cell c)) ≡ numCount w c
-      long′ = length-nums s w′ whole′ (cell c) (now-used c a) ∙ same
+      fields-after Number (λ x. x) refl c a (λ i l. in-cell s w t k w′ forward whole deep e c a .object .others (refCount w c + i) (omega arith) (omega arith))
+      ∙ map-id (numsIn w c)
 
   vars-after : varsIn s w′ ≡ map (renamed cell) (varsIn s w)
   vars-after =
@@ -187,5 +179,5 @@ module _ (s : Sizes) (w : Words) (t k : ℕ) (w′ : Words) (forward : ℕ → �
             sound = sound;
             depths = unfold heapOf in (depths-after th);
             partners = partners;
-            nums = λ x a. base .nums x (was-alive s (graph H) r pos (base .sound .closed) x (there x a)) ∙ nums-after x (now x a);
+            nums = λ x a. base .nums x (was-alive s (graph H) r pos (base .sound .closed) x (there x a)) ∙ sym (nums-after x (now x a));
           }

@@ -6,6 +6,8 @@ use lib.ListN.{set}
 use Rattle.rules.specs.NeverFreeing.{Object}
 use Rattle.rules.specs.Rules.{Regioned}
 use Rattle.laws.specs.SameRules.{renamed}
+use Rattle.layout.specs.declared.Kind.{Kind}
+use Rattle.layout.specs.declared.Kind.the-variants.{Reference, Number}
 use Rattle.promises.specs.Words.{Words}
 
 abbrev pub withTables : Words → List ℕ → Words
@@ -28,6 +30,11 @@ withDepth h t d = record { heap = record { depths = set (h .heap .depths) t d; v
 -- object x becomes o
 abbrev pub withObject : Regioned → ℕ → Object → Regioned
 withObject h x o = record { heap = record { depths = h .heap .depths; vars = h .heap .vars; objects = set (h .heap .objects) x o }; homes = h .homes }
+
+-- object o with field f of a kind changed to u
+abbrev pub withField : Kind → Object → ℕ → ℕ → Object
+withField Reference o f u = record { refs = set (o .refs) f u; nums = o .nums }
+withField Number o f u = record { refs = o .refs; nums = set (o .nums) f u }
 
 -- object o is appended, in region g
 abbrev pub withNew : Regioned → Object → ℕ → Regioned

@@ -17,12 +17,14 @@ use Rattle.rules.specs.Rules.{Regioned, graph}
 use Rattle.laws.specs.GraphLaws.{Alive}
 use Rattle.layout.specs.Places as lp
 use Rattle.layout.specs.Places.{placesOf, tablesWords, ownersFrom, depthAt, varAt, varOf, markOf, countOf, slotIn, slotRegionIn, count-room, count-is, mark-is, used-is}
-use Rattle.layout.specs.Cells.{fieldOf, fieldAt, pageOf, placeOf, cellOn, cellOf, wordOf}
-use Rattle.promises.specs.Words.{Words, Used, sizesIn, depthIn, ownerIn, usedIn, headIn, refCount, numCount, refsIn, numsIn, homeIn}
+use Rattle.layout.specs.declared.Kind.{Kind}
+use Rattle.layout.specs.declared.Kind.the-variants.{Reference, Number}
+use Rattle.layout.specs.Cells.{fieldOf, fieldAt, fieldCount, firstField, pageOf, placeOf, cellOn, cellOf, wordOf}
+use Rattle.promises.specs.Words.{Words, Used, sizesIn, depthIn, ownerIn, usedIn, headIn, refCount, numCount, fieldsIn, homeIn}
 use Rattle.promises.specs.Crossing.{other, regionOf, crossTo}
 use Rattle.promises.specs.Whole.{WholeFor, objectsOf}
 use Rattle.promises.specs.StandsFor.{StandsFor}
-use Rattle.promises.specs.Reading.{owners-is, used-alive, alive-used, used-home, length-refs, length-nums, getD-refs, getD-nums, getD-vars, depth-at}
+use Rattle.promises.specs.Reading.{owners-is, used-alive, alive-used, used-home, length-fields, getD-fields, getD-vars, depth-at}
 use Rattle.promises.specs.Crossings.{heap-entries}
 use Rattle.promises.specs.Slots.{cross-same}
 
@@ -85,47 +87,36 @@ module _ (s : Sizes) (w w′ : Words) (h : Regioned) (to : ℕ → ℕ) (st : St
           absurd (let z : ⊥ = omega (arith, v .place, ap (usedIn s w′) e) in z)
 
   -- the fields of an object
-  refs-as : (c : ℕ) → Used s w c → refsIn w c ≡ refsIn w′ c
-  refs-as c u =
-      let r = object-of c u in
-      subst (λ (y : ℕ). refsIn w y ≡ refsIn w′ y) (r .2) (st .partners .refs (r .0) (r .1) ∙ sym (st′ .partners .refs (r .0) (r .1)))
+  fields-as : (d : Kind) (c : ℕ) → Used s w c → fieldsIn d w c ≡ fieldsIn d w′ c
+  fields-as d c u = let r = object-of c u in subst (λ (y : ℕ). fieldsIn d w y ≡ fieldsIn d w′ y) (r .2) (go d (r .0) (r .1))
+    where
+      go : (d : Kind) (x : ℕ) → Alive (graph h) x → fieldsIn d w (to x) ≡ fieldsIn d w′ (to x)
+      go Reference x a = st .partners .refs x a ∙ sym (st′ .partners .refs x a)
+      go Number x a = sym (st .nums x a) ∙ st′ .nums x a
 
-  nums-as : (c : ℕ) → Used s w c → numsIn w c ≡ numsIn w′ c
-  nums-as c u =
-      let r = object-of c u in
-      subst (λ (y : ℕ). numsIn w y ≡ numsIn w′ y) (r .2) (sym (st .nums (r .0) (r .1)) ∙ st′ .nums (r .0) (r .1))
-
-  counts-as : (c : ℕ) → Used s w c → (refCount w c ≡ refCount w′ c) × (numCount w c ≡ numCount w′ c)
-  counts-as c u =
-      let v = used-as c u in (
-        sym (length-refs s w (st .whole) c u) ∙ ap length (refs-as c u) ∙ length-refs s w′ (st′ .whole) c v,
-        sym (length-nums s w (st .whole) c u) ∙ ap length (nums-as c u) ∙ length-nums s w′ (st′ .whole) c v,
-      )
+  count-as : (d : Kind) (c : ℕ) → Used s w c → fieldCount d (headIn w c) ≡ fieldCount d (headIn w′ c)
+  count-as d c u = sym (length-fields s w (st .whole) d c u) ∙ ap length (fields-as d c u) ∙ length-fields s w′ (st′ .whole) d c (used-as c u)
 
   head-as : (c : ℕ) → Used s w c → headIn w c ≡ headIn w′ c
-  head-as c u = let e = counts-as c u in omega (arith, e .0, e .1)
+  head-as c u = omega (arith, count-as Reference c u, count-as Number c u)
 
   field-as : (c f : ℕ) → Used s w c → f < 14 → fieldOf (w .cells) c f ≡ fieldOf (w′ .cells) c f
   field-as c f u l = go (decLt f (refCount w c)) (decLt f (refCount w c + numCount w c))
     where
-      r : refCount w c ≡ refCount w′ c
-      r = counts-as c u .0
+      same : headIn w c ≡ headIn w′ c
+      same = head-as c u
 
-      d : numCount w c ≡ numCount w′ c
-      d = counts-as c u .1
+      -- field f is field i of a kind
+      of-kind : (d : Kind) (i : ℕ) → i < fieldCount d (headIn w c) → firstField d (headIn w c) + i ≡ f → fieldOf (w .cells) c f ≡ fieldOf (w′ .cells) c f
+      of-kind d i m e =
+          ap (fieldOf (w .cells) c) (sym e) ∙ sym (getD-fields d w c i m) ∙ ap (λ (vs : List ℕ). getD vs i 0) (fields-as d c u)
+          ∙ getD-fields d w′ c i (subst (λ (n : ℕ). i < fieldCount d n) same m) ∙ ap (fieldOf (w′ .cells) c) (ap (λ (n : ℕ). firstField d n + i) (sym same) ∙ e)
 
       go : Dec (f < refCount w c) → Dec (f < refCount w c + numCount w c) → fieldOf (w .cells) c f ≡ fieldOf (w′ .cells) c f
-      go (yes a) b =
-          sym (getD-refs w c f a) ∙ ap (λ (vs : List ℕ). getD vs f 0) (refs-as c u) ∙ getD-refs w′ c f (subst (λ (n : ℕ). f < n) r a)
-      go (no a) (yes b) =
-          let i = f - refCount w c in
-          let e : refCount w c + i ≡ f = omega arith in
-          let e′ : refCount w′ c + i ≡ f = omega (arith, r) in
-          let m : i < numCount w c = omega arith in
-          ap (fieldOf (w .cells) c) (sym e) ∙ sym (getD-nums w c i m) ∙ ap (λ (vs : List ℕ). getD vs i 0) (nums-as c u)
-          ∙ getD-nums w′ c i (subst (λ (n : ℕ). i < n) d m) ∙ ap (fieldOf (w′ .cells) c) e′
+      go (yes a) b = of-kind Reference f a (omega arith)
+      go (no a) (yes b) = of-kind Number (f - refCount w c) (omega arith) (omega arith)
       go (no a) (no b) =
-          st .whole .placed .formed c u .rest f l (omega arith) ∙ sym (st′ .whole .placed .formed c (used-as c u) .rest f l (omega (arith, r, d)))
+          st .whole .placed .formed c u .rest f l (omega arith) ∙ sym (st′ .whole .placed .formed c (used-as c u) .rest f l (omega (arith, same)))
 
   word-as : (q : ℕ) → Used s w (cellOf q) → getD (w .cells) q 0 ≡ getD (w′ .cells) q 0
   word-as q u = go (wordOf q) refl

@@ -5,7 +5,8 @@ use native.Mathlib.Decide.{ℕ-discrete, decLt}
 use mathlib.Core.Path.{_≡_, sym, ap, ap₂, subst, _∙_}
 use mathlib.Core.Logic.{_⊎_, inl, inr}
 use mathlib.Core.List.{List, map}
-use lib.ListN.{length, getD, set, take, drop}
+use lib.ListN.{length, getD, set, take, drop, length-set}
+use lib.Seq.{drop-set-lt}
 use Rattle.lists.specs.Stores.{put, past, part-other, part-here}
 use Rattle.rules.specs.declared.Sizes.{Sizes}
 use Rattle.rules.specs.NeverFreeing.{Object, noObject}
@@ -14,11 +15,13 @@ use Rattle.laws.specs.GraphLaws.{Alive}
 use Rattle.laws.specs.RulesLaws.{Sound}
 use Rattle.laws.specs.SameRules.{renamed}
 use Rattle.layout.specs.declared.Places.{Places}
-use Rattle.layout.specs.Places.{placesOf}
-use Rattle.layout.specs.Cells.{headAt, headOf, workAt, workOf, fieldAt, fieldOf}
-use Rattle.promises.specs.Words.{Words, InUse, Used, refsAt, numsAt, refCount, numCount, refsIn, numsIn}
+use Rattle.layout.specs.Places.{placesOf, cellsWords}
+use Rattle.layout.specs.declared.Kind.{Kind}
+use Rattle.layout.specs.declared.Kind.the-variants.{Reference, Number}
+use Rattle.layout.specs.Cells.{headAt, headOf, workAt, workOf, fieldAt, fieldOf, fieldCount, firstField, kind-among}
+use Rattle.promises.specs.Words.{Words, InUse, Used, headIn, refCount, numCount, fieldsAt, fieldsIn}
 use Rattle.promises.specs.Whole.{WholeAt, WholeFor, IsRef, RememberWhole}
-use Rattle.promises.specs.StandsFor.{StandsFor}
+use Rattle.promises.specs.StandsFor.{StandsFor, SameFrom}
 use Rattle.promises.specs.Reading.{alive-used}
 use Rattle.promises.specs.Changes.{withObject}
 
@@ -101,7 +104,7 @@ whole-with s w k c′ m′ lc lm e p =
       placed = p;
     }
 
--- ---- the fields read again
+-- ---- the cells past the length, and the fields read again
 
 module _ (s : Sizes) (w : Words) (k : WholeFor s w) (y j v : ℕ) (u : Used s w y) (low : j < refCount w y + numCount w y) where
   abbrev C : List ℕ
@@ -110,65 +113,48 @@ module _ (s : Sizes) (w : Words) (k : WholeFor s w) (y j v : ℕ) (u : Used s w 
   limit : j < 14
   limit = omega (arith, k .placed .formed y u .head)
 
+  pub cells-beyond : SameFrom (cellsWords s) (w .cells) C
+  cells-beyond = record { long = length-set (w .cells) (fieldAt y j) v; rest = drop-set-lt (cellsWords s) (w .cells) (fieldAt y j) v (omega (arith, limit, u .page)) }
+
   head-same : (x : ℕ) → headOf C x ≡ headOf (w .cells) x
   head-same x = past (w .cells) (fieldAt y j) v (headAt x) 0 (λ (e : headAt x ≡ fieldAt y j). omega (arith, limit))
 
+  abbrev from : Kind → ℕ → ℕ
+  from d x = fieldAt x (firstField d (headIn w x))
+
+  -- of a kind, where the stored one is not among them
+  pub fields-kept : (d : Kind) (x : ℕ) → (fieldAt y j < from d x) ⊎ (from d x + fieldCount d (headIn w x) ≤ fieldAt y j) → fieldsAt d C x ≡ fieldsIn d w x
+  unfolding fieldsAt
+  fields-kept d x e =
+      ap (λ (z : ℕ). take (fieldCount d z) (drop (fieldAt x (firstField d z)) C)) (head-same x)
+      ∙ part-other (fieldCount d (headIn w x)) (from d x) (w .cells) (fieldAt y j) v e
+
   -- of another object
-  side : (x b n : ℕ) → (x ≡ y → ⊥) → 16 * x ≤ b → b + n ≤ 16 * x + 16 → (fieldAt y j < b) ⊎ (b + n ≤ fieldAt y j)
-  side x b n d p q = go (decLt y x)
+  fields-elsewhere : (d : Kind) (x : ℕ) → Used s w x → (x ≡ y → ⊥) → fieldsAt d C x ≡ fieldsIn d w x
+  fields-elsewhere d x ux n = fields-kept d x (go (decLt y x))
     where
-      go : Dec (y < x) → (fieldAt y j < b) ⊎ (b + n ≤ fieldAt y j)
+      within : firstField d (headIn w x) + fieldCount d (headIn w x) ≤ 14
+      within = omega (arith, kind-among d (headIn w x), k .placed .formed x ux .head)
+
+      go : Dec (y < x) → (fieldAt y j < from d x) ⊎ (from d x + fieldCount d (headIn w x) ≤ fieldAt y j)
       go (yes l) = inl (omega (arith, limit))
-      go (no l) = let g : x < y = omega arith in inr (omega arith)
+      go (no l) = let g : x < y = omega arith in inr (omega (arith, within))
 
-  refs-other : (x : ℕ) → Used s w x → (x ≡ y → ⊥) → refsAt C x ≡ refsIn w x
-  unfolding refsAt
-  refs-other x ux d =
-      ap (λ (z : ℕ). take (z / 16) (drop (fieldAt x 0) C)) (head-same x)
-      ∙ part-other (refCount w x) (fieldAt x 0) (w .cells) (fieldAt y j) v (side x (fieldAt x 0) (refCount w x) d (omega arith) (omega (arith, k .placed .formed x ux .head)))
-
-  nums-other : (x : ℕ) → Used s w x → (x ≡ y → ⊥) → numsAt C x ≡ numsIn w x
-  unfolding numsAt
-  nums-other x ux d =
-      ap (λ (z : ℕ). take (z % 16) (drop (fieldAt x (z / 16)) C)) (head-same x)
-      ∙ part-other (numCount w x) (fieldAt x (refCount w x)) (w .cells) (fieldAt y j) v
-      (side x (fieldAt x (refCount w x)) (numCount w x) d (omega arith) (omega (arith, k .placed .formed x ux .head)))
-
-  -- of this one, where the field is a reference
-  pub refs-set : j < refCount w y → refsAt C y ≡ set (refsIn w y) j v
-  unfolding refsAt
-  refs-set l =
-      let e : fieldAt y j ≡ fieldAt y 0 + j = omega arith in
-      ap (λ (z : ℕ). take (z / 16) (drop (fieldAt y 0) C)) (head-same y)
-      ∙ ap (λ (z : ℕ). take (refCount w y) (drop (fieldAt y 0) (set (w .cells) z v))) e ∙ part-here (refCount w y) (fieldAt y 0) (w .cells) j v l
-
-  pub nums-kept : j < refCount w y → numsAt C y ≡ numsIn w y
-  unfolding numsAt
-  nums-kept l =
-      ap (λ (z : ℕ). take (z % 16) (drop (fieldAt y (z / 16)) C)) (head-same y)
-      ∙ part-other (numCount w y) (fieldAt y (refCount w y)) (w .cells) (fieldAt y j) v (inl (omega arith))
-
-  -- where it is a number
-  pub refs-kept : refCount w y ≤ j → refsAt C y ≡ refsIn w y
-  unfolding refsAt
-  refs-kept l =
-      ap (λ (z : ℕ). take (z / 16) (drop (fieldAt y 0) C)) (head-same y)
-      ∙ part-other (refCount w y) (fieldAt y 0) (w .cells) (fieldAt y j) v (inr (omega arith))
-
-  pub nums-set : (b : ℕ) → j ≡ refCount w y + b → numsAt C y ≡ set (numsIn w y) b v
-  unfolding numsAt
-  nums-set b q =
-      let e : fieldAt y j ≡ fieldAt y (refCount w y) + b = omega arith in
-      ap (λ (z : ℕ). take (z % 16) (drop (fieldAt y (z / 16)) C)) (head-same y)
-      ∙ ap (λ (z : ℕ). take (numCount w y) (drop (fieldAt y (refCount w y)) (set (w .cells) z v))) e
-      ∙ part-here (numCount w y) (fieldAt y (refCount w y)) (w .cells) b v (omega arith)
+  -- of a kind, where the stored one is the b-th of them
+  pub fields-set : (d : Kind) (b : ℕ) → b < fieldCount d (headIn w y) → j ≡ firstField d (headIn w y) + b → fieldsAt d C y ≡ set (fieldsIn d w y) b v
+  unfolding fieldsAt
+  fields-set d b l q =
+      let e : fieldAt y j ≡ from d y + b = omega arith in
+      ap (λ (z : ℕ). take (fieldCount d z) (drop (fieldAt y (firstField d z)) C)) (head-same y)
+      ∙ ap (λ (z : ℕ). take (fieldCount d (headIn w y)) (drop (from d y) (set (w .cells) z v))) e ∙ part-here (fieldCount d (headIn w y)) (from d y) (w .cells) b v l
 
 -- ---- object x becomes o
 
 pub object-stands : (s : Sizes) (w : Words) (h : Regioned) (cellOf : ℕ → ℕ) (st : StandsFor s w h cellOf) (x : ℕ) → Alive (graph h) x
     → (j v : ℕ) → j < refCount w (cellOf x) + numCount w (cellOf x) → (m′ : List ℕ) (o : Object)
     → WholeFor s (record { cells = set (w .cells) (fieldAt (cellOf x) j) v; remember = m′; tables = w .tables })
-    → refsAt (set (w .cells) (fieldAt (cellOf x) j) v) (cellOf x) ≡ map (renamed cellOf) (o .refs) → o .nums ≡ numsAt (set (w .cells) (fieldAt (cellOf x) j) v) (cellOf x)
+    → fieldsAt Reference (set (w .cells) (fieldAt (cellOf x) j) v) (cellOf x) ≡ map (renamed cellOf) (o .refs)
+    → o .nums ≡ fieldsAt Number (set (w .cells) (fieldAt (cellOf x) j) v) (cellOf x)
     → Sound (withObject h x o) → StandsFor s (record { cells = set (w .cells) (fieldAt (cellOf x) j) v; remember = m′; tables = w .tables }) (withObject h x o) cellOf
 object-stands s w h cellOf st x a j v low m′ o k′ er en sound =
     record {
@@ -179,39 +165,28 @@ object-stands s w h cellOf st x a j v low m′ o k′ er en sound =
         home = st .partners .home;
         apart = st .partners .apart;
         onto = st .partners .onto;
-        refs = λ z b. refs z b (ℕ-discrete z x);
+        refs = each (λ c q. fieldsAt Reference cells c ≡ map (renamed cellOf) (q .refs)) er (λ z b n. other Reference z b n ∙ st .partners .refs z b);
         vars = st .partners .vars;
       };
-      nums = λ z b. nums z b (ℕ-discrete z x);
+      nums = each (λ c q. q .nums ≡ fieldsAt Number cells c) en (λ z b n. st .nums z b ∙ sym (other Number z b n));
     }
   where
-    k : WholeFor s w
-    k = st .whole
+    cells : List ℕ
+    cells = set (w .cells) (fieldAt (cellOf x) j) v
 
     in-use : (z : ℕ) → Alive (graph h) z → Used s w (cellOf z)
-    in-use z b = alive-used s w k (cellOf z) (λ q. b (sym (st .partners .home z b) ∙ q))
+    in-use z b = alive-used s w (st .whole) (cellOf z) (λ q. b (sym (st .partners .home z b) ∙ q))
 
-    here : getD (set (h .heap .objects) x o) x noObject ≡ o
-    here = put (h .heap .objects) x o noObject (st .sound .closed .below x a)
+    other : (d : Kind) (z : ℕ) → Alive (graph h) z → (z ≡ x → ⊥) → fieldsAt d cells (cellOf z) ≡ fieldsIn d w (cellOf z)
+    other d z b n = fields-elsewhere s w (st .whole) (cellOf x) j v (in-use x a) low d (cellOf z) (in-use z b) (λ e. n (st .partners .apart z x b a e))
 
-    there : (z : ℕ) → (z ≡ x → ⊥) → getD (set (h .heap .objects) x o) z noObject ≡ getD (h .heap .objects) z noObject
-    there z d = past (h .heap .objects) x o z noObject d
-
-    apart : (z : ℕ) → Alive (graph h) z → (z ≡ x → ⊥) → cellOf z ≡ cellOf x → ⊥
-    apart z b d e = d (st .partners .apart z x b a e)
-
-    refs : (z : ℕ) → Alive (graph h) z → Dec (z ≡ x)
-        → refsAt (set (w .cells) (fieldAt (cellOf x) j) v) (cellOf z) ≡ map (renamed cellOf) (getD (set (h .heap .objects) x o) z noObject .refs)
-    refs z b (yes e) =
-        ap (λ (i : ℕ). refsAt (set (w .cells) (fieldAt (cellOf x) j) v) (cellOf i)) e ∙ er
-        ∙ sym (ap (λ (i : ℕ). map (renamed cellOf) (getD (set (h .heap .objects) x o) i noObject .refs)) e ∙ ap (λ (q : Object). map (renamed cellOf) (q .refs)) here)
-    refs z b (no d) =
-        refs-other s w k (cellOf x) j v (in-use x a) low (cellOf z) (in-use z b) (apart z b d) ∙ st .partners .refs z b
-        ∙ sym (ap (λ (q : Object). map (renamed cellOf) (q .refs)) (there z d))
-
-    nums : (z : ℕ) → Alive (graph h) z → Dec (z ≡ x) → getD (set (h .heap .objects) x o) z noObject .nums ≡ numsAt (set (w .cells) (fieldAt (cellOf x) j) v) (cellOf z)
-    nums z b (yes e) =
-        ap (λ (i : ℕ). getD (set (h .heap .objects) x o) i noObject .nums) e ∙ ap (λ (q : Object). q .nums) here ∙ en
-        ∙ sym (ap (λ (i : ℕ). numsAt (set (w .cells) (fieldAt (cellOf x) j) v) (cellOf i)) e)
-    nums z b (no d) =
-        ap (λ (q : Object). q .nums) (there z d) ∙ st .nums z b ∙ sym (nums-other s w k (cellOf x) j v (in-use x a) low (cellOf z) (in-use z b) (apart z b d))
+    -- what holds of x with o, and of every other object as it was, holds of each
+    each : (Q : ℕ → Object → Type 0) → Q (cellOf x) o → ((z : ℕ) → Alive (graph h) z → (z ≡ x → ⊥) → Q (cellOf z) (getD (h .heap .objects) z noObject))
+        → (z : ℕ) → Alive (graph h) z → Q (cellOf z) (getD (set (h .heap .objects) x o) z noObject)
+    each Q here there z b = go (ℕ-discrete z x)
+      where
+        go : Dec (z ≡ x) → Q (cellOf z) (getD (set (h .heap .objects) x o) z noObject)
+        go (yes e) =
+            subst (λ (i : ℕ). Q (cellOf i) (getD (set (h .heap .objects) x o) i noObject)) (sym e)
+            (subst (Q (cellOf x)) (sym (put (h .heap .objects) x o noObject (st .sound .closed .below x a))) here)
+        go (no n) = subst (Q (cellOf z)) (sym (past (h .heap .objects) x o z noObject n)) (there z b n)

@@ -1,5 +1,5 @@
 -- A new object: the words stand for the heap with that object appended, and its variable set.
-use Prim.Native.Nat.{ℕ, zero, suc, _+_, _*_, _/_, _%_, _≤_, _<_}
+use Prim.Native.Nat.{ℕ, zero, suc, _+_, _*_, _≤_, _<_}
 use native.Mathlib.Omega.{arith}
 use native.Mathlib.Decide.{ℕ-discrete, decLt}
 use native.Mathlib.Numerals.{add-one}
@@ -20,14 +20,16 @@ use Rattle.laws.specs.GraphLaws.{Alive}
 use Rattle.laws.specs.RulesLaws.{Sound}
 use Rattle.laws.specs.SameRules.{renamed}
 use Rattle.layout.specs.Places.{placesOf, varAt}
-use Rattle.layout.specs.Cells.{headOf}
-use Rattle.promises.specs.Words.{Words, Used, refsAt, numsAt, homeIn, graphOf}
+use Rattle.layout.specs.declared.Kind.{Kind}
+use Rattle.layout.specs.declared.Kind.the-variants.{Reference, Number}
+use Rattle.layout.specs.Cells.{headOf, fieldCount, firstField, headWord, kind-low}
+use Rattle.promises.specs.Words.{Words, Used, fieldsAt, homeIn, graphOf}
 use Rattle.promises.specs.Whole.{WholeFor, Open}
 use Rattle.promises.specs.StandsFor.{StandsFor}
-use Rattle.promises.specs.Reading.{alive-used, used-alive, used-home, in-place, length-refs, length-nums, getD-refs, getD-nums}
+use Rattle.promises.specs.Reading.{alive-used, used-alive, used-home, in-place, length-fields, getD-fields}
 use Rattle.promises.specs.Changes.{withTables, withNew, withVariable}
 use Rattle.promises.specs.TakeCell.{Took, took-used, took-unused, still-used, used-split, owner-used}
-use Rattle.promises.specs.NewCell.{Blank, new-whole, depths-kept, vars-kept, refs-other, nums-other}
+use Rattle.promises.specs.NewCell.{Blank, new-whole, depths-kept, vars-kept, fields-other}
 use Rattle.promises.specs.FrameVariable.{variable-stands}
 
 -- an object of b nulls and d zeros
@@ -155,21 +157,14 @@ module _ (s : Sizes) (w : Words) (h : Regioned) (to : ℕ → ℕ) (st : StandsF
       go zero i = refl
       go (suc y) i = ap suc (to-old y (f y i))
 
-  ref-count : headOf c′ cell / 16 ≡ b
-  ref-count = omega (arith, blank .head)
-
-  num-count : headOf c′ cell % 16 ≡ d
-  num-count = omega (arith, blank .head)
-
-  refs-new : refsAt c′ cell ≡ replicate b 0
-  refs-new =
-      zeros-are b (refsAt c′ cell) (length-refs s w₁ k₁ cell new-used ∙ ref-count)
-      (λ i l. getD-refs w₁ cell i (subst (λ (z : ℕ). i < z) (sym ref-count) l) ∙ blank .fields i (omega arith))
-
-  nums-new : numsAt c′ cell ≡ replicate d 0
-  nums-new =
-      zeros-are d (numsAt c′ cell) (length-nums s w₁ k₁ cell new-used ∙ num-count)
-      (λ i l. getD-nums w₁ cell i (subst (λ (z : ℕ). i < z) (sym num-count) l) ∙ blank .fields (headOf c′ cell / 16 + i) (omega (arith, ref-count)))
+  fields-new : (f : Kind) (m : ℕ) → fieldCount f (headWord b d) ≡ m → fieldsAt f c′ cell ≡ replicate m 0
+  fields-new f m e =
+      zeros-are m (fieldsAt f c′ cell) (length-fields s w₁ k₁ f cell new-used ∙ count)
+      (λ i l. let n : i < fieldCount f (headOf c′ cell) = omega (arith, count) in
+      getD-fields f w₁ cell i n ∙ blank .fields (firstField f (headOf c′ cell) + i) (kind-low f c′ cell i (k₁ .placed .formed cell new-used .head) n))
+    where
+      count : fieldCount f (headOf c′ cell) ≡ m
+      count = ap (fieldCount f) (blank .head) ∙ e
 
   pub new-stands : Sound h₁ → StandsFor s w₁ h₁ to₁
   new-stands sound =
@@ -184,16 +179,16 @@ module _ (s : Sizes) (w : Words) (h : Regioned) (to : ℕ → ℕ) (st : StandsF
               (used-home s w₁ k₁ cell new-used ∙ took .owner ∙ sym home-new);
           apart = λ x y a c e. one-to-one x y (split x a) (split y c) e;
           onto = onto;
-          refs = cases (λ x y. refsAt c′ y ≡ map (renamed to₁) (getD (h₁ .heap .objects) x noObject .refs))
-              (λ x a. refs-other s w kw g cell b d t′ c′ took blank few pos low open′ (to x) (in-use x a) ∙ st .partners .refs x a
+          refs = cases (λ x y. fieldsAt Reference c′ y ≡ map (renamed to₁) (getD (h₁ .heap .objects) x noObject .refs))
+              (λ x a. fields-other s w kw g cell b d t′ c′ took blank few pos low open′ Reference (to x) (in-use x a) ∙ st .partners .refs x a
               ∙ sym (ap (λ (q : Object). map (renamed to₁) (q .refs)) (object-old x (below x a)) ∙ renamed-old (graph h .refs x) (λ y i. st .sound .closed .refs x y a i)))
-              (refs-new ∙ sym (ap (λ (q : Object). map (renamed to₁) (q .refs)) object-new ∙ map-zeros b to₁));
+              (fields-new Reference b (omega arith) ∙ sym (ap (λ (q : Object). map (renamed to₁) (q .refs)) object-new ∙ map-zeros b to₁));
           vars = vars-kept s w kw g cell b d t′ c′ took blank few pos low open′ ∙ st .partners .vars
               ∙ sym (renamed-old (h .heap .vars) (λ y i. let j = in-place (h .heap .vars) (suc y) i in st .sound .closed .vars (j .0) y (j .2)));
         };
-        nums = cases (λ x y. getD (h₁ .heap .objects) x noObject .nums ≡ numsAt c′ y)
-            (λ x a. ap (λ (q : Object). q .nums) (object-old x (below x a)) ∙ st .nums x a ∙ sym (nums-other s w kw g cell b d t′ c′ took blank few pos low open′ (to x) (in-use x a)))
-            (ap (λ (q : Object). q .nums) object-new ∙ sym nums-new);
+        nums = cases (λ x y. getD (h₁ .heap .objects) x noObject .nums ≡ fieldsAt Number c′ y)
+            (λ x a. ap (λ (q : Object). q .nums) (object-old x (below x a)) ∙ st .nums x a ∙ sym (fields-other s w kw g cell b d t′ c′ took blank few pos low open′ Number (to x) (in-use x a)))
+            (ap (λ (q : Object). q .nums) object-new ∙ sym (fields-new Number d (omega arith)));
       }
 
   -- ---- and variable i, counted through all threads, names it

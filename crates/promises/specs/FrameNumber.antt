@@ -2,28 +2,28 @@
 use Prim.Native.Nat.{ℕ, _+_, _*_, _/_, _%_, _≤_, _<_}
 use native.Mathlib.Omega.{arith}
 use mathlib.Core.Path.{_≡_, refl, sym, ap, subst, _∙_}
-use mathlib.Core.Logic.{inl}
+use mathlib.Core.Logic.{inl, inr}
 use mathlib.Core.List.{List}
 use lib.ListN.{length, getD, set, length-set}
-use lib.Seq.{drop-set-lt}
 use Rattle.lists.specs.Stores.{past}
 use Rattle.rules.specs.declared.Sizes.{Sizes}
-use Rattle.rules.specs.NeverFreeing.{Object, noObject}
+use Rattle.rules.specs.NeverFreeing.{noObject}
 use Rattle.rules.specs.Rules.{Regioned, graph}
 use Rattle.laws.specs.GraphLaws.{Alive}
 use Rattle.laws.specs.RulesLaws.{Sound}
 use Rattle.layout.specs.declared.Places.{Places}
-use Rattle.layout.specs.Places.{placesOf, cellsWords}
+use Rattle.layout.specs.declared.Kind.the-variants.{Reference, Number}
+use Rattle.layout.specs.Places.{placesOf}
 use Rattle.layout.specs.Cells.{headOf, fieldAt, cellOf, wordOf}
 use Rattle.promises.specs.Words.{Words, InUse, Used, refCount, numCount}
 use Rattle.promises.specs.Crossing.{crossTo}
 use Rattle.promises.specs.Whole.{WholeAt, WholeFor}
 use Rattle.promises.specs.StandsFor.{StandsFor, SameBeyond}
 use Rattle.promises.specs.Reading.{alive-used, cells-room}
-use Rattle.promises.specs.Changes.{withCells, withObject}
+use Rattle.promises.specs.Changes.{withCells, withObject, withField}
 use Rattle.promises.specs.Entries.{exact-everywhere}
 use Rattle.promises.specs.Slots.{Slot, crossesTo, cross-same, exact-of, of-exact}
-use Rattle.promises.specs.FieldStore.{field-whole, head-kept, whole-with, object-stands, refs-kept, nums-set}
+use Rattle.promises.specs.FieldStore.{field-whole, head-kept, whole-with, cells-beyond, object-stands, fields-kept, fields-set}
 
 -- ---- words past a number's are as they were: no slot changes
 
@@ -72,25 +72,18 @@ module _ (s : Sizes) (w : Words) (k : WholeFor s w) (y b v : ℕ) (u : Used s w 
   pub number-beyond : SameBeyond s w (withCells w C)
   number-beyond =
       record {
-        cells = record {
-          long = length-set (w .cells) (fieldAt y (refCount w y + b)) v;
-          rest = drop-set-lt (cellsWords s) (w .cells) (fieldAt y (refCount w y + b)) v (omega (arith, u .page, k .placed .formed y u .head));
-        };
+        cells = cells-beyond s w k y (refCount w y + b) v u (omega arith);
         remember = record { long = refl; rest = refl };
         tables = record { long = refl; rest = refl };
       }
 
--- the object with number b changed to v
-abbrev pub withNumber : Object → ℕ → ℕ → Object
-withNumber o b v = record { refs = o .refs; nums = set (o .nums) b v }
-
 pub number-stands : (s : Sizes) (w : Words) (h : Regioned) (cellOf : ℕ → ℕ) → StandsFor s w h cellOf → (x : ℕ) → Alive (graph h) x → (b v : ℕ) → b < numCount w (cellOf x)
-    → Sound (withObject h x (withNumber (getD (h .heap .objects) x noObject) b v))
-    → StandsFor s (withCells w (set (w .cells) (fieldAt (cellOf x) (refCount w (cellOf x) + b)) v)) (withObject h x (withNumber (getD (h .heap .objects) x noObject) b v)) cellOf
+    → Sound (withObject h x (withField Number (getD (h .heap .objects) x noObject) b v))
+    → StandsFor s (withCells w (set (w .cells) (fieldAt (cellOf x) (refCount w (cellOf x) + b)) v)) (withObject h x (withField Number (getD (h .heap .objects) x noObject) b v)) cellOf
 number-stands s w h cellOf st x a b v low sound =
     let k = st .whole in
     let y = cellOf x in
     let u : Used s w y = alive-used s w k y (λ q. a (sym (st .partners .home x a) ∙ q)) in
-    object-stands s w h cellOf st x a (refCount w y + b) v (omega arith) (w .remember) (withNumber (getD (h .heap .objects) x noObject) b v) (number-whole s w k y b v u low)
-    (refs-kept s w k y (refCount w y + b) v u (omega arith) (omega arith) ∙ st .partners .refs x a)
-    (ap (λ (ns : List ℕ). set ns b v) (st .nums x a) ∙ sym (nums-set s w k y (refCount w y + b) v u (omega arith) b refl)) sound
+    object-stands s w h cellOf st x a (refCount w y + b) v (omega arith) (w .remember) (withField Number (getD (h .heap .objects) x noObject) b v) (number-whole s w k y b v u low)
+    (fields-kept s w k y (refCount w y + b) v u (omega arith) Reference y (inr (omega arith)) ∙ st .partners .refs x a)
+    (ap (λ (ns : List ℕ). set ns b v) (st .nums x a) ∙ sym (fields-set s w k y (refCount w y + b) v u (omega arith) Number b low refl)) sound

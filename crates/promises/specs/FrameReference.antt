@@ -3,9 +3,9 @@ use Prim.Native.Nat.{ℕ, zero, suc, _+_, _≤_, _<_}
 use native.Mathlib.Omega.{arith}
 use mathlib.Core.Path.{_≡_, refl, sym, ap, ap₂, subst, _∙_}
 use mathlib.Core.Bool.{cond, not, _&&_}
+use mathlib.Core.Logic.{inl}
 use mathlib.Core.List.{List}
 use lib.ListN.{length, getD, set, length-set, length-map, List·getD-map}
-use lib.Seq.{drop-set-lt}
 use lib.Dec.{ltb, eqb}
 use borrow.Author.Tests.{lt-ltb, le-ltb}
 use Rattle.lists.specs.Counting.{bit}
@@ -20,6 +20,7 @@ use Rattle.laws.specs.RulesLaws.{Sound}
 use Rattle.laws.specs.SameRules.{renamed}
 use Rattle.laws.specs.Counts.{crossRef, crossing-stored}
 use Rattle.laws.specs.AfterLaws.{graph-stored}
+use Rattle.layout.specs.declared.Kind.the-variants.{Reference, Number}
 use Rattle.layout.specs.Places as lp
 use Rattle.layout.specs.Places.{placesOf, cellsWords, rememberWords}
 use Rattle.layout.specs.Cells.{fieldAt, fieldOf, cellOf}
@@ -29,11 +30,11 @@ use Rattle.promises.specs.Whole.{WholeFor, IsRef}
 use Rattle.promises.specs.StandsFor.{StandsFor, SameBeyond}
 use Rattle.promises.specs.Reading.{alive-used, cells-room, remember-room, length-refs, getD-refs}
 use Rattle.promises.specs.Crossings.{ref-test, heap-entries}
-use Rattle.promises.specs.Changes.{withObject, map-set}
+use Rattle.promises.specs.Changes.{withObject, withField, map-set}
 use Rattle.promises.specs.Entries.{Edited}
 use Rattle.promises.specs.Slots.{Slot, crossesTo, field-slot, slot-cross, cross-stored, cross-elsewhere, exact-of, of-exact}
 use Rattle.promises.specs.Remembering.{Remembered, NoRoom, remembered-exact, remembered-edited}
-use Rattle.promises.specs.FieldStore.{field-whole, whole-with, object-stands, refs-set, nums-kept}
+use Rattle.promises.specs.FieldStore.{field-whole, whole-with, cells-beyond, object-stands, fields-kept, fields-set}
 use Rattle.promises.specs.FrameVariable.{ref-to-cell}
 
 -- the slot of reference f in cell y, the region it crosses into, and that which reference v would there
@@ -96,19 +97,15 @@ module _ (s : Sizes) (w : Words) (k : WholeFor s w) (y f v : ℕ) (u : Used s w 
     pub reference-beyond : SameBeyond s w (storedWords s w y f v m′)
     reference-beyond =
         record {
-          cells = record { long = length-set (w .cells) at v; rest = drop-set-lt (cellsWords s) (w .cells) at v room };
+          cells = cells-beyond s w k y f v u (omega arith);
           remember = record { long = edited .long; rest = drop-same (rememberWords s) (w .remember) m′ (edited .long) (edited .spare) };
           tables = record { long = refl; rest = refl };
         }
 
 -- ---- of whatever heap the words stand for: reference f of object x becomes u, v in the words
 
--- the object with reference f changed to u
-abbrev pub withReference : Object → ℕ → ℕ → Object
-withReference o f u = record { refs = set (o .refs) f u; nums = o .nums }
-
 module _ (s : Sizes) (w : Words) (h : Regioned) (to : ℕ → ℕ) (st : StandsFor s w h to) (x : ℕ) (a : Alive (graph h) x) (f u v : ℕ) (low : f < refCount w (to x)) (e : v ≡ renamed to u)
-    (sound : Sound (withObject h x (withReference (getD (h .heap .objects) x noObject) f u))) where
+    (sound : Sound (withObject h x (withField Reference (getD (h .heap .objects) x noObject) f u))) where
   abbrev y : ℕ
   y = to x
 
@@ -116,7 +113,7 @@ module _ (s : Sizes) (w : Words) (h : Regioned) (to : ℕ → ℕ) (st : StandsF
   o = getD (h .heap .objects) x noObject
 
   abbrev h′ : Regioned
-  h′ = withObject h x (withReference o f u)
+  h′ = withObject h x (withField Reference o f u)
 
   in-use : Used s w y
   in-use = alive-used s w (st .whole) y (λ q. a (sym (st .partners .home x a) ∙ q))
@@ -130,16 +127,16 @@ module _ (s : Sizes) (w : Words) (h : Regioned) (to : ℕ → ℕ) (st : StandsF
   -- u is null or there
   there : (z : ℕ) → u ≡ suc z → Alive (graph h) z
   there z q =
-      sound .closed .refs x z a (getD-in (graph h′ .refs x) f z (ap (λ (p : Object). getD (p .refs) f 0) (put (h .heap .objects) x (withReference o f u) noObject inside) ∙ put (o .refs) f u 0 low-refs ∙ q))
+      sound .closed .refs x z a (getD-in (graph h′ .refs x) f z (ap (λ (p : Object). getD (p .refs) f 0) (put (h .heap .objects) x (withField Reference o f u) noObject inside) ∙ put (o .refs) f u 0 low-refs ∙ q))
 
   ref : IsRef (placesOf s) (w .tables) v
   ref = ref-to-cell s w h to st u v e there
 
   pub reference-stands : (m′ : List ℕ) (r : ℕ) → Followed s w y f v m′ r → r ≡ 0 → StandsFor s (storedWords s w y f v m′) h′ to
   reference-stands m′ r d z =
-      object-stands s w h to st x a f v (omega arith) m′ (withReference o f u) (reference-whole s w (st .whole) y f v in-use low m′ r d ref z)
-      (refs-set s w (st .whole) y f v in-use (omega arith) low ∙ ap₂ (λ (vs : List ℕ) (i : ℕ). set vs f i) (st .partners .refs x a) e ∙ sym (map-set (renamed to) (o .refs) f u))
-      (st .nums x a ∙ sym (nums-kept s w (st .whole) y f v in-use (omega arith) low)) sound
+      object-stands s w h to st x a f v (omega arith) m′ (withField Reference o f u) (reference-whole s w (st .whole) y f v in-use low m′ r d ref z)
+      (fields-set s w (st .whole) y f v in-use (omega arith) Reference f low (omega arith) ∙ ap₂ (λ (vs : List ℕ) (i : ℕ). set vs f i) (st .partners .refs x a) e ∙ sym (map-set (renamed to) (o .refs) f u))
+      (st .nums x a ∙ sym (fields-kept s w (st .whole) y f v in-use (omega arith) Number y (inl (omega arith)))) sound
 
   -- ---- question 14
 

@@ -10,8 +10,9 @@ use Rattle.rules.specs.declared.Sizes.{Sizes}
 use Rattle.rules.specs.Terms.{InRange}
 use Rattle.rules.specs.Regions.{regions}
 use Rattle.layout.specs.Places.{placesOf, sizesAt, cellsWords, rememberWords, tablesWords, depthAt, varAt, ownerAt, usedAt, countAt, count-room, count-is, used-is}
-use Rattle.layout.specs.Cells.{headAt, headOf, workAt, workOf, fieldAt, fieldOf, pageOf, cellOf, wordOf}
-use Rattle.promises.specs.Words.{Words, Used, depthsAt, varsAt, refsAt, numsAt}
+use Rattle.layout.specs.declared.Kind.{Kind}
+use Rattle.layout.specs.Cells.{headAt, headOf, workAt, workOf, fieldAt, fieldOf, fieldCount, firstField, kind-among, pageOf, cellOf, wordOf}
+use Rattle.promises.specs.Words.{Words, Used, depthsAt, varsAt, fieldsAt}
 use Rattle.promises.specs.Crossing.{other, regionOf, crossTo}
 use Rattle.promises.specs.Whole.{WholeFor, Open, IsRef, CellFormed}
 use Rattle.promises.specs.StandsFor.{SameBeyond}
@@ -182,17 +183,11 @@ module _ (s : Sizes) (w : Words) (k : WholeFor s w) (g cell b d : ℕ) (t′ c�
   unfolding varsAt
   vars-kept = part-same (s .threads * s .variables) (varAt (placesOf s) 0) t t′ (took .long) (λ i l. low-past s t g cell t′ took (varAt (placesOf s) 0 + i) (omega (arith, owners-is s)))
 
-  pub refs-other : (x : ℕ) → Used s w x → refsAt c′ x ≡ refsAt c x
-  unfolding refsAt
-  refs-other x u =
+  pub fields-other : (f : Kind) (x : ℕ) → Used s w x → fieldsAt f c′ x ≡ fieldsAt f c x
+  unfolding fieldsAt
+  fields-other f x u =
       let n = apart x u in
-      ap (λ (z : ℕ). take (z / 16) (drop (fieldAt x 0) c′)) (head-other x n)
-      ∙ part-same (headOf c x / 16) (fieldAt x 0) c c′ (blank .long) (λ i l. blank .others (fieldAt x 0 + i) (λ (e : cellOf (fieldAt x 0 + i) ≡ cell). n (omega (arith, k .placed .formed x u .head))))
-
-  pub nums-other : (x : ℕ) → Used s w x → numsAt c′ x ≡ numsAt c x
-  unfolding numsAt
-  nums-other x u =
-      let n = apart x u in
-      ap (λ (z : ℕ). take (z % 16) (drop (fieldAt x (z / 16)) c′)) (head-other x n)
-      ∙ part-same (headOf c x % 16) (fieldAt x (headOf c x / 16)) c c′ (blank .long)
-      (λ i l. blank .others (fieldAt x (headOf c x / 16) + i) (λ (e : cellOf (fieldAt x (headOf c x / 16) + i) ≡ cell). n (omega (arith, k .placed .formed x u .head))))
+      let at = fieldAt x (firstField f (headOf c x)) in
+      ap (λ (z : ℕ). take (fieldCount f z) (drop (fieldAt x (firstField f z)) c′)) (head-other x n)
+      ∙ part-same (fieldCount f (headOf c x)) at c c′ (blank .long)
+      (λ i l. blank .others (at + i) (λ (e : cellOf (at + i) ≡ cell). n (omega (arith, k .placed .formed x u .head, kind-among f (headOf c x)))))

@@ -23,12 +23,12 @@ use Rattle.rules.specs.Rules.{Regioned, graph, first}
 use Rattle.layout.specs.declared.Kind.{Kind}
 use Rattle.layout.specs.declared.Kind.the-variants.{Reference, Number}
 use Rattle.layout.specs.Places.{placesOf}
-use Rattle.layout.specs.Cells.{headOf, fieldCount, kindAt, fieldAt}
-use Rattle.promises.specs.Words.{Words, Used, heapOf, varIn, headIn, objectIn}
+use Rattle.layout.specs.Cells.{headOf, fieldCount, kindAt}
+use Rattle.promises.specs.Words.{Words, Used, heapOf, varIn, headIn, fieldsIn, objectIn}
 use Rattle.promises.specs.Whole.{WholeFor, IsRef}
 use Rattle.promises.specs.StandsFor.{StandsFor, SameBeyond}
 use Rattle.promises.specs.Promises.{Became, DidHere}
-use Rattle.promises.specs.Reading.{used-alive, length-refs, length-nums, getD-refs, getD-nums}
+use Rattle.promises.specs.Reading.{used-alive, length-fields, getD-fields}
 use Rattle.promises.specs.Agreed.{heap-stands, object-at}
 use Rattle.promises.specs.Here.{here-var}
 
@@ -119,22 +119,17 @@ abbrev pub fieldsOf : Kind → Object → List ℕ
 fieldsOf Reference o = o .refs
 fieldsOf Number o = o .nums
 
-pub getD-fields : (k : Kind) (w : Words) (c i : ℕ) → i < fieldCount k (headIn w c) → getD (fieldsOf k (objectIn w c)) i 0 ≡ getD (w .cells) (kindAt k (w .cells) c i) 0
-getD-fields Reference w c i l =
-    getD-refs w c i l ∙ ap (λ (n : ℕ). getD (w .cells) n 0) (let e : fieldAt c i ≡ fieldAt c (0 + i) = omega arith in e)
-getD-fields Number w c i l = getD-nums w c i l
-
 module _ (s : Sizes) (w : Words) (k : WholeFor s w) where
-  pub length-fields : (d : Kind) (c : ℕ) → Used s w c → length (fieldsOf d (objectIn w c)) ≡ fieldCount d (headIn w c)
-  length-fields Reference c u = length-refs s w k c u
-  length-fields Number c u = length-nums s w k c u
-
   -- every variable is null or names a cell in use
   pub var-ref : (t a : ℕ) → t < s .threads → a < s .variables → IsRef (placesOf s) (w .tables) (varIn s w t a)
   var-ref t a l n = k .placed .variables (t * s .variables + a) (flat-low l n)
 
   pub object-heap : (y : ℕ) → Used s w y → objectOf (heapOf s w .heap) (suc y) ≡ objectIn w y
   object-heap y u = object-at s w k y (used-alive s w k y u)
+
+  fields-heap : (d : Kind) (y : ℕ) → Used s w y → fieldsOf d (objectOf (heapOf s w .heap) (suc y)) ≡ fieldsIn d w y
+  fields-heap Reference y u = ap (fieldsOf Reference) (object-heap y u)
+  fields-heap Number y u = ap (fieldsOf Number) (object-heap y u)
 
   -- a reference v that is null or names a cell in use, and field f of it
   module _ (d : Kind) (f : ℕ) where
@@ -145,7 +140,7 @@ module _ (s : Sizes) (w : Words) (k : WholeFor s w) where
     used-fields (suc y) r =
         let y′ : suc y - 1 ≡ y = omega arith in
         let u : Used s w y = subst (Used s w) y′ (r (omega arith)) in
-        ap (used (suc y) f) (ap (λ (o : Object). length (fieldsOf d o)) (object-heap y u) ∙ length-fields d y u ∙ sym (ap (λ (z : ℕ). fieldCount d (headOf (w .cells) z)) y′))
+        ap (used (suc y) f) (ap length (fields-heap d y u) ∙ length-fields s w k d y u ∙ sym (ap (λ (z : ℕ). fieldCount d (headOf (w .cells) z)) y′))
 
     -- the field's word
     pub field-word : (v : ℕ) → IsRef (placesOf s) (w .tables) v → 0 < v → f < fieldCount d (headOf (w .cells) (v - 1))
@@ -155,7 +150,7 @@ module _ (s : Sizes) (w : Words) (k : WholeFor s w) where
         let y′ : suc y - 1 ≡ y = omega arith in
         let u : Used s w y = subst (Used s w) y′ (r (omega arith)) in
         let n : f < fieldCount d (headIn w y) = subst (λ (z : ℕ). f < fieldCount d (headOf (w .cells) z)) y′ l in
-        ap (λ (o : Object). getD (fieldsOf d o) f 0) (object-heap y u) ∙ getD-fields d w y f n
+        ap (λ (vs : List ℕ). getD vs f 0) (fields-heap d y u) ∙ getD-fields d w y f n
         ∙ sym (ap (λ (z : ℕ). getD (w .cells) (kindAt d (w .cells) z f) 0) y′)
 
     -- the questions of variable a of thread t

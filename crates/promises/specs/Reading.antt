@@ -15,9 +15,11 @@ use Rattle.lists.specs.Products.{flat-low}
 use Rattle.rules.specs.declared.Sizes.{Sizes}
 use Rattle.rules.specs.Terms.{InRange}
 use Rattle.laws.specs.GraphLaws.{Alive, Closed}
+use Rattle.layout.specs.declared.Kind.{Kind}
+use Rattle.layout.specs.declared.Kind.the-variants.{Reference}
 use Rattle.layout.specs.Places.{placesOf, depthAt, varAt, varOf, tablesWords, rememberWords, cellsWords, count-room, count-is, ownersFrom}
-use Rattle.layout.specs.Cells.{fieldAt, fieldOf, pageOf}
-use Rattle.promises.specs.Words.{Words, depthIn, varIn, ownerIn, depthsIn, varsIn, refCount, numCount, refsIn, numsIn, homeIn, graphOf, depthsAt, homeAt, inUseAt, numsAt, refsAt, varsAt, Used, InUse}
+use Rattle.layout.specs.Cells.{fieldAt, fieldOf, fieldCount, firstField, kindAt, kind-among, pageOf}
+use Rattle.promises.specs.Words.{Words, depthIn, varIn, ownerIn, depthsIn, varsIn, headIn, refCount, fieldsIn, refsIn, homeIn, graphOf, depthsAt, homeAt, inUseAt, fieldsAt, varsAt, Used, InUse}
 use Rattle.promises.specs.Whole.{WholeFor}
 
 -- ---- lists
@@ -37,17 +39,16 @@ inside-list l i v e = go (decLt i (length l))
 
 -- ---- words
 
-pub getD-refs : (w : Words) (c i : ℕ) → i < refCount w c → getD (refsIn w c) i 0 ≡ fieldOf (w .cells) c i
-unfolding refsAt
-getD-refs w c i l =
-    getD-take (refCount w c) (drop (fieldAt c 0) (w .cells)) i 0 l ∙ getD-drop (fieldAt c 0) (w .cells) i 0
-    ∙ ap (λ (n : ℕ). getD (w .cells) n 0) (let e : fieldAt c 0 + i ≡ fieldAt c i = omega arith in e)
+pub getD-fields : (d : Kind) (w : Words) (c i : ℕ) → i < fieldCount d (headIn w c) → getD (fieldsIn d w c) i 0 ≡ getD (w .cells) (kindAt d (w .cells) c i) 0
+unfolding fieldsAt
+getD-fields d w c i l =
+    let at = fieldAt c (firstField d (headIn w c)) in
+    getD-take (fieldCount d (headIn w c)) (drop at (w .cells)) i 0 l ∙ getD-drop at (w .cells) i 0
+    ∙ ap (λ (n : ℕ). getD (w .cells) n 0) (let e : at + i ≡ kindAt d (w .cells) c i = omega arith in e)
 
-pub getD-nums : (w : Words) (c i : ℕ) → i < numCount w c → getD (numsIn w c) i 0 ≡ fieldOf (w .cells) c (refCount w c + i)
-unfolding numsAt
-getD-nums w c i l =
-    getD-take (numCount w c) (drop (fieldAt c (refCount w c)) (w .cells)) i 0 l ∙ getD-drop (fieldAt c (refCount w c)) (w .cells) i 0
-    ∙ ap (λ (n : ℕ). getD (w .cells) n 0) (let e : fieldAt c (refCount w c) + i ≡ fieldAt c (refCount w c + i) = omega arith in e)
+-- references are the first fields
+pub getD-refs : (w : Words) (c i : ℕ) → i < refCount w c → getD (refsIn w c) i 0 ≡ fieldOf (w .cells) c i
+getD-refs w c i l = getD-fields Reference w c i l ∙ ap (fieldOf (w .cells) c) (let e : 0 + i ≡ i = omega arith in e)
 
 pub getD-vars : (s : Sizes) (w : Words) (i : ℕ) → i < s .threads * s .variables → getD (varsIn s w) i 0 ≡ varOf (placesOf s) (w .tables) i
 unfolding varsAt
@@ -119,14 +120,14 @@ module _ (s : Sizes) (w : Words) (k : WholeFor s w) where
   pub cell-room : (c : ℕ) → Used s w c → 16 * c + 16 ≤ length (w .cells)
   cell-room c u = omega (arith, cells-room, u .page)
 
-  pub length-refs : (c : ℕ) → Used s w c → length (refsIn w c) ≡ refCount w c
-  unfolding refsAt
-  length-refs c u = length-take-le (refCount w c) (drop (fieldAt c 0) (w .cells)) (simp length-drop (omega (arith, cell-room c u, k .placed .formed c u .head)))
+  pub length-fields : (d : Kind) (c : ℕ) → Used s w c → length (fieldsIn d w c) ≡ fieldCount d (headIn w c)
+  unfolding fieldsAt
+  length-fields d c u =
+      length-take-le (fieldCount d (headIn w c)) (drop (fieldAt c (firstField d (headIn w c))) (w .cells))
+      (simp length-drop (omega (arith, cell-room c u, k .placed .formed c u .head, kind-among d (headIn w c))))
 
-  pub length-nums : (c : ℕ) → Used s w c → length (numsIn w c) ≡ numCount w c
-  unfolding numsAt
-  length-nums c u =
-      length-take-le (numCount w c) (drop (fieldAt c (refCount w c)) (w .cells)) (simp length-drop (omega (arith, cell-room c u, k .placed .formed c u .head)))
+  pub length-refs : (c : ℕ) → Used s w c → length (refsIn w c) ≡ refCount w c
+  length-refs = length-fields Reference
 
   pub vars-room : varAt (placesOf s) (s .threads * s .variables) ≤ ownersFrom s
   unfolding ownersFrom

@@ -1,5 +1,5 @@
 -- Lent words, what is read from them, and the graph and the heap that they make.
-use Prim.Native.Nat.{ℕ, _+_, _*_, _/_, _%_, _<_}
+use Prim.Native.Nat.{ℕ, _+_, _*_, _<_}
 use mathlib.Core.List.{List}
 use mathlib.Core.Bool.{Bool, cond, _&&_}
 use lib.ListN.{take, drop}
@@ -10,8 +10,10 @@ use Rattle.rules.specs.NeverFreeing.{Object}
 use Rattle.rules.specs.Graph.{Graph}
 use Rattle.rules.specs.Rules.{Regioned}
 use Rattle.layout.specs.declared.Places.{Places}
+use Rattle.layout.specs.declared.Kind.{Kind}
+use Rattle.layout.specs.declared.Kind.the-variants.{Reference, Number}
 use Rattle.layout.specs.Places.{sizesAt, placesOf, depthAt, varAt, depthOf, varOf, ownerOf, usedOf}
-use Rattle.layout.specs.Cells.{headOf, fieldAt, pageOf, placeOf}
+use Rattle.layout.specs.Cells.{headOf, fieldAt, fieldCount, firstField, pageOf, placeOf}
 
 pub record Words : Type 0 where
   pub cells : List ℕ
@@ -60,22 +62,23 @@ headIn w c = headOf (w .cells) c
 
 -- how many references and numbers the object in a cell has
 abbrev pub refCount : Words → ℕ → ℕ
-refCount w c = headIn w c / 16
+refCount w c = fieldCount Reference (headIn w c)
 
 abbrev pub numCount : Words → ℕ → ℕ
-numCount w c = headIn w c % 16
+numCount w c = fieldCount Number (headIn w c)
 
-unfoldable pub refsAt : List ℕ → ℕ → List ℕ
-refsAt cells c = take (headOf cells c / 16) (drop (fieldAt c 0) cells)
+-- its fields of a kind
+unfoldable pub fieldsAt : Kind → List ℕ → ℕ → List ℕ
+fieldsAt k cells c = take (fieldCount k (headOf cells c)) (drop (fieldAt c (firstField k (headOf cells c))) cells)
+
+abbrev pub fieldsIn : Kind → Words → ℕ → List ℕ
+fieldsIn k w c = fieldsAt k (w .cells) c
 
 abbrev pub refsIn : Words → ℕ → List ℕ
-refsIn w c = refsAt (w .cells) c
-
-unfoldable pub numsAt : List ℕ → ℕ → List ℕ
-numsAt cells c = take (headOf cells c % 16) (drop (fieldAt c (headOf cells c / 16)) cells)
+refsIn w c = fieldsIn Reference w c
 
 abbrev pub numsIn : Words → ℕ → List ℕ
-numsIn w c = numsAt (w .cells) c
+numsIn w c = fieldsIn Number w c
 
 -- cell c is in use: it is one of the first cells of its page
 pub record InUse (p : Places) (t : List ℕ) (c : ℕ) : Type 0 where
