@@ -12,6 +12,7 @@ use Rattle.script.specs.declared.Line.{Line}
 use Rattle.script.specs.declared.Line.the-variants.{Numbers, Malformed}
 use Rattle.script.specs.Text.{onto, lines, parts, isDigit, digitsOnly, valueFrom, value, some, isNumber, numbersOnly, partsSay, says, textSays}
 use Rattle.script.specs.Writing.{spelt, decimal, row}
+use Rattle.script.specs.WritingLaws.{power-above}
 
 -- ---- a number
 
@@ -34,14 +35,14 @@ some-snoc (x ∷ p) b = refl
 is-digit : (d : ℕ) → d < 10 → isDigit (48 + d) ≡ true
 is-digit d h = ap₂ _&&_ (le-leb 48 (48 + d) (omega arith)) (le-leb (48 + d) 57 (omega arith))
 
--- The value of a number's decimal is the number.
+-- with room for its digits, the value of a number that is spelt is the number
 spelt-value : (most n : ℕ) → n < 10 ^ most → value (spelt most n) ≡ n
 unfolding spelt valueFrom
 spelt-value zero n h = omega arith
 spelt-value (suc m) n h = go (ltb n 10) refl (λ (l : n / 10 < 10 ^ m). spelt-value m (n / 10) l)
   where
     go : (t : Bool) → ltb n 10 ≡ t → (n / 10 < 10 ^ m → value (spelt m (n / 10)) ≡ n / 10)
-        → value (cond t ((48 + n) ∷ []) (spelt m (n / 10) ++ ((48 + n % 10) ∷ []))) ≡ n
+        → value (elim t as (λ x. List ℕ) [ true ↦ (48 + n) ∷ [] | false ↦ spelt m (n / 10) ++ ((48 + n % 10) ∷ []) ]) ≡ n
     go true e f = omega arith
     go false e f =
         let g : value (spelt m (n / 10)) ≡ n / 10 = f (omega (arith, pow-suc 10 m)) in
@@ -53,7 +54,7 @@ spelt-plain zero n = refl
 spelt-plain (suc m) n = go (ltb n 10) refl (spelt-plain m (n / 10))
   where
     go : (t : Bool) → ltb n 10 ≡ t → digitsOnly (spelt m (n / 10)) ≡ true
-        → digitsOnly (cond t ((48 + n) ∷ []) (spelt m (n / 10) ++ ((48 + n % 10) ∷ []))) ≡ true
+        → digitsOnly (elim t as (λ x. List ℕ) [ true ↦ (48 + n) ∷ [] | false ↦ spelt m (n / 10) ++ ((48 + n % 10) ∷ []) ]) ≡ true
     go true e f = ap (λ (t : Bool). t && true) (is-digit n (ltb-true n 10 e))
     go false e f = digits-snoc (spelt m (n / 10)) (48 + n % 10) f (is-digit (n % 10) (omega arith))
 
@@ -61,17 +62,20 @@ spelt-some : (most n : ℕ) → some (spelt (suc most) n) ≡ true
 unfolding spelt
 spelt-some m n = go (ltb n 10)
   where
-    go : (t : Bool) → some (cond t ((48 + n) ∷ []) (spelt m (n / 10) ++ ((48 + n % 10) ∷ []))) ≡ true
+    go : (t : Bool) → some (elim t as (λ x. List ℕ) [ true ↦ (48 + n) ∷ [] | false ↦ spelt m (n / 10) ++ ((48 + n % 10) ∷ []) ]) ≡ true
     go true = refl
     go false = some-snoc (spelt m (n / 10)) (48 + n % 10)
 
-module _ (n : ℕ) (h : n < 4_294_967_296) where
-  pub decimal-value : value (decimal n) ≡ n
-  decimal-value = spelt-value 20 n (omega arith)
+-- The value of a number's decimal is the number, whatever the number.
+pub decimal-value : (n : ℕ) → value (decimal n) ≡ n
+decimal-value n = spelt-value (suc n) n (omega (arith, power-above (suc n)))
 
-  pub decimal-number : isNumber (decimal n) ≡ true
-  decimal-number =
-      ap₂ _&&_ (spelt-some 19 n) (ap₂ _&&_ (spelt-plain 20 n) (ap (λ (v : ℕ). ltb v 4_294_967_296) decimal-value ∙ lt-ltb n 4_294_967_296 h))
+decimal-plain : (n : ℕ) → digitsOnly (decimal n) ≡ true
+decimal-plain n = spelt-plain (suc n) n
+
+pub decimal-number : (n : ℕ) → n < 4_294_967_296 → isNumber (decimal n) ≡ true
+decimal-number n h =
+    ap₂ _&&_ (spelt-some n n) (ap₂ _&&_ (decimal-plain n) (ap (λ (v : ℕ). ltb v 4_294_967_296) (decimal-value n) ∙ lt-ltb n 4_294_967_296 h))
 
 -- ---- a line
 
@@ -102,15 +106,15 @@ unended (n ∷ ns) = decimal n ++ elim ns [ [] ↦ [] | m ∷ ms ↦ 32 ∷ unen
 
 row-lines : (n : ℕ) (ns : List ℕ) → lines (row (n ∷ ns)) ≡ unended (n ∷ ns) ∷ []
 unfolding row unended lines onto
-row-lines n [] = lines-plain (decimal n) (10 ∷ []) [] [] (spelt-plain 20 n) refl
-row-lines n (m ∷ ms) = lines-plain (decimal n) (32 ∷ row (m ∷ ms)) (32 ∷ unended (m ∷ ms)) [] (spelt-plain 20 n) (ap (onto 32) (row-lines m ms))
+row-lines n [] = lines-plain (decimal n) (10 ∷ []) [] [] (decimal-plain n) refl
+row-lines n (m ∷ ms) = lines-plain (decimal n) (32 ∷ row (m ∷ ms)) (32 ∷ unended (m ∷ ms)) [] (decimal-plain n) (ap (onto 32) (row-lines m ms))
 
 unended-parts : (n : ℕ) (ns : List ℕ) → parts (unended (n ∷ ns)) ≡ map decimal (n ∷ ns)
 unfolding unended parts onto
 unended-parts n [] =
-    parts-plain (decimal n) [] [] [] (spelt-plain 20 n) refl ∙ ap (λ (l : List ℕ). l ∷ []) (append-nil (decimal n))
+    parts-plain (decimal n) [] [] [] (decimal-plain n) refl ∙ ap (λ (l : List ℕ). l ∷ []) (append-nil (decimal n))
 unended-parts n (m ∷ ms) =
-    parts-plain (decimal n) (32 ∷ unended (m ∷ ms)) [] (parts (unended (m ∷ ms))) (spelt-plain 20 n) refl
+    parts-plain (decimal n) (32 ∷ unended (m ∷ ms)) [] (parts (unended (m ∷ ms))) (decimal-plain n) refl
     ∙ ap₂ (λ (l : List ℕ) (ls : List (List ℕ)). l ∷ ls) (append-nil (decimal n)) (unended-parts m ms)
 
 module _ (a b c d e : ℕ) (la : a < 4_294_967_296) (lb : b < 4_294_967_296) (lc : c < 4_294_967_296) (ld : d < 4_294_967_296) (le : e < 4_294_967_296) where
@@ -123,7 +127,7 @@ module _ (a b c d e : ℕ) (la : a < 4_294_967_296) (lb : b < 4_294_967_296) (lc
   five-say : partsSay (map decimal (a ∷ b ∷ c ∷ d ∷ e ∷ [])) ≡ Numbers a b c d e
   five-say =
       ap (λ (t : Bool). cond (t && true) (Numbers (value (decimal a)) (value (decimal b)) (value (decimal c)) (value (decimal d)) (value (decimal e))) Malformed) five-numbers
-      ∙ (λ i. Numbers (decimal-value a la i) (decimal-value b lb i) (decimal-value c lc i) (decimal-value d ld i) (decimal-value e le i))
+      ∙ (λ i. Numbers (decimal-value a i) (decimal-value b i) (decimal-value c i) (decimal-value d i) (decimal-value e i))
 
   -- A line of five words in decimal says these five words, with its line feed and without.
   pub five-read : textSays (row (a ∷ b ∷ c ∷ d ∷ e ∷ [])) ≡ Numbers a b c d e ∷ []

@@ -1,7 +1,7 @@
 -- The text that the program prints (01, "The program"): numbers in decimal, lines of them, and the two messages.
 use Prim.Native.Nat.{ℕ, zero, suc, _+_, _/_, _%_}
 use mathlib.Core.List.{List, [], _∷_, _++_}
-use mathlib.Core.Bool.{cond}
+use mathlib.Core.Bool.{true, false}
 use mathlib.Core.Path.{_≡_}
 use lib.ListN.{length, take, drop}
 use lib.Dec.{ltb}
@@ -9,11 +9,11 @@ use lib.Dec.{ltb}
 -- the digits of a number that has no more than this many, without leading zeros
 unfoldable pub spelt : ℕ → ℕ → List ℕ
 spelt zero n = []
-spelt (suc most) n = cond (ltb n 10) ((48 + n) ∷ []) (spelt most (n / 10) ++ ((48 + n % 10) ∷ []))
+spelt (suc most) n = elim (ltb n 10) [ true ↦ (48 + n) ∷ [] | false ↦ spelt most (n / 10) ++ ((48 + n % 10) ∷ []) ]
 
--- a number in decimal; one of 64 bits has at most 20 digits
+-- a number in decimal: it has no more digits than one more than itself
 abbrev pub decimal : ℕ → List ℕ
-decimal n = spelt 20 n
+decimal n = spelt (suc n) n
 
 -- a line of numbers, with single spaces
 unfoldable pub row : List ℕ → List ℕ

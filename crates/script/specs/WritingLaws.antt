@@ -4,7 +4,7 @@ use mathlib.Core.List.{List, [], _∷_, _++_, append-assoc}
 use mathlib.Core.Bool.{Bool, true, false, cond}
 use mathlib.Core.Path.{_≡_, refl, sym, ap, ap₂, _∙_, subst}
 use native.Mathlib.Omega.{arith}
-use native.Mathlib.Nat.{pow-suc, pow-le-pow-right}
+use native.Mathlib.Nat.{pow-suc}
 use native.Mathlib.Decide.{decLe}
 use native.Mathlib.Numerals.{add-one}
 use lib.ListN.{length, take, drop, set, getD, length-append}
@@ -23,14 +23,19 @@ ten-pow : (k : ℕ) → 1 ≤ 10 ^ k
 ten-pow zero = omega arith
 ten-pow (suc k) = omega (arith, ten-pow k, pow-suc 10 k)
 
+-- a power of ten is above its exponent
+pub power-above : (k : ℕ) → k < 10 ^ k
+power-above zero = omega arith
+power-above (suc k) = omega (arith, power-above k, pow-suc 10 k)
+
 module _ (most n : ℕ) where
   spelt-low : n < 10 → spelt (suc most) n ≡ (48 + n) ∷ []
   unfolding spelt
-  spelt-low h = simp (lt-ltb _ _ h)
+  spelt-low h = ap (λ (t : Bool). elim t as (λ x. List ℕ) [ true ↦ (48 + n) ∷ [] | false ↦ spelt most (n / 10) ++ ((48 + n % 10) ∷ []) ]) (lt-ltb n 10 h)
 
   spelt-high : 10 ≤ n → spelt (suc most) n ≡ spelt most (n / 10) ++ ((48 + n % 10) ∷ [])
   unfolding spelt
-  spelt-high h = simp (le-ltb _ _ h)
+  spelt-high h = ap (λ (t : Bool). elim t as (λ x. List ℕ) [ true ↦ (48 + n) ∷ [] | false ↦ spelt most (n / 10) ++ ((48 + n % 10) ∷ []) ]) (le-ltb n 10 h)
 
 glyph-digit : (n : ℕ) → n < 10 → glyph n ≡ 48 + n
 glyph-digit n h = simp (lt-ltb _ _ h)
@@ -59,7 +64,7 @@ spelt-length zero k n h = omega arith
 spelt-length (suc m) k n h = go k h (ltb n 10) refl (λ j. spelt-length m j (n / 10))
   where
     go : (k : ℕ) → n < 10 ^ suc k → (t : Bool) → ltb n 10 ≡ t → ((j : ℕ) → n / 10 < 10 ^ suc j → length (spelt m (n / 10)) ≤ suc j)
-        → length (cond t ((48 + n) ∷ []) (spelt m (n / 10) ++ ((48 + n % 10) ∷ []))) ≤ suc k
+        → length {A = ℕ} (elim t as (λ x. List ℕ) [ true ↦ (48 + n) ∷ [] | false ↦ spelt m (n / 10) ++ ((48 + n % 10) ∷ []) ]) ≤ suc k
     go k h true e f = omega arith
     go zero h false e f = absurd (let z : ⊥ = omega (arith, ltb-false n 10 e) in z)
     go (suc k) h false e f =
@@ -68,10 +73,10 @@ spelt-length (suc m) k n h = go k h (ltb n 10) refl (λ j. spelt-length m j (n /
 
 -- a word has at most ten digits, a number of 64 bits at most twenty
 pub word-length : (n : ℕ) → n < 4_294_967_296 → length (decimal n) ≤ 10
-word-length n h = spelt-length 20 9 n (omega arith)
+word-length n h = spelt-length (suc n) 9 n (omega arith)
 
 pub decimal-length : (n : ℕ) → n < 2 ^ 64 → length (decimal n) ≤ 20
-decimal-length n h = spelt-length 20 19 n (omega arith)
+decimal-length n h = spelt-length (suc n) 19 n (omega arith)
 
 -- ---- one text after another
 
@@ -103,17 +108,15 @@ put-byte bytes at b h =
     }
 
 -- the digits that io counted and wrote
-few-digits : (x k : ℕ) → x < 2 ^ 64 → Fewest 10 1 x k → k ≤ 20
-few-digits x k h f = go (decLe k 20)
+few-digits : (x k : ℕ) → Fewest 10 1 x k → k ≤ suc x
+few-digits x k f = go (decLe k 1)
   where
-    go : Dec (k ≤ 20) → k ≤ 20
-    go (yes l) = l
-    go (no n) =
-        let m : 20 ≤ k - 1 = omega arith in
-        absurd (let z : ⊥ = omega (arith, f .2 (omega arith), pow-le-pow-right {n = 10} (omega arith) m) in z)
+    go : Dec (k ≤ 1) → k ≤ suc x
+    go (yes l) = omega arith
+    go (no n) = omega (arith, f .2 (omega arith), power-above (k - 1))
 
-pub decimal-digits : (x k : ℕ) (buffer : List ℕ) → x < 2 ^ 64 → Fewest 10 1 x k → take k buffer ≡ digits 10 k x → take k buffer ≡ decimal x
-decimal-digits x k buffer h f e = e ∙ spelt-digits 20 k x (few-digits x k h f) f
+pub decimal-digits : (x k : ℕ) (buffer : List ℕ) → Fewest 10 1 x k → take k buffer ≡ digits 10 k x → take k buffer ≡ decimal x
+decimal-digits x k buffer f e = e ∙ spelt-digits (suc x) k x (few-digits x k f) f
 
 pub put-text : {bytes a b after : List ℕ} {at end : ℕ} → a ≡ b → Put bytes at a after end → Put bytes at b after end
 put-text {bytes} {after = after} {at} {end} e p = subst (λ (t : List ℕ). Put bytes at t after end) e p

@@ -19,7 +19,7 @@ slice-aggregate-put-bytes c = search needs
 put-bytes-requires : tie.Need-put-bytes-requires
 put-bytes-requires c κs =
     let d = c .before .before .decimal in
-    omega (arith, ap length (decimal-digits _ _ (d .last .1 .0) (c .before .before .before .before .before .fits .x .fits) (d .ensures .1 .0) (d .ensures .1 .1)))
+    omega (arith, ap length (decimal-digits _ _ (d .last .1 .0) (d .ensures .1 .0) (d .ensures .1 .1)))
 
 same-length : tie.Need-same-length
 same-length c = search needs
@@ -27,7 +27,7 @@ same-length c = search needs
 returns : tie.Need-returns
 returns c =
     let d = c .before .before .before .before .before .decimal in
-    put-text (decimal-digits _ _ (d .last .1 .0) (c .before .before .before .before .before .before .before .before .fits .x .fits) (d .ensures .1 .0) (d .ensures .1 .1)) (c .before .before .put-bytes .ensures)
+    put-text (decimal-digits _ _ (d .last .1 .0) (d .ensures .1 .0) (d .ensures .1 .1)) (c .before .before .put-bytes .ensures)
 
 pub put-number-spec : {M : Type 1} → statement M
 put-number-spec =
