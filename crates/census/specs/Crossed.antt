@@ -1,8 +1,8 @@
 -- After marking, the code's count of slots that would cross is the rules': remembered slots outside r, and the survivors' own.
 use mathlib.Core.Path.{_≡_, refl, sym, ap, ap₂, _∙_, subst}
-use mathlib.Core.Bool.{Bool, true, false, cond, not, _&&_}
+use mathlib.Core.Bool.{Bool, true, false, cond, not, _&&_, and-false}
 use mathlib.Core.List.{List}
-use Prim.Native.Nat.{ℕ, zero, suc, _+_, _-_, _*_, _/_, _≤_, _<_}
+use Prim.Native.Nat.{ℕ, zero, suc, _+_, _-_, _*_, _/_, _<_}
 use native.Mathlib.Omega.{arith}
 use native.Mathlib.Decide.{ℕ-discrete, decLt}
 use native.Mathlib.Nat.{one-mul, zero-mul}
@@ -13,7 +13,7 @@ use Rattle.lists.specs.Counting.{sum, sum-same, sum-none, sum-plus, sum-add, su
 use Rattle.lists.specs.OneToOne.{Paired, sum-paired}
 use Rattle.lists.specs.Bits.{bit-lt}
 use Rattle.rules.specs.declared.Sizes.{Sizes}
-use Rattle.rules.specs.Graph.{Graph, target, ended, crossing, crosses}
+use Rattle.rules.specs.Graph.{Graph, target, ended, crossing}
 use Rattle.laws.specs.EndLaws.{home-stayed, home-went}
 use Rattle.laws.specs.Counts.{crossIn, crossAt, crossing-sum, crossRef}
 use Rattle.layout.specs.declared.Places.{Places}
@@ -25,7 +25,7 @@ use Rattle.promises.specs.Whole.{WholeFor, IsRef}
 use Rattle.promises.specs.Crossing.{other, regionOf, crossTo}
 use Rattle.promises.specs.Crossings.{cross-in-sum}
 use Rattle.promises.specs.Slots.{Slot, region-of, slot-cross, cross-slot, field-slot}
-use Rattle.promises.specs.Reading.{used-home, used-owned, used-alive, alive-used, length-refs, getD-refs}
+use Rattle.promises.specs.Reading.{used-home, used-owned, used-alive, alive-used, length-refs, getD-refs, refs-few}
 use Rattle.mark.specs.Marks.{owner, Kept, kept-refs, kept-field, kept-owner}
 use Rattle.mark.specs.Reached.{home-cell, cell-home, is-other}
 use Rattle.mark.specs.Survivors.{Marked, marked-kept}
@@ -52,9 +52,6 @@ module _ (s : Sizes) (w : Words) (k : WholeFor s w) (space : Room (placesOf s) (
   ended-count : h .count ≡ 16 * s .pages
   unfolding ended
   ended-count = refl
-
-  few : (x : ℕ) → Used s w x → refCount w x ≤ 14
-  few x u = omega (arith, k .placed .formed x u .head)
 
   -- ---- where objects lie afterwards
 
@@ -96,7 +93,7 @@ module _ (s : Sizes) (w : Words) (k : WholeFor s w) (space : Room (placesOf s) (
         let v : getD (refsIn w x) f 0 ≡ fieldOf (w .cells) x f = getD-refs w x f l in
         let l′ : f < refCount w x = l in
         ap (crossRef h x) v ∙ cross-one x (fieldOf (w .cells) x f) (k .placed .references x u f l)
-        ∙ ap (crossAfter p (w′ .cells) (w′ .tables) r (h .home x)) (sym (kept-field kept x f (omega (arith, few x u)))))
+        ∙ ap (crossAfter p (w′ .cells) (w′ .tables) r (h .home x)) (sym (kept-field kept x f (omega (arith, refs-few s w k x u)))))
 
     -- what the rules count of it
     counted : (h .home x ≡ 0 → ⊥) → crossAt h x ≡ crossIn h x (refsIn w x)
@@ -157,10 +154,6 @@ module _ (s : Sizes) (w : Words) (k : WholeFor s w) (space : Room (placesOf s) (
   still-yes : (q : ℕ) → 0 < crossTo p (w .cells) (w .tables) q → still q ≡ slotCrosses p (w′ .cells) (w′ .tables) r q
   still-yes q l = ap (λ (b : Bool). cond b (slotCrosses p (w′ .cells) (w′ .tables) r q) 0) (lt-ltb 0 (crossTo p (w .cells) (w .tables) q) l)
 
-  cond-zero : (b : Bool) (x : ℕ) → x ≡ 0 → cond b x 0 ≡ 0
-  cond-zero true x z = z
-  cond-zero false x z = refl
-
   -- a word that is no slot of x does not count
   no-slot : (x j : ℕ) → x < 16 * s .pages → j < 16 → (Slot p (w .cells) (w .tables) (16 * x + j) → ⊥) → still (16 * x + j) ≡ 0
   no-slot x j l m n = still-no (16 * x + j) (λ b. n (cross-slot p (w .cells) (w .tables) (16 * x + j) (omega arith) b))
@@ -187,10 +180,6 @@ module _ (s : Sizes) (w : Words) (k : WholeFor s w) (space : Room (placesOf s) (
             let e : homeIn s w y ≡ 1 = used-home s w k y v ∙ one in
             let e′ : h .home y ≡ 1 = home-stayed s g r y (λ (c : homeIn s w y ≡ r). omega arith) ∙ e in
             ap (λ (b : Bool). cond (not (eqb (h .home x) (h .home y)) && not b) 1 0) (eq-eqb (h .home y) 1 e′) ∙ ap (λ (b : Bool). cond b 1 0) (and-false (not (eqb (h .home x) (h .home y))))
-          where
-            and-false : (a : Bool) → (a && false) ≡ false
-            and-false true = refl
-            and-false false = refl
         go v z (no n) (yes d) =
             let e : homeIn s w x ≡ homeIn s w y = used-home s w k x u ∙ d ∙ sym (used-home s w k y v) in
             let e′ : h .home x ≡ h .home y = stays ∙ e ∙ sym (home-stayed s g r y (λ c. out (e ∙ c))) in
@@ -207,7 +196,7 @@ module _ (s : Sizes) (w : Words) (k : WholeFor s w) (space : Room (placesOf s) (
         ap still e ∙ go (decLt 0 (crossTo p (w .cells) (w .tables) (fieldAt x f)))
       where
         low : f < 14
-        low = omega (arith, few x u)
+        low = omega (arith, refs-few s w k x u)
 
         slot : Slot p (w .cells) (w .tables) (fieldAt x f)
         slot = field-slot p (w .cells) (w .tables) x f u low l
@@ -241,14 +230,14 @@ module _ (s : Sizes) (w : Words) (k : WholeFor s w) (space : Room (placesOf s) (
     past-refs : (j : ℕ) → j < 14 - refCount w x → still (16 * x + (2 + (refCount w x + j))) ≡ 0
     past-refs j m =
         let q : ℕ = 16 * x + (2 + (refCount w x + j)) in
-        let e : cellOf q ≡ x = omega (arith, few x u) in
-        let d : wordOf q ≡ 2 + (refCount w x + j) = omega (arith, few x u) in
-        no-slot x (2 + (refCount w x + j)) here (omega (arith, few x u)) (λ o. omega (arith, o .count, ap (headOf (w .cells)) e))
+        let e : cellOf q ≡ x = omega (arith, refs-few s w k x u) in
+        let d : wordOf q ≡ 2 + (refCount w x + j) = omega (arith, refs-few s w k x u) in
+        no-slot x (2 + (refCount w x + j)) here (omega (arith, refs-few s w k x u)) (λ o. omega (arith, o .count, ap (headOf (w .cells)) e))
 
     used-sum : sum (λ j. still (16 * x + j)) 16 ≡ outside x
     used-sum =
         let n = refCount w x in
-        let e : n + (14 - n) ≡ 14 = omega (arith, few x u) in
+        let e : n + (14 - n) ≡ 14 = omega (arith, refs-few s w k x u) in
         let refs = ap (sum (λ i. still (16 * x + (2 + i)))) (sym e) ∙ sum-add (λ i. still (16 * x + (2 + i))) n (14 - n) in
         let some : h .home x ≡ 0 → ⊥ = (λ z. used-alive s w k x u (sym stays ∙ z)) in
         omega (

@@ -4,23 +4,24 @@ use native.Mathlib.Omega.{arith}
 use native.Mathlib.Nat.{suc-inj}
 use native.Mathlib.Numerals.{add-one}
 use native.Mathlib.Decide.{ℕ-discrete}
-use mathlib.Core.Path.{_≡_, refl, sym, ap, ap₂, subst, _∙_}
-use mathlib.Core.Logic.{inl, inr}
-use mathlib.Core.List.{List, [], _∷_, _++_, map}
-use mathlib.Core.Bool.{Bool, true, false, _&&_}
+use mathlib.Core.Path.{_≡_, refl, sym, ap, subst, _∙_}
+use mathlib.Core.List.{List, [], _∷_, _++_, map, map-map}
+use mathlib.Core.Bool.{_&&_}
 use lib.ListN.{length, getD, set, length-map, length-set, length-append, List·getD-map, List·getD-append}
 use lib.Seq.{getD-at, getD-set-same}
 use lib.Dec.{T, ltb, leb, ltb→lt}
+use Rattle.lists.specs.Tests.{both-hold}
 use Rattle.lists.specs.Products.{flat-low}
 use Rattle.rules.specs.declared.Sizes.{Sizes}
 use Rattle.rules.specs.declared.Command.{Command}
 use Rattle.rules.specs.declared.Answer.{Answer}
-use Rattle.rules.specs.Terms.{Code, unknown, start, end, new, copy, clear, load, store, read, write, same, decode, ask, Limits, limits}
-use Rattle.lists.specs.Members.{In}
+use Rattle.rules.specs.Terms.{Code, unknown, start, end, new, copy, clear, load, store, read, write, same, decode, Limits, limits}
+use Rattle.lists.specs.Members.{In, map-same, in-place}
 use Rattle.rules.specs.NeverFreeing as nf
 use Rattle.rules.specs.NeverFreeing.{Object, noObject, depthOf, place}
 use Rattle.rules.specs.Graph.{Graph, target, ended}
 use Rattle.rules.specs.Regions.{regionAt}
+use Rattle.laws.specs.Asked.{first-zero, thread-ok, operands-ok}
 use Rattle.laws.specs.GraphLaws.{Alive}
 use Rattle.laws.specs.EndLaws.{home-stayed, home-went}
 use Rattle.laws.specs.SameRules.{renamed, same-target}
@@ -31,9 +32,10 @@ use Rattle.promises.specs.Words.{Words, graphOf, homeIn, refsIn, numsIn, varsIn
 use Rattle.lists.specs.Listed.{listed, listed-same, map-listed}
 use Rattle.promises.specs.StandsFor.{StandsFor}
 use Rattle.promises.specs.Promises.{Became, Did}
+use Rattle.promises.specs.Agreed.{cell-used, cell-alive}
 use Rattle.demand.specs.DemandThree.{Moves, regionOf, Changes, made, moved, kept}
-use Rattle.promises.specs.Reading.{in-place, used-home, used-alive, words-closed, var-at, depth-at, length-vars}
-use Rattle.demand.specs.Pairing.{pairOf, pairsOf, pair-there, pair-freed, cell-used, cell-alive}
+use Rattle.promises.specs.Reading.{used-home, used-alive, words-closed, var-at, depth-at, length-vars}
+use Rattle.demand.specs.Pairing.{pairOf, pairsOf, pair-there, pair-freed}
 
 -- ---- where nothing changes its home
 
@@ -59,14 +61,6 @@ module _ (h h₁ : Regioned) (cellOf cell : ℕ → ℕ) (stays : (x : ℕ) → 
       (listed-same (pairOf h₁ cell) (pairOf h cellOf) (length (h .heap .objects)) (λ x k. pair-kept x (ap (λ (z : List ℕ). getD z x 0) hs ∙ List·getD-append (h .homes) (q ∷ []) 0 x (omega arith))))
 
 -- ---- an end
-
-map-same : {A B : Type 0} (f g : A → B) (l : List A) → ((v : A) → In v l → f v ≡ g v) → map f l ≡ map g l
-map-same f g [] e = refl
-map-same f g (v ∷ l) e = ap₂ (λ x xs. x ∷ xs) (e v (inl refl)) (map-same f g l (λ u i. e u (inr i)))
-
-map-map : {A B C : Type 0} (g : B → C) (f : A → B) (l : List A) → map g (map f l) ≡ map (λ v. g (f v)) l
-map-map g f [] = refl
-map-map g f (v ∷ l) = ap (λ xs. g (f v) ∷ xs) (map-map g f l)
 
 module _ (s : Sizes) (w w₁ : Words) (h h₁ : Regioned) (cellOf cell : ℕ → ℕ) (st : StandsFor s w h cellOf) (st₁ : StandsFor s w₁ h₁ cell)
     (stays : (x : ℕ) → Alive (graph h) x → graph h₁ .home x ≡ graph h .home x → cell x ≡ cellOf x)
@@ -233,35 +227,15 @@ objects-plain s n write t a b c p = length-set (n .objects) _ _
 objects-plain s n same t a b c p = refl
 
 -- questions that were answered
-ask-zero : (b : Bool) (q rest : ℕ) → ask b (suc q) rest ≡ 0 → T b × (rest ≡ 0)
-unfolding ask
-ask-zero true q rest e = (tt, e)
-ask-zero false q rest e = absurd (omega arith)
-
-first-zero : (q r : ℕ) → ru.first q r ≡ 0 → q ≡ 0
-first-zero zero r e = refl
-first-zero (suc q) r e = absurd (omega arith)
-
-both-hold : (b c : Bool) → T (b && c) → T b × T c
-both-hold true c t = (tt, t)
-
 module _ (s : Sizes) (h : Regioned) (m : Command) (e : ru.question s h m ≡ 0) where
   asked : nf.question (limits s) (h .heap) m ≡ 0
   unfolding ru.question
-  asked = first-zero (nf.question (limits s) (h .heap) m) (ru.room s h m (ru.after s h m)) e
-
-  thread-ok : m .thread < s .threads
-  unfolding nf.question
-  thread-ok = ltb→lt _ _ (ask-zero _ 6 _ (ask-zero _ 5 _ asked .1) .0)
-
-  operands-ok : T (nf.operands (limits s) (decode (m .code)) (m .a) (m .b) (m .c))
-  unfolding nf.question
-  operands-ok = ask-zero _ 7 _ (ask-zero _ 6 _ (ask-zero _ 5 _ asked .1) .1) .0
+  asked = first-zero (nf.question (limits s) (h .heap) m) (ru.room s h m (ru.after s h m)) e .0
 
   new-ok : m .code ≡ 3 → m .a < s .variables
   unfolding nf.operands
   new-ok k =
-      let t : T (ltb (m .a) (s .variables) && leb (m .b + m .c) 14) = subst (λ (o : ℕ). T (nf.operands (limits s) (decode o) (m .a) (m .b) (m .c))) k operands-ok in
+      let t : T (ltb (m .a) (s .variables) && leb (m .b + m .c) 14) = subst (λ (o : ℕ). T (nf.operands (limits s) (decode o) (m .a) (m .b) (m .c))) k (operands-ok (limits s) (h .heap) m asked) in
       ltb→lt _ _ (both-hold (ltb (m .a) (s .variables)) (leb (m .b + m .c) 14) t .0)
 
 module _ (s : Sizes) (w w₁ : Words) (m : Command) (a : Answer) (h : Regioned) (cellOf : ℕ → ℕ) (st : StandsFor s w h cellOf) where
@@ -276,7 +250,7 @@ module _ (s : Sizes) (w w₁ : Words) (m : Command) (a : Answer) (h : Regioned) 
       h₁ = ru.after s h m
 
       th : m .thread < s .threads
-      th = thread-ok s h m e
+      th = thread-ok (limits s) (h .heap) m (asked s h m e)
 
       r : ℕ
       r = regionAt s (m .thread) (depthIn w (m .thread))

@@ -8,14 +8,13 @@ use mathlib.Core.Logic.{_⊎_, inl, inr}
 use mathlib.Core.List.{List, [], _∷_, map}
 use lib.ListN.{getD}
 use Rattle.rules.specs.declared.Sizes.{Sizes}
-use Rattle.lists.specs.Members.{In}
+use Rattle.lists.specs.Members.{In, getD-in}
 use Rattle.rules.specs.Graph.{target}
 use Rattle.laws.specs.GraphLaws.{Leads, itself, along, Holds, bySlot, byOwn, byOther, Reaches, target-called, target-within}
 use Rattle.promises.specs.Words.{Words, homeIn, ownerIn, refsIn, varsIn, graphOf, Used}
 use Rattle.promises.specs.Whole.{WholeFor}
 use Rattle.demand.specs.DemandThree.{Moves, regionOf}
 use Rattle.promises.specs.Reading.{used-home, used-alive, alive-used}
-use Rattle.demand.specs.Pairing.{getD-in}
 
 -- where two maps give the same list, they are the same at each element
 same-at : (f g : ℕ → ℕ) (l : List ℕ) (v : ℕ) → In v l → map f l ≡ map g l → f v ≡ g v

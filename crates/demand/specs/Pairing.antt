@@ -3,24 +3,24 @@ use Prim.Native.Nat.{ℕ, zero, suc, _+_, _*_, _<_}
 use native.Mathlib.Omega.{arith}
 use native.Mathlib.Nat.{suc-inj}
 use mathlib.Core.Path.{_≡_, refl, sym, ap, subst, _∙_}
-use mathlib.Core.Logic.{inl, inr}
-use mathlib.Core.List.{List, [], _∷_}
+use mathlib.Core.List.{List}
 use mathlib.Core.Bool.{Bool, true, false, cond}
 use lib.ListN.{length, getD, length-map, List·getD-map}
 use lib.Dec.{eqb}
 use borrow.Author.Tests.{eq-eqb, ne-eqb, eqb-true, eqb-false}
 use Rattle.rules.specs.declared.Sizes.{Sizes}
-use Rattle.lists.specs.Members.{In}
+use Rattle.lists.specs.Members.{getD-in, in-bounds}
 use Rattle.rules.specs.NeverFreeing.{noObject}
 use Rattle.laws.specs.GraphLaws.{Alive}
 use Rattle.laws.specs.SameRules.{renamed}
 use Rattle.rules.specs.Rules.{Regioned, graph}
 use Rattle.layout.specs.declared.Kind.the-variants.{Number}
-use Rattle.promises.specs.Words.{Words, graphOf, Used}
+use Rattle.promises.specs.Words.{Words, Used}
 use Rattle.lists.specs.Listed.{listed, length-listed, getD-listed}
 use Rattle.promises.specs.StandsFor.{StandsFor}
+use Rattle.promises.specs.Agreed.{cell-used}
 use Rattle.demand.specs.DemandThree.{Leads, null, partners, Alike, Paired}
-use Rattle.promises.specs.Reading.{getD-refs, getD-fields, var-at, depth-at, inside-list, used-owned, used-alive, alive-used, length-refs, length-fields}
+use Rattle.promises.specs.Reading.{getD-refs, getD-fields, var-at, depth-at, used-owned, used-alive, length-refs, length-fields}
 
 -- the partner of object x, as a reference
 abbrev pub pairOf : Regioned → (ℕ → ℕ) → ℕ → ℕ
@@ -28,11 +28,6 @@ pairOf h cellOf x = cond (eqb (graph h .home x) 0) 0 (suc (cellOf x))
 
 unfoldable pub pairsOf : Regioned → (ℕ → ℕ) → List ℕ
 pairsOf h cellOf = listed (pairOf h cellOf) (length (h .heap .objects))
-
-pub getD-in : (l : List ℕ) (i x : ℕ) → getD l i 0 ≡ suc x → In (suc x) l
-getD-in [] i x e = absurd (omega arith)
-getD-in (y ∷ l) zero x e = inl (sym e)
-getD-in (y ∷ l) (suc i) x e = inr (getD-in l i x e)
 
 pub pair-there : (h : Regioned) (cellOf : ℕ → ℕ) (x : ℕ) → Alive (graph h) x → pairOf h cellOf x ≡ suc (cellOf x)
 pair-there h cellOf x a = ap (λ (b : Bool). cond b 0 (suc (cellOf x))) (ne-eqb (graph h .home x) 0 a)
@@ -50,7 +45,7 @@ module _ (s : Sizes) (w : Words) (h : Regioned) (cellOf : ℕ → ℕ) (st : Sta
   pair-back x c e = go (eqb (graph h .home x) 0) refl
     where
       there : x < length (h .heap .objects)
-      there = omega (arith, inside-list (pairsOf h cellOf) x c e, length-listed (pairOf h cellOf) (length (h .heap .objects)))
+      there = omega (arith, in-bounds (pairsOf h cellOf) x (λ z. omega arith), length-listed (pairOf h cellOf) (length (h .heap .objects)))
 
       at : pairOf h cellOf x ≡ suc c
       at = sym (getD-listed (pairOf h cellOf) (length (h .heap .objects)) x 0 there) ∙ e
@@ -59,19 +54,13 @@ module _ (s : Sizes) (w : Words) (h : Regioned) (cellOf : ℕ → ℕ) (st : Sta
       go true f = absurd (omega (arith, at, pair-freed h cellOf x (eqb-true (graph h .home x) 0 f)))
       go false f = let a = eqb-false (graph h .home x) 0 f in (a, suc-inj (sym (pair-there h cellOf x a) ∙ at))
 
-  pub cell-alive : (x : ℕ) → Alive (graph h) x → Alive (graphOf s w) (cellOf x)
-  cell-alive x a z = a (sym (st .partners .home x a) ∙ z)
-
-  pub cell-used : (x : ℕ) → Alive (graph h) x → Used s w (cellOf x)
-  cell-used x a = alive-used s w (st .whole) (cellOf x) (cell-alive x a)
-
   leads : (v u : ℕ) → ((y : ℕ) → v ≡ suc y → Alive (graph h) y) → u ≡ renamed cellOf v → Leads (pairsOf h cellOf) v u
   leads zero u k e = null refl e
   leads (suc y) u k e = partners y (cellOf y) refl e (pair-alive y (k y refl))
 
   alike : (x : ℕ) → Alive (graph h) x → Alike w (pairsOf h cellOf) (getD (h .heap .objects) x noObject) (cellOf x)
   alike x a =
-      let u = cell-used x a in
+      let u = cell-used s w h cellOf st x a in
       let f = st .partners .refs x a in
       record {
         r = sym (length-map (graph h .refs x) (renamed cellOf)) ∙ ap (λ (l : List ℕ). length l) (sym f) ∙ length-refs s w (st .whole) (cellOf x) u;
@@ -87,7 +76,7 @@ module _ (s : Sizes) (w : Words) (h : Regioned) (cellOf : ℕ → ℕ) (st : Sta
       record {
         beside = length-listed (pairOf h cellOf) (length (h .heap .objects));
         used = λ x c e. let b = pair-back x c e in
-            let u = subst (Used s w) (b .1) (cell-used x (b .0)) in (u, used-owned s w (st .whole) c u);
+            let u = subst (Used s w) (b .1) (cell-used s w h cellOf st x (b .0)) in (u, used-owned s w (st .whole) c u);
         each = λ c u. let o = st .partners .onto c (used-alive s w (st .whole) c u) in (o .0, pair-alive (o .0) (o .1) ∙ ap suc (o .2));
         one = λ x y c e f. let b = pair-back x c e in let d = pair-back y c f in st .partners .apart x y (b .0) (d .0) (b .1 ∙ sym (d .1));
         alike = λ x c e. let b = pair-back x c e in subst (Alike w (pairsOf h cellOf) (getD (h .heap .objects) x noObject)) (b .1) (alike x (b .0));

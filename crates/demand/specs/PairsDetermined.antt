@@ -4,10 +4,10 @@ use native.Mathlib.Omega.{arith}
 use native.Mathlib.Decide.{ℕ-discrete}
 use mathlib.Core.Path.{_≡_, refl, sym, ap, ap₂, subst, _∙_}
 use mathlib.Core.Logic.{inl, inr, ⊎-elim}
-use mathlib.Core.List.{List, [], _∷_, _++_, map}
+use mathlib.Core.List.{List, [], _∷_, map}
 use lib.ListN.{length, getD, List·getD-append}
 use lib.Seq.{getD-at}
-use Rattle.lists.specs.Members.{In, in-append}
+use Rattle.lists.specs.Members.{In, in-append, in-bounds}
 use Rattle.rules.specs.declared.Sizes.{Sizes}
 use Rattle.rules.specs.declared.Command.{Command}
 use Rattle.rules.specs.declared.Answer.{Answer}
@@ -17,7 +17,7 @@ use Rattle.laws.specs.RulesLaws.{region-pos}
 use Rattle.promises.specs.Words.{Words, Used, sizesIn, depthIn, varIn, heapOf}
 use Rattle.promises.specs.Whole.{WholeFor}
 use Rattle.promises.specs.Promises.{Chain, none, more, Did, RunAsked, notWhole, uneven, short, accepted, Ran}
-use Rattle.promises.specs.Reading.{inside-list, used-alive}
+use Rattle.promises.specs.Reading.{used-alive}
 use Rattle.promises.specs.Agreed.{heap-stands, back, whole-for}
 use Rattle.demand.specs.DemandThree.{Block, Runs, stop, next, Moves, Changes, made, moved, kept, Followed, Traced}
 use Rattle.demand.specs.Pairing.{pairsOf, pair-alive, stands-paired}
@@ -59,7 +59,7 @@ module _ {s : Sizes} {w w₁ : Words} {m : Command} {a : Answer} (k : WholeFor s
     where
       go : Changes s w m a w₁ pairs pairs₁ → Used s w₁ c
       go (made z o e) =
-          after c c (ap (λ (l : List ℕ). getD l c 0) e ∙ List·getD-append pairs (varIn s w₁ (m .thread) (m .a) ∷ []) 0 c (inside-list pairs c c (before c u)) ∙ before c u)
+          after c c (ap (λ (l : List ℕ). getD l c 0) e ∙ List·getD-append pairs (varIn s w₁ (m .thread) (m .a) ∷ []) 0 c (in-bounds pairs c (λ z. omega (arith, before c u))) ∙ before c u)
       go (moved z o move mv e) = absurd (n z o)
       go (kept o q e) = after c c (ap (λ (l : List ℕ). getD l c 0) e ∙ before c u)
 

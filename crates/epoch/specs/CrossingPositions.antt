@@ -1,30 +1,25 @@
 -- The slots that cross after an end, by their positions in the cells before it: at most as many as the rules count.
-use mathlib.Core.Path.{_≡_, refl, sym, ap, ap₂, _∙_, subst}
+use mathlib.Core.Path.{_≡_, refl, sym, ap, ap₂, _∙_}
 use mathlib.Core.Logic.{_≢_}
-use mathlib.Core.Bool.{Bool, true, false, cond}
-use mathlib.Core.List.{List}
-use Prim.Native.Nat.{ℕ, zero, suc, _+_, _-_, _*_, _/_, _%_, _≤_, _<_}
+use mathlib.Core.Bool.{Bool, cond}
+use Prim.Native.Nat.{ℕ, _+_, _-_, _*_, _/_, _%_, _≤_, _<_}
 use native.Mathlib.Decide.{ℕ-discrete, decLt}
 use native.Mathlib.Omega.{arith}
 use lib.Dec.{eqb, leb, ltb}
-use lib.ListN.{length, getD}
+use lib.ListN.{getD}
 use borrow.Author.Tests.{eq-eqb, ne-eqb, le-leb, lt-leb, lt-ltb, le-ltb}
-use Rattle.lists.specs.Counting.{bit, sum, count, positive, sum-same, sum-none, sum-add, sum-blocks, sum-le}
-use Rattle.lists.specs.Pigeonhole.{Names, names-le}
+use Rattle.lists.specs.Tests.{cond-zero}
+use Rattle.lists.specs.Counting.{bit, sum, positive, sum-same, sum-none, sum-add, sum-blocks, sum-le}
+use Rattle.lists.specs.Pigeonhole.{names-le}
 use Rattle.rules.specs.declared.Sizes.{Sizes}
 use Rattle.rules.specs.Graph.{Graph, ended, crossing}
 use Rattle.laws.specs.GraphLaws.{Alive}
 use Rattle.laws.specs.Counts.{crossIn, crossAt, crossRef, crossing-sum}
 use Rattle.laws.specs.EndLaws.{was-alive}
-use Rattle.layout.specs.Cells.{fieldOf}
 use Rattle.promises.specs.Words.{Words, Used, refCount, refsIn, graphOf}
 use Rattle.promises.specs.Whole.{WholeFor}
 use Rattle.promises.specs.Crossings.{cross-in-sum}
-use Rattle.promises.specs.Reading.{alive-used, words-closed, length-refs, getD-refs}
-
-cond-zero : (b : Bool) (x : ℕ) → x ≡ 0 → cond b 0 x ≡ 0
-cond-zero true x z = refl
-cond-zero false x z = z
+use Rattle.promises.specs.Reading.{alive-used, words-closed, length-refs, getD-refs, refs-few}
 
 bit-under : (x : ℕ) → bit (ltb 0 x) ≤ x
 bit-under x = go (decLt 0 x)
@@ -61,12 +56,12 @@ module _ (s : Sizes) (w : Words) (k : WholeFor s w) (r : ℕ) (pos : 0 < r) wher
   word-first : (c i v : ℕ) → i < 2 → wordCrosses s w r c i v ≡ 0
   unfolding wordCrosses
   word-first c i v l =
-      cond-zero (eqb (after .home c) 0) _ (ap (λ (x : Bool). cond x (cond (ltb i (refCount w c + 2)) (crossRef after c v) 0) 0) (lt-leb 2 i l))
+      cond-zero (eqb (after .home c) 0) 0 _ refl (ap (λ (x : Bool). cond x (cond (ltb i (refCount w c + 2)) (crossRef after c v) 0) 0) (lt-leb 2 i l))
 
   word-past : (c i v : ℕ) → 2 ≤ i → refCount w c + 2 ≤ i → wordCrosses s w r c i v ≡ 0
   unfolding wordCrosses
   word-past c i v l m =
-      cond-zero (eqb (after .home c) 0) _
+      cond-zero (eqb (after .home c) 0) 0 _ refl
       (ap₂ (λ (x y : Bool). cond x (cond y (crossRef after c v) 0) 0) (le-leb 2 i l) (le-ltb i (refCount w c + 2) m))
 
   word-gone : (c i v : ℕ) → after .home c ≡ 0 → wordCrosses s w r c i v ≡ 0
@@ -97,7 +92,7 @@ module _ (s : Sizes) (w : Words) (k : WholeFor s w) (r : ℕ) (pos : 0 < r) wher
       u = alive-used s w k c (was-alive s (graphOf s w) r pos (words-closed s w k) c a)
 
       few : refCount w c ≤ 14
-      few = omega (arith, k .placed .formed c u .head)
+      few = refs-few s w k c u
 
       past : (i : ℕ) → i < 14 - refCount w c → crossesPast s w r (16 * c + (2 + (refCount w c + i))) ≡ 0
       past i l =

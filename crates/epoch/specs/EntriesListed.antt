@@ -5,6 +5,7 @@ use mathlib.Core.Bool.{Bool, true, false, cond}
 use mathlib.Core.List.{List}
 use Prim.Native.Nat.{ℕ, zero, suc, _+_, _-_, _*_, _/_, _%_, _^_, _≤_, _<_}
 use native.Mathlib.Omega.{arith}
+use native.Mathlib.Nat.{pos-of-ne-zero}
 use lib.Dec.{eqb, eqb·suc-zero}
 use lib.ListN.{length, getD}
 use Rattle.rules.specs.declared.Sizes.{Sizes}
@@ -14,7 +15,8 @@ use Rattle.layout.specs.Cells.{pageOf, cellOf, wordOf, headOf, fieldAt, fieldOf
 use Rattle.promises.specs.Words.{Words, Used, ownerIn}
 use Rattle.promises.specs.Whole.{WholeFor, IsRef}
 use Rattle.promises.specs.Crossing.{other, regionOf, crossTo}
-use Rattle.promises.specs.Slots.{Slot, region-of, slot-low, slot-cross, cross-slot, slot-field}
+use Rattle.promises.specs.Slots.{Slot, region-of, slot-low, slot-cross, slot-field}
+use Rattle.mark.specs.Reached.{entry-slot}
 use Rattle.mark.specs.Survivors.{Marked}
 use Rattle.evacuate.specs.Entries.{crossOf, otherThan}
 use Rattle.evacuate.specs.Append.{crossAt}
@@ -63,16 +65,11 @@ module _ (s : Sizes) (w : Words) (k : WholeFor s w) (space : Room (placesOf s) (
       (ap (λ (q : ℕ). ownerOf (placesOf s) (w₁ .tables) q) page ∙ owner-same s w k space r w₁ M (pageOf (cellOf x)) (o .used .page)) (getD (w .cells) x 0) (slot-ref x o)
       ∙ sym (slot-cross (placesOf s) (w .cells) (w .tables) x o)
 
-  entry-slot : (i : ℕ) → i < usedIn (w .remember) → Slot (placesOf s) (w .cells) (w .tables) (slotIn (w .remember) i)
-  entry-slot i l =
-      let e = k .placed .remember .entries .named i l in
-      cross-slot (placesOf s) (w .cells) (w .tables) (slotIn (w .remember) i) (e .slot) (omega (arith, e .region, e .right))
-
   pub listed : Listed (placesOf s) (s .entries) (usedIn (w .remember)) (w₁ .cells) (w₁ .tables) (w .remember)
   listed =
       record {
-        slots = λ i l. slot-now (slotIn (w .remember) i) (entry-slot i l);
-        right = λ i l. sym (k .placed .remember .entries .named i l .right) ∙ sym (cross-same (slotIn (w .remember) i) (entry-slot i l));
+        slots = λ i l. slot-now (slotIn (w .remember) i) (entry-slot s w k i l);
+        right = λ i l. sym (k .placed .remember .entries .named i l .right) ∙ sym (cross-same (slotIn (w .remember) i) (entry-slot s w k i l));
         real = λ i l z. omega (arith, k .placed .remember .entries .named i l .region);
         every = λ x o ne. every x (slot-then x o) ne;
       }
@@ -81,7 +78,4 @@ module _ (s : Sizes) (w : Words) (k : WholeFor s w) (space : Room (placesOf s) (
           → (i : ℕ) × (i < usedIn (w .remember)) × (slotIn (w .remember) i ≡ x)
       every x o ne =
           let e = cross-same x o in
-          k .placed .remember .every x (slot-low (placesOf s) (w .cells) (w .tables) x o) (some (crossTo (placesOf s) (w .cells) (w .tables) x) (λ z. ne (e ∙ z)))
-        where
-          some : (n : ℕ) → n ≢ 0 → 0 < n
-          some n h = omega arith
+          k .placed .remember .every x (slot-low (placesOf s) (w .cells) (w .tables) x o) (pos-of-ne-zero (λ z. ne (e ∙ z)))

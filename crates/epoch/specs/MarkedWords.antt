@@ -6,6 +6,7 @@ use mathlib.Core.List.{List}
 use Prim.Native.Nat.{ℕ, zero, suc, _+_, _-_, _*_, _/_, _%_, _^_, _≤_, _<_}
 use native.Mathlib.Decide.{ℕ-discrete, decLt}
 use native.Mathlib.Omega.{arith}
+use native.Mathlib.Nat.{pos-of-ne-zero}
 use lib.Dec.{eqb}
 use lib.ListN.{length, getD}
 use Rattle.lists.specs.Counting.{sum-same}
@@ -79,14 +80,11 @@ module _ (s : Sizes) (w : Words) (k : WholeFor s w) (space : Room (placesOf s) (
         room = kept-room kept space;
         free = λ q l e. used-same q l ∙ k .placed .pages q l .free (sym (owner-same q l) ∙ e);
         taken = λ q l n.
-            omega (arith, used-same q l, k .placed .pages q l .taken (positive (ownerIn s w q) (λ e. n (owner-same q l ∙ e))));
+            omega (arith, used-same q l, k .placed .pages q l .taken (pos-of-ne-zero (λ e. n (owner-same q l ∙ e))));
         full = λ q l. omega (arith, used-same q l, k .placed .pages q l .cells);
         one = λ g a b pos x y. one g a b pos (partly-then g a x) (partly-then g b y);
         count = λ g pos le. count-same g ∙ k .placed .counts g pos le ∙ sym (objects-same g);
       }
-    where
-      positive : (x : ℕ) → x ≢ 0 → 0 < x
-      positive x n = omega arith
 
   pub ready : Ready (placesOf s) (w₁ .cells) (w₁ .tables)
   ready =

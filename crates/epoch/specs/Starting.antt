@@ -1,26 +1,25 @@
 -- References of marked words: what a survivor, an object outside r or a variable names in r survives, and is marked.
-use mathlib.Core.Path.{_≡_, refl, sym, ap, ap₂, _∙_, subst}
+use mathlib.Core.Path.{_≡_, refl, sym, ap, _∙_, subst}
 use mathlib.Core.Logic.{_≢_}
-use mathlib.Core.List.{List}
-use Prim.Native.Nat.{ℕ, zero, suc, _+_, _-_, _*_, _/_, _%_, _^_, _≤_, _<_}
-use native.Mathlib.Decide.{ℕ-discrete, decLt}
+use Prim.Native.Nat.{ℕ, suc, _+_, _-_, _*_, _/_, _≤_, _<_}
+use native.Mathlib.Decide.{ℕ-discrete}
 use native.Mathlib.Omega.{arith}
-use lib.ListN.{length, getD}
+use native.Mathlib.Nat.{pos-of-ne-zero}
+use lib.ListN.{length}
 use Rattle.lists.specs.Members.{In, getD-member}
 use Rattle.rules.specs.declared.Sizes.{Sizes}
 use Rattle.rules.specs.Regions.{regionAt}
-use Rattle.rules.specs.Graph.{Graph, target, ended}
+use Rattle.rules.specs.Graph.{ended}
 use Rattle.laws.specs.GraphLaws.{Alive}
 use Rattle.laws.specs.RegionLaws.{region-high, further-out}
 use Rattle.laws.specs.RulesLaws.{region-pos}
 use Rattle.laws.specs.EndLaws.{home-went, home-stayed, was-alive, closed-ended}
-use Rattle.layout.specs.declared.Places.{Places}
 use Rattle.layout.specs.Places.{placesOf, Room, ownerOf, varOf, usedIn}
-use Rattle.layout.specs.Cells.{pageOf, workAt, workOf, headOf, fieldOf, refsOf}
+use Rattle.layout.specs.Cells.{pageOf, workAt, workOf, fieldOf, refsOf}
 use Rattle.layout.specs.Marks.{marked}
-use Rattle.promises.specs.Words.{Words, Used, InUse, ownerIn, homeIn, depthIn, refCount, refsIn, varsIn, graphOf}
-use Rattle.promises.specs.Whole.{WholeFor, IsRef}
-use Rattle.promises.specs.Reading.{used-home, used-alive, alive-used, words-closed, length-refs, getD-refs, getD-vars}
+use Rattle.promises.specs.Words.{Words, Used, InUse, ownerIn, depthIn, refCount, refsIn, graphOf}
+use Rattle.promises.specs.Whole.{WholeFor}
+use Rattle.promises.specs.Reading.{used-home, used-alive, alive-used, words-closed, length-refs, getD-refs, getD-vars, refs-few}
 use Rattle.mark.specs.Survivors.{Marked}
 use Rattle.mark.specs.Reached.{cell-home}
 use Rattle.evacuate.specs.Links.{Start}
@@ -53,10 +52,7 @@ module _ (s : Sizes) (w : Words) (k : WholeFor s w) (space : Room (placesOf s) (
   alive-marked d a own =
       let u = alive-used s w k d (was-alive s (graphOf s w) r rpos (words-closed s w k) d a) in
       let e = home-went s (graphOf s w) r d (cell-home s w k d r u own) in
-      M .survives d u own (some (target s (graphOf s w) r d) (λ z. a (e ∙ z)))
-    where
-      some : (n : ℕ) → n ≢ 0 → 0 < n
-      some n h = omega arith
+      M .survives d u own (pos-of-ne-zero (λ z. a (e ∙ z)))
 
   pub ref-alive : (b f d : ℕ) → Points s w b f d → Alive (ended s (graphOf s w) r) b → Alive (ended s (graphOf s w) r) d
   unfolding ended
@@ -70,9 +66,6 @@ module _ (s : Sizes) (w : Words) (k : WholeFor s w) (space : Room (placesOf s) (
 
   -- ---- the same words after the marking
 
-  few : (c : ℕ) → Used s w c → refCount w c ≤ 14
-  few c u = omega (arith, k .placed .formed c u .head)
-
   refs-then : (c : ℕ) → refsOf (w₁ .cells) c ≡ refCount w c
   refs-then c = ap (λ (h : ℕ). h / 16) (head-same s w k space r w₁ M c)
 
@@ -83,7 +76,7 @@ module _ (s : Sizes) (w : Words) (k : WholeFor s w) (space : Room (placesOf s) (
   points b f d u l e =
       let v : Used s w b = use-then s w k space r w₁ M b u in
       let l′ : f < refCount w b = omega (arith, refs-then b) in
-      let e′ : fieldOf (w .cells) b f ≡ suc d = sym (field-then b f (omega (arith, few b v))) ∙ e in
+      let e′ : fieldOf (w .cells) b f ≡ suc d = sym (field-then b f (omega (arith, refs-few s w k b v))) ∙ e in
       let d′ : fieldOf (w .cells) b f - 1 ≡ d = omega arith in
       record { used = v; low = l′; value = e′; there = subst (Used s w) d′ (k .placed .references b v f l′ (omega arith)) }
 
@@ -146,7 +139,7 @@ module _ (s : Sizes) (w : Words) (k : WholeFor s w) (space : Room (placesOf s) (
       }
     where
       few′ : (c : ℕ) → InUse (placesOf s) (w₁ .tables) c → refsOf (w₁ .cells) c ≤ 14
-      few′ c u = omega (arith, refs-then s w k space r pos w₁ M c, few s w k space r pos w₁ M c (use-then s w k space r w₁ M c u))
+      few′ c u = omega (arith, refs-then s w k space r pos w₁ M c, refs-few s w k c (use-then s w k space r w₁ M c u))
 
       suc-of : {x d : ℕ} → x ≡ 1 + d → x ≡ suc d
       suc-of e = omega arith

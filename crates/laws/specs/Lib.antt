@@ -7,6 +7,7 @@ pub mod EndLaws
 pub mod Counts
 pub mod SameRules
 pub mod RulesLaws
+pub mod Asked
 pub mod AfterLaws
 pub mod LikeHeaps
 pub mod LikeSteps

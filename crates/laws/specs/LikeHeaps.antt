@@ -16,14 +16,15 @@ use Rattle.lists.specs.Counting.{bit}
 use Rattle.rules.specs.declared.Sizes.{Sizes}
 use Rattle.rules.specs.declared.Command.{Command}
 use Rattle.rules.specs.Terms.{Code, unknown, start, end, new, copy, clear, load, store, read, write, same, decode, ask, limits}
-use Rattle.lists.specs.Members.{In}
+use Rattle.lists.specs.Members.{In, map-same, in-place}
+use Rattle.lists.specs.Stores.{map-set}
 use Rattle.rules.specs.NeverFreeing as nf
 use Rattle.rules.specs.NeverFreeing.{Object, noObject, depthOf, varOf, objectOf, place, used}
 use Rattle.rules.specs.Regions.{regionAt}
 use Rattle.rules.specs.Graph.{Graph, ended}
 use Rattle.laws.specs.GraphLaws.{Alive}
 use Rattle.laws.specs.EndLaws.{was-alive}
-use Rattle.laws.specs.SameRules.{renamed, Partners, partners-ended}
+use Rattle.laws.specs.SameRules.{renamed, renamed-zeros, Partners, partners-ended}
 use Rattle.rules.specs.Rules as ru
 use Rattle.rules.specs.Rules.{Regioned, graph, innermost}
 use Rattle.laws.specs.RulesLaws.{Sound, region-pos, graph-ended, afterCode}
@@ -37,23 +38,6 @@ pub record Like (to : ℕ → ℕ) (h k : Regioned) : Type 0 where
   pub nums : (x : ℕ) → Alive (graph h) x → getD (k .heap .objects) (to x) noObject .nums ≡ getD (h .heap .objects) x noObject .nums
 
 -- ---- lists
-
-map-set : {A B : Type 0} (f : A → B) (l : List A) (i : ℕ) (v : A) → map f (set l i v) ≡ set (map f l) i (f v)
-map-set f [] i v = refl
-map-set f (x ∷ l) zero v = refl
-map-set f (x ∷ l) (suc i) v = ap (λ k. f x ∷ k) (map-set f l i v)
-
-map-same : {A B : Type 0} (f g : A → B) (l : List A) → ((v : A) → In v l → f v ≡ g v) → map f l ≡ map g l
-map-same f g [] e = refl
-map-same f g (v ∷ l) e = ap₂ (λ x xs. x ∷ xs) (e v (inl refl)) (map-same f g l (λ u i. e u (inr i)))
-
-in-place : (l : List ℕ) (v : ℕ) → In v l → (i : ℕ) × (getD l i 0 ≡ v)
-in-place (x ∷ l) v (inl e) = (0, sym e)
-in-place (x ∷ l) v (inr k) = let r = in-place l v k in (suc (r .0), r .1)
-
-renamed-zeros : (n : ℕ) (f : ℕ → ℕ) → map (renamed f) (replicate n 0) ≡ replicate n 0
-renamed-zeros zero f = refl
-renamed-zeros (suc n) f = ap (λ (l : List ℕ). 0 ∷ l) (renamed-zeros n f)
 
 null-like : (to : ℕ → ℕ) (v : ℕ) → eqb (renamed to v) 0 ≡ eqb v 0
 null-like to zero = refl
@@ -292,7 +276,7 @@ module _ (s : Sizes) (to : ℕ → ℕ) (h k : Regioned) (l : Like to h k) where
         found y (inr e) = (n, λ z. omega (arith, home-new h (l .sound)), to-new ∙ sym e)
 
         old-vars : map (renamed to⁺) (h .heap .vars) ≡ k .heap .vars
-        old-vars = renamed-old (h .heap .vars) (λ y i. let j = in-place (h .heap .vars) (suc y) i in l .sound .closed .vars (j .0) y (j .1)) ∙ sym (l .partners .vars)
+        old-vars = renamed-old (h .heap .vars) (λ y i. let j = in-place (h .heap .vars) (suc y) i in l .sound .closed .vars (j .0) y (j .2)) ∙ sym (l .partners .vars)
 
     new-nums : (x : ℕ) → Alive (graph (grown h)) x → getD (grown k .heap .objects) (to⁺ x) noObject .nums ≡ getD (grown h .heap .objects) x noObject .nums
     new-nums = cases (λ x y. getD (grown k .heap .objects) y noObject .nums ≡ getD (grown h .heap .objects) x noObject .nums)

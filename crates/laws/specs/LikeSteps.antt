@@ -1,14 +1,12 @@
 -- Two regioned heaps whose objects correspond answer every command alike, and what the rules say of the one they say of the other.
 use Prim.Native.Nat.{ℕ, zero, suc, _<_}
-use native.Mathlib.Omega.{arith}
 use mathlib.Core.Path.{_≡_, refl, sym, ap, ap₂, subst₂, _∙_}
-use mathlib.Core.Bool.{Bool, true, false, cond, _||_}
+use mathlib.Core.Bool.{Bool, cond, _||_}
 use lib.Dec.{leb, eqb}
 use Rattle.rules.specs.declared.Sizes.{Sizes}
 use Rattle.rules.specs.declared.Command.{Command}
-use Rattle.rules.specs.Terms.{Code, decode, ask, done, Limits, limits}
+use Rattle.rules.specs.Terms.{Code, decode, ask, done, limits}
 use Rattle.rules.specs.NeverFreeing as nf
-use Rattle.rules.specs.NeverFreeing.{NeverFreeing}
 use Rattle.rules.specs.Graph.{target, ended, objectsIn, pagesOf, newPages, freePages, crossing}
 use Rattle.laws.specs.GraphLaws.{Alive}
 use Rattle.laws.specs.Counts.{same-free, same-new}
@@ -16,18 +14,10 @@ use Rattle.laws.specs.SameRules.{same-objects, same-crossing, same-targe
 use Rattle.rules.specs.Rules as ru
 use Rattle.rules.specs.Rules.{Regioned, graph, first}
 use Rattle.laws.specs.RulesLaws.{sound-code}
+use Rattle.laws.specs.Asked.{state-ok}
 use Rattle.laws.specs.LikeHeaps.{Like, After, question-like, value-like, after-like, same-after}
 
 -- ---- a whole command, with its questions
-
-ask-zero : (b : Bool) (q rest : ℕ) → ask b (suc q) rest ≡ 0 → rest ≡ 0
-unfolding ask
-ask-zero true q rest e = e
-ask-zero false q rest e = absurd (omega arith)
-
-state-zero : (s : Limits) (n : NeverFreeing) (m : Command) → nf.question s n m ≡ 0 → nf.state s n (decode (m .code)) (m .thread) (m .a) (m .b) (m .c) ≡ 0
-unfolding nf.question
-state-zero s n m e = ask-zero _ 7 _ (ask-zero _ 6 _ (ask-zero _ 5 _ e))
 
 module _ (s : Sizes) (to : ℕ → ℕ) (h k : Regioned) (l : Like to h k) (m : Command) where
   room-like : (h₁ k₁ : Regioned) (to₁ : ℕ → ℕ) → Like to₁ h₁ k₁ → ru.room s k m k₁ ≡ ru.room s h m h₁
@@ -70,7 +60,7 @@ module _ (s : Sizes) (to : ℕ → ℕ) (h k : Regioned) (l : Like to h k) (m : 
 
           after : After s to h k l (ru.after s h m) (ru.after s k m)
           after =
-              after-like s to h k l (decode (m .code)) (m .thread) (m .a) (m .b) (m .c) (state-zero (limits s) (h .heap) m e)
+              after-like s to h k l (decode (m .code)) (m .thread) (m .a) (m .b) (m .c) (state-ok (limits s) (h .heap) m e)
               (sound-code s h (l .sound) (decode (m .code)) (m .thread) (m .a) (m .b) (m .c)) (sound-code s k (l .sound′) (decode (m .code)) (m .thread) (m .a) (m .b) (m .c))
 
           at-h : (w : ℕ) → ru.room s h m (ru.after s h m) ≡ w → ru.question s h m ≡ w

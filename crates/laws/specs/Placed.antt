@@ -4,13 +4,13 @@ use native.Mathlib.Omega.{arith}
 use native.Mathlib.Decide.{ℕ-discrete, decLt}
 use mathlib.Core.Path.{_≡_, refl, sym, ap, subst, _∙_}
 use mathlib.Core.List.{List, [], _∷_, _++_}
-use mathlib.Core.Bool.{Bool, true, false}
 use lib.ListN.{length, getD, set, List·getD-append, List·getD-eq-default, replicate, length-append}
 use lib.Seq.{getD-set-same, getD-set-other, getD-at}
-use lib.Dec.{T, ltb→lt}
+use lib.Dec.{ltb→lt}
+use Rattle.lists.specs.Members.{in-bounds}
 use Rattle.rules.specs.declared.Sizes.{Sizes}
 use Rattle.rules.specs.declared.Command.{Command}
-use Rattle.rules.specs.Terms.{Code, unknown, start, end, new, copy, clear, load, store, read, write, same, decode, ask, Limits, limits}
+use Rattle.rules.specs.Terms.{Code, unknown, start, end, new, copy, clear, load, store, read, write, same, decode, limits}
 use Rattle.rules.specs.NeverFreeing as nf
 use Rattle.rules.specs.NeverFreeing.{NeverFreeing, depthOf}
 use Rattle.rules.specs.Regions.{regionAt, parent, join}
@@ -21,6 +21,7 @@ use Rattle.laws.specs.EndLaws.{home-went, home-stayed}
 use Rattle.rules.specs.Rules as ru
 use Rattle.rules.specs.Rules.{Regioned, graph, innermost}
 use Rattle.laws.specs.RulesLaws.{region-pos, graph-ended}
+use Rattle.laws.specs.Asked.{ask-zero, first-zero, thread-ok, state-ok}
 
 -- q is the control space, or the region of a thread at a level that is open
 pub data Open (s : Sizes) (ds : List ℕ) (q : ℕ) : Type 0 where
@@ -31,33 +32,7 @@ pub record Placed (s : Sizes) (h : Regioned) : Type 0 where
   pub depths : (t : ℕ) → getD (h .heap .depths) t 0 ≤ s .depth
   pub homes : (x : ℕ) → Alive (graph h) x → Open s (h .heap .depths) (getD (h .homes) x 0)
 
--- ---- questions that were answered
-
-ask-zero : (b : Bool) (q rest : ℕ) → ask b (suc q) rest ≡ 0 → T b × (rest ≡ 0)
-unfolding ask
-ask-zero true q rest e = (tt, e)
-ask-zero false q rest e = absurd (omega arith)
-
-module _ (s : Limits) (n : NeverFreeing) (m : Command) (e : nf.question s n m ≡ 0) where
-  thread-ok : m .thread < s .threads
-  unfolding nf.question
-  thread-ok = ltb→lt _ _ (ask-zero _ 6 _ (ask-zero _ 5 _ e .1) .0)
-
-  state-ok : nf.state s n (decode (m .code)) (m .thread) (m .a) (m .b) (m .c) ≡ 0
-  unfolding nf.question
-  state-ok = ask-zero _ 7 _ (ask-zero _ 6 _ (ask-zero _ 5 _ e .1) .1) .1
-
 -- ---- depths
-
-set-depth : (ds : List ℕ) (t d u : ℕ) → (u ≡ t → ⊥) → getD (set ds t d) u 0 ≡ getD ds u 0
-set-depth ds t d u n = getD-set-other ds t u d 0 n
-
-deep-bounds : (ds : List ℕ) (t : ℕ) → 0 < getD ds t 0 → t < length ds
-deep-bounds ds t p = go (decLt t (length ds))
-  where
-    go : Dec (t < length ds) → t < length ds
-    go (yes l) = l
-    go (no l) = absurd (omega (arith, List·getD-eq-default ds 0 {n = t} (omega arith)))
 
 -- what was open stays open where no depth falls
 open-more : (s : Sizes) (ds es : List ℕ) (q : ℕ) → ((t : ℕ) → getD ds t 0 ≤ getD es t 0) → Open s ds q → Open s es q
@@ -92,7 +67,7 @@ module _ (s : Sizes) (h : Regioned) (p : Placed s h) (t k : ℕ) (th : t < s .th
   k-fits = omega (arith, p .depths t)
 
   depth-now : getD ended-depths t 0 ≡ k
-  depth-now = getD-set-same (h .heap .depths) t k 0 (deep-bounds (h .heap .depths) t (omega arith))
+  depth-now = getD-set-same (h .heap .depths) t k 0 (in-bounds (h .heap .depths) t (λ z. omega arith))
 
   -- an open region other than r stays open, and r joins it in an open one
   stays-open : (q : ℕ) → (q ≡ r → ⊥) → Open s (h .heap .depths) q → Open s ended-depths q × Open s ended-depths (join s r q)
@@ -104,7 +79,7 @@ module _ (s : Sizes) (h : Regioned) (p : Placed s h) (t k : ℕ) (th : t < s .th
 
       go : Dec (t ≡ u) → Open s ended-depths q × Open s ended-depths (join s r q)
       go (no d) = (
-        level u j a (omega (arith, set-depth (h .heap .depths) t k u (λ f. d (sym f)))) e,
+        level u j a (omega (arith, getD-set-other (h .heap .depths) t u k 0 (λ f. d (sym f)))) e,
         control (ap (join s r) e ∙ join-other s t k u j k-fits j-fits d),
       )
       go (yes f) =
@@ -215,10 +190,6 @@ placed-code s h p store t a b c th q = placed-same s h p _ refl
 placed-code s h p read t a b c th q = p
 placed-code s h p write t a b c th q = placed-same s h p _ refl
 placed-code s h p same t a b c th q = p
-
-first-zero : (q r : ℕ) → ru.first q r ≡ 0 → (q ≡ 0) × (r ≡ 0)
-first-zero zero r e = (refl, e)
-first-zero (suc q) r e = absurd (omega arith)
 
 pub placed-step : (s : Sizes) (h : Regioned) (m : Command) → Placed s h → Placed s (ru.step s h m .next)
 unfolding ru.step ru.answered ru.after ru.question

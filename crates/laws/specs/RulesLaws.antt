@@ -7,11 +7,11 @@ use mathlib.Core.Path.{_≡_, refl, sym, ap, subst, _∙_}
 use mathlib.Core.Logic.{_⊎_, inl, inr}
 use mathlib.Core.List.{List, [], _∷_, _++_}
 use mathlib.Core.Bool.{Bool, cond}
-use lib.ListN.{length, getD, set, replicate, length-set, length-append, List·getD-append, List·getD-eq-default}
+use lib.ListN.{length, getD, set, replicate, length-set, length-append, List·getD-append}
 use lib.Seq.{getD-at}
 use lib.Dec.{eqb}
 use borrow.Author.Tests.{ne-eqb}
-use Rattle.lists.specs.Members.{In, getD-in}
+use Rattle.lists.specs.Members.{In, getD-in, in-bounds}
 use Rattle.rules.specs.declared.Sizes.{Sizes}
 use Rattle.rules.specs.declared.Command.{Command}
 use Rattle.rules.specs.Terms.{Code, unknown, start, end, new, copy, clear, load, store, read, write, same, decode, limits}
@@ -48,13 +48,6 @@ module _ {A : Type 0} where
       go : (z ≡ a) ⊎ In z l → (z ≡ a) ⊎ In z (x ∷ l)
       go (inl e) = inl e
       go (inr j) = inr (inr j)
-
-in-bounds : (l : List ℕ) (i : ℕ) → (getD l i 0 ≡ 0 → ⊥) → i < length l
-in-bounds l i h = go (decLt i (length l))
-  where
-    go : Dec (i < length l) → i < length l
-    go (yes p) = p
-    go (no p) = absurd (h (List·getD-eq-default l 0 (omega arith)))
 
 no-refs : (b y : ℕ) → In (suc y) (replicate b 0) → ⊥
 no-refs (suc b) y (inl e) = omega arith

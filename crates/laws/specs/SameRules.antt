@@ -7,7 +7,7 @@ use mathlib.Core.Path.{_≡_, refl, sym, ap, ap₂, subst, _∙_}
 use mathlib.Core.Logic.{_⊎_, inl, inr}
 use mathlib.Core.List.{List, [], _∷_, map}
 use mathlib.Core.Bool.{Bool, true, false, cond, not, _&&_}
-use lib.ListN.{getD, List·getD-map}
+use lib.ListN.{getD, replicate, List·getD-map}
 use lib.Dec.{eqb}
 use borrow.Author.Tests.{eq-eqb, ne-eqb, eqb-true}
 use Rattle.rules.specs.declared.Sizes.{Sizes}
@@ -23,6 +23,10 @@ use Rattle.laws.specs.GraphLaws.{Alive, Closed, Refers, Leads, itself, a
 abbrev pub renamed : (ℕ → ℕ) → ℕ → ℕ
 renamed to zero = zero
 renamed to (suc x) = suc (to x)
+
+pub renamed-zeros : (n : ℕ) (to : ℕ → ℕ) → map (renamed to) (replicate n 0) ≡ replicate n 0
+renamed-zeros zero to = refl
+renamed-zeros (suc n) to = ap (λ (l : List ℕ). 0 ∷ l) (renamed-zeros n to)
 
 -- `to` pairs the objects of g with those of h, with their homes, references and variables
 pub record Partners (to : ℕ → ℕ) (g h : Graph) : Type 0 where

@@ -6,7 +6,7 @@ use Prim.Native.Nat.{ℕ, _+_, _-_, _^_, _<_}
 use native.Mathlib.Omega.{arith}
 use lib.ListN.{length, set, length-set}
 use lib.Seq.{getD-set-same, getD-set-other}
-use Rattle.lists.specs.Members.{In, Distinct}
+use Rattle.lists.specs.Members.{In, Distinct, in-under}
 use Rattle.layout.specs.declared.Places.{Places}
 use Rattle.layout.specs.Places.{Room, markAt, markOf}
 use Rattle.layout.specs.Cells.{workAt, workOf, pageOf, placeOf}
@@ -106,10 +106,6 @@ first-or (inl (inl e)) = inl e
 first-or (inl (inr i)) = inr (inl i)
 first-or (inr j) = inr (inr j)
 
-later : {A B C : Type 0} → B ⊎ C → (A ⊎ B) ⊎ C
-later (inl i) = inl (inr i)
-later (inr j) = inr j
-
 module _ {p : Places} {r g : ℕ} {W₀ T₀ S₀ D S W T : List ℕ} {top : ℕ} (m : Marking p r g W₀ T₀ S₀ D S W T top) where
   -- an unmarked cell of r that is reached goes on the stack
   linked-marking : {x : ℕ} {W′ T′ : List ℕ} {top′ : ℕ} → IsRef p T x → Reach p r W₀ T₀ S₀ (x - 1) → Linked p r W T top x W′ T′ top′
@@ -144,10 +140,10 @@ module _ {p : Places} {r g : ℕ} {W₀ T₀ S₀ D S W T : List ℕ} {top : ℕ
             (λ j. pushed-mono (m .shaped) ref (inr l) d (m .on d j)) (first-or i);
         same-mark = λ d n.
             subst (λ (X : List ℕ). marked p X d ≡ marked p T₀ d) (sym (l .tables))
-            (mark-other-cell p T c long (l .off) d (λ e. n (inl (inl e))) ∙ m .same-mark d (λ i. n (later i)));
+            (mark-other-cell p T c long (l .off) d (λ e. n (inl (inl e))) ∙ m .same-mark d (λ i. n (in-under i)));
         same-work = λ d n.
             subst (λ (X : List ℕ). workOf X d ≡ workOf W₀ d) (sym (l .cells))
-            (getD-set-other W (workAt c) (workAt d) top 0 (λ e. n (inl (inl (omega arith)))) ∙ m .same-work d (λ i. n (later i)));
+            (getD-set-other W (workAt c) (workAt d) top 0 (λ e. n (inl (inl (omega arith)))) ∙ m .same-work d (λ i. n (in-under i)));
         done = λ d i.
             subst (λ (X : List ℕ). workOf X d ≡ g) (sym (l .cells))
             (getD-set-other W (workAt c) (workAt d) top 0 (λ e. fresh (inr (subst (λ (y : ℕ). In y D) (let z : d ≡ c = omega arith in z) i))) ∙ m .done d i);

@@ -3,8 +3,8 @@ use mathlib.Core.Path.{_≡_, sym, ap, _∙_, subst}
 use mathlib.Core.Logic.{_⊎_}
 use mathlib.Core.List.{List}
 use Prim.Native.Nat.{ℕ, _+_, _-_, _<_}
-use native.Mathlib.Decide.{ℕ-discrete}
 use native.Mathlib.Omega.{arith}
+use Rattle.lists.specs.Below.{upto}
 use Rattle.lists.specs.Members.{In}
 use Rattle.layout.specs.declared.Places.{Places}
 use Rattle.promises.specs.Whole.{IsRef}
@@ -56,13 +56,6 @@ module _ {p : Places} {r : ℕ} {W T : List ℕ} {top : ℕ} (ref : ℕ → ℕ)
 
 pub pushing-start : (p : Places) (r : ℕ) (ref : ℕ → ℕ) (n : ℕ) (W T : List ℕ) (top : ℕ) → Pushing p r ref n W T top W T top 0
 pushing-start p r ref n W T top = record { pushes = none; mono = λ d h. h; closed = λ k d h. absurd (let z : ⊥ = omega arith in z) }
-
-upto : (f : ℕ) {X : ℕ → Type 0} → ((k : ℕ) → k < f → X k) → X f → (k : ℕ) → k < f + 1 → X k
-upto f {X} below at k l = go (ℕ-discrete k f)
-  where
-    go : Dec (k ≡ f) → X k
-    go (yes e) = subst X (sym e) at
-    go (no n) = below k (omega arith)
 
 -- a turn, of the reference x that the code read
 module _ {p : Places} {r : ℕ} {ref : ℕ → ℕ} {n : ℕ} {W T : List ℕ} {top : ℕ} {W′ T′ : List ℕ} {top′ f : ℕ} (s : Shaped p W T)

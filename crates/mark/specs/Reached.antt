@@ -4,7 +4,7 @@ use mathlib.Core.Path.{_≡_, refl, sym, ap, ap₂, _∙_, subst}
 use mathlib.Core.Logic.{⊎-elim}
 use mathlib.Core.Bool.{Bool, true, false, cond}
 use mathlib.Core.List.{List}
-use Prim.Native.Nat.{ℕ, suc, _+_, _-_, _*_, _/_, _%_, _≤_, _<_}
+use Prim.Native.Nat.{ℕ, suc, _+_, _-_, _*_, _/_, _%_, _<_}
 use native.Mathlib.Omega.{arith}
 use native.Mathlib.Numerals.{one-add}
 use native.Mathlib.Nat.{div-add-mod', mod-lt}
@@ -12,9 +12,9 @@ use native.Mathlib.Decide.{ℕ-discrete, decLt}
 use lib.Dec.{eqb, leb}
 use lib.ListN.{length, getD}
 use borrow.Author.Tests.{ne-eqb, eqb-true, eqb-false, leb-false, lt-leb}
-use Rattle.lists.specs.Members.{In, in-append, in-left, in-right, getD-in}
+use Rattle.lists.specs.Members.{In, in-append, in-left, in-right, getD-in, in-place, in-bounds}
 use Rattle.rules.specs.declared.Sizes.{Sizes}
-use Rattle.rules.specs.Regions.{regionAt, threadOf, parent, join}
+use Rattle.rules.specs.Regions.{regionAt, threadOf, join}
 use Rattle.laws.specs.RegionLaws.{region-high, thread-at, parent-at, join-control, join-other, join-same}
 use Rattle.laws.specs.GraphLaws as gl
 use Rattle.laws.specs.GraphLaws.{Refers, Holds, bySlot, byOwn, byOther}
@@ -24,7 +24,7 @@ use Rattle.promises.specs.Words.{Words, Used, ownerIn, homeIn, depthIn, refCoun
 use Rattle.promises.specs.Crossing.{other, regionOf, crossTo}
 use Rattle.promises.specs.Whole.{WholeFor, IsRef}
 use Rattle.promises.specs.Slots.{Slot, region-of, slot-low, slot-cross, cross-slot, slot-field, field-slot}
-use Rattle.promises.specs.Reading.{range, cells-room, remember-room, used-home, used-owned, used-alive, alive-used, cell-low, length-refs, getD-refs, length-vars, getD-vars, inside-list, in-place}
+use Rattle.promises.specs.Reading.{range, cells-room, remember-room, used-home, used-owned, used-alive, alive-used, cell-low, length-refs, getD-refs, length-vars, getD-vars, refs-few}
 use Rattle.mark.specs.Marks.{Shaped, Leads, Leads.here, Leads.step, named, named-in, named-from}
 use Rattle.mark.specs.Holders.{varCalls, varHeld, slotCalls, slotHeld, heldCells, Holding, calls-own, calls-other, var-some, slot-some}
 
@@ -55,9 +55,6 @@ module _ (s : Sizes) (w : Words) (k : WholeFor s w) where
 
   pub cell-home : (c q : ℕ) → Used s w c → ownerIn s w (pageOf c) ≡ q → homeIn s w c ≡ q
   cell-home c q u e = used-home s w k c u ∙ e
-
-  few : (c : ℕ) → Used s w c → refCount w c ≤ 14
-  few c u = omega (arith, k .placed .formed c u .head)
 
   pub refers-field : (y x : ℕ) → Refers (graphOf s w) y x → (f : ℕ) × (f < refCount w y) × (fieldOf (w .cells) y f ≡ suc x)
   refers-field y x r =
@@ -118,10 +115,10 @@ module _ (s : Sizes) (w : Words) (k : WholeFor s w) where
 
   pub whole-shaped : Room (placesOf s) (length (w .tables)) → Shaped (placesOf s) (w .cells) (w .tables)
   whole-shaped room =
-      record { room = room; cells-long = cells-room s w k; refs-few = few; references = λ c u f l. k .placed .references c u f l }
+      record { room = room; cells-long = cells-room s w k; refs-few = refs-few s w k; references = λ c u f l. k .placed .references c u f l }
 
   -- the slot of entry i
-  entry-slot : (i : ℕ) → i < usedIn (w .remember) → Slot (placesOf s) (w .cells) (w .tables) (slotIn (w .remember) i)
+  pub entry-slot : (i : ℕ) → i < usedIn (w .remember) → Slot (placesOf s) (w .cells) (w .tables) (slotIn (w .remember) i)
   entry-slot i l =
       let e = k .placed .remember .entries .named i l in
       cross-slot (placesOf s) (w .cells) (w .tables) (slotIn (w .remember) i) (e .slot) (omega (arith, e .region, e .right))
@@ -167,8 +164,8 @@ module _ (s : Sizes) (w : Words) (k : WholeFor s w) where
       → ownerIn s w (pageOf x) ≡ r → (i : ℕ) × (i < usedIn (w .remember)) × (slotIn (w .remember) i ≡ fieldAt y f) × (slotRegionIn (s .entries) (w .remember) i ≡ r)
   enters-entry r y f x pos u out l e own =
       let q = fieldAt y f in
-      let cell : cellOf q ≡ y = omega (arith, few y u) in
-      let o = field-slot (placesOf s) (w .cells) (w .tables) y f u (omega (arith, few y u)) l in
+      let cell : cellOf q ≡ y = omega (arith, refs-few s w k y u) in
+      let o = field-slot (placesOf s) (w .cells) (w .tables) y f u (omega (arith, refs-few s w k y u)) l in
       let v = field-used y f x u l e in
       let c : crossTo (placesOf s) (w .cells) (w .tables) q ≡ r =
       slot-cross (placesOf s) (w .cells) (w .tables) q o
@@ -229,7 +226,7 @@ module _ (s : Sizes) (w : Words) (k : WholeFor s w) where
     var-held : (x l i : ℕ) → getD (varsIn s w) i 0 ≡ suc x → regionAt s t l ≡ varCalls (placesOf s) t outer i → In x (held (regionAt s t l))
     unfolding heldCells
     var-held x l i at c =
-        let b : i < s .threads * s .variables = omega (arith, inside-list (varsIn s w) i x at, length-vars s w k) in
+        let b : i < s .threads * s .variables = omega (arith, in-bounds (varsIn s w) i (λ z. omega arith), length-vars s w k) in
         let g : ℕ = regionAt s t l in
         in-left x (named (varHeld (placesOf s) (w .tables) t outer g) (s .threads * s .variables))
         (named (slotHeld (placesOf s) (w .cells) (w .remember) (w .tables) r g) (usedIn (w .remember)))
@@ -245,7 +242,7 @@ module _ (s : Sizes) (w : Words) (k : WholeFor s w) where
         let hy = used-home s w k y u in
         let n = enters-entry r y (i .0) x (region-high s t j) u (λ z. o (hy ∙ z)) (i .1) (i .2) (home-cell x r h (omega (arith, region-high s t j)) .1) in
         let b : i .0 < refCount w y = i .1 in
-        let back : cellOf (fieldAt y (i .0)) ≡ y = omega (arith, few y u) in
+        let back : cellOf (fieldAt y (i .0)) ≡ y = omega (arith, refs-few s w k y u) in
         let cell : cellOf (slotIn (w .remember) (n .0)) ≡ y = ap cellOf (n .2) ∙ back in
         let g : ℕ = regionAt s t l in
         let call : slotCalls (placesOf s) (w .remember) (w .tables) r (n .0) ≡ g = ap (λ (z : ℕ). join s r (ownerIn s w (pageOf z))) cell ∙ ap (join s r) (sym hy) ∙ e in

@@ -8,6 +8,7 @@ use Prim.Native.Nat.{ℕ, zero, suc, _+_, _-_, _*_, _%_, _≤_, _<_}
 use native.Mathlib.Decide.{decLt, ℕ-discrete}
 use native.Mathlib.Omega.{arith}
 use lib.ListN.{length, set}
+use Rattle.lists.specs.Below.{upto}
 use Rattle.layout.specs.declared.Places.{Places}
 use Rattle.layout.specs.Places.{ownerAt, usedAt, countAt, ownerOf, usedOf, countOf}
 use Rattle.promises.specs.Whole.{Partial}
@@ -80,13 +81,6 @@ fresh-filled p t g none full h =
     go x l e (no u) = omega arith
 
 -- ---- a turn of the search
-
-upto : (f : ℕ) {X : ℕ → Type 0} → ((k : ℕ) → k < f → X k) → X f → (k : ℕ) → k < f + 1 → X k
-upto f {X} below at k l = go (ℕ-discrete k f)
-  where
-    go : Dec (k ≡ f) → X k
-    go (yes e) = subst X (sym e) at
-    go (no n) = below k (omega arith)
 
 pub fresh-start : (p : Places) (t : List ℕ) (g : ℕ) → Fresh p t g 0 (p .pages)
 fresh-start p t g =

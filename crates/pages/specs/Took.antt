@@ -5,7 +5,7 @@ use mathlib.Core.List.{List}
 use Prim.Native.Nat.{ℕ, _+_, _-_, _≤_, _<_}
 use native.Mathlib.Omega.{arith}
 use lib.ListN.{length, set}
-use Rattle.lists.specs.Stores.{set-back}
+use lib.Seq.{set-getD}
 use Rattle.rules.specs.declared.Sizes.{Sizes}
 use Rattle.layout.specs.declared.Places.{Places}
 use Rattle.layout.specs.Places.{placesOf, ownerAt, usedAt, countAt, ownerOf, usedOf, countOf}
@@ -26,7 +26,7 @@ module _ (s : Sizes) (t : List ℕ) (g page : ℕ) (low : page < s .pages) (room
 
   pub taken-took : Found p t g page → Took p t g (cellOn page (usedOf p t page)) (taken p t page g)
   taken-took (inl f) =
-      let e : set t (ownerAt p page) g ≡ t = ap (set t (ownerAt p page)) (sym (f .partial .owner)) ∙ set-back t (ownerAt p page) 0 in
+      let e : set t (ownerAt p page) g ≡ t = ap (set t (ownerAt p page)) (sym (f .partial .owner)) ∙ set-getD t (ownerAt p page) 0 in
       subst (λ (l : List ℕ). Took p t g (cellOn page (usedOf p t page)) (set (set l (usedAt p page) (usedOf p t page + 1)) (countAt p g) (countOf p t g + 1))) (sym e)
       (took-own s t g page low room (f .partial .owner) (f .partial .part))
   taken-took (inr f) =

@@ -14,11 +14,11 @@ use Rattle.laws.specs.Counts.{same-free}
 use Rattle.laws.specs.SameRules.{renamed, same-target, same-objects, same-crossing}
 use Rattle.rules.specs.Rules.{Regioned, graph}
 use Rattle.layout.specs.Places.{placesOf}
-use Rattle.promises.specs.Words.{Words, cellCount, sizesIn, homeIn, varsIn, objectIn, graphOf, heapOf}
+use Rattle.promises.specs.Words.{Words, Used, cellCount, sizesIn, homeIn, varsIn, objectIn, graphOf, heapOf}
 use Rattle.promises.specs.Whole.{WholeAt, WholeFor, WholeWords}
 use Rattle.promises.specs.StandsFor.{StandsFor}
 use Rattle.lists.specs.Listed.{listed, length-listed, getD-listed, listed-past}
-use Rattle.promises.specs.Reading.{words-closed}
+use Rattle.promises.specs.Reading.{alive-used, words-closed}
 
 pub renamed-id : (l : List ℕ) → map (renamed (λ x. x)) l ≡ l
 renamed-id [] = refl
@@ -85,9 +85,16 @@ whole-words s w k =
 pub heapOf-stands : (w : Words) → WholeWords w → StandsFor (sizesIn w) w (heapOf (sizesIn w) w) (λ x. x)
 heapOf-stands w k = heap-stands (sizesIn w) w (whole-for w k)
 
--- ---- the rules say the same of the words and of the heap
-
 module _ (s : Sizes) (w : Words) (h : Regioned) (cellOf : ℕ → ℕ) (st : StandsFor s w h cellOf) where
+  -- an object that is there is in a cell that is in use
+  pub cell-alive : (x : ℕ) → Alive (graph h) x → Alive (graphOf s w) (cellOf x)
+  cell-alive x a z = a (sym (st .partners .home x a) ∙ z)
+
+  pub cell-used : (x : ℕ) → Alive (graph h) x → Used s w (cellOf x)
+  cell-used x a = alive-used s w (st .whole) (cellOf x) (cell-alive x a)
+
+  -- ---- the rules say the same of the words and of the heap
+
   pub targets-agree : (r : ℕ) → 0 < r → (x : ℕ) → Alive (graph h) x → target s (graphOf s w) r (cellOf x) ≡ target s (graph h) r x
   targets-agree = same-target s cellOf (graph h) (graphOf s w) (st .sound .closed) (words-closed s w (st .whole)) (st .partners)
 

@@ -1,7 +1,7 @@
 -- Words with one list changed, and heaps with one thing changed: the terms in which the frame lemmas speak.
 use Prim.Native.Nat.{ℕ, zero, suc}
-use mathlib.Core.Path.{_≡_, refl, ap}
-use mathlib.Core.List.{List, [], _∷_, _++_, map}
+use mathlib.Core.Path.{_≡_, refl}
+use mathlib.Core.List.{List, [], _∷_, _++_}
 use lib.ListN.{set}
 use Rattle.rules.specs.NeverFreeing.{Object}
 use Rattle.rules.specs.Rules.{Regioned}
@@ -45,8 +45,3 @@ withNew h o g = record { heap = record { depths = h .heap .depths; vars = h .hea
 pub renamed-same : (u : ℕ) → renamed (λ x. x) u ≡ u
 renamed-same zero = refl
 renamed-same (suc x) = refl
-
-pub map-set : {A B : Type 0} (f : A → B) (l : List A) (i : ℕ) (v : A) → map f (set l i v) ≡ set (map f l) i (f v)
-map-set f [] i v = refl
-map-set f (x ∷ l) zero v = refl
-map-set f (x ∷ l) (suc i) v = ap (λ k. f x ∷ k) (map-set f l i v)

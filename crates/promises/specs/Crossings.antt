@@ -4,7 +4,7 @@ use native.Mathlib.Omega.{arith}
 use native.Mathlib.Decide.{decLt, ℕ-discrete}
 use mathlib.Core.Path.{_≡_, refl, sym, ap, ap₂, subst, _∙_}
 use mathlib.Core.List.{List, [], _∷_}
-use mathlib.Core.Bool.{Bool, true, false, cond, not, _&&_}
+use mathlib.Core.Bool.{Bool, true, false, cond, not, _&&_, and-false}
 use lib.ListN.{length, getD}
 use lib.Dec.{ltb, leb, eqb}
 use borrow.Author.Tests.{lt-ltb, le-ltb, le-leb, lt-leb, eq-eqb, ne-eqb}
@@ -23,7 +23,7 @@ use Rattle.promises.specs.Crossing.{other, regionOf, crossTo}
 use Rattle.promises.specs.Whole.{WholeFor, IsRef}
 use Rattle.promises.specs.StandsFor.{StandsFor}
 use Rattle.promises.specs.Remember.{every-counted}
-use Rattle.promises.specs.Reading.{used-home, used-owned, used-alive, alive-used, length-refs, getD-refs}
+use Rattle.promises.specs.Reading.{used-home, used-owned, used-alive, alive-used, length-refs, getD-refs, refs-few}
 use Rattle.promises.specs.Agreed.{crossing-agree}
 
 sum-head : (f : ℕ → ℕ) (n : ℕ) → sum f (suc n) ≡ f 0 + sum (λ i. f (suc i)) n
@@ -41,10 +41,6 @@ cond-yes b x e = ap (λ (t : Bool). cond t x 0) e
 
 cond-no : (b : Bool) (x : ℕ) → b ≡ false → cond b x 0 ≡ 0
 cond-no b x e = ap (λ (t : Bool). cond t x 0) e
-
-and-false : (a : Bool) → (a && false) ≡ false
-and-false true = refl
-and-false false = refl
 
 -- the check's test of a crossing slot is that of the rules
 pub same-test : (o g : ℕ) → 0 < g → bit (ltb 0 (other o g)) ≡ cond (not (eqb o g) && not (eqb g 1)) 1 0
@@ -104,7 +100,7 @@ module _ (s : Sizes) (w : Words) (k : WholeFor s w) where
         ∙ sym (ap₂ (λ (a b : ℕ). cond (not (eqb a b) && not (eqb b 1)) 1 0) (used-home s w k c u) (used-home s w k y v))
 
     low : refCount w c ≤ 14
-    low = omega (arith, k .placed .formed c u .head)
+    low = refs-few s w k c u
 
     inside : c < 16 * s .pages
     inside = omega (arith, u .page)

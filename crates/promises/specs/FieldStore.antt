@@ -22,7 +22,7 @@ use Rattle.layout.specs.Cells.{headAt, headOf, workAt, workOf, fieldAt, fieldOf
 use Rattle.promises.specs.Words.{Words, InUse, Used, headIn, refCount, numCount, fieldsAt, fieldsIn}
 use Rattle.promises.specs.Whole.{WholeAt, WholeFor, IsRef, RememberWhole}
 use Rattle.promises.specs.StandsFor.{StandsFor, SameFrom}
-use Rattle.promises.specs.Reading.{alive-used}
+use Rattle.promises.specs.Agreed.{cell-used}
 use Rattle.promises.specs.Changes.{withObject}
 
 -- ---- whole
@@ -175,7 +175,7 @@ object-stands s w h cellOf st x a j v low m′ o k′ er en sound =
     cells = set (w .cells) (fieldAt (cellOf x) j) v
 
     in-use : (z : ℕ) → Alive (graph h) z → Used s w (cellOf z)
-    in-use z b = alive-used s w (st .whole) (cellOf z) (λ q. b (sym (st .partners .home z b) ∙ q))
+    in-use = cell-used s w h cellOf st
 
     other : (d : Kind) (z : ℕ) → Alive (graph h) z → (z ≡ x → ⊥) → fieldsAt d cells (cellOf z) ≡ fieldsIn d w (cellOf z)
     other d z b n = fields-elsewhere s w (st .whole) (cellOf x) j v (in-use x a) low d (cellOf z) (in-use z b) (λ e. n (st .partners .apart z x b a e))

@@ -3,22 +3,23 @@ use Prim.Native.Nat.{ℕ, zero, suc, _+_, _*_, _≤_, _<_}
 use native.Mathlib.Omega.{arith}
 use native.Mathlib.Decide.{ℕ-discrete, decLt}
 use native.Mathlib.Numerals.{add-one}
-use mathlib.Core.Path.{_≡_, refl, sym, ap, ap₂, subst, _∙_}
+use mathlib.Core.Path.{_≡_, refl, sym, ap, subst, _∙_}
 use mathlib.Core.Logic.{_⊎_, inl, inr}
 use mathlib.Core.List.{List, [], _∷_, _++_, map}
 use mathlib.Core.Bool.{Bool, cond}
-use lib.ListN.{length, getD, set, replicate, length-append, length-replicate, List·getD-append, List·getD-eq-default}
-use lib.Seq.{getD-at, ext-getD}
+use lib.ListN.{length, getD, set, replicate, length-append, List·getD-append, List·getD-eq-default}
+use lib.Seq.{getD-at}
 use lib.Dec.{eqb}
 use borrow.Author.Tests.{eq-eqb, ne-eqb}
-use Rattle.lists.specs.Members.{In}
+use Rattle.lists.specs.Members.{In, map-same, in-place}
+use Rattle.lists.specs.Zeros.{all-zero}
 use Rattle.rules.specs.declared.Sizes.{Sizes}
 use Rattle.rules.specs.NeverFreeing.{Object, noObject}
 use Rattle.rules.specs.Regions.{regions}
 use Rattle.rules.specs.Rules.{Regioned, graph}
 use Rattle.laws.specs.GraphLaws.{Alive}
 use Rattle.laws.specs.RulesLaws.{Sound}
-use Rattle.laws.specs.SameRules.{renamed}
+use Rattle.laws.specs.SameRules.{renamed, renamed-zeros}
 use Rattle.layout.specs.Places.{placesOf, varAt}
 use Rattle.layout.specs.declared.Kind.{Kind}
 use Rattle.layout.specs.declared.Kind.the-variants.{Reference, Number}
@@ -26,7 +27,8 @@ use Rattle.layout.specs.Cells.{headOf, fieldCount, firstField, headWord, kind-l
 use Rattle.promises.specs.Words.{Words, Used, fieldsAt, homeIn, graphOf}
 use Rattle.promises.specs.Whole.{WholeFor, Open}
 use Rattle.promises.specs.StandsFor.{StandsFor}
-use Rattle.promises.specs.Reading.{alive-used, used-alive, used-home, in-place, length-fields, getD-fields}
+use Rattle.promises.specs.Reading.{alive-used, used-alive, used-home, length-fields, getD-fields}
+use Rattle.promises.specs.Agreed.{cell-used}
 use Rattle.promises.specs.Changes.{withTables, withNew, withVariable}
 use Rattle.promises.specs.TakeCell.{Took, took-used, took-unused, still-used, used-split, owner-used}
 use Rattle.promises.specs.NewCell.{Blank, new-whole, depths-kept, vars-kept, fields-other}
@@ -39,23 +41,6 @@ blankObject b d = record { refs = replicate b 0; nums = replicate d 0 }
 -- the map to cells, with the new object's
 abbrev pub withCell : Regioned → (ℕ → ℕ) → ℕ → ℕ → ℕ
 withCell h to cell x = cond (eqb x (length (h .heap .objects))) cell (to x)
-
--- a list of zeros
-zero-at : (n i : ℕ) → _≡_ {A = ℕ} (getD (replicate n 0) i 0) 0
-zero-at zero i = refl
-zero-at (suc n) zero = refl
-zero-at (suc n) (suc i) = zero-at n i
-
-zeros-are : (n : ℕ) (l : List ℕ) → length l ≡ n → ((i : ℕ) → i < n → getD l i 0 ≡ 0) → l ≡ replicate n 0
-zeros-are n l e h = ext-getD 0 l (replicate n 0) (e ∙ sym (length-replicate n 0)) (λ i m. h i (omega arith) ∙ sym (zero-at n i))
-
-map-zeros : (n : ℕ) (f : ℕ → ℕ) → map (renamed f) (replicate n 0) ≡ replicate n 0
-map-zeros zero f = refl
-map-zeros (suc n) f = ap (λ (l : List ℕ). 0 ∷ l) (map-zeros n f)
-
-map-same : (f g : ℕ → ℕ) (l : List ℕ) → ((v : ℕ) → In v l → f v ≡ g v) → map f l ≡ map g l
-map-same f g [] e = refl
-map-same f g (v ∷ l) e = ap₂ (λ x xs. x ∷ xs) (e v (inl refl)) (map-same f g l (λ u i. e u (inr i)))
 
 module _ (s : Sizes) (w : Words) (h : Regioned) (to : ℕ → ℕ) (st : StandsFor s w h to) (g cell b d : ℕ) (t′ c′ : List ℕ) (took : Took (placesOf s) (w .tables) g cell t′)
     (blank : Blank (w .cells) cell (16 * b + d) c′) (few : b + d ≤ 14) (pos : 1 ≤ g) (low : g ≤ regions s) (open′ : 1 < g → Open (placesOf s) (w .tables) g) where
@@ -119,7 +104,7 @@ module _ (s : Sizes) (w : Words) (h : Regioned) (to : ℕ → ℕ) (st : StandsF
       go (inr e) = subst (λ (z : ℕ). P z (to₁ z)) (sym e) (subst (P n) (sym to-new) q)
 
   in-use : (x : ℕ) → Alive (graph h) x → Used s w (to x)
-  in-use x a = alive-used s w (st .whole) (to x) (λ z. a (sym (st .partners .home x a) ∙ z))
+  in-use = cell-used s w h to st
 
   new-used : Used s w₁ cell
   new-used = took-used s (w .tables) g cell t′ took
@@ -159,7 +144,7 @@ module _ (s : Sizes) (w : Words) (h : Regioned) (to : ℕ → ℕ) (st : StandsF
 
   fields-new : (f : Kind) (m : ℕ) → fieldCount f (headWord b d) ≡ m → fieldsAt f c′ cell ≡ replicate m 0
   fields-new f m e =
-      zeros-are m (fieldsAt f c′ cell) (length-fields s w₁ k₁ f cell new-used ∙ count)
+      all-zero (fieldsAt f c′ cell) m (length-fields s w₁ k₁ f cell new-used ∙ count)
       (λ i l. let n : i < fieldCount f (headOf c′ cell) = omega (arith, count) in
       getD-fields f w₁ cell i n ∙ blank .fields (firstField f (headOf c′ cell) + i) (kind-low f c′ cell i (k₁ .placed .formed cell new-used .head) n))
     where
@@ -182,7 +167,7 @@ module _ (s : Sizes) (w : Words) (h : Regioned) (to : ℕ → ℕ) (st : StandsF
           refs = cases (λ x y. fieldsAt Reference c′ y ≡ map (renamed to₁) (getD (h₁ .heap .objects) x noObject .refs))
               (λ x a. fields-other s w kw g cell b d t′ c′ took blank few pos low open′ Reference (to x) (in-use x a) ∙ st .partners .refs x a
               ∙ sym (ap (λ (q : Object). map (renamed to₁) (q .refs)) (object-old x (below x a)) ∙ renamed-old (graph h .refs x) (λ y i. st .sound .closed .refs x y a i)))
-              (fields-new Reference b (omega arith) ∙ sym (ap (λ (q : Object). map (renamed to₁) (q .refs)) object-new ∙ map-zeros b to₁));
+              (fields-new Reference b (omega arith) ∙ sym (ap (λ (q : Object). map (renamed to₁) (q .refs)) object-new ∙ renamed-zeros b to₁));
           vars = vars-kept s w kw g cell b d t′ c′ took blank few pos low open′ ∙ st .partners .vars
               ∙ sym (renamed-old (h .heap .vars) (λ y i. let j = in-place (h .heap .vars) (suc y) i in st .sound .closed .vars (j .0) y (j .2)));
         };

@@ -10,7 +10,7 @@ use lib.Dec.{ltb, eqb}
 use borrow.Author.Tests.{lt-ltb, le-ltb}
 use Rattle.lists.specs.Counting.{bit}
 use Rattle.lists.specs.Members.{getD-in}
-use Rattle.lists.specs.Stores.{put, drop-same}
+use Rattle.lists.specs.Stores.{put, drop-same, map-set}
 use Rattle.rules.specs.declared.Sizes.{Sizes}
 use Rattle.rules.specs.NeverFreeing.{Object, noObject}
 use Rattle.rules.specs.Graph.{crossing}
@@ -30,7 +30,7 @@ use Rattle.promises.specs.Whole.{WholeFor, IsRef}
 use Rattle.promises.specs.StandsFor.{StandsFor, SameBeyond}
 use Rattle.promises.specs.Reading.{alive-used, cells-room, remember-room, length-refs, getD-refs}
 use Rattle.promises.specs.Crossings.{ref-test, heap-entries}
-use Rattle.promises.specs.Changes.{withObject, withField, map-set}
+use Rattle.promises.specs.Changes.{withObject, withField}
 use Rattle.promises.specs.Entries.{Edited}
 use Rattle.promises.specs.Slots.{Slot, crossesTo, field-slot, slot-cross, cross-stored, cross-elsewhere, exact-of, of-exact}
 use Rattle.promises.specs.Remembering.{Remembered, NoRoom, remembered-exact, remembered-edited}

@@ -6,7 +6,7 @@ use mathlib.Core.Path.{_≡_, refl, sym, ap, ap₂, subst, _∙_}
 use mathlib.Core.List.{List}
 use lib.ListN.{length, getD, set, take, drop, length-set, length-map}
 use lib.Seq.{drop-set-add, drop-set-lt, take-set-lt, take-set-le}
-use Rattle.lists.specs.Stores.{put, past}
+use Rattle.lists.specs.Stores.{put, past, map-set}
 use Rattle.rules.specs.declared.Sizes.{Sizes}
 use Rattle.rules.specs.Rules.{Regioned, graph}
 use Rattle.laws.specs.GraphLaws.{Alive}
@@ -17,7 +17,7 @@ use Rattle.promises.specs.Words.{Words, Used, depthsAt, varsAt, depthsIn
 use Rattle.promises.specs.Whole.{WholeFor, IsRef}
 use Rattle.promises.specs.StandsFor.{StandsFor, SameBeyond}
 use Rattle.promises.specs.Reading.{tables-room, vars-room, length-vars, alive-used}
-use Rattle.promises.specs.Changes.{withTables, withVariable, map-set}
+use Rattle.promises.specs.Changes.{withTables, withVariable}
 use Rattle.promises.specs.KeptPages.{PagesKept, ref-kept, home-kept, kept-whole, still-open}
 
 -- a reference to an object that is there leads to a cell in use

@@ -6,17 +6,17 @@ use Rattle.rules.specs.declared.Sizes.{Sizes}
 use Rattle.rules.specs.declared.Command.{Command}
 use Rattle.rules.specs.declared.Answer.{Answer}
 use Rattle.rules.specs.Terms.{limits}
-use Rattle.rules.specs.NeverFreeing.{Object, depthOf, varOf, objectOf}
+use Rattle.rules.specs.NeverFreeing.{Object, depthOf, varOf}
 use Rattle.laws.specs.GraphLaws.{Alive}
 use Rattle.laws.specs.SameRules.{renamed}
 use Rattle.rules.specs.Rules as ru
 use Rattle.rules.specs.Rules.{Regioned, graph}
-use Rattle.promises.specs.Words.{Words, Used, heapOf, graphOf, depthIn, varIn, objectIn}
+use Rattle.promises.specs.Words.{Words, heapOf, depthIn, varIn}
 use Rattle.promises.specs.Whole.{WholeFor}
 use Rattle.promises.specs.StandsFor.{StandsFor}
 use Rattle.promises.specs.Promises.{Became, DidHere, Did}
-use Rattle.promises.specs.Reading.{used-alive, var-at, depth-at}
-use Rattle.promises.specs.Agreed.{home-at, object-at, heap-stands, there}
+use Rattle.promises.specs.Reading.{var-at, depth-at}
+use Rattle.promises.specs.Agreed.{home-at, object-at, heap-stands, there, cell-alive}
 use Rattle.laws.specs.LikeHeaps.{Like}
 use Rattle.laws.specs.LikeSteps.{step-like}
 
@@ -32,14 +32,11 @@ stands-like s w h cellOf st =
         home = λ x a. home-at s w (st .whole) (cellOf x) ∙ st .partners .home x a;
         apart = st .partners .apart;
         onto = λ y a. st .partners .onto y (there s w (st .whole) y a);
-        refs = λ x a. ap (λ (o : Object). o .refs) (object-at s w (st .whole) (cellOf x) (alive x a)) ∙ st .partners .refs x a;
+        refs = λ x a. ap (λ (o : Object). o .refs) (object-at s w (st .whole) (cellOf x) (cell-alive s w h cellOf st x a)) ∙ st .partners .refs x a;
         vars = st .partners .vars;
       };
-      nums = λ x a. ap (λ (o : Object). o .nums) (object-at s w (st .whole) (cellOf x) (alive x a)) ∙ sym (st .nums x a);
+      nums = λ x a. ap (λ (o : Object). o .nums) (object-at s w (st .whole) (cellOf x) (cell-alive s w h cellOf st x a)) ∙ sym (st .nums x a);
     }
-  where
-    alive : (x : ℕ) → Alive (graph h) x → Alive (graphOf s w) (cellOf x)
-    alive x a z = a (sym (st .partners .home x a) ∙ z)
 
 renamed-twice : (f g : ℕ → ℕ) (l : List ℕ) → map (renamed g) (map (renamed f) l) ≡ map (renamed (λ x. g (f x))) l
 renamed-twice f g [] = refl
@@ -108,6 +105,3 @@ module _ (s : Sizes) (w : Words) where
   pub here-var : (t a : ℕ) → t < s .threads → a < s .variables → varOf (limits s) (heapOf s w .heap) t a ≡ varIn s w t a
   unfolding heapOf
   here-var t a l m = var-at s w t a l m
-
-  pub here-object : (k : WholeFor s w) (c : ℕ) → Used s w c → objectOf (heapOf s w .heap) (suc c) ≡ objectIn w c
-  here-object k c u = object-at s w k c (used-alive s w k c u)

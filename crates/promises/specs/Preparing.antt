@@ -1,16 +1,18 @@
 -- What prepare writes stands for the unused heap.
-use Prim.Native.Nat.{ℕ, zero, suc, _+_, _-_, _*_, _/_, _≤_, _<_}
+use Prim.Native.Nat.{ℕ, suc, _+_, _-_, _*_, _/_, _≤_, _<_}
 use native.Mathlib.Omega.{arith}
 use mathlib.Core.Path.{_≡_, refl, sym, ap, subst, _∙_}
-use mathlib.Core.List.{List, _∷_, _++_, map}
-use mathlib.Core.Bool.{Bool, true, false, cond}
+use mathlib.Core.List.{List, _∷_, _++_}
+use mathlib.Core.Bool.{Bool, cond}
 use lib.ListN.{length, getD, drop, replicate, length-append, length-drop, length-replicate, getD-replicate, List·getD-append}
-use lib.Seq.{getD-take, getD-drop, length-take-le, ext-getD}
+use lib.Seq.{getD-take, getD-drop, length-take-le}
 use lib.Dec.{ltb, leb, eqb}
 use borrow.Author.Tests.{le-ltb}
 use Rattle.rules.specs.Terms.{InRange}
 use Rattle.layout.specs.Places.{varAt, ownersFrom, usedFrom, marksFrom, countsFrom, rememberWords, tablesWords, count-room, placesOf}
 use Rattle.layout.specs.Cells.{headOf, pageOf, placeOf, cellOf, wordOf}
+use Rattle.lists.specs.Tests.{cond-zero}
+use Rattle.lists.specs.Zeros.{all-zero}
 use Rattle.lists.specs.Counting.{sum-high}
 use Rattle.promises.specs.Crossing.{crossTo, other, regionOf}
 use Rattle.promises.specs.Whole.{SizesWhole, objectsOn, WholeAt}
@@ -19,7 +21,7 @@ use Rattle.rules.specs.NeverFreeing as nf
 use Rattle.rules.specs.Rules as ru
 use Rattle.laws.specs.RulesLaws.{sound-unused}
 use Rattle.laws.specs.GraphLaws.{Alive}
-use Rattle.laws.specs.SameRules.{renamed}
+use Rattle.laws.specs.SameRules.{renamed-zeros}
 use Rattle.promises.specs.Words.{Words, InUse, sizesIn, depthsIn, varsIn, graphOf, ownerIn, usedIn, depthsAt, varsAt}
 use Rattle.promises.specs.StandsFor.{StandsFor}
 use Rattle.promises.specs.Reading.{alive-used}
@@ -27,14 +29,6 @@ use Rattle.promises.specs.Promises.{LongEnough, PrepareAsked, outOfRange
 
 zeros-then : (n i : ℕ) (rest : List ℕ) → i < n → getD (replicate n 0 ++ rest) i 0 ≡ 0
 zeros-then n i rest l = List·getD-append (replicate n 0) rest 0 i (omega (arith, length-replicate {A = ℕ} n 0)) ∙ getD-replicate n i 0 0 l
-
--- a list of n elements that are all 0
-all-zero : (l : List ℕ) (n : ℕ) → length l ≡ n → ((i : ℕ) → i < n → getD l i 0 ≡ 0) → l ≡ replicate n 0
-all-zero l n e z = ext-getD 0 l (replicate n 0) (e ∙ sym (length-replicate {A = ℕ} n 0)) (λ i k. let j : i < n = omega arith in z i j ∙ sym (getD-replicate n i 0 0 j))
-
-renamed-zeros : (n : ℕ) (f : ℕ → ℕ) → map (renamed f) (replicate n 0) ≡ replicate n 0
-renamed-zeros zero f = refl
-renamed-zeros (suc n) f = ap (λ (l : List ℕ). 0 ∷ l) (renamed-zeros n f)
 
 module _ (s : Sizes) (lent w : Words) (range : InRange s) (long : LongEnough s lent) (u : Unused s lent w) where
   tw : ℕ
@@ -95,12 +89,8 @@ module _ (s : Sizes) (lent w : Words) (range : InRange s) (long : LongEnough s l
         cells = subst (λ (z : Sizes). 256 * z .pages ≤ length (w .cells)) (sym sized) (omega (arith, u .cells .long, long .cells));
       }
 
-  cond-zero : (b : Bool) (x : ℕ) → x ≡ 0 → cond b x 0 ≡ 0
-  cond-zero true x e = e
-  cond-zero false x e = refl
-
   no-objects : (g page : ℕ) → page < s .pages → objectsOn (placesOf s) (w .tables) g page ≡ 0
-  no-objects g page l = cond-zero (eqb (ownerIn s w page) g) (usedIn s w page) (used-zero page l)
+  no-objects g page l = cond-zero (eqb (ownerIn s w page) g) (usedIn s w page) 0 (used-zero page l) refl
 
   no-cross : (q : ℕ) → q < 256 * s .pages → crossTo (placesOf s) (w .cells) (w .tables) q ≡ 0
   unfolding crossTo

@@ -1,16 +1,14 @@
 -- What is read from whole words: cells in use, their fields, variables and depths; and that no reference names a cell not in use.
 use Prim.Native.Nat.{ℕ, suc, _+_, _-_, _*_, _≤_, _<_}
 use native.Mathlib.Omega.{arith}
-use native.Mathlib.Decide.{decLt}
 use mathlib.Core.Path.{_≡_, refl, sym, ap, ap₂, subst, _∙_}
-use mathlib.Core.Logic.{inl, inr}
-use mathlib.Core.List.{List, _∷_}
+use mathlib.Core.List.{List}
 use mathlib.Core.Bool.{Bool, true, false, cond, _&&_}
-use lib.ListN.{length, getD, drop, length-drop, List·getD-eq-default}
+use lib.ListN.{length, getD, drop, length-drop}
 use lib.Seq.{getD-take, getD-drop, length-take-le}
 use borrow.Author.Tests.{lt-ltb, ltb-true}
 use Rattle.lists.specs.Tests.{both-true}
-use Rattle.lists.specs.Members.{In}
+use Rattle.lists.specs.Members.{In, in-place, in-bounds}
 use Rattle.lists.specs.Products.{flat-low}
 use Rattle.rules.specs.declared.Sizes.{Sizes}
 use Rattle.rules.specs.Terms.{InRange}
@@ -21,23 +19,6 @@ use Rattle.layout.specs.Places.{placesOf, depthAt, varAt, varOf, tablesWords, r
 use Rattle.layout.specs.Cells.{fieldAt, fieldOf, fieldCount, firstField, kindAt, kind-among, pageOf}
 use Rattle.promises.specs.Words.{Words, depthIn, varIn, ownerIn, depthsIn, varsIn, headIn, refCount, fieldsIn, refsIn, homeIn, graphOf, depthsAt, homeAt, inUseAt, fieldsAt, varsAt, Used, InUse}
 use Rattle.promises.specs.Whole.{WholeFor}
-
--- ---- lists
-
--- an element of a list has a place
-pub in-place : (l : List ℕ) (v : ℕ) → In v l → (i : ℕ) × (i < length l) × (getD l i 0 ≡ v)
-in-place (x ∷ l) v (inl e) = (0, omega arith, sym e)
-in-place (x ∷ l) v (inr k) = let r = in-place l v k in (suc (r .0), omega (arith, r .1), r .2)
-
--- a place that does not hold 0 is one of the list's
-pub inside-list : (l : List ℕ) (i v : ℕ) → getD l i 0 ≡ suc v → i < length l
-inside-list l i v e = go (decLt i (length l))
-  where
-    go : Dec (i < length l) → i < length l
-    go (yes p) = p
-    go (no p) = absurd (omega (arith, List·getD-eq-default l 0 {n = i} (omega arith)))
-
--- ---- words
 
 pub getD-fields : (d : Kind) (w : Words) (c i : ℕ) → i < fieldCount d (headIn w c) → getD (fieldsIn d w c) i 0 ≡ getD (w .cells) (kindAt d (w .cells) c i) 0
 unfolding fieldsAt
@@ -147,7 +128,7 @@ module _ (s : Sizes) (w : Words) (k : WholeFor s w) where
 
   vars-alive : (i x : ℕ) → getD (varsIn s w) i 0 ≡ suc x → Alive (graphOf s w) x
   vars-alive i x e =
-      let l : i < s .threads * s .variables = omega (arith, inside-list (varsIn s w) i x e, length-vars) in
+      let l : i < s .threads * s .variables = omega (arith, in-bounds (varsIn s w) i (λ z. omega arith), length-vars) in
       let v : varOf (placesOf s) (w .tables) i ≡ suc x = sym (getD-vars s w i l) ∙ e in
       let u = k .placed .variables i l (omega arith) in
       let x′ : varOf (placesOf s) (w .tables) i - 1 ≡ x = omega arith in
@@ -166,3 +147,6 @@ module _ (s : Sizes) (w : Words) (k : WholeFor s w) where
   pub words-closed : Closed (graphOf s w)
   words-closed =
       record { below = λ c a. omega (arith, alive-used c a .page); vars = vars-alive; refs = refs-alive }
+
+  pub refs-few : (c : ℕ) → Used s w c → refCount w c ≤ 14
+  refs-few c u = omega (arith, k .placed .formed c u .head)

@@ -4,7 +4,7 @@ use native.Mathlib.Omega.{arith}
 use native.Mathlib.Numerals.{add-one}
 use mathlib.Core.Path.{_≡_, refl, sym, ap, subst, _∙_}
 use mathlib.Core.List.{List, _++_}
-use lib.ListN.{length, getD, set, take, drop, length-append, length-drop}
+use lib.ListN.{length, getD, set, take, drop, length-append, length-drop, length-map}
 use lib.Seq.{length-take-le, take-suc, drop-cons, append-snoc, set-at, take-length}
 use Rattle.rules.specs.declared.Sizes.{Sizes}
 use Rattle.rules.specs.Regions.{regions}
@@ -18,7 +18,6 @@ use Rattle.promises.specs.StandsFor.{StandsFor}
 use Rattle.report.specs.declared.Row.{Row}
 use Rattle.report.specs.declared.lent.Asked.{Asked}
 use Rattle.report.specs.Report.{noRow, rows, rowCount, ReportAsked, notWhole, short, accepted, Told}
-use Rattle.report.specs.Passing.{length-map}
 use Rattle.report.specs.Tables.{WholeTables, EveryHeap, rowIn, openIn, rowsIn, whole-tables}
 use Rattle.report.specs.Stands.{rows-stand}
 
@@ -69,7 +68,7 @@ pub record Asking (w : Words) (room : ℕ) (a : Asked) : Type 0 where
 
 rows-length : (w : Words) → length (rowsIn (placesIn (w .tables)) (w .tables)) ≡ rowCount w
 unfolding rowsIn
-rows-length w = length-map (rowIn (placesIn (w .tables)) (w .tables)) (openIn (placesIn (w .tables)) (w .tables))
+rows-length w = length-map (openIn (placesIn (w .tables)) (w .tables)) (rowIn (placesIn (w .tables)) (w .tables))
 
 three : _≡_ {A = ℕ} 3 0 → ⊥
 three e = omega arith

@@ -7,7 +7,7 @@ use mathlib.Core.Path.{_≡_, refl, sym, ap, ap₂, subst, _∙_}
 use mathlib.Core.List.{List}
 use mathlib.Core.Bool.{Bool, true, false, _||_}
 use lib.Dec.{leb, ltb}
-use lib.ListN.{length, getD}
+use lib.ListN.{length, getD, length-map}
 use borrow.Author.Tests.{ne-eqb, le-leb, lt-leb, lt-ltb}
 use Rattle.lists.specs.Counting.{bit, sum, count, sum-add, sum-blocks, sum-first, count-yes, count-to}
 use Rattle.lists.specs.Products.{flat-low, flat-row, flat-place}
@@ -19,7 +19,7 @@ use Rattle.promises.specs.Words.{words, depthsAt}
 use Rattle.promises.specs.Whole.{Open}
 use Rattle.promises.specs.Reading.{depth-at}
 use Rattle.report.specs.Report.{isOpen, openRegions, noRow}
-use Rattle.report.specs.Passing.{length-map, getD-map, passed, length-passing, passing-at}
+use Rattle.report.specs.Passing.{getD-map, passed, length-passing, passing-at}
 use Rattle.report.specs.Tables.{rowIn, openIn, rowsIn}
 
 -- ---- one after the other
@@ -175,7 +175,7 @@ module _ (s : Sizes) (depths : List ℕ) (d : 1 ≤ s .depth) (deep : (k : ℕ) 
 module _ (p : Places) (t : List ℕ) (k q : ℕ) (at : Turn (sizesOf p) (depthsAt (sizesOf p) t) k q) (l : k < length (rowsIn p t)) where
   few : k < length (openIn p t)
   unfolding rowsIn
-  few = subst (λ (n : ℕ). k < n) (length-map (rowIn p t) (openIn p t)) l
+  few = subst (λ (n : ℕ). k < n) (length-map (openIn p t) (rowIn p t)) l
 
   pub turn-high : q ≤ regions (sizesOf p)
   turn-high = turn-region (sizesOf p) (depthsAt (sizesOf p) t) k q at few

@@ -4,7 +4,7 @@ use native.Mathlib.Omega.{arith}
 use native.Mathlib.Decide.{decLt}
 use mathlib.Core.Path.{_≡_, sym, ap, subst, _∙_}
 use mathlib.Core.List.{List, map}
-use lib.ListN.{length, getD}
+use lib.ListN.{length, getD, length-map}
 use Rattle.lists.specs.Counting.{sum, sum-same, sum-more}
 use Rattle.rules.specs.Regions.{regionAt, regions}
 use Rattle.rules.specs.Graph.{objectsIn, freePages}
@@ -17,7 +17,7 @@ use Rattle.promises.specs.Agreed.{objects-agree}
 use Rattle.promises.specs.OwnedPages.{counted-objects, heap-free}
 use Rattle.pages.specs.Owned.{ownedOne}
 use Rattle.report.specs.Report.{isOpen, openRegions, rowWith, rows}
-use Rattle.report.specs.Passing.{length-map, map-passing}
+use Rattle.report.specs.Passing.{map-passing}
 use Rattle.report.specs.Opened.{Turn, rows-counted, turn-level}
 use Rattle.report.specs.Tables.{WholeTables, EveryHeap, rowIn, rowsIn, freeIn}
 
@@ -41,7 +41,7 @@ module _ (p : Places) (t : List ℕ) (k : WholeTables p t) where
   pub row-count : 1 + sum (depthOf t) (p .threads) ≡ length (rowsIn p t)
   unfolding rowsIn
   row-count =
-      sym (length-map (rowIn p t) (openRegions (sizesOf p) depths) ∙ rows-counted (sizesOf p) depths some-depth deep
+      sym (length-map (openRegions (sizesOf p) depths) (rowIn p t) ∙ rows-counted (sizesOf p) depths some-depth deep
       ∙ ap (λ (n : ℕ). 1 + n) (depths-sum (p .threads) (omega arith)))
 
   -- a thread whose levels do not reach row k is not the last

@@ -6,7 +6,7 @@ use mathlib.Core.Path.{_≡_, sym, ap, ap₂, _∙_}
 use native.Mathlib.Omega.{arith}
 use native.Mathlib.Nat.{add-zero}
 use native.Mathlib.Numerals.{add-one}
-use lib.ListN.{length, getD, drop, length-set, length-append}
+use lib.ListN.{length, getD, drop, length-set, length-append, drop-of-length-le}
 use lib.Seq.{drop-cons, paste-zero}
 use lib.Dec.{ltb}
 use borrow.Author.Tests.{lt-ltb, le-ltb}
@@ -18,7 +18,6 @@ use Rattle.script.specs.declared.Step.the-variants.{More, Ended}
 use Rattle.script.specs.declared.Filled.{Filled}
 use Rattle.script.specs.declared.Filled.the-variants.{Done, Full, Broken}
 use Rattle.script.specs.Reading.{started, stepOf}
-use Rattle.script.specs.ReadingCases.{drop-past}
 use Rattle.script.specs.Writing.{row, Put}
 use Rattle.script.specs.WritingLaws.{word-length, put-put, put-text}
 use Rattle.script.specs.Blocks.{wordsPut, filled, Took, stacked, answerLine}
@@ -47,7 +46,7 @@ length-words block n code thread a b c = simp length-set
 module _ (r : Reader) (text : List ℕ) (at : ℕ) (block : List ℕ) (n : ℕ) where
   pub fill-done : length text ≤ at → filled r (drop at text) at block n ≡ (Done r n, block)
   unfolding filled
-  fill-done h = ap (λ (l : List ℕ). filled r l at block n) (drop-past text at h)
+  fill-done h = ap (λ (l : List ℕ). filled r l at block n) (drop-of-length-le text h)
 
   module _ (h : at < length text) where
     fill-step : (x : Step) → stepOf r (getD text at 0) ≡ x → filled r (drop at text) at block n ≡ stepped x (drop (at + 1) text) (at + 1) block n

@@ -1,12 +1,11 @@
 -- The reader's definitions, case by case, as the code tells the cases apart.
-use Prim.Native.Nat.{ℕ, zero, suc, _+_, _*_, _-_, _<_, _≤_}
+use Prim.Native.Nat.{ℕ, suc, _+_, _*_, _-_, _<_, _≤_}
 use mathlib.Core.Bool.{true, false}
-use mathlib.Core.List.{List, [], _∷_}
+use mathlib.Core.List.{List}
 use mathlib.Core.Path.{_≡_, sym, ap, _∙_}
-use native.Mathlib.Omega.{arith}
 use native.Mathlib.Numerals.{add-one}
-use lib.ListN.{length, getD, drop}
-use lib.Seq.{drop-cons, drop-nil}
+use lib.ListN.{length, getD, drop, drop-of-length-le}
+use lib.Seq.{drop-cons}
 use borrow.Author.Tests.{eq-eqb, ne-eqb, lt-ltb, le-ltb, le-leb, lt-leb}
 use Rattle.script.specs.declared.Line.{Line}
 use Rattle.script.specs.declared.Line.the-variants.{Numbers, Malformed}
@@ -100,11 +99,6 @@ module _ (r : Reader) where
 
 -- ---- a buffer
 
-pub drop-past : (l : List ℕ) (n : ℕ) → length l ≤ n → drop n l ≡ []
-drop-past [] n h = drop-nil n
-drop-past (x ∷ l) zero h = absurd (let z : ⊥ = omega arith in z)
-drop-past (x ∷ l) (suc n) h = drop-past l n (omega arith)
-
 module _ (r : Reader) (text : List ℕ) (at : ℕ) where
   pub scan-more : at < length text → (s : Reader) → stepOf r (getD text at 0) ≡ More s → scanned r (drop at text) at ≡ scanned s (drop (at + 1) text) (at + 1)
   unfolding scanned
@@ -121,4 +115,4 @@ module _ (r : Reader) (text : List ℕ) (at : ℕ) where
 
   pub scan-open : length text ≤ at → scanned r (drop at text) at ≡ Open r
   unfolding scanned
-  scan-open h = ap (λ (l : List ℕ). scanned r l at) (drop-past text at h)
+  scan-open h = ap (λ (l : List ℕ). scanned r l at) (drop-of-length-le text h)

@@ -1,7 +1,7 @@
 -- Crossing slots, counted page by page, cell by cell and reference by reference.
 use Prim.Native.Nat.{ℕ, _+_, _-_, _/_, _≤_, _<_}
 use mathlib.Core.List.{List}
-use mathlib.Core.Bool.{Bool, true, false, cond}
+use mathlib.Core.Bool.{false}
 use mathlib.Core.Path.{_≡_, refl, sym, ap, subst, _∙_}
 use native.Mathlib.Omega.{arith}
 use native.Mathlib.Decide.{decLt}
@@ -9,16 +9,13 @@ use borrow.Author.Tests.{lt-ltb, le-ltb, le-leb, lt-leb, eq-eqb, ne-eqb, eqb-tru
 use lib.Dec.{ltb, leb, eqb}
 use lib.ListN.{getD}
 use Rattle.lists.specs.Counting.{count, count-positive, count-zero, count-to, sum-mono, bit}
+use Rattle.lists.specs.Tests.{cond-zero}
 use Rattle.lists.specs.Says.{Says}
 use Rattle.layout.specs.declared.Places.{Places}
 use Rattle.layout.specs.Places.{ownerOf, usedOf}
 use Rattle.layout.specs.Cells.{headAt, headOf, fieldAt, fieldOf, IsReference, pageOf, placeOf, cellOn, cellOf, wordOf}
 use Rattle.promises.specs.Crossing.{other, regionOf, crossTo, crossing}
 use Rattle.whole.specs.Cells.{page-on, place-on}
-
-cond-same : (b : Bool) → _≡_ {A = ℕ} (cond b 0 0) 0
-cond-same true = refl
-cond-same false = refl
 
 -- how many slots cross before position n
 abbrev pub crossingTo : Places → List ℕ → List ℕ → ℕ → ℕ
@@ -34,11 +31,11 @@ module _ (p : Places) (c t : List ℕ) where
   -- words 0 and 1 of a cell are no slots, nor are those after its references, nor any of a cell not in use
   low-none : (q : ℕ) → wordOf q < 2 → crossTo p c t q ≡ 0
   unfolding crossTo
-  low-none q h = rw (lt-leb 2 (wordOf q) h) (cond-same (ltb (placeOf (cellOf q)) (usedOf p t (pageOf (cellOf q)))))
+  low-none q h = rw (lt-leb 2 (wordOf q) h) (cond-zero (ltb (placeOf (cellOf q)) (usedOf p t (pageOf (cellOf q)))) 0 0 refl refl)
 
   high-none : (q k w : ℕ) → cellOf q ≡ k → wordOf q ≡ w → headOf c k / 16 + 2 ≤ w → crossTo p c t q ≡ 0
   unfolding crossTo
-  high-none q k w e f h = rw (e, f, le-ltb w (headOf c k / 16 + 2) h, cond-same (leb 2 w)) (cond-same (ltb (placeOf k) (usedOf p t (pageOf k))))
+  high-none q k w e f h = rw (e, f, le-ltb w (headOf c k / 16 + 2) h, cond-zero (leb 2 w) 0 0 refl refl) (cond-zero (ltb (placeOf k) (usedOf p t (pageOf k))) 0 0 refl refl)
 
   unused-none : (q k : ℕ) → cellOf q ≡ k → usedOf p t (pageOf k) ≤ placeOf k → crossTo p c t q ≡ 0
   unfolding crossTo

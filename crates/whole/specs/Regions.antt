@@ -1,15 +1,17 @@
 -- The objects and the partly filled pages of all regions, counted in one pass over the pages.
-use Prim.Native.Nat.{ℕ, zero, suc, _+_, _*_, _≤_, _<_}
+use Prim.Native.Nat.{ℕ, _+_, _*_, _≤_, _<_}
 use mathlib.Core.List.{List}
 use mathlib.Core.Bool.{Bool, true, false, cond}
-use mathlib.Core.Path.{_≡_, refl, sym, ap, subst, _∙_}
-use mathlib.Core.Logic.{_⊎_, ⊎-elim}
+use mathlib.Core.Path.{_≡_, sym, ap, subst, _∙_}
+use mathlib.Core.Logic.{⊎-elim}
 use native.Mathlib.Omega.{arith}
-use native.Mathlib.Nat.{not-suc-le-zero, eq-or-lt-of-le, mul-le-mul}
+use native.Mathlib.Nat.{not-suc-le-zero, mul-le-mul}
 use native.Mathlib.Decide.{ℕ-discrete, decLt}
 use borrow.Author.Tests.{eq-eqb, ne-eqb}
 use lib.ListN.{getD, length, set, replicate, length-set, length-replicate}
 use lib.Seq.{getD-set-same, getD-set-other}
+use Rattle.lists.specs.Below.{split}
+use Rattle.lists.specs.Zeros.{replicate-at}
 use Rattle.lists.specs.Says.{true-not-false}
 use Rattle.lists.specs.Counting.{sum, sum-more, sum-high}
 use Rattle.layout.specs.declared.Places.{Places}
@@ -49,26 +51,11 @@ pub tallied-none : (p : Places) (t : List ℕ) → Tallied p t (replicate 130 0)
 tallied-none p t = record {
   places = length-replicate {A = ℕ} 130 0;
   flags = length-replicate 130 false;
-  counted = λ g l m. never 130 g;
+  counted = λ g l m. replicate-at 130 g 0;
   marked = λ g a l m k. absurd (not-suc-le-zero k);
-  only = λ g e. absurd (true-not-false (sym (unset 130 g) ∙ e));
+  only = λ g e. absurd (true-not-false (sym (replicate-at 130 g false) ∙ e));
   once = λ g l a b k m. absurd (not-suc-le-zero m);
 }
-  where
-    never : (n q : ℕ) → _≡_ {A = ℕ} (getD (replicate n 0) q 0) 0
-    never zero zero = refl
-    never zero (suc q) = refl
-    never (suc n) zero = refl
-    never (suc n) (suc q) = never n q
-
-    unset : (n q : ℕ) → getD (replicate n false) q false ≡ false
-    unset zero zero = refl
-    unset zero (suc q) = refl
-    unset (suc n) zero = refl
-    unset (suc n) (suc q) = unset n q
-
-split : {k n : ℕ} → k < n + 1 → (k ≡ n) ⊎ (k < n)
-split {k} {n} l = eq-or-lt-of-le (omega arith)
 
 -- what page n adds to the objects of region g
 on-own : (p : Places) (t : List ℕ) (g n : ℕ) → ownerOf p t n ≡ g → objectsOn p t g n ≡ usedOf p t n

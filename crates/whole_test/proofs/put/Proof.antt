@@ -2,7 +2,7 @@
 use borrow.Author.Needs.{needs}
 use denote.Ref.{now}
 use mathlib.Core.Path.{sym}
-use Rattle.lists.specs.Stores.{set-past}
+use lib.Seq.{set-out}
 use Rattle.whole_test.proofs.put.Statement.{statement}
 use Rattle.whole_test.proofs.put.Tie as tie
 
@@ -19,7 +19,7 @@ returns : tie.Need-returns
 returns c = search needs
 
 returns-2 : tie.Need-returns-2
-returns-2 c = sym (set-past (now (c .before .args .words)) (c .before .args .at) (c .before .args .x) (c .if1 .left))
+returns-2 c = sym (set-out (now (c .before .args .words)) (c .before .args .at) (c .before .args .x) (c .if1 .left))
 
 pub put-spec : {M : Type 1} → statement M
 put-spec = tie.close (tie.spec mul-words slice-write-words same-length returns returns-2)
