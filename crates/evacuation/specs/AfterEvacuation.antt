@@ -18,7 +18,7 @@ use Rattle.laws.specs.SameRules.{renamed}
 use Rattle.laws.specs.RegionLaws.{region-high, thread-at, level-at}
 use Rattle.layout.specs.Places.{Room, room, placesOf, depthAt, varOf, ownerOf, usedOf, depthOf, usedIn, tablesWords, count-room}
 use Rattle.layout.specs.Cells.{fieldOf, pageOf}
-use Rattle.promises.specs.Words.{Words, words, Used, depthIn, ownerIn, graphOf}
+use Rattle.promises.specs.Words.{Words, Used, depthIn, ownerIn, graphOf}
 use Rattle.promises.specs.Whole.{WholeFor, Open}
 use Rattle.promises.specs.StandsFor.{SameFrom}
 use Rattle.promises.specs.Reading.{range, tables-room, used-home}
@@ -48,9 +48,6 @@ module _ (s : Sizes) (w : Words) (whole : WholeFor s w) (t k : ℕ) (th : t < s 
     (b : Before (placesOf s) (regionAt s t (suc k)) (s .entries) (usedIn (w .remember)) (suc k) (regionAt s t) (w₁ .cells) (w₁ .tables) (w .remember))
     (f : Finished (placesOf s) (regionAt s t (suc k)) (s .entries) (usedIn (w .remember)) (suc k) t (regionAt s t) (w₁ .cells) (w₁ .tables) (w .remember)
     (w′ .cells) (w′ .tables) (w′ .remember)) where
-  r : ℕ
-  r = regionAt s t (suc k)
-
   rm : Room (placesOf s) (length (w .tables))
   rm = room s (length (w .tables)) (range s w whole) (tables-room s w whole) fits
 

@@ -1,5 +1,5 @@
 -- Marking changes word 1 of the cells of r and the mark words alone: what else is read from the marked words is as it was.
-use mathlib.Core.Path.{_≡_, sym, _∙_, subst}
+use mathlib.Core.Path.{_≡_, sym, _∙_}
 use mathlib.Core.Logic.{_⊎_, inl, inr}
 use Prim.Native.Nat.{ℕ, _*_, _≤_, _<_}
 use native.Mathlib.Decide.{ℕ-discrete, decLt}
@@ -33,9 +33,6 @@ module _ {s : Sizes} {w w₁ : Words} {r : ℕ} (m : Marked s w r w₁) (rm : Ro
 
   pub depth-same : (u : ℕ) → u < s .threads → depthOf (w₁ .tables) u ≡ depthIn w u
   depth-same u l = table-same (depthAt u) (λ z. omega (arith, rm))
-
-  pub room-after : Room (placesOf s) (length (w₁ .tables))
-  room-after = subst (λ (n : ℕ). Room (placesOf s) n) (sym (m .tables-length)) rm
 
   -- ---- cells in use
 

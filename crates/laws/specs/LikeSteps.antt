@@ -5,7 +5,7 @@ use mathlib.Core.Bool.{Bool, cond, _||_}
 use lib.Dec.{leb, eqb}
 use Rattle.rules.specs.declared.Sizes.{Sizes}
 use Rattle.rules.specs.declared.Command.{Command}
-use Rattle.rules.specs.Terms.{Code, decode, ask, done, limits}
+use Rattle.rules.specs.Terms.{decode, ask, done, limits}
 use Rattle.rules.specs.NeverFreeing as nf
 use Rattle.rules.specs.Graph.{target, ended, objectsIn, pagesOf, newPages, freePages, crossing}
 use Rattle.laws.specs.GraphLaws.{Alive}
@@ -55,9 +55,6 @@ module _ (s : Sizes) (to : ℕ → ℕ) (h k : Regioned) (l : Like to h k) (m : 
       go (suc q) e = refused-both q (ap (λ (x : ℕ). first x (ru.room s h m (ru.after s h m))) e) (ap (λ (x : ℕ). first x (ru.room s k m (ru.after s k m))) (nf-k ∙ e))
       go zero e = done-both (ru.room s h m (ru.after s h m)) refl
         where
-          o : Code
-          o = decode (m .code)
-
           after : After s to h k l (ru.after s h m) (ru.after s k m)
           after =
               after-like s to h k l (decode (m .code)) (m .thread) (m .a) (m .b) (m .c) (state-ok (limits s) (h .heap) m e)

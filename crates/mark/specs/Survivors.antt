@@ -1,13 +1,13 @@
 -- What marking promises: word 1 of each object of the ending region is the region that it goes to by the rules, and its bit says whether
 -- it survives.
-use mathlib.Core.Path.{_≡_, refl, sym, ap, ap₂, _∙_, subst, subst₂}
+use mathlib.Core.Path.{_≡_, refl, sym, ap, _∙_, subst, subst₂}
 use mathlib.Core.Logic.{inl, inr, ⊎-elim}
 use mathlib.Core.List.{List}
-use Prim.Native.Nat.{ℕ, zero, suc, _+_, _-_, _*_, _/_, _%_, _^_, _≤_, _<_}
+use Prim.Native.Nat.{ℕ, zero, suc, _+_, _-_, _/_, _%_, _^_, _≤_, _<_}
 use native.Mathlib.Omega.{arith}
 use native.Mathlib.Decide.{ℕ-discrete, decLt}
 use lib.ListN.{length, getD}
-use Rattle.lists.specs.Bits.{bitAt, bit-lt, bit-zero, no-bits, high-none, none-high}
+use Rattle.lists.specs.Bits.{bitAt, bit-lt, bit-zero, high-none, none-high}
 use Rattle.rules.specs.declared.Sizes.{Sizes}
 use Rattle.rules.specs.Regions.{regionAt}
 use Rattle.rules.specs.Graph.{target}
@@ -42,20 +42,6 @@ pub record Marked (s : Sizes) (w : Words) (r : ℕ) (w′ : Words) : Type 0 wher
   pub remember : w′ .remember ≡ w .remember
   pub cells-length : length (w′ .cells) ≡ length (w .cells)
   pub tables-length : length (w′ .tables) ≡ length (w .tables)
-
--- the mark words of other pages are 0
-pub others-clear : (s : Sizes) (w : Words) (r : ℕ) (w′ : Words) → Marked s w r w′ → (page : ℕ) → page < s .pages → (ownerIn s w page ≡ r → ⊥) → markOf (placesOf s) (w′ .tables) page ≡ 0
-others-clear s w r w′ m page l n = no-bits (markOf (placesOf s) (w′ .tables) page) (λ i. go i (decLt i 16) (ℕ-discrete (bitAt (markOf (placesOf s) (w′ .tables) page) i) 1))
-  where
-    go : (i : ℕ) → Dec (i < 16) → Dec (bitAt (markOf (placesOf s) (w′ .tables) page) i ≡ 1) → bitAt (markOf (placesOf s) (w′ .tables) page) i ≡ 0
-    go i (no h) d = none-high 16 (markOf (placesOf s) (w′ .tables) page) i (m .small page l) (omega arith)
-    go i (yes h) (no d) = omega (arith, bit-lt i (markOf (placesOf s) (w′ .tables) page))
-    go i (yes h) (yes d) =
-        let c : ℕ = 16 * page + i in
-        let a : pageOf c ≡ page = omega arith in
-        let b : placeOf c ≡ i = omega arith in
-        let on : marked (placesOf s) (w′ .tables) c ≡ 1 = ap₂ (λ (x y : ℕ). bitAt (markOf (placesOf s) (w′ .tables) x) y) a b ∙ d in
-        absurd (n (sym (ap (ownerIn s w) a) ∙ m .only c (omega arith) on .1))
 
 -- ---- from the levels
 

@@ -1,6 +1,6 @@
 // Marking, outermost level first, so that each object goes to the outermost region called for by a holder whose chain reaches it.
 ghost use mathlib.Core.Path.{_≡_};
-ghost use Prim.Native.Nat.{ℕ, _+_, _<_, _≤_};
+ghost use Prim.Native.Nat.{ℕ, _<_, _≤_};
 ghost use Rattle.rules.specs.Regions.{regionAt};
 ghost use Rattle.layout.specs.Places.{sizesOf};
 ghost use Rattle.layout.specs.Cells.{pageOf};

@@ -1,5 +1,4 @@
 // The stack of objects to look at, threaded through word 1 of the pending cells.
-ghost use Prim.Native.Nat.{ℕ};
 ghost use Rattle.layout.specs.Cells.{fieldOf, refsOf};
 ghost use Rattle.promises.specs.Words.{InUse};
 ghost use Rattle.promises.specs.Whole.{IsRef};

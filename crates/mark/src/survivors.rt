@@ -1,6 +1,6 @@
 // The first stage of an end.
 ghost use mathlib.Core.Path.{_≡_};
-ghost use Prim.Native.Nat.{ℕ, _<_, _≤_};
+ghost use Prim.Native.Nat.{_<_, _≤_};
 ghost use Rattle.rules.specs.Regions.{regionAt};
 ghost use Rattle.layout.specs.Places.{placesOf, sizesOf, depthOf};
 ghost use Rattle.promises.specs.Words.{words};

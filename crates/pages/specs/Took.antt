@@ -1,8 +1,8 @@
 -- The cell that is taken is the one that a new object of the region takes.
 use mathlib.Core.Path.{_≡_, sym, ap, _∙_, subst}
-use mathlib.Core.Logic.{_⊎_, inl, inr}
+use mathlib.Core.Logic.{inl, inr}
 use mathlib.Core.List.{List}
-use Prim.Native.Nat.{ℕ, _+_, _-_, _≤_, _<_}
+use Prim.Native.Nat.{ℕ, _+_, _<_}
 use native.Mathlib.Omega.{arith}
 use lib.ListN.{length, set}
 use lib.Seq.{set-getD}
@@ -10,9 +10,8 @@ use Rattle.rules.specs.declared.Sizes.{Sizes}
 use Rattle.layout.specs.declared.Places.{Places}
 use Rattle.layout.specs.Places.{placesOf, ownerAt, usedAt, countAt, ownerOf, usedOf, countOf}
 use Rattle.layout.specs.Cells.{cellOn}
-use Rattle.promises.specs.Whole.{Partial}
 use Rattle.promises.specs.TakeCell.{Took, took-own, took-free}
-use Rattle.pages.specs.Pages.{Partly, Fresh, Found, taken}
+use Rattle.pages.specs.Pages.{Found, taken}
 
 module _ (s : Sizes) (t : List ℕ) (g page : ℕ) (low : page < s .pages) (room : countAt (placesOf s) g < length t)
     (free : ownerOf (placesOf s) t page ≡ 0 → usedOf (placesOf s) t page ≡ 0) where

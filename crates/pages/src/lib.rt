@@ -1,7 +1,7 @@
 // The pages of a region, and the cell that an object gets: the first unused cell of its region's partly filled page, else the first cell
 // of the highest-numbered free page.
 ghost use mathlib.Core.Path.{_≡_};
-ghost use Prim.Native.Nat.{ℕ, _+_, _*_, _^_, _<_, _≤_};
+ghost use Prim.Native.Nat.{_+_, _*_, _^_, _<_, _≤_};
 ghost use lib.ListN.{length};
 ghost use Rattle.lists.specs.Says.{Says};
 ghost use Rattle.layout.specs.Places.{Room, usedOf, countOf};

@@ -49,11 +49,6 @@ after-spoilt : (p : List ℕ) (ps : List (List ℕ)) → after spoilt p ps ≡ M
 unfolding after all-good
 after-spoilt p ps = refl
 
--- a test that is false somewhere
-not-good : (r : Reader) (p : List ℕ) (ps : List (List ℕ)) → all-good r p ps ≡ false → after r p ps ≡ Malformed
-unfolding after
-not-good r p ps e = simp e
-
 pub Small : Reader → Type 0
 Small r = r .number < 4_294_967_296
 

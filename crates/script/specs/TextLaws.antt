@@ -1,10 +1,10 @@
 -- The reader finds in every text exactly what the text says, line by line, however its bytes are cut into pieces.
-use Prim.Native.Nat.{ℕ, suc, _+_, _*_, _-_, _<_, _≤_}
+use Prim.Native.Nat.{ℕ, _+_, _*_, _-_}
 use mathlib.Core.List.{List, [], _∷_, _++_, map, flatten}
 use mathlib.Core.Bool.{Bool, true, false, cond, _&&_, and-false}
 use mathlib.Core.Path.{_≡_, refl, sym, ap, _∙_}
 use native.Mathlib.Omega.{arith}
-use lib.ListN.{length, drop, length-drop}
+use lib.ListN.{drop}
 use lib.Seq.{drop-drop}
 use lib.Dec.{eqb, ltb}
 use borrow.Author.Tests.{ne-eqb}
@@ -140,18 +140,3 @@ scan-brings (b ∷ bs) r text at e = go (stepOf r b) (λ s. scan-brings bs s tex
 -- A scan takes the next line of a piece, if one ends in it, and leaves the rest.
 pub scan-reads : (r : Reader) (text : List ℕ) (at : ℕ) → Brings (scanned r (drop at text) at) text (found r (drop at text)) (left r (drop at text))
 scan-reads r text at = scan-brings (drop at text) r text at refl
-
--- a scan that finds a line goes on by a byte at least, and stays within the buffer
-scan-bounds : (bs : List ℕ) (r : Reader) (at : ℕ) (l : Line) (n : ℕ) → scanned r bs at ≡ Found l n → (at < n) × (n ≤ at + length bs)
-unfolding scanned
-scan-bounds [] r at l n e = absurd (let z : _≡_ {A = ℕ} 0 1 = cc in let w : ⊥ = omega arith in w)
-scan-bounds (b ∷ bs) r at l n e = go (stepOf r b) (λ s. scan-bounds bs s (at + 1) l n) e
-  where
-    go : (x : Step) → ((s : Reader) → scanned s bs (at + 1) ≡ Found l n → (at + 1 < n) × (n ≤ at + 1 + length bs))
-        → elim x as (λ y. Scan) [ More s ↦ scanned s bs (at + 1) | Ended k ↦ Found k (at + 1) ] ≡ Found l n
-        → (at < n) × (n ≤ at + suc (length bs))
-    go (More s) h f = let k = h s f in omega arith
-    go (Ended k) h f = let m : at + 1 ≡ n = cc in omega arith
-
-pub scan-moves : (r : Reader) (text : List ℕ) (at : ℕ) (l : Line) (n : ℕ) → at ≤ length text → scanned r (drop at text) at ≡ Found l n → (at < n) × (n ≤ length text)
-scan-moves r text at l n h e = let k = scan-bounds (drop at text) r at l n e in omega (arith, length-drop at text)

@@ -1,5 +1,5 @@
 // Every cell in use has 01's form, its working word is zero, and its references are null or name a cell in use.
-ghost use Prim.Native.Nat.{ℕ, _+_, _*_, _<_, _≤_};
+ghost use Prim.Native.Nat.{_+_, _*_, _<_, _≤_};
 ghost use lib.ListN.{length};
 ghost use Rattle.lists.specs.Says.{Says};
 ghost use Rattle.layout.specs.Places.{Room};

@@ -1,6 +1,6 @@
 // The check that lent words are whole tables (01, "Sizes and tables"). Any words may be handed in. It only reads, looks at no word
 // past the three lengths nor at a cell that is not in use, and ends at the first word that breaks a condition.
-ghost use Prim.Native.Nat.{ℕ, _+_, _*_, _≤_};
+ghost use Prim.Native.Nat.{_+_, _*_, _≤_};
 ghost use lib.ListN.{length};
 ghost use Rattle.lists.specs.Says.{Says};
 ghost use Rattle.layout.specs.Places.{Room};

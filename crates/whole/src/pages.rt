@@ -1,6 +1,6 @@
 // Depths are at most D. A used page belongs to the control space or an open region and uses its first 1 to 16 cells, a free page uses
 // none, and the working word of a page is zero.
-ghost use Prim.Native.Nat.{ℕ, _<_};
+ghost use Prim.Native.Nat.{_<_};
 ghost use lib.ListN.{length};
 ghost use Rattle.lists.specs.Says.{Says};
 ghost use Rattle.layout.specs.Places.{Room};

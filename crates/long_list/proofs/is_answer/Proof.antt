@@ -1,5 +1,4 @@
 -- Number and value are compared in turn.
-use mathlib.Core.Path.{_≡_}
 use Rattle.long_list.specs.Repeated.{other-number, other-value, same-answer}
 use borrow.Author.Needs.{needs}
 use Rattle.long_list.proofs.is_answer.Statement.{statement}

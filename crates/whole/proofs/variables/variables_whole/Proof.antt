@@ -8,7 +8,6 @@ use Prim.Native.Nat.{ℕ, _-_, _≤_, _<_}
 use denote.Ref.{now}
 use borrow.Author.Count.{below-more}
 use native.Mathlib.Nat.{not-suc-le-zero}
-use native.Mathlib.Nat.{mul-le-mul}
 use Rattle.layout.specs.Places.{varOf}
 use Rattle.promises.specs.Whole.{IsRef}
 use Rattle.whole.proofs.variables.variables_whole.Statement.{statement}
