@@ -31,7 +31,7 @@ use Rattle.evacuate.specs.Evacuated.{cellAfter, homeAfter, finished-evacuated}
 use Rattle.evacuate.specs.RememberAfter.{finished-remember}
 use Rattle.ended.specs.Evacuated.{Evacuated, Outside, Survivor, SameObject, rewritten}
 use Rattle.ended.specs.WordsPlaced.{target-level}
-use Rattle.evacuation.specs.MarkedWords as mw
+use Rattle.evacuation.specs.MarkedWords.{depth-same, field-same, head-same, lives-how, now-used, outside-lives, owner-same, survivor-lives, table-same, var-same, was-used}
 
 -- two lists of one length with the same words from n on
 pub same-from : (n : ℕ) (l k : List ℕ) → length k ≡ length l → ((x : ℕ) → n ≤ x → getD k x 0 ≡ getD l x 0) → SameFrom n l k
@@ -90,34 +90,34 @@ module _ (s : Sizes) (w : Words) (whole : WholeFor s w) (t k : ℕ) (th : t < s 
           (ap₂ (λ (a d : Bool). cond a 0 (cond d (1 + F (suc y - 1)) (suc y))) non (eq-eqb (ownerIn s w (pageOf (suc y - 1))) (regionAt s t (suc k)) q)
           ∙ ap (λ (z : ℕ). 1 + F z) e ∙ omega arith)
       go (no n) =
-          ap suc (E .stays y (λ z. n (ap (λ (x : ℕ). ownerIn s w (pageOf x)) e ∙ sym (mw.owner-same m rm (pageOf y) (u .page)) ∙ z)))
+          ap suc (E .stays y (λ z. n (ap (λ (x : ℕ). ownerIn s w (pageOf x)) e ∙ sym (owner-same m rm (pageOf y) (u .page)) ∙ z)))
           ∙ sym (ap₂ (λ (a d : Bool). cond a 0 (cond d (1 + F (suc y - 1)) (suc y))) non (ne-eqb (ownerIn s w (pageOf (suc y - 1))) (regionAt s t (suc k)) n))
 
   object : (c : ℕ) → Lives (placesOf s) (regionAt s t (suc k)) (w₁ .tables) c
       → SameObject s w (regionAt s t (suc k)) (cellAfter (placesOf s) (regionAt s t (suc k)) (w₁ .tables) (w′ .cells)) c w′
       (cellAfter (placesOf s) (regionAt s t (suc k)) (w₁ .tables) (w′ .cells) c)
   object c v =
-      let u = mw.was-used m rm c (v .used) in
-      let h = mw.head-same m rm c in
+      let u = was-used m rm c (v .used) in
+      let h = head-same m rm c in
       let few = whole .placed .formed c u .head in
       record {
         head = E .head c v ∙ h;
         references = λ g lg.
             let lg′ : g < 14 = omega (arith, few) in
             E .slots c g v (omega (arith, ap (λ (x : ℕ). x / 16) h))
-            ∙ ap (renamed (cellAfter (placesOf s) (regionAt s t (suc k)) (w₁ .tables) (w′ .cells))) (mw.field-same m rm c g lg′)
+            ∙ ap (renamed (cellAfter (placesOf s) (regionAt s t (suc k)) (w₁ .tables) (w′ .cells))) (field-same m rm c g lg′)
             ∙ rewritten-is (fieldOf (w .cells) c g) (λ ne. whole .placed .references c u g lg (omega arith));
-        others = λ g ge lg. E .rest c g v (omega (arith, ap (λ (x : ℕ). x / 16) h)) lg ∙ mw.field-same m rm c g lg;
+        others = λ g ge lg. E .rest c g v (omega (arith, ap (λ (x : ℕ). x / 16) h)) lg ∙ field-same m rm c g lg;
         working = E .work c v;
       }
 
   -- ---- every page belongs to the control space or an open region
 
   depth-now : depthOf (w′ .tables) t ≡ k
-  depth-now = E .depth ∙ ap (λ (x : ℕ). x - 1) (mw.depth-same m rm t th ∙ deep) ∙ omega arith
+  depth-now = E .depth ∙ ap (λ (x : ℕ). x - 1) (depth-same m rm t th ∙ deep) ∙ omega arith
 
   depth-kept : (u : ℕ) → u < s .threads → u ≢ t → depthOf (w′ .tables) u ≡ depthIn w u
-  depth-kept u l n = E .before (depthAt u) (omega (arith, rm)) (λ z. n (omega arith)) ∙ mw.depth-same m rm u l
+  depth-kept u l n = E .before (depthAt u) (omega (arith, rm)) (λ z. n (omega arith)) ∙ depth-same m rm u l
 
   still-open : (g : ℕ) → g ≢ regionAt s t (suc k) → Open (placesOf s) (w .tables) g → Open (placesOf s) (w′ .tables) g
   still-open g n o =
@@ -165,18 +165,18 @@ module _ (s : Sizes) (w : Words) (whole : WholeFor s w) (t k : ℕ) (th : t < s 
       let o = E .onto (16 * q) (record { page = omega arith; place = omega (arith, ap (λ (x : ℕ). usedOf (placesOf s) (w′ .tables) x) e) }) in
       let own : ownerOf (placesOf s) (w′ .tables) q ≡ homeAfter (placesOf s) (regionAt s t (suc k)) (w₁ .cells) (w₁ .tables) (o .0) =
       ap (λ (x : ℕ). ownerOf (placesOf s) (w′ .tables) x) (sym (ap (λ (x : ℕ). x / 16) (o .2) ∙ e)) ∙ E .home (o .0) (o .1) in
-      go (o .0) own (mw.lives-how m rm (o .0) (o .1))
+      go (o .0) own (lives-how m rm (o .0) (o .1))
     where
       go : (c : ℕ) → ownerOf (placesOf s) (w′ .tables) q ≡ homeAfter (placesOf s) (regionAt s t (suc k)) (w₁ .cells) (w₁ .tables) c
           → Outside s w (regionAt s t (suc k)) c ⊎ Survivor s w (regionAt s t (suc k)) c → Open (placesOf s) (w′ .tables) (ownerOf (placesOf s) (w′ .tables) q)
       go c own (inl v) =
-          let a = mw.owner-same m rm (pageOf c) (v .used .page) in
+          let a = owner-same m rm (pageOf c) (v .used .page) in
           let z : ownerOf (placesOf s) (w′ .tables) q ≡ ownerIn s w (pageOf c) =
           own ∙ ap (λ (x : Bool). cond x (getD (w₁ .cells) (16 * c + 1) 0) (ownerOf (placesOf s) (w₁ .tables) (c / 16))) (ne-eqb (ownerOf (placesOf s) (w₁ .tables) (c / 16)) (regionAt s t (suc k)) (λ y. v .owner (sym a ∙ y))) ∙ a in
           subst (λ (x : ℕ). Open (placesOf s) (w′ .tables) x) (sym z)
           (still-open (ownerIn s w (pageOf c)) (v .owner) (whole .placed .pages (pageOf c) (v .used .page) .region (omega arith)))
       go c own (inr v) =
-          let a = mw.owner-same m rm (pageOf c) (v .used .page) in
+          let a = owner-same m rm (pageOf c) (v .used .page) in
           let z : ownerOf (placesOf s) (w′ .tables) q ≡ target s (graphOf s w) (regionAt s t (suc k)) c =
           own ∙ ap (λ (x : Bool). cond x (getD (w₁ .cells) (16 * c + 1) 0) (ownerOf (placesOf s) (w₁ .tables) (c / 16))) (eq-eqb (ownerOf (placesOf s) (w₁ .tables) (c / 16)) (regionAt s t (suc k)) (a ∙ v .owner))
           ∙ m .goes c (v .used) (v .owner) in
@@ -192,20 +192,20 @@ module _ (s : Sizes) (w : Words) (whole : WholeFor s w) (t k : ℕ) (th : t < s 
               remember = same-from (2 * s .entries + 2) (w .remember) (w′ .remember) (f .remember .size) (λ x l. f .remember .beyond x (omega arith));
               tables =
                   same-from (tablesWords s) (w .tables) (w′ .tables) (E .tables-size ∙ m .tables-length)
-                  (λ x l. E .tables-beyond x (omega (arith, count-room s)) ∙ mw.table-same m rm x (λ z. omega (arith, count-room s)));
+                  (λ x l. E .tables-beyond x (omega (arith, count-room s)) ∙ table-same m rm x (λ z. omega (arith, count-room s)));
             };
-        sizes = λ j l. E .before j (omega (arith, rm)) (λ z. omega arith) ∙ mw.table-same m rm j (λ z. omega (arith, rm));
+        sizes = λ j l. E .before j (omega (arith, rm)) (λ z. omega arith) ∙ table-same m rm j (λ z. omega (arith, rm));
         entries = f .remember .head;
         depth = depth-now;
         depths = λ u l n. depth-kept u l n;
         variables = λ i l.
-            E .vars i l ∙ ap (renamed (cellAfter (placesOf s) (regionAt s t (suc k)) (w₁ .tables) (w′ .cells))) (mw.var-same m rm i l)
+            E .vars i l ∙ ap (renamed (cellAfter (placesOf s) (regionAt s t (suc k)) (w₁ .tables) (w′ .cells))) (var-same m rm i l)
             ∙ rewritten-is (varOf (placesOf s) (w .tables) i) (λ ne. whole .placed .variables i l (omega arith));
         stayed = λ c o.
-            let v = mw.outside-lives m rm c o in
-            let n : ownerOf (placesOf s) (w₁ .tables) (c / 16) ≢ regionAt s t (suc k) = (λ z. o .owner (sym (mw.owner-same m rm (pageOf c) (o .used .page)) ∙ z)) in
+            let v = outside-lives m rm c o in
+            let n : ownerOf (placesOf s) (w₁ .tables) (c / 16) ≢ regionAt s t (suc k) = (λ z. o .owner (sym (owner-same m rm (pageOf c) (o .used .page)) ∙ z)) in
             let e = E .stays c n in
-            let a = mw.owner-same m rm (pageOf c) (o .used .page) in
+            let a = owner-same m rm (pageOf c) (o .used .page) in
             record {
               used = subst (λ (d : ℕ). Used s w′ d) e (E .goes c v);
               owner =
@@ -214,10 +214,10 @@ module _ (s : Sizes) (w : Words) (whole : WholeFor s w) (t k : ℕ) (th : t < s 
               object = subst (λ (d : ℕ). SameObject s w (regionAt s t (suc k)) (cellAfter (placesOf s) (regionAt s t (suc k)) (w₁ .tables) (w′ .cells)) c w′ d) e (object c v);
             };
         went = λ c o.
-            let v = mw.survivor-lives m rm c o in
-            let e : ownerOf (placesOf s) (w₁ .tables) (c / 16) ≡ regionAt s t (suc k) = mw.owner-same m rm (pageOf c) (o .used .page) ∙ o .owner in
+            let v = survivor-lives m rm c o in
+            let e : ownerOf (placesOf s) (w₁ .tables) (c / 16) ≡ regionAt s t (suc k) = owner-same m rm (pageOf c) (o .used .page) ∙ o .owner in
             record {
-              fresh = λ u. E .fresh c v e (mw.now-used m rm (cellAfter (placesOf s) (regionAt s t (suc k)) (w₁ .tables) (w′ .cells) c) u);
+              fresh = λ u. E .fresh c v e (now-used m rm (cellAfter (placesOf s) (regionAt s t (suc k)) (w₁ .tables) (w′ .cells) c) u);
               used = E .goes c v;
               owner =
                   E .home c v
@@ -225,8 +225,8 @@ module _ (s : Sizes) (w : Words) (whole : WholeFor s w) (t k : ℕ) (th : t < s 
                   ∙ m .goes c (o .used) (o .owner);
               object = object c v;
             };
-        apart = λ x y u v e. E .apart x y (mw.survivor-lives m rm x u) (mw.survivor-lives m rm y v) e;
-        only = λ d u. let o = E .onto d u in only′ d (o .0) (o .2) (mw.lives-how m rm (o .0) (o .1));
+        apart = λ x y u v e. E .apart x y (survivor-lives m rm x u) (survivor-lives m rm y v) e;
+        only = λ d u. let o = E .onto d u in only′ d (o .0) (o .2) (lives-how m rm (o .0) (o .1));
         pages = λ q l.
             record {
               free = E .regular .free q l;
@@ -248,6 +248,6 @@ module _ (s : Sizes) (w : Words) (whole : WholeFor s w) (t k : ℕ) (th : t < s 
       only′ : (d c : ℕ) → cellAfter (placesOf s) (regionAt s t (suc k)) (w₁ .tables) (w′ .cells) c ≡ d → Outside s w (regionAt s t (suc k)) c ⊎ Survivor s w (regionAt s t (suc k)) c
           → Outside s w (regionAt s t (suc k)) d ⊎ ((x : ℕ) × Survivor s w (regionAt s t (suc k)) x × (cellAfter (placesOf s) (regionAt s t (suc k)) (w₁ .tables) (w′ .cells) x ≡ d))
       only′ d c e (inl o) =
-          let n : ownerOf (placesOf s) (w₁ .tables) (c / 16) ≢ regionAt s t (suc k) = (λ z. o .owner (sym (mw.owner-same m rm (pageOf c) (o .used .page)) ∙ z)) in
+          let n : ownerOf (placesOf s) (w₁ .tables) (c / 16) ≢ regionAt s t (suc k) = (λ z. o .owner (sym (owner-same m rm (pageOf c) (o .used .page)) ∙ z)) in
           inl (subst (λ (x : ℕ). Outside s w (regionAt s t (suc k)) x) (sym (E .stays c n) ∙ e) o)
       only′ d c e (inr v) = inr (c, v, e)

@@ -5,23 +5,22 @@ use mathlib.Core.List.{List, _∷_}
 use Rattle.rules.specs.declared.Sizes.{Sizes}
 use Rattle.rules.specs.declared.Command.{Command}
 use Rattle.rules.specs.declared.Answer.{Answer}
-use Rattle.rules.specs.Rules as ru
-use Rattle.rules.specs.Rules.{Regioned}
+use Rattle.rules.specs.Rules.{Regioned, run, step}
 use Rattle.promises.specs.Words.{Words}
 use Rattle.promises.specs.StandsFor.{StandsFor}
 use Rattle.promises.specs.Promises.{Chain, none, more}
 
 pub record Chained (s : Sizes) (h : Regioned) (ms : List Command) (as′ : List Answer) (w′ : Words) : Type 0 where
   pub cell : ℕ → ℕ
-  pub stands : StandsFor s w′ (ru.run s h ms .last) cell
-  pub answers : as′ ≡ ru.run s h ms .answers
+  pub stands : StandsFor s w′ (run s h ms .last) cell
+  pub answers : as′ ≡ run s h ms .answers
 
 unfoldable pub chained : (s : Sizes) {w w′ : Words} {ms : List Command} {as′ : List Answer} → Chain s w ms as′ w′ → (h : Regioned) (cellOf : ℕ → ℕ) → StandsFor s w h cellOf → Chained s h ms as′ w′
-unfolding ru.run
+unfolding run
 chained s none h cellOf st = record { cell = cellOf; stands = st; answers = refl }
 chained s (more {m = m} did rest) h cellOf st =
     let b = did .next h cellOf st in
-    let r = chained s rest (ru.step s h m .next) (b .cell) (b .stands) in
+    let r = chained s rest (step s h m .next) (b .cell) (b .stands) in
     record {
       cell = r .cell;
       stands = r .stands;

@@ -17,8 +17,8 @@ use Rattle.lists.specs.Counting.{sum-high}
 use Rattle.promises.specs.Crossing.{crossTo, other, regionOf}
 use Rattle.promises.specs.Whole.{SizesWhole, objectsOn, WholeAt}
 use Rattle.rules.specs.declared.Sizes.{Sizes}
-use Rattle.rules.specs.NeverFreeing as nf
-use Rattle.rules.specs.Rules as ru
+use Rattle.rules.specs.NeverFreeing.{empty}
+use Rattle.rules.specs.Rules.{unused}
 use Rattle.laws.specs.RulesLaws.{sound-unused}
 use Rattle.laws.specs.GraphLaws.{Alive}
 use Rattle.laws.specs.SameRules.{renamed-zeros}
@@ -148,8 +148,8 @@ module _ (s : Sizes) (lent w : Words) (range : InRange s) (long : LongEnough s l
       (λ i l. getD-take (s .threads * s .variables) (drop from (w .tables)) i 0 l ∙ getD-drop from (w .tables) i 0
       ∙ table-zero (from + i) (omega arith) (omega (arith, room)))
 
-  unused-stands : StandsFor s w (ru.unused s) (λ x. x)
-  unfolding ru.unused nf.empty
+  unused-stands : StandsFor s w (unused s) (λ x. x)
+  unfolding unused empty
   unused-stands =
       record {
         whole = record { sized = sized; sizes = sizes-whole; placed = placed };
@@ -165,10 +165,10 @@ module _ (s : Sizes) (lent w : Words) (range : InRange s) (long : LongEnough s l
         nums = λ x a. absurd (a refl);
       }
 
-pub prepared-stands : (s : Sizes) (lent w : Words) → Prepared s lent 0 w → StandsFor s w (ru.unused s) (λ x. x)
+pub prepared-stands : (s : Sizes) (lent w : Words) → Prepared s lent 0 w → StandsFor s w (unused s) (λ x. x)
 prepared-stands s lent w p = go (p .asked)
   where
-    go : PrepareAsked s lent 0 → StandsFor s w (ru.unused s) (λ x. x)
+    go : PrepareAsked s lent 0 → StandsFor s w (unused s) (λ x. x)
     go (outOfRange e n) = absurd (omega arith)
     go (short e r n) = absurd (omega arith)
     go (accepted e r l) = unused-stands s lent w r l (p .unused refl)
