@@ -179,7 +179,7 @@ module _ (p : Places) (c m t : List ℕ) (r : Ready p c m t) (u : ℕ) (l : u < 
             (new-question ∙ ap (λ (x : Bool). ask x 13 0)
             (new-fits s w H (λ x. x) (heap-stands s w k) g (region-real .0) (region-real .1) (H .heap .depths) (h₁ .heap .vars) (blankObject b d) (some-found page f low))) new-after refl
             (beyond-both (new-beyond s w k g cell b d t₁ c₁ tk blank few (region-real .0) (region-real .1) region-open)
-            (variable-beyond s w₁ k₁ (place (limits s) u a) (cell + 1) (flat-low l n)))
+            (variable-beyond s w₁ k₁ (place (limits s) u a) (cell + 1) (flat-low l n))) (λ g z. z)
             (λ so. record {
               cell = withCell H (λ x. x) cell;
               stands = made-stands s w H (λ x. x) (heap-stands s w k) g cell b d t₁ c₁ tk blank few (region-real .0) (region-real .1) region-open (place (limits s) u a) (flat-low l n) so;

@@ -92,7 +92,7 @@ module _ (p : Places) (c m t : List ℕ) (r : Ready p c m t) (u a : ℕ) (l : u 
 
     pub read-done : q ≡ 0 → (v : ℕ) → v ≡ getD c (kindAt Number c (x - 1) b) 0 → Does p c m t (Read u a b) c m t (done v)
     unfolding nf.value ru.after ru.homesAfter nf.effect
-    read-done z v f = unchanged-did s w k (commandFor (Read u a b)) v (read-asked ∙ z) refl refl (heap-word Number b q g z ∙ sym f)
+    read-done z v f = unchanged-did s w k (commandFor (Read u a b)) (λ g z. z) v (read-asked ∙ z) refl refl (heap-word Number b q g z ∙ sym f)
 
   -- ---- code 9
 
@@ -127,7 +127,7 @@ module _ (p : Places) (c m t : List ℕ) (r : Ready p c m t) (u a : ℕ) (l : u 
           subst (λ (i : List ℕ). Does p c m t (Write u a b v) i m t (done 0)) (sym f)
           (did-done s w k (commandFor (Write u a b v)) (withCells w (set c (fieldAt y (refCount w y + b)) v)) h′ 0
           (question-fine s H h′ (commandFor (Write u a b v)) write-after (sym (length-set (H .heap .objects) y _)) refl (write-asked ∙ z) refl) write-after refl
-          (number-beyond s w k y b v i o)
+          (number-beyond s w k y b v i o) (λ g z. z)
           (λ so. number-stands s w H (λ i. i) (heap-stands s w k) y (back s w k y (used-alive s w k y i)) b v o so))
 
   -- ---- code 6, into variable a′
@@ -148,5 +148,5 @@ module _ (p : Places) (c m t : List ℕ) (r : Ready p c m t) (u a : ℕ) (l : u 
     load-done z v d i o h =
         let word = heap-word Reference f q g z ∙ sym d in
         subst (λ (t′ : List ℕ). Does p c m t (Load u a′ a f) c m t′ (done i)) (sym h)
-        (variable-did s w k u a′ v l n′ (commandFor (Load u a′ a f)) i (load-asked ∙ z) refl (ap (λ (j : ℕ). withVariable H (place (limits s) u a′) j) word)
+        (variable-did s w k u a′ v l n′ (commandFor (Load u a′ a f)) (λ g z. z) i (load-asked ∙ z) refl (ap (λ (j : ℕ). withVariable H (place (limits s) u a′) j) word)
         (ap (λ (j : ℕ). bit (not (eqb j 0))) word ∙ sym o))

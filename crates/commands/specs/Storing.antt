@@ -1,5 +1,5 @@
 -- Code 7 does what the rules say: a reference is stored and the remember table follows, or there is no room for an entry (14).
-use Prim.Native.Nat.{ℕ, zero, suc, _+_, _-_, _*_, _^_, _≤_, _<_}
+use Prim.Native.Nat.{ℕ, suc, _+_, _-_, _*_, _^_, _≤_, _<_}
 use native.Mathlib.Omega.{arith}
 use native.Mathlib.Decide.{ℕ-discrete}
 use mathlib.Core.Path.{_≡_, refl, sym, ap, ap₂, subst, subst₂, _∙_}
@@ -185,7 +185,7 @@ module _ (p : Places) (c m t : List ℕ) (r : Ready p c m t) (u a : ℕ) (l : u 
           did-done s w k (commandFor (Store u a f b)) (storedWords s w y f v m′) h′ 0
           (ap₂ first (store-asked ∙ z) (store-room ∙ ap (λ (i : Bool). ask i 14 0)
           (le-leb (crossing (graph h′)) (p .entries) (reference-fits s w H (λ i. i) (heap-stands s w k) y alive f v v inside (sym (renamed-same v)) sound m′ j followed zero′))))
-          store-after refl (reference-beyond s w k y f v there inside m′ j followed)
+          store-after refl (reference-beyond s w k y f v there inside m′ j followed) (λ g z. z)
           (λ so. reference-stands s w H (λ i. i) (heap-stands s w k) y alive f v v inside (sym (renamed-same v)) so m′ j followed zero′)
 
       store-full : (j ≡ 0 → ⊥) → Does p c m t (Store u a f b) c m t (refused 14)

@@ -23,7 +23,7 @@ use Rattle.promises.specs.Whole.{WholeFor}
 use Rattle.promises.specs.Promises.{DidHere}
 use Rattle.promises.specs.Agreed.{heap-stands}
 use Rattle.promises.specs.Here.{here-depth, here-var}
-use Rattle.promises.specs.Questions.{did-asked, did-done, same-beyond, question-fine}
+use Rattle.promises.specs.Questions.{FreesNone, did-asked, did-done, same-beyond, question-fine}
 use Rattle.promises.specs.Changes.{withTables, withVariable, withDepth, renamed-same}
 use Rattle.promises.specs.FrameVariable.{variable-stands, variable-beyond}
 use Rattle.promises.specs.FrameDepth.{depth-stands, depth-beyond, raised-open}
@@ -33,20 +33,20 @@ use Rattle.commands.specs.Ready.{Ready, variable, variableAt}
 use Rattle.commands.specs.Does.{Does}
 
 -- a variable gets a reference that the rules give it
-pub variable-did : (s : Sizes) (w : Words) (k : WholeFor s w) (t a v : ℕ) → t < s .threads → a < s .variables → (m : Command) (x : ℕ) → nf.question (limits s) (heapOf s w .heap) m ≡ 0
+pub variable-did : (s : Sizes) (w : Words) (k : WholeFor s w) (t a v : ℕ) → t < s .threads → a < s .variables → (m : Command) → FreesNone s w m → (x : ℕ) → nf.question (limits s) (heapOf s w .heap) m ≡ 0
     → (eqb (m .code) 2 || eqb (m .code) 7) ≡ false → ru.after s (heapOf s w) m ≡ withVariable (heapOf s w) (place (limits s) t a) v → nf.valueOf (limits s) (heapOf s w .heap) m ≡ x
     → DidHere s w m (withTables w (set (w .tables) (varAt (placesOf s) (place (limits s) t a)) v)) (done x)
-variable-did s w k t a v l n m x q e f y =
+variable-did s w k t a v l n m keeps x q e f y =
     let h = withVariable (heapOf s w) (place (limits s) t a) v in
     did-done s w k m (withTables w (set (w .tables) (varAt (placesOf s) (place (limits s) t a)) v)) h x (question-fine s (heapOf s w) h m f refl refl q e) f y
-    (variable-beyond s w k (place (limits s) t a) v (flat-low l n))
+    (variable-beyond s w k (place (limits s) t a) v (flat-low l n)) keeps
     (λ so. variable-stands s w (heapOf s w) (λ c. c) (heap-stands s w k) (place (limits s) t a) v v (flat-low l n) (sym (renamed-same v)) so)
 
 -- a command that changes nothing
-pub unchanged-did : (s : Sizes) (w : Words) (k : WholeFor s w) (m : Command) (x : ℕ) → nf.question (limits s) (heapOf s w .heap) m ≡ 0
+pub unchanged-did : (s : Sizes) (w : Words) (k : WholeFor s w) (m : Command) → FreesNone s w m → (x : ℕ) → nf.question (limits s) (heapOf s w .heap) m ≡ 0
     → (eqb (m .code) 2 || eqb (m .code) 7) ≡ false → ru.after s (heapOf s w) m ≡ heapOf s w → nf.valueOf (limits s) (heapOf s w .heap) m ≡ x → DidHere s w m w (done x)
-unchanged-did s w k m x q e f y =
-    did-done s w k m w (heapOf s w) x (question-fine s (heapOf s w) (heapOf s w) m f refl refl q e) f y (same-beyond s w) (λ so. heap-stands s w k)
+unchanged-did s w k m keeps x q e f y =
+    did-done s w k m w (heapOf s w) x (question-fine s (heapOf s w) (heapOf s w) m f refl refl q e) f y (same-beyond s w) keeps (λ so. heap-stands s w k)
 
 module _ (p : Places) (c m t : List ℕ) (r : Ready p c m t) where
   abbrev s : Sizes
@@ -85,7 +85,7 @@ module _ (p : Places) (c m t : List ℕ) (r : Ready p c m t) where
         subst (λ (z : List ℕ). Does p c m t (Start u) c m z (done 0)) (sym g)
         (did-done s w k (commandFor (Start u)) (withTables w (set t (depthAt u) (d + 1))) (withDepth H u (d + 1)) 0
         (question-fine s H (withDepth H u (d + 1)) (commandFor (Start u)) start-after refl refl (start-asked ∙ ap (λ (x : Bool). ask x 11 0) (lt-ltb d (p .depth) h)) refl)
-        start-after refl (depth-beyond s w k u (d + 1) l)
+        start-after refl (depth-beyond s w k u (d + 1) l) (λ g z. z)
         (λ so. depth-stands s w H (λ c. c) (heap-stands s w k) u (d + 1) l (omega arith) (raised-open s w k u (d + 1) l (omega (arith, e))) so))
 
   -- ---- code 4
@@ -101,7 +101,7 @@ module _ (p : Places) (c m t : List ℕ) (r : Ready p c m t) where
     unfolding nf.value ru.after ru.homesAfter nf.effect
     copy-done x e g =
         subst (λ (z : List ℕ). Does p c m t (Copy u a b v) c m z (done 0)) (sym g)
-        (variable-did s w k u a x l n (commandFor (Copy u a b v)) 0 copy-asked refl
+        (variable-did s w k u a x l n (commandFor (Copy u a b v)) (λ g z. z) 0 copy-asked refl
         (ap (λ (z : ℕ). withVariable H (place (limits s) u a) z) (here-var s w v b q o ∙ sym e)) refl)
 
   -- ---- code 5
@@ -114,7 +114,7 @@ module _ (p : Places) (c m t : List ℕ) (r : Ready p c m t) where
     pub clear-done : {t′ : List ℕ} → t′ ≡ set t (variableAt p u a) 0 → Does p c m t (Clear u a) c m t′ (done 0)
     unfolding nf.value ru.after ru.homesAfter nf.effect
     clear-done g =
-        subst (λ (z : List ℕ). Does p c m t (Clear u a) c m z (done 0)) (sym g) (variable-did s w k u a 0 l n (commandFor (Clear u a)) 0 clear-asked refl refl refl)
+        subst (λ (z : List ℕ). Does p c m t (Clear u a) c m z (done 0)) (sym g) (variable-did s w k u a 0 l n (commandFor (Clear u a)) (λ g z. z) 0 clear-asked refl refl refl)
 
   -- ---- code 10
 
@@ -128,5 +128,5 @@ module _ (p : Places) (c m t : List ℕ) (r : Ready p c m t) where
     pub same-done : (x y : ℕ) → x ≡ variable p t u a → y ≡ variable p t u b → (v : ℕ) → v ≡ bit (eqb x y) → Does p c m t (Same u a b) c m t (done v)
     unfolding nf.value ru.after ru.homesAfter nf.effect
     same-done x y e f v g =
-        unchanged-did s w k (commandFor (Same u a b)) v same-asked refl refl
+        unchanged-did s w k (commandFor (Same u a b)) (λ g z. z) v same-asked refl refl
         (ap₂ (λ (i j : ℕ). bit (eqb i j)) (here-var s w u a l n ∙ sym e) (here-var s w u b l o ∙ sym f) ∙ sym g)

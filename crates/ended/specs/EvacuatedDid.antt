@@ -14,11 +14,12 @@ use Rattle.rules.specs.Rules as ru
 use Rattle.rules.specs.Rules.{Regioned, graph}
 use Rattle.promises.specs.Words.{Words, depthIn, homeIn, heapOf}
 use Rattle.promises.specs.Whole.{WholeFor}
-use Rattle.promises.specs.Promises.{DidHere}
+use Rattle.promises.specs.Promises.{Freed, DidHere}
 use Rattle.promises.specs.Agreed.{home-at}
-use Rattle.promises.specs.Questions.{did-moved}
+use Rattle.promises.specs.Questions.{did-freed}
 use Rattle.promises.specs.OwnedPages.{pagesOwned}
 use Rattle.ended.specs.Evacuated.{Evacuated}
+use Rattle.ended.specs.EvacuatedFrees.{page-freed}
 use Rattle.ended.specs.Rewriting.{cellAfter}
 use Rattle.ended.specs.AfterEnd.{endOf, after-end}
 use Rattle.ended.specs.EvacuatedStands.{evacuated-stands}
@@ -40,10 +41,13 @@ module _ (s : Sizes) (w : Words) (whole : WholeFor s w) (t k : ℕ) (th : t < s 
           absurd (left s w whole t k th deep x (sym (ap (λ (h : Regioned). getD (h .homes) x 0) (after-end s w t k th deep)) ∙ q ∙ home-at s w whole x ∙ z))
       go (no n) = ap (λ (b : Bool). cond b (forward x) x) (ne-eqb (homeIn s w x) r n)
 
+  freed : Freed s w (endOf t) w′
+  freed = record { pages = λ page l f. page-freed s w t k w′ forward whole e page l (f ∙ ap (regionAt s t) deep) }
+
   -- where no question says no
   pub evacuated-did : ru.question s (heapOf s w) (endOf t) ≡ 0 → DidHere s w (endOf t) w′ (done 0)
   evacuated-did z =
-      did-moved s w whole (endOf t) w′ (ru.after s (heapOf s w) (endOf t)) 0 z refl (unfold nf.value in refl) (e .beyond)
+      did-freed s w whole (endOf t) w′ (ru.after s (heapOf s w) (endOf t)) 0 z refl (unfold nf.value in refl) (e .beyond) freed
       (λ so. record { cell = cellAfter s w r forward; stands = evacuated-stands s w t k w′ forward whole deep e th; stays = λ x a q. keeps-cell x q })
 
   -- so where there are pages and entries

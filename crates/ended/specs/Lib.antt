@@ -2,6 +2,8 @@
 
 -- the definition: what must be read
 pub mod Evacuated
+-- laws: r's pages are free
+pub mod EvacuatedFrees
 -- laws: they are whole, and stand for what the rules leave
 pub mod Rewriting
 pub mod InCells

@@ -68,6 +68,7 @@ did-anywhere s w m w′ a d =
     record {
       answer = λ h cellOf st. d .answer ∙ step-like s cellOf h (heapOf s w) (stands-like s w h cellOf st) m .answers;
       next = next;
+      freed = d .freed;
       refused = d .refused;
       beyond = d .beyond;
     }
@@ -94,7 +95,7 @@ did-anywhere s w m w′ a d =
 pub did-here : (s : Sizes) (w : Words) (m : Command) (w′ : Words) (a : Answer) → WholeFor s w → Did s w m w′ a → DidHere s w m w′ a
 did-here s w m w′ a k d =
     let st = heap-stands s w k in
-    record { answer = d .answer (heapOf s w) (λ c. c) st; next = d .next (heapOf s w) (λ c. c) st; refused = d .refused; beyond = d .beyond }
+    record { answer = d .answer (heapOf s w) (λ c. c) st; next = d .next (heapOf s w) (λ c. c) st; freed = d .freed; refused = d .refused; beyond = d .beyond }
 
 -- what the questions read of that heap, in words
 module _ (s : Sizes) (w : Words) where

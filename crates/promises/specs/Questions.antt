@@ -12,7 +12,7 @@ use Rattle.lists.specs.Counting.{sum-none}
 use Rattle.lists.specs.Products.{flat-low}
 use Rattle.rules.specs.declared.Sizes.{Sizes}
 use Rattle.rules.specs.declared.Command.{Command}
-use Rattle.rules.specs.Terms.{ask, refused, done, limits}
+use Rattle.rules.specs.Terms.{ask, refused, done, limits, decode}
 use Rattle.rules.specs.NeverFreeing as nf
 use Rattle.rules.specs.NeverFreeing.{Object, used, varOf, objectOf}
 use Rattle.rules.specs.Regions.{regions}
@@ -24,10 +24,10 @@ use Rattle.layout.specs.declared.Kind.{Kind}
 use Rattle.layout.specs.declared.Kind.the-variants.{Reference, Number}
 use Rattle.layout.specs.Places.{placesOf}
 use Rattle.layout.specs.Cells.{headOf, fieldCount, kindAt}
-use Rattle.promises.specs.Words.{Words, Used, heapOf, varIn, headIn, fieldsIn, objectIn}
+use Rattle.promises.specs.Words.{Words, Used, heapOf, varIn, headIn, fieldsIn, objectIn, ownerIn}
 use Rattle.promises.specs.Whole.{WholeFor, IsRef}
 use Rattle.promises.specs.StandsFor.{StandsFor, SameBeyond}
-use Rattle.promises.specs.Promises.{Became, DidHere}
+use Rattle.promises.specs.Promises.{Became, DidHere, Frees, Freed}
 use Rattle.promises.specs.Reading.{used-alive, length-fields, getD-fields}
 use Rattle.promises.specs.Agreed.{heap-stands, object-at}
 use Rattle.promises.specs.Here.{here-var}
@@ -35,6 +35,10 @@ use Rattle.promises.specs.Here.{here-var}
 pub same-beyond : (s : Sizes) (w : Words) → SameBeyond s w w
 same-beyond s w =
     record { cells = record { long = refl; rest = refl }; remember = record { long = refl; rest = refl }; tables = record { long = refl; rest = refl } }
+
+-- command m frees the pages of no region
+abbrev pub FreesNone : Sizes → Words → Command → Type 0
+FreesNone s w m = (r : ℕ) → Frees s w (decode (m .code)) (m .thread) r → ⊥
 
 module _ (s : Sizes) (w : Words) (k : WholeFor s w) (m : Command) where
   abbrev H : Regioned
@@ -49,6 +53,7 @@ module _ (s : Sizes) (w : Words) (k : WholeFor s w) (m : Command) where
         answer = sym (ap (λ (n : ℕ). ru.answered s H m n .answer) e);
         next = subst (λ (h : Regioned). Became s H (λ c. c) w h) (sym (ap (λ (n : ℕ). ru.answered s H m n .next) e))
             (record { cell = λ c. c; stands = heap-stands s w k; stays = λ x a z. refl });
+        freed = λ z. absurd (let o : ⊥ = omega arith in o);
         refused = λ n. refl;
         beyond = same-beyond s w;
       }
@@ -67,20 +72,25 @@ module _ (s : Sizes) (w : Words) (k : WholeFor s w) (m : Command) where
   module _ (w′ : Words) (h′ : Regioned) (v : ℕ) (e : ru.question s H m ≡ 0) (n : ru.after s H m ≡ h′) (f : nf.valueOf (limits s) (H .heap) m ≡ v)
       (b : SameBeyond s w w′) where
     -- all say yes; the objects whose home stays keep their cells
-    pub did-moved : (Sound h′ → Became s H (λ c. c) w′ h′) → DidHere s w m w′ (done v)
+    pub did-freed : Freed s w m w′ → (Sound h′ → Became s H (λ c. c) w′ h′) → DidHere s w m w′ (done v)
     unfolding ru.step ru.answered
-    did-moved st =
+    did-freed r st =
         let next : ru.step s H m .next ≡ h′ = ap (λ (q : ℕ). ru.answered s H m q .next) e ∙ n in
         record {
           answer = sym (ap (λ (q : ℕ). ru.answered s H m q .answer) e ∙ ap done f);
           next = subst (λ (h : Regioned). Became s H (λ c. c) w′ h) (sym next) (st (subst Sound next (no-dangling s H m (heap-stands s w k .sound))));
+          freed = λ z. r;
           refused = λ z. absurd (z refl);
           beyond = b;
         }
 
-    -- all objects keep their cells
-    pub did-done : (Sound h′ → StandsFor s w′ h′ (λ c. c)) → DidHere s w m w′ (done v)
-    did-done st = did-moved (λ so. record { cell = λ c. c; stands = st so; stays = λ x a z. refl })
+    module _ (keeps : FreesNone s w m) where
+      pub did-moved : (Sound h′ → Became s H (λ c. c) w′ h′) → DidHere s w m w′ (done v)
+      did-moved = did-freed (record { pages = λ page l f. absurd (keeps (ownerIn s w page) f) })
+
+      -- all objects keep their cells
+      pub did-done : (Sound h′ → StandsFor s w′ h′ (λ c. c)) → DidHere s w m w′ (done v)
+      did-done st = did-moved (λ so. record { cell = λ c. c; stands = st so; stays = λ x a z. refl })
 
 -- ---- questions 13 and 14
 
