@@ -9,7 +9,7 @@ use Rattle.layout.specs.declared.Places.{Places}
 use Rattle.layout.specs.Places.{sizesOf}
 use Rattle.promises.specs.Words.{words, heapOf}
 use Rattle.promises.specs.Promises.{DidHere}
-use Rattle.promises.specs.Questions.{did-asked}
+use Rattle.promises.specs.Questions.{did-answer, did-asked}
 use Rattle.commands.specs.declared.Decoded.{Decoded}
 use Rattle.commands.specs.declared.Decoded.the-variants.{End, Refused}
 use Rattle.commands.specs.declared.Obeyed.{Obeyed}
@@ -39,8 +39,8 @@ module _ (p : Places) (c m t : List ℕ) (x : Command) (d : Decoded) (g : d ≡ 
   pub ends : (u : ℕ) → d ≡ End u → Obeys p c m t x c m t (Ends u)
   ends u f = let o = means (End u) f refl in (o .command, o .within, refl)
 
-  pub not-obeyed : Ready p c m t → (q : ℕ) → d ≡ Refused q → Obeys p c m t x c m t (Answered (refused q))
-  not-obeyed r q f =
+  pub not-obeyed : Ready p c m t → (q : ℕ) → d ≡ Refused q → {a : Answer} → a ≡ refused q → Obeys p c m t x c m t (Answered a)
+  not-obeyed r q f h =
       let e = sym f ∙ g in
       let pos = refused-number (sizesOf p) x q e in
-      did-asked (sizesOf p) (words c m t) (r .whole) x q pos (decoded-refused (sizesOf p) x q e pos (heapOf (sizesOf p) (words c m t) .heap))
+      did-answer h (did-asked (sizesOf p) (words c m t) (r .whole) x q pos (decoded-refused (sizesOf p) x q e pos (heapOf (sizesOf p) (words c m t) .heap)))

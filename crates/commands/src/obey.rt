@@ -15,8 +15,8 @@ use crate::variables::copy;
 use crate::variables::same;
 use crate::variables::start;
 use layout::Places;
-use rules::Answer;
 use rules::Command;
+use rules::refused;
 
 // Every command but an end is answered here; of an end, which changes nothing yet, the thread is given.
 pub fn obey(
@@ -68,9 +68,6 @@ pub fn obey(
             c,
         )),
         Decoded::Same(t, a, b) => Obeyed::Answered(same(p, cells, remember, tables, t, a, b)),
-        Decoded::Refused(q) => Obeyed::Answered(Answer {
-            number: q,
-            value: 0,
-        }),
+        Decoded::Refused(q) => Obeyed::Answered(refused(q)),
     }
 }

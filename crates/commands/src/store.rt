@@ -18,6 +18,8 @@ use crate::variables::read_var;
 use layout::Kind;
 use layout::Places;
 use rules::Answer;
+use rules::done;
+use rules::refused;
 
 // The region that a reference x in a slot of a page crosses into, 0 where it does not cross.
 fn crosses(p: Places, tables: &[u32], page: usize, x: u32) -> u32
@@ -157,12 +159,12 @@ pub fn store(
     let x = read_var(p, tables, t, a);
     let q = field_question(Kind::Reference, cells, x, f);
     if q != 0 {
-        return Answer {
-            number: q,
-            value: 0,
-        };
+        return refused(q);
     }
     let v = read_var(p, tables, t, c);
     let number = store_slot(p, cells, remember, tables, x, f, v);
-    Answer { number, value: 0 }
+    if number != 0 {
+        return refused(number);
+    }
+    done(0)
 }

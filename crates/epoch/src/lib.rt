@@ -16,6 +16,8 @@ use layout::wide;
 use mark::survivors::mark_survivors;
 use mark::unmark::unmark;
 use rules::Answer;
+use rules::done;
+use rules::refused;
 
 pub mod needs;
 
@@ -34,10 +36,7 @@ pub fn end(
 {
     let level = wide(depth(p, tables, thread));
     if level == 0 {
-        return Answer {
-            number: 12,
-            value: 0,
-        };
+        return refused(12);
     }
     let region = region_at(p, thread, level);
     mark_survivors(p, cells, remember, tables, thread);
@@ -45,23 +44,14 @@ pub fn end(
     let free = pages::owned_pages(p, tables, 0);
     if free < needed {
         unmark(p, cells, tables);
-        return Answer {
-            number: 13,
-            value: 0,
-        };
+        return refused(13);
     }
     let crossing = count_crossing(p, cells, remember, tables, region);
     let entries = p.entries;
     if entries < crossing {
         unmark(p, cells, tables);
-        return Answer {
-            number: 14,
-            value: 0,
-        };
+        return refused(14);
     }
     evacuate(p, cells, remember, tables, thread);
-    Answer {
-        number: 0,
-        value: 0,
-    }
+    done(0)
 }

@@ -13,6 +13,7 @@ use Rattle.lists.specs.Products.{flat-low}
 use Rattle.rules.specs.declared.Sizes.{Sizes}
 use Rattle.rules.specs.declared.Command.{Command}
 use Rattle.rules.specs.Terms.{ask, refused, done, limits, decode}
+use Rattle.rules.specs.declared.Answer.{Answer}
 use Rattle.rules.specs.NeverFreeing as nf
 use Rattle.rules.specs.NeverFreeing.{Object, used, varOf, objectOf}
 use Rattle.rules.specs.Regions.{regions}
@@ -35,6 +36,10 @@ use Rattle.promises.specs.Here.{here-var}
 pub same-beyond : (s : Sizes) (w : Words) → SameBeyond s w w
 same-beyond s w =
     record { cells = record { long = refl; rest = refl }; remember = record { long = refl; rest = refl }; tables = record { long = refl; rest = refl } }
+
+-- the same answer, as the code has it
+pub did-answer : {s : Sizes} {w w′ : Words} {m : Command} {a r : Answer} → r ≡ a → DidHere s w m w′ a → DidHere s w m w′ r
+did-answer {s} {w} {w′} {m} e d = subst (DidHere s w m w′) (sym e) d
 
 -- command m frees the pages of no region
 abbrev pub FreesNone : Sizes → Words → Command → Type 0

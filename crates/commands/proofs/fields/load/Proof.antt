@@ -2,6 +2,7 @@
 use native.Mathlib.Omega.{arith}
 use mathlib.Core.Path.{sym, ap}
 use Rattle.layout.specs.declared.Kind.the-variants.{Reference}
+use Rattle.promises.specs.Questions.{did-answer}
 use Rattle.commands.specs.Ready.{placed}
 use borrow.Author.Tests.{eq-eqb, ne-eqb}
 use mathlib.Core.Bool.{Bool, not}
@@ -25,18 +26,22 @@ field-question-requires c κs =
     names-cell (args .p) (args .cells .now) (args .remember .now) (args .tables .now) (pre .0) (args .t) (args .b) (pre .1 .0) (pre .1 .2)
     (read-var .result) (read-var .ensures)
 
+refused-requires : tie.Need-refused-requires
+refused-requires c κs = search needs
+
 same-length : tie.Need-same-length
 same-length c = search needs
 
 returns : tie.Need-returns
 returns c =
-    let args = c .before .before .before .before .before .before .before .args in
-    let pre = c .before .before .before .before .before .before .before .pre in
-    let read-var = c .before .before .read-var in
-    let field-question = c .before .field-question in
-    let if1 = c .if1 in
-    load-refused (args .p) (args .cells .now) (args .remember .now) (args .tables .now) (pre .0) (args .t) (args .b) (pre .1 .0) (pre .1 .2)
-    (read-var .result) (read-var .ensures) (args .a) (pre .1 .1) (args .f) (field-question .result) (field-question .ensures) (if1 .taken)
+    let args = c .before .before .before .before .before .before .before .before .args in
+    let pre = c .before .before .before .before .before .before .before .before .pre in
+    let read-var = c .before .before .before .read-var in
+    let field-question = c .before .before .field-question in
+    let if1 = c .before .if1 in
+    did-answer (c .refused .ensures)
+    (load-refused (args .p) (args .cells .now) (args .remember .now) (args .tables .now) (pre .0) (args .t) (args .b) (pre .1 .0) (pre .1 .2)
+    (read-var .result) (read-var .ensures) (args .a) (pre .1 .1) (args .f) (field-question .result) (field-question .ensures) (if1 .taken))
 
 read-field-requires : tie.Need-read-field-requires
 read-field-requires c κs =
@@ -53,37 +58,45 @@ write-var-requires c κs =
     let pre = c .before .before .before .before .before .before .before .before .before .pre in
     ((placed (args .p) (args .cells .now) (args .remember .now) (args .tables .now) (pre .0) (omega arith)), (pre .1 .0, pre .1 .1))
 
+done-requires : tie.Need-done-requires
+done-requires c κs = search needs
+
 same-length-2 : tie.Need-same-length-2
 same-length-2 c = search needs
 
 returns-2 : tie.Need-returns-2
 returns-2 c =
-    let args = c .before .before .before .before .before .before .before .before .before .before .before .before .before .args in
-    let pre = c .before .before .before .before .before .before .before .before .before .before .before .before .before .pre in
-    let read-var = c .before .before .before .before .before .before .before .before .read-var in
-    let field-question = c .before .before .before .before .before .before .before .field-question in
-    let read-field = c .before .before .before .before .before .read-field in
-    let write-var = c .before .before .before .write-var in
-    let if2 = c .if2 in
-    load-done (args .p) (args .cells .now) (args .remember .now) (args .tables .now) (pre .0) (args .t) (args .b) (pre .1 .0) (pre .1 .2)
+    let args = c .before .before .before .before .before .before .before .before .before .before .before .before .before .before .args in
+    let pre = c .before .before .before .before .before .before .before .before .before .before .before .before .before .before .pre in
+    let read-var = c .before .before .before .before .before .before .before .before .before .read-var in
+    let field-question = c .before .before .before .before .before .before .before .before .field-question in
+    let read-field = c .before .before .before .before .before .before .read-field in
+    let write-var = c .before .before .before .before .write-var in
+    let if2 = c .before .if2 in
+    did-answer (c .done .ensures)
+    (load-done (args .p) (args .cells .now) (args .remember .now) (args .tables .now) (pre .0) (args .t) (args .b) (pre .1 .0) (pre .1 .2)
     (read-var .result) (read-var .ensures) (args .a) (pre .1 .1) (args .f) (field-question .result) (field-question .ensures) (omega arith)
-    (read-field .result) (read-field .ensures) 0 (sym (ap (λ (i : Bool). bit (not i)) (eq-eqb _ _ (if2 .taken)))) (write-var .ensures)
+    (read-field .result) (read-field .ensures) 0 (sym (ap (λ (i : Bool). bit (not i)) (eq-eqb _ _ (if2 .taken)))) (write-var .ensures))
+
+done-requires-2 : tie.Need-done-requires-2
+done-requires-2 c κs = search needs
 
 same-length-3 : tie.Need-same-length-3
 same-length-3 c = search needs
 
 returns-3 : tie.Need-returns-3
 returns-3 c =
-    let args = c .before .before .before .before .before .before .before .before .before .before .before .before .before .args in
-    let pre = c .before .before .before .before .before .before .before .before .before .before .before .before .before .pre in
-    let read-var = c .before .before .before .before .before .before .before .before .read-var in
-    let field-question = c .before .before .before .before .before .before .before .field-question in
-    let read-field = c .before .before .before .before .before .read-field in
-    let write-var = c .before .before .before .write-var in
-    let if2 = c .if2 in
-    load-done (args .p) (args .cells .now) (args .remember .now) (args .tables .now) (pre .0) (args .t) (args .b) (pre .1 .0) (pre .1 .2)
+    let args = c .before .before .before .before .before .before .before .before .before .before .before .before .before .before .args in
+    let pre = c .before .before .before .before .before .before .before .before .before .before .before .before .before .before .pre in
+    let read-var = c .before .before .before .before .before .before .before .before .before .read-var in
+    let field-question = c .before .before .before .before .before .before .before .before .field-question in
+    let read-field = c .before .before .before .before .before .before .read-field in
+    let write-var = c .before .before .before .before .write-var in
+    let if2 = c .before .if2 in
+    did-answer (c .done2 .ensures)
+    (load-done (args .p) (args .cells .now) (args .remember .now) (args .tables .now) (pre .0) (args .t) (args .b) (pre .1 .0) (pre .1 .2)
     (read-var .result) (read-var .ensures) (args .a) (pre .1 .1) (args .f) (field-question .result) (field-question .ensures) (omega arith)
-    (read-field .result) (read-field .ensures) 1 (sym (ap (λ (i : Bool). bit (not i)) (ne-eqb _ _ (if2 .left)))) (write-var .ensures)
+    (read-field .result) (read-field .ensures) 1 (sym (ap (λ (i : Bool). bit (not i)) (ne-eqb _ _ (if2 .left)))) (write-var .ensures))
 
 pub load-spec : {M : Type 1} → statement M
 load-spec =
@@ -91,11 +104,14 @@ load-spec =
     (tie.spec
     read-var-requires
     field-question-requires
+    refused-requires
     same-length
     returns
     read-field-requires
     write-var-requires
+    done-requires
     same-length-2
     returns-2
+    done-requires-2
     same-length-3
     returns-3)

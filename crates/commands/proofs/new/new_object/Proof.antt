@@ -3,6 +3,7 @@ use native.Mathlib.Omega.{arith}
 use Prim.Native.Nat.{ℕ, _+_, _*_, _<_, _≤_}
 use mathlib.Core.Path.{ap, _∙_}
 use lib.ListN.{length, set}
+use Rattle.promises.specs.Questions.{did-answer}
 use Rattle.commands.specs.Ready.{variableAt, placed, placed-still}
 use Rattle.commands.specs.Making.{region-real, region-filled, can-take, cell-inside, new-refused, new-done}
 use borrow.Author.Needs.{needs}
@@ -30,18 +31,22 @@ page-for-requires c κs =
       ),
     )
 
+refused-requires : tie.Need-refused-requires
+refused-requires c κs = search needs
+
 same-length : tie.Need-same-length
 same-length c = search needs
 
 returns : tie.Need-returns
 returns c =
-    let args = c .before .before .before .before .before .before .before .before .before .args in
-    let pre = c .before .before .before .before .before .before .before .before .before .pre in
-    let innermost = c .before .before .before .before .innermost in
-    let page-for = c .before .before .page-for in
-    let if1 = c .if1 in
-    new-refused (args .p) (args .cells .now) (args .remember .now) (args .tables .now) (pre .0) (args .t) (pre .1 .0) (innermost .result)
-    (innermost .ensures) (args .a) (args .b) (args .c) (pre .1 .1) (pre .1 .2) (page-for .result) (page-for .ensures) (if1 .taken)
+    let args = c .before .before .before .before .before .before .before .before .before .before .args in
+    let pre = c .before .before .before .before .before .before .before .before .before .before .pre in
+    let innermost = c .before .before .before .before .before .innermost in
+    let page-for = c .before .before .before .page-for in
+    let if1 = c .before .if1 in
+    did-answer (c .refused .ensures)
+    (new-refused (args .p) (args .cells .now) (args .remember .now) (args .tables .now) (pre .0) (args .t) (pre .1 .0) (innermost .result)
+    (innermost .ensures) (args .a) (args .b) (args .c) (pre .1 .1) (pre .1 .2) (page-for .result) (page-for .ensures) (if1 .taken))
 
 take-cell-requires : tie.Need-take-cell-requires
 take-cell-requires c κs =
@@ -87,6 +92,9 @@ write-var-requires c κs =
       (pre .1 .0, pre .1 .1),
     )
 
+done-requires : tie.Need-done-requires
+done-requires c κs = search needs
+
 same-length-2 : tie.Need-same-length-2
 same-length-2 c = search needs
 
@@ -95,16 +103,18 @@ same-length-3 c = search needs
 
 returns-2 : tie.Need-returns-2
 returns-2 c =
-    let args = c .before .before .before .before .before .before .before .before .before .before .before .before .before .before .before .before .before .before .before .before .before .before .args in
-    let pre = c .before .before .before .before .before .before .before .before .before .before .before .before .before .before .before .before .before .before .before .before .before .before .pre in
-    let innermost = c .before .before .before .before .before .before .before .before .before .before .before .before .before .before .before .before .before .innermost in
-    let page-for = c .before .before .before .before .before .before .before .before .before .before .before .before .before .before .before .page-for in
-    let take-cell = c .before .before .before .before .before .before .before .before .before .before .before .take-cell in
-    let blank = c .before .before .before .before .before .before .before .blank in
-    let write-var = c .before .before .write-var in
-    new-done (args .p) (args .cells .now) (args .remember .now) (args .tables .now) (pre .0) (args .t) (pre .1 .0) (innermost .result)
-    (innermost .ensures) (args .a) (args .b) (args .c) (pre .1 .1) (pre .1 .2) (page-for .result) (page-for .ensures) (omega arith)
-    (take-cell .result) (take-cell .ensures .0) (take-cell .last .1 .0) (take-cell .ensures .1) (blank .last .0) (blank .ensures) (write-var .ensures ∙ ap (λ (x : ℕ). set (take-cell .last .1 .0) (variableAt (args .p) (args .t) (args .a)) x) (c .before .before .before .ref-to .ensures))
+    let args = c .before .before .before .before .before .before .before .before .before .before .before .before .before .before .before .before .before .before .before .before .before .before .before .args in
+    let pre = c .before .before .before .before .before .before .before .before .before .before .before .before .before .before .before .before .before .before .before .before .before .before .before .pre in
+    let innermost = c .before .before .before .before .before .before .before .before .before .before .before .before .before .before .before .before .before .before .innermost in
+    let page-for = c .before .before .before .before .before .before .before .before .before .before .before .before .before .before .before .before .page-for in
+    let if1 = c .before .before .before .before .before .before .before .before .before .before .before .before .before .before .if1 in
+    let take-cell = c .before .before .before .before .before .before .before .before .before .before .before .before .take-cell in
+    let blank = c .before .before .before .before .before .before .before .before .blank in
+    let write-var = c .before .before .before .write-var in
+    did-answer (c .done .ensures)
+    (new-done (args .p) (args .cells .now) (args .remember .now) (args .tables .now) (pre .0) (args .t) (pre .1 .0) (innermost .result)
+    (innermost .ensures) (args .a) (args .b) (args .c) (pre .1 .1) (pre .1 .2) (page-for .result) (page-for .ensures) (omega (arith, if1 .left))
+    (take-cell .result) (take-cell .ensures .0) (take-cell .last .1 .0) (take-cell .ensures .1) (blank .last .0) (blank .ensures) (write-var .ensures ∙ ap (λ (x : ℕ). set (take-cell .last .1 .0) (variableAt (args .p) (args .t) (args .a)) x) (c .before .before .before .before .ref-to .ensures)))
 
 pub new-object-spec : {M : Type 1} → statement M
 new-object-spec =
@@ -112,12 +122,14 @@ new-object-spec =
     (tie.spec
     innermost-requires
     page-for-requires
+    refused-requires
     same-length
     returns
     take-cell-requires
     blank-requires
     ref-to-requires
     write-var-requires
+    done-requires
     same-length-2
     same-length-3
     returns-2)

@@ -141,6 +141,9 @@ same-requires c κs =
 enum-known-d-11 : tie.Need-enum-known-d-11
 enum-known-d-11 c = search needs
 
+refused-requires : tie.Need-refused-requires
+refused-requires c κs = search needs
+
 same-length : tie.Need-same-length
 same-length c = search needs
 
@@ -313,12 +316,12 @@ returns-10 c =
 
 returns-11 : tie.Need-returns-11
 returns-11 c =
-    let args = c .before .before .before .before .before .before .before .args in
-    let pre = c .before .before .before .before .before .before .before .pre in
-    let decode = c .before .before .before .decode in
-    let d11 = c .before .d11 in
+    let args = c .before .before .before .before .before .before .before .before .args in
+    let pre = c .before .before .before .before .before .before .before .before .pre in
+    let decode = c .before .before .before .before .decode in
+    let d11 = c .before .before .d11 in
     not-obeyed (args .p) (args .cells .now) (args .remember .now) (args .tables .now) (args .m) (decode .result) (decode .ensures) pre
-    (d11 .given .0 .0) (d11 .given .1)
+    (d11 .given .0 .0) (d11 .given .1) (c .refused .ensures)
 
 pub obey-spec : {M : Type 1} → statement M
 obey-spec =
@@ -345,6 +348,7 @@ obey-spec =
     enum-known-d-10
     same-requires
     enum-known-d-11
+    refused-requires
     same-length
     same-length-2
     same-length-3

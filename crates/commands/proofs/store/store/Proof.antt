@@ -1,5 +1,8 @@
 -- Questions 9 and 10, then the store and question 14.
 use native.Mathlib.Omega.{arith}
+use mathlib.Core.Path.{_≡_, ap, _∙_}
+use Rattle.rules.specs.Terms.{refused}
+use Rattle.promises.specs.Questions.{did-answer}
 use Rattle.commands.specs.Ready.{placed}
 use Rattle.commands.specs.Objects.{names-cell}
 use Rattle.commands.specs.Storing.{storing, store-refused, store-did}
@@ -21,18 +24,22 @@ field-question-requires c κs =
     names-cell (args .p) (args .cells .now) (args .remember .now) (args .tables .now) (pre .0) (args .t) (args .a) (pre .1 .0) (pre .1 .1)
     (read-var .result) (read-var .ensures)
 
+refused-requires : tie.Need-refused-requires
+refused-requires c κs = search needs
+
 same-length : tie.Need-same-length
 same-length c = search needs
 
 returns : tie.Need-returns
 returns c =
-    let args = c .before .before .before .before .before .before .before .args in
-    let pre = c .before .before .before .before .before .before .before .pre in
-    let read-var = c .before .before .before .read-var in
-    let field-question = c .before .field-question in
-    let if1 = c .if1 in
-    store-refused (args .p) (args .cells .now) (args .remember .now) (args .tables .now) (pre .0) (args .t) (args .a) (pre .1 .0) (pre .1 .1)
-    (read-var .result) (read-var .ensures) (args .c) (pre .1 .2) (args .f) (field-question .result) (field-question .ensures) (if1 .taken)
+    let args = c .before .before .before .before .before .before .before .before .args in
+    let pre = c .before .before .before .before .before .before .before .before .pre in
+    let read-var = c .before .before .before .before .read-var in
+    let field-question = c .before .before .field-question in
+    let if1 = c .before .if1 in
+    did-answer (c .refused .ensures)
+    (store-refused (args .p) (args .cells .now) (args .remember .now) (args .tables .now) (pre .0) (args .t) (args .a) (pre .1 .0) (pre .1 .1)
+    (read-var .result) (read-var .ensures) (args .c) (pre .1 .2) (args .f) (field-question .result) (field-question .ensures) (if1 .taken))
 
 read-var-requires-2 : tie.Need-read-var-requires-2
 read-var-requires-2 c κs =
@@ -50,6 +57,9 @@ store-slot-requires c κs =
     (read-var .result) (read-var .ensures) (args .c) (pre .1 .2) (args .f) (field-question .result) (field-question .ensures) (omega arith)
     (omega arith)
 
+refused-requires-2 : tie.Need-refused-requires-2
+refused-requires-2 c κs = search needs
+
 same-length-2 : tie.Need-same-length-2
 same-length-2 c = search needs
 
@@ -58,15 +68,39 @@ same-length-3 c = search needs
 
 returns-2 : tie.Need-returns-2
 returns-2 c =
-    let args = c .before .before .before .before .before .before .before .before .before .before .before .before .before .before .before .args in
-    let pre = c .before .before .before .before .before .before .before .before .before .before .before .before .before .before .before .pre in
-    let read-var = c .before .before .before .before .before .before .before .before .before .before .before .read-var in
-    let field-question = c .before .before .before .before .before .before .before .before .before .field-question in
-    let read-var2 = c .before .before .before .before .before .before .before .read-var2 in
-    let store-slot = c .before .before .before .before .store-slot in
-    store-did (args .p) (args .cells .now) (args .remember .now) (args .tables .now) (pre .0) (args .t) (args .a) (pre .1 .0) (pre .1 .1)
+    let args = c .before .before .before .before .before .before .before .before .before .before .before .before .before .before .before .before .before .args in
+    let pre = c .before .before .before .before .before .before .before .before .before .before .before .before .before .before .before .before .before .pre in
+    let read-var = c .before .before .before .before .before .before .before .before .before .before .before .before .before .read-var in
+    let field-question = c .before .before .before .before .before .before .before .before .before .before .before .field-question in
+    let read-var2 = c .before .before .before .before .before .before .before .before .before .read-var2 in
+    let store-slot = c .before .before .before .before .before .before .store-slot in
+    did-answer (c .refused2 .ensures)
+    (store-did (args .p) (args .cells .now) (args .remember .now) (args .tables .now) (pre .0) (args .t) (args .a) (pre .1 .0) (pre .1 .1)
     (read-var .result) (read-var .ensures) (args .c) (pre .1 .2) (args .f) (field-question .result) (field-question .ensures) (omega arith)
-    (read-var2 .result) (read-var2 .ensures) _ _ (store-slot .result) (store-slot .ensures)
+    (read-var2 .result) (read-var2 .ensures) _ _ (store-slot .result) (store-slot .ensures))
+
+done-requires : tie.Need-done-requires
+done-requires c κs = search needs
+
+same-length-4 : tie.Need-same-length-4
+same-length-4 c = search needs
+
+same-length-5 : tie.Need-same-length-5
+same-length-5 c = search needs
+
+returns-3 : tie.Need-returns-3
+returns-3 c =
+    let args = c .before .before .before .before .before .before .before .before .before .before .before .before .before .before .before .before .before .args in
+    let pre = c .before .before .before .before .before .before .before .before .before .before .before .before .before .before .before .before .before .pre in
+    let read-var = c .before .before .before .before .before .before .before .before .before .before .before .before .before .read-var in
+    let field-question = c .before .before .before .before .before .before .before .before .before .before .before .field-question in
+    let read-var2 = c .before .before .before .before .before .before .before .before .before .read-var2 in
+    let store-slot = c .before .before .before .before .before .before .store-slot in
+    let none : 0 ≡ store-slot .result = omega arith in
+    did-answer (c .done .ensures ∙ ap refused none)
+    (store-did (args .p) (args .cells .now) (args .remember .now) (args .tables .now) (pre .0) (args .t) (args .a) (pre .1 .0) (pre .1 .1)
+    (read-var .result) (read-var .ensures) (args .c) (pre .1 .2) (args .f) (field-question .result) (field-question .ensures) (omega arith)
+    (read-var2 .result) (read-var2 .ensures) _ _ (store-slot .result) (store-slot .ensures))
 
 pub store-spec : {M : Type 1} → statement M
 store-spec =
@@ -74,10 +108,16 @@ store-spec =
     (tie.spec
     read-var-requires
     field-question-requires
+    refused-requires
     same-length
     returns
     read-var-requires-2
     store-slot-requires
+    refused-requires-2
     same-length-2
     same-length-3
-    returns-2)
+    returns-2
+    done-requires
+    same-length-4
+    same-length-5
+    returns-3)

@@ -1,5 +1,6 @@
 -- A variable becomes null.
 use native.Mathlib.Omega.{arith}
+use Rattle.promises.specs.Questions.{did-answer}
 use Rattle.commands.specs.Ready.{placed}
 use Rattle.commands.specs.Variables.{clear-done}
 use borrow.Author.Needs.{needs}
@@ -12,16 +13,20 @@ write-var-requires c κs =
     let pre = c .before .before .before .before .pre in
     ((placed (args .p) (args .cells .now) (args .remember .now) (args .tables .now) (pre .0) (omega arith)), pre .1)
 
+done-requires : tie.Need-done-requires
+done-requires c κs = search needs
+
 same-length : tie.Need-same-length
 same-length c = search needs
 
 returns : tie.Need-returns
 returns c =
-    let args = c .before .before .before .before .before .before .before .args in
-    let pre = c .before .before .before .before .before .before .before .pre in
-    let write-var = c .before .before .write-var in
-    clear-done (args .p) (args .cells .now) (args .remember .now) (args .tables .now) (pre .0) (args .t) (args .a) (pre .1 .0) (pre .1 .1)
-    (write-var .ensures)
+    let args = c .before .before .before .before .before .before .before .before .args in
+    let pre = c .before .before .before .before .before .before .before .before .pre in
+    let write-var = c .before .before .before .write-var in
+    did-answer (c .done .ensures)
+    (clear-done (args .p) (args .cells .now) (args .remember .now) (args .tables .now) (pre .0) (args .t) (args .a) (pre .1 .0) (pre .1 .1)
+    (write-var .ensures))
 
 pub clear-spec : {M : Type 1} → statement M
-clear-spec = tie.close (tie.spec write-var-requires same-length returns)
+clear-spec = tie.close (tie.spec write-var-requires done-requires same-length returns)

@@ -1,5 +1,6 @@
 -- A variable gets what another holds.
 use native.Mathlib.Omega.{arith}
+use Rattle.promises.specs.Questions.{did-answer}
 use Rattle.commands.specs.Ready.{placed}
 use Rattle.commands.specs.Variables.{copy-done}
 use borrow.Author.Needs.{needs}
@@ -18,17 +19,21 @@ write-var-requires c κs =
     let pre = c .before .before .before .before .before .before .pre in
     ((placed (args .p) (args .cells .now) (args .remember .now) (args .tables .now) (pre .0) (omega arith)), (pre .1 .0, pre .1 .1))
 
+done-requires : tie.Need-done-requires
+done-requires c κs = search needs
+
 same-length : tie.Need-same-length
 same-length c = search needs
 
 returns : tie.Need-returns
 returns c =
-    let args = c .before .before .before .before .before .before .before .before .before .args in
-    let pre = c .before .before .before .before .before .before .before .before .before .pre in
-    let read-var = c .before .before .before .before .read-var in
-    let write-var = c .before .before .write-var in
-    copy-done (args .p) (args .cells .now) (args .remember .now) (args .tables .now) (pre .0) (args .t) (args .a) (args .b) (args .c) (pre .1 .0)
-    (pre .1 .1) (pre .1 .2) (pre .1 .3) (read-var .result) (read-var .ensures) (write-var .ensures)
+    let args = c .before .before .before .before .before .before .before .before .before .before .args in
+    let pre = c .before .before .before .before .before .before .before .before .before .before .pre in
+    let read-var = c .before .before .before .before .before .read-var in
+    let write-var = c .before .before .before .write-var in
+    did-answer (c .done .ensures)
+    (copy-done (args .p) (args .cells .now) (args .remember .now) (args .tables .now) (pre .0) (args .t) (args .a) (args .b) (args .c) (pre .1 .0)
+    (pre .1 .1) (pre .1 .2) (pre .1 .3) (read-var .result) (read-var .ensures) (write-var .ensures))
 
 pub copy-spec : {M : Type 1} → statement M
-copy-spec = tie.close (tie.spec read-var-requires write-var-requires same-length returns)
+copy-spec = tie.close (tie.spec read-var-requires write-var-requires done-requires same-length returns)
