@@ -10,7 +10,8 @@ use Rattle.lists.specs.Says.{true-not-false}
 use Rattle.lists.specs.Tests.{both-true}
 use Rattle.rules.specs.declared.Sizes.{Sizes}
 use Rattle.rules.specs.declared.Command.{Command}
-use Rattle.rules.specs.Terms.{Code, unknown, start, end, new, copy, clear, load, store, read, write, same, decode, ask, limits}
+use Rattle.rules.specs.Terms.{Code, unknown, start, end, new, copy, clear, load, store, read, write, same, decode, ask, limits, refused, done}
+use Rattle.rules.specs.declared.Answer.{Answer}
 use Rattle.rules.specs.NeverFreeing.{NeverFreeing, operands, known, question, state}
 use Rattle.rules.specs.Rules.{first}
 use Rattle.commands.specs.declared.Decoded.{Decoded}
@@ -46,24 +47,36 @@ decodedBy s o t a b c = known-then (known o) (checkedBy (ltb t (s .threads)) (op
 abbrev pub decodedOf : Sizes → Command → Decoded
 decodedOf s m = decodedBy s (decode (m .code)) (m .thread) (m .a) (m .b) (m .c)
 
--- 01's number of a decoded command, 0 where it is not refused yet
+-- 01's number and value of a decoded command: its refusal, or 0 and 0 where it is not refused yet
+abbrev pub decodedAnswer : Decoded → Answer
+decodedAnswer (Start t) = done 0
+decodedAnswer (End t) = done 0
+decodedAnswer (New t a b c) = done 0
+decodedAnswer (Copy t a b c) = done 0
+decodedAnswer (Clear t a) = done 0
+decodedAnswer (Load t a b c) = done 0
+decodedAnswer (Store t a b c) = done 0
+decodedAnswer (Read t a b) = done 0
+decodedAnswer (Write t a b c) = done 0
+decodedAnswer (Same t a b) = done 0
+decodedAnswer (Refused q) = refused q
+
 abbrev pub numberOf : Decoded → ℕ
-numberOf (Start t) = 0
-numberOf (End t) = 0
-numberOf (New t a b c) = 0
-numberOf (Copy t a b c) = 0
-numberOf (Clear t a) = 0
-numberOf (Load t a b c) = 0
-numberOf (Store t a b c) = 0
-numberOf (Read t a b) = 0
-numberOf (Write t a b c) = 0
-numberOf (Same t a b) = 0
-numberOf (Refused q) = q
+numberOf d = decodedAnswer d .number
 
 -- questions 6, 7 and 8, by the rules' own tests
 unfoldable pub asked : Sizes → Command → ℕ
 asked s m =
     ask (known (decode (m .code))) 6 (ask (ltb (m .thread) (s .threads)) 7 (ask (operands (limits s) (decode (m .code)) (m .a) (m .b) (m .c)) 8 0))
+
+-- the answer of these questions: the number of the first that says no, 0 if none does; the value is 0 either way
+abbrev pub askedAnswer : Sizes → Command → Answer
+askedAnswer s m = record { number = asked s m; value = 0 }
+
+-- d is command m decoded, and its answer is that of questions 6, 7 and 8
+pub record Decodes (s : Sizes) (m : Command) (d : Decoded) : Type 0 where
+  pub answer : decodedAnswer d ≡ askedAnswer s m
+  pub command : d ≡ decodedOf s m
 
 checked-number : (k x y : Bool) (d : Decoded) → (k ≡ true → numberOf d ≡ 0) → numberOf (known-then k (checkedBy x y d)) ≡ ask k 6 (ask x 7 (ask y 8 0))
 unfolding ask
@@ -90,9 +103,29 @@ unfolding decodedBy
 number-by s o t a b c = checked-number (known o) (ltb t (s .threads)) (operands (limits s) o a b c) (named o t a b c) (named-number o t a b c)
 
 -- the decoded command's number is the rules' answer to questions 6 to 8
-pub decoded-number : (s : Sizes) (m : Command) → numberOf (decodedOf s m) ≡ asked s m
+decoded-number : (s : Sizes) (m : Command) → numberOf (decodedOf s m) ≡ asked s m
 unfolding asked
 decoded-number s m = number-by s (decode (m .code)) (m .thread) (m .a) (m .b) (m .c)
+
+no-value : (d : Decoded) → decodedAnswer d ≡ record { number = numberOf d; value = 0 }
+no-value (Start t) = refl
+no-value (End t) = refl
+no-value (New t a b c) = refl
+no-value (Copy t a b c) = refl
+no-value (Clear t a) = refl
+no-value (Load t a b c) = refl
+no-value (Store t a b c) = refl
+no-value (Read t a b) = refl
+no-value (Write t a b c) = refl
+no-value (Same t a b) = refl
+no-value (Refused q) = refl
+
+decodes : (s : Sizes) (m : Command) {d : Decoded} → d ≡ decodedOf s m → Decodes s m d
+decodes s m {d} e =
+    record {
+      answer = no-value d ∙ ap (λ (n : ℕ). record { number = n; value = 0 }) (ap numberOf e ∙ decoded-number s m);
+      command = e;
+    }
 
 ask-first : (k x y : Bool) (q : ℕ) → ask k 6 (ask x 7 (ask y 8 q)) ≡ first (ask k 6 (ask x 7 (ask y 8 0))) q
 unfolding ask
@@ -126,13 +159,14 @@ decoded-named s m e =
 
 -- an arm of the match: the operands as the code has them
 pub arm : (s : Sizes) (m : Command) (o : Code) (t a b c : ℕ) → decode (m .code) ≡ o → known o ≡ true → t ≡ m .thread → a ≡ m .a → b ≡ m .b → c ≡ m .c
-    → (v : Bool) → v ≡ operands (limits s) o a b c → {r : Decoded} → r ≡ checkedBy (ltb t (s .threads)) v (named o t a b c) → r ≡ decodedOf s m
+    → (v : Bool) → v ≡ operands (limits s) o a b c → {r : Decoded} → r ≡ checkedBy (ltb t (s .threads)) v (named o t a b c) → Decodes s m r
 unfolding decodedBy
 arm s m o t a b c e k et ea eb ec v ev er =
-    er ∙ ap (λ (z : Bool). checkedBy (ltb t (s .threads)) z (named o t a b c)) ev
+    decodes s m
+    (er ∙ ap (λ (z : Bool). checkedBy (ltb t (s .threads)) z (named o t a b c)) ev
     ∙ sym (ap (λ (z : Bool). known-then z (checkedBy (ltb t (s .threads)) (operands (limits s) o a b c) (named o t a b c))) k)
     ∙ ap₂ (λ (x y : ℕ). decodedBy s o x y b c) et ea ∙ ap₂ (λ (x y : ℕ). decodedBy s o (m .thread) (m .a) x y) eb ec
-    ∙ ap (λ (z : Code). decodedBy s z (m .thread) (m .a) (m .b) (m .c)) (sym e)
+    ∙ ap (λ (z : Code). decodedBy s z (m .thread) (m .a) (m .b) (m .c)) (sym e))
 
 unknown-code : (n : ℕ) → (n ≡ 1 → ⊥) → (n ≡ 2 → ⊥) → (n ≡ 3 → ⊥) → (n ≡ 4 → ⊥) → (n ≡ 5 → ⊥) → (n ≡ 6 → ⊥) → (n ≡ 7 → ⊥) → (n ≡ 8 → ⊥) → (n ≡ 9 → ⊥) → (n ≡ 10 → ⊥) → decode n ≡ unknown
 unknown-code zero a b c d e f g h i j = refl
@@ -149,9 +183,10 @@ unknown-code (suc (suc (suc (suc (suc (suc (suc (suc (suc (suc zero)))))))))) a 
 unknown-code (suc (suc (suc (suc (suc (suc (suc (suc (suc (suc (suc n))))))))))) a b c d e f g h i j = refl
 
 pub other-code : (s : Sizes) (m : Command) → (m .code ≡ 1 → ⊥) → (m .code ≡ 2 → ⊥) → (m .code ≡ 3 → ⊥) → (m .code ≡ 4 → ⊥) → (m .code ≡ 5 → ⊥) → (m .code ≡ 6 → ⊥)
-    → (m .code ≡ 7 → ⊥) → (m .code ≡ 8 → ⊥) → (m .code ≡ 9 → ⊥) → (m .code ≡ 10 → ⊥) → Refused 6 ≡ decodedOf s m
+    → (m .code ≡ 7 → ⊥) → (m .code ≡ 8 → ⊥) → (m .code ≡ 9 → ⊥) → (m .code ≡ 10 → ⊥) → Decodes s m (Refused 6)
 unfolding decodedBy
-other-code s m a b c d e f g h i j = sym (ap (λ (z : Code). decodedBy s z (m .thread) (m .a) (m .b) (m .c)) (unknown-code (m .code) a b c d e f g h i j))
+other-code s m a b c d e f g h i j =
+    decodes s m (sym (ap (λ (z : Code). decodedBy s z (m .thread) (m .a) (m .b) (m .c)) (unknown-code (m .code) a b c d e f g h i j)))
 
 -- ---- back from a decoded command to its words
 

@@ -1,32 +1,44 @@
 -- A command, decoded and done: the promise of one command, an end left to the caller.
 use Prim.Native.Nat.{ℕ, _<_}
-use mathlib.Core.Path.{_≡_, refl, sym, subst, _∙_}
+use mathlib.Core.Path.{_≡_, refl, sym, ap, subst, _∙_}
 use mathlib.Core.List.{List}
+use Rattle.rules.specs.declared.Sizes.{Sizes}
 use Rattle.rules.specs.declared.Command.{Command}
 use Rattle.rules.specs.declared.Answer.{Answer}
-use Rattle.rules.specs.Terms.{refused}
+use Rattle.rules.specs.Terms.{refused, done}
 use Rattle.layout.specs.declared.Places.{Places}
 use Rattle.layout.specs.Places.{sizesOf}
-use Rattle.promises.specs.Words.{words, heapOf}
+use Rattle.promises.specs.Words.{Words, words, heapOf}
 use Rattle.promises.specs.Promises.{DidHere}
 use Rattle.promises.specs.Questions.{did-answer, did-asked}
 use Rattle.commands.specs.declared.Decoded.{Decoded}
 use Rattle.commands.specs.declared.Decoded.the-variants.{End, Refused}
 use Rattle.commands.specs.declared.Obeyed.{Obeyed}
 use Rattle.commands.specs.declared.Obeyed.the-variants.{Answered, Ends}
-use Rattle.commands.specs.Decoding.{commandFor, decodedOf, numberOf, Within, Means, decoded-means, decoded-refused, refused-number}
+use Rattle.commands.specs.Decoding.{commandFor, decodedAnswer, numberOf, askedAnswer, Decodes, Within, Means, decoded-means, decoded-refused, refused-number}
 use Rattle.commands.specs.Ready.{Ready}
 use Rattle.commands.specs.Does.{Does}
 
--- command x was answered; or it is an end of thread u's innermost region, asked questions 6 to 8, and nothing is changed yet
+-- 01's number and value: an answer has its own; an end that is left to the caller is not refused yet
+abbrev pub obeyedAnswer : Obeyed → Answer
+obeyedAnswer (Answered a) = a
+obeyedAnswer (Ends u) = done 0
+
+-- command x is an end of thread u's innermost region, its answer so far is that of questions 6 to 8, and nothing is changed yet
+pub record LeftToCaller (s : Sizes) (w : Words) (x : Command) (w′ : Words) (u : ℕ) : Type 0 where
+  pub answer : obeyedAnswer (Ends u) ≡ askedAnswer s x
+  pub command : x ≡ commandFor (End u)
+  pub thread : u < s .threads
+  pub same : w′ ≡ w
+
 abbrev pub Obeys : Places → List ℕ → List ℕ → List ℕ → Command → List ℕ → List ℕ → List ℕ → Obeyed → Type 0
-Obeys p c m t x c′ m′ t′ (Answered a) = DidHere (sizesOf p) (words c m t) x (words c′ m′ t′) a
-Obeys p c m t x c′ m′ t′ (Ends u) = (x ≡ commandFor (End u)) × (u < p .threads) × (words c′ m′ t′ ≡ words c m t)
+Obeys p c m t x c′ m′ t′ (Answered a) = DidHere (sizesOf p) (words c m t) x (words c′ m′ t′) (obeyedAnswer (Answered a))
+Obeys p c m t x c′ m′ t′ (Ends u) = LeftToCaller (sizesOf p) (words c m t) x (words c′ m′ t′) u
 
 -- d is what x was decoded to
-module _ (p : Places) (c m t : List ℕ) (x : Command) (d : Decoded) (g : d ≡ decodedOf (sizesOf p) x) where
+module _ (p : Places) (c m t : List ℕ) (x : Command) (d : Decoded) (g : Decodes (sizesOf p) x d) where
   means : (e : Decoded) → d ≡ e → numberOf e ≡ 0 → Means (sizesOf p) x e
-  means e f z = decoded-means (sizesOf p) x e (sym f ∙ g) z
+  means e f z = decoded-means (sizesOf p) x e (sym f ∙ g .command) z
 
   -- its operands are in range
   pub in-range : (e : Decoded) → d ≡ e → numberOf e ≡ 0 → Within (sizesOf p) e
@@ -37,10 +49,12 @@ module _ (p : Places) (c m t : List ℕ) (x : Command) (d : Decoded) (g : d ≡ 
   obeyed e f z {c′} {m′} {t′} {a} o = subst (λ (y : Command). DidHere (sizesOf p) (words c m t) y (words c′ m′ t′) a) (sym (means e f z .command)) o
 
   pub ends : (u : ℕ) → d ≡ End u → Obeys p c m t x c m t (Ends u)
-  ends u f = let o = means (End u) f refl in (o .command, o .within, refl)
+  ends u f =
+      let o = means (End u) f refl in
+      record { answer = sym (ap decodedAnswer f) ∙ g .answer; command = o .command; thread = o .within; same = refl }
 
   pub not-obeyed : Ready p c m t → (q : ℕ) → d ≡ Refused q → {a : Answer} → a ≡ refused q → Obeys p c m t x c m t (Answered a)
   not-obeyed r q f h =
-      let e = sym f ∙ g in
+      let e = sym f ∙ g .command in
       let pos = refused-number (sizesOf p) x q e in
       did-answer h (did-asked (sizesOf p) (words c m t) (r .whole) x q pos (decoded-refused (sizesOf p) x q e pos (heapOf (sizesOf p) (words c m t) .heap)))

@@ -19,7 +19,7 @@ use Rattle.commands.specs.declared.Obeyed.{Obeyed}
 use Rattle.commands.specs.declared.Obeyed.the-variants.{Answered, Ends}
 use Rattle.commands.specs.Decoding.{commandFor}
 use Rattle.commands.specs.Ready.{Ready}
-use Rattle.commands.specs.Obeys.{Obeys}
+use Rattle.commands.specs.Obeys.{LeftToCaller, Obeys}
 use Rattle.heap.specs.Looping.{Looped, looped-start, looped-more, looped-to, looped-ran, written}
 
 -- o is what `commands` gave for command x
@@ -31,14 +31,14 @@ obeyed-answered p o {c} {m} {t} {c′} {m′} {t′} {x} did e = subst (Obeys p 
 pub ends-ready : (p : Places) (o : Obeyed) (x : Command) {c m t c′ m′ t′ : List ℕ} {u : ℕ} → Ready p c m t → Obeys p c m t x c′ m′ t′ o → o ≡ Ends u
     → (p ≡ placesOf (sizesOf p)) × WholeFor (sizesOf p) (words c′ m′ t′) × (u < p .threads)
 ends-ready p o x {c} {m} {t} {c′} {m′} {t′} {u} r did e =
-    let w : (x ≡ commandFor (End u)) × (u < p .threads) × (words c′ m′ t′ ≡ words c m t) = subst (Obeys p c m t x c′ m′ t′) e did in
-    (r .places, subst (WholeFor (sizesOf p)) (sym (w .2)) (r .whole), w .1)
+    let l : LeftToCaller (sizesOf p) (words c m t) x (words c′ m′ t′) u = subst (Obeys p c m t x c′ m′ t′) e did in
+    (r .places, subst (WholeFor (sizesOf p)) (sym (l .same)) (r .whole), l .thread)
 
 pub ends-did : (p : Places) (o : Obeyed) {c m t c′ m′ t′ : List ℕ} {x : Command} {u : ℕ} {w : Words} {a : Answer} → Obeys p c m t x c′ m′ t′ o → o ≡ Ends u
     → DidHere (sizesOf p) (words c′ m′ t′) (commandFor (End u)) w a → DidHere (sizesOf p) (words c m t) x w a
 ends-did p o {c} {m} {t} {c′} {m′} {t′} {x} {u} {w} {a} did e d =
-    let v : (x ≡ commandFor (End u)) × (u < p .threads) × (words c′ m′ t′ ≡ words c m t) = subst (Obeys p c m t x c′ m′ t′) e did in
-    subst₂ (λ (b : Words) (y : Command). DidHere (sizesOf p) b y w a) (v .2) (sym (v .0)) d
+    let l : LeftToCaller (sizesOf p) (words c m t) x (words c′ m′ t′) u = subst (Obeys p c m t x c′ m′ t′) e did in
+    subst₂ (λ (b : Words) (y : Command). DidHere (sizesOf p) b y w a) (l .same) (sym (l .command)) d
 
 -- the same command
 pub did-same : {s : Sizes} {w w′ : Words} {x y : Command} {a : Answer} → DidHere s w x w′ a → x ≡ y → DidHere s w y w′ a
