@@ -82,9 +82,9 @@ struct taldreku_row {
     uint32_t thread, level, objects, pages;
 };
 
-/* The result of a report: 0, 3 or 15, and the two figures. */
+/* The result of a report: 0, 3 or 15; how many rows were written, 0 on refusal; and the two figures. */
 struct taldreku_reported {
-    uint32_t number, free_pages, crossing_slots;
+    uint32_t number, rows, free_pages, crossing_slots;
 };
 
 /* Writes a row for the control space and one for each open region, by region number: the control space, then thread by thread from the

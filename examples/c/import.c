@@ -41,17 +41,16 @@ static void run(const char *what) {
     commands = 0;
 }
 
-/* Prints the report as a table. Spare rows never change: a mark that no row has, set beforehand, shows where the rows end. */
+/* Prints the report as a table. */
 static void report(void) {
     struct taldreku_row rows[ROWS];
-    for (size_t i = 0; i < ROWS; i++) rows[i].thread = THREADS;
     struct taldreku_reported r = taldreku_report(cells, cells_words, remember, remember_words, tables, tables_words, rows, ROWS);
     if (r.number != TALDREKU_DONE) {
         printf("report: refused with %u\n", (unsigned)r.number);
         exit(1);
     }
     printf("thread  level  objects  pages\n");
-    for (size_t i = 0; i < ROWS && rows[i].thread < THREADS; i++)
+    for (size_t i = 0; i < r.rows; i++)
         printf("%6u %6u %8u %6u\n", (unsigned)rows[i].thread, (unsigned)rows[i].level, (unsigned)rows[i].objects, (unsigned)rows[i].pages);
     printf("%u pages free, %u slots crossing\n", (unsigned)r.free_pages, (unsigned)r.crossing_slots);
 }

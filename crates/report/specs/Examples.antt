@@ -3,6 +3,7 @@
 use Prim.Native.Nat.{ℕ}
 use mathlib.Core.Path.{_≡_, refl}
 use mathlib.Core.List.{List, [], _∷_, map}
+use lib.ListN.{length}
 use Rattle.lists.specs.Members
 use Rattle.lists.specs.Listed
 use Rattle.rules.specs.declared.Sizes.{Sizes}
@@ -14,13 +15,13 @@ use Rattle.rules.specs.Regions as rg
 use Rattle.rules.specs.Graph as gr
 use Rattle.rules.specs.Rules as ru
 use Rattle.report.specs.declared.Row.{Row}
+use Rattle.report.specs.declared.Reported.{Reported}
 use Rattle.report.specs.Report as re
 
--- a report's rows, free pages and crossing slots
+-- what a report into a list without spare rows gives and leaves
 pub record Outcome : Type 0 where
-  pub rows : List Row
-  pub free : ℕ
-  pub crossing : ℕ
+  pub result : Reported
+  pub left : List Row
 
 pub record Case : Type 0 where
   pub script : List Command
@@ -36,7 +37,7 @@ abbrev row : ℕ → ℕ → ℕ → ℕ → Row
 row t k n p = record { thread = t; level = k; objects = n; pages = p }
 
 abbrev case′ : List Command → List Row → ℕ → ℕ → Case
-case′ ms rs f x = record { script = ms; expected = record { rows = rs; free = f; crossing = x } }
+case′ ms rs f x = record { script = ms; expected = record { result = record { number = 0; rows = length rs; «free_pages» = f; «crossing_slots» = x }; left = rs } }
 
 abbrev cases : List Case
 cases =
@@ -57,7 +58,7 @@ cases =
 abbrev outcome : Case → Outcome
 outcome k =
     let h = ru.run small (ru.unused small) (k .script) .last in
-    record { rows = re.rows small h; free = gr.freePages small (ru.graph h); crossing = gr.crossing (ru.graph h) }
+    record { result = re.resultOf small h 0; left = re.leftOf small h [] 0 }
 
 pub reports : map outcome cases ≡ map (λ k. k .expected) cases
 unfolding

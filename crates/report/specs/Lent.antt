@@ -2,24 +2,24 @@
 use Prim.Native.Nat.{ℕ, suc, _+_, _≤_, _<_}
 use native.Mathlib.Omega.{arith}
 use native.Mathlib.Numerals.{add-one}
-use mathlib.Core.Path.{_≡_, refl, sym, ap, subst, _∙_}
+use mathlib.Core.Path.{_≡_, refl, sym, ap, ap₂, _∙_}
 use mathlib.Core.List.{List, _++_}
 use lib.ListN.{length, getD, set, take, drop, length-append, length-drop, length-map}
 use lib.Seq.{length-take-le, take-suc, drop-cons, append-snoc, set-at, take-length}
-use Rattle.rules.specs.declared.Sizes.{Sizes}
 use Rattle.rules.specs.Regions.{regions}
 use Rattle.rules.specs.Graph.{crossing, freePages}
-use Rattle.rules.specs.Rules.{Regioned, graph}
+use Rattle.rules.specs.Rules.{graph}
 use Rattle.layout.specs.declared.Places.{Places}
-use Rattle.layout.specs.Places.{sizesAt, sizesOf, placesOf}
-use Rattle.promises.specs.Words.{Words, words, sizesIn}
+use Rattle.layout.specs.Places.{sizesAt, placesOf, usedIn}
+use Rattle.promises.specs.Words.{Words, sizesIn, heapOf}
 use Rattle.promises.specs.Whole.{WholeWords}
-use Rattle.promises.specs.StandsFor.{StandsFor}
+use Rattle.promises.specs.Agreed.{heapOf-stands}
+use Rattle.promises.specs.Crossings.{heap-entries}
 use Rattle.report.specs.declared.Row.{Row}
-use Rattle.report.specs.declared.lent.Asked.{Asked}
-use Rattle.report.specs.Report.{noRow, rows, rowCount, ReportAsked, notWhole, short, accepted, Told}
-use Rattle.report.specs.Tables.{WholeTables, EveryHeap, rowIn, openIn, rowsIn, whole-tables}
-use Rattle.report.specs.Stands.{rows-stand}
+use Rattle.report.specs.Report.{noRow, rows, rowCount, ReportAsked, notWhole, short, accepted, Told, refusing, resultOf, leftOf}
+use Rattle.report.specs.Tables.{WholeTables, rowIn, openIn, rowsIn, whole-tables, freeIn}
+use Rattle.report.specs.Stands.{rows-stand, free-stands}
+use Rattle.report.specs.declared.Reported.{Reported}
 
 -- ---- the first k rows of a list over the first k of those lent
 
@@ -55,85 +55,83 @@ placesIn t = placesOf (sizesAt t)
 abbrev pub RegionOf : List ℕ → ℕ → Type 0
 RegionOf t g = WholeTables (placesIn t) t × (1 ≤ g) × (g ≤ regions (sizesAt t))
 
-abbrev pub refusing : ℕ → Asked
-refusing q = record { number = q; rows = 0; «free_pages» = 0; «crossing_slots» = 0 }
+-- the questions of a list of so many rows gave r
+pub record Asking (w : Words) (room : ℕ) (r : Reported) : Type 0 where
+  pub asked : ReportAsked w room (r .number)
+  pub result : r ≡ resultOf (sizesIn w) (heapOf (sizesIn w) w) (r .number)
 
--- the questions of a list of so many rows gave a
-pub record Asking (w : Words) (room : ℕ) (a : Asked) : Type 0 where
-  pub asked : ReportAsked w room (a .number)
-  pub refused : (a .number ≡ 0 → ⊥) → (a .rows ≡ 0) × (a .«free_pages» ≡ 0) × (a .«crossing_slots» ≡ 0)
-  pub all : a .number ≡ 0 → a .rows ≡ length (rowsIn (placesIn (w .tables)) (w .tables))
-  pub figures : a .number ≡ 0 → (h : Regioned) (cellOf : ℕ → ℕ) → StandsFor (sizesIn w) w h cellOf
-      → (a .«free_pages» ≡ freePages (sizesIn w) (graph h)) × (a .«crossing_slots» ≡ crossing (graph h))
+-- the rows of the tables are those of the heap that the words make
+module _ (w : Words) where
+  abbrev these : List Row
+  these = rowsIn (placesIn (w .tables)) (w .tables)
 
-rows-length : (w : Words) → length (rowsIn (placesIn (w .tables)) (w .tables)) ≡ rowCount w
-unfolding rowsIn
-rows-length w = length-map (openIn (placesIn (w .tables)) (w .tables)) (rowIn (placesIn (w .tables)) (w .tables))
+  these-length : length these ≡ rowCount w
+  unfolding rowsIn
+  these-length = length-map (openIn (placesIn (w .tables)) (w .tables)) (rowIn (placesIn (w .tables)) (w .tables))
 
-three : _≡_ {A = ℕ} 3 0 → ⊥
-three e = omega arith
-
-fifteen : _≡_ {A = ℕ} 15 0 → ⊥
-fifteen e = omega arith
+  these-stand : WholeWords w → these ≡ rows (sizesIn w) (heapOf (sizesIn w) w)
+  these-stand k = rows-stand (placesIn (w .tables)) (w .tables) refl (w .cells) (w .remember) (heapOf (sizesIn w) w) (λ x. x) (heapOf-stands w k)
 
 -- as the code answers; p are the places that it found
 module _ (w : Words) (room : ℕ) where
-  refused-asking : (q : ℕ) → (q ≡ 0 → ⊥) → ReportAsked w room q → Asking w room (refusing q)
-  refused-asking q n a = record { asked = a; refused = λ z. (refl, refl, refl); all = λ e. absurd (n e); figures = λ e. absurd (n e) }
-
   pub asking-not-whole : (WholeWords w → ⊥) → Asking w room (refusing 3)
-  asking-not-whole n = refused-asking 3 three (notWhole refl n)
+  asking-not-whole n = record { asked = notWhole refl n; result = refl }
 
   module _ (k : WholeWords w) (p : Places) (e : p ≡ placesIn (w .tables)) (n : ℕ) (all : n ≡ length (rowsIn p (w .tables))) where
-    counted : n ≡ length (rowsIn (placesIn (w .tables)) (w .tables))
+    counted : n ≡ length (these w)
     counted = all ∙ ap (λ (q : Places). length (rowsIn q (w .tables))) e
 
     pub asking-short : room < n → Asking w room (refusing 15)
-    asking-short l = refused-asking 15 fifteen (short refl k (omega (arith, counted, rows-length w)))
+    asking-short l = record { asked = short refl k (omega (arith, counted, these-length w)); result = refl }
 
-    pub asking-all : (f x : ℕ) → n ≤ room → EveryHeap p (w .tables) (λ h. f ≡ freePages (sizesOf p) (graph h))
-        → ((s : Sizes) (c t : List ℕ) (h : Regioned) (cellOf : ℕ → ℕ) → StandsFor s (words c (w .remember) t) h cellOf → x ≡ crossing (graph h))
+    pub asking-all : (f x : ℕ) → n ≤ room → f ≡ freeIn p (w .tables) → x ≡ usedIn (w .remember)
         → Asking w room (record { number = 0; rows = n; «free_pages» = f; «crossing_slots» = x })
     asking-all f x l free cross =
+        let s = sizesIn w in
+        let h = heapOf (sizesIn w) w in
+        let st = heapOf-stands w k in
+        let n-is : n ≡ length (rows s h) = counted ∙ ap length (these-stand w k) in
+        let f-is : f ≡ freePages s (graph h) =
+        free ∙ ap (λ (q : Places). freeIn q (w .tables)) e ∙ free-stands (placesIn (w .tables)) (w .tables) refl (w .cells) (w .remember) h (λ c. c) st in
+        let x-is : x ≡ crossing (graph h) = cross ∙ heap-entries s w h (λ c. c) st in
         record {
-          asked = accepted refl k (omega (arith, counted, rows-length w));
-          refused = λ z. absurd (z refl);
-          all = λ z. counted;
-          figures = λ z h cellOf st. (
-            subst (λ (q : Places). EveryHeap q (w .tables) (λ h. f ≡ freePages (sizesOf q) (graph h))) e free (w .cells) (w .remember) h cellOf st,
-            cross (sizesIn w) (w .cells) (w .tables) h cellOf st,
-          );
+          asked = accepted refl k (omega (arith, counted, these-length w));
+          result = ap₂ (λ (i j : ℕ). record { number = 0; rows = i; «free_pages» = j; «crossing_slots» = x }) n-is f-is
+              ∙ ap (λ (i : ℕ). record { number = 0; rows = length (rows s h); «free_pages» = freePages s (graph h); «crossing_slots» = i }) x-is;
         }
 
 -- ---- rows written as asked for
 
-module _ (w : Words) (lent : List Row) (a : Asked) (k : Asking w (length lent) a) where
-  abbrev these : List Row
-  these = rowsIn (placesIn (w .tables)) (w .tables)
+module _ (w : Words) (lent : List Row) (r : Reported) (k : Asking w (length lent) r) where
+  -- of the number that the questions gave
+  rows-of : {q : ℕ} → r .number ≡ q → r .rows ≡ resultOf (sizesIn w) (heapOf (sizesIn w) w) q .rows
+  rows-of e = ap (λ (x : Reported). x .rows) (k .result ∙ ap (resultOf (sizesIn w) (heapOf (sizesIn w) w)) e)
 
-  pub asked-few : (a .rows ≤ length lent) × (a .rows ≤ length these) × (0 < a .rows → WholeTables (placesIn (w .tables)) (w .tables))
+  rows-all : r .number ≡ 0 → WholeWords w → r .rows ≡ length (these w)
+  rows-all e h = rows-of e ∙ ap length (sym (these-stand w h))
+
+  pub asked-few : (r .rows ≤ length lent) × (r .rows ≤ length (these w)) × (0 < r .rows → WholeTables (placesIn (w .tables)) (w .tables))
   asked-few = go (k .asked)
     where
-      none : (a .number ≡ 0 → ⊥) → (a .rows ≤ length lent) × (a .rows ≤ length these) × (0 < a .rows → WholeTables (placesIn (w .tables)) (w .tables))
-      none n = let z = k .refused n .0 in (omega arith, omega arith, λ l. absurd (let y : ⊥ = omega arith in y))
+      none : r .rows ≡ 0 → (r .rows ≤ length lent) × (r .rows ≤ length (these w)) × (0 < r .rows → WholeTables (placesIn (w .tables)) (w .tables))
+      none z = (omega arith, omega arith, λ l. absurd (let y : ⊥ = omega arith in y))
 
-      go : ReportAsked w (length lent) (a .number) → (a .rows ≤ length lent) × (a .rows ≤ length these) × (0 < a .rows → WholeTables (placesIn (w .tables)) (w .tables))
-      go (notWhole e n) = none (λ z. three (sym e ∙ z))
-      go (short e h l) = none (λ z. fifteen (sym e ∙ z))
-      go (accepted e h l) = (omega (arith, k .all e, rows-length w), omega (arith, k .all e), λ z. whole-tables h refl refl)
+      go : ReportAsked w (length lent) (r .number) → (r .rows ≤ length lent) × (r .rows ≤ length (these w)) × (0 < r .rows → WholeTables (placesIn (w .tables)) (w .tables))
+      go (notWhole e n) = none (rows-of e)
+      go (short e h l) = none (rows-of e)
+      go (accepted e h l) = (omega (arith, rows-all e h, these-length w), omega (arith, rows-all e h), λ z. whole-tables h refl refl)
 
-  pub told-written : (left : List Row) → left ≡ written these (a .rows) lent
-      → Told w lent (record { number = a .number; «free_pages» = a .«free_pages»; «crossing_slots» = a .«crossing_slots» }) left
-  told-written left e =
-      record {
-        asked = k .asked;
-        refused = λ n. let z = k .refused n in (e ∙ ap (λ (i : ℕ). written these i lent) (z .0) ∙ written-none these lent, z .1, z .2);
-        told = λ z h cellOf st.
-            let f = k .figures z h cellOf st in
-            let same = rows-stand (placesIn (w .tables)) (w .tables) refl (w .cells) (w .remember) h cellOf st in
-            record {
-              written = e ∙ ap (λ (i : ℕ). written these i lent) (k .all z) ∙ written-all these lent ∙ ap (λ (r : List Row). r ++ drop (length r) lent) same;
-              free = f .0;
-              crossing = f .1;
-            };
-      }
+  pub told-written : Told w lent r (written (these w) (r .rows) lent)
+  told-written = record { asked = k .asked; result = k .result; rows-left = go (k .asked) }
+    where
+      none : {q : ℕ} → r .number ≡ suc q → written (these w) (r .rows) lent ≡ leftOf (sizesIn w) (heapOf (sizesIn w) w) lent (r .number)
+      none e =
+          ap (λ (i : ℕ). written (these w) i lent) (rows-of e) ∙ written-none (these w) lent
+          ∙ sym (ap (leftOf (sizesIn w) (heapOf (sizesIn w) w) lent) e)
+
+      go : ReportAsked w (length lent) (r .number) → written (these w) (r .rows) lent ≡ leftOf (sizesIn w) (heapOf (sizesIn w) w) lent (r .number)
+      go (notWhole e n) = none e
+      go (short e h l) = none e
+      go (accepted e h l) =
+          ap (λ (i : ℕ). written (these w) i lent) (rows-all e h) ∙ written-all (these w) lent
+          ∙ ap (λ (l : List Row). l ++ drop (length l) lent) (these-stand w h) ∙ sym (ap (leftOf (sizesIn w) (heapOf (sizesIn w) w) lent) e)

@@ -13,3 +13,5 @@ pub mod Opened
 pub mod Stands
 -- the rows in a lent list
 pub mod Lent
+-- the promise of every heap, and that it leaves nothing free
+pub mod Told

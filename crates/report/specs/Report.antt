@@ -1,6 +1,6 @@
 -- The report (01, "The questions, in order"): rows stand by region number: thread, level, objects, pages, the control space as thread 0
 -- level 0; then free pages and crossing slots.
-use Prim.Native.Nat.{ℕ, suc, _≤_, _<_}
+use Prim.Native.Nat.{ℕ, zero, suc, _≤_, _<_}
 use mathlib.Core.Path.{_≡_}
 use mathlib.Core.List.{List, _++_, map}
 use mathlib.Core.Bool.{Bool, cond, _||_}
@@ -12,9 +12,8 @@ use Rattle.rules.specs.declared.Sizes.{Sizes}
 use Rattle.rules.specs.Regions.{threadOf, levelOf, regions}
 use Rattle.rules.specs.Graph.{crossing, pagesOf, objectsIn, freePages}
 use Rattle.rules.specs.Rules.{Regioned, graph}
-use Rattle.promises.specs.Words.{Words, sizesIn, depthsIn}
+use Rattle.promises.specs.Words.{Words, sizesIn, depthsIn, heapOf}
 use Rattle.promises.specs.Whole.{WholeWords}
-use Rattle.promises.specs.StandsFor.{StandsFor}
 use Rattle.report.specs.declared.Row.{Row}
 use Rattle.report.specs.declared.Reported.{Reported}
 
@@ -54,16 +53,24 @@ pub data ReportAsked (w : Words) (room q : ℕ) : Type 0 where
   short : q ≡ 15 → WholeWords w → room < rowCount w → ReportAsked w room q
   accepted : q ≡ 0 → WholeWords w → rowCount w ≤ room → ReportAsked w room q
 
--- ---- the report
+-- ---- the report, once the questions gave q
 
--- of the heap h: the rows, then the spare rows as they were, and the two figures
-pub record Figures (s : Sizes) (h : Regioned) (lent : List Row) (r : Reported) (left : List Row) : Type 0 where
-  pub written : left ≡ rows s h ++ drop (length (rows s h)) lent
-  pub free : r .«free_pages» ≡ freePages s (graph h)
-  pub crossing : r .«crossing_slots» ≡ crossing (graph h)
+-- on refusal no row is written, and both figures are 0
+abbrev pub refusing : ℕ → Reported
+refusing q = record { number = q; rows = 0; «free_pages» = 0; «crossing_slots» = 0 }
 
--- the report on the words w with lent rows gave r and left these rows
+-- the result of a report on the heap h
+abbrev pub resultOf : Sizes → Regioned → ℕ → Reported
+resultOf s h zero = record { number = 0; rows = length (rows s h); «free_pages» = freePages s (graph h); «crossing_slots» = crossing (graph h) }
+resultOf s h (suc q) = refusing (suc q)
+
+-- and the rows that it leaves of those lent: its own, then the spare rows as they were; on refusal all of them as they were
+abbrev pub leftOf : Sizes → Regioned → List Row → ℕ → List Row
+leftOf s h lent zero = rows s h ++ drop (length (rows s h)) lent
+leftOf s h lent (suc q) = lent
+
+-- the report on the words w with lent rows gave r and left these rows, said of the heap that the words make
 pub record Told (w : Words) (lent : List Row) (r : Reported) (left : List Row) : Type 0 where
   pub asked : ReportAsked w (length lent) (r .number)
-  pub refused : (r .number ≡ 0 → ⊥) → (left ≡ lent) × (r .«free_pages» ≡ 0) × (r .«crossing_slots» ≡ 0)
-  pub told : r .number ≡ 0 → (h : Regioned) (cellOf : ℕ → ℕ) → StandsFor (sizesIn w) w h cellOf → Figures (sizesIn w) h lent r left
+  pub result : r ≡ resultOf (sizesIn w) (heapOf (sizesIn w) w) (r .number)
+  pub rows-left : left ≡ leftOf (sizesIn w) (heapOf (sizesIn w) w) lent (r .number)

@@ -5,13 +5,14 @@ use native.Mathlib.Decide.{decLt}
 use mathlib.Core.Path.{_≡_, sym, ap, subst, _∙_}
 use mathlib.Core.List.{List, map}
 use lib.ListN.{length, getD, length-map}
-use Rattle.lists.specs.Counting.{sum, sum-same, sum-more}
+use Rattle.lists.specs.Counting.{sum, sum-same, sum-more, sum-high}
 use Rattle.rules.specs.Regions.{regionAt, regions}
 use Rattle.rules.specs.Graph.{objectsIn, freePages}
-use Rattle.rules.specs.Rules.{graph}
+use Rattle.rules.specs.Rules.{Regioned, graph}
 use Rattle.layout.specs.declared.Places.{Places}
 use Rattle.layout.specs.Places.{placesOf, sizesOf, depthOf, countOf}
 use Rattle.promises.specs.Words.{words, depthsAt}
+use Rattle.promises.specs.StandsFor.{StandsFor}
 use Rattle.promises.specs.Reading.{range, depth-at}
 use Rattle.promises.specs.Agreed.{objects-agree}
 use Rattle.promises.specs.OwnedPages.{counted-objects, heap-free}
@@ -19,7 +20,7 @@ use Rattle.pages.specs.Owned.{ownedOne}
 use Rattle.report.specs.Report.{isOpen, openRegions, rowWith, rows}
 use Rattle.report.specs.Passing.{map-passing}
 use Rattle.report.specs.Opened.{Turn, rows-counted, turn-level}
-use Rattle.report.specs.Tables.{WholeTables, EveryHeap, rowIn, rowsIn, freeIn}
+use Rattle.report.specs.Tables.{WholeTables, rowIn, rowsIn, freeIn}
 
 module _ (p : Places) (t : List ℕ) (k : WholeTables p t) where
   abbrev depths : List ℕ
@@ -44,6 +45,12 @@ module _ (p : Places) (t : List ℕ) (k : WholeTables p t) where
       sym (length-map (openRegions (sizesOf p) depths) (rowIn p t) ∙ rows-counted (sizesOf p) depths some-depth deep
       ∙ ap (λ (n : ℕ). 1 + n) (depths-sum (p .threads) (omega arith)))
 
+  -- at most one for the control space and 8 for each of 16 threads
+  pub rows-few : length (rowsIn p t) ≤ 129
+  rows-few =
+      let r = range (sizesOf p) (words (k .cells) (k .remember) t) (k .whole) in
+      omega (arith, row-count, r .threads-high, sum-high (depthOf t) 8 (p .threads) (λ i l. omega (arith, k .whole .placed .depths i l, r .depth-high)))
+
   -- a thread whose levels do not reach row k is not the last
   pub not-last : (n l : ℕ) → n < p .threads → depthOf t n < l → sum (depthOf t) n + l < length (rowsIn p t) → n + 1 < p .threads
   not-last n l h m few = go (decLt (n + 1) (p .threads))
@@ -60,10 +67,10 @@ module _ (p : Places) (t : List ℕ) (k : WholeTables p t) where
       subst (λ (i : ℕ). Turn (sizesOf p) depths (i + l) (regionAt (sizesOf p) n l)) (depths-sum n (omega arith))
       (turn-level (sizesOf p) depths some-depth deep n l h low (omega (arith, depth-is n h)))
 
-module _ (p : Places) (t : List ℕ) (e : p ≡ placesOf (sizesOf p)) where
-  pub rows-stand : EveryHeap p t (λ h. rowsIn p t ≡ rows (sizesOf p) h)
+module _ (p : Places) (t : List ℕ) (e : p ≡ placesOf (sizesOf p)) (c m : List ℕ) (h : Regioned) (cellOf : ℕ → ℕ) (st : StandsFor (sizesOf p) (words c m t) h cellOf) where
+  pub rows-stand : rowsIn p t ≡ rows (sizesOf p) h
   unfolding rowsIn rowIn rows openRegions
-  rows-stand c m h cellOf st =
+  rows-stand =
       let s = sizesOf p in
       map-passing (isOpen s (depthsAt s t)) (rowIn p t) (λ q. rowWith s q (objectsIn (graph h) q)) (regions s) (λ i l. row (suc i) (omega arith) (omega arith))
       ∙ ap (λ (d : List ℕ). map (λ q. rowWith s q (objectsIn (graph h) q)) (openRegions s d)) (sym (st .depths))
@@ -73,6 +80,6 @@ module _ (p : Places) (t : List ℕ) (e : p ≡ placesOf (sizesOf p)) where
           ap (rowWith (sizesOf p) q) (ap (λ (r : Places). countOf r t q) e ∙ counted-objects (sizesOf p) (words c m t) (st .whole) q pos (omega arith)
           ∙ sym (objects-agree (sizesOf p) (words c m t) h cellOf st q pos))
 
-  pub free-stands : EveryHeap p t (λ h. freeIn p t ≡ freePages (sizesOf p) (graph h))
+  pub free-stands : freeIn p t ≡ freePages (sizesOf p) (graph h)
   unfolding ownedOne
-  free-stands c m h cellOf st = ap (λ (r : Places). freeIn r t) e ∙ heap-free (sizesOf p) (words c m t) h cellOf st
+  free-stands = ap (λ (r : Places). freeIn r t) e ∙ heap-free (sizesOf p) (words c m t) h cellOf st

@@ -3,18 +3,14 @@ use Prim.Native.Nat.{ℕ, _^_, _≤_, _<_}
 use mathlib.Core.Path.{_≡_, refl, sym, ap, ap₂, subst, _∙_}
 use mathlib.Core.List.{List, map}
 use mathlib.Core.Bool.{Bool, cond}
-use lib.Dec.{eqb}
 use lib.ListN.{length}
 use borrow.Author.Tests.{eq-eqb, ne-eqb}
-use Rattle.lists.specs.Counting.{bit, sum}
 use Rattle.rules.specs.declared.Sizes.{Sizes}
 use Rattle.rules.specs.Regions.{threadOf, levelOf}
-use Rattle.rules.specs.Rules.{Regioned}
 use Rattle.layout.specs.declared.Places.{Places}
-use Rattle.layout.specs.Places.{Room, room, sizesAt, placesOf, sizesOf, ownerOf, countOf}
+use Rattle.layout.specs.Places.{Room, room, sizesAt, placesOf, sizesOf, countOf}
 use Rattle.promises.specs.Words.{words, depthsAt}
 use Rattle.promises.specs.Whole.{WholeFor, Whole}
-use Rattle.promises.specs.StandsFor.{StandsFor}
 use Rattle.promises.specs.Agreed.{whole-for}
 use Rattle.promises.specs.Reading.{range, tables-room}
 use Rattle.pages.specs.Owned.{ownedIn}
@@ -27,10 +23,6 @@ pub record WholeTables (p : Places) (t : List ℕ) : Type 0 where
   pub cells : List ℕ
   pub remember : List ℕ
   pub whole : WholeFor (sizesOf p) (words cells remember t)
-
--- a claim about every heap that words with these tables stand for
-abbrev pub EveryHeap : Places → List ℕ → (Regioned → Type 0) → Type 0
-EveryHeap p t P = (c m : List ℕ) (h : Regioned) (cellOf : ℕ → ℕ) → StandsFor (sizesOf p) (words c m t) h cellOf → P h
 
 unfoldable pub rowIn : Places → List ℕ → ℕ → Row
 rowIn p t q = rowWith (sizesOf p) q (countOf p t q)

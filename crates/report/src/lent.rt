@@ -4,10 +4,10 @@ ghost use Prim.Native.Nat.{_+_, _<_, _≤_};
 ghost use lib.ListN.{length};
 ghost use Rattle.layout.specs.Places.{sizesAt};
 ghost use Rattle.promises.specs.Words.{words, depthsAt};
-ghost use Rattle.report.specs.Report.{Told};
+ghost use Rattle.report.specs.Report.{refusing, Told};
 ghost use Rattle.report.specs.Opened.{Next};
 ghost use Rattle.report.specs.Tables.{WholeTables, rowIn, rowsIn};
-ghost use Rattle.report.specs.Lent.{placesIn, RegionOf, refusing, Asking, written};
+ghost use Rattle.report.specs.Lent.{placesIn, RegionOf, Asking, written};
 use crate::Reported;
 use crate::Row;
 use crate::next_open;
@@ -15,18 +15,11 @@ use crate::row_count;
 use crate::row_of;
 use layout::Places;
 
-// What the questions gave: their number, how many rows to write, and the figures. On refusal there is no row to write.
-struct Asked {
-    number: u32,
-    rows: usize,
-    free_pages: u32,
-    crossing_slots: u32,
-}
-
-fn refused(number: u32) -> Asked
+// The result of a refusal: no row is to be written.
+fn refused(number: u32) -> Reported
     ensures { λ r. ⌜ r ≡ refusing number ⌝ }
 {
-    Asked {
+    Reported {
         number,
         rows: 0,
         free_pages: 0,
@@ -42,8 +35,8 @@ fn places(tables: &[u32]) -> Places
     layout::find_places(layout::read_sizes(tables))
 }
 
-// Questions 3 and 15, of a list of so many rows.
-fn ask(cells: &[u32], remember: &[u32], tables: &[u32], room: usize) -> Asked
+// Questions 3 and 15, of a list of so many rows, and the result that they give.
+fn ask(cells: &[u32], remember: &[u32], tables: &[u32], room: usize) -> Reported
     ensures { λ r. ⌜ Asking (words (now (cells .entry)) (now (remember .entry)) (now (tables .entry))) room r ⌝ }
 {
     if !whole::whole(cells, remember, tables) {
@@ -54,9 +47,9 @@ fn ask(cells: &[u32], remember: &[u32], tables: &[u32], room: usize) -> Asked
     if room < rows {
         return refused(15);
     }
-    Asked {
+    Reported {
         number: 0,
-        rows,
+        rows: rows as u32,
         free_pages: crate::free_pages(p, tables),
         crossing_slots: crate::crossing_slots(remember),
     }
@@ -91,8 +84,9 @@ fn fill(rows: &mut [Row], tables: &[u32], n: usize)
     }
 }
 
-// Writes a row for the control space and each open region, by region number. Gives 0 with free pages and crossing slots; or on refusal,
-// with no row written and both figures 0, 3 for tables that are not whole, 15 for too few rows. Spare rows never change.
+// Writes a row for the control space and each open region, by region number. Gives 0 with how many these are, free pages and crossing
+// slots; or on refusal, with no row written and the other words 0, 3 for tables that are not whole, 15 for too few rows. Spare rows never
+// change.
 #[no_mangle]
 pub extern "C" fn taldreku_report(
     cells: &[u32],
@@ -102,11 +96,7 @@ pub extern "C" fn taldreku_report(
 ) -> Reported
     ensures { λ r. ⌜ Told (words (now (cells .entry)) (now (remember .entry)) (now (tables .entry))) (now (rows .entry)) r (now (rows .exit)) ⌝ }
 {
-    let a = ask(cells, remember, tables, rows.len());
-    fill(rows, tables, a.rows);
-    Reported {
-        number: a.number,
-        free_pages: a.free_pages,
-        crossing_slots: a.crossing_slots,
-    }
+    let reported = ask(cells, remember, tables, rows.len());
+    fill(rows, tables, reported.rows as usize);
+    reported
 }

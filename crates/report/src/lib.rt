@@ -1,18 +1,13 @@
 // The report (01): a row for the control space and each open region, by region number, then free pages and crossing slots. It reads the
 // tables and changes none of them.
 ghost use mathlib.Core.Path.{_≡_};
-ghost use Prim.Native.Nat.{ℕ, _+_, _*_, _<_, _≤_};
-ghost use mathlib.Core.List.{List};
+ghost use Prim.Native.Nat.{_+_, _*_, _<_, _≤_};
 ghost use lib.ListN.{length, getD};
-ghost use Rattle.rules.specs.declared.Sizes.{Sizes};
-ghost use Rattle.rules.specs.Graph.{pagesOf, crossing, freePages};
-ghost use Rattle.rules.specs.Rules.{Regioned, graph};
-ghost use Rattle.layout.specs.Places.{Room, sizesOf, usedIn};
-ghost use Rattle.promises.specs.Words.{words, depthsAt};
-ghost use Rattle.promises.specs.StandsFor.{StandsFor};
-ghost use Rattle.report.specs.Report.{rowOf, rows, noRow};
+ghost use Rattle.layout.specs.Places.{sizesOf, usedIn};
+ghost use Rattle.promises.specs.Words.{depthsAt};
+ghost use Rattle.report.specs.Report.{rowOf, noRow};
 ghost use Rattle.report.specs.Opened.{Next, Turn};
-ghost use Rattle.report.specs.Tables.{WholeTables, EveryHeap, rowIn, rowsIn, freeIn};
+ghost use Rattle.report.specs.Tables.{WholeTables, rowIn, rowsIn, freeIn};
 use layout::Places;
 use layout::regions::level_of;
 use layout::regions::region_at;
@@ -33,10 +28,11 @@ pub struct Row {
     pub pages: u32,
 }
 
-// 0 if the rows were written, else the number of the question that said no; and the two figures.
+// 0 if the rows were written, else the number of the question that said no; how many rows were written; and the two figures.
 #[repr(C)]
 pub struct Reported {
     pub number: u32,
+    pub rows: u32,
     pub free_pages: u32,
     pub crossing_slots: u32,
 }
@@ -89,7 +85,7 @@ pub fn next_open(p: Places, tables: &[u32], region: usize) -> usize
 // How many rows there are: one for the control space, and one for each open region.
 pub fn row_count(p: Places, tables: &[u32]) -> usize
     requires { ⌜ WholeTables p (now tables) ⌝ }
-    ensures { λ n. ⌜ (n ≡ length (rowsIn p (now (tables .entry)))) × EveryHeap p (now (tables .entry)) (λ h. n ≡ length (rows (sizesOf p) h)) ⌝ }
+    ensures { λ n. ⌜ n ≡ length (rowsIn p (now (tables .entry))) ⌝ }
 {
     let threads = p.threads;
     let mut n: usize = 1;
@@ -125,7 +121,7 @@ fn open_region(p: Places, tables: &[u32], k: usize) -> usize
 pub fn row_at(p: Places, tables: &[u32], k: usize) -> Row
     requires { ⌜ WholeTables p (now tables) ⌝ }
     requires { ⌜ k < length (rowsIn p (now tables)) ⌝ }
-    ensures { λ r. ⌜ (r ≡ getD (rowsIn p (now (tables .entry))) k noRow) × EveryHeap p (now (tables .entry)) (λ h. r ≡ getD (rows (sizesOf p) h) k noRow) ⌝ }
+    ensures { λ r. ⌜ r ≡ getD (rowsIn p (now (tables .entry))) k noRow ⌝ }
 {
     row_of(p, tables, open_region(p, tables, k))
 }
@@ -133,7 +129,7 @@ pub fn row_at(p: Places, tables: &[u32], k: usize) -> Row
 // How many pages are free.
 pub fn free_pages(p: Places, tables: &[u32]) -> u32
     requires { ⌜ WholeTables p (now tables) ⌝ }
-    ensures { λ n. ⌜ (n ≡ freeIn p (now (tables .entry))) × EveryHeap p (now (tables .entry)) (λ h. n ≡ freePages (sizesOf p) (graph h)) ⌝ }
+    ensures { λ n. ⌜ n ≡ freeIn p (now (tables .entry)) ⌝ }
 {
     pages::owned_pages(p, tables, 0) as u32
 }
@@ -141,7 +137,7 @@ pub fn free_pages(p: Places, tables: &[u32]) -> u32
 // How many slots are crossing: the remember table names each once.
 pub fn crossing_slots(remember: &[u32]) -> u32
     requires { ⌜ 2 ≤ length (now remember) ⌝ }
-    ensures { λ n. ⌜ (n ≡ usedIn (now (remember .entry))) × ((s : Sizes) (c t : List ℕ) (h : Regioned) (cellOf : ℕ → ℕ) → StandsFor s (words c (now (remember .entry)) t) h cellOf → n ≡ crossing (graph h)) ⌝ }
+    ensures { λ n. ⌜ n ≡ usedIn (now (remember .entry)) ⌝ }
 {
     layout::remember::used(remember)
 }

@@ -8,21 +8,20 @@ use mathlib.Core.Bool.{Bool, true, false, cond, not}
 use lib.ListN.{length, getD, take, length-append}
 use lib.Seq.{take-suc, take-length}
 use Rattle.lists.specs.Says.{true-not-false}
-use Rattle.lists.specs.Counting.{sum-high}
 use Rattle.rules.specs.declared.Sizes.{Sizes}
 use Rattle.rules.specs.Terms.{InRange}
 use Rattle.rules.specs.Graph.{crossing, freePages}
 use Rattle.rules.specs.Rules.{Regioned, graph}
 use Rattle.layout.specs.declared.Places.{Places}
-use Rattle.layout.specs.Places.{sizesAt, sizesOf, placesOf, depthOf}
+use Rattle.layout.specs.Places.{sizesAt, sizesOf, placesOf, usedIn}
 use Rattle.promises.specs.Words.{Words, words}
 use Rattle.promises.specs.Whole.{WholeFor}
 use Rattle.promises.specs.StandsFor.{StandsFor}
-use Rattle.promises.specs.Reading.{range}
+use Rattle.promises.specs.Crossings.{heap-entries}
 use Rattle.report.specs.declared.Row.{Row}
 use Rattle.report.specs.Report.{rows, noRow}
-use Rattle.report.specs.Tables.{WholeTables, EveryHeap, rowsIn}
-use Rattle.report.specs.Stands.{row-count, rows-stand}
+use Rattle.report.specs.Tables.{WholeTables, rowsIn, freeIn}
+use Rattle.report.specs.Stands.{rows-stand, free-stands}
 use Rattle.script.specs.declared.Line.{Line}
 use Rattle.script.specs.declared.Reader.{Reader}
 use Rattle.script.specs.declared.Last.{Last}
@@ -76,12 +75,6 @@ module _ (rs : List Row) {out now after : List ℕ} {at end last : ℕ} (k : ℕ
 pub rows-all : {out after : List ℕ} {at end : ℕ} (rs : List Row) (k : ℕ) → k ≡ length rs → Put out at (rowsText (take k rs)) after end → Put out at (rowsText rs) after end
 rows-all rs k e p = put-text (ap (λ (n : ℕ). rowsText (take n rs)) e ∙ ap rowsText (take-length rs)) p
 
--- there are at most 129
-pub rows-few : (p : Places) (t : List ℕ) → WholeTables p t → length (rowsIn p t) ≤ 129
-rows-few p t k =
-    let r = range (sizesOf p) (words (k .cells) (k .remember) t) (k .whole) in
-    omega (arith, row-count p t k, r .threads-high, sum-high (depthOf t) 8 (p .threads) (λ i l. omega (arith, k .whole .placed .depths i l, r .depth-high)))
-
 -- ---- the report
 
 pub here-range : {c m t : List ℕ} {z : Sizes} → Here (words c m t) → z ≡ sizesAt t → InRange z
@@ -102,16 +95,15 @@ module _ {c m t : List ℕ} {z : Sizes} {p : Places} (here : Here (words c m t))
     pub report-end : end ≤ at + 5698
     report-end = omega (arith, last .end-is, two-length free slots (fits .0) (fits .1))
 
-    pub report-put : EveryHeap p t (λ h. free ≡ freePages (sizesOf p) (graph h))
-        → ((s : Sizes) (c t : List ℕ) (h : Regioned) (cellOf : ℕ → ℕ) → StandsFor s (words c m t) h cellOf → slots ≡ crossing (graph h))
+    pub report-put : free ≡ freeIn p t → slots ≡ usedIn m
         → (s : Sizes) (h : Regioned) (cells : List ℕ) (cellOf : ℕ → ℕ) → StandsFor s (words cells m t) h cellOf → Put out at (reported s h) after end
     unfolding reported
     report-put free-is slots-are s h cells cellOf st =
         let sized : sizesOf p ≡ s = ap sizesOf places-are ∙ st .whole .sized in
         let here : StandsFor (sizesOf p) (words cells m t) h cellOf = subst (λ (x : Sizes). StandsFor x (words cells m t) h cellOf) (sym sized) st in
         let rs : rowsIn p t ≡ rows s h = rows-stand p t (here-whole .places) cells m h cellOf here ∙ ap (λ (x : Sizes). rows x h) sized in
-        let fs : free ≡ freePages s (graph h) = free-is cells m h cellOf here ∙ ap (λ (x : Sizes). freePages x (graph h)) sized in
-        let ss : slots ≡ crossing (graph h) = slots-are s cells t h cellOf st in
+        let fs : free ≡ freePages s (graph h) = free-is ∙ free-stands p t (here-whole .places) cells m h cellOf here ∙ ap (λ (x : Sizes). freePages x (graph h)) sized in
+        let ss : slots ≡ crossing (graph h) = slots-are ∙ heap-entries s (words cells m t) h cellOf st in
         put-text (ap₂ (λ (a b : List ℕ). a ++ b) (ap rowsText rs) (ap₂ (λ (a b : ℕ). row (a ∷ b ∷ [])) fs ss))
         (put-put (omega (arith, rows-put .end-is, two-length free slots (fits .0) (fits .1))) rows-put last)
 

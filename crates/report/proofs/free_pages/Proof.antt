@@ -1,9 +1,7 @@
 -- The pages that no region owns.
-use mathlib.Core.Path.{_∙_}
 use native.Mathlib.Omega.{arith}
 use Rattle.pages.specs.Owned.{owned-few}
 use Rattle.report.specs.Tables.{tables-room-of}
-use Rattle.report.specs.Stands.{free-stands}
 use Rattle.report.proofs.free_pages.Statement.{statement}
 use Rattle.report.proofs.free_pages.Tie as tie
 
@@ -18,10 +16,7 @@ cast-result c =
     omega (arith, c .owned-pages .ensures, owned-few (a .p) (a .tables .now) 0 (a .p .pages), tables-room-of (a .p) (a .tables .now) (c .before .before .pre) (omega arith) .few)
 
 returns : tie.Need-returns
-returns c =
-    let a = c .before .before .args in
-    let n = c .owned-pages .ensures in
-    (n, λ c′ m h cellOf st. n ∙ free-stands (a .p) (a .tables .now) (c .before .before .pre .places) c′ m h cellOf st)
+returns c = c .owned-pages .ensures
 
 pub free-pages-spec : {M : Type 1} → statement M
 free-pages-spec = tie.close (tie.spec owned-pages-requires cast-result returns)

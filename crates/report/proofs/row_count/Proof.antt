@@ -2,11 +2,10 @@
 use Prim.Native.Nat.{_≤_, _-_, _+_, _*_}
 use mathlib.Core.Path.{_≡_, refl, ap, _∙_}
 use native.Mathlib.Omega.{arith}
-use lib.ListN.{length}
 use Rattle.lists.specs.Counting.{sum, sum-more}
 use Rattle.layout.specs.Places.{depthOf}
 use Rattle.report.specs.Tables.{tables-room-of}
-use Rattle.report.specs.Stands.{row-count, rows-stand}
+use Rattle.report.specs.Stands.{row-count}
 use Rattle.report.proofs.row_count.Statement.{statement}
 use Rattle.report.proofs.row_count.Tie as tie
 
@@ -60,8 +59,7 @@ returns c =
     let a = c .before .before .before .args in
     let k = c .before .before .before .pre in
     let e : c .before .loop .thread ≡ a .p .threads = omega arith in
-    let n = c .before .loop .inv .1 ∙ ap (λ k. 1 + sum (depthOf (a .tables .now)) k) e ∙ row-count (a .p) (a .tables .now) k in
-    (n, λ c′ m h cellOf st. n ∙ ap length (rows-stand (a .p) (a .tables .now) (k .places) c′ m h cellOf st))
+    c .before .loop .inv .1 ∙ ap (λ k. 1 + sum (depthOf (a .tables .now)) k) e ∙ row-count (a .p) (a .tables .now) k
 
 pub row-count-spec : {M : Type 1} → statement M
 row-count-spec =

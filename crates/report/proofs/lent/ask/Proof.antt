@@ -1,10 +1,12 @@
 -- The first question that says no decides; else the figures are those of the places that the tables name.
 use mathlib.Core.Path.{refl, sym, subst}
+use native.Mathlib.Omega.{arith}
 use Rattle.lists.specs.Says.{said-no}
 use Rattle.lists.specs.Tests.{not-is}
 use Rattle.promises.specs.Words.{words}
-use Rattle.report.specs.declared.lent.Asked.{Asked}
+use Rattle.report.specs.declared.Reported.{Reported}
 use Rattle.report.specs.Tables.{whole-tables}
+use Rattle.report.specs.Stands.{rows-few}
 use Rattle.report.specs.Lent.{Asking, asking-not-whole, asking-short, asking-all}
 use borrow.Author.Needs.{needs}
 use Rattle.report.proofs.lent.ask.Statement.{statement}
@@ -19,7 +21,7 @@ refused-requires c κs = search needs
 returns : tie.Need-returns
 returns c =
     let a = c .before .before .before .before .before .before .args in
-    subst (λ (r : Asked). Asking (words (a .cells .now) (a .remember .now) (a .tables .now)) (a .room) r) (sym (c .refused .ensures)) (asking-not-whole (words (a .cells .now) (a .remember .now) (a .tables .now)) (a .room) (said-no _ (c .before .before .whole .ensures) (not-is _ (c .before .if1 .taken))))
+    subst (λ (r : Reported). Asking (words (a .cells .now) (a .remember .now) (a .tables .now)) (a .room) r) (sym (c .refused .ensures)) (asking-not-whole (words (a .cells .now) (a .remember .now) (a .tables .now)) (a .room) (said-no _ (c .before .before .whole .ensures) (not-is _ (c .before .if1 .taken))))
 
 places-requires : tie.Need-places-requires
 places-requires c κs = whole-tables (c .before .whole .ensures .0 (not-is _ (c .if1 .left))) refl refl
@@ -33,8 +35,14 @@ refused-requires-2 c κs = search needs
 returns-2 : tie.Need-returns-2
 returns-2 c =
     let a = c .before .before .before .before .before .before .before .before .before .args in
-    subst (λ (r : Asked). Asking (words (a .cells .now) (a .remember .now) (a .tables .now)) (a .room) r) (sym (c .refused2 .ensures))
-    (asking-short (words (a .cells .now) (a .remember .now) (a .tables .now)) (a .room) (c .before .before .before .before .before .whole .ensures .0 (not-is _ (c .before .before .before .before .if1 .left))) (c .before .before .before .places .result) (c .before .before .before .places .ensures) (c .before .before .row-count .result) (c .before .before .row-count .ensures .0) (c .before .if2 .taken))
+    subst (λ (r : Reported). Asking (words (a .cells .now) (a .remember .now) (a .tables .now)) (a .room) r) (sym (c .refused2 .ensures))
+    (asking-short (words (a .cells .now) (a .remember .now) (a .tables .now)) (a .room) (c .before .before .before .before .before .whole .ensures .0 (not-is _ (c .before .before .before .before .if1 .left))) (c .before .before .before .places .result) (c .before .before .before .places .ensures) (c .before .before .row-count .result) (c .before .before .row-count .ensures) (c .before .if2 .taken))
+
+cast-t9 : tie.Need-cast-t9
+cast-t9 c =
+    let a = c .before .before .before .before .before .before .before .before .args in
+    let k = whole-tables (c .before .before .before .before .whole .ensures .0 (not-is _ (c .before .before .before .if1 .left))) refl (c .before .before .places .ensures) in
+    omega (arith, c .before .row-count .ensures, rows-few (c .before .before .places .result) (a .tables .now) k)
 
 free-pages-requires : tie.Need-free-pages-requires
 free-pages-requires c κs = whole-tables (c .before .before .before .before .whole .ensures .0 (not-is _ (c .before .before .before .if1 .left))) refl (c .before .before .places .ensures)
@@ -45,8 +53,8 @@ crossing-slots-requires c κs = (c .before .before .before .before .before .whol
 returns-3 : tie.Need-returns-3
 returns-3 c =
     let a = c .before .before .before .before .before .before .before .before .before .before .args in
-    asking-all (words (a .cells .now) (a .remember .now) (a .tables .now)) (a .room) (c .before .before .before .before .before .before .whole .ensures .0 (not-is _ (c .before .before .before .before .before .if1 .left))) (c .before .before .before .before .places .result) (c .before .before .before .before .places .ensures) (c .before .before .before .row-count .result) (c .before .before .before .row-count .ensures .0)
-    (c .before .free-pages .result) (c .crossing-slots .result) (c .before .before .if2 .left) (c .before .free-pages .ensures .1) (c .crossing-slots .ensures .1)
+    asking-all (words (a .cells .now) (a .remember .now) (a .tables .now)) (a .room) (c .before .before .before .before .before .before .whole .ensures .0 (not-is _ (c .before .before .before .before .before .if1 .left))) (c .before .before .before .before .places .result) (c .before .before .before .before .places .ensures) (c .before .before .before .row-count .result) (c .before .before .before .row-count .ensures)
+    (c .before .free-pages .result) (c .crossing-slots .result) (c .before .before .if2 .left) (c .before .free-pages .ensures) (c .crossing-slots .ensures)
 
 pub ask-spec : {M : Type 1} → statement M
 ask-spec =
@@ -59,6 +67,7 @@ ask-spec =
     row-count-requires
     refused-requires-2
     returns-2
+    cast-t9
     free-pages-requires
     crossing-slots-requires
     returns-3)

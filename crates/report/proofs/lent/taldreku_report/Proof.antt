@@ -1,8 +1,8 @@
--- A walk of `taldreku_report`'s MIR, by hand. The count of the lent rows is read, `ask` gives the answer and how many rows are to be
--- written, `fill` takes the rows for good and writes them, and the result is put together from the answer. All that the proof knows of the
--- two is that they meet their contracts.
+-- A walk of `taldreku_report`'s MIR, by hand. The count of the lent rows is read, `ask` gives the result and with it how many rows are to be
+-- written, and `fill` takes the rows for good and writes them. All that the proof knows of the two is that they meet their contracts.
 use mathlib.Core.Path.{_≡_, refl, sym, ap, subst}
 use Prim.Native.Nat.{ℕ, _<_, _^_}
+use native.Mathlib.Omega.{arith}
 use mathlib.Core.List.{[], _∷_, List}
 use lib.Dec.{T as Holds}
 use lib.ListN.{length}
@@ -20,7 +20,7 @@ use contract.Monad.{Fun, fact}
 use contract.Running.{givenOf, tables, tablesOf}
 use contract.Lifetimes.{AllOutlive}
 use types.Kit.{Given, ‵, raw, some, later, _⊛_, ⋆, _$_, _∵_, !, qed, by, move, keep, drop, use1, use2, split, join, pick, rewrite, fsplit, fjoin, feqL, suffices, frame, await, done}
-use types.Run.{look, init, forget, stop, hop, fld, from, load, addr, of-opd, and-then, no-more, assigns, land, returns, enter, alloc1, alloc0, params1, pass1, pass0, free1, free0}
+use types.Run.{look, store, init, forget, stop, hop, fld, from, load, addr, un, of-opd, and-then, no-more, assigns, land, returns, enter, alloc1, alloc0, params1, pass1, pass0, free1, free0}
 use types.Part.{agg, whole, sub, look-in}
 use sound.WpLaws.{FmC, fmOf, WpFn-mono}
 use denote.RattleType.{owns}
@@ -43,14 +43,11 @@ use denote.Signature.{plain}
 use Rattle.promises.specs.Words as wo
 use Rattle.report.specs.declared.Row.{Row}
 use Rattle.report.specs.declared.Reported.{Reported}
-use Rattle.report.specs.declared.lent.Asked.{Asked}
 use Rattle.report.specs.Tables.{rowsIn}
 use Rattle.report.specs.Lent.{placesIn, Asking, written, length-written, asked-few, told-written}
 use Rattle.report.proofs.Row as T
 use Rattle.report.proofs.Reported as R
 use Rattle.report.proofs.Reported.Laws as R′
-use Rattle.report.proofs.lent.Asked as K
-use Rattle.report.proofs.lent.Asked.Laws as K′
 use Rattle.report.proofs.lent.ask as ask
 use Rattle.report.proofs.lent.ask.Symbol as ask-def
 use Rattle.report.proofs.lent.ask.Symbol.{name as #ask}
@@ -67,24 +64,19 @@ use Rattle.report.proofs.lent.taldreku_report.Code as code
 abbrev stayed : Stays (report.ended .signature .params) (report.ended .kept)
 stayed = (stay-none-slice (0 ∷ []) tt (plain (λ _. u32)) yes, (stay-none-slice (1 ∷ []) tt (plain (λ _. u32)) yes, (stay-none-slice (2 ∷ []) tt (plain (λ _. u32)) yes, (gave-slice (3 ∷ []) tt (plain (λ _. T.the-row)), tt))))
 
--- what the questions gave as a machine value, and the result with its machine value
-abbrev mach : Asked → Val
-mach r = vstruct (vcons (vint w32 (r .number)) (vcons (vint w64 (r .rows)) (vcons (vint w32 (r .«free_pages»)) (vcons (vint w32 (r .«crossing_slots»)) vnil))))
+-- the result as a machine value
+abbrev mach : Reported → Val
+mach r = vstruct (vcons (vint w32 (r .number)) (vcons (vint w32 (r .rows)) (vcons (vint w32 (r .«free_pages»)) (vcons (vint w32 (r .«crossing_slots»)) vnil))))
 
-abbrev given : Asked → Reported
-given r = record { number = r .number; «free_pages» = r .«free_pages»; «crossing_slots» = r .«crossing_slots» }
+spelled : (r : Reported) (u : Val) → Is R.the-row r (u ∷ []) → u ∷ [] ≡ mach r ∷ []
+spelled r u is = LL.tells R.the-type R′.the-laws r (u ∷ []) is
 
-abbrev out : Asked → Val
-out r = vstruct (vcons (vint w32 (r .number)) (vcons (vint w32 (r .«free_pages»)) (vcons (vint w32 (r .«crossing_slots»)) vnil)))
+known-as : (r : Reported) (u : Val) → Is R.the-row r (u ∷ []) → Is R.the-row r (mach r ∷ [])
+known-as r u is = subst (Is R.the-row r) (spelled r u is) is
 
-spelled : (r : Asked) (u : Val) → Is K.the-row r (u ∷ []) → u ∷ [] ≡ mach r ∷ []
-spelled r u is = LL.tells K.the-type K′.the-laws r (u ∷ []) is
-
-rows-fit : (r : Asked) (u : Val) → Is K.the-row r (u ∷ []) → r .rows < 2 ^ 64
-rows-fit r u is = LL.owed K.the-type K′.the-laws r (u ∷ []) is .1 .0 .1
-
-given-is : (r : Asked) (u : Val) → Is K.the-row r (u ∷ []) → Is R.the-row (given r) (out r ∷ [])
-given-is r u is = let p = LL.owed K.the-type K′.the-laws r (u ∷ []) is in LL.owes R.the-type R′.the-laws (given r) (p .0, (p .1 .1 .0, (p .1 .1 .1 .0, tt)))
+-- the count of rows as a word of 64 bits
+rows-fit : (r : Reported) (u : Val) → Is R.the-row r (u ∷ []) → r .rows < 2 ^ 64
+rows-fit r u is = let f : r .rows < 2 ^ 32 = LL.owed R.the-type R′.the-laws r (u ∷ []) is .1 .0 .1 in omega arith
 
 module _ {M : Type 1} (𝓤 : URA M) (H : Heap 𝓤) (A : Atoms 𝓤) (mem : Memory → SProp 𝓤) (run : Routine → Fun 𝓤) where
   -- the contracts that the proof cites
@@ -129,7 +121,7 @@ module _ {M : Type 1} (𝓤 : URA M) (H : Heap 𝓤) (A : Atoms 𝓤) (W : Given
   Rows = MutSlice (named 3) κ T.the-row .own x (s ∷ [])
 
   -- the list at exit
-  abbrev zs : Asked → List Row
+  abbrev zs : Reported → List Row
   zs r = written (rowsIn (placesIn (x₂ .now)) (x₂ .now)) (r .rows) ys
 
   abbrev Arg : Type 0
@@ -144,15 +136,15 @@ module _ {M : Type 1} (𝓤 : URA M) (H : Heap 𝓤) (A : Atoms 𝓤) (W : Given
   abbrev Post : Val → SProp 𝓤
   Post = walkOf 𝓤 H A report.ended stayed (report.clauses 𝓤 H A mem run) .post (((κ₀, (κ₁, (κ₂, (κ, tt)))), (q₀, (q₁, (q₂, (q, tt)))), bounds, a, at), tt)
 
-  exits : (r : Asked) (u : Val) → Is K.the-row r (u ∷ []) → Asking w (length ys) r
-      → ent 𝓤 (⋆ 𝓤 H A (‵ (flft κ₀ q₀) ∷ ‵ (flft κ₁ q₁) ∷ (‵ (flft κ₂ q₂) ⊛ ‵ ftrue) ∷ ‵ (flft κ q) ∷ ‵ Cells ∷ ‵ Remember ∷ ‵ Tabled ∷ ‵ (finally T.the-row (x .name) (zs r)) ∷ [])) (Post (out r))
+  exits : (r : Reported) (u : Val) → Is R.the-row r (u ∷ []) → Asking w (length ys) r
+      → ent 𝓤 (⋆ 𝓤 H A (‵ (flft κ₀ q₀) ∷ ‵ (flft κ₁ q₁) ∷ (‵ (flft κ₂ q₂) ⊛ ‵ ftrue) ∷ ‵ (flft κ q) ∷ ‵ Cells ∷ ‵ Remember ∷ ‵ Tabled ∷ ‵ (finally T.the-row (x .name) (zs r)) ∷ [])) (Post (mach r))
   exits r u is k =
       qed W (‵ (flft κ₀ q₀) ∷ ‵ (flft κ₁ q₁) ∷ (‵ (flft κ₂ q₂) ⊛ ‵ ftrue) ∷ ‵ (flft κ q) ∷ ‵ Cells ∷ ‵ Remember ∷ ‵ Tabled ∷ ‵ (finally T.the-row (x .name) (zs r)) ∷ []) ∵
-      suffices ! _ (ends-at 𝓤 H A report.ended stayed (report.clauses 𝓤 H A mem run) W (((κ₀, (κ₁, (κ₂, (κ, tt)))), (q₀, (q₁, (q₂, (q, tt)))), bounds, a, at), tt) (out r) (given r) (tt, (tt, (tt, (zs r, tt)))) (tt, (tt, (tt, (long, tt))))) $
-      says ! (told-written w ys r k (zs r) refl) $
+      suffices ! _ (ends-at 𝓤 H A report.ended stayed (report.clauses 𝓤 H A mem run) W (((κ₀, (κ₁, (κ₂, (κ, tt)))), (q₀, (q₁, (q₂, (q, tt)))), bounds, a, at), tt) (mach r) r (tt, (tt, (tt, (zs r, tt)))) (tt, (tt, (tt, (long, tt))))) $
+      says ! (told-written w ys r k) $
       move ! (2 ∷ []) $ split ! $ move ! (4 ∷ 1 ∷ []) $ join ! $ move ! (1 ∷ 0 ∷ []) $ join ! $ move ! (2 ∷ 0 ∷ []) $ join ! $ move ! (1 ∷ 0 ∷ []) $ join ! $ frame ! $
       nothing ! $ move ! (4 ∷ 0 ∷ []) $ fjoin ! $ move ! (3 ∷ 0 ∷ []) $ fjoin ! $ move ! (2 ∷ 0 ∷ []) $ fjoin ! $ move ! (1 ∷ 0 ∷ []) $ fjoin ! $
-      owned ! R.the-row (Is R.the-row) (LL.makes R.the-type R′.the-plain 𝓤 H A) (given r) _ (given-is r u is) $ move ! (1 ∷ 0 ∷ []) $ done !
+      owned ! R.the-row (Is R.the-row) (LL.makes R.the-type R′.the-plain 𝓤 H A) r _ (known-as r u is) $ move ! (1 ∷ 0 ∷ []) $ done !
     where
       long : length (zs r) ≡ length ys
       long = let f = asked-few w ys r k in length-written (rowsIn (placesIn (x₂ .now)) (x₂ .now)) ys (r .rows) (f .1) (f .0)
@@ -169,14 +161,14 @@ module _ {M : Type 1} (𝓤 : URA M) (H : Heap 𝓤) (A : Atoms 𝓤) (W : Given
       nothing ! $ owned ! usize (Is usize) (uint-makes 𝓤 H A W w64) (length ys) _ (refl, roomy .0) $ fjoin ! $
       move ! (2 ∷ 0 ∷ []) $ fjoin ! $ move ! (1 ∷ 0 ∷ []) $ fjoin ! $ move ! (1 ∷ 0 ∷ []) $ fjoin ! $ move ! (1 ∷ 0 ∷ []) $ join ! $ frame ! $ done !
 
-  said-ask : (r : Asked) → ent 𝓤 (ensured 𝓤 H A ask.ended (ask.clauses 𝓤 H A mem run) (κ₀, (κ₁, (κ₂, tt))) (x₀, (x₁, (x₂, (length ys, tt)))) tt r) (fact 𝓤 (Asking w (length ys) r))
+  said-ask : (r : Reported) → ent 𝓤 (ensured 𝓤 H A ask.ended (ask.clauses 𝓤 H A mem run) (κ₀, (κ₁, (κ₂, tt))) (x₀, (x₁, (x₂, (length ys, tt)))) tt r) (fact 𝓤 (Asking w (length ys) r))
   said-ask r = exE 𝓤 _ (λ ls. snd∗ 𝓤 (sem 𝓤 H A (lasts ask.ended (κ₀, (κ₁, (κ₂, tt))) (x₀, (x₁, (x₂, (length ys, tt)))) ls)) (fact 𝓤 (Asking w (length ys) r)))
 
   -- `fill` takes the rows for good, at their own lifetime, share and name
   abbrev to-fill : ℕ → Fill 𝓤 H A mem run .Ghost
   to-fill n = (((κ, (κ₂, tt)), (q, (q₂, tt)), tt, (x, (x₂, (n, tt))), (s ∷ [], (s₂ ∷ [], (vint w64 n ∷ [], tt)))), tt)
 
-  goes-fill : (r : Asked) → r .rows < 2 ^ 64 → Asking w (length ys) r
+  goes-fill : (r : Reported) → r .rows < 2 ^ 64 → Asking w (length ys) r
       → ent 𝓤 (sep 𝓤 (sep 𝓤 (A .lft κ q) (sem 𝓤 H A Rows)) (sep 𝓤 (A .lft κ₂ q₂) (sem 𝓤 H A Tabled))) (Fill 𝓤 H A mem run .pre (to-fill (r .rows)))
   goes-fill r fits k =
       qed W ((‵ (flft κ q) ⊛ ‵ Rows) ∷ (‵ (flft κ₂ q₂) ⊛ ‵ Tabled) ∷ []) ∵ split ! $ move ! (2 ∷ []) $ split ! $ move ! (2 ∷ 3 ∷ 0 ∷ 1 ∷ []) $ says ! (asked-few w ys r k) $
@@ -201,23 +193,24 @@ module _ {M : Type 1} (𝓤 : URA M) (H : Heap 𝓤) (A : Atoms 𝓤) (W : Given
         move ! (2 ∷ 0 ∷ []) $ join ! $ move ! (3 ∷ 0 ∷ []) $ join ! $ move ! (5 ∷ 6 ∷ []) $ join ! $ move ! (5 ∷ 0 ∷ []) $ join ! $
         use2 W (raw (Ask 𝓤 H A mem run .pre to-ask)) goes-ask $
         calls-at ! fm (Ask 𝓤 H A mem run) known-ask to-ask (and-then ! (load ! (from ! (stop !)) (look ! 22 refl)) (and-then ! (load ! (from ! (stop !)) (look ! 20 refl)) (and-then ! (load ! (from ! (stop !)) (look ! 18 refl)) (and-then ! (load ! (from ! (stop !)) (look ! 12 refl)) (no-more !))))) (λ u.
-        use1 W (later (some (λ (r : Asked). ((‵ (flft κ₀ q₀) ⊛ ‵ (flft κ₁ q₁) ⊛ ‵ (flft κ₂ q₂) ⊛ ‵ ftrue) ⊛ ‵ (K.the-row .own r (u ∷ []))) ⊛ raw (ensured 𝓤 H A ask.ended (ask.clauses 𝓤 H A mem run) (κ₀, (κ₁, (κ₂, tt))) (x₀, (x₁, (x₂, (length ys, tt)))) tt r)))) (id⊢ 𝓤 _) $ await ! tt $ pick ! (λ r.
-        split ! $ move ! (1 ∷ []) $ use1 W (raw (fact 𝓤 (Asking w (length ys) r))) (said-ask r) $ heard ! (Asking w (length ys) r) (λ k. split ! $ move ! (1 ∷ []) $ peeks ! K.the-row (Is K.the-row) (shows 𝓤 H A K.the-row) r (u ∷ []) (λ is.
-        land ! (from ! (stop !)) (init ! 15 refl (LL.lawful K.the-type K′.the-laws 𝓤 H A W .typed r _ is .0)) $ rewrite ! 15 (λ (v : Val). ‵ (fat fullShare K′.mir l₅ 0 v)) (ap only (spelled r u is)) refl $ drop ! $
+        use1 W (later (some (λ (r : Reported). ((‵ (flft κ₀ q₀) ⊛ ‵ (flft κ₁ q₁) ⊛ ‵ (flft κ₂ q₂) ⊛ ‵ ftrue) ⊛ ‵ (R.the-row .own r (u ∷ []))) ⊛ raw (ensured 𝓤 H A ask.ended (ask.clauses 𝓤 H A mem run) (κ₀, (κ₁, (κ₂, tt))) (x₀, (x₁, (x₂, (length ys, tt)))) tt r)))) (id⊢ 𝓤 _) $ await ! tt $ pick ! (λ r.
+        split ! $ move ! (1 ∷ []) $ use1 W (raw (fact 𝓤 (Asking w (length ys) r))) (said-ask r) $ heard ! (Asking w (length ys) r) (λ k. split ! $ move ! (1 ∷ []) $ peeks ! R.the-row (Is R.the-row) (shows 𝓤 H A R.the-row) r (u ∷ []) (λ is.
+        land ! (from ! (stop !)) (init ! 15 refl (LL.lawful R.the-type R′.the-laws 𝓤 H A W .typed r _ is .0)) $ rewrite ! 15 (λ (v : Val). ‵ (fat fullShare R′.mir l₅ 0 v)) (ap only (spelled r u is)) refl $ drop ! $
         -- [the three tokens; tables; remember; cells; the token; the rows; the locals]
         assigns ! (addr ! (from ! (fld ! refl (hop ! (look-in ! 16 (sub ! 0 refl (whole !))) (stop !))))) (from ! (stop !)) (init ! 8 refl (tt, tt)) $
         assigns ! (agg ! (and-then ! (load ! (from ! (stop !)) (look ! 8 refl)) (and-then ! (load ! (from ! (fld ! refl (stop !))) (look-in ! 16 (sub ! 1 refl (whole !)))) (no-more !)))) (from ! (stop !)) (init ! 6 refl (tt, (tt, (record { fits = roomy .0 }, tt)))) $
+        assigns ! (un ! (load ! (from ! (fld ! refl (stop !))) (look-in ! 14 (sub ! 1 refl (whole !)))) (record { fits = rows-fit r u is })) (from ! (stop !)) (store ! 12 refl (tt, record { fits = rows-fit r u is })) $
         split ! $ move ! (1 ∷ []) $ split ! $ move ! (1 ∷ []) $ split ! $
         move ! (4 ∷ []) $ use1 W (‵ Tabled ⊛ ‵ Tabled) (shr-slice-copy 𝓤 H A W (named 2) κ₂ u32 .twice x₂ (s₂ ∷ [])) $ split ! $ move ! (2 ∷ 0 ∷ []) $ join ! $ move ! (7 ∷ 8 ∷ []) $ join ! $
         use2 W (raw (Fill 𝓤 H A mem run .pre (to-fill (r .rows)))) (goes-fill r (rows-fit r u is) k) $
-        calls-at ! fm (Fill 𝓤 H A mem run) known-fill (to-fill (r .rows)) (and-then ! (load ! (from ! (stop !)) (look ! 7 refl)) (and-then ! (load ! (from ! (stop !)) (look ! 19 refl)) (and-then ! (load ! (from ! (fld ! refl (stop !))) (look-in ! 15 (sub ! 1 refl (whole !)))) (no-more !)))) (λ v.
+        calls-at ! fm (Fill 𝓤 H A mem run) known-fill (to-fill (r .rows)) (and-then ! (load ! (from ! (stop !)) (look ! 7 refl)) (and-then ! (load ! (from ! (stop !)) (look ! 19 refl)) (and-then ! (load ! (from ! (stop !)) (look ! 13 refl)) (no-more !)))) (λ v.
         use1 W (later (some (λ (r₂ : Unit {0}). ((‵ (flft κ q) ⊛ (‵ (flft κ₂ q₂) ⊛ ‵ ftrue)) ⊛ ‵ (Nothing .own r₂ (v ∷ [])))
         ⊛ some (λ (ls : List Row × (Unit {0} × (Unit {0} × Unit {0}))). ‵ (lasts fill.ended (κ, (κ₂, tt)) (x, (x₂, (r .rows, tt))) ls) ⊛ raw (fact 𝓤 (ls .0 ≡ zs r)))))) (id⊢ 𝓤 _) $ await ! tt $ pick ! (λ r₂.
         split ! $ move ! (1 ∷ []) $ pick ! (λ ls. split ! $ move ! (1 ∷ []) $ heard ! (ls .0 ≡ zs r) (λ e. fsplit ! $ fsplit ! $ move ! (3 ∷ []) $ split ! $ move ! (1 ∷ []) $ feqL ! (λ none.
         -- [the two tokens; the last list; that it is as long; true; tables; true; the other two tokens; remember; cells; the locals, from _9 down]
         land ! (from ! (stop !)) (init ! 14 refl (subst (λ (m : Val). Holds (hasTy tyUnit m) × WT m) (sym (ap only none)) (tt, tt))) $
         rewrite ! 1 (λ (l : List Row). ‵ (finally T.the-row (x .name) l)) e refl $
-        assigns ! (agg ! (and-then ! (load ! (from ! (fld ! refl (stop !))) (look-in ! 18 (sub ! 0 refl (whole !)))) (and-then ! (load ! (from ! (fld ! refl (stop !))) (look-in ! 18 (sub ! 2 refl (whole !)))) (and-then ! (load ! (from ! (fld ! refl (stop !))) (look-in ! 18 (sub ! 3 refl (whole !)))) (no-more !))))) (from ! (stop !)) (init ! 28 refl (LL.lawful R.the-type R′.the-laws 𝓤 H A W .typed (given r) _ (given-is r u is) .0)) $
+        assigns ! (of-opd ! (load ! (from ! (stop !)) (look ! 18 refl))) (from ! (stop !)) (init ! 28 refl (LL.lawful R.the-type R′.the-laws 𝓤 H A W .typed r _ (known-as r u is) .0)) $
         returns ! (look ! 28 refl) $ forget ! 10 refl $ forget ! 12 refl $ forget ! 14 refl $ forget ! 16 refl $ forget ! 18 refl $ forget ! 20 refl $ forget ! 22 refl $ forget ! 24 refl $ forget ! 26 refl $ forget ! 28 refl $
         move ! (28 ∷ 29 ∷ []) $ free1 ! $ move ! (26 ∷ 27 ∷ []) $ free1 ! $ move ! (24 ∷ 25 ∷ []) $ free1 ! $ move ! (22 ∷ 23 ∷ []) $ free1 ! $ move ! (20 ∷ 21 ∷ []) $ free1 ! $ move ! (18 ∷ 19 ∷ []) $ free1 ! $ move ! (16 ∷ 17 ∷ []) $ free1 ! $ move ! (14 ∷ 15 ∷ []) $ free1 ! $ move ! (12 ∷ 13 ∷ []) $ free1 ! $ move ! (10 ∷ 11 ∷ []) $ free1 ! $ free0 ! $
         split ! $ keep ! (8 ∷ 7 ∷ 1 ∷ 0 ∷ 10 ∷ 9 ∷ 5 ∷ 2 ∷ []) $ by ! (exits r u is k))))))))))))))))))))

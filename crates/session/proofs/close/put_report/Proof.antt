@@ -39,7 +39,7 @@ returns c =
     let slots = crossing-slots .ok in
     let fits : (free-pages .result < 4294967296) × (crossing-slots .result < 4294967296) = omega (arith, free, slots) in
     let rows = put-rows .ensures in
-    (report-put (pre .0 .1) (read-sizes .ensures) (find-places .ensures) (pre .1) (rows .0) (rows .1) fits (c .before .before .put-two .ensures) (free-pages .ensures .1) (crossing-slots .ensures .1), report-end (pre .0 .1) (read-sizes .ensures) (find-places .ensures) (pre .1) (rows .0) (rows .1) fits (c .before .before .put-two .ensures))
+    (report-put (pre .0 .1) (read-sizes .ensures) (find-places .ensures) (pre .1) (rows .0) (rows .1) fits (c .before .before .put-two .ensures) (free-pages .ensures) (crossing-slots .ensures), report-end (pre .0 .1) (read-sizes .ensures) (find-places .ensures) (pre .1) (rows .0) (rows .1) fits (c .before .before .put-two .ensures))
 
 pub put-report-spec : {M : Type 1} → statement M
 put-report-spec =

@@ -4,9 +4,10 @@ use mathlib.Core.Path.{_≡_, refl, _∙_}
 use native.Mathlib.Omega.{arith}
 use lib.ListN.{length, take}
 use Rattle.report.specs.Tables.{rowsIn}
+use Rattle.report.specs.Stands.{rows-few}
 use Rattle.script.specs.Writing.{Put}
 use Rattle.session.specs.Printed.{rowsText}
-use Rattle.session.specs.Closing.{rows-none, row-end, row-next, rows-all, rows-few}
+use Rattle.session.specs.Closing.{rows-none, row-end, row-next, rows-all}
 use Rattle.session.proofs.close.put_rows.Statement.{statement}
 use Rattle.session.proofs.close.put_rows.Tie as tie
 
@@ -23,10 +24,10 @@ loop-holds : tie.Need-loop-holds Inv-loop μ-loop
 loop-holds c = (omega arith, omega arith, refl, rows-none (rowsIn (c .before .before .before .args .p) (c .before .before .before .args .tables .now)) _ _)
 
 row-at-requires : tie.Need-row-at-requires Inv-loop μ-loop
-row-at-requires c κs = (c .before .before .before .before .before .pre .0, omega (arith, c .before .before .row-count .ensures .0))
+row-at-requires c κs = (c .before .before .before .before .before .pre .0, omega (arith, c .before .before .row-count .ensures))
 
 put-four-requires : tie.Need-put-four-requires Inv-loop μ-loop
-put-four-requires c κs = omega (arith, c .before .before .before .before .row-count .ensures .0, rows-few _ _ (c .before .before .before .before .before .before .before .pre .0), c .before .before .before .before .before .before .before .pre .1)
+put-four-requires c κs = omega (arith, c .before .before .before .before .row-count .ensures, rows-few _ _ (c .before .before .before .before .before .before .before .pre .0), c .before .before .before .before .before .before .before .pre .1)
 
 add-k : tie.Need-add-k Inv-loop μ-loop
 add-k c = omega arith
@@ -45,15 +46,15 @@ loop-again c =
     let r = row-at .result in
     let ok = row-at .ok in
     let fits : (r .thread < 4294967296) × (r .level < 4294967296) × (r .objects < 4294967296) × (r .pages < 4294967296) = omega (arith, ok) in
-    let h : loop .k < length rs = omega (arith, row-count .ensures .0) in
-    let room : args .at + 44 * (loop .k + 1) ≤ length (args .out .now) = omega (arith, row-count .ensures .0, rows-few _ _ (pre .0), pre .1) in
-    (omega arith, row-end rs (loop .k) h (row-at .ensures .0) fits (loop .inv .1) room (loop .inv .3) (c .before .before .put-four .ensures), (c .before .before .put-four .kept .0) ∙ (loop .inv .2), row-next rs (loop .k) h (row-at .ensures .0) fits (loop .inv .1) room (loop .inv .3) (c .before .before .put-four .ensures))
+    let h : loop .k < length rs = omega (arith, row-count .ensures) in
+    let room : args .at + 44 * (loop .k + 1) ≤ length (args .out .now) = omega (arith, row-count .ensures, rows-few _ _ (pre .0), pre .1) in
+    (omega arith, row-end rs (loop .k) h (row-at .ensures) fits (loop .inv .1) room (loop .inv .3) (c .before .before .put-four .ensures), (c .before .before .put-four .kept .0) ∙ (loop .inv .2), row-next rs (loop .k) h (row-at .ensures) fits (loop .inv .1) room (loop .inv .3) (c .before .before .put-four .ensures))
 
 same-length : tie.Need-same-length Inv-loop μ-loop
 same-length c = omega arith
 
 returns : tie.Need-returns Inv-loop μ-loop
-returns c = (rows-all _ _ (let e : c .before .loop .k ≡ length (rowsIn (c .before .before .before .before .before .args .p) (c .before .before .before .before .before .args .tables .now)) = omega (arith, c .before .before .row-count .ensures .0) in e) (c .before .loop .inv .3), omega (arith, c .before .before .row-count .ensures .0, rows-few _ _ (c .before .before .before .before .before .pre .0)))
+returns c = (rows-all _ _ (let e : c .before .loop .k ≡ length (rowsIn (c .before .before .before .before .before .args .p) (c .before .before .before .before .before .args .tables .now)) = omega (arith, c .before .before .row-count .ensures) in e) (c .before .loop .inv .3), omega (arith, c .before .before .row-count .ensures, rows-few _ _ (c .before .before .before .before .before .pre .0)))
 
 pub put-rows-spec : {M : Type 1} → statement M
 put-rows-spec =
