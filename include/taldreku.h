@@ -1,14 +1,56 @@
-/* Taldreku: an epoch heap in three lent slices of 32-bit words.
+/* Taldreku: an epoch heap in three lent arrays of 32-bit words, for x86-64 Linux.
+ *
+ * Terms
+ *
+ * object          Up to 14 fields: references, each null or an object, and numbers of 32 bits. An object has no address: a program reaches
+ *                 it from a variable.
+ * thread          A row of variables, each null or an object, and a stack of epochs. It is no thread of the operating system: nothing runs
+ *                 on it, and a program may use all threads of a heap from wherever it likes.
+ * epoch, region   A thread starts and ends epochs, one inside the other; the outermost is its level 1. The objects made in an epoch lie in
+ *                 its region, which ends with it.
+ * control space   The region of no epoch. What a thread makes while it has no epoch open lies here. It never ends, and no object in it is
+ *                 ever freed.
+ * page            Room for 16 objects of one region. A region of n objects uses n / 16 pages, rounded up.
+ * slot            A reference field of an object.
+ * crossing slot   A slot of an object in one region that points into another region, be it further in, further out or of another thread,
+ *                 unless that is the control space.
+ * remember entry  The heap keeps an entry for each crossing slot; there are as many as it was prepared with.
+ *
+ * The end of an epoch frees the objects of its region, except those that a variable or a slot of another region leads to, directly or by way
+ * of objects of the ending region. These move, and variables and slots go on leading to the same objects. What leads to one calls for a region:
+ *
+ *     a variable of the same thread                     the region around the ending one, for level 1 the control space
+ *     a slot of a region of the same thread             that region
+ *     a slot of the control space, or a variable or
+ *     a slot of a region of another thread              the control space
+ *
+ * and it moves to the outermost region that is called for.
+ *
+ * Calls
  *
  * The caller asks for the three lengths, lends three arrays, has them prepared, and then runs blocks of commands on them and has reports
  * of them. Every function takes any values at all, always returns, and either does its work or gives one of the refusal numbers below and
  * changes nothing.
  *
- * An array is passed as a pointer and its length in words, a list of rows in rows. Longer arrays than asked for are accepted, and their
- * extra words and rows never change. The arrays of one call must not overlap, and nobody else may write them during the call. No function
- * keeps a pointer, none allocates, and none calls back. A call takes less than 64 KB of stack.
+ * An array is passed as a pointer and its length in words, a list of rows in rows. The pointer may be NULL if the length is 0. Longer arrays
+ * than asked for are accepted, and their extra words and rows never change. The arrays of one call must not overlap, and nobody else may
+ * write them during the call.
  *
- * Link with libheap.a, libreport.a and liblayout.a (see README.md).
+ * The heap is what stands in the three arrays: no function keeps a pointer or anything else between calls, none allocates, and none calls
+ * back. So calls on one heap are made one at a time, from any thread of the operating system, and different heaps are independent: calls on
+ * them may be made at the same time. A heap may be copied, or written to a file, word for word. A call takes less than TALDREKU_STACK_BYTES
+ * of stack.
+ *
+ * How many pages and remember entries
+ *
+ * They stay as prepared. A page takes 1 KiB of the cells, an entry two words of the remember table.
+ *
+ * Pages: as many as all regions use together at any time. The control space counts with all that it will ever hold, since it never shrinks; at
+ * an end the survivors count where they lie and where they go, since they move before their old pages are free. For an import that has two
+ * sheets of 1,000 objects open at a time and ends with 3,000 objects in the control space: 188 + 2 * 63 = 314.
+ *
+ * Entries: the slots that cross at one time, those of objects that nothing leads to any more too, until their region ends. Slots into the
+ * control space and inside one region take none. With 0 no slot may cross.
  */
 #ifndef TALDREKU_H
 #define TALDREKU_H
@@ -20,25 +62,35 @@
 extern "C" {
 #endif
 
-/* Sizes: threads 1 to 16, variables per thread 1 to 32, nesting depth 1 to 8, pages 1 to 1,024 (16 objects each), remember entries 0 to
- * 4,096. */
+#define TALDREKU_VERSION "1.0.0"
+#define TALDREKU_VERSION_MAJOR 1
+#define TALDREKU_VERSION_MINOR 0
+#define TALDREKU_VERSION_PATCH 0
 
-/* How many words each array needs; 0 if a size is out of range. */
-uint32_t taldreku_cells_length(uint32_t pages);
-uint32_t taldreku_remember_length(uint32_t entries);
-uint32_t taldreku_tables_length(uint32_t threads, uint32_t variables, uint32_t depth, uint32_t pages);
+/* The largest sizes. All but the entries are at least 1. */
+#define TALDREKU_MAX_THREADS 16
+#define TALDREKU_MAX_VARIABLES 32      /* of each thread */
+#define TALDREKU_MAX_DEPTH 8           /* epochs of one thread that are open at a time */
+#define TALDREKU_MAX_PAGES 1024
+#define TALDREKU_MAX_ENTRIES 4096      /* remember entries */
 
-/* What a call or a command was refused for. */
+#define TALDREKU_MAX_FIELDS 14         /* of an object, references and numbers together */
+#define TALDREKU_MAX_ROWS 129          /* of a report: 1 + threads * depth */
+#define TALDREKU_COMMAND_WORDS 5
+#define TALDREKU_ANSWER_WORDS 2
+#define TALDREKU_STACK_BYTES 40960     /* enough for any call */
+
+/* What a call or a command was refused for. Where there are several reasons, the smallest number is given. */
 enum taldreku_number {
     TALDREKU_DONE = 0,
     /* prepare: nothing was written */
     TALDREKU_SIZES = 1,          /* a size is out of range */
     TALDREKU_SHORT = 2,          /* one of the three arrays is too short */
-    /* run: tables and answers are untouched; report: no row was written, and both figures are 0 */
-    TALDREKU_NOT_WHOLE = 3,      /* the tables are not those of a heap */
+    /* run: heap and answers are as before; report: no row was written, and rows, free_pages and crossing_slots are 0 */
+    TALDREKU_NOT_WHOLE = 3,      /* the arrays do not hold a heap */
     TALDREKU_BLOCK = 4,          /* the block is no multiple of five words */
     TALDREKU_ANSWERS = 5,        /* the answer array has fewer than two words for each command */
-    /* one command: the tables are as before it, its value is 0, and the block goes on */
+    /* one command: the heap is as before it, its value is 0, and the block goes on */
     TALDREKU_CODE = 6,           /* the code is not known */
     TALDREKU_THREAD = 7,         /* there is no such thread */
     TALDREKU_OPERAND = 8,        /* a variable or thread that is not there, an unused operand that is not 0, more than 14 fields */
@@ -48,16 +100,16 @@ enum taldreku_number {
     TALDREKU_NO_EPOCH = 12,      /* end: the thread has no open epoch */
     TALDREKU_PAGES = 13,         /* a new object or an end needs more pages than are free */
     TALDREKU_ENTRIES = 14,       /* a store or an end would leave more crossing slots than there are remember entries */
-    /* report: no row was written, and both figures are 0 */
+    /* report: as for 3 */
     TALDREKU_ROWS = 15           /* there is not a row for the control space and each open region */
 };
 
-/* A command is five words: code, thread, a, b, c. Operands that a code does not use are 0. Fields count from 0. */
+/* A command is five words: code, thread, a, b, c. Operands that a code does not use are 0. Threads, variables and fields count from 0. */
 enum taldreku_code {
     TALDREKU_START = 1,          /* start an epoch of the thread */
     TALDREKU_END = 2,            /* end the thread's innermost epoch */
     TALDREKU_NEW = 3,            /* new object in variable a, with b references (null) and c numbers (0); b + c at most 14 */
-    TALDREKU_COPY = 4,           /* variable a becomes variable b of thread c */
+    TALDREKU_COPY = 4,           /* variable a becomes variable b of thread c, which may be another */
     TALDREKU_CLEAR = 5,          /* variable a becomes null */
     TALDREKU_LOAD = 6,           /* variable a becomes reference c of the object in b; value 1 for an object, 0 for null */
     TALDREKU_STORE = 7,          /* reference b of the object in a becomes variable c */
@@ -66,13 +118,23 @@ enum taldreku_code {
     TALDREKU_SAME = 10           /* value 1 if variables a and b hold the same object or are both null, else 0 */
 };
 
-/* Writes the tables of an unused heap of these sizes. Gives 0, 1 or 2. */
+/* How many words each array needs; 0 if a size is out of range. */
+uint32_t taldreku_cells_length(uint32_t pages);
+uint32_t taldreku_remember_length(uint32_t entries);
+uint32_t taldreku_tables_length(uint32_t threads, uint32_t variables, uint32_t depth, uint32_t pages);
+
+/* Writes a heap without objects of these sizes, over whatever the arrays hold. Gives 0, 1 or 2. */
 uint32_t taldreku_prepare(uint32_t threads, uint32_t variables, uint32_t depth, uint32_t pages, uint32_t entries,
                           uint32_t *cells, size_t cells_words, uint32_t *remember, size_t remember_words,
                           uint32_t *tables, size_t tables_words);
 
 /* Obeys the commands of a block in order and writes two words for each, number and value, into answers. Gives 0, 3, 4 or 5. An empty
- * block is accepted. The tables are checked once for each call, so large blocks are cheaper than small ones. */
+ * block is accepted.
+ *
+ * The block goes on after a refused command: let one that may be refused for room, with 13 or 14, be the last of its block, and it can be
+ * tried again alone. Room comes back when an epoch ends, and the more so if variables that are no longer needed are cleared first; an entry
+ * comes back also when null is stored in its slot. The whole heap is checked once for each call, so a few large blocks cost less than many
+ * small ones. */
 uint32_t taldreku_run(uint32_t *cells, size_t cells_words, uint32_t *remember, size_t remember_words,
                       uint32_t *tables, size_t tables_words, const uint32_t *block, size_t block_words,
                       uint32_t *answers, size_t answers_words);
@@ -82,13 +144,13 @@ struct taldreku_row {
     uint32_t thread, level, objects, pages;
 };
 
-/* The result of a report: 0, 3 or 15; how many rows were written, 0 on refusal; and the two figures. */
+/* The result of a report: 0, 3 or 15; how many rows were written; pages that are free, and slots that are crossing. */
 struct taldreku_reported {
     uint32_t number, rows, free_pages, crossing_slots;
 };
 
-/* Writes a row for the control space and one for each open region, by region number: the control space, then thread by thread from the
- * outermost region in. 1 + threads * depth rows are always enough. Only the rows are written. */
+/* Writes a row for the control space and one for each open region: the control space, then thread by thread from the outermost region in.
+ * Changes nothing but these rows. */
 struct taldreku_reported taldreku_report(const uint32_t *cells, size_t cells_words, const uint32_t *remember, size_t remember_words,
                                          const uint32_t *tables, size_t tables_words, struct taldreku_row *rows, size_t rows_count);
 
