@@ -29,8 +29,8 @@
  * Calls
  *
  * The caller asks for the three lengths, lends three arrays, has them prepared, and then runs blocks of commands on them and has reports
- * of them. Every function takes any values at all, always returns, and either does its work or gives one of the refusal numbers below and
- * changes nothing.
+ * of them. Every function takes any numbers and any contents of the arrays, always returns, and either does its work or gives one of the
+ * refusal numbers below and changes nothing.
  *
  * An array is passed as a pointer and its length in words, a list of rows in rows. The pointer may be NULL if the length is 0. Longer arrays
  * than asked for are accepted, and their extra words and rows never change. The arrays of one call must not overlap, and nobody else may
