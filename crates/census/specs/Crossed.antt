@@ -9,6 +9,7 @@ use native.Mathlib.Nat.{one-mul, zero-mul}
 use lib.Dec.{eqb, ltb}
 use lib.ListN.{length, getD}
 use borrow.Author.Tests.{eq-eqb, ne-eqb, lt-ltb, le-ltb}
+use Rattle.lists.specs.Tests.{cond-zero}
 use Rattle.lists.specs.Counting.{sum, sum-same, sum-none, sum-plus, sum-add, sum-blocks}
 use Rattle.lists.specs.OneToOne.{Paired, sum-paired}
 use Rattle.lists.specs.Bits.{bit-lt}
@@ -263,9 +264,9 @@ module _ (s : Sizes) (w : Words) (k : WholeFor s w) (space : Room (placesOf s) (
           sum-none (λ j. still (16 * x + j)) 16
           (λ j m.
           let c : cellOf (16 * x + j) ≡ x = omega arith in
-          cond-zero (ltb 0 (crossTo p (w .cells) (w .tables) (16 * x + j))) (slotCrosses p (w′ .cells) (w′ .tables) r (16 * x + j))
+          cond-zero (ltb 0 (crossTo p (w .cells) (w .tables) (16 * x + j))) (slotCrosses p (w′ .cells) (w′ .tables) r (16 * x + j)) 0
           (ap (λ (b : Bool). cond b 0 (crossAfter p (w′ .cells) (w′ .tables) r (owner p (w′ .tables) (cellOf (16 * x + j))) (getD (w′ .cells) (16 * x + j) 0)))
-          (eq-eqb (owner p (w′ .tables) (cellOf (16 * x + j))) r (ap (owner p (w′ .tables)) c ∙ owner-now x u ∙ e))))
+          (eq-eqb (owner p (w′ .tables) (cellOf (16 * x + j))) r (ap (owner p (w′ .tables)) c ∙ owner-now x u ∙ e))) refl)
           ∙ sym (ap (λ (b : Bool). cond b 0 (crossAt h x)) (eq-eqb (homeIn s w x) r e))
       go (no n) (yes z) =
           sum-none (λ j. still (16 * x + j)) 16
