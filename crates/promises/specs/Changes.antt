@@ -16,9 +16,6 @@ withTables w t = record { cells = w .cells; remember = w .remember; tables = t }
 abbrev pub withCells : Words → List ℕ → Words
 withCells w c = record { cells = c; remember = w .remember; tables = w .tables }
 
-abbrev pub withRemember : Words → List ℕ → Words
-withRemember w m = record { cells = w .cells; remember = m; tables = w .tables }
-
 -- variable i, counted through all threads, becomes u
 abbrev pub withVariable : Regioned → ℕ → ℕ → Regioned
 withVariable h i u = record { heap = record { depths = h .heap .depths; vars = set (h .heap .vars) i u; objects = h .heap .objects }; homes = h .homes }

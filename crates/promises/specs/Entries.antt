@@ -57,10 +57,6 @@ exact-everywhere f f′ n N m e x =
     }
 
 module _ (f f′ : ℕ → ℕ) (n N : ℕ) (m : List ℕ) (x : Exact f n N m) (at : ℕ) (low : at < n) (else′ : Elsewhere f f′ at) where
-  -- an entry of another number stays right
-  entry-other : (a g : ℕ) → (a ≡ at → ⊥) → Entry f n a g → Entry f′ n a g
-  entry-other a g d e = record { slot = e .slot; region = e .region; right = else′ a d ∙ e .right }
-
   -- f does not change at all
   pub exact-same : f′ at ≡ f at → Exact f′ n N m
   exact-same e = exact-everywhere f f′ n N m (λ q l. go q (ℕ-discrete q at)) x

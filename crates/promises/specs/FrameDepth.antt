@@ -1,7 +1,6 @@
 -- A thread's depth is stored: the words stand for the heap with that depth.
-use Prim.Native.Nat.{ℕ, suc, _+_, _-_, _*_, _≤_, _<_}
+use Prim.Native.Nat.{ℕ, _*_, _≤_, _<_}
 use native.Mathlib.Omega.{arith}
-use native.Mathlib.Nat.{div-add-mod'}
 use native.Mathlib.Decide.{ℕ-discrete}
 use mathlib.Core.Path.{_≡_, refl, sym, ap, subst, _∙_}
 use mathlib.Core.List.{List}
@@ -9,7 +8,6 @@ use lib.ListN.{length, set, take, drop, length-set}
 use lib.Seq.{drop-set-add, drop-set-lt, take-set-lt}
 use Rattle.lists.specs.Stores.{put, past}
 use Rattle.rules.specs.declared.Sizes.{Sizes}
-use Rattle.rules.specs.Regions.{regionAt, threadOf, levelOf}
 use Rattle.rules.specs.Rules.{Regioned}
 use Rattle.laws.specs.RulesLaws.{Sound}
 use Rattle.layout.specs.Places.{placesOf, depthAt, depthOf, varAt, varOf, ownersFrom, tablesWords, count-room, count-is}
@@ -62,29 +60,6 @@ module _ (s : Sizes) (w : Words) (k : WholeFor s w) (t d : ℕ) (l : t < s .thre
       go : (u : ℕ) → Dec (u ≡ t) → depthOf (w .tables) u ≤ depthOf T u
       go u (yes e) = omega (arith, ap (depthOf T) e, ap (depthOf (w .tables)) e, here)
       go u (no e) = omega (arith, elsewhere u e)
-
-  -- and if it falls by one, where the innermost region owns no page
-  pub lowered-open : depthIn w t ≡ suc d → ((page : ℕ) → page < s .pages → ownerIn s w page ≡ regionAt s t (suc d) → ⊥) → OpenStill
-  unfolding regionAt
-  lowered-open e none page m z = go (ℕ-discrete (threadOf s g) t)
-    where
-      g : ℕ
-      g = ownerIn s w page
-
-      o : Open (placesOf s) (w .tables) g
-      o = k .placed .pages page m .region z
-
-      number : g ≡ 1 + threadOf s g * s .depth + levelOf s g
-      number = omega (arith, div-add-mod' (g - 2) (s .depth))
-
-      go : Dec (threadOf s g ≡ t) → Open (placesOf s) T g
-      go (no n) = record { real = o .real; thread = o .thread; level = subst (λ (x : ℕ). levelOf s g ≤ x) (sym (elsewhere (threadOf s g) n)) (o .level) }
-      go (yes q) =
-          let same : threadOf s g * s .depth ≡ t * s .depth = ap (λ (x : ℕ). x * s .depth) q in
-          let deep : levelOf s g ≤ suc d = subst (λ (x : ℕ). levelOf s g ≤ x) (ap (depthOf (w .tables)) q ∙ e) (o .level) in
-          let other : levelOf s g ≡ suc d → ⊥ = λ (y : levelOf s g ≡ suc d). none page m (omega (arith, number)) in
-          let less : levelOf s g ≤ d = omega arith in
-          record { real = o .real; thread = o .thread; level = subst (λ (x : ℕ). levelOf s g ≤ x) (sym (ap (depthOf T) q ∙ here)) less }
 
   depths-set : depthsIn s (withTables w T) ≡ set (depthsIn s w) t d
   unfolding depthsAt

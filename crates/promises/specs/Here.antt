@@ -12,7 +12,6 @@ use Rattle.laws.specs.SameRules.{renamed}
 use Rattle.rules.specs.Rules as ru
 use Rattle.rules.specs.Rules.{Regioned, graph}
 use Rattle.promises.specs.Words.{Words, heapOf, depthIn, varIn}
-use Rattle.promises.specs.Whole.{WholeFor}
 use Rattle.promises.specs.StandsFor.{StandsFor}
 use Rattle.promises.specs.Promises.{Became, DidHere, Did}
 use Rattle.promises.specs.Reading.{var-at, depth-at}
@@ -90,12 +89,6 @@ did-anywhere s w m w′ a d =
               ∙ b .stays (cellOf x) (λ z. a (sym (l .partners .home x a) ∙ z))
               (ap (graph (ru.step s (heapOf s w) m .next) .home) (sym (n .keeps x a)) ∙ n .like .partners .home x a₁ ∙ e ∙ sym (l .partners .home x a));
         }
-
--- and the other way round, of whole words
-pub did-here : (s : Sizes) (w : Words) (m : Command) (w′ : Words) (a : Answer) → WholeFor s w → Did s w m w′ a → DidHere s w m w′ a
-did-here s w m w′ a k d =
-    let st = heap-stands s w k in
-    record { answer = d .answer (heapOf s w) (λ c. c) st; next = d .next (heapOf s w) (λ c. c) st; freed = d .freed; refused = d .refused; beyond = d .beyond }
 
 -- what the questions read of that heap, in words
 module _ (s : Sizes) (w : Words) where

@@ -21,7 +21,7 @@ use Rattle.promises.specs.Words.{Words, ownerIn, usedIn, homeIn, graphOf
 use Rattle.promises.specs.Whole.{WholeFor, Partial, objectsOn, objectsOf}
 use Rattle.promises.specs.StandsFor.{StandsFor}
 use Rattle.promises.specs.Reading.{range}
-use Rattle.promises.specs.Agreed.{objects-agree, free-agree}
+use Rattle.promises.specs.Agreed.{free-agree}
 
 -- the cells of region g's page that are not in use
 abbrev pub freeOn : Places → List ℕ → ℕ → ℕ → ℕ
@@ -142,8 +142,5 @@ module _ (s : Sizes) (w : Words) (k : WholeFor s w) where
 -- ---- of whatever heap the words stand for
 
 module _ (s : Sizes) (w : Words) (h : Regioned) (cellOf : ℕ → ℕ) (st : StandsFor s w h cellOf) where
-  pub heap-pages : (q : ℕ) → 0 < q → pagesOwned s w q ≡ pagesOf (objectsIn (graph h) q)
-  heap-pages q pos = region-pages s w (st .whole) q pos ∙ sym (ap pagesOf (objects-agree s w h cellOf st q pos))
-
   pub heap-free : pagesOwned s w 0 ≡ freePages s (graph h)
   heap-free = free-pages s w (st .whole) ∙ sym (free-agree s w h cellOf st)
