@@ -64,7 +64,7 @@ uint32_t answer(const Lent *l, uint32_t code, uint32_t thread, uint32_t a, uint3
 
 /* The report, as the words themselves say it: by the depths, the owners and uses of the pages, and every slot of every cell in use. */
 struct taldreku_reported count_words(const Lent *l, struct taldreku_row *rows);
-/* The report is that, on read-only arrays too, and spare rows stay. */
+/* The report is that into enough rows, spare ones among them, and is refused into fewer. Rows that it does not write stay, and so do the words. */
 void check_report(const Lent *l);
 
 /* Bytes of stack that the work takes. */

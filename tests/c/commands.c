@@ -43,7 +43,7 @@ static void refused(uint32_t number, const uint32_t commands[][5], size_t count)
 
 static void done(Edge edge) {
     heap = prepared((Sizes){2, 4, 2, 8, 4}, 16, edge);
-    /* the sample of the README */
+    /* the sample run of 01, the scope document */
     say(TALDREKU_START, 0, 0, 0, 0, 0, 0);
     say(TALDREKU_NEW, 0, 0, 1, 1, 0, 0);
     say(TALDREKU_NEW, 0, 1, 0, 1, 0, 0);
