@@ -56,9 +56,9 @@ module _ (p : Places) (W T : List ℕ) (r : ℕ) where
       let f : q ≡ owner p T c = e ∙ ap (λ (z : ℕ). ownerOf p T z) ep in
       ev ∙ sym (ap (λ (b : Bool). cond b (workOf W c) (owner p T c)) (eq-eqb (owner p T c) r (sym f ∙ n)))
 
-  pub cross-null : («from» x : ℕ) → x ≡ 0 → 0 ≡ crossAfter p W T r «from» x
+  pub cross-after-null : («from» x : ℕ) → x ≡ 0 → 0 ≡ crossAfter p W T r «from» x
   unfolding crossAfter
-  cross-null «from» x z = sym (ap (λ (b : Bool). cond b 0 (crossOne «from» (homeAfter p W T r (x - 1)))) (eq-eqb x 0 z))
+  cross-after-null «from» x z = sym (ap (λ (b : Bool). cond b 0 (crossOne «from» (homeAfter p W T r (x - 1)))) (eq-eqb x 0 z))
 
   -- c is the cell that x names
   cross-some : («from» x c h : ℕ) → (x ≡ 0 → ⊥) → c ≡ x - 1 → h ≡ homeAfter p W T r c → crossAfter p W T r «from» x ≡ crossOne «from» h

@@ -9,7 +9,7 @@ use native.Mathlib.Nat.{one-mul, zero-mul}
 use lib.Count.{ones}
 use lib.Dec.{eqb}
 use borrow.Author.Tests.{eq-eqb, ne-eqb}
-use Rattle.lists.specs.Counting.{bit, bit-le, sum, sum-same, sum-high, sum-blocks}
+use Rattle.lists.specs.Counting.{bit, bit-le-one, sum, sum-same, sum-high, sum-blocks}
 use Rattle.lists.specs.Bits.{bitAt, bit-lt, Lowest, bitSum, bit-sum-clear, bit-sum-zero}
 use Rattle.rules.specs.declared.Sizes.{Sizes}
 use Rattle.rules.specs.Graph.{target}
@@ -93,7 +93,7 @@ goesTo W g c = bit (eqb (workOf W c) g)
 
 pub goes-le : (W : List ℕ) (g c : ℕ) → goesTo W g c ≤ 1
 unfolding goesTo
-goes-le W g c = bit-le (eqb (workOf W c) g)
+goes-le W g c = bit-le-one (eqb (workOf W c) g)
 
 -- v is word 1 as the code read it
 pub goes-yes : (W : List ℕ) (g c v : ℕ) → v ≡ workOf W c → v ≡ g → 1 ≡ goesTo W g c

@@ -8,7 +8,7 @@ use mathlib.Core.List.{List, [], _∷_}
 use lib.Dec.{eqb}
 use lib.ListN.{length, getD, set, length-set}
 use borrow.Author.Tests.{eq-eqb, ne-eqb}
-use Rattle.lists.specs.Counting.{bit, bit-le, sum, sum-high}
+use Rattle.lists.specs.Counting.{bit, bit-le-one, sum, sum-high}
 use Rattle.lists.specs.Stores.{put, past}
 use Rattle.rules.specs.declared.Answer.{Answer}
 use Rattle.promises.specs.Words.{Words}
@@ -62,7 +62,7 @@ module _ (answers : List ℕ) (number value i : ℕ) where
 
   pub answer-le : isAnswer answers number value i ≤ 1
   unfolding isAnswer
-  answer-le = bit-le (eqb (getD answers (2 * i) 0) number && eqb (getD answers (2 * i + 1) 0) value)
+  answer-le = bit-le-one (eqb (getD answers (2 * i) 0) number && eqb (getD answers (2 * i + 1) 0) value)
 
 -- n is their count as the code has it
 pub answers-few : (answers : List ℕ) (number value n : ℕ) → n ≡ answersOf answers number value → length answers ≤ 6000 → n ≤ 3000

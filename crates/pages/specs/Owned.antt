@@ -4,7 +4,7 @@ use mathlib.Core.Path.{_≡_, sym, ap, _∙_}
 use mathlib.Core.List.{List}
 use lib.Dec.{eqb}
 use borrow.Author.Tests.{eq-eqb, ne-eqb}
-use Rattle.lists.specs.Counting.{bit, bit-le, sum, sum-high}
+use Rattle.lists.specs.Counting.{bit, bit-le-one, sum, sum-high}
 use Rattle.layout.specs.declared.Places.{Places}
 use Rattle.layout.specs.Places.{ownerOf}
 
@@ -26,7 +26,7 @@ owned-no p t g page o e n = sym (ap bit (ne-eqb (ownerOf p t page) g (λ z. n (e
 
 pub owned-le : (p : Places) (t : List ℕ) (g page : ℕ) → ownedOne p t g page ≤ 1
 unfolding ownedOne
-owned-le p t g page = bit-le (eqb (ownerOf p t page) g)
+owned-le p t g page = bit-le-one (eqb (ownerOf p t page) g)
 
 pub owned-few : (p : Places) (t : List ℕ) (g n : ℕ) → ownedIn p t g n ≤ 1 * n
 owned-few p t g n = sum-high (ownedOne p t g) 1 n (λ page l. owned-le p t g page)

@@ -1,14 +1,14 @@
 -- A slot crosses if what it names lies elsewhere and not in the control space.
 use native.Mathlib.Omega.{arith}
 use borrow.Author.Needs.{needs}
-use Rattle.census.specs.After.{cross-null, cross-inside, cross-control, cross-out}
+use Rattle.census.specs.After.{cross-after-null, cross-inside, cross-control, cross-out}
 use Rattle.census.proofs.crossing.crosses.Statement.{statement}
 use Rattle.census.proofs.crossing.crosses.Tie as tie
 
 returns : tie.Need-returns
 returns c =
     let args = c .before .before .before .args in
-    cross-null (args .p) (args .cells .now) (args .tables .now) (args .r) (args .home) (args .x) (c .if1 .taken)
+    cross-after-null (args .p) (args .cells .now) (args .tables .now) (args .r) (args .home) (args .x) (c .if1 .taken)
 
 cell-named-requires : tie.Need-cell-named-requires
 cell-named-requires c κs = search needs
