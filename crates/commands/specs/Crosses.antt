@@ -25,8 +25,8 @@ module _ (o g : ℕ) where
   other-crosses : 1 < g → (g ≡ o → ⊥) → other o g ≡ g
   other-crosses l e = other-far l ∙ ap (λ (b : Bool). cond b 0 g) (ne-eqb g o e)
 
-pub cross-null : (p : Places) (t : List ℕ) (page x : ℕ) → x ≡ 0 → 0 ≡ other (ownerOf p t page) (regionOf p t x)
-cross-null p t page x z =
+pub other-null : (p : Places) (t : List ℕ) (page x : ℕ) → x ≡ 0 → 0 ≡ other (ownerOf p t page) (regionOf p t x)
+other-null p t page x z =
     sym (ap (λ (a : Bool). other (ownerOf p t page) (cond a 0 (cond (ltb (pageOf (x - 1)) (p .pages)) (ownerOf p t (pageOf (x - 1))) 0))) (eq-eqb x 0 z))
 
 -- b is the cell that x names; its page is not there, or its owner is g

@@ -43,8 +43,8 @@ use Rattle.commands.specs.Fields.{Field}
 abbrev pub slotOf : List ℕ → ℕ → ℕ → ℕ
 slotOf c x f = kindAt Reference c (x - 1) f
 
-abbrev pub crossOf : Places → List ℕ → ℕ → ℕ → ℕ
-crossOf p t x v = crossesTo p t (x - 1) v
+abbrev pub crossesFrom : Places → List ℕ → ℕ → ℕ → ℕ
+crossesFrom p t x v = crossesTo p t (x - 1) v
 
 -- what a store to that slot asks of the tables
 pub record Storing (p : Places) (c m t : List ℕ) (x f : ℕ) : Type 0 where
@@ -53,23 +53,23 @@ pub record Storing (p : Places) (c m t : List ℕ) (x f : ℕ) : Type 0 where
   pub page : pageOf (x - 1) < p .pages
   pub long : 2 * p .entries + 2 ≤ length m
   pub used : usedIn m ≤ p .entries
-  pub named : 0 < crossOf p t x (getD c (slotOf c x f) 0) → (i : ℕ) × (i < usedIn m) × (slotIn m i ≡ slotOf c x f)
+  pub named : 0 < crossesFrom p t x (getD c (slotOf c x f) 0) → (i : ℕ) × (i < usedIn m) × (slotIn m i ≡ slotOf c x f)
 
 -- v was stored in reference f of x's object, or there was no room
 pub record Stored (p : Places) (c m t : List ℕ) (x f v : ℕ) (c′ m′ : List ℕ) (r : ℕ) : Type 0 where
-  pub entries : Remembered (p .entries) m (slotOf c x f) (crossOf p t x (getD c (slotOf c x f) 0)) (crossOf p t x v) m′ r
+  pub entries : Remembered (p .entries) m (slotOf c x f) (crossesFrom p t x (getD c (slotOf c x f) 0)) (crossesFrom p t x v) m′ r
   pub stored : r ≡ 0 → c′ ≡ set c (slotOf c x f) v
   pub full : (r ≡ 0 → ⊥) → c′ ≡ c
 
 -- y is x as the code widened it, page its page: what the crossing test gives
-pub cross-is : (p : Places) (t : List ℕ) (x v b page : ℕ) {r : ℕ} → b ≡ x - 1 → page ≡ pageOf b → r ≡ other (ownerOf p t page) (regionOf p t v) → r ≡ crossOf p t x v
+pub cross-is : (p : Places) (t : List ℕ) (x v b page : ℕ) {r : ℕ} → b ≡ x - 1 → page ≡ pageOf b → r ≡ other (ownerOf p t page) (regionOf p t v) → r ≡ crossesFrom p t x v
 cross-is p t x v b page q e h = h ∙ ap (λ (i : ℕ). other (ownerOf p t i) (regionOf p t v)) (e ∙ ap pageOf q)
 
 -- the slot, what it crossed into and what it will, as the code has them
 pub record Seen (p : Places) (c t : List ℕ) (x f v at was will : ℕ) : Type 0 where
   pub slot : at ≡ slotOf c x f
-  pub before : was ≡ crossOf p t x (getD c (slotOf c x f) 0)
-  pub after : will ≡ crossOf p t x v
+  pub before : was ≡ crossesFrom p t x (getD c (slotOf c x f) 0)
+  pub after : will ≡ crossesFrom p t x v
 
 module _ (p : Places) (c m t : List ℕ) (x f v at was will : ℕ) (e : Seen p c t x f v at was will) where
   pub slot-few : Storing p c m t x f → at < 262144
@@ -79,9 +79,9 @@ module _ (p : Places) (c m t : List ℕ) (x f v at was will : ℕ) (e : Seen p c
   slot-entry s h = let n = s .named (subst (λ (i : ℕ). 0 < i) (e .before) h) in (n .0, n .1, n .2 ∙ sym (e .slot))
 
   module _ (m′ : List ℕ) (r : ℕ) (d : Remembered (p .entries) m at was will m′ r) where
-    entries-are : Remembered (p .entries) m (slotOf c x f) (crossOf p t x (getD c (slotOf c x f) 0)) (crossOf p t x v) m′ r
+    entries-are : Remembered (p .entries) m (slotOf c x f) (crossesFrom p t x (getD c (slotOf c x f) 0)) (crossesFrom p t x v) m′ r
     entries-are =
-        subst (λ (i : ℕ). Remembered (p .entries) m i (crossOf p t x (getD c (slotOf c x f) 0)) (crossOf p t x v) m′ r) (e .slot)
+        subst (λ (i : ℕ). Remembered (p .entries) m i (crossesFrom p t x (getD c (slotOf c x f) 0)) (crossesFrom p t x v) m′ r) (e .slot)
         (subst₂ (λ (i j : ℕ). Remembered (p .entries) m at i j m′ r) (e .before) (e .after) d)
 
     pub stored-full : (r ≡ 0 → ⊥) → Stored p c m t x f v c m′ r
@@ -90,7 +90,7 @@ module _ (p : Places) (c m t : List ℕ) (x f v at was will : ℕ) (e : Seen p c
     pub stored-done : r ≡ 0 → {c′ : List ℕ} → c′ ≡ set c (slotOf c x f) v → Stored p c m t x f v c′ m′ 0
     stored-done z g =
         record {
-          entries = subst (λ (i : ℕ). Remembered (p .entries) m (slotOf c x f) (crossOf p t x (getD c (slotOf c x f) 0)) (crossOf p t x v) m′ i) z entries-are;
+          entries = subst (λ (i : ℕ). Remembered (p .entries) m (slotOf c x f) (crossesFrom p t x (getD c (slotOf c x f) 0)) (crossesFrom p t x v) m′ i) z entries-are;
           stored = λ h. g;
           full = λ h. absurd (h refl);
         }
@@ -134,10 +134,10 @@ module _ (p : Places) (c m t : List ℕ) (r : Ready p c m t) (u a : ℕ) (l : u 
     there = in-use p c m t r u a l n x e Reference f q g z
 
     -- a slot that crosses has its entry
-    pub slot-named : 0 < crossOf p t x (getD c (slotOf c x f) 0) → (i : ℕ) × (i < usedIn m) × (slotIn m i ≡ slotOf c x f)
+    pub slot-named : 0 < crossesFrom p t x (getD c (slotOf c x f) 0) → (i : ℕ) × (i < usedIn m) × (slotIn m i ≡ slotOf c x f)
     slot-named h =
         let i = reference-named s w k y f 0 there inside
-        (subst (λ (P : Places). 0 < crossOf P t x (getD c (fieldAt y f) 0)) (r .places) (subst (λ (j : ℕ). 0 < crossOf p t x (getD c j 0)) (sym place) h)) in
+        (subst (λ (P : Places). 0 < crossesFrom P t x (getD c (fieldAt y f) 0)) (r .places) (subst (λ (j : ℕ). 0 < crossesFrom p t x (getD c j 0)) (sym place) h)) in
         (i .0, i .1, i .2 ∙ place)
 
     pub storing : length t < 2 ^ 63 → Storing p c m t x f
@@ -154,8 +154,8 @@ module _ (p : Places) (c m t : List ℕ) (r : Ready p c m t) (u a : ℕ) (l : u 
     module _ (v : ℕ) (ev : v ≡ variable p t u b) (c′ m′ : List ℕ) (j : ℕ) (d : Stored p c m t x f v c′ m′ j) where
       followed : Followed s w y f v m′ j
       followed =
-          subst (λ (i : ℕ). Remembered (s .entries) m i (crossOf (placesOf s) t x (getD c i 0)) (crossOf (placesOf s) t x v) m′ j) (sym place)
-          (subst (λ (P : Places). Remembered (s .entries) m (slotOf c x f) (crossOf P t x (getD c (slotOf c x f) 0)) (crossOf P t x v) m′ j) (r .places) (d .entries))
+          subst (λ (i : ℕ). Remembered (s .entries) m i (crossesFrom (placesOf s) t x (getD c i 0)) (crossesFrom (placesOf s) t x v) m′ j) (sym place)
+          (subst (λ (P : Places). Remembered (s .entries) m (slotOf c x f) (crossesFrom P t x (getD c (slotOf c x f) 0)) (crossesFrom P t x v) m′ j) (r .places) (d .entries))
 
       abbrev object : Object
       object = getD (H .heap .objects) y noObject

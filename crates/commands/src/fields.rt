@@ -1,6 +1,6 @@
 // The fields of an object, references and numbers alike: codes 6, 8 and 9.
 ghost use mathlib.Core.Path.{_≡_};
-ghost use Prim.Native.Nat.{ℕ, _+_, _-_, _*_, _<_, _≤_};
+ghost use Prim.Native.Nat.{_+_, _-_, _<_};
 ghost use lib.ListN.{length, getD, set};
 ghost use Rattle.rules.specs.NeverFreeing.{used};
 ghost use Rattle.layout.specs.Cells.{headOf, fieldCount, firstField, kindAt};

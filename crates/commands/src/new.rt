@@ -1,6 +1,6 @@
 // Code 3: an object is made in its thread's innermost open region, in the control space if none is open.
 ghost use mathlib.Core.Path.{_≡_};
-ghost use Prim.Native.Nat.{ℕ, _+_, _*_, _<_, _≤_};
+ghost use Prim.Native.Nat.{_+_, _*_, _<_, _≤_};
 ghost use lib.ListN.{length};
 ghost use Rattle.rules.specs.Regions.{regionAt};
 ghost use Rattle.layout.specs.Places.{Room, sizesOf, depthOf};

@@ -1,5 +1,4 @@
 // One command, decoded and done.
-ghost use mathlib.Core.Path.{_≡_};
 ghost use Rattle.commands.specs.Ready.{Ready};
 ghost use Rattle.commands.specs.Obeys.{Obeys};
 use crate::Decoded;

@@ -1,6 +1,6 @@
 // Variables and depths: codes 1, 4, 5 and 10.
 ghost use mathlib.Core.Path.{_≡_};
-ghost use Prim.Native.Nat.{ℕ, _+_, _*_, _<_, _≤_};
+ghost use Prim.Native.Nat.{_+_, _<_};
 ghost use lib.ListN.{length, set};
 ghost use Rattle.commands.specs.Ready.{Ready, Placed, variable, variableAt};
 ghost use Rattle.commands.specs.Does.{Does};

@@ -1,6 +1,6 @@
 // The report in a lent list of rows, also from C.
 ghost use mathlib.Core.Path.{_≡_};
-ghost use Prim.Native.Nat.{_+_, _<_, _≤_};
+ghost use Prim.Native.Nat.{_<_, _≤_};
 ghost use lib.ListN.{length};
 ghost use Rattle.layout.specs.Places.{sizesAt};
 ghost use Rattle.promises.specs.Words.{words, depthsAt};

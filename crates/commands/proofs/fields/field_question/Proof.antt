@@ -2,7 +2,6 @@
 use Prim.Native.Nat.{_-_}
 use Rattle.layout.specs.Cells.{headOf, fieldCount}
 use native.Mathlib.Omega.{arith}
-use mathlib.Core.Path.{sym, _∙_}
 use Rattle.commands.specs.Fields.{used-null, asked-fine, asked-past}
 use borrow.Author.Needs.{needs}
 use Rattle.commands.proofs.fields.field_question.Statement.{statement}

@@ -2,7 +2,7 @@
 use native.Mathlib.Omega.{arith}
 use mathlib.Core.Path.{ap, _∙_}
 use Rattle.layout.specs.Places.{ownerOf}
-use Rattle.commands.specs.Crosses.{cross-null, cross-past, cross-none, cross-own, cross-into}
+use Rattle.commands.specs.Crosses.{other-null, cross-past, cross-none, cross-own, cross-into}
 use borrow.Author.Needs.{needs}
 use Rattle.commands.proofs.store.crosses.Statement.{statement}
 use Rattle.commands.proofs.store.crosses.Tie as tie
@@ -11,7 +11,7 @@ returns : tie.Need-returns
 returns c =
     let args = c .before .before .args in
     let if1 = c .if1 in
-    cross-null (args .p) (args .tables .now) (args .page) (args .x) (if1 .taken)
+    other-null (args .p) (args .tables .now) (args .page) (args .x) (if1 .taken)
 
 cell-named-requires : tie.Need-cell-named-requires
 cell-named-requires c κs = search needs

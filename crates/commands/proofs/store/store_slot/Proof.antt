@@ -1,7 +1,7 @@
 -- The table follows first; where it has no room nothing is stored.
 use native.Mathlib.Omega.{arith}
 use mathlib.Core.Path.{ap, _∙_}
-use Rattle.commands.specs.Storing.{crossOf, Seen, cross-is, slot-few, slot-entry, stored-full, stored-done}
+use Rattle.commands.specs.Storing.{crossesFrom, Seen, cross-is, slot-few, slot-entry, stored-full, stored-done}
 use borrow.Author.Needs.{needs}
 use Rattle.commands.proofs.store.store_slot.Statement.{statement}
 use Rattle.commands.proofs.store.store_slot.Tie as tie
@@ -33,7 +33,7 @@ seen c =
     let old = c .before .before .before .before .read-field in
     record {
       slot = c .field-position .ensures;
-      before = cross-is (a .p) (a .tables .now) (a .x) (old .result) (cell .result) (page .result) (cell .ensures) (page .ensures) (c .before .before .before .crosses .ensures) ∙ ap (crossOf (a .p) (a .tables .now) (a .x)) (old .ensures);
+      before = cross-is (a .p) (a .tables .now) (a .x) (old .result) (cell .result) (page .result) (cell .ensures) (page .ensures) (c .before .before .before .crosses .ensures) ∙ ap (crossesFrom (a .p) (a .tables .now) (a .x)) (old .ensures);
       after = cross-is (a .p) (a .tables .now) (a .x) (a .v) (cell .result) (page .result) (cell .ensures) (page .ensures) (c .before .before .crosses2 .ensures);
     }
 
