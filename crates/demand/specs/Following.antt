@@ -102,9 +102,6 @@ module _ (s : Sizes) (w w₁ : Words) (h h₁ : Regioned) (cellOf cell : ℕ →
       go (yes z) = absurd (omega (arith, pair-freed h₁ cell x z))
       go (no a) = (a, suc-inj (sym (pair-there h₁ cell x a) ∙ e))
 
-  was : (x : ℕ) → Alive (graph h₁) x → Alive (graph h) x
-  was x a z = a (homes x ∙ home-stayed s (graph h) r x (λ e. omega arith) ∙ z)
-
   -- the facts of object x
   module _ (x : ℕ) (a : Alive (graph h) x) where
     stays-at : (homeIn s w (cellOf x) ≡ r → ⊥) → move (suc (cellOf x)) ≡ suc (cellOf x)

@@ -1,11 +1,10 @@
 -- The end of an epoch as the code goes through it: what each call asks, and the promise of code 2 at each way out.
-use mathlib.Core.Path.{_≡_, refl, sym, ap, ap₂, _∙_, subst, subst₂}
+use mathlib.Core.Path.{_≡_, sym, ap, ap₂, _∙_, subst, subst₂}
 use mathlib.Core.Logic.{inl}
 use mathlib.Core.List.{List}
-use Prim.Native.Nat.{ℕ, zero, suc, _+_, _-_, _*_, _/_, _^_, _≤_, _<_}
+use Prim.Native.Nat.{ℕ, suc, _-_, _*_, _^_, _≤_, _<_}
 use native.Mathlib.Omega.{arith}
 use lib.ListN.{length}
-use Rattle.rules.specs.declared.Sizes.{Sizes}
 use Rattle.rules.specs.Terms.{refused, done}
 use Rattle.rules.specs.Regions.{regionAt}
 use Rattle.layout.specs.declared.Places.{Places}
@@ -47,9 +46,6 @@ module _ (p : Places) (e : p ≡ placesOf (sizesOf p)) (w : Words) (k : WholeFor
   shut z = refused-shut (sizesOf p) w k t th z
 
   module _ (pos : 1 ≤ depthOf (w .tables) t) (w₁ : Words) (M : Marked (sizesOf p) w (regionAt (sizesOf p) t (depthOf (w .tables) t)) w₁) where
-    j : ℕ
-    j = depthOf (w .tables) t - 1
-
     deep : depthIn w t ≡ suc (depthOf (w .tables) t - 1)
     deep = omega arith
 

@@ -1,17 +1,15 @@
 -- The remember table of whole words lists each crossing slot once, as the evacuation reads crossing off the marked words.
 use mathlib.Core.Path.{_≡_, refl, sym, ap, ap₂, _∙_, subst}
 use mathlib.Core.Logic.{_≢_}
-use mathlib.Core.Bool.{Bool, true, false, cond}
-use mathlib.Core.List.{List}
-use Prim.Native.Nat.{ℕ, zero, suc, _+_, _-_, _*_, _/_, _%_, _^_, _≤_, _<_}
+use mathlib.Core.Bool.{Bool, cond}
+use Prim.Native.Nat.{ℕ, zero, suc, _+_, _-_, _/_, _%_, _<_}
 use native.Mathlib.Omega.{arith}
 use native.Mathlib.Nat.{pos-of-ne-zero}
-use lib.Dec.{eqb, eqb·suc-zero}
+use lib.Dec.{eqb·suc-zero}
 use lib.ListN.{length, getD}
 use Rattle.rules.specs.declared.Sizes.{Sizes}
-use Rattle.layout.specs.declared.Places.{Places}
-use Rattle.layout.specs.Places.{placesOf, Room, ownerOf, usedIn, slotIn, slotRegionIn}
-use Rattle.layout.specs.Cells.{pageOf, cellOf, wordOf, headOf, fieldAt, fieldOf}
+use Rattle.layout.specs.Places.{placesOf, Room, ownerOf, usedIn, slotIn}
+use Rattle.layout.specs.Cells.{pageOf, cellOf, wordOf}
 use Rattle.promises.specs.Words.{Words, Used, ownerIn}
 use Rattle.promises.specs.Whole.{WholeFor, IsRef}
 use Rattle.promises.specs.Crossing.{other, regionOf, crossTo}

@@ -1,19 +1,17 @@
 -- Whole words in which survivors are marked: owners, cells in use, counts, variables and fields are as they were, and pages regular.
-use mathlib.Core.Path.{_≡_, refl, sym, ap, ap₂, _∙_, subst}
-use mathlib.Core.Logic.{_≢_, _⊎_, inl, inr}
-use mathlib.Core.Bool.{Bool, cond}
-use mathlib.Core.List.{List}
-use Prim.Native.Nat.{ℕ, zero, suc, _+_, _-_, _*_, _/_, _%_, _^_, _≤_, _<_}
-use native.Mathlib.Decide.{ℕ-discrete, decLt}
+use mathlib.Core.Path.{_≡_, sym, ap₂, _∙_}
+use mathlib.Core.Logic.{_≢_, inl, inr}
+use mathlib.Core.Bool.{cond}
+use Prim.Native.Nat.{ℕ, _*_, _%_, _≤_, _<_}
+use native.Mathlib.Decide.{decLt}
 use native.Mathlib.Omega.{arith}
 use native.Mathlib.Nat.{pos-of-ne-zero}
 use lib.Dec.{eqb}
 use lib.ListN.{length, getD}
 use Rattle.lists.specs.Counting.{sum-same}
 use Rattle.rules.specs.declared.Sizes.{Sizes}
-use Rattle.layout.specs.declared.Places.{Places}
 use Rattle.layout.specs.Places.{placesOf, Room, ownerAt, usedAt, countAt, varAt, ownerOf, usedOf, countOf, varOf}
-use Rattle.layout.specs.Cells.{pageOf, headOf, fieldOf}
+use Rattle.layout.specs.Cells.{headOf}
 use Rattle.promises.specs.Words.{Words, Used, InUse, ownerIn, usedIn}
 use Rattle.promises.specs.Whole.{WholeFor, objectsOn, objectsOf}
 use Rattle.promises.specs.Reading.{cells-room}

@@ -1,9 +1,8 @@
 -- The census of pages is what the copy asks: where the new pages that the rules count fit the free pages, every target has room.
-use mathlib.Core.Path.{_≡_, refl, sym, ap, ap₂, _∙_, subst, subst₂}
+use mathlib.Core.Path.{_≡_, refl, sym, ap, ap₂, _∙_, subst₂}
 use mathlib.Core.Logic.{_≢_}
 use mathlib.Core.Bool.{Bool, true, false, cond}
-use mathlib.Core.List.{List}
-use Prim.Native.Nat.{ℕ, zero, suc, _+_, _-_, _*_, _/_, _%_, _^_, _≤_, _<_}
+use Prim.Native.Nat.{ℕ, suc, _*_, _≤_, _<_}
 use native.Mathlib.Decide.{ℕ-discrete, decLt}
 use native.Mathlib.Nat.{zero-mul, one-mul}
 use native.Mathlib.Omega.{arith}
@@ -14,16 +13,15 @@ use Rattle.lists.specs.Bits.{bit-lt}
 use Rattle.lists.specs.Counting.{bit, sum, sum-same}
 use Rattle.rules.specs.declared.Sizes.{Sizes}
 use Rattle.rules.specs.Regions.{regionAt}
-use Rattle.rules.specs.Graph.{Graph, target, pagesOf, objectsIn}
+use Rattle.rules.specs.Graph.{target, objectsIn}
 use Rattle.laws.specs.RegionLaws.{further-out}
 use Rattle.laws.specs.RulesLaws.{region-pos}
 use Rattle.laws.specs.Counts.{landed}
-use Rattle.layout.specs.declared.Places.{Places}
-use Rattle.layout.specs.Places.{placesOf, Room, ownerOf, markOf}
+use Rattle.layout.specs.Places.{placesOf, Room, markOf}
 use Rattle.layout.specs.Cells.{pageOf, placeOf, workOf}
 use Rattle.layout.specs.Marks.{marked}
 use Rattle.promises.specs.Words.{Words, Used, ownerIn, homeIn, depthIn, graphOf}
-use Rattle.promises.specs.Whole.{WholeFor, objectsOf}
+use Rattle.promises.specs.Whole.{WholeFor}
 use Rattle.promises.specs.OwnedPages.{pagesOwned, objects-on-pages}
 use Rattle.mark.specs.Survivors.{Marked}
 use Rattle.mark.specs.Reached.{home-cell, cell-home}
@@ -68,9 +66,6 @@ module _ (s : Sizes) (w : Words) (r : ℕ) (w₁ : Words) (M : Marked s w r w₁
   unfolding hits landed hit
   hits-landed k rpos q pos = sum-same _ _ (16 * s .pages) (λ c l. each c l (ℕ-discrete (marked (placesOf s) (w₁ .tables) c) 1) (ℕ-discrete (homeIn s w c) r))
     where
-      one : ℕ → ℕ
-      one c = cond (eqb (workOf (w₁ .cells) c) q) 1 0
-
       each : (c : ℕ) → c < 16 * s .pages → Dec (marked (placesOf s) (w₁ .tables) c ≡ 1) → Dec (homeIn s w c ≡ r)
           → marked (placesOf s) (w₁ .tables) c * cond (eqb (workOf (w₁ .cells) c) q) 1 0 ≡ cond (eqb (homeIn s w c) r) (cond (eqb (target s (graphOf s w) r c) q) 1 0) 0
       each c l (yes on) (no n) = let o = M .only c (omega arith) on in absurd (n (cell-home s w k c r (o .0) (o .1)))

@@ -1,23 +1,21 @@
 -- Where the slots that cross after the end fit the remember table by the rules, they fit it on the cells that the copies took, whichever
 -- these are.
-use mathlib.Core.Path.{_≡_, refl, sym, ap, ap₂, _∙_, subst}
-use mathlib.Core.Logic.{_≢_, _⊎_, inl, inr}
-use mathlib.Core.Bool.{Bool, true, false, cond, not, _&&_}
+use mathlib.Core.Path.{_≡_, sym, ap, ap₂, _∙_, subst}
+use mathlib.Core.Logic.{_≢_, _⊎_}
+use mathlib.Core.Bool.{Bool, cond, not, _&&_}
 use mathlib.Core.List.{List}
-use Prim.Native.Nat.{ℕ, zero, suc, _+_, _-_, _*_, _/_, _%_, _≤_, _<_}
+use Prim.Native.Nat.{ℕ, suc, _+_, _*_, _/_, _%_, _≤_, _<_}
 use native.Mathlib.Decide.{ℕ-discrete, decLt}
 use native.Mathlib.Omega.{arith}
 use borrow.Author.Tests.{ne-eqb}
-use lib.Dec.{eqb}
 use lib.ListN.{length, getD}
 use Rattle.rules.specs.declared.Sizes.{Sizes}
 use Rattle.rules.specs.Regions.{regionAt}
-use Rattle.rules.specs.Graph.{Graph, ended, target}
+use Rattle.rules.specs.Graph.{Graph, ended}
 use Rattle.laws.specs.RulesLaws.{region-pos}
 use Rattle.laws.specs.GraphLaws.{Alive}
 use Rattle.laws.specs.Counts.{crossRef}
 use Rattle.laws.specs.EndLaws.{home-went, home-stayed}
-use Rattle.layout.specs.declared.Places.{Places}
 use Rattle.layout.specs.Places.{placesOf, Room, ownerOf, usedIn}
 use Rattle.layout.specs.Cells.{pageOf, workOf, refsOf}
 use Rattle.layout.specs.Marks.{marked}
@@ -29,7 +27,6 @@ use Rattle.mark.specs.Reached.{cell-home}
 use Rattle.evacuate.specs.Forward.{Forwards}
 use Rattle.evacuate.specs.Rewrite.{Rewritten}
 use Rattle.evacuate.specs.Update.{Copies}
-use Rattle.evacuate.specs.Append.{Crosses}
 use Rattle.evacuate.specs.Stages.{Lives, Space}
 use Rattle.evacuate.specs.RewriteSlots.{Remembered}
 use Rattle.ended.specs.EndQuestion.{crossingAfter}

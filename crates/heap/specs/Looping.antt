@@ -87,10 +87,6 @@ asked-room (short e k f l) = absurd (let z : ⊥ = omega arith in z)
 pub did-whole : (s : Sizes) {w w′ : Words} {m : Command} {a : Answer} → WholeFor s w → Did s w m w′ a → WholeFor s w′
 did-whole s {w} k d = d .next (heapOf s w) (λ c. c) (heap-stands s w k) .stands .whole
 
-pub chain-whole : (s : Sizes) {w w′ : Words} {ms : List Command} {as′ : List Answer} → WholeFor s w → Chain s w ms as′ w′ → WholeFor s w′
-chain-whole s k none = k
-chain-whole s k (more d c) = chain-whole s (did-whole s k d) c
-
 -- ---- the state of the loop: i commands of the block were obeyed, from the words w to w₁
 
 pub record Looped (s : Sizes) (w : Words) (block lent : List ℕ) (w₁ : Words) (answers : List ℕ) (i : ℕ) : Type 0 where

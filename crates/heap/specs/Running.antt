@@ -10,8 +10,8 @@ use Rattle.rules.specs.declared.Answer.{Answer}
 use Rattle.rules.specs.Terms.{InRange}
 use Rattle.layout.specs.declared.Places.{Places}
 use Rattle.layout.specs.Places.{sizesOf, sizesAt, placesOf}
-use Rattle.promises.specs.Words.{Words, words, sizesIn}
-use Rattle.promises.specs.Whole.{Whole, WholeFor, WholeWords}
+use Rattle.promises.specs.Words.{Words, words}
+use Rattle.promises.specs.Whole.{Whole, WholeFor}
 use Rattle.promises.specs.Promises.{DidHere, commandAt, size, RunAsked, Ran}
 use Rattle.promises.specs.Here.{did-anywhere}
 use Rattle.commands.specs.declared.Decoded.the-variants.{End}

@@ -1,6 +1,6 @@
 // run: the commands of a block, in order, on whole tables.
 ghost use mathlib.Core.Path.{_≡_};
-ghost use Prim.Native.Nat.{ℕ, _+_, _*_, _<_, _≤_};
+ghost use Prim.Native.Nat.{_+_, _*_, _<_, _≤_};
 ghost use lib.ListN.{length};
 ghost use Rattle.layout.specs.Places.{sizesOf};
 ghost use Rattle.promises.specs.Words.{words};
