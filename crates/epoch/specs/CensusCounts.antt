@@ -22,7 +22,7 @@ use Rattle.census.specs.After as ce
 use Rattle.census.specs.Crossed.{crossing-after}
 use Rattle.ended.specs.EndQuestion.{pagesNeeded, crossingAfter}
 use Rattle.ended.specs.EndPages.{morePages, new-pages-counted}
-use Rattle.epoch.specs.MarkedWords.{owner-same, count-same}
+use Rattle.evacuation.specs.MarkedWords.{owner-same, count-same}
 
 -- the new pages for region g, and for the regions of thread t at the levels below n
 unfoldable pub levelNeeds : Places → List ℕ → List ℕ → ℕ → ℕ
@@ -56,13 +56,13 @@ module _ (s : Sizes) (w : Words) (k : WholeFor s w) (space : Room (placesOf s) (
   needs-are =
       sum-same _ _ (suc j)
       (λ l h.
-      ap₂ (λ (a b : ℕ). morePages a b) (count-same s w k space (regionAt s t (suc j)) w₁ M (regionAt s t l))
+      ap₂ (λ (a b : ℕ). morePages a b) (count-same M space (regionAt s t l))
       (goes-landed s w k (regionAt s t (suc j)) w₁ M (region-pos s t (suc j)) (regionAt s t l) (region-pos s t l)))
       ∙ sym (new-pages-counted s w k t j th deep)
 
   pub free-are : ownedIn (placesOf s) (w₁ .tables) 0 (s .pages) ≡ pagesOwned s w 0
   unfolding ownedOne
-  free-are = sum-same _ _ (s .pages) (λ page l. ap (λ (x : ℕ). bit (eqb x 0)) (owner-same s w k space (regionAt s t (suc j)) w₁ M page l))
+  free-are = sum-same _ _ (s .pages) (λ page l. ap (λ (x : ℕ). bit (eqb x 0)) (owner-same M space page l))
 
   pub crossing-are : ce.crossingAfter (placesOf s) (w₁ .cells) (w₁ .remember) (w₁ .tables) (regionAt s t (suc j)) ≡ crossingAfter s w t j
   crossing-are = crossing-after s w k space (regionAt s t (suc j)) (region-high s t j) w₁ M

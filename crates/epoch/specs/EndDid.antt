@@ -22,11 +22,11 @@ use Rattle.mark.specs.Survivors.{Marked, marked-kept, space-of, shaped-at, hold
 use Rattle.mark.specs.Unmark.{Unmarked, cells-back, tables-back}
 use Rattle.census.specs.After as ce
 use Rattle.evacuate.specs.Stages.{Before, Finished}
+use Rattle.evacuation.specs.MarkedWords.{now-used}
 use Rattle.evacuation.specs.AfterEvacuation.{evacuation-evacuated}
 use Rattle.ended.specs.AfterEnd.{endOf}
 use Rattle.ended.specs.EndQuestion.{pagesNeeded, crossingAfter, refused-shut, refused-pageless, refused-full}
 use Rattle.ended.specs.EvacuatedDid.{ended-did}
-use Rattle.epoch.specs.MarkedWords.{use-now}
 use Rattle.pages.specs.Owned.{ownedIn}
 use Rattle.epoch.specs.CensusCounts.{needsBelow, needs-are, free-are, crossing-are}
 use Rattle.epoch.specs.MayEvacuate.{before-same}
@@ -71,7 +71,7 @@ module _ (p : Places) (e : p ≡ placesOf (sizesOf p)) (w : Words) (k : WholeFor
     pub used-now : (c : ℕ) → pageOf c < p .pages → marked p (w₁ .tables) c ≡ 1 → InUse p (w₁ .tables) c
     used-now =
         subst (λ (q : Places). (c : ℕ) → pageOf c < q .pages → marked q (w₁ .tables) c ≡ 1 → InUse q (w₁ .tables) c) (sym e)
-        (λ c l on. use-now (sizesOf p) w k room-of (regionAt (sizesOf p) t (depthOf (w .tables) t)) w₁ M c (M .only c l on .0))
+        (λ c l on. now-used M room-of c (M .only c l on .0))
 
     pub shaped-now : Shaped p (w₁ .cells) (w₁ .tables)
     shaped-now = kept-shaped kept (shaped-at p e w k fits)

@@ -19,24 +19,24 @@ use Rattle.mark.specs.Survivors.{Marked}
 use Rattle.evacuate.specs.Entries.{crossOf, otherThan}
 use Rattle.evacuate.specs.Append.{crossAt}
 use Rattle.evacuate.specs.Table.{IsSlot, Listed}
-use Rattle.epoch.specs.MarkedWords.{owner-same, use-now, use-then, head-same, word-same}
+use Rattle.evacuation.specs.MarkedWords.{owner-same, now-used, was-used, head-same, word-same}
 
 module _ (s : Sizes) (w : Words) (k : WholeFor s w) (space : Room (placesOf s) (length (w .tables))) (r : ℕ) (w₁ : Words) (M : Marked s w r w₁) where
   -- a slot, before and after the marking
   pub slot-now : (x : ℕ) → Slot (placesOf s) (w .cells) (w .tables) x → IsSlot (placesOf s) (w₁ .cells) (w₁ .tables) x
   slot-now x o =
       record {
-        used = use-now s w k space r w₁ M (x / 16) (o .used);
+        used = now-used M space (x / 16) (o .used);
         field = o .field;
-        ref = subst (λ (h : ℕ). x % 16 < h / 16 + 2) (sym (head-same s w k space r w₁ M (x / 16))) (o .count);
+        ref = subst (λ (h : ℕ). x % 16 < h / 16 + 2) (sym (head-same M space (x / 16))) (o .count);
       }
 
   pub slot-then : (x : ℕ) → IsSlot (placesOf s) (w₁ .cells) (w₁ .tables) x → Slot (placesOf s) (w .cells) (w .tables) x
   slot-then x o =
       record {
-        used = use-then s w k space r w₁ M (x / 16) (o .used);
+        used = was-used M space (x / 16) (o .used);
         field = o .field;
-        count = subst (λ (h : ℕ). x % 16 < h / 16 + 2) (head-same s w k space r w₁ M (x / 16)) (o .ref);
+        count = subst (λ (h : ℕ). x % 16 < h / 16 + 2) (head-same M space (x / 16)) (o .ref);
       }
 
   -- reference v of an object in region o
@@ -47,7 +47,7 @@ module _ (s : Sizes) (w : Words) (k : WholeFor s w) (space : Room (placesOf s) (
       let y′ : suc y - 1 ≡ y = omega arith in
       let u : Used s w y = subst (Used s w) y′ (f (omega arith)) in
       ap₂ (λ (b : Bool) (x : ℕ). cond b 0 (other o (ownerOf (placesOf s) (w₁ .tables) (x / 16)))) (eqb·suc-zero y) y′
-      ∙ ap₂ (λ (a b : ℕ). other a b) e (owner-same s w k space r w₁ M (y / 16) (u .page) ∙ sym (region-of (placesOf s) (w .tables) y u))
+      ∙ ap₂ (λ (a b : ℕ). other a b) e (owner-same M space (y / 16) (u .page) ∙ sym (region-of (placesOf s) (w .tables) y u))
 
   slot-ref : (x : ℕ) → Slot (placesOf s) (w .cells) (w .tables) x → IsRef (placesOf s) (w .tables) (getD (w .cells) x 0)
   slot-ref x o =
@@ -58,9 +58,9 @@ module _ (s : Sizes) (w : Words) (k : WholeFor s w) (space : Room (placesOf s) (
   pub cross-same : (x : ℕ) → Slot (placesOf s) (w .cells) (w .tables) x → crossAt (placesOf s) (w₁ .cells) (w₁ .tables) x ≡ crossTo (placesOf s) (w .cells) (w .tables) x
   cross-same x o =
       let page : x / 256 ≡ pageOf (cellOf x) = omega arith in
-      ap (λ (v : ℕ). crossOf (placesOf s) (w₁ .tables) (ownerOf (placesOf s) (w₁ .tables) (x / 256)) v) (word-same s w k space r w₁ M x (λ z. omega (arith, o .field)))
+      ap (λ (v : ℕ). crossOf (placesOf s) (w₁ .tables) (ownerOf (placesOf s) (w₁ .tables) (x / 256)) v) (word-same M space x (λ z. omega (arith, o .field)))
       ∙ value-same (ownerOf (placesOf s) (w₁ .tables) (x / 256)) (ownerIn s w (pageOf (cellOf x)))
-      (ap (λ (q : ℕ). ownerOf (placesOf s) (w₁ .tables) q) page ∙ owner-same s w k space r w₁ M (pageOf (cellOf x)) (o .used .page)) (getD (w .cells) x 0) (slot-ref x o)
+      (ap (λ (q : ℕ). ownerOf (placesOf s) (w₁ .tables) q) page ∙ owner-same M space (pageOf (cellOf x)) (o .used .page)) (getD (w .cells) x 0) (slot-ref x o)
       ∙ sym (slot-cross (placesOf s) (w .cells) (w .tables) x o)
 
   pub listed : Listed (placesOf s) (s .entries) (usedIn (w .remember)) (w₁ .cells) (w₁ .tables) (w .remember)

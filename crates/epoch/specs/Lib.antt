@@ -1,5 +1,5 @@
 -- The end of an epoch: after the marking of survivors, what the census allows is what the evacuation asks.
-pub mod MarkedWords
+pub mod MarkedReady
 pub mod PagesEnough
 pub mod EntriesListed
 pub mod Starting

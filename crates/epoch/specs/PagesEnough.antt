@@ -33,7 +33,8 @@ use Rattle.ended.specs.Evacuated.{Survivor}
 use Rattle.ended.specs.EndQuestion.{pagesNeeded}
 use Rattle.ended.specs.EndPages.{morePages, new-pages-ended}
 use Rattle.ended.specs.WordsPlaced.{target-level}
-use Rattle.epoch.specs.MarkedWords.{owner-same, objects-same, ready}
+use Rattle.evacuation.specs.MarkedWords.{owner-same}
+use Rattle.epoch.specs.MarkedReady.{objects-same, ready}
 
 cond-bit : (b : Bool) → _≡_ {A = ℕ} (cond b 1 0) (bit b)
 cond-bit true = refl
@@ -102,7 +103,7 @@ module _ (s : Sizes) (w : Words) (k : WholeFor s w) (space : Room (placesOf s) (
   unfolding ev.pagesOwned
   free-same =
       sum-same (ownedOn (placesOf s) (w₁ .tables) 0) (λ page. bit (eqb (ownerIn s w page) 0)) (s .pages)
-      (λ page l. ap (λ (x : ℕ). cond (eqb x 0) 1 0) (owner-same s w k space r w₁ M page l) ∙ cond-bit (eqb (ownerIn s w page) 0))
+      (λ page l. ap (λ (x : ℕ). cond (eqb x 0) 1 0) (owner-same M space page l) ∙ cond-bit (eqb (ownerIn s w page) 0))
 
   needs : sum (λ l. need (placesOf s) (regionAt s t l) (w₁ .cells) (w₁ .tables)) (suc j) ≡ pagesNeeded s w t j
   needs =

@@ -1,11 +1,11 @@
 -- Where the slots that cross after the end fit the remember table by the rules, they fit it on the cells that the copies took, whichever
 -- these are.
 use mathlib.Core.Path.{_≡_, sym, ap, ap₂, _∙_, subst}
-use mathlib.Core.Logic.{_≢_, _⊎_}
+use mathlib.Core.Logic.{_≢_, _⊎_, ⊎-elim}
 use mathlib.Core.Bool.{Bool, cond, not, _&&_}
 use mathlib.Core.List.{List}
 use Prim.Native.Nat.{ℕ, suc, _+_, _*_, _/_, _%_, _≤_, _<_}
-use native.Mathlib.Decide.{ℕ-discrete, decLt}
+use native.Mathlib.Decide.{decLt}
 use native.Mathlib.Omega.{arith}
 use borrow.Author.Tests.{ne-eqb}
 use lib.ListN.{length, getD}
@@ -19,7 +19,7 @@ use Rattle.laws.specs.EndLaws.{home-went, home-stayed}
 use Rattle.layout.specs.Places.{placesOf, Room, ownerOf, usedIn}
 use Rattle.layout.specs.Cells.{pageOf, workOf, refsOf}
 use Rattle.layout.specs.Marks.{marked}
-use Rattle.promises.specs.Words.{Words, Used, InUse, ownerIn, depthIn, refCount, graphOf}
+use Rattle.promises.specs.Words.{Words, Used, InUse, depthIn, refCount, graphOf}
 use Rattle.promises.specs.Whole.{WholeFor}
 use Rattle.promises.specs.Reading.{used-home}
 use Rattle.mark.specs.Survivors.{Marked}
@@ -30,9 +30,11 @@ use Rattle.evacuate.specs.Update.{Copies}
 use Rattle.evacuate.specs.Stages.{Lives, Space}
 use Rattle.evacuate.specs.RewriteSlots.{Remembered}
 use Rattle.ended.specs.EndQuestion.{crossingAfter}
-use Rattle.epoch.specs.MarkedWords.{owner-same, use-then, head-same, word-same, ready}
+use Rattle.ended.specs.Rewriting.{outside-alive, survivor-alive}
+use Rattle.evacuation.specs.MarkedWords.{owner-same, was-used, head-same, word-same, lives-how}
+use Rattle.epoch.specs.MarkedReady.{ready}
 use Rattle.epoch.specs.PagesEnough.{marked-survivor}
-use Rattle.epoch.specs.Starting.{stays-alive, goes-alive, start}
+use Rattle.epoch.specs.Starting.{start}
 use Rattle.epoch.specs.CrossingPositions.{wordCrosses, crossesPast, word-slot, positions-few}
 use Rattle.epoch.specs.CameFrom.{cellNow, Came, came}
 
@@ -71,21 +73,12 @@ module _ (s : Sizes) (w : Words) (k : WholeFor s w) (space : Room (placesOf s) (
 
   home-stays : (c : ℕ) → InUse (placesOf s) (w₁ .tables) c → ownerOf (placesOf s) (w₁ .tables) (c / 16) ≢ r → after .home c ≡ ownerOf (placesOf s) (w₁ .tables) (c / 16)
   home-stays c u n =
-      let v : Used s w c = use-then s w k space r w₁ M c u in
-      let e = owner-same s w k space r w₁ M (pageOf c) (v .page) in
+      let v : Used s w c = was-used M space c u in
+      let e = owner-same M space (pageOf c) (v .page) in
       home-stayed s (graphOf s w) r c (λ z. n (e ∙ sym (used-home s w k c v) ∙ z)) ∙ used-home s w k c v ∙ sym e
 
   lives-alive : (c : ℕ) → Lives (placesOf s) r (w₁ .tables) c → Alive after c
-  lives-alive c l = go (ℕ-discrete (ownerIn s w (pageOf c)) r)
-    where
-      u : Used s w c
-      u = use-then s w k space r w₁ M c (l .used)
-
-      go : Dec (ownerIn s w (pageOf c) ≡ r) → Alive after c
-      go (yes e) =
-          goes-alive s w k space r pos w₁ M c
-          (marked-survivor s w r w₁ M c (u .page) (l .stays (owner-same s w k space r w₁ M (pageOf c) (u .page) ∙ e)))
-      go (no n) = stays-alive s w k space r pos w₁ M c u n
+  lives-alive c l = ⊎-elim (outside-alive s w k r pos c) (survivor-alive s w k r pos c) (lives-how M space c l)
 
   cross-one : (c d : ℕ) → after .home c ≢ after .home d → 1 < after .home d → crossRef after c (suc d) ≡ 1
   cross-one c d far high =
@@ -96,8 +89,8 @@ module _ (s : Sizes) (w : Words) (k : WholeFor s w) (space : Room (placesOf s) (
   counts : (W : List ℕ) (x q : ℕ) → Came (placesOf s) r (after .home) (w₁ .cells) (w₁ .tables) W x q → 0 < crossesPast s w r q
   unfolding crossesPast
   counts W x q c =
-      let e : refsOf (w₁ .cells) (q / 16) ≡ refCount w (q / 16) = ap (λ (h : ℕ). h / 16) (head-same s w k space r w₁ M (q / 16)) in
-      let v : getD (w .cells) q 0 ≡ suc (c .names) = sym (word-same s w k space r w₁ M q (λ z. omega (arith, c .field))) ∙ c .value in
+      let e : refsOf (w₁ .cells) (q / 16) ≡ refCount w (q / 16) = ap (λ (h : ℕ). h / 16) (head-same M space (q / 16)) in
+      let v : getD (w .cells) q 0 ≡ suc (c .names) = sym (word-same M space q (λ z. omega (arith, c .field))) ∙ c .value in
       let one : wordCrosses s w r (q / 16) (q % 16) (getD (w .cells) q 0) ≡ 1 =
       word-slot s w k r pos (q / 16) (q % 16) (getD (w .cells) q 0) (lives-alive (q / 16) (c .lives)) (c .field) (subst (λ (n : ℕ). q % 16 < n + 2) e (c .ref))
       ∙ ap (crossRef after (q / 16)) v ∙ cross-one (q / 16) (c .names) (c .far) (c .high) in

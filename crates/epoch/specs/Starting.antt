@@ -6,20 +6,19 @@ use native.Mathlib.Decide.{ℕ-discrete}
 use native.Mathlib.Omega.{arith}
 use native.Mathlib.Nat.{pos-of-ne-zero}
 use lib.ListN.{length}
-use Rattle.lists.specs.Members.{In, getD-member}
 use Rattle.rules.specs.declared.Sizes.{Sizes}
 use Rattle.rules.specs.Regions.{regionAt}
 use Rattle.rules.specs.Graph.{ended}
 use Rattle.laws.specs.GraphLaws.{Alive}
 use Rattle.laws.specs.RegionLaws.{region-high, further-out}
 use Rattle.laws.specs.RulesLaws.{region-pos}
-use Rattle.laws.specs.EndLaws.{home-went, home-stayed, was-alive, closed-ended}
+use Rattle.laws.specs.EndLaws.{home-went, closed-ended}
 use Rattle.layout.specs.Places.{placesOf, Room, ownerOf, varOf, usedIn}
 use Rattle.layout.specs.Cells.{pageOf, workAt, workOf, fieldOf, refsOf}
 use Rattle.layout.specs.Marks.{marked}
-use Rattle.promises.specs.Words.{Words, Used, InUse, ownerIn, depthIn, refCount, refsIn, graphOf}
+use Rattle.promises.specs.Words.{Words, Used, InUse, ownerIn, depthIn, refCount, graphOf}
 use Rattle.promises.specs.Whole.{WholeFor}
-use Rattle.promises.specs.Reading.{used-home, used-alive, alive-used, words-closed, length-refs, getD-refs, getD-vars, refs-few}
+use Rattle.promises.specs.Reading.{words-closed, getD-vars, refs-few}
 use Rattle.mark.specs.Survivors.{Marked}
 use Rattle.mark.specs.Reached.{cell-home}
 use Rattle.evacuate.specs.Links.{Start}
@@ -27,7 +26,9 @@ use Rattle.evacuate.specs.Table.{remembered-old, remembered-into, remembered-sl
 use Rattle.evacuate.specs.Stages.{Lives}
 use Rattle.evacuate.specs.RewriteSlots.{Remembered}
 use Rattle.ended.specs.Evacuated.{Survivor}
-use Rattle.epoch.specs.MarkedWords.{owner-same, var-same, use-now, use-then, head-same, word-same}
+use Rattle.ended.specs.Rewriting.{outside-alive, survivor-alive}
+use Rattle.ended.specs.InCells.{was-there, reference-there}
+use Rattle.evacuation.specs.MarkedWords.{owner-same, var-same, now-used, was-used, head-same, field-same}
 use Rattle.epoch.specs.PagesEnough.{marked-survivor, unmarked-freed, survivor-level}
 use Rattle.epoch.specs.EntriesListed.{listed}
 
@@ -41,24 +42,11 @@ pub record Points (s : Sizes) (w : Words) (b f d : ℕ) : Type 0 where
 module _ (s : Sizes) (w : Words) (k : WholeFor s w) (space : Room (placesOf s) (length (w .tables))) (r : ℕ) (rpos : 0 < r) (w₁ : Words) (M : Marked s w r w₁) where
   -- ---- what is there after the end
 
-  pub stays-alive : (c : ℕ) → Used s w c → ownerIn s w (pageOf c) ≢ r → Alive (ended s (graphOf s w) r) c
-  stays-alive c u n z =
-      used-alive s w k c u (sym (home-stayed s (graphOf s w) r c (λ e. n (sym (used-home s w k c u) ∙ e))) ∙ z)
-
-  pub goes-alive : (c : ℕ) → Survivor s w r c → Alive (ended s (graphOf s w) r) c
-  goes-alive c v z = omega (arith, v .goes, home-went s (graphOf s w) r c (cell-home s w k c r (v .used) (v .owner)))
-
   pub alive-marked : (d : ℕ) → Alive (ended s (graphOf s w) r) d → ownerIn s w (pageOf d) ≡ r → marked (placesOf s) (w₁ .tables) d ≡ 1
   alive-marked d a own =
-      let u = alive-used s w k d (was-alive s (graphOf s w) r rpos (words-closed s w k) d a) in
+      let u = was-there s w k r rpos d a in
       let e = home-went s (graphOf s w) r d (cell-home s w k d r u own) in
       M .survives d u own (pos-of-ne-zero (λ z. a (e ∙ z)))
-
-  pub ref-alive : (b f d : ℕ) → Points s w b f d → Alive (ended s (graphOf s w) r) b → Alive (ended s (graphOf s w) r) d
-  unfolding ended
-  ref-alive b f d q a =
-      closed-ended s (graphOf s w) r rpos (words-closed s w k) .refs b d a
-      (subst (λ (x : ℕ). In x (refsIn w b)) (getD-refs w b f (q .low) ∙ q .value) (getD-member (refsIn w b) f (omega (arith, q .low, length-refs s w k b (q .used)))))
 
   var-alive : (i d : ℕ) → i < s .threads * s .variables → varOf (placesOf s) (w .tables) i ≡ suc d → Alive (ended s (graphOf s w) r) d
   unfolding ended
@@ -67,34 +55,31 @@ module _ (s : Sizes) (w : Words) (k : WholeFor s w) (space : Room (placesOf s) (
   -- ---- the same words after the marking
 
   refs-then : (c : ℕ) → refsOf (w₁ .cells) c ≡ refCount w c
-  refs-then c = ap (λ (h : ℕ). h / 16) (head-same s w k space r w₁ M c)
-
-  field-then : (c f : ℕ) → f < 14 → fieldOf (w₁ .cells) c f ≡ fieldOf (w .cells) c f
-  field-then c f l = word-same s w k space r w₁ M (16 * c + 2 + f) (λ z. omega arith)
+  refs-then c = ap (λ (h : ℕ). h / 16) (head-same M space c)
 
   pub points : (b f d : ℕ) → InUse (placesOf s) (w₁ .tables) b → f < refsOf (w₁ .cells) b → fieldOf (w₁ .cells) b f ≡ suc d → Points s w b f d
   points b f d u l e =
-      let v : Used s w b = use-then s w k space r w₁ M b u in
+      let v : Used s w b = was-used M space b u in
       let l′ : f < refCount w b = omega (arith, refs-then b) in
-      let e′ : fieldOf (w .cells) b f ≡ suc d = sym (field-then b f (omega (arith, refs-few s w k b v))) ∙ e in
+      let e′ : fieldOf (w .cells) b f ≡ suc d = sym (field-same M space b f (omega (arith, refs-few s w k b v))) ∙ e in
       let d′ : fieldOf (w .cells) b f - 1 ≡ d = omega arith in
       record { used = v; low = l′; value = e′; there = subst (Used s w) d′ (k .placed .references b v f l′ (omega arith)) }
 
   owner-then : (c : ℕ) → Used s w c → ownerOf (placesOf s) (w₁ .tables) (c / 16) ≡ ownerIn s w (pageOf c)
-  owner-then c u = owner-same s w k space r w₁ M (pageOf c) (u .page)
+  owner-then c u = owner-same M space (pageOf c) (u .page)
 
   -- ---- the variables
 
   pub variables : (i : ℕ) → i < s .threads * s .variables → varOf (placesOf s) (w₁ .tables) i ≢ 0 → Lives (placesOf s) r (w₁ .tables) (varOf (placesOf s) (w₁ .tables) i - 1)
   variables i l ne =
-      subst (λ (x : ℕ). Lives (placesOf s) r (w₁ .tables) (x - 1)) (sym (var-same s w k space r w₁ M i l)) (go (varOf (placesOf s) (w .tables) i) refl (λ z. ne (var-same s w k space r w₁ M i l ∙ z)))
+      subst (λ (x : ℕ). Lives (placesOf s) r (w₁ .tables) (x - 1)) (sym (var-same M space i l)) (go (varOf (placesOf s) (w .tables) i) refl (λ z. ne (var-same M space i l ∙ z)))
     where
       go : (x : ℕ) → varOf (placesOf s) (w .tables) i ≡ x → x ≢ 0 → Lives (placesOf s) r (w₁ .tables) (x - 1)
       go x e n =
           let v : varOf (placesOf s) (w .tables) i ≡ suc (x - 1) = omega arith in
           let u : Used s w (x - 1) = subst (λ (y : ℕ). Used s w (y - 1)) e (k .placed .variables i l (omega arith)) in
           record {
-            used = use-now s w k space r w₁ M (x - 1) u;
+            used = now-used M space (x - 1) u;
             stays = λ own. alive-marked (x - 1) (var-alive i (x - 1) l v) (sym (owner-then (x - 1) u) ∙ own);
           }
 
@@ -125,21 +110,21 @@ module _ (s : Sizes) (w : Words) (k : WholeFor s w) (space : Room (placesOf s) (
         slots-used = λ c f u l ne. used′ c f u l ne;
         survivors = λ c l on. let v = marked-survivor s w r w₁ M c l on in owner-then s w k space r pos w₁ M c (v .used) ∙ v .owner;
         targets = λ c l on. away c (marked-survivor s w r w₁ M c l on);
-        idle = λ c u off. idle c (use-then s w k space r w₁ M c u) off;
+        idle = λ c u off. idle c (was-used M space c u) off;
         closed = λ b f d l on lf e own.
             let v = marked-survivor s w r w₁ M b l on in
-            let q = points s w k space r pos w₁ M b f d (use-now s w k space r w₁ M b (v .used)) lf (suc-of e) in
-            named b f d q (goes-alive s w k space r pos w₁ M b v) own;
+            let q = points s w k space r pos w₁ M b f d (now-used M space b (v .used)) lf (suc-of e) in
+            named b f d q (survivor-alive s w k r pos b v) own;
         held = λ b f d u out lf e own.
             let q = points s w k space r pos w₁ M b f d u lf (suc-of e) in
-            named b f d q (stays-alive s w k space r pos w₁ M b (q .used) (λ z. out (owner-then s w k space r pos w₁ M b (q .used) ∙ z))) own;
+            named b f d q (outside-alive s w k r pos b (record { used = q .used; owner = λ z. out (owner-then s w k space r pos w₁ M b (q .used) ∙ z) })) own;
         slots = λ b f d u out lf e own. remembered-slots high L b f d u out lf (few′ b u) e own;
         old = remembered-old high L;
         into = remembered-into high L;
       }
     where
       few′ : (c : ℕ) → InUse (placesOf s) (w₁ .tables) c → refsOf (w₁ .cells) c ≤ 14
-      few′ c u = omega (arith, refs-then s w k space r pos w₁ M c, refs-few s w k c (use-then s w k space r w₁ M c u))
+      few′ c u = omega (arith, refs-then s w k space r pos w₁ M c, refs-few s w k c (was-used M space c u))
 
       suc-of : {x d : ℕ} → x ≡ 1 + d → x ≡ suc d
       suc-of e = omega arith
@@ -147,11 +132,11 @@ module _ (s : Sizes) (w : Words) (k : WholeFor s w) (space : Room (placesOf s) (
       used′ : (c f : ℕ) → InUse (placesOf s) (w₁ .tables) c → f < refsOf (w₁ .cells) c → fieldOf (w₁ .cells) c f ≢ 0 → InUse (placesOf s) (w₁ .tables) (fieldOf (w₁ .cells) c f - 1)
       used′ c f u l ne =
           let e : fieldOf (w₁ .cells) c f ≡ suc (fieldOf (w₁ .cells) c f - 1) = omega arith in
-          use-now s w k space r w₁ M (fieldOf (w₁ .cells) c f - 1) (points s w k space r pos w₁ M c f (fieldOf (w₁ .cells) c f - 1) u l e .there)
+          now-used M space (fieldOf (w₁ .cells) c f - 1) (points s w k space r pos w₁ M c f (fieldOf (w₁ .cells) c f - 1) u l e .there)
 
       away : (c : ℕ) → Survivor s w r c → workOf (w₁ .cells) c ≢ r
       away c v z = let x = survivor-level s w k space t j th deep w₁ M c v in omega (arith, x .2, further-out s t (x .0) (suc j) (x .1))
 
       named : (b f d : ℕ) → Points s w b f d → Alive (ended s (graphOf s w) r) b → ownerOf (placesOf s) (w₁ .tables) (d / 16) ≡ r → marked (placesOf s) (w₁ .tables) d ≡ 1
       named b f d q a own =
-          alive-marked s w k space r pos w₁ M d (ref-alive s w k space r pos w₁ M b f d q a) (sym (owner-then s w k space r pos w₁ M d (q .there)) ∙ own)
+          alive-marked s w k space r pos w₁ M d (reference-there s w k r pos b a f (q .low) d (q .value)) (sym (owner-then s w k space r pos w₁ M d (q .there)) ∙ own)

@@ -1,13 +1,13 @@
 -- Marking changes word 1 of the cells of r and the mark words alone: what else is read from the marked words is as it was.
 use mathlib.Core.Path.{_≡_, sym, _∙_}
-use mathlib.Core.Logic.{_⊎_, inl, inr}
-use Prim.Native.Nat.{ℕ, _*_, _≤_, _<_}
+use mathlib.Core.Logic.{_≢_, _⊎_, inl, inr}
+use Prim.Native.Nat.{ℕ, _*_, _%_, _≤_, _<_}
 use native.Mathlib.Decide.{ℕ-discrete, decLt}
 use native.Mathlib.Omega.{arith}
 use lib.ListN.{length, getD}
 use Rattle.rules.specs.declared.Sizes.{Sizes}
 use Rattle.rules.specs.Graph.{target}
-use Rattle.layout.specs.Places.{Room, placesOf, varAt, ownerAt, usedAt, depthAt, varOf, ownerOf, usedOf, depthOf}
+use Rattle.layout.specs.Places.{Room, placesOf, varAt, ownerAt, usedAt, countAt, depthAt, varOf, ownerOf, usedOf, countOf, depthOf}
 use Rattle.layout.specs.Cells.{headAt, fieldAt, headOf, fieldOf, pageOf}
 use Rattle.layout.specs.Marks.{marked}
 use Rattle.promises.specs.Words.{Words, InUse, Used, depthIn, ownerIn, graphOf}
@@ -31,6 +31,9 @@ module _ {s : Sizes} {w w₁ : Words} {r : ℕ} (m : Marked s w r w₁) (rm : Ro
   pub var-same : (i : ℕ) → i < s .threads * s .variables → varOf (placesOf s) (w₁ .tables) i ≡ varOf (placesOf s) (w .tables) i
   var-same i l = table-same (varAt (placesOf s) i) (λ z. omega (arith, rm))
 
+  pub count-same : (g : ℕ) → countOf (placesOf s) (w₁ .tables) g ≡ countOf (placesOf s) (w .tables) g
+  count-same g = table-same (countAt (placesOf s) g) (λ z. omega arith)
+
   pub depth-same : (u : ℕ) → u < s .threads → depthOf (w₁ .tables) u ≡ depthIn w u
   depth-same u l = table-same (depthAt u) (λ z. omega (arith, rm))
 
@@ -44,11 +47,15 @@ module _ {s : Sizes} {w w₁ : Words} {r : ℕ} (m : Marked s w r w₁) (rm : Ro
 
   -- ---- the cells
 
+  -- a word of a cell that is not word 1
+  pub word-same : (q : ℕ) → q % 16 ≢ 1 → getD (w₁ .cells) q 0 ≡ getD (w .cells) q 0
+  word-same q n = m .cells q (λ d e u o. n (omega arith))
+
   pub head-same : (c : ℕ) → headOf (w₁ .cells) c ≡ headOf (w .cells) c
-  head-same c = m .cells (headAt c) (λ d e u o. omega arith)
+  head-same c = word-same (headAt c) (λ z. omega arith)
 
   pub field-same : (c f : ℕ) → f < 14 → fieldOf (w₁ .cells) c f ≡ fieldOf (w .cells) c f
-  field-same c f l = m .cells (fieldAt c f) (λ d e u o. omega arith)
+  field-same c f l = word-same (fieldAt c f) (λ z. omega arith)
 
   -- ---- who lives on
 
