@@ -27,6 +27,7 @@ use Rattle.promises.specs.Reading.{words-closed, alive-used, used-home, getD-fi
 use Rattle.promises.specs.Agreed.{renamed-id, heap-stands}
 use Rattle.ended.specs.Evacuated.{Outside, Survivor, Evacuated}
 use Rattle.ended.specs.Rewriting.{cellAfter, after-kinds, outside-cell, survivor-cell}
+use Rattle.ended.specs.InCells.{was-there}
 use Rattle.ended.specs.AfterEnd.{endOf, after-end}
 use Rattle.ended.specs.EvacuatedWhole.{evacuated-whole, in-cell, from-cell, reference-after, variable-after}
 
@@ -60,9 +61,6 @@ module _ (s : Sizes) (w : Words) (t k : ℕ) (w′ : Words) (forward : ℕ → �
   whole′ : WholeFor s w′
   whole′ = evacuated-whole s w t k w′ forward whole deep e
 
-  was-there : (c : ℕ) → There c → Used s w c
-  was-there c a = alive-used s w whole c (was-alive s (graphOf s w) r pos (words-closed s w whole) c a)
-
   now-used : (c : ℕ) → There c → Used s w′ (cell c)
   now-used c a = in-cell s w t k w′ forward whole deep e c a .used
 
@@ -83,7 +81,7 @@ module _ (s : Sizes) (w : Words) (t k : ℕ) (w′ : Words) (forward : ℕ → �
       → ((i : ℕ) → i < fieldCount d (headIn w c) → fieldOf (w′ .cells) (cell c) (firstField d (headIn w c) + i) ≡ g (fieldOf (w .cells) c (firstField d (headIn w c) + i)))
       → fieldsIn d w′ (cell c) ≡ map g (fieldsIn d w c)
   fields-after d g z c a became =
-      ext-getD 0 (fieldsIn d w′ (cell c)) (map g (fieldsIn d w c)) (long′ ∙ sym (length-map (fieldsIn d w c) g ∙ length-fields s w whole d c (was-there c a)))
+      ext-getD 0 (fieldsIn d w′ (cell c)) (map g (fieldsIn d w c)) (long′ ∙ sym (length-map (fieldsIn d w c) g ∙ length-fields s w whole d c (was-there s w whole r pos c a)))
       (λ i l.
       let m : i < fieldCount d (headIn w c) = omega (arith, long′) in
       getD-fields d w′ (cell c) i (omega (arith, same)) ∙ ap (λ (n : ℕ). fieldOf (w′ .cells) (cell c) (firstField d n + i)) (head-same c a) ∙ became i m
@@ -100,7 +98,7 @@ module _ (s : Sizes) (w : Words) (t k : ℕ) (w′ : Words) (forward : ℕ → �
 
   nums-after : (c : ℕ) → There c → numsIn w′ (cell c) ≡ numsIn w c
   nums-after c a =
-      let f = whole .placed .formed c (was-there c a) .head in
+      let f = whole .placed .formed c (was-there s w whole r pos c a) .head in
       fields-after Number (λ x. x) refl c a (λ i l. in-cell s w t k w′ forward whole deep e c a .object .others (refCount w c + i) (omega arith) (omega arith))
       ∙ map-id (numsIn w c)
 
