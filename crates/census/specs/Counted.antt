@@ -11,6 +11,7 @@ use lib.Dec.{eqb}
 use borrow.Author.Tests.{eq-eqb, ne-eqb}
 use Rattle.lists.specs.Counting.{bit, bit-le-one, sum, sum-same, sum-high, sum-blocks}
 use Rattle.lists.specs.Bits.{bitAt, bit-lt, Lowest, bitSum, bit-sum-clear, bit-sum-zero}
+use Rattle.lists.specs.SetBits.{Walked, walk-end}
 use Rattle.rules.specs.declared.Sizes.{Sizes}
 use Rattle.rules.specs.Graph.{target}
 use Rattle.laws.specs.Counts.{landed}
@@ -22,7 +23,6 @@ use Rattle.promises.specs.Words.{Words, homeIn, graphOf}
 use Rattle.promises.specs.Whole.{WholeFor}
 use Rattle.mark.specs.Reached.{home-cell, cell-home}
 use Rattle.mark.specs.Survivors.{Marked}
-use Rattle.mark.specs.Unmark.{Walked, walk-next, walk-end, none-left}
 
 -- the sum of f over the set bits of a working word
 unfoldable pub overBits : (ℕ → ℕ) → ℕ → ℕ
@@ -84,7 +84,7 @@ summed-next {f} {w} {left} {n} i left′ n′ x l e ex en h =
 
 pub summed-end : {f : ℕ → ℕ} {w left n k : ℕ} → Walked w left k → ones w ≤ k → Summed f w left n → n ≡ overBits f w
 summed-end {f} {w} {left} {n} u l h =
-    let z : left ≡ 0 = none-left left (u .small) (walk-end u l) in omega (arith, h .whole, ap (overBits f) z, bits-none f)
+    let z : left ≡ 0 = walk-end u l in omega (arith, h .whole, ap (overBits f) z, bits-none f)
 
 -- ---- survivors that go to g
 
@@ -138,11 +138,6 @@ goes-landed s w k r w′ m rpos g pos =
         ∙ sym
         (ap (λ (b : Bool). cond b (cond (eqb (target s (graphOf s w) r c) g) 1 0) 0) (eq-eqb (homeIn s w c) r h)
         ∙ ap (λ (b : Bool). cond b 1 0) (ne-eqb (target s (graphOf s w) r c) g (λ (e : target s (graphOf s w) r c ≡ g). off (m .survives c (u .0) (u .1) (omega arith)))))
-
--- ---- as the code has it
-
-pub walk-turn : {w left k : ℕ} (i left′ : ℕ) → Walked w left k → Lowest left i → left′ ≡ left - 2 ^ i → Walked w left′ (k + 1)
-walk-turn {w} {k = k} i left′ u l e = subst (λ (z : ℕ). Walked w z (k + 1)) (sym e) (walk-next i u l)
 
 -- the cell of a bit that is set in its page's working word is marked
 pub marked-on : (p : Places) (T : List ℕ) (page i w : ℕ) → i < 16 → w ≡ markOf p T page → bitAt w i ≡ 1 → marked p T (cellOn page i) ≡ 1

@@ -1,15 +1,17 @@
 -- Whole words in which survivors are marked: pages and counts are regular, as the copy asks.
 use mathlib.Core.Path.{_≡_, sym, ap₂, _∙_, subst}
 use mathlib.Core.Bool.{cond}
-use Prim.Native.Nat.{ℕ, _≤_, _<_}
+use Prim.Native.Nat.{ℕ, _+_, _≤_, _<_}
 use native.Mathlib.Decide.{decLt}
 use native.Mathlib.Omega.{arith}
 use native.Mathlib.Nat.{pos-of-ne-zero}
 use lib.Dec.{eqb}
 use lib.ListN.{length}
+use Rattle.lists.specs.Bits.{none-high}
 use Rattle.lists.specs.Counting.{sum-same}
 use Rattle.rules.specs.declared.Sizes.{Sizes}
-use Rattle.layout.specs.Places.{placesOf, Room}
+use Rattle.layout.specs.Places.{placesOf, Room, markOf}
+use Rattle.layout.specs.Cells.{pageOf, placeOf}
 use Rattle.promises.specs.Words.{Words}
 use Rattle.promises.specs.Whole.{WholeFor, objectsOn, objectsOf}
 use Rattle.promises.specs.Reading.{cells-room}
@@ -57,6 +59,6 @@ module _ (s : Sizes) (w : Words) (k : WholeFor s w) (space : Room (placesOf s) (
       record {
         regular = regular;
         cells-long = omega (arith, cells-room s w k, M .cells-length);
-        small = M .small;
         used = λ c l on. now-used M space c (M .only c l on .0);
+        waits = λ c l on. none-high 16 (markOf (placesOf s) (w₁ .tables) (pageOf c)) (16 + placeOf c) (M .small (pageOf c) l) (omega arith);
       }

@@ -119,6 +119,7 @@ module _ (s : Sizes) (w : Words) (k : WholeFor s w) (space : Room (placesOf s) (
   plan h =
       record {
         ready = ready s w k space r w₁ M;
+        small = M .small;
         real = λ l m. region-pos s t l;
         low = λ l m. region-bounds (placesOf s) t l th (omega (arith, k .placed .depths t th)) .1;
         rising = λ a b l m. further-out s t a b l;

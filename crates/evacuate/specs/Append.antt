@@ -3,19 +3,19 @@ use mathlib.Core.Path.{_≡_, refl, sym, ap, _∙_, subst}
 use mathlib.Core.Logic.{_≢_, _⊎_, inl, inr, ⊎-elim}
 use mathlib.Core.Bool.{cond}
 use mathlib.Core.List.{List}
-use Prim.Native.Nat.{ℕ, _+_, _-_, _*_, _/_, _%_, _≤_, _<_}
+use Prim.Native.Nat.{ℕ, _+_, _-_, _*_, _/_, _%_, _^_, _≤_, _<_}
 use native.Mathlib.Decide.{ℕ-discrete, decLt}
 use native.Mathlib.Omega.{arith}
 use borrow.Author.Tests.{lt-ltb, le-ltb}
 use lib.Dec.{ltb}
 use lib.ListN.{length, getD, set}
 use Rattle.layout.specs.declared.Places.{Places}
-use Rattle.layout.specs.Places.{ownerOf, usedOf, slotIn}
+use Rattle.layout.specs.Places.{ownerOf, markOf, slotIn}
 use Rattle.layout.specs.Cells.{workOf, fieldOf, refsOf}
 use Rattle.promises.specs.Words.{InUse}
 use Rattle.evacuate.specs.Entries.{crossOf, Added, added-none, added-one, added-join, added-like, slot-below}
 use Rattle.evacuate.specs.RewriteSlots.{Field, Fields}
-use Rattle.evacuate.specs.RewriteCopies.{CopySlot, Old, Wiring, Between, slots-apart, slot-less}
+use Rattle.evacuate.specs.RewriteCopies.{CopySlot, Old, Wiring, Grown, Between, Passed, passed-within, within-passed, unset-none, slots-apart, slot-less}
 
 -- the region into which the word at x crosses, if it is a slot
 abbrev pub crossAt : (p : Places) (W T : List ℕ) → ℕ → ℕ
@@ -157,101 +157,69 @@ module _ {p : Places} {r n d k f i j : ℕ} {W T M M′ : List ℕ} (few : k ≤
       from x g q (no e) =
           record { at = record { field = q .at .field; low = omega (arith, q .at .low); at = q .at .at }; region = q .region; kept = q .kept }
 
--- ---- the copies of the old cells from a up to b
+-- ---- the copy of one survivor more
 
 lift : {p : Places} {P Q : ℕ → Type 0} {W T : List ℕ} → ((x : ℕ) → P x → Q x) → (x h : ℕ) → Crossing p P W T x h → Crossing p Q W T x h
 lift f x h q = record { at = f x (q .at); region = q .region; kept = q .kept }
 
+-- x is word 1 of the old cell, as the code read it
+module _ {p : Places} {r n c i j : ℕ} {P P′ Q : ℕ → Type 0} {W T M M′ : List ℕ} (w : Wiring p r Q W T) (g : Grown P c P′) (among : (y : ℕ) → P′ y → Q y)
+    (a : Appending p r n (CopySlot p r Q W T) W T M i) (h : Added n (Crossing p (CopySlot p r P W T) W T) i j M M′) (x : ℕ) (e : x ≡ workOf W c)
+    (u : Old p r W T c) where
+  one : (y : ℕ) → Field (x - 1) (refsOf W (x - 1)) y → CopySlot p r (λ z. z ≡ c) W T y
+  one y f = record { cell = c; among = refl; old = u; field = subst (λ (z : ℕ). Field (z - 1) (refsOf W (z - 1)) y) e f }
+
+  cells-apart : (y : ℕ) → CopySlot p r P W T y → Field (x - 1) (refsOf W (x - 1)) y → ⊥
+  unfolding one
+  cells-apart y s f =
+      let q = one y f in
+      let z : s .cell ≡ c =
+      slots-apart w (s .cell) c y (among (s .cell) (g .keeps (s .cell) (s .among))) (among c (g .here)) (s .old) (q .old) (s .field) (q .field) in
+      g .new (subst P z (s .among))
+
+  pub cell-appending : Appending p r n (Field (x - 1) (refsOf W (x - 1))) W T M′ j
+  cell-appending =
+      appending-next a h (slot-less (λ z m. among z (g .keeps z m))) (λ y f. slot-less (λ z m. subst Q (sym m) (among c (g .here))) y (one y f)) cells-apart
+
+  pub cell-wired : Fields p (refsOf W (x - 1)) (x - 1) W
+  cell-wired = subst (λ (z : ℕ). Fields p (refsOf W (z - 1)) (z - 1) W) (sym e) (w .copies c (among c (g .here)) u)
+
+  pub cell-added : {j′ : ℕ} {M″ : List ℕ} → Added n (Crossing p (Field (x - 1) (refsOf W (x - 1))) W T) j j′ M′ M″
+      → Added n (Crossing p (CopySlot p r P′ W T) W T) i j′ M M″
+  cell-added k =
+      added-join h k (λ y f f′ q q′. cells-apart y (q .at) (q′ .at))
+      (λ y f q. from y f q (g .split (q .at .cell) (q .at .among)))
+      (λ y f. ⊎-elim (lift (slot-less (g .keeps)) y f) (lift (λ z s. slot-less (λ v m. subst P′ (sym m) (g .here)) z (one z s)) y f))
+    where
+      from : (y f : ℕ) (q : Crossing p (CopySlot p r P′ W T) W T y f) → P (q .at .cell) ⊎ (q .at .cell ≡ c)
+          → Crossing p (CopySlot p r P W T) W T y f ⊎ Crossing p (Field (x - 1) (refsOf W (x - 1))) W T y f
+      from y f q (inl m) =
+          let s = q .at in
+          inl (record { at = record { cell = s .cell; among = m; old = s .old; field = s .field }; region = q .region; kept = q .kept })
+      from y f q (inr z) =
+          inr (record {
+            at = subst (λ (v : ℕ). Field (v - 1) (refsOf W (v - 1)) y) (ap (λ (v : ℕ). workOf W v) z ∙ sym e) (q .at .field);
+            region = q .region;
+            kept = q .kept;
+          })
+
+-- ---- the copies of a page's survivors
+
+pub unset-added : {p : Places} {r n q w j : ℕ} {W T M : List ℕ} → Wiring p r (Between (16 * q) (16 * (q + 1))) W T → w ≡ markOf p T q / 2 ^ 16 → j ≤ n
+    → Added n (Crossing p (CopySlot p r (Passed q w) W T) W T) j j M M
+unset-added {p} {r} {n} {q} {w} {j} {W} {T} {M} a e l =
+    added-none (Crossing p (CopySlot p r (Passed q w) W T) W T) j M l (λ x h s. unset-none a e x (s .at))
+
+pub page-added : {p : Places} {r n left i j : ℕ} {W T M M′ : List ℕ} (q : ℕ) → left ≡ 0 → Added n (Crossing p (CopySlot p r (Passed q left) W T) W T) i j M M′
+    → Added n (Crossing p (CopySlot p r (Between (16 * q) (16 * (q + 1))) W T) W T) i j M M′
+page-added {left = left} q z h =
+    added-like h (λ x g. lift (slot-less (λ c m. within-passed q left c z m)) x g) (λ x g. lift (slot-less (λ c m. passed-within q left c m)) x g)
+
+-- ---- all pages
+
 pub copies-begin : (p : Places) (r n a j : ℕ) (W T M : List ℕ) → j ≤ n → Added n (Crossing p (CopySlot p r (Between a a) W T) W T) j j M M
 copies-begin p r n a j W T M l =
     added-none (Crossing p (CopySlot p r (Between a a) W T) W T) j M l (λ x h q. omega (arith, q .at .among .0, q .at .among .1))
-
-module _ {p : Places} {r n a b c i j : ℕ} {W T M M′ : List ℕ} (w : Wiring p r (Between a b) W T) (la : a ≤ c) (lb : c < b)
-    (ap′ : Appending p r n (CopySlot p r (Between a b) W T) W T M i)
-    (h : Added n (Crossing p (CopySlot p r (Between a c) W T) W T) i j M M′) (x : ℕ) (e : x ≡ workOf W c) where
-  wider : (y : ℕ) → CopySlot p r (Between a c) W T y → CopySlot p r (Between a b) W T y
-  wider y q = slot-less (λ z l. (l .0, omega (arith, l .1))) y q
-
-  pub cell-null : x ≡ 0 → Added n (Crossing p (CopySlot p r (Between a (c + 1)) W T) W T) i j M M′
-  cell-null z =
-      added-like h (λ y g q. lift (λ y s. from y s (ℕ-discrete (s .cell) c)) y g q)
-      (λ y g q. lift (λ y s. slot-less (λ v l. (l .0, omega (arith, l .1))) y s) y g q)
-    where
-      from : (y : ℕ) (s : CopySlot p r (Between a (c + 1)) W T y) → Dec (s .cell ≡ c) → CopySlot p r (Between a c) W T y
-      from y s (yes u) = absurd (s .old .moved (ap (λ (v : ℕ). workOf W v) u ∙ sym e ∙ z))
-      from y s (no u) = record { cell = s .cell; among = (s .among .0, omega (arith, s .among .1)); old = s .old; field = s .field }
-
-  module _ (ne : x ≢ 0) (u : InUse p T c) (own : ownerOf p T (c / 16) ≡ r) where
-    one : (y : ℕ) → Field (x - 1) (refsOf W (x - 1)) y → CopySlot p r (λ z. z ≡ c) W T y
-    one y f =
-        record {
-          cell = c;
-          among = refl;
-          old = record { used = u; owner = own; moved = λ z. ne (e ∙ z) };
-          field = subst (λ (z : ℕ). Field (z - 1) (refsOf W (z - 1)) y) e f;
-        }
-
-    cells-apart : (y : ℕ) → CopySlot p r (Between a c) W T y → Field (x - 1) (refsOf W (x - 1)) y → ⊥
-    unfolding one
-    cells-apart y s f =
-        let q = one y f in
-        let z : s .cell ≡ c =
-        slots-apart w (s .cell) c y (s .among .0, omega (arith, s .among .1)) (la, lb) (s .old) (q .old) (s .field) (q .field) in
-        omega (arith, s .among .1)
-
-    pub cell-appending : Appending p r n (Field (x - 1) (refsOf W (x - 1))) W T M′ j
-    cell-appending =
-        appending-next ap′ h wider (λ y f. slot-less (λ z l. (omega arith, omega arith)) y (one y f)) cells-apart
-
-    pub cell-wired : Fields p (refsOf W (x - 1)) (x - 1) W
-    cell-wired = subst (λ (z : ℕ). Fields p (refsOf W (z - 1)) (z - 1) W) (sym e) (w .copies c (la, lb) (one′))
-      where
-        one′ : Old p r W T c
-        one′ = record { used = u; owner = own; moved = λ z. ne (e ∙ z) }
-
-    pub cell-added : {j′ : ℕ} {M″ : List ℕ} → Added n (Crossing p (Field (x - 1) (refsOf W (x - 1))) W T) j j′ M′ M″
-        → Added n (Crossing p (CopySlot p r (Between a (c + 1)) W T) W T) i j′ M M″
-    cell-added k =
-        added-join h k (λ y g g′ q q′. cells-apart y (q .at) (q′ .at))
-        (λ y g q. from y g q (ℕ-discrete (q .at .cell) c))
-        (λ y g. ⊎-elim (lift (λ y s. slot-less (λ v l. (l .0, omega (arith, l .1))) y s) y g)
-        (lift (λ y f. slot-less (λ v l. (omega arith, omega arith)) y (one y f)) y g))
-      where
-        from : (y g : ℕ) (q : Crossing p (CopySlot p r (Between a (c + 1)) W T) W T y g) → Dec (q .at .cell ≡ c)
-            → Crossing p (CopySlot p r (Between a c) W T) W T y g ⊎ Crossing p (Field (x - 1) (refsOf W (x - 1))) W T y g
-        from y g q (yes z) =
-            inr (record {
-              at = subst (λ (v : ℕ). Field (v - 1) (refsOf W (v - 1)) y) (ap (λ (v : ℕ). workOf W v) z ∙ sym e) (q .at .field);
-              region = q .region;
-              kept = q .kept;
-            })
-        from y g q (no z) =
-            let s = q .at in
-            inl (record {
-              at = record { cell = s .cell; among = (s .among .0, omega (arith, s .among .1)); old = s .old; field = s .field };
-              region = q .region;
-              kept = q .kept;
-            })
-
--- the cells in use are the first of a page
-pub page-added : {p : Places} {r n k i j : ℕ} {W T M M′ : List ℕ} (q : ℕ) → k ≡ usedOf p T q → k ≤ 16
-    → Added n (Crossing p (CopySlot p r (Between (16 * q) (16 * q + k)) W T) W T) i j M M′
-    → Added n (Crossing p (CopySlot p r (Between (16 * q) (16 * (q + 1))) W T) W T) i j M M′
-page-added {p} {r} {n} {k} {i} {j} {W} {T} q e l h =
-    added-like h
-    (λ x g. lift
-    (λ x s.
-    record {
-      cell = s .cell;
-      among = (
-        s .among .0,
-        (let z : s .cell / 16 ≡ q = omega (arith, s .among .0, s .among .1) in
-            omega (arith, s .old .used .place, ap (λ (y : ℕ). usedOf p T y) z)),
-      );
-      old = s .old;
-      field = s .field;
-    }) x g)
-    (λ x g. lift (λ x s. slot-less (λ y m. (m .0, omega (arith, m .1))) x s) x g)
 
 module _ {p : Places} {r n q i j : ℕ} {W T M M′ : List ℕ} (w : Wiring p r (Between 0 (16 * p .pages)) W T) (lt : q < p .pages)
     (a : Appending p r n (CopySlot p r (Between 0 (16 * p .pages)) W T) W T M i)
@@ -285,11 +253,3 @@ module _ {p : Places} {r n q i j : ℕ} {W T M M′ : List ℕ} (w : Wiring p r 
       from x g s (no l) =
           let t = s .at in
           inr (record { at = record { cell = t .cell; among = (omega arith, t .among .1); old = t .old; field = t .field }; region = s .region; kept = s .kept })
-
-  pub pages-skipped : ownerOf p T q ≢ r → Added n (Crossing p (CopySlot p r (Between 0 (16 * (q + 1))) W T) W T) i j M M′
-  pages-skipped ne =
-      pages-added
-      (added-none (Crossing p (CopySlot p r (Between (16 * q) (16 * (q + 1))) W T) W T) j M′ (h .low)
-      (λ x g s.
-      let t = s .at in
-      ne (ap (λ (y : ℕ). ownerOf p T y) (let z : q ≡ t .cell / 16 = omega (arith, t .among .0, t .among .1) in z) ∙ t .old .owner)))

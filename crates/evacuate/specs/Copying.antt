@@ -6,7 +6,8 @@ use Prim.Native.Nat.{ℕ, zero, suc, _+_, _-_, _*_, _/_, _%_, _^_, _≤_, _<_}
 use native.Mathlib.Decide.{ℕ-discrete, decLt}
 use native.Mathlib.Omega.{arith}
 use lib.Count.{trailingZeros}
-use Rattle.lists.specs.Bits.{bitAt, bit-zero, clear-same, clear-other, Lowest, trailing-low}
+use Rattle.lists.specs.Bits.{bitAt, bit-zero, none-high, clear-same, clear-other, Lowest, trailing-low}
+use Rattle.lists.specs.SetBits.{lower-bit}
 use Rattle.lists.specs.Counting.{sum, sum-more, sum-mono}
 use Rattle.rules.specs.Regions.{regionAt}
 use Rattle.rules.specs.Graph.{pagesOf}
@@ -16,11 +17,11 @@ use Rattle.layout.specs.Places.{markOf, sizesOf}
 use Rattle.layout.specs.Cells.{workOf}
 use Rattle.layout.specs.Marks.{marked}
 use Rattle.promises.specs.Whole.{objectsOf}
-use Rattle.evacuate.specs.Marks.{mark?, all-clear, hits}
+use Rattle.evacuate.specs.Marks.{copied, mark?, all-clear, hits}
 use Rattle.evacuate.specs.Taking.{regionsOf, pagesOwned, Next}
 use Rattle.evacuate.specs.Cursor.{Points, Seeking}
 use Rattle.evacuate.specs.Moves.{Movable, Step, step-off, step-on, step-points}
-use Rattle.evacuate.specs.Passing.{Ready, Moves, Moves.none, Moves.more, order, moves-later, moves-append, moves-map, moves-ready, moves-back, step-back, Others, moves-others, Spent, moves-spent, Passing, moves-passing, passing-usable, passing-movable, Pass}
+use Rattle.evacuate.specs.Passing.{Ready, Moves, Moves.none, Moves.more, order, moves-later, moves-append, moves-map, moves-ready, moves-back, moves-bits, moves-marks, step-back, Others, moves-others, Spent, moves-spent, Passing, moves-passing, passing-usable, passing-movable, Pass}
 
 -- ---- one page
 
@@ -40,7 +41,7 @@ pub record PageMoves (p : Places) (g q left page top : ℕ) (W T W′ T′ : Lis
   pub bits : (i : ℕ) → i < 16 → bitAt left i ≡ 1 → marked p T′ (16 * q + i) ≡ 1
   pub done : (i : ℕ) → i < 16 → bitAt left i ≡ 0 → marked p T′ (16 * q + i) ≡ 1 → workOf W′ (16 * q + i) ≢ g
 
-pub page-begin : {p : Places} {g : ℕ} (q : ℕ) {page top : ℕ} {W T : List ℕ} → Points p T g page top → PageMoves p g q (markOf p T q) page top W T W T
+pub page-begin : {p : Places} {g : ℕ} (q : ℕ) {page top : ℕ} {W T : List ℕ} → Points p T g page top → PageMoves p g q (markOf p T q % 2 ^ 16) page top W T W T
 page-begin {p} {g} q {page} {top} {W} {T} a =
     record {
       last = order g (16 * q);
@@ -48,8 +49,8 @@ page-begin {p} {g} q {page} {top} {W} {T} a =
       later = λ i l e. omega arith;
       high = omega arith;
       points = a;
-      bits = λ i l e. marked-at p T q i l ∙ e;
-      done = λ i l e on. absurd (let z : ⊥ = omega (arith, marked-at p T q i l) in z);
+      bits = λ i l e. marked-at p T q i l ∙ sym (lower-bit (markOf p T q) i l) ∙ e;
+      done = λ i l e on. absurd (let z : ⊥ = omega (arith, marked-at p T q i l, lower-bit (markOf p T q) i l) in z);
     }
 
 module _ {p : Places} {g q left page top : ℕ} {W T W′ T′ : List ℕ} (a : Passing p g W T) (lt : q < p .pages) (i x : ℕ) (e : x ≡ 16 * q + i)
@@ -83,12 +84,11 @@ module _ {p : Places} {g q left page top : ℕ} {W T W′ T′ : List ℕ} (a : 
       go (no n) (no m) = (sym (clear-other i j left (l .on) n) ∙ b, omega arith)
 
   pub page-moved : {n m : ℕ} {W″ T″ : List ℕ} → Step p g n x W′ T′ W″ T″ → Points p T′ g n m
-      → PageMoves p g q (left - 1 * 2 ^ i % 2 ^ 32) n m W T W″ T″
+      → PageMoves p g q (left - 2 ^ i) n m W T W″ T″
   page-moved {n} {m} {W″} {T″} s pts =
-      subst (λ (y : ℕ). PageMoves p g q (left - y) n m W T W″ T″) (sym (l .shl))
-      (record {
+      record {
         last = order g x + 1;
-        moves = more (h .moves) refl (omega (arith, h .later i (l .lt) (l .on))) (omega arith) s;
+        moves = more {k = order g x + 1} {c = x} (h .moves) refl (omega (arith, h .later i (l .lt) (l .on))) (omega arith) s;
         later = λ j lj b. omega (arith, still j b .1);
         high = omega (arith, l .lt);
         points = step-points s pts;
@@ -96,7 +96,7 @@ module _ {p : Places} {g q left page top : ℕ} {W T W′ T′ : List ℕ} (a : 
             let u = still j b in
             step-on s (16 * q + j) (omega arith) (λ z. omega (arith, u .1)) ∙ h .bits j lj (u .0);
         done = λ j lj b on. done′ j lj b on (ℕ-discrete j i);
-      })
+      }
     where
       done′ : (j : ℕ) → j < 16 → bitAt (left - 2 ^ i) j ≡ 0 → marked p T″ (16 * q + j) ≡ 1 → Dec (j ≡ i) → workOf W″ (16 * q + j) ≢ g
       done′ j lj b on (yes z) =
@@ -106,10 +106,9 @@ module _ {p : Places} {g q left page top : ℕ} {W T W′ T′ : List ℕ} (a : 
           let u = step-back (moves-ready (a .ready) (h .moves)) s (16 * q + j) (omega arith) on in
           λ z. h .done j lj (sym (clear-other i j left (l .on) n) ∙ b) (u .0) (sym (u .1) ∙ z)
 
-  pub page-left : workOf W′ x ≢ g → PageMoves p g q (left - 1 * 2 ^ i % 2 ^ 32) page top W T W′ T′
+  pub page-left : workOf W′ x ≢ g → PageMoves p g q (left - 2 ^ i) page top W T W′ T′
   page-left ne =
-      subst (λ (y : ℕ). PageMoves p g q (left - y) page top W T W′ T′) (sym (l .shl))
-      (record {
+      record {
         last = h .last;
         moves = h .moves;
         later = λ j lj b. h .later j lj (still j b .0);
@@ -117,7 +116,7 @@ module _ {p : Places} {g q left page top : ℕ} {W T W′ T′ : List ℕ} (a : 
         points = h .points;
         bits = λ j lj b. h .bits j lj (still j b .0);
         done = λ j lj b on. done′ j lj b on (ℕ-discrete j i);
-      })
+      }
     where
       done′ : (j : ℕ) → j < 16 → bitAt (left - 2 ^ i) j ≡ 0 → marked p T′ (16 * q + j) ≡ 1 → Dec (j ≡ i) → workOf W′ (16 * q + j) ≢ g
       done′ j lj b on (yes z) = subst (λ (y : ℕ). workOf W′ y ≢ g) (let v : x ≡ 16 * q + j = omega arith in v) ne
@@ -176,6 +175,7 @@ need p g W T = pagesOf (objectsOf p T g + hits p W T g) - pagesOf (objectsOf p T
 
 pub record Plan (p : Places) (n : ℕ) (gs : ℕ → ℕ) (W T : List ℕ) : Type 0 where
   pub ready : Ready p W T
+  pub small : (q : ℕ) → q < p .pages → markOf p T q < 2 ^ 16
   pub real : (l : ℕ) → l < n → 1 ≤ gs l
   pub low : (l : ℕ) → l < n → gs l ≤ regionsOf p
   pub rising : (i j : ℕ) → i < j → j < n → gs i < gs j
@@ -253,7 +253,7 @@ module _ {p : Places} {n : ℕ} {gs : ℕ → ℕ} {l : ℕ} {W T W′ T′ : Li
           let u = moves-back (copy-passing .ready) (d .moves) c lp on in
           λ z. b .done j (omega arith) c lp (u .0) (sym (u .1) ∙ z)
 
--- after all targets no mark is left
+-- after all targets no survivor waits
 pub copy-clean : {p : Places} {n : ℕ} {gs : ℕ → ℕ} {W T W′ T′ : List ℕ} → Plan p n gs W T → Copy p n gs n W T W′ T′ → (c : ℕ) → c / 16 < p .pages → marked p T′ c ≡ 0
 copy-clean {p} {n} {gs} {W} {T} {W′} {T′} a b c l =
     ⊎-elim (λ off. off)
@@ -263,10 +263,23 @@ copy-clean {p} {n} {gs} {W} {T} {W′} {T′} a b c l =
     absurd (b .done (v .0) (v .1) c l on (u .1 ∙ v .2)))
     (mark? p T′ c)
 
-pub copy-marks : {p : Places} {n : ℕ} {gs : ℕ → ℕ} {W T W′ T′ : List ℕ} → Plan p n gs W T → Copy p n gs n W T W′ T′ → (q : ℕ) → q < p .pages → markOf p T′ q ≡ 0
-copy-marks {p} {n} {gs} {W} {T} {W′} {T′} a b q l =
-    all-clear 16 (markOf p T′ q) (moves-ready (a .ready) (b .moves) .small q l)
-    (λ i li. sym (marked-at p T′ q i li) ∙ copy-clean a b (16 * q + i) (omega arith))
+-- the survivors are those that are copied
+pub copy-copied : {p : Places} {n : ℕ} {gs : ℕ → ℕ} {W T W′ T′ : List ℕ} → Plan p n gs W T → Copy p n gs n W T W′ T′ → (c : ℕ) → c / 16 < p .pages → copied p T′ c ≡ marked p T c
+copy-copied {p} {T = T} a b c l =
+    omega (
+      arith,
+      moves-bits (b .moves) c l,
+      copy-clean a b c l,
+      none-high 16 (markOf p T (c / 16)) (16 + c % 16) (a .small (c / 16) l) (omega arith),
+    )
+
+-- the mark word of a page without survivors
+pub copy-unmarked : {p : Places} {n : ℕ} {gs : ℕ → ℕ} {W T W′ T′ : List ℕ} → Plan p n gs W T → Copy p n gs n W T W′ T′ → (q : ℕ) → q < p .pages
+    → ((c : ℕ) → c / 16 ≡ q → marked p T c ≡ 1 → ⊥) → markOf p T′ q ≡ 0
+copy-unmarked {p} {T = T} a b q l off =
+    moves-marks (a .ready) (b .moves) q l off
+    ∙ all-clear 16 (markOf p T q) (a .small q l)
+    (λ i li. sym (marked-at p T q i li) ∙ ⊎-elim (λ z. z) (λ on. absurd (off (16 * q + i) (omega arith) on)) (mark? p T (16 * q + i)))
 
 -- the region of a thread at a level is one of the regions
 pub region-bounds : (p : Places) (t l : ℕ) → t < p .threads → l ≤ p .depth → (1 ≤ regionAt (sizesOf p) t l) × (regionAt (sizesOf p) t l ≤ regionsOf p)

@@ -12,10 +12,11 @@ use Rattle.layout.specs.Places.{ownerOf}
 use Rattle.layout.specs.Cells.{workOf}
 use Rattle.layout.specs.Marks.{marked}
 use Rattle.promises.specs.Words.{InUse}
+use Rattle.evacuate.specs.Marks.{copied}
 use Rattle.evacuate.specs.Taking.{endOf}
 use Rattle.evacuate.specs.Moves.{Step, step-size, step-rest, step-off, step-on, step-new, step-in-use, step-home, step-keeps, step-owner, step-only, step-link, step-words}
 use Rattle.evacuate.specs.Passing.{Ready, Moves, Moves.none, Moves.more, step-back, moves-ready}
-use Rattle.evacuate.specs.Copying.{Plan, Copy, copy-clean}
+use Rattle.evacuate.specs.Copying.{Plan, Copy, copy-clean, copy-copied}
 
 -- the object of the old cell c stands in cell d
 pub record Moved (p : Places) (W₀ T₀ W T : List ℕ) (c d : ℕ) : Type 0 where
@@ -172,6 +173,7 @@ forward W c = workOf W c - 1
 
 pub record Forwards (p : Places) (W₀ T₀ W T : List ℕ) : Type 0 where
   pub copying : Copying p W₀ T₀ W T
+  pub bits : (c : ℕ) → c / 16 < p .pages → copied p T c ≡ marked p T₀ c
   pub moved : (c : ℕ) → c / 16 < p .pages → marked p T₀ c ≡ 1 → Moved p W₀ T₀ W T c (forward W c)
   pub once : (b c : ℕ) → b / 16 < p .pages → marked p T₀ b ≡ 1 → c / 16 < p .pages → marked p T₀ c ≡ 1 → forward W b ≡ forward W c → b ≡ c
   pub only : (d : ℕ) → InUse p T d → InUse p T₀ d ⊎ ((c : ℕ) × (c / 16 < p .pages) × (marked p T₀ c ≡ 1) × (forward W c ≡ d))
@@ -180,6 +182,7 @@ pub copy-forwards : {p : Places} {n : ℕ} {gs : ℕ → ℕ} {W T W′ T′ : L
 copy-forwards {p} {n} {gs} {W} {T} {W′} {T′} a b =
     record {
       copying = h;
+      bits = copy-copied a b;
       moved = λ c l on. moved′ c l on;
       once = λ x y lx ox ly oy e.
           h .once x y (gone x lx ox) (gone y ly oy)

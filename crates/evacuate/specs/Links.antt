@@ -78,7 +78,8 @@ module _ {p : Places} {r : ℕ} {S : ℕ → Type 0} {W₀ T₀ W T : List ℕ} 
         few = a .regular .room .few;
         cells-long = a .cells-long;
         tables-long = a .regular .room;
-        full = a .regular .full;
+        bits = λ c q l on. survivor-old c l (sym (F .bits c l) ∙ on);
+        only = λ c q u. let v = old-survivor c u in F .bits c (v .0 .page) ∙ v .1;
         copies = λ c q u.
             let v = old-survivor c u in
             let l = v .0 .page in

@@ -1,14 +1,14 @@
--- Marks of cells, and how many marked cells go to a region. W, T and M are the cells, the tables and the remember table.
-use mathlib.Core.Path.{_≡_, ap}
+-- Marks of cells, and how many marked cells go to a region. W, M and T are the cells, the remember table and the tables.
+use mathlib.Core.Path.{_≡_, ap, _∙_}
 use mathlib.Core.Logic.{_≢_, _⊎_, inl, inr}
 use mathlib.Core.Bool.{Bool, cond}
 use mathlib.Core.List.{List}
-use Prim.Native.Nat.{ℕ, _*_, _/_, _%_, _^_, _<_}
+use Prim.Native.Nat.{ℕ, _+_, _-_, _*_, _/_, _%_, _^_, _<_}
 use native.Mathlib.Decide.{ℕ-discrete, decLt}
 use native.Mathlib.Omega.{arith}
 use borrow.Author.Tests.{eq-eqb, ne-eqb}
 use lib.Dec.{eqb}
-use Rattle.lists.specs.Bits.{bitAt, bit-lt, no-bits, none-high}
+use Rattle.lists.specs.Bits.{bitAt, bit-lt, no-bits, none-high, set-same, set-other, clear-same, clear-other}
 use Rattle.lists.specs.Counting.{sum}
 use Rattle.layout.specs.declared.Places.{Places}
 use Rattle.layout.specs.Places.{markAt, markOf}
@@ -31,6 +31,26 @@ then-no a b x ne = ap (λ (t : Bool). cond t x 0) (ne-eqb a b ne)
 -- where the mark word of cell c's page stands
 abbrev pub marksAt : Places → ℕ → ℕ
 marksAt p c = markAt p (c / 16)
+
+-- A survivor that waits has its bit in the lower half of the mark word. Once it is copied, the bit stands in the upper half.
+abbrev pub copied : Places → List ℕ → ℕ → ℕ
+copied p T c = bitAt (markOf p T (c / 16)) (16 + c % 16)
+
+abbrev pub raised : ℕ → ℕ → ℕ
+raised w i = w - 2 ^ i + 2 ^ (16 + i)
+
+module _ (w i : ℕ) (on : bitAt w i ≡ 1) (fresh : bitAt w (16 + i) ≡ 0) where
+  pub clear-fresh : bitAt (w - 2 ^ i) (16 + i) ≡ 0
+  clear-fresh = clear-other i (16 + i) w on (λ e. omega arith) ∙ fresh
+
+  pub raised-off : bitAt (raised w i) i ≡ 0
+  raised-off = set-other (16 + i) i (w - 2 ^ i) clear-fresh (λ e. omega arith) ∙ clear-same i w on
+
+  pub raised-on : bitAt (raised w i) (16 + i) ≡ 1
+  raised-on = set-same (16 + i) (w - 2 ^ i) clear-fresh
+
+  pub raised-other : (j : ℕ) → j ≢ i → j ≢ 16 + i → bitAt (raised w i) j ≡ bitAt w j
+  raised-other j ne nu = set-other (16 + i) j (w - 2 ^ i) clear-fresh nu ∙ clear-other i j w on ne
 
 -- a cell is marked or not
 pub mark? : (p : Places) (T : List ℕ) (c : ℕ) → (marked p T c ≡ 0) ⊎ (marked p T c ≡ 1)

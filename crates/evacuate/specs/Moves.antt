@@ -1,13 +1,13 @@
--- One survivor is moved: a cell is taken, its words are copied, its mark goes.
+-- One survivor is moved: a cell is taken, its words are copied, its mark goes to the upper half.
 use mathlib.Core.Path.{_≡_, refl, sym, ap, ap₂, _∙_, subst}
 use mathlib.Core.Logic.{_≢_, _⊎_, inl, inr}
 use mathlib.Core.List.{List}
-use Prim.Native.Nat.{ℕ, _+_, _-_, _*_, _/_, _%_, _^_, _≤_, _<_}
+use Prim.Native.Nat.{ℕ, _+_, _*_, _/_, _%_, _^_, _≤_, _<_}
 use native.Mathlib.Decide.{ℕ-discrete, decLt}
 use native.Mathlib.Omega.{arith}
 use lib.ListN.{length, getD, set, length-set}
 use lib.Seq.{getD-set-same, getD-set-other}
-use Rattle.lists.specs.Bits.{bitAt, bit-le, clear-same, clear-other}
+use Rattle.lists.specs.Bits.{bitAt}
 use Rattle.lists.specs.Counting.{sum-same, sum-high}
 use Rattle.rules.specs.Graph.{pagesOf}
 use Rattle.layout.specs.declared.Places.{Places}
@@ -17,7 +17,7 @@ use Rattle.layout.specs.Marks.{marked}
 use Rattle.promises.specs.Words.{InUse}
 use Rattle.promises.specs.Whole.{objectsOn, objectsOf}
 use Rattle.pages.specs.Pages.{Partly}
-use Rattle.evacuate.specs.Marks.{marksAt, sameThen, then-yes, then-no}
+use Rattle.evacuate.specs.Marks.{marksAt, copied, raised, raised-off, raised-on, raised-other, sameThen, then-yes, then-no}
 use Rattle.evacuate.specs.Cursor.{Points, took-points, points-same}
 use Rattle.evacuate.specs.Taking.{regionsOf, endOf, ownedOn, pagesOwned, Next, Took, Regular, took-length, took-other, took-marks, took-regular, took-objects, took-objects-other, took-pages, took-new, took-in-use, took-home, took-keeps, took-only}
 
@@ -99,6 +99,7 @@ pub record Movable (p : Places) (g q : ℕ) (W T : List ℕ) (c : ℕ) : Type 0 
   pub cells-long : 256 * p .pages ≤ length W
   pub used : InUse p T c
   pub on : marked p T c ≡ 1
+  pub fresh : copied p T c ≡ 0
   pub target : workOf W c ≡ g
 
 pub record Step (p : Places) (g q c : ℕ) (W T W′ T′ : List ℕ) : Type 0 where
@@ -107,7 +108,7 @@ pub record Step (p : Places) (g q c : ℕ) (W T W′ T′ : List ℕ) : Type 0 w
   pub mid : List ℕ
   pub took : Took p g q T mid new
   pub copied : Copied c new W W′
-  pub tables : T′ ≡ set mid (marksAt p c) (getD mid (marksAt p c) 0 - 2 ^ (c % 16))
+  pub tables : T′ ≡ set mid (marksAt p c) (raised (getD mid (marksAt p c) 0) (c % 16))
 
 pub objects-few : {p : Places} {T : List ℕ} → Regular p T → (g : ℕ) → objectsOf p T g ≤ 16 * p .pages
 objects-few {p} {T} r g = sum-high (objectsOn p T g) 16 (p .pages) (λ x l. few x l (ℕ-discrete (ownerOf p T x) g))
@@ -128,7 +129,8 @@ pub record Taken (p : Places) (W T T′ : List ℕ) (c d at i : ℕ) : Type 0 wh
   pub long : 256 * p .pages ≤ length W
   pub word : at < length T′
   pub same : length T′ ≡ length T
-  pub set : 2 ^ i ≤ getD T′ at 0
+  pub on : bitAt (getD T′ at 0) i ≡ 1
+  pub fresh : bitAt (getD T′ at 0) (16 + i) ≡ 0
 
 pub movable-taken : {p : Places} {g q : ℕ} {W T T′ : List ℕ} {c d : ℕ} → Movable p g q W T c → Took p g q T T′ d → Taken p W T T′ c d (marksAt p c) (c % 16)
 movable-taken {p} {g} {q} {W} {T} {T′} {c} {d} m t =
@@ -142,7 +144,8 @@ movable-taken {p} {g} {q} {W} {T} {T′} {c} {d} m t =
       long = m .cells-long;
       word = omega (arith, r .room, m .used .page, l);
       same = l;
-      set = omega (arith, bit-le (c % 16) (getD T (marksAt p c) 0) (m .on), took-marks r (m .real) (m .low) t (c / 16) (m .used .page));
+      on = ap (λ (x : ℕ). bitAt x (c % 16)) (took-marks r (m .real) (m .low) t (c / 16) (m .used .page)) ∙ m .on;
+      fresh = ap (λ (x : ℕ). bitAt x (16 + c % 16)) (took-marks r (m .real) (m .low) t (c / 16) (m .used .page)) ∙ m .fresh;
     }
 
 -- ---- words of pages and regions that stay
@@ -188,12 +191,6 @@ module _ {p : Places} {T T′ : List ℕ} (r : Regular p T) (e : PagesKept p T T
 -- ---- what one move does
 
 module _ {p : Places} {g q c : ℕ} {W T W′ T′ : List ℕ} (s : Step p g q c W T W′ T′) where
-  at : ℕ
-  at = marksAt p c
-
-  word : ℕ
-  word = getD (s .mid) (marksAt p c) 0 - 2 ^ (c % 16)
-
   r₀ : Regular p T
   r₀ = s .can .regular
 
@@ -207,12 +204,12 @@ module _ {p : Places} {g q c : ℕ} {W T W′ T′ : List ℕ} (s : Step p g q c
   r₁ = took-regular (s .can .regular) (s .can .real) (s .can .low) (s .took)
 
   mid-size : length T′ ≡ length (s .mid)
-  mid-size = ap length (s .tables) ∙ length-set (s .mid) (marksAt p c) (getD (s .mid) (marksAt p c) 0 - 2 ^ (c % 16))
+  mid-size = ap length (s .tables) ∙ length-set (s .mid) (marksAt p c) (raised (getD (s .mid) (marksAt p c) 0) (c % 16))
 
   mid-other : (x : ℕ) → x ≢ marksAt p c → getD T′ x 0 ≡ getD (s .mid) x 0
   mid-other x ne =
       ap (λ (X : List ℕ). getD X x 0) (s .tables)
-      ∙ getD-set-other (s .mid) (marksAt p c) x (getD (s .mid) (marksAt p c) 0 - 2 ^ (c % 16)) 0 ne
+      ∙ getD-set-other (s .mid) (marksAt p c) x (raised (getD (s .mid) (marksAt p c) 0) (c % 16)) 0 ne
 
   mid-pages : (x : ℕ) → x < p .marks → getD T′ x 0 ≡ getD (s .mid) x 0
   mid-pages x l = mid-other x (λ e. omega arith)
@@ -256,39 +253,47 @@ module _ {p : Places} {g q c : ℕ} {W T W′ T′ : List ℕ} (s : Step p g q c
       (λ e. omega (arith, s .can .real, s .can .low))
 
   -- marks
-  mark-here : getD T′ (marksAt p c) 0 ≡ getD T (marksAt p c) 0 - 2 ^ (c % 16)
+  mark-here : getD T′ (marksAt p c) 0 ≡ raised (getD T (marksAt p c) 0) (c % 16)
   mark-here =
       ap (λ (X : List ℕ). getD X (marksAt p c) 0) (s .tables)
-      ∙ getD-set-same (s .mid) (marksAt p c) (getD (s .mid) (marksAt p c) 0 - 2 ^ (c % 16)) 0 mid-long
-      ∙ ap (λ (x : ℕ). x - 2 ^ (c % 16)) (took-marks (s .can .regular) (s .can .real) (s .can .low) (s .took) (c / 16) (s .can .used .page))
+      ∙ getD-set-same (s .mid) (marksAt p c) (raised (getD (s .mid) (marksAt p c) 0) (c % 16)) 0 mid-long
+      ∙ ap (λ (x : ℕ). raised x (c % 16)) (took-marks (s .can .regular) (s .can .real) (s .can .low) (s .took) (c / 16) (s .can .used .page))
+
+  -- other pages keep their mark word
+  pub step-marks : (q : ℕ) → q < p .pages → q ≢ c / 16 → markOf p T′ q ≡ markOf p T q
+  step-marks q l n =
+      mid-other (markAt p q) (λ e. n (omega arith)) ∙ took-marks (s .can .regular) (s .can .real) (s .can .low) (s .took) q l
+
+  step-bit : (q j : ℕ) → q < p .pages → (q ≡ c / 16 → (j ≢ c % 16) × (j ≢ 16 + c % 16)) → bitAt (markOf p T′ q) j ≡ bitAt (markOf p T q) j
+  step-bit q j l h = go (ℕ-discrete q (c / 16))
+    where
+      go : Dec (q ≡ c / 16) → bitAt (markOf p T′ q) j ≡ bitAt (markOf p T q) j
+      go (yes e) =
+          subst (λ (y : ℕ). bitAt (markOf p T′ y) j ≡ bitAt (markOf p T y) j) (sym e)
+          (ap (λ (y : ℕ). bitAt y j) mark-here ∙ raised-other (getD T (marksAt p c) 0) (c % 16) (s .can .on) (s .can .fresh) j (h e .0) (h e .1))
+      go (no n) = ap (λ (y : ℕ). bitAt y j) (step-marks q l n)
 
   pub step-off : marked p T′ c ≡ 0
-  step-off = ap (λ (x : ℕ). bitAt x (c % 16)) mark-here ∙ clear-same (c % 16) (getD T (marksAt p c) 0) (s .can .on)
+  step-off = ap (λ (x : ℕ). bitAt x (c % 16)) mark-here ∙ raised-off (getD T (marksAt p c) 0) (c % 16) (s .can .on) (s .can .fresh)
+
+  step-copied : copied p T′ c ≡ 1
+  step-copied = ap (λ (x : ℕ). bitAt x (16 + c % 16)) mark-here ∙ raised-on (getD T (marksAt p c) 0) (c % 16) (s .can .on) (s .can .fresh)
 
   pub step-on : (x : ℕ) → x / 16 < p .pages → x ≢ c → marked p T′ x ≡ marked p T x
-  step-on x l ne = go (ℕ-discrete (x / 16) (c / 16))
-    where
-      go : Dec (x / 16 ≡ c / 16) → marked p T′ x ≡ marked p T x
-      go (yes e) =
-          subst (λ (y : ℕ). bitAt (getD T′ (markAt p y) 0) (x % 16) ≡ bitAt (getD T (markAt p y) 0) (x % 16)) (sym e)
-          (ap (λ (y : ℕ). bitAt y (x % 16)) mark-here
-          ∙ clear-other (c % 16) (x % 16) (getD T (marksAt p c) 0) (s .can .on) (λ z. ne (omega arith)))
-      go (no n) =
-          ap (λ (y : ℕ). bitAt y (x % 16))
-          (mid-other (marksAt p x) (λ e. n (omega arith))
-          ∙ took-marks (s .can .regular) (s .can .real) (s .can .low) (s .took) (x / 16) l)
+  step-on x l ne = step-bit (x / 16) (x % 16) l (λ e. (λ z. ne (omega arith), λ z. omega arith))
 
-  pub step-small : (q : ℕ) → q < p .pages → markOf p T′ q ≤ markOf p T q
-  step-small q l = go (ℕ-discrete q (c / 16))
+  pub step-copied-other : (x : ℕ) → x / 16 < p .pages → x ≢ c → copied p T′ x ≡ copied p T x
+  step-copied-other x l ne = step-bit (x / 16) (16 + x % 16) l (λ e. (λ z. omega arith, λ z. ne (omega arith)))
+
+  -- a survivor waits or is copied
+  pub step-bits : (x : ℕ) → x / 16 < p .pages → marked p T′ x + copied p T′ x ≡ marked p T x + copied p T x
+  step-bits x l = go (ℕ-discrete x c)
     where
-      go : Dec (q ≡ c / 16) → markOf p T′ q ≤ markOf p T q
-      go (yes e) = subst (λ (y : ℕ). markOf p T′ y ≤ markOf p T y) (sym e) (omega (arith, mark-here))
-      go (no n) =
-          omega (
-            arith,
-            mid-other (markAt p q) (λ e. n (omega arith)),
-            took-marks (s .can .regular) (s .can .real) (s .can .low) (s .took) q l,
-          )
+      go : Dec (x ≡ c) → marked p T′ x + copied p T′ x ≡ marked p T x + copied p T x
+      go (yes e) =
+          subst (λ (y : ℕ). marked p T′ y + copied p T′ y ≡ marked p T y + copied p T y) (sym e)
+          (omega (arith, step-off, step-copied, s .can .on, s .can .fresh))
+      go (no n) = ap₂ (λ (a b : ℕ). a + b) (step-on x l n) (step-copied-other x l n)
 
   -- cells in use
   use-mid : (x : ℕ) → InUse p T′ x → InUse p (s .mid) x

@@ -2,7 +2,7 @@
 use mathlib.Core.Path.{_≡_, refl, sym, ap, ap₂, _∙_, subst}
 use mathlib.Core.Logic.{_≢_, ⊎-elim}
 use mathlib.Core.List.{List}
-use Prim.Native.Nat.{ℕ, _+_, _*_, _/_, _^_, _≤_, _<_}
+use Prim.Native.Nat.{ℕ, _+_, _*_, _/_, _≤_, _<_}
 use native.Mathlib.Nat.{zero-mul, one-mul}
 use native.Mathlib.Omega.{arith}
 use lib.ListN.{length}
@@ -14,22 +14,25 @@ use Rattle.layout.specs.Cells.{workOf}
 use Rattle.layout.specs.Marks.{marked}
 use Rattle.promises.specs.Words.{InUse}
 use Rattle.promises.specs.Whole.{objectsOf}
-use Rattle.evacuate.specs.Marks.{mark?, hit, hit-yes, hit-no, hit-same, hits}
+use Rattle.evacuate.specs.Marks.{copied, mark?, hit, hit-yes, hit-no, hit-same, hits}
 use Rattle.evacuate.specs.Taking.{regionsOf, pagesOwned, Usable, Next, Regular, usable}
-use Rattle.evacuate.specs.Moves.{Movable, Step, step-regular, step-size, step-objects, step-objects-other, step-pages, step-off, step-on, step-small, step-keeps, step-link}
+use Rattle.evacuate.specs.Moves.{Movable, Step, step-regular, step-size, step-objects, step-objects-other, step-pages, step-marks, step-off, step-on, step-copied-other, step-bits, step-keeps, step-link}
 
 -- what holds before and after each move
 pub record Ready (p : Places) (W T : List ℕ) : Type 0 where
   pub regular : Regular p T
   pub cells-long : 256 * p .pages ≤ length W
-  pub small : (q : ℕ) → q < p .pages → markOf p T q < 2 ^ 16
   pub used : (c : ℕ) → c / 16 < p .pages → marked p T c ≡ 1 → InUse p T c
+  pub waits : (c : ℕ) → c / 16 < p .pages → marked p T c ≡ 1 → copied p T c ≡ 0
 
 module _ {p : Places} {g q c : ℕ} {W T W′ T′ : List ℕ} (a : Ready p W T) (s : Step p g q c W T W′ T′) where
   -- a cell that is marked still
+  not-moved : (x : ℕ) → marked p T′ x ≡ 1 → x ≢ c
+  not-moved x on e = let z : marked p T′ c ≡ 1 = subst (λ (y : ℕ). marked p T′ y ≡ 1) e on in omega (arith, step-off s)
+
   pub step-back : (x : ℕ) → x / 16 < p .pages → marked p T′ x ≡ 1 → (marked p T x ≡ 1) × (workOf W′ x ≡ workOf W x)
   step-back x l on =
-      let ne : x ≢ c = (λ e. let z : marked p T′ c ≡ 1 = subst (λ (y : ℕ). marked p T′ y ≡ 1) e on in omega (arith, step-off s)) in
+      let ne : x ≢ c = not-moved x on in
       let was : marked p T x ≡ 1 = sym (step-on s x l ne) ∙ on in
       (was, step-link s x (a .used x l was) ne)
 
@@ -38,8 +41,8 @@ module _ {p : Places} {g q c : ℕ} {W T W′ T′ : List ℕ} (a : Ready p W T)
       record {
         regular = step-regular s;
         cells-long = omega (arith, a .cells-long, s .copied .size);
-        small = λ q l. omega (arith, step-small s q l, a .small q l);
         used = λ x l on. step-keeps s x (a .used x l (step-back x l on .0));
+        waits = λ x l on. step-copied-other s x l (not-moved x on) ∙ a .waits x l (step-back x l on .0);
       }
 
   same-but : (h x : ℕ) → x / 16 < p .pages → x ≢ c → marked p T x * hit W h x ≡ marked p T′ x * hit W′ h x
@@ -115,6 +118,18 @@ moves-back a (more b h y z s) x l on =
     let v = moves-back a b x l (u .0) in
     (v .0, u .1 ∙ v .1)
 
+pub moves-bits : {p : Places} {G : ℕ → Type 0} {n m : ℕ} {W T W′ T′ : List ℕ} → Moves p G n W T m W′ T′ → (x : ℕ) → x / 16 < p .pages
+    → marked p T′ x + copied p T′ x ≡ marked p T x + copied p T x
+moves-bits (none z) x l = refl
+moves-bits (more b h y z s) x l = step-bits s x l ∙ moves-bits b x l
+
+-- a page without survivors keeps its mark word
+pub moves-marks : {p : Places} {G : ℕ → Type 0} {n m : ℕ} {W T W′ T′ : List ℕ} → Ready p W T → Moves p G n W T m W′ T′ → (q : ℕ) → q < p .pages
+    → ((c : ℕ) → c / 16 ≡ q → marked p T c ≡ 1 → ⊥) → markOf p T′ q ≡ markOf p T q
+moves-marks a (none z) q l off = refl
+moves-marks a (more {c = c} b h y z s) q l off =
+    step-marks s q l (λ e. off c (sym e) (moves-back a b c (s .can .used .page) (s .can .on) .0)) ∙ moves-marks a b q l off
+
 -- a target of none of the moves
 pub record Others (p : Places) (h : ℕ) (W T W′ T′ : List ℕ) : Type 0 where
   pub objects : objectsOf p T′ h ≡ objectsOf p T h
@@ -181,6 +196,7 @@ passing-movable a c l on e n =
       cells-long = a .ready .cells-long;
       used = a .ready .used c l on;
       on = on;
+      fresh = a .ready .waits c l on;
       target = e;
     }
 

@@ -1,15 +1,18 @@
--- The slots of the copies are rewritten: those of one old cell, of a page, of all pages.
+-- The slots of the copies are rewritten: those of one survivor, of the survivors of a page, of all pages.
 use mathlib.Core.Path.{_≡_, refl, sym, ap, _∙_, subst}
 use mathlib.Core.Logic.{_≢_, _⊎_, inl, inr, ⊎-elim}
 use mathlib.Core.List.{List}
-use Prim.Native.Nat.{ℕ, _+_, _-_, _*_, _/_, _≤_, _<_}
+use Prim.Native.Nat.{ℕ, _+_, _-_, _*_, _/_, _%_, _^_, _≤_, _<_}
 use native.Mathlib.Decide.{ℕ-discrete, decLt}
 use native.Mathlib.Omega.{arith}
 use lib.ListN.{length}
+use Rattle.lists.specs.Bits.{bitAt, bit-zero, clear-same, clear-other, Lowest}
+use Rattle.lists.specs.SetBits.{upper-bit}
 use Rattle.layout.specs.declared.Places.{Places}
-use Rattle.layout.specs.Places.{Room, ownerOf, usedOf}
+use Rattle.layout.specs.Places.{Room, ownerOf, markOf}
 use Rattle.layout.specs.Cells.{workOf, refsOf}
 use Rattle.promises.specs.Words.{InUse}
+use Rattle.evacuate.specs.Marks.{copied}
 use Rattle.evacuate.specs.Rewrite.{Names, Rewritten, link-same, refs-same, rewritten-none, rewritten-join, rewritten-like}
 use Rattle.evacuate.specs.RewriteSlots.{Field, Fields}
 
@@ -30,12 +33,13 @@ pub record Wiring (p : Places) (r : ℕ) (Q : ℕ → Type 0) (W T : List ℕ) :
   pub few : p .pages ≤ 1024
   pub cells-long : 256 * p .pages ≤ length W
   pub tables-long : Room p (length T)
-  pub full : (q : ℕ) → q < p .pages → usedOf p T q ≤ 16
+  pub bits : (c : ℕ) → Q c → c / 16 < p .pages → copied p T c ≡ 1 → Old p r W T c
+  pub only : (c : ℕ) → Q c → Old p r W T c → copied p T c ≡ 1
   pub copies : (c : ℕ) → Q c → Old p r W T c → Fields p (refsOf W (workOf W c - 1)) (workOf W c - 1) W
   pub once : (b c : ℕ) → Q b → Q c → Old p r W T b → Old p r W T c → workOf W b ≡ workOf W c → b ≡ c
 
 module _ {p : Places} {r : ℕ} {P : ℕ → Type 0} {W T W′ : List ℕ} (h : Rewritten p r P T W W′) where
-  old-now : {p : Places} (c : ℕ) → Old p r W T c → Old p r W′ T c
+  pub old-now : {p : Places} (c : ℕ) → Old p r W T c → Old p r W′ T c
   old-now c u = record { used = u .used; owner = u .owner; moved = λ z. u .moved (sym (link-same h c) ∙ z) }
 
   old-then : {p : Places} (c : ℕ) → Old p r W′ T c → Old p r W T c
@@ -64,7 +68,8 @@ module _ {p : Places} {r : ℕ} {P : ℕ → Type 0} {W T W′ : List ℕ} (h : 
         few = a .few;
         cells-long = omega (arith, a .cells-long, h .size);
         tables-long = a .tables-long;
-        full = a .full;
+        bits = λ c q l on. old-now c (a .bits c q l on);
+        only = λ c q u. a .only c q (old-then c u);
         copies = λ c q u. subst (λ (y : ℕ). Fields p (refsOf W′ (y - 1)) (y - 1) W′) (sym (link-same h c)) (copies′ c q (old-then c u));
         once = λ b c q q′ u v e. a .once b c q q′ (old-then b u) (old-then c v) (sym (link-same h b) ∙ e ∙ link-same h c);
       }
@@ -102,7 +107,8 @@ wiring-less f a =
       few = a .few;
       cells-long = a .cells-long;
       tables-long = a .tables-long;
-      full = a .full;
+      bits = λ c q. a .bits c (f c q);
+      only = λ c q. a .only c (f c q);
       copies = λ c q u. a .copies c (f c q) u;
       once = λ b c q q′ u v e. a .once b c (f b q) (f c q′) u v e;
     }
@@ -110,55 +116,37 @@ wiring-less f a =
 pub slot-less : {p : Places} {r : ℕ} {P Q : ℕ → Type 0} {W T : List ℕ} → ((c : ℕ) → P c → Q c) → (x : ℕ) → CopySlot p r P W T x → CopySlot p r Q W T x
 slot-less f x q = record { cell = q .cell; among = f (q .cell) (q .among); old = q .old; field = q .field }
 
--- ---- the copies of the old cells from a up to b
+-- ---- the copy of one survivor more
 
-abbrev pub Between : ℕ → ℕ → ℕ → Type 0
-Between a b c = (a ≤ c) × (c < b)
+-- c is new in P′, which holds else where P does
+pub record Grown (P : ℕ → Type 0) (c : ℕ) (P′ : ℕ → Type 0) : Type 0 where
+  pub new : P c → ⊥
+  pub here : P′ c
+  pub keeps : (y : ℕ) → P y → P′ y
+  pub split : (y : ℕ) → P′ y → P y ⊎ (y ≡ c)
 
-pub copies-start : (p : Places) (r a : ℕ) (T W : List ℕ) → Rewritten p r (CopySlot p r (Between a a) W T) T W W
-copies-start p r a T W =
-    rewritten-none p r (CopySlot p r (Between a a) W T) T W (λ x q. omega (arith, q .among .0, q .among .1))
-
-module _ {p : Places} {r a b c : ℕ} {T W W′ : List ℕ} (w : Wiring p r (Between a b) W T) (la : a ≤ c) (lb : c < b)
-    (h : Rewritten p r (CopySlot p r (Between a c) W T) T W W′) where
-  earlier-apart : (x : ℕ) → CopySlot p r (λ y. y ≡ c) W T x → CopySlot p r (Between a c) W T x → ⊥
+module _ {p : Places} {r c : ℕ} {P P′ Q : ℕ → Type 0} {T W W′ : List ℕ} (w : Wiring p r Q W T) (g : Grown P c P′) (among : (y : ℕ) → P′ y → Q y)
+    (h : Rewritten p r (CopySlot p r P W T) T W W′) where
+  earlier-apart : (x : ℕ) → CopySlot p r (λ y. y ≡ c) W T x → CopySlot p r P W T x → ⊥
   earlier-apart x q q′ =
-      let e : q .cell ≡ c = q .among in
-      let l : q′ .cell < c = q′ .among .1 in
       let z : q′ .cell ≡ q .cell =
-      slots-apart w (q′ .cell) (q .cell) x (q′ .among .0, omega arith) (omega arith, omega arith) (q′ .old) (q .old) (q′ .field) (q .field) in
-      omega arith
+      slots-apart w (q′ .cell) (q .cell) x (among (q′ .cell) (g .keeps (q′ .cell) (q′ .among))) (subst Q (sym (q .among)) (among c (g .here)))
+      (q′ .old) (q .old) (q′ .field) (q .field) in
+      g .new (subst P (z ∙ q .among) (q′ .among))
 
   here-wired : Wiring p r (λ y. y ≡ c) W′ T
-  here-wired = wiring-now h (wiring-less (λ y e. (omega arith, omega arith)) w) earlier-apart
+  here-wired = wiring-now h (wiring-less (λ y e. subst Q (sym e) (among c (g .here))) w) earlier-apart
 
-  pub copy-fields : (x : ℕ) → x ≡ workOf W′ c → x ≢ 0 → InUse p T c → ownerOf p T (c / 16) ≡ r → Fields p (refsOf W′ (x - 1)) (x - 1) W′
-  copy-fields x e ne u own =
-      subst (λ (y : ℕ). Fields p (refsOf W′ (y - 1)) (y - 1) W′) (sym e)
-      (here-wired .copies c refl (record { used = u; owner = own; moved = λ z. ne (e ∙ z) }))
+  pub copy-fields : (x : ℕ) → x ≡ workOf W′ c → Old p r W T c → Fields p (refsOf W′ (x - 1)) (x - 1) W′
+  copy-fields x e u =
+      subst (λ (y : ℕ). Fields p (refsOf W′ (y - 1)) (y - 1) W′) (sym e) (here-wired .copies c refl (old-now h c u))
 
-  pub copy-left : (Old p r W T c → ⊥) → Rewritten p r (CopySlot p r (Between a (c + 1)) W T) T W W′
-  copy-left no-old =
-      rewritten-like h (λ x q. from x q (ℕ-discrete (q .cell) c))
-      (λ x q. slot-less (λ y l. (l .0, omega (arith, l .1))) x q)
+  pub copy-moved : {W″ : List ℕ} (x : ℕ) → x ≡ workOf W′ c → Old p r W T c → Rewritten p r (Field (x - 1) (refsOf W′ (x - 1))) T W′ W″
+      → Rewritten p r (CopySlot p r P′ W T) T W W″
+  copy-moved {W″} x e u k =
+      rewritten-join h k (λ y q f. earlier-apart y (one y f) q) (λ y q. from y q (g .split (q .cell) (q .among)))
+      (λ y. ⊎-elim (slot-less (g .keeps) y) (λ f. slot-less (λ z q. subst P′ (sym q) (g .here)) y (one y f)))
     where
-      from : (x : ℕ) (q : CopySlot p r (Between a (c + 1)) W T x) → Dec (q .cell ≡ c) → CopySlot p r (Between a c) W T x
-      from x q (yes e) = absurd (no-old (subst (λ (y : ℕ). Old p r W T y) e (q .old)))
-      from x q (no n) = record { cell = q .cell; among = (q .among .0, omega (arith, q .among .1)); old = q .old; field = q .field }
-
-  pub copy-null : (x : ℕ) → x ≡ workOf W′ c → x ≡ 0 → Rewritten p r (CopySlot p r (Between a (c + 1)) W T) T W W′
-  copy-null x e z = copy-left (λ u. u .moved (sym (link-same h c) ∙ sym e ∙ z))
-
-  pub copy-moved : {W″ : List ℕ} (x : ℕ) → x ≡ workOf W′ c → x ≢ 0 → InUse p T c → ownerOf p T (c / 16) ≡ r
-      → Rewritten p r (Field (x - 1) (refsOf W′ (x - 1))) T W′ W″ → Rewritten p r (CopySlot p r (Between a (c + 1)) W T) T W W″
-  copy-moved {W″} x e ne u own k =
-      rewritten-join h k (λ y q f. earlier-apart y (one y f) q) (λ y q. from y q (ℕ-discrete (q .cell) c))
-      (λ y. ⊎-elim (λ q. slot-less (λ z l. (l .0, omega (arith, l .1))) y q)
-      (λ f. slot-less (λ z l. (omega arith, omega arith)) y (one y f)))
-    where
-      old : Old p r W T c
-      old = record { used = u; owner = own; moved = λ z. ne (e ∙ link-same h c ∙ z) }
-
       -- the fields as the words before have them
       one : (y : ℕ) → Field (x - 1) (refsOf W′ (x - 1)) y → CopySlot p r (λ z. z ≡ c) W T y
       one y f =
@@ -166,35 +154,91 @@ module _ {p : Places} {r a b c : ℕ} {T W W′ : List ℕ} (w : Wiring p r (Bet
           record {
             cell = c;
             among = refl;
-            old = old;
+            old = u;
             field = record { field = f′ .field; low = omega (arith, f′ .low, refs-same h (workOf W c - 1)); at = f′ .at };
           }
 
-      from : (y : ℕ) (q : CopySlot p r (Between a (c + 1)) W T y) → Dec (q .cell ≡ c)
-          → CopySlot p r (Between a c) W T y ⊎ Field (x - 1) (refsOf W′ (x - 1)) y
-      from y q (yes z) =
+      from : (y : ℕ) (q : CopySlot p r P′ W T y) → P (q .cell) ⊎ (q .cell ≡ c) → CopySlot p r P W T y ⊎ Field (x - 1) (refsOf W′ (x - 1)) y
+      from y q (inl m) = inl (record { cell = q .cell; among = m; old = q .old; field = q .field })
+      from y q (inr z) =
           let f : Field (workOf W c - 1) (refsOf W (workOf W c - 1)) y = subst (λ (v : ℕ). Field (workOf W v - 1) (refsOf W (workOf W v - 1)) y) z (q .field) in
           inr (subst (λ (v : ℕ). Field (v - 1) (refsOf W′ (v - 1)) y) (sym (e ∙ link-same h c))
           (record { field = f .field; low = omega (arith, f .low, refs-same h (workOf W c - 1)); at = f .at }))
-      from y q (no n) = inl (record { cell = q .cell; among = (q .among .0, omega (arith, q .among .1)); old = q .old; field = q .field })
 
--- the cells in use are the first of a page
-pub page-done : {p : Places} {r n : ℕ} {T W W′ : List ℕ} (q : ℕ) → n ≡ usedOf p T q → n ≤ 16 → Rewritten p r (CopySlot p r (Between (16 * q) (16 * q + n)) W T) T W W′
-    → Rewritten p r (CopySlot p r (Between (16 * q) (16 * (q + 1))) W T) T W W′
-page-done {p} {r} {n} {T} {W} q e l h =
-    rewritten-like h
-    (λ x s.
+-- ---- the copies of a page's survivors, bit by bit
+
+abbrev pub Between : ℕ → ℕ → ℕ → Type 0
+Between a b c = (a ≤ c) × (c < b)
+
+-- the cells of page q whose bit is not left
+abbrev pub Passed : ℕ → ℕ → ℕ → Type 0
+Passed q left c = (c / 16 ≡ q) × (bitAt left (c % 16) ≡ 0)
+
+pub passed-within : (q left c : ℕ) → Passed q left c → Between (16 * q) (16 * (q + 1)) c
+passed-within q left c m = (omega (arith, m .0), omega (arith, m .0))
+
+-- left′ as the code has it
+pub passed-grown : {left : ℕ} (q i left′ : ℕ) → Lowest left i → left′ ≡ left - 2 ^ i → Grown (Passed q left) (16 * q + i) (Passed q left′)
+passed-grown {left} q i left′ l e =
     record {
-      cell = s .cell;
-      among = (
-        s .among .0,
-        (let z : s .cell / 16 ≡ q = omega (arith, s .among .0, s .among .1) in
-            omega (arith, s .old .used .place, ap (λ (y : ℕ). usedOf p T y) z)),
-      );
-      old = s .old;
-      field = s .field;
-    })
-    (λ x s. slot-less (λ y m. (m .0, omega (arith, m .1))) x s)
+      new = λ m. let z : ⊥ = omega (arith, l .on, ap (bitAt left) place, m .1) in z;
+      here = (page, ap (bitAt left′) place ∙ at i ∙ clear-same i left (l .on));
+      keeps = λ y m. (m .0, at (y % 16) ∙ keeps′ (y % 16) (m .1) (ℕ-discrete (y % 16) i));
+      split = λ y m. split′ y m (ℕ-discrete (y % 16) i);
+    }
+  where
+    place : (16 * q + i) % 16 ≡ i
+    place = omega (arith, l .lt)
+
+    page : (16 * q + i) / 16 ≡ q
+    page = omega (arith, l .lt)
+
+    at : (j : ℕ) → bitAt left′ j ≡ bitAt (left - 2 ^ i) j
+    at j = ap (λ (x : ℕ). bitAt x j) e
+
+    keeps′ : (j : ℕ) → bitAt left j ≡ 0 → Dec (j ≡ i) → bitAt (left - 2 ^ i) j ≡ 0
+    keeps′ j z (yes d) = ap (bitAt (left - 2 ^ i)) d ∙ clear-same i left (l .on)
+    keeps′ j z (no n) = clear-other i j left (l .on) n ∙ z
+
+    split′ : (y : ℕ) → Passed q left′ y → Dec (y % 16 ≡ i) → Passed q left y ⊎ (y ≡ 16 * q + i)
+    split′ y m (yes d) = inr (omega (arith, m .0))
+    split′ y m (no n) = inl (m .0, sym (clear-other i (y % 16) left (l .on) n) ∙ sym (at (y % 16)) ∙ m .1)
+
+module _ {p : Places} {r q w : ℕ} {T W : List ℕ} (a : Wiring p r (Between (16 * q) (16 * (q + 1))) W T) (e : w ≡ markOf p T q / 2 ^ 16) where
+  -- w is the upper half of the page's mark word
+  upper-copied : (c : ℕ) → c / 16 ≡ q → bitAt w (c % 16) ≡ copied p T c
+  upper-copied c d =
+      ap (λ (x : ℕ). bitAt x (c % 16)) e ∙ upper-bit (markOf p T q) (c % 16) ∙ ap (λ (x : ℕ). bitAt (markOf p T x) (16 + c % 16)) (sym d)
+
+  pub bit-old : (i : ℕ) → q < p .pages → i < 16 → bitAt w i ≡ 1 → Old p r W T (16 * q + i)
+  bit-old i l li on =
+      let d : (16 * q + i) / 16 ≡ q = omega arith in
+      let m : (16 * q + i) % 16 ≡ i = omega arith in
+      a .bits (16 * q + i) (omega arith, omega arith) (omega arith) (sym (upper-copied (16 * q + i) d) ∙ ap (bitAt w) m ∙ on)
+
+  -- a cell whose bit is not set has no copy
+  pub unset-none : (x : ℕ) → CopySlot p r (Passed q w) W T x → ⊥
+  unset-none x s =
+      let c : ℕ = s .cell in
+      omega (arith, a .only c (passed-within q w c (s .among)) (s .old), upper-copied c (s .among .0), s .among .1)
+
+  pub unset-rewritten : Rewritten p r (CopySlot p r (Passed q w) W T) T W W
+  unset-rewritten = rewritten-none p r (CopySlot p r (Passed q w) W T) T W unset-none
+
+-- once none is left, all cells of the page are passed
+pub within-passed : (q left c : ℕ) → left ≡ 0 → Between (16 * q) (16 * (q + 1)) c → Passed q left c
+within-passed q left c z m = (omega (arith, m .0, m .1), ap (λ (x : ℕ). bitAt x (c % 16)) z ∙ bit-zero (c % 16))
+
+pub page-done : {p : Places} {r left : ℕ} {T W W′ : List ℕ} (q : ℕ) → left ≡ 0 → Rewritten p r (CopySlot p r (Passed q left) W T) T W W′
+    → Rewritten p r (CopySlot p r (Between (16 * q) (16 * (q + 1))) W T) T W W′
+page-done {left = left} q z h =
+    rewritten-like h (λ x s. slot-less (λ c m. within-passed q left c z m) x s) (λ x s. slot-less (λ c m. passed-within q left c m) x s)
+
+-- ---- all pages
+
+pub copies-start : (p : Places) (r a : ℕ) (T W : List ℕ) → Rewritten p r (CopySlot p r (Between a a) W T) T W W
+copies-start p r a T W =
+    rewritten-none p r (CopySlot p r (Between a a) W T) T W (λ x q. omega (arith, q .among .0, q .among .1))
 
 -- a page after those below it
 module _ {p : Places} {r q : ℕ} {T W W′ : List ℕ} (w : Wiring p r (Between 0 (16 * p .pages)) W T) (lt : q < p .pages)
@@ -223,18 +267,3 @@ module _ {p : Places} {r q : ℕ} {T W W′ : List ℕ} (w : Wiring p r (Between
       from x s (yes l) = inl (record { cell = s .cell; among = (s .among .0, l); old = s .old; field = s .field })
       from x s (no l) =
           inr (slot-now h x (record { cell = s .cell; among = (omega arith, s .among .1); old = s .old; field = s .field }))
-
-  pub pages-left : ownerOf p T q ≢ r → Rewritten p r (CopySlot p r (Between 0 (16 * (q + 1))) W T) T W W′
-  pages-left ne =
-      pages-next
-      (rewritten-none p r (CopySlot p r (Between (16 * q) (16 * (q + 1))) W′ T) T W′
-      (λ x s. ne (ap (λ (y : ℕ). ownerOf p T y) (let z : q ≡ s .cell / 16 = omega (arith, s .among .0, s .among .1) in z) ∙ s .old .owner)))
-
--- place i of page q
-pub in-page : (p : Places) (q i : ℕ) (T : List ℕ) → q < p .pages → i < usedOf p T q → usedOf p T q ≤ 16 → InUse p T (16 * q + i)
-in-page p q i T l m h =
-    let d : (16 * q + i) / 16 ≡ q = omega arith in
-    record { page = omega arith; place = omega (arith, ap (λ (x : ℕ). usedOf p T x) d) }
-
-pub on-page : (p : Places) (q i : ℕ) (T : List ℕ) → i < 16 → ownerOf p T ((16 * q + i) / 16) ≡ ownerOf p T q
-on-page p q i T l = ap (λ (x : ℕ). ownerOf p T x) (let d : (16 * q + i) / 16 ≡ q = omega arith in d)

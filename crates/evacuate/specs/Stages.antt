@@ -130,12 +130,16 @@ module _ {p : Places} {r n m l : ℕ} {gs : ℕ → ℕ} {W T M W₁ T₁ : List
           few = w .few;
           cells-long = omega (arith, w .cells-long, R .size);
           tables-long = w .tables-long;
-          full = w .full;
+          bits = λ d q l on. now (w .bits d q l on);
+          only = λ d q u. w .only d q (then d u);
           copies = λ d q u.
               subst (λ (y : ℕ). Fields p (refsOf W₃ (y - 1)) (y - 1) W₃) (sym (link-same R d)) (fields d q (then d u));
           once = λ d e q q′ u u′ z. w .once d e q q′ (then d u) (then e u′) (sym (link-same R d) ∙ z ∙ link-same R e);
         }
       where
+        now : {d : ℕ} → Old p r W₁ T₁ d → Old p r W₃ T₁ d
+        now {d} u = record { used = u .used; owner = u .owner; moved = λ z. u .moved (sym (link-same R d) ∙ z) }
+
         then : (d : ℕ) → Old p r W₃ T₁ d → Old p r W₁ T₁ d
         then d u = record { used = u .used; owner = u .owner; moved = λ z. u .moved (link-same R d ∙ z) }
 

@@ -55,7 +55,7 @@ pub fn copy_cell(cells: &mut [u32], old: usize, new: usize)
     layout::cells::set_work(cells, old, layout::cells::ref_to(new));
 }
 
-// A survivor goes to the first unused cell of a page of the region, and its mark goes.
+// A survivor goes to the first unused cell of a page of the region, and its mark to the upper half of the word.
 pub fn move_cell(
     p: Places,
     cells: &mut [u32],
@@ -71,11 +71,12 @@ pub fn move_cell(
     copy_cell(cells, cell, new);
     let home = layout::cells::page_of(cell);
     let place = layout::cells::place_of(cell);
-    let marks = layout::tables::mark(p, tables, home);
-    layout::tables::set_mark(p, tables, home, marks - (1 << place));
+    let others = layout::bits::without_bit(layout::tables::mark(p, tables, home), place as u32);
+    let marks = layout::bits::with_bit(others, layout::cells::CELLS + place);
+    layout::tables::set_mark(p, tables, home, marks);
 }
 
-// The survivors on a page that go to a region, in rising cell number.
+// The survivors on a page that go to a region, in rising cell number: as many wait as the lower half of its mark word has ones.
 pub fn copy_page(
     p: Places,
     cells: &mut [u32],
@@ -89,16 +90,20 @@ pub fn copy_page(
     requires { ⌜ page < p .pages ⌝ }
     ensures { λ r. ⌜ PagePass p region page (r .page) (r .top) (now (cells .entry)) (now (tables .entry)) (now (cells .exit)) (now (tables .exit)) ⌝ }
 {
+    let waiting = layout::bits::lower_half(layout::tables::mark(p, tables, page));
+    let survivors = u32::count_ones(waiting);
     let mut next = at;
-    let mut left = layout::tables::mark(p, tables, page);
-    while left != 0 {
+    let mut left = waiting;
+    let mut k: u32 = 0;
+    while k < survivors {
         let i = u32::trailing_zeros(left);
         let cell = layout::cells::cell_on(page, layout::wide(i));
         if layout::cells::work(cells, cell) == region {
             next = next_page(p, tables, region, next);
             move_cell(p, cells, tables, region, next.page, cell);
         }
-        left = left - (1 << i);
+        left = layout::bits::without_bit(left, i);
+        k += 1;
     }
     next
 }

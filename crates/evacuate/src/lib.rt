@@ -27,9 +27,9 @@ pub fn evacuate(
     let level = layout::wide(layout::tables::depth(p, tables, thread));
     let region = layout::regions::region_at(p, thread, level);
     copy::copy_survivors(p, cells, tables, thread, level);
-    rewrite::rewrite_slots(p, cells, tables, remember, region);
+    rewrite::rewrite_slots(p, cells, remember, tables, region);
     rewrite::rewrite_copies(p, cells, tables, region);
-    remember::update_remember(p, cells, tables, remember, region);
+    remember::update_remember(p, cells, remember, tables, region);
     rewrite::rewrite_variables(p, cells, tables, region);
     release::release(p, tables, region, thread);
 }

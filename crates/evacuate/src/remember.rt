@@ -2,7 +2,7 @@
 ghost use mathlib.Core.Path.{_≡_};
 ghost use Prim.Native.Nat.{ℕ, _+_, _*_, _<_, _≤_, max};
 ghost use lib.ListN.{length, getD};
-ghost use Rattle.layout.specs.Places.{Room, ownerOf, usedIn};
+ghost use Rattle.layout.specs.Places.{Room, usedIn};
 ghost use Rattle.layout.specs.Cells.{refsOf};
 ghost use Rattle.evacuate.specs.Rewrite.{Names};
 ghost use Rattle.evacuate.specs.Entries.{crossOf, newRegion, Added, Stays, Entries, Cleared};
@@ -55,8 +55,8 @@ pub fn new_region(p: Places, cells: &[u32], tables: &[u32], region: u32, at: usi
 pub fn filter_entries(
     p: Places,
     cells: &[u32],
-    tables: &[u32],
     remember: &mut [u32],
+    tables: &[u32],
     region: u32,
     used: usize,
 ) -> usize
@@ -100,8 +100,8 @@ pub fn clear_entries(entries: usize, remember: &mut [u32], from: usize, to: usiz
 pub fn remember_cell(
     p: Places,
     cells: &[u32],
-    tables: &[u32],
     remember: &mut [u32],
+    tables: &[u32],
     region: u32,
     cell: usize,
     j: usize,
@@ -133,12 +133,12 @@ pub fn remember_cell(
     i
 }
 
-// Those of the copies of a page's cells.
+// Those of the copies of a page's survivors.
 pub fn remember_page(
     p: Places,
     cells: &[u32],
-    tables: &[u32],
     remember: &mut [u32],
+    tables: &[u32],
     region: u32,
     page: usize,
     j: usize,
@@ -146,19 +146,20 @@ pub fn remember_page(
     requires { ⌜ Appending p region (p .entries) (CopySlot p region (Between (16 * page) (16 * (page + 1))) (now cells) (now tables)) (now cells) (now tables) (now remember) j ⌝ }
     requires { ⌜ Wiring p region (Between (16 * page) (16 * (page + 1))) (now cells) (now tables) ⌝ }
     requires { ⌜ page < p .pages ⌝ }
-    requires { ⌜ ownerOf p (now tables) page ≡ region ⌝ }
     ensures { λ i. ⌜ Added (p .entries) (Crossing p (CopySlot p region (Between (16 * page) (16 * (page + 1))) (now (cells .entry)) (now (tables .entry))) (now (cells .entry)) (now (tables .entry))) j i (now (remember .entry)) (now (remember .exit)) ⌝ }
 {
-    let n = layout::wide(layout::tables::used(p, tables, page));
+    let copied = layout::bits::upper_half(layout::tables::mark(p, tables, page));
+    let survivors = u32::count_ones(copied);
     let mut i = j;
-    let mut a: usize = 0;
-    while a < n {
-        let forward = layout::cells::work(cells, layout::cells::cell_on(page, a));
-        if forward != 0 {
-            let copy = layout::cells::cell_named(forward);
-            i = remember_cell(p, cells, tables, remember, region, copy, i);
-        }
-        a += 1;
+    let mut left = copied;
+    let mut k: u32 = 0;
+    while k < survivors {
+        let a = u32::trailing_zeros(left);
+        let forward = layout::cells::work(cells, layout::cells::cell_on(page, layout::wide(a)));
+        let copy = layout::cells::cell_named(forward);
+        i = remember_cell(p, cells, remember, tables, region, copy, i);
+        left = layout::bits::without_bit(left, a);
+        k += 1;
     }
     i
 }
@@ -167,8 +168,8 @@ pub fn remember_page(
 pub fn remember_copies(
     p: Places,
     cells: &[u32],
-    tables: &[u32],
     remember: &mut [u32],
+    tables: &[u32],
     region: u32,
     j: usize,
 ) -> usize
@@ -180,9 +181,7 @@ pub fn remember_copies(
     let mut i = j;
     let mut page: usize = 0;
     while page < pages {
-        if layout::tables::owner(p, tables, page) == region {
-            i = remember_page(p, cells, tables, remember, region, page, i);
-        }
+        i = remember_page(p, cells, remember, tables, region, page, i);
         page += 1;
     }
     i
@@ -195,14 +194,14 @@ fn larger(a: usize, b: usize) -> usize
 }
 
 // The remember table after the end.
-pub fn update_remember(p: Places, cells: &[u32], tables: &[u32], remember: &mut [u32], region: u32)
+pub fn update_remember(p: Places, cells: &[u32], remember: &mut [u32], tables: &[u32], region: u32)
     requires { ⌜ Updating p region (p .entries) (usedIn (now remember)) (now cells) (now tables) (now remember) ⌝ }
     ensures { λ _. ⌜ Updated p region (p .entries) (usedIn (now (remember .entry))) (now (cells .entry)) (now (tables .entry)) (now (remember .entry)) (now (remember .exit)) ⌝ }
 {
     let entries = p.entries;
     let used = layout::wide(layout::remember::used(remember));
-    let kept = filter_entries(p, cells, tables, remember, region, used);
-    let all = remember_copies(p, cells, tables, remember, region, kept);
+    let kept = filter_entries(p, cells, remember, tables, region, used);
+    let all = remember_copies(p, cells, remember, tables, region, kept);
     clear_entries(entries, remember, all, larger(all, used));
     layout::remember::set_used(remember, all as u32);
 }

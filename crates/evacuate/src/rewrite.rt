@@ -3,7 +3,7 @@
 ghost use mathlib.Core.Path.{_≡_};
 ghost use Prim.Native.Nat.{ℕ, _+_, _*_, _<_, _≤_};
 ghost use lib.ListN.{length};
-ghost use Rattle.layout.specs.Places.{Room, ownerOf, varOf, usedIn};
+ghost use Rattle.layout.specs.Places.{Room, varOf, usedIn};
 ghost use Rattle.layout.specs.Cells.{refsOf};
 ghost use Rattle.evacuate.specs.Rewrite.{Names, moveRef, Rewritten};
 ghost use Rattle.evacuate.specs.RewriteSlots.{Remembered, Slots, Field, Fields, Variables};
@@ -29,7 +29,7 @@ pub fn forward_ref(p: Places, cells: &[u32], tables: &[u32], region: u32, x: u32
 }
 
 // The remembered slots that point into the region.
-pub fn rewrite_slots(p: Places, cells: &mut [u32], tables: &[u32], remember: &[u32], region: u32)
+pub fn rewrite_slots(p: Places, cells: &mut [u32], remember: &[u32], tables: &[u32], region: u32)
     requires { ⌜ Slots p region (p .entries) (usedIn (now remember)) (now remember) (now cells) ⌝ }
     requires { ⌜ Room p (length (now tables)) ⌝ }
     ensures { λ _. ⌜ Rewritten p region (Remembered region (p .entries) (usedIn (now (remember .entry))) (now (remember .entry))) (now (tables .entry)) (now (cells .entry)) (now (cells .exit)) ⌝ }
@@ -67,21 +67,22 @@ pub fn rewrite_cell(p: Places, cells: &mut [u32], tables: &[u32], region: u32, c
     }
 }
 
-// The reference fields of the copies of a page's cells.
+// The reference fields of the copies of a page's survivors: as many as the upper half of its mark word has ones.
 pub fn rewrite_page(p: Places, cells: &mut [u32], tables: &[u32], region: u32, page: usize)
     requires { ⌜ Wiring p region (Between (16 * page) (16 * (page + 1))) (now cells) (now tables) ⌝ }
     requires { ⌜ page < p .pages ⌝ }
-    requires { ⌜ ownerOf p (now tables) page ≡ region ⌝ }
     ensures { λ _. ⌜ Rewritten p region (CopySlot p region (Between (16 * page) (16 * (page + 1))) (now (cells .entry)) (now (tables .entry))) (now (tables .entry)) (now (cells .entry)) (now (cells .exit)) ⌝ }
 {
-    let n = layout::wide(layout::tables::used(p, tables, page));
-    let mut i: usize = 0;
-    while i < n {
-        let forward = layout::cells::work(cells, layout::cells::cell_on(page, i));
-        if forward != 0 {
-            rewrite_cell(p, cells, tables, region, layout::cells::cell_named(forward));
-        }
-        i += 1;
+    let copied = layout::bits::upper_half(layout::tables::mark(p, tables, page));
+    let survivors = u32::count_ones(copied);
+    let mut left = copied;
+    let mut k: u32 = 0;
+    while k < survivors {
+        let i = u32::trailing_zeros(left);
+        let forward = layout::cells::work(cells, layout::cells::cell_on(page, layout::wide(i)));
+        rewrite_cell(p, cells, tables, region, layout::cells::cell_named(forward));
+        left = layout::bits::without_bit(left, i);
+        k += 1;
     }
 }
 
@@ -93,9 +94,7 @@ pub fn rewrite_copies(p: Places, cells: &mut [u32], tables: &[u32], region: u32)
     let pages = p.pages;
     let mut page: usize = 0;
     while page < pages {
-        if layout::tables::owner(p, tables, page) == region {
-            rewrite_page(p, cells, tables, region, page);
-        }
+        rewrite_page(p, cells, tables, region, page);
         page += 1;
     }
 }

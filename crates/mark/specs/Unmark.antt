@@ -5,10 +5,11 @@ use mathlib.Core.List.{List}
 use Prim.Native.Nat.{ℕ, _+_, _-_, _*_, _/_, _%_, _^_, _≤_, _<_}
 use native.Mathlib.Decide.{ℕ-discrete, decLt}
 use native.Mathlib.Omega.{arith}
-use lib.Count.{ones, trailingZeros}
+use lib.Count.{ones}
 use lib.ListN.{length, getD, set, length-set}
 use lib.Seq.{getD-set-same, getD-set-other, ext-getD}
-use Rattle.lists.specs.Bits.{bitAt, bit-lt, bit-zero, clear-same, clear-other, clear-ones, ones-zero, Lowest, lowest}
+use Rattle.lists.specs.Bits.{bitAt, bit-lt, bit-zero, clear-same, clear-other, Lowest}
+use Rattle.lists.specs.SetBits.{Walked, walk-turn, walk-end}
 use Rattle.rules.specs.declared.Sizes.{Sizes}
 use Rattle.layout.specs.declared.Places.{Places}
 use Rattle.layout.specs.Places.{placesOf, markAt, markOf}
@@ -18,49 +19,6 @@ use Rattle.rules.specs.Graph.{target}
 use Rattle.promises.specs.Words.{Words, Used, ownerIn, usedIn, graphOf}
 use Rattle.promises.specs.Whole.{WholeFor}
 use Rattle.mark.specs.Survivors.{Marked}
-
--- ---- the set bits of a word, one after another: after k of them are cleared, left remains
-
-pub record Walked (w left k : ℕ) : Type 0 where
-  pub count : k + ones left ≡ ones w
-  pub small : left < 2 ^ 16
-  pub under : (i : ℕ) → bitAt left i ≡ 1 → bitAt w i ≡ 1
-
-pub walk-start : (w : ℕ) → w < 2 ^ 16 → Walked w w 0
-walk-start w l = record { count = omega arith; small = l; under = λ i h. h }
-
-some-left : (w left k : ℕ) → Walked w left k → k < ones w → left ≢ 0
-some-left w left k h l z = omega (arith, h .count, ap ones z, ones-zero)
-
-pub walk-lowest : {w left k : ℕ} → Walked w left k → k < ones w → Lowest left (trailingZeros 32 left)
-walk-lowest {w} {left} {k} h l = lowest left (some-left w left k h l) (h .small)
-
--- what is set after bit i is cleared was set
-still-on : (left i j : ℕ) → bitAt left i ≡ 1 → bitAt (left - 2 ^ i) j ≡ 1 → bitAt left j ≡ 1
-still-on left i j on b = go (ℕ-discrete j i)
-  where
-    go : Dec (j ≡ i) → bitAt left j ≡ 1
-    go (yes e) = ap (bitAt left) e ∙ on
-    go (no n) = sym (clear-other i j left on n) ∙ b
-
-pub walk-next : {w left k : ℕ} (i : ℕ) → Walked w left k → Lowest left i → Walked w (left - 2 ^ i) (k + 1)
-walk-next {w} {left} {k} i h l =
-    record {
-      count = omega (arith, h .count, clear-ones i left (l .on));
-      small = omega (arith, h .small, l .le);
-      under = λ j b. h .under j (still-on left i j (l .on) b);
-    }
-
--- at the end none is left
-pub walk-end : {w left k : ℕ} → Walked w left k → ones w ≤ k → ones left ≡ 0
-walk-end h l = omega (arith, h .count)
-
-pub none-left : (left : ℕ) → left < 2 ^ 16 → ones left ≡ 0 → left ≡ 0
-none-left left l z = go (ℕ-discrete left 0)
-  where
-    go : Dec (left ≡ 0) → left ≡ 0
-    go (yes e) = e
-    go (no n) = let i = lowest left n l in absurd (let y : ⊥ = omega (arith, clear-ones (trailingZeros 32 left) left (i .on)) in y)
 
 -- ---- one page
 
@@ -116,12 +74,12 @@ page-clear {page} {w} {left} {k} {W} {W′} i d e long u l h =
 pub page-turn : {page w left k : ℕ} {W W′ : List ℕ} (i d left′ : ℕ) (X : List ℕ) → d ≡ cellOn page i → 256 * page + 256 ≤ length W → Walked w left k → Lowest left i
     → PageCleared page w left W W′ → X ≡ set W′ (workAt d) 0 → left′ ≡ left - 2 ^ i → Walked w left′ (k + 1) × PageCleared page w left′ W X
 page-turn {page} {w} {left} {k} {W} {W′} i d left′ X e long u l h a b = (
-  subst (λ (z : ℕ). Walked w z (k + 1)) (sym b) (walk-next i u l),
+  walk-turn i left′ u l b,
   subst₂ (λ (Y : List ℕ) (z : ℕ). PageCleared page w z W Y) (sym a) (sym b) (page-clear i d e long u l h),
 )
 
 pub page-end : {page w left k : ℕ} {W W′ : List ℕ} → Walked w left k → ones w ≤ k → PageCleared page w left W W′ → PageCleared page w 0 W W′
-page-end {page} {w} {left} {k} {W} {W′} u l h = subst (λ (z : ℕ). PageCleared page w z W W′) (none-left left (u .small) (walk-end u l)) h
+page-end {page} {w} {left} {k} {W} {W′} u l h = subst (λ (z : ℕ). PageCleared page w z W W′) (walk-end u l) h
 
 -- ---- the pages below n
 

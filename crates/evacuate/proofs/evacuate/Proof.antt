@@ -81,7 +81,7 @@ same-length c =
     rewrite-copies .kept .1 .0 ∙ rewrite-slots .kept .1 .0 ∙ copy-survivors .kept .1 .0
 
 same-length-2 : tie.Need-same-length-2
-same-length-2 c = c .before .before .before .before .before .before .before .before .before .before .before .update-remember .kept .1 .1 .1 .0
+same-length-2 c = c .before .before .before .before .before .before .before .before .before .before .before .update-remember .kept .1 .1 .0
 
 same-length-3 : tie.Need-same-length-3
 same-length-3 c = c .before .before .release .kept .1 .0 ∙ c .before .before .before .before .before .before .rewrite-variables .kept .1 .1 .0 ∙ c .before .before .before .before .before .before .before .before .before .before .before .before .before .before .before .before .before .before .before .before .before .before .before .before .before .before .before .before .before .before .copy-survivors .kept .1 .1 .0
@@ -99,7 +99,7 @@ returns c =
     let b = begun (c .before .before .before .before .before .before .before .before .before .before .before .before .before .before .before .before .before .before .before .before .before .before .before .before .before .before .before .before .before .before .before .before .before) in
     let k = copy-survivors .ensures in
     let F : ℕ → ℕ → Type 0 =
-    (λ g l. Finished (a .p) g (a .p .entries) (usedIn (a .remember .now)) l (a .thread) (regionAt (sizesOf (a .p)) (a .thread)) (a .cells .now) (a .tables .now) (a .remember .now) (rewrite-copies .last .1 .0) (c .before .before .release .last .1 .0) (update-remember .last .1 .1 .1 .0)) in
+    (λ g l. Finished (a .p) g (a .p .entries) (usedIn (a .remember .now)) l (a .thread) (regionAt (sizesOf (a .p)) (a .thread)) (a .cells .now) (a .tables .now) (a .remember .now) (rewrite-copies .last .1 .0) (c .before .before .release .last .1 .0) (update-remember .last .1 .1 .0)) in
     subst₂ F (level (c .before .before .before .before .before .before .before .before .before .before .before .before .before .before .before .before .before .before .before .before .before .before .before .before .before .before .before .before .before .before .before .before .before)) (wide .ensures ∙ depth .ensures)
     (finished b k (rewrite-slots .ensures) (rewrite-copies .ensures) (update-remember .ensures) (rewrite-variables .ensures) (c .before .before .release .ensures))
 

@@ -5,8 +5,8 @@ use native.Mathlib.Omega.{arith}
 use borrow.Author.Needs.{needs}
 use lib.Count.{ones, ones-le, trailingZeros}
 use Rattle.layout.specs.Cells.{cellOn}
-use Rattle.mark.specs.Unmark.{Walked, walk-start, walk-lowest}
-use Rattle.census.specs.Counted.{goesTo, goes-le, Summed, summed-start, summed-next, summed-end, walk-turn}
+use Rattle.lists.specs.SetBits.{Walked, walk-start, walk-lowest, walk-turn}
+use Rattle.census.specs.Counted.{goesTo, goes-le, Summed, summed-start, summed-next, summed-end}
 use Rattle.census.proofs.count.count_page.Statement.{statement}
 use Rattle.census.proofs.count.count_page.Tie as tie
 

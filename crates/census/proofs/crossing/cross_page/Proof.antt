@@ -6,8 +6,8 @@ use borrow.Author.Needs.{needs}
 use lib.Count.{ones, ones-le, trailingZeros}
 use Rattle.layout.specs.Cells.{cellOn}
 use Rattle.promises.specs.Words.{InUse}
-use Rattle.mark.specs.Unmark.{Walked, walk-start, walk-lowest}
-use Rattle.census.specs.Counted.{Summed, summed-start, summed-next, summed-end, walk-turn}
+use Rattle.lists.specs.SetBits.{Walked, walk-start, walk-lowest, walk-turn}
+use Rattle.census.specs.Counted.{Summed, summed-start, summed-next, summed-end}
 use Rattle.census.specs.After.{cellCrosses}
 use Rattle.census.proofs.crossing.cross_page.Statement.{statement}
 use Rattle.census.proofs.crossing.cross_page.Tie as tie

@@ -13,11 +13,11 @@ use Rattle.evacuate.proofs.remember.filter_entries.Statement.{statement
 use Rattle.evacuate.proofs.remember.filter_entries.Tie as tie
 
 abbrev Inv-loop : tie.InvT-loop
-Inv-loop p cells tables remember₀ region used entries j₀ i₀ remember j i =
+Inv-loop p cells remember₀ tables region used entries j₀ i₀ remember j i =
     (i ≤ used) × (j ≤ i) × (length remember ≡ length remember₀) × Added (p .entries) (Stays p region (p .entries) cells tables remember₀ i) 0 j remember₀ remember
 
 abbrev μ-loop : tie.MeasureT-loop
-μ-loop p cells tables remember₀ region used entries j₀ i₀ remember j i =
+μ-loop p cells remember₀ tables region used entries j₀ i₀ remember j i =
     used - i
 
 loop-holds : tie.Need-loop-holds Inv-loop μ-loop

@@ -16,11 +16,11 @@ use Rattle.evacuate.proofs.remember.remember_cell.Statement.{statement}
 use Rattle.evacuate.proofs.remember.remember_cell.Tie as tie
 
 abbrev Inv-loop : tie.InvT-loop
-Inv-loop p cells tables remember₀ region cell j entries n from i₀ f₀ remember i f =
+Inv-loop p cells remember₀ tables region cell j entries n from i₀ f₀ remember i f =
     (f ≤ n) × (n ≡ refsOf cells cell) × (from ≡ ownerOf p tables (cell / 16)) × (length remember ≡ length remember₀) × Added (p .entries) (Crossing p (Field cell f) cells tables) j i remember₀ remember
 
 abbrev μ-loop : tie.MeasureT-loop
-μ-loop p cells tables remember₀ region cell j entries n from i₀ f₀ remember i f =
+μ-loop p cells remember₀ tables region cell j entries n from i₀ f₀ remember i f =
     n - f
 
 owned : (c : tie.After-owner Inv-loop μ-loop) → c .owner .result ≡ ownerOf (c .before .before .before .before .before .before .before .args .p) (c .before .before .before .before .before .before .before .args .tables .now) (c .before .before .before .before .before .before .before .args .cell / 16)

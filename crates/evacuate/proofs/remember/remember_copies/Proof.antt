@@ -1,62 +1,42 @@
--- The crossing slots of the copies of the region's cells on the pages below stand from entry j up to entry i.
+-- The crossing slots of the copies of the survivors on the pages below stand from entry j up to entry i.
 use native.Mathlib.Omega.{arith}
 use lib.ListN.{length}
-use Prim.Native.Nat.{ℕ, _≤_, _+_, _-_, _*_}
-use mathlib.Core.List.{List}
-use mathlib.Core.Logic.{⊎-elim}
-use mathlib.Core.Path.{_≡_, refl, sym, _∙_, subst, subst₂}
+use Prim.Native.Nat.{ℕ, _≤_, _-_, _*_}
+use mathlib.Core.Path.{_≡_, refl, subst}
 use Rattle.evacuate.specs.Entries.{Added}
-use Rattle.evacuate.specs.Append.{Crossing, copies-begin, page-appending, pages-added, pages-skipped}
+use Rattle.evacuate.specs.Append.{Crossing, copies-begin, page-appending, pages-added}
 use Rattle.evacuate.specs.RewriteCopies.{CopySlot, Between, wiring-less}
 use Rattle.evacuate.proofs.remember.remember_copies.Statement.{statement}
 use Rattle.evacuate.proofs.remember.remember_copies.Tie as tie
 
 abbrev Inv-loop : tie.InvT-loop
-Inv-loop p cells tables remember₀ region j pages i₀ page₀ remember i page =
+Inv-loop p cells remember₀ tables region j pages i₀ page₀ remember i page =
     (page ≤ p .pages) × (length remember ≡ length remember₀) × Added (p .entries) (Crossing p (CopySlot p region (Between 0 (16 * page)) cells tables) cells tables) j i remember₀ remember
 
 abbrev μ-loop : tie.MeasureT-loop
-μ-loop p cells tables remember₀ region j pages i₀ page₀ remember i page =
+μ-loop p cells remember₀ tables region j pages i₀ page₀ remember i page =
     p .pages - page
 
 loop-holds : tie.Need-loop-holds Inv-loop μ-loop
 loop-holds c = (omega arith, refl, copies-begin _ _ _ _ _ _ _ _ (c .before .before .before .pre .0 .low))
 
-owner-requires : tie.Need-owner-requires Inv-loop μ-loop
-owner-requires c κs = (c .before .before .before .before .before .pre .1 .tables-long, c .loop-test .taken)
-
 remember-page-requires : tie.Need-remember-page-requires Inv-loop μ-loop
 remember-page-requires c κs =
-    let pre = c .before .before .before .before .before .before .before .before .pre in
-    let loop = c .before .before .before .before .loop in
-    let q : ℕ = loop .page in
-    let t = c .before .before .before .loop-test .taken in (
-      page-appending (pre .1) t (pre .0) (loop .inv .2),
-      (wiring-less (λ y l. (omega arith, omega (arith, l .1))) (pre .1), (t, sym (c .before .before .owner .ensures) ∙ c .before .if1 .taken)),
-    )
+    let pre = c .before .before .before .before .before .before .pre in
+    let l = c .before .before .loop in
+    let t = c .before .loop-test .taken in
+    (page-appending (pre .1) t (pre .0) (l .inv .2), (wiring-less (λ y m. (omega arith, omega (arith, m .1))) (pre .1), t))
 
 add-page : tie.Need-add-page Inv-loop μ-loop
-add-page c = omega (arith, c .before .before .before .before .before .before .before .pre .1 .few, c .before .before .loop-test .taken)
+add-page c = omega (arith, c .before .before .before .before .before .before .before .before .before .pre .1 .few, c .before .before .before .before .loop-test .taken)
 
 loop-less : tie.Need-loop-less Inv-loop μ-loop
-loop-less c = omega (arith, c .before .before .loop-test .taken)
+loop-less c = omega (arith, c .before .before .before .before .loop-test .taken)
 
 loop-again : tie.Need-loop-again Inv-loop μ-loop
 loop-again c =
-    let pre = c .before .before .before .before .before .before .before .pre in
-    let loop-test = c .before .before .loop-test in
-    let b = c .before .before .before .before .before .before .before .args in
-    let l = c .before .before .before .loop in
-    let W : List ℕ = b .cells .now in
-    let T : List ℕ = b .tables .now in
-    let P : List ℕ → ℕ → Type 0 =
-    (λ X y. Added (b .p .entries) (Crossing (b .p) (CopySlot (b .p) (b .region) (Between 0 (16 * (l .page + 1))) W T) W T) (b .j) y (b .remember .now) X) in
-    let h : P (c .if1 .remember) (c .if1 .i) =
-    ⊎-elim
-    (λ z. subst₂ P (sym (z .5)) (sym (z .6)) (pages-added (pre .1) (loop-test .taken) (pre .0) (l .inv .2) (z .2 .ensures)))
-    (λ z. subst₂ P (sym (z .1)) (sym (z .2)) (pages-skipped (pre .1) (loop-test .taken) (pre .0) (l .inv .2) (λ w. z .0 .left (c .before .owner .ensures ∙ w))))
-    (c .if1 .came) in
-    (omega (arith, loop-test .taken), h .size, h)
+    let h = pages-added (c .before .before .before .before .before .before .before .before .before .pre .1) (c .before .before .before .before .loop-test .taken) (c .before .before .before .before .before .before .before .before .before .pre .0) (c .before .before .before .before .before .loop .inv .2) (c .before .before .remember-page .ensures) in
+    (omega (arith, c .before .before .before .before .loop-test .taken), h .size, h)
 
 same-length : tie.Need-same-length Inv-loop μ-loop
 same-length c = c .before .loop .inv .1
@@ -65,7 +45,7 @@ returns : tie.Need-returns Inv-loop μ-loop
 returns c =
     let b = c .before .before .before .before .before .args in
     let l = c .before .loop in
-    let e : l .page ≡ b .p .pages = omega (arith, l .inv .0) in
+    let e : l .page ≡ b .p .pages = omega (arith, l .inv .0, c .loop-test .left) in
     subst
     (λ (y : ℕ). Added (b .p .entries) (Crossing (b .p) (CopySlot (b .p) (b .region) (Between 0 (16 * y)) (b .cells .now) (b .tables .now)) (b .cells .now) (b .tables .now)) (b .j) (l .i) (b .remember .now) (l .remember)) e (l .inv .2)
 
@@ -76,7 +56,6 @@ remember-copies-spec =
     Inv-loop
     μ-loop
     loop-holds
-    owner-requires
     remember-page-requires
     add-page
     loop-less

@@ -35,7 +35,7 @@ clear-entries-requires : tie.Need-clear-entries-requires
 clear-entries-requires c κs =
     let remember-copies = c .before .before .before .before .remember-copies in
     let u = updating (c .before .before .before .before .before .before .before .before .before .before) in
-    ((omega (arith, c .larger .ensures), omega (arith, c .larger .ensures, remember-copies .ensures .low, u .entries .few)), omega (arith, u .entries .long, remember-copies .kept .1 .1 .1 .0, c .before .before .before .before .before .before .before .before .filter-entries .kept .1 .1 .1 .0))
+    ((omega (arith, c .larger .ensures), omega (arith, c .larger .ensures, remember-copies .ensures .low, u .entries .few)), omega (arith, u .entries .long, remember-copies .kept .1 .1 .0, c .before .before .before .before .before .before .before .before .filter-entries .kept .1 .1 .0))
 
 cast-set-used : tie.Need-cast-set-used
 cast-set-used c = omega (arith, c .before .before .before .before .before .before .before .before .remember-copies .ensures .low, c .before .before .before .before .before .before .before .before .before .before .before .before .before .before .before .before .before .before .before .before .pre .small)
@@ -46,10 +46,10 @@ set-used-requires c κs =
     let filter-entries = c .before .before .before .before .before .before .before .before .before .before .before .before .filter-entries in
     let remember-copies = c .before .before .before .before .before .before .before .before .remember-copies in
     let clear-entries = c .before .before .before .clear-entries in
-    omega (arith, pre .entries .long, clear-entries .kept .1 .0, remember-copies .kept .1 .1 .1 .0, filter-entries .kept .1 .1 .1 .0)
+    omega (arith, pre .entries .long, clear-entries .kept .1 .0, remember-copies .kept .1 .1 .0, filter-entries .kept .1 .1 .0)
 
 same-length : tie.Need-same-length
-same-length c = c .before .before .set-used .kept .0 ∙ c .before .before .before .before .before .before .clear-entries .kept .1 .0 ∙ c .before .before .before .before .before .before .before .before .before .before .before .remember-copies .kept .1 .1 .1 .0 ∙ c .before .before .before .before .before .before .before .before .before .before .before .before .before .before .before .filter-entries .kept .1 .1 .1 .0
+same-length c = c .before .before .set-used .kept .0 ∙ c .before .before .before .before .before .before .clear-entries .kept .1 .0 ∙ c .before .before .before .before .before .before .before .before .before .before .before .remember-copies .kept .1 .1 .0 ∙ c .before .before .before .before .before .before .before .before .before .before .before .before .before .before .before .filter-entries .kept .1 .1 .0
 
 returns : tie.Need-returns
 returns c =

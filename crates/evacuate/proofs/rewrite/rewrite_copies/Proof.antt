@@ -1,12 +1,10 @@
--- The slots of the copies of the region's cells on the pages below are rewritten, and nothing else is changed.
+-- The slots of the copies of the survivors on the pages below are rewritten, and nothing else is changed.
 use native.Mathlib.Omega.{arith}
 use lib.ListN.{length}
-use Prim.Native.Nat.{ℕ, _≤_, _+_, _-_, _*_}
-use mathlib.Core.List.{List}
-use mathlib.Core.Logic.{⊎-elim}
-use mathlib.Core.Path.{_≡_, refl, sym, _∙_, subst}
+use Prim.Native.Nat.{ℕ, _≤_, _-_, _*_}
+use mathlib.Core.Path.{_≡_, refl, subst}
 use Rattle.evacuate.specs.Rewrite.{Rewritten}
-use Rattle.evacuate.specs.RewriteCopies.{CopySlot, Between, copies-start, page-wired, pages-next, pages-left}
+use Rattle.evacuate.specs.RewriteCopies.{CopySlot, Between, copies-start, page-wired, pages-next}
 use Rattle.evacuate.proofs.rewrite.rewrite_copies.Statement.{statement}
 use Rattle.evacuate.proofs.rewrite.rewrite_copies.Tie as tie
 
@@ -23,34 +21,19 @@ loop-holds c =
     let args = c .before .before .args in
     (omega arith, refl, copies-start (args .p) (args .region) 0 (args .tables .now) (args .cells .now))
 
-owner-requires : tie.Need-owner-requires Inv-loop μ-loop
-owner-requires c κs = (c .before .before .before .before .pre .tables-long, c .loop-test .taken)
-
 rewrite-page-requires : tie.Need-rewrite-page-requires Inv-loop μ-loop
-rewrite-page-requires c κs =
-    let loop-test = c .before .before .before .loop-test in
-    (page-wired (c .before .before .before .before .before .before .before .pre) (loop-test .taken) (c .before .before .before .before .loop .inv .2), (loop-test .taken, sym (c .before .before .owner .ensures) ∙ c .before .if1 .taken))
+rewrite-page-requires c κs = (page-wired (c .before .before .before .before .before .pre) (c .before .loop-test .taken) (c .before .before .loop .inv .2), c .before .loop-test .taken)
 
 add-page : tie.Need-add-page Inv-loop μ-loop
-add-page c = omega (arith, c .before .before .before .before .before .before .pre .few, c .before .before .loop-test .taken)
+add-page c = omega (arith, c .before .before .before .before .before .before .before .before .pre .few, c .before .before .before .before .loop-test .taken)
 
 loop-less : tie.Need-loop-less Inv-loop μ-loop
-loop-less c = omega (arith, c .before .before .loop-test .taken)
+loop-less c = omega (arith, c .before .before .before .before .loop-test .taken)
 
 loop-again : tie.Need-loop-again Inv-loop μ-loop
 loop-again c =
-    let pre = c .before .before .before .before .before .before .pre in
-    let loop-test = c .before .before .loop-test in
-    let a = c .before .before .before .before .before .before .args in
-    let l = c .before .before .before .loop in
-    let P : List ℕ → Type 0 =
-    (λ X. Rewritten (a .p) (a .region) (CopySlot (a .p) (a .region) (Between 0 (16 * (l .page + 1))) (a .cells .now) (a .tables .now)) (a .tables .now) (a .cells .now) X) in
-    let h : P (c .if1 .cells) =
-    ⊎-elim
-    (λ z. subst P (sym (z .5)) (pages-next (pre) (loop-test .taken) (l .inv .2) (z .2 .ensures)))
-    (λ z. subst P (sym (z .1)) (pages-left (pre) (loop-test .taken) (l .inv .2) (λ w. z .0 .left (c .before .owner .ensures ∙ w))))
-    (c .if1 .came) in
-    (omega (arith, loop-test .taken), h .size, h)
+    let h = pages-next (c .before .before .before .before .before .before .before .before .pre) (c .before .before .before .before .loop-test .taken) (c .before .before .before .before .before .loop .inv .2) (c .before .before .rewrite-page .ensures) in
+    (omega (arith, c .before .before .before .before .loop-test .taken), h .size, h)
 
 same-length : tie.Need-same-length Inv-loop μ-loop
 same-length c = c .before .loop .inv .1
@@ -59,7 +42,7 @@ returns : tie.Need-returns Inv-loop μ-loop
 returns c =
     let a = c .before .before .before .before .args in
     let l = c .before .loop in
-    let e : l .page ≡ a .p .pages = omega (arith, l .inv .0) in
+    let e : l .page ≡ a .p .pages = omega (arith, l .inv .0, c .loop-test .left) in
     subst (λ (y : ℕ). Rewritten (a .p) (a .region) (CopySlot (a .p) (a .region) (Between 0 (16 * y)) (a .cells .now) (a .tables .now)) (a .tables .now) (a .cells .now) (l .cells)) e (l .inv .2)
 
 pub rewrite-copies-spec : {M : Type 1} → statement M
@@ -69,7 +52,6 @@ rewrite-copies-spec =
     Inv-loop
     μ-loop
     loop-holds
-    owner-requires
     rewrite-page-requires
     add-page
     loop-less

@@ -13,11 +13,11 @@ use Rattle.evacuate.proofs.rewrite.rewrite_slots.Statement.{statement}
 use Rattle.evacuate.proofs.rewrite.rewrite_slots.Tie as tie
 
 abbrev Inv-loop : tie.InvT-loop
-Inv-loop p cells₀ tables remember region entries used i₀ cells i =
+Inv-loop p cells₀ remember tables region entries used i₀ cells i =
     (i ≤ used) × (used ≡ usedIn remember) × (length cells ≡ length cells₀) × Rewritten p region (Remembered region (p .entries) i remember) tables cells₀ cells
 
 abbrev μ-loop : tie.MeasureT-loop
-μ-loop p cells₀ tables remember region entries used i₀ cells i =
+μ-loop p cells₀ remember tables region entries used i₀ cells i =
     used - i
 
 low : (c : tie.In-loop Inv-loop μ-loop) → slotIn (c .before .before .before .before .before .before .before .args .remember .now) (c .before .loop .i) < 256 * c .before .before .before .before .before .before .before .args .p .pages
