@@ -135,27 +135,27 @@ module _ (p : Places) (e : p ≡ placesOf (sizesOf p)) (w : Words) (k : WholeFor
       few = subst (λ (n : ℕ). n ≤ p .entries) crossing entries
 
       begin : Before (placesOf (sizesOf p)) (regionAt (sizesOf p) t (suc (depthOf (w .tables) t - 1))) (p .entries) (usedIn (w .remember)) (suc (depthOf (w .tables) t - 1))
-          (regionAt (sizesOf p) t) (w₁ .cells) (w₁ .tables) (w .remember)
+          (regionAt (sizesOf p) t) (w₁ .cells) (w .remember) (w₁ .tables)
       begin = before-same (sizesOf p) w k room-of t (depthOf (w .tables) t - 1) th deep w₁ marks enough few
 
       same : depthOf (w₁ .tables) t ≡ suc (depthOf (w .tables) t - 1)
       same = depth-now ∙ deep
 
-      pub asked : Before p (regionAt (sizesOf p) t (depthOf (w₁ .tables) t)) (p .entries) (usedIn (w .remember)) (depthOf (w₁ .tables) t) (regionAt (sizesOf p) t) (w₁ .cells) (w₁ .tables)
-          (w .remember)
+      pub asked : Before p (regionAt (sizesOf p) t (depthOf (w₁ .tables) t)) (p .entries) (usedIn (w .remember)) (depthOf (w₁ .tables) t) (regionAt (sizesOf p) t) (w₁ .cells) (w .remember)
+          (w₁ .tables)
       asked =
           subst₂
-          (λ (q : Places) (n : ℕ). Before q (regionAt (sizesOf p) t n) (p .entries) (usedIn (w .remember)) n (regionAt (sizesOf p) t) (w₁ .cells) (w₁ .tables) (w .remember)) (sym e)
+          (λ (q : Places) (n : ℕ). Before q (regionAt (sizesOf p) t n) (p .entries) (usedIn (w .remember)) n (regionAt (sizesOf p) t) (w₁ .cells) (w .remember) (w₁ .tables)) (sym e)
           (sym same) begin
 
       pub did : (w′ : Words)
-          → Finished p (regionAt (sizesOf p) t (depthOf (w₁ .tables) t)) (p .entries) (usedIn (w .remember)) (depthOf (w₁ .tables) t) t (regionAt (sizesOf p) t) (w₁ .cells) (w₁ .tables)
-          (w .remember) (w′ .cells) (w′ .tables) (w′ .remember) → DidHere (sizesOf p) w (endOf t) w′ (done 0)
+          → Finished p (regionAt (sizesOf p) t (depthOf (w₁ .tables) t)) (p .entries) (usedIn (w .remember)) (depthOf (w₁ .tables) t) t (regionAt (sizesOf p) t) (w₁ .cells) (w .remember)
+          (w₁ .tables) (w′ .cells) (w′ .remember) (w′ .tables) → DidHere (sizesOf p) w (endOf t) w′ (done 0)
       did w′ f =
           let f′ =
           subst₂
           (λ (q : Places) (n : ℕ).
-          Finished q (regionAt (sizesOf p) t n) (p .entries) (usedIn (w .remember)) n t (regionAt (sizesOf p) t) (w₁ .cells) (w₁ .tables) (w .remember) (w′ .cells) (w′ .tables) (w′ .remember))
+          Finished q (regionAt (sizesOf p) t n) (p .entries) (usedIn (w .remember)) n t (regionAt (sizesOf p) t) (w₁ .cells) (w .remember) (w₁ .tables) (w′ .cells) (w′ .remember) (w′ .tables))
           e same f in
           ended-did (sizesOf p) w k t (depthOf (w .tables) t - 1) th deep w′ _
           (evacuation-evacuated (sizesOf p) w k t (depthOf (w .tables) t - 1) th deep fits w₁ w′ marks begin f′) enough few
@@ -187,12 +187,12 @@ module _ (p : Places) (e : p ≡ placesOf (sizesOf p)) (w : Words) (k : WholeFor
         full p e w k fits t th deep-enough (words W₁ (w .remember) T₁) M U fit (subst (λ (n : ℕ). p .entries < n) crossing-is m)
 
     pub goes-on : crossing ≤ p .entries
-        → Before p (regionAt (sizesOf p) t (depthOf T₁ t)) (p .entries) (usedIn (w .remember)) (depthOf T₁ t) (regionAt (sizesOf p) t) W₁ T₁ (w .remember)
+        → Before p (regionAt (sizesOf p) t (depthOf T₁ t)) (p .entries) (usedIn (w .remember)) (depthOf T₁ t) (regionAt (sizesOf p) t) W₁ (w .remember) T₁
     goes-on m =
         asked p e w k fits t th deep-enough (words W₁ (w .remember) T₁) M fit (subst (λ (n : ℕ). n ≤ p .entries) crossing-is m)
 
     pub out-done : crossing ≤ p .entries → {W T M′ : List ℕ}
-        → Finished p (regionAt (sizesOf p) t (depthOf T₁ t)) (p .entries) (usedIn (w .remember)) (depthOf T₁ t) t (regionAt (sizesOf p) t) W₁ T₁ (w .remember) W T M′
+        → Finished p (regionAt (sizesOf p) t (depthOf T₁ t)) (p .entries) (usedIn (w .remember)) (depthOf T₁ t) t (regionAt (sizesOf p) t) W₁ (w .remember) T₁ W M′ T
         → DidHere (sizesOf p) w (endOf t) (words W M′ T) (done 0)
     out-done m {W} {T} {M′} f =
         did p e w k fits t th deep-enough (words W₁ (w .remember) T₁) M fit (subst (λ (n : ℕ). n ≤ p .entries) crossing-is m) (words W M′ T) f

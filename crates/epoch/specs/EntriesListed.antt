@@ -63,7 +63,7 @@ module _ (s : Sizes) (w : Words) (k : WholeFor s w) (space : Room (placesOf s) (
       (ap (λ (q : ℕ). ownerOf (placesOf s) (w₁ .tables) q) page ∙ owner-same M space (pageOf (cellOf x)) (o .used .page)) (getD (w .cells) x 0) (slot-ref x o)
       ∙ sym (slot-cross (placesOf s) (w .cells) (w .tables) x o)
 
-  pub listed : Listed (placesOf s) (s .entries) (usedIn (w .remember)) (w₁ .cells) (w₁ .tables) (w .remember)
+  pub listed : Listed (placesOf s) (s .entries) (usedIn (w .remember)) (w₁ .cells) (w .remember) (w₁ .tables)
   listed =
       record {
         slots = λ i l. slot-now (slotIn (w .remember) i) (entry-slot s w k i l);

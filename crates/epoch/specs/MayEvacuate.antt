@@ -23,7 +23,7 @@ use Rattle.epoch.specs.SpaceEnough.{space-enough}
 module _ (s : Sizes) (w : Words) (k : WholeFor s w) (space : Room (placesOf s) (length (w .tables))) (t j : ℕ) (th : t < s .threads) (deep : depthIn w t ≡ suc j)
     (w₁ : Words) (M : Marked s w (regionAt s t (suc j)) w₁) (pages : pagesNeeded s w t j ≤ pagesOwned s w 0) (entries : crossingAfter s w t j ≤ s .entries) where
   -- with the remember table as it was
-  pub before-same : Before (placesOf s) (regionAt s t (suc j)) (s .entries) (usedIn (w .remember)) (suc j) (regionAt s t) (w₁ .cells) (w₁ .tables) (w .remember)
+  pub before-same : Before (placesOf s) (regionAt s t (suc j)) (s .entries) (usedIn (w .remember)) (suc j) (regionAt s t) (w₁ .cells) (w .remember) (w₁ .tables)
   before-same =
       record {
         plan = plan s w k space t j th deep w₁ M pages;
@@ -39,6 +39,6 @@ module _ (s : Sizes) (w : Words) (k : WholeFor s w) (space : Room (placesOf s) (
       }
 
   -- with that of the marked words, which is the same
-  pub before : Before (placesOf s) (regionAt s t (suc j)) (s .entries) (usedIn (w₁ .remember)) (suc j) (regionAt s t) (w₁ .cells) (w₁ .tables) (w₁ .remember)
+  pub before : Before (placesOf s) (regionAt s t (suc j)) (s .entries) (usedIn (w₁ .remember)) (suc j) (regionAt s t) (w₁ .cells) (w₁ .remember) (w₁ .tables)
   before =
-      subst (λ (m : List ℕ). Before (placesOf s) (regionAt s t (suc j)) (s .entries) (usedIn m) (suc j) (regionAt s t) (w₁ .cells) (w₁ .tables) m) (sym (M .remember)) before-same
+      subst (λ (m : List ℕ). Before (placesOf s) (regionAt s t (suc j)) (s .entries) (usedIn m) (suc j) (regionAt s t) (w₁ .cells) m (w₁ .tables)) (sym (M .remember)) before-same

@@ -36,7 +36,7 @@ pub record Crossing (p : Places) (P : ℕ → Type 0) (W T : List ℕ) (x h : �
   pub kept : h ≢ 0
 
 -- the crossing slots of P can be appended to j entries
-pub record Appending (p : Places) (r n : ℕ) (P : ℕ → Type 0) (W T M : List ℕ) (j : ℕ) : Type 0 where
+pub record Appending (p : Places) (r n : ℕ) (P : ℕ → Type 0) (W M T : List ℕ) (j : ℕ) : Type 0 where
   pub long : 2 + 2 * n ≤ length M
   pub low : j ≤ n
   pub listed : (y : ℕ) → y < j → Crosses p r W T (slotIn M y)
@@ -45,7 +45,7 @@ pub record Appending (p : Places) (r n : ℕ) (P : ℕ → Type 0) (W T M : List
   pub apart : (x : ℕ) → P x → (y : ℕ) → y < j → slotIn M y ≢ x
   pub space : (k : ℕ) (at : ℕ → ℕ) → ((i : ℕ) → i < k → Crosses p r W T (at i)) → ((a b : ℕ) → a < b → b < k → at a ≢ at b) → k ≤ n
 
-pub append-room : {p : Places} {r n : ℕ} {P : ℕ → Type 0} {W T M : List ℕ} {j : ℕ} → Appending p r n P W T M j → (x : ℕ) → P x → crossAt p W T x ≢ 0 → j < n
+pub append-room : {p : Places} {r n : ℕ} {P : ℕ → Type 0} {W T M : List ℕ} {j : ℕ} → Appending p r n P W M T j → (x : ℕ) → P x → crossAt p W T x ≢ 0 → j < n
 append-room {p} {r} {n} {P} {W} {T} {M} {j} a x q ne =
     omega (arith, a .space (j + 1) at (λ i l. all i l (decLt i j)) (λ u v l m. different u v l m (decLt v j)))
   where
@@ -67,8 +67,8 @@ append-room {p} {r} {n} {P} {W} {T} {M} {j} a x q ne =
     different u v l m (no w) = λ e. a .apart x q u (omega arith) (sym (old u (omega arith)) ∙ e ∙ last v (omega arith))
 
 -- after those of Q came, those of R can
-pub appending-next : {p : Places} {r n : ℕ} {P Q R : ℕ → Type 0} {W T M M′ : List ℕ} {i j : ℕ} → Appending p r n P W T M i → Added n (Crossing p Q W T) i j M M′
-    → ((x : ℕ) → Q x → P x) → ((x : ℕ) → R x → P x) → ((x : ℕ) → Q x → R x → ⊥) → Appending p r n R W T M′ j
+pub appending-next : {p : Places} {r n : ℕ} {P Q R : ℕ → Type 0} {W T M M′ : List ℕ} {i j : ℕ} → Appending p r n P W M T i → Added n (Crossing p Q W T) i j M M′
+    → ((x : ℕ) → Q x → P x) → ((x : ℕ) → R x → P x) → ((x : ℕ) → Q x → R x → ⊥) → Appending p r n R W M′ T j
 appending-next {p} {r} {n} {P} {Q} {R} {W} {T} {M} {M′} {i} {j} a b fq fr apart =
     record {
       long = omega (arith, a .long, b .size);
@@ -102,10 +102,10 @@ appending-next {p} {r} {n} {P} {Q} {R} {W} {T} {M} {M′} {i} {j} a b fq fr apar
 
 -- ---- the fields of one cell
 
-pub cell-start : (p : Places) (n d j : ℕ) (W T M : List ℕ) → j ≤ n → Added n (Crossing p (Field d 0) W T) j j M M
-cell-start p n d j W T M l = added-none (Crossing p (Field d 0) W T) j M l (λ x h q. omega (arith, q .at .low))
+pub cell-start : (p : Places) (n d j : ℕ) (W M T : List ℕ) → j ≤ n → Added n (Crossing p (Field d 0) W T) j j M M
+cell-start p n d j W M T l = added-none (Crossing p (Field d 0) W T) j M l (λ x h q. omega (arith, q .at .low))
 
-module _ {p : Places} {r n d k f i j : ℕ} {W T M M′ : List ℕ} (few : k ≤ 14) (a : Appending p r n (Field d k) W T M i) (lt : f < k)
+module _ {p : Places} {r n d k f i j : ℕ} {W T M M′ : List ℕ} (few : k ≤ 14) (a : Appending p r n (Field d k) W M T i) (lt : f < k)
     (h : Added n (Crossing p (Field d f) W T) i j M M′) where
   here : ℕ
   here = 16 * d + 2 + f
@@ -164,7 +164,7 @@ lift f x h q = record { at = f x (q .at); region = q .region; kept = q .kept }
 
 -- x is word 1 of the old cell, as the code read it
 module _ {p : Places} {r n c i j : ℕ} {P P′ Q : ℕ → Type 0} {W T M M′ : List ℕ} (w : Wiring p r Q W T) (g : Grown P c P′) (among : (y : ℕ) → P′ y → Q y)
-    (a : Appending p r n (CopySlot p r Q W T) W T M i) (h : Added n (Crossing p (CopySlot p r P W T) W T) i j M M′) (x : ℕ) (e : x ≡ workOf W c)
+    (a : Appending p r n (CopySlot p r Q W T) W M T i) (h : Added n (Crossing p (CopySlot p r P W T) W T) i j M M′) (x : ℕ) (e : x ≡ workOf W c)
     (u : Old p r W T c) where
   one : (y : ℕ) → Field (x - 1) (refsOf W (x - 1)) y → CopySlot p r (λ z. z ≡ c) W T y
   one y f = record { cell = c; among = refl; old = u; field = subst (λ (z : ℕ). Field (z - 1) (refsOf W (z - 1)) y) e f }
@@ -177,7 +177,7 @@ module _ {p : Places} {r n c i j : ℕ} {P P′ Q : ℕ → Type 0} {W T M M′ 
       slots-apart w (s .cell) c y (among (s .cell) (g .keeps (s .cell) (s .among))) (among c (g .here)) (s .old) (q .old) (s .field) (q .field) in
       g .new (subst P z (s .among))
 
-  pub cell-appending : Appending p r n (Field (x - 1) (refsOf W (x - 1))) W T M′ j
+  pub cell-appending : Appending p r n (Field (x - 1) (refsOf W (x - 1))) W M′ T j
   cell-appending =
       appending-next a h (slot-less (λ z m. among z (g .keeps z m))) (λ y f. slot-less (λ z m. subst Q (sym m) (among c (g .here))) y (one y f)) cells-apart
 
@@ -217,12 +217,12 @@ page-added {left = left} q z h =
 
 -- ---- all pages
 
-pub copies-begin : (p : Places) (r n a j : ℕ) (W T M : List ℕ) → j ≤ n → Added n (Crossing p (CopySlot p r (Between a a) W T) W T) j j M M
-copies-begin p r n a j W T M l =
+pub copies-begin : (p : Places) (r n a j : ℕ) (W M T : List ℕ) → j ≤ n → Added n (Crossing p (CopySlot p r (Between a a) W T) W T) j j M M
+copies-begin p r n a j W M T l =
     added-none (Crossing p (CopySlot p r (Between a a) W T) W T) j M l (λ x h q. omega (arith, q .at .among .0, q .at .among .1))
 
 module _ {p : Places} {r n q i j : ℕ} {W T M M′ : List ℕ} (w : Wiring p r (Between 0 (16 * p .pages)) W T) (lt : q < p .pages)
-    (a : Appending p r n (CopySlot p r (Between 0 (16 * p .pages)) W T) W T M i)
+    (a : Appending p r n (CopySlot p r (Between 0 (16 * p .pages)) W T) W M T i)
     (h : Added n (Crossing p (CopySlot p r (Between 0 (16 * q)) W T) W T) i j M M′) where
   pages-apart : (x : ℕ) → CopySlot p r (Between 0 (16 * q)) W T x → CopySlot p r (Between (16 * q) (16 * (q + 1))) W T x → ⊥
   pages-apart x s′ s =
@@ -233,7 +233,7 @@ module _ {p : Places} {r n q i j : ℕ} {W T M M′ : List ℕ} (w : Wiring p r 
       slots-apart w (s .cell) (s′ .cell) x (omega arith, omega arith) (omega arith, omega arith) (s .old) (s′ .old) (s .field) (s′ .field) in
       omega arith
 
-  pub page-appending : Appending p r n (CopySlot p r (Between (16 * q) (16 * (q + 1))) W T) W T M′ j
+  pub page-appending : Appending p r n (CopySlot p r (Between (16 * q) (16 * (q + 1))) W T) W M′ T j
   page-appending =
       appending-next a h (λ x s. slot-less (λ y l. (l .0, omega (arith, l .1))) x s) (λ x s. slot-less (λ y l. (omega arith, omega (arith, l .1))) x s)
       pages-apart

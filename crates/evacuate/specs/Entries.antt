@@ -182,7 +182,7 @@ added-like a from to =
 
 -- ---- the entries that stay, of the first i
 
-pub record Stays (p : Places) (r n : ℕ) (W T M : List ℕ) (i x h : ℕ) : Type 0 where
+pub record Stays (p : Places) (r n : ℕ) (W M T : List ℕ) (i x h : ℕ) : Type 0 where
   pub entry : ℕ
   pub low : entry < i
   pub slot : slotIn M entry ≡ x
@@ -198,11 +198,11 @@ pub record Entries (p : Places) (r n m : ℕ) (W M : List ℕ) : Type 0 where
   pub once : (i j : ℕ) → i < j → j < m → slotIn M i ≢ slotIn M j
   pub names : (i : ℕ) → i < m → slotRegionIn n M i ≡ r → Names p (getD W (slotIn M i) 0)
 
-pub filter-start : (p : Places) (r n : ℕ) (W T M : List ℕ) → Added n (Stays p r n W T M 0) 0 0 M M
-filter-start p r n W T M = added-none (Stays p r n W T M 0) 0 M (omega arith) (λ x h q. omega (arith, q .low))
+pub filter-start : (p : Places) (r n : ℕ) (W M T : List ℕ) → Added n (Stays p r n W M T 0) 0 0 M M
+filter-start p r n W M T = added-none (Stays p r n W M T 0) 0 M (omega arith) (λ x h q. omega (arith, q .low))
 
 module _ {p : Places} {r n m i j : ℕ} {W T M M′ : List ℕ} (a : Entries p r n m W M) (lt : i < m) (le : j ≤ i)
-    (h : Added n (Stays p r n W T M i) 0 j M M′) where
+    (h : Added n (Stays p r n W M T i) 0 j M M′) where
   -- entry i as it is read is as it was
   pub read-slot : slotIn M′ i ≡ slotIn M i
   read-slot = slot-above h i le (omega (arith, a .few))
@@ -212,7 +212,7 @@ module _ {p : Places} {r n m i j : ℕ} {W T M M′ : List ℕ} (a : Entries p r
 
   -- v is the new region that the code found of it, s its slot
   pub filter-keep : (s v : ℕ) → s ≡ slotIn M′ i → v ≡ newRegion p r W T (slotIn M′ i) (slotRegionIn n M′ i) → v ≢ 0
-      → Added n (Stays p r n W T M (i + 1)) 0 (j + 1) M (set (set M′ (2 + j) s) (2 + n + j) v)
+      → Added n (Stays p r n W M T (i + 1)) 0 (j + 1) M (set (set M′ (2 + j) s) (2 + n + j) v)
   filter-keep s v es ev ne =
       added-join h (added-one j s v M′ (omega (arith, a .few)) (omega (arith, a .long, h .size)))
       (λ x g k q e. a .once (q .entry) i (q .low) lt (q .slot ∙ e .0 ∙ slot′))
@@ -233,7 +233,7 @@ module _ {p : Places} {r n m i j : ℕ} {W T M M′ : List ℕ} (a : Entries p r
       value : v ≡ newRegion p r W T (slotIn M i) (slotRegionIn n M i)
       value = ev ∙ ap₂ (λ (x y : ℕ). newRegion p r W T x y) read-slot read-region
 
-      from : (x g : ℕ) (q : Stays p r n W T M (i + 1) x g) → Dec (q .entry ≡ i) → Stays p r n W T M i x g ⊎ ((x ≡ s) × (g ≡ v))
+      from : (x g : ℕ) (q : Stays p r n W M T (i + 1) x g) → Dec (q .entry ≡ i) → Stays p r n W M T i x g ⊎ ((x ≡ s) × (g ≡ v))
       from x g q (yes z) =
           inr (
             sym (q .slot) ∙ ap (λ (y : ℕ). slotIn M y) z ∙ sym slot′,
@@ -241,7 +241,7 @@ module _ {p : Places} {r n m i j : ℕ} {W T M M′ : List ℕ} (a : Entries p r
           )
       from x g q (no z) = inl (record { entry = q .entry; low = omega (arith, q .low); slot = q .slot; region = q .region; kept = q .kept })
 
-  pub filter-drop : (v : ℕ) → v ≡ newRegion p r W T (slotIn M′ i) (slotRegionIn n M′ i) → v ≡ 0 → Added n (Stays p r n W T M (i + 1)) 0 j M M′
+  pub filter-drop : (v : ℕ) → v ≡ newRegion p r W T (slotIn M′ i) (slotRegionIn n M′ i) → v ≡ 0 → Added n (Stays p r n W M T (i + 1)) 0 j M M′
   filter-drop v ev z =
       added-like h (λ x g q. from x g q (ℕ-discrete (q .entry) i))
       (λ x g q. record { entry = q .entry; low = omega (arith, q .low); slot = q .slot; region = q .region; kept = q .kept })
@@ -249,7 +249,7 @@ module _ {p : Places} {r n m i j : ℕ} {W T M M′ : List ℕ} (a : Entries p r
       value : newRegion p r W T (slotIn M i) (slotRegionIn n M i) ≡ 0
       value = sym (ev ∙ ap₂ (λ (x y : ℕ). newRegion p r W T x y) read-slot read-region) ∙ z
 
-      from : (x g : ℕ) (q : Stays p r n W T M (i + 1) x g) → Dec (q .entry ≡ i) → Stays p r n W T M i x g
+      from : (x g : ℕ) (q : Stays p r n W M T (i + 1) x g) → Dec (q .entry ≡ i) → Stays p r n W M T i x g
       from x g q (yes e) = absurd (q .kept (q .region ∙ ap (λ (y : ℕ). newRegion p r W T (slotIn M y) (slotRegionIn n M y)) e ∙ value))
       from x g q (no e) = record { entry = q .entry; low = omega (arith, q .low); slot = q .slot; region = q .region; kept = q .kept }
 

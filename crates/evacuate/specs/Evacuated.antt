@@ -40,7 +40,7 @@ abbrev pub homeAfter : Places → ℕ → List ℕ → List ℕ → ℕ → ℕ
 homeAfter p r W T c = cond (eqb (ownerOf p T (c / 16)) r) (workOf W c) (ownerOf p T (c / 16))
 
 -- r's thread is t; every word that lives on, is freed or never changes
-pub record Evacuated (p : Places) (r t : ℕ) (W T M W′ T′ M′ : List ℕ) : Type 0 where
+pub record Evacuated (p : Places) (r t : ℕ) (W M T W′ M′ T′ : List ℕ) : Type 0 where
   -- the cells in use are those of the objects that live on, each once, in their regions; a survivor took a cell that was not in use
   pub goes : (c : ℕ) → Lives p r T c → InUse p T′ (cellAfter p r T W′ c)
   pub home : (c : ℕ) → Lives p r T c → ownerOf p T′ (cellAfter p r T W′ c / 16) ≡ homeAfter p r W T c
@@ -90,8 +90,8 @@ regular-like {p} {T} {T′} size eo eu ec r =
           partial = record { owner = sym (eo a (w .low)) ∙ w .partial .owner; part = omega (arith, eu a (w .low), w .partial .part) };
         }
 
-module _ {p : Places} {r n m l t : ℕ} {gs : ℕ → ℕ} {W T M W′ T′ M′ : List ℕ} (b : Before p r n m l gs W T M)
-    (f : Finished p r n m l t gs W T M W′ T′ M′) (real : 1 ≤ r) (low : r ≤ regionsOf p) (thread : t < p .threads) where
+module _ {p : Places} {r n m l t : ℕ} {gs : ℕ → ℕ} {W T M W′ T′ M′ : List ℕ} (b : Before p r n m l gs W M T)
+    (f : Finished p r n m l t gs W M T W′ M′ T′) (real : 1 ≤ r) (low : r ≤ regionsOf p) (thread : t < p .threads) where
   a₀ : Ready p W T
   a₀ = b .plan .ready
 
@@ -309,7 +309,7 @@ module _ {p : Places} {r n m l t : ℕ} {gs : ℕ → ℕ} {W T M W′ T′ M′
       d : 16 * q / 16 ≡ q
       d = omega arith
 
-  pub finished-evacuated : Evacuated p r t W T M W′ T′ M′
+  pub finished-evacuated : Evacuated p r t W M T W′ M′ T′
   finished-evacuated =
       record {
         goes = λ c v. by-owner (λ d. InUse p T′ d) c (in-goes c v) (out-goes c v);

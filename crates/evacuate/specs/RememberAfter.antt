@@ -27,8 +27,8 @@ other-than : (w h : ℕ) → other w h ≡ otherThan w h
 unfolding otherThan
 other-than w h = refl
 
-module _ {p : Places} {r m l t : ℕ} {gs : ℕ → ℕ} {W T M W′ T′ M′ : List ℕ} (b : Before p r (p .entries) m l gs W T M)
-    (f : Finished p r (p .entries) m l t gs W T M W′ T′ M′) (high : 1 < r) (low : r ≤ regionsOf p) (thread : t < p .threads) where
+module _ {p : Places} {r m l t : ℕ} {gs : ℕ → ℕ} {W T M W′ T′ M′ : List ℕ} (b : Before p r (p .entries) m l gs W M T)
+    (f : Finished p r (p .entries) m l t gs W M T W′ M′ T′) (high : 1 < r) (low : r ≤ regionsOf p) (thread : t < p .threads) where
   real : 1 ≤ r
   real = omega arith
 
@@ -74,7 +74,7 @@ module _ {p : Places} {r m l t : ℕ} {gs : ℕ → ℕ} {W T M W′ T′ M′ :
   page-of x n = subst (λ (y : ℕ). ownerOf p (f .tables) y ≢ r) (let e : x / 256 ≡ x / 16 / 16 = omega arith in e) n
 
   -- an entry of the new table
-  entry-crosses : (x h : ℕ) → Entry p r (p .entries) m W′ (f .tables) M x h → Crosses p r W′ (f .tables) x × (h ≡ crossAt p W′ (f .tables) x)
+  entry-crosses : (x h : ℕ) → Entry p r (p .entries) m W′ M (f .tables) x h → Crosses p r W′ (f .tables) x × (h ≡ crossAt p W′ (f .tables) x)
   entry-crosses x h (inl q) = entry-cross (b .start) a₀ a₁ (f .forwards) (f .rewritten) (b .listed) x h q
   entry-crosses x h (inr q) =
       (copies-cross (b .start) a₀ a₁ (f .forwards) (f .rewritten) x (slot-then (f .rewritten) x (q .at)) (λ z. q .kept (q .region ∙ z)), q .region)
@@ -121,7 +121,7 @@ module _ {p : Places} {r m l t : ℕ} {gs : ℕ → ℕ} {W T M W′ T′ M′ :
           let y = f .remember .every q (crossAt p W′ (f .tables) q) (entry q c) in
           (y .0, y .1, y .2)
         where
-          entry : (q : ℕ) → Crosses p r W′ (f .tables) q → Entry p r (p .entries) m W′ (f .tables) M q (crossAt p W′ (f .tables) q)
+          entry : (q : ℕ) → Crosses p r W′ (f .tables) q → Entry p r (p .entries) m W′ M (f .tables) q (crossAt p W′ (f .tables) q)
           entry q c =
               ⊎-elim inl (λ k. inr (record { at = slot-now (f .rewritten) q (k .at); region = k .region; kept = k .kept }))
               (all-listed (b .start) a₀ a₁ (f .forwards) (f .rewritten) (b .listed) high q c)

@@ -21,7 +21,7 @@ pub record Remembered (r n m : ℕ) (M : List ℕ) (x : ℕ) : Type 0 where
   pub region : slotRegionIn n M entry ≡ r
   pub slot : slotIn M entry ≡ x
 
-pub record Slots (p : Places) (r n m : ℕ) (M W : List ℕ) : Type 0 where
+pub record Slots (p : Places) (r n m : ℕ) (W M : List ℕ) : Type 0 where
   pub few : m ≤ n
   pub long : 2 + 2 * n ≤ length M
   pub pages : p .pages ≤ 1024
@@ -31,7 +31,7 @@ pub record Slots (p : Places) (r n m : ℕ) (M W : List ℕ) : Type 0 where
   pub once : (i j : ℕ) → i < j → j < m → slotIn M i ≢ slotIn M j
   pub names : (i : ℕ) → i < m → slotRegionIn n M i ≡ r → Names p (getD W (slotIn M i) 0)
 
-module _ {p : Places} {r n m : ℕ} {M T W W′ : List ℕ} {i : ℕ} (a : Slots p r n m M W) (lt : i < m) (h : Rewritten p r (Remembered r n i M) T W W′) where
+module _ {p : Places} {r n m : ℕ} {M T W W′ : List ℕ} {i : ℕ} (a : Slots p r n m W M) (lt : i < m) (h : Rewritten p r (Remembered r n i M) T W W′) where
   fresh : Remembered r n i M (slotIn M i) → ⊥
   fresh q = a .once (q .entry) i (q .low) lt (q .slot)
 

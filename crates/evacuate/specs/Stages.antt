@@ -32,10 +32,10 @@ abbrev pub Space : (p : Places) (r n : ℕ) (W T : List ℕ) → Type 0
 Space p r n W T = (k : ℕ) (at : ℕ → ℕ) → ((i : ℕ) → i < k → Crosses p r W T (at i)) → ((a b : ℕ) → a < b → b < k → at a ≢ at b) → k ≤ n
 
 -- m entries of n are used; the survivors' targets are the gs below l
-pub record Before (p : Places) (r n m l : ℕ) (gs : ℕ → ℕ) (W T M : List ℕ) : Type 0 where
+pub record Before (p : Places) (r n m l : ℕ) (gs : ℕ → ℕ) (W M T : List ℕ) : Type 0 where
   pub plan : Plan p l gs W T
   pub start : Start p r (Remembered r n m M) W T
-  pub listed : Listed p n m W T M
+  pub listed : Listed p n m W M T
   pub once : (i j : ℕ) → i < j → j < m → slotIn M i ≢ slotIn M j
   pub few : m ≤ n
   pub small : n ≤ 4096
@@ -44,7 +44,7 @@ pub record Before (p : Places) (r n m l : ℕ) (gs : ℕ → ℕ) (W T M : List 
   pub variables : (i : ℕ) → i < p .threads * p .variables → varOf p T i ≢ 0 → Lives p r T (varOf p T i - 1)
   pub space : (W₁ T₁ W₃ : List ℕ) → Forwards p W T W₁ T₁ → Rewritten p r (λ x. Remembered r n m M x ⊎ Copies p r W₁ T₁ x) T₁ W₁ W₃ → Space p r n W₃ T₁
 
-module _ {p : Places} {r n m l : ℕ} {gs : ℕ → ℕ} {W T M W₁ T₁ : List ℕ} (b : Before p r n m l gs W T M) (c : Copy p l gs l W T W₁ T₁) where
+module _ {p : Places} {r n m l : ℕ} {gs : ℕ → ℕ} {W T M W₁ T₁ : List ℕ} (b : Before p r n m l gs W M T) (c : Copy p l gs l W T W₁ T₁) where
   F : Forwards p W T W₁ T₁
   F = copy-forwards (b .plan) c
 
@@ -58,7 +58,7 @@ module _ {p : Places} {r n m l : ℕ} {gs : ℕ → ℕ} {W T M W₁ T₁ : List
   low-slot i h = let t = b .listed .slots i h .used .page in omega arith
 
   -- ---- the remembered slots
-  pub slots-ask : Slots p r n m M W₁
+  pub slots-ask : Slots p r n m W₁ M
   slots-ask =
       record {
         few = b .few;
@@ -197,7 +197,7 @@ module _ {p : Places} {r n m l : ℕ} {gs : ℕ → ℕ} {W T M W₁ T₁ : List
             let g : getD W₃ (slotIn M i) 0 - 1 ≡ q .0 = omega (arith, q .1, ap (λ (z : ℕ). getD W₃ z 0) at) in
             subst (λ (z : ℕ). z / 16 < p .pages) (sym g) (q .2 .page)
 
-    pub update-ask : Updating p r n m W₃ T₁ M
+    pub update-ask : Updating p r n m W₃ M T₁
     update-ask =
         record {
           entries =
@@ -225,20 +225,20 @@ module _ {p : Places} {r n m l : ℕ} {gs : ℕ → ℕ} {W T M W₁ T₁ : List
       subst (λ (y : ℕ). Names p y) (sym (F .copying .rest (varAt p i) (inl (omega (arith, a₀ .regular .room))))) (λ ne. b .variables i l ne .used .page)
 
 -- the words after each stage: copied, remembered slots rewritten, copies' slots rewritten, remember table, variables, released
-pub record Finished (p : Places) (r n m l t : ℕ) (gs : ℕ → ℕ) (W T M W′ T′ M′ : List ℕ) : Type 0 where
+pub record Finished (p : Places) (r n m l t : ℕ) (gs : ℕ → ℕ) (W M T W′ M′ T′ : List ℕ) : Type 0 where
   pub cells : List ℕ
   pub tables : List ℕ
   pub vars : List ℕ
   pub copy : Copy p l gs l W T cells tables
   pub forwards : Forwards p W T cells tables
   pub rewritten : Rewritten p r (λ x. Remembered r n m M x ⊎ Copies p r cells tables x) tables cells W′
-  pub remember : Updated p r n m W′ tables M M′
+  pub remember : Updated p r n m W′ M tables M′
   pub variables : Variables p (p .threads * p .variables) r W′ tables vars
   pub ended : Ended p r t vars T′
 
-pub finished : {p : Places} {r n m l t : ℕ} {gs : ℕ → ℕ} {W T M W₁ T₁ W₂ W₃ T₂ T′ M′ : List ℕ} (b : Before p r n m l gs W T M) (c : Copy p l gs l W T W₁ T₁)
-    (R₂ : Rewritten p r (Remembered r n m M) T₁ W₁ W₂) → Rewritten p r (Copies p r W₂ T₁) T₁ W₂ W₃ → Updated p r n m W₃ T₁ M M′ → Variables p (p .threads * p .variables) r W₃ T₁ T₂
-    → Ended p r t T₂ T′ → Finished p r n m l t gs W T M W₃ T′ M′
+pub finished : {p : Places} {r n m l t : ℕ} {gs : ℕ → ℕ} {W T M W₁ T₁ W₂ W₃ T₂ T′ M′ : List ℕ} (b : Before p r n m l gs W M T) (c : Copy p l gs l W T W₁ T₁)
+    (R₂ : Rewritten p r (Remembered r n m M) T₁ W₁ W₂) → Rewritten p r (Copies p r W₂ T₁) T₁ W₂ W₃ → Updated p r n m W₃ M T₁ M′ → Variables p (p .threads * p .variables) r W₃ T₁ T₂
+    → Ended p r t T₂ T′ → Finished p r n m l t gs W M T W₃ M′ T′
 finished {W₁ = W₁} {T₁ = T₁} {T₂ = T₂} b c R₂ R₃ u w e =
     record {
       cells = W₁;
@@ -252,7 +252,7 @@ finished {W₁ = W₁} {T₁ = T₁} {T₂ = T₂} b c R₂ R₃ u w e =
       ended = e;
     }
 
-pub release-ask : {p : Places} {r n m l : ℕ} {gs : ℕ → ℕ} {W T M W₁ T₁ W₃ T₂ : List ℕ} (t : ℕ) (b : Before p r n m l gs W T M) (c : Copy p l gs l W T W₁ T₁)
+pub release-ask : {p : Places} {r n m l : ℕ} {gs : ℕ → ℕ} {W T M W₁ T₁ W₃ T₂ : List ℕ} (t : ℕ) (b : Before p r n m l gs W M T) (c : Copy p l gs l W T W₁ T₁)
     → t < p .threads → 1 ≤ depthOf T t → Variables p (p .threads * p .variables) r W₃ T₁ T₂ → Room p (length T₂) × (depthOf T₂ t ≡ depthOf T t)
 release-ask {p} t b c lt pos w =
     let room = b .plan .ready .regular .room in (

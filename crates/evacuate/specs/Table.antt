@@ -55,7 +55,7 @@ pub record IsSlot (p : Places) (W T : List ℕ) (x : ℕ) : Type 0 where
   pub field : 2 ≤ x % 16
   pub ref : x % 16 < refsOf W (x / 16) + 2
 
-pub record Listed (p : Places) (n m : ℕ) (W T M : List ℕ) : Type 0 where
+pub record Listed (p : Places) (n m : ℕ) (W M T : List ℕ) : Type 0 where
   pub slots : (i : ℕ) → i < m → IsSlot p W T (slotIn M i)
   pub right : (i : ℕ) → i < m → slotRegionIn n M i ≡ crossAt p W T (slotIn M i)
   pub real : (i : ℕ) → i < m → slotRegionIn n M i ≢ 0
@@ -63,7 +63,7 @@ pub record Listed (p : Places) (n m : ℕ) (W T M : List ℕ) : Type 0 where
 
 module _ {p : Places} {r n m : ℕ} {M W₀ T₀ W T W′ : List ℕ} (s : Start p r (Remembered r n m M) W₀ T₀) (a₀ : Ready p W₀ T₀) (a : Ready p W T)
     (F : Forwards p W₀ T₀ W T) (R : Rewritten p r (λ x. Remembered r n m M x ⊎ Copies p r W T x) T W W′)
-    (L : Listed p n m W₀ T₀ M) where
+    (L : Listed p n m W₀ M T₀) where
   -- an old slot is no slot of a copy
   pub no-copy : (x : ℕ) → InUse p T₀ (x / 16) → Copies p r W T x → ⊥
   no-copy x u q =
@@ -113,7 +113,7 @@ module _ {p : Places} {r n m : ℕ} {M W₀ T₀ W T W′ : List ℕ} (s : Start
         ∙ ap (λ (z : ℕ). crossOf p T (ownerOf p T (x / 256)) z) (sym word)
 
   -- an entry that stays names a crossing slot, with the right region
-  pub entry-cross : (x h : ℕ) → Stays p r n W′ T M m x h → Crosses p r W′ T x × (h ≡ crossAt p W′ T x)
+  pub entry-cross : (x h : ℕ) → Stays p r n W′ M T m x h → Crosses p r W′ T x × (h ≡ crossAt p W′ T x)
   entry-cross x h q = subst (λ (y : ℕ). Crosses p r W′ T y × (h ≡ crossAt p W′ T y)) (q .slot) (go (ℕ-discrete (ownerOf p T (y / 256)) r) (ℕ-discrete g r))
     where
       i : ℕ
@@ -158,15 +158,15 @@ module _ {p : Places} {r n m : ℕ} {M W₀ T₀ W T W′ : List ℕ} (s : Start
           let v = cross-value p T₀ (ownerOf p T₀ (slotIn M (q .entry) / 256)) (getD W₀ (slotIn M (q .entry)) 0) h hc (q .kept) in
           result out (same-cross (slotIn M (q .entry)) t (λ w z. ne (sym hg ∙ v .region ∙ z)) h (q .kept) hc)
 
-  pub entry-apart : (x h : ℕ) → Stays p r n W′ T M m x h → Copies p r W T x → ⊥
+  pub entry-apart : (x h : ℕ) → Stays p r n W′ M T m x h → Copies p r W T x → ⊥
   entry-apart x h q c =
       no-copy x (subst (λ (y : ℕ). InUse p T₀ (y / 16)) (q .slot) (L .slots (q .entry) (q .low) .used)) c
 
   -- every slot of an old cell that crosses after the end has an entry that stays
-  pub old-listed : (x : ℕ) → IsSlot p W₀ T₀ x → ownerOf p T (x / 256) ≢ r → 1 < r → crossAt p W′ T x ≢ 0 → Stays p r n W′ T M m x (crossAt p W′ T x)
+  pub old-listed : (x : ℕ) → IsSlot p W₀ T₀ x → ownerOf p T (x / 256) ≢ r → 1 < r → crossAt p W′ T x ≢ 0 → Stays p r n W′ M T m x (crossAt p W′ T x)
   old-listed x t out high ne = go (ℕ-discrete (getD W₀ x 0) 0) (ℕ-discrete (ownerOf p T₀ ((getD W₀ x 0 - 1) / 16)) r)
     where
-      stay : (h : ℕ) → h ≢ 0 → h ≡ crossAt p W₀ T₀ x → (h ≢ r → h ≡ crossAt p W′ T x) → Stays p r n W′ T M m x (crossAt p W′ T x)
+      stay : (h : ℕ) → h ≢ 0 → h ≡ crossAt p W₀ T₀ x → (h ≢ r → h ≡ crossAt p W′ T x) → Stays p r n W′ M T m x (crossAt p W′ T x)
       stay h nh e same =
           let l = L .every x t (λ z. nh (e ∙ z)) in
           let g : slotRegionIn n M (l .0) ≡ h = L .right (l .0) (l .1) ∙ ap (λ (y : ℕ). crossAt p W₀ T₀ y) (l .2) ∙ sym e in
@@ -189,7 +189,7 @@ module _ {p : Places} {r n m : ℕ} {M W₀ T₀ W T W′ : List ℕ} (s : Start
       out₀ : ownerOf p T₀ (x / 256) ≢ r
       out₀ = λ z. out (home x t ∙ z)
 
-      go : Dec (getD W₀ x 0 ≡ 0) → Dec (ownerOf p T₀ ((getD W₀ x 0 - 1) / 16) ≡ r) → Stays p r n W′ T M m x (crossAt p W′ T x)
+      go : Dec (getD W₀ x 0 ≡ 0) → Dec (ownerOf p T₀ ((getD W₀ x 0 - 1) / 16) ≡ r) → Stays p r n W′ M T m x (crossAt p W′ T x)
       go (no z) (yes own) =
           stay r (λ w. omega arith)
           (value-cross p T₀ (ownerOf p T₀ (x / 256)) (getD W₀ x 0) r (record { real = z; region = sym own; high = high; other = λ w. out₀ (sym w) }))
@@ -215,10 +215,10 @@ module _ {p : Places} {r n m : ℕ} {M W₀ T₀ W T W′ : List ℕ} (s : Start
           stay (crossAt p W′ T x) ne e (λ w. refl)
 
   -- every slot that crosses after the end is an entry of the new table
-  pub all-listed : 1 < r → (x : ℕ) → Crosses p r W′ T x → Stays p r n W′ T M m x (crossAt p W′ T x) ⊎ Crossing p (Copies p r W T) W′ T x (crossAt p W′ T x)
+  pub all-listed : 1 < r → (x : ℕ) → Crosses p r W′ T x → Stays p r n W′ M T m x (crossAt p W′ T x) ⊎ Crossing p (Copies p r W T) W′ T x (crossAt p W′ T x)
   all-listed high x q = ⊎-elim (λ u. inl (old u)) (λ u. inr (copy u)) (F .only (x / 16) (q .used))
     where
-      old : InUse p T₀ (x / 16) → Stays p r n W′ T M m x (crossAt p W′ T x)
+      old : InUse p T₀ (x / 16) → Stays p r n W′ M T m x (crossAt p W′ T x)
       old u =
           let e : 16 * (x / 16) ≡ 16 * (x / 16) + 0 = omega arith in
           let head : refsOf W′ (x / 16) ≡ refsOf W₀ (x / 16) =
@@ -247,7 +247,7 @@ module _ {p : Places} {r n m : ℕ} {M W₀ T₀ W T W′ : List ℕ} (s : Start
 
 -- ---- what Start asks of the remembered slots holds of a whole table
 
-module _ {p : Places} {r n m : ℕ} {W T M : List ℕ} (high : 1 < r) (L : Listed p n m W T M) where
+module _ {p : Places} {r n m : ℕ} {W T M : List ℕ} (high : 1 < r) (L : Listed p n m W M T) where
   pub remembered-old : (x : ℕ) → Remembered r n m M x → InUse p T (x / 16)
   remembered-old x q = subst (λ (y : ℕ). InUse p T (y / 16)) (q .slot) (L .slots (q .entry) (q .low) .used)
 

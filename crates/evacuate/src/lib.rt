@@ -20,9 +20,9 @@ pub fn evacuate(
     tables: &mut [u32],
     thread: usize,
 )
-    requires { ⌜ Before p (regionAt (sizesOf p) thread (depthOf (now tables) thread)) (p .entries) (usedIn (now remember)) (depthOf (now tables) thread) (regionAt (sizesOf p) thread) (now cells) (now tables) (now remember) ⌝ }
+    requires { ⌜ Before p (regionAt (sizesOf p) thread (depthOf (now tables) thread)) (p .entries) (usedIn (now remember)) (depthOf (now tables) thread) (regionAt (sizesOf p) thread) (now cells) (now remember) (now tables) ⌝ }
     requires { ⌜ (thread < p .threads) × (1 ≤ depthOf (now tables) thread) × (depthOf (now tables) thread ≤ p .depth) ⌝ }
-    ensures { λ _. ⌜ Finished p (regionAt (sizesOf p) thread (depthOf (now (tables .entry)) thread)) (p .entries) (usedIn (now (remember .entry))) (depthOf (now (tables .entry)) thread) thread (regionAt (sizesOf p) thread) (now (cells .entry)) (now (tables .entry)) (now (remember .entry)) (now (cells .exit)) (now (tables .exit)) (now (remember .exit)) ⌝ }
+    ensures { λ _. ⌜ Finished p (regionAt (sizesOf p) thread (depthOf (now (tables .entry)) thread)) (p .entries) (usedIn (now (remember .entry))) (depthOf (now (tables .entry)) thread) thread (regionAt (sizesOf p) thread) (now (cells .entry)) (now (remember .entry)) (now (tables .entry)) (now (cells .exit)) (now (remember .exit)) (now (tables .exit)) ⌝ }
 {
     let level = layout::wide(layout::tables::depth(p, tables, thread));
     let region = layout::regions::region_at(p, thread, level);

@@ -62,7 +62,7 @@ pub fn filter_entries(
 ) -> usize
     requires { ⌜ Entries p region (p .entries) used (now cells) (now remember) ⌝ }
     requires { ⌜ Room p (length (now tables)) ⌝ }
-    ensures { λ j. ⌜ Added (p .entries) (Stays p region (p .entries) (now (cells .entry)) (now (tables .entry)) (now (remember .entry)) used) 0 j (now (remember .entry)) (now (remember .exit)) ⌝ }
+    ensures { λ j. ⌜ Added (p .entries) (Stays p region (p .entries) (now (cells .entry)) (now (remember .entry)) (now (tables .entry)) used) 0 j (now (remember .entry)) (now (remember .exit)) ⌝ }
     ensures { λ j. ⌜ j ≤ used ⌝ }
 {
     let entries = p.entries;
@@ -106,7 +106,7 @@ pub fn remember_cell(
     cell: usize,
     j: usize,
 ) -> usize
-    requires { ⌜ Appending p region (p .entries) (Field cell (refsOf (now cells) cell)) (now cells) (now tables) (now remember) j ⌝ }
+    requires { ⌜ Appending p region (p .entries) (Field cell (refsOf (now cells) cell)) (now cells) (now remember) (now tables) j ⌝ }
     requires { ⌜ Fields p (refsOf (now cells) cell) cell (now cells) ⌝ }
     requires { ⌜ Room p (length (now tables)) ⌝ }
     ensures { λ i. ⌜ Added (p .entries) (Crossing p (Field cell (refsOf (now (cells .entry)) cell)) (now (cells .entry)) (now (tables .entry))) j i (now (remember .entry)) (now (remember .exit)) ⌝ }
@@ -143,7 +143,7 @@ pub fn remember_page(
     page: usize,
     j: usize,
 ) -> usize
-    requires { ⌜ Appending p region (p .entries) (CopySlot p region (Between (16 * page) (16 * (page + 1))) (now cells) (now tables)) (now cells) (now tables) (now remember) j ⌝ }
+    requires { ⌜ Appending p region (p .entries) (CopySlot p region (Between (16 * page) (16 * (page + 1))) (now cells) (now tables)) (now cells) (now remember) (now tables) j ⌝ }
     requires { ⌜ Wiring p region (Between (16 * page) (16 * (page + 1))) (now cells) (now tables) ⌝ }
     requires { ⌜ page < p .pages ⌝ }
     ensures { λ i. ⌜ Added (p .entries) (Crossing p (CopySlot p region (Between (16 * page) (16 * (page + 1))) (now (cells .entry)) (now (tables .entry))) (now (cells .entry)) (now (tables .entry))) j i (now (remember .entry)) (now (remember .exit)) ⌝ }
@@ -173,7 +173,7 @@ pub fn remember_copies(
     region: u32,
     j: usize,
 ) -> usize
-    requires { ⌜ Appending p region (p .entries) (CopySlot p region (Between 0 (16 * p .pages)) (now cells) (now tables)) (now cells) (now tables) (now remember) j ⌝ }
+    requires { ⌜ Appending p region (p .entries) (CopySlot p region (Between 0 (16 * p .pages)) (now cells) (now tables)) (now cells) (now remember) (now tables) j ⌝ }
     requires { ⌜ Wiring p region (Between 0 (16 * p .pages)) (now cells) (now tables) ⌝ }
     ensures { λ i. ⌜ Added (p .entries) (Crossing p (CopySlot p region (Between 0 (16 * p .pages)) (now (cells .entry)) (now (tables .entry))) (now (cells .entry)) (now (tables .entry))) j i (now (remember .entry)) (now (remember .exit)) ⌝ }
 {
@@ -195,8 +195,8 @@ fn larger(a: usize, b: usize) -> usize
 
 // The remember table after the end.
 pub fn update_remember(p: Places, cells: &[u32], remember: &mut [u32], tables: &[u32], region: u32)
-    requires { ⌜ Updating p region (p .entries) (usedIn (now remember)) (now cells) (now tables) (now remember) ⌝ }
-    ensures { λ _. ⌜ Updated p region (p .entries) (usedIn (now (remember .entry))) (now (cells .entry)) (now (tables .entry)) (now (remember .entry)) (now (remember .exit)) ⌝ }
+    requires { ⌜ Updating p region (p .entries) (usedIn (now remember)) (now cells) (now remember) (now tables) ⌝ }
+    ensures { λ _. ⌜ Updated p region (p .entries) (usedIn (now (remember .entry))) (now (cells .entry)) (now (remember .entry)) (now (tables .entry)) (now (remember .exit)) ⌝ }
 {
     let entries = p.entries;
     let used = layout::wide(layout::remember::used(remember));

@@ -30,7 +30,7 @@ pub fn forward_ref(p: Places, cells: &[u32], tables: &[u32], region: u32, x: u32
 
 // The remembered slots that point into the region.
 pub fn rewrite_slots(p: Places, cells: &mut [u32], remember: &[u32], tables: &[u32], region: u32)
-    requires { ⌜ Slots p region (p .entries) (usedIn (now remember)) (now remember) (now cells) ⌝ }
+    requires { ⌜ Slots p region (p .entries) (usedIn (now remember)) (now cells) (now remember) ⌝ }
     requires { ⌜ Room p (length (now tables)) ⌝ }
     ensures { λ _. ⌜ Rewritten p region (Remembered region (p .entries) (usedIn (now (remember .entry))) (now (remember .entry))) (now (tables .entry)) (now (cells .entry)) (now (cells .exit)) ⌝ }
 {

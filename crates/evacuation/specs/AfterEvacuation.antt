@@ -45,9 +45,9 @@ same-from n l k e h =
 
 module _ (s : Sizes) (w : Words) (whole : WholeFor s w) (t k : ℕ) (th : t < s .threads) (deep : depthIn w t ≡ suc k)
     (fits : length (w .tables) < 2 ^ 63) (w₁ w′ : Words) (m : Marked s w (regionAt s t (suc k)) w₁)
-    (b : Before (placesOf s) (regionAt s t (suc k)) (s .entries) (usedIn (w .remember)) (suc k) (regionAt s t) (w₁ .cells) (w₁ .tables) (w .remember))
-    (f : Finished (placesOf s) (regionAt s t (suc k)) (s .entries) (usedIn (w .remember)) (suc k) t (regionAt s t) (w₁ .cells) (w₁ .tables) (w .remember)
-    (w′ .cells) (w′ .tables) (w′ .remember)) where
+    (b : Before (placesOf s) (regionAt s t (suc k)) (s .entries) (usedIn (w .remember)) (suc k) (regionAt s t) (w₁ .cells) (w .remember) (w₁ .tables))
+    (f : Finished (placesOf s) (regionAt s t (suc k)) (s .entries) (usedIn (w .remember)) (suc k) t (regionAt s t) (w₁ .cells) (w .remember) (w₁ .tables)
+    (w′ .cells) (w′ .remember) (w′ .tables)) where
   rm : Room (placesOf s) (length (w .tables))
   rm = room s (length (w .tables)) (range s w whole) (tables-room s w whole) fits
 
@@ -57,7 +57,7 @@ module _ (s : Sizes) (w : Words) (whole : WholeFor s w) (t k : ℕ) (th : t < s 
   bounds : (1 ≤ regionAt s t (suc k)) × (regionAt s t (suc k) ≤ regionsOf (placesOf s))
   bounds = region-bounds (placesOf s) t (suc k) th low
 
-  E : ev.Evacuated (placesOf s) (regionAt s t (suc k)) t (w₁ .cells) (w₁ .tables) (w .remember) (w′ .cells) (w′ .tables) (w′ .remember)
+  E : ev.Evacuated (placesOf s) (regionAt s t (suc k)) t (w₁ .cells) (w .remember) (w₁ .tables) (w′ .cells) (w′ .remember) (w′ .tables)
   E = finished-evacuated b f (bounds .0) (bounds .1) th
 
   -- the map from the cells of survivors to their new cells

@@ -15,11 +15,11 @@ level c = let a = c .before .before .before .before .before .before .before .arg
 
 begun : (c : tie.After-region-at)
     → (let a = c .before .before .before .before .before .before .before .args in
-    Before (a .p) (c .region-at .result) (a .p .entries) (usedIn (a .remember .now)) (c .before .wide .result) (regionAt (sizesOf (a .p)) (a .thread)) (a .cells .now) (a .tables .now) (a .remember .now))
+    Before (a .p) (c .region-at .result) (a .p .entries) (usedIn (a .remember .now)) (c .before .wide .result) (regionAt (sizesOf (a .p)) (a .thread)) (a .cells .now) (a .remember .now) (a .tables .now))
 begun c =
     let a = c .before .before .before .before .before .before .before .args in
     subst₂
-    (λ (g l : ℕ). Before (a .p) g (a .p .entries) (usedIn (a .remember .now)) l (regionAt (sizesOf (a .p)) (a .thread)) (a .cells .now) (a .tables .now) (a .remember .now))
+    (λ (g l : ℕ). Before (a .p) g (a .p .entries) (usedIn (a .remember .now)) l (regionAt (sizesOf (a .p)) (a .thread)) (a .cells .now) (a .remember .now) (a .tables .now))
     (sym (level c)) (sym (c .before .wide .ensures ∙ c .before .before .depth .ensures)) (c .before .before .before .before .before .before .before .pre .0)
 
 depth-requires : tie.Need-depth-requires
@@ -99,7 +99,7 @@ returns c =
     let b = begun (c .before .before .before .before .before .before .before .before .before .before .before .before .before .before .before .before .before .before .before .before .before .before .before .before .before .before .before .before .before .before .before .before .before) in
     let k = copy-survivors .ensures in
     let F : ℕ → ℕ → Type 0 =
-    (λ g l. Finished (a .p) g (a .p .entries) (usedIn (a .remember .now)) l (a .thread) (regionAt (sizesOf (a .p)) (a .thread)) (a .cells .now) (a .tables .now) (a .remember .now) (rewrite-copies .last .1 .0) (c .before .before .release .last .1 .0) (update-remember .last .1 .1 .0)) in
+    (λ g l. Finished (a .p) g (a .p .entries) (usedIn (a .remember .now)) l (a .thread) (regionAt (sizesOf (a .p)) (a .thread)) (a .cells .now) (a .remember .now) (a .tables .now) (rewrite-copies .last .1 .0) (update-remember .last .1 .1 .0) (c .before .before .release .last .1 .0)) in
     subst₂ F (level (c .before .before .before .before .before .before .before .before .before .before .before .before .before .before .before .before .before .before .before .before .before .before .before .before .before .before .before .before .before .before .before .before .before)) (wide .ensures ∙ depth .ensures)
     (finished b k (rewrite-slots .ensures) (rewrite-copies .ensures) (update-remember .ensures) (rewrite-variables .ensures) (c .before .before .release .ensures))
 

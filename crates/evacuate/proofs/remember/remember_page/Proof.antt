@@ -76,7 +76,7 @@ remember-cell-requires c κs =
     let v : c .before .before .work .result ≡ workOf W (16 * b .page + i) = c .before .before .work .ensures ∙ ap (λ (x : ℕ). workOf W x) e in
     let g = passed-grown (b .page) i (l .left - 2 ^ i) f refl in
     let among = passed-within (b .page) (l .left - 2 ^ i) in (
-      subst (λ (d : ℕ). Appending (b .p) (b .region) (b .p .entries) (Field d (refsOf W d)) W T (l .remember) (l .i)) (sym (c .before .cell-named .ensures))
+      subst (λ (d : ℕ). Appending (b .p) (b .region) (b .p .entries) (Field d (refsOf W d)) W (l .remember) T (l .i)) (sym (c .before .cell-named .ensures))
           (cell-appending (pre .1 .0) g among (pre .0) (l .inv .3) (c .before .before .work .result) v u),
       (
         subst (λ (d : ℕ). Fields (b .p) (refsOf W d) d W) (sym (c .before .cell-named .ensures)) (cell-wired (pre .1 .0) g among (pre .0) (l .inv .3) (c .before .before .work .result) v u),

@@ -11,10 +11,10 @@ use Rattle.evacuate.proofs.remember.update_remember.Statement.{statemen
 use Rattle.evacuate.proofs.remember.update_remember.Tie as tie
 
 updating : (c : tie.After-wide)
-    → (let a = c .before .before .before .before .before .before .args in Updating (a .p) (a .region) (a .p .entries) (c .wide .result) (a .cells .now) (a .tables .now) (a .remember .now))
+    → (let a = c .before .before .before .before .before .before .args in Updating (a .p) (a .region) (a .p .entries) (c .wide .result) (a .cells .now) (a .remember .now) (a .tables .now))
 updating c =
     let a = c .before .before .before .before .before .before .args in
-    subst (λ (y : ℕ). Updating (a .p) (a .region) (a .p .entries) y (a .cells .now) (a .tables .now) (a .remember .now)) (sym (c .wide .ensures ∙ c .before .used .ensures)) (c .before .before .before .before .before .before .pre)
+    subst (λ (y : ℕ). Updating (a .p) (a .region) (a .p .entries) y (a .cells .now) (a .remember .now) (a .tables .now)) (sym (c .wide .ensures ∙ c .before .used .ensures)) (c .before .before .before .before .before .before .pre)
 
 used-requires : tie.Need-used-requires
 used-requires c κs = omega (arith, c .before .before .before .before .pre .entries .long)
@@ -61,8 +61,8 @@ returns c =
     let clear-entries = c .before .before .before .before .before .before .clear-entries in
     let a = c .before .before .before .before .before .before .before .before .before .before .before .before .before .before .before .before .before .before .before .before .before .before .before .args in
     let h = updated (updating (c .before .before .before .before .before .before .before .before .before .before .before .before .before .before .before .before .before)) (filter-entries .ensures .0) (filter-entries .ensures .1) (remember-copies .ensures) (larger .ensures) (clear-entries .ensures) refl in
-    subst (λ (X : List ℕ). Updated (a .p) (a .region) (a .p .entries) (usedIn (a .remember .now)) (a .cells .now) (a .tables .now) (a .remember .now) X) (sym (c .before .before .set-used .ensures))
-    (subst (λ (y : ℕ). Updated (a .p) (a .region) (a .p .entries) y (a .cells .now) (a .tables .now) (a .remember .now) (set (clear-entries .last .1 .0) 1 (remember-copies .result))) (wide .ensures ∙ used .ensures) h)
+    subst (λ (X : List ℕ). Updated (a .p) (a .region) (a .p .entries) (usedIn (a .remember .now)) (a .cells .now) (a .remember .now) (a .tables .now) X) (sym (c .before .before .set-used .ensures))
+    (subst (λ (y : ℕ). Updated (a .p) (a .region) (a .p .entries) y (a .cells .now) (a .remember .now) (a .tables .now) (set (clear-entries .last .1 .0) 1 (remember-copies .result))) (wide .ensures ∙ used .ensures) h)
 
 pub update-remember-spec : {M : Type 1} → statement M
 update-remember-spec =
