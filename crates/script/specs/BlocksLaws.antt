@@ -18,6 +18,7 @@ use Rattle.script.specs.declared.Filled.{Filled}
 use Rattle.script.specs.declared.Filled.the-variants.{Done, Full, Broken}
 use Rattle.script.specs.Reading.{started, stepOf}
 use Rattle.script.specs.TextLaws.{found, left}
+use Rattle.script.specs.FewCommands.{commandCount}
 use Rattle.script.specs.Blocks.{wordsPut, filled}
 use Rattle.script.specs.BlocksCases.{stepped, length-words}
 
@@ -180,21 +181,22 @@ length-found (b ∷ bs) r = go (stepOf r b) (λ s. length-found bs s)
     go (More s) h = omega (arith, h s)
     go (Ended l) h = omega (arith, h started)
 
--- a block with five words for each byte, and five more, is not filled
-pub never-full : (bs : List ℕ) (r : Reader) (at : ℕ) (block : List ℕ) (n : ℕ) → n + 5 * length bs + 5 ≤ length block
+-- a block with five words for each command, and five more, is not filled
+pub never-full : (bs : List ℕ) (r : Reader) (at : ℕ) (block : List ℕ) (n : ℕ) → n + 5 * commandCount (found r bs) + 5 ≤ length block
     → (e m : ℕ) → filled r bs at block n .0 ≡ Full e m → ⊥
-unfolding filled stepped
+unfolding filled stepped found commandCount
 never-full [] r at block n h e m q = let z : _≡_ {A = ℕ} 0 1 = cc in omega arith
-never-full (x ∷ xs) r at block n h e m q = go (stepOf r x) (λ s w k l. never-full xs s (at + 1) w k l e m) q
+never-full (x ∷ xs) r at block n h e m q = go (stepOf r x) h (λ s w k l. never-full xs s (at + 1) w k l e m) q
   where
-    ask : (code thread a b c : ℕ) (t : Bool) → ltb (length block) (n + 5 + 5) ≡ t
-        → ((s : Reader) (w : List ℕ) (k : ℕ) → k + 5 * length xs + 5 ≤ length w → filled s xs (at + 1) w k .0 ≡ Full e m → ⊥)
+    ask : (code thread a b c : ℕ) → n + 5 * suc (commandCount (found started xs)) + 5 ≤ length block → (t : Bool) → ltb (length block) (n + 5 + 5) ≡ t
+        → ((s : Reader) (w : List ℕ) (k : ℕ) → k + 5 * commandCount (found s xs) + 5 ≤ length w → filled s xs (at + 1) w k .0 ≡ Full e m → ⊥)
         → cond t (Full (at + 1) (n + 5), wordsPut block n code thread a b c) (filled started xs (at + 1) (wordsPut block n code thread a b c) (n + 5)) .0 ≡ Full e m → ⊥
-    ask code thread a b c true q f z = omega (arith, ltb-true (length block) (n + 5 + 5) q)
-    ask code thread a b c false q f z = f started (wordsPut block n code thread a b c) (n + 5) (omega (arith, length-words block n code thread a b c)) z
+    ask code thread a b c l true q f z = omega (arith, ltb-true (length block) (n + 5 + 5) q)
+    ask code thread a b c l false q f z = f started (wordsPut block n code thread a b c) (n + 5) (omega (arith, length-words block n code thread a b c)) z
 
-    go : (y : Step) → ((s : Reader) (w : List ℕ) (k : ℕ) → k + 5 * length xs + 5 ≤ length w → filled s xs (at + 1) w k .0 ≡ Full e m → ⊥)
+    go : (y : Step) → n + 5 * commandCount (elim y as (λ z. List Line) [ More s ↦ found s xs | Ended l ↦ l ∷ found started xs ]) + 5 ≤ length block
+        → ((s : Reader) (w : List ℕ) (k : ℕ) → k + 5 * commandCount (found s xs) + 5 ≤ length w → filled s xs (at + 1) w k .0 ≡ Full e m → ⊥)
         → stepped y xs (at + 1) block n .0 ≡ Full e m → ⊥
-    go (More s) f q = f s block n (omega arith) q
-    go (Ended (Numbers code thread a b c)) f q = ask code thread a b c (ltb (length block) (n + 5 + 5)) refl f q
-    go (Ended Malformed) f q = let z : _≡_ {A = ℕ} 0 1 = cc in omega arith
+    go (More s) l f q = f s block n l q
+    go (Ended (Numbers code thread a b c)) l f q = ask code thread a b c l (ltb (length block) (n + 5 + 5)) refl f q
+    go (Ended Malformed) l f q = let z : _≡_ {A = ℕ} 0 1 = cc in omega arith

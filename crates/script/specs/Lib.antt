@@ -4,6 +4,7 @@ pub mod Reading
 pub mod ReadingCases
 pub mod LineLaws
 pub mod TextLaws
+pub mod FewCommands
 pub mod Writing
 pub mod WritingLaws
 pub mod Blocks

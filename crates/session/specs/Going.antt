@@ -57,7 +57,7 @@ unfolding takesAll
 line-takes-all [] x = omega arith
 line-takes-all (l ∷ ls) x = omega (arith, line-takes-all ls (takes x l), line-takes x l)
 
-pub line-fed : {m : Machine} {stage : Stage} {w w′ : Words} {bytes out after : List ℕ} {x : Fed} → At m stage w → Feeds m bytes out x after w′
+pub line-fed : {m : Machine} {stage : Stage} {w w′ : Words} {bytes out after : List ℕ} {x : Fed} → At m stage w → Feeds m bytes w out x after w′
     → lineOf (x .stage) ≤ lineOf stage + length bytes
 unfolding feed
 line-fed {m} {stage} {w} {w′} {bytes} {out} {after} {x} a f =

@@ -14,7 +14,7 @@ use Rattle.rules.specs.Rules.{Regioned}
 use Rattle.promises.specs.Words.{Words}
 use Rattle.promises.specs.Whole.{WholeWords}
 use Rattle.promises.specs.StandsFor.{StandsFor}
-use Rattle.promises.specs.Promises.{Chain, none, more, commandAt, answerAt, size, commandsIn, answersIn, RunAsked, notWhole, uneven, short, accepted, Ran}
+use Rattle.promises.specs.Promises.{Chain, none, more, commandAt, answerAt, size, commandsIn, answersIn, RunAsked, notWhole, uneven, short, accepted, Ran, Did}
 use Rattle.promises.specs.Agreed.{whole-words}
 use Rattle.promises.specs.Chained.{chained}
 use Rattle.script.specs.declared.Line.{Line}
@@ -25,13 +25,14 @@ use Rattle.script.specs.declared.Filled.the-variants.{Done, Full, Broken}
 use Rattle.script.specs.TextLaws.{found, left}
 use Rattle.script.specs.Writing.{Put, row, lineLine}
 use Rattle.script.specs.WritingLaws.{decimal-length, put-text, put-put}
+use Rattle.script.specs.FewCommands.{commandCount, count-append, commands-few}
 use Rattle.script.specs.Blocks.{stacked, answerLine, Took}
 use Rattle.script.specs.BlocksLaws as sb
-use Rattle.script.specs.BlocksLaws.{usedIn, Follow, block-reads, length-found, never-full}
+use Rattle.script.specs.BlocksLaws.{usedIn, Follow, block-reads, never-full}
 use Rattle.session.specs.declared.Stage.the-variants.{Running, Stopped}
 use Rattle.session.specs.Printed.{Session, running, stopped, answerText, takes, prints, takesAll, printsAll}
 use Rattle.session.specs.Pieces.{machine, feed, feedPrints, takes-append, prints-append}
-use Rattle.session.specs.Stages.{Lent, Holds, stageOf, Feeds, Room, Counted, Answered, answersText}
+use Rattle.session.specs.Stages.{Lent, Holds, stageOf, Changes, ChangesAll, Feeds, mostPrinted, Room, Counted, asLine, Answered, answersText}
 
 answers-append : (as′ : List Answer) (a : Answer) → answersText (as′ ++ a ∷ []) ≡ answersText as′ ++ answerText a
 unfolding answersText
@@ -49,6 +50,27 @@ chain-lent s none l = l
 chain-lent s (more d c) l =
     chain-lent s c (record { cells = d .beyond .cells .long ∙ l .cells; remember = d .beyond .remember .long ∙ l .remember; tables = d .beyond .tables .long ∙ l .tables })
 
+-- each command of the chain is a line that changes the words
+chain-changes : (s : Sizes) {w w′ : Words} {ms : List Command} {as′ : List Answer} → Chain s w ms as′ w′ → (h : Regioned) (cellOf : ℕ → ℕ) → StandsFor s w h cellOf
+    → (line : ℕ) → ChangesAll (running s h line) (map asLine ms) w w′
+unfolding ChangesAll Changes takes
+chain-changes s none h cellOf st line = refl
+chain-changes s (more {w} {w₁} {w′} {m} {a} d c) h cellOf st line =
+    let n = d .next h cellOf st in
+    (w₁, subst (λ (x : Answer). Did s w m w₁ x) (d .answer h cellOf st) d, chain-changes s c (ru.step s h m .next) (n .cell) (n .stands) (line + 1))
+
+-- the words after some lines, and then after others
+pub changes-append : (ls ks : List Line) (x : Session) (w v w′ : Words) → ChangesAll x ls w v → ChangesAll (takesAll x ls) ks v w′ → ChangesAll x (ls ++ ks) w w′
+unfolding ChangesAll takesAll
+changes-append [] ks x w v w′ e c = subst (λ (u : Words). ChangesAll x ks u w′) e c
+changes-append (l ∷ ls) ks x w v w′ e c = (e .0, e .1, changes-append ls ks (takes x l) (e .0) v w′ (e .2) c)
+
+-- a stopped program changes none
+pub changes-stopped : (ls : List Line) (w : Words) → ChangesAll stopped ls w w
+unfolding ChangesAll Changes takes
+changes-stopped [] w = refl
+changes-stopped (l ∷ ls) w = (w, refl, changes-stopped ls w)
+
 -- a run of whole tables on whole commands is accepted
 ran-accepted : {w w′ : Words} {block lent answers : List ℕ} {q : ℕ} → WholeWords w → length block % 5 ≡ 0 → 2 * size block ≤ length lent → Ran w block lent q w′ answers → q ≡ 0
 ran-accepted {w} {w′} {block} {lent} {answers} {q} k e l r = go (r .asked)
@@ -59,12 +81,12 @@ ran-accepted {w} {w′} {block} {lent} {answers} {q} k e l r = go (r .asked)
     go (short f g m n) = absurd (let z : ⊥ = omega arith in z)
     go (accepted f g m n) = f
 
-pub answered : {w w′ : Words} {block lent answers out after : List ℕ} {q end : ℕ} (used : ℕ) → Counted used block lent out
+pub answered : {w w′ : Words} {block lent answers out after : List ℕ} {q end : ℕ} (used : ℕ) → Counted used block out → length lent ≡ 3278
     → Ran w (take used block) lent q w′ answers → Put out 0 (stacked (answerLine answers) (used / 5)) after end
     → (s : Sizes) (h : Regioned) (cellOf : ℕ → ℕ) → StandsFor s w h cellOf → Answered s h (take used block) w out end after w′
-answered {w} {w′} {block} {lent} {answers} {out} {after} {q} {end} used room ran put s h cellOf st =
+answered {w} {w′} {block} {lent} {answers} {out} {after} {q} {end} used room enough ran put s h cellOf st =
     let long : length (take used block) ≡ used = length-take-le used block (room .words) in
-    let z : q ≡ 0 = ran-accepted (whole-words s w (st .whole)) (ap (λ (n : ℕ). n % 5) long ∙ room .even) (omega (arith, long, room .answer-room)) ran in
+    let z : q ≡ 0 = ran-accepted (whole-words s w (st .whole)) (ap (λ (n : ℕ). n % 5) long ∙ room .even) (omega (arith, long, room .few)) ran in
     let c : Chain s w (commandsIn (take used block)) (answersIn (take used block) answers) w′ = subst (λ (x : Sizes). Chain x w (commandsIn (take used block)) (answersIn (take used block) answers) w′) (st .whole .sized) (ran .obeyed z) in
     let k = chained s c h cellOf st in
     record {
@@ -72,12 +94,10 @@ answered {w} {w′} {block} {lent} {answers} {out} {after} {q} {end} used room r
       cell = k .cell;
       stands = k .stands;
       lent = chain-lent s c;
+      changes = chain-changes s c h cellOf st;
     }
 
 -- ---- the commands of a piece
-
-abbrev asLine : Command → Line
-asLine m = Numbers (m .code) (m .thread) (m .a) (m .b) (m .c)
 
 module _ (s : Sizes) where
   takes-commands : (ms : List Command) (h : Regioned) (k : ℕ) → takesAll (running s h k) (map asLine ms) ≡ running s (ru.run s h ms .last) (k + length ms)
@@ -116,10 +136,10 @@ lines-are block zero = refl
 lines-are block (suc k) =
     lines-last block k 0 ∙ ap₂ (λ (ls : List Line) (i : ℕ). ls ++ sb.commandAt block i ∷ []) (lines-are block k) (let e : 0 + 5 * k ≡ 5 * k = omega arith in e)
 
-length-lines : (block : List ℕ) (k n : ℕ) → length (sb.commandsIn block n k) ≡ k
-unfolding sb.commandsIn
-length-lines block zero n = refl
-length-lines block (suc k) n = ap suc (length-lines block k (n + 5))
+count-lines : (block : List ℕ) (k n : ℕ) → commandCount (sb.commandsIn block n k) ≡ k
+unfolding sb.commandsIn commandCount
+count-lines block zero n = refl
+count-lines block (suc k) n = ap suc (count-lines block k (n + 5))
 
 module _ (block : List ℕ) (used count : ℕ) (e : used ≡ 5 * count) (h : used ≤ length block) where
   size-taken : size (take used block) ≡ count
@@ -154,50 +174,49 @@ line-length k h = simp length-append (omega (arith, decimal-length k h))
 pub record Read (r : Reader) (text : List ℕ) (from : ℕ) (x : Filled) (block : List ℕ) : Type 0 where
   pub count : ℕ
   pub used : usedIn x ≡ 5 * count
-  pub low : count ≤ length text
+  pub low : 10 * count ≤ length text + 9
   pub after : List Line
   pub lines : found r (drop from text) ≡ sb.commandsIn block 0 count ++ after
   pub follow : Follow x text after (left r (drop from text))
 
-pub was-read : {r : Reader} {text : List ℕ} {from : ℕ} {block answers out : List ℕ} {x : Filled} {after : List ℕ} → Room text block answers out
-    → Took r (drop from text) from block 0 x after → Read r text from x after
-was-read {r} {text} {from} {block} {x = x} {after = after} room t =
-    let k = block-reads r text from block 0 (omega (arith, room .words)) in
+pub was-read : {r : Reader} {text out : List ℕ} {from : ℕ} {block : List ℕ} {x : Filled} {after : List ℕ} → Room text out
+    → Took r (drop from text) from block 0 x after → length block ≡ 8200 → Read r text from x after
+was-read {r} {text} {from = from} {block} {x} {after} room t long =
+    let k = block-reads r text from block 0 (omega arith) in
     let lines : found r (drop from text) ≡ sb.commandsIn after 0 (k .count) ++ k .after = k .lines ∙ ap (λ (b : List ℕ). sb.commandsIn b 0 (k .count) ++ k .after) (sym (t .words)) in
     record {
       count = k .count;
       used = ap usedIn (t .answer) ∙ k .used ∙ (let e : 0 + 5 * k .count ≡ 5 * k .count = omega arith in e);
-      low = omega (arith, ap (length {A = Line}) lines, length-append (sb.commandsIn after 0 (k .count)) (k .after), length-lines after (k .count) 0, length-found (drop from text) r, length-drop from text);
+      low = omega (arith, ap commandCount lines, count-append (sb.commandsIn after 0 (k .count)) (k .after), count-lines after (k .count) 0, commands-few (drop from text) r, length-drop from text);
       after = k .after;
       lines = lines;
       follow = subst (λ (y : Filled). Follow y text (k .after) (left r (drop from text))) (sym (t .answer)) (k .follow);
     }
 
--- that is at most a command for each byte
+-- that is at most a command for every ten bytes, and one more
 pub record Few (used : ℕ) (text : List ℕ) : Type 0 where
   pub even : used % 5 ≡ 0
-  pub few : used ≤ 5 * length text
+  pub few : used / 5 ≤ (length text + 9) / 10
 
 pub was-few : {r : Reader} {text : List ℕ} {from : ℕ} {x : Filled} {block : List ℕ} {used : ℕ} → Read r text from x block → used ≡ usedIn x → Few used text
 was-few k e = record { even = omega (arith, k .used); few = omega (arith, k .used, k .low) }
 
-pub few-counted : {used : ℕ} {text block block′ answers out : List ℕ} → Few used text → length block′ ≡ length block → Room text block answers out
-    → Counted used block′ answers out
-few-counted f l room =
+pub few-counted : {used : ℕ} {text block out : List ℕ} → Few used text → length block ≡ 8200 → Room text out → Counted used block out
+few-counted f long room =
     record {
       even = f .even;
-      words = omega (arith, f .few, room .words);
-      answer-room = omega (arith, f .few, room .answer-room);
+      words = omega (arith, f .even, f .few, room .piece);
+      few = omega (arith, f .few, room .piece);
       text-room = omega (arith, f .few, room .text-room);
     }
 
-pub never : {r : Reader} {text : List ℕ} {from : ℕ} {block answers out : List ℕ} {x : Filled} {after : List ℕ} {e n : ℕ} → Room text block answers out
-    → Took r (drop from text) from block 0 x after → x ≡ Full e n → ⊥
-never {r} {text} {from} {block} {e = e} {n = n} room t q =
-    never-full (drop from text) r from block 0 (omega (arith, room .words, length-drop from text)) e n (sym (t .answer) ∙ q)
+pub never : {r : Reader} {text out : List ℕ} {from : ℕ} {block : List ℕ} {x : Filled} {after : List ℕ} {e n : ℕ} → Room text out
+    → Took r (drop from text) from block 0 x after → length block ≡ 8200 → x ≡ Full e n → ⊥
+never {r} {text} {from = from} {block} {e = e} {n = n} room t long q =
+    never-full (drop from text) r from block 0 (omega (arith, room .piece, commands-few (drop from text) r, length-drop from text)) e n (sym (t .answer) ∙ q)
 
 module _ {r : Reader} {text : List ℕ} {from : ℕ} {x : Filled} {block : List ℕ} (k : Read r text from x block) (s : Sizes) (h : Regioned) (line used : ℕ) (u : used ≡ usedIn x)
-    {answers lent-out : List ℕ} (counted : Counted used block answers lent-out) where
+    {lent-out : List ℕ} (counted : Counted used block lent-out) where
   abbrev bytes : List ℕ
   bytes = drop from text
 
@@ -224,10 +243,13 @@ module _ {r : Reader} {text : List ℕ} {from : ℕ} {x : Filled} {block : List 
       ∙ ap (λ (n : ℕ). answersText (ru.run s h ms .answers) ++ printsAll (running s (ru.run s h ms .last) (line + n)) (k .after)) length-ms
 
   module _ {w w′ : Words} {out out′ : List ℕ} {end : ℕ} (a : Answered s h (take used block) w out end out′ w′) (lent : Lent w) where
+    changed : ChangesAll (takesAll (running s h line) (map asLine ms)) (k .after) w′ w′ → ChangesAll (running s h line) (found r bytes) w w′
+    changed c = subst (λ (ls : List Line). ChangesAll (running s h line) ls w w′) (sym found-is) (changes-append (map asLine ms) (k .after) (running s h line) w w′ w′ (a .changes line) c)
+
     -- the piece ends inside a line, or between two
     pub obeyed-all : {next : Reader} {n : ℕ} → x ≡ Done next n
-        → Feeds (machine r (running s h line)) bytes out (record { stage = Running next (line + used / 5); length = end }) out′ w′
-    unfolding feed feedPrints takesAll printsAll stageOf Holds Follow
+        → Feeds (machine r (running s h line)) bytes w out (record { stage = Running next (line + used / 5); length = end }) out′ w′
+    unfolding feed feedPrints takesAll printsAll stageOf Holds Follow ChangesAll
     obeyed-all {next} e =
         let f : (k .after ≡ []) × (left r bytes ≡ next) = subst (λ (y : Filled). Follow y text (k .after) (left r bytes)) e (k .follow) in
         let t : takesAll (running s h line) (found r bytes) ≡ running s (ru.run s h ms .last) (line + used / 5) = session-is ∙ ap (takesAll (running s (ru.run s h ms .last) (line + used / 5))) (f .0) in
@@ -238,12 +260,13 @@ module _ {r : Reader} {text : List ℕ} {from : ℕ} {x : Filled} {block : List 
             holds = subst (λ (y : Session). Holds y w′) (sym t) (a .cell, a .stands);
           };
           text = put-text (sym (text-is ∙ ap (λ (ls : List Line). answersText (ru.run s h ms .answers) ++ printsAll (running s (ru.run s h ms .last) (line + used / 5)) ls) (f .0) ∙ append-nil (answersText (ru.run s h ms .answers)))) (a .text);
+          changes = changed (subst (λ (ls : List Line). ChangesAll (takesAll (running s h line) (map asLine ms)) ls w′ w′) (sym (f .0)) refl);
         }
 
     -- a line is malformed
     pub obeyed-broken : {n : ℕ} {last : List ℕ} {stop : ℕ} → x ≡ Broken n → end + 26 ≤ length out → line + used / 5 < 18446744073709551616 → Put out′ end (lineLine (line + used / 5)) last stop
-        → Feeds (machine r (running s h line)) bytes out (record { stage = Stopped; length = stop }) last w′
-    unfolding feed feedPrints takesAll printsAll takes prints stageOf Holds Follow
+        → Feeds (machine r (running s h line)) bytes w out (record { stage = Stopped; length = stop }) last w′
+    unfolding feed feedPrints takesAll printsAll takes prints stageOf Holds Follow ChangesAll Changes
     obeyed-broken e l b p =
         let f : (rest : List Line) × (k .after ≡ Malformed ∷ rest) = subst (λ (y : Filled). Follow y text (k .after) (left r bytes)) e (k .follow) in
         let t : takesAll (running s h line) (found r bytes) ≡ stopped = session-is ∙ ap (takesAll (running s (ru.run s h ms .last) (line + used / 5))) (f .1) ∙ stopped-takes (f .0) in
@@ -255,4 +278,6 @@ module _ {r : Reader} {text : List ℕ} {from : ℕ} {x : Filled} {block : List 
           };
           text = put-text (sym (text-is ∙ ap (λ (ls : List Line). answersText (ru.run s h ms .answers) ++ printsAll (running s (ru.run s h ms .last) (line + used / 5)) ls) (f .1) ∙ ap (λ (ls : List ℕ). answersText (ru.run s h ms .answers) ++ (lineLine (line + used / 5) ++ ls)) (stopped-prints (f .0)) ∙ ap (λ (ls : List ℕ). answersText (ru.run s h ms .answers) ++ ls) (append-nil (lineLine (line + used / 5)))))
               (put-put (omega (arith, a .text .end-is, line-length (line + used / 5) b)) (a .text) p);
+          changes = changed (subst (λ (ls : List Line). ChangesAll (takesAll (running s h line) (map asLine ms)) ls w′ w′) (sym (f .1))
+              (subst (λ (y : Session). ChangesAll y (Malformed ∷ f .0) w′ w′) (sym (takes-commands s ms h line)) (w′, refl, changes-stopped (f .0) w′)));
         }

@@ -35,8 +35,8 @@ use Rattle.session.specs.declared.Stage.the-variants.{Opening, Running, 
 use Rattle.session.specs.declared.Fed.{Fed}
 use Rattle.session.specs.Printed.{sizes, between, accepted, Session, opening, running, stopped, takes, prints, takesAll, printsAll}
 use Rattle.session.specs.Pieces.{Machine, machine, feed, feedPrints}
-use Rattle.session.specs.Stages.{Lent, Here, Holds, stageOf, At, Placed, lineOf, Feeds, begins, Begun}
-use Rattle.session.specs.Obeying.{stopped-takes, stopped-prints}
+use Rattle.session.specs.Stages.{Lent, Here, Holds, stageOf, At, Placed, lineOf, Prepares, Changes, ChangesAll, Feeds, begins, Begun}
+use Rattle.session.specs.Obeying.{stopped-takes, stopped-prints, changes-stopped}
 
 -- ---- sizes
 
@@ -116,14 +116,15 @@ module _ {w w′ : Words} {q : ℕ} (t v d p n : ℕ) (l : Lent w) (k : Prepared
       go true e = absurd (f (accepted-are s e))
       go false e = refl
 
-  refused : (q ≡ 0 → ⊥) → (Accepted s → ⊥) → Begun (Numbers t v d p n) (eqb q 0) w′
-  unfolding takes Holds
+  refused : (q ≡ 0 → ⊥) → (Accepted s → ⊥) → Begun (Numbers t v d p n) w (eqb q 0) w′
+  unfolding takes Holds Changes Prepares
   refused z f =
       let e : accepted s ≡ false = not-accepted f in
       record {
         told = ne-eqb q 0 z ∙ sym e;
         lent = subst Lent (sym (k .refused z)) l;
         holds = subst (λ (b : Bool). Holds (cond b (running s (unused s) 2) stopped) w′) (sym e) tt;
+        changes = subst (λ (b : Bool). Prepares b s w w′) (sym e) (k .refused z);
       }
 
   kept : Unused s w w′ → LongEnough s w → Lent w′
@@ -133,8 +134,8 @@ module _ {w w′ : Words} {q : ℕ} (t v d p n : ℕ) (l : Lent w) (k : Prepared
       let m = simp (length-append, length-replicate, length-drop) at (ap length (u .remember)) in
       record { cells = u .cells .long ∙ l .cells; remember = omega (arith, l .remember, e .remember); tables = omega (arith, l .tables, e .tables) }
 
-  done : q ≡ 0 → Accepted s → Begun (Numbers t v d p n) (eqb q 0) w′
-  unfolding takes Holds
+  done : q ≡ 0 → Accepted s → Begun (Numbers t v d p n) w (eqb q 0) w′
+  unfolding takes Holds Changes Prepares
   done z a =
       let e : accepted s ≡ true = are-accepted s a in
       record {
@@ -142,22 +143,23 @@ module _ {w w′ : Words} {q : ℕ} (t v d p n : ℕ) (l : Lent w) (k : Prepared
         lent = kept (k .unused z) (accepted-long s w l a);
         holds = subst (λ (b : Bool). Holds (cond b (running s (unused s) 2) stopped) w′) (sym e)
             ((λ x. x), prepared-stands s w w′ (subst (λ (x : ℕ). Prepared s w x w′) z k));
+        changes = subst (λ (b : Bool). Prepares b s w w′) (sym e) (k .unused z);
       }
 
-  pub prepared-begun : Begun (Numbers t v d p n) (eqb q 0) w′
+  pub prepared-begun : Begun (Numbers t v d p n) w (eqb q 0) w′
   prepared-begun = go (k .asked)
     where
-      go : PrepareAsked s w q → Begun (Numbers t v d p n) (eqb q 0) w′
+      go : PrepareAsked s w q → Begun (Numbers t v d p n) w (eqb q 0) w′
       go (outOfRange e f) = refused (λ (z : q ≡ 0). omega arith) (λ a. f (a .range))
       go (short e r f) = refused (λ (z : q ≡ 0). omega arith) (λ a. f (accepted-long s w l a))
       go (pr.accepted e r f) = done e (long-accepted s w l r f)
 
-pub malformed-begun : {w : Words} → Lent w → Begun Malformed false w
-unfolding takes Holds
-malformed-begun l = record { told = refl; lent = l; holds = tt }
+pub malformed-begun : {w : Words} → Lent w → Begun Malformed w false w
+unfolding takes Holds Changes
+malformed-begun l = record { told = refl; lent = l; holds = tt; changes = refl }
 
-pub begun-as : {line l : Line} {r : Bool} {w : Words} → line ≡ l → Begun l r w → Begun line r w
-begun-as {r = r} {w = w} e b = subst (λ (x : Line). Begun x r w) (sym e) b
+pub begun-as : {line l : Line} {r : Bool} {w w′ : Words} → line ≡ l → Begun l w r w′ → Begun line w r w′
+begun-as {r = r} {w = w} {w′ = w′} e b = subst (λ (x : Line). Begun x w r w′) (sym e) b
 
 -- ---- the first line of a piece
 
@@ -171,7 +173,7 @@ pub record Opened (line : Line) : Type 0 where
   pub taken : takes opening line ≡ running sizes-are (unused sizes-are) 2
   pub silent : prints opening line ≡ []
 
-pub begun-opened : {line : Line} {r : Bool} {w : Words} → Begun line r w → r ≡ true → Opened line
+pub begun-opened : {line : Line} {r : Bool} {w w′ : Words} → Begun line w r w′ → r ≡ true → Opened line
 unfolding takes prints
 begun-opened {line} {r} b e = go line (sym (b .told) ∙ e)
   where
@@ -184,7 +186,7 @@ begun-opened {line} {r} b e = go line (sym (b .told) ∙ e)
         }
     go Malformed f = absurd (true-not-false f)
 
-begun-stopped : {line : Line} {r : Bool} {w : Words} → Begun line r w → r ≡ false → (takes opening line ≡ stopped) × (prints opening line ≡ sizesLine)
+begun-stopped : {line : Line} {r : Bool} {w w′ : Words} → Begun line w r w′ → r ≡ false → (takes opening line ≡ stopped) × (prints opening line ≡ sizesLine)
 unfolding takes prints
 begun-stopped {line} {r} b e = go line (sym (b .told) ∙ e)
   where
@@ -193,11 +195,11 @@ begun-stopped {line} {r} b e = go line (sym (b .told) ∙ e)
         (ap (λ (a : Bool). cond a (running (sizes t v d p n) (unused (sizes t v d p n)) 2) stopped) f, ap (λ (a : Bool). cond a [] sizesLine) f)
     go Malformed f = (refl, refl)
 
-pub begun-here : {line : Line} {r : Bool} {w : Words} → Begun line r w → r ≡ true → Here w
+pub begun-here : {line : Line} {r : Bool} {w w′ : Words} → Begun line w r w′ → r ≡ true → Here w′
 unfolding Holds
-begun-here {line} {r} {w} b e =
+begun-here {line} {r} {w} {w′} b e =
     let o = begun-opened b e in
-    let k : (cellOf : ℕ → ℕ) × StandsFor (o .sizes-are) w (unused (o .sizes-are)) cellOf = subst (λ (y : Session). Holds y w) (o .taken) (b .holds) in
+    let k : (cellOf : ℕ → ℕ) × StandsFor (o .sizes-are) w′ (unused (o .sizes-are)) cellOf = subst (λ (y : Session). Holds y w′) (o .taken) (b .holds) in
     record { sizes = o .sizes-are; heap = unused (o .sizes-are); cell = k .0; stands = k .1 }
 
 module _ (r : Reader) (text : List ℕ) {scan : Scan} (read : scan ≡ scanned r text 0) where
@@ -206,8 +208,8 @@ module _ (r : Reader) (text : List ℕ) {scan : Scan} (read : scan ≡ scanned r
 
   -- no line ends in the piece
   pub opened-none : {next : Reader} {out : List ℕ} {w : Words} → scan ≡ Open next → Lent w
-      → Feeds (machine r opening) text out (record { stage = Opening next; length = 0 }) out w
-  unfolding feed feedPrints takesAll printsAll stageOf Holds Brings
+      → Feeds (machine r opening) text w out (record { stage = Opening next; length = 0 }) out w
+  unfolding feed feedPrints takesAll printsAll stageOf Holds Brings ChangesAll
   opened-none {next} {out} {w} e l =
       let f : (found r text ≡ []) × (left r text ≡ next) = subst (λ (y : Scan). Brings y text (found r text) (left r text)) e brings in
       record {
@@ -217,21 +219,22 @@ module _ (r : Reader) (text : List ℕ) {scan : Scan} (read : scan ≡ scanned r
           holds = subst (λ (ls : List Line). Holds (takesAll opening ls) w) (sym (f .0)) tt;
         };
         text = put-text (sym (ap (printsAll opening) (f .0))) (put-none out);
+        changes = subst (λ (ls : List Line). ChangesAll opening ls w w) (sym (f .0)) refl;
       }
 
-  module _ {line : Line} {at : ℕ} (e : scan ≡ Found line at) {b : Bool} {w : Words} (k : Begun line b w) where
+  module _ {line : Line} {at : ℕ} (e : scan ≡ Found line at) {b : Bool} {w v : Words} (k : Begun line w b v) where
     split : (found r text ≡ line ∷ found started (drop at text)) × (left r text ≡ left started (drop at text))
     unfolding Brings
     split = subst (λ (y : Scan). Brings y text (found r text) (left r text)) e brings
 
     pub opened-on : b ≡ true → {next : Reader} → next ≡ started → {out after : List ℕ} {x : Fed} {w′ : Words}
-        → ((s : Sizes) (h : Regioned) → Holds (running s h 2) w → Lent w → Feeds (machine next (running s h 2)) (drop at text) out x after w′)
-        → Feeds (machine r opening) text out x after w′
-    unfolding feed feedPrints takesAll printsAll
+        → ((s : Sizes) (h : Regioned) → Holds (running s h 2) v → Lent v → Feeds (machine next (running s h 2)) (drop at text) v out x after w′)
+        → Feeds (machine r opening) text w out x after w′
+    unfolding feed feedPrints takesAll printsAll ChangesAll
     opened-on t {next} n {out} {after} {x} {w′} rest =
         let o = begun-opened k t in
         let s = o .sizes-are in
-        let go = rest s (unused s) (subst (λ (y : Session). Holds y w) (o .taken) (k .holds)) (k .lent) in
+        let go = rest s (unused s) (subst (λ (y : Session). Holds y v) (o .taken) (k .holds)) (k .lent) in
         let session : takesAll opening (found r text) ≡ takesAll (running s (unused s) 2) (found next (drop at text)) =
         ap (takesAll opening) (split .0) ∙ ap₂ (λ (y : Session) (q : Reader). takesAll y (found q (drop at text))) (o .taken) (sym n) in
         let reader : left r text ≡ left next (drop at text) = split .1 ∙ ap (λ (q : Reader). left q (drop at text)) (sym n) in
@@ -241,11 +244,13 @@ module _ (r : Reader) (text : List ℕ) {scan : Scan} (read : scan ≡ scanned r
         record {
           is-at = subst (λ (m : Machine). At m (x .stage) w′) (sym (ap₂ machine reader session)) (go .is-at);
           text = put-text (sym printed) (go .text);
+          changes = subst (λ (ls : List Line). ChangesAll opening ls w w′) (sym (split .0))
+              (v, k .changes, subst (λ (q : Reader). ChangesAll (takes opening line) (found q (drop at text)) v w′) n (subst (λ (y : Session). ChangesAll y (found next (drop at text)) v w′) (sym (o .taken)) (go .changes)));
         }
 
     pub opened-refused : b ≡ false → {out after : List ℕ} {end : ℕ} → Put out 0 sizesLine after end
-        → Feeds (machine r opening) text out (record { stage = Stopped; length = end }) after w
-    unfolding feed feedPrints takesAll printsAll stageOf Holds
+        → Feeds (machine r opening) text w out (record { stage = Stopped; length = end }) after v
+    unfolding feed feedPrints takesAll printsAll stageOf Holds ChangesAll
     opened-refused t p =
         let o = begun-stopped k t in
         let session : takesAll opening (found r text) ≡ stopped =
@@ -254,8 +259,10 @@ module _ (r : Reader) (text : List ℕ) {scan : Scan} (read : scan ≡ scanned r
         ap (printsAll opening) (split .0) ∙ ap₂ (λ (u : List ℕ) (y : Session). u ++ printsAll y (found started (drop at text))) (o .1) (o .0)
         ∙ ap (λ (u : List ℕ). sizesLine ++ u) (stopped-prints (found started (drop at text))) in
         record {
-          is-at = record { stage-is = sym (ap (stageOf (left r text)) session); lent = k .lent; holds = subst (λ (y : Session). Holds y w) (sym session) tt };
+          is-at = record { stage-is = sym (ap (stageOf (left r text)) session); lent = k .lent; holds = subst (λ (y : Session). Holds y v) (sym session) tt };
           text = put-text (sym printed) p;
+          changes = subst (λ (ls : List Line). ChangesAll opening ls w v) (sym (split .0))
+              (v, k .changes, subst (λ (y : Session). ChangesAll y (found started (drop at text)) v v) (sym (o .0)) (changes-stopped (found started (drop at text)) v));
         }
 
 -- ---- from the stage to the machine
@@ -314,17 +321,17 @@ line-low n most e l = subst (λ (y : Stage). lineOf y + n < most) e l
 -- ---- a piece
 
 module _ {stage : Stage} {text out after : List ℕ} {x : Fed} {w w′ : Words} where
-  pub fed-opening : {r : Reader} → stage ≡ Opening r → Feeds (machine r opening) text out x after w′ → (m : Machine) → At m stage w → Feeds m text out x after w′
-  fed-opening e f m a = subst (λ (y : Machine). Feeds y text out x after w′) (sym (at-opening a e)) f
+  pub fed-opening : {r : Reader} → stage ≡ Opening r → Feeds (machine r opening) text w out x after w′ → (m : Machine) → At m stage w → Feeds m text w out x after w′
+  fed-opening e f m a = subst (λ (y : Machine). Feeds y text w out x after w′) (sym (at-opening a e)) f
 
   pub fed-running : {r : Reader} {k : ℕ} → stage ≡ Running r k
-      → ((s : Sizes) (h : Regioned) → Holds (running s h k) w → Lent w → Feeds (machine r (running s h k)) text out x after w′) → (m : Machine) → At m stage w → Feeds m text out x after w′
+      → ((s : Sizes) (h : Regioned) → Holds (running s h k) w → Lent w → Feeds (machine r (running s h k)) text w out x after w′) → (m : Machine) → At m stage w → Feeds m text w out x after w′
   fed-running e f m a =
       let o = at-running a e in
-      subst (λ (y : Machine). Feeds y text out x after w′) (sym (o .machine-is)) (f (o .sizes-are) (o .heap-is) (o .holds) (a .lent))
+      subst (λ (y : Machine). Feeds y text w out x after w′) (sym (o .machine-is)) (f (o .sizes-are) (o .heap-is) (o .holds) (a .lent))
 
 pub fed-stopped : {stage : Stage} {text out : List ℕ} {w : Words} → stage ≡ Stopped → (m : Machine) → At m stage w
-    → Feeds m text out (record { stage = Stopped; length = 0 }) out w
+    → Feeds m text w out (record { stage = Stopped; length = 0 }) out w
 unfolding feed feedPrints stageOf Holds
 fed-stopped {stage} {text} {out} {w} e m a =
     let s = at-stopped a e in
@@ -337,4 +344,5 @@ fed-stopped {stage} {text} {out} {w} e m a =
         holds = subst (λ (y : Session). Holds y w) (sym t) tt;
       };
       text = put-text (sym (ap (λ (y : Session). printsAll y ls) s ∙ stopped-prints ls)) (put-none out);
+      changes = subst (λ (y : Session). ChangesAll y ls w w) (sym s) (changes-stopped ls w);
     }

@@ -90,17 +90,15 @@ pub fn close(
     cells: &mut [u32],
     remember: &mut [u32],
     tables: &mut [u32],
-    block: &mut [u32],
-    answers: &mut [u32],
     out: &mut [u8],
 ) -> usize
-    requires { ⌜ (10 ≤ length (now block)) × (2 ≤ length (now answers)) × (5746 ≤ length (now out)) × (lineOf stage + 1 < 18446744073709551616) ⌝ }
+    requires { ⌜ (5746 ≤ length (now out)) × (lineOf stage + 1 < 18446744073709551616) ⌝ }
     requires { ⌜ Placed stage (words (now cells) (now remember) (now tables)) ⌝ }
-    ensures { λ r. ⌜ ((m : Machine) → At m stage (words (now (cells .entry)) (now (remember .entry)) (now (tables .entry))) → Closes m (now (out .entry)) r (now (out .exit)) (words (now (cells .exit)) (now (remember .exit)) (now (tables .exit)))) ⌝ }
+    ensures { λ r. ⌜ ((m : Machine) → At m stage (words (now (cells .entry)) (now (remember .entry)) (now (tables .entry))) → Closes m (words (now (cells .entry)) (now (remember .entry)) (now (tables .entry))) (now (out .entry)) r (now (out .exit)) (words (now (cells .exit)) (now (remember .exit)) (now (tables .exit)))) ⌝ }
     ensures { λ r. ⌜ r ≤ 5746 ⌝ }
 {
     if is_begun(stage) {
-        let fed = feed(stage, b"\n", cells, remember, tables, block, answers, out);
+        let fed = feed(stage, b"\n", cells, remember, tables, out);
         let rest = fed.stage;
         put_end(rest, remember, tables, out, fed.length)
     } else {

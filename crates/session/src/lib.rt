@@ -12,7 +12,7 @@ ghost use Rattle.script.specs.BlocksLaws.{usedIn};
 ghost use Rattle.session.specs.declared.Stage.the-variants.{Opening};
 ghost use Rattle.session.specs.Printed.{opening, running};
 ghost use Rattle.session.specs.Pieces.{Machine, machine};
-ghost use Rattle.session.specs.Stages.{Lent, Here, Holds, At, Placed, lineOf, stoppedAt, Feeds, Room, Answered, Counted, Begun};
+ghost use Rattle.session.specs.Stages.{Lent, Here, Holds, At, Placed, lineOf, stoppedAt, Feeds, mostPrinted, Room, Answered, Counted, Begun};
 
 pub mod close;
 
@@ -53,23 +53,23 @@ pub fn is_stopped(stage: Stage) -> bool
     }
 }
 
-// Obeys the commands in the first `used` words of a block and writes a line for each answer.
+// Obeys the commands in the first `used` words of a block, at most 1,639, and writes a line for each answer.
 fn answer(
     cells: &mut [u32],
     remember: &mut [u32],
     tables: &mut [u32],
     block: &[u32],
     used: usize,
-    answers: &mut [u32],
     out: &mut [u8],
 ) -> usize
-    requires { ⌜ Counted used (now block) (now answers) (now out) ⌝ }
+    requires { ⌜ Counted used (now block) (now out) ⌝ }
     requires { ⌜ Here (words (now cells) (now remember) (now tables)) ⌝ }
     ensures { λ r. ⌜ ((s : Sizes) (h : Regioned) → (cellOf : ℕ → ℕ) → StandsFor s (words (now (cells .entry)) (now (remember .entry)) (now (tables .entry))) h cellOf → Answered s h (take used (now (block .entry))) (words (now (cells .entry)) (now (remember .entry)) (now (tables .entry))) (now (out .entry)) r (now (out .exit)) (words (now (cells .exit)) (now (remember .exit)) (now (tables .exit)))) ⌝ }
     ensures { λ r. ⌜ r ≤ 22 * (used / 5) ⌝ }
 {
-    heap::run::taldreku_run(cells, remember, tables, &block[..used], answers);
-    script::blocks::put_answers(out, 0, answers, used / 5)
+    let mut answers = [0u32; 3278];
+    heap::run::taldreku_run(cells, remember, tables, &block[..used], &mut answers);
+    script::blocks::put_answers(out, 0, &answers, used / 5)
 }
 
 // How many words a block holds.
@@ -83,7 +83,8 @@ fn words_in(filled: Filled) -> usize
     }
 }
 
-// Obeys the commands of a piece from a position on, of which line `line` is the first, as one block.
+// Obeys the commands of a piece from a position on, of which line `line` is the first, as one block. It has room for the 1,639 commands
+// that a piece of 16,384 bytes can have, and for another.
 fn obey(
     reader: Reader,
     line: u64,
@@ -92,18 +93,17 @@ fn obey(
     cells: &mut [u32],
     remember: &mut [u32],
     tables: &mut [u32],
-    block: &mut [u32],
-    answers: &mut [u32],
     out: &mut [u8],
 ) -> Fed
-    requires { ⌜ Room (now text) (now block) (now answers) (now out) × (line + length (now text) < 18446744073709551616) ⌝ }
+    requires { ⌜ Room (now text) (now out) × (line + length (now text) < 18446744073709551616) ⌝ }
     requires { ⌜ Here (words (now cells) (now remember) (now tables)) ⌝ }
-    ensures { λ x. ⌜ ((s : Sizes) (h : Regioned) → Holds (running s h line) (words (now (cells .entry)) (now (remember .entry)) (now (tables .entry))) → Lent (words (now (cells .entry)) (now (remember .entry)) (now (tables .entry))) → Feeds (machine reader (running s h line)) (drop from (now (text .entry))) (now (out .entry)) x (now (out .exit)) (words (now (cells .exit)) (now (remember .exit)) (now (tables .exit)))) ⌝ }
-    ensures { λ x. ⌜ x .length ≤ 22 * length (now (text .entry)) + 26 ⌝ }
+    ensures { λ x. ⌜ ((s : Sizes) (h : Regioned) → Holds (running s h line) (words (now (cells .entry)) (now (remember .entry)) (now (tables .entry))) → Lent (words (now (cells .entry)) (now (remember .entry)) (now (tables .entry))) → Feeds (machine reader (running s h line)) (drop from (now (text .entry))) (words (now (cells .entry)) (now (remember .entry)) (now (tables .entry))) (now (out .entry)) x (now (out .exit)) (words (now (cells .exit)) (now (remember .exit)) (now (tables .exit)))) ⌝ }
+    ensures { λ x. ⌜ x .length ≤ mostPrinted (length (now (text .entry))) ⌝ }
 {
-    let filled = script::blocks::read_block(text, from, reader, block, 0);
+    let mut block = [0u32; 8200];
+    let filled = script::blocks::read_block(text, from, reader, &mut block, 0);
     let used = words_in(filled);
-    let end = answer(cells, remember, tables, block, used, answers, out);
+    let end = answer(cells, remember, tables, &block, used, out);
     let next = line + (used / 5) as u64;
     match filled {
         Filled::Done(rest, _) => Fed {
@@ -124,7 +124,7 @@ fn obey(
 // Prepares the tables if a line has sizes that are accepted.
 fn prepare(line: Line, cells: &mut [u32], remember: &mut [u32], tables: &mut [u32]) -> bool
     requires { ⌜ Lent (words (now cells) (now remember) (now tables)) ⌝ }
-    ensures { λ r. ⌜ Begun line r (words (now (cells .exit)) (now (remember .exit)) (now (tables .exit))) ⌝ }
+    ensures { λ r. ⌜ Begun line (words (now (cells .entry)) (now (remember .entry)) (now (tables .entry))) r (words (now (cells .exit)) (now (remember .exit)) (now (tables .exit))) ⌝ }
 {
     match line {
         Line::Numbers(threads, variables, depth, pages, entries) => {
@@ -151,14 +151,12 @@ fn begin(
     cells: &mut [u32],
     remember: &mut [u32],
     tables: &mut [u32],
-    block: &mut [u32],
-    answers: &mut [u32],
     out: &mut [u8],
 ) -> Fed
-    requires { ⌜ Room (now text) (now block) (now answers) (now out) ⌝ }
+    requires { ⌜ Room (now text) (now out) ⌝ }
     requires { ⌜ Lent (words (now cells) (now remember) (now tables)) ⌝ }
-    ensures { λ x. ⌜ Feeds (machine reader opening) (now (text .entry)) (now (out .entry)) x (now (out .exit)) (words (now (cells .exit)) (now (remember .exit)) (now (tables .exit))) ⌝ }
-    ensures { λ x. ⌜ x .length ≤ 22 * length (now (text .entry)) + 26 ⌝ }
+    ensures { λ x. ⌜ Feeds (machine reader opening) (now (text .entry)) (words (now (cells .entry)) (now (remember .entry)) (now (tables .entry))) (now (out .entry)) x (now (out .exit)) (words (now (cells .exit)) (now (remember .exit)) (now (tables .exit))) ⌝ }
+    ensures { λ x. ⌜ x .length ≤ mostPrinted (length (now (text .entry))) ⌝ }
 {
     let scan = script::read::read_line(text, 0, reader);
     match scan {
@@ -176,8 +174,6 @@ fn begin(
                     cells,
                     remember,
                     tables,
-                    block,
-                    answers,
                     out,
                 )
             } else {
@@ -190,40 +186,23 @@ fn begin(
     }
 }
 
-// Takes a piece of the input on from a stage, and writes what it prints to the start of a buffer.
+// Takes a piece of the input, of 16,384 bytes at most, on from a stage, and writes what it prints to the start of a buffer.
 pub fn feed(
     stage: Stage,
     text: &[u8],
     cells: &mut [u32],
     remember: &mut [u32],
     tables: &mut [u32],
-    block: &mut [u32],
-    answers: &mut [u32],
     out: &mut [u8],
 ) -> Fed
-    requires { ⌜ Room (now text) (now block) (now answers) (now out) × (lineOf stage + length (now text) < 18446744073709551616) ⌝ }
+    requires { ⌜ Room (now text) (now out) × (lineOf stage + length (now text) < 18446744073709551616) ⌝ }
     requires { ⌜ Placed stage (words (now cells) (now remember) (now tables)) ⌝ }
-    ensures { λ x. ⌜ ((m : Machine) → At m stage (words (now (cells .entry)) (now (remember .entry)) (now (tables .entry))) → Feeds m (now (text .entry)) (now (out .entry)) x (now (out .exit)) (words (now (cells .exit)) (now (remember .exit)) (now (tables .exit)))) ⌝ }
-    ensures { λ x. ⌜ x .length ≤ 22 * length (now (text .entry)) + 26 ⌝ }
+    ensures { λ x. ⌜ ((m : Machine) → At m stage (words (now (cells .entry)) (now (remember .entry)) (now (tables .entry))) → Feeds m (now (text .entry)) (words (now (cells .entry)) (now (remember .entry)) (now (tables .entry))) (now (out .entry)) x (now (out .exit)) (words (now (cells .exit)) (now (remember .exit)) (now (tables .exit)))) ⌝ }
+    ensures { λ x. ⌜ x .length ≤ mostPrinted (length (now (text .entry))) ⌝ }
 {
     match stage {
-        Stage::Opening(reader) => {
-            begin(reader, text, cells, remember, tables, block, answers, out)
-        }
-        Stage::Running(reader, line) => {
-            obey(
-                reader,
-                line,
-                text,
-                0,
-                cells,
-                remember,
-                tables,
-                block,
-                answers,
-                out,
-            )
-        }
+        Stage::Opening(reader) => begin(reader, text, cells, remember, tables, out),
+        Stage::Running(reader, line) => obey(reader, line, text, 0, cells, remember, tables, out),
         Stage::Stopped => Fed {
             stage: Stage::Stopped,
             length: 0,
