@@ -1,2 +1,3 @@
--- The buffers of the loop.
-pub mod Buffers
+-- What the loop promises of a turn and of all its turns, and from turn to turn.
+pub mod Turns
+pub mod Going

@@ -1,86 +1,87 @@
--- The loop's invariant: the program stands where a machine is, the buffers are as long as they were, and the number of the line fits.
-use Prim.Native.Nat.{_+_, _*_, _≤_}
-use mathlib.Core.Path.{sym, ap, _∙_}
+-- The loop's invariant: the program is where the machine is that was fed all pieces so far, as many bytes as these have were read, as many as
+-- it printed for them were handed to the write, and the counts of the turns to come fit.
+use Prim.Native.Nat.{ℕ, _+_, _*_, _≤_}
+use mathlib.Core.Path.{_≡_, sym, ap, _∙_}
 use borrow.Author.Needs.{needs}
+use borrow.Author.Tests.{not-false}
 use native.Mathlib.Omega.{arith}
 use Rattle.promises.specs.Words.{words}
-use Rattle.session.specs.Stages.{Placed, lineOf}
-use Rattle.session.specs.Going.{at-first}
-use Rattle.stream.specs.Buffers.{Buffers}
+use Rattle.session.specs.Stages.{lineOf}
+use Rattle.stream.specs.declared.Ending.the-variants.{More, Finished}
+use Rattle.stream.specs.Turns.{Buffers}
+use Rattle.stream.specs.Going.{Went, went-first, went-serves, turned-serves, turned-on, turned-line}
 use Rattle.stream.proofs.go_on.Statement.{statement}
 use Rattle.stream.proofs.go_on.Tie as tie
 
 abbrev Inv-loop : tie.InvT-loop
-Inv-loop fd text₀ cells₀ remember₀ tables₀ block₀ answers₀ out₀ stage₀ turns₀ text cells remember tables block answers out stage turns =
-    Buffers text block answers out × Placed stage (words cells remember tables) × (lineOf stage + 16384 * turns ≤ 9223372036854775809)
+Inv-loop fd text₀ cells₀ remember₀ tables₀ out₀ stage₀ read₀ printed₀ turns₀ text cells remember tables out stage read printed turns =
+    Buffers text out × Went stage (words cells remember tables) read printed × (lineOf stage + 16384 * turns ≤ 4611686018427387905) × (read + 16384 * turns ≤ 4611686018427387904)
+    × (printed + 36084 * turns ≤ 18446744073709551615)
 
 abbrev μ-loop : tie.MeasureT-loop
-μ-loop fd text₀ cells₀ remember₀ tables₀ block₀ answers₀ out₀ stage₀ turns₀ text cells remember tables block answers out stage turns =
-    turns
+μ-loop fd text₀ cells₀ remember₀ tables₀ out₀ stage₀ read₀ printed₀ turns₀ text cells remember tables out stage read printed turns = turns
 
 start-requires : tie.Need-start-requires Inv-loop μ-loop
 start-requires c κs = search needs
 
 loop-holds : tie.Need-loop-holds Inv-loop μ-loop
-loop-holds c = (c .before .before .before .before .before .before .before .before .pre .0, (_, at-first (c .start .ensures) (c .before .before .before .before .before .before .before .before .pre .1)), omega (arith, ap lineOf (c .start .ensures)))
+loop-holds c = (c .before .before .before .before .before .before .pre .0, went-first (c .start .ensures) (c .before .before .before .before .before .before .pre .1), omega (arith, ap lineOf (c .start .ensures)), omega arith, omega arith)
 
 turn-requires : tie.Need-turn-requires Inv-loop μ-loop
-turn-requires c κs = ((c .before .before .before .before .before .before .before .before .loop .inv .0, omega (arith, c .before .before .before .before .before .before .before .before .loop .inv .2)), c .before .before .before .before .before .before .before .before .loop .inv .1)
+turn-requires c κs = ((c .before .before .before .before .before .before .loop .inv .0, omega (arith, c .before .before .before .before .before .before .loop .inv .2)), (_, c .before .before .before .before .before .before .loop .inv .1 .is-at))
 
-is-stopped-requires : tie.Need-is-stopped-requires Inv-loop μ-loop
-is-stopped-requires c κs = search needs
+add-read : tie.Need-add-read Inv-loop μ-loop
+add-read c =
+    let inv = c .before .before .before .before .before .before .before .before .before .before .before .before .before .before .before .before .before .loop .inv in
+    let turn = c .before .before .before .before .before .before .before .before .before .before .turn in
+    omega (arith, inv .3, turn .ensures .1, turn .kept .1 .1 .0, inv .0 .piece-room)
+
+add-printed : tie.Need-add-printed Inv-loop μ-loop
+add-printed c =
+    let inv = c .before .before .before .before .before .before .before .before .before .before .before .before .before .before .before .before .before .loop .inv in
+    let turn = c .before .before .before .before .before .before .before .before .before .before .turn in
+    omega (arith, inv .4, turn .ensures .1)
+
+goes-on-requires : tie.Need-goes-on-requires Inv-loop μ-loop
+goes-on-requires c κs = search needs
 
 same-length : tie.Need-same-length Inv-loop μ-loop
 same-length c =
-    let pre = c .before .before .before .before .before .before .before .before .before .before .before .before .before .before .before .before .before .before .before .before .before .before .before .before .before .before .before .before .before .before .before .before .before .before .pre in
-    let loop = c .before .before .before .before .before .before .before .before .before .before .before .before .before .before .before .before .before .before .before .before .before .before .before .before .before .loop in
-    let turn = c .before .before .before .before .before .before .before .before .before .before .before .before .before .before .before .before .turn in
-    (turn .kept .1 .1 .0) ∙ (loop .inv .0 .piece) ∙ sym (pre .0 .piece)
+    let inv = c .before .before .before .before .before .before .before .before .before .before .before .before .before .before .before .before .before .before .before .loop .inv in
+    let turn = c .before .before .before .before .before .before .before .before .before .before .before .before .turn in
+    let pre = c .before .before .before .before .before .before .before .before .before .before .before .before .before .before .before .before .before .before .before .before .before .before .before .before .before .before .pre in
+    turn .kept .1 .1 .0 ∙ inv .0 .piece-room ∙ sym (pre .0 .piece-room)
 
 same-length-2 : tie.Need-same-length-2 Inv-loop μ-loop
 same-length-2 c =
-    let pre = c .before .before .before .before .before .before .before .before .before .before .before .before .before .before .before .before .before .before .before .before .before .before .before .before .before .before .before .before .before .before .before .before .before .before .pre in
-    let loop = c .before .before .before .before .before .before .before .before .before .before .before .before .before .before .before .before .before .before .before .before .before .before .before .before .before .loop in
-    let turn = c .before .before .before .before .before .before .before .before .before .before .before .before .before .before .before .before .turn in
-    (turn .kept .1 .1 .1 .0) ∙ (loop .inv .1 .1 .lent .cells) ∙ sym (pre .1 .cells)
+    let inv = c .before .before .before .before .before .before .before .before .before .before .before .before .before .before .before .before .before .before .before .loop .inv in
+    let turn = c .before .before .before .before .before .before .before .before .before .before .before .before .turn in
+    let pre = c .before .before .before .before .before .before .before .before .before .before .before .before .before .before .before .before .before .before .before .before .before .before .before .before .before .before .pre in
+    turn .kept .1 .1 .1 .0 ∙ inv .1 .is-at .lent .cells ∙ sym (pre .1 .cells)
 
 same-length-3 : tie.Need-same-length-3 Inv-loop μ-loop
 same-length-3 c =
-    let pre = c .before .before .before .before .before .before .before .before .before .before .before .before .before .before .before .before .before .before .before .before .before .before .before .before .before .before .before .before .before .before .before .before .before .before .pre in
-    let loop = c .before .before .before .before .before .before .before .before .before .before .before .before .before .before .before .before .before .before .before .before .before .before .before .before .before .loop in
-    let turn = c .before .before .before .before .before .before .before .before .before .before .before .before .before .before .before .before .turn in
-    (turn .kept .1 .1 .1 .1 .0) ∙ (loop .inv .1 .1 .lent .remember) ∙ sym (pre .1 .remember)
+    let inv = c .before .before .before .before .before .before .before .before .before .before .before .before .before .before .before .before .before .before .before .loop .inv in
+    let turn = c .before .before .before .before .before .before .before .before .before .before .before .before .turn in
+    let pre = c .before .before .before .before .before .before .before .before .before .before .before .before .before .before .before .before .before .before .before .before .before .before .before .before .before .before .pre in
+    turn .kept .1 .1 .1 .1 .0 ∙ inv .1 .is-at .lent .remember ∙ sym (pre .1 .remember)
 
 same-length-4 : tie.Need-same-length-4 Inv-loop μ-loop
 same-length-4 c =
-    let pre = c .before .before .before .before .before .before .before .before .before .before .before .before .before .before .before .before .before .before .before .before .before .before .before .before .before .before .before .before .before .before .before .before .before .before .pre in
-    let loop = c .before .before .before .before .before .before .before .before .before .before .before .before .before .before .before .before .before .before .before .before .before .before .before .before .before .loop in
-    let turn = c .before .before .before .before .before .before .before .before .before .before .before .before .before .before .before .before .turn in
-    (turn .kept .1 .1 .1 .1 .1 .0) ∙ (loop .inv .1 .1 .lent .tables) ∙ sym (pre .1 .tables)
+    let inv = c .before .before .before .before .before .before .before .before .before .before .before .before .before .before .before .before .before .before .before .loop .inv in
+    let turn = c .before .before .before .before .before .before .before .before .before .before .before .before .turn in
+    let pre = c .before .before .before .before .before .before .before .before .before .before .before .before .before .before .before .before .before .before .before .before .before .before .before .before .before .before .pre in
+    turn .kept .1 .1 .1 .1 .1 .0 ∙ inv .1 .is-at .lent .tables ∙ sym (pre .1 .tables)
 
 same-length-5 : tie.Need-same-length-5 Inv-loop μ-loop
 same-length-5 c =
-    let pre = c .before .before .before .before .before .before .before .before .before .before .before .before .before .before .before .before .before .before .before .before .before .before .before .before .before .before .before .before .before .before .before .before .before .before .pre in
-    let loop = c .before .before .before .before .before .before .before .before .before .before .before .before .before .before .before .before .before .before .before .before .before .before .before .before .before .loop in
-    let turn = c .before .before .before .before .before .before .before .before .before .before .before .before .before .before .before .before .turn in
-    (turn .kept .1 .1 .1 .1 .1 .1 .0) ∙ (loop .inv .0 .words) ∙ sym (pre .0 .words)
-
-same-length-6 : tie.Need-same-length-6 Inv-loop μ-loop
-same-length-6 c =
-    let pre = c .before .before .before .before .before .before .before .before .before .before .before .before .before .before .before .before .before .before .before .before .before .before .before .before .before .before .before .before .before .before .before .before .before .before .pre in
-    let loop = c .before .before .before .before .before .before .before .before .before .before .before .before .before .before .before .before .before .before .before .before .before .before .before .before .before .loop in
-    let turn = c .before .before .before .before .before .before .before .before .before .before .before .before .before .before .before .before .turn in
-    (turn .kept .1 .1 .1 .1 .1 .1 .1 .0) ∙ (loop .inv .0 .answer-room) ∙ sym (pre .0 .answer-room)
-
-same-length-7 : tie.Need-same-length-7 Inv-loop μ-loop
-same-length-7 c =
-    let pre = c .before .before .before .before .before .before .before .before .before .before .before .before .before .before .before .before .before .before .before .before .before .before .before .before .before .before .before .before .before .before .before .before .before .before .pre in
-    let loop = c .before .before .before .before .before .before .before .before .before .before .before .before .before .before .before .before .before .before .before .before .before .before .before .before .before .loop in
-    let turn = c .before .before .before .before .before .before .before .before .before .before .before .before .before .before .before .before .turn in
-    (turn .kept .1 .1 .1 .1 .1 .1 .1 .1 .0) ∙ (loop .inv .0 .text-room) ∙ sym (pre .0 .text-room)
+    let inv = c .before .before .before .before .before .before .before .before .before .before .before .before .before .before .before .before .before .before .before .loop .inv in
+    let turn = c .before .before .before .before .before .before .before .before .before .before .before .before .turn in
+    let pre = c .before .before .before .before .before .before .before .before .before .before .before .before .before .before .before .before .before .before .before .before .before .before .before .before .before .before .pre in
+    turn .kept .1 .1 .1 .1 .1 .1 .0 ∙ inv .0 .text-room ∙ sym (pre .0 .text-room)
 
 returns : tie.Need-returns Inv-loop μ-loop
-returns c = tt
+returns c = turned-serves (c .before .before .before .before .before .before .before .before .before .before .before .before .before .before .before .before .before .before .before .loop .inv .1) (c .before .before .before .before .before .before .before .before .before .before .before .before .turn .ensures .0) (c .before .before .before .before .before .before .before .before .before .before .before .before .turn .ensures .1 .0)
 
 sub-turns : tie.Need-sub-turns Inv-loop μ-loop
 sub-turns c = omega arith
@@ -90,33 +91,50 @@ loop-less c = omega arith
 
 loop-again : tie.Need-loop-again Inv-loop μ-loop
 loop-again c =
-    let loop = c .before .before .before .before .before .before .before .before .before .before .before .before .before .before .before .before .before .before .before .before .before .before .before .before .before .loop in
-    let turn = c .before .before .before .before .before .before .before .before .before .before .before .before .before .before .before .before .turn in
-    (record { piece = (turn .kept .1 .1 .0) ∙ (loop .inv .0 .piece); words = (turn .kept .1 .1 .1 .1 .1 .1 .0) ∙ (loop .inv .0 .words); answer-room = (turn .kept .1 .1 .1 .1 .1 .1 .1 .0) ∙ (loop .inv .0 .answer-room); text-room = (turn .kept .1 .1 .1 .1 .1 .1 .1 .1 .0) ∙ (loop .inv .0 .text-room) }, turn .ensures .0, omega (arith, turn .ensures .1, loop .inv .2))
+    let inv = c .before .before .before .before .before .before .before .before .before .before .before .before .before .before .before .before .before .before .before .loop .inv in
+    let turn = c .before .before .before .before .before .before .before .before .before .before .before .before .turn in
+    let goes-on = c .before .goes-on in
+    let on = sym (goes-on .ensures) ∙ not-false (goes-on .result) (c .if1 .left) in
+    let line = turned-line (inv .1) (turn .ensures .0) (turn .ensures .1 .0) on in (
+      record { piece-room = turn .kept .1 .1 .0 ∙ inv .0 .piece-room; text-room = turn .kept .1 .1 .1 .1 .1 .1 .0 ∙ inv .0 .text-room },
+      turned-on (inv .1) (turn .ensures .0) (turn .ensures .1 .0) on,
+      omega (arith, line, inv .2, turn .ensures .1, turn .kept .1 .1 .0, inv .0 .piece-room),
+      omega (arith, inv .3, turn .ensures .1, turn .kept .1 .1 .0, inv .0 .piece-room),
+      omega (arith, inv .4, turn .ensures .1),
+    )
+
+same-length-6 : tie.Need-same-length-6 Inv-loop μ-loop
+same-length-6 c =
+    let inv = c .before .loop .inv in
+    let pre = c .before .before .before .before .before .before .before .before .pre in
+    inv .0 .piece-room ∙ sym (pre .0 .piece-room)
+
+same-length-7 : tie.Need-same-length-7 Inv-loop μ-loop
+same-length-7 c =
+    let inv = c .before .loop .inv in
+    let pre = c .before .before .before .before .before .before .before .before .pre in
+    inv .1 .is-at .lent .cells ∙ sym (pre .1 .cells)
 
 same-length-8 : tie.Need-same-length-8 Inv-loop μ-loop
-same-length-8 c = (c .before .loop .inv .0 .piece) ∙ sym (c .before .before .before .before .before .before .before .before .before .before .pre .0 .piece)
+same-length-8 c =
+    let inv = c .before .loop .inv in
+    let pre = c .before .before .before .before .before .before .before .before .pre in
+    inv .1 .is-at .lent .remember ∙ sym (pre .1 .remember)
 
 same-length-9 : tie.Need-same-length-9 Inv-loop μ-loop
-same-length-9 c = (c .before .loop .inv .1 .1 .lent .cells) ∙ sym (c .before .before .before .before .before .before .before .before .before .before .pre .1 .cells)
+same-length-9 c =
+    let inv = c .before .loop .inv in
+    let pre = c .before .before .before .before .before .before .before .before .pre in
+    inv .1 .is-at .lent .tables ∙ sym (pre .1 .tables)
 
 same-length-10 : tie.Need-same-length-10 Inv-loop μ-loop
-same-length-10 c = (c .before .loop .inv .1 .1 .lent .remember) ∙ sym (c .before .before .before .before .before .before .before .before .before .before .pre .1 .remember)
-
-same-length-11 : tie.Need-same-length-11 Inv-loop μ-loop
-same-length-11 c = (c .before .loop .inv .1 .1 .lent .tables) ∙ sym (c .before .before .before .before .before .before .before .before .before .before .pre .1 .tables)
-
-same-length-12 : tie.Need-same-length-12 Inv-loop μ-loop
-same-length-12 c = (c .before .loop .inv .0 .words) ∙ sym (c .before .before .before .before .before .before .before .before .before .before .pre .0 .words)
-
-same-length-13 : tie.Need-same-length-13 Inv-loop μ-loop
-same-length-13 c = (c .before .loop .inv .0 .answer-room) ∙ sym (c .before .before .before .before .before .before .before .before .before .before .pre .0 .answer-room)
-
-same-length-14 : tie.Need-same-length-14 Inv-loop μ-loop
-same-length-14 c = (c .before .loop .inv .0 .text-room) ∙ sym (c .before .before .before .before .before .before .before .before .before .before .pre .0 .text-room)
+same-length-10 c =
+    let inv = c .before .loop .inv in
+    let pre = c .before .before .before .before .before .before .before .before .pre in
+    inv .0 .text-room ∙ sym (pre .0 .text-room)
 
 returns-2 : tie.Need-returns-2 Inv-loop μ-loop
-returns-2 c = tt
+returns-2 c = went-serves More (λ (e : More ≡ Finished). let z : _≡_ {A = ℕ} 0 1 = cc in let o : ⊥ = omega arith in o) (c .before .loop .inv .1)
 
 pub go-on-spec : {M : Type 1} → statement M
 go-on-spec =
@@ -127,23 +145,21 @@ go-on-spec =
     start-requires
     loop-holds
     turn-requires
-    is-stopped-requires
+    add-read
+    add-printed
+    goes-on-requires
     same-length
     same-length-2
     same-length-3
     same-length-4
     same-length-5
-    same-length-6
-    same-length-7
     returns
     sub-turns
     loop-less
     loop-again
+    same-length-6
+    same-length-7
     same-length-8
     same-length-9
     same-length-10
-    same-length-11
-    same-length-12
-    same-length-13
-    same-length-14
     returns-2)

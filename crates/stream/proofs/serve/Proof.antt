@@ -20,15 +20,9 @@ slice-aggregate-go-on-4 c = search needs
 slice-aggregate-go-on-5 : tie.Need-slice-aggregate-go-on-5
 slice-aggregate-go-on-5 c = search needs
 
-slice-aggregate-go-on-6 : tie.Need-slice-aggregate-go-on-6
-slice-aggregate-go-on-6 c = search needs
-
-slice-aggregate-go-on-7 : tie.Need-slice-aggregate-go-on-7
-slice-aggregate-go-on-7 c = search needs
-
 go-on-requires : tie.Need-go-on-requires
 go-on-requires c κs = (
-  record { piece = length-replicate {A = ℕ} 16384 0; words = length-replicate {A = ℕ} 81925 0; answer-room = length-replicate {A = ℕ} 32768 0; text-room = length-replicate {A = ℕ} 360474 0 },
+  record { piece-room = length-replicate {A = ℕ} 16384 0; text-room = length-replicate {A = ℕ} 36084 0 },
   record { cells = length-replicate {A = ℕ} 8192 0; remember = length-replicate {A = ℕ} 2050 0; tables = length-replicate {A = ℕ} 758 0 },
 )
 
@@ -44,7 +38,5 @@ serve-spec =
     slice-aggregate-go-on-3
     slice-aggregate-go-on-4
     slice-aggregate-go-on-5
-    slice-aggregate-go-on-6
-    slice-aggregate-go-on-7
     go-on-requires
     returns)
