@@ -117,10 +117,6 @@ module _ {p : Places} {r : ℕ} {S : ℕ → Type 0} {W₀ T₀ W T : List ℕ} 
       sym (move-out p r W T x (λ z. omega arith)
       (λ z. n (sym (F .copying .owner b u) ∙ ap (λ (y : ℕ). ownerOf p T (y / 16)) (sym d) ∙ z)))
 
-  -- a reference that names a cell in use outside r
-  Out : ℕ → Type 0
-  Out x = (b : ℕ) × (x ≡ 1 + b) × InUse p T b × (ownerOf p T (b / 16) ≢ r)
-
   pub ref-out : (b x : ℕ) → x ≡ 1 + b → InUse p T₀ b → (ownerOf p T₀ (b / 16) ≡ r → marked p T₀ b ≡ 1)
       → (c : ℕ) × (moveRef p r W T x ≡ 1 + c) × InUse p T c × (ownerOf p T (c / 16) ≢ r)
   ref-out b x e u h = go (ℕ-discrete (ownerOf p T₀ (b / 16)) r)

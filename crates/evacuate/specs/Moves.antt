@@ -191,12 +191,6 @@ module _ {p : Places} {T T′ : List ℕ} (r : Regular p T) (e : PagesKept p T T
 -- ---- what one move does
 
 module _ {p : Places} {g q c : ℕ} {W T W′ T′ : List ℕ} (s : Step p g q c W T W′ T′) where
-  r₀ : Regular p T
-  r₀ = s .can .regular
-
-  t₀ : Took p g q T (s .mid) (s .new)
-  t₀ = s .took
-
   mid-long : marksAt p c < length (s .mid)
   mid-long = movable-taken (s .can) (s .took) .word
 
@@ -322,9 +316,6 @@ module _ {p : Places} {g q c : ℕ} {W T W′ T′ : List ℕ} (s : Step p g q c
 
   pub step-only : (x : ℕ) → InUse p T′ x → InUse p T x ⊎ (x ≡ s .new)
   step-only x u = took-only (s .can .regular) (s .can .real) (s .can .low) (s .took) x (use-mid x u)
-
-  pub step-apart : c ≢ s .new
-  step-apart = movable-taken (s .can) (s .took) .apart
 
   -- the link of a cell in use other than c stays
   pub step-link : (x : ℕ) → InUse p T x → x ≢ c → workOf W′ x ≡ workOf W x

@@ -8,13 +8,13 @@ use native.Mathlib.Omega.{arith}
 use lib.ListN.{length, getD, set, length-set}
 use lib.Seq.{getD-set-same, getD-set-other}
 use Rattle.layout.specs.declared.Places.{Places}
-use Rattle.lists.specs.Counting.{sum-same, sum-none, sum-plus}
+use Rattle.lists.specs.Counting.{sum-same, sum-none}
 use Rattle.layout.specs.Places.{Room, depthAt, ownerAt, usedAt, markAt, countAt, depthOf, ownerOf, usedOf, markOf, countOf}
 use Rattle.promises.specs.Words.{InUse}
 use Rattle.promises.specs.Whole.{objectsOn, objectsOf}
 use Rattle.pages.specs.Pages.{Partly}
-use Rattle.evacuate.specs.Marks.{sameThen, then-yes, then-no}
-use Rattle.evacuate.specs.Taking.{regionsOf, ownedOn, pagesOwned, Regular}
+use Rattle.evacuate.specs.Marks.{sameThen, then-no}
+use Rattle.evacuate.specs.Taking.{regionsOf, Regular}
 
 -- the three words of page q
 pub record Blank (p : Places) (T : List ℕ) (q : ℕ) : Type 0 where
@@ -204,19 +204,6 @@ module _ {p : Places} {r t : ℕ} {T T′ : List ℕ} (a : Regular p T) (real : 
       go : (q : ℕ) → q < p .pages → Dec (ownerOf p T q ≡ r) → objectsOn p T′ r q ≡ 0
       go q l (yes e) = then-no (ownerOf p T′ q) r (usedOf p T′ q) (λ z. omega (arith, ended-blank q l e .owner))
       go q l (no n) = then-no (ownerOf p T′ q) r (usedOf p T′ q) (λ z. n (sym (ended-alike q l n .owner) ∙ z))
-
-  -- r's pages are free
-  pub ended-free : pagesOwned p T′ 0 ≡ pagesOwned p T 0 + pagesOwned p T r
-  unfolding pagesOwned
-  ended-free =
-      sum-same (ownedOn p T′ 0) (λ q. ownedOn p T 0 q + ownedOn p T r q) (p .pages) (λ q l. go q l (ℕ-discrete (ownerOf p T q) r))
-      ∙ sum-plus (ownedOn p T 0) (ownedOn p T r) (p .pages)
-    where
-      go : (q : ℕ) → q < p .pages → Dec (ownerOf p T q ≡ r) → ownedOn p T′ 0 q ≡ ownedOn p T 0 q + ownedOn p T r q
-      go q l (yes e) =
-          omega (arith, then-yes (ownerOf p T′ q) 0 1 (ended-blank q l e .owner), then-no (ownerOf p T q) 0 1 (λ z. omega arith), then-yes (ownerOf p T q) r 1 e)
-      go q l (no n) =
-          omega (arith, ap (λ (x : ℕ). sameThen x 0 1) (ended-alike q l n .owner), then-no (ownerOf p T q) r 1 n)
 
   pub ended-regular : Regular p T′
   ended-regular =

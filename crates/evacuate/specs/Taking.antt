@@ -202,9 +202,6 @@ module _ {p : Places} {g q : ℕ} {T T′ : List ℕ} {c : ℕ} (r : Regular p T
           took-other (countAt p h) (λ e. omega (arith, t .next .low)) (λ e. omega (arith, t .next .low)) (λ e. n (omega arith))
           ∙ r .count h pos le ∙ sym (took-objects-other h pos n)
 
-  pub took-count-other : (h : ℕ) → 1 ≤ h → h ≢ g → countOf p T′ h ≡ countOf p T h
-  took-count-other h pos n = took-other (countAt p h) (λ e. omega (arith, t .next .low)) (λ e. omega (arith, t .next .low)) (λ e. n (omega arith))
-
   -- g's pages and the free pages together stay
   pub took-owned : pagesOwned p T′ g + pagesOwned p T′ 0 ≡ pagesOwned p T g + pagesOwned p T 0
   unfolding pagesOwned

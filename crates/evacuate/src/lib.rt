@@ -5,8 +5,7 @@ pub mod release;
 pub mod remember;
 pub mod rewrite;
 
-ghost use mathlib.Core.Path.{_≡_};
-ghost use Prim.Native.Nat.{ℕ, _<_, _≤_};
+ghost use Prim.Native.Nat.{_<_, _≤_};
 ghost use Rattle.layout.specs.Places.{depthOf, usedIn, sizesOf};
 ghost use Rattle.rules.specs.Regions.{regionAt};
 ghost use Rattle.evacuate.specs.Stages.{Before, Finished};

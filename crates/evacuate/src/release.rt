@@ -1,6 +1,5 @@
 // Release: the pages of the ending region become free, its count 0, the depth of its thread one less.
-ghost use mathlib.Core.Path.{_≡_};
-ghost use Prim.Native.Nat.{ℕ, _+_, _*_, _<_, _≤_};
+ghost use Prim.Native.Nat.{_<_, _≤_};
 ghost use lib.ListN.{length};
 ghost use Rattle.layout.specs.Places.{Room, depthOf};
 ghost use Rattle.evacuate.specs.Taking.{regionsOf};

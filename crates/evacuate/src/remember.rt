@@ -1,6 +1,6 @@
 // Remember: entries of the ending region's slots go, entries into it get their new region or go, the copies' crossing slots come.
 ghost use mathlib.Core.Path.{_≡_};
-ghost use Prim.Native.Nat.{ℕ, _+_, _*_, _<_, _≤_, max};
+ghost use Prim.Native.Nat.{_+_, _*_, _<_, _≤_, max};
 ghost use lib.ListN.{length, getD};
 ghost use Rattle.layout.specs.Places.{Room, usedIn};
 ghost use Rattle.layout.specs.Cells.{refsOf};

@@ -12,7 +12,6 @@ use Rattle.lists.specs.Tests.{both-true}
 use Rattle.script.specs.declared.Line.{Line}
 use Rattle.script.specs.declared.Line.the-variants.{Numbers, Malformed}
 use Rattle.script.specs.declared.Reader.{Reader}
-use Rattle.script.specs.declared.Step.{Step}
 use Rattle.script.specs.declared.Step.the-variants.{More, Ended}
 use Rattle.script.specs.Text.{isDigit}
 use Rattle.script.specs.Reading.{started, spoilt, completed, numbering, spaced, digited, nextOf, endOf, stepOf}

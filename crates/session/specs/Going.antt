@@ -14,19 +14,15 @@ use Rattle.script.specs.Reading.{started}
 use Rattle.script.specs.TextLaws.{found}
 use Rattle.script.specs.BlocksLaws.{length-found}
 use Rattle.session.specs.declared.Stage.{Stage}
-use Rattle.session.specs.declared.Stage.the-variants.{Opening, Stopped}
+use Rattle.session.specs.declared.Stage.the-variants.{Opening}
 use Rattle.session.specs.declared.Fed.{Fed}
 use Rattle.session.specs.Printed.{sizes, accepted, Session, opening, running, stopped, takes, takesAll}
-use Rattle.session.specs.Pieces.{Machine, machine, first, feed}
-use Rattle.session.specs.Stages.{Lent, Holds, stageOf, At, Placed, lineOf, Feeds}
+use Rattle.session.specs.Pieces.{Machine, first, feed}
+use Rattle.session.specs.Stages.{Lent, Holds, stageOf, At, lineOf, Feeds}
 
 pub at-first : {stage : Stage} {w : Words} → stage ≡ Opening started → Lent w → At first stage w
 unfolding stageOf Holds
 at-first e l = record { stage-is = e; lent = l; holds = tt }
-
-pub placed-stopped : {w : Words} → Lent w → Placed Stopped w
-unfolding stageOf Holds
-placed-stopped l = (machine started stopped, record { stage-is = refl; lent = l; holds = tt })
 
 -- the line that a session is at
 abbrev lineIn : Session → ℕ

@@ -18,7 +18,7 @@ use Rattle.promises.specs.Promises.{Chain, none, more, commandAt, answerAt, siz
 use Rattle.promises.specs.Agreed.{whole-words}
 use Rattle.promises.specs.Chained.{chained}
 use Rattle.script.specs.declared.Line.{Line}
-use Rattle.script.specs.declared.Line.the-variants.{Numbers, Malformed}
+use Rattle.script.specs.declared.Line.the-variants.{Malformed}
 use Rattle.script.specs.declared.Reader.{Reader}
 use Rattle.script.specs.declared.Filled.{Filled}
 use Rattle.script.specs.declared.Filled.the-variants.{Done, Full, Broken}
@@ -32,7 +32,7 @@ use Rattle.script.specs.BlocksLaws.{usedIn, Follow, block-reads, never-full}
 use Rattle.session.specs.declared.Stage.the-variants.{Running, Stopped}
 use Rattle.session.specs.Printed.{Session, running, stopped, answerText, takes, prints, takesAll, printsAll}
 use Rattle.session.specs.Pieces.{machine, feed, feedPrints, takes-append, prints-append}
-use Rattle.session.specs.Stages.{Lent, Holds, stageOf, Changes, ChangesAll, Feeds, mostPrinted, Room, Counted, asLine, Answered, answersText}
+use Rattle.session.specs.Stages.{Lent, Holds, stageOf, Changes, ChangesAll, Feeds, Room, Counted, asLine, Answered, answersText}
 
 answers-append : (as′ : List Answer) (a : Answer) → answersText (as′ ++ a ∷ []) ≡ answersText as′ ++ answerText a
 unfolding answersText

@@ -1,5 +1,5 @@
 -- From turn to turn: the program is where the machine is that was fed all pieces so far.
-use Prim.Native.Nat.{ℕ, _+_, _≤_, _<_}
+use Prim.Native.Nat.{ℕ, _+_, _≤_}
 use native.Mathlib.Omega.{arith}
 use mathlib.Core.Path.{_≡_, refl, sym, ap, ap₂, subst, subst₂, _∙_}
 use mathlib.Core.List.{List, [], _∷_, _++_, flatten, append-assoc, append-nil}
@@ -22,9 +22,8 @@ use Rattle.session.specs.Going.{at-first, line-fed}
 use Rattle.stream.specs.declared.Piece.{Piece}
 use Rattle.stream.specs.declared.Piece.the-variants.{Bytes}
 use Rattle.stream.specs.declared.Ending.{Ending}
-use Rattle.stream.specs.declared.Ending.the-variants.{More, Finished, Unread, Unwritten}
+use Rattle.stream.specs.declared.Ending.the-variants.{Finished}
 use Rattle.stream.specs.declared.Outcome.{Outcome}
-use Rattle.stream.specs.declared.Served.{Served}
 use Rattle.stream.specs.Turns.{within, endingOf, goesOn, Advances, Turned, unread, moved, Serves}
 
 -- ---- a piece, or the end of the input
