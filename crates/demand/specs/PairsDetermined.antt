@@ -16,9 +16,10 @@ use Rattle.rules.specs.Rules as ru
 use Rattle.laws.specs.RulesLaws.{region-pos}
 use Rattle.promises.specs.Words.{Words, Used, sizesIn, depthIn, varIn, heapOf}
 use Rattle.promises.specs.Whole.{WholeFor}
-use Rattle.promises.specs.Promises.{Chain, none, more, Did, RunAsked, notWhole, uneven, short, accepted, Ran}
+use Rattle.promises.specs.Promises.{Chain, none, more, Did, Ran}
 use Rattle.promises.specs.Reading.{used-alive}
 use Rattle.promises.specs.Agreed.{heap-stands, back, whole-for}
+use Rattle.promises.specs.Chained.{asked-whole, did-whole}
 use Rattle.demand.specs.DemandThree.{Block, Runs, stop, next, Moves, Changes, made, moved, kept, Followed, Traced}
 use Rattle.demand.specs.Pairing.{pairsOf, pair-alive, stands-paired}
 use Rattle.demand.specs.MovesUnique.{moves-unique}
@@ -37,9 +38,6 @@ module _ {s : Sizes} {w w₁ : Words} {m : Command} {a : Answer} (k : WholeFor s
 
   pairs₁ : List ℕ
   pairs₁ = pairsOf (ru.step s (heapOf s w) m .next) (did .next (heapOf s w) (λ c. c) (heap-stands s w k) .cell)
-
-  pub whole-next : WholeFor s w₁
-  whole-next = did .next (heapOf s w) (λ c. c) (heap-stands s w k) .stands .whole
 
   before : (c : ℕ) → Used s w c → getD pairs c 0 ≡ suc c
   unfolding pairs
@@ -101,7 +99,7 @@ module _ {s : Sizes} {w w₁ : Words} {m : Command} {a : Answer} (k : WholeFor s
     where
       at : (v : ℕ) → ((d : ℕ) → v ≡ suc d → Used s w d) → f v ≡ g v
       at zero h = mf .null ∙ sym (mg .null)
-      at (suc d) h = moves-unique s w w₁ k whole-next r pos f g mf mg d (h d refl)
+      at (suc d) h = moves-unique s w w₁ k (did-whole s k did) r pos f g mf mg d (h d refl)
 
   pub changes-same : {p q₁ q₂ : List ℕ} → Living s w p → Changes s w m a w₁ p q₁ → Changes s w m a w₁ p q₂ → q₁ ≡ q₂
   changes-same l (made z o e) (made z′ o′ e′) = e ∙ sym e′
@@ -127,17 +125,10 @@ followed-same : (s : Sizes) {w w′ : Words} {ms : List Command} {as′ : List A
 followed-same s {w} none k start p q l e f =
     record { same = e ∙ sym f; whole = k; living = subst (λ (x : List ℕ). Living s w x) (sym e) l }
 followed-same s (more did rest) k start p q l e f =
-    followed-same s rest (whole-next k did) (e .0) p q (living-next k did l (e .1)) (e .2)
+    followed-same s rest (did-whole s k did) (e .0) p q (living-next k did l (e .1)) (e .2)
     (subst (λ (x : List ℕ). Followed s rest x q) (sym (changes-same k did l (e .1) (f .1))) (f .2))
 
 -- ---- the list of blocks
-
--- a block that was not refused found whole words
-accepted-whole : {w : Words} {block lent : List ℕ} {n : ℕ} → RunAsked w block lent n → n ≡ 0 → WholeFor (sizesIn w) w
-accepted-whole (notWhole e n) z = absurd (let y : ⊥ = omega arith in y)
-accepted-whole (uneven e k n) z = absurd (let y : ⊥ = omega arith in y)
-accepted-whole (short e k n l) z = absurd (let y : ⊥ = omega arith in y)
-accepted-whole {w} (accepted e k n l) z = whole-for w k
 
 -- the pairs after a block, which a refused one does not change
 module _ {w : Words} (b : Block) (ran : Ran w (b .block) (b .lent) (b .number) (b .words) (b .answers)) (start p q : List ℕ) (l : Living (sizesIn w) w start)
@@ -148,7 +139,7 @@ module _ {w : Words} (b : Block) (ran : Ran w (b .block) (b .lent) (b .number) (
     where
       go : Dec (b .number ≡ 0) → (p ≡ q) × Living (sizesIn (b .words)) (b .words) p
       go (yes z) =
-          let h = followed-same (sizesIn w) (ran .obeyed z) (accepted-whole (ran .asked) z) start p q l (e z) (f z) in
+          let h = followed-same (sizesIn w) (ran .obeyed z) (whole-for w (asked-whole (ran .asked) z)) start p q l (e z) (f z) in
           (h .same, subst (λ (s : Sizes). Living s (b .words) p) (sym (h .whole .sized)) (h .living))
       go (no n) = (
         e′ n ∙ sym (f′ n),

@@ -9,12 +9,12 @@ use lib.Seq.{getD-set-same, getD-set-other, drop-set-lt}
 use Rattle.rules.specs.declared.Sizes.{Sizes}
 use Rattle.rules.specs.declared.Command.{Command}
 use Rattle.rules.specs.declared.Answer.{Answer}
-use Rattle.promises.specs.Words.{Words, heapOf, sizesIn}
+use Rattle.promises.specs.Words.{Words, sizesIn}
 use Rattle.lists.specs.Listed.{listed, listed-same}
-use Rattle.promises.specs.Whole.{WholeWords, WholeFor}
+use Rattle.promises.specs.Whole.{WholeFor}
 use Rattle.promises.specs.StandsFor.{SameFrom}
 use Rattle.promises.specs.Promises.{Did, Chain, none, more, commandAt, answerAt, size, RunAsked, notWhole, uneven, short, accepted, Ran}
-use Rattle.promises.specs.Agreed.{heap-stands}
+use Rattle.promises.specs.Chained.{did-whole}
 
 -- one more command at the end
 pub chain-snoc : (s : Sizes) {w w₁ w₂ : Words} {ms : List Command} {as′ : List Answer} {m : Command} {a : Answer}
@@ -69,23 +69,12 @@ ran-refused {w} {block} {lent} a n =
 pub asked-none : {w : Words} {block lent : List ℕ} {q : ℕ} → RunAsked w block lent q → q ≡ 0 → RunAsked w block lent 0
 asked-none {w} {block} {lent} a e = subst (RunAsked w block lent) e a
 
--- what holds where none says no
-pub asked-whole : {w : Words} {block lent : List ℕ} → RunAsked w block lent 0 → WholeWords w
-asked-whole (accepted e k f l) = k
-asked-whole (notWhole e n) = absurd (let z : ⊥ = omega arith in z)
-asked-whole (uneven e k n) = k
-asked-whole (short e k f l) = k
-
+-- where none says no, the answers fit
 pub asked-room : {w : Words} {block lent : List ℕ} → RunAsked w block lent 0 → 2 * size block ≤ length lent
 asked-room (accepted e k f l) = l
 asked-room (notWhole e n) = absurd (let z : ⊥ = omega arith in z)
 asked-room (uneven e k n) = absurd (let z : ⊥ = omega arith in z)
 asked-room (short e k f l) = absurd (let z : ⊥ = omega arith in z)
-
--- ---- what every command keeps
-
-pub did-whole : (s : Sizes) {w w′ : Words} {m : Command} {a : Answer} → WholeFor s w → Did s w m w′ a → WholeFor s w′
-did-whole s {w} k d = d .next (heapOf s w) (λ c. c) (heap-stands s w k) .stands .whole
 
 -- ---- the state of the loop: i commands of the block were obeyed, from the words w to w₁
 

@@ -1,14 +1,29 @@
--- A chain of commands answers as the rules' run does, and leaves words that stand for the heap that the run leaves.
+-- What a run accepts and a command leaves is whole. A chain of commands answers as the rules' run does, and leaves words that stand for
+-- the heap that the run leaves.
 use Prim.Native.Nat.{ℕ}
+use native.Mathlib.Omega.{arith}
 use mathlib.Core.Path.{_≡_, refl, ap₂}
 use mathlib.Core.List.{List, _∷_}
 use Rattle.rules.specs.declared.Sizes.{Sizes}
 use Rattle.rules.specs.declared.Command.{Command}
 use Rattle.rules.specs.declared.Answer.{Answer}
 use Rattle.rules.specs.Rules.{Regioned, run, step}
-use Rattle.promises.specs.Words.{Words}
+use Rattle.promises.specs.Words.{Words, heapOf}
+use Rattle.promises.specs.Whole.{WholeFor, WholeWords}
 use Rattle.promises.specs.StandsFor.{StandsFor}
-use Rattle.promises.specs.Promises.{Chain, none, more}
+use Rattle.promises.specs.Promises.{Did, Chain, none, more, RunAsked, notWhole, uneven, short, accepted}
+use Rattle.promises.specs.Agreed.{heap-stands}
+
+-- a run that is not refused found whole words
+pub asked-whole : {w : Words} {block lent : List ℕ} {q : ℕ} → RunAsked w block lent q → q ≡ 0 → WholeWords w
+asked-whole (accepted e k f l) z = k
+asked-whole (notWhole e n) z = absurd (let y : ⊥ = omega arith in y)
+asked-whole (uneven e k n) z = k
+asked-whole (short e k f l) z = k
+
+-- a command leaves whole words
+pub did-whole : (s : Sizes) {w w′ : Words} {m : Command} {a : Answer} → WholeFor s w → Did s w m w′ a → WholeFor s w′
+did-whole s {w} k d = d .next (heapOf s w) (λ c. c) (heap-stands s w k) .stands .whole
 
 pub record Chained (s : Sizes) (h : Regioned) (ms : List Command) (as′ : List Answer) (w′ : Words) : Type 0 where
   pub cell : ℕ → ℕ

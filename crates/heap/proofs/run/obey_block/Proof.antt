@@ -5,7 +5,8 @@ use mathlib.Core.Path.{_≡_, refl}
 use native.Mathlib.Omega.{arith}
 use Rattle.promises.specs.Words.{words}
 use Rattle.promises.specs.Promises.{size}
-use Rattle.heap.specs.Looping.{asked-whole, asked-room}
+use Rattle.promises.specs.Chained.{asked-whole}
+use Rattle.heap.specs.Looping.{asked-room}
 use Rattle.heap.specs.Running.{Turning, turn-start, turn-ready, turn-fits, turn-more, turn-end, whole-ready, found-range, looped-found}
 use Rattle.heap.proofs.run.obey_block.Statement.{statement}
 use Rattle.heap.proofs.run.obey_block.Tie as tie
@@ -17,13 +18,13 @@ abbrev μ-loop : tie.MeasureT-loop
 μ-loop cells₀ remember₀ tables₀ block answers₀ p n i₀ cells remember tables answers i = n - i
 
 read-sizes-requires : tie.Need-read-sizes-requires Inv-loop μ-loop
-read-sizes-requires c κs = asked-whole (c .before .before .before .before .before .before .pre) .sizes .sized
+read-sizes-requires c κs = asked-whole (c .before .before .before .before .before .before .pre) refl .sizes .sized
 
 find-places-requires : tie.Need-find-places-requires Inv-loop μ-loop
-find-places-requires c κs = found-range (asked-whole (c .before .before .before .before .before .before .before .pre)) (c .read-sizes .ensures)
+find-places-requires c κs = found-range (asked-whole (c .before .before .before .before .before .before .before .pre) refl) (c .read-sizes .ensures)
 
 loop-holds : tie.Need-loop-holds Inv-loop μ-loop
-loop-holds c = (turn-start (whole-ready (asked-whole (c .before .before .before .before .before .before .before .before .pre)) (c .before .read-sizes .ensures) (c .find-places .ensures)) (asked-room (c .before .before .before .before .before .before .before .before .pre)), refl, omega arith)
+loop-holds c = (turn-start (whole-ready (asked-whole (c .before .before .before .before .before .before .before .before .pre) refl) (c .before .read-sizes .ensures) (c .find-places .ensures)) (asked-room (c .before .before .before .before .before .before .before .before .pre)), refl, omega arith)
 
 obey-at-requires : tie.Need-obey-at-requires Inv-loop μ-loop
 obey-at-requires c κs = (turn-ready (c .before .before .before .before .loop .inv .0), omega (arith, c .before .before .before .before .loop .inv .1, c .before .before .before .before .loop .inv .2))
