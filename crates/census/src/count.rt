@@ -5,18 +5,13 @@ ghost use lib.ListN.{length};
 ghost use Rattle.layout.specs.Places.{Room, markOf};
 ghost use Rattle.census.specs.Counted.{goesTo, onPage, overMarked};
 use layout::Places;
-use layout::bits::without_bit;
-use layout::cells::cell_on;
-use layout::cells::work;
-use layout::tables::mark;
-use layout::wide;
 
 // 1 if the object in cell c goes to g, else 0.
 pub fn goes_to(cells: &[u32], c: usize, g: u32) -> usize
     requires { ⌜ (c < 16384) × (16 * c + 16 ≤ length (now cells)) ⌝ }
     ensures { λ n. ⌜ n ≡ goesTo (now (cells .entry)) g c ⌝ }
 {
-    if work(cells, c) == g {
+    if layout::cells::work(cells, c) == g {
         return 1;
     }
     0
@@ -33,8 +28,8 @@ pub fn count_page(cells: &[u32], w: u32, page: usize, g: u32) -> usize
     let mut k: u32 = 0;
     while k < marks {
         let i = u32::trailing_zeros(left);
-        n += goes_to(cells, cell_on(page, wide(i)), g);
-        left = without_bit(left, i);
+        n += goes_to(cells, layout::cells::cell_on(page, layout::wide(i)), g);
+        left = layout::bits::without_bit(left, i);
         k += 1;
     }
     n
@@ -51,7 +46,7 @@ pub fn count_survivors(p: Places, cells: &[u32], tables: &[u32], g: u32) -> usiz
     let mut n: usize = 0;
     let mut page: usize = 0;
     while page < pages {
-        n += count_page(cells, mark(p, tables, page), page, g);
+        n += count_page(cells, layout::tables::mark(p, tables, page), page, g);
         page += 1;
     }
     n

@@ -15,20 +15,6 @@ ghost use Rattle.census.specs.Counted.{onPage, overMarked};
 ghost use Rattle.census.specs.After.{homeAfter, crossAfter, cellCrosses, slotCrosses, entriesCross, crossingAfter};
 use layout::Kind;
 use layout::Places;
-use layout::bits::without_bit;
-use layout::cells::cell_named;
-use layout::cells::cell_on;
-use layout::cells::field;
-use layout::cells::field_count;
-use layout::cells::head;
-use layout::cells::page_at;
-use layout::cells::page_of;
-use layout::cells::work;
-use layout::remember::slot;
-use layout::remember::used;
-use layout::tables::mark;
-use layout::tables::owner;
-use layout::wide;
 
 // The region of cell c after the end.
 pub fn home_after(p: Places, cells: &[u32], tables: &[u32], r: u32, c: usize) -> u32
@@ -36,11 +22,11 @@ pub fn home_after(p: Places, cells: &[u32], tables: &[u32], r: u32, c: usize) ->
     requires { ⌜ (pageOf c < p .pages) × (256 * p .pages ≤ length (now cells)) ⌝ }
     ensures { λ q. ⌜ q ≡ homeAfter p (now (cells .entry)) (now (tables .entry)) r c ⌝ }
 {
-    let q = owner(p, tables, page_of(c));
+    let q = layout::tables::owner(p, tables, layout::cells::page_of(c));
     if q != r {
         return q;
     }
-    work(cells, c)
+    layout::cells::work(cells, c)
 }
 
 // 1 if reference x, in an object that lies in region `home` afterwards, crosses then, else 0.
@@ -53,7 +39,7 @@ pub fn crosses(p: Places, cells: &[u32], tables: &[u32], r: u32, home: u32, x: u
     if x == 0 {
         return 0;
     }
-    let h = home_after(p, cells, tables, r, cell_named(x));
+    let h = home_after(p, cells, tables, r, layout::cells::cell_named(x));
     if h == home {
         return 0;
     }
@@ -70,12 +56,12 @@ pub fn cross_cell(p: Places, cells: &[u32], tables: &[u32], r: u32, c: usize) ->
     ensures { λ n. ⌜ n ≡ cellCrosses p (now (cells .entry)) (now (tables .entry)) r c ⌝ }
     ensures { λ n. ⌜ n ≤ 14 ⌝ }
 {
-    let home = work(cells, c);
-    let refs = field_count(Kind::Reference, head(cells, c));
+    let home = layout::cells::work(cells, c);
+    let refs = layout::cells::field_count(Kind::Reference, layout::cells::head(cells, c));
     let mut n: usize = 0;
     let mut f: usize = 0;
     while f < refs {
-        n += crosses(p, cells, tables, r, home, field(cells, c, f));
+        n += crosses(p, cells, tables, r, home, layout::cells::field(cells, c, f));
         f += 1;
     }
     n
@@ -95,8 +81,14 @@ pub fn cross_page(p: Places, cells: &[u32], tables: &[u32], r: u32, w: u32, page
     let mut k: u32 = 0;
     while k < marks {
         let i = u32::trailing_zeros(left);
-        n += cross_cell(p, cells, tables, r, cell_on(page, wide(i)));
-        left = without_bit(left, i);
+        n += cross_cell(
+            p,
+            cells,
+            tables,
+            r,
+            layout::cells::cell_on(page, layout::wide(i)),
+        );
+        left = layout::bits::without_bit(left, i);
         k += 1;
     }
     n
@@ -114,7 +106,14 @@ pub fn cross_survivors(p: Places, cells: &[u32], tables: &[u32], r: u32) -> usiz
     let mut n: usize = 0;
     let mut page: usize = 0;
     while page < pages {
-        n += cross_page(p, cells, tables, r, mark(p, tables, page), page);
+        n += cross_page(
+            p,
+            cells,
+            tables,
+            r,
+            layout::tables::mark(p, tables, page),
+            page,
+        );
         page += 1;
     }
     n
@@ -134,8 +133,8 @@ pub fn cross_entry(
     requires { ⌜ i < usedIn (now remember) ⌝ }
     ensures { λ n. ⌜ n ≡ slotCrosses p (now (cells .entry)) (now (tables .entry)) r (slotIn (now (remember .entry)) i) ⌝ }
 {
-    let at = wide(slot(p.entries, remember, i));
-    let home = owner(p, tables, page_at(at));
+    let at = layout::wide(layout::remember::slot(p.entries, remember, i));
+    let home = layout::tables::owner(p, tables, layout::cells::page_at(at));
     if home == r {
         return 0;
     }
@@ -149,7 +148,7 @@ pub fn cross_entries(p: Places, cells: &[u32], remember: &[u32], tables: &[u32],
     ensures { λ n. ⌜ n ≡ entriesCross p (now (cells .entry)) (now (remember .entry)) (now (tables .entry)) r ⌝ }
     ensures { λ n. ⌜ n ≤ 4096 ⌝ }
 {
-    let entries = wide(used(remember));
+    let entries = layout::wide(layout::remember::used(remember));
     let mut n: usize = 0;
     let mut i: usize = 0;
     while i < entries {

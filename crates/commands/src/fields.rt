@@ -13,8 +13,6 @@ use crate::variables::write_var;
 use layout::Kind;
 use layout::Places;
 use rules::Answer;
-use rules::done;
-use rules::refused;
 
 // Questions 9 and 10, of a reference x and field f of its object.
 pub fn field_question(kind: Kind, cells: &[u32], x: u32, f: usize) -> u32
@@ -83,14 +81,14 @@ pub fn load(
     let x = read_var(p, tables, t, b);
     let q = field_question(Kind::Reference, cells, x, f);
     if q != 0 {
-        return refused(q);
+        return rules::refused(q);
     }
     let v = read_field(Kind::Reference, cells, x, f);
     write_var(p, tables, t, a, v);
     if v == 0 {
-        return done(0);
+        return rules::done(0);
     }
-    done(1)
+    rules::done(1)
 }
 
 // Code 8: the value is number f of the object in variable a.
@@ -110,10 +108,10 @@ pub fn read(
     let x = read_var(p, tables, t, a);
     let q = field_question(Kind::Number, cells, x, f);
     if q != 0 {
-        return refused(q);
+        return rules::refused(q);
     }
     let v = read_field(Kind::Number, cells, x, f);
-    done(v)
+    rules::done(v)
 }
 
 // Code 9: v becomes number f of the object in variable a.
@@ -134,8 +132,8 @@ pub fn write(
     let x = read_var(p, tables, t, a);
     let q = field_question(Kind::Number, cells, x, f);
     if q != 0 {
-        return refused(q);
+        return rules::refused(q);
     }
     write_field(Kind::Number, cells, x, f, v);
-    done(0)
+    rules::done(0)
 }

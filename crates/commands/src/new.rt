@@ -11,8 +11,6 @@ ghost use Rattle.commands.specs.declared.Decoded.the-variants.{New};
 use crate::variables::write_var;
 use layout::Places;
 use rules::Answer;
-use rules::done;
-use rules::refused;
 
 // The region that thread t makes objects in.
 fn innermost(p: Places, tables: &[u32], t: usize) -> u32
@@ -57,10 +55,10 @@ pub fn new_object(
     let region = innermost(p, tables, t);
     let page = pages::page_for(p, tables, t, region);
     if p.pages <= page {
-        return refused(13);
+        return rules::refused(13);
     }
     let cell = pages::take_cell(p, tables, page, region);
     blank(cells, cell, b, c);
     write_var(p, tables, t, a, layout::cells::ref_to(cell));
-    done(0)
+    rules::done(0)
 }

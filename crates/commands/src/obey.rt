@@ -15,7 +15,6 @@ use crate::variables::same;
 use crate::variables::start;
 use layout::Places;
 use rules::Command;
-use rules::refused;
 
 // Every command but an end is answered here; of an end, which changes nothing yet, the thread is given.
 pub fn obey(
@@ -67,6 +66,6 @@ pub fn obey(
             c,
         )),
         Decoded::Same(t, a, b) => Obeyed::Answered(same(p, cells, remember, tables, t, a, b)),
-        Decoded::Refused(q) => Obeyed::Answered(refused(q)),
+        Decoded::Refused(q) => Obeyed::Answered(rules::refused(q)),
     }
 }

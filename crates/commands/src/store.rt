@@ -18,8 +18,6 @@ use crate::variables::read_var;
 use layout::Kind;
 use layout::Places;
 use rules::Answer;
-use rules::done;
-use rules::refused;
 
 // The region that a reference x in a slot of a page crosses into, 0 where it does not cross.
 fn crosses(p: Places, tables: &[u32], page: usize, x: u32) -> u32
@@ -159,12 +157,12 @@ pub fn store(
     let x = read_var(p, tables, t, a);
     let q = field_question(Kind::Reference, cells, x, f);
     if q != 0 {
-        return refused(q);
+        return rules::refused(q);
     }
     let v = read_var(p, tables, t, c);
     let number = store_slot(p, cells, remember, tables, x, f, v);
     if number != 0 {
-        return refused(number);
+        return rules::refused(number);
     }
-    done(0)
+    rules::done(0)
 }

@@ -7,8 +7,6 @@ ghost use Rattle.commands.specs.Does.{Does};
 ghost use Rattle.commands.specs.declared.Decoded.the-variants.{Start, Copy, Clear, Same};
 use layout::Places;
 use rules::Answer;
-use rules::done;
-use rules::refused;
 
 // Variable a of thread t.
 pub fn read_var(p: Places, tables: &[u32], t: usize, a: usize) -> u32
@@ -37,10 +35,10 @@ pub fn start(p: Places, cells: &[u32], remember: &[u32], tables: &mut [u32], t: 
 {
     let d = layout::tables::depth(p, tables, t);
     if p.depth <= layout::wide(d) {
-        return refused(11);
+        return rules::refused(11);
     }
     layout::tables::set_depth(p, tables, t, d + 1);
-    done(0)
+    rules::done(0)
 }
 
 // Code 4: variable b of thread c is copied to variable a of thread t.
@@ -60,7 +58,7 @@ pub fn copy(
 {
     let x = read_var(p, tables, c, b);
     write_var(p, tables, t, a, x);
-    done(0)
+    rules::done(0)
 }
 
 // Code 5: variable a becomes null.
@@ -77,7 +75,7 @@ pub fn clear(
     ensures { λ r. ⌜ Does p (now (cells .entry)) (now (remember .entry)) (now (tables .entry)) (Clear t a) (now (cells .entry)) (now (remember .entry)) (now (tables .exit)) r ⌝ }
 {
     write_var(p, tables, t, a, 0);
-    done(0)
+    rules::done(0)
 }
 
 // Code 10: do variables a and b hold the same object, or are both null?
@@ -97,7 +95,7 @@ pub fn same(
     let x = read_var(p, tables, t, a);
     let y = read_var(p, tables, t, b);
     if x == y {
-        return done(1);
+        return rules::done(1);
     }
-    done(0)
+    rules::done(0)
 }

@@ -7,17 +7,8 @@ ghost use Rattle.promises.specs.Words.{words};
 ghost use Rattle.promises.specs.Whole.{WholeFor};
 ghost use Rattle.promises.specs.Promises.{DidHere};
 ghost use Rattle.ended.specs.AfterEnd.{endOf};
-use census::crossing::count_crossing;
-use evacuate::evacuate;
 use layout::Places;
-use layout::regions::region_at;
-use layout::tables::depth;
-use layout::wide;
-use mark::survivors::mark_survivors;
-use mark::unmark::unmark;
 use rules::Answer;
-use rules::done;
-use rules::refused;
 
 pub mod needs;
 
@@ -34,24 +25,24 @@ pub fn end(
     requires { ⌜ thread < p .threads ⌝ }
     ensures { λ r. ⌜ DidHere (sizesOf p) (words (now (cells .entry)) (now (remember .entry)) (now (tables .entry))) (endOf thread) (words (now (cells .exit)) (now (remember .exit)) (now (tables .exit))) r ⌝ }
 {
-    let level = wide(depth(p, tables, thread));
+    let level = layout::wide(layout::tables::depth(p, tables, thread));
     if level == 0 {
-        return refused(12);
+        return rules::refused(12);
     }
-    let region = region_at(p, thread, level);
-    mark_survivors(p, cells, remember, tables, thread);
+    let region = layout::regions::region_at(p, thread, level);
+    mark::survivors::mark_survivors(p, cells, remember, tables, thread);
     let needed = needs::needed_pages(p, cells, tables, thread, level);
     let free = pages::owned_pages(p, tables, 0);
     if free < needed {
-        unmark(p, cells, tables);
-        return refused(13);
+        mark::unmark::unmark(p, cells, tables);
+        return rules::refused(13);
     }
-    let crossing = count_crossing(p, cells, remember, tables, region);
+    let crossing = census::crossing::count_crossing(p, cells, remember, tables, region);
     let entries = p.entries;
     if entries < crossing {
-        unmark(p, cells, tables);
-        return refused(14);
+        mark::unmark::unmark(p, cells, tables);
+        return rules::refused(14);
     }
-    evacuate(p, cells, remember, tables, thread);
-    done(0)
+    evacuate::evacuate(p, cells, remember, tables, thread);
+    rules::done(0)
 }

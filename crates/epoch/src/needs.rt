@@ -4,12 +4,7 @@ ghost use Prim.Native.Nat.{ℕ, _+_, _*_, _^_, _<_, _≤_};
 ghost use lib.ListN.{length};
 ghost use Rattle.layout.specs.Places.{Room, markOf};
 ghost use Rattle.epoch.specs.CensusCounts.{levelNeeds, needsBelow};
-use census::count::count_survivors;
 use layout::Places;
-use layout::cells::pages_for;
-use layout::regions::region_at;
-use layout::tables::count;
-use layout::wide;
 
 // How many new pages region g needs for the survivors that go to it.
 pub fn level_pages(p: Places, cells: &[u32], tables: &[u32], g: u32) -> usize
@@ -19,9 +14,9 @@ pub fn level_pages(p: Places, cells: &[u32], tables: &[u32], g: u32) -> usize
     requires { ⌜ (1 ≤ g) × (g ≤ 1 + p .threads * p .depth) ⌝ }
     ensures { λ n. ⌜ n ≡ levelNeeds p (now (cells .entry)) (now (tables .entry)) g ⌝ }
 {
-    let have = wide(count(p, tables, wide(g)));
-    let come = count_survivors(p, cells, tables, g);
-    pages_for(have + come) - pages_for(have)
+    let have = layout::wide(layout::tables::count(p, tables, layout::wide(g)));
+    let come = census::count::count_survivors(p, cells, tables, g);
+    layout::cells::pages_for(have + come) - layout::cells::pages_for(have)
 }
 
 // How many new pages the regions of a thread at the levels below the given one need.
@@ -35,7 +30,12 @@ pub fn needed_pages(p: Places, cells: &[u32], tables: &[u32], thread: usize, lev
     let mut n: usize = 0;
     let mut level: usize = 0;
     while level < levels {
-        n += level_pages(p, cells, tables, region_at(p, thread, level));
+        n += level_pages(
+            p,
+            cells,
+            tables,
+            layout::regions::region_at(p, thread, level),
+        );
         level += 1;
     }
     n

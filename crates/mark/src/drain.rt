@@ -4,9 +4,6 @@ ghost use Prim.Native.Nat.{ℕ};
 ghost use Rattle.mark.specs.Draining.{Pending, Drained};
 use crate::push::scan;
 use layout::Places;
-use layout::cells::cell_named;
-use layout::cells::set_work;
-use layout::cells::work;
 
 // Until the stack is empty: pops a cell, writes g into its word 1, and scans it. Returns how many cells it popped.
 pub fn drain(p: Places, cells: &mut [u32], tables: &mut [u32], r: u32, g: u32, top: u32) -> usize
@@ -16,9 +13,9 @@ pub fn drain(p: Places, cells: &mut [u32], tables: &mut [u32], r: u32, g: u32, t
     let mut t = top;
     let mut count: usize = 0;
     while t != 0 {
-        let c = cell_named(t);
-        t = work(cells, c);
-        set_work(cells, c, g);
+        let c = layout::cells::cell_named(t);
+        t = layout::cells::work(cells, c);
+        layout::cells::set_work(cells, c, g);
         t = scan(p, cells, tables, r, c, t);
         count += 1;
     }

@@ -10,23 +10,13 @@ ghost use Rattle.mark.specs.Pushes.{Pushing};
 ghost use Rattle.mark.specs.Holders.{varCalls, varHeld, slotHeld, Holding};
 use crate::push::push;
 use layout::Places;
-use layout::cells::page_at;
-use layout::regions::join;
-use layout::remember::region;
-use layout::remember::slot;
-use layout::remember::used;
-use layout::tables::owner;
-use layout::tables::var;
-use layout::tables::var_count;
-use layout::tables::var_thread;
-use layout::wide;
 
 // The region that variable i calls for: outer if it is the ending thread's, else the control space.
 pub fn variable_calls(p: Places, thread: usize, outer: u32, i: usize) -> u32
     requires { ⌜ 1 ≤ p .variables ⌝ }
     ensures { λ q. ⌜ q ≡ varCalls p thread outer i ⌝ }
 {
-    if var_thread(p, i) != thread {
+    if layout::tables::var_thread(p, i) != thread {
         return 1;
     }
     outer
@@ -41,7 +31,7 @@ pub fn variable_for(p: Places, tables: &[u32], thread: usize, outer: u32, g: u32
     if variable_calls(p, thread, outer, i) != g {
         return 0;
     }
-    var(p, tables, i)
+    layout::tables::var(p, tables, i)
 }
 
 // What the slot of entry i holds if it points into r and calls for g, else null.
@@ -59,11 +49,17 @@ pub fn slot_for(
     requires { ⌜ (i < p .entries) × (slotIn (now remember) i < 256 * p .pages) ⌝ }
     ensures { λ x. ⌜ x ≡ slotHeld p (now (cells .entry)) (now (remember .entry)) (now (tables .entry)) r g i ⌝ }
 {
-    if region(p.entries, remember, i) != r {
+    if layout::remember::region(p.entries, remember, i) != r {
         return 0;
     }
-    let at = wide(slot(p.entries, remember, i));
-    if join(p, r, owner(p, tables, page_at(at))) != g {
+    let at = layout::wide(layout::remember::slot(p.entries, remember, i));
+    if layout::regions::join(
+        p,
+        r,
+        layout::tables::owner(p, tables, layout::cells::page_at(at)),
+    )
+        != g
+    {
         return 0;
     }
     cells[at]
@@ -84,7 +80,7 @@ pub fn push_variables(
     requires { ⌜ ((m : List ℕ) × Holding p (now cells) m (now tables)) ⌝ }
     ensures { λ t. ⌜ Pushing p r (varHeld p (now (tables .entry)) thread outer g) (p .threads * p .variables) (now (cells .entry)) (now (tables .entry)) top (now (cells .exit)) (now (tables .exit)) t (p .threads * p .variables) ⌝ }
 {
-    let n = var_count(p);
+    let n = layout::tables::var_count(p);
     let mut t = top;
     let mut i: usize = 0;
     while i < n {
@@ -109,7 +105,7 @@ pub fn push_slots(
     requires { ⌜ Holding p (now cells) (now remember) (now tables) ⌝ }
     ensures { λ t. ⌜ Pushing p r (slotHeld p (now (cells .entry)) (now (remember .entry)) (now (tables .entry)) r g) (usedIn (now (remember .entry))) (now (cells .entry)) (now (tables .entry)) top (now (cells .exit)) (now (tables .exit)) t (usedIn (now (remember .entry))) ⌝ }
 {
-    let n = wide(used(remember));
+    let n = layout::wide(layout::remember::used(remember));
     let mut t = top;
     let mut i: usize = 0;
     while i < n {

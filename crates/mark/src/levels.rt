@@ -12,7 +12,6 @@ use crate::drain::drain;
 use crate::holders::push_slots;
 use crate::holders::push_variables;
 use layout::Places;
-use layout::regions::region_at;
 
 // For each level of the thread below depth, the control space being level 0: what holders calling for its region hold is pushed, then
 // all that it leads to inside r is marked.
@@ -35,7 +34,7 @@ pub fn mark_levels(
     let mut left = depth;
     while left != 0 {
         let level = depth - left;
-        let g = region_at(p, thread, level);
+        let g = layout::regions::region_at(p, thread, level);
         let held = push_variables(p, cells, tables, r, thread, outer, g, 0);
         let top = push_slots(p, cells, remember, tables, r, g, held);
         drain(p, cells, tables, r, g, top);

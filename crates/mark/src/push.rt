@@ -6,18 +6,6 @@ ghost use Rattle.mark.specs.Marks.{Shaped, Pushed};
 ghost use Rattle.mark.specs.Pushes.{Pushing};
 use layout::Kind;
 use layout::Places;
-use layout::bits::bit_at;
-use layout::bits::with_bit;
-use layout::cells::cell_named;
-use layout::cells::field;
-use layout::cells::field_count;
-use layout::cells::head;
-use layout::cells::page_of;
-use layout::cells::place_of;
-use layout::cells::set_work;
-use layout::tables::mark;
-use layout::tables::owner;
-use layout::tables::set_mark;
 
 // If reference x names an object of r that is not marked, it is marked and goes on the stack, whose new top is returned.
 pub fn push(p: Places, cells: &mut [u32], tables: &mut [u32], r: u32, x: u32, top: u32) -> u32
@@ -28,18 +16,18 @@ pub fn push(p: Places, cells: &mut [u32], tables: &mut [u32], r: u32, x: u32, to
     if x == 0 {
         return top;
     }
-    let c = cell_named(x);
-    let page = page_of(c);
-    if owner(p, tables, page) != r {
+    let c = layout::cells::cell_named(x);
+    let page = layout::cells::page_of(c);
+    if layout::tables::owner(p, tables, page) != r {
         return top;
     }
-    let w = mark(p, tables, page);
-    let i = place_of(c);
-    if bit_at(w, i) != 0 {
+    let w = layout::tables::mark(p, tables, page);
+    let i = layout::cells::place_of(c);
+    if layout::bits::bit_at(w, i) != 0 {
         return top;
     }
-    set_mark(p, tables, page, with_bit(w, i));
-    set_work(cells, c, top);
+    layout::tables::set_mark(p, tables, page, layout::bits::with_bit(w, i));
+    layout::cells::set_work(cells, c, top);
     x
 }
 
@@ -49,11 +37,11 @@ pub fn scan(p: Places, cells: &mut [u32], tables: &mut [u32], r: u32, c: usize, 
     requires { ⌜ InUse p (now tables) c ⌝ }
     ensures { λ t. ⌜ Pushing p r (fieldOf (now (cells .entry)) c) (refsOf (now (cells .entry)) c) (now (cells .entry)) (now (tables .entry)) top (now (cells .exit)) (now (tables .exit)) t (refsOf (now (cells .entry)) c) ⌝ }
 {
-    let n = field_count(Kind::Reference, head(cells, c));
+    let n = layout::cells::field_count(Kind::Reference, layout::cells::head(cells, c));
     let mut t = top;
     let mut f: usize = 0;
     while f < n {
-        t = push(p, cells, tables, r, field(cells, c, f), t);
+        t = push(p, cells, tables, r, layout::cells::field(cells, c, f), t);
         f += 1;
     }
     t

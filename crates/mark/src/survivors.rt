@@ -8,9 +8,6 @@ ghost use Rattle.promises.specs.Whole.{WholeFor};
 ghost use Rattle.mark.specs.Survivors.{Marked};
 use crate::levels::mark_levels;
 use layout::Places;
-use layout::regions::region_at;
-use layout::tables::depth;
-use layout::wide;
 
 // Marks what survives the end of the thread's innermost region.
 pub fn mark_survivors(
@@ -25,8 +22,8 @@ pub fn mark_survivors(
     requires { ⌜ (thread < p .threads) × (1 ≤ depthOf (now tables) thread) ⌝ }
     ensures { λ _. ⌜ Marked (sizesOf p) (words (now (cells .entry)) (now (remember .entry)) (now (tables .entry))) (regionAt (sizesOf p) thread (depthOf (now (tables .entry)) thread)) (words (now (cells .exit)) (now (remember .entry)) (now (tables .exit))) ⌝ }
 {
-    let d = wide(depth(p, tables, thread));
-    let r = region_at(p, thread, d);
-    let outer = region_at(p, thread, d - 1);
+    let d = layout::wide(layout::tables::depth(p, tables, thread));
+    let r = layout::regions::region_at(p, thread, d);
+    let outer = layout::regions::region_at(p, thread, d - 1);
     mark_levels(p, cells, remember, tables, r, thread, outer, d);
 }

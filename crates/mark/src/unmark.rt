@@ -4,12 +4,6 @@ ghost use lib.ListN.{length};
 ghost use Rattle.layout.specs.Places.{Room, markOf};
 ghost use Rattle.mark.specs.Unmark.{PageCleared, Unmarked};
 use layout::Places;
-use layout::bits::without_bit;
-use layout::cells::cell_on;
-use layout::cells::set_work;
-use layout::tables::mark;
-use layout::tables::set_mark;
-use layout::wide;
 
 // Word 1 of each cell of a page whose bit is set in w becomes 0: as many cells as w's ones count, the next one by trailing zeros.
 pub fn unmark_page(cells: &mut [u32], w: u32, page: usize)
@@ -21,8 +15,8 @@ pub fn unmark_page(cells: &mut [u32], w: u32, page: usize)
     let mut k: u32 = 0;
     while k < n {
         let i = u32::trailing_zeros(left);
-        set_work(cells, cell_on(page, wide(i)), 0);
-        left = without_bit(left, i);
+        layout::cells::set_work(cells, layout::cells::cell_on(page, layout::wide(i)), 0);
+        left = layout::bits::without_bit(left, i);
         k += 1;
     }
 }
@@ -37,8 +31,8 @@ pub fn unmark(p: Places, cells: &mut [u32], tables: &mut [u32])
     let n = p.pages;
     let mut page: usize = 0;
     while page < n {
-        unmark_page(cells, mark(p, tables, page), page);
-        set_mark(p, tables, page, 0);
+        unmark_page(cells, layout::tables::mark(p, tables, page), page);
+        layout::tables::set_mark(p, tables, page, 0);
         page += 1;
     }
 }

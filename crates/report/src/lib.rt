@@ -9,13 +9,6 @@ ghost use Rattle.report.specs.Report.{rowOf, noRow};
 ghost use Rattle.report.specs.Opened.{Next, Turn};
 ghost use Rattle.report.specs.Tables.{WholeTables, rowIn, rowsIn, freeIn};
 use layout::Places;
-use layout::regions::level_of;
-use layout::regions::region_at;
-use layout::regions::thread_of;
-use layout::tables::count;
-use layout::tables::depth;
-use layout::wide;
-use whole::pages::is_open;
 
 pub mod lent;
 
@@ -41,7 +34,7 @@ pub struct Reported {
 fn row_with(thread: u32, level: u32, objects: u32) -> Row
     ensures { λ r. ⌜ r ≡ rowOf thread level objects ⌝ }
 {
-    let pages = layout::cells::pages_for(wide(objects)) as u32;
+    let pages = layout::cells::pages_for(layout::wide(objects)) as u32;
     Row {
         thread,
         level,
@@ -56,12 +49,12 @@ pub fn row_of(p: Places, tables: &[u32], region: usize) -> Row
     requires { ⌜ (1 ≤ region) × (region ≤ 1 + p .threads * p .depth) ⌝ }
     ensures { λ r. ⌜ r ≡ rowIn p (now (tables .entry)) region ⌝ }
 {
-    let objects = count(p, tables, region);
+    let objects = layout::tables::count(p, tables, region);
     if region == 1 {
         return row_with(0, 0, objects);
     }
-    let thread = thread_of(p, region) as u32;
-    let level = level_of(p, region) as u32;
+    let thread = layout::regions::thread_of(p, region) as u32;
+    let level = layout::regions::level_of(p, region) as u32;
     row_with(thread, level, objects)
 }
 
@@ -71,10 +64,10 @@ pub fn next_open(p: Places, tables: &[u32], region: usize) -> usize
     requires { ⌜ (1 ≤ region) × (region ≤ 1 + p .threads * p .depth) ⌝ }
     ensures { λ r. ⌜ Next (sizesOf p) (depthsAt (sizesOf p) (now (tables .entry))) region r ⌝ }
 {
-    let last = wide(region_at(p, p.threads - 1, p.depth));
+    let last = layout::wide(layout::regions::region_at(p, p.threads - 1, p.depth));
     let mut next = region + 1;
     while next <= last {
-        if is_open(p, tables, next) {
+        if whole::pages::is_open(p, tables, next) {
             return next;
         }
         next += 1;
@@ -91,7 +84,7 @@ pub fn row_count(p: Places, tables: &[u32]) -> usize
     let mut n: usize = 1;
     let mut thread: usize = 0;
     while thread < threads {
-        n += wide(depth(p, tables, thread));
+        n += layout::wide(layout::tables::depth(p, tables, thread));
         thread += 1;
     }
     n
@@ -108,13 +101,13 @@ fn open_region(p: Places, tables: &[u32], k: usize) -> usize
     }
     let mut level = k;
     let mut thread: usize = 0;
-    let mut deep = wide(depth(p, tables, 0));
+    let mut deep = layout::wide(layout::tables::depth(p, tables, 0));
     while deep < level {
         level -= deep;
         thread += 1;
-        deep = wide(depth(p, tables, thread));
+        deep = layout::wide(layout::tables::depth(p, tables, thread));
     }
-    wide(region_at(p, thread, level))
+    layout::wide(layout::regions::region_at(p, thread, level))
 }
 
 // Row k, by region number.
