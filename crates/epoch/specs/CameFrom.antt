@@ -41,7 +41,7 @@ pub record Came (p : Places) (r : ℕ) (home : ℕ → ℕ) (W₀ T₀ W : List 
   pub far : home (q / 16) ≢ home names
 
 module _ {p : Places} {r : ℕ} {S : ℕ → Type 0} {W₀ T₀ W T W′ : List ℕ} (s : Start p r S W₀ T₀) (a₀ : Ready p W₀ T₀) (F : Forwards p W₀ T₀ W T)
-    (R : Rewritten p r (λ x. S x ⊎ Copies p r W T x) T W W′) where
+    (R : Rewritten p r (λ x. S x ⊎ Copies p r W T x) W T W′) where
   -- the cells of r with a forward reference are the survivors
   survivor : (c : ℕ) → Old p r W T c → InUse p T₀ c × (marked p T₀ c ≡ 1)
   survivor c u = ⊎-elim was new (F .only c (u .used))

@@ -129,7 +129,7 @@ module _ {p : Places} {r : ℕ} {S : ℕ → Type 0} {W₀ T₀ W T : List ℕ} 
 
   -- ---- after the rewriting of the remembered slots and of the copies' slots
 
-  module _ {W′ : List ℕ} (R : Rewritten p r (λ x. S x ⊎ Copies p r W T x) T W W′) where
+  module _ {W′ : List ℕ} (R : Rewritten p r (λ x. S x ⊎ Copies p r W T x) W T W′) where
     -- a slot of a copy
     pub copy-after : (c f : ℕ) → c / 16 < p .pages → marked p T₀ c ≡ 1 → f < refsOf W₀ c → fieldOf W′ (forward W c) f ≡ moveRef p r W T (fieldOf W₀ c f)
     copy-after c f l on lf =

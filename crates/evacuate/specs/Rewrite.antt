@@ -41,13 +41,13 @@ Names p x = x ≢ 0 → (x - 1) / 16 < p .pages
 
 -- ---- the words at the positions of P are rewritten, and nothing else
 
-pub record Rewritten (p : Places) (r : ℕ) (P : ℕ → Type 0) (T W W′ : List ℕ) : Type 0 where
+pub record Rewritten (p : Places) (r : ℕ) (P : ℕ → Type 0) (W T W′ : List ℕ) : Type 0 where
   pub size : length W′ ≡ length W
   pub fields : (x : ℕ) → P x → 2 ≤ x % 16
   pub moved : (x : ℕ) → P x → getD W′ x 0 ≡ moveRef p r W T (getD W x 0)
   pub same : (x : ℕ) → (P x → ⊥) → getD W′ x 0 ≡ getD W x 0
 
-module _ {p : Places} {r : ℕ} {P : ℕ → Type 0} {T W W′ : List ℕ} (h : Rewritten p r P T W W′) where
+module _ {p : Places} {r : ℕ} {P : ℕ → Type 0} {W T W′ : List ℕ} (h : Rewritten p r P W T W′) where
   pub head-same : (x : ℕ) → x % 16 < 2 → getD W′ x 0 ≡ getD W x 0
   head-same x l = h .same x (λ q. let z : 2 ≤ x % 16 = h .fields x q in omega arith)
 
@@ -60,14 +60,14 @@ module _ {p : Places} {r : ℕ} {P : ℕ → Type 0} {T W W′ : List ℕ} (h : 
   pub ref-same : (x : ℕ) → moveRef p r W′ T x ≡ moveRef p r W T x
   ref-same x = move-same p r W W′ T T x (link-same (x - 1)) refl
 
-pub rewritten-none : (p : Places) (r : ℕ) (P : ℕ → Type 0) (T W : List ℕ) → ((x : ℕ) → P x → ⊥) → Rewritten p r P T W W
-rewritten-none p r P T W n =
+pub rewritten-none : (p : Places) (r : ℕ) (P : ℕ → Type 0) (W T : List ℕ) → ((x : ℕ) → P x → ⊥) → Rewritten p r P W T W
+rewritten-none p r P W T n =
     record { size = refl; fields = λ x q. absurd (n x q); moved = λ x q. absurd (n x q); same = λ x q. refl }
 
 -- one word
-pub rewritten-one : {p : Places} {r : ℕ} {T W : List ℕ} (x v : ℕ) → x < length W → 2 ≤ x % 16 → v ≡ moveRef p r W T (getD W x 0)
-    → Rewritten p r (λ y. y ≡ x) T W (set W x v)
-rewritten-one {p} {r} {T} {W} x v l f e =
+pub rewritten-one : {p : Places} {r : ℕ} {W T : List ℕ} (x v : ℕ) → x < length W → 2 ≤ x % 16 → v ≡ moveRef p r W T (getD W x 0)
+    → Rewritten p r (λ y. y ≡ x) W T (set W x v)
+rewritten-one {p} {r} {W} {T} x v l f e =
     record {
       size = length-set W x v;
       fields = λ y q. subst (λ (z : ℕ). 2 ≤ z % 16) (sym q) f;
@@ -76,9 +76,9 @@ rewritten-one {p} {r} {T} {W} x v l f e =
     }
 
 -- one set of positions after another that has none of the first
-pub rewritten-join : {p : Places} {r : ℕ} {P Q R : ℕ → Type 0} {T W W′ W″ : List ℕ} → Rewritten p r P T W W′ → Rewritten p r Q T W′ W″
-    → ((x : ℕ) → P x → Q x → ⊥) → ((x : ℕ) → R x → P x ⊎ Q x) → ((x : ℕ) → P x ⊎ Q x → R x) → Rewritten p r R T W W″
-rewritten-join {p} {r} {P} {Q} {R} {T} {W} {W′} {W″} a b apart from to =
+pub rewritten-join : {p : Places} {r : ℕ} {P Q R : ℕ → Type 0} {W T W′ W″ : List ℕ} → Rewritten p r P W T W′ → Rewritten p r Q W′ T W″
+    → ((x : ℕ) → P x → Q x → ⊥) → ((x : ℕ) → R x → P x ⊎ Q x) → ((x : ℕ) → P x ⊎ Q x → R x) → Rewritten p r R W T W″
+rewritten-join {p} {r} {P} {Q} {R} {W} {T} {W′} {W″} a b apart from to =
     record {
       size = b .size ∙ a .size;
       fields = λ x q. ⊎-elim (a .fields x) (b .fields x) (from x q);
@@ -92,6 +92,6 @@ rewritten-join {p} {r} {P} {Q} {R} {T} {W} {W′} {W″} a b apart from to =
         b .moved x q ∙ ref-same a (getD W′ x 0) ∙ ap (λ (y : ℕ). moveRef p r W T y) (a .same x (λ z. apart x z q))
 
 -- the same positions, said in another way
-pub rewritten-like : {p : Places} {r : ℕ} {P R : ℕ → Type 0} {T W W′ : List ℕ} → Rewritten p r P T W W′ → ((x : ℕ) → R x → P x) → ((x : ℕ) → P x → R x) → Rewritten p r R T W W′
+pub rewritten-like : {p : Places} {r : ℕ} {P R : ℕ → Type 0} {W T W′ : List ℕ} → Rewritten p r P W T W′ → ((x : ℕ) → R x → P x) → ((x : ℕ) → P x → R x) → Rewritten p r R W T W′
 rewritten-like h from to =
     record { size = h .size; fields = λ x q. h .fields x (from x q); moved = λ x q. h .moved x (from x q); same = λ x n. h .same x (λ q. n (to x q)) }

@@ -38,7 +38,7 @@ pub record Wiring (p : Places) (r : ℕ) (Q : ℕ → Type 0) (W T : List ℕ) :
   pub copies : (c : ℕ) → Q c → Old p r W T c → Fields p (refsOf W (workOf W c - 1)) (workOf W c - 1) W
   pub once : (b c : ℕ) → Q b → Q c → Old p r W T b → Old p r W T c → workOf W b ≡ workOf W c → b ≡ c
 
-module _ {p : Places} {r : ℕ} {P : ℕ → Type 0} {W T W′ : List ℕ} (h : Rewritten p r P T W W′) where
+module _ {p : Places} {r : ℕ} {P : ℕ → Type 0} {W T W′ : List ℕ} (h : Rewritten p r P W T W′) where
   pub old-now : {p : Places} (c : ℕ) → Old p r W T c → Old p r W′ T c
   old-now c u = record { used = u .used; owner = u .owner; moved = λ z. u .moved (sym (link-same h c) ∙ z) }
 
@@ -125,8 +125,8 @@ pub record Grown (P : ℕ → Type 0) (c : ℕ) (P′ : ℕ → Type 0) : Type 0
   pub keeps : (y : ℕ) → P y → P′ y
   pub split : (y : ℕ) → P′ y → P y ⊎ (y ≡ c)
 
-module _ {p : Places} {r c : ℕ} {P P′ Q : ℕ → Type 0} {T W W′ : List ℕ} (w : Wiring p r Q W T) (g : Grown P c P′) (among : (y : ℕ) → P′ y → Q y)
-    (h : Rewritten p r (CopySlot p r P W T) T W W′) where
+module _ {p : Places} {r c : ℕ} {P P′ Q : ℕ → Type 0} {W T W′ : List ℕ} (w : Wiring p r Q W T) (g : Grown P c P′) (among : (y : ℕ) → P′ y → Q y)
+    (h : Rewritten p r (CopySlot p r P W T) W T W′) where
   earlier-apart : (x : ℕ) → CopySlot p r (λ y. y ≡ c) W T x → CopySlot p r P W T x → ⊥
   earlier-apart x q q′ =
       let z : q′ .cell ≡ q .cell =
@@ -141,8 +141,8 @@ module _ {p : Places} {r c : ℕ} {P P′ Q : ℕ → Type 0} {T W W′ : List �
   copy-fields x e u =
       subst (λ (y : ℕ). Fields p (refsOf W′ (y - 1)) (y - 1) W′) (sym e) (here-wired .copies c refl (old-now h c u))
 
-  pub copy-moved : {W″ : List ℕ} (x : ℕ) → x ≡ workOf W′ c → Old p r W T c → Rewritten p r (Field (x - 1) (refsOf W′ (x - 1))) T W′ W″
-      → Rewritten p r (CopySlot p r P′ W T) T W W″
+  pub copy-moved : {W″ : List ℕ} (x : ℕ) → x ≡ workOf W′ c → Old p r W T c → Rewritten p r (Field (x - 1) (refsOf W′ (x - 1))) W′ T W″
+      → Rewritten p r (CopySlot p r P′ W T) W T W″
   copy-moved {W″} x e u k =
       rewritten-join h k (λ y q f. earlier-apart y (one y f) q) (λ y q. from y q (g .split (q .cell) (q .among)))
       (λ y. ⊎-elim (slot-less (g .keeps) y) (λ f. slot-less (λ z q. subst P′ (sym q) (g .here)) y (one y f)))
@@ -204,7 +204,7 @@ passed-grown {left} q i left′ l e =
     split′ y m (yes d) = inr (omega (arith, m .0))
     split′ y m (no n) = inl (m .0, sym (clear-other i (y % 16) left (l .on) n) ∙ sym (at (y % 16)) ∙ m .1)
 
-module _ {p : Places} {r q w : ℕ} {T W : List ℕ} (a : Wiring p r (Between (16 * q) (16 * (q + 1))) W T) (e : w ≡ markOf p T q / 2 ^ 16) where
+module _ {p : Places} {r q w : ℕ} {W T : List ℕ} (a : Wiring p r (Between (16 * q) (16 * (q + 1))) W T) (e : w ≡ markOf p T q / 2 ^ 16) where
   -- w is the upper half of the page's mark word
   upper-copied : (c : ℕ) → c / 16 ≡ q → bitAt w (c % 16) ≡ copied p T c
   upper-copied c d =
@@ -222,27 +222,27 @@ module _ {p : Places} {r q w : ℕ} {T W : List ℕ} (a : Wiring p r (Between (1
       let c : ℕ = s .cell in
       omega (arith, a .only c (passed-within q w c (s .among)) (s .old), upper-copied c (s .among .0), s .among .1)
 
-  pub unset-rewritten : Rewritten p r (CopySlot p r (Passed q w) W T) T W W
-  unset-rewritten = rewritten-none p r (CopySlot p r (Passed q w) W T) T W unset-none
+  pub unset-rewritten : Rewritten p r (CopySlot p r (Passed q w) W T) W T W
+  unset-rewritten = rewritten-none p r (CopySlot p r (Passed q w) W T) W T unset-none
 
 -- once none is left, all cells of the page are passed
 pub within-passed : (q left c : ℕ) → left ≡ 0 → Between (16 * q) (16 * (q + 1)) c → Passed q left c
 within-passed q left c z m = (omega (arith, m .0, m .1), ap (λ (x : ℕ). bitAt x (c % 16)) z ∙ bit-zero (c % 16))
 
-pub page-done : {p : Places} {r left : ℕ} {T W W′ : List ℕ} (q : ℕ) → left ≡ 0 → Rewritten p r (CopySlot p r (Passed q left) W T) T W W′
-    → Rewritten p r (CopySlot p r (Between (16 * q) (16 * (q + 1))) W T) T W W′
+pub page-done : {p : Places} {r left : ℕ} {W T W′ : List ℕ} (q : ℕ) → left ≡ 0 → Rewritten p r (CopySlot p r (Passed q left) W T) W T W′
+    → Rewritten p r (CopySlot p r (Between (16 * q) (16 * (q + 1))) W T) W T W′
 page-done {left = left} q z h =
     rewritten-like h (λ x s. slot-less (λ c m. within-passed q left c z m) x s) (λ x s. slot-less (λ c m. passed-within q left c m) x s)
 
 -- ---- all pages
 
-pub copies-start : (p : Places) (r a : ℕ) (T W : List ℕ) → Rewritten p r (CopySlot p r (Between a a) W T) T W W
-copies-start p r a T W =
-    rewritten-none p r (CopySlot p r (Between a a) W T) T W (λ x q. omega (arith, q .among .0, q .among .1))
+pub copies-start : (p : Places) (r a : ℕ) (W T : List ℕ) → Rewritten p r (CopySlot p r (Between a a) W T) W T W
+copies-start p r a W T =
+    rewritten-none p r (CopySlot p r (Between a a) W T) W T (λ x q. omega (arith, q .among .0, q .among .1))
 
 -- a page after those below it
-module _ {p : Places} {r q : ℕ} {T W W′ : List ℕ} (w : Wiring p r (Between 0 (16 * p .pages)) W T) (lt : q < p .pages)
-    (h : Rewritten p r (CopySlot p r (Between 0 (16 * q)) W T) T W W′) where
+module _ {p : Places} {r q : ℕ} {W T W′ : List ℕ} (w : Wiring p r (Between 0 (16 * p .pages)) W T) (lt : q < p .pages)
+    (h : Rewritten p r (CopySlot p r (Between 0 (16 * q)) W T) W T W′) where
   pages-apart : (x : ℕ) → CopySlot p r (Between (16 * q) (16 * (q + 1))) W T x → CopySlot p r (Between 0 (16 * q)) W T x → ⊥
   pages-apart x s s′ =
       let l : 16 * q ≤ s .cell = s .among .0 in
@@ -255,8 +255,8 @@ module _ {p : Places} {r q : ℕ} {T W W′ : List ℕ} (w : Wiring p r (Between
   pub page-wired : Wiring p r (Between (16 * q) (16 * (q + 1))) W′ T
   page-wired = wiring-now h (wiring-less (λ y l. (omega arith, omega (arith, l .1))) w) pages-apart
 
-  pub pages-next : {W″ : List ℕ} → Rewritten p r (CopySlot p r (Between (16 * q) (16 * (q + 1))) W′ T) T W′ W″
-      → Rewritten p r (CopySlot p r (Between 0 (16 * (q + 1))) W T) T W W″
+  pub pages-next : {W″ : List ℕ} → Rewritten p r (CopySlot p r (Between (16 * q) (16 * (q + 1))) W′ T) W′ T W″
+      → Rewritten p r (CopySlot p r (Between 0 (16 * (q + 1))) W T) W T W″
   pages-next k =
       rewritten-join h k (λ x s s′. pages-apart x (slot-then h x s′) s)
       (λ x s. from x s (decLt (s .cell) (16 * q)))

@@ -31,7 +31,7 @@ pub record Slots (p : Places) (r n m : ℕ) (W M : List ℕ) : Type 0 where
   pub once : (i j : ℕ) → i < j → j < m → slotIn M i ≢ slotIn M j
   pub names : (i : ℕ) → i < m → slotRegionIn n M i ≡ r → Names p (getD W (slotIn M i) 0)
 
-module _ {p : Places} {r n m : ℕ} {M T W W′ : List ℕ} {i : ℕ} (a : Slots p r n m W M) (lt : i < m) (h : Rewritten p r (Remembered r n i M) T W W′) where
+module _ {p : Places} {r n m : ℕ} {W M T W′ : List ℕ} {i : ℕ} (a : Slots p r n m W M) (lt : i < m) (h : Rewritten p r (Remembered r n i M) W T W′) where
   fresh : Remembered r n i M (slotIn M i) → ⊥
   fresh q = a .once (q .entry) i (q .low) lt (q .slot)
 
@@ -39,7 +39,7 @@ module _ {p : Places} {r n m : ℕ} {M T W W′ : List ℕ} {i : ℕ} (a : Slots
   slot-names e = subst (λ (x : ℕ). Names p x) (sym (h .same (slotIn M i) fresh)) (a .names i lt e)
 
   pub slot-moved : (v s : ℕ) → s ≡ slotIn M i → slotRegionIn n M i ≡ r → v ≡ moveRef p r W′ T (getD W′ s 0)
-      → Rewritten p r (Remembered r n (i + 1) M) T W (set W′ s v)
+      → Rewritten p r (Remembered r n (i + 1) M) W T (set W′ s v)
   slot-moved v s e reg ev =
       rewritten-join h
       (rewritten-one s v (omega (arith, a .low i lt, a .cells-long, h .size)) (subst (λ (z : ℕ). 2 ≤ z % 16) (sym e) (a .fields i lt)) ev)
@@ -52,9 +52,9 @@ module _ {p : Places} {r n m : ℕ} {M T W W′ : List ℕ} {i : ℕ} (a : Slots
       from x q (yes z) = inr (sym (q .slot) ∙ ap (λ (y : ℕ). slotIn M y) z ∙ sym e)
       from x q (no z) = inl (record { entry = q .entry; low = omega (arith, q .low); region = q .region; slot = q .slot })
 
-  pub slot-left : slotRegionIn n M i ≢ r → Rewritten p r (Remembered r n (i + 1) M) T W W′
+  pub slot-left : slotRegionIn n M i ≢ r → Rewritten p r (Remembered r n (i + 1) M) W T W′
   slot-left ne =
-      rewritten-join h (rewritten-none p r (λ x. ⊥) T W′ (λ x q. q)) (λ x q z. z)
+      rewritten-join h (rewritten-none p r (λ x. ⊥) W′ T (λ x q. q)) (λ x q z. z)
       (λ x q. inl (from x q (ℕ-discrete (q .entry) i)))
       (λ x. ⊎-elim (λ q. record { entry = q .entry; low = omega (arith, q .low); region = q .region; slot = q .slot }) (λ z. absurd z))
     where
@@ -62,8 +62,8 @@ module _ {p : Places} {r n m : ℕ} {M T W W′ : List ℕ} {i : ℕ} (a : Slots
       from x q (yes z) = absurd (ne (ap (λ (y : ℕ). slotRegionIn n M y) (sym z) ∙ q .region))
       from x q (no z) = record { entry = q .entry; low = omega (arith, q .low); region = q .region; slot = q .slot }
 
-pub slots-start : (p : Places) (r n : ℕ) (M T W : List ℕ) → Rewritten p r (Remembered r n 0 M) T W W
-slots-start p r n M T W = rewritten-none p r (Remembered r n 0 M) T W (λ x q. omega (arith, q .low))
+pub slots-start : (p : Places) (r n : ℕ) (W M T : List ℕ) → Rewritten p r (Remembered r n 0 M) W T W
+slots-start p r n W M T = rewritten-none p r (Remembered r n 0 M) W T (λ x q. omega (arith, q .low))
 
 -- ---- the fields of one cell
 
@@ -79,17 +79,17 @@ pub record Fields (p : Places) (n d : ℕ) (W : List ℕ) : Type 0 where
   pub few : n ≤ 14
   pub names : (f : ℕ) → f < n → Names p (fieldOf W d f)
 
-pub fields-start : (p : Places) (r d : ℕ) (T W : List ℕ) → Rewritten p r (Field d 0) T W W
-fields-start p r d T W = rewritten-none p r (Field d 0) T W (λ x q. omega (arith, q .low))
+pub fields-start : (p : Places) (r d : ℕ) (W T : List ℕ) → Rewritten p r (Field d 0) W T W
+fields-start p r d W T = rewritten-none p r (Field d 0) W T (λ x q. omega (arith, q .low))
 
-module _ {p : Places} {r n d : ℕ} {T W W′ : List ℕ} {f : ℕ} (a : Fields p n d W) (lt : f < n) (h : Rewritten p r (Field d f) T W W′) where
+module _ {p : Places} {r n d : ℕ} {W T W′ : List ℕ} {f : ℕ} (a : Fields p n d W) (lt : f < n) (h : Rewritten p r (Field d f) W T W′) where
   new : Field d f (16 * d + 2 + f) → ⊥
   new q = omega (arith, q .low, q .at)
 
   pub field-names : Names p (fieldOf W′ d f)
   field-names = subst (λ (x : ℕ). Names p x) (sym (h .same (16 * d + 2 + f) new)) (a .names f lt)
 
-  pub field-moved : (v : ℕ) → v ≡ moveRef p r W′ T (fieldOf W′ d f) → Rewritten p r (Field d (f + 1)) T W (set W′ (16 * d + 2 + f) v)
+  pub field-moved : (v : ℕ) → v ≡ moveRef p r W′ T (fieldOf W′ d f) → Rewritten p r (Field d (f + 1)) W T (set W′ (16 * d + 2 + f) v)
   field-moved v ev =
       rewritten-join h
       (rewritten-one (16 * d + 2 + f) v (omega (arith, a .page, a .cells-long, h .size, a .few)) (omega (arith, a .few)) ev)

@@ -42,7 +42,7 @@ pub record Before (p : Places) (r n m l : ℕ) (gs : ℕ → ℕ) (W M T : List 
   pub long : 2 + 2 * n ≤ length M
   pub rest : (y : ℕ) → m ≤ y → y < n → (slotIn M y ≡ 0) × (slotRegionIn n M y ≡ 0)
   pub variables : (i : ℕ) → i < p .threads * p .variables → varOf p T i ≢ 0 → Lives p r T (varOf p T i - 1)
-  pub space : (W₁ T₁ W₃ : List ℕ) → Forwards p W T W₁ T₁ → Rewritten p r (λ x. Remembered r n m M x ⊎ Copies p r W₁ T₁ x) T₁ W₁ W₃ → Space p r n W₃ T₁
+  pub space : (W₁ T₁ W₃ : List ℕ) → Forwards p W T W₁ T₁ → Rewritten p r (λ x. Remembered r n m M x ⊎ Copies p r W₁ T₁ x) W₁ T₁ W₃ → Space p r n W₃ T₁
 
 module _ {p : Places} {r n m l : ℕ} {gs : ℕ → ℕ} {W T M W₁ T₁ : List ℕ} (b : Before p r n m l gs W M T) (c : Copy p l gs l W T W₁ T₁) where
   F : Forwards p W T W₁ T₁
@@ -86,7 +86,7 @@ module _ {p : Places} {r n m l : ℕ} {gs : ℕ → ℕ} {W T M W₁ T₁ : List
   tables-ask = a₁ .regular .room
 
   -- ---- the copies
-  module _ {W₂ : List ℕ} (R₂ : Rewritten p r (Remembered r n m M) T₁ W₁ W₂) where
+  module _ {W₂ : List ℕ} (R₂ : Rewritten p r (Remembered r n m M) W₁ T₁ W₂) where
     apart₂ : (x : ℕ) → Copies p r W₁ T₁ x → Remembered r n m M x → ⊥
     apart₂ x q s = no-old x (b .start .old x s) q
       where
@@ -102,13 +102,13 @@ module _ {p : Places} {r n m l : ℕ} {gs : ℕ → ℕ} {W T M W₁ T₁ : List
     pub copies-ask : Wiring p r (Between 0 (16 * p .pages)) W₂ T₁
     copies-ask = wiring-now R₂ (forwards-wiring (b .start) a₀ a₁ F) apart₂
 
-    pub rewritten-both : {W₃ : List ℕ} → Rewritten p r (Copies p r W₂ T₁) T₁ W₂ W₃ → Rewritten p r (λ x. Remembered r n m M x ⊎ Copies p r W₁ T₁ x) T₁ W₁ W₃
+    pub rewritten-both : {W₃ : List ℕ} → Rewritten p r (Copies p r W₂ T₁) W₂ T₁ W₃ → Rewritten p r (λ x. Remembered r n m M x ⊎ Copies p r W₁ T₁ x) W₁ T₁ W₃
     rewritten-both R₃ =
         rewritten-join R₂ R₃ (λ x s q. apart₂ x (slot-then R₂ x q) s) (λ x. ⊎-elim inl (λ q. inr (slot-now R₂ x q)))
         (λ x. ⊎-elim inl (λ q. inr (slot-then R₂ x q)))
 
   -- ---- the remember table
-  module _ {W₃ : List ℕ} (R : Rewritten p r (λ x. Remembered r n m M x ⊎ Copies p r W₁ T₁ x) T₁ W₁ W₃) where
+  module _ {W₃ : List ℕ} (R : Rewritten p r (λ x. Remembered r n m M x ⊎ Copies p r W₁ T₁ x) W₁ T₁ W₃) where
     copies-names : (d f : ℕ) → d / 16 < p .pages → marked p T d ≡ 1 → f < refsOf W d → Names p (fieldOf W₃ (forward W₁ d) f)
     copies-names d f ld on lf ne = go (slots-out (b .start) a₀ a₁ F R (forward W₁ d) f (F .moved d ld on .used) out lf′)
       where
@@ -231,13 +231,13 @@ pub record Finished (p : Places) (r n m l t : ℕ) (gs : ℕ → ℕ) (W M T W�
   pub vars : List ℕ
   pub copy : Copy p l gs l W T cells tables
   pub forwards : Forwards p W T cells tables
-  pub rewritten : Rewritten p r (λ x. Remembered r n m M x ⊎ Copies p r cells tables x) tables cells W′
+  pub rewritten : Rewritten p r (λ x. Remembered r n m M x ⊎ Copies p r cells tables x) cells tables W′
   pub remember : Updated p r n m W′ M tables M′
   pub variables : Variables p (p .threads * p .variables) r W′ tables vars
   pub ended : Ended p r t vars T′
 
 pub finished : {p : Places} {r n m l t : ℕ} {gs : ℕ → ℕ} {W T M W₁ T₁ W₂ W₃ T₂ T′ M′ : List ℕ} (b : Before p r n m l gs W M T) (c : Copy p l gs l W T W₁ T₁)
-    (R₂ : Rewritten p r (Remembered r n m M) T₁ W₁ W₂) → Rewritten p r (Copies p r W₂ T₁) T₁ W₂ W₃ → Updated p r n m W₃ M T₁ M′ → Variables p (p .threads * p .variables) r W₃ T₁ T₂
+    (R₂ : Rewritten p r (Remembered r n m M) W₁ T₁ W₂) → Rewritten p r (Copies p r W₂ T₁) W₂ T₁ W₃ → Updated p r n m W₃ M T₁ M′ → Variables p (p .threads * p .variables) r W₃ T₁ T₂
     → Ended p r t T₂ T′ → Finished p r n m l t gs W M T W₃ M′ T′
 finished {W₁ = W₁} {T₁ = T₁} {T₂ = T₂} b c R₂ R₃ u w e =
     record {

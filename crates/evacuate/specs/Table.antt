@@ -62,7 +62,7 @@ pub record Listed (p : Places) (n m : ℕ) (W M T : List ℕ) : Type 0 where
   pub every : (x : ℕ) → IsSlot p W T x → crossAt p W T x ≢ 0 → (i : ℕ) × (i < m) × (slotIn M i ≡ x)
 
 module _ {p : Places} {r n m : ℕ} {M W₀ T₀ W T W′ : List ℕ} (s : Start p r (Remembered r n m M) W₀ T₀) (a₀ : Ready p W₀ T₀) (a : Ready p W T)
-    (F : Forwards p W₀ T₀ W T) (R : Rewritten p r (λ x. Remembered r n m M x ⊎ Copies p r W T x) T W W′)
+    (F : Forwards p W₀ T₀ W T) (R : Rewritten p r (λ x. Remembered r n m M x ⊎ Copies p r W T x) W T W′)
     (L : Listed p n m W₀ M T₀) where
   -- an old slot is no slot of a copy
   pub no-copy : (x : ℕ) → InUse p T₀ (x / 16) → Copies p r W T x → ⊥

@@ -32,7 +32,7 @@ pub fn forward_ref(p: Places, cells: &[u32], tables: &[u32], region: u32, x: u32
 pub fn rewrite_slots(p: Places, cells: &mut [u32], remember: &[u32], tables: &[u32], region: u32)
     requires { ⌜ Slots p region (p .entries) (usedIn (now remember)) (now cells) (now remember) ⌝ }
     requires { ⌜ Room p (length (now tables)) ⌝ }
-    ensures { λ _. ⌜ Rewritten p region (Remembered region (p .entries) (usedIn (now (remember .entry))) (now (remember .entry))) (now (tables .entry)) (now (cells .entry)) (now (cells .exit)) ⌝ }
+    ensures { λ _. ⌜ Rewritten p region (Remembered region (p .entries) (usedIn (now (remember .entry))) (now (remember .entry))) (now (cells .entry)) (now (tables .entry)) (now (cells .exit)) ⌝ }
 {
     let entries = p.entries;
     let used = layout::wide(layout::remember::used(remember));
@@ -50,7 +50,7 @@ pub fn rewrite_slots(p: Places, cells: &mut [u32], remember: &[u32], tables: &[u
 pub fn rewrite_cell(p: Places, cells: &mut [u32], tables: &[u32], region: u32, cell: usize)
     requires { ⌜ Fields p (refsOf (now cells) cell) cell (now cells) ⌝ }
     requires { ⌜ Room p (length (now tables)) ⌝ }
-    ensures { λ _. ⌜ Rewritten p region (Field cell (refsOf (now (cells .entry)) cell)) (now (tables .entry)) (now (cells .entry)) (now (cells .exit)) ⌝ }
+    ensures { λ _. ⌜ Rewritten p region (Field cell (refsOf (now (cells .entry)) cell)) (now (cells .entry)) (now (tables .entry)) (now (cells .exit)) ⌝ }
 {
     let n = layout::cells::field_count(Kind::Reference, layout::cells::head(cells, cell));
     let mut f: usize = 0;
@@ -71,7 +71,7 @@ pub fn rewrite_cell(p: Places, cells: &mut [u32], tables: &[u32], region: u32, c
 pub fn rewrite_page(p: Places, cells: &mut [u32], tables: &[u32], region: u32, page: usize)
     requires { ⌜ Wiring p region (Between (16 * page) (16 * (page + 1))) (now cells) (now tables) ⌝ }
     requires { ⌜ page < p .pages ⌝ }
-    ensures { λ _. ⌜ Rewritten p region (CopySlot p region (Between (16 * page) (16 * (page + 1))) (now (cells .entry)) (now (tables .entry))) (now (tables .entry)) (now (cells .entry)) (now (cells .exit)) ⌝ }
+    ensures { λ _. ⌜ Rewritten p region (CopySlot p region (Between (16 * page) (16 * (page + 1))) (now (cells .entry)) (now (tables .entry))) (now (cells .entry)) (now (tables .entry)) (now (cells .exit)) ⌝ }
 {
     let copied = layout::bits::upper_half(layout::tables::mark(p, tables, page));
     let survivors = u32::count_ones(copied);
@@ -89,7 +89,7 @@ pub fn rewrite_page(p: Places, cells: &mut [u32], tables: &[u32], region: u32, p
 // The reference fields of all copies.
 pub fn rewrite_copies(p: Places, cells: &mut [u32], tables: &[u32], region: u32)
     requires { ⌜ Wiring p region (Between 0 (16 * p .pages)) (now cells) (now tables) ⌝ }
-    ensures { λ _. ⌜ Rewritten p region (CopySlot p region (Between 0 (16 * p .pages)) (now (cells .entry)) (now (tables .entry))) (now (tables .entry)) (now (cells .entry)) (now (cells .exit)) ⌝ }
+    ensures { λ _. ⌜ Rewritten p region (CopySlot p region (Between 0 (16 * p .pages)) (now (cells .entry)) (now (tables .entry))) (now (cells .entry)) (now (tables .entry)) (now (cells .exit)) ⌝ }
 {
     let pages = p.pages;
     let mut page: usize = 0;

@@ -13,7 +13,7 @@ use Rattle.evacuate.proofs.rewrite.rewrite_cell.Tie as tie
 
 abbrev Inv-loop : tie.InvT-loop
 Inv-loop p cells₀ tables region cell n f₀ cells f =
-    (f ≤ n) × (n ≡ refsOf cells₀ cell) × (length cells ≡ length cells₀) × Rewritten p region (Field cell f) tables cells₀ cells
+    (f ≤ n) × (n ≡ refsOf cells₀ cell) × (length cells ≡ length cells₀) × Rewritten p region (Field cell f) cells₀ tables cells
 
 abbrev μ-loop : tie.MeasureT-loop
 μ-loop p cells₀ tables region cell n f₀ cells f =
@@ -60,8 +60,8 @@ loop-again c =
     let l = c .before .before .before .before .before .before .before .before .loop in
     let ev : forward-ref .result ≡ moveRef (a .p) (a .region) (l .cells) (a .tables .now) (fieldOf (l .cells) (a .cell) (l .f)) =
     forward-ref .ensures ∙ ap (λ (x : ℕ). moveRef (a .p) (a .region) (l .cells) (a .tables .now) x) (c .before .before .before .before .before .field .ensures) in
-    let h : Rewritten (a .p) (a .region) (Field (a .cell) (l .f + 1)) (a .tables .now) (a .cells .now) (c .before .before .set-field .last .0) =
-    subst (λ (X : List ℕ). Rewritten (a .p) (a .region) (Field (a .cell) (l .f + 1)) (a .tables .now) (a .cells .now) X) (sym (c .before .before .set-field .ensures))
+    let h : Rewritten (a .p) (a .region) (Field (a .cell) (l .f + 1)) (a .cells .now) (a .tables .now) (c .before .before .set-field .last .0) =
+    subst (λ (X : List ℕ). Rewritten (a .p) (a .region) (Field (a .cell) (l .f + 1)) (a .cells .now) (a .tables .now) X) (sym (c .before .before .set-field .ensures))
     (field-moved (c .before .before .before .before .before .before .before .before .before .before .before .before .before .before .pre .0) (omega (arith, l .inv .1)) (l .inv .3) (forward-ref .result) ev) in
     (omega arith, l .inv .1, h .size, h)
 
@@ -73,7 +73,7 @@ returns c =
     let a = c .before .before .before .before .before .before .before .args in
     let l = c .before .loop in
     let e : l .f ≡ refsOf (a .cells .now) (a .cell) = omega (arith, l .inv .0, l .inv .1) in
-    subst (λ (y : ℕ). Rewritten (a .p) (a .region) (Field (a .cell) y) (a .tables .now) (a .cells .now) (l .cells)) e (l .inv .3)
+    subst (λ (y : ℕ). Rewritten (a .p) (a .region) (Field (a .cell) y) (a .cells .now) (a .tables .now) (l .cells)) e (l .inv .3)
 
 pub rewrite-cell-spec : {M : Type 1} → statement M
 rewrite-cell-spec =

@@ -10,7 +10,7 @@ use Rattle.evacuate.proofs.rewrite.rewrite_copies.Tie as tie
 
 abbrev Inv-loop : tie.InvT-loop
 Inv-loop p cells₀ tables region pages page₀ cells page =
-    (page ≤ p .pages) × (length cells ≡ length cells₀) × Rewritten p region (CopySlot p region (Between 0 (16 * page)) cells₀ tables) tables cells₀ cells
+    (page ≤ p .pages) × (length cells ≡ length cells₀) × Rewritten p region (CopySlot p region (Between 0 (16 * page)) cells₀ tables) cells₀ tables cells
 
 abbrev μ-loop : tie.MeasureT-loop
 μ-loop p cells₀ tables region pages page₀ cells page =
@@ -19,7 +19,7 @@ abbrev μ-loop : tie.MeasureT-loop
 loop-holds : tie.Need-loop-holds Inv-loop μ-loop
 loop-holds c =
     let args = c .before .before .args in
-    (omega arith, refl, copies-start (args .p) (args .region) 0 (args .tables .now) (args .cells .now))
+    (omega arith, refl, copies-start (args .p) (args .region) 0 (args .cells .now) (args .tables .now))
 
 rewrite-page-requires : tie.Need-rewrite-page-requires Inv-loop μ-loop
 rewrite-page-requires c κs = (page-wired (c .before .before .before .before .before .pre) (c .before .loop-test .taken) (c .before .before .loop .inv .2), c .before .loop-test .taken)
@@ -43,7 +43,7 @@ returns c =
     let a = c .before .before .before .before .args in
     let l = c .before .loop in
     let e : l .page ≡ a .p .pages = omega (arith, l .inv .0, c .loop-test .left) in
-    subst (λ (y : ℕ). Rewritten (a .p) (a .region) (CopySlot (a .p) (a .region) (Between 0 (16 * y)) (a .cells .now) (a .tables .now)) (a .tables .now) (a .cells .now) (l .cells)) e (l .inv .2)
+    subst (λ (y : ℕ). Rewritten (a .p) (a .region) (CopySlot (a .p) (a .region) (Between 0 (16 * y)) (a .cells .now) (a .tables .now)) (a .cells .now) (a .tables .now) (l .cells)) e (l .inv .2)
 
 pub rewrite-copies-spec : {M : Type 1} → statement M
 rewrite-copies-spec =

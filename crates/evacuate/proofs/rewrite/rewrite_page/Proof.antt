@@ -17,7 +17,7 @@ use Rattle.evacuate.proofs.rewrite.rewrite_page.Tie as tie
 
 abbrev Inv-loop : tie.InvT-loop
 Inv-loop p cells₀ tables region page copied survivors left₀ k₀ cells left k =
-    (survivors ≡ ones copied) × (length cells ≡ length cells₀) × Walked copied left k × Rewritten p region (CopySlot p region (Passed page left) cells₀ tables) tables cells₀ cells
+    (survivors ≡ ones copied) × (length cells ≡ length cells₀) × Walked copied left k × Rewritten p region (CopySlot p region (Passed page left) cells₀ tables) cells₀ tables cells
 
 abbrev μ-loop : tie.MeasureT-loop
 μ-loop p cells₀ tables region page copied survivors left₀ k₀ cells left k =
@@ -94,7 +94,7 @@ loop-again c =
     let left = c .without-bit in
     let X : List ℕ = c .before .before .before .rewrite-cell .last .1 .0 in
     let h = copy-moved (c .before .before .before .before .before .before .before .before .before .before .before .before .before .before .before .before .pre .0) (passed-grown (a .page) i (left .result) f (left .ensures)) (passed-within (a .page) (left .result)) (l .inv .3) (c .before .before .before .before .before .before .work .result) v u
-    (subst (λ (d : ℕ). Rewritten (a .p) (a .region) (Field d (refsOf (l .cells) d)) (a .tables .now) (l .cells) X) (c .before .before .before .before .cell-named .ensures) (c .before .before .before .rewrite-cell .ensures)) in
+    (subst (λ (d : ℕ). Rewritten (a .p) (a .region) (Field d (refsOf (l .cells) d)) (l .cells) (a .tables .now) X) (c .before .before .before .before .cell-named .ensures) (c .before .before .before .rewrite-cell .ensures)) in
     (l .inv .0, h .size, walk-turn i (left .result) (l .inv .2) f (left .ensures), h)
 
 same-length : tie.Need-same-length Inv-loop μ-loop

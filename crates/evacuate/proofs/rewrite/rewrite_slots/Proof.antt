@@ -14,7 +14,7 @@ use Rattle.evacuate.proofs.rewrite.rewrite_slots.Tie as tie
 
 abbrev Inv-loop : tie.InvT-loop
 Inv-loop p cells₀ remember tables region entries used i₀ cells i =
-    (i ≤ used) × (used ≡ usedIn remember) × (length cells ≡ length cells₀) × Rewritten p region (Remembered region (p .entries) i remember) tables cells₀ cells
+    (i ≤ used) × (used ≡ usedIn remember) × (length cells ≡ length cells₀) × Rewritten p region (Remembered region (p .entries) i remember) cells₀ tables cells
 
 abbrev μ-loop : tie.MeasureT-loop
 μ-loop p cells₀ remember tables region entries used i₀ cells i =
@@ -82,7 +82,7 @@ loop-again c =
     let l = c .before .before .before .loop in
     let s = c .before .before .before .before .before .before .before .before .before .pre .0 in
     let lt : l .i < usedIn (a .remember .now) = omega (arith, l .inv .1, c .before .before .loop-test .taken) in
-    let P : List ℕ → Type 0 = (λ X. Rewritten (a .p) (a .region) (Remembered (a .region) (a .p .entries) (l .i + 1) (a .remember .now)) (a .tables .now) (a .cells .now) X) in
+    let P : List ℕ → Type 0 = (λ X. Rewritten (a .p) (a .region) (Remembered (a .region) (a .p .entries) (l .i + 1) (a .remember .now)) (a .cells .now) (a .tables .now) X) in
     let h : P (c .if1 .cells) =
     ⊎-elim
     (λ w.
@@ -100,7 +100,7 @@ returns c =
     let a = c .before .before .before .before .before .before .before .args in
     let l = c .before .loop in
     let e : l .i ≡ usedIn (a .remember .now) = omega (arith, l .inv .0, l .inv .1) in
-    subst (λ (y : ℕ). Rewritten (a .p) (a .region) (Remembered (a .region) (a .p .entries) y (a .remember .now)) (a .tables .now) (a .cells .now) (l .cells)) e (l .inv .3)
+    subst (λ (y : ℕ). Rewritten (a .p) (a .region) (Remembered (a .region) (a .p .entries) y (a .remember .now)) (a .cells .now) (a .tables .now) (l .cells)) e (l .inv .3)
 
 pub rewrite-slots-spec : {M : Type 1} → statement M
 rewrite-slots-spec =
