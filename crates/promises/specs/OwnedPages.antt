@@ -125,10 +125,6 @@ module _ (s : Sizes) (w : Words) (k : WholeFor s w) where
     pub region-pages : pagesOwned s w q ≡ pagesOf (objectsIn (graphOf s w) q)
     region-pages = sym (ap pagesOf objects-on-pages ∙ owned)
 
-    -- the same by the count of objects in the tables
-    pub counted-pages : q ≤ regions s → pagesOwned s w q ≡ pagesOf (countOf (placesOf s) (w .tables) q)
-    counted-pages l = sym (ap pagesOf (k .placed .counts q pos l) ∙ owned)
-
     pub counted-objects : q ≤ regions s → countOf (placesOf s) (w .tables) q ≡ objectsIn (graphOf s w) q
     counted-objects l = k .placed .counts q pos l ∙ sym objects-on-pages
 
