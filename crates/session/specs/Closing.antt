@@ -37,7 +37,7 @@ use Rattle.session.specs.declared.Stage.the-variants.{Opening, Running, 
 use Rattle.session.specs.declared.Fed.{Fed}
 use Rattle.session.specs.Printed.{Session, opening, running, stopped, rowText, rowsText, reported, takesAll, printsAll, endsWith}
 use Rattle.session.specs.Pieces.{Machine, feed, feedPrints, missing, closePrints}
-use Rattle.session.specs.Stages.{Here, Holds, stageOf, At, ChangesAll, Feeds, begunAt, Closes}
+use Rattle.session.specs.Stages.{Here, Holds, stageOf, At, LinesChange, Feeds, begunAt, Closes}
 use Rattle.session.specs.Obeying.{stopped-takes, stopped-prints, changes-stopped}
 use Rattle.session.specs.Opening.{at-opening, at-running, at-stopped}
 
@@ -161,24 +161,24 @@ begun-missing {m} {stage} {w} a e = go (m .session) (ap begunAt (sym (a .stage-i
 
 -- none has begun, or the program has stopped: nothing is left to do
 idle : {m : Machine} {stage : Stage} {w : Words} → At m stage w → begunAt stage ≡ false
-    → (feedPrints m (missing m) ≡ []) × (feed m (missing m) .session ≡ m .session) × ChangesAll (m .session) (found (m .reader) (missing m)) w w
-unfolding stageOf feed feedPrints takesAll printsAll found ChangesAll
+    → (feedPrints m (missing m) ≡ []) × (feed m (missing m) .session ≡ m .session) × LinesChange (m .session) (found (m .reader) (missing m)) w w
+unfolding stageOf feed feedPrints takesAll printsAll found LinesChange
 idle {m} {stage} {w} a e = go (m .session) refl (ap begunAt (sym (a .stage-is)) ∙ e)
   where
     cases : (t : Bool) → not t ≡ false
         → (printsAll (m .session) (found (m .reader) (cond t [] (10 ∷ []))) ≡ []) × (takesAll (m .session) (found (m .reader) (cond t [] (10 ∷ []))) ≡ m .session)
-        × ChangesAll (m .session) (found (m .reader) (cond t [] (10 ∷ []))) w w
+        × LinesChange (m .session) (found (m .reader) (cond t [] (10 ∷ []))) w w
     cases true q = (refl, refl, refl)
     cases false q = absurd (true-not-false (sym q))
 
     go : (y : Session) → m .session ≡ y → begunAt (stageOf (m .reader) y) ≡ false
         → (printsAll (m .session) (found (m .reader) (missing m)) ≡ []) × (takesAll (m .session) (found (m .reader) (missing m)) ≡ m .session)
-        × ChangesAll (m .session) (found (m .reader) (missing m)) w w
+        × LinesChange (m .session) (found (m .reader) (missing m)) w w
     go opening f q = cases (fresh (m .reader)) q
     go (running s h k) f q = cases (fresh (m .reader)) q
     go stopped f q =
         let ls = found (m .reader) (missing m) in
-        (ap (λ (y : Session). printsAll y ls) f ∙ stopped-prints ls, ap (λ (y : Session). takesAll y ls) f ∙ stopped-takes ls ∙ sym f, subst (λ (y : Session). ChangesAll y ls w w) (sym f) (changes-stopped ls w))
+        (ap (λ (y : Session). printsAll y ls) f ∙ stopped-prints ls, ap (λ (y : Session). takesAll y ls) f ∙ stopped-takes ls ∙ sym f, subst (λ (y : Session). LinesChange y ls w w) (sym f) (changes-stopped ls w))
 
 module _ {m : Machine} {stage : Stage} {w : Words} (a : At m stage w) where
   pub closed-begun : begunAt stage ≡ true → {out middle after : List ℕ} {x : Fed} {end : ℕ} {c mm t : List ℕ} → Feeds m (10 ∷ []) w out x middle (words c mm t)
@@ -193,7 +193,7 @@ module _ {m : Machine} {stage : Stage} {w : Words} (a : At m stage w) where
             (put-put (omega (arith, f .text .end-is, g .end-is)) (f .text) g);
         lent = f .is-at .lent;
         holds = subst (λ (b : List ℕ). Holds (feed m b .session) (words c mm t)) (sym q) (f .is-at .holds);
-        changes = subst (λ (b : List ℕ). ChangesAll (m .session) (found (m .reader) b) w (words c mm t)) (sym q) (f .changes);
+        changes = subst (λ (b : List ℕ). LinesChange (m .session) (found (m .reader) b) w (words c mm t)) (sym q) (f .changes);
       }
 
   pub closed-idle : begunAt stage ≡ false → {out after : List ℕ} {end : ℕ} → Put out 0 (endsWith (m .session)) after end → Closes m w out end after w

@@ -32,7 +32,7 @@ use Rattle.script.specs.BlocksLaws.{usedIn, Follow, block-reads, never-full}
 use Rattle.session.specs.declared.Stage.the-variants.{Running, Stopped}
 use Rattle.session.specs.Printed.{Session, running, stopped, answerText, takes, prints, takesAll, printsAll}
 use Rattle.session.specs.Pieces.{machine, feed, feedPrints, takes-append, prints-append}
-use Rattle.session.specs.Stages.{Lent, Holds, stageOf, Changes, ChangesAll, Feeds, Room, Counted, asLine, Answered, answersText}
+use Rattle.session.specs.Stages.{Lent, Holds, stageOf, LineChanges, LinesChange, Feeds, Room, Counted, asLine, Answered, answersText}
 
 answers-append : (as′ : List Answer) (a : Answer) → answersText (as′ ++ a ∷ []) ≡ answersText as′ ++ answerText a
 unfolding answersText
@@ -52,22 +52,22 @@ chain-lent s (more d c) l =
 
 -- each command of the chain is a line that changes the words
 chain-changes : (s : Sizes) {w w′ : Words} {ms : List Command} {as′ : List Answer} → Chain s w ms as′ w′ → (h : Regioned) (cellOf : ℕ → ℕ) → StandsFor s w h cellOf
-    → (line : ℕ) → ChangesAll (running s h line) (map asLine ms) w w′
-unfolding ChangesAll Changes takes
+    → (line : ℕ) → LinesChange (running s h line) (map asLine ms) w w′
+unfolding LinesChange LineChanges takes
 chain-changes s none h cellOf st line = refl
 chain-changes s (more {w} {w₁} {w′} {m} {a} d c) h cellOf st line =
     let n = d .next h cellOf st in
     (w₁, subst (λ (x : Answer). Did s w m w₁ x) (d .answer h cellOf st) d, chain-changes s c (ru.step s h m .next) (n .cell) (n .stands) (line + 1))
 
 -- the words after some lines, and then after others
-pub changes-append : (ls ks : List Line) (x : Session) (w v w′ : Words) → ChangesAll x ls w v → ChangesAll (takesAll x ls) ks v w′ → ChangesAll x (ls ++ ks) w w′
-unfolding ChangesAll takesAll
-changes-append [] ks x w v w′ e c = subst (λ (u : Words). ChangesAll x ks u w′) e c
+pub changes-append : (ls ks : List Line) (x : Session) (w v w′ : Words) → LinesChange x ls w v → LinesChange (takesAll x ls) ks v w′ → LinesChange x (ls ++ ks) w w′
+unfolding LinesChange takesAll
+changes-append [] ks x w v w′ e c = subst (λ (u : Words). LinesChange x ks u w′) e c
 changes-append (l ∷ ls) ks x w v w′ e c = (e .0, e .1, changes-append ls ks (takes x l) (e .0) v w′ (e .2) c)
 
 -- a stopped program changes none
-pub changes-stopped : (ls : List Line) (w : Words) → ChangesAll stopped ls w w
-unfolding ChangesAll Changes takes
+pub changes-stopped : (ls : List Line) (w : Words) → LinesChange stopped ls w w
+unfolding LinesChange LineChanges takes
 changes-stopped [] w = refl
 changes-stopped (l ∷ ls) w = (w, refl, changes-stopped ls w)
 
@@ -243,13 +243,13 @@ module _ {r : Reader} {text : List ℕ} {from : ℕ} {x : Filled} {block : List 
       ∙ ap (λ (n : ℕ). answersText (ru.run s h ms .answers) ++ printsAll (running s (ru.run s h ms .last) (line + n)) (k .after)) length-ms
 
   module _ {w w′ : Words} {out out′ : List ℕ} {end : ℕ} (a : Answered s h (take used block) w out end out′ w′) (lent : Lent w) where
-    changed : ChangesAll (takesAll (running s h line) (map asLine ms)) (k .after) w′ w′ → ChangesAll (running s h line) (found r bytes) w w′
-    changed c = subst (λ (ls : List Line). ChangesAll (running s h line) ls w w′) (sym found-is) (changes-append (map asLine ms) (k .after) (running s h line) w w′ w′ (a .changes line) c)
+    changed : LinesChange (takesAll (running s h line) (map asLine ms)) (k .after) w′ w′ → LinesChange (running s h line) (found r bytes) w w′
+    changed c = subst (λ (ls : List Line). LinesChange (running s h line) ls w w′) (sym found-is) (changes-append (map asLine ms) (k .after) (running s h line) w w′ w′ (a .changes line) c)
 
     -- the piece ends inside a line, or between two
     pub obeyed-all : {next : Reader} {n : ℕ} → x ≡ Done next n
         → Feeds (machine r (running s h line)) bytes w out (record { stage = Running next (line + used / 5); length = end }) out′ w′
-    unfolding feed feedPrints takesAll printsAll stageOf Holds Follow ChangesAll
+    unfolding feed feedPrints takesAll printsAll stageOf Holds Follow LinesChange
     obeyed-all {next} e =
         let f : (k .after ≡ []) × (left r bytes ≡ next) = subst (λ (y : Filled). Follow y text (k .after) (left r bytes)) e (k .follow) in
         let t : takesAll (running s h line) (found r bytes) ≡ running s (ru.run s h ms .last) (line + used / 5) = session-is ∙ ap (takesAll (running s (ru.run s h ms .last) (line + used / 5))) (f .0) in
@@ -260,13 +260,13 @@ module _ {r : Reader} {text : List ℕ} {from : ℕ} {x : Filled} {block : List 
             holds = subst (λ (y : Session). Holds y w′) (sym t) (a .cell, a .stands);
           };
           text = put-text (sym (text-is ∙ ap (λ (ls : List Line). answersText (ru.run s h ms .answers) ++ printsAll (running s (ru.run s h ms .last) (line + used / 5)) ls) (f .0) ∙ append-nil (answersText (ru.run s h ms .answers)))) (a .text);
-          changes = changed (subst (λ (ls : List Line). ChangesAll (takesAll (running s h line) (map asLine ms)) ls w′ w′) (sym (f .0)) refl);
+          changes = changed (subst (λ (ls : List Line). LinesChange (takesAll (running s h line) (map asLine ms)) ls w′ w′) (sym (f .0)) refl);
         }
 
     -- a line is malformed
     pub obeyed-broken : {n : ℕ} {last : List ℕ} {stop : ℕ} → x ≡ Broken n → end + 26 ≤ length out → line + used / 5 < 18446744073709551616 → Put out′ end (lineLine (line + used / 5)) last stop
         → Feeds (machine r (running s h line)) bytes w out (record { stage = Stopped; length = stop }) last w′
-    unfolding feed feedPrints takesAll printsAll takes prints stageOf Holds Follow ChangesAll Changes
+    unfolding feed feedPrints takesAll printsAll takes prints stageOf Holds Follow LinesChange LineChanges
     obeyed-broken e l b p =
         let f : (rest : List Line) × (k .after ≡ Malformed ∷ rest) = subst (λ (y : Filled). Follow y text (k .after) (left r bytes)) e (k .follow) in
         let t : takesAll (running s h line) (found r bytes) ≡ stopped = session-is ∙ ap (takesAll (running s (ru.run s h ms .last) (line + used / 5))) (f .1) ∙ stopped-takes (f .0) in
@@ -278,6 +278,6 @@ module _ {r : Reader} {text : List ℕ} {from : ℕ} {x : Filled} {block : List 
           };
           text = put-text (sym (text-is ∙ ap (λ (ls : List Line). answersText (ru.run s h ms .answers) ++ printsAll (running s (ru.run s h ms .last) (line + used / 5)) ls) (f .1) ∙ ap (λ (ls : List ℕ). answersText (ru.run s h ms .answers) ++ (lineLine (line + used / 5) ++ ls)) (stopped-prints (f .0)) ∙ ap (λ (ls : List ℕ). answersText (ru.run s h ms .answers) ++ ls) (append-nil (lineLine (line + used / 5)))))
               (put-put (omega (arith, a .text .end-is, line-length (line + used / 5) b)) (a .text) p);
-          changes = changed (subst (λ (ls : List Line). ChangesAll (takesAll (running s h line) (map asLine ms)) ls w′ w′) (sym (f .1))
-              (subst (λ (y : Session). ChangesAll y (Malformed ∷ f .0) w′ w′) (sym (takes-commands s ms h line)) (w′, refl, changes-stopped (f .0) w′)));
+          changes = changed (subst (λ (ls : List Line). LinesChange (takesAll (running s h line) (map asLine ms)) ls w′ w′) (sym (f .1))
+              (subst (λ (y : Session). LinesChange y (Malformed ∷ f .0) w′ w′) (sym (takes-commands s ms h line)) (w′, refl, changes-stopped (f .0) w′)));
         }

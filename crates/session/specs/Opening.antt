@@ -35,7 +35,7 @@ use Rattle.session.specs.declared.Stage.the-variants.{Opening, Running, 
 use Rattle.session.specs.declared.Fed.{Fed}
 use Rattle.session.specs.Printed.{sizes, between, accepted, Session, opening, running, stopped, takes, prints, takesAll, printsAll}
 use Rattle.session.specs.Pieces.{Machine, machine, feed, feedPrints}
-use Rattle.session.specs.Stages.{Lent, Here, Holds, stageOf, At, Placed, lineOf, Prepares, Changes, ChangesAll, Feeds, begins, Begun}
+use Rattle.session.specs.Stages.{Lent, Here, Holds, stageOf, At, Placed, lineOf, Prepares, LineChanges, LinesChange, Feeds, begins, Begun}
 use Rattle.session.specs.Obeying.{stopped-takes, stopped-prints, changes-stopped}
 
 -- ---- sizes
@@ -117,7 +117,7 @@ module _ {w w′ : Words} {q : ℕ} (t v d p n : ℕ) (l : Lent w) (k : Prepared
       go false e = refl
 
   refused : (q ≡ 0 → ⊥) → (Accepted s → ⊥) → Begun (Numbers t v d p n) w (eqb q 0) w′
-  unfolding takes Holds Changes Prepares
+  unfolding takes Holds LineChanges Prepares
   refused z f =
       let e : accepted s ≡ false = not-accepted f in
       record {
@@ -135,7 +135,7 @@ module _ {w w′ : Words} {q : ℕ} (t v d p n : ℕ) (l : Lent w) (k : Prepared
       record { cells = u .cells .long ∙ l .cells; remember = omega (arith, l .remember, e .remember); tables = omega (arith, l .tables, e .tables) }
 
   done : q ≡ 0 → Accepted s → Begun (Numbers t v d p n) w (eqb q 0) w′
-  unfolding takes Holds Changes Prepares
+  unfolding takes Holds LineChanges Prepares
   done z a =
       let e : accepted s ≡ true = are-accepted s a in
       record {
@@ -155,7 +155,7 @@ module _ {w w′ : Words} {q : ℕ} (t v d p n : ℕ) (l : Lent w) (k : Prepared
       go (pr.accepted e r f) = done e (long-accepted s w l r f)
 
 pub malformed-begun : {w : Words} → Lent w → Begun Malformed w false w
-unfolding takes Holds Changes
+unfolding takes Holds LineChanges
 malformed-begun l = record { told = refl; lent = l; holds = tt; changes = refl }
 
 pub begun-as : {line l : Line} {r : Bool} {w w′ : Words} → line ≡ l → Begun l w r w′ → Begun line w r w′
@@ -209,7 +209,7 @@ module _ (r : Reader) (text : List ℕ) {scan : Scan} (read : scan ≡ scanned r
   -- no line ends in the piece
   pub opened-none : {next : Reader} {out : List ℕ} {w : Words} → scan ≡ Open next → Lent w
       → Feeds (machine r opening) text w out (record { stage = Opening next; length = 0 }) out w
-  unfolding feed feedPrints takesAll printsAll stageOf Holds Brings ChangesAll
+  unfolding feed feedPrints takesAll printsAll stageOf Holds Brings LinesChange
   opened-none {next} {out} {w} e l =
       let f : (found r text ≡ []) × (left r text ≡ next) = subst (λ (y : Scan). Brings y text (found r text) (left r text)) e brings in
       record {
@@ -219,7 +219,7 @@ module _ (r : Reader) (text : List ℕ) {scan : Scan} (read : scan ≡ scanned r
           holds = subst (λ (ls : List Line). Holds (takesAll opening ls) w) (sym (f .0)) tt;
         };
         text = put-text (sym (ap (printsAll opening) (f .0))) (put-none out);
-        changes = subst (λ (ls : List Line). ChangesAll opening ls w w) (sym (f .0)) refl;
+        changes = subst (λ (ls : List Line). LinesChange opening ls w w) (sym (f .0)) refl;
       }
 
   module _ {line : Line} {at : ℕ} (e : scan ≡ Found line at) {b : Bool} {w v : Words} (k : Begun line w b v) where
@@ -230,7 +230,7 @@ module _ (r : Reader) (text : List ℕ) {scan : Scan} (read : scan ≡ scanned r
     pub opened-on : b ≡ true → {next : Reader} → next ≡ started → {out after : List ℕ} {x : Fed} {w′ : Words}
         → ((s : Sizes) (h : Regioned) → Holds (running s h 2) v → Lent v → Feeds (machine next (running s h 2)) (drop at text) v out x after w′)
         → Feeds (machine r opening) text w out x after w′
-    unfolding feed feedPrints takesAll printsAll ChangesAll
+    unfolding feed feedPrints takesAll printsAll LinesChange
     opened-on t {next} n {out} {after} {x} {w′} rest =
         let o = begun-opened k t in
         let s = o .sizes-are in
@@ -244,13 +244,13 @@ module _ (r : Reader) (text : List ℕ) {scan : Scan} (read : scan ≡ scanned r
         record {
           is-at = subst (λ (m : Machine). At m (x .stage) w′) (sym (ap₂ machine reader session)) (go .is-at);
           text = put-text (sym printed) (go .text);
-          changes = subst (λ (ls : List Line). ChangesAll opening ls w w′) (sym (split .0))
-              (v, k .changes, subst (λ (q : Reader). ChangesAll (takes opening line) (found q (drop at text)) v w′) n (subst (λ (y : Session). ChangesAll y (found next (drop at text)) v w′) (sym (o .taken)) (go .changes)));
+          changes = subst (λ (ls : List Line). LinesChange opening ls w w′) (sym (split .0))
+              (v, k .changes, subst (λ (q : Reader). LinesChange (takes opening line) (found q (drop at text)) v w′) n (subst (λ (y : Session). LinesChange y (found next (drop at text)) v w′) (sym (o .taken)) (go .changes)));
         }
 
     pub opened-refused : b ≡ false → {out after : List ℕ} {end : ℕ} → Put out 0 sizesLine after end
         → Feeds (machine r opening) text w out (record { stage = Stopped; length = end }) after v
-    unfolding feed feedPrints takesAll printsAll stageOf Holds ChangesAll
+    unfolding feed feedPrints takesAll printsAll stageOf Holds LinesChange
     opened-refused t p =
         let o = begun-stopped k t in
         let session : takesAll opening (found r text) ≡ stopped =
@@ -261,8 +261,8 @@ module _ (r : Reader) (text : List ℕ) {scan : Scan} (read : scan ≡ scanned r
         record {
           is-at = record { stage-is = sym (ap (stageOf (left r text)) session); lent = k .lent; holds = subst (λ (y : Session). Holds y v) (sym session) tt };
           text = put-text (sym printed) p;
-          changes = subst (λ (ls : List Line). ChangesAll opening ls w v) (sym (split .0))
-              (v, k .changes, subst (λ (y : Session). ChangesAll y (found started (drop at text)) v v) (sym (o .0)) (changes-stopped (found started (drop at text)) v));
+          changes = subst (λ (ls : List Line). LinesChange opening ls w v) (sym (split .0))
+              (v, k .changes, subst (λ (y : Session). LinesChange y (found started (drop at text)) v v) (sym (o .0)) (changes-stopped (found started (drop at text)) v));
         }
 
 -- ---- from the stage to the machine
@@ -344,5 +344,5 @@ fed-stopped {stage} {text} {out} {w} e m a =
         holds = subst (λ (y : Session). Holds y w) (sym t) tt;
       };
       text = put-text (sym (ap (λ (y : Session). printsAll y ls) s ∙ stopped-prints ls)) (put-none out);
-      changes = subst (λ (y : Session). ChangesAll y ls w w) (sym s) (changes-stopped ls w);
+      changes = subst (λ (y : Session). LinesChange y ls w w) (sym s) (changes-stopped ls w);
     }

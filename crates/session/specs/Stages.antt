@@ -78,16 +78,16 @@ Prepares true s w w′ = Unused s w w′
 Prepares false s w w′ = w′ ≡ w
 
 -- a line changed the words w to w′: sizes that are accepted prepare them, a command does what it promises, any other line changes none
-unfoldable pub Changes : Session → Line → Words → Words → Type 0
-Changes opening (Numbers t v d p n) w w′ = Prepares (accepted (sizes t v d p n)) (sizes t v d p n) w w′
-Changes opening Malformed w w′ = w′ ≡ w
-Changes (running s h k) (Numbers code thread a b c) w w′ = Did s w (command code thread a b c) w′ (ru.step s h (command code thread a b c) .answer)
-Changes (running s h k) Malformed w w′ = w′ ≡ w
-Changes stopped l w w′ = w′ ≡ w
+unfoldable pub LineChanges : Session → Line → Words → Words → Type 0
+LineChanges opening (Numbers t v d p n) w w′ = Prepares (accepted (sizes t v d p n)) (sizes t v d p n) w w′
+LineChanges opening Malformed w w′ = w′ ≡ w
+LineChanges (running s h k) (Numbers code thread a b c) w w′ = Did s w (command code thread a b c) w′ (ru.step s h (command code thread a b c) .answer)
+LineChanges (running s h k) Malformed w w′ = w′ ≡ w
+LineChanges stopped l w w′ = w′ ≡ w
 
-unfoldable pub ChangesAll : Session → List Line → Words → Words → Type 0
-ChangesAll x [] w w′ = w′ ≡ w
-ChangesAll x (l ∷ ls) w w′ = (between : Words) × Changes x l w between × ChangesAll (takes x l) ls between w′
+unfoldable pub LinesChange : Session → List Line → Words → Words → Type 0
+LinesChange x [] w w′ = w′ ≡ w
+LinesChange x (l ∷ ls) w w′ = (between : Words) × LineChanges x l w between × LinesChange (takes x l) ls between w′
 
 -- ---- a piece
 
@@ -96,7 +96,7 @@ ChangesAll x (l ∷ ls) w w′ = (between : Words) × Changes x l w between × C
 pub record Feeds (m : Machine) (bytes : List ℕ) (w : Words) (out : List ℕ) (x : Fed) (after : List ℕ) (w′ : Words) : Type 0 where
   pub is-at : At (feed m bytes) (x .stage) w′
   pub text : Put out 0 (feedPrints m bytes) after (x .length)
-  pub changes : ChangesAll (m .session) (found (m .reader) bytes) w w′
+  pub changes : LinesChange (m .session) (found (m .reader) bytes) w w′
 
 -- how many bytes a piece of n bytes prints at most: an answer for each command, of which a piece of 16,384 bytes has 1,639, and a message
 abbrev pub mostPrinted : ℕ → ℕ
@@ -128,7 +128,7 @@ pub record Answered (s : Sizes) (h : Regioned) (block : List ℕ) (w : Words) (o
   pub cell : ℕ → ℕ
   pub stands : StandsFor s w′ (ru.run s h (commandsIn block) .last) cell
   pub lent : Lent w → Lent w′
-  pub changes : (line : ℕ) → ChangesAll (running s h line) (map asLine (commandsIn block)) w w′
+  pub changes : (line : ℕ) → LinesChange (running s h line) (map asLine (commandsIn block)) w w′
 
 -- ---- the first line
 
@@ -142,7 +142,7 @@ pub record Begun (line : Line) (w : Words) (r : Bool) (w′ : Words) : Type 0 wh
   pub told : r ≡ begins line
   pub lent : Lent w′
   pub holds : Holds (takes opening line) w′
-  pub changes : Changes opening line w w′
+  pub changes : LineChanges opening line w w′
 
 -- ---- the end of the input
 
@@ -158,4 +158,4 @@ pub record Closes (m : Machine) (w : Words) (out : List ℕ) (end : ℕ) (after 
   pub text : Put out 0 (closePrints m) after end
   pub lent : Lent w′
   pub holds : Holds (feed m (missing m) .session) w′
-  pub changes : ChangesAll (m .session) (found (m .reader) (missing m)) w w′
+  pub changes : LinesChange (m .session) (found (m .reader) (missing m)) w w′

@@ -114,6 +114,7 @@ fn obey(
             stage: Stage::Stopped,
             length: script::write::put_line(out, end, next),
         },
+        // never taken: the block has room for a command more than a piece can have
         Filled::Full(_, _) => Fed {
             stage: Stage::Stopped,
             length: 0,
