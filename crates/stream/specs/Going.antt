@@ -22,7 +22,7 @@ use Rattle.session.specs.Going.{at-first, line-fed}
 use Rattle.stream.specs.declared.Piece.{Piece}
 use Rattle.stream.specs.declared.Piece.the-variants.{Bytes}
 use Rattle.stream.specs.declared.Ending.{Ending}
-use Rattle.stream.specs.declared.Ending.the-variants.{Finished}
+use Rattle.stream.specs.declared.Ending.the-variants.{More, Finished}
 use Rattle.stream.specs.declared.Outcome.{Outcome}
 use Rattle.stream.specs.Turns.{within, endingOf, goesOn, Advances, Turned, unread, moved, Serves}
 
@@ -94,20 +94,20 @@ stopped-closes {m} a =
     let ls = found (m .reader) (missing m) in
     ap₂ (λ (t : List ℕ) (y : Session). t ++ endsWith y) (ap (λ (y : Session). printsAll y ls) e ∙ stopped-prints ls) (ap (λ (y : Session). takesAll y ls) e ∙ stopped-takes ls)
 
-pub record Went (stage : Stage) (w : Words) (read printed-bytes : ℕ) : Type 0 where
+pub record FedSoFar (stage : Stage) (w : Words) (read printed-bytes : ℕ) : Type 0 where
   pub pieces : List (List ℕ)
   pub is-at : At (feedAll first pieces) stage w
   pub read-is : read ≡ length (flatten pieces)
   pub printed-is : printed-bytes ≡ length (feedAllPrints first pieces)
 
-pub went-first : {stage : Stage} {w : Words} → stage ≡ Opening started → Lent w → Went stage w 0 0
+pub so-far-first : {stage : Stage} {w : Words} → stage ≡ Opening started → Lent w → FedSoFar stage w 0 0
 unfolding feedAll feedAllPrints flatten
-went-first e l = record { pieces = []; is-at = at-first e l; read-is = refl; printed-is = refl }
+so-far-first e l = record { pieces = []; is-at = at-first e l; read-is = refl; printed-is = refl }
 
 -- a piece more
-went-on : {stage : Stage} {w w′ : Words} {read printed-bytes : ℕ} {out after : List ℕ} {x : Fed} (g : Went stage w read printed-bytes) (piece : List ℕ) (n : ℕ) → n ≡ length piece
-    → Feeds (feedAll first (g .pieces)) piece w out x after w′ → Went (x .stage) w′ (read + n) (printed-bytes + x .length)
-went-on {w′ = w′} {x = x} g piece n e f =
+so-far-on : {stage : Stage} {w w′ : Words} {read printed-bytes : ℕ} {out after : List ℕ} {x : Fed} (g : FedSoFar stage w read printed-bytes) (piece : List ℕ) (n : ℕ) → n ≡ length piece
+    → Feeds (feedAll first (g .pieces)) piece w out x after w′ → FedSoFar (x .stage) w′ (read + n) (printed-bytes + x .length)
+so-far-on {w′ = w′} {x = x} g piece n e f =
     record {
       pieces = g .pieces ++ piece ∷ [];
       is-at = subst (λ (m : Machine). At m (x .stage) w′) (sym (feed-last piece (g .pieces) first)) (f .is-at);
@@ -122,36 +122,39 @@ went-on {w′ = w′} {x = x} g piece n e f =
     }
 
 -- the loop may end here, but has not finished
-pub went-serves : {stage : Stage} {w : Words} {read printed-bytes : ℕ} (e : Ending) → (e ≡ Finished → ⊥) → Went stage w read printed-bytes
+pub so-far-serves : {stage : Stage} {w : Words} {read printed-bytes : ℕ} (e : Ending) → (e ≡ Finished → ⊥) → (e ≡ More → 281474976710656 ≤ read) → FedSoFar stage w read printed-bytes
     → Serves (record { ending = e; read = read; printed = printed-bytes })
-went-serves e n g =
+so-far-serves e n u g =
     record {
       pieces = g .pieces;
       read-all = g .read-is;
       no-more = omega (arith, printed-pieces (g .pieces), g .printed-is);
       all-printed = λ q. absurd (n q);
+      given-up = u;
     }
 
 -- or it has, at a stage that is stopped
-stopped-serves : {w : Words} {read printed-bytes : ℕ} (e : Ending) → Went Stopped w read printed-bytes → Serves (record { ending = e; read = read; printed = printed-bytes })
-stopped-serves e g =
+stopped-serves : {w : Words} {read printed-bytes : ℕ} (e : Ending) → (e ≡ More → 281474976710656 ≤ read) → FedSoFar Stopped w read printed-bytes → Serves (record { ending = e; read = read; printed = printed-bytes })
+stopped-serves e u g =
     let q : length (closePrints (feedAll first (g .pieces))) ≡ 0 = ap (length {A = ℕ}) (stopped-closes (g .is-at)) in
     record {
       pieces = g .pieces;
       read-all = g .read-is;
       no-more = omega (arith, printed-pieces (g .pieces), g .printed-is);
       all-printed = λ (f : e ≡ Finished). omega (arith, printed-pieces (g .pieces), g .printed-is);
+      given-up = u;
     }
 
 -- or at the end of the input
-closed-serves : {stage : Stage} {w w′ : Words} {read printed-bytes : ℕ} {out after : List ℕ} {end n : ℕ} (e : Ending) (g : Went stage w read printed-bytes) → n ≡ 0
+closed-serves : {stage : Stage} {w w′ : Words} {read printed-bytes : ℕ} {out after : List ℕ} {end n : ℕ} (e : Ending) → (e ≡ More → 281474976710656 ≤ read + n) → (g : FedSoFar stage w read printed-bytes) → n ≡ 0
     → Closes (feedAll first (g .pieces)) w out end after w′ → Serves (record { ending = e; read = read + n; printed = printed-bytes + end })
-closed-serves e g z c =
+closed-serves e u g z c =
     record {
       pieces = g .pieces;
       read-all = omega (arith, g .read-is);
       no-more = omega (arith, printed-pieces (g .pieces), g .printed-is, c .text .end-is);
       all-printed = λ (f : e ≡ Finished). omega (arith, printed-pieces (g .pieces), g .printed-is, c .text .end-is);
+      given-up = u;
     }
 
 -- ---- a turn
@@ -162,55 +165,63 @@ not-finished (Opening r) true n e = let z : _≡_ {A = ℕ} 0 1 = cc in omega ar
 not-finished (Running r k) true n e = let z : _≡_ {A = ℕ} 0 1 = cc in omega arith
 not-finished Stopped true n e = n refl
 
-fed-serves : (s : Stage) {w : Words} {read printed-bytes : ℕ} (e : Ending) (taken : Bool) → e ≡ endingOf s taken → Went s w read printed-bytes
+fed-serves : (s : Stage) {w : Words} {read printed-bytes : ℕ} (e : Ending) (taken : Bool) → e ≡ endingOf s taken → (e ≡ More → 281474976710656 ≤ read) → FedSoFar s w read printed-bytes
     → Serves (record { ending = e; read = read; printed = printed-bytes })
-fed-serves (Opening r) e taken q g = went-serves e (λ f. not-finished (Opening r) taken (λ z. let o : _≡_ {A = ℕ} 0 1 = cc in let b : ⊥ = omega arith in b) (sym q ∙ f)) g
-fed-serves (Running r k) e taken q g = went-serves e (λ f. not-finished (Running r k) taken (λ z. let o : _≡_ {A = ℕ} 0 1 = cc in let b : ⊥ = omega arith in b) (sym q ∙ f)) g
-fed-serves Stopped e taken q g = stopped-serves e g
+fed-serves (Opening r) e taken q u g = so-far-serves e (λ f. not-finished (Opening r) taken (λ z. let o : _≡_ {A = ℕ} 0 1 = cc in let b : ⊥ = omega arith in b) (sym q ∙ f)) u g
+fed-serves (Running r k) e taken q u g = so-far-serves e (λ f. not-finished (Running r k) taken (λ z. let o : _≡_ {A = ℕ} 0 1 = cc in let b : ⊥ = omega arith in b) (sym q ∙ f)) u g
+fed-serves Stopped e taken q u g = stopped-serves e u g
 
--- the loop may end after any turn
-pub turned-serves : {stage : Stage} {w w′ : Words} {out text after : List ℕ} {t : Outcome} {read printed-bytes : ℕ} → Went stage w read printed-bytes
-    → Turned stage w out t text after w′ → t .read ≤ length text → Serves (record { ending = t .ending; read = read + t .read; printed = printed-bytes + t .printed })
+ends : {x : Ending} {A : Type 0} → goesOn x ≡ false → x ≡ More → A
+ends q f = absurd (true-not-false (sym q ∙ ap goesOn f))
+
+-- the loop may end after any turn that does not go on
+pub turned-serves : {stage : Stage} {w w′ : Words} {out text after : List ℕ} {t : Outcome} {read printed-bytes : ℕ} → FedSoFar stage w read printed-bytes
+    → Turned stage w out t text after w′ → t .read ≤ length text → goesOn (t .ending) ≡ false
+    → Serves (record { ending = t .ending; read = read + t .read; printed = printed-bytes + t .printed })
 unfolding Advances
-turned-serves {t = t} {read = read} {printed-bytes = printed-bytes} g (unread e r p k o) short =
+turned-serves {t = t} {read = read} {printed-bytes = printed-bytes} g (unread e r p k o) short q =
     subst₂ (λ (i j : ℕ). Serves (record { ending = t .ending; read = i; printed = j })) (let z : read ≡ read + t .read = omega arith in z) (let z : printed-bytes ≡ printed-bytes + t .printed = omega arith in z)
-    (went-serves (t .ending) (λ (f : t .ending ≡ Finished). let z : _≡_ {A = ℕ} 0 1 = cc in let b : ⊥ = omega arith in b) g)
-turned-serves {w = w} {w′} {out} {text} {after} {t} {read} {printed-bytes} g (moved taken e f) short =
+    (so-far-serves (t .ending) (λ (f : t .ending ≡ Finished). let z : _≡_ {A = ℕ} 0 1 = cc in let b : ⊥ = omega arith in b) (ends q) g)
+turned-serves {w = w} {w′} {out} {text} {after} {t} {read} {printed-bytes} g (moved taken e f) short q =
     go (take (t .read) text) (sym (length-take-le (t .read) text short)) (f (feedAll first (g .pieces)) (g .is-at))
   where
     go : (piece : List ℕ) → t .read ≡ length piece → Advances (feedAll first (g .pieces)) piece w out (record { stage = t .stage; length = t .printed }) after w′
         → Serves (record { ending = t .ending; read = read + t .read; printed = printed-bytes + t .printed })
-    go [] l a = closed-serves (t .ending) g l (a .0)
-    go (b ∷ bs) l a = fed-serves (t .stage) (t .ending) taken e (went-on g (b ∷ bs) (t .read) l a)
+    go [] l a = closed-serves (t .ending) (ends q) g l (a .0)
+    go (b ∷ bs) l a = fed-serves (t .stage) (t .ending) taken e (ends q) (so-far-on g (b ∷ bs) (t .read) l a)
 
--- one that goes on has fed a piece
-pub record Passed (m : Machine) (w : Words) (t : Outcome) (w′ : Words) : Type 0 where
+-- one that goes on has fed a piece, and not an empty one
+pub record FedPiece (m : Machine) (w : Words) (t : Outcome) (w′ : Words) : Type 0 where
   pub piece : List ℕ
   pub read-is : t .read ≡ length piece
+  pub read-some : 1 ≤ t .read
   pub out : List ℕ
   pub after : List ℕ
   pub feeds : Feeds m piece w out (record { stage = t .stage; length = t .printed }) after w′
 
-turned-passed : {stage : Stage} {w w′ : Words} {out text after : List ℕ} {t : Outcome} {m : Machine} → At m stage w
-    → Turned stage w out t text after w′ → t .read ≤ length text → goesOn (t .ending) ≡ true → Passed m w t w′
+turned-fed : {stage : Stage} {w w′ : Words} {out text after : List ℕ} {t : Outcome} {m : Machine} → At m stage w
+    → Turned stage w out t text after w′ → t .read ≤ length text → goesOn (t .ending) ≡ true → FedPiece m w t w′
 unfolding Advances
-turned-passed a (unread e r p k o) short q = absurd (true-not-false (sym (ap goesOn e) ∙ q))
-turned-passed {w = w} {w′} {out} {text} {after} {t} {m} a (moved taken e f) short q =
+turned-fed a (unread e r p k o) short q = absurd (true-not-false (sym (ap goesOn e) ∙ q))
+turned-fed {w = w} {w′} {out} {text} {after} {t} {m} a (moved taken e f) short q =
     go (take (t .read) text) (sym (length-take-le (t .read) text short)) (f m a)
   where
     over : (b : Bool) → goesOn (endingOf Stopped b) ≡ true → ⊥
     over true z = true-not-false z
     over false z = true-not-false z
 
-    go : (piece : List ℕ) → t .read ≡ length piece → Advances m piece w out (record { stage = t .stage; length = t .printed }) after w′ → Passed m w t w′
+    go : (piece : List ℕ) → t .read ≡ length piece → Advances m piece w out (record { stage = t .stage; length = t .printed }) after w′ → FedPiece m w t w′
     go [] l a = absurd (over taken (ap goesOn (sym (e ∙ ap (λ (s : Stage). endingOf s taken) (a .1))) ∙ q))
-    go (b ∷ bs) l a = record { piece = b ∷ bs; read-is = l; out = out; after = after; feeds = a }
+    go (b ∷ bs) l a = record { piece = b ∷ bs; read-is = l; read-some = omega arith; out = out; after = after; feeds = a }
 
 -- and the program is where the machine is then
-module _ {stage : Stage} {w w′ : Words} {out text after : List ℕ} {t : Outcome} {read printed-bytes : ℕ} (g : Went stage w read printed-bytes)
+module _ {stage : Stage} {w w′ : Words} {out text after : List ℕ} {t : Outcome} {read printed-bytes : ℕ} (g : FedSoFar stage w read printed-bytes)
     (k : Turned stage w out t text after w′) (short : t .read ≤ length text) (q : goesOn (t .ending) ≡ true) where
-  pub turned-on : Went (t .stage) w′ (read + t .read) (printed-bytes + t .printed)
-  turned-on = let p = turned-passed (g .is-at) k short q in went-on g (p .piece) (t .read) (p .read-is) (p .feeds)
+  pub turned-on : FedSoFar (t .stage) w′ (read + t .read) (printed-bytes + t .printed)
+  turned-on = let p = turned-fed (g .is-at) k short q in so-far-on g (p .piece) (t .read) (p .read-is) (p .feeds)
 
   pub turned-line : lineOf (t .stage) ≤ lineOf stage + t .read
-  turned-line = let p = turned-passed (g .is-at) k short q in omega (arith, line-fed (g .is-at) (p .feeds), p .read-is)
+  turned-line = let p = turned-fed (g .is-at) k short q in omega (arith, line-fed (g .is-at) (p .feeds), p .read-is)
+
+  pub turned-some : 1 ≤ t .read
+  turned-some = turned-fed (g .is-at) k short q .read-some

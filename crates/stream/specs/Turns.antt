@@ -52,9 +52,10 @@ pub data Turned (stage : Stage) (w : Words) (out : List ℕ) (t : Outcome) (text
       → Turned stage w out t text after w′
 
 -- All turns: pieces were fed one after the other, as many bytes as they have were read, and no more bytes than `printed` says of them were
--- handed to the write, but all of these if the program finished.
+-- handed to the write, but all of these if the program finished; and the loop gives up only after 2^48 turns, each of which fed a byte at least.
 pub record Serves (x : Served) : Type 0 where
   pub pieces : List (List ℕ)
   pub read-all : x .read ≡ length (flatten pieces)
   pub no-more : x .printed ≤ length (printed (flatten pieces))
   pub all-printed : x .ending ≡ Finished → x .printed ≡ length (printed (flatten pieces))
+  pub given-up : x .ending ≡ More → 281474976710656 ≤ x .read

@@ -1,22 +1,22 @@
 -- The loop's invariant: the program is where the machine is that was fed all pieces so far, as many bytes as these have were read, as many as
--- it printed for them were handed to the write, and the counts of the turns to come fit.
+-- it printed for them were handed to the write, the counts of the turns to come fit, and every turn so far has read a byte at least.
 use Prim.Native.Nat.{ℕ, _+_, _*_, _≤_}
 use mathlib.Core.Path.{_≡_, sym, ap, _∙_}
 use borrow.Author.Needs.{needs}
-use borrow.Author.Tests.{not-false}
+use borrow.Author.Tests.{not-true, not-false}
 use native.Mathlib.Omega.{arith}
 use Rattle.promises.specs.Words.{words}
 use Rattle.session.specs.Stages.{lineOf}
 use Rattle.stream.specs.declared.Ending.the-variants.{More, Finished}
 use Rattle.stream.specs.Turns.{Buffers}
-use Rattle.stream.specs.Going.{Went, went-first, went-serves, turned-serves, turned-on, turned-line}
+use Rattle.stream.specs.Going.{FedSoFar, so-far-first, so-far-serves, turned-serves, turned-on, turned-line, turned-some}
 use Rattle.stream.proofs.go_on.Statement.{statement}
 use Rattle.stream.proofs.go_on.Tie as tie
 
 abbrev Inv-loop : tie.InvT-loop
 Inv-loop fd text₀ cells₀ remember₀ tables₀ out₀ stage₀ read₀ printed₀ turns₀ text cells remember tables out stage read printed turns =
-    Buffers text out × Went stage (words cells remember tables) read printed × (lineOf stage + 16384 * turns ≤ 4611686018427387905) × (read + 16384 * turns ≤ 4611686018427387904)
-    × (printed + 36084 * turns ≤ 18446744073709551615)
+    Buffers text out × FedSoFar stage (words cells remember tables) read printed × (lineOf stage + 16384 * turns ≤ 4611686018427387905) × (read + 16384 * turns ≤ 4611686018427387904)
+    × (printed + 36084 * turns ≤ 18446744073709551615) × (281474976710656 ≤ read + turns)
 
 abbrev μ-loop : tie.MeasureT-loop
 μ-loop fd text₀ cells₀ remember₀ tables₀ out₀ stage₀ read₀ printed₀ turns₀ text cells remember tables out stage read printed turns = turns
@@ -25,7 +25,7 @@ start-requires : tie.Need-start-requires Inv-loop μ-loop
 start-requires c κs = search needs
 
 loop-holds : tie.Need-loop-holds Inv-loop μ-loop
-loop-holds c = (c .before .before .before .before .before .before .pre .0, went-first (c .start .ensures) (c .before .before .before .before .before .before .pre .1), omega (arith, ap lineOf (c .start .ensures)), omega arith, omega arith)
+loop-holds c = (c .before .before .before .before .before .before .pre .0, so-far-first (c .start .ensures) (c .before .before .before .before .before .before .pre .1), omega (arith, ap lineOf (c .start .ensures)), omega arith, omega arith, omega arith)
 
 turn-requires : tie.Need-turn-requires Inv-loop μ-loop
 turn-requires c κs = ((c .before .before .before .before .before .before .loop .inv .0, omega (arith, c .before .before .before .before .before .before .loop .inv .2)), (_, c .before .before .before .before .before .before .loop .inv .1 .is-at))
@@ -81,7 +81,11 @@ same-length-5 c =
     turn .kept .1 .1 .1 .1 .1 .1 .0 ∙ inv .0 .text-room ∙ sym (pre .0 .text-room)
 
 returns : tie.Need-returns Inv-loop μ-loop
-returns c = turned-serves (c .before .before .before .before .before .before .before .before .before .before .before .before .before .before .before .before .before .before .before .loop .inv .1) (c .before .before .before .before .before .before .before .before .before .before .before .before .turn .ensures .0) (c .before .before .before .before .before .before .before .before .before .before .before .before .turn .ensures .1 .0)
+returns c =
+    let inv = c .before .before .before .before .before .before .before .before .before .before .before .before .before .before .before .before .before .before .before .loop .inv in
+    let turn = c .before .before .before .before .before .before .before .before .before .before .before .before .turn in
+    let goes-on = c .before .goes-on in
+    turned-serves (inv .1) (turn .ensures .0) (turn .ensures .1 .0) (sym (goes-on .ensures) ∙ not-true (goes-on .result) (c .if1 .taken))
 
 sub-turns : tie.Need-sub-turns Inv-loop μ-loop
 sub-turns c = omega arith
@@ -101,6 +105,7 @@ loop-again c =
       omega (arith, line, inv .2, turn .ensures .1, turn .kept .1 .1 .0, inv .0 .piece-room),
       omega (arith, inv .3, turn .ensures .1, turn .kept .1 .1 .0, inv .0 .piece-room),
       omega (arith, inv .4, turn .ensures .1),
+      omega (arith, inv .5, turned-some (inv .1) (turn .ensures .0) (turn .ensures .1 .0) on),
     )
 
 same-length-6 : tie.Need-same-length-6 Inv-loop μ-loop
@@ -134,7 +139,7 @@ same-length-10 c =
     inv .0 .text-room ∙ sym (pre .0 .text-room)
 
 returns-2 : tie.Need-returns-2 Inv-loop μ-loop
-returns-2 c = went-serves More (λ (e : More ≡ Finished). let z : _≡_ {A = ℕ} 0 1 = cc in let o : ⊥ = omega arith in o) (c .before .loop .inv .1)
+returns-2 c = so-far-serves More (λ (e : More ≡ Finished). let z : _≡_ {A = ℕ} 0 1 = cc in let o : ⊥ = omega arith in o) (λ e. omega (arith, c .before .loop .inv .5)) (c .before .loop .inv .1)
 
 pub go-on-spec : {M : Type 1} → statement M
 go-on-spec =
