@@ -4,13 +4,14 @@ use mathlib.Core.Logic.{_≢_, _⊎_, inl, inr}
 use mathlib.Core.List.{List}
 use mathlib.Core.Bool.{Bool, true}
 use lib.Dec.{eqb}
-use Prim.Native.Nat.{ℕ, _+_, _-_, _%_, _≤_, _<_}
+use Prim.Native.Nat.{ℕ, _+_, _-_, _*_, _%_, _≤_, _<_}
+use native.Mathlib.Nat.{mul-le-mul}
 use native.Mathlib.Decide.{decLt, ℕ-discrete}
 use native.Mathlib.Omega.{arith}
 use lib.ListN.{set}
 use Rattle.lists.specs.Below.{upto}
 use Rattle.layout.specs.declared.Places.{Places}
-use Rattle.layout.specs.Places.{ownerAt, usedAt, countAt, ownerOf, usedOf, countOf}
+use Rattle.layout.specs.Places.{Room, ownerAt, usedAt, countAt, ownerOf, usedOf, countOf}
 use Rattle.promises.specs.Whole.{Partial}
 
 -- the partly filled page of region g
@@ -18,19 +19,39 @@ pub record Partly (p : Places) (t : List ℕ) (g page : ℕ) : Type 0 where
   pub low : page < p .pages
   pub partial : Partial p t g page
 
--- g has no partly filled page below n; the page is the last free one below n, the number of pages if there is none
+-- g has no partly filled page below n; the page is free, the number of pages if none below n is
 pub record Fresh (p : Places) (t : List ℕ) (g n page : ℕ) : Type 0 where
   pub none : (x : ℕ) → x < n → ownerOf p t x ≡ g → 16 ≤ usedOf p t x
-  pub last : (x : ℕ) → x < n → ownerOf p t x ≡ 0 → (x ≤ page) × (page < p .pages)
+  pub some : (x : ℕ) → x < n → ownerOf p t x ≡ 0 → page < p .pages
   pub free : page < p .pages → ownerOf p t page ≡ 0
+  pub within : page ≤ p .pages
 
 abbrev pub Found : Places → List ℕ → ℕ → ℕ → Type 0
 Found p t g page = Partly p t g page ⊎ Fresh p t g (p .pages) page
 
--- the highest-numbered free page, the number of pages if there is none
-pub record Highest (p : Places) (t : List ℕ) (page : ℕ) : Type 0 where
-  pub last : (x : ℕ) → x < p .pages → ownerOf p t x ≡ 0 → (x ≤ page) × (page < p .pages)
+-- a free page, the number of pages if there is none
+pub record Free (p : Places) (t : List ℕ) (page : ℕ) : Type 0 where
+  pub some : (x : ℕ) → x < p .pages → ownerOf p t x ≡ 0 → page < p .pages
   pub free : page < p .pages → ownerOf p t page ≡ 0
+  pub within : page ≤ p .pages
+
+-- the highest-numbered free page from low on and below high, the number of pages if there is none
+pub record Highest (p : Places) (t : List ℕ) (low high page : ℕ) : Type 0 where
+  pub last : (x : ℕ) → low ≤ x → x < high → ownerOf p t x ≡ 0 → (x ≤ page) × (page < p .pages)
+  pub free : page < p .pages → ownerOf p t page ≡ 0
+  pub within : page ≤ p .pages
+
+-- the notes of a block: the free page found last, and for each region from 1 to 129 at most the page that its last object went to
+abbrev pub noteWords : ℕ
+noteWords = 130
+
+pub note-low : {p : Places} {n : ℕ} (region : ℕ) → Room p n → region ≤ 1 + p .threads * p .depth → region < noteWords
+note-low region r l = omega (arith, mul-le-mul (r .threads-high) (r .depth-high))
+
+-- the page of the next object is a page or the number of pages
+pub found-within : {p : Places} {t : List ℕ} {g page : ℕ} → Found p t g page → page ≤ p .pages
+found-within (inl f) = omega (arith, f .low)
+found-within (inr f) = f .within
 
 -- whether so many objects fill their pages
 abbrev pub fillsPages : ℕ → Bool
@@ -46,34 +67,47 @@ taken p t page g = set (set (set t (ownerAt p page) g) (usedAt p page) (usedOf p
 
 -- ---- a page for a new object
 
--- no page from n on is free
-abbrev pub NoneFrom : Places → List ℕ → ℕ → Type 0
-NoneFrom p t n = (x : ℕ) → n ≤ x → x < p .pages → ownerOf p t x ≡ 0 → ⊥
+-- no page from n on and below high is free
+abbrev pub NoneFrom : Places → List ℕ → ℕ → ℕ → Type 0
+NoneFrom p t n high = (x : ℕ) → n ≤ x → x < high → ownerOf p t x ≡ 0 → ⊥
 
-pub none-from : (p : Places) (t : List ℕ) {n : ℕ} → 0 < n → (ownerOf p t (n - 1) ≡ 0 → ⊥) → NoneFrom p t n → NoneFrom p t (n - 1)
+pub none-from : (p : Places) (t : List ℕ) {n high : ℕ} → 0 < n → (ownerOf p t (n - 1) ≡ 0 → ⊥) → NoneFrom p t n high → NoneFrom p t (n - 1) high
 none-from p t {n} pos used none x l m e = go (ℕ-discrete x (n - 1))
   where
     go : Dec (x ≡ n - 1) → ⊥
     go (yes d) = used (subst (λ (y : ℕ). ownerOf p t y ≡ 0) d e)
     go (no d) = none x (omega arith) m e
 
-pub highest-found : (p : Places) (t : List ℕ) {n : ℕ} → 0 < n → n ≤ p .pages → ownerOf p t (n - 1) ≡ 0 → NoneFrom p t n → Highest p t (n - 1)
-highest-found p t {n} pos low e none = record { last = λ x l d. (go x l d (decLt x n), omega arith); free = λ l. e }
+pub highest-found : (p : Places) (t : List ℕ) (low : ℕ) {n high : ℕ} → 0 < n → n ≤ high → high ≤ p .pages → ownerOf p t (n - 1) ≡ 0 → NoneFrom p t n high
+    → Highest p t low high (n - 1)
+highest-found p t low {n} {high} pos l h e none = record { last = λ x k m d. (go x m d (decLt x n), omega arith); free = λ k. e; within = omega arith }
   where
-    go : (x : ℕ) → x < p .pages → ownerOf p t x ≡ 0 → Dec (x < n) → x ≤ n - 1
-    go x l d (yes h) = omega arith
-    go x l d (no h) = absurd (none x (omega arith) l d)
+    go : (x : ℕ) → x < high → ownerOf p t x ≡ 0 → Dec (x < n) → x ≤ n - 1
+    go x m d (yes k) = omega arith
+    go x m d (no k) = absurd (none x (omega arith) m d)
 
-pub highest-none : {p : Places} {t : List ℕ} {n : ℕ} → n ≤ 0 → NoneFrom p t n → Highest p t (p .pages)
-highest-none {p} {t} {n} z none =
-    record { last = λ x l e. absurd (none x (omega arith) l e); free = λ l. absurd (let f : ⊥ = omega arith in f) }
+pub highest-none : {p : Places} {t : List ℕ} {low n high : ℕ} → n ≤ low → NoneFrom p t n high → Highest p t low high (p .pages)
+highest-none {p} {t} {low} {n} {high} z none =
+    record { last = λ x k l e. absurd (none x (omega arith) l e); free = λ l. absurd (let f : ⊥ = omega arith in f); within = omega arith }
 
-pub fresh-filled : (p : Places) (t : List ℕ) (g : ℕ) {page : ℕ} → Filled p t g → fillsPages (countOf p t g) ≡ true → Highest p t page → Found p t g page
+-- below the bound, else from it on
+pub free-below : {p : Places} {t : List ℕ} {mid page : ℕ} → page < p .pages → Highest p t 0 mid page → Free p t page
+free-below l h = record { some = λ x k e. l; free = h .free; within = h .within }
+
+pub free-above : {p : Places} {t : List ℕ} {mid page page′ : ℕ} → p .pages ≤ page → Highest p t 0 mid page → Highest p t mid (p .pages) page′ → Free p t page′
+free-above {p} {t} {mid} {page} {page′} none h k = record { some = λ x l e. go x l e (decLt x mid); free = k .free; within = k .within }
+  where
+    go : (x : ℕ) → x < p .pages → ownerOf p t x ≡ 0 → Dec (x < mid) → page′ < p .pages
+    go x l e (yes m) = absurd (let z : ⊥ = omega (arith, h .last x (omega arith) m e .1) in z)
+    go x l e (no m) = k .last x (omega arith) l e .1
+
+pub fresh-filled : (p : Places) (t : List ℕ) (g : ℕ) {page : ℕ} → Filled p t g → fillsPages (countOf p t g) ≡ true → Free p t page → Found p t g page
 fresh-filled p t g none full h =
     inr (record {
       none = λ x l e. go x l e (decLt (usedOf p t x) 16);
-      last = h .last;
+      some = h .some;
       free = h .free;
+      within = h .within;
     })
   where
     go : (x : ℕ) → x < p .pages → ownerOf p t x ≡ g → Dec (usedOf p t x < 16) → 16 ≤ usedOf p t x
@@ -86,8 +120,9 @@ pub fresh-start : (p : Places) (t : List ℕ) (g : ℕ) → Fresh p t g 0 (p .pa
 fresh-start p t g =
     record {
       none = λ x l. absurd (let z : ⊥ = omega arith in z);
-      last = λ x l. absurd (let z : ⊥ = omega arith in z);
+      some = λ x l. absurd (let z : ⊥ = omega arith in z);
       free = λ l. absurd (let z : ⊥ = omega arith in z);
+      within = omega arith;
     }
 
 -- past a page that is not g's, or is full; w is its owner as the code read it
@@ -96,15 +131,17 @@ pub fresh-next : {p : Places} {t : List ℕ} {g n page page′ : ℕ} (w : ℕ) 
 fresh-next {p} {t} {g} {n} {page} {page′} w is low full (inl e) h =
     record {
       none = upto n {X = λ x. ownerOf p t x ≡ g → 16 ≤ usedOf p t x} (h .none) (λ z. full (is ∙ z));
-      last = λ x l z. (omega (arith, e .1), omega (arith, e .1));
+      some = λ x l z. omega (arith, e .1);
       free = λ l. subst (λ (x : ℕ). ownerOf p t x ≡ 0) (sym (e .1)) (sym is ∙ e .0);
+      within = omega (arith, e .1);
     }
 fresh-next {p} {t} {g} {n} {page} {page′} w is low full (inr e) h =
     subst (λ (x : ℕ). Fresh p t g (n + 1) x) (sym (e .1))
     (record {
       none = upto n {X = λ x. ownerOf p t x ≡ g → 16 ≤ usedOf p t x} (h .none) (λ z. full (is ∙ z));
-      last = upto n {X = λ x. ownerOf p t x ≡ 0 → (x ≤ page) × (page < p .pages)} (h .last) (λ z. absurd (e .0 (is ∙ z)));
+      some = upto n {X = λ x. ownerOf p t x ≡ 0 → page < p .pages} (h .some) (λ z. absurd (e .0 (is ∙ z)));
       free = h .free;
+      within = h .within;
     })
 
 -- the three stores one after the other, with the words as the code has them

@@ -1,13 +1,15 @@
 // The pages of a region, and the cell that an object gets: the first unused cell of its region's partly filled page, else the first cell
-// of the highest-numbered free page.
+// of a free page.
 ghost use mathlib.Core.Path.{_≡_};
-ghost use Prim.Native.Nat.{_+_, _*_, _^_, _<_, _≤_};
+ghost use Prim.Native.Nat.{_+_, _*_, _^_, _<_, _≤_, min};
 ghost use lib.ListN.{length};
 ghost use Rattle.lists.specs.Says.{Says};
-ghost use Rattle.layout.specs.Places.{Room, usedOf, countOf};
+ghost use Rattle.lists.specs.Part.{Lists};
+ghost use Rattle.rules.specs.Graph.{pagesOf};
+ghost use Rattle.layout.specs.Places.{Room, ownerOf, usedOf, countOf};
 ghost use Rattle.layout.specs.Cells.{cellOn};
-ghost use Rattle.pages.specs.Owned.{ownedOne, ownedIn};
-ghost use Rattle.pages.specs.Pages.{fillsPages, Filled, Found, Highest, Partly, taken};
+ghost use Rattle.pages.specs.Owned.{ownedOne, ownedIn, Paged};
+ghost use Rattle.pages.specs.Pages.{fillsPages, noteWords, Filled, Found, Free, Highest, Partly, taken};
 use layout::Places;
 
 // 1 if a page belongs to region g, else 0.
@@ -37,6 +39,49 @@ pub fn owned_pages(p: Places, tables: &[u32], g: u32) -> usize
     n
 }
 
+// How many pages are free: all less those that the regions' objects fill.
+pub fn free_pages(p: Places, tables: &[u32]) -> usize
+    requires { ⌜ Room p (length (now tables)) ⌝ }
+    requires { ⌜ Paged p (now tables) ⌝ }
+    ensures { λ n. ⌜ n ≡ ownedIn p (now (tables .entry)) 0 (p .pages) ⌝ }
+{
+    let last = layout::regions::last_region(p);
+    let mut free = p.pages;
+    let mut g: usize = 1;
+    while g <= last {
+        let objects = layout::wide(layout::tables::count(p, tables, g));
+        free -= layout::cells::pages_for(objects);
+        g += 1;
+    }
+    free
+}
+
+// The pages of a region in rising number, at the start of the list; how many they are, which the count of its objects tells. The search goes down
+// from the last page and ends at the region's first.
+pub fn list_pages(p: Places, tables: &[u32], region: u32, list: &mut [u32]) -> usize
+    requires { ⌜ Room p (length (now tables)) ⌝ }
+    requires { ⌜ (1 ≤ region) × (region ≤ 1 + p .threads * p .depth) ⌝ }
+    requires { ⌜ ownedIn p (now tables) region (p .pages) ≡ pagesOf (countOf p (now tables) region) ⌝ }
+    requires { ⌜ p .pages ≤ length (now list) ⌝ }
+    ensures { λ n. ⌜ Lists (λ page. ownerOf p (now (tables .entry)) page ≡ region) (p .pages) n (now (list .exit)) ⌝ }
+{
+    let n = layout::cells::pages_for(layout::wide(layout::tables::count(
+        p,
+        tables,
+        layout::wide(region),
+    )));
+    let mut left = n;
+    let mut page = p.pages;
+    while left != 0 {
+        page -= 1;
+        if layout::tables::owner(p, tables, page) == region {
+            left -= 1;
+            list[left] = page as u32;
+        }
+    }
+    n
+}
+
 // Whether so many objects leave no cell of their region's pages unused.
 fn fills_pages(objects: u32) -> bool
     ensures { λ r. ⌜ r ≡ fillsPages objects ⌝ }
@@ -57,24 +102,47 @@ fn is_partly(p: Places, tables: &[u32], region: u32, page: usize) -> bool
     false
 }
 
-// The highest-numbered free page; the number of pages if there is none.
-fn free_page(p: Places, tables: &[u32]) -> usize
+// The highest-numbered free page from `low` on and below `high`; the number of pages if there is none.
+fn free_between(p: Places, tables: &[u32], low: usize, high: usize) -> usize
     requires { ⌜ Room p (length (now tables)) ⌝ }
-    ensures { λ r. ⌜ Highest p (now (tables .entry)) r ⌝ }
+    requires { ⌜ high ≤ p .pages ⌝ }
+    ensures { λ r. ⌜ Highest p (now (tables .entry)) low high r ⌝ }
 {
-    let pages = p.pages;
-    let mut page = pages;
-    while 0 < page {
+    let mut page = high;
+    while low < page {
         page -= 1;
         if layout::tables::owner(p, tables, page) == 0 {
             return page;
         }
     }
-    pages
+    p.pages
 }
 
-// The partly filled page of a region; if it has none the highest-numbered free page; the number of pages if there is none.
-pub fn find_page(p: Places, tables: &[u32], region: u32) -> usize
+fn lower(a: usize, b: usize) -> usize
+    ensures { λ r. ⌜ r ≡ min a b ⌝ }
+{
+    if a < b { a } else { b }
+}
+
+// A free page; the number of pages if there is none. Note 0 is the page that was found last: the search goes on below it, and looks at the
+// pages above it last. The notes are kept for the length of a block and are hints: the answer is right whatever they hold.
+pub fn free_page(p: Places, tables: &[u32], notes: &mut [u32]) -> usize
+    requires { ⌜ Room p (length (now tables)) ⌝ }
+    requires { ⌜ noteWords ≤ length (now notes) ⌝ }
+    ensures { λ r. ⌜ Free p (now (tables .entry)) r ⌝ }
+{
+    let pages = p.pages;
+    let from = lower(layout::wide(notes[0]), pages);
+    let mut page = free_between(p, tables, 0, from);
+    if pages <= page {
+        page = free_between(p, tables, from, pages);
+    }
+    notes[0] = page as u32;
+    page
+}
+
+// The partly filled page of a region; if it has none a free page; the number of pages if there is none.
+fn find_page(p: Places, tables: &[u32], region: u32) -> usize
     requires { ⌜ Room p (length (now tables)) ⌝ }
     ensures { λ r. ⌜ Found p (now (tables .entry)) region r ⌝ }
 {
@@ -96,30 +164,34 @@ pub fn find_page(p: Places, tables: &[u32], region: u32) -> usize
     last
 }
 
-// The same page for a thread's next object, found without a search where it is known: filled pages leave only the free ones, and a thread
-// mostly holds what lies on the page that it fills.
-pub fn page_for(p: Places, tables: &[u32], thread: usize, region: u32) -> usize
+// The same page: filled pages leave only the free ones.
+fn search_page(p: Places, tables: &[u32], notes: &mut [u32], region: u32) -> usize
     requires { ⌜ Room p (length (now tables)) ⌝ }
-    requires { ⌜ thread < p .threads ⌝ }
+    requires { ⌜ noteWords ≤ length (now notes) ⌝ }
     requires { ⌜ (1 ≤ region) × (region ≤ 1 + p .threads * p .depth) × Filled p (now tables) region ⌝ }
     ensures { λ r. ⌜ Found p (now (tables .entry)) region r ⌝ }
 {
     if fills_pages(layout::tables::count(p, tables, layout::wide(region))) {
-        return free_page(p, tables);
-    }
-    let variables = p.variables;
-    let mut a: usize = 0;
-    while a < variables {
-        let x = layout::tables::var(p, tables, layout::tables::var_number(p, thread, a));
-        if x != 0 {
-            let page = layout::cells::page_of(layout::cells::cell_named(x));
-            if is_partly(p, tables, region, page) {
-                return page;
-            }
-        }
-        a += 1;
+        return free_page(p, tables, notes);
     }
     find_page(p, tables, region)
+}
+
+// The same page, found without a search where the region's note names it: the page that its last object went to.
+pub fn page_for(p: Places, tables: &[u32], notes: &mut [u32], region: u32) -> usize
+    requires { ⌜ Room p (length (now tables)) ⌝ }
+    requires { ⌜ noteWords ≤ length (now notes) ⌝ }
+    requires { ⌜ (1 ≤ region) × (region ≤ 1 + p .threads * p .depth) × Filled p (now tables) region ⌝ }
+    ensures { λ r. ⌜ Found p (now (tables .entry)) region r ⌝ }
+{
+    let number = layout::wide(region);
+    let noted = layout::wide(notes[number]);
+    if is_partly(p, tables, region, noted) {
+        return noted;
+    }
+    let page = search_page(p, tables, notes, region);
+    notes[number] = page as u32;
+    page
 }
 
 // The first unused cell of a page becomes an object of the region: the page's owner, its cells in use and the region's objects follow.

@@ -1,51 +1,57 @@
--- The search from the top. Invariant: no page from `page` on is free.
+-- Below the note, else from it on.
 use borrow.Author.Needs.{needs}
 use native.Mathlib.Omega.{arith}
-use Prim.Native.Nat.{_≤_}
-use mathlib.Core.Path.{sym, _∙_}
-use Rattle.pages.specs.Pages.{NoneFrom, none-from, highest-found, highest-none}
+use Prim.Native.Nat.{ℕ}
+use mathlib.Core.Path.{sym, subst}
+use mathlib.Core.Logic.{⊎-elim}
+use Rattle.pages.specs.Pages.{Free, free-below, free-above}
 use Rattle.pages.proofs.free_page.Statement.{statement}
 use Rattle.pages.proofs.free_page.Tie as tie
 
-abbrev Inv-loop : tie.InvT-loop
-Inv-loop p tables pages page₀ page = (page ≤ p .pages) × NoneFrom p tables page
+free : (c : tie.After-row-known) → Free (c .before .before .before .before .before .before .before .before .args .p) (c .before .before .before .before .before .before .before .before .args .tables .now) (c .before .if1 .page)
+free c =
+    ⊎-elim
+    (λ w. subst (λ (x : ℕ). Free (c .before .before .before .before .before .before .before .before .args .p) (c .before .before .before .before .before .before .before .before .args .tables .now) x) (sym (w .2)) (free-above (w .0 .taken) (c .before .before .free-between .ensures) (w .1 .ensures)))
+    (λ w. subst (λ (x : ℕ). Free (c .before .before .before .before .before .before .before .before .args .p) (c .before .before .before .before .before .before .before .before .args .tables .now) x) (sym (w .1)) (free-below (omega (arith, w .0 .left)) (c .before .before .free-between .ensures)))
+    (c .before .if1 .came)
 
-abbrev μ-loop : tie.MeasureT-loop
-μ-loop p tables pages page₀ page = page
+slice-read-wide : tie.Need-slice-read-wide
+slice-read-wide c = search needs
 
-loop-holds : tie.Need-loop-holds Inv-loop μ-loop
-loop-holds c = (omega arith, λ x l m e. omega arith)
+wide-requires : tie.Need-wide-requires
+wide-requires c κs = search needs
 
-sub-page : tie.Need-sub-page Inv-loop μ-loop
-sub-page c = omega arith
+lower-requires : tie.Need-lower-requires
+lower-requires c κs = search needs
 
-owner-requires : tie.Need-owner-requires Inv-loop μ-loop
-owner-requires c κs = search needs
+free-between-requires : tie.Need-free-between-requires
+free-between-requires c κs = search needs
 
-returns : tie.Need-returns Inv-loop μ-loop
-returns c = highest-found _ _ (omega arith) (omega arith) (sym (c .before .owner .ensures) ∙ c .if1 .taken) (c .before .before .before .loop .inv .1)
+free-between-requires-2 : tie.Need-free-between-requires-2
+free-between-requires-2 c κs = search needs
 
-loop-less : tie.Need-loop-less Inv-loop μ-loop
-loop-less c = omega arith
+cast-notes : tie.Need-cast-notes
+cast-notes c = omega (arith, free c .within, c .before .before .before .before .before .before .before .before .pre .0 .few)
 
-loop-again : tie.Need-loop-again Inv-loop μ-loop
-loop-again c =
-    let args = c .before .before .before .before .before .args in
-    (omega arith, none-from (args .p) (args .tables .now) (omega arith) (λ e. c .if1 .left (c .before .owner .ensures ∙ e)) (c .before .before .before .loop .inv .1))
+slice-write-notes : tie.Need-slice-write-notes
+slice-write-notes c = search needs
 
-returns-2 : tie.Need-returns-2 Inv-loop μ-loop
-returns-2 c = highest-none (omega arith) (c .before .loop .inv .1)
+same-length : tie.Need-same-length
+same-length c = search needs
+
+returns : tie.Need-returns
+returns c = free c
 
 pub free-page-spec : {M : Type 1} → statement M
 free-page-spec =
     tie.close
     (tie.spec
-    Inv-loop
-    μ-loop
-    loop-holds
-    sub-page
-    owner-requires
-    returns
-    loop-less
-    loop-again
-    returns-2)
+    slice-read-wide
+    wide-requires
+    lower-requires
+    free-between-requires
+    free-between-requires-2
+    cast-notes
+    slice-write-notes
+    same-length
+    returns)
