@@ -108,7 +108,7 @@ module _ (p : Places) (c m t : List ℕ) (r : Ready p c m t) (u : ℕ) (l : u < 
       where
         go : Found P t g page → (PartlyFilled s w g → ⊥) × (FreePage s w → ⊥)
         go (inl f) = absurd (let z : ⊥ = omega (arith, f .low) in z)
-        go (inr f) = ((λ x. omega (arith, f .none (x .0) (x .1) (x .2 .owner), x .2 .part)), (λ x. omega (arith, f .last (x .0) (x .1) (x .2))))
+        go (inr f) = ((λ x. omega (arith, f .none (x .0) (x .1) (x .2 .owner), x .2 .part)), (λ x. omega (arith, f .some (x .0) (x .1) (x .2))))
 
     -- a page was found
     some-found : page < p .pages → PartlyFilled s w g ⊎ FreePage s w

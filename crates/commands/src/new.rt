@@ -5,6 +5,7 @@ ghost use lib.ListN.{length};
 ghost use Rattle.rules.specs.Regions.{regionAt};
 ghost use Rattle.layout.specs.Places.{Room, sizesOf, depthOf};
 ghost use Rattle.promises.specs.NewCell.{Blank};
+ghost use Rattle.pages.specs.Pages.{noteWords};
 ghost use Rattle.commands.specs.Ready.{Ready};
 ghost use Rattle.commands.specs.Does.{Does};
 ghost use Rattle.commands.specs.declared.Decoded.the-variants.{New};
@@ -43,17 +44,19 @@ pub fn new_object(
     cells: &mut [u32],
     remember: &[u32],
     tables: &mut [u32],
+    notes: &mut [u32],
     t: usize,
     a: usize,
     b: usize,
     c: usize,
 ) -> Answer
     requires { ⌜ Ready p (now cells) (now remember) (now tables) ⌝ }
+    requires { ⌜ noteWords ≤ length (now notes) ⌝ }
     requires { ⌜ (t < p .threads) × (a < p .variables) × (b + c ≤ 14) ⌝ }
     ensures { λ r. ⌜ Does p (now (cells .entry)) (now (remember .entry)) (now (tables .entry)) (New t a b c) (now (cells .exit)) (now (remember .entry)) (now (tables .exit)) r ⌝ }
 {
     let region = innermost(p, tables, t);
-    let page = pages::page_for(p, tables, t, region);
+    let page = pages::page_for(p, tables, notes, region);
     if p.pages <= page {
         return rules::refused(13);
     }

@@ -1,4 +1,7 @@
 // One command, decoded and done.
+ghost use Prim.Native.Nat.{_≤_};
+ghost use lib.ListN.{length};
+ghost use Rattle.pages.specs.Pages.{noteWords};
 ghost use Rattle.commands.specs.Ready.{Ready};
 ghost use Rattle.commands.specs.Obeys.{Obeys};
 use crate::Decoded;
@@ -16,15 +19,18 @@ use crate::variables::start;
 use layout::Places;
 use rules::Command;
 
-// Every command but an end is answered here; of an end, which changes nothing yet, the thread is given.
+// Every command but an end is answered here; of an end, which changes nothing yet, the thread is given. The notes say where to look for
+// a page first (crate `pages`).
 pub fn obey(
     p: Places,
     cells: &mut [u32],
     remember: &mut [u32],
     tables: &mut [u32],
+    notes: &mut [u32],
     m: Command,
 ) -> Obeyed
     requires { ⌜ Ready p (now cells) (now remember) (now tables) ⌝ }
+    requires { ⌜ noteWords ≤ length (now notes) ⌝ }
     ensures { λ r. ⌜ Obeys p (now (cells .entry)) (now (remember .entry)) (now (tables .entry)) m (now (cells .exit)) (now (remember .exit)) (now (tables .exit)) r ⌝ }
 {
     let d = decode(p, m);
@@ -36,6 +42,7 @@ pub fn obey(
             cells,
             remember,
             tables,
+            notes,
             t,
             a,
             b,

@@ -5,6 +5,7 @@ ghost use lib.ListN.{length};
 ghost use Rattle.layout.specs.Places.{sizesOf};
 ghost use Rattle.promises.specs.Words.{words};
 ghost use Rattle.promises.specs.Promises.{DidHere, Ran, RunAsked, commandAt};
+ghost use Rattle.pages.specs.Pages.{noteWords};
 ghost use Rattle.commands.specs.Ready.{Ready};
 use commands::Obeyed;
 use layout::Places;
@@ -17,15 +18,17 @@ fn obey(
     cells: &mut [u32],
     remember: &mut [u32],
     tables: &mut [u32],
+    notes: &mut [u32],
     m: Command,
 ) -> Answer
     requires { ⌜ Ready p (now cells) (now remember) (now tables) ⌝ }
+    requires { ⌜ noteWords ≤ length (now notes) ⌝ }
     ensures { λ r. ⌜ DidHere (sizesOf p) (words (now (cells .entry)) (now (remember .entry)) (now (tables .entry))) m (words (now (cells .exit)) (now (remember .exit)) (now (tables .exit))) r ⌝ }
 {
-    let o = commands::obey::obey(p, cells, remember, tables, m);
+    let o = commands::obey::obey(p, cells, remember, tables, notes, m);
     match o {
         Obeyed::Answered(a) => a,
-        Obeyed::Ends(t) => epoch::end(p, cells, remember, tables, t),
+        Obeyed::Ends(t) => epoch::end(p, cells, remember, tables, notes, t),
     }
 }
 
@@ -49,17 +52,19 @@ fn obey_at(
     cells: &mut [u32],
     remember: &mut [u32],
     tables: &mut [u32],
+    notes: &mut [u32],
     block: &[u32],
     i: usize,
 ) -> Answer
     requires { ⌜ Ready p (now cells) (now remember) (now tables) ⌝ }
+    requires { ⌜ noteWords ≤ length (now notes) ⌝ }
     requires { ⌜ (i < 2305843009213693952) × (5 * i + 5 ≤ length (now block)) ⌝ }
     ensures { λ r. ⌜ DidHere (sizesOf p) (words (now (cells .entry)) (now (remember .entry)) (now (tables .entry))) (commandAt (now (block .entry)) i) (words (now (cells .exit)) (now (remember .exit)) (now (tables .exit))) r ⌝ }
 {
-    obey(p, cells, remember, tables, command_at(block, i))
+    obey(p, cells, remember, tables, notes, command_at(block, i))
 }
 
-// The commands of a block, in order, each with its two answer words.
+// The commands of a block, in order, each with its two answer words. The notes live as long as the block.
 fn obey_block(
     cells: &mut [u32],
     remember: &mut [u32],
@@ -72,9 +77,10 @@ fn obey_block(
 {
     let p = layout::find_places(layout::read_sizes(tables));
     let n = block.len() / 5;
+    let mut notes = [0u32; 130];
     let mut i: usize = 0;
     while i < n {
-        let a = obey_at(p, cells, remember, tables, block, i);
+        let a = obey_at(p, cells, remember, tables, &mut notes, block, i);
         answers[2 * i] = a.number;
         answers[2 * i + 1] = a.value;
         i += 1;

@@ -12,22 +12,22 @@ use Rattle.commands.proofs.new.new_object.Tie as tie
 
 innermost-requires : tie.Need-innermost-requires
 innermost-requires c κs =
-    let args = c .before .before .before .before .args in
-    let pre = c .before .before .before .before .pre in (
+    let args = c .before .before .before .before .before .args in
+    let pre = c .before .before .before .before .before .pre in (
       (placed (args .p) (args .cells .now) (args .remember .now) (args .tables .now) (pre .0) (omega arith)) .room,
-      (pre .1 .0, pre .0 .whole .placed .depths (args .t) (pre .1 .0)),
+      (pre .1 .1 .0, pre .0 .whole .placed .depths (args .t) (pre .1 .1 .0)),
     )
 
 page-for-requires : tie.Need-page-for-requires
 page-for-requires c κs =
-    let args = c .before .before .before .before .before .before .args in
-    let pre = c .before .before .before .before .before .before .pre in
-    let innermost = c .before .innermost in
-    let real = region-real (args .p) (args .cells .now) (args .remember .now) (args .tables .now) (pre .0) (args .t) (pre .1 .0) (innermost .result) (innermost .ensures) in (
+    let args = c .before .before .before .before .before .before .before .before .args in
+    let pre = c .before .before .before .before .before .before .before .before .pre in
+    let innermost = c .before .before .innermost in
+    let real = region-real (args .p) (args .cells .now) (args .remember .now) (args .tables .now) (pre .0) (args .t) (pre .1 .1 .0) (innermost .result) (innermost .ensures) in (
       placed (args .p) (args .cells .now) (args .remember .now) (args .tables .now) (pre .0) (omega arith) .room,
       (
         pre .1 .0,
-        (real .0, real .1, region-filled (args .p) (args .cells .now) (args .remember .now) (args .tables .now) (pre .0) (args .t) (pre .1 .0) (innermost .result) (innermost .ensures)),
+        (real .0, real .1, region-filled (args .p) (args .cells .now) (args .remember .now) (args .tables .now) (pre .0) (args .t) (pre .1 .1 .0) (innermost .result) (innermost .ensures)),
       ),
     )
 
@@ -37,83 +37,89 @@ refused-requires c κs = search needs
 same-length : tie.Need-same-length
 same-length c = search needs
 
+same-length-2 : tie.Need-same-length-2
+same-length-2 c = search needs
+
 returns : tie.Need-returns
 returns c =
-    let args = c .before .before .before .before .before .before .before .before .before .before .args in
-    let pre = c .before .before .before .before .before .before .before .before .before .before .pre in
-    let innermost = c .before .before .before .before .before .innermost in
-    let page-for = c .before .before .before .page-for in
+    let args = c .before .before .before .before .before .before .before .before .before .before .before .before .before .before .args in
+    let pre = c .before .before .before .before .before .before .before .before .before .before .before .before .before .before .pre in
+    let innermost = c .before .before .before .before .before .before .before .before .innermost in
+    let page-for = c .before .before .before .before .before .page-for in
     let if1 = c .before .if1 in
     did-answer (c .refused .ensures)
-    (new-refused (args .p) (args .cells .now) (args .remember .now) (args .tables .now) (pre .0) (args .t) (pre .1 .0) (innermost .result)
-    (innermost .ensures) (args .a) (args .b) (args .c) (pre .1 .1) (pre .1 .2) (page-for .result) (page-for .ensures) (if1 .taken))
+    (new-refused (args .p) (args .cells .now) (args .remember .now) (args .tables .now) (pre .0) (args .t) (pre .1 .1 .0) (innermost .result)
+    (innermost .ensures) (args .a) (args .b) (args .c) (pre .1 .1 .1) (pre .1 .1 .2) (page-for .result) (page-for .ensures) (if1 .taken))
 
 take-cell-requires : tie.Need-take-cell-requires
 take-cell-requires c κs =
-    let args = c .before .before .before .before .before .before .before .before .before .before .args in
-    let pre = c .before .before .before .before .before .before .before .before .before .before .pre in
-    let innermost = c .before .before .before .before .before .innermost in
-    let page = c .before .before .before .page-for in
-    let real = region-real (args .p) (args .cells .now) (args .remember .now) (args .tables .now) (pre .0) (args .t) (pre .1 .0) (innermost .result) (innermost .ensures) in
+    let args = c .before .before .before .before .before .before .before .before .before .before .before .before .before .before .args in
+    let pre = c .before .before .before .before .before .before .before .before .before .before .before .before .before .before .pre in
+    let innermost = c .before .before .before .before .before .before .before .before .innermost in
+    let page = c .before .before .before .before .before .page-for in
+    let real = region-real (args .p) (args .cells .now) (args .remember .now) (args .tables .now) (pre .0) (args .t) (pre .1 .1 .0) (innermost .result) (innermost .ensures) in
     let take =
-    can-take (args .p) (args .cells .now) (args .remember .now) (args .tables .now) (pre .0) (args .t) (pre .1 .0) (innermost .result) (innermost .ensures)
+    can-take (args .p) (args .cells .now) (args .remember .now) (args .tables .now) (pre .0) (args .t) (pre .1 .1 .0) (innermost .result) (innermost .ensures)
     (page .result) (page .ensures) (omega arith) in (
-      placed (args .p) (args .cells .now) (args .remember .now) (args .tables .now) (pre .0) (omega (arith, c .before .before .before .before .before .before .before .before .before .before .good .1 .1 .1 .0)) .room,
+      placed (args .p) (args .cells .now) (args .remember .now) (args .tables .now) (pre .0) (omega (arith, c .before .before .before .before .before .before .before .before .before .before .before .before .before .before .good .1 .1 .1 .0)) .room,
       ((omega arith, take .0), (real .0, real .1, take .1)),
     )
 
 -- the cell that was taken lies in the cells
-inside : (c : tie.After-take-cell) → (c .take-cell .result < 16384) × (16 * c .take-cell .result + 16 ≤ length (c .before .before .before .before .before .before .before .before .before .before .before .args .cells .now))
+inside : (c : tie.After-take-cell) → (c .take-cell .result < 16384) × (16 * c .take-cell .result + 16 ≤ length (c .before .before .before .before .before .before .before .before .before .before .before .before .before .before .before .args .cells .now))
 inside c =
-    let args = c .before .before .before .before .before .before .before .before .before .before .before .args in
-    let pre = c .before .before .before .before .before .before .before .before .before .before .before .pre in
-    let innermost = c .before .before .before .before .before .before .innermost in
-    let page = c .before .before .before .before .page-for in
+    let args = c .before .before .before .before .before .before .before .before .before .before .before .before .before .before .before .args in
+    let pre = c .before .before .before .before .before .before .before .before .before .before .before .before .before .before .before .pre in
+    let innermost = c .before .before .before .before .before .before .before .before .before .innermost in
+    let page = c .before .before .before .before .before .before .page-for in
     let take = c .take-cell in
-    cell-inside (args .p) (args .cells .now) (args .remember .now) (args .tables .now) (pre .0) (args .t) (pre .1 .0) (innermost .result) (innermost .ensures)
+    cell-inside (args .p) (args .cells .now) (args .remember .now) (args .tables .now) (pre .0) (args .t) (pre .1 .1 .0) (innermost .result) (innermost .ensures)
     (page .result) (page .ensures) (omega arith) (take .result) (take .ensures .0) (take .last .1 .0) (take .ensures .1)
 
 blank-requires : tie.Need-blank-requires
 blank-requires c κs =
     let room = inside (c .before .before .before) in
-    (room .0, room .1, c .before .before .before .before .before .before .before .before .before .before .before .before .before .before .pre .1 .2)
+    (room .0, room .1, c .before .before .before .before .before .before .before .before .before .before .before .before .before .before .before .before .before .before .pre .1 .1 .2)
 
 ref-to-requires : tie.Need-ref-to-requires
 ref-to-requires c κs = inside (c .before .before .before .before .before .before .before) .0
 
 write-var-requires : tie.Need-write-var-requires
 write-var-requires c κs =
-    let args = c .before .before .before .before .before .before .before .before .before .before .before .before .before .before .before .before .before .before .before .args in
-    let pre = c .before .before .before .before .before .before .before .before .before .before .before .before .before .before .before .before .before .before .before .pre in
-    let good = c .before .before .before .before .before .before .before .before .before .before .before .before .before .before .before .before .before .before .before .good in
+    let args = c .before .before .before .before .before .before .before .before .before .before .before .before .before .before .before .before .before .before .before .before .before .before .before .args in
+    let pre = c .before .before .before .before .before .before .before .before .before .before .before .before .before .before .before .before .before .before .before .before .before .before .before .pre in
+    let good = c .before .before .before .before .before .before .before .before .before .before .before .before .before .before .before .before .before .before .before .before .before .before .before .good in
     let take-cell = c .before .before .before .before .before .before .before .before .take-cell in (
       placed-still (args .p) (take-cell .kept .1 .0)
           (placed (args .p) (args .cells .now) (args .remember .now) (args .tables .now) (pre .0) (omega (arith, good .1 .1 .1 .0))),
-      (pre .1 .0, pre .1 .1),
+      (pre .1 .1 .0, pre .1 .1 .1),
     )
 
 done-requires : tie.Need-done-requires
 done-requires c κs = search needs
 
-same-length-2 : tie.Need-same-length-2
-same-length-2 c = search needs
-
 same-length-3 : tie.Need-same-length-3
 same-length-3 c = search needs
 
+same-length-4 : tie.Need-same-length-4
+same-length-4 c = search needs
+
+same-length-5 : tie.Need-same-length-5
+same-length-5 c = search needs
+
 returns-2 : tie.Need-returns-2
 returns-2 c =
-    let args = c .before .before .before .before .before .before .before .before .before .before .before .before .before .before .before .before .before .before .before .before .before .before .before .args in
-    let pre = c .before .before .before .before .before .before .before .before .before .before .before .before .before .before .before .before .before .before .before .before .before .before .before .pre in
-    let innermost = c .before .before .before .before .before .before .before .before .before .before .before .before .before .before .before .before .before .before .innermost in
-    let page-for = c .before .before .before .before .before .before .before .before .before .before .before .before .before .before .before .before .page-for in
+    let args = c .before .before .before .before .before .before .before .before .before .before .before .before .before .before .before .before .before .before .before .before .before .before .before .before .before .before .before .args in
+    let pre = c .before .before .before .before .before .before .before .before .before .before .before .before .before .before .before .before .before .before .before .before .before .before .before .before .before .before .before .pre in
+    let innermost = c .before .before .before .before .before .before .before .before .before .before .before .before .before .before .before .before .before .before .before .before .before .innermost in
+    let page-for = c .before .before .before .before .before .before .before .before .before .before .before .before .before .before .before .before .before .before .page-for in
     let if1 = c .before .before .before .before .before .before .before .before .before .before .before .before .before .before .if1 in
     let take-cell = c .before .before .before .before .before .before .before .before .before .before .before .before .take-cell in
     let blank = c .before .before .before .before .before .before .before .before .blank in
     let write-var = c .before .before .before .write-var in
     did-answer (c .done .ensures)
-    (new-done (args .p) (args .cells .now) (args .remember .now) (args .tables .now) (pre .0) (args .t) (pre .1 .0) (innermost .result)
-    (innermost .ensures) (args .a) (args .b) (args .c) (pre .1 .1) (pre .1 .2) (page-for .result) (page-for .ensures) (omega (arith, if1 .left))
+    (new-done (args .p) (args .cells .now) (args .remember .now) (args .tables .now) (pre .0) (args .t) (pre .1 .1 .0) (innermost .result)
+    (innermost .ensures) (args .a) (args .b) (args .c) (pre .1 .1 .1) (pre .1 .1 .2) (page-for .result) (page-for .ensures) (omega (arith, if1 .left))
     (take-cell .result) (take-cell .ensures .0) (take-cell .last .1 .0) (take-cell .ensures .1) (blank .last .0) (blank .ensures) (write-var .ensures ∙ ap (λ (x : ℕ). set (take-cell .last .1 .0) (variableAt (args .p) (args .t) (args .a)) x) (c .before .before .before .before .ref-to .ensures)))
 
 pub new-object-spec : {M : Type 1} → statement M
@@ -124,12 +130,14 @@ new-object-spec =
     page-for-requires
     refused-requires
     same-length
+    same-length-2
     returns
     take-cell-requires
     blank-requires
     ref-to-requires
     write-var-requires
     done-requires
-    same-length-2
     same-length-3
+    same-length-4
+    same-length-5
     returns-2)
