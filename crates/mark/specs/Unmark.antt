@@ -8,6 +8,7 @@ use native.Mathlib.Omega.{arith}
 use lib.Count.{ones}
 use lib.ListN.{length, getD, set, length-set}
 use lib.Seq.{getD-set-same, getD-set-other, ext-getD}
+use Rattle.lists.specs.Part.{Off, Skips}
 use Rattle.lists.specs.Bits.{bitAt, bit-lt, bit-zero, clear-same, clear-other, Lowest}
 use Rattle.lists.specs.SetBits.{Walked, walk-turn, walk-end}
 use Rattle.rules.specs.declared.Sizes.{Sizes}
@@ -105,7 +106,7 @@ unmark-start p W T =
     }
 
 -- the mark word that the code reads is still the old one
-pub unmark-word : {p : Places} {n : ℕ} {W T W′ T′ : List ℕ} → Unmarked p n W T W′ T′ → markOf p T′ n ≡ markOf p T n
+unmark-word : {p : Places} {n : ℕ} {W T W′ T′ : List ℕ} → Unmarked p n W T W′ T′ → markOf p T′ n ≡ markOf p T n
 unmark-word {p} {n} h = h .tables (markAt p n) (λ page l e. omega arith)
 
 unmark-next : {p : Places} {n w : ℕ} {W T W′ T′ W″ : List ℕ} → p .marks + p .pages ≤ length T → n < p .pages → w ≡ markOf p T′ n → Unmarked p n W T W′ T′
@@ -142,6 +143,44 @@ unmark-next {p} {n} {w} {W} {T} {W′} {T′} {W″} long lt ew h c =
 pub unmark-turn : {p : Places} {n w : ℕ} {W T W′ T′ W″ X : List ℕ} → p .marks + p .pages ≤ length T → n < p .pages → w ≡ markOf p T′ n → Unmarked p n W T W′ T′
     → PageCleared n w 0 W′ W″ → X ≡ set T′ (markAt p n) 0 → Unmarked p (n + 1) W T W″ X
 unmark-turn {p} {n} {W} {T} {W″ = W″} long lt ew h c e = subst (λ (Y : List ℕ). Unmarked p (n + 1) W T W″ Y) (sym e) (unmark-next long lt ew h c)
+
+-- a page without a mark asks for nothing
+unmark-skip : {p : Places} {n : ℕ} {W T W′ T′ : List ℕ} → markOf p T n ≡ 0 → Unmarked p n W T W′ T′ → Unmarked p (n + 1) W T W′ T′
+unmark-skip {p} {n} {W} {T} {W′} {T′} z h =
+    record {
+      cells-length = h .cells-length;
+      tables-length = h .tables-length;
+      words = h .words;
+      tables = λ x k. h .tables x (λ page l. k page (omega arith));
+      marks = λ page l. zeros page l (ℕ-discrete page n);
+      cleared = λ c l on. gone c on l (ℕ-discrete (pageOf c) n);
+      same = λ c k. h .same c (λ l. k (omega arith));
+    }
+  where
+    zeros : (page : ℕ) → page < n + 1 → Dec (page ≡ n) → markOf p T′ page ≡ 0
+    zeros page l (yes e) = ap (λ (y : ℕ). markOf p T′ y) e ∙ unmark-word h ∙ z
+    zeros page l (no e) = h .marks page (omega arith)
+
+    gone : (c : ℕ) → marked p T c ≡ 1 → pageOf c < n + 1 → Dec (pageOf c ≡ n) → workOf W′ c ≡ 0
+    gone c on l (yes e) =
+        let off : marked p T c ≡ 0 = ap (λ (y : ℕ). bitAt (markOf p T y) (placeOf c)) e ∙ ap (λ (x : ℕ). bitAt x (placeOf c)) z ∙ bit-zero (placeOf c) in
+        absurd (let y : ⊥ = omega arith in y)
+    gone c on l (no e) = h .cleared c (omega arith) on
+
+pub unmark-skips : (p : Places) (n : ℕ) (l W T W′ T′ : List ℕ) → ((page : ℕ) → page < p .pages → Off l n page → markOf p T page ≡ 0)
+    → Skips (p .pages) n l (λ b. Unmarked p b W T W′ T′)
+unmark-skips p n l W T W′ T′ none q h off = unmark-skip (none q h off)
+
+-- the marks stay below 2 ^ 16; X is the tables after the store
+pub small-set : (p : Places) (page : ℕ) (T X : List ℕ) → markAt p page < length T → X ≡ set T (markAt p page) 0 → ((q : ℕ) → q < p .pages → markOf p T q < 2 ^ 16)
+    → (q : ℕ) → q < p .pages → markOf p X q < 2 ^ 16
+small-set p page T X long e small q l = subst (λ (Y : List ℕ). markOf p Y q < 2 ^ 16) (sym e) (go (ℕ-discrete q page))
+  where
+    go : Dec (q ≡ page) → markOf p (set T (markAt p page) 0) q < 2 ^ 16
+    go (yes d) =
+        subst (λ (y : ℕ). markOf p (set T (markAt p page) 0) y < 2 ^ 16) (sym d)
+        (omega (arith, getD-set-same T (markAt p page) 0 0 long))
+    go (no d) = omega (arith, getD-set-other T (markAt p page) (markAt p q) 0 0 (λ y. d (omega arith)), small q l)
 
 -- ---- a marking that is undone
 

@@ -1,6 +1,8 @@
 // A marking is undone: a refused end leaves every word as it was.
+ghost use mathlib.Core.Path.{_≡_};
 ghost use Prim.Native.Nat.{ℕ, _+_, _*_, _^_, _<_, _≤_};
 ghost use lib.ListN.{length};
+ghost use Rattle.lists.specs.Part.{Rises, Off};
 ghost use Rattle.layout.specs.Places.{Room, markOf};
 ghost use Rattle.mark.specs.Unmark.{PageCleared, Unmarked};
 use layout::Places;
@@ -21,18 +23,20 @@ pub fn unmark_page(cells: &mut [u32], w: u32, page: usize)
     }
 }
 
-// Clears every mark, and word 1 of the cells that were marked.
-pub fn unmark(p: Places, cells: &mut [u32], tables: &mut [u32])
+// Clears every mark, and word 1 of the cells that were marked. Only listed pages have marks.
+pub fn unmark(p: Places, cells: &mut [u32], tables: &mut [u32], list: &[u32], n: usize)
     requires { ⌜ Room p (length (now tables)) ⌝ }
     requires { ⌜ 256 * p .pages ≤ length (now cells) ⌝ }
     requires { ⌜ ((page : ℕ) → page < p .pages → markOf p (now tables) page < 2 ^ 16) ⌝ }
+    requires { ⌜ Rises (p .pages) n (now list) ⌝ }
+    requires { ⌜ ((page : ℕ) → page < p .pages → Off (now list) n page → markOf p (now tables) page ≡ 0) ⌝ }
     ensures { λ _. ⌜ Unmarked p (p .pages) (now (cells .entry)) (now (tables .entry)) (now (cells .exit)) (now (tables .exit)) ⌝ }
 {
-    let n = p.pages;
-    let mut page: usize = 0;
-    while page < n {
+    let mut i: usize = 0;
+    while i < n {
+        let page = layout::wide(list[i]);
         unmark_page(cells, layout::tables::mark(p, tables, page), page);
         layout::tables::set_mark(p, tables, page, 0);
-        page += 1;
+        i += 1;
     }
 }
