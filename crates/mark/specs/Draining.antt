@@ -1,18 +1,20 @@
 -- A drain: cells are popped and scanned until the stack is empty. Then just what the held cells lead to is marked.
 use mathlib.Core.Path.{_≡_, refl, sym, _∙_, subst, subst₂}
 use mathlib.Core.Logic.{_≢_, _⊎_, inl, inr, ⊎-elim}
+use mathlib.Core.Bool.{Bool, true}
 use mathlib.Core.List.{List, [], _∷_, _++_}
 use Prim.Native.Nat.{ℕ, _+_, _-_, _*_, _≤_, _<_}
 use native.Mathlib.Omega.{arith}
 use lib.ListN.{length, set}
 use Rattle.lists.specs.Members.{In, Distinct, in?, in-append, in-left, in-right}
 use Rattle.lists.specs.Pigeonhole.{distinct-few}
+use Rattle.lists.specs.Says.{Says}
 use Rattle.layout.specs.declared.Places.{Places}
 use Rattle.layout.specs.Cells.{workAt, workOf, fieldOf, pageOf, refsOf}
 use Rattle.layout.specs.Marks.{marked}
 use Rattle.promises.specs.Words.{InUse}
 use Rattle.promises.specs.Whole.{IsRef}
-use Rattle.mark.specs.Marks.{owner, Shaped, Reach, Reach.held, Reach.via, Chain, named, named-in, named-from, Kept, kept-refs, kept-field, kept-owner, kept-shaped}
+use Rattle.mark.specs.Marks.{owner, Shaped, Reach, Reach.held, Reach.via, Chain, named, named-in, named-from, Kept, kept-refs, kept-field, kept-owner, kept-shaped, AnyMarked}
 use Rattle.mark.specs.Marking.{Marking, marking-start, popped-top}
 use Rattle.mark.specs.Pushes.{Pushing, pushes-kept, pushes-marking}
 
@@ -148,6 +150,32 @@ drained {p} {r} {g} {W₀} {T₀} {S₀} {W} {T} {top} {n} z h =
     all : (c : ℕ) → Reach p r W₀ T₀ S₀ c → In c (h .done)
     all c (held i own off) = new c (h .all-held c i own) off
     all c (via {b = b} q f lt e own off) = new c (h .closed b f c (all b q) lt e own) off
+
+-- ---- whether a drain popped a cell says whether it marked one
+
+first-of : (D : List ℕ) → length D ≢ 0 → (c : ℕ) × In c D
+first-of [] ne = absurd (ne refl)
+first-of (c ∷ D) ne = (c, inl refl)
+
+none-in : (D : List ℕ) (c : ℕ) → length D ≡ 0 → In c D → ⊥
+none-in [] c z i = i
+none-in (d ∷ D) c z i = omega arith
+
+module _ {p : Places} {r g : ℕ} {W₀ T₀ S₀ W T : List ℕ} {n : ℕ} (d : Drained p r g W₀ T₀ S₀ W T n) where
+  -- b is the answer now, a the one before
+  pub says-popped : (b : Bool) → b ≡ true → n ≢ 0 → Says b (AnyMarked p T)
+  says-popped b e ne = let f = first-of (d .done) (λ z. ne (d .count ∙ z)) in (λ y. (f .0, d .in-use (f .0) (f .1) .page, d .on (f .0) (f .1)), λ y. e)
+
+  pub says-idle : (a b : Bool) → b ≡ a → n ≡ 0 → Says a (AnyMarked p T₀) → Says b (AnyMarked p T)
+  says-idle a b e z s = (
+    λ y. let f = s .0 (sym e ∙ y) in (f .0, f .1, same (f .0) ∙ f .2),
+    λ f. e ∙ s .1 (f .0, f .1, sym (same (f .0)) ∙ f .2),
+  )
+    where
+      same : (c : ℕ) → marked p T c ≡ marked p T₀ c
+      same c = d .same-mark c (none-in (d .done) c (sym (d .count) ∙ z))
+
+-- ---- a turn as the code has it
 
 -- what a turn of the drain needs of numbers, and hands to the scan; b is the cell on top as the code has it
 pub record Facts (p : Places) (b len n : ℕ) : Type 0 where

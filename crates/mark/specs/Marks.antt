@@ -1,17 +1,17 @@
 -- The words that a marking reads and writes: the objects of a region, their mark bits, and what one push does.
-use mathlib.Core.Path.{_≡_, refl, sym, ap, _∙_, subst}
+use mathlib.Core.Path.{_≡_, refl, sym, ap, _∙_, subst, subst₂}
 use mathlib.Core.Logic.{_≢_, _⊎_, inl, inr, ⊎-elim}
 use mathlib.Core.List.{List, [], _∷_}
 use Prim.Native.Nat.{ℕ, zero, suc, _+_, _-_, _*_, _/_, _%_, _^_, _≤_, _<_}
-use native.Mathlib.Decide.{ℕ-discrete}
+use native.Mathlib.Decide.{ℕ-discrete, decLt}
 use native.Mathlib.Omega.{arith}
 use lib.ListN.{length, getD, set}
 use lib.Seq.{getD-set-same, getD-set-other}
-use Rattle.lists.specs.Bits.{bitAt, set-same, set-other}
+use Rattle.lists.specs.Bits.{bitAt, bit-lt, no-bits, none-high, set-same, set-other}
 use Rattle.lists.specs.Members.{In}
 use Rattle.layout.specs.declared.Places.{Places}
 use Rattle.layout.specs.Places.{Room, ownerOf, usedOf, markAt, markOf}
-use Rattle.layout.specs.Cells.{workAt, workOf, fieldOf, refsOf, pageOf, placeOf}
+use Rattle.layout.specs.Cells.{workAt, workOf, fieldOf, refsOf, pageOf, placeOf, cellOn}
 use Rattle.layout.specs.Marks.{marked}
 use Rattle.promises.specs.Words.{InUse}
 use Rattle.promises.specs.Whole.{IsRef}
@@ -161,6 +161,26 @@ module _ {p : Places} {W T W′ T′ : List ℕ} (k : Kept p W T W′ T′) wher
             let e : fieldOf W′ c f ≡ fieldOf W c f = kept-field c f (omega arith) in
             subst (IsRef p T′) (sym e) (λ n. kept-in-use (s .room) (fieldOf W c f - 1) (s .references c v f b n));
       }
+
+-- ---- whether a cell is marked
+
+abbrev pub AnyMarked : Places → List ℕ → Type 0
+AnyMarked p T = (c : ℕ) × (pageOf c < p .pages) × (marked p T c ≡ 1)
+
+-- where none is, every mark word is 0
+pub none-marked : (p : Places) (T : List ℕ) → ((page : ℕ) → page < p .pages → markOf p T page < 2 ^ 16) → (AnyMarked p T → ⊥) → (page : ℕ) → page < p .pages → markOf p T page ≡ 0
+none-marked p T small none page l = no-bits (markOf p T page) (λ i. go i (decLt i 16))
+  where
+    go : (i : ℕ) → Dec (i < 16) → bitAt (markOf p T page) i ≡ 0
+    go i (no h) = none-high 16 (markOf p T page) i (small page l) (omega arith)
+    go i (yes h) = off (ℕ-discrete (bitAt (markOf p T page) i) 1)
+      where
+        off : Dec (bitAt (markOf p T page) i ≡ 1) → bitAt (markOf p T page) i ≡ 0
+        off (yes on) =
+            let a : page ≡ pageOf (cellOn page i) = omega arith in
+            let b : i ≡ placeOf (cellOn page i) = omega arith in
+            absurd (none (cellOn page i, omega arith, subst₂ (λ (x y : ℕ). bitAt (markOf p T x) y ≡ 1) a b on))
+        off (no n) = omega (arith, bit-lt i (markOf p T page))
 
 -- ---- a mark that is set
 

@@ -2,12 +2,14 @@
 -- it survives.
 use mathlib.Core.Path.{_≡_, refl, sym, ap, _∙_, subst, subst₂}
 use mathlib.Core.Logic.{inl, inr, ⊎-elim}
+use mathlib.Core.Bool.{Bool, false}
 use mathlib.Core.List.{List}
 use Prim.Native.Nat.{ℕ, zero, suc, _+_, _-_, _/_, _%_, _^_, _≤_, _<_}
 use native.Mathlib.Omega.{arith}
 use native.Mathlib.Decide.{ℕ-discrete, decLt}
 use lib.ListN.{length, getD}
 use Rattle.lists.specs.Bits.{bitAt, bit-lt, bit-zero, high-none, none-high}
+use Rattle.lists.specs.Says.{Says, said-no}
 use Rattle.rules.specs.declared.Sizes.{Sizes}
 use Rattle.rules.specs.Regions.{regionAt}
 use Rattle.rules.specs.Graph.{target}
@@ -20,7 +22,7 @@ use Rattle.layout.specs.Marks.{marked}
 use Rattle.promises.specs.Words.{Words, words, Used, ownerIn, depthIn, graphOf}
 use Rattle.promises.specs.Whole.{WholeFor}
 use Rattle.promises.specs.Reading.{range, tables-room}
-use Rattle.mark.specs.Marks.{Shaped, Kept}
+use Rattle.mark.specs.Marks.{Shaped, Kept, AnyMarked, none-marked}
 use Rattle.mark.specs.Levels.{Held, First, Levels, leads-used, leads-owned, leads-from}
 use Rattle.mark.specs.Holders.{Holding, held-used}
 use Rattle.mark.specs.Rounds.{levelCells}
@@ -176,6 +178,12 @@ module _ (p : Places) (e : p ≡ placesOf (sizesOf p)) (w : Words) (k : WholeFor
       (levelCells q (w .cells) (w .remember) (w .tables) (regionAt (sizesOf p) t (suc j)) t (regionAt (sizesOf p) t j)) (w .cells) (w .tables) W′ T′)
       e
       (subst₂ (λ (a b : ℕ). Levels p a (suc j) (regionAt (sizesOf p) t) (levelCells p (w .cells) (w .remember) (w .tables) a t b) (w .cells) (w .tables) W′ T′) er eo′ L)))
+
+-- where nothing survives, every mark word is 0
+pub none-survives : (p : Places) → p ≡ placesOf (sizesOf p) → (w : Words) (r : ℕ) (w′ : Words) → Marked (sizesOf p) w r w′ → (b : Bool) → Says b (AnyMarked p (w′ .tables)) → b ≡ false
+    → (page : ℕ) → page < p .pages → markOf p (w′ .tables) page ≡ 0
+none-survives p e w r w′ m b says z =
+    none-marked p (w′ .tables) (subst (λ (q : Places). (page : ℕ) → page < p .pages → markOf q (w′ .tables) page < 2 ^ 16) (sym e) (m .small)) (said-no b says z)
 
 -- ---- what marking keeps
 

@@ -52,7 +52,7 @@ returns c =
     let mark-levels = c .before .before .before .before .mark-levels in
     let args = c .before .before .before .before .before .before .before .before .before .before .before .before .before .before .before .args in
     let pre = c .before .before .before .before .before .before .before .before .before .before .before .before .before .before .before .pre in
-    marked-at (args .p) (pre .0) (words (args .cells .now) (args .remember .now) (args .tables .now)) (pre .1 .0) (omega arith) (args .thread) _ _ _ (pre .1 .1 .0) (omega (arith, pre .1 .1 .1)) (wide .ensures ∙ depth .ensures) (region-at .ensures) (region-at2 .ensures) (mark-levels .ensures)
+    (marked-at (args .p) (pre .0) (words (args .cells .now) (args .remember .now) (args .tables .now)) (pre .1 .0) (omega arith) (args .thread) _ _ _ (pre .1 .1 .0) (omega (arith, pre .1 .1 .1)) (wide .ensures ∙ depth .ensures) (region-at .ensures) (region-at2 .ensures) (mark-levels .ensures .0), mark-levels .ensures .1)
 
 pub mark-survivors-spec : {M : Type 1} → statement M
 mark-survivors-spec =
