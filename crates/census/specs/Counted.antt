@@ -8,10 +8,12 @@ use native.Mathlib.Decide.{ℕ-discrete}
 use native.Mathlib.Nat.{one-mul, zero-mul}
 use lib.Count.{ones}
 use lib.Dec.{eqb}
+use lib.ListN.{length, getD, set}
 use borrow.Author.Tests.{eq-eqb, ne-eqb}
 use Rattle.lists.specs.Counting.{bit, bit-le-one, sum, sum-same, sum-high, sum-blocks}
 use Rattle.lists.specs.Bits.{bitAt, bit-lt, Lowest, bitSum, bit-sum-clear, bit-sum-zero}
 use Rattle.lists.specs.SetBits.{Walked, walk-end}
+use Rattle.lists.specs.Stores.{put, past}
 use Rattle.rules.specs.declared.Sizes.{Sizes}
 use Rattle.rules.specs.Graph.{target}
 use Rattle.laws.specs.Counts.{landed}
@@ -65,25 +67,25 @@ bits-clear : (f : ℕ → ℕ) (w i : ℕ) → bitAt w i ≡ 1 → i < 16 → ov
 unfolding overBits
 bits-clear f w i on l = bit-sum-clear 16 w i f on l
 
-bits-none : (f : ℕ → ℕ) → overBits f 0 ≡ 0
+pub bits-none : (f : ℕ → ℕ) → overBits f 0 ≡ 0
 unfolding overBits
 bits-none f = bit-sum-zero 16 f
 
--- ---- the walk over the set bits of w: n is the sum of f over those before left
+-- ---- the walk over the set bits of w: n is a and the sum of f over those before left
 
-pub record Summed (f : ℕ → ℕ) (w left n : ℕ) : Type 0 where
-  pub whole : n + overBits f left ≡ overBits f w
+pub record Summed (f : ℕ → ℕ) (w left a n : ℕ) : Type 0 where
+  pub whole : n + overBits f left ≡ a + overBits f w
 
-pub summed-start : (f : ℕ → ℕ) (w : ℕ) → Summed f w w 0
-summed-start f w = record { whole = omega arith }
+pub summed-start : (f : ℕ → ℕ) (w a : ℕ) → Summed f w w a a
+summed-start f w a = record { whole = omega arith }
 
 -- left′, n′ and x are as the code has them
-pub summed-next : {f : ℕ → ℕ} {w left n : ℕ} (i left′ n′ x : ℕ) → Lowest left i → left′ ≡ left - 2 ^ i → x ≡ f i → n′ ≡ n + x → Summed f w left n → Summed f w left′ n′
-summed-next {f} {w} {left} {n} i left′ n′ x l e ex en h =
-    subst (λ (z : ℕ). Summed f w z n′) (sym e) (record { whole = omega (arith, h .whole, bits-clear f left i (l .on) (l .lt)) })
+pub summed-next : {f : ℕ → ℕ} {w left a n : ℕ} (i left′ n′ x : ℕ) → Lowest left i → left′ ≡ left - 2 ^ i → x ≡ f i → n′ ≡ n + x → Summed f w left a n → Summed f w left′ a n′
+summed-next {f} {w} {left} {a} {n} i left′ n′ x l e ex en h =
+    subst (λ (z : ℕ). Summed f w z a n′) (sym e) (record { whole = omega (arith, h .whole, bits-clear f left i (l .on) (l .lt)) })
 
-pub summed-end : {f : ℕ → ℕ} {w left n k : ℕ} → Walked w left k → ones w ≤ k → Summed f w left n → n ≡ overBits f w
-summed-end {f} {w} {left} {n} u l h =
+pub summed-end : {f : ℕ → ℕ} {w left a n k : ℕ} → Walked w left k → ones w ≤ k → Summed f w left a n → n ≡ a + overBits f w
+summed-end {f} {w} {left} {a} {n} u l h =
     let z : left ≡ 0 = walk-end u l in omega (arith, h .whole, ap (overBits f) z, bits-none f)
 
 -- ---- survivors that go to g
@@ -95,14 +97,39 @@ pub goes-le : (W : List ℕ) (g c : ℕ) → goesTo W g c ≤ 1
 unfolding goesTo
 goes-le W g c = bit-le-one (eqb (workOf W c) g)
 
--- v is word 1 as the code read it
-pub goes-yes : (W : List ℕ) (g c v : ℕ) → v ≡ workOf W c → v ≡ g → 1 ≡ goesTo W g c
+-- come with one more at v, which is word 1 of c as the code read it
+pub one-more : (W come : List ℕ) (c v : ℕ) → v ≡ workOf W c → v < length come → (g : ℕ) → getD (set come v (getD come v 0 + 1)) g 0 ≡ getD come g 0 + goesTo W g c
 unfolding goesTo
-goes-yes W g c v e d = sym (ap bit (eq-eqb (workOf W c) g (sym e ∙ d)))
+one-more W come c v e l g = go (ℕ-discrete g v)
+  where
+    go : Dec (g ≡ v) → getD (set come v (getD come v 0 + 1)) g 0 ≡ getD come g 0 + bit (eqb (workOf W c) g)
+    go (yes d) =
+        subst (λ (x : ℕ). getD (set come v (getD come v 0 + 1)) x 0 ≡ getD come x 0 + bit (eqb (workOf W c) x)) (sym d)
+        (put come v (getD come v 0 + 1) 0 l ∙ ap (λ (b : Bool). getD come v 0 + bit b) (sym (eq-eqb (workOf W c) v (sym e))))
+    go (no d) = omega (arith, past come v (getD come v 0 + 1) g 0 d, ap bit (ne-eqb (workOf W c) g (λ z. d (sym z ∙ sym e))))
 
-pub goes-no : (W : List ℕ) (g c v : ℕ) → v ≡ workOf W c → (v ≡ g → ⊥) → 0 ≡ goesTo W g c
-unfolding goesTo
-goes-no W g c v e n = sym (ap bit (ne-eqb (workOf W c) g (λ d. n (e ∙ d))))
+-- after k of the cells of a page whose bits are set in w, those before left: what come₀ had, and those that go there; k at most are new
+pub record Tallied (W : List ℕ) (page w left : ℕ) (come₀ come : List ℕ) (k : ℕ) : Type 0 where
+  pub each : (g : ℕ) → Summed (λ i. goesTo W g (cellOn page i)) w left (getD come₀ g 0) (getD come g 0)
+  pub few : (g : ℕ) → getD come g 0 ≤ 16 * page + k
+  pub long : length come ≡ length come₀
+
+pub tallied-start : {W : List ℕ} {page w : ℕ} {come : List ℕ} → ((g : ℕ) → getD come g 0 ≤ 16 * page) → Tallied W page w w come come 0
+tallied-start h = record { each = λ g. summed-start _ _ _; few = λ g. omega (arith, h g); long = refl }
+
+-- left′, c and come′ are as the code has them
+pub tallied-next : {W : List ℕ} {page w left k : ℕ} {come₀ come : List ℕ} (i left′ c : ℕ) {come′ : List ℕ} → Lowest left i → left′ ≡ left - 2 ^ i → c ≡ cellOn page i
+    → ((g : ℕ) → getD come′ g 0 ≡ getD come g 0 + goesTo W g c) → length come′ ≡ length come → Tallied W page w left come₀ come k → Tallied W page w left′ come₀ come′ (k + 1)
+tallied-next {W} i left′ c {come′} l e ec h len t =
+    record {
+      each = λ g. summed-next i left′ (getD come′ g 0) (goesTo W g c) l e (ap (goesTo W g) ec) (h g) (t .each g);
+      few = λ g. omega (arith, h g, t .few g, goes-le W g c);
+      long = len ∙ t .long;
+    }
+
+pub tallied-end : {W : List ℕ} {page w left k : ℕ} {come₀ come : List ℕ} → Walked w left k → ones w ≤ k → Tallied W page w left come₀ come k
+    → (g : ℕ) → getD come g 0 ≡ getD come₀ g 0 + onPage (goesTo W g) page w
+tallied-end u l t g = summed-end u l (t .each g)
 
 -- after marking, as many as the rules count
 pub goes-landed : (s : Sizes) (w : Words) (k : WholeFor s w) (r : ℕ) (w′ : Words) → Marked s w r w′ → 0 < r → (g : ℕ) → 0 < g

@@ -1,4 +1,5 @@
 -- The census of a marked region.
 pub mod Counted
 pub mod After
+pub mod Census
 pub mod Crossed

@@ -1,26 +1,49 @@
-// How many survivors go to a region: on each page as many as the ones count of its working word, the next one by trailing zeros.
+// How many survivors go to each region, and how many of their slots would cross, in one pass over the listed pages: on each page as many
+// cells as the ones count of its working word, the next one by trailing zeros.
 ghost use mathlib.Core.Path.{_≡_};
 ghost use Prim.Native.Nat.{ℕ, _+_, _*_, _^_, _<_, _≤_};
-ghost use lib.ListN.{length};
-ghost use Rattle.layout.specs.Places.{Room, markOf};
-ghost use Rattle.census.specs.Counted.{goesTo, onPage, overMarked};
+ghost use lib.ListN.{length, getD};
+ghost use Rattle.lists.specs.Bits.{bitAt};
+ghost use Rattle.lists.specs.Part.{Rises, Off};
+ghost use Rattle.layout.specs.Places.{markOf};
+ghost use Rattle.layout.specs.Cells.{workOf, pageOf, cellOn};
+ghost use Rattle.layout.specs.Marks.{marked};
+ghost use Rattle.promises.specs.Words.{InUse};
+ghost use Rattle.mark.specs.Marks.{Shaped};
+ghost use Rattle.census.specs.Counted.{goesTo, onPage};
+ghost use Rattle.census.specs.After.{cellCrosses};
+ghost use Rattle.census.specs.Census.{Census};
 use layout::Places;
 
-// 1 if the object in cell c goes to g, else 0.
-pub fn goes_to(cells: &[u32], c: usize, g: u32) -> usize
+// Survivor c is one more that goes where it goes.
+pub fn tally(cells: &[u32], c: usize, come: &mut [u32])
     requires { ⌜ (c < 16384) × (16 * c + 16 ≤ length (now cells)) ⌝ }
-    ensures { λ n. ⌜ n ≡ goesTo (now (cells .entry)) g c ⌝ }
+    requires { ⌜ workOf (now cells) c < length (now come) ⌝ }
+    requires { ⌜ getD (now come) (workOf (now cells) c) 0 + 1 < 2 ^ 32 ⌝ }
+    ensures { λ _. ⌜ ((g : ℕ) → getD (now (come .exit)) g 0 ≡ getD (now (come .entry)) g 0 + goesTo (now (cells .entry)) g c) ⌝ }
 {
-    if layout::cells::work(cells, c) == g {
-        return 1;
-    }
-    0
+    let g = layout::wide(layout::cells::work(cells, c));
+    come[g] += 1;
 }
 
-// How many cells of a page whose bit is set in w go to g.
-pub fn count_page(cells: &[u32], w: u32, page: usize, g: u32) -> usize
-    requires { ⌜ (w < 2 ^ 16) × (page < 1024) × (256 * page + 256 ≤ length (now cells)) ⌝ }
-    ensures { λ n. ⌜ n ≡ onPage (goesTo (now (cells .entry)) g) page w ⌝ }
+// The survivors of a page whose bit is set in w, each added to those that go where it goes; and how many of their slots cross.
+pub fn count_page(
+    p: Places,
+    cells: &[u32],
+    tables: &[u32],
+    r: u32,
+    come: &mut [u32],
+    w: u32,
+    page: usize,
+) -> usize
+    requires { ⌜ Shaped p (now cells) (now tables) ⌝ }
+    requires { ⌜ (w < 2 ^ 16) × (page < p .pages) ⌝ }
+    requires { ⌜ ((i : ℕ) → i < 16 → bitAt w i ≡ 1 → InUse p (now tables) (cellOn page i)) ⌝ }
+    requires { ⌜ ((i : ℕ) → i < 16 → bitAt w i ≡ 1 → workOf (now cells) (cellOn page i) < length (now come)) ⌝ }
+    requires { ⌜ ((g : ℕ) → getD (now come) g 0 ≤ 16 * page) ⌝ }
+    ensures { λ n. ⌜ ((g : ℕ) → getD (now (come .exit)) g 0 ≡ getD (now (come .entry)) g 0 + onPage (goesTo (now (cells .entry)) g) page w) ⌝ }
+    ensures { λ n. ⌜ n ≡ onPage (cellCrosses p (now (cells .entry)) (now (tables .entry)) r) page w ⌝ }
+    ensures { λ n. ⌜ n ≤ 224 ⌝ }
 {
     let marks = u32::count_ones(w);
     let mut left = w;
@@ -28,26 +51,42 @@ pub fn count_page(cells: &[u32], w: u32, page: usize, g: u32) -> usize
     let mut k: u32 = 0;
     while k < marks {
         let i = u32::trailing_zeros(left);
-        n += goes_to(cells, layout::cells::cell_on(page, layout::wide(i)), g);
+        let c = layout::cells::cell_on(page, layout::wide(i));
+        tally(cells, c, come);
+        n += crate::crossing::cross_cell(p, cells, tables, r, c);
         left = layout::bits::without_bit(left, i);
         k += 1;
     }
     n
 }
 
-// How many survivors go to g.
-pub fn count_survivors(p: Places, cells: &[u32], tables: &[u32], g: u32) -> usize
-    requires { ⌜ Room p (length (now tables)) ⌝ }
-    requires { ⌜ 256 * p .pages ≤ length (now cells) ⌝ }
+// All survivors, which are on the listed pages: how many go to each region is then in `come`, and the slots of theirs that cross are
+// the result.
+pub fn count_listed(
+    p: Places,
+    cells: &[u32],
+    tables: &[u32],
+    r: u32,
+    list: &[u32],
+    n: usize,
+    come: &mut [u32],
+) -> usize
+    requires { ⌜ Shaped p (now cells) (now tables) ⌝ }
+    requires { ⌜ Rises (p .pages) n (now list) ⌝ }
+    requires { ⌜ ((page : ℕ) → page < p .pages → Off (now list) n page → markOf p (now tables) page ≡ 0) ⌝ }
     requires { ⌜ ((page : ℕ) → page < p .pages → markOf p (now tables) page < 2 ^ 16) ⌝ }
-    ensures { λ n. ⌜ n ≡ overMarked p (now (tables .entry)) (goesTo (now (cells .entry)) g) (p .pages) ⌝ }
+    requires { ⌜ ((c : ℕ) → pageOf c < p .pages → marked p (now tables) c ≡ 1 → InUse p (now tables) c) ⌝ }
+    requires { ⌜ ((c : ℕ) → pageOf c < p .pages → marked p (now tables) c ≡ 1 → workOf (now cells) c < length (now come)) ⌝ }
+    requires { ⌜ ((g : ℕ) → getD (now come) g 0 ≡ 0) ⌝ }
+    ensures { λ k. ⌜ Census p (now (cells .entry)) (now (tables .entry)) r (p .pages) (now (come .exit)) k ⌝ }
 {
-    let pages = p.pages;
-    let mut n: usize = 0;
-    let mut page: usize = 0;
-    while page < pages {
-        n += count_page(cells, layout::tables::mark(p, tables, page), page, g);
-        page += 1;
+    let mut k: usize = 0;
+    let mut i: usize = 0;
+    while i < n {
+        let page = layout::wide(list[i]);
+        let w = layout::tables::mark(p, tables, page);
+        k += count_page(p, cells, tables, r, come, w, page);
+        i += 1;
     }
-    n
+    k
 }

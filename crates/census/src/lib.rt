@@ -1,4 +1,4 @@
 // The census of a marked region, the second stage of an end: how many survivors go to each region, and how many slots would cross
-// afterwards. Nothing is written.
+// afterwards. The tables are only read.
 pub mod count;
 pub mod crossing;

@@ -1,0 +1,72 @@
+-- What the pass over the survivors counts, page by page: how many go to each region, and how many of their slots cross.
+use mathlib.Core.Path.{_≡_, ap, _∙_, subst}
+use mathlib.Core.List.{List}
+use Prim.Native.Nat.{ℕ, _+_, _*_, _≤_, _<_}
+use native.Mathlib.Omega.{arith}
+use native.Mathlib.Decide.{decLt}
+use lib.ListN.{getD}
+use Rattle.lists.specs.Part.{Rises, Cut}
+use Rattle.lists.specs.Counting.{sum-more, sum-none, sum-high}
+use Rattle.layout.specs.declared.Places.{Places}
+use Rattle.layout.specs.Places.{markOf}
+use Rattle.layout.specs.Cells.{cellOn}
+use Rattle.census.specs.Counted.{onPage, overMarked, bits-none, page-high, goesTo, goes-le}
+use Rattle.census.specs.After.{cellCrosses}
+
+-- come says of each region how many of the survivors on the pages below n go to it
+abbrev pub Arrivals : Places → List ℕ → List ℕ → ℕ → List ℕ → Type 0
+Arrivals p W T n come = (g : ℕ) → getD come g 0 ≡ overMarked p T (goesTo W g) n
+
+-- and k is how many of their slots cross; a page has at most 224 slots
+pub record Census (p : Places) (W T : List ℕ) (r n : ℕ) (come : List ℕ) (k : ℕ) : Type 0 where
+  pub arrivals : Arrivals p W T n come
+  pub crossing : k ≡ overMarked p T (cellCrosses p W T r) n
+  pub few : k ≤ 224 * n
+
+-- at most 16 survivors on a page go to one region
+pub over-high : (p : Places) (W T : List ℕ) (g n : ℕ) → overMarked p T (goesTo W g) n ≤ 16 * n
+over-high p W T g n =
+    sum-high (λ page. onPage (goesTo W g) page (markOf p T page)) 16 n (λ page l. page-high (goesTo W g) 1 (goes-le W g) page (markOf p T page))
+
+over-more : (p : Places) (T : List ℕ) (f : ℕ → ℕ) (page w : ℕ) → w ≡ markOf p T page → overMarked p T f (page + 1) ≡ overMarked p T f page + onPage f page w
+over-more p T f page w e =
+    sum-more (λ page. onPage f page (markOf p T page)) page ∙ ap (λ (x : ℕ). overMarked p T f page + onPage f page x) (let s : markOf p T page ≡ w = omega arith in s)
+
+-- no page has a mark
+pub over-none : (p : Places) (T : List ℕ) (f : ℕ → ℕ) (n : ℕ) → ((page : ℕ) → page < n → markOf p T page ≡ 0) → overMarked p T f n ≡ 0
+over-none p T f n z =
+    sum-none (λ page. onPage f page (markOf p T page)) n (λ page l. ap (onPage f page) (z page l) ∙ bits-none (λ i. f (cellOn page i)))
+
+module _ {p : Places} {W T : List ℕ} {r : ℕ} where
+  pub census-start : (come : List ℕ) → ((g : ℕ) → getD come g 0 ≡ 0) → Census p W T r 0 come 0
+  census-start come z = record { arrivals = z; crossing = omega arith; few = omega arith }
+
+  -- w, x and what is in come now are as the code has them
+  pub census-turn : {page k : ℕ} {come : List ℕ} (come′ : List ℕ) (w x : ℕ) → w ≡ markOf p T page → ((g : ℕ) → getD come′ g 0 ≡ getD come g 0 + onPage (goesTo W g) page w)
+      → x ≡ onPage (cellCrosses p W T r) page w → x ≤ 224 → Census p W T r page come k → Census p W T r (page + 1) come′ (k + x)
+  census-turn {page} come′ w x e h ex l c =
+      record {
+        arrivals = λ g. omega (arith, h g, c .arrivals g, over-more p T (goesTo W g) page w e);
+        crossing = omega (arith, c .crossing, over-more p T (cellCrosses p W T r) page w e);
+        few = omega (arith, c .few);
+      }
+
+  -- a page without marks
+  pub census-skip : (page k : ℕ) (come : List ℕ) → markOf p T page ≡ 0 → Census p W T r page come k → Census p W T r (page + 1) come k
+  census-skip page k come z c =
+      record {
+        arrivals = λ g. omega (arith, c .arrivals g, over-more p T (goesTo W g) page 0 (omega arith), bits-none (λ i. goesTo W g (cellOn page i)));
+        crossing = omega (arith, c .crossing, over-more p T (cellCrosses p W T r) page 0 (omega arith), bits-none (λ i. cellCrosses p W T r (cellOn page i)));
+        few = omega (arith, c .few);
+      }
+
+-- ---- the pass over the listed pages
+
+-- the i-th listed number, x as the code read it, lies after the first i
+pub cut-here : {P n : ℕ} {l : List ℕ} (i x : ℕ) → Rises P n l → i < n → x ≡ getD l i 0 → Cut P n l i x
+cut-here {n = n} {l} i x r h e =
+    record { low = omega (arith, r .low i h); passed = λ j a. omega (arith, r .rising j i a h); ahead = λ j a b. later j a b (decLt i j) }
+  where
+    later : (j : ℕ) → i ≤ j → j < n → Dec (i < j) → x ≤ getD l j 0
+    later j a b (yes d) = omega (arith, r .rising i j d b)
+    later j a b (no d) = subst (λ (y : ℕ). x ≤ getD l y 0) (let s : i ≡ j = omega arith in s) (omega arith)
