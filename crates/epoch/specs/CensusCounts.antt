@@ -1,28 +1,38 @@
 -- What the census counts on marked words is what the rules ask: free pages, new pages, slots that would cross.
-use mathlib.Core.Path.{_≡_, sym, ap, ap₂, _∙_}
+use mathlib.Core.Path.{_≡_, refl, sym, ap, ap₂, _∙_, subst, subst₂}
+use mathlib.Core.Bool.{Bool, true, false, cond}
 use mathlib.Core.List.{List}
-use Prim.Native.Nat.{ℕ, suc, _+_, _-_, _*_, _/_, _≤_, _<_}
+use Prim.Native.Nat.{ℕ, suc, _+_, _*_, _-_, _/_, _≤_, _<_}
 use native.Mathlib.Omega.{arith}
-use lib.Dec.{eqb}
-use lib.ListN.{length}
-use Rattle.lists.specs.Counting.{bit, sum, sum-same, sum-high}
+use native.Mathlib.Nat.{mul-le-mul}
+use lib.Dec.{eqb, leb}
+use borrow.Author.Tests.{le-leb, lt-leb}
+use lib.ListN.{length, getD}
+use Rattle.lists.specs.Counting.{bit, sum, sum-same}
 use Rattle.rules.specs.declared.Sizes.{Sizes}
-use Rattle.rules.specs.Regions.{regionAt}
+use Rattle.rules.specs.Terms.{ask}
+use Rattle.rules.specs.Regions.{regionAt, regions}
 use Rattle.laws.specs.RulesLaws.{region-pos}
 use Rattle.laws.specs.RegionLaws.{region-high}
 use Rattle.layout.specs.declared.Places.{Places}
-use Rattle.layout.specs.Places.{placesOf, sizesOf, Room, countOf, markOf}
+use Rattle.layout.specs.Places.{placesOf, sizesOf, Room, countOf}
+use Rattle.layout.specs.Cells.{pageOf, workOf}
+use Rattle.layout.specs.Marks.{marked}
 use Rattle.promises.specs.Words.{Words, depthIn}
 use Rattle.promises.specs.Whole.{WholeFor}
 use Rattle.promises.specs.OwnedPages.{pagesOwned}
 use Rattle.pages.specs.Owned.{ownedOne, ownedIn}
 use Rattle.mark.specs.Survivors.{Marked}
-use Rattle.census.specs.Counted.{onPage, overMarked, goesTo, goes-le, page-high, goes-landed}
+use Rattle.census.specs.Counted.{overMarked, over-cells, goesTo, goes-landed}
+use Rattle.census.specs.Census.{Arrivals}
 use Rattle.census.specs.After as ce
 use Rattle.census.specs.Crossed.{crossing-after}
+use Rattle.evacuate.specs.Marks.{hit, hits}
+use Rattle.evacuate.specs.Copying.{region-bounds}
 use Rattle.ended.specs.EndQuestion.{pagesNeeded, crossingAfter}
 use Rattle.ended.specs.EndPages.{morePages, new-pages-counted}
 use Rattle.evacuation.specs.MarkedWords.{owner-same, count-same}
+use Rattle.epoch.specs.PagesEnough.{marked-survivor, survivor-level}
 
 -- the new pages for region g, and for the regions of thread t at the levels below n
 unfoldable pub levelNeeds : Places → List ℕ → List ℕ → ℕ → ℕ
@@ -33,19 +43,57 @@ needsBelow p W T t n = sum (λ l. levelNeeds p W T (regionAt (sizesOf p) t l)) n
 
 -- ---- as the code counts
 
-pub over-high : (p : Places) (W T : List ℕ) (g n : ℕ) → overMarked p T (goesTo W g) n ≤ 16 * n
-over-high p W T g n =
-    sum-high (λ page. onPage (goesTo W g) page (markOf p T page)) 16 n (λ page l. page-high (goesTo W g) 1 (goes-le W g) page (markOf p T page))
+-- arrivals and have are as the code has them
+module _ (p : Places) (W T : List ℕ) (g arrivals : ℕ) (e : arrivals ≡ overMarked p T (goesTo W g) (p .pages)) where
+  pub level-none : arrivals ≡ 0 → 0 ≡ levelNeeds p W T g
+  unfolding levelNeeds
+  level-none z = omega (arith, e)
 
--- have, come and g′ are as the code has them
-pub level-needs : (p : Places) (W T : List ℕ) (g have come : ℕ) → have ≡ countOf p T g → come ≡ overMarked p T (goesTo W g) (p .pages)
-    → (have + come + 15) / 16 - (have + 15) / 16 ≡ levelNeeds p W T g
-unfolding levelNeeds
-level-needs p W T g have come e f = ap₂ (λ (a b : ℕ). morePages a b) e f
+  pub level-some : (have : ℕ) → have ≡ countOf p T g → (have + arrivals + 15) / 16 - (have + 15) / 16 ≡ levelNeeds p W T g
+  unfolding levelNeeds
+  level-some have h = ap₂ (λ (a b : ℕ). morePages a b) h e
 
-pub needs-high : (p : Places) (W T : List ℕ) (g : ℕ) → levelNeeds p W T g ≤ p .pages + 1
-unfolding levelNeeds
-needs-high p W T g = omega (arith, over-high p W T g (p .pages))
+-- questions 13 and 14 on marked words, as the code asks them: the regions of thread t at the levels below n grow, the one at level n ends
+unfoldable pub roomAsked : Places → List ℕ → List ℕ → List ℕ → ℕ → ℕ → ℕ
+roomAsked p W M T t n =
+    ask (leb (needsBelow p W T t n) (ownedIn p T 0 (p .pages))) 13 (ask (leb (ce.crossingAfter p W M T (regionAt (sizesOf p) t n)) (p .entries)) 14 0)
+
+-- the number that the code found
+module _ (p : Places) (W M T : List ℕ) (t n : ℕ) {needed free : ℕ} (en : needed ≡ needsBelow p W T t n) (ef : free ≡ ownedIn p T 0 (p .pages)) where
+  pub asked-pages : free < needed → 13 ≡ roomAsked p W M T t n
+  unfolding roomAsked ask
+  asked-pages l =
+      sym (ap (λ (b : Bool). ask b 13 (ask (leb (ce.crossingAfter p W M T (regionAt (sizesOf p) t n)) (p .entries)) 14 0)) (lt-leb _ _ (subst₂ (λ (a b : ℕ). a < b) ef en l)))
+
+  module _ {crossing r : ℕ} (er : r ≡ regionAt (sizesOf p) t n) (ec : crossing ≡ ce.crossingAfter p W M T r) (l : needed ≤ free) where
+    crossing-is : crossing ≡ ce.crossingAfter p W M T (regionAt (sizesOf p) t n)
+    crossing-is = ec ∙ ap (ce.crossingAfter p W M T) er
+
+    then : (b : Bool) → leb (ce.crossingAfter p W M T (regionAt (sizesOf p) t n)) (p .entries) ≡ b → roomAsked p W M T t n ≡ ask b 14 0
+    unfolding roomAsked ask
+    then b e = ap₂ (λ (a c : Bool). ask a 13 (ask c 14 0)) (le-leb _ _ (subst₂ (λ (a b : ℕ). a ≤ b) en ef l)) e
+
+    pub asked-entries : p .entries < crossing → 14 ≡ roomAsked p W M T t n
+    unfolding ask
+    asked-entries m = sym (then false (lt-leb _ _ (subst (λ (x : ℕ). p .entries < x) crossing-is m)))
+
+    pub asked-none : crossing ≤ p .entries → 0 ≡ roomAsked p W M T t n
+    unfolding ask
+    asked-none m = sym (then true (le-leb _ _ (subst (λ (x : ℕ). x ≤ p .entries) crossing-is m)))
+
+-- as the copy counts them
+pub arrivals-hits : (p : Places) (W T come : List ℕ) → Arrivals p W T (p .pages) come → (g : ℕ) → getD come g 0 ≡ hits p W T g
+unfolding hits hit goesTo
+arrivals-hits p W T come a g =
+    a g ∙ over-cells p T (goesTo W g) ∙ sum-same _ _ (16 * p .pages) (λ c l. ap (λ (n : ℕ). marked p T c * n) (one (eqb (workOf W c) g)))
+  where
+    one : (b : Bool) → bit b ≡ cond b 1 0
+    one true = refl
+    one false = refl
+
+-- there are at most 16 threads of at most 8 levels
+pub regions-few : {p : Places} {n : ℕ} → Room p n → regions (sizesOf p) < 130
+regions-few {p} r = omega (arith, mul-le-mul (r .threads-high) (r .depth-high))
 
 -- ---- as the rules count
 
@@ -59,6 +107,12 @@ module _ (s : Sizes) (w : Words) (k : WholeFor s w) (space : Room (placesOf s) (
       ap₂ (λ (a b : ℕ). morePages a b) (count-same M space (regionAt s t l))
       (goes-landed s w k (regionAt s t (suc j)) w₁ M (region-pos s t (suc j)) (regionAt s t l) (region-pos s t l)))
       ∙ sym (new-pages-counted s w k t j th deep)
+
+  -- survivors go to regions
+  pub targets-low : (c : ℕ) → pageOf c < s .pages → marked (placesOf s) (w₁ .tables) c ≡ 1 → workOf (w₁ .cells) c ≤ regions s
+  targets-low c l on =
+      let v = survivor-level s w k space t j th deep w₁ M c (marked-survivor s w (regionAt s t (suc j)) w₁ M c l on) in
+      omega (arith, v .2, region-bounds (placesOf s) t (v .0) th (omega (arith, v .1, k .placed .depths t th)))
 
   pub free-are : ownedIn (placesOf s) (w₁ .tables) 0 (s .pages) ≡ pagesOwned s w 0
   unfolding ownedOne

@@ -1,198 +1,256 @@
 -- The end of an epoch as the code goes through it: what each call asks, and the promise of code 2 at each way out.
-use mathlib.Core.Path.{_≡_, sym, ap, ap₂, _∙_, subst, subst₂}
+use mathlib.Core.Path.{_≡_, refl, sym, ap, ap₂, _∙_, subst, subst₂}
 use mathlib.Core.Logic.{inl}
 use mathlib.Core.List.{List}
+use mathlib.Core.Bool.{Bool, true, false}
 use Prim.Native.Nat.{ℕ, suc, _-_, _*_, _^_, _≤_, _<_}
 use native.Mathlib.Omega.{arith}
+use lib.Dec.{eqb, leb}
 use lib.ListN.{length}
-use Rattle.rules.specs.Terms.{refused, done}
-use Rattle.rules.specs.Regions.{regionAt}
+use borrow.Author.Tests.{leb-true}
+use Rattle.lists.specs.Bits.{bitAt, bit-zero}
+use Rattle.lists.specs.Counting.{bit, sum-same, sum-none, sum-high}
+use Rattle.lists.specs.Part.{Off, Lists}
+use Rattle.rules.specs.declared.Sizes.{Sizes}
+use Rattle.rules.specs.Terms.{ask, refused, done}
+use Rattle.rules.specs.Regions.{regionAt, regions}
+use Rattle.rules.specs.Graph.{pagesOf}
+use Rattle.rules.specs.Rules as ru
+use Rattle.laws.specs.RulesLaws.{region-pos}
 use Rattle.layout.specs.declared.Places.{Places}
-use Rattle.layout.specs.Places.{placesOf, sizesOf, Room, depthAt, depthOf, markOf, usedIn}
-use Rattle.layout.specs.Cells.{pageOf}
+use Rattle.layout.specs.Places.{placesOf, sizesOf, Room, depthAt, depthOf, ownerOf, markOf, usedIn, slotIn}
+use Rattle.layout.specs.Cells.{pageOf, placeOf, workOf}
 use Rattle.layout.specs.Marks.{marked}
-use Rattle.promises.specs.Words.{Words, words, InUse, depthIn}
+use Rattle.promises.specs.Words.{Words, words, InUse, depthIn, heapOf}
 use Rattle.promises.specs.Whole.{WholeFor}
 use Rattle.promises.specs.Promises.{DidHere}
-use Rattle.promises.specs.OwnedPages.{pagesOwned}
+use Rattle.promises.specs.OwnedPages.{pagesOwned, owner-low, region-pages, counted-objects}
 use Rattle.promises.specs.Reading.{cells-room}
-use Rattle.mark.specs.Marks.{Kept, Shaped, kept-shaped, kept-room}
+use Rattle.pages.specs.Owned.{ownedOne, ownedIn, Paged, regionsOf}
+use Rattle.mark.specs.Marks.{Kept, Shaped, kept-shaped, kept-room, page-unmarked}
 use Rattle.mark.specs.Holders.{Holding, holding-kept}
 use Rattle.mark.specs.Survivors.{Marked, marked-kept, space-of, shaped-at, holding-at}
 use Rattle.mark.specs.Unmark.{Unmarked, cells-back, tables-back}
+use Rattle.census.specs.Counted.{goesTo}
+use Rattle.census.specs.Census.{over-none}
 use Rattle.census.specs.After as ce
+use Rattle.census.specs.After.{slotCrosses, slot-le}
+use Rattle.evacuate.specs.Copying.{region-bounds}
 use Rattle.evacuate.specs.Stages.{Before, Finished}
-use Rattle.evacuation.specs.MarkedWords.{now-used}
+use Rattle.evacuation.specs.MarkedWords.{owner-same, count-same, now-used}
 use Rattle.evacuation.specs.AfterEvacuation.{evacuation-evacuated}
 use Rattle.ended.specs.AfterEnd.{endOf}
-use Rattle.ended.specs.EndQuestion.{pagesNeeded, crossingAfter, refused-shut, refused-pageless, refused-full}
+use Rattle.ended.specs.EndQuestion.{pagesNeeded, crossingAfter, end-question, refused-shut, ended-refused}
 use Rattle.ended.specs.EvacuatedDid.{ended-did}
-use Rattle.pages.specs.Owned.{ownedIn}
-use Rattle.epoch.specs.CensusCounts.{needsBelow, needs-are, free-are, crossing-are}
-use Rattle.epoch.specs.MayEvacuate.{before-same}
+use Rattle.epoch.specs.CensusCounts.{needsBelow, roomAsked, asked-none, level-none, needs-are, free-are, crossing-are, targets-low}
+use Rattle.epoch.specs.MayEvacuate.{before-same, before}
 
-module _ (p : Places) (e : p ≡ placesOf (sizesOf p)) (w : Words) (k : WholeFor (sizesOf p) w) (fits : length (w .tables) < 2 ^ 63) (t : ℕ) (th : t < p .threads) where
-  pub room-at : Room p (length (w .tables))
-  room-at = space-of p e w k fits
+-- both were answered with yes
+both-yes : (b c : Bool) → ask b 13 (ask c 14 0) ≡ 0 → (b ≡ true) × (c ≡ true)
+unfolding ask
+both-yes true true e = (refl, refl)
+both-yes true false e = absurd (let z : ⊥ = omega arith in z)
+both-yes false c e = absurd (let z : ⊥ = omega arith in z)
 
-  room-of : Room (placesOf (sizesOf p)) (length (w .tables))
-  room-of = subst (λ (q : Places). Room q (length (w .tables))) e room-at
+-- ---- marked words
 
-  pub depth-high : depthOf (w .tables) t ≤ p .depth
-  depth-high = k .placed .depths t th
+-- the innermost region of thread t is ending: its survivors are marked in w₁, which was w
+pub record Ending (p : Places) (t : ℕ) (w w₁ : Words) : Type 0 where
+  pub places : p ≡ placesOf (sizesOf p)
+  pub whole : WholeFor (sizesOf p) w
+  pub fits : length (w .tables) < 2 ^ 63
+  pub thread : t < p .threads
+  pub epoch : 1 ≤ depthOf (w .tables) t
+  pub marks : Marked (sizesOf p) w (regionAt (sizesOf p) t (depthOf (w .tables) t)) w₁
 
-  -- no epoch is open
-  pub shut : depthOf (w .tables) t ≡ 0 → DidHere (sizesOf p) w (endOf t) w (refused 12)
-  shut z = refused-shut (sizesOf p) w k t th z
+module _ {p : Places} {t : ℕ} {w w₁ : Words} (m : Ending p t w w₁) where
+  abbrev s : Sizes
+  s = sizesOf p
 
-  module _ (pos : 1 ≤ depthOf (w .tables) t) (w₁ : Words) (M : Marked (sizesOf p) w (regionAt (sizesOf p) t (depthOf (w .tables) t)) w₁) where
-    deep : depthIn w t ≡ suc (depthOf (w .tables) t - 1)
-    deep = omega arith
+  -- the level around the ending one
+  abbrev k : ℕ
+  k = depthOf (w .tables) t - 1
 
-    marks : Marked (sizesOf p) w (regionAt (sizesOf p) t (suc (depthOf (w .tables) t - 1))) w₁
-    marks = subst (λ (n : ℕ). Marked (sizesOf p) w (regionAt (sizesOf p) t n) w₁) deep M
+  abbrev region : ℕ
+  region = regionAt s t (depthOf (w₁ .tables) t)
 
-    kept : Kept p (w .cells) (w .tables) (w₁ .cells) (w₁ .tables)
-    kept =
-        subst (λ (q : Places). Kept q (w .cells) (w .tables) (w₁ .cells) (w₁ .tables)) (sym e)
-        (marked-kept (sizesOf p) w k (regionAt (sizesOf p) t (depthOf (w .tables) t)) w₁ M)
+  room-of : Room (placesOf s) (length (w .tables))
+  room-of = subst (λ (q : Places). Room q (length (w .tables))) (m .places) (space-of p (m .places) w (m .whole) (m .fits))
 
-    -- ---- what the calls ask of the marked words
+  deep : depthIn w t ≡ suc k
+  deep = omega (arith, m .epoch)
 
-    pub room-now : Room p (length (w₁ .tables))
-    room-now = kept-room kept room-at
+  marks : Marked s w (regionAt s t (suc k)) w₁
+  marks = subst (λ (n : ℕ). Marked s w (regionAt s t n) w₁) deep (m .marks)
 
-    pub cells-now : 256 * p .pages ≤ length (w₁ .cells)
-    cells-now = omega (arith, cells-room (sizesOf p) w k, M .cells-length)
+  kept : Kept p (w .cells) (w .tables) (w₁ .cells) (w₁ .tables)
+  kept = subst (λ (q : Places). Kept q (w .cells) (w .tables) (w₁ .cells) (w₁ .tables)) (sym (m .places)) (marked-kept s w (m .whole) (regionAt s t (suc k)) w₁ marks)
 
-    pub small-now : (page : ℕ) → page < p .pages → markOf p (w₁ .tables) page < 2 ^ 16
-    small-now = subst (λ (q : Places). (page : ℕ) → page < q .pages → markOf q (w₁ .tables) page < 2 ^ 16) (sym e) (M .small)
+  -- ---- what the calls ask
 
-    pub used-now : (c : ℕ) → pageOf c < p .pages → marked p (w₁ .tables) c ≡ 1 → InUse p (w₁ .tables) c
-    used-now =
-        subst (λ (q : Places). (c : ℕ) → pageOf c < q .pages → marked q (w₁ .tables) c ≡ 1 → InUse q (w₁ .tables) c) (sym e)
-        (λ c l on. now-used M room-of c (M .only c l on .0))
+  pub room-now : Room p (length (w₁ .tables))
+  room-now = kept-room kept (space-of p (m .places) w (m .whole) (m .fits))
 
-    pub shaped-now : Shaped p (w₁ .cells) (w₁ .tables)
-    shaped-now = kept-shaped kept (shaped-at p e w k fits)
+  pub cells-now : 256 * p .pages ≤ length (w₁ .cells)
+  cells-now = omega (arith, cells-room s w (m .whole), marks .cells-length)
 
-    pub holding-now : Holding p (w₁ .cells) (w .remember) (w₁ .tables)
-    holding-now = holding-kept kept room-at (holding-at p e w k fits)
+  pub depth-now : depthOf (w₁ .tables) t ≡ suc k
+  depth-now = kept .tables (depthAt t) (inl (omega (arith, room-now, m .thread))) ∙ deep
 
-    pub depth-now : depthOf (w₁ .tables) t ≡ depthOf (w .tables) t
-    depth-now = kept .tables (depthAt t) (inl (omega (arith, room-at)))
+  pub depth-high : depthOf (w₁ .tables) t ≤ p .depth
+  depth-high = omega (arith, depth-now, deep, m .whole .placed .depths t (m .thread))
 
-    -- ---- the counts
+  pub depth-open : 1 ≤ depthOf (w₁ .tables) t
+  depth-open = omega (arith, depth-now)
 
-    needs : needsBelow p (w₁ .cells) (w₁ .tables) t (depthOf (w .tables) t) ≡ pagesNeeded (sizesOf p) w t (depthOf (w .tables) t - 1)
-    needs =
-        ap₂ (λ (q : Places) (n : ℕ). needsBelow q (w₁ .cells) (w₁ .tables) t n) e deep
-        ∙ needs-are (sizesOf p) w k room-of t (depthOf (w .tables) t - 1) th deep w₁ marks
+  pub region-now : (1 ≤ region) × (region ≤ regionsOf p)
+  region-now = (region-pos s t (depthOf (w₁ .tables) t), region-bounds p t (depthOf (w₁ .tables) t) (m .thread) depth-high .1)
 
-    free : ownedIn p (w₁ .tables) 0 (p .pages) ≡ pagesOwned (sizesOf p) w 0
-    free =
-        ap (λ (q : Places). ownedIn q (w₁ .tables) 0 (q .pages)) e
-        ∙ free-are (sizesOf p) w k room-of t (depthOf (w .tables) t - 1) th deep w₁ marks
+  pub small-now : (page : ℕ) → page < p .pages → markOf p (w₁ .tables) page < 2 ^ 16
+  small-now = subst (λ (q : Places). (page : ℕ) → page < q .pages → markOf q (w₁ .tables) page < 2 ^ 16) (sym (m .places)) (marks .small)
 
-    crossing : ce.crossingAfter p (w₁ .cells) (w .remember) (w₁ .tables) (regionAt (sizesOf p) t (depthOf (w .tables) t)) ≡ crossingAfter (sizesOf p) w t (depthOf (w .tables) t - 1)
-    crossing =
-        ap₂ (λ (q : Places) (n : ℕ). ce.crossingAfter q (w₁ .cells) (w .remember) (w₁ .tables) (regionAt (sizesOf p) t n)) e deep
-        ∙ ap (λ (m : List ℕ). ce.crossingAfter (placesOf (sizesOf p)) (w₁ .cells) m (w₁ .tables) (regionAt (sizesOf p) t (suc (depthOf (w .tables) t - 1)))) (sym (M .remember))
-        ∙ crossing-are (sizesOf p) w k room-of t (depthOf (w .tables) t - 1) th deep w₁ marks
+  pub used-now : (c : ℕ) → pageOf c < p .pages → marked p (w₁ .tables) c ≡ 1 → InUse p (w₁ .tables) c
+  used-now =
+      subst (λ (q : Places). (c : ℕ) → pageOf c < q .pages → marked q (w₁ .tables) c ≡ 1 → InUse q (w₁ .tables) c) (sym (m .places))
+      (λ c l on. now-used marks room-of c (marks .only c l on .0))
 
-    -- ---- refused: the marking is undone
+  pub shaped-now : Shaped p (w₁ .cells) (w₁ .tables)
+  shaped-now = kept-shaped kept (shaped-at p (m .places) w (m .whole) (m .fits))
 
-    module _ {W T : List ℕ} (U : Unmarked p (p .pages) (w₁ .cells) (w₁ .tables) W T) where
-      undone : Unmarked (placesOf (sizesOf p)) (p .pages) (w₁ .cells) (w₁ .tables) W T
-      undone = subst (λ (q : Places). Unmarked q (p .pages) (w₁ .cells) (w₁ .tables) W T) e U
+  pub holding-now : Holding p (w₁ .cells) (w₁ .remember) (w₁ .tables)
+  holding-now =
+      subst (λ (M : List ℕ). Holding p (w₁ .cells) M (w₁ .tables)) (sym (marks .remember))
+      (holding-kept kept (space-of p (m .places) w (m .whole) (m .fits)) (holding-at p (m .places) w (m .whole) (m .fits)))
 
-      back : (n : ℕ) → DidHere (sizesOf p) w (endOf t) w (refused n) → DidHere (sizesOf p) w (endOf t) (words W (w .remember) T) (refused n)
-      back n d =
-          subst₂ (λ (c b : List ℕ). DidHere (sizesOf p) w (endOf t) (words c (w .remember) b) (refused n))
-          (sym (cells-back (sizesOf p) w k (regionAt (sizesOf p) t (depthOf (w .tables) t)) w₁ M undone))
-          (sym (tables-back (sizesOf p) w k (regionAt (sizesOf p) t (depthOf (w .tables) t)) w₁ M undone)) d
+  pub targets-now : (c : ℕ) → pageOf c < p .pages → marked p (w₁ .tables) c ≡ 1 → workOf (w₁ .cells) c ≤ regionsOf p
+  targets-now =
+      subst (λ (q : Places). (c : ℕ) → pageOf c < q .pages → marked q (w₁ .tables) c ≡ 1 → workOf (w₁ .cells) c ≤ regionsOf p) (sym (m .places))
+      (targets-low s w (m .whole) room-of t k (m .thread) deep w₁ marks)
 
-      pub pageless : ownedIn p (w₁ .tables) 0 (p .pages) < needsBelow p (w₁ .cells) (w₁ .tables) t (depthOf (w .tables) t)
-          → DidHere (sizesOf p) w (endOf t) (words W (w .remember) T) (refused 13)
-      pageless l = back 13 (refused-pageless (sizesOf p) w k t th (depthOf (w .tables) t - 1) deep (subst₂ (λ (a b : ℕ). a < b) free needs l))
+  -- the pages of the regions, as the counts say
+  pub paged-now : Paged p (w₁ .tables)
+  unfolding ownedOne
+  paged-now =
+      subst (λ (q : Places). Paged q (w₁ .tables)) (sym (m .places))
+      (record {
+        pages = λ g pos l.
+            sum-same _ _ (p .pages) (λ page h. ap (λ (x : ℕ). bit (eqb x g)) (owner-same marks room-of page h)) ∙ region-pages s w (m .whole) g pos
+            ∙ ap pagesOf (sym (counted-objects s w (m .whole) g pos l) ∙ sym (count-same marks room-of g));
+        owners = λ page l. subst (λ (x : ℕ). x ≤ regions s) (sym (owner-same marks room-of page l)) (owner-low s w (m .whole) page l);
+      })
 
-      pub full : needsBelow p (w₁ .cells) (w₁ .tables) t (depthOf (w .tables) t) ≤ ownedIn p (w₁ .tables) 0 (p .pages)
-          → p .entries < ce.crossingAfter p (w₁ .cells) (w .remember) (w₁ .tables) (regionAt (sizesOf p) t (depthOf (w .tables) t))
-          → DidHere (sizesOf p) w (endOf t) (words W (w .remember) T) (refused 14)
-      full l m =
-          back 14
-          (refused-full (sizesOf p) w k t th (depthOf (w .tables) t - 1) deep (subst₂ (λ (a b : ℕ). a ≤ b) needs free l)
-          (subst (λ (n : ℕ). p .entries < n) crossing m))
+  -- a page that is not listed has no mark
+  pub unlisted : (n : ℕ) (l : List ℕ) → Lists (λ page. ownerOf p (w₁ .tables) page ≡ region) (p .pages) n l
+      → (page : ℕ) → page < p .pages → Off l n page → markOf p (w₁ .tables) page ≡ 0
+  unlisted n l h page low off =
+      page-unmarked p (w₁ .tables) page (small-now page low)
+      (λ c e on.
+      h .all page low
+      (subst (λ (x : ℕ). ownerOf p (w₁ .tables) x ≡ region) e (owned c (subst (λ (x : ℕ). x < p .pages) (sym e) low) on)) off)
+    where
+      owned : (c : ℕ) → pageOf c < p .pages → marked p (w₁ .tables) c ≡ 1 → ownerOf p (w₁ .tables) (pageOf c) ≡ region
+      owned =
+          subst (λ (q : Places). (c : ℕ) → pageOf c < q .pages → marked q (w₁ .tables) c ≡ 1 → ownerOf q (w₁ .tables) (pageOf c) ≡ region) (sym (m .places))
+          (λ c l on. owner-same marks room-of (pageOf c) l ∙ marks .only c l on .1 ∙ ap (regionAt s t) (sym depth-now))
 
-    -- ---- accepted
+  -- ---- 13 and 14
 
-    module _ (pages : needsBelow p (w₁ .cells) (w₁ .tables) t (depthOf (w .tables) t) ≤ ownedIn p (w₁ .tables) 0 (p .pages))
-        (entries : ce.crossingAfter p (w₁ .cells) (w .remember) (w₁ .tables) (regionAt (sizesOf p) t (depthOf (w .tables) t)) ≤ p .entries) where
-      enough : pagesNeeded (sizesOf p) w t (depthOf (w .tables) t - 1) ≤ pagesOwned (sizesOf p) w 0
-      enough = subst₂ (λ (a b : ℕ). a ≤ b) needs free pages
+  needs : needsBelow p (w₁ .cells) (w₁ .tables) t (depthOf (w₁ .tables) t) ≡ pagesNeeded s w t k
+  needs =
+      ap₂ (λ (q : Places) (n : ℕ). needsBelow q (w₁ .cells) (w₁ .tables) t n) (m .places) depth-now
+      ∙ needs-are s w (m .whole) room-of t k (m .thread) deep w₁ marks
 
-      few : crossingAfter (sizesOf p) w t (depthOf (w .tables) t - 1) ≤ p .entries
-      few = subst (λ (n : ℕ). n ≤ p .entries) crossing entries
+  free : ownedIn p (w₁ .tables) 0 (p .pages) ≡ pagesOwned s w 0
+  free = ap (λ (q : Places). ownedIn q (w₁ .tables) 0 (q .pages)) (m .places) ∙ free-are s w (m .whole) room-of t k (m .thread) deep w₁ marks
 
-      begin : Before (placesOf (sizesOf p)) (regionAt (sizesOf p) t (suc (depthOf (w .tables) t - 1))) (p .entries) (usedIn (w .remember)) (suc (depthOf (w .tables) t - 1))
-          (regionAt (sizesOf p) t) (w₁ .cells) (w .remember) (w₁ .tables)
-      begin = before-same (sizesOf p) w k room-of t (depthOf (w .tables) t - 1) th deep w₁ marks enough few
+  crossing : ce.crossingAfter p (w₁ .cells) (w₁ .remember) (w₁ .tables) region ≡ crossingAfter s w t k
+  crossing =
+      ap₂ (λ (q : Places) (n : ℕ). ce.crossingAfter q (w₁ .cells) (w₁ .remember) (w₁ .tables) (regionAt s t n)) (m .places) depth-now
+      ∙ crossing-are s w (m .whole) room-of t k (m .thread) deep w₁ marks
 
-      same : depthOf (w₁ .tables) t ≡ suc (depthOf (w .tables) t - 1)
-      same = depth-now ∙ deep
+  -- the rules' question
+  asks : roomAsked p (w₁ .cells) (w₁ .remember) (w₁ .tables) t (depthOf (w₁ .tables) t) ≡ ru.question s (heapOf s w) (endOf t)
+  unfolding roomAsked ask
+  asks =
+      ap₂ (λ (a b : ℕ). ask (leb a b) 13 (ask (leb (ce.crossingAfter p (w₁ .cells) (w₁ .remember) (w₁ .tables) region) (p .entries)) 14 0)) needs free
+      ∙ ap (λ (c : ℕ). ask (leb (pagesNeeded s w t k) (pagesOwned s w 0)) 13 (ask (leb c (p .entries)) 14 0)) crossing
+      ∙ sym (end-question s w (m .whole) t (m .thread) k deep)
 
-      pub asked : Before p (regionAt (sizesOf p) t (depthOf (w₁ .tables) t)) (p .entries) (usedIn (w .remember)) (depthOf (w₁ .tables) t) (regionAt (sizesOf p) t) (w₁ .cells) (w .remember)
-          (w₁ .tables)
-      asked =
-          subst₂
-          (λ (q : Places) (n : ℕ). Before q (regionAt (sizesOf p) t n) (p .entries) (usedIn (w .remember)) n (regionAt (sizesOf p) t) (w₁ .cells) (w .remember) (w₁ .tables)) (sym e)
-          (sym same) begin
+  -- ---- refused: the marking is undone
 
-      pub did : (w′ : Words)
-          → Finished p (regionAt (sizesOf p) t (depthOf (w₁ .tables) t)) (p .entries) (usedIn (w .remember)) (depthOf (w₁ .tables) t) t (regionAt (sizesOf p) t) (w₁ .cells) (w .remember)
-          (w₁ .tables) (w′ .cells) (w′ .remember) (w′ .tables) → DidHere (sizesOf p) w (endOf t) w′ (done 0)
-      did w′ f =
-          let f′ =
-          subst₂
-          (λ (q : Places) (n : ℕ).
-          Finished q (regionAt (sizesOf p) t n) (p .entries) (usedIn (w .remember)) n t (regionAt (sizesOf p) t) (w₁ .cells) (w .remember) (w₁ .tables) (w′ .cells) (w′ .remember) (w′ .tables))
-          e same f in
-          ended-did (sizesOf p) w k t (depthOf (w .tables) t - 1) th deep w′ _
-          (evacuation-evacuated (sizesOf p) w k t (depthOf (w .tables) t - 1) th deep fits w₁ w′ marks begin f′) enough few
+  pub out-refused : (q : ℕ) → 0 < q → q ≡ roomAsked p (w₁ .cells) (w₁ .remember) (w₁ .tables) t (depthOf (w₁ .tables) t) → {W T : List ℕ}
+      → Unmarked p (p .pages) (w₁ .cells) (w₁ .tables) W T → DidHere s w (endOf t) (words W (w₁ .remember) T) (refused q)
+  out-refused q pos e {W} {T} U =
+      subst (λ (v : Words). DidHere s w (endOf t) v (refused q)) back (ended-refused s w (m .whole) t (m .thread) q pos (sym asks ∙ sym e))
+    where
+      undone : Unmarked (placesOf s) (p .pages) (w₁ .cells) (w₁ .tables) W T
+      undone = subst (λ (q : Places). Unmarked q (p .pages) (w₁ .cells) (w₁ .tables) W T) (m .places) U
 
--- ---- by the numbers as the code has them
+      back : w ≡ words W (w₁ .remember) T
+      back =
+          ap₂ (λ (c b : List ℕ). words c (w .remember) b) (sym (cells-back s w (m .whole) (regionAt s t (suc k)) w₁ marks undone))
+          (sym (tables-back s w (m .whole) (regionAt s t (suc k)) w₁ marks undone))
+          ∙ ap (λ (M : List ℕ). words W M T) (sym (marks .remember))
 
-module _ (p : Places) (e : p ≡ placesOf (sizesOf p)) (w : Words) (k : WholeFor (sizesOf p) w) (fits : length (w .tables) < 2 ^ 63) (t : ℕ) (th : t < p .threads)
-    (level needed free : ℕ) (el : level ≡ depthOf (w .tables) t) (deep : 0 < level)
-    {W₁ T₁ : List ℕ} (M : Marked (sizesOf p) w (regionAt (sizesOf p) t (depthOf (w .tables) t)) (words W₁ (w .remember) T₁))
-    (en : needed ≡ needsBelow p W₁ T₁ t level) (ef : free ≡ ownedIn p T₁ 0 (p .pages)) where
-  deep-enough : 1 ≤ depthOf (w .tables) t
-  deep-enough = omega arith
+  -- ---- accepted
 
-  needed-is : needed ≡ needsBelow p W₁ T₁ t (depthOf (w .tables) t)
-  needed-is = en ∙ ap (λ (n : ℕ). needsBelow p W₁ T₁ t n) el
+  module _ (yes : 0 ≡ roomAsked p (w₁ .cells) (w₁ .remember) (w₁ .tables) t (depthOf (w₁ .tables) t)) where
+    both : (leb (pagesNeeded s w t k) (pagesOwned s w 0) ≡ true) × (leb (crossingAfter s w t k) (p .entries) ≡ true)
+    both = both-yes _ _ (sym (end-question s w (m .whole) t (m .thread) k deep) ∙ sym asks ∙ sym yes)
 
-  pub out-pageless : {W T : List ℕ} → Unmarked p (p .pages) W₁ T₁ W T → free < needed → DidHere (sizesOf p) w (endOf t) (words W (w .remember) T) (refused 13)
-  out-pageless U l = pageless p e w k fits t th deep-enough (words W₁ (w .remember) T₁) M U (subst₂ (λ (a b : ℕ). a < b) ef needed-is l)
+    enough : pagesNeeded s w t k ≤ pagesOwned s w 0
+    enough = leb-true _ _ (both .0)
 
-  module _ (r crossing : ℕ) (er : r ≡ regionAt (sizesOf p) t level) (ec : crossing ≡ ce.crossingAfter p W₁ (w .remember) T₁ r) (l : needed ≤ free) where
-    crossing-is : crossing ≡ ce.crossingAfter p W₁ (w .remember) T₁ (regionAt (sizesOf p) t (depthOf (w .tables) t))
-    crossing-is = ec ∙ ap (λ (g : ℕ). ce.crossingAfter p W₁ (w .remember) T₁ g) (er ∙ ap (regionAt (sizesOf p) t) el)
+    few : crossingAfter s w t k ≤ p .entries
+    few = leb-true _ _ (both .1)
 
-    fit : needsBelow p W₁ T₁ t (depthOf (w .tables) t) ≤ ownedIn p T₁ 0 (p .pages)
-    fit = subst₂ (λ (a b : ℕ). a ≤ b) needed-is ef l
+    begin : Before (placesOf s) (regionAt s t (suc k)) (p .entries) (usedIn (w₁ .remember)) (suc k) (regionAt s t) (w₁ .cells) (w₁ .remember) (w₁ .tables)
+    begin = before s w (m .whole) room-of t k (m .thread) deep w₁ marks enough few
 
-    pub out-full : {W T : List ℕ} → Unmarked p (p .pages) W₁ T₁ W T → p .entries < crossing → DidHere (sizesOf p) w (endOf t) (words W (w .remember) T) (refused 14)
-    out-full U m =
-        full p e w k fits t th deep-enough (words W₁ (w .remember) T₁) M U fit (subst (λ (n : ℕ). p .entries < n) crossing-is m)
+    pub goes-on : Before p region (p .entries) (usedIn (w₁ .remember)) (depthOf (w₁ .tables) t) (regionAt s t) (w₁ .cells) (w₁ .remember) (w₁ .tables)
+    goes-on =
+        subst₂
+        (λ (q : Places) (n : ℕ). Before q (regionAt s t n) (p .entries) (usedIn (w₁ .remember)) n (regionAt s t) (w₁ .cells) (w₁ .remember) (w₁ .tables))
+        (sym (m .places)) (sym depth-now) begin
 
-    pub goes-on : crossing ≤ p .entries
-        → Before p (regionAt (sizesOf p) t (depthOf T₁ t)) (p .entries) (usedIn (w .remember)) (depthOf T₁ t) (regionAt (sizesOf p) t) W₁ (w .remember) T₁
-    goes-on m =
-        asked p e w k fits t th deep-enough (words W₁ (w .remember) T₁) M fit (subst (λ (n : ℕ). n ≤ p .entries) crossing-is m)
+    pub out-done : {W M T : List ℕ}
+        → Finished p region (p .entries) (usedIn (w₁ .remember)) (depthOf (w₁ .tables) t) t (regionAt s t) (w₁ .cells) (w₁ .remember) (w₁ .tables) W M T
+        → DidHere s w (endOf t) (words W M T) (done 0)
+    out-done {W} {M} {T} f =
+        let f′ =
+        subst (λ (R : List ℕ). Finished (placesOf s) (regionAt s t (suc k)) (p .entries) (usedIn R) (suc k) t (regionAt s t) (w₁ .cells) R (w₁ .tables) W M T) (marks .remember)
+        (subst₂
+        (λ (q : Places) (n : ℕ). Finished q (regionAt s t n) (p .entries) (usedIn (w₁ .remember)) n t (regionAt s t) (w₁ .cells) (w₁ .remember) (w₁ .tables) W M T)
+        (m .places) depth-now f) in
+        ended-did s w (m .whole) t k (m .thread) deep (words W M T) _
+        (evacuation-evacuated s w (m .whole) t k (m .thread) deep (m .fits) w₁ (words W M T) marks (before-same s w (m .whole) room-of t k (m .thread) deep w₁ marks enough few) f′) enough few
 
-    pub out-done : crossing ≤ p .entries → {W T M′ : List ℕ}
-        → Finished p (regionAt (sizesOf p) t (depthOf T₁ t)) (p .entries) (usedIn (w .remember)) (depthOf T₁ t) t (regionAt (sizesOf p) t) W₁ (w .remember) T₁ W M′ T
-        → DidHere (sizesOf p) w (endOf t) (words W M′ T) (done 0)
-    out-done m {W} {T} {M′} f =
-        did p e w k fits t th deep-enough (words W₁ (w .remember) T₁) M fit (subst (λ (n : ℕ). n ≤ p .entries) crossing-is m) (words W M′ T) f
+  -- ---- nothing survives
+
+  module _ (none : (page : ℕ) → page < p .pages → markOf p (w₁ .tables) page ≡ 0) where
+    pub unmarked : (c : ℕ) → pageOf c < p .pages → marked p (w₁ .tables) c ≡ 0
+    unmarked c l = ap (λ (x : ℕ). bitAt x (placeOf c)) (none (pageOf c) l) ∙ bit-zero (placeOf c)
+
+    -- no page is needed, and no further slot crosses
+    pub free-way : 0 ≡ roomAsked p (w₁ .cells) (w₁ .remember) (w₁ .tables) t (depthOf (w₁ .tables) t)
+    free-way =
+        asked-none p (w₁ .cells) (w₁ .remember) (w₁ .tables) t (depthOf (w₁ .tables) t) refl refl refl refl
+        (omega (arith, no-pages)) (omega (arith, crosses, m .whole .placed .remember .entries .room, ap usedIn (marks .remember)))
+      where
+        no-pages : needsBelow p (w₁ .cells) (w₁ .tables) t (depthOf (w₁ .tables) t) ≡ 0
+        no-pages =
+            sum-none _ (depthOf (w₁ .tables) t)
+            (λ l h. sym (level-none p (w₁ .cells) (w₁ .tables) (regionAt s t l) 0 (sym (over-none p (w₁ .tables) (goesTo (w₁ .cells) (regionAt s t l)) (p .pages) none)) refl))
+
+        crosses : ce.crossingAfter p (w₁ .cells) (w₁ .remember) (w₁ .tables) region ≤ usedIn (w₁ .remember)
+        crosses =
+            omega (
+              arith,
+              over-none p (w₁ .tables) (ce.cellCrosses p (w₁ .cells) (w₁ .tables) region) (p .pages) none,
+              sum-high (λ i. slotCrosses p (w₁ .cells) (w₁ .tables) region (slotIn (w₁ .remember) i)) 1 (usedIn (w₁ .remember))
+                  (λ i l. slot-le p (w₁ .cells) (w₁ .tables) region (slotIn (w₁ .remember) i)),
+            )
+
+-- no epoch is open
+pub shut : (p : Places) (w : Words) (t : ℕ) → WholeFor (sizesOf p) w → t < p .threads → depthOf (w .tables) t ≡ 0 → DidHere (sizesOf p) w (endOf t) w (refused 12)
+shut p w t whole th z = refused-shut (sizesOf p) w whole t th z

@@ -1,48 +1,69 @@
-// The end of an epoch (code 2): mark what survives; refuse, and undo the marking, where pages or entries are too few; else copy, rewrite,
-// remember and release.
+// The end of an epoch (code 2): mark what survives; where nothing does, take the region's slots out of the remember table and free its pages;
+// else list its pages, count over them, refuse and undo the marking where pages or entries are too few, or copy, rewrite, remember and release.
 ghost use mathlib.Core.Path.{_≡_};
-ghost use Prim.Native.Nat.{_<_};
+ghost use Prim.Native.Nat.{_<_, _≤_};
+ghost use lib.ListN.{length};
 ghost use Rattle.layout.specs.Places.{placesOf, sizesOf};
-ghost use Rattle.promises.specs.Words.{words};
+ghost use Rattle.promises.specs.Words.{Words, words};
 ghost use Rattle.promises.specs.Whole.{WholeFor};
 ghost use Rattle.promises.specs.Promises.{DidHere};
+ghost use Rattle.pages.specs.Pages.{noteWords};
 ghost use Rattle.ended.specs.AfterEnd.{endOf};
+ghost use Rattle.epoch.specs.EndDid.{Ending};
 use layout::Places;
 use rules::Answer;
 
 pub mod needs;
 
-// Ends the thread's innermost epoch: 12 if it has none, 13 if there are too few free pages, 14 if too many slots would cross.
+// The end of the thread's innermost epoch once its survivors are marked: 13 if there are too few free pages, 14 if too many slots would cross.
+fn end_marked(
+    p: Places,
+    cells: &mut [u32],
+    remember: &mut [u32],
+    tables: &mut [u32],
+    notes: &mut [u32],
+    thread: usize,
+) -> Answer
+    requires { ⌜ ((w : Words) × Ending p thread w (words (now cells) (now remember) (now tables))) ⌝ }
+    requires { ⌜ noteWords ≤ length (now notes) ⌝ }
+    ensures { λ r. ⌜ ((w : Words) → Ending p thread w (words (now (cells .entry)) (now (remember .entry)) (now (tables .entry))) → DidHere (sizesOf p) w (endOf thread) (words (now (cells .exit)) (now (remember .exit)) (now (tables .exit))) r) ⌝ }
+{
+    let level = layout::wide(layout::tables::depth(p, tables, thread));
+    let region = layout::regions::region_at(p, thread, level);
+    let mut list = [0u32; 1024];
+    let mut come = [0u32; 130];
+    let n = pages::list_pages(p, tables, region, &mut list);
+    let k = census::count::count_listed(p, cells, tables, region, &list, n, &mut come);
+    let q = needs::ask_room(p, cells, remember, tables, &come, thread, level, k);
+    if q != 0 {
+        mark::unmark::unmark(p, cells, tables, &list, n);
+        return rules::refused(q);
+    }
+    evacuate::evacuate(p, cells, remember, tables, notes, &list, n, &come, thread);
+    rules::done(0)
+}
+
+// Ends the thread's innermost epoch: 12 if it has none. The notes say where to look for a page first (crate `pages`).
 pub fn end(
     p: Places,
     cells: &mut [u32],
     remember: &mut [u32],
     tables: &mut [u32],
+    notes: &mut [u32],
     thread: usize,
 ) -> Answer
     requires { ⌜ p ≡ placesOf (sizesOf p) ⌝ }
     requires { ⌜ WholeFor (sizesOf p) (words (now cells) (now remember) (now tables)) ⌝ }
     requires { ⌜ thread < p .threads ⌝ }
+    requires { ⌜ noteWords ≤ length (now notes) ⌝ }
     ensures { λ r. ⌜ DidHere (sizesOf p) (words (now (cells .entry)) (now (remember .entry)) (now (tables .entry))) (endOf thread) (words (now (cells .exit)) (now (remember .exit)) (now (tables .exit))) r ⌝ }
 {
-    let level = layout::wide(layout::tables::depth(p, tables, thread));
-    if level == 0 {
+    if layout::tables::depth(p, tables, thread) == 0 {
         return rules::refused(12);
     }
-    let region = layout::regions::region_at(p, thread, level);
-    mark::survivors::mark_survivors(p, cells, remember, tables, thread);
-    let needed = needs::needed_pages(p, cells, tables, thread, level);
-    let free = pages::owned_pages(p, tables, 0);
-    if free < needed {
-        mark::unmark::unmark(p, cells, tables);
-        return rules::refused(13);
+    if mark::survivors::mark_survivors(p, cells, remember, tables, thread) {
+        return end_marked(p, cells, remember, tables, notes, thread);
     }
-    let crossing = census::crossing::count_crossing(p, cells, remember, tables, region);
-    let entries = p.entries;
-    if entries < crossing {
-        mark::unmark::unmark(p, cells, tables);
-        return rules::refused(14);
-    }
-    evacuate::evacuate(p, cells, remember, tables, thread);
+    evacuate::evacuate_none(p, cells, remember, tables, notes, thread);
     rules::done(0)
 }

@@ -1,42 +1,84 @@
-// Question 13: the new pages that the regions around the ending one need, against the free pages, which are those of owner 0.
+// Questions 13 and 14: the new pages that the regions around the ending one need, against the free pages; the slots that would cross, against
+// the entries.
 ghost use mathlib.Core.Path.{_≡_};
-ghost use Prim.Native.Nat.{ℕ, _+_, _*_, _^_, _<_, _≤_};
+ghost use mathlib.Core.List.{List};
+ghost use Prim.Native.Nat.{ℕ, _^_, _<_, _≤_};
 ghost use lib.ListN.{length};
-ghost use Rattle.layout.specs.Places.{Room, markOf};
-ghost use Rattle.epoch.specs.CensusCounts.{levelNeeds, needsBelow};
+ghost use Rattle.rules.specs.Regions.{regionAt, regions};
+ghost use Rattle.layout.specs.Places.{Room, sizesOf};
+ghost use Rattle.pages.specs.Owned.{Paged};
+ghost use Rattle.mark.specs.Marks.{Shaped};
+ghost use Rattle.mark.specs.Holders.{Holding};
+ghost use Rattle.census.specs.Census.{Arrivals, Census};
+ghost use Rattle.epoch.specs.CensusCounts.{levelNeeds, needsBelow, roomAsked};
 use layout::Places;
 
-// How many new pages region g needs for the survivors that go to it.
-pub fn level_pages(p: Places, cells: &[u32], tables: &[u32], g: u32) -> usize
+// How many new pages region g needs for the survivors that go to it: none where none goes.
+pub fn level_pages(p: Places, tables: &[u32], come: &[u32], g: u32) -> usize
     requires { ⌜ Room p (length (now tables)) ⌝ }
-    requires { ⌜ 256 * p .pages ≤ length (now cells) ⌝ }
-    requires { ⌜ ((page : ℕ) → page < p .pages → markOf p (now tables) page < 2 ^ 16) ⌝ }
-    requires { ⌜ (1 ≤ g) × (g ≤ 1 + p .threads * p .depth) ⌝ }
-    ensures { λ n. ⌜ n ≡ levelNeeds p (now (cells .entry)) (now (tables .entry)) g ⌝ }
+    requires { ⌜ (1 ≤ g) × (g ≤ regions (sizesOf p)) × (regions (sizesOf p) < length (now come)) ⌝ }
+    ensures { λ n. ⌜ ((W : List ℕ) → Arrivals p W (now (tables .entry)) (p .pages) (now (come .entry)) → n ≡ levelNeeds p W (now (tables .entry)) g) ⌝ }
+    ensures { λ n. ⌜ n ≤ 2 ^ 28 ⌝ }
 {
-    let have = layout::wide(layout::tables::count(p, tables, layout::wide(g)));
-    let come = census::count::count_survivors(p, cells, tables, g);
-    layout::cells::pages_for(have + come) - layout::cells::pages_for(have)
+    let region = layout::wide(g);
+    let arrivals = layout::wide(come[region]);
+    if arrivals == 0 {
+        return 0;
+    }
+    let have = layout::wide(layout::tables::count(p, tables, region));
+    layout::cells::pages_for(have + arrivals) - layout::cells::pages_for(have)
 }
 
 // How many new pages the regions of a thread at the levels below the given one need.
-pub fn needed_pages(p: Places, cells: &[u32], tables: &[u32], thread: usize, levels: usize) -> usize
+pub fn needed_pages(p: Places, tables: &[u32], come: &[u32], thread: usize, levels: usize) -> usize
     requires { ⌜ Room p (length (now tables)) ⌝ }
-    requires { ⌜ 256 * p .pages ≤ length (now cells) ⌝ }
-    requires { ⌜ ((page : ℕ) → page < p .pages → markOf p (now tables) page < 2 ^ 16) ⌝ }
+    requires { ⌜ regions (sizesOf p) < length (now come) ⌝ }
     requires { ⌜ (thread < p .threads) × (levels ≤ p .depth) ⌝ }
-    ensures { λ n. ⌜ n ≡ needsBelow p (now (cells .entry)) (now (tables .entry)) thread levels ⌝ }
+    ensures { λ n. ⌜ ((W : List ℕ) → Arrivals p W (now (tables .entry)) (p .pages) (now (come .entry)) → n ≡ needsBelow p W (now (tables .entry)) thread levels) ⌝ }
 {
     let mut n: usize = 0;
     let mut level: usize = 0;
     while level < levels {
         n += level_pages(
             p,
-            cells,
             tables,
+            come,
             layout::regions::region_at(p, thread, level),
         );
         level += 1;
     }
     n
+}
+
+// Questions 13 and 14 at the end of the thread's region at a level, whose survivors are marked: the number of the first that says no, 0 if
+// none does. k is how many of the survivors' slots would cross.
+pub fn ask_room(
+    p: Places,
+    cells: &[u32],
+    remember: &[u32],
+    tables: &[u32],
+    come: &[u32],
+    thread: usize,
+    level: usize,
+    k: usize,
+) -> u32
+    requires { ⌜ Shaped p (now cells) (now tables) ⌝ }
+    requires { ⌜ Holding p (now cells) (now remember) (now tables) ⌝ }
+    requires { ⌜ Paged p (now tables) ⌝ }
+    requires { ⌜ Census p (now cells) (now tables) (regionAt (sizesOf p) thread level) (p .pages) (now come) k ⌝ }
+    requires { ⌜ regions (sizesOf p) < length (now come) ⌝ }
+    requires { ⌜ (thread < p .threads) × (level ≤ p .depth) ⌝ }
+    ensures { λ q. ⌜ q ≡ roomAsked p (now (cells .entry)) (now (remember .entry)) (now (tables .entry)) thread level ⌝ }
+{
+    let needed = needed_pages(p, tables, come, thread, level);
+    let free = pages::free_pages(p, tables);
+    if free < needed {
+        return 13;
+    }
+    let region = layout::regions::region_at(p, thread, level);
+    let crossing = census::crossing::count_crossing(p, cells, remember, tables, region, k);
+    if p.entries < crossing {
+        return 14;
+    }
+    0
 }

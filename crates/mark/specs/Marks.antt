@@ -167,20 +167,24 @@ module _ {p : Places} {W T W′ T′ : List ℕ} (k : Kept p W T W′ T′) wher
 abbrev pub AnyMarked : Places → List ℕ → Type 0
 AnyMarked p T = (c : ℕ) × (pageOf c < p .pages) × (marked p T c ≡ 1)
 
--- where none is, every mark word is 0
-pub none-marked : (p : Places) (T : List ℕ) → ((page : ℕ) → page < p .pages → markOf p T page < 2 ^ 16) → (AnyMarked p T → ⊥) → (page : ℕ) → page < p .pages → markOf p T page ≡ 0
-none-marked p T small none page l = no-bits (markOf p T page) (λ i. go i (decLt i 16))
+-- a page without a marked cell has mark word 0
+pub page-unmarked : (p : Places) (T : List ℕ) (page : ℕ) → markOf p T page < 2 ^ 16 → ((c : ℕ) → pageOf c ≡ page → marked p T c ≡ 1 → ⊥) → markOf p T page ≡ 0
+page-unmarked p T page small none = no-bits (markOf p T page) (λ i. go i (decLt i 16))
   where
     go : (i : ℕ) → Dec (i < 16) → bitAt (markOf p T page) i ≡ 0
-    go i (no h) = none-high 16 (markOf p T page) i (small page l) (omega arith)
+    go i (no h) = none-high 16 (markOf p T page) i small (omega arith)
     go i (yes h) = off (ℕ-discrete (bitAt (markOf p T page) i) 1)
       where
         off : Dec (bitAt (markOf p T page) i ≡ 1) → bitAt (markOf p T page) i ≡ 0
         off (yes on) =
             let a : page ≡ pageOf (cellOn page i) = omega arith in
             let b : i ≡ placeOf (cellOn page i) = omega arith in
-            absurd (none (cellOn page i, omega arith, subst₂ (λ (x y : ℕ). bitAt (markOf p T x) y ≡ 1) a b on))
+            absurd (none (cellOn page i) (sym a) (subst₂ (λ (x y : ℕ). bitAt (markOf p T x) y ≡ 1) a b on))
         off (no n) = omega (arith, bit-lt i (markOf p T page))
+
+-- where none is, every mark word is 0
+pub none-marked : (p : Places) (T : List ℕ) → ((page : ℕ) → page < p .pages → markOf p T page < 2 ^ 16) → (AnyMarked p T → ⊥) → (page : ℕ) → page < p .pages → markOf p T page ≡ 0
+none-marked p T small none page l = page-unmarked p T page (small page l) (λ c e on. none (c, omega arith, on))
 
 -- ---- a mark that is set
 

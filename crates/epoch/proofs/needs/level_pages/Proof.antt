@@ -1,57 +1,74 @@
--- The pages with the survivors, less the pages without them.
-use Prim.Native.Nat.{ℕ, _-_, _≤_}
-use mathlib.Core.Path.{ap, ap₂, _∙_}
+-- None if none goes there; else the pages with the survivors, less the pages without them.
+use Prim.Native.Nat.{ℕ, _-_, _<_, _^_}
+use mathlib.Core.Path.{_≡_, ap, ap₂, _∙_}
 use native.Mathlib.Omega.{arith}
+use lib.ListN.{getD}
 use Rattle.layout.specs.Places.{countOf}
-use Rattle.epoch.specs.CensusCounts.{over-high, level-needs}
+use Rattle.epoch.specs.CensusCounts.{level-none, level-some}
 use borrow.Author.Needs.{needs}
 use Rattle.epoch.proofs.needs.level_pages.Statement.{statement}
 use Rattle.epoch.proofs.needs.level_pages.Tie as tie
 
--- at most 16 survivors on a page come
-few : (c : tie.After-count-survivors) → c .count-survivors .result ≤ 16384
-few c = omega (arith, c .count-survivors .ensures, over-high (c .before .before .before .before .before .before .args .p) (c .before .before .before .before .before .before .args .cells .now) (c .before .before .before .before .before .before .args .tables .now) (c .before .before .before .before .before .before .args .g) (c .before .before .before .before .before .before .args .p .pages), c .before .before .before .before .before .before .pre .0)
+-- what was read of come
+arrivals-is : (c : tie.After-wide2) → c .wide2 .result ≡ getD (c .before .before .before .before .before .args .come .now) (c .before .before .before .before .before .args .g) 0
+arrivals-is c = c .wide2 .ensures ∙ ap (λ (g : ℕ). getD (c .before .before .before .before .before .args .come .now) g 0) (c .before .before .wide .ensures)
+
+arrivals-fit : (c : tie.After-wide2) → c .wide2 .result < 2 ^ 32
+arrivals-fit c = omega (arith, c .wide2 .ensures, c .before .shared-slice-known3 .given (c .before .before .wide .result))
 
 wide-requires : tie.Need-wide-requires
 wide-requires c κs = search needs
 
-count-requires : tie.Need-count-requires
-count-requires c κs = search needs
+mul-wide : tie.Need-mul-wide
+mul-wide c = search needs
+
+shared-slice-read-wide : tie.Need-shared-slice-read-wide
+shared-slice-read-wide c = search needs
 
 wide-requires-2 : tie.Need-wide-requires-2
 wide-requires-2 c κs = search needs
 
-count-survivors-requires : tie.Need-count-survivors-requires
-count-survivors-requires c κs = search needs
+returns : tie.Need-returns
+returns c = (λ W a. level-none (c .before .before .before .before .before .before .args .p) W (c .before .before .before .before .before .before .args .tables .now) (c .before .before .before .before .before .before .args .g) (c .before .wide2 .result) (arrivals-is (c .before) ∙ a (c .before .before .before .before .before .before .args .g)) (c .if1 .taken), omega arith)
+
+count-requires : tie.Need-count-requires
+count-requires c κs = search needs
+
+wide-requires-3 : tie.Need-wide-requires-3
+wide-requires-3 c κs = search needs
 
 add-pages-for : tie.Need-add-pages-for
-add-pages-for c = omega (arith, few (c))
+add-pages-for c = omega (arith, arrivals-fit (c .before .before .before))
 
 pages-for-requires : tie.Need-pages-for-requires
-pages-for-requires c κs = omega (arith, few (c))
+pages-for-requires c κs = omega (arith, arrivals-fit (c .before .before .before))
 
 pages-for-requires-2 : tie.Need-pages-for-requires-2
 pages-for-requires-2 c κs = search needs
 
 sub-result : tie.Need-sub-result
-sub-result c = omega (arith, c .before .pages-for .ensures, c .pages-for2 .ensures)
+sub-result c = search needs
 
-returns : tie.Need-returns
-returns c =
-    ap₂ (λ (a b : ℕ). a - b) (c .before .pages-for .ensures) (c .pages-for2 .ensures)
-    ∙ level-needs (c .before .before .before .before .before .before .before .before .args .p) (c .before .before .before .before .before .before .before .before .args .cells .now) (c .before .before .before .before .before .before .before .before .args .tables .now) (c .before .before .before .before .before .before .before .before .args .g) (c .before .before .before .wide2 .result) (c .before .before .count-survivors .result)
-    (c .before .before .before .wide2 .ensures ∙ c .before .before .before .before .count .ensures ∙ ap (countOf (c .before .before .before .before .before .before .before .before .args .p) (c .before .before .before .before .before .before .before .before .args .tables .now)) (c .before .before .before .before .before .wide .ensures)) (c .before .before .count-survivors .ensures)
+returns-2 : tie.Need-returns-2
+returns-2 c =
+    let a = c .before .before .before .before .before .before .before .before .before .before .args in
+    let T = a .tables .now in
+    let come = c .before .before .before .before .before in
+    (λ W h. ap₂ (λ (a b : ℕ). a - b) (c .before .pages-for .ensures) (c .pages-for2 .ensures) ∙ level-some (a .p) W T (a .g) (c .before .before .before .before .before .wide2 .result) (arrivals-is come ∙ h (a .g)) (c .before .before .wide3 .result) (c .before .before .wide3 .ensures ∙ c .before .before .before .count .ensures ∙ ap (countOf (a .p) T) (c .before .before .before .before .before .before .before .wide .ensures)), omega (arith, arrivals-fit come, c .before .pages-for .ensures, c .pages-for2 .ensures))
 
 pub level-pages-spec : {M : Type 1} → statement M
 level-pages-spec =
     tie.close
     (tie.spec
     wide-requires
-    count-requires
+    mul-wide
+    shared-slice-read-wide
     wide-requires-2
-    count-survivors-requires
+    returns
+    count-requires
+    wide-requires-3
     add-pages-for
     pages-for-requires
     pages-for-requires-2
     sub-result
-    returns)
+    returns-2)
