@@ -223,6 +223,7 @@ static void by_heaps(void) {
     Imported imported;
     printf("\n| workload | commands | ours, ns a command | of these the check | by hand | ratio | ratio less the check |\n|---|--:|--:|--:|--:|--:|--:|\n");
     Times t = row(import_commands("import, blocks of 1,000", 1000, SHEETS, &imported));
+    row(import_commands("import, one block", 100000, SHEETS, &imported));
     row(import_commands("import of one sheet a thread, blocks of 5", 5, 1, &imported));
     row(end_fifteen("15 ends of 480 objects, few survive", 0));
     row(end_fifteen("15 ends of 480 objects, nine in ten survive", 1));
