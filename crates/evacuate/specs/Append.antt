@@ -15,7 +15,7 @@ use Rattle.layout.specs.Cells.{workOf, fieldOf, refsOf}
 use Rattle.promises.specs.Words.{InUse}
 use Rattle.evacuate.specs.Entries.{crossOf, Added, added-none, added-one, added-join, added-like, slot-below}
 use Rattle.evacuate.specs.RewriteSlots.{Field, Fields}
-use Rattle.evacuate.specs.RewriteCopies.{CopySlot, Old, Wiring, Grown, Between, Passed, passed-within, within-passed, unset-none, slots-apart, slot-less}
+use Rattle.evacuate.specs.RewriteCopies.{CopySlot, Old, Wiring, Grown, Between, Passed, passed-within, within-passed, unset-none, slots-apart, slot-less, unmarked-slots}
 
 -- the region into which the word at x crosses, if it is a slot
 abbrev pub crossAt : (p : Places) (W T : List ℕ) → ℕ → ℕ
@@ -221,6 +221,14 @@ pub copies-begin : (p : Places) (r n a j : ℕ) (W M T : List ℕ) → j ≤ n �
 copies-begin p r n a j W M T l =
     added-none (Crossing p (CopySlot p r (Between a a) W T) W T) j M l (λ x h q. omega (arith, q .at .among .0, q .at .among .1))
 
+-- a page without marks
+pub pages-passed : {p : Places} {r n i j : ℕ} {W T M M′ : List ℕ} → Wiring p r (Between 0 (16 * p .pages)) W T → (q : ℕ) → q < p .pages → markOf p T q ≡ 0
+    → Added n (Crossing p (CopySlot p r (Between 0 (16 * q)) W T) W T) i j M M′
+    → Added n (Crossing p (CopySlot p r (Between 0 (16 * (q + 1))) W T) W T) i j M M′
+pages-passed w q l z h =
+    added-like h (λ x g. lift (unmarked-slots w q l z) x g) (λ x g. lift (λ x s. slot-less (λ y m. (m .0, omega (arith, m .1))) x s) x g)
+
+-- a page after those below it
 module _ {p : Places} {r n q i j : ℕ} {W T M M′ : List ℕ} (w : Wiring p r (Between 0 (16 * p .pages)) W T) (lt : q < p .pages)
     (a : Appending p r n (CopySlot p r (Between 0 (16 * p .pages)) W T) W M T i)
     (h : Added n (Crossing p (CopySlot p r (Between 0 (16 * q)) W T) W T) i j M M′) where

@@ -44,11 +44,8 @@ release-start p r T =
     }
 
 module _ {p : Places} {r n : ℕ} {T T′ : List ℕ} (room : Room p (length T)) (lt : n < p .pages) (h : Released p r n T T′) where
-  -- page n as the code reads it is as it was
-  pub release-owner : ownerOf p T′ n ≡ ownerOf p T n
-  release-owner = h .kept n lt (λ l. absurd (let z : ⊥ = omega arith in z)) .owner
-
-  pub release-left : ownerOf p T′ n ≢ r → Released p r (n + 1) T T′
+  -- page n is not r's
+  pub release-left : ownerOf p T n ≢ r → Released p r (n + 1) T T′
   release-left ne =
       record {
         size = h .size;
@@ -58,7 +55,7 @@ module _ {p : Places} {r n : ℕ} {T T′ : List ℕ} (room : Room p (length T))
       }
     where
       freed′ : (q : ℕ) → q < n + 1 → ownerOf p T q ≡ r → Dec (q ≡ n) → Blank p T′ q
-      freed′ q l e (yes z) = absurd (ne (release-owner ∙ ap (λ (x : ℕ). ownerOf p T x) (sym z) ∙ e))
+      freed′ q l e (yes z) = absurd (ne (ap (λ (x : ℕ). ownerOf p T x) (sym z) ∙ e))
       freed′ q l e (no z) = h .freed q (omega arith) e
 
   X : List ℕ
@@ -96,7 +93,7 @@ module _ {p : Places} {r n : ℕ} {T T′ : List ℕ} (room : Room p (length T))
         marks = other (markAt p q) (λ e. omega arith) (λ e. omega arith) (λ e. ne (omega arith));
       }
 
-  pub release-page : ownerOf p T′ n ≡ r → Released p r (n + 1) T (set (set (set T′ (ownerAt p n) 0) (usedAt p n) 0) (markAt p n) 0)
+  pub release-page : ownerOf p T n ≡ r → Released p r (n + 1) T (set (set (set T′ (ownerAt p n) 0) (usedAt p n) 0) (markAt p n) 0)
   unfolding X Y Z
   release-page own =
       record {
@@ -114,7 +111,7 @@ module _ {p : Places} {r n : ℕ} {T T′ : List ℕ} (room : Room p (length T))
           record { owner = a .owner ∙ b .owner; used = a .used ∙ b .used; marks = a .marks ∙ b .marks }
 
       kept′ : (q : ℕ) → q < p .pages → (q < n + 1 → ownerOf p T q ≢ r) → Dec (q ≡ n) → Alike p T Z q
-      kept′ q l k (yes z) = absurd (k (omega arith) (ap (λ (x : ℕ). ownerOf p T x) z ∙ sym release-owner ∙ own))
+      kept′ q l k (yes z) = absurd (k (omega arith) (ap (λ (x : ℕ). ownerOf p T x) z ∙ own))
       kept′ q l k (no z) =
           let a = alike q l z in
           let b = h .kept q l (λ m. k (omega arith)) in

@@ -240,6 +240,25 @@ pub copies-start : (p : Places) (r a : ℕ) (W T : List ℕ) → Rewritten p r (
 copies-start p r a W T =
     rewritten-none p r (CopySlot p r (Between a a) W T) W T (λ x q. omega (arith, q .among .0, q .among .1))
 
+-- a page without marks has no copies
+pub unmarked-slots : {p : Places} {r : ℕ} {W T : List ℕ} → Wiring p r (Between 0 (16 * p .pages)) W T → (q : ℕ) → q < p .pages → markOf p T q ≡ 0
+    → (x : ℕ) → CopySlot p r (Between 0 (16 * (q + 1))) W T x → CopySlot p r (Between 0 (16 * q)) W T x
+unmarked-slots {p} {r} {W} {T} w q l z x s = record { cell = s .cell; among = (omega arith, below (decLt (s .cell) (16 * q))); old = s .old; field = s .field }
+  where
+    m : s .cell < 16 * (q + 1)
+    m = s .among .1
+
+    below : Dec (s .cell < 16 * q) → s .cell < 16 * q
+    below (yes d) = d
+    below (no d) =
+        let e : s .cell / 16 ≡ q = omega arith in
+        let on : copied p T (s .cell) ≡ 1 = w .only (s .cell) (omega arith, omega arith) (s .old) in
+        absurd (let y : ⊥ = omega (arith, ap (λ (v : ℕ). bitAt (markOf p T v) (16 + s .cell % 16)) e, ap (λ (v : ℕ). bitAt v (16 + s .cell % 16)) z, bit-zero (16 + s .cell % 16)) in y)
+
+pub pages-skip : {p : Places} {r : ℕ} {W T W′ : List ℕ} → Wiring p r (Between 0 (16 * p .pages)) W T → (q : ℕ) → q < p .pages → markOf p T q ≡ 0
+    → Rewritten p r (CopySlot p r (Between 0 (16 * q)) W T) W T W′ → Rewritten p r (CopySlot p r (Between 0 (16 * (q + 1))) W T) W T W′
+pages-skip w q l z h = rewritten-like h (unmarked-slots w q l z) (λ x s. slot-less (λ y m. (m .0, omega (arith, m .1))) x s)
+
 -- a page after those below it
 module _ {p : Places} {r q : ℕ} {W T W′ : List ℕ} (w : Wiring p r (Between 0 (16 * p .pages)) W T) (lt : q < p .pages)
     (h : Rewritten p r (CopySlot p r (Between 0 (16 * q)) W T) W T W′) where

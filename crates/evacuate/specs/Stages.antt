@@ -5,19 +5,20 @@ use mathlib.Core.List.{List}
 use Prim.Native.Nat.{ℕ, _+_, _-_, _*_, _/_, _%_, _≤_, _<_}
 use native.Mathlib.Omega.{arith}
 use lib.ListN.{length, getD}
+use Rattle.lists.specs.Part.{Off, Lists}
 use Rattle.layout.specs.declared.Places.{Places}
-use Rattle.layout.specs.Places.{Room, depthAt, varAt, depthOf, varOf, ownerOf, slotIn, slotRegionIn}
+use Rattle.layout.specs.Places.{Room, depthAt, varAt, ownerAt, depthOf, varOf, ownerOf, usedOf, markOf, slotIn, slotRegionIn}
 use Rattle.layout.specs.Cells.{workOf, fieldOf, refsOf}
 use Rattle.layout.specs.Marks.{marked}
 use Rattle.promises.specs.Words.{InUse}
 use Rattle.evacuate.specs.Passing.{Ready, moves-ready, moves-tables}
-use Rattle.evacuate.specs.Copying.{Plan, Copy}
+use Rattle.evacuate.specs.Copying.{Plan, Copy, copy-unmarked}
 use Rattle.evacuate.specs.Forward.{Forwards, forward, copy-forwards}
 use Rattle.evacuate.specs.Rewrite.{Names, Rewritten, rewritten-join, link-same, refs-same}
 use Rattle.evacuate.specs.Append.{Crosses}
 use Rattle.evacuate.specs.Update.{Copies, Updating, Updated}
 use Rattle.evacuate.specs.Release.{Ended}
-use Rattle.evacuate.specs.Links.{Start, old-survivor, copy-refs, forwards-wiring, copy-head, copies-cross, slots-out}
+use Rattle.evacuate.specs.Links.{Start, new-home, old-survivor, copy-refs, forwards-wiring, copy-head, copies-cross, slots-out}
 use Rattle.evacuate.specs.Table.{IsSlot, Listed, entry-cross, entry-apart, cross-value}
 use Rattle.evacuate.specs.RewriteSlots.{Remembered, Slots, Fields, Variables}
 use Rattle.evacuate.specs.RewriteCopies.{Old, Wiring, wiring-now, Between, slot-now, slot-then}
@@ -223,6 +224,46 @@ module _ {p : Places} {r n m l : ℕ} {gs : ℕ → ℕ} {W T M W₁ T₁ : List
   pub variables-ask : (i : ℕ) → i < p .threads * p .variables → Names p (varOf p T₁ i)
   variables-ask i l =
       subst (λ (y : ℕ). Names p y) (sym (F .copying .rest (varAt p i) (inl (omega (arith, a₀ .regular .room))))) (λ ne. b .variables i l ne .used .page)
+
+  -- ---- the listed pages, which are those of r
+
+  -- no survivor was copied off another page
+  pub marks-ask : {k : ℕ} {list : List ℕ} → Lists (λ q. ownerOf p T q ≡ r) (p .pages) k list → (q : ℕ) → q < p .pages → Off list k q → markOf p T₁ q ≡ 0
+  marks-ask o q l off =
+      copy-unmarked (b .plan) c q l
+      (λ x e on. o .all q l (subst (λ (y : ℕ). ownerOf p T y ≡ r) e (b .start .survivors x (omega arith) on)) off)
+
+  -- copies and variables leave them to r
+  pub pages-ask : {k : ℕ} {list W₃ T₂ : List ℕ} → Lists (λ q. ownerOf p T q ≡ r) (p .pages) k list → r ≢ 0 → Variables p (p .threads * p .variables) r W₃ T₁ T₂
+      → Lists (λ q. ownerOf p T₂ q ≡ r) (p .pages) k list
+  pages-ask {k} {list} {W₃} {T₂} o real w =
+      record {
+        rises = o .rises;
+        each = λ i l. let q = o .rises .low i l in same (getD list i 0) q ∙ mine (getD list i 0) q (o .each i l);
+        all = λ q l e. o .all q l (yours q l (sym (same q l) ∙ e));
+      }
+    where
+      same : (q : ℕ) → q < p .pages → ownerOf p T₂ q ≡ ownerOf p T₁ q
+      same q l = w .same (ownerAt p q) (λ z. omega (arith, a₀ .regular .room))
+
+      -- the first cell of a page that is not free
+      first : (X : List ℕ) (q : ℕ) → q < p .pages → 1 ≤ usedOf p X q → InUse p X (16 * q)
+      first X q l u =
+          let e : 16 * q / 16 ≡ q = omega arith in
+          record { page = omega arith; place = omega (arith, ap (λ (y : ℕ). usedOf p X y) e) }
+
+      page : (X : List ℕ) (q : ℕ) → ownerOf p X (16 * q / 16) ≡ ownerOf p X q
+      page X q = ap (λ (y : ℕ). ownerOf p X y) (let e : 16 * q / 16 ≡ q = omega arith in e)
+
+      mine : (q : ℕ) → q < p .pages → ownerOf p T q ≡ r → ownerOf p T₁ q ≡ r
+      mine q l e =
+          sym (page T₁ q) ∙ F .copying .owner (16 * q) (first T q l (a₀ .regular .taken q l (λ z. real (sym e ∙ z)))) ∙ page T q ∙ e
+
+      yours : (q : ℕ) → q < p .pages → ownerOf p T₁ q ≡ r → ownerOf p T q ≡ r
+      yours q l e =
+          ⊎-elim (λ u. sym (page T q) ∙ sym (F .copying .owner (16 * q) u) ∙ page T₁ q ∙ e)
+          (λ v. absurd (new-home (b .start) a₀ a₁ F (v .0) (v .1) (v .2) (ap (λ (y : ℕ). ownerOf p T₁ (y / 16)) (v .3) ∙ page T₁ q ∙ e)))
+          (F .only (16 * q) (first T₁ q l (a₁ .regular .taken q l (λ z. real (sym e ∙ z)))))
 
 -- the words after each stage: copied, remembered slots rewritten, copies' slots rewritten, remember table, variables, released
 pub record Finished (p : Places) (r n m l t : ℕ) (gs : ℕ → ℕ) (W M T W′ M′ T′ : List ℕ) : Type 0 where

@@ -1,8 +1,9 @@
 // Remember: entries of the ending region's slots go, entries into it get their new region or go, the copies' crossing slots come.
 ghost use mathlib.Core.Path.{_≡_};
-ghost use Prim.Native.Nat.{_+_, _*_, _<_, _≤_, max};
+ghost use Prim.Native.Nat.{ℕ, _+_, _*_, _<_, _≤_, max};
 ghost use lib.ListN.{length, getD};
-ghost use Rattle.layout.specs.Places.{Room, usedIn};
+ghost use Rattle.lists.specs.Part.{Rises, Off};
+ghost use Rattle.layout.specs.Places.{Room, markOf, usedIn};
 ghost use Rattle.layout.specs.Cells.{refsOf};
 ghost use Rattle.evacuate.specs.Rewrite.{Names};
 ghost use Rattle.evacuate.specs.Entries.{crossOf, newRegion, Added, Stays, Entries, Cleared};
@@ -164,25 +165,28 @@ pub fn remember_page(
     i
 }
 
-// Those of all copies.
+// Those of all copies: the listed pages are those with survivors.
 pub fn remember_copies(
     p: Places,
     cells: &[u32],
     remember: &mut [u32],
     tables: &[u32],
+    list: &[u32],
+    n: usize,
     region: u32,
     j: usize,
 ) -> usize
     requires { ⌜ Appending p region (p .entries) (CopySlot p region (Between 0 (16 * p .pages)) (now cells) (now tables)) (now cells) (now remember) (now tables) j ⌝ }
     requires { ⌜ Wiring p region (Between 0 (16 * p .pages)) (now cells) (now tables) ⌝ }
+    requires { ⌜ Rises (p .pages) n (now list) ⌝ }
+    requires { ⌜ ((page : ℕ) → page < p .pages → Off (now list) n page → markOf p (now tables) page ≡ 0) ⌝ }
     ensures { λ i. ⌜ Added (p .entries) (Crossing p (CopySlot p region (Between 0 (16 * p .pages)) (now (cells .entry)) (now (tables .entry))) (now (cells .entry)) (now (tables .entry))) j i (now (remember .entry)) (now (remember .exit)) ⌝ }
 {
-    let pages = p.pages;
     let mut i = j;
-    let mut page: usize = 0;
-    while page < pages {
-        i = remember_page(p, cells, remember, tables, region, page, i);
-        page += 1;
+    let mut k: usize = 0;
+    while k < n {
+        i = remember_page(p, cells, remember, tables, region, layout::wide(list[k]), i);
+        k += 1;
     }
     i
 }
@@ -194,14 +198,24 @@ fn larger(a: usize, b: usize) -> usize
 }
 
 // The remember table after the end.
-pub fn update_remember(p: Places, cells: &[u32], remember: &mut [u32], tables: &[u32], region: u32)
+pub fn update_remember(
+    p: Places,
+    cells: &[u32],
+    remember: &mut [u32],
+    tables: &[u32],
+    list: &[u32],
+    n: usize,
+    region: u32,
+)
     requires { ⌜ Updating p region (p .entries) (usedIn (now remember)) (now cells) (now remember) (now tables) ⌝ }
+    requires { ⌜ Rises (p .pages) n (now list) ⌝ }
+    requires { ⌜ ((page : ℕ) → page < p .pages → Off (now list) n page → markOf p (now tables) page ≡ 0) ⌝ }
     ensures { λ _. ⌜ Updated p region (p .entries) (usedIn (now (remember .entry))) (now (cells .entry)) (now (remember .entry)) (now (tables .entry)) (now (remember .exit)) ⌝ }
 {
     let entries = p.entries;
     let used = layout::wide(layout::remember::used(remember));
     let kept = filter_entries(p, cells, remember, tables, region, used);
-    let all = remember_copies(p, cells, remember, tables, region, kept);
+    let all = remember_copies(p, cells, remember, tables, list, n, region, kept);
     clear_entries(entries, remember, all, larger(all, used));
     layout::remember::set_used(remember, all as u32);
 }

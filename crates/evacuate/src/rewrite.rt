@@ -3,7 +3,8 @@
 ghost use mathlib.Core.Path.{_≡_};
 ghost use Prim.Native.Nat.{ℕ, _+_, _*_, _<_, _≤_};
 ghost use lib.ListN.{length};
-ghost use Rattle.layout.specs.Places.{Room, varOf, usedIn};
+ghost use Rattle.lists.specs.Part.{Rises, Off};
+ghost use Rattle.layout.specs.Places.{Room, varOf, usedIn, markOf};
 ghost use Rattle.layout.specs.Cells.{refsOf};
 ghost use Rattle.evacuate.specs.Rewrite.{Names, moveRef, Rewritten};
 ghost use Rattle.evacuate.specs.RewriteSlots.{Remembered, Slots, Field, Fields, Variables};
@@ -86,16 +87,24 @@ pub fn rewrite_page(p: Places, cells: &mut [u32], tables: &[u32], region: u32, p
     }
 }
 
-// The reference fields of all copies.
-pub fn rewrite_copies(p: Places, cells: &mut [u32], tables: &[u32], region: u32)
+// The reference fields of all copies: the listed pages are those with survivors.
+pub fn rewrite_copies(
+    p: Places,
+    cells: &mut [u32],
+    tables: &[u32],
+    list: &[u32],
+    n: usize,
+    region: u32,
+)
     requires { ⌜ Wiring p region (Between 0 (16 * p .pages)) (now cells) (now tables) ⌝ }
+    requires { ⌜ Rises (p .pages) n (now list) ⌝ }
+    requires { ⌜ ((page : ℕ) → page < p .pages → Off (now list) n page → markOf p (now tables) page ≡ 0) ⌝ }
     ensures { λ _. ⌜ Rewritten p region (CopySlot p region (Between 0 (16 * p .pages)) (now (cells .entry)) (now (tables .entry))) (now (cells .entry)) (now (tables .entry)) (now (cells .exit)) ⌝ }
 {
-    let pages = p.pages;
-    let mut page: usize = 0;
-    while page < pages {
-        rewrite_page(p, cells, tables, region, page);
-        page += 1;
+    let mut i: usize = 0;
+    while i < n {
+        rewrite_page(p, cells, tables, region, layout::wide(list[i]));
+        i += 1;
     }
 }
 

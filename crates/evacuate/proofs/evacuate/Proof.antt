@@ -2,44 +2,51 @@
 use native.Mathlib.Omega.{arith}
 use borrow.Author.Needs.{needs}
 use Prim.Native.Nat.{ℕ}
-use mathlib.Core.Path.{_≡_, sym, ap, _∙_, subst₂}
+use mathlib.Core.Path.{_≡_, sym, ap, _∙_, subst, subst₂}
+use mathlib.Core.Logic.{_≢_}
+use Rattle.lists.specs.Part.{Lists}
 use Rattle.rules.specs.Regions.{regionAt}
-use Rattle.layout.specs.Places.{depthOf, usedIn, sizesOf}
+use Rattle.layout.specs.Places.{depthOf, ownerOf, usedIn, sizesOf}
 use Rattle.evacuate.specs.Copying.{region-bounds}
-use Rattle.evacuate.specs.Stages.{Before, Finished, slots-ask, tables-ask, copies-ask, rewritten-both, update-ask, variables-ask, release-ask, finished}
+use Rattle.evacuate.specs.Stages.{Before, Finished, slots-ask, tables-ask, copies-ask, rewritten-both, update-ask, marks-ask, pages-ask, variables-ask, release-ask, finished}
 use Rattle.evacuate.proofs.evacuate.Statement.{statement}
 use Rattle.evacuate.proofs.evacuate.Tie as tie
 
-level : (c : tie.After-region-at) → (let a = c .before .before .before .before .before .before .before .args in c .region-at .result ≡ regionAt (sizesOf (a .p)) (a .thread) (depthOf (a .tables .now) (a .thread)))
-level c = let a = c .before .before .before .before .before .before .before .args in c .region-at .ensures ∙ ap (regionAt (sizesOf (a .p)) (a .thread)) (c .before .wide .ensures ∙ c .before .before .depth .ensures)
+level : (c : tie.After-region-at) → (let a = c .before .before .before .before .before .before .before .before .args in c .region-at .result ≡ regionAt (sizesOf (a .p)) (a .thread) (depthOf (a .tables .now) (a .thread)))
+level c = let a = c .before .before .before .before .before .before .before .before .args in c .region-at .ensures ∙ ap (regionAt (sizesOf (a .p)) (a .thread)) (c .before .wide .ensures ∙ c .before .before .depth .ensures)
 
 begun : (c : tie.After-region-at)
-    → (let a = c .before .before .before .before .before .before .before .args in
+    → (let a = c .before .before .before .before .before .before .before .before .args in
     Before (a .p) (c .region-at .result) (a .p .entries) (usedIn (a .remember .now)) (c .before .wide .result) (regionAt (sizesOf (a .p)) (a .thread)) (a .cells .now) (a .remember .now) (a .tables .now))
 begun c =
-    let a = c .before .before .before .before .before .before .before .args in
+    let a = c .before .before .before .before .before .before .before .before .args in
     subst₂
     (λ (g l : ℕ). Before (a .p) g (a .p .entries) (usedIn (a .remember .now)) l (regionAt (sizesOf (a .p)) (a .thread)) (a .cells .now) (a .remember .now) (a .tables .now))
-    (sym (level c)) (sym (c .before .wide .ensures ∙ c .before .before .depth .ensures)) (c .before .before .before .before .before .before .before .pre .0)
+    (sym (level c)) (sym (c .before .wide .ensures ∙ c .before .before .depth .ensures)) (c .before .before .before .before .before .before .before .before .pre .0)
+
+listed : (c : tie.After-region-at) → (let a = c .before .before .before .before .before .before .before .before .args in Lists (λ page. ownerOf (a .p) (a .tables .now) page ≡ c .region-at .result) (a .p .pages) (a .n) (a .list .now))
+listed c =
+    let a = c .before .before .before .before .before .before .before .before .args in
+    subst (λ (g : ℕ). Lists (λ page. ownerOf (a .p) (a .tables .now) page ≡ g) (a .p .pages) (a .n) (a .list .now)) (sym (level c)) (c .before .before .before .before .before .before .before .before .pre .1 .1)
 
 depth-requires : tie.Need-depth-requires
 depth-requires c κs =
-    let pre = c .before .before .before .before .pre in
-    (pre .0 .plan .ready .regular .room, pre .1 .0)
+    let pre = c .before .before .before .before .before .pre in
+    (pre .0 .plan .ready .regular .room, pre .1 .0 .0)
 
 wide-requires : tie.Need-wide-requires
 wide-requires c κs = search needs
 
 region-at-requires : tie.Need-region-at-requires
 region-at-requires c κs =
-    let pre = c .before .before .before .before .before .before .pre in
+    let pre = c .before .before .before .before .before .before .before .pre in
     let rm = pre .0 .plan .ready .regular .room in
-    (rm .threads-high, rm .depth-high, pre .1 .0, omega (arith, pre .1 .2, c .wide .ensures, c .before .depth .ensures))
+    (rm .threads-high, rm .depth-high, pre .1 .0 .0, omega (arith, pre .1 .0 .2, c .wide .ensures, c .before .depth .ensures))
 
 copy-survivors-requires : tie.Need-copy-survivors-requires
 copy-survivors-requires c κs =
-    let pre = c .before .before .before .before .before .before .before .before .before .pre in
-    (begun (c .before .before) .plan, (pre .1 .0, omega (arith, pre .1 .2, c .before .before .before .wide .ensures, c .before .before .before .before .depth .ensures)))
+    let pre = c .before .before .before .before .before .before .before .before .before .before .pre in
+    (begun (c .before .before) .plan, (pre .1 .0 .0, omega (arith, pre .1 .0 .2, c .before .before .before .wide .ensures, c .before .before .before .before .depth .ensures)))
 
 rewrite-slots-requires : tie.Need-rewrite-slots-requires
 rewrite-slots-requires c κs =
@@ -47,13 +54,18 @@ rewrite-slots-requires c κs =
     (slots-ask (begun (c .before .before .before .before .before .before .before .before .before .before)) (copy-survivors .ensures), tables-ask (begun (c .before .before .before .before .before .before .before .before .before .before)) (copy-survivors .ensures))
 
 rewrite-copies-requires : tie.Need-rewrite-copies-requires
-rewrite-copies-requires c κs = copies-ask (begun (c .before .before .before .before .before .before .before .before .before .before .before .before .before .before .before)) (c .before .before .before .before .before .before .before .before .before .before .before .before .copy-survivors .ensures) (c .before .before .before .before .rewrite-slots .ensures)
+rewrite-copies-requires c κs =
+    let b = begun (c .before .before .before .before .before .before .before .before .before .before .before .before .before .before .before) in
+    let k = c .before .before .before .before .before .before .before .before .before .before .before .before .copy-survivors .ensures in
+    let o = listed (c .before .before .before .before .before .before .before .before .before .before .before .before .before .before .before) in
+    (copies-ask b k (c .before .before .before .before .rewrite-slots .ensures), (o .rises, marks-ask b k o))
 
 update-remember-requires : tie.Need-update-remember-requires
 update-remember-requires c κs =
     let b = begun (c .before .before .before .before .before .before .before .before .before .before .before .before .before .before .before .before .before .before .before .before .before) in
     let k = c .before .before .before .before .before .before .before .before .before .before .before .before .before .before .before .before .before .before .copy-survivors .ensures in
-    update-ask b k (rewritten-both b k (c .before .before .before .before .before .before .before .before .before .before .rewrite-slots .ensures) (c .before .before .before .before .before .rewrite-copies .ensures))
+    let o = listed (c .before .before .before .before .before .before .before .before .before .before .before .before .before .before .before .before .before .before .before .before .before) in
+    (update-ask b k (rewritten-both b k (c .before .before .before .before .before .before .before .before .before .before .rewrite-slots .ensures) (c .before .before .before .before .before .rewrite-copies .ensures)), (o .rises, marks-ask b k o))
 
 rewrite-variables-requires : tie.Need-rewrite-variables-requires
 rewrite-variables-requires c κs =
@@ -64,14 +76,15 @@ rewrite-variables-requires c κs =
 
 release-requires : tie.Need-release-requires
 release-requires c κs =
-    let pre = c .before .before .before .before .before .before .before .before .before .before .before .before .before .before .before .before .before .before .before .before .before .before .before .before .before .before .before .before .before .before .before .before .before .before .before .before .before .pre in
-    let a = c .before .before .before .before .before .before .before .before .before .before .before .before .before .before .before .before .before .before .before .before .before .before .before .before .before .before .before .before .before .before .before .before .before .before .before .before .before .args in
+    let pre = c .before .before .before .before .before .before .before .before .before .before .before .before .before .before .before .before .before .before .before .before .before .before .before .before .before .before .before .before .before .before .before .before .before .before .before .before .before .before .pre in
+    let a = c .before .before .before .before .before .before .before .before .before .before .before .before .before .before .before .before .before .before .before .before .before .before .before .before .before .before .before .before .before .before .before .before .before .before .before .before .before .before .args in
     let b = begun (c .before .before .before .before .before .before .before .before .before .before .before .before .before .before .before .before .before .before .before .before .before .before .before .before .before .before .before .before .before .before) in
     let k = c .before .before .before .before .before .before .before .before .before .before .before .before .before .before .before .before .before .before .before .before .before .before .before .before .before .before .before .copy-survivors .ensures in
-    let z = release-ask (a .thread) b k (pre .1 .0) (pre .1 .1) (c .before .before .before .rewrite-variables .ensures) in
-    let g = region-bounds (a .p) (a .thread) (depthOf (a .tables .now) (a .thread)) (pre .1 .0) (pre .1 .2) in
+    let z = release-ask (a .thread) b k (pre .1 .0 .0) (pre .1 .0 .1) (c .before .before .before .rewrite-variables .ensures) in
+    let g = region-bounds (a .p) (a .thread) (depthOf (a .tables .now) (a .thread)) (pre .1 .0 .0) (pre .1 .0 .2) in
     let e = level (c .before .before .before .before .before .before .before .before .before .before .before .before .before .before .before .before .before .before .before .before .before .before .before .before .before .before .before .before .before .before) in
-    (z .0, ((omega (arith, g .0), omega (arith, g .1)), (pre .1 .0, omega (arith, z .1, pre .1 .1))))
+    let real : c .before .before .before .before .before .before .before .before .before .before .before .before .before .before .before .before .before .before .before .before .before .before .before .before .before .before .before .before .before .before .region-at .result ≢ 0 = (λ y. omega (arith, g .0)) in
+    (z .0, (pages-ask b k (listed (c .before .before .before .before .before .before .before .before .before .before .before .before .before .before .before .before .before .before .before .before .before .before .before .before .before .before .before .before .before .before)) real (c .before .before .before .rewrite-variables .ensures), ((omega (arith, g .0), omega (arith, g .1)), (pre .1 .0 .0, omega (arith, z .1, pre .1 .0 .1)))))
 
 same-length : tie.Need-same-length
 same-length c =
@@ -95,7 +108,7 @@ returns c =
     let rewrite-variables = c .before .before .before .before .before .before .rewrite-variables in
     let rewrite-copies = c .before .before .before .before .before .before .before .before .before .before .before .before .before .before .before .before .before .rewrite-copies in
     let update-remember = c .before .before .before .before .before .before .before .before .before .before .before .update-remember in
-    let a = c .before .before .before .before .before .before .before .before .before .before .before .before .before .before .before .before .before .before .before .before .before .before .before .before .before .before .before .before .before .before .before .before .before .before .before .before .before .before .before .before .args in
+    let a = c .before .before .before .before .before .before .before .before .before .before .before .before .before .before .before .before .before .before .before .before .before .before .before .before .before .before .before .before .before .before .before .before .before .before .before .before .before .before .before .before .before .args in
     let b = begun (c .before .before .before .before .before .before .before .before .before .before .before .before .before .before .before .before .before .before .before .before .before .before .before .before .before .before .before .before .before .before .before .before .before) in
     let k = copy-survivors .ensures in
     let F : ℕ → ℕ → Type 0 =
