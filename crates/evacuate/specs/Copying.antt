@@ -21,7 +21,7 @@ use Rattle.evacuate.specs.Marks.{copied, mark?, all-clear, hits}
 use Rattle.evacuate.specs.Taking.{regionsOf, pagesOwned, Next}
 use Rattle.evacuate.specs.Cursor.{Points, Seeking}
 use Rattle.evacuate.specs.Moves.{Movable, Step, step-off, step-on, step-points}
-use Rattle.evacuate.specs.Passing.{Ready, Moves, Moves.none, Moves.more, order, moves-later, moves-append, moves-map, moves-ready, moves-back, moves-bits, moves-marks, step-back, Others, moves-others, Spent, moves-spent, Passing, moves-passing, passing-usable, passing-movable, Pass}
+use Rattle.evacuate.specs.Passing.{Ready, Moves, Moves.none, Moves.more, order, moves-later, moves-append, moves-map, moves-ready, moves-back, moves-bits, moves-marks, step-back, Others, moves-others, Spent, moves-spent, Passing, moves-passing, hit-some, passing-usable, passing-movable, Pass}
 
 -- ---- one page
 
@@ -31,18 +31,18 @@ marked-at p T q i l =
     let m : (16 * q + i) % 16 ≡ i = omega arith in
     ap₂ (λ (x y : ℕ). bitAt (markOf p T x) y) d m
 
--- the survivors on page q that go to g moved, but for those at the bits that are left; the cursor points at page with the bound top
-pub record PageMoves (p : Places) (g q left page top : ℕ) (W T W′ T′ : List ℕ) : Type 0 where
+-- the survivors on page q that go to g moved, but for those at the bits that are left; the pass is at page
+pub record PageMoves (p : Places) (g q left page : ℕ) (W T W′ T′ : List ℕ) : Type 0 where
   pub last : ℕ
   pub moves : Moves p (λ h. h ≡ g) (order g (16 * q)) W T last W′ T′
   pub later : (i : ℕ) → i < 16 → bitAt left i ≡ 1 → last ≤ order g (16 * q + i)
   pub high : last ≤ order g (16 * (q + 1))
-  pub points : Points p T′ g page top
+  pub points : Points p T′ g page
   pub bits : (i : ℕ) → i < 16 → bitAt left i ≡ 1 → marked p T′ (16 * q + i) ≡ 1
   pub done : (i : ℕ) → i < 16 → bitAt left i ≡ 0 → marked p T′ (16 * q + i) ≡ 1 → workOf W′ (16 * q + i) ≢ g
 
-pub page-begin : {p : Places} {g : ℕ} (q : ℕ) {page top : ℕ} {W T : List ℕ} → Points p T g page top → PageMoves p g q (markOf p T q % 2 ^ 16) page top W T W T
-page-begin {p} {g} q {page} {top} {W} {T} a =
+pub page-begin : {p : Places} {g : ℕ} (q : ℕ) {page : ℕ} {W T : List ℕ} → Points p T g page → PageMoves p g q (markOf p T q % 2 ^ 16) page W T W T
+page-begin {p} {g} q {page} {W} {T} a =
     record {
       last = order g (16 * q);
       moves = none {m = order g (16 * q)} (omega arith);
@@ -53,18 +53,20 @@ page-begin {p} {g} q {page} {top} {W} {T} a =
       done = λ i l e on. absurd (let z : ⊥ = omega (arith, marked-at p T q i l, lower-bit (markOf p T q) i l) in z);
     }
 
-module _ {p : Places} {g q left page top : ℕ} {W T W′ T′ : List ℕ} (a : Passing p g W T) (lt : q < p .pages) (i x : ℕ) (e : x ≡ 16 * q + i)
-    (l : Lowest left i) (low : i ≡ trailingZeros 32 left) (h : PageMoves p g q left page top W T W′ T′) where
+module _ {p : Places} {g q left page : ℕ} {W T W′ T′ : List ℕ} (a : Passing p g W T) (lt : q < p .pages) (i x : ℕ) (e : x ≡ 16 * q + i)
+    (l : Lowest left i) (low : i ≡ trailingZeros 32 left) (h : PageMoves p g q left page W T W′ T′) where
   page-on : marked p T′ x ≡ 1
   page-on = subst (λ (y : ℕ). marked p T′ y ≡ 1) (sym e) (h .bits i (l .lt) (l .on))
 
   now : Passing p g W′ T′
   now = moves-passing a (h .moves)
 
-  pub page-seeking : workOf W′ x ≡ g → Seeking p g T′ page top
+  pub page-seeking : workOf W′ x ≡ g → Seeking p g T′ page
   page-seeking t =
       record {
         regular = now .ready .regular;
+        real = a .real;
+        low = a .low;
         usable = passing-usable now x (omega (arith, l .lt)) page-on t;
         points = h .points;
       }
@@ -83,15 +85,14 @@ module _ {p : Places} {g q left page top : ℕ} {W T W′ T′ : List ℕ} (a : 
           absurd (let y : bitAt left j ≡ 0 = trailing-low 32 left j (omega arith) in let w : ⊥ = omega (arith, clear-other i j left (l .on) n) in w)
       go (no n) (no m) = (sym (clear-other i j left (l .on) n) ∙ b, omega arith)
 
-  pub page-moved : {n m : ℕ} {W″ T″ : List ℕ} → Step p g n x W′ T′ W″ T″ → Points p T′ g n m
-      → PageMoves p g q (left - 2 ^ i) n m W T W″ T″
-  page-moved {n} {m} {W″} {T″} s pts =
+  pub page-moved : {n : ℕ} {W″ T″ : List ℕ} → Step p g n x W′ T′ W″ T″ → PageMoves p g q (left - 2 ^ i) n W T W″ T″
+  page-moved {n} {W″} {T″} s =
       record {
         last = order g x + 1;
         moves = more {k = order g x + 1} {c = x} (h .moves) refl (omega (arith, h .later i (l .lt) (l .on))) (omega arith) s;
         later = λ j lj b. omega (arith, still j b .1);
         high = omega (arith, l .lt);
-        points = step-points s pts;
+        points = step-points s;
         bits = λ j lj b.
             let u = still j b in
             step-on s (16 * q + j) (omega arith) (λ z. omega (arith, u .1)) ∙ h .bits j lj (u .0);
@@ -106,7 +107,7 @@ module _ {p : Places} {g q left page top : ℕ} {W T W′ T′ : List ℕ} (a : 
           let u = step-back (moves-ready (a .ready) (h .moves)) s (16 * q + j) (omega arith) on in
           λ z. h .done j lj (sym (clear-other i j left (l .on) n) ∙ b) (u .0) (sym (u .1) ∙ z)
 
-  pub page-left : workOf W′ x ≢ g → PageMoves p g q (left - 2 ^ i) page top W T W′ T′
+  pub page-left : workOf W′ x ≢ g → PageMoves p g q (left - 2 ^ i) page W T W′ T′
   page-left ne =
       record {
         last = h .last;
@@ -122,13 +123,13 @@ module _ {p : Places} {g q left page top : ℕ} {W T W′ T′ : List ℕ} (a : 
       done′ j lj b on (yes z) = subst (λ (y : ℕ). workOf W′ y ≢ g) (let v : x ≡ 16 * q + j = omega arith in v) ne
       done′ j lj b on (no n) = h .done j lj (sym (clear-other i j left (l .on) n) ∙ b) on
 
--- the survivors of page q that go to g, with the cursor
-pub record PagePass (p : Places) (g q page top : ℕ) (W T W′ T′ : List ℕ) : Type 0 where
+-- the survivors of page q that go to g moved; the pass is at page
+pub record PagePass (p : Places) (g q page : ℕ) (W T W′ T′ : List ℕ) : Type 0 where
   pub pass : Pass p g (λ c. c / 16 ≡ q) (order g (16 * q)) (order g (16 * (q + 1))) W T W′ T′
-  pub points : Points p T′ g page top
+  pub points : Points p T′ g page
 
-pub page-pass : {p : Places} {g q left page top : ℕ} {W T W′ T′ : List ℕ} → left ≡ 0 → PageMoves p g q left page top W T W′ T′ → PagePass p g q page top W T W′ T′
-page-pass {p} {g} {q} {left} {page} {top} {W} {T} {W′} {T′} z h =
+pub page-pass : {p : Places} {g q left page : ℕ} {W T W′ T′ : List ℕ} → left ≡ 0 → PageMoves p g q left page W T W′ T′ → PagePass p g q page W T W′ T′
+page-pass {p} {g} {q} {left} {page} {W} {T} {W′} {T′} z h =
     record {
       pass =
           record {
@@ -143,16 +144,16 @@ page-pass {p} {g} {q} {left} {page} {top} {W} {T} {W′} {T′} z h =
 
 -- ---- all pages: those below q are done
 
-pub record PassMoves (p : Places) (g q page top : ℕ) (W T W′ T′ : List ℕ) : Type 0 where
+pub record PassMoves (p : Places) (g q page : ℕ) (W T W′ T′ : List ℕ) : Type 0 where
   pub pass : Pass p g (λ c. c / 16 < q) (order g 0) (order g (16 * q)) W T W′ T′
-  pub points : Points p T′ g page top
+  pub points : Points p T′ g page
 
-pub pass-begin : {p : Places} {g page top : ℕ} {W T : List ℕ} → Points p T g page top → PassMoves p g 0 page top W T W T
+pub pass-begin : {p : Places} {g page : ℕ} {W T : List ℕ} → Points p T g page → PassMoves p g 0 page W T W T
 pass-begin {g = g} a = record { pass = record { moves = none {m = order g (16 * 0)} (omega arith); done = λ c l. absurd (let z : ⊥ = omega arith in z) }; points = a }
 
-pub pass-next : {p : Places} {g q page top n m : ℕ} {W T W′ T′ W″ T″ : List ℕ} → Ready p W T → PassMoves p g q page top W T W′ T′ → PagePass p g q n m W′ T′ W″ T″
-    → PassMoves p g (q + 1) n m W T W″ T″
-pass-next {p} {g} {q} {page} {top} {n} {m} {W} {T} {W′} {T′} {W″} {T″} a b d =
+pub pass-next : {p : Places} {g q page n : ℕ} {W T W′ T′ W″ T″ : List ℕ} → Ready p W T → PassMoves p g q page W T W′ T′ → PagePass p g q n W′ T′ W″ T″
+    → PassMoves p g (q + 1) n W T W″ T″
+pass-next {p} {g} {q} {page} {n} {W} {T} {W′} {T′} {W″} {T″} a b d =
     record {
       pass =
           record {
@@ -167,6 +168,22 @@ pass-next {p} {g} {q} {page} {top} {n} {m} {W} {T} {W′} {T′} {W″} {T″} a
     go c l lp on (no n) =
         let u = moves-back (moves-ready a (b .pass .moves)) (d .pass .moves) c lp on in
         λ z. b .pass .done c (omega arith) lp (u .0) (sym (u .1) ∙ z)
+
+-- a page without marks has no survivors
+pub no-marks : (p : Places) (T : List ℕ) (q : ℕ) → markOf p T q ≡ 0 → (c : ℕ) → c / 16 ≡ q → marked p T c ≡ 1 → ⊥
+no-marks p T q z c e on =
+    omega (arith, ap (λ (x : ℕ). bitAt (markOf p T x) (c % 16)) e, ap (λ (x : ℕ). bitAt x (c % 16)) z, bit-zero (c % 16))
+
+pub pass-skip : {p : Places} {g q page : ℕ} {W T W′ T′ : List ℕ} → Ready p W T → markOf p T q ≡ 0 → PassMoves p g q page W T W′ T′ → PassMoves p g (q + 1) page W T W′ T′
+pass-skip {p} {g} {q} {page} {W} {T} {W′} {T′} a z b =
+    record {
+      pass = record { moves = moves-later (omega arith) (b .pass .moves); done = λ c l lp on. go c l lp on (ℕ-discrete (c / 16) q) };
+      points = b .points;
+    }
+  where
+    go : (c : ℕ) → c / 16 < q + 1 → c / 16 < p .pages → marked p T′ c ≡ 1 → Dec (c / 16 ≡ q) → workOf W′ c ≢ g
+    go c l lp on (yes e) = absurd (no-marks p T q z c e (moves-back a (b .pass .moves) c lp on .0))
+    go c l lp on (no n) = b .pass .done c (omega arith) lp on
 
 -- ---- all targets: gs l for l below n, rising
 
@@ -253,6 +270,23 @@ module _ {p : Places} {n : ℕ} {gs : ℕ → ℕ} {l : ℕ} {W T W′ T′ : Li
           let u = moves-back (copy-passing .ready) (d .moves) c lp on in
           λ z. b .done j (omega arith) c lp (u .0) (sym (u .1) ∙ z)
 
+  -- a target that nobody goes to
+  pub copy-skip : hits p W T (gs l) ≡ 0 → Copy p n gs (l + 1) W T W′ T′
+  copy-skip z =
+      record {
+        last = b .last;
+        moves = moves-map (λ g q. (q .0, omega (arith, q .1), q .2)) (b .moves);
+        later = λ j u v. b .later j (omega arith) v;
+        done = λ j lj c lp on. go j lj c lp on (ℕ-discrete j l);
+        budget = omega (arith, b .budget, sum-more (λ i. need p (gs i) W T) l);
+      }
+    where
+      go : (j : ℕ) → j < l + 1 → (c : ℕ) → c / 16 < p .pages → marked p T′ c ≡ 1 → Dec (j ≡ l) → workOf W′ c ≢ gs j
+      go j lj c lp on (yes e) =
+          let u = moves-back (a .ready) (b .moves) c lp on in
+          λ y. hit-some p W T (gs l) c lp (u .0) (sym (u .1) ∙ y ∙ ap gs e) z
+      go j lj c lp on (no ne) = b .done j (omega arith) c lp on
+
 -- after all targets no survivor waits
 pub copy-clean : {p : Places} {n : ℕ} {gs : ℕ → ℕ} {W T W′ T′ : List ℕ} → Plan p n gs W T → Copy p n gs n W T W′ T′ → (c : ℕ) → c / 16 < p .pages → marked p T′ c ≡ 0
 copy-clean {p} {n} {gs} {W} {T} {W′} {T′} a b c l =
@@ -273,13 +307,15 @@ copy-copied {p} {T = T} a b c l =
       none-high 16 (markOf p T (c / 16)) (16 + c % 16) (a .small (c / 16) l) (omega arith),
     )
 
--- the mark word of a page without survivors
-pub copy-unmarked : {p : Places} {n : ℕ} {gs : ℕ → ℕ} {W T W′ T′ : List ℕ} → Plan p n gs W T → Copy p n gs n W T W′ T′ → (q : ℕ) → q < p .pages
-    → ((c : ℕ) → c / 16 ≡ q → marked p T c ≡ 1 → ⊥) → markOf p T′ q ≡ 0
-copy-unmarked {p} {T = T} a b q l off =
-    moves-marks (a .ready) (b .moves) q l off
-    ∙ all-clear 16 (markOf p T q) (a .small q l)
+-- a page without survivors has no mark, and gets none
+pub no-survivors : {p : Places} {n : ℕ} {gs : ℕ → ℕ} {W T : List ℕ} → Plan p n gs W T → (q : ℕ) → q < p .pages → ((c : ℕ) → c / 16 ≡ q → marked p T c ≡ 1 → ⊥) → markOf p T q ≡ 0
+no-survivors {p} {T = T} a q l off =
+    all-clear 16 (markOf p T q) (a .small q l)
     (λ i li. sym (marked-at p T q i li) ∙ ⊎-elim (λ z. z) (λ on. absurd (off (16 * q + i) (omega arith) on)) (mark? p T (16 * q + i)))
+
+pub copy-marks : {p : Places} {n l : ℕ} {gs : ℕ → ℕ} {W T W′ T′ : List ℕ} → Plan p n gs W T → Copy p n gs l W T W′ T′ → (q : ℕ) → q < p .pages → markOf p T q ≡ 0
+    → markOf p T′ q ≡ 0
+copy-marks {p} {T = T} a b q l z = moves-marks (a .ready) (b .moves) q l (no-marks p T q z) ∙ z
 
 -- the region of a thread at a level is one of the regions
 pub region-bounds : (p : Places) (t l : ℕ) → t < p .threads → l ≤ p .depth → (1 ≤ regionAt (sizesOf p) t l) × (regionAt (sizesOf p) t l ≤ regionsOf p)

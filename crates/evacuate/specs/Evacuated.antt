@@ -21,7 +21,7 @@ use Rattle.pages.specs.Pages.{Partly}
 use Rattle.evacuate.specs.Marks.{mark?, sameThen}
 use Rattle.evacuate.specs.Taking.{regionsOf, endOf, Regular, room-same}
 use Rattle.evacuate.specs.Passing.{Ready, moves-ready}
-use Rattle.evacuate.specs.Copying.{copy-unmarked}
+use Rattle.evacuate.specs.Copying.{no-survivors, copy-marks}
 use Rattle.evacuate.specs.Forward.{forward}
 use Rattle.evacuate.specs.Rewrite.{moveRef, move-null, link-same, head-same, ref-same}
 use Rattle.evacuate.specs.Release.{Blank, ended-size, ended-depth, ended-rest, ended-blank, ended-alike, ended-use, ended-used, ended-regular}
@@ -378,10 +378,11 @@ module _ {p : Places} {r n m l t : ℕ} {gs : ℕ → ℕ} {W T M W′ T′ M′
       marks′ q lq (yes e) = ended-blank regular₂ real low thread (f .ended) q lq e .marks
       marks′ q lq (no n) =
           ended-alike regular₂ real low thread (f .ended) q lq n .marks ∙ f .variables .same (markAt p q) (λ z. omega (arith, room₁))
-          ∙ copy-unmarked (b .plan) (f .copy) q lq
+          ∙ copy-marks (b .plan) (f .copy) q lq
+          (no-survivors (b .plan) q lq
           (λ c e on.
           let l : c / 16 < p .pages = omega arith in
-          n (owner₂ q lq ∙ ap (λ (y : ℕ). ownerOf p (f .tables) y) (sym e) ∙ f .forwards .copying .owner c (a₀ .used c l on) ∙ b .start .survivors c l on))
+          n (owner₂ q lq ∙ ap (λ (y : ℕ). ownerOf p (f .tables) y) (sym e) ∙ f .forwards .copying .owner c (a₀ .used c l on) ∙ b .start .survivors c l on)))
 
       far-slot : (x : ℕ) → 256 * p .pages ≤ x → Remembered r n m M x → ⊥
       far-slot x lx q = let i = b .listed .slots (q .entry) (q .low) .used .page in omega (arith, q .slot)

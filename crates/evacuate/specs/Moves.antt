@@ -329,8 +329,8 @@ module _ {p : Places} {g q c : ℕ} {W T W′ T′ : List ℕ} (s : Step p g q c
       s .copied .same (16 * x + i) (λ e. ne (omega arith) (omega arith))
       (λ e. step-new (subst (λ (y : ℕ). InUse p T y) (let z : x ≡ s .new = omega arith in z) u))
 
-  -- the cursor of the pass stays on the page
-  pub step-points : {top : ℕ} → Points p T g q top → Points p T′ g q top
-  step-points a =
+  -- the pass stays at the page
+  pub step-points : Points p T′ g q
+  step-points =
       points-same (λ x l. mid-pages (ownerAt p x) (omega (arith, r₁ .room))) (λ x l. mid-pages (usedAt p x) (omega (arith, r₁ .room)))
-      (took-points (s .can .regular) (s .can .real) (s .can .low) (s .took) a)
+      (took-points (s .can .regular) (s .can .real) (s .can .low) (s .took))

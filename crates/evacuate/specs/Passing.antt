@@ -178,12 +178,16 @@ moves-passing a b =
       enough = omega (arith, a .enough, u .pages, ap pagesOf (u .total));
     }
 
-pub passing-usable : {p : Places} {g : ℕ} {W T : List ℕ} → Passing p g W T → (c : ℕ) → c / 16 < p .pages → marked p T c ≡ 1 → workOf W c ≡ g → Usable p g T
+-- a survivor that goes to g counts
+pub hit-some : (p : Places) (W T : List ℕ) (g c : ℕ) → c / 16 < p .pages → marked p T c ≡ 1 → workOf W c ≡ g → hits p W T g ≢ 0
 unfolding hits
-passing-usable {p} {g} {W} {T} a c l on e =
+hit-some p W T g c l on e z =
     let one : marked p T c * hit W g c ≡ 1 = ap (λ (y : ℕ). y * hit W g c) on ∙ one-mul (hit W g c) ∙ hit-yes W g c e in
-    usable (a .ready .regular) g (a .real) (hits p W T g)
-    (omega (arith, one, sum-part (λ x. marked p T x * hit W g x) c (16 * p .pages) (omega arith))) (a .enough)
+    omega (arith, one, sum-part (λ x. marked p T x * hit W g x) c (16 * p .pages) (omega arith))
+
+pub passing-usable : {p : Places} {g : ℕ} {W T : List ℕ} → Passing p g W T → (c : ℕ) → c / 16 < p .pages → marked p T c ≡ 1 → workOf W c ≡ g → Usable p g T
+passing-usable {p} {g} {W} {T} a c l on e =
+    usable (a .ready .regular) g (a .real) (hits p W T g) (let n : hits p W T g ≢ 0 = hit-some p W T g c l on e in omega arith) (a .enough)
 
 pub passing-movable : {p : Places} {g q : ℕ} {W T : List ℕ} → Passing p g W T → (c : ℕ) → c / 16 < p .pages → marked p T c ≡ 1 → workOf W c ≡ g → Next p g q T
     → Movable p g q W T c

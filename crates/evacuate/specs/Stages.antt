@@ -12,7 +12,7 @@ use Rattle.layout.specs.Cells.{workOf, fieldOf, refsOf}
 use Rattle.layout.specs.Marks.{marked}
 use Rattle.promises.specs.Words.{InUse}
 use Rattle.evacuate.specs.Passing.{Ready, moves-ready, moves-tables}
-use Rattle.evacuate.specs.Copying.{Plan, Copy, copy-unmarked}
+use Rattle.evacuate.specs.Copying.{Plan, Copy, no-survivors, copy-marks}
 use Rattle.evacuate.specs.Forward.{Forwards, forward, copy-forwards}
 use Rattle.evacuate.specs.Rewrite.{Names, Rewritten, rewritten-join, link-same, refs-same}
 use Rattle.evacuate.specs.Append.{Crosses}
@@ -44,6 +44,12 @@ pub record Before (p : Places) (r n m l : ℕ) (gs : ℕ → ℕ) (W M T : List 
   pub rest : (y : ℕ) → m ≤ y → y < n → (slotIn M y ≡ 0) × (slotRegionIn n M y ≡ 0)
   pub variables : (i : ℕ) → i < p .threads * p .variables → varOf p T i ≢ 0 → Lives p r T (varOf p T i - 1)
   pub space : (W₁ T₁ W₃ : List ℕ) → Forwards p W T W₁ T₁ → Rewritten p r (λ x. Remembered r n m M x ⊎ Copies p r W₁ T₁ x) W₁ T₁ W₃ → Space p r n W₃ T₁
+
+-- survivors are r's: a page that is not listed with r's has no mark
+pub unmarked : {p : Places} {r n m l k : ℕ} {gs : ℕ → ℕ} {W T M list : List ℕ} → Before p r n m l gs W M T → Lists (λ q. ownerOf p T q ≡ r) (p .pages) k list
+    → (q : ℕ) → q < p .pages → Off list k q → markOf p T q ≡ 0
+unmarked {p} {r} {T = T} b o q h off =
+    no-survivors (b .plan) q h (λ x e on. o .all q h (subst (λ (y : ℕ). ownerOf p T y ≡ r) e (b .start .survivors x (omega arith) on)) off)
 
 module _ {p : Places} {r n m l : ℕ} {gs : ℕ → ℕ} {W T M W₁ T₁ : List ℕ} (b : Before p r n m l gs W M T) (c : Copy p l gs l W T W₁ T₁) where
   F : Forwards p W T W₁ T₁
@@ -229,9 +235,7 @@ module _ {p : Places} {r n m l : ℕ} {gs : ℕ → ℕ} {W T M W₁ T₁ : List
 
   -- no survivor was copied off another page
   pub marks-ask : {k : ℕ} {list : List ℕ} → Lists (λ q. ownerOf p T q ≡ r) (p .pages) k list → (q : ℕ) → q < p .pages → Off list k q → markOf p T₁ q ≡ 0
-  marks-ask o q l off =
-      copy-unmarked (b .plan) c q l
-      (λ x e on. o .all q l (subst (λ (y : ℕ). ownerOf p T y ≡ r) e (b .start .survivors x (omega arith) on)) off)
+  marks-ask o q l off = copy-marks (b .plan) c q l (unmarked b o q l off)
 
   -- copies and variables leave them to r
   pub pages-ask : {k : ℕ} {list W₃ T₂ : List ℕ} → Lists (λ q. ownerOf p T q ≡ r) (p .pages) k list → r ≢ 0 → Variables p (p .threads * p .variables) r W₃ T₁ T₂

@@ -5,6 +5,7 @@ use mathlib.Core.List.{List}
 use Prim.Native.Nat.{ℕ, zero, suc, _+_, _*_, _/_, _%_, _≤_, _<_}
 use native.Mathlib.Decide.{ℕ-discrete, decLt}
 use native.Mathlib.Omega.{arith}
+use borrow.Author.Tests.{eqb-true}
 use lib.ListN.{length, getD, set, length-set}
 use lib.Seq.{getD-set-same, getD-set-other}
 use Rattle.lists.specs.Counting.{sum, sum-same, sum-change, sum-times, sum-pos}
@@ -14,7 +15,7 @@ use Rattle.layout.specs.Places.{Room, ownerAt, usedAt, markAt, countAt, ownerOf
 use Rattle.layout.specs.Cells.{cellOn}
 use Rattle.promises.specs.Words.{InUse}
 use Rattle.promises.specs.Whole.{objectsOn, objectsOf}
-use Rattle.pages.specs.Pages.{Partly, Found, taken}
+use Rattle.pages.specs.Pages.{Partly, Found, Filled, taken}
 use Rattle.evacuate.specs.Marks.{sameThen, then-yes, then-no}
 
 -- the regions are numbered from 1 to this, and the tables end behind their counts
@@ -300,6 +301,18 @@ module _ {p : Places} {T : List ℕ} (r : Regular p T) (g : ℕ) (real : 1 ≤ g
       full : (x : ℕ) → x < p .pages → ownerOf p T x ≡ g → x ≢ a → Dec (usedOf p T x < 16) → 16 ≤ usedOf p T x
       full x l e ne (yes f) = absurd (ne (r .one g x a real (record { low = l; partial = record { owner = e; part = f } }) w))
       full x l e ne (no f) = omega arith
+
+  -- objects that fill their pages leave no page partly filled
+  pub regular-filled : g ≤ regionsOf p → Filled p T g
+  regular-filled low full page l u =
+      omega (
+        arith,
+        some-partly page (record { low = l; partial = u }),
+        u .part,
+        r .taken page l (λ e. omega (arith, u .owner)),
+        eqb-true (countOf p T g % 16) 0 full,
+        r .count g real low,
+      )
 
   pub pages-owned : pagesOf (objectsOf p T g) ≡ pagesOwned p T g
   pages-owned =

@@ -1,5 +1,5 @@
--- A pass over a rising list, at the number that comes next.
-use Prim.Native.Nat.{ℕ, _<_, _≤_}
+-- A pass over a rising list, at the number that comes next; the last of the list.
+use Prim.Native.Nat.{ℕ, _-_, _<_, _≤_}
 use mathlib.Core.Path.{_≡_, subst}
 use mathlib.Core.List.{List}
 use native.Mathlib.Omega.{arith}
@@ -15,3 +15,11 @@ through-here {P} {n} {l} Done i x r li e done =
     next : (j : ℕ) → i ≤ j → j < n → Dec (i < j) → x ≤ getD l j 0
     next j h k (yes d) = omega (arith, r .rising i j d k)
     next j h k (no d) = subst (λ (y : ℕ). x ≤ getD l y 0) (let s : i ≡ j = omega arith in s) (omega arith)
+
+-- none of the list lies above its last
+pub rises-last : {P n : ℕ} {l : List ℕ} → Rises P n l → (i : ℕ) → i < n → getD l i 0 ≤ getD l (n - 1) 0
+rises-last {P} {n} {l} r i h = go (decLt i (n - 1))
+  where
+    go : Dec (i < n - 1) → getD l i 0 ≤ getD l (n - 1) 0
+    go (yes d) = omega (arith, r .rising i (n - 1) d (omega arith))
+    go (no d) = subst (λ (y : ℕ). getD l i 0 ≤ getD l y 0) (let e : i ≡ n - 1 = omega arith in e) (omega arith)

@@ -1,40 +1,30 @@
 // Place and copy: targets in rising region number, survivors in rising cell number, each to the cell that a new object there would take.
 ghost use mathlib.Core.Logic.{_≢_};
-ghost use Prim.Native.Nat.{_+_, _*_, _/_, _<_, _≤_};
-ghost use lib.ListN.{length};
+ghost use mathlib.Core.Path.{_≡_};
+ghost use Prim.Native.Nat.{ℕ, _+_, _*_, _/_, _<_, _≤_};
+ghost use lib.ListN.{length, getD};
+ghost use Rattle.lists.specs.Part.{Rises, Off};
 ghost use Rattle.rules.specs.Regions.{regionAt};
-ghost use Rattle.layout.specs.Places.{sizesOf};
-ghost use Rattle.evacuate.specs.Cursor.{Points, Seeking, Sought};
+ghost use Rattle.layout.specs.Places.{markOf, sizesOf};
+ghost use Rattle.pages.specs.Pages.{noteWords};
+ghost use Rattle.evacuate.specs.Marks.{hits};
+ghost use Rattle.evacuate.specs.Taking.{regionsOf, Next};
+ghost use Rattle.evacuate.specs.Cursor.{Points, Seeking};
 ghost use Rattle.evacuate.specs.Moves.{Copied, Movable, Step};
 ghost use Rattle.evacuate.specs.Passing.{Passing, Pass, order};
 ghost use Rattle.evacuate.specs.Copying.{PagePass, Plan, Copy};
 use layout::Places;
 
-// Where the next object of a target goes: a page, and a bound below which every free page lies.
-pub struct Cursor {
-    pub page: usize,
-    pub top: usize,
-}
-
-// The cursor's page if it has room, else the highest free page.
-pub fn next_page(p: Places, tables: &[u32], region: u32, at: Cursor) -> Cursor
-    requires { ⌜ Seeking p region (now tables) (at .page) (at .top) ⌝ }
-    ensures { λ r. ⌜ Sought p region (now (tables .entry)) (r .page) (r .top) ⌝ }
+// The page that the region's next object goes to: the one that the pass is at if it has room, else the one that is found.
+pub fn next_page(p: Places, tables: &[u32], notes: &mut [u32], region: u32, page: usize) -> usize
+    requires { ⌜ Seeking p region (now tables) page ⌝ }
+    requires { ⌜ noteWords ≤ length (now notes) ⌝ }
+    ensures { λ r. ⌜ Next p region r (now (tables .entry)) ⌝ }
 {
-    let page = at.page;
     if layout::tables::used(p, tables, page) < layout::cells::CELLS as u32 {
-        return at;
+        return page;
     }
-    let mut top = at.top;
-    let mut owner: u32 = 1;
-    while owner != 0 {
-        top -= 1;
-        owner = layout::tables::owner(p, tables, top);
-    }
-    Cursor {
-        page: top,
-        top: top + 1,
-    }
+    pages::page_for(p, tables, notes, region)
 }
 
 // The words of one cell go to another, with word 1 zero; word 1 of the old cell becomes the reference to the new one.
@@ -75,19 +65,22 @@ pub fn move_cell(
     layout::tables::set_mark(p, tables, home, marks);
 }
 
-// The survivors on a page that go to a region, in rising cell number: as many wait as the lower half of its mark word has ones.
+// The survivors on a page that go to a region, in rising cell number: as many wait as the lower half of its mark word has ones. The answer is
+// the page that the pass is at then.
 pub fn copy_page(
     p: Places,
     cells: &mut [u32],
     tables: &mut [u32],
+    notes: &mut [u32],
     region: u32,
     page: usize,
-    at: Cursor,
-) -> Cursor
+    at: usize,
+) -> usize
     requires { ⌜ Passing p region (now cells) (now tables) ⌝ }
-    requires { ⌜ Points p (now tables) region (at .page) (at .top) ⌝ }
+    requires { ⌜ Points p (now tables) region at ⌝ }
     requires { ⌜ page < p .pages ⌝ }
-    ensures { λ r. ⌜ PagePass p region page (r .page) (r .top) (now (cells .entry)) (now (tables .entry)) (now (cells .exit)) (now (tables .exit)) ⌝ }
+    requires { ⌜ noteWords ≤ length (now notes) ⌝ }
+    ensures { λ r. ⌜ PagePass p region page r (now (cells .entry)) (now (tables .entry)) (now (cells .exit)) (now (tables .exit)) ⌝ }
 {
     let waiting = layout::bits::lower_half(layout::tables::mark(p, tables, page));
     let survivors = u32::count_ones(waiting);
@@ -98,8 +91,8 @@ pub fn copy_page(
         let i = u32::trailing_zeros(left);
         let cell = layout::cells::cell_on(page, layout::wide(i));
         if layout::cells::work(cells, cell) == region {
-            next = next_page(p, tables, region, next);
-            move_cell(p, cells, tables, region, next.page, cell);
+            next = next_page(p, tables, notes, region, next);
+            move_cell(p, cells, tables, region, next, cell);
         }
         left = layout::bits::without_bit(left, i);
         k += 1;
@@ -107,39 +100,56 @@ pub fn copy_page(
     next
 }
 
-// The survivors that go to a region.
-pub fn copy_pass(p: Places, cells: &mut [u32], tables: &mut [u32], region: u32)
+// The survivors that go to a region, all on the listed pages.
+pub fn copy_pass(
+    p: Places,
+    cells: &mut [u32],
+    tables: &mut [u32],
+    notes: &mut [u32],
+    list: &[u32],
+    n: usize,
+    region: u32,
+)
     requires { ⌜ Passing p region (now cells) (now tables) ⌝ }
+    requires { ⌜ Rises (p .pages) n (now list) ⌝ }
+    requires { ⌜ ((page : ℕ) → page < p .pages → Off (now list) n page → markOf p (now tables) page ≡ 0) ⌝ }
+    requires { ⌜ noteWords ≤ length (now notes) ⌝ }
     ensures { λ _. ⌜ Pass p region (λ c. c / 16 < p .pages) (order region 0) (order region (16 * p .pages)) (now (cells .entry)) (now (tables .entry)) (now (cells .exit)) (now (tables .exit)) ⌝ }
 {
-    let pages = p.pages;
-    let mut next = Cursor {
-        page: pages::find_page(p, tables, region),
-        top: pages,
-    };
-    let mut page: usize = 0;
-    while page < pages {
-        next = copy_page(p, cells, tables, region, page, next);
-        page += 1;
+    let mut at = pages::page_for(p, tables, notes, region);
+    let mut i: usize = 0;
+    while i < n {
+        at = copy_page(p, cells, tables, notes, region, layout::wide(list[i]), at);
+        i += 1;
     }
 }
 
-// Every survivor, by target in rising level: the region of the thread at each level below the ending one.
+// Every survivor, by target in rising level: the region of the thread at each level below the ending one, where `come` says that some come.
 pub fn copy_survivors(
     p: Places,
     cells: &mut [u32],
     tables: &mut [u32],
+    notes: &mut [u32],
+    list: &[u32],
+    n: usize,
+    come: &[u32],
     thread: usize,
     levels: usize,
 )
     requires { ⌜ Plan p levels (regionAt (sizesOf p) thread) (now cells) (now tables) ⌝ }
     requires { ⌜ (thread < p .threads) × (levels ≤ p .depth) ⌝ }
+    requires { ⌜ Rises (p .pages) n (now list) ⌝ }
+    requires { ⌜ ((page : ℕ) → page < p .pages → Off (now list) n page → markOf p (now tables) page ≡ 0) ⌝ }
+    requires { ⌜ ((g : ℕ) → 1 ≤ g → g ≤ regionsOf p → getD (now come) g 0 ≡ 0 → hits p (now cells) (now tables) g ≡ 0) ⌝ }
+    requires { ⌜ (noteWords ≤ length (now notes)) × (noteWords ≤ length (now come)) ⌝ }
     ensures { λ _. ⌜ Copy p levels (regionAt (sizesOf p) thread) levels (now (cells .entry)) (now (tables .entry)) (now (cells .exit)) (now (tables .exit)) ⌝ }
 {
     let mut level: usize = 0;
     while level < levels {
         let region = layout::regions::region_at(p, thread, level);
-        copy_pass(p, cells, tables, region);
+        if come[layout::wide(region)] != 0 {
+            copy_pass(p, cells, tables, notes, list, n, region);
+        }
         level += 1;
     }
 }

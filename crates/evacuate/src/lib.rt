@@ -6,34 +6,43 @@ pub mod remember;
 pub mod rewrite;
 
 ghost use mathlib.Core.Path.{_≡_};
-ghost use Prim.Native.Nat.{_<_, _≤_};
+ghost use Prim.Native.Nat.{ℕ, _<_, _≤_};
+ghost use lib.ListN.{length, getD};
 ghost use Rattle.lists.specs.Part.{Lists};
 ghost use Rattle.layout.specs.Places.{depthOf, ownerOf, usedIn, sizesOf};
 ghost use Rattle.rules.specs.Regions.{regionAt};
+ghost use Rattle.pages.specs.Pages.{noteWords};
+ghost use Rattle.evacuate.specs.Marks.{hits};
+ghost use Rattle.evacuate.specs.Taking.{regionsOf};
 ghost use Rattle.evacuate.specs.Stages.{Before, Finished};
 use layout::Places;
 
-// The accepted end of a thread's innermost region, whose survivors are marked and whose pages are listed.
+// The accepted end of a thread's innermost region, whose survivors are marked and whose pages are listed; `come` is not 0 of the regions that
+// survivors go to.
 pub fn evacuate(
     p: Places,
     cells: &mut [u32],
     remember: &mut [u32],
     tables: &mut [u32],
+    notes: &mut [u32],
     list: &[u32],
     n: usize,
+    come: &[u32],
     thread: usize,
 )
     requires { ⌜ Before p (regionAt (sizesOf p) thread (depthOf (now tables) thread)) (p .entries) (usedIn (now remember)) (depthOf (now tables) thread) (regionAt (sizesOf p) thread) (now cells) (now remember) (now tables) ⌝ }
     requires { ⌜ (thread < p .threads) × (1 ≤ depthOf (now tables) thread) × (depthOf (now tables) thread ≤ p .depth) ⌝ }
     requires { ⌜ Lists (λ page. ownerOf p (now tables) page ≡ regionAt (sizesOf p) thread (depthOf (now tables) thread)) (p .pages) n (now list) ⌝ }
+    requires { ⌜ ((g : ℕ) → 1 ≤ g → g ≤ regionsOf p → getD (now come) g 0 ≡ 0 → hits p (now cells) (now tables) g ≡ 0) ⌝ }
+    requires { ⌜ (noteWords ≤ length (now notes)) × (noteWords ≤ length (now come)) ⌝ }
     ensures { λ _. ⌜ Finished p (regionAt (sizesOf p) thread (depthOf (now (tables .entry)) thread)) (p .entries) (usedIn (now (remember .entry))) (depthOf (now (tables .entry)) thread) thread (regionAt (sizesOf p) thread) (now (cells .entry)) (now (remember .entry)) (now (tables .entry)) (now (cells .exit)) (now (remember .exit)) (now (tables .exit)) ⌝ }
 {
     let level = layout::wide(layout::tables::depth(p, tables, thread));
     let region = layout::regions::region_at(p, thread, level);
-    copy::copy_survivors(p, cells, tables, thread, level);
+    copy::copy_survivors(p, cells, tables, notes, list, n, come, thread, level);
     rewrite::rewrite_slots(p, cells, remember, tables, region);
     rewrite::rewrite_copies(p, cells, tables, list, n, region);
     remember::update_remember(p, cells, remember, tables, list, n, region);
     rewrite::rewrite_variables(p, cells, tables, region);
-    release::release(p, tables, list, n, region, thread);
+    release::release(p, tables, notes, list, n, region, thread);
 }

@@ -165,7 +165,7 @@ pub fn remember_page(
     i
 }
 
-// Those of all copies: the listed pages are those with survivors.
+// Those of all copies: every survivor was copied off a listed page.
 pub fn remember_copies(
     p: Places,
     cells: &[u32],

@@ -87,7 +87,7 @@ pub fn rewrite_page(p: Places, cells: &mut [u32], tables: &[u32], region: u32, p
     }
 }
 
-// The reference fields of all copies: the listed pages are those with survivors.
+// The reference fields of all copies: every survivor was copied off a listed page.
 pub fn rewrite_copies(
     p: Places,
     cells: &mut [u32],
