@@ -103,7 +103,7 @@ module _ {p : Places} {t : ℕ} {w w₁ : Words} (m : Ending p t w w₁) where
   pub depth-open : 1 ≤ depthOf (w₁ .tables) t
   depth-open = omega (arith, depth-now)
 
-  pub region-now : (1 ≤ region) × (region ≤ regionsOf p)
+  region-now : (1 ≤ region) × (region ≤ regionsOf p)
   region-now = (region-pos s t (depthOf (w₁ .tables) t), region-bounds p t (depthOf (w₁ .tables) t) (m .thread) depth-high .1)
 
   pub small-now : (page : ℕ) → page < p .pages → markOf p (w₁ .tables) page < 2 ^ 16
@@ -152,6 +152,14 @@ module _ {p : Places} {t : ℕ} {w w₁ : Words} (m : Ending p t w w₁) where
       owned =
           subst (λ (q : Places). (c : ℕ) → pageOf c < q .pages → marked q (w₁ .tables) c ≡ 1 → ownerOf q (w₁ .tables) (pageOf c) ≡ region) (sym (m .places))
           (λ c l on. owner-same marks room-of (pageOf c) l ∙ marks .only c l on .1 ∙ ap (regionAt s t) (sym depth-now))
+
+  -- r is the region as the code has it
+  module _ {r : ℕ} (er : r ≡ region) where
+    pub real : (1 ≤ r) × (r ≤ regionsOf p)
+    real = subst (λ (x : ℕ). (1 ≤ x) × (x ≤ regionsOf p)) (sym er) region-now
+
+    pub listed : {n : ℕ} {l : List ℕ} → Lists (λ page. ownerOf p (w₁ .tables) page ≡ r) (p .pages) n l → Lists (λ page. ownerOf p (w₁ .tables) page ≡ region) (p .pages) n l
+    listed {n} {l} = subst (λ (x : ℕ). Lists (λ page. ownerOf p (w₁ .tables) page ≡ x) (p .pages) n l) er
 
   -- ---- 13 and 14
 

@@ -1,0 +1,154 @@
+-- The listed pages are counted over, and the marking is either undone or evacuated: at each way out the promise of code 2 holds.
+use borrow.Author.Needs.{needs}
+use Prim.Native.Nat.{ℕ}
+use mathlib.Core.Path.{_≡_, sym, ap, _∙_, subst}
+use native.Mathlib.Omega.{arith}
+use Rattle.rules.specs.Regions.{regionAt}
+use Rattle.layout.specs.Places.{sizesOf}
+use Rattle.promises.specs.Questions.{did-answer}
+use Rattle.lists.specs.Zeros.{replicate-at}
+use Rattle.census.specs.Census.{Census}
+use Rattle.epoch.specs.CensusCounts.{roomAsked, regions-few, arrivals-hits}
+use Rattle.epoch.specs.EndDid.{room-now, cells-now, small-now, used-now, shaped-now, holding-now, depth-high, depth-open, targets-now, paged-now, unlisted, real, listed, out-refused, goes-on, out-done}
+use Rattle.epoch.proofs.end_marked.Statement.{statement}
+use Rattle.epoch.proofs.end_marked.Tie as tie
+
+depth-requires : tie.Need-depth-requires
+depth-requires c κs = (room-now (c .before .before .before .before .before .pre .0 .1), c .before .before .before .before .before .pre .0 .1 .thread)
+
+wide-requires : tie.Need-wide-requires
+wide-requires c κs = search needs
+
+region-at-requires : tie.Need-region-at-requires
+region-at-requires c κs =
+    let m = c .before .before .before .before .before .before .before .pre .0 .1 in
+    let rm = room-now m in
+    (rm .threads-high, rm .depth-high, m .thread, omega (arith, depth-high m, c .wide .ensures, c .before .depth .ensures))
+
+slice-aggregate-list-pages : tie.Need-slice-aggregate-list-pages
+slice-aggregate-list-pages c = search needs
+
+list-pages-requires : tie.Need-list-pages-requires
+list-pages-requires c κs =
+    let m = c .before .before .before .before .before .before .before .before .before .before .pre .0 .1 in
+    let er = c .before .before .region-at .ensures ∙ ap (regionAt (sizesOf (c .before .before .before .before .before .before .before .before .before .before .args .p)) (c .before .before .before .before .before .before .before .before .before .before .args .thread)) (c .before .before .before .wide .ensures ∙ c .before .before .before .before .depth .ensures) in
+    (room-now m, (real m er, (paged-now m .pages (c .before .before .region-at .result) (real m er .0) (real m er .1), room-now m .few)))
+
+slice-aggregate-count-listed : tie.Need-slice-aggregate-count-listed
+slice-aggregate-count-listed c = search needs
+
+slice-aggregate-count-listed-2 : tie.Need-slice-aggregate-count-listed-2
+slice-aggregate-count-listed-2 c = search needs
+
+count-listed-requires : tie.Need-count-listed-requires
+count-listed-requires c κs =
+    let m = c .before .before .before .before .before .before .before .before .before .before .before .before .before .before .before .before .pre .0 .1 in
+    let er = c .before .before .before .before .before .before .before .before .region-at .ensures ∙ ap (regionAt (sizesOf (c .before .before .before .before .before .before .before .before .before .before .before .before .before .before .before .before .args .p)) (c .before .before .before .before .before .before .before .before .before .before .before .before .before .before .before .before .args .thread)) (c .before .before .before .before .before .before .before .before .before .wide .ensures ∙ c .before .before .before .before .before .before .before .before .before .before .depth .ensures) in
+    (shaped-now m, (c .before .before .before .before .before .list-pages .ensures .rises, (unlisted m _ _ (listed m er (c .before .before .before .before .before .list-pages .ensures)), (small-now m, (used-now m, (λ x l on. omega (arith, targets-now m x l on, regions-few (room-now m)), λ g. replicate-at 130 g 0))))))
+
+slice-aggregate-ask-room : tie.Need-slice-aggregate-ask-room
+slice-aggregate-ask-room c = search needs
+
+ask-room-requires : tie.Need-ask-room-requires
+ask-room-requires c κs =
+    let m = c .before .before .before .before .before .before .before .before .before .before .before .before .before .before .before .before .before .before .before .before .before .before .pre .0 .1 in
+    let census =
+    subst (λ (r : ℕ). Census (c .before .before .before .before .before .before .before .before .before .before .before .before .before .before .before .before .before .before .before .before .before .before .args .p) (c .before .before .before .before .before .before .before .before .before .before .before .before .before .before .before .before .before .before .before .before .before .before .args .cells .now) (c .before .before .before .before .before .before .before .before .before .before .before .before .before .before .before .before .before .before .before .before .before .before .args .tables .now) r (c .before .before .before .before .before .before .before .before .before .before .before .before .before .before .before .before .before .before .before .before .before .before .args .p .pages) (c .before .before .before .before .before .count-listed .last .1 .1 .1 .1 .1 .1 .0) (c .before .before .before .before .before .count-listed .result)) (c .before .before .before .before .before .before .before .before .before .before .before .before .before .before .region-at .ensures) (c .before .before .before .before .before .count-listed .ensures) in
+    (shaped-now m, (holding-now m, (paged-now m, (census, (omega (arith, regions-few (room-now m), c .before .before .before .before .before .count-listed .kept .1 .1 .1 .1 .1 .1 .0), (m .thread, omega (arith, depth-high m, c .before .before .before .before .before .before .before .before .before .before .before .before .before .before .before .wide .ensures, c .before .before .before .before .before .before .before .before .before .before .before .before .before .before .before .before .depth .ensures)))))))
+
+slice-aggregate-unmark : tie.Need-slice-aggregate-unmark
+slice-aggregate-unmark c = search needs
+
+unmark-requires : tie.Need-unmark-requires
+unmark-requires c κs =
+    let m = c .before .before .before .before .before .before .before .before .before .before .before .before .before .before .before .before .before .before .before .before .before .before .before .before .before .before .before .pre .0 .1 in
+    let er = c .before .before .before .before .before .before .before .before .before .before .before .before .before .before .before .before .before .before .before .region-at .ensures ∙ ap (regionAt (sizesOf (c .before .before .before .before .before .before .before .before .before .before .before .before .before .before .before .before .before .before .before .before .before .before .before .before .before .before .before .args .p)) (c .before .before .before .before .before .before .before .before .before .before .before .before .before .before .before .before .before .before .before .before .before .before .before .before .before .before .before .args .thread)) (c .before .before .before .before .before .before .before .before .before .before .before .before .before .before .before .before .before .before .before .before .wide .ensures ∙ c .before .before .before .before .before .before .before .before .before .before .before .before .before .before .before .before .before .before .before .before .before .depth .ensures) in
+    (room-now m, (cells-now m, (small-now m, (c .before .before .before .before .before .before .before .before .before .before .before .before .before .before .before .before .list-pages .ensures .rises, unlisted m _ _ (listed m er (c .before .before .before .before .before .before .before .before .before .before .before .before .before .before .before .before .list-pages .ensures))))))
+
+refused-requires : tie.Need-refused-requires
+refused-requires c κs = search needs
+
+same-length : tie.Need-same-length
+same-length c = search needs
+
+same-length-2 : tie.Need-same-length-2
+same-length-2 c = search needs
+
+same-length-3 : tie.Need-same-length-3
+same-length-3 c = search needs
+
+returns : tie.Need-returns
+returns c = λ w m.
+    did-answer (c .refused .ensures)
+    (out-refused m (c .before .before .before .before .before .before .before .before .before .before .ask-room .result) (omega (arith, c .before .before .before .before .before .before .before .before .before .if1 .taken))
+    (c .before .before .before .before .before .before .before .before .before .before .ask-room .ensures ∙ ap (roomAsked (c .before .before .before .before .before .before .before .before .before .before .before .before .before .before .before .before .before .before .before .before .before .before .before .before .before .before .before .before .before .before .before .before .before .args .p) (c .before .before .before .before .before .before .before .before .before .before .before .before .before .before .before .before .before .before .before .before .before .before .before .before .before .before .before .before .before .before .before .before .before .args .cells .now) (c .before .before .before .before .before .before .before .before .before .before .before .before .before .before .before .before .before .before .before .before .before .before .before .before .before .before .before .before .before .before .before .before .before .args .remember .now) (c .before .before .before .before .before .before .before .before .before .before .before .before .before .before .before .before .before .before .before .before .before .before .before .before .before .before .before .before .before .before .before .before .before .args .tables .now) (c .before .before .before .before .before .before .before .before .before .before .before .before .before .before .before .before .before .before .before .before .before .before .before .before .before .before .before .before .before .before .before .before .before .args .thread)) (c .before .before .before .before .before .before .before .before .before .before .before .before .before .before .before .before .before .before .before .before .before .before .before .before .before .before .wide .ensures ∙ c .before .before .before .before .before .before .before .before .before .before .before .before .before .before .before .before .before .before .before .before .before .before .before .before .before .before .before .depth .ensures)) (c .before .before .before .before .before .unmark .ensures))
+
+slice-aggregate-evacuate : tie.Need-slice-aggregate-evacuate
+slice-aggregate-evacuate c = search needs
+
+slice-aggregate-evacuate-2 : tie.Need-slice-aggregate-evacuate-2
+slice-aggregate-evacuate-2 c = search needs
+
+evacuate-requires : tie.Need-evacuate-requires
+evacuate-requires c κs =
+    let m = c .before .before .before .before .before .before .before .before .before .before .before .before .before .before .before .before .before .before .before .before .before .before .before .before .before .before .before .before .before .before .pre .0 .1 in
+    let er = c .before .before .before .before .before .before .before .before .before .before .before .before .before .before .before .before .before .before .before .before .before .before .region-at .ensures ∙ ap (regionAt (sizesOf (c .before .before .before .before .before .before .before .before .before .before .before .before .before .before .before .before .before .before .before .before .before .before .before .before .before .before .before .before .before .before .args .p)) (c .before .before .before .before .before .before .before .before .before .before .before .before .before .before .before .before .before .before .before .before .before .before .before .before .before .before .before .before .before .before .args .thread)) (c .before .before .before .before .before .before .before .before .before .before .before .before .before .before .before .before .before .before .before .before .before .before .before .wide .ensures ∙ c .before .before .before .before .before .before .before .before .before .before .before .before .before .before .before .before .before .before .before .before .before .before .before .before .depth .ensures) in
+    let yes = sym (let z : c .before .before .before .before .before .before .before .ask-room .result ≡ 0 = omega (arith, c .before .before .before .before .before .before .if1 .left) in z) ∙ c .before .before .before .before .before .before .before .ask-room .ensures
+    ∙ ap (roomAsked (c .before .before .before .before .before .before .before .before .before .before .before .before .before .before .before .before .before .before .before .before .before .before .before .before .before .before .before .before .before .before .args .p) (c .before .before .before .before .before .before .before .before .before .before .before .before .before .before .before .before .before .before .before .before .before .before .before .before .before .before .before .before .before .before .args .cells .now) (c .before .before .before .before .before .before .before .before .before .before .before .before .before .before .before .before .before .before .before .before .before .before .before .before .before .before .before .before .before .before .args .remember .now) (c .before .before .before .before .before .before .before .before .before .before .before .before .before .before .before .before .before .before .before .before .before .before .before .before .before .before .before .before .before .before .args .tables .now) (c .before .before .before .before .before .before .before .before .before .before .before .before .before .before .before .before .before .before .before .before .before .before .before .before .before .before .before .before .before .before .args .thread)) (c .before .before .before .before .before .before .before .before .before .before .before .before .before .before .before .before .before .before .before .before .before .before .before .wide .ensures ∙ c .before .before .before .before .before .before .before .before .before .before .before .before .before .before .before .before .before .before .before .before .before .before .before .before .depth .ensures) in
+    (goes-on m yes, ((m .thread, depth-open m, depth-high m), (listed m er (c .before .before .before .before .before .before .before .before .before .before .before .before .before .before .before .before .before .before .before .list-pages .ensures), (
+      (λ g a b z. sym (arrivals-hits (c .before .before .before .before .before .before .before .before .before .before .before .before .before .before .before .before .before .before .before .before .before .before .before .before .before .before .before .before .before .before .args .p) (c .before .before .before .before .before .before .before .before .before .before .before .before .before .before .before .before .before .before .before .before .before .before .before .before .before .before .before .before .before .before .args .cells .now) (c .before .before .before .before .before .before .before .before .before .before .before .before .before .before .before .before .before .before .before .before .before .before .before .before .before .before .before .before .before .before .args .tables .now) (c .before .before .before .before .before .before .before .before .before .before .before .before .before .count-listed .last .1 .1 .1 .1 .1 .1 .0) (c .before .before .before .before .before .before .before .before .before .before .before .before .before .count-listed .ensures .arrivals) g) ∙ z),
+      (c .before .before .before .before .before .before .before .before .before .before .before .before .before .before .before .before .before .before .before .before .before .before .before .before .before .before .before .before .before .before .pre .1, omega (arith, c .before .before .before .before .before .before .before .before .before .before .before .before .before .count-listed .kept .1 .1 .1 .1 .1 .1 .0))))))
+
+done-requires : tie.Need-done-requires
+done-requires c κs = search needs
+
+same-length-4 : tie.Need-same-length-4
+same-length-4 c = search needs
+
+same-length-5 : tie.Need-same-length-5
+same-length-5 c = search needs
+
+same-length-6 : tie.Need-same-length-6
+same-length-6 c = search needs
+
+same-length-7 : tie.Need-same-length-7
+same-length-7 c = search needs
+
+returns-2 : tie.Need-returns-2
+returns-2 c = λ w m.
+    did-answer (c .done .ensures)
+    (out-done m
+    (sym (let z : c .before .before .before .before .before .before .before .before .before .before .before .before .before .before .before .before .before .ask-room .result ≡ 0 = omega (arith, c .before .before .before .before .before .before .before .before .before .before .before .before .before .before .before .before .if1 .left) in z) ∙ c .before .before .before .before .before .before .before .before .before .before .before .before .before .before .before .before .before .ask-room .ensures
+    ∙ ap (roomAsked (c .before .before .before .before .before .before .before .before .before .before .before .before .before .before .before .before .before .before .before .before .before .before .before .before .before .before .before .before .before .before .before .before .before .before .before .before .before .before .before .before .args .p) (c .before .before .before .before .before .before .before .before .before .before .before .before .before .before .before .before .before .before .before .before .before .before .before .before .before .before .before .before .before .before .before .before .before .before .before .before .before .before .before .before .args .cells .now) (c .before .before .before .before .before .before .before .before .before .before .before .before .before .before .before .before .before .before .before .before .before .before .before .before .before .before .before .before .before .before .before .before .before .before .before .before .before .before .before .before .args .remember .now) (c .before .before .before .before .before .before .before .before .before .before .before .before .before .before .before .before .before .before .before .before .before .before .before .before .before .before .before .before .before .before .before .before .before .before .before .before .before .before .before .before .args .tables .now) (c .before .before .before .before .before .before .before .before .before .before .before .before .before .before .before .before .before .before .before .before .before .before .before .before .before .before .before .before .before .before .before .before .before .before .before .before .before .before .before .before .args .thread)) (c .before .before .before .before .before .before .before .before .before .before .before .before .before .before .before .before .before .before .before .before .before .before .before .before .before .before .before .before .before .before .before .before .before .wide .ensures ∙ c .before .before .before .before .before .before .before .before .before .before .before .before .before .before .before .before .before .before .before .before .before .before .before .before .before .before .before .before .before .before .before .before .before .before .depth .ensures))
+    (c .before .before .before .before .before .before .before .before .before .evacuate .ensures))
+
+pub end-marked-spec : {M : Type 1} → statement M
+end-marked-spec =
+    tie.close
+    (tie.spec
+    depth-requires
+    wide-requires
+    region-at-requires
+    slice-aggregate-list-pages
+    list-pages-requires
+    slice-aggregate-count-listed
+    slice-aggregate-count-listed-2
+    count-listed-requires
+    slice-aggregate-ask-room
+    ask-room-requires
+    slice-aggregate-unmark
+    unmark-requires
+    refused-requires
+    same-length
+    same-length-2
+    same-length-3
+    returns
+    slice-aggregate-evacuate
+    slice-aggregate-evacuate-2
+    evacuate-requires
+    done-requires
+    same-length-4
+    same-length-5
+    same-length-6
+    same-length-7
+    returns-2)
