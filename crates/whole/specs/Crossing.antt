@@ -1,5 +1,5 @@
 -- Crossing slots, counted page by page, cell by cell and reference by reference.
-use Prim.Native.Nat.{ℕ, _+_, _-_, _/_, _≤_, _<_}
+use Prim.Native.Nat.{ℕ, _+_, _*_, _-_, _/_, _≤_, _<_}
 use mathlib.Core.List.{List}
 use mathlib.Core.Bool.{false}
 use mathlib.Core.Path.{_≡_, refl, sym, ap, subst, _∙_}
@@ -15,11 +15,16 @@ use Rattle.layout.specs.declared.Places.{Places}
 use Rattle.layout.specs.Places.{ownerOf, usedOf}
 use Rattle.layout.specs.Cells.{headAt, headOf, fieldAt, fieldOf, IsReference, pageOf, placeOf, cellOn, cellOf, wordOf}
 use Rattle.promises.specs.Crossing.{other, regionOf, crossTo, crossing}
-use Rattle.whole.specs.Cells.{page-on, place-on}
+use Rattle.whole.specs.Cells.{CellsWhole, page-on, place-on}
 
 -- how many slots cross before position n
 abbrev pub crossingTo : Places → List ℕ → List ℕ → ℕ → ℕ
 crossingTo p c t n = count (crossing p c t) n
+
+-- every cell in use is whole, and so many slots cross
+pub record CellsCross (p : Places) (c t : List ℕ) (n : ℕ) : Type 0 where
+  pub whole : CellsWhole p c t
+  pub crossing : crossingTo p c t (256 * p .pages) ≡ n
 
 module _ (p : Places) (c t : List ℕ) where
   -- the slot of a reference of a cell in use
@@ -93,8 +98,13 @@ module _ (p : Places) (c t : List ℕ) where
   crosses-no k f e l = next k f ∙ count-zero (crossTo p c t) (fieldAt k f) e l
 
   -- what has been counted is no more than all
-  pub counted-so-far : (m n : ℕ) → m ≤ n → crossingTo p c t m ≤ crossingTo p c t n
+  counted-so-far : (m n : ℕ) → m ≤ n → crossingTo p c t m ≤ crossingTo p c t n
   counted-so-far m n l = sum-mono (λ q. bit (crossing p c t q)) m n l
+
+  -- so the first slot past e of them is one too many
+  pub too-many : (k f : ℕ) {n e r : ℕ} → n ≡ crossingTo p c t (fieldAt k f) → r ≡ crossTo p c t (fieldAt k f) → 0 < r → e < n + 1
+      → fieldAt k (f + 1) ≤ 256 * p .pages → CellsCross p c t e → ⊥
+  too-many k f h q l m b w = omega (arith, crosses-yes k f q l, counted-so-far (fieldAt k (f + 1)) (256 * p .pages) b, w .crossing)
 
   -- the words of the slot at a position, as the code read them: the ways in which none crosses there, and the slot that may
   module _ (at cell : ℕ) (e : cell ≡ cellOf at) where
@@ -134,9 +144,6 @@ module _ (p : Places) (t : List ℕ) (x : ℕ) where
     pub region-there : page < p .pages → {r : ℕ} → r ≡ ownerOf p t page → r ≡ regionOf p t x
     region-there l g = simp (ne-eqb x 0 n, page-is, lt-ltb page (p .pages) l) g
 
--- n as the code counted it: all there are, or already more than e
-pub says-all : (n x e : ℕ) → n ≡ x → Says (eqb n e) (x ≡ e)
-says-all n x e h = (λ q. sym h ∙ eqb-true n e q, λ q. eq-eqb n e (h ∙ q))
-
-pub says-more : (n x e : ℕ) → e < n → e < x → Says (eqb n e) (x ≡ e)
-says-more n x e h l = (λ q. absurd (let z : ⊥ = omega (arith, eqb-true n e q) in z), λ q. absurd (let z : ⊥ = omega arith in z))
+-- n as the code counted it, all there are
+pub says-cross : {p : Places} {c t : List ℕ} (n e : ℕ) → CellsWhole p c t → n ≡ crossingTo p c t (256 * p .pages) → Says (eqb n e) (CellsCross p c t e)
+says-cross n e w h = (λ q. record { whole = w; crossing = sym h ∙ eqb-true n e q }, λ k. eq-eqb n e (h ∙ k .crossing))

@@ -17,7 +17,7 @@ use Rattle.lists.specs.Counting.{sum, sum-more, sum-high}
 use Rattle.layout.specs.declared.Places.{Places}
 use Rattle.layout.specs.Places.{Room, ownerOf, usedOf, countOf}
 use Rattle.promises.specs.Whole.{Partial, objectsOn, objectsOf, PageWhole}
-use Rattle.whole.specs.Pages.{PagesWhole, open-high}
+use Rattle.whole.specs.Pages.{PageChecked, PagesWhole, open-high}
 
 abbrev pub CountsWhole : Places → List ℕ → Type 0
 CountsWhole p t = (g : ℕ) → 1 ≤ g → g ≤ 1 + p .threads * p .depth → countOf p t g ≡ objectsOf p t g
@@ -27,6 +27,7 @@ abbrev pub PartialWhole : Places → List ℕ → ℕ → Type 0
 PartialWhole p t n = (g : ℕ) → 1 ≤ g → (a b : ℕ) → a < b → b < n → Partial p t g a → Partial p t g b → ⊥
 
 pub record RegionsWhole (p : Places) (t : List ℕ) : Type 0 where
+  pub pages : PagesWhole p t
   pub partial : PartialWhole p t (p .pages)
   pub counts : CountsWhole p t
 
@@ -151,9 +152,9 @@ objects-low p t objects partly n o w h l m =
         go (yes q) = omega (arith, on-own p t o k q)
         go (no q) = omega (arith, on-other p t o k q)
 
--- the same of lent tables whose pages are whole; o is an owner as the code read it
+-- the same of lent tables, of a page that is whole; o is its owner as the code read it
 pub region-few : (p : Places) (n : ℕ) → Room p n → p .threads * p .depth ≤ 128
 region-few p n r = mul-le-mul (r .threads-high) (r .depth-high)
 
-pub owner-room : (p : Places) (t : List ℕ) (n page : ℕ) {o : ℕ} → Room p n → PagesWhole p t → page < p .pages → o ≡ ownerOf p t page → o < 130
-owner-room p t n page r w l e = omega (arith, owner-high p t page (r .depth-low) (region-few p n r) (w page l .whole))
+pub owner-room : (p : Places) (t : List ℕ) (n page : ℕ) {o : ℕ} → Room p n → PageChecked p t page → o ≡ ownerOf p t page → o < 130
+owner-room p t n page r w e = omega (arith, owner-high p t page (r .depth-low) (region-few p n r) (w .whole))

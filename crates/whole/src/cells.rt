@@ -1,40 +1,56 @@
-// Every cell in use has 01's form, its working word is zero, and its references are null or name a cell in use.
-ghost use Prim.Native.Nat.{_+_, _*_, _<_, _≤_};
+// Every cell in use has 01's form, its working word is zero, and its references are null or name a cell in use. The same pass counts the
+// slots that cross.
+ghost use Prim.Native.Nat.{_+_, _*_, _^_, _<_, _≤_};
 ghost use lib.ListN.{length};
 ghost use Rattle.lists.specs.Says.{Says};
 ghost use Rattle.layout.specs.Places.{Room};
 ghost use Rattle.whole.specs.Pages.{PagesWhole};
-ghost use Rattle.whole.specs.Cells.{CellsWhole, ZeroFrom};
+ghost use Rattle.whole.specs.Cells.{ZeroFrom};
+ghost use Rattle.whole.specs.Crossing.{CellsCross};
+use crate::crossing::other_region;
+use crate::crossing::region_of;
 use crate::variables::is_ref;
 use layout::Kind;
 use layout::Places;
 
-// Whether a cell's fields are zero, the first few left out.
+// Whether a cell's fields are zero, the first few left out. Two are read in a turn.
 pub fn zero_from(cells: &[u32], cell: usize, first: usize) -> bool
     requires { ⌜ (cell < 16384) × (16 * cell + 16 ≤ length (now cells)) ⌝ }
     ensures { λ r. ⌜ Says r (ZeroFrom (now (cells .entry)) cell first) ⌝ }
 {
     let mut f = first;
-    while f < layout::cells::FIELDS {
+    while f < layout::cells::FIELDS - 1 {
         if layout::cells::field(cells, cell, f) != 0 {
             return false;
         }
-        f += 1;
+        if layout::cells::field(cells, cell, f + 1) != 0 {
+            return false;
+        }
+        f += 2;
+    }
+    if f < layout::cells::FIELDS {
+        if layout::cells::field(cells, cell, f) != 0 {
+            return false;
+        }
     }
     true
 }
 
-// A field that is a number may hold any word, so it is not read.
-pub fn cells_whole(p: Places, cells: &[u32], tables: &[u32]) -> bool
+// Whether every cell in use is whole and as many slots cross as there are entries used, in one pass. A field that is a number may hold
+// any word, so it is not read. The first slot too many ends it.
+pub fn cells_whole(p: Places, cells: &[u32], tables: &[u32], entries: usize) -> bool
     requires { ⌜ Room p (length (now tables)) ⌝ }
     requires { ⌜ 256 * p .pages ≤ length (now cells) ⌝ }
     requires { ⌜ PagesWhole p (now tables) ⌝ }
-    ensures { λ r. ⌜ Says r (CellsWhole p (now (cells .entry)) (now (tables .entry))) ⌝ }
+    requires { ⌜ entries < 2 ^ 32 ⌝ }
+    ensures { λ r. ⌜ Says r (CellsCross p (now (cells .entry)) (now (tables .entry)) entries) ⌝ }
 {
     let pages = p.pages;
     let mut ok = true;
+    let mut n: usize = 0;
     let mut page = 0;
     'pages: while page < pages {
+        let owner = layout::tables::owner(p, tables, page);
         let used = layout::wide(layout::tables::used(p, tables, page));
         let mut place = 0;
         'cells: while place < used {
@@ -52,9 +68,17 @@ pub fn cells_whole(p: Places, cells: &[u32], tables: &[u32]) -> bool
             }
             let mut f = 0;
             'fields: while f < refs {
-                if !is_ref(p, tables, layout::cells::field(cells, cell, f)) {
+                let x = layout::cells::field(cells, cell, f);
+                if !is_ref(p, tables, x) {
                     ok = false;
                     break 'pages;
+                }
+                if 0 < other_region(owner, region_of(p, tables, x)) {
+                    n += 1;
+                    if entries < n {
+                        ok = false;
+                        break 'pages;
+                    }
                 }
                 f += 1;
             }
@@ -66,5 +90,8 @@ pub fn cells_whole(p: Places, cells: &[u32], tables: &[u32]) -> bool
         }
         page += 1;
     }
-    ok
+    if !ok {
+        return false;
+    }
+    n == entries
 }

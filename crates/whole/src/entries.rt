@@ -7,7 +7,7 @@ ghost use Rattle.lists.specs.Seen.{bitIn, withBit};
 ghost use Rattle.layout.specs.Places.{Room, usedIn, slotIn};
 ghost use Rattle.promises.specs.Whole.{EntryWhole, EntriesWhole};
 ghost use Rattle.whole.specs.Entries.{NamedWhole, RestZero, Once, Rising};
-use crate::remember::cross_to;
+use crate::crossing::cross_to;
 use layout::Places;
 
 pub fn entry_whole(p: Places, cells: &[u32], remember: &[u32], tables: &[u32], i: usize) -> bool

@@ -8,10 +8,10 @@ ghost use Rattle.promises.specs.Whole.{WholeAt, Whole};
 use layout::Places;
 
 pub mod cells;
+pub mod crossing;
 pub mod entries;
 pub mod pages;
 pub mod regions;
-pub mod remember;
 pub mod sizes;
 pub mod variables;
 
@@ -25,19 +25,17 @@ pub fn placed_whole(p: Places, cells: &[u32], remember: &[u32], tables: &[u32]) 
     if !pages::depths_whole(p, tables) {
         return false;
     }
-    if !pages::pages_whole(p, tables) {
-        return false;
-    }
     if !regions::regions_whole(p, tables) {
         return false;
     }
     if !variables::variables_whole(p, tables) {
         return false;
     }
-    if !cells::cells_whole(p, cells, tables) {
+    let used = layout::wide(layout::remember::used(remember));
+    if !cells::cells_whole(p, cells, tables, used) {
         return false;
     }
-    if !remember::remember_whole(p, cells, remember, tables) {
+    if !entries::entries_whole(p, cells, remember, tables) {
         return false;
     }
     true

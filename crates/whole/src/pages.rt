@@ -5,7 +5,7 @@ ghost use lib.ListN.{length};
 ghost use Rattle.lists.specs.Says.{Says};
 ghost use Rattle.layout.specs.Places.{Room};
 ghost use Rattle.promises.specs.Whole.{Open};
-ghost use Rattle.whole.specs.Pages.{DepthsWhole, PageChecked, PagesWhole};
+ghost use Rattle.whole.specs.Pages.{DepthsWhole, PageChecked};
 use layout::Places;
 
 pub fn depths_whole(p: Places, tables: &[u32]) -> bool
@@ -69,21 +69,6 @@ pub fn page_whole(p: Places, tables: &[u32], page: usize) -> bool
     }
     if !is_open(p, tables, owner) {
         return false;
-    }
-    true
-}
-
-pub fn pages_whole(p: Places, tables: &[u32]) -> bool
-    requires { ⌜ Room p (length (now tables)) ⌝ }
-    ensures { λ r. ⌜ Says r (PagesWhole p (now (tables .entry))) ⌝ }
-{
-    let pages = p.pages;
-    let mut page = 0;
-    while page < pages {
-        if !page_whole(p, tables, page) {
-            return false;
-        }
-        page += 1;
     }
     true
 }

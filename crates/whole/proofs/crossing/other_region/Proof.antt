@@ -1,7 +1,7 @@
 -- By cases.
 use borrow.Author.Tests.{le-leb, lt-leb, eq-eqb, ne-eqb}
-use Rattle.whole.proofs.remember.other_region.Statement.{statement}
-use Rattle.whole.proofs.remember.other_region.Tie as tie
+use Rattle.whole.proofs.crossing.other_region.Statement.{statement}
+use Rattle.whole.proofs.crossing.other_region.Tie as tie
 
 returns : tie.Need-returns
 returns c = simp (le-leb _ _ (c .if1 .taken))

@@ -2,8 +2,8 @@
 use borrow.Author.Needs.{needs}
 use denote.Ref.{now}
 use Rattle.whole.specs.Crossing.{region-null, region-out, region-there}
-use Rattle.whole.proofs.remember.region_of.Statement.{statement}
-use Rattle.whole.proofs.remember.region_of.Tie as tie
+use Rattle.whole.proofs.crossing.region_of.Statement.{statement}
+use Rattle.whole.proofs.crossing.region_of.Tie as tie
 
 returns : tie.Need-returns
 returns c =

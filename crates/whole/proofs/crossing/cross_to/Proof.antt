@@ -5,8 +5,8 @@ use Rattle.lists.specs.Says.{said-no}
 use mathlib.Core.Path.{_∙_}
 use denote.Ref.{now}
 use Rattle.whole.specs.Crossing.{cross-unused, cross-other, cross-slot}
-use Rattle.whole.proofs.remember.cross_to.Statement.{statement}
-use Rattle.whole.proofs.remember.cross_to.Tie as tie
+use Rattle.whole.proofs.crossing.cross_to.Statement.{statement}
+use Rattle.whole.proofs.crossing.cross_to.Tie as tie
 
 cell-of-requires : tie.Need-cell-of-requires
 cell-of-requires c κs = search needs
