@@ -136,7 +136,7 @@ ask-first true true true q = refl
 
 -- and the questions that follow, 9 to 12, are asked where it is 0
 pub question-first : (s : Sizes) (n : NeverFreeing) (m : Command)
-    → question (limits s) n m ≡ first (asked s m) (state (limits s) n (decode (m .code)) (m .thread) (m .a) (m .b) (m .c))
+    → question (limits s) n m ≡ first (asked s m) (state (limits s) n m)
 unfolding question asked
 question-first s n m = ask-first (known (decode (m .code))) (ltb (m .thread) (s .threads)) (operands (limits s) (decode (m .code)) (m .a) (m .b) (m .c)) _
 
@@ -300,7 +300,7 @@ pub decoded-refused : (s : Sizes) (m : Command) (q : ℕ) → Refused q ≡ deco
 decoded-refused s m zero e z n = absurd (let o : ⊥ = omega arith in o)
 decoded-refused s m (suc q) e z n =
     question-first s n m
-    ∙ ap (λ (x : ℕ). first x (state (limits s) n (decode (m .code)) (m .thread) (m .a) (m .b) (m .c))) (sym (decoded-number s m) ∙ sym (ap numberOf e))
+    ∙ ap (λ (x : ℕ). first x (state (limits s) n m)) (sym (decoded-number s m) ∙ sym (ap numberOf e))
 
 no-zero : (k x y : Bool) (d : Decoded) → ((q : ℕ) → Refused q ≡ d → ⊥) ⊎ (k ≡ false) → (q : ℕ) → Refused q ≡ known-then k (checkedBy x y d) → 0 < q
 no-zero false x y d h q e = omega (arith, ap numberOf e)

@@ -9,14 +9,14 @@ use lib.ListN.{length, getD, set, length-set}
 use lib.Dec.{ltb, leb}
 use borrow.Author.Tests.{lt-ltb, le-leb, lt-leb}
 use Rattle.rules.specs.declared.Sizes.{Sizes}
-use Rattle.rules.specs.Terms.{ask, refused, done, store, limits}
+use Rattle.rules.specs.Terms.{ask, refused, done, limits}
 use Rattle.rules.specs.NeverFreeing as nf
 use Rattle.rules.specs.NeverFreeing.{Object, noObject, used, varOf, objectOf}
 use Rattle.rules.specs.Graph.{crossing}
 use Rattle.rules.specs.Rules as ru
 use Rattle.rules.specs.Rules.{Regioned, graph, first}
 use Rattle.laws.specs.GraphLaws.{Alive}
-use Rattle.laws.specs.RulesLaws.{Sound, sound-code}
+use Rattle.laws.specs.RulesLaws.{Sound, sound-after}
 use Rattle.layout.specs.declared.Places.{Places}
 use Rattle.layout.specs.declared.Kind.the-variants.{Reference}
 use Rattle.layout.specs.Places.{Room, sizesOf, placesOf, ownerOf, usedIn, slotIn}
@@ -170,8 +170,7 @@ module _ (p : Places) (c m t : List ℕ) (r : Ready p c m t) (u a : ℕ) (l : u 
           ap₂ (λ (i j : ℕ). record { heap = nf.withObject (H .heap) i (record { refs = set (objectOf (H .heap) i .refs) f j; nums = objectOf (H .heap) i .nums }); homes = H .homes }) i (here-var s w u b l o ∙ sym ev)
 
       sound : Sound h′
-      unfolding ru.after
-      sound = subst Sound store-after (sound-code s H (heap-stands s w k .sound) store u a f b)
+      sound = subst Sound store-after (sound-after s H (heap-stands s w k .sound) (commandFor (Store u a f b)))
 
       alive : Alive (graph H) y
       alive = back s w k y (used-alive s w k y there)

@@ -3,7 +3,7 @@ use Prim.Native.Nat.{ℕ, _+_, _≤_, _<_}
 use native.Mathlib.Omega.{arith}
 use mathlib.Core.Path.{_≡_, refl, sym, ap, ap₂, subst, _∙_}
 use mathlib.Core.List.{List}
-use mathlib.Core.Bool.{Bool, true, false, _&&_, _||_}
+use mathlib.Core.Bool.{Bool, true, false, _&&_}
 use lib.ListN.{set}
 use lib.Dec.{ltb, eqb}
 use borrow.Author.Tests.{lt-ltb, le-ltb}
@@ -15,7 +15,7 @@ use Rattle.rules.specs.Terms.{ask, refused, done, limits}
 use Rattle.rules.specs.NeverFreeing as nf
 use Rattle.rules.specs.NeverFreeing.{place}
 use Rattle.rules.specs.Rules as ru
-use Rattle.rules.specs.Rules.{Regioned}
+use Rattle.rules.specs.Rules.{Regioned, asksEntries}
 use Rattle.layout.specs.declared.Places.{Places}
 use Rattle.layout.specs.Places.{sizesOf, placesOf, depthAt, depthOf, varAt}
 use Rattle.promises.specs.Words.{Words, words, heapOf}
@@ -34,7 +34,7 @@ use Rattle.commands.specs.Does.{Does}
 
 -- a variable gets a reference that the rules give it
 pub variable-did : (s : Sizes) (w : Words) (k : WholeFor s w) (t a v : ℕ) → t < s .threads → a < s .variables → (m : Command) → FreesNone s w m → (x : ℕ) → nf.question (limits s) (heapOf s w .heap) m ≡ 0
-    → (eqb (m .code) 2 || eqb (m .code) 7) ≡ false → ru.after s (heapOf s w) m ≡ withVariable (heapOf s w) (place (limits s) t a) v → nf.valueOf (limits s) (heapOf s w .heap) m ≡ x
+    → asksEntries (nf.meaningOf m .effect) ≡ false → ru.after s (heapOf s w) m ≡ withVariable (heapOf s w) (place (limits s) t a) v → nf.valueOf (limits s) (heapOf s w .heap) m ≡ x
     → DidHere s w m (withTables w (set (w .tables) (varAt (placesOf s) (place (limits s) t a)) v)) (done x)
 variable-did s w k t a v l n m keeps x q e f y =
     let h = withVariable (heapOf s w) (place (limits s) t a) v in
@@ -44,7 +44,7 @@ variable-did s w k t a v l n m keeps x q e f y =
 
 -- a command that changes nothing
 pub unchanged-did : (s : Sizes) (w : Words) (k : WholeFor s w) (m : Command) → FreesNone s w m → (x : ℕ) → nf.question (limits s) (heapOf s w .heap) m ≡ 0
-    → (eqb (m .code) 2 || eqb (m .code) 7) ≡ false → ru.after s (heapOf s w) m ≡ heapOf s w → nf.valueOf (limits s) (heapOf s w .heap) m ≡ x → DidHere s w m w (done x)
+    → asksEntries (nf.meaningOf m .effect) ≡ false → ru.after s (heapOf s w) m ≡ heapOf s w → nf.valueOf (limits s) (heapOf s w .heap) m ≡ x → DidHere s w m w (done x)
 unchanged-did s w k m keeps x q e f y =
     did-done s w k m w (heapOf s w) x (question-fine s (heapOf s w) (heapOf s w) m f refl refl q e) f y (same-beyond s w) keeps (λ so. heap-stands s w k)
 

@@ -11,7 +11,7 @@ use Rattle.rules.specs.declared.Answer.{Answer}
 use Rattle.rules.specs.Terms.{ask, limits}
 use Rattle.lists.specs.Members.{keep}
 use Rattle.rules.specs.NeverFreeing as nf
-use Rattle.rules.specs.NeverFreeing.{NeverFreeing, Object, noObject, depthOf, varOf}
+use Rattle.rules.specs.NeverFreeing.{NeverFreeing, Object, noObject, depthOf, varOf, Effect, opens, ends, makes, assigns, meaningOf}
 use Rattle.rules.specs.Regions.{regionAt}
 use Rattle.rules.specs.Graph.{target}
 use Rattle.rules.specs.Rules.{lacking}
@@ -100,12 +100,18 @@ pub record Moves (s : Sizes) (w : Words) (r : ℕ) (w′ : Words) (move : ℕ �
   pub nums : (c c′ : ℕ) → Used s w c → move (suc c) ≡ suc c′ → numsIn w′ c′ ≡ numsIn w c
   pub vars : varsIn s w′ ≡ map move (varsIn s w)
 
+-- the pairs before and after what a command of thread t does, which made w′ of w: the object now in the variable of a new object is paired with the one
+-- just appended, one that is moved takes its pair along, one that is freed loses it; nothing else changes pairs
+abbrev pub PairsAfter : Sizes → Words → Words → ℕ → Effect → List ℕ → List ℕ → Type 0
+PairsAfter s w w′ t opens pairs pairs′ = pairs′ ≡ pairs
+PairsAfter s w w′ t ends pairs pairs′ = (move : ℕ → ℕ) × Moves s w (regionAt s t (depthIn w t)) w′ move × (pairs′ ≡ map move pairs)
+PairsAfter s w w′ t (makes a b c) pairs pairs′ = pairs′ ≡ pairs ++ varIn s w′ t a ∷ []
+PairsAfter s w w′ t (assigns x) pairs pairs′ = pairs′ ≡ pairs
+
 -- the pairs before and after a command on w that answered a and left w′
-pub data Changes (s : Sizes) (w : Words) (m : Command) (a : Answer) (w′ : Words) (pairs pairs′ : List ℕ) : Type 0 where
-  made : a .number ≡ 0 → m .code ≡ 3 → pairs′ ≡ pairs ++ varIn s w′ (m .thread) (m .a) ∷ [] → Changes s w m a w′ pairs pairs′
-  moved : a .number ≡ 0 → m .code ≡ 2 → (move : ℕ → ℕ) → Moves s w (regionAt s (m .thread) (depthIn w (m .thread))) w′ move
-      → pairs′ ≡ map move pairs → Changes s w m a w′ pairs pairs′
-  kept : (a .number ≡ 0 → m .code ≡ 3 → ⊥) → (a .number ≡ 0 → m .code ≡ 2 → ⊥) → pairs′ ≡ pairs → Changes s w m a w′ pairs pairs′
+pub record Changes (s : Sizes) (w : Words) (m : Command) (a : Answer) (w′ : Words) (pairs pairs′ : List ℕ) : Type 0 where
+  pub done : a .number ≡ 0 → PairsAfter s w w′ (m .thread) (meaningOf m .effect) pairs pairs′
+  pub refused : (a .number ≡ 0 → ⊥) → pairs′ ≡ pairs
 
 -- through the commands of a block, from the pairs `pairs` to `pairs′`
 abbrev pub Followed : (s : Sizes) {w w′ : Words} {ms : List Command} {as′ : List Answer} → Chain s w ms as′ w′ → List ℕ → List ℕ → Type 0

@@ -6,34 +6,31 @@ use native.Mathlib.Numerals.{add-one}
 use native.Mathlib.Decide.{ℕ-discrete}
 use mathlib.Core.Path.{_≡_, refl, sym, ap, subst, _∙_}
 use mathlib.Core.List.{List, [], _∷_, _++_, map, map-map}
-use mathlib.Core.Bool.{_&&_}
-use lib.ListN.{length, getD, set, length-map, length-set, length-append, List·getD-map, List·getD-append}
+use lib.ListN.{length, getD, length-map, length-set, length-append, List·getD-map, List·getD-append}
 use lib.Seq.{getD-at, getD-set-same}
-use lib.Dec.{T, ltb, leb, ltb→lt}
-use Rattle.lists.specs.Tests.{both-hold}
 use Rattle.lists.specs.Products.{flat-low}
 use Rattle.rules.specs.declared.Sizes.{Sizes}
 use Rattle.rules.specs.declared.Command.{Command}
 use Rattle.rules.specs.declared.Answer.{Answer}
-use Rattle.rules.specs.Terms.{Code, unknown, start, end, new, copy, clear, load, store, read, write, same, decode, Limits, limits}
+use Rattle.rules.specs.Terms.{Limits, limits}
 use Rattle.lists.specs.Members.{In, map-same, in-place}
 use Rattle.rules.specs.NeverFreeing as nf
-use Rattle.rules.specs.NeverFreeing.{Object, noObject, depthOf, place}
+use Rattle.rules.specs.NeverFreeing.{Object, noObject, depthOf, place, Assignment, nothing, variable, reference, number, Effect, opens, ends, makes, assigns, meaningOf}
 use Rattle.rules.specs.Graph.{Graph, target, ended}
 use Rattle.rules.specs.Regions.{regionAt}
-use Rattle.laws.specs.Asked.{first-zero, thread-ok, operands-ok}
+use Rattle.laws.specs.Asked.{first-zero, thread-ok, MadeLow, made-ok}
 use Rattle.laws.specs.GraphLaws.{Alive}
 use Rattle.laws.specs.EndLaws.{home-stayed, home-went}
 use Rattle.laws.specs.SameRules.{renamed, same-target}
 use Rattle.rules.specs.Rules as ru
 use Rattle.rules.specs.Rules.{Regioned, graph, innermost}
-use Rattle.laws.specs.RulesLaws.{region-pos, graph-ended}
+use Rattle.laws.specs.RulesLaws.{region-pos, graph-ended, afterEffect}
 use Rattle.promises.specs.Words.{Words, graphOf, homeIn, refsIn, numsIn, varsIn, varIn, depthIn, Used}
 use Rattle.lists.specs.Listed.{listed, listed-same, map-listed}
 use Rattle.promises.specs.StandsFor.{StandsFor}
 use Rattle.promises.specs.Promises.{Became, Did}
 use Rattle.promises.specs.Agreed.{cell-used, cell-alive}
-use Rattle.demand.specs.DemandThree.{Moves, regionOf, Changes, made, moved, kept}
+use Rattle.demand.specs.DemandThree.{Moves, regionOf, PairsAfter, Changes}
 use Rattle.promises.specs.Reading.{used-home, used-alive, words-closed, var-at, depth-at, length-vars}
 use Rattle.demand.specs.Pairing.{pairOf, pairsOf, pair-there, pair-freed}
 
@@ -169,140 +166,66 @@ module _ (s : Sizes) (w w₁ : Words) (h h₁ : Regioned) (cellOf cell : ℕ →
 
 -- ---- every command
 
--- a code that makes no object and ends no epoch
-abbrev Plain : Code → Type 0
-Plain unknown = Unit
-Plain start = Unit
-Plain end = ⊥
-Plain new = ⊥
-Plain copy = Unit
-Plain clear = Unit
-Plain load = Unit
-Plain store = Unit
-Plain read = Unit
-Plain write = Unit
-Plain same = Unit
+object-count : (n : nf.NeverFreeing) (v : ℕ) (o : Object) → length (nf.withObject n v o .objects) ≡ length (n .objects)
+object-count n zero o = refl
+object-count n (suc x) o = length-set (n .objects) x o
 
-abbrev AllPlain : List Code → Type 0
-AllPlain [] = Unit
-AllPlain (o ∷ os) = Plain o × AllPlain os
+assigned-count : (s : Limits) (n : nf.NeverFreeing) (t : ℕ) (x : Assignment) → length (nf.assigned s n t x .objects) ≡ length (n .objects)
+assigned-count s n t nothing = refl
+assigned-count s n t (variable a v) = refl
+assigned-count s n t (reference a f v) = object-count n (nf.varOf s n t a) _
+assigned-count s n t (number a f v) = object-count n (nf.varOf s n t a) _
 
-all-plain : (os : List Code) (n : ℕ) → AllPlain os → Plain (getD os n unknown)
-all-plain [] n p = tt
-all-plain (o ∷ os) zero p = p .0
-all-plain (o ∷ os) (suc n) p = all-plain os n (p .1)
+module _ (s : Sizes) (w w₁ : Words) (h : Regioned) (cellOf : ℕ → ℕ) (st : StandsFor s w h cellOf) (t : ℕ) (th : t < s .threads) where
+  -- the object in the variable of a new object
+  new-pair : (a b c : ℕ) → a < s .variables → (d : Became s h cellOf w₁ (afterEffect s h t (makes a b c)))
+      → pairOf (afterEffect s h t (makes a b c)) (d .cell) (length (h .heap .objects)) ≡ varIn s w₁ t a
+  unfolding nf.effect ru.homesAfter
+  new-pair a b c va d =
+      let h₁ = afterEffect s h t (makes a b c) in
+      let n = length (h .heap .objects) in
+      let p = place (limits s) t a in
+      let home : graph h₁ .home n ≡ innermost s h t = getD-at (h .homes) (innermost s h t) [] 0 n (st .sound .aligned) in
+      let long : length (h .heap .vars) ≡ s .threads * s .variables = sym (length-map (h .heap .vars) (renamed cellOf)) ∙ ap (λ (l : List ℕ). length l) (sym (st .partners .vars)) ∙ length-vars s w (st .whole) in
+      let at : getD (h₁ .heap .vars) p 0 ≡ suc n = getD-set-same (h .heap .vars) p (n + 1) 0 (omega (arith, flat-low th va)) ∙ add-one n in
+      pair-there h₁ (d .cell) n (λ y. omega (arith, region-pos s t (depthOf (h .heap) t)))
+      ∙ sym (sym (var-at s w₁ t a th va) ∙ ap (λ (l : List ℕ). getD l p 0) (d .stands .partners .vars) ∙ List·getD-map (renamed (d .cell)) (h₁ .heap .vars) p 0 ∙ ap (renamed (d .cell)) at)
 
-plain : (n : ℕ) → (n ≡ 3 → ⊥) → (n ≡ 2 → ⊥) → Plain (decode n)
-plain zero p q = tt
-plain (suc zero) p q = tt
-plain (suc (suc zero)) p q = q refl
-plain (suc (suc (suc zero))) p q = p refl
-plain (suc (suc (suc (suc n)))) p q = all-plain (copy ∷ clear ∷ load ∷ store ∷ read ∷ write ∷ same ∷ []) n (tt, (tt, (tt, (tt, (tt, (tt, (tt, tt)))))))
-
-homes-plain : (s : Sizes) (h : Regioned) (o : Code) (t : ℕ) → Plain o → ru.homesAfter s h o t ≡ h .homes
-unfolding ru.homesAfter
-homes-plain s h unknown t p = refl
-homes-plain s h start t p = refl
-homes-plain s h copy t p = refl
-homes-plain s h clear t p = refl
-homes-plain s h load t p = refl
-homes-plain s h store t p = refl
-homes-plain s h read t p = refl
-homes-plain s h write t p = refl
-homes-plain s h same t p = refl
-
-objects-plain : (s : Limits) (n : nf.NeverFreeing) (o : Code) (t a b c : ℕ) → Plain o → length (nf.effect s n o t a b c .objects) ≡ length (n .objects)
-unfolding nf.effect
-objects-plain s n unknown t a b c p = refl
-objects-plain s n start t a b c p = refl
-objects-plain s n copy t a b c p = refl
-objects-plain s n clear t a b c p = refl
-objects-plain s n load t a b c p = refl
-objects-plain s n store t a b c p = length-set (n .objects) _ _
-objects-plain s n read t a b c p = refl
-objects-plain s n write t a b c p = length-set (n .objects) _ _
-objects-plain s n same t a b c p = refl
-
--- questions that were answered
-module _ (s : Sizes) (h : Regioned) (m : Command) (e : ru.question s h m ≡ 0) where
-  asked : nf.question (limits s) (h .heap) m ≡ 0
-  unfolding ru.question
-  asked = first-zero (nf.question (limits s) (h .heap) m) (ru.room s h m (ru.after s h m)) e .0
-
-  new-ok : m .code ≡ 3 → m .a < s .variables
-  unfolding nf.operands
-  new-ok k =
-      let t : T (ltb (m .a) (s .variables) && leb (m .b + m .c) 14) = subst (λ (o : ℕ). T (nf.operands (limits s) (decode o) (m .a) (m .b) (m .c))) k (operands-ok (limits s) (h .heap) m asked) in
-      ltb→lt _ _ (both-hold (ltb (m .a) (s .variables)) (leb (m .b + m .c) 14) t .0)
-
-module _ (s : Sizes) (w w₁ : Words) (m : Command) (a : Answer) (h : Regioned) (cellOf : ℕ → ℕ) (st : StandsFor s w h cellOf) where
-  refused-changes : (q : ℕ) → a .number ≡ suc q → (b : Became s h cellOf w₁ h) → Changes s w m a w₁ (pairsOf h cellOf) (pairsOf h (b .cell))
-  refused-changes q e b = kept (λ z. absurd (omega arith)) (λ z. absurd (omega arith)) (pairs-kept h h cellOf (b .cell) (b .stays) refl (λ x. refl))
-
-  done-changes : a .number ≡ 0 → ru.question s h m ≡ 0 → (b : Became s h cellOf w₁ (ru.after s h m)) → Changes s w m a w₁ (pairsOf h cellOf) (pairsOf (ru.after s h m) (b .cell))
-  unfolding ru.after
-  done-changes z e b = go (ℕ-discrete (m .code) 3) (ℕ-discrete (m .code) 2)
+  effect-pairs : (e : Effect) → MadeLow (limits s) e → (b : Became s h cellOf w₁ (afterEffect s h t e)) → PairsAfter s w w₁ t e (pairsOf h cellOf) (pairsOf (afterEffect s h t e) (b .cell))
+  unfolding nf.effect ru.homesAfter
+  effect-pairs opens va b = pairs-kept h _ cellOf (b .cell) (b .stays) refl (λ x. refl)
+  effect-pairs ends va b = (
+    move s w w₁ h (afterEffect s h t ends) cellOf (b .cell) st (b .stands) (b .stays) r pos homes refl refl,
+    moves s w w₁ h (afterEffect s h t ends) cellOf (b .cell) st (b .stands) (b .stays) r pos homes refl refl,
+    pairs-moved s w w₁ h (afterEffect s h t ends) cellOf (b .cell) st (b .stands) (b .stays) r pos homes refl refl,
+  )
     where
-      h₁ : Regioned
-      h₁ = ru.after s h m
-
-      th : m .thread < s .threads
-      th = thread-ok (limits s) (h .heap) m (asked s h m e)
-
       r : ℕ
-      r = regionAt s (m .thread) (depthIn w (m .thread))
+      r = regionAt s t (depthIn w t)
 
-      new-pair : m .code ≡ 3 → pairOf h₁ (b .cell) (length (h .heap .objects)) ≡ varIn s w₁ (m .thread) (m .a)
-      new-pair k =
-          let n = length (h .heap .objects) in
-          let p = place (limits s) (m .thread) (m .a) in
-          let va = new-ok s h m e k in
-          let vs : h₁ .heap .vars ≡ set (h .heap .vars) p (n + 1) = unfold nf.effect in ap (λ (o : ℕ). nf.effect (limits s) (h .heap) (decode o) (m .thread) (m .a) (m .b) (m .c) .vars) k in
-          let hs : h₁ .homes ≡ h .homes ++ innermost s h (m .thread) ∷ [] = unfold ru.homesAfter in ap (λ (o : ℕ). ru.homesAfter s h (decode o) (m .thread)) k in
-          let home : graph h₁ .home n ≡ innermost s h (m .thread) = ap (λ (l : List ℕ). getD l n 0) hs ∙ getD-at (h .homes) (innermost s h (m .thread)) [] 0 n (st .sound .aligned) in
-          let long : length (h .heap .vars) ≡ s .threads * s .variables = sym (length-map (h .heap .vars) (renamed cellOf)) ∙ ap (λ (l : List ℕ). length l) (sym (st .partners .vars)) ∙ length-vars s w (st .whole) in
-          let at : getD (h₁ .heap .vars) p 0 ≡ suc n = ap (λ (l : List ℕ). getD l p 0) vs ∙ getD-set-same (h .heap .vars) p (n + 1) 0 (omega (arith, flat-low th va)) ∙ add-one n in
-          pair-there h₁ (b .cell) n (λ y. omega (arith, region-pos s (m .thread) (depthOf (h .heap) (m .thread))))
-          ∙ sym (sym (var-at s w₁ (m .thread) (m .a) th va) ∙ ap (λ (l : List ℕ). getD l p 0) (b .stands .partners .vars) ∙ List·getD-map (renamed (b .cell)) (h₁ .heap .vars) p 0 ∙ ap (renamed (b .cell)) at)
+      pos : 0 < r
+      pos = region-pos s t (depthIn w t)
 
-      made-pairs : m .code ≡ 3 → pairsOf h₁ (b .cell) ≡ pairsOf h cellOf ++ varIn s w₁ (m .thread) (m .a) ∷ []
-      made-pairs k =
-          pairs-made h h₁ cellOf (b .cell) (b .stays) (st .sound .aligned) (innermost s h (m .thread))
-          (unfold ru.homesAfter in ap (λ (o : ℕ). ru.homesAfter s h (decode o) (m .thread)) k)
-          (unfold nf.effect in ap (λ (o : ℕ). length (nf.effect (limits s) (h .heap) (decode o) (m .thread) (m .a) (m .b) (m .c) .objects)) k ∙ length-append (h .heap .objects) _ ∙ add-one _)
-          ∙ ap (λ (v : ℕ). pairsOf h cellOf ++ v ∷ []) (new-pair k)
-
-      homes : m .code ≡ 2 → (x : ℕ) → graph h₁ .home x ≡ ended s (graph h) r .home x
-      homes k x =
-          let hs : h₁ .homes ≡ ru.ended s h (innermost s h (m .thread)) = unfold ru.homesAfter in ap (λ (o : ℕ). ru.homesAfter s h (decode o) (m .thread)) k in
-          ap (λ (l : List ℕ). getD l x 0) hs
-          ∙ ap (λ (g : Graph). g .home x) (graph-ended s h (innermost s h (m .thread)) (region-pos s (m .thread) (depthOf (h .heap) (m .thread))) [])
-          ∙ ap (λ (d : ℕ). ended s (graph h) (regionAt s (m .thread) d) .home x) (ap (λ (l : List ℕ). getD l (m .thread) 0) (st .depths) ∙ depth-at s w (m .thread) th)
-
-      objects : m .code ≡ 2 → h₁ .heap .objects ≡ h .heap .objects
-      objects k = unfold nf.effect in ap (λ (o : ℕ). nf.effect (limits s) (h .heap) (decode o) (m .thread) (m .a) (m .b) (m .c) .objects) k
-
-      vars : m .code ≡ 2 → h₁ .heap .vars ≡ h .heap .vars
-      vars k = unfold nf.effect in ap (λ (o : ℕ). nf.effect (limits s) (h .heap) (decode o) (m .thread) (m .a) (m .b) (m .c) .vars) k
-
-      go : Dec (m .code ≡ 3) → Dec (m .code ≡ 2) → Changes s w m a w₁ (pairsOf h cellOf) (pairsOf h₁ (b .cell))
-      go (yes k) d = made z k (made-pairs k)
-      go (no j) (yes k) =
-          let pos = region-pos s (m .thread) (depthIn w (m .thread)) in
-          moved z k (move s w w₁ h h₁ cellOf (b .cell) st (b .stands) (b .stays) r pos (homes k) (objects k) (vars k))
-          (moves s w w₁ h h₁ cellOf (b .cell) st (b .stands) (b .stays) r pos (homes k) (objects k) (vars k))
-          (pairs-moved s w w₁ h h₁ cellOf (b .cell) st (b .stands) (b .stays) r pos (homes k) (objects k) (vars k))
-      go (no j) (no k) =
-          let p = plain (m .code) j k in
-          kept (λ y. j) (λ y. k) (pairs-kept h h₁ cellOf (b .cell) (b .stays) (objects-plain (limits s) (h .heap) (decode (m .code)) (m .thread) (m .a) (m .b) (m .c) p)
-          (λ x. ap (λ (l : List ℕ). getD l x 0) (homes-plain s h (decode (m .code)) (m .thread) p)))
+      homes : (x : ℕ) → graph (afterEffect s h t ends) .home x ≡ ended s (graph h) r .home x
+      homes x =
+          ap (λ (g : Graph). g .home x) (graph-ended s h (innermost s h t) (region-pos s t (depthOf (h .heap) t)) [])
+          ∙ ap (λ (d : ℕ). ended s (graph h) (regionAt s t d) .home x) (ap (λ (l : List ℕ). getD l t 0) (st .depths) ∙ depth-at s w t th)
+  effect-pairs (makes a b c) va d =
+      pairs-made h _ cellOf (d .cell) (d .stays) (st .sound .aligned) (innermost s h t) refl (length-append (h .heap .objects) _ ∙ add-one _)
+      ∙ ap (λ (v : ℕ). pairsOf h cellOf ++ v ∷ []) (new-pair a b c va d)
+  effect-pairs (assigns x) va b = pairs-kept h _ cellOf (b .cell) (b .stays) (assigned-count (limits s) (h .heap) t x) (λ x. refl)
 
 pub did-changes : (s : Sizes) {w w′ : Words} {m : Command} {a : Answer} (d : Did s w m w′ a) (h : Regioned) (cellOf : ℕ → ℕ) (st : StandsFor s w h cellOf)
     → Changes s w m a w′ (pairsOf h cellOf) (pairsOf (ru.step s h m .next) (d .next h cellOf st .cell))
-unfolding ru.step ru.answered
-did-changes s {w} {w′} {m} {a} d h cellOf st = go (ru.question s h m) refl (d .answer h cellOf st) (d .next h cellOf st)
+unfolding ru.step ru.answered ru.question ru.after
+did-changes s {w} {w′} {m} {a} d h cellOf st = go (ru.question s h m) refl (ap (λ (x : Answer). x .number) (d .answer h cellOf st)) (d .next h cellOf st)
   where
-    go : (q : ℕ) → ru.question s h m ≡ q → a ≡ ru.answered s h m q .answer → (b : Became s h cellOf w′ (ru.answered s h m q .next))
+    go : (q : ℕ) → ru.question s h m ≡ q → a .number ≡ ru.answered s h m q .answer .number → (b : Became s h cellOf w′ (ru.answered s h m q .next))
         → Changes s w m a w′ (pairsOf h cellOf) (pairsOf (ru.answered s h m q .next) (b .cell))
-    go zero e f b = done-changes s w w′ m a h cellOf st (ap (λ (x : Answer). x .number) f) e b
-    go (suc q) e f b = refused-changes s w w′ m a h cellOf st q (ap (λ (x : Answer). x .number) f) b
+    go zero e f b =
+        let z = first-zero (nf.question (limits s) (h .heap) m) (ru.room s h m (ru.after s h m)) e .0 in
+        record {
+          done = λ y. effect-pairs s w w′ h cellOf st (m .thread) (thread-ok (limits s) (h .heap) m z) (meaningOf m .effect) (made-ok (limits s) (h .heap) m z) b;
+          refused = λ n. absurd (n f);
+        }
+    go (suc q) e f b = record { done = λ z. absurd (omega arith); refused = λ n. pairs-kept h h cellOf (b .cell) (b .stays) refl (λ x. refl) }

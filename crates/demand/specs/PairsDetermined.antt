@@ -11,6 +11,7 @@ use Rattle.lists.specs.Members.{In, in-append, in-bounds}
 use Rattle.rules.specs.declared.Sizes.{Sizes}
 use Rattle.rules.specs.declared.Command.{Command}
 use Rattle.rules.specs.declared.Answer.{Answer}
+use Rattle.rules.specs.NeverFreeing.{Effect, opens, ends, makes, assigns, meaningOf}
 use Rattle.rules.specs.Regions.{regionAt}
 use Rattle.rules.specs.Rules as ru
 use Rattle.laws.specs.RulesLaws.{region-pos}
@@ -20,7 +21,7 @@ use Rattle.promises.specs.Promises.{Chain, none, more, Did, Ran}
 use Rattle.promises.specs.Reading.{used-alive}
 use Rattle.promises.specs.Agreed.{heap-stands, back, whole-for}
 use Rattle.promises.specs.Chained.{asked-whole, did-whole}
-use Rattle.demand.specs.DemandThree.{Block, Runs, stop, next, Moves, Changes, made, moved, kept, Followed, Traced}
+use Rattle.demand.specs.DemandThree.{Block, Runs, stop, next, Moves, PairsAfter, Changes, Followed, Traced}
 use Rattle.demand.specs.Pairing.{pairsOf, pair-alive, stands-paired}
 use Rattle.demand.specs.MovesUnique.{moves-unique}
 use Rattle.demand.specs.Following.{did-changes}
@@ -51,36 +52,13 @@ module _ {s : Sizes} {w w₁ : Words} {m : Command} {a : Answer} (k : WholeFor s
   unfolding pairs pairs₁
   change = did-changes s did (heapOf s w) (λ c. c) (heap-stands s w k)
 
-  -- a cell in use stays in use unless an epoch ends
-  used-stays : (a .number ≡ 0 → m .code ≡ 2 → ⊥) → (c : ℕ) → Used s w c → Used s w₁ c
-  used-stays n c u = go change
-    where
-      go : Changes s w m a w₁ pairs pairs₁ → Used s w₁ c
-      go (made z o e) =
-          after c c (ap (λ (l : List ℕ). getD l c 0) e ∙ List·getD-append pairs (varIn s w₁ (m .thread) (m .a) ∷ []) 0 c (in-bounds pairs c (λ z. omega (arith, before c u))) ∙ before c u)
-      go (moved z o move mv e) = absurd (n z o)
-      go (kept o q e) = after c c (ap (λ (l : List ℕ). getD l c 0) e ∙ before c u)
+  -- where all pairs are kept, cells in use stay in use
+  kept-living : pairs₁ ≡ pairs → (p p₁ : List ℕ) → Living s w p → p₁ ≡ p → Living s w₁ p₁
+  kept-living k p p₁ l e c i = after c c (ap (λ (l : List ℕ). getD l c 0) k ∙ before c (l c (subst (λ (q : List ℕ). In (suc c) q) e i)))
 
-  -- the variable of a new object names it
-  new-used : a .number ≡ 0 → m .code ≡ 3 → (c : ℕ) → varIn s w₁ (m .thread) (m .a) ≡ suc c → Used s w₁ c
-  new-used z o c v = go change
-    where
-      go : Changes s w m a w₁ pairs pairs₁ → Used s w₁ c
-      go (made z′ o′ e) =
-          after (length pairs) c (ap (λ (l : List ℕ). getD l (length pairs) 0) e ∙ getD-at pairs (varIn s w₁ (m .thread) (m .a)) [] 0 (length pairs) refl ∙ v)
-      go (moved z′ o′ move mv e) = absurd (let y : ⊥ = omega (arith, o, o′) in y)
-      go (kept n q e) = absurd (n z o)
-
-  pub living-next : {p p₁ : List ℕ} → Living s w p → Changes s w m a w₁ p p₁ → Living s w₁ p₁
-  living-next {p} {p₁} l (made z o e) c i = ⊎-elim old new (in-append (suc c) p (varIn s w₁ (m .thread) (m .a) ∷ []) (subst (λ (q : List ℕ). In (suc c) q) e i))
-    where
-      old : In (suc c) p → Used s w₁ c
-      old j = used-stays (λ z′ o′. omega (arith, o, o′)) c (l c j)
-
-      new : In (suc c) (varIn s w₁ (m .thread) (m .a) ∷ []) → Used s w₁ c
-      new (inl v) = new-used z o c (sym v)
-      new (inr j) = absurd j
-  living-next {p} {p₁} l (moved z o move mv e) c i = go p l (subst (λ (q : List ℕ). In (suc c) q) e i)
+  effect-living : (t : ℕ) (x : Effect) → PairsAfter s w w₁ t x pairs pairs₁ → (p p₁ : List ℕ) → Living s w p → PairsAfter s w w₁ t x p p₁ → Living s w₁ p₁
+  effect-living t opens k p p₁ l e c i = kept-living k p p₁ l e c i
+  effect-living t ends k p p₁ l (move, mv, e) c i = go p l (subst (λ (q : List ℕ). In (suc c) q) e i)
     where
       from : (v : ℕ) → ((d : ℕ) → v ≡ suc d → Used s w d) → suc c ≡ move v → Used s w₁ c
       from zero h q = absurd (let y : ⊥ = omega (arith, mv .null) in y)
@@ -89,7 +67,23 @@ module _ {s : Sizes} {w w₁ : Words} {m : Command} {a : Answer} (k : WholeFor s
       go : (p : List ℕ) → Living s w p → In (suc c) (map move p) → Used s w₁ c
       go (v ∷ p) h (inl q) = from v (λ d y. h d (inl (sym y))) q
       go (v ∷ p) h (inr j) = go p (λ d y. h d (inr y)) j
-  living-next {p} {p₁} l (kept n o e) c i = used-stays o c (l c (subst (λ (q : List ℕ). In (suc c) q) e i))
+  effect-living t (makes a b d) k p p₁ l e c i = ⊎-elim old new (in-append (suc c) p (varIn s w₁ t a ∷ []) (subst (λ (q : List ℕ). In (suc c) q) e i))
+    where
+      old : In (suc c) p → Used s w₁ c
+      old j = after c c (ap (λ (l : List ℕ). getD l c 0) k ∙ List·getD-append pairs (varIn s w₁ t a ∷ []) 0 c (in-bounds pairs c (λ z. omega (arith, before c (l c j)))) ∙ before c (l c j))
+
+      -- the variable of a new object names it
+      new : In (suc c) (varIn s w₁ t a ∷ []) → Used s w₁ c
+      new (inl v) = after (length pairs) c (ap (λ (l : List ℕ). getD l (length pairs) 0) k ∙ getD-at pairs (varIn s w₁ t a) [] 0 (length pairs) refl ∙ sym v)
+      new (inr j) = absurd j
+  effect-living t (assigns x) k p p₁ l e c i = kept-living k p p₁ l e c i
+
+  pub living-next : {p p₁ : List ℕ} → Living s w p → Changes s w m a w₁ p p₁ → Living s w₁ p₁
+  living-next {p} {p₁} l d = go (ℕ-discrete (a .number) 0)
+    where
+      go : Dec (a .number ≡ 0) → Living s w₁ p₁
+      go (yes z) = effect-living (m .thread) (meaningOf m .effect) (change .done z) p p₁ l (d .done z)
+      go (no n) = kept-living (change .refused n) p p₁ l (d .refused n)
 
   -- two moves of the same end give the same pairs
   moved-same : (r : ℕ) → 0 < r → (f g : ℕ → ℕ) → Moves s w r w₁ f → Moves s w r w₁ g → (p : List ℕ) → Living s w p → map f p ≡ map g p
@@ -101,17 +95,18 @@ module _ {s : Sizes} {w w₁ : Words} {m : Command} {a : Answer} (k : WholeFor s
       at zero h = mf .null ∙ sym (mg .null)
       at (suc d) h = moves-unique s w w₁ k (did-whole s k did) r pos f g mf mg d (h d refl)
 
+  effect-same : (t : ℕ) (x : Effect) (p q₁ q₂ : List ℕ) → Living s w p → PairsAfter s w w₁ t x p q₁ → PairsAfter s w w₁ t x p q₂ → q₁ ≡ q₂
+  effect-same t opens p q₁ q₂ l e f = e ∙ sym f
+  effect-same t ends p q₁ q₂ l e f = e .2 ∙ moved-same (regionAt s t (depthIn w t)) (region-pos s t (depthIn w t)) (e .0) (f .0) (e .1) (f .1) p l ∙ sym (f .2)
+  effect-same t (makes a b c) p q₁ q₂ l e f = e ∙ sym f
+  effect-same t (assigns x) p q₁ q₂ l e f = e ∙ sym f
+
   pub changes-same : {p q₁ q₂ : List ℕ} → Living s w p → Changes s w m a w₁ p q₁ → Changes s w m a w₁ p q₂ → q₁ ≡ q₂
-  changes-same l (made z o e) (made z′ o′ e′) = e ∙ sym e′
-  changes-same l (made z o e) (moved z′ o′ move mv e′) = absurd (let y : ⊥ = omega (arith, o, o′) in y)
-  changes-same l (made z o e) (kept n n′ e′) = absurd (n z o)
-  changes-same l (moved z o move mv e) (made z′ o′ e′) = absurd (let y : ⊥ = omega (arith, o, o′) in y)
-  changes-same {p} l (moved z o f mf e) (moved z′ o′ g mg e′) =
-      e ∙ moved-same (regionAt s (m .thread) (depthIn w (m .thread))) (region-pos s (m .thread) (depthIn w (m .thread))) f g mf mg p l ∙ sym e′
-  changes-same l (moved z o move mv e) (kept n n′ e′) = absurd (n′ z o)
-  changes-same l (kept n n′ e) (made z o e′) = absurd (n z o)
-  changes-same l (kept n n′ e) (moved z o move mv e′) = absurd (n′ z o)
-  changes-same l (kept n n′ e) (kept o o′ e′) = e ∙ sym e′
+  changes-same {p} {q₁} {q₂} l d e = go (ℕ-discrete (a .number) 0)
+    where
+      go : Dec (a .number ≡ 0) → q₁ ≡ q₂
+      go (yes z) = effect-same (m .thread) (meaningOf m .effect) p q₁ q₂ l (d .done z) (e .done z)
+      go (no n) = d .refused n ∙ sym (e .refused n)
 
 -- ---- the commands of a block
 

@@ -8,14 +8,13 @@ use mathlib.Core.List.{map, map-id}
 use lib.ListN.{length, getD, set, length-set, length-map, List·getD-map}
 use lib.Seq.{ext-getD, getD-set-same, getD-set-other}
 use Rattle.rules.specs.declared.Sizes.{Sizes}
-use Rattle.rules.specs.Terms.{end}
 use Rattle.rules.specs.Regions.{regionAt}
 use Rattle.rules.specs.Graph.{Graph, ended}
 use Rattle.rules.specs.Rules as ru
 use Rattle.rules.specs.Rules.{Regioned, graph}
 use Rattle.laws.specs.GraphLaws.{Alive}
 use Rattle.laws.specs.EndLaws.{was-alive}
-use Rattle.laws.specs.RulesLaws.{Sound, region-pos, over, graph-ended, sound-code}
+use Rattle.laws.specs.RulesLaws.{Sound, region-pos, over, graph-ended, sound-after}
 use Rattle.laws.specs.SameRules.{renamed, Partners, partners-ended}
 use Rattle.layout.specs.declared.Kind.{Kind}
 use Rattle.layout.specs.declared.Kind.the-variants.{Reference, Number}
@@ -159,7 +158,7 @@ module _ (s : Sizes) (w : Words) (t k : ℕ) (w′ : Words) (forward : ℕ → �
           evacuated-partners)
 
       sound : Sound h′
-      sound = subst Sound (after-end s w t k th deep) (unfold ru.after in (sound-code s H (base .sound) end t 0 0 0))
+      sound = subst Sound (after-end s w t k th deep) (sound-after s H (base .sound) (endOf t))
 
       -- an object of the heap after the end is one of the graph after the end
       there : (x : ℕ) → Alive (graph h′) x → Alive (ended s (graph H) r) x

@@ -5,52 +5,46 @@ use mathlib.Core.Path.{_≡_, refl, sym, ap, ap₂, subst, _∙_}
 use mathlib.Core.Logic.{_⊎_, inl, inr}
 use mathlib.Core.List.{List, [], _∷_}
 use mathlib.Core.Bool.{Bool, true, false, cond, not, _||_}
-use lib.ListN.{length}
-use lib.Dec.{leb, ltb, eqb}
+use lib.Dec.{leb, eqb}
 use borrow.Author.Tests.{ne-eqb}
 use Rattle.lists.specs.Members.{keep}
 use Rattle.rules.specs.declared.Sizes.{Sizes}
 use Rattle.rules.specs.declared.Command.{Command}
 use Rattle.rules.specs.declared.Answer.{Answer}
-use Rattle.rules.specs.Terms.{Code, unknown, start, end, new, copy, clear, load, store, read, write, same, decode, refused, ask, Limits, limits}
+use Rattle.rules.specs.Terms.{refused, ask, Limits, limits}
 use Rattle.rules.specs.NeverFreeing as nf
+use Rattle.rules.specs.NeverFreeing.{Access, noField, references, numbers, accessed, Effect, opens, ends, makes, assigns, meaningOf, nested}
 use Rattle.rules.specs.Graph.{crossing, freePages, newPages}
 use Rattle.rules.specs.Rules as ru
-use Rattle.rules.specs.Rules.{Regioned, graph, lacking, first}
+use Rattle.rules.specs.Rules.{Regioned, graph, asksEntries, lacking, first}
 
 ask-le : (b : Bool) (q rest : ℕ) → q ≤ 12 → rest ≤ 12 → ask b q rest ≤ 12
 unfolding ask
 ask-le true q rest h k = k
 ask-le false q rest h k = h
 
-used-le : (v i n : ℕ) → nf.used v i n ≤ 12
-used-le v i n = ask-le (not (eqb v 0)) 9 _ (omega arith) (ask-le (ltb i n) 10 0 (omega arith) (omega arith))
+accessed-le : (s : Limits) (n : nf.NeverFreeing) (t : ℕ) (x : Access) (rest : ℕ) → rest ≤ 12 → accessed s n t x rest ≤ 12
+accessed-le s n t noField rest h = h
+accessed-le s n t (references a f) rest h = ask-le _ 9 _ (omega arith) (ask-le _ 10 rest (omega arith) h)
+accessed-le s n t (numbers a f) rest h = ask-le _ 9 _ (omega arith) (ask-le _ 10 rest (omega arith) h)
 
-state-le : (s : Limits) (n : nf.NeverFreeing) (o : Code) (t a b c : ℕ) → nf.state s n o t a b c ≤ 12
-unfolding nf.state
-state-le s n unknown t a b c = omega arith
-state-le s n start t a b c = ask-le (ltb (nf.depthOf n t) (s .depth)) 11 0 (omega arith) (omega arith)
-state-le s n end t a b c = ask-le (ltb 0 (nf.depthOf n t)) 12 0 (omega arith) (omega arith)
-state-le s n new t a b c = omega arith
-state-le s n copy t a b c = omega arith
-state-le s n clear t a b c = omega arith
-state-le s n load t a b c = used-le (nf.varOf s n t b) c (length (nf.objectOf n (nf.varOf s n t b) .refs))
-state-le s n store t a b c = used-le (nf.varOf s n t a) b (length (nf.objectOf n (nf.varOf s n t a) .refs))
-state-le s n read t a b c = used-le (nf.varOf s n t a) b (length (nf.objectOf n (nf.varOf s n t a) .nums))
-state-le s n write t a b c = used-le (nf.varOf s n t a) b (length (nf.objectOf n (nf.varOf s n t a) .nums))
-state-le s n same t a b c = omega arith
+nested-le : (s : Limits) (n : nf.NeverFreeing) (t : ℕ) (e : Effect) → nested s n t e ≤ 12
+nested-le s n t opens = ask-le _ 11 0 (omega arith) (omega arith)
+nested-le s n t ends = ask-le _ 12 0 (omega arith) (omega arith)
+nested-le s n t (makes a b c) = omega arith
+nested-le s n t (assigns x) = omega arith
 
 -- the never-freeing heap refuses with 6 to 12 only
 pub question-le : (s : Limits) (n : nf.NeverFreeing) (m : Command) → nf.question s n m ≤ 12
-unfolding nf.question
+unfolding nf.question nf.state
 question-le s n m =
-    ask-le (nf.known (decode (m .code))) 6 _ (omega arith) (ask-le (ltb (m .thread) (s .threads)) 7 _ (omega arith)
-    (ask-le (nf.operands s (decode (m .code)) (m .a) (m .b) (m .c)) 8 _ (omega arith) (state-le s n (decode (m .code)) (m .thread) (m .a) (m .b) (m .c))))
+    ask-le _ 6 _ (omega arith) (ask-le _ 7 _ (omega arith) (ask-le _ 8 _ (omega arith)
+    (accessed-le s n (m .thread) (meaningOf m .access) _ (nested-le s n (m .thread) (meaningOf m .effect)))))
 
 -- ours adds 13 and 14 only
 room-cases : (s : Sizes) (h : Regioned) (m : Command) (h′ : Regioned) → (ru.room s h m h′ ≡ 0) ⊎ (lacking (refused (ru.room s h m h′)) ≡ true)
 unfolding ru.room ask
-room-cases s h m h′ = go (leb (newPages s (graph h) (graph h′)) (freePages s (graph h))) (eqb (m .code) 2 || eqb (m .code) 7) (leb (crossing (graph h′)) (s .entries))
+room-cases s h m h′ = go (leb (newPages s (graph h) (graph h′)) (freePages s (graph h))) (asksEntries (meaningOf m .effect)) (leb (crossing (graph h′)) (s .entries))
   where
     go : (a b c : Bool) → (ask a 13 (cond b (ask c 14 0) 0) ≡ 0) ⊎ (lacking (refused (ask a 13 (cond b (ask c 14 0) 0))) ≡ true)
     go true true true = inl refl

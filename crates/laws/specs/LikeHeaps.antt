@@ -1,5 +1,5 @@
 -- Two regioned heaps whose objects correspond do the same at every command.
-use Prim.Native.Nat.{ℕ, zero, suc, pred, _+_, _-_, _<_}
+use Prim.Native.Nat.{ℕ, zero, suc, _+_, _-_, _<_}
 use native.Mathlib.Omega.{arith}
 use native.Mathlib.Nat.{suc-inj}
 use native.Mathlib.Numerals.{add-one}
@@ -15,11 +15,13 @@ use borrow.Author.Tests.{eq-eqb, ne-eqb}
 use Rattle.lists.specs.Counting.{bit}
 use Rattle.rules.specs.declared.Sizes.{Sizes}
 use Rattle.rules.specs.declared.Command.{Command}
-use Rattle.rules.specs.Terms.{Code, unknown, start, end, new, copy, clear, load, store, read, write, same, decode, ask, limits}
+use Rattle.rules.specs.Terms.{decode, ask, limits}
 use Rattle.lists.specs.Members.{In, map-same, in-place}
 use Rattle.lists.specs.Stores.{map-set}
 use Rattle.rules.specs.NeverFreeing as nf
-use Rattle.rules.specs.NeverFreeing.{Object, noObject, depthOf, varOf, objectOf, place, used}
+use Rattle.rules.specs.NeverFreeing.{Object, noObject, depthOf, varOf, objectOf, place, usedThen, accessed, nested, referred, meaningOf}
+use Rattle.rules.specs.NeverFreeing.{Access, noField, references, numbers, Source, null, held, loaded, Result, noValue, isObject, theNumber, areSame}
+use Rattle.rules.specs.NeverFreeing.{Assignment, nothing, variable, reference, number, Effect, opens, ends, makes, assigns}
 use Rattle.rules.specs.Regions.{regionAt}
 use Rattle.rules.specs.Graph.{Graph, ended}
 use Rattle.laws.specs.GraphLaws.{Alive}
@@ -27,7 +29,7 @@ use Rattle.laws.specs.EndLaws.{was-alive}
 use Rattle.laws.specs.SameRules.{renamed, renamed-zeros, Partners, partners-ended}
 use Rattle.rules.specs.Rules as ru
 use Rattle.rules.specs.Rules.{Regioned, graph, innermost}
-use Rattle.laws.specs.RulesLaws.{Sound, region-pos, graph-ended, afterCode}
+use Rattle.laws.specs.RulesLaws.{Sound, region-pos, graph-ended, afterEffect}
 
 -- `to` leads each object of h that is there to one of k, one to one and onto, with its home, references, numbers and the variables
 pub record Like (to : ℕ → ℕ) (h k : Regioned) : Type 0 where
@@ -80,8 +82,9 @@ module _ (s : Sizes) (to : ℕ → ℕ) (h k : Regioned) (l : Like to h k) where
   var-ref : (i c : ℕ) → getD (objectOf (k .heap) (getD (k .heap .vars) i 0) .refs) c 0 ≡ renamed to (getD (objectOf (h .heap) (getD (h .heap .vars) i 0) .refs) c 0)
   var-ref i c = ap (λ (vs : List ℕ). getD vs c 0) (var-refs i) ∙ List·getD-map (renamed to) (objectOf (h .heap) (getD (h .heap .vars) i 0) .refs) c 0
 
-  used-like : (i f m n : ℕ) → m ≡ n → used (getD (k .heap .vars) i 0) f m ≡ used (getD (h .heap .vars) i 0) f n
-  used-like i f m n e = ap₂ (λ (b : Bool) (x : ℕ). ask (not b) 9 (ask (ltb f x) 10 0)) (ap (λ (v : ℕ). eqb v 0) (var-like i) ∙ null-like to (getD (h .heap .vars) i 0)) e
+  used-like : (i f m n rest rest′ : ℕ) → m ≡ n → rest ≡ rest′ → usedThen (getD (k .heap .vars) i 0) f m rest ≡ usedThen (getD (h .heap .vars) i 0) f n rest′
+  used-like i f m n rest rest′ e r =
+      ap₂ (λ (b : Bool) (q : ℕ). ask (not b) 9 q) (ap (λ (v : ℕ). eqb v 0) (var-like i) ∙ null-like to (getD (h .heap .vars) i 0)) (ap₂ (λ (x q : ℕ). ask (ltb f x) 10 q) e r)
 
   refs-count : (i : ℕ) → length (objectOf (k .heap) (getD (k .heap .vars) i 0) .refs) ≡ length (objectOf (h .heap) (getD (h .heap .vars) i 0) .refs)
   refs-count i = ap (λ (vs : List ℕ). length vs) (var-refs i) ∙ length-map (objectOf (h .heap) (getD (h .heap .vars) i 0) .refs) (renamed to)
@@ -89,25 +92,22 @@ module _ (s : Sizes) (to : ℕ → ℕ) (h k : Regioned) (l : Like to h k) where
   nums-count : (i : ℕ) → length (objectOf (k .heap) (getD (k .heap .vars) i 0) .nums) ≡ length (objectOf (h .heap) (getD (h .heap .vars) i 0) .nums)
   nums-count i = ap (λ (vs : List ℕ). length vs) (var-nums i)
 
-  state-like : (o : Code) (t a b c : ℕ) → nf.state (limits s) (k .heap) o t a b c ≡ nf.state (limits s) (h .heap) o t a b c
-  unfolding nf.state
-  state-like unknown t a b c = refl
-  state-like start t a b c = ap (λ (ds : List ℕ). ask (ltb (getD ds t 0) (s .depth)) 11 0) (l .depths)
-  state-like end t a b c = ap (λ (ds : List ℕ). ask (ltb 0 (getD ds t 0)) 12 0) (l .depths)
-  state-like new t a b c = refl
-  state-like copy t a b c = refl
-  state-like clear t a b c = refl
-  state-like load t a b c = used-like (place (limits s) t b) c _ _ (refs-count (place (limits s) t b))
-  state-like store t a b c = used-like (place (limits s) t a) b _ _ (refs-count (place (limits s) t a))
-  state-like read t a b c = used-like (place (limits s) t a) b _ _ (nums-count (place (limits s) t a))
-  state-like write t a b c = used-like (place (limits s) t a) b _ _ (nums-count (place (limits s) t a))
-  state-like same t a b c = refl
+  accessed-like : (t : ℕ) (x : Access) (rest rest′ : ℕ) → rest ≡ rest′ → accessed (limits s) (k .heap) t x rest ≡ accessed (limits s) (h .heap) t x rest′
+  accessed-like t noField rest rest′ r = r
+  accessed-like t (references a f) rest rest′ r = used-like (place (limits s) t a) f _ _ rest rest′ (refs-count (place (limits s) t a)) r
+  accessed-like t (numbers a f) rest rest′ r = used-like (place (limits s) t a) f _ _ rest rest′ (nums-count (place (limits s) t a)) r
+
+  nested-like : (t : ℕ) (e : Effect) → nested (limits s) (k .heap) t e ≡ nested (limits s) (h .heap) t e
+  nested-like t opens = ap (λ (ds : List ℕ). ask (ltb (getD ds t 0) (s .depth)) 11 0) (l .depths)
+  nested-like t ends = ap (λ (ds : List ℕ). ask (ltb 0 (getD ds t 0)) 12 0) (l .depths)
+  nested-like t (makes a b c) = refl
+  nested-like t (assigns x) = refl
 
   pub question-like : (m : Command) → nf.question (limits s) (k .heap) m ≡ nf.question (limits s) (h .heap) m
-  unfolding nf.question
+  unfolding nf.question nf.state
   question-like m =
       ap (λ (q : ℕ). ask (nf.known (decode (m .code))) 6 (ask (ltb (m .thread) (s .threads)) 7 (ask (nf.operands (limits s) (decode (m .code)) (m .a) (m .b) (m .c)) 8 q)))
-      (state-like (decode (m .code)) (m .thread) (m .a) (m .b) (m .c))
+      (accessed-like (m .thread) (meaningOf m .access) _ _ (nested-like (m .thread) (meaningOf m .effect)))
 
   same-object : (v u : ℕ) → Live v → Live u → eqb (renamed to v) (renamed to u) ≡ eqb v u
   same-object zero zero f g = refl
@@ -120,19 +120,17 @@ module _ (s : Sizes) (to : ℕ → ℕ) (h k : Regioned) (l : Like to h k) where
       go (no n) =
           ne-eqb (suc (to x)) (suc (to y)) (λ e. n (l .partners .apart x y (f x refl) (g y refl) (suc-inj e))) ∙ sym (ne-eqb (suc x) (suc y) (λ e. n (suc-inj e)))
 
-  pub value-like : (o : Code) (t a b c : ℕ) → nf.value (limits s) (k .heap) o t a b c ≡ nf.value (limits s) (h .heap) o t a b c
+  source-like : (v : Source) → referred (limits s) (k .heap) v ≡ renamed to (referred (limits s) (h .heap) v)
+  source-like null = refl
+  source-like (held t a) = var-like (place (limits s) t a)
+  source-like (loaded t a f) = var-ref (place (limits s) t a) f
+
+  pub value-like : (t : ℕ) (x : Result) → nf.value (limits s) (k .heap) t x ≡ nf.value (limits s) (h .heap) t x
   unfolding nf.value
-  value-like unknown t a b c = refl
-  value-like start t a b c = refl
-  value-like end t a b c = refl
-  value-like new t a b c = refl
-  value-like copy t a b c = refl
-  value-like clear t a b c = refl
-  value-like load t a b c = ap (λ (e : Bool). bit (not e)) (ap (λ (v : ℕ). eqb v 0) (var-ref (place (limits s) t b) c) ∙ null-like to (getD (objectOf (h .heap) (varOf (limits s) (h .heap) t b) .refs) c 0))
-  value-like store t a b c = refl
-  value-like read t a b c = ap (λ (vs : List ℕ). getD vs b 0) (var-nums (place (limits s) t a))
-  value-like write t a b c = refl
-  value-like same t a b c =
+  value-like t noValue = refl
+  value-like t (isObject v) = ap (λ (e : Bool). bit (not e)) (ap (λ (v : ℕ). eqb v 0) (source-like v) ∙ null-like to (referred (limits s) (h .heap) v))
+  value-like t (theNumber a f) = ap (λ (vs : List ℕ). getD vs f 0) (var-nums (place (limits s) t a))
+  value-like t (areSame a b) =
       ap bit (ap₂ eqb (var-like (place (limits s) t a)) (var-like (place (limits s) t b)) ∙ same-object _ _ (var-live (place (limits s) t a)) (var-live (place (limits s) t b)))
 
   -- ---- the heaps after a command
@@ -289,30 +287,21 @@ module _ (s : Sizes) (to : ℕ → ℕ) (h k : Regioned) (l : Like to h k) where
 
   -- ---- every command
 
-  -- what the state's questions 9 and 10 leave
-  used-there : (v f c : ℕ) → used v f c ≡ 0 → (x : ℕ) × (v ≡ suc x)
-  unfolding ask
-  used-there zero f c e = absurd (omega arith)
-  used-there (suc x) f c e = (x, refl)
+  pub same-after : After h k
+  same-after = record { to′ = to; like = l; keeps = λ x a. refl }
 
-  -- a store to the object in the variable at i
-  object-after : (i : ℕ) (x : ℕ) → getD (h .heap .vars) i 0 ≡ suc x → (o o′ : Object) → o′ .refs ≡ map (renamed to) (o .refs) → o′ .nums ≡ o .nums
-      → Sound (record { heap = nf.withObject (h .heap) (getD (h .heap .vars) i 0) o; homes = h .homes })
-      → Sound (record { heap = nf.withObject (k .heap) (getD (k .heap .vars) i 0) o′; homes = k .homes })
-      → After (record { heap = nf.withObject (h .heap) (getD (h .heap .vars) i 0) o; homes = h .homes }) (record { heap = nf.withObject (k .heap) (getD (k .heap .vars) i 0) o′; homes = k .homes })
-  object-after i x e o o′ er en sh sk =
-      let a = l .sound .closed .vars i x e in
-      let p : pred (getD (h .heap .vars) i 0) ≡ x = ap pred e in
-      let p′ : pred (getD (k .heap .vars) i 0) ≡ to x = ap pred (var-like i ∙ ap (renamed to) e) in
+  -- the object that a reference v here, and the one that corresponds there, becomes o and o′
+  object-after : (v u : ℕ) → Live v → u ≡ renamed to v → (o o′ : Object) → o′ .refs ≡ map (renamed to) (o .refs) → o′ .nums ≡ o .nums
+      → Sound (record { heap = nf.withObject (h .heap) v o; homes = h .homes }) → Sound (record { heap = nf.withObject (k .heap) u o′; homes = k .homes })
+      → After (record { heap = nf.withObject (h .heap) v o; homes = h .homes }) (record { heap = nf.withObject (k .heap) u o′; homes = k .homes })
+  object-after zero zero f e o o′ er en sh sk = same-after
+  object-after zero (suc y) f e o o′ er en sh sk = absurd (let z : ⊥ = omega arith in z)
+  object-after (suc x) zero f e o o′ er en sh sk = absurd (let z : ⊥ = omega arith in z)
+  object-after (suc x) (suc y) f e o o′ er en sh sk =
+      let p : y ≡ to x = suc-inj e in
       record {
         to′ = to;
-        like = record {
-          sound = sh;
-          sound′ = sk;
-          depths = l .depths;
-          partners = rw (p, p′) (object-partners x a o o′ er en);
-          nums = rw (p, p′) (object-nums x a o o′ er en);
-        };
+        like = record { sound = sh; sound′ = sk; depths = l .depths; partners = rw p (object-partners x (f x refl) o o′ er en); nums = rw p (object-nums x (f x refl) o o′ er en) };
         keeps = λ y b. refl;
       }
 
@@ -328,9 +317,6 @@ module _ (s : Sizes) (to : ℕ → ℕ) (h k : Regioned) (l : Like to h k) where
         like = record { sound = sh; sound′ = sk; depths = l .depths; partners = vars-partners (set (h .heap .vars) p v) (set (k .heap .vars) p u) (set-vars p v u e); nums = l .nums };
         keeps = λ x a. refl;
       }
-
-  pub same-after : After h k
-  same-after = record { to′ = to; like = l; keeps = λ x a. refl }
 
   innermost-like : (t : ℕ) → innermost s k t ≡ innermost s h t
   innermost-like t = ap (λ (ds : List ℕ). regionAt s t (getD ds t 0)) (l .depths)
@@ -352,34 +338,32 @@ module _ (s : Sizes) (to : ℕ → ℕ) (h k : Regioned) (l : Like to h k) where
           keeps = λ x a. refl;
         }
 
-  pub after-like : (o : Code) (t a b c : ℕ) → nf.state (limits s) (h .heap) o t a b c ≡ 0 → Sound (afterCode s h o t a b c) → Sound (afterCode s k o t a b c)
-      → After (afterCode s h o t a b c) (afterCode s k o t a b c)
-  unfolding nf.effect ru.homesAfter nf.state
-  after-like unknown t a b c e sh sk = same-after
-  after-like start t a b c e sh sk =
+  assigned-after : (t : ℕ) (x : Assignment) → Sound (afterEffect s h t (assigns x)) → Sound (afterEffect s k t (assigns x)) → After (afterEffect s h t (assigns x)) (afterEffect s k t (assigns x))
+  unfolding nf.effect ru.homesAfter
+  assigned-after t nothing sh sk = same-after
+  assigned-after t (variable a v) sh sk = vars-after (place (limits s) t a) _ _ (source-like v) sh sk
+  assigned-after t (reference a f v) sh sk =
+      object-after (varOf (limits s) (h .heap) t a) _ (var-live (place (limits s) t a)) (var-like (place (limits s) t a)) _ _
+      (ap₂ (λ (vs : List ℕ) (i : ℕ). set vs f i) (var-refs (place (limits s) t a)) (source-like v) ∙ sym (map-set (renamed to) (objectOf (h .heap) (varOf (limits s) (h .heap) t a) .refs) f (referred (limits s) (h .heap) v)))
+      (var-nums (place (limits s) t a)) sh sk
+  assigned-after t (number a f v) sh sk =
+      object-after (varOf (limits s) (h .heap) t a) _ (var-live (place (limits s) t a)) (var-like (place (limits s) t a)) _ _ (var-refs (place (limits s) t a))
+      (ap (λ (vs : List ℕ). set vs f v) (var-nums (place (limits s) t a))) sh sk
+
+  pub after-like : (t : ℕ) (e : Effect) → Sound (afterEffect s h t e) → Sound (afterEffect s k t e) → After (afterEffect s h t e) (afterEffect s k t e)
+  unfolding nf.effect ru.homesAfter
+  after-like t opens sh sk =
       record {
         to′ = to;
         like = record { sound = sh; sound′ = sk; depths = ap (λ (ds : List ℕ). set ds t (getD ds t 0 + 1)) (l .depths); partners = l .partners; nums = l .nums };
         keeps = λ x d. refl;
       }
-  after-like end t a b c e sh sk =
+  after-like t ends sh sk =
       let q = innermost-like t in
       let ds = ap (λ (ds : List ℕ). set ds t (getD ds t 0 - 1)) (l .depths) in
       subst (λ (r : ℕ). Sound (over s r k (set (k .heap .depths) t (depthOf (k .heap) t - 1))) → After (over s (innermost s h t) h (set (h .heap .depths) t (depthOf (h .heap) t - 1))) (over s r k (set (k .heap .depths) t (depthOf (k .heap) t - 1))))
       (sym q) (λ sk′. end-after (innermost s h t) (region-pos s t (depthOf (h .heap) t)) _ _ ds sh sk′) sk
-  after-like new t a b c e sh sk =
+  after-like t (makes a b c) sh sk =
       subst (λ (r : ℕ). Sound (grownBy r b (replicate c 0) (place (limits s) t a) k) → After (grownBy (innermost s h t) b (replicate c 0) (place (limits s) t a) h) (grownBy r b (replicate c 0) (place (limits s) t a) k)) (sym (innermost-like t))
       (λ sk′. new-after (innermost s h t) b (replicate c 0) (place (limits s) t a) (region-pos s t (depthOf (h .heap) t)) sh sk′) sk
-  after-like copy t a b c e sh sk = vars-after (place (limits s) t a) _ _ (var-like (place (limits s) c b)) sh sk
-  after-like clear t a b c e sh sk = vars-after (place (limits s) t a) 0 0 refl sh sk
-  after-like load t a b c e sh sk = vars-after (place (limits s) t a) _ _ (var-ref (place (limits s) t b) c) sh sk
-  after-like store t a b c e sh sk =
-      let x = used-there (varOf (limits s) (h .heap) t a) b (length (objectOf (h .heap) (varOf (limits s) (h .heap) t a) .refs)) e in
-      object-after (place (limits s) t a) (x .0) (x .1) _ _
-      (ap₂ (λ (vs : List ℕ) (v : ℕ). set vs b v) (var-refs (place (limits s) t a)) (var-like (place (limits s) t c)) ∙ sym (map-set (renamed to) (objectOf (h .heap) (varOf (limits s) (h .heap) t a) .refs) b (varOf (limits s) (h .heap) t c)))
-      (var-nums (place (limits s) t a)) sh sk
-  after-like read t a b c e sh sk = same-after
-  after-like write t a b c e sh sk =
-      let x = used-there (varOf (limits s) (h .heap) t a) b (length (objectOf (h .heap) (varOf (limits s) (h .heap) t a) .nums)) e in
-      object-after (place (limits s) t a) (x .0) (x .1) _ _ (var-refs (place (limits s) t a)) (ap (λ (vs : List ℕ). set vs b c) (var-nums (place (limits s) t a))) sh sk
-  after-like same t a b c e sh sk = same-after
+  after-like t (assigns x) sh sk = assigned-after t x sh sk

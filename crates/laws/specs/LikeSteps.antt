@@ -1,20 +1,20 @@
 -- Two regioned heaps whose objects correspond answer every command alike, and what the rules say of the one they say of the other.
 use Prim.Native.Nat.{ℕ, zero, suc, _<_}
 use mathlib.Core.Path.{_≡_, refl, sym, ap, ap₂, subst₂, _∙_}
-use mathlib.Core.Bool.{Bool, cond, _||_}
-use lib.Dec.{leb, eqb}
+use mathlib.Core.Bool.{Bool, cond}
+use lib.Dec.{leb}
 use Rattle.rules.specs.declared.Sizes.{Sizes}
 use Rattle.rules.specs.declared.Command.{Command}
-use Rattle.rules.specs.Terms.{decode, ask, done, limits}
+use Rattle.rules.specs.Terms.{ask, done, limits}
 use Rattle.rules.specs.NeverFreeing as nf
+use Rattle.rules.specs.NeverFreeing.{meaningOf}
 use Rattle.rules.specs.Graph.{target, ended, objectsIn, pagesOf, newPages, freePages, crossing}
 use Rattle.laws.specs.GraphLaws.{Alive}
 use Rattle.laws.specs.Counts.{same-free, same-new}
 use Rattle.laws.specs.SameRules.{same-objects, same-crossing, same-target, same-new-ended, same-crossing-ended}
 use Rattle.rules.specs.Rules as ru
-use Rattle.rules.specs.Rules.{Regioned, graph, first}
-use Rattle.laws.specs.RulesLaws.{sound-code}
-use Rattle.laws.specs.Asked.{state-ok}
+use Rattle.rules.specs.Rules.{Regioned, graph, asksEntries, first}
+use Rattle.laws.specs.RulesLaws.{sound-after}
 use Rattle.laws.specs.LikeHeaps.{Like, After, question-like, value-like, after-like, same-after}
 
 -- ---- a whole command, with its questions
@@ -26,7 +26,7 @@ module _ (s : Sizes) (to : ℕ → ℕ) (h k : Regioned) (l : Like to h k) (m : 
       let so = same-objects s to (graph h) (graph k) (l .sound .closed) (l .sound′ .closed) (l .partners) in
       let so₁ = same-objects s to₁ (graph h₁) (graph k₁) (l₁ .sound .closed) (l₁ .sound′ .closed) (l₁ .partners) in
       let sc₁ = same-crossing s to₁ (graph h₁) (graph k₁) (l₁ .sound .closed) (l₁ .sound′ .closed) (l₁ .partners) in
-      sym (ap₂ (λ (b : Bool) (x : ℕ). ask b 13 (cond (eqb (m .code) 2 || eqb (m .code) 7) (ask (leb x (s .entries)) 14 0) 0))
+      sym (ap₂ (λ (b : Bool) (x : ℕ). ask b 13 (cond (asksEntries (meaningOf m .effect)) (ask (leb x (s .entries)) 14 0) 0))
       (ap₂ leb (same-new s (graph h) (graph h₁) (graph k) (graph k₁) so so₁) (same-free s (graph h) (graph k) so)) sc₁)
 
   pub record StepLike : Type 0 where
@@ -57,8 +57,7 @@ module _ (s : Sizes) (to : ℕ → ℕ) (h k : Regioned) (l : Like to h k) (m : 
         where
           after : After s to h k l (ru.after s h m) (ru.after s k m)
           after =
-              after-like s to h k l (decode (m .code)) (m .thread) (m .a) (m .b) (m .c) (state-ok (limits s) (h .heap) m e)
-              (sound-code s h (l .sound) (decode (m .code)) (m .thread) (m .a) (m .b) (m .c)) (sound-code s k (l .sound′) (decode (m .code)) (m .thread) (m .a) (m .b) (m .c))
+              after-like s to h k l (m .thread) (meaningOf m .effect) (sound-after s h (l .sound) m) (sound-after s k (l .sound′) m)
 
           at-h : (w : ℕ) → ru.room s h m (ru.after s h m) ≡ w → ru.question s h m ≡ w
           at-h w f = ap₂ first e f
@@ -67,7 +66,7 @@ module _ (s : Sizes) (to : ℕ → ℕ) (h k : Regioned) (l : Like to h k) (m : 
           at-k w f = ap₂ first (nf-k ∙ e) (room-like (ru.after s h m) (ru.after s k m) (after .to′) (after .like) ∙ f)
 
           done-both : (w : ℕ) → ru.room s h m (ru.after s h m) ≡ w → StepLike
-          done-both zero f = both 0 (at-h 0 f) (at-k 0 f) after (ap done (value-like s to h k l (decode (m .code)) (m .thread) (m .a) (m .b) (m .c)))
+          done-both zero f = both 0 (at-h 0 f) (at-k 0 f) after (ap done (value-like s to h k l (m .thread) (meaningOf m .result)))
           done-both (suc w) f = refused-both w (at-h (suc w) f) (at-k (suc w) f)
 
 -- ---- all of it in one: what the rules say of h they say of k, through the map

@@ -10,9 +10,10 @@ use lib.Dec.{ltb→lt}
 use Rattle.lists.specs.Members.{in-bounds}
 use Rattle.rules.specs.declared.Sizes.{Sizes}
 use Rattle.rules.specs.declared.Command.{Command}
-use Rattle.rules.specs.Terms.{Code, unknown, start, end, new, copy, clear, load, store, read, write, same, decode, limits}
+use Rattle.rules.specs.Terms.{Limits, limits}
 use Rattle.rules.specs.NeverFreeing as nf
-use Rattle.rules.specs.NeverFreeing.{NeverFreeing, depthOf}
+use Rattle.rules.specs.NeverFreeing.{NeverFreeing, Object, depthOf, varOf, nested, assigned, meaningOf}
+use Rattle.rules.specs.NeverFreeing.{Assignment, nothing, variable, reference, number, Effect, opens, ends, makes, assigns}
 use Rattle.rules.specs.Regions.{regionAt, parent, join}
 use Rattle.rules.specs.Graph.{Graph, target, ended}
 use Rattle.laws.specs.RegionLaws.{region-high, parent-at, region-apart, join-control, join-other, join-same}
@@ -20,8 +21,8 @@ use Rattle.laws.specs.GraphLaws.{Alive, Holds, bySlot, byOwn, byOther, t
 use Rattle.laws.specs.EndLaws.{home-went, home-stayed}
 use Rattle.rules.specs.Rules as ru
 use Rattle.rules.specs.Rules.{Regioned, graph, innermost}
-use Rattle.laws.specs.RulesLaws.{region-pos, graph-ended}
-use Rattle.laws.specs.Asked.{ask-zero, first-zero, thread-ok, state-ok}
+use Rattle.laws.specs.RulesLaws.{region-pos, graph-ended, afterEffect}
+use Rattle.laws.specs.Asked.{ask-zero, first-zero, thread-ok, nested-ok}
 
 -- q is the control space, or the region of a thread at a level that is open
 pub data Open (s : Sizes) (ds : List ℕ) (q : ℕ) : Type 0 where
@@ -169,12 +170,20 @@ placed-same s h p n e =
 
 -- ---- every command
 
-placed-code : (s : Sizes) (h : Regioned) → Placed s h → (o : Code) (t a b c : ℕ) → t < s .threads → nf.state (limits s) (h .heap) o t a b c ≡ 0
-    → Placed s (record { heap = nf.effect (limits s) (h .heap) o t a b c; homes = ru.homesAfter s h o t })
-unfolding nf.effect ru.homesAfter nf.state
-placed-code s h p unknown t a b c th q = p
-placed-code s h p start t a b c th q = placed-start s h p t (ltb→lt _ _ (ask-zero _ 10 _ q .0))
-placed-code s h p end t a b c th q = go (depthOf (h .heap) t) refl (ltb→lt _ _ (ask-zero _ 11 _ q .0))
+object-depths : (n : NeverFreeing) (v : ℕ) (o : Object) → nf.withObject n v o .depths ≡ n .depths
+object-depths n zero o = refl
+object-depths n (suc x) o = refl
+
+assigned-depths : (s : Limits) (n : NeverFreeing) (t : ℕ) (x : Assignment) → assigned s n t x .depths ≡ n .depths
+assigned-depths s n t nothing = refl
+assigned-depths s n t (variable a v) = refl
+assigned-depths s n t (reference a f v) = object-depths n (varOf s n t a) _
+assigned-depths s n t (number a f v) = object-depths n (varOf s n t a) _
+
+placed-effect : (s : Sizes) (h : Regioned) → Placed s h → (t : ℕ) (e : Effect) → t < s .threads → nested (limits s) (h .heap) t e ≡ 0 → Placed s (afterEffect s h t e)
+unfolding nf.effect ru.homesAfter
+placed-effect s h p t opens th q = placed-start s h p t (ltb→lt _ _ (ask-zero _ 10 _ q .0))
+placed-effect s h p t ends th q = go (depthOf (h .heap) t) refl (ltb→lt _ _ (ask-zero _ 11 _ q .0))
   where
     go : (d : ℕ) → depthOf (h .heap) t ≡ d → 0 < depthOf (h .heap) t
         → Placed s (record { heap = record { depths = set (h .heap .depths) t (depthOf (h .heap) t - 1); vars = h .heap .vars; objects = h .heap .objects }; homes = ru.ended s h (innermost s h t) })
@@ -182,14 +191,8 @@ placed-code s h p end t a b c th q = go (depthOf (h .heap) t) refl (ltb→lt _ _
     go (suc k) e l =
         let d : depthOf (h .heap) t - 1 ≡ k = omega arith in
         rw (d, e) (placed-ended s h p t k th e (h .heap .vars))
-placed-code s h p new t a b c th q = placed-new s h p (innermost s h t) (innermost-open s (h .heap .depths) t th) _ refl
-placed-code s h p copy t a b c th q = placed-same s h p _ refl
-placed-code s h p clear t a b c th q = placed-same s h p _ refl
-placed-code s h p load t a b c th q = placed-same s h p _ refl
-placed-code s h p store t a b c th q = placed-same s h p _ refl
-placed-code s h p read t a b c th q = p
-placed-code s h p write t a b c th q = placed-same s h p _ refl
-placed-code s h p same t a b c th q = p
+placed-effect s h p t (makes a b c) th q = placed-new s h p (innermost s h t) (innermost-open s (h .heap .depths) t th) _ refl
+placed-effect s h p t (assigns x) th q = placed-same s h p _ (assigned-depths (limits s) (h .heap) t x)
 
 pub placed-step : (s : Sizes) (h : Regioned) (m : Command) → Placed s h → Placed s (ru.step s h m .next)
 unfolding ru.step ru.answered ru.after ru.question
@@ -198,7 +201,7 @@ placed-step s h m p = go (ru.question s h m) refl
     go : (q : ℕ) → ru.question s h m ≡ q → Placed s (ru.answered s h m q .next)
     go zero e =
         let z = first-zero (nf.question (limits s) (h .heap) m) (ru.room s h m (ru.after s h m)) e .0 in
-        placed-code s h p (decode (m .code)) (m .thread) (m .a) (m .b) (m .c) (thread-ok (limits s) (h .heap) m z) (state-ok (limits s) (h .heap) m z)
+        placed-effect s h p (m .thread) (meaningOf m .effect) (thread-ok (limits s) (h .heap) m z) (nested-ok (limits s) (h .heap) m z)
     go (suc q) e = p
 
 pub placed-unused : (s : Sizes) → Placed s (ru.unused s)

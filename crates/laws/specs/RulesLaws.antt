@@ -1,5 +1,5 @@
 -- What the rules keep: no variable and no slot of an object that is there names an object that is not (01, "every reference is null or names a cell in use").
-use Prim.Native.Nat.{ℕ, zero, suc, pred, _+_, _*_, _<_}
+use Prim.Native.Nat.{ℕ, zero, suc, _+_, _*_, _<_}
 use native.Mathlib.Omega.{arith}
 use native.Mathlib.Decide.{decLt}
 use native.Mathlib.Nat.{zero-add, add-zero}
@@ -14,9 +14,10 @@ use borrow.Author.Tests.{ne-eqb}
 use Rattle.lists.specs.Members.{In, getD-in, in-bounds}
 use Rattle.rules.specs.declared.Sizes.{Sizes}
 use Rattle.rules.specs.declared.Command.{Command}
-use Rattle.rules.specs.Terms.{Code, unknown, start, end, new, copy, clear, load, store, read, write, same, decode, limits}
+use Rattle.rules.specs.Terms.{limits}
 use Rattle.rules.specs.NeverFreeing as nf
-use Rattle.rules.specs.NeverFreeing.{Object, noObject, depthOf, varOf, objectOf, place}
+use Rattle.rules.specs.NeverFreeing.{Object, noObject, depthOf, varOf, objectOf, place, referred, assigned, meaningOf}
+use Rattle.rules.specs.NeverFreeing.{Source, null, held, loaded, Assignment, nothing, variable, reference, number, Effect, opens, ends, makes, assigns}
 use Rattle.rules.specs.Flow.{Call, called, flow}
 use Rattle.rules.specs.Regions.{regionAt}
 use Rattle.rules.specs.Graph.{calls, inside, ended}
@@ -75,9 +76,9 @@ sound-var h k p v ok =
 
 -- ---- an object gets fields that name objects that are there, or null
 
-sound-object : (h : Regioned) → Sound h → (p : ℕ) (o : Object) → ((y : ℕ) → In (suc y) (o .refs) → Alive (graph h) y)
-    → Sound (record { heap = record { depths = h .heap .depths; vars = h .heap .vars; objects = set (h .heap .objects) p o }; homes = h .homes })
-sound-object h k p o ok =
+sound-object : (h : Regioned) → Sound h → (v : ℕ) (o : Object) → ((y : ℕ) → In (suc y) (o .refs) → Alive (graph h) y) → Sound (record { heap = nf.withObject (h .heap) v o; homes = h .homes })
+sound-object h k zero o ok = k
+sound-object h k (suc p) o ok =
     let l = k .aligned ∙ sym (length-set (h .heap .objects) p o) in
     record { aligned = l; closed = record { below = λ x a. subst (λ (n : ℕ). x < n) l (in-bounds (h .homes) x a); vars = k .closed .vars; refs = λ x y a i. go x y a i (set-cases (h .heap .objects) p x o noObject) } }
   where
@@ -177,34 +178,44 @@ region-pos s t (suc d) = omega arith
 sound-depth : (h : Regioned) → Sound h → (ds : List ℕ) → Sound (record { heap = record { depths = ds; vars = h .heap .vars; objects = h .heap .objects }; homes = h .homes })
 sound-depth h k ds = record { aligned = k .aligned; closed = k .closed }
 
--- the heap after a command, whose code and operands are given
-abbrev pub afterCode : Sizes → Regioned → Code → ℕ → ℕ → ℕ → ℕ → Regioned
-afterCode s h o t a b c = record { heap = nf.effect (limits s) (h .heap) o t a b c; homes = ru.homesAfter s h o t }
+-- what a command reads is null or names an object that is there
+pub source-alive : (s : Sizes) (h : Regioned) → Closed (graph h) → (v : Source) (x : ℕ) → referred (limits s) (h .heap) v ≡ suc x → Alive (graph h) x
+source-alive s h k null x e = absurd (omega arith)
+source-alive s h k (held t a) x e = k .vars (place (limits s) t a) x e
+source-alive s h k (loaded t a f) x e = object-refs h k (place (limits s) t a) x (getD-in (objectOf (h .heap) (varOf (limits s) (h .heap) t a) .refs) f x e)
 
-pub sound-code : (s : Sizes) (h : Regioned) → Sound h → (o : Code) (t a b c : ℕ) → Sound (afterCode s h o t a b c)
-unfolding nf.effect ru.homesAfter
-sound-code s h k unknown t a b c = k
-sound-code s h k start t a b c = sound-depth h k _
-sound-code s h k end t a b c = sound-ended s h (innermost s h t) (region-pos s t (depthOf (h .heap) t)) _ k
-sound-code s h k new t a b c = sound-new h k (place (limits s) t a) (innermost s h t) b (replicate c 0) (region-pos s t (depthOf (h .heap) t))
-sound-code s h k copy t a b c = sound-var h k (place (limits s) t a) _ (λ x e. k .closed .vars (place (limits s) c b) x e)
-sound-code s h k clear t a b c = sound-var h k (place (limits s) t a) 0 (λ x e. absurd (omega arith))
-sound-code s h k load t a b c = sound-var h k (place (limits s) t a) _ (λ x e. object-refs h (k .closed) (place (limits s) t b) x (getD-in (objectOf (h .heap) (varOf (limits s) (h .heap) t b) .refs) c x e))
-sound-code s h k store t a b c = sound-object h k (pred (varOf (limits s) (h .heap) t a)) _ (λ y i. go y (in-set (objectOf (h .heap) (varOf (limits s) (h .heap) t a) .refs) b (varOf (limits s) (h .heap) t c) (suc y) i))
+sound-assigned : (s : Sizes) (h : Regioned) → Sound h → (t : ℕ) (x : Assignment) → Sound (record { heap = assigned (limits s) (h .heap) t x; homes = h .homes })
+sound-assigned s h k t nothing = k
+sound-assigned s h k t (variable a v) = sound-var h k (place (limits s) t a) _ (source-alive s h (k .closed) v)
+sound-assigned s h k t (reference a f v) =
+    sound-object h k (varOf (limits s) (h .heap) t a) _ (λ y i. go y (in-set (objectOf (h .heap) (varOf (limits s) (h .heap) t a) .refs) f (referred (limits s) (h .heap) v) (suc y) i))
   where
-    go : (y : ℕ) → (suc y ≡ varOf (limits s) (h .heap) t c) ⊎ In (suc y) (objectOf (h .heap) (varOf (limits s) (h .heap) t a) .refs) → Alive (graph h) y
-    go y (inl e) = k .closed .vars (place (limits s) t c) y (sym e)
+    go : (y : ℕ) → (suc y ≡ referred (limits s) (h .heap) v) ⊎ In (suc y) (objectOf (h .heap) (varOf (limits s) (h .heap) t a) .refs) → Alive (graph h) y
+    go y (inl e) = source-alive s h (k .closed) v y (sym e)
     go y (inr i) = object-refs h (k .closed) (place (limits s) t a) y i
-sound-code s h k read t a b c = k
-sound-code s h k write t a b c = sound-object h k (pred (varOf (limits s) (h .heap) t a)) _ (λ y i. object-refs h (k .closed) (place (limits s) t a) y i)
-sound-code s h k same t a b c = k
+sound-assigned s h k t (number a f v) = sound-object h k (varOf (limits s) (h .heap) t a) _ (λ y i. object-refs h (k .closed) (place (limits s) t a) y i)
+
+-- the heap after what a command of thread t does
+abbrev pub afterEffect : Sizes → Regioned → ℕ → Effect → Regioned
+afterEffect s h t e = record { heap = nf.effect (limits s) (h .heap) t e; homes = ru.homesAfter s h t e }
+
+sound-effect : (s : Sizes) (h : Regioned) → Sound h → (t : ℕ) (e : Effect) → Sound (afterEffect s h t e)
+unfolding nf.effect ru.homesAfter
+sound-effect s h k t opens = sound-depth h k _
+sound-effect s h k t ends = sound-ended s h (innermost s h t) (region-pos s t (depthOf (h .heap) t)) _ k
+sound-effect s h k t (makes a b c) = sound-new h k (place (limits s) t a) (innermost s h t) b (replicate c 0) (region-pos s t (depthOf (h .heap) t))
+sound-effect s h k t (assigns x) = sound-assigned s h k t x
+
+pub sound-after : (s : Sizes) (h : Regioned) → Sound h → (m : Command) → Sound (ru.after s h m)
+unfolding ru.after
+sound-after s h k m = sound-effect s h k (m .thread) (meaningOf m .effect)
 
 pub no-dangling : (s : Sizes) (h : Regioned) (m : Command) → Sound h → Sound (ru.step s h m .next)
-unfolding ru.step ru.answered ru.after
+unfolding ru.step ru.answered
 no-dangling s h m k = go (ru.question s h m)
   where
     go : (q : ℕ) → Sound (ru.answered s h m q .next)
-    go zero = sound-code s h k (decode (m .code)) (m .thread) (m .a) (m .b) (m .c)
+    go zero = sound-after s h k m
     go (suc q) = k
 
 pub sound-unused : (s : Sizes) → Sound (ru.unused s)

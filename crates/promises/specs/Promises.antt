@@ -7,7 +7,8 @@ use Rattle.lists.specs.Listed.{listed}
 use Rattle.rules.specs.declared.Sizes.{Sizes}
 use Rattle.rules.specs.declared.Command.{Command}
 use Rattle.rules.specs.declared.Answer.{Answer}
-use Rattle.rules.specs.Terms.{InRange, Code, unknown, start, end, new, copy, clear, load, store, read, write, same, decode}
+use Rattle.rules.specs.Terms.{InRange}
+use Rattle.rules.specs.NeverFreeing.{Effect, opens, ends, makes, assigns, meaningOf}
 use Rattle.rules.specs.Regions.{regionAt}
 use Rattle.laws.specs.GraphLaws.{Alive}
 use Rattle.rules.specs.Rules as ru
@@ -25,23 +26,16 @@ pub record Became (s : Sizes) (h : Regioned) (cellOf : ℕ → ℕ) (w′ : Word
   pub stands : StandsFor s w′ h′ cell
   pub stays : (x : ℕ) → Alive (graph h) x → graph h′ .home x ≡ graph h .home x → cell x ≡ cellOf x
 
--- a command of this code and thread that is done frees the pages of region r: at an end, of the thread's innermost region
-abbrev pub Frees : Sizes → Words → Code → ℕ → ℕ → Type 0
-Frees s w unknown t r = ⊥
-Frees s w start t r = ⊥
-Frees s w end t r = r ≡ regionAt s t (depthIn w t)
-Frees s w new t r = ⊥
-Frees s w copy t r = ⊥
-Frees s w clear t r = ⊥
-Frees s w load t r = ⊥
-Frees s w store t r = ⊥
-Frees s w read t r = ⊥
-Frees s w write t r = ⊥
-Frees s w same t r = ⊥
+-- what a command of thread t does frees the pages of region r: an end, of the thread's innermost region
+abbrev pub Frees : Sizes → Words → ℕ → Effect → ℕ → Type 0
+Frees s w t opens r = ⊥
+Frees s w t ends r = r ≡ regionAt s t (depthIn w t)
+Frees s w t (makes a b c) r = ⊥
+Frees s w t (assigns x) r = ⊥
 
 -- 01: "r's pages become free"; every page of a region that command m frees has no owner in w′
 pub record Freed (s : Sizes) (w : Words) (m : Command) (w′ : Words) : Type 0 where
-  pub pages : (page : ℕ) → page < s .pages → Frees s w (decode (m .code)) (m .thread) (ownerIn s w page) → ownerIn s w′ page ≡ 0
+  pub pages : (page : ℕ) → page < s .pages → Frees s w (m .thread) (meaningOf m .effect) (ownerIn s w page) → ownerIn s w′ page ≡ 0
 
 -- command m on the words w answered a and left w′, said of the heap that the words make
 pub record DidHere (s : Sizes) (w : Words) (m : Command) (w′ : Words) (a : Answer) : Type 0 where

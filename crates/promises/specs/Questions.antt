@@ -4,23 +4,23 @@ use native.Mathlib.Omega.{arith}
 use native.Mathlib.Nat.{sub-self}
 use mathlib.Core.Path.{_≡_, refl, sym, ap, ap₂, subst, _∙_}
 use mathlib.Core.List.{List}
-use mathlib.Core.Bool.{Bool, true, false, cond, _||_}
+use mathlib.Core.Bool.{Bool, true, false, cond}
 use lib.ListN.{length, getD}
-use lib.Dec.{leb, eqb}
+use lib.Dec.{leb}
 use borrow.Author.Tests.{le-leb}
 use Rattle.lists.specs.Counting.{sum-none}
 use Rattle.lists.specs.Products.{flat-low}
 use Rattle.rules.specs.declared.Sizes.{Sizes}
 use Rattle.rules.specs.declared.Command.{Command}
-use Rattle.rules.specs.Terms.{ask, refused, done, limits, decode}
+use Rattle.rules.specs.Terms.{ask, refused, done, limits}
 use Rattle.rules.specs.declared.Answer.{Answer}
 use Rattle.rules.specs.NeverFreeing as nf
-use Rattle.rules.specs.NeverFreeing.{Object, used, varOf, objectOf}
+use Rattle.rules.specs.NeverFreeing.{Object, used, varOf, objectOf, meaningOf}
 use Rattle.rules.specs.Regions.{regions}
 use Rattle.rules.specs.Graph.{Graph, crossing, newPages, freePages, objectsIn, pagesOf}
 use Rattle.laws.specs.RulesLaws.{Sound, no-dangling}
 use Rattle.rules.specs.Rules as ru
-use Rattle.rules.specs.Rules.{Regioned, graph, first}
+use Rattle.rules.specs.Rules.{Regioned, graph, asksEntries, first}
 use Rattle.layout.specs.declared.Kind.{Kind}
 use Rattle.layout.specs.declared.Kind.the-variants.{Reference, Number}
 use Rattle.layout.specs.Places.{placesOf}
@@ -43,7 +43,7 @@ did-answer {s} {w} {w′} {m} e d = subst (DidHere s w m w′) (sym e) d
 
 -- command m frees the pages of no region
 abbrev pub FreesNone : Sizes → Words → Command → Type 0
-FreesNone s w m = (r : ℕ) → Frees s w (decode (m .code)) (m .thread) r → ⊥
+FreesNone s w m = (r : ℕ) → Frees s w (m .thread) (meaningOf m .effect) r → ⊥
 
 module _ (s : Sizes) (w : Words) (k : WholeFor s w) (m : Command) where
   abbrev H : Regioned
@@ -112,19 +112,19 @@ module _ (s : Sizes) (h h′ : Regioned) (m : Command) (n : ru.after s h m ≡ h
       le-leb (newPages s (graph h) (graph (ru.after s h m))) (freePages s (graph h)) (omega arith)
 
   -- 14, asked of a store and an end, is then the only one
-  pub room-crossing : (eqb (m .code) 2 || eqb (m .code) 7) ≡ true → ru.room s h m (ru.after s h m) ≡ ask (leb (crossing (graph h′)) (s .entries)) 14 0
+  pub room-crossing : asksEntries (meaningOf m .effect) ≡ true → ru.room s h m (ru.after s h m) ≡ ask (leb (crossing (graph h′)) (s .entries)) 14 0
   unfolding ru.room ask
   room-crossing e =
       ap₂ (λ (b c : Bool). ask b 13 (cond c (ask (leb (crossing (graph (ru.after s h m))) (s .entries)) 14 0) 0)) pages-fine e
       ∙ ap (λ (g : Regioned). ask (leb (crossing (graph g)) (s .entries)) 14 0) n
 
-  -- and for other codes there is none
-  pub room-fine : (eqb (m .code) 2 || eqb (m .code) 7) ≡ false → ru.room s h m (ru.after s h m) ≡ 0
+  -- and of other commands there is none
+  pub room-fine : asksEntries (meaningOf m .effect) ≡ false → ru.room s h m (ru.after s h m) ≡ 0
   unfolding ru.room ask
   room-fine e =
       ap₂ (λ (b c : Bool). ask b 13 (cond c (ask (leb (crossing (graph (ru.after s h m))) (s .entries)) 14 0) 0)) pages-fine e
 
-  pub question-fine : nf.question (limits s) (h .heap) m ≡ 0 → (eqb (m .code) 2 || eqb (m .code) 7) ≡ false → ru.question s h m ≡ 0
+  pub question-fine : nf.question (limits s) (h .heap) m ≡ 0 → asksEntries (meaningOf m .effect) ≡ false → ru.question s h m ≡ 0
   unfolding ru.question
   question-fine ok e = ap₂ first ok (room-fine e)
 
