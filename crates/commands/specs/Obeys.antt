@@ -38,7 +38,7 @@ Obeys p c m t x c′ m′ t′ (Ends u) = LeftToCaller (sizesOf p) (words c m t)
 -- d is what x was decoded to
 module _ (p : Places) (c m t : List ℕ) (x : Command) (d : Decoded) (g : Decodes (sizesOf p) x d) where
   means : (e : Decoded) → d ≡ e → numberOf e ≡ 0 → Means (sizesOf p) x e
-  means e f z = decoded-means (sizesOf p) x e (sym f ∙ g .command) z
+  means e f z = decoded-means (subst (Decodes (sizesOf p) x) f g) z
 
   -- its operands are in range
   pub in-range : (e : Decoded) → d ≡ e → numberOf e ≡ 0 → Within (sizesOf p) e
@@ -55,6 +55,5 @@ module _ (p : Places) (c m t : List ℕ) (x : Command) (d : Decoded) (g : Decode
 
   pub not-obeyed : Ready p c m t → (q : ℕ) → d ≡ Refused q → {a : Answer} → a ≡ refused q → Obeys p c m t x c m t (Answered a)
   not-obeyed r q f h =
-      let e = sym f ∙ g .command in
-      let pos = refused-number (sizesOf p) x q e in
-      did-answer h (did-asked (sizesOf p) (words c m t) (r .whole) x q pos (decoded-refused (sizesOf p) x q e pos (heapOf (sizesOf p) (words c m t) .heap)))
+      let e = subst (Decodes (sizesOf p) x) f g in
+      did-answer h (did-asked (sizesOf p) (words c m t) (r .whole) x q (refused-number q e) (decoded-refused q e (heapOf (sizesOf p) (words c m t) .heap)))
