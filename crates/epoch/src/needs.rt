@@ -70,12 +70,12 @@ pub fn ask_room(
     requires { ⌜ (thread < p .threads) × (level ≤ p .depth) ⌝ }
     ensures { λ q. ⌜ q ≡ roomAsked p (now (cells .entry)) (now (remember .entry)) (now (tables .entry)) thread level ⌝ }
 {
+    let region = layout::regions::region_at(p, thread, level);
     let needed = needed_pages(p, tables, come, thread, level);
     let free = pages::free_pages(p, tables);
     if free < needed {
         return 13;
     }
-    let region = layout::regions::region_at(p, thread, level);
     let crossing = census::crossing::count_crossing(p, cells, remember, tables, region, k);
     if p.entries < crossing {
         return 14;
