@@ -13,6 +13,7 @@ pub mod RewriteCopies
 pub mod Entries
 pub mod Append
 pub mod Update
+pub mod Settle
 pub mod Links
 pub mod Table
 pub mod Release

@@ -4,6 +4,7 @@ pub mod copy;
 pub mod release;
 pub mod remember;
 pub mod rewrite;
+pub mod settle;
 
 ghost use mathlib.Core.Path.{_≡_};
 ghost use Prim.Native.Nat.{ℕ, _<_, _≤_};
