@@ -18,5 +18,6 @@ pub mod Links
 pub mod Table
 pub mod Release
 pub mod Stages
+pub mod Final
 pub mod Evacuated
 pub mod RememberAfter

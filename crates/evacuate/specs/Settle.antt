@@ -43,7 +43,7 @@ added-read : {p : Places} {n i j : ℕ} {P : ℕ → Type 0} {T X Y M M′ : Lis
     → Added n (Crossing p P Y T) i j M M′
 added-read same a = added-like a (crossing-read (λ x q. sym (same x q))) (crossing-read same)
 
-crossing-in : {p : Places} {P Q : ℕ → Type 0} {W T : List ℕ} → ((x : ℕ) → P x → Q x) → (x h : ℕ) → Crossing p P W T x h → Crossing p Q W T x h
+pub crossing-in : {p : Places} {P Q : ℕ → Type 0} {W T : List ℕ} → ((x : ℕ) → P x → Q x) → (x h : ℕ) → Crossing p P W T x h → Crossing p Q W T x h
 crossing-in f x h q = record { at = f x (q .at); region = q .region; kept = q .kept }
 
 pub settled-none : (p : Places) (r n : ℕ) (P : ℕ → Type 0) (W M T : List ℕ) (j : ℕ) → j ≤ n → ((x : ℕ) → P x → ⊥) → Settled p r n P W M T j W M j
@@ -167,42 +167,52 @@ module _ {p : Places} {r n d k f j i : ℕ} {W M T W′ M′ : List ℕ} (a : Fi
 
 -- ---- the copy of one survivor more; x is word 1 of the old cell, as the code read it
 
-module _ {p : Places} {r n c j i : ℕ} {P P′ Q : ℕ → Type 0} {W M T W′ M′ : List ℕ} (w : Wiring p r Q W T) (g : Grown P c P′) (among : (y : ℕ) → P′ y → Q y)
-    (s : Settling p r n (CopySlot p r Q W T) W M T j) (h : Settled p r n (CopySlot p r P W T) W M T j W′ M′ i) (x : ℕ) (e : x ≡ workOf W′ c)
-    (u : Old p r W T c) where
+module _ {p : Places} {r c : ℕ} {P P′ Q : ℕ → Type 0} {W T W′ : List ℕ} (w : Wiring p r Q W T) (g : Grown P c P′) (among : (y : ℕ) → P′ y → Q y)
+    (h : Rewritten p r (CopySlot p r P W T) W T W′) (x : ℕ) (e : x ≡ workOf W′ c) (u : Old p r W T c) where
   -- its fields, as the words before have them
   one : (y : ℕ) → Field (x - 1) (refsOf W′ (x - 1)) y → CopySlot p r (λ z. z ≡ c) W T y
   one y f =
-      let f′ : Field (workOf W c - 1) (refsOf W′ (workOf W c - 1)) y = subst (λ (z : ℕ). Field (z - 1) (refsOf W′ (z - 1)) y) (e ∙ link-same (h .rewritten) c) f in
+      let f′ : Field (workOf W c - 1) (refsOf W′ (workOf W c - 1)) y = subst (λ (z : ℕ). Field (z - 1) (refsOf W′ (z - 1)) y) (e ∙ link-same h c) f in
       record {
         cell = c;
         among = refl;
         old = u;
-        field = record { field = f′ .field; low = omega (arith, f′ .low, refs-same (h .rewritten) (workOf W c - 1)); at = f′ .at };
+        field = record { field = f′ .field; low = omega (arith, f′ .low, refs-same h (workOf W c - 1)); at = f′ .at };
       }
 
-  earlier-apart : (y : ℕ) → CopySlot p r P W T y → Field (x - 1) (refsOf W′ (x - 1)) y → ⊥
+  copy-apart : (y : ℕ) → CopySlot p r P W T y → Field (x - 1) (refsOf W′ (x - 1)) y → ⊥
   unfolding one
-  earlier-apart y q f =
-      let o = one y f in
-      let z : q .cell ≡ c = slots-apart w (q .cell) c y (among (q .cell) (g .keeps (q .cell) (q .among))) (among c (g .here)) (q .old) u (q .field) (o .field) in
+  copy-apart y q f =
+      let z : q .cell ≡ c = slots-apart w (q .cell) c y (among (q .cell) (g .keeps (q .cell) (q .among))) (among c (g .here)) (q .old) u (q .field) (one y f .field) in
       g .new (subst P z (q .among))
 
-  pub copy-settling : Settling p r n (Field (x - 1) (refsOf W′ (x - 1))) W′ M′ T i
-  copy-settling =
-      settling-next s h (slot-less (λ z m. among z (g .keeps z m))) (λ y f. slot-less (λ z m. subst Q (sym m) (among c (g .here))) y (one y f)) earlier-apart
+  copy-among : (y : ℕ) → Field (x - 1) (refsOf W′ (x - 1)) y → CopySlot p r P′ W T y
+  copy-among y f = slot-less (λ z q. subst P′ (sym q) (g .here)) y (one y f)
+
+  copy-split : (y : ℕ) → CopySlot p r P′ W T y → CopySlot p r P W T y ⊎ Field (x - 1) (refsOf W′ (x - 1)) y
+  copy-split y q = go (g .split (q .cell) (q .among))
+    where
+      go : P (q .cell) ⊎ (q .cell ≡ c) → CopySlot p r P W T y ⊎ Field (x - 1) (refsOf W′ (x - 1)) y
+      go (inl m) = inl (record { cell = q .cell; among = m; old = q .old; field = q .field })
+      go (inr z) =
+          let f : Field (workOf W c - 1) (refsOf W (workOf W c - 1)) y = subst (λ (v : ℕ). Field (workOf W v - 1) (refsOf W (workOf W v - 1)) y) z (q .field) in
+          inr (subst (λ (v : ℕ). Field (v - 1) (refsOf W′ (v - 1)) y) (sym (e ∙ link-same h c))
+          (record { field = f .field; low = omega (arith, f .low, refs-same h (workOf W c - 1)); at = f .at }))
+
+  pub copy-rewritten : {W″ : List ℕ} → Rewritten p r (Field (x - 1) (refsOf W′ (x - 1))) W′ T W″ → Rewritten p r (CopySlot p r P′ W T) W T W″
+  copy-rewritten k = rewritten-join h k copy-apart copy-split (λ y. ⊎-elim (slot-less (g .keeps) y) (copy-among y))
+
+module _ {p : Places} {r n c j i : ℕ} {P P′ Q : ℕ → Type 0} {W M T W′ M′ : List ℕ} (w : Wiring p r Q W T) (g : Grown P c P′) (among : (y : ℕ) → P′ y → Q y)
+    (h : Settled p r n (CopySlot p r P W T) W M T j W′ M′ i) (x : ℕ) (e : x ≡ workOf W′ c) (u : Old p r W T c) where
+  pub copy-settling : Settling p r n (CopySlot p r Q W T) W M T j → Settling p r n (Field (x - 1) (refsOf W′ (x - 1))) W′ M′ T i
+  copy-settling s =
+      settling-next s h (slot-less (λ z m. among z (g .keeps z m))) (λ y f. slot-less among y (copy-among w g among (h .rewritten) x e u y f))
+      (copy-apart w g among (h .rewritten) x e u)
 
   pub copy-settled : {W″ M″ : List ℕ} {i′ : ℕ} → Settled p r n (Field (x - 1) (refsOf W′ (x - 1))) W′ M′ T i W″ M″ i′ → Settled p r n (CopySlot p r P′ W T) W M T j W″ M″ i′
   copy-settled k =
-      settled-join h k earlier-apart (λ y q. from y q (g .split (q .cell) (q .among)))
-      (λ y. ⊎-elim (slot-less (g .keeps) y) (λ f. slot-less (λ z q. subst P′ (sym q) (g .here)) y (one y f)))
-    where
-      from : (y : ℕ) (q : CopySlot p r P′ W T y) → P (q .cell) ⊎ (q .cell ≡ c) → CopySlot p r P W T y ⊎ Field (x - 1) (refsOf W′ (x - 1)) y
-      from y q (inl m) = inl (record { cell = q .cell; among = m; old = q .old; field = q .field })
-      from y q (inr z) =
-          let f : Field (workOf W c - 1) (refsOf W (workOf W c - 1)) y = subst (λ (v : ℕ). Field (workOf W v - 1) (refsOf W (workOf W v - 1)) y) z (q .field) in
-          inr (subst (λ (v : ℕ). Field (v - 1) (refsOf W′ (v - 1)) y) (sym (e ∙ link-same (h .rewritten) c))
-          (record { field = f .field; low = omega (arith, f .low, refs-same (h .rewritten) (workOf W c - 1)); at = f .at }))
+      settled-join h k (copy-apart w g among (h .rewritten) x e u) (copy-split w g among (h .rewritten) x e u)
+      (λ y. ⊎-elim (slot-less (g .keeps) y) (copy-among w g among (h .rewritten) x e u y))
 
 -- ---- the copies of a page's survivors
 

@@ -1,14 +1,19 @@
 // Settle: the copies' own slots, in one pass. Each becomes what it is to be, and if it crosses then, its entry comes.
 ghost use mathlib.Core.Path.{_≡_};
-ghost use Prim.Native.Nat.{ℕ, _+_, _*_, _<_};
+ghost use Prim.Native.Nat.{ℕ, _+_, _*_, _<_, max};
 ghost use lib.ListN.{length};
 ghost use Rattle.lists.specs.Part.{Rises, Off};
-ghost use Rattle.layout.specs.Places.{Room, markOf};
+ghost use Rattle.layout.specs.Places.{Room, markOf, usedIn};
 ghost use Rattle.layout.specs.Cells.{refsOf};
+ghost use Rattle.evacuate.specs.Rewrite.{Rewritten};
 ghost use Rattle.evacuate.specs.RewriteSlots.{Field, Fields};
 ghost use Rattle.evacuate.specs.RewriteCopies.{CopySlot, Wiring, Between};
+ghost use Rattle.evacuate.specs.Update.{Copies, Updated};
 ghost use Rattle.evacuate.specs.Settle.{Settling, Settled};
+ghost use Rattle.evacuate.specs.Final.{Settles};
+use crate::remember::clear_entries;
 use crate::remember::cross;
+use crate::remember::filter_entries;
 use crate::rewrite::forward_ref;
 use layout::Kind;
 use layout::Places;
@@ -113,4 +118,34 @@ pub fn settle_copies(
         a += 1;
     }
     i
+}
+
+fn larger(a: usize, b: usize) -> usize
+    ensures { λ r. ⌜ r ≡ max a b ⌝ }
+{
+    if a < b { b } else { a }
+}
+
+// The copies' slots and the remember table after the end: the entries that stay, those of the copies, then zeros.
+pub fn settle(
+    p: Places,
+    cells: &mut [u32],
+    remember: &mut [u32],
+    tables: &[u32],
+    list: &[u32],
+    n: usize,
+    region: u32,
+)
+    requires { ⌜ Settles p region (p .entries) (usedIn (now remember)) (now cells) (now remember) (now tables) ⌝ }
+    requires { ⌜ Rises (p .pages) n (now list) ⌝ }
+    requires { ⌜ ((page : ℕ) → page < p .pages → Off (now list) n page → markOf p (now tables) page ≡ 0) ⌝ }
+    ensures { λ _. ⌜ Rewritten p region (Copies p region (now (cells .entry)) (now (tables .entry))) (now (cells .entry)) (now (tables .entry)) (now (cells .exit)) ⌝ }
+    ensures { λ _. ⌜ Updated p region (p .entries) (usedIn (now (remember .entry))) (now (cells .exit)) (now (remember .entry)) (now (tables .entry)) (now (remember .exit)) ⌝ }
+{
+    let entries = p.entries;
+    let used = layout::wide(layout::remember::used(remember));
+    let kept = filter_entries(p, cells, remember, tables, region, used);
+    let all = settle_copies(p, cells, remember, tables, list, n, region, kept);
+    clear_entries(entries, remember, all, larger(all, used));
+    layout::remember::set_used(remember, all as u32);
 }

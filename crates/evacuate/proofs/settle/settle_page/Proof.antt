@@ -87,7 +87,7 @@ settle-cell-requires c κs =
       subst (λ (d : ℕ). Fields (a .p) (refsOf (l .cells) d) d (l .cells)) (sym (c .before .before .cell-named .ensures)) (copy-fields (c .before .before .before .before .before .before .before .before .before .before .before .before .before .before .pre .0) g among (l .inv .4 .rewritten) (c .before .before .before .work .result) e u),
       (
         subst (λ (d : ℕ). Settling (a .p) (a .region) (a .p .entries) (Field d (refsOf (l .cells) d)) (l .cells) (l .remember) (a .tables .now) (l .i)) (sym (c .before .before .cell-named .ensures))
-            (copy-settling (c .before .before .before .before .before .before .before .before .before .before .before .before .before .before .pre .0) g among (c .before .before .before .before .before .before .before .before .before .before .before .before .before .before .pre .1 .0) (l .inv .4) (c .before .before .before .work .result) e u),
+            (copy-settling (c .before .before .before .before .before .before .before .before .before .before .before .before .before .before .pre .0) g among (l .inv .4) (c .before .before .before .work .result) e u (c .before .before .before .before .before .before .before .before .before .before .before .before .before .before .pre .1 .0)),
         c .before .before .before .before .before .before .before .before .before .before .before .before .before .before .pre .0 .tables-long,
       ),
     )
@@ -109,7 +109,7 @@ loop-again c =
     let f = lowest (c .before .before .before .before .before .before .before .before .before .before .before .before .before) in
     let left = c .without-bit in
     let come = c .before .before .before .before .before .settle-cell in
-    let h = copy-settled (c .before .before .before .before .before .before .before .before .before .before .before .before .before .before .before .before .before .before .before .before .pre .0) (passed-grown (a .page) i (left .result) f (left .ensures)) (passed-within (a .page) (left .result)) (c .before .before .before .before .before .before .before .before .before .before .before .before .before .before .before .before .before .before .before .before .pre .1 .0) (l .inv .4) (c .before .before .before .before .before .before .before .before .before .work .result) (link (c .before .before .before .before .before .before .before .before .before)) (old (c .before .before .before .before .before .before .before .before .before))
+    let h = copy-settled (c .before .before .before .before .before .before .before .before .before .before .before .before .before .before .before .before .before .before .before .before .pre .0) (passed-grown (a .page) i (left .result) f (left .ensures)) (passed-within (a .page) (left .result)) (l .inv .4) (c .before .before .before .before .before .before .before .before .before .work .result) (link (c .before .before .before .before .before .before .before .before .before)) (old (c .before .before .before .before .before .before .before .before .before))
     (subst (λ (d : ℕ). Settled (a .p) (a .region) (a .p .entries) (Field d (refsOf (l .cells) d)) (l .cells) (l .remember) (a .tables .now) (l .i) (come .last .1 .0) (come .last .1 .1 .0) (come .result)) (c .before .before .before .before .before .before .before .before .cell-named .ensures) (come .ensures)) in
     (l .inv .0, h .rewritten .size, h .added .size, walk-turn i (left .result) (l .inv .3) f (left .ensures), h)
 
