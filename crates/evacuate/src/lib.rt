@@ -1,5 +1,6 @@
 // The end of an epoch once its survivors are marked: word 1 of each cell of the ending region is the region that its object goes to, 0 if
-// it is freed, and its bit in the page's mark word says which is not 0. Four stages: place and copy, rewrite, remember, release.
+// it is freed, and its bit in the page's mark word says which is not 0. Stages: place and copy, rewrite what holds from outside, settle the copies
+// and the remember table, release.
 pub mod copy;
 pub mod release;
 pub mod remember;
@@ -42,8 +43,7 @@ pub fn evacuate(
     let region = layout::regions::region_at(p, thread, level);
     copy::copy_survivors(p, cells, tables, notes, list, n, come, thread, level);
     rewrite::rewrite_slots(p, cells, remember, tables, region);
-    rewrite::rewrite_copies(p, cells, tables, list, n, region);
-    remember::update_remember(p, cells, remember, tables, list, n, region);
+    settle::settle(p, cells, remember, tables, list, n, region);
     rewrite::rewrite_variables(p, cells, tables, region);
     release::release(p, tables, notes, list, n, region, thread);
 }

@@ -1,15 +1,11 @@
-// Rewrite: references into the ending region go by the forward reference in word 1 of the old cell. They stand in the remembered slots,
-// in the copies' own slots and in the variables.
+// Rewrite: references into the ending region go by the forward reference in word 1 of the old cell. From outside they stand in the remembered
+// slots and in the variables.
 ghost use mathlib.Core.Path.{_≡_};
-ghost use Prim.Native.Nat.{ℕ, _+_, _*_, _<_, _≤_};
+ghost use Prim.Native.Nat.{ℕ, _*_, _<_, _≤_};
 ghost use lib.ListN.{length};
-ghost use Rattle.lists.specs.Part.{Rises, Off};
-ghost use Rattle.layout.specs.Places.{Room, varOf, usedIn, markOf};
-ghost use Rattle.layout.specs.Cells.{refsOf};
+ghost use Rattle.layout.specs.Places.{Room, varOf, usedIn};
 ghost use Rattle.evacuate.specs.Rewrite.{Names, moveRef, Rewritten};
-ghost use Rattle.evacuate.specs.RewriteSlots.{Remembered, Slots, Field, Fields, Variables};
-ghost use Rattle.evacuate.specs.RewriteCopies.{CopySlot, Wiring, Between};
-use layout::Kind;
+ghost use Rattle.evacuate.specs.RewriteSlots.{Remembered, Slots, Variables};
 use layout::Places;
 
 // The reference x, by way of the forward reference where it names a cell of the region.
@@ -43,67 +39,6 @@ pub fn rewrite_slots(p: Places, cells: &mut [u32], remember: &[u32], tables: &[u
             let at = layout::wide(layout::remember::slot(entries, remember, i));
             cells[at] = forward_ref(p, cells, tables, region, cells[at]);
         }
-        i += 1;
-    }
-}
-
-// The reference fields of a cell.
-pub fn rewrite_cell(p: Places, cells: &mut [u32], tables: &[u32], region: u32, cell: usize)
-    requires { ⌜ Fields p (refsOf (now cells) cell) cell (now cells) ⌝ }
-    requires { ⌜ Room p (length (now tables)) ⌝ }
-    ensures { λ _. ⌜ Rewritten p region (Field cell (refsOf (now (cells .entry)) cell)) (now (cells .entry)) (now (tables .entry)) (now (cells .exit)) ⌝ }
-{
-    let n = layout::cells::field_count(Kind::Reference, layout::cells::head(cells, cell));
-    let mut f: usize = 0;
-    while f < n {
-        let x = forward_ref(
-            p,
-            cells,
-            tables,
-            region,
-            layout::cells::field(cells, cell, f),
-        );
-        layout::cells::set_field(cells, cell, f, x);
-        f += 1;
-    }
-}
-
-// The reference fields of the copies of a page's survivors: as many as the upper half of its mark word has ones.
-pub fn rewrite_page(p: Places, cells: &mut [u32], tables: &[u32], region: u32, page: usize)
-    requires { ⌜ Wiring p region (Between (16 * page) (16 * (page + 1))) (now cells) (now tables) ⌝ }
-    requires { ⌜ page < p .pages ⌝ }
-    ensures { λ _. ⌜ Rewritten p region (CopySlot p region (Between (16 * page) (16 * (page + 1))) (now (cells .entry)) (now (tables .entry))) (now (cells .entry)) (now (tables .entry)) (now (cells .exit)) ⌝ }
-{
-    let copied = layout::bits::upper_half(layout::tables::mark(p, tables, page));
-    let survivors = u32::count_ones(copied);
-    let mut left = copied;
-    let mut k: u32 = 0;
-    while k < survivors {
-        let i = u32::trailing_zeros(left);
-        let forward = layout::cells::work(cells, layout::cells::cell_on(page, layout::wide(i)));
-        rewrite_cell(p, cells, tables, region, layout::cells::cell_named(forward));
-        left = layout::bits::without_bit(left, i);
-        k += 1;
-    }
-}
-
-// The reference fields of all copies: every survivor was copied off a listed page.
-pub fn rewrite_copies(
-    p: Places,
-    cells: &mut [u32],
-    tables: &[u32],
-    list: &[u32],
-    n: usize,
-    region: u32,
-)
-    requires { ⌜ Wiring p region (Between 0 (16 * p .pages)) (now cells) (now tables) ⌝ }
-    requires { ⌜ Rises (p .pages) n (now list) ⌝ }
-    requires { ⌜ ((page : ℕ) → page < p .pages → Off (now list) n page → markOf p (now tables) page ≡ 0) ⌝ }
-    ensures { λ _. ⌜ Rewritten p region (CopySlot p region (Between 0 (16 * p .pages)) (now (cells .entry)) (now (tables .entry))) (now (cells .entry)) (now (tables .entry)) (now (cells .exit)) ⌝ }
-{
-    let mut i: usize = 0;
-    while i < n {
-        rewrite_page(p, cells, tables, region, layout::wide(list[i]));
         i += 1;
     }
 }
