@@ -19,5 +19,6 @@ pub mod Table
 pub mod Release
 pub mod Stages
 pub mod Final
+pub mod NoSurvivors
 pub mod Evacuated
 pub mod RememberAfter

@@ -1,20 +1,23 @@
 -- Regular pages, and what a cell that is taken does to them: counts, free pages, the pages of a region.
-use mathlib.Core.Path.{_≡_, sym, ap, ap₂, _∙_, subst}
+use mathlib.Core.Path.{_≡_, refl, sym, ap, ap₂, _∙_, subst}
 use mathlib.Core.Logic.{_≢_, _⊎_, inl, inr, ⊎-elim}
+use mathlib.Core.Bool.{Bool, true, false, cond}
 use mathlib.Core.List.{List}
 use Prim.Native.Nat.{ℕ, zero, suc, _+_, _*_, _/_, _%_, _≤_, _<_}
 use native.Mathlib.Decide.{ℕ-discrete, decLt}
 use native.Mathlib.Omega.{arith}
 use borrow.Author.Tests.{eqb-true}
+use lib.Dec.{eqb}
 use lib.ListN.{length, getD, set, length-set}
 use lib.Seq.{getD-set-same, getD-set-other}
-use Rattle.lists.specs.Counting.{sum, sum-same, sum-change, sum-times, sum-pos}
+use Rattle.lists.specs.Counting.{bit, sum, sum-same, sum-change, sum-part, sum-times, sum-pos}
 use Rattle.rules.specs.Graph.{pagesOf}
 use Rattle.layout.specs.declared.Places.{Places}
 use Rattle.layout.specs.Places.{Room, ownerAt, usedAt, markAt, countAt, ownerOf, usedOf, markOf, countOf}
 use Rattle.layout.specs.Cells.{cellOn}
 use Rattle.promises.specs.Words.{InUse}
 use Rattle.promises.specs.Whole.{objectsOn, objectsOf}
+use Rattle.pages.specs.Owned.{ownedOne, ownedIn}
 use Rattle.pages.specs.Pages.{Partly, Found, Filled, taken}
 use Rattle.evacuate.specs.Marks.{sameThen, then-yes, then-no}
 
@@ -319,6 +322,28 @@ module _ {p : Places} {T : List ℕ} (r : Regular p T) (g : ℕ) (real : 1 ≤ g
       ⊎-elim
       (λ h. omega (arith, some-partly (h .0) (h .1), h .1 .partial .part, r .taken (h .0) (h .1 .low) (λ e. omega (arith, h .1 .partial .owner))))
       (λ h. omega (arith, none-partly h)) (seek (p .pages) (omega arith))
+
+  -- the same as the code counts them
+  pub pages-counted : g ≤ regionsOf p → ownedIn p T g (p .pages) ≡ pagesOf (countOf p T g)
+  unfolding pagesOwned ownedOne
+  pages-counted low =
+      sum-same (ownedOne p T g) (ownedOn p T g) (p .pages) (λ x l. one (eqb (ownerOf p T x) g)) ∙ sym pages-owned ∙ ap pagesOf (sym (r .count g real low))
+    where
+      one : (t : Bool) → bit t ≡ cond t 1 0
+      one true = refl
+      one false = refl
+
+  -- a region without objects has no page
+  pub pages-none : g ≤ regionsOf p → countOf p T g ≡ 0 → (x : ℕ) → x < p .pages → ownerOf p T x ≢ g
+  unfolding pagesOwned
+  pages-none low z x l e =
+      omega (
+        arith,
+        pages-owned,
+        r .count g real low,
+        sum-part (ownedOn p T g) x (p .pages) l,
+        then-yes (ownerOf p T x) g 1 e,
+      )
 
   pub usable : (m : ℕ) → 1 ≤ m → pagesOf (objectsOf p T g + m) ≤ pagesOf (objectsOf p T g) + pagesOwned p T 0 → Usable p g T
   unfolding pagesOwned

@@ -11,7 +11,7 @@ ghost use mathlib.Core.Path.{_≡_};
 ghost use Prim.Native.Nat.{ℕ, _<_, _≤_};
 ghost use lib.ListN.{length, getD};
 ghost use Rattle.lists.specs.Part.{Lists};
-ghost use Rattle.layout.specs.Places.{depthOf, ownerOf, usedIn, sizesOf};
+ghost use Rattle.layout.specs.Places.{depthOf, ownerOf, markOf, usedIn, sizesOf};
 ghost use Rattle.rules.specs.Regions.{regionAt};
 ghost use Rattle.pages.specs.Pages.{noteWords};
 ghost use Rattle.evacuate.specs.Marks.{hits};
@@ -46,4 +46,26 @@ pub fn evacuate(
     settle::settle(p, cells, remember, tables, list, n, region);
     rewrite::rewrite_variables(p, cells, tables, region);
     release::release(p, tables, notes, list, n, region, thread);
+}
+
+// The same end where nothing survives: no mark is set, so nothing moves and nothing leads into the region. Its entries and its pages go.
+pub fn evacuate_none(
+    p: Places,
+    cells: &[u32],
+    remember: &mut [u32],
+    tables: &mut [u32],
+    notes: &mut [u32],
+    thread: usize,
+)
+    requires { ⌜ Before p (regionAt (sizesOf p) thread (depthOf (now tables) thread)) (p .entries) (usedIn (now remember)) (depthOf (now tables) thread) (regionAt (sizesOf p) thread) (now cells) (now remember) (now tables) ⌝ }
+    requires { ⌜ (thread < p .threads) × (1 ≤ depthOf (now tables) thread) × (depthOf (now tables) thread ≤ p .depth) ⌝ }
+    requires { ⌜ ((page : ℕ) → page < p .pages → markOf p (now tables) page ≡ 0) ⌝ }
+    requires { ⌜ noteWords ≤ length (now notes) ⌝ }
+    ensures { λ _. ⌜ Finished p (regionAt (sizesOf p) thread (depthOf (now (tables .entry)) thread)) (p .entries) (usedIn (now (remember .entry))) (depthOf (now (tables .entry)) thread) thread (regionAt (sizesOf p) thread) (now (cells .entry)) (now (remember .entry)) (now (tables .entry)) (now (cells .entry)) (now (remember .exit)) (now (tables .exit)) ⌝ }
+{
+    let level = layout::wide(layout::tables::depth(p, tables, thread));
+    let region = layout::regions::region_at(p, thread, level);
+    let none = [0u32; 1];
+    remember::update_remember(p, cells, remember, tables, &none, 0, region);
+    release::release_region(p, tables, notes, region, thread);
 }

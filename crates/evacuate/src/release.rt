@@ -5,7 +5,7 @@ ghost use lib.ListN.{length, getD};
 ghost use Rattle.lists.specs.Part.{Lists, Rises};
 ghost use Rattle.layout.specs.Places.{Room, ownerOf, depthOf};
 ghost use Rattle.pages.specs.Pages.{noteWords};
-ghost use Rattle.evacuate.specs.Taking.{regionsOf};
+ghost use Rattle.evacuate.specs.Taking.{regionsOf, Regular};
 ghost use Rattle.evacuate.specs.Release.{Released, Ended};
 use layout::Places;
 
@@ -61,4 +61,33 @@ pub fn release(
     layout::tables::set_count(p, tables, layout::wide(region), 0);
     let depth = layout::tables::depth(p, tables, thread);
     layout::tables::set_depth(p, tables, thread, depth - 1);
+}
+
+// The same where the region's pages are not listed yet.
+fn list_and_release(p: Places, tables: &mut [u32], notes: &mut [u32], region: u32, thread: usize)
+    requires { ⌜ Regular p (now tables) ⌝ }
+    requires { ⌜ (1 ≤ region) × (region ≤ regionsOf p) ⌝ }
+    requires { ⌜ (thread < p .threads) × (1 ≤ depthOf (now tables) thread) ⌝ }
+    requires { ⌜ noteWords ≤ length (now notes) ⌝ }
+    ensures { λ _. ⌜ Ended p region thread (now (tables .entry)) (now (tables .exit)) ⌝ }
+{
+    let mut list = [0u32; 1024];
+    let n = pages::list_pages(p, tables, region, &mut list);
+    release(p, tables, notes, &list, n, region, thread);
+}
+
+// The same: a region without objects has no pages, and needs no list.
+pub fn release_region(p: Places, tables: &mut [u32], notes: &mut [u32], region: u32, thread: usize)
+    requires { ⌜ Regular p (now tables) ⌝ }
+    requires { ⌜ (1 ≤ region) × (region ≤ regionsOf p) ⌝ }
+    requires { ⌜ (thread < p .threads) × (1 ≤ depthOf (now tables) thread) ⌝ }
+    requires { ⌜ noteWords ≤ length (now notes) ⌝ }
+    ensures { λ _. ⌜ Ended p region thread (now (tables .entry)) (now (tables .exit)) ⌝ }
+{
+    if layout::tables::count(p, tables, layout::wide(region)) != 0 {
+        list_and_release(p, tables, notes, region, thread);
+    } else {
+        let none = [0u32; 1];
+        release(p, tables, notes, &none, 0, region, thread);
+    }
 }
