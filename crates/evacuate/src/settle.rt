@@ -46,8 +46,8 @@ pub fn settle_cell(
             region,
             layout::cells::field(cells, cell, f),
         );
-        layout::cells::set_field(cells, cell, f, x);
         let to = cross(p, tables, from, x);
+        layout::cells::set_field(cells, cell, f, x);
         if to != 0 {
             layout::remember::set_slot(
                 entries,

@@ -39,7 +39,7 @@ roomy : (c : tie.Then1 Inv-loop μ-loop)
 roomy c =
     let pre = c .before .before .before .before .before .before .before .before .before .before .before .before .before .before .before .before .before .before .before .pre in
     let l = c .before .before .before .before .before .before .before .before .before .before .loop in
-    field-fits (pre .0) (pre .1 .0) (omega (arith, l .inv .1, c .before .before .before .before .before .before .before .before .before .loop-test .taken)) (l .inv .5) (c .before .before .before .before .before .before .forward-ref .result) _ (c .before .cross .result) (moved (c .before .before .before .before .before .before)) (l .inv .2) (c .before .cross .ensures) (λ z. omega (arith, c .if1 .taken))
+    field-fits (pre .0) (pre .1 .0) (omega (arith, l .inv .1, c .before .before .before .before .before .before .before .before .before .loop-test .taken)) (l .inv .5) (c .before .before .before .before .before .before .forward-ref .result) _ (c .before .before .before .before .before .cross .result) (moved (c .before .before .before .before .before .before)) (l .inv .2) (c .before .before .before .before .before .cross .ensures) (λ z. omega (arith, c .if1 .taken))
 
 head-requires : tie.Need-head-requires Inv-loop μ-loop
 head-requires c κs = (omega (arith, c .before .before .before .before .pre .0 .page, c .before .before .before .before .pre .0 .pages), omega (arith, c .before .before .before .before .pre .0 .page, c .before .before .before .before .pre .0 .cells-long))
@@ -70,17 +70,17 @@ forward-ref-requires c κs =
     let l = c .before .before .before .loop in
     (subst (λ (x : ℕ). Names (c .before .before .before .before .before .before .before .before .before .before .before .before .args .p) x) (sym (c .field .ensures)) (field-names (pre .0) (pre .1 .0) (omega (arith, l .inv .1)) (l .inv .5)), (omega (arith, pre .0 .cells-long, l .inv .3), pre .1 .1))
 
-set-field-requires : tie.Need-set-field-requires Inv-loop μ-loop
-set-field-requires c κs =
-    let pre = c .before .before .before .before .before .before .before .before .before .before .before .before .before .before .pre in
-    let loop = c .before .before .before .before .before .loop in
-    (omega (arith, pre .0 .page, pre .0 .pages), omega (arith, pre .0 .page, pre .0 .cells-long, loop .inv .3), omega (arith, loop .inv .1, pre .0 .few))
-
 cross-requires : tie.Need-cross-requires Inv-loop μ-loop
 cross-requires c κs =
-    let pre = c .before .before .before .before .before .before .before .before .before .before .before .before .before .before .before .before .before .pre in
-    let l = c .before .before .before .before .before .before .before .before .loop in
-    (moved-names (pre .0) (pre .1 .0) (omega (arith, l .inv .1, c .before .before .before .before .before .before .before .loop-test .taken)) (l .inv .5) (c .before .before .before .before .forward-ref .result) (moved (c .before .before .before .before)), pre .1 .1)
+    let pre = c .before .before .before .before .before .before .before .before .before .before .before .before .before .pre in
+    let l = c .before .before .before .before .loop in
+    (moved-names (pre .0) (pre .1 .0) (omega (arith, l .inv .1, c .before .before .before .loop-test .taken)) (l .inv .5) (c .forward-ref .result) (moved c), pre .1 .1)
+
+set-field-requires : tie.Need-set-field-requires Inv-loop μ-loop
+set-field-requires c κs =
+    let pre = c .before .before .before .before .before .before .before .before .before .before .before .before .before .before .before .pre in
+    let loop = c .before .before .before .before .before .before .loop in
+    (omega (arith, pre .0 .page, pre .0 .pages), omega (arith, pre .0 .page, pre .0 .cells-long, loop .inv .3), omega (arith, loop .inv .1, pre .0 .few))
 
 field-at-requires : tie.Need-field-at-requires Inv-loop μ-loop
 field-at-requires c κs =
@@ -113,16 +113,16 @@ loop-again c =
     let a = c .before .before .before .before .before .before .before .before .before .before .before .before .before .before .before .before .before .before .before .args in
     let l = c .before .before .before .before .before .before .before .before .before .before .loop in
     let lt : l .f < refsOf (a .cells .now) (a .cell) = omega (arith, l .inv .1, c .before .before .before .before .before .before .before .before .before .loop-test .taken) in
-    let v = c .before .cross in
+    let v = c .before .before .before .before .before .cross in
     let ev = moved (c .before .before .before .before .before .before) in
     let P : List ℕ → List ℕ → ℕ → Type 0 = (λ X Y y. Settled (a .p) (a .region) (a .p .entries) (Field (a .cell) (l .f + 1)) (a .cells .now) (a .remember .now) (a .tables .now) (a .j) X Y y) in
-    let h : P (c .before .before .before .before .set-field .last .0) (c .if1 .remember) (c .if1 .i) =
+    let h : P (c .before .before .before .set-field .last .0) (c .if1 .remember) (c .if1 .i) =
     ⊎-elim
     (λ z.
-    subst₃ P (sym (c .before .before .before .before .set-field .ensures)) (sym (z .10 ∙ z .7 .ensures ∙ ap (λ (X : List ℕ). set X (2 + a .p .entries + l .i) (v .result)) (z .3 .ensures))) (sym (z .11))
+    subst₃ P (sym (c .before .before .before .set-field .ensures)) (sym (z .10 ∙ z .7 .ensures ∙ ap (λ (X : List ℕ). set X (2 + a .p .entries + l .i) (v .result)) (z .3 .ensures))) (sym (z .11))
     (field-comes (pre .0) (pre .1 .0) lt (l .inv .5) (c .before .before .before .before .before .before .forward-ref .result) _ (v .result) ev (l .inv .2) (v .ensures) (z .2 .result) (z .2 .ensures) (λ y. omega (arith, z .0 .taken))))
     (λ z.
-    subst₃ P (sym (c .before .before .before .before .set-field .ensures)) (sym (z .1)) (sym (z .2))
+    subst₃ P (sym (c .before .before .before .set-field .ensures)) (sym (z .1)) (sym (z .2))
     (field-stays (pre .0) (pre .1 .0) lt (l .inv .5) (c .before .before .before .before .before .before .forward-ref .result) _ (v .result) ev (l .inv .2) (v .ensures) (omega (arith, z .0 .left))))
     (c .if1 .came) in
     (omega (arith, c .before .before .before .before .before .before .before .before .before .loop-test .taken), l .inv .1, l .inv .2, h .rewritten .size, h .added .size, h)
@@ -153,8 +153,8 @@ settle-cell-spec =
     loop-holds
     field-requires
     forward-ref-requires
-    set-field-requires
     cross-requires
+    set-field-requires
     field-at-requires
     cast-set-slot
     set-slot-requires
