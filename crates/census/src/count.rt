@@ -19,7 +19,7 @@ use layout::Places;
 pub fn tally(cells: &[u32], c: usize, come: &mut [u32])
     requires { ⌜ (c < 16384) × (16 * c + 16 ≤ length (now cells)) ⌝ }
     requires { ⌜ workOf (now cells) c < length (now come) ⌝ }
-    requires { ⌜ getD (now come) (workOf (now cells) c) 0 + 1 < 2 ^ 32 ⌝ }
+    requires { ⌜ getD (now come) (workOf (now cells) c) 0 < 2 ^ 31 ⌝ }
     ensures { λ _. ⌜ ((g : ℕ) → getD (now (come .exit)) g 0 ≡ getD (now (come .entry)) g 0 + goesTo (now (cells .entry)) g c) ⌝ }
 {
     let g = layout::wide(layout::cells::work(cells, c));
