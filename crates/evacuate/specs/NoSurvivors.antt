@@ -70,7 +70,7 @@ module _ {p : Places} {r n m l : ℕ} {gs : ℕ → ℕ} {W T M : List ℕ} (b :
           (b .listed .real (q .entry) (q .low)) .other
           (q .region ∙ sym z ∙ ap (λ (w : ℕ). ownerOf p T w) (let v : slotIn M (q .entry) / 16 / 16 ≡ slotIn M (q .entry) / 256 = omega arith in v))
 
-  none-copies : (x : ℕ) → Copies p r W T x → ⊥
+  pub none-copies : (x : ℕ) → Copies p r W T x → ⊥
   none-copies x q =
       let u = q .old .used in
       ⊎-elim (λ z. q .old .moved (b .start .idle (q .cell) u z)) (unset (q .cell) (u .page)) (mark? p T (q .cell))

@@ -65,7 +65,6 @@ pub fn evacuate_none(
 {
     let level = layout::wide(layout::tables::depth(p, tables, thread));
     let region = layout::regions::region_at(p, thread, level);
-    let none = [0u32; 1];
-    remember::update_remember(p, cells, remember, tables, &none, 0, region);
+    remember::drop_entries(p, cells, remember, tables, region);
     release::release_region(p, tables, notes, region, thread);
 }

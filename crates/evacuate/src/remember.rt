@@ -1,10 +1,11 @@
 // Remember: entries of the ending region's slots go, entries into it get their new region or go.
 ghost use mathlib.Core.Path.{_≡_};
-ghost use Prim.Native.Nat.{_+_, _*_, _<_, _≤_};
+ghost use Prim.Native.Nat.{ℕ, _+_, _*_, _<_, _≤_};
 ghost use lib.ListN.{length, getD};
-ghost use Rattle.layout.specs.Places.{Room};
+ghost use Rattle.layout.specs.Places.{Room, usedIn};
 ghost use Rattle.evacuate.specs.Rewrite.{Names};
 ghost use Rattle.evacuate.specs.Entries.{crossOf, newRegion, Added, Stays, Entries, Cleared};
+ghost use Rattle.evacuate.specs.Update.{Copies, Updating, Updated};
 use layout::Places;
 
 // The region into which a slot of region `from` crosses that holds x, 0 if it does not cross.
@@ -88,4 +89,17 @@ pub fn clear_entries(entries: usize, remember: &mut [u32], from: usize, to: usiz
         layout::remember::set_region(entries, remember, i, 0);
         i += 1;
     }
+}
+
+// The remember table where nothing is copied: the entries that stay, then zeros.
+pub fn drop_entries(p: Places, cells: &[u32], remember: &mut [u32], tables: &[u32], region: u32)
+    requires { ⌜ Updating p region (p .entries) (usedIn (now remember)) (now cells) (now remember) (now tables) ⌝ }
+    requires { ⌜ ((x : ℕ) → Copies p region (now cells) (now tables) x → ⊥) ⌝ }
+    ensures { λ _. ⌜ Updated p region (p .entries) (usedIn (now (remember .entry))) (now (cells .entry)) (now (remember .entry)) (now (tables .entry)) (now (remember .exit)) ⌝ }
+{
+    let entries = p.entries;
+    let used = layout::wide(layout::remember::used(remember));
+    let kept = filter_entries(p, cells, remember, tables, region, used);
+    clear_entries(entries, remember, kept, used);
+    layout::remember::set_used(remember, kept as u32);
 }

@@ -1,68 +1,119 @@
+-- What each stage asks follows from what the earlier ones leave.
+use native.Mathlib.Omega.{arith}
 use borrow.Author.Needs.{needs}
+use Prim.Native.Nat.{ℕ}
+use mathlib.Core.Path.{_≡_, sym, ap, _∙_, subst, subst₂}
+use mathlib.Core.Logic.{_≢_}
+use Rattle.lists.specs.Part.{Lists}
+use Rattle.rules.specs.Regions.{regionAt}
+use Rattle.layout.specs.Places.{depthOf, ownerOf, usedIn, sizesOf}
+use Rattle.evacuate.specs.Copying.{region-bounds}
+use Rattle.evacuate.specs.Stages.{Before, Finished, slots-ask, tables-ask, rewritten-both, unmarked, marks-ask, pages-ask, variables-ask, release-ask, finished}
+use Rattle.evacuate.specs.Final.{settle-ask}
 use Rattle.evacuate.proofs.evacuate.Statement.{statement}
 use Rattle.evacuate.proofs.evacuate.Tie as tie
-use Rattle.evacuate.proofs.evacuate.Reads as reads
-use Rattle.evacuate.proofs.evacuate.Lts as lts
-use Rattle.evacuate.proofs.copy.copy_survivors.Reads as copy-survivors-reads
-use Rattle.evacuate.proofs.release.release.Reads as release-reads
-use Rattle.evacuate.proofs.rewrite.rewrite_slots.Reads as rewrite-slots-reads
-use Rattle.evacuate.proofs.rewrite.rewrite_variables.Reads as rewrite-variables-reads
-use Rattle.evacuate.proofs.settle.settle.Reads as settle-reads
-use Rattle.layout.proofs.regions.region_at.Reads as region-at-reads
-use Rattle.layout.proofs.tables.depth.Reads as depth-reads
-use Rattle.layout.proofs.wide.Reads as wide-reads
 
--- src/lib.rt:42:30
+level : (c : tie.After-region-at) → (let a = c .before .before .before .before .before .before .before .before .before .before .args in c .region-at .result ≡ regionAt (sizesOf (a .p)) (a .thread) (depthOf (a .tables .now) (a .thread)))
+level c = let a = c .before .before .before .before .before .before .before .before .before .before .args in c .region-at .ensures ∙ ap (regionAt (sizesOf (a .p)) (a .thread)) (c .before .wide .ensures ∙ c .before .before .depth .ensures)
+
+begun : (c : tie.After-region-at)
+    → (let a = c .before .before .before .before .before .before .before .before .before .before .args in
+    Before (a .p) (c .region-at .result) (a .p .entries) (usedIn (a .remember .now)) (c .before .wide .result) (regionAt (sizesOf (a .p)) (a .thread)) (a .cells .now) (a .remember .now) (a .tables .now))
+begun c =
+    let a = c .before .before .before .before .before .before .before .before .before .before .args in
+    subst₂
+    (λ (g l : ℕ). Before (a .p) g (a .p .entries) (usedIn (a .remember .now)) l (regionAt (sizesOf (a .p)) (a .thread)) (a .cells .now) (a .remember .now) (a .tables .now))
+    (sym (level c)) (sym (c .before .wide .ensures ∙ c .before .before .depth .ensures)) (c .before .before .before .before .before .before .before .before .before .before .pre .0)
+
+listed : (c : tie.After-region-at) → (let a = c .before .before .before .before .before .before .before .before .before .before .args in Lists (λ page. ownerOf (a .p) (a .tables .now) page ≡ c .region-at .result) (a .p .pages) (a .n) (a .list .now))
+listed c =
+    let a = c .before .before .before .before .before .before .before .before .before .before .args in
+    subst (λ (g : ℕ). Lists (λ page. ownerOf (a .p) (a .tables .now) page ≡ g) (a .p .pages) (a .n) (a .list .now)) (sym (level c)) (c .before .before .before .before .before .before .before .before .before .before .pre .1 .1 .0)
+
 depth-requires : tie.Need-depth-requires
-depth-requires c κs = search needs
+depth-requires c κs =
+    let pre = c .before .before .before .before .before .before .before .pre in
+    (pre .0 .plan .ready .regular .room, pre .1 .0 .0)
 
--- src/lib.rt:42:9
 wide-requires : tie.Need-wide-requires
 wide-requires c κs = search needs
 
--- src/lib.rt:43:9
 region-at-requires : tie.Need-region-at-requires
-region-at-requires c κs = search needs
+region-at-requires c κs =
+    let pre = c .before .before .before .before .before .before .before .before .before .pre in
+    let rm = pre .0 .plan .ready .regular .room in
+    (rm .threads-high, rm .depth-high, pre .1 .0 .0, omega (arith, pre .1 .0 .2, c .wide .ensures, c .before .depth .ensures))
 
--- src/lib.rt:44:5
 copy-survivors-requires : tie.Need-copy-survivors-requires
-copy-survivors-requires c κs = ?
+copy-survivors-requires c κs =
+    let pre = c .before .before .before .before .before .before .before .before .before .before .before .before .before .pre in
+    let b = begun (c .before .before .before) in
+    let o = listed (c .before .before .before) in (
+      b .plan,
+      ((pre .1 .0 .0, omega (arith, pre .1 .0 .2, c .before .before .before .before .wide .ensures, c .before .before .before .before .before .depth .ensures)), (o .rises, (unmarked b o, (pre .1 .1 .1 .0, pre .1 .1 .1 .1)))),
+    )
 
--- src/lib.rt:45:5
 rewrite-slots-requires : tie.Need-rewrite-slots-requires
-rewrite-slots-requires c κs = ?
+rewrite-slots-requires c κs =
+    let copy-survivors = c .before .before .before .before .before .before .before .before .before .copy-survivors in
+    (slots-ask (begun (c .before .before .before .before .before .before .before .before .before .before .before .before .before)) (copy-survivors .ensures), tables-ask (begun (c .before .before .before .before .before .before .before .before .before .before .before .before .before)) (copy-survivors .ensures))
 
--- src/lib.rt:46:5
 settle-requires : tie.Need-settle-requires
-settle-requires c κs = ?
+settle-requires c κs =
+    let b = begun (c .before .before .before .before .before .before .before .before .before .before .before .before .before .before .before .before .before .before .before) in
+    let k = c .before .before .before .before .before .before .before .before .before .before .before .before .before .before .before .copy-survivors .ensures in
+    let o = listed (c .before .before .before .before .before .before .before .before .before .before .before .before .before .before .before .before .before .before .before) in
+    (settle-ask b k (c .before .before .before .before .before .rewrite-slots .ensures), (o .rises, marks-ask b k o))
 
--- src/lib.rt:47:5
 rewrite-variables-requires : tie.Need-rewrite-variables-requires
-rewrite-variables-requires c κs = ?
+rewrite-variables-requires c κs =
+    let b = begun (c .before .before .before .before .before .before .before .before .before .before .before .before .before .before .before .before .before .before .before .before .before .before .before .before .before .before) in
+    let k = c .before .before .before .before .before .before .before .before .before .before .before .before .before .before .before .before .before .before .before .before .before .before .copy-survivors .ensures in
+    let R = rewritten-both b k (c .before .before .before .before .before .before .before .before .before .before .before .before .rewrite-slots .ensures) (c .before .before .before .before .before .before .settle .ensures .0) in
+    (variables-ask b k, (omega (arith, slots-ask b k .cells-long, R .size), tables-ask b k))
 
--- src/lib.rt:48:5
 release-requires : tie.Need-release-requires
-release-requires c κs = ?
+release-requires c κs =
+    let pre = c .before .before .before .before .before .before .before .before .before .before .before .before .before .before .before .before .before .before .before .before .before .before .before .before .before .before .before .before .before .before .before .before .before .before .before .before .before .before .before .before .before .pre in
+    let a = c .before .before .before .before .before .before .before .before .before .before .before .before .before .before .before .before .before .before .before .before .before .before .before .before .before .before .before .before .before .before .before .before .before .before .before .before .before .before .before .before .before .args in
+    let b = begun (c .before .before .before .before .before .before .before .before .before .before .before .before .before .before .before .before .before .before .before .before .before .before .before .before .before .before .before .before .before .before .before) in
+    let k = c .before .before .before .before .before .before .before .before .before .before .before .before .before .before .before .before .before .before .before .before .before .before .before .before .before .before .before .copy-survivors .ensures in
+    let z = release-ask (a .thread) b k (pre .1 .0 .0) (pre .1 .0 .1) (c .before .before .before .before .rewrite-variables .ensures) in
+    let g = region-bounds (a .p) (a .thread) (depthOf (a .tables .now) (a .thread)) (pre .1 .0 .0) (pre .1 .0 .2) in
+    let e = level (c .before .before .before .before .before .before .before .before .before .before .before .before .before .before .before .before .before .before .before .before .before .before .before .before .before .before .before .before .before .before .before) in
+    let real : c .before .before .before .before .before .before .before .before .before .before .before .before .before .before .before .before .before .before .before .before .before .before .before .before .before .before .before .before .before .before .before .region-at .result ≢ 0 = (λ y. omega (arith, g .0)) in
+    (z .0, (pages-ask b k (listed (c .before .before .before .before .before .before .before .before .before .before .before .before .before .before .before .before .before .before .before .before .before .before .before .before .before .before .before .before .before .before .before)) real (c .before .before .before .before .rewrite-variables .ensures), ((omega (arith, g .0), omega (arith, g .1)), ((pre .1 .0 .0, omega (arith, z .1, pre .1 .0 .1)), omega (arith, pre .1 .1 .1 .1 .0, c .before .before .before .before .before .before .before .before .before .before .before .before .before .before .before .before .before .before .before .before .before .before .before .before .before .before .before .copy-survivors .kept .1 .1 .1 .0)))))
 
--- src/lib.rt:24:1
 same-length : tie.Need-same-length
-same-length c = ?
+same-length c =
+    let copy-survivors = c .before .before .before .before .before .before .before .before .before .before .before .before .before .before .before .before .before .before .before .before .before .before .before .before .before .before .before .before .before .before .before .before .copy-survivors in
+    let rewrite-slots = c .before .before .before .before .before .before .before .before .before .before .before .before .before .before .before .before .before .before .before .before .before .before .rewrite-slots in
+    c .before .before .before .before .before .before .before .before .before .before .before .before .before .before .before .before .settle .kept .1 .0 ∙ rewrite-slots .kept .1 .0 ∙ copy-survivors .kept .1 .0
 
--- src/lib.rt:24:1
 same-length-2 : tie.Need-same-length-2
-same-length-2 c = search needs
+same-length-2 c = c .before .before .before .before .before .before .before .before .before .before .before .before .before .before .before .before .settle .kept .1 .1 .0
 
--- src/lib.rt:24:1
 same-length-3 : tie.Need-same-length-3
-same-length-3 c = search needs
+same-length-3 c = c .before .before .before .before .release .kept .1 .0 ∙ c .before .before .before .before .before .before .before .before .before .rewrite-variables .kept .1 .1 .0 ∙ c .before .before .before .before .before .before .before .before .before .before .before .before .before .before .before .before .before .before .before .before .before .before .before .before .before .before .before .before .before .before .before .before .copy-survivors .kept .1 .1 .0
 
--- src/lib.rt:24:1
 same-length-4 : tie.Need-same-length-4
-same-length-4 c = search needs
+same-length-4 c = c .before .before .before .before .release .kept .1 .1 .0 ∙ c .before .before .before .before .before .before .before .before .before .before .before .before .before .before .before .before .before .before .before .before .before .before .before .before .before .before .before .before .before .before .before .before .copy-survivors .kept .1 .1 .1 .0
 
--- src/lib.rt:24:1
 returns : tie.Need-returns
-returns c = ?
+returns c =
+    let depth = c .before .before .before .before .before .before .before .before .before .before .before .before .before .before .before .before .before .before .before .before .before .before .before .before .before .before .before .before .before .before .before .before .before .before .before .before .before .before .depth in
+    let wide = c .before .before .before .before .before .before .before .before .before .before .before .before .before .before .before .before .before .before .before .before .before .before .before .before .before .before .before .before .before .before .before .before .before .before .before .before .before .wide in
+    let copy-survivors = c .before .before .before .before .before .before .before .before .before .before .before .before .before .before .before .before .before .before .before .before .before .before .before .before .before .before .before .before .before .before .before .before .copy-survivors in
+    let rewrite-slots = c .before .before .before .before .before .before .before .before .before .before .before .before .before .before .before .before .before .before .before .before .before .before .rewrite-slots in
+    let rewrite-variables = c .before .before .before .before .before .before .before .before .before .rewrite-variables in
+    let settle = c .before .before .before .before .before .before .before .before .before .before .before .before .before .before .before .before .settle in
+    let a = c .before .before .before .before .before .before .before .before .before .before .before .before .before .before .before .before .before .before .before .before .before .before .before .before .before .before .before .before .before .before .before .before .before .before .before .before .before .before .before .before .before .before .before .before .before .before .args in
+    let b = begun (c .before .before .before .before .before .before .before .before .before .before .before .before .before .before .before .before .before .before .before .before .before .before .before .before .before .before .before .before .before .before .before .before .before .before .before .before) in
+    let k = copy-survivors .ensures in
+    let F : ℕ → ℕ → Type 0 =
+    (λ g l. Finished (a .p) g (a .p .entries) (usedIn (a .remember .now)) l (a .thread) (regionAt (sizesOf (a .p)) (a .thread)) (a .cells .now) (a .remember .now) (a .tables .now) (settle .last .1 .0) (settle .last .1 .1 .0) (c .before .before .before .before .release .last .1 .0)) in
+    subst₂ F (level (c .before .before .before .before .before .before .before .before .before .before .before .before .before .before .before .before .before .before .before .before .before .before .before .before .before .before .before .before .before .before .before .before .before .before .before .before)) (wide .ensures ∙ depth .ensures)
+    (finished b k (rewrite-slots .ensures) (settle .ensures .0) (settle .ensures .1) (rewrite-variables .ensures) (c .before .before .before .before .release .ensures))
 
 pub evacuate-spec : {M : Type 1} → statement M
 evacuate-spec =
