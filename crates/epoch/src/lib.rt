@@ -43,3 +43,27 @@ fn end_marked(
     rules::done(0)
 }
 
+// Ends the thread's innermost epoch: 12 if it has none. The notes say where to look for a page first (crate `pages`).
+pub fn end(
+    p: Places,
+    cells: &mut [u32],
+    remember: &mut [u32],
+    tables: &mut [u32],
+    notes: &mut [u32],
+    thread: usize,
+) -> Answer
+    requires { ⌜ p ≡ placesOf (sizesOf p) ⌝ }
+    requires { ⌜ WholeFor (sizesOf p) (words (now cells) (now remember) (now tables)) ⌝ }
+    requires { ⌜ thread < p .threads ⌝ }
+    requires { ⌜ noteWords ≤ length (now notes) ⌝ }
+    ensures { λ r. ⌜ DidHere (sizesOf p) (words (now (cells .entry)) (now (remember .entry)) (now (tables .entry))) (endOf thread) (words (now (cells .exit)) (now (remember .exit)) (now (tables .exit))) r ⌝ }
+{
+    if layout::tables::depth(p, tables, thread) == 0 {
+        return rules::refused(12);
+    }
+    if mark::survivors::mark_survivors(p, cells, remember, tables, thread) {
+        return end_marked(p, cells, remember, tables, notes, thread);
+    }
+    evacuate::evacuate_none(p, cells, remember, tables, notes, thread);
+    rules::done(0)
+}

@@ -8,6 +8,9 @@ use Rattle.epoch.specs.CensusCounts.{asked-pages, asked-entries, asked-n
 use Rattle.epoch.proofs.needs.ask_room.Statement.{statement}
 use Rattle.epoch.proofs.needs.ask_room.Tie as tie
 
+region-at-requires : tie.Need-region-at-requires
+region-at-requires c κs = search needs
+
 needed-pages-requires : tie.Need-needed-pages-requires
 needed-pages-requires c κs = search needs
 
@@ -15,31 +18,28 @@ free-pages-requires : tie.Need-free-pages-requires
 free-pages-requires c κs = search needs
 
 returns : tie.Need-returns
-returns c = asked-pages (c .before .before .before .before .before .before .before .args .p) (c .before .before .before .before .before .before .before .args .cells .now) (c .before .before .before .before .before .before .before .args .remember .now) (c .before .before .before .before .before .before .before .args .tables .now) (c .before .before .before .before .before .before .before .args .thread) (c .before .before .before .before .before .before .before .args .level) (c .before .before .needed-pages .ensures (c .before .before .before .before .before .before .before .args .cells .now) (c .before .before .before .before .before .before .before .pre .1 .1 .1 .0 .arrivals)) (c .before .free-pages .ensures) (c .if1 .taken)
-
-region-at-requires : tie.Need-region-at-requires
-region-at-requires c κs = search needs
+returns c = asked-pages (c .before .before .before .before .before .before .before .before .args .p) (c .before .before .before .before .before .before .before .before .args .cells .now) (c .before .before .before .before .before .before .before .before .args .remember .now) (c .before .before .before .before .before .before .before .before .args .tables .now) (c .before .before .before .before .before .before .before .before .args .thread) (c .before .before .before .before .before .before .before .before .args .level) (c .before .before .needed-pages .ensures (c .before .before .before .before .before .before .before .before .args .cells .now) (c .before .before .before .before .before .before .before .before .pre .1 .1 .1 .0 .arrivals)) (c .before .free-pages .ensures) (c .if1 .taken)
 
 count-crossing-requires : tie.Need-count-crossing-requires
 count-crossing-requires c κs =
     let census =
-    subst (λ (r : ℕ). Census (c .before .before .before .before .before .before .before .before .args .p) (c .before .before .before .before .before .before .before .before .args .cells .now) (c .before .before .before .before .before .before .before .before .args .tables .now) r (c .before .before .before .before .before .before .before .before .args .p .pages) (c .before .before .before .before .before .before .before .before .args .come .now) (c .before .before .before .before .before .before .before .before .args .k)) (sym (c .region-at .ensures)) (c .before .before .before .before .before .before .before .before .pre .1 .1 .1 .0) in
+    subst (λ (r : ℕ). Census (c .before .before .before .before .before .before .before .before .args .p) (c .before .before .before .before .before .before .before .before .args .cells .now) (c .before .before .before .before .before .before .before .before .args .tables .now) r (c .before .before .before .before .before .before .before .before .args .p .pages) (c .before .before .before .before .before .before .before .before .args .come .now) (c .before .before .before .before .before .before .before .before .args .k)) (sym (c .before .before .before .region-at .ensures)) (c .before .before .before .before .before .before .before .before .pre .1 .1 .1 .0) in
     (c .before .before .before .before .before .before .before .before .pre .0, (c .before .before .before .before .before .before .before .before .pre .1 .0, (census .crossing, census .few)))
 
 returns-2 : tie.Need-returns-2
-returns-2 c = asked-entries (c .before .before .before .before .before .before .before .before .before .before .before .args .p) (c .before .before .before .before .before .before .before .before .before .before .before .args .cells .now) (c .before .before .before .before .before .before .before .before .before .before .before .args .remember .now) (c .before .before .before .before .before .before .before .before .before .before .before .args .tables .now) (c .before .before .before .before .before .before .before .before .before .before .before .args .thread) (c .before .before .before .before .before .before .before .before .before .before .before .args .level) (c .before .before .before .before .before .before .needed-pages .ensures (c .before .before .before .before .before .before .before .before .before .before .before .args .cells .now) (c .before .before .before .before .before .before .before .before .before .before .before .pre .1 .1 .1 .0 .arrivals)) (c .before .before .before .before .before .free-pages .ensures) (c .before .before .before .region-at .ensures) (c .before .before .count-crossing .ensures) (omega (arith, c .before .before .before .before .if1 .left)) (c .if2 .taken)
+returns-2 c = asked-entries (c .before .before .before .before .before .before .before .before .before .before .before .args .p) (c .before .before .before .before .before .before .before .before .before .before .before .args .cells .now) (c .before .before .before .before .before .before .before .before .before .before .before .args .remember .now) (c .before .before .before .before .before .before .before .before .before .before .before .args .tables .now) (c .before .before .before .before .before .before .before .before .before .before .before .args .thread) (c .before .before .before .before .before .before .before .before .before .before .before .args .level) (c .before .before .before .before .before .needed-pages .ensures (c .before .before .before .before .before .before .before .before .before .before .before .args .cells .now) (c .before .before .before .before .before .before .before .before .before .before .before .pre .1 .1 .1 .0 .arrivals)) (c .before .before .before .before .free-pages .ensures) (c .before .before .before .before .before .before .region-at .ensures) (c .before .before .count-crossing .ensures) (omega (arith, c .before .before .before .if1 .left)) (c .if2 .taken)
 
 returns-3 : tie.Need-returns-3
-returns-3 c = asked-none (c .before .before .before .before .before .before .before .before .before .before .before .args .p) (c .before .before .before .before .before .before .before .before .before .before .before .args .cells .now) (c .before .before .before .before .before .before .before .before .before .before .before .args .remember .now) (c .before .before .before .before .before .before .before .before .before .before .before .args .tables .now) (c .before .before .before .before .before .before .before .before .before .before .before .args .thread) (c .before .before .before .before .before .before .before .before .before .before .before .args .level) (c .before .before .before .before .before .before .needed-pages .ensures (c .before .before .before .before .before .before .before .before .before .before .before .args .cells .now) (c .before .before .before .before .before .before .before .before .before .before .before .pre .1 .1 .1 .0 .arrivals)) (c .before .before .before .before .before .free-pages .ensures) (c .before .before .before .region-at .ensures) (c .before .before .count-crossing .ensures) (omega (arith, c .before .before .before .before .if1 .left)) (omega (arith, c .if2 .left))
+returns-3 c = asked-none (c .before .before .before .before .before .before .before .before .before .before .before .args .p) (c .before .before .before .before .before .before .before .before .before .before .before .args .cells .now) (c .before .before .before .before .before .before .before .before .before .before .before .args .remember .now) (c .before .before .before .before .before .before .before .before .before .before .before .args .tables .now) (c .before .before .before .before .before .before .before .before .before .before .before .args .thread) (c .before .before .before .before .before .before .before .before .before .before .before .args .level) (c .before .before .before .before .before .needed-pages .ensures (c .before .before .before .before .before .before .before .before .before .before .before .args .cells .now) (c .before .before .before .before .before .before .before .before .before .before .before .pre .1 .1 .1 .0 .arrivals)) (c .before .before .before .before .free-pages .ensures) (c .before .before .before .before .before .before .region-at .ensures) (c .before .before .count-crossing .ensures) (omega (arith, c .before .before .before .if1 .left)) (omega (arith, c .if2 .left))
 
 pub ask-room-spec : {M : Type 1} → statement M
 ask-room-spec =
     tie.close
     (tie.spec
+    region-at-requires
     needed-pages-requires
     free-pages-requires
     returns
-    region-at-requires
     count-crossing-requires
     returns-2
     returns-3)
