@@ -1,6 +1,7 @@
 -- What `commands` answers is the answer; an end starts from the words as they were.
 use Rattle.heap.specs.Running.{obeyed-answered, ends-ready, ends-did}
 use borrow.Author.Needs.{needs}
+use native.Mathlib.Omega.{arith}
 use Rattle.heap.proofs.run.obey.Statement.{statement}
 use Rattle.heap.proofs.run.obey.Tie as tie
 
@@ -15,12 +16,12 @@ enum-known-o-2 c = search needs
 
 end-requires : tie.Need-end-requires
 end-requires c κs =
-    let args = c .before .before .before .before .before .before .before .before .before .before .before .before .before .before .before .before .before .before .before .args in
-    let pre = c .before .before .before .before .before .before .before .before .before .before .before .before .before .before .before .before .before .before .before .pre in
-    let obey = c .before .before .before .before .before .before .before .before .before .before .before .before .obey in
-    let o2 = c .before .before .before .before .o2 in
-    let r = ends-ready (args .p) (obey .result) (args .m) (pre) (obey .ensures) (o2 .given .1) in
-    (r .0, (r .1, r .2))
+    let args = c .before .before .before .before .before .before .before .before .before .before .before .before .before .before .before .before .before .before .before .before .before .before .before .before .args in
+    let pre = c .before .before .before .before .before .before .before .before .before .before .before .before .before .before .before .before .before .before .before .before .before .before .before .before .pre in
+    let obey = c .before .before .before .before .before .before .before .before .before .before .before .before .before .before .before .obey in
+    let o2 = c .before .before .before .before .before .o2 in
+    let r = ends-ready (args .p) (obey .result) (args .m) (pre .0) (obey .ensures) (o2 .given .1) in
+    (r .0, (r .1, (r .2, omega (arith, pre .1, obey .kept .1 .1 .1 .1 .0))))
 
 same-length : tie.Need-same-length
 same-length c = search needs
@@ -31,11 +32,11 @@ same-length-2 c = search needs
 same-length-3 : tie.Need-same-length-3
 same-length-3 c = search needs
 
-returns : tie.Need-returns
-returns c = obeyed-answered (c .before .before .before .before .before .before .before .before .before .before .before .before .before .before .before .before .args .p) (c .before .before .before .before .before .before .before .before .before .obey .result) (c .before .before .before .before .before .before .before .before .before .obey .ensures) (c .before .o .given .1)
-
 same-length-4 : tie.Need-same-length-4
 same-length-4 c = search needs
+
+returns : tie.Need-returns
+returns c = obeyed-answered (c .before .before .before .before .before .before .before .before .before .before .before .before .before .before .before .before .before .before .before .before .args .p) (c .before .before .before .before .before .before .before .before .before .before .before .obey .result) (c .before .before .before .before .before .before .before .before .before .before .before .obey .ensures) (c .before .o .given .1)
 
 same-length-5 : tie.Need-same-length-5
 same-length-5 c = search needs
@@ -43,12 +44,18 @@ same-length-5 c = search needs
 same-length-6 : tie.Need-same-length-6
 same-length-6 c = search needs
 
+same-length-7 : tie.Need-same-length-7
+same-length-7 c = search needs
+
+same-length-8 : tie.Need-same-length-8
+same-length-8 c = search needs
+
 returns-2 : tie.Need-returns-2
 returns-2 c =
-    let args = c .before .before .before .before .before .before .before .before .before .before .before .before .before .before .before .before .before .before .before .before .before .before .before .before .before .before .args in
-    let obey = c .before .before .before .before .before .before .before .before .before .before .before .before .before .before .before .before .before .before .before .obey in
-    let o2 = c .before .before .before .before .before .before .before .before .before .before .before .o2 in
-    let end = c .before .before .before .before .before .before .end in
+    let args = c .before .before .before .before .before .before .before .before .before .before .before .before .before .before .before .before .before .before .before .before .before .before .before .before .before .before .before .before .before .before .before .before .before .args in
+    let obey = c .before .before .before .before .before .before .before .before .before .before .before .before .before .before .before .before .before .before .before .before .before .before .before .before .obey in
+    let o2 = c .before .before .before .before .before .before .before .before .before .before .before .before .before .before .o2 in
+    let end = c .before .before .before .before .before .before .before .before .end in
     ends-did (args .p) (obey .result) (obey .ensures) (o2 .given .1) (end .ensures)
 
 pub obey-spec : {M : Type 1} → statement M
@@ -62,8 +69,10 @@ obey-spec =
     same-length
     same-length-2
     same-length-3
-    returns
     same-length-4
+    returns
     same-length-5
     same-length-6
+    same-length-7
+    same-length-8
     returns-2)

@@ -19,10 +19,20 @@ same-length-2 c = search needs
 same-length-3 : tie.Need-same-length-3
 same-length-3 c = search needs
 
+same-length-4 : tie.Need-same-length-4
+same-length-4 c = search needs
+
 returns : tie.Need-returns
 returns c = search did-same
 
 pub obey-at-spec : {M : Type 1} → statement M
 obey-at-spec =
     tie.close
-    (tie.spec command-at-requires obey-requires same-length same-length-2 same-length-3 returns)
+    (tie.spec
+    command-at-requires
+    obey-requires
+    same-length
+    same-length-2
+    same-length-3
+    same-length-4
+    returns)

@@ -1,8 +1,10 @@
 -- The first i commands were obeyed, each with its answer written. The measure is the commands left.
 use Prim.Native.Nat.{_-_, _*_, _<_}
 use lib.Seq.{lt-length-set}
-use mathlib.Core.Path.{_≡_, refl}
+use mathlib.Core.Path.{_≡_, refl, _∙_}
+use lib.ListN.{length}
 use native.Mathlib.Omega.{arith}
+use borrow.Author.Needs.{needs}
 use Rattle.promises.specs.Words.{words}
 use Rattle.promises.specs.Promises.{size}
 use Rattle.promises.specs.Chained.{asked-whole}
@@ -12,10 +14,10 @@ use Rattle.heap.proofs.run.obey_block.Statement.{statement}
 use Rattle.heap.proofs.run.obey_block.Tie as tie
 
 abbrev Inv-loop : tie.InvT-loop
-Inv-loop cells₀ remember₀ tables₀ block answers₀ p n i₀ cells remember tables answers i = Turning p (words cells₀ remember₀ tables₀) block answers₀ cells remember tables answers i × (n ≡ size block) × (n < 2305843009213693952)
+Inv-loop cells₀ remember₀ tables₀ block answers₀ p n notes₀ i₀ cells remember tables answers notes i = Turning p (words cells₀ remember₀ tables₀) block answers₀ cells remember tables answers i × (n ≡ size block) × (n < 2305843009213693952) × (length notes ≡ 130)
 
 abbrev μ-loop : tie.MeasureT-loop
-μ-loop cells₀ remember₀ tables₀ block answers₀ p n i₀ cells remember tables answers i = n - i
+μ-loop cells₀ remember₀ tables₀ block answers₀ p n notes₀ i₀ cells remember tables answers notes i = n - i
 
 read-sizes-requires : tie.Need-read-sizes-requires Inv-loop μ-loop
 read-sizes-requires c κs = asked-whole (c .before .before .before .before .before .before .pre) refl .sizes .sized
@@ -24,43 +26,48 @@ find-places-requires : tie.Need-find-places-requires Inv-loop μ-loop
 find-places-requires c κs = found-range (asked-whole (c .before .before .before .before .before .before .before .pre) refl) (c .read-sizes .ensures)
 
 loop-holds : tie.Need-loop-holds Inv-loop μ-loop
-loop-holds c = (turn-start (whole-ready (asked-whole (c .before .before .before .before .before .before .before .before .pre) refl) (c .before .read-sizes .ensures) (c .find-places .ensures)) (asked-room (c .before .before .before .before .before .before .before .before .pre)), refl, omega arith)
+loop-holds c = (turn-start (whole-ready (asked-whole (c .before .before .before .before .before .before .before .before .pre) refl) (c .before .read-sizes .ensures) (c .find-places .ensures)) (asked-room (c .before .before .before .before .before .before .before .before .pre)), refl, omega arith, refl)
+
+slice-aggregate-obey-at : tie.Need-slice-aggregate-obey-at Inv-loop μ-loop
+slice-aggregate-obey-at c = search needs
 
 obey-at-requires : tie.Need-obey-at-requires Inv-loop μ-loop
-obey-at-requires c κs = (turn-ready (c .before .before .before .before .loop .inv .0), omega (arith, c .before .before .before .before .loop .inv .1, c .before .before .before .before .loop .inv .2))
+obey-at-requires c κs =
+    let inv = c .before .before .before .before .before .loop .inv in
+    (turn-ready (inv .0), (omega (arith, inv .3), omega (arith, inv .1, inv .2)))
 
 mul-answers : tie.Need-mul-answers Inv-loop μ-loop
-mul-answers c = omega (arith, c .before .before .before .before .before .before .before .before .before .before .before .loop .inv .1, c .before .before .before .before .before .before .before .before .before .before .before .loop .inv .2)
+mul-answers c = omega (arith, c .before .before .before .before .before .before .before .before .before .before .before .before .before .loop .inv .1, c .before .before .before .before .before .before .before .before .before .before .before .before .before .loop .inv .2)
 
 mul-answers-2 : tie.Need-mul-answers-2 Inv-loop μ-loop
-mul-answers-2 c = omega (arith, c .before .before .before .before .before .before .before .before .before .before .before .loop .inv .1, c .before .before .before .before .before .before .before .before .before .before .before .loop .inv .2)
+mul-answers-2 c = omega (arith, c .before .before .before .before .before .before .before .before .before .before .before .before .before .loop .inv .1, c .before .before .before .before .before .before .before .before .before .before .before .before .before .loop .inv .2)
 
 slice-write-answers : tie.Need-slice-write-answers Inv-loop μ-loop
-slice-write-answers c = omega (arith, turn-fits (c .before .before .before .before .before .before .before .before .before .before .before .loop .inv .0) (omega (arith, c .before .before .before .before .before .before .before .before .before .before .before .loop .inv .1)))
+slice-write-answers c = omega (arith, turn-fits (c .before .before .before .before .before .before .before .before .before .before .before .before .before .loop .inv .0) (omega (arith, c .before .before .before .before .before .before .before .before .before .before .before .before .before .loop .inv .1)))
 
 mul-answers-3 : tie.Need-mul-answers-3 Inv-loop μ-loop
-mul-answers-3 c = omega (arith, c .before .before .before .before .before .before .before .before .before .before .before .loop .inv .1, c .before .before .before .before .before .before .before .before .before .before .before .loop .inv .2)
+mul-answers-3 c = omega (arith, c .before .before .before .before .before .before .before .before .before .before .before .before .before .loop .inv .1, c .before .before .before .before .before .before .before .before .before .before .before .before .before .loop .inv .2)
 
 add-answers : tie.Need-add-answers Inv-loop μ-loop
-add-answers c = omega (arith, c .before .before .before .before .before .before .before .before .before .before .before .loop .inv .1, c .before .before .before .before .before .before .before .before .before .before .before .loop .inv .2)
+add-answers c = omega (arith, c .before .before .before .before .before .before .before .before .before .before .before .before .before .loop .inv .1, c .before .before .before .before .before .before .before .before .before .before .before .before .before .loop .inv .2)
 
 mul-answers-4 : tie.Need-mul-answers-4 Inv-loop μ-loop
-mul-answers-4 c = omega (arith, c .before .before .before .before .before .before .before .before .before .before .before .loop .inv .1, c .before .before .before .before .before .before .before .before .before .before .before .loop .inv .2)
+mul-answers-4 c = omega (arith, c .before .before .before .before .before .before .before .before .before .before .before .before .before .loop .inv .1, c .before .before .before .before .before .before .before .before .before .before .before .before .before .loop .inv .2)
 
 slice-write-answers-2 : tie.Need-slice-write-answers-2 Inv-loop μ-loop
-slice-write-answers-2 c = lt-length-set (c .before .before .before .before .before .before .before .before .before .before .before .loop .answers) (2 * c .before .before .before .before .before .before .before .before .before .before .before .loop .i) _ (turn-fits (c .before .before .before .before .before .before .before .before .before .before .before .loop .inv .0) (omega (arith, c .before .before .before .before .before .before .before .before .before .before .before .loop .inv .1)))
+slice-write-answers-2 c = lt-length-set (c .before .before .before .before .before .before .before .before .before .before .before .before .before .loop .answers) (2 * c .before .before .before .before .before .before .before .before .before .before .before .before .before .loop .i) _ (turn-fits (c .before .before .before .before .before .before .before .before .before .before .before .before .before .loop .inv .0) (omega (arith, c .before .before .before .before .before .before .before .before .before .before .before .before .before .loop .inv .1)))
 
 add-i : tie.Need-add-i Inv-loop μ-loop
-add-i c = omega (arith, c .before .before .before .before .before .before .before .before .before .before .before .loop .inv .1, c .before .before .before .before .before .before .before .before .before .before .before .loop .inv .2)
+add-i c = omega (arith, c .before .before .before .before .before .before .before .before .before .before .before .before .before .loop .inv .1, c .before .before .before .before .before .before .before .before .before .before .before .before .before .loop .inv .2)
 
 loop-less : tie.Need-loop-less Inv-loop μ-loop
-loop-less c = omega (arith, c .before .before .before .before .before .before .before .before .before .before .before .loop .inv .1)
+loop-less c = omega (arith, c .before .before .before .before .before .before .before .before .before .before .before .before .before .loop .inv .1)
 
 loop-again : tie.Need-loop-again Inv-loop μ-loop
 loop-again c =
-    let loop = c .before .before .before .before .before .before .before .before .before .before .before .loop in
-    let obey-at = c .before .before .before .before .before .before .obey-at in
-    (turn-more (loop .inv .0) (omega (arith, loop .inv .1)) (obey-at .ensures), loop .inv .1, loop .inv .2)
+    let loop = c .before .before .before .before .before .before .before .before .before .before .before .before .before .loop in
+    let obey-at = c .before .before .before .before .before .before .before .obey-at in
+    (turn-more (loop .inv .0) (omega (arith, loop .inv .1)) (obey-at .ensures), loop .inv .1, loop .inv .2, obey-at .kept .1 .1 .1 .1 .0 ∙ loop .inv .3)
 
 same-length : tie.Need-same-length Inv-loop μ-loop
 same-length c = c .before .loop .inv .0 .cells-long
@@ -86,6 +93,7 @@ obey-block-spec =
     read-sizes-requires
     find-places-requires
     loop-holds
+    slice-aggregate-obey-at
     obey-at-requires
     mul-answers
     mul-answers-2
