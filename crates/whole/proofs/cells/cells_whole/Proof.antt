@@ -137,7 +137,7 @@ fields-again c =
     let here : other-region .result ≡ crossTo (args .p) (now (args .cells)) (now (args .tables)) (fieldAt (cell-on .result) (fields .f))
     = crosses-at (args .p) (now (args .cells)) (now (args .tables)) (c .before .before .before .before .before .before .before .before .before .before .before .before .before .before .before .before .before .before .before .before .before .pages .page) (cells .place)
     (cell-on .result) (fields .f) (owner .result) (field .result) (region-of .result) (other-region .result)
-    (cell-on .ensures) (owner .ensures) (field .ensures) (region-of .ensures) (other-region .ensures) (c .before .before .before .before .before .before .before .before .before .before .before .before .before .before .before .before .before .wide .ensures ∙ c .before .before .before .before .before .before .before .before .before .before .before .before .before .before .before .before .before .before .used .ensures) (c .before .before .before .before .before .before .before .before .before .before .before .before .field-count .ensures ∙ ap (λ (h : ℕ). h / 16) (c .before .before .before .before .before .before .before .before .before .before .before .before .before .head .ensures)) (cells .inv .2) (fields .inv .3) (c .before .before .before .before .before .before .before .before .before .before .before .before .before .before .before .cells-test .taken) (c .before .before .before .before .before .before .fields-test .taken) in (
+    (cell-on .ensures) (owner .ensures) (field .ensures) (region-of .ensures) (other-region .ensures) (c .before .before .before .before .before .before .before .before .before .before .before .before .before .before .before .before .before .wide .ensures ∙ c .before .before .before .before .before .before .before .before .before .before .before .before .before .before .before .before .before .before .used .ensures) (c .before .before .before .before .before .before .before .before .before .before .before .before .field-count .ensures ∙ ap (λ (h : ℕ). h / 16) (c .before .before .before .before .before .before .before .before .before .before .before .before .before .head .ensures)) (cells .inv .2) (fields .inv .3) (omega (arith, c .before .before .before .before .before .before .before .before .before .before .before .before .before .before .before .cells-test .taken)) (c .before .before .before .before .before .before .fields-test .taken) in (
       fields .inv .0,
       omega arith,
       fields .inv .2,
@@ -145,8 +145,8 @@ fields-again c =
       below-more _ _ (fields .inv .4) (subst (λ (y : ℕ). IsRef (args .p) (now (args .tables)) y) (field .ensures) (c .before .before .before .before .is-ref .ensures .0 (not-false _ (c .before .before .before .if3 .left)))),
       ⊎-elim (λ w. omega (arith, w .1 .left, w .2)) (λ w. omega (arith, w .1, fields .inv .5)) (c .if4 .came),
       ⊎-elim
-          (λ w. w .2 ∙ ap (λ (k : ℕ). k + 1) (fields .inv .6) ∙ sym (crosses-yes (args .p) (now (args .cells)) (now (args .tables)) (cell-on .result) (fields .f) here (w .0 .taken)))
-          (λ w. w .1 ∙ fields .inv .6 ∙ sym (crosses-no (args .p) (now (args .cells)) (now (args .tables)) (cell-on .result) (fields .f) here (w .0 .left)))
+          (λ w. w .2 ∙ ap (λ (k : ℕ). k + 1) (fields .inv .6) ∙ sym (crosses-yes (args .p) (now (args .cells)) (now (args .tables)) (cell-on .result) (fields .f) here (omega (arith, w .0 .taken))))
+          (λ w. w .1 ∙ fields .inv .6 ∙ sym (crosses-no (args .p) (now (args .cells)) (now (args .tables)) (cell-on .result) (fields .f) here (omega (arith, w .0 .left))))
           (c .if4 .came),
     )
 
