@@ -1,5 +1,4 @@
 -- The region has as many pages as its count of objects says, so all of them are listed.
-use native.Mathlib.Omega.{arith}
 use borrow.Author.Needs.{needs}
 use Rattle.evacuate.specs.Taking.{pages-counted}
 use Rattle.evacuate.proofs.release.list_and_release.Statement.{statement}

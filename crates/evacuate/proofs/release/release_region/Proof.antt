@@ -1,5 +1,4 @@
 -- A region without objects has no pages, and else its pages are listed.
-use native.Mathlib.Omega.{arith}
 use borrow.Author.Needs.{needs}
 use mathlib.Core.Path.{sym, ap, _∙_}
 use Prim.Native.Nat.{ℕ}
