@@ -10,7 +10,7 @@ use lib.ListN.{getD}
 use Rattle.rules.specs.declared.Sizes.{Sizes}
 use Rattle.lists.specs.Members.{In, getD-in}
 use Rattle.rules.specs.Graph.{target}
-use Rattle.laws.specs.GraphLaws.{Leads, itself, along, Holds, bySlot, byOwn, byOther, Reaches, target-called, target-within}
+use Rattle.laws.specs.GraphLaws.{Leads, itself, along, Holds, bySlot, byOwn, byOther, Reaches, target-reached, target-absorbs}
 use Rattle.promises.specs.Words.{Words, homeIn, ownerIn, refsIn, varsIn, graphOf, Used}
 use Rattle.promises.specs.Whole.{WholeFor}
 use Rattle.demand.specs.DemandThree.{Moves, regionOf}
@@ -59,8 +59,7 @@ module _ (s : Sizes) (w w′ : Words) (k : WholeFor s w) (k′ : WholeFor s w′
   -- one that is reached does not go to null
   reached-there : (x q : ℕ) → Reaches s (graphOf s w) r q x → homeIn s w x ≡ r → f (suc x) ≡ 0 → ⊥
   reached-there x q c e z =
-      let t = target-within s (graphOf s w) r x q c in
-      let u = lies-used x e in omega (arith, t, sym (mf .goes x u (in-r x u e)) ∙ ap (regionOf s w′) z)
+      let u = lies-used x e in omega (arith, target-absorbs s (graphOf s w) r x q c .some, sym (mf .goes x u (in-r x u e)) ∙ ap (regionOf s w′) z)
 
   leads-same : (x q y : ℕ) → homeIn s w x ≡ r → Holds s (graphOf s w) r x q → Leads (graphOf s w) r x y → f (suc y) ≡ g (suc y)
   leads-same x q y l h itself = held-same x q h
@@ -78,4 +77,4 @@ module _ (s : Sizes) (w w′ : Words) (k : WholeFor s w) (k′ : WholeFor s w′
       go : Dec (ownerIn s w (c / 16) ≡ r) → (target s (graphOf s w) r c ≡ 0) ⊎ (0 < target s (graphOf s w) r c) → f (suc c) ≡ g (suc c)
       go (no n) t = mf .stays c u n ∙ sym (mg .stays c u n)
       go (yes e) (inl z) = gone f mf e z ∙ sym (gone g mg e z)
-      go (yes e) (inr p) = let a = target-called s (graphOf s w) r c p in leads-same (a .first) (target s (graphOf s w) r c) c (a .lies) (a .held) (a .leads)
+      go (yes e) (inr p) = let a = target-reached s (graphOf s w) r c p in leads-same (a .1 .first) (a .0) c (a .1 .lies) (a .1 .held) (a .1 .leads)

@@ -12,7 +12,7 @@ use Rattle.lists.specs.Products.{flat-low}
 use Rattle.rules.specs.declared.Sizes.{Sizes}
 use Rattle.rules.specs.Regions.{regionAt, regions}
 use Rattle.rules.specs.Graph.{Graph, target, ended, objectsIn, pagesOf, newPages}
-use Rattle.laws.specs.RegionLaws.{further-out}
+use Rattle.laws.specs.RegionLaws.{numbers-rise}
 use Rattle.laws.specs.RulesLaws.{region-pos}
 use Rattle.laws.specs.Counts.{landed, objects-ended}
 use Rattle.laws.specs.EndLaws.{home-went, home-stayed}
@@ -28,8 +28,8 @@ levels-apart : (s : Sizes) (t i j : ℕ) → regionAt s t i ≡ regionAt s t j �
 levels-apart s t i j e = go (decLt i j) (decLt j i)
   where
     go : Dec (i < j) → Dec (j < i) → i ≡ j
-    go (yes l) d = absurd (let z : ⊥ = omega (arith, further-out s t i j l) in z)
-    go (no l) (yes m) = absurd (let z : ⊥ = omega (arith, further-out s t j i m) in z)
+    go (yes l) d = absurd (let z : ⊥ = omega (arith, numbers-rise s t i j l) in z)
+    go (no l) (yes m) = absurd (let z : ⊥ = omega (arith, numbers-rise s t j i m) in z)
     go (no l) (no m) = omega arith
 
 level-low : (s : Sizes) (t j : ℕ) → t < s .threads → j ≤ s .depth → regionAt s t j ≤ regions s

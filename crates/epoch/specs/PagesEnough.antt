@@ -14,7 +14,7 @@ use Rattle.lists.specs.Counting.{bit, sum, sum-same}
 use Rattle.rules.specs.declared.Sizes.{Sizes}
 use Rattle.rules.specs.Regions.{regionAt}
 use Rattle.rules.specs.Graph.{target, objectsIn}
-use Rattle.laws.specs.RegionLaws.{further-out}
+use Rattle.laws.specs.RegionLaws.{numbers-rise}
 use Rattle.laws.specs.RulesLaws.{region-pos}
 use Rattle.laws.specs.Counts.{landed}
 use Rattle.layout.specs.Places.{placesOf, Room, markOf}
@@ -122,7 +122,7 @@ module _ (s : Sizes) (w : Words) (k : WholeFor s w) (space : Room (placesOf s) (
         small = M .small;
         real = λ l m. region-pos s t l;
         low = λ l m. region-bounds (placesOf s) t l th (omega (arith, k .placed .depths t th)) .1;
-        rising = λ a b l m. further-out s t a b l;
+        rising = λ a b l m. numbers-rise s t a b l;
         all = λ c l on. survivor-level c (marked-survivor s w r w₁ M c l on);
         enough = subst₂ (λ (a b : ℕ). a ≤ b) (sym needs) (sym free-same) h;
       }

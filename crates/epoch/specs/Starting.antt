@@ -10,7 +10,7 @@ use Rattle.rules.specs.declared.Sizes.{Sizes}
 use Rattle.rules.specs.Regions.{regionAt}
 use Rattle.rules.specs.Graph.{ended}
 use Rattle.laws.specs.GraphLaws.{Alive}
-use Rattle.laws.specs.RegionLaws.{region-high, further-out}
+use Rattle.laws.specs.RegionLaws.{region-high, numbers-rise}
 use Rattle.laws.specs.RulesLaws.{region-pos}
 use Rattle.laws.specs.EndLaws.{home-went, closed-ended}
 use Rattle.layout.specs.Places.{placesOf, Room, ownerOf, varOf, usedIn}
@@ -135,7 +135,7 @@ module _ (s : Sizes) (w : Words) (k : WholeFor s w) (space : Room (placesOf s) (
           now-used M space (fieldOf (w₁ .cells) c f - 1) (points s w k space r pos w₁ M c f (fieldOf (w₁ .cells) c f - 1) u l e .there)
 
       away : (c : ℕ) → Survivor s w r c → workOf (w₁ .cells) c ≢ r
-      away c v z = let x = survivor-level s w k space t j th deep w₁ M c v in omega (arith, x .2, further-out s t (x .0) (suc j) (x .1))
+      away c v z = let x = survivor-level s w k space t j th deep w₁ M c v in omega (arith, x .2, numbers-rise s t (x .0) (suc j) (x .1))
 
       named : (b f d : ℕ) → Points s w b f d → Alive (ended s (graphOf s w) r) b → ownerOf (placesOf s) (w₁ .tables) (d / 16) ≡ r → marked (placesOf s) (w₁ .tables) d ≡ 1
       named b f d q a own =

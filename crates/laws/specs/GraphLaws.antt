@@ -1,8 +1,8 @@
 -- The region rules, as 01 states them: which objects of an ending region survive, and where they go.
-use Prim.Native.Nat.{ℕ, zero, suc, _+_, _-_, _/_, _%_, _≤_, _<_, min}
+use Prim.Native.Nat.{ℕ, zero, suc, _+_, _/_, _<_}
 use native.Mathlib.Omega.{arith}
 use native.Mathlib.Decide.{ℕ-discrete}
-use native.Mathlib.Nat.{zero-add, add-zero, zero-mod}
+use native.Mathlib.Nat.{zero-add, add-zero}
 use mathlib.Core.Path.{_≡_, refl, sym, ap, subst, _∙_}
 use mathlib.Core.Logic.{_⊎_, inl, inr}
 use mathlib.Core.List.{List, [], _∷_, _++_, map}
@@ -14,8 +14,10 @@ use Rattle.lists.specs.Tests.{both-hold, hold-both, eq-holds, ne-holds, holds-n
 use Rattle.rules.specs.declared.Sizes.{Sizes}
 use Rattle.lists.specs.Members.{In, in-left, in-right, in-append, in-map, map-in, kept, keeps}
 use Rattle.rules.specs.Flow.{Call, Slot}
-use Rattle.laws.specs.FlowLaws.{call, Chain, stay, more, flow-from, flow-outermost}
-use Rattle.rules.specs.Regions.{threadOf, levelOf, parent, join}
+use Rattle.laws.specs.Joins.{Absorbs, From, from-map, some-of, one-of}
+use Rattle.laws.specs.JoinLaws.{joins, join-comm, control-around, join-around, parent-around, around-chain}
+use Rattle.laws.specs.FlowLaws.{call, Chain, stay, more, Comes, flow-from, flow-absorbs}
+use Rattle.rules.specs.Regions.{threadOf, parent, join, FurtherOut}
 use Rattle.rules.specs.Graph.{Graph, slotsOf, slotsBelow, slots, varsFrom, slotHolders, varHolders, slotCall, varCall, calls, inside, target}
 
 -- object x is there
@@ -221,47 +223,42 @@ pub record Reaches (s : Sizes) (g : Graph) (r q x : ℕ) : Type 0 where
   pub held : Holds s g r first q
   pub leads : Leads g r first x
 
-module _ (s : Sizes) where
-  pub parent-pos : (r : ℕ) → 0 < parent s r
-  unfolding parent
-  parent-pos r = go (eqb (levelOf s r) 1) refl
-    where
-      go : (b : Bool) → eqb (levelOf s r) 1 ≡ b → 0 < cond b 1 (r - 1)
-      go true e = omega arith
-      go false e = far (ℕ-discrete (r - 2) 0)
-        where
-          far : Dec (r - 2 ≡ 0) → 0 < r - 1
-          far (yes z) = absurd (eqb-false _ _ e (ap (λ (n : ℕ). n % s .depth + 1) z ∙ ap (λ (n : ℕ). n + 1) (zero-mod (s .depth))))
-          far (no n) = omega arith
-
-  pub join-pos : (q r : ℕ) → 0 < join s q r
-  unfolding join
-  join-pos q r = go (ltb 1 q && ltb 1 r && eqb (threadOf s q) (threadOf s r)) (λ t. t)
-    where
-      go : (b : Bool) → (T b → T (ltb 1 q && ltb 1 r && eqb (threadOf s q) (threadOf s r))) → 0 < cond b (min q r) 1
-      go true t =
-          let w = both-hold (ltb 1 q && ltb 1 r) _ (t tt) in
-          let v = both-hold (ltb 1 q) (ltb 1 r) (w .0) in
-          let a : 1 < q = ltb→lt 1 q (v .0) in let b : 1 < r = ltb→lt 1 r (v .1) in omega arith
-      go false t = omega arith
-
-  holds-pos : (g : Graph) (r x q : ℕ) → Holds s g r x q → 0 < q
-  holds-pos g r x q (bySlot y f o e) = subst (λ (n : ℕ). 0 < n) (sym e) (join-pos r (g .home y))
-  holds-pos g r x q (byOwn j at th e) = subst (λ (n : ℕ). 0 < n) (sym e) (parent-pos r)
-  holds-pos g r x q (byOther j at th e) = omega arith
+-- every region called for lies around r
+holds-around : (s : Sizes) (g : Graph) (r x q : ℕ) → Holds s g r x q → Absorbs (join s) q r
+holds-around s g r x q (bySlot y f o e) = subst (λ (v : ℕ). Absorbs (join s) v r) (sym e) (join-around s r (g .home y))
+holds-around s g r x q (byOwn j at th e) = subst (λ (v : ℕ). Absorbs (join s) v r) (sym e) (parent-around s r)
+holds-around s g r x q (byOther j at th e) = subst (λ (v : ℕ). Absorbs (join s) v r) (sym e) (control-around s r)
 
 module _ (s : Sizes) (g : Graph) (r x : ℕ) where
-  -- each holder that leads to x finds it going to where it calls, or further out
-  pub target-within : (q : ℕ) → Reaches s g r q x → (0 < target s g r x) × (target s g r x ≤ q)
-  unfolding target
-  target-within q h =
-      flow-outermost (calls s g r) (inside g r) (call (h .first) q) x (of-holder s g r (h .first) q (h .lies) (h .held)) (holds-pos s g r (h .first) q (h .held))
-      (chain-of s g r (h .first) x (h .leads))
+  called-region : (y q : ℕ) → In (call y q) (calls s g r) → 0 < q
+  called-region y q i = holds-around s g r y q (holder-of s g r y q i .1) .some
 
-  -- and it goes to where one of them calls
-  pub target-called : 0 < target s g r x → Reaches s g r (target s g r x) x
+  pub reaches-around : (q : ℕ) → Reaches s g r q x → Absorbs (join s) q r
+  reaches-around q h = holds-around s g r (h .first) q (h .held)
+
+  -- x goes to a join of regions that the holders that lead to it call for
+  pub target-from : 0 < target s g r x → From (join s) (λ q. Reaches s g r q x) (target s g r x)
   unfolding target
-  target-called h =
-      let f = flow-from (calls s g r) (inside g r) x h in
-      let c = holder-of s g r (f .0 .object) (f .0 .region) (f .1) in
-      record { first = f .0 .object; lies = c .0; held = subst (λ (q : ℕ). Holds s g r (f .0 .object) q) (f .2) (c .1); leads = leads-of s g r (f .0 .object) x (f .3) }
+  target-from h = from-map back (flow-from (joins s) (calls s g r) (inside g r) called-region x h)
+    where
+      back : (q : ℕ) → Comes (calls s g r) (inside g r) x q → Reaches s g r q x
+      back q c =
+          let k = holder-of s g r (c .first) q (c .calls) in
+          record { first = c .first; lies = k .0; held = k .1; leads = leads-of s g r (c .first) x (c .chain) }
+
+  -- and to one that absorbs each of them
+  pub target-absorbs : (q : ℕ) → Reaches s g r q x → Absorbs (join s) (target s g r x) q
+  unfolding target
+  target-absorbs q h =
+      flow-absorbs (joins s) (calls s g r) (inside g r) called-region x q
+      (record { first = h .first; calls = of-holder s g r (h .first) q (h .lies) (h .held); chain = chain-of s g r (h .first) x (h .leads) })
+
+  pub target-reached : 0 < target s g r x → (q : ℕ) × Reaches s g r q x
+  target-reached h = some-of (target-from h)
+
+  -- all of them lie around r, where a join of two is one of the two: so it goes to where one of them calls, and none calls further out
+  pub target-called : 0 < target s g r x → Reaches s g r (target s g r x) x
+  target-called h = one-of (λ a b c d. around-chain s (reaches-around a c) (reaches-around b d)) (target-from h)
+
+  pub target-furthest : (v : ℕ) → Reaches s g r v x → FurtherOut s v (target s g r x) → ⊥
+  target-furthest v h o = o .1 (sym (o .0) ∙ join-comm s v (target s g r x) ∙ target-absorbs v h .is)

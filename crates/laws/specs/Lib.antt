@@ -1,5 +1,6 @@
 -- The laws of the rules.
 pub mod RegionLaws
+pub mod Joins
 pub mod JoinLaws
 pub mod FlowLaws
 pub mod GraphLaws

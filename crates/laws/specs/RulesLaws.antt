@@ -18,9 +18,8 @@ use Rattle.rules.specs.Terms.{limits}
 use Rattle.rules.specs.NeverFreeing as nf
 use Rattle.rules.specs.NeverFreeing.{Object, noObject, depthOf, varOf, objectOf, place, referred, assigned, meaningOf}
 use Rattle.rules.specs.NeverFreeing.{Source, null, held, loaded, Assignment, nothing, variable, reference, number, Effect, opens, ends, makes, assigns}
-use Rattle.rules.specs.Flow.{Call, called, flow}
 use Rattle.rules.specs.Regions.{regionAt}
-use Rattle.rules.specs.Graph.{calls, inside, ended}
+use Rattle.rules.specs.Graph.{target, ended}
 use Rattle.laws.specs.GraphLaws.{Alive, Closed}
 use Rattle.laws.specs.EndLaws.{closed-ended}
 use Rattle.rules.specs.Rules as ru
@@ -132,19 +131,18 @@ module _ (h : Regioned) (k : Sound h) (p q b : ℕ) (ns : List ℕ) (pos : 0 < q
 
 -- ---- the end of a region
 
-homes-moved : (cs : List Call) (r : ℕ) (qs : List ℕ) (i x : ℕ) → 0 < r
-    → getD (ru.moved cs r i qs) x 0 ≡ cond (eqb (getD qs x 0) r) (called (i + x) cs) (getD qs x 0)
+homes-moved : (goes : ℕ → ℕ) (r : ℕ) (qs : List ℕ) (i x : ℕ) → 0 < r → getD (ru.moved goes r i qs) x 0 ≡ cond (eqb (getD qs x 0) r) (goes (i + x)) (getD qs x 0)
 unfolding ru.moved
-homes-moved cs r [] i x p = sym (ap (λ (b : Bool). cond b (called (i + x) cs) 0) (ne-eqb 0 r (omega arith)))
-homes-moved cs r (q ∷ qs) i zero p = ap (λ (n : ℕ). cond (eqb q r) (called n cs) q) (sym (add-zero i))
-homes-moved cs r (q ∷ qs) i (suc x) p =
+homes-moved goes r [] i x p = sym (ap (λ (b : Bool). cond b (goes (i + x)) 0) (ne-eqb 0 r (omega arith)))
+homes-moved goes r (q ∷ qs) i zero p = ap (λ (n : ℕ). cond (eqb q r) (goes n) q) (sym (add-zero i))
+homes-moved goes r (q ∷ qs) i (suc x) p =
     let e : suc i + x ≡ i + suc x = omega arith in
-    homes-moved cs r qs (suc i) x p ∙ ap (λ (n : ℕ). cond (eqb (getD qs x 0) r) (called n cs) (getD qs x 0)) e
+    homes-moved goes r qs (suc i) x p ∙ ap (λ (n : ℕ). cond (eqb (getD qs x 0) r) (goes n) (getD qs x 0)) e
 
-length-moved : (cs : List Call) (r i : ℕ) (qs : List ℕ) → length (ru.moved cs r i qs) ≡ length qs
+length-moved : (goes : ℕ → ℕ) (r i : ℕ) (qs : List ℕ) → length (ru.moved goes r i qs) ≡ length qs
 unfolding ru.moved
-length-moved cs r i [] = refl
-length-moved cs r i (q ∷ qs) = ap suc (length-moved cs r (suc i) qs)
+length-moved goes r i [] = refl
+length-moved goes r i (q ∷ qs) = ap suc (length-moved goes r (suc i) qs)
 
 module _ (s : Sizes) (h : Regioned) (r : ℕ) (pos : 0 < r) (ds : List ℕ) where
   abbrev pub over : Regioned
@@ -152,19 +150,19 @@ module _ (s : Sizes) (h : Regioned) (r : ℕ) (pos : 0 < r) (ds : List ℕ) wher
 
   -- the heap after an end has the graph after that end
   pub graph-ended : graph over ≡ ended s (graph h) r
-  unfolding ru.ended ended
+  unfolding ru.ended ended target
   graph-ended = λ i. record { count = length (h .heap .objects); home = λ x. at x i; refs = graph h .refs; vars = h .heap .vars }
     where
-      cs : List Call
-      cs = flow (calls s (graph h) r) (inside (graph h) r)
+      goes : ℕ → ℕ
+      goes = target s (graph h) r
 
-      at : (x : ℕ) → getD (ru.moved cs r 0 (h .homes)) x 0 ≡ cond (eqb (getD (h .homes) x 0) r) (called x cs) (getD (h .homes) x 0)
-      at x = homes-moved cs r (h .homes) 0 x pos ∙ ap (λ (n : ℕ). cond (eqb (getD (h .homes) x 0) r) (called n cs) (getD (h .homes) x 0)) (zero-add x)
+      at : (x : ℕ) → getD (ru.moved goes r 0 (h .homes)) x 0 ≡ cond (eqb (getD (h .homes) x 0) r) (goes x) (getD (h .homes) x 0)
+      at x = homes-moved goes r (h .homes) 0 x pos ∙ ap (λ (n : ℕ). cond (eqb (getD (h .homes) x 0) r) (goes n) (getD (h .homes) x 0)) (zero-add x)
 
   sound-ended : Sound h → Sound over
   sound-ended k =
       record {
-        aligned = unfold ru.ended in (length-moved (flow (calls s (graph h) r) (inside (graph h) r)) r 0 (h .homes) ∙ k .aligned);
+        aligned = unfold ru.ended target in (length-moved (target s (graph h) r) r 0 (h .homes) ∙ k .aligned);
         closed = subst Closed (sym graph-ended) (closed-ended s (graph h) r pos (k .closed));
       }
 

@@ -16,8 +16,10 @@ use Rattle.lists.specs.OneToOne.{sum-paired}
 use Rattle.laws.specs.Counts.{crossAt, crossIn, cross-alive, crossing-sum, same-new}
 use Rattle.rules.specs.Regions.{join}
 use Rattle.rules.specs.Graph.{Graph, slotsOf, target, ended, crosses, crossing, objectsIn, newPages}
+use Rattle.laws.specs.Joins.{from-map, join-of-one}
+use Rattle.laws.specs.JoinLaws.{joins}
 use Rattle.laws.specs.EndLaws.{was-alive, home-went, home-stayed, closed-ended}
-use Rattle.laws.specs.GraphLaws.{Alive, Closed, Refers, Leads, itself, along, Holds, bySlot, byOwn, byOther, Reaches, target-within, target-called}
+use Rattle.laws.specs.GraphLaws.{Alive, Closed, Refers, Leads, itself, along, Holds, bySlot, byOwn, byOther, Reaches, reaches-around, target-from, target-absorbs, target-reached}
 
 -- a reference to an object's partner
 abbrev pub renamed : (ℕ → ℕ) → ℕ → ℕ
@@ -137,10 +139,12 @@ module _ (s : Sizes) (to : ℕ → ℕ) (g h : Graph) (cg : Closed g) (ch : Clos
       where
         go : (target s g r x ≡ 0) ⊎ (0 < target s g r x) → (target s h r (to x) ≡ 0) ⊎ (0 < target s h r (to x)) → target s h r (to x) ≡ target s g r x
         go (inl e) (inl f) = f ∙ sym e
-        go (inl e) (inr f) = absurd (omega (arith, target-within s g r x _ (reaches-back _ x a (target-called s h r (to x) f))))
-        go (inr e) f =
-            let u = target-within s h r (to x) _ (reaches-to _ x (target-called s g r x e)) in
-            let v = target-within s g r x _ (reaches-back _ x a (target-called s h r (to x) (u .0))) in omega arith
+        go (inl e) (inr f) = let k = target-reached s h r (to x) f in absurd (omega (arith, target-absorbs s g r x (k .0) (reaches-back (k .0) x a (k .1)) .some))
+        go (inr e) (inl f) = let k = target-reached s g r x e in absurd (omega (arith, target-absorbs s h r (to x) (k .0) (reaches-to (k .0) x (k .1)) .some))
+        go (inr e) (inr f) =
+            join-of-one (joins s) (λ q k. reaches-around s g r x q k .some)
+            (record { «from» = from-map (λ q. reaches-back q x a) (target-from s h r (to x) f); absorbs = λ q k. target-absorbs s h r (to x) q (reaches-to q x k) })
+            (record { «from» = target-from s g r x e; absorbs = target-absorbs s g r x })
 
     -- the graphs after the end of r correspond too
     pub partners-ended : Partners to (ended s g r) (ended s h r)

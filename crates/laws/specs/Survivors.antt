@@ -11,7 +11,7 @@ use Rattle.rules.specs.Regions.{regionAt, join, FurtherOut}
 use Rattle.rules.specs.Graph.{Graph, target, ended}
 use Rattle.rules.specs.Rules.{Regioned, graph}
 use Rattle.laws.specs.RegionLaws.{join-control, join-other, join-same, parent-at}
-use Rattle.laws.specs.GraphLaws.{Alive, Holds, bySlot, byOwn, byOther, Reaches, target-within, target-called}
+use Rattle.laws.specs.GraphLaws.{Alive, Holds, bySlot, byOwn, byOther, Reaches, target-absorbs, target-reached, target-called, target-furthest}
 use Rattle.laws.specs.EndLaws.{home-went}
 use Rattle.laws.specs.Placed.{Open, control, level, Placed}
 
@@ -19,26 +19,22 @@ module _ (s : Sizes) (g : Graph) (r x : ℕ) where
   -- an object of r survives exactly if a holder leads to it by a chain inside r
   pub survives-exactly : g .home x ≡ r → Alive (ended s g r) x ↔ ((q : ℕ) × Reaches s g r q x)
   survives-exactly e = (
-    λ a. let nz : target s g r x ≡ 0 → ⊥ = λ z. a (home-went s g r x e ∙ z) in (target s g r x, target-called s g r x (omega arith)),
-    λ h z. let w = target-within s g r x (h .0) (h .1) in omega (arith, home-went s g r x e),
+    λ a. let nz : target s g r x ≡ 0 → ⊥ = λ z. a (home-went s g r x e ∙ z) in target-reached s g r x (omega arith),
+    λ h z. omega (arith, target-absorbs s g r x (h .0) (h .1) .some, home-went s g r x e),
   )
 
   -- it goes to a region that a holder calls for whose chain reaches it, and none whose chain reaches it calls for one further out
   pub record Outermost (q : ℕ) : Type 0 where
     pub called : Reaches s g r q x
-    pub furthest : (v : ℕ) → Reaches s g r v x → FurtherOut v q → ⊥
+    pub furthest : (v : ℕ) → Reaches s g r v x → FurtherOut s v q → ⊥
 
   pub target-outermost : g .home x ≡ r → Alive (ended s g r) x → Outermost (ended s g r .home x)
-  target-outermost e a = go (ended s g r .home x) (home-went s g r x e) a
-    where
-      go : (q : ℕ) → q ≡ target s g r x → (q ≡ 0 → ⊥) → Outermost q
-      go q f nz = record {
-        called = subst (λ (v : ℕ). Reaches s g r v x) (sym f) (target-called s g r x (omega arith));
-        furthest = λ v h l. let w = target-within s g r x v h in omega arith;
-      }
+  target-outermost e a =
+      let went = home-went s g r x e in
+      let nz : target s g r x ≡ 0 → ⊥ = λ z. a (went ∙ z) in
+      subst Outermost (sym went) (record { called = target-called s g r x (omega arith); furthest = target-furthest s g r x })
 
--- Every region that a holder calls for at the end of a thread's innermost region lies around it, at a level below its own; so of two of
--- them the smaller number is the one further out (`further-out` of RegionLaws).
+-- every region that a holder calls for at the end of a thread's innermost region is the thread's at a level below, the control space for level 0
 module _ (s : Sizes) (h : Regioned) (p : Placed s h) (t k : ℕ) (deep : getD (h .heap .depths) t 0 ≡ suc k) where
   pub held-around : (x q : ℕ) → Holds s (graph h) (regionAt s t (suc k)) x q → (j : ℕ) × (j ≤ k) × (q ≡ regionAt s t j)
   held-around x q (bySlot y f o e) = go (p .homes y (f .there))

@@ -11,10 +11,11 @@ use lib.ListN.{length, getD}
 use Rattle.lists.specs.Bits.{bitAt, bit-lt, bit-zero, high-none, none-high}
 use Rattle.lists.specs.Says.{Says, said-no}
 use Rattle.rules.specs.declared.Sizes.{Sizes}
-use Rattle.rules.specs.Regions.{regionAt}
+use Rattle.rules.specs.Regions.{regionAt, FurtherOut}
 use Rattle.rules.specs.Graph.{target}
-use Rattle.laws.specs.RegionLaws.{region-high, further-out}
-use Rattle.laws.specs.GraphLaws.{Reaches, target-within, target-called}
+use Rattle.laws.specs.RegionLaws.{region-high}
+use Rattle.laws.specs.JoinLaws.{further-out}
+use Rattle.laws.specs.GraphLaws.{Reaches, target-absorbs, target-reached, target-called, target-furthest}
 use Rattle.layout.specs.declared.Places.{Places}
 use Rattle.layout.specs.Places.{placesOf, sizesOf, depthOf, markAt, markOf, Room, room}
 use Rattle.layout.specs.Cells.{workAt, workOf, pageOf, placeOf}
@@ -79,19 +80,21 @@ module _ (s : Sizes) (w : Words) (k : WholeFor s w) (space : Room (placesOf s) (
   -- the first level of a holder that leads to c is the outermost region called for
   first-target : (c l : ℕ) → First (placesOf s) r (w .cells) (w .tables) calls (suc j) c l → target s (graphOf s w) r c ≡ regionAt s t l
   first-target c l f =
-      let a = target-within s (graphOf s w) r c (regionAt s t l) (held-reaches l c (f .reached)) in
-      let h = reaches-held (target s (graphOf s w) r c) c (target-called s (graphOf s w) r c (a .0)) in
-      go (h .0) (h .2) (λ (b : h .0 < l). f .none (h .0) b (h .3)) (a .1) (ℕ-discrete l (h .0))
+      let a = held-reaches l c (f .reached) in
+      let h = reaches-held (target s (graphOf s w) r c) c (target-called s (graphOf s w) r c (target-absorbs s (graphOf s w) r c (regionAt s t l) a .some)) in
+      go (h .0) (h .1) (h .2) (λ (b : h .0 < l). f .none (h .0) b (h .3)) (target-furthest s (graphOf s w) r c (regionAt s t l) a) (ℕ-discrete l (h .0))
     where
-      go : (i : ℕ) → target s (graphOf s w) r c ≡ regionAt s t i → (i < l → ⊥) → target s (graphOf s w) r c ≤ regionAt s t l → Dec (l ≡ i) → target s (graphOf s w) r c ≡ regionAt s t l
-      go i e n b (yes d) = e ∙ ap (regionAt s t) (sym d)
-      go i e n b (no d) = absurd (let o : l < i = omega (arith, n) in let z : ⊥ = omega (arith, further-out s t l i o) in z)
+      go : (i : ℕ) → i < suc j → target s (graphOf s w) r c ≡ regionAt s t i → (i < l → ⊥) → (FurtherOut s (regionAt s t l) (target s (graphOf s w) r c) → ⊥) → Dec (l ≡ i)
+          → target s (graphOf s w) r c ≡ regionAt s t l
+      go i b e n out (yes d) = e ∙ ap (regionAt s t) (sym d)
+      go i b e n out (no d) =
+          absurd (out (subst (FurtherOut s (regionAt s t l)) (sym e) (further-out s t l i (omega (arith, n)) (omega (arith, dk, k .placed .depths t th)))))
 
   lost-target : (c : ℕ) → ((l : ℕ) → l < suc j → Held (placesOf s) r (w .cells) (w .tables) calls l c → ⊥) → target s (graphOf s w) r c ≡ 0
   lost-target c n = go (decLt 0 (target s (graphOf s w) r c))
     where
       go : Dec (0 < target s (graphOf s w) r c) → target s (graphOf s w) r c ≡ 0
-      go (yes l) = let h = reaches-held (target s (graphOf s w) r c) c (target-called s (graphOf s w) r c l) in absurd (n (h .0) (h .1) (h .3))
+      go (yes l) = let q = target-reached s (graphOf s w) r c l in let h = reaches-held (q .0) c (q .1) in absurd (n (h .0) (h .1) (h .3))
       go (no l) = omega arith
 
   -- a bit that is not 1 is 0
@@ -109,7 +112,7 @@ module _ (s : Sizes) (w : Words) (k : WholeFor s w) (space : Room (placesOf s) (
       record {
         goes = λ c u own. goes c u (ℕ-discrete (marked (placesOf s) T′ c) 1);
         survives = λ c u own l. on c u l (ℕ-discrete (marked (placesOf s) T′ c) 1);
-        freed = λ c u own z. off c (λ b. let f = L .found c (u .page) b in omega (arith, first-target c (f .0) (f .1), target-within s (graphOf s w) r c (regionAt s t (f .0)) (held-reaches (f .0) c (f .1 .reached)) .0));
+        freed = λ c u own z. off c (λ b. let f = L .found c (u .page) b in omega (arith, first-target c (f .0) (f .1), target-absorbs s (graphOf s w) r c (regionAt s t (f .0)) (held-reaches (f .0) c (f .1 .reached)) .some));
         only = found-owned;
         small = λ page l. high-none 16 (markOf (placesOf s) T′ page) (λ i h. L .kept .high (markAt (placesOf s) page) i h ∙ ap (λ (x : ℕ). bitAt x i) (k .placed .marks page l) ∙ bit-zero i);
         cells = λ q n. word q n (ℕ-discrete (q % 16) 1);
