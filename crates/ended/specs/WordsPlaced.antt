@@ -79,4 +79,4 @@ module _ (s : Sizes) (w : Words) (whole : WholeFor s w) where
         let same = targets-agree s w (heapOf s w) (λ x. x) (heap-stands s w whole) r pos c there in
         let c′ = target-called s (graph (heapOf s w)) r c (omega arith) in
         subst (λ (q : ℕ). (j : ℕ) × (j ≤ k) × (q ≡ regionAt s t j)) (sym same)
-        (held-around s (heapOf s w) words-placed t k heap-deep (c′ .first) (target s (graph (heapOf s w)) r c) (c′ .held))
+        (held-around s (heapOf s w) words-placed t k th heap-deep (c′ .first) (target s (graph (heapOf s w)) r c) (c′ .held))

@@ -8,7 +8,7 @@ use mathlib.Core.Logic.{_⊎_, inl, inr}
 use mathlib.Core.List.{List, [], _∷_, _++_, map}
 use mathlib.Core.Bool.{Bool, true, false, cond, not, _&&_}
 use lib.ListN.{getD}
-use lib.Dec.{T, ltb, eqb, ltb→lt, eqb→eq}
+use lib.Dec.{eqb, eqb→eq}
 use borrow.Author.Tests.{eqb-true, eqb-false, eq-eqb, ne-eqb}
 use Rattle.lists.specs.Tests.{both-hold, hold-both, eq-holds, ne-holds, holds-ne}
 use Rattle.rules.specs.declared.Sizes.{Sizes}
@@ -224,7 +224,7 @@ pub record Reaches (s : Sizes) (g : Graph) (r q x : ℕ) : Type 0 where
   pub leads : Leads g r first x
 
 -- every region called for lies around r
-holds-around : (s : Sizes) (g : Graph) (r x q : ℕ) → Holds s g r x q → Absorbs (join s) q r
+pub holds-around : (s : Sizes) (g : Graph) (r x q : ℕ) → Holds s g r x q → Absorbs (join s) q r
 holds-around s g r x q (bySlot y f o e) = subst (λ (v : ℕ). Absorbs (join s) v r) (sym e) (join-around s r (g .home y))
 holds-around s g r x q (byOwn j at th e) = subst (λ (v : ℕ). Absorbs (join s) v r) (sym e) (parent-around s r)
 holds-around s g r x q (byOther j at th e) = subst (λ (v : ℕ). Absorbs (join s) v r) (sym e) (control-around s r)

@@ -67,7 +67,7 @@ module _ (s : Sizes) (h : Regioned) (p : Placed s h) (t k : ℕ) (th : t < s .th
   k-fits : k < s .depth
   k-fits = omega (arith, p .depths t)
 
-  depth-now : getD ended-depths t 0 ≡ k
+  pub depth-now : getD ended-depths t 0 ≡ k
   depth-now = getD-set-same (h .heap .depths) t k 0 (in-bounds (h .heap .depths) t (λ z. omega arith))
 
   -- an open region other than r stays open, and r joins it in an open one
@@ -99,7 +99,7 @@ module _ (s : Sizes) (h : Regioned) (p : Placed s h) (t k : ℕ) (th : t < s .th
       go (suc n) e = level t n th (omega (arith, depth-now)) (parent-at s t k k-fits ∙ ap (regionAt s t) e)
 
   -- whatever a holder calls for is open afterwards
-  held-open : (x q : ℕ) → Holds s (graph h) r x q → Open s ended-depths q
+  pub held-open : (x q : ℕ) → Holds s (graph h) r x q → Open s ended-depths q
   held-open x q (bySlot y f o e) = subst (Open s ended-depths) (sym e) (stays-open (getD (h .homes) y 0) o (p .homes y (f .there)) .1)
   held-open x q (byOwn i at u e) = subst (Open s ended-depths) (sym e) parent-open
   held-open x q (byOther i at u e) = control e
