@@ -1,11 +1,9 @@
 -- What the pass over the survivors counts, page by page: how many go to each region, and how many of their slots cross.
-use mathlib.Core.Path.{_≡_, ap, _∙_, subst}
+use mathlib.Core.Path.{_≡_, ap, _∙_}
 use mathlib.Core.List.{List}
 use Prim.Native.Nat.{ℕ, _+_, _*_, _≤_, _<_}
 use native.Mathlib.Omega.{arith}
-use native.Mathlib.Decide.{decLt}
 use lib.ListN.{getD}
-use Rattle.lists.specs.Part.{Rises, Cut}
 use Rattle.lists.specs.Counting.{sum-more, sum-none, sum-high}
 use Rattle.layout.specs.declared.Places.{Places}
 use Rattle.layout.specs.Places.{markOf}
@@ -61,12 +59,3 @@ module _ {p : Places} {W T : List ℕ} {r : ℕ} where
       }
 
 -- ---- the pass over the listed pages
-
--- the i-th listed number, x as the code read it, lies after the first i
-pub cut-here : {P n : ℕ} {l : List ℕ} (i x : ℕ) → Rises P n l → i < n → x ≡ getD l i 0 → Cut P n l i x
-cut-here {n = n} {l} i x r h e =
-    record { low = omega (arith, r .low i h); passed = λ j a. omega (arith, r .rising j i a h); ahead = λ j a b. later j a b (decLt i j) }
-  where
-    later : (j : ℕ) → i ≤ j → j < n → Dec (i < j) → x ≤ getD l j 0
-    later j a b (yes d) = omega (arith, r .rising i j d b)
-    later j a b (no d) = subst (λ (y : ℕ). x ≤ getD l y 0) (let s : i ≡ j = omega arith in s) (omega arith)

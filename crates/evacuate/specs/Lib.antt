@@ -1,5 +1,4 @@
 -- The end of an epoch after its survivors are marked: place and copy, rewrite, remember, release.
-pub mod Visits
 pub mod Marks
 pub mod Taking
 pub mod Cursor

@@ -50,25 +50,22 @@ through-start P n l Done skips d b c =
     subst Done (let e : 0 + b ≡ b = omega arith in e)
     (skip-to P n l Done skips 0 b (omega (arith, c .low)) (λ q z h i li (e : getD l i 0 ≡ q). omega (arith, c .ahead i (omega arith) li)) d)
 
--- a turn at the listed number i, x as the code read it
+-- x is the listed number i as the code read it
+pub cut-here : {P n : ℕ} {l : List ℕ} (i x : ℕ) → Rises P n l → i < n → x ≡ getD l i 0 → Cut P n l i x
+cut-here {n = n} {l} i x r h e =
+    record { low = omega (arith, r .low i h); passed = λ j a. omega (arith, r .rising j i a h); ahead = λ j a b. later j a b (decLt i j) }
+  where
+    later : (j : ℕ) → i ≤ j → j < n → Dec (i < j) → x ≤ getD l j 0
+    later j a b (yes d) = omega (arith, r .rising i j d b)
+    later j a b (no d) = subst (λ (y : ℕ). x ≤ getD l y 0) (let s : i ≡ j = omega arith in s) (omega arith)
+
 pub through-turn : (P n : ℕ) (l : List ℕ) (Before After : ℕ → Type 0) (i x : ℕ) → Rises P n l → i < n → x ≡ getD l i 0 → Through P n l i Before → (Before x → After (x + 1)) → Skips P n l After
     → Through P n l (i + 1) After
 through-turn P n l Before After i x r li e before turn skips b c =
-    let here : Before x =
-            before x
-            (record {
-              low = omega (arith, r .low i li);
-              passed = λ j h. omega (arith, r .rising j i h li);
-              ahead = λ j h k. next j h k (decLt i j);
-            })
-    in
     subst After (let s : x + 1 + (b - (x + 1)) ≡ b = omega (arith, c .passed i (omega arith)) in s)
-    (skip-to P n l After skips (x + 1) (b - (x + 1)) (omega (arith, c .passed i (omega arith), c .low)) (λ q h k j lj (y : getD l j 0 ≡ q). apart q h k j lj y (decLt i j)) (turn here))
+    (skip-to P n l After skips (x + 1) (b - (x + 1)) (omega (arith, c .passed i (omega arith), c .low)) (λ q h k j lj (y : getD l j 0 ≡ q). apart q h k j lj y (decLt i j))
+    (turn (before x (cut-here i x r li e))))
   where
-    next : (j : ℕ) → i ≤ j → j < n → Dec (i < j) → x ≤ getD l j 0
-    next j h k (yes d) = omega (arith, r .rising i j d k)
-    next j h k (no d) = subst (λ (y : ℕ). x ≤ getD l y 0) (let s : i ≡ j = omega arith in s) (omega arith)
-
     apart : (q : ℕ) → x + 1 ≤ q → q < x + 1 + (b - (x + 1)) → (j : ℕ) → j < n → getD l j 0 ≡ q → Dec (i < j) → ⊥
     apart q h k j lj y (yes d) = omega (arith, c .ahead j (omega arith) lj, c .passed i (omega arith))
     apart q h k j lj y (no d) = back (decLt j i)
@@ -80,3 +77,20 @@ through-turn P n l Before After i x r li e before turn skips b c =
 pub through-end : (P n : ℕ) (l : List ℕ) (Done : ℕ → Type 0) (i : ℕ) → Rises P n l → i ≤ n → n ≤ i → Through P n l i Done → Done P
 through-end P n l Done i r h k d =
     d P (record { low = omega arith; passed = λ j m. r .low j (omega arith); ahead = λ j m o. absurd (let z : ⊥ = omega arith in z) })
+
+-- ---- the last of the list, an empty list
+
+pub rises-last : {P n : ℕ} {l : List ℕ} → Rises P n l → (i : ℕ) → i < n → getD l i 0 ≤ getD l (n - 1) 0
+rises-last {P} {n} {l} r i h = go (decLt i (n - 1))
+  where
+    go : Dec (i < n - 1) → getD l i 0 ≤ getD l (n - 1) 0
+    go (yes d) = omega (arith, r .rising i (n - 1) d (omega arith))
+    go (no d) = subst (λ (y : ℕ). getD l i 0 ≤ getD l y 0) (let e : i ≡ n - 1 = omega arith in e) (omega arith)
+
+pub lists-none : {E : ℕ → Type 0} {P : ℕ} (l : List ℕ) → ((q : ℕ) → q < P → E q → ⊥) → Lists E P 0 l
+lists-none {E} {P} l no-one =
+    record {
+      rises = record { few = omega arith; low = λ i h. absurd (let z : ⊥ = omega arith in z); rising = λ i j h k. absurd (let z : ⊥ = omega arith in z) };
+      each = λ i h. absurd (let z : ⊥ = omega arith in z);
+      all = λ q h e off. no-one q h e;
+    }

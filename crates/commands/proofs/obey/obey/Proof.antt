@@ -36,9 +36,11 @@ new-object-requires c κs =
     let decode = c .before .before .before .before .before .before .before .decode in
     let d3 = c .before .before .before .before .before .d3 in (
       pre .0,
-      (pre .1,
-      in-range (args .p) (args .cells .now) (args .remember .now) (args .tables .now) (args .m) (decode .result) (decode .ensures)
-          (New (d3 .given .0 .0) (d3 .given .0 .1 .0) (d3 .given .0 .1 .1 .0) (d3 .given .0 .1 .1 .1 .0)) (d3 .given .1) refl),
+      (
+        pre .1,
+        in-range (args .p) (args .cells .now) (args .remember .now) (args .tables .now) (args .m) (decode .result) (decode .ensures)
+            (New (d3 .given .0 .0) (d3 .given .0 .1 .0) (d3 .given .0 .1 .1 .0) (d3 .given .0 .1 .1 .1 .0)) (d3 .given .1) refl,
+      ),
     )
 
 enum-known-d-4 : tie.Need-enum-known-d-4

@@ -6,9 +6,8 @@ use Prim.Native.Nat.{ℕ, _≤_, _<_, _-_}
 use mathlib.Core.List.{List}
 use mathlib.Core.Logic.{inl}
 use mathlib.Core.Path.{_≡_, refl, _∙_}
-use Rattle.lists.specs.Part.{Through, through-start, through-turn, through-end}
+use Rattle.lists.specs.Part.{Through, cut-here, through-start, through-turn, through-end}
 use Rattle.layout.specs.declared.Places.{Places}
-use Rattle.evacuate.specs.Visits.{through-here}
 use Rattle.evacuate.specs.Taking.{regular-filled}
 use Rattle.evacuate.specs.Passing.{moves-passing}
 use Rattle.evacuate.specs.Copying.{PassMoves, pass-begin, pass-next, pass-skip}
@@ -54,7 +53,7 @@ copy-page-requires c κs =
     let l = c .before .before .before .before .before .before .loop in
     let t = c .before .before .before .before .before .loop-test .taken in
     let lt : c .wide .result < a .p .pages = omega (arith, pre .1 .0 .low (l .i) t, c .wide .ensures) in
-    let h = through-here (Below (a .p) (a .region) (a .cells .now) (a .tables .now) (l .at) (l .cells) (l .tables)) (l .i) (c .wide .result) (pre .1 .0) t (c .wide .ensures) (l .inv .4) in
+    let h = l .inv .4 (c .wide .result) (cut-here (l .i) (c .wide .result) (pre .1 .0) t (c .wide .ensures)) in
     (moves-passing (pre .0) (h .pass .moves), (h .points, (lt, omega (arith, pre .1 .1 .1, l .inv .3, c .before .before .before .before .before .before .before .before .before .page-for .kept .1 .1 .0))))
 
 add-i : tie.Need-add-i Inv-loop μ-loop

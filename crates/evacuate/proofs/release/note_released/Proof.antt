@@ -4,7 +4,7 @@ use borrow.Author.Needs.{needs}
 use lib.ListN.{getD}
 use Prim.Native.Nat.{_+_, _-_}
 use lib.Seq.{getD-set-same}
-use Rattle.evacuate.specs.Visits.{rises-last}
+use Rattle.lists.specs.Part.{rises-last}
 use Rattle.evacuate.proofs.release.note_released.Statement.{statement}
 use Rattle.evacuate.proofs.release.note_released.Tie as tie
 

@@ -3,7 +3,7 @@ use borrow.Author.Needs.{needs}
 use mathlib.Core.Path.{sym, ap, _∙_}
 use Prim.Native.Nat.{ℕ}
 use Rattle.layout.specs.Places.{countOf}
-use Rattle.evacuate.specs.Visits.{lists-none}
+use Rattle.lists.specs.Part.{lists-none}
 use Rattle.evacuate.specs.Taking.{pages-none}
 use Rattle.evacuate.proofs.release.release_region.Statement.{statement}
 use Rattle.evacuate.proofs.release.release_region.Tie as tie

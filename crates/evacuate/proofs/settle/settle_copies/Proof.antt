@@ -4,8 +4,7 @@ use borrow.Author.Needs.{needs}
 use lib.ListN.{length}
 use Prim.Native.Nat.{ℕ, _≤_, _<_, _-_, _*_}
 use mathlib.Core.Path.{_≡_, refl, _∙_}
-use Rattle.lists.specs.Part.{Through, through-start, through-turn, through-end}
-use Rattle.evacuate.specs.Visits.{through-here}
+use Rattle.lists.specs.Part.{Through, cut-here, through-start, through-turn, through-end}
 use Rattle.evacuate.specs.RewriteCopies.{CopySlot, Between, page-wired}
 use Rattle.evacuate.specs.Settle.{Settled, copies-settled, page-settling, pages-settled, settled-skips}
 use Rattle.evacuate.proofs.settle.settle_copies.Statement.{statement}
@@ -39,7 +38,7 @@ settle-page-requires c κs =
     let pre = c .before .before .before .before .before .before .before .before .before .before .pre in
     let l = c .before .before .before .before .before .loop in
     let lt : c .wide .result < c .before .before .before .before .before .before .before .before .before .before .args .p .pages = omega (arith, pre .1 .1 .0 .low (l .a) (c .before .before .before .before .loop-test .taken), c .wide .ensures) in
-    let h = through-here _ (l .a) (c .wide .result) (pre .1 .1 .0) (c .before .before .before .before .loop-test .taken) (c .wide .ensures) (l .inv .3) in
+    let h = l .inv .3 (c .wide .result) (cut-here (l .a) (c .wide .result) (pre .1 .1 .0) (c .before .before .before .before .loop-test .taken) (c .wide .ensures)) in
     (page-wired (pre .0) lt (h .rewritten), (page-settling (pre .0) lt (pre .1 .0) h, lt))
 
 add-a : tie.Need-add-a Inv-loop μ-loop
