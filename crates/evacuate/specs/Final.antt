@@ -1,18 +1,17 @@
 -- The cells as they will be once the copies' slots are rewritten: they exist before any is written, so that what is asked of them can be
 -- asked at the start. With them, the whole settling: filter the entries, settle the copies, clear the rest.
 use mathlib.Core.Path.{_≡_, refl, sym, ap, _∙_, subst}
-use mathlib.Core.Logic.{_≢_, _⊎_, inl, inr}
+use mathlib.Core.Logic.{_⊎_, inl, inr}
 use mathlib.Core.Bool.{cond}
 use mathlib.Core.List.{List}
 use Prim.Native.Nat.{ℕ, zero, suc, _+_, _-_, _*_, _/_, _%_, _≤_, _<_, max}
 use native.Mathlib.Decide.{ℕ-discrete, decLt}
 use native.Mathlib.Omega.{arith}
 use lib.Dec.{eqb}
-use lib.ListN.{length, getD, set}
+use lib.ListN.{getD, set}
 use Rattle.layout.specs.declared.Places.{Places}
 use Rattle.layout.specs.Places.{ownerOf, usedOf, slotIn, slotRegionIn}
 use Rattle.layout.specs.Cells.{workOf, fieldOf, refsOf}
-use Rattle.promises.specs.Words.{InUse}
 use Rattle.evacuate.specs.Passing.{moves-ready}
 use Rattle.evacuate.specs.Copying.{Copy}
 use Rattle.evacuate.specs.Forward.{copy-forwards}
@@ -20,7 +19,6 @@ use Rattle.evacuate.specs.Rewrite.{Names, moveRef, Rewritten, rewritten-
 use Rattle.evacuate.specs.RewriteSlots.{Remembered, Field, Fields, fields-start, field-moved}
 use Rattle.evacuate.specs.RewriteCopies.{CopySlot, Old, Wiring, Grown, Between, copy-fields, slot-less, slot-now, slot-then}
 use Rattle.evacuate.specs.Entries.{crossOf, newRegion, Added, added-like, Stays, Entries, Cleared}
-use Rattle.evacuate.specs.Append.{Crossing, Appending}
 use Rattle.evacuate.specs.Update.{Copies, Updating, Updated, update-appending, updated}
 use Rattle.evacuate.specs.Table.{no-copy}
 use Rattle.evacuate.specs.Stages.{Before, copies-ask, rewritten-both, update-ask}

@@ -1,4 +1,4 @@
--- The end of an epoch after its survivors are marked: place and copy, rewrite, remember, release.
+-- The end of an epoch after its survivors are marked: place and copy, rewrite, settle, release.
 pub mod Marks
 pub mod Taking
 pub mod Cursor

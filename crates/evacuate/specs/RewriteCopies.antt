@@ -1,6 +1,6 @@
--- The slots of the copies are rewritten: those of one survivor, of the survivors of a page, of all pages.
+-- The slots of the copies: those of one survivor, of the survivors of a page, of all pages.
 use mathlib.Core.Path.{_≡_, refl, sym, ap, _∙_, subst}
-use mathlib.Core.Logic.{_≢_, _⊎_, inl, inr, ⊎-elim}
+use mathlib.Core.Logic.{_≢_, _⊎_, inl, inr}
 use mathlib.Core.List.{List}
 use Prim.Native.Nat.{ℕ, _+_, _-_, _*_, _/_, _%_, _^_, _≤_, _<_}
 use native.Mathlib.Decide.{ℕ-discrete, decLt}
@@ -13,7 +13,7 @@ use Rattle.layout.specs.Places.{Room, ownerOf, markOf}
 use Rattle.layout.specs.Cells.{workOf, refsOf}
 use Rattle.promises.specs.Words.{InUse}
 use Rattle.evacuate.specs.Marks.{copied}
-use Rattle.evacuate.specs.Rewrite.{Names, Rewritten, link-same, refs-same, rewritten-none, rewritten-join, rewritten-like}
+use Rattle.evacuate.specs.Rewrite.{Names, Rewritten, link-same, refs-same}
 use Rattle.evacuate.specs.RewriteSlots.{Field, Fields}
 
 -- ---- the copies: of the old cells of which Q holds
@@ -127,7 +127,7 @@ pub record Grown (P : ℕ → Type 0) (c : ℕ) (P′ : ℕ → Type 0) : Type 0
 
 module _ {p : Places} {r c : ℕ} {P P′ Q : ℕ → Type 0} {W T W′ : List ℕ} (w : Wiring p r Q W T) (g : Grown P c P′) (among : (y : ℕ) → P′ y → Q y)
     (h : Rewritten p r (CopySlot p r P W T) W T W′) where
-  earlier-apart : (x : ℕ) → CopySlot p r (λ y. y ≡ c) W T x → CopySlot p r P W T x → ⊥
+  pub earlier-apart : (x : ℕ) → CopySlot p r (λ y. y ≡ c) W T x → CopySlot p r P W T x → ⊥
   earlier-apart x q q′ =
       let z : q′ .cell ≡ q .cell =
       slots-apart w (q′ .cell) (q .cell) x (among (q′ .cell) (g .keeps (q′ .cell) (q′ .among))) (subst Q (sym (q .among)) (among c (g .here)))
@@ -140,30 +140,6 @@ module _ {p : Places} {r c : ℕ} {P P′ Q : ℕ → Type 0} {W T W′ : List �
   pub copy-fields : (x : ℕ) → x ≡ workOf W′ c → Old p r W T c → Fields p (refsOf W′ (x - 1)) (x - 1) W′
   copy-fields x e u =
       subst (λ (y : ℕ). Fields p (refsOf W′ (y - 1)) (y - 1) W′) (sym e) (here-wired .copies c refl (old-now h c u))
-
-  pub copy-moved : {W″ : List ℕ} (x : ℕ) → x ≡ workOf W′ c → Old p r W T c → Rewritten p r (Field (x - 1) (refsOf W′ (x - 1))) W′ T W″
-      → Rewritten p r (CopySlot p r P′ W T) W T W″
-  copy-moved {W″} x e u k =
-      rewritten-join h k (λ y q f. earlier-apart y (one y f) q) (λ y q. from y q (g .split (q .cell) (q .among)))
-      (λ y. ⊎-elim (slot-less (g .keeps) y) (λ f. slot-less (λ z q. subst P′ (sym q) (g .here)) y (one y f)))
-    where
-      -- the fields as the words before have them
-      one : (y : ℕ) → Field (x - 1) (refsOf W′ (x - 1)) y → CopySlot p r (λ z. z ≡ c) W T y
-      one y f =
-          let f′ : Field (workOf W c - 1) (refsOf W′ (workOf W c - 1)) y = subst (λ (z : ℕ). Field (z - 1) (refsOf W′ (z - 1)) y) (e ∙ link-same h c) f in
-          record {
-            cell = c;
-            among = refl;
-            old = u;
-            field = record { field = f′ .field; low = omega (arith, f′ .low, refs-same h (workOf W c - 1)); at = f′ .at };
-          }
-
-      from : (y : ℕ) (q : CopySlot p r P′ W T y) → P (q .cell) ⊎ (q .cell ≡ c) → CopySlot p r P W T y ⊎ Field (x - 1) (refsOf W′ (x - 1)) y
-      from y q (inl m) = inl (record { cell = q .cell; among = m; old = q .old; field = q .field })
-      from y q (inr z) =
-          let f : Field (workOf W c - 1) (refsOf W (workOf W c - 1)) y = subst (λ (v : ℕ). Field (workOf W v - 1) (refsOf W (workOf W v - 1)) y) z (q .field) in
-          inr (subst (λ (v : ℕ). Field (v - 1) (refsOf W′ (v - 1)) y) (sym (e ∙ link-same h c))
-          (record { field = f .field; low = omega (arith, f .low, refs-same h (workOf W c - 1)); at = f .at }))
 
 -- ---- the copies of a page's survivors, bit by bit
 
@@ -222,23 +198,11 @@ module _ {p : Places} {r q w : ℕ} {W T : List ℕ} (a : Wiring p r (Between (1
       let c : ℕ = s .cell in
       omega (arith, a .only c (passed-within q w c (s .among)) (s .old), upper-copied c (s .among .0), s .among .1)
 
-  pub unset-rewritten : Rewritten p r (CopySlot p r (Passed q w) W T) W T W
-  unset-rewritten = rewritten-none p r (CopySlot p r (Passed q w) W T) W T unset-none
-
 -- once none is left, all cells of the page are passed
 pub within-passed : (q left c : ℕ) → left ≡ 0 → Between (16 * q) (16 * (q + 1)) c → Passed q left c
 within-passed q left c z m = (omega (arith, m .0, m .1), ap (λ (x : ℕ). bitAt x (c % 16)) z ∙ bit-zero (c % 16))
 
-pub page-done : {p : Places} {r left : ℕ} {W T W′ : List ℕ} (q : ℕ) → left ≡ 0 → Rewritten p r (CopySlot p r (Passed q left) W T) W T W′
-    → Rewritten p r (CopySlot p r (Between (16 * q) (16 * (q + 1))) W T) W T W′
-page-done {left = left} q z h =
-    rewritten-like h (λ x s. slot-less (λ c m. within-passed q left c z m) x s) (λ x s. slot-less (λ c m. passed-within q left c m) x s)
-
 -- ---- all pages
-
-pub copies-start : (p : Places) (r a : ℕ) (W T : List ℕ) → Rewritten p r (CopySlot p r (Between a a) W T) W T W
-copies-start p r a W T =
-    rewritten-none p r (CopySlot p r (Between a a) W T) W T (λ x q. omega (arith, q .among .0, q .among .1))
 
 -- a page without marks has no copies
 pub unmarked-slots : {p : Places} {r : ℕ} {W T : List ℕ} → Wiring p r (Between 0 (16 * p .pages)) W T → (q : ℕ) → q < p .pages → markOf p T q ≡ 0
@@ -255,14 +219,10 @@ unmarked-slots {p} {r} {W} {T} w q l z x s = record { cell = s .cell; among = (o
         let on : copied p T (s .cell) ≡ 1 = w .only (s .cell) (omega arith, omega arith) (s .old) in
         absurd (let y : ⊥ = omega (arith, ap (λ (v : ℕ). bitAt (markOf p T v) (16 + s .cell % 16)) e, ap (λ (v : ℕ). bitAt v (16 + s .cell % 16)) z, bit-zero (16 + s .cell % 16)) in y)
 
-pub pages-skip : {p : Places} {r : ℕ} {W T W′ : List ℕ} → Wiring p r (Between 0 (16 * p .pages)) W T → (q : ℕ) → q < p .pages → markOf p T q ≡ 0
-    → Rewritten p r (CopySlot p r (Between 0 (16 * q)) W T) W T W′ → Rewritten p r (CopySlot p r (Between 0 (16 * (q + 1))) W T) W T W′
-pages-skip w q l z h = rewritten-like h (unmarked-slots w q l z) (λ x s. slot-less (λ y m. (m .0, omega (arith, m .1))) x s)
-
 -- a page after those below it
 module _ {p : Places} {r q : ℕ} {W T W′ : List ℕ} (w : Wiring p r (Between 0 (16 * p .pages)) W T) (lt : q < p .pages)
     (h : Rewritten p r (CopySlot p r (Between 0 (16 * q)) W T) W T W′) where
-  pages-apart : (x : ℕ) → CopySlot p r (Between (16 * q) (16 * (q + 1))) W T x → CopySlot p r (Between 0 (16 * q)) W T x → ⊥
+  pub pages-apart : (x : ℕ) → CopySlot p r (Between (16 * q) (16 * (q + 1))) W T x → CopySlot p r (Between 0 (16 * q)) W T x → ⊥
   pages-apart x s s′ =
       let l : 16 * q ≤ s .cell = s .among .0 in
       let l′ : s′ .cell < 16 * q = s′ .among .1 in
@@ -273,16 +233,3 @@ module _ {p : Places} {r q : ℕ} {W T W′ : List ℕ} (w : Wiring p r (Between
 
   pub page-wired : Wiring p r (Between (16 * q) (16 * (q + 1))) W′ T
   page-wired = wiring-now h (wiring-less (λ y l. (omega arith, omega (arith, l .1))) w) pages-apart
-
-  pub pages-next : {W″ : List ℕ} → Rewritten p r (CopySlot p r (Between (16 * q) (16 * (q + 1))) W′ T) W′ T W″
-      → Rewritten p r (CopySlot p r (Between 0 (16 * (q + 1))) W T) W T W″
-  pages-next k =
-      rewritten-join h k (λ x s s′. pages-apart x (slot-then h x s′) s)
-      (λ x s. from x s (decLt (s .cell) (16 * q)))
-      (λ x. ⊎-elim (λ s. slot-less (λ y l. (l .0, omega (arith, l .1))) x s) (λ s. slot-less (λ y l. (omega arith, l .1)) x (slot-then h x s)))
-    where
-      from : (x : ℕ) (s : CopySlot p r (Between 0 (16 * (q + 1))) W T x) → Dec (s .cell < 16 * q)
-          → CopySlot p r (Between 0 (16 * q)) W T x ⊎ CopySlot p r (Between (16 * q) (16 * (q + 1))) W′ T x
-      from x s (yes l) = inl (record { cell = s .cell; among = (s .among .0, l); old = s .old; field = s .field })
-      from x s (no l) =
-          inr (slot-now h x (record { cell = s .cell; among = (omega arith, s .among .1); old = s .old; field = s .field }))

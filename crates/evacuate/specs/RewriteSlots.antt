@@ -86,9 +86,6 @@ module _ {p : Places} {r n d : ℕ} {W T W′ : List ℕ} {f : ℕ} (a : Fields 
   new : Field d f (16 * d + 2 + f) → ⊥
   new q = omega (arith, q .low, q .at)
 
-  pub field-names : Names p (fieldOf W′ d f)
-  field-names = subst (λ (x : ℕ). Names p x) (sym (h .same (16 * d + 2 + f) new)) (a .names f lt)
-
   pub field-moved : (v : ℕ) → v ≡ moveRef p r W′ T (fieldOf W′ d f) → Rewritten p r (Field d (f + 1)) W T (set W′ (16 * d + 2 + f) v)
   field-moved v ev =
       rewritten-join h

@@ -8,15 +8,13 @@ use native.Mathlib.Decide.{ℕ-discrete, decLt}
 use native.Mathlib.Omega.{arith}
 use lib.ListN.{length, getD, set}
 use lib.Seq.{getD-set-same}
-use Rattle.lists.specs.Bits.{bitAt, bit-zero}
 use Rattle.lists.specs.Part.{Off, Skips}
 use Rattle.layout.specs.declared.Places.{Places}
 use Rattle.layout.specs.Places.{ownerOf, markOf}
 use Rattle.layout.specs.Cells.{workOf, fieldOf, refsOf}
-use Rattle.evacuate.specs.Marks.{copied}
 use Rattle.evacuate.specs.Rewrite.{Names, moveRef, Rewritten, link-same, refs-same, ref-same, rewritten-none, rewritten-one, rewritten-join, rewritten-like}
 use Rattle.evacuate.specs.RewriteSlots.{Field, Fields}
-use Rattle.evacuate.specs.RewriteCopies.{CopySlot, Old, Wiring, Grown, Between, Passed, passed-within, within-passed, unset-none, slots-apart, slot-less, slot-now, slot-then}
+use Rattle.evacuate.specs.RewriteCopies.{CopySlot, Old, Wiring, Grown, Between, Passed, passed-within, within-passed, unset-none, slot-less, slot-now, slot-then, earlier-apart, unmarked-slots, pages-apart}
 use Rattle.evacuate.specs.Entries.{crossOf, Added, added-none, added-one, added-join, added-like}
 use Rattle.evacuate.specs.Append.{crossAt, Crossing, Appending, append-room, appending-next}
 
@@ -181,10 +179,7 @@ module _ {p : Places} {r c : ℕ} {P P′ Q : ℕ → Type 0} {W T W′ : List �
       }
 
   copy-apart : (y : ℕ) → CopySlot p r P W T y → Field (x - 1) (refsOf W′ (x - 1)) y → ⊥
-  unfolding one
-  copy-apart y q f =
-      let z : q .cell ≡ c = slots-apart w (q .cell) c y (among (q .cell) (g .keeps (q .cell) (q .among))) (among c (g .here)) (q .old) u (q .field) (one y f .field) in
-      g .new (subst P z (q .among))
+  copy-apart y q f = earlier-apart w g among h y (one y f) q
 
   copy-among : (y : ℕ) → Field (x - 1) (refsOf W′ (x - 1)) y → CopySlot p r P′ W T y
   copy-among y f = slot-less (λ z q. subst P′ (sym q) (g .here)) y (one y f)
@@ -234,25 +229,18 @@ copies-settled p r n a j W M T l =
 -- a page after those below it
 module _ {p : Places} {r n q j i : ℕ} {W M T W′ M′ : List ℕ} (w : Wiring p r (Between 0 (16 * p .pages)) W T) (lt : q < p .pages)
     (s : Settling p r n (CopySlot p r (Between 0 (16 * p .pages)) W T) W M T j) (h : Settled p r n (CopySlot p r (Between 0 (16 * q)) W T) W M T j W′ M′ i) where
-  pages-apart : (x : ℕ) → CopySlot p r (Between 0 (16 * q)) W T x → CopySlot p r (Between (16 * q) (16 * (q + 1))) W′ T x → ⊥
-  pages-apart x a b′ =
-      let b : CopySlot p r (Between (16 * q) (16 * (q + 1))) W T x = slot-then (h .rewritten) x b′ in
-      let l : 16 * q ≤ b .cell = b .among .0 in
-      let m : b .cell < 16 * (q + 1) = b .among .1 in
-      let l′ : a .cell < 16 * q = a .among .1 in
-      let z : b .cell ≡ a .cell =
-      slots-apart w (b .cell) (a .cell) x (omega arith, omega arith) (omega arith, omega arith) (b .old) (a .old) (b .field) (a .field) in
-      omega arith
+  page-apart : (x : ℕ) → CopySlot p r (Between 0 (16 * q)) W T x → CopySlot p r (Between (16 * q) (16 * (q + 1))) W′ T x → ⊥
+  page-apart x a b = pages-apart w lt (h .rewritten) x (slot-then (h .rewritten) x b) a
 
   pub page-settling : Settling p r n (CopySlot p r (Between (16 * q) (16 * (q + 1))) W′ T) W′ M′ T i
   page-settling =
       settling-next s h (λ x a. slot-less (λ y l. (l .0, omega (arith, l .1))) x a)
-      (λ x b. slot-less (λ y l. (omega arith, omega (arith, l .1))) x (slot-then (h .rewritten) x b)) pages-apart
+      (λ x b. slot-less (λ y l. (omega arith, omega (arith, l .1))) x (slot-then (h .rewritten) x b)) page-apart
 
   pub pages-settled : {W″ M″ : List ℕ} {i′ : ℕ} → Settled p r n (CopySlot p r (Between (16 * q) (16 * (q + 1))) W′ T) W′ M′ T i W″ M″ i′
       → Settled p r n (CopySlot p r (Between 0 (16 * (q + 1))) W T) W M T j W″ M″ i′
   pages-settled k =
-      settled-join h k pages-apart (λ x a. from x a (decLt (a .cell) (16 * q)))
+      settled-join h k page-apart (λ x a. from x a (decLt (a .cell) (16 * q)))
       (λ x. ⊎-elim (λ a. slot-less (λ y l. (l .0, omega (arith, l .1))) x a)
       (λ b. slot-less (λ y l. (omega arith, l .1)) x (slot-then (h .rewritten) x b)))
     where
@@ -265,15 +253,4 @@ module _ {p : Places} {r n q j i : ℕ} {W M T W′ M′ : List ℕ} (w : Wiring
 -- a page without marks has no copies
 pub settled-skips : {p : Places} {r n j i : ℕ} {W M T W′ M′ : List ℕ} (k : ℕ) (l : List ℕ) → Wiring p r (Between 0 (16 * p .pages)) W T
     → ((q : ℕ) → q < p .pages → Off l k q → markOf p T q ≡ 0) → Skips (p .pages) k l (λ b. Settled p r n (CopySlot p r (Between 0 (16 * b)) W T) W M T j W′ M′ i)
-settled-skips {p} {r} {W = W} {T = T} k l w none q lt off h =
-    settled-like h (λ x a. record { cell = a .cell; among = (omega arith, below a (decLt (a .cell) (16 * q))); old = a .old; field = a .field })
-    (λ x a. slot-less (λ y l. (l .0, omega (arith, l .1))) x a)
-  where
-    below : {x : ℕ} (a : CopySlot p r (Between 0 (16 * (q + 1))) W T x) → Dec (a .cell < 16 * q) → a .cell < 16 * q
-    below a (yes d) = d
-    below a (no d) =
-        let m : a .cell < 16 * (q + 1) = a .among .1 in
-        let e : a .cell / 16 ≡ q = omega arith in
-        let on : copied p T (a .cell) ≡ 1 = w .only (a .cell) (omega arith, omega arith) (a .old) in
-        let i : ℕ = 16 + a .cell % 16 in
-        absurd (let z : ⊥ = omega (arith, ap (λ (v : ℕ). bitAt (markOf p T v) i) e, ap (λ (v : ℕ). bitAt v i) (none q lt off), bit-zero i) in z)
+settled-skips k l w none q lt off h = settled-like h (unmarked-slots w q lt (none q lt off)) (λ x a. slot-less (λ y l. (l .0, omega (arith, l .1))) x a)

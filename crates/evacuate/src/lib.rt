@@ -1,6 +1,5 @@
 // The end of an epoch once its survivors are marked: word 1 of each cell of the ending region is the region that its object goes to, 0 if
-// it is freed, and its bit in the page's mark word says which is not 0. Stages: place and copy, rewrite what holds from outside, settle the copies
-// and the remember table, release.
+// it is freed, and its bit in the page's mark word says which is not 0. Four stages: place and copy, rewrite, settle, release.
 pub mod copy;
 pub mod release;
 pub mod remember;
@@ -65,6 +64,6 @@ pub fn evacuate_none(
 {
     let level = layout::wide(layout::tables::depth(p, tables, thread));
     let region = layout::regions::region_at(p, thread, level);
-    remember::drop_entries(p, cells, remember, tables, region);
+    remember::keep_entries(p, cells, remember, tables, region);
     release::release_region(p, tables, notes, region, thread);
 }

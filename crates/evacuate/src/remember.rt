@@ -91,8 +91,8 @@ pub fn clear_entries(entries: usize, remember: &mut [u32], from: usize, to: usiz
     }
 }
 
-// The remember table where nothing is copied: the entries that stay, then zeros.
-pub fn drop_entries(p: Places, cells: &[u32], remember: &mut [u32], tables: &[u32], region: u32)
+// The remember table after an end that copies nothing: the entries that stay, then zeros.
+pub fn keep_entries(p: Places, cells: &[u32], remember: &mut [u32], tables: &[u32], region: u32)
     requires { ⌜ Updating p region (p .entries) (usedIn (now remember)) (now cells) (now remember) (now tables) ⌝ }
     requires { ⌜ ((x : ℕ) → Copies p region (now cells) (now tables) x → ⊥) ⌝ }
     ensures { λ _. ⌜ Updated p region (p .entries) (usedIn (now (remember .entry))) (now (cells .entry)) (now (remember .entry)) (now (tables .entry)) (now (remember .exit)) ⌝ }

@@ -1,5 +1,5 @@
-// Rewrite: references into the ending region go by the forward reference in word 1 of the old cell. From outside they stand in the remembered
-// slots and in the variables.
+// Rewrite: references into the ending region go by the forward reference in word 1 of the old cell. They stand in the remembered slots
+// and in the variables; for the copies' own slots see settle.
 ghost use mathlib.Core.Path.{_≡_};
 ghost use Prim.Native.Nat.{ℕ, _*_, _<_, _≤_};
 ghost use lib.ListN.{length};

@@ -8,7 +8,7 @@ use Rattle.lists.specs.Part.{Lists}
 use Rattle.rules.specs.Regions.{regionAt}
 use Rattle.layout.specs.Places.{depthOf, ownerOf, usedIn, sizesOf}
 use Rattle.evacuate.specs.Copying.{region-bounds}
-use Rattle.evacuate.specs.Stages.{Before, Finished, slots-ask, tables-ask, rewritten-both, unmarked, marks-ask, pages-ask, variables-ask, release-ask, finished}
+use Rattle.evacuate.specs.Stages.{Before, Finished, slots-ask, tables-ask, unmarked, marks-ask, pages-ask, variables-ask, release-ask, finished}
 use Rattle.evacuate.specs.Final.{settle-ask}
 use Rattle.evacuate.proofs.evacuate.Statement.{statement}
 use Rattle.evacuate.proofs.evacuate.Tie as tie
@@ -55,8 +55,9 @@ copy-survivors-requires c κs =
 
 rewrite-slots-requires : tie.Need-rewrite-slots-requires
 rewrite-slots-requires c κs =
-    let copy-survivors = c .before .before .before .before .before .before .before .before .before .copy-survivors in
-    (slots-ask (begun (c .before .before .before .before .before .before .before .before .before .before .before .before .before)) (copy-survivors .ensures), tables-ask (begun (c .before .before .before .before .before .before .before .before .before .before .before .before .before)) (copy-survivors .ensures))
+    let b = begun (c .before .before .before .before .before .before .before .before .before .before .before .before .before) in
+    let k = c .before .before .before .before .before .before .before .before .before .copy-survivors .ensures in
+    (slots-ask b k, tables-ask b k)
 
 settle-requires : tie.Need-settle-requires
 settle-requires c κs =
@@ -69,8 +70,7 @@ rewrite-variables-requires : tie.Need-rewrite-variables-requires
 rewrite-variables-requires c κs =
     let b = begun (c .before .before .before .before .before .before .before .before .before .before .before .before .before .before .before .before .before .before .before .before .before .before .before .before .before .before) in
     let k = c .before .before .before .before .before .before .before .before .before .before .before .before .before .before .before .before .before .before .before .before .before .before .copy-survivors .ensures in
-    let R = rewritten-both b k (c .before .before .before .before .before .before .before .before .before .before .before .before .rewrite-slots .ensures) (c .before .before .before .before .before .before .settle .ensures .0) in
-    (variables-ask b k, (omega (arith, slots-ask b k .cells-long, R .size), tables-ask b k))
+    (variables-ask b k, (omega (arith, slots-ask b k .cells-long, c .before .before .before .before .before .before .before .before .before .before .before .before .rewrite-slots .ensures .size, c .before .before .before .before .before .before .settle .ensures .0 .size), tables-ask b k))
 
 release-requires : tie.Need-release-requires
 release-requires c κs =
@@ -85,10 +85,7 @@ release-requires c κs =
     (z .0, (pages-ask b k (listed (c .before .before .before .before .before .before .before .before .before .before .before .before .before .before .before .before .before .before .before .before .before .before .before .before .before .before .before .before .before .before .before)) real (c .before .before .before .before .rewrite-variables .ensures), ((omega (arith, g .0), omega (arith, g .1)), ((pre .1 .0 .0, omega (arith, z .1, pre .1 .0 .1)), omega (arith, pre .1 .1 .1 .1 .0, c .before .before .before .before .before .before .before .before .before .before .before .before .before .before .before .before .before .before .before .before .before .before .before .before .before .before .before .copy-survivors .kept .1 .1 .1 .0)))))
 
 same-length : tie.Need-same-length
-same-length c =
-    let copy-survivors = c .before .before .before .before .before .before .before .before .before .before .before .before .before .before .before .before .before .before .before .before .before .before .before .before .before .before .before .before .before .before .before .before .copy-survivors in
-    let rewrite-slots = c .before .before .before .before .before .before .before .before .before .before .before .before .before .before .before .before .before .before .before .before .before .before .rewrite-slots in
-    c .before .before .before .before .before .before .before .before .before .before .before .before .before .before .before .before .settle .kept .1 .0 ∙ rewrite-slots .kept .1 .0 ∙ copy-survivors .kept .1 .0
+same-length c = c .before .before .before .before .before .before .before .before .before .before .before .before .before .before .before .before .settle .kept .1 .0 ∙ c .before .before .before .before .before .before .before .before .before .before .before .before .before .before .before .before .before .before .before .before .before .before .rewrite-slots .kept .1 .0 ∙ c .before .before .before .before .before .before .before .before .before .before .before .before .before .before .before .before .before .before .before .before .before .before .before .before .before .before .before .before .before .before .before .before .copy-survivors .kept .1 .0
 
 same-length-2 : tie.Need-same-length-2
 same-length-2 c = c .before .before .before .before .before .before .before .before .before .before .before .before .before .before .before .before .settle .kept .1 .1 .0
@@ -101,19 +98,12 @@ same-length-4 c = c .before .before .before .before .release .kept .1 .1 .0 ∙ 
 
 returns : tie.Need-returns
 returns c =
-    let depth = c .before .before .before .before .before .before .before .before .before .before .before .before .before .before .before .before .before .before .before .before .before .before .before .before .before .before .before .before .before .before .before .before .before .before .before .before .before .before .depth in
-    let wide = c .before .before .before .before .before .before .before .before .before .before .before .before .before .before .before .before .before .before .before .before .before .before .before .before .before .before .before .before .before .before .before .before .before .before .before .before .before .wide in
-    let copy-survivors = c .before .before .before .before .before .before .before .before .before .before .before .before .before .before .before .before .before .before .before .before .before .before .before .before .before .before .before .before .before .before .before .before .copy-survivors in
-    let rewrite-slots = c .before .before .before .before .before .before .before .before .before .before .before .before .before .before .before .before .before .before .before .before .before .before .rewrite-slots in
-    let rewrite-variables = c .before .before .before .before .before .before .before .before .before .rewrite-variables in
-    let settle = c .before .before .before .before .before .before .before .before .before .before .before .before .before .before .before .before .settle in
     let a = c .before .before .before .before .before .before .before .before .before .before .before .before .before .before .before .before .before .before .before .before .before .before .before .before .before .before .before .before .before .before .before .before .before .before .before .before .before .before .before .before .before .before .before .before .before .before .args in
-    let b = begun (c .before .before .before .before .before .before .before .before .before .before .before .before .before .before .before .before .before .before .before .before .before .before .before .before .before .before .before .before .before .before .before .before .before .before .before .before) in
-    let k = copy-survivors .ensures in
+    let settle = c .before .before .before .before .before .before .before .before .before .before .before .before .before .before .before .before .settle in
     let F : ℕ → ℕ → Type 0 =
     (λ g l. Finished (a .p) g (a .p .entries) (usedIn (a .remember .now)) l (a .thread) (regionAt (sizesOf (a .p)) (a .thread)) (a .cells .now) (a .remember .now) (a .tables .now) (settle .last .1 .0) (settle .last .1 .1 .0) (c .before .before .before .before .release .last .1 .0)) in
-    subst₂ F (level (c .before .before .before .before .before .before .before .before .before .before .before .before .before .before .before .before .before .before .before .before .before .before .before .before .before .before .before .before .before .before .before .before .before .before .before .before)) (wide .ensures ∙ depth .ensures)
-    (finished b k (rewrite-slots .ensures) (settle .ensures .0) (settle .ensures .1) (rewrite-variables .ensures) (c .before .before .before .before .release .ensures))
+    subst₂ F (level (c .before .before .before .before .before .before .before .before .before .before .before .before .before .before .before .before .before .before .before .before .before .before .before .before .before .before .before .before .before .before .before .before .before .before .before .before)) (c .before .before .before .before .before .before .before .before .before .before .before .before .before .before .before .before .before .before .before .before .before .before .before .before .before .before .before .before .before .before .before .before .before .before .before .before .before .wide .ensures ∙ c .before .before .before .before .before .before .before .before .before .before .before .before .before .before .before .before .before .before .before .before .before .before .before .before .before .before .before .before .before .before .before .before .before .before .before .before .before .before .depth .ensures)
+    (finished (begun (c .before .before .before .before .before .before .before .before .before .before .before .before .before .before .before .before .before .before .before .before .before .before .before .before .before .before .before .before .before .before .before .before .before .before .before .before)) (c .before .before .before .before .before .before .before .before .before .before .before .before .before .before .before .before .before .before .before .before .before .before .before .before .before .before .before .before .before .before .before .before .copy-survivors .ensures) (c .before .before .before .before .before .before .before .before .before .before .before .before .before .before .before .before .before .before .before .before .before .before .rewrite-slots .ensures) (settle .ensures .0) (settle .ensures .1) (c .before .before .before .before .before .before .before .before .before .rewrite-variables .ensures) (c .before .before .before .before .release .ensures))
 
 pub evacuate-spec : {M : Type 1} → statement M
 evacuate-spec =

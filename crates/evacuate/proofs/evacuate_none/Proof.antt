@@ -8,14 +8,12 @@ use Rattle.layout.specs.Places.{depthOf, usedIn, sizesOf}
 use Rattle.evacuate.specs.Copying.{region-bounds}
 use Rattle.evacuate.specs.Update.{Copies, Updating, Updated}
 use Rattle.evacuate.specs.Release.{Ended}
-use Rattle.evacuate.specs.NoSurvivors.{none-update, none-copies, none-finished}
+use Rattle.evacuate.specs.NoSurvivors.{none-copies, none-update, none-finished}
 use Rattle.evacuate.proofs.evacuate_none.Statement.{statement}
 use Rattle.evacuate.proofs.evacuate_none.Tie as tie
 
 level : (c : tie.After-region-at) → (let a = c .before .before .before .before .before .before .before .before .args in c .region-at .result ≡ regionAt (sizesOf (a .p)) (a .thread) (depthOf (a .tables .now) (a .thread)))
 level c = let a = c .before .before .before .before .before .before .before .before .args in c .region-at .ensures ∙ ap (regionAt (sizesOf (a .p)) (a .thread)) (c .before .wide .ensures ∙ c .before .before .depth .ensures)
-
---
 
 depth-requires : tie.Need-depth-requires
 depth-requires c κs = (c .before .before .before .before .before .pre .0 .plan .ready .regular .room, c .before .before .before .before .before .pre .1 .0 .0)
@@ -29,14 +27,12 @@ region-at-requires c κs =
     let rm = pre .0 .plan .ready .regular .room in
     (rm .threads-high, rm .depth-high, pre .1 .0 .0, omega (arith, pre .1 .0 .2, c .wide .ensures, c .before .depth .ensures))
 
-drop-entries-requires : tie.Need-drop-entries-requires
-drop-entries-requires c κs =
+keep-entries-requires : tie.Need-keep-entries-requires
+keep-entries-requires c κs =
     let pre = c .before .before .before .before .before .before .before .before .before .before .pre in
     let a = c .before .before .before .before .before .before .before .before .before .before .args in
-    let e = level (c .before .before) in (
-      subst (λ (g : ℕ). Updating (a .p) g (a .p .entries) (usedIn (a .remember .now)) (a .cells .now) (a .remember .now) (a .tables .now)) (sym e) (none-update (pre .0) (pre .1 .1 .0)),
-      subst (λ (g : ℕ). (x : ℕ) → Copies (a .p) g (a .cells .now) (a .tables .now) x → ⊥) (sym e) (none-copies (pre .0) (pre .1 .1 .0)),
-    )
+    subst (λ (g : ℕ). Updating (a .p) g (a .p .entries) (usedIn (a .remember .now)) (a .cells .now) (a .remember .now) (a .tables .now) × ((x : ℕ) → Copies (a .p) g (a .cells .now) (a .tables .now) x → ⊥)) (sym (level (c .before .before)))
+    (none-update (pre .0) (pre .1 .1 .0), none-copies (pre .0) (pre .1 .1 .0))
 
 release-region-requires : tie.Need-release-region-requires
 release-region-requires c κs =
@@ -47,7 +43,7 @@ release-region-requires c κs =
     (pre .0 .plan .ready .regular, ((omega (arith, g .0), omega (arith, g .1)), ((pre .1 .0 .0, pre .1 .0 .1), pre .1 .1 .1)))
 
 same-length : tie.Need-same-length
-same-length c = c .before .before .before .before .before .before .before .before .before .drop-entries .kept .1 .1 .0
+same-length c = c .before .before .before .before .before .before .before .before .before .keep-entries .kept .1 .1 .0
 
 same-length-2 : tie.Need-same-length-2
 same-length-2 c = c .before .before .before .before .release-region .kept .1 .0
@@ -58,10 +54,11 @@ same-length-3 c = c .before .before .before .before .release-region .kept .1 .1 
 returns : tie.Need-returns
 returns c =
     let a = c .before .before .before .before .before .before .before .before .before .before .before .before .before .before .before .before .before .before .before .before .args in
+    let pre = c .before .before .before .before .before .before .before .before .before .before .before .before .before .before .before .before .before .before .before .before .pre in
     let e = level (c .before .before .before .before .before .before .before .before .before .before .before .before) in
-    let u = subst (λ (g : ℕ). Updated (a .p) g (a .p .entries) (usedIn (a .remember .now)) (a .cells .now) (a .remember .now) (a .tables .now) (c .before .before .before .before .before .before .before .before .before .drop-entries .last .1 .1 .0)) e (c .before .before .before .before .before .before .before .before .before .drop-entries .ensures) in
+    let u = subst (λ (g : ℕ). Updated (a .p) g (a .p .entries) (usedIn (a .remember .now)) (a .cells .now) (a .remember .now) (a .tables .now) (c .before .before .before .before .before .before .before .before .before .keep-entries .last .1 .1 .0)) e (c .before .before .before .before .before .before .before .before .before .keep-entries .ensures) in
     let z = subst (λ (g : ℕ). Ended (a .p) g (a .thread) (a .tables .now) (c .before .before .before .before .release-region .last .1 .0)) e (c .before .before .before .before .release-region .ensures) in
-    none-finished (c .before .before .before .before .before .before .before .before .before .before .before .before .before .before .before .before .before .before .before .before .pre .0) (c .before .before .before .before .before .before .before .before .before .before .before .before .before .before .before .before .before .before .before .before .pre .1 .1 .0) u z
+    none-finished (pre .0) (pre .1 .1 .0) u z
 
 pub evacuate-none-spec : {M : Type 1} → statement M
 evacuate-none-spec =
@@ -70,7 +67,7 @@ evacuate-none-spec =
     depth-requires
     wide-requires
     region-at-requires
-    drop-entries-requires
+    keep-entries-requires
     release-region-requires
     same-length
     same-length-2
