@@ -4,6 +4,7 @@ use mathlib.Core.List.{List}
 use mathlib.Core.Path.{_≡_, ap, subst, sym}
 use mathlib.Core.Logic.{⊎-elim}
 use native.Mathlib.Omega.{arith}
+use native.Mathlib.Decide.{decLt}
 use native.Mathlib.Nat.{eq-or-lt-of-le, not-suc-le-zero}
 use native.Mathlib.Numerals.{add-one}
 use Rattle.layout.specs.declared.Places.{Places}
@@ -14,9 +15,20 @@ use Rattle.promises.specs.Whole.{EntryWhole}
 abbrev pub NamedWhole : Places → List ℕ → List ℕ → List ℕ → Type 0
 NamedWhole p c m t = (i : ℕ) → i < usedIn m → EntryWhole p c m t i
 
+-- the entries from a to before b, of a table of n, are zero
+abbrev pub ZeroBetween : ℕ → List ℕ → ℕ → ℕ → Type 0
+ZeroBetween n m a b = (i : ℕ) → a ≤ i → i < b → (slotIn m i ≡ 0) × (slotRegionIn n m i ≡ 0)
+
+pub zero-on : (n : ℕ) (m : List ℕ) (a b c : ℕ) → ZeroBetween n m a b → ZeroBetween n m b c → ZeroBetween n m a c
+zero-on n m a b c h k i l u = go (decLt i b)
+  where
+    go : Dec (i < b) → (slotIn m i ≡ 0) × (slotRegionIn n m i ≡ 0)
+    go (yes v) = h i l v
+    go (no v) = k i (omega arith) u
+
 -- every entry that is not used
 abbrev pub RestZero : Places → List ℕ → Type 0
-RestZero p m = (i : ℕ) → usedIn m ≤ i → i < p .entries → (slotIn m i ≡ 0) × (slotRegionIn (p .entries) m i ≡ 0)
+RestZero p m = ZeroBetween (p .entries) m (usedIn m) (p .entries)
 
 -- no two entries name one slot
 abbrev pub Once : List ℕ → Type 0

@@ -6,7 +6,7 @@ ghost use Rattle.lists.specs.Says.{Says};
 ghost use Rattle.lists.specs.Seen.{bitIn, withBit};
 ghost use Rattle.layout.specs.Places.{Room, usedIn, slotIn};
 ghost use Rattle.promises.specs.Whole.{EntryWhole, EntriesWhole};
-ghost use Rattle.whole.specs.Entries.{NamedWhole, RestZero, Once, Rising};
+ghost use Rattle.whole.specs.Entries.{NamedWhole, ZeroBetween, RestZero, Once, Rising};
 use crate::crossing::cross_to;
 use layout::Places;
 
@@ -48,14 +48,14 @@ pub fn named_whole(p: Places, cells: &[u32], remember: &[u32], tables: &[u32], u
     true
 }
 
-pub fn rest_zero(p: Places, remember: &[u32], used: usize) -> bool
-    requires { ⌜ 2 * p .entries + 2 ≤ length (now remember) ⌝ }
-    requires { ⌜ (used ≡ usedIn (now remember)) × (used ≤ p .entries) ⌝ }
-    ensures { λ r. ⌜ Says r (RestZero p (now (remember .entry))) ⌝ }
+// Whether the entries of a stretch are zero, slot and region.
+pub fn zero_between(entries: usize, remember: &[u32], from: usize, to: usize) -> bool
+    requires { ⌜ 2 * entries + 2 ≤ length (now remember) ⌝ }
+    requires { ⌜ to ≤ entries ⌝ }
+    ensures { λ r. ⌜ Says r (ZeroBetween entries (now (remember .entry)) from to) ⌝ }
 {
-    let entries = p.entries;
-    let mut i = used;
-    while i < entries {
+    let mut i = from;
+    while i < to {
         if layout::remember::slot(entries, remember, i) != 0 {
             return false;
         }
@@ -65,6 +65,23 @@ pub fn rest_zero(p: Places, remember: &[u32], used: usize) -> bool
         i += 1;
     }
     true
+}
+
+// Eight entries in a turn: a stretch of known length is compiled without a loop. The first word that is not zero still ends it.
+pub fn rest_zero(p: Places, remember: &[u32], used: usize) -> bool
+    requires { ⌜ 2 * p .entries + 2 ≤ length (now remember) ⌝ }
+    requires { ⌜ (used ≡ usedIn (now remember)) × (used ≤ p .entries) ⌝ }
+    ensures { λ r. ⌜ Says r (RestZero p (now (remember .entry))) ⌝ }
+{
+    let entries = p.entries;
+    let mut i = used;
+    while i + 7 < entries {
+        if !zero_between(entries, remember, i, i + 8) {
+            return false;
+        }
+        i += 8;
+    }
+    zero_between(entries, remember, i, entries)
 }
 
 // Whether the slots stand in rising order.

@@ -1,17 +1,17 @@
 -- The loop's invariant: every entry passed from the first that is not used is zero.
 use native.Mathlib.Omega.{arith}
 use borrow.Author.Needs.{needs}
-use Rattle.lists.specs.Says.{says-yes, says-no}
-use mathlib.Core.Path.{_≡_, sym, _∙_}
-use Prim.Native.Nat.{ℕ, _-_, _≤_, _<_}
-use borrow.Author.Count.{below-more}
-use Rattle.layout.specs.Places.{slotIn, slotRegionIn}
+use borrow.Author.Tests.{not-true, not-false}
+use Rattle.lists.specs.Says.{says-no, said-no}
+use Prim.Native.Nat.{ℕ, _+_, _-_, _≤_}
+use denote.Ref.{now}
+use Rattle.whole.specs.Entries.{ZeroBetween, zero-on}
 use Rattle.whole.proofs.entries.rest_zero.Statement.{statement}
 use Rattle.whole.proofs.entries.rest_zero.Tie as tie
 
 abbrev Inv-loop : tie.InvT-loop
 Inv-loop remember used entries i₀ i =
-    (used ≤ i) × (i ≤ entries) × ((k : ℕ) → k < i → used ≤ k → (slotIn remember k ≡ 0) × (slotRegionIn entries remember k ≡ 0))
+    (used ≤ i) × (i ≤ entries) × ZeroBetween entries remember used i
 
 abbrev μ-loop : tie.MeasureT-loop
 μ-loop remember used entries i₀ i =
@@ -20,17 +20,17 @@ abbrev μ-loop : tie.MeasureT-loop
 loop-holds : tie.Need-loop-holds Inv-loop μ-loop
 loop-holds c = (omega arith, omega arith, λ k a b. absurd (let z : ⊥ = omega arith in z))
 
-slot-requires : tie.Need-slot-requires Inv-loop μ-loop
-slot-requires c κs = search needs
+add-loop : tie.Need-add-loop Inv-loop μ-loop
+add-loop c = omega arith
+
+add-zero-between : tie.Need-add-zero-between Inv-loop μ-loop
+add-zero-between c = omega arith
+
+zero-between-requires : tie.Need-zero-between-requires Inv-loop μ-loop
+zero-between-requires c κs = search needs
 
 returns : tie.Need-returns Inv-loop μ-loop
-returns c = says-no (λ h. c .if1 .taken (c .before .slot .ensures ∙ h (c .before .before .before .loop .i) (omega arith) (omega arith) .0))
-
-region-requires : tie.Need-region-requires Inv-loop μ-loop
-region-requires c κs = search needs
-
-returns-2 : tie.Need-returns-2 Inv-loop μ-loop
-returns-2 c = says-no (λ h. c .if2 .taken (c .before .region .ensures ∙ h (c .before .before .before .before .before .loop .i) (omega arith) (omega arith) .1))
+returns c = says-no (λ h. said-no _ (c .before .zero-between .ensures) (not-true _ (c .if1 .taken)) (λ k l m. h k (omega arith) (omega arith)))
 
 add-i : tie.Need-add-i Inv-loop μ-loop
 add-i c = omega arith
@@ -39,10 +39,22 @@ loop-less : tie.Need-loop-less Inv-loop μ-loop
 loop-less c = omega arith
 
 loop-again : tie.Need-loop-again Inv-loop μ-loop
-loop-again c = (omega arith, omega arith, below-more _ _ (c .before .before .before .before .before .loop .inv .2) (λ a. (sym (c .before .before .before .slot .ensures) ∙ c .before .before .if1 .left, sym (c .before .region .ensures) ∙ c .if2 .left)))
+loop-again c =
+    let args = c .before .before .before .before .before .args in
+    let loop = c .before .before .before .loop in
+    (omega arith, omega arith, zero-on (args .p .entries) (now (args .remember)) (args .used) (loop .i) (loop .i + 8) (loop .inv .2) (c .before .zero-between .ensures .0 (not-false _ (c .if1 .left))))
 
-returns-3 : tie.Need-returns-3 Inv-loop μ-loop
-returns-3 c = says-yes (λ k l m. c .before .loop .inv .2 k (omega arith) (omega arith))
+zero-between-requires-2 : tie.Need-zero-between-requires-2 Inv-loop μ-loop
+zero-between-requires-2 c κs = search needs
+
+returns-2 : tie.Need-returns-2 Inv-loop μ-loop
+returns-2 c =
+    let args = c .before .before .before .before .args in
+    let loop = c .before .before .loop in
+    let rest = c .zero-between2 in
+    let all : ZeroBetween (args .p .entries) (now (args .remember)) (loop .i) (args .p .entries) → ZeroBetween (args .p .entries) (now (args .remember)) (args .used) (args .p .entries)
+    = zero-on (args .p .entries) (now (args .remember)) (args .used) (loop .i) (args .p .entries) (loop .inv .2) in
+    (λ e k l m. all (rest .ensures .0 e) k (omega arith) m, λ h. rest .ensures .1 (λ k l m. h k (omega arith) m))
 
 pub rest-zero-spec : {M : Type 1} → statement M
 rest-zero-spec =
@@ -51,11 +63,12 @@ rest-zero-spec =
     Inv-loop
     μ-loop
     loop-holds
-    slot-requires
+    add-loop
+    add-zero-between
+    zero-between-requires
     returns
-    region-requires
-    returns-2
     add-i
     loop-less
     loop-again
-    returns-3)
+    zero-between-requires-2
+    returns-2)
