@@ -14,16 +14,16 @@ use Rattle.layout.specs.Places.{ownerOf}
 use Rattle.layout.specs.Cells.{workOf, fieldOf, refsOf}
 use Rattle.layout.specs.Marks.{marked}
 use Rattle.promises.specs.Words.{InUse}
-use Rattle.evacuate.specs.Marks.{mark?}
-use Rattle.evacuate.specs.Passing.{Ready}
-use Rattle.evacuate.specs.Forward.{Forwards, forward}
-use Rattle.evacuate.specs.Rewrite.{moveRef, move-null, move-in, move-out, Rewritten, refs-same}
-use Rattle.evacuate.specs.Append.{crossAt, Crosses}
-use Rattle.evacuate.specs.Update.{Copies}
+use Rattle.copy.specs.Marks.{mark?}
+use Rattle.copy.specs.Passing.{Ready}
+use Rattle.copy.specs.Forward.{Forwards, forward}
+use Rattle.settle.specs.Rewrite.{moveRef, move-null, move-in, move-out, Rewritten, refs-same}
+use Rattle.settle.specs.Append.{crossAt, Crosses}
+use Rattle.settle.specs.Update.{Copies}
 use Rattle.evacuate.specs.Links.{Start}
 use Rattle.evacuate.specs.Table.{cross-value}
 use Rattle.evacuate.specs.Stages.{Lives}
-use Rattle.evacuate.specs.RewriteCopies.{Old}
+use Rattle.settle.specs.RewriteCopies.{Old}
 
 -- the cell that an object has after the copy
 unfoldable pub cellNow : Places → ℕ → List ℕ → List ℕ → ℕ → ℕ

@@ -27,8 +27,8 @@ use Rattle.census.specs.Counted.{overMarked, over-cells, goesTo, goes-landed}
 use Rattle.census.specs.Census.{Arrivals}
 use Rattle.census.specs.After as ce
 use Rattle.census.specs.Crossed.{crossing-after}
-use Rattle.evacuate.specs.Marks.{hit, hits}
-use Rattle.evacuate.specs.Copying.{region-bounds}
+use Rattle.copy.specs.Marks.{hit, hits}
+use Rattle.copy.specs.Copying.{region-bounds}
 use Rattle.ended.specs.EndQuestion.{pagesNeeded, crossingAfter}
 use Rattle.ended.specs.EndPages.{morePages, new-pages-counted}
 use Rattle.evacuation.specs.MarkedWords.{owner-same, count-same}

@@ -35,7 +35,7 @@ use Rattle.census.specs.Counted.{goesTo}
 use Rattle.census.specs.Census.{over-none}
 use Rattle.census.specs.After as ce
 use Rattle.census.specs.After.{slotCrosses, slot-le}
-use Rattle.evacuate.specs.Copying.{region-bounds}
+use Rattle.copy.specs.Copying.{region-bounds}
 use Rattle.evacuate.specs.Stages.{Before, Finished}
 use Rattle.evacuation.specs.MarkedWords.{owner-same, count-same, now-used}
 use Rattle.evacuation.specs.AfterEvacuation.{evacuation-evacuated}

@@ -16,8 +16,8 @@ use Rattle.promises.specs.Crossing.{other, regionOf, crossTo}
 use Rattle.promises.specs.Slots.{Slot, region-of, slot-low, slot-cross, slot-field}
 use Rattle.mark.specs.Reached.{entry-slot}
 use Rattle.mark.specs.Survivors.{Marked}
-use Rattle.evacuate.specs.Entries.{crossOf, otherThan}
-use Rattle.evacuate.specs.Append.{crossAt}
+use Rattle.settle.specs.Entries.{crossOf, otherThan}
+use Rattle.settle.specs.Append.{crossAt}
 use Rattle.evacuate.specs.Table.{IsSlot, Listed}
 use Rattle.evacuation.specs.MarkedWords.{owner-same, now-used, was-used, head-same, word-same}
 

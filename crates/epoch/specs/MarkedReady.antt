@@ -17,8 +17,8 @@ use Rattle.promises.specs.Whole.{WholeFor, objectsOn, objectsOf}
 use Rattle.promises.specs.Reading.{cells-room}
 use Rattle.pages.specs.Pages.{Partly}
 use Rattle.mark.specs.Survivors.{Marked}
-use Rattle.evacuate.specs.Taking.{Regular}
-use Rattle.evacuate.specs.Passing.{Ready}
+use Rattle.copy.specs.Taking.{Regular}
+use Rattle.copy.specs.Passing.{Ready}
 use Rattle.evacuation.specs.MarkedWords.{owner-same, used-same, count-same, now-used}
 
 module _ (s : Sizes) (w : Words) (k : WholeFor s w) (space : Room (placesOf s) (length (w .tables))) (r : ℕ) (w₁ : Words) (M : Marked s w r w₁) where

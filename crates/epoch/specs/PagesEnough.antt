@@ -25,10 +25,10 @@ use Rattle.promises.specs.Whole.{WholeFor}
 use Rattle.promises.specs.OwnedPages.{pagesOwned, objects-on-pages}
 use Rattle.mark.specs.Survivors.{Marked}
 use Rattle.mark.specs.Reached.{home-cell, cell-home}
-use Rattle.evacuate.specs.Marks.{hit, hits}
-use Rattle.evacuate.specs.Taking as ev
-use Rattle.evacuate.specs.Taking.{ownedOn}
-use Rattle.evacuate.specs.Copying.{need, Plan, region-bounds}
+use Rattle.copy.specs.Marks.{hit, hits}
+use Rattle.copy.specs.Taking as ev
+use Rattle.copy.specs.Taking.{ownedOn}
+use Rattle.copy.specs.Copying.{need, Plan, region-bounds}
 use Rattle.ended.specs.Evacuated.{Survivor}
 use Rattle.ended.specs.EndQuestion.{pagesNeeded}
 use Rattle.ended.specs.EndPages.{morePages, new-pages-ended}

@@ -24,11 +24,11 @@ use Rattle.promises.specs.Whole.{WholeFor}
 use Rattle.promises.specs.Reading.{used-home}
 use Rattle.mark.specs.Survivors.{Marked}
 use Rattle.mark.specs.Reached.{cell-home}
-use Rattle.evacuate.specs.Forward.{Forwards}
-use Rattle.evacuate.specs.Rewrite.{Rewritten}
-use Rattle.evacuate.specs.Update.{Copies}
+use Rattle.copy.specs.Forward.{Forwards}
+use Rattle.settle.specs.Rewrite.{Rewritten}
+use Rattle.settle.specs.Update.{Copies}
 use Rattle.evacuate.specs.Stages.{Lives, Space}
-use Rattle.evacuate.specs.RewriteSlots.{Remembered}
+use Rattle.settle.specs.RewriteSlots.{Remembered}
 use Rattle.ended.specs.EndQuestion.{crossingAfter}
 use Rattle.ended.specs.Rewriting.{outside-alive, survivor-alive}
 use Rattle.evacuation.specs.MarkedWords.{owner-same, was-used, head-same, word-same, lives-how}

@@ -24,7 +24,7 @@ use Rattle.mark.specs.Reached.{cell-home}
 use Rattle.evacuate.specs.Links.{Start}
 use Rattle.evacuate.specs.Table.{remembered-old, remembered-into, remembered-slots}
 use Rattle.evacuate.specs.Stages.{Lives}
-use Rattle.evacuate.specs.RewriteSlots.{Remembered}
+use Rattle.settle.specs.RewriteSlots.{Remembered}
 use Rattle.ended.specs.Evacuated.{Survivor}
 use Rattle.ended.specs.Rewriting.{outside-alive, survivor-alive}
 use Rattle.ended.specs.InCells.{was-there, reference-there}

@@ -18,18 +18,18 @@ use Rattle.layout.specs.Marks.{marked}
 use Rattle.promises.specs.Words.{InUse}
 use Rattle.promises.specs.Whole.{objectsOn}
 use Rattle.pages.specs.Pages.{Partly}
-use Rattle.evacuate.specs.Marks.{mark?, sameThen}
-use Rattle.evacuate.specs.Taking.{regionsOf, endOf, Regular, room-same}
-use Rattle.evacuate.specs.Passing.{Ready, moves-ready}
-use Rattle.evacuate.specs.Copying.{no-survivors, copy-marks}
-use Rattle.evacuate.specs.Forward.{forward}
-use Rattle.evacuate.specs.Rewrite.{moveRef, move-null, link-same, head-same, ref-same}
-use Rattle.evacuate.specs.Release.{Blank, ended-size, ended-depth, ended-rest, ended-blank, ended-alike, ended-use, ended-used, ended-regular}
-use Rattle.evacuate.specs.Update.{Copies}
+use Rattle.copy.specs.Marks.{mark?, sameThen}
+use Rattle.copy.specs.Taking.{regionsOf, endOf, Regular, room-same}
+use Rattle.copy.specs.Passing.{Ready, moves-ready}
+use Rattle.copy.specs.Copying.{no-survivors, copy-marks}
+use Rattle.copy.specs.Forward.{forward}
+use Rattle.settle.specs.Rewrite.{moveRef, move-null, link-same, head-same, ref-same}
+use Rattle.release.specs.Release.{Blank, ended-size, ended-depth, ended-rest, ended-blank, ended-alike, ended-use, ended-used, ended-regular}
+use Rattle.settle.specs.Update.{Copies}
 use Rattle.evacuate.specs.Links.{old-survivor, ref-survivor, ref-other, copy-refs, copy-after, copy-number, new-home}
 use Rattle.evacuate.specs.Table.{IsSlot, no-copy, before, into-not}
 use Rattle.evacuate.specs.Stages.{Lives, Before, Finished}
-use Rattle.evacuate.specs.RewriteSlots.{Remembered}
+use Rattle.settle.specs.RewriteSlots.{Remembered}
 
 -- the cell of an object after the end of r, as the words before and after say: a survivor's forward reference stands in word 1 of its old cell
 unfoldable pub cellAfter : Places → ℕ → List ℕ → List ℕ → ℕ → ℕ

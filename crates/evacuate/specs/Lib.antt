@@ -1,23 +1,7 @@
--- The end of an epoch after its survivors are marked: place and copy, rewrite, settle, release.
-pub mod Marks
-pub mod Taking
-pub mod Cursor
-pub mod Moves
-pub mod Passing
-pub mod Copying
-pub mod Forward
-pub mod Rewrite
-pub mod RewriteSlots
-pub mod RewriteCopies
-pub mod Entries
-pub mod Append
-pub mod Update
-pub mod Settle
+-- The end of an epoch after its survivors are marked, stage by stage.
 pub mod Links
 pub mod Table
-pub mod Release
 pub mod Stages
-pub mod Final
 pub mod NoSurvivors
 pub mod Evacuated
 pub mod RememberAfter

@@ -11,13 +11,13 @@ use Rattle.layout.specs.Places.{ownerOf}
 use Rattle.layout.specs.Cells.{workOf, fieldOf, refsOf}
 use Rattle.layout.specs.Marks.{marked}
 use Rattle.promises.specs.Words.{InUse}
-use Rattle.evacuate.specs.Marks.{mark?}
-use Rattle.evacuate.specs.Passing.{Ready}
-use Rattle.evacuate.specs.Forward.{Forwards, forward}
-use Rattle.evacuate.specs.Rewrite.{Names, moveRef, move-null, move-in, move-out, Rewritten, refs-same}
-use Rattle.evacuate.specs.Append.{crossAt, Crosses}
-use Rattle.evacuate.specs.Update.{Copies}
-use Rattle.evacuate.specs.RewriteCopies.{Old, Wiring, Between}
+use Rattle.copy.specs.Marks.{mark?}
+use Rattle.copy.specs.Passing.{Ready}
+use Rattle.copy.specs.Forward.{Forwards, forward}
+use Rattle.settle.specs.Rewrite.{Names, moveRef, move-null, move-in, move-out, Rewritten, refs-same}
+use Rattle.settle.specs.Append.{crossAt, Crosses}
+use Rattle.settle.specs.Update.{Copies}
+use Rattle.settle.specs.RewriteCopies.{Old, Wiring, Between}
 
 -- whole tables in which r's survivors are marked; S holds of the slots outside r that point into r
 pub record Start (p : Places) (r : ℕ) (S : ℕ → Type 0) (W T : List ℕ) : Type 0 where

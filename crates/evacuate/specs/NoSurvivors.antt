@@ -11,15 +11,15 @@ use Rattle.layout.specs.declared.Places.{Places}
 use Rattle.layout.specs.Places.{ownerOf, varOf, markOf, slotIn, slotRegionIn}
 use Rattle.layout.specs.Cells.{fieldOf, refsOf}
 use Rattle.layout.specs.Marks.{marked}
-use Rattle.evacuate.specs.Marks.{mark?}
-use Rattle.evacuate.specs.Passing.{Moves.none}
-use Rattle.evacuate.specs.Copying.{Copy, no-marks}
-use Rattle.evacuate.specs.Forward.{copy-forwards}
-use Rattle.evacuate.specs.Rewrite.{moveRef, move-null, move-out, Rewritten, rewritten-none}
-use Rattle.evacuate.specs.RewriteSlots.{Remembered, Variables}
-use Rattle.evacuate.specs.Update.{Copies, Updating, Updated}
+use Rattle.copy.specs.Marks.{mark?}
+use Rattle.copy.specs.Passing.{Moves.none}
+use Rattle.copy.specs.Copying.{Copy, no-marks}
+use Rattle.copy.specs.Forward.{copy-forwards}
+use Rattle.settle.specs.Rewrite.{moveRef, move-null, move-out, Rewritten, rewritten-none}
+use Rattle.settle.specs.RewriteSlots.{Remembered, Variables}
+use Rattle.settle.specs.Update.{Copies, Updating, Updated}
 use Rattle.evacuate.specs.Table.{IsSlot, cross-value}
-use Rattle.evacuate.specs.Release.{Ended}
+use Rattle.release.specs.Release.{Ended}
 use Rattle.evacuate.specs.Stages.{Before, Finished, update-ask}
 
 module _ {p : Places} {r n m l : ℕ} {gs : ℕ → ℕ} {W T M : List ℕ} (b : Before p r n m l gs W M T) (off : (q : ℕ) → q < p .pages → markOf p T q ≡ 0) where

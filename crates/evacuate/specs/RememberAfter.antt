@@ -12,16 +12,16 @@ use Rattle.promises.specs.Words.{InUse}
 use Rattle.promises.specs.Crossing.{crossTo, other, regionOf}
 use Rattle.promises.specs.Slots.{Slot, region-of, slot-low, slot-cross, cross-slot}
 use Rattle.promises.specs.Whole.{EntryWhole, RememberWhole}
-use Rattle.evacuate.specs.Taking.{regionsOf}
-use Rattle.evacuate.specs.Passing.{Ready}
-use Rattle.evacuate.specs.Entries.{crossOf, otherThan, cross-null, cross-ref}
-use Rattle.evacuate.specs.Append.{crossAt, Crosses}
-use Rattle.evacuate.specs.Update.{Entry}
+use Rattle.copy.specs.Taking.{regionsOf}
+use Rattle.copy.specs.Passing.{Ready}
+use Rattle.settle.specs.Entries.{crossOf, otherThan, cross-null, cross-ref}
+use Rattle.settle.specs.Append.{crossAt, Crosses}
+use Rattle.settle.specs.Update.{Entry}
 use Rattle.evacuate.specs.Links.{copies-cross, slots-out}
 use Rattle.evacuate.specs.Table.{entry-cross, all-listed}
 use Rattle.evacuate.specs.Stages.{Before, Finished}
 use Rattle.evacuate.specs.Evacuated.{to-end, from-end, ready-after}
-use Rattle.evacuate.specs.RewriteCopies.{slot-now, slot-then}
+use Rattle.settle.specs.RewriteCopies.{slot-now, slot-then}
 
 other-than : (w h : ℕ) → other w h ≡ otherThan w h
 unfolding otherThan

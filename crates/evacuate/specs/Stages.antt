@@ -11,17 +11,18 @@ use Rattle.layout.specs.Places.{Room, depthAt, varAt, ownerAt, depthOf, varOf, 
 use Rattle.layout.specs.Cells.{workOf, fieldOf, refsOf}
 use Rattle.layout.specs.Marks.{marked}
 use Rattle.promises.specs.Words.{InUse}
-use Rattle.evacuate.specs.Passing.{Ready, moves-ready, moves-tables}
-use Rattle.evacuate.specs.Copying.{Plan, Copy, no-survivors, copy-marks}
-use Rattle.evacuate.specs.Forward.{Forwards, forward, copy-forwards}
-use Rattle.evacuate.specs.Rewrite.{Names, Rewritten, rewritten-join, link-same, refs-same}
-use Rattle.evacuate.specs.Append.{Crosses}
-use Rattle.evacuate.specs.Update.{Copies, Updating, Updated}
-use Rattle.evacuate.specs.Release.{Ended}
+use Rattle.copy.specs.Passing.{Ready, moves-ready, moves-tables}
+use Rattle.copy.specs.Copying.{Plan, Copy, no-survivors, copy-marks}
+use Rattle.copy.specs.Forward.{Forwards, forward, copy-forwards}
+use Rattle.settle.specs.Rewrite.{Names, Rewritten, rewritten-join, link-same, refs-same}
+use Rattle.settle.specs.Append.{Crosses}
+use Rattle.settle.specs.Update.{Copies, Updating, Updated}
+use Rattle.release.specs.Release.{Ended}
 use Rattle.evacuate.specs.Links.{Start, new-home, old-survivor, copy-refs, forwards-wiring, copy-head, copies-cross, slots-out}
-use Rattle.evacuate.specs.Table.{IsSlot, Listed, entry-cross, entry-apart, cross-value}
-use Rattle.evacuate.specs.RewriteSlots.{Remembered, Slots, Fields, Variables}
-use Rattle.evacuate.specs.RewriteCopies.{Old, Wiring, wiring-now, Between, slot-now, slot-then}
+use Rattle.evacuate.specs.Table.{IsSlot, Listed, entry-cross, entry-apart, cross-value, no-copy}
+use Rattle.settle.specs.RewriteSlots.{Remembered, Slots, Fields, Variables}
+use Rattle.settle.specs.Final.{Settles, copies-exist}
+use Rattle.settle.specs.RewriteCopies.{Old, Wiring, wiring-now, Between, slot-now, slot-then}
 
 -- cell c is in use, and if it is r's its object survives
 pub record Lives (p : Places) (r : ℕ) (T : List ℕ) (c : ℕ) : Type 0 where
@@ -304,3 +305,22 @@ release-ask {p} t b c lt pos w =
       subst (λ (n : ℕ). Room p n) (sym (w .size ∙ moves-tables (c .moves))) room,
       w .same (depthAt t) (λ z. omega arith) ∙ copy-forwards (b .plan) c .copying .rest (depthAt t) (inl (omega arith)),
     )
+
+-- ---- the copies can be settled after the copying and the rewriting of the remembered slots
+
+pub settle-ask : {p : Places} {r n m l : ℕ} {gs : ℕ → ℕ} {W T M W₁ T₁ W₂ : List ℕ} → Before p r n m l gs W M T → Copy p l gs l W T W₁ T₁ → Rewritten p r (Remembered r n m M) W₁ T₁ W₂
+    → Settles p r n m W₂ M T₁
+settle-ask {p} {r} {n} {m} {T₁ = T₁} {W₂ = W₂} b c R₂ =
+    record {
+      wiring = w;
+      old = λ i l q.
+          no-copy (b .start) (b .plan .ready) (moves-ready (b .plan .ready) (c .moves)) (copy-forwards (b .plan) c) (rewritten-both b c R₂ (V′ .1)) (b .listed) _
+          (b .listed .slots i l .used) (slot-then R₂ _ q);
+      updating = λ W₃ R₃. update-ask b c (rewritten-both b c R₂ R₃);
+    }
+  where
+    w : Wiring p r (Between 0 (16 * p .pages)) W₂ T₁
+    w = copies-ask b c R₂
+
+    V′ : (W₃ : List ℕ) × Rewritten p r (Copies p r W₂ T₁) W₂ T₁ W₃
+    V′ = copies-exist w (16 * p .pages) (omega arith)

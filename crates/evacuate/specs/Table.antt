@@ -11,14 +11,14 @@ use Rattle.layout.specs.Places.{ownerOf, slotIn, slotRegionIn}
 use Rattle.layout.specs.Cells.{workOf, fieldOf, refsOf}
 use Rattle.layout.specs.Marks.{marked}
 use Rattle.promises.specs.Words.{InUse}
-use Rattle.evacuate.specs.Passing.{Ready}
-use Rattle.evacuate.specs.Forward.{Forwards, forward}
-use Rattle.evacuate.specs.Rewrite.{Rewritten, refs-same}
-use Rattle.evacuate.specs.Entries.{crossOf, cross-null, cross-ref, other-control, other-same, other-yes, newRegion, new-gone, new-stays, new-moved, Stays}
-use Rattle.evacuate.specs.Append.{crossAt, Crosses, Crossing}
-use Rattle.evacuate.specs.Update.{Copies}
+use Rattle.copy.specs.Passing.{Ready}
+use Rattle.copy.specs.Forward.{Forwards, forward}
+use Rattle.settle.specs.Rewrite.{Rewritten, refs-same}
+use Rattle.settle.specs.Entries.{crossOf, cross-null, cross-ref, other-control, other-same, other-yes, newRegion, new-gone, new-stays, new-moved, Stays}
+use Rattle.settle.specs.Append.{crossAt, Crosses, Crossing}
+use Rattle.settle.specs.Update.{Copies}
 use Rattle.evacuate.specs.Links.{Start, old-survivor, survivor-old, copy-refs}
-use Rattle.evacuate.specs.RewriteSlots.{Remembered}
+use Rattle.settle.specs.RewriteSlots.{Remembered}
 
 -- ---- what a crossing value says
 

@@ -1,11 +1,5 @@
 // The end of an epoch once its survivors are marked: word 1 of each cell of the ending region is the region that its object goes to, 0 if
-// it is freed, and its bit in the page's mark word says which is not 0. Four stages: place and copy, rewrite, settle, release.
-pub mod copy;
-pub mod release;
-pub mod remember;
-pub mod rewrite;
-pub mod settle;
-
+// it is freed, and its bit in the page's mark word says which is not 0. The stages are crates of their own: place and copy, settle, release.
 ghost use mathlib.Core.Path.{_≡_};
 ghost use Prim.Native.Nat.{ℕ, _<_, _≤_};
 ghost use lib.ListN.{length, getD};
@@ -13,8 +7,8 @@ ghost use Rattle.lists.specs.Part.{Lists};
 ghost use Rattle.layout.specs.Places.{depthOf, ownerOf, markOf, usedIn, sizesOf};
 ghost use Rattle.rules.specs.Regions.{regionAt};
 ghost use Rattle.pages.specs.Pages.{noteWords};
-ghost use Rattle.evacuate.specs.Marks.{hits};
-ghost use Rattle.evacuate.specs.Taking.{regionsOf};
+ghost use Rattle.copy.specs.Marks.{hits};
+ghost use Rattle.copy.specs.Taking.{regionsOf};
 ghost use Rattle.evacuate.specs.Stages.{Before, Finished};
 use layout::Places;
 
@@ -41,9 +35,9 @@ pub fn evacuate(
     let level = layout::wide(layout::tables::depth(p, tables, thread));
     let region = layout::regions::region_at(p, thread, level);
     copy::copy_survivors(p, cells, tables, notes, list, n, come, thread, level);
-    rewrite::rewrite_slots(p, cells, remember, tables, region);
+    settle::rewrite::rewrite_slots(p, cells, remember, tables, region);
     settle::settle(p, cells, remember, tables, list, n, region);
-    rewrite::rewrite_variables(p, cells, tables, region);
+    settle::rewrite::rewrite_variables(p, cells, tables, region);
     release::release(p, tables, notes, list, n, region, thread);
 }
 
@@ -64,6 +58,6 @@ pub fn evacuate_none(
 {
     let level = layout::wide(layout::tables::depth(p, tables, thread));
     let region = layout::regions::region_at(p, thread, level);
-    remember::keep_entries(p, cells, remember, tables, region);
+    settle::remember::keep_entries(p, cells, remember, tables, region);
     release::release_region(p, tables, notes, region, thread);
 }

@@ -7,9 +7,8 @@ use mathlib.Core.Logic.{_≢_}
 use Rattle.lists.specs.Part.{Lists}
 use Rattle.rules.specs.Regions.{regionAt}
 use Rattle.layout.specs.Places.{depthOf, ownerOf, usedIn, sizesOf}
-use Rattle.evacuate.specs.Copying.{region-bounds}
-use Rattle.evacuate.specs.Stages.{Before, Finished, slots-ask, tables-ask, unmarked, marks-ask, pages-ask, variables-ask, release-ask, finished}
-use Rattle.evacuate.specs.Final.{settle-ask}
+use Rattle.copy.specs.Copying.{region-bounds}
+use Rattle.evacuate.specs.Stages.{Before, Finished, slots-ask, tables-ask, unmarked, marks-ask, pages-ask, variables-ask, release-ask, finished, settle-ask}
 use Rattle.evacuate.proofs.evacuate.Statement.{statement}
 use Rattle.evacuate.proofs.evacuate.Tie as tie
 

@@ -5,9 +5,9 @@ use Prim.Native.Nat.{ℕ}
 use mathlib.Core.Path.{_≡_, sym, ap, _∙_, subst}
 use Rattle.rules.specs.Regions.{regionAt}
 use Rattle.layout.specs.Places.{depthOf, usedIn, sizesOf}
-use Rattle.evacuate.specs.Copying.{region-bounds}
-use Rattle.evacuate.specs.Update.{Copies, Updating, Updated}
-use Rattle.evacuate.specs.Release.{Ended}
+use Rattle.copy.specs.Copying.{region-bounds}
+use Rattle.settle.specs.Update.{Copies, Updating, Updated}
+use Rattle.release.specs.Release.{Ended}
 use Rattle.evacuate.specs.NoSurvivors.{none-copies, none-update, none-finished}
 use Rattle.evacuate.proofs.evacuate_none.Statement.{statement}
 use Rattle.evacuate.proofs.evacuate_none.Tie as tie

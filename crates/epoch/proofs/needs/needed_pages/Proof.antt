@@ -7,7 +7,7 @@ use Rattle.lists.specs.Counting.{sum-more}
 use Rattle.rules.specs.Regions.{regionAt}
 use Rattle.layout.specs.Places.{sizesOf}
 use Rattle.census.specs.Census.{Arrivals}
-use Rattle.evacuate.specs.Copying.{region-bounds}
+use Rattle.copy.specs.Copying.{region-bounds}
 use Rattle.epoch.specs.CensusCounts.{levelNeeds, needsBelow}
 use Rattle.epoch.proofs.needs.needed_pages.Statement.{statement}
 use Rattle.epoch.proofs.needs.needed_pages.Tie as tie

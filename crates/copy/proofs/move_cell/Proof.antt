@@ -1,0 +1,106 @@
+-- The cell is taken and copied; the bit of the old cell is set in the lower half and not in the upper, so it can be moved there.
+use native.Mathlib.Omega.{arith}
+use borrow.Author.Needs.{needs}
+use lib.ListN.{getD, set}
+use Prim.Native.Nat.{ℕ, _+_, _-_, _%_, _^_}
+use mathlib.Core.List.{List}
+use mathlib.Core.Path.{_≡_, ap, ap₂, _∙_}
+use Rattle.lists.specs.Bits.{bitAt}
+use Rattle.layout.specs.declared.Places.{Places}
+use Rattle.layout.specs.Places.{markAt, markOf, usedOf}
+use Rattle.layout.specs.Cells.{cellOn}
+use Rattle.pages.specs.Pages.{taken}
+use Rattle.copy.specs.Marks.{marksAt, raised, clear-fresh}
+use Rattle.copy.specs.Moves.{Movable, Taken, movable-taken, count-fits}
+use Rattle.copy.proofs.move_cell.Statement.{statement}
+use Rattle.copy.proofs.move_cell.Tie as tie
+
+-- the cell as take_cell gave it
+took : {p : Places} {g q : ℕ} {W T T′ : List ℕ} {c d : ℕ} → Movable p g q W T c → d ≡ cellOn q (usedOf p T q) → T′ ≡ taken p T q g → Taken p W T T′ c d (marksAt p c) (c % 16)
+took m e f = movable-taken m (record { next = m .next; cell = e; tables = f })
+
+take-cell-requires : tie.Need-take-cell-requires
+take-cell-requires c κs =
+    let m = c .before .before .before .pre in
+    (m .regular .room, ((m .next .low, m .next .part), (m .real, m .low, count-fits (m .regular) _ (m .real) (m .low))))
+
+copy-cell-requires : tie.Need-copy-cell-requires
+copy-cell-requires c κs =
+    let t = took (c .before .before .before .before .before .before .before .pre) (c .before .before .before .take-cell .ensures .0) (c .before .before .before .take-cell .ensures .1) in
+    (t .apart, ((omega (arith, t), omega (arith, t)), (omega (arith, t), omega (arith, t))))
+
+page-of-requires : tie.Need-page-of-requires
+page-of-requires c κs = search needs
+
+place-of-requires : tie.Need-place-of-requires
+place-of-requires c κs = search needs
+
+mark-requires : tie.Need-mark-requires
+mark-requires c κs = search needs
+
+cast-without-bit : tie.Need-cast-without-bit
+cast-without-bit c = search needs
+
+without-bit-requires : tie.Need-without-bit-requires
+without-bit-requires c κs =
+    let a = c .before .before .before .before .before .before .before .before .before .before .before .before .before .before .args in
+    let X : List ℕ = c .before .before .before .before .before .before .before .before .before .before .take-cell .last .1 .0 in
+    let t = took (c .before .before .before .before .before .before .before .before .before .before .before .before .before .before .pre) (c .before .before .before .before .before .before .before .before .before .before .take-cell .ensures .0) (c .before .before .before .before .before .before .before .before .before .before .take-cell .ensures .1) in
+    let e : c .mark .result ≡ getD X (marksAt (a .p) (a .cell)) 0 = c .mark .ensures ∙ ap (λ (q : ℕ). markOf (a .p) X q) (c .before .before .before .page-of .ensures) in
+    (omega (arith, c .before .before .place-of .ensures), ap₂ (λ (x y : ℕ). bitAt x y) e (c .before .before .place-of .ensures) ∙ t .on)
+
+add-with-bit : tie.Need-add-with-bit
+add-with-bit c = search needs
+
+with-bit-requires : tie.Need-with-bit-requires
+with-bit-requires c κs =
+    let a = c .before .before .before .before .before .before .before .before .before .before .before .before .before .before .before .args in
+    let X : List ℕ = c .before .before .before .before .before .before .before .before .before .before .before .take-cell .last .1 .0 in
+    let t = took (c .before .before .before .before .before .before .before .before .before .before .before .before .before .before .before .pre) (c .before .before .before .before .before .before .before .before .before .before .before .take-cell .ensures .0) (c .before .before .before .before .before .before .before .before .before .before .before .take-cell .ensures .1) in
+    let e : c .before .mark .result ≡ getD X (marksAt (a .p) (a .cell)) 0 = c .before .mark .ensures ∙ ap (λ (q : ℕ). markOf (a .p) X q) (c .before .before .before .before .page-of .ensures) in
+    let f = c .without-bit .ensures ∙ ap₂ (λ (x y : ℕ). x - 2 ^ y) e (c .before .before .before .place-of .ensures) in
+    (omega (arith, c .before .before .before .place-of .ensures), ap₂ (λ (x y : ℕ). bitAt x (16 + y)) f (c .before .before .before .place-of .ensures) ∙ clear-fresh (getD X (marksAt (a .p) (a .cell)) 0) (a .cell % 16) (t .on) (t .fresh))
+
+set-mark-requires : tie.Need-set-mark-requires
+set-mark-requires c κs = search needs
+
+same-length : tie.Need-same-length
+same-length c = search needs
+
+same-length-2 : tie.Need-same-length-2
+same-length-2 c = search needs
+
+returns : tie.Need-returns
+returns c =
+    let a = c .before .before .before .before .before .before .before .before .before .before .before .before .before .before .before .before .before .before .before .before .args in
+    let X : List ℕ = c .before .before .before .before .before .before .before .before .before .before .before .before .before .before .before .before .take-cell .last .1 .0 in
+    let w : ℕ = marksAt (a .p) (a .cell) in
+    let e : c .before .before .before .before .before .before .mark .result ≡ getD X w 0 = c .before .before .before .before .before .before .mark .ensures ∙ ap (λ (q : ℕ). markOf (a .p) X q) (c .before .before .before .before .before .before .before .before .before .page-of .ensures) in
+    let f = c .before .before .before .before .before .without-bit .ensures ∙ ap₂ (λ (x y : ℕ). x - 2 ^ y) e (c .before .before .before .before .before .before .before .before .place-of .ensures) in
+    let g : c .before .before .before .before .with-bit .result ≡ raised (getD X w 0) (a .cell % 16) = c .before .before .before .before .with-bit .ensures ∙ ap₂ (λ (x y : ℕ). x + 2 ^ (16 + y)) f (c .before .before .before .before .before .before .before .before .place-of .ensures) in
+    record {
+      can = c .before .before .before .before .before .before .before .before .before .before .before .before .before .before .before .before .before .before .before .before .pre;
+      new = c .before .before .before .before .before .before .before .before .before .before .before .before .before .before .before .before .take-cell .result;
+      mid = X;
+      took = record { next = c .before .before .before .before .before .before .before .before .before .before .before .before .before .before .before .before .before .before .before .before .pre .next; cell = c .before .before .before .before .before .before .before .before .before .before .before .before .before .before .before .before .take-cell .ensures .0; tables = c .before .before .before .before .before .before .before .before .before .before .before .before .before .before .before .before .take-cell .ensures .1 };
+      copied = c .before .before .before .before .before .before .before .before .before .before .before .before .copy-cell .ensures;
+      tables = c .before .before .set-mark .ensures ∙ ap₂ (λ (q x : ℕ). set X (markAt (a .p) q) x) (c .before .before .before .before .before .before .before .before .before .page-of .ensures) g;
+    }
+
+pub move-cell-spec : {M : Type 1} → statement M
+move-cell-spec =
+    tie.close
+    (tie.spec
+    take-cell-requires
+    copy-cell-requires
+    page-of-requires
+    place-of-requires
+    mark-requires
+    cast-without-bit
+    without-bit-requires
+    add-with-bit
+    with-bit-requires
+    set-mark-requires
+    same-length
+    same-length-2
+    returns)

@@ -1,0 +1,81 @@
+-- The depth stands apart from the pages and the counts.
+use native.Mathlib.Omega.{arith}
+use borrow.Author.Needs.{needs}
+use lib.ListN.{set}
+use Prim.Native.Nat.{ℕ, _-_}
+use mathlib.Core.List.{List}
+use mathlib.Core.Path.{ap, _∙_}
+use Rattle.layout.specs.Places.{depthAt, countAt, depthOf}
+use Rattle.copy.specs.Taking.{room-same}
+use Rattle.release.specs.Release.{kept-depth}
+use Rattle.release.proofs.release.Statement.{statement}
+use Rattle.release.proofs.release.Tie as tie
+
+release-pages-requires : tie.Need-release-pages-requires
+release-pages-requires c κs = (c .before .before .before .before .pre .0, c .before .before .before .before .pre .1 .0)
+
+note-released-requires : tie.Need-note-released-requires
+note-released-requires c κs = (c .before .before .before .before .before .before .before .before .pre .1 .0 .rises, (c .before .before .before .before .before .before .before .before .pre .0 .few, c .before .before .before .before .before .before .before .before .pre .1 .1 .1 .1))
+
+wide-requires : tie.Need-wide-requires
+wide-requires c κs = search needs
+
+set-count-requires : tie.Need-set-count-requires
+set-count-requires c κs =
+    let pre = c .before .before .before .before .before .before .before .before .before .before .before .before .before .pre in
+    (room-same (c .before .before .before .before .before .before .before .before .release-pages .kept .1 .0) (pre .0), (omega (arith, c .wide .ensures, pre .1 .1 .0), omega (arith, c .wide .ensures, pre .1 .1 .0)))
+
+depth-requires : tie.Need-depth-requires
+depth-requires c κs =
+    let pre = c .before .before .before .before .before .before .before .before .before .before .before .before .before .before .before .before .before .pre in
+    (room-same (c .before .before .before .set-count .kept .1 .0 ∙ c .before .before .before .before .before .before .before .before .before .before .before .before .release-pages .kept .1 .0) (pre .0), pre .1 .1 .1 .0 .0)
+
+sub-set-depth : tie.Need-sub-set-depth
+sub-set-depth c =
+    let pre = c .before .before .before .before .before .before .before .before .before .before .before .before .before .before .before .before .before .before .before .pre in
+    omega (arith, c .before .depth .ensures, pre .1 .1 .1 .0, kept-depth (c .before .before .before .before .before .before .wide .result) (pre .0) (c .before .before .before .before .before .before .before .before .before .before .before .before .before .before .release-pages .ensures) (pre .1 .1 .1 .0 .0) (c .before .before .before .before .before .set-count .ensures))
+
+set-depth-requires : tie.Need-set-depth-requires
+set-depth-requires c κs =
+    let pre = c .before .before .before .before .before .before .before .before .before .before .before .before .before .before .before .before .before .before .before .pre in
+    (room-same (c .before .before .before .before .before .set-count .kept .1 .0 ∙ c .before .before .before .before .before .before .before .before .before .before .before .before .before .before .release-pages .kept .1 .0) (pre .0), pre .1 .1 .1 .0 .0)
+
+same-length : tie.Need-same-length
+same-length c = c .before .before .set-depth .kept .1 .0 ∙ c .before .before .before .before .before .before .before .before .set-count .kept .1 .0 ∙ c .before .before .before .before .before .before .before .before .before .before .before .before .before .before .before .before .before .release-pages .kept .1 .0
+
+same-length-2 : tie.Need-same-length-2
+same-length-2 c = c .before .before .before .before .before .before .before .before .before .before .before .before .before .note-released .kept .1 .0
+
+returns : tie.Need-returns
+returns c =
+    let pre = c .before .before .before .before .before .before .before .before .before .before .before .before .before .before .before .before .before .before .before .before .before .before .pre in
+    let release-pages = c .before .before .before .before .before .before .before .before .before .before .before .before .before .before .before .before .before .release-pages in
+    let wide = c .before .before .before .before .before .before .before .before .before .wide in
+    let set-count = c .before .before .before .before .before .before .before .before .set-count in
+    let a = c .before .before .before .before .before .before .before .before .before .before .before .before .before .before .before .before .before .before .before .before .before .before .args in
+    let X : List ℕ = release-pages .last .1 .0 in
+    let d = kept-depth (wide .result) (pre .0) (release-pages .ensures) (pre .1 .1 .1 .0 .0) (set-count .ensures) in
+    record {
+      mid = X;
+      pages = release-pages .ensures;
+      tables =
+          c .before .before .set-depth .ensures
+          ∙ ap (λ (x : ℕ). set (set-count .last .1 .0) (depthAt (a .thread)) (x - 1)) (c .before .before .before .before .depth .ensures ∙ d)
+          ∙ ap (λ (Y : List ℕ). set Y (depthAt (a .thread)) (depthOf (a .tables .now) (a .thread) - 1))
+          (set-count .ensures ∙ ap (λ (g : ℕ). set X (countAt (a .p) g) 0) (wide .ensures));
+    }
+
+pub release-spec : {M : Type 1} → statement M
+release-spec =
+    tie.close
+    (tie.spec
+    release-pages-requires
+    note-released-requires
+    wide-requires
+    set-count-requires
+    depth-requires
+    sub-set-depth
+    set-depth-requires
+    same-length
+    same-length-2
+    returns)

@@ -1,0 +1,2 @@
+-- The ending region's pages go back.
+pub mod Release

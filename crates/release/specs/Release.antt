@@ -1,0 +1,245 @@
+-- r's pages become free, its count 0, the thread's depth one less.
+use mathlib.Core.Path.{_≡_, refl, sym, ap, ap₂, _∙_, subst}
+use mathlib.Core.Logic.{_≢_, _⊎_, inl, inr}
+use mathlib.Core.List.{List}
+use Prim.Native.Nat.{ℕ, _+_, _-_, _/_, _≤_, _<_}
+use native.Mathlib.Decide.{ℕ-discrete}
+use native.Mathlib.Omega.{arith}
+use lib.ListN.{length, getD, set, length-set}
+use lib.Seq.{getD-set-same, getD-set-other}
+use Rattle.layout.specs.declared.Places.{Places}
+use Rattle.lists.specs.Counting.{sum-same, sum-none}
+use Rattle.layout.specs.Places.{Room, depthAt, ownerAt, usedAt, markAt, countAt, depthOf, ownerOf, usedOf, markOf, countOf}
+use Rattle.promises.specs.Words.{InUse}
+use Rattle.promises.specs.Whole.{objectsOn, objectsOf}
+use Rattle.pages.specs.Pages.{Partly}
+use Rattle.copy.specs.Marks.{sameThen, then-no}
+use Rattle.copy.specs.Taking.{regionsOf, Regular}
+
+-- the three words of page q
+pub record Blank (p : Places) (T : List ℕ) (q : ℕ) : Type 0 where
+  pub owner : ownerOf p T q ≡ 0
+  pub used : usedOf p T q ≡ 0
+  pub marks : markOf p T q ≡ 0
+
+pub record Alike (p : Places) (T T′ : List ℕ) (q : ℕ) : Type 0 where
+  pub owner : ownerOf p T′ q ≡ ownerOf p T q
+  pub used : usedOf p T′ q ≡ usedOf p T q
+  pub marks : markOf p T′ q ≡ markOf p T q
+
+-- of the pages below n
+pub record Released (p : Places) (r n : ℕ) (T T′ : List ℕ) : Type 0 where
+  pub size : length T′ ≡ length T
+  pub freed : (q : ℕ) → q < n → ownerOf p T q ≡ r → Blank p T′ q
+  pub kept : (q : ℕ) → q < p .pages → (q < n → ownerOf p T q ≢ r) → Alike p T T′ q
+  pub rest : (x : ℕ) → (x < p .owners) ⊎ (p .counts ≤ x) → getD T′ x 0 ≡ getD T x 0
+
+pub release-start : (p : Places) (r : ℕ) (T : List ℕ) → Released p r 0 T T
+release-start p r T =
+    record {
+      size = refl;
+      freed = λ q l. absurd (let z : ⊥ = omega arith in z);
+      kept = λ q l n. record { owner = refl; used = refl; marks = refl };
+      rest = λ x h. refl;
+    }
+
+module _ {p : Places} {r n : ℕ} {T T′ : List ℕ} (room : Room p (length T)) (lt : n < p .pages) (h : Released p r n T T′) where
+  -- page n is not r's
+  pub release-left : ownerOf p T n ≢ r → Released p r (n + 1) T T′
+  release-left ne =
+      record {
+        size = h .size;
+        freed = λ q l e. freed′ q l e (ℕ-discrete q n);
+        kept = λ q l k. h .kept q l (λ m. k (omega arith));
+        rest = h .rest;
+      }
+    where
+      freed′ : (q : ℕ) → q < n + 1 → ownerOf p T q ≡ r → Dec (q ≡ n) → Blank p T′ q
+      freed′ q l e (yes z) = absurd (ne (ap (λ (x : ℕ). ownerOf p T x) (sym z) ∙ e))
+      freed′ q l e (no z) = h .freed q (omega arith) e
+
+  X : List ℕ
+  X = set T′ (ownerAt p n) 0
+
+  Y : List ℕ
+  Y = set (set T′ (ownerAt p n) 0) (usedAt p n) 0
+
+  Z : List ℕ
+  Z = set (set (set T′ (ownerAt p n) 0) (usedAt p n) 0) (markAt p n) 0
+
+  other : (x : ℕ) → x ≢ ownerAt p (n) → x ≢ usedAt p (n) → x ≢ markAt p (n) → getD (set (set (set T′ (ownerAt p n) 0) (usedAt p n) 0) (markAt p n) 0) x 0 ≡ getD T′ x 0
+  unfolding X Y
+  other x a b c = getD-set-other Y (markAt p n) x 0 0 c ∙ getD-set-other X (usedAt p n) x 0 0 b ∙ getD-set-other T′ (ownerAt p n) x 0 0 a
+
+  blank : Blank p (set (set (set T′ (ownerAt p n) 0) (usedAt p n) 0) (markAt p n) 0) n
+  unfolding X Y
+  blank =
+      record {
+        owner =
+            getD-set-other Y (markAt p n) (ownerAt p n) 0 0 (λ e. omega arith) ∙ getD-set-other X (usedAt p n) (ownerAt p n) 0 0 (λ e. omega arith)
+            ∙ getD-set-same T′ (ownerAt p n) 0 0 (omega (arith, h .size));
+        used =
+            getD-set-other Y (markAt p n) (usedAt p n) 0 0 (λ e. omega arith)
+            ∙ getD-set-same X (usedAt p n) 0 0 (omega (arith, h .size, length-set T′ (ownerAt p n) 0));
+        marks =
+            getD-set-same Y (markAt p n) 0 0 (omega (arith, h .size, length-set T′ (ownerAt p n) 0, length-set X (usedAt p n) 0));
+      }
+
+  alike : (q : ℕ) → q < p .pages → q ≢ n → Alike p T′ (set (set (set T′ (ownerAt p n) 0) (usedAt p n) 0) (markAt p n) 0) q
+  alike q l ne =
+      record {
+        owner = other (ownerAt p q) (λ e. ne (omega arith)) (λ e. omega arith) (λ e. omega arith);
+        used = other (usedAt p q) (λ e. omega arith) (λ e. ne (omega arith)) (λ e. omega arith);
+        marks = other (markAt p q) (λ e. omega arith) (λ e. omega arith) (λ e. ne (omega arith));
+      }
+
+  pub release-page : ownerOf p T n ≡ r → Released p r (n + 1) T (set (set (set T′ (ownerAt p n) 0) (usedAt p n) 0) (markAt p n) 0)
+  unfolding X Y Z
+  release-page own =
+      record {
+        size = length-set Y (markAt p n) 0 ∙ length-set X (usedAt p n) 0 ∙ length-set T′ (ownerAt p n) 0 ∙ h .size;
+        freed = λ q l e. freed′ q l e (ℕ-discrete q n);
+        kept = λ q l k. kept′ q l k (ℕ-discrete q n);
+        rest = λ x k. rest′ x k ∙ h .rest x k;
+      }
+    where
+      freed′ : (q : ℕ) → q < n + 1 → ownerOf p T q ≡ r → Dec (q ≡ n) → Blank p Z q
+      freed′ q l e (yes z) = subst (λ (x : ℕ). Blank p Z x) (sym z) blank
+      freed′ q l e (no z) =
+          let a = alike q (omega arith) z in
+          let b = h .freed q (omega arith) e in
+          record { owner = a .owner ∙ b .owner; used = a .used ∙ b .used; marks = a .marks ∙ b .marks }
+
+      kept′ : (q : ℕ) → q < p .pages → (q < n + 1 → ownerOf p T q ≢ r) → Dec (q ≡ n) → Alike p T Z q
+      kept′ q l k (yes z) = absurd (k (omega arith) (ap (λ (x : ℕ). ownerOf p T x) z ∙ own))
+      kept′ q l k (no z) =
+          let a = alike q l z in
+          let b = h .kept q l (λ m. k (omega arith)) in
+          record { owner = a .owner ∙ b .owner; used = a .used ∙ b .used; marks = a .marks ∙ b .marks }
+
+      rest′ : (x : ℕ) → (x < p .owners) ⊎ (p .counts ≤ x) → getD Z x 0 ≡ getD T′ x 0
+      rest′ x (inl l) = other x (λ e. omega arith) (λ e. omega arith) (λ e. omega arith)
+      rest′ x (inr l) = other x (λ e. omega arith) (λ e. omega arith) (λ e. omega arith)
+
+-- ---- the whole release, by thread t
+
+pub record Ended (p : Places) (r t : ℕ) (T T′ : List ℕ) : Type 0 where
+  pub mid : List ℕ
+  pub pages : Released p r (p .pages) T mid
+  pub tables : T′ ≡ set (set mid (countAt p r) 0) (depthAt t) (depthOf T t - 1)
+
+module _ {p : Places} {r t : ℕ} {T T′ : List ℕ} (a : Regular p T) (real : 1 ≤ r) (low : r ≤ regionsOf p) (thread : t < p .threads) (h : Ended p r t T T′) where
+  M : List ℕ
+  M = h .mid
+
+  pub ended-size : length T′ ≡ length T
+  ended-size = ap length (h .tables) ∙ simp length-set (h .pages .size)
+
+  pub ended-word : (x : ℕ) → x ≢ depthAt t → x ≢ countAt p r → getD T′ x 0 ≡ getD (h .mid) x 0
+  ended-word x n m =
+      ap (λ (L : List ℕ). getD L x 0) (h .tables)
+      ∙ getD-set-other (set (h .mid) (countAt p r) 0) (depthAt t) x (depthOf T t - 1) 0 n
+      ∙ getD-set-other (h .mid) (countAt p r) x 0 0 m
+
+  pub ended-depth : depthOf T′ t ≡ depthOf T t - 1
+  ended-depth =
+      ap (λ (L : List ℕ). getD L (depthAt t) 0) (h .tables)
+      ∙ getD-set-same (set (h .mid) (countAt p r) 0) (depthAt t) (depthOf T t - 1) 0
+      (omega (arith, a .room, h .pages .size, length-set (h .mid) (countAt p r) 0))
+
+  pub ended-count : countOf p T′ r ≡ 0
+  ended-count =
+      ap (λ (L : List ℕ). getD L (countAt p r) 0) (h .tables)
+      ∙ getD-set-other (set (h .mid) (countAt p r) 0) (depthAt t) (countAt p r) (depthOf T t - 1) 0 (λ e. omega arith)
+      ∙ getD-set-same (h .mid) (countAt p r) 0 0 (omega (arith, a .room, h .pages .size))
+
+  -- words of the tables that are neither a page's, nor r's count, nor the depth
+  pub ended-rest : (x : ℕ) → x ≢ depthAt t → x ≢ countAt p r → (x < p .owners) ⊎ (p .counts ≤ x) → getD T′ x 0 ≡ getD T x 0
+  ended-rest x n m k = ended-word x n m ∙ h .pages .rest x k
+
+  pub ended-blank : (q : ℕ) → q < p .pages → ownerOf p T q ≡ r → Blank p T′ q
+  ended-blank q l e =
+      let b = h .pages .freed q l e in
+      record {
+        owner = ended-word (ownerAt p q) (λ z. omega arith) (λ z. omega arith) ∙ b .owner;
+        used = ended-word (usedAt p q) (λ z. omega arith) (λ z. omega arith) ∙ b .used;
+        marks = ended-word (markAt p q) (λ z. omega arith) (λ z. omega arith) ∙ b .marks;
+      }
+
+  pub ended-alike : (q : ℕ) → q < p .pages → ownerOf p T q ≢ r → Alike p T T′ q
+  ended-alike q l n =
+      let b = h .pages .kept q l (λ m. n) in
+      record {
+        owner = ended-word (ownerAt p q) (λ z. omega arith) (λ z. omega arith) ∙ b .owner;
+        used = ended-word (usedAt p q) (λ z. omega arith) (λ z. omega arith) ∙ b .used;
+        marks = ended-word (markAt p q) (λ z. omega arith) (λ z. omega arith) ∙ b .marks;
+      }
+
+  -- the cells in use are those of other regions
+  pub ended-use : (c : ℕ) → InUse p T c → ownerOf p T (c / 16) ≢ r → InUse p T′ c
+  ended-use c u n = record { page = u .page; place = omega (arith, u .place, ended-alike (c / 16) (u .page) n .used) }
+
+  pub ended-used : (c : ℕ) → InUse p T′ c → InUse p T c × (ownerOf p T (c / 16) ≢ r)
+  ended-used c u = go (ℕ-discrete (ownerOf p T (c / 16)) r)
+    where
+      go : Dec (ownerOf p T (c / 16) ≡ r) → InUse p T c × (ownerOf p T (c / 16) ≢ r)
+      go (yes e) = absurd (let z : ⊥ = omega (arith, u .place, ended-blank (c / 16) (u .page) e .used) in z)
+      go (no n) = (record { page = u .page; place = omega (arith, u .place, ended-alike (c / 16) (u .page) n .used) }, n)
+
+  pub ended-objects : (g : ℕ) → 1 ≤ g → g ≢ r → objectsOf p T′ g ≡ objectsOf p T g
+  ended-objects g pos ne = sum-same (objectsOn p T′ g) (objectsOn p T g) (p .pages) (λ q l. go q l (ℕ-discrete (ownerOf p T q) r))
+    where
+      go : (q : ℕ) → q < p .pages → Dec (ownerOf p T q ≡ r) → objectsOn p T′ g q ≡ objectsOn p T g q
+      go q l (yes e) =
+          then-no (ownerOf p T′ q) g (usedOf p T′ q) (λ z. omega (arith, ended-blank q l e .owner))
+          ∙ sym (then-no (ownerOf p T q) g (usedOf p T q) (λ z. ne (sym z ∙ e)))
+      go q l (no n) = let b = ended-alike q l n in ap₂ (λ (x y : ℕ). sameThen x g y) (b .owner) (b .used)
+
+  pub ended-none : objectsOf p T′ r ≡ 0
+  ended-none = sum-none (objectsOn p T′ r) (p .pages) (λ q l. go q l (ℕ-discrete (ownerOf p T q) r))
+    where
+      go : (q : ℕ) → q < p .pages → Dec (ownerOf p T q ≡ r) → objectsOn p T′ r q ≡ 0
+      go q l (yes e) = then-no (ownerOf p T′ q) r (usedOf p T′ q) (λ z. omega (arith, ended-blank q l e .owner))
+      go q l (no n) = then-no (ownerOf p T′ q) r (usedOf p T′ q) (λ z. n (sym (ended-alike q l n .owner) ∙ z))
+
+  pub ended-regular : Regular p T′
+  ended-regular =
+      record {
+        room = subst (λ (n : ℕ). Room p n) (sym ended-size) (a .room);
+        free = λ q l e. free′ q l e (ℕ-discrete (ownerOf p T q) r);
+        taken = λ q l n. taken′ q l n (ℕ-discrete (ownerOf p T q) r);
+        full = λ q l. full′ q l (ℕ-discrete (ownerOf p T q) r);
+        one = λ g x y pos u v. a .one g x y pos (part g x pos u (ℕ-discrete (ownerOf p T x) r)) (part g y pos v (ℕ-discrete (ownerOf p T y) r));
+        count = λ g pos le. count′ g pos le (ℕ-discrete g r);
+      }
+    where
+      free′ : (q : ℕ) → q < p .pages → ownerOf p T′ q ≡ 0 → Dec (ownerOf p T q ≡ r) → usedOf p T′ q ≡ 0
+      free′ q l e (yes z) = ended-blank q l z .used
+      free′ q l e (no n) = let b = ended-alike q l n in b .used ∙ a .free q l (sym (b .owner) ∙ e)
+
+      taken′ : (q : ℕ) → q < p .pages → ownerOf p T′ q ≢ 0 → Dec (ownerOf p T q ≡ r) → 1 ≤ usedOf p T′ q
+      taken′ q l n (yes z) = absurd (n (ended-blank q l z .owner))
+      taken′ q l n (no m) = let b = ended-alike q l m in omega (arith, b .used, a .taken q l (λ e. n (b .owner ∙ e)))
+
+      full′ : (q : ℕ) → q < p .pages → Dec (ownerOf p T q ≡ r) → usedOf p T′ q ≤ 16
+      full′ q l (yes z) = omega (arith, ended-blank q l z .used)
+      full′ q l (no m) = omega (arith, ended-alike q l m .used, a .full q l)
+
+      part : (g x : ℕ) → 1 ≤ g → Partly p T′ g x → Dec (ownerOf p T x ≡ r) → Partly p T g x
+      part g x pos u (yes z) = absurd (let y : ⊥ = omega (arith, ended-blank x (u .low) z .owner, u .partial .owner) in y)
+      part g x pos u (no m) =
+          let b = ended-alike x (u .low) m in
+          record { low = u .low; partial = record { owner = sym (b .owner) ∙ u .partial .owner; part = omega (arith, u .partial .part, b .used) } }
+
+      count′ : (g : ℕ) → 1 ≤ g → g ≤ regionsOf p → Dec (g ≡ r) → countOf p T′ g ≡ objectsOf p T′ g
+      count′ g pos le (yes e) = subst (λ (x : ℕ). countOf p T′ x ≡ objectsOf p T′ x) (sym e) (ended-count ∙ sym ended-none)
+      count′ g pos le (no n) =
+          ended-rest (countAt p g) (λ z. omega arith) (λ z. n (omega arith)) (inr (omega arith)) ∙ a .count g pos le
+          ∙ sym (ended-objects g pos n)
+
+-- the depth of a thread, after pages were released and a count set
+pub kept-depth : {p : Places} {r n t : ℕ} (g : ℕ) {T M X : List ℕ} → Room p (length T) → Released p r n T M → t < p .threads → X ≡ set M (countAt p g) 0
+    → depthOf X t ≡ depthOf T t
+kept-depth {p} {r} {n} {t} g {T} {M} rm h l e =
+    ap (λ (L : List ℕ). depthOf L t) e ∙ getD-set-other M (countAt p g) (depthAt t) 0 0 (λ z. omega (arith, rm))
+    ∙ h .rest (depthAt t) (inl (omega (arith, rm)))

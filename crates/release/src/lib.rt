@@ -1,0 +1,93 @@
+// Release: the pages of the ending region become free, its count 0, the depth of its thread one less.
+ghost use mathlib.Core.Path.{_≡_};
+ghost use Prim.Native.Nat.{ℕ, _<_, _≤_};
+ghost use lib.ListN.{length, getD};
+ghost use Rattle.lists.specs.Part.{Lists, Rises};
+ghost use Rattle.layout.specs.Places.{Room, ownerOf, depthOf};
+ghost use Rattle.pages.specs.Pages.{noteWords};
+ghost use Rattle.copy.specs.Taking.{regionsOf, Regular};
+ghost use Rattle.release.specs.Release.{Released, Ended};
+use layout::Places;
+
+// The region's pages, which are those listed, become free.
+pub fn release_pages(p: Places, tables: &mut [u32], list: &[u32], n: usize, region: u32)
+    requires { ⌜ Room p (length (now tables)) ⌝ }
+    requires { ⌜ Lists (λ page. ownerOf p (now tables) page ≡ region) (p .pages) n (now list) ⌝ }
+    ensures { λ _. ⌜ Released p region (p .pages) (now (tables .entry)) (now (tables .exit)) ⌝ }
+{
+    let mut i: usize = 0;
+    while i < n {
+        let page = layout::wide(list[i]);
+        layout::tables::set_owner(p, tables, page, 0);
+        layout::tables::set_used(p, tables, page, 0);
+        layout::tables::set_mark(p, tables, page, 0);
+        i += 1;
+    }
+}
+
+// Note 0 rises above the listed pages: a search for a free page goes down from it.
+fn note_released(p: Places, notes: &mut [u32], list: &[u32], n: usize)
+    requires { ⌜ Rises (p .pages) n (now list) ⌝ }
+    requires { ⌜ (p .pages ≤ 1024) × (noteWords ≤ length (now notes)) ⌝ }
+    ensures { λ _. ⌜ ((i : ℕ) → i < n → getD (now (list .entry)) i 0 < getD (now (notes .exit)) 0 0) ⌝ }
+{
+    if n != 0 {
+        let last = list[n - 1];
+        if notes[0] <= last {
+            notes[0] = last + 1;
+        }
+    }
+}
+
+// The end of a thread's region: its pages, its count, the thread's depth.
+pub fn release(
+    p: Places,
+    tables: &mut [u32],
+    notes: &mut [u32],
+    list: &[u32],
+    n: usize,
+    region: u32,
+    thread: usize,
+)
+    requires { ⌜ Room p (length (now tables)) ⌝ }
+    requires { ⌜ Lists (λ page. ownerOf p (now tables) page ≡ region) (p .pages) n (now list) ⌝ }
+    requires { ⌜ (1 ≤ region) × (region ≤ regionsOf p) ⌝ }
+    requires { ⌜ (thread < p .threads) × (1 ≤ depthOf (now tables) thread) ⌝ }
+    requires { ⌜ noteWords ≤ length (now notes) ⌝ }
+    ensures { λ _. ⌜ Ended p region thread (now (tables .entry)) (now (tables .exit)) ⌝ }
+{
+    release_pages(p, tables, list, n, region);
+    note_released(p, notes, list, n);
+    layout::tables::set_count(p, tables, layout::wide(region), 0);
+    let depth = layout::tables::depth(p, tables, thread);
+    layout::tables::set_depth(p, tables, thread, depth - 1);
+}
+
+// The same where the region's pages are not listed yet.
+fn list_and_release(p: Places, tables: &mut [u32], notes: &mut [u32], region: u32, thread: usize)
+    requires { ⌜ Regular p (now tables) ⌝ }
+    requires { ⌜ (1 ≤ region) × (region ≤ regionsOf p) ⌝ }
+    requires { ⌜ (thread < p .threads) × (1 ≤ depthOf (now tables) thread) ⌝ }
+    requires { ⌜ noteWords ≤ length (now notes) ⌝ }
+    ensures { λ _. ⌜ Ended p region thread (now (tables .entry)) (now (tables .exit)) ⌝ }
+{
+    let mut list = [0u32; 1024];
+    let n = pages::list_pages(p, tables, region, &mut list);
+    release(p, tables, notes, &list, n, region, thread);
+}
+
+// The same: a region without objects has no pages, and needs no list.
+pub fn release_region(p: Places, tables: &mut [u32], notes: &mut [u32], region: u32, thread: usize)
+    requires { ⌜ Regular p (now tables) ⌝ }
+    requires { ⌜ (1 ≤ region) × (region ≤ regionsOf p) ⌝ }
+    requires { ⌜ (thread < p .threads) × (1 ≤ depthOf (now tables) thread) ⌝ }
+    requires { ⌜ noteWords ≤ length (now notes) ⌝ }
+    ensures { λ _. ⌜ Ended p region thread (now (tables .entry)) (now (tables .exit)) ⌝ }
+{
+    if layout::tables::count(p, tables, layout::wide(region)) != 0 {
+        list_and_release(p, tables, notes, region, thread);
+    } else {
+        let none = [0u32; 1];
+        release(p, tables, notes, &none, 0, region, thread);
+    }
+}

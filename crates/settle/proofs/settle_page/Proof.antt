@@ -1,0 +1,145 @@
+-- Of the survivors of the page, k are passed: the slots of their copies are settled, and nothing else is changed.
+use native.Mathlib.Omega.{arith}
+use borrow.Author.Needs.{needs}
+use lib.ListN.{length}
+use Prim.Native.Nat.{ℕ, _+_, _-_, _*_, _/_, _^_}
+use mathlib.Core.Logic.{_≢_}
+use mathlib.Core.Path.{_≡_, refl, sym, ap, _∙_, subst}
+use lib.Count.{ones, ones-le, trailingZeros}
+use Rattle.lists.specs.Bits.{Lowest}
+use Rattle.lists.specs.SetBits.{Walked, walk-start, walk-lowest, walk-turn, walk-end}
+use Rattle.layout.specs.Cells.{workOf, refsOf}
+use Rattle.settle.specs.Rewrite.{link-same}
+use Rattle.settle.specs.RewriteSlots.{Field, Fields}
+use Rattle.settle.specs.RewriteCopies.{CopySlot, Old, Passed, passed-within, passed-grown, bit-old, copy-fields}
+use Rattle.settle.specs.Settle.{Settling, Settled, unset-settled, copy-settling, copy-settled, page-settled}
+use Rattle.settle.proofs.settle_page.Statement.{statement}
+use Rattle.settle.proofs.settle_page.Tie as tie
+
+abbrev Inv-loop : tie.InvT-loop
+Inv-loop p cells₀ remember₀ tables region page j copied survivors i₀ left₀ k₀ cells remember i left k =
+    (survivors ≡ ones copied) × (length cells ≡ length cells₀) × (length remember ≡ length remember₀) × Walked copied left k
+    × Settled p region (p .entries) (CopySlot p region (Passed page left) cells₀ tables) cells₀ remember₀ tables j cells remember i
+
+abbrev μ-loop : tie.MeasureT-loop
+μ-loop p cells₀ remember₀ tables region page j copied survivors i₀ left₀ k₀ cells remember i left k =
+    survivors - k
+
+lowest : (c : tie.In-loop Inv-loop μ-loop) → Lowest (c .before .loop .left) (trailingZeros 32 (c .before .loop .left))
+lowest c = walk-lowest (c .before .loop .inv .3) (omega (arith, c .before .loop .inv .0, c .loop-test .taken))
+
+-- the cell of the lowest bit
+cell : (c : tie.After-cell-on Inv-loop μ-loop) → c .cell-on .result ≡ 16 * c .before .before .before .before .before .before .before .before .before .before .args .page + trailingZeros 32 (c .before .before .before .before .loop .left)
+cell c = c .cell-on .ensures ∙ ap (λ (y : ℕ). 16 * c .before .before .before .before .before .before .before .before .before .before .args .page + y) (c .before .wide .ensures)
+
+-- it is a survivor's, and this is its forward reference
+old : (c : tie.After-work Inv-loop μ-loop)
+    → (let a = c .before .before .before .before .before .before .before .before .before .before .before .args in
+    Old (a .p) (a .region) (a .cells .now) (a .tables .now) (16 * a .page + trailingZeros 32 (c .before .before .before .before .before .loop .left)))
+old c =
+    let pre = c .before .before .before .before .before .before .before .before .before .before .before .pre in
+    let l = c .before .before .before .before .before .loop in
+    let f = lowest (c .before .before .before .before) in
+    bit-old (pre .0) (c .before .before .before .before .before .before .upper-half .ensures ∙ ap (λ (x : ℕ). x / 2 ^ 16) (c .before .before .before .before .before .before .before .mark .ensures)) (trailingZeros 32 (l .left)) (pre .1 .1) (f .lt) (l .inv .3 .under (trailingZeros 32 (l .left)) (f .on))
+
+link : (c : tie.After-work Inv-loop μ-loop)
+    → (let l = c .before .before .before .before .before .loop in
+    c .work .result ≡ workOf (l .cells) (16 * c .before .before .before .before .before .before .before .before .before .before .before .args .page + trailingZeros 32 (l .left)))
+link c = c .work .ensures ∙ ap (λ (x : ℕ). workOf (c .before .before .before .before .before .loop .cells) x) (cell (c .before))
+
+mark-requires : tie.Need-mark-requires Inv-loop μ-loop
+mark-requires c κs = (c .before .before .before .pre .0 .tables-long, c .before .before .before .pre .1 .1)
+
+upper-half-requires : tie.Need-upper-half-requires Inv-loop μ-loop
+upper-half-requires c κs = search needs
+
+loop-holds : tie.Need-loop-holds Inv-loop μ-loop
+loop-holds c =
+    let e = c .upper-half .ensures ∙ ap (λ (x : ℕ). x / 2 ^ 16) (c .before .mark .ensures) in
+    (refl, refl, refl, walk-start (c .upper-half .result) (omega (arith, c .upper-half .ensures)), unset-settled (c .before .before .before .before .before .pre .0) e (c .before .before .before .before .before .pre .1 .0 .appending .low))
+
+wide-requires : tie.Need-wide-requires Inv-loop μ-loop
+wide-requires c κs = search needs
+
+cell-on-requires : tie.Need-cell-on-requires Inv-loop μ-loop
+cell-on-requires c κs = (omega (arith, c .before .before .before .before .before .before .before .before .before .pre .0 .few, c .before .before .before .before .before .before .before .before .before .pre .1 .1), omega (arith, lowest (c .before .before), c .wide .ensures))
+
+work-requires : tie.Need-work-requires Inv-loop μ-loop
+work-requires c κs =
+    let f = lowest (c .before .before .before) in
+    let e = cell c in
+    (omega (arith, f, e, c .before .before .before .before .before .before .before .before .before .before .pre .0 .few, c .before .before .before .before .before .before .before .before .before .before .pre .1 .1), omega (arith, f, e, c .before .before .before .before .before .before .before .before .before .before .pre .0 .cells-long, c .before .before .before .before .before .before .before .before .before .before .pre .1 .1, c .before .before .before .before .loop .inv .1))
+
+cell-named-requires : tie.Need-cell-named-requires Inv-loop μ-loop
+cell-named-requires c κs =
+    let ne : c .work .result ≢ 0 = λ z. old c .moved (sym (link-same (c .before .before .before .before .before .loop .inv .4 .rewritten) _) ∙ sym (link c) ∙ z) in
+    omega (arith, ne)
+
+settle-cell-requires : tie.Need-settle-cell-requires Inv-loop μ-loop
+settle-cell-requires c κs =
+    let a = c .before .before .before .before .before .before .before .before .before .before .before .before .before .before .args in
+    let l = c .before .before .before .before .before .before .before .before .loop in
+    let i : ℕ = trailingZeros 32 (l .left) in
+    let g = passed-grown (a .page) i (l .left - 2 ^ i) (lowest (c .before .before .before .before .before .before .before)) refl in
+    let among = passed-within (a .page) (l .left - 2 ^ i) in
+    let e = link (c .before .before .before) in
+    let u = old (c .before .before .before) in (
+      subst (λ (d : ℕ). Fields (a .p) (refsOf (l .cells) d) d (l .cells)) (sym (c .before .before .cell-named .ensures)) (copy-fields (c .before .before .before .before .before .before .before .before .before .before .before .before .before .before .pre .0) g among (l .inv .4 .rewritten) (c .before .before .before .work .result) e u),
+      (
+        subst (λ (d : ℕ). Settling (a .p) (a .region) (a .p .entries) (Field d (refsOf (l .cells) d)) (l .cells) (l .remember) (a .tables .now) (l .i)) (sym (c .before .before .cell-named .ensures))
+            (copy-settling (c .before .before .before .before .before .before .before .before .before .before .before .before .before .before .pre .0) g among (l .inv .4) (c .before .before .before .work .result) e u (c .before .before .before .before .before .before .before .before .before .before .before .before .before .before .pre .1 .0)),
+        c .before .before .before .before .before .before .before .before .before .before .before .before .before .before .pre .0 .tables-long,
+      ),
+    )
+
+without-bit-requires : tie.Need-without-bit-requires Inv-loop μ-loop
+without-bit-requires c κs = let f = lowest (c .before .before .before .before .before .before .before .before .before .before .before .before) in (f .lt, f .on)
+
+add-k : tie.Need-add-k Inv-loop μ-loop
+add-k c = omega (arith, ones-le 16 (c .before .before .before .before .before .before .before .before .before .before .before .before .before .before .before .upper-half .result) (omega (arith, c .before .before .before .before .before .before .before .before .before .before .before .before .before .before .before .upper-half .ensures)), c .before .before .before .before .before .before .before .before .before .before .before .before .before .before .loop .inv .0, c .before .before .before .before .before .before .before .before .before .before .before .before .before .loop-test .taken)
+
+loop-less : tie.Need-loop-less Inv-loop μ-loop
+loop-less c = omega (arith, c .before .before .before .before .before .before .before .before .before .before .before .before .before .loop-test .taken)
+
+loop-again : tie.Need-loop-again Inv-loop μ-loop
+loop-again c =
+    let a = c .before .before .before .before .before .before .before .before .before .before .before .before .before .before .before .before .before .before .before .before .args in
+    let l = c .before .before .before .before .before .before .before .before .before .before .before .before .before .before .loop in
+    let i : ℕ = trailingZeros 32 (l .left) in
+    let f = lowest (c .before .before .before .before .before .before .before .before .before .before .before .before .before) in
+    let left = c .without-bit in
+    let come = c .before .before .before .before .before .settle-cell in
+    let h = copy-settled (c .before .before .before .before .before .before .before .before .before .before .before .before .before .before .before .before .before .before .before .before .pre .0) (passed-grown (a .page) i (left .result) f (left .ensures)) (passed-within (a .page) (left .result)) (l .inv .4) (c .before .before .before .before .before .before .before .before .before .work .result) (link (c .before .before .before .before .before .before .before .before .before)) (old (c .before .before .before .before .before .before .before .before .before))
+    (subst (λ (d : ℕ). Settled (a .p) (a .region) (a .p .entries) (Field d (refsOf (l .cells) d)) (l .cells) (l .remember) (a .tables .now) (l .i) (come .last .1 .0) (come .last .1 .1 .0) (come .result)) (c .before .before .before .before .before .before .before .before .cell-named .ensures) (come .ensures)) in
+    (l .inv .0, h .rewritten .size, h .added .size, walk-turn i (left .result) (l .inv .3) f (left .ensures), h)
+
+same-length : tie.Need-same-length Inv-loop μ-loop
+same-length c = c .before .loop .inv .1
+
+same-length-2 : tie.Need-same-length-2 Inv-loop μ-loop
+same-length-2 c = c .before .loop .inv .2
+
+returns : tie.Need-returns Inv-loop μ-loop
+returns c = page-settled (c .before .before .before .before .before .before .before .args .page) (walk-end (c .before .loop .inv .3) (omega (arith, c .before .loop .inv .0, c .loop-test .left))) (c .before .loop .inv .4)
+
+pub settle-page-spec : {M : Type 1} → statement M
+settle-page-spec =
+    tie.close
+    (tie.spec
+    Inv-loop
+    μ-loop
+    mark-requires
+    upper-half-requires
+    loop-holds
+    wide-requires
+    cell-on-requires
+    work-requires
+    cell-named-requires
+    settle-cell-requires
+    without-bit-requires
+    add-k
+    loop-less
+    loop-again
+    same-length
+    same-length-2
+    returns)

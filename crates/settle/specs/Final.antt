@@ -1,0 +1,171 @@
+-- The cells as they will be once the copies' slots are rewritten: they exist before any is written, so that what is asked of them can be
+-- asked at the start. With them, the whole settling: filter the entries, settle the copies, clear the rest.
+use mathlib.Core.Path.{_≡_, refl, sym, ap, _∙_, subst}
+use mathlib.Core.Logic.{_⊎_, inl, inr}
+use mathlib.Core.Bool.{cond}
+use mathlib.Core.List.{List}
+use Prim.Native.Nat.{ℕ, zero, suc, _+_, _-_, _*_, _/_, _%_, _≤_, _<_, max}
+use native.Mathlib.Decide.{ℕ-discrete, decLt}
+use native.Mathlib.Omega.{arith}
+use lib.Dec.{eqb}
+use lib.ListN.{getD, set}
+use Rattle.layout.specs.declared.Places.{Places}
+use Rattle.layout.specs.Places.{ownerOf, usedOf, slotIn, slotRegionIn}
+use Rattle.layout.specs.Cells.{workOf, fieldOf, refsOf}
+use Rattle.settle.specs.Rewrite.{Names, moveRef, Rewritten, rewritten-none, rewritten-like}
+use Rattle.settle.specs.RewriteSlots.{Field, Fields, fields-start, field-moved}
+use Rattle.settle.specs.RewriteCopies.{CopySlot, Old, Wiring, Grown, Between, copy-fields, slot-less, slot-now, slot-then}
+use Rattle.settle.specs.Entries.{crossOf, newRegion, Added, added-like, Stays, Entries, Cleared}
+use Rattle.settle.specs.Update.{Copies, Updating, Updated, update-appending, updated}
+use Rattle.settle.specs.Settle.{Settled, Settling, crossing-in, copy-rewritten}
+
+-- ---- they exist
+
+fields-exist : {p : Places} {r k d : ℕ} {W T : List ℕ} → Fields p k d W → (f : ℕ) → f ≤ k → (V′ : List ℕ) × Rewritten p r (Field d f) W T V′
+fields-exist {p} {r} {k} {d} {W} {T} a zero l = (W, fields-start p r d W T)
+fields-exist {p} {r} {k} {d} {W} {T} a (suc f) l =
+    let q = fields-exist {r = r} {T = T} a f (omega arith) in
+    let v : ℕ = moveRef p r (q .0) T (fieldOf (q .0) d f) in
+    let e : f + 1 ≡ suc f = omega arith in
+    (set (q .0) (16 * d + 2 + f) v, subst (λ (y : ℕ). Rewritten p r (Field d y) W T (set (q .0) (16 * d + 2 + f) v)) e (field-moved a (omega arith) (q .1) v refl))
+
+old? : (p : Places) (r : ℕ) (W T : List ℕ) (c : ℕ) → Dec (Old p r W T c)
+old? p r W T c = go (decLt (c / 16) (p .pages)) (decLt (c % 16) (usedOf p T (c / 16))) (ℕ-discrete (ownerOf p T (c / 16)) r) (ℕ-discrete (workOf W c) 0)
+  where
+    go : Dec (c / 16 < p .pages) → Dec (c % 16 < usedOf p T (c / 16)) → Dec (ownerOf p T (c / 16) ≡ r) → Dec (workOf W c ≡ 0) → Dec (Old p r W T c)
+    go (yes a) (yes b) (yes o) (no z) = yes (record { used = record { page = a; place = b }; owner = o; moved = z })
+    go (no a) b o z = no (λ u. a (u .used .page))
+    go (yes a) (no b) o z = no (λ u. b (u .used .place))
+    go (yes a) (yes b) (no o) z = no (λ u. o (u .owner))
+    go (yes a) (yes b) (yes o) (yes z) = no (λ u. u .moved z)
+
+-- cell k after those below it
+between-grown : (k : ℕ) → Grown (Between 0 k) k (Between 0 (suc k))
+between-grown k =
+    record {
+      new = λ m. let z : ⊥ = omega (arith, m .1) in z;
+      here = (omega arith, omega arith);
+      keeps = λ y m. (m .0, omega (arith, m .1));
+      split = λ y m. go y m (ℕ-discrete y k);
+    }
+  where
+    go : (y : ℕ) → Between 0 (suc k) y → Dec (y ≡ k) → Between 0 k y ⊎ (y ≡ k)
+    go y m (yes e) = inr e
+    go y m (no n) = inl (m .0, omega (arith, m .1))
+
+pub copies-exist : {p : Places} {r : ℕ} {W T : List ℕ} → Wiring p r (Between 0 (16 * p .pages)) W T → (k : ℕ) → k ≤ 16 * p .pages
+    → (V′ : List ℕ) × Rewritten p r (CopySlot p r (Between 0 k) W T) W T V′
+copies-exist {p} {r} {W} {T} w zero l = (W, rewritten-none p r (CopySlot p r (Between 0 0) W T) W T (λ x q. omega (arith, q .among .1)))
+copies-exist {p} {r} {W} {T} w (suc k) l = go (copies-exist w k (omega arith)) (old? p r W T k)
+  where
+    among : (y : ℕ) → Between 0 (suc k) y → Between 0 (16 * p .pages) y
+    among y m = (m .0, omega (arith, m .1))
+
+    go : (V′ : List ℕ) × Rewritten p r (CopySlot p r (Between 0 k) W T) W T V′ → Dec (Old p r W T k) → (V′ : List ℕ) × Rewritten p r (CopySlot p r (Between 0 (suc k)) W T) W T V′
+    go q (yes u) =
+        let x : ℕ = workOf (q .0) k in
+        let f = fields-exist {r = r} {T = T} (copy-fields w (between-grown k) among (q .1) x refl u) (refsOf (q .0) (x - 1)) (omega arith) in
+        (f .0, copy-rewritten w (between-grown k) among (q .1) x refl u (f .1))
+    go q (no n) = (q .0, rewritten-like (q .1) (λ x s. less x s (ℕ-discrete (s .cell) k)) (λ x s. slot-less (λ y m. (m .0, omega (arith, m .1))) x s))
+      where
+        less : (x : ℕ) (s : CopySlot p r (Between 0 (suc k)) W T x) → Dec (s .cell ≡ k) → CopySlot p r (Between 0 k) W T x
+        less x s (yes e) = absurd (n (subst (λ (y : ℕ). Old p r W T y) e (s .old)))
+        less x s (no e) = record { cell = s .cell; among = (s .among .0, omega (arith, s .among .1)); old = s .old; field = s .field }
+
+-- ---- the whole settling: m entries of n are in use
+
+-- whatever the cells become, the remember table can be made for them, and the slots of its entries are none of those rewritten
+pub record Settles (p : Places) (r n m : ℕ) (W M T : List ℕ) : Type 0 where
+  pub wiring : Wiring p r (Between 0 (16 * p .pages)) W T
+  pub old : (i : ℕ) → i < m → Copies p r W T (slotIn M i) → ⊥
+  pub updating : (W′ : List ℕ) → Rewritten p r (Copies p r W T) W T W′ → Updating p r n m W′ M T
+
+-- an entry's new region, by cells that read the same at its slot
+new-same : (p : Places) (r : ℕ) (W W′ T : List ℕ) (s g : ℕ) → getD W′ s 0 ≡ getD W s 0 → newRegion p r W′ T s g ≡ newRegion p r W T s g
+unfolding newRegion
+new-same p r W W′ T s g e =
+    ap (λ (y : ℕ). cond (eqb (ownerOf p T (s / 256)) r) 0 (cond (eqb g r) (crossOf p T (ownerOf p T (s / 256)) y) g)) e
+
+module _ {p : Places} {r n m : ℕ} {W M T : List ℕ} (u : Settles p r n m W M T) where
+  final : (V′ : List ℕ) × Rewritten p r (Copies p r W T) W T V′
+  final = copies-exist (u .wiring) (16 * p .pages) (omega arith)
+
+  -- the table for the cells as they will be
+  due : Updating p r n m (final .0) M T
+  due = u .updating (final .0) (final .1)
+
+  module _ {W′ : List ℕ} (R : Rewritten p r (Copies p r W T) W T W′) where
+    entry-same : (i : ℕ) → i < m → getD W′ (slotIn M i) 0 ≡ getD W (slotIn M i) 0
+    entry-same i l = R .same (slotIn M i) (u .old i l)
+
+    stays-now : (x h : ℕ) → Stays p r n W M T m x h → Stays p r n W′ M T m x h
+    stays-now x h q =
+        record {
+          entry = q .entry;
+          low = q .low;
+          slot = q .slot;
+          region = q .region ∙ sym (new-same p r W W′ T (slotIn M (q .entry)) (slotRegionIn n M (q .entry)) (entry-same (q .entry) (q .low)));
+          kept = q .kept;
+        }
+
+    stays-then : (x h : ℕ) → Stays p r n W′ M T m x h → Stays p r n W M T m x h
+    stays-then x h q =
+        record {
+          entry = q .entry;
+          low = q .low;
+          slot = q .slot;
+          region = q .region ∙ new-same p r W W′ T (slotIn M (q .entry)) (slotRegionIn n M (q .entry)) (entry-same (q .entry) (q .low));
+          kept = q .kept;
+        }
+
+    stays-like : {j : ℕ} {M₁ : List ℕ} → Added n (Stays p r n W M T m) 0 j M M₁ → Added n (Stays p r n W′ M T m) 0 j M M₁
+    stays-like a = added-like a stays-then stays-now
+
+  pub settles-small : n ≤ 4096
+  settles-small = due .small
+
+  -- what each stage asks
+  pub filter-asks : Entries p r n m W M
+  filter-asks =
+      let e = due .entries in
+      record {
+        pages = e .pages;
+        cells-long = u .wiring .cells-long;
+        long = e .long;
+        few = e .few;
+        low = e .low;
+        once = e .once;
+        names = λ i l z. subst (λ (x : ℕ). Names p x) (entry-same (final .1) i l) (e .names i l z);
+      }
+
+  pub settle-asks : {j : ℕ} {M₁ : List ℕ} → Added n (Stays p r n W M T m) 0 j M M₁ → Settling p r n (Copies p r W T) W M₁ T j
+  settle-asks a =
+      let R = final .1 in
+      let b = update-appending due (stays-like R a) in
+      record {
+        final = final .0;
+        moved = R .moved;
+        names = λ x q. names x (slot-now R x q);
+        appending =
+            record {
+              long = b .long;
+              low = b .low;
+              listed = b .listed;
+              once = b .once;
+              new = λ x q. b .new x (slot-now R x q);
+              apart = λ x q. b .apart x (slot-now R x q);
+              space = b .space;
+            };
+      }
+    where
+      names : (x : ℕ) → Copies p r (final .0) T x → Names p (getD (final .0) x 0)
+      names x q =
+          let f = q .field in
+          subst (λ (y : ℕ). Names p (getD (final .0) y 0)) (sym (f .at)) (due .wiring .copies (q .cell) (q .among) (q .old) .names (f .field) (f .low))
+
+  -- and what they leave: j entries stay, k are used in the end
+  pub settles-updated : {j k e v : ℕ} {W′ M₁ M₂ M₃ : List ℕ} → Added n (Stays p r n W M T m) 0 j M M₁ → j ≤ m → Settled p r n (Copies p r W T) W M₁ T j W′ M₂ k
+      → e ≡ max k m → Cleared n k e M₂ M₃ → v ≡ k → Updated p r n m W′ M T (set M₃ 1 v)
+  settles-updated {W′ = W′} a le h em c ev =
+      let R = h .rewritten in
+      updated (u .updating W′ R) (stays-like R a) le (added-like (h .added) (crossing-in (slot-then R)) (crossing-in (slot-now R))) em c ev

@@ -1,0 +1,9 @@
+-- References and the remember table after the copying.
+pub mod Rewrite
+pub mod RewriteSlots
+pub mod RewriteCopies
+pub mod Entries
+pub mod Append
+pub mod Update
+pub mod Settle
+pub mod Final

@@ -1,0 +1,235 @@
+-- The slots of the copies: those of one survivor, of the survivors of a page, of all pages.
+use mathlib.Core.Path.{_≡_, refl, sym, ap, _∙_, subst}
+use mathlib.Core.Logic.{_≢_, _⊎_, inl, inr}
+use mathlib.Core.List.{List}
+use Prim.Native.Nat.{ℕ, _+_, _-_, _*_, _/_, _%_, _^_, _≤_, _<_}
+use native.Mathlib.Decide.{ℕ-discrete, decLt}
+use native.Mathlib.Omega.{arith}
+use lib.ListN.{length}
+use Rattle.lists.specs.Bits.{bitAt, bit-zero, clear-same, clear-other, Lowest}
+use Rattle.lists.specs.SetBits.{upper-bit}
+use Rattle.layout.specs.declared.Places.{Places}
+use Rattle.layout.specs.Places.{Room, ownerOf, markOf}
+use Rattle.layout.specs.Cells.{workOf, refsOf}
+use Rattle.promises.specs.Words.{InUse}
+use Rattle.copy.specs.Marks.{copied}
+use Rattle.settle.specs.Rewrite.{Names, Rewritten, link-same, refs-same}
+use Rattle.settle.specs.RewriteSlots.{Field, Fields}
+
+-- ---- the copies: of the old cells of which Q holds
+
+pub record Old (p : Places) (r : ℕ) (W T : List ℕ) (c : ℕ) : Type 0 where
+  pub used : InUse p T c
+  pub owner : ownerOf p T (c / 16) ≡ r
+  pub moved : workOf W c ≢ 0
+
+pub record CopySlot (p : Places) (r : ℕ) (Q : ℕ → Type 0) (W T : List ℕ) (x : ℕ) : Type 0 where
+  pub cell : ℕ
+  pub among : Q cell
+  pub old : Old p r W T cell
+  pub field : Field (workOf W cell - 1) (refsOf W (workOf W cell - 1)) x
+
+pub record Wiring (p : Places) (r : ℕ) (Q : ℕ → Type 0) (W T : List ℕ) : Type 0 where
+  pub few : p .pages ≤ 1024
+  pub cells-long : 256 * p .pages ≤ length W
+  pub tables-long : Room p (length T)
+  pub bits : (c : ℕ) → Q c → c / 16 < p .pages → copied p T c ≡ 1 → Old p r W T c
+  pub only : (c : ℕ) → Q c → Old p r W T c → copied p T c ≡ 1
+  pub copies : (c : ℕ) → Q c → Old p r W T c → Fields p (refsOf W (workOf W c - 1)) (workOf W c - 1) W
+  pub once : (b c : ℕ) → Q b → Q c → Old p r W T b → Old p r W T c → workOf W b ≡ workOf W c → b ≡ c
+
+module _ {p : Places} {r : ℕ} {P : ℕ → Type 0} {W T W′ : List ℕ} (h : Rewritten p r P W T W′) where
+  pub old-now : {p : Places} (c : ℕ) → Old p r W T c → Old p r W′ T c
+  old-now c u = record { used = u .used; owner = u .owner; moved = λ z. u .moved (sym (link-same h c) ∙ z) }
+
+  old-then : {p : Places} (c : ℕ) → Old p r W′ T c → Old p r W T c
+  old-then c u = record { used = u .used; owner = u .owner; moved = λ z. u .moved (link-same h c ∙ z) }
+
+  cell-fields : (c x : ℕ) → Field (workOf W c - 1) (refsOf W (workOf W c - 1)) x → Field (workOf W′ c - 1) (refsOf W′ (workOf W′ c - 1)) x
+  cell-fields c x q =
+      subst (λ (y : ℕ). Field (y - 1) (refsOf W′ (y - 1)) x) (sym (link-same h c))
+      (record { field = q .field; low = omega (arith, q .low, refs-same h (workOf W c - 1)); at = q .at })
+
+  fields-cell : (c x : ℕ) → Field (workOf W′ c - 1) (refsOf W′ (workOf W′ c - 1)) x → Field (workOf W c - 1) (refsOf W (workOf W c - 1)) x
+  fields-cell c x q =
+      let q′ : Field (workOf W c - 1) (refsOf W′ (workOf W c - 1)) x = subst (λ (y : ℕ). Field (y - 1) (refsOf W′ (y - 1)) x) (link-same h c) q in
+      record { field = q′ .field; low = omega (arith, q′ .low, refs-same h (workOf W c - 1)); at = q′ .at }
+
+  pub slot-now : {p : Places} {Q : ℕ → Type 0} (x : ℕ) → CopySlot p r Q W T x → CopySlot p r Q W′ T x
+  slot-now x q = record { cell = q .cell; among = q .among; old = old-now (q .cell) (q .old); field = cell-fields (q .cell) x (q .field) }
+
+  pub slot-then : {p : Places} {Q : ℕ → Type 0} (x : ℕ) → CopySlot p r Q W′ T x → CopySlot p r Q W T x
+  slot-then x q = record { cell = q .cell; among = q .among; old = old-then (q .cell) (q .old); field = fields-cell (q .cell) x (q .field) }
+
+  -- cells whose slots are none of those rewritten are wired as before
+  pub wiring-now : {p : Places} {Q : ℕ → Type 0} → Wiring p r Q W T → ((x : ℕ) → CopySlot p r Q W T x → P x → ⊥) → Wiring p r Q W′ T
+  wiring-now {p} {Q} a apart =
+      record {
+        few = a .few;
+        cells-long = omega (arith, a .cells-long, h .size);
+        tables-long = a .tables-long;
+        bits = λ c q l on. old-now c (a .bits c q l on);
+        only = λ c q u. a .only c q (old-then c u);
+        copies = λ c q u. subst (λ (y : ℕ). Fields p (refsOf W′ (y - 1)) (y - 1) W′) (sym (link-same h c)) (copies′ c q (old-then c u));
+        once = λ b c q q′ u v e. a .once b c q q′ (old-then b u) (old-then c v) (sym (link-same h b) ∙ e ∙ link-same h c);
+      }
+    where
+      copies′ : (c : ℕ) → Q c → Old p r W T c → Fields p (refsOf W′ (workOf W c - 1)) (workOf W c - 1) W′
+      copies′ c q u =
+          let w = a .copies c q u in
+          let d : ℕ = workOf W c - 1 in
+          let e : refsOf W′ d ≡ refsOf W d = refs-same h d in
+          record {
+            pages = w .pages;
+            cells-long = omega (arith, w .cells-long, h .size);
+            page = w .page;
+            few = omega (arith, w .few);
+            names = λ f l.
+                let l′ : f < refsOf W d = omega arith in
+                subst (λ (x : ℕ). Names p x)
+                (sym (h .same (16 * d + 2 + f)
+                (apart (16 * d + 2 + f) (record { cell = c; among = q; old = u; field = record { field = f; low = l′; at = refl } }))))
+                (w .names f l′);
+          }
+
+-- slots of copies of different cells are different
+pub slots-apart : {p : Places} {r : ℕ} {Q : ℕ → Type 0} {W T : List ℕ} → Wiring p r Q W T → (b c x : ℕ) → Q b → Q c → Old p r W T b → Old p r W T c
+    → Field (workOf W b - 1) (refsOf W (workOf W b - 1)) x → Field (workOf W c - 1) (refsOf W (workOf W c - 1)) x → b ≡ c
+slots-apart {p} {r} {Q} {W} {T} a b c x qb qc ub uc fb fc =
+    a .once b c qb qc ub uc
+    (let nb : workOf W b ≢ 0 = ub .moved in
+    let nc : workOf W c ≢ 0 = uc .moved in
+    omega (arith, a .copies b qb ub .few, a .copies c qc uc .few, fb .low, fb .at, fc .low, fc .at))
+
+pub wiring-less : {p : Places} {r : ℕ} {P Q : ℕ → Type 0} {W T : List ℕ} → ((c : ℕ) → P c → Q c) → Wiring p r Q W T → Wiring p r P W T
+wiring-less f a =
+    record {
+      few = a .few;
+      cells-long = a .cells-long;
+      tables-long = a .tables-long;
+      bits = λ c q. a .bits c (f c q);
+      only = λ c q. a .only c (f c q);
+      copies = λ c q u. a .copies c (f c q) u;
+      once = λ b c q q′ u v e. a .once b c (f b q) (f c q′) u v e;
+    }
+
+pub slot-less : {p : Places} {r : ℕ} {P Q : ℕ → Type 0} {W T : List ℕ} → ((c : ℕ) → P c → Q c) → (x : ℕ) → CopySlot p r P W T x → CopySlot p r Q W T x
+slot-less f x q = record { cell = q .cell; among = f (q .cell) (q .among); old = q .old; field = q .field }
+
+-- ---- the copy of one survivor more
+
+-- c is new in P′, which holds else where P does
+pub record Grown (P : ℕ → Type 0) (c : ℕ) (P′ : ℕ → Type 0) : Type 0 where
+  pub new : P c → ⊥
+  pub here : P′ c
+  pub keeps : (y : ℕ) → P y → P′ y
+  pub split : (y : ℕ) → P′ y → P y ⊎ (y ≡ c)
+
+module _ {p : Places} {r c : ℕ} {P P′ Q : ℕ → Type 0} {W T W′ : List ℕ} (w : Wiring p r Q W T) (g : Grown P c P′) (among : (y : ℕ) → P′ y → Q y)
+    (h : Rewritten p r (CopySlot p r P W T) W T W′) where
+  pub earlier-apart : (x : ℕ) → CopySlot p r (λ y. y ≡ c) W T x → CopySlot p r P W T x → ⊥
+  earlier-apart x q q′ =
+      let z : q′ .cell ≡ q .cell =
+      slots-apart w (q′ .cell) (q .cell) x (among (q′ .cell) (g .keeps (q′ .cell) (q′ .among))) (subst Q (sym (q .among)) (among c (g .here)))
+      (q′ .old) (q .old) (q′ .field) (q .field) in
+      g .new (subst P (z ∙ q .among) (q′ .among))
+
+  here-wired : Wiring p r (λ y. y ≡ c) W′ T
+  here-wired = wiring-now h (wiring-less (λ y e. subst Q (sym e) (among c (g .here))) w) earlier-apart
+
+  pub copy-fields : (x : ℕ) → x ≡ workOf W′ c → Old p r W T c → Fields p (refsOf W′ (x - 1)) (x - 1) W′
+  copy-fields x e u =
+      subst (λ (y : ℕ). Fields p (refsOf W′ (y - 1)) (y - 1) W′) (sym e) (here-wired .copies c refl (old-now h c u))
+
+-- ---- the copies of a page's survivors, bit by bit
+
+abbrev pub Between : ℕ → ℕ → ℕ → Type 0
+Between a b c = (a ≤ c) × (c < b)
+
+-- the cells of page q whose bit is not left
+abbrev pub Passed : ℕ → ℕ → ℕ → Type 0
+Passed q left c = (c / 16 ≡ q) × (bitAt left (c % 16) ≡ 0)
+
+pub passed-within : (q left c : ℕ) → Passed q left c → Between (16 * q) (16 * (q + 1)) c
+passed-within q left c m = (omega (arith, m .0), omega (arith, m .0))
+
+-- left′ as the code has it
+pub passed-grown : {left : ℕ} (q i left′ : ℕ) → Lowest left i → left′ ≡ left - 2 ^ i → Grown (Passed q left) (16 * q + i) (Passed q left′)
+passed-grown {left} q i left′ l e =
+    record {
+      new = λ m. let z : ⊥ = omega (arith, l .on, ap (bitAt left) place, m .1) in z;
+      here = (page, ap (bitAt left′) place ∙ at i ∙ clear-same i left (l .on));
+      keeps = λ y m. (m .0, at (y % 16) ∙ keeps′ (y % 16) (m .1) (ℕ-discrete (y % 16) i));
+      split = λ y m. split′ y m (ℕ-discrete (y % 16) i);
+    }
+  where
+    place : (16 * q + i) % 16 ≡ i
+    place = omega (arith, l .lt)
+
+    page : (16 * q + i) / 16 ≡ q
+    page = omega (arith, l .lt)
+
+    at : (j : ℕ) → bitAt left′ j ≡ bitAt (left - 2 ^ i) j
+    at j = ap (λ (x : ℕ). bitAt x j) e
+
+    keeps′ : (j : ℕ) → bitAt left j ≡ 0 → Dec (j ≡ i) → bitAt (left - 2 ^ i) j ≡ 0
+    keeps′ j z (yes d) = ap (bitAt (left - 2 ^ i)) d ∙ clear-same i left (l .on)
+    keeps′ j z (no n) = clear-other i j left (l .on) n ∙ z
+
+    split′ : (y : ℕ) → Passed q left′ y → Dec (y % 16 ≡ i) → Passed q left y ⊎ (y ≡ 16 * q + i)
+    split′ y m (yes d) = inr (omega (arith, m .0))
+    split′ y m (no n) = inl (m .0, sym (clear-other i (y % 16) left (l .on) n) ∙ sym (at (y % 16)) ∙ m .1)
+
+module _ {p : Places} {r q w : ℕ} {W T : List ℕ} (a : Wiring p r (Between (16 * q) (16 * (q + 1))) W T) (e : w ≡ markOf p T q / 2 ^ 16) where
+  -- w is the upper half of the page's mark word
+  upper-copied : (c : ℕ) → c / 16 ≡ q → bitAt w (c % 16) ≡ copied p T c
+  upper-copied c d =
+      ap (λ (x : ℕ). bitAt x (c % 16)) e ∙ upper-bit (markOf p T q) (c % 16) ∙ ap (λ (x : ℕ). bitAt (markOf p T x) (16 + c % 16)) (sym d)
+
+  pub bit-old : (i : ℕ) → q < p .pages → i < 16 → bitAt w i ≡ 1 → Old p r W T (16 * q + i)
+  bit-old i l li on =
+      let d : (16 * q + i) / 16 ≡ q = omega arith in
+      let m : (16 * q + i) % 16 ≡ i = omega arith in
+      a .bits (16 * q + i) (omega arith, omega arith) (omega arith) (sym (upper-copied (16 * q + i) d) ∙ ap (bitAt w) m ∙ on)
+
+  -- a cell whose bit is not set has no copy
+  pub unset-none : (x : ℕ) → CopySlot p r (Passed q w) W T x → ⊥
+  unset-none x s =
+      let c : ℕ = s .cell in
+      omega (arith, a .only c (passed-within q w c (s .among)) (s .old), upper-copied c (s .among .0), s .among .1)
+
+-- once none is left, all cells of the page are passed
+pub within-passed : (q left c : ℕ) → left ≡ 0 → Between (16 * q) (16 * (q + 1)) c → Passed q left c
+within-passed q left c z m = (omega (arith, m .0, m .1), ap (λ (x : ℕ). bitAt x (c % 16)) z ∙ bit-zero (c % 16))
+
+-- ---- all pages
+
+-- a page without marks has no copies
+pub unmarked-slots : {p : Places} {r : ℕ} {W T : List ℕ} → Wiring p r (Between 0 (16 * p .pages)) W T → (q : ℕ) → q < p .pages → markOf p T q ≡ 0
+    → (x : ℕ) → CopySlot p r (Between 0 (16 * (q + 1))) W T x → CopySlot p r (Between 0 (16 * q)) W T x
+unmarked-slots {p} {r} {W} {T} w q l z x s = record { cell = s .cell; among = (omega arith, below (decLt (s .cell) (16 * q))); old = s .old; field = s .field }
+  where
+    m : s .cell < 16 * (q + 1)
+    m = s .among .1
+
+    below : Dec (s .cell < 16 * q) → s .cell < 16 * q
+    below (yes d) = d
+    below (no d) =
+        let e : s .cell / 16 ≡ q = omega arith in
+        let on : copied p T (s .cell) ≡ 1 = w .only (s .cell) (omega arith, omega arith) (s .old) in
+        absurd (let y : ⊥ = omega (arith, ap (λ (v : ℕ). bitAt (markOf p T v) (16 + s .cell % 16)) e, ap (λ (v : ℕ). bitAt v (16 + s .cell % 16)) z, bit-zero (16 + s .cell % 16)) in y)
+
+-- a page after those below it
+module _ {p : Places} {r q : ℕ} {W T W′ : List ℕ} (w : Wiring p r (Between 0 (16 * p .pages)) W T) (lt : q < p .pages)
+    (h : Rewritten p r (CopySlot p r (Between 0 (16 * q)) W T) W T W′) where
+  pub pages-apart : (x : ℕ) → CopySlot p r (Between (16 * q) (16 * (q + 1))) W T x → CopySlot p r (Between 0 (16 * q)) W T x → ⊥
+  pages-apart x s s′ =
+      let l : 16 * q ≤ s .cell = s .among .0 in
+      let l′ : s′ .cell < 16 * q = s′ .among .1 in
+      let m : s .cell < 16 * (q + 1) = s .among .1 in
+      let z : s .cell ≡ s′ .cell =
+      slots-apart w (s .cell) (s′ .cell) x (omega arith, omega arith) (omega arith, omega arith) (s .old) (s′ .old) (s .field) (s′ .field) in
+      omega arith
+
+  pub page-wired : Wiring p r (Between (16 * q) (16 * (q + 1))) W′ T
+  page-wired = wiring-now h (wiring-less (λ y l. (omega arith, omega (arith, l .1))) w) pages-apart

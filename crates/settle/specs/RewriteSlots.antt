@@ -1,0 +1,135 @@
+-- The remembered slots, the fields of one cell and the variables are rewritten.
+use mathlib.Core.Path.{_≡_, refl, sym, ap, _∙_, subst}
+use mathlib.Core.Logic.{_≢_, _⊎_, inl, inr, ⊎-elim}
+use mathlib.Core.List.{List}
+use Prim.Native.Nat.{ℕ, _+_, _-_, _*_, _/_, _%_, _≤_, _<_}
+use native.Mathlib.Decide.{ℕ-discrete}
+use native.Mathlib.Omega.{arith}
+use lib.ListN.{length, getD, set, length-set}
+use lib.Seq.{getD-set-same, getD-set-other}
+use Rattle.layout.specs.declared.Places.{Places}
+use Rattle.layout.specs.Places.{Room, varAt, ownerAt, varOf, slotIn, slotRegionIn}
+use Rattle.layout.specs.Cells.{fieldOf}
+use Rattle.settle.specs.Rewrite.{moveRef, move-same, Names, Rewritten, rewritten-none, rewritten-one, rewritten-join}
+
+-- ---- the remembered slots with region r
+
+-- of the first m entries
+pub record Remembered (r n m : ℕ) (M : List ℕ) (x : ℕ) : Type 0 where
+  pub entry : ℕ
+  pub low : entry < m
+  pub region : slotRegionIn n M entry ≡ r
+  pub slot : slotIn M entry ≡ x
+
+pub record Slots (p : Places) (r n m : ℕ) (W M : List ℕ) : Type 0 where
+  pub few : m ≤ n
+  pub long : 2 + 2 * n ≤ length M
+  pub pages : p .pages ≤ 1024
+  pub cells-long : 256 * p .pages ≤ length W
+  pub low : (i : ℕ) → i < m → slotIn M i < 256 * p .pages
+  pub fields : (i : ℕ) → i < m → 2 ≤ slotIn M i % 16
+  pub once : (i j : ℕ) → i < j → j < m → slotIn M i ≢ slotIn M j
+  pub names : (i : ℕ) → i < m → slotRegionIn n M i ≡ r → Names p (getD W (slotIn M i) 0)
+
+module _ {p : Places} {r n m : ℕ} {W M T W′ : List ℕ} {i : ℕ} (a : Slots p r n m W M) (lt : i < m) (h : Rewritten p r (Remembered r n i M) W T W′) where
+  fresh : Remembered r n i M (slotIn M i) → ⊥
+  fresh q = a .once (q .entry) i (q .low) lt (q .slot)
+
+  pub slot-names : slotRegionIn n M i ≡ r → Names p (getD W′ (slotIn M i) 0)
+  slot-names e = subst (λ (x : ℕ). Names p x) (sym (h .same (slotIn M i) fresh)) (a .names i lt e)
+
+  pub slot-moved : (v s : ℕ) → s ≡ slotIn M i → slotRegionIn n M i ≡ r → v ≡ moveRef p r W′ T (getD W′ s 0)
+      → Rewritten p r (Remembered r n (i + 1) M) W T (set W′ s v)
+  slot-moved v s e reg ev =
+      rewritten-join h
+      (rewritten-one s v (omega (arith, a .low i lt, a .cells-long, h .size)) (subst (λ (z : ℕ). 2 ≤ z % 16) (sym e) (a .fields i lt)) ev)
+      (λ x q z. fresh (subst (λ (y : ℕ). Remembered r n i M y) (z ∙ e) q))
+      (λ x q. from x q (ℕ-discrete (q .entry) i))
+      (λ x. ⊎-elim (λ q. record { entry = q .entry; low = omega (arith, q .low); region = q .region; slot = q .slot })
+      (λ z. record { entry = i; low = omega arith; region = reg; slot = sym (z ∙ e) }))
+    where
+      from : (x : ℕ) (q : Remembered r n (i + 1) M x) → Dec (q .entry ≡ i) → Remembered r n i M x ⊎ (x ≡ s)
+      from x q (yes z) = inr (sym (q .slot) ∙ ap (λ (y : ℕ). slotIn M y) z ∙ sym e)
+      from x q (no z) = inl (record { entry = q .entry; low = omega (arith, q .low); region = q .region; slot = q .slot })
+
+  pub slot-left : slotRegionIn n M i ≢ r → Rewritten p r (Remembered r n (i + 1) M) W T W′
+  slot-left ne =
+      rewritten-join h (rewritten-none p r (λ x. ⊥) W′ T (λ x q. q)) (λ x q z. z)
+      (λ x q. inl (from x q (ℕ-discrete (q .entry) i)))
+      (λ x. ⊎-elim (λ q. record { entry = q .entry; low = omega (arith, q .low); region = q .region; slot = q .slot }) (λ z. absurd z))
+    where
+      from : (x : ℕ) (q : Remembered r n (i + 1) M x) → Dec (q .entry ≡ i) → Remembered r n i M x
+      from x q (yes z) = absurd (ne (ap (λ (y : ℕ). slotRegionIn n M y) (sym z) ∙ q .region))
+      from x q (no z) = record { entry = q .entry; low = omega (arith, q .low); region = q .region; slot = q .slot }
+
+pub slots-start : (p : Places) (r n : ℕ) (W M T : List ℕ) → Rewritten p r (Remembered r n 0 M) W T W
+slots-start p r n W M T = rewritten-none p r (Remembered r n 0 M) W T (λ x q. omega (arith, q .low))
+
+-- ---- the fields of one cell
+
+pub record Field (d n x : ℕ) : Type 0 where
+  pub field : ℕ
+  pub low : field < n
+  pub at : x ≡ 16 * d + 2 + field
+
+pub record Fields (p : Places) (n d : ℕ) (W : List ℕ) : Type 0 where
+  pub pages : p .pages ≤ 1024
+  pub cells-long : 256 * p .pages ≤ length W
+  pub page : d / 16 < p .pages
+  pub few : n ≤ 14
+  pub names : (f : ℕ) → f < n → Names p (fieldOf W d f)
+
+pub fields-start : (p : Places) (r d : ℕ) (W T : List ℕ) → Rewritten p r (Field d 0) W T W
+fields-start p r d W T = rewritten-none p r (Field d 0) W T (λ x q. omega (arith, q .low))
+
+module _ {p : Places} {r n d : ℕ} {W T W′ : List ℕ} {f : ℕ} (a : Fields p n d W) (lt : f < n) (h : Rewritten p r (Field d f) W T W′) where
+  new : Field d f (16 * d + 2 + f) → ⊥
+  new q = omega (arith, q .low, q .at)
+
+  pub field-moved : (v : ℕ) → v ≡ moveRef p r W′ T (fieldOf W′ d f) → Rewritten p r (Field d (f + 1)) W T (set W′ (16 * d + 2 + f) v)
+  field-moved v ev =
+      rewritten-join h
+      (rewritten-one (16 * d + 2 + f) v (omega (arith, a .page, a .cells-long, h .size, a .few)) (omega (arith, a .few)) ev)
+      (λ x q z. new (subst (λ (y : ℕ). Field d f y) z q))
+      (λ x q. from x q (ℕ-discrete (q .field) f))
+      (λ x. ⊎-elim (λ q. record { field = q .field; low = omega (arith, q .low); at = q .at }) (λ z. record { field = f; low = omega arith; at = z }))
+    where
+      from : (x : ℕ) (q : Field d (f + 1) x) → Dec (q .field ≡ f) → Field d f x ⊎ (x ≡ 16 * d + 2 + f)
+      from x q (yes z) = inr (omega (arith, q .at))
+      from x q (no z) = inl (record { field = q .field; low = omega (arith, q .low); at = q .at })
+
+-- ---- the variables: those below n, counted through all threads
+
+pub record Variables (p : Places) (n r : ℕ) (W T T′ : List ℕ) : Type 0 where
+  pub size : length T′ ≡ length T
+  pub moved : (i : ℕ) → i < n → varOf p T′ i ≡ moveRef p r W T (varOf p T i)
+  pub same : (x : ℕ) → (p .vars ≤ x → p .vars + n ≤ x) → getD T′ x 0 ≡ getD T x 0
+
+pub variables-start : (p : Places) (r : ℕ) (W T : List ℕ) → Variables p 0 r W T T
+variables-start p r W T =
+    record { size = refl; moved = λ i l. absurd (let z : ⊥ = omega arith in z); same = λ x h. refl }
+
+pub variables-next : {p : Places} {n r : ℕ} {W T T′ : List ℕ} → n < p .threads * p .variables → Room p (length T) → Variables p n r W T T′ → (y : ℕ)
+    → y ≡ moveRef p r W T′ (varOf p T′ n) → Variables p (n + 1) r W T (set T′ (varAt p n) y)
+variables-next {p} {n} {r} {W} {T} {T′} m room h y e =
+    record {
+      size = length-set T′ (varAt p n) y ∙ h .size;
+      moved = λ i l. at i l (ℕ-discrete i n);
+      same = λ x k.
+          getD-set-other T′ (varAt p n) x y 0 (λ z. let w : p .vars + (n + 1) ≤ x = k (omega arith) in omega arith)
+          ∙ h .same x (λ w. let u : p .vars + (n + 1) ≤ x = k w in omega arith);
+    }
+  where
+    value : y ≡ moveRef p r W T (varOf p T n)
+    value =
+        e ∙ ap (λ (x : ℕ). moveRef p r W T′ x) (h .same (varAt p n) (λ w. omega arith))
+        ∙ move-same p r W W T T′ (varOf p T n) refl (h .same (ownerAt p ((varOf p T n - 1) / 16)) (λ w. omega (arith, room)))
+
+    at : (i : ℕ) → i < n + 1 → Dec (i ≡ n) → varOf p (set T′ (varAt p n) y) i ≡ moveRef p r W T (varOf p T i)
+    at i l (yes z) =
+        subst (λ (w : ℕ). varOf p (set T′ (varAt p n) y) w ≡ moveRef p r W T (varOf p T w)) (sym z)
+        (getD-set-same T′ (varAt p n) y 0 (omega (arith, h .size, room)) ∙ value)
+    at i l (no z) = getD-set-other T′ (varAt p n) (varAt p i) y 0 (λ q. z (omega arith)) ∙ h .moved i (omega arith)
+
+pub variables-names : {p : Places} {n r : ℕ} {W T T′ : List ℕ} → Variables p n r W T T′ → Names p (varOf p T n) → Names p (varOf p T′ n)
+variables-names {p} {n} h a = subst (λ (x : ℕ). Names p x) (sym (h .same (varAt p n) (λ w. omega arith))) a

@@ -1,0 +1,156 @@
+// Settle, after the copying: references into the ending region go by the forward references, in the remembered slots, the variables and the
+// copies' own slots, and the remember table follows. The copies' slots are gone over once: each becomes what it is to be, and if it crosses
+// then, its entry comes.
+pub mod remember;
+pub mod rewrite;
+
+ghost use mathlib.Core.Path.{_≡_};
+ghost use Prim.Native.Nat.{ℕ, _+_, _*_, _<_, max};
+ghost use lib.ListN.{length};
+ghost use Rattle.lists.specs.Part.{Rises, Off};
+ghost use Rattle.layout.specs.Places.{Room, markOf, usedIn};
+ghost use Rattle.layout.specs.Cells.{refsOf};
+ghost use Rattle.settle.specs.Rewrite.{Rewritten};
+ghost use Rattle.settle.specs.RewriteSlots.{Field, Fields};
+ghost use Rattle.settle.specs.RewriteCopies.{CopySlot, Wiring, Between};
+ghost use Rattle.settle.specs.Update.{Copies, Updated};
+ghost use Rattle.settle.specs.Settle.{Settling, Settled};
+ghost use Rattle.settle.specs.Final.{Settles};
+use crate::remember::clear_entries;
+use crate::remember::cross;
+use crate::remember::filter_entries;
+use crate::rewrite::forward_ref;
+use layout::Kind;
+use layout::Places;
+
+// The reference fields of a copy. Those that cross come after the first j entries; how many there are then.
+pub fn settle_cell(
+    p: Places,
+    cells: &mut [u32],
+    remember: &mut [u32],
+    tables: &[u32],
+    region: u32,
+    cell: usize,
+    j: usize,
+) -> usize
+    requires { ⌜ Fields p (refsOf (now cells) cell) cell (now cells) ⌝ }
+    requires { ⌜ Settling p region (p .entries) (Field cell (refsOf (now cells) cell)) (now cells) (now remember) (now tables) j ⌝ }
+    requires { ⌜ Room p (length (now tables)) ⌝ }
+    ensures { λ i. ⌜ Settled p region (p .entries) (Field cell (refsOf (now (cells .entry)) cell)) (now (cells .entry)) (now (remember .entry)) (now (tables .entry)) j (now (cells .exit)) (now (remember .exit)) i ⌝ }
+{
+    let entries = p.entries;
+    let n = layout::cells::field_count(Kind::Reference, layout::cells::head(cells, cell));
+    let from = layout::tables::owner(p, tables, layout::cells::page_of(cell));
+    let mut i = j;
+    let mut f: usize = 0;
+    while f < n {
+        let x = forward_ref(
+            p,
+            cells,
+            tables,
+            region,
+            layout::cells::field(cells, cell, f),
+        );
+        let to = cross(p, tables, from, x);
+        layout::cells::set_field(cells, cell, f, x);
+        if to != 0 {
+            layout::remember::set_slot(
+                entries,
+                remember,
+                i,
+                layout::cells::field_at(cell, f) as u32,
+            );
+            layout::remember::set_region(entries, remember, i, to);
+            i += 1;
+        }
+        f += 1;
+    }
+    i
+}
+
+// Those of the copies of a page's survivors: as many as the upper half of its mark word has ones.
+pub fn settle_page(
+    p: Places,
+    cells: &mut [u32],
+    remember: &mut [u32],
+    tables: &[u32],
+    region: u32,
+    page: usize,
+    j: usize,
+) -> usize
+    requires { ⌜ Wiring p region (Between (16 * page) (16 * (page + 1))) (now cells) (now tables) ⌝ }
+    requires { ⌜ Settling p region (p .entries) (CopySlot p region (Between (16 * page) (16 * (page + 1))) (now cells) (now tables)) (now cells) (now remember) (now tables) j ⌝ }
+    requires { ⌜ page < p .pages ⌝ }
+    ensures { λ i. ⌜ Settled p region (p .entries) (CopySlot p region (Between (16 * page) (16 * (page + 1))) (now (cells .entry)) (now (tables .entry))) (now (cells .entry)) (now (remember .entry)) (now (tables .entry)) j (now (cells .exit)) (now (remember .exit)) i ⌝ }
+{
+    let copied = layout::bits::upper_half(layout::tables::mark(p, tables, page));
+    let survivors = u32::count_ones(copied);
+    let mut i = j;
+    let mut left = copied;
+    let mut k: u32 = 0;
+    while k < survivors {
+        let a = u32::trailing_zeros(left);
+        let forward = layout::cells::work(cells, layout::cells::cell_on(page, layout::wide(a)));
+        let copy = layout::cells::cell_named(forward);
+        i = settle_cell(p, cells, remember, tables, region, copy, i);
+        left = layout::bits::without_bit(left, a);
+        k += 1;
+    }
+    i
+}
+
+// Those of all copies. Survivors were copied off listed pages only.
+pub fn settle_copies(
+    p: Places,
+    cells: &mut [u32],
+    remember: &mut [u32],
+    tables: &[u32],
+    list: &[u32],
+    n: usize,
+    region: u32,
+    j: usize,
+) -> usize
+    requires { ⌜ Wiring p region (Between 0 (16 * p .pages)) (now cells) (now tables) ⌝ }
+    requires { ⌜ Settling p region (p .entries) (CopySlot p region (Between 0 (16 * p .pages)) (now cells) (now tables)) (now cells) (now remember) (now tables) j ⌝ }
+    requires { ⌜ Rises (p .pages) n (now list) ⌝ }
+    requires { ⌜ ((page : ℕ) → page < p .pages → Off (now list) n page → markOf p (now tables) page ≡ 0) ⌝ }
+    ensures { λ i. ⌜ Settled p region (p .entries) (CopySlot p region (Between 0 (16 * p .pages)) (now (cells .entry)) (now (tables .entry))) (now (cells .entry)) (now (remember .entry)) (now (tables .entry)) j (now (cells .exit)) (now (remember .exit)) i ⌝ }
+{
+    let mut i = j;
+    let mut a: usize = 0;
+    while a < n {
+        i = settle_page(p, cells, remember, tables, region, layout::wide(list[a]), i);
+        a += 1;
+    }
+    i
+}
+
+fn larger(a: usize, b: usize) -> usize
+    ensures { λ r. ⌜ r ≡ max a b ⌝ }
+{
+    if a < b { b } else { a }
+}
+
+// The copies' slots and the remember table after the end: the entries that stay, those of the copies, then zeros.
+pub fn settle(
+    p: Places,
+    cells: &mut [u32],
+    remember: &mut [u32],
+    tables: &[u32],
+    list: &[u32],
+    n: usize,
+    region: u32,
+)
+    requires { ⌜ Settles p region (p .entries) (usedIn (now remember)) (now cells) (now remember) (now tables) ⌝ }
+    requires { ⌜ Rises (p .pages) n (now list) ⌝ }
+    requires { ⌜ ((page : ℕ) → page < p .pages → Off (now list) n page → markOf p (now tables) page ≡ 0) ⌝ }
+    ensures { λ _. ⌜ Rewritten p region (Copies p region (now (cells .entry)) (now (tables .entry))) (now (cells .entry)) (now (tables .entry)) (now (cells .exit)) ⌝ }
+    ensures { λ _. ⌜ Updated p region (p .entries) (usedIn (now (remember .entry))) (now (cells .exit)) (now (remember .entry)) (now (tables .entry)) (now (remember .exit)) ⌝ }
+{
+    let entries = p.entries;
+    let used = layout::wide(layout::remember::used(remember));
+    let kept = filter_entries(p, cells, remember, tables, region, used);
+    let all = settle_copies(p, cells, remember, tables, list, n, region, kept);
+    clear_entries(entries, remember, all, larger(all, used));
+    layout::remember::set_used(remember, all as u32);
+}
