@@ -6,7 +6,7 @@ use mathlib.Core.Path.{_≡_, sym, ap, ap₂, _∙_}
 use mathlib.Core.Bool.{Bool}
 use lib.ListN.{set}
 use lib.Dec.{ltb, leb}
-use borrow.Author.Tests.{lt-ltb, le-leb, lt-leb}
+use borrow.Author.Tests.{lt-ltb, le-leb}
 use Rattle.rules.specs.declared.Sizes.{Sizes}
 use Rattle.rules.specs.Terms.{ask, refused, limits}
 use Rattle.rules.specs.NeverFreeing as nf
@@ -77,15 +77,6 @@ module _ (s : Sizes) (w : Words) (whole : WholeFor s w) (t : ℕ) (th : t < s .t
         (sym (heap-free s w (heapOf s w) (λ x. x) base))
         ∙ ap (λ (n : ℕ). ask (leb (pagesNeeded s w t k) (pagesOwned s w 0)) 13 (ask (leb n (s .entries)) 14 0)) crossing-after
 
-    pub end-pageless : pagesOwned s w 0 < (pagesNeeded s w t k) → ru.question s (heapOf s w) (endOf t) ≡ 13
-    unfolding ask
-    end-pageless l = end-question ∙ ap (λ (b : Bool). ask b 13 (ask (leb (crossingAfter s w t k) (s .entries)) 14 0)) (lt-leb (pagesNeeded s w t k) (pagesOwned s w 0) l)
-
-    pub end-full : (pagesNeeded s w t k) ≤ pagesOwned s w 0 → s .entries < (crossingAfter s w t k) → ru.question s (heapOf s w) (endOf t) ≡ 14
-    unfolding ask
-    end-full l m =
-        end-question ∙ ap₂ (λ (b c : Bool). ask b 13 (ask c 14 0)) (le-leb (pagesNeeded s w t k) (pagesOwned s w 0) l) (lt-leb (crossingAfter s w t k) (s .entries) m)
-
     pub end-accepted : (pagesNeeded s w t k) ≤ pagesOwned s w 0 → (crossingAfter s w t k) ≤ s .entries → ru.question s (heapOf s w) (endOf t) ≡ 0
     unfolding ask
     end-accepted l m =
@@ -98,9 +89,3 @@ module _ (s : Sizes) (w : Words) (whole : WholeFor s w) (t : ℕ) (th : t < s .t
 
   pub refused-shut : depthIn w t ≡ 0 → DidHere s w (endOf t) w (refused 12)
   refused-shut z = ended-refused 12 (omega arith) (end-shut z)
-
-  pub refused-pageless : (k : ℕ) (deep : depthIn w t ≡ suc k) → pagesOwned s w 0 < (pagesNeeded s w t k) → DidHere s w (endOf t) w (refused 13)
-  refused-pageless k deep l = ended-refused 13 (omega arith) (end-pageless k deep l)
-
-  pub refused-full : (k : ℕ) (deep : depthIn w t ≡ suc k) → (pagesNeeded s w t k) ≤ pagesOwned s w 0 → s .entries < crossingAfter s w t k → DidHere s w (endOf t) w (refused 14)
-  refused-full k deep l m = ended-refused 14 (omega arith) (end-full k deep l m)
