@@ -57,5 +57,3 @@ module _ {p : Places} {W T : List ℕ} {r : ℕ} where
         crossing = omega (arith, c .crossing, over-more p T (cellCrosses p W T r) page 0 (omega arith), bits-none (λ i. cellCrosses p W T r (cellOn page i)));
         few = omega (arith, c .few);
       }
-
--- ---- the pass over the listed pages

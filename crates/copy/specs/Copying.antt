@@ -18,7 +18,8 @@ use Rattle.layout.specs.Cells.{workOf}
 use Rattle.layout.specs.Marks.{marked}
 use Rattle.promises.specs.Whole.{objectsOf}
 use Rattle.copy.specs.Marks.{copied, mark?, all-clear, hits}
-use Rattle.copy.specs.Taking.{regionsOf, pagesOwned, Next}
+use Rattle.pages.specs.Owned.{regionsOf}
+use Rattle.copy.specs.Taking.{pagesOwned, Next}
 use Rattle.copy.specs.Cursor.{Points, Seeking}
 use Rattle.copy.specs.Moves.{Movable, Step, step-off, step-on, step-points}
 use Rattle.copy.specs.Passing.{Ready, Moves, Moves.none, Moves.more, order, moves-later, moves-append, moves-map, moves-ready, moves-back, moves-bits, moves-marks, step-back, Others, moves-others, Spent, moves-spent, Passing, moves-passing, hit-some, passing-usable, passing-movable, Pass}

@@ -8,7 +8,8 @@ use native.Mathlib.Omega.{arith}
 use Rattle.layout.specs.declared.Places.{Places}
 use Rattle.layout.specs.Places.{ownerOf, usedOf}
 use Rattle.pages.specs.Pages.{Found}
-use Rattle.copy.specs.Taking.{regionsOf, Usable, Next, Took, Regular, took-owner}
+use Rattle.pages.specs.Owned.{regionsOf}
+use Rattle.copy.specs.Taking.{Usable, Next, Took, Regular, took-owner}
 
 -- page q has no room
 pub record Full (p : Places) (T : List ℕ) (q : ℕ) : Type 0 where
@@ -18,7 +19,7 @@ pub record Full (p : Places) (T : List ℕ) (q : ℕ) : Type 0 where
 abbrev pub Points : (p : Places) (T : List ℕ) (g page : ℕ) → Type 0
 Points p T g page = Found p T g page ⊎ Full p T page
 
--- a page for one more object of g is sought from page on
+-- the pass is at this page, and one more object of g finds a page
 pub record Seeking (p : Places) (g : ℕ) (T : List ℕ) (page : ℕ) : Type 0 where
   pub regular : Regular p T
   pub real : 1 ≤ g

@@ -19,7 +19,8 @@ use Rattle.promises.specs.Whole.{objectsOn, objectsOf}
 use Rattle.pages.specs.Pages.{Partly}
 use Rattle.copy.specs.Marks.{marksAt, copied, raised, raised-off, raised-on, raised-other, sameThen, then-yes, then-no}
 use Rattle.copy.specs.Cursor.{Points, took-points, points-same}
-use Rattle.copy.specs.Taking.{regionsOf, endOf, ownedOn, pagesOwned, Next, Took, Regular, took-length, took-other, took-marks, took-regular, took-objects, took-objects-other, took-pages, took-new, took-in-use, took-home, took-keeps, took-only}
+use Rattle.pages.specs.Owned.{regionsOf}
+use Rattle.copy.specs.Taking.{endOf, ownedOn, pagesOwned, Next, Took, Regular, took-length, took-other, took-marks, took-regular, took-objects, took-objects-other, took-pages, took-new, took-in-use, took-home, took-keeps, took-only}
 
 -- ---- the words of a cell
 

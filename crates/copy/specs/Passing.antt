@@ -15,7 +15,8 @@ use Rattle.layout.specs.Marks.{marked}
 use Rattle.promises.specs.Words.{InUse}
 use Rattle.promises.specs.Whole.{objectsOf}
 use Rattle.copy.specs.Marks.{copied, mark?, hit, hit-yes, hit-no, hit-same, hits}
-use Rattle.copy.specs.Taking.{regionsOf, pagesOwned, Usable, Next, Regular, usable}
+use Rattle.pages.specs.Owned.{regionsOf}
+use Rattle.copy.specs.Taking.{pagesOwned, Usable, Next, Regular, usable}
 use Rattle.copy.specs.Moves.{Movable, Step, step-regular, step-size, step-objects, step-objects-other, step-pages, step-marks, step-off, step-on, step-copied-other, step-bits, step-keeps, step-link}
 
 -- what holds before and after each move

@@ -17,13 +17,9 @@ use Rattle.layout.specs.Places.{Room, ownerAt, usedAt, markAt, countAt, ownerOf
 use Rattle.layout.specs.Cells.{cellOn}
 use Rattle.promises.specs.Words.{InUse}
 use Rattle.promises.specs.Whole.{objectsOn, objectsOf}
-use Rattle.pages.specs.Owned.{ownedOne, ownedIn}
+use Rattle.pages.specs.Owned.{ownedOne, ownedIn, regionsOf}
 use Rattle.pages.specs.Pages.{Partly, Found, Filled, taken}
 use Rattle.copy.specs.Marks.{sameThen, then-yes, then-no}
-
--- the regions are numbered from 1 to this, and the tables end behind their counts
-abbrev pub regionsOf : Places → ℕ
-regionsOf p = 1 + p .threads * p .depth
 
 abbrev pub endOf : Places → ℕ
 endOf p = p .counts + 1 + p .threads * p .depth

@@ -1,4 +1,4 @@
-// Place and copy: targets in rising region number, survivors in rising cell number, each to the cell that a new object there would take.
+// Place and copy: targets in rising level, survivors in rising cell number, each to the cell that a new object there would take.
 ghost use mathlib.Core.Logic.{_≢_};
 ghost use mathlib.Core.Path.{_≡_};
 ghost use Prim.Native.Nat.{ℕ, _+_, _*_, _/_, _<_, _≤_};
@@ -8,7 +8,8 @@ ghost use Rattle.rules.specs.Regions.{regionAt};
 ghost use Rattle.layout.specs.Places.{markOf, sizesOf};
 ghost use Rattle.pages.specs.Pages.{noteWords};
 ghost use Rattle.copy.specs.Marks.{hits};
-ghost use Rattle.copy.specs.Taking.{regionsOf, Next};
+ghost use Rattle.pages.specs.Owned.{regionsOf};
+ghost use Rattle.copy.specs.Taking.{Next};
 ghost use Rattle.copy.specs.Cursor.{Points, Seeking};
 ghost use Rattle.copy.specs.Moves.{Copied, Movable, Step};
 ghost use Rattle.copy.specs.Passing.{Passing, Pass, order};
@@ -141,7 +142,7 @@ pub fn copy_survivors(
     requires { ⌜ Rises (p .pages) n (now list) ⌝ }
     requires { ⌜ ((page : ℕ) → page < p .pages → Off (now list) n page → markOf p (now tables) page ≡ 0) ⌝ }
     requires { ⌜ ((g : ℕ) → 1 ≤ g → g ≤ regionsOf p → getD (now come) g 0 ≡ 0 → hits p (now cells) (now tables) g ≡ 0) ⌝ }
-    requires { ⌜ (noteWords ≤ length (now notes)) × (noteWords ≤ length (now come)) ⌝ }
+    requires { ⌜ (noteWords ≤ length (now notes)) × (regionsOf p < length (now come)) ⌝ }
     ensures { λ _. ⌜ Copy p levels (regionAt (sizesOf p) thread) levels (now (cells .entry)) (now (tables .entry)) (now (cells .exit)) (now (tables .exit)) ⌝ }
 {
     let mut level: usize = 0;

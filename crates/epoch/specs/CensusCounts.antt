@@ -43,15 +43,31 @@ needsBelow p W T t n = sum (λ l. levelNeeds p W T (regionAt (sizesOf p) t l)) n
 
 -- ---- as the code counts
 
--- arrivals and have are as the code has them
-module _ (p : Places) (W T : List ℕ) (g arrivals : ℕ) (e : arrivals ≡ overMarked p T (goesTo W g) (p .pages)) where
-  pub level-none : arrivals ≡ 0 → 0 ≡ levelNeeds p W T g
-  unfolding levelNeeds
-  level-none z = omega (arith, e)
+-- the same by the arrivals that come says
+unfoldable pub levelMore : Places → List ℕ → List ℕ → ℕ → ℕ
+levelMore p T come g = morePages (countOf p T g) (getD come g 0)
 
-  pub level-some : (have : ℕ) → have ≡ countOf p T g → (have + arrivals + 15) / 16 - (have + 15) / 16 ≡ levelNeeds p W T g
-  unfolding levelNeeds
-  level-some have h = ap₂ (λ (a b : ℕ). morePages a b) h e
+abbrev pub moreBelow : Places → List ℕ → List ℕ → ℕ → ℕ → ℕ
+moreBelow p T come t n = sum (λ l. levelMore p T come (regionAt (sizesOf p) t l)) n
+
+pub more-needs : (p : Places) (W T come : List ℕ) (t n : ℕ) → Arrivals p W T (p .pages) come → moreBelow p T come t n ≡ needsBelow p W T t n
+unfolding levelMore levelNeeds
+more-needs p W T come t n a = sum-same _ _ n (λ l h. ap (morePages (countOf p T (regionAt (sizesOf p) t l))) (a (regionAt (sizesOf p) t l)))
+
+-- arrivals and have are as the code has them
+module _ (p : Places) (T come : List ℕ) (g arrivals : ℕ) (e : arrivals ≡ getD come g 0) where
+  pub more-none : arrivals ≡ 0 → 0 ≡ levelMore p T come g
+  unfolding levelMore
+  more-none z = omega (arith, e)
+
+  pub more-some : (have : ℕ) → have ≡ countOf p T g → (have + arrivals + 15) / 16 - (have + 15) / 16 ≡ levelMore p T come g
+  unfolding levelMore
+  more-some have h = ap₂ (λ (a b : ℕ). morePages a b) h e
+
+-- none for a region that nobody goes to
+pub needs-none : (p : Places) (W T : List ℕ) (g : ℕ) → overMarked p T (goesTo W g) (p .pages) ≡ 0 → levelNeeds p W T g ≡ 0
+unfolding levelNeeds
+needs-none p W T g z = omega (arith, z)
 
 -- questions 13 and 14 on marked words, as the code asks them: the regions of thread t at the levels below n grow, the one at level n ends
 unfoldable pub roomAsked : Places → List ℕ → List ℕ → List ℕ → ℕ → ℕ → ℕ

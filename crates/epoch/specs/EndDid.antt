@@ -42,7 +42,7 @@ use Rattle.evacuation.specs.AfterEvacuation.{evacuation-evacuated}
 use Rattle.ended.specs.AfterEnd.{endOf}
 use Rattle.ended.specs.EndQuestion.{pagesNeeded, crossingAfter, end-question, refused-shut, ended-refused}
 use Rattle.ended.specs.EvacuatedDid.{ended-did}
-use Rattle.epoch.specs.CensusCounts.{needsBelow, roomAsked, asked-none, level-none, needs-are, free-are, crossing-are, targets-low}
+use Rattle.epoch.specs.CensusCounts.{needsBelow, roomAsked, asked-none, needs-none, needs-are, free-are, crossing-are, targets-low}
 use Rattle.epoch.specs.MayEvacuate.{before-same, before}
 
 -- both were answered with yes
@@ -248,7 +248,7 @@ module _ {p : Places} {t : ℕ} {w w₁ : Words} (m : Ending p t w w₁) where
         no-pages : needsBelow p (w₁ .cells) (w₁ .tables) t (depthOf (w₁ .tables) t) ≡ 0
         no-pages =
             sum-none _ (depthOf (w₁ .tables) t)
-            (λ l h. sym (level-none p (w₁ .cells) (w₁ .tables) (regionAt s t l) 0 (sym (over-none p (w₁ .tables) (goesTo (w₁ .cells) (regionAt s t l)) (p .pages) none)) refl))
+            (λ l h. needs-none p (w₁ .cells) (w₁ .tables) (regionAt s t l) (over-none p (w₁ .tables) (goesTo (w₁ .cells) (regionAt s t l)) (p .pages) none))
 
         crosses : ce.crossingAfter p (w₁ .cells) (w₁ .remember) (w₁ .tables) region ≤ usedIn (w₁ .remember)
         crosses =

@@ -1,23 +1,22 @@
 // Questions 13 and 14: the new pages that the regions around the ending one need, against the free pages; the slots that would cross, against
 // the entries.
 ghost use mathlib.Core.Path.{_≡_};
-ghost use mathlib.Core.List.{List};
-ghost use Prim.Native.Nat.{ℕ, _^_, _<_, _≤_};
+ghost use Prim.Native.Nat.{_^_, _<_, _≤_};
 ghost use lib.ListN.{length};
 ghost use Rattle.rules.specs.Regions.{regionAt, regions};
 ghost use Rattle.layout.specs.Places.{Room, sizesOf};
 ghost use Rattle.pages.specs.Owned.{Paged};
 ghost use Rattle.mark.specs.Marks.{Shaped};
 ghost use Rattle.mark.specs.Holders.{Holding};
-ghost use Rattle.census.specs.Census.{Arrivals, Census};
-ghost use Rattle.epoch.specs.CensusCounts.{levelNeeds, needsBelow, roomAsked};
+ghost use Rattle.census.specs.Census.{Census};
+ghost use Rattle.epoch.specs.CensusCounts.{levelMore, moreBelow, roomAsked};
 use layout::Places;
 
-// How many new pages region g needs for the survivors that go to it: none where none goes.
+// How many new pages region g needs for the survivors that go to it, which `come` counts: none where none goes.
 pub fn level_pages(p: Places, tables: &[u32], come: &[u32], g: u32) -> usize
     requires { ⌜ Room p (length (now tables)) ⌝ }
     requires { ⌜ (1 ≤ g) × (g ≤ regions (sizesOf p)) × (regions (sizesOf p) < length (now come)) ⌝ }
-    ensures { λ n. ⌜ ((W : List ℕ) → Arrivals p W (now (tables .entry)) (p .pages) (now (come .entry)) → n ≡ levelNeeds p W (now (tables .entry)) g) ⌝ }
+    ensures { λ n. ⌜ n ≡ levelMore p (now (tables .entry)) (now (come .entry)) g ⌝ }
     ensures { λ n. ⌜ n ≤ 2 ^ 28 ⌝ }
 {
     let region = layout::wide(g);
@@ -34,7 +33,7 @@ pub fn needed_pages(p: Places, tables: &[u32], come: &[u32], thread: usize, leve
     requires { ⌜ Room p (length (now tables)) ⌝ }
     requires { ⌜ regions (sizesOf p) < length (now come) ⌝ }
     requires { ⌜ (thread < p .threads) × (levels ≤ p .depth) ⌝ }
-    ensures { λ n. ⌜ ((W : List ℕ) → Arrivals p W (now (tables .entry)) (p .pages) (now (come .entry)) → n ≡ needsBelow p W (now (tables .entry)) thread levels) ⌝ }
+    ensures { λ n. ⌜ n ≡ moreBelow p (now (tables .entry)) (now (come .entry)) thread levels ⌝ }
 {
     let mut n: usize = 0;
     let mut level: usize = 0;

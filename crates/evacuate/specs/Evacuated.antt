@@ -19,7 +19,8 @@ use Rattle.promises.specs.Words.{InUse}
 use Rattle.promises.specs.Whole.{objectsOn}
 use Rattle.pages.specs.Pages.{Partly}
 use Rattle.copy.specs.Marks.{mark?, sameThen}
-use Rattle.copy.specs.Taking.{regionsOf, endOf, Regular, room-same}
+use Rattle.pages.specs.Owned.{regionsOf}
+use Rattle.copy.specs.Taking.{endOf, Regular, room-same}
 use Rattle.copy.specs.Passing.{Ready, moves-ready}
 use Rattle.copy.specs.Copying.{no-survivors, copy-marks}
 use Rattle.copy.specs.Forward.{forward}

@@ -12,7 +12,7 @@ use Rattle.promises.specs.Words.{InUse}
 use Rattle.promises.specs.Crossing.{crossTo, other, regionOf}
 use Rattle.promises.specs.Slots.{Slot, region-of, slot-low, slot-cross, cross-slot}
 use Rattle.promises.specs.Whole.{EntryWhole, RememberWhole}
-use Rattle.copy.specs.Taking.{regionsOf}
+use Rattle.pages.specs.Owned.{regionsOf}
 use Rattle.copy.specs.Passing.{Ready}
 use Rattle.settle.specs.Entries.{crossOf, otherThan, cross-null, cross-ref}
 use Rattle.settle.specs.Append.{crossAt, Crosses}

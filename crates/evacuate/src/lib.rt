@@ -8,7 +8,7 @@ ghost use Rattle.layout.specs.Places.{depthOf, ownerOf, markOf, usedIn, sizesOf
 ghost use Rattle.rules.specs.Regions.{regionAt};
 ghost use Rattle.pages.specs.Pages.{noteWords};
 ghost use Rattle.copy.specs.Marks.{hits};
-ghost use Rattle.copy.specs.Taking.{regionsOf};
+ghost use Rattle.pages.specs.Owned.{regionsOf};
 ghost use Rattle.evacuate.specs.Stages.{Before, Finished};
 use layout::Places;
 
@@ -29,7 +29,7 @@ pub fn evacuate(
     requires { ⌜ (thread < p .threads) × (1 ≤ depthOf (now tables) thread) × (depthOf (now tables) thread ≤ p .depth) ⌝ }
     requires { ⌜ Lists (λ page. ownerOf p (now tables) page ≡ regionAt (sizesOf p) thread (depthOf (now tables) thread)) (p .pages) n (now list) ⌝ }
     requires { ⌜ ((g : ℕ) → 1 ≤ g → g ≤ regionsOf p → getD (now come) g 0 ≡ 0 → hits p (now cells) (now tables) g ≡ 0) ⌝ }
-    requires { ⌜ (noteWords ≤ length (now notes)) × (noteWords ≤ length (now come)) ⌝ }
+    requires { ⌜ (noteWords ≤ length (now notes)) × (regionsOf p < length (now come)) ⌝ }
     ensures { λ _. ⌜ Finished p (regionAt (sizesOf p) thread (depthOf (now (tables .entry)) thread)) (p .entries) (usedIn (now (remember .entry))) (depthOf (now (tables .entry)) thread) thread (regionAt (sizesOf p) thread) (now (cells .entry)) (now (remember .entry)) (now (tables .entry)) (now (cells .exit)) (now (remember .exit)) (now (tables .exit)) ⌝ }
 {
     let level = layout::wide(layout::tables::depth(p, tables, thread));

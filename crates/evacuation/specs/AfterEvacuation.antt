@@ -23,7 +23,7 @@ use Rattle.promises.specs.Whole.{WholeFor, Open}
 use Rattle.promises.specs.StandsFor.{SameFrom}
 use Rattle.promises.specs.Reading.{range, tables-room, used-home}
 use Rattle.mark.specs.Survivors.{Marked}
-use Rattle.copy.specs.Taking.{regionsOf}
+use Rattle.pages.specs.Owned.{regionsOf}
 use Rattle.copy.specs.Copying.{region-bounds}
 use Rattle.evacuate.specs.Stages.{Lives, Before, Finished}
 use Rattle.evacuate.specs.Evacuated as ev

@@ -1,7 +1,7 @@
 -- A rising list of numbers below P, and passes over it. What a pass has done of the listed numbers it has done of every number below a
 -- bound, where the numbers that are not listed ask for nothing: so a pass over the list is said as a pass over all numbers.
 use Prim.Native.Nat.{ℕ, zero, suc, _+_, _-_, _≤_, _<_}
-use mathlib.Core.Path.{_≡_, sym, subst}
+use mathlib.Core.Path.{_≡_, subst}
 use mathlib.Core.List.{List}
 use native.Mathlib.Omega.{arith}
 use native.Mathlib.Decide.{decLt}
@@ -78,14 +78,7 @@ pub through-end : (P n : ℕ) (l : List ℕ) (Done : ℕ → Type 0) (i : ℕ) �
 through-end P n l Done i r h k d =
     d P (record { low = omega arith; passed = λ j m. r .low j (omega arith); ahead = λ j m o. absurd (let z : ⊥ = omega arith in z) })
 
--- ---- the last of the list, an empty list
-
-pub rises-last : {P n : ℕ} {l : List ℕ} → Rises P n l → (i : ℕ) → i < n → getD l i 0 ≤ getD l (n - 1) 0
-rises-last {P} {n} {l} r i h = go (decLt i (n - 1))
-  where
-    go : Dec (i < n - 1) → getD l i 0 ≤ getD l (n - 1) 0
-    go (yes d) = omega (arith, r .rising i (n - 1) d (omega arith))
-    go (no d) = subst (λ (y : ℕ). getD l i 0 ≤ getD l y 0) (let e : i ≡ n - 1 = omega arith in e) (omega arith)
+-- ---- an empty list
 
 pub lists-none : {E : ℕ → Type 0} {P : ℕ} (l : List ℕ) → ((q : ℕ) → q < P → E q → ⊥) → Lists E P 0 l
 lists-none {E} {P} l no-one =

@@ -34,8 +34,8 @@ pub owned-le : (p : Places) (t : List ℕ) (g page : ℕ) → ownedOne p t g pag
 unfolding ownedOne
 owned-le p t g page = bit-le-one (eqb (ownerOf p t page) g)
 
-pub owned-few : (p : Places) (t : List ℕ) (g n : ℕ) → ownedIn p t g n ≤ 1 * n
-owned-few p t g n = sum-high (ownedOne p t g) 1 n (λ page l. owned-le p t g page)
+pub owned-few : (p : Places) (t : List ℕ) (g n : ℕ) → ownedIn p t g n ≤ n
+owned-few p t g n = omega (arith, sum-high (ownedOne p t g) 1 n (λ page l. owned-le p t g page))
 
 -- every region owns the pages that its objects fill, and every page is free or a region's
 pub record Paged (p : Places) (t : List ℕ) : Type 0 where

@@ -4,7 +4,7 @@ use mathlib.Core.Logic.{_≢_, _⊎_, inl, inr}
 use mathlib.Core.List.{List}
 use mathlib.Core.Bool.{Bool, true}
 use lib.Dec.{eqb}
-use Prim.Native.Nat.{ℕ, _+_, _-_, _*_, _%_, _≤_, _<_}
+use Prim.Native.Nat.{ℕ, _+_, _-_, _%_, _≤_, _<_}
 use native.Mathlib.Nat.{mul-le-mul}
 use native.Mathlib.Decide.{decLt, ℕ-discrete}
 use native.Mathlib.Omega.{arith}
@@ -13,6 +13,7 @@ use Rattle.lists.specs.Below.{upto}
 use Rattle.layout.specs.declared.Places.{Places}
 use Rattle.layout.specs.Places.{Room, ownerAt, usedAt, countAt, ownerOf, usedOf, countOf}
 use Rattle.promises.specs.Whole.{Partial}
+use Rattle.pages.specs.Owned.{regionsOf}
 
 -- the partly filled page of region g
 pub record Partly (p : Places) (t : List ℕ) (g page : ℕ) : Type 0 where
@@ -45,7 +46,7 @@ pub record Highest (p : Places) (t : List ℕ) (low high page : ℕ) : Type 0 wh
 abbrev pub noteWords : ℕ
 noteWords = 130
 
-pub note-low : {p : Places} {n : ℕ} (region : ℕ) → Room p n → region ≤ 1 + p .threads * p .depth → region < noteWords
+pub note-low : {p : Places} {n : ℕ} (region : ℕ) → Room p n → region ≤ regionsOf p → region < noteWords
 note-low region r l = omega (arith, mul-le-mul (r .threads-high) (r .depth-high))
 
 -- the page of the next object is a page or the number of pages

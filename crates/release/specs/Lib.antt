@@ -1,2 +1,3 @@
 -- The ending region's pages go back.
 pub mod Release
+pub mod Notes

@@ -14,7 +14,8 @@ use Rattle.promises.specs.Words.{InUse}
 use Rattle.promises.specs.Whole.{objectsOn, objectsOf}
 use Rattle.pages.specs.Pages.{Partly}
 use Rattle.copy.specs.Marks.{sameThen, then-no}
-use Rattle.copy.specs.Taking.{regionsOf, Regular}
+use Rattle.pages.specs.Owned.{regionsOf}
+use Rattle.copy.specs.Taking.{Regular}
 
 -- the three words of page q
 pub record Blank (p : Places) (T : List ℕ) (q : ℕ) : Type 0 where

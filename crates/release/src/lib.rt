@@ -1,11 +1,13 @@
 // Release: the pages of the ending region become free, its count 0, the depth of its thread one less.
 ghost use mathlib.Core.Path.{_≡_};
 ghost use Prim.Native.Nat.{ℕ, _<_, _≤_};
-ghost use lib.ListN.{length, getD};
+ghost use lib.ListN.{length};
 ghost use Rattle.lists.specs.Part.{Lists, Rises};
 ghost use Rattle.layout.specs.Places.{Room, ownerOf, depthOf};
 ghost use Rattle.pages.specs.Pages.{noteWords};
-ghost use Rattle.copy.specs.Taking.{regionsOf, Regular};
+ghost use Rattle.pages.specs.Owned.{regionsOf};
+ghost use Rattle.copy.specs.Taking.{Regular};
+ghost use Rattle.release.specs.Notes.{noted};
 ghost use Rattle.release.specs.Release.{Released, Ended};
 use layout::Places;
 
@@ -29,7 +31,7 @@ pub fn release_pages(p: Places, tables: &mut [u32], list: &[u32], n: usize, regi
 fn note_released(p: Places, notes: &mut [u32], list: &[u32], n: usize)
     requires { ⌜ Rises (p .pages) n (now list) ⌝ }
     requires { ⌜ (p .pages ≤ 1024) × (noteWords ≤ length (now notes)) ⌝ }
-    ensures { λ _. ⌜ ((i : ℕ) → i < n → getD (now (list .entry)) i 0 < getD (now (notes .exit)) 0 0) ⌝ }
+    ensures { λ _. ⌜ now (notes .exit) ≡ noted (now (notes .entry)) (now (list .entry)) n ⌝ }
 {
     if n != 0 {
         let last = list[n - 1];

@@ -102,7 +102,7 @@ evacuate-requires c κs =
           listed m er (c .before .before .before .before .before .before .before .before .before .before .before .before .before .before .before .before .before .before .before .list-pages .ensures),
           (
             (λ g a b z. sym (arrivals-hits (c .before .before .before .before .before .before .before .before .before .before .before .before .before .before .before .before .before .before .before .before .before .before .before .before .before .before .before .before .before .before .args .p) (c .before .before .before .before .before .before .before .before .before .before .before .before .before .before .before .before .before .before .before .before .before .before .before .before .before .before .before .before .before .before .args .cells .now) (c .before .before .before .before .before .before .before .before .before .before .before .before .before .before .before .before .before .before .before .before .before .before .before .before .before .before .before .before .before .before .args .tables .now) (c .before .before .before .before .before .before .before .before .before .before .before .before .before .count-listed .last .1 .1 .1 .1 .1 .1 .0) (c .before .before .before .before .before .before .before .before .before .before .before .before .before .count-listed .ensures .arrivals) g) ∙ z),
-            (c .before .before .before .before .before .before .before .before .before .before .before .before .before .before .before .before .before .before .before .before .before .before .before .before .before .before .before .before .before .before .pre .1, omega (arith, c .before .before .before .before .before .before .before .before .before .before .before .before .before .count-listed .kept .1 .1 .1 .1 .1 .1 .0)),
+            (c .before .before .before .before .before .before .before .before .before .before .before .before .before .before .before .before .before .before .before .before .before .before .before .before .before .before .before .before .before .before .pre .1, omega (arith, regions-few (room-now m), c .before .before .before .before .before .before .before .before .before .before .before .before .before .count-listed .kept .1 .1 .1 .1 .1 .1 .0)),
           ),
         ),
       ),

@@ -1,7 +1,6 @@
 -- Invariant: the region's pages from `page` on stand at the end of the list, and as many are left below.
 use borrow.Author.Needs.{needs}
 use native.Mathlib.Omega.{arith}
-use Prim.Native.Nat.{ℕ}
 use mathlib.Core.Path.{_≡_, refl, sym, ap, _∙_}
 use lib.ListN.{length, length-set}
 use Rattle.rules.specs.Graph.{pagesOf}

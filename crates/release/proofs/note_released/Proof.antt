@@ -1,10 +1,8 @@
--- Note 0 lies above the last of the listed pages, before or after the store, and the others lie below that one.
+-- Note 0 lies above the last of the listed pages, or is raised, or there is none.
 use native.Mathlib.Omega.{arith}
 use borrow.Author.Needs.{needs}
-use lib.ListN.{getD}
-use Prim.Native.Nat.{_+_, _-_}
-use lib.Seq.{getD-set-same}
-use Rattle.lists.specs.Part.{rises-last}
+use Prim.Native.Nat.{_-_}
+use Rattle.release.specs.Notes.{noted-none, noted-above, noted-rises}
 use Rattle.release.proofs.note_released.Statement.{statement}
 use Rattle.release.proofs.note_released.Tie as tie
 
@@ -32,13 +30,13 @@ same-length : tie.Need-same-length
 same-length c = search needs
 
 returns : tie.Need-returns
-returns c = λ i l. omega (arith, getD-set-same (c .before .before .before .before .args .notes .now) 0 (getD (c .before .before .before .before .args .list .now) (c .before .before .before .before .args .n - 1) 0 + 1) 0 (omega (arith, c .before .before .before .before .pre .1 .1)), rises-last (c .before .before .before .before .pre .0) i l)
+returns c = noted-rises (c .before .before .before .before .args .notes .now) (c .before .before .before .before .args .list .now) (c .before .before .before .before .args .n) (c .before .before .before .if1 .taken) (c .if2 .taken)
 
 returns-2 : tie.Need-returns-2
-returns-2 c = λ i l. omega (arith, c .if2 .left, rises-last (c .before .before .before .before .pre .0) i l)
+returns-2 c = noted-above (c .before .before .before .before .args .notes .now) (c .before .before .before .before .args .list .now) (c .before .before .before .before .args .n) (c .before .before .before .if1 .taken) (omega (arith, c .if2 .left))
 
 returns-3 : tie.Need-returns-3
-returns-3 c = search needs
+returns-3 c = noted-none (c .before .args .notes .now) (c .before .args .list .now) (c .before .args .n) (omega (arith, c .if1 .left))
 
 pub note-released-spec : {M : Type 1} → statement M
 note-released-spec =

@@ -2,7 +2,7 @@
 use native.Mathlib.Omega.{arith}
 use borrow.Author.Needs.{needs}
 use lib.ListN.{length}
-use Prim.Native.Nat.{ℕ, _≤_, _<_, _-_, _*_}
+use Prim.Native.Nat.{_≤_, _<_, _-_, _*_}
 use mathlib.Core.Path.{_≡_, refl, _∙_}
 use Rattle.lists.specs.Part.{Through, cut-here, through-start, through-turn, through-end}
 use Rattle.settle.specs.RewriteCopies.{CopySlot, Between, page-wired}

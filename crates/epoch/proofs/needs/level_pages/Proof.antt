@@ -4,7 +4,7 @@ use mathlib.Core.Path.{_≡_, ap, ap₂, _∙_}
 use native.Mathlib.Omega.{arith}
 use lib.ListN.{getD}
 use Rattle.layout.specs.Places.{countOf}
-use Rattle.epoch.specs.CensusCounts.{level-none, level-some}
+use Rattle.epoch.specs.CensusCounts.{more-none, more-some}
 use borrow.Author.Needs.{needs}
 use Rattle.epoch.proofs.needs.level_pages.Statement.{statement}
 use Rattle.epoch.proofs.needs.level_pages.Tie as tie
@@ -29,7 +29,7 @@ wide-requires-2 : tie.Need-wide-requires-2
 wide-requires-2 c κs = search needs
 
 returns : tie.Need-returns
-returns c = (λ W a. level-none (c .before .before .before .before .before .before .args .p) W (c .before .before .before .before .before .before .args .tables .now) (c .before .before .before .before .before .before .args .g) (c .before .wide2 .result) (arrivals-is (c .before) ∙ a (c .before .before .before .before .before .before .args .g)) (c .if1 .taken), omega arith)
+returns c = (more-none (c .before .before .before .before .before .before .args .p) (c .before .before .before .before .before .before .args .tables .now) (c .before .before .before .before .before .before .args .come .now) (c .before .before .before .before .before .before .args .g) (c .before .wide2 .result) (arrivals-is (c .before)) (c .if1 .taken), omega arith)
 
 count-requires : tie.Need-count-requires
 count-requires c κs = search needs
@@ -54,7 +54,7 @@ returns-2 c =
     let a = c .before .before .before .before .before .before .before .before .before .before .args in
     let T = a .tables .now in
     let come = c .before .before .before .before .before in
-    (λ W h. ap₂ (λ (a b : ℕ). a - b) (c .before .pages-for .ensures) (c .pages-for2 .ensures) ∙ level-some (a .p) W T (a .g) (c .before .before .before .before .before .wide2 .result) (arrivals-is come ∙ h (a .g)) (c .before .before .wide3 .result) (c .before .before .wide3 .ensures ∙ c .before .before .before .count .ensures ∙ ap (countOf (a .p) T) (c .before .before .before .before .before .before .before .wide .ensures)), omega (arith, arrivals-fit come, c .before .pages-for .ensures, c .pages-for2 .ensures))
+    (ap₂ (λ (a b : ℕ). a - b) (c .before .pages-for .ensures) (c .pages-for2 .ensures) ∙ more-some (a .p) T (a .come .now) (a .g) (c .before .before .before .before .before .wide2 .result) (arrivals-is come) (c .before .before .wide3 .result) (c .before .before .wide3 .ensures ∙ c .before .before .before .count .ensures ∙ ap (countOf (a .p) T) (c .before .before .before .before .before .before .before .wide .ensures)), omega (arith, arrivals-fit come, c .before .pages-for .ensures, c .pages-for2 .ensures))
 
 pub level-pages-spec : {M : Type 1} → statement M
 level-pages-spec =

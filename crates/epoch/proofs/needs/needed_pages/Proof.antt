@@ -1,27 +1,25 @@
 -- n is the sum over the levels passed.
-use Prim.Native.Nat.{ℕ, _≤_, _-_, _*_, _^_}
+use Prim.Native.Nat.{_≤_, _-_, _*_, _^_}
 use mathlib.Core.Path.{_≡_, refl, ap, _∙_}
-use mathlib.Core.List.{List}
 use native.Mathlib.Omega.{arith}
 use Rattle.lists.specs.Counting.{sum-more}
 use Rattle.rules.specs.Regions.{regionAt}
 use Rattle.layout.specs.Places.{sizesOf}
-use Rattle.census.specs.Census.{Arrivals}
 use Rattle.copy.specs.Copying.{region-bounds}
-use Rattle.epoch.specs.CensusCounts.{levelNeeds, needsBelow}
+use Rattle.epoch.specs.CensusCounts.{levelMore, moreBelow}
 use Rattle.epoch.proofs.needs.needed_pages.Statement.{statement}
 use Rattle.epoch.proofs.needs.needed_pages.Tie as tie
 
 abbrev Inv-loop : tie.InvT-loop
 Inv-loop p tables come thread levels n₀ level₀ n level =
-    (level ≤ levels) × ((W : List ℕ) → Arrivals p W tables (p .pages) come → n ≡ needsBelow p W tables thread level) × (n ≤ 2 ^ 28 * level)
+    (level ≤ levels) × (n ≡ moreBelow p tables come thread level) × (n ≤ 2 ^ 28 * level)
 
 abbrev μ-loop : tie.MeasureT-loop
 μ-loop p tables come thread levels n₀ level₀ n level =
     levels - level
 
 loop-holds : tie.Need-loop-holds Inv-loop μ-loop
-loop-holds c = (omega arith, λ W h. refl, omega arith)
+loop-holds c = (omega arith, refl, omega arith)
 
 region-at-requires : tie.Need-region-at-requires Inv-loop μ-loop
 region-at-requires c κs =
@@ -48,13 +46,15 @@ loop-again c =
     let a = c .before .before .before .before .before .before .args in
     let l = c .before .before .before .loop in
     let T = a .tables .now in
-    (omega arith, (λ W h. let e = c .level-pages .ensures .0 W h ∙ ap (levelNeeds (a .p) W T) (c .before .region-at .ensures) in let m = sum-more (λ i. levelNeeds (a .p) W T (regionAt (sizesOf (a .p)) (a .thread) i)) (l .level) in omega (arith, e, m, l .inv .1 W h)), omega (arith, c .level-pages .ensures .1, l .inv .2))
+    let e = c .level-pages .ensures .0 ∙ ap (levelMore (a .p) T (a .come .now)) (c .before .region-at .ensures) in
+    let m = sum-more (λ i. levelMore (a .p) T (a .come .now) (regionAt (sizesOf (a .p)) (a .thread) i)) (l .level) in
+    (omega arith, omega (arith, e, m, l .inv .1), omega (arith, c .level-pages .ensures .1, l .inv .2))
 
 returns : tie.Need-returns Inv-loop μ-loop
 returns c =
     let a = c .before .before .before .before .args in
     let e : c .before .loop .level ≡ a .levels = omega arith in
-    λ W h. c .before .loop .inv .1 W h ∙ ap (needsBelow (a .p) W (a .tables .now) (a .thread)) e
+    c .before .loop .inv .1 ∙ ap (moreBelow (a .p) (a .tables .now) (a .come .now) (a .thread)) e
 
 pub needed-pages-spec : {M : Type 1} → statement M
 needed-pages-spec =

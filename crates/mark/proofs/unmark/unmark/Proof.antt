@@ -1,5 +1,5 @@
 -- The listed pages before this one are cleared, and with them every page that is not listed: those have no mark.
-use Prim.Native.Nat.{ℕ, _≤_, _<_, _-_, _+_, _^_}
+use Prim.Native.Nat.{ℕ, _≤_, _<_, _-_, _^_}
 use mathlib.Core.Path.{_≡_, refl, sym, _∙_, subst}
 use native.Mathlib.Omega.{arith}
 use borrow.Author.Needs.{needs}

@@ -3,7 +3,7 @@ use native.Mathlib.Omega.{arith}
 use borrow.Author.Needs.{needs}
 use borrow.Author.Tests.{not-true, not-false}
 use Rattle.lists.specs.Says.{says-no, said-no}
-use Prim.Native.Nat.{ℕ, _+_, _-_, _≤_}
+use Prim.Native.Nat.{_+_, _-_, _≤_}
 use denote.Ref.{now}
 use Rattle.whole.specs.Entries.{ZeroBetween, zero-on}
 use Rattle.whole.proofs.entries.rest_zero.Statement.{statement}
