@@ -43,7 +43,11 @@ pub fn decode(p: Places, m: Command) -> Decoded
     let no_c = c == 0;
     match code {
         1 => checked(known, both(both(a == 0, no_b), no_c), Decoded::Start(t)),
-        2 => checked(known, both(both(a == 0, no_b), no_c), Decoded::End(t)),
+        2 => checked(
+            known,
+            both(both(a == 0, no_b), no_c),
+            Decoded::End(m.thread),
+        ),
         3 => checked(known, both(var_a, b + c <= 14), Decoded::New(t, a, b, c)),
         4 => checked(
             known,

@@ -12,7 +12,7 @@ pub mod variables;
 // A command whose operands are in range, its thread first; or the number, 6, 7 or 8, of the question that says no.
 pub enum Decoded {
     Start(usize),
-    End(usize),
+    End(u32),
     New(usize, usize, usize, usize),
     Copy(usize, usize, usize, usize),
     Clear(usize, usize),
@@ -24,8 +24,9 @@ pub enum Decoded {
     Refused(u32),
 }
 
-// The answer to a command; or the thread whose epoch it ends, which is left to the caller.
+// The answer to a command; or the thread whose epoch it ends, which is left to the caller. The thread is a u32 as the answer's words are: a
+// usize beside them would keep every answer in memory, written as two words and read back as one.
 pub enum Obeyed {
     Answered(Answer),
-    Ends(usize),
+    Ends(u32),
 }

@@ -28,7 +28,7 @@ fn obey(
     let o = commands::obey::obey(p, cells, remember, tables, notes, m);
     match o {
         Obeyed::Answered(a) => a,
-        Obeyed::Ends(t) => epoch::end(p, cells, remember, tables, notes, t),
+        Obeyed::Ends(t) => epoch::end(p, cells, remember, tables, notes, layout::wide(t)),
     }
 }
 

@@ -1,10 +1,12 @@
-use mathlib.Core.Path.{refl, ap, _∙_}
+use Prim.Native.Nat.{ℕ}
+use mathlib.Core.Path.{refl, sym, ap, _∙_}
 use mathlib.Core.Bool.{Bool, _&&_}
 use lib.Dec.{ltb, eqb}
 use Rattle.layout.specs.Places.{sizesOf}
 use Rattle.rules.specs.Terms.{decode, start, end, new, copy, clear, load, store, read, write, same}
 use Rattle.rules.specs.NeverFreeing.{operands}
-use Rattle.commands.specs.Decoding.{arm, other-code}
+use Rattle.commands.specs.declared.Decoded.the-variants.{End}
+use Rattle.commands.specs.Decoding.{checkedBy, arm, other-code}
 use native.Mathlib.Omega.{arith}
 use borrow.Author.Needs.{needs}
 use Rattle.commands.proofs.decode.decode.Statement.{statement}
@@ -131,7 +133,8 @@ returns-2 c =
     let checked2 = c .checked2 in
     arm (sizesOf (args .p)) (args .m) end (wide .result) (wide2 .result) (wide3 .result) (wide4 .result) (ap decode (match .keys2)) refl refl
     (wide .ensures) (wide2 .ensures) (wide3 .ensures) (wide4 .ensures) _
-    (both4 .ensures ∙ ap (λ (z : Bool). z && eqb (wide4 .result) 0) (both3 .ensures)) (checked2 .ensures)
+    (both4 .ensures ∙ ap (λ (z : Bool). z && eqb (wide4 .result) 0) (both3 .ensures))
+    (checked2 .ensures ∙ ap (λ (t : ℕ). checkedBy (ltb (wide .result) (args .p .threads)) (both4 .result) (End t)) (sym (wide .ensures)))
 
 returns-3 : tie.Need-returns-3
 unfolding operands

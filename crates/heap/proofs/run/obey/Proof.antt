@@ -1,4 +1,6 @@
 -- What `commands` answers is the answer; an end starts from the words as they were.
+use mathlib.Core.Path.{sym, ap, _∙_}
+use Rattle.commands.specs.declared.Obeyed.the-variants.{Ends}
 use Rattle.heap.specs.Running.{obeyed-answered, ends-ready, ends-did}
 use borrow.Author.Needs.{needs}
 use native.Mathlib.Omega.{arith}
@@ -14,13 +16,17 @@ enum-known-o c = search needs
 enum-known-o-2 : tie.Need-enum-known-o-2
 enum-known-o-2 c = search needs
 
+wide-requires : tie.Need-wide-requires
+wide-requires c κs = search needs
+
 end-requires : tie.Need-end-requires
 end-requires c κs =
-    let args = c .before .before .before .before .before .before .before .before .before .before .before .before .before .before .before .before .before .before .before .before .before .before .before .before .args in
-    let pre = c .before .before .before .before .before .before .before .before .before .before .before .before .before .before .before .before .before .before .before .before .before .before .before .before .pre in
-    let obey = c .before .before .before .before .before .before .before .before .before .before .before .before .before .before .before .obey in
-    let o2 = c .before .before .before .before .before .o2 in
-    let r = ends-ready (args .p) (obey .result) (args .m) (pre .0) (obey .ensures) (o2 .given .1) in
+    let args = c .before .before .before .before .before .before .before .before .before .before .before .before .before .before .before .before .before .before .before .before .before .before .before .before .before .args in
+    let pre = c .before .before .before .before .before .before .before .before .before .before .before .before .before .before .before .before .before .before .before .before .before .before .before .before .before .pre in
+    let obey = c .before .before .before .before .before .before .before .before .before .before .before .before .before .before .before .before .obey in
+    let o2 = c .before .before .before .before .before .before .o2 in
+    let wide = c .wide in
+    let r = ends-ready (args .p) (obey .result) (args .m) (pre .0) (obey .ensures) (o2 .given .1 ∙ ap Ends (sym (wide .ensures))) in
     (r .0, (r .1, (r .2, omega (arith, pre .1, obey .kept .1 .1 .1 .1 .0))))
 
 same-length : tie.Need-same-length
@@ -52,11 +58,12 @@ same-length-8 c = search needs
 
 returns-2 : tie.Need-returns-2
 returns-2 c =
-    let args = c .before .before .before .before .before .before .before .before .before .before .before .before .before .before .before .before .before .before .before .before .before .before .before .before .before .before .before .before .before .before .before .before .before .args in
-    let obey = c .before .before .before .before .before .before .before .before .before .before .before .before .before .before .before .before .before .before .before .before .before .before .before .before .obey in
-    let o2 = c .before .before .before .before .before .before .before .before .before .before .before .before .before .before .o2 in
+    let args = c .before .before .before .before .before .before .before .before .before .before .before .before .before .before .before .before .before .before .before .before .before .before .before .before .before .before .before .before .before .before .before .before .before .before .args in
+    let obey = c .before .before .before .before .before .before .before .before .before .before .before .before .before .before .before .before .before .before .before .before .before .before .before .before .before .obey in
+    let o2 = c .before .before .before .before .before .before .before .before .before .before .before .before .before .before .before .o2 in
     let end = c .before .before .before .before .before .before .before .before .end in
-    ends-did (args .p) (obey .result) (obey .ensures) (o2 .given .1) (end .ensures)
+    let wide = c .before .before .before .before .before .before .before .before .before .wide in
+    ends-did (args .p) (obey .result) (obey .ensures) (o2 .given .1 ∙ ap Ends (sym (wide .ensures))) (end .ensures)
 
 pub obey-spec : {M : Type 1} → statement M
 obey-spec =
@@ -65,6 +72,7 @@ obey-spec =
     obey-requires
     enum-known-o
     enum-known-o-2
+    wide-requires
     end-requires
     same-length
     same-length-2
