@@ -37,14 +37,16 @@ listing-start p t g n l e room =
       all = λ q a b e f. omega arith;
     }
 
-module _ {p : Places} {t : List ℕ} {g n left page : ℕ} {l : List ℕ} (h : Listing p t g n left page l) (some : (left ≡ 0) → ⊥) where
+module _ {p : Places} {t : List ℕ} {g n left page : ℕ} {l : List ℕ} (h : Listing p t g n left page l) (some : 0 < left) where
   -- where pages are left, there is one below
   pub listing-pos : 0 < page
   listing-pos = go (decLt 0 page)
     where
       go : Dec (0 < page) → 0 < page
       go (yes m) = m
-      go (no m) = absurd (some (h .rest ∙ ap (ownedIn p t g) (let z : page ≡ 0 = omega arith in z)))
+      go (no m) =
+          let e : left ≡ 0 = h .rest ∙ ap (ownedIn p t g) (let z : page ≡ 0 = omega arith in z) in
+          absurd (let z : ⊥ = omega arith in z)
 
   before : ownedIn p t g page ≡ ownedIn p t g (page - 1) + ownedOne p t g (page - 1)
   before =
@@ -85,15 +87,8 @@ module _ {p : Places} {t : List ℕ} {g n left page : ℕ} {l : List ℕ} (h : L
       l′ : List ℕ
       l′ = set l (left - 1) (page - 1)
 
-      pos : 0 < left
-      pos = go (decLt 0 left)
-        where
-          go : Dec (0 < left) → 0 < left
-          go (yes m) = m
-          go (no m) = absurd (some (omega arith))
-
       here : getD (set l (left - 1) (page - 1)) (left - 1) 0 ≡ page - 1
-      here = getD-set-same l (left - 1) (page - 1) 0 (omega (arith, pos, h .few, h .room))
+      here = getD-set-same l (left - 1) (page - 1) 0 (omega (arith, some, h .few, h .room))
 
       at : (i : ℕ) → i ≡ left - 1 → getD (set l (left - 1) (page - 1)) i 0 ≡ page - 1
       at i z = ap (λ (k : ℕ). getD (set l (left - 1) (page - 1)) k 0) z ∙ here
@@ -104,26 +99,26 @@ module _ {p : Places} {t : List ℕ} {g n left page : ℕ} {l : List ℕ} (h : L
       low′ : (i : ℕ) → left - 1 ≤ i → i < n → Dec (i ≡ left - 1)
           → (page - 1 ≤ getD (set l (left - 1) (page - 1)) i 0) × (getD (set l (left - 1) (page - 1)) i 0 < p .pages)
       low′ i a b (yes z) = (omega (arith, at i z), omega (arith, at i z, h .within, listing-pos))
-      low′ i a b (no z) = let k = h .low i (omega (arith, pos)) b in (omega (arith, off i z, k .0), omega (arith, off i z, k .1))
+      low′ i a b (no z) = let k = h .low i (omega (arith, some)) b in (omega (arith, off i z, k .0), omega (arith, off i z, k .1))
 
       rising′ : (i j : ℕ) → left - 1 ≤ i → i < j → j < n → Dec (i ≡ left - 1)
           → getD (set l (left - 1) (page - 1)) i 0 < getD (set l (left - 1) (page - 1)) j 0
       rising′ i j a b c (yes z) =
           let other : j ≡ left - 1 → ⊥ = (λ (y : j ≡ left - 1). omega arith) in
-          omega (arith, at i z, off j other, h .low j (omega (arith, pos)) c .0, listing-pos)
+          omega (arith, at i z, off j other, h .low j (omega (arith, some)) c .0, listing-pos)
       rising′ i j a b c (no z) =
           let other : j ≡ left - 1 → ⊥ = (λ (y : j ≡ left - 1). omega arith) in
-          omega (arith, off i z, off j other, h .rising i j (omega (arith, pos)) b c)
+          omega (arith, off i z, off j other, h .rising i j (omega (arith, some)) b c)
 
       each′ : (i : ℕ) → left - 1 ≤ i → i < n → Dec (i ≡ left - 1) → ownerOf p t (getD (set l (left - 1) (page - 1)) i 0) ≡ g
       each′ i a b (yes z) = ap (ownerOf p t) (at i z) ∙ sym e ∙ eg
-      each′ i a b (no z) = ap (ownerOf p t) (off i z) ∙ h .each i (omega (arith, pos)) b
+      each′ i a b (no z) = ap (ownerOf p t) (off i z) ∙ h .each i (omega (arith, some)) b
 
       all′ : (q : ℕ) → page - 1 ≤ q → q < p .pages → ownerOf p t q ≡ g
           → ((i : ℕ) → left - 1 ≤ i → i < n → getD (set l (left - 1) (page - 1)) i 0 ≡ q → ⊥) → Dec (q ≡ page - 1) → ⊥
-      all′ q a b d f (yes z) = f (left - 1) (omega arith) (omega (arith, pos, h .few)) (here ∙ sym z)
+      all′ q a b d f (yes z) = f (left - 1) (omega arith) (omega (arith, some, h .few)) (here ∙ sym z)
       all′ q a b d f (no z) =
-          h .all q (omega arith) b d (λ i u v y. f i (omega arith) v (off i (λ (x : i ≡ left - 1). omega (arith, pos)) ∙ y))
+          h .all q (omega arith) b d (λ i u v y. f i (omega arith) v (off i (λ (x : i ≡ left - 1). omega (arith, some)) ∙ y))
 
 -- none is left: the whole list
 pub listing-end : {p : Places} {t : List ℕ} {g n left page : ℕ} {l : List ℕ} → left ≡ 0 → Listing p t g n left page l → Lists (λ q. ownerOf p t q ≡ g) (p .pages) n l

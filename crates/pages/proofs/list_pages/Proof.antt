@@ -37,10 +37,10 @@ loop-holds c = (
 )
 
 sub-page : tie.Need-sub-page Inv-loop μ-loop
-sub-page c = omega (arith, listing-pos (c .before .loop .inv .0) (c .loop-test .taken))
+sub-page c = omega (arith, listing-pos (c .before .loop .inv .0) (omega (arith, c .loop-test .taken)))
 
 owner-requires : tie.Need-owner-requires Inv-loop μ-loop
-owner-requires c κs = (c .before .before .before .before .before .before .before .before .pre .0, omega (arith, listing-pos (c .before .loop .inv .0) (c .loop-test .taken), c .before .loop .inv .0 .within))
+owner-requires c κs = (c .before .before .before .before .before .before .before .before .pre .0, omega (arith, listing-pos (c .before .loop .inv .0) (omega (arith, c .loop-test .taken)), c .before .loop .inv .0 .within))
 
 sub-left : tie.Need-sub-left Inv-loop μ-loop
 sub-left c = omega (arith, c .before .before .loop-test .taken)
@@ -55,16 +55,16 @@ slice-write-list : tie.Need-slice-write-list Inv-loop μ-loop
 slice-write-list c = omega (arith, c .before .before .loop-test .taken, c .before .before .before .loop .inv .0 .few, c .before .before .before .loop .inv .0 .room)
 
 loop-less : tie.Need-loop-less Inv-loop μ-loop
-loop-less c = omega (arith, listing-pos (c .before .before .before .loop .inv .0) (c .before .before .loop-test .taken))
+loop-less c = omega (arith, listing-pos (c .before .before .before .loop .inv .0) (omega (arith, c .before .before .loop-test .taken)))
 
 loop-again : tie.Need-loop-again Inv-loop μ-loop
-loop-again c = (listing-take (c .before .before .before .loop .inv .0) (c .before .before .loop-test .taken) (c .before .owner .result) (c .before .owner .ensures) (c .if1 .taken), simp length-set (c .before .before .before .loop .inv .1))
+loop-again c = (listing-take (c .before .before .before .loop .inv .0) (omega (arith, c .before .before .loop-test .taken)) (c .before .owner .result) (c .before .owner .ensures) (c .if1 .taken), simp length-set (c .before .before .before .loop .inv .1))
 
 loop-less-2 : tie.Need-loop-less-2 Inv-loop μ-loop
-loop-less-2 c = omega (arith, listing-pos (c .before .before .before .loop .inv .0) (c .before .before .loop-test .taken))
+loop-less-2 c = omega (arith, listing-pos (c .before .before .before .loop .inv .0) (omega (arith, c .before .before .loop-test .taken)))
 
 loop-again-2 : tie.Need-loop-again-2 Inv-loop μ-loop
-loop-again-2 c = (listing-skip (c .before .before .before .loop .inv .0) (c .before .before .loop-test .taken) (c .before .owner .result) (c .before .owner .ensures) (c .if1 .left), c .before .before .before .loop .inv .1)
+loop-again-2 c = (listing-skip (c .before .before .before .loop .inv .0) (omega (arith, c .before .before .loop-test .taken)) (c .before .owner .result) (c .before .owner .ensures) (c .if1 .left), c .before .before .before .loop .inv .1)
 
 same-length : tie.Need-same-length Inv-loop μ-loop
 same-length c = c .before .loop .inv .1
