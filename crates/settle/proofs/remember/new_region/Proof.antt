@@ -25,7 +25,7 @@ owner-requires c κs =
 returns : tie.Need-returns
 returns c =
     let a = c .before .before .before .before .before .args in
-    new-gone _ _ _ _ _ _ (home (a .p) (a .tables .now) (a .at) (c .before .owner .result) (c .before .before .page-at .result) (c .before .before .page-at .ensures) (c .before .owner .ensures) ∙ c .if1 .taken)
+    new-gone (a .p) (a .region) _ (a .tables .now) (a .at) _ (home (a .p) (a .tables .now) (a .at) (c .before .owner .result) (c .before .before .page-at .result) (c .before .before .page-at .ensures) (c .before .owner .ensures) ∙ c .if1 .taken)
 
 returns-2 : tie.Need-returns-2
 returns-2 c =
