@@ -8,14 +8,14 @@ use lib.Dec.{eqb}
 use lib.ListN.{getD}
 use borrow.Author.Tests.{eq-eqb, ne-eqb}
 use Rattle.lists.specs.Counting.{sum}
-use Rattle.layout.specs.declared.Places.{Places}
+use Rattle.rules.specs.declared.Sizes.{Sizes}
 use Rattle.layout.specs.Places.{ownerOf, usedIn, slotIn}
 use Rattle.layout.specs.Cells.{headOf, workOf, fieldOf, pageOf, cellOf}
 use Rattle.mark.specs.Marks.{owner}
 use Rattle.census.specs.Counted.{overMarked}
 
 -- the region of a cell after the end
-unfoldable pub homeAfter : Places → List ℕ → List ℕ → ℕ → ℕ → ℕ
+unfoldable pub homeAfter : Sizes → List ℕ → List ℕ → ℕ → ℕ → ℕ
 homeAfter p W T r c = cond (eqb (owner p T c) r) (workOf W c) (owner p T c)
 
 -- a slot of an object in region `from` that points into region h
@@ -23,27 +23,27 @@ abbrev pub crossOne : ℕ → ℕ → ℕ
 crossOne «from» h = cond (not (eqb «from» h) && not (eqb h 1)) 1 0
 
 -- 1 if reference x crosses from that region after the end, else 0
-unfoldable pub crossAfter : Places → List ℕ → List ℕ → ℕ → ℕ → ℕ → ℕ
+unfoldable pub crossAfter : Sizes → List ℕ → List ℕ → ℕ → ℕ → ℕ → ℕ
 crossAfter p W T r «from» x = cond (eqb x 0) 0 (crossOne «from» (homeAfter p W T r (x - 1)))
 
 -- the slots of survivor c that cross
-unfoldable pub cellCrosses : Places → List ℕ → List ℕ → ℕ → ℕ → ℕ
+unfoldable pub cellCrosses : Sizes → List ℕ → List ℕ → ℕ → ℕ → ℕ
 cellCrosses p W T r c = sum (λ f. crossAfter p W T r (workOf W c) (fieldOf W c f)) (headOf W c / 16)
 
 -- 1 if the slot at word q lies outside r and crosses, else 0
-unfoldable pub slotCrosses : Places → List ℕ → List ℕ → ℕ → ℕ → ℕ
+unfoldable pub slotCrosses : Sizes → List ℕ → List ℕ → ℕ → ℕ → ℕ
 slotCrosses p W T r q = cond (eqb (owner p T (cellOf q)) r) 0 (crossAfter p W T r (owner p T (cellOf q)) (getD W q 0))
 
 -- remembered slots outside r, and the survivors' slots
-abbrev pub entriesCross : Places → List ℕ → List ℕ → List ℕ → ℕ → ℕ
+abbrev pub entriesCross : Sizes → List ℕ → List ℕ → List ℕ → ℕ → ℕ
 entriesCross p W m T r = sum (λ i. slotCrosses p W T r (slotIn m i)) (usedIn m)
 
-abbrev pub crossingAfter : Places → List ℕ → List ℕ → List ℕ → ℕ → ℕ
+abbrev pub crossingAfter : Sizes → List ℕ → List ℕ → List ℕ → ℕ → ℕ
 crossingAfter p W m T r = entriesCross p W m T r + overMarked p T (cellCrosses p W T r) (p .pages)
 
 -- ---- as the code decides it; page, q, v and h are what it read
 
-module _ (p : Places) (W T : List ℕ) (r : ℕ) where
+module _ (p : Sizes) (W T : List ℕ) (r : ℕ) where
   pub after-other : (c page q : ℕ) → page ≡ pageOf c → q ≡ ownerOf p T page → (q ≡ r → ⊥) → q ≡ homeAfter p W T r c
   unfolding homeAfter
   after-other c page q ep e n =

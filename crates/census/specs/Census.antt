@@ -5,37 +5,37 @@ use Prim.Native.Nat.{ℕ, _+_, _*_, _≤_, _<_}
 use native.Mathlib.Omega.{arith}
 use lib.ListN.{getD}
 use Rattle.lists.specs.Counting.{sum-more, sum-none, sum-high}
-use Rattle.layout.specs.declared.Places.{Places}
+use Rattle.rules.specs.declared.Sizes.{Sizes}
 use Rattle.layout.specs.Places.{markOf}
 use Rattle.layout.specs.Cells.{cellOn}
 use Rattle.census.specs.Counted.{onPage, overMarked, bits-none, page-high, goesTo, goes-le}
 use Rattle.census.specs.After.{cellCrosses}
 
 -- come says of each region how many of the survivors on the pages below n go to it
-abbrev pub Arrivals : Places → List ℕ → List ℕ → ℕ → List ℕ → Type 0
+abbrev pub Arrivals : Sizes → List ℕ → List ℕ → ℕ → List ℕ → Type 0
 Arrivals p W T n come = (g : ℕ) → getD come g 0 ≡ overMarked p T (goesTo W g) n
 
 -- and k is how many of their slots cross; a page has at most 224 slots
-pub record Census (p : Places) (W T : List ℕ) (r n : ℕ) (come : List ℕ) (k : ℕ) : Type 0 where
+pub record Census (p : Sizes) (W T : List ℕ) (r n : ℕ) (come : List ℕ) (k : ℕ) : Type 0 where
   pub arrivals : Arrivals p W T n come
   pub crossing : k ≡ overMarked p T (cellCrosses p W T r) n
   pub few : k ≤ 224 * n
 
 -- at most 16 survivors on a page go to one region
-pub over-high : (p : Places) (W T : List ℕ) (g n : ℕ) → overMarked p T (goesTo W g) n ≤ 16 * n
+pub over-high : (p : Sizes) (W T : List ℕ) (g n : ℕ) → overMarked p T (goesTo W g) n ≤ 16 * n
 over-high p W T g n =
     sum-high (λ page. onPage (goesTo W g) page (markOf p T page)) 16 n (λ page l. page-high (goesTo W g) 1 (goes-le W g) page (markOf p T page))
 
-over-more : (p : Places) (T : List ℕ) (f : ℕ → ℕ) (page w : ℕ) → w ≡ markOf p T page → overMarked p T f (page + 1) ≡ overMarked p T f page + onPage f page w
+over-more : (p : Sizes) (T : List ℕ) (f : ℕ → ℕ) (page w : ℕ) → w ≡ markOf p T page → overMarked p T f (page + 1) ≡ overMarked p T f page + onPage f page w
 over-more p T f page w e =
     sum-more (λ page. onPage f page (markOf p T page)) page ∙ ap (λ (x : ℕ). overMarked p T f page + onPage f page x) (let s : markOf p T page ≡ w = omega arith in s)
 
 -- no page has a mark
-pub over-none : (p : Places) (T : List ℕ) (f : ℕ → ℕ) (n : ℕ) → ((page : ℕ) → page < n → markOf p T page ≡ 0) → overMarked p T f n ≡ 0
+pub over-none : (p : Sizes) (T : List ℕ) (f : ℕ → ℕ) (n : ℕ) → ((page : ℕ) → page < n → markOf p T page ≡ 0) → overMarked p T f n ≡ 0
 over-none p T f n z =
     sum-none (λ page. onPage f page (markOf p T page)) n (λ page l. ap (onPage f page) (z page l) ∙ bits-none (λ i. f (cellOn page i)))
 
-module _ {p : Places} {W T : List ℕ} {r : ℕ} where
+module _ {p : Sizes} {W T : List ℕ} {r : ℕ} where
   pub census-start : (come : List ℕ) → ((g : ℕ) → getD come g 0 ≡ 0) → Census p W T r 0 come 0
   census-start come z = record { arrivals = z; crossing = omega arith; few = omega arith }
 

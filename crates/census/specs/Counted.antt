@@ -17,8 +17,7 @@ use Rattle.lists.specs.Stores.{put, past}
 use Rattle.rules.specs.declared.Sizes.{Sizes}
 use Rattle.rules.specs.Graph.{target}
 use Rattle.laws.specs.Counts.{landed}
-use Rattle.layout.specs.declared.Places.{Places}
-use Rattle.layout.specs.Places.{placesOf, markOf}
+use Rattle.layout.specs.Places.{markOf}
 use Rattle.layout.specs.Cells.{workOf, pageOf, placeOf, cellOn}
 use Rattle.layout.specs.Marks.{marked}
 use Rattle.promises.specs.Words.{Words, homeIn, graphOf}
@@ -35,11 +34,11 @@ abbrev pub onPage : (ℕ → ℕ) → ℕ → ℕ → ℕ
 onPage f page w = overBits (λ i. f (cellOn page i)) w
 
 -- and over all marked cells
-abbrev pub overMarked : Places → List ℕ → (ℕ → ℕ) → ℕ → ℕ
+abbrev pub overMarked : Sizes → List ℕ → (ℕ → ℕ) → ℕ → ℕ
 overMarked p T f n = sum (λ page. onPage f page (markOf p T page)) n
 
 -- cell by cell
-pub over-cells : (p : Places) (T : List ℕ) (f : ℕ → ℕ) → overMarked p T f (p .pages) ≡ sum (λ c. marked p T c * f c) (16 * p .pages)
+pub over-cells : (p : Sizes) (T : List ℕ) (f : ℕ → ℕ) → overMarked p T f (p .pages) ≡ sum (λ c. marked p T c * f c) (16 * p .pages)
 unfolding overBits
 over-cells p T f =
     sym
@@ -133,20 +132,20 @@ tallied-end u l t g = summed-end u l (t .each g)
 
 -- after marking, as many as the rules count
 pub goes-landed : (s : Sizes) (w : Words) (k : WholeFor s w) (r : ℕ) (w′ : Words) → Marked s w r w′ → 0 < r → (g : ℕ) → 0 < g
-    → overMarked (placesOf s) (w′ .tables) (goesTo (w′ .cells) g) (s .pages) ≡ landed s (graphOf s w) r g
+    → overMarked s (w′ .tables) (goesTo (w′ .cells) g) (s .pages) ≡ landed s (graphOf s w) r g
 unfolding landed goesTo
 goes-landed s w k r w′ m rpos g pos =
-    over-cells (placesOf s) (w′ .tables) (goesTo (w′ .cells) g)
-    ∙ sum-same (λ c. marked (placesOf s) (w′ .tables) c * goesTo (w′ .cells) g c)
+    over-cells s (w′ .tables) (goesTo (w′ .cells) g)
+    ∙ sum-same (λ c. marked s (w′ .tables) c * goesTo (w′ .cells) g c)
     (λ x. cond (eqb (homeIn s w x) r) (cond (eqb (target s (graphOf s w) r x) g) 1 0) 0) (16 * s .pages)
-    (λ c l. go c l (ℕ-discrete (marked (placesOf s) (w′ .tables) c) 1) (ℕ-discrete (homeIn s w c) r))
+    (λ c l. go c l (ℕ-discrete (marked s (w′ .tables) c) 1) (ℕ-discrete (homeIn s w c) r))
   where
     one : (b : Bool) → bit b ≡ cond b 1 0
     one true = refl
     one false = refl
 
-    go : (c : ℕ) → c < 16 * s .pages → Dec (marked (placesOf s) (w′ .tables) c ≡ 1) → Dec (homeIn s w c ≡ r)
-        → marked (placesOf s) (w′ .tables) c * bit (eqb (workOf (w′ .cells) c) g) ≡ cond (eqb (homeIn s w c) r) (cond (eqb (target s (graphOf s w) r c) g) 1 0) 0
+    go : (c : ℕ) → c < 16 * s .pages → Dec (marked s (w′ .tables) c ≡ 1) → Dec (homeIn s w c ≡ r)
+        → marked s (w′ .tables) c * bit (eqb (workOf (w′ .cells) c) g) ≡ cond (eqb (homeIn s w c) r) (cond (eqb (target s (graphOf s w) r c) g) 1 0) 0
     go c l (yes on) (no h) = let u = m .only c (omega arith) on in absurd (h (cell-home s w k c r (u .0) (u .1)))
     go c l (yes on) (yes h) =
         let u = m .only c (omega arith) on in
@@ -156,18 +155,18 @@ goes-landed s w k r w′ m rpos g pos =
         ap (λ (b : ℕ). b * bit (eqb (workOf (w′ .cells) c) g)) (zero-bit c off) ∙ zero-mul _
         ∙ sym (ap (λ (b : Bool). cond b (cond (eqb (target s (graphOf s w) r c) g) 1 0) 0) (ne-eqb (homeIn s w c) r h))
       where
-        zero-bit : (c : ℕ) → (marked (placesOf s) (w′ .tables) c ≡ 1 → ⊥) → marked (placesOf s) (w′ .tables) c ≡ 0
-        zero-bit c off = omega (arith, bit-lt (placeOf c) (markOf (placesOf s) (w′ .tables) (pageOf c)))
+        zero-bit : (c : ℕ) → (marked s (w′ .tables) c ≡ 1 → ⊥) → marked s (w′ .tables) c ≡ 0
+        zero-bit c off = omega (arith, bit-lt (placeOf c) (markOf s (w′ .tables) (pageOf c)))
     go c l (no off) (yes h) =
         let u = home-cell s w k c r h rpos in
-        let z : marked (placesOf s) (w′ .tables) c ≡ 0 = omega (arith, bit-lt (placeOf c) (markOf (placesOf s) (w′ .tables) (pageOf c))) in
+        let z : marked s (w′ .tables) c ≡ 0 = omega (arith, bit-lt (placeOf c) (markOf s (w′ .tables) (pageOf c))) in
         ap (λ (b : ℕ). b * bit (eqb (workOf (w′ .cells) c) g)) z ∙ zero-mul _
         ∙ sym
         (ap (λ (b : Bool). cond b (cond (eqb (target s (graphOf s w) r c) g) 1 0) 0) (eq-eqb (homeIn s w c) r h)
         ∙ ap (λ (b : Bool). cond b 1 0) (ne-eqb (target s (graphOf s w) r c) g (λ (e : target s (graphOf s w) r c ≡ g). off (m .survives c (u .0) (u .1) (omega arith)))))
 
 -- the cell of a bit that is set in its page's working word is marked
-pub marked-on : (p : Places) (T : List ℕ) (page i w : ℕ) → i < 16 → w ≡ markOf p T page → bitAt w i ≡ 1 → marked p T (cellOn page i) ≡ 1
+pub marked-on : (p : Sizes) (T : List ℕ) (page i w : ℕ) → i < 16 → w ≡ markOf p T page → bitAt w i ≡ 1 → marked p T (cellOn page i) ≡ 1
 marked-on p T page i w l e on =
     let d : pageOf (cellOn page i) ≡ page = omega arith in
     let m : placeOf (cellOn page i) ≡ i = omega arith in

@@ -17,8 +17,7 @@ use Rattle.rules.specs.declared.Sizes.{Sizes}
 use Rattle.rules.specs.Graph.{Graph, target, ended, crossing}
 use Rattle.laws.specs.EndLaws.{home-stayed, home-went}
 use Rattle.laws.specs.Counts.{crossIn, crossAt, crossing-sum, crossRef}
-use Rattle.layout.specs.declared.Places.{Places}
-use Rattle.layout.specs.Places.{placesOf, markOf, usedIn, slotIn, Room}
+use Rattle.layout.specs.Places.{markOf, usedIn, slotIn, Room}
 use Rattle.layout.specs.Cells.{headOf, workOf, fieldAt, fieldOf, pageOf, placeOf, cellOf, wordOf}
 use Rattle.layout.specs.Marks.{marked}
 use Rattle.promises.specs.Words.{Words, Used, ownerIn, homeIn, refCount, refsIn, graphOf}
@@ -33,9 +32,9 @@ use Rattle.mark.specs.Survivors.{Marked, marked-kept}
 use Rattle.census.specs.Counted.{over-cells}
 use Rattle.census.specs.After.{homeAfter, crossOne, crossAfter, cellCrosses, slotCrosses, entriesCross, crossingAfter}
 
-module _ (s : Sizes) (w : Words) (k : WholeFor s w) (space : Room (placesOf s) (length (w .tables))) (r : ℕ) (pos : 1 < r) (w′ : Words) (M : Marked s w r w′) where
-  abbrev p : Places
-  p = placesOf s
+module _ (s : Sizes) (w : Words) (k : WholeFor s w) (space : Room s (length (w .tables))) (r : ℕ) (pos : 1 < r) (w′ : Words) (M : Marked s w r w′) where
+  abbrev p : Sizes
+  p = s
 
   abbrev g : Graph
   g = graphOf s w

@@ -13,7 +13,7 @@ ghost use Rattle.mark.specs.Marks.{Shaped};
 ghost use Rattle.census.specs.Counted.{goesTo, onPage};
 ghost use Rattle.census.specs.After.{cellCrosses};
 ghost use Rattle.census.specs.Census.{Census};
-use layout::Places;
+use rules::Sizes;
 
 // Survivor c is one more that goes where it goes.
 pub fn tally(cells: &[u32], c: usize, come: &mut [u32])
@@ -28,7 +28,7 @@ pub fn tally(cells: &[u32], c: usize, come: &mut [u32])
 
 // The survivors of a page whose bit is set in w, each added to those that go where it goes; and how many of their slots cross.
 pub fn count_page(
-    p: Places,
+    p: Sizes,
     cells: &[u32],
     tables: &[u32],
     r: u32,
@@ -63,7 +63,7 @@ pub fn count_page(
 // All survivors, which are on the listed pages: how many go to each region is then in `come`, and the slots of theirs that cross are
 // the result.
 pub fn count_listed(
-    p: Places,
+    p: Sizes,
     cells: &[u32],
     tables: &[u32],
     r: u32,

@@ -12,10 +12,10 @@ ghost use Rattle.mark.specs.Holders.{Holding};
 ghost use Rattle.census.specs.Counted.{overMarked};
 ghost use Rattle.census.specs.After.{homeAfter, crossAfter, cellCrosses, slotCrosses, entriesCross, crossingAfter};
 use layout::Kind;
-use layout::Places;
+use rules::Sizes;
 
 // The region of cell c after the end.
-pub fn home_after(p: Places, cells: &[u32], tables: &[u32], r: u32, c: usize) -> u32
+pub fn home_after(p: Sizes, cells: &[u32], tables: &[u32], r: u32, c: usize) -> u32
     requires { ⌜ Room p (length (now tables)) ⌝ }
     requires { ⌜ (pageOf c < p .pages) × (256 * p .pages ≤ length (now cells)) ⌝ }
     ensures { λ q. ⌜ q ≡ homeAfter p (now (cells .entry)) (now (tables .entry)) r c ⌝ }
@@ -28,7 +28,7 @@ pub fn home_after(p: Places, cells: &[u32], tables: &[u32], r: u32, c: usize) ->
 }
 
 // 1 if reference x, in an object that lies in region `home` afterwards, crosses then, else 0.
-pub fn crosses(p: Places, cells: &[u32], tables: &[u32], r: u32, home: u32, x: u32) -> usize
+pub fn crosses(p: Sizes, cells: &[u32], tables: &[u32], r: u32, home: u32, x: u32) -> usize
     requires { ⌜ Room p (length (now tables)) ⌝ }
     requires { ⌜ 256 * p .pages ≤ length (now cells) ⌝ }
     requires { ⌜ IsRef p (now tables) x ⌝ }
@@ -48,7 +48,7 @@ pub fn crosses(p: Places, cells: &[u32], tables: &[u32], r: u32, home: u32, x: u
 }
 
 // How many slots of survivor c cross.
-pub fn cross_cell(p: Places, cells: &[u32], tables: &[u32], r: u32, c: usize) -> usize
+pub fn cross_cell(p: Sizes, cells: &[u32], tables: &[u32], r: u32, c: usize) -> usize
     requires { ⌜ Shaped p (now cells) (now tables) ⌝ }
     requires { ⌜ InUse p (now tables) c ⌝ }
     ensures { λ n. ⌜ n ≡ cellCrosses p (now (cells .entry)) (now (tables .entry)) r c ⌝ }
@@ -67,7 +67,7 @@ pub fn cross_cell(p: Places, cells: &[u32], tables: &[u32], r: u32, c: usize) ->
 
 // 1 if the slot of entry i lies outside r and crosses, else 0.
 pub fn cross_entry(
-    p: Places,
+    p: Sizes,
     cells: &[u32],
     remember: &[u32],
     tables: &[u32],
@@ -88,7 +88,7 @@ pub fn cross_entry(
 }
 
 // How many remembered slots outside r cross.
-pub fn cross_entries(p: Places, cells: &[u32], remember: &[u32], tables: &[u32], r: u32) -> usize
+pub fn cross_entries(p: Sizes, cells: &[u32], remember: &[u32], tables: &[u32], r: u32) -> usize
     requires { ⌜ Shaped p (now cells) (now tables) ⌝ }
     requires { ⌜ Holding p (now cells) (now remember) (now tables) ⌝ }
     ensures { λ n. ⌜ n ≡ entriesCross p (now (cells .entry)) (now (remember .entry)) (now (tables .entry)) r ⌝ }
@@ -106,7 +106,7 @@ pub fn cross_entries(p: Places, cells: &[u32], remember: &[u32], tables: &[u32],
 
 // How many slots would cross, k of them the survivors'.
 pub fn count_crossing(
-    p: Places,
+    p: Sizes,
     cells: &[u32],
     remember: &[u32],
     tables: &[u32],

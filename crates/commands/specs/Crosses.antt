@@ -6,7 +6,7 @@ use mathlib.Core.Path.{_≡_, sym, ap, ap₂, _∙_}
 use native.Mathlib.Omega.{arith}
 use lib.Dec.{ltb, eqb}
 use borrow.Author.Tests.{lt-ltb, le-ltb, le-leb, lt-leb, eq-eqb, ne-eqb}
-use Rattle.layout.specs.declared.Places.{Places}
+use Rattle.rules.specs.declared.Sizes.{Sizes}
 use Rattle.layout.specs.Places.{ownerOf}
 use Rattle.layout.specs.Cells.{pageOf}
 use Rattle.promises.specs.Crossing.{other, regionOf}
@@ -25,12 +25,12 @@ module _ (o g : ℕ) where
   other-crosses : 1 < g → (g ≡ o → ⊥) → other o g ≡ g
   other-crosses l e = other-far l ∙ ap (λ (b : Bool). cond b 0 g) (ne-eqb g o e)
 
-pub other-null : (p : Places) (t : List ℕ) (page x : ℕ) → x ≡ 0 → 0 ≡ other (ownerOf p t page) (regionOf p t x)
+pub other-null : (p : Sizes) (t : List ℕ) (page x : ℕ) → x ≡ 0 → 0 ≡ other (ownerOf p t page) (regionOf p t x)
 other-null p t page x z =
     sym (ap (λ (a : Bool). other (ownerOf p t page) (cond a 0 (cond (ltb (pageOf (x - 1)) (p .pages)) (ownerOf p t (pageOf (x - 1))) 0))) (eq-eqb x 0 z))
 
 -- b is the cell that x names; its page is not there, or its owner is g
-module _ (p : Places) (t : List ℕ) (page x b : ℕ) (q : b ≡ x - 1) (z : x ≡ 0 → ⊥) where
+module _ (p : Sizes) (t : List ℕ) (page x b : ℕ) (q : b ≡ x - 1) (z : x ≡ 0 → ⊥) where
   region-there : pageOf b < p .pages → regionOf p t x ≡ ownerOf p t (pageOf b)
   region-there l =
       ap₂ (λ (a d : Bool). cond a 0 (cond d (ownerOf p t (pageOf (x - 1))) 0)) (ne-eqb x 0 z) (lt-ltb (pageOf (x - 1)) (p .pages) (omega arith))

@@ -18,8 +18,7 @@ use Rattle.rules.specs.Regions.{regionAt, regions}
 use Rattle.rules.specs.Graph.{newPages, freePages}
 use Rattle.rules.specs.Rules as ru
 use Rattle.rules.specs.Rules.{Regioned, graph, first}
-use Rattle.layout.specs.declared.Places.{Places}
-use Rattle.layout.specs.Places.{sizesOf, placesOf, depthOf, ownerOf, usedOf, countOf, countAt, count-room}
+use Rattle.layout.specs.Places.{depthOf, ownerOf, usedOf, countOf, countAt, count-room}
 use Rattle.layout.specs.Cells.{cellOn}
 use Rattle.promises.specs.Words.{Words, words, heapOf}
 use Rattle.promises.specs.Whole.{WholeFor, Open, objectsOn}
@@ -48,9 +47,9 @@ beyond-both : {s : Sizes} {u v w : Words} → SameBeyond s u v → SameBeyond s 
 beyond-both a b = record { cells = from-both (a .cells) (b .cells); remember = from-both (a .remember) (b .remember); tables = from-both (a .tables) (b .tables) }
 
 -- g is the region that thread u makes objects in
-module _ (p : Places) (c m t : List ℕ) (r : Ready p c m t) (u : ℕ) (l : u < p .threads) (g : ℕ) (eg : g ≡ regionAt (sizesOf p) u (depthOf t u)) where
+module _ (p : Sizes) (c m t : List ℕ) (r : Ready p c m t) (u : ℕ) (l : u < p .threads) (g : ℕ) (eg : g ≡ regionAt p u (depthOf t u)) where
   abbrev s : Sizes
-  s = sizesOf p
+  s = p
 
   abbrev w : Words
   w = words c m t
@@ -61,8 +60,8 @@ module _ (p : Places) (c m t : List ℕ) (r : Ready p c m t) (u : ℕ) (l : u < 
   abbrev H : Regioned
   H = heapOf s w
 
-  abbrev P : Places
-  P = placesOf s
+  abbrev P : Sizes
+  P = s
 
   pub region-real : (1 ≤ g) × (g ≤ 1 + p .threads * p .depth)
   region-real = subst (λ (x : ℕ). (1 ≤ x) × (x ≤ regions s)) (sym eg) (innermost-pos s w k u l, innermost-low s w k u l)
@@ -90,16 +89,15 @@ module _ (p : Places) (c m t : List ℕ) (r : Ready p c m t) (u : ℕ) (l : u < 
 
   -- where its objects fill pages, none is partly filled
   pub region-filled : Filled p t g
-  region-filled = subst (λ (q : Places). Filled q t g) (sym (r .places)) (λ e page h f. partly-filled s w k g (region-real .0) (region-real .1) page h f (eqb-true (objects % 16) 0 e))
+  region-filled e page h f = partly-filled s w k g (region-real .0) (region-real .1) page h f (eqb-true (objects % 16) 0 e)
 
   module _ (page : ℕ) (found′ : Found p t g page) where
     found : Found P t g page
-    found = subst (λ (q : Places). Found q t g page) (r .places) found′
+    found = found′
 
     -- what taking a cell of the page that was found asks
     pub can-take : page < p .pages → (usedOf p t page < 16) × (countOf p t g + 1 < 2 ^ 32)
     can-take h =
-        subst (λ (q : Places). (usedOf q t page < 16) × (countOf q t g + 1 < 2 ^ 32)) (sym (r .places))
         (found-room s t g page h count-inside (k .placed .pages page h .free) found, count-fits)
 
     -- no page was found: the region has none that is partly filled, and none is free
@@ -122,8 +120,8 @@ module _ (p : Places) (c m t : List ℕ) (r : Ready p c m t) (u : ℕ) (l : u < 
     module _ (low : page < p .pages) (cell : ℕ) (ec : cell ≡ cellOn page (usedOf p t page)) (t₁ : List ℕ) (et : t₁ ≡ taken p t page g) where
       pub took : Took P t g cell t₁
       took =
-          subst (λ (q : ℕ). Took P t g q t₁) (sym (ec ∙ ap (λ (q : Places). cellOn page (usedOf q t page)) (r .places)))
-          (subst (λ (q : List ℕ). Took P t g (cellOn page (usedOf P t page)) q) (sym (et ∙ ap (λ (q : Places). taken q t page g) (r .places)))
+          subst (λ (q : ℕ). Took P t g q t₁) (sym ec)
+          (subst (λ (q : List ℕ). Took P t g (cellOn page (usedOf P t page)) q) (sym et)
           (taken-took s t g page low count-inside (k .placed .pages page low .free) found))
 
       pub cell-inside : (cell < 16384) × (16 * cell + 16 ≤ length c)

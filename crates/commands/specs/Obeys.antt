@@ -6,8 +6,6 @@ use Rattle.rules.specs.declared.Sizes.{Sizes}
 use Rattle.rules.specs.declared.Command.{Command}
 use Rattle.rules.specs.declared.Answer.{Answer}
 use Rattle.rules.specs.Terms.{refused, done}
-use Rattle.layout.specs.declared.Places.{Places}
-use Rattle.layout.specs.Places.{sizesOf}
 use Rattle.promises.specs.Words.{Words, words, heapOf}
 use Rattle.promises.specs.Promises.{DidHere}
 use Rattle.promises.specs.Questions.{did-answer, did-asked}
@@ -31,22 +29,22 @@ pub record LeftToCaller (s : Sizes) (w : Words) (x : Command) (w′ : Words) (u 
   pub thread : u < s .threads
   pub same : w′ ≡ w
 
-abbrev pub Obeys : Places → List ℕ → List ℕ → List ℕ → Command → List ℕ → List ℕ → List ℕ → Obeyed → Type 0
-Obeys p c m t x c′ m′ t′ (Answered a) = DidHere (sizesOf p) (words c m t) x (words c′ m′ t′) (obeyedAnswer (Answered a))
-Obeys p c m t x c′ m′ t′ (Ends u) = LeftToCaller (sizesOf p) (words c m t) x (words c′ m′ t′) u
+abbrev pub Obeys : Sizes → List ℕ → List ℕ → List ℕ → Command → List ℕ → List ℕ → List ℕ → Obeyed → Type 0
+Obeys p c m t x c′ m′ t′ (Answered a) = DidHere p (words c m t) x (words c′ m′ t′) (obeyedAnswer (Answered a))
+Obeys p c m t x c′ m′ t′ (Ends u) = LeftToCaller p (words c m t) x (words c′ m′ t′) u
 
 -- d is what x was decoded to
-module _ (p : Places) (c m t : List ℕ) (x : Command) (d : Decoded) (g : Decodes (sizesOf p) x d) where
-  means : (e : Decoded) → d ≡ e → numberOf e ≡ 0 → Means (sizesOf p) x e
-  means e f z = decoded-means (subst (Decodes (sizesOf p) x) f g) z
+module _ (p : Sizes) (c m t : List ℕ) (x : Command) (d : Decoded) (g : Decodes p x d) where
+  means : (e : Decoded) → d ≡ e → numberOf e ≡ 0 → Means p x e
+  means e f z = decoded-means (subst (Decodes p x) f g) z
 
   -- its operands are in range
-  pub in-range : (e : Decoded) → d ≡ e → numberOf e ≡ 0 → Within (sizesOf p) e
+  pub in-range : (e : Decoded) → d ≡ e → numberOf e ≡ 0 → Within p e
   in-range e f z = means e f z .within
 
   -- what was promised of the decoded command is promised of it
   pub obeyed : (e : Decoded) → d ≡ e → numberOf e ≡ 0 → {c′ m′ t′ : List ℕ} {a : Answer} → Does p c m t e c′ m′ t′ a → Obeys p c m t x c′ m′ t′ (Answered a)
-  obeyed e f z {c′} {m′} {t′} {a} o = subst (λ (y : Command). DidHere (sizesOf p) (words c m t) y (words c′ m′ t′) a) (sym (means e f z .command)) o
+  obeyed e f z {c′} {m′} {t′} {a} o = subst (λ (y : Command). DidHere p (words c m t) y (words c′ m′ t′) a) (sym (means e f z .command)) o
 
   pub ends : (u : ℕ) → d ≡ End u → Obeys p c m t x c m t (Ends u)
   ends u f =
@@ -55,5 +53,5 @@ module _ (p : Places) (c m t : List ℕ) (x : Command) (d : Decoded) (g : Decode
 
   pub not-obeyed : Ready p c m t → (q : ℕ) → d ≡ Refused q → {a : Answer} → a ≡ refused q → Obeys p c m t x c m t (Answered a)
   not-obeyed r q f h =
-      let e = subst (Decodes (sizesOf p) x) f g in
-      did-answer h (did-asked (sizesOf p) (words c m t) (r .whole) x q (refused-number q e) (decoded-refused q e (heapOf (sizesOf p) (words c m t) .heap)))
+      let e = subst (Decodes p x) f g in
+      did-answer h (did-asked p (words c m t) (r .whole) x q (refused-number q e) (decoded-refused q e (heapOf p (words c m t) .heap)))

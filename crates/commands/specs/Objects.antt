@@ -14,10 +14,8 @@ use Rattle.rules.specs.NeverFreeing as nf
 use Rattle.rules.specs.NeverFreeing.{noObject, used, varOf, objectOf, place}
 use Rattle.rules.specs.Rules as ru
 use Rattle.rules.specs.Rules.{Regioned}
-use Rattle.layout.specs.declared.Places.{Places}
 use Rattle.layout.specs.declared.Kind.{Kind}
 use Rattle.layout.specs.declared.Kind.the-variants.{Reference, Number}
-use Rattle.layout.specs.Places.{sizesOf, placesOf}
 use Rattle.layout.specs.Cells.{headOf, fieldAt, fieldCount, kindAt, kind-low}
 use Rattle.promises.specs.Words.{Words, words, heapOf, Used, refCount}
 use Rattle.promises.specs.Whole.{WholeFor, IsRef}
@@ -35,9 +33,9 @@ use Rattle.commands.specs.Does.{Does}
 use Rattle.commands.specs.Variables.{variable-did, unchanged-did}
 
 -- x is what variable a of thread u holds
-module _ (p : Places) (c m t : List ℕ) (r : Ready p c m t) (u a : ℕ) (l : u < p .threads) (n : a < p .variables) (x : ℕ) (e : x ≡ variable p t u a) where
+module _ (p : Sizes) (c m t : List ℕ) (r : Ready p c m t) (u a : ℕ) (l : u < p .threads) (n : a < p .variables) (x : ℕ) (e : x ≡ variable p t u a) where
   abbrev s : Sizes
-  s = sizesOf p
+  s = p
 
   abbrev w : Words
   w = words c m t
@@ -48,8 +46,8 @@ module _ (p : Places) (c m t : List ℕ) (r : Ready p c m t) (u a : ℕ) (l : u 
   abbrev H : Regioned
   H = heapOf s w
 
-  pub is-ref : IsRef (placesOf s) t x
-  is-ref = subst (IsRef (placesOf s) t) (sym e) (var-ref s w k u a l n)
+  pub is-ref : IsRef s t x
+  is-ref = subst (IsRef s t) (sym e) (var-ref s w k u a l n)
 
   pub heap-var : varOf (limits s) (H .heap) u a ≡ x
   heap-var = here-var s w u a l n ∙ sym e

@@ -17,9 +17,8 @@ use Rattle.rules.specs.Rules as ru
 use Rattle.rules.specs.Rules.{Regioned, graph, first}
 use Rattle.laws.specs.GraphLaws.{Alive}
 use Rattle.laws.specs.RulesLaws.{Sound, sound-after}
-use Rattle.layout.specs.declared.Places.{Places}
 use Rattle.layout.specs.declared.Kind.the-variants.{Reference}
-use Rattle.layout.specs.Places.{Room, sizesOf, placesOf, ownerOf, usedIn, slotIn}
+use Rattle.layout.specs.Places.{Room, ownerOf, usedIn, slotIn}
 use Rattle.layout.specs.Cells.{headOf, fieldAt, fieldCount, kindAt, pageOf}
 use Rattle.promises.specs.Words.{Words, words, heapOf, Used, refCount}
 use Rattle.promises.specs.Crossing.{other, regionOf}
@@ -43,11 +42,11 @@ use Rattle.commands.specs.Fields.{Field}
 abbrev pub slotOf : List ℕ → ℕ → ℕ → ℕ
 slotOf c x f = kindAt Reference c (x - 1) f
 
-abbrev pub crossesFrom : Places → List ℕ → ℕ → ℕ → ℕ
+abbrev pub crossesFrom : Sizes → List ℕ → ℕ → ℕ → ℕ
 crossesFrom p t x v = crossesTo p t (x - 1) v
 
 -- what a store to that slot asks of the tables
-pub record Storing (p : Places) (c m t : List ℕ) (x f : ℕ) : Type 0 where
+pub record Storing (p : Sizes) (c m t : List ℕ) (x f : ℕ) : Type 0 where
   pub room : Room p (length t)
   pub field : Field Reference c x f
   pub page : pageOf (x - 1) < p .pages
@@ -56,22 +55,22 @@ pub record Storing (p : Places) (c m t : List ℕ) (x f : ℕ) : Type 0 where
   pub named : 0 < crossesFrom p t x (getD c (slotOf c x f) 0) → (i : ℕ) × (i < usedIn m) × (slotIn m i ≡ slotOf c x f)
 
 -- v was stored in reference f of x's object, or there was no room
-pub record Stored (p : Places) (c m t : List ℕ) (x f v : ℕ) (c′ m′ : List ℕ) (r : ℕ) : Type 0 where
+pub record Stored (p : Sizes) (c m t : List ℕ) (x f v : ℕ) (c′ m′ : List ℕ) (r : ℕ) : Type 0 where
   pub entries : Remembered (p .entries) m (slotOf c x f) (crossesFrom p t x (getD c (slotOf c x f) 0)) (crossesFrom p t x v) m′ r
   pub stored : r ≡ 0 → c′ ≡ set c (slotOf c x f) v
   pub full : (r ≡ 0 → ⊥) → c′ ≡ c
 
 -- y is x as the code widened it, page its page: what the crossing test gives
-pub cross-is : (p : Places) (t : List ℕ) (x v b page : ℕ) {r : ℕ} → b ≡ x - 1 → page ≡ pageOf b → r ≡ other (ownerOf p t page) (regionOf p t v) → r ≡ crossesFrom p t x v
+pub cross-is : (p : Sizes) (t : List ℕ) (x v b page : ℕ) {r : ℕ} → b ≡ x - 1 → page ≡ pageOf b → r ≡ other (ownerOf p t page) (regionOf p t v) → r ≡ crossesFrom p t x v
 cross-is p t x v b page q e h = h ∙ ap (λ (i : ℕ). other (ownerOf p t i) (regionOf p t v)) (e ∙ ap pageOf q)
 
 -- the slot, what it crossed into and what it will, as the code has them
-pub record Seen (p : Places) (c t : List ℕ) (x f v at was will : ℕ) : Type 0 where
+pub record Seen (p : Sizes) (c t : List ℕ) (x f v at was will : ℕ) : Type 0 where
   pub slot : at ≡ slotOf c x f
   pub before : was ≡ crossesFrom p t x (getD c (slotOf c x f) 0)
   pub after : will ≡ crossesFrom p t x v
 
-module _ (p : Places) (c m t : List ℕ) (x f v at was will : ℕ) (e : Seen p c t x f v at was will) where
+module _ (p : Sizes) (c m t : List ℕ) (x f v at was will : ℕ) (e : Seen p c t x f v at was will) where
   pub slot-few : Storing p c m t x f → at < 262144
   slot-few s = omega (arith, s .field, e .slot)
 
@@ -96,10 +95,10 @@ module _ (p : Places) (c m t : List ℕ) (x f v at was will : ℕ) (e : Seen p c
         }
 
 -- x is what variable a of thread u holds, v what variable b holds; q the answer to questions 9 and 10
-module _ (p : Places) (c m t : List ℕ) (r : Ready p c m t) (u a : ℕ) (l : u < p .threads) (n : a < p .variables) (x : ℕ) (e : x ≡ variable p t u a)
+module _ (p : Sizes) (c m t : List ℕ) (r : Ready p c m t) (u a : ℕ) (l : u < p .threads) (n : a < p .variables) (x : ℕ) (e : x ≡ variable p t u a)
     (b : ℕ) (o : b < p .variables) (f q : ℕ) (g : q ≡ used x f (fieldCount Reference (headOf c (x - 1)))) where
   abbrev s : Sizes
-  s = sizesOf p
+  s = p
 
   abbrev w : Words
   w = words c m t
@@ -137,7 +136,7 @@ module _ (p : Places) (c m t : List ℕ) (r : Ready p c m t) (u a : ℕ) (l : u 
     pub slot-named : 0 < crossesFrom p t x (getD c (slotOf c x f) 0) → (i : ℕ) × (i < usedIn m) × (slotIn m i ≡ slotOf c x f)
     slot-named h =
         let i = reference-named s w k y f 0 there inside
-        (subst (λ (P : Places). 0 < crossesFrom P t x (getD c (fieldAt y f) 0)) (r .places) (subst (λ (j : ℕ). 0 < crossesFrom p t x (getD c j 0)) (sym place) h)) in
+        (subst (λ (j : ℕ). 0 < crossesFrom p t x (getD c j 0)) (sym place) h) in
         (i .0, i .1, i .2 ∙ place)
 
     pub storing : length t < 2 ^ 63 → Storing p c m t x f
@@ -154,8 +153,8 @@ module _ (p : Places) (c m t : List ℕ) (r : Ready p c m t) (u a : ℕ) (l : u 
     module _ (v : ℕ) (ev : v ≡ variable p t u b) (c′ m′ : List ℕ) (j : ℕ) (d : Stored p c m t x f v c′ m′ j) where
       followed : Followed s w y f v m′ j
       followed =
-          subst (λ (i : ℕ). Remembered (s .entries) m i (crossesFrom (placesOf s) t x (getD c i 0)) (crossesFrom (placesOf s) t x v) m′ j) (sym place)
-          (subst (λ (P : Places). Remembered (s .entries) m (slotOf c x f) (crossesFrom P t x (getD c (slotOf c x f) 0)) (crossesFrom P t x v) m′ j) (r .places) (d .entries))
+          subst (λ (i : ℕ). Remembered (s .entries) m i (crossesFrom s t x (getD c i 0)) (crossesFrom s t x v) m′ j) (sym place)
+          (d .entries)
 
       abbrev object : Object
       object = getD (H .heap .objects) y noObject

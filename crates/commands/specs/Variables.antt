@@ -16,8 +16,7 @@ use Rattle.rules.specs.NeverFreeing as nf
 use Rattle.rules.specs.NeverFreeing.{place}
 use Rattle.rules.specs.Rules as ru
 use Rattle.rules.specs.Rules.{Regioned, asksEntries}
-use Rattle.layout.specs.declared.Places.{Places}
-use Rattle.layout.specs.Places.{sizesOf, placesOf, depthAt, depthOf, varAt}
+use Rattle.layout.specs.Places.{depthAt, depthOf, varAt}
 use Rattle.promises.specs.Words.{Words, words, heapOf}
 use Rattle.promises.specs.Whole.{WholeFor}
 use Rattle.promises.specs.Promises.{DidHere}
@@ -35,10 +34,10 @@ use Rattle.commands.specs.Does.{Does}
 -- a variable gets a reference that the rules give it
 pub variable-did : (s : Sizes) (w : Words) (k : WholeFor s w) (t a v : ℕ) → t < s .threads → a < s .variables → (m : Command) → FreesNone s w m → (x : ℕ) → nf.question (limits s) (heapOf s w .heap) m ≡ 0
     → asksEntries (nf.meaningOf m .effect) ≡ false → ru.after s (heapOf s w) m ≡ withVariable (heapOf s w) (place (limits s) t a) v → nf.valueOf (limits s) (heapOf s w .heap) m ≡ x
-    → DidHere s w m (withTables w (set (w .tables) (varAt (placesOf s) (place (limits s) t a)) v)) (done x)
+    → DidHere s w m (withTables w (set (w .tables) (varAt s (place (limits s) t a)) v)) (done x)
 variable-did s w k t a v l n m keeps x q e f y =
     let h = withVariable (heapOf s w) (place (limits s) t a) v in
-    did-done s w k m (withTables w (set (w .tables) (varAt (placesOf s) (place (limits s) t a)) v)) h x (question-fine s (heapOf s w) h m f refl refl q e) f y
+    did-done s w k m (withTables w (set (w .tables) (varAt s (place (limits s) t a)) v)) h x (question-fine s (heapOf s w) h m f refl refl q e) f y
     (variable-beyond s w k (place (limits s) t a) v (flat-low l n)) keeps
     (λ so. variable-stands s w (heapOf s w) (λ c. c) (heap-stands s w k) (place (limits s) t a) v v (flat-low l n) (sym (renamed-same v)) so)
 
@@ -48,9 +47,9 @@ pub unchanged-did : (s : Sizes) (w : Words) (k : WholeFor s w) (m : Command) →
 unchanged-did s w k m keeps x q e f y =
     did-done s w k m w (heapOf s w) x (question-fine s (heapOf s w) (heapOf s w) m f refl refl q e) f y (same-beyond s w) keeps (λ so. heap-stands s w k)
 
-module _ (p : Places) (c m t : List ℕ) (r : Ready p c m t) where
+module _ (p : Sizes) (c m t : List ℕ) (r : Ready p c m t) where
   abbrev s : Sizes
-  s = sizesOf p
+  s = p
 
   abbrev w : Words
   w = words c m t

@@ -1,10 +1,9 @@
 // Questions 6, 7 and 8.
 ghost use mathlib.Core.Path.{_≡_};
 ghost use mathlib.Core.Bool.{_&&_};
-ghost use Rattle.layout.specs.Places.{sizesOf};
 ghost use Rattle.commands.specs.Decoding.{checkedBy, Decodes};
 use crate::Decoded;
-use layout::Places;
+use rules::Sizes;
 use rules::Command;
 
 fn both(x: bool, y: bool) -> bool
@@ -27,8 +26,8 @@ fn checked(thread: bool, operands: bool, d: Decoded) -> Decoded
 }
 
 // One arm for each of the ten commands, with its operand rules. The sum b + c is one of usize and does not wrap.
-pub fn decode(p: Places, m: Command) -> Decoded
-    ensures { λ r. ⌜ Decodes (sizesOf p) m r ⌝ }
+pub fn decode(p: Sizes, m: Command) -> Decoded
+    ensures { λ r. ⌜ Decodes p m r ⌝ }
 {
     let t = layout::wide(m.thread);
     let a = layout::wide(m.a);

@@ -11,7 +11,7 @@ ghost use Rattle.commands.specs.declared.Decoded.the-variants.{Load, Rea
 use crate::variables::read_var;
 use crate::variables::write_var;
 use layout::Kind;
-use layout::Places;
+use rules::Sizes;
 use rules::Answer;
 
 // Questions 9 and 10, of a reference x and field f of its object.
@@ -65,7 +65,7 @@ pub fn write_field(kind: Kind, cells: &mut [u32], x: u32, f: usize, v: u32)
 
 // Code 6: reference f of the object in variable b is loaded into variable a; value 1 for an object, 0 for null.
 pub fn load(
-    p: Places,
+    p: Sizes,
     cells: &[u32],
     remember: &[u32],
     tables: &mut [u32],
@@ -93,7 +93,7 @@ pub fn load(
 
 // Code 8: the value is number f of the object in variable a.
 pub fn read(
-    p: Places,
+    p: Sizes,
     cells: &[u32],
     remember: &[u32],
     tables: &[u32],
@@ -116,7 +116,7 @@ pub fn read(
 
 // Code 9: v becomes number f of the object in variable a.
 pub fn write(
-    p: Places,
+    p: Sizes,
     cells: &mut [u32],
     remember: &[u32],
     tables: &[u32],

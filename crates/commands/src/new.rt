@@ -3,21 +3,21 @@ ghost use mathlib.Core.Path.{_≡_};
 ghost use Prim.Native.Nat.{_+_, _*_, _<_, _≤_};
 ghost use lib.ListN.{length};
 ghost use Rattle.rules.specs.Regions.{regionAt};
-ghost use Rattle.layout.specs.Places.{Room, sizesOf, depthOf};
+ghost use Rattle.layout.specs.Places.{Room, depthOf};
 ghost use Rattle.promises.specs.NewCell.{Blank};
 ghost use Rattle.pages.specs.Pages.{noteWords};
 ghost use Rattle.commands.specs.Ready.{Ready};
 ghost use Rattle.commands.specs.Does.{Does};
 ghost use Rattle.commands.specs.declared.Decoded.the-variants.{New};
 use crate::variables::write_var;
-use layout::Places;
+use rules::Sizes;
 use rules::Answer;
 
 // The region that thread t makes objects in.
-fn innermost(p: Places, tables: &[u32], t: usize) -> u32
+fn innermost(p: Sizes, tables: &[u32], t: usize) -> u32
     requires { ⌜ Room p (length (now tables)) ⌝ }
     requires { ⌜ (t < p .threads) × (depthOf (now tables) t ≤ p .depth) ⌝ }
-    ensures { λ r. ⌜ r ≡ regionAt (sizesOf p) t (depthOf (now (tables .entry)) t) ⌝ }
+    ensures { λ r. ⌜ r ≡ regionAt p t (depthOf (now (tables .entry)) t) ⌝ }
 {
     let d = layout::tables::depth(p, tables, t);
     layout::regions::region_at(p, t, layout::wide(d))
@@ -40,7 +40,7 @@ fn blank(cells: &mut [u32], cell: usize, references: usize, numbers: usize)
 // Code 3: a new object with b references and c numbers in variable a. It takes the first unused cell of its region's partly filled page,
 // else of a free page; if there is neither, there are no pages (13).
 pub fn new_object(
-    p: Places,
+    p: Sizes,
     cells: &mut [u32],
     remember: &[u32],
     tables: &mut [u32],

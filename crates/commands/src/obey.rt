@@ -16,13 +16,13 @@ use crate::variables::clear;
 use crate::variables::copy;
 use crate::variables::same;
 use crate::variables::start;
-use layout::Places;
+use rules::Sizes;
 use rules::Command;
 
 // Every command but an end is answered here; of an end, which changes nothing yet, the thread is given. The notes say where to look for
 // a page first (crate `pages`).
 pub fn obey(
-    p: Places,
+    p: Sizes,
     cells: &mut [u32],
     remember: &mut [u32],
     tables: &mut [u32],

@@ -16,11 +16,11 @@ use crate::fields::read_field;
 use crate::fields::write_field;
 use crate::variables::read_var;
 use layout::Kind;
-use layout::Places;
+use rules::Sizes;
 use rules::Answer;
 
 // The region that a reference x in a slot of a page crosses into, 0 where it does not cross.
-fn crosses(p: Places, tables: &[u32], page: usize, x: u32) -> u32
+fn crosses(p: Sizes, tables: &[u32], page: usize, x: u32) -> u32
     requires { ⌜ Room p (length (now tables)) ⌝ }
     requires { ⌜ page < p .pages ⌝ }
     ensures { λ r. ⌜ r ≡ other (ownerOf p (now (tables .entry)) page) (regionOf p (now (tables .entry)) x) ⌝ }
@@ -115,7 +115,7 @@ fn remember_slot(entries: usize, remember: &mut [u32], at: usize, was: u32, will
 
 // Reference v goes into reference f of x's object, unless there is no room for its entry (14).
 fn store_slot(
-    p: Places,
+    p: Sizes,
     cells: &mut [u32],
     remember: &mut [u32],
     tables: &[u32],
@@ -141,7 +141,7 @@ fn store_slot(
 
 // Code 7: variable c is stored in reference f of the object in variable a.
 pub fn store(
-    p: Places,
+    p: Sizes,
     cells: &mut [u32],
     remember: &mut [u32],
     tables: &[u32],

@@ -5,11 +5,11 @@ ghost use lib.ListN.{length, set};
 ghost use Rattle.commands.specs.Ready.{Ready, Placed, variable, variableAt};
 ghost use Rattle.commands.specs.Does.{Does};
 ghost use Rattle.commands.specs.declared.Decoded.the-variants.{Start, Copy, Clear, Same};
-use layout::Places;
+use rules::Sizes;
 use rules::Answer;
 
 // Variable a of thread t.
-pub fn read_var(p: Places, tables: &[u32], t: usize, a: usize) -> u32
+pub fn read_var(p: Sizes, tables: &[u32], t: usize, a: usize) -> u32
     requires { ⌜ Placed p (length (now tables)) ⌝ }
     requires { ⌜ (t < p .threads) × (a < p .variables) ⌝ }
     ensures { λ r. ⌜ r ≡ variable p (now (tables .entry)) t a ⌝ }
@@ -18,7 +18,7 @@ pub fn read_var(p: Places, tables: &[u32], t: usize, a: usize) -> u32
     layout::tables::var(p, tables, i)
 }
 
-pub fn write_var(p: Places, tables: &mut [u32], t: usize, a: usize, x: u32)
+pub fn write_var(p: Sizes, tables: &mut [u32], t: usize, a: usize, x: u32)
     requires { ⌜ Placed p (length (now tables)) ⌝ }
     requires { ⌜ (t < p .threads) × (a < p .variables) ⌝ }
     ensures { λ r. ⌜ now (tables .exit) ≡ set (now (tables .entry)) (variableAt p t a) x ⌝ }
@@ -28,7 +28,7 @@ pub fn write_var(p: Places, tables: &mut [u32], t: usize, a: usize, x: u32)
 }
 
 // Code 1: the depth of thread t rises by one.
-pub fn start(p: Places, cells: &[u32], remember: &[u32], tables: &mut [u32], t: usize) -> Answer
+pub fn start(p: Sizes, cells: &[u32], remember: &[u32], tables: &mut [u32], t: usize) -> Answer
     requires { ⌜ Ready p (now cells) (now remember) (now tables) ⌝ }
     requires { ⌜ t < p .threads ⌝ }
     ensures { λ r. ⌜ Does p (now (cells .entry)) (now (remember .entry)) (now (tables .entry)) (Start t) (now (cells .entry)) (now (remember .entry)) (now (tables .exit)) r ⌝ }
@@ -43,7 +43,7 @@ pub fn start(p: Places, cells: &[u32], remember: &[u32], tables: &mut [u32], t: 
 
 // Code 4: variable b of thread c is copied to variable a of thread t.
 pub fn copy(
-    p: Places,
+    p: Sizes,
     cells: &[u32],
     remember: &[u32],
     tables: &mut [u32],
@@ -63,7 +63,7 @@ pub fn copy(
 
 // Code 5: variable a becomes null.
 pub fn clear(
-    p: Places,
+    p: Sizes,
     cells: &[u32],
     remember: &[u32],
     tables: &mut [u32],
@@ -80,7 +80,7 @@ pub fn clear(
 
 // Code 10: do variables a and b hold the same object, or are both null?
 pub fn same(
-    p: Places,
+    p: Sizes,
     cells: &[u32],
     remember: &[u32],
     tables: &[u32],

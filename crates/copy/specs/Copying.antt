@@ -11,9 +11,9 @@ use Rattle.lists.specs.SetBits.{lower-bit}
 use Rattle.lists.specs.Counting.{sum, sum-more, sum-mono}
 use Rattle.rules.specs.Regions.{regionAt}
 use Rattle.rules.specs.Graph.{pagesOf}
-use Rattle.layout.specs.declared.Places.{Places}
+use Rattle.rules.specs.declared.Sizes.{Sizes}
 use Rattle.lists.specs.Products.{flat-low}
-use Rattle.layout.specs.Places.{markOf, sizesOf}
+use Rattle.layout.specs.Places.{markOf}
 use Rattle.layout.specs.Cells.{workOf}
 use Rattle.layout.specs.Marks.{marked}
 use Rattle.promises.specs.Whole.{objectsOf}
@@ -26,14 +26,14 @@ use Rattle.copy.specs.Passing.{Ready, Moves, Moves.none, Moves.more, ord
 
 -- ---- one page
 
-marked-at : (p : Places) (T : List ℕ) (q i : ℕ) → i < 16 → marked p T (16 * q + i) ≡ bitAt (markOf p T q) i
+marked-at : (p : Sizes) (T : List ℕ) (q i : ℕ) → i < 16 → marked p T (16 * q + i) ≡ bitAt (markOf p T q) i
 marked-at p T q i l =
     let d : (16 * q + i) / 16 ≡ q = omega arith in
     let m : (16 * q + i) % 16 ≡ i = omega arith in
     ap₂ (λ (x y : ℕ). bitAt (markOf p T x) y) d m
 
 -- the survivors on page q that go to g moved, but for those at the bits that are left; the pass is at page
-pub record PageMoves (p : Places) (g q left page : ℕ) (W T W′ T′ : List ℕ) : Type 0 where
+pub record PageMoves (p : Sizes) (g q left page : ℕ) (W T W′ T′ : List ℕ) : Type 0 where
   pub last : ℕ
   pub moves : Moves p (λ h. h ≡ g) (order g (16 * q)) W T last W′ T′
   pub later : (i : ℕ) → i < 16 → bitAt left i ≡ 1 → last ≤ order g (16 * q + i)
@@ -42,7 +42,7 @@ pub record PageMoves (p : Places) (g q left page : ℕ) (W T W′ T′ : List �
   pub bits : (i : ℕ) → i < 16 → bitAt left i ≡ 1 → marked p T′ (16 * q + i) ≡ 1
   pub done : (i : ℕ) → i < 16 → bitAt left i ≡ 0 → marked p T′ (16 * q + i) ≡ 1 → workOf W′ (16 * q + i) ≢ g
 
-pub page-begin : {p : Places} {g : ℕ} (q : ℕ) {page : ℕ} {W T : List ℕ} → Points p T g page → PageMoves p g q (markOf p T q % 2 ^ 16) page W T W T
+pub page-begin : {p : Sizes} {g : ℕ} (q : ℕ) {page : ℕ} {W T : List ℕ} → Points p T g page → PageMoves p g q (markOf p T q % 2 ^ 16) page W T W T
 page-begin {p} {g} q {page} {W} {T} a =
     record {
       last = order g (16 * q);
@@ -54,7 +54,7 @@ page-begin {p} {g} q {page} {W} {T} a =
       done = λ i l e on. absurd (let z : ⊥ = omega (arith, marked-at p T q i l, lower-bit (markOf p T q) i l) in z);
     }
 
-module _ {p : Places} {g q left page : ℕ} {W T W′ T′ : List ℕ} (a : Passing p g W T) (lt : q < p .pages) (i x : ℕ) (e : x ≡ 16 * q + i)
+module _ {p : Sizes} {g q left page : ℕ} {W T W′ T′ : List ℕ} (a : Passing p g W T) (lt : q < p .pages) (i x : ℕ) (e : x ≡ 16 * q + i)
     (l : Lowest left i) (low : i ≡ trailingZeros 32 left) (h : PageMoves p g q left page W T W′ T′) where
   page-on : marked p T′ x ≡ 1
   page-on = subst (λ (y : ℕ). marked p T′ y ≡ 1) (sym e) (h .bits i (l .lt) (l .on))
@@ -125,11 +125,11 @@ module _ {p : Places} {g q left page : ℕ} {W T W′ T′ : List ℕ} (a : Pass
       done′ j lj b on (no n) = h .done j lj (sym (clear-other i j left (l .on) n) ∙ b) on
 
 -- the survivors of page q that go to g moved; the pass is at page
-pub record PagePass (p : Places) (g q page : ℕ) (W T W′ T′ : List ℕ) : Type 0 where
+pub record PagePass (p : Sizes) (g q page : ℕ) (W T W′ T′ : List ℕ) : Type 0 where
   pub pass : Pass p g (λ c. c / 16 ≡ q) (order g (16 * q)) (order g (16 * (q + 1))) W T W′ T′
   pub points : Points p T′ g page
 
-pub page-pass : {p : Places} {g q left page : ℕ} {W T W′ T′ : List ℕ} → left ≡ 0 → PageMoves p g q left page W T W′ T′ → PagePass p g q page W T W′ T′
+pub page-pass : {p : Sizes} {g q left page : ℕ} {W T W′ T′ : List ℕ} → left ≡ 0 → PageMoves p g q left page W T W′ T′ → PagePass p g q page W T W′ T′
 page-pass {p} {g} {q} {left} {page} {W} {T} {W′} {T′} z h =
     record {
       pass =
@@ -145,14 +145,14 @@ page-pass {p} {g} {q} {left} {page} {W} {T} {W′} {T′} z h =
 
 -- ---- all pages: those below q are done
 
-pub record PassMoves (p : Places) (g q page : ℕ) (W T W′ T′ : List ℕ) : Type 0 where
+pub record PassMoves (p : Sizes) (g q page : ℕ) (W T W′ T′ : List ℕ) : Type 0 where
   pub pass : Pass p g (λ c. c / 16 < q) (order g 0) (order g (16 * q)) W T W′ T′
   pub points : Points p T′ g page
 
-pub pass-begin : {p : Places} {g page : ℕ} {W T : List ℕ} → Points p T g page → PassMoves p g 0 page W T W T
+pub pass-begin : {p : Sizes} {g page : ℕ} {W T : List ℕ} → Points p T g page → PassMoves p g 0 page W T W T
 pass-begin {g = g} a = record { pass = record { moves = none {m = order g (16 * 0)} (omega arith); done = λ c l. absurd (let z : ⊥ = omega arith in z) }; points = a }
 
-pub pass-next : {p : Places} {g q page n : ℕ} {W T W′ T′ W″ T″ : List ℕ} → Ready p W T → PassMoves p g q page W T W′ T′ → PagePass p g q n W′ T′ W″ T″
+pub pass-next : {p : Sizes} {g q page n : ℕ} {W T W′ T′ W″ T″ : List ℕ} → Ready p W T → PassMoves p g q page W T W′ T′ → PagePass p g q n W′ T′ W″ T″
     → PassMoves p g (q + 1) n W T W″ T″
 pass-next {p} {g} {q} {page} {n} {W} {T} {W′} {T′} {W″} {T″} a b d =
     record {
@@ -171,11 +171,11 @@ pass-next {p} {g} {q} {page} {n} {W} {T} {W′} {T′} {W″} {T″} a b d =
         λ z. b .pass .done c (omega arith) lp (u .0) (sym (u .1) ∙ z)
 
 -- a page without marks has no survivors
-pub no-marks : (p : Places) (T : List ℕ) (q : ℕ) → markOf p T q ≡ 0 → (c : ℕ) → c / 16 ≡ q → marked p T c ≡ 1 → ⊥
+pub no-marks : (p : Sizes) (T : List ℕ) (q : ℕ) → markOf p T q ≡ 0 → (c : ℕ) → c / 16 ≡ q → marked p T c ≡ 1 → ⊥
 no-marks p T q z c e on =
     omega (arith, ap (λ (x : ℕ). bitAt (markOf p T x) (c % 16)) e, ap (λ (x : ℕ). bitAt x (c % 16)) z, bit-zero (c % 16))
 
-pub pass-skip : {p : Places} {g q page : ℕ} {W T W′ T′ : List ℕ} → Ready p W T → markOf p T q ≡ 0 → PassMoves p g q page W T W′ T′ → PassMoves p g (q + 1) page W T W′ T′
+pub pass-skip : {p : Sizes} {g q page : ℕ} {W T W′ T′ : List ℕ} → Ready p W T → markOf p T q ≡ 0 → PassMoves p g q page W T W′ T′ → PassMoves p g (q + 1) page W T W′ T′
 pass-skip {p} {g} {q} {page} {W} {T} {W′} {T′} a z b =
     record {
       pass = record { moves = moves-later (omega arith) (b .pass .moves); done = λ c l lp on. go c l lp on (ℕ-discrete (c / 16) q) };
@@ -188,10 +188,10 @@ pass-skip {p} {g} {q} {page} {W} {T} {W′} {T′} a z b =
 
 -- ---- all targets: gs l for l below n, rising
 
-abbrev pub need : (p : Places) (g : ℕ) (W T : List ℕ) → ℕ
+abbrev pub need : (p : Sizes) (g : ℕ) (W T : List ℕ) → ℕ
 need p g W T = pagesOf (objectsOf p T g + hits p W T g) - pagesOf (objectsOf p T g)
 
-pub record Plan (p : Places) (n : ℕ) (gs : ℕ → ℕ) (W T : List ℕ) : Type 0 where
+pub record Plan (p : Sizes) (n : ℕ) (gs : ℕ → ℕ) (W T : List ℕ) : Type 0 where
   pub ready : Ready p W T
   pub small : (q : ℕ) → q < p .pages → markOf p T q < 2 ^ 16
   pub real : (l : ℕ) → l < n → 1 ≤ gs l
@@ -201,14 +201,14 @@ pub record Plan (p : Places) (n : ℕ) (gs : ℕ → ℕ) (W T : List ℕ) : Typ
   pub enough : sum (λ l. need p (gs l) W T) n ≤ pagesOwned p T 0
 
 -- the targets below l are done
-pub record Copy (p : Places) (n : ℕ) (gs : ℕ → ℕ) (l : ℕ) (W T W′ T′ : List ℕ) : Type 0 where
+pub record Copy (p : Sizes) (n : ℕ) (gs : ℕ → ℕ) (l : ℕ) (W T W′ T′ : List ℕ) : Type 0 where
   pub last : ℕ
   pub moves : Moves p (λ g. (j : ℕ) × (j < l) × (g ≡ gs j)) 0 W T last W′ T′
   pub later : (j : ℕ) → l ≤ j → j < n → last ≤ order (gs j) 0
   pub done : (j : ℕ) → j < l → (c : ℕ) → c / 16 < p .pages → marked p T′ c ≡ 1 → workOf W′ c ≢ gs j
   pub budget : sum (λ i. need p (gs i) W T) n ≤ pagesOwned p T′ 0 + sum (λ i. need p (gs i) W T) l
 
-pub copy-begin : {p : Places} {n : ℕ} {gs : ℕ → ℕ} {W T : List ℕ} → Plan p n gs W T → Copy p n gs 0 W T W T
+pub copy-begin : {p : Sizes} {n : ℕ} {gs : ℕ → ℕ} {W T : List ℕ} → Plan p n gs W T → Copy p n gs 0 W T W T
 copy-begin a =
     record {
       last = 0;
@@ -218,7 +218,7 @@ copy-begin a =
       budget = omega (arith, a .enough);
     }
 
-module _ {p : Places} {n : ℕ} {gs : ℕ → ℕ} {l : ℕ} {W T W′ T′ : List ℕ} (a : Plan p n gs W T) (lt : l < n) (b : Copy p n gs l W T W′ T′) where
+module _ {p : Sizes} {n : ℕ} {gs : ℕ → ℕ} {l : ℕ} {W T W′ T′ : List ℕ} (a : Plan p n gs W T) (lt : l < n) (b : Copy p n gs l W T W′ T′) where
   others : Others p (gs l) W T W′ T′
   others =
       moves-others (gs l) (a .real l lt)
@@ -289,7 +289,7 @@ module _ {p : Places} {n : ℕ} {gs : ℕ → ℕ} {l : ℕ} {W T W′ T′ : Li
       go j lj c lp on (no ne) = b .done j (omega arith) c lp on
 
 -- after all targets no survivor waits
-pub copy-clean : {p : Places} {n : ℕ} {gs : ℕ → ℕ} {W T W′ T′ : List ℕ} → Plan p n gs W T → Copy p n gs n W T W′ T′ → (c : ℕ) → c / 16 < p .pages → marked p T′ c ≡ 0
+pub copy-clean : {p : Sizes} {n : ℕ} {gs : ℕ → ℕ} {W T W′ T′ : List ℕ} → Plan p n gs W T → Copy p n gs n W T W′ T′ → (c : ℕ) → c / 16 < p .pages → marked p T′ c ≡ 0
 copy-clean {p} {n} {gs} {W} {T} {W′} {T′} a b c l =
     ⊎-elim (λ off. off)
     (λ on.
@@ -299,7 +299,7 @@ copy-clean {p} {n} {gs} {W} {T} {W′} {T′} a b c l =
     (mark? p T′ c)
 
 -- the survivors are those that are copied
-pub copy-copied : {p : Places} {n : ℕ} {gs : ℕ → ℕ} {W T W′ T′ : List ℕ} → Plan p n gs W T → Copy p n gs n W T W′ T′ → (c : ℕ) → c / 16 < p .pages → copied p T′ c ≡ marked p T c
+pub copy-copied : {p : Sizes} {n : ℕ} {gs : ℕ → ℕ} {W T W′ T′ : List ℕ} → Plan p n gs W T → Copy p n gs n W T W′ T′ → (c : ℕ) → c / 16 < p .pages → copied p T′ c ≡ marked p T c
 copy-copied {p} {T = T} a b c l =
     omega (
       arith,
@@ -309,17 +309,17 @@ copy-copied {p} {T = T} a b c l =
     )
 
 -- a page without survivors has no mark, and gets none
-pub no-survivors : {p : Places} {n : ℕ} {gs : ℕ → ℕ} {W T : List ℕ} → Plan p n gs W T → (q : ℕ) → q < p .pages → ((c : ℕ) → c / 16 ≡ q → marked p T c ≡ 1 → ⊥) → markOf p T q ≡ 0
+pub no-survivors : {p : Sizes} {n : ℕ} {gs : ℕ → ℕ} {W T : List ℕ} → Plan p n gs W T → (q : ℕ) → q < p .pages → ((c : ℕ) → c / 16 ≡ q → marked p T c ≡ 1 → ⊥) → markOf p T q ≡ 0
 no-survivors {p} {T = T} a q l off =
     all-clear 16 (markOf p T q) (a .small q l)
     (λ i li. sym (marked-at p T q i li) ∙ ⊎-elim (λ z. z) (λ on. absurd (off (16 * q + i) (omega arith) on)) (mark? p T (16 * q + i)))
 
-pub copy-marks : {p : Places} {n l : ℕ} {gs : ℕ → ℕ} {W T W′ T′ : List ℕ} → Plan p n gs W T → Copy p n gs l W T W′ T′ → (q : ℕ) → q < p .pages → markOf p T q ≡ 0
+pub copy-marks : {p : Sizes} {n l : ℕ} {gs : ℕ → ℕ} {W T W′ T′ : List ℕ} → Plan p n gs W T → Copy p n gs l W T W′ T′ → (q : ℕ) → q < p .pages → markOf p T q ≡ 0
     → markOf p T′ q ≡ 0
 copy-marks {p} {T = T} a b q l z = moves-marks (a .ready) (b .moves) q l (no-marks p T q z) ∙ z
 
 -- the region of a thread at a level is one of the regions
-pub region-bounds : (p : Places) (t l : ℕ) → t < p .threads → l ≤ p .depth → (1 ≤ regionAt (sizesOf p) t l) × (regionAt (sizesOf p) t l ≤ regionsOf p)
+pub region-bounds : (p : Sizes) (t l : ℕ) → t < p .threads → l ≤ p .depth → (1 ≤ regionAt p t l) × (regionAt p t l ≤ regionsOf p)
 unfolding regionAt
 region-bounds p t zero h k = (omega arith, omega arith)
 region-bounds p t (suc l) h k =

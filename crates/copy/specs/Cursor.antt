@@ -5,29 +5,29 @@ use mathlib.Core.List.{List}
 use Prim.Native.Nat.{ℕ, _≤_, _<_}
 use native.Mathlib.Decide.{decLt}
 use native.Mathlib.Omega.{arith}
-use Rattle.layout.specs.declared.Places.{Places}
+use Rattle.rules.specs.declared.Sizes.{Sizes}
 use Rattle.layout.specs.Places.{ownerOf, usedOf}
 use Rattle.pages.specs.Pages.{Found}
 use Rattle.pages.specs.Owned.{regionsOf}
 use Rattle.copy.specs.Taking.{Usable, Next, Took, Regular, took-owner}
 
 -- page q has no room
-pub record Full (p : Places) (T : List ℕ) (q : ℕ) : Type 0 where
+pub record Full (p : Sizes) (T : List ℕ) (q : ℕ) : Type 0 where
   pub low : q < p .pages
   pub full : 16 ≤ usedOf p T q
 
-abbrev pub Points : (p : Places) (T : List ℕ) (g page : ℕ) → Type 0
+abbrev pub Points : (p : Sizes) (T : List ℕ) (g page : ℕ) → Type 0
 Points p T g page = Found p T g page ⊎ Full p T page
 
 -- the pass is at this page, and one more object of g finds a page
-pub record Seeking (p : Places) (g : ℕ) (T : List ℕ) (page : ℕ) : Type 0 where
+pub record Seeking (p : Sizes) (g : ℕ) (T : List ℕ) (page : ℕ) : Type 0 where
   pub regular : Regular p T
   pub real : 1 ≤ g
   pub low : g ≤ regionsOf p
   pub usable : Usable p g T
   pub points : Points p T g page
 
-pub found-next : {p : Places} {T : List ℕ} {g page : ℕ} → Regular p T → Usable p g T → Found p T g page → Next p g page T
+pub found-next : {p : Sizes} {T : List ℕ} {g page : ℕ} → Regular p T → Usable p g T → Found p T g page → Next p g page T
 found-next r u (inl h) = record { low = h .low; found = inl h; part = h .partial .part }
 found-next {p} {T} {g} {page} r u (inr h) = go (u .why)
   where
@@ -37,7 +37,7 @@ found-next {p} {T} {g} {page} r u (inr h) = go (u .why)
         record { low = l; found = inr h; part = omega (arith, r .free page l (h .free l)) }
     go (inr z) = absurd (let y : ⊥ = omega (arith, z .1, h .none (u .at) (u .low) (z .0)) in y)
 
-module _ {p : Places} {T : List ℕ} {g page : ℕ} (a : Seeking p g T page) where
+module _ {p : Sizes} {T : List ℕ} {g page : ℕ} (a : Seeking p g T page) where
   pub points-low : page < p .pages
   points-low = ⊎-elim (λ h. found-next (a .regular) (a .usable) h .low) (λ h. h .low) (a .points)
 
@@ -46,7 +46,7 @@ module _ {p : Places} {T : List ℕ} {g page : ℕ} (a : Seeking p g T page) whe
   points-next l = ⊎-elim (found-next (a .regular) (a .usable)) (λ h. absurd (let z : ⊥ = omega (arith, h .full) in z)) (a .points)
 
 -- after a cell of the page is taken
-pub took-points : {p : Places} {g q : ℕ} {T T′ : List ℕ} {c : ℕ} → Regular p T → 1 ≤ g → g ≤ regionsOf p → Took p g q T T′ c → Points p T′ g q
+pub took-points : {p : Sizes} {g q : ℕ} {T T′ : List ℕ} {c : ℕ} → Regular p T → 1 ≤ g → g ≤ regionsOf p → Took p g q T T′ c → Points p T′ g q
 took-points {p} {g} {q} {T} {T′} r real low t = at (decLt (usedOf p T′ q) 16)
   where
     at : Dec (usedOf p T′ q < 16) → Points p T′ g q
@@ -54,7 +54,7 @@ took-points {p} {g} {q} {T} {T′} r real low t = at (decLt (usedOf p T′ q) 16
     at (no m) = inr (record { low = t .next .low; full = omega arith })
 
 -- owners and cells in use that stay
-pub points-same : {p : Places} {g page : ℕ} {T T′ : List ℕ} → ((x : ℕ) → x < p .pages → ownerOf p T′ x ≡ ownerOf p T x)
+pub points-same : {p : Sizes} {g page : ℕ} {T T′ : List ℕ} → ((x : ℕ) → x < p .pages → ownerOf p T′ x ≡ ownerOf p T x)
     → ((x : ℕ) → x < p .pages → usedOf p T′ x ≡ usedOf p T x) → Points p T g page → Points p T′ g page
 points-same {p} {g} {page} {T} {T′} eo eu = ⊎-elim (λ h. inl (found′ h)) (λ h. inr (record { low = h .low; full = omega (arith, eu page (h .low), h .full) }))
   where

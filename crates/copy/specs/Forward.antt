@@ -7,8 +7,8 @@ use Prim.Native.Nat.{ℕ, _+_, _-_, _*_, _/_, _≤_, _<_}
 use native.Mathlib.Decide.{ℕ-discrete}
 use native.Mathlib.Omega.{arith}
 use lib.ListN.{length, getD}
-use Rattle.layout.specs.declared.Places.{Places}
-use Rattle.layout.specs.Places.{ownerOf}
+use Rattle.rules.specs.declared.Sizes.{Sizes}
+use Rattle.layout.specs.Places.{ownerOf, ownersFrom}
 use Rattle.layout.specs.Cells.{workOf}
 use Rattle.layout.specs.Marks.{marked}
 use Rattle.promises.specs.Words.{InUse}
@@ -19,7 +19,7 @@ use Rattle.copy.specs.Passing.{Ready, Moves, Moves.none, Moves.more, ste
 use Rattle.copy.specs.Copying.{Plan, Copy, copy-clean, copy-copied}
 
 -- the object of the old cell c stands in cell d
-pub record Moved (p : Places) (W₀ T₀ W T : List ℕ) (c d : ℕ) : Type 0 where
+pub record Moved (p : Sizes) (W₀ T₀ W T : List ℕ) (c d : ℕ) : Type 0 where
   pub forward : workOf W c ≡ 1 + d
   pub new : InUse p T₀ d → ⊥
   pub used : InUse p T d
@@ -27,15 +27,15 @@ pub record Moved (p : Places) (W₀ T₀ W T : List ℕ) (c d : ℕ) : Type 0 wh
   pub body : (i : ℕ) → i < 16 → i ≢ 1 → getD W (16 * d + i) 0 ≡ getD W₀ (16 * c + i) 0
   pub clear : workOf W d ≡ 0
 
-pub record Gone (p : Places) (T₀ T : List ℕ) (c : ℕ) : Type 0 where
+pub record Gone (p : Sizes) (T₀ T : List ℕ) (c : ℕ) : Type 0 where
   pub page : c / 16 < p .pages
   pub was : marked p T₀ c ≡ 1
   pub now : marked p T c ≡ 0
 
-pub record Copying (p : Places) (W₀ T₀ W T : List ℕ) : Type 0 where
+pub record Copying (p : Sizes) (W₀ T₀ W T : List ℕ) : Type 0 where
   pub cells-size : length W ≡ length W₀
   pub tables-size : length T ≡ length T₀
-  pub rest : (x : ℕ) → (x < p .owners) ⊎ (endOf p ≤ x) → getD T x 0 ≡ getD T₀ x 0
+  pub rest : (x : ℕ) → (x < ownersFrom p) ⊎ (endOf p ≤ x) → getD T x 0 ≡ getD T₀ x 0
   pub beyond : (x : ℕ) → 256 * p .pages ≤ x → getD W x 0 ≡ getD W₀ x 0
   pub keeps : (x : ℕ) → InUse p T₀ x → InUse p T x
   pub owner : (x : ℕ) → InUse p T₀ x → ownerOf p T (x / 16) ≡ ownerOf p T₀ (x / 16)
@@ -46,7 +46,7 @@ pub record Copying (p : Places) (W₀ T₀ W T : List ℕ) : Type 0 where
   pub only : (d : ℕ) → InUse p T d → InUse p T₀ d ⊎ ((c : ℕ) × Gone p T₀ T c × (workOf W c ≡ 1 + d))
   pub once : (b c : ℕ) → Gone p T₀ T b → Gone p T₀ T c → workOf W b ≡ workOf W c → b ≡ c
 
-pub copying-start : (p : Places) (W T : List ℕ) → Copying p W T W T
+pub copying-start : (p : Sizes) (W T : List ℕ) → Copying p W T W T
 copying-start p W T =
     record {
       cells-size = refl;
@@ -63,7 +63,7 @@ copying-start p W T =
       once = λ b c h. absurd (let z : ⊥ = omega (arith, h .was, h .now) in z);
     }
 
-module _ {p : Places} {g q e : ℕ} {W₀ T₀ W T W′ T′ : List ℕ} (a₀ : Ready p W₀ T₀) (a : Ready p W T) (h : Copying p W₀ T₀ W T)
+module _ {p : Sizes} {g q e : ℕ} {W₀ T₀ W T W′ T′ : List ℕ} (a₀ : Ready p W₀ T₀) (a : Ready p W T) (h : Copying p W₀ T₀ W T)
     (s : Step p g q e W T W′ T′) where
   page : e / 16 < p .pages
   page = s .can .used .page
@@ -161,7 +161,7 @@ module _ {p : Places} {g q e : ℕ} {W₀ T₀ W T W′ T′ : List ℕ} (a₀ :
           h .once b c v′ w′
           (sym (step-link s b (used-now b (v .page) (v .was)) n) ∙ z ∙ step-link s c (used-now c (w .page) (w .was)) m)
 
-pub moves-copying : {p : Places} {G : ℕ → Type 0} {n m : ℕ} {W T W′ T′ : List ℕ} → Ready p W T → Moves p G n W T m W′ T′ → Copying p W T W′ T′
+pub moves-copying : {p : Sizes} {G : ℕ → Type 0} {n m : ℕ} {W T W′ T′ : List ℕ} → Ready p W T → Moves p G n W T m W′ T′ → Copying p W T W′ T′
 moves-copying {p} {G} {n} {m} {W} {T} a (none l) = copying-start p W T
 moves-copying a (more b h u v s) = copying-step a (moves-ready a b) (moves-copying a b) s
 
@@ -171,14 +171,14 @@ moves-copying a (more b h u v s) = copying-step a (moves-ready a b) (moves-copyi
 abbrev pub forward : List ℕ → ℕ → ℕ
 forward W c = workOf W c - 1
 
-pub record Forwards (p : Places) (W₀ T₀ W T : List ℕ) : Type 0 where
+pub record Forwards (p : Sizes) (W₀ T₀ W T : List ℕ) : Type 0 where
   pub copying : Copying p W₀ T₀ W T
   pub bits : (c : ℕ) → c / 16 < p .pages → copied p T c ≡ marked p T₀ c
   pub moved : (c : ℕ) → c / 16 < p .pages → marked p T₀ c ≡ 1 → Moved p W₀ T₀ W T c (forward W c)
   pub once : (b c : ℕ) → b / 16 < p .pages → marked p T₀ b ≡ 1 → c / 16 < p .pages → marked p T₀ c ≡ 1 → forward W b ≡ forward W c → b ≡ c
   pub only : (d : ℕ) → InUse p T d → InUse p T₀ d ⊎ ((c : ℕ) × (c / 16 < p .pages) × (marked p T₀ c ≡ 1) × (forward W c ≡ d))
 
-pub copy-forwards : {p : Places} {n : ℕ} {gs : ℕ → ℕ} {W T W′ T′ : List ℕ} → Plan p n gs W T → Copy p n gs n W T W′ T′ → Forwards p W T W′ T′
+pub copy-forwards : {p : Sizes} {n : ℕ} {gs : ℕ → ℕ} {W T W′ T′ : List ℕ} → Plan p n gs W T → Copy p n gs n W T W′ T′ → Forwards p W T W′ T′
 copy-forwards {p} {n} {gs} {W} {T} {W′} {T′} a b =
     record {
       copying = h;

@@ -10,7 +10,7 @@ use borrow.Author.Tests.{eq-eqb, ne-eqb}
 use lib.Dec.{eqb}
 use Rattle.lists.specs.Bits.{bitAt, bit-lt, no-bits, none-high, set-same, set-other, clear-same, clear-other}
 use Rattle.lists.specs.Counting.{sum}
-use Rattle.layout.specs.declared.Places.{Places}
+use Rattle.rules.specs.declared.Sizes.{Sizes}
 use Rattle.layout.specs.Places.{markAt, markOf}
 use Rattle.layout.specs.Cells.{workOf}
 use Rattle.layout.specs.Marks.{marked}
@@ -29,11 +29,11 @@ then-no a b x ne = ap (λ (t : Bool). cond t x 0) (ne-eqb a b ne)
 -- ---- marks
 
 -- where the mark word of cell c's page stands
-abbrev pub marksAt : Places → ℕ → ℕ
+abbrev pub marksAt : Sizes → ℕ → ℕ
 marksAt p c = markAt p (c / 16)
 
 -- A survivor that waits has its bit in the lower half of the mark word. Once it is copied, the bit stands in the upper half.
-abbrev pub copied : Places → List ℕ → ℕ → ℕ
+abbrev pub copied : Sizes → List ℕ → ℕ → ℕ
 copied p T c = bitAt (markOf p T (c / 16)) (16 + c % 16)
 
 abbrev pub raised : ℕ → ℕ → ℕ
@@ -53,7 +53,7 @@ module _ (w i : ℕ) (on : bitAt w i ≡ 1) (fresh : bitAt w (16 + i) ≡ 0) whe
   raised-other j ne nu = set-other (16 + i) j (w - 2 ^ i) clear-fresh nu ∙ clear-other i j w on ne
 
 -- a cell is marked or not
-pub mark? : (p : Places) (T : List ℕ) (c : ℕ) → (marked p T c ≡ 0) ⊎ (marked p T c ≡ 1)
+pub mark? : (p : Sizes) (T : List ℕ) (c : ℕ) → (marked p T c ≡ 0) ⊎ (marked p T c ≡ 1)
 mark? p T c = go (ℕ-discrete (marked p T c) 0)
   where
     go : Dec (marked p T c ≡ 0) → (marked p T c ≡ 0) ⊎ (marked p T c ≡ 1)
@@ -85,5 +85,5 @@ pub hit-no : (W : List ℕ) (g c : ℕ) → workOf W c ≢ g → hit W g c ≡ 0
 unfolding hit
 hit-no W g c ne = then-no (workOf W c) g 1 ne
 
-unfoldable pub hits : Places → List ℕ → List ℕ → ℕ → ℕ
+unfoldable pub hits : Sizes → List ℕ → List ℕ → ℕ → ℕ
 hits p W T g = sum (λ c. marked p T c * hit W g c) (16 * p .pages)

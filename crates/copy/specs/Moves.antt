@@ -10,8 +10,8 @@ use lib.Seq.{getD-set-same, getD-set-other}
 use Rattle.lists.specs.Bits.{bitAt}
 use Rattle.lists.specs.Counting.{sum-same, sum-high}
 use Rattle.rules.specs.Graph.{pagesOf}
-use Rattle.layout.specs.declared.Places.{Places}
-use Rattle.layout.specs.Places.{Room, ownerAt, usedAt, markAt, countAt, ownerOf, usedOf, markOf, countOf}
+use Rattle.rules.specs.declared.Sizes.{Sizes}
+use Rattle.layout.specs.Places.{Room, ownerAt, usedAt, markAt, countAt, ownerOf, usedOf, markOf, countOf, countsFrom, marksFrom, ownersFrom}
 use Rattle.layout.specs.Cells.{workOf}
 use Rattle.layout.specs.Marks.{marked}
 use Rattle.promises.specs.Words.{InUse}
@@ -92,7 +92,7 @@ half-copied {c} {d} {W} {W′} ne ld lc h v e =
 -- ---- one move
 
 -- survivor c can go to page q of region g
-pub record Movable (p : Places) (g q : ℕ) (W T : List ℕ) (c : ℕ) : Type 0 where
+pub record Movable (p : Sizes) (g q : ℕ) (W T : List ℕ) (c : ℕ) : Type 0 where
   pub regular : Regular p T
   pub real : 1 ≤ g
   pub low : g ≤ regionsOf p
@@ -103,7 +103,7 @@ pub record Movable (p : Places) (g q : ℕ) (W T : List ℕ) (c : ℕ) : Type 0 
   pub fresh : copied p T c ≡ 0
   pub target : workOf W c ≡ g
 
-pub record Step (p : Places) (g q c : ℕ) (W T W′ T′ : List ℕ) : Type 0 where
+pub record Step (p : Sizes) (g q c : ℕ) (W T W′ T′ : List ℕ) : Type 0 where
   pub can : Movable p g q W T c
   pub new : ℕ
   pub mid : List ℕ
@@ -111,18 +111,18 @@ pub record Step (p : Places) (g q c : ℕ) (W T W′ T′ : List ℕ) : Type 0 w
   pub copied : Copied c new W W′
   pub tables : T′ ≡ set mid (marksAt p c) (raised (getD mid (marksAt p c) 0) (c % 16))
 
-pub objects-few : {p : Places} {T : List ℕ} → Regular p T → (g : ℕ) → objectsOf p T g ≤ 16 * p .pages
+pub objects-few : {p : Sizes} {T : List ℕ} → Regular p T → (g : ℕ) → objectsOf p T g ≤ 16 * p .pages
 objects-few {p} {T} r g = sum-high (objectsOn p T g) 16 (p .pages) (λ x l. few x l (ℕ-discrete (ownerOf p T x) g))
   where
     few : (x : ℕ) → x < p .pages → Dec (ownerOf p T x ≡ g) → objectsOn p T g x ≤ 16
     few x l (yes e) = omega (arith, then-yes (ownerOf p T x) g (usedOf p T x) e, r .full x l)
     few x l (no n) = omega (arith, then-no (ownerOf p T x) g (usedOf p T x) n)
 
-pub count-fits : {p : Places} {T : List ℕ} → Regular p T → (g : ℕ) → 1 ≤ g → g ≤ regionsOf p → countOf p T g + 1 < 2 ^ 32
+pub count-fits : {p : Sizes} {T : List ℕ} → Regular p T → (g : ℕ) → 1 ≤ g → g ≤ regionsOf p → countOf p T g + 1 < 2 ^ 32
 count-fits {p} {T} r g real low = omega (arith, r .room .few, r .count g real low, objects-few r g)
 
 -- what the move needs of the cell that was taken
-pub record Taken (p : Places) (W T T′ : List ℕ) (c d at i : ℕ) : Type 0 where
+pub record Taken (p : Sizes) (W T T′ : List ℕ) (c d at i : ℕ) : Type 0 where
   pub apart : c ≢ d
   pub few : p .pages ≤ 1024
   pub cell : d / 16 < p .pages
@@ -133,7 +133,7 @@ pub record Taken (p : Places) (W T T′ : List ℕ) (c d at i : ℕ) : Type 0 wh
   pub on : bitAt (getD T′ at 0) i ≡ 1
   pub fresh : bitAt (getD T′ at 0) (16 + i) ≡ 0
 
-pub movable-taken : {p : Places} {g q : ℕ} {W T T′ : List ℕ} {c d : ℕ} → Movable p g q W T c → Took p g q T T′ d → Taken p W T T′ c d (marksAt p c) (c % 16)
+pub movable-taken : {p : Sizes} {g q : ℕ} {W T T′ : List ℕ} {c d : ℕ} → Movable p g q W T c → Took p g q T T′ d → Taken p W T T′ c d (marksAt p c) (c % 16)
 movable-taken {p} {g} {q} {W} {T} {T′} {c} {d} m t =
     let r = m .regular in
     let l = took-length r (m .real) (m .low) t in
@@ -151,12 +151,12 @@ movable-taken {p} {g} {q} {W} {T} {T′} {c} {d} m t =
 
 -- ---- words of pages and regions that stay
 
-pub record PagesKept (p : Places) (T T′ : List ℕ) : Type 0 where
+pub record PagesKept (p : Sizes) (T T′ : List ℕ) : Type 0 where
   pub size : length T′ ≡ length T
-  pub pages : (x : ℕ) → x < p .marks → getD T′ x 0 ≡ getD T x 0
-  pub counts : (x : ℕ) → p .counts ≤ x → getD T′ x 0 ≡ getD T x 0
+  pub pages : (x : ℕ) → x < marksFrom p → getD T′ x 0 ≡ getD T x 0
+  pub counts : (x : ℕ) → countsFrom p ≤ x → getD T′ x 0 ≡ getD T x 0
 
-module _ {p : Places} {T T′ : List ℕ} (r : Regular p T) (e : PagesKept p T T′) where
+module _ {p : Sizes} {T T′ : List ℕ} (r : Regular p T) (e : PagesKept p T T′) where
   pub kept-objects : (g : ℕ) → objectsOf p T′ g ≡ objectsOf p T g
   kept-objects g =
       sum-same (objectsOn p T′ g) (objectsOn p T g) (p .pages)
@@ -191,7 +191,7 @@ module _ {p : Places} {T T′ : List ℕ} (r : Regular p T) (e : PagesKept p T T
 
 -- ---- what one move does
 
-module _ {p : Places} {g q c : ℕ} {W T W′ T′ : List ℕ} (s : Step p g q c W T W′ T′) where
+module _ {p : Sizes} {g q c : ℕ} {W T W′ T′ : List ℕ} (s : Step p g q c W T W′ T′) where
   mid-long : marksAt p c < length (s .mid)
   mid-long = movable-taken (s .can) (s .took) .word
 
@@ -206,10 +206,10 @@ module _ {p : Places} {g q c : ℕ} {W T W′ T′ : List ℕ} (s : Step p g q c
       ap (λ (X : List ℕ). getD X x 0) (s .tables)
       ∙ getD-set-other (s .mid) (marksAt p c) x (raised (getD (s .mid) (marksAt p c) 0) (c % 16)) 0 ne
 
-  mid-pages : (x : ℕ) → x < p .marks → getD T′ x 0 ≡ getD (s .mid) x 0
+  mid-pages : (x : ℕ) → x < marksFrom p → getD T′ x 0 ≡ getD (s .mid) x 0
   mid-pages x l = mid-other x (λ e. omega arith)
 
-  mid-counts : (x : ℕ) → p .counts ≤ x → getD T′ x 0 ≡ getD (s .mid) x 0
+  mid-counts : (x : ℕ) → countsFrom p ≤ x → getD T′ x 0 ≡ getD (s .mid) x 0
   mid-counts x l = mid-other x (λ e. omega (arith, s .can .used .page))
 
   mid-kept : PagesKept p (s .mid) T′
@@ -238,7 +238,7 @@ module _ {p : Places} {g q c : ℕ} {W T W′ T′ : List ℕ} (s : Step p g q c
       )
 
   -- words of the tables that are neither a page's nor a count
-  pub step-rest : (x : ℕ) → (x < p .owners) ⊎ (endOf p ≤ x) → getD T′ x 0 ≡ getD T x 0
+  pub step-rest : (x : ℕ) → (x < ownersFrom p) ⊎ (endOf p ≤ x) → getD T′ x 0 ≡ getD T x 0
   step-rest x (inl l) =
       mid-pages x (omega arith)
       ∙ took-other (s .can .regular) (s .can .real) (s .can .low) (s .took) x (λ e. omega arith) (λ e. omega arith) (λ e. omega arith)

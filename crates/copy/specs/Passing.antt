@@ -8,7 +8,7 @@ use native.Mathlib.Omega.{arith}
 use lib.ListN.{length}
 use Rattle.lists.specs.Counting.{sum-change, sum-part}
 use Rattle.rules.specs.Graph.{pagesOf}
-use Rattle.layout.specs.declared.Places.{Places}
+use Rattle.rules.specs.declared.Sizes.{Sizes}
 use Rattle.layout.specs.Places.{markOf}
 use Rattle.layout.specs.Cells.{workOf}
 use Rattle.layout.specs.Marks.{marked}
@@ -20,13 +20,13 @@ use Rattle.copy.specs.Taking.{pagesOwned, Usable, Next, Regular, usable}
 use Rattle.copy.specs.Moves.{Movable, Step, step-regular, step-size, step-objects, step-objects-other, step-pages, step-marks, step-off, step-on, step-copied-other, step-bits, step-keeps, step-link}
 
 -- what holds before and after each move
-pub record Ready (p : Places) (W T : List ℕ) : Type 0 where
+pub record Ready (p : Sizes) (W T : List ℕ) : Type 0 where
   pub regular : Regular p T
   pub cells-long : 256 * p .pages ≤ length W
   pub used : (c : ℕ) → c / 16 < p .pages → marked p T c ≡ 1 → InUse p T c
   pub waits : (c : ℕ) → c / 16 < p .pages → marked p T c ≡ 1 → copied p T c ≡ 0
 
-module _ {p : Places} {g q c : ℕ} {W T W′ T′ : List ℕ} (a : Ready p W T) (s : Step p g q c W T W′ T′) where
+module _ {p : Sizes} {g q c : ℕ} {W T W′ T′ : List ℕ} (a : Ready p W T) (s : Step p g q c W T W′ T′) where
   -- a cell that is marked still
   not-moved : (x : ℕ) → marked p T′ x ≡ 1 → x ≢ c
   not-moved x on e = let z : marked p T′ c ≡ 1 = subst (λ (y : ℕ). marked p T′ y ≡ 1) e on in omega (arith, step-off s)
@@ -82,36 +82,36 @@ abbrev pub order : ℕ → ℕ → ℕ
 order g c = 16384 * g + c
 
 -- moves in rising order, from place n on and below m
-pub data Moves (p : Places) (G : ℕ → Type 0) (n : ℕ) (W T : List ℕ) : ℕ → List ℕ → List ℕ → Type 0 where
+pub data Moves (p : Sizes) (G : ℕ → Type 0) (n : ℕ) (W T : List ℕ) : ℕ → List ℕ → List ℕ → Type 0 where
   none : {m : ℕ} → n ≤ m → Moves p G n W T m W T
   more : {m k : ℕ} {W′ T′ W″ T″ : List ℕ} {g q c : ℕ} → Moves p G n W T m W′ T′ → G g → m ≤ order g c → order g c < k → Step p g q c W′ T′ W″ T″
       → Moves p G n W T k W″ T″
 
-pub moves-later : {p : Places} {G : ℕ → Type 0} {n m k : ℕ} {W T W′ T′ : List ℕ} → m ≤ k → Moves p G n W T m W′ T′ → Moves p G n W T k W′ T′
+pub moves-later : {p : Sizes} {G : ℕ → Type 0} {n m k : ℕ} {W T W′ T′ : List ℕ} → m ≤ k → Moves p G n W T m W′ T′ → Moves p G n W T k W′ T′
 moves-later {k = k} l (none h) = none {m = k} (omega arith)
 moves-later {k = k} l (more b h u v s) = more {k = k} b h u (omega arith) s
 
-pub moves-append : {p : Places} {G : ℕ → Type 0} {n m k : ℕ} {W T W′ T′ W″ T″ : List ℕ} → Moves p G n W T m W′ T′ → Moves p G m W′ T′ k W″ T″ → Moves p G n W T k W″ T″
+pub moves-append : {p : Sizes} {G : ℕ → Type 0} {n m k : ℕ} {W T W′ T′ W″ T″ : List ℕ} → Moves p G n W T m W′ T′ → Moves p G m W′ T′ k W″ T″ → Moves p G n W T k W″ T″
 moves-append a (none h) = moves-later h a
 moves-append a (more b h u v s) = more (moves-append a b) h u v s
 
-pub moves-map : {p : Places} {G H : ℕ → Type 0} {n m : ℕ} {W T W′ T′ : List ℕ} → ((g : ℕ) → G g → H g) → Moves p G n W T m W′ T′ → Moves p H n W T m W′ T′
+pub moves-map : {p : Sizes} {G H : ℕ → Type 0} {n m : ℕ} {W T W′ T′ : List ℕ} → ((g : ℕ) → G g → H g) → Moves p G n W T m W′ T′ → Moves p H n W T m W′ T′
 moves-map f (none l) = none l
 moves-map f (more {g = g} b h u v s) = more (moves-map f b) (f g h) u v s
 
-pub moves-ready : {p : Places} {G : ℕ → Type 0} {n m : ℕ} {W T W′ T′ : List ℕ} → Ready p W T → Moves p G n W T m W′ T′ → Ready p W′ T′
+pub moves-ready : {p : Sizes} {G : ℕ → Type 0} {n m : ℕ} {W T W′ T′ : List ℕ} → Ready p W T → Moves p G n W T m W′ T′ → Ready p W′ T′
 moves-ready a (none l) = a
 moves-ready a (more b h u v s) = step-ready (moves-ready a b) s
 
-pub moves-cells : {p : Places} {G : ℕ → Type 0} {n m : ℕ} {W T W′ T′ : List ℕ} → Moves p G n W T m W′ T′ → length W′ ≡ length W
+pub moves-cells : {p : Sizes} {G : ℕ → Type 0} {n m : ℕ} {W T W′ T′ : List ℕ} → Moves p G n W T m W′ T′ → length W′ ≡ length W
 moves-cells (none l) = refl
 moves-cells (more b h u v s) = s .copied .size ∙ moves-cells b
 
-pub moves-tables : {p : Places} {G : ℕ → Type 0} {n m : ℕ} {W T W′ T′ : List ℕ} → Moves p G n W T m W′ T′ → length T′ ≡ length T
+pub moves-tables : {p : Sizes} {G : ℕ → Type 0} {n m : ℕ} {W T W′ T′ : List ℕ} → Moves p G n W T m W′ T′ → length T′ ≡ length T
 moves-tables (none l) = refl
 moves-tables (more b h u v s) = step-size s ∙ moves-tables b
 
-pub moves-back : {p : Places} {G : ℕ → Type 0} {n m : ℕ} {W T W′ T′ : List ℕ} → Ready p W T → Moves p G n W T m W′ T′ → (x : ℕ) → x / 16 < p .pages
+pub moves-back : {p : Sizes} {G : ℕ → Type 0} {n m : ℕ} {W T W′ T′ : List ℕ} → Ready p W T → Moves p G n W T m W′ T′ → (x : ℕ) → x / 16 < p .pages
     → marked p T′ x ≡ 1 → (marked p T x ≡ 1) × (workOf W′ x ≡ workOf W x)
 moves-back a (none z) x l on = (on, refl)
 moves-back a (more b h y z s) x l on =
@@ -119,24 +119,24 @@ moves-back a (more b h y z s) x l on =
     let v = moves-back a b x l (u .0) in
     (v .0, u .1 ∙ v .1)
 
-pub moves-bits : {p : Places} {G : ℕ → Type 0} {n m : ℕ} {W T W′ T′ : List ℕ} → Moves p G n W T m W′ T′ → (x : ℕ) → x / 16 < p .pages
+pub moves-bits : {p : Sizes} {G : ℕ → Type 0} {n m : ℕ} {W T W′ T′ : List ℕ} → Moves p G n W T m W′ T′ → (x : ℕ) → x / 16 < p .pages
     → marked p T′ x + copied p T′ x ≡ marked p T x + copied p T x
 moves-bits (none z) x l = refl
 moves-bits (more b h y z s) x l = step-bits s x l ∙ moves-bits b x l
 
 -- a page without survivors keeps its mark word
-pub moves-marks : {p : Places} {G : ℕ → Type 0} {n m : ℕ} {W T W′ T′ : List ℕ} → Ready p W T → Moves p G n W T m W′ T′ → (q : ℕ) → q < p .pages
+pub moves-marks : {p : Sizes} {G : ℕ → Type 0} {n m : ℕ} {W T W′ T′ : List ℕ} → Ready p W T → Moves p G n W T m W′ T′ → (q : ℕ) → q < p .pages
     → ((c : ℕ) → c / 16 ≡ q → marked p T c ≡ 1 → ⊥) → markOf p T′ q ≡ markOf p T q
 moves-marks a (none z) q l off = refl
 moves-marks a (more {c = c} b h y z s) q l off =
     step-marks s q l (λ e. off c (sym e) (moves-back a b c (s .can .used .page) (s .can .on) .0)) ∙ moves-marks a b q l off
 
 -- a target of none of the moves
-pub record Others (p : Places) (h : ℕ) (W T W′ T′ : List ℕ) : Type 0 where
+pub record Others (p : Sizes) (h : ℕ) (W T W′ T′ : List ℕ) : Type 0 where
   pub objects : objectsOf p T′ h ≡ objectsOf p T h
   pub hits : hits p W′ T′ h ≡ hits p W T h
 
-pub moves-others : {p : Places} {G : ℕ → Type 0} {n m : ℕ} {W T W′ T′ : List ℕ} (h : ℕ) → 1 ≤ h → ((g : ℕ) → G g → h ≢ g) → Ready p W T
+pub moves-others : {p : Sizes} {G : ℕ → Type 0} {n m : ℕ} {W T W′ T′ : List ℕ} (h : ℕ) → 1 ≤ h → ((g : ℕ) → G g → h ≢ g) → Ready p W T
     → Moves p G n W T m W′ T′ → Others p h W T W′ T′
 moves-others h pos f a (none l) = record { objects = refl; hits = refl }
 moves-others h pos f a (more {g = g} b q l m s) =
@@ -147,11 +147,11 @@ moves-others h pos f a (more {g = g} b q l m s) =
     }
 
 -- the one target of all moves
-pub record Spent (p : Places) (g : ℕ) (W T W′ T′ : List ℕ) : Type 0 where
+pub record Spent (p : Sizes) (g : ℕ) (W T W′ T′ : List ℕ) : Type 0 where
   pub total : objectsOf p T′ g + hits p W′ T′ g ≡ objectsOf p T g + hits p W T g
   pub pages : pagesOf (objectsOf p T′ g) + pagesOwned p T′ 0 ≡ pagesOf (objectsOf p T g) + pagesOwned p T 0
 
-pub moves-spent : {p : Places} {g n m : ℕ} {W T W′ T′ : List ℕ} → Ready p W T → Moves p (λ h. h ≡ g) n W T m W′ T′ → Spent p g W T W′ T′
+pub moves-spent : {p : Sizes} {g n m : ℕ} {W T W′ T′ : List ℕ} → Ready p W T → Moves p (λ h. h ≡ g) n W T m W′ T′ → Spent p g W T W′ T′
 moves-spent a (none l) = record { total = refl; pages = refl }
 moves-spent {p} {g} a (more {W′ = X} {T′ = Y} {W″ = X′} {T″ = Y′} {g = h} {q = o} {c = c} b e l m s) =
     let u = moves-spent a b in
@@ -163,13 +163,13 @@ moves-spent {p} {g} a (more {W′ = X} {T′ = Y} {W″ = X′} {T″ = Y′} {g
 
 -- ---- a pass: survivors that go to g
 
-pub record Passing (p : Places) (g : ℕ) (W T : List ℕ) : Type 0 where
+pub record Passing (p : Sizes) (g : ℕ) (W T : List ℕ) : Type 0 where
   pub ready : Ready p W T
   pub real : 1 ≤ g
   pub low : g ≤ regionsOf p
   pub enough : pagesOf (objectsOf p T g + hits p W T g) ≤ pagesOf (objectsOf p T g) + pagesOwned p T 0
 
-pub moves-passing : {p : Places} {g n m : ℕ} {W T W′ T′ : List ℕ} → Passing p g W T → Moves p (λ h. h ≡ g) n W T m W′ T′ → Passing p g W′ T′
+pub moves-passing : {p : Sizes} {g n m : ℕ} {W T W′ T′ : List ℕ} → Passing p g W T → Moves p (λ h. h ≡ g) n W T m W′ T′ → Passing p g W′ T′
 moves-passing a b =
     let u = moves-spent (a .ready) b in
     record {
@@ -180,17 +180,17 @@ moves-passing a b =
     }
 
 -- a survivor that goes to g counts
-pub hit-some : (p : Places) (W T : List ℕ) (g c : ℕ) → c / 16 < p .pages → marked p T c ≡ 1 → workOf W c ≡ g → hits p W T g ≢ 0
+pub hit-some : (p : Sizes) (W T : List ℕ) (g c : ℕ) → c / 16 < p .pages → marked p T c ≡ 1 → workOf W c ≡ g → hits p W T g ≢ 0
 unfolding hits
 hit-some p W T g c l on e z =
     let one : marked p T c * hit W g c ≡ 1 = ap (λ (y : ℕ). y * hit W g c) on ∙ one-mul (hit W g c) ∙ hit-yes W g c e in
     omega (arith, one, sum-part (λ x. marked p T x * hit W g x) c (16 * p .pages) (omega arith))
 
-pub passing-usable : {p : Places} {g : ℕ} {W T : List ℕ} → Passing p g W T → (c : ℕ) → c / 16 < p .pages → marked p T c ≡ 1 → workOf W c ≡ g → Usable p g T
+pub passing-usable : {p : Sizes} {g : ℕ} {W T : List ℕ} → Passing p g W T → (c : ℕ) → c / 16 < p .pages → marked p T c ≡ 1 → workOf W c ≡ g → Usable p g T
 passing-usable {p} {g} {W} {T} a c l on e =
     usable (a .ready .regular) g (a .real) (hits p W T g) (let n : hits p W T g ≢ 0 = hit-some p W T g c l on e in omega arith) (a .enough)
 
-pub passing-movable : {p : Places} {g q : ℕ} {W T : List ℕ} → Passing p g W T → (c : ℕ) → c / 16 < p .pages → marked p T c ≡ 1 → workOf W c ≡ g → Next p g q T
+pub passing-movable : {p : Sizes} {g q : ℕ} {W T : List ℕ} → Passing p g W T → (c : ℕ) → c / 16 < p .pages → marked p T c ≡ 1 → workOf W c ≡ g → Next p g q T
     → Movable p g q W T c
 passing-movable a c l on e n =
     record {
@@ -206,6 +206,6 @@ passing-movable a c l on e n =
     }
 
 -- the survivors of which P holds went to g, in the order of their places from n on and below m
-pub record Pass (p : Places) (g : ℕ) (P : ℕ → Type 0) (n m : ℕ) (W T W′ T′ : List ℕ) : Type 0 where
+pub record Pass (p : Sizes) (g : ℕ) (P : ℕ → Type 0) (n m : ℕ) (W T W′ T′ : List ℕ) : Type 0 where
   pub moves : Moves p (λ h. h ≡ g) n W T m W′ T′
   pub done : (c : ℕ) → P c → c / 16 < p .pages → marked p T′ c ≡ 1 → workOf W′ c ≢ g

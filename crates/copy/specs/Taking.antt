@@ -12,8 +12,8 @@ use lib.ListN.{length, getD, set, length-set}
 use lib.Seq.{getD-set-same, getD-set-other}
 use Rattle.lists.specs.Counting.{bit, sum, sum-same, sum-change, sum-part, sum-times, sum-pos}
 use Rattle.rules.specs.Graph.{pagesOf}
-use Rattle.layout.specs.declared.Places.{Places}
-use Rattle.layout.specs.Places.{Room, ownerAt, usedAt, markAt, countAt, ownerOf, usedOf, markOf, countOf}
+use Rattle.rules.specs.declared.Sizes.{Sizes}
+use Rattle.layout.specs.Places.{Room, ownerAt, usedAt, markAt, countAt, ownerOf, usedOf, markOf, countOf, countsFrom}
 use Rattle.layout.specs.Cells.{cellOn}
 use Rattle.promises.specs.Words.{InUse}
 use Rattle.promises.specs.Whole.{objectsOn, objectsOf}
@@ -21,36 +21,36 @@ use Rattle.pages.specs.Owned.{ownedOne, ownedIn, regionsOf}
 use Rattle.pages.specs.Pages.{Partly, Found, Filled, taken}
 use Rattle.copy.specs.Marks.{sameThen, then-yes, then-no}
 
-abbrev pub endOf : Places → ℕ
-endOf p = p .counts + 1 + p .threads * p .depth
+abbrev pub endOf : Sizes → ℕ
+endOf p = countsFrom p + 1 + p .threads * p .depth
 
 -- 1 for a page of region g; the pages of region g, the free pages where g is 0
-abbrev pub ownedOn : Places → List ℕ → ℕ → ℕ → ℕ
+abbrev pub ownedOn : Sizes → List ℕ → ℕ → ℕ → ℕ
 ownedOn p T g page = sameThen (ownerOf p T page) g 1
 
-unfoldable pub pagesOwned : Places → List ℕ → ℕ → ℕ
+unfoldable pub pagesOwned : Sizes → List ℕ → ℕ → ℕ
 pagesOwned p T g = sum (ownedOn p T g) (p .pages)
 
 -- g has a page with room, or there is a free page
-pub record Usable (p : Places) (g : ℕ) (T : List ℕ) : Type 0 where
+pub record Usable (p : Sizes) (g : ℕ) (T : List ℕ) : Type 0 where
   pub at : ℕ
   pub low : at < p .pages
   pub why : (ownerOf p T at ≡ 0) ⊎ ((ownerOf p T at ≡ g) × (usedOf p T at < 16))
 
 -- page q is the one that the next object of g goes to, and has room
-pub record Next (p : Places) (g q : ℕ) (T : List ℕ) : Type 0 where
+pub record Next (p : Sizes) (g q : ℕ) (T : List ℕ) : Type 0 where
   pub low : q < p .pages
   pub found : Found p T g q
   pub part : usedOf p T q < 16
 
 -- cell c of page q was taken for g, the cell that a new object of g gets
-pub record Took (p : Places) (g q : ℕ) (T T′ : List ℕ) (c : ℕ) : Type 0 where
+pub record Took (p : Sizes) (g q : ℕ) (T T′ : List ℕ) (c : ℕ) : Type 0 where
   pub next : Next p g q T
   pub cell : c ≡ cellOn q (usedOf p T q)
   pub tables : T′ ≡ taken p T q g
 
 -- the pages and their counts as whole tables have them
-pub record Regular (p : Places) (T : List ℕ) : Type 0 where
+pub record Regular (p : Sizes) (T : List ℕ) : Type 0 where
   pub room : Room p (length T)
   pub free : (q : ℕ) → q < p .pages → ownerOf p T q ≡ 0 → usedOf p T q ≡ 0
   pub taken : (q : ℕ) → q < p .pages → ownerOf p T q ≢ 0 → 1 ≤ usedOf p T q
@@ -60,7 +60,7 @@ pub record Regular (p : Places) (T : List ℕ) : Type 0 where
 
 -- ---- the tables after a cell is taken
 
-module _ {p : Places} {g q : ℕ} {T T′ : List ℕ} {c : ℕ} (r : Regular p T) (real : 1 ≤ g) (low : g ≤ regionsOf p) (t : Took p g q T T′ c) where
+module _ {p : Sizes} {g q : ℕ} {T T′ : List ℕ} {c : ℕ} (r : Regular p T) (real : 1 ≤ g) (low : g ≤ regionsOf p) (t : Took p g q T T′ c) where
   T₁ : List ℕ
   T₁ = set T (ownerAt p q) g
 
@@ -253,7 +253,7 @@ module _ {p : Places} {g q : ℕ} {T T′ : List ℕ} {c : ℕ} (r : Regular p T
 
 -- ---- a region of n objects has pagesOf n pages, and gets one more where n fills them
 
-module _ {p : Places} {T : List ℕ} (r : Regular p T) (g : ℕ) (real : 1 ≤ g) where
+module _ {p : Sizes} {T : List ℕ} (r : Regular p T) (g : ℕ) (real : 1 ≤ g) where
   seek : (n : ℕ) → n ≤ p .pages → ((a : ℕ) × Partly p T g a) ⊎ ((x : ℕ) → x < n → ownerOf p T x ≡ g → 16 ≤ usedOf p T x)
   seek zero l = inr (λ x h. absurd (let z : ⊥ = omega arith in z))
   seek (suc n) l = go (seek n (omega arith)) (ℕ-discrete (ownerOf p T n) g) (decLt (usedOf p T n) 16)
@@ -356,11 +356,11 @@ module _ {p : Places} {T : List ℕ} (r : Regular p T) (g : ℕ) (real : 1 ≤ g
       zero-owner x h (no n) = absurd (let z : ⊥ = omega (arith, then-no (ownerOf p T x) 0 1 n) in z)
 
 -- taking a cell uses exactly the pages that one more object needs
-pub took-pages : {p : Places} {g q : ℕ} {T T′ : List ℕ} {c : ℕ} (r : Regular p T) (real : 1 ≤ g) (low : g ≤ regionsOf p) (t : Took p g q T T′ c)
+pub took-pages : {p : Sizes} {g q : ℕ} {T T′ : List ℕ} {c : ℕ} (r : Regular p T) (real : 1 ≤ g) (low : g ≤ regionsOf p) (t : Took p g q T T′ c)
     → pagesOf (objectsOf p T′ g) + pagesOwned p T′ 0 ≡ pagesOf (objectsOf p T g) + pagesOwned p T 0
 took-pages {p} {g} r real low t =
     omega (arith, took-owned r real low t, pages-owned r g real, pages-owned (took-regular r real low t) g real)
 
 -- the room stays where the length does
-pub room-same : {p : Places} {m n : ℕ} → m ≡ n → Room p n → Room p m
+pub room-same : {p : Sizes} {m n : ℕ} → m ≡ n → Room p n → Room p m
 room-same {p} e r = subst (λ (k : ℕ). Room p k) (sym e) r

@@ -5,7 +5,7 @@ ghost use Prim.Native.Nat.{ℕ, _+_, _*_, _/_, _<_, _≤_};
 ghost use lib.ListN.{length, getD};
 ghost use Rattle.lists.specs.Part.{Rises, Off};
 ghost use Rattle.rules.specs.Regions.{regionAt};
-ghost use Rattle.layout.specs.Places.{markOf, sizesOf};
+ghost use Rattle.layout.specs.Places.{markOf};
 ghost use Rattle.pages.specs.Pages.{noteWords};
 ghost use Rattle.copy.specs.Marks.{hits};
 ghost use Rattle.pages.specs.Owned.{regionsOf};
@@ -14,10 +14,10 @@ ghost use Rattle.copy.specs.Cursor.{Points, Seeking};
 ghost use Rattle.copy.specs.Moves.{Copied, Movable, Step};
 ghost use Rattle.copy.specs.Passing.{Passing, Pass, order};
 ghost use Rattle.copy.specs.Copying.{PagePass, Plan, Copy};
-use layout::Places;
+use rules::Sizes;
 
 // The page that the region's next object goes to: the one that the pass is at if it has room, else the one that is found.
-pub fn next_page(p: Places, tables: &[u32], notes: &mut [u32], region: u32, page: usize) -> usize
+pub fn next_page(p: Sizes, tables: &[u32], notes: &mut [u32], region: u32, page: usize) -> usize
     requires { ⌜ Seeking p region (now tables) page ⌝ }
     requires { ⌜ noteWords ≤ length (now notes) ⌝ }
     ensures { λ r. ⌜ Next p region r (now (tables .entry)) ⌝ }
@@ -47,7 +47,7 @@ pub fn copy_cell(cells: &mut [u32], old: usize, new: usize)
 
 // A survivor goes to the first unused cell of a page of the region, and its mark to the upper half of the word.
 pub fn move_cell(
-    p: Places,
+    p: Sizes,
     cells: &mut [u32],
     tables: &mut [u32],
     region: u32,
@@ -69,7 +69,7 @@ pub fn move_cell(
 // The survivors on a page that go to a region, in rising cell number: as many wait as the lower half of its mark word has ones. The answer is
 // the page that the pass is at then.
 pub fn copy_page(
-    p: Places,
+    p: Sizes,
     cells: &mut [u32],
     tables: &mut [u32],
     notes: &mut [u32],
@@ -103,7 +103,7 @@ pub fn copy_page(
 
 // The survivors that go to a region, all on the listed pages.
 pub fn copy_pass(
-    p: Places,
+    p: Sizes,
     cells: &mut [u32],
     tables: &mut [u32],
     notes: &mut [u32],
@@ -127,7 +127,7 @@ pub fn copy_pass(
 
 // Every survivor, by target in rising level: the region of the thread at each level below the ending one, where `come` says that some come.
 pub fn copy_survivors(
-    p: Places,
+    p: Sizes,
     cells: &mut [u32],
     tables: &mut [u32],
     notes: &mut [u32],
@@ -137,13 +137,13 @@ pub fn copy_survivors(
     thread: usize,
     levels: usize,
 )
-    requires { ⌜ Plan p levels (regionAt (sizesOf p) thread) (now cells) (now tables) ⌝ }
+    requires { ⌜ Plan p levels (regionAt p thread) (now cells) (now tables) ⌝ }
     requires { ⌜ (thread < p .threads) × (levels ≤ p .depth) ⌝ }
     requires { ⌜ Rises (p .pages) n (now list) ⌝ }
     requires { ⌜ ((page : ℕ) → page < p .pages → Off (now list) n page → markOf p (now tables) page ≡ 0) ⌝ }
     requires { ⌜ ((g : ℕ) → 1 ≤ g → g ≤ regionsOf p → getD (now come) g 0 ≡ 0 → hits p (now cells) (now tables) g ≡ 0) ⌝ }
     requires { ⌜ (noteWords ≤ length (now notes)) × (regionsOf p < length (now come)) ⌝ }
-    ensures { λ _. ⌜ Copy p levels (regionAt (sizesOf p) thread) levels (now (cells .entry)) (now (tables .entry)) (now (cells .exit)) (now (tables .exit)) ⌝ }
+    ensures { λ _. ⌜ Copy p levels (regionAt p thread) levels (now (cells .entry)) (now (tables .entry)) (now (cells .exit)) (now (tables .exit)) ⌝ }
 {
     let mut level: usize = 0;
     while level < levels {

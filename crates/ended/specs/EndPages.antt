@@ -16,7 +16,7 @@ use Rattle.laws.specs.RegionLaws.{numbers-rise}
 use Rattle.laws.specs.RulesLaws.{region-pos}
 use Rattle.laws.specs.Counts.{landed, objects-ended}
 use Rattle.laws.specs.EndLaws.{home-went, home-stayed}
-use Rattle.layout.specs.Places.{placesOf, countOf}
+use Rattle.layout.specs.Places.{countOf}
 use Rattle.promises.specs.Words.{Words, depthIn, homeIn, graphOf}
 use Rattle.promises.specs.Whole.{WholeFor}
 use Rattle.promises.specs.OwnedPages.{counted-objects}
@@ -127,7 +127,7 @@ module _ (s : Sizes) (w : Words) (whole : WholeFor s w) (t k : ℕ) (th : t < s 
       }
 
   -- by the counts of objects in the tables
-  pub new-pages-counted : pagesNeeded s w t k ≡ sum (λ j. morePages (countOf (placesOf s) (w .tables) (regionAt s t j)) (landed s g r (regionAt s t j))) (suc k)
+  pub new-pages-counted : pagesNeeded s w t k ≡ sum (λ j. morePages (countOf s (w .tables) (regionAt s t j)) (landed s g r (regionAt s t j))) (suc k)
   new-pages-counted =
       new-pages-ended
       ∙ sum-same _ _ (suc k) (λ j l. ap (λ (n : ℕ). morePages n (landed s g r (regionAt s t j)))

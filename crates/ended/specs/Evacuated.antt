@@ -9,7 +9,7 @@ use lib.Dec.{eqb}
 use Rattle.rules.specs.declared.Sizes.{Sizes}
 use Rattle.rules.specs.Regions.{regionAt}
 use Rattle.rules.specs.Graph.{target}
-use Rattle.layout.specs.Places.{placesOf, varOf, markOf, countOf}
+use Rattle.layout.specs.Places.{varOf, markOf, countOf}
 use Rattle.layout.specs.Cells.{pageOf, fieldOf, workOf}
 use Rattle.promises.specs.Words.{Words, Used, depthIn, ownerIn, headIn, refCount, graphOf}
 use Rattle.promises.specs.Whole.{PageWhole, Partial, objectsOf, RememberWhole}
@@ -61,7 +61,7 @@ pub record Evacuated (s : Sizes) (w : Words) (t k : ℕ) (w′ : Words) (forward
   pub depths : (u : ℕ) → u < s .threads → (u ≡ t → ⊥) → depthIn w′ u ≡ depthIn w u
   -- variables are rewritten; they are counted through all threads
   pub variables : (i : ℕ) → i < s .threads * s .variables
-      → varOf (placesOf s) (w′ .tables) i ≡ rewritten s w (regionAt s t (suc k)) forward (varOf (placesOf s) (w .tables) i)
+      → varOf s (w′ .tables) i ≡ rewritten s w (regionAt s t (suc k)) forward (varOf s (w .tables) i)
   -- objects outside r stay, survivors go, no two of them to one cell, and no other cell is in use
   pub stayed : (c : ℕ) → Outside s w (regionAt s t (suc k)) c → Stayed s w (regionAt s t (suc k)) forward w′ c
   pub went : (c : ℕ) → Survivor s w (regionAt s t (suc k)) c → Went s w (regionAt s t (suc k)) forward w′ c
@@ -69,8 +69,8 @@ pub record Evacuated (s : Sizes) (w : Words) (t k : ℕ) (w′ : Words) (forward
   pub only : (c : ℕ) → Used s w′ c
       → Outside s w (regionAt s t (suc k)) c ⊎ ((b : ℕ) × Survivor s w (regionAt s t (suc k)) b × (forward b ≡ c))
   -- pages, counts, marks and the remember table are whole (01, "Tables are whole"); a page of r, which is no longer open, is then free
-  pub pages : (page : ℕ) → page < s .pages → PageWhole (placesOf s) (w′ .tables) page
-  pub partial : (g : ℕ) → 1 ≤ g → (a b : ℕ) → a < b → b < s .pages → Partial (placesOf s) (w′ .tables) g a → Partial (placesOf s) (w′ .tables) g b → ⊥
-  pub counts : (g : ℕ) → 1 ≤ g → g ≤ 1 + s .threads * s .depth → countOf (placesOf s) (w′ .tables) g ≡ objectsOf (placesOf s) (w′ .tables) g
-  pub marks : (page : ℕ) → page < s .pages → markOf (placesOf s) (w′ .tables) page ≡ 0
-  pub remember : RememberWhole (placesOf s) (w′ .cells) (w′ .remember) (w′ .tables)
+  pub pages : (page : ℕ) → page < s .pages → PageWhole s (w′ .tables) page
+  pub partial : (g : ℕ) → 1 ≤ g → (a b : ℕ) → a < b → b < s .pages → Partial s (w′ .tables) g a → Partial s (w′ .tables) g b → ⊥
+  pub counts : (g : ℕ) → 1 ≤ g → g ≤ 1 + s .threads * s .depth → countOf s (w′ .tables) g ≡ objectsOf s (w′ .tables) g
+  pub marks : (page : ℕ) → page < s .pages → markOf s (w′ .tables) page ≡ 0
+  pub remember : RememberWhole s (w′ .cells) (w′ .remember) (w′ .tables)

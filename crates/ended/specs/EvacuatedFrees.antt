@@ -8,14 +8,13 @@ use mathlib.Core.Logic.{_⊎_, inl, inr}
 use Rattle.rules.specs.declared.Sizes.{Sizes}
 use Rattle.rules.specs.Regions.{regionAt}
 use Rattle.laws.specs.RulesLaws.{region-pos}
-use Rattle.layout.specs.Places.{placesOf}
 use Rattle.layout.specs.Cells.{pageOf, placeOf, cellOn}
 use Rattle.promises.specs.Words.{Words, Used, ownerIn, usedIn}
 use Rattle.promises.specs.Whole.{PageWhole, WholeFor}
 use Rattle.ended.specs.Evacuated.{Outside, Survivor, Evacuated}
 
 -- the first cell of a page that has an owner is in use
-first-used : (s : Sizes) (w : Words) (page : ℕ) → page < s .pages → PageWhole (placesOf s) (w .tables) page → 0 < ownerIn s w page → Used s w (cellOn page 0)
+first-used : (s : Sizes) (w : Words) (page : ℕ) → page < s .pages → PageWhole s (w .tables) page → 0 < ownerIn s w page → Used s w (cellOn page 0)
 first-used s w page l k o =
     let p : pageOf (cellOn page 0) ≡ page = omega arith in
     let i : placeOf (cellOn page 0) ≡ 0 = omega arith in

@@ -13,7 +13,7 @@ use Rattle.laws.specs.GraphLaws.{Alive}
 use Rattle.laws.specs.EndLaws.{closed-ended}
 use Rattle.laws.specs.RulesLaws.{region-pos}
 use Rattle.laws.specs.SameRules.{renamed}
-use Rattle.layout.specs.Places.{placesOf, sizesAt, cellsWords, rememberWords, tablesWords, depthOf, varOf}
+use Rattle.layout.specs.Places.{sizesAt, cellsWords, rememberWords, tablesWords, depthOf, varOf}
 use Rattle.layout.specs.Cells.{headOf, fieldOf, workOf}
 use Rattle.promises.specs.Words.{Words, Used, depthIn, refCount, graphOf}
 use Rattle.promises.specs.Whole.{SizesWhole, WholeFor, CellFormed, IsRef}
@@ -23,7 +23,7 @@ use Rattle.ended.specs.InCells.{InCell, was-there, reference-there, obje
 use Rattle.ended.specs.Rewriting.{cellAfter, outside-alive, survivor-alive, outside-cell, survivor-cell, rewritten-is}
 
 -- a reference that names an object that is there
-ref-alive : (s : Sizes) (w : Words) (to : ℕ → ℕ) (x : ℕ) → ((c : ℕ) → x ≡ suc c → Used s w (to c)) → IsRef (placesOf s) (w .tables) (renamed to x)
+ref-alive : (s : Sizes) (w : Words) (to : ℕ → ℕ) (x : ℕ) → ((c : ℕ) → x ≡ suc c → Used s w (to c)) → IsRef s (w .tables) (renamed to x)
 ref-alive s w to zero f l = absurd (let z : ⊥ = omega arith in z)
 ref-alive s w to (suc c) f l = subst (Used s w) (let e : to c ≡ suc (to c) - 1 = omega arith in e) (f c refl)
 
@@ -58,11 +58,11 @@ module _ (s : Sizes) (w : Words) (t k : ℕ) (w′ : Words) (forward : ℕ → �
   pub reference-after : (c : ℕ) → There c → (f : ℕ) → f < refCount w c → fieldOf (w′ .cells) (cell c) f ≡ renamed cell (fieldOf (w .cells) c f)
   reference-after = reference-in-cell s w whole r pos forward w′ (e .stayed) (e .went)
 
-  pub variable-after : (i : ℕ) → i < s .threads * s .variables → varOf (placesOf s) (w′ .tables) i ≡ renamed cell (varOf (placesOf s) (w .tables) i)
-  variable-after i l = e .variables i l ∙ rewritten-is s w whole r pos forward (varOf (placesOf s) (w .tables) i) (whole .placed .variables i l)
+  pub variable-after : (i : ℕ) → i < s .threads * s .variables → varOf s (w′ .tables) i ≡ renamed cell (varOf s (w .tables) i)
+  variable-after i l = e .variables i l ∙ rewritten-is s w whole r pos forward (varOf s (w .tables) i) (whole .placed .variables i l)
 
   -- what they name is there
-  variable-there : (i : ℕ) → i < s .threads * s .variables → (y : ℕ) → varOf (placesOf s) (w .tables) i ≡ suc y → There y
+  variable-there : (i : ℕ) → i < s .threads * s .variables → (y : ℕ) → varOf s (w .tables) i ≡ suc y → There y
   unfolding ended
   variable-there i l y q = closed-ended s (graphOf s w) r pos (words-closed s w whole) .vars i y (getD-vars s w i l ∙ q)
 
@@ -108,10 +108,10 @@ module _ (s : Sizes) (w : Words) (t k : ℕ) (w′ : Words) (forward : ℕ → �
             o .others i (omega arith) l ∙ f .rest i l m′;
       }
 
-  references-in : (b : ℕ) → There b → (f : ℕ) → f < headOf (w′ .cells) (cell b) / 16 → IsRef (placesOf s) (w′ .tables) (fieldOf (w′ .cells) (cell b) f)
+  references-in : (b : ℕ) → There b → (f : ℕ) → f < headOf (w′ .cells) (cell b) / 16 → IsRef s (w′ .tables) (fieldOf (w′ .cells) (cell b) f)
   references-in b a f l =
       let l′ : f < refCount w b = subst (λ (n : ℕ). f < n / 16) (in-cell b a .object .head) l in
-      subst (IsRef (placesOf s) (w′ .tables)) (sym (reference-after b a f l′))
+      subst (IsRef s (w′ .tables)) (sym (reference-after b a f l′))
       (ref-alive s w′ cell (fieldOf (w .cells) b f) (λ y q. in-cell y (reference-there s w whole r pos b a f l′ y q) .used))
 
   pub evacuated-whole : WholeFor s w′
@@ -124,10 +124,10 @@ module _ (s : Sizes) (w : Words) (t k : ℕ) (w′ : Words) (forward : ℕ → �
           pages = e .pages;
           partial = e .partial;
           counts = e .counts;
-          variables = λ i l. subst (IsRef (placesOf s) (w′ .tables)) (sym (variable-after i l))
-              (ref-alive s w′ cell (varOf (placesOf s) (w .tables) i) (λ y q. in-cell y (variable-there i l y q) .used));
+          variables = λ i l. subst (IsRef s (w′ .tables)) (sym (variable-after i l))
+              (ref-alive s w′ cell (varOf s (w .tables) i) (λ y q. in-cell y (variable-there i l y q) .used));
           references = λ c u. let b = from-cell c u in
-              subst (λ (x : ℕ). (f : ℕ) → f < headOf (w′ .cells) x / 16 → IsRef (placesOf s) (w′ .tables) (fieldOf (w′ .cells) x f)) (b .2) (references-in (b .0) (b .1));
+              subst (λ (x : ℕ). (f : ℕ) → f < headOf (w′ .cells) x / 16 → IsRef s (w′ .tables) (fieldOf (w′ .cells) x f)) (b .2) (references-in (b .0) (b .1));
           formed = λ c u. let b = from-cell c u in subst (CellFormed (w′ .cells)) (b .2) (formed-in (b .0) (b .1));
           marks = e .marks;
           working = λ c u. let b = from-cell c u in ap (workOf (w′ .cells)) (sym (b .2)) ∙ in-cell (b .0) (b .1) .object .working;

@@ -13,7 +13,6 @@ use Rattle.rules.specs.Graph.{target, ended}
 use Rattle.laws.specs.GraphLaws.{Alive}
 use Rattle.laws.specs.EndLaws.{home-stayed, home-went, was-alive}
 use Rattle.laws.specs.SameRules.{renamed}
-use Rattle.layout.specs.Places.{placesOf}
 use Rattle.layout.specs.Cells.{pageOf}
 use Rattle.promises.specs.Words.{Words, Used, ownerIn, homeIn, graphOf}
 use Rattle.promises.specs.Whole.{WholeFor, IsRef}
@@ -66,7 +65,7 @@ module _ (s : Sizes) (w : Words) (whole : WholeFor s w) (r : ℕ) (pos : 0 < r) 
     unfolding cellAfter
     survivor-cell c v = ap (λ (b : Bool). cond b (forward c) c) (eq-eqb (homeIn s w c) r (survivor-home c v))
 
-    pub rewritten-is : (x : ℕ) → IsRef (placesOf s) (w .tables) x → rewritten s w r forward x ≡ renamed (cellAfter s w r forward) x
+    pub rewritten-is : (x : ℕ) → IsRef s (w .tables) x → rewritten s w r forward x ≡ renamed (cellAfter s w r forward) x
     unfolding rewritten cellAfter
     rewritten-is zero u = refl
     rewritten-is (suc c) u =

@@ -9,7 +9,7 @@ use native.Mathlib.Omega.{arith}
 use borrow.Author.Tests.{eq-eqb, ne-eqb}
 use lib.Dec.{eqb}
 use lib.ListN.{getD}
-use Rattle.layout.specs.declared.Places.{Places}
+use Rattle.rules.specs.declared.Sizes.{Sizes}
 use Rattle.layout.specs.Places.{ownerOf}
 use Rattle.layout.specs.Cells.{workOf, fieldOf, refsOf}
 use Rattle.layout.specs.Marks.{marked}
@@ -26,11 +26,11 @@ use Rattle.evacuate.specs.Stages.{Lives}
 use Rattle.settle.specs.RewriteCopies.{Old}
 
 -- the cell that an object has after the copy
-unfoldable pub cellNow : Places → ℕ → List ℕ → List ℕ → ℕ → ℕ
+unfoldable pub cellNow : Sizes → ℕ → List ℕ → List ℕ → ℕ → ℕ
 cellNow p r T₀ W c = cond (eqb (ownerOf p T₀ (c / 16)) r) (forward W c) c
 
 -- the slot at x came from the slot at q; home says in which region an object lies afterwards
-pub record Came (p : Places) (r : ℕ) (home : ℕ → ℕ) (W₀ T₀ W : List ℕ) (x q : ℕ) : Type 0 where
+pub record Came (p : Sizes) (r : ℕ) (home : ℕ → ℕ) (W₀ T₀ W : List ℕ) (x q : ℕ) : Type 0 where
   pub lives : Lives p r T₀ (q / 16)
   pub field : 2 ≤ q % 16
   pub ref : q % 16 < refsOf W₀ (q / 16) + 2
@@ -40,7 +40,7 @@ pub record Came (p : Places) (r : ℕ) (home : ℕ → ℕ) (W₀ T₀ W : List 
   pub high : 1 < home names
   pub far : home (q / 16) ≢ home names
 
-module _ {p : Places} {r : ℕ} {S : ℕ → Type 0} {W₀ T₀ W T W′ : List ℕ} (s : Start p r S W₀ T₀) (a₀ : Ready p W₀ T₀) (F : Forwards p W₀ T₀ W T)
+module _ {p : Sizes} {r : ℕ} {S : ℕ → Type 0} {W₀ T₀ W T W′ : List ℕ} (s : Start p r S W₀ T₀) (a₀ : Ready p W₀ T₀) (F : Forwards p W₀ T₀ W T)
     (R : Rewritten p r (λ x. S x ⊎ Copies p r W T x) W T W′) where
   -- the cells of r with a forward reference are the survivors
   survivor : (c : ℕ) → Old p r W T c → InUse p T₀ c × (marked p T₀ c ≡ 1)

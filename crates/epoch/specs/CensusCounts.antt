@@ -14,8 +14,7 @@ use Rattle.rules.specs.Terms.{ask}
 use Rattle.rules.specs.Regions.{regionAt, regions}
 use Rattle.laws.specs.RulesLaws.{region-pos}
 use Rattle.laws.specs.RegionLaws.{region-high}
-use Rattle.layout.specs.declared.Places.{Places}
-use Rattle.layout.specs.Places.{placesOf, sizesOf, Room, countOf}
+use Rattle.layout.specs.Places.{Room, countOf}
 use Rattle.layout.specs.Cells.{pageOf, workOf}
 use Rattle.layout.specs.Marks.{marked}
 use Rattle.promises.specs.Words.{Words, depthIn}
@@ -35,27 +34,27 @@ use Rattle.evacuation.specs.MarkedWords.{owner-same, count-same}
 use Rattle.epoch.specs.PagesEnough.{marked-survivor, survivor-level}
 
 -- the new pages for region g, and for the regions of thread t at the levels below n
-unfoldable pub levelNeeds : Places → List ℕ → List ℕ → ℕ → ℕ
+unfoldable pub levelNeeds : Sizes → List ℕ → List ℕ → ℕ → ℕ
 levelNeeds p W T g = morePages (countOf p T g) (overMarked p T (goesTo W g) (p .pages))
 
-abbrev pub needsBelow : Places → List ℕ → List ℕ → ℕ → ℕ → ℕ
-needsBelow p W T t n = sum (λ l. levelNeeds p W T (regionAt (sizesOf p) t l)) n
+abbrev pub needsBelow : Sizes → List ℕ → List ℕ → ℕ → ℕ → ℕ
+needsBelow p W T t n = sum (λ l. levelNeeds p W T (regionAt p t l)) n
 
 -- ---- as the code counts
 
 -- the same by the arrivals that come says
-unfoldable pub levelMore : Places → List ℕ → List ℕ → ℕ → ℕ
+unfoldable pub levelMore : Sizes → List ℕ → List ℕ → ℕ → ℕ
 levelMore p T come g = morePages (countOf p T g) (getD come g 0)
 
-abbrev pub moreBelow : Places → List ℕ → List ℕ → ℕ → ℕ → ℕ
-moreBelow p T come t n = sum (λ l. levelMore p T come (regionAt (sizesOf p) t l)) n
+abbrev pub moreBelow : Sizes → List ℕ → List ℕ → ℕ → ℕ → ℕ
+moreBelow p T come t n = sum (λ l. levelMore p T come (regionAt p t l)) n
 
-pub more-needs : (p : Places) (W T come : List ℕ) (t n : ℕ) → Arrivals p W T (p .pages) come → moreBelow p T come t n ≡ needsBelow p W T t n
+pub more-needs : (p : Sizes) (W T come : List ℕ) (t n : ℕ) → Arrivals p W T (p .pages) come → moreBelow p T come t n ≡ needsBelow p W T t n
 unfolding levelMore levelNeeds
-more-needs p W T come t n a = sum-same _ _ n (λ l h. ap (morePages (countOf p T (regionAt (sizesOf p) t l))) (a (regionAt (sizesOf p) t l)))
+more-needs p W T come t n a = sum-same _ _ n (λ l h. ap (morePages (countOf p T (regionAt p t l))) (a (regionAt p t l)))
 
 -- arrivals and have are as the code has them
-module _ (p : Places) (T come : List ℕ) (g arrivals : ℕ) (e : arrivals ≡ getD come g 0) where
+module _ (p : Sizes) (T come : List ℕ) (g arrivals : ℕ) (e : arrivals ≡ getD come g 0) where
   pub more-none : arrivals ≡ 0 → 0 ≡ levelMore p T come g
   unfolding levelMore
   more-none z = omega (arith, e)
@@ -65,27 +64,27 @@ module _ (p : Places) (T come : List ℕ) (g arrivals : ℕ) (e : arrivals ≡ g
   more-some have h = ap₂ (λ (a b : ℕ). morePages a b) h e
 
 -- none for a region that nobody goes to
-pub needs-none : (p : Places) (W T : List ℕ) (g : ℕ) → overMarked p T (goesTo W g) (p .pages) ≡ 0 → levelNeeds p W T g ≡ 0
+pub needs-none : (p : Sizes) (W T : List ℕ) (g : ℕ) → overMarked p T (goesTo W g) (p .pages) ≡ 0 → levelNeeds p W T g ≡ 0
 unfolding levelNeeds
 needs-none p W T g z = omega (arith, z)
 
 -- questions 13 and 14 on marked words, as the code asks them: the regions of thread t at the levels below n grow, the one at level n ends
-unfoldable pub roomAsked : Places → List ℕ → List ℕ → List ℕ → ℕ → ℕ → ℕ
+unfoldable pub roomAsked : Sizes → List ℕ → List ℕ → List ℕ → ℕ → ℕ → ℕ
 roomAsked p W M T t n =
-    ask (leb (needsBelow p W T t n) (ownedIn p T 0 (p .pages))) 13 (ask (leb (ce.crossingAfter p W M T (regionAt (sizesOf p) t n)) (p .entries)) 14 0)
+    ask (leb (needsBelow p W T t n) (ownedIn p T 0 (p .pages))) 13 (ask (leb (ce.crossingAfter p W M T (regionAt p t n)) (p .entries)) 14 0)
 
 -- the number that the code found
-module _ (p : Places) (W M T : List ℕ) (t n : ℕ) {needed free : ℕ} (en : needed ≡ needsBelow p W T t n) (ef : free ≡ ownedIn p T 0 (p .pages)) where
+module _ (p : Sizes) (W M T : List ℕ) (t n : ℕ) {needed free : ℕ} (en : needed ≡ needsBelow p W T t n) (ef : free ≡ ownedIn p T 0 (p .pages)) where
   pub asked-pages : free < needed → 13 ≡ roomAsked p W M T t n
   unfolding roomAsked ask
   asked-pages l =
-      sym (ap (λ (b : Bool). ask b 13 (ask (leb (ce.crossingAfter p W M T (regionAt (sizesOf p) t n)) (p .entries)) 14 0)) (lt-leb _ _ (subst₂ (λ (a b : ℕ). a < b) ef en l)))
+      sym (ap (λ (b : Bool). ask b 13 (ask (leb (ce.crossingAfter p W M T (regionAt p t n)) (p .entries)) 14 0)) (lt-leb _ _ (subst₂ (λ (a b : ℕ). a < b) ef en l)))
 
-  module _ {crossing r : ℕ} (er : r ≡ regionAt (sizesOf p) t n) (ec : crossing ≡ ce.crossingAfter p W M T r) (l : needed ≤ free) where
-    crossing-is : crossing ≡ ce.crossingAfter p W M T (regionAt (sizesOf p) t n)
+  module _ {crossing r : ℕ} (er : r ≡ regionAt p t n) (ec : crossing ≡ ce.crossingAfter p W M T r) (l : needed ≤ free) where
+    crossing-is : crossing ≡ ce.crossingAfter p W M T (regionAt p t n)
     crossing-is = ec ∙ ap (ce.crossingAfter p W M T) er
 
-    then : (b : Bool) → leb (ce.crossingAfter p W M T (regionAt (sizesOf p) t n)) (p .entries) ≡ b → roomAsked p W M T t n ≡ ask b 14 0
+    then : (b : Bool) → leb (ce.crossingAfter p W M T (regionAt p t n)) (p .entries) ≡ b → roomAsked p W M T t n ≡ ask b 14 0
     unfolding roomAsked ask
     then b e = ap₂ (λ (a c : Bool). ask a 13 (ask c 14 0)) (le-leb _ _ (subst₂ (λ (a b : ℕ). a ≤ b) en ef l)) e
 
@@ -98,7 +97,7 @@ module _ (p : Places) (W M T : List ℕ) (t n : ℕ) {needed free : ℕ} (en : n
     asked-none m = sym (then true (le-leb _ _ (subst (λ (x : ℕ). x ≤ p .entries) crossing-is m)))
 
 -- as the copy counts them
-pub arrivals-hits : (p : Places) (W T come : List ℕ) → Arrivals p W T (p .pages) come → (g : ℕ) → getD come g 0 ≡ hits p W T g
+pub arrivals-hits : (p : Sizes) (W T come : List ℕ) → Arrivals p W T (p .pages) come → (g : ℕ) → getD come g 0 ≡ hits p W T g
 unfolding hits hit goesTo
 arrivals-hits p W T come a g =
     a g ∙ over-cells p T (goesTo W g) ∙ sum-same _ _ (16 * p .pages) (λ c l. ap (λ (n : ℕ). marked p T c * n) (one (eqb (workOf W c) g)))
@@ -108,14 +107,14 @@ arrivals-hits p W T come a g =
     one false = refl
 
 -- there are at most 16 threads of at most 8 levels
-pub regions-few : {p : Places} {n : ℕ} → Room p n → regions (sizesOf p) < 130
+pub regions-few : {p : Sizes} {n : ℕ} → Room p n → regions p < 130
 regions-few {p} r = omega (arith, mul-le-mul (r .threads-high) (r .depth-high))
 
 -- ---- as the rules count
 
-module _ (s : Sizes) (w : Words) (k : WholeFor s w) (space : Room (placesOf s) (length (w .tables))) (t j : ℕ) (th : t < s .threads) (deep : depthIn w t ≡ suc j)
+module _ (s : Sizes) (w : Words) (k : WholeFor s w) (space : Room s (length (w .tables))) (t j : ℕ) (th : t < s .threads) (deep : depthIn w t ≡ suc j)
     (w₁ : Words) (M : Marked s w (regionAt s t (suc j)) w₁) where
-  pub needs-are : needsBelow (placesOf s) (w₁ .cells) (w₁ .tables) t (suc j) ≡ pagesNeeded s w t j
+  pub needs-are : needsBelow s (w₁ .cells) (w₁ .tables) t (suc j) ≡ pagesNeeded s w t j
   unfolding levelNeeds
   needs-are =
       sum-same _ _ (suc j)
@@ -125,14 +124,14 @@ module _ (s : Sizes) (w : Words) (k : WholeFor s w) (space : Room (placesOf s) (
       ∙ sym (new-pages-counted s w k t j th deep)
 
   -- survivors go to regions
-  pub targets-low : (c : ℕ) → pageOf c < s .pages → marked (placesOf s) (w₁ .tables) c ≡ 1 → workOf (w₁ .cells) c ≤ regions s
+  pub targets-low : (c : ℕ) → pageOf c < s .pages → marked s (w₁ .tables) c ≡ 1 → workOf (w₁ .cells) c ≤ regions s
   targets-low c l on =
       let v = survivor-level s w k space t j th deep w₁ M c (marked-survivor s w (regionAt s t (suc j)) w₁ M c l on) in
-      omega (arith, v .2, region-bounds (placesOf s) t (v .0) th (omega (arith, v .1, k .placed .depths t th)))
+      omega (arith, v .2, region-bounds s t (v .0) th (omega (arith, v .1, k .placed .depths t th)))
 
-  pub free-are : ownedIn (placesOf s) (w₁ .tables) 0 (s .pages) ≡ pagesOwned s w 0
+  pub free-are : ownedIn s (w₁ .tables) 0 (s .pages) ≡ pagesOwned s w 0
   unfolding ownedOne
   free-are = sum-same _ _ (s .pages) (λ page l. ap (λ (x : ℕ). bit (eqb x 0)) (owner-same M space page l))
 
-  pub crossing-are : ce.crossingAfter (placesOf s) (w₁ .cells) (w₁ .remember) (w₁ .tables) (regionAt s t (suc j)) ≡ crossingAfter s w t j
+  pub crossing-are : ce.crossingAfter s (w₁ .cells) (w₁ .remember) (w₁ .tables) (regionAt s t (suc j)) ≡ crossingAfter s w t j
   crossing-are = crossing-after s w k space (regionAt s t (suc j)) (region-high s t j) w₁ M

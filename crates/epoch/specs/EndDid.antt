@@ -17,8 +17,7 @@ use Rattle.rules.specs.Regions.{regionAt, regions}
 use Rattle.rules.specs.Graph.{pagesOf}
 use Rattle.rules.specs.Rules as ru
 use Rattle.laws.specs.RulesLaws.{region-pos}
-use Rattle.layout.specs.declared.Places.{Places}
-use Rattle.layout.specs.Places.{placesOf, sizesOf, Room, depthAt, depthOf, ownerOf, markOf, usedIn, slotIn}
+use Rattle.layout.specs.Places.{Room, depthAt, depthOf, ownerOf, markOf, usedIn, slotIn}
 use Rattle.layout.specs.Cells.{pageOf, placeOf, workOf}
 use Rattle.layout.specs.Marks.{marked}
 use Rattle.promises.specs.Words.{Words, words, InUse, depthIn, heapOf}
@@ -55,17 +54,16 @@ both-yes false c e = absurd (let z : ⊥ = omega arith in z)
 -- ---- marked words
 
 -- the innermost region of thread t is ending: its survivors are marked in w₁, which was w
-pub record Ending (p : Places) (t : ℕ) (w w₁ : Words) : Type 0 where
-  pub places : p ≡ placesOf (sizesOf p)
-  pub whole : WholeFor (sizesOf p) w
+pub record Ending (p : Sizes) (t : ℕ) (w w₁ : Words) : Type 0 where
+  pub whole : WholeFor p w
   pub fits : length (w .tables) < 2 ^ 63
   pub thread : t < p .threads
   pub epoch : 1 ≤ depthOf (w .tables) t
-  pub marks : Marked (sizesOf p) w (regionAt (sizesOf p) t (depthOf (w .tables) t)) w₁
+  pub marks : Marked p w (regionAt p t (depthOf (w .tables) t)) w₁
 
-module _ {p : Places} {t : ℕ} {w w₁ : Words} (m : Ending p t w w₁) where
+module _ {p : Sizes} {t : ℕ} {w w₁ : Words} (m : Ending p t w w₁) where
   abbrev s : Sizes
-  s = sizesOf p
+  s = p
 
   -- the level around the ending one
   abbrev k : ℕ
@@ -74,8 +72,8 @@ module _ {p : Places} {t : ℕ} {w w₁ : Words} (m : Ending p t w w₁) where
   abbrev region : ℕ
   region = regionAt s t (depthOf (w₁ .tables) t)
 
-  room-of : Room (placesOf s) (length (w .tables))
-  room-of = subst (λ (q : Places). Room q (length (w .tables))) (m .places) (space-of p (m .places) w (m .whole) (m .fits))
+  room-of : Room s (length (w .tables))
+  room-of = space-of p w (m .whole) (m .fits)
 
   deep : depthIn w t ≡ suc k
   deep = omega (arith, m .epoch)
@@ -84,12 +82,12 @@ module _ {p : Places} {t : ℕ} {w w₁ : Words} (m : Ending p t w w₁) where
   marks = subst (λ (n : ℕ). Marked s w (regionAt s t n) w₁) deep (m .marks)
 
   kept : Kept p (w .cells) (w .tables) (w₁ .cells) (w₁ .tables)
-  kept = subst (λ (q : Places). Kept q (w .cells) (w .tables) (w₁ .cells) (w₁ .tables)) (sym (m .places)) (marked-kept s w (m .whole) (regionAt s t (suc k)) w₁ marks)
+  kept = marked-kept s w (m .whole) (regionAt s t (suc k)) w₁ marks
 
   -- ---- what the calls ask
 
   pub room-now : Room p (length (w₁ .tables))
-  room-now = kept-room kept (space-of p (m .places) w (m .whole) (m .fits))
+  room-now = kept-room kept (space-of p w (m .whole) (m .fits))
 
   pub cells-now : 256 * p .pages ≤ length (w₁ .cells)
   cells-now = omega (arith, cells-room s w (m .whole), marks .cells-length)
@@ -107,37 +105,32 @@ module _ {p : Places} {t : ℕ} {w w₁ : Words} (m : Ending p t w w₁) where
   region-now = (region-pos s t (depthOf (w₁ .tables) t), region-bounds p t (depthOf (w₁ .tables) t) (m .thread) depth-high .1)
 
   pub small-now : (page : ℕ) → page < p .pages → markOf p (w₁ .tables) page < 2 ^ 16
-  small-now = subst (λ (q : Places). (page : ℕ) → page < q .pages → markOf q (w₁ .tables) page < 2 ^ 16) (sym (m .places)) (marks .small)
+  small-now = marks .small
 
   pub used-now : (c : ℕ) → pageOf c < p .pages → marked p (w₁ .tables) c ≡ 1 → InUse p (w₁ .tables) c
-  used-now =
-      subst (λ (q : Places). (c : ℕ) → pageOf c < q .pages → marked q (w₁ .tables) c ≡ 1 → InUse q (w₁ .tables) c) (sym (m .places))
-      (λ c l on. now-used marks room-of c (marks .only c l on .0))
+  used-now c l on = now-used marks room-of c (marks .only c l on .0)
 
   pub shaped-now : Shaped p (w₁ .cells) (w₁ .tables)
-  shaped-now = kept-shaped kept (shaped-at p (m .places) w (m .whole) (m .fits))
+  shaped-now = kept-shaped kept (shaped-at p w (m .whole) (m .fits))
 
   pub holding-now : Holding p (w₁ .cells) (w₁ .remember) (w₁ .tables)
   holding-now =
       subst (λ (M : List ℕ). Holding p (w₁ .cells) M (w₁ .tables)) (sym (marks .remember))
-      (holding-kept kept (space-of p (m .places) w (m .whole) (m .fits)) (holding-at p (m .places) w (m .whole) (m .fits)))
+      (holding-kept kept (space-of p w (m .whole) (m .fits)) (holding-at p w (m .whole) (m .fits)))
 
   pub targets-now : (c : ℕ) → pageOf c < p .pages → marked p (w₁ .tables) c ≡ 1 → workOf (w₁ .cells) c ≤ regionsOf p
-  targets-now =
-      subst (λ (q : Places). (c : ℕ) → pageOf c < q .pages → marked q (w₁ .tables) c ≡ 1 → workOf (w₁ .cells) c ≤ regionsOf p) (sym (m .places))
-      (targets-low s w (m .whole) room-of t k (m .thread) deep w₁ marks)
+  targets-now = targets-low s w (m .whole) room-of t k (m .thread) deep w₁ marks
 
   -- the pages of the regions, as the counts say
   pub paged-now : Paged p (w₁ .tables)
   unfolding ownedOne
   paged-now =
-      subst (λ (q : Places). Paged q (w₁ .tables)) (sym (m .places))
-      (record {
+      record {
         pages = λ g pos l.
             sum-same _ _ (p .pages) (λ page h. ap (λ (x : ℕ). bit (eqb x g)) (owner-same marks room-of page h)) ∙ region-pages s w (m .whole) g pos
             ∙ ap pagesOf (sym (counted-objects s w (m .whole) g pos l) ∙ sym (count-same marks room-of g));
         owners = λ page l. subst (λ (x : ℕ). x ≤ regions s) (sym (owner-same marks room-of page l)) (owner-low s w (m .whole) page l);
-      })
+      }
 
   -- a page that is not listed has no mark
   pub unlisted : (n : ℕ) (l : List ℕ) → Lists (λ page. ownerOf p (w₁ .tables) page ≡ region) (p .pages) n l
@@ -149,9 +142,7 @@ module _ {p : Places} {t : ℕ} {w w₁ : Words} (m : Ending p t w w₁) where
       (subst (λ (x : ℕ). ownerOf p (w₁ .tables) x ≡ region) e (owned c (subst (λ (x : ℕ). x < p .pages) (sym e) low) on)) off)
     where
       owned : (c : ℕ) → pageOf c < p .pages → marked p (w₁ .tables) c ≡ 1 → ownerOf p (w₁ .tables) (pageOf c) ≡ region
-      owned =
-          subst (λ (q : Places). (c : ℕ) → pageOf c < q .pages → marked q (w₁ .tables) c ≡ 1 → ownerOf q (w₁ .tables) (pageOf c) ≡ region) (sym (m .places))
-          (λ c l on. owner-same marks room-of (pageOf c) l ∙ marks .only c l on .1 ∙ ap (regionAt s t) (sym depth-now))
+      owned c l on = owner-same marks room-of (pageOf c) l ∙ marks .only c l on .1 ∙ ap (regionAt s t) (sym depth-now)
 
   -- r is the region as the code has it
   module _ {r : ℕ} (er : r ≡ region) where
@@ -165,15 +156,15 @@ module _ {p : Places} {t : ℕ} {w w₁ : Words} (m : Ending p t w w₁) where
 
   needs : needsBelow p (w₁ .cells) (w₁ .tables) t (depthOf (w₁ .tables) t) ≡ pagesNeeded s w t k
   needs =
-      ap₂ (λ (q : Places) (n : ℕ). needsBelow q (w₁ .cells) (w₁ .tables) t n) (m .places) depth-now
+      ap (needsBelow p (w₁ .cells) (w₁ .tables) t) depth-now
       ∙ needs-are s w (m .whole) room-of t k (m .thread) deep w₁ marks
 
   free : ownedIn p (w₁ .tables) 0 (p .pages) ≡ pagesOwned s w 0
-  free = ap (λ (q : Places). ownedIn q (w₁ .tables) 0 (q .pages)) (m .places) ∙ free-are s w (m .whole) room-of t k (m .thread) deep w₁ marks
+  free = free-are s w (m .whole) room-of t k (m .thread) deep w₁ marks
 
   crossing : ce.crossingAfter p (w₁ .cells) (w₁ .remember) (w₁ .tables) region ≡ crossingAfter s w t k
   crossing =
-      ap₂ (λ (q : Places) (n : ℕ). ce.crossingAfter q (w₁ .cells) (w₁ .remember) (w₁ .tables) (regionAt s t n)) (m .places) depth-now
+      ap (λ (n : ℕ). ce.crossingAfter p (w₁ .cells) (w₁ .remember) (w₁ .tables) (regionAt s t n)) depth-now
       ∙ crossing-are s w (m .whole) room-of t k (m .thread) deep w₁ marks
 
   -- the rules' question
@@ -191,13 +182,10 @@ module _ {p : Places} {t : ℕ} {w w₁ : Words} (m : Ending p t w w₁) where
   out-refused q pos e {W} {T} U =
       subst (λ (v : Words). DidHere s w (endOf t) v (refused q)) back (ended-refused s w (m .whole) t (m .thread) q pos (sym asks ∙ sym e))
     where
-      undone : Unmarked (placesOf s) (p .pages) (w₁ .cells) (w₁ .tables) W T
-      undone = subst (λ (q : Places). Unmarked q (p .pages) (w₁ .cells) (w₁ .tables) W T) (m .places) U
-
       back : w ≡ words W (w₁ .remember) T
       back =
-          ap₂ (λ (c b : List ℕ). words c (w .remember) b) (sym (cells-back s w (m .whole) (regionAt s t (suc k)) w₁ marks undone))
-          (sym (tables-back s w (m .whole) (regionAt s t (suc k)) w₁ marks undone))
+          ap₂ (λ (c b : List ℕ). words c (w .remember) b) (sym (cells-back s w (m .whole) (regionAt s t (suc k)) w₁ marks U))
+          (sym (tables-back s w (m .whole) (regionAt s t (suc k)) w₁ marks U))
           ∙ ap (λ (M : List ℕ). words W M T) (sym (marks .remember))
 
   -- ---- accepted
@@ -212,24 +200,22 @@ module _ {p : Places} {t : ℕ} {w w₁ : Words} (m : Ending p t w w₁) where
     few : crossingAfter s w t k ≤ p .entries
     few = leb-true _ _ (both .1)
 
-    begin : Before (placesOf s) (regionAt s t (suc k)) (p .entries) (usedIn (w₁ .remember)) (suc k) (regionAt s t) (w₁ .cells) (w₁ .remember) (w₁ .tables)
+    begin : Before s (regionAt s t (suc k)) (p .entries) (usedIn (w₁ .remember)) (suc k) (regionAt s t) (w₁ .cells) (w₁ .remember) (w₁ .tables)
     begin = before s w (m .whole) room-of t k (m .thread) deep w₁ marks enough few
 
     pub goes-on : Before p region (p .entries) (usedIn (w₁ .remember)) (depthOf (w₁ .tables) t) (regionAt s t) (w₁ .cells) (w₁ .remember) (w₁ .tables)
     goes-on =
-        subst₂
-        (λ (q : Places) (n : ℕ). Before q (regionAt s t n) (p .entries) (usedIn (w₁ .remember)) n (regionAt s t) (w₁ .cells) (w₁ .remember) (w₁ .tables))
-        (sym (m .places)) (sym depth-now) begin
+        subst (λ (n : ℕ). Before p (regionAt s t n) (p .entries) (usedIn (w₁ .remember)) n (regionAt s t) (w₁ .cells) (w₁ .remember) (w₁ .tables))
+        (sym depth-now) begin
 
     pub out-done : {W M T : List ℕ}
         → Finished p region (p .entries) (usedIn (w₁ .remember)) (depthOf (w₁ .tables) t) t (regionAt s t) (w₁ .cells) (w₁ .remember) (w₁ .tables) W M T
         → DidHere s w (endOf t) (words W M T) (done 0)
     out-done {W} {M} {T} f =
         let f′ =
-        subst (λ (R : List ℕ). Finished (placesOf s) (regionAt s t (suc k)) (p .entries) (usedIn R) (suc k) t (regionAt s t) (w₁ .cells) R (w₁ .tables) W M T) (marks .remember)
-        (subst₂
-        (λ (q : Places) (n : ℕ). Finished q (regionAt s t n) (p .entries) (usedIn (w₁ .remember)) n t (regionAt s t) (w₁ .cells) (w₁ .remember) (w₁ .tables) W M T)
-        (m .places) depth-now f) in
+        subst (λ (R : List ℕ). Finished s (regionAt s t (suc k)) (p .entries) (usedIn R) (suc k) t (regionAt s t) (w₁ .cells) R (w₁ .tables) W M T) (marks .remember)
+        (subst (λ (n : ℕ). Finished p (regionAt s t n) (p .entries) (usedIn (w₁ .remember)) n t (regionAt s t) (w₁ .cells) (w₁ .remember) (w₁ .tables) W M T)
+        depth-now f) in
         ended-did s w (m .whole) t k (m .thread) deep (words W M T) _
         (evacuation-evacuated s w (m .whole) t k (m .thread) deep (m .fits) w₁ (words W M T) marks (before-same s w (m .whole) room-of t k (m .thread) deep w₁ marks enough few) f′) enough few
 
@@ -260,5 +246,5 @@ module _ {p : Places} {t : ℕ} {w w₁ : Words} (m : Ending p t w w₁) where
             )
 
 -- no epoch is open
-pub shut : (p : Places) (w : Words) (t : ℕ) → WholeFor (sizesOf p) w → t < p .threads → depthOf (w .tables) t ≡ 0 → DidHere (sizesOf p) w (endOf t) w (refused 12)
-shut p w t whole th z = refused-shut (sizesOf p) w whole t th z
+pub shut : (p : Sizes) (w : Words) (t : ℕ) → WholeFor p w → t < p .threads → depthOf (w .tables) t ≡ 0 → DidHere p w (endOf t) w (refused 12)
+shut p w t whole th z = refused-shut p w whole t th z

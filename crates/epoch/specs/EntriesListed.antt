@@ -8,7 +8,7 @@ use native.Mathlib.Nat.{pos-of-ne-zero}
 use lib.Dec.{eqb·suc-zero}
 use lib.ListN.{length, getD}
 use Rattle.rules.specs.declared.Sizes.{Sizes}
-use Rattle.layout.specs.Places.{placesOf, Room, ownerOf, usedIn, slotIn}
+use Rattle.layout.specs.Places.{Room, ownerOf, usedIn, slotIn}
 use Rattle.layout.specs.Cells.{pageOf, cellOf, wordOf}
 use Rattle.promises.specs.Words.{Words, Used, ownerIn}
 use Rattle.promises.specs.Whole.{WholeFor, IsRef}
@@ -21,9 +21,9 @@ use Rattle.settle.specs.Append.{crossAt}
 use Rattle.evacuate.specs.Table.{IsSlot, Listed}
 use Rattle.evacuation.specs.MarkedWords.{owner-same, now-used, was-used, head-same, word-same}
 
-module _ (s : Sizes) (w : Words) (k : WholeFor s w) (space : Room (placesOf s) (length (w .tables))) (r : ℕ) (w₁ : Words) (M : Marked s w r w₁) where
+module _ (s : Sizes) (w : Words) (k : WholeFor s w) (space : Room s (length (w .tables))) (r : ℕ) (w₁ : Words) (M : Marked s w r w₁) where
   -- a slot, before and after the marking
-  pub slot-now : (x : ℕ) → Slot (placesOf s) (w .cells) (w .tables) x → IsSlot (placesOf s) (w₁ .cells) (w₁ .tables) x
+  pub slot-now : (x : ℕ) → Slot s (w .cells) (w .tables) x → IsSlot s (w₁ .cells) (w₁ .tables) x
   slot-now x o =
       record {
         used = now-used M space (x / 16) (o .used);
@@ -31,7 +31,7 @@ module _ (s : Sizes) (w : Words) (k : WholeFor s w) (space : Room (placesOf s) (
         ref = subst (λ (h : ℕ). x % 16 < h / 16 + 2) (sym (head-same M space (x / 16))) (o .count);
       }
 
-  pub slot-then : (x : ℕ) → IsSlot (placesOf s) (w₁ .cells) (w₁ .tables) x → Slot (placesOf s) (w .cells) (w .tables) x
+  pub slot-then : (x : ℕ) → IsSlot s (w₁ .cells) (w₁ .tables) x → Slot s (w .cells) (w .tables) x
   slot-then x o =
       record {
         used = was-used M space (x / 16) (o .used);
@@ -40,30 +40,30 @@ module _ (s : Sizes) (w : Words) (k : WholeFor s w) (space : Room (placesOf s) (
       }
 
   -- reference v of an object in region o
-  value-same : (o o′ : ℕ) → o ≡ o′ → (v : ℕ) → IsRef (placesOf s) (w .tables) v → crossOf (placesOf s) (w₁ .tables) o v ≡ other o′ (regionOf (placesOf s) (w .tables) v)
+  value-same : (o o′ : ℕ) → o ≡ o′ → (v : ℕ) → IsRef s (w .tables) v → crossOf s (w₁ .tables) o v ≡ other o′ (regionOf s (w .tables) v)
   unfolding crossOf otherThan
   value-same o o′ e zero f = refl
   value-same o o′ e (suc y) f =
       let y′ : suc y - 1 ≡ y = omega arith in
       let u : Used s w y = subst (Used s w) y′ (f (omega arith)) in
-      ap₂ (λ (b : Bool) (x : ℕ). cond b 0 (other o (ownerOf (placesOf s) (w₁ .tables) (x / 16)))) (eqb·suc-zero y) y′
-      ∙ ap₂ (λ (a b : ℕ). other a b) e (owner-same M space (y / 16) (u .page) ∙ sym (region-of (placesOf s) (w .tables) y u))
+      ap₂ (λ (b : Bool) (x : ℕ). cond b 0 (other o (ownerOf s (w₁ .tables) (x / 16)))) (eqb·suc-zero y) y′
+      ∙ ap₂ (λ (a b : ℕ). other a b) e (owner-same M space (y / 16) (u .page) ∙ sym (region-of s (w .tables) y u))
 
-  slot-ref : (x : ℕ) → Slot (placesOf s) (w .cells) (w .tables) x → IsRef (placesOf s) (w .tables) (getD (w .cells) x 0)
+  slot-ref : (x : ℕ) → Slot s (w .cells) (w .tables) x → IsRef s (w .tables) (getD (w .cells) x 0)
   slot-ref x o =
-      let f = slot-field (placesOf s) (w .cells) (w .tables) x o in
-      subst (λ (q : ℕ). IsRef (placesOf s) (w .tables) (getD (w .cells) q 0)) (f .0) (k .placed .references (cellOf x) (o .used) (wordOf x - 2) (f .1))
+      let f = slot-field s (w .cells) (w .tables) x o in
+      subst (λ (q : ℕ). IsRef s (w .tables) (getD (w .cells) q 0)) (f .0) (k .placed .references (cellOf x) (o .used) (wordOf x - 2) (f .1))
 
   -- what the evacuation reads is what the whole check reads
-  pub cross-same : (x : ℕ) → Slot (placesOf s) (w .cells) (w .tables) x → crossAt (placesOf s) (w₁ .cells) (w₁ .tables) x ≡ crossTo (placesOf s) (w .cells) (w .tables) x
+  pub cross-same : (x : ℕ) → Slot s (w .cells) (w .tables) x → crossAt s (w₁ .cells) (w₁ .tables) x ≡ crossTo s (w .cells) (w .tables) x
   cross-same x o =
       let page : x / 256 ≡ pageOf (cellOf x) = omega arith in
-      ap (λ (v : ℕ). crossOf (placesOf s) (w₁ .tables) (ownerOf (placesOf s) (w₁ .tables) (x / 256)) v) (word-same M space x (λ z. omega (arith, o .field)))
-      ∙ value-same (ownerOf (placesOf s) (w₁ .tables) (x / 256)) (ownerIn s w (pageOf (cellOf x)))
-      (ap (λ (q : ℕ). ownerOf (placesOf s) (w₁ .tables) q) page ∙ owner-same M space (pageOf (cellOf x)) (o .used .page)) (getD (w .cells) x 0) (slot-ref x o)
-      ∙ sym (slot-cross (placesOf s) (w .cells) (w .tables) x o)
+      ap (λ (v : ℕ). crossOf s (w₁ .tables) (ownerOf s (w₁ .tables) (x / 256)) v) (word-same M space x (λ z. omega (arith, o .field)))
+      ∙ value-same (ownerOf s (w₁ .tables) (x / 256)) (ownerIn s w (pageOf (cellOf x)))
+      (ap (λ (q : ℕ). ownerOf s (w₁ .tables) q) page ∙ owner-same M space (pageOf (cellOf x)) (o .used .page)) (getD (w .cells) x 0) (slot-ref x o)
+      ∙ sym (slot-cross s (w .cells) (w .tables) x o)
 
-  pub listed : Listed (placesOf s) (s .entries) (usedIn (w .remember)) (w₁ .cells) (w .remember) (w₁ .tables)
+  pub listed : Listed s (s .entries) (usedIn (w .remember)) (w₁ .cells) (w .remember) (w₁ .tables)
   listed =
       record {
         slots = λ i l. slot-now (slotIn (w .remember) i) (entry-slot s w k i l);
@@ -72,8 +72,8 @@ module _ (s : Sizes) (w : Words) (k : WholeFor s w) (space : Room (placesOf s) (
         every = λ x o ne. every x (slot-then x o) ne;
       }
     where
-      every : (x : ℕ) → Slot (placesOf s) (w .cells) (w .tables) x → crossAt (placesOf s) (w₁ .cells) (w₁ .tables) x ≢ 0
+      every : (x : ℕ) → Slot s (w .cells) (w .tables) x → crossAt s (w₁ .cells) (w₁ .tables) x ≢ 0
           → (i : ℕ) × (i < usedIn (w .remember)) × (slotIn (w .remember) i ≡ x)
       every x o ne =
           let e = cross-same x o in
-          k .placed .remember .every x (slot-low (placesOf s) (w .cells) (w .tables) x o) (pos-of-ne-zero (λ z. ne (e ∙ z)))
+          k .placed .remember .every x (slot-low s (w .cells) (w .tables) x o) (pos-of-ne-zero (λ z. ne (e ∙ z)))

@@ -10,7 +10,7 @@ use lib.ListN.{length}
 use Rattle.lists.specs.Bits.{none-high}
 use Rattle.lists.specs.Counting.{sum-same}
 use Rattle.rules.specs.declared.Sizes.{Sizes}
-use Rattle.layout.specs.Places.{placesOf, Room, markOf}
+use Rattle.layout.specs.Places.{Room, markOf}
 use Rattle.layout.specs.Cells.{pageOf, placeOf}
 use Rattle.promises.specs.Words.{Words}
 use Rattle.promises.specs.Whole.{WholeFor, objectsOn, objectsOf}
@@ -21,20 +21,20 @@ use Rattle.copy.specs.Taking.{Regular}
 use Rattle.copy.specs.Passing.{Ready}
 use Rattle.evacuation.specs.MarkedWords.{owner-same, used-same, count-same, now-used}
 
-module _ (s : Sizes) (w : Words) (k : WholeFor s w) (space : Room (placesOf s) (length (w .tables))) (r : ℕ) (w₁ : Words) (M : Marked s w r w₁) where
-  pub objects-same : (g : ℕ) → objectsOf (placesOf s) (w₁ .tables) g ≡ objectsOf (placesOf s) (w .tables) g
+module _ (s : Sizes) (w : Words) (k : WholeFor s w) (space : Room s (length (w .tables))) (r : ℕ) (w₁ : Words) (M : Marked s w r w₁) where
+  pub objects-same : (g : ℕ) → objectsOf s (w₁ .tables) g ≡ objectsOf s (w .tables) g
   objects-same g =
-      sum-same (objectsOn (placesOf s) (w₁ .tables) g) (objectsOn (placesOf s) (w .tables) g) (s .pages)
+      sum-same (objectsOn s (w₁ .tables) g) (objectsOn s (w .tables) g) (s .pages)
       (λ page l. ap₂ (λ (a b : ℕ). cond (eqb a g) b 0) (owner-same M space page l) (used-same M space page l))
 
-  partly-then : (g page : ℕ) → Partly (placesOf s) (w₁ .tables) g page → Partly (placesOf s) (w .tables) g page
+  partly-then : (g page : ℕ) → Partly s (w₁ .tables) g page → Partly s (w .tables) g page
   partly-then g page q =
       record {
         low = q .low;
         partial = record { owner = sym (owner-same M space page (q .low)) ∙ q .partial .owner; part = omega (arith, used-same M space page (q .low), q .partial .part) };
       }
 
-  one : (g a b : ℕ) → 1 ≤ g → Partly (placesOf s) (w .tables) g a → Partly (placesOf s) (w .tables) g b → a ≡ b
+  one : (g a b : ℕ) → 1 ≤ g → Partly s (w .tables) g a → Partly s (w .tables) g b → a ≡ b
   one g a b pos x y = go (decLt a b) (decLt b a)
     where
       go : Dec (a < b) → Dec (b < a) → a ≡ b
@@ -42,10 +42,10 @@ module _ (s : Sizes) (w : Words) (k : WholeFor s w) (space : Room (placesOf s) (
       go (no l) (yes m) = absurd (k .placed .partial g pos b a m (x .low) (y .partial) (x .partial))
       go (no l) (no m) = omega arith
 
-  regular : Regular (placesOf s) (w₁ .tables)
+  regular : Regular s (w₁ .tables)
   regular =
       record {
-        room = subst (Room (placesOf s)) (sym (M .tables-length)) space;
+        room = subst (Room s) (sym (M .tables-length)) space;
         free = λ q l e. used-same M space q l ∙ k .placed .pages q l .free (sym (owner-same M space q l) ∙ e);
         taken = λ q l n.
             omega (arith, used-same M space q l, k .placed .pages q l .taken (pos-of-ne-zero (λ e. n (owner-same M space q l ∙ e))));
@@ -54,11 +54,11 @@ module _ (s : Sizes) (w : Words) (k : WholeFor s w) (space : Room (placesOf s) (
         count = λ g pos le. count-same M space g ∙ k .placed .counts g pos le ∙ sym (objects-same g);
       }
 
-  pub ready : Ready (placesOf s) (w₁ .cells) (w₁ .tables)
+  pub ready : Ready s (w₁ .cells) (w₁ .tables)
   ready =
       record {
         regular = regular;
         cells-long = omega (arith, cells-room s w k, M .cells-length);
         used = λ c l on. now-used M space c (M .only c l on .0);
-        waits = λ c l on. none-high 16 (markOf (placesOf s) (w₁ .tables) (pageOf c)) (16 + placeOf c) (M .small (pageOf c) l) (omega arith);
+        waits = λ c l on. none-high 16 (markOf s (w₁ .tables) (pageOf c)) (16 + placeOf c) (M .small (pageOf c) l) (omega arith);
       }

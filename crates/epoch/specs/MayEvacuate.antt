@@ -7,7 +7,7 @@ use lib.ListN.{length}
 use Rattle.rules.specs.declared.Sizes.{Sizes}
 use Rattle.rules.specs.Regions.{regionAt}
 use Rattle.laws.specs.RulesLaws.{region-pos}
-use Rattle.layout.specs.Places.{placesOf, Room, usedIn}
+use Rattle.layout.specs.Places.{Room, usedIn}
 use Rattle.promises.specs.Words.{Words, depthIn}
 use Rattle.promises.specs.Whole.{WholeFor}
 use Rattle.promises.specs.OwnedPages.{pagesOwned}
@@ -20,10 +20,10 @@ use Rattle.epoch.specs.EntriesListed.{listed}
 use Rattle.epoch.specs.Starting.{start, variables}
 use Rattle.epoch.specs.SpaceEnough.{space-enough}
 
-module _ (s : Sizes) (w : Words) (k : WholeFor s w) (space : Room (placesOf s) (length (w .tables))) (t j : ℕ) (th : t < s .threads) (deep : depthIn w t ≡ suc j)
+module _ (s : Sizes) (w : Words) (k : WholeFor s w) (space : Room s (length (w .tables))) (t j : ℕ) (th : t < s .threads) (deep : depthIn w t ≡ suc j)
     (w₁ : Words) (M : Marked s w (regionAt s t (suc j)) w₁) (pages : pagesNeeded s w t j ≤ pagesOwned s w 0) (entries : crossingAfter s w t j ≤ s .entries) where
   -- with the remember table as it was
-  pub before-same : Before (placesOf s) (regionAt s t (suc j)) (s .entries) (usedIn (w .remember)) (suc j) (regionAt s t) (w₁ .cells) (w .remember) (w₁ .tables)
+  pub before-same : Before s (regionAt s t (suc j)) (s .entries) (usedIn (w .remember)) (suc j) (regionAt s t) (w₁ .cells) (w .remember) (w₁ .tables)
   before-same =
       record {
         plan = plan s w k space t j th deep w₁ M pages;
@@ -39,6 +39,6 @@ module _ (s : Sizes) (w : Words) (k : WholeFor s w) (space : Room (placesOf s) (
       }
 
   -- with that of the marked words, which is the same
-  pub before : Before (placesOf s) (regionAt s t (suc j)) (s .entries) (usedIn (w₁ .remember)) (suc j) (regionAt s t) (w₁ .cells) (w₁ .remember) (w₁ .tables)
+  pub before : Before s (regionAt s t (suc j)) (s .entries) (usedIn (w₁ .remember)) (suc j) (regionAt s t) (w₁ .cells) (w₁ .remember) (w₁ .tables)
   before =
-      subst (λ (m : List ℕ). Before (placesOf s) (regionAt s t (suc j)) (s .entries) (usedIn m) (suc j) (regionAt s t) (w₁ .cells) m (w₁ .tables)) (sym (M .remember)) before-same
+      subst (λ (m : List ℕ). Before s (regionAt s t (suc j)) (s .entries) (usedIn m) (suc j) (regionAt s t) (w₁ .cells) m (w₁ .tables)) (sym (M .remember)) before-same

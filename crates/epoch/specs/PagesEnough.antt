@@ -17,7 +17,7 @@ use Rattle.rules.specs.Graph.{target, objectsIn}
 use Rattle.laws.specs.RegionLaws.{numbers-rise}
 use Rattle.laws.specs.RulesLaws.{region-pos}
 use Rattle.laws.specs.Counts.{landed}
-use Rattle.layout.specs.Places.{placesOf, Room, markOf}
+use Rattle.layout.specs.Places.{Room, markOf}
 use Rattle.layout.specs.Cells.{pageOf, placeOf, workOf}
 use Rattle.layout.specs.Marks.{marked}
 use Rattle.promises.specs.Words.{Words, Used, ownerIn, homeIn, depthIn, graphOf}
@@ -43,32 +43,32 @@ cond-bit false = refl
 -- ---- the marked cells are the survivors
 
 module _ (s : Sizes) (w : Words) (r : ℕ) (w₁ : Words) (M : Marked s w r w₁) where
-  pub marked-survivor : (c : ℕ) → pageOf c < s .pages → marked (placesOf s) (w₁ .tables) c ≡ 1 → Survivor s w r c
+  pub marked-survivor : (c : ℕ) → pageOf c < s .pages → marked s (w₁ .tables) c ≡ 1 → Survivor s w r c
   marked-survivor c l on =
       let o = M .only c l on in
       record { used = o .0; owner = o .1; goes = go (decLt 0 (target s (graphOf s w) r c)) (o .0) (o .1) }
     where
       go : Dec (0 < target s (graphOf s w) r c) → Used s w c → ownerIn s w (pageOf c) ≡ r → 0 < target s (graphOf s w) r c
       go (yes h) u own = h
-      go (no n) u own = absurd (let z : marked (placesOf s) (w₁ .tables) c ≡ 0 = M .freed c u own (omega arith) in let y : ⊥ = omega arith in y)
+      go (no n) u own = absurd (let z : marked s (w₁ .tables) c ≡ 0 = M .freed c u own (omega arith) in let y : ⊥ = omega arith in y)
 
-  pub unmarked-freed : (c : ℕ) → Used s w c → ownerIn s w (pageOf c) ≡ r → marked (placesOf s) (w₁ .tables) c ≢ 1 → target s (graphOf s w) r c ≡ 0
+  pub unmarked-freed : (c : ℕ) → Used s w c → ownerIn s w (pageOf c) ≡ r → marked s (w₁ .tables) c ≢ 1 → target s (graphOf s w) r c ≡ 0
   unmarked-freed c u own off = go (decLt 0 (target s (graphOf s w) r c))
     where
       go : Dec (0 < target s (graphOf s w) r c) → target s (graphOf s w) r c ≡ 0
       go (yes h) = absurd (off (M .survives c u own h))
       go (no n) = omega arith
 
-  zero-bit : (c : ℕ) → marked (placesOf s) (w₁ .tables) c ≢ 1 → marked (placesOf s) (w₁ .tables) c ≡ 0
-  zero-bit c off = omega (arith, bit-lt (placeOf c) (markOf (placesOf s) (w₁ .tables) (pageOf c)))
+  zero-bit : (c : ℕ) → marked s (w₁ .tables) c ≢ 1 → marked s (w₁ .tables) c ≡ 0
+  zero-bit c off = omega (arith, bit-lt (placeOf c) (markOf s (w₁ .tables) (pageOf c)))
 
   -- those that go to region q are as many as the rules say
-  pub hits-landed : WholeFor s w → 0 < r → (q : ℕ) → 0 < q → hits (placesOf s) (w₁ .cells) (w₁ .tables) q ≡ landed s (graphOf s w) r q
+  pub hits-landed : WholeFor s w → 0 < r → (q : ℕ) → 0 < q → hits s (w₁ .cells) (w₁ .tables) q ≡ landed s (graphOf s w) r q
   unfolding hits landed hit
-  hits-landed k rpos q pos = sum-same _ _ (16 * s .pages) (λ c l. each c l (ℕ-discrete (marked (placesOf s) (w₁ .tables) c) 1) (ℕ-discrete (homeIn s w c) r))
+  hits-landed k rpos q pos = sum-same _ _ (16 * s .pages) (λ c l. each c l (ℕ-discrete (marked s (w₁ .tables) c) 1) (ℕ-discrete (homeIn s w c) r))
     where
-      each : (c : ℕ) → c < 16 * s .pages → Dec (marked (placesOf s) (w₁ .tables) c ≡ 1) → Dec (homeIn s w c ≡ r)
-          → marked (placesOf s) (w₁ .tables) c * cond (eqb (workOf (w₁ .cells) c) q) 1 0 ≡ cond (eqb (homeIn s w c) r) (cond (eqb (target s (graphOf s w) r c) q) 1 0) 0
+      each : (c : ℕ) → c < 16 * s .pages → Dec (marked s (w₁ .tables) c ≡ 1) → Dec (homeIn s w c ≡ r)
+          → marked s (w₁ .tables) c * cond (eqb (workOf (w₁ .cells) c) q) 1 0 ≡ cond (eqb (homeIn s w c) r) (cond (eqb (target s (graphOf s w) r c) q) 1 0) 0
       each c l (yes on) (no n) = let o = M .only c (omega arith) on in absurd (n (cell-home s w k c r (o .0) (o .1)))
       each c l (yes on) (yes e) =
           let o = M .only c (omega arith) on in
@@ -88,7 +88,7 @@ module _ (s : Sizes) (w : Words) (r : ℕ) (w₁ : Words) (M : Marked s w r w₁
 
 -- ---- the plan of the copy
 
-module _ (s : Sizes) (w : Words) (k : WholeFor s w) (space : Room (placesOf s) (length (w .tables))) (t j : ℕ) (th : t < s .threads) (deep : depthIn w t ≡ suc j)
+module _ (s : Sizes) (w : Words) (k : WholeFor s w) (space : Room s (length (w .tables))) (t j : ℕ) (th : t < s .threads) (deep : depthIn w t ≡ suc j)
     (w₁ : Words) (M : Marked s w (regionAt s t (suc j)) w₁) where
   abbrev r : ℕ
   r = regionAt s t (suc j)
@@ -99,15 +99,15 @@ module _ (s : Sizes) (w : Words) (k : WholeFor s w) (space : Room (placesOf s) (
       let x = target-level s w k t j th deep c (cell-home s w k c r (v .used) (v .owner)) (v .goes) in
       (x .0, omega (arith, x .1), M .goes c (v .used) (v .owner) ∙ x .2)
 
-  free-same : ev.pagesOwned (placesOf s) (w₁ .tables) 0 ≡ pagesOwned s w 0
+  free-same : ev.pagesOwned s (w₁ .tables) 0 ≡ pagesOwned s w 0
   unfolding ev.pagesOwned
   free-same =
-      sum-same (ownedOn (placesOf s) (w₁ .tables) 0) (λ page. bit (eqb (ownerIn s w page) 0)) (s .pages)
+      sum-same (ownedOn s (w₁ .tables) 0) (λ page. bit (eqb (ownerIn s w page) 0)) (s .pages)
       (λ page l. ap (λ (x : ℕ). cond (eqb x 0) 1 0) (owner-same M space page l) ∙ cond-bit (eqb (ownerIn s w page) 0))
 
-  needs : sum (λ l. need (placesOf s) (regionAt s t l) (w₁ .cells) (w₁ .tables)) (suc j) ≡ pagesNeeded s w t j
+  needs : sum (λ l. need s (regionAt s t l) (w₁ .cells) (w₁ .tables)) (suc j) ≡ pagesNeeded s w t j
   needs =
-      sum-same (λ l. need (placesOf s) (regionAt s t l) (w₁ .cells) (w₁ .tables))
+      sum-same (λ l. need s (regionAt s t l) (w₁ .cells) (w₁ .tables))
       (λ l. morePages (objectsIn (graphOf s w) (regionAt s t l)) (landed s (graphOf s w) r (regionAt s t l))) (suc j)
       (λ l h.
       ap₂ (λ (a b : ℕ). morePages a b)
@@ -115,13 +115,13 @@ module _ (s : Sizes) (w : Words) (k : WholeFor s w) (space : Room (placesOf s) (
       (hits-landed s w r w₁ M k (region-pos s t (suc j)) (regionAt s t l) (region-pos s t l)))
       ∙ sym (new-pages-ended s w k t j th deep)
 
-  pub plan : pagesNeeded s w t j ≤ pagesOwned s w 0 → Plan (placesOf s) (suc j) (regionAt s t) (w₁ .cells) (w₁ .tables)
+  pub plan : pagesNeeded s w t j ≤ pagesOwned s w 0 → Plan s (suc j) (regionAt s t) (w₁ .cells) (w₁ .tables)
   plan h =
       record {
         ready = ready s w k space r w₁ M;
         small = M .small;
         real = λ l m. region-pos s t l;
-        low = λ l m. region-bounds (placesOf s) t l th (omega (arith, k .placed .depths t th)) .1;
+        low = λ l m. region-bounds s t l th (omega (arith, k .placed .depths t th)) .1;
         rising = λ a b l m. numbers-rise s t a b l;
         all = λ c l on. survivor-level c (marked-survivor s w r w₁ M c l on);
         enough = subst₂ (λ (a b : ℕ). a ≤ b) (sym needs) (sym free-same) h;

@@ -16,7 +16,7 @@ use Rattle.laws.specs.RulesLaws.{region-pos}
 use Rattle.laws.specs.GraphLaws.{Alive}
 use Rattle.laws.specs.Counts.{crossRef}
 use Rattle.laws.specs.EndLaws.{home-went, home-stayed}
-use Rattle.layout.specs.Places.{placesOf, Room, ownerOf, usedIn}
+use Rattle.layout.specs.Places.{Room, ownerOf, usedIn}
 use Rattle.layout.specs.Cells.{pageOf, workOf, refsOf}
 use Rattle.layout.specs.Marks.{marked}
 use Rattle.promises.specs.Words.{Words, Used, InUse, depthIn, refCount, graphOf}
@@ -55,7 +55,7 @@ module _ (n : ℕ) (P : ℕ → ℕ → Type 0) (h : (i : ℕ) → i < n → (q 
       go (yes m) = h i m .1
       go (no m) = absurd (m l)
 
-module _ (s : Sizes) (w : Words) (k : WholeFor s w) (space : Room (placesOf s) (length (w .tables))) (t j : ℕ) (th : t < s .threads) (deep : depthIn w t ≡ suc j)
+module _ (s : Sizes) (w : Words) (k : WholeFor s w) (space : Room s (length (w .tables))) (t j : ℕ) (th : t < s .threads) (deep : depthIn w t ≡ suc j)
     (w₁ : Words) (M : Marked s w (regionAt s t (suc j)) w₁) where
   abbrev r : ℕ
   r = regionAt s t (suc j)
@@ -66,18 +66,18 @@ module _ (s : Sizes) (w : Words) (k : WholeFor s w) (space : Room (placesOf s) (
   abbrev after : Graph
   after = ended s (graphOf s w) r
 
-  home-goes : (c : ℕ) → pageOf c < s .pages → marked (placesOf s) (w₁ .tables) c ≡ 1 → after .home c ≡ workOf (w₁ .cells) c
+  home-goes : (c : ℕ) → pageOf c < s .pages → marked s (w₁ .tables) c ≡ 1 → after .home c ≡ workOf (w₁ .cells) c
   home-goes c l on =
       let v = marked-survivor s w r w₁ M c l on in
       home-went s (graphOf s w) r c (cell-home s w k c r (v .used) (v .owner)) ∙ sym (M .goes c (v .used) (v .owner))
 
-  home-stays : (c : ℕ) → InUse (placesOf s) (w₁ .tables) c → ownerOf (placesOf s) (w₁ .tables) (c / 16) ≢ r → after .home c ≡ ownerOf (placesOf s) (w₁ .tables) (c / 16)
+  home-stays : (c : ℕ) → InUse s (w₁ .tables) c → ownerOf s (w₁ .tables) (c / 16) ≢ r → after .home c ≡ ownerOf s (w₁ .tables) (c / 16)
   home-stays c u n =
       let v : Used s w c = was-used M space c u in
       let e = owner-same M space (pageOf c) (v .page) in
       home-stayed s (graphOf s w) r c (λ z. n (e ∙ sym (used-home s w k c v) ∙ z)) ∙ used-home s w k c v ∙ sym e
 
-  lives-alive : (c : ℕ) → Lives (placesOf s) r (w₁ .tables) c → Alive after c
+  lives-alive : (c : ℕ) → Lives s r (w₁ .tables) c → Alive after c
   lives-alive c l = ⊎-elim (outside-alive s w k r pos c) (survivor-alive s w k r pos c) (lives-how M space c l)
 
   cross-one : (c d : ℕ) → after .home c ≢ after .home d → 1 < after .home d → crossRef after c (suc d) ≡ 1
@@ -86,7 +86,7 @@ module _ (s : Sizes) (w : Words) (k : WholeFor s w) (space : Room (placesOf s) (
       (ne-eqb (after .home d) 1 (λ (z : after .home d ≡ 1). omega arith))
 
   -- a slot that crosses afterwards counts where it came from
-  counts : (W : List ℕ) (x q : ℕ) → Came (placesOf s) r (after .home) (w₁ .cells) (w₁ .tables) W x q → 0 < crossesPast s w r q
+  counts : (W : List ℕ) (x q : ℕ) → Came s r (after .home) (w₁ .cells) (w₁ .tables) W x q → 0 < crossesPast s w r q
   unfolding crossesPast
   counts W x q c =
       let e : refsOf (w₁ .cells) (q / 16) ≡ refCount w (q / 16) = ap (λ (h : ℕ). h / 16) (head-same M space (q / 16)) in
@@ -96,20 +96,20 @@ module _ (s : Sizes) (w : Words) (k : WholeFor s w) (space : Room (placesOf s) (
       ∙ ap (crossRef after (q / 16)) v ∙ cross-one (q / 16) (c .names) (c .far) (c .high) in
       omega arith
 
-  pub space-enough : crossingAfter s w t j ≤ s .entries → (W T W′ : List ℕ) → Forwards (placesOf s) (w₁ .cells) (w₁ .tables) W T
-      → Rewritten (placesOf s) r (λ x. Remembered r (s .entries) (usedIn (w .remember)) (w .remember) x ⊎ Copies (placesOf s) r W T x) W T W′
-      → Space (placesOf s) r (s .entries) W′ T
+  pub space-enough : crossingAfter s w t j ≤ s .entries → (W T W′ : List ℕ) → Forwards s (w₁ .cells) (w₁ .tables) W T
+      → Rewritten s r (λ x. Remembered r (s .entries) (usedIn (w .remember)) (w .remember) x ⊎ Copies s r W T x) W T W′
+      → Space s r (s .entries) W′ T
   space-enough fits W T W′ F R n at crosses apart = omega (arith, fits, positions-few s w k r pos n from low some once)
     where
-      found : (i : ℕ) → i < n → (q : ℕ) × Came (placesOf s) r (after .home) (w₁ .cells) (w₁ .tables) W (at i) q
+      found : (i : ℕ) → i < n → (q : ℕ) × Came s r (after .home) (w₁ .cells) (w₁ .tables) W (at i) q
       found i l =
           came (start s w k space t j th deep w₁ M) (ready s w k space r w₁ M) F R (after .home) home-goes home-stays (at i) (crosses i l)
 
       from : ℕ → ℕ
-      from i = chosen n (λ x q. Came (placesOf s) r (after .home) (w₁ .cells) (w₁ .tables) W (at x) q) found i
+      from i = chosen n (λ x q. Came s r (after .home) (w₁ .cells) (w₁ .tables) W (at x) q) found i
 
-      good : (i : ℕ) → i < n → Came (placesOf s) r (after .home) (w₁ .cells) (w₁ .tables) W (at i) (from i)
-      good i l = chosen-good n (λ x q. Came (placesOf s) r (after .home) (w₁ .cells) (w₁ .tables) W (at x) q) found i l
+      good : (i : ℕ) → i < n → Came s r (after .home) (w₁ .cells) (w₁ .tables) W (at i) (from i)
+      good i l = chosen-good n (λ x q. Came s r (after .home) (w₁ .cells) (w₁ .tables) W (at x) q) found i l
 
       low : (i : ℕ) → i < n → from i < 256 * s .pages
       low i l = under (from i) (good i l .lives .used .page)
@@ -123,4 +123,4 @@ module _ (s : Sizes) (w : Words) (k : WholeFor s w) (space : Room (placesOf s) (
       once : (a b : ℕ) → a < b → b < n → from a ≢ from b
       once a b l m e =
           apart a b l m
-          (good a (omega arith) .at ∙ ap (λ (q : ℕ). 16 * cellNow (placesOf s) r (w₁ .tables) W (q / 16) + q % 16) e ∙ sym (good b m .at))
+          (good a (omega arith) .at ∙ ap (λ (q : ℕ). 16 * cellNow s r (w₁ .tables) W (q / 16) + q % 16) e ∙ sym (good b m .at))

@@ -3,21 +3,20 @@
 ghost use mathlib.Core.Path.{_≡_};
 ghost use Prim.Native.Nat.{_<_, _≤_};
 ghost use lib.ListN.{length};
-ghost use Rattle.layout.specs.Places.{placesOf, sizesOf};
 ghost use Rattle.promises.specs.Words.{Words, words};
 ghost use Rattle.promises.specs.Whole.{WholeFor};
 ghost use Rattle.promises.specs.Promises.{DidHere};
 ghost use Rattle.pages.specs.Pages.{noteWords};
 ghost use Rattle.ended.specs.AfterEnd.{endOf};
 ghost use Rattle.epoch.specs.EndDid.{Ending};
-use layout::Places;
+use rules::Sizes;
 use rules::Answer;
 
 pub mod needs;
 
 // The end of the thread's innermost epoch once its survivors are marked: 13 if there are too few free pages, 14 if too many slots would cross.
 fn end_marked(
-    p: Places,
+    p: Sizes,
     cells: &mut [u32],
     remember: &mut [u32],
     tables: &mut [u32],
@@ -26,7 +25,7 @@ fn end_marked(
 ) -> Answer
     requires { ⌜ ((w : Words) × Ending p thread w (words (now cells) (now remember) (now tables))) ⌝ }
     requires { ⌜ noteWords ≤ length (now notes) ⌝ }
-    ensures { λ r. ⌜ ((w : Words) → Ending p thread w (words (now (cells .entry)) (now (remember .entry)) (now (tables .entry))) → DidHere (sizesOf p) w (endOf thread) (words (now (cells .exit)) (now (remember .exit)) (now (tables .exit))) r) ⌝ }
+    ensures { λ r. ⌜ ((w : Words) → Ending p thread w (words (now (cells .entry)) (now (remember .entry)) (now (tables .entry))) → DidHere p w (endOf thread) (words (now (cells .exit)) (now (remember .exit)) (now (tables .exit))) r) ⌝ }
 {
     let level = layout::wide(layout::tables::depth(p, tables, thread));
     let region = layout::regions::region_at(p, thread, level);
@@ -45,18 +44,17 @@ fn end_marked(
 
 // Ends the thread's innermost epoch: 12 if it has none. The notes say where to look for a page first (crate `pages`).
 pub fn end(
-    p: Places,
+    p: Sizes,
     cells: &mut [u32],
     remember: &mut [u32],
     tables: &mut [u32],
     notes: &mut [u32],
     thread: usize,
 ) -> Answer
-    requires { ⌜ p ≡ placesOf (sizesOf p) ⌝ }
-    requires { ⌜ WholeFor (sizesOf p) (words (now cells) (now remember) (now tables)) ⌝ }
+    requires { ⌜ WholeFor p (words (now cells) (now remember) (now tables)) ⌝ }
     requires { ⌜ thread < p .threads ⌝ }
     requires { ⌜ noteWords ≤ length (now notes) ⌝ }
-    ensures { λ r. ⌜ DidHere (sizesOf p) (words (now (cells .entry)) (now (remember .entry)) (now (tables .entry))) (endOf thread) (words (now (cells .exit)) (now (remember .exit)) (now (tables .exit))) r ⌝ }
+    ensures { λ r. ⌜ DidHere p (words (now (cells .entry)) (now (remember .entry)) (now (tables .entry))) (endOf thread) (words (now (cells .exit)) (now (remember .exit)) (now (tables .exit))) r ⌝ }
 {
     if layout::tables::depth(p, tables, thread) == 0 {
         return rules::refused(12);

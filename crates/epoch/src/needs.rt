@@ -4,18 +4,18 @@ ghost use mathlib.Core.Path.{_≡_};
 ghost use Prim.Native.Nat.{_^_, _<_, _≤_};
 ghost use lib.ListN.{length};
 ghost use Rattle.rules.specs.Regions.{regionAt, regions};
-ghost use Rattle.layout.specs.Places.{Room, sizesOf};
+ghost use Rattle.layout.specs.Places.{Room};
 ghost use Rattle.pages.specs.Owned.{Paged};
 ghost use Rattle.mark.specs.Marks.{Shaped};
 ghost use Rattle.mark.specs.Holders.{Holding};
 ghost use Rattle.census.specs.Census.{Census};
 ghost use Rattle.epoch.specs.CensusCounts.{levelMore, moreBelow, roomAsked};
-use layout::Places;
+use rules::Sizes;
 
 // How many new pages region g needs for the survivors that go to it, which `come` counts: none where none goes.
-pub fn level_pages(p: Places, tables: &[u32], come: &[u32], g: u32) -> usize
+pub fn level_pages(p: Sizes, tables: &[u32], come: &[u32], g: u32) -> usize
     requires { ⌜ Room p (length (now tables)) ⌝ }
-    requires { ⌜ (1 ≤ g) × (g ≤ regions (sizesOf p)) × (regions (sizesOf p) < length (now come)) ⌝ }
+    requires { ⌜ (1 ≤ g) × (g ≤ regions p) × (regions p < length (now come)) ⌝ }
     ensures { λ n. ⌜ n ≡ levelMore p (now (tables .entry)) (now (come .entry)) g ⌝ }
     ensures { λ n. ⌜ n ≤ 2 ^ 28 ⌝ }
 {
@@ -29,9 +29,9 @@ pub fn level_pages(p: Places, tables: &[u32], come: &[u32], g: u32) -> usize
 }
 
 // How many new pages the regions of a thread at the levels below the given one need.
-pub fn needed_pages(p: Places, tables: &[u32], come: &[u32], thread: usize, levels: usize) -> usize
+pub fn needed_pages(p: Sizes, tables: &[u32], come: &[u32], thread: usize, levels: usize) -> usize
     requires { ⌜ Room p (length (now tables)) ⌝ }
-    requires { ⌜ regions (sizesOf p) < length (now come) ⌝ }
+    requires { ⌜ regions p < length (now come) ⌝ }
     requires { ⌜ (thread < p .threads) × (levels ≤ p .depth) ⌝ }
     ensures { λ n. ⌜ n ≡ moreBelow p (now (tables .entry)) (now (come .entry)) thread levels ⌝ }
 {
@@ -52,7 +52,7 @@ pub fn needed_pages(p: Places, tables: &[u32], come: &[u32], thread: usize, leve
 // Questions 13 and 14 at the end of the thread's region at a level, whose survivors are marked: the number of the first that says no, 0 if
 // none does. k is how many of the survivors' slots would cross.
 pub fn ask_room(
-    p: Places,
+    p: Sizes,
     cells: &[u32],
     remember: &[u32],
     tables: &[u32],
@@ -64,8 +64,8 @@ pub fn ask_room(
     requires { ⌜ Shaped p (now cells) (now tables) ⌝ }
     requires { ⌜ Holding p (now cells) (now remember) (now tables) ⌝ }
     requires { ⌜ Paged p (now tables) ⌝ }
-    requires { ⌜ Census p (now cells) (now tables) (regionAt (sizesOf p) thread level) (p .pages) (now come) k ⌝ }
-    requires { ⌜ regions (sizesOf p) < length (now come) ⌝ }
+    requires { ⌜ Census p (now cells) (now tables) (regionAt p thread level) (p .pages) (now come) k ⌝ }
+    requires { ⌜ regions p < length (now come) ⌝ }
     requires { ⌜ (thread < p .threads) × (level ≤ p .depth) ⌝ }
     ensures { λ q. ⌜ q ≡ roomAsked p (now (cells .entry)) (now (remember .entry)) (now (tables .entry)) thread level ⌝ }
 {

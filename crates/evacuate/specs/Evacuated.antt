@@ -11,8 +11,8 @@ use lib.Dec.{eqb}
 use lib.ListN.{length, getD}
 use Rattle.lists.specs.Counting.{sum-same}
 use Rattle.laws.specs.SameRules.{renamed}
-use Rattle.layout.specs.declared.Places.{Places}
-use Rattle.layout.specs.Places.{Room, depthAt, varAt, ownerAt, usedAt, markAt, countAt, depthOf, varOf, ownerOf, usedOf, markOf, slotIn}
+use Rattle.rules.specs.declared.Sizes.{Sizes}
+use Rattle.layout.specs.Places.{Room, depthAt, varAt, ownerAt, usedAt, markAt, countAt, depthOf, varOf, ownerOf, usedOf, markOf, slotIn, countsFrom, varsFrom}
 use Rattle.layout.specs.Cells.{headOf, workOf, fieldOf, refsOf}
 use Rattle.layout.specs.Marks.{marked}
 use Rattle.promises.specs.Words.{InUse}
@@ -33,15 +33,15 @@ use Rattle.evacuate.specs.Stages.{Lives, Before, Finished}
 use Rattle.settle.specs.RewriteSlots.{Remembered}
 
 -- the cell of an object after the end of r, as the words before and after say: a survivor's forward reference stands in word 1 of its old cell
-unfoldable pub cellAfter : Places → ℕ → List ℕ → List ℕ → ℕ → ℕ
+unfoldable pub cellAfter : Sizes → ℕ → List ℕ → List ℕ → ℕ → ℕ
 cellAfter p r T W′ c = cond (eqb (ownerOf p T (c / 16)) r) (workOf W′ c - 1) c
 
 -- the region that it lies in then
-abbrev pub homeAfter : Places → ℕ → List ℕ → List ℕ → ℕ → ℕ
+abbrev pub homeAfter : Sizes → ℕ → List ℕ → List ℕ → ℕ → ℕ
 homeAfter p r W T c = cond (eqb (ownerOf p T (c / 16)) r) (workOf W c) (ownerOf p T (c / 16))
 
 -- r's thread is t; every word that lives on, is freed or never changes
-pub record Evacuated (p : Places) (r t : ℕ) (W M T W′ M′ T′ : List ℕ) : Type 0 where
+pub record Evacuated (p : Sizes) (r t : ℕ) (W M T W′ M′ T′ : List ℕ) : Type 0 where
   -- the cells in use are those of the objects that live on, each once, in their regions; a survivor took a cell that was not in use
   pub goes : (c : ℕ) → Lives p r T c → InUse p T′ (cellAfter p r T W′ c)
   pub home : (c : ℕ) → Lives p r T c → ownerOf p T′ (cellAfter p r T W′ c / 16) ≡ homeAfter p r W T c
@@ -62,7 +62,7 @@ pub record Evacuated (p : Places) (r t : ℕ) (W M T W′ M′ T′ : List ℕ) 
   pub marks : (q : ℕ) → q < p .pages → markOf p T′ q ≡ 0
   -- the depth of the thread falls by one
   pub depth : depthOf T′ t ≡ depthOf T t - 1
-  pub before : (x : ℕ) → x < p .vars → x ≢ depthAt t → getD T′ x 0 ≡ getD T x 0
+  pub before : (x : ℕ) → x < varsFrom p → x ≢ depthAt t → getD T′ x 0 ≡ getD T x 0
   -- the lengths, and the words past what the tables take
   pub cells-size : length W′ ≡ length W
   pub tables-size : length T′ ≡ length T
@@ -70,8 +70,8 @@ pub record Evacuated (p : Places) (r t : ℕ) (W M T W′ M′ T′ : List ℕ) 
   pub tables-beyond : (x : ℕ) → endOf p ≤ x → getD T′ x 0 ≡ getD T x 0
 
 -- owners, cells in use and counts that stay keep pages regular
-pub regular-like : {p : Places} {T T′ : List ℕ} → length T′ ≡ length T → ((x : ℕ) → x < p .pages → ownerOf p T′ x ≡ ownerOf p T x)
-    → ((x : ℕ) → x < p .pages → usedOf p T′ x ≡ usedOf p T x) → ((x : ℕ) → p .counts ≤ x → getD T′ x 0 ≡ getD T x 0) → Regular p T → Regular p T′
+pub regular-like : {p : Sizes} {T T′ : List ℕ} → length T′ ≡ length T → ((x : ℕ) → x < p .pages → ownerOf p T′ x ≡ ownerOf p T x)
+    → ((x : ℕ) → x < p .pages → usedOf p T′ x ≡ usedOf p T x) → ((x : ℕ) → countsFrom p ≤ x → getD T′ x 0 ≡ getD T x 0) → Regular p T → Regular p T′
 regular-like {p} {T} {T′} size eo eu ec r =
     record {
       room = room-same size (r .room);
@@ -91,7 +91,7 @@ regular-like {p} {T} {T′} size eo eu ec r =
           partial = record { owner = sym (eo a (w .low)) ∙ w .partial .owner; part = omega (arith, eu a (w .low), w .partial .part) };
         }
 
-module _ {p : Places} {r n m l t : ℕ} {gs : ℕ → ℕ} {W T M W′ T′ M′ : List ℕ} (b : Before p r n m l gs W M T)
+module _ {p : Sizes} {r n m l t : ℕ} {gs : ℕ → ℕ} {W T M W′ T′ M′ : List ℕ} (b : Before p r n m l gs W M T)
     (f : Finished p r n m l t gs W M T W′ M′ T′) (real : 1 ≤ r) (low : r ≤ regionsOf p) (thread : t < p .threads) where
   a₀ : Ready p W T
   a₀ = b .plan .ready

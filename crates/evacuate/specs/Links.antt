@@ -6,7 +6,7 @@ use Prim.Native.Nat.{ℕ, _+_, _-_, _*_, _/_, _≤_, _<_}
 use native.Mathlib.Decide.{ℕ-discrete}
 use native.Mathlib.Omega.{arith}
 use lib.ListN.{getD}
-use Rattle.layout.specs.declared.Places.{Places}
+use Rattle.rules.specs.declared.Sizes.{Sizes}
 use Rattle.layout.specs.Places.{ownerOf}
 use Rattle.layout.specs.Cells.{workOf, fieldOf, refsOf}
 use Rattle.layout.specs.Marks.{marked}
@@ -20,7 +20,7 @@ use Rattle.settle.specs.Update.{Copies}
 use Rattle.settle.specs.RewriteCopies.{Old, Wiring, Between}
 
 -- whole tables in which r's survivors are marked; S holds of the slots outside r that point into r
-pub record Start (p : Places) (r : ℕ) (S : ℕ → Type 0) (W T : List ℕ) : Type 0 where
+pub record Start (p : Sizes) (r : ℕ) (S : ℕ → Type 0) (W T : List ℕ) : Type 0 where
   pub refs-few : (c : ℕ) → InUse p T c → refsOf W c ≤ 14
   pub slots-used : (c f : ℕ) → InUse p T c → f < refsOf W c → fieldOf W c f ≢ 0 → InUse p T (fieldOf W c f - 1)
   pub survivors : (c : ℕ) → c / 16 < p .pages → marked p T c ≡ 1 → ownerOf p T (c / 16) ≡ r
@@ -32,7 +32,7 @@ pub record Start (p : Places) (r : ℕ) (S : ℕ → Type 0) (W T : List ℕ) : 
   pub old : (x : ℕ) → S x → InUse p T (x / 16)
   pub into : (b f : ℕ) → f < 14 → S (16 * b + 2 + f) → (fieldOf W b f ≢ 0) × (ownerOf p T ((fieldOf W b f - 1) / 16) ≡ r)
 
-module _ {p : Places} {r : ℕ} {S : ℕ → Type 0} {W₀ T₀ W T : List ℕ} (s : Start p r S W₀ T₀) (a₀ : Ready p W₀ T₀) (a : Ready p W T)
+module _ {p : Sizes} {r : ℕ} {S : ℕ → Type 0} {W₀ T₀ W T : List ℕ} (s : Start p r S W₀ T₀) (a₀ : Ready p W₀ T₀) (a : Ready p W T)
     (F : Forwards p W₀ T₀ W T) where
   -- a survivor's new home is not r
   pub new-home : (c : ℕ) → c / 16 < p .pages → marked p T₀ c ≡ 1 → ownerOf p T (forward W c / 16) ≢ r

@@ -7,7 +7,7 @@ use Prim.Native.Nat.{ℕ, _+_, _-_, _*_, _/_, _%_, _<_}
 use native.Mathlib.Decide.{ℕ-discrete}
 use native.Mathlib.Omega.{arith}
 use lib.ListN.{getD}
-use Rattle.layout.specs.declared.Places.{Places}
+use Rattle.rules.specs.declared.Sizes.{Sizes}
 use Rattle.layout.specs.Places.{ownerOf, varOf, markOf, slotIn, slotRegionIn}
 use Rattle.layout.specs.Cells.{fieldOf, refsOf}
 use Rattle.layout.specs.Marks.{marked}
@@ -22,7 +22,7 @@ use Rattle.evacuate.specs.Table.{IsSlot, cross-value}
 use Rattle.release.specs.Release.{Ended}
 use Rattle.evacuate.specs.Stages.{Before, Finished, update-ask}
 
-module _ {p : Places} {r n m l : ℕ} {gs : ℕ → ℕ} {W T M : List ℕ} (b : Before p r n m l gs W M T) (off : (q : ℕ) → q < p .pages → markOf p T q ≡ 0) where
+module _ {p : Sizes} {r n m l : ℕ} {gs : ℕ → ℕ} {W T M : List ℕ} (b : Before p r n m l gs W M T) (off : (q : ℕ) → q < p .pages → markOf p T q ≡ 0) where
   unset : (c : ℕ) → c / 16 < p .pages → marked p T c ≡ 1 → ⊥
   unset c h = no-marks p T (c / 16) (off (c / 16) h) c refl
 

@@ -5,7 +5,7 @@ use mathlib.Core.List.{List}
 use Prim.Native.Nat.{ℕ, suc, _+_, _-_, _*_, _/_, _%_, _≤_, _<_}
 use native.Mathlib.Omega.{arith}
 use lib.ListN.{getD}
-use Rattle.layout.specs.declared.Places.{Places}
+use Rattle.rules.specs.declared.Sizes.{Sizes}
 use Rattle.layout.specs.Places.{ownerOf, usedIn, slotIn, slotRegionIn}
 use Rattle.layout.specs.Cells.{fieldOf, refsOf}
 use Rattle.promises.specs.Words.{InUse}
@@ -27,7 +27,7 @@ other-than : (w h : ℕ) → other w h ≡ otherThan w h
 unfolding otherThan
 other-than w h = refl
 
-module _ {p : Places} {r m l t : ℕ} {gs : ℕ → ℕ} {W T M W′ T′ M′ : List ℕ} (b : Before p r (p .entries) m l gs W M T)
+module _ {p : Sizes} {r m l t : ℕ} {gs : ℕ → ℕ} {W T M W′ T′ M′ : List ℕ} (b : Before p r (p .entries) m l gs W M T)
     (f : Finished p r (p .entries) m l t gs W M T W′ M′ T′) (high : 1 < r) (low : r ≤ regionsOf p) (thread : t < p .threads) where
   real : 1 ≤ r
   real = omega arith

@@ -6,7 +6,7 @@ use Prim.Native.Nat.{ℕ, _+_, _-_, _*_, _/_, _%_, _≤_, _<_}
 use native.Mathlib.Omega.{arith}
 use lib.ListN.{length, getD}
 use Rattle.lists.specs.Part.{Off, Lists}
-use Rattle.layout.specs.declared.Places.{Places}
+use Rattle.rules.specs.declared.Sizes.{Sizes}
 use Rattle.layout.specs.Places.{Room, depthAt, varAt, ownerAt, depthOf, varOf, ownerOf, usedOf, markOf, slotIn, slotRegionIn}
 use Rattle.layout.specs.Cells.{workOf, fieldOf, refsOf}
 use Rattle.layout.specs.Marks.{marked}
@@ -25,16 +25,16 @@ use Rattle.settle.specs.Final.{Settles, copies-exist}
 use Rattle.settle.specs.RewriteCopies.{Old, Wiring, wiring-now, Between, slot-now, slot-then}
 
 -- cell c is in use, and if it is r's its object survives
-pub record Lives (p : Places) (r : ℕ) (T : List ℕ) (c : ℕ) : Type 0 where
+pub record Lives (p : Sizes) (r : ℕ) (T : List ℕ) (c : ℕ) : Type 0 where
   pub used : InUse p T c
   pub stays : ownerOf p T (c / 16) ≡ r → marked p T c ≡ 1
 
 -- at most n slots cross after the end, whatever cells the copies took
-abbrev pub Space : (p : Places) (r n : ℕ) (W T : List ℕ) → Type 0
+abbrev pub Space : (p : Sizes) (r n : ℕ) (W T : List ℕ) → Type 0
 Space p r n W T = (k : ℕ) (at : ℕ → ℕ) → ((i : ℕ) → i < k → Crosses p r W T (at i)) → ((a b : ℕ) → a < b → b < k → at a ≢ at b) → k ≤ n
 
 -- m entries of n are used; the survivors' targets are the gs below l
-pub record Before (p : Places) (r n m l : ℕ) (gs : ℕ → ℕ) (W M T : List ℕ) : Type 0 where
+pub record Before (p : Sizes) (r n m l : ℕ) (gs : ℕ → ℕ) (W M T : List ℕ) : Type 0 where
   pub plan : Plan p l gs W T
   pub start : Start p r (Remembered r n m M) W T
   pub listed : Listed p n m W M T
@@ -47,12 +47,12 @@ pub record Before (p : Places) (r n m l : ℕ) (gs : ℕ → ℕ) (W M T : List 
   pub space : (W₁ T₁ W₃ : List ℕ) → Forwards p W T W₁ T₁ → Rewritten p r (λ x. Remembered r n m M x ⊎ Copies p r W₁ T₁ x) W₁ T₁ W₃ → Space p r n W₃ T₁
 
 -- survivors are r's: a page that is not listed with r's has no mark
-pub unmarked : {p : Places} {r n m l k : ℕ} {gs : ℕ → ℕ} {W T M list : List ℕ} → Before p r n m l gs W M T → Lists (λ q. ownerOf p T q ≡ r) (p .pages) k list
+pub unmarked : {p : Sizes} {r n m l k : ℕ} {gs : ℕ → ℕ} {W T M list : List ℕ} → Before p r n m l gs W M T → Lists (λ q. ownerOf p T q ≡ r) (p .pages) k list
     → (q : ℕ) → q < p .pages → Off list k q → markOf p T q ≡ 0
 unmarked {p} {r} {T = T} b o q h off =
     no-survivors (b .plan) q h (λ x e on. o .all q h (subst (λ (y : ℕ). ownerOf p T y ≡ r) e (b .start .survivors x (omega arith) on)) off)
 
-module _ {p : Places} {r n m l : ℕ} {gs : ℕ → ℕ} {W T M W₁ T₁ : List ℕ} (b : Before p r n m l gs W M T) (c : Copy p l gs l W T W₁ T₁) where
+module _ {p : Sizes} {r n m l : ℕ} {gs : ℕ → ℕ} {W T M W₁ T₁ : List ℕ} (b : Before p r n m l gs W M T) (c : Copy p l gs l W T W₁ T₁) where
   F : Forwards p W T W₁ T₁
   F = copy-forwards (b .plan) c
 
@@ -271,7 +271,7 @@ module _ {p : Places} {r n m l : ℕ} {gs : ℕ → ℕ} {W T M W₁ T₁ : List
           (F .only (16 * q) (first T₁ q l (a₁ .regular .taken q l (λ z. real (sym e ∙ z)))))
 
 -- the words after each stage: copied, remembered slots rewritten, copies' slots rewritten, remember table, variables, released
-pub record Finished (p : Places) (r n m l t : ℕ) (gs : ℕ → ℕ) (W M T W′ M′ T′ : List ℕ) : Type 0 where
+pub record Finished (p : Sizes) (r n m l t : ℕ) (gs : ℕ → ℕ) (W M T W′ M′ T′ : List ℕ) : Type 0 where
   pub cells : List ℕ
   pub tables : List ℕ
   pub vars : List ℕ
@@ -282,7 +282,7 @@ pub record Finished (p : Places) (r n m l t : ℕ) (gs : ℕ → ℕ) (W M T W�
   pub variables : Variables p (p .threads * p .variables) r W′ tables vars
   pub ended : Ended p r t vars T′
 
-pub finished : {p : Places} {r n m l t : ℕ} {gs : ℕ → ℕ} {W T M W₁ T₁ W₂ W₃ T₂ T′ M′ : List ℕ} (b : Before p r n m l gs W M T) (c : Copy p l gs l W T W₁ T₁)
+pub finished : {p : Sizes} {r n m l t : ℕ} {gs : ℕ → ℕ} {W T M W₁ T₁ W₂ W₃ T₂ T′ M′ : List ℕ} (b : Before p r n m l gs W M T) (c : Copy p l gs l W T W₁ T₁)
     (R₂ : Rewritten p r (Remembered r n m M) W₁ T₁ W₂) → Rewritten p r (Copies p r W₂ T₁) W₂ T₁ W₃ → Updated p r n m W₃ M T₁ M′ → Variables p (p .threads * p .variables) r W₃ T₁ T₂
     → Ended p r t T₂ T′ → Finished p r n m l t gs W M T W₃ M′ T′
 finished {W₁ = W₁} {T₁ = T₁} {T₂ = T₂} b c R₂ R₃ u w e =
@@ -298,7 +298,7 @@ finished {W₁ = W₁} {T₁ = T₁} {T₂ = T₂} b c R₂ R₃ u w e =
       ended = e;
     }
 
-pub release-ask : {p : Places} {r n m l : ℕ} {gs : ℕ → ℕ} {W T M W₁ T₁ W₃ T₂ : List ℕ} (t : ℕ) (b : Before p r n m l gs W M T) (c : Copy p l gs l W T W₁ T₁)
+pub release-ask : {p : Sizes} {r n m l : ℕ} {gs : ℕ → ℕ} {W T M W₁ T₁ W₃ T₂ : List ℕ} (t : ℕ) (b : Before p r n m l gs W M T) (c : Copy p l gs l W T W₁ T₁)
     → t < p .threads → 1 ≤ depthOf T t → Variables p (p .threads * p .variables) r W₃ T₁ T₂ → Room p (length T₂) × (depthOf T₂ t ≡ depthOf T t)
 release-ask {p} t b c lt pos w =
     let room = b .plan .ready .regular .room in (
@@ -308,7 +308,7 @@ release-ask {p} t b c lt pos w =
 
 -- ---- the copies can be settled after the copying and the rewriting of the remembered slots
 
-pub settle-ask : {p : Places} {r n m l : ℕ} {gs : ℕ → ℕ} {W T M W₁ T₁ W₂ : List ℕ} → Before p r n m l gs W M T → Copy p l gs l W T W₁ T₁ → Rewritten p r (Remembered r n m M) W₁ T₁ W₂
+pub settle-ask : {p : Sizes} {r n m l : ℕ} {gs : ℕ → ℕ} {W T M W₁ T₁ W₂ : List ℕ} → Before p r n m l gs W M T → Copy p l gs l W T W₁ T₁ → Rewritten p r (Remembered r n m M) W₁ T₁ W₂
     → Settles p r n m W₂ M T₁
 settle-ask {p} {r} {n} {m} {T₁ = T₁} {W₂ = W₂} b c R₂ =
     record {

@@ -6,7 +6,7 @@ use Prim.Native.Nat.{ℕ, _+_, _-_, _*_, _/_, _%_, _≤_, _<_}
 use native.Mathlib.Decide.{ℕ-discrete, decLt}
 use native.Mathlib.Omega.{arith}
 use lib.ListN.{getD}
-use Rattle.layout.specs.declared.Places.{Places}
+use Rattle.rules.specs.declared.Sizes.{Sizes}
 use Rattle.layout.specs.Places.{ownerOf, slotIn, slotRegionIn}
 use Rattle.layout.specs.Cells.{workOf, fieldOf, refsOf}
 use Rattle.layout.specs.Marks.{marked}
@@ -22,13 +22,13 @@ use Rattle.settle.specs.RewriteSlots.{Remembered}
 
 -- ---- what a crossing value says
 
-pub record Value (p : Places) (T : List ℕ) (w x h : ℕ) : Type 0 where
+pub record Value (p : Sizes) (T : List ℕ) (w x h : ℕ) : Type 0 where
   pub real : x ≢ 0
   pub region : h ≡ ownerOf p T ((x - 1) / 16)
   pub high : 1 < h
   pub other : h ≢ w
 
-pub cross-value : (p : Places) (T : List ℕ) (w x h : ℕ) → h ≡ crossOf p T w x → h ≢ 0 → Value p T w x h
+pub cross-value : (p : Sizes) (T : List ℕ) (w x h : ℕ) → h ≡ crossOf p T w x → h ≢ 0 → Value p T w x h
 cross-value p T w x h e ne = go (ℕ-discrete x 0) (decLt 1 (ownerOf p T ((x - 1) / 16))) (ℕ-discrete (ownerOf p T ((x - 1) / 16)) w)
   where
     g : ℕ
@@ -42,7 +42,7 @@ cross-value p T w x h e ne = go (ℕ-discrete x 0) (decLt 1 (ownerOf p T ((x - 1
         let v : h ≡ g = e ∙ sym (cross-ref p T w x z) ∙ sym (other-yes w g l s) in
         record { real = z; region = v; high = omega arith; other = λ q. s (sym v ∙ q) }
 
-pub value-cross : (p : Places) (T : List ℕ) (w x h : ℕ) → Value p T w x h → h ≡ crossOf p T w x
+pub value-cross : (p : Sizes) (T : List ℕ) (w x h : ℕ) → Value p T w x h → h ≡ crossOf p T w x
 value-cross p T w x h v =
     let l : 1 < ownerOf p T ((x - 1) / 16) = omega (arith, v .high, v .region) in
     v .region ∙ other-yes w (ownerOf p T ((x - 1) / 16)) l (λ z. v .other (v .region ∙ z)) ∙ cross-ref p T w x (v .real)
@@ -50,18 +50,18 @@ value-cross p T w x h v =
 -- ---- the table before
 
 -- x is a slot of a cell in use
-pub record IsSlot (p : Places) (W T : List ℕ) (x : ℕ) : Type 0 where
+pub record IsSlot (p : Sizes) (W T : List ℕ) (x : ℕ) : Type 0 where
   pub used : InUse p T (x / 16)
   pub field : 2 ≤ x % 16
   pub ref : x % 16 < refsOf W (x / 16) + 2
 
-pub record Listed (p : Places) (n m : ℕ) (W M T : List ℕ) : Type 0 where
+pub record Listed (p : Sizes) (n m : ℕ) (W M T : List ℕ) : Type 0 where
   pub slots : (i : ℕ) → i < m → IsSlot p W T (slotIn M i)
   pub right : (i : ℕ) → i < m → slotRegionIn n M i ≡ crossAt p W T (slotIn M i)
   pub real : (i : ℕ) → i < m → slotRegionIn n M i ≢ 0
   pub every : (x : ℕ) → IsSlot p W T x → crossAt p W T x ≢ 0 → (i : ℕ) × (i < m) × (slotIn M i ≡ x)
 
-module _ {p : Places} {r n m : ℕ} {M W₀ T₀ W T W′ : List ℕ} (s : Start p r (Remembered r n m M) W₀ T₀) (a₀ : Ready p W₀ T₀) (a : Ready p W T)
+module _ {p : Sizes} {r n m : ℕ} {M W₀ T₀ W T W′ : List ℕ} (s : Start p r (Remembered r n m M) W₀ T₀) (a₀ : Ready p W₀ T₀) (a : Ready p W T)
     (F : Forwards p W₀ T₀ W T) (R : Rewritten p r (λ x. Remembered r n m M x ⊎ Copies p r W T x) W T W′)
     (L : Listed p n m W₀ M T₀) where
   -- an old slot is no slot of a copy
@@ -247,7 +247,7 @@ module _ {p : Places} {r n m : ℕ} {M W₀ T₀ W T W′ : List ℕ} (s : Start
 
 -- ---- what Start asks of the remembered slots holds of a whole table
 
-module _ {p : Places} {r n m : ℕ} {W T M : List ℕ} (high : 1 < r) (L : Listed p n m W M T) where
+module _ {p : Sizes} {r n m : ℕ} {W T M : List ℕ} (high : 1 < r) (L : Listed p n m W M T) where
   pub remembered-old : (x : ℕ) → Remembered r n m M x → InUse p T (x / 16)
   remembered-old x q = subst (λ (y : ℕ). InUse p T (y / 16)) (q .slot) (L .slots (q .entry) (q .low) .used)
 

@@ -4,18 +4,18 @@ ghost use mathlib.Core.Path.{_≡_};
 ghost use Prim.Native.Nat.{ℕ, _<_, _≤_};
 ghost use lib.ListN.{length, getD};
 ghost use Rattle.lists.specs.Part.{Lists};
-ghost use Rattle.layout.specs.Places.{depthOf, ownerOf, markOf, usedIn, sizesOf};
+ghost use Rattle.layout.specs.Places.{depthOf, ownerOf, markOf, usedIn};
 ghost use Rattle.rules.specs.Regions.{regionAt};
 ghost use Rattle.pages.specs.Pages.{noteWords};
 ghost use Rattle.copy.specs.Marks.{hits};
 ghost use Rattle.pages.specs.Owned.{regionsOf};
 ghost use Rattle.evacuate.specs.Stages.{Before, Finished};
-use layout::Places;
+use rules::Sizes;
 
 // The accepted end of a thread's innermost region, whose survivors are marked and whose pages are listed; `come` is not 0 of the regions that
 // survivors go to.
 pub fn evacuate(
-    p: Places,
+    p: Sizes,
     cells: &mut [u32],
     remember: &mut [u32],
     tables: &mut [u32],
@@ -25,12 +25,12 @@ pub fn evacuate(
     come: &[u32],
     thread: usize,
 )
-    requires { ⌜ Before p (regionAt (sizesOf p) thread (depthOf (now tables) thread)) (p .entries) (usedIn (now remember)) (depthOf (now tables) thread) (regionAt (sizesOf p) thread) (now cells) (now remember) (now tables) ⌝ }
+    requires { ⌜ Before p (regionAt p thread (depthOf (now tables) thread)) (p .entries) (usedIn (now remember)) (depthOf (now tables) thread) (regionAt p thread) (now cells) (now remember) (now tables) ⌝ }
     requires { ⌜ (thread < p .threads) × (1 ≤ depthOf (now tables) thread) × (depthOf (now tables) thread ≤ p .depth) ⌝ }
-    requires { ⌜ Lists (λ page. ownerOf p (now tables) page ≡ regionAt (sizesOf p) thread (depthOf (now tables) thread)) (p .pages) n (now list) ⌝ }
+    requires { ⌜ Lists (λ page. ownerOf p (now tables) page ≡ regionAt p thread (depthOf (now tables) thread)) (p .pages) n (now list) ⌝ }
     requires { ⌜ ((g : ℕ) → 1 ≤ g → g ≤ regionsOf p → getD (now come) g 0 ≡ 0 → hits p (now cells) (now tables) g ≡ 0) ⌝ }
     requires { ⌜ (noteWords ≤ length (now notes)) × (regionsOf p < length (now come)) ⌝ }
-    ensures { λ _. ⌜ Finished p (regionAt (sizesOf p) thread (depthOf (now (tables .entry)) thread)) (p .entries) (usedIn (now (remember .entry))) (depthOf (now (tables .entry)) thread) thread (regionAt (sizesOf p) thread) (now (cells .entry)) (now (remember .entry)) (now (tables .entry)) (now (cells .exit)) (now (remember .exit)) (now (tables .exit)) ⌝ }
+    ensures { λ _. ⌜ Finished p (regionAt p thread (depthOf (now (tables .entry)) thread)) (p .entries) (usedIn (now (remember .entry))) (depthOf (now (tables .entry)) thread) thread (regionAt p thread) (now (cells .entry)) (now (remember .entry)) (now (tables .entry)) (now (cells .exit)) (now (remember .exit)) (now (tables .exit)) ⌝ }
 {
     let level = layout::wide(layout::tables::depth(p, tables, thread));
     let region = layout::regions::region_at(p, thread, level);
@@ -43,18 +43,18 @@ pub fn evacuate(
 
 // The same end where nothing survives: no mark is set, so nothing moves and nothing leads into the region. Its entries and its pages go.
 pub fn evacuate_none(
-    p: Places,
+    p: Sizes,
     cells: &[u32],
     remember: &mut [u32],
     tables: &mut [u32],
     notes: &mut [u32],
     thread: usize,
 )
-    requires { ⌜ Before p (regionAt (sizesOf p) thread (depthOf (now tables) thread)) (p .entries) (usedIn (now remember)) (depthOf (now tables) thread) (regionAt (sizesOf p) thread) (now cells) (now remember) (now tables) ⌝ }
+    requires { ⌜ Before p (regionAt p thread (depthOf (now tables) thread)) (p .entries) (usedIn (now remember)) (depthOf (now tables) thread) (regionAt p thread) (now cells) (now remember) (now tables) ⌝ }
     requires { ⌜ (thread < p .threads) × (1 ≤ depthOf (now tables) thread) × (depthOf (now tables) thread ≤ p .depth) ⌝ }
     requires { ⌜ ((page : ℕ) → page < p .pages → markOf p (now tables) page ≡ 0) ⌝ }
     requires { ⌜ noteWords ≤ length (now notes) ⌝ }
-    ensures { λ _. ⌜ Finished p (regionAt (sizesOf p) thread (depthOf (now (tables .entry)) thread)) (p .entries) (usedIn (now (remember .entry))) (depthOf (now (tables .entry)) thread) thread (regionAt (sizesOf p) thread) (now (cells .entry)) (now (remember .entry)) (now (tables .entry)) (now (cells .entry)) (now (remember .exit)) (now (tables .exit)) ⌝ }
+    ensures { λ _. ⌜ Finished p (regionAt p thread (depthOf (now (tables .entry)) thread)) (p .entries) (usedIn (now (remember .entry))) (depthOf (now (tables .entry)) thread) thread (regionAt p thread) (now (cells .entry)) (now (remember .entry)) (now (tables .entry)) (now (cells .entry)) (now (remember .exit)) (now (tables .exit)) ⌝ }
 {
     let level = layout::wide(layout::tables::depth(p, tables, thread));
     let region = layout::regions::region_at(p, thread, level);

@@ -16,7 +16,7 @@ use Rattle.rules.specs.Regions.{regionAt, threadOf, levelOf}
 use Rattle.rules.specs.Graph.{target}
 use Rattle.laws.specs.SameRules.{renamed}
 use Rattle.laws.specs.RegionLaws.{region-high, thread-at, level-at}
-use Rattle.layout.specs.Places.{Room, room, placesOf, depthAt, varOf, ownerOf, usedOf, depthOf, usedIn, tablesWords, count-room}
+use Rattle.layout.specs.Places.{Room, room, depthAt, varOf, ownerOf, usedOf, depthOf, usedIn, tablesWords, count-room}
 use Rattle.layout.specs.Cells.{fieldOf, pageOf}
 use Rattle.promises.specs.Words.{Words, Used, depthIn, ownerIn, graphOf}
 use Rattle.promises.specs.Whole.{WholeFor, Open}
@@ -45,34 +45,34 @@ same-from n l k e h =
 
 module _ (s : Sizes) (w : Words) (whole : WholeFor s w) (t k : ℕ) (th : t < s .threads) (deep : depthIn w t ≡ suc k)
     (fits : length (w .tables) < 2 ^ 63) (w₁ w′ : Words) (m : Marked s w (regionAt s t (suc k)) w₁)
-    (b : Before (placesOf s) (regionAt s t (suc k)) (s .entries) (usedIn (w .remember)) (suc k) (regionAt s t) (w₁ .cells) (w .remember) (w₁ .tables))
-    (f : Finished (placesOf s) (regionAt s t (suc k)) (s .entries) (usedIn (w .remember)) (suc k) t (regionAt s t) (w₁ .cells) (w .remember) (w₁ .tables)
+    (b : Before s (regionAt s t (suc k)) (s .entries) (usedIn (w .remember)) (suc k) (regionAt s t) (w₁ .cells) (w .remember) (w₁ .tables))
+    (f : Finished s (regionAt s t (suc k)) (s .entries) (usedIn (w .remember)) (suc k) t (regionAt s t) (w₁ .cells) (w .remember) (w₁ .tables)
     (w′ .cells) (w′ .remember) (w′ .tables)) where
-  rm : Room (placesOf s) (length (w .tables))
+  rm : Room s (length (w .tables))
   rm = room s (length (w .tables)) (range s w whole) (tables-room s w whole) fits
 
   low : k < s .depth
   low = omega (arith, whole .placed .depths t th)
 
-  bounds : (1 ≤ regionAt s t (suc k)) × (regionAt s t (suc k) ≤ regionsOf (placesOf s))
-  bounds = region-bounds (placesOf s) t (suc k) th low
+  bounds : (1 ≤ regionAt s t (suc k)) × (regionAt s t (suc k) ≤ regionsOf s)
+  bounds = region-bounds s t (suc k) th low
 
-  E : ev.Evacuated (placesOf s) (regionAt s t (suc k)) t (w₁ .cells) (w .remember) (w₁ .tables) (w′ .cells) (w′ .remember) (w′ .tables)
+  E : ev.Evacuated s (regionAt s t (suc k)) t (w₁ .cells) (w .remember) (w₁ .tables) (w′ .cells) (w′ .remember) (w′ .tables)
   E = finished-evacuated b f (bounds .0) (bounds .1) th
 
   -- the map from the cells of survivors to their new cells
   pub forward : ℕ → ℕ
-  forward = cellAfter (placesOf s) (regionAt s t (suc k)) (w₁ .tables) (w′ .cells)
+  forward = cellAfter s (regionAt s t (suc k)) (w₁ .tables) (w′ .cells)
 
   -- a reference that leads to a cell that lives on, by the map
   rewritten-is : (x : ℕ) → (x ≢ 0 → Used s w (x - 1))
-      → renamed (cellAfter (placesOf s) (regionAt s t (suc k)) (w₁ .tables) (w′ .cells)) x ≡ rewritten s w (regionAt s t (suc k)) (cellAfter (placesOf s) (regionAt s t (suc k)) (w₁ .tables) (w′ .cells)) x
+      → renamed (cellAfter s (regionAt s t (suc k)) (w₁ .tables) (w′ .cells)) x ≡ rewritten s w (regionAt s t (suc k)) (cellAfter s (regionAt s t (suc k)) (w₁ .tables) (w′ .cells)) x
   unfolding rewritten
   rewritten-is zero h = refl
   rewritten-is (suc y) h = go (ℕ-discrete (ownerIn s w (pageOf (suc y - 1))) (regionAt s t (suc k)))
     where
       F : ℕ → ℕ
-      F = cellAfter (placesOf s) (regionAt s t (suc k)) (w₁ .tables) (w′ .cells)
+      F = cellAfter s (regionAt s t (suc k)) (w₁ .tables) (w′ .cells)
 
       e : suc y - 1 ≡ y
       e = omega arith
@@ -93,9 +93,9 @@ module _ (s : Sizes) (w : Words) (whole : WholeFor s w) (t k : ℕ) (th : t < s 
           ap suc (E .stays y (λ z. n (ap (λ (x : ℕ). ownerIn s w (pageOf x)) e ∙ sym (owner-same m rm (pageOf y) (u .page)) ∙ z)))
           ∙ sym (ap₂ (λ (a d : Bool). cond a 0 (cond d (1 + F (suc y - 1)) (suc y))) non (ne-eqb (ownerIn s w (pageOf (suc y - 1))) (regionAt s t (suc k)) n))
 
-  object : (c : ℕ) → Lives (placesOf s) (regionAt s t (suc k)) (w₁ .tables) c
-      → SameObject s w (regionAt s t (suc k)) (cellAfter (placesOf s) (regionAt s t (suc k)) (w₁ .tables) (w′ .cells)) c w′
-      (cellAfter (placesOf s) (regionAt s t (suc k)) (w₁ .tables) (w′ .cells) c)
+  object : (c : ℕ) → Lives s (regionAt s t (suc k)) (w₁ .tables) c
+      → SameObject s w (regionAt s t (suc k)) (cellAfter s (regionAt s t (suc k)) (w₁ .tables) (w′ .cells)) c w′
+      (cellAfter s (regionAt s t (suc k)) (w₁ .tables) (w′ .cells) c)
   object c v =
       let u = was-used m rm c (v .used) in
       let h = head-same m rm c in
@@ -105,7 +105,7 @@ module _ (s : Sizes) (w : Words) (whole : WholeFor s w) (t k : ℕ) (th : t < s 
         references = λ g lg.
             let lg′ : g < 14 = omega (arith, few) in
             E .slots c g v (omega (arith, ap (λ (x : ℕ). x / 16) h))
-            ∙ ap (renamed (cellAfter (placesOf s) (regionAt s t (suc k)) (w₁ .tables) (w′ .cells))) (field-same m rm c g lg′)
+            ∙ ap (renamed (cellAfter s (regionAt s t (suc k)) (w₁ .tables) (w′ .cells))) (field-same m rm c g lg′)
             ∙ rewritten-is (fieldOf (w .cells) c g) (λ ne. whole .placed .references c u g lg (omega arith));
         others = λ g ge lg. E .rest c g v (omega (arith, ap (λ (x : ℕ). x / 16) h)) lg ∙ field-same m rm c g lg;
         working = E .work c v;
@@ -119,7 +119,7 @@ module _ (s : Sizes) (w : Words) (whole : WholeFor s w) (t k : ℕ) (th : t < s 
   depth-kept : (u : ℕ) → u < s .threads → u ≢ t → depthOf (w′ .tables) u ≡ depthIn w u
   depth-kept u l n = E .before (depthAt u) (omega (arith, rm)) (λ z. n (omega arith)) ∙ depth-same m rm u l
 
-  still-open : (g : ℕ) → g ≢ regionAt s t (suc k) → Open (placesOf s) (w .tables) g → Open (placesOf s) (w′ .tables) g
+  still-open : (g : ℕ) → g ≢ regionAt s t (suc k) → Open s (w .tables) g → Open s (w′ .tables) g
   still-open g n o =
       record { real = o .real; thread = o .thread; level = go (ℕ-discrete (threadOf s g) t) }
     where
@@ -144,7 +144,7 @@ module _ (s : Sizes) (w : Words) (whole : WholeFor s w) (t k : ℕ) (th : t < s 
           last (yes z) =
               absurd (n (number ∙ ap₂ (λ (x y : ℕ). 1 + x * s .depth + y) d z ∙ unfold regionAt in refl))
 
-  level-open : (j : ℕ) → j ≤ k → 1 < regionAt s t j → Open (placesOf s) (w′ .tables) (regionAt s t j)
+  level-open : (j : ℕ) → j ≤ k → 1 < regionAt s t j → Open s (w′ .tables) (regionAt s t j)
   level-open zero l h = absurd (let z : ⊥ = omega (arith, one) in z)
     where
       one : regionAt s t 0 ≡ 1
@@ -158,32 +158,32 @@ module _ (s : Sizes) (w : Words) (whole : WholeFor s w) (t k : ℕ) (th : t < s 
         level = omega (arith, c, ap (λ (x : ℕ). depthOf (w′ .tables) x) a, depth-now);
       }
 
-  page-open : (q : ℕ) → q < s .pages → 1 < ownerOf (placesOf s) (w′ .tables) q → Open (placesOf s) (w′ .tables) (ownerOf (placesOf s) (w′ .tables) q)
+  page-open : (q : ℕ) → q < s .pages → 1 < ownerOf s (w′ .tables) q → Open s (w′ .tables) (ownerOf s (w′ .tables) q)
   page-open q l h =
       let e : 16 * q / 16 ≡ q = omega arith in
       let u = E .regular .taken q l (λ z. omega arith) in
-      let o = E .onto (16 * q) (record { page = omega arith; place = omega (arith, ap (λ (x : ℕ). usedOf (placesOf s) (w′ .tables) x) e) }) in
-      let own : ownerOf (placesOf s) (w′ .tables) q ≡ homeAfter (placesOf s) (regionAt s t (suc k)) (w₁ .cells) (w₁ .tables) (o .0) =
-      ap (λ (x : ℕ). ownerOf (placesOf s) (w′ .tables) x) (sym (ap (λ (x : ℕ). x / 16) (o .2) ∙ e)) ∙ E .home (o .0) (o .1) in
+      let o = E .onto (16 * q) (record { page = omega arith; place = omega (arith, ap (λ (x : ℕ). usedOf s (w′ .tables) x) e) }) in
+      let own : ownerOf s (w′ .tables) q ≡ homeAfter s (regionAt s t (suc k)) (w₁ .cells) (w₁ .tables) (o .0) =
+      ap (λ (x : ℕ). ownerOf s (w′ .tables) x) (sym (ap (λ (x : ℕ). x / 16) (o .2) ∙ e)) ∙ E .home (o .0) (o .1) in
       go (o .0) own (lives-how m rm (o .0) (o .1))
     where
-      go : (c : ℕ) → ownerOf (placesOf s) (w′ .tables) q ≡ homeAfter (placesOf s) (regionAt s t (suc k)) (w₁ .cells) (w₁ .tables) c
-          → Outside s w (regionAt s t (suc k)) c ⊎ Survivor s w (regionAt s t (suc k)) c → Open (placesOf s) (w′ .tables) (ownerOf (placesOf s) (w′ .tables) q)
+      go : (c : ℕ) → ownerOf s (w′ .tables) q ≡ homeAfter s (regionAt s t (suc k)) (w₁ .cells) (w₁ .tables) c
+          → Outside s w (regionAt s t (suc k)) c ⊎ Survivor s w (regionAt s t (suc k)) c → Open s (w′ .tables) (ownerOf s (w′ .tables) q)
       go c own (inl v) =
           let a = owner-same m rm (pageOf c) (v .used .page) in
-          let z : ownerOf (placesOf s) (w′ .tables) q ≡ ownerIn s w (pageOf c) =
-          own ∙ ap (λ (x : Bool). cond x (getD (w₁ .cells) (16 * c + 1) 0) (ownerOf (placesOf s) (w₁ .tables) (c / 16))) (ne-eqb (ownerOf (placesOf s) (w₁ .tables) (c / 16)) (regionAt s t (suc k)) (λ y. v .owner (sym a ∙ y))) ∙ a in
-          subst (λ (x : ℕ). Open (placesOf s) (w′ .tables) x) (sym z)
+          let z : ownerOf s (w′ .tables) q ≡ ownerIn s w (pageOf c) =
+          own ∙ ap (λ (x : Bool). cond x (getD (w₁ .cells) (16 * c + 1) 0) (ownerOf s (w₁ .tables) (c / 16))) (ne-eqb (ownerOf s (w₁ .tables) (c / 16)) (regionAt s t (suc k)) (λ y. v .owner (sym a ∙ y))) ∙ a in
+          subst (λ (x : ℕ). Open s (w′ .tables) x) (sym z)
           (still-open (ownerIn s w (pageOf c)) (v .owner) (whole .placed .pages (pageOf c) (v .used .page) .region (omega arith)))
       go c own (inr v) =
           let a = owner-same m rm (pageOf c) (v .used .page) in
-          let z : ownerOf (placesOf s) (w′ .tables) q ≡ target s (graphOf s w) (regionAt s t (suc k)) c =
-          own ∙ ap (λ (x : Bool). cond x (getD (w₁ .cells) (16 * c + 1) 0) (ownerOf (placesOf s) (w₁ .tables) (c / 16))) (eq-eqb (ownerOf (placesOf s) (w₁ .tables) (c / 16)) (regionAt s t (suc k)) (a ∙ v .owner))
+          let z : ownerOf s (w′ .tables) q ≡ target s (graphOf s w) (regionAt s t (suc k)) c =
+          own ∙ ap (λ (x : Bool). cond x (getD (w₁ .cells) (16 * c + 1) 0) (ownerOf s (w₁ .tables) (c / 16))) (eq-eqb (ownerOf s (w₁ .tables) (c / 16)) (regionAt s t (suc k)) (a ∙ v .owner))
           ∙ m .goes c (v .used) (v .owner) in
           let j = target-level s w whole t k th deep c (used-home s w whole c (v .used) ∙ v .owner) (v .goes) in
-          subst (λ (x : ℕ). Open (placesOf s) (w′ .tables) x) (sym (z ∙ j .2)) (level-open (j .0) (j .1) (omega (arith, j .2)))
+          subst (λ (x : ℕ). Open s (w′ .tables) x) (sym (z ∙ j .2)) (level-open (j .0) (j .1) (omega (arith, j .2)))
 
-  pub evacuation-evacuated : Evacuated s w t k w′ (cellAfter (placesOf s) (regionAt s t (suc k)) (w₁ .tables) (w′ .cells))
+  pub evacuation-evacuated : Evacuated s w t k w′ (cellAfter s (regionAt s t (suc k)) (w₁ .tables) (w′ .cells))
   evacuation-evacuated =
       record {
         beyond =
@@ -199,29 +199,29 @@ module _ (s : Sizes) (w : Words) (whole : WholeFor s w) (t k : ℕ) (th : t < s 
         depth = depth-now;
         depths = λ u l n. depth-kept u l n;
         variables = λ i l.
-            E .vars i l ∙ ap (renamed (cellAfter (placesOf s) (regionAt s t (suc k)) (w₁ .tables) (w′ .cells))) (var-same m rm i l)
-            ∙ rewritten-is (varOf (placesOf s) (w .tables) i) (λ ne. whole .placed .variables i l (omega arith));
+            E .vars i l ∙ ap (renamed (cellAfter s (regionAt s t (suc k)) (w₁ .tables) (w′ .cells))) (var-same m rm i l)
+            ∙ rewritten-is (varOf s (w .tables) i) (λ ne. whole .placed .variables i l (omega arith));
         stayed = λ c o.
             let v = outside-lives m rm c o in
-            let n : ownerOf (placesOf s) (w₁ .tables) (c / 16) ≢ regionAt s t (suc k) = (λ z. o .owner (sym (owner-same m rm (pageOf c) (o .used .page)) ∙ z)) in
+            let n : ownerOf s (w₁ .tables) (c / 16) ≢ regionAt s t (suc k) = (λ z. o .owner (sym (owner-same m rm (pageOf c) (o .used .page)) ∙ z)) in
             let e = E .stays c n in
             let a = owner-same m rm (pageOf c) (o .used .page) in
             record {
               used = subst (λ (d : ℕ). Used s w′ d) e (E .goes c v);
               owner =
                   ap (λ (d : ℕ). ownerIn s w′ (pageOf d)) (sym e) ∙ E .home c v
-                  ∙ ap (λ (x : Bool). cond x (getD (w₁ .cells) (16 * c + 1) 0) (ownerOf (placesOf s) (w₁ .tables) (c / 16))) (ne-eqb (ownerOf (placesOf s) (w₁ .tables) (c / 16)) (regionAt s t (suc k)) n) ∙ a;
-              object = subst (λ (d : ℕ). SameObject s w (regionAt s t (suc k)) (cellAfter (placesOf s) (regionAt s t (suc k)) (w₁ .tables) (w′ .cells)) c w′ d) e (object c v);
+                  ∙ ap (λ (x : Bool). cond x (getD (w₁ .cells) (16 * c + 1) 0) (ownerOf s (w₁ .tables) (c / 16))) (ne-eqb (ownerOf s (w₁ .tables) (c / 16)) (regionAt s t (suc k)) n) ∙ a;
+              object = subst (λ (d : ℕ). SameObject s w (regionAt s t (suc k)) (cellAfter s (regionAt s t (suc k)) (w₁ .tables) (w′ .cells)) c w′ d) e (object c v);
             };
         went = λ c o.
             let v = survivor-lives m rm c o in
-            let e : ownerOf (placesOf s) (w₁ .tables) (c / 16) ≡ regionAt s t (suc k) = owner-same m rm (pageOf c) (o .used .page) ∙ o .owner in
+            let e : ownerOf s (w₁ .tables) (c / 16) ≡ regionAt s t (suc k) = owner-same m rm (pageOf c) (o .used .page) ∙ o .owner in
             record {
-              fresh = λ u. E .fresh c v e (now-used m rm (cellAfter (placesOf s) (regionAt s t (suc k)) (w₁ .tables) (w′ .cells) c) u);
+              fresh = λ u. E .fresh c v e (now-used m rm (cellAfter s (regionAt s t (suc k)) (w₁ .tables) (w′ .cells) c) u);
               used = E .goes c v;
               owner =
                   E .home c v
-                  ∙ ap (λ (x : Bool). cond x (getD (w₁ .cells) (16 * c + 1) 0) (ownerOf (placesOf s) (w₁ .tables) (c / 16))) (eq-eqb (ownerOf (placesOf s) (w₁ .tables) (c / 16)) (regionAt s t (suc k)) e)
+                  ∙ ap (λ (x : Bool). cond x (getD (w₁ .cells) (16 * c + 1) 0) (ownerOf s (w₁ .tables) (c / 16))) (eq-eqb (ownerOf s (w₁ .tables) (c / 16)) (regionAt s t (suc k)) e)
                   ∙ m .goes c (o .used) (o .owner);
               object = object c v;
             };
@@ -245,9 +245,9 @@ module _ (s : Sizes) (w : Words) (whole : WholeFor s w) (t k : ℕ) (th : t < s 
       far : (x : ℕ) → 256 * s .pages ≤ x → getD (w₁ .cells) x 0 ≡ getD (w .cells) x 0
       far x l = m .cells x (λ c e u o. omega (arith, u .page))
 
-      only′ : (d c : ℕ) → cellAfter (placesOf s) (regionAt s t (suc k)) (w₁ .tables) (w′ .cells) c ≡ d → Outside s w (regionAt s t (suc k)) c ⊎ Survivor s w (regionAt s t (suc k)) c
-          → Outside s w (regionAt s t (suc k)) d ⊎ ((x : ℕ) × Survivor s w (regionAt s t (suc k)) x × (cellAfter (placesOf s) (regionAt s t (suc k)) (w₁ .tables) (w′ .cells) x ≡ d))
+      only′ : (d c : ℕ) → cellAfter s (regionAt s t (suc k)) (w₁ .tables) (w′ .cells) c ≡ d → Outside s w (regionAt s t (suc k)) c ⊎ Survivor s w (regionAt s t (suc k)) c
+          → Outside s w (regionAt s t (suc k)) d ⊎ ((x : ℕ) × Survivor s w (regionAt s t (suc k)) x × (cellAfter s (regionAt s t (suc k)) (w₁ .tables) (w′ .cells) x ≡ d))
       only′ d c e (inl o) =
-          let n : ownerOf (placesOf s) (w₁ .tables) (c / 16) ≢ regionAt s t (suc k) = (λ z. o .owner (sym (owner-same m rm (pageOf c) (o .used .page)) ∙ z)) in
+          let n : ownerOf s (w₁ .tables) (c / 16) ≢ regionAt s t (suc k) = (λ z. o .owner (sym (owner-same m rm (pageOf c) (o .used .page)) ∙ z)) in
           inl (subst (λ (x : ℕ). Outside s w (regionAt s t (suc k)) x) (sym (E .stays c n) ∙ e) o)
       only′ d c e (inr v) = inr (c, v, e)

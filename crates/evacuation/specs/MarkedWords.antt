@@ -7,7 +7,7 @@ use native.Mathlib.Omega.{arith}
 use lib.ListN.{length, getD}
 use Rattle.rules.specs.declared.Sizes.{Sizes}
 use Rattle.rules.specs.Graph.{target}
-use Rattle.layout.specs.Places.{Room, placesOf, varAt, ownerAt, usedAt, countAt, depthAt, varOf, ownerOf, usedOf, countOf, depthOf}
+use Rattle.layout.specs.Places.{Room, marksFrom, countsFrom, varAt, ownerAt, usedAt, countAt, depthAt, varOf, ownerOf, usedOf, countOf, depthOf}
 use Rattle.layout.specs.Cells.{headAt, fieldAt, headOf, fieldOf, pageOf}
 use Rattle.layout.specs.Marks.{marked}
 use Rattle.promises.specs.Words.{Words, InUse, Used, depthIn, ownerIn, graphOf}
@@ -15,34 +15,34 @@ use Rattle.mark.specs.Survivors.{Marked}
 use Rattle.evacuate.specs.Stages.{Lives}
 use Rattle.ended.specs.Evacuated.{Outside, Survivor}
 
-module _ {s : Sizes} {w w₁ : Words} {r : ℕ} (m : Marked s w r w₁) (rm : Room (placesOf s) (length (w .tables))) where
+module _ {s : Sizes} {w w₁ : Words} {r : ℕ} (m : Marked s w r w₁) (rm : Room s (length (w .tables))) where
   -- ---- the tables
 
   -- a word before the mark words or after them
-  pub table-same : (x : ℕ) → (placesOf s .marks ≤ x → placesOf s .counts ≤ x) → getD (w₁ .tables) x 0 ≡ getD (w .tables) x 0
-  table-same x h = m .tables x (λ page l e. let z : placesOf s .counts ≤ x = h (omega arith) in omega (arith, rm))
+  pub table-same : (x : ℕ) → (marksFrom s ≤ x → countsFrom s ≤ x) → getD (w₁ .tables) x 0 ≡ getD (w .tables) x 0
+  table-same x h = m .tables x (λ page l e. let z : countsFrom s ≤ x = h (omega arith) in omega (arith, rm))
 
-  pub owner-same : (page : ℕ) → page < s .pages → ownerOf (placesOf s) (w₁ .tables) page ≡ ownerIn s w page
-  owner-same page l = table-same (ownerAt (placesOf s) page) (λ z. omega (arith, rm))
+  pub owner-same : (page : ℕ) → page < s .pages → ownerOf s (w₁ .tables) page ≡ ownerIn s w page
+  owner-same page l = table-same (ownerAt s page) (λ z. omega (arith, rm))
 
-  pub used-same : (page : ℕ) → page < s .pages → usedOf (placesOf s) (w₁ .tables) page ≡ usedOf (placesOf s) (w .tables) page
-  used-same page l = table-same (usedAt (placesOf s) page) (λ z. omega (arith, rm))
+  pub used-same : (page : ℕ) → page < s .pages → usedOf s (w₁ .tables) page ≡ usedOf s (w .tables) page
+  used-same page l = table-same (usedAt s page) (λ z. omega (arith, rm))
 
-  pub var-same : (i : ℕ) → i < s .threads * s .variables → varOf (placesOf s) (w₁ .tables) i ≡ varOf (placesOf s) (w .tables) i
-  var-same i l = table-same (varAt (placesOf s) i) (λ z. omega (arith, rm))
+  pub var-same : (i : ℕ) → i < s .threads * s .variables → varOf s (w₁ .tables) i ≡ varOf s (w .tables) i
+  var-same i l = table-same (varAt s i) (λ z. omega (arith, rm))
 
-  pub count-same : (g : ℕ) → countOf (placesOf s) (w₁ .tables) g ≡ countOf (placesOf s) (w .tables) g
-  count-same g = table-same (countAt (placesOf s) g) (λ z. omega arith)
+  pub count-same : (g : ℕ) → countOf s (w₁ .tables) g ≡ countOf s (w .tables) g
+  count-same g = table-same (countAt s g) (λ z. omega arith)
 
   pub depth-same : (u : ℕ) → u < s .threads → depthOf (w₁ .tables) u ≡ depthIn w u
   depth-same u l = table-same (depthAt u) (λ z. omega (arith, rm))
 
   -- ---- cells in use
 
-  pub now-used : (c : ℕ) → Used s w c → InUse (placesOf s) (w₁ .tables) c
+  pub now-used : (c : ℕ) → Used s w c → InUse s (w₁ .tables) c
   now-used c u = record { page = u .page; place = omega (arith, u .place, used-same (pageOf c) (u .page)) }
 
-  pub was-used : (c : ℕ) → InUse (placesOf s) (w₁ .tables) c → Used s w c
+  pub was-used : (c : ℕ) → InUse s (w₁ .tables) c → Used s w c
   was-used c u = record { page = u .page; place = omega (arith, u .place, used-same (pageOf c) (u .page)) }
 
   -- ---- the cells
@@ -59,14 +59,14 @@ module _ {s : Sizes} {w w₁ : Words} {r : ℕ} (m : Marked s w r w₁) (rm : Ro
 
   -- ---- who lives on
 
-  pub outside-lives : (c : ℕ) → Outside s w r c → Lives (placesOf s) r (w₁ .tables) c
+  pub outside-lives : (c : ℕ) → Outside s w r c → Lives s r (w₁ .tables) c
   outside-lives c o =
       record { used = now-used c (o .used); stays = λ z. absurd (o .owner (sym (owner-same (pageOf c) (o .used .page)) ∙ z)) }
 
-  pub survivor-lives : (c : ℕ) → Survivor s w r c → Lives (placesOf s) r (w₁ .tables) c
+  pub survivor-lives : (c : ℕ) → Survivor s w r c → Lives s r (w₁ .tables) c
   survivor-lives c v = record { used = now-used c (v .used); stays = λ z. m .survives c (v .used) (v .owner) (v .goes) }
 
-  pub lives-how : (c : ℕ) → Lives (placesOf s) r (w₁ .tables) c → Outside s w r c ⊎ Survivor s w r c
+  pub lives-how : (c : ℕ) → Lives s r (w₁ .tables) c → Outside s w r c ⊎ Survivor s w r c
   lives-how c v = go (ℕ-discrete (ownerIn s w (pageOf c)) r) (decLt 0 (target s (graphOf s w) r c))
     where
       u : Used s w c
@@ -76,5 +76,5 @@ module _ {s : Sizes} {w w₁ : Words} {r : ℕ} (m : Marked s w r w₁) (rm : Ro
       go (no n) d = inl (record { used = u; owner = n })
       go (yes e) (yes l) = inr (record { used = u; owner = e; goes = l })
       go (yes e) (no l) =
-          absurd (let on : marked (placesOf s) (w₁ .tables) c ≡ 1 = v .stays (owner-same (pageOf c) (u .page) ∙ e) in
+          absurd (let on : marked s (w₁ .tables) c ≡ 1 = v .stays (owner-same (pageOf c) (u .page) ∙ e) in
           let z : ⊥ = omega (arith, m .freed c u e (omega arith)) in z)

@@ -7,9 +7,7 @@ use lib.ListN.{length}
 use Rattle.rules.specs.declared.Sizes.{Sizes}
 use Rattle.rules.specs.declared.Command.{Command}
 use Rattle.rules.specs.declared.Answer.{Answer}
-use Rattle.rules.specs.Terms.{InRange}
-use Rattle.layout.specs.declared.Places.{Places}
-use Rattle.layout.specs.Places.{sizesOf, sizesAt, placesOf}
+use Rattle.layout.specs.Places.{sizesAt}
 use Rattle.promises.specs.Words.{Words, words}
 use Rattle.promises.specs.Whole.{Whole, WholeFor}
 use Rattle.promises.specs.Promises.{DidHere, commandAt, size, RunAsked, Ran}
@@ -23,75 +21,68 @@ use Rattle.commands.specs.Obeys.{LeftToCaller, Obeys}
 use Rattle.heap.specs.Looping.{Looped, looped-start, looped-more, looped-to, looped-ran, written}
 
 -- o is what `commands` gave for command x
-pub obeyed-answered : (p : Places) (o : Obeyed) {c m t c′ m′ t′ : List ℕ} {x : Command} {a : Answer} → Obeys p c m t x c′ m′ t′ o → o ≡ Answered a
-    → DidHere (sizesOf p) (words c m t) x (words c′ m′ t′) a
+pub obeyed-answered : (p : Sizes) (o : Obeyed) {c m t c′ m′ t′ : List ℕ} {x : Command} {a : Answer} → Obeys p c m t x c′ m′ t′ o → o ≡ Answered a
+    → DidHere p (words c m t) x (words c′ m′ t′) a
 obeyed-answered p o {c} {m} {t} {c′} {m′} {t′} {x} did e = subst (Obeys p c m t x c′ m′ t′) e did
 
 -- an end starts from the words as they were
-pub ends-ready : (p : Places) (o : Obeyed) (x : Command) {c m t c′ m′ t′ : List ℕ} {u : ℕ} → Ready p c m t → Obeys p c m t x c′ m′ t′ o → o ≡ Ends u
-    → (p ≡ placesOf (sizesOf p)) × WholeFor (sizesOf p) (words c′ m′ t′) × (u < p .threads)
+pub ends-ready : (p : Sizes) (o : Obeyed) (x : Command) {c m t c′ m′ t′ : List ℕ} {u : ℕ} → Ready p c m t → Obeys p c m t x c′ m′ t′ o → o ≡ Ends u
+    → WholeFor p (words c′ m′ t′) × (u < p .threads)
 ends-ready p o x {c} {m} {t} {c′} {m′} {t′} {u} r did e =
-    let l : LeftToCaller (sizesOf p) (words c m t) x (words c′ m′ t′) u = subst (Obeys p c m t x c′ m′ t′) e did in
-    (r .places, subst (WholeFor (sizesOf p)) (sym (l .same)) (r .whole), l .thread)
+    let l : LeftToCaller p (words c m t) x (words c′ m′ t′) u = subst (Obeys p c m t x c′ m′ t′) e did in
+    (subst (WholeFor p) (sym (l .same)) (r .whole), l .thread)
 
-pub ends-did : (p : Places) (o : Obeyed) {c m t c′ m′ t′ : List ℕ} {x : Command} {u : ℕ} {w : Words} {a : Answer} → Obeys p c m t x c′ m′ t′ o → o ≡ Ends u
-    → DidHere (sizesOf p) (words c′ m′ t′) (commandFor (End u)) w a → DidHere (sizesOf p) (words c m t) x w a
+pub ends-did : (p : Sizes) (o : Obeyed) {c m t c′ m′ t′ : List ℕ} {x : Command} {u : ℕ} {w : Words} {a : Answer} → Obeys p c m t x c′ m′ t′ o → o ≡ Ends u
+    → DidHere p (words c′ m′ t′) (commandFor (End u)) w a → DidHere p (words c m t) x w a
 ends-did p o {c} {m} {t} {c′} {m′} {t′} {x} {u} {w} {a} did e d =
-    let l : LeftToCaller (sizesOf p) (words c m t) x (words c′ m′ t′) u = subst (Obeys p c m t x c′ m′ t′) e did in
-    subst₂ (λ (b : Words) (y : Command). DidHere (sizesOf p) b y w a) (l .same) (sym (l .command)) d
+    let l : LeftToCaller p (words c m t) x (words c′ m′ t′) u = subst (Obeys p c m t x c′ m′ t′) e did in
+    subst₂ (λ (b : Words) (y : Command). DidHere p b y w a) (l .same) (sym (l .command)) d
 
 -- the same command
 pub did-same : {s : Sizes} {w w′ : Words} {x y : Command} {a : Answer} → DidHere s w x w′ a → x ≡ y → DidHere s w y w′ a
 did-same {s} {w} {w′} {a = a} d e = subst (λ (m : Command). DidHere s w m w′ a) e d
 
 -- the state of the loop, with what each turn asks
-pub record Turning (p : Places) (w : Words) (block lent : List ℕ) (c m t answers : List ℕ) (i : ℕ) : Type 0 where
-  pub places : p ≡ placesOf (sizesOf p)
+pub record Turning (p : Sizes) (w : Words) (block lent : List ℕ) (c m t answers : List ℕ) (i : ℕ) : Type 0 where
   pub room : 2 * size block ≤ length lent
   pub low : i ≤ size block
   pub cells-long : length c ≡ length (w .cells)
   pub remember-long : length m ≡ length (w .remember)
   pub tables-long : length t ≡ length (w .tables)
-  pub looped : Looped (sizesOf p) w block lent (words c m t) answers i
+  pub looped : Looped p w block lent (words c m t) answers i
 
-pub turn-ready : {p : Places} {w : Words} {block lent c m t answers : List ℕ} {i : ℕ} → Turning p w block lent c m t answers i → Ready p c m t
-turn-ready k = record { places = k .places; whole = k .looped .whole }
+pub turn-ready : {p : Sizes} {w : Words} {block lent c m t answers : List ℕ} {i : ℕ} → Turning p w block lent c m t answers i → Ready p c m t
+turn-ready k = record { whole = k .looped .whole }
 
-pub turn-start : {p : Places} {block lent c m t : List ℕ} → Ready p c m t → 2 * size block ≤ length lent → Turning p (words c m t) block lent c m t lent 0
+pub turn-start : {p : Sizes} {block lent c m t : List ℕ} → Ready p c m t → 2 * size block ≤ length lent → Turning p (words c m t) block lent c m t lent 0
 turn-start {p} {block} {lent} {c} {m} {t} r room =
-    record { places = r .places; room = room; low = omega arith; cells-long = refl; remember-long = refl; tables-long = refl; looped = looped-start (sizesOf p) (words c m t) block lent (r .whole) }
+    record { room = room; low = omega arith; cells-long = refl; remember-long = refl; tables-long = refl; looped = looped-start p (words c m t) block lent (r .whole) }
 
-pub turn-end : {p : Places} {w : Words} {block lent c m t answers : List ℕ} {i : ℕ} → Turning p w block lent c m t answers i → size block ≤ i → Looped (sizesOf p) w block lent (words c m t) answers (size block)
+pub turn-end : {p : Sizes} {w : Words} {block lent c m t answers : List ℕ} {i : ℕ} → Turning p w block lent c m t answers i → size block ≤ i → Looped p w block lent (words c m t) answers (size block)
 turn-end k l = looped-to (k .looped) (omega (arith, k .low))
 
 -- the answer's two words lie in the answer slice
-pub turn-fits : {p : Places} {w : Words} {block lent c m t answers : List ℕ} {i : ℕ} → Turning p w block lent c m t answers i → i < size block → 2 * i + 1 < length answers
+pub turn-fits : {p : Sizes} {w : Words} {block lent c m t answers : List ℕ} {i : ℕ} → Turning p w block lent c m t answers i → i < size block → 2 * i + 1 < length answers
 turn-fits k l = omega (arith, k .room, k .looped .spare .long)
 
-pub turn-more : {p : Places} {w : Words} {block lent c m t answers : List ℕ} {i : ℕ} → Turning p w block lent c m t answers i → i < size block
-    → {c′ m′ t′ : List ℕ} {a : Answer} → DidHere (sizesOf p) (words c m t) (commandAt block i) (words c′ m′ t′) a
+pub turn-more : {p : Sizes} {w : Words} {block lent c m t answers : List ℕ} {i : ℕ} → Turning p w block lent c m t answers i → i < size block
+    → {c′ m′ t′ : List ℕ} {a : Answer} → DidHere p (words c m t) (commandAt block i) (words c′ m′ t′) a
     → Turning p w block lent c′ m′ t′ (written answers i (a .number) (a .value)) (i + 1)
 turn-more {p} {w} {block} {lent} {c} {m} {t} {answers} {i} k l {c′} {m′} {t′} {a} d =
     record {
-      places = k .places;
       room = k .room;
       low = omega arith;
       cells-long = d .beyond .cells .long ∙ k .cells-long;
       remember-long = d .beyond .remember .long ∙ k .remember-long;
       tables-long = d .beyond .tables .long ∙ k .tables-long;
-      looped = looped-more a (k .looped) l (k .room) (did-anywhere (sizesOf p) (words c m t) (commandAt block i) (words c′ m′ t′) a d);
+      looped = looped-more a (k .looped) l (k .room) (did-anywhere p (words c m t) (commandAt block i) (words c′ m′ t′) a d);
     }
 
--- the tables that the check found whole, for the places that are found in them
-pub whole-ready : {c m t : List ℕ} {s : Sizes} {p : Places} → Whole c m t → s ≡ sizesAt t → p ≡ placesOf s → Ready p c m t
-whole-ready {c} {m} {t} {s} {p} k e f =
-    let g : p ≡ placesOf (sizesAt t) = f ∙ ap placesOf e in
-    subst (λ (q : Places). Ready q c m t) (sym g) (record { places = refl; whole = record { sized = refl; sizes = k .sizes; placed = k .placed } })
-
-pub found-range : {c m t : List ℕ} {s : Sizes} → Whole c m t → s ≡ sizesAt t → InRange s
-found-range k e = subst InRange (sym e) (k .sizes .range)
+-- the tables that the check found whole, for the sizes that are read from them
+pub whole-ready : {c m t : List ℕ} {p : Sizes} → Whole c m t → p ≡ sizesAt t → Ready p c m t
+whole-ready {c} {m} {t} k e = subst (λ (q : Sizes). Ready q c m t) (sym e) (record { whole = record { sized = refl; sizes = k .sizes; placed = k .placed } })
 
 -- the whole block
-pub looped-found : {c m t block lent answers : List ℕ} {s : Sizes} {p : Places} {w′ : Words} → RunAsked (words c m t) block lent 0 → s ≡ sizesAt t → p ≡ placesOf s
-    → Looped (sizesOf p) (words c m t) block lent w′ answers (size block) → Ran (words c m t) block lent 0 w′ answers
-looped-found a e f l = looped-ran a (ap sizesOf f ∙ e) l
+pub looped-found : {c m t block lent answers : List ℕ} {p : Sizes} {w′ : Words} → RunAsked (words c m t) block lent 0 → p ≡ sizesAt t
+    → Looped p (words c m t) block lent w′ answers (size block) → Ran (words c m t) block lent 0 w′ answers
+looped-found a e l = looped-ran a e l

@@ -2,19 +2,18 @@
 ghost use mathlib.Core.Path.{_≡_};
 ghost use Prim.Native.Nat.{_+_, _*_, _<_, _≤_};
 ghost use lib.ListN.{length};
-ghost use Rattle.layout.specs.Places.{sizesOf};
 ghost use Rattle.promises.specs.Words.{words};
 ghost use Rattle.promises.specs.Promises.{DidHere, Ran, RunAsked, commandAt};
 ghost use Rattle.pages.specs.Pages.{noteWords};
 ghost use Rattle.commands.specs.Ready.{Ready};
 use commands::Obeyed;
-use layout::Places;
+use rules::Sizes;
 use rules::Answer;
 use rules::Command;
 
 // One command: what `commands` answers, or the end of an epoch.
 fn obey(
-    p: Places,
+    p: Sizes,
     cells: &mut [u32],
     remember: &mut [u32],
     tables: &mut [u32],
@@ -23,7 +22,7 @@ fn obey(
 ) -> Answer
     requires { ⌜ Ready p (now cells) (now remember) (now tables) ⌝ }
     requires { ⌜ noteWords ≤ length (now notes) ⌝ }
-    ensures { λ r. ⌜ DidHere (sizesOf p) (words (now (cells .entry)) (now (remember .entry)) (now (tables .entry))) m (words (now (cells .exit)) (now (remember .exit)) (now (tables .exit))) r ⌝ }
+    ensures { λ r. ⌜ DidHere p (words (now (cells .entry)) (now (remember .entry)) (now (tables .entry))) m (words (now (cells .exit)) (now (remember .exit)) (now (tables .exit))) r ⌝ }
 {
     let o = commands::obey::obey(p, cells, remember, tables, notes, m);
     match o {
@@ -48,7 +47,7 @@ fn command_at(block: &[u32], i: usize) -> Command
 
 // Command i of a block, obeyed.
 fn obey_at(
-    p: Places,
+    p: Sizes,
     cells: &mut [u32],
     remember: &mut [u32],
     tables: &mut [u32],
@@ -59,7 +58,7 @@ fn obey_at(
     requires { ⌜ Ready p (now cells) (now remember) (now tables) ⌝ }
     requires { ⌜ noteWords ≤ length (now notes) ⌝ }
     requires { ⌜ (i < 2305843009213693952) × (5 * i + 5 ≤ length (now block)) ⌝ }
-    ensures { λ r. ⌜ DidHere (sizesOf p) (words (now (cells .entry)) (now (remember .entry)) (now (tables .entry))) (commandAt (now (block .entry)) i) (words (now (cells .exit)) (now (remember .exit)) (now (tables .exit))) r ⌝ }
+    ensures { λ r. ⌜ DidHere p (words (now (cells .entry)) (now (remember .entry)) (now (tables .entry))) (commandAt (now (block .entry)) i) (words (now (cells .exit)) (now (remember .exit)) (now (tables .exit))) r ⌝ }
 {
     obey(p, cells, remember, tables, notes, command_at(block, i))
 }
@@ -75,7 +74,7 @@ fn obey_block(
     requires { ⌜ RunAsked (words (now cells) (now remember) (now tables)) (now block) (now answers) 0 ⌝ }
     ensures { λ _. ⌜ Ran (words (now (cells .entry)) (now (remember .entry)) (now (tables .entry))) (now (block .entry)) (now (answers .entry)) 0 (words (now (cells .exit)) (now (remember .exit)) (now (tables .exit))) (now (answers .exit)) ⌝ }
 {
-    let p = layout::find_places(layout::read_sizes(tables));
+    let p = layout::read_sizes(tables);
     let n = block.len() / 5;
     let mut notes = [0u32; 130];
     let mut i: usize = 0;

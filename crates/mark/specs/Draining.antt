@@ -9,7 +9,7 @@ use lib.ListN.{length, set}
 use Rattle.lists.specs.Members.{In, Distinct, in?, in-append, in-left, in-right}
 use Rattle.lists.specs.Pigeonhole.{distinct-few}
 use Rattle.lists.specs.Says.{Says}
-use Rattle.layout.specs.declared.Places.{Places}
+use Rattle.rules.specs.declared.Sizes.{Sizes}
 use Rattle.layout.specs.Cells.{workAt, workOf, fieldOf, pageOf, refsOf}
 use Rattle.layout.specs.Marks.{marked}
 use Rattle.promises.specs.Words.{InUse}
@@ -19,21 +19,21 @@ use Rattle.mark.specs.Marking.{Marking, marking-start, popped-top}
 use Rattle.mark.specs.Pushes.{Pushing, pushes-kept, pushes-marking}
 
 -- every cell of r that a done cell's slots name is marked
-abbrev pub Closed : (p : Places) (r : ℕ) (W₀ T₀ D T : List ℕ) → Type 0
+abbrev pub Closed : (p : Sizes) (r : ℕ) (W₀ T₀ D T : List ℕ) → Type 0
 Closed p r W₀ T₀ D T = (c f d : ℕ) → In c D → f < refsOf W₀ c → fieldOf W₀ c f ≡ 1 + d → owner p T₀ d ≡ r → marked p T d ≡ 1
 
 -- every cell of r that is held is marked
-abbrev pub AllHeld : (p : Places) (r : ℕ) (T₀ S₀ T : List ℕ) → Type 0
+abbrev pub AllHeld : (p : Sizes) (r : ℕ) (T₀ S₀ T : List ℕ) → Type 0
 AllHeld p r T₀ S₀ T = (c : ℕ) → In c S₀ → owner p T₀ c ≡ r → marked p T c ≡ 1
 
 -- the held cells are on the stack, and nothing is done
-pub record Pending (p : Places) (r g : ℕ) (W₀ T₀ S₀ W T : List ℕ) (top : ℕ) : Type 0 where
+pub record Pending (p : Sizes) (r g : ℕ) (W₀ T₀ S₀ W T : List ℕ) (top : ℕ) : Type 0 where
   pub stack : List ℕ
   pub marking : Marking p r g W₀ T₀ S₀ [] stack W T top
   pub all-held : AllHeld p r T₀ S₀ T
 
 -- the whole: what is reached is marked and has g in word 1, and nothing else is changed
-pub record Drained (p : Places) (r g : ℕ) (W₀ T₀ S₀ W T : List ℕ) (n : ℕ) : Type 0 where
+pub record Drained (p : Sizes) (r g : ℕ) (W₀ T₀ S₀ W T : List ℕ) (n : ℕ) : Type 0 where
   pub shaped : Shaped p W T
   pub kept : Kept p W₀ T₀ W T
   pub done : List ℕ
@@ -51,7 +51,7 @@ pub record Drained (p : Places) (r g : ℕ) (W₀ T₀ S₀ W T : List ℕ) (n :
   pub all-held : AllHeld p r T₀ S₀ T
 
 -- after n turns
-pub record Draining (p : Places) (r g : ℕ) (W₀ T₀ S₀ W T : List ℕ) (top n : ℕ) : Type 0 where
+pub record Draining (p : Sizes) (r g : ℕ) (W₀ T₀ S₀ W T : List ℕ) (top n : ℕ) : Type 0 where
   pub done : List ℕ
   pub stack : List ℕ
   pub count : n ≡ length done
@@ -59,18 +59,18 @@ pub record Draining (p : Places) (r g : ℕ) (W₀ T₀ S₀ W T : List ℕ) (to
   pub closed : Closed p r W₀ T₀ done T
   pub all-held : AllHeld p r T₀ S₀ T
 
-pub draining-start : {p : Places} {r g : ℕ} {W₀ T₀ S₀ W T : List ℕ} {top : ℕ} → Pending p r g W₀ T₀ S₀ W T top → Draining p r g W₀ T₀ S₀ W T top 0
+pub draining-start : {p : Sizes} {r g : ℕ} {W₀ T₀ S₀ W T : List ℕ} {top : ℕ} → Pending p r g W₀ T₀ S₀ W T top → Draining p r g W₀ T₀ S₀ W T top 0
 draining-start h = record { done = []; stack = h .stack; count = refl; marking = h .marking; closed = λ c f d i. absurd i; all-held = h .all-held }
 
 -- no more turns than there are cells
-draining-few : {p : Places} {r g : ℕ} {W₀ T₀ S₀ W T : List ℕ} {top n : ℕ} → Draining p r g W₀ T₀ S₀ W T top n → n ≤ 16 * p .pages
+draining-few : {p : Sizes} {r g : ℕ} {W₀ T₀ S₀ W T : List ℕ} {top n : ℕ} → Draining p r g W₀ T₀ S₀ W T top n → n ≤ 16 * p .pages
 draining-few {p} h =
     let m = h .marking in
     let b : length (h .done) ≤ 16 * p .pages = distinct-few (16 * p .pages) (h .done) (m .distinct-done) (λ c i. omega (arith, m .in-use c (inr i) .page)) in
     omega (arith, h .count)
 
 -- one turn: a pop and a scan
-draining-turn : {p : Places} {r g : ℕ} {W₀ T₀ S₀ W T : List ℕ} {top n : ℕ} → Draining p r g W₀ T₀ S₀ W T top n → top ≢ 0
+draining-turn : {p : Sizes} {r g : ℕ} {W₀ T₀ S₀ W T : List ℕ} {top n : ℕ} → Draining p r g W₀ T₀ S₀ W T top n → top ≢ 0
     → {W′ T′ : List ℕ} {top′ : ℕ}
     → (let X : List ℕ = set W (workAt (top - 1)) g in
     Pushing p r (fieldOf X (top - 1)) (refsOf X (top - 1)) X T (workOf W (top - 1)) W′ T′ top′ (refsOf X (top - 1)))
@@ -108,7 +108,7 @@ draining-turn {p} {r} {g} {W₀} {T₀} {S₀} {W} {T} {top} {n} h ne {W′} {T�
           i;
     }
 
-pub drained : {p : Places} {r g : ℕ} {W₀ T₀ S₀ W T : List ℕ} {top n : ℕ} → top ≡ 0 → Draining p r g W₀ T₀ S₀ W T top n → Drained p r g W₀ T₀ S₀ W T n
+pub drained : {p : Sizes} {r g : ℕ} {W₀ T₀ S₀ W T : List ℕ} {top n : ℕ} → top ≡ 0 → Draining p r g W₀ T₀ S₀ W T top n → Drained p r g W₀ T₀ S₀ W T n
 drained {p} {r} {g} {W₀} {T₀} {S₀} {W} {T} {top} {n} z h =
     record {
       shaped = m .shaped;
@@ -161,7 +161,7 @@ none-in : (D : List ℕ) (c : ℕ) → length D ≡ 0 → In c D → ⊥
 none-in [] c z i = i
 none-in (d ∷ D) c z i = omega arith
 
-module _ {p : Places} {r g : ℕ} {W₀ T₀ S₀ W T : List ℕ} {n : ℕ} (d : Drained p r g W₀ T₀ S₀ W T n) where
+module _ {p : Sizes} {r g : ℕ} {W₀ T₀ S₀ W T : List ℕ} {n : ℕ} (d : Drained p r g W₀ T₀ S₀ W T n) where
   -- b is the answer now, a the one before
   pub says-popped : (b : Bool) → b ≡ true → n ≢ 0 → Says b (AnyMarked p T)
   says-popped b e ne = let f = first-of (d .done) (λ z. ne (d .count ∙ z)) in (λ y. (f .0, d .in-use (f .0) (f .1) .page, d .on (f .0) (f .1)), λ y. e)
@@ -178,13 +178,13 @@ module _ {p : Places} {r g : ℕ} {W₀ T₀ S₀ W T : List ℕ} {n : ℕ} (d :
 -- ---- a turn as the code has it
 
 -- what a turn of the drain needs of numbers, and hands to the scan; b is the cell on top as the code has it
-pub record Facts (p : Places) (b len n : ℕ) : Type 0 where
+pub record Facts (p : Sizes) (b len n : ℕ) : Type 0 where
   pub page : pageOf b < p .pages
   pub few : p .pages ≤ 1024
   pub long : 256 * p .pages ≤ len
   pub counted : n ≤ 16 * p .pages
 
-module _ {p : Places} {r g : ℕ} {W₀ T₀ S₀ W T : List ℕ} {top n : ℕ} (h : Draining p r g W₀ T₀ S₀ W T top n) (ne : top ≢ 0) (b : ℕ) (e : b ≡ top - 1) where
+module _ {p : Sizes} {r g : ℕ} {W₀ T₀ S₀ W T : List ℕ} {top n : ℕ} (h : Draining p r g W₀ T₀ S₀ W T top n) (ne : top ≢ 0) (b : ℕ) (e : b ≡ top - 1) where
   pub turn-facts : Facts p b (length W) n
   turn-facts =
       let s = h .marking .shaped in
@@ -213,12 +213,12 @@ module _ {p : Places} {r g : ℕ} {W₀ T₀ S₀ W T : List ℕ} {top n : ℕ} 
       e
       (subst₂ (λ (Y : List ℕ) (z : ℕ). Pushing p r (fieldOf Y b) (refsOf Y b) Y T z W′ T′ top′ (refsOf Y b)) a d s))
 
-pub draining-kept : {p : Places} {r g : ℕ} {W₀ T₀ S₀ W T : List ℕ} {top n : ℕ} → Draining p r g W₀ T₀ S₀ W T top n → Kept p W₀ T₀ W T
+pub draining-kept : {p : Sizes} {r g : ℕ} {W₀ T₀ S₀ W T : List ℕ} {top n : ℕ} → Draining p r g W₀ T₀ S₀ W T top n → Kept p W₀ T₀ W T
 draining-kept h = h .marking .kept
 
 -- ---- what two runs of pushes on an empty stack leave is pending
 
-pub seeded : {p : Places} {r : ℕ} (g : ℕ) (ref ref′ : ℕ → ℕ) (n n′ : ℕ) {W T W′ T′ W″ T″ : List ℕ} {top top′ : ℕ} → Shaped p W T
+pub seeded : {p : Sizes} {r : ℕ} (g : ℕ) (ref ref′ : ℕ → ℕ) (n n′ : ℕ) {W T W′ T′ W″ T″ : List ℕ} {top top′ : ℕ} → Shaped p W T
     → ((k : ℕ) → k < n′ → IsRef p T (ref′ k)) → Pushing p r ref n W T 0 W′ T′ top n → Pushing p r ref′ n′ W′ T′ top W″ T″ top′ n′
     → Pending p r g W T (named ref n ++ named ref′ n′) W″ T″ top′
 seeded {p} {r} g ref ref′ n n′ {W} {T} {W′} {T′} s used h i =

@@ -11,8 +11,8 @@ use lib.ListN.{length, getD}
 use borrow.Author.Tests.{eq-eqb, ne-eqb}
 use Rattle.lists.specs.Members.{In, in-append}
 use Rattle.rules.specs.Regions.{join}
-use Rattle.layout.specs.declared.Places.{Places}
-use Rattle.layout.specs.Places.{Room, sizesOf, varOf, ownerOf, usedIn, slotIn, slotRegionIn}
+use Rattle.rules.specs.declared.Sizes.{Sizes}
+use Rattle.layout.specs.Places.{Room, varOf, ownerOf, usedIn, slotIn, slotRegionIn, varsFrom}
 use Rattle.layout.specs.Cells.{pageOf, cellOf, wordOf}
 use Rattle.promises.specs.Words.{InUse}
 use Rattle.promises.specs.Whole.{IsRef}
@@ -23,25 +23,25 @@ abbrev pub heldFor : ℕ → ℕ → ℕ → ℕ
 heldFor g q x = cond (eqb q g) x 0
 
 -- what variable i calls for: outer if it is the ending thread's, else the control space
-abbrev pub varCalls : Places → ℕ → ℕ → ℕ → ℕ
+abbrev pub varCalls : Sizes → ℕ → ℕ → ℕ → ℕ
 varCalls p thread outer i = cond (eqb (i / p .variables) thread) outer 1
 
-unfoldable pub varHeld : Places → List ℕ → ℕ → ℕ → ℕ → ℕ → ℕ
+unfoldable pub varHeld : Sizes → List ℕ → ℕ → ℕ → ℕ → ℕ → ℕ
 varHeld p T thread outer g i = heldFor g (varCalls p thread outer i) (varOf p T i)
 
 -- what the slot of entry i calls for: the join of r and the region that the slot lies in
-abbrev pub slotCalls : Places → List ℕ → List ℕ → ℕ → ℕ → ℕ
-slotCalls p m T r i = join (sizesOf p) r (ownerOf p T (pageOf (cellOf (slotIn m i))))
+abbrev pub slotCalls : Sizes → List ℕ → List ℕ → ℕ → ℕ → ℕ
+slotCalls p m T r i = join p r (ownerOf p T (pageOf (cellOf (slotIn m i))))
 
-unfoldable pub slotHeld : Places → List ℕ → List ℕ → List ℕ → ℕ → ℕ → ℕ → ℕ
+unfoldable pub slotHeld : Sizes → List ℕ → List ℕ → List ℕ → ℕ → ℕ → ℕ → ℕ
 slotHeld p W m T r g i = cond (eqb (slotRegionIn (p .entries) m i) r) (heldFor g (slotCalls p m T r i) (getD W (slotIn m i) 0)) 0
 
 -- the cells that holders hold which call for g
-unfoldable pub heldCells : Places → List ℕ → List ℕ → List ℕ → ℕ → ℕ → ℕ → ℕ → List ℕ
+unfoldable pub heldCells : Sizes → List ℕ → List ℕ → List ℕ → ℕ → ℕ → ℕ → ℕ → List ℕ
 heldCells p W m T r thread outer g = named (varHeld p T thread outer g) (p .threads * p .variables) ++ named (slotHeld p W m T r g) (usedIn m)
 
 -- what holders hold is null or names a cell in use, and remembered slots are no working words
-pub record Holding (p : Places) (W m T : List ℕ) : Type 0 where
+pub record Holding (p : Sizes) (W m T : List ℕ) : Type 0 where
   pub some : 1 ≤ p .variables
   pub long : 2 * p .entries + 2 ≤ length m
   pub few : usedIn m ≤ p .entries
@@ -50,11 +50,11 @@ pub record Holding (p : Places) (W m T : List ℕ) : Type 0 where
   pub field : (i : ℕ) → i < usedIn m → wordOf (slotIn m i) ≡ 1 → ⊥
   pub slots : (i : ℕ) → i < usedIn m → IsRef p T (getD W (slotIn m i) 0)
 
-cond-ref : (p : Places) (T : List ℕ) (b : Bool) (x : ℕ) → IsRef p T x → IsRef p T (cond b x 0)
+cond-ref : (p : Sizes) (T : List ℕ) (b : Bool) (x : ℕ) → IsRef p T x → IsRef p T (cond b x 0)
 cond-ref p T true x h = h
 cond-ref p T false x h = λ l. absurd (let z : ⊥ = omega arith in z)
 
-module _ {p : Places} {W m T : List ℕ} (h : Holding p W m T) where
+module _ {p : Sizes} {W m T : List ℕ} (h : Holding p W m T) where
   pub var-held-ref : (thread outer g i : ℕ) → i < p .threads * p .variables → IsRef p T (varHeld p T thread outer g i)
   unfolding varHeld
   var-held-ref thread outer g i l = cond-ref p T (eqb (varCalls p thread outer i) g) (varOf p T i) (h .variables i l)
@@ -81,23 +81,23 @@ module _ {p : Places} {W m T : List ℕ} (h : Holding p W m T) where
 
 -- ---- what is held, as the code decides it
 
-pub calls-own : (p : Places) (thread outer i : ℕ) → i / p .variables ≡ thread → outer ≡ varCalls p thread outer i
+pub calls-own : (p : Sizes) (thread outer i : ℕ) → i / p .variables ≡ thread → outer ≡ varCalls p thread outer i
 calls-own p thread outer i e = sym (ap (λ (b : Bool). cond b outer 1) (eq-eqb (i / p .variables) thread e))
 
-pub calls-other : (p : Places) (thread outer i : ℕ) → (i / p .variables ≡ thread → ⊥) → 1 ≡ varCalls p thread outer i
+pub calls-other : (p : Sizes) (thread outer i : ℕ) → (i / p .variables ≡ thread → ⊥) → 1 ≡ varCalls p thread outer i
 calls-other p thread outer i n = sym (ap (λ (b : Bool). cond b outer 1) (ne-eqb (i / p .variables) thread n))
 
 -- q is what the holder calls for, x what it holds
-pub var-none : (p : Places) (T : List ℕ) (thread outer g i q : ℕ) → q ≡ varCalls p thread outer i → (q ≡ g → ⊥) → 0 ≡ varHeld p T thread outer g i
+pub var-none : (p : Sizes) (T : List ℕ) (thread outer g i q : ℕ) → q ≡ varCalls p thread outer i → (q ≡ g → ⊥) → 0 ≡ varHeld p T thread outer g i
 unfolding varHeld
 var-none p T thread outer g i q e n =
     sym (ap (λ (b : Bool). cond b (varOf p T i) 0) (ne-eqb (varCalls p thread outer i) g (λ z. n (e ∙ z))))
 
-pub var-some : (p : Places) (T : List ℕ) (thread outer g i q x : ℕ) → q ≡ varCalls p thread outer i → q ≡ g → x ≡ varOf p T i → x ≡ varHeld p T thread outer g i
+pub var-some : (p : Sizes) (T : List ℕ) (thread outer g i q x : ℕ) → q ≡ varCalls p thread outer i → q ≡ g → x ≡ varOf p T i → x ≡ varHeld p T thread outer g i
 unfolding varHeld
 var-some p T thread outer g i q x e n f = f ∙ sym (ap (λ (b : Bool). cond b (varOf p T i) 0) (eq-eqb (varCalls p thread outer i) g (sym e ∙ n)))
 
-module _ (p : Places) (W m T : List ℕ) (r g i : ℕ) where
+module _ (p : Sizes) (W m T : List ℕ) (r g i : ℕ) where
   pub slot-elsewhere : (slotRegionIn (p .entries) m i ≡ r → ⊥) → 0 ≡ slotHeld p W m T r g i
   unfolding slotHeld
   slot-elsewhere n =
@@ -116,16 +116,16 @@ module _ (p : Places) (W m T : List ℕ) (r g i : ℕ) where
       (ap₂ (λ (b d : Bool). cond b (cond d (getD W (slotIn m i) 0) 0) 0) (eq-eqb (slotRegionIn (p .entries) m i) r a) (eq-eqb (slotCalls p m T r i) g n))
 
   -- the region that the slot of entry i calls for, as the code came to it
-  pub slot-call : (a at page q u : ℕ) → a ≡ slotIn m i → at ≡ a → page ≡ pageOf (cellOf at) → q ≡ ownerOf p T page → u ≡ join (sizesOf p) r q
+  pub slot-call : (a at page q u : ℕ) → a ≡ slotIn m i → at ≡ a → page ≡ pageOf (cellOf at) → q ≡ ownerOf p T page → u ≡ join p r q
       → u ≡ slotCalls p m T r i
   slot-call a at page q u ea eat ep eq eu =
-      eu ∙ ap (join (sizesOf p) r) (eq ∙ ap (λ (z : ℕ). ownerOf p T z) (ep ∙ ap (λ (z : ℕ). pageOf (cellOf z)) (eat ∙ ea)))
+      eu ∙ ap (join p r) (eq ∙ ap (λ (z : ℕ). ownerOf p T z) (ep ∙ ap (λ (z : ℕ). pageOf (cellOf z)) (eat ∙ ea)))
 
 -- ---- a marking changes none of it
 
-module _ {p : Places} {W T W′ T′ : List ℕ} (k : Kept p W T W′ T′) (room : Room p (length T)) {m : List ℕ} (h : Holding p W m T) where
+module _ {p : Sizes} {W T W′ T′ : List ℕ} (k : Kept p W T W′ T′) (room : Room p (length T)) {m : List ℕ} (h : Holding p W m T) where
   kept-var : (i : ℕ) → i < p .threads * p .variables → varOf p T′ i ≡ varOf p T i
-  kept-var i l = k .tables (p .vars + i) (inl (omega arith))
+  kept-var i l = k .tables (varsFrom p + i) (inl (omega arith))
 
   kept-slot : (i : ℕ) → i < usedIn m → getD W′ (slotIn m i) 0 ≡ getD W (slotIn m i) 0
   kept-slot i l = k .words (slotIn m i) (h .field i l)
@@ -150,7 +150,7 @@ module _ {p : Places} {W T W′ T′ : List ℕ} (k : Kept p W T W′ T′) (roo
   unfolding slotHeld
   kept-slot-held r g i l =
       let page : pageOf (cellOf (slotIn m i)) < p .pages = omega (arith, h .slot i l) in
-      ap₂ (λ (q x : ℕ). cond (eqb (slotRegionIn (p .entries) m i) r) (heldFor g (join (sizesOf p) r q) x) 0) (kept-owner k room (cellOf (slotIn m i)) page) (kept-slot i l)
+      ap₂ (λ (q x : ℕ). cond (eqb (slotRegionIn (p .entries) m i) r) (heldFor g (join p r q) x) 0) (kept-owner k room (cellOf (slotIn m i)) page) (kept-slot i l)
 
   pub kept-held-cells : (r thread outer g : ℕ) → heldCells p W′ m T′ r thread outer g ≡ heldCells p W m T r thread outer g
   unfolding heldCells

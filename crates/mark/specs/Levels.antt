@@ -6,7 +6,7 @@ use Prim.Native.Nat.{ℕ, _+_, _-_, _≤_, _<_}
 use native.Mathlib.Decide.{ℕ-discrete}
 use native.Mathlib.Omega.{arith}
 use Rattle.lists.specs.Members.{In, in?}
-use Rattle.layout.specs.declared.Places.{Places}
+use Rattle.rules.specs.declared.Sizes.{Sizes}
 use Rattle.layout.specs.Cells.{workOf, fieldOf, pageOf, refsOf}
 use Rattle.layout.specs.Marks.{marked}
 use Rattle.promises.specs.Words.{InUse}
@@ -14,23 +14,23 @@ use Rattle.mark.specs.Marks.{owner, Shaped, Kept, kept-refl, kept-trans,
 use Rattle.mark.specs.Draining.{Drained}
 
 -- a cell that a holder of level l holds leads to c
-pub record Held (p : Places) (r : ℕ) (W T : List ℕ) (calls : ℕ → List ℕ) (l c : ℕ) : Type 0 where
+pub record Held (p : Sizes) (r : ℕ) (W T : List ℕ) (calls : ℕ → List ℕ) (l c : ℕ) : Type 0 where
   pub first : ℕ
   pub called : In first (calls l)
   pub leads : Leads p r W T first c
 
 -- l is the first level of a holder that leads to c, and it is below n
-pub record First (p : Places) (r : ℕ) (W T : List ℕ) (calls : ℕ → List ℕ) (n c l : ℕ) : Type 0 where
+pub record First (p : Sizes) (r : ℕ) (W T : List ℕ) (calls : ℕ → List ℕ) (n c l : ℕ) : Type 0 where
   pub below : l < n
   pub reached : Held p r W T calls l c
   pub none : (j : ℕ) → j < l → Held p r W T calls j c → ⊥
 
 -- the cells that holders hold are in use
-abbrev pub CallsUsed : Places → List ℕ → (ℕ → List ℕ) → Type 0
+abbrev pub CallsUsed : Sizes → List ℕ → (ℕ → List ℕ) → Type 0
 CallsUsed p T calls = (l x : ℕ) → In x (calls l) → InUse p T x
 
 -- levels below n are marked
-pub record Levels (p : Places) (r n : ℕ) (gs : ℕ → ℕ) (calls : ℕ → List ℕ) (W₀ T₀ W T : List ℕ) : Type 0 where
+pub record Levels (p : Sizes) (r n : ℕ) (gs : ℕ → ℕ) (calls : ℕ → List ℕ) (W₀ T₀ W T : List ℕ) : Type 0 where
   pub shaped : Shaped p W T
   pub kept : Kept p W₀ T₀ W T
   pub found : (c : ℕ) → pageOf c < p .pages → marked p T c ≡ 1 → (l : ℕ) × First p r W₀ T₀ calls n c l × (workOf W c ≡ gs l)
@@ -38,7 +38,7 @@ pub record Levels (p : Places) (r n : ℕ) (gs : ℕ → ℕ) (calls : ℕ → L
   pub beyond : (c : ℕ) → p .pages ≤ pageOf c → workOf W c ≡ workOf W₀ c
   pub closed : (b f d : ℕ) → InUse p T₀ b → marked p T b ≡ 1 → f < refsOf W₀ b → fieldOf W₀ b f ≡ 1 + d → owner p T₀ d ≡ r → marked p T d ≡ 1
 
-pub levels-start : {p : Places} (r : ℕ) (gs : ℕ → ℕ) (calls : ℕ → List ℕ) {W T : List ℕ} → Shaped p W T → ((c : ℕ) → pageOf c < p .pages → marked p T c ≡ 0)
+pub levels-start : {p : Sizes} (r : ℕ) (gs : ℕ → ℕ) (calls : ℕ → List ℕ) {W T : List ℕ} → Shaped p W T → ((c : ℕ) → pageOf c < p .pages → marked p T c ≡ 0)
     → Levels p r 0 gs calls W T W T
 levels-start {p} r gs calls {W} {T} s clean =
     record {
@@ -50,7 +50,7 @@ levels-start {p} r gs calls {W} {T} s clean =
       closed = λ b f d u h. absurd (let z : marked p T b ≡ 0 = clean b (u .page) in let y : ⊥ = omega arith in y);
     }
 
-module _ {p : Places} {r n : ℕ} {gs : ℕ → ℕ} {calls : ℕ → List ℕ} {W₀ T₀ W T W′ T′ : List ℕ} {m : ℕ} (s₀ : Shaped p W₀ T₀) (used : CallsUsed p T₀ calls)
+module _ {p : Sizes} {r n : ℕ} {gs : ℕ → ℕ} {calls : ℕ → List ℕ} {W₀ T₀ W T W′ T′ : List ℕ} {m : ℕ} (s₀ : Shaped p W₀ T₀) (used : CallsUsed p T₀ calls)
     (L : Levels p r n gs calls W₀ T₀ W T) (d : Drained p r (gs n) W T (calls n) W′ T′ m) where
   reach-off : (c : ℕ) → Reach p r W T (calls n) c → marked p T c ≡ 0
   reach-off c (held i own off) = off
@@ -136,21 +136,21 @@ module _ {p : Places} {r n : ℕ} {gs : ℕ → ℕ} {calls : ℕ → List ℕ} 
           last l lt h′ (no ne) old = old l (omega arith) h′
 
 -- a chain from a cell in use stays among cells in use
-pub leads-used : {p : Places} {r : ℕ} {W T : List ℕ} {x c : ℕ} → Shaped p W T → InUse p T x → Leads p r W T x c → InUse p T c
+pub leads-used : {p : Sizes} {r : ℕ} {W T : List ℕ} {x c : ℕ} → Shaped p W T → InUse p T x → Leads p r W T x c → InUse p T c
 leads-used s u (here own) = u
 leads-used {p} {r} {W} {T} {x} {c} s u (step {b = b} q f lt e own) =
     let w : fieldOf W b f - 1 ≡ c = omega arith in
     subst (λ (y : ℕ). InUse p T y) w (s .references b (leads-used s u q) f lt (omega arith))
 
 -- and it ends in r
-pub leads-owned : {p : Places} {r : ℕ} {W T : List ℕ} {x c : ℕ} → Leads p r W T x c → owner p T c ≡ r
+pub leads-owned : {p : Sizes} {r : ℕ} {W T : List ℕ} {x c : ℕ} → Leads p r W T x c → owner p T c ≡ r
 leads-owned (here own) = own
 leads-owned (step q f lt e own) = own
 
 -- and begins there
-pub leads-from : {p : Places} {r : ℕ} {W T : List ℕ} {x c : ℕ} → Leads p r W T x c → owner p T x ≡ r
+pub leads-from : {p : Sizes} {r : ℕ} {W T : List ℕ} {x c : ℕ} → Leads p r W T x c → owner p T x ≡ r
 leads-from (here own) = own
 leads-from (step q f lt e own) = leads-from q
 
-pub levels-at : {p : Places} {r n m : ℕ} {gs : ℕ → ℕ} {calls : ℕ → List ℕ} {W₀ T₀ W T : List ℕ} → n ≡ m → Levels p r n gs calls W₀ T₀ W T → Levels p r m gs calls W₀ T₀ W T
+pub levels-at : {p : Sizes} {r n m : ℕ} {gs : ℕ → ℕ} {calls : ℕ → List ℕ} {W₀ T₀ W T : List ℕ} → n ≡ m → Levels p r n gs calls W₀ T₀ W T → Levels p r m gs calls W₀ T₀ W T
 levels-at {p} {r} {gs = gs} {calls} {W₀} {T₀} {W} {T} e L = subst (λ (k : ℕ). Levels p r k gs calls W₀ T₀ W T) e L

@@ -7,7 +7,7 @@ use native.Mathlib.Omega.{arith}
 use lib.ListN.{length, set, length-set}
 use lib.Seq.{getD-set-same, getD-set-other}
 use Rattle.lists.specs.Members.{In, Distinct, in-under}
-use Rattle.layout.specs.declared.Places.{Places}
+use Rattle.rules.specs.declared.Sizes.{Sizes}
 use Rattle.layout.specs.Places.{Room, markAt, markOf}
 use Rattle.layout.specs.Cells.{workAt, workOf, pageOf, placeOf}
 use Rattle.layout.specs.Marks.{marked}
@@ -17,10 +17,10 @@ use Rattle.mark.specs.Marks.{owner, Shaped, Reach, Chain, Linked, Pushed
 
 -- ---- the words after a push
 
-mark-long : {p : Places} {W T : List ℕ} (x : ℕ) → Shaped p W T → IsRef p T x → 0 < x → markAt p (pageOf (x - 1)) < length T
+mark-long : {p : Sizes} {W T : List ℕ} (x : ℕ) → Shaped p W T → IsRef p T x → 0 < x → markAt p (pageOf (x - 1)) < length T
 mark-long x s u l = omega (arith, s .room, u l .page)
 
-module _ {p : Places} {r : ℕ} {W T : List ℕ} {top x : ℕ} {W′ T′ : List ℕ} {top′ : ℕ} (s : Shaped p W T) (u : IsRef p T x) where
+module _ {p : Sizes} {r : ℕ} {W T : List ℕ} {top x : ℕ} {W′ T′ : List ℕ} {top′ : ℕ} (s : Shaped p W T) (u : IsRef p T x) where
   linked-kept : Linked p r W T top x W′ T′ top′ → Kept p W T W′ T′
   linked-kept l =
       let c : ℕ = x - 1 in
@@ -57,7 +57,7 @@ module _ {p : Places} {r : ℕ} {W T : List ℕ} {top x : ℕ} {W′ T′ : List
 
 -- ---- the state: marking began at the words W₀ and T₀ from the cells S₀, and g is the region that they call for
 
-pub record Marking (p : Places) (r g : ℕ) (W₀ T₀ S₀ D S W T : List ℕ) (top : ℕ) : Type 0 where
+pub record Marking (p : Sizes) (r g : ℕ) (W₀ T₀ S₀ D S W T : List ℕ) (top : ℕ) : Type 0 where
   pub started : Room p (length T₀)
   pub shaped : Shaped p W T
   pub kept : Kept p W₀ T₀ W T
@@ -73,7 +73,7 @@ pub record Marking (p : Places) (r g : ℕ) (W₀ T₀ S₀ D S W T : List ℕ) 
   pub same-work : (c : ℕ) → (In c S ⊎ In c D → ⊥) → workOf W c ≡ workOf W₀ c
   pub done : (c : ℕ) → In c D → workOf W c ≡ g
 
-pub marking-start : {p : Places} (r g : ℕ) {W T : List ℕ} (S₀ : List ℕ) → Shaped p W T → Marking p r g W T S₀ [] [] W T 0
+pub marking-start : {p : Sizes} (r g : ℕ) {W T : List ℕ} (S₀ : List ℕ) → Shaped p W T → Marking p r g W T S₀ [] [] W T 0
 marking-start {p} r g {W} {T} S₀ s =
     record {
       started = s .room;
@@ -106,7 +106,7 @@ first-or (inl (inl e)) = inl e
 first-or (inl (inr i)) = inr (inl i)
 first-or (inr j) = inr (inr j)
 
-module _ {p : Places} {r g : ℕ} {W₀ T₀ S₀ D S W T : List ℕ} {top : ℕ} (m : Marking p r g W₀ T₀ S₀ D S W T top) where
+module _ {p : Sizes} {r g : ℕ} {W₀ T₀ S₀ D S W T : List ℕ} {top : ℕ} (m : Marking p r g W₀ T₀ S₀ D S W T top) where
   -- an unmarked cell of r that is reached goes on the stack
   linked-marking : {x : ℕ} {W′ T′ : List ℕ} {top′ : ℕ} → IsRef p T x → Reach p r W₀ T₀ S₀ (x - 1) → Linked p r W T top x W′ T′ top′
       → Marking p r g W₀ T₀ S₀ D ((x - 1) ∷ S) W′ T′ top′
@@ -166,7 +166,7 @@ over (inl (inr i)) = inl i
 over (inr j) = inr (inr j)
 
 -- the top is popped: g goes into its word 1
-popped : {p : Places} {r g : ℕ} {W₀ T₀ S₀ D S W T : List ℕ} {top c : ℕ} → Marking p r g W₀ T₀ S₀ D (c ∷ S) W T top
+popped : {p : Sizes} {r g : ℕ} {W₀ T₀ S₀ D S W T : List ℕ} {top c : ℕ} → Marking p r g W₀ T₀ S₀ D (c ∷ S) W T top
     → Marking p r g W₀ T₀ S₀ (c ∷ D) S (set W (workAt c) g) T (workOf W c)
 popped {p} {r} {g} {W₀} {T₀} {S₀} {D} {S} {W} {T} {top} {c} m =
     let u : InUse p T₀ c = m .in-use c (inl (inl refl)) in
@@ -200,7 +200,7 @@ popped {p} {r} {g} {W₀} {T₀} {S₀} {D} {S} {W} {T} {top} {c} m =
     }
 
 -- where the stack is not empty, its top, as the code has it, is popped
-pub popped-top : {p : Places} {r g : ℕ} {W₀ T₀ S₀ D W T : List ℕ} {top : ℕ} (S : List ℕ) → top ≢ 0 → Marking p r g W₀ T₀ S₀ D S W T top
+pub popped-top : {p : Sizes} {r g : ℕ} {W₀ T₀ S₀ D W T : List ℕ} {top : ℕ} (S : List ℕ) → top ≢ 0 → Marking p r g W₀ T₀ S₀ D S W T top
     → InUse p T (top - 1) × (S′ : List ℕ) × Marking p r g W₀ T₀ S₀ ((top - 1) ∷ D) S′ (set W (workAt (top - 1)) g) T (workOf W (top - 1))
 popped-top [] ne m = absurd (ne (m .chain))
 popped-top {p} {r} {g} {W₀} {T₀} {S₀} {D} {W} {T} {top} (c ∷ S) ne m =

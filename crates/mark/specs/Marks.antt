@@ -9,31 +9,31 @@ use lib.ListN.{length, getD, set}
 use lib.Seq.{getD-set-same, getD-set-other}
 use Rattle.lists.specs.Bits.{bitAt, bit-lt, no-bits, none-high, set-same, set-other}
 use Rattle.lists.specs.Members.{In}
-use Rattle.layout.specs.declared.Places.{Places}
-use Rattle.layout.specs.Places.{Room, ownerOf, usedOf, markAt, markOf}
+use Rattle.rules.specs.declared.Sizes.{Sizes}
+use Rattle.layout.specs.Places.{Room, ownerOf, usedOf, markAt, markOf, marksFrom, ownersFrom, usedFrom}
 use Rattle.layout.specs.Cells.{workAt, workOf, fieldOf, refsOf, pageOf, placeOf, cellOn}
 use Rattle.layout.specs.Marks.{marked}
 use Rattle.promises.specs.Words.{InUse}
 use Rattle.promises.specs.Whole.{IsRef}
 
 -- the region that owns the page of a cell
-abbrev pub owner : Places → List ℕ → ℕ → ℕ
+abbrev pub owner : Sizes → List ℕ → ℕ → ℕ
 owner p T c = ownerOf p T (pageOf c)
 
 -- the slices are long enough, and cells in use have at most 14 references, each null or to a cell in use
-pub record Shaped (p : Places) (W T : List ℕ) : Type 0 where
+pub record Shaped (p : Sizes) (W T : List ℕ) : Type 0 where
   pub room : Room p (length T)
   pub cells-long : 256 * p .pages ≤ length W
   pub refs-few : (c : ℕ) → InUse p T c → refsOf W c ≤ 14
   pub references : (c : ℕ) → InUse p T c → (f : ℕ) → f < refsOf W c → IsRef p T (fieldOf W c f)
 
 -- c is r's and not marked, and a chain of slots inside r leads to it from one of the cells S, over cells that are not marked
-pub data Reach (p : Places) (r : ℕ) (W T S : List ℕ) : ℕ → Type 0 where
+pub data Reach (p : Sizes) (r : ℕ) (W T S : List ℕ) : ℕ → Type 0 where
   held : {c : ℕ} → In c S → owner p T c ≡ r → marked p T c ≡ 0 → Reach p r W T S c
   via : {b c : ℕ} → Reach p r W T S b → (f : ℕ) → f < refsOf W b → fieldOf W b f ≡ 1 + c → owner p T c ≡ r → marked p T c ≡ 0 → Reach p r W T S c
 
 -- a chain of slots inside r, from x to c
-pub data Leads (p : Places) (r : ℕ) (W T : List ℕ) (x : ℕ) : ℕ → Type 0 where
+pub data Leads (p : Sizes) (r : ℕ) (W T : List ℕ) (x : ℕ) : ℕ → Type 0 where
   here : owner p T x ≡ r → Leads p r W T x x
   step : {b c : ℕ} → Leads p r W T x b → (f : ℕ) → f < refsOf W b → fieldOf W b f ≡ 1 + c → owner p T c ≡ r → Leads p r W T x c
 
@@ -86,13 +86,13 @@ named-same ref ref′ (suc n) e =
 -- ---- one push, of reference x
 
 -- x is null, or another region's, or marked already
-pub record Skipped (p : Places) (r : ℕ) (W T : List ℕ) (top x : ℕ) (W′ T′ : List ℕ) (top′ : ℕ) : Type 0 where
+pub record Skipped (p : Sizes) (r : ℕ) (W T : List ℕ) (top x : ℕ) (W′ T′ : List ℕ) (top′ : ℕ) : Type 0 where
   pub cells : W′ ≡ W
   pub tables : T′ ≡ T
   pub stack : top′ ≡ top
   pub why : 0 < x → owner p T (x - 1) ≡ r → marked p T (x - 1) ≡ 1
 
-pub record Linked (p : Places) (r : ℕ) (W T : List ℕ) (top x : ℕ) (W′ T′ : List ℕ) (top′ : ℕ) : Type 0 where
+pub record Linked (p : Sizes) (r : ℕ) (W T : List ℕ) (top x : ℕ) (W′ T′ : List ℕ) (top′ : ℕ) : Type 0 where
   pub some : 0 < x
   pub owned : owner p T (x - 1) ≡ r
   pub off : marked p T (x - 1) ≡ 0
@@ -100,22 +100,22 @@ pub record Linked (p : Places) (r : ℕ) (W T : List ℕ) (top x : ℕ) (W′ T�
   pub tables : T′ ≡ set T (markAt p (pageOf (x - 1))) (markOf p T (pageOf (x - 1)) + 2 ^ placeOf (x - 1))
   pub stack : top′ ≡ x
 
-abbrev pub Pushed : (p : Places) (r : ℕ) (W T : List ℕ) (top x : ℕ) (W′ T′ : List ℕ) (top′ : ℕ) → Type 0
+abbrev pub Pushed : (p : Sizes) (r : ℕ) (W T : List ℕ) (top x : ℕ) (W′ T′ : List ℕ) (top′ : ℕ) → Type 0
 Pushed p r W T top x W′ T′ top′ = Skipped p r W T top x W′ T′ top′ ⊎ Linked p r W T top x W′ T′ top′
 
 -- ---- what no push and no pop changes: everything but word 1 of cells and the low 16 bits of working words
 
-pub record Kept (p : Places) (W T W′ T′ : List ℕ) : Type 0 where
+pub record Kept (p : Sizes) (W T W′ T′ : List ℕ) : Type 0 where
   pub cells-length : length W′ ≡ length W
   pub tables-length : length T′ ≡ length T
   pub words : (q : ℕ) → q % 16 ≢ 1 → getD W′ q 0 ≡ getD W q 0
-  pub tables : (q : ℕ) → (q < p .marks) ⊎ (p .marks + p .pages ≤ q) → getD T′ q 0 ≡ getD T q 0
+  pub tables : (q : ℕ) → (q < marksFrom p) ⊎ (marksFrom p + p .pages ≤ q) → getD T′ q 0 ≡ getD T q 0
   pub high : (q i : ℕ) → 16 ≤ i → bitAt (getD T′ q 0) i ≡ bitAt (getD T q 0) i
 
-pub kept-refl : (p : Places) (W T : List ℕ) → Kept p W T W T
+pub kept-refl : (p : Sizes) (W T : List ℕ) → Kept p W T W T
 kept-refl p W T = record { cells-length = refl; tables-length = refl; words = λ q h. refl; tables = λ q h. refl; high = λ q i h. refl }
 
-pub kept-trans : {p : Places} {W T W′ T′ W″ T″ : List ℕ} → Kept p W T W′ T′ → Kept p W′ T′ W″ T″ → Kept p W T W″ T″
+pub kept-trans : {p : Sizes} {W T W′ T′ W″ T″ : List ℕ} → Kept p W T W′ T′ → Kept p W′ T′ W″ T″ → Kept p W T W″ T″
 kept-trans a b =
     record {
       cells-length = b .cells-length ∙ a .cells-length;
@@ -125,7 +125,7 @@ kept-trans a b =
       high = λ q i h. b .high q i h ∙ a .high q i h;
     }
 
-module _ {p : Places} {W T W′ T′ : List ℕ} (k : Kept p W T W′ T′) where
+module _ {p : Sizes} {W T W′ T′ : List ℕ} (k : Kept p W T W′ T′) where
   pub kept-refs : (c : ℕ) → refsOf W′ c ≡ refsOf W c
   kept-refs c = ap (λ (x : ℕ). x / 16) (k .words (16 * c) (omega arith))
 
@@ -134,10 +134,10 @@ module _ {p : Places} {W T W′ T′ : List ℕ} (k : Kept p W T W′ T′) wher
 
   module _ (room : Room p (length T)) where
     pub kept-owner : (c : ℕ) → pageOf c < p .pages → owner p T′ c ≡ owner p T c
-    kept-owner c h = k .tables (p .owners + pageOf c) (inl (omega arith))
+    kept-owner c h = k .tables (ownersFrom p + pageOf c) (inl (omega arith))
 
     pub kept-used : (page : ℕ) → page < p .pages → usedOf p T′ page ≡ usedOf p T page
-    kept-used page h = k .tables (p .used + page) (inl (omega arith))
+    kept-used page h = k .tables (usedFrom p + page) (inl (omega arith))
 
     pub kept-in-use : (c : ℕ) → InUse p T c → InUse p T′ c
     kept-in-use c u = record { page = u .page; place = omega (arith, kept-used (pageOf c) (u .page), u .place) }
@@ -164,11 +164,11 @@ module _ {p : Places} {W T W′ T′ : List ℕ} (k : Kept p W T W′ T′) wher
 
 -- ---- whether a cell is marked
 
-abbrev pub AnyMarked : Places → List ℕ → Type 0
+abbrev pub AnyMarked : Sizes → List ℕ → Type 0
 AnyMarked p T = (c : ℕ) × (pageOf c < p .pages) × (marked p T c ≡ 1)
 
 -- a page without a marked cell has mark word 0
-pub page-unmarked : (p : Places) (T : List ℕ) (page : ℕ) → markOf p T page < 2 ^ 16 → ((c : ℕ) → pageOf c ≡ page → marked p T c ≡ 1 → ⊥) → markOf p T page ≡ 0
+pub page-unmarked : (p : Sizes) (T : List ℕ) (page : ℕ) → markOf p T page < 2 ^ 16 → ((c : ℕ) → pageOf c ≡ page → marked p T c ≡ 1 → ⊥) → markOf p T page ≡ 0
 page-unmarked p T page small none = no-bits (markOf p T page) (λ i. go i (decLt i 16))
   where
     go : (i : ℕ) → Dec (i < 16) → bitAt (markOf p T page) i ≡ 0
@@ -183,12 +183,12 @@ page-unmarked p T page small none = no-bits (markOf p T page) (λ i. go i (decLt
         off (no n) = omega (arith, bit-lt i (markOf p T page))
 
 -- where none is, every mark word is 0
-pub none-marked : (p : Places) (T : List ℕ) → ((page : ℕ) → page < p .pages → markOf p T page < 2 ^ 16) → (AnyMarked p T → ⊥) → (page : ℕ) → page < p .pages → markOf p T page ≡ 0
+pub none-marked : (p : Sizes) (T : List ℕ) → ((page : ℕ) → page < p .pages → markOf p T page < 2 ^ 16) → (AnyMarked p T → ⊥) → (page : ℕ) → page < p .pages → markOf p T page ≡ 0
 none-marked p T small none page l = page-unmarked p T page (small page l) (λ c e on. none (c, omega arith, on))
 
 -- ---- a mark that is set
 
-module _ (p : Places) (T : List ℕ) (c : ℕ) (long : markAt p (pageOf c) < length T) (off : marked p T c ≡ 0) where
+module _ (p : Sizes) (T : List ℕ) (c : ℕ) (long : markAt p (pageOf c) < length T) (off : marked p T c ≡ 0) where
   abbrev word : ℕ
   word = markOf p T (pageOf c) + 2 ^ placeOf c
 
@@ -211,14 +211,14 @@ module _ (p : Places) (T : List ℕ) (c : ℕ) (long : markAt p (pageOf c) < len
 
 -- ---- a push as the code has it: the cell c of reference x, its page and place, and the working word w
 
-pub push-null : {p : Places} {r : ℕ} {W T : List ℕ} {top x : ℕ} → x ≡ 0 → Pushed p r W T top x W T top
+pub push-null : {p : Sizes} {r : ℕ} {W T : List ℕ} {top x : ℕ} → x ≡ 0 → Pushed p r W T top x W T top
 push-null z = inl (record { cells = refl; tables = refl; stack = refl; why = λ l. absurd (let y : ⊥ = omega arith in y) })
 
-pub push-foreign : {p : Places} {r : ℕ} {W T : List ℕ} {top x : ℕ} (b page : ℕ) → b ≡ x - 1 → page ≡ pageOf b → (ownerOf p T page ≡ r → ⊥) → Pushed p r W T top x W T top
+pub push-foreign : {p : Sizes} {r : ℕ} {W T : List ℕ} {top x : ℕ} (b page : ℕ) → b ≡ x - 1 → page ≡ pageOf b → (ownerOf p T page ≡ r → ⊥) → Pushed p r W T top x W T top
 push-foreign {p} {T} b page eb ep n =
     inl (record { cells = refl; tables = refl; stack = refl; why = λ l e. absurd (n (ap (λ (z : ℕ). ownerOf p T z) (ep ∙ ap pageOf eb) ∙ e)) })
 
-pub push-marked : {p : Places} {r : ℕ} {W T : List ℕ} {top x : ℕ} (b page i w : ℕ) → b ≡ x - 1 → page ≡ pageOf b → i ≡ placeOf b → w ≡ markOf p T page → bitAt w i ≡ 1
+pub push-marked : {p : Sizes} {r : ℕ} {W T : List ℕ} {top x : ℕ} (b page i w : ℕ) → b ≡ x - 1 → page ≡ pageOf b → i ≡ placeOf b → w ≡ markOf p T page → bitAt w i ≡ 1
     → Pushed p r W T top x W T top
 push-marked {p} {T} {x} b page i w eb ep ei ew on =
     let pg : page ≡ pageOf (x - 1) = ep ∙ ap pageOf eb in
@@ -232,7 +232,7 @@ push-marked {p} {T} {x} b page i w eb ep ei ew on =
           ap (λ (z : ℕ). bitAt (markOf p T z) (placeOf (x - 1))) (sym pg) ∙ ap (λ (z : ℕ). bitAt z (placeOf (x - 1))) (sym ew) ∙ ap (bitAt w) (sym pl) ∙ on;
     })
 
-pub push-links : {p : Places} {r : ℕ} {W T : List ℕ} {top x : ℕ} {W′ T′ : List ℕ} {top′ : ℕ} (b page i w w′ : ℕ) → 0 < x → b ≡ x - 1 → page ≡ pageOf b → i ≡ placeOf b → w ≡ markOf p T page → ownerOf p T page ≡ r
+pub push-links : {p : Sizes} {r : ℕ} {W T : List ℕ} {top x : ℕ} {W′ T′ : List ℕ} {top′ : ℕ} (b page i w w′ : ℕ) → 0 < x → b ≡ x - 1 → page ≡ pageOf b → i ≡ placeOf b → w ≡ markOf p T page → ownerOf p T page ≡ r
     → bitAt w i ≡ 0 → w′ ≡ w + 2 ^ i → W′ ≡ set W (workAt b) top → T′ ≡ set T (markAt p page) w′ → top′ ≡ x
     → Pushed p r W T top x W′ T′ top′
 push-links {p} {r} {W} {T} {top} {x} b page i w w′ pos eb ep ei ew own off ew′ cs ts e =

@@ -6,31 +6,31 @@ use Prim.Native.Nat.{ℕ, _+_, _-_, _<_}
 use native.Mathlib.Omega.{arith}
 use Rattle.lists.specs.Below.{upto}
 use Rattle.lists.specs.Members.{In}
-use Rattle.layout.specs.declared.Places.{Places}
+use Rattle.rules.specs.declared.Sizes.{Sizes}
 use Rattle.promises.specs.Whole.{IsRef}
 use Rattle.layout.specs.Marks.{marked}
 use Rattle.mark.specs.Marks.{owner, Shaped, Reach, Pushed, Kept, kept-refl, kept-trans, kept-owner, kept-in-use, kept-shaped}
 use Rattle.mark.specs.Marking.{Marking, pushed-kept, pushed-mono, pushed-on, pushed-marking}
 
-pub data Pushes (p : Places) (r : ℕ) (P : ℕ → Type 0) (W T : List ℕ) (top : ℕ) : List ℕ → List ℕ → ℕ → Type 0 where
+pub data Pushes (p : Sizes) (r : ℕ) (P : ℕ → Type 0) (W T : List ℕ) (top : ℕ) : List ℕ → List ℕ → ℕ → Type 0 where
   none : Pushes p r P W T top W T top
   more : {W′ T′ W″ T″ : List ℕ} {top′ top″ x : ℕ} → Pushes p r P W T top W′ T′ top′ → P x → Pushed p r W′ T′ top′ x W″ T″ top″
       → Pushes p r P W T top W″ T″ top″
 
 -- x is one of the references
-pub record Named (p : Places) (T : List ℕ) (ref : ℕ → ℕ) (n x : ℕ) : Type 0 where
+pub record Named (p : Sizes) (T : List ℕ) (ref : ℕ → ℕ) (n x : ℕ) : Type 0 where
   pub is-ref : IsRef p T x
   pub field : ℕ
   pub counted : field < n
   pub names : ref field ≡ x
 
 -- at reference f: those before it are pushed, and name nothing of r that is not marked
-pub record Pushing (p : Places) (r : ℕ) (ref : ℕ → ℕ) (n : ℕ) (W T : List ℕ) (top : ℕ) (W′ T′ : List ℕ) (top′ f : ℕ) : Type 0 where
+pub record Pushing (p : Sizes) (r : ℕ) (ref : ℕ → ℕ) (n : ℕ) (W T : List ℕ) (top : ℕ) (W′ T′ : List ℕ) (top′ f : ℕ) : Type 0 where
   pub pushes : Pushes p r (Named p T ref n) W T top W′ T′ top′
   pub mono : (d : ℕ) → marked p T d ≡ 1 → marked p T′ d ≡ 1
   pub closed : (k d : ℕ) → k < f → ref k ≡ 1 + d → owner p T d ≡ r → marked p T′ d ≡ 1
 
-module _ {p : Places} {r : ℕ} {W T : List ℕ} {top : ℕ} (ref : ℕ → ℕ) (n : ℕ) (s : Shaped p W T) where
+module _ {p : Sizes} {r : ℕ} {W T : List ℕ} {top : ℕ} (ref : ℕ → ℕ) (n : ℕ) (s : Shaped p W T) where
   pub pushes-kept : {W′ T′ : List ℕ} {top′ : ℕ} → Pushes p r (Named p T ref n) W T top W′ T′ top′ → Kept p W T W′ T′
   pushes-kept none = kept-refl p W T
   pushes-kept (more {x = x} ps q u) =
@@ -54,11 +54,11 @@ module _ {p : Places} {r : ℕ} {W T : List ℕ} {top : ℕ} (ref : ℕ → ℕ)
       reach c q′ (sym (kept-owner (m′ .1 .kept) (m′ .1 .started) c page) ∙ own) (sym (m′ .1 .same-mark c h) ∙ off))
       u
 
-pub pushing-start : (p : Places) (r : ℕ) (ref : ℕ → ℕ) (n : ℕ) (W T : List ℕ) (top : ℕ) → Pushing p r ref n W T top W T top 0
+pub pushing-start : (p : Sizes) (r : ℕ) (ref : ℕ → ℕ) (n : ℕ) (W T : List ℕ) (top : ℕ) → Pushing p r ref n W T top W T top 0
 pushing-start p r ref n W T top = record { pushes = none; mono = λ d h. h; closed = λ k d h. absurd (let z : ⊥ = omega arith in z) }
 
 -- a turn, of the reference x that the code read
-module _ {p : Places} {r : ℕ} {ref : ℕ → ℕ} {n : ℕ} {W T : List ℕ} {top : ℕ} {W′ T′ : List ℕ} {top′ f : ℕ} (s : Shaped p W T)
+module _ {p : Sizes} {r : ℕ} {ref : ℕ → ℕ} {n : ℕ} {W T : List ℕ} {top : ℕ} {W′ T′ : List ℕ} {top′ f : ℕ} (s : Shaped p W T)
     (used : (k : ℕ) → k < n → IsRef p T (ref k)) (lt : f < n) (h : Pushing p r ref n W T top W′ T′ top′ f) where
   pub pushing-kept : Kept p W T W′ T′
   pushing-kept = pushes-kept ref n s (h .pushes)

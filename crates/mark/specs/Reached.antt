@@ -18,7 +18,7 @@ use Rattle.rules.specs.Regions.{regionAt, threadOf, join}
 use Rattle.laws.specs.RegionLaws.{region-high, thread-at, parent-at, join-control, join-other, join-same}
 use Rattle.laws.specs.GraphLaws as gl
 use Rattle.laws.specs.GraphLaws.{Refers, Holds, bySlot, byOwn, byOther}
-use Rattle.layout.specs.Places.{placesOf, varOf, usedIn, slotIn, slotRegionIn, Room}
+use Rattle.layout.specs.Places.{varOf, usedIn, slotIn, slotRegionIn, Room}
 use Rattle.layout.specs.Cells.{fieldAt, fieldOf, pageOf, cellOf, wordOf}
 use Rattle.promises.specs.Words.{Words, Used, ownerIn, homeIn, depthIn, refCount, refsIn, varsIn, graphOf}
 use Rattle.promises.specs.Crossing.{other, regionOf, crossTo}
@@ -74,7 +74,7 @@ module _ (s : Sizes) (w : Words) (k : WholeFor s w) where
   -- ---- chains
 
   module _ (r : ℕ) (pos : 0 < r) where
-    pub chain-rules : (x c : ℕ) → Used s w x → Leads (placesOf s) r (w .cells) (w .tables) x c → gl.Leads (graphOf s w) r x c × Used s w c × (homeIn s w c ≡ r)
+    pub chain-rules : (x c : ℕ) → Used s w x → Leads s r (w .cells) (w .tables) x c → gl.Leads (graphOf s w) r x c × Used s w c × (homeIn s w c ≡ r)
     chain-rules x c u (here own) = (gl.itself, u, cell-home x r u own)
     chain-rules x c u (step {b = b} q f lt e own) =
         let h = chain-rules x b u q in
@@ -82,7 +82,7 @@ module _ (s : Sizes) (w : Words) (k : WholeFor s w) where
         let v = field-used b f c (h .1) lt e′ in
         (gl.along (h .0) (field-refers b f c (h .1) lt e′) (h .2) (cell-home c r v own), v, cell-home c r v own)
 
-    pub rules-chain : (x c : ℕ) → homeIn s w x ≡ r → gl.Leads (graphOf s w) r x c → Leads (placesOf s) r (w .cells) (w .tables) x c
+    pub rules-chain : (x c : ℕ) → homeIn s w x ≡ r → gl.Leads (graphOf s w) r x c → Leads s r (w .cells) (w .tables) x c
     rules-chain x c h gl.itself = here (home-cell x r h pos .1)
     rules-chain x c h (gl.along {y = y} {z = z} q f a b) =
         let i = refers-field y z f in step (rules-chain x y h q) (i .0) (i .1) (i .2 ∙ sym (one-add z)) (home-cell z r b pos .1)
@@ -113,17 +113,17 @@ module _ (s : Sizes) (w : Words) (k : WholeFor s w) where
 
   -- ---- the words are such as marking asks for
 
-  pub whole-shaped : Room (placesOf s) (length (w .tables)) → Shaped (placesOf s) (w .cells) (w .tables)
+  pub whole-shaped : Room s (length (w .tables)) → Shaped s (w .cells) (w .tables)
   whole-shaped room =
       record { room = room; cells-long = cells-room s w k; refs-few = refs-few s w k; references = λ c u f l. k .placed .references c u f l }
 
   -- the slot of entry i
-  pub entry-slot : (i : ℕ) → i < usedIn (w .remember) → Slot (placesOf s) (w .cells) (w .tables) (slotIn (w .remember) i)
+  pub entry-slot : (i : ℕ) → i < usedIn (w .remember) → Slot s (w .cells) (w .tables) (slotIn (w .remember) i)
   entry-slot i l =
       let e = k .placed .remember .entries .named i l in
-      cross-slot (placesOf s) (w .cells) (w .tables) (slotIn (w .remember) i) (e .slot) (omega (arith, e .region, e .right))
+      cross-slot s (w .cells) (w .tables) (slotIn (w .remember) i) (e .slot) (omega (arith, e .region, e .right))
 
-  pub whole-holding : Holding (placesOf s) (w .cells) (w .remember) (w .tables)
+  pub whole-holding : Holding s (w .cells) (w .remember) (w .tables)
   whole-holding =
       record {
         some = range s w k .variables-low;
@@ -135,8 +135,8 @@ module _ (s : Sizes) (w : Words) (k : WholeFor s w) where
         slots = λ i l.
             let q = slotIn (w .remember) i in
             let o = entry-slot i l in
-            let f = slot-field (placesOf s) (w .cells) (w .tables) q o in
-            subst (λ (z : ℕ). IsRef (placesOf s) (w .tables) (getD (w .cells) z 0)) (f .0) (k .placed .references (cellOf q) (o .used) (wordOf q - 2) (f .1));
+            let f = slot-field s (w .cells) (w .tables) q o in
+            subst (λ (z : ℕ). IsRef s (w .tables) (getD (w .cells) z 0)) (f .0) (k .placed .references (cellOf q) (o .used) (wordOf q - 2) (f .1));
       }
 
   -- ---- entry i of region r: its slot lies outside r and names an object of r
@@ -152,10 +152,10 @@ module _ (s : Sizes) (w : Words) (k : WholeFor s w) where
   entry-enters r i l e =
       let q = slotIn (w .remember) i in
       let o = entry-slot i l in
-      let f = slot-field (placesOf s) (w .cells) (w .tables) q o in
+      let f = slot-field s (w .cells) (w .tables) q o in
       let n = k .placed .remember .entries .named i l in
-      let x = regionOf (placesOf s) (w .tables) (getD (w .cells) q 0) in
-      let c : other (ownerIn s w (pageOf (cellOf q))) x ≡ r = sym (slot-cross (placesOf s) (w .cells) (w .tables) q o) ∙ n .right ∙ e in
+      let x = regionOf s (w .tables) (getD (w .cells) q 0) in
+      let c : other (ownerIn s w (pageOf (cellOf q))) x ≡ r = sym (slot-cross s (w .cells) (w .tables) q o) ∙ n .right ∙ e in
       let h = other-is (ownerIn s w (pageOf (cellOf q))) x (omega (arith, n .region)) in
       record { used = o .used; field = wordOf q - 2; below = f .1; at = f .0; outside = λ z. h .2 (z ∙ sym c ∙ h .0) }
 
@@ -165,15 +165,15 @@ module _ (s : Sizes) (w : Words) (k : WholeFor s w) where
   enters-entry r y f x pos u out l e own =
       let q = fieldAt y f in
       let cell : cellOf q ≡ y = omega (arith, refs-few s w k y u) in
-      let o = field-slot (placesOf s) (w .cells) (w .tables) y f u (omega (arith, refs-few s w k y u)) l in
+      let o = field-slot s (w .cells) (w .tables) y f u (omega (arith, refs-few s w k y u)) l in
       let v = field-used y f x u l e in
-      let c : crossTo (placesOf s) (w .cells) (w .tables) q ≡ r =
-      slot-cross (placesOf s) (w .cells) (w .tables) q o
-      ∙ ap₂ (λ (a b : ℕ). other (ownerIn s w (pageOf a)) (regionOf (placesOf s) (w .tables) b)) cell e
-      ∙ ap (other (ownerIn s w (pageOf y))) (region-of (placesOf s) (w .tables) x v ∙ own) ∙ is-other (ownerIn s w (pageOf y)) r pos out in
-      let i = k .placed .remember .every q (slot-low (placesOf s) (w .cells) (w .tables) q o) (omega arith) in
+      let c : crossTo s (w .cells) (w .tables) q ≡ r =
+      slot-cross s (w .cells) (w .tables) q o
+      ∙ ap₂ (λ (a b : ℕ). other (ownerIn s w (pageOf a)) (regionOf s (w .tables) b)) cell e
+      ∙ ap (other (ownerIn s w (pageOf y))) (region-of s (w .tables) x v ∙ own) ∙ is-other (ownerIn s w (pageOf y)) r pos out in
+      let i = k .placed .remember .every q (slot-low s (w .cells) (w .tables) q o) (omega arith) in
       let n = k .placed .remember .entries .named (i .0) (i .1) in
-      (i .0, i .1, i .2, sym (n .right) ∙ ap (crossTo (placesOf s) (w .cells) (w .tables)) (i .2) ∙ c)
+      (i .0, i .1, i .2, sym (n .right) ∙ ap (crossTo s (w .cells) (w .tables)) (i .2) ∙ c)
 
   -- ---- the innermost region of thread t, at its depth suc j
 
@@ -186,7 +186,7 @@ module _ (s : Sizes) (w : Words) (k : WholeFor s w) where
     outer = regionAt s t j
 
     abbrev held : ℕ → List ℕ
-    held g = heldCells (placesOf s) (w .cells) (w .remember) (w .tables) r t outer g
+    held g = heldCells s (w .cells) (w .remember) (w .tables) r t outer g
 
     deep : j < s .depth
     deep = omega (arith, k .placed .depths t th)
@@ -196,26 +196,26 @@ module _ (s : Sizes) (w : Words) (k : WholeFor s w) where
     unfolding heldCells varHeld slotHeld
     held-holds g x h i =
         ⊎-elim variable slot
-        (in-append x (named (varHeld (placesOf s) (w .tables) t outer g) (s .threads * s .variables))
-        (named (slotHeld (placesOf s) (w .cells) (w .remember) (w .tables) r g) (usedIn (w .remember))) i)
+        (in-append x (named (varHeld s (w .tables) t outer g) (s .threads * s .variables))
+        (named (slotHeld s (w .cells) (w .remember) (w .tables) r g) (usedIn (w .remember))) i)
       where
-        variable : In x (named (varHeld (placesOf s) (w .tables) t outer g) (s .threads * s .variables)) → Holds s (graphOf s w) r x g
+        variable : In x (named (varHeld s (w .tables) t outer g) (s .threads * s .variables)) → Holds s (graphOf s w) r x g
         variable m =
-            let q = named-from (varHeld (placesOf s) (w .tables) t outer g) (s .threads * s .variables) x m in
-            let v = some-cond (eqb (varCalls (placesOf s) t outer (q .0)) g) (varOf (placesOf s) (w .tables) (q .0)) x (q .2) in
+            let q = named-from (varHeld s (w .tables) t outer g) (s .threads * s .variables) x m in
+            let v = some-cond (eqb (varCalls s t outer (q .0)) g) (varOf s (w .tables) (q .0)) x (q .2) in
             let at : getD (varsIn s w) (q .0) 0 ≡ suc x = getD-vars s w (q .0) (q .1) ∙ v .1 ∙ one-add x in
-            let e : varCalls (placesOf s) t outer (q .0) ≡ g = eqb-true _ _ (v .0) in
+            let e : varCalls s t outer (q .0) ≡ g = eqb-true _ _ (v .0) in
             go (q .0) at e (ℕ-discrete (q .0 / s .variables) t)
           where
-            go : (i : ℕ) → getD (varsIn s w) i 0 ≡ suc x → varCalls (placesOf s) t outer i ≡ g → Dec (i / s .variables ≡ t) → Holds s (graphOf s w) r x g
-            go i at e (yes d) = byOwn i at (d ∙ sym (thread-at s t j deep)) (sym e ∙ sym (calls-own (placesOf s) t outer i d) ∙ sym (parent-at s t j deep))
-            go i at e (no d) = byOther i at (λ z. d (z ∙ thread-at s t j deep)) (sym e ∙ sym (calls-other (placesOf s) t outer i d))
+            go : (i : ℕ) → getD (varsIn s w) i 0 ≡ suc x → varCalls s t outer i ≡ g → Dec (i / s .variables ≡ t) → Holds s (graphOf s w) r x g
+            go i at e (yes d) = byOwn i at (d ∙ sym (thread-at s t j deep)) (sym e ∙ sym (calls-own s t outer i d) ∙ sym (parent-at s t j deep))
+            go i at e (no d) = byOther i at (λ z. d (z ∙ thread-at s t j deep)) (sym e ∙ sym (calls-other s t outer i d))
 
-        slot : In x (named (slotHeld (placesOf s) (w .cells) (w .remember) (w .tables) r g) (usedIn (w .remember))) → Holds s (graphOf s w) r x g
+        slot : In x (named (slotHeld s (w .cells) (w .remember) (w .tables) r g) (usedIn (w .remember))) → Holds s (graphOf s w) r x g
         slot m =
-            let q = named-from (slotHeld (placesOf s) (w .cells) (w .remember) (w .tables) r g) (usedIn (w .remember)) x m in
+            let q = named-from (slotHeld s (w .cells) (w .remember) (w .tables) r g) (usedIn (w .remember)) x m in
             let a = some-cond (eqb (slotRegionIn (s .entries) (w .remember) (q .0)) r) _ x (q .2) in
-            let b = some-cond (eqb (slotCalls (placesOf s) (w .remember) (w .tables) r (q .0)) g) _ x (a .1) in
+            let b = some-cond (eqb (slotCalls s (w .remember) (w .tables) r (q .0)) g) _ x (a .1) in
             let n = entry-enters r (q .0) (q .1) (eqb-true _ _ (a .0)) in
             let y = cellOf (slotIn (w .remember) (q .0)) in
             let f : fieldOf (w .cells) y (n .field) ≡ suc x = ap (λ (z : ℕ). getD (w .cells) z 0) (n .at) ∙ b .1 ∙ one-add x in
@@ -223,15 +223,15 @@ module _ (s : Sizes) (w : Words) (k : WholeFor s w) where
             bySlot y (field-refers y (n .field) x (n .used) (n .below) f) (λ z. n .outside (sym hy ∙ z)) (sym (eqb-true _ _ (b .0)) ∙ ap (join s r) (sym hy))
 
     -- a variable, or a slot outside r, that calls for the region of level l is held there
-    var-held : (x l i : ℕ) → getD (varsIn s w) i 0 ≡ suc x → regionAt s t l ≡ varCalls (placesOf s) t outer i → In x (held (regionAt s t l))
+    var-held : (x l i : ℕ) → getD (varsIn s w) i 0 ≡ suc x → regionAt s t l ≡ varCalls s t outer i → In x (held (regionAt s t l))
     unfolding heldCells
     var-held x l i at c =
         let b : i < s .threads * s .variables = omega (arith, in-bounds (varsIn s w) i (λ z. omega arith), length-vars s w k) in
         let g : ℕ = regionAt s t l in
-        in-left x (named (varHeld (placesOf s) (w .tables) t outer g) (s .threads * s .variables))
-        (named (slotHeld (placesOf s) (w .cells) (w .remember) (w .tables) r g) (usedIn (w .remember)))
-        (named-in (varHeld (placesOf s) (w .tables) t outer g) (s .threads * s .variables) i x b
-        (sym (var-some (placesOf s) (w .tables) t outer g i (varCalls (placesOf s) t outer i) (varOf (placesOf s) (w .tables) i) refl (sym c) refl)
+        in-left x (named (varHeld s (w .tables) t outer g) (s .threads * s .variables))
+        (named (slotHeld s (w .cells) (w .remember) (w .tables) r g) (usedIn (w .remember)))
+        (named-in (varHeld s (w .tables) t outer g) (s .threads * s .variables) i x b
+        (sym (var-some s (w .tables) t outer g i (varCalls s t outer i) (varOf s (w .tables) i) refl (sym c) refl)
         ∙ sym (getD-vars s w i b) ∙ at ∙ sym (one-add x)))
 
     slot-held : (x l y : ℕ) → homeIn s w x ≡ r → Refers (graphOf s w) y x → (homeIn s w y ≡ r → ⊥) → join s r (homeIn s w y) ≡ regionAt s t l → In x (held (regionAt s t l))
@@ -245,11 +245,11 @@ module _ (s : Sizes) (w : Words) (k : WholeFor s w) where
         let back : cellOf (fieldAt y (i .0)) ≡ y = omega (arith, refs-few s w k y u) in
         let cell : cellOf (slotIn (w .remember) (n .0)) ≡ y = ap cellOf (n .2) ∙ back in
         let g : ℕ = regionAt s t l in
-        let call : slotCalls (placesOf s) (w .remember) (w .tables) r (n .0) ≡ g = ap (λ (z : ℕ). join s r (ownerIn s w (pageOf z))) cell ∙ ap (join s r) (sym hy) ∙ e in
-        in-right x (named (varHeld (placesOf s) (w .tables) t outer g) (s .threads * s .variables))
-        (named (slotHeld (placesOf s) (w .cells) (w .remember) (w .tables) r g) (usedIn (w .remember)))
-        (named-in (slotHeld (placesOf s) (w .cells) (w .remember) (w .tables) r g) (usedIn (w .remember)) (n .0) x (n .1)
-        (sym (slot-some (placesOf s) (w .cells) (w .remember) (w .tables) r g (n .0) (n .3) call) ∙ ap (λ (z : ℕ). getD (w .cells) z 0) (n .2) ∙ i .2 ∙ sym (one-add x)))
+        let call : slotCalls s (w .remember) (w .tables) r (n .0) ≡ g = ap (λ (z : ℕ). join s r (ownerIn s w (pageOf z))) cell ∙ ap (join s r) (sym hy) ∙ e in
+        in-right x (named (varHeld s (w .tables) t outer g) (s .threads * s .variables))
+        (named (slotHeld s (w .cells) (w .remember) (w .tables) r g) (usedIn (w .remember)))
+        (named-in (slotHeld s (w .cells) (w .remember) (w .tables) r g) (usedIn (w .remember)) (n .0) x (n .1)
+        (sym (slot-some s (w .cells) (w .remember) (w .tables) r g (n .0) (n .3) call) ∙ ap (λ (z : ℕ). getD (w .cells) z 0) (n .2) ∙ i .2 ∙ sym (one-add x)))
 
     -- what a slot outside r calls for is the region of a level below
     slot-level : (y : ℕ) → Used s w y → (homeIn s w y ≡ r → ⊥) → (l : ℕ) × (l < suc j) × (join s r (homeIn s w y) ≡ regionAt s t l)
@@ -274,8 +274,8 @@ module _ (s : Sizes) (w : Words) (k : WholeFor s w) where
     pub holds-held : (x q : ℕ) → homeIn s w x ≡ r → Holds s (graphOf s w) r x q → (l : ℕ) × (l < suc j) × (q ≡ regionAt s t l) × In x (held (regionAt s t l))
     unfolding regionAt
     holds-held x q h (byOwn i at d e) =
-        (j, omega arith, e ∙ parent-at s t j deep, var-held x j i at (calls-own (placesOf s) t outer i (d ∙ thread-at s t j deep)))
+        (j, omega arith, e ∙ parent-at s t j deep, var-held x j i at (calls-own s t outer i (d ∙ thread-at s t j deep)))
     holds-held x q h (byOther i at d e) =
-        (0, omega arith, e, var-held x 0 i at (calls-other (placesOf s) t outer i (λ z. d (z ∙ sym (thread-at s t j deep)))))
+        (0, omega arith, e, var-held x 0 i at (calls-other s t outer i (λ z. d (z ∙ sym (thread-at s t j deep)))))
     holds-held x q h (bySlot y f o e) =
         let l = slot-level y (alive-used s w k y (f .there)) o in (l .0, l .1, e ∙ l .2, slot-held x (l .0) y h f o (l .2))

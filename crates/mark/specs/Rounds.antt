@@ -3,8 +3,8 @@ use mathlib.Core.Path.{_≡_, sym, subst}
 use mathlib.Core.List.{List, _++_}
 use Prim.Native.Nat.{ℕ, _+_, _*_}
 use Rattle.rules.specs.Regions.{regionAt}
-use Rattle.layout.specs.declared.Places.{Places}
-use Rattle.layout.specs.Places.{sizesOf, usedIn}
+use Rattle.rules.specs.declared.Sizes.{Sizes}
+use Rattle.layout.specs.Places.{usedIn}
 use Rattle.promises.specs.Whole.{IsRef}
 use Rattle.mark.specs.Marks.{Kept, Shaped, named, named-same, kept-shaped}
 use Rattle.mark.specs.Pushes.{Pushing, pushes-kept}
@@ -14,7 +14,7 @@ use Rattle.mark.specs.Holders.{varHeld, slotHeld, heldCells, Holding, sl
 
 -- the holders that call for g are pushed on an empty stack
 
-level-pending : {p : Places} {r g : ℕ} (thread outer : ℕ) {W m T W₁ T₁ W₂ T₂ : List ℕ} {top top′ : ℕ} → Shaped p W T → Holding p W m T
+level-pending : {p : Sizes} {r g : ℕ} (thread outer : ℕ) {W m T W₁ T₁ W₂ T₂ : List ℕ} {top top′ : ℕ} → Shaped p W T → Holding p W m T
     → Pushing p r (varHeld p T thread outer g) (p .threads * p .variables) W T 0 W₁ T₁ top (p .threads * p .variables)
     → Pushing p r (slotHeld p W₁ m T₁ r g) (usedIn m) W₁ T₁ top W₂ T₂ top′ (usedIn m)
     → Pending p r g W T (heldCells p W m T r thread outer g) W₂ T₂ top′
@@ -28,12 +28,12 @@ level-pending {p} {r} {g} thread outer {W} {m} {T} {W₁} {T₁} {W₂} {T₂} {
     (λ i l. subst (IsRef p T) (sym (kept-slot-held k (s .room) h r g i l)) (slot-held-ref h r g i l)) a b)
 
 -- the cells that holders of each level of the thread hold
-abbrev pub levelCells : Places → List ℕ → List ℕ → List ℕ → ℕ → ℕ → ℕ → ℕ → List ℕ
-levelCells p W m T r thread outer l = heldCells p W m T r thread outer (regionAt (sizesOf p) thread l)
+abbrev pub levelCells : Sizes → List ℕ → List ℕ → List ℕ → ℕ → ℕ → ℕ → ℕ → List ℕ
+levelCells p W m T r thread outer l = heldCells p W m T r thread outer (regionAt p thread l)
 
 -- levels below n are marked; g is the region of level n, as the code has it
-module _ {p : Places} {r n : ℕ} {W₀ m T₀ W T : List ℕ} (s₀ : Shaped p W₀ T₀) (h₀ : Holding p W₀ m T₀) (thread outer : ℕ)
-    (L : Levels p r n (regionAt (sizesOf p) thread) (levelCells p W₀ m T₀ r thread outer) W₀ T₀ W T) where
+module _ {p : Sizes} {r n : ℕ} {W₀ m T₀ W T : List ℕ} (s₀ : Shaped p W₀ T₀) (h₀ : Holding p W₀ m T₀) (thread outer : ℕ)
+    (L : Levels p r n (regionAt p thread) (levelCells p W₀ m T₀ r thread outer) W₀ T₀ W T) where
   pub round-holding : Holding p W m T
   round-holding = holding-kept (L .kept) (s₀ .room) h₀
 
@@ -42,7 +42,7 @@ module _ {p : Places} {r n : ℕ} {W₀ m T₀ W T : List ℕ} (s₀ : Shaped p 
   round-slots {ref} {k} a =
       let e = pushes-kept ref k (L .shaped) (a .pushes) in (kept-shaped e (L .shaped), holding-kept e (L .shaped .room) round-holding)
 
-  module _ (g : ℕ) (e : g ≡ regionAt (sizesOf p) thread n) where
+  module _ (g : ℕ) (e : g ≡ regionAt p thread n) where
     pub round-pending : {W₁ T₁ W₂ T₂ : List ℕ} {top top′ : ℕ}
         → Pushing p r (varHeld p T thread outer g) (p .threads * p .variables) W T 0 W₁ T₁ top (p .threads * p .variables)
         → Pushing p r (slotHeld p W₁ m T₁ r g) (usedIn m) W₁ T₁ top W₂ T₂ top′ (usedIn m)
@@ -52,7 +52,7 @@ module _ {p : Places} {r n : ℕ} {W₀ m T₀ W T : List ℕ} (s₀ : Shaped p 
         (level-pending thread outer (L .shaped) round-holding a b)
 
     pub round-levels : {W′ T′ : List ℕ} {k : ℕ} → Drained p r g W T (heldCells p W₀ m T₀ r thread outer g) W′ T′ k
-        → Levels p r (n + 1) (regionAt (sizesOf p) thread) (levelCells p W₀ m T₀ r thread outer) W₀ T₀ W′ T′
+        → Levels p r (n + 1) (regionAt p thread) (levelCells p W₀ m T₀ r thread outer) W₀ T₀ W′ T′
     round-levels {W′} {T′} {k} d =
-        levels-next s₀ (λ l x i. held-used h₀ r thread outer (regionAt (sizesOf p) thread l) x i) L
+        levels-next s₀ (λ l x i. held-used h₀ r thread outer (regionAt p thread l) x i) L
         (subst (λ (z : ℕ). Drained p r z W T (heldCells p W₀ m T₀ r thread outer z) W′ T′ k) e d)

@@ -16,8 +16,7 @@ use Rattle.rules.specs.Graph.{target}
 use Rattle.laws.specs.RegionLaws.{region-high}
 use Rattle.laws.specs.JoinLaws.{further-out}
 use Rattle.laws.specs.GraphLaws.{Reaches, target-absorbs, target-reached, target-called, target-furthest}
-use Rattle.layout.specs.declared.Places.{Places}
-use Rattle.layout.specs.Places.{placesOf, sizesOf, depthOf, markAt, markOf, Room, room}
+use Rattle.layout.specs.Places.{depthOf, markAt, markOf, Room, room, marksFrom}
 use Rattle.layout.specs.Cells.{workAt, workOf, pageOf, placeOf}
 use Rattle.layout.specs.Marks.{marked}
 use Rattle.promises.specs.Words.{Words, words, Used, ownerIn, depthIn, graphOf}
@@ -34,34 +33,34 @@ pub record Marked (s : Sizes) (w : Words) (r : ℕ) (w′ : Words) : Type 0 wher
   -- word 1 of an object of r is the region that it goes to, 0 if it is freed
   pub goes : (c : ℕ) → Used s w c → ownerIn s w (pageOf c) ≡ r → workOf (w′ .cells) c ≡ target s (graphOf s w) r c
   -- its bit is set exactly if it survives
-  pub survives : (c : ℕ) → Used s w c → ownerIn s w (pageOf c) ≡ r → 0 < target s (graphOf s w) r c → marked (placesOf s) (w′ .tables) c ≡ 1
-  pub freed : (c : ℕ) → Used s w c → ownerIn s w (pageOf c) ≡ r → target s (graphOf s w) r c ≡ 0 → marked (placesOf s) (w′ .tables) c ≡ 0
+  pub survives : (c : ℕ) → Used s w c → ownerIn s w (pageOf c) ≡ r → 0 < target s (graphOf s w) r c → marked s (w′ .tables) c ≡ 1
+  pub freed : (c : ℕ) → Used s w c → ownerIn s w (pageOf c) ≡ r → target s (graphOf s w) r c ≡ 0 → marked s (w′ .tables) c ≡ 0
   -- no other bit is set
-  pub only : (c : ℕ) → pageOf c < s .pages → marked (placesOf s) (w′ .tables) c ≡ 1 → Used s w c × (ownerIn s w (pageOf c) ≡ r)
-  pub small : (page : ℕ) → page < s .pages → markOf (placesOf s) (w′ .tables) page < 2 ^ 16
+  pub only : (c : ℕ) → pageOf c < s .pages → marked s (w′ .tables) c ≡ 1 → Used s w c × (ownerIn s w (pageOf c) ≡ r)
+  pub small : (page : ℕ) → page < s .pages → markOf s (w′ .tables) page < 2 ^ 16
   -- every other word is as it was
   pub cells : (q : ℕ) → ((c : ℕ) → q ≡ workAt c → Used s w c → ownerIn s w (pageOf c) ≡ r → ⊥) → getD (w′ .cells) q 0 ≡ getD (w .cells) q 0
-  pub tables : (q : ℕ) → ((page : ℕ) → page < s .pages → q ≡ markAt (placesOf s) page → ⊥) → getD (w′ .tables) q 0 ≡ getD (w .tables) q 0
+  pub tables : (q : ℕ) → ((page : ℕ) → page < s .pages → q ≡ markAt s page → ⊥) → getD (w′ .tables) q 0 ≡ getD (w .tables) q 0
   pub remember : w′ .remember ≡ w .remember
   pub cells-length : length (w′ .cells) ≡ length (w .cells)
   pub tables-length : length (w′ .tables) ≡ length (w .tables)
 
 -- ---- from the levels
 
-module _ (s : Sizes) (w : Words) (k : WholeFor s w) (space : Room (placesOf s) (length (w .tables))) (t j : ℕ) (th : t < s .threads) (dk : depthIn w t ≡ suc j)
+module _ (s : Sizes) (w : Words) (k : WholeFor s w) (space : Room s (length (w .tables))) (t j : ℕ) (th : t < s .threads) (dk : depthIn w t ≡ suc j)
     {W′ T′ : List ℕ}
-    (L : Levels (placesOf s) (regionAt s t (suc j)) (suc j) (regionAt s t)
-    (levelCells (placesOf s) (w .cells) (w .remember) (w .tables) (regionAt s t (suc j)) t (regionAt s t j)) (w .cells) (w .tables) W′ T′) where
+    (L : Levels s (regionAt s t (suc j)) (suc j) (regionAt s t)
+    (levelCells s (w .cells) (w .remember) (w .tables) (regionAt s t (suc j)) t (regionAt s t j)) (w .cells) (w .tables) W′ T′) where
   abbrev r : ℕ
   r = regionAt s t (suc j)
 
   abbrev calls : ℕ → List ℕ
-  calls = levelCells (placesOf s) (w .cells) (w .remember) (w .tables) r t (regionAt s t j)
+  calls = levelCells s (w .cells) (w .remember) (w .tables) r t (regionAt s t j)
 
   pos : 0 < r
   pos = omega (arith, region-high s t j)
 
-  held-reaches : (l c : ℕ) → Held (placesOf s) r (w .cells) (w .tables) calls l c → Reaches s (graphOf s w) r (regionAt s t l) c
+  held-reaches : (l c : ℕ) → Held s r (w .cells) (w .tables) calls l c → Reaches s (graphOf s w) r (regionAt s t l) c
   held-reaches l c h =
       let u = held-used (whole-holding s w k) r t (regionAt s t j) (regionAt s t l) (h .first) (h .called) in
       let lies = cell-home s w k (h .first) r u (leads-from (h .leads)) in
@@ -72,13 +71,13 @@ module _ (s : Sizes) (w : Words) (k : WholeFor s w) (space : Room (placesOf s) (
         leads = chain-rules s w k r pos (h .first) c u (h .leads) .0;
       }
 
-  reaches-held : (q c : ℕ) → Reaches s (graphOf s w) r q c → (l : ℕ) × (l < suc j) × (q ≡ regionAt s t l) × Held (placesOf s) r (w .cells) (w .tables) calls l c
+  reaches-held : (q c : ℕ) → Reaches s (graphOf s w) r q c → (l : ℕ) × (l < suc j) × (q ≡ regionAt s t l) × Held s r (w .cells) (w .tables) calls l c
   reaches-held q c h =
       let x = holds-held s w k t j th dk (h .first) q (h .lies) (h .held) in
       (x .0, x .1, x .2, record { first = h .first; called = x .3; leads = rules-chain s w k r pos (h .first) c (h .lies) (h .leads) })
 
   -- the first level of a holder that leads to c is the outermost region called for
-  first-target : (c l : ℕ) → First (placesOf s) r (w .cells) (w .tables) calls (suc j) c l → target s (graphOf s w) r c ≡ regionAt s t l
+  first-target : (c l : ℕ) → First s r (w .cells) (w .tables) calls (suc j) c l → target s (graphOf s w) r c ≡ regionAt s t l
   first-target c l f =
       let a = held-reaches l c (f .reached) in
       let h = reaches-held (target s (graphOf s w) r c) c (target-called s (graphOf s w) r c (target-absorbs s (graphOf s w) r c (regionAt s t l) a .some)) in
@@ -90,7 +89,7 @@ module _ (s : Sizes) (w : Words) (k : WholeFor s w) (space : Room (placesOf s) (
       go i b e n out (no d) =
           absurd (out (subst (FurtherOut s (regionAt s t l)) (sym e) (further-out s t l i (omega (arith, n)) (omega (arith, dk, k .placed .depths t th)))))
 
-  lost-target : (c : ℕ) → ((l : ℕ) → l < suc j → Held (placesOf s) r (w .cells) (w .tables) calls l c → ⊥) → target s (graphOf s w) r c ≡ 0
+  lost-target : (c : ℕ) → ((l : ℕ) → l < suc j → Held s r (w .cells) (w .tables) calls l c → ⊥) → target s (graphOf s w) r c ≡ 0
   lost-target c n = go (decLt 0 (target s (graphOf s w) r c))
     where
       go : Dec (0 < target s (graphOf s w) r c) → target s (graphOf s w) r c ≡ 0
@@ -98,10 +97,10 @@ module _ (s : Sizes) (w : Words) (k : WholeFor s w) (space : Room (placesOf s) (
       go (no l) = omega arith
 
   -- a bit that is not 1 is 0
-  off : (c : ℕ) → (marked (placesOf s) T′ c ≡ 1 → ⊥) → marked (placesOf s) T′ c ≡ 0
-  off c n = omega (arith, bit-lt (placeOf c) (markOf (placesOf s) T′ (pageOf c)))
+  off : (c : ℕ) → (marked s T′ c ≡ 1 → ⊥) → marked s T′ c ≡ 0
+  off c n = omega (arith, bit-lt (placeOf c) (markOf s T′ (pageOf c)))
 
-  found-owned : (c : ℕ) → pageOf c < s .pages → marked (placesOf s) T′ c ≡ 1 → Used s w c × (ownerIn s w (pageOf c) ≡ r)
+  found-owned : (c : ℕ) → pageOf c < s .pages → marked s T′ c ≡ 1 → Used s w c × (ownerIn s w (pageOf c) ≡ r)
   found-owned c b on =
       let h = L .found c b on .1 .reached in
       let u = held-used (whole-holding s w k) r t (regionAt s t j) (regionAt s t (L .found c b on .0)) (h .first) (h .called) in
@@ -110,27 +109,27 @@ module _ (s : Sizes) (w : Words) (k : WholeFor s w) (space : Room (placesOf s) (
   pub levels-marked : Marked s w r (words W′ (w .remember) T′)
   levels-marked =
       record {
-        goes = λ c u own. goes c u (ℕ-discrete (marked (placesOf s) T′ c) 1);
-        survives = λ c u own l. on c u l (ℕ-discrete (marked (placesOf s) T′ c) 1);
+        goes = λ c u own. goes c u (ℕ-discrete (marked s T′ c) 1);
+        survives = λ c u own l. on c u l (ℕ-discrete (marked s T′ c) 1);
         freed = λ c u own z. off c (λ b. let f = L .found c (u .page) b in omega (arith, first-target c (f .0) (f .1), target-absorbs s (graphOf s w) r c (regionAt s t (f .0)) (held-reaches (f .0) c (f .1 .reached)) .some));
         only = found-owned;
-        small = λ page l. high-none 16 (markOf (placesOf s) T′ page) (λ i h. L .kept .high (markAt (placesOf s) page) i h ∙ ap (λ (x : ℕ). bitAt x i) (k .placed .marks page l) ∙ bit-zero i);
+        small = λ page l. high-none 16 (markOf s T′ page) (λ i h. L .kept .high (markAt s page) i h ∙ ap (λ (x : ℕ). bitAt x i) (k .placed .marks page l) ∙ bit-zero i);
         cells = λ q n. word q n (ℕ-discrete (q % 16) 1);
-        tables = λ q n. table q n (decLt q (placesOf s .marks)) (decLt q (placesOf s .marks + s .pages));
+        tables = λ q n. table q n (decLt q (marksFrom s)) (decLt q (marksFrom s + s .pages));
         remember = refl;
         cells-length = L .kept .cells-length;
         tables-length = L .kept .tables-length;
       }
     where
-      goes : (c : ℕ) → Used s w c → Dec (marked (placesOf s) T′ c ≡ 1) → workOf W′ c ≡ target s (graphOf s w) r c
+      goes : (c : ℕ) → Used s w c → Dec (marked s T′ c ≡ 1) → workOf W′ c ≡ target s (graphOf s w) r c
       goes c u (yes b) = let f = L .found c (u .page) b in f .2 ∙ sym (first-target c (f .0) (f .1))
       goes c u (no n) = let f = L .lost c (u .page) (off c n) in f .0 ∙ k .placed .working c u ∙ sym (lost-target c (f .1))
 
-      on : (c : ℕ) → Used s w c → 0 < target s (graphOf s w) r c → Dec (marked (placesOf s) T′ c ≡ 1) → marked (placesOf s) T′ c ≡ 1
+      on : (c : ℕ) → Used s w c → 0 < target s (graphOf s w) r c → Dec (marked s T′ c ≡ 1) → marked s T′ c ≡ 1
       on c u l (yes b) = b
       on c u l (no n) = absurd (let z : ⊥ = omega (arith, lost-target c (L .lost c (u .page) (off c n) .1)) in z)
 
-      work : (c : ℕ) → (Used s w c → ownerIn s w (pageOf c) ≡ r → ⊥) → Dec (pageOf c < s .pages) → Dec (marked (placesOf s) T′ c ≡ 1) → workOf W′ c ≡ workOf (w .cells) c
+      work : (c : ℕ) → (Used s w c → ownerIn s w (pageOf c) ≡ r → ⊥) → Dec (pageOf c < s .pages) → Dec (marked s T′ c ≡ 1) → workOf W′ c ≡ workOf (w .cells) c
       work c n (no b) d = L .beyond c (omega arith)
       work c n (yes b) (yes d) = let f = found-owned c b d in absurd (n (f .0) (f .1))
       work c n (yes b) (no d) = L .lost c b (off c d) .0
@@ -140,75 +139,66 @@ module _ (s : Sizes) (w : Words) (k : WholeFor s w) (space : Room (placesOf s) (
       word q n (yes d) =
           let e : workAt (q / 16) ≡ q = omega arith in
           subst (λ (z : ℕ). getD W′ z 0 ≡ getD (w .cells) z 0) e
-          (work (q / 16) (n (q / 16) (sym e)) (decLt (pageOf (q / 16)) (s .pages)) (ℕ-discrete (marked (placesOf s) T′ (q / 16)) 1))
+          (work (q / 16) (n (q / 16) (sym e)) (decLt (pageOf (q / 16)) (s .pages)) (ℕ-discrete (marked s T′ (q / 16)) 1))
 
-      table : (q : ℕ) → ((page : ℕ) → page < s .pages → q ≡ markAt (placesOf s) page → ⊥) → Dec (q < placesOf s .marks) → Dec (q < placesOf s .marks + s .pages) → getD T′ q 0 ≡ getD (w .tables) q 0
+      table : (q : ℕ) → ((page : ℕ) → page < s .pages → q ≡ markAt s page → ⊥) → Dec (q < marksFrom s) → Dec (q < marksFrom s + s .pages) → getD T′ q 0 ≡ getD (w .tables) q 0
       table q n (yes l) d = L .kept .tables q (inl l)
-      table q n (no l) (yes h) = absurd (n (q - placesOf s .marks) (omega arith) (omega arith))
+      table q n (no l) (yes h) = absurd (n (q - marksFrom s) (omega arith) (omega arith))
       table q n (no l) (no h) = L .kept .tables q (inr (omega arith))
 
--- ---- as the code calls it: the places are those of their sizes
+-- ---- as the code calls it
 
-module _ (p : Places) (e : p ≡ placesOf (sizesOf p)) (w : Words) (k : WholeFor (sizesOf p) w) (fits : length (w .tables) < 2 ^ 63) where
+module _ (p : Sizes) (w : Words) (k : WholeFor p w) (fits : length (w .tables) < 2 ^ 63) where
   pub space-of : Room p (length (w .tables))
-  space-of =
-      subst (λ (q : Places). Room q (length (w .tables))) (sym e)
-      (room (sizesOf p) (length (w .tables)) (range (sizesOf p) w k) (tables-room (sizesOf p) w k) fits)
+  space-of = room p (length (w .tables)) (range p w k) (tables-room p w k) fits
 
   pub shaped-at : Shaped p (w .cells) (w .tables)
-  shaped-at = subst (λ (q : Places). Shaped q (w .cells) (w .tables)) (sym e) (whole-shaped (sizesOf p) w k (subst (λ (q : Places). Room q (length (w .tables))) e space-of))
+  shaped-at = whole-shaped p w k space-of
 
   pub holding-at : Holding p (w .cells) (w .remember) (w .tables)
-  holding-at = subst (λ (q : Places). Holding q (w .cells) (w .remember) (w .tables)) (sym e) (whole-holding (sizesOf p) w k)
+  holding-at = whole-holding p w k
 
   pub clean-at : (c : ℕ) → pageOf c < p .pages → marked p (w .tables) c ≡ 0
-  clean-at c b =
-      ap (λ (q : Places). marked q (w .tables) c) e ∙ ap (λ (x : ℕ). bitAt x (placeOf c)) (k .placed .marks (pageOf c) b) ∙ bit-zero (placeOf c)
+  clean-at c b = ap (λ (x : ℕ). bitAt x (placeOf c)) (k .placed .marks (pageOf c) b) ∙ bit-zero (placeOf c)
 
   -- r and outer are the regions of the depth d and of the level around it, as the code has them
-  pub marked-at : (t d r outer : ℕ) → t < p .threads → 0 < d → d ≡ depthOf (w .tables) t → r ≡ regionAt (sizesOf p) t d → outer ≡ regionAt (sizesOf p) t (d - 1) → {W′ T′ : List ℕ}
-      → Levels p r d (regionAt (sizesOf p) t) (levelCells p (w .cells) (w .remember) (w .tables) r t outer) (w .cells) (w .tables) W′ T′
-      → Marked (sizesOf p) w (regionAt (sizesOf p) t (depthOf (w .tables) t)) (words W′ (w .remember) T′)
+  pub marked-at : (t d r outer : ℕ) → t < p .threads → 0 < d → d ≡ depthOf (w .tables) t → r ≡ regionAt p t d → outer ≡ regionAt p t (d - 1) → {W′ T′ : List ℕ}
+      → Levels p r d (regionAt p t) (levelCells p (w .cells) (w .remember) (w .tables) r t outer) (w .cells) (w .tables) W′ T′
+      → Marked p w (regionAt p t (depthOf (w .tables) t)) (words W′ (w .remember) T′)
   marked-at t zero r outer th l dk er eo L = absurd (let z : ⊥ = omega arith in z)
   marked-at t (suc j) r outer th l dk er eo {W′} {T′} L =
       let j′ : suc j - 1 ≡ j = omega arith in
-      let eo′ : outer ≡ regionAt (sizesOf p) t j = eo ∙ ap (regionAt (sizesOf p) t) j′ in
-      subst (λ (n : ℕ). Marked (sizesOf p) w (regionAt (sizesOf p) t n) (words W′ (w .remember) T′)) dk
-      (levels-marked (sizesOf p) w k (subst (λ (q : Places). Room q (length (w .tables))) e space-of) t j th (sym dk)
-      (subst
-      (λ (q : Places).
-      Levels q (regionAt (sizesOf p) t (suc j)) (suc j) (regionAt (sizesOf q) t)
-      (levelCells q (w .cells) (w .remember) (w .tables) (regionAt (sizesOf p) t (suc j)) t (regionAt (sizesOf p) t j)) (w .cells) (w .tables) W′ T′)
-      e
-      (subst₂ (λ (a b : ℕ). Levels p a (suc j) (regionAt (sizesOf p) t) (levelCells p (w .cells) (w .remember) (w .tables) a t b) (w .cells) (w .tables) W′ T′) er eo′ L)))
+      let eo′ : outer ≡ regionAt p t j = eo ∙ ap (regionAt p t) j′ in
+      subst (λ (n : ℕ). Marked p w (regionAt p t n) (words W′ (w .remember) T′)) dk
+      (levels-marked p w k space-of t j th (sym dk)
+      (subst₂ (λ (a b : ℕ). Levels p a (suc j) (regionAt p t) (levelCells p (w .cells) (w .remember) (w .tables) a t b) (w .cells) (w .tables) W′ T′) er eo′ L))
 
 -- where nothing survives, every mark word is 0
-pub none-survives : (p : Places) → p ≡ placesOf (sizesOf p) → (w : Words) (r : ℕ) (w′ : Words) → Marked (sizesOf p) w r w′ → (b : Bool) → Says b (AnyMarked p (w′ .tables)) → b ≡ false
+pub none-survives : (p : Sizes) (w : Words) (r : ℕ) (w′ : Words) → Marked p w r w′ → (b : Bool) → Says b (AnyMarked p (w′ .tables)) → b ≡ false
     → (page : ℕ) → page < p .pages → markOf p (w′ .tables) page ≡ 0
-none-survives p e w r w′ m b says z =
-    none-marked p (w′ .tables) (subst (λ (q : Places). (page : ℕ) → page < p .pages → markOf q (w′ .tables) page < 2 ^ 16) (sym e) (m .small)) (said-no b says z)
+none-survives p w r w′ m b says z = none-marked p (w′ .tables) (m .small) (said-no b says z)
 
 -- ---- what marking keeps
 
-pub marked-kept : (s : Sizes) (w : Words) (k : WholeFor s w) (r : ℕ) (w′ : Words) → Marked s w r w′ → Kept (placesOf s) (w .cells) (w .tables) (w′ .cells) (w′ .tables)
+pub marked-kept : (s : Sizes) (w : Words) (k : WholeFor s w) (r : ℕ) (w′ : Words) → Marked s w r w′ → Kept s (w .cells) (w .tables) (w′ .cells) (w′ .tables)
 marked-kept s w k r w′ m =
     record {
       cells-length = m .cells-length;
       tables-length = m .tables-length;
       words = λ q n. m .cells q (λ c e u own. n (omega arith));
       tables = λ q h. m .tables q (λ page l e. ⊎-elim {C = ⊥} (λ a. omega arith) (λ a. omega arith) h);
-      high = λ q i l. high q i l (decLt q (placesOf s .marks)) (decLt q (placesOf s .marks + s .pages));
+      high = λ q i l. high q i l (decLt q (marksFrom s)) (decLt q (marksFrom s + s .pages));
     }
   where
-    away : (q i : ℕ) → ((page : ℕ) → page < s .pages → q ≡ markAt (placesOf s) page → ⊥) → bitAt (getD (w′ .tables) q 0) i ≡ bitAt (getD (w .tables) q 0) i
+    away : (q i : ℕ) → ((page : ℕ) → page < s .pages → q ≡ markAt s page → ⊥) → bitAt (getD (w′ .tables) q 0) i ≡ bitAt (getD (w .tables) q 0) i
     away q i n = ap (λ (x : ℕ). bitAt x i) (m .tables q n)
 
-    high : (q i : ℕ) → 16 ≤ i → Dec (q < placesOf s .marks) → Dec (q < placesOf s .marks + s .pages) → bitAt (getD (w′ .tables) q 0) i ≡ bitAt (getD (w .tables) q 0) i
+    high : (q i : ℕ) → 16 ≤ i → Dec (q < marksFrom s) → Dec (q < marksFrom s + s .pages) → bitAt (getD (w′ .tables) q 0) i ≡ bitAt (getD (w .tables) q 0) i
     high q i l (yes a) b = away q i (λ page h e. omega arith)
     high q i l (no a) (no b) = away q i (λ page h e. omega arith)
     high q i l (no a) (yes b) =
-        let page : ℕ = q - placesOf s .marks in
-        let e : placesOf s .marks + page ≡ q = omega arith in
+        let page : ℕ = q - marksFrom s in
+        let e : marksFrom s + page ≡ q = omega arith in
         subst (λ (z : ℕ). bitAt (getD (w′ .tables) z 0) i ≡ bitAt (getD (w .tables) z 0) i) e
-        (none-high 16 (markOf (placesOf s) (w′ .tables) page) i (m .small page (omega arith)) l
+        (none-high 16 (markOf s (w′ .tables) page) i (m .small page (omega arith)) l
         ∙ sym (ap (λ (x : ℕ). bitAt x i) (k .placed .marks page (omega arith)) ∙ bit-zero i))

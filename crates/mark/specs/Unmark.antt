@@ -12,8 +12,7 @@ use Rattle.lists.specs.Part.{Off, Skips}
 use Rattle.lists.specs.Bits.{bitAt, bit-lt, bit-zero, clear-same, clear-other, Lowest}
 use Rattle.lists.specs.SetBits.{Walked, walk-turn, walk-end}
 use Rattle.rules.specs.declared.Sizes.{Sizes}
-use Rattle.layout.specs.declared.Places.{Places}
-use Rattle.layout.specs.Places.{placesOf, markAt, markOf}
+use Rattle.layout.specs.Places.{markAt, markOf, marksFrom}
 use Rattle.layout.specs.Cells.{workAt, workOf, pageOf, placeOf, cellOn}
 use Rattle.layout.specs.Marks.{marked}
 use Rattle.rules.specs.Graph.{target}
@@ -84,7 +83,7 @@ page-end {page} {w} {left} {k} {W} {W′} u l h = subst (λ (z : ℕ). PageClear
 
 -- ---- the pages below n
 
-pub record Unmarked (p : Places) (n : ℕ) (W T W′ T′ : List ℕ) : Type 0 where
+pub record Unmarked (p : Sizes) (n : ℕ) (W T W′ T′ : List ℕ) : Type 0 where
   pub cells-length : length W′ ≡ length W
   pub tables-length : length T′ ≡ length T
   pub words : (x : ℕ) → x % 16 ≢ 1 → getD W′ x 0 ≡ getD W x 0
@@ -93,7 +92,7 @@ pub record Unmarked (p : Places) (n : ℕ) (W T W′ T′ : List ℕ) : Type 0 w
   pub cleared : (c : ℕ) → pageOf c < n → marked p T c ≡ 1 → workOf W′ c ≡ 0
   pub same : (c : ℕ) → (pageOf c < n → marked p T c ≡ 0) → workOf W′ c ≡ workOf W c
 
-pub unmark-start : (p : Places) (W T : List ℕ) → Unmarked p 0 W T W T
+pub unmark-start : (p : Sizes) (W T : List ℕ) → Unmarked p 0 W T W T
 unmark-start p W T =
     record {
       cells-length = refl;
@@ -106,10 +105,10 @@ unmark-start p W T =
     }
 
 -- the mark word that the code reads is still the old one
-unmark-word : {p : Places} {n : ℕ} {W T W′ T′ : List ℕ} → Unmarked p n W T W′ T′ → markOf p T′ n ≡ markOf p T n
+unmark-word : {p : Sizes} {n : ℕ} {W T W′ T′ : List ℕ} → Unmarked p n W T W′ T′ → markOf p T′ n ≡ markOf p T n
 unmark-word {p} {n} h = h .tables (markAt p n) (λ page l e. omega arith)
 
-unmark-next : {p : Places} {n w : ℕ} {W T W′ T′ W″ : List ℕ} → p .marks + p .pages ≤ length T → n < p .pages → w ≡ markOf p T′ n → Unmarked p n W T W′ T′
+unmark-next : {p : Sizes} {n w : ℕ} {W T W′ T′ W″ : List ℕ} → marksFrom p + p .pages ≤ length T → n < p .pages → w ≡ markOf p T′ n → Unmarked p n W T W′ T′
     → PageCleared n w 0 W′ W″ → Unmarked p (n + 1) W T W″ (set T′ (markAt p n) 0)
 unmark-next {p} {n} {w} {W} {T} {W′} {T′} {W″} long lt ew h c =
     record {
@@ -140,12 +139,12 @@ unmark-next {p} {n} {w} {W} {T} {W′} {T′} {W″} long lt ew h c =
     stays d k (no e) = c .same d (λ a b z. e a) ∙ h .same d (λ l. k (omega arith))
 
 -- X is the tables after the store
-pub unmark-turn : {p : Places} {n w : ℕ} {W T W′ T′ W″ X : List ℕ} → p .marks + p .pages ≤ length T → n < p .pages → w ≡ markOf p T′ n → Unmarked p n W T W′ T′
+pub unmark-turn : {p : Sizes} {n w : ℕ} {W T W′ T′ W″ X : List ℕ} → marksFrom p + p .pages ≤ length T → n < p .pages → w ≡ markOf p T′ n → Unmarked p n W T W′ T′
     → PageCleared n w 0 W′ W″ → X ≡ set T′ (markAt p n) 0 → Unmarked p (n + 1) W T W″ X
 unmark-turn {p} {n} {W} {T} {W″ = W″} long lt ew h c e = subst (λ (Y : List ℕ). Unmarked p (n + 1) W T W″ Y) (sym e) (unmark-next long lt ew h c)
 
 -- a page without a mark asks for nothing
-unmark-skip : {p : Places} {n : ℕ} {W T W′ T′ : List ℕ} → markOf p T n ≡ 0 → Unmarked p n W T W′ T′ → Unmarked p (n + 1) W T W′ T′
+unmark-skip : {p : Sizes} {n : ℕ} {W T W′ T′ : List ℕ} → markOf p T n ≡ 0 → Unmarked p n W T W′ T′ → Unmarked p (n + 1) W T W′ T′
 unmark-skip {p} {n} {W} {T} {W′} {T′} z h =
     record {
       cells-length = h .cells-length;
@@ -167,12 +166,12 @@ unmark-skip {p} {n} {W} {T} {W′} {T′} z h =
         absurd (let y : ⊥ = omega arith in y)
     gone c on l (no e) = h .cleared c (omega arith) on
 
-pub unmark-skips : (p : Places) (n : ℕ) (l W T W′ T′ : List ℕ) → ((page : ℕ) → page < p .pages → Off l n page → markOf p T page ≡ 0)
+pub unmark-skips : (p : Sizes) (n : ℕ) (l W T W′ T′ : List ℕ) → ((page : ℕ) → page < p .pages → Off l n page → markOf p T page ≡ 0)
     → Skips (p .pages) n l (λ b. Unmarked p b W T W′ T′)
 unmark-skips p n l W T W′ T′ none q h off = unmark-skip (none q h off)
 
 -- the marks stay below 2 ^ 16; X is the tables after the store
-pub small-set : (p : Places) (page : ℕ) (T X : List ℕ) → markAt p page < length T → X ≡ set T (markAt p page) 0 → ((q : ℕ) → q < p .pages → markOf p T q < 2 ^ 16)
+pub small-set : (p : Sizes) (page : ℕ) (T X : List ℕ) → markAt p page < length T → X ≡ set T (markAt p page) 0 → ((q : ℕ) → q < p .pages → markOf p T q < 2 ^ 16)
     → (q : ℕ) → q < p .pages → markOf p X q < 2 ^ 16
 small-set p page T X long e small q l = subst (λ (Y : List ℕ). markOf p Y q < 2 ^ 16) (sym e) (go (ℕ-discrete q page))
   where
@@ -185,19 +184,19 @@ small-set p page T X long e small q l = subst (λ (Y : List ℕ). markOf p Y q <
 -- ---- a marking that is undone
 
 module _ (s : Sizes) (w : Words) (k : WholeFor s w) (r : ℕ) (w′ : Words) (M : Marked s w r w′) {W T : List ℕ}
-    (U : Unmarked (placesOf s) (s .pages) (w′ .cells) (w′ .tables) W T) where
+    (U : Unmarked s (s .pages) (w′ .cells) (w′ .tables) W T) where
   pub tables-back : T ≡ w .tables
   tables-back =
-      ext-getD 0 T (w .tables) (U .tables-length ∙ M .tables-length) (λ x l. go x (decLt x (placesOf s .marks)) (decLt x (placesOf s .marks + s .pages)))
+      ext-getD 0 T (w .tables) (U .tables-length ∙ M .tables-length) (λ x l. go x (decLt x (marksFrom s)) (decLt x (marksFrom s + s .pages)))
     where
-      away : (x : ℕ) → ((page : ℕ) → page < s .pages → x ≡ markAt (placesOf s) page → ⊥) → getD T x 0 ≡ getD (w .tables) x 0
+      away : (x : ℕ) → ((page : ℕ) → page < s .pages → x ≡ markAt s page → ⊥) → getD T x 0 ≡ getD (w .tables) x 0
       away x n = U .tables x n ∙ M .tables x n
 
-      go : (x : ℕ) → Dec (x < placesOf s .marks) → Dec (x < placesOf s .marks + s .pages) → getD T x 0 ≡ getD (w .tables) x 0
+      go : (x : ℕ) → Dec (x < marksFrom s) → Dec (x < marksFrom s + s .pages) → getD T x 0 ≡ getD (w .tables) x 0
       go x (yes a) b = away x (λ page l e. omega arith)
       go x (no a) (yes b) =
-          let q : ℕ = x - placesOf s .marks in
-          let e : placesOf s .marks + q ≡ x = omega arith in
+          let q : ℕ = x - marksFrom s in
+          let e : marksFrom s + q ≡ x = omega arith in
           subst (λ (y : ℕ). getD T y 0 ≡ getD (w .tables) y 0) e (U .marks q (omega arith) ∙ sym (k .placed .marks q (omega arith)))
       go x (no a) (no b) = away x (λ page l e. omega arith)
 
@@ -210,25 +209,25 @@ module _ (s : Sizes) (w : Words) (k : WholeFor s w) (r : ℕ) (w′ : Words) (M 
       go (yes a) (no b) = no (λ u. b (u .place))
 
   work-back : (c : ℕ) → workOf W c ≡ workOf (w .cells) c
-  work-back c = go (decLt (pageOf c) (s .pages)) (ℕ-discrete (marked (placesOf s) (w′ .tables) c) 1)
+  work-back c = go (decLt (pageOf c) (s .pages)) (ℕ-discrete (marked s (w′ .tables) c) 1)
     where
       -- an object of r that is not marked is freed, and has 0 in word 1 as before; any other cell is not touched
-      unmarked : Used s w c → ownerIn s w (pageOf c) ≡ r → (marked (placesOf s) (w′ .tables) c ≡ 1 → ⊥) → workOf (w′ .cells) c ≡ workOf (w .cells) c
+      unmarked : Used s w c → ownerIn s w (pageOf c) ≡ r → (marked s (w′ .tables) c ≡ 1 → ⊥) → workOf (w′ .cells) c ≡ workOf (w .cells) c
       unmarked u own n = M .goes c u own ∙ zero-target (decLt 0 (target s (graphOf s w) r c)) ∙ sym (k .placed .working c u)
         where
           zero-target : Dec (0 < target s (graphOf s w) r c) → target s (graphOf s w) r c ≡ 0
           zero-target (yes l) = absurd (n (M .survives c u own l))
           zero-target (no l) = omega arith
 
-      kept : (marked (placesOf s) (w′ .tables) c ≡ 1 → ⊥) → Dec (Used s w c) → Dec (ownerIn s w (pageOf c) ≡ r) → workOf (w′ .cells) c ≡ workOf (w .cells) c
+      kept : (marked s (w′ .tables) c ≡ 1 → ⊥) → Dec (Used s w c) → Dec (ownerIn s w (pageOf c) ≡ r) → workOf (w′ .cells) c ≡ workOf (w .cells) c
       kept n (yes u) (yes own) = unmarked u own n
       kept n (yes u) (no own) = M .cells (workAt c) (λ d e v o. own (subst (λ (z : ℕ). ownerIn s w (pageOf z) ≡ r) (let z : d ≡ c = omega arith in z) o))
       kept n (no u) d = M .cells (workAt c) (λ d e v o. u (subst (Used s w) (let z : d ≡ c = omega arith in z) v))
 
-      go : Dec (pageOf c < s .pages) → Dec (marked (placesOf s) (w′ .tables) c ≡ 1) → workOf W c ≡ workOf (w .cells) c
+      go : Dec (pageOf c < s .pages) → Dec (marked s (w′ .tables) c ≡ 1) → workOf W c ≡ workOf (w .cells) c
       go (yes b) (yes on) = U .cleared c b on ∙ sym (k .placed .working c (M .only c b on .0))
       go (yes b) (no n) =
-          let z : marked (placesOf s) (w′ .tables) c ≡ 0 = omega (arith, bit-lt (placeOf c) (markOf (placesOf s) (w′ .tables) (pageOf c))) in
+          let z : marked s (w′ .tables) c ≡ 0 = omega (arith, bit-lt (placeOf c) (markOf s (w′ .tables) (pageOf c))) in
           U .same c (λ l. z) ∙ kept n (used? c) (ℕ-discrete (ownerIn s w (pageOf c)) r)
       go (no b) d = U .same c (λ l. absurd (b l)) ∙ M .cells (workAt c) (λ d e v o. b (subst (λ (z : ℕ). pageOf z < s .pages) (let z : d ≡ c = omega arith in z) (v .page)))
 

@@ -9,10 +9,10 @@ ghost use Rattle.mark.specs.Marks.{Shaped};
 ghost use Rattle.mark.specs.Pushes.{Pushing};
 ghost use Rattle.mark.specs.Holders.{varCalls, varHeld, slotHeld, Holding};
 use crate::push::push;
-use layout::Places;
+use rules::Sizes;
 
 // The region that variable i calls for: outer if it is the ending thread's, else the control space.
-pub fn variable_calls(p: Places, thread: usize, outer: u32, i: usize) -> u32
+pub fn variable_calls(p: Sizes, thread: usize, outer: u32, i: usize) -> u32
     requires { ⌜ 1 ≤ p .variables ⌝ }
     ensures { λ q. ⌜ q ≡ varCalls p thread outer i ⌝ }
 {
@@ -23,7 +23,7 @@ pub fn variable_calls(p: Places, thread: usize, outer: u32, i: usize) -> u32
 }
 
 // What variable i holds if it calls for g, else null.
-pub fn variable_for(p: Places, tables: &[u32], thread: usize, outer: u32, g: u32, i: usize) -> u32
+pub fn variable_for(p: Sizes, tables: &[u32], thread: usize, outer: u32, g: u32, i: usize) -> u32
     requires { ⌜ Room p (length (now tables)) ⌝ }
     requires { ⌜ (1 ≤ p .variables) × (i < p .threads * p .variables) ⌝ }
     ensures { λ x. ⌜ x ≡ varHeld p (now (tables .entry)) thread outer g i ⌝ }
@@ -36,7 +36,7 @@ pub fn variable_for(p: Places, tables: &[u32], thread: usize, outer: u32, g: u32
 
 // What the slot of entry i holds if it points into r and calls for g, else null.
 pub fn slot_for(
-    p: Places,
+    p: Sizes,
     cells: &[u32],
     remember: &[u32],
     tables: &[u32],
@@ -67,7 +67,7 @@ pub fn slot_for(
 
 // Pushes what the variables hold that call for g.
 pub fn push_variables(
-    p: Places,
+    p: Sizes,
     cells: &mut [u32],
     tables: &mut [u32],
     r: u32,
@@ -93,7 +93,7 @@ pub fn push_variables(
 
 // Pushes what the remembered slots hold that point into r and call for g.
 pub fn push_slots(
-    p: Places,
+    p: Sizes,
     cells: &mut [u32],
     remember: &[u32],
     tables: &mut [u32],

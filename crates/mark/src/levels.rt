@@ -3,7 +3,6 @@ ghost use mathlib.Core.Path.{_≡_};
 ghost use Prim.Native.Nat.{ℕ, _<_, _≤_};
 ghost use Rattle.lists.specs.Says.{Says};
 ghost use Rattle.rules.specs.Regions.{regionAt};
-ghost use Rattle.layout.specs.Places.{sizesOf};
 ghost use Rattle.layout.specs.Cells.{pageOf};
 ghost use Rattle.layout.specs.Marks.{marked};
 ghost use Rattle.mark.specs.Marks.{Shaped, AnyMarked};
@@ -12,12 +11,12 @@ ghost use Rattle.mark.specs.Holders.{Holding, heldCells};
 use crate::drain::drain;
 use crate::holders::push_slots;
 use crate::holders::push_variables;
-use layout::Places;
+use rules::Sizes;
 
 // For each level of the thread below depth, the control space being level 0: what holders calling for its region hold is pushed, then
 // all that it leads to inside r is marked. Says whether any object is.
 pub fn mark_levels(
-    p: Places,
+    p: Sizes,
     cells: &mut [u32],
     remember: &[u32],
     tables: &mut [u32],
@@ -30,7 +29,7 @@ pub fn mark_levels(
     requires { ⌜ Holding p (now cells) (now remember) (now tables) ⌝ }
     requires { ⌜ ((c : ℕ) → pageOf c < p .pages → marked p (now tables) c ≡ 0) ⌝ }
     requires { ⌜ (thread < p .threads) × (depth ≤ p .depth) ⌝ }
-    ensures { λ _. ⌜ Levels p r depth (regionAt (sizesOf p) thread) (λ l. heldCells p (now (cells .entry)) (now (remember .entry)) (now (tables .entry)) r thread outer (regionAt (sizesOf p) thread l)) (now (cells .entry)) (now (tables .entry)) (now (cells .exit)) (now (tables .exit)) ⌝ }
+    ensures { λ _. ⌜ Levels p r depth (regionAt p thread) (λ l. heldCells p (now (cells .entry)) (now (remember .entry)) (now (tables .entry)) r thread outer (regionAt p thread l)) (now (cells .entry)) (now (tables .entry)) (now (cells .exit)) (now (tables .exit)) ⌝ }
     ensures { λ b. ⌜ Says b (AnyMarked p (now (tables .exit))) ⌝ }
 {
     let mut found = false;

@@ -5,10 +5,10 @@ ghost use Rattle.promises.specs.Whole.{IsRef};
 ghost use Rattle.mark.specs.Marks.{Shaped, Pushed};
 ghost use Rattle.mark.specs.Pushes.{Pushing};
 use layout::Kind;
-use layout::Places;
+use rules::Sizes;
 
 // If reference x names an object of r that is not marked, it is marked and goes on the stack, whose new top is returned.
-pub fn push(p: Places, cells: &mut [u32], tables: &mut [u32], r: u32, x: u32, top: u32) -> u32
+pub fn push(p: Sizes, cells: &mut [u32], tables: &mut [u32], r: u32, x: u32, top: u32) -> u32
     requires { ⌜ Shaped p (now cells) (now tables) ⌝ }
     requires { ⌜ IsRef p (now tables) x ⌝ }
     ensures { λ t. ⌜ Pushed p r (now (cells .entry)) (now (tables .entry)) top x (now (cells .exit)) (now (tables .exit)) t ⌝ }
@@ -32,7 +32,7 @@ pub fn push(p: Places, cells: &mut [u32], tables: &mut [u32], r: u32, x: u32, to
 }
 
 // Pushes what the slots of cell c name. They are read while the links of other cells are written.
-pub fn scan(p: Places, cells: &mut [u32], tables: &mut [u32], r: u32, c: usize, top: u32) -> u32
+pub fn scan(p: Sizes, cells: &mut [u32], tables: &mut [u32], r: u32, c: usize, top: u32) -> u32
     requires { ⌜ Shaped p (now cells) (now tables) ⌝ }
     requires { ⌜ InUse p (now tables) c ⌝ }
     ensures { λ t. ⌜ Pushing p r (fieldOf (now (cells .entry)) c) (refsOf (now (cells .entry)) c) (now (cells .entry)) (now (tables .entry)) top (now (cells .exit)) (now (tables .exit)) t (refsOf (now (cells .entry)) c) ⌝ }

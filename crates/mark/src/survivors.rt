@@ -3,26 +3,25 @@ ghost use mathlib.Core.Path.{_≡_};
 ghost use Prim.Native.Nat.{_<_, _≤_};
 ghost use Rattle.lists.specs.Says.{Says};
 ghost use Rattle.rules.specs.Regions.{regionAt};
-ghost use Rattle.layout.specs.Places.{placesOf, sizesOf, depthOf};
+ghost use Rattle.layout.specs.Places.{depthOf};
 ghost use Rattle.promises.specs.Words.{words};
 ghost use Rattle.promises.specs.Whole.{WholeFor};
 ghost use Rattle.mark.specs.Marks.{AnyMarked};
 ghost use Rattle.mark.specs.Survivors.{Marked};
 use crate::levels::mark_levels;
-use layout::Places;
+use rules::Sizes;
 
 // Marks what survives the end of the thread's innermost region. Says whether anything does.
 pub fn mark_survivors(
-    p: Places,
+    p: Sizes,
     cells: &mut [u32],
     remember: &[u32],
     tables: &mut [u32],
     thread: usize,
 ) -> bool
-    requires { ⌜ p ≡ placesOf (sizesOf p) ⌝ }
-    requires { ⌜ WholeFor (sizesOf p) (words (now cells) (now remember) (now tables)) ⌝ }
+    requires { ⌜ WholeFor p (words (now cells) (now remember) (now tables)) ⌝ }
     requires { ⌜ (thread < p .threads) × (1 ≤ depthOf (now tables) thread) ⌝ }
-    ensures { λ _. ⌜ Marked (sizesOf p) (words (now (cells .entry)) (now (remember .entry)) (now (tables .entry))) (regionAt (sizesOf p) thread (depthOf (now (tables .entry)) thread)) (words (now (cells .exit)) (now (remember .entry)) (now (tables .exit))) ⌝ }
+    ensures { λ _. ⌜ Marked p (words (now (cells .entry)) (now (remember .entry)) (now (tables .entry))) (regionAt p thread (depthOf (now (tables .entry)) thread)) (words (now (cells .exit)) (now (remember .entry)) (now (tables .exit))) ⌝ }
     ensures { λ b. ⌜ Says b (AnyMarked p (now (tables .exit))) ⌝ }
 {
     let d = layout::wide(layout::tables::depth(p, tables, thread));

@@ -5,7 +5,7 @@ ghost use lib.ListN.{length};
 ghost use Rattle.lists.specs.Part.{Rises, Off};
 ghost use Rattle.layout.specs.Places.{Room, markOf};
 ghost use Rattle.mark.specs.Unmark.{PageCleared, Unmarked};
-use layout::Places;
+use rules::Sizes;
 
 // Word 1 of each cell of a page whose bit is set in w becomes 0: as many cells as w's ones count, the next one by trailing zeros.
 pub fn unmark_page(cells: &mut [u32], w: u32, page: usize)
@@ -24,7 +24,7 @@ pub fn unmark_page(cells: &mut [u32], w: u32, page: usize)
 }
 
 // Clears every mark, and word 1 of the cells that were marked. Only listed pages have marks.
-pub fn unmark(p: Places, cells: &mut [u32], tables: &mut [u32], list: &[u32], n: usize)
+pub fn unmark(p: Sizes, cells: &mut [u32], tables: &mut [u32], list: &[u32], n: usize)
     requires { ⌜ Room p (length (now tables)) ⌝ }
     requires { ⌜ 256 * p .pages ≤ length (now cells) ⌝ }
     requires { ⌜ ((page : ℕ) → page < p .pages → markOf p (now tables) page < 2 ^ 16) ⌝ }

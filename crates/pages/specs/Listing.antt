@@ -8,12 +8,12 @@ use lib.ListN.{length, getD, set, length-set}
 use lib.Seq.{getD-set-same, getD-set-other}
 use Rattle.lists.specs.Counting.{sum-more, sum-part}
 use Rattle.lists.specs.Part.{Off, Lists}
-use Rattle.layout.specs.declared.Places.{Places}
+use Rattle.rules.specs.declared.Sizes.{Sizes}
 use Rattle.layout.specs.Places.{ownerOf}
 use Rattle.pages.specs.Owned.{ownedOne, ownedIn, owned-yes, owned-no, owned-few}
 
 -- the pages of g from `page` on stand at the places from `left` on and below n
-pub record Listing (p : Places) (t : List ℕ) (g n left page : ℕ) (l : List ℕ) : Type 0 where
+pub record Listing (p : Sizes) (t : List ℕ) (g n left page : ℕ) (l : List ℕ) : Type 0 where
   pub rest : left ≡ ownedIn p t g page
   pub few : left ≤ n
   pub room : n ≤ length l
@@ -24,7 +24,7 @@ pub record Listing (p : Places) (t : List ℕ) (g n left page : ℕ) (l : List �
   pub all : (q : ℕ) → page ≤ q → q < p .pages → ownerOf p t q ≡ g → ((i : ℕ) → left ≤ i → i < n → getD l i 0 ≡ q → ⊥) → ⊥
 
 -- n is the number of the region's pages
-pub listing-start : (p : Places) (t : List ℕ) (g n : ℕ) (l : List ℕ) → n ≡ ownedIn p t g (p .pages) → p .pages ≤ length l → Listing p t g n n (p .pages) l
+pub listing-start : (p : Sizes) (t : List ℕ) (g n : ℕ) (l : List ℕ) → n ≡ ownedIn p t g (p .pages) → p .pages ≤ length l → Listing p t g n n (p .pages) l
 listing-start p t g n l e room =
     record {
       rest = e;
@@ -37,7 +37,7 @@ listing-start p t g n l e room =
       all = λ q a b e f. omega arith;
     }
 
-module _ {p : Places} {t : List ℕ} {g n left page : ℕ} {l : List ℕ} (h : Listing p t g n left page l) (some : 0 < left) where
+module _ {p : Sizes} {t : List ℕ} {g n left page : ℕ} {l : List ℕ} (h : Listing p t g n left page l) (some : 0 < left) where
   -- where pages are left, there is one below
   pub listing-pos : 0 < page
   listing-pos = go (decLt 0 page)
@@ -121,7 +121,7 @@ module _ {p : Places} {t : List ℕ} {g n left page : ℕ} {l : List ℕ} (h : L
           h .all q (omega arith) b d (λ i u v y. f i (omega arith) v (off i (λ (x : i ≡ left - 1). omega (arith, some)) ∙ y))
 
 -- none is left: the whole list
-pub listing-end : {p : Places} {t : List ℕ} {g n left page : ℕ} {l : List ℕ} → left ≡ 0 → Listing p t g n left page l → Lists (λ q. ownerOf p t q ≡ g) (p .pages) n l
+pub listing-end : {p : Sizes} {t : List ℕ} {g n left page : ℕ} {l : List ℕ} → left ≡ 0 → Listing p t g n left page l → Lists (λ q. ownerOf p t q ≡ g) (p .pages) n l
 listing-end {p} {t} {g} {n} {left} {page} {l} z h =
     record {
       rises =

@@ -7,52 +7,52 @@ use lib.Dec.{eqb}
 use borrow.Author.Tests.{eq-eqb, ne-eqb}
 use Rattle.lists.specs.Counting.{bit, bit-le-one, sum, sum-more, sum-mono, sum-high, count-owners}
 use Rattle.rules.specs.Graph.{pagesOf}
-use Rattle.layout.specs.declared.Places.{Places}
+use Rattle.rules.specs.declared.Sizes.{Sizes}
 use Rattle.layout.specs.Places.{ownerOf, countOf}
 
 -- the regions are numbered from 1 to this
-abbrev pub regionsOf : Places → ℕ
+abbrev pub regionsOf : Sizes → ℕ
 regionsOf p = 1 + p .threads * p .depth
 
 -- 1 for a page of g, and the pages of g among the first n; the free pages are those of 0
-unfoldable pub ownedOne : Places → List ℕ → ℕ → ℕ → ℕ
+unfoldable pub ownedOne : Sizes → List ℕ → ℕ → ℕ → ℕ
 ownedOne p t g page = bit (eqb (ownerOf p t page) g)
 
-abbrev pub ownedIn : Places → List ℕ → ℕ → ℕ → ℕ
+abbrev pub ownedIn : Sizes → List ℕ → ℕ → ℕ → ℕ
 ownedIn p t g n = sum (ownedOne p t g) n
 
 -- o is the page's owner as the code read it
-pub owned-yes : (p : Places) (t : List ℕ) (g page o : ℕ) → o ≡ ownerOf p t page → o ≡ g → 1 ≡ ownedOne p t g page
+pub owned-yes : (p : Sizes) (t : List ℕ) (g page o : ℕ) → o ≡ ownerOf p t page → o ≡ g → 1 ≡ ownedOne p t g page
 unfolding ownedOne
 owned-yes p t g page o e z = sym (ap bit (eq-eqb (ownerOf p t page) g (sym e ∙ z)))
 
-pub owned-no : (p : Places) (t : List ℕ) (g page o : ℕ) → o ≡ ownerOf p t page → (o ≡ g → ⊥) → 0 ≡ ownedOne p t g page
+pub owned-no : (p : Sizes) (t : List ℕ) (g page o : ℕ) → o ≡ ownerOf p t page → (o ≡ g → ⊥) → 0 ≡ ownedOne p t g page
 unfolding ownedOne
 owned-no p t g page o e n = sym (ap bit (ne-eqb (ownerOf p t page) g (λ z. n (e ∙ z))))
 
-pub owned-le : (p : Places) (t : List ℕ) (g page : ℕ) → ownedOne p t g page ≤ 1
+pub owned-le : (p : Sizes) (t : List ℕ) (g page : ℕ) → ownedOne p t g page ≤ 1
 unfolding ownedOne
 owned-le p t g page = bit-le-one (eqb (ownerOf p t page) g)
 
-pub owned-few : (p : Places) (t : List ℕ) (g n : ℕ) → ownedIn p t g n ≤ n
+pub owned-few : (p : Sizes) (t : List ℕ) (g n : ℕ) → ownedIn p t g n ≤ n
 owned-few p t g n = omega (arith, sum-high (ownedOne p t g) 1 n (λ page l. owned-le p t g page))
 
 -- every region owns the pages that its objects fill, and every page is free or a region's
-pub record Paged (p : Places) (t : List ℕ) : Type 0 where
+pub record Paged (p : Sizes) (t : List ℕ) : Type 0 where
   pub pages : (g : ℕ) → 1 ≤ g → g ≤ regionsOf p → ownedIn p t g (p .pages) ≡ pagesOf (countOf p t g)
   pub owners : (page : ℕ) → page < p .pages → ownerOf p t page ≤ regionsOf p
 
 -- the pages of the first k regions
-abbrev pub ownedBelow : Places → List ℕ → ℕ → ℕ
+abbrev pub ownedBelow : Sizes → List ℕ → ℕ → ℕ
 ownedBelow p t k = sum (λ i. ownedIn p t (suc i) (p .pages)) k
 
 -- with the free ones all pages
-pub all-owned : (p : Places) (t : List ℕ) → Paged p t → ownedBelow p t (regionsOf p) + ownedIn p t 0 (p .pages) ≡ p .pages
+pub all-owned : (p : Sizes) (t : List ℕ) → Paged p t → ownedBelow p t (regionsOf p) + ownedIn p t 0 (p .pages) ≡ p .pages
 unfolding ownedOne
 all-owned p t h = count-owners (ownerOf p t) (regionsOf p) (p .pages) (h .owners)
 
 -- a turn of the count; n is the pages of region g as the code has them
-pub owned-turn : (p : Places) (t : List ℕ) (g n : ℕ) → Paged p t → 1 ≤ g → g ≤ regionsOf p → n ≡ pagesOf (countOf p t g)
+pub owned-turn : (p : Sizes) (t : List ℕ) (g n : ℕ) → Paged p t → 1 ≤ g → g ≤ regionsOf p → n ≡ pagesOf (countOf p t g)
     → (ownedBelow p t g ≡ ownedBelow p t (g - 1) + n) × (ownedBelow p t (g - 1) + n ≤ p .pages)
 owned-turn p t g n h pos l e =
     let k : g - 1 + 1 ≡ g = omega arith in

@@ -7,16 +7,15 @@ use native.Mathlib.Omega.{arith}
 use lib.ListN.{length, set}
 use lib.Seq.{set-getD}
 use Rattle.rules.specs.declared.Sizes.{Sizes}
-use Rattle.layout.specs.declared.Places.{Places}
-use Rattle.layout.specs.Places.{placesOf, ownerAt, usedAt, countAt, ownerOf, usedOf, countOf}
+use Rattle.layout.specs.Places.{ownerAt, usedAt, countAt, ownerOf, usedOf, countOf}
 use Rattle.layout.specs.Cells.{cellOn}
 use Rattle.promises.specs.TakeCell.{Took, took-own, took-free}
 use Rattle.pages.specs.Pages.{Found, taken}
 
-module _ (s : Sizes) (t : List ℕ) (g page : ℕ) (low : page < s .pages) (room : countAt (placesOf s) g < length t)
-    (free : ownerOf (placesOf s) t page ≡ 0 → usedOf (placesOf s) t page ≡ 0) where
-  abbrev p : Places
-  p = placesOf s
+module _ (s : Sizes) (t : List ℕ) (g page : ℕ) (low : page < s .pages) (room : countAt s g < length t)
+    (free : ownerOf s t page ≡ 0 → usedOf s t page ≡ 0) where
+  abbrev p : Sizes
+  p = s
 
   -- a page that was found has an unused cell
   pub found-room : Found p t g page → usedOf p t page < 16

@@ -10,10 +10,10 @@ ghost use Rattle.layout.specs.Places.{Room, ownerOf, usedOf, countOf};
 ghost use Rattle.layout.specs.Cells.{cellOn};
 ghost use Rattle.pages.specs.Owned.{regionsOf, ownedOne, ownedIn, Paged};
 ghost use Rattle.pages.specs.Pages.{fillsPages, noteWords, Filled, Found, Free, Highest, Partly, taken};
-use layout::Places;
+use rules::Sizes;
 
 // 1 if a page belongs to region g, else 0.
-fn is_owned(p: Places, tables: &[u32], g: u32, page: usize) -> usize
+fn is_owned(p: Sizes, tables: &[u32], g: u32, page: usize) -> usize
     requires { ⌜ Room p (length (now tables)) ⌝ }
     requires { ⌜ page < p .pages ⌝ }
     ensures { λ n. ⌜ n ≡ ownedOne p (now (tables .entry)) g page ⌝ }
@@ -25,7 +25,7 @@ fn is_owned(p: Places, tables: &[u32], g: u32, page: usize) -> usize
 }
 
 // How many pages belong to region g; those of 0 are free.
-pub fn owned_pages(p: Places, tables: &[u32], g: u32) -> usize
+pub fn owned_pages(p: Sizes, tables: &[u32], g: u32) -> usize
     requires { ⌜ Room p (length (now tables)) ⌝ }
     ensures { λ n. ⌜ n ≡ ownedIn p (now (tables .entry)) g (p .pages) ⌝ }
 {
@@ -40,7 +40,7 @@ pub fn owned_pages(p: Places, tables: &[u32], g: u32) -> usize
 }
 
 // How many pages are free: all less those that the regions' objects fill.
-pub fn free_pages(p: Places, tables: &[u32]) -> usize
+pub fn free_pages(p: Sizes, tables: &[u32]) -> usize
     requires { ⌜ Room p (length (now tables)) ⌝ }
     requires { ⌜ Paged p (now tables) ⌝ }
     ensures { λ n. ⌜ n ≡ ownedIn p (now (tables .entry)) 0 (p .pages) ⌝ }
@@ -58,7 +58,7 @@ pub fn free_pages(p: Places, tables: &[u32]) -> usize
 
 // The pages of a region in rising number, at the start of the list; how many they are, which the count of its objects tells. The search goes down
 // from the last page and ends at the region's first.
-pub fn list_pages(p: Places, tables: &[u32], region: u32, list: &mut [u32]) -> usize
+pub fn list_pages(p: Sizes, tables: &[u32], region: u32, list: &mut [u32]) -> usize
     requires { ⌜ Room p (length (now tables)) ⌝ }
     requires { ⌜ (1 ≤ region) × (region ≤ regionsOf p) ⌝ }
     requires { ⌜ ownedIn p (now tables) region (p .pages) ≡ pagesOf (countOf p (now tables) region) ⌝ }
@@ -90,7 +90,7 @@ fn fills_pages(objects: u32) -> bool
 }
 
 // Whether a page is the region's and has an unused cell.
-fn is_partly(p: Places, tables: &[u32], region: u32, page: usize) -> bool
+fn is_partly(p: Sizes, tables: &[u32], region: u32, page: usize) -> bool
     requires { ⌜ Room p (length (now tables)) ⌝ }
     ensures { λ r. ⌜ Says r (Partly p (now (tables .entry)) region page) ⌝ }
 {
@@ -103,7 +103,7 @@ fn is_partly(p: Places, tables: &[u32], region: u32, page: usize) -> bool
 }
 
 // The highest-numbered free page from `low` on and below `high`; the number of pages if there is none.
-fn free_between(p: Places, tables: &[u32], low: usize, high: usize) -> usize
+fn free_between(p: Sizes, tables: &[u32], low: usize, high: usize) -> usize
     requires { ⌜ Room p (length (now tables)) ⌝ }
     requires { ⌜ high ≤ p .pages ⌝ }
     ensures { λ r. ⌜ Highest p (now (tables .entry)) low high r ⌝ }
@@ -126,7 +126,7 @@ fn lower(a: usize, b: usize) -> usize
 
 // A free page; the number of pages if there is none. Note 0 is the page that was found last: the search goes on below it, and looks at the
 // pages above it last. The notes are kept for the length of a block and are hints: the answer is right whatever they hold.
-pub fn free_page(p: Places, tables: &[u32], notes: &mut [u32]) -> usize
+pub fn free_page(p: Sizes, tables: &[u32], notes: &mut [u32]) -> usize
     requires { ⌜ Room p (length (now tables)) ⌝ }
     requires { ⌜ noteWords ≤ length (now notes) ⌝ }
     ensures { λ r. ⌜ Free p (now (tables .entry)) r ⌝ }
@@ -142,7 +142,7 @@ pub fn free_page(p: Places, tables: &[u32], notes: &mut [u32]) -> usize
 }
 
 // The partly filled page of a region; if it has none a free page; the number of pages if there is none.
-fn find_page(p: Places, tables: &[u32], region: u32) -> usize
+fn find_page(p: Sizes, tables: &[u32], region: u32) -> usize
     requires { ⌜ Room p (length (now tables)) ⌝ }
     ensures { λ r. ⌜ Found p (now (tables .entry)) region r ⌝ }
 {
@@ -165,7 +165,7 @@ fn find_page(p: Places, tables: &[u32], region: u32) -> usize
 }
 
 // The same page. Where the region's objects fill their pages it has no partly filled one, and a free page is all there is to look for.
-fn search_page(p: Places, tables: &[u32], notes: &mut [u32], region: u32) -> usize
+fn search_page(p: Sizes, tables: &[u32], notes: &mut [u32], region: u32) -> usize
     requires { ⌜ Room p (length (now tables)) ⌝ }
     requires { ⌜ noteWords ≤ length (now notes) ⌝ }
     requires { ⌜ (1 ≤ region) × (region ≤ regionsOf p) × Filled p (now tables) region ⌝ }
@@ -178,7 +178,7 @@ fn search_page(p: Places, tables: &[u32], notes: &mut [u32], region: u32) -> usi
 }
 
 // The same page, found without a search where the region's note names it: the page that its last object went to.
-pub fn page_for(p: Places, tables: &[u32], notes: &mut [u32], region: u32) -> usize
+pub fn page_for(p: Sizes, tables: &[u32], notes: &mut [u32], region: u32) -> usize
     requires { ⌜ Room p (length (now tables)) ⌝ }
     requires { ⌜ noteWords ≤ length (now notes) ⌝ }
     requires { ⌜ (1 ≤ region) × (region ≤ regionsOf p) × Filled p (now tables) region ⌝ }
@@ -195,7 +195,7 @@ pub fn page_for(p: Places, tables: &[u32], notes: &mut [u32], region: u32) -> us
 }
 
 // The first unused cell of a page becomes an object of the region: the page's owner, its cells in use and the region's objects follow.
-pub fn take_cell(p: Places, tables: &mut [u32], page: usize, region: u32) -> usize
+pub fn take_cell(p: Sizes, tables: &mut [u32], page: usize, region: u32) -> usize
     requires { ⌜ Room p (length (now tables)) ⌝ }
     requires { ⌜ (page < p .pages) × (usedOf p (now tables) page < 16) ⌝ }
     requires { ⌜ (1 ≤ region) × (region ≤ regionsOf p) × (countOf p (now tables) region + 1 < 2 ^ 32) ⌝ }

@@ -13,7 +13,6 @@ use Rattle.laws.specs.GraphLaws.{Alive, Closed}
 use Rattle.laws.specs.Counts.{same-free}
 use Rattle.laws.specs.SameRules.{renamed, same-target, same-objects, same-crossing}
 use Rattle.rules.specs.Rules.{Regioned, graph}
-use Rattle.layout.specs.Places.{placesOf}
 use Rattle.promises.specs.Words.{Words, Used, cellCount, sizesIn, homeIn, varsIn, objectIn, graphOf, heapOf}
 use Rattle.promises.specs.Whole.{WholeAt, WholeFor, WholeWords}
 use Rattle.promises.specs.StandsFor.{StandsFor}
@@ -79,7 +78,7 @@ whole-for w k = record { sized = refl; sizes = k .sizes; placed = k .placed }
 
 pub whole-words : (s : Sizes) (w : Words) → WholeFor s w → WholeWords w
 whole-words s w k =
-    record { sizes = k .sizes; placed = subst (λ (z : Sizes). WholeAt (placesOf z) (w .cells) (w .remember) (w .tables)) (sym (k .sized)) (k .placed) }
+    record { sizes = k .sizes; placed = subst (λ (z : Sizes). WholeAt z (w .cells) (w .remember) (w .tables)) (sym (k .sized)) (k .placed) }
 
 -- so no promise about the heap that words stand for is empty
 pub heapOf-stands : (w : Words) → WholeWords w → StandsFor (sizesIn w) w (heapOf (sizesIn w) w) (λ x. x)

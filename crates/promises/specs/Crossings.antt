@@ -15,7 +15,6 @@ use Rattle.rules.specs.Graph.{Graph, slotsOf, crossing}
 use Rattle.rules.specs.Rules.{Regioned, graph}
 use Rattle.laws.specs.Counts.{crossIn, crossAt, crossing-sum, crossRef, cross-cons}
 use Rattle.layout.specs.Places as lp
-use Rattle.layout.specs.Places.{placesOf}
 use Rattle.layout.specs.Cells.{fieldAt, pageOf, placeOf, cellOf, wordOf}
 use Rattle.promises.specs.Words.{Words, Used, ownerIn, usedIn, refCount, refsIn, homeIn, graphOf}
 use Rattle.promises.specs.Crossing as cr
@@ -60,9 +59,9 @@ same-test o g pos = go (ℕ-discrete g 1) (ℕ-discrete g o)
 module _ (s : Sizes) (w : Words) (k : WholeFor s w) where
   -- the word at 16 * c + j
   cross-at : (c j : ℕ) → c < 16 * s .pages → j < 16
-      → crossTo (placesOf s) (w .cells) (w .tables) (16 * c + j)
+      → crossTo s (w .cells) (w .tables) (16 * c + j)
       ≡ cond (ltb (placeOf c) (usedIn s w (pageOf c)))
-      (cond (leb 2 j) (cond (ltb j (refCount w c + 2)) (other (ownerIn s w (pageOf c)) (regionOf (placesOf s) (w .tables) (getD (w .cells) (16 * c + j) 0))) 0) 0) 0
+      (cond (leb 2 j) (cond (ltb j (refCount w c + 2)) (other (ownerIn s w (pageOf c)) (regionOf s (w .tables) (getD (w .cells) (16 * c + j) 0))) 0) 0) 0
   unfolding crossTo
   cross-at c j l m =
       let e₁ : cellOf (16 * c + j) ≡ c = omega arith in
@@ -71,7 +70,7 @@ module _ (s : Sizes) (w : Words) (k : WholeFor s w) where
 
   -- what the word at 16 * c + j counts
   one : ℕ → ℕ → ℕ
-  one c j = bit (positive (crossTo (placesOf s) (w .cells) (w .tables)) (16 * c + j))
+  one c j = bit (positive (crossTo s (w .cells) (w .tables)) (16 * c + j))
 
   -- a cell that is not in use
   cell-unused : (c : ℕ) → c < 16 * s .pages → homeIn s w c ≡ 0 → sum (one c) 16 ≡ crossAt (graphOf s w) c
@@ -85,14 +84,14 @@ module _ (s : Sizes) (w : Words) (k : WholeFor s w) where
       none (no h) = omega arith
 
   module _ (c : ℕ) (u : Used s w c) where
-    pub ref-test : (v : ℕ) → IsRef (placesOf s) (w .tables) v → bit (ltb 0 (other (ownerIn s w (pageOf c)) (regionOf (placesOf s) (w .tables) v))) ≡ crossRef (graphOf s w) c v
+    pub ref-test : (v : ℕ) → IsRef s (w .tables) v → bit (ltb 0 (other (ownerIn s w (pageOf c)) (regionOf s (w .tables) v))) ≡ crossRef (graphOf s w) c v
     ref-test zero f = refl
     ref-test (suc y) f =
         let y′ : suc y - 1 ≡ y = omega arith in
         let v : Used s w y = subst (Used s w) y′ (f (omega arith)) in
         let o = ownerIn s w (pageOf c) in
         let g = ownerIn s w (pageOf y) in
-        let region : regionOf (placesOf s) (w .tables) (suc y) ≡ g =
+        let region : regionOf s (w .tables) (suc y) ≡ g =
         ap₂ (λ (b : Bool) (x : ℕ). cond b 0 (cond (ltb (pageOf x) (s .pages)) (ownerIn s w (pageOf x)) 0)) (ne-eqb (suc y) 0 (λ (e : suc y ≡ 0). omega arith)) y′
         ∙ ap (λ (b : Bool). cond b (ownerIn s w (pageOf y)) 0) (lt-ltb (pageOf y) (s .pages) (v .page)) in
         let pos : g ≡ 0 → ⊥ = used-owned s w k y v in
@@ -107,7 +106,7 @@ module _ (s : Sizes) (w : Words) (k : WholeFor s w) where
 
     -- in a cell in use
     used-at : (j : ℕ) → j < 16
-        → one c j ≡ bit (ltb 0 (cond (leb 2 j) (cond (ltb j (refCount w c + 2)) (other (ownerIn s w (pageOf c)) (regionOf (placesOf s) (w .tables) (getD (w .cells) (16 * c + j) 0))) 0) 0))
+        → one c j ≡ bit (ltb 0 (cond (leb 2 j) (cond (ltb j (refCount w c + 2)) (other (ownerIn s w (pageOf c)) (regionOf s (w .tables) (getD (w .cells) (16 * c + j) 0))) 0) 0))
     unfolding one
     used-at j m = ap (λ (n : ℕ). bit (ltb 0 n)) (cross-at c j inside m ∙ cond-yes (ltb (placeOf c) (usedIn s w (pageOf c))) _ (lt-ltb (placeOf c) (usedIn s w (pageOf c)) (u .place)))
 
@@ -125,9 +124,9 @@ module _ (s : Sizes) (w : Words) (k : WholeFor s w) where
         let e : 16 * c + (2 + i) ≡ fieldAt c i = omega arith in
         let v = getD-refs w c i m in
         used-at (2 + i) (omega (arith, low))
-        ∙ ap₂ (λ (a b : Bool). bit (ltb 0 (cond a (cond b (other (ownerIn s w (pageOf c)) (regionOf (placesOf s) (w .tables) (getD (w .cells) (16 * c + (2 + i)) 0))) 0) 0)))
+        ∙ ap₂ (λ (a b : Bool). bit (ltb 0 (cond a (cond b (other (ownerIn s w (pageOf c)) (regionOf s (w .tables) (getD (w .cells) (16 * c + (2 + i)) 0))) 0) 0)))
         (le-leb 2 (2 + i) (omega arith)) (lt-ltb (2 + i) (refCount w c + 2) (omega arith))
-        ∙ ap (λ (n : ℕ). bit (ltb 0 (other (ownerIn s w (pageOf c)) (regionOf (placesOf s) (w .tables) n)))) (ap (λ (q : ℕ). getD (w .cells) q 0) e ∙ sym v)
+        ∙ ap (λ (n : ℕ). bit (ltb 0 (other (ownerIn s w (pageOf c)) (regionOf s (w .tables) n)))) (ap (λ (q : ℕ). getD (w .cells) q 0) e ∙ sym v)
         ∙ ref-test (getD (refsIn w c) i 0) (λ p. subst (λ (x : ℕ). Used s w (x - 1)) (sym v) (k .placed .references c u i m (omega arith)))
 
     cell-used : sum (one c) 16 ≡ crossAt (graphOf s w) c
@@ -161,9 +160,9 @@ module _ (s : Sizes) (w : Words) (k : WholeFor s w) where
   unfolding one
   entries-crossing =
       let e : 256 * s .pages ≡ 16 * (16 * s .pages) = omega arith in
-      sym (every-counted (placesOf s) (w .cells) (w .remember) (w .tables) (k .placed .remember .entries) (k .placed .remember))
-      ∙ ap (count (cr.crossing (placesOf s) (w .cells) (w .tables))) e
-      ∙ sum-blocks 16 (λ q. bit (positive (crossTo (placesOf s) (w .cells) (w .tables)) q)) (crossAt (graphOf s w)) (16 * s .pages) cell-cross
+      sym (every-counted s (w .cells) (w .remember) (w .tables) (k .placed .remember .entries) (k .placed .remember))
+      ∙ ap (count (cr.crossing s (w .cells) (w .tables))) e
+      ∙ sum-blocks 16 (λ q. bit (positive (crossTo s (w .cells) (w .tables)) q)) (crossAt (graphOf s w)) (16 * s .pages) cell-cross
       ∙ sym (crossing-sum (graphOf s w))
 
 -- of whatever heap the words stand for

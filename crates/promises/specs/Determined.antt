@@ -16,7 +16,7 @@ use Rattle.rules.specs.Regions.{regions}
 use Rattle.rules.specs.Rules.{Regioned, graph}
 use Rattle.laws.specs.GraphLaws.{Alive}
 use Rattle.layout.specs.Places as lp
-use Rattle.layout.specs.Places.{placesOf, tablesWords, ownersFrom, depthAt, varAt, varOf, markOf, countOf, slotIn, slotRegionIn, count-room, count-is, mark-is, used-is}
+use Rattle.layout.specs.Places.{tablesWords, ownersFrom, depthAt, varAt, varOf, markOf, countOf, slotIn, slotRegionIn, count-room, count-is, mark-is, used-is}
 use Rattle.layout.specs.declared.Kind.{Kind}
 use Rattle.layout.specs.declared.Kind.the-variants.{Reference, Number}
 use Rattle.layout.specs.Cells.{fieldOf, fieldAt, fieldCount, firstField, pageOf, placeOf, cellOn, cellOf, wordOf}
@@ -41,11 +41,11 @@ pub record SameButOpen (s : Sizes) (w w′ : Words) : Type 0 where
   -- tables: T, V, D, P, N; depth of each thread; variables; owners; cells in use on each page; working words; objects in each region
   pub sizes : sizesIn w ≡ sizesIn w′
   pub depths : (t : ℕ) → t < s .threads → depthIn w t ≡ depthIn w′ t
-  pub variables : (i : ℕ) → i < s .threads * s .variables → varOf (placesOf s) (w .tables) i ≡ varOf (placesOf s) (w′ .tables) i
+  pub variables : (i : ℕ) → i < s .threads * s .variables → varOf s (w .tables) i ≡ varOf s (w′ .tables) i
   pub owners : (page : ℕ) → page < s .pages → ownerIn s w page ≡ ownerIn s w′ page
   pub used : (page : ℕ) → page < s .pages → usedIn s w page ≡ usedIn s w′ page
-  pub marks : (page : ℕ) → page < s .pages → markOf (placesOf s) (w .tables) page ≡ markOf (placesOf s) (w′ .tables) page
-  pub counts : (g : ℕ) → 1 ≤ g → g ≤ regions s → countOf (placesOf s) (w .tables) g ≡ countOf (placesOf s) (w′ .tables) g
+  pub marks : (page : ℕ) → page < s .pages → markOf s (w .tables) page ≡ markOf s (w′ .tables) page
+  pub counts : (g : ℕ) → 1 ≤ g → g ≤ regions s → countOf s (w .tables) g ≡ countOf s (w′ .tables) g
   -- cells: the same are in use, and these have the same 16 words; the others may hold anything
   pub inUse : (c : ℕ) → Used s w c → Used s w′ c
   pub cells : (q : ℕ) → Used s w (cellOf q) → getD (w .cells) q 0 ≡ getD (w′ .cells) q 0
@@ -159,28 +159,28 @@ module _ (s : Sizes) (w w′ : Words) (h : Regioned) (to : ℕ → ℕ) (st : St
           ap (ownerIn s w) (sym e) ∙ sym (used-home s w (st .whole) c u) ∙ home-as s w w′ h to st st′ c u
           ∙ used-home s w′ (st′ .whole) c (used-as s w w′ h to st st′ c u) ∙ ap (ownerIn s w′) e
 
-  objects-same : (g : ℕ) → objectsOf (placesOf s) (w .tables) g ≡ objectsOf (placesOf s) (w′ .tables) g
+  objects-same : (g : ℕ) → objectsOf s (w .tables) g ≡ objectsOf s (w′ .tables) g
   objects-same g = sum-same _ _ (s .pages) (λ page l. ap₂ (λ (o n : ℕ). cond (eqb o g) n 0) (owner-same page l) (used-same page l))
 
-  region-same : (x : ℕ) → regionOf (placesOf s) (w′ .tables) x ≡ regionOf (placesOf s) (w .tables) x
+  region-same : (x : ℕ) → regionOf s (w′ .tables) x ≡ regionOf s (w .tables) x
   region-same x = go (decLt (pageOf (x - 1)) (s .pages))
     where
-      go : Dec (pageOf (x - 1) < s .pages) → regionOf (placesOf s) (w′ .tables) x ≡ regionOf (placesOf s) (w .tables) x
+      go : Dec (pageOf (x - 1) < s .pages) → regionOf s (w′ .tables) x ≡ regionOf s (w .tables) x
       go (yes l) = ap (λ (o : ℕ). cond (eqb x 0) 0 (cond (ltb (pageOf (x - 1)) (s .pages)) o 0)) (sym (owner-same (pageOf (x - 1)) l))
       go (no l) =
           let e : ltb (pageOf (x - 1)) (s .pages) ≡ false = le-ltb (pageOf (x - 1)) (s .pages) (omega arith) in
           ap (λ (b : Bool). cond (eqb x 0) 0 (cond b (ownerIn s w′ (pageOf (x - 1))) 0)) e ∙ sym (ap (λ (b : Bool). cond (eqb x 0) 0 (cond b (ownerIn s w (pageOf (x - 1))) 0)) e)
 
-  cross-as : (q : ℕ) → q < 256 * s .pages → crossTo (placesOf s) (w′ .cells) (w′ .tables) q ≡ crossTo (placesOf s) (w .cells) (w .tables) q
+  cross-as : (q : ℕ) → q < 256 * s .pages → crossTo s (w′ .cells) (w′ .tables) q ≡ crossTo s (w .cells) (w .tables) q
   cross-as q l =
-      cross-same (placesOf s) (w .cells) (w .tables) (w′ .cells) (w′ .tables) q l
+      cross-same s (w .cells) (w .tables) (w′ .cells) (w′ .tables) q l
       (λ o. (
         record {
           used = used-as s w w′ h to st st′ (cellOf q) (o .used);
           field = o .field;
           count = subst (λ (z : ℕ). wordOf q < z / 16 + 2) (head-as s w w′ h to st st′ (cellOf q) (o .used)) (o .count);
         },
-        ap₂ other (sym (owner-same (pageOf (cellOf q)) (o .used .page))) (ap (regionOf (placesOf s) (w′ .tables)) (sym (word-as s w w′ h to st st′ q (o .used))) ∙ region-same (getD (w .cells) q 0)),
+        ap₂ other (sym (owner-same (pageOf (cellOf q)) (o .used .page))) (ap (regionOf s (w′ .tables)) (sym (word-as s w w′ h to st st′ q (o .used))) ∙ region-same (getD (w .cells) q 0)),
       ))
       (λ o. inl (record {
         used = used-as s w′ w h to st′ st (cellOf q) (o .used);
@@ -201,7 +201,7 @@ module _ (s : Sizes) (w w′ : Words) (h : Regioned) (to : ℕ → ℕ) (st : St
         place = r .0;
         low = r .1;
         slot = r .2;
-        region = sym (e′ .right) ∙ ap (crossTo (placesOf s) (w′ .cells) (w′ .tables)) (r .2) ∙ x ∙ e .right;
+        region = sym (e′ .right) ∙ ap (crossTo s (w′ .cells) (w′ .tables)) (r .2) ∙ x ∙ e .right;
       }
 
   -- WHAT WORDS STAND FOR DETERMINES THEM, BUT FOR THE OPEN POINTS
@@ -248,12 +248,12 @@ module _ (s : Sizes) (w w′ : Words) (e : SameButOpen s w w′) where
       go (yes a) b c d f g = first-five j a
       go (no a) (yes b) c d f g = at-place j (depthAt (j - 5)) (omega arith) (e .depths (j - 5) (omega arith))
       go (no a) (no b) (yes c) d f g =
-          at-place j (varAt (placesOf s) (j - (5 + s .threads))) (omega arith) (e .variables (j - (5 + s .threads)) (omega (arith, owners-is s)))
-      go (no a) (no b) (no c) (yes d) f g = at-place j (lp.ownerAt (placesOf s) (j - ownersFrom s)) (omega arith) (e .owners (j - ownersFrom s) (omega arith))
+          at-place j (varAt s (j - (5 + s .threads))) (omega arith) (e .variables (j - (5 + s .threads)) (omega (arith, owners-is s)))
+      go (no a) (no b) (no c) (yes d) f g = at-place j (lp.ownerAt s (j - ownersFrom s)) (omega arith) (e .owners (j - ownersFrom s) (omega arith))
       go (no a) (no b) (no c) (no d) (yes f) g =
-          at-place j (lp.usedAt (placesOf s) (j - (ownersFrom s + s .pages))) (omega (arith, used-is s)) (e .used (j - (ownersFrom s + s .pages)) (omega arith))
+          at-place j (lp.usedAt s (j - (ownersFrom s + s .pages))) (omega (arith, used-is s)) (e .used (j - (ownersFrom s + s .pages)) (omega arith))
       go (no a) (no b) (no c) (no d) (no f) (yes g) =
-          at-place j (lp.markAt (placesOf s) (j - (ownersFrom s + 2 * s .pages))) (omega (arith, mark-is s)) (e .marks (j - (ownersFrom s + 2 * s .pages)) (omega arith))
+          at-place j (lp.markAt s (j - (ownersFrom s + 2 * s .pages))) (omega (arith, mark-is s)) (e .marks (j - (ownersFrom s + 2 * s .pages)) (omega arith))
       go (no a) (no b) (no c) (no d) (no f) (no g) =
-          at-place j (lp.countAt (placesOf s) (j - (ownersFrom s + 3 * s .pages) + 1)) (omega (arith, count-is s))
+          at-place j (lp.countAt s (j - (ownersFrom s + 3 * s .pages) + 1)) (omega (arith, count-is s))
           (e .counts (j - (ownersFrom s + 3 * s .pages) + 1) (omega arith) (omega (arith, count-room s, count-is s)))

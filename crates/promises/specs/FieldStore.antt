@@ -14,8 +14,7 @@ use Rattle.rules.specs.Rules.{Regioned, graph}
 use Rattle.laws.specs.GraphLaws.{Alive}
 use Rattle.laws.specs.RulesLaws.{Sound}
 use Rattle.laws.specs.SameRules.{renamed}
-use Rattle.layout.specs.declared.Places.{Places}
-use Rattle.layout.specs.Places.{placesOf, cellsWords}
+use Rattle.layout.specs.Places.{cellsWords}
 use Rattle.layout.specs.declared.Kind.{Kind}
 use Rattle.layout.specs.declared.Kind.the-variants.{Reference, Number}
 use Rattle.layout.specs.Cells.{headAt, headOf, workAt, workOf, fieldAt, fieldOf, fieldCount, firstField, kind-among}
@@ -27,7 +26,7 @@ use Rattle.promises.specs.Changes.{withObject}
 
 -- ---- whole
 
-module _ (p : Places) (c m t : List ℕ) (w : WholeAt p c m t) (y j v : ℕ) (u : InUse p t y) (low : j < headOf c y / 16 + headOf c y % 16) (fit : 256 * p .pages ≤ length c) where
+module _ (p : Sizes) (c m t : List ℕ) (w : WholeAt p c m t) (y j v : ℕ) (u : InUse p t y) (low : j < headOf c y / 16 + headOf c y % 16) (fit : 256 * p .pages ≤ length c) where
   abbrev c′ : List ℕ
   c′ = set c (fieldAt y j) v
 
@@ -87,7 +86,7 @@ module _ (p : Places) (c m t : List ℕ) (w : WholeAt p c m t) (y j v : ℕ) (u 
 
 -- other cells and another remember table, as long and of as many entries
 pub whole-with : (s : Sizes) (w : Words) → WholeFor s w → (c′ m′ : List ℕ) → length c′ ≡ length (w .cells) → length m′ ≡ length (w .remember) → getD m′ 0 0 ≡ getD (w .remember) 0 0
-    → WholeAt (placesOf s) c′ m′ (w .tables) → WholeFor s (record { cells = c′; remember = m′; tables = w .tables })
+    → WholeAt s c′ m′ (w .tables) → WholeFor s (record { cells = c′; remember = m′; tables = w .tables })
 whole-with s w k c′ m′ lc lm e p =
     let z = k .sizes in
     record {

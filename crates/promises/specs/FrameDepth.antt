@@ -10,7 +10,7 @@ use Rattle.lists.specs.Stores.{put, past}
 use Rattle.rules.specs.declared.Sizes.{Sizes}
 use Rattle.rules.specs.Rules.{Regioned}
 use Rattle.laws.specs.RulesLaws.{Sound}
-use Rattle.layout.specs.Places.{placesOf, depthAt, depthOf, varAt, varOf, ownersFrom, tablesWords, count-room, count-is}
+use Rattle.layout.specs.Places.{depthAt, depthOf, varAt, varOf, ownersFrom, tablesWords, count-room, count-is}
 use Rattle.promises.specs.Words.{Words, depthsAt, varsAt, depthIn, depthsIn, varsIn, ownerIn}
 use Rattle.promises.specs.Whole.{WholeFor, Open, IsRef}
 use Rattle.promises.specs.StandsFor.{StandsFor, SameBeyond}
@@ -41,13 +41,13 @@ module _ (s : Sizes) (w : Words) (k : WholeFor s w) (t d : ℕ) (l : t < s .thre
 
   -- each region that owns a page is open at the new depth
   abbrev pub OpenStill : Type 0
-  OpenStill = (page : ℕ) → page < s .pages → 1 < ownerIn s w page → Open (placesOf s) T (ownerIn s w page)
+  OpenStill = (page : ℕ) → page < s .pages → 1 < ownerIn s w page → Open s T (ownerIn s w page)
 
   pub depth-whole : d ≤ s .depth → OpenStill → WholeFor s (withTables w T)
   depth-whole m o =
       kept-whole s w k T kept (λ u n. go u n (ℕ-discrete u t)) o
-      (λ i n. subst (IsRef (placesOf s) T) (sym (past (w .tables) (depthAt t) d (varAt (placesOf s) i) 0 (λ (e : varAt (placesOf s) i ≡ depthAt t). omega arith)))
-      (ref-kept s (w .tables) T kept (varOf (placesOf s) (w .tables) i) (k .placed .variables i n)))
+      (λ i n. subst (IsRef s T) (sym (past (w .tables) (depthAt t) d (varAt s i) 0 (λ (e : varAt s i ≡ depthAt t). omega arith)))
+      (ref-kept s (w .tables) T kept (varOf s (w .tables) i) (k .placed .variables i n)))
     where
       go : (u : ℕ) → u < s .threads → Dec (u ≡ t) → depthOf T u ≤ s .depth
       go u n (yes e) = omega (arith, ap (depthOf T) e, here)
@@ -69,7 +69,7 @@ module _ (s : Sizes) (w : Words) (k : WholeFor s w) (t d : ℕ) (l : t < s .thre
 
   vars-same : varsIn s (withTables w T) ≡ varsIn s w
   unfolding varsAt
-  vars-same = ap (take (s .threads * s .variables)) (drop-set-lt (varAt (placesOf s) 0) (w .tables) (depthAt t) d (omega arith))
+  vars-same = ap (take (s .threads * s .variables)) (drop-set-lt (varAt s 0) (w .tables) (depthAt t) d (omega arith))
 
   pub depth-beyond : SameBeyond s w (withTables w T)
   depth-beyond =

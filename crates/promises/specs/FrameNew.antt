@@ -20,7 +20,7 @@ use Rattle.rules.specs.Rules.{Regioned, graph}
 use Rattle.laws.specs.GraphLaws.{Alive}
 use Rattle.laws.specs.RulesLaws.{Sound}
 use Rattle.laws.specs.SameRules.{renamed, renamed-zeros}
-use Rattle.layout.specs.Places.{placesOf, varAt}
+use Rattle.layout.specs.Places.{varAt}
 use Rattle.layout.specs.declared.Kind.{Kind}
 use Rattle.layout.specs.declared.Kind.the-variants.{Reference, Number}
 use Rattle.layout.specs.Cells.{headOf, fieldCount, firstField, headWord, kind-low}
@@ -42,8 +42,8 @@ blankObject b d = record { refs = replicate b 0; nums = replicate d 0 }
 abbrev pub withCell : Regioned → (ℕ → ℕ) → ℕ → ℕ → ℕ
 withCell h to cell x = cond (eqb x (length (h .heap .objects))) cell (to x)
 
-module _ (s : Sizes) (w : Words) (h : Regioned) (to : ℕ → ℕ) (st : StandsFor s w h to) (g cell b d : ℕ) (t′ c′ : List ℕ) (took : Took (placesOf s) (w .tables) g cell t′)
-    (blank : Blank (w .cells) cell (16 * b + d) c′) (few : b + d ≤ 14) (pos : 1 ≤ g) (low : g ≤ regions s) (open′ : 1 < g → Open (placesOf s) (w .tables) g) where
+module _ (s : Sizes) (w : Words) (h : Regioned) (to : ℕ → ℕ) (st : StandsFor s w h to) (g cell b d : ℕ) (t′ c′ : List ℕ) (took : Took s (w .tables) g cell t′)
+    (blank : Blank (w .cells) cell (16 * b + d) c′) (few : b + d ≤ 14) (pos : 1 ≤ g) (low : g ≤ regions s) (open′ : 1 < g → Open s (w .tables) g) where
   abbrev n : ℕ
   n = length (h .heap .objects)
 
@@ -178,7 +178,7 @@ module _ (s : Sizes) (w : Words) (h : Regioned) (to : ℕ → ℕ) (st : StandsF
 
   -- ---- and variable i, counted through all threads, names it
 
-  pub made-stands : (i : ℕ) → i < s .threads * s .variables → Sound (withVariable h₁ i (n + 1)) → StandsFor s (withTables w₁ (set t′ (varAt (placesOf s) i) (cell + 1))) (withVariable h₁ i (n + 1)) to₁
+  pub made-stands : (i : ℕ) → i < s .threads * s .variables → Sound (withVariable h₁ i (n + 1)) → StandsFor s (withTables w₁ (set t′ (varAt s i) (cell + 1))) (withVariable h₁ i (n + 1)) to₁
   made-stands i l sound =
       variable-stands s w₁ h₁ to₁ (new-stands between) i (n + 1) (cell + 1) l (add-one cell ∙ ap suc (sym to-new) ∙ sym (ap (renamed to₁) (add-one n))) sound
     where

@@ -11,9 +11,7 @@ use Rattle.rules.specs.NeverFreeing.{noObject}
 use Rattle.rules.specs.Rules.{Regioned, graph}
 use Rattle.laws.specs.GraphLaws.{Alive}
 use Rattle.laws.specs.RulesLaws.{Sound}
-use Rattle.layout.specs.declared.Places.{Places}
 use Rattle.layout.specs.declared.Kind.the-variants.{Reference, Number}
-use Rattle.layout.specs.Places.{placesOf}
 use Rattle.layout.specs.Cells.{headOf, fieldAt, cellOf, wordOf}
 use Rattle.promises.specs.Words.{Words, InUse, Used, refCount, numCount}
 use Rattle.promises.specs.Crossing.{crossTo}
@@ -27,7 +25,7 @@ use Rattle.promises.specs.FieldStore.{field-whole, head-kept, whole-with
 
 -- ---- words past a number's are as they were: no slot changes
 
-module _ (p : Places) (c m t : List ℕ) (w : WholeAt p c m t) (y b v : ℕ) (u : InUse p t y) (low : b < headOf c y % 16) (fit : 256 * p .pages ≤ length c) where
+module _ (p : Sizes) (c m t : List ℕ) (w : WholeAt p c m t) (y b v : ℕ) (u : InUse p t y) (low : b < headOf c y % 16) (fit : 256 * p .pages ≤ length c) where
   abbrev j : ℕ
   j = headOf c y / 16 + b
 
@@ -67,7 +65,7 @@ module _ (s : Sizes) (w : Words) (k : WholeFor s w) (y b v : ℕ) (u : Used s w 
   pub number-whole : WholeFor s (withCells w C)
   number-whole =
       whole-with s w k C (w .remember) (length-set (w .cells) (fieldAt y (refCount w y + b)) v) refl refl
-      (number-whole-at (placesOf s) (w .cells) (w .remember) (w .tables) (k .placed) y b v u low (cells-room s w k))
+      (number-whole-at s (w .cells) (w .remember) (w .tables) (k .placed) y b v u low (cells-room s w k))
 
   pub number-beyond : SameBeyond s w (withCells w C)
   number-beyond =

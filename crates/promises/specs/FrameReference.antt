@@ -22,7 +22,7 @@ use Rattle.laws.specs.Counts.{crossRef, crossing-stored}
 use Rattle.laws.specs.AfterLaws.{graph-stored}
 use Rattle.layout.specs.declared.Kind.the-variants.{Reference, Number}
 use Rattle.layout.specs.Places as lp
-use Rattle.layout.specs.Places.{placesOf, cellsWords, rememberWords}
+use Rattle.layout.specs.Places.{cellsWords, rememberWords}
 use Rattle.layout.specs.Cells.{fieldAt, fieldOf, cellOf}
 use Rattle.promises.specs.Words.{Words, Used, refCount}
 use Rattle.promises.specs.Crossing.{crossTo}
@@ -40,10 +40,10 @@ use Rattle.promises.specs.FrameVariable.{ref-to-cell}
 -- the slot of reference f in cell y, the region it crosses into, and that which reference v would there
 module _ (s : Sizes) (w : Words) (y f v : ℕ) where
   abbrev pub crossedTo : ℕ
-  crossedTo = crossesTo (placesOf s) (w .tables) y (fieldOf (w .cells) y f)
+  crossedTo = crossesTo s (w .tables) y (fieldOf (w .cells) y f)
 
   abbrev pub willCross : ℕ
-  willCross = crossesTo (placesOf s) (w .tables) y v
+  willCross = crossesTo s (w .tables) y v
 
   -- the words after the store
   abbrev pub storedWords : List ℕ → Words
@@ -60,8 +60,8 @@ module _ (s : Sizes) (w : Words) (k : WholeFor s w) (y f v : ℕ) (u : Used s w 
   few : f < 14
   few = omega (arith, k .placed .formed y u .head)
 
-  pub reference-slot : Slot (placesOf s) (w .cells) (w .tables) at
-  reference-slot = field-slot (placesOf s) (w .cells) (w .tables) y f u few low
+  pub reference-slot : Slot s (w .cells) (w .tables) at
+  reference-slot = field-slot s (w .cells) (w .tables) y f u few low
 
   cell-is : cellOf at ≡ y
   cell-is = omega (arith, few)
@@ -69,13 +69,13 @@ module _ (s : Sizes) (w : Words) (k : WholeFor s w) (y f v : ℕ) (u : Used s w 
   room : at < cellsWords s
   room = omega (arith, few, u .page)
 
-  before : crossTo (placesOf s) (w .cells) (w .tables) at ≡ crossedTo s w y f v
+  before : crossTo s (w .cells) (w .tables) at ≡ crossedTo s w y f v
   before =
-      slot-cross (placesOf s) (w .cells) (w .tables) at reference-slot ∙ ap (λ (z : ℕ). crossesTo (placesOf s) (w .tables) z (getD (w .cells) at 0)) cell-is
+      slot-cross s (w .cells) (w .tables) at reference-slot ∙ ap (λ (z : ℕ). crossesTo s (w .tables) z (getD (w .cells) at 0)) cell-is
 
-  after : crossTo (placesOf s) (set (w .cells) at v) (w .tables) at ≡ willCross s w y f v
+  after : crossTo s (set (w .cells) at v) (w .tables) at ≡ willCross s w y f v
   after =
-      cross-stored (placesOf s) (w .cells) (w .tables) at v reference-slot (omega (arith, room, cells-room s w k)) ∙ ap (λ (z : ℕ). crossesTo (placesOf s) (w .tables) z v) cell-is
+      cross-stored s (w .cells) (w .tables) at v reference-slot (omega (arith, room, cells-room s w k)) ∙ ap (λ (z : ℕ). crossesTo s (w .tables) z v) cell-is
 
   -- a slot that crosses has its entry
   pub reference-named : 0 < crossedTo s w y f v → (i : ℕ) × (i < lp.usedIn (w .remember)) × (lp.slotIn (w .remember) i ≡ at)
@@ -85,14 +85,14 @@ module _ (s : Sizes) (w : Words) (k : WholeFor s w) (y f v : ℕ) (u : Used s w 
     edited : Edited (s .entries) (w .remember) m′
     edited = remembered-edited (s .entries) (w .remember) at _ _ m′ r (remember-room s w k) (k .placed .remember .entries .room) d
 
-    pub reference-whole : IsRef (placesOf s) (w .tables) v → r ≡ 0 → WholeFor s (storedWords s w y f v m′)
+    pub reference-whole : IsRef s (w .tables) v → r ≡ 0 → WholeFor s (storedWords s w y f v m′)
     reference-whole ref z =
         whole-with s w k (set (w .cells) at v) m′ (length-set (w .cells) at v) (edited .long) (edited .size)
-        (field-whole (placesOf s) (w .cells) (w .remember) (w .tables) (k .placed) y f v u (omega arith) (cells-room s w k) m′ (λ l. ref)
-        (of-exact (placesOf s) (set (w .cells) at v) m′ (w .tables)
-        (remembered-exact (crossTo (placesOf s) (w .cells) (w .tables)) (crossTo (placesOf s) (set (w .cells) at v) (w .tables)) (cellsWords s) (s .entries) (w .remember) m′
-        (remember-room s w k) (exact-of (placesOf s) (w .cells) (w .remember) (w .tables) (k .placed .remember)) at _ _ r room
-        (cross-elsewhere (placesOf s) (w .cells) (w .tables) at v reference-slot) before after d z)))
+        (field-whole s (w .cells) (w .remember) (w .tables) (k .placed) y f v u (omega arith) (cells-room s w k) m′ (λ l. ref)
+        (of-exact s (set (w .cells) at v) m′ (w .tables)
+        (remembered-exact (crossTo s (w .cells) (w .tables)) (crossTo s (set (w .cells) at v) (w .tables)) (cellsWords s) (s .entries) (w .remember) m′
+        (remember-room s w k) (exact-of s (w .cells) (w .remember) (w .tables) (k .placed .remember)) at _ _ r room
+        (cross-elsewhere s (w .cells) (w .tables) at v reference-slot) before after d z)))
 
     pub reference-beyond : SameBeyond s w (storedWords s w y f v m′)
     reference-beyond =
@@ -129,7 +129,7 @@ module _ (s : Sizes) (w : Words) (h : Regioned) (to : ℕ → ℕ) (st : StandsF
   there z q =
       sound .closed .refs x z a (getD-in (graph h′ .refs x) f z (ap (λ (p : Object). getD (p .refs) f 0) (put (h .heap .objects) x (withField Reference o f u) noObject inside) ∙ put (o .refs) f u 0 low-refs ∙ q))
 
-  ref : IsRef (placesOf s) (w .tables) v
+  ref : IsRef s (w .tables) v
   ref = ref-to-cell s w h to st u v e there
 
   pub reference-stands : (m′ : List ℕ) (r : ℕ) → Followed s w y f v m′ r → r ≡ 0 → StandsFor s (storedWords s w y f v m′) h′ to
@@ -141,7 +141,7 @@ module _ (s : Sizes) (w : Words) (h : Regioned) (to : ℕ → ℕ) (st : StandsF
   -- ---- question 14
 
   -- the rules' test of a reference is that of the words
-  cross-like : (i : ℕ) → ((z : ℕ) → i ≡ suc z → Alive (graph h) z) → crossRef (graph h) x i ≡ bit (ltb 0 (crossesTo (placesOf s) (w .tables) y (renamed to i)))
+  cross-like : (i : ℕ) → ((z : ℕ) → i ≡ suc z → Alive (graph h) z) → crossRef (graph h) x i ≡ bit (ltb 0 (crossesTo s (w .tables) y (renamed to i)))
   cross-like zero b = refl
   cross-like (suc z) b =
       let c = b z refl in
@@ -159,9 +159,9 @@ module _ (s : Sizes) (w : Words) (h : Regioned) (to : ℕ → ℕ) (st : StandsF
         ap crossing (graph-stored h x inside f u (o .nums)),
         crossing-stored (graph h) x f u inside a low-refs,
         cross-like (getD (o .refs) f 0) (λ z q. st .sound .closed .refs x z a (getD-in (o .refs) f z q)),
-        ap (λ (i : ℕ). bit (ltb 0 (crossesTo (placesOf s) (w .tables) y i))) old,
+        ap (λ (i : ℕ). bit (ltb 0 (crossesTo s (w .tables) y i))) old,
         cross-like u there,
-        ap (λ (i : ℕ). bit (ltb 0 (crossesTo (placesOf s) (w .tables) y i))) e,
+        ap (λ (i : ℕ). bit (ltb 0 (crossesTo s (w .tables) y i))) e,
         heap-entries s w h to st,
       )
 

@@ -12,7 +12,7 @@ use Rattle.rules.specs.Rules.{Regioned, graph}
 use Rattle.laws.specs.GraphLaws.{Alive}
 use Rattle.laws.specs.RulesLaws.{Sound}
 use Rattle.laws.specs.SameRules.{renamed}
-use Rattle.layout.specs.Places.{placesOf, depthAt, varAt, varOf, ownersFrom, tablesWords, count-room, count-is}
+use Rattle.layout.specs.Places.{depthAt, varAt, varOf, ownersFrom, tablesWords, count-room, count-is}
 use Rattle.promises.specs.Words.{Words, Used, depthsAt, varsAt, depthsIn, varsIn}
 use Rattle.promises.specs.Whole.{WholeFor, IsRef}
 use Rattle.promises.specs.StandsFor.{StandsFor, SameBeyond}
@@ -22,7 +22,7 @@ use Rattle.promises.specs.KeptPages.{PagesKept, ref-kept, home-kept, kep
 
 -- a reference to an object that is there leads to a cell in use
 pub ref-to-cell : (s : Sizes) (w : Words) (h : Regioned) (cellOf : ℕ → ℕ) → StandsFor s w h cellOf → (u v : ℕ) → v ≡ renamed cellOf u
-    → ((x : ℕ) → u ≡ suc x → Alive (graph h) x) → IsRef (placesOf s) (w .tables) v
+    → ((x : ℕ) → u ≡ suc x → Alive (graph h) x) → IsRef s (w .tables) v
 ref-to-cell s w h cellOf st zero v e a z = absurd (let o : ⊥ = omega arith in o)
 ref-to-cell s w h cellOf st (suc x) v e a z =
     let c : cellOf x ≡ v - 1 = omega arith in
@@ -31,7 +31,7 @@ ref-to-cell s w h cellOf st (suc x) v e a z =
 
 module _ (s : Sizes) (w : Words) (k : WholeFor s w) (i v : ℕ) (l : i < s .threads * s .variables) where
   abbrev at : ℕ
-  at = varAt (placesOf s) i
+  at = varAt s i
 
   abbrev t : List ℕ
   t = set (w .tables) at v
@@ -50,21 +50,21 @@ module _ (s : Sizes) (w : Words) (k : WholeFor s w) (i v : ℕ) (l : i < s .thre
   depth-same : (u : ℕ) → u < s .threads → getD t (depthAt u) 0 ≡ getD (w .tables) (depthAt u) 0
   depth-same u m = past (w .tables) at v (depthAt u) 0 (λ (e : depthAt u ≡ at). omega arith)
 
-  pub variable-whole : IsRef (placesOf s) (w .tables) v → WholeFor s (withTables w t)
+  pub variable-whole : IsRef s (w .tables) v → WholeFor s (withTables w t)
   variable-whole ref =
       kept-whole s w k t kept (λ u m. omega (arith, depth-same u m, k .placed .depths u m)) (still-open s w k t kept (λ u m. omega (arith, depth-same u m))) (λ j m. go j m (ℕ-discrete j i))
     where
-      go : (j : ℕ) → j < s .threads * s .variables → Dec (j ≡ i) → IsRef (placesOf s) t (varOf (placesOf s) t j)
+      go : (j : ℕ) → j < s .threads * s .variables → Dec (j ≡ i) → IsRef s t (varOf s t j)
       go j m (yes e) =
-          subst (IsRef (placesOf s) t) (sym (ap (varOf (placesOf s) t) e ∙ put (w .tables) at v 0 (fits .2))) (ref-kept s (w .tables) t kept v ref)
+          subst (IsRef s t) (sym (ap (varOf s t) e ∙ put (w .tables) at v 0 (fits .2))) (ref-kept s (w .tables) t kept v ref)
       go j m (no n) =
-          subst (IsRef (placesOf s) t) (sym (past (w .tables) at v (varAt (placesOf s) j) 0 (λ (e : varAt (placesOf s) j ≡ at). n (omega arith))))
-          (ref-kept s (w .tables) t kept (varOf (placesOf s) (w .tables) j) (k .placed .variables j m))
+          subst (IsRef s t) (sym (past (w .tables) at v (varAt s j) 0 (λ (e : varAt s j ≡ at). n (omega arith))))
+          (ref-kept s (w .tables) t kept (varOf s (w .tables) j) (k .placed .variables j m))
 
   vars-set : varsIn s (withTables w t) ≡ set (varsIn s w) i v
   unfolding varsAt
   vars-set =
-      let b = varAt (placesOf s) 0 in
+      let b = varAt s 0 in
       let e : at ≡ b + i = omega arith in
       ap (λ (q : ℕ). take (s .threads * s .variables) (drop b (set (w .tables) q v))) e
       ∙ ap (take (s .threads * s .variables)) (drop-set-add b (w .tables) i v) ∙ take-set-lt (s .threads * s .variables) (drop b (w .tables)) i v l
@@ -87,10 +87,10 @@ module _ (s : Sizes) (w : Words) (k : WholeFor s w) (i v : ℕ) (l : i < s .thre
 
 -- variable i, counted through all threads, names object u of the heap, v in the words
 pub variable-stands : (s : Sizes) (w : Words) (h : Regioned) (cellOf : ℕ → ℕ) → StandsFor s w h cellOf → (i u v : ℕ) → i < s .threads * s .variables → v ≡ renamed cellOf u
-    → Sound (withVariable h i u) → StandsFor s (withTables w (set (w .tables) (varAt (placesOf s) i) v)) (withVariable h i u) cellOf
+    → Sound (withVariable h i u) → StandsFor s (withTables w (set (w .tables) (varAt s i) v)) (withVariable h i u) cellOf
 variable-stands s w h cellOf st i u v l e sound =
     let k = st .whole in
-    let t = set (w .tables) (varAt (placesOf s) i) v in
+    let t = set (w .tables) (varAt s i) v in
     let home = home-kept s (w .tables) t (kept s w k i v l) in
     record {
       whole = variable-whole s w k i v l (ref-to-cell s w h cellOf st u v e (λ x q. sound .closed .vars i x (put (h .heap .vars) i u 0 here ∙ q)));

@@ -10,7 +10,7 @@ use Rattle.lists.specs.Counting.{sum-same}
 use Rattle.rules.specs.declared.Sizes.{Sizes}
 use Rattle.rules.specs.Terms.{InRange}
 use Rattle.rules.specs.Regions.{threadOf}
-use Rattle.layout.specs.Places.{placesOf, sizesAt, ownersFrom, cellsWords, rememberWords, tablesWords, depthOf, varOf, ownerOf, usedOf, markOf, countOf, ownerAt, usedAt, markAt, countAt, used-is, mark-is, count-is}
+use Rattle.layout.specs.Places.{sizesAt, ownersFrom, cellsWords, rememberWords, tablesWords, depthOf, varOf, ownerOf, usedOf, markOf, countOf, ownerAt, usedAt, markAt, countAt, used-is, mark-is, count-is}
 use Rattle.layout.specs.Cells.{headOf, pageOf, placeOf, cellOf, wordOf}
 use Rattle.promises.specs.Words.{Words, InUse, homeAt, inUseAt, ownerIn}
 use Rattle.promises.specs.Crossing.{other, regionOf, crossTo}
@@ -24,42 +24,42 @@ pub record PagesKept (s : Sizes) (u t : List ℕ) : Type 0 where
   pub high : (j : ℕ) → ownersFrom s ≤ j → getD t j 0 ≡ getD u j 0
 
 module _ (s : Sizes) (u t : List ℕ) (e : PagesKept s u t) where
-  pub owner-kept : (page : ℕ) → ownerOf (placesOf s) t page ≡ ownerOf (placesOf s) u page
-  owner-kept page = e .high (ownerAt (placesOf s) page) (omega arith)
+  pub owner-kept : (page : ℕ) → ownerOf s t page ≡ ownerOf s u page
+  owner-kept page = e .high (ownerAt s page) (omega arith)
 
-  pub used-kept : (page : ℕ) → usedOf (placesOf s) t page ≡ usedOf (placesOf s) u page
-  used-kept page = e .high (usedAt (placesOf s) page) (omega (arith, used-is s))
+  pub used-kept : (page : ℕ) → usedOf s t page ≡ usedOf s u page
+  used-kept page = e .high (usedAt s page) (omega (arith, used-is s))
 
-  mark-kept : (page : ℕ) → markOf (placesOf s) t page ≡ markOf (placesOf s) u page
-  mark-kept page = e .high (markAt (placesOf s) page) (omega (arith, mark-is s))
+  mark-kept : (page : ℕ) → markOf s t page ≡ markOf s u page
+  mark-kept page = e .high (markAt s page) (omega (arith, mark-is s))
 
-  count-kept : (g : ℕ) → countOf (placesOf s) t g ≡ countOf (placesOf s) u g
-  count-kept g = e .high (countAt (placesOf s) g) (omega (arith, count-is s))
+  count-kept : (g : ℕ) → countOf s t g ≡ countOf s u g
+  count-kept g = e .high (countAt s g) (omega (arith, count-is s))
 
-  pub in-use-kept : (c : ℕ) → InUse (placesOf s) u c → InUse (placesOf s) t c
+  pub in-use-kept : (c : ℕ) → InUse s u c → InUse s t c
   in-use-kept c i = record { page = i .page; place = subst (λ (n : ℕ). placeOf c < n) (sym (used-kept (pageOf c))) (i .place) }
 
-  pub was-in-use : (c : ℕ) → InUse (placesOf s) t c → InUse (placesOf s) u c
+  pub was-in-use : (c : ℕ) → InUse s t c → InUse s u c
   was-in-use c i = record { page = i .page; place = subst (λ (n : ℕ). placeOf c < n) (used-kept (pageOf c)) (i .place) }
 
-  pub ref-kept : (x : ℕ) → IsRef (placesOf s) u x → IsRef (placesOf s) t x
+  pub ref-kept : (x : ℕ) → IsRef s u x → IsRef s t x
   ref-kept x r z = in-use-kept (x - 1) (r z)
 
   pub home-kept : (c : ℕ) → homeAt s t c ≡ homeAt s u c
   unfolding homeAt inUseAt
   home-kept c = ap₂ (λ (n o : ℕ). cond (ltb (pageOf c) (s .pages) && ltb (placeOf c) n) o 0) (used-kept (pageOf c)) (owner-kept (pageOf c))
 
-  objects-kept : (g : ℕ) → objectsOf (placesOf s) t g ≡ objectsOf (placesOf s) u g
+  objects-kept : (g : ℕ) → objectsOf s t g ≡ objectsOf s u g
   objects-kept g = sum-same _ _ (s .pages) (λ page l. ap₂ (λ (o n : ℕ). cond (eqb o g) n 0) (owner-kept page) (used-kept page))
 
-  was-partial : (g page : ℕ) → Partial (placesOf s) t g page → Partial (placesOf s) u g page
+  was-partial : (g page : ℕ) → Partial s t g page → Partial s u g page
   was-partial g page p = record { owner = sym (owner-kept page) ∙ p .owner; part = omega (arith, p .part, used-kept page) }
 
-  cross-kept : (c : List ℕ) (q : ℕ) → crossTo (placesOf s) c t q ≡ crossTo (placesOf s) c u q
+  cross-kept : (c : List ℕ) (q : ℕ) → crossTo s c t q ≡ crossTo s c u q
   unfolding crossTo
   cross-kept c q =
       let x = getD c q 0 in
-      let p = placesOf s in
+      let p = s in
       ap₂ (λ (n o : ℕ). cond (ltb (placeOf (cellOf q)) n) (cond (leb 2 (wordOf q)) (cond (ltb (wordOf q) (headOf c (cellOf q) / 16 + 2)) (other o (regionOf p t x)) 0) 0) 0)
       (used-kept (pageOf (cellOf q))) (owner-kept (pageOf (cellOf q)))
       ∙ ap (λ (g : ℕ). cond (ltb (placeOf (cellOf q)) (usedOf p u (pageOf (cellOf q)))) (cond (leb 2 (wordOf q)) (cond (ltb (wordOf q) (headOf c (cellOf q) / 16 + 2)) (other (ownerOf p u (pageOf (cellOf q))) (cond (eqb x 0) 0 (cond (ltb (pageOf (x - 1)) (s .pages)) g 0))) 0) 0) 0)
@@ -86,7 +86,7 @@ module _ (s : Sizes) (w : Words) (k : WholeFor s w) (t : List ℕ) (e : PagesKep
         tables = subst (λ (z : Sizes). tablesWords z ≤ length t) same-sizes (omega (arith, k .sizes .tables, e .long));
       }
 
-  remember-kept : RememberWhole (placesOf s) (w .cells) (w .remember) t
+  remember-kept : RememberWhole s (w .cells) (w .remember) t
   remember-kept =
       let r = k .placed .remember in
       let same = cross-kept s (w .tables) t e (w .cells) in
@@ -102,8 +102,8 @@ module _ (s : Sizes) (w : Words) (k : WholeFor s w) (t : List ℕ) (e : PagesKep
 
   -- they are whole if depths and variables are, and each page's region is open
   pub kept-whole : ((u : ℕ) → u < s .threads → depthOf t u ≤ s .depth)
-      → ((page : ℕ) → page < s .pages → 1 < ownerIn s w page → Open (placesOf s) t (ownerIn s w page))
-      → ((i : ℕ) → i < s .threads * s .variables → IsRef (placesOf s) t (varOf (placesOf s) t i)) → WholeFor s (withTables w t)
+      → ((page : ℕ) → page < s .pages → 1 < ownerIn s w page → Open s t (ownerIn s w page))
+      → ((i : ℕ) → i < s .threads * s .variables → IsRef s t (varOf s t i)) → WholeFor s (withTables w t)
   kept-whole d o v =
       let u = w .tables in
       let p = k .placed in
@@ -116,7 +116,7 @@ module _ (s : Sizes) (w : Words) (k : WholeFor s w) (t : List ℕ) (e : PagesKep
             free = λ z. used-kept s u t e page ∙ p .pages page l .free (sym (owner-kept s u t e page) ∙ z);
             taken = λ z. omega (arith, p .pages page l .taken (omega (arith, owner-kept s u t e page)), used-kept s u t e page);
             cells = omega (arith, p .pages page l .cells, used-kept s u t e page);
-            region = λ z. subst (Open (placesOf s) t) (sym (owner-kept s u t e page)) (o page l (omega (arith, owner-kept s u t e page)));
+            region = λ z. subst (Open s t) (sym (owner-kept s u t e page)) (o page l (omega (arith, owner-kept s u t e page)));
           };
           partial = λ g z a b l m x y. p .partial g z a b l m (was-partial s u t e g a x) (was-partial s u t e g b y);
           counts = λ g a b. count-kept s u t e g ∙ p .counts g a b ∙ sym (objects-kept s u t e g);
@@ -131,7 +131,7 @@ module _ (s : Sizes) (w : Words) (k : WholeFor s w) (t : List ℕ) (e : PagesKep
 
   -- where no depth falls, each page's region stays open
   pub still-open : ((u : ℕ) → u < s .threads → depthOf (w .tables) u ≤ depthOf t u)
-      → (page : ℕ) → page < s .pages → 1 < ownerIn s w page → Open (placesOf s) t (ownerIn s w page)
+      → (page : ℕ) → page < s .pages → 1 < ownerIn s w page → Open s t (ownerIn s w page)
   still-open d page l z =
       let o = k .placed .pages page l .region z in
       record { real = o .real; thread = o .thread; level = omega (arith, d (threadOf s (ownerIn s w page)) (o .thread), o .level) }

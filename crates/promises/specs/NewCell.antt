@@ -9,7 +9,7 @@ use Rattle.lists.specs.Stores.{part-same, drop-same}
 use Rattle.rules.specs.declared.Sizes.{Sizes}
 use Rattle.rules.specs.Terms.{InRange}
 use Rattle.rules.specs.Regions.{regions}
-use Rattle.layout.specs.Places.{placesOf, sizesAt, cellsWords, rememberWords, tablesWords, depthAt, varAt, ownerAt, usedAt, countAt, count-room, count-is, used-is}
+use Rattle.layout.specs.Places.{sizesAt, cellsWords, rememberWords, tablesWords, depthAt, varAt, ownerAt, usedAt, countAt, count-room, count-is, used-is}
 use Rattle.layout.specs.declared.Kind.{Kind}
 use Rattle.layout.specs.Cells.{headAt, headOf, workAt, workOf, fieldAt, fieldOf, fieldCount, firstField, kind-among, pageOf, cellOf, wordOf}
 use Rattle.promises.specs.Words.{Words, Used, depthsAt, varsAt, fieldsAt}
@@ -31,8 +31,8 @@ pub record Blank (c : List ℕ) (cell word : ℕ) (c′ : List ℕ) : Type 0 whe
 
 -- ---- whole
 
-module _ (s : Sizes) (w : Words) (k : WholeFor s w) (g cell b d : ℕ) (t′ c′ : List ℕ) (took : Took (placesOf s) (w .tables) g cell t′) (blank : Blank (w .cells) cell (16 * b + d) c′)
-    (few : b + d ≤ 14) (pos : 1 ≤ g) (low : g ≤ regions s) (open′ : 1 < g → Open (placesOf s) (w .tables) g) where
+module _ (s : Sizes) (w : Words) (k : WholeFor s w) (g cell b d : ℕ) (t′ c′ : List ℕ) (took : Took s (w .tables) g cell t′) (blank : Blank (w .cells) cell (16 * b + d) c′)
+    (few : b + d ≤ 14) (pos : 1 ≤ g) (low : g ≤ regions s) (open′ : 1 < g → Open s (w .tables) g) where
   abbrev pub newWords : Words
   newWords = record { cells = c′; remember = w .remember; tables = t′ }
 
@@ -52,17 +52,17 @@ module _ (s : Sizes) (w : Words) (k : WholeFor s w) (g cell b d : ℕ) (t′ c�
   field-other : (x f : ℕ) → f < 14 → (x ≡ cell → ⊥) → fieldOf c′ x f ≡ fieldOf c x f
   field-other x f l n = blank .others (fieldAt x f) (λ (e : cellOf (fieldAt x f) ≡ cell). n (omega arith))
 
-  references : (x : ℕ) → Used s newWords x → (f : ℕ) → f < headOf c′ x / 16 → IsRef (placesOf s) t′ (fieldOf c′ x f)
+  references : (x : ℕ) → Used s newWords x → (f : ℕ) → f < headOf c′ x / 16 → IsRef s t′ (fieldOf c′ x f)
   references x i f l = go (used-split s t g cell t′ took x i)
     where
-      go : (x ≡ cell) ⊎ Used s w x → IsRef (placesOf s) t′ (fieldOf c′ x f)
+      go : (x ≡ cell) ⊎ Used s w x → IsRef s t′ (fieldOf c′ x f)
       go (inl e) =
           let h : headOf c′ x ≡ 16 * b + d = ap (headOf c′) e ∙ blank .head in
           let z : fieldOf c′ x f ≡ 0 = ap (λ (y : ℕ). fieldOf c′ y f) e ∙ blank .fields f (omega arith) in
           λ p. absurd (let q : ⊥ = omega arith in q)
       go (inr u) =
           let n : f < headOf c x / 16 = omega (arith, head-other x (apart x u)) in
-          subst (IsRef (placesOf s) t′) (sym (field-other x f (omega (arith, k .placed .formed x u .head)) (apart x u))) (ref-still s t g cell t′ took _ (k .placed .references x u f n))
+          subst (IsRef s t′) (sym (field-other x f (omega (arith, k .placed .formed x u .head)) (apart x u))) (ref-still s t g cell t′ took _ (k .placed .references x u f n))
 
   formed : (x : ℕ) → Used s newWords x → CellFormed c′ x
   formed x i = go (used-split s t g cell t′ took x i)
@@ -86,42 +86,42 @@ module _ (s : Sizes) (w : Words) (k : WholeFor s w) (g cell b d : ℕ) (t′ c�
       go (inr u) = blank .others (workAt x) (λ (e : cellOf (workAt x) ≡ cell). apart x u (omega arith)) ∙ k .placed .working x u
 
   -- a new object has no slot that crosses, and the others cross as they did
-  region-kept : (x : ℕ) → IsRef (placesOf s) t x → regionOf (placesOf s) t′ x ≡ regionOf (placesOf s) t x
+  region-kept : (x : ℕ) → IsRef s t x → regionOf s t′ x ≡ regionOf s t x
   region-kept zero r = refl
   region-kept (suc x) r =
       let e : suc x - 1 ≡ x = omega arith in
       let u : Used s w x = subst (Used s w) e (r (omega arith)) in
-      region-of (placesOf s) t′ x (still-used s t g cell t′ took x u) ∙ owner-used s t g cell t′ took (k .placed .pages) x u ∙ sym (region-of (placesOf s) t x u)
+      region-of s t′ x (still-used s t g cell t′ took x u) ∙ owner-used s t g cell t′ took (k .placed .pages) x u ∙ sym (region-of s t x u)
 
-  slot-kept : (q : ℕ) → Slot (placesOf s) c t q
-      → Slot (placesOf s) c′ t′ q × (crossesTo (placesOf s) t′ (cellOf q) (getD c′ q 0) ≡ crossesTo (placesOf s) t (cellOf q) (getD c q 0))
+  slot-kept : (q : ℕ) → Slot s c t q
+      → Slot s c′ t′ q × (crossesTo s t′ (cellOf q) (getD c′ q 0) ≡ crossesTo s t (cellOf q) (getD c q 0))
   slot-kept q o =
       let u = o .used in
       let n = apart (cellOf q) u in
-      let f = slot-field (placesOf s) c t q o in
+      let f = slot-field s c t q o in
       let v : getD c′ q 0 ≡ getD c q 0 = blank .others q n in
-      let r : IsRef (placesOf s) t (getD c q 0) = subst (λ (z : ℕ). IsRef (placesOf s) t (getD c z 0)) (f .0) (k .placed .references (cellOf q) u (wordOf q - 2) (f .1)) in (
+      let r : IsRef s t (getD c q 0) = subst (λ (z : ℕ). IsRef s t (getD c z 0)) (f .0) (k .placed .references (cellOf q) u (wordOf q - 2) (f .1)) in (
         record {
           used = still-used s t g cell t′ took (cellOf q) u;
           field = o .field;
           count = subst (λ (z : ℕ). wordOf q < z / 16 + 2) (sym (head-other (cellOf q) n)) (o .count);
         },
-        ap₂ other (owner-used s t g cell t′ took (k .placed .pages) (cellOf q) u) (ap (regionOf (placesOf s) t′) v ∙ region-kept (getD c q 0) r),
+        ap₂ other (owner-used s t g cell t′ took (k .placed .pages) (cellOf q) u) (ap (regionOf s t′) v ∙ region-kept (getD c q 0) r),
       )
 
-  slot-new : (q : ℕ) → Slot (placesOf s) c′ t′ q → Slot (placesOf s) c t q ⊎ (crossesTo (placesOf s) t′ (cellOf q) (getD c′ q 0) ≡ 0)
+  slot-new : (q : ℕ) → Slot s c′ t′ q → Slot s c t q ⊎ (crossesTo s t′ (cellOf q) (getD c′ q 0) ≡ 0)
   slot-new q o = go (used-split s t g cell t′ took (cellOf q) (o .used))
     where
-      go : (cellOf q ≡ cell) ⊎ Used s w (cellOf q) → Slot (placesOf s) c t q ⊎ (crossesTo (placesOf s) t′ (cellOf q) (getD c′ q 0) ≡ 0)
+      go : (cellOf q ≡ cell) ⊎ Used s w (cellOf q) → Slot s c t q ⊎ (crossesTo s t′ (cellOf q) (getD c′ q 0) ≡ 0)
       go (inl e) =
           let at : fieldAt cell (wordOf q - 2) ≡ q = omega (arith, o .field) in
           let z : getD c′ q 0 ≡ 0 = ap (λ (i : ℕ). getD c′ i 0) (sym at) ∙ blank .fields (wordOf q - 2) (omega (arith, o .field)) in
-          inr (ap (crossesTo (placesOf s) t′ (cellOf q)) z)
+          inr (ap (crossesTo s t′ (cellOf q)) z)
       go (inr u) =
           inl (record { used = u; field = o .field; count = subst (λ (z : ℕ). wordOf q < z / 16 + 2) (head-other (cellOf q) (apart (cellOf q) u)) (o .count) })
 
-  cross-kept : (q : ℕ) → q < 256 * s .pages → crossTo (placesOf s) c′ t′ q ≡ crossTo (placesOf s) c t q
-  cross-kept q l = cross-same (placesOf s) c t c′ t′ q l (slot-kept q) (slot-new q)
+  cross-kept : (q : ℕ) → q < 256 * s .pages → crossTo s c′ t′ q ≡ crossTo s c t q
+  cross-kept q l = cross-same s c t c′ t′ q l (slot-kept q) (slot-new q)
 
   sized : sizesAt t′ ≡ s
   sized =
@@ -149,13 +149,13 @@ module _ (s : Sizes) (w : Words) (k : WholeFor s w) (g cell b d : ℕ) (t′ c�
           partial = took-partial s c (w .remember) t (k .placed) g cell t′ took pos open′;
           counts = took-counts s c (w .remember) t (k .placed) g cell t′ took pos open′;
           variables = λ i l.
-              subst (IsRef (placesOf s) t′) (sym (low-past s t g cell t′ took (varAt (placesOf s) i) (omega (arith, owners-is s)))) (ref-still s t g cell t′ took _ (k .placed .variables i l));
+              subst (IsRef s t′) (sym (low-past s t g cell t′ took (varAt s i) (omega (arith, owners-is s)))) (ref-still s t g cell t′ took _ (k .placed .variables i l));
           references = references;
           formed = formed;
           marks = λ page l. mark-past s t g cell t′ took page l ∙ k .placed .marks page l;
           working = working;
-          remember = of-exact (placesOf s) c′ (w .remember) t′
-              (exact-everywhere (crossTo (placesOf s) c t) (crossTo (placesOf s) c′ t′) (256 * s .pages) (s .entries) (w .remember) cross-kept (exact-of (placesOf s) c (w .remember) t (k .placed .remember)));
+          remember = of-exact s c′ (w .remember) t′
+              (exact-everywhere (crossTo s c t) (crossTo s c′ t′) (256 * s .pages) (s .entries) (w .remember) cross-kept (exact-of s c (w .remember) t (k .placed .remember)));
         };
       }
 
@@ -167,9 +167,9 @@ module _ (s : Sizes) (w : Words) (k : WholeFor s w) (g cell b d : ℕ) (t′ c�
         tables = record {
           long = took .long;
           rest = drop-same (tablesWords s) t t′ (took .long) (λ j l.
-              took .others j (λ (e : j ≡ ownerAt (placesOf s) (pageOf cell)). omega (arith, took .page, count-room s, count-is s))
-              (λ (e : j ≡ usedAt (placesOf s) (pageOf cell)). omega (arith, took .page, count-room s, count-is s, used-is s))
-              (λ (e : j ≡ countAt (placesOf s) g). omega (arith, count-room s)));
+              took .others j (λ (e : j ≡ ownerAt s (pageOf cell)). omega (arith, took .page, count-room s, count-is s))
+              (λ (e : j ≡ usedAt s (pageOf cell)). omega (arith, took .page, count-room s, count-is s, used-is s))
+              (λ (e : j ≡ countAt s g). omega (arith, count-room s)));
         };
       }
 
@@ -181,7 +181,7 @@ module _ (s : Sizes) (w : Words) (k : WholeFor s w) (g cell b d : ℕ) (t′ c�
 
   pub vars-kept : varsAt s t′ ≡ varsAt s t
   unfolding varsAt
-  vars-kept = part-same (s .threads * s .variables) (varAt (placesOf s) 0) t t′ (took .long) (λ i l. low-past s t g cell t′ took (varAt (placesOf s) 0 + i) (omega (arith, owners-is s)))
+  vars-kept = part-same (s .threads * s .variables) (varAt s 0) t t′ (took .long) (λ i l. low-past s t g cell t′ took (varAt s 0 + i) (omega (arith, owners-is s)))
 
   pub fields-other : (f : Kind) (x : ℕ) → Used s w x → fieldsAt f c′ x ≡ fieldsAt f c x
   unfolding fieldsAt

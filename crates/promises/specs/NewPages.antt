@@ -19,7 +19,7 @@ use Rattle.laws.specs.RulesLaws.{region-pos}
 use Rattle.laws.specs.RegionLaws.{thread-at, level-at, region-high}
 use Rattle.laws.specs.Counts.{new-pages}
 use Rattle.laws.specs.AfterLaws.{graph-new}
-use Rattle.layout.specs.Places.{placesOf, depthOf, countOf}
+use Rattle.layout.specs.Places.{depthOf, countOf}
 use Rattle.promises.specs.Words.{Words, depthIn, ownerIn, usedIn}
 use Rattle.promises.specs.Whole.{WholeFor, Open, Partial}
 use Rattle.promises.specs.StandsFor.{StandsFor}
@@ -43,11 +43,11 @@ module _ (s : Sizes) (w : Words) (k : WholeFor s w) (t : ℕ) (l : t < s .thread
       go zero m = omega arith
       go (suc d) m = let f : t * s .depth + d < s .threads * s .depth = flat-low l m in omega arith
 
-  pub innermost-open : 1 < innermostIn s w t → Open (placesOf s) (w .tables) (innermostIn s w t)
+  pub innermost-open : 1 < innermostIn s w t → Open s (w .tables) (innermostIn s w t)
   unfolding regionAt
   innermost-open = go (depthIn w t) refl
     where
-      go : (d : ℕ) → depthIn w t ≡ d → 1 < regionAt s t d → Open (placesOf s) (w .tables) (regionAt s t d)
+      go : (d : ℕ) → depthIn w t ≡ d → 1 < regionAt s t d → Open s (w .tables) (regionAt s t d)
       go zero e z = absurd (let q : ⊥ = omega arith in q)
       go (suc d) e z =
           let m : d < s .depth = omega (arith, k .placed .depths t l) in
@@ -62,16 +62,16 @@ module _ (s : Sizes) (w : Words) (k : WholeFor s w) (t : ℕ) (l : t < s .thread
 
 module _ (s : Sizes) (w : Words) (k : WholeFor s w) (g : ℕ) (pos : 0 < g) (low : g ≤ regions s) where
   abbrev objects : ℕ
-  objects = countOf (placesOf s) (w .tables) g
+  objects = countOf s (w .tables) g
 
   abbrev free : ℕ → ℕ
-  free = freeOn (placesOf s) (w .tables) g
+  free = freeOn s (w .tables) g
 
   -- objects and free cells fill the region's pages
   fill : objects + sum free (s .pages) ≡ 16 * pagesOwned s w g
   fill = omega (arith, k .placed .counts g pos low, filled s w k g pos (s .pages) (omega arith))
 
-  pub partly-filled : (page : ℕ) → page < s .pages → Partial (placesOf s) (w .tables) g page → objects % 16 ≡ 0 → ⊥
+  pub partly-filled : (page : ℕ) → page < s .pages → Partial s (w .tables) g page → objects % 16 ≡ 0 → ⊥
   partly-filled page l p z =
       omega (
         arith,
@@ -83,7 +83,7 @@ module _ (s : Sizes) (w : Words) (k : WholeFor s w) (g : ℕ) (pos : 0 < g) (low
         one-part s w k g pos,
       )
 
-  pub none-partly : ((page : ℕ) → page < s .pages → Partial (placesOf s) (w .tables) g page → ⊥) → objects % 16 ≡ 0
+  pub none-partly : ((page : ℕ) → page < s .pages → Partial s (w .tables) g page → ⊥) → objects % 16 ≡ 0
   none-partly none = omega (arith, fill, sum-none free (s .pages) (λ page l. go page l (eqb (ownerIn s w page) g) refl))
     where
       go : (page : ℕ) → page < s .pages → (b : Bool) → eqb (ownerIn s w page) g ≡ b → cond b (16 - usedIn s w page) 0 ≡ 0
@@ -96,7 +96,7 @@ module _ (s : Sizes) (w : Words) (k : WholeFor s w) (g : ℕ) (pos : 0 < g) (low
 
 -- a page of region g that is partly filled; a page that is free
 abbrev pub PartlyFilled : Sizes → Words → ℕ → Type 0
-PartlyFilled s w g = (page : ℕ) × (page < s .pages) × Partial (placesOf s) (w .tables) g page
+PartlyFilled s w g = (page : ℕ) × (page < s .pages) × Partial s (w .tables) g page
 
 abbrev pub FreePage : Sizes → Words → Type 0
 FreePage s w = (page : ℕ) × (page < s .pages) × (ownerIn s w page ≡ 0)
@@ -109,7 +109,7 @@ module _ (s : Sizes) (w : Words) (h : Regioned) (to : ℕ → ℕ) (st : StandsF
   made = record { heap = record { depths = ds; vars = vs; objects = h .heap .objects ++ o ∷ [] }; homes = h .homes ++ g ∷ [] }
 
   abbrev held : ℕ
-  held = countOf (placesOf s) (w .tables) g
+  held = countOf s (w .tables) g
 
   needs : newPages s (graph h) (graph made) ≡ pagesOf (held + 1) - pagesOf held
   needs =

@@ -14,8 +14,7 @@ use Rattle.rules.specs.declared.Sizes.{Sizes}
 use Rattle.rules.specs.Regions.{regions}
 use Rattle.rules.specs.Graph.{pagesOf, objectsIn, freePages}
 use Rattle.rules.specs.Rules.{Regioned, graph}
-use Rattle.layout.specs.declared.Places.{Places}
-use Rattle.layout.specs.Places.{placesOf, ownerOf, usedOf, countOf}
+use Rattle.layout.specs.Places.{ownerOf, usedOf, countOf}
 use Rattle.layout.specs.Cells.{cellOn}
 use Rattle.promises.specs.Words.{Words, ownerIn, usedIn, homeIn, graphOf, homeAt, inUseAt}
 use Rattle.promises.specs.Whole.{WholeFor, Partial, objectsOn, objectsOf}
@@ -24,7 +23,7 @@ use Rattle.promises.specs.Reading.{range}
 use Rattle.promises.specs.Agreed.{free-agree}
 
 -- the cells of region g's page that are not in use
-abbrev pub freeOn : Places → List ℕ → ℕ → ℕ → ℕ
+abbrev pub freeOn : Sizes → List ℕ → ℕ → ℕ → ℕ
 freeOn p t g page = cond (eqb (ownerOf p t page) g) (16 - usedOf p t page) 0
 
 -- the pages of region q
@@ -46,41 +45,41 @@ module _ (s : Sizes) (w : Words) (k : WholeFor s w) where
 
   module _ (q : ℕ) (pos : 0 < q) where
     -- objects and free cells of the region's pages fill these
-    pub filled : (n : ℕ) → n ≤ s .pages → sum (objectsOn (placesOf s) (w .tables) q) n + sum (freeOn (placesOf s) (w .tables) q) n ≡ 16 * count (λ page. eqb (ownerIn s w page) q) n
+    pub filled : (n : ℕ) → n ≤ s .pages → sum (objectsOn s (w .tables) q) n + sum (freeOn s (w .tables) q) n ≡ 16 * count (λ page. eqb (ownerIn s w page) q) n
     filled zero l = refl
     filled (suc n) l =
         omega (arith, filled n (omega arith), both-parts (eqb (ownerIn s w n) q) (usedIn s w n) (k .placed .pages n (omega arith) .cells))
 
-    free-low : (page : ℕ) → page < s .pages → freeOn (placesOf s) (w .tables) q page ≤ 15
+    free-low : (page : ℕ) → page < s .pages → freeOn s (w .tables) q page ≤ 15
     free-low page l = go (eqb (ownerIn s w page) q) refl
       where
         go : (b : Bool) → eqb (ownerIn s w page) q ≡ b → cond b (16 - usedIn s w page) 0 ≤ 15
         go true e = omega (arith, k .placed .pages page l .taken (omega (arith, eqb-true (ownerIn s w page) q e)))
         go false e = omega arith
 
-    pub free-count : (n : ℕ) → n ≤ s .pages → sum (freeOn (placesOf s) (w .tables) q) n ≤ 15 * count (positive (freeOn (placesOf s) (w .tables) q)) n
+    pub free-count : (n : ℕ) → n ≤ s .pages → sum (freeOn s (w .tables) q) n ≤ 15 * count (positive (freeOn s (w .tables) q)) n
     free-count zero l = omega arith
-    free-count (suc n) l = go (decLt 0 (freeOn (placesOf s) (w .tables) q n)) (free-count n (omega arith))
+    free-count (suc n) l = go (decLt 0 (freeOn s (w .tables) q n)) (free-count n (omega arith))
       where
         f : ℕ → ℕ
-        f = freeOn (placesOf s) (w .tables) q
+        f = freeOn s (w .tables) q
 
         go : Dec (0 < f n) → sum f n ≤ 15 * count (positive f) n → sum f n + f n ≤ 15 * (count (positive f) n + bit (positive f n))
         go (yes p) rest = omega (arith, free-low n (omega arith), ap bit (lt-ltb 0 (f n) p))
         go (no p) rest = omega arith
 
     -- at most one of them has free cells
-    pub one-part : count (positive (freeOn (placesOf s) (w .tables) q)) (s .pages) ≤ 1
-    one-part = no-two (positive (freeOn (placesOf s) (w .tables) q)) (s .pages) (λ x y l m a b. k .placed .partial q pos x y l m (part x a) (part y b))
+    pub one-part : count (positive (freeOn s (w .tables) q)) (s .pages) ≤ 1
+    one-part = no-two (positive (freeOn s (w .tables) q)) (s .pages) (λ x y l m a b. k .placed .partial q pos x y l m (part x a) (part y b))
       where
-        part : (page : ℕ) → positive (freeOn (placesOf s) (w .tables) q) page ≡ true → Partial (placesOf s) (w .tables) q page
-        part page h = go (eqb (ownerIn s w page) q) refl (ltb-true 0 (freeOn (placesOf s) (w .tables) q page) h)
+        part : (page : ℕ) → positive (freeOn s (w .tables) q) page ≡ true → Partial s (w .tables) q page
+        part page h = go (eqb (ownerIn s w page) q) refl (ltb-true 0 (freeOn s (w .tables) q page) h)
           where
-            go : (b : Bool) → eqb (ownerIn s w page) q ≡ b → 0 < cond b (16 - usedIn s w page) 0 → Partial (placesOf s) (w .tables) q page
+            go : (b : Bool) → eqb (ownerIn s w page) q ≡ b → 0 < cond b (16 - usedIn s w page) 0 → Partial s (w .tables) q page
             go true e l = record { owner = eqb-true (ownerIn s w page) q e; part = omega arith }
             go false e l = absurd (let z : ⊥ = omega arith in z)
 
-    owned : pagesOf (objectsOf (placesOf s) (w .tables) q) ≡ pagesOwned s w q
+    owned : pagesOf (objectsOf s (w .tables) q) ≡ pagesOwned s w q
     owned =
         omega (arith, filled (s .pages) (omega arith), free-count (s .pages) (omega arith), one-part)
 
@@ -94,7 +93,7 @@ module _ (s : Sizes) (w : Words) (k : WholeFor s w) where
         ap₂ (λ (x y : ℕ). cond (ltb x (s .pages) && ltb y (usedIn s w x)) (ownerIn s w x) 0) d e
         ∙ ap (λ (b : Bool). cond (b && ltb j (usedIn s w page)) (ownerIn s w page) 0) (lt-ltb page (s .pages) l)
 
-    on-page : (page : ℕ) → page < s .pages → sum (λ j. cond (eqb (homeIn s w (cellOn page j)) q) 1 0) 16 ≡ objectsOn (placesOf s) (w .tables) q page
+    on-page : (page : ℕ) → page < s .pages → sum (λ j. cond (eqb (homeIn s w (cellOn page j)) q) 1 0) 16 ≡ objectsOn s (w .tables) q page
     on-page page l = go (ℕ-discrete (ownerIn s w page) q)
       where
         f : ℕ → ℕ
@@ -108,7 +107,7 @@ module _ (s : Sizes) (w : Words) (k : WholeFor s w) where
         another true n = ap (λ (t : Bool). cond t 1 0) (ne-eqb (ownerIn s w page) q n)
         another false n = ap (λ (t : Bool). cond t 1 0) (ne-eqb 0 q (λ (z : 0 ≡ q). omega arith))
 
-        go : Dec (ownerIn s w page ≡ q) → sum f 16 ≡ objectsOn (placesOf s) (w .tables) q page
+        go : Dec (ownerIn s w page ≡ q) → sum f 16 ≡ objectsOn s (w .tables) q page
         go (yes e) =
             sum-first f (usedIn s w page) 16 (λ j m. ap (λ (n : ℕ). cond (eqb n q) 1 0) (home-of page j l m) ∙ mine (ltb j (usedIn s w page)) e)
             ∙ omega (arith, k .placed .pages page l .cells, ap (λ (b : Bool). cond b (usedIn s w page) 0) (eq-eqb (ownerIn s w page) q e))
@@ -116,16 +115,16 @@ module _ (s : Sizes) (w : Words) (k : WholeFor s w) where
             sum-none f 16 (λ j m. ap (λ (n : ℕ). cond (eqb n q) 1 0) (home-of page j l m) ∙ another (ltb j (usedIn s w page)) n)
             ∙ sym (ap (λ (b : Bool). cond b (usedIn s w page) 0) (ne-eqb (ownerIn s w page) q n))
 
-    pub objects-on-pages : objectsIn (graphOf s w) q ≡ objectsOf (placesOf s) (w .tables) q
+    pub objects-on-pages : objectsIn (graphOf s w) q ≡ objectsOf s (w .tables) q
     unfolding objectsIn
     objects-on-pages =
-        sum-blocks 16 (λ c. cond (eqb (homeIn s w c) q) 1 0) (objectsOn (placesOf s) (w .tables) q) (s .pages) on-page
+        sum-blocks 16 (λ c. cond (eqb (homeIn s w c) q) 1 0) (objectsOn s (w .tables) q) (s .pages) on-page
 
     -- 01: a region of n objects uses n / 16 pages, rounded up
     pub region-pages : pagesOwned s w q ≡ pagesOf (objectsIn (graphOf s w) q)
     region-pages = sym (ap pagesOf objects-on-pages ∙ owned)
 
-    pub counted-objects : q ≤ regions s → countOf (placesOf s) (w .tables) q ≡ objectsIn (graphOf s w) q
+    pub counted-objects : q ≤ regions s → countOf s (w .tables) q ≡ objectsIn (graphOf s w) q
     counted-objects l = k .placed .counts q pos l ∙ sym objects-on-pages
 
   -- and the pages of no region are the free ones

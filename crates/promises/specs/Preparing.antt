@@ -9,7 +9,7 @@ use lib.Seq.{getD-take, getD-drop, length-take-le}
 use lib.Dec.{ltb, leb, eqb}
 use borrow.Author.Tests.{le-ltb}
 use Rattle.rules.specs.Terms.{InRange}
-use Rattle.layout.specs.Places.{varAt, ownersFrom, usedFrom, marksFrom, countsFrom, rememberWords, tablesWords, count-room, placesOf}
+use Rattle.layout.specs.Places.{varAt, ownersFrom, usedFrom, marksFrom, countsFrom, rememberWords, tablesWords, count-room}
 use Rattle.layout.specs.Cells.{headOf, pageOf, placeOf, cellOf, wordOf}
 use Rattle.lists.specs.Tests.{cond-zero}
 use Rattle.lists.specs.Zeros.{all-zero}
@@ -89,19 +89,19 @@ module _ (s : Sizes) (lent w : Words) (range : InRange s) (long : LongEnough s l
         cells = subst (λ (z : Sizes). 256 * z .pages ≤ length (w .cells)) (sym sized) (omega (arith, u .cells .long, long .cells));
       }
 
-  no-objects : (g page : ℕ) → page < s .pages → objectsOn (placesOf s) (w .tables) g page ≡ 0
+  no-objects : (g page : ℕ) → page < s .pages → objectsOn s (w .tables) g page ≡ 0
   no-objects g page l = cond-zero (eqb (ownerIn s w page) g) (usedIn s w page) 0 (used-zero page l) refl
 
-  no-cross : (q : ℕ) → q < 256 * s .pages → crossTo (placesOf s) (w .cells) (w .tables) q ≡ 0
+  no-cross : (q : ℕ) → q < 256 * s .pages → crossTo s (w .cells) (w .tables) q ≡ 0
   unfolding crossTo
   no-cross q l =
-      ap (λ (b : Bool). cond b (cond (leb 2 (wordOf q)) (cond (ltb (wordOf q) (headOf (w .cells) (cellOf q) / 16 + 2)) (other (ownerIn s w (pageOf (cellOf q))) (regionOf (placesOf s) (w .tables) (getD (w .cells) q 0))) 0) 0) 0)
+      ap (λ (b : Bool). cond b (cond (leb 2 (wordOf q)) (cond (ltb (wordOf q) (headOf (w .cells) (cellOf q) / 16 + 2)) (other (ownerIn s w (pageOf (cellOf q))) (regionOf s (w .tables) (getD (w .cells) q 0))) 0) 0) 0)
       (le-ltb (placeOf (cellOf q)) (usedIn s w (pageOf (cellOf q))) (omega (arith, used-zero (pageOf (cellOf q)) (omega arith))))
 
-  no-cell : (c : ℕ) → InUse (placesOf s) (w .tables) c → ⊥
+  no-cell : (c : ℕ) → InUse s (w .tables) c → ⊥
   no-cell c v = omega (arith, v .place, used-zero (pageOf c) (v .page))
 
-  placed : WholeAt (placesOf s) (w .cells) (w .remember) (w .tables)
+  placed : WholeAt s (w .cells) (w .remember) (w .tables)
   placed =
       record {
         depths = λ k l. omega (arith, table-zero (5 + k) (omega arith) (omega (arith, room)));
@@ -113,7 +113,7 @@ module _ (s : Sizes) (lent w : Words) (range : InRange s) (long : LongEnough s l
         };
         partial = λ g l a b i j x y. omega (arith, x .owner, owner-zero a (omega arith));
         counts = λ g l m. table-zero (countsFrom s + (g - 1)) (omega (arith, room)) (omega (arith, room))
-            ∙ sym (omega (arith, sum-high (objectsOn (placesOf s) (w .tables) g) 0 (s .pages) (λ k i. omega (arith, no-objects g k i))));
+            ∙ sym (omega (arith, sum-high (objectsOn s (w .tables) g) 0 (s .pages) (λ k i. omega (arith, no-objects g k i))));
         variables = λ i l p. absurd (omega (arith, table-zero (5 + s .threads + i) (omega arith) (omega (arith, room))));
         references = λ c v. absurd (no-cell c v);
         formed = λ c v. absurd (no-cell c v);
@@ -143,7 +143,7 @@ module _ (s : Sizes) (lent w : Words) (range : InRange s) (long : LongEnough s l
   vars-zero : varsIn s w ≡ replicate (s .threads * s .variables) 0
   unfolding varsAt
   vars-zero =
-      let from : ℕ = varAt (placesOf s) 0 in
+      let from : ℕ = varAt s 0 in
       all-zero (varsIn s w) (s .threads * s .variables) (length-take-le (s .threads * s .variables) (drop from (w .tables)) (simp length-drop (omega (arith, long-tables, room))))
       (λ i l. getD-take (s .threads * s .variables) (drop from (w .tables)) i 0 l ∙ getD-drop from (w .tables) i 0
       ∙ table-zero (from + i) (omega arith) (omega (arith, room)))

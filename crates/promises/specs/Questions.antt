@@ -23,7 +23,6 @@ use Rattle.rules.specs.Rules as ru
 use Rattle.rules.specs.Rules.{Regioned, graph, asksEntries, first}
 use Rattle.layout.specs.declared.Kind.{Kind}
 use Rattle.layout.specs.declared.Kind.the-variants.{Reference, Number}
-use Rattle.layout.specs.Places.{placesOf}
 use Rattle.layout.specs.Cells.{headOf, fieldCount, kindAt}
 use Rattle.promises.specs.Words.{Words, Used, heapOf, varIn, headIn, fieldsIn, objectIn, ownerIn}
 use Rattle.promises.specs.Whole.{WholeFor, IsRef}
@@ -136,7 +135,7 @@ fieldsOf Number o = o .nums
 
 module _ (s : Sizes) (w : Words) (k : WholeFor s w) where
   -- every variable is null or names a cell in use
-  pub var-ref : (t a : ℕ) → t < s .threads → a < s .variables → IsRef (placesOf s) (w .tables) (varIn s w t a)
+  pub var-ref : (t a : ℕ) → t < s .threads → a < s .variables → IsRef s (w .tables) (varIn s w t a)
   var-ref t a l n = k .placed .variables (t * s .variables + a) (flat-low l n)
 
   pub object-heap : (y : ℕ) → Used s w y → objectOf (heapOf s w .heap) (suc y) ≡ objectIn w y
@@ -148,7 +147,7 @@ module _ (s : Sizes) (w : Words) (k : WholeFor s w) where
 
   -- a reference v that is null or names a cell in use, and field f of it
   module _ (d : Kind) (f : ℕ) where
-    pub used-fields : (v : ℕ) → IsRef (placesOf s) (w .tables) v
+    pub used-fields : (v : ℕ) → IsRef s (w .tables) v
         → used v f (length (fieldsOf d (objectOf (heapOf s w .heap) v))) ≡ used v f (fieldCount d (headOf (w .cells) (v - 1)))
     unfolding ask
     used-fields zero r = refl
@@ -158,7 +157,7 @@ module _ (s : Sizes) (w : Words) (k : WholeFor s w) where
         ap (used (suc y) f) (ap length (fields-heap d y u) ∙ length-fields s w k d y u ∙ sym (ap (λ (z : ℕ). fieldCount d (headOf (w .cells) z)) y′))
 
     -- the field's word
-    pub field-word : (v : ℕ) → IsRef (placesOf s) (w .tables) v → 0 < v → f < fieldCount d (headOf (w .cells) (v - 1))
+    pub field-word : (v : ℕ) → IsRef s (w .tables) v → 0 < v → f < fieldCount d (headOf (w .cells) (v - 1))
         → getD (fieldsOf d (objectOf (heapOf s w .heap) v)) f 0 ≡ getD (w .cells) (kindAt d (w .cells) (v - 1) f) 0
     field-word zero r p l = absurd (let o : ⊥ = omega arith in o)
     field-word (suc y) r p l =

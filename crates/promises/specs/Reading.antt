@@ -15,7 +15,7 @@ use Rattle.rules.specs.Terms.{InRange}
 use Rattle.laws.specs.GraphLaws.{Alive, Closed}
 use Rattle.layout.specs.declared.Kind.{Kind}
 use Rattle.layout.specs.declared.Kind.the-variants.{Reference}
-use Rattle.layout.specs.Places.{placesOf, depthAt, varAt, varOf, tablesWords, rememberWords, cellsWords, count-room, count-is, ownersFrom}
+use Rattle.layout.specs.Places.{depthAt, varAt, varOf, tablesWords, rememberWords, cellsWords, count-room, count-is, ownersFrom}
 use Rattle.layout.specs.Cells.{fieldAt, fieldOf, fieldCount, firstField, kindAt, kind-among, pageOf}
 use Rattle.promises.specs.Words.{Words, depthIn, varIn, ownerIn, depthsIn, varsIn, headIn, refCount, fieldsIn, refsIn, homeIn, graphOf, depthsAt, homeAt, inUseAt, fieldsAt, varsAt, Used, InUse}
 use Rattle.promises.specs.Whole.{WholeFor}
@@ -31,11 +31,11 @@ getD-fields d w c i l =
 pub getD-refs : (w : Words) (c i : ℕ) → i < refCount w c → getD (refsIn w c) i 0 ≡ fieldOf (w .cells) c i
 getD-refs w c i l = getD-fields Reference w c i l ∙ ap (fieldOf (w .cells) c) (let e : 0 + i ≡ i = omega arith in e)
 
-pub getD-vars : (s : Sizes) (w : Words) (i : ℕ) → i < s .threads * s .variables → getD (varsIn s w) i 0 ≡ varOf (placesOf s) (w .tables) i
+pub getD-vars : (s : Sizes) (w : Words) (i : ℕ) → i < s .threads * s .variables → getD (varsIn s w) i 0 ≡ varOf s (w .tables) i
 unfolding varsAt
 getD-vars s w i l =
-    getD-take (s .threads * s .variables) (drop (varAt (placesOf s) 0) (w .tables)) i 0 l ∙ getD-drop (varAt (placesOf s) 0) (w .tables) i 0
-    ∙ ap (λ (n : ℕ). getD (w .tables) n 0) (let e : varAt (placesOf s) 0 + i ≡ varAt (placesOf s) i = omega arith in e)
+    getD-take (s .threads * s .variables) (drop (varAt s 0) (w .tables)) i 0 l ∙ getD-drop (varAt s 0) (w .tables) i 0
+    ∙ ap (λ (n : ℕ). getD (w .tables) n 0) (let e : varAt s 0 + i ≡ varAt s i = omega arith in e)
 
 pub var-at : (s : Sizes) (w : Words) (t a : ℕ) → t < s .threads → a < s .variables → getD (varsIn s w) (t * s .variables + a) 0 ≡ varIn s w t a
 var-at s w t a l m = getD-vars s w (t * s .variables + a) (flat-low l m)
@@ -52,11 +52,11 @@ owners-is s = refl
 -- ---- cells in use
 
 -- the test reads the tables alone
-pub in-use : (s : Sizes) (t : List ℕ) (c : ℕ) → InUse (placesOf s) t c → inUseAt s t c ≡ true
+pub in-use : (s : Sizes) (t : List ℕ) (c : ℕ) → InUse s t c → inUseAt s t c ≡ true
 unfolding inUseAt
 in-use s t c u = ap₂ _&&_ (lt-ltb _ _ (u .page)) (lt-ltb _ _ (u .place))
 
-pub use-in : (s : Sizes) (t : List ℕ) (c : ℕ) → inUseAt s t c ≡ true → InUse (placesOf s) t c
+pub use-in : (s : Sizes) (t : List ℕ) (c : ℕ) → inUseAt s t c ≡ true → InUse s t c
 unfolding inUseAt
 use-in s t c e =
     let r = both-true _ _ e in
@@ -110,14 +110,14 @@ module _ (s : Sizes) (w : Words) (k : WholeFor s w) where
   pub length-refs : (c : ℕ) → Used s w c → length (refsIn w c) ≡ refCount w c
   length-refs = length-fields Reference
 
-  pub vars-room : varAt (placesOf s) (s .threads * s .variables) ≤ ownersFrom s
+  pub vars-room : varAt s (s .threads * s .variables) ≤ ownersFrom s
   unfolding ownersFrom
   vars-room = omega arith
 
   pub length-vars : length (varsIn s w) ≡ s .threads * s .variables
   unfolding varsAt
   length-vars =
-      length-take-le (s .threads * s .variables) (drop (varAt (placesOf s) 0) (w .tables))
+      length-take-le (s .threads * s .variables) (drop (varAt s 0) (w .tables))
       (simp length-drop (omega (arith, tables-room, count-room s, count-is s, vars-room)))
 
   pub length-depths : length (depthsIn s w) ≡ s .threads
@@ -129,9 +129,9 @@ module _ (s : Sizes) (w : Words) (k : WholeFor s w) where
   vars-alive : (i x : ℕ) → getD (varsIn s w) i 0 ≡ suc x → Alive (graphOf s w) x
   vars-alive i x e =
       let l : i < s .threads * s .variables = omega (arith, in-bounds (varsIn s w) i (λ z. omega arith), length-vars) in
-      let v : varOf (placesOf s) (w .tables) i ≡ suc x = sym (getD-vars s w i l) ∙ e in
+      let v : varOf s (w .tables) i ≡ suc x = sym (getD-vars s w i l) ∙ e in
       let u = k .placed .variables i l (omega arith) in
-      let x′ : varOf (placesOf s) (w .tables) i - 1 ≡ x = omega arith in
+      let x′ : varOf s (w .tables) i - 1 ≡ x = omega arith in
       used-alive x (subst (Used s w) x′ u)
 
   refs-alive : (c y : ℕ) → Alive (graphOf s w) c → In (suc y) (refsIn w c) → Alive (graphOf s w) y

@@ -7,12 +7,12 @@ use native.Mathlib.Nat.{le-antisymm}
 use borrow.Author.Tests.{lt-ltb, ltb-true}
 use Rattle.lists.specs.Counting.{count}
 use Rattle.lists.specs.Pigeonhole.{Names, all-named, named-le, names-le}
-use Rattle.layout.specs.declared.Places.{Places}
+use Rattle.rules.specs.declared.Sizes.{Sizes}
 use Rattle.layout.specs.Places.{usedIn, slotIn}
 use Rattle.promises.specs.Crossing.{crossTo, crossing}
 use Rattle.promises.specs.Whole.{EntriesWhole, RememberWhole}
 
-module _ (p : Places) (c m t : List ℕ) (w : EntriesWhole p c m t) where
+module _ (p : Sizes) (c m t : List ℕ) (w : EntriesWhole p c m t) where
   names-of : Names (crossing p c t) (256 * p .pages) (slotIn m) (usedIn m)
   names-of = record {
     low = λ i l. w .named i l .slot;

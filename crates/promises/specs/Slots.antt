@@ -10,7 +10,7 @@ use lib.ListN.{getD, length, set}
 use lib.Dec.{ltb, leb}
 use borrow.Author.Tests.{lt-ltb, ltb-true, le-leb, leb-true, ne-eqb}
 use Rattle.lists.specs.Stores.{put, past}
-use Rattle.layout.specs.declared.Places.{Places}
+use Rattle.rules.specs.declared.Sizes.{Sizes}
 use Rattle.layout.specs.Places.{ownerOf, usedOf}
 use Rattle.layout.specs.Cells.{headAt, headOf, fieldAt, pageOf, placeOf, cellOf, wordOf}
 use Rattle.promises.specs.Words.{InUse}
@@ -19,23 +19,23 @@ use Rattle.promises.specs.Whole.{RememberWhole}
 use Rattle.promises.specs.Entries.{Exact, Elsewhere}
 
 -- the word at q is a reference field of a cell in use
-pub record Slot (p : Places) (c t : List ℕ) (q : ℕ) : Type 0 where
+pub record Slot (p : Sizes) (c t : List ℕ) (q : ℕ) : Type 0 where
   pub used : InUse p t (cellOf q)
   pub field : 2 ≤ wordOf q
   pub count : wordOf q < headOf c (cellOf q) / 16 + 2
 
 -- the region that reference x, in a slot of a cell, crosses into; else 0
-abbrev pub crossesTo : Places → List ℕ → ℕ → ℕ → ℕ
+abbrev pub crossesTo : Sizes → List ℕ → ℕ → ℕ → ℕ
 crossesTo p t cell x = other (ownerOf p t (pageOf cell)) (regionOf p t x)
 
 -- the region of a reference to a cell in use
-pub region-of : (p : Places) (t : List ℕ) (c : ℕ) → InUse p t c → regionOf p t (suc c) ≡ ownerOf p t (pageOf c)
+pub region-of : (p : Sizes) (t : List ℕ) (c : ℕ) → InUse p t c → regionOf p t (suc c) ≡ ownerOf p t (pageOf c)
 region-of p t c u =
     let e : suc c - 1 ≡ c = omega arith in
     ap₂ (λ (b : Bool) (x : ℕ). cond b 0 (cond (ltb (pageOf x) (p .pages)) (ownerOf p t (pageOf x)) 0)) (ne-eqb (suc c) 0 (λ (z : suc c ≡ 0). omega arith)) e
     ∙ ap (λ (b : Bool). cond b (ownerOf p t (pageOf c)) 0) (lt-ltb (pageOf c) (p .pages) (u .page))
 
-module _ (p : Places) (c t : List ℕ) (q : ℕ) where
+module _ (p : Sizes) (c t : List ℕ) (q : ℕ) where
   -- the position of a slot is below the words of the pages
   pub slot-low : Slot p c t q → q < 256 * p .pages
   slot-low s = omega (arith, s .used .page)
@@ -71,7 +71,7 @@ module _ (p : Places) (c t : List ℕ) (q : ℕ) where
   slot-field s = omega (arith, s .field, s .count)
 
 -- and each reference field is one
-pub field-slot : (p : Places) (c t : List ℕ) (k f : ℕ) → InUse p t k → f < 14 → f < headOf c k / 16 → Slot p c t (fieldAt k f)
+pub field-slot : (p : Sizes) (c t : List ℕ) (k f : ℕ) → InUse p t k → f < 14 → f < headOf c k / 16 → Slot p c t (fieldAt k f)
 field-slot p c t k f u l m =
     let e : cellOf (fieldAt k f) ≡ k = omega arith in
     record {
@@ -82,7 +82,7 @@ field-slot p c t k f u l m =
 
 -- ---- the same slots cross into the same regions
 
-module _ (p : Places) (c t c′ t′ : List ℕ) (q : ℕ) (low : q < 256 * p .pages)
+module _ (p : Sizes) (c t c′ t′ : List ℕ) (q : ℕ) (low : q < 256 * p .pages)
     (kept : Slot p c t q → Slot p c′ t′ q × (crossesTo p t′ (cellOf q) (getD c′ q 0) ≡ crossesTo p t (cellOf q) (getD c q 0)))
     (new : Slot p c′ t′ q → Slot p c t q ⊎ (crossesTo p t′ (cellOf q) (getD c′ q 0) ≡ 0)) where
   pub cross-same : crossTo p c′ t′ q ≡ crossTo p c t q
@@ -102,7 +102,7 @@ module _ (p : Places) (c t c′ t′ : List ℕ) (q : ℕ) (low : q < 256 * p .p
 
 -- ---- a store to one slot
 
-module _ (p : Places) (c t : List ℕ) (at x : ℕ) (s : Slot p c t at) where
+module _ (p : Sizes) (c t : List ℕ) (at x : ℕ) (s : Slot p c t at) where
   -- word 0 of a cell is no slot
   pub head-past : (k : ℕ) → headOf (set c at x) k ≡ headOf c k
   head-past k = past c at x (headAt k) 0 (λ (e : headAt k ≡ at). omega (arith, s .field))
@@ -121,7 +121,7 @@ module _ (p : Places) (c t : List ℕ) (at x : ℕ) (s : Slot p c t at) where
 
 -- ---- the remember table is whole exactly if it is exact for crossTo
 
-pub exact-of : (p : Places) (c m t : List ℕ) → RememberWhole p c m t → Exact (crossTo p c t) (256 * p .pages) (p .entries) m
+pub exact-of : (p : Sizes) (c m t : List ℕ) → RememberWhole p c m t → Exact (crossTo p c t) (256 * p .pages) (p .entries) m
 exact-of p c m t w =
     record {
       room = w .entries .room;
@@ -131,7 +131,7 @@ exact-of p c m t w =
       every = w .every;
     }
 
-pub of-exact : (p : Places) (c m t : List ℕ) → Exact (crossTo p c t) (256 * p .pages) (p .entries) m → RememberWhole p c m t
+pub of-exact : (p : Sizes) (c m t : List ℕ) → Exact (crossTo p c t) (256 * p .pages) (p .entries) m → RememberWhole p c m t
 of-exact p c m t w =
     record {
       entries = record {

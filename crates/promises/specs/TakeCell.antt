@@ -13,15 +13,14 @@ use Rattle.lists.specs.Counting.{sum-same, sum-change}
 use Rattle.lists.specs.Stores.{put, past}
 use Rattle.rules.specs.declared.Sizes.{Sizes}
 use Rattle.rules.specs.Regions.{threadOf}
-use Rattle.layout.specs.declared.Places.{Places}
-use Rattle.layout.specs.Places.{placesOf, ownersFrom, depthAt, depthOf, ownerAt, ownerOf, usedAt, usedOf, markAt, markOf, countAt, countOf, used-is, mark-is, count-is}
+use Rattle.layout.specs.Places.{ownersFrom, depthAt, depthOf, ownerAt, ownerOf, usedAt, usedOf, markAt, markOf, countAt, countOf, used-is, mark-is, count-is}
 use Rattle.layout.specs.Cells.{pageOf, placeOf, cellOn}
 use Rattle.promises.specs.Words.{InUse}
 use Rattle.promises.specs.Reading.{owners-is}
 use Rattle.promises.specs.Whole.{Open, PageWhole, Partial, objectsOn, objectsOf, IsRef, WholeAt}
 
 -- region g took the cell: from tables t, which left t′
-pub record Took (p : Places) (t : List ℕ) (g cell : ℕ) (t′ : List ℕ) : Type 0 where
+pub record Took (p : Sizes) (t : List ℕ) (g cell : ℕ) (t′ : List ℕ) : Type 0 where
   pub page : pageOf cell < p .pages
   -- the first unused cell of its page
   pub first : usedOf p t (pageOf cell) ≡ placeOf cell
@@ -36,16 +35,16 @@ pub record Took (p : Places) (t : List ℕ) (g cell : ℕ) (t′ : List ℕ) : T
 -- ---- the words after it
 
 -- a cell of the region's own page
-abbrev pub tookOwn : Places → List ℕ → ℕ → ℕ → List ℕ
+abbrev pub tookOwn : Sizes → List ℕ → ℕ → ℕ → List ℕ
 tookOwn p t g page = set (set t (usedAt p page) (usedOf p t page + 1)) (countAt p g) (countOf p t g + 1)
 
 -- the first cell of a free page
-abbrev pub tookFree : Places → List ℕ → ℕ → ℕ → List ℕ
+abbrev pub tookFree : Sizes → List ℕ → ℕ → ℕ → List ℕ
 tookFree p t g page = set (set (set t (ownerAt p page) g) (usedAt p page) 1) (countAt p g) (countOf p t g + 1)
 
-module _ (s : Sizes) (t : List ℕ) (g page : ℕ) (low : page < s .pages) (room : countAt (placesOf s) g < length t) where
-  abbrev p : Places
-  p = placesOf s
+module _ (s : Sizes) (t : List ℕ) (g page : ℕ) (low : page < s .pages) (room : countAt s g < length t) where
+  abbrev p : Sizes
+  p = s
 
   pub took-own : ownerOf p t page ≡ g → usedOf p t page < 16 → Took p t g (cellOn page (usedOf p t page)) (tookOwn p t g page)
   took-own o few =
@@ -96,9 +95,9 @@ module _ (s : Sizes) (t : List ℕ) (g page : ℕ) (low : page < s .pages) (room
 
 -- ---- what it leaves as it was
 
-module _ (s : Sizes) (t : List ℕ) (g cell : ℕ) (t′ : List ℕ) (k : Took (placesOf s) t g cell t′) where
-  abbrev P : Places
-  P = placesOf s
+module _ (s : Sizes) (t : List ℕ) (g cell : ℕ) (t′ : List ℕ) (k : Took s t g cell t′) where
+  abbrev P : Sizes
+  P = s
 
   pub low-past : (j : ℕ) → j < ownersFrom s → getD t′ j 0 ≡ getD t j 0
   low-past j l = k .others j (λ (e : j ≡ ownerAt P (pageOf cell)). omega arith) (λ (e : j ≡ usedAt P (pageOf cell)). omega (arith, used-is s)) (λ (e : j ≡ countAt P g). omega (arith, count-is s))
@@ -161,28 +160,28 @@ module _ (s : Sizes) (t : List ℕ) (g cell : ℕ) (t′ : List ℕ) (k : Took (
 
 -- ---- pages and counts are whole
 
-module _ (s : Sizes) (c m t : List ℕ) (w : WholeAt (placesOf s) c m t) (g cell : ℕ) (t′ : List ℕ) (k : Took (placesOf s) t g cell t′) (pos : 1 ≤ g) (open′ : 1 < g → Open (placesOf s) t g) where
+module _ (s : Sizes) (c m t : List ℕ) (w : WholeAt s c m t) (g cell : ℕ) (t′ : List ℕ) (k : Took s t g cell t′) (pos : 1 ≤ g) (open′ : 1 < g → Open s t g) where
   pub depth-past : (u : ℕ) → u < s .threads → depthOf t′ u ≡ depthOf t u
   depth-past u l = low-past s t g cell t′ k (depthAt u) (omega (arith, owners-is s))
 
-  open-past : (q : ℕ) → Open (placesOf s) t q → Open (placesOf s) t′ q
+  open-past : (q : ℕ) → Open s t q → Open s t′ q
   open-past q o = record { real = o .real; thread = o .thread; level = omega (arith, o .level, depth-past (threadOf s q) (o .thread)) }
 
-  pub took-pages : (page : ℕ) → page < s .pages → PageWhole (placesOf s) t′ page
+  pub took-pages : (page : ℕ) → page < s .pages → PageWhole s t′ page
   took-pages page l = go (ℕ-discrete page (pageOf cell))
     where
-      o : PageWhole (placesOf s) t page
+      o : PageWhole s t page
       o = w .pages page l
 
-      go : Dec (page ≡ pageOf cell) → PageWhole (placesOf s) t′ page
+      go : Dec (page ≡ pageOf cell) → PageWhole s t′ page
       go (yes e) =
-          let a : ownerOf (placesOf s) t′ page ≡ g = ap (ownerOf (placesOf s) t′) e ∙ k .owner in
-          let b : usedOf (placesOf s) t′ page ≡ placeOf cell + 1 = ap (usedOf (placesOf s) t′) e ∙ k .used in
+          let a : ownerOf s t′ page ≡ g = ap (ownerOf s t′) e ∙ k .owner in
+          let b : usedOf s t′ page ≡ placeOf cell + 1 = ap (usedOf s t′) e ∙ k .used in
           record {
             free = λ z. absurd (let q : ⊥ = omega arith in q);
             taken = λ z. omega arith;
             cells = omega arith;
-            region = λ z. subst (Open (placesOf s) t′) (sym a) (open-past g (open′ (omega arith)));
+            region = λ z. subst (Open s t′) (sym a) (open-past g (open′ (omega arith)));
           }
       go (no d) =
           let a = owner-past s t g cell t′ k page l d in
@@ -191,27 +190,27 @@ module _ (s : Sizes) (c m t : List ℕ) (w : WholeAt (placesOf s) c m t) (g cell
             free = λ z. b ∙ o .free (sym a ∙ z);
             taken = λ z. omega (arith, o .taken (omega arith));
             cells = omega (arith, o .cells);
-            region = λ z. subst (Open (placesOf s) t′) (sym a) (open-past (ownerOf (placesOf s) t page) (o .region (omega arith)));
+            region = λ z. subst (Open s t′) (sym a) (open-past (ownerOf s t page) (o .region (omega arith)));
           }
 
-  was-partial : (q page : ℕ) → page < s .pages → (page ≡ pageOf cell → ⊥) → Partial (placesOf s) t′ q page → Partial (placesOf s) t q page
+  was-partial : (q page : ℕ) → page < s .pages → (page ≡ pageOf cell → ⊥) → Partial s t′ q page → Partial s t q page
   was-partial q page l d x = record { owner = sym (owner-past s t g cell t′ k page l d) ∙ x .owner; part = omega (arith, x .part, used-past s t g cell t′ k page l d) }
 
   -- another page of the region is not partly filled
-  alone : (q page : ℕ) → page < s .pages → (page ≡ pageOf cell → ⊥) → Partial (placesOf s) t′ q (pageOf cell) → Partial (placesOf s) t′ q page → ⊥
+  alone : (q page : ℕ) → page < s .pages → (page ≡ pageOf cell → ⊥) → Partial s t′ q (pageOf cell) → Partial s t′ q page → ⊥
   alone q page l d x y = go (k .source)
     where
       same : q ≡ g
       same = sym (x .owner) ∙ k .owner
 
-      there : Partial (placesOf s) t g page
-      there = subst (λ (z : ℕ). Partial (placesOf s) t z page) same (was-partial q page l d y)
+      there : Partial s t g page
+      there = subst (λ (z : ℕ). Partial s t z page) same (was-partial q page l d y)
 
-      go : (ownerOf (placesOf s) t (pageOf cell) ≡ g) ⊎ ((ownerOf (placesOf s) t (pageOf cell) ≡ 0) × ((q : ℕ) → q < s .pages → Partial (placesOf s) t g q → ⊥)) → ⊥
+      go : (ownerOf s t (pageOf cell) ≡ g) ⊎ ((ownerOf s t (pageOf cell) ≡ 0) × ((q : ℕ) → q < s .pages → Partial s t g q → ⊥)) → ⊥
       go (inr o) = o .1 page l there
       go (inl o) = order (ℕ-discrete page (pageOf cell))
         where
-          here : Partial (placesOf s) t g (pageOf cell)
+          here : Partial s t g (pageOf cell)
           here = record { owner = o; part = omega (arith, k .first) }
 
           order : Dec (page ≡ pageOf cell) → ⊥
@@ -222,45 +221,45 @@ module _ (s : Sizes) (c m t : List ℕ) (w : WholeAt (placesOf s) c m t) (g cell
               less (yes f) = w .partial g pos page (pageOf cell) f (k .page) there here
               less (no f) = w .partial g pos (pageOf cell) page (omega arith) l here there
 
-  pub took-partial : (q : ℕ) → 1 ≤ q → (a b : ℕ) → a < b → b < s .pages → Partial (placesOf s) t′ q a → Partial (placesOf s) t′ q b → ⊥
+  pub took-partial : (q : ℕ) → 1 ≤ q → (a b : ℕ) → a < b → b < s .pages → Partial s t′ q a → Partial s t′ q b → ⊥
   took-partial q z a b l h x y = go (ℕ-discrete a (pageOf cell)) (ℕ-discrete b (pageOf cell))
     where
       go : Dec (a ≡ pageOf cell) → Dec (b ≡ pageOf cell) → ⊥
-      go (yes e) f = alone q b h (λ (i : b ≡ pageOf cell). omega arith) (subst (Partial (placesOf s) t′ q) e x) y
-      go (no e) (yes f) = alone q a (omega arith) e (subst (Partial (placesOf s) t′ q) f y) x
+      go (yes e) f = alone q b h (λ (i : b ≡ pageOf cell). omega arith) (subst (Partial s t′ q) e x) y
+      go (no e) (yes f) = alone q a (omega arith) e (subst (Partial s t′ q) f y) x
       go (no e) (no f) = w .partial q z a b l h (was-partial q a (omega arith) e x) (was-partial q b h f y)
 
   -- the objects on the cell's page
-  on-page : objectsOn (placesOf s) t′ g (pageOf cell) ≡ objectsOn (placesOf s) t g (pageOf cell) + 1
-  on-page = ap (λ (b : Bool). cond b (usedOf (placesOf s) t′ (pageOf cell)) 0) (eq-eqb (ownerOf (placesOf s) t′ (pageOf cell)) g (k .owner)) ∙ k .used ∙ go (k .source)
+  on-page : objectsOn s t′ g (pageOf cell) ≡ objectsOn s t g (pageOf cell) + 1
+  on-page = ap (λ (b : Bool). cond b (usedOf s t′ (pageOf cell)) 0) (eq-eqb (ownerOf s t′ (pageOf cell)) g (k .owner)) ∙ k .used ∙ go (k .source)
     where
-      go : (ownerOf (placesOf s) t (pageOf cell) ≡ g) ⊎ ((ownerOf (placesOf s) t (pageOf cell) ≡ 0) × ((q : ℕ) → q < s .pages → Partial (placesOf s) t g q → ⊥)) → placeOf cell + 1 ≡ objectsOn (placesOf s) t g (pageOf cell) + 1
-      go (inl o) = omega (arith, k .first, ap (λ (b : Bool). cond b (usedOf (placesOf s) t (pageOf cell)) 0) (eq-eqb (ownerOf (placesOf s) t (pageOf cell)) g o))
+      go : (ownerOf s t (pageOf cell) ≡ g) ⊎ ((ownerOf s t (pageOf cell) ≡ 0) × ((q : ℕ) → q < s .pages → Partial s t g q → ⊥)) → placeOf cell + 1 ≡ objectsOn s t g (pageOf cell) + 1
+      go (inl o) = omega (arith, k .first, ap (λ (b : Bool). cond b (usedOf s t (pageOf cell)) 0) (eq-eqb (ownerOf s t (pageOf cell)) g o))
       go (inr o) =
-          omega (arith, k .first, w .pages (pageOf cell) (k .page) .free (o .0), ap (λ (b : Bool). cond b (usedOf (placesOf s) t (pageOf cell)) 0) (ne-eqb (ownerOf (placesOf s) t (pageOf cell)) g (λ (e : ownerOf (placesOf s) t (pageOf cell) ≡ g). omega (arith, o .0))))
+          omega (arith, k .first, w .pages (pageOf cell) (k .page) .free (o .0), ap (λ (b : Bool). cond b (usedOf s t (pageOf cell)) 0) (ne-eqb (ownerOf s t (pageOf cell)) g (λ (e : ownerOf s t (pageOf cell) ≡ g). omega (arith, o .0))))
 
-  on-other : (q page : ℕ) → page < s .pages → (page ≡ pageOf cell → ⊥) → objectsOn (placesOf s) t′ q page ≡ objectsOn (placesOf s) t q page
+  on-other : (q page : ℕ) → page < s .pages → (page ≡ pageOf cell → ⊥) → objectsOn s t′ q page ≡ objectsOn s t q page
   on-other q page l d = ap₂ (λ (o u : ℕ). cond (eqb o q) u 0) (owner-past s t g cell t′ k page l d) (used-past s t g cell t′ k page l d)
 
-  of-other : (q : ℕ) → 1 ≤ q → (q ≡ g → ⊥) → objectsOn (placesOf s) t′ q (pageOf cell) ≡ objectsOn (placesOf s) t q (pageOf cell)
+  of-other : (q : ℕ) → 1 ≤ q → (q ≡ g → ⊥) → objectsOn s t′ q (pageOf cell) ≡ objectsOn s t q (pageOf cell)
   of-other q z d =
-      ap (λ (b : Bool). cond b (usedOf (placesOf s) t′ (pageOf cell)) 0) (ne-eqb (ownerOf (placesOf s) t′ (pageOf cell)) q (λ e. d (sym e ∙ k .owner)))
-      ∙ sym (ap (λ (b : Bool). cond b (usedOf (placesOf s) t (pageOf cell)) 0) (ne-eqb (ownerOf (placesOf s) t (pageOf cell)) q (go (k .source))))
+      ap (λ (b : Bool). cond b (usedOf s t′ (pageOf cell)) 0) (ne-eqb (ownerOf s t′ (pageOf cell)) q (λ e. d (sym e ∙ k .owner)))
+      ∙ sym (ap (λ (b : Bool). cond b (usedOf s t (pageOf cell)) 0) (ne-eqb (ownerOf s t (pageOf cell)) q (go (k .source))))
     where
-      go : (ownerOf (placesOf s) t (pageOf cell) ≡ g) ⊎ ((ownerOf (placesOf s) t (pageOf cell) ≡ 0) × ((q : ℕ) → q < s .pages → Partial (placesOf s) t g q → ⊥)) → ownerOf (placesOf s) t (pageOf cell) ≡ q → ⊥
+      go : (ownerOf s t (pageOf cell) ≡ g) ⊎ ((ownerOf s t (pageOf cell) ≡ 0) × ((q : ℕ) → q < s .pages → Partial s t g q → ⊥)) → ownerOf s t (pageOf cell) ≡ q → ⊥
       go (inl o) e = d (sym e ∙ o)
-      go (inr o) e = let h : ownerOf (placesOf s) t (pageOf cell) ≡ 0 = o .0 in omega arith
+      go (inr o) e = let h : ownerOf s t (pageOf cell) ≡ 0 = o .0 in omega arith
 
-  pub took-counts : (q : ℕ) → 1 ≤ q → q ≤ 1 + s .threads * s .depth → countOf (placesOf s) t′ q ≡ objectsOf (placesOf s) t′ q
+  pub took-counts : (q : ℕ) → 1 ≤ q → q ≤ 1 + s .threads * s .depth → countOf s t′ q ≡ objectsOf s t′ q
   took-counts q z l = go (ℕ-discrete q g)
     where
-      go : Dec (q ≡ g) → countOf (placesOf s) t′ q ≡ objectsOf (placesOf s) t′ q
+      go : Dec (q ≡ g) → countOf s t′ q ≡ objectsOf s t′ q
       go (yes e) =
-          subst (λ (i : ℕ). countOf (placesOf s) t′ i ≡ objectsOf (placesOf s) t′ i) (sym e)
-          (omega (arith, k .count, w .counts g pos (omega arith), on-page, sum-change (objectsOn (placesOf s) t′ g) (objectsOn (placesOf s) t g) (pageOf cell) (s .pages) (k .page) (on-other g)))
+          subst (λ (i : ℕ). countOf s t′ i ≡ objectsOf s t′ i) (sym e)
+          (omega (arith, k .count, w .counts g pos (omega arith), on-page, sum-change (objectsOn s t′ g) (objectsOn s t g) (pageOf cell) (s .pages) (k .page) (on-other g)))
       go (no d) =
           count-past s t g cell t′ k q z pos d ∙ w .counts q z l ∙ sym (sum-same _ _ (s .pages) (λ page h. each page h (ℕ-discrete page (pageOf cell))))
         where
-          each : (page : ℕ) → page < s .pages → Dec (page ≡ pageOf cell) → objectsOn (placesOf s) t′ q page ≡ objectsOn (placesOf s) t q page
-          each page h (yes e) = subst (λ (i : ℕ). objectsOn (placesOf s) t′ q i ≡ objectsOn (placesOf s) t q i) (sym e) (of-other q z d)
+          each : (page : ℕ) → page < s .pages → Dec (page ≡ pageOf cell) → objectsOn s t′ q page ≡ objectsOn s t q page
+          each page h (yes e) = subst (λ (i : ℕ). objectsOn s t′ q i ≡ objectsOn s t q i) (sym e) (of-other q z d)
           each page h (no e) = on-other q page h e

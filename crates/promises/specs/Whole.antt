@@ -10,8 +10,7 @@ use Rattle.lists.specs.Counting.{sum}
 use Rattle.rules.specs.declared.Sizes.{Sizes}
 use Rattle.rules.specs.Terms.{InRange}
 use Rattle.rules.specs.Regions.{threadOf, levelOf}
-use Rattle.layout.specs.declared.Places.{Places}
-use Rattle.layout.specs.Places.{sizesAt, sizesOf, placesOf, cellsWords, rememberWords, tablesWords, depthOf, varOf, ownerOf, usedOf, markOf, countOf, usedIn, slotIn, slotRegionIn}
+use Rattle.layout.specs.Places.{sizesAt, cellsWords, rememberWords, tablesWords, depthOf, varOf, ownerOf, usedOf, markOf, countOf, usedIn, slotIn, slotRegionIn}
 use Rattle.layout.specs.Cells.{headOf, workOf, fieldOf}
 use Rattle.promises.specs.Words.{Words, InUse, sizesIn}
 use Rattle.promises.specs.Crossing.{crossTo}
@@ -19,32 +18,32 @@ use Rattle.promises.specs.Crossing.{crossTo}
 -- ---- the words that the conditions speak of
 
 -- region g of a thread is open
-pub record Open (p : Places) (t : List ℕ) (g : ℕ) : Type 0 where
+pub record Open (p : Sizes) (t : List ℕ) (g : ℕ) : Type 0 where
   pub real : 2 ≤ g
-  pub thread : threadOf (sizesOf p) g < p .threads
-  pub level : levelOf (sizesOf p) g ≤ depthOf t (threadOf (sizesOf p) g)
+  pub thread : threadOf p g < p .threads
+  pub level : levelOf p g ≤ depthOf t (threadOf p g)
 
 -- a page that is used belongs to the control space or an open region and uses its first 1 to 16 cells, a free page uses none
-pub record PageWhole (p : Places) (t : List ℕ) (page : ℕ) : Type 0 where
+pub record PageWhole (p : Sizes) (t : List ℕ) (page : ℕ) : Type 0 where
   pub free : ownerOf p t page ≡ 0 → usedOf p t page ≡ 0
   pub taken : 0 < ownerOf p t page → 1 ≤ usedOf p t page
   pub cells : usedOf p t page ≤ 16
   pub region : 1 < ownerOf p t page → Open p t (ownerOf p t page)
 
 -- a page of g that is partly filled
-pub record Partial (p : Places) (t : List ℕ) (g page : ℕ) : Type 0 where
+pub record Partial (p : Sizes) (t : List ℕ) (g page : ℕ) : Type 0 where
   pub owner : ownerOf p t page ≡ g
   pub part : usedOf p t page < 16
 
 -- the objects of region g on a page, and on all pages
-abbrev pub objectsOn : Places → List ℕ → ℕ → ℕ → ℕ
+abbrev pub objectsOn : Sizes → List ℕ → ℕ → ℕ → ℕ
 objectsOn p t g page = cond (eqb (ownerOf p t page) g) (usedOf p t page) 0
 
-abbrev pub objectsOf : Places → List ℕ → ℕ → ℕ
+abbrev pub objectsOf : Sizes → List ℕ → ℕ → ℕ
 objectsOf p t g = sum (objectsOn p t g) (p .pages)
 
 -- null, or the name of a cell in use
-abbrev pub IsRef : Places → List ℕ → ℕ → Type 0
+abbrev pub IsRef : Sizes → List ℕ → ℕ → Type 0
 IsRef p t x = 0 < x → InUse p t (x - 1)
 
 -- word 0 of cell k counts at most 14 fields, and the words after them are zero
@@ -53,20 +52,20 @@ pub record CellFormed (c : List ℕ) (k : ℕ) : Type 0 where
   pub rest : (f : ℕ) → f < 14 → headOf c k / 16 + headOf c k % 16 ≤ f → fieldOf c k f ≡ 0
 
 -- entry i names a crossing slot, with the right region
-pub record EntryWhole (p : Places) (c m t : List ℕ) (i : ℕ) : Type 0 where
+pub record EntryWhole (p : Sizes) (c m t : List ℕ) (i : ℕ) : Type 0 where
   pub slot : slotIn m i < 256 * p .pages
   pub region : 0 < slotRegionIn (p .entries) m i
   pub right : crossTo p c t (slotIn m i) ≡ slotRegionIn (p .entries) m i
 
 -- the entries name crossing slots, each once, and those that are not used are zero
-pub record EntriesWhole (p : Places) (c m t : List ℕ) : Type 0 where
+pub record EntriesWhole (p : Sizes) (c m t : List ℕ) : Type 0 where
   pub room : usedIn m ≤ p .entries
   pub named : (i : ℕ) → i < usedIn m → EntryWhole p c m t i
   pub once : (i j : ℕ) → i < j → j < usedIn m → slotIn m i ≡ slotIn m j → ⊥
   pub rest : (i : ℕ) → usedIn m ≤ i → i < p .entries → (slotIn m i ≡ 0) × (slotRegionIn (p .entries) m i ≡ 0)
 
 -- and every crossing slot is named
-pub record RememberWhole (p : Places) (c m t : List ℕ) : Type 0 where
+pub record RememberWhole (p : Sizes) (c m t : List ℕ) : Type 0 where
   pub entries : EntriesWhole p c m t
   pub every : (q : ℕ) → q < 256 * p .pages → 0 < crossTo p c t q → (i : ℕ) × (i < usedIn m) × (slotIn m i ≡ q)
 
@@ -82,7 +81,7 @@ pub record SizesWhole (c m t : List ℕ) : Type 0 where
   pub remember : rememberWords (sizesAt t) ≤ length m
   pub tables : tablesWords (sizesAt t) ≤ length t
 
-pub record WholeAt (p : Places) (c m t : List ℕ) : Type 0 where
+pub record WholeAt (p : Sizes) (c m t : List ℕ) : Type 0 where
   pub depths : (k : ℕ) → k < p .threads → depthOf t k ≤ p .depth
   pub pages : (page : ℕ) → page < p .pages → PageWhole p t page
   pub partial : (g : ℕ) → 1 ≤ g → (a b : ℕ) → a < b → b < p .pages → Partial p t g a → Partial p t g b → ⊥
@@ -96,7 +95,7 @@ pub record WholeAt (p : Places) (c m t : List ℕ) : Type 0 where
 
 pub record Whole (c m t : List ℕ) : Type 0 where
   pub sizes : SizesWhole c m t
-  pub placed : WholeAt (placesOf (sizesAt t)) c m t
+  pub placed : WholeAt (sizesAt t) c m t
 
 -- ---- of lent words
 
@@ -107,4 +106,4 @@ WholeWords w = Whole (w .cells) (w .remember) (w .tables)
 pub record WholeFor (s : Sizes) (w : Words) : Type 0 where
   pub sized : sizesIn w ≡ s
   pub sizes : SizesWhole (w .cells) (w .remember) (w .tables)
-  pub placed : WholeAt (placesOf s) (w .cells) (w .remember) (w .tables)
+  pub placed : WholeAt s (w .cells) (w .remember) (w .tables)

@@ -9,10 +9,9 @@ use Rattle.rules.specs.declared.Sizes.{Sizes}
 use Rattle.rules.specs.NeverFreeing.{Object}
 use Rattle.rules.specs.Graph.{Graph}
 use Rattle.rules.specs.Rules.{Regioned}
-use Rattle.layout.specs.declared.Places.{Places}
 use Rattle.layout.specs.declared.Kind.{Kind}
 use Rattle.layout.specs.declared.Kind.the-variants.{Reference, Number}
-use Rattle.layout.specs.Places.{sizesAt, placesOf, depthAt, varAt, depthOf, varOf, ownerOf, usedOf}
+use Rattle.layout.specs.Places.{sizesAt, depthAt, varAt, depthOf, varOf, ownerOf, usedOf}
 use Rattle.layout.specs.Cells.{headOf, fieldAt, fieldCount, firstField, pageOf, placeOf}
 
 pub record Words : Type 0 where
@@ -35,13 +34,13 @@ abbrev pub depthIn : Words → ℕ → ℕ
 depthIn w t = depthOf (w .tables) t
 
 abbrev pub varIn : Sizes → Words → ℕ → ℕ → ℕ
-varIn s w t a = varOf (placesOf s) (w .tables) (t * s .variables + a)
+varIn s w t a = varOf s (w .tables) (t * s .variables + a)
 
 abbrev pub ownerIn : Sizes → Words → ℕ → ℕ
-ownerIn s w page = ownerOf (placesOf s) (w .tables) page
+ownerIn s w page = ownerOf s (w .tables) page
 
 abbrev pub usedIn : Sizes → Words → ℕ → ℕ
-usedIn s w page = usedOf (placesOf s) (w .tables) page
+usedIn s w page = usedOf s (w .tables) page
 
 unfoldable pub depthsAt : Sizes → List ℕ → List ℕ
 depthsAt s tables = take (s .threads) (drop (depthAt 0) tables)
@@ -50,7 +49,7 @@ abbrev pub depthsIn : Sizes → Words → List ℕ
 depthsIn s w = depthsAt s (w .tables)
 
 unfoldable pub varsAt : Sizes → List ℕ → List ℕ
-varsAt s tables = take (s .threads * s .variables) (drop (varAt (placesOf s) 0) tables)
+varsAt s tables = take (s .threads * s .variables) (drop (varAt s 0) tables)
 
 abbrev pub varsIn : Sizes → Words → List ℕ
 varsIn s w = varsAt s (w .tables)
@@ -81,19 +80,19 @@ abbrev pub numsIn : Words → ℕ → List ℕ
 numsIn w c = fieldsIn Number w c
 
 -- cell c is in use: it is one of the first cells of its page
-pub record InUse (p : Places) (t : List ℕ) (c : ℕ) : Type 0 where
+pub record InUse (p : Sizes) (t : List ℕ) (c : ℕ) : Type 0 where
   pub page : pageOf c < p .pages
   pub place : placeOf c < usedOf p t (pageOf c)
 
 abbrev pub Used : Sizes → Words → ℕ → Type 0
-Used s w c = InUse (placesOf s) (w .tables) c
+Used s w c = InUse s (w .tables) c
 
 unfoldable pub inUseAt : Sizes → List ℕ → ℕ → Bool
-inUseAt s tables c = ltb (pageOf c) (s .pages) && ltb (placeOf c) (usedOf (placesOf s) tables (pageOf c))
+inUseAt s tables c = ltb (pageOf c) (s .pages) && ltb (placeOf c) (usedOf s tables (pageOf c))
 
 -- the region that a cell in use lies in; a cell not in use has home 0
 unfoldable pub homeAt : Sizes → List ℕ → ℕ → ℕ
-homeAt s tables c = cond (inUseAt s tables c) (ownerOf (placesOf s) tables (pageOf c)) 0
+homeAt s tables c = cond (inUseAt s tables c) (ownerOf s tables (pageOf c)) 0
 
 abbrev pub homeIn : Sizes → Words → ℕ → ℕ
 homeIn s w c = homeAt s (w .tables) c

@@ -7,9 +7,9 @@ use native.Mathlib.Decide.{ℕ-discrete}
 use native.Mathlib.Omega.{arith}
 use lib.ListN.{length, getD, set, length-set}
 use lib.Seq.{getD-set-same, getD-set-other}
-use Rattle.layout.specs.declared.Places.{Places}
+use Rattle.rules.specs.declared.Sizes.{Sizes}
 use Rattle.lists.specs.Counting.{sum-same, sum-none}
-use Rattle.layout.specs.Places.{Room, depthAt, ownerAt, usedAt, markAt, countAt, depthOf, ownerOf, usedOf, markOf, countOf}
+use Rattle.layout.specs.Places.{Room, depthAt, ownerAt, usedAt, markAt, countAt, depthOf, ownerOf, usedOf, markOf, countOf, countsFrom, ownersFrom}
 use Rattle.promises.specs.Words.{InUse}
 use Rattle.promises.specs.Whole.{objectsOn, objectsOf}
 use Rattle.pages.specs.Pages.{Partly}
@@ -18,24 +18,24 @@ use Rattle.pages.specs.Owned.{regionsOf}
 use Rattle.copy.specs.Taking.{Regular}
 
 -- the three words of page q
-pub record Blank (p : Places) (T : List ℕ) (q : ℕ) : Type 0 where
+pub record Blank (p : Sizes) (T : List ℕ) (q : ℕ) : Type 0 where
   pub owner : ownerOf p T q ≡ 0
   pub used : usedOf p T q ≡ 0
   pub marks : markOf p T q ≡ 0
 
-pub record Alike (p : Places) (T T′ : List ℕ) (q : ℕ) : Type 0 where
+pub record Alike (p : Sizes) (T T′ : List ℕ) (q : ℕ) : Type 0 where
   pub owner : ownerOf p T′ q ≡ ownerOf p T q
   pub used : usedOf p T′ q ≡ usedOf p T q
   pub marks : markOf p T′ q ≡ markOf p T q
 
 -- of the pages below n
-pub record Released (p : Places) (r n : ℕ) (T T′ : List ℕ) : Type 0 where
+pub record Released (p : Sizes) (r n : ℕ) (T T′ : List ℕ) : Type 0 where
   pub size : length T′ ≡ length T
   pub freed : (q : ℕ) → q < n → ownerOf p T q ≡ r → Blank p T′ q
   pub kept : (q : ℕ) → q < p .pages → (q < n → ownerOf p T q ≢ r) → Alike p T T′ q
-  pub rest : (x : ℕ) → (x < p .owners) ⊎ (p .counts ≤ x) → getD T′ x 0 ≡ getD T x 0
+  pub rest : (x : ℕ) → (x < ownersFrom p) ⊎ (countsFrom p ≤ x) → getD T′ x 0 ≡ getD T x 0
 
-pub release-start : (p : Places) (r : ℕ) (T : List ℕ) → Released p r 0 T T
+pub release-start : (p : Sizes) (r : ℕ) (T : List ℕ) → Released p r 0 T T
 release-start p r T =
     record {
       size = refl;
@@ -44,7 +44,7 @@ release-start p r T =
       rest = λ x h. refl;
     }
 
-module _ {p : Places} {r n : ℕ} {T T′ : List ℕ} (room : Room p (length T)) (lt : n < p .pages) (h : Released p r n T T′) where
+module _ {p : Sizes} {r n : ℕ} {T T′ : List ℕ} (room : Room p (length T)) (lt : n < p .pages) (h : Released p r n T T′) where
   -- page n is not r's
   pub release-left : ownerOf p T n ≢ r → Released p r (n + 1) T T′
   release-left ne =
@@ -118,18 +118,18 @@ module _ {p : Places} {r n : ℕ} {T T′ : List ℕ} (room : Room p (length T))
           let b = h .kept q l (λ m. k (omega arith)) in
           record { owner = a .owner ∙ b .owner; used = a .used ∙ b .used; marks = a .marks ∙ b .marks }
 
-      rest′ : (x : ℕ) → (x < p .owners) ⊎ (p .counts ≤ x) → getD Z x 0 ≡ getD T′ x 0
+      rest′ : (x : ℕ) → (x < ownersFrom p) ⊎ (countsFrom p ≤ x) → getD Z x 0 ≡ getD T′ x 0
       rest′ x (inl l) = other x (λ e. omega arith) (λ e. omega arith) (λ e. omega arith)
       rest′ x (inr l) = other x (λ e. omega arith) (λ e. omega arith) (λ e. omega arith)
 
 -- ---- the whole release, by thread t
 
-pub record Ended (p : Places) (r t : ℕ) (T T′ : List ℕ) : Type 0 where
+pub record Ended (p : Sizes) (r t : ℕ) (T T′ : List ℕ) : Type 0 where
   pub mid : List ℕ
   pub pages : Released p r (p .pages) T mid
   pub tables : T′ ≡ set (set mid (countAt p r) 0) (depthAt t) (depthOf T t - 1)
 
-module _ {p : Places} {r t : ℕ} {T T′ : List ℕ} (a : Regular p T) (real : 1 ≤ r) (low : r ≤ regionsOf p) (thread : t < p .threads) (h : Ended p r t T T′) where
+module _ {p : Sizes} {r t : ℕ} {T T′ : List ℕ} (a : Regular p T) (real : 1 ≤ r) (low : r ≤ regionsOf p) (thread : t < p .threads) (h : Ended p r t T T′) where
   M : List ℕ
   M = h .mid
 
@@ -155,7 +155,7 @@ module _ {p : Places} {r t : ℕ} {T T′ : List ℕ} (a : Regular p T) (real : 
       ∙ getD-set-same (h .mid) (countAt p r) 0 0 (omega (arith, a .room, h .pages .size))
 
   -- words of the tables that are neither a page's, nor r's count, nor the depth
-  pub ended-rest : (x : ℕ) → x ≢ depthAt t → x ≢ countAt p r → (x < p .owners) ⊎ (p .counts ≤ x) → getD T′ x 0 ≡ getD T x 0
+  pub ended-rest : (x : ℕ) → x ≢ depthAt t → x ≢ countAt p r → (x < ownersFrom p) ⊎ (countsFrom p ≤ x) → getD T′ x 0 ≡ getD T x 0
   ended-rest x n m k = ended-word x n m ∙ h .pages .rest x k
 
   pub ended-blank : (q : ℕ) → q < p .pages → ownerOf p T q ≡ r → Blank p T′ q
@@ -239,7 +239,7 @@ module _ {p : Places} {r t : ℕ} {T T′ : List ℕ} (a : Regular p T) (real : 
           ∙ sym (ended-objects g pos n)
 
 -- the depth of a thread, after pages were released and a count set
-pub kept-depth : {p : Places} {r n t : ℕ} (g : ℕ) {T M X : List ℕ} → Room p (length T) → Released p r n T M → t < p .threads → X ≡ set M (countAt p g) 0
+pub kept-depth : {p : Sizes} {r n t : ℕ} (g : ℕ) {T M X : List ℕ} → Room p (length T) → Released p r n T M → t < p .threads → X ≡ set M (countAt p g) 0
     → depthOf X t ≡ depthOf T t
 kept-depth {p} {r} {n} {t} g {T} {M} rm h l e =
     ap (λ (L : List ℕ). depthOf L t) e ∙ getD-set-other M (countAt p g) (depthAt t) 0 0 (λ z. omega (arith, rm))

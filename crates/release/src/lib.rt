@@ -9,10 +9,10 @@ ghost use Rattle.pages.specs.Owned.{regionsOf};
 ghost use Rattle.copy.specs.Taking.{Regular};
 ghost use Rattle.release.specs.Notes.{noted};
 ghost use Rattle.release.specs.Release.{Released, Ended};
-use layout::Places;
+use rules::Sizes;
 
 // The region's pages, which are those listed, become free.
-pub fn release_pages(p: Places, tables: &mut [u32], list: &[u32], n: usize, region: u32)
+pub fn release_pages(p: Sizes, tables: &mut [u32], list: &[u32], n: usize, region: u32)
     requires { ⌜ Room p (length (now tables)) ⌝ }
     requires { ⌜ Lists (λ page. ownerOf p (now tables) page ≡ region) (p .pages) n (now list) ⌝ }
     ensures { λ _. ⌜ Released p region (p .pages) (now (tables .entry)) (now (tables .exit)) ⌝ }
@@ -28,7 +28,7 @@ pub fn release_pages(p: Places, tables: &mut [u32], list: &[u32], n: usize, regi
 }
 
 // Note 0 rises above the listed pages: a search for a free page goes down from it.
-fn note_released(p: Places, notes: &mut [u32], list: &[u32], n: usize)
+fn note_released(p: Sizes, notes: &mut [u32], list: &[u32], n: usize)
     requires { ⌜ Rises (p .pages) n (now list) ⌝ }
     requires { ⌜ (p .pages ≤ 1024) × (noteWords ≤ length (now notes)) ⌝ }
     ensures { λ _. ⌜ now (notes .exit) ≡ noted (now (notes .entry)) (now (list .entry)) n ⌝ }
@@ -43,7 +43,7 @@ fn note_released(p: Places, notes: &mut [u32], list: &[u32], n: usize)
 
 // The end of a thread's region: its pages, its count, the thread's depth.
 pub fn release(
-    p: Places,
+    p: Sizes,
     tables: &mut [u32],
     notes: &mut [u32],
     list: &[u32],
@@ -66,7 +66,7 @@ pub fn release(
 }
 
 // The same where the region's pages are not listed yet.
-fn list_and_release(p: Places, tables: &mut [u32], notes: &mut [u32], region: u32, thread: usize)
+fn list_and_release(p: Sizes, tables: &mut [u32], notes: &mut [u32], region: u32, thread: usize)
     requires { ⌜ Regular p (now tables) ⌝ }
     requires { ⌜ (1 ≤ region) × (region ≤ regionsOf p) ⌝ }
     requires { ⌜ (thread < p .threads) × (1 ≤ depthOf (now tables) thread) ⌝ }
@@ -79,7 +79,7 @@ fn list_and_release(p: Places, tables: &mut [u32], notes: &mut [u32], region: u3
 }
 
 // The same: a region without objects has no pages, and needs no list.
-pub fn release_region(p: Places, tables: &mut [u32], notes: &mut [u32], region: u32, thread: usize)
+pub fn release_region(p: Sizes, tables: &mut [u32], notes: &mut [u32], region: u32, thread: usize)
     requires { ⌜ Regular p (now tables) ⌝ }
     requires { ⌜ (1 ≤ region) × (region ≤ regionsOf p) ⌝ }
     requires { ⌜ (thread < p .threads) × (1 ≤ depthOf (now tables) thread) ⌝ }

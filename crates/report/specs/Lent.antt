@@ -9,8 +9,8 @@ use lib.Seq.{length-take-le, take-suc, drop-cons, append-snoc, set-at, take-leng
 use Rattle.rules.specs.Regions.{regions}
 use Rattle.rules.specs.Graph.{crossing, freePages}
 use Rattle.rules.specs.Rules.{graph}
-use Rattle.layout.specs.declared.Places.{Places}
-use Rattle.layout.specs.Places.{sizesAt, placesOf, usedIn}
+use Rattle.rules.specs.declared.Sizes.{Sizes}
+use Rattle.layout.specs.Places.{sizesAt, usedIn}
 use Rattle.promises.specs.Words.{Words, sizesIn, heapOf}
 use Rattle.promises.specs.Whole.{WholeWords}
 use Rattle.promises.specs.Agreed.{heapOf-stands}
@@ -48,12 +48,9 @@ module _ (r lent : List Row) where
 
 -- ---- the questions
 
-abbrev pub placesIn : List ℕ → Places
-placesIn t = placesOf (sizesAt t)
-
 -- the tables are whole, and g is one of their regions
 abbrev pub RegionOf : List ℕ → ℕ → Type 0
-RegionOf t g = WholeTables (placesIn t) t × (1 ≤ g) × (g ≤ regions (sizesAt t))
+RegionOf t g = WholeTables (sizesAt t) t × (1 ≤ g) × (g ≤ regions (sizesAt t))
 
 -- the questions of a list of so many rows gave r
 pub record Asking (w : Words) (room : ℕ) (r : Reported) : Type 0 where
@@ -63,23 +60,23 @@ pub record Asking (w : Words) (room : ℕ) (r : Reported) : Type 0 where
 -- the rows of the tables are those of the heap that the words make
 module _ (w : Words) where
   abbrev these : List Row
-  these = rowsIn (placesIn (w .tables)) (w .tables)
+  these = rowsIn (sizesAt (w .tables)) (w .tables)
 
   these-length : length these ≡ rowCount w
   unfolding rowsIn
-  these-length = length-map (openIn (placesIn (w .tables)) (w .tables)) (rowIn (placesIn (w .tables)) (w .tables))
+  these-length = length-map (openIn (sizesAt (w .tables)) (w .tables)) (rowIn (sizesAt (w .tables)) (w .tables))
 
   these-stand : WholeWords w → these ≡ rows (sizesIn w) (heapOf (sizesIn w) w)
-  these-stand k = rows-stand (placesIn (w .tables)) (w .tables) refl (w .cells) (w .remember) (heapOf (sizesIn w) w) (λ x. x) (heapOf-stands w k)
+  these-stand k = rows-stand (sizesAt (w .tables)) (w .tables) (w .cells) (w .remember) (heapOf (sizesIn w) w) (λ x. x) (heapOf-stands w k)
 
--- as the code answers; p are the places that it found
+-- as the code answers; p are the sizes that it read
 module _ (w : Words) (room : ℕ) where
   pub asking-not-whole : (WholeWords w → ⊥) → Asking w room (refusing 3)
   asking-not-whole n = record { asked = notWhole refl n; result = refl }
 
-  module _ (k : WholeWords w) (p : Places) (e : p ≡ placesIn (w .tables)) (n : ℕ) (all : n ≡ length (rowsIn p (w .tables))) where
+  module _ (k : WholeWords w) (p : Sizes) (e : p ≡ sizesAt (w .tables)) (n : ℕ) (all : n ≡ length (rowsIn p (w .tables))) where
     counted : n ≡ length (these w)
-    counted = all ∙ ap (λ (q : Places). length (rowsIn q (w .tables))) e
+    counted = all ∙ ap (λ (q : Sizes). length (rowsIn q (w .tables))) e
 
     pub asking-short : room < n → Asking w room (refusing 15)
     asking-short l = record { asked = short refl k (omega (arith, counted, these-length w)); result = refl }
@@ -92,7 +89,7 @@ module _ (w : Words) (room : ℕ) where
         let st = heapOf-stands w k in
         let n-is : n ≡ length (rows s h) = counted ∙ ap length (these-stand w k) in
         let f-is : f ≡ freePages s (graph h) =
-        free ∙ ap (λ (q : Places). freeIn q (w .tables)) e ∙ free-stands (placesIn (w .tables)) (w .tables) refl (w .cells) (w .remember) h (λ c. c) st in
+        free ∙ ap (λ (q : Sizes). freeIn q (w .tables)) e ∙ free-stands (sizesAt (w .tables)) (w .tables) (w .cells) (w .remember) h (λ c. c) st in
         let x-is : x ≡ crossing (graph h) = cross ∙ heap-entries s w h (λ c. c) st in
         record {
           asked = accepted refl k (omega (arith, counted, these-length w));
@@ -110,16 +107,16 @@ module _ (w : Words) (lent : List Row) (r : Reported) (k : Asking w (length lent
   rows-all : r .number ≡ 0 → WholeWords w → r .rows ≡ length (these w)
   rows-all e h = rows-of e ∙ ap length (sym (these-stand w h))
 
-  pub asked-few : (r .rows ≤ length lent) × (r .rows ≤ length (these w)) × (0 < r .rows → WholeTables (placesIn (w .tables)) (w .tables))
+  pub asked-few : (r .rows ≤ length lent) × (r .rows ≤ length (these w)) × (0 < r .rows → WholeTables (sizesAt (w .tables)) (w .tables))
   asked-few = go (k .asked)
     where
-      none : r .rows ≡ 0 → (r .rows ≤ length lent) × (r .rows ≤ length (these w)) × (0 < r .rows → WholeTables (placesIn (w .tables)) (w .tables))
+      none : r .rows ≡ 0 → (r .rows ≤ length lent) × (r .rows ≤ length (these w)) × (0 < r .rows → WholeTables (sizesAt (w .tables)) (w .tables))
       none z = (omega arith, omega arith, λ l. absurd (let y : ⊥ = omega arith in y))
 
-      go : ReportAsked w (length lent) (r .number) → (r .rows ≤ length lent) × (r .rows ≤ length (these w)) × (0 < r .rows → WholeTables (placesIn (w .tables)) (w .tables))
+      go : ReportAsked w (length lent) (r .number) → (r .rows ≤ length lent) × (r .rows ≤ length (these w)) × (0 < r .rows → WholeTables (sizesAt (w .tables)) (w .tables))
       go (notWhole e n) = none (rows-of e)
       go (short e h l) = none (rows-of e)
-      go (accepted e h l) = (omega (arith, rows-all e h, these-length w), omega (arith, rows-all e h), λ z. whole-tables h refl refl)
+      go (accepted e h l) = (omega (arith, rows-all e h, these-length w), omega (arith, rows-all e h), λ z. whole-tables h refl)
 
   pub told-written : Told w lent r (written (these w) (r .rows) lent)
   told-written = record { asked = k .asked; result = k .result; rows-left = go (k .asked) }

@@ -13,8 +13,7 @@ use Rattle.lists.specs.Counting.{bit, sum, count, sum-add, sum-blocks, sum-firs
 use Rattle.lists.specs.Products.{flat-low, flat-row, flat-place}
 use Rattle.rules.specs.declared.Sizes.{Sizes}
 use Rattle.rules.specs.Regions.{threadOf, levelOf, regionAt, regions}
-use Rattle.layout.specs.declared.Places.{Places}
-use Rattle.layout.specs.Places.{sizesOf, depthOf}
+use Rattle.layout.specs.Places.{depthOf}
 use Rattle.promises.specs.Words.{words, depthsAt}
 use Rattle.promises.specs.Whole.{Open}
 use Rattle.promises.specs.Reading.{depth-at}
@@ -84,24 +83,24 @@ module _ (s : Sizes) (depths : List ℕ) where
 
 -- ---- as the code tests it
 
-module _ (p : Places) (t : List ℕ) where
-  pub open-yes : (q : ℕ) → Open p t q → isOpen (sizesOf p) (depthsAt (sizesOf p) t) q ≡ true
+module _ (p : Sizes) (t : List ℕ) where
+  pub open-yes : (q : ℕ) → Open p t q → isOpen p (depthsAt p t) q ≡ true
   unfolding isOpen
   open-yes q o =
-      ap (λ (b : Bool). b || leb (levelOf (sizesOf p) q) (getD (depthsAt (sizesOf p) t) (threadOf (sizesOf p) q) 0)) (ne-eqb q 1 (λ (e : q ≡ 1). omega (arith, o .real)))
-      ∙ le-leb (levelOf (sizesOf p) q) (getD (depthsAt (sizesOf p) t) (threadOf (sizesOf p) q) 0)
-      (omega (arith, o .level, depth-at (sizesOf p) (words t t t) (threadOf (sizesOf p) q) (o .thread)))
+      ap (λ (b : Bool). b || leb (levelOf p q) (getD (depthsAt p t) (threadOf p q) 0)) (ne-eqb q 1 (λ (e : q ≡ 1). omega (arith, o .real)))
+      ∙ le-leb (levelOf p q) (getD (depthsAt p t) (threadOf p q) 0)
+      (omega (arith, o .level, depth-at p (words t t t) (threadOf p q) (o .thread)))
 
-  pub open-no : 1 ≤ p .depth → (q : ℕ) → 2 ≤ q → q ≤ regions (sizesOf p) → (Open p t q → ⊥) → isOpen (sizesOf p) (depthsAt (sizesOf p) t) q ≡ false
+  pub open-no : 1 ≤ p .depth → (q : ℕ) → 2 ≤ q → q ≤ regions p → (Open p t q → ⊥) → isOpen p (depthsAt p t) q ≡ false
   unfolding isOpen
   open-no d q l m n =
-      let th : threadOf (sizesOf p) q < p .threads = div-lt-iff-lt-mul {x = q - 2} d .1 (omega arith) in
-      ap (λ (b : Bool). b || leb (levelOf (sizesOf p) q) (getD (depthsAt (sizesOf p) t) (threadOf (sizesOf p) q) 0)) (ne-eqb q 1 (λ (e : q ≡ 1). omega arith))
-      ∙ lt-leb (levelOf (sizesOf p) q) (getD (depthsAt (sizesOf p) t) (threadOf (sizesOf p) q) 0)
-      (low th (decLt (depthOf t (threadOf (sizesOf p) q)) (levelOf (sizesOf p) q)))
+      let th : threadOf p q < p .threads = div-lt-iff-lt-mul {x = q - 2} d .1 (omega arith) in
+      ap (λ (b : Bool). b || leb (levelOf p q) (getD (depthsAt p t) (threadOf p q) 0)) (ne-eqb q 1 (λ (e : q ≡ 1). omega arith))
+      ∙ lt-leb (levelOf p q) (getD (depthsAt p t) (threadOf p q) 0)
+      (low th (decLt (depthOf t (threadOf p q)) (levelOf p q)))
     where
-      low : threadOf (sizesOf p) q < p .threads → Dec (depthOf t (threadOf (sizesOf p) q) < levelOf (sizesOf p) q) → getD (depthsAt (sizesOf p) t) (threadOf (sizesOf p) q) 0 < levelOf (sizesOf p) q
-      low th (yes h) = omega (arith, depth-at (sizesOf p) (words t t t) (threadOf (sizesOf p) q) th)
+      low : threadOf p q < p .threads → Dec (depthOf t (threadOf p q) < levelOf p q) → getD (depthsAt p t) (threadOf p q) 0 < levelOf p q
+      low th (yes h) = omega (arith, depth-at p (words t t t) (threadOf p q) th)
       low th (no h) = absurd (n (record { real = l; thread = th; level = omega arith }))
 
 -- the last region is the last thread's at the full depth
@@ -172,14 +171,14 @@ module _ (s : Sizes) (depths : List ℕ) (d : 1 ≤ s .depth) (deep : (k : ℕ) 
 
 -- ---- the rows, while the open regions are passed
 
-module _ (p : Places) (t : List ℕ) (k q : ℕ) (at : Turn (sizesOf p) (depthsAt (sizesOf p) t) k q) (l : k < length (rowsIn p t)) where
+module _ (p : Sizes) (t : List ℕ) (k q : ℕ) (at : Turn p (depthsAt p t) k q) (l : k < length (rowsIn p t)) where
   few : k < length (openIn p t)
   unfolding rowsIn
   few = subst (λ (n : ℕ). k < n) (length-map (openIn p t) (rowIn p t)) l
 
-  pub turn-high : q ≤ regions (sizesOf p)
-  turn-high = turn-region (sizesOf p) (depthsAt (sizesOf p) t) k q at few
+  pub turn-high : q ≤ regions p
+  turn-high = turn-region p (depthsAt p t) k q at few
 
   pub turn-row : rowIn p t q ≡ getD (rowsIn p t) k noRow
   unfolding rowsIn
-  turn-row = sym (getD-map (rowIn p t) (openIn p t) k 0 noRow few ∙ ap (rowIn p t) (turn-open (sizesOf p) (depthsAt (sizesOf p) t) k q at few))
+  turn-row = sym (getD-map (rowIn p t) (openIn p t) k 0 noRow few ∙ ap (rowIn p t) (turn-open p (depthsAt p t) k q at few))

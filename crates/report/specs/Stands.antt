@@ -9,8 +9,8 @@ use Rattle.lists.specs.Counting.{sum, sum-same, sum-more, sum-high}
 use Rattle.rules.specs.Regions.{regionAt, regions}
 use Rattle.rules.specs.Graph.{objectsIn, freePages}
 use Rattle.rules.specs.Rules.{Regioned, graph}
-use Rattle.layout.specs.declared.Places.{Places}
-use Rattle.layout.specs.Places.{placesOf, sizesOf, depthOf, countOf}
+use Rattle.rules.specs.declared.Sizes.{Sizes}
+use Rattle.layout.specs.Places.{depthOf, countOf}
 use Rattle.promises.specs.Words.{words, depthsAt}
 use Rattle.promises.specs.StandsFor.{StandsFor}
 use Rattle.promises.specs.Reading.{range, depth-at}
@@ -22,18 +22,18 @@ use Rattle.report.specs.Passing.{map-passing}
 use Rattle.report.specs.Opened.{Turn, rows-counted, turn-level}
 use Rattle.report.specs.Tables.{WholeTables, rowIn, rowsIn, freeIn}
 
-module _ (p : Places) (t : List ℕ) (k : WholeTables p t) where
+module _ (p : Sizes) (t : List ℕ) (k : WholeTables p t) where
   abbrev depths : List ℕ
-  depths = depthsAt (sizesOf p) t
+  depths = depthsAt p t
 
   depth-is : (i : ℕ) → i < p .threads → getD depths i 0 ≡ depthOf t i
-  depth-is i l = depth-at (sizesOf p) (words (k .cells) (k .remember) t) i l
+  depth-is i l = depth-at p (words (k .cells) (k .remember) t) i l
 
   deep : (i : ℕ) → i < p .threads → getD depths i 0 ≤ p .depth
   deep i l = omega (arith, depth-is i l, k .whole .placed .depths i l)
 
   some-depth : 1 ≤ p .depth
-  some-depth = range (sizesOf p) (words (k .cells) (k .remember) t) (k .whole) .depth-low
+  some-depth = range p (words (k .cells) (k .remember) t) (k .whole) .depth-low
 
   depths-sum : (n : ℕ) → n ≤ p .threads → sum (λ i. getD depths i 0) n ≡ sum (depthOf t) n
   depths-sum n l = sum-same (λ i. getD depths i 0) (depthOf t) n (λ i h. depth-is i (omega arith))
@@ -42,13 +42,13 @@ module _ (p : Places) (t : List ℕ) (k : WholeTables p t) where
   pub row-count : 1 + sum (depthOf t) (p .threads) ≡ length (rowsIn p t)
   unfolding rowsIn
   row-count =
-      sym (length-map (openRegions (sizesOf p) depths) (rowIn p t) ∙ rows-counted (sizesOf p) depths some-depth deep
+      sym (length-map (openRegions p depths) (rowIn p t) ∙ rows-counted p depths some-depth deep
       ∙ ap (λ (n : ℕ). 1 + n) (depths-sum (p .threads) (omega arith)))
 
   -- at most one for the control space and 8 for each of 16 threads
   pub rows-few : length (rowsIn p t) ≤ 129
   rows-few =
-      let r = range (sizesOf p) (words (k .cells) (k .remember) t) (k .whole) in
+      let r = range p (words (k .cells) (k .remember) t) (k .whole) in
       omega (arith, row-count, r .threads-high, sum-high (depthOf t) 8 (p .threads) (λ i l. omega (arith, k .whole .placed .depths i l, r .depth-high)))
 
   -- a thread whose levels do not reach row k is not the last
@@ -62,24 +62,24 @@ module _ (p : Places) (t : List ℕ) (k : WholeTables p t) where
           absurd (let z : ⊥ = omega (arith, row-count, ap (sum (depthOf t)) e, sum-more (depthOf t) n) in z)
 
   -- level l of thread n, while open, is the open region after so many
-  pub turn-at : (n l : ℕ) → n < p .threads → 1 ≤ l → l ≤ depthOf t n → Turn (sizesOf p) depths (sum (depthOf t) n + l) (regionAt (sizesOf p) n l)
+  pub turn-at : (n l : ℕ) → n < p .threads → 1 ≤ l → l ≤ depthOf t n → Turn p depths (sum (depthOf t) n + l) (regionAt p n l)
   turn-at n l h low m =
-      subst (λ (i : ℕ). Turn (sizesOf p) depths (i + l) (regionAt (sizesOf p) n l)) (depths-sum n (omega arith))
-      (turn-level (sizesOf p) depths some-depth deep n l h low (omega (arith, depth-is n h)))
+      subst (λ (i : ℕ). Turn p depths (i + l) (regionAt p n l)) (depths-sum n (omega arith))
+      (turn-level p depths some-depth deep n l h low (omega (arith, depth-is n h)))
 
-module _ (p : Places) (t : List ℕ) (e : p ≡ placesOf (sizesOf p)) (c m : List ℕ) (h : Regioned) (cellOf : ℕ → ℕ) (st : StandsFor (sizesOf p) (words c m t) h cellOf) where
-  pub rows-stand : rowsIn p t ≡ rows (sizesOf p) h
+module _ (p : Sizes) (t : List ℕ) (c m : List ℕ) (h : Regioned) (cellOf : ℕ → ℕ) (st : StandsFor p (words c m t) h cellOf) where
+  pub rows-stand : rowsIn p t ≡ rows p h
   unfolding rowsIn rowIn rows openRegions
   rows-stand =
-      let s = sizesOf p in
+      let s = p in
       map-passing (isOpen s (depthsAt s t)) (rowIn p t) (λ q. rowWith s q (objectsIn (graph h) q)) (regions s) (λ i l. row (suc i) (omega arith) (omega arith))
       ∙ ap (λ (d : List ℕ). map (λ q. rowWith s q (objectsIn (graph h) q)) (openRegions s d)) (sym (st .depths))
     where
-      row : (q : ℕ) → 0 < q → q < suc (regions (sizesOf p)) → rowIn p t q ≡ rowWith (sizesOf p) q (objectsIn (graph h) q)
+      row : (q : ℕ) → 0 < q → q < suc (regions p) → rowIn p t q ≡ rowWith p q (objectsIn (graph h) q)
       row q pos l =
-          ap (rowWith (sizesOf p) q) (ap (λ (r : Places). countOf r t q) e ∙ counted-objects (sizesOf p) (words c m t) (st .whole) q pos (omega arith)
-          ∙ sym (objects-agree (sizesOf p) (words c m t) h cellOf st q pos))
+          ap (rowWith p q) (counted-objects p (words c m t) (st .whole) q pos (omega arith)
+          ∙ sym (objects-agree p (words c m t) h cellOf st q pos))
 
-  pub free-stands : freeIn p t ≡ freePages (sizesOf p) (graph h)
+  pub free-stands : freeIn p t ≡ freePages p (graph h)
   unfolding ownedOne
-  free-stands = ap (λ (r : Places). freeIn r t) e ∙ heap-free (sizesOf p) (words c m t) h cellOf st
+  free-stands = heap-free p (words c m t) h cellOf st

@@ -7,8 +7,7 @@ use lib.ListN.{length}
 use borrow.Author.Tests.{eq-eqb, ne-eqb}
 use Rattle.rules.specs.declared.Sizes.{Sizes}
 use Rattle.rules.specs.Regions.{threadOf, levelOf}
-use Rattle.layout.specs.declared.Places.{Places}
-use Rattle.layout.specs.Places.{Room, room, sizesAt, placesOf, sizesOf, countOf}
+use Rattle.layout.specs.Places.{Room, room, sizesAt, countOf}
 use Rattle.promises.specs.Words.{words, depthsAt}
 use Rattle.promises.specs.Whole.{WholeFor, Whole}
 use Rattle.promises.specs.Agreed.{whole-for}
@@ -17,48 +16,47 @@ use Rattle.pages.specs.Owned.{ownedIn}
 use Rattle.report.specs.declared.Row.{Row}
 use Rattle.report.specs.Report.{rowOf, rowWith, openRegions}
 
--- these are the tables of whole words, and the places are theirs
-pub record WholeTables (p : Places) (t : List ℕ) : Type 0 where
-  pub places : p ≡ placesOf (sizesOf p)
+-- these are the tables of whole words, and the sizes are theirs
+pub record WholeTables (p : Sizes) (t : List ℕ) : Type 0 where
   pub cells : List ℕ
   pub remember : List ℕ
-  pub whole : WholeFor (sizesOf p) (words cells remember t)
+  pub whole : WholeFor p (words cells remember t)
 
-unfoldable pub rowIn : Places → List ℕ → ℕ → Row
-rowIn p t q = rowWith (sizesOf p) q (countOf p t q)
+unfoldable pub rowIn : Sizes → List ℕ → ℕ → Row
+rowIn p t q = rowWith p q (countOf p t q)
 
-abbrev pub openIn : Places → List ℕ → List ℕ
-openIn p t = openRegions (sizesOf p) (depthsAt (sizesOf p) t)
+abbrev pub openIn : Sizes → List ℕ → List ℕ
+openIn p t = openRegions p (depthsAt p t)
 
-unfoldable pub rowsIn : Places → List ℕ → List Row
+unfoldable pub rowsIn : Sizes → List ℕ → List Row
 rowsIn p t = map (rowIn p t) (openIn p t)
 
 -- the free pages
-abbrev pub freeIn : Places → List ℕ → ℕ
+abbrev pub freeIn : Sizes → List ℕ → ℕ
 freeIn p t = ownedIn p t 0 (p .pages)
 
-pub tables-room-of : (p : Places) (t : List ℕ) → WholeTables p t → length t < 2 ^ 63 → Room p (length t)
+pub tables-room-of : (p : Sizes) (t : List ℕ) → WholeTables p t → length t < 2 ^ 63 → Room p (length t)
 tables-room-of p t k f =
     let w = words (k .cells) (k .remember) t in
-    subst (λ (q : Places). Room q (length t)) (sym (k .places)) (room (sizesOf p) (length t) (range (sizesOf p) w (k .whole)) (tables-room (sizesOf p) w (k .whole)) f)
+    room p (length t) (range p w (k .whole)) (tables-room p w (k .whole)) f
 
-pub threads-low : (p : Places) (t : List ℕ) → WholeTables p t → 1 ≤ p .threads
-threads-low p t k = range (sizesOf p) (words (k .cells) (k .remember) t) (k .whole) .threads-low
+pub threads-low : (p : Sizes) (t : List ℕ) → WholeTables p t → 1 ≤ p .threads
+threads-low p t k = range p (words (k .cells) (k .remember) t) (k .whole) .threads-low
 
 -- a row as the code makes it
-module _ (p : Places) (t : List ℕ) (q : ℕ) {objects : ℕ} (o : objects ≡ countOf p t q) where
+module _ (p : Sizes) (t : List ℕ) (q : ℕ) {objects : ℕ} (o : objects ≡ countOf p t q) where
   pub row-control : q ≡ 1 → rowOf 0 0 objects ≡ rowIn p t q
   unfolding rowIn
   row-control e =
-      ap (rowOf 0 0) o ∙ sym (ap (λ (b : Bool). cond b (rowOf 0 0 (countOf p t q)) (rowOf (threadOf (sizesOf p) q) (levelOf (sizesOf p) q) (countOf p t q))) (eq-eqb q 1 e))
+      ap (rowOf 0 0) o ∙ sym (ap (λ (b : Bool). cond b (rowOf 0 0 (countOf p t q)) (rowOf (threadOf p q) (levelOf p q) (countOf p t q))) (eq-eqb q 1 e))
 
-  pub row-thread : {thread level : ℕ} → (q ≡ 1 → ⊥) → thread ≡ threadOf (sizesOf p) q → level ≡ levelOf (sizesOf p) q → rowOf thread level objects ≡ rowIn p t q
+  pub row-thread : {thread level : ℕ} → (q ≡ 1 → ⊥) → thread ≡ threadOf p q → level ≡ levelOf p q → rowOf thread level objects ≡ rowIn p t q
   unfolding rowIn
   row-thread n th lv =
-      ap₂ (λ (x y : ℕ). rowOf x y objects) th lv ∙ ap (rowOf (threadOf (sizesOf p) q) (levelOf (sizesOf p) q)) o
-      ∙ sym (ap (λ (b : Bool). cond b (rowOf 0 0 (countOf p t q)) (rowOf (threadOf (sizesOf p) q) (levelOf (sizesOf p) q) (countOf p t q))) (ne-eqb q 1 n))
+      ap₂ (λ (x y : ℕ). rowOf x y objects) th lv ∙ ap (rowOf (threadOf p q) (levelOf p q)) o
+      ∙ sym (ap (λ (b : Bool). cond b (rowOf 0 0 (countOf p t q)) (rowOf (threadOf p q) (levelOf p q) (countOf p t q))) (ne-eqb q 1 n))
 
--- the places that were found for whole words
-pub whole-tables : {c m t : List ℕ} {s : Sizes} {p : Places} → Whole c m t → s ≡ sizesAt t → p ≡ placesOf s → WholeTables p t
-whole-tables {c} {m} {t} {s} {p} k e f =
-    subst (λ (q : Places). WholeTables q t) (sym (f ∙ ap placesOf e)) (record { places = refl; cells = c; remember = m; whole = whole-for (words c m t) k })
+-- the sizes that were read from whole words
+pub whole-tables : {c m t : List ℕ} {p : Sizes} → Whole c m t → p ≡ sizesAt t → WholeTables p t
+whole-tables {c} {m} {t} k e =
+    subst (λ (q : Sizes). WholeTables q t) (sym e) (record { cells = c; remember = m; whole = whole-for (words c m t) k })

@@ -6,7 +6,6 @@ use mathlib.Core.List.{List, _++_}
 use lib.ListN.{length, drop}
 use Rattle.rules.specs.Graph.{crossing, freePages}
 use Rattle.rules.specs.Rules.{Regioned, graph}
-use Rattle.layout.specs.Places.{placesOf}
 use Rattle.promises.specs.Words.{Words, sizesIn, heapOf}
 use Rattle.promises.specs.StandsFor.{StandsFor}
 use Rattle.promises.specs.Agreed.{heap-stands}
@@ -22,13 +21,13 @@ module _ (w : Words) (h : Regioned) (cellOf : ℕ → ℕ) (st : StandsFor (size
 
   same-rows : rows (sizesIn w) (heapOf (sizesIn w) w) ≡ rows (sizesIn w) h
   same-rows =
-      sym (rows-stand (placesOf (sizesIn w)) (w .tables) refl (w .cells) (w .remember) (heapOf (sizesIn w) w) (λ x. x) stands-here)
-      ∙ rows-stand (placesOf (sizesIn w)) (w .tables) refl (w .cells) (w .remember) h cellOf st
+      sym (rows-stand (sizesIn w) (w .tables) (w .cells) (w .remember) (heapOf (sizesIn w) w) (λ x. x) stands-here)
+      ∙ rows-stand (sizesIn w) (w .tables) (w .cells) (w .remember) h cellOf st
 
   same-free : freePages (sizesIn w) (graph (heapOf (sizesIn w) w)) ≡ freePages (sizesIn w) (graph h)
   same-free =
-      sym (free-stands (placesOf (sizesIn w)) (w .tables) refl (w .cells) (w .remember) (heapOf (sizesIn w) w) (λ x. x) stands-here)
-      ∙ free-stands (placesOf (sizesIn w)) (w .tables) refl (w .cells) (w .remember) h cellOf st
+      sym (free-stands (sizesIn w) (w .tables) (w .cells) (w .remember) (heapOf (sizesIn w) w) (λ x. x) stands-here)
+      ∙ free-stands (sizesIn w) (w .tables) (w .cells) (w .remember) h cellOf st
 
   same-crossing : crossing (graph (heapOf (sizesIn w) w)) ≡ crossing (graph h)
   same-crossing = sym (heap-entries (sizesIn w) w (heapOf (sizesIn w) w) (λ x. x) stands-here) ∙ heap-entries (sizesIn w) w h cellOf st

@@ -7,13 +7,13 @@ ghost use Rattle.promises.specs.Words.{words, depthsAt};
 ghost use Rattle.report.specs.Report.{refusing, Told};
 ghost use Rattle.report.specs.Opened.{Next};
 ghost use Rattle.report.specs.Tables.{WholeTables, rowIn, rowsIn};
-ghost use Rattle.report.specs.Lent.{placesIn, RegionOf, Asking, written};
+ghost use Rattle.report.specs.Lent.{RegionOf, Asking, written};
 use crate::Reported;
 use crate::Row;
 use crate::next_open;
 use crate::row_count;
 use crate::row_of;
-use layout::Places;
+use rules::Sizes;
 
 // The result of a refusal: no row is to be written.
 fn refused(number: u32) -> Reported
@@ -27,14 +27,6 @@ fn refused(number: u32) -> Reported
     }
 }
 
-// The places that the tables name.
-fn places(tables: &[u32]) -> Places
-    requires { ⌜ WholeTables (placesIn (now tables)) (now tables) ⌝ }
-    ensures { λ p. ⌜ p ≡ placesIn (now (tables .entry)) ⌝ }
-{
-    layout::find_places(layout::read_sizes(tables))
-}
-
 // Questions 3 and 15, of a list of so many rows, and the result that they give.
 fn ask(cells: &[u32], remember: &[u32], tables: &[u32], room: usize) -> Reported
     ensures { λ r. ⌜ Asking (words (now (cells .entry)) (now (remember .entry)) (now (tables .entry))) room r ⌝ }
@@ -42,7 +34,7 @@ fn ask(cells: &[u32], remember: &[u32], tables: &[u32], room: usize) -> Reported
     if !whole::whole(cells, remember, tables) {
         return refused(3);
     }
-    let p = places(tables);
+    let p = layout::read_sizes(tables);
     let rows = row_count(p, tables);
     if room < rows {
         return refused(15);
@@ -58,22 +50,22 @@ fn ask(cells: &[u32], remember: &[u32], tables: &[u32], room: usize) -> Reported
 // The row of a region, and the next open region, by the places that the tables name.
 fn row_in(tables: &[u32], region: usize) -> Row
     requires { ⌜ RegionOf (now tables) region ⌝ }
-    ensures { λ r. ⌜ r ≡ rowIn (placesIn (now (tables .entry))) (now (tables .entry)) region ⌝ }
+    ensures { λ r. ⌜ r ≡ rowIn (sizesAt (now (tables .entry))) (now (tables .entry)) region ⌝ }
 {
-    row_of(places(tables), tables, region)
+    row_of(layout::read_sizes(tables), tables, region)
 }
 
 fn open_after(tables: &[u32], region: usize) -> usize
     requires { ⌜ RegionOf (now tables) region ⌝ }
     ensures { λ r. ⌜ Next (sizesAt (now (tables .entry))) (depthsAt (sizesAt (now (tables .entry))) (now (tables .entry))) region r ⌝ }
 {
-    next_open(places(tables), tables, region)
+    next_open(layout::read_sizes(tables), tables, region)
 }
 
 // The first n rows are written, and the rest stay.
 fn fill(rows: &mut [Row], tables: &[u32], n: usize)
-    requires { ⌜ (n ≤ length (now rows)) × (n ≤ length (rowsIn (placesIn (now tables)) (now tables))) × (0 < n → WholeTables (placesIn (now tables)) (now tables)) ⌝ }
-    ensures { λ _. ⌜ now (rows .exit) ≡ written (rowsIn (placesIn (now (tables .entry))) (now (tables .entry))) n (now (rows .entry)) ⌝ }
+    requires { ⌜ (n ≤ length (now rows)) × (n ≤ length (rowsIn (sizesAt (now tables)) (now tables))) × (0 < n → WholeTables (sizesAt (now tables)) (now tables)) ⌝ }
+    ensures { λ _. ⌜ now (rows .exit) ≡ written (rowsIn (sizesAt (now (tables .entry))) (now (tables .entry))) n (now (rows .entry)) ⌝ }
 {
     let mut k: usize = 0;
     let mut region: usize = 1;

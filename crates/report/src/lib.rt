@@ -3,12 +3,12 @@
 ghost use mathlib.Core.Path.{_≡_};
 ghost use Prim.Native.Nat.{_+_, _*_, _<_, _≤_};
 ghost use lib.ListN.{length, getD};
-ghost use Rattle.layout.specs.Places.{sizesOf, usedIn};
+ghost use Rattle.layout.specs.Places.{usedIn};
 ghost use Rattle.promises.specs.Words.{depthsAt};
 ghost use Rattle.report.specs.Report.{rowOf, noRow};
 ghost use Rattle.report.specs.Opened.{Next, Turn};
 ghost use Rattle.report.specs.Tables.{WholeTables, rowIn, rowsIn, freeIn};
-use layout::Places;
+use rules::Sizes;
 
 pub mod lent;
 
@@ -44,7 +44,7 @@ fn row_with(thread: u32, level: u32, objects: u32) -> Row
 }
 
 // The row of a region.
-pub fn row_of(p: Places, tables: &[u32], region: usize) -> Row
+pub fn row_of(p: Sizes, tables: &[u32], region: usize) -> Row
     requires { ⌜ WholeTables p (now tables) ⌝ }
     requires { ⌜ (1 ≤ region) × (region ≤ 1 + p .threads * p .depth) ⌝ }
     ensures { λ r. ⌜ r ≡ rowIn p (now (tables .entry)) region ⌝ }
@@ -59,10 +59,10 @@ pub fn row_of(p: Places, tables: &[u32], region: usize) -> Row
 }
 
 // The next open region by number; one past the last region if there is none.
-pub fn next_open(p: Places, tables: &[u32], region: usize) -> usize
+pub fn next_open(p: Sizes, tables: &[u32], region: usize) -> usize
     requires { ⌜ WholeTables p (now tables) ⌝ }
     requires { ⌜ (1 ≤ region) × (region ≤ 1 + p .threads * p .depth) ⌝ }
-    ensures { λ r. ⌜ Next (sizesOf p) (depthsAt (sizesOf p) (now (tables .entry))) region r ⌝ }
+    ensures { λ r. ⌜ Next p (depthsAt p (now (tables .entry))) region r ⌝ }
 {
     let last = layout::wide(layout::regions::region_at(p, p.threads - 1, p.depth));
     let mut next = region + 1;
@@ -76,7 +76,7 @@ pub fn next_open(p: Places, tables: &[u32], region: usize) -> usize
 }
 
 // How many rows there are: one for the control space, and one for each open region.
-pub fn row_count(p: Places, tables: &[u32]) -> usize
+pub fn row_count(p: Sizes, tables: &[u32]) -> usize
     requires { ⌜ WholeTables p (now tables) ⌝ }
     ensures { λ n. ⌜ n ≡ length (rowsIn p (now (tables .entry))) ⌝ }
 {
@@ -91,10 +91,10 @@ pub fn row_count(p: Places, tables: &[u32]) -> usize
 }
 
 // Open region k by number, the control space being 0: level k, less the open levels of the threads that are passed.
-fn open_region(p: Places, tables: &[u32], k: usize) -> usize
+fn open_region(p: Sizes, tables: &[u32], k: usize) -> usize
     requires { ⌜ WholeTables p (now tables) ⌝ }
     requires { ⌜ k < length (rowsIn p (now tables)) ⌝ }
-    ensures { λ r. ⌜ Turn (sizesOf p) (depthsAt (sizesOf p) (now (tables .entry))) k r ⌝ }
+    ensures { λ r. ⌜ Turn p (depthsAt p (now (tables .entry))) k r ⌝ }
 {
     if k == 0 {
         return 1;
@@ -111,7 +111,7 @@ fn open_region(p: Places, tables: &[u32], k: usize) -> usize
 }
 
 // Row k, by region number.
-pub fn row_at(p: Places, tables: &[u32], k: usize) -> Row
+pub fn row_at(p: Sizes, tables: &[u32], k: usize) -> Row
     requires { ⌜ WholeTables p (now tables) ⌝ }
     requires { ⌜ k < length (rowsIn p (now tables)) ⌝ }
     ensures { λ r. ⌜ r ≡ getD (rowsIn p (now (tables .entry))) k noRow ⌝ }
@@ -120,7 +120,7 @@ pub fn row_at(p: Places, tables: &[u32], k: usize) -> Row
 }
 
 // How many pages are free.
-pub fn free_pages(p: Places, tables: &[u32]) -> u32
+pub fn free_pages(p: Sizes, tables: &[u32]) -> u32
     requires { ⌜ WholeTables p (now tables) ⌝ }
     ensures { λ n. ⌜ n ≡ freeIn p (now (tables .entry)) ⌝ }
 {

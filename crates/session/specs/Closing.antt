@@ -12,8 +12,7 @@ use Rattle.rules.specs.declared.Sizes.{Sizes}
 use Rattle.rules.specs.Terms.{InRange}
 use Rattle.rules.specs.Graph.{crossing, freePages}
 use Rattle.rules.specs.Rules.{Regioned, graph}
-use Rattle.layout.specs.declared.Places.{Places}
-use Rattle.layout.specs.Places.{sizesAt, sizesOf, placesOf, usedIn}
+use Rattle.layout.specs.Places.{sizesAt, usedIn}
 use Rattle.promises.specs.Words.{Words, words}
 use Rattle.promises.specs.Whole.{WholeFor}
 use Rattle.promises.specs.StandsFor.{StandsFor}
@@ -77,17 +76,11 @@ rows-all rs k e p = put-text (ap (λ (n : ℕ). rowsText (take n rs)) e ∙ ap r
 
 -- ---- the report
 
-pub here-range : {c m t : List ℕ} {z : Sizes} → Here (words c m t) → z ≡ sizesAt t → InRange z
-here-range here e = subst InRange (sym e) (here .stands .whole .sizes .range)
-
-module _ {c m t : List ℕ} {z : Sizes} {p : Places} (here : Here (words c m t)) (e : z ≡ sizesAt t) (f : p ≡ placesOf z) where
-  places-are : p ≡ placesOf (sizesAt t)
-  places-are = f ∙ ap placesOf e
-
+module _ {c m t : List ℕ} {p : Sizes} (here : Here (words c m t)) (sizes-are : p ≡ sizesAt t) where
   pub here-whole : WholeTables p t
   here-whole =
       let k : WholeFor (sizesAt t) (words c m t) = subst (λ (s : Sizes). WholeFor s (words c m t)) (sym (here .stands .whole .sized)) (here .stands .whole) in
-      subst (λ (q : Places). WholeTables q t) (sym places-are) (record { places = refl; cells = c; remember = m; whole = k })
+      subst (λ (q : Sizes). WholeTables q t) (sym sizes-are) (record { cells = c; remember = m; whole = k })
 
   module _ {out middle after : List ℕ} {at i end free slots : ℕ} (room : at + 5698 ≤ length out)
       (rows-put : Put out at (rowsText (rowsIn p t)) middle i) (low : i ≤ at + 5676) (fits : (free < 4294967296) × (slots < 4294967296))
@@ -99,10 +92,10 @@ module _ {c m t : List ℕ} {z : Sizes} {p : Places} (here : Here (words c m t))
         → (s : Sizes) (h : Regioned) (cells : List ℕ) (cellOf : ℕ → ℕ) → StandsFor s (words cells m t) h cellOf → Put out at (reported s h) after end
     unfolding reported
     report-put free-is slots-are s h cells cellOf st =
-        let sized : sizesOf p ≡ s = ap sizesOf places-are ∙ st .whole .sized in
-        let here : StandsFor (sizesOf p) (words cells m t) h cellOf = subst (λ (x : Sizes). StandsFor x (words cells m t) h cellOf) (sym sized) st in
-        let rs : rowsIn p t ≡ rows s h = rows-stand p t (here-whole .places) cells m h cellOf here ∙ ap (λ (x : Sizes). rows x h) sized in
-        let fs : free ≡ freePages s (graph h) = free-is ∙ free-stands p t (here-whole .places) cells m h cellOf here ∙ ap (λ (x : Sizes). freePages x (graph h)) sized in
+        let sized : p ≡ s = sizes-are ∙ st .whole .sized in
+        let here : StandsFor p (words cells m t) h cellOf = subst (λ (x : Sizes). StandsFor x (words cells m t) h cellOf) (sym sized) st in
+        let rs : rowsIn p t ≡ rows s h = rows-stand p t cells m h cellOf here ∙ ap (λ (x : Sizes). rows x h) sized in
+        let fs : free ≡ freePages s (graph h) = free-is ∙ free-stands p t cells m h cellOf here ∙ ap (λ (x : Sizes). freePages x (graph h)) sized in
         let ss : slots ≡ crossing (graph h) = slots-are ∙ heap-entries s (words cells m t) h cellOf st in
         put-text (ap₂ (λ (a b : List ℕ). a ++ b) (ap rowsText rs) (ap₂ (λ (a b : ℕ). row (a ∷ b ∷ [])) fs ss))
         (put-put (omega (arith, rows-put .end-is, two-length free slots (fits .0) (fits .1))) rows-put last)

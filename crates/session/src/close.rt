@@ -16,12 +16,12 @@ ghost use Rattle.session.specs.Pieces.{Machine};
 ghost use Rattle.session.specs.Stages.{Here, At, Placed, lineOf, begunAt, Closes};
 use crate::Stage;
 use crate::feed;
-use layout::Places;
+use rules::Sizes;
 use script::Last;
 use script::Reader;
 
 // The report's rows from a position on: at most 129, of 44 bytes at most.
-fn put_rows(p: Places, tables: &[u32], out: &mut [u8], at: usize) -> usize
+fn put_rows(p: Sizes, tables: &[u32], out: &mut [u8], at: usize) -> usize
     requires { ⌜ WholeTables p (now tables) × (at + 5676 ≤ length (now out)) ⌝ }
     ensures { λ r. ⌜ Put (now (out .entry)) at (rowsText (rowsIn p (now (tables .entry)))) (now (out .exit)) r × (r ≤ at + 5676) ⌝ }
 {
@@ -43,7 +43,7 @@ fn put_report(remember: &[u32], tables: &[u32], out: &mut [u8], at: usize) -> us
     ensures { λ r. ⌜ ((s : Sizes) (h : Regioned) (cells : List ℕ) (cellOf : ℕ → ℕ) → StandsFor s (words cells (now (remember .entry)) (now (tables .entry))) h cellOf → Put (now (out .entry)) at (reported s h) (now (out .exit)) r) ⌝ }
     ensures { λ r. ⌜ r ≤ at + 5698 ⌝ }
 {
-    let p = layout::find_places(layout::read_sizes(tables));
+    let p = layout::read_sizes(tables);
     let end = put_rows(p, tables, out, at);
     let free = report::free_pages(p, tables);
     script::write::put_two(out, end, free, report::crossing_slots(remember))

@@ -9,18 +9,18 @@ use native.Mathlib.Omega.{arith}
 use borrow.Author.Tests.{lt-ltb, le-ltb}
 use lib.Dec.{ltb}
 use lib.ListN.{length, getD}
-use Rattle.layout.specs.declared.Places.{Places}
+use Rattle.rules.specs.declared.Sizes.{Sizes}
 use Rattle.layout.specs.Places.{ownerOf, slotIn}
 use Rattle.layout.specs.Cells.{refsOf}
 use Rattle.promises.specs.Words.{InUse}
 use Rattle.settle.specs.Entries.{crossOf, Added, slot-below}
 
 -- the region into which the word at x crosses, if it is a slot
-abbrev pub crossAt : (p : Places) (W T : List ℕ) → ℕ → ℕ
+abbrev pub crossAt : (p : Sizes) (W T : List ℕ) → ℕ → ℕ
 crossAt p W T x = crossOf p T (ownerOf p T (x / 256)) (getD W x 0)
 
 -- the slot at x crosses once r has ended
-pub record Crosses (p : Places) (r : ℕ) (W T : List ℕ) (x : ℕ) : Type 0 where
+pub record Crosses (p : Sizes) (r : ℕ) (W T : List ℕ) (x : ℕ) : Type 0 where
   pub used : InUse p T (x / 16)
   pub field : 2 ≤ x % 16
   pub ref : x % 16 < refsOf W (x / 16) + 2
@@ -28,13 +28,13 @@ pub record Crosses (p : Places) (r : ℕ) (W T : List ℕ) (x : ℕ) : Type 0 wh
   pub cross : crossAt p W T x ≢ 0
 
 -- a slot of P that crosses, with its region
-pub record Crossing (p : Places) (P : ℕ → Type 0) (W T : List ℕ) (x h : ℕ) : Type 0 where
+pub record Crossing (p : Sizes) (P : ℕ → Type 0) (W T : List ℕ) (x h : ℕ) : Type 0 where
   pub at : P x
   pub region : h ≡ crossAt p W T x
   pub kept : h ≢ 0
 
 -- the crossing slots of P can be appended to j entries
-pub record Appending (p : Places) (r n : ℕ) (P : ℕ → Type 0) (W M T : List ℕ) (j : ℕ) : Type 0 where
+pub record Appending (p : Sizes) (r n : ℕ) (P : ℕ → Type 0) (W M T : List ℕ) (j : ℕ) : Type 0 where
   pub long : 2 + 2 * n ≤ length M
   pub low : j ≤ n
   pub listed : (y : ℕ) → y < j → Crosses p r W T (slotIn M y)
@@ -43,7 +43,7 @@ pub record Appending (p : Places) (r n : ℕ) (P : ℕ → Type 0) (W M T : List
   pub apart : (x : ℕ) → P x → (y : ℕ) → y < j → slotIn M y ≢ x
   pub space : (k : ℕ) (at : ℕ → ℕ) → ((i : ℕ) → i < k → Crosses p r W T (at i)) → ((a b : ℕ) → a < b → b < k → at a ≢ at b) → k ≤ n
 
-pub append-room : {p : Places} {r n : ℕ} {P : ℕ → Type 0} {W T M : List ℕ} {j : ℕ} → Appending p r n P W M T j → (x : ℕ) → P x → crossAt p W T x ≢ 0 → j < n
+pub append-room : {p : Sizes} {r n : ℕ} {P : ℕ → Type 0} {W T M : List ℕ} {j : ℕ} → Appending p r n P W M T j → (x : ℕ) → P x → crossAt p W T x ≢ 0 → j < n
 append-room {p} {r} {n} {P} {W} {T} {M} {j} a x q ne =
     omega (arith, a .space (j + 1) at (λ i l. all i l (decLt i j)) (λ u v l m. different u v l m (decLt v j)))
   where
@@ -65,7 +65,7 @@ append-room {p} {r} {n} {P} {W} {T} {M} {j} a x q ne =
     different u v l m (no w) = λ e. a .apart x q u (omega arith) (sym (old u (omega arith)) ∙ e ∙ last v (omega arith))
 
 -- after those of Q came, those of R can
-pub appending-next : {p : Places} {r n : ℕ} {P Q R : ℕ → Type 0} {W T M M′ : List ℕ} {i j : ℕ} → Appending p r n P W M T i → Added n (Crossing p Q W T) i j M M′
+pub appending-next : {p : Sizes} {r n : ℕ} {P Q R : ℕ → Type 0} {W T M M′ : List ℕ} {i j : ℕ} → Appending p r n P W M T i → Added n (Crossing p Q W T) i j M M′
     → ((x : ℕ) → Q x → P x) → ((x : ℕ) → R x → P x) → ((x : ℕ) → Q x → R x → ⊥) → Appending p r n R W M′ T j
 appending-next {p} {r} {n} {P} {Q} {R} {W} {T} {M} {M′} {i} {j} a b fq fr apart =
     record {

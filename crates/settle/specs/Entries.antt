@@ -10,7 +10,7 @@ use borrow.Author.Tests.{eq-eqb, ne-eqb, le-leb, lt-leb}
 use lib.Dec.{eqb}
 use lib.ListN.{length, getD, set, length-set}
 use lib.Seq.{getD-set-same, getD-set-other}
-use Rattle.layout.specs.declared.Places.{Places}
+use Rattle.rules.specs.declared.Sizes.{Sizes}
 use Rattle.layout.specs.Places.{ownerOf, slotIn, slotRegionIn}
 use Rattle.promises.specs.Crossing.{other}
 use Rattle.settle.specs.Rewrite.{Names}
@@ -22,14 +22,14 @@ unfoldable pub otherThan : ℕ → ℕ → ℕ
 otherThan w h = other w h
 
 -- the region into which a slot of region w crosses that holds x, else 0
-unfoldable pub crossOf : (p : Places) (T : List ℕ) (w x : ℕ) → ℕ
+unfoldable pub crossOf : (p : Sizes) (T : List ℕ) (w x : ℕ) → ℕ
 crossOf p T w x = cond (eqb x 0) 0 (otherThan w (ownerOf p T ((x - 1) / 16)))
 
-pub cross-null : (p : Places) (T : List ℕ) (w x : ℕ) → x ≡ 0 → 0 ≡ crossOf p T w x
+pub cross-null : (p : Sizes) (T : List ℕ) (w x : ℕ) → x ≡ 0 → 0 ≡ crossOf p T w x
 unfolding crossOf
 cross-null p T w x e = rw (eq-eqb _ _ e)
 
-pub cross-ref : (p : Places) (T : List ℕ) (w x : ℕ) → x ≢ 0 → otherThan w (ownerOf p T ((x - 1) / 16)) ≡ crossOf p T w x
+pub cross-ref : (p : Sizes) (T : List ℕ) (w x : ℕ) → x ≢ 0 → otherThan w (ownerOf p T ((x - 1) / 16)) ≡ crossOf p T w x
 unfolding crossOf
 cross-ref p T w x n = rw (ne-eqb _ _ n)
 
@@ -46,19 +46,19 @@ unfolding otherThan
 other-yes w h l n = rw (lt-leb _ _ l, ne-eqb _ _ n)
 
 -- the region of the entry of slot s with region g after r ended, 0 if it goes
-unfoldable pub newRegion : (p : Places) (r : ℕ) (W T : List ℕ) (s g : ℕ) → ℕ
+unfoldable pub newRegion : (p : Sizes) (r : ℕ) (W T : List ℕ) (s g : ℕ) → ℕ
 newRegion p r W T s g =
     cond (eqb (ownerOf p T (s / 256)) r) 0 (cond (eqb g r) (crossOf p T (ownerOf p T (s / 256)) (getD W s 0)) g)
 
-pub new-gone : (p : Places) (r : ℕ) (W T : List ℕ) (s g : ℕ) → ownerOf p T (s / 256) ≡ r → 0 ≡ newRegion p r W T s g
+pub new-gone : (p : Sizes) (r : ℕ) (W T : List ℕ) (s g : ℕ) → ownerOf p T (s / 256) ≡ r → 0 ≡ newRegion p r W T s g
 unfolding newRegion
 new-gone p r W T s g e = rw (eq-eqb _ _ e)
 
-pub new-stays : (p : Places) (r : ℕ) (W T : List ℕ) (s g : ℕ) → ownerOf p T (s / 256) ≢ r → g ≢ r → g ≡ newRegion p r W T s g
+pub new-stays : (p : Sizes) (r : ℕ) (W T : List ℕ) (s g : ℕ) → ownerOf p T (s / 256) ≢ r → g ≢ r → g ≡ newRegion p r W T s g
 unfolding newRegion
 new-stays p r W T s g n m = rw (ne-eqb _ _ n, ne-eqb _ _ m)
 
-pub new-moved : (p : Places) (r : ℕ) (W T : List ℕ) (s g : ℕ) → ownerOf p T (s / 256) ≢ r → g ≡ r
+pub new-moved : (p : Sizes) (r : ℕ) (W T : List ℕ) (s g : ℕ) → ownerOf p T (s / 256) ≢ r → g ≡ r
     → crossOf p T (ownerOf p T (s / 256)) (getD W s 0) ≡ newRegion p r W T s g
 unfolding newRegion
 new-moved p r W T s g n e = rw (ne-eqb _ _ n, eq-eqb _ _ e)
@@ -182,14 +182,14 @@ added-like a from to =
 
 -- ---- the entries that stay, of the first i
 
-pub record Stays (p : Places) (r n : ℕ) (W M T : List ℕ) (i x h : ℕ) : Type 0 where
+pub record Stays (p : Sizes) (r n : ℕ) (W M T : List ℕ) (i x h : ℕ) : Type 0 where
   pub entry : ℕ
   pub low : entry < i
   pub slot : slotIn M entry ≡ x
   pub region : h ≡ newRegion p r W T (slotIn M entry) (slotRegionIn n M entry)
   pub kept : h ≢ 0
 
-pub record Entries (p : Places) (r n m : ℕ) (W M : List ℕ) : Type 0 where
+pub record Entries (p : Sizes) (r n m : ℕ) (W M : List ℕ) : Type 0 where
   pub pages : p .pages ≤ 1024
   pub cells-long : 256 * p .pages ≤ length W
   pub long : 2 + 2 * n ≤ length M
@@ -198,10 +198,10 @@ pub record Entries (p : Places) (r n m : ℕ) (W M : List ℕ) : Type 0 where
   pub once : (i j : ℕ) → i < j → j < m → slotIn M i ≢ slotIn M j
   pub names : (i : ℕ) → i < m → slotRegionIn n M i ≡ r → Names p (getD W (slotIn M i) 0)
 
-pub filter-start : (p : Places) (r n : ℕ) (W M T : List ℕ) → Added n (Stays p r n W M T 0) 0 0 M M
+pub filter-start : (p : Sizes) (r n : ℕ) (W M T : List ℕ) → Added n (Stays p r n W M T 0) 0 0 M M
 filter-start p r n W M T = added-none (Stays p r n W M T 0) 0 M (omega arith) (λ x h q. omega (arith, q .low))
 
-module _ {p : Places} {r n m i j : ℕ} {W T M M′ : List ℕ} (a : Entries p r n m W M) (lt : i < m) (le : j ≤ i)
+module _ {p : Sizes} {r n m i j : ℕ} {W T M M′ : List ℕ} (a : Entries p r n m W M) (lt : i < m) (le : j ≤ i)
     (h : Added n (Stays p r n W M T i) 0 j M M′) where
   -- entry i as it is read is as it was
   pub read-slot : slotIn M′ i ≡ slotIn M i

@@ -9,7 +9,7 @@ use native.Mathlib.Decide.{ℕ-discrete, decLt}
 use native.Mathlib.Omega.{arith}
 use lib.Dec.{eqb}
 use lib.ListN.{getD, set}
-use Rattle.layout.specs.declared.Places.{Places}
+use Rattle.rules.specs.declared.Sizes.{Sizes}
 use Rattle.layout.specs.Places.{ownerOf, usedOf, slotIn, slotRegionIn}
 use Rattle.layout.specs.Cells.{workOf, fieldOf, refsOf}
 use Rattle.settle.specs.Rewrite.{Names, moveRef, Rewritten, rewritten-none, rewritten-like}
@@ -21,7 +21,7 @@ use Rattle.settle.specs.Settle.{Settled, Settling, crossing-in, copy-rew
 
 -- ---- they exist
 
-fields-exist : {p : Places} {r k d : ℕ} {W T : List ℕ} → Fields p k d W → (f : ℕ) → f ≤ k → (V′ : List ℕ) × Rewritten p r (Field d f) W T V′
+fields-exist : {p : Sizes} {r k d : ℕ} {W T : List ℕ} → Fields p k d W → (f : ℕ) → f ≤ k → (V′ : List ℕ) × Rewritten p r (Field d f) W T V′
 fields-exist {p} {r} {k} {d} {W} {T} a zero l = (W, fields-start p r d W T)
 fields-exist {p} {r} {k} {d} {W} {T} a (suc f) l =
     let q = fields-exist {r = r} {T = T} a f (omega arith) in
@@ -29,7 +29,7 @@ fields-exist {p} {r} {k} {d} {W} {T} a (suc f) l =
     let e : f + 1 ≡ suc f = omega arith in
     (set (q .0) (16 * d + 2 + f) v, subst (λ (y : ℕ). Rewritten p r (Field d y) W T (set (q .0) (16 * d + 2 + f) v)) e (field-moved a (omega arith) (q .1) v refl))
 
-old? : (p : Places) (r : ℕ) (W T : List ℕ) (c : ℕ) → Dec (Old p r W T c)
+old? : (p : Sizes) (r : ℕ) (W T : List ℕ) (c : ℕ) → Dec (Old p r W T c)
 old? p r W T c = go (decLt (c / 16) (p .pages)) (decLt (c % 16) (usedOf p T (c / 16))) (ℕ-discrete (ownerOf p T (c / 16)) r) (ℕ-discrete (workOf W c) 0)
   where
     go : Dec (c / 16 < p .pages) → Dec (c % 16 < usedOf p T (c / 16)) → Dec (ownerOf p T (c / 16) ≡ r) → Dec (workOf W c ≡ 0) → Dec (Old p r W T c)
@@ -53,7 +53,7 @@ between-grown k =
     go y m (yes e) = inr e
     go y m (no n) = inl (m .0, omega (arith, m .1))
 
-pub copies-exist : {p : Places} {r : ℕ} {W T : List ℕ} → Wiring p r (Between 0 (16 * p .pages)) W T → (k : ℕ) → k ≤ 16 * p .pages
+pub copies-exist : {p : Sizes} {r : ℕ} {W T : List ℕ} → Wiring p r (Between 0 (16 * p .pages)) W T → (k : ℕ) → k ≤ 16 * p .pages
     → (V′ : List ℕ) × Rewritten p r (CopySlot p r (Between 0 k) W T) W T V′
 copies-exist {p} {r} {W} {T} w zero l = (W, rewritten-none p r (CopySlot p r (Between 0 0) W T) W T (λ x q. omega (arith, q .among .1)))
 copies-exist {p} {r} {W} {T} w (suc k) l = go (copies-exist w k (omega arith)) (old? p r W T k)
@@ -75,18 +75,18 @@ copies-exist {p} {r} {W} {T} w (suc k) l = go (copies-exist w k (omega arith)) (
 -- ---- the whole settling: m entries of n are in use
 
 -- whatever the cells become, the remember table can be made for them, and the slots of its entries are none of those rewritten
-pub record Settles (p : Places) (r n m : ℕ) (W M T : List ℕ) : Type 0 where
+pub record Settles (p : Sizes) (r n m : ℕ) (W M T : List ℕ) : Type 0 where
   pub wiring : Wiring p r (Between 0 (16 * p .pages)) W T
   pub old : (i : ℕ) → i < m → Copies p r W T (slotIn M i) → ⊥
   pub updating : (W′ : List ℕ) → Rewritten p r (Copies p r W T) W T W′ → Updating p r n m W′ M T
 
 -- an entry's new region, by cells that read the same at its slot
-new-same : (p : Places) (r : ℕ) (W W′ T : List ℕ) (s g : ℕ) → getD W′ s 0 ≡ getD W s 0 → newRegion p r W′ T s g ≡ newRegion p r W T s g
+new-same : (p : Sizes) (r : ℕ) (W W′ T : List ℕ) (s g : ℕ) → getD W′ s 0 ≡ getD W s 0 → newRegion p r W′ T s g ≡ newRegion p r W T s g
 unfolding newRegion
 new-same p r W W′ T s g e =
     ap (λ (y : ℕ). cond (eqb (ownerOf p T (s / 256)) r) 0 (cond (eqb g r) (crossOf p T (ownerOf p T (s / 256)) y) g)) e
 
-module _ {p : Places} {r n m : ℕ} {W M T : List ℕ} (u : Settles p r n m W M T) where
+module _ {p : Sizes} {r n m : ℕ} {W M T : List ℕ} (u : Settles p r n m W M T) where
   final : (V′ : List ℕ) × Rewritten p r (Copies p r W T) W T V′
   final = copies-exist (u .wiring) (16 * p .pages) (omega arith)
 

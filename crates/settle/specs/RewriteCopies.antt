@@ -8,7 +8,7 @@ use native.Mathlib.Omega.{arith}
 use lib.ListN.{length}
 use Rattle.lists.specs.Bits.{bitAt, bit-zero, clear-same, clear-other, Lowest}
 use Rattle.lists.specs.SetBits.{upper-bit}
-use Rattle.layout.specs.declared.Places.{Places}
+use Rattle.rules.specs.declared.Sizes.{Sizes}
 use Rattle.layout.specs.Places.{Room, ownerOf, markOf}
 use Rattle.layout.specs.Cells.{workOf, refsOf}
 use Rattle.promises.specs.Words.{InUse}
@@ -18,18 +18,18 @@ use Rattle.settle.specs.RewriteSlots.{Field, Fields}
 
 -- ---- the copies: of the old cells of which Q holds
 
-pub record Old (p : Places) (r : ℕ) (W T : List ℕ) (c : ℕ) : Type 0 where
+pub record Old (p : Sizes) (r : ℕ) (W T : List ℕ) (c : ℕ) : Type 0 where
   pub used : InUse p T c
   pub owner : ownerOf p T (c / 16) ≡ r
   pub moved : workOf W c ≢ 0
 
-pub record CopySlot (p : Places) (r : ℕ) (Q : ℕ → Type 0) (W T : List ℕ) (x : ℕ) : Type 0 where
+pub record CopySlot (p : Sizes) (r : ℕ) (Q : ℕ → Type 0) (W T : List ℕ) (x : ℕ) : Type 0 where
   pub cell : ℕ
   pub among : Q cell
   pub old : Old p r W T cell
   pub field : Field (workOf W cell - 1) (refsOf W (workOf W cell - 1)) x
 
-pub record Wiring (p : Places) (r : ℕ) (Q : ℕ → Type 0) (W T : List ℕ) : Type 0 where
+pub record Wiring (p : Sizes) (r : ℕ) (Q : ℕ → Type 0) (W T : List ℕ) : Type 0 where
   pub few : p .pages ≤ 1024
   pub cells-long : 256 * p .pages ≤ length W
   pub tables-long : Room p (length T)
@@ -38,11 +38,11 @@ pub record Wiring (p : Places) (r : ℕ) (Q : ℕ → Type 0) (W T : List ℕ) :
   pub copies : (c : ℕ) → Q c → Old p r W T c → Fields p (refsOf W (workOf W c - 1)) (workOf W c - 1) W
   pub once : (b c : ℕ) → Q b → Q c → Old p r W T b → Old p r W T c → workOf W b ≡ workOf W c → b ≡ c
 
-module _ {p : Places} {r : ℕ} {P : ℕ → Type 0} {W T W′ : List ℕ} (h : Rewritten p r P W T W′) where
-  pub old-now : {p : Places} (c : ℕ) → Old p r W T c → Old p r W′ T c
+module _ {p : Sizes} {r : ℕ} {P : ℕ → Type 0} {W T W′ : List ℕ} (h : Rewritten p r P W T W′) where
+  pub old-now : {p : Sizes} (c : ℕ) → Old p r W T c → Old p r W′ T c
   old-now c u = record { used = u .used; owner = u .owner; moved = λ z. u .moved (sym (link-same h c) ∙ z) }
 
-  old-then : {p : Places} (c : ℕ) → Old p r W′ T c → Old p r W T c
+  old-then : {p : Sizes} (c : ℕ) → Old p r W′ T c → Old p r W T c
   old-then c u = record { used = u .used; owner = u .owner; moved = λ z. u .moved (link-same h c ∙ z) }
 
   cell-fields : (c x : ℕ) → Field (workOf W c - 1) (refsOf W (workOf W c - 1)) x → Field (workOf W′ c - 1) (refsOf W′ (workOf W′ c - 1)) x
@@ -55,14 +55,14 @@ module _ {p : Places} {r : ℕ} {P : ℕ → Type 0} {W T W′ : List ℕ} (h : 
       let q′ : Field (workOf W c - 1) (refsOf W′ (workOf W c - 1)) x = subst (λ (y : ℕ). Field (y - 1) (refsOf W′ (y - 1)) x) (link-same h c) q in
       record { field = q′ .field; low = omega (arith, q′ .low, refs-same h (workOf W c - 1)); at = q′ .at }
 
-  pub slot-now : {p : Places} {Q : ℕ → Type 0} (x : ℕ) → CopySlot p r Q W T x → CopySlot p r Q W′ T x
+  pub slot-now : {p : Sizes} {Q : ℕ → Type 0} (x : ℕ) → CopySlot p r Q W T x → CopySlot p r Q W′ T x
   slot-now x q = record { cell = q .cell; among = q .among; old = old-now (q .cell) (q .old); field = cell-fields (q .cell) x (q .field) }
 
-  pub slot-then : {p : Places} {Q : ℕ → Type 0} (x : ℕ) → CopySlot p r Q W′ T x → CopySlot p r Q W T x
+  pub slot-then : {p : Sizes} {Q : ℕ → Type 0} (x : ℕ) → CopySlot p r Q W′ T x → CopySlot p r Q W T x
   slot-then x q = record { cell = q .cell; among = q .among; old = old-then (q .cell) (q .old); field = fields-cell (q .cell) x (q .field) }
 
   -- cells whose slots are none of those rewritten are wired as before
-  pub wiring-now : {p : Places} {Q : ℕ → Type 0} → Wiring p r Q W T → ((x : ℕ) → CopySlot p r Q W T x → P x → ⊥) → Wiring p r Q W′ T
+  pub wiring-now : {p : Sizes} {Q : ℕ → Type 0} → Wiring p r Q W T → ((x : ℕ) → CopySlot p r Q W T x → P x → ⊥) → Wiring p r Q W′ T
   wiring-now {p} {Q} a apart =
       record {
         few = a .few;
@@ -93,7 +93,7 @@ module _ {p : Places} {r : ℕ} {P : ℕ → Type 0} {W T W′ : List ℕ} (h : 
           }
 
 -- slots of copies of different cells are different
-pub slots-apart : {p : Places} {r : ℕ} {Q : ℕ → Type 0} {W T : List ℕ} → Wiring p r Q W T → (b c x : ℕ) → Q b → Q c → Old p r W T b → Old p r W T c
+pub slots-apart : {p : Sizes} {r : ℕ} {Q : ℕ → Type 0} {W T : List ℕ} → Wiring p r Q W T → (b c x : ℕ) → Q b → Q c → Old p r W T b → Old p r W T c
     → Field (workOf W b - 1) (refsOf W (workOf W b - 1)) x → Field (workOf W c - 1) (refsOf W (workOf W c - 1)) x → b ≡ c
 slots-apart {p} {r} {Q} {W} {T} a b c x qb qc ub uc fb fc =
     a .once b c qb qc ub uc
@@ -101,7 +101,7 @@ slots-apart {p} {r} {Q} {W} {T} a b c x qb qc ub uc fb fc =
     let nc : workOf W c ≢ 0 = uc .moved in
     omega (arith, a .copies b qb ub .few, a .copies c qc uc .few, fb .low, fb .at, fc .low, fc .at))
 
-pub wiring-less : {p : Places} {r : ℕ} {P Q : ℕ → Type 0} {W T : List ℕ} → ((c : ℕ) → P c → Q c) → Wiring p r Q W T → Wiring p r P W T
+pub wiring-less : {p : Sizes} {r : ℕ} {P Q : ℕ → Type 0} {W T : List ℕ} → ((c : ℕ) → P c → Q c) → Wiring p r Q W T → Wiring p r P W T
 wiring-less f a =
     record {
       few = a .few;
@@ -113,7 +113,7 @@ wiring-less f a =
       once = λ b c q q′ u v e. a .once b c (f b q) (f c q′) u v e;
     }
 
-pub slot-less : {p : Places} {r : ℕ} {P Q : ℕ → Type 0} {W T : List ℕ} → ((c : ℕ) → P c → Q c) → (x : ℕ) → CopySlot p r P W T x → CopySlot p r Q W T x
+pub slot-less : {p : Sizes} {r : ℕ} {P Q : ℕ → Type 0} {W T : List ℕ} → ((c : ℕ) → P c → Q c) → (x : ℕ) → CopySlot p r P W T x → CopySlot p r Q W T x
 slot-less f x q = record { cell = q .cell; among = f (q .cell) (q .among); old = q .old; field = q .field }
 
 -- ---- the copy of one survivor more
@@ -125,7 +125,7 @@ pub record Grown (P : ℕ → Type 0) (c : ℕ) (P′ : ℕ → Type 0) : Type 0
   pub keeps : (y : ℕ) → P y → P′ y
   pub split : (y : ℕ) → P′ y → P y ⊎ (y ≡ c)
 
-module _ {p : Places} {r c : ℕ} {P P′ Q : ℕ → Type 0} {W T W′ : List ℕ} (w : Wiring p r Q W T) (g : Grown P c P′) (among : (y : ℕ) → P′ y → Q y)
+module _ {p : Sizes} {r c : ℕ} {P P′ Q : ℕ → Type 0} {W T W′ : List ℕ} (w : Wiring p r Q W T) (g : Grown P c P′) (among : (y : ℕ) → P′ y → Q y)
     (h : Rewritten p r (CopySlot p r P W T) W T W′) where
   pub earlier-apart : (x : ℕ) → CopySlot p r (λ y. y ≡ c) W T x → CopySlot p r P W T x → ⊥
   earlier-apart x q q′ =
@@ -180,7 +180,7 @@ passed-grown {left} q i left′ l e =
     split′ y m (yes d) = inr (omega (arith, m .0))
     split′ y m (no n) = inl (m .0, sym (clear-other i (y % 16) left (l .on) n) ∙ sym (at (y % 16)) ∙ m .1)
 
-module _ {p : Places} {r q w : ℕ} {W T : List ℕ} (a : Wiring p r (Between (16 * q) (16 * (q + 1))) W T) (e : w ≡ markOf p T q / 2 ^ 16) where
+module _ {p : Sizes} {r q w : ℕ} {W T : List ℕ} (a : Wiring p r (Between (16 * q) (16 * (q + 1))) W T) (e : w ≡ markOf p T q / 2 ^ 16) where
   -- w is the upper half of the page's mark word
   upper-copied : (c : ℕ) → c / 16 ≡ q → bitAt w (c % 16) ≡ copied p T c
   upper-copied c d =
@@ -205,7 +205,7 @@ within-passed q left c z m = (omega (arith, m .0, m .1), ap (λ (x : ℕ). bitAt
 -- ---- all pages
 
 -- a page without marks has no copies
-pub unmarked-slots : {p : Places} {r : ℕ} {W T : List ℕ} → Wiring p r (Between 0 (16 * p .pages)) W T → (q : ℕ) → q < p .pages → markOf p T q ≡ 0
+pub unmarked-slots : {p : Sizes} {r : ℕ} {W T : List ℕ} → Wiring p r (Between 0 (16 * p .pages)) W T → (q : ℕ) → q < p .pages → markOf p T q ≡ 0
     → (x : ℕ) → CopySlot p r (Between 0 (16 * (q + 1))) W T x → CopySlot p r (Between 0 (16 * q)) W T x
 unmarked-slots {p} {r} {W} {T} w q l z x s = record { cell = s .cell; among = (omega arith, below (decLt (s .cell) (16 * q))); old = s .old; field = s .field }
   where
@@ -220,7 +220,7 @@ unmarked-slots {p} {r} {W} {T} w q l z x s = record { cell = s .cell; among = (o
         absurd (let y : ⊥ = omega (arith, ap (λ (v : ℕ). bitAt (markOf p T v) (16 + s .cell % 16)) e, ap (λ (v : ℕ). bitAt v (16 + s .cell % 16)) z, bit-zero (16 + s .cell % 16)) in y)
 
 -- a page after those below it
-module _ {p : Places} {r q : ℕ} {W T W′ : List ℕ} (w : Wiring p r (Between 0 (16 * p .pages)) W T) (lt : q < p .pages)
+module _ {p : Sizes} {r q : ℕ} {W T W′ : List ℕ} (w : Wiring p r (Between 0 (16 * p .pages)) W T) (lt : q < p .pages)
     (h : Rewritten p r (CopySlot p r (Between 0 (16 * q)) W T) W T W′) where
   pub pages-apart : (x : ℕ) → CopySlot p r (Between (16 * q) (16 * (q + 1))) W T x → CopySlot p r (Between 0 (16 * q)) W T x → ⊥
   pages-apart x s s′ =

@@ -7,8 +7,8 @@ use native.Mathlib.Decide.{ℕ-discrete}
 use native.Mathlib.Omega.{arith}
 use lib.ListN.{length, getD, set, length-set}
 use lib.Seq.{getD-set-same, getD-set-other}
-use Rattle.layout.specs.declared.Places.{Places}
-use Rattle.layout.specs.Places.{Room, varAt, ownerAt, varOf, slotIn, slotRegionIn}
+use Rattle.rules.specs.declared.Sizes.{Sizes}
+use Rattle.layout.specs.Places.{Room, varAt, ownerAt, varOf, slotIn, slotRegionIn, varsFrom}
 use Rattle.layout.specs.Cells.{fieldOf}
 use Rattle.settle.specs.Rewrite.{moveRef, move-same, Names, Rewritten, rewritten-none, rewritten-one, rewritten-join}
 
@@ -21,7 +21,7 @@ pub record Remembered (r n m : ℕ) (M : List ℕ) (x : ℕ) : Type 0 where
   pub region : slotRegionIn n M entry ≡ r
   pub slot : slotIn M entry ≡ x
 
-pub record Slots (p : Places) (r n m : ℕ) (W M : List ℕ) : Type 0 where
+pub record Slots (p : Sizes) (r n m : ℕ) (W M : List ℕ) : Type 0 where
   pub few : m ≤ n
   pub long : 2 + 2 * n ≤ length M
   pub pages : p .pages ≤ 1024
@@ -31,7 +31,7 @@ pub record Slots (p : Places) (r n m : ℕ) (W M : List ℕ) : Type 0 where
   pub once : (i j : ℕ) → i < j → j < m → slotIn M i ≢ slotIn M j
   pub names : (i : ℕ) → i < m → slotRegionIn n M i ≡ r → Names p (getD W (slotIn M i) 0)
 
-module _ {p : Places} {r n m : ℕ} {W M T W′ : List ℕ} {i : ℕ} (a : Slots p r n m W M) (lt : i < m) (h : Rewritten p r (Remembered r n i M) W T W′) where
+module _ {p : Sizes} {r n m : ℕ} {W M T W′ : List ℕ} {i : ℕ} (a : Slots p r n m W M) (lt : i < m) (h : Rewritten p r (Remembered r n i M) W T W′) where
   fresh : Remembered r n i M (slotIn M i) → ⊥
   fresh q = a .once (q .entry) i (q .low) lt (q .slot)
 
@@ -62,7 +62,7 @@ module _ {p : Places} {r n m : ℕ} {W M T W′ : List ℕ} {i : ℕ} (a : Slots
       from x q (yes z) = absurd (ne (ap (λ (y : ℕ). slotRegionIn n M y) (sym z) ∙ q .region))
       from x q (no z) = record { entry = q .entry; low = omega (arith, q .low); region = q .region; slot = q .slot }
 
-pub slots-start : (p : Places) (r n : ℕ) (W M T : List ℕ) → Rewritten p r (Remembered r n 0 M) W T W
+pub slots-start : (p : Sizes) (r n : ℕ) (W M T : List ℕ) → Rewritten p r (Remembered r n 0 M) W T W
 slots-start p r n W M T = rewritten-none p r (Remembered r n 0 M) W T (λ x q. omega (arith, q .low))
 
 -- ---- the fields of one cell
@@ -72,17 +72,17 @@ pub record Field (d n x : ℕ) : Type 0 where
   pub low : field < n
   pub at : x ≡ 16 * d + 2 + field
 
-pub record Fields (p : Places) (n d : ℕ) (W : List ℕ) : Type 0 where
+pub record Fields (p : Sizes) (n d : ℕ) (W : List ℕ) : Type 0 where
   pub pages : p .pages ≤ 1024
   pub cells-long : 256 * p .pages ≤ length W
   pub page : d / 16 < p .pages
   pub few : n ≤ 14
   pub names : (f : ℕ) → f < n → Names p (fieldOf W d f)
 
-pub fields-start : (p : Places) (r d : ℕ) (W T : List ℕ) → Rewritten p r (Field d 0) W T W
+pub fields-start : (p : Sizes) (r d : ℕ) (W T : List ℕ) → Rewritten p r (Field d 0) W T W
 fields-start p r d W T = rewritten-none p r (Field d 0) W T (λ x q. omega (arith, q .low))
 
-module _ {p : Places} {r n d : ℕ} {W T W′ : List ℕ} {f : ℕ} (a : Fields p n d W) (lt : f < n) (h : Rewritten p r (Field d f) W T W′) where
+module _ {p : Sizes} {r n d : ℕ} {W T W′ : List ℕ} {f : ℕ} (a : Fields p n d W) (lt : f < n) (h : Rewritten p r (Field d f) W T W′) where
   new : Field d f (16 * d + 2 + f) → ⊥
   new q = omega (arith, q .low, q .at)
 
@@ -100,24 +100,24 @@ module _ {p : Places} {r n d : ℕ} {W T W′ : List ℕ} {f : ℕ} (a : Fields 
 
 -- ---- the variables: those below n, counted through all threads
 
-pub record Variables (p : Places) (n r : ℕ) (W T T′ : List ℕ) : Type 0 where
+pub record Variables (p : Sizes) (n r : ℕ) (W T T′ : List ℕ) : Type 0 where
   pub size : length T′ ≡ length T
   pub moved : (i : ℕ) → i < n → varOf p T′ i ≡ moveRef p r W T (varOf p T i)
-  pub same : (x : ℕ) → (p .vars ≤ x → p .vars + n ≤ x) → getD T′ x 0 ≡ getD T x 0
+  pub same : (x : ℕ) → (varsFrom p ≤ x → varsFrom p + n ≤ x) → getD T′ x 0 ≡ getD T x 0
 
-pub variables-start : (p : Places) (r : ℕ) (W T : List ℕ) → Variables p 0 r W T T
+pub variables-start : (p : Sizes) (r : ℕ) (W T : List ℕ) → Variables p 0 r W T T
 variables-start p r W T =
     record { size = refl; moved = λ i l. absurd (let z : ⊥ = omega arith in z); same = λ x h. refl }
 
-pub variables-next : {p : Places} {n r : ℕ} {W T T′ : List ℕ} → n < p .threads * p .variables → Room p (length T) → Variables p n r W T T′ → (y : ℕ)
+pub variables-next : {p : Sizes} {n r : ℕ} {W T T′ : List ℕ} → n < p .threads * p .variables → Room p (length T) → Variables p n r W T T′ → (y : ℕ)
     → y ≡ moveRef p r W T′ (varOf p T′ n) → Variables p (n + 1) r W T (set T′ (varAt p n) y)
 variables-next {p} {n} {r} {W} {T} {T′} m room h y e =
     record {
       size = length-set T′ (varAt p n) y ∙ h .size;
       moved = λ i l. at i l (ℕ-discrete i n);
       same = λ x k.
-          getD-set-other T′ (varAt p n) x y 0 (λ z. let w : p .vars + (n + 1) ≤ x = k (omega arith) in omega arith)
-          ∙ h .same x (λ w. let u : p .vars + (n + 1) ≤ x = k w in omega arith);
+          getD-set-other T′ (varAt p n) x y 0 (λ z. let w : varsFrom p + (n + 1) ≤ x = k (omega arith) in omega arith)
+          ∙ h .same x (λ w. let u : varsFrom p + (n + 1) ≤ x = k w in omega arith);
     }
   where
     value : y ≡ moveRef p r W T (varOf p T n)
@@ -131,5 +131,5 @@ variables-next {p} {n} {r} {W} {T} {T′} m room h y e =
         (getD-set-same T′ (varAt p n) y 0 (omega (arith, h .size, room)) ∙ value)
     at i l (no z) = getD-set-other T′ (varAt p n) (varAt p i) y 0 (λ q. z (omega arith)) ∙ h .moved i (omega arith)
 
-pub variables-names : {p : Places} {n r : ℕ} {W T T′ : List ℕ} → Variables p n r W T T′ → Names p (varOf p T n) → Names p (varOf p T′ n)
+pub variables-names : {p : Sizes} {n r : ℕ} {W T T′ : List ℕ} → Variables p n r W T T′ → Names p (varOf p T n) → Names p (varOf p T′ n)
 variables-names {p} {n} h a = subst (λ (x : ℕ). Names p x) (sym (h .same (varAt p n) (λ w. omega arith))) a

@@ -9,7 +9,7 @@ use native.Mathlib.Omega.{arith}
 use lib.ListN.{length, getD, set}
 use lib.Seq.{getD-set-same}
 use Rattle.lists.specs.Part.{Off, Skips}
-use Rattle.layout.specs.declared.Places.{Places}
+use Rattle.rules.specs.declared.Sizes.{Sizes}
 use Rattle.layout.specs.Places.{ownerOf, markOf}
 use Rattle.layout.specs.Cells.{workOf, fieldOf, refsOf}
 use Rattle.settle.specs.Rewrite.{Names, moveRef, Rewritten, link-same, refs-same, ref-same, rewritten-none, rewritten-one, rewritten-join, rewritten-like}
@@ -19,12 +19,12 @@ use Rattle.settle.specs.Entries.{crossOf, Added, added-none, added-one, 
 use Rattle.settle.specs.Append.{crossAt, Crossing, Appending, append-room, appending-next}
 
 -- the slots of P are rewritten; those that cross then stand from entry j up to entry i
-pub record Settled (p : Places) (r n : ℕ) (P : ℕ → Type 0) (W M T : List ℕ) (j : ℕ) (W′ M′ : List ℕ) (i : ℕ) : Type 0 where
+pub record Settled (p : Sizes) (r n : ℕ) (P : ℕ → Type 0) (W M T : List ℕ) (j : ℕ) (W′ M′ : List ℕ) (i : ℕ) : Type 0 where
   pub rewritten : Rewritten p r P W T W′
   pub added : Added n (Crossing p P W′ T) j i M M′
 
 -- they can be settled: `final` is the cells as they will be in the end, and the slots of P that cross there can be appended
-pub record Settling (p : Places) (r n : ℕ) (P : ℕ → Type 0) (W M T : List ℕ) (j : ℕ) : Type 0 where
+pub record Settling (p : Sizes) (r n : ℕ) (P : ℕ → Type 0) (W M T : List ℕ) (j : ℕ) : Type 0 where
   pub final : List ℕ
   pub moved : (x : ℕ) → P x → getD final x 0 ≡ moveRef p r W T (getD W x 0)
   pub names : (x : ℕ) → P x → Names p (getD final x 0)
@@ -33,28 +33,28 @@ pub record Settling (p : Places) (r n : ℕ) (P : ℕ → Type 0) (W M T : List 
 -- ---- sets of slots
 
 -- crossing slots, by words that read the same there
-crossing-read : {p : Places} {P : ℕ → Type 0} {T X Y : List ℕ} → ((x : ℕ) → P x → getD Y x 0 ≡ getD X x 0) → (x h : ℕ) → Crossing p P X T x h → Crossing p P Y T x h
+crossing-read : {p : Sizes} {P : ℕ → Type 0} {T X Y : List ℕ} → ((x : ℕ) → P x → getD Y x 0 ≡ getD X x 0) → (x h : ℕ) → Crossing p P X T x h → Crossing p P Y T x h
 crossing-read {p} {P} {T} {X} {Y} same x h q =
     record { at = q .at; region = q .region ∙ ap (λ (y : ℕ). crossOf p T (ownerOf p T (x / 256)) y) (sym (same x (q .at))); kept = q .kept }
 
-added-read : {p : Places} {n i j : ℕ} {P : ℕ → Type 0} {T X Y M M′ : List ℕ} → ((x : ℕ) → P x → getD Y x 0 ≡ getD X x 0) → Added n (Crossing p P X T) i j M M′
+added-read : {p : Sizes} {n i j : ℕ} {P : ℕ → Type 0} {T X Y M M′ : List ℕ} → ((x : ℕ) → P x → getD Y x 0 ≡ getD X x 0) → Added n (Crossing p P X T) i j M M′
     → Added n (Crossing p P Y T) i j M M′
 added-read same a = added-like a (crossing-read (λ x q. sym (same x q))) (crossing-read same)
 
-pub crossing-in : {p : Places} {P Q : ℕ → Type 0} {W T : List ℕ} → ((x : ℕ) → P x → Q x) → (x h : ℕ) → Crossing p P W T x h → Crossing p Q W T x h
+pub crossing-in : {p : Sizes} {P Q : ℕ → Type 0} {W T : List ℕ} → ((x : ℕ) → P x → Q x) → (x h : ℕ) → Crossing p P W T x h → Crossing p Q W T x h
 crossing-in f x h q = record { at = f x (q .at); region = q .region; kept = q .kept }
 
-pub settled-none : (p : Places) (r n : ℕ) (P : ℕ → Type 0) (W M T : List ℕ) (j : ℕ) → j ≤ n → ((x : ℕ) → P x → ⊥) → Settled p r n P W M T j W M j
+pub settled-none : (p : Sizes) (r n : ℕ) (P : ℕ → Type 0) (W M T : List ℕ) (j : ℕ) → j ≤ n → ((x : ℕ) → P x → ⊥) → Settled p r n P W M T j W M j
 settled-none p r n P W M T j l none =
     record { rewritten = rewritten-none p r P W T none; added = added-none (Crossing p P W T) j M l (λ x h q. none x (q .at)) }
 
-pub settled-like : {p : Places} {r n j i : ℕ} {P R : ℕ → Type 0} {W M T W′ M′ : List ℕ} → Settled p r n P W M T j W′ M′ i → ((x : ℕ) → R x → P x) → ((x : ℕ) → P x → R x)
+pub settled-like : {p : Sizes} {r n j i : ℕ} {P R : ℕ → Type 0} {W M T W′ M′ : List ℕ} → Settled p r n P W M T j W′ M′ i → ((x : ℕ) → R x → P x) → ((x : ℕ) → P x → R x)
     → Settled p r n R W M T j W′ M′ i
 settled-like h from to =
     record { rewritten = rewritten-like (h .rewritten) from to; added = added-like (h .added) (crossing-in from) (crossing-in to) }
 
 -- one set of slots after another that has none of the first
-settled-join : {p : Places} {r n j i k : ℕ} {P Q R : ℕ → Type 0} {W M T W′ M′ W″ M″ : List ℕ} → Settled p r n P W M T j W′ M′ i → Settled p r n Q W′ M′ T i W″ M″ k
+settled-join : {p : Sizes} {r n j i k : ℕ} {P Q R : ℕ → Type 0} {W M T W′ M′ W″ M″ : List ℕ} → Settled p r n P W M T j W′ M′ i → Settled p r n Q W′ M′ T i W″ M″ k
     → ((x : ℕ) → P x → Q x → ⊥) → ((x : ℕ) → R x → P x ⊎ Q x) → ((x : ℕ) → P x ⊎ Q x → R x) → Settled p r n R W M T j W″ M″ k
 settled-join a b apart from to =
     record {
@@ -67,7 +67,7 @@ settled-join a b apart from to =
     }
 
 -- after those of Q are settled, those of R can be
-settling-next : {p : Places} {r n j i : ℕ} {P Q R : ℕ → Type 0} {W M T W′ M′ : List ℕ} → Settling p r n P W M T j → Settled p r n Q W M T j W′ M′ i
+settling-next : {p : Sizes} {r n j i : ℕ} {P Q R : ℕ → Type 0} {W M T W′ M′ : List ℕ} → Settling p r n P W M T j → Settled p r n Q W M T j W′ M′ i
     → ((x : ℕ) → Q x → P x) → ((x : ℕ) → R x → P x) → ((x : ℕ) → Q x → R x → ⊥) → Settling p r n R W′ M′ T i
 settling-next {p} {r} {W = W} {T = T} {W′ = W′} s h fq fr apart =
     record {
@@ -81,10 +81,10 @@ settling-next {p} {r} {W = W} {T = T} {W′ = W′} s h fq fr apart =
 
 -- ---- one slot: v is what it becomes, h the region into which it crosses then, else 0
 
-slot-names : {p : Places} {r n x i : ℕ} {W M T : List ℕ} → Settling p r n (λ y. y ≡ x) W M T i → (v : ℕ) → v ≡ moveRef p r W T (getD W x 0) → Names p v
+slot-names : {p : Sizes} {r n x i : ℕ} {W M T : List ℕ} → Settling p r n (λ y. y ≡ x) W M T i → (v : ℕ) → v ≡ moveRef p r W T (getD W x 0) → Names p v
 slot-names {p} {x = x} s v ev = subst (λ (y : ℕ). Names p y) (s .moved x refl ∙ sym ev) (s .names x refl)
 
-module _ {p : Places} {r n x i : ℕ} {W M T : List ℕ} (s : Settling p r n (λ y. y ≡ x) W M T i) (v h : ℕ) (ev : v ≡ moveRef p r W T (getD W x 0))
+module _ {p : Sizes} {r n x i : ℕ} {W M T : List ℕ} (s : Settling p r n (λ y. y ≡ x) W M T i) (v h : ℕ) (ev : v ≡ moveRef p r W T (getD W x 0))
     (eh : h ≡ crossOf p T (ownerOf p T (x / 256)) v) where
   slot-fits : h ≢ 0 → i < n
   slot-fits ne = append-room (s .appending) x refl (λ z. ne (eh ∙ ap (λ (y : ℕ). crossOf p T (ownerOf p T (x / 256)) y) (ev ∙ sym (s .moved x refl)) ∙ z))
@@ -113,10 +113,10 @@ module _ {p : Places} {r n x i : ℕ} {W M T : List ℕ} (s : Settling p r n (λ
 
 -- ---- the fields of one cell
 
-pub fields-settled : (p : Places) (r n d : ℕ) (W M T : List ℕ) (j : ℕ) → j ≤ n → Settled p r n (Field d 0) W M T j W M j
+pub fields-settled : (p : Sizes) (r n d : ℕ) (W M T : List ℕ) (j : ℕ) → j ≤ n → Settled p r n (Field d 0) W M T j W M j
 fields-settled p r n d W M T j l = settled-none p r n (Field d 0) W M T j l (λ x q. omega (arith, q .low))
 
-module _ {p : Places} {r n d k f j i : ℕ} {W M T W′ M′ : List ℕ} (a : Fields p k d W) (s : Settling p r n (Field d k) W M T j) (lt : f < k)
+module _ {p : Sizes} {r n d k f j i : ℕ} {W M T W′ M′ : List ℕ} (a : Fields p k d W) (s : Settling p r n (Field d k) W M T j) (lt : f < k)
     (h : Settled p r n (Field d f) W M T j W′ M′ i) where
   new : (x : ℕ) → Field d f x → x ≡ 16 * d + 2 + f → ⊥
   new x q e = omega (arith, q .low, q .at)
@@ -165,7 +165,7 @@ module _ {p : Places} {r n d k f j i : ℕ} {W M T W′ M′ : List ℕ} (a : Fi
 
 -- ---- the copy of one survivor more; x is word 1 of the old cell, as the code read it
 
-module _ {p : Places} {r c : ℕ} {P P′ Q : ℕ → Type 0} {W T W′ : List ℕ} (w : Wiring p r Q W T) (g : Grown P c P′) (among : (y : ℕ) → P′ y → Q y)
+module _ {p : Sizes} {r c : ℕ} {P P′ Q : ℕ → Type 0} {W T W′ : List ℕ} (w : Wiring p r Q W T) (g : Grown P c P′) (among : (y : ℕ) → P′ y → Q y)
     (h : Rewritten p r (CopySlot p r P W T) W T W′) (x : ℕ) (e : x ≡ workOf W′ c) (u : Old p r W T c) where
   -- its fields, as the words before have them
   one : (y : ℕ) → Field (x - 1) (refsOf W′ (x - 1)) y → CopySlot p r (λ z. z ≡ c) W T y
@@ -197,7 +197,7 @@ module _ {p : Places} {r c : ℕ} {P P′ Q : ℕ → Type 0} {W T W′ : List �
   pub copy-rewritten : {W″ : List ℕ} → Rewritten p r (Field (x - 1) (refsOf W′ (x - 1))) W′ T W″ → Rewritten p r (CopySlot p r P′ W T) W T W″
   copy-rewritten k = rewritten-join h k copy-apart copy-split (λ y. ⊎-elim (slot-less (g .keeps) y) (copy-among y))
 
-module _ {p : Places} {r n c j i : ℕ} {P P′ Q : ℕ → Type 0} {W M T W′ M′ : List ℕ} (w : Wiring p r Q W T) (g : Grown P c P′) (among : (y : ℕ) → P′ y → Q y)
+module _ {p : Sizes} {r n c j i : ℕ} {P P′ Q : ℕ → Type 0} {W M T W′ M′ : List ℕ} (w : Wiring p r Q W T) (g : Grown P c P′) (among : (y : ℕ) → P′ y → Q y)
     (h : Settled p r n (CopySlot p r P W T) W M T j W′ M′ i) (x : ℕ) (e : x ≡ workOf W′ c) (u : Old p r W T c) where
   pub copy-settling : Settling p r n (CopySlot p r Q W T) W M T j → Settling p r n (Field (x - 1) (refsOf W′ (x - 1))) W′ M′ T i
   copy-settling s =
@@ -211,23 +211,23 @@ module _ {p : Places} {r n c j i : ℕ} {P P′ Q : ℕ → Type 0} {W M T W′ 
 
 -- ---- the copies of a page's survivors
 
-pub unset-settled : {p : Places} {r n q w j : ℕ} {W M T : List ℕ} → Wiring p r (Between (16 * q) (16 * (q + 1))) W T → w ≡ markOf p T q / 2 ^ 16 → j ≤ n
+pub unset-settled : {p : Sizes} {r n q w j : ℕ} {W M T : List ℕ} → Wiring p r (Between (16 * q) (16 * (q + 1))) W T → w ≡ markOf p T q / 2 ^ 16 → j ≤ n
     → Settled p r n (CopySlot p r (Passed q w) W T) W M T j W M j
 unset-settled {p} {r} {n} {q} {w} {j} {W} {M} {T} a e l = settled-none p r n (CopySlot p r (Passed q w) W T) W M T j l (unset-none a e)
 
-pub page-settled : {p : Places} {r n left j i : ℕ} {W M T W′ M′ : List ℕ} (q : ℕ) → left ≡ 0 → Settled p r n (CopySlot p r (Passed q left) W T) W M T j W′ M′ i
+pub page-settled : {p : Sizes} {r n left j i : ℕ} {W M T W′ M′ : List ℕ} (q : ℕ) → left ≡ 0 → Settled p r n (CopySlot p r (Passed q left) W T) W M T j W′ M′ i
     → Settled p r n (CopySlot p r (Between (16 * q) (16 * (q + 1))) W T) W M T j W′ M′ i
 page-settled {left = left} q z h =
     settled-like h (λ x s. slot-less (λ c m. within-passed q left c z m) x s) (λ x s. slot-less (λ c m. passed-within q left c m) x s)
 
 -- ---- all pages
 
-pub copies-settled : (p : Places) (r n a j : ℕ) (W M T : List ℕ) → j ≤ n → Settled p r n (CopySlot p r (Between a a) W T) W M T j W M j
+pub copies-settled : (p : Sizes) (r n a j : ℕ) (W M T : List ℕ) → j ≤ n → Settled p r n (CopySlot p r (Between a a) W T) W M T j W M j
 copies-settled p r n a j W M T l =
     settled-none p r n (CopySlot p r (Between a a) W T) W M T j l (λ x q. omega (arith, q .among .0, q .among .1))
 
 -- a page after those below it
-module _ {p : Places} {r n q j i : ℕ} {W M T W′ M′ : List ℕ} (w : Wiring p r (Between 0 (16 * p .pages)) W T) (lt : q < p .pages)
+module _ {p : Sizes} {r n q j i : ℕ} {W M T W′ M′ : List ℕ} (w : Wiring p r (Between 0 (16 * p .pages)) W T) (lt : q < p .pages)
     (s : Settling p r n (CopySlot p r (Between 0 (16 * p .pages)) W T) W M T j) (h : Settled p r n (CopySlot p r (Between 0 (16 * q)) W T) W M T j W′ M′ i) where
   page-apart : (x : ℕ) → CopySlot p r (Between 0 (16 * q)) W T x → CopySlot p r (Between (16 * q) (16 * (q + 1))) W′ T x → ⊥
   page-apart x a b = pages-apart w lt (h .rewritten) x (slot-then (h .rewritten) x b) a
@@ -251,6 +251,6 @@ module _ {p : Places} {r n q j i : ℕ} {W M T W′ M′ : List ℕ} (w : Wiring
           inr (slot-now (h .rewritten) x (record { cell = a .cell; among = (omega arith, a .among .1); old = a .old; field = a .field }))
 
 -- a page without marks has no copies
-pub settled-skips : {p : Places} {r n j i : ℕ} {W M T W′ M′ : List ℕ} (k : ℕ) (l : List ℕ) → Wiring p r (Between 0 (16 * p .pages)) W T
+pub settled-skips : {p : Sizes} {r n j i : ℕ} {W M T W′ M′ : List ℕ} (k : ℕ) (l : List ℕ) → Wiring p r (Between 0 (16 * p .pages)) W T
     → ((q : ℕ) → q < p .pages → Off l k q → markOf p T q ≡ 0) → Skips (p .pages) k l (λ b. Settled p r n (CopySlot p r (Between 0 (16 * b)) W T) W M T j W′ M′ i)
 settled-skips k l w none q lt off h = settled-like h (unmarked-slots w q lt (none q lt off)) (λ x a. slot-less (λ y l. (l .0, omega (arith, l .1))) x a)

@@ -21,11 +21,11 @@ use crate::remember::cross;
 use crate::remember::filter_entries;
 use crate::rewrite::forward_ref;
 use layout::Kind;
-use layout::Places;
+use rules::Sizes;
 
 // The reference fields of a copy. Those that cross come after the first j entries; how many there are then.
 pub fn settle_cell(
-    p: Places,
+    p: Sizes,
     cells: &mut [u32],
     remember: &mut [u32],
     tables: &[u32],
@@ -70,7 +70,7 @@ pub fn settle_cell(
 
 // Those of the copies of a page's survivors: as many as the upper half of its mark word has ones.
 pub fn settle_page(
-    p: Places,
+    p: Sizes,
     cells: &mut [u32],
     remember: &mut [u32],
     tables: &[u32],
@@ -101,7 +101,7 @@ pub fn settle_page(
 
 // Those of all copies. Survivors were copied off listed pages only.
 pub fn settle_copies(
-    p: Places,
+    p: Sizes,
     cells: &mut [u32],
     remember: &mut [u32],
     tables: &[u32],
@@ -133,7 +133,7 @@ fn larger(a: usize, b: usize) -> usize
 
 // The copies' slots and the remember table after the end: the entries that stay, those of the copies, then zeros.
 pub fn settle(
-    p: Places,
+    p: Sizes,
     cells: &mut [u32],
     remember: &mut [u32],
     tables: &[u32],

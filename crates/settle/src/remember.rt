@@ -6,10 +6,10 @@ ghost use Rattle.layout.specs.Places.{Room, usedIn};
 ghost use Rattle.settle.specs.Rewrite.{Names};
 ghost use Rattle.settle.specs.Entries.{crossOf, newRegion, Added, Stays, Entries, Cleared};
 ghost use Rattle.settle.specs.Update.{Copies, Updating, Updated};
-use layout::Places;
+use rules::Sizes;
 
 // The region into which a slot of region `from` crosses that holds x, 0 if it does not cross.
-pub fn cross(p: Places, tables: &[u32], from: u32, x: u32) -> u32
+pub fn cross(p: Sizes, tables: &[u32], from: u32, x: u32) -> u32
     requires { ⌜ Names p x ⌝ }
     requires { ⌜ Room p (length (now tables)) ⌝ }
     ensures { λ h. ⌜ h ≡ crossOf p (now (tables .entry)) from x ⌝ }
@@ -29,7 +29,7 @@ pub fn cross(p: Places, tables: &[u32], from: u32, x: u32) -> u32
 }
 
 // The region of the entry of the slot at a position, with region g, after the end; 0 if the entry goes.
-pub fn new_region(p: Places, cells: &[u32], tables: &[u32], region: u32, at: usize, g: u32) -> u32
+pub fn new_region(p: Sizes, cells: &[u32], tables: &[u32], region: u32, at: usize, g: u32) -> u32
     requires { ⌜ at < 256 * p .pages ⌝ }
     requires { ⌜ 256 * p .pages ≤ length (now cells) ⌝ }
     requires { ⌜ Room p (length (now tables)) ⌝ }
@@ -48,7 +48,7 @@ pub fn new_region(p: Places, cells: &[u32], tables: &[u32], region: u32, at: usi
 
 // The entries that stay move to the front, with their new regions; how many they are.
 pub fn filter_entries(
-    p: Places,
+    p: Sizes,
     cells: &[u32],
     remember: &mut [u32],
     tables: &[u32],
@@ -92,7 +92,7 @@ pub fn clear_entries(entries: usize, remember: &mut [u32], from: usize, to: usiz
 }
 
 // The remember table after an end that copies nothing: the entries that stay, then zeros.
-pub fn keep_entries(p: Places, cells: &[u32], remember: &mut [u32], tables: &[u32], region: u32)
+pub fn keep_entries(p: Sizes, cells: &[u32], remember: &mut [u32], tables: &[u32], region: u32)
     requires { ⌜ Updating p region (p .entries) (usedIn (now remember)) (now cells) (now remember) (now tables) ⌝ }
     requires { ⌜ ((x : ℕ) → Copies p region (now cells) (now tables) x → ⊥) ⌝ }
     ensures { λ _. ⌜ Updated p region (p .entries) (usedIn (now (remember .entry))) (now (cells .entry)) (now (remember .entry)) (now (tables .entry)) (now (remember .exit)) ⌝ }

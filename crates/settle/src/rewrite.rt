@@ -6,10 +6,10 @@ ghost use lib.ListN.{length};
 ghost use Rattle.layout.specs.Places.{Room, varOf, usedIn};
 ghost use Rattle.settle.specs.Rewrite.{Names, moveRef, Rewritten};
 ghost use Rattle.settle.specs.RewriteSlots.{Remembered, Slots, Variables};
-use layout::Places;
+use rules::Sizes;
 
 // The reference x, by way of the forward reference where it names a cell of the region.
-pub fn forward_ref(p: Places, cells: &[u32], tables: &[u32], region: u32, x: u32) -> u32
+pub fn forward_ref(p: Sizes, cells: &[u32], tables: &[u32], region: u32, x: u32) -> u32
     requires { ⌜ Names p x ⌝ }
     requires { ⌜ 256 * p .pages ≤ length (now cells) ⌝ }
     requires { ⌜ Room p (length (now tables)) ⌝ }
@@ -26,7 +26,7 @@ pub fn forward_ref(p: Places, cells: &[u32], tables: &[u32], region: u32, x: u32
 }
 
 // The remembered slots that point into the region.
-pub fn rewrite_slots(p: Places, cells: &mut [u32], remember: &[u32], tables: &[u32], region: u32)
+pub fn rewrite_slots(p: Sizes, cells: &mut [u32], remember: &[u32], tables: &[u32], region: u32)
     requires { ⌜ Slots p region (p .entries) (usedIn (now remember)) (now cells) (now remember) ⌝ }
     requires { ⌜ Room p (length (now tables)) ⌝ }
     ensures { λ _. ⌜ Rewritten p region (Remembered region (p .entries) (usedIn (now (remember .entry))) (now (remember .entry))) (now (cells .entry)) (now (tables .entry)) (now (cells .exit)) ⌝ }
@@ -44,7 +44,7 @@ pub fn rewrite_slots(p: Places, cells: &mut [u32], remember: &[u32], tables: &[u
 }
 
 // The variables of all threads.
-pub fn rewrite_variables(p: Places, cells: &[u32], tables: &mut [u32], region: u32)
+pub fn rewrite_variables(p: Sizes, cells: &[u32], tables: &mut [u32], region: u32)
     requires { ⌜ ((i : ℕ) → i < p .threads * p .variables → Names p (varOf p (now tables) i)) ⌝ }
     requires { ⌜ 256 * p .pages ≤ length (now cells) ⌝ }
     requires { ⌜ Room p (length (now tables)) ⌝ }

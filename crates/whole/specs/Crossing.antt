@@ -11,22 +11,22 @@ use lib.ListN.{getD}
 use Rattle.lists.specs.Counting.{count, count-positive, count-zero, count-to, sum-mono, bit}
 use Rattle.lists.specs.Tests.{cond-zero}
 use Rattle.lists.specs.Says.{Says}
-use Rattle.layout.specs.declared.Places.{Places}
+use Rattle.rules.specs.declared.Sizes.{Sizes}
 use Rattle.layout.specs.Places.{ownerOf, usedOf}
 use Rattle.layout.specs.Cells.{headAt, headOf, fieldAt, fieldOf, IsReference, pageOf, placeOf, cellOn, cellOf, wordOf}
 use Rattle.promises.specs.Crossing.{other, regionOf, crossTo, crossing}
 use Rattle.whole.specs.Cells.{CellsWhole, page-on, place-on}
 
 -- how many slots cross before position n
-abbrev pub crossingTo : Places → List ℕ → List ℕ → ℕ → ℕ
+abbrev pub crossingTo : Sizes → List ℕ → List ℕ → ℕ → ℕ
 crossingTo p c t n = count (crossing p c t) n
 
 -- every cell in use is whole, and so many slots cross
-pub record CellsCross (p : Places) (c t : List ℕ) (n : ℕ) : Type 0 where
+pub record CellsCross (p : Sizes) (c t : List ℕ) (n : ℕ) : Type 0 where
   pub whole : CellsWhole p c t
   pub crossing : crossingTo p c t (256 * p .pages) ≡ n
 
-module _ (p : Places) (c t : List ℕ) where
+module _ (p : Sizes) (c t : List ℕ) where
   -- the slot of a reference of a cell in use
   slot-of : (q k w : ℕ) → cellOf q ≡ k → wordOf q ≡ w → placeOf k < usedOf p t (pageOf k) → 2 ≤ w → w < headOf c k / 16 + 2
       → crossTo p c t q ≡ other (ownerOf p t (pageOf k)) (regionOf p t (getD c q 0))
@@ -130,7 +130,7 @@ module _ (p : Places) (c t : List ℕ) where
         ∙ sym (slot-of at cell word (sym e) (sym i) (omega (arith, ap (usedOf p t) f)) (v .0) (omega (arith, v .1)))
 
 -- the region of a reference, as the code read its page
-module _ (p : Places) (t : List ℕ) (x : ℕ) where
+module _ (p : Sizes) (t : List ℕ) (x : ℕ) where
   pub region-null : x ≡ 0 → 0 ≡ regionOf p t x
   region-null e = simp (eq-eqb x 0 e)
 
@@ -145,5 +145,5 @@ module _ (p : Places) (t : List ℕ) (x : ℕ) where
     region-there l g = simp (ne-eqb x 0 n, page-is, lt-ltb page (p .pages) l) g
 
 -- n as the code counted it, all there are
-pub says-cross : {p : Places} {c t : List ℕ} (n e : ℕ) → CellsWhole p c t → n ≡ crossingTo p c t (256 * p .pages) → Says (eqb n e) (CellsCross p c t e)
+pub says-cross : {p : Sizes} {c t : List ℕ} (n e : ℕ) → CellsWhole p c t → n ≡ crossingTo p c t (256 * p .pages) → Says (eqb n e) (CellsCross p c t e)
 says-cross n e w h = (λ q. record { whole = w; crossing = sym h ∙ eqb-true n e q }, λ k. eq-eqb n e (h ∙ k .crossing))

@@ -7,12 +7,12 @@ use native.Mathlib.Omega.{arith}
 use native.Mathlib.Decide.{decLt}
 use native.Mathlib.Nat.{eq-or-lt-of-le, not-suc-le-zero}
 use native.Mathlib.Numerals.{add-one}
-use Rattle.layout.specs.declared.Places.{Places}
+use Rattle.rules.specs.declared.Sizes.{Sizes}
 use Rattle.layout.specs.Places.{usedIn, slotIn, slotRegionIn}
 use Rattle.promises.specs.Whole.{EntryWhole}
 
 -- every entry that is used
-abbrev pub NamedWhole : Places → List ℕ → List ℕ → List ℕ → Type 0
+abbrev pub NamedWhole : Sizes → List ℕ → List ℕ → List ℕ → Type 0
 NamedWhole p c m t = (i : ℕ) → i < usedIn m → EntryWhole p c m t i
 
 -- the entries from a to before b, of a table of n, are zero
@@ -27,7 +27,7 @@ zero-on n m a b c h k i l u = go (decLt i b)
     go (no v) = k i (omega arith) u
 
 -- every entry that is not used
-abbrev pub RestZero : Places → List ℕ → Type 0
+abbrev pub RestZero : Sizes → List ℕ → Type 0
 RestZero p m = ZeroBetween (p .entries) m (usedIn m) (p .entries)
 
 -- no two entries name one slot

@@ -2,7 +2,7 @@
 use Prim.Native.Nat.{ℕ}
 use mathlib.Core.List.{List}
 use native.Mathlib.Omega.{arith}
-use Rattle.layout.specs.declared.Places.{Places}
+use Rattle.rules.specs.declared.Sizes.{Sizes}
 use Rattle.layout.specs.Places.{usedIn}
 use Rattle.promises.specs.Whole.{WholeAt, EntriesWhole}
 use Rattle.promises.specs.Remember.{every-counted, counted-every}
@@ -11,7 +11,7 @@ use Rattle.whole.specs.Regions.{RegionsWhole}
 use Rattle.whole.specs.Cells.{VariablesWhole}
 use Rattle.whole.specs.Crossing.{CellsCross}
 
-module _ {p : Places} {c m t : List ℕ} where
+module _ {p : Sizes} {c m t : List ℕ} where
   pub regions-of : WholeAt p c m t → RegionsWhole p t
   regions-of w = record {
     pages = λ page l. record { whole = w .pages page l; mark = w .marks page l };

@@ -14,25 +14,25 @@ use Rattle.lists.specs.Below.{split}
 use Rattle.lists.specs.Zeros.{replicate-at}
 use Rattle.lists.specs.Says.{true-not-false}
 use Rattle.lists.specs.Counting.{sum, sum-more, sum-high}
-use Rattle.layout.specs.declared.Places.{Places}
+use Rattle.rules.specs.declared.Sizes.{Sizes}
 use Rattle.layout.specs.Places.{Room, ownerOf, usedOf, countOf}
 use Rattle.promises.specs.Whole.{Partial, objectsOn, objectsOf, PageWhole}
 use Rattle.whole.specs.Pages.{PageChecked, PagesWhole, open-high}
 
-abbrev pub CountsWhole : Places → List ℕ → Type 0
+abbrev pub CountsWhole : Sizes → List ℕ → Type 0
 CountsWhole p t = (g : ℕ) → 1 ≤ g → g ≤ 1 + p .threads * p .depth → countOf p t g ≡ objectsOf p t g
 
 -- at most one of the pages below n is a partly filled page of a region
-abbrev pub PartialWhole : Places → List ℕ → ℕ → Type 0
+abbrev pub PartialWhole : Sizes → List ℕ → ℕ → Type 0
 PartialWhole p t n = (g : ℕ) → 1 ≤ g → (a b : ℕ) → a < b → b < n → Partial p t g a → Partial p t g b → ⊥
 
-pub record RegionsWhole (p : Places) (t : List ℕ) : Type 0 where
+pub record RegionsWhole (p : Sizes) (t : List ℕ) : Type 0 where
   pub pages : PagesWhole p t
   pub partial : PartialWhole p t (p .pages)
   pub counts : CountsWhole p t
 
 -- what a pass over the pages below n knows of each region: its objects there, and whether one of its pages there is partly filled
-pub record Tallied (p : Places) (t : List ℕ) (objects : List ℕ) (partly : List Bool) (n : ℕ) : Type 0 where
+pub record Tallied (p : Sizes) (t : List ℕ) (objects : List ℕ) (partly : List Bool) (n : ℕ) : Type 0 where
   pub places : length objects ≡ 130
   pub flags : length partly ≡ 130
   pub counted : (g : ℕ) → 1 ≤ g → g < 130 → getD objects g 0 ≡ sum (objectsOn p t g) n
@@ -41,14 +41,14 @@ pub record Tallied (p : Places) (t : List ℕ) (objects : List ℕ) (partly : Li
   pub once : PartialWhole p t n
 
 -- every owner is one of the regions, and these are fewer than 130
-pub owner-high : (p : Places) (t : List ℕ) (page : ℕ) → 1 ≤ p .depth → p .threads * p .depth ≤ 128 → PageWhole p t page → ownerOf p t page < 130
+pub owner-high : (p : Sizes) (t : List ℕ) (page : ℕ) → 1 ≤ p .depth → p .threads * p .depth ≤ 128 → PageWhole p t page → ownerOf p t page < 130
 owner-high p t page d h w = go (decLt 1 (ownerOf p t page))
   where
     go : Dec (1 < ownerOf p t page) → ownerOf p t page < 130
     go (yes l) = omega (arith, open-high p t (ownerOf p t page) d (w .region l))
     go (no l) = omega arith
 
-pub tallied-none : (p : Places) (t : List ℕ) → Tallied p t (replicate 130 0) (replicate 130 false) 0
+pub tallied-none : (p : Sizes) (t : List ℕ) → Tallied p t (replicate 130 0) (replicate 130 false) 0
 tallied-none p t = record {
   places = length-replicate {A = ℕ} 130 0;
   flags = length-replicate 130 false;
@@ -59,14 +59,14 @@ tallied-none p t = record {
 }
 
 -- what page n adds to the objects of region g
-on-own : (p : Places) (t : List ℕ) (g n : ℕ) → ownerOf p t n ≡ g → objectsOn p t g n ≡ usedOf p t n
+on-own : (p : Sizes) (t : List ℕ) (g n : ℕ) → ownerOf p t n ≡ g → objectsOn p t g n ≡ usedOf p t n
 on-own p t g n e = ap (λ (b : Bool). cond b (usedOf p t n) 0) (eq-eqb (ownerOf p t n) g e)
 
-on-other : (p : Places) (t : List ℕ) (g n : ℕ) → (ownerOf p t n ≡ g → ⊥) → objectsOn p t g n ≡ 0
+on-other : (p : Sizes) (t : List ℕ) (g n : ℕ) → (ownerOf p t n ≡ g → ⊥) → objectsOn p t g n ≡ 0
 on-other p t g n e = ap (λ (b : Bool). cond b (usedOf p t n) 0) (ne-eqb (ownerOf p t n) g e)
 
 -- a turn of the pass: o and u are the owner and the cells in use of page n, as the code read them
-module _ (p : Places) (t : List ℕ) (objects : List ℕ) (partly : List Bool) (n o u : ℕ) (w : Tallied p t objects partly n) (e : o ≡ ownerOf p t n) (f : u ≡ usedOf p t n) where
+module _ (p : Sizes) (t : List ℕ) (objects : List ℕ) (partly : List Bool) (n o u : ℕ) (w : Tallied p t objects partly n) (e : o ≡ ownerOf p t n) (f : u ≡ usedOf p t n) where
   later : (g a : ℕ) → (Partial p t g n → ⊥) → a < n + 1 → Partial p t g a → a < n
   later g a h l q = ⊎-elim (λ z. absurd (h (subst (λ (x : ℕ). Partial p t g x) z q))) (λ z. z) (split l)
 
@@ -140,7 +140,7 @@ module _ (p : Places) (t : List ℕ) (objects : List ℕ) (partly : List Bool) (
       all o (r .2) (r .0) n (r .1) m (r .3) (record { owner = sym e; part = omega arith })
 
 -- the objects counted are no more than the cells passed
-pub objects-low : (p : Places) (t : List ℕ) (objects : List ℕ) (partly : List Bool) (n o : ℕ) → Tallied p t objects partly n
+pub objects-low : (p : Sizes) (t : List ℕ) (objects : List ℕ) (partly : List Bool) (n o : ℕ) → Tallied p t objects partly n
     → ((k : ℕ) → k < n → usedOf p t k ≤ 16) → 1 ≤ o → o < 130 → getD objects o 0 ≤ 16 * n
 objects-low p t objects partly n o w h l m =
     omega (arith, w .counted o l m, sum-high (objectsOn p t o) 16 n (λ k i. on-le k (h k i)))
@@ -153,8 +153,8 @@ objects-low p t objects partly n o w h l m =
         go (no q) = omega (arith, on-other p t o k q)
 
 -- the same of lent tables, of a page that is whole; o is its owner as the code read it
-pub region-few : (p : Places) (n : ℕ) → Room p n → p .threads * p .depth ≤ 128
+pub region-few : (p : Sizes) (n : ℕ) → Room p n → p .threads * p .depth ≤ 128
 region-few p n r = mul-le-mul (r .threads-high) (r .depth-high)
 
-pub owner-room : (p : Places) (t : List ℕ) (n page : ℕ) {o : ℕ} → Room p n → PageChecked p t page → o ≡ ownerOf p t page → o < 130
+pub owner-room : (p : Sizes) (t : List ℕ) (n page : ℕ) {o : ℕ} → Room p n → PageChecked p t page → o ≡ ownerOf p t page → o < 130
 owner-room p t n page r w e = omega (arith, owner-high p t page (r .depth-low) (region-few p n r) (w .whole))

@@ -11,7 +11,7 @@ use crate::crossing::other_region;
 use crate::crossing::region_of;
 use crate::variables::is_ref;
 use layout::Kind;
-use layout::Places;
+use rules::Sizes;
 
 // Whether a cell's fields are zero, the first few left out. Two are read in a turn.
 pub fn zero_from(cells: &[u32], cell: usize, first: usize) -> bool
@@ -38,7 +38,7 @@ pub fn zero_from(cells: &[u32], cell: usize, first: usize) -> bool
 
 // Whether every cell in use is whole and as many slots cross as there are entries used, in one pass. A field that is a number may hold
 // any word, so it is not read. The first slot too many ends it.
-pub fn cells_whole(p: Places, cells: &[u32], tables: &[u32], entries: usize) -> bool
+pub fn cells_whole(p: Sizes, cells: &[u32], tables: &[u32], entries: usize) -> bool
     requires { ⌜ Room p (length (now tables)) ⌝ }
     requires { ⌜ 256 * p .pages ≤ length (now cells) ⌝ }
     requires { ⌜ PagesWhole p (now tables) ⌝ }

@@ -4,10 +4,10 @@ ghost use Prim.Native.Nat.{_*_, _≤_, _<_};
 ghost use lib.ListN.{length};
 ghost use Rattle.layout.specs.Places.{Room};
 ghost use Rattle.promises.specs.Crossing.{other, regionOf, crossTo};
-use layout::Places;
+use rules::Sizes;
 
 // The region that a reference points into, 0 for null and for a page that is not there.
-pub fn region_of(p: Places, tables: &[u32], x: u32) -> u32
+pub fn region_of(p: Sizes, tables: &[u32], x: u32) -> u32
     requires { ⌜ Room p (length (now tables)) ⌝ }
     ensures { λ r. ⌜ r ≡ regionOf p (now (tables .entry)) x ⌝ }
 {
@@ -35,7 +35,7 @@ pub fn other_region(from: u32, to: u32) -> u32
 }
 
 // The region that the slot at a position crosses into, 0 where no crossing slot stands there.
-pub fn cross_to(p: Places, cells: &[u32], tables: &[u32], at: usize) -> u32
+pub fn cross_to(p: Sizes, cells: &[u32], tables: &[u32], at: usize) -> u32
     requires { ⌜ Room p (length (now tables)) ⌝ }
     requires { ⌜ 256 * p .pages ≤ length (now cells) ⌝ }
     requires { ⌜ at < 256 * p .pages ⌝ }

@@ -8,9 +8,9 @@ ghost use Rattle.layout.specs.Places.{Room, usedIn, slotIn};
 ghost use Rattle.promises.specs.Whole.{EntryWhole, EntriesWhole};
 ghost use Rattle.whole.specs.Entries.{NamedWhole, ZeroBetween, RestZero, Once, Rising};
 use crate::crossing::cross_to;
-use layout::Places;
+use rules::Sizes;
 
-pub fn entry_whole(p: Places, cells: &[u32], remember: &[u32], tables: &[u32], i: usize) -> bool
+pub fn entry_whole(p: Sizes, cells: &[u32], remember: &[u32], tables: &[u32], i: usize) -> bool
     requires { ⌜ Room p (length (now tables)) ⌝ }
     requires { ⌜ 256 * p .pages ≤ length (now cells) ⌝ }
     requires { ⌜ 2 * p .entries + 2 ≤ length (now remember) ⌝ }
@@ -31,7 +31,7 @@ pub fn entry_whole(p: Places, cells: &[u32], remember: &[u32], tables: &[u32], i
     true
 }
 
-pub fn named_whole(p: Places, cells: &[u32], remember: &[u32], tables: &[u32], used: usize) -> bool
+pub fn named_whole(p: Sizes, cells: &[u32], remember: &[u32], tables: &[u32], used: usize) -> bool
     requires { ⌜ Room p (length (now tables)) ⌝ }
     requires { ⌜ 256 * p .pages ≤ length (now cells) ⌝ }
     requires { ⌜ 2 * p .entries + 2 ≤ length (now remember) ⌝ }
@@ -68,7 +68,7 @@ pub fn zero_between(entries: usize, remember: &[u32], from: usize, to: usize) ->
 }
 
 // Eight entries in a turn: a stretch of known length is compiled without a loop. The first word that is not zero still ends it.
-pub fn rest_zero(p: Places, remember: &[u32], used: usize) -> bool
+pub fn rest_zero(p: Sizes, remember: &[u32], used: usize) -> bool
     requires { ⌜ 2 * p .entries + 2 ≤ length (now remember) ⌝ }
     requires { ⌜ (used ≡ usedIn (now remember)) × (used ≤ p .entries) ⌝ }
     ensures { λ r. ⌜ Says r (RestZero p (now (remember .entry))) ⌝ }
@@ -85,7 +85,7 @@ pub fn rest_zero(p: Places, remember: &[u32], used: usize) -> bool
 }
 
 // Whether the slots stand in rising order.
-pub fn rising(p: Places, remember: &[u32], used: usize) -> bool
+pub fn rising(p: Sizes, remember: &[u32], used: usize) -> bool
     requires { ⌜ 2 * p .entries + 2 ≤ length (now remember) ⌝ }
     requires { ⌜ (used ≡ usedIn (now remember)) × (used ≤ p .entries) ⌝ }
     ensures { λ r. ⌜ Says r (Rising (now (remember .entry)) (usedIn (now (remember .entry)))) ⌝ }
@@ -119,7 +119,7 @@ fn see(seen: &mut [u32], at: usize)
 }
 
 // Whether no slot is seen twice, by a table with a bit for each.
-pub fn seen_once(p: Places, remember: &[u32], used: usize) -> bool
+pub fn seen_once(p: Sizes, remember: &[u32], used: usize) -> bool
     requires { ⌜ 2 * p .entries + 2 ≤ length (now remember) ⌝ }
     requires { ⌜ (used ≡ usedIn (now remember)) × (used ≤ p .entries) ⌝ }
     requires { ⌜ ((i : ℕ) → i < used → slotIn (now remember) i < 262144) ⌝ }
@@ -140,7 +140,7 @@ pub fn seen_once(p: Places, remember: &[u32], used: usize) -> bool
 }
 
 // Entries in rising order are each another at once; only another order pays for the table.
-pub fn once(p: Places, remember: &[u32], used: usize) -> bool
+pub fn once(p: Sizes, remember: &[u32], used: usize) -> bool
     requires { ⌜ 2 * p .entries + 2 ≤ length (now remember) ⌝ }
     requires { ⌜ (used ≡ usedIn (now remember)) × (used ≤ p .entries) ⌝ }
     requires { ⌜ ((i : ℕ) → i < used → slotIn (now remember) i < 262144) ⌝ }
@@ -152,7 +152,7 @@ pub fn once(p: Places, remember: &[u32], used: usize) -> bool
     seen_once(p, remember, used)
 }
 
-pub fn entries_whole(p: Places, cells: &[u32], remember: &[u32], tables: &[u32]) -> bool
+pub fn entries_whole(p: Sizes, cells: &[u32], remember: &[u32], tables: &[u32]) -> bool
     requires { ⌜ Room p (length (now tables)) ⌝ }
     requires { ⌜ 256 * p .pages ≤ length (now cells) ⌝ }
     requires { ⌜ 2 * p .entries + 2 ≤ length (now remember) ⌝ }

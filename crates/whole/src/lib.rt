@@ -5,7 +5,7 @@ ghost use lib.ListN.{length};
 ghost use Rattle.lists.specs.Says.{Says};
 ghost use Rattle.layout.specs.Places.{Room};
 ghost use Rattle.promises.specs.Whole.{WholeAt, Whole};
-use layout::Places;
+use rules::Sizes;
 
 pub mod cells;
 pub mod crossing;
@@ -16,7 +16,7 @@ pub mod sizes;
 pub mod variables;
 
 // The conditions after the first, of tables whose sizes are known.
-pub fn placed_whole(p: Places, cells: &[u32], remember: &[u32], tables: &[u32]) -> bool
+pub fn placed_whole(p: Sizes, cells: &[u32], remember: &[u32], tables: &[u32]) -> bool
     requires { ⌜ Room p (length (now tables)) ⌝ }
     requires { ⌜ 256 * p .pages ≤ length (now cells) ⌝ }
     requires { ⌜ 2 * p .entries + 2 ≤ length (now remember) ⌝ }
@@ -47,7 +47,7 @@ pub fn whole(cells: &[u32], remember: &[u32], tables: &[u32]) -> bool
     if !sizes::sizes_whole(cells, remember, tables) {
         return false;
     }
-    let p = layout::find_places(layout::read_sizes(tables));
+    let p = layout::read_sizes(tables);
     if !placed_whole(p, cells, remember, tables) {
         return false;
     }

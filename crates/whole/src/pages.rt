@@ -6,9 +6,9 @@ ghost use Rattle.lists.specs.Says.{Says};
 ghost use Rattle.layout.specs.Places.{Room};
 ghost use Rattle.promises.specs.Whole.{Open};
 ghost use Rattle.whole.specs.Pages.{DepthsWhole, PageChecked};
-use layout::Places;
+use rules::Sizes;
 
-pub fn depths_whole(p: Places, tables: &[u32]) -> bool
+pub fn depths_whole(p: Sizes, tables: &[u32]) -> bool
     requires { ⌜ Room p (length (now tables)) ⌝ }
     ensures { λ r. ⌜ Says r (DepthsWhole p (now (tables .entry))) ⌝ }
 {
@@ -24,7 +24,7 @@ pub fn depths_whole(p: Places, tables: &[u32]) -> bool
 }
 
 // Whether region g is an open region of a thread.
-pub fn is_open(p: Places, tables: &[u32], g: usize) -> bool
+pub fn is_open(p: Sizes, tables: &[u32], g: usize) -> bool
     requires { ⌜ Room p (length (now tables)) ⌝ }
     ensures { λ r. ⌜ Says r (Open p (now (tables .entry)) g) ⌝ }
 {
@@ -42,7 +42,7 @@ pub fn is_open(p: Places, tables: &[u32], g: usize) -> bool
     true
 }
 
-pub fn page_whole(p: Places, tables: &[u32], page: usize) -> bool
+pub fn page_whole(p: Sizes, tables: &[u32], page: usize) -> bool
     requires { ⌜ Room p (length (now tables)) ⌝ }
     requires { ⌜ page < p .pages ⌝ }
     ensures { λ r. ⌜ Says r (PageChecked p (now (tables .entry)) page) ⌝ }

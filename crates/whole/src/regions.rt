@@ -5,10 +5,10 @@ ghost use Rattle.lists.specs.Says.{Says};
 ghost use Rattle.layout.specs.Places.{Room};
 ghost use Rattle.whole.specs.Regions.{RegionsWhole};
 use crate::pages::page_whole;
-use layout::Places;
+use rules::Sizes;
 
 // There are at most 1 + 16 × 8 regions, numbered from 1.
-pub fn regions_whole(p: Places, tables: &[u32]) -> bool
+pub fn regions_whole(p: Sizes, tables: &[u32]) -> bool
     requires { ⌜ Room p (length (now tables)) ⌝ }
     ensures { λ r. ⌜ Says r (RegionsWhole p (now (tables .entry))) ⌝ }
 {

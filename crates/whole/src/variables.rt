@@ -4,10 +4,10 @@ ghost use Rattle.lists.specs.Says.{Says};
 ghost use Rattle.layout.specs.Places.{Room};
 ghost use Rattle.promises.specs.Whole.{IsRef};
 ghost use Rattle.whole.specs.Cells.{VariablesWhole};
-use layout::Places;
+use rules::Sizes;
 
 // Whether x is null or names a cell in use.
-pub fn is_ref(p: Places, tables: &[u32], x: u32) -> bool
+pub fn is_ref(p: Sizes, tables: &[u32], x: u32) -> bool
     requires { ⌜ Room p (length (now tables)) ⌝ }
     ensures { λ r. ⌜ Says r (IsRef p (now (tables .entry)) x) ⌝ }
 {
@@ -26,7 +26,7 @@ pub fn is_ref(p: Places, tables: &[u32], x: u32) -> bool
     true
 }
 
-pub fn variables_whole(p: Places, tables: &[u32]) -> bool
+pub fn variables_whole(p: Sizes, tables: &[u32]) -> bool
     requires { ⌜ Room p (length (now tables)) ⌝ }
     ensures { λ r. ⌜ Says r (VariablesWhole p (now (tables .entry))) ⌝ }
 {

@@ -7,7 +7,7 @@ use mathlib.Core.List.{List}
 use mathlib.Core.Logic.{inl}
 use mathlib.Core.Path.{_≡_, refl, _∙_}
 use Rattle.lists.specs.Part.{Through, cut-here, through-start, through-turn, through-end}
-use Rattle.layout.specs.declared.Places.{Places}
+use Rattle.rules.specs.declared.Sizes.{Sizes}
 use Rattle.copy.specs.Taking.{regular-filled}
 use Rattle.copy.specs.Passing.{moves-passing}
 use Rattle.copy.specs.Copying.{PassMoves, pass-begin, pass-next, pass-skip}
@@ -15,7 +15,7 @@ use Rattle.copy.proofs.copy_pass.Statement.{statement}
 use Rattle.copy.proofs.copy_pass.Tie as tie
 
 -- those of the pages below q; the pass is at page
-abbrev Below : Places → ℕ → List ℕ → List ℕ → ℕ → List ℕ → List ℕ → ℕ → Type 0
+abbrev Below : Sizes → ℕ → List ℕ → List ℕ → ℕ → List ℕ → List ℕ → ℕ → Type 0
 Below p g W T page W′ T′ q = PassMoves p g q page W T W′ T′
 
 abbrev Inv-loop : tie.InvT-loop

@@ -7,7 +7,6 @@ use mathlib.Core.List.{List}
 use mathlib.Core.Logic.{⊎-elim}
 use mathlib.Core.Path.{_≡_, refl, sym, ap, _∙_, subst, subst₂}
 use Rattle.rules.specs.Regions.{regionAt}
-use Rattle.layout.specs.Places.{sizesOf}
 use Rattle.pages.specs.Pages.{note-low}
 use Rattle.copy.specs.Passing.{Passing, Pass, order, moves-cells, moves-tables}
 use Rattle.copy.specs.Copying.{Copy, copy-begin, copy-passing, copy-next, copy-skip, copy-marks, region-bounds}
@@ -16,7 +15,7 @@ use Rattle.copy.proofs.copy_survivors.Tie as tie
 
 abbrev Inv-loop : tie.InvT-loop
 Inv-loop p cells₀ tables₀ notes₀ list n come thread levels level₀ cells tables notes level =
-    (level ≤ levels) × (length cells ≡ length cells₀) × (length tables ≡ length tables₀) × Copy p levels (regionAt (sizesOf p) thread) level cells₀ tables₀ cells tables × (length notes ≡ length notes₀)
+    (level ≤ levels) × (length cells ≡ length cells₀) × (length tables ≡ length tables₀) × Copy p levels (regionAt p thread) level cells₀ tables₀ cells tables × (length notes ≡ length notes₀)
 
 abbrev μ-loop : tie.MeasureT-loop
 μ-loop p cells₀ tables₀ notes₀ list n come thread levels level₀ cells tables notes level =
@@ -38,13 +37,13 @@ mul-if1 : tie.Need-mul-if1 Inv-loop μ-loop
 mul-if1 c =
     let a = c .before .before .before .before .before .before .before .before .before .args in
     let b = region-bounds (a .p) (a .thread) (c .before .before .before .loop .level) (c .before .before .before .before .before .before .before .before .before .pre .1 .0 .0) (omega (arith, c .before .before .before .before .before .before .before .before .before .pre .1 .0 .1, c .before .before .loop-test .taken)) in
-    omega (arith, note-low (regionAt (sizesOf (a .p)) (a .thread) (c .before .before .before .loop .level)) (c .before .before .before .before .before .before .before .before .before .pre .0 .ready .regular .room) (b .1), c .wide .ensures, c .before .region-at .ensures)
+    omega (arith, note-low (regionAt (a .p) (a .thread) (c .before .before .before .loop .level)) (c .before .before .before .before .before .before .before .before .before .pre .0 .ready .regular .room) (b .1), c .wide .ensures, c .before .region-at .ensures)
 
 shared-slice-read-if1 : tie.Need-shared-slice-read-if1 Inv-loop μ-loop
 shared-slice-read-if1 c =
     let a = c .before .before .before .before .before .before .before .before .before .before .args in
     let b = region-bounds (a .p) (a .thread) (c .before .before .before .before .loop .level) (c .before .before .before .before .before .before .before .before .before .before .pre .1 .0 .0) (omega (arith, c .before .before .before .before .before .before .before .before .before .before .pre .1 .0 .1, c .before .before .before .loop-test .taken)) in
-    omega (arith, note-low (regionAt (sizesOf (a .p)) (a .thread) (c .before .before .before .before .loop .level)) (c .before .before .before .before .before .before .before .before .before .before .pre .0 .ready .regular .room) (b .1), c .before .wide .ensures, c .before .before .region-at .ensures, c .before .before .before .before .before .before .before .before .before .before .pre .1 .1 .1 .1 .1)
+    omega (arith, note-low (regionAt (a .p) (a .thread) (c .before .before .before .before .loop .level)) (c .before .before .before .before .before .before .before .before .before .before .pre .0 .ready .regular .room) (b .1), c .before .wide .ensures, c .before .before .region-at .ensures, c .before .before .before .before .before .before .before .before .before .before .pre .1 .1 .1 .1 .1)
 
 copy-pass-requires : tie.Need-copy-pass-requires Inv-loop μ-loop
 copy-pass-requires c κs =
@@ -70,9 +69,9 @@ loop-again c =
     let l = c .before .before .before .before .before .loop in
     let pre = c .before .before .before .before .before .before .before .before .before .before .before .pre in
     let t = c .before .before .before .before .loop-test .taken in
-    let g : ℕ = regionAt (sizesOf (a .p)) (a .thread) (l .level) in
+    let g : ℕ = regionAt (a .p) (a .thread) (l .level) in
     let e : c .before .before .wide .result ≡ g = c .before .before .wide .ensures ∙ c .before .before .before .region-at .ensures in
-    let C : List ℕ → List ℕ → Type 0 = (λ X Y. Copy (a .p) (a .levels) (regionAt (sizesOf (a .p)) (a .thread)) (l .level + 1) (a .cells .now) (a .tables .now) X Y) in
+    let C : List ℕ → List ℕ → Type 0 = (λ X Y. Copy (a .p) (a .levels) (regionAt (a .p) (a .thread)) (l .level + 1) (a .cells .now) (a .tables .now) X Y) in
     let P : ℕ → List ℕ → List ℕ → Type 0 = (λ x X Y. Pass (a .p) x (λ y. y / 16 < a .p .pages) (order x 0) (order x (16 * a .p .pages)) (l .cells) (l .tables) X Y) in
     let h : C (c .if1 .cells) (c .if1 .tables) × (length (c .if1 .notes) ≡ length (a .notes .now)) =
     ⊎-elim
@@ -103,7 +102,7 @@ returns c =
     let a = c .before .before .before .before .before .before .before .args in
     let l = c .before .loop in
     let e : l .level ≡ a .levels = omega (arith, l .inv .0, c .loop-test .left) in
-    subst (λ (n : ℕ). Copy (a .p) (a .levels) (regionAt (sizesOf (a .p)) (a .thread)) n (a .cells .now) (a .tables .now) (l .cells) (l .tables)) e (l .inv .3)
+    subst (λ (n : ℕ). Copy (a .p) (a .levels) (regionAt (a .p) (a .thread)) n (a .cells .now) (a .tables .now) (l .cells) (l .tables)) e (l .inv .3)
 
 pub copy-survivors-spec : {M : Type 1} → statement M
 copy-survivors-spec =

@@ -6,7 +6,7 @@ use Prim.Native.Nat.{ℕ, _+_, _-_, _%_, _^_}
 use mathlib.Core.List.{List}
 use mathlib.Core.Path.{_≡_, ap, ap₂, _∙_}
 use Rattle.lists.specs.Bits.{bitAt}
-use Rattle.layout.specs.declared.Places.{Places}
+use Rattle.rules.specs.declared.Sizes.{Sizes}
 use Rattle.layout.specs.Places.{markAt, markOf, usedOf}
 use Rattle.layout.specs.Cells.{cellOn}
 use Rattle.pages.specs.Pages.{taken}
@@ -16,7 +16,7 @@ use Rattle.copy.proofs.move_cell.Statement.{statement}
 use Rattle.copy.proofs.move_cell.Tie as tie
 
 -- the cell as take_cell gave it
-took : {p : Places} {g q : ℕ} {W T T′ : List ℕ} {c d : ℕ} → Movable p g q W T c → d ≡ cellOn q (usedOf p T q) → T′ ≡ taken p T q g → Taken p W T T′ c d (marksAt p c) (c % 16)
+took : {p : Sizes} {g q : ℕ} {W T T′ : List ℕ} {c d : ℕ} → Movable p g q W T c → d ≡ cellOn q (usedOf p T q) → T′ ≡ taken p T q g → Taken p W T T′ c d (marksAt p c) (c % 16)
 took m e f = movable-taken m (record { next = m .next; cell = e; tables = f })
 
 take-cell-requires : tie.Need-take-cell-requires

@@ -18,10 +18,9 @@ ending : (c : tie.After-mark-survivors)
 ending c =
     let pre = c .before .before .before .before .before .before .before .before .before .before .before .pre in
     record {
-      places = pre .0;
-      whole = pre .1 .0;
+      whole = pre .0;
       fits = omega arith;
-      thread = pre .1 .1 .0;
+      thread = pre .1 .0;
       epoch = omega (arith, c .before .before .before .before .before .depth .ensures, c .before .before .before .before .if1 .left);
       marks = c .mark-survivors .ensures .0;
     }
@@ -31,12 +30,12 @@ unmarked : (c : tie.After-mark-survivors) → c .mark-survivors .result ≡ fals
 unmarked c e =
     let a = c .before .before .before .before .before .before .before .before .before .before .before .args in
     let w = words (a .cells .now) (a .remember .now) (a .tables .now) in
-    none-survives (a .p) (ending c .places) w _ (words (c .mark-survivors .last .1 .0) (a .remember .now) (c .mark-survivors .last .1 .1 .1 .0)) (ending c .marks) (c .mark-survivors .result) (c .mark-survivors .ensures .1) e
+    none-survives (a .p) w _ (words (c .mark-survivors .last .1 .0) (a .remember .now) (c .mark-survivors .last .1 .1 .1 .0)) (ending c .marks) (c .mark-survivors .result) (c .mark-survivors .ensures .1) e
 
 depth-requires : tie.Need-depth-requires
 depth-requires c κs =
     let w = words (c .before .before .before .before .before .args .cells .now) (c .before .before .before .before .before .args .remember .now) (c .before .before .before .before .before .args .tables .now) in
-    (space-of (c .before .before .before .before .before .args .p) (c .before .before .before .before .before .pre .0) w (c .before .before .before .before .before .pre .1 .0) (omega arith), c .before .before .before .before .before .pre .1 .1 .0)
+    (space-of (c .before .before .before .before .before .args .p) w (c .before .before .before .before .before .pre .0) (omega arith), c .before .before .before .before .before .pre .1 .0)
 
 refused-requires : tie.Need-refused-requires
 refused-requires c κs = search needs
@@ -47,13 +46,13 @@ same-length c = search needs
 returns : tie.Need-returns
 returns c =
     let w = words (c .before .before .before .before .before .before .before .before .args .cells .now) (c .before .before .before .before .before .before .before .before .args .remember .now) (c .before .before .before .before .before .before .before .before .args .tables .now) in
-    did-answer (c .refused .ensures) (shut (c .before .before .before .before .before .before .before .before .args .p) w (c .before .before .before .before .before .before .before .before .args .thread) (c .before .before .before .before .before .before .before .before .pre .1 .0) (c .before .before .before .before .before .before .before .before .pre .1 .1 .0) (sym (c .before .before .depth .ensures) ∙ c .before .if1 .taken))
+    did-answer (c .refused .ensures) (shut (c .before .before .before .before .before .before .before .before .args .p) w (c .before .before .before .before .before .before .before .before .args .thread) (c .before .before .before .before .before .before .before .before .pre .0) (c .before .before .before .before .before .before .before .before .pre .1 .0) (sym (c .before .before .depth .ensures) ∙ c .before .if1 .taken))
 
 mark-survivors-requires : tie.Need-mark-survivors-requires
-mark-survivors-requires c κs = (c .before .before .before .before .before .before .before .before .before .before .pre .0, (c .before .before .before .before .before .before .before .before .before .before .pre .1 .0, (c .before .before .before .before .before .before .before .before .before .before .pre .1 .1 .0, omega (arith, c .before .before .before .before .depth .ensures, c .before .before .before .if1 .left))))
+mark-survivors-requires c κs = (c .before .before .before .before .before .before .before .before .before .before .pre .0, (c .before .before .before .before .before .before .before .before .before .before .pre .1 .0, omega (arith, c .before .before .before .before .depth .ensures, c .before .before .before .if1 .left)))
 
 end-marked-requires : tie.Need-end-marked-requires
-end-marked-requires c κs = ((words (c .before .before .before .before .before .before .before .before .before .before .before .before .before .before .before .before .before .before .before .before .args .cells .now) (c .before .before .before .before .before .before .before .before .before .before .before .before .before .before .before .before .before .before .before .before .args .remember .now) (c .before .before .before .before .before .before .before .before .before .before .before .before .before .before .before .before .before .before .before .before .args .tables .now), ending (c .before .before .before .before .before .before .before .before .before)), c .before .before .before .before .before .before .before .before .before .before .before .before .before .before .before .before .before .before .before .before .pre .1 .1 .1)
+end-marked-requires c κs = ((words (c .before .before .before .before .before .before .before .before .before .before .before .before .before .before .before .before .before .before .before .before .args .cells .now) (c .before .before .before .before .before .before .before .before .before .before .before .before .before .before .before .before .before .before .before .before .args .remember .now) (c .before .before .before .before .before .before .before .before .before .before .before .before .before .before .before .before .before .before .before .before .args .tables .now), ending (c .before .before .before .before .before .before .before .before .before)), c .before .before .before .before .before .before .before .before .before .before .before .before .before .before .before .before .before .before .before .before .pre .1 .1)
 
 same-length-2 : tie.Need-same-length-2
 same-length-2 c = search needs
@@ -74,7 +73,7 @@ evacuate-none-requires : tie.Need-evacuate-none-requires
 evacuate-none-requires c κs =
     let m = ending (c .before .before .before .before .before .before .before .before .before) in
     let none = unmarked (c .before .before .before .before .before .before .before .before .before) (c .before .before .before .before .if2 .left) in
-    (goes-on m (free-way m none), ((m .thread, depth-open m, depth-high m), (none, c .before .before .before .before .before .before .before .before .before .before .before .before .before .before .before .before .before .before .before .before .pre .1 .1 .1)))
+    (goes-on m (free-way m none), ((m .thread, depth-open m, depth-high m), (none, c .before .before .before .before .before .before .before .before .before .before .before .before .before .before .before .before .before .before .before .before .pre .1 .1)))
 
 done-requires : tie.Need-done-requires
 done-requires c κs = search needs

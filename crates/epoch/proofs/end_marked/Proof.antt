@@ -4,7 +4,6 @@ use Prim.Native.Nat.{ℕ}
 use mathlib.Core.Path.{_≡_, sym, ap, _∙_, subst}
 use native.Mathlib.Omega.{arith}
 use Rattle.rules.specs.Regions.{regionAt}
-use Rattle.layout.specs.Places.{sizesOf}
 use Rattle.promises.specs.Questions.{did-answer}
 use Rattle.lists.specs.Zeros.{replicate-at}
 use Rattle.census.specs.Census.{Census}
@@ -31,7 +30,7 @@ slice-aggregate-list-pages c = search needs
 list-pages-requires : tie.Need-list-pages-requires
 list-pages-requires c κs =
     let m = c .before .before .before .before .before .before .before .before .before .before .pre .0 .1 in
-    let er = c .before .before .region-at .ensures ∙ ap (regionAt (sizesOf (c .before .before .before .before .before .before .before .before .before .before .args .p)) (c .before .before .before .before .before .before .before .before .before .before .args .thread)) (c .before .before .before .wide .ensures ∙ c .before .before .before .before .depth .ensures) in
+    let er = c .before .before .region-at .ensures ∙ ap (regionAt (c .before .before .before .before .before .before .before .before .before .before .args .p) (c .before .before .before .before .before .before .before .before .before .before .args .thread)) (c .before .before .before .wide .ensures ∙ c .before .before .before .before .depth .ensures) in
     (room-now m, (real m er, (paged-now m .pages (c .before .before .region-at .result) (real m er .0) (real m er .1), room-now m .few)))
 
 slice-aggregate-count-listed : tie.Need-slice-aggregate-count-listed
@@ -43,7 +42,7 @@ slice-aggregate-count-listed-2 c = search needs
 count-listed-requires : tie.Need-count-listed-requires
 count-listed-requires c κs =
     let m = c .before .before .before .before .before .before .before .before .before .before .before .before .before .before .before .before .pre .0 .1 in
-    let er = c .before .before .before .before .before .before .before .before .region-at .ensures ∙ ap (regionAt (sizesOf (c .before .before .before .before .before .before .before .before .before .before .before .before .before .before .before .before .args .p)) (c .before .before .before .before .before .before .before .before .before .before .before .before .before .before .before .before .args .thread)) (c .before .before .before .before .before .before .before .before .before .wide .ensures ∙ c .before .before .before .before .before .before .before .before .before .before .depth .ensures) in
+    let er = c .before .before .before .before .before .before .before .before .region-at .ensures ∙ ap (regionAt (c .before .before .before .before .before .before .before .before .before .before .before .before .before .before .before .before .args .p) (c .before .before .before .before .before .before .before .before .before .before .before .before .before .before .before .before .args .thread)) (c .before .before .before .before .before .before .before .before .before .wide .ensures ∙ c .before .before .before .before .before .before .before .before .before .before .depth .ensures) in
     (shaped-now m, (c .before .before .before .before .before .list-pages .ensures .rises, (unlisted m _ _ (listed m er (c .before .before .before .before .before .list-pages .ensures)), (small-now m, (used-now m, (λ x l on. omega (arith, targets-now m x l on, regions-few (room-now m)), λ g. replicate-at 130 g 0))))))
 
 slice-aggregate-ask-room : tie.Need-slice-aggregate-ask-room
@@ -62,7 +61,7 @@ slice-aggregate-unmark c = search needs
 unmark-requires : tie.Need-unmark-requires
 unmark-requires c κs =
     let m = c .before .before .before .before .before .before .before .before .before .before .before .before .before .before .before .before .before .before .before .before .before .before .before .before .before .before .before .pre .0 .1 in
-    let er = c .before .before .before .before .before .before .before .before .before .before .before .before .before .before .before .before .before .before .before .region-at .ensures ∙ ap (regionAt (sizesOf (c .before .before .before .before .before .before .before .before .before .before .before .before .before .before .before .before .before .before .before .before .before .before .before .before .before .before .before .args .p)) (c .before .before .before .before .before .before .before .before .before .before .before .before .before .before .before .before .before .before .before .before .before .before .before .before .before .before .before .args .thread)) (c .before .before .before .before .before .before .before .before .before .before .before .before .before .before .before .before .before .before .before .before .wide .ensures ∙ c .before .before .before .before .before .before .before .before .before .before .before .before .before .before .before .before .before .before .before .before .before .depth .ensures) in
+    let er = c .before .before .before .before .before .before .before .before .before .before .before .before .before .before .before .before .before .before .before .region-at .ensures ∙ ap (regionAt (c .before .before .before .before .before .before .before .before .before .before .before .before .before .before .before .before .before .before .before .before .before .before .before .before .before .before .before .args .p) (c .before .before .before .before .before .before .before .before .before .before .before .before .before .before .before .before .before .before .before .before .before .before .before .before .before .before .before .args .thread)) (c .before .before .before .before .before .before .before .before .before .before .before .before .before .before .before .before .before .before .before .before .wide .ensures ∙ c .before .before .before .before .before .before .before .before .before .before .before .before .before .before .before .before .before .before .before .before .before .depth .ensures) in
     (room-now m, (cells-now m, (small-now m, (c .before .before .before .before .before .before .before .before .before .before .before .before .before .before .before .before .list-pages .ensures .rises, unlisted m _ _ (listed m er (c .before .before .before .before .before .before .before .before .before .before .before .before .before .before .before .before .list-pages .ensures))))))
 
 refused-requires : tie.Need-refused-requires
@@ -92,7 +91,7 @@ slice-aggregate-evacuate-2 c = search needs
 evacuate-requires : tie.Need-evacuate-requires
 evacuate-requires c κs =
     let m = c .before .before .before .before .before .before .before .before .before .before .before .before .before .before .before .before .before .before .before .before .before .before .before .before .before .before .before .before .before .before .pre .0 .1 in
-    let er = c .before .before .before .before .before .before .before .before .before .before .before .before .before .before .before .before .before .before .before .before .before .before .region-at .ensures ∙ ap (regionAt (sizesOf (c .before .before .before .before .before .before .before .before .before .before .before .before .before .before .before .before .before .before .before .before .before .before .before .before .before .before .before .before .before .before .args .p)) (c .before .before .before .before .before .before .before .before .before .before .before .before .before .before .before .before .before .before .before .before .before .before .before .before .before .before .before .before .before .before .args .thread)) (c .before .before .before .before .before .before .before .before .before .before .before .before .before .before .before .before .before .before .before .before .before .before .before .wide .ensures ∙ c .before .before .before .before .before .before .before .before .before .before .before .before .before .before .before .before .before .before .before .before .before .before .before .before .depth .ensures) in
+    let er = c .before .before .before .before .before .before .before .before .before .before .before .before .before .before .before .before .before .before .before .before .before .before .region-at .ensures ∙ ap (regionAt (c .before .before .before .before .before .before .before .before .before .before .before .before .before .before .before .before .before .before .before .before .before .before .before .before .before .before .before .before .before .before .args .p) (c .before .before .before .before .before .before .before .before .before .before .before .before .before .before .before .before .before .before .before .before .before .before .before .before .before .before .before .before .before .before .args .thread)) (c .before .before .before .before .before .before .before .before .before .before .before .before .before .before .before .before .before .before .before .before .before .before .before .wide .ensures ∙ c .before .before .before .before .before .before .before .before .before .before .before .before .before .before .before .before .before .before .before .before .before .before .before .before .depth .ensures) in
     let yes = sym (let z : c .before .before .before .before .before .before .before .ask-room .result ≡ 0 = omega (arith, c .before .before .before .before .before .before .if1 .left) in z) ∙ c .before .before .before .before .before .before .before .ask-room .ensures
     ∙ ap (roomAsked (c .before .before .before .before .before .before .before .before .before .before .before .before .before .before .before .before .before .before .before .before .before .before .before .before .before .before .before .before .before .before .args .p) (c .before .before .before .before .before .before .before .before .before .before .before .before .before .before .before .before .before .before .before .before .before .before .before .before .before .before .before .before .before .before .args .cells .now) (c .before .before .before .before .before .before .before .before .before .before .before .before .before .before .before .before .before .before .before .before .before .before .before .before .before .before .before .before .before .before .args .remember .now) (c .before .before .before .before .before .before .before .before .before .before .before .before .before .before .before .before .before .before .before .before .before .before .before .before .before .before .before .before .before .before .args .tables .now) (c .before .before .before .before .before .before .before .before .before .before .before .before .before .before .before .before .before .before .before .before .before .before .before .before .before .before .before .before .before .before .args .thread)) (c .before .before .before .before .before .before .before .before .before .before .before .before .before .before .before .before .before .before .before .before .before .before .before .wide .ensures ∙ c .before .before .before .before .before .before .before .before .before .before .before .before .before .before .before .before .before .before .before .before .before .before .before .before .depth .ensures) in (
       goes-on m yes,

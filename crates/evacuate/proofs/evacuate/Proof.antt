@@ -6,22 +6,22 @@ use mathlib.Core.Path.{_≡_, sym, ap, _∙_, subst, subst₂}
 use mathlib.Core.Logic.{_≢_}
 use Rattle.lists.specs.Part.{Lists}
 use Rattle.rules.specs.Regions.{regionAt}
-use Rattle.layout.specs.Places.{depthOf, ownerOf, usedIn, sizesOf}
+use Rattle.layout.specs.Places.{depthOf, ownerOf, usedIn}
 use Rattle.copy.specs.Copying.{region-bounds}
 use Rattle.evacuate.specs.Stages.{Before, Finished, slots-ask, tables-ask, unmarked, marks-ask, pages-ask, variables-ask, release-ask, finished, settle-ask}
 use Rattle.evacuate.proofs.evacuate.Statement.{statement}
 use Rattle.evacuate.proofs.evacuate.Tie as tie
 
-level : (c : tie.After-region-at) → (let a = c .before .before .before .before .before .before .before .before .before .before .args in c .region-at .result ≡ regionAt (sizesOf (a .p)) (a .thread) (depthOf (a .tables .now) (a .thread)))
-level c = let a = c .before .before .before .before .before .before .before .before .before .before .args in c .region-at .ensures ∙ ap (regionAt (sizesOf (a .p)) (a .thread)) (c .before .wide .ensures ∙ c .before .before .depth .ensures)
+level : (c : tie.After-region-at) → (let a = c .before .before .before .before .before .before .before .before .before .before .args in c .region-at .result ≡ regionAt (a .p) (a .thread) (depthOf (a .tables .now) (a .thread)))
+level c = let a = c .before .before .before .before .before .before .before .before .before .before .args in c .region-at .ensures ∙ ap (regionAt (a .p) (a .thread)) (c .before .wide .ensures ∙ c .before .before .depth .ensures)
 
 begun : (c : tie.After-region-at)
     → (let a = c .before .before .before .before .before .before .before .before .before .before .args in
-    Before (a .p) (c .region-at .result) (a .p .entries) (usedIn (a .remember .now)) (c .before .wide .result) (regionAt (sizesOf (a .p)) (a .thread)) (a .cells .now) (a .remember .now) (a .tables .now))
+    Before (a .p) (c .region-at .result) (a .p .entries) (usedIn (a .remember .now)) (c .before .wide .result) (regionAt (a .p) (a .thread)) (a .cells .now) (a .remember .now) (a .tables .now))
 begun c =
     let a = c .before .before .before .before .before .before .before .before .before .before .args in
     subst₂
-    (λ (g l : ℕ). Before (a .p) g (a .p .entries) (usedIn (a .remember .now)) l (regionAt (sizesOf (a .p)) (a .thread)) (a .cells .now) (a .remember .now) (a .tables .now))
+    (λ (g l : ℕ). Before (a .p) g (a .p .entries) (usedIn (a .remember .now)) l (regionAt (a .p) (a .thread)) (a .cells .now) (a .remember .now) (a .tables .now))
     (sym (level c)) (sym (c .before .wide .ensures ∙ c .before .before .depth .ensures)) (c .before .before .before .before .before .before .before .before .before .before .pre .0)
 
 listed : (c : tie.After-region-at) → (let a = c .before .before .before .before .before .before .before .before .before .before .args in Lists (λ page. ownerOf (a .p) (a .tables .now) page ≡ c .region-at .result) (a .p .pages) (a .n) (a .list .now))
@@ -100,7 +100,7 @@ returns c =
     let a = c .before .before .before .before .before .before .before .before .before .before .before .before .before .before .before .before .before .before .before .before .before .before .before .before .before .before .before .before .before .before .before .before .before .before .before .before .before .before .before .before .before .before .before .before .before .before .args in
     let settle = c .before .before .before .before .before .before .before .before .before .before .before .before .before .before .before .before .settle in
     let F : ℕ → ℕ → Type 0 =
-    (λ g l. Finished (a .p) g (a .p .entries) (usedIn (a .remember .now)) l (a .thread) (regionAt (sizesOf (a .p)) (a .thread)) (a .cells .now) (a .remember .now) (a .tables .now) (settle .last .1 .0) (settle .last .1 .1 .0) (c .before .before .before .before .release .last .1 .0)) in
+    (λ g l. Finished (a .p) g (a .p .entries) (usedIn (a .remember .now)) l (a .thread) (regionAt (a .p) (a .thread)) (a .cells .now) (a .remember .now) (a .tables .now) (settle .last .1 .0) (settle .last .1 .1 .0) (c .before .before .before .before .release .last .1 .0)) in
     subst₂ F (level (c .before .before .before .before .before .before .before .before .before .before .before .before .before .before .before .before .before .before .before .before .before .before .before .before .before .before .before .before .before .before .before .before .before .before .before .before)) (c .before .before .before .before .before .before .before .before .before .before .before .before .before .before .before .before .before .before .before .before .before .before .before .before .before .before .before .before .before .before .before .before .before .before .before .before .before .wide .ensures ∙ c .before .before .before .before .before .before .before .before .before .before .before .before .before .before .before .before .before .before .before .before .before .before .before .before .before .before .before .before .before .before .before .before .before .before .before .before .before .before .depth .ensures)
     (finished (begun (c .before .before .before .before .before .before .before .before .before .before .before .before .before .before .before .before .before .before .before .before .before .before .before .before .before .before .before .before .before .before .before .before .before .before .before .before)) (c .before .before .before .before .before .before .before .before .before .before .before .before .before .before .before .before .before .before .before .before .before .before .before .before .before .before .before .before .before .before .before .before .copy-survivors .ensures) (c .before .before .before .before .before .before .before .before .before .before .before .before .before .before .before .before .before .before .before .before .before .before .rewrite-slots .ensures) (settle .ensures .0) (settle .ensures .1) (c .before .before .before .before .before .before .before .before .before .rewrite-variables .ensures) (c .before .before .before .before .release .ensures))
 

@@ -4,7 +4,7 @@ use borrow.Author.Needs.{needs}
 use Prim.Native.Nat.{ℕ}
 use mathlib.Core.Path.{_≡_, sym, ap, _∙_, subst}
 use Rattle.rules.specs.Regions.{regionAt}
-use Rattle.layout.specs.Places.{depthOf, usedIn, sizesOf}
+use Rattle.layout.specs.Places.{depthOf, usedIn}
 use Rattle.copy.specs.Copying.{region-bounds}
 use Rattle.settle.specs.Update.{Copies, Updating, Updated}
 use Rattle.release.specs.Release.{Ended}
@@ -12,8 +12,8 @@ use Rattle.evacuate.specs.NoSurvivors.{none-copies, none-update, none-fi
 use Rattle.evacuate.proofs.evacuate_none.Statement.{statement}
 use Rattle.evacuate.proofs.evacuate_none.Tie as tie
 
-level : (c : tie.After-region-at) → (let a = c .before .before .before .before .before .before .before .before .args in c .region-at .result ≡ regionAt (sizesOf (a .p)) (a .thread) (depthOf (a .tables .now) (a .thread)))
-level c = let a = c .before .before .before .before .before .before .before .before .args in c .region-at .ensures ∙ ap (regionAt (sizesOf (a .p)) (a .thread)) (c .before .wide .ensures ∙ c .before .before .depth .ensures)
+level : (c : tie.After-region-at) → (let a = c .before .before .before .before .before .before .before .before .args in c .region-at .result ≡ regionAt (a .p) (a .thread) (depthOf (a .tables .now) (a .thread)))
+level c = let a = c .before .before .before .before .before .before .before .before .args in c .region-at .ensures ∙ ap (regionAt (a .p) (a .thread)) (c .before .wide .ensures ∙ c .before .before .depth .ensures)
 
 depth-requires : tie.Need-depth-requires
 depth-requires c κs = (c .before .before .before .before .before .pre .0 .plan .ready .regular .room, c .before .before .before .before .before .pre .1 .0 .0)

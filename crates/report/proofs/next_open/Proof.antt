@@ -4,7 +4,6 @@ use mathlib.Core.Path.{_≡_, _∙_}
 use native.Mathlib.Omega.{arith}
 use Rattle.lists.specs.Says.{said-no}
 use Rattle.rules.specs.Regions.{regions}
-use Rattle.layout.specs.Places.{sizesOf}
 use Rattle.promises.specs.Words.{depthsAt}
 use Rattle.report.specs.Opened.{NoneOpen, none-next, open-yes, open-no, last-region}
 use Rattle.report.specs.Tables.{tables-room-of, threads-low}
@@ -13,7 +12,7 @@ use Rattle.report.proofs.next_open.Tie as tie
 
 abbrev Inv-loop : tie.InvT-loop
 Inv-loop p tables region last next₀ next =
-    (last ≡ regions (sizesOf p)) × (region < next) × (next ≤ last + 1) × NoneOpen (sizesOf p) (depthsAt (sizesOf p) tables) region next
+    (last ≡ regions p) × (region < next) × (next ≤ last + 1) × NoneOpen p (depthsAt p tables) region next
 
 abbrev μ-loop : tie.MeasureT-loop
 μ-loop p tables region last next₀ next = last + 1 - next
@@ -40,7 +39,7 @@ loop-holds : tie.Need-loop-holds Inv-loop μ-loop
 loop-holds c =
     let a = c .before .before .before .before .args in
     let space = tables-room-of (a .p) (a .tables .now) (c .before .before .before .before .pre .0) (omega arith) in
-    let last = c .wide .ensures ∙ c .before .region-at .ensures ∙ last-region (sizesOf (a .p)) (threads-low (a .p) (a .tables .now) (c .before .before .before .before .pre .0)) (space .depth-low) in
+    let last = c .wide .ensures ∙ c .before .region-at .ensures ∙ last-region (a .p) (threads-low (a .p) (a .tables .now) (c .before .before .before .before .pre .0)) (space .depth-low) in
     (last, omega arith, omega (arith, last, c .before .before .before .before .pre .1), λ x l m. absurd (let z : ⊥ = omega arith in z))
 
 is-open-requires : tie.Need-is-open-requires Inv-loop μ-loop
@@ -64,7 +63,7 @@ loop-again c =
     let l = c .before .before .before .loop in
     let space = tables-room-of (a .p) (a .tables .now) (c .before .before .before .before .before .before .before .before .pre .0) (omega arith) in
     let shut = open-no (a .p) (a .tables .now) (space .depth-low) (l .next) (omega (arith, l .inv .1, c .before .before .before .before .before .before .before .before .pre .1)) (omega (arith, l .inv .0, c .before .before .loop-test .taken)) (said-no _ (c .before .is-open .ensures) (c .if1 .left)) in
-    (l .inv .0, omega (arith, l .inv .1), omega (arith, c .before .before .loop-test .taken), none-next (sizesOf (a .p)) (depthsAt (sizesOf (a .p)) (a .tables .now)) (a .region) (l .next) (l .inv .3) shut)
+    (l .inv .0, omega (arith, l .inv .1), omega (arith, c .before .before .loop-test .taken), none-next (a .p) (depthsAt (a .p) (a .tables .now)) (a .region) (l .next) (l .inv .3) shut)
 
 returns-2 : tie.Need-returns-2 Inv-loop μ-loop
 returns-2 c =

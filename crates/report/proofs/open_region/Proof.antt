@@ -4,7 +4,7 @@ use mathlib.Core.Path.{_≡_, sym, subst, _∙_}
 use native.Mathlib.Omega.{arith}
 use Rattle.lists.specs.Counting.{sum, sum-more}
 use Rattle.rules.specs.Regions.{regionAt}
-use Rattle.layout.specs.Places.{sizesOf, depthOf}
+use Rattle.layout.specs.Places.{depthOf}
 use Rattle.promises.specs.Words.{depthsAt}
 use Rattle.report.specs.Opened.{Turn, turn-first}
 use Rattle.report.specs.Tables.{tables-room-of, threads-low}
@@ -21,7 +21,7 @@ abbrev μ-loop : tie.MeasureT-loop
 
 returns : tie.Need-returns Inv-loop μ-loop
 returns c =
-    let s = sizesOf (c .before .before .args .p) in
+    let s = (c .before .before .args .p) in
     let depths = depthsAt s (c .before .before .args .tables .now) in
     subst (λ (k : ℕ). Turn s depths k 1) (sym (c .if1 .taken)) (turn-first s depths)
 
@@ -82,7 +82,7 @@ returns-2 : tie.Need-returns-2 Inv-loop μ-loop
 returns-2 c =
     let a = c .before .before .before .before .before .before .before .before .args in
     let l = c .before .before .before .loop in
-    let s = sizesOf (a .p) in
+    let s = (a .p) in
     let depths = depthsAt s (a .tables .now) in
     let here = turn-at (a .p) (a .tables .now) (c .before .before .before .before .before .before .before .before .pre .0) (l .thread) (l .level) (l .inv .0) (l .inv .3) (omega (arith, l .inv .1, c .before .before .loop-test .left)) in
     subst (λ (r : ℕ). Turn s depths (a .k) r) (sym (c .wide3 .ensures ∙ c .before .region-at .ensures)) (subst (λ (k : ℕ). Turn s depths k (regionAt s (l .thread) (l .level))) (l .inv .2) here)

@@ -1,12 +1,11 @@
--- Sizes first; they give the places, and the places the rest.
+-- Sizes first; they give the places of the rest.
 use native.Mathlib.Omega.{arith}
 use borrow.Author.Needs.{needs}
 use Rattle.lists.specs.Says.{says-yes, says-no, said-no}
 use borrow.Author.Tests.{not-true, not-false}
 use denote.Ref.{now}
-use Rattle.layout.specs.Places.{placesOf, sizesAt, room}
+use Rattle.layout.specs.Places.{sizesAt, room}
 use lib.ListN.{length}
-use mathlib.Core.Path.{ap, _∙_}
 use Rattle.whole.proofs.whole.Statement.{statement}
 use Rattle.whole.proofs.whole.Tie as tie
 
@@ -19,19 +18,16 @@ returns c = says-no (λ h. said-no _ (c .before .sizes-whole .ensures) (not-true
 read-sizes-requires : tie.Need-read-sizes-requires
 read-sizes-requires c κs = (c .before .sizes-whole .ensures .0 (not-false _ (c .if1 .left))) .sized
 
-find-places-requires : tie.Need-find-places-requires
-find-places-requires c κs = rw (c .read-sizes .ensures) ((c .before .before .sizes-whole .ensures .0 (not-false _ (c .before .if1 .left))) .range)
-
 placed-whole-requires : tie.Need-placed-whole-requires
 placed-whole-requires c κs =
-    let args = c .before .before .before .before .before .before .before .args in
-    let w = c .before .before .before .sizes-whole .ensures .0 (not-false _ (c .before .before .if1 .left)) in rw (c .find-places .ensures ∙ ap placesOf (c .before .read-sizes .ensures)) (room (sizesAt (now (args .tables))) (length (now (args .tables))) (w .range) (w .tables) (omega arith), (w .cells, w .remember))
+    let args = c .before .before .before .before .before .before .args in
+    let w = c .before .before .sizes-whole .ensures .0 (not-false _ (c .before .if1 .left)) in rw (c .read-sizes .ensures) (room (sizesAt (now (args .tables))) (length (now (args .tables))) (w .range) (w .tables) (omega arith), (w .cells, w .remember))
 
 returns-2 : tie.Need-returns-2
-returns-2 c = says-no (λ h. said-no _ (c .before .placed-whole .ensures) (not-true _ (c .if2 .taken)) (rw (c .before .before .find-places .ensures ∙ ap placesOf (c .before .before .before .read-sizes .ensures)) (h .placed)))
+returns-2 c = says-no (λ h. said-no _ (c .before .placed-whole .ensures) (not-true _ (c .if2 .taken)) (rw (c .before .before .read-sizes .ensures) (h .placed)))
 
 returns-3 : tie.Need-returns-3
-returns-3 c = says-yes (record { sizes = c .before .before .before .before .before .sizes-whole .ensures .0 (not-false _ (c .before .before .before .before .if1 .left)); placed = rw (c .before .before .find-places .ensures ∙ ap placesOf (c .before .before .before .read-sizes .ensures)) at (c .before .placed-whole .ensures .0 (not-false _ (c .if2 .left))) })
+returns-3 c = says-yes (record { sizes = c .before .before .before .before .sizes-whole .ensures .0 (not-false _ (c .before .before .before .if1 .left)); placed = rw (c .before .before .read-sizes .ensures) at (c .before .placed-whole .ensures .0 (not-false _ (c .if2 .left))) })
 
 pub whole-spec : {M : Type 1} → statement M
 whole-spec =
@@ -40,7 +36,6 @@ whole-spec =
     sizes-whole-requires
     returns
     read-sizes-requires
-    find-places-requires
     placed-whole-requires
     returns-2
     returns-3)

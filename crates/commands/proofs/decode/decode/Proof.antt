@@ -2,7 +2,6 @@ use Prim.Native.Nat.{ℕ}
 use mathlib.Core.Path.{refl, sym, ap, _∙_}
 use mathlib.Core.Bool.{Bool, _&&_}
 use lib.Dec.{ltb, eqb}
-use Rattle.layout.specs.Places.{sizesOf}
 use Rattle.rules.specs.Terms.{decode, start, end, new, copy, clear, load, store, read, write, same}
 use Rattle.rules.specs.NeverFreeing.{operands}
 use Rattle.commands.specs.declared.Decoded.the-variants.{End}
@@ -115,7 +114,7 @@ returns c =
     let both = c .before .before .both in
     let both2 = c .before .both2 in
     let checked = c .checked in
-    arm (sizesOf (args .p)) (args .m) start (wide .result) (wide2 .result) (wide3 .result) (wide4 .result) (ap decode (match .keys1)) refl refl
+    arm (args .p) (args .m) start (wide .result) (wide2 .result) (wide3 .result) (wide4 .result) (ap decode (match .keys1)) refl refl
     (wide .ensures) (wide2 .ensures) (wide3 .ensures) (wide4 .ensures) _
     (both2 .ensures ∙ ap (λ (z : Bool). z && eqb (wide4 .result) 0) (both .ensures)) (checked .ensures)
 
@@ -131,7 +130,7 @@ returns-2 c =
     let both3 = c .before .before .both3 in
     let both4 = c .before .both4 in
     let checked2 = c .checked2 in
-    arm (sizesOf (args .p)) (args .m) end (wide .result) (wide2 .result) (wide3 .result) (wide4 .result) (ap decode (match .keys2)) refl refl
+    arm (args .p) (args .m) end (wide .result) (wide2 .result) (wide3 .result) (wide4 .result) (ap decode (match .keys2)) refl refl
     (wide .ensures) (wide2 .ensures) (wide3 .ensures) (wide4 .ensures) _
     (both4 .ensures ∙ ap (λ (z : Bool). z && eqb (wide4 .result) 0) (both3 .ensures))
     (checked2 .ensures ∙ ap (λ (t : ℕ). checkedBy (ltb (wide .result) (args .p .threads)) (both4 .result) (End t)) (sym (wide .ensures)))
@@ -147,7 +146,7 @@ returns-3 c =
     let match = c .before .before .match in
     let both5 = c .before .both5 in
     let checked3 = c .checked3 in
-    arm (sizesOf (args .p)) (args .m) new (wide .result) (wide2 .result) (wide3 .result) (wide4 .result) (ap decode (match .keys3)) refl refl
+    arm (args .p) (args .m) new (wide .result) (wide2 .result) (wide3 .result) (wide4 .result) (ap decode (match .keys3)) refl refl
     (wide .ensures) (wide2 .ensures) (wide3 .ensures) (wide4 .ensures) _ (both5 .ensures) (checked3 .ensures)
 
 returns-4 : tie.Need-returns-4
@@ -162,7 +161,7 @@ returns-4 c =
     let both6 = c .before .before .before .both6 in
     let both7 = c .before .both7 in
     let checked4 = c .checked4 in
-    arm (sizesOf (args .p)) (args .m) copy (wide .result) (wide2 .result) (wide3 .result) (wide4 .result) (ap decode (match .keys4)) refl refl
+    arm (args .p) (args .m) copy (wide .result) (wide2 .result) (wide3 .result) (wide4 .result) (ap decode (match .keys4)) refl refl
     (wide .ensures) (wide2 .ensures) (wide3 .ensures) (wide4 .ensures) _
     (both7 .ensures ∙ ap (λ (z : Bool). z && ltb (wide4 .result) (args .p .threads)) (both6 .ensures)) (checked4 .ensures)
 
@@ -178,7 +177,7 @@ returns-5 c =
     let both8 = c .before .before .both8 in
     let both9 = c .before .both9 in
     let checked5 = c .checked5 in
-    arm (sizesOf (args .p)) (args .m) clear (wide .result) (wide2 .result) (wide3 .result) (wide4 .result) (ap decode (match .keys5)) refl refl
+    arm (args .p) (args .m) clear (wide .result) (wide2 .result) (wide3 .result) (wide4 .result) (ap decode (match .keys5)) refl refl
     (wide .ensures) (wide2 .ensures) (wide3 .ensures) (wide4 .ensures) _
     (both9 .ensures ∙ ap (λ (z : Bool). z && eqb (wide4 .result) 0) (both8 .ensures)) (checked5 .ensures)
 
@@ -193,7 +192,7 @@ returns-6 c =
     let match = c .before .before .match in
     let both10 = c .before .both10 in
     let checked6 = c .checked6 in
-    arm (sizesOf (args .p)) (args .m) load (wide .result) (wide2 .result) (wide3 .result) (wide4 .result) (ap decode (match .keys6)) refl refl
+    arm (args .p) (args .m) load (wide .result) (wide2 .result) (wide3 .result) (wide4 .result) (ap decode (match .keys6)) refl refl
     (wide .ensures) (wide2 .ensures) (wide3 .ensures) (wide4 .ensures) _ (both10 .ensures) (checked6 .ensures)
 
 returns-7 : tie.Need-returns-7
@@ -207,7 +206,7 @@ returns-7 c =
     let match = c .before .before .match in
     let both11 = c .before .both11 in
     let checked7 = c .checked7 in
-    arm (sizesOf (args .p)) (args .m) store (wide .result) (wide2 .result) (wide3 .result) (wide4 .result) (ap decode (match .keys7)) refl refl
+    arm (args .p) (args .m) store (wide .result) (wide2 .result) (wide3 .result) (wide4 .result) (ap decode (match .keys7)) refl refl
     (wide .ensures) (wide2 .ensures) (wide3 .ensures) (wide4 .ensures) _ (both11 .ensures) (checked7 .ensures)
 
 returns-8 : tie.Need-returns-8
@@ -221,7 +220,7 @@ returns-8 c =
     let match = c .before .before .match in
     let both12 = c .before .both12 in
     let checked8 = c .checked8 in
-    arm (sizesOf (args .p)) (args .m) read (wide .result) (wide2 .result) (wide3 .result) (wide4 .result) (ap decode (match .keys8)) refl refl
+    arm (args .p) (args .m) read (wide .result) (wide2 .result) (wide3 .result) (wide4 .result) (ap decode (match .keys8)) refl refl
     (wide .ensures) (wide2 .ensures) (wide3 .ensures) (wide4 .ensures) _ (both12 .ensures) (checked8 .ensures)
 
 returns-9 : tie.Need-returns-9
@@ -233,7 +232,7 @@ returns-9 c =
     let wide3 = c .before .before .before .before .before .before .before .wide3 in
     let match = c .before .match in
     let checked9 = c .checked9 in
-    arm (sizesOf (args .p)) (args .m) write (wide .result) (wide2 .result) (wide3 .result) (args .m .c) (ap decode (match .keys9)) refl refl
+    arm (args .p) (args .m) write (wide .result) (wide2 .result) (wide3 .result) (args .m .c) (ap decode (match .keys9)) refl refl
     (wide .ensures) (wide2 .ensures) (wide3 .ensures) refl _ refl (checked9 .ensures)
 
 returns-10 : tie.Need-returns-10
@@ -248,7 +247,7 @@ returns-10 c =
     let both13 = c .before .before .both13 in
     let both14 = c .before .both14 in
     let checked10 = c .checked10 in
-    arm (sizesOf (args .p)) (args .m) same (wide .result) (wide2 .result) (wide3 .result) (wide4 .result) (ap decode (match .keys10)) refl refl
+    arm (args .p) (args .m) same (wide .result) (wide2 .result) (wide3 .result) (wide4 .result) (ap decode (match .keys10)) refl refl
     (wide .ensures) (wide2 .ensures) (wide3 .ensures) (wide4 .ensures) _
     (both14 .ensures ∙ ap (λ (z : Bool). z && eqb (wide4 .result) 0) (both13 .ensures)) (checked10 .ensures)
 
@@ -256,7 +255,7 @@ returns-11 : tie.Need-returns-11
 returns-11 c =
     let args = c .before .before .before .before .before .before .before .before .before .args in
     let match = c .match in
-    other-code (sizesOf (args .p)) (args .m) (match .rest .0 .0 .0 .0 .0 .0 .0 .0 .0 .1) (match .rest .0 .0 .0 .0 .0 .0 .0 .0 .1)
+    other-code (args .p) (args .m) (match .rest .0 .0 .0 .0 .0 .0 .0 .0 .0 .1) (match .rest .0 .0 .0 .0 .0 .0 .0 .0 .1)
     (match .rest .0 .0 .0 .0 .0 .0 .0 .1) (match .rest .0 .0 .0 .0 .0 .0 .1) (match .rest .0 .0 .0 .0 .0 .1) (match .rest .0 .0 .0 .0 .1)
     (match .rest .0 .0 .0 .1) (match .rest .0 .0 .1) (match .rest .0 .1) (match .rest .1)
 

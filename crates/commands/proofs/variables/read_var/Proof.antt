@@ -22,7 +22,7 @@ returns c =
     let pre = c .before .before .before .pre in
     let var-number = c .before .var-number in
     let var = c .var in
-    read-place (args .p) (pre .0 .places) (args .t) (args .a) (var-number .result) (var-number .ensures) (args .tables .now) (var .ensures)
+    read-place (args .p) (args .t) (args .a) (var-number .result) (var-number .ensures) (args .tables .now) (var .ensures)
 
 pub read-var-spec : {M : Type 1} → statement M
 read-var-spec = tie.close (tie.spec var-number-requires var-requires returns)

@@ -25,7 +25,7 @@ returns c =
     let pre = c .before .before .before .before .before .before .pre in
     let var-number = c .before .before .before .before .var-number in
     let set-var = c .before .before .set-var in
-    write-place (args .p) (pre .0 .places) (args .t) (args .a) (var-number .result) (var-number .ensures) (args .tables .now) (args .x)
+    write-place (args .p) (args .t) (args .a) (var-number .result) (var-number .ensures) (args .tables .now) (args .x)
     (set-var .ensures)
 
 pub write-var-spec : {M : Type 1} → statement M

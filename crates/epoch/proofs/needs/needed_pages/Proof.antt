@@ -4,7 +4,6 @@ use mathlib.Core.Path.{_≡_, refl, ap, _∙_}
 use native.Mathlib.Omega.{arith}
 use Rattle.lists.specs.Counting.{sum-more}
 use Rattle.rules.specs.Regions.{regionAt}
-use Rattle.layout.specs.Places.{sizesOf}
 use Rattle.copy.specs.Copying.{region-bounds}
 use Rattle.epoch.specs.CensusCounts.{levelMore, moreBelow}
 use Rattle.epoch.proofs.needs.needed_pages.Statement.{statement}
@@ -47,7 +46,7 @@ loop-again c =
     let l = c .before .before .before .loop in
     let T = a .tables .now in
     let e = c .level-pages .ensures .0 ∙ ap (levelMore (a .p) T (a .come .now)) (c .before .region-at .ensures) in
-    let m = sum-more (λ i. levelMore (a .p) T (a .come .now) (regionAt (sizesOf (a .p)) (a .thread) i)) (l .level) in
+    let m = sum-more (λ i. levelMore (a .p) T (a .come .now) (regionAt (a .p) (a .thread) i)) (l .level) in
     (omega arith, omega (arith, e, m, l .inv .1), omega (arith, c .level-pages .ensures .1, l .inv .2))
 
 returns : tie.Need-returns Inv-loop μ-loop

@@ -27,7 +27,7 @@ end-requires c κs =
     let o2 = c .before .before .before .before .before .before .o2 in
     let wide = c .wide in
     let r = ends-ready (args .p) (obey .result) (args .m) (pre .0) (obey .ensures) (o2 .given .1 ∙ ap Ends (sym (wide .ensures))) in
-    (r .0, (r .1, (r .2, omega (arith, pre .1, obey .kept .1 .1 .1 .1 .0))))
+    (r .0, (r .1, omega (arith, pre .1, obey .kept .1 .1 .1 .1 .0)))
 
 same-length : tie.Need-same-length
 same-length c = search needs

@@ -9,7 +9,7 @@ use Rattle.promises.specs.Words.{words}
 use Rattle.promises.specs.Promises.{size}
 use Rattle.promises.specs.Chained.{asked-whole}
 use Rattle.heap.specs.Looping.{asked-room}
-use Rattle.heap.specs.Running.{Turning, turn-start, turn-ready, turn-fits, turn-more, turn-end, whole-ready, found-range, looped-found}
+use Rattle.heap.specs.Running.{Turning, turn-start, turn-ready, turn-fits, turn-more, turn-end, whole-ready, looped-found}
 use Rattle.heap.proofs.run.obey_block.Statement.{statement}
 use Rattle.heap.proofs.run.obey_block.Tie as tie
 
@@ -22,11 +22,8 @@ abbrev μ-loop : tie.MeasureT-loop
 read-sizes-requires : tie.Need-read-sizes-requires Inv-loop μ-loop
 read-sizes-requires c κs = asked-whole (c .before .before .before .before .before .before .pre) refl .sizes .sized
 
-find-places-requires : tie.Need-find-places-requires Inv-loop μ-loop
-find-places-requires c κs = found-range (asked-whole (c .before .before .before .before .before .before .before .pre) refl) (c .read-sizes .ensures)
-
 loop-holds : tie.Need-loop-holds Inv-loop μ-loop
-loop-holds c = (turn-start (whole-ready (asked-whole (c .before .before .before .before .before .before .before .before .pre) refl) (c .before .read-sizes .ensures) (c .find-places .ensures)) (asked-room (c .before .before .before .before .before .before .before .before .pre)), refl, omega arith, refl)
+loop-holds c = (turn-start (whole-ready (asked-whole (c .before .before .before .before .before .before .before .pre) refl) (c .read-sizes .ensures)) (asked-room (c .before .before .before .before .before .before .before .pre)), refl, omega arith, refl)
 
 slice-aggregate-obey-at : tie.Need-slice-aggregate-obey-at Inv-loop μ-loop
 slice-aggregate-obey-at c = search needs
@@ -82,7 +79,7 @@ same-length-4 : tie.Need-same-length-4 Inv-loop μ-loop
 same-length-4 c = c .before .loop .inv .0 .looped .spare .long
 
 returns : tie.Need-returns Inv-loop μ-loop
-returns c = looped-found (c .before .before .before .before .before .before .before .before .before .before .pre) (c .before .before .before .read-sizes .ensures) (c .before .before .find-places .ensures) (turn-end (c .before .loop .inv .0) (omega (arith, c .before .loop .inv .1)))
+returns c = looped-found (c .before .before .before .before .before .before .before .before .before .pre) (c .before .before .read-sizes .ensures) (turn-end (c .before .loop .inv .0) (omega (arith, c .before .loop .inv .1)))
 
 pub obey-block-spec : {M : Type 1} → statement M
 obey-block-spec =
@@ -91,7 +88,6 @@ obey-block-spec =
     Inv-loop
     μ-loop
     read-sizes-requires
-    find-places-requires
     loop-holds
     slice-aggregate-obey-at
     obey-at-requires

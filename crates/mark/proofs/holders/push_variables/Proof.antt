@@ -5,13 +5,13 @@ use native.Mathlib.Omega.{arith}
 use lib.ListN.{length}
 use Rattle.mark.specs.Pushes.{Pushing, pushing-start, pushing-kept, pushing-shaped, ref-read, push-read, pushes-kept}
 use native.Mathlib.Nat.{mul-le-mul}
-use Rattle.layout.specs.declared.Places.{Places}
+use Rattle.rules.specs.declared.Sizes.{Sizes}
 use Rattle.layout.specs.Places.{Room}
 use Rattle.mark.specs.Holders.{varHeld, var-held-ref, kept-var-held}
 use Rattle.mark.proofs.holders.push_variables.Statement.{statement}
 use Rattle.mark.proofs.holders.push_variables.Tie as tie
 
-product-low : (p : Places) {n : ℕ} → Room p n → p .threads * p .variables ≤ 512
+product-low : (p : Sizes) {n : ℕ} → Room p n → p .threads * p .variables ≤ 512
 product-low p r = omega (arith, mul-le-mul (r .threads-high) (r .variables-high))
 
 abbrev Inv-loop : tie.InvT-loop

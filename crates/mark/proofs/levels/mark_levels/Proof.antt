@@ -6,7 +6,6 @@ use native.Mathlib.Omega.{arith}
 use lib.ListN.{length}
 use Rattle.lists.specs.Says.{Says, says-no}
 use Rattle.rules.specs.Regions.{regionAt}
-use Rattle.layout.specs.Places.{sizesOf}
 use Rattle.mark.specs.Marks.{AnyMarked}
 use Rattle.mark.specs.Draining.{says-popped, says-idle}
 use Rattle.mark.specs.Levels.{Levels, levels-start, levels-at}
@@ -18,7 +17,7 @@ use Rattle.mark.proofs.levels.mark_levels.Tie as tie
 abbrev Inv-loop : tie.InvT-loop
 Inv-loop p cells₀ remember tables₀ r thread outer depth found₀ left₀ cells tables found left =
     (left ≤ depth) × (length cells ≡ length cells₀) × (length tables ≡ length tables₀)
-    × Levels p r (depth - left) (regionAt (sizesOf p) thread) (levelCells p cells₀ remember tables₀ r thread outer) cells₀ tables₀ cells tables
+    × Levels p r (depth - left) (regionAt p thread) (levelCells p cells₀ remember tables₀ r thread outer) cells₀ tables₀ cells tables
     × Says found (AnyMarked p tables)
 
 abbrev μ-loop : tie.MeasureT-loop

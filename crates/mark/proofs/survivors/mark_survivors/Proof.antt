@@ -11,7 +11,7 @@ depth-requires : tie.Need-depth-requires
 depth-requires c κs =
     let args = c .before .before .before .before .args in
     let pre = c .before .before .before .before .pre in
-    (space-of (args .p) (pre .0) (words (args .cells .now) (args .remember .now) (args .tables .now)) (pre .1 .0) (omega arith), pre .1 .1 .0)
+    (space-of (args .p) (words (args .cells .now) (args .remember .now) (args .tables .now)) (pre .0) (omega arith), pre .1 .0)
 
 wide-requires : tie.Need-wide-requires
 wide-requires c κs = search needs
@@ -20,7 +20,7 @@ region-at-requires : tie.Need-region-at-requires
 region-at-requires c κs =
     let args = c .before .before .before .before .before .before .args in
     let pre = c .before .before .before .before .before .before .pre in
-    omega (arith, space-of (args .p) (pre .0) (words (args .cells .now) (args .remember .now) (args .tables .now)) (pre .1 .0) (omega arith), pre .1 .0 .placed .depths (args .thread) (pre .1 .1 .0), pre .1 .1 .0)
+    omega (arith, space-of (args .p) (words (args .cells .now) (args .remember .now) (args .tables .now)) (pre .0) (omega arith), pre .0 .placed .depths (args .thread) (pre .1 .0), pre .1 .0)
 
 sub-region-at : tie.Need-sub-region-at
 sub-region-at c = search needs
@@ -29,13 +29,13 @@ region-at-requires-2 : tie.Need-region-at-requires-2
 region-at-requires-2 c κs =
     let args = c .before .before .before .before .before .before .before .args in
     let pre = c .before .before .before .before .before .before .before .pre in
-    omega (arith, space-of (args .p) (pre .0) (words (args .cells .now) (args .remember .now) (args .tables .now)) (pre .1 .0) (omega arith), pre .1 .0 .placed .depths (args .thread) (pre .1 .1 .0), pre .1 .1 .0)
+    omega (arith, space-of (args .p) (words (args .cells .now) (args .remember .now) (args .tables .now)) (pre .0) (omega arith), pre .0 .placed .depths (args .thread) (pre .1 .0), pre .1 .0)
 
 mark-levels-requires : tie.Need-mark-levels-requires
 mark-levels-requires c κs =
     let args = c .before .before .before .before .before .before .before .before .before .before .args in
     let pre = c .before .before .before .before .before .before .before .before .before .before .pre in
-    (shaped-at (args .p) (pre .0) (words (args .cells .now) (args .remember .now) (args .tables .now)) (pre .1 .0) (omega arith), (holding-at (args .p) (pre .0) (words (args .cells .now) (args .remember .now) (args .tables .now)) (pre .1 .0) (omega arith), (clean-at (args .p) (pre .0) (words (args .cells .now) (args .remember .now) (args .tables .now)) (pre .1 .0) (omega arith), (pre .1 .1 .0, omega (arith, pre .1 .0 .placed .depths (args .thread) (pre .1 .1 .0))))))
+    (shaped-at (args .p) (words (args .cells .now) (args .remember .now) (args .tables .now)) (pre .0) (omega arith), (holding-at (args .p) (words (args .cells .now) (args .remember .now) (args .tables .now)) (pre .0) (omega arith), (clean-at (args .p) (words (args .cells .now) (args .remember .now) (args .tables .now)) (pre .0) (omega arith), (pre .1 .0, omega (arith, pre .0 .placed .depths (args .thread) (pre .1 .0))))))
 
 same-length : tie.Need-same-length
 same-length c = search needs
@@ -52,7 +52,7 @@ returns c =
     let mark-levels = c .before .before .before .before .mark-levels in
     let args = c .before .before .before .before .before .before .before .before .before .before .before .before .before .before .before .args in
     let pre = c .before .before .before .before .before .before .before .before .before .before .before .before .before .before .before .pre in
-    (marked-at (args .p) (pre .0) (words (args .cells .now) (args .remember .now) (args .tables .now)) (pre .1 .0) (omega arith) (args .thread) _ _ _ (pre .1 .1 .0) (omega (arith, pre .1 .1 .1)) (wide .ensures ∙ depth .ensures) (region-at .ensures) (region-at2 .ensures) (mark-levels .ensures .0), mark-levels .ensures .1)
+    (marked-at (args .p) (words (args .cells .now) (args .remember .now) (args .tables .now)) (pre .0) (omega arith) (args .thread) _ _ _ (pre .1 .0) (omega (arith, pre .1 .1)) (wide .ensures ∙ depth .ensures) (region-at .ensures) (region-at2 .ensures) (mark-levels .ensures .0), mark-levels .ensures .1)
 
 pub mark-survivors-spec : {M : Type 1} → statement M
 mark-survivors-spec =

@@ -1,4 +1,4 @@
--- The first question that says no decides; else the figures are those of the places that the tables name.
+-- The first question that says no decides; else the figures are those of the sizes that the tables name.
 use mathlib.Core.Path.{refl, sym, subst}
 use native.Mathlib.Omega.{arith}
 use Rattle.lists.specs.Says.{said-no}
@@ -23,11 +23,11 @@ returns c =
     let a = c .before .before .before .before .before .before .args in
     subst (λ (r : Reported). Asking (words (a .cells .now) (a .remember .now) (a .tables .now)) (a .room) r) (sym (c .refused .ensures)) (asking-not-whole (words (a .cells .now) (a .remember .now) (a .tables .now)) (a .room) (said-no _ (c .before .before .whole .ensures) (not-is _ (c .before .if1 .taken))))
 
-places-requires : tie.Need-places-requires
-places-requires c κs = whole-tables (c .before .whole .ensures .0 (not-is _ (c .if1 .left))) refl refl
+read-sizes-requires : tie.Need-read-sizes-requires
+read-sizes-requires c κs = (c .before .whole .ensures .0 (not-is _ (c .if1 .left))) .sizes .sized
 
 row-count-requires : tie.Need-row-count-requires
-row-count-requires c κs = whole-tables (c .before .before .whole .ensures .0 (not-is _ (c .before .if1 .left))) refl (c .places .ensures)
+row-count-requires c κs = whole-tables (c .before .before .whole .ensures .0 (not-is _ (c .before .if1 .left))) (c .read-sizes .ensures)
 
 refused-requires-2 : tie.Need-refused-requires-2
 refused-requires-2 c κs = search needs
@@ -36,16 +36,16 @@ returns-2 : tie.Need-returns-2
 returns-2 c =
     let a = c .before .before .before .before .before .before .before .before .before .args in
     subst (λ (r : Reported). Asking (words (a .cells .now) (a .remember .now) (a .tables .now)) (a .room) r) (sym (c .refused2 .ensures))
-    (asking-short (words (a .cells .now) (a .remember .now) (a .tables .now)) (a .room) (c .before .before .before .before .before .whole .ensures .0 (not-is _ (c .before .before .before .before .if1 .left))) (c .before .before .before .places .result) (c .before .before .before .places .ensures) (c .before .before .row-count .result) (c .before .before .row-count .ensures) (c .before .if2 .taken))
+    (asking-short (words (a .cells .now) (a .remember .now) (a .tables .now)) (a .room) (c .before .before .before .before .before .whole .ensures .0 (not-is _ (c .before .before .before .before .if1 .left))) (c .before .before .before .read-sizes .result) (c .before .before .before .read-sizes .ensures) (c .before .before .row-count .result) (c .before .before .row-count .ensures) (c .before .if2 .taken))
 
 cast-t9 : tie.Need-cast-t9
 cast-t9 c =
     let a = c .before .before .before .before .before .before .before .before .args in
-    let k = whole-tables (c .before .before .before .before .whole .ensures .0 (not-is _ (c .before .before .before .if1 .left))) refl (c .before .before .places .ensures) in
-    omega (arith, c .before .row-count .ensures, rows-few (c .before .before .places .result) (a .tables .now) k)
+    let k = whole-tables (c .before .before .before .before .whole .ensures .0 (not-is _ (c .before .before .before .if1 .left))) (c .before .before .read-sizes .ensures) in
+    omega (arith, c .before .row-count .ensures, rows-few (c .before .before .read-sizes .result) (a .tables .now) k)
 
 free-pages-requires : tie.Need-free-pages-requires
-free-pages-requires c κs = whole-tables (c .before .before .before .before .whole .ensures .0 (not-is _ (c .before .before .before .if1 .left))) refl (c .before .before .places .ensures)
+free-pages-requires c κs = whole-tables (c .before .before .before .before .whole .ensures .0 (not-is _ (c .before .before .before .if1 .left))) (c .before .before .read-sizes .ensures)
 
 crossing-slots-requires : tie.Need-crossing-slots-requires
 crossing-slots-requires c κs = (c .before .before .before .before .before .whole .ensures .0 (not-is _ (c .before .before .before .before .if1 .left))) .sizes .counted
@@ -53,7 +53,7 @@ crossing-slots-requires c κs = (c .before .before .before .before .before .whol
 returns-3 : tie.Need-returns-3
 returns-3 c =
     let a = c .before .before .before .before .before .before .before .before .before .before .args in
-    asking-all (words (a .cells .now) (a .remember .now) (a .tables .now)) (a .room) (c .before .before .before .before .before .before .whole .ensures .0 (not-is _ (c .before .before .before .before .before .if1 .left))) (c .before .before .before .before .places .result) (c .before .before .before .before .places .ensures) (c .before .before .before .row-count .result) (c .before .before .before .row-count .ensures)
+    asking-all (words (a .cells .now) (a .remember .now) (a .tables .now)) (a .room) (c .before .before .before .before .before .before .whole .ensures .0 (not-is _ (c .before .before .before .before .before .if1 .left))) (c .before .before .before .before .read-sizes .result) (c .before .before .before .before .read-sizes .ensures) (c .before .before .before .row-count .result) (c .before .before .before .row-count .ensures)
     (c .before .free-pages .result) (c .crossing-slots .result) (c .before .before .if2 .left) (c .before .free-pages .ensures) (c .crossing-slots .ensures)
 
 pub ask-spec : {M : Type 1} → statement M
@@ -63,7 +63,7 @@ ask-spec =
     whole-requires
     refused-requires
     returns
-    places-requires
+    read-sizes-requires
     row-count-requires
     refused-requires-2
     returns-2

@@ -56,7 +56,7 @@ use Rattle.promises.specs.Reading.{range}
 use Rattle.report.specs.declared.Row.{Row}
 use Rattle.report.specs.Tables.{WholeTables, rowIn, rowsIn}
 use Rattle.report.specs.Opened.{Next, Turn, turn-first, turn-next, turn-high, turn-row}
-use Rattle.report.specs.Lent.{placesIn, RegionOf, written, written-none, written-next, length-written}
+use Rattle.report.specs.Lent.{RegionOf, written, written-none, written-next, length-written}
 use Rattle.report.proofs.Row as T
 use Rattle.report.proofs.Row.Laws as T′
 use Rattle.report.proofs.lent.row_in as row-in
@@ -110,7 +110,7 @@ abbrev wordsTy : Ty
 wordsTy = sliceTy (tyRef (named 1) imm (tyInt w32))
 
 module _ {M : Type 1} (𝓤 : URA M) (H : Heap 𝓤) (A : Atoms 𝓤) (W : Given 𝓤 H A) (mem : Memory → SProp 𝓤) (run : Routine → Fun 𝓤) (κ κ′ : Lft) (bounds : AllOutlive 2 (fill.signature .outlives) (κ, (κ′, tt))) (q q′ : Share)
-    (b o : ℕ) (γ : GName) (ys : List Row) (b′ o′ : ℕ) (γ′ : GName) (ws : List ℕ) (n : ℕ) (n-fits : n < 2 ^ 64) (n-lent : n ≤ length ys) (n-rows : n ≤ length (rowsIn (placesIn ws) ws)) (n-whole : 0 < n → WholeTables (placesIn ws) ws) (roomy : Room T.the-row (length ys)) where
+    (b o : ℕ) (γ : GName) (ys : List Row) (b′ o′ : ℕ) (γ′ : GName) (ws : List ℕ) (n : ℕ) (n-fits : n < 2 ^ 64) (n-lent : n ≤ length ys) (n-rows : n ≤ length (rowsIn (sizesAt ws) ws)) (n-whole : 0 < n → WholeTables (sizesAt ws) ws) (roomy : Room T.the-row (length ys)) where
   abbrev x : List Row → RefT (List Row)
   x l = record { ptr = (b, o); name = γ; now = l }
 
@@ -129,7 +129,7 @@ module _ {M : Type 1} (𝓤 : URA M) (H : Heap 𝓤) (A : Atoms 𝓤) (W : Given
 
   -- the rows of the tables, and the lent list with the first k of them
   abbrev these : List Row
-  these = rowsIn (placesIn ws) ws
+  these = rowsIn (sizesAt ws) ws
 
   abbrev first-of : ℕ → List Row
   first-of k = written these k ys
@@ -175,8 +175,8 @@ module _ {M : Type 1} (𝓤 : URA M) (H : Heap 𝓤) (A : Atoms 𝓤) (W : Given
   goes-next g fits may = qed W (‵ (flft κ′ q′) ∷ ‵ Words ∷ []) ∵ says ! may $ nothing ! $ move ! (1 ∷ 0 ∷ []) $ join ! $ frame ! $
       nothing ! $ owned ! usize (Is usize) (uint-makes 𝓤 H A W w64) g _ (refl, fits) $ fjoin ! $ move ! (1 ∷ 0 ∷ []) $ fjoin ! $ done !
 
-  said-row : (g : ℕ) (r : Row) → ent 𝓤 (ensured 𝓤 H A row-in.ended (row-in.clauses 𝓤 H A mem run) (κ′, tt) (x′, (g, tt)) tt r) (fact 𝓤 (r ≡ rowIn (placesIn ws) ws g))
-  said-row g r = exE 𝓤 _ (λ ls. snd∗ 𝓤 (sem 𝓤 H A (lasts row-in.ended (κ′, tt) (x′, (g, tt)) ls)) (fact 𝓤 (r ≡ rowIn (placesIn ws) ws g)))
+  said-row : (g : ℕ) (r : Row) → ent 𝓤 (ensured 𝓤 H A row-in.ended (row-in.clauses 𝓤 H A mem run) (κ′, tt) (x′, (g, tt)) tt r) (fact 𝓤 (r ≡ rowIn (sizesAt ws) ws g))
+  said-row g r = exE 𝓤 _ (λ ls. snd∗ 𝓤 (sem 𝓤 H A (lasts row-in.ended (κ′, tt) (x′, (g, tt)) ls)) (fact 𝓤 (r ≡ rowIn (sizesAt ws) ws g)))
 
   abbrev After : ℕ → ℕ → Type 0
   After g r = Next (sizesAt ws) (depthsAt (sizesAt ws) ws) g r
@@ -227,7 +227,7 @@ module _ {M : Type 1} (𝓤 : URA M) (H : Heap 𝓤) (A : Atoms 𝓤) (W : Given
         use2 W (raw (RowIn 𝓤 H A mem run .pre (to-row g))) (goes-row g (region-fits less) (may less)) $
         calls-at ! (fmOf 𝓤 H (W .laws) 𝓣) (RowIn 𝓤 H A mem run) known-row (to-row g) (and-then ! (load ! (from ! (stop !)) (look ! 20 refl)) (and-then ! (load ! (from ! (stop !)) (look ! 14 refl)) (no-more !))) (λ u.
         use1 W (later (some (λ (r : Row). ((‵ (flft κ′ q′) ⊛ ‵ ftrue) ⊛ ‵ (T.the-row .own r (u ∷ []))) ⊛ raw (ensured 𝓤 H A row-in.ended (row-in.clauses 𝓤 H A mem run) (κ′, tt) (x′, (g, tt)) tt r)))) (id⊢ 𝓤 _) $ await ! tt $ pick ! (λ r.
-        split ! $ move ! (1 ∷ []) $ use1 W (raw (fact 𝓤 (r ≡ rowIn (placesIn ws) ws g))) (said-row g r) $ heard ! (r ≡ rowIn (placesIn ws) ws g) (λ e. split ! $ move ! (1 ∷ []) $ peeks ! T.the-row (Is T.the-row) (shows 𝓤 H A T.the-row) r (u ∷ []) (λ is.
+        split ! $ move ! (1 ∷ []) $ use1 W (raw (fact 𝓤 (r ≡ rowIn (sizesAt ws) ws g))) (said-row g r) $ heard ! (r ≡ rowIn (sizesAt ws) ws g) (λ e. split ! $ move ! (1 ∷ []) $ peeks ! T.the-row (Is T.the-row) (shows 𝓤 H A T.the-row) r (u ∷ []) (λ is.
         land ! (from ! (stop !)) (init ! 11 refl (LL.lawful T.the-type T′.the-laws 𝓤 H A W .typed r _ is .0)) $ rewrite ! 11 (λ (w : Val). ‵ (fat fullShare T′.mir l₇ 0 w)) (ap only (spelled r u is)) refl $
         -- [the result's; its token; the words; the rows; the open borrow; obs; auth; the locals, from _9 down]
         assigns ! (bin ! (load ! (from ! (stop !)) (look ! 17 refl)) (lit ! tt) (record { fits = bytes less })) (from ! (stop !)) (init ! 9 refl (tt, record { fits = bytes less })) $
@@ -237,7 +237,7 @@ module _ {M : Type 1} (𝓤 : URA M) (H : Heap 𝓤) (A : Atoms 𝓤) (W : Given
         move ! (3 ∷ []) $ elem-out ! T.the-row (Is T.the-row) (shows 𝓤 H A T.the-row) vals (LL.tells T.the-type T′.the-laws) fullShare (first-of k) k r b o (in-rows less) (λ _.
         assigns ! (of-opd ! (load ! (from ! (stop !)) (look ! 13 refl))) (from ! (hop ! (look ! 9 refl) (stop !))) (store-raw ! 0 refl (LL.lawful T.the-type T′.the-laws 𝓤 H A W .typed r _ (known-as r u is) .0)) $
         move ! (1 ∷ []) $ drop ! $ owned ! T.the-row (Is T.the-row) (LL.makes T.the-type T′.the-plain 𝓤 H A) r _ (known-as r u is) $ move ! (1 ∷ 0 ∷ []) $ elem-put ! T.the-row fullShare (first-of k) k r (mach r ∷ []) b o (in-rows less) $
-        rewrite ! 0 (λ (l : List Row). ‵ (row T.the-row fullShare l b o)) (ap (set (first-of k) k) (e ∙ turn-row (placesIn ws) ws k g (i .3) (more-rows less)) ∙ written-next these ys k (more-rows less) (more-lent less)) refl $
+        rewrite ! 0 (λ (l : List Row). ‵ (row T.the-row fullShare l b o)) (ap (set (first-of k) k) (e ∙ turn-row (sizesAt ws) ws k g (i .3) (more-rows less)) ∙ written-next these ys k (more-rows less) (more-lent less)) refl $
         -- [the rows; the result's; its token; the words; the open borrow; obs; auth; the locals]: the words are copied again, for `open_after`
         move ! (2 ∷ []) $ split ! $ move ! (4 ∷ []) $ use1 W (‵ Words ⊛ ‵ Words) (shr-slice-copy 𝓤 H A W (named 1) κ′ u32 .twice x′ (s′ ∷ [])) $ split ! $ move ! (2 ∷ 0 ∷ []) $
         use2 W (raw (OpenAfter 𝓤 H A mem run .pre (to-next g))) (goes-next g (region-fits less) (may less)) $
@@ -273,7 +273,7 @@ module _ {M : Type 1} (𝓤 : URA M) (H : Heap 𝓤) (A : Atoms 𝓤) (W : Given
         more-lent less = omega (arith, ltb→lt k n less)
 
         may : Holds (ltb k n) → RegionOf ws g
-        may less = (n-whole (omega (arith, ltb→lt k n less)), i .3 .low, turn-high (placesIn ws) ws k g (i .3) (more-rows less))
+        may less = (n-whole (omega (arith, ltb→lt k n less)), i .3 .low, turn-high (sizesAt ws) ws k g (i .3) (more-rows less))
 
         region-fits : Holds (ltb k n) → g < 2 ^ 64
         region-fits less =
@@ -313,7 +313,7 @@ module _ {M : Type 1} (𝓤 : URA M) (H : Heap 𝓤) (A : Atoms 𝓤) (W : Given
 module _ {M : Type 1} (𝓤 : URA M) (H : Heap 𝓤) (A : Atoms 𝓤) (W : Given 𝓤 H A) (mem : Memory → SProp 𝓤) (run : Routine → Fun 𝓤) (𝓣 : Tables 𝓤 H)
     (known-row : Triple 𝓤 (𝓣 .C #row-in) (RowIn 𝓤 H A mem run)) (known-next : Triple 𝓤 (𝓣 .C #open-after) (OpenAfter 𝓤 H A mem run)) where
   abbrev May-fill : List Row → List ℕ → ℕ → Type 0
-  May-fill ys ws n = (n ≤ length ys) × (n ≤ length (rowsIn (placesIn ws) ws)) × (0 < n → WholeTables (placesIn ws) ws)
+  May-fill ys ws n = (n ≤ length ys) × (n ≤ length (rowsIn (sizesAt ws) ws)) × (0 < n → WholeTables (sizesAt ws) ws)
 
   fill-walks : Walks 𝓤 H A fill.ended stayed (WpFn 𝓤 H (𝓣 .C) (𝓣 .Λ) code.function) (fill.clauses 𝓤 H A mem run)
   fill-walks = walked 𝓤 H A fill.ended stayed (fill.clauses 𝓤 H A mem run) (WpFn 𝓤 H (𝓣 .C) (𝓣 .Λ) code.function)

@@ -44,7 +44,8 @@ use Rattle.promises.specs.Words as wo
 use Rattle.report.specs.declared.Row.{Row}
 use Rattle.report.specs.declared.Reported.{Reported}
 use Rattle.report.specs.Tables.{rowsIn}
-use Rattle.report.specs.Lent.{placesIn, Asking, written, length-written, asked-few, told-written}
+use Rattle.layout.specs.Places.{sizesAt}
+use Rattle.report.specs.Lent.{Asking, written, length-written, asked-few, told-written}
 use Rattle.report.proofs.Row as T
 use Rattle.report.proofs.Reported as R
 use Rattle.report.proofs.Reported.Laws as R′
@@ -122,7 +123,7 @@ module _ {M : Type 1} (𝓤 : URA M) (H : Heap 𝓤) (A : Atoms 𝓤) (W : Given
 
   -- the list at exit
   abbrev zs : Reported → List Row
-  zs r = written (rowsIn (placesIn (x₂ .now)) (x₂ .now)) (r .rows) ys
+  zs r = written (rowsIn (sizesAt (x₂ .now)) (x₂ .now)) (r .rows) ys
 
   abbrev Arg : Type 0
   Arg = RefT (List ℕ) × (RefT (List ℕ) × (RefT (List ℕ) × (RefT (List Row) × Unit {0})))
@@ -147,7 +148,7 @@ module _ {M : Type 1} (𝓤 : URA M) (H : Heap 𝓤) (A : Atoms 𝓤) (W : Given
       owned ! R.the-row (Is R.the-row) (LL.makes R.the-type R′.the-plain 𝓤 H A) r _ (known-as r u is) $ move ! (1 ∷ 0 ∷ []) $ done !
     where
       long : length (zs r) ≡ length ys
-      long = let f = asked-few w ys r k in length-written (rowsIn (placesIn (x₂ .now)) (x₂ .now)) ys (r .rows) (f .1) (f .0)
+      long = let f = asked-few w ys r k in length-written (rowsIn (sizesAt (x₂ .now)) (x₂ .now)) ys (r .rows) (f .1) (f .0)
 
   -- what each callee's triple binds outside, and that the caller has what it asks. Both are passed copies of the words, and their tokens
   abbrev to-ask : Ask 𝓤 H A mem run .Ghost

@@ -5,13 +5,13 @@ use lib.ListN.{getD}
 use Prim.Native.Nat.{ℕ, _/_}
 use mathlib.Core.List.{List}
 use mathlib.Core.Path.{_≡_, sym, ap, _∙_}
-use Rattle.layout.specs.declared.Places.{Places}
+use Rattle.rules.specs.declared.Sizes.{Sizes}
 use Rattle.layout.specs.Places.{ownerOf}
 use Rattle.settle.specs.Entries.{crossOf, new-gone, new-stays, new-moved}
 use Rattle.settle.proofs.remember.new_region.Statement.{statement}
 use Rattle.settle.proofs.remember.new_region.Tie as tie
 
-home : (p : Places) (T : List ℕ) (at w q : ℕ) → q ≡ at / 16 / 16 → w ≡ ownerOf p T q → ownerOf p T (at / 256) ≡ w
+home : (p : Sizes) (T : List ℕ) (at w q : ℕ) → q ≡ at / 16 / 16 → w ≡ ownerOf p T q → ownerOf p T (at / 256) ≡ w
 home p T at w q e f = ap (λ (y : ℕ). ownerOf p T y) (let z : at / 256 ≡ q = omega arith in z) ∙ sym f
 
 page-at-requires : tie.Need-page-at-requires
