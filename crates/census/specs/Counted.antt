@@ -20,7 +20,7 @@ use Rattle.laws.specs.Counts.{landed}
 use Rattle.layout.specs.Places.{markOf}
 use Rattle.layout.specs.Cells.{workOf, pageOf, placeOf, cellOn}
 use Rattle.layout.specs.Marks.{marked}
-use Rattle.promises.specs.Words.{Words, homeIn, graphOf}
+use Rattle.layout.specs.Words.{Words, homeIn, graphOf}
 use Rattle.promises.specs.Whole.{WholeFor}
 use Rattle.mark.specs.Reached.{home-cell, cell-home}
 use Rattle.mark.specs.Survivors.{Marked}

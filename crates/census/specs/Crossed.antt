@@ -20,7 +20,7 @@ use Rattle.laws.specs.Counts.{crossIn, crossAt, crossing-sum, crossRef}
 use Rattle.layout.specs.Places.{markOf, usedIn, slotIn, Room}
 use Rattle.layout.specs.Cells.{headOf, workOf, fieldAt, fieldOf, pageOf, placeOf, cellOf, wordOf}
 use Rattle.layout.specs.Marks.{marked}
-use Rattle.promises.specs.Words.{Words, Used, ownerIn, homeIn, refCount, refsIn, graphOf}
+use Rattle.layout.specs.Words.{Words, Used, ownerIn, homeIn, refCount, refsIn, graphOf}
 use Rattle.promises.specs.Whole.{WholeFor, IsRef}
 use Rattle.promises.specs.Crossing.{other, regionOf, crossTo}
 use Rattle.promises.specs.Crossings.{cross-in-sum}

@@ -8,7 +8,7 @@ ghost use Rattle.lists.specs.Part.{Rises, Off};
 ghost use Rattle.layout.specs.Places.{markOf};
 ghost use Rattle.layout.specs.Cells.{workOf, pageOf, cellOn};
 ghost use Rattle.layout.specs.Marks.{marked};
-ghost use Rattle.promises.specs.Words.{InUse};
+ghost use Rattle.layout.specs.Words.{InUse};
 ghost use Rattle.mark.specs.Marks.{Shaped};
 ghost use Rattle.census.specs.Counted.{goesTo, onPage};
 ghost use Rattle.census.specs.After.{cellCrosses};

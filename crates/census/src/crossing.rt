@@ -5,7 +5,7 @@ ghost use Prim.Native.Nat.{_*_, _<_, _≤_};
 ghost use lib.ListN.{length};
 ghost use Rattle.layout.specs.Places.{Room, slotIn, usedIn};
 ghost use Rattle.layout.specs.Cells.{pageOf};
-ghost use Rattle.promises.specs.Words.{InUse};
+ghost use Rattle.layout.specs.Words.{InUse};
 ghost use Rattle.promises.specs.Whole.{IsRef};
 ghost use Rattle.mark.specs.Marks.{Shaped};
 ghost use Rattle.mark.specs.Holders.{Holding};

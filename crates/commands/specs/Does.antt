@@ -3,7 +3,7 @@ use mathlib.Core.List.{List}
 use Prim.Native.Nat.{ℕ}
 use Rattle.rules.specs.declared.Answer.{Answer}
 use Rattle.rules.specs.declared.Sizes.{Sizes}
-use Rattle.promises.specs.Words.{words}
+use Rattle.layout.specs.Words.{words}
 use Rattle.promises.specs.Promises.{DidHere}
 use Rattle.commands.specs.declared.Decoded.{Decoded}
 use Rattle.commands.specs.Decoding.{commandFor}

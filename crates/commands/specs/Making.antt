@@ -20,7 +20,7 @@ use Rattle.rules.specs.Rules as ru
 use Rattle.rules.specs.Rules.{Regioned, graph, first}
 use Rattle.layout.specs.Places.{depthOf, ownerOf, usedOf, countOf, countAt, count-room}
 use Rattle.layout.specs.Cells.{cellOn}
-use Rattle.promises.specs.Words.{Words, words, heapOf}
+use Rattle.layout.specs.Words.{Words, words, heapOf}
 use Rattle.promises.specs.Whole.{WholeFor, Open, objectsOn}
 use Rattle.promises.specs.StandsFor.{SameFrom, SameBeyond}
 use Rattle.promises.specs.Reading.{range, cells-room, tables-room}

@@ -6,7 +6,7 @@ use Rattle.rules.specs.declared.Sizes.{Sizes}
 use Rattle.rules.specs.declared.Command.{Command}
 use Rattle.rules.specs.declared.Answer.{Answer}
 use Rattle.rules.specs.Terms.{refused, done}
-use Rattle.promises.specs.Words.{Words, words, heapOf}
+use Rattle.layout.specs.Words.{Words, words, heapOf}
 use Rattle.promises.specs.Promises.{DidHere}
 use Rattle.promises.specs.Questions.{did-answer, did-asked}
 use Rattle.commands.specs.declared.Decoded.{Decoded}

@@ -17,7 +17,7 @@ use Rattle.rules.specs.Rules.{Regioned}
 use Rattle.layout.specs.declared.Kind.{Kind}
 use Rattle.layout.specs.declared.Kind.the-variants.{Reference, Number}
 use Rattle.layout.specs.Cells.{headOf, fieldAt, fieldCount, kindAt, kind-low}
-use Rattle.promises.specs.Words.{Words, words, heapOf, Used, refCount}
+use Rattle.layout.specs.Words.{Words, words, heapOf, Used, refCount}
 use Rattle.promises.specs.Whole.{WholeFor, IsRef}
 use Rattle.promises.specs.Reading.{range, cells-room, used-alive}
 use Rattle.promises.specs.Agreed.{heap-stands, back}

@@ -20,7 +20,7 @@ use Rattle.laws.specs.RulesLaws.{Sound, sound-after}
 use Rattle.layout.specs.declared.Kind.the-variants.{Reference}
 use Rattle.layout.specs.Places.{Room, ownerOf, usedIn, slotIn}
 use Rattle.layout.specs.Cells.{headOf, fieldAt, fieldCount, kindAt, pageOf}
-use Rattle.promises.specs.Words.{Words, words, heapOf, Used, refCount}
+use Rattle.layout.specs.Words.{Words, words, heapOf, Used, refCount}
 use Rattle.promises.specs.Crossing.{other, regionOf}
 use Rattle.promises.specs.Whole.{WholeFor}
 use Rattle.promises.specs.Reading.{used-alive, remember-room}

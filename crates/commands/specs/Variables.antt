@@ -17,7 +17,7 @@ use Rattle.rules.specs.NeverFreeing.{place}
 use Rattle.rules.specs.Rules as ru
 use Rattle.rules.specs.Rules.{Regioned, asksEntries}
 use Rattle.layout.specs.Places.{depthAt, depthOf, varAt}
-use Rattle.promises.specs.Words.{Words, words, heapOf}
+use Rattle.layout.specs.Words.{Words, words, heapOf}
 use Rattle.promises.specs.Whole.{WholeFor}
 use Rattle.promises.specs.Promises.{DidHere}
 use Rattle.promises.specs.Agreed.{heap-stands}

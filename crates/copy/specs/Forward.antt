@@ -11,7 +11,7 @@ use Rattle.rules.specs.declared.Sizes.{Sizes}
 use Rattle.layout.specs.Places.{ownerOf, ownersFrom}
 use Rattle.layout.specs.Cells.{workOf}
 use Rattle.layout.specs.Marks.{marked}
-use Rattle.promises.specs.Words.{InUse}
+use Rattle.layout.specs.Words.{InUse}
 use Rattle.copy.specs.Marks.{copied}
 use Rattle.copy.specs.Taking.{endOf}
 use Rattle.copy.specs.Moves.{Step, step-size, step-rest, step-off, step-on, step-new, step-in-use, step-home, step-keeps, step-owner, step-only, step-link, step-words}

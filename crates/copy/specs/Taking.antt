@@ -15,7 +15,7 @@ use Rattle.rules.specs.Graph.{pagesOf}
 use Rattle.rules.specs.declared.Sizes.{Sizes}
 use Rattle.layout.specs.Places.{Room, ownerAt, usedAt, markAt, countAt, ownerOf, usedOf, markOf, countOf, countsFrom}
 use Rattle.layout.specs.Cells.{cellOn}
-use Rattle.promises.specs.Words.{InUse}
+use Rattle.layout.specs.Words.{InUse}
 use Rattle.promises.specs.Whole.{objectsOn, objectsOf}
 use Rattle.pages.specs.Owned.{ownedOne, ownedIn, regionsOf}
 use Rattle.pages.specs.Pages.{Partly, Found, Filled, taken}

@@ -18,7 +18,7 @@ use Rattle.rules.specs.NeverFreeing.{NeverFreeing}
 use Rattle.rules.specs.Rules as ru
 use Rattle.rules.specs.Rules.{Regioned, lacking}
 use Rattle.laws.specs.Agree.{run-agrees}
-use Rattle.promises.specs.Words.{Words, sizesIn}
+use Rattle.layout.specs.Words.{Words, sizesIn}
 use Rattle.lists.specs.Listed.{listed}
 use Rattle.promises.specs.StandsFor.{StandsFor}
 use Rattle.promises.specs.Promises.{Chain, none, more, commandsIn, answersIn, size, RunAsked, notWhole, uneven, short, accepted, Ran, Prepared}

@@ -16,7 +16,7 @@ use Rattle.rules.specs.Regions.{regionAt}
 use Rattle.rules.specs.Graph.{target}
 use Rattle.rules.specs.Rules.{lacking}
 use Rattle.layout.specs.Cells.{fieldOf}
-use Rattle.promises.specs.Words.{Words, Used, sizesIn, depthIn, varIn, ownerIn, refCount, numCount, refsIn, numsIn, varsIn, homeIn, graphOf}
+use Rattle.layout.specs.Words.{Words, Used, sizesIn, depthIn, varIn, ownerIn, refCount, numCount, refsIn, numsIn, varsIn, homeIn, graphOf}
 use Rattle.promises.specs.Promises.{Chain, none, more, commandsIn, answersIn, size, Ran}
 
 -- ---- a list of runs

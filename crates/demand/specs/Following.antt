@@ -25,7 +25,7 @@ use Rattle.laws.specs.SameRules.{renamed, same-target}
 use Rattle.rules.specs.Rules as ru
 use Rattle.rules.specs.Rules.{Regioned, graph, innermost}
 use Rattle.laws.specs.RulesLaws.{region-pos, graph-ended, afterEffect}
-use Rattle.promises.specs.Words.{Words, graphOf, homeIn, refsIn, numsIn, varsIn, varIn, depthIn, Used}
+use Rattle.layout.specs.Words.{Words, graphOf, homeIn, refsIn, numsIn, varsIn, varIn, depthIn, Used}
 use Rattle.lists.specs.Listed.{listed, listed-same, map-listed}
 use Rattle.promises.specs.StandsFor.{StandsFor}
 use Rattle.promises.specs.Promises.{Became, Did}

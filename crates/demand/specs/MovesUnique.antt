@@ -11,7 +11,7 @@ use Rattle.rules.specs.declared.Sizes.{Sizes}
 use Rattle.lists.specs.Members.{In, getD-in}
 use Rattle.rules.specs.Graph.{target}
 use Rattle.laws.specs.GraphLaws.{Leads, itself, along, Holds, bySlot, byOwn, byOther, Reaches, target-reached, target-absorbs}
-use Rattle.promises.specs.Words.{Words, homeIn, ownerIn, refsIn, varsIn, graphOf, Used}
+use Rattle.layout.specs.Words.{Words, homeIn, ownerIn, refsIn, varsIn, graphOf, Used}
 use Rattle.promises.specs.Whole.{WholeFor}
 use Rattle.demand.specs.DemandThree.{Moves, regionOf}
 use Rattle.promises.specs.Reading.{used-home, used-alive, alive-used}

@@ -15,7 +15,7 @@ use Rattle.laws.specs.GraphLaws.{Alive}
 use Rattle.laws.specs.SameRules.{renamed}
 use Rattle.rules.specs.Rules.{Regioned, graph}
 use Rattle.layout.specs.declared.Kind.the-variants.{Number}
-use Rattle.promises.specs.Words.{Words, Used}
+use Rattle.layout.specs.Words.{Words, Used}
 use Rattle.lists.specs.Listed.{listed, length-listed, getD-listed}
 use Rattle.promises.specs.StandsFor.{StandsFor}
 use Rattle.promises.specs.Agreed.{cell-used}

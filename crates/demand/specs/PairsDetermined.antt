@@ -15,7 +15,7 @@ use Rattle.rules.specs.NeverFreeing.{Effect, opens, ends, makes, assigns, meani
 use Rattle.rules.specs.Regions.{regionAt}
 use Rattle.rules.specs.Rules as ru
 use Rattle.laws.specs.RulesLaws.{region-pos}
-use Rattle.promises.specs.Words.{Words, Used, sizesIn, depthIn, varIn, heapOf}
+use Rattle.layout.specs.Words.{Words, Used, sizesIn, depthIn, varIn, heapOf}
 use Rattle.promises.specs.Whole.{WholeFor}
 use Rattle.promises.specs.Promises.{Chain, none, more, Did, Ran}
 use Rattle.promises.specs.Reading.{used-alive}

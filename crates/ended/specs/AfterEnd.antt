@@ -10,7 +10,7 @@ use Rattle.rules.specs.NeverFreeing.{depthOf}
 use Rattle.rules.specs.Regions.{regionAt}
 use Rattle.rules.specs.Rules as ru
 use Rattle.laws.specs.RulesLaws.{region-pos, over}
-use Rattle.promises.specs.Words.{Words, depthIn, heapOf}
+use Rattle.layout.specs.Words.{Words, depthIn, heapOf}
 use Rattle.promises.specs.Here.{here-depth}
 
 -- the command: code 2 of thread t

@@ -17,7 +17,7 @@ use Rattle.laws.specs.RulesLaws.{region-pos}
 use Rattle.laws.specs.Counts.{landed, objects-ended}
 use Rattle.laws.specs.EndLaws.{home-went, home-stayed}
 use Rattle.layout.specs.Places.{countOf}
-use Rattle.promises.specs.Words.{Words, depthIn, homeIn, graphOf}
+use Rattle.layout.specs.Words.{Words, depthIn, homeIn, graphOf}
 use Rattle.promises.specs.Whole.{WholeFor}
 use Rattle.promises.specs.OwnedPages.{counted-objects}
 use Rattle.ended.specs.WordsPlaced.{target-level}

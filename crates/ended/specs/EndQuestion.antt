@@ -17,7 +17,7 @@ use Rattle.rules.specs.Rules as ru
 use Rattle.rules.specs.Rules.{graph, first}
 use Rattle.laws.specs.RulesLaws.{region-pos, graph-ended}
 use Rattle.laws.specs.SameRules.{same-new-ended, same-crossing-ended}
-use Rattle.promises.specs.Words.{Words, depthIn, graphOf, heapOf}
+use Rattle.layout.specs.Words.{Words, depthIn, graphOf, heapOf}
 use Rattle.promises.specs.Whole.{WholeFor}
 use Rattle.promises.specs.StandsFor.{StandsFor}
 use Rattle.promises.specs.Promises.{DidHere}

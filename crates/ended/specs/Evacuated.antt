@@ -11,7 +11,7 @@ use Rattle.rules.specs.Regions.{regionAt}
 use Rattle.rules.specs.Graph.{target}
 use Rattle.layout.specs.Places.{varOf, markOf, countOf}
 use Rattle.layout.specs.Cells.{pageOf, fieldOf, workOf}
-use Rattle.promises.specs.Words.{Words, Used, depthIn, ownerIn, headIn, refCount, graphOf}
+use Rattle.layout.specs.Words.{Words, Used, depthIn, ownerIn, headIn, refCount, graphOf}
 use Rattle.promises.specs.Whole.{PageWhole, Partial, objectsOf, RememberWhole}
 use Rattle.promises.specs.StandsFor.{SameBeyond}
 

@@ -12,7 +12,7 @@ use Rattle.rules.specs.NeverFreeing as nf
 use Rattle.rules.specs.Regions.{regionAt}
 use Rattle.rules.specs.Rules as ru
 use Rattle.rules.specs.Rules.{Regioned, graph}
-use Rattle.promises.specs.Words.{Words, depthIn, homeIn, heapOf}
+use Rattle.layout.specs.Words.{Words, depthIn, homeIn, heapOf}
 use Rattle.promises.specs.Whole.{WholeFor}
 use Rattle.promises.specs.Promises.{Freed, DidHere}
 use Rattle.promises.specs.Agreed.{home-at}

@@ -9,7 +9,7 @@ use Rattle.rules.specs.declared.Sizes.{Sizes}
 use Rattle.rules.specs.Regions.{regionAt}
 use Rattle.laws.specs.RulesLaws.{region-pos}
 use Rattle.layout.specs.Cells.{pageOf, placeOf, cellOn}
-use Rattle.promises.specs.Words.{Words, Used, ownerIn, usedIn}
+use Rattle.layout.specs.Words.{Words, Used, ownerIn, usedIn}
 use Rattle.promises.specs.Whole.{PageWhole, WholeFor}
 use Rattle.ended.specs.Evacuated.{Outside, Survivor, Evacuated}
 

@@ -19,7 +19,7 @@ use Rattle.laws.specs.SameRules.{renamed, Partners, partners-ended}
 use Rattle.layout.specs.declared.Kind.{Kind}
 use Rattle.layout.specs.declared.Kind.the-variants.{Reference, Number}
 use Rattle.layout.specs.Cells.{fieldOf, fieldCount, firstField}
-use Rattle.promises.specs.Words.{Words, Used, depthIn, depthsIn, headIn, refCount, fieldsIn, refsIn, numsIn, varsIn, graphOf, heapOf}
+use Rattle.layout.specs.Words.{Words, Used, depthIn, depthsIn, headIn, refCount, fieldsIn, refsIn, numsIn, varsIn, graphOf, heapOf}
 use Rattle.promises.specs.Whole.{WholeFor}
 use Rattle.promises.specs.StandsFor.{StandsFor}
 use Rattle.promises.specs.Reading.{words-closed, alive-used, used-home, getD-fields, getD-vars, length-fields, length-vars, length-depths, depth-at}

@@ -15,7 +15,7 @@ use Rattle.laws.specs.RulesLaws.{region-pos}
 use Rattle.laws.specs.SameRules.{renamed}
 use Rattle.layout.specs.Places.{sizesAt, cellsWords, rememberWords, tablesWords, depthOf, varOf}
 use Rattle.layout.specs.Cells.{headOf, fieldOf, workOf}
-use Rattle.promises.specs.Words.{Words, Used, depthIn, refCount, graphOf}
+use Rattle.layout.specs.Words.{Words, Used, depthIn, refCount, graphOf}
 use Rattle.promises.specs.Whole.{SizesWhole, WholeFor, CellFormed, IsRef}
 use Rattle.promises.specs.Reading.{words-closed, getD-vars}
 use Rattle.ended.specs.Evacuated.{Outside, Survivor, Evacuated}

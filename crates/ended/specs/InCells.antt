@@ -10,7 +10,7 @@ use Rattle.laws.specs.GraphLaws.{Alive}
 use Rattle.laws.specs.EndLaws.{was-alive, closed-ended}
 use Rattle.laws.specs.SameRules.{renamed}
 use Rattle.layout.specs.Cells.{pageOf, fieldOf}
-use Rattle.promises.specs.Words.{Words, Used, ownerIn, refCount, refsIn, graphOf}
+use Rattle.layout.specs.Words.{Words, Used, ownerIn, refCount, refsIn, graphOf}
 use Rattle.promises.specs.Whole.{WholeFor}
 use Rattle.promises.specs.Reading.{words-closed, alive-used, getD-refs, length-refs}
 use Rattle.ended.specs.Evacuated.{Outside, Survivor, SameObject, Stayed, Went}

@@ -14,7 +14,7 @@ use Rattle.laws.specs.GraphLaws.{Alive}
 use Rattle.laws.specs.EndLaws.{home-stayed, home-went, was-alive}
 use Rattle.laws.specs.SameRules.{renamed}
 use Rattle.layout.specs.Cells.{pageOf}
-use Rattle.promises.specs.Words.{Words, Used, ownerIn, homeIn, graphOf}
+use Rattle.layout.specs.Words.{Words, Used, ownerIn, homeIn, graphOf}
 use Rattle.promises.specs.Whole.{WholeFor, IsRef}
 use Rattle.promises.specs.Reading.{used-home, used-alive, alive-used, words-closed}
 use Rattle.ended.specs.Evacuated.{rewritten, Outside, Survivor}

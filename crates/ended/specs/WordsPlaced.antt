@@ -17,7 +17,7 @@ use Rattle.laws.specs.Placed as pl
 use Rattle.laws.specs.Placed.{Placed, control, level, ended-empty}
 use Rattle.laws.specs.Survivors.{held-around}
 use Rattle.layout.specs.Cells.{pageOf}
-use Rattle.promises.specs.Words.{Words, depthIn, depthsIn, ownerIn, homeIn, graphOf, heapOf}
+use Rattle.layout.specs.Words.{Words, depthIn, depthsIn, ownerIn, homeIn, graphOf, heapOf}
 use Rattle.promises.specs.Whole.{WholeFor, Open}
 use Rattle.promises.specs.Reading.{alive-used, used-home, used-owned, length-depths, depth-at}
 use Rattle.promises.specs.Agreed.{home-at, heap-stands, back, targets-agree}

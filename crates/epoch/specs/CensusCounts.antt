@@ -17,7 +17,7 @@ use Rattle.laws.specs.RegionLaws.{region-high}
 use Rattle.layout.specs.Places.{Room, countOf}
 use Rattle.layout.specs.Cells.{pageOf, workOf}
 use Rattle.layout.specs.Marks.{marked}
-use Rattle.promises.specs.Words.{Words, depthIn}
+use Rattle.layout.specs.Words.{Words, depthIn}
 use Rattle.promises.specs.Whole.{WholeFor}
 use Rattle.promises.specs.OwnedPages.{pagesOwned}
 use Rattle.pages.specs.Owned.{ownedOne, ownedIn}

@@ -16,7 +16,7 @@ use Rattle.rules.specs.Graph.{Graph, ended, crossing}
 use Rattle.laws.specs.GraphLaws.{Alive}
 use Rattle.laws.specs.Counts.{crossIn, crossAt, crossRef, crossing-sum}
 use Rattle.laws.specs.EndLaws.{was-alive}
-use Rattle.promises.specs.Words.{Words, Used, refCount, refsIn, graphOf}
+use Rattle.layout.specs.Words.{Words, Used, refCount, refsIn, graphOf}
 use Rattle.promises.specs.Whole.{WholeFor}
 use Rattle.promises.specs.Crossings.{cross-in-sum}
 use Rattle.promises.specs.Reading.{alive-used, words-closed, length-refs, getD-refs, refs-few}

@@ -20,7 +20,7 @@ use Rattle.laws.specs.RulesLaws.{region-pos}
 use Rattle.layout.specs.Places.{Room, depthAt, depthOf, ownerOf, markOf, usedIn, slotIn}
 use Rattle.layout.specs.Cells.{pageOf, placeOf, workOf}
 use Rattle.layout.specs.Marks.{marked}
-use Rattle.promises.specs.Words.{Words, words, InUse, depthIn, heapOf}
+use Rattle.layout.specs.Words.{Words, words, InUse, depthIn, heapOf}
 use Rattle.promises.specs.Whole.{WholeFor}
 use Rattle.promises.specs.Promises.{DidHere}
 use Rattle.promises.specs.OwnedPages.{pagesOwned, owner-low, region-pages, counted-objects}

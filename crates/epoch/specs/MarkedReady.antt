@@ -12,7 +12,7 @@ use Rattle.lists.specs.Counting.{sum-same}
 use Rattle.rules.specs.declared.Sizes.{Sizes}
 use Rattle.layout.specs.Places.{Room, markOf}
 use Rattle.layout.specs.Cells.{pageOf, placeOf}
-use Rattle.promises.specs.Words.{Words}
+use Rattle.layout.specs.Words.{Words}
 use Rattle.promises.specs.Whole.{WholeFor, objectsOn, objectsOf}
 use Rattle.promises.specs.Reading.{cells-room}
 use Rattle.pages.specs.Pages.{Partly}

@@ -8,7 +8,7 @@ use Rattle.rules.specs.declared.Sizes.{Sizes}
 use Rattle.rules.specs.Regions.{regionAt}
 use Rattle.laws.specs.RulesLaws.{region-pos}
 use Rattle.layout.specs.Places.{Room, usedIn}
-use Rattle.promises.specs.Words.{Words, depthIn}
+use Rattle.layout.specs.Words.{Words, depthIn}
 use Rattle.promises.specs.Whole.{WholeFor}
 use Rattle.promises.specs.OwnedPages.{pagesOwned}
 use Rattle.promises.specs.Reading.{remember-room}

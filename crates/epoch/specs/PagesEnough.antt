@@ -20,7 +20,7 @@ use Rattle.laws.specs.Counts.{landed}
 use Rattle.layout.specs.Places.{Room, markOf}
 use Rattle.layout.specs.Cells.{pageOf, placeOf, workOf}
 use Rattle.layout.specs.Marks.{marked}
-use Rattle.promises.specs.Words.{Words, Used, ownerIn, homeIn, depthIn, graphOf}
+use Rattle.layout.specs.Words.{Words, Used, ownerIn, homeIn, depthIn, graphOf}
 use Rattle.promises.specs.Whole.{WholeFor}
 use Rattle.promises.specs.OwnedPages.{pagesOwned, objects-on-pages}
 use Rattle.mark.specs.Survivors.{Marked}

@@ -19,7 +19,7 @@ use Rattle.laws.specs.EndLaws.{home-went, home-stayed}
 use Rattle.layout.specs.Places.{Room, ownerOf, usedIn}
 use Rattle.layout.specs.Cells.{pageOf, workOf, refsOf}
 use Rattle.layout.specs.Marks.{marked}
-use Rattle.promises.specs.Words.{Words, Used, InUse, depthIn, refCount, graphOf}
+use Rattle.layout.specs.Words.{Words, Used, InUse, depthIn, refCount, graphOf}
 use Rattle.promises.specs.Whole.{WholeFor}
 use Rattle.promises.specs.Reading.{used-home}
 use Rattle.mark.specs.Survivors.{Marked}

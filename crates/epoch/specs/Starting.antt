@@ -16,7 +16,7 @@ use Rattle.laws.specs.EndLaws.{home-went, closed-ended}
 use Rattle.layout.specs.Places.{Room, ownerOf, varOf, usedIn}
 use Rattle.layout.specs.Cells.{pageOf, workAt, workOf, fieldOf, refsOf}
 use Rattle.layout.specs.Marks.{marked}
-use Rattle.promises.specs.Words.{Words, Used, InUse, ownerIn, depthIn, refCount, graphOf}
+use Rattle.layout.specs.Words.{Words, Used, InUse, ownerIn, depthIn, refCount, graphOf}
 use Rattle.promises.specs.Whole.{WholeFor}
 use Rattle.promises.specs.Reading.{words-closed, getD-vars, refs-few}
 use Rattle.mark.specs.Survivors.{Marked}

@@ -3,7 +3,7 @@
 ghost use mathlib.Core.Path.{_≡_};
 ghost use Prim.Native.Nat.{_<_, _≤_};
 ghost use lib.ListN.{length};
-ghost use Rattle.promises.specs.Words.{Words, words};
+ghost use Rattle.layout.specs.Words.{Words, words};
 ghost use Rattle.promises.specs.Whole.{WholeFor};
 ghost use Rattle.promises.specs.Promises.{DidHere};
 ghost use Rattle.pages.specs.Pages.{noteWords};

@@ -15,7 +15,7 @@ use Rattle.rules.specs.declared.Sizes.{Sizes}
 use Rattle.layout.specs.Places.{Room, depthAt, varAt, ownerAt, usedAt, markAt, countAt, depthOf, varOf, ownerOf, usedOf, markOf, slotIn, countsFrom, varsFrom}
 use Rattle.layout.specs.Cells.{headOf, workOf, fieldOf, refsOf}
 use Rattle.layout.specs.Marks.{marked}
-use Rattle.promises.specs.Words.{InUse}
+use Rattle.layout.specs.Words.{InUse}
 use Rattle.promises.specs.Whole.{objectsOn}
 use Rattle.pages.specs.Pages.{Partly}
 use Rattle.copy.specs.Marks.{mark?, sameThen}

@@ -10,7 +10,7 @@ use Rattle.rules.specs.declared.Sizes.{Sizes}
 use Rattle.layout.specs.Places.{Room, depthAt, varAt, ownerAt, depthOf, varOf, ownerOf, usedOf, markOf, slotIn, slotRegionIn}
 use Rattle.layout.specs.Cells.{workOf, fieldOf, refsOf}
 use Rattle.layout.specs.Marks.{marked}
-use Rattle.promises.specs.Words.{InUse}
+use Rattle.layout.specs.Words.{InUse}
 use Rattle.copy.specs.Passing.{Ready, moves-ready, moves-tables}
 use Rattle.copy.specs.Copying.{Plan, Copy, no-survivors, copy-marks}
 use Rattle.copy.specs.Forward.{Forwards, forward, copy-forwards}

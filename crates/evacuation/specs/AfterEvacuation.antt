@@ -18,7 +18,7 @@ use Rattle.laws.specs.SameRules.{renamed}
 use Rattle.laws.specs.RegionLaws.{region-high, thread-at, level-at}
 use Rattle.layout.specs.Places.{Room, room, depthAt, varOf, ownerOf, usedOf, depthOf, usedIn, tablesWords, count-room}
 use Rattle.layout.specs.Cells.{fieldOf, pageOf}
-use Rattle.promises.specs.Words.{Words, Used, depthIn, ownerIn, graphOf}
+use Rattle.layout.specs.Words.{Words, Used, depthIn, ownerIn, graphOf}
 use Rattle.promises.specs.Whole.{WholeFor, Open}
 use Rattle.promises.specs.StandsFor.{SameFrom}
 use Rattle.promises.specs.Reading.{range, tables-room, used-home}

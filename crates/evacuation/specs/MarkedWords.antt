@@ -10,7 +10,7 @@ use Rattle.rules.specs.Graph.{target}
 use Rattle.layout.specs.Places.{Room, marksFrom, countsFrom, varAt, ownerAt, usedAt, countAt, depthAt, varOf, ownerOf, usedOf, countOf, depthOf}
 use Rattle.layout.specs.Cells.{headAt, fieldAt, headOf, fieldOf, pageOf}
 use Rattle.layout.specs.Marks.{marked}
-use Rattle.promises.specs.Words.{Words, InUse, Used, depthIn, ownerIn, graphOf}
+use Rattle.layout.specs.Words.{Words, InUse, Used, depthIn, ownerIn, graphOf}
 use Rattle.mark.specs.Survivors.{Marked}
 use Rattle.evacuate.specs.Stages.{Lives}
 use Rattle.ended.specs.Evacuated.{Outside, Survivor}

@@ -9,7 +9,7 @@ use lib.Seq.{getD-set-same, getD-set-other, drop-set-lt}
 use Rattle.rules.specs.declared.Sizes.{Sizes}
 use Rattle.rules.specs.declared.Command.{Command}
 use Rattle.rules.specs.declared.Answer.{Answer}
-use Rattle.promises.specs.Words.{Words, sizesIn}
+use Rattle.layout.specs.Words.{Words, sizesIn}
 use Rattle.lists.specs.Listed.{listed, listed-same}
 use Rattle.promises.specs.Whole.{WholeFor}
 use Rattle.promises.specs.StandsFor.{SameFrom}

@@ -10,7 +10,7 @@ use Rattle.rules.specs.declared.Sizes.{Sizes}
 use Rattle.rules.specs.Terms.{InRange}
 use Rattle.layout.specs.Places.{withSizes, rememberWords, tablesWords}
 use Rattle.lists.specs.Stores.{put, past}
-use Rattle.promises.specs.Words.{Words, words}
+use Rattle.layout.specs.Words.{Words, words}
 use Rattle.promises.specs.Promises.{LongEnough, PrepareAsked, outOfRange, short, accepted, Prepared}
 
 -- the words from a up to b became zero

@@ -8,7 +8,7 @@ use Rattle.rules.specs.declared.Sizes.{Sizes}
 use Rattle.rules.specs.declared.Command.{Command}
 use Rattle.rules.specs.declared.Answer.{Answer}
 use Rattle.layout.specs.Places.{sizesAt}
-use Rattle.promises.specs.Words.{Words, words}
+use Rattle.layout.specs.Words.{Words, words}
 use Rattle.promises.specs.Whole.{Whole, WholeFor}
 use Rattle.promises.specs.Promises.{DidHere, commandAt, size, RunAsked, Ran}
 use Rattle.promises.specs.Here.{did-anywhere}

@@ -3,7 +3,7 @@ ghost use mathlib.Core.Path.{_≡_};
 ghost use mathlib.Core.List.{List};
 ghost use Prim.Native.Nat.{ℕ, _≤_};
 ghost use lib.ListN.{length};
-ghost use Rattle.promises.specs.Words.{words};
+ghost use Rattle.layout.specs.Words.{words};
 ghost use Rattle.promises.specs.Promises.{PrepareAsked, Prepared};
 ghost use Rattle.heap.specs.Prepare.{Cleared, sizes};
 use rules::Sizes;

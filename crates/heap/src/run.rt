@@ -2,7 +2,7 @@
 ghost use mathlib.Core.Path.{_≡_};
 ghost use Prim.Native.Nat.{_+_, _*_, _<_, _≤_};
 ghost use lib.ListN.{length};
-ghost use Rattle.promises.specs.Words.{words};
+ghost use Rattle.layout.specs.Words.{words};
 ghost use Rattle.promises.specs.Promises.{DidHere, Ran, RunAsked, commandAt};
 ghost use Rattle.pages.specs.Pages.{noteWords};
 ghost use Rattle.commands.specs.Ready.{Ready};

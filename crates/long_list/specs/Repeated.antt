@@ -11,7 +11,7 @@ use borrow.Author.Tests.{eq-eqb, ne-eqb}
 use Rattle.lists.specs.Counting.{bit, bit-le-one, sum, sum-high}
 use Rattle.lists.specs.Stores.{put, past}
 use Rattle.rules.specs.declared.Answer.{Answer}
-use Rattle.promises.specs.Words.{Words}
+use Rattle.layout.specs.Words.{Words}
 use Rattle.promises.specs.Promises.{Ran, answerAt}
 
 -- the block l became k, whose first i words repeat the commands

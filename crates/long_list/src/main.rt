@@ -4,7 +4,7 @@
 ghost use Prim.Native.Nat.{_+_, _*_, _<_, _≤_};
 ghost use mathlib.Core.Path.{_≡_};
 ghost use lib.ListN.{length};
-ghost use Rattle.promises.specs.Words.{words};
+ghost use Rattle.layout.specs.Words.{words};
 ghost use Rattle.long_list.specs.Repeated.{Filled, isAnswer, answersOf, Repeated, Obeyed};
 use rules::Answer;
 

@@ -12,7 +12,7 @@ use Rattle.lists.specs.Says.{Says}
 use Rattle.rules.specs.declared.Sizes.{Sizes}
 use Rattle.layout.specs.Cells.{workAt, workOf, fieldOf, pageOf, refsOf}
 use Rattle.layout.specs.Marks.{marked}
-use Rattle.promises.specs.Words.{InUse}
+use Rattle.layout.specs.Words.{InUse}
 use Rattle.promises.specs.Whole.{IsRef}
 use Rattle.mark.specs.Marks.{owner, Shaped, Reach, Reach.held, Reach.via, Chain, named, named-in, named-from, Kept, kept-refs, kept-field, kept-owner, kept-shaped, AnyMarked}
 use Rattle.mark.specs.Marking.{Marking, marking-start, popped-top}

@@ -14,7 +14,7 @@ use Rattle.rules.specs.Regions.{join}
 use Rattle.rules.specs.declared.Sizes.{Sizes}
 use Rattle.layout.specs.Places.{Room, varOf, ownerOf, usedIn, slotIn, slotRegionIn, varsFrom}
 use Rattle.layout.specs.Cells.{pageOf, cellOf, wordOf}
-use Rattle.promises.specs.Words.{InUse}
+use Rattle.layout.specs.Words.{InUse}
 use Rattle.promises.specs.Whole.{IsRef}
 use Rattle.mark.specs.Marks.{Kept, kept-in-use, kept-owner, named, named-from, named-same}
 

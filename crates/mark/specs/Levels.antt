@@ -9,7 +9,7 @@ use Rattle.lists.specs.Members.{In, in?}
 use Rattle.rules.specs.declared.Sizes.{Sizes}
 use Rattle.layout.specs.Cells.{workOf, fieldOf, pageOf, refsOf}
 use Rattle.layout.specs.Marks.{marked}
-use Rattle.promises.specs.Words.{InUse}
+use Rattle.layout.specs.Words.{InUse}
 use Rattle.mark.specs.Marks.{owner, Shaped, Kept, kept-refl, kept-trans, kept-refs, kept-field, kept-owner, Reach, Reach.held, Reach.via, Leads, Leads.here, Leads.step}
 use Rattle.mark.specs.Draining.{Drained}
 

@@ -11,7 +11,7 @@ use Rattle.rules.specs.declared.Sizes.{Sizes}
 use Rattle.layout.specs.Places.{Room, markAt, markOf}
 use Rattle.layout.specs.Cells.{workAt, workOf, pageOf, placeOf}
 use Rattle.layout.specs.Marks.{marked}
-use Rattle.promises.specs.Words.{InUse}
+use Rattle.layout.specs.Words.{InUse}
 use Rattle.promises.specs.Whole.{IsRef}
 use Rattle.mark.specs.Marks.{owner, Shaped, Reach, Chain, Linked, Pushed, Kept, kept-refl, kept-trans, kept-owner, kept-in-use, in-use-kept, kept-shaped, mark-same, mark-other, mark-other-cell}
 

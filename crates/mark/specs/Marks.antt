@@ -13,7 +13,7 @@ use Rattle.rules.specs.declared.Sizes.{Sizes}
 use Rattle.layout.specs.Places.{Room, ownerOf, usedOf, markAt, markOf, marksFrom, ownersFrom, usedFrom}
 use Rattle.layout.specs.Cells.{workAt, workOf, fieldOf, refsOf, pageOf, placeOf, cellOn}
 use Rattle.layout.specs.Marks.{marked}
-use Rattle.promises.specs.Words.{InUse}
+use Rattle.layout.specs.Words.{InUse}
 use Rattle.promises.specs.Whole.{IsRef}
 
 -- the region that owns the page of a cell

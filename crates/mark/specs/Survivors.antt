@@ -19,7 +19,7 @@ use Rattle.laws.specs.GraphLaws.{Reaches, target-absorbs, target-reached, targe
 use Rattle.layout.specs.Places.{depthOf, markAt, markOf, Room, room, marksFrom}
 use Rattle.layout.specs.Cells.{workAt, workOf, pageOf, placeOf}
 use Rattle.layout.specs.Marks.{marked}
-use Rattle.promises.specs.Words.{Words, words, Used, ownerIn, depthIn, graphOf}
+use Rattle.layout.specs.Words.{Words, words, Used, ownerIn, depthIn, graphOf}
 use Rattle.promises.specs.Whole.{WholeFor}
 use Rattle.promises.specs.Reading.{range, tables-room}
 use Rattle.mark.specs.Marks.{Shaped, Kept, AnyMarked, none-marked}

@@ -1,6 +1,6 @@
 // The stack of objects to look at, threaded through word 1 of the pending cells.
 ghost use Rattle.layout.specs.Cells.{fieldOf, refsOf};
-ghost use Rattle.promises.specs.Words.{InUse};
+ghost use Rattle.layout.specs.Words.{InUse};
 ghost use Rattle.promises.specs.Whole.{IsRef};
 ghost use Rattle.mark.specs.Marks.{Shaped, Pushed};
 ghost use Rattle.mark.specs.Pushes.{Pushing};

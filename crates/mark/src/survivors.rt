@@ -4,7 +4,7 @@ ghost use Prim.Native.Nat.{_<_, _≤_};
 ghost use Rattle.lists.specs.Says.{Says};
 ghost use Rattle.rules.specs.Regions.{regionAt};
 ghost use Rattle.layout.specs.Places.{depthOf};
-ghost use Rattle.promises.specs.Words.{words};
+ghost use Rattle.layout.specs.Words.{words};
 ghost use Rattle.promises.specs.Whole.{WholeFor};
 ghost use Rattle.mark.specs.Marks.{AnyMarked};
 ghost use Rattle.mark.specs.Survivors.{Marked};

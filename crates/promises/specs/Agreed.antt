@@ -13,7 +13,7 @@ use Rattle.laws.specs.GraphLaws.{Alive, Closed}
 use Rattle.laws.specs.Counts.{same-free}
 use Rattle.laws.specs.SameRules.{renamed, same-target, same-objects, same-crossing}
 use Rattle.rules.specs.Rules.{Regioned, graph}
-use Rattle.promises.specs.Words.{Words, Used, cellCount, sizesIn, homeIn, varsIn, objectIn, graphOf, heapOf}
+use Rattle.layout.specs.Words.{Words, Used, cellCount, sizesIn, homeIn, varsIn, objectIn, graphOf, heapOf}
 use Rattle.promises.specs.Whole.{WholeAt, WholeFor, WholeWords}
 use Rattle.promises.specs.StandsFor.{StandsFor}
 use Rattle.lists.specs.Listed.{listed, length-listed, getD-listed, listed-past}

@@ -8,7 +8,7 @@ use Rattle.rules.specs.declared.Sizes.{Sizes}
 use Rattle.rules.specs.declared.Command.{Command}
 use Rattle.rules.specs.declared.Answer.{Answer}
 use Rattle.rules.specs.Rules.{Regioned, run, step}
-use Rattle.promises.specs.Words.{Words, heapOf}
+use Rattle.layout.specs.Words.{Words, heapOf}
 use Rattle.promises.specs.Whole.{WholeFor, WholeWords}
 use Rattle.promises.specs.StandsFor.{StandsFor}
 use Rattle.promises.specs.Promises.{Did, Chain, none, more, RunAsked, notWhole, uneven, short, accepted}

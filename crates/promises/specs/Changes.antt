@@ -8,7 +8,7 @@ use Rattle.rules.specs.Rules.{Regioned}
 use Rattle.laws.specs.SameRules.{renamed}
 use Rattle.layout.specs.declared.Kind.{Kind}
 use Rattle.layout.specs.declared.Kind.the-variants.{Reference, Number}
-use Rattle.promises.specs.Words.{Words}
+use Rattle.layout.specs.Words.{Words}
 
 abbrev pub withTables : Words → List ℕ → Words
 withTables w t = record { cells = w .cells; remember = w .remember; tables = t }

@@ -16,7 +16,7 @@ use Rattle.rules.specs.Rules.{Regioned, graph}
 use Rattle.laws.specs.Counts.{crossIn, crossAt, crossing-sum, crossRef, cross-cons}
 use Rattle.layout.specs.Places as lp
 use Rattle.layout.specs.Cells.{fieldAt, pageOf, placeOf, cellOf, wordOf}
-use Rattle.promises.specs.Words.{Words, Used, ownerIn, usedIn, refCount, refsIn, homeIn, graphOf}
+use Rattle.layout.specs.Words.{Words, Used, ownerIn, usedIn, refCount, refsIn, homeIn, graphOf}
 use Rattle.promises.specs.Crossing as cr
 use Rattle.promises.specs.Crossing.{other, regionOf, crossTo}
 use Rattle.promises.specs.Whole.{WholeFor, IsRef}

@@ -20,7 +20,7 @@ use Rattle.layout.specs.Places.{tablesWords, ownersFrom, depthAt, varAt, varOf,
 use Rattle.layout.specs.declared.Kind.{Kind}
 use Rattle.layout.specs.declared.Kind.the-variants.{Reference, Number}
 use Rattle.layout.specs.Cells.{fieldOf, fieldAt, fieldCount, firstField, pageOf, placeOf, cellOn, cellOf, wordOf}
-use Rattle.promises.specs.Words.{Words, Used, sizesIn, depthIn, ownerIn, usedIn, headIn, refCount, numCount, fieldsIn, homeIn}
+use Rattle.layout.specs.Words.{Words, Used, sizesIn, depthIn, ownerIn, usedIn, headIn, refCount, numCount, fieldsIn, homeIn}
 use Rattle.promises.specs.Crossing.{other, regionOf, crossTo}
 use Rattle.promises.specs.Whole.{WholeFor, objectsOf}
 use Rattle.promises.specs.StandsFor.{StandsFor}

@@ -18,7 +18,7 @@ use Rattle.layout.specs.Places.{cellsWords}
 use Rattle.layout.specs.declared.Kind.{Kind}
 use Rattle.layout.specs.declared.Kind.the-variants.{Reference, Number}
 use Rattle.layout.specs.Cells.{headAt, headOf, workAt, workOf, fieldAt, fieldOf, fieldCount, firstField, kind-among}
-use Rattle.promises.specs.Words.{Words, InUse, Used, headIn, refCount, numCount, fieldsAt, fieldsIn}
+use Rattle.layout.specs.Words.{Words, InUse, Used, headIn, refCount, numCount, fieldsAt, fieldsIn}
 use Rattle.promises.specs.Whole.{WholeAt, WholeFor, IsRef, RememberWhole}
 use Rattle.promises.specs.StandsFor.{StandsFor, SameFrom}
 use Rattle.promises.specs.Agreed.{cell-used}

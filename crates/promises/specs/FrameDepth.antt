@@ -11,7 +11,7 @@ use Rattle.rules.specs.declared.Sizes.{Sizes}
 use Rattle.rules.specs.Rules.{Regioned}
 use Rattle.laws.specs.RulesLaws.{Sound}
 use Rattle.layout.specs.Places.{depthAt, depthOf, varAt, varOf, ownersFrom, tablesWords, count-room, count-is}
-use Rattle.promises.specs.Words.{Words, depthsAt, varsAt, depthIn, depthsIn, varsIn, ownerIn}
+use Rattle.layout.specs.Words.{Words, depthsAt, varsAt, depthIn, depthsIn, varsIn, ownerIn}
 use Rattle.promises.specs.Whole.{WholeFor, Open, IsRef}
 use Rattle.promises.specs.StandsFor.{StandsFor, SameBeyond}
 use Rattle.promises.specs.Reading.{tables-room, vars-room}

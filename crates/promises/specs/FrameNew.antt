@@ -24,7 +24,7 @@ use Rattle.layout.specs.Places.{varAt}
 use Rattle.layout.specs.declared.Kind.{Kind}
 use Rattle.layout.specs.declared.Kind.the-variants.{Reference, Number}
 use Rattle.layout.specs.Cells.{headOf, fieldCount, firstField, headWord, kind-low}
-use Rattle.promises.specs.Words.{Words, Used, fieldsAt, homeIn, graphOf}
+use Rattle.layout.specs.Words.{Words, Used, fieldsAt, homeIn, graphOf}
 use Rattle.promises.specs.Whole.{WholeFor, Open}
 use Rattle.promises.specs.StandsFor.{StandsFor}
 use Rattle.promises.specs.Reading.{alive-used, used-alive, used-home, length-fields, getD-fields}

@@ -13,7 +13,7 @@ use Rattle.laws.specs.GraphLaws.{Alive}
 use Rattle.laws.specs.RulesLaws.{Sound}
 use Rattle.layout.specs.declared.Kind.the-variants.{Reference, Number}
 use Rattle.layout.specs.Cells.{headOf, fieldAt, cellOf, wordOf}
-use Rattle.promises.specs.Words.{Words, InUse, Used, refCount, numCount}
+use Rattle.layout.specs.Words.{Words, InUse, Used, refCount, numCount}
 use Rattle.promises.specs.Crossing.{crossTo}
 use Rattle.promises.specs.Whole.{WholeAt, WholeFor}
 use Rattle.promises.specs.StandsFor.{StandsFor, SameBeyond}

@@ -24,7 +24,7 @@ use Rattle.layout.specs.declared.Kind.the-variants.{Reference, Number}
 use Rattle.layout.specs.Places as lp
 use Rattle.layout.specs.Places.{cellsWords, rememberWords}
 use Rattle.layout.specs.Cells.{fieldAt, fieldOf, cellOf}
-use Rattle.promises.specs.Words.{Words, Used, refCount}
+use Rattle.layout.specs.Words.{Words, Used, refCount}
 use Rattle.promises.specs.Crossing.{crossTo}
 use Rattle.promises.specs.Whole.{WholeFor, IsRef}
 use Rattle.promises.specs.StandsFor.{StandsFor, SameBeyond}

@@ -13,7 +13,7 @@ use Rattle.laws.specs.GraphLaws.{Alive}
 use Rattle.laws.specs.RulesLaws.{Sound}
 use Rattle.laws.specs.SameRules.{renamed}
 use Rattle.layout.specs.Places.{depthAt, varAt, varOf, ownersFrom, tablesWords, count-room, count-is}
-use Rattle.promises.specs.Words.{Words, Used, depthsAt, varsAt, depthsIn, varsIn}
+use Rattle.layout.specs.Words.{Words, Used, depthsAt, varsAt, depthsIn, varsIn}
 use Rattle.promises.specs.Whole.{WholeFor, IsRef}
 use Rattle.promises.specs.StandsFor.{StandsFor, SameBeyond}
 use Rattle.promises.specs.Reading.{tables-room, vars-room, length-vars, alive-used}

@@ -11,7 +11,7 @@ use Rattle.laws.specs.GraphLaws.{Alive}
 use Rattle.laws.specs.SameRules.{renamed}
 use Rattle.rules.specs.Rules as ru
 use Rattle.rules.specs.Rules.{Regioned, graph}
-use Rattle.promises.specs.Words.{Words, heapOf, depthIn, varIn}
+use Rattle.layout.specs.Words.{Words, heapOf, depthIn, varIn}
 use Rattle.promises.specs.StandsFor.{StandsFor}
 use Rattle.promises.specs.Promises.{Became, DidHere, Did}
 use Rattle.promises.specs.Reading.{var-at, depth-at}

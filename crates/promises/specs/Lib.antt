@@ -1,7 +1,6 @@
 -- What lent words stand for, and what a command, a run and prepare promise of them.
 
 -- definitions: what must be read
-pub mod Words
 pub mod Crossing
 pub mod Whole
 pub mod StandsFor

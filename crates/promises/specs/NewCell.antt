@@ -12,7 +12,7 @@ use Rattle.rules.specs.Regions.{regions}
 use Rattle.layout.specs.Places.{sizesAt, cellsWords, rememberWords, tablesWords, depthAt, varAt, ownerAt, usedAt, countAt, count-room, count-is, used-is}
 use Rattle.layout.specs.declared.Kind.{Kind}
 use Rattle.layout.specs.Cells.{headAt, headOf, workAt, workOf, fieldAt, fieldOf, fieldCount, firstField, kind-among, pageOf, cellOf, wordOf}
-use Rattle.promises.specs.Words.{Words, Used, depthsAt, varsAt, fieldsAt}
+use Rattle.layout.specs.Words.{Words, Used, depthsAt, varsAt, fieldsAt}
 use Rattle.promises.specs.Crossing.{other, regionOf, crossTo}
 use Rattle.promises.specs.Whole.{WholeFor, Open, IsRef, CellFormed}
 use Rattle.promises.specs.StandsFor.{SameBeyond}

@@ -20,7 +20,7 @@ use Rattle.laws.specs.RegionLaws.{thread-at, level-at, region-high}
 use Rattle.laws.specs.Counts.{new-pages}
 use Rattle.laws.specs.AfterLaws.{graph-new}
 use Rattle.layout.specs.Places.{depthOf, countOf}
-use Rattle.promises.specs.Words.{Words, depthIn, ownerIn, usedIn}
+use Rattle.layout.specs.Words.{Words, depthIn, ownerIn, usedIn}
 use Rattle.promises.specs.Whole.{WholeFor, Open, Partial}
 use Rattle.promises.specs.StandsFor.{StandsFor}
 use Rattle.promises.specs.Agreed.{objects-agree}

@@ -16,7 +16,7 @@ use Rattle.rules.specs.Graph.{pagesOf, objectsIn, freePages}
 use Rattle.rules.specs.Rules.{Regioned, graph}
 use Rattle.layout.specs.Places.{ownerOf, usedOf, countOf}
 use Rattle.layout.specs.Cells.{cellOn}
-use Rattle.promises.specs.Words.{Words, ownerIn, usedIn, homeIn, graphOf, homeAt, inUseAt}
+use Rattle.layout.specs.Words.{Words, ownerIn, usedIn, homeIn, graphOf, homeAt, inUseAt}
 use Rattle.promises.specs.Whole.{WholeFor, Partial, objectsOn, objectsOf}
 use Rattle.promises.specs.StandsFor.{StandsFor}
 use Rattle.promises.specs.Reading.{range}

@@ -22,7 +22,7 @@ use Rattle.rules.specs.Rules.{unused}
 use Rattle.laws.specs.RulesLaws.{sound-unused}
 use Rattle.laws.specs.GraphLaws.{Alive}
 use Rattle.laws.specs.SameRules.{renamed-zeros}
-use Rattle.promises.specs.Words.{Words, InUse, sizesIn, depthsIn, varsIn, graphOf, ownerIn, usedIn, depthsAt, varsAt}
+use Rattle.layout.specs.Words.{Words, InUse, sizesIn, depthsIn, varsIn, graphOf, ownerIn, usedIn, depthsAt, varsAt}
 use Rattle.promises.specs.StandsFor.{StandsFor}
 use Rattle.promises.specs.Reading.{alive-used}
 use Rattle.promises.specs.Promises.{LongEnough, PrepareAsked, outOfRange, short, accepted, Unused, Prepared}

@@ -14,7 +14,7 @@ use Rattle.laws.specs.GraphLaws.{Alive}
 use Rattle.rules.specs.Rules as ru
 use Rattle.rules.specs.Rules.{Regioned, graph}
 use Rattle.layout.specs.Places.{cellsWords, rememberWords, tablesWords}
-use Rattle.promises.specs.Words.{Words, sizesIn, depthIn, ownerIn, heapOf}
+use Rattle.layout.specs.Words.{Words, sizesIn, depthIn, ownerIn, heapOf}
 use Rattle.promises.specs.Whole.{WholeWords}
 use Rattle.promises.specs.StandsFor.{StandsFor, SameFrom, SameBeyond}
 

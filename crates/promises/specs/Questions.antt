@@ -24,7 +24,7 @@ use Rattle.rules.specs.Rules.{Regioned, graph, asksEntries, first}
 use Rattle.layout.specs.declared.Kind.{Kind}
 use Rattle.layout.specs.declared.Kind.the-variants.{Reference, Number}
 use Rattle.layout.specs.Cells.{headOf, fieldCount, kindAt}
-use Rattle.promises.specs.Words.{Words, Used, heapOf, varIn, headIn, fieldsIn, objectIn, ownerIn}
+use Rattle.layout.specs.Words.{Words, Used, heapOf, varIn, headIn, fieldsIn, objectIn, ownerIn}
 use Rattle.promises.specs.Whole.{WholeFor, IsRef}
 use Rattle.promises.specs.StandsFor.{StandsFor, SameBeyond}
 use Rattle.promises.specs.Promises.{Became, DidHere, Frees, Freed}

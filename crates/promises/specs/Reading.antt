@@ -17,7 +17,7 @@ use Rattle.layout.specs.declared.Kind.{Kind}
 use Rattle.layout.specs.declared.Kind.the-variants.{Reference}
 use Rattle.layout.specs.Places.{depthAt, varAt, varOf, tablesWords, rememberWords, cellsWords, count-room, count-is, ownersFrom}
 use Rattle.layout.specs.Cells.{fieldAt, fieldOf, fieldCount, firstField, kindAt, kind-among, pageOf}
-use Rattle.promises.specs.Words.{Words, depthIn, varIn, ownerIn, depthsIn, varsIn, headIn, refCount, fieldsIn, refsIn, homeIn, graphOf, depthsAt, homeAt, inUseAt, fieldsAt, varsAt, Used, InUse}
+use Rattle.layout.specs.Words.{Words, depthIn, varIn, ownerIn, depthsIn, varsIn, headIn, refCount, fieldsIn, refsIn, homeIn, graphOf, depthsAt, homeAt, inUseAt, fieldsAt, varsAt, Used, InUse}
 use Rattle.promises.specs.Whole.{WholeFor}
 
 pub getD-fields : (d : Kind) (w : Words) (c i : ℕ) → i < fieldCount d (headIn w c) → getD (fieldsIn d w c) i 0 ≡ getD (w .cells) (kindAt d (w .cells) c i) 0

@@ -13,7 +13,7 @@ use Rattle.lists.specs.Stores.{put, past}
 use Rattle.rules.specs.declared.Sizes.{Sizes}
 use Rattle.layout.specs.Places.{ownerOf, usedOf}
 use Rattle.layout.specs.Cells.{headAt, headOf, fieldAt, pageOf, placeOf, cellOf, wordOf}
-use Rattle.promises.specs.Words.{InUse}
+use Rattle.layout.specs.Words.{InUse}
 use Rattle.promises.specs.Crossing.{other, regionOf, crossTo}
 use Rattle.promises.specs.Whole.{RememberWhole}
 use Rattle.promises.specs.Entries.{Exact, Elsewhere}

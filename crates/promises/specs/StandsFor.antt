@@ -10,7 +10,7 @@ use Rattle.rules.specs.Rules.{Regioned, graph}
 use Rattle.laws.specs.RulesLaws.{Sound}
 use Rattle.laws.specs.SameRules.{Partners}
 use Rattle.layout.specs.Places.{cellsWords, rememberWords, tablesWords}
-use Rattle.promises.specs.Words.{Words, depthsIn, numsIn, graphOf}
+use Rattle.layout.specs.Words.{Words, depthsIn, numsIn, graphOf}
 use Rattle.promises.specs.Whole.{WholeFor}
 
 -- cellOf leads each object that is there to its cell: one to one, onto the cells in use, on a page of its home, with its references,

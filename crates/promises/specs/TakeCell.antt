@@ -15,7 +15,7 @@ use Rattle.rules.specs.declared.Sizes.{Sizes}
 use Rattle.rules.specs.Regions.{threadOf}
 use Rattle.layout.specs.Places.{ownersFrom, depthAt, depthOf, ownerAt, ownerOf, usedAt, usedOf, markAt, markOf, countAt, countOf, used-is, mark-is, count-is}
 use Rattle.layout.specs.Cells.{pageOf, placeOf, cellOn}
-use Rattle.promises.specs.Words.{InUse}
+use Rattle.layout.specs.Words.{InUse}
 use Rattle.promises.specs.Reading.{owners-is}
 use Rattle.promises.specs.Whole.{Open, PageWhole, Partial, objectsOn, objectsOf, IsRef, WholeAt}
 

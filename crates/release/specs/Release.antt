@@ -10,7 +10,7 @@ use lib.Seq.{getD-set-same, getD-set-other}
 use Rattle.rules.specs.declared.Sizes.{Sizes}
 use Rattle.lists.specs.Counting.{sum-same, sum-none}
 use Rattle.layout.specs.Places.{Room, depthAt, ownerAt, usedAt, markAt, countAt, depthOf, ownerOf, usedOf, markOf, countOf, countsFrom, ownersFrom}
-use Rattle.promises.specs.Words.{InUse}
+use Rattle.layout.specs.Words.{InUse}
 use Rattle.promises.specs.Whole.{objectsOn, objectsOf}
 use Rattle.pages.specs.Pages.{Partly}
 use Rattle.copy.specs.Marks.{sameThen, then-no}

@@ -11,7 +11,7 @@ use Rattle.rules.specs.Graph.{crossing, freePages}
 use Rattle.rules.specs.Rules.{graph}
 use Rattle.rules.specs.declared.Sizes.{Sizes}
 use Rattle.layout.specs.Places.{sizesAt, usedIn}
-use Rattle.promises.specs.Words.{Words, sizesIn, heapOf}
+use Rattle.layout.specs.Words.{Words, sizesIn, heapOf}
 use Rattle.promises.specs.Whole.{WholeWords}
 use Rattle.promises.specs.Agreed.{heapOf-stands}
 use Rattle.promises.specs.Crossings.{heap-entries}

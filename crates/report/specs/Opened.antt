@@ -14,7 +14,7 @@ use Rattle.lists.specs.Products.{flat-low, flat-row, flat-place}
 use Rattle.rules.specs.declared.Sizes.{Sizes}
 use Rattle.rules.specs.Regions.{threadOf, levelOf, regionAt, regions}
 use Rattle.layout.specs.Places.{depthOf}
-use Rattle.promises.specs.Words.{words, depthsAt}
+use Rattle.layout.specs.Words.{words, depthsAt}
 use Rattle.promises.specs.Whole.{Open}
 use Rattle.promises.specs.Reading.{depth-at}
 use Rattle.report.specs.Report.{isOpen, openRegions, noRow}

@@ -12,7 +12,7 @@ use Rattle.rules.specs.declared.Sizes.{Sizes}
 use Rattle.rules.specs.Regions.{threadOf, levelOf, regions}
 use Rattle.rules.specs.Graph.{crossing, pagesOf, objectsIn, freePages}
 use Rattle.rules.specs.Rules.{Regioned, graph}
-use Rattle.promises.specs.Words.{Words, sizesIn, depthsIn, heapOf}
+use Rattle.layout.specs.Words.{Words, sizesIn, depthsIn, heapOf}
 use Rattle.promises.specs.Whole.{WholeWords}
 use Rattle.report.specs.declared.Row.{Row}
 use Rattle.report.specs.declared.Reported.{Reported}

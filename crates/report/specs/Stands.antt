@@ -11,7 +11,7 @@ use Rattle.rules.specs.Graph.{objectsIn, freePages}
 use Rattle.rules.specs.Rules.{Regioned, graph}
 use Rattle.rules.specs.declared.Sizes.{Sizes}
 use Rattle.layout.specs.Places.{depthOf, countOf}
-use Rattle.promises.specs.Words.{words, depthsAt}
+use Rattle.layout.specs.Words.{words, depthsAt}
 use Rattle.promises.specs.StandsFor.{StandsFor}
 use Rattle.promises.specs.Reading.{range, depth-at}
 use Rattle.promises.specs.Agreed.{objects-agree}

@@ -8,7 +8,7 @@ use borrow.Author.Tests.{eq-eqb, ne-eqb}
 use Rattle.rules.specs.declared.Sizes.{Sizes}
 use Rattle.rules.specs.Regions.{threadOf, levelOf}
 use Rattle.layout.specs.Places.{Room, room, sizesAt, countOf}
-use Rattle.promises.specs.Words.{words, depthsAt}
+use Rattle.layout.specs.Words.{words, depthsAt}
 use Rattle.promises.specs.Whole.{WholeFor, Whole}
 use Rattle.promises.specs.Agreed.{whole-for}
 use Rattle.promises.specs.Reading.{range, tables-room}

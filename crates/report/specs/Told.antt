@@ -6,7 +6,7 @@ use mathlib.Core.List.{List, _++_}
 use lib.ListN.{length, drop}
 use Rattle.rules.specs.Graph.{crossing, freePages}
 use Rattle.rules.specs.Rules.{Regioned, graph}
-use Rattle.promises.specs.Words.{Words, sizesIn, heapOf}
+use Rattle.layout.specs.Words.{Words, sizesIn, heapOf}
 use Rattle.promises.specs.StandsFor.{StandsFor}
 use Rattle.promises.specs.Agreed.{heap-stands}
 use Rattle.promises.specs.Crossings.{heap-entries}

@@ -3,7 +3,7 @@ ghost use mathlib.Core.Path.{_≡_};
 ghost use Prim.Native.Nat.{_<_, _≤_};
 ghost use lib.ListN.{length};
 ghost use Rattle.layout.specs.Places.{sizesAt};
-ghost use Rattle.promises.specs.Words.{words, depthsAt};
+ghost use Rattle.layout.specs.Words.{words, depthsAt};
 ghost use Rattle.report.specs.Report.{refusing, Told};
 ghost use Rattle.report.specs.Opened.{Next};
 ghost use Rattle.report.specs.Tables.{WholeTables, rowIn, rowsIn};

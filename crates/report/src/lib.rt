@@ -4,7 +4,7 @@ ghost use mathlib.Core.Path.{_≡_};
 ghost use Prim.Native.Nat.{_+_, _*_, _<_, _≤_};
 ghost use lib.ListN.{length, getD};
 ghost use Rattle.layout.specs.Places.{usedIn};
-ghost use Rattle.promises.specs.Words.{depthsAt};
+ghost use Rattle.layout.specs.Words.{depthsAt};
 ghost use Rattle.report.specs.Report.{rowOf, noRow};
 ghost use Rattle.report.specs.Opened.{Next, Turn};
 ghost use Rattle.report.specs.Tables.{WholeTables, rowIn, rowsIn, freeIn};

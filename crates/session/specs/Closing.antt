@@ -13,7 +13,7 @@ use Rattle.rules.specs.Terms.{InRange}
 use Rattle.rules.specs.Graph.{crossing, freePages}
 use Rattle.rules.specs.Rules.{Regioned, graph}
 use Rattle.layout.specs.Places.{sizesAt, usedIn}
-use Rattle.promises.specs.Words.{Words, words}
+use Rattle.layout.specs.Words.{Words, words}
 use Rattle.promises.specs.Whole.{WholeFor}
 use Rattle.promises.specs.StandsFor.{StandsFor}
 use Rattle.promises.specs.Crossings.{heap-entries}

@@ -14,7 +14,7 @@ use Rattle.rules.specs.declared.Sizes.{Sizes}
 use Rattle.rules.specs.Terms.{InRange}
 use Rattle.rules.specs.Rules.{Regioned, unused}
 use Rattle.layout.specs.Places.{tablesWords}
-use Rattle.promises.specs.Words.{Words}
+use Rattle.layout.specs.Words.{Words}
 use Rattle.promises.specs.StandsFor.{StandsFor}
 use Rattle.promises.specs.Promises as pr
 use Rattle.promises.specs.Promises.{LongEnough, PrepareAsked, outOfRange, short, Unused, Prepared}

@@ -9,7 +9,7 @@ use Rattle.rules.specs.declared.Command.{Command}
 use Rattle.rules.specs.declared.Answer.{Answer}
 use Rattle.rules.specs.Rules as ru
 use Rattle.rules.specs.Rules.{Regioned}
-use Rattle.promises.specs.Words.{Words}
+use Rattle.layout.specs.Words.{Words}
 use Rattle.promises.specs.StandsFor.{StandsFor}
 use Rattle.promises.specs.Promises.{Did, Unused, commandsIn}
 use Rattle.script.specs.declared.Line.{Line}

@@ -6,7 +6,7 @@ ghost use mathlib.Core.List.{List};
 ghost use lib.ListN.{length};
 ghost use Rattle.rules.specs.declared.Sizes.{Sizes};
 ghost use Rattle.rules.specs.Rules.{Regioned};
-ghost use Rattle.promises.specs.Words.{words};
+ghost use Rattle.layout.specs.Words.{words};
 ghost use Rattle.promises.specs.StandsFor.{StandsFor};
 ghost use Rattle.report.specs.Tables.{WholeTables, rowsIn};
 ghost use Rattle.script.specs.Reading.{fresh};

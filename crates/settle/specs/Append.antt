@@ -12,7 +12,7 @@ use lib.ListN.{length, getD}
 use Rattle.rules.specs.declared.Sizes.{Sizes}
 use Rattle.layout.specs.Places.{ownerOf, slotIn}
 use Rattle.layout.specs.Cells.{refsOf}
-use Rattle.promises.specs.Words.{InUse}
+use Rattle.layout.specs.Words.{InUse}
 use Rattle.settle.specs.Entries.{crossOf, Added, slot-below}
 
 -- the region into which the word at x crosses, if it is a slot

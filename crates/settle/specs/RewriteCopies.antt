@@ -11,7 +11,7 @@ use Rattle.lists.specs.SetBits.{upper-bit}
 use Rattle.rules.specs.declared.Sizes.{Sizes}
 use Rattle.layout.specs.Places.{Room, ownerOf, markOf}
 use Rattle.layout.specs.Cells.{workOf, refsOf}
-use Rattle.promises.specs.Words.{InUse}
+use Rattle.layout.specs.Words.{InUse}
 use Rattle.copy.specs.Marks.{copied}
 use Rattle.settle.specs.Rewrite.{Names, Rewritten, link-same, refs-same}
 use Rattle.settle.specs.RewriteSlots.{Field, Fields}

@@ -7,7 +7,7 @@ use mathlib.Core.Bool.{Bool, true, false}
 use lib.ListN.{length, take, length-append}
 use lib.Seq.{length-take-le}
 use Rattle.lists.specs.Says.{true-not-false}
-use Rattle.promises.specs.Words.{Words}
+use Rattle.layout.specs.Words.{Words}
 use Rattle.script.specs.Reading.{started}
 use Rattle.script.specs.TextLaws.{found}
 use Rattle.session.specs.declared.Stage.{Stage}

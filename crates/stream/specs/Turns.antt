@@ -4,7 +4,7 @@ use mathlib.Core.Path.{_≡_}
 use mathlib.Core.List.{List, [], _∷_, flatten}
 use mathlib.Core.Bool.{Bool, true, false, cond}
 use lib.ListN.{length, take}
-use Rattle.promises.specs.Words.{Words}
+use Rattle.layout.specs.Words.{Words}
 use Rattle.session.specs.declared.Stage.{Stage}
 use Rattle.session.specs.declared.Stage.the-variants.{Stopped}
 use Rattle.session.specs.declared.Fed.{Fed}

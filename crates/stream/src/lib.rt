@@ -3,7 +3,7 @@
 ghost use Prim.Native.Nat.{_+_, _<_, _≤_};
 ghost use mathlib.Core.Path.{_≡_};
 ghost use lib.ListN.{length};
-ghost use Rattle.promises.specs.Words.{words};
+ghost use Rattle.layout.specs.Words.{words};
 ghost use Rattle.session.specs.Pieces.{Machine};
 ghost use Rattle.session.specs.Stages.{Lent, At, Placed, lineOf};
 ghost use Rattle.stream.specs.Turns.{Buffers, within, endingOf, goesOn, Advances, Turned, Serves};

@@ -6,7 +6,7 @@ use native.Mathlib.Omega.{arith}
 use Rattle.rules.specs.declared.Sizes.{Sizes}
 use Rattle.layout.specs.Places.{usedOf, varOf}
 use Rattle.layout.specs.Cells.{headOf, workOf, fieldOf, pageOf, placeOf, cellOn}
-use Rattle.promises.specs.Words.{InUse}
+use Rattle.layout.specs.Words.{InUse}
 use Rattle.promises.specs.Whole.{IsRef}
 
 abbrev pub VariablesWhole : Sizes → List ℕ → Type 0

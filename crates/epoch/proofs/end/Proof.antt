@@ -5,7 +5,7 @@ use mathlib.Core.Bool.{false}
 use mathlib.Core.Path.{_≡_, sym, _∙_}
 use native.Mathlib.Omega.{arith}
 use Rattle.layout.specs.Places.{markOf}
-use Rattle.promises.specs.Words.{words}
+use Rattle.layout.specs.Words.{words}
 use Rattle.promises.specs.Questions.{did-answer}
 use Rattle.mark.specs.Survivors.{space-of, none-survives}
 use Rattle.epoch.specs.EndDid.{Ending, depth-high, depth-open, goes-on, out-done, free-way, shut}

@@ -4,7 +4,7 @@ use mathlib.Core.Path.{_≡_, refl, _∙_}
 use native.Mathlib.Omega.{arith}
 use borrow.Author.Needs.{needs}
 use lib.ListN.{length}
-use Rattle.promises.specs.Words.{words}
+use Rattle.layout.specs.Words.{words}
 use Rattle.long_list.specs.Repeated.{Repeated, none, more, repeated-to, answers-few}
 use Rattle.long_list.proofs.run_all.Statement.{statement}
 use Rattle.long_list.proofs.run_all.Tie as tie

@@ -4,7 +4,7 @@ use mathlib.Core.Path.{_≡_, _∙_}
 use native.Mathlib.Omega.{arith}
 use Rattle.lists.specs.Says.{said-no}
 use Rattle.rules.specs.Regions.{regions}
-use Rattle.promises.specs.Words.{depthsAt}
+use Rattle.layout.specs.Words.{depthsAt}
 use Rattle.report.specs.Opened.{NoneOpen, none-next, open-yes, open-no, last-region}
 use Rattle.report.specs.Tables.{tables-room-of, threads-low}
 use Rattle.report.proofs.next_open.Statement.{statement}

@@ -5,7 +5,7 @@ use native.Mathlib.Omega.{arith}
 use Rattle.lists.specs.Counting.{sum, sum-more}
 use Rattle.rules.specs.Regions.{regionAt}
 use Rattle.layout.specs.Places.{depthOf}
-use Rattle.promises.specs.Words.{depthsAt}
+use Rattle.layout.specs.Words.{depthsAt}
 use Rattle.report.specs.Opened.{Turn, turn-first}
 use Rattle.report.specs.Tables.{tables-room-of, threads-low}
 use Rattle.report.specs.Stands.{not-last, turn-at}

@@ -5,7 +5,7 @@ use mathlib.Core.Path.{_≡_, sym, ap, _∙_}
 use borrow.Author.Needs.{needs}
 use borrow.Author.Tests.{not-true, not-false}
 use native.Mathlib.Omega.{arith}
-use Rattle.promises.specs.Words.{words}
+use Rattle.layout.specs.Words.{words}
 use Rattle.session.specs.Stages.{lineOf}
 use Rattle.stream.specs.declared.Ending.the-variants.{More, Finished}
 use Rattle.stream.specs.Turns.{Buffers}

@@ -7,7 +7,7 @@ use borrow.Author.Needs.{needs}
 use lib.Count.{ones, ones-le, trailingZeros}
 use lib.ListN.{length}
 use Rattle.layout.specs.Cells.{cellOn, workOf}
-use Rattle.promises.specs.Words.{InUse}
+use Rattle.layout.specs.Words.{InUse}
 use Rattle.lists.specs.SetBits.{Walked, walk-start, walk-lowest, walk-turn}
 use Rattle.census.specs.Counted.{Summed, summed-start, summed-next, summed-end, Tallied, tallied-start, tallied-next, tallied-end}
 use Rattle.census.specs.After.{cellCrosses}

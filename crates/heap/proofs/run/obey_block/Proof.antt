@@ -5,7 +5,7 @@ use mathlib.Core.Path.{_≡_, refl, _∙_}
 use lib.ListN.{length}
 use native.Mathlib.Omega.{arith}
 use borrow.Author.Needs.{needs}
-use Rattle.promises.specs.Words.{words}
+use Rattle.layout.specs.Words.{words}
 use Rattle.promises.specs.Promises.{size}
 use Rattle.promises.specs.Chained.{asked-whole}
 use Rattle.heap.specs.Looping.{asked-room}

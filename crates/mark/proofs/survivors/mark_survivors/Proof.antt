@@ -2,7 +2,7 @@
 use mathlib.Core.Path.{_∙_}
 use native.Mathlib.Omega.{arith}
 use borrow.Author.Needs.{needs}
-use Rattle.promises.specs.Words.{words}
+use Rattle.layout.specs.Words.{words}
 use Rattle.mark.specs.Survivors.{space-of, shaped-at, holding-at, clean-at, marked-at}
 use Rattle.mark.proofs.survivors.mark_survivors.Statement.{statement}
 use Rattle.mark.proofs.survivors.mark_survivors.Tie as tie

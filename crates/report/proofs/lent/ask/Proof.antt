@@ -3,7 +3,7 @@ use mathlib.Core.Path.{refl, sym, subst}
 use native.Mathlib.Omega.{arith}
 use Rattle.lists.specs.Says.{said-no}
 use Rattle.lists.specs.Tests.{not-is}
-use Rattle.promises.specs.Words.{words}
+use Rattle.layout.specs.Words.{words}
 use Rattle.report.specs.declared.Reported.{Reported}
 use Rattle.report.specs.Tables.{whole-tables}
 use Rattle.report.specs.Stands.{rows-few}

@@ -51,7 +51,7 @@ use denote.Triple.Walked.{says, needs, Stays, stay-slice, stay-none, stay-none-s
 use denote.Exit.{yes}
 use denote.Signature.{plain}
 use Rattle.layout.specs.Places.{sizesAt}
-use Rattle.promises.specs.Words.{words, depthsAt}
+use Rattle.layout.specs.Words.{words, depthsAt}
 use Rattle.promises.specs.Reading.{range}
 use Rattle.report.specs.declared.Row.{Row}
 use Rattle.report.specs.Tables.{WholeTables, rowIn, rowsIn}

@@ -2,7 +2,7 @@
 use Prim.Native.Nat.{_+_, _*_, _≤_}
 use mathlib.Core.Path.{sym, subst}
 use Rattle.rules.specs.declared.Sizes.{Sizes}
-use Rattle.promises.specs.Words.{depthsAt}
+use Rattle.layout.specs.Words.{depthsAt}
 use Rattle.report.specs.Opened.{Next}
 use Rattle.report.specs.Tables.{WholeTables}
 use Rattle.report.proofs.lent.open_after.Statement.{statement}
