@@ -1,6 +1,7 @@
 -- Lent words, what is read from them, and the graph and the heap that they make.
 use Prim.Native.Nat.{ℕ, _+_, _*_, _<_}
 use mathlib.Core.List.{List}
+use mathlib.Core.Logic.{_≢_}
 use mathlib.Core.Bool.{Bool, cond, _&&_}
 use lib.ListN.{take, drop}
 use lib.Dec.{ltb}
@@ -12,7 +13,7 @@ use Rattle.rules.specs.Rules.{Regioned}
 use Rattle.layout.specs.declared.Kind.{Kind}
 use Rattle.layout.specs.declared.Kind.the-variants.{Reference, Number}
 use Rattle.layout.specs.Places.{sizesAt, depthAt, varAt, depthOf, varOf, ownerOf, usedOf}
-use Rattle.layout.specs.Cells.{headOf, fieldAt, fieldCount, firstField, pageOf, placeOf}
+use Rattle.layout.specs.Cells.{headOf, fieldAt, fieldCount, firstField, cellNamed, pageOf, placeOf}
 
 pub record Words : Type 0 where
   pub cells : List ℕ
@@ -96,6 +97,10 @@ homeAt s tables c = cond (inUseAt s tables c) (ownerOf s tables (pageOf c)) 0
 
 abbrev pub homeIn : Sizes → Words → ℕ → ℕ
 homeIn s w c = homeAt s (w .tables) c
+
+-- a reference is null or names a cell of the heap's pages
+abbrev pub Names : Sizes → ℕ → Type 0
+Names s x = x ≢ 0 → pageOf (cellNamed x) < s .pages
 
 -- ---- the graph of the words: an object is a cell in use
 
