@@ -1,0 +1,3 @@
+-- One account of an end, stage by stage.
+pub mod MarkedWords
+pub mod Placing
