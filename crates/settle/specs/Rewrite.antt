@@ -5,14 +5,13 @@ use mathlib.Core.Bool.{cond}
 use mathlib.Core.List.{List}
 use Prim.Native.Nat.{ℕ, _+_, _-_, _*_, _/_, _%_, _≤_, _<_}
 use native.Mathlib.Omega.{arith}
-use native.Mathlib.Decide.{ℕ-discrete}
 use borrow.Author.Tests.{eq-eqb, ne-eqb}
 use lib.Dec.{eqb}
 use lib.ListN.{length, getD, set, length-set}
 use lib.Seq.{getD-set-same, getD-set-other}
 use Rattle.rules.specs.declared.Sizes.{Sizes}
 use Rattle.layout.specs.Places.{ownerOf}
-use Rattle.layout.specs.Cells.{workOf, refsOf, cellNamed}
+use Rattle.layout.specs.Cells.{workOf, refsOf}
 
 -- the reference x, by way of word 1 where it names a cell of r
 unfoldable pub moveRef : (p : Sizes) (r : ℕ) (W T : List ℕ) → ℕ → ℕ
@@ -96,31 +95,3 @@ rewritten-join {p} {r} {P} {Q} {R} {W} {T} {W′} {W″} a b apart from to =
 pub rewritten-like : {p : Sizes} {r : ℕ} {P R : ℕ → Type 0} {W T W′ : List ℕ} → Rewritten p r P W T W′ → ((x : ℕ) → R x → P x) → ((x : ℕ) → P x → R x) → Rewritten p r R W T W′
 rewritten-like h from to =
     record { size = h .size; fields = λ x q. h .fields x (from x q); moved = λ x q. h .moved x (from x q); same = λ x n. h .same x (λ q. n (to x q)) }
-
--- the reference x, by way of word 1 of the cell that it names, where that is not zero
-unfoldable pub forwarded : List ℕ → ℕ → ℕ
-forwarded W x = cond (eqb x 0) 0 (cond (eqb (workOf W (cellNamed x)) 0) x (workOf W (cellNamed x)))
-
-pub forward-null : (W : List ℕ) (x : ℕ) → x ≡ 0 → forwarded W x ≡ 0
-unfolding forwarded
-forward-null W x e = rw (eq-eqb _ _ e)
-
-pub forward-moved : (W : List ℕ) (x : ℕ) → x ≢ 0 → workOf W (cellNamed x) ≢ 0 → forwarded W x ≡ workOf W (cellNamed x)
-unfolding forwarded
-forward-moved W x n m = rw (ne-eqb _ _ n, ne-eqb _ _ m)
-
-named-still : (W : List ℕ) (x : ℕ) → x ≢ 0 → workOf W (cellNamed x) ≡ 0 → forwarded W x ≡ x
-unfolding forwarded
-named-still W x n e = rw (ne-eqb _ _ n, eq-eqb _ _ e)
-
-pub forward-still : (W : List ℕ) (x : ℕ) → workOf W (cellNamed x) ≡ 0 → forwarded W x ≡ x
-forward-still W x e = go (ℕ-discrete x 0)
-  where
-    go : Dec (x ≡ 0) → forwarded W x ≡ x
-    go (yes z) = forward-null W x z ∙ sym z
-    go (no n) = named-still W x n e
-
--- it looks at word 1 of cells alone
-pub forward-same : (W W′ : List ℕ) (x : ℕ) → workOf W′ (cellNamed x) ≡ workOf W (cellNamed x) → forwarded W′ x ≡ forwarded W x
-unfolding forwarded
-forward-same W W′ x e = ap (λ (y : ℕ). cond (eqb x 0) 0 (cond (eqb y 0) x y)) e
