@@ -58,6 +58,6 @@ pub fn evacuate_none(
 {
     let level = layout::wide(layout::tables::depth(p, tables, thread));
     let region = layout::regions::region_at(p, thread, level);
-    settle::remember::keep_entries(p, cells, remember, tables, region);
+    settle::entries::keep_entries(p, cells, remember, tables, region);
     release::release_region(p, tables, notes, region, thread);
 }

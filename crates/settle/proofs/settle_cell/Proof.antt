@@ -62,7 +62,7 @@ field-requires : tie.Need-field-requires Inv-loop μ-loop
 field-requires c κs =
     let pre = c .before .before .before .before .before .before .before .before .before .before .before .pre in
     let loop = c .before .before .loop in
-    (omega (arith, pre .0 .page, pre .0 .pages), omega (arith, pre .0 .page, pre .0 .cells-long, loop .inv .3), omega (arith, loop .inv .1, pre .0 .few))
+    ((omega (arith, pre .0 .page, pre .0 .pages), omega (arith, pre .0 .page, pre .0 .cells-long, loop .inv .3)), omega (arith, loop .inv .1, pre .0 .few))
 
 forward-ref-requires : tie.Need-forward-ref-requires Inv-loop μ-loop
 forward-ref-requires c κs =
@@ -80,7 +80,7 @@ set-field-requires : tie.Need-set-field-requires Inv-loop μ-loop
 set-field-requires c κs =
     let pre = c .before .before .before .before .before .before .before .before .before .before .before .before .before .before .before .pre in
     let loop = c .before .before .before .before .before .before .loop in
-    (omega (arith, pre .0 .page, pre .0 .pages), omega (arith, pre .0 .page, pre .0 .cells-long, loop .inv .3), omega (arith, loop .inv .1, pre .0 .few))
+    ((omega (arith, pre .0 .page, pre .0 .pages), omega (arith, pre .0 .page, pre .0 .cells-long, loop .inv .3)), omega (arith, loop .inv .1, pre .0 .few))
 
 field-at-requires : tie.Need-field-at-requires Inv-loop μ-loop
 field-at-requires c κs =
