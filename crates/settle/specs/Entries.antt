@@ -13,7 +13,7 @@ use lib.Seq.{getD-set-same, getD-set-other}
 use Rattle.rules.specs.declared.Sizes.{Sizes}
 use Rattle.layout.specs.Places.{ownerOf, slotIn, slotRegionIn}
 use Rattle.promises.specs.Crossing.{other}
-use Rattle.settle.specs.Rewrite.{Names}
+use Rattle.layout.specs.Words.{Names}
 
 -- ---- crossing
 
