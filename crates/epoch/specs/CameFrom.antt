@@ -17,7 +17,7 @@ use Rattle.layout.specs.Words.{InUse}
 use Rattle.copy.specs.Marks.{mark?}
 use Rattle.copy.specs.Passing.{Ready}
 use Rattle.copy.specs.Forward.{Forwards, forward}
-use Rattle.settle.specs.Rewrite.{moveRef, move-null, move-in, move-out, Rewritten, refs-same}
+use Rattle.settle.specs.Rewrite.{forwarded, forward-null, forward-still, forward-moved, Rewritten, refs-same}
 use Rattle.settle.specs.Append.{crossAt, Crosses}
 use Rattle.settle.specs.Update.{Copies}
 use Rattle.evacuate.specs.Links.{Start}
@@ -41,26 +41,22 @@ pub record Came (p : Sizes) (r : ℕ) (home : ℕ → ℕ) (W₀ T₀ W : List �
   pub far : home (q / 16) ≢ home names
 
 module _ {p : Sizes} {r : ℕ} {S : ℕ → Type 0} {W₀ T₀ W T W′ : List ℕ} (s : Start p r S W₀ T₀) (a₀ : Ready p W₀ T₀) (F : Forwards p W₀ T₀ W T)
-    (R : Rewritten p r (λ x. S x ⊎ Copies p r W T x) W T W′) where
+    (R : Rewritten (λ x. S x ⊎ Copies p W T x) W W′) where
   -- the cells of r with a forward reference are the survivors
-  survivor : (c : ℕ) → Old p r W T c → InUse p T₀ c × (marked p T₀ c ≡ 1)
+  survivor : (c : ℕ) → Old p W T c → InUse p T₀ c × (marked p T₀ c ≡ 1)
   survivor c u = ⊎-elim was new (F .only c (u .used))
     where
       was : InUse p T₀ c → InUse p T₀ c × (marked p T₀ c ≡ 1)
       was v = ⊎-elim (λ off. absurd (u .moved (F .copying .links c v off ∙ s .idle c v off))) (λ on. (v, on)) (mark? p T₀ c)
 
       new : (b : ℕ) × (b / 16 < p .pages) × (marked p T₀ b ≡ 1) × (forward W b ≡ c) → InUse p T₀ c × (marked p T₀ c ≡ 1)
-      new q =
-          absurd
-          (s .targets (q .0) (q .1) (q .2)
-          (sym (F .moved (q .0) (q .1) (q .2) .home) ∙ ap (λ (x : ℕ). ownerOf p T (x / 16)) (q .3) ∙ u .owner))
+      new q = absurd (u .moved (ap (λ (x : ℕ). workOf W x) (sym (q .3)) ∙ F .moved (q .0) (q .1) (q .2) .clear))
 
-  survivor-old : (c : ℕ) → c / 16 < p .pages → marked p T₀ c ≡ 1 → Old p r W T c
+  survivor-old : (c : ℕ) → c / 16 < p .pages → marked p T₀ c ≡ 1 → Old p W T c
   survivor-old c l on =
       let u = a₀ .used c l on in
       record {
         used = F .copying .keeps c u;
-        owner = F .copying .owner c u ∙ s .survivors c l on;
         moved = λ z. omega (arith, F .moved c l on .forward);
       }
 
@@ -72,7 +68,7 @@ module _ {p : Sizes} {r : ℕ} {S : ℕ → Type 0} {W₀ T₀ W T W′ : List �
       (ap (λ (x : ℕ). getD W x 0) e ∙ F .moved c l on .body 0 (omega arith) (λ z. omega arith) ∙ ap (λ (x : ℕ). getD W₀ x 0) e′)
 
   -- an old slot is no slot of a copy
-  no-copy : (x : ℕ) → InUse p T₀ (x / 16) → Copies p r W T x → ⊥
+  no-copy : (x : ℕ) → InUse p T₀ (x / 16) → Copies p W T x → ⊥
   no-copy x u q =
       let b : ℕ = q .cell in
       let v = survivor b (q .old) in
@@ -83,10 +79,12 @@ module _ {p : Sizes} {r : ℕ} {S : ℕ → Type 0} {W₀ T₀ W T W′ : List �
 
   -- ---- the value of a slot afterwards
 
-  same-other : (v : ℕ) → InUse p T₀ (v - 1) → v ≢ 0 → ownerOf p T₀ ((v - 1) / 16) ≢ r → moveRef p r W T v ≡ v
-  same-other v u ne out = sym (move-out p r W T v ne (λ z. out (sym (F .copying .owner (v - 1) u) ∙ z)))
+  same-other : (v : ℕ) → InUse p T₀ (v - 1) → v ≢ 0 → ownerOf p T₀ ((v - 1) / 16) ≢ r → forwarded W v ≡ v
+  same-other v u ne out =
+      forward-still W v
+      (⊎-elim (λ off. F .copying .links (v - 1) u off ∙ s .idle (v - 1) u off) (λ on. absurd (out (s .survivors (v - 1) (u .page) on))) (mark? p T₀ (v - 1)))
 
-  old-value : (y f : ℕ) → InUse p T₀ y → ownerOf p T₀ (y / 16) ≢ r → f < refsOf W₀ y → fieldOf W′ y f ≡ moveRef p r W T (fieldOf W₀ y f)
+  old-value : (y f : ℕ) → InUse p T₀ y → ownerOf p T₀ (y / 16) ≢ r → f < refsOf W₀ y → fieldOf W′ y f ≡ forwarded W (fieldOf W₀ y f)
   old-value y f u n lf = go (ℕ-discrete (fieldOf W₀ y f) 0) (ℕ-discrete (ownerOf p T₀ ((fieldOf W₀ y f - 1) / 16)) r)
     where
       few : refsOf W₀ y ≤ 14
@@ -106,15 +104,15 @@ module _ {p : Sizes} {r : ℕ} {S : ℕ → Type 0} {W₀ T₀ W T W′ : List �
       stays : (S (16 * y + 2 + f) → ⊥) → fieldOf W′ y f ≡ fieldOf W₀ y f
       stays no-slot = R .same (16 * y + 2 + f) (⊎-elim no-slot (no-copy (16 * y + 2 + f) here)) ∙ before
 
-      go : Dec (fieldOf W₀ y f ≡ 0) → Dec (ownerOf p T₀ ((fieldOf W₀ y f - 1) / 16) ≡ r) → fieldOf W′ y f ≡ moveRef p r W T (fieldOf W₀ y f)
-      go (yes z) d = stays (λ q. s .into y f low q .0 z) ∙ move-null p r W T (fieldOf W₀ y f) z
+      go : Dec (fieldOf W₀ y f ≡ 0) → Dec (ownerOf p T₀ ((fieldOf W₀ y f - 1) / 16) ≡ r) → fieldOf W′ y f ≡ forwarded W (fieldOf W₀ y f)
+      go (yes z) d = stays (λ q. s .into y f low q .0 z) ∙ z ∙ sym (forward-null W (fieldOf W₀ y f) z)
       go (no ne) (yes own) =
           let t : ℕ = fieldOf W₀ y f - 1 in
-          R .moved (16 * y + 2 + f) (inl (s .slots y f t u n lf (omega arith) own)) ∙ ap (λ (x : ℕ). moveRef p r W T x) before
+          R .moved (16 * y + 2 + f) (inl (s .slots y f t u n lf (omega arith) own)) ∙ ap (λ (x : ℕ). forwarded W x) before
       go (no ne) (no out) =
           stays (λ q. out (s .into y f low q .1)) ∙ sym (same-other (fieldOf W₀ y f) (s .slots-used y f u lf ne) ne out)
 
-  copy-value : (c f : ℕ) → c / 16 < p .pages → marked p T₀ c ≡ 1 → f < refsOf W₀ c → fieldOf W′ (forward W c) f ≡ moveRef p r W T (fieldOf W₀ c f)
+  copy-value : (c f : ℕ) → c / 16 < p .pages → marked p T₀ c ≡ 1 → f < refsOf W₀ c → fieldOf W′ (forward W c) f ≡ forwarded W (fieldOf W₀ c f)
   copy-value c f l on lf =
       let few : refsOf W₀ c ≤ 14 = s .refs-few c (a₀ .used c l on) in
       let e : 16 * forward W c + 2 + f ≡ 16 * forward W c + (2 + f) = omega arith in
@@ -126,24 +124,24 @@ module _ {p : Sizes} {r : ℕ} {S : ℕ → Type 0} {W₀ T₀ W T W′ : List �
         old = survivor-old c l on;
         field = record { field = f; low = omega (arith, copy-refs c l on); at = refl };
       }))
-      ∙ ap (λ (x : ℕ). moveRef p r W T x)
+      ∙ ap (λ (x : ℕ). forwarded W x)
       (ap (λ (x : ℕ). getD W x 0) e ∙ F .moved c l on .body (2 + f) (omega (arith, few)) (λ z. omega arith) ∙ ap (λ (x : ℕ). getD W₀ x 0) e′)
 
   module _ (home : ℕ → ℕ) (goes : (c : ℕ) → c / 16 < p .pages → marked p T₀ c ≡ 1 → home c ≡ workOf W₀ c)
       (stays : (c : ℕ) → InUse p T₀ c → ownerOf p T₀ (c / 16) ≢ r → home c ≡ ownerOf p T₀ (c / 16)) where
     -- a reference to an object that lives leads to its cell, in the region where it lies
-    ref-lands : (v d : ℕ) → v ≡ suc d → Lives p r T₀ d → (e : ℕ) × (moveRef p r W T v ≡ suc e) × (ownerOf p T (e / 16) ≡ home d)
+    ref-lands : (v d : ℕ) → v ≡ suc d → Lives p r T₀ d → (e : ℕ) × (forwarded W v ≡ suc e) × (ownerOf p T (e / 16) ≡ home d)
     ref-lands v d e l = go (ℕ-discrete (ownerOf p T₀ (d / 16)) r)
       where
         d′ : v - 1 ≡ d
         d′ = omega arith
 
-        go : Dec (ownerOf p T₀ (d / 16) ≡ r) → (e : ℕ) × (moveRef p r W T v ≡ suc e) × (ownerOf p T (e / 16) ≡ home d)
+        go : Dec (ownerOf p T₀ (d / 16) ≡ r) → (e : ℕ) × (forwarded W v ≡ suc e) × (ownerOf p T (e / 16) ≡ home d)
         go (yes own) =
             let on = l .stays own in
             let lo = l .used .page in (
               forward W d,
-              sym (move-in p r W T v (λ z. omega arith) (ap (λ (y : ℕ). ownerOf p T (y / 16)) d′ ∙ F .copying .owner d (l .used) ∙ own))
+              forward-moved W v (λ z. omega arith) (λ z. omega (arith, ap (λ (y : ℕ). workOf W y) d′, F .moved d lo on .forward))
                   ∙ ap (λ (y : ℕ). workOf W y) d′ ∙ omega (arith, F .moved d lo on .forward),
               F .moved d lo on .home ∙ sym (goes d lo on),
             )
@@ -169,7 +167,7 @@ module _ {p : Sizes} {r : ℕ} {S : ℕ → Type 0} {W₀ T₀ W T W′ : List �
         on own (no n) = s .held c f d (l .used) n lf e′ own
 
     -- what crosses afterwards: the value before
-    crossed : (c f x : ℕ) → Lives p r T₀ c → f < refsOf W₀ c → getD W′ x 0 ≡ moveRef p r W T (fieldOf W₀ c f) → ownerOf p T (x / 256) ≡ home c → crossAt p W′ T x ≢ 0
+    crossed : (c f x : ℕ) → Lives p r T₀ c → f < refsOf W₀ c → getD W′ x 0 ≡ forwarded W (fieldOf W₀ c f) → ownerOf p T (x / 256) ≡ home c → crossAt p W′ T x ≢ 0
         → (d : ℕ) × (fieldOf W₀ c f ≡ suc d) × (1 < home d) × (home c ≢ home d)
     crossed c f x l lf val own ne =
         let v = cross-value p T (ownerOf p T (x / 256)) (getD W′ x 0) (crossAt p W′ T x) refl ne in
@@ -177,7 +175,7 @@ module _ {p : Sizes} {r : ℕ} {S : ℕ → Type 0} {W₀ T₀ W T W′ : List �
       where
         go : (y : ℕ) → fieldOf W₀ c f ≡ y → getD W′ x 0 ≢ 0 → crossAt p W′ T x ≡ ownerOf p T ((getD W′ x 0 - 1) / 16) → 1 < crossAt p W′ T x → crossAt p W′ T x ≢ ownerOf p T (x / 256)
             → (d : ℕ) × (y ≡ suc d) × (1 < home d) × (home c ≢ home d)
-        go zero e real region high other = absurd (real (val ∙ ap (λ (z : ℕ). moveRef p r W T z) e ∙ sym (move-null p r W T 0 refl)))
+        go zero e real region high other = absurd (real (val ∙ ap (λ (z : ℕ). forwarded W z) e ∙ forward-null W 0 refl))
         go (suc d) e real region high other =
             let q = ref-lands (fieldOf W₀ c f) d e (names-lives c f d l lf e) in
             let z : getD W′ x 0 - 1 ≡ q .0 = omega (arith, val, q .1) in

@@ -97,7 +97,7 @@ module _ (s : Sizes) (w : Words) (k : WholeFor s w) (space : Room s (length (w .
       omega arith
 
   pub space-enough : crossingAfter s w t j ≤ s .entries → (W T W′ : List ℕ) → Forwards s (w₁ .cells) (w₁ .tables) W T
-      → Rewritten s r (λ x. Remembered r (s .entries) (usedIn (w .remember)) (w .remember) x ⊎ Copies s r W T x) W T W′
+      → Rewritten (λ x. Remembered r (s .entries) (usedIn (w .remember)) (w .remember) x ⊎ Copies s W T x) W W′
       → Space s r (s .entries) W′ T
   space-enough fits W T W′ F R n at crosses apart = omega (arith, fits, positions-few s w k r pos n from low some once)
     where

@@ -24,7 +24,7 @@ use Rattle.copy.specs.Taking.{endOf, Regular, room-same}
 use Rattle.copy.specs.Passing.{Ready, moves-ready}
 use Rattle.copy.specs.Copying.{no-survivors, copy-marks}
 use Rattle.copy.specs.Forward.{forward}
-use Rattle.settle.specs.Rewrite.{moveRef, move-null, link-same, head-same, ref-same}
+use Rattle.settle.specs.Rewrite.{forwarded, forward-null, link-same, head-same, ref-same}
 use Rattle.release.specs.Release.{Blank, ended-size, ended-depth, ended-rest, ended-blank, ended-alike, ended-use, ended-used, ended-regular}
 use Rattle.settle.specs.Update.{Copies}
 use Rattle.evacuate.specs.Links.{old-survivor, ref-survivor, ref-other, copy-refs, copy-after, copy-number, new-home}
@@ -205,8 +205,8 @@ module _ {p : Sizes} {r n m l t : ℕ} {gs : ℕ → ℕ} {W T M W′ T′ M′ 
   -- ---- references
 
   -- what a reference to a cell that lives on becomes
-  move-renamed : (x : ℕ) → (x ≢ 0 → Lives p r T (x - 1)) → moveRef p r (f .cells) (f .tables) x ≡ renamed (cellAfter p r T W′) x
-  move-renamed zero h = sym (move-null p r (f .cells) (f .tables) 0 refl)
+  move-renamed : (x : ℕ) → (x ≢ 0 → Lives p r T (x - 1)) → forwarded (f .cells) x ≡ renamed (cellAfter p r T W′) x
+  move-renamed zero h = forward-null (f .cells) 0 refl
   move-renamed (suc y) h = go (ℕ-discrete (ownerOf p T (y / 16)) r)
     where
       e : suc y - 1 ≡ y
@@ -215,7 +215,7 @@ module _ {p : Sizes} {r n m l t : ℕ} {gs : ℕ → ℕ} {W T M W′ T′ M′ 
       v : Lives p r T y
       v = subst (λ (z : ℕ). Lives p r T z) e (h (λ z. omega arith))
 
-      go : Dec (ownerOf p T (y / 16) ≡ r) → moveRef p r (f .cells) (f .tables) (suc y) ≡ suc (cellAfter p r T W′ y)
+      go : Dec (ownerOf p T (y / 16) ≡ r) → forwarded (f .cells) (suc y) ≡ suc (cellAfter p r T W′ y)
       go (yes own) =
           ref-survivor (b .start) a₀ a₁ (f .forwards) y (suc y) (omega arith) (v .used .page) (v .stays own)
           ∙ omega (arith, cell-in y own)
@@ -237,7 +237,7 @@ module _ {p : Sizes} {r n m l t : ℕ} {gs : ℕ → ℕ} {W T M W′ T′ M′ 
       go own (no z) = b .start .held c g (fieldOf W c g - 1) (v .used) z lg e own
 
   -- a slot of a cell of another region
-  out-slot : (c g : ℕ) → Lives p r T c → ownerOf p T (c / 16) ≢ r → g < refsOf W c → fieldOf W′ c g ≡ moveRef p r (f .cells) (f .tables) (fieldOf W c g)
+  out-slot : (c g : ℕ) → Lives p r T c → ownerOf p T (c / 16) ≢ r → g < refsOf W c → fieldOf W′ c g ≡ forwarded (f .cells) (fieldOf W c g)
   out-slot c g v ne lg = go (ℕ-discrete (fieldOf W c g) 0) (ℕ-discrete (ownerOf p T ((fieldOf W c g - 1) / 16)) r)
     where
       few : refsOf W c ≤ 14
@@ -268,14 +268,14 @@ module _ {p : Sizes} {r n m l t : ℕ} {gs : ℕ → ℕ} {W T M W′ T′ M′ 
           ∙ was
 
       go : Dec (fieldOf W c g ≡ 0) → Dec (ownerOf p T ((fieldOf W c g - 1) / 16) ≡ r)
-          → fieldOf W′ c g ≡ moveRef p r (f .cells) (f .tables) (fieldOf W c g)
-      go (yes z) own = same (λ n. absurd (n z)) ∙ move-null p r (f .cells) (f .tables) (fieldOf W c g) z
+          → fieldOf W′ c g ≡ forwarded (f .cells) (fieldOf W c g)
+      go (yes z) own = same (λ n. absurd (n z)) ∙ z ∙ sym (forward-null (f .cells) (fieldOf W c g) z)
       go (no n) (no o) =
           same (λ z. o)
           ∙ sym (ref-other (b .start) a₀ a₁ (f .forwards) (fieldOf W c g - 1) (fieldOf W c g) (omega arith) (slot-lives c g v lg n .used) o)
       go (no n) (yes own) =
           f .rewritten .moved (16 * c + 2 + g) (inl (b .start .slots c g (fieldOf W c g - 1) (v .used) ne lg (omega arith) own))
-          ∙ ap (λ (y : ℕ). moveRef p r (f .cells) (f .tables) y) was
+          ∙ ap (λ (y : ℕ). forwarded (f .cells) y) was
 
   -- a word of such a cell that is no slot
   out-rest : (c g : ℕ) → Lives p r T c → refsOf W c ≤ g → g < 14 → fieldOf W′ c g ≡ fieldOf W c g
@@ -322,7 +322,7 @@ module _ {p : Sizes} {r n m l t : ℕ} {gs : ℕ → ℕ} {W T M W′ T′ M′ 
         head = λ c v. by-owner (λ d. headOf W′ d ≡ headOf W c) c (in-head c v) (out-head c v);
         work = λ c v. by-owner (λ d. workOf W′ d ≡ 0) c (in-work c v) (out-work c v);
         slots = λ c g v lg.
-            by-owner (λ d. fieldOf W′ d g ≡ moveRef p r (f .cells) (f .tables) (fieldOf W c g)) c
+            by-owner (λ d. fieldOf W′ d g ≡ forwarded (f .cells) (fieldOf W c g)) c
             (λ e. copy-after (b .start) a₀ a₁ (f .forwards) (f .rewritten) c g (v .used .page) (v .stays e) lg) (λ n. out-slot c g v n lg)
             ∙ move-renamed (fieldOf W c g) (slot-lives c g v lg);
         rest = λ c g v ge lg.
@@ -332,7 +332,7 @@ module _ {p : Sizes} {r n m l t : ℕ} {gs : ℕ → ℕ} {W T M W′ T′ M′ 
             let rm = a₀ .regular .room in
             ended-rest regular₂ real low thread (f .ended) (varAt p i) (λ z. omega (arith, rm)) (λ z. omega (arith, rm)) (inl (omega (arith, rm)))
             ∙ f .variables .moved i li ∙ ref-same (f .rewritten) (varOf p (f .tables) i)
-            ∙ ap (λ (y : ℕ). moveRef p r (f .cells) (f .tables) y) (f .forwards .copying .rest (varAt p i) (inl (omega (arith, rm))))
+            ∙ ap (λ (y : ℕ). forwarded (f .cells) y) (f .forwards .copying .rest (varAt p i) (inl (omega (arith, rm))))
             ∙ move-renamed (varOf p T i) (b .variables i li);
         regular = ended-regular regular₂ real low thread (f .ended);
         free = λ q lq e. ended-blank regular₂ real low thread (f .ended) q lq (page-same q lq e);
@@ -388,7 +388,7 @@ module _ {p : Sizes} {r n m l t : ℕ} {gs : ℕ → ℕ} {W T M W′ T′ M′ 
       far-slot : (x : ℕ) → 256 * p .pages ≤ x → Remembered r n m M x → ⊥
       far-slot x lx q = let i = b .listed .slots (q .entry) (q .low) .used .page in omega (arith, q .slot)
 
-      far-copy : (x : ℕ) → 256 * p .pages ≤ x → Copies p r (f .cells) (f .tables) x → ⊥
+      far-copy : (x : ℕ) → 256 * p .pages ≤ x → Copies p (f .cells) (f .tables) x → ⊥
       far-copy x lx q =
           let o = old-survivor (b .start) a₀ a₁ (f .forwards) (q .cell) (q .old) in
           let few = b .start .refs-few (q .cell) (o .0) in

@@ -15,7 +15,7 @@ use Rattle.copy.specs.Marks.{mark?}
 use Rattle.copy.specs.Passing.{Moves.none}
 use Rattle.copy.specs.Copying.{Copy, no-marks}
 use Rattle.copy.specs.Forward.{copy-forwards}
-use Rattle.settle.specs.Rewrite.{moveRef, move-null, move-out, Rewritten, rewritten-none}
+use Rattle.settle.specs.Rewrite.{forwarded, forward-null, forward-still, Rewritten, rewritten-none}
 use Rattle.settle.specs.RewriteSlots.{Remembered, Variables}
 use Rattle.settle.specs.Update.{Copies, Updating, Updated}
 use Rattle.evacuate.specs.Table.{IsSlot, cross-value}
@@ -70,23 +70,23 @@ module _ {p : Sizes} {r n m l : ℕ} {gs : ℕ → ℕ} {W T M : List ℕ} (b : 
           (b .listed .real (q .entry) (q .low)) .other
           (q .region ∙ sym z ∙ ap (λ (w : ℕ). ownerOf p T w) (let v : slotIn M (q .entry) / 16 / 16 ≡ slotIn M (q .entry) / 256 = omega arith in v))
 
-  pub none-copies : (x : ℕ) → Copies p r W T x → ⊥
+  pub none-copies : (x : ℕ) → Copies p W T x → ⊥
   none-copies x q =
       let u = q .old .used in
       ⊎-elim (λ z. q .old .moved (b .start .idle (q .cell) u z)) (unset (q .cell) (u .page)) (mark? p T (q .cell))
 
-  none-rewritten : Rewritten p r (λ x. Remembered r n m M x ⊎ Copies p r W T x) W T W
-  none-rewritten = rewritten-none p r (λ x. Remembered r n m M x ⊎ Copies p r W T x) W T (λ x. ⊎-elim (none-remembered x) (none-copies x))
+  none-rewritten : Rewritten (λ x. Remembered r n m M x ⊎ Copies p W T x) W W
+  none-rewritten = rewritten-none (λ x. Remembered r n m M x ⊎ Copies p W T x) W (λ x. ⊎-elim (none-remembered x) (none-copies x))
 
   pub none-update : Updating p r n m W M T
   none-update = update-ask b none-copied none-rewritten
 
-  none-variables : Variables p (p .threads * p .variables) r W T T
+  none-variables : Variables p (p .threads * p .variables) W T T
   none-variables = record { size = refl; moved = λ i h. moved′ i h (ℕ-discrete (varOf p T i) 0); same = λ x h. refl }
     where
-      moved′ : (i : ℕ) → i < p .threads * p .variables → Dec (varOf p T i ≡ 0) → varOf p T i ≡ moveRef p r W T (varOf p T i)
-      moved′ i h (yes z) = move-null p r W T (varOf p T i) z
-      moved′ i h (no z) = let v = b .variables i h z in move-out p r W T (varOf p T i) z (λ e. unset (varOf p T i - 1) (v .used .page) (v .stays e))
+      moved′ : (i : ℕ) → i < p .threads * p .variables → Dec (varOf p T i ≡ 0) → varOf p T i ≡ forwarded W (varOf p T i)
+      moved′ i h (yes z) = z ∙ sym (forward-null W (varOf p T i) z)
+      moved′ i h (no z) = let v = b .variables i h z in sym (forward-still W (varOf p T i) (⊎-elim (b .start .idle (varOf p T i - 1) (v .used)) (λ on. absurd (unset (varOf p T i - 1) (v .used .page) on)) (mark? p T (varOf p T i - 1))))
 
   pub none-finished : {t : ℕ} {M′ T′ : List ℕ} → Updated p r n m W M T M′ → Ended p r t T T′ → Finished p r n m l t gs W M T W M′ T′
   none-finished u e =

@@ -10,11 +10,11 @@ use Rattle.rules.specs.declared.Sizes.{Sizes}
 use Rattle.layout.specs.Places.{Room, depthAt, varAt, ownerAt, depthOf, varOf, ownerOf, usedOf, markOf, slotIn, slotRegionIn}
 use Rattle.layout.specs.Cells.{workOf, fieldOf, refsOf}
 use Rattle.layout.specs.Marks.{marked}
-use Rattle.layout.specs.Words.{InUse}
+use Rattle.layout.specs.Words.{InUse, Names}
 use Rattle.copy.specs.Passing.{Ready, moves-ready, moves-tables}
 use Rattle.copy.specs.Copying.{Plan, Copy, no-survivors, copy-marks}
 use Rattle.copy.specs.Forward.{Forwards, forward, copy-forwards}
-use Rattle.settle.specs.Rewrite.{Names, Rewritten, rewritten-join, link-same, refs-same}
+use Rattle.settle.specs.Rewrite.{Rewritten, rewritten-join, link-same, refs-same}
 use Rattle.settle.specs.Append.{Crosses}
 use Rattle.settle.specs.Update.{Copies, Updating, Updated}
 use Rattle.release.specs.Release.{Ended}
@@ -44,7 +44,7 @@ pub record Before (p : Sizes) (r n m l : ℕ) (gs : ℕ → ℕ) (W M T : List �
   pub long : 2 + 2 * n ≤ length M
   pub rest : (y : ℕ) → m ≤ y → y < n → (slotIn M y ≡ 0) × (slotRegionIn n M y ≡ 0)
   pub variables : (i : ℕ) → i < p .threads * p .variables → varOf p T i ≢ 0 → Lives p r T (varOf p T i - 1)
-  pub space : (W₁ T₁ W₃ : List ℕ) → Forwards p W T W₁ T₁ → Rewritten p r (λ x. Remembered r n m M x ⊎ Copies p r W₁ T₁ x) W₁ T₁ W₃ → Space p r n W₃ T₁
+  pub space : (W₁ T₁ W₃ : List ℕ) → Forwards p W T W₁ T₁ → Rewritten (λ x. Remembered r n m M x ⊎ Copies p W₁ T₁ x) W₁ W₃ → Space p r n W₃ T₁
 
 -- survivors are r's: a page that is not listed with r's has no mark
 pub unmarked : {p : Sizes} {r n m l k : ℕ} {gs : ℕ → ℕ} {W T M list : List ℕ} → Before p r n m l gs W M T → Lists (λ q. ownerOf p T q ≡ r) (p .pages) k list
@@ -94,11 +94,11 @@ module _ {p : Sizes} {r n m l : ℕ} {gs : ℕ → ℕ} {W T M W₁ T₁ : List 
   tables-ask = a₁ .regular .room
 
   -- ---- the copies
-  module _ {W₂ : List ℕ} (R₂ : Rewritten p r (Remembered r n m M) W₁ T₁ W₂) where
-    apart₂ : (x : ℕ) → Copies p r W₁ T₁ x → Remembered r n m M x → ⊥
+  module _ {W₂ : List ℕ} (R₂ : Rewritten (Remembered r n m M) W₁ W₂) where
+    apart₂ : (x : ℕ) → Copies p W₁ T₁ x → Remembered r n m M x → ⊥
     apart₂ x q s = no-old x (b .start .old x s) q
       where
-        no-old : (x : ℕ) → InUse p T (x / 16) → Copies p r W₁ T₁ x → ⊥
+        no-old : (x : ℕ) → InUse p T (x / 16) → Copies p W₁ T₁ x → ⊥
         no-old x u q =
             let d : ℕ = q .cell in
             let w = old-survivor (b .start) a₀ a₁ F d (q .old) in
@@ -107,16 +107,16 @@ module _ {p : Sizes} {r n m l : ℕ} {gs : ℕ → ℕ} {W T M W₁ T₁ : List 
             let same : x / 16 ≡ workOf W₁ d - 1 = omega (arith, q .field .low, q .field .at) in
             F .moved d (w .0 .page) (w .1) .new (subst (λ (y : ℕ). InUse p T y) same u)
 
-    pub copies-ask : Wiring p r (Between 0 (16 * p .pages)) W₂ T₁
+    pub copies-ask : Wiring p (Between 0 (16 * p .pages)) W₂ T₁
     copies-ask = wiring-now R₂ (forwards-wiring (b .start) a₀ a₁ F) apart₂
 
-    pub rewritten-both : {W₃ : List ℕ} → Rewritten p r (Copies p r W₂ T₁) W₂ T₁ W₃ → Rewritten p r (λ x. Remembered r n m M x ⊎ Copies p r W₁ T₁ x) W₁ T₁ W₃
+    pub rewritten-both : {W₃ : List ℕ} → Rewritten (Copies p W₂ T₁) W₂ W₃ → Rewritten (λ x. Remembered r n m M x ⊎ Copies p W₁ T₁ x) W₁ W₃
     rewritten-both R₃ =
         rewritten-join R₂ R₃ (λ x s q. apart₂ x (slot-then R₂ x q) s) (λ x. ⊎-elim inl (λ q. inr (slot-now R₂ x q)))
         (λ x. ⊎-elim inl (λ q. inr (slot-then R₂ x q)))
 
   -- ---- the remember table
-  module _ {W₃ : List ℕ} (R : Rewritten p r (λ x. Remembered r n m M x ⊎ Copies p r W₁ T₁ x) W₁ T₁ W₃) where
+  module _ {W₃ : List ℕ} (R : Rewritten (λ x. Remembered r n m M x ⊎ Copies p W₁ T₁ x) W₁ W₃) where
     copies-names : (d f : ℕ) → d / 16 < p .pages → marked p T d ≡ 1 → f < refsOf W d → Names p (fieldOf W₃ (forward W₁ d) f)
     copies-names d f ld on lf ne = go (slots-out (b .start) a₀ a₁ F R (forward W₁ d) f (F .moved d ld on .used) out lf′)
       where
@@ -131,7 +131,7 @@ module _ {p : Sizes} {r n m l : ℕ} {gs : ℕ → ℕ} {W T M W₁ T₁ : List 
         go (inl z) = absurd (ne z)
         go (inr q) = let e : fieldOf W₃ (forward W₁ d) f - 1 ≡ q .0 = omega (arith, q .1) in subst (λ (x : ℕ). x / 16 < p .pages) (sym e) (q .2 .page)
 
-    wiring₃ : Wiring p r (Between 0 (16 * p .pages)) W₃ T₁
+    wiring₃ : Wiring p (Between 0 (16 * p .pages)) W₃ T₁
     wiring₃ =
         let w = forwards-wiring (b .start) a₀ a₁ F in
         record {
@@ -145,13 +145,13 @@ module _ {p : Sizes} {r n m l : ℕ} {gs : ℕ → ℕ} {W T M W₁ T₁ : List 
           once = λ d e q q′ u u′ z. w .once d e q q′ (then d u) (then e u′) (sym (link-same R d) ∙ z ∙ link-same R e);
         }
       where
-        now : {d : ℕ} → Old p r W₁ T₁ d → Old p r W₃ T₁ d
-        now {d} u = record { used = u .used; owner = u .owner; moved = λ z. u .moved (sym (link-same R d) ∙ z) }
+        now : {d : ℕ} → Old p W₁ T₁ d → Old p W₃ T₁ d
+        now {d} u = record { used = u .used; moved = λ z. u .moved (sym (link-same R d) ∙ z) }
 
-        then : (d : ℕ) → Old p r W₃ T₁ d → Old p r W₁ T₁ d
-        then d u = record { used = u .used; owner = u .owner; moved = λ z. u .moved (link-same R d ∙ z) }
+        then : (d : ℕ) → Old p W₃ T₁ d → Old p W₁ T₁ d
+        then d u = record { used = u .used; moved = λ z. u .moved (link-same R d ∙ z) }
 
-        fields : (d : ℕ) → Between 0 (16 * p .pages) d → Old p r W₁ T₁ d → Fields p (refsOf W₃ (workOf W₁ d - 1)) (workOf W₁ d - 1) W₃
+        fields : (d : ℕ) → Between 0 (16 * p .pages) d → Old p W₁ T₁ d → Fields p (refsOf W₃ (workOf W₁ d - 1)) (workOf W₁ d - 1) W₃
         fields d q u =
             let x = old-survivor (b .start) a₀ a₁ F d u in
             let w = forwards-wiring (b .start) a₀ a₁ F .copies d q u in
@@ -239,7 +239,7 @@ module _ {p : Sizes} {r n m l : ℕ} {gs : ℕ → ℕ} {W T M W₁ T₁ : List 
   marks-ask o q l off = copy-marks (b .plan) c q l (unmarked b o q l off)
 
   -- copies and variables leave them to r
-  pub pages-ask : {k : ℕ} {list W₃ T₂ : List ℕ} → Lists (λ q. ownerOf p T q ≡ r) (p .pages) k list → r ≢ 0 → Variables p (p .threads * p .variables) r W₃ T₁ T₂
+  pub pages-ask : {k : ℕ} {list W₃ T₂ : List ℕ} → Lists (λ q. ownerOf p T q ≡ r) (p .pages) k list → r ≢ 0 → Variables p (p .threads * p .variables) W₃ T₁ T₂
       → Lists (λ q. ownerOf p T₂ q ≡ r) (p .pages) k list
   pages-ask {k} {list} {W₃} {T₂} o real w =
       record {
@@ -277,13 +277,13 @@ pub record Finished (p : Sizes) (r n m l t : ℕ) (gs : ℕ → ℕ) (W M T W′
   pub vars : List ℕ
   pub copy : Copy p l gs l W T cells tables
   pub forwards : Forwards p W T cells tables
-  pub rewritten : Rewritten p r (λ x. Remembered r n m M x ⊎ Copies p r cells tables x) cells tables W′
+  pub rewritten : Rewritten (λ x. Remembered r n m M x ⊎ Copies p cells tables x) cells W′
   pub remember : Updated p r n m W′ M tables M′
-  pub variables : Variables p (p .threads * p .variables) r W′ tables vars
+  pub variables : Variables p (p .threads * p .variables) W′ tables vars
   pub ended : Ended p r t vars T′
 
 pub finished : {p : Sizes} {r n m l t : ℕ} {gs : ℕ → ℕ} {W T M W₁ T₁ W₂ W₃ T₂ T′ M′ : List ℕ} (b : Before p r n m l gs W M T) (c : Copy p l gs l W T W₁ T₁)
-    (R₂ : Rewritten p r (Remembered r n m M) W₁ T₁ W₂) → Rewritten p r (Copies p r W₂ T₁) W₂ T₁ W₃ → Updated p r n m W₃ M T₁ M′ → Variables p (p .threads * p .variables) r W₃ T₁ T₂
+    (R₂ : Rewritten (Remembered r n m M) W₁ W₂) → Rewritten (Copies p W₂ T₁) W₂ W₃ → Updated p r n m W₃ M T₁ M′ → Variables p (p .threads * p .variables) W₃ T₁ T₂
     → Ended p r t T₂ T′ → Finished p r n m l t gs W M T W₃ M′ T′
 finished {W₁ = W₁} {T₁ = T₁} {T₂ = T₂} b c R₂ R₃ u w e =
     record {
@@ -299,7 +299,7 @@ finished {W₁ = W₁} {T₁ = T₁} {T₂ = T₂} b c R₂ R₃ u w e =
     }
 
 pub release-ask : {p : Sizes} {r n m l : ℕ} {gs : ℕ → ℕ} {W T M W₁ T₁ W₃ T₂ : List ℕ} (t : ℕ) (b : Before p r n m l gs W M T) (c : Copy p l gs l W T W₁ T₁)
-    → t < p .threads → 1 ≤ depthOf T t → Variables p (p .threads * p .variables) r W₃ T₁ T₂ → Room p (length T₂) × (depthOf T₂ t ≡ depthOf T t)
+    → t < p .threads → 1 ≤ depthOf T t → Variables p (p .threads * p .variables) W₃ T₁ T₂ → Room p (length T₂) × (depthOf T₂ t ≡ depthOf T t)
 release-ask {p} t b c lt pos w =
     let room = b .plan .ready .regular .room in (
       subst (λ (n : ℕ). Room p n) (sym (w .size ∙ moves-tables (c .moves))) room,
@@ -308,7 +308,7 @@ release-ask {p} t b c lt pos w =
 
 -- ---- the copies can be settled after the copying and the rewriting of the remembered slots
 
-pub settle-ask : {p : Sizes} {r n m l : ℕ} {gs : ℕ → ℕ} {W T M W₁ T₁ W₂ : List ℕ} → Before p r n m l gs W M T → Copy p l gs l W T W₁ T₁ → Rewritten p r (Remembered r n m M) W₁ T₁ W₂
+pub settle-ask : {p : Sizes} {r n m l : ℕ} {gs : ℕ → ℕ} {W T M W₁ T₁ W₂ : List ℕ} → Before p r n m l gs W M T → Copy p l gs l W T W₁ T₁ → Rewritten (Remembered r n m M) W₁ W₂
     → Settles p r n m W₂ M T₁
 settle-ask {p} {r} {n} {m} {T₁ = T₁} {W₂ = W₂} b c R₂ =
     record {
@@ -319,8 +319,8 @@ settle-ask {p} {r} {n} {m} {T₁ = T₁} {W₂ = W₂} b c R₂ =
       updating = λ W₃ R₃. update-ask b c (rewritten-both b c R₂ R₃);
     }
   where
-    w : Wiring p r (Between 0 (16 * p .pages)) W₂ T₁
+    w : Wiring p (Between 0 (16 * p .pages)) W₂ T₁
     w = copies-ask b c R₂
 
-    V′ : (W₃ : List ℕ) × Rewritten p r (Copies p r W₂ T₁) W₂ T₁ W₃
+    V′ : (W₃ : List ℕ) × Rewritten (Copies p W₂ T₁) W₂ W₃
     V′ = copies-exist w (16 * p .pages) (omega arith)

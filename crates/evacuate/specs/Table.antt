@@ -62,10 +62,10 @@ pub record Listed (p : Sizes) (n m : ℕ) (W M T : List ℕ) : Type 0 where
   pub every : (x : ℕ) → IsSlot p W T x → crossAt p W T x ≢ 0 → (i : ℕ) × (i < m) × (slotIn M i ≡ x)
 
 module _ {p : Sizes} {r n m : ℕ} {M W₀ T₀ W T W′ : List ℕ} (s : Start p r (Remembered r n m M) W₀ T₀) (a₀ : Ready p W₀ T₀) (a : Ready p W T)
-    (F : Forwards p W₀ T₀ W T) (R : Rewritten p r (λ x. Remembered r n m M x ⊎ Copies p r W T x) W T W′)
+    (F : Forwards p W₀ T₀ W T) (R : Rewritten (λ x. Remembered r n m M x ⊎ Copies p W T x) W W′)
     (L : Listed p n m W₀ M T₀) where
   -- an old slot is no slot of a copy
-  pub no-copy : (x : ℕ) → InUse p T₀ (x / 16) → Copies p r W T x → ⊥
+  pub no-copy : (x : ℕ) → InUse p T₀ (x / 16) → Copies p W T x → ⊥
   no-copy x u q =
       let b : ℕ = q .cell in
       let v = old-survivor s a₀ a F b (q .old) in
@@ -158,7 +158,7 @@ module _ {p : Sizes} {r n m : ℕ} {M W₀ T₀ W T W′ : List ℕ} (s : Start 
           let v = cross-value p T₀ (ownerOf p T₀ (slotIn M (q .entry) / 256)) (getD W₀ (slotIn M (q .entry)) 0) h hc (q .kept) in
           result out (same-cross (slotIn M (q .entry)) t (λ w z. ne (sym hg ∙ v .region ∙ z)) h (q .kept) hc)
 
-  pub entry-apart : (x h : ℕ) → Stays p r n W′ M T m x h → Copies p r W T x → ⊥
+  pub entry-apart : (x h : ℕ) → Stays p r n W′ M T m x h → Copies p W T x → ⊥
   entry-apart x h q c =
       no-copy x (subst (λ (y : ℕ). InUse p T₀ (y / 16)) (q .slot) (L .slots (q .entry) (q .low) .used)) c
 
@@ -215,7 +215,7 @@ module _ {p : Sizes} {r n m : ℕ} {M W₀ T₀ W T W′ : List ℕ} (s : Start 
           stay (crossAt p W′ T x) ne e (λ w. refl)
 
   -- every slot that crosses after the end is an entry of the new table
-  pub all-listed : 1 < r → (x : ℕ) → Crosses p r W′ T x → Stays p r n W′ M T m x (crossAt p W′ T x) ⊎ Crossing p (Copies p r W T) W′ T x (crossAt p W′ T x)
+  pub all-listed : 1 < r → (x : ℕ) → Crosses p r W′ T x → Stays p r n W′ M T m x (crossAt p W′ T x) ⊎ Crossing p (Copies p W T) W′ T x (crossAt p W′ T x)
   all-listed high x q = ⊎-elim (λ u. inl (old u)) (λ u. inr (copy u)) (F .only (x / 16) (q .used))
     where
       old : InUse p T₀ (x / 16) → Stays p r n W′ M T m x (crossAt p W′ T x)
@@ -227,7 +227,7 @@ module _ {p : Sizes} {r n m : ℕ} {M W₀ T₀ W T W′ : List ℕ} (s : Start 
           (ap (λ (y : ℕ). getD W y 0) e ∙ F .copying .words (x / 16) 0 (omega arith) u (λ w. omega arith) ∙ ap (λ (y : ℕ). getD W₀ y 0) (sym e)) in
           old-listed x (record { used = u; field = q .field; ref = omega (arith, q .ref, head) }) (q .out) high (q .cross)
 
-      copy : (c : ℕ) × (c / 16 < p .pages) × (marked p T₀ c ≡ 1) × (forward W c ≡ x / 16) → Crossing p (Copies p r W T) W′ T x (crossAt p W′ T x)
+      copy : (c : ℕ) × (c / 16 < p .pages) × (marked p T₀ c ≡ 1) × (forward W c ≡ x / 16) → Crossing p (Copies p W T) W′ T x (crossAt p W′ T x)
       copy u =
           let c : ℕ = u .0 in
           let lc : c / 16 < p .pages = u .1 in

@@ -13,7 +13,7 @@ use Rattle.rules.specs.declared.Sizes.{Sizes}
 use Rattle.layout.specs.Places.{ownerOf, slotIn, slotRegionIn}
 use Rattle.remember.specs.Crossing.{other}
 use Rattle.remember.specs.Stretches.{Added, added-none, added-one, added-join, added-like, slot-above, region-above}
-use Rattle.settle.specs.Rewrite.{Names}
+use Rattle.layout.specs.Words.{Names}
 
 -- ---- crossing
 

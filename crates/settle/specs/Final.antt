@@ -12,7 +12,8 @@ use lib.ListN.{getD, set}
 use Rattle.rules.specs.declared.Sizes.{Sizes}
 use Rattle.layout.specs.Places.{ownerOf, usedOf, slotIn, slotRegionIn}
 use Rattle.layout.specs.Cells.{workOf, fieldOf, refsOf}
-use Rattle.settle.specs.Rewrite.{Names, moveRef, Rewritten, rewritten-none, rewritten-like}
+use Rattle.layout.specs.Words.{Names}
+use Rattle.settle.specs.Rewrite.{forwarded, Rewritten, rewritten-none, rewritten-like}
 use Rattle.settle.specs.RewriteSlots.{Field, Fields, fields-start, field-moved}
 use Rattle.settle.specs.RewriteCopies.{CopySlot, Old, Wiring, Grown, Between, copy-fields, slot-less, slot-now, slot-then}
 use Rattle.remember.specs.Stretches.{Added, added-like, Cleared}
@@ -22,23 +23,22 @@ use Rattle.settle.specs.Settle.{Settled, Settling, crossing-in, copy-rew
 
 -- ---- they exist
 
-fields-exist : {p : Sizes} {r k d : ℕ} {W T : List ℕ} → Fields p k d W → (f : ℕ) → f ≤ k → (V′ : List ℕ) × Rewritten p r (Field d f) W T V′
-fields-exist {p} {r} {k} {d} {W} {T} a zero l = (W, fields-start p r d W T)
-fields-exist {p} {r} {k} {d} {W} {T} a (suc f) l =
-    let q = fields-exist {r = r} {T = T} a f (omega arith) in
-    let v : ℕ = moveRef p r (q .0) T (fieldOf (q .0) d f) in
+fields-exist : {p : Sizes} {k d : ℕ} {W : List ℕ} → Fields p k d W → (f : ℕ) → f ≤ k → (V′ : List ℕ) × Rewritten (Field d f) W V′
+fields-exist {p} {k} {d} {W} a zero l = (W, fields-start d W)
+fields-exist {p} {k} {d} {W} a (suc f) l =
+    let q = fields-exist a f (omega arith) in
+    let v : ℕ = forwarded (q .0) (fieldOf (q .0) d f) in
     let e : f + 1 ≡ suc f = omega arith in
-    (set (q .0) (16 * d + 2 + f) v, subst (λ (y : ℕ). Rewritten p r (Field d y) W T (set (q .0) (16 * d + 2 + f) v)) e (field-moved a (omega arith) (q .1) v refl))
+    (set (q .0) (16 * d + 2 + f) v, subst (λ (y : ℕ). Rewritten (Field d y) W (set (q .0) (16 * d + 2 + f) v)) e (field-moved a (omega arith) (q .1) v refl))
 
-old? : (p : Sizes) (r : ℕ) (W T : List ℕ) (c : ℕ) → Dec (Old p r W T c)
-old? p r W T c = go (decLt (c / 16) (p .pages)) (decLt (c % 16) (usedOf p T (c / 16))) (ℕ-discrete (ownerOf p T (c / 16)) r) (ℕ-discrete (workOf W c) 0)
+old? : (p : Sizes) (W T : List ℕ) (c : ℕ) → Dec (Old p W T c)
+old? p W T c = go (decLt (c / 16) (p .pages)) (decLt (c % 16) (usedOf p T (c / 16))) (ℕ-discrete (workOf W c) 0)
   where
-    go : Dec (c / 16 < p .pages) → Dec (c % 16 < usedOf p T (c / 16)) → Dec (ownerOf p T (c / 16) ≡ r) → Dec (workOf W c ≡ 0) → Dec (Old p r W T c)
-    go (yes a) (yes b) (yes o) (no z) = yes (record { used = record { page = a; place = b }; owner = o; moved = z })
-    go (no a) b o z = no (λ u. a (u .used .page))
-    go (yes a) (no b) o z = no (λ u. b (u .used .place))
-    go (yes a) (yes b) (no o) z = no (λ u. o (u .owner))
-    go (yes a) (yes b) (yes o) (yes z) = no (λ u. u .moved z)
+    go : Dec (c / 16 < p .pages) → Dec (c % 16 < usedOf p T (c / 16)) → Dec (workOf W c ≡ 0) → Dec (Old p W T c)
+    go (yes a) (yes b) (no z) = yes (record { used = record { page = a; place = b }; moved = z })
+    go (no a) b z = no (λ u. a (u .used .page))
+    go (yes a) (no b) z = no (λ u. b (u .used .place))
+    go (yes a) (yes b) (yes z) = no (λ u. u .moved z)
 
 -- cell k after those below it
 between-grown : (k : ℕ) → Grown (Between 0 k) k (Between 0 (suc k))
@@ -54,32 +54,32 @@ between-grown k =
     go y m (yes e) = inr e
     go y m (no n) = inl (m .0, omega (arith, m .1))
 
-pub copies-exist : {p : Sizes} {r : ℕ} {W T : List ℕ} → Wiring p r (Between 0 (16 * p .pages)) W T → (k : ℕ) → k ≤ 16 * p .pages
-    → (V′ : List ℕ) × Rewritten p r (CopySlot p r (Between 0 k) W T) W T V′
-copies-exist {p} {r} {W} {T} w zero l = (W, rewritten-none p r (CopySlot p r (Between 0 0) W T) W T (λ x q. omega (arith, q .among .1)))
-copies-exist {p} {r} {W} {T} w (suc k) l = go (copies-exist w k (omega arith)) (old? p r W T k)
+pub copies-exist : {p : Sizes} {W T : List ℕ} → Wiring p (Between 0 (16 * p .pages)) W T → (k : ℕ) → k ≤ 16 * p .pages
+    → (V′ : List ℕ) × Rewritten (CopySlot p (Between 0 k) W T) W V′
+copies-exist {p} {W} {T} w zero l = (W, rewritten-none (CopySlot p (Between 0 0) W T) W (λ x q. omega (arith, q .among .1)))
+copies-exist {p} {W} {T} w (suc k) l = go (copies-exist w k (omega arith)) (old? p W T k)
   where
     among : (y : ℕ) → Between 0 (suc k) y → Between 0 (16 * p .pages) y
     among y m = (m .0, omega (arith, m .1))
 
-    go : (V′ : List ℕ) × Rewritten p r (CopySlot p r (Between 0 k) W T) W T V′ → Dec (Old p r W T k) → (V′ : List ℕ) × Rewritten p r (CopySlot p r (Between 0 (suc k)) W T) W T V′
+    go : (V′ : List ℕ) × Rewritten (CopySlot p (Between 0 k) W T) W V′ → Dec (Old p W T k) → (V′ : List ℕ) × Rewritten (CopySlot p (Between 0 (suc k)) W T) W V′
     go q (yes u) =
         let x : ℕ = workOf (q .0) k in
-        let f = fields-exist {r = r} {T = T} (copy-fields w (between-grown k) among (q .1) x refl u) (refsOf (q .0) (x - 1)) (omega arith) in
+        let f = fields-exist (copy-fields w (between-grown k) among (q .1) x refl u) (refsOf (q .0) (x - 1)) (omega arith) in
         (f .0, copy-rewritten w (between-grown k) among (q .1) x refl u (f .1))
     go q (no n) = (q .0, rewritten-like (q .1) (λ x s. less x s (ℕ-discrete (s .cell) k)) (λ x s. slot-less (λ y m. (m .0, omega (arith, m .1))) x s))
       where
-        less : (x : ℕ) (s : CopySlot p r (Between 0 (suc k)) W T x) → Dec (s .cell ≡ k) → CopySlot p r (Between 0 k) W T x
-        less x s (yes e) = absurd (n (subst (λ (y : ℕ). Old p r W T y) e (s .old)))
+        less : (x : ℕ) (s : CopySlot p (Between 0 (suc k)) W T x) → Dec (s .cell ≡ k) → CopySlot p (Between 0 k) W T x
+        less x s (yes e) = absurd (n (subst (λ (y : ℕ). Old p W T y) e (s .old)))
         less x s (no e) = record { cell = s .cell; among = (s .among .0, omega (arith, s .among .1)); old = s .old; field = s .field }
 
 -- ---- the whole settling: m entries of n are in use
 
 -- whatever the cells become, the remember table can be made for them, and the slots of its entries are none of those rewritten
 pub record Settles (p : Sizes) (r n m : ℕ) (W M T : List ℕ) : Type 0 where
-  pub wiring : Wiring p r (Between 0 (16 * p .pages)) W T
-  pub old : (i : ℕ) → i < m → Copies p r W T (slotIn M i) → ⊥
-  pub updating : (W′ : List ℕ) → Rewritten p r (Copies p r W T) W T W′ → Updating p r n m W′ M T
+  pub wiring : Wiring p (Between 0 (16 * p .pages)) W T
+  pub old : (i : ℕ) → i < m → Copies p W T (slotIn M i) → ⊥
+  pub updating : (W′ : List ℕ) → Rewritten (Copies p W T) W W′ → Updating p r n m W′ M T
 
 -- an entry's new region, by cells that read the same at its slot
 new-same : (p : Sizes) (r : ℕ) (W W′ T : List ℕ) (s g : ℕ) → getD W′ s 0 ≡ getD W s 0 → newRegion p r W′ T s g ≡ newRegion p r W T s g
@@ -88,14 +88,14 @@ new-same p r W W′ T s g e =
     ap (λ (y : ℕ). cond (eqb (ownerOf p T (s / 256)) r) 0 (cond (eqb g r) (crossOf p T (ownerOf p T (s / 256)) y) g)) e
 
 module _ {p : Sizes} {r n m : ℕ} {W M T : List ℕ} (u : Settles p r n m W M T) where
-  final : (V′ : List ℕ) × Rewritten p r (Copies p r W T) W T V′
+  final : (V′ : List ℕ) × Rewritten (Copies p W T) W V′
   final = copies-exist (u .wiring) (16 * p .pages) (omega arith)
 
   -- the table for the cells as they will be
   due : Updating p r n m (final .0) M T
   due = u .updating (final .0) (final .1)
 
-  module _ {W′ : List ℕ} (R : Rewritten p r (Copies p r W T) W T W′) where
+  module _ {W′ : List ℕ} (R : Rewritten (Copies p W T) W W′) where
     entry-same : (i : ℕ) → i < m → getD W′ (slotIn M i) 0 ≡ getD W (slotIn M i) 0
     entry-same i l = R .same (slotIn M i) (u .old i l)
 
@@ -139,11 +139,12 @@ module _ {p : Sizes} {r n m : ℕ} {W M T : List ℕ} (u : Settles p r n m W M T
         names = λ i l z. subst (λ (x : ℕ). Names p x) (entry-same (final .1) i l) (e .names i l z);
       }
 
-  pub settle-asks : {j : ℕ} {M₁ : List ℕ} → Added n (Stays p r n W M T m) 0 j M M₁ → Settling p r n (Copies p r W T) W M₁ T j
+  pub settle-asks : {j : ℕ} {M₁ : List ℕ} → Added n (Stays p r n W M T m) 0 j M M₁ → Settling p n (Copies p W T) W M₁ T j
   settle-asks a =
       let R = final .1 in
       let b = update-appending due (stays-like R a) in
       record {
+        region = r;
         final = final .0;
         moved = R .moved;
         names = λ x q. names x (slot-now R x q);
@@ -159,13 +160,13 @@ module _ {p : Sizes} {r n m : ℕ} {W M T : List ℕ} (u : Settles p r n m W M T
             };
       }
     where
-      names : (x : ℕ) → Copies p r (final .0) T x → Names p (getD (final .0) x 0)
+      names : (x : ℕ) → Copies p (final .0) T x → Names p (getD (final .0) x 0)
       names x q =
           let f = q .field in
           subst (λ (y : ℕ). Names p (getD (final .0) y 0)) (sym (f .at)) (due .wiring .copies (q .cell) (q .among) (q .old) .names (f .field) (f .low))
 
   -- and what they leave: j entries stay, k are used in the end
-  pub settles-updated : {j k e v : ℕ} {W′ M₁ M₂ M₃ : List ℕ} → Added n (Stays p r n W M T m) 0 j M M₁ → j ≤ m → Settled p r n (Copies p r W T) W M₁ T j W′ M₂ k
+  pub settles-updated : {j k e v : ℕ} {W′ M₁ M₂ M₃ : List ℕ} → Added n (Stays p r n W M T m) 0 j M M₁ → j ≤ m → Settled p n (Copies p W T) W M₁ T j W′ M₂ k
       → e ≡ max k m → Cleared n k e M₂ M₃ → v ≡ k → Updated p r n m W′ M T (set M₃ 1 v)
   settles-updated {W′ = W′} a le h em c ev =
       let R = h .rewritten in

@@ -9,41 +9,40 @@ use lib.ListN.{length}
 use Rattle.lists.specs.Bits.{bitAt, bit-zero, clear-same, clear-other, Lowest}
 use Rattle.lists.specs.SetBits.{upper-bit}
 use Rattle.rules.specs.declared.Sizes.{Sizes}
-use Rattle.layout.specs.Places.{Room, ownerOf, markOf}
+use Rattle.layout.specs.Places.{Room, markOf}
 use Rattle.layout.specs.Cells.{workOf, refsOf}
-use Rattle.layout.specs.Words.{InUse}
+use Rattle.layout.specs.Words.{InUse, Names}
 use Rattle.copy.specs.Marks.{copied}
-use Rattle.settle.specs.Rewrite.{Names, Rewritten, link-same, refs-same}
+use Rattle.settle.specs.Rewrite.{Rewritten, link-same, refs-same}
 use Rattle.settle.specs.RewriteSlots.{Field, Fields}
 
 -- ---- the copies: of the old cells of which Q holds
 
-pub record Old (p : Sizes) (r : ℕ) (W T : List ℕ) (c : ℕ) : Type 0 where
+pub record Old (p : Sizes) (W T : List ℕ) (c : ℕ) : Type 0 where
   pub used : InUse p T c
-  pub owner : ownerOf p T (c / 16) ≡ r
   pub moved : workOf W c ≢ 0
 
-pub record CopySlot (p : Sizes) (r : ℕ) (Q : ℕ → Type 0) (W T : List ℕ) (x : ℕ) : Type 0 where
+pub record CopySlot (p : Sizes) (Q : ℕ → Type 0) (W T : List ℕ) (x : ℕ) : Type 0 where
   pub cell : ℕ
   pub among : Q cell
-  pub old : Old p r W T cell
+  pub old : Old p W T cell
   pub field : Field (workOf W cell - 1) (refsOf W (workOf W cell - 1)) x
 
-pub record Wiring (p : Sizes) (r : ℕ) (Q : ℕ → Type 0) (W T : List ℕ) : Type 0 where
+pub record Wiring (p : Sizes) (Q : ℕ → Type 0) (W T : List ℕ) : Type 0 where
   pub few : p .pages ≤ 1024
   pub cells-long : 256 * p .pages ≤ length W
   pub tables-long : Room p (length T)
-  pub bits : (c : ℕ) → Q c → c / 16 < p .pages → copied p T c ≡ 1 → Old p r W T c
-  pub only : (c : ℕ) → Q c → Old p r W T c → copied p T c ≡ 1
-  pub copies : (c : ℕ) → Q c → Old p r W T c → Fields p (refsOf W (workOf W c - 1)) (workOf W c - 1) W
-  pub once : (b c : ℕ) → Q b → Q c → Old p r W T b → Old p r W T c → workOf W b ≡ workOf W c → b ≡ c
+  pub bits : (c : ℕ) → Q c → c / 16 < p .pages → copied p T c ≡ 1 → Old p W T c
+  pub only : (c : ℕ) → Q c → Old p W T c → copied p T c ≡ 1
+  pub copies : (c : ℕ) → Q c → Old p W T c → Fields p (refsOf W (workOf W c - 1)) (workOf W c - 1) W
+  pub once : (b c : ℕ) → Q b → Q c → Old p W T b → Old p W T c → workOf W b ≡ workOf W c → b ≡ c
 
-module _ {p : Sizes} {r : ℕ} {P : ℕ → Type 0} {W T W′ : List ℕ} (h : Rewritten p r P W T W′) where
-  pub old-now : {p : Sizes} (c : ℕ) → Old p r W T c → Old p r W′ T c
-  old-now c u = record { used = u .used; owner = u .owner; moved = λ z. u .moved (sym (link-same h c) ∙ z) }
+module _ {P : ℕ → Type 0} {W W′ : List ℕ} (h : Rewritten P W W′) where
+  pub old-now : {p : Sizes} {T : List ℕ} (c : ℕ) → Old p W T c → Old p W′ T c
+  old-now c u = record { used = u .used; moved = λ z. u .moved (sym (link-same h c) ∙ z) }
 
-  old-then : {p : Sizes} (c : ℕ) → Old p r W′ T c → Old p r W T c
-  old-then c u = record { used = u .used; owner = u .owner; moved = λ z. u .moved (link-same h c ∙ z) }
+  old-then : {p : Sizes} {T : List ℕ} (c : ℕ) → Old p W′ T c → Old p W T c
+  old-then c u = record { used = u .used; moved = λ z. u .moved (link-same h c ∙ z) }
 
   cell-fields : (c x : ℕ) → Field (workOf W c - 1) (refsOf W (workOf W c - 1)) x → Field (workOf W′ c - 1) (refsOf W′ (workOf W′ c - 1)) x
   cell-fields c x q =
@@ -55,15 +54,15 @@ module _ {p : Sizes} {r : ℕ} {P : ℕ → Type 0} {W T W′ : List ℕ} (h : R
       let q′ : Field (workOf W c - 1) (refsOf W′ (workOf W c - 1)) x = subst (λ (y : ℕ). Field (y - 1) (refsOf W′ (y - 1)) x) (link-same h c) q in
       record { field = q′ .field; low = omega (arith, q′ .low, refs-same h (workOf W c - 1)); at = q′ .at }
 
-  pub slot-now : {p : Sizes} {Q : ℕ → Type 0} (x : ℕ) → CopySlot p r Q W T x → CopySlot p r Q W′ T x
+  pub slot-now : {p : Sizes} {Q : ℕ → Type 0} {T : List ℕ} (x : ℕ) → CopySlot p Q W T x → CopySlot p Q W′ T x
   slot-now x q = record { cell = q .cell; among = q .among; old = old-now (q .cell) (q .old); field = cell-fields (q .cell) x (q .field) }
 
-  pub slot-then : {p : Sizes} {Q : ℕ → Type 0} (x : ℕ) → CopySlot p r Q W′ T x → CopySlot p r Q W T x
+  pub slot-then : {p : Sizes} {Q : ℕ → Type 0} {T : List ℕ} (x : ℕ) → CopySlot p Q W′ T x → CopySlot p Q W T x
   slot-then x q = record { cell = q .cell; among = q .among; old = old-then (q .cell) (q .old); field = fields-cell (q .cell) x (q .field) }
 
   -- cells whose slots are none of those rewritten are wired as before
-  pub wiring-now : {p : Sizes} {Q : ℕ → Type 0} → Wiring p r Q W T → ((x : ℕ) → CopySlot p r Q W T x → P x → ⊥) → Wiring p r Q W′ T
-  wiring-now {p} {Q} a apart =
+  pub wiring-now : {p : Sizes} {Q : ℕ → Type 0} {T : List ℕ} → Wiring p Q W T → ((x : ℕ) → CopySlot p Q W T x → P x → ⊥) → Wiring p Q W′ T
+  wiring-now {p} {Q} {T} a apart =
       record {
         few = a .few;
         cells-long = omega (arith, a .cells-long, h .size);
@@ -74,7 +73,7 @@ module _ {p : Sizes} {r : ℕ} {P : ℕ → Type 0} {W T W′ : List ℕ} (h : R
         once = λ b c q q′ u v e. a .once b c q q′ (old-then b u) (old-then c v) (sym (link-same h b) ∙ e ∙ link-same h c);
       }
     where
-      copies′ : (c : ℕ) → Q c → Old p r W T c → Fields p (refsOf W′ (workOf W c - 1)) (workOf W c - 1) W′
+      copies′ : (c : ℕ) → Q c → Old p W T c → Fields p (refsOf W′ (workOf W c - 1)) (workOf W c - 1) W′
       copies′ c q u =
           let w = a .copies c q u in
           let d : ℕ = workOf W c - 1 in
@@ -93,15 +92,15 @@ module _ {p : Sizes} {r : ℕ} {P : ℕ → Type 0} {W T W′ : List ℕ} (h : R
           }
 
 -- slots of copies of different cells are different
-pub slots-apart : {p : Sizes} {r : ℕ} {Q : ℕ → Type 0} {W T : List ℕ} → Wiring p r Q W T → (b c x : ℕ) → Q b → Q c → Old p r W T b → Old p r W T c
+pub slots-apart : {p : Sizes} {Q : ℕ → Type 0} {W T : List ℕ} → Wiring p Q W T → (b c x : ℕ) → Q b → Q c → Old p W T b → Old p W T c
     → Field (workOf W b - 1) (refsOf W (workOf W b - 1)) x → Field (workOf W c - 1) (refsOf W (workOf W c - 1)) x → b ≡ c
-slots-apart {p} {r} {Q} {W} {T} a b c x qb qc ub uc fb fc =
+slots-apart {p} {Q} {W} {T} a b c x qb qc ub uc fb fc =
     a .once b c qb qc ub uc
     (let nb : workOf W b ≢ 0 = ub .moved in
     let nc : workOf W c ≢ 0 = uc .moved in
     omega (arith, a .copies b qb ub .few, a .copies c qc uc .few, fb .low, fb .at, fc .low, fc .at))
 
-pub wiring-less : {p : Sizes} {r : ℕ} {P Q : ℕ → Type 0} {W T : List ℕ} → ((c : ℕ) → P c → Q c) → Wiring p r Q W T → Wiring p r P W T
+pub wiring-less : {p : Sizes} {P Q : ℕ → Type 0} {W T : List ℕ} → ((c : ℕ) → P c → Q c) → Wiring p Q W T → Wiring p P W T
 wiring-less f a =
     record {
       few = a .few;
@@ -113,7 +112,7 @@ wiring-less f a =
       once = λ b c q q′ u v e. a .once b c (f b q) (f c q′) u v e;
     }
 
-pub slot-less : {p : Sizes} {r : ℕ} {P Q : ℕ → Type 0} {W T : List ℕ} → ((c : ℕ) → P c → Q c) → (x : ℕ) → CopySlot p r P W T x → CopySlot p r Q W T x
+pub slot-less : {p : Sizes} {P Q : ℕ → Type 0} {W T : List ℕ} → ((c : ℕ) → P c → Q c) → (x : ℕ) → CopySlot p P W T x → CopySlot p Q W T x
 slot-less f x q = record { cell = q .cell; among = f (q .cell) (q .among); old = q .old; field = q .field }
 
 -- ---- the copy of one survivor more
@@ -125,19 +124,19 @@ pub record Grown (P : ℕ → Type 0) (c : ℕ) (P′ : ℕ → Type 0) : Type 0
   pub keeps : (y : ℕ) → P y → P′ y
   pub split : (y : ℕ) → P′ y → P y ⊎ (y ≡ c)
 
-module _ {p : Sizes} {r c : ℕ} {P P′ Q : ℕ → Type 0} {W T W′ : List ℕ} (w : Wiring p r Q W T) (g : Grown P c P′) (among : (y : ℕ) → P′ y → Q y)
-    (h : Rewritten p r (CopySlot p r P W T) W T W′) where
-  pub earlier-apart : (x : ℕ) → CopySlot p r (λ y. y ≡ c) W T x → CopySlot p r P W T x → ⊥
+module _ {p : Sizes} {c : ℕ} {P P′ Q : ℕ → Type 0} {W T W′ : List ℕ} (w : Wiring p Q W T) (g : Grown P c P′) (among : (y : ℕ) → P′ y → Q y)
+    (h : Rewritten (CopySlot p P W T) W W′) where
+  pub earlier-apart : (x : ℕ) → CopySlot p (λ y. y ≡ c) W T x → CopySlot p P W T x → ⊥
   earlier-apart x q q′ =
       let z : q′ .cell ≡ q .cell =
       slots-apart w (q′ .cell) (q .cell) x (among (q′ .cell) (g .keeps (q′ .cell) (q′ .among))) (subst Q (sym (q .among)) (among c (g .here)))
       (q′ .old) (q .old) (q′ .field) (q .field) in
       g .new (subst P (z ∙ q .among) (q′ .among))
 
-  here-wired : Wiring p r (λ y. y ≡ c) W′ T
+  here-wired : Wiring p (λ y. y ≡ c) W′ T
   here-wired = wiring-now h (wiring-less (λ y e. subst Q (sym e) (among c (g .here))) w) earlier-apart
 
-  pub copy-fields : (x : ℕ) → x ≡ workOf W′ c → Old p r W T c → Fields p (refsOf W′ (x - 1)) (x - 1) W′
+  pub copy-fields : (x : ℕ) → x ≡ workOf W′ c → Old p W T c → Fields p (refsOf W′ (x - 1)) (x - 1) W′
   copy-fields x e u =
       subst (λ (y : ℕ). Fields p (refsOf W′ (y - 1)) (y - 1) W′) (sym e) (here-wired .copies c refl (old-now h c u))
 
@@ -180,20 +179,20 @@ passed-grown {left} q i left′ l e =
     split′ y m (yes d) = inr (omega (arith, m .0))
     split′ y m (no n) = inl (m .0, sym (clear-other i (y % 16) left (l .on) n) ∙ sym (at (y % 16)) ∙ m .1)
 
-module _ {p : Sizes} {r q w : ℕ} {W T : List ℕ} (a : Wiring p r (Between (16 * q) (16 * (q + 1))) W T) (e : w ≡ markOf p T q / 2 ^ 16) where
+module _ {p : Sizes} {q w : ℕ} {W T : List ℕ} (a : Wiring p (Between (16 * q) (16 * (q + 1))) W T) (e : w ≡ markOf p T q / 2 ^ 16) where
   -- w is the upper half of the page's mark word
   upper-copied : (c : ℕ) → c / 16 ≡ q → bitAt w (c % 16) ≡ copied p T c
   upper-copied c d =
       ap (λ (x : ℕ). bitAt x (c % 16)) e ∙ upper-bit (markOf p T q) (c % 16) ∙ ap (λ (x : ℕ). bitAt (markOf p T x) (16 + c % 16)) (sym d)
 
-  pub bit-old : (i : ℕ) → q < p .pages → i < 16 → bitAt w i ≡ 1 → Old p r W T (16 * q + i)
+  pub bit-old : (i : ℕ) → q < p .pages → i < 16 → bitAt w i ≡ 1 → Old p W T (16 * q + i)
   bit-old i l li on =
       let d : (16 * q + i) / 16 ≡ q = omega arith in
       let m : (16 * q + i) % 16 ≡ i = omega arith in
       a .bits (16 * q + i) (omega arith, omega arith) (omega arith) (sym (upper-copied (16 * q + i) d) ∙ ap (bitAt w) m ∙ on)
 
   -- a cell whose bit is not set has no copy
-  pub unset-none : (x : ℕ) → CopySlot p r (Passed q w) W T x → ⊥
+  pub unset-none : (x : ℕ) → CopySlot p (Passed q w) W T x → ⊥
   unset-none x s =
       let c : ℕ = s .cell in
       omega (arith, a .only c (passed-within q w c (s .among)) (s .old), upper-copied c (s .among .0), s .among .1)
@@ -205,9 +204,9 @@ within-passed q left c z m = (omega (arith, m .0, m .1), ap (λ (x : ℕ). bitAt
 -- ---- all pages
 
 -- a page without marks has no copies
-pub unmarked-slots : {p : Sizes} {r : ℕ} {W T : List ℕ} → Wiring p r (Between 0 (16 * p .pages)) W T → (q : ℕ) → q < p .pages → markOf p T q ≡ 0
-    → (x : ℕ) → CopySlot p r (Between 0 (16 * (q + 1))) W T x → CopySlot p r (Between 0 (16 * q)) W T x
-unmarked-slots {p} {r} {W} {T} w q l z x s = record { cell = s .cell; among = (omega arith, below (decLt (s .cell) (16 * q))); old = s .old; field = s .field }
+pub unmarked-slots : {p : Sizes} {W T : List ℕ} → Wiring p (Between 0 (16 * p .pages)) W T → (q : ℕ) → q < p .pages → markOf p T q ≡ 0
+    → (x : ℕ) → CopySlot p (Between 0 (16 * (q + 1))) W T x → CopySlot p (Between 0 (16 * q)) W T x
+unmarked-slots {p} {W} {T} w q l z x s = record { cell = s .cell; among = (omega arith, below (decLt (s .cell) (16 * q))); old = s .old; field = s .field }
   where
     m : s .cell < 16 * (q + 1)
     m = s .among .1
@@ -220,9 +219,9 @@ unmarked-slots {p} {r} {W} {T} w q l z x s = record { cell = s .cell; among = (o
         absurd (let y : ⊥ = omega (arith, ap (λ (v : ℕ). bitAt (markOf p T v) (16 + s .cell % 16)) e, ap (λ (v : ℕ). bitAt v (16 + s .cell % 16)) z, bit-zero (16 + s .cell % 16)) in y)
 
 -- a page after those below it
-module _ {p : Sizes} {r q : ℕ} {W T W′ : List ℕ} (w : Wiring p r (Between 0 (16 * p .pages)) W T) (lt : q < p .pages)
-    (h : Rewritten p r (CopySlot p r (Between 0 (16 * q)) W T) W T W′) where
-  pub pages-apart : (x : ℕ) → CopySlot p r (Between (16 * q) (16 * (q + 1))) W T x → CopySlot p r (Between 0 (16 * q)) W T x → ⊥
+module _ {p : Sizes} {q : ℕ} {W T W′ : List ℕ} (w : Wiring p (Between 0 (16 * p .pages)) W T) (lt : q < p .pages)
+    (h : Rewritten (CopySlot p (Between 0 (16 * q)) W T) W W′) where
+  pub pages-apart : (x : ℕ) → CopySlot p (Between (16 * q) (16 * (q + 1))) W T x → CopySlot p (Between 0 (16 * q)) W T x → ⊥
   pages-apart x s s′ =
       let l : 16 * q ≤ s .cell = s .among .0 in
       let l′ : s′ .cell < 16 * q = s′ .among .1 in
@@ -231,5 +230,5 @@ module _ {p : Sizes} {r q : ℕ} {W T W′ : List ℕ} (w : Wiring p r (Between 
       slots-apart w (s .cell) (s′ .cell) x (omega arith, omega arith) (omega arith, omega arith) (s .old) (s′ .old) (s .field) (s′ .field) in
       omega arith
 
-  pub page-wired : Wiring p r (Between (16 * q) (16 * (q + 1))) W′ T
+  pub page-wired : Wiring p (Between (16 * q) (16 * (q + 1))) W′ T
   page-wired = wiring-now h (wiring-less (λ y l. (omega arith, omega (arith, l .1))) w) pages-apart

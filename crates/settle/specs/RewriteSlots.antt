@@ -8,9 +8,10 @@ use native.Mathlib.Omega.{arith}
 use lib.ListN.{length, getD, set, length-set}
 use lib.Seq.{getD-set-same, getD-set-other}
 use Rattle.rules.specs.declared.Sizes.{Sizes}
-use Rattle.layout.specs.Places.{Room, varAt, ownerAt, varOf, slotIn, slotRegionIn, varsFrom}
+use Rattle.layout.specs.Places.{Room, varAt, varCount, varOf, slotIn, slotRegionIn, varsFrom}
 use Rattle.layout.specs.Cells.{fieldOf}
-use Rattle.settle.specs.Rewrite.{moveRef, move-same, Names, Rewritten, rewritten-none, rewritten-one, rewritten-join}
+use Rattle.layout.specs.Words.{Names}
+use Rattle.settle.specs.Rewrite.{forwarded, Rewritten, rewritten-none, rewritten-one, rewritten-join}
 
 -- ---- the remembered slots with region r
 
@@ -31,15 +32,15 @@ pub record Slots (p : Sizes) (r n m : ℕ) (W M : List ℕ) : Type 0 where
   pub once : (i j : ℕ) → i < j → j < m → slotIn M i ≢ slotIn M j
   pub names : (i : ℕ) → i < m → slotRegionIn n M i ≡ r → Names p (getD W (slotIn M i) 0)
 
-module _ {p : Sizes} {r n m : ℕ} {W M T W′ : List ℕ} {i : ℕ} (a : Slots p r n m W M) (lt : i < m) (h : Rewritten p r (Remembered r n i M) W T W′) where
+module _ {p : Sizes} {r n m : ℕ} {W M W′ : List ℕ} {i : ℕ} (a : Slots p r n m W M) (lt : i < m) (h : Rewritten (Remembered r n i M) W W′) where
   fresh : Remembered r n i M (slotIn M i) → ⊥
   fresh q = a .once (q .entry) i (q .low) lt (q .slot)
 
   pub slot-names : slotRegionIn n M i ≡ r → Names p (getD W′ (slotIn M i) 0)
   slot-names e = subst (λ (x : ℕ). Names p x) (sym (h .same (slotIn M i) fresh)) (a .names i lt e)
 
-  pub slot-moved : (v s : ℕ) → s ≡ slotIn M i → slotRegionIn n M i ≡ r → v ≡ moveRef p r W′ T (getD W′ s 0)
-      → Rewritten p r (Remembered r n (i + 1) M) W T (set W′ s v)
+  pub slot-moved : (v s : ℕ) → s ≡ slotIn M i → slotRegionIn n M i ≡ r → v ≡ forwarded W′ (getD W′ s 0)
+      → Rewritten (Remembered r n (i + 1) M) W (set W′ s v)
   slot-moved v s e reg ev =
       rewritten-join h
       (rewritten-one s v (omega (arith, a .low i lt, a .cells-long, h .size)) (subst (λ (z : ℕ). 2 ≤ z % 16) (sym e) (a .fields i lt)) ev)
@@ -52,9 +53,9 @@ module _ {p : Sizes} {r n m : ℕ} {W M T W′ : List ℕ} {i : ℕ} (a : Slots 
       from x q (yes z) = inr (sym (q .slot) ∙ ap (λ (y : ℕ). slotIn M y) z ∙ sym e)
       from x q (no z) = inl (record { entry = q .entry; low = omega (arith, q .low); region = q .region; slot = q .slot })
 
-  pub slot-left : slotRegionIn n M i ≢ r → Rewritten p r (Remembered r n (i + 1) M) W T W′
+  pub slot-left : slotRegionIn n M i ≢ r → Rewritten (Remembered r n (i + 1) M) W W′
   slot-left ne =
-      rewritten-join h (rewritten-none p r (λ x. ⊥) W′ T (λ x q. q)) (λ x q z. z)
+      rewritten-join h (rewritten-none (λ x. ⊥) W′ (λ x q. q)) (λ x q z. z)
       (λ x q. inl (from x q (ℕ-discrete (q .entry) i)))
       (λ x. ⊎-elim (λ q. record { entry = q .entry; low = omega (arith, q .low); region = q .region; slot = q .slot }) (λ z. absurd z))
     where
@@ -62,8 +63,8 @@ module _ {p : Sizes} {r n m : ℕ} {W M T W′ : List ℕ} {i : ℕ} (a : Slots 
       from x q (yes z) = absurd (ne (ap (λ (y : ℕ). slotRegionIn n M y) (sym z) ∙ q .region))
       from x q (no z) = record { entry = q .entry; low = omega (arith, q .low); region = q .region; slot = q .slot }
 
-pub slots-start : (p : Sizes) (r n : ℕ) (W M T : List ℕ) → Rewritten p r (Remembered r n 0 M) W T W
-slots-start p r n W M T = rewritten-none p r (Remembered r n 0 M) W T (λ x q. omega (arith, q .low))
+pub slots-start : (r n : ℕ) (W M : List ℕ) → Rewritten (Remembered r n 0 M) W W
+slots-start r n W M = rewritten-none (Remembered r n 0 M) W (λ x q. omega (arith, q .low))
 
 -- ---- the fields of one cell
 
@@ -79,14 +80,14 @@ pub record Fields (p : Sizes) (n d : ℕ) (W : List ℕ) : Type 0 where
   pub few : n ≤ 14
   pub names : (f : ℕ) → f < n → Names p (fieldOf W d f)
 
-pub fields-start : (p : Sizes) (r d : ℕ) (W T : List ℕ) → Rewritten p r (Field d 0) W T W
-fields-start p r d W T = rewritten-none p r (Field d 0) W T (λ x q. omega (arith, q .low))
+pub fields-start : (d : ℕ) (W : List ℕ) → Rewritten (Field d 0) W W
+fields-start d W = rewritten-none (Field d 0) W (λ x q. omega (arith, q .low))
 
-module _ {p : Sizes} {r n d : ℕ} {W T W′ : List ℕ} {f : ℕ} (a : Fields p n d W) (lt : f < n) (h : Rewritten p r (Field d f) W T W′) where
+module _ {p : Sizes} {n d : ℕ} {W W′ : List ℕ} {f : ℕ} (a : Fields p n d W) (lt : f < n) (h : Rewritten (Field d f) W W′) where
   new : Field d f (16 * d + 2 + f) → ⊥
   new q = omega (arith, q .low, q .at)
 
-  pub field-moved : (v : ℕ) → v ≡ moveRef p r W′ T (fieldOf W′ d f) → Rewritten p r (Field d (f + 1)) W T (set W′ (16 * d + 2 + f) v)
+  pub field-moved : (v : ℕ) → v ≡ forwarded W′ (fieldOf W′ d f) → Rewritten (Field d (f + 1)) W (set W′ (16 * d + 2 + f) v)
   field-moved v ev =
       rewritten-join h
       (rewritten-one (16 * d + 2 + f) v (omega (arith, a .page, a .cells-long, h .size, a .few)) (omega (arith, a .few)) ev)
@@ -100,18 +101,18 @@ module _ {p : Sizes} {r n d : ℕ} {W T W′ : List ℕ} {f : ℕ} (a : Fields p
 
 -- ---- the variables: those below n, counted through all threads
 
-pub record Variables (p : Sizes) (n r : ℕ) (W T T′ : List ℕ) : Type 0 where
+pub record Variables (p : Sizes) (n : ℕ) (W T T′ : List ℕ) : Type 0 where
   pub size : length T′ ≡ length T
-  pub moved : (i : ℕ) → i < n → varOf p T′ i ≡ moveRef p r W T (varOf p T i)
+  pub moved : (i : ℕ) → i < n → varOf p T′ i ≡ forwarded W (varOf p T i)
   pub same : (x : ℕ) → (varsFrom p ≤ x → varsFrom p + n ≤ x) → getD T′ x 0 ≡ getD T x 0
 
-pub variables-start : (p : Sizes) (r : ℕ) (W T : List ℕ) → Variables p 0 r W T T
-variables-start p r W T =
+pub variables-start : (p : Sizes) (W T : List ℕ) → Variables p 0 W T T
+variables-start p W T =
     record { size = refl; moved = λ i l. absurd (let z : ⊥ = omega arith in z); same = λ x h. refl }
 
-pub variables-next : {p : Sizes} {n r : ℕ} {W T T′ : List ℕ} → n < p .threads * p .variables → Room p (length T) → Variables p n r W T T′ → (y : ℕ)
-    → y ≡ moveRef p r W T′ (varOf p T′ n) → Variables p (n + 1) r W T (set T′ (varAt p n) y)
-variables-next {p} {n} {r} {W} {T} {T′} m room h y e =
+pub variables-next : {p : Sizes} {n : ℕ} {W T T′ : List ℕ} → n < varCount p → Room p (length T) → Variables p n W T T′ → (y : ℕ)
+    → y ≡ forwarded W (varOf p T′ n) → Variables p (n + 1) W T (set T′ (varAt p n) y)
+variables-next {p} {n} {W} {T} {T′} m room h y e =
     record {
       size = length-set T′ (varAt p n) y ∙ h .size;
       moved = λ i l. at i l (ℕ-discrete i n);
@@ -120,16 +121,14 @@ variables-next {p} {n} {r} {W} {T} {T′} m room h y e =
           ∙ h .same x (λ w. let u : varsFrom p + (n + 1) ≤ x = k w in omega arith);
     }
   where
-    value : y ≡ moveRef p r W T (varOf p T n)
-    value =
-        e ∙ ap (λ (x : ℕ). moveRef p r W T′ x) (h .same (varAt p n) (λ w. omega arith))
-        ∙ move-same p r W W T T′ (varOf p T n) refl (h .same (ownerAt p ((varOf p T n - 1) / 16)) (λ w. omega (arith, room)))
+    value : y ≡ forwarded W (varOf p T n)
+    value = e ∙ ap (forwarded W) (h .same (varAt p n) (λ w. omega arith))
 
-    at : (i : ℕ) → i < n + 1 → Dec (i ≡ n) → varOf p (set T′ (varAt p n) y) i ≡ moveRef p r W T (varOf p T i)
+    at : (i : ℕ) → i < n + 1 → Dec (i ≡ n) → varOf p (set T′ (varAt p n) y) i ≡ forwarded W (varOf p T i)
     at i l (yes z) =
-        subst (λ (w : ℕ). varOf p (set T′ (varAt p n) y) w ≡ moveRef p r W T (varOf p T w)) (sym z)
+        subst (λ (w : ℕ). varOf p (set T′ (varAt p n) y) w ≡ forwarded W (varOf p T w)) (sym z)
         (getD-set-same T′ (varAt p n) y 0 (omega (arith, h .size, room)) ∙ value)
     at i l (no z) = getD-set-other T′ (varAt p n) (varAt p i) y 0 (λ q. z (omega arith)) ∙ h .moved i (omega arith)
 
-pub variables-names : {p : Sizes} {n r : ℕ} {W T T′ : List ℕ} → Variables p n r W T T′ → Names p (varOf p T n) → Names p (varOf p T′ n)
+pub variables-names : {p : Sizes} {n : ℕ} {W T T′ : List ℕ} → Variables p n W T T′ → Names p (varOf p T n) → Names p (varOf p T′ n)
 variables-names {p} {n} h a = subst (λ (x : ℕ). Names p x) (sym (h .same (varAt p n) (λ w. omega arith))) a

@@ -12,7 +12,8 @@ use Rattle.lists.specs.Part.{Off, Skips}
 use Rattle.rules.specs.declared.Sizes.{Sizes}
 use Rattle.layout.specs.Places.{ownerOf, markOf}
 use Rattle.layout.specs.Cells.{workOf, fieldOf, refsOf}
-use Rattle.settle.specs.Rewrite.{Names, moveRef, Rewritten, link-same, refs-same, ref-same, rewritten-none, rewritten-one, rewritten-join, rewritten-like}
+use Rattle.layout.specs.Words.{Names}
+use Rattle.settle.specs.Rewrite.{forwarded, Rewritten, link-same, refs-same, ref-same, rewritten-none, rewritten-one, rewritten-join, rewritten-like}
 use Rattle.settle.specs.RewriteSlots.{Field, Fields}
 use Rattle.settle.specs.RewriteCopies.{CopySlot, Old, Wiring, Grown, Between, Passed, passed-within, within-passed, unset-none, slot-less, slot-now, slot-then, earlier-apart, unmarked-slots, pages-apart}
 use Rattle.remember.specs.Stretches.{Added, added-none, added-one, added-join, added-like}
@@ -20,16 +21,18 @@ use Rattle.settle.specs.Entries.{crossOf}
 use Rattle.settle.specs.Append.{crossAt, Crossing, Appending, append-room, appending-next}
 
 -- the slots of P are rewritten; those that cross then stand from entry j up to entry i
-pub record Settled (p : Sizes) (r n : ℕ) (P : ℕ → Type 0) (W M T : List ℕ) (j : ℕ) (W′ M′ : List ℕ) (i : ℕ) : Type 0 where
-  pub rewritten : Rewritten p r P W T W′
+pub record Settled (p : Sizes) (n : ℕ) (P : ℕ → Type 0) (W M T : List ℕ) (j : ℕ) (W′ M′ : List ℕ) (i : ℕ) : Type 0 where
+  pub rewritten : Rewritten P W W′
   pub added : Added n (Crossing p P W′ T) j i M M′
 
--- they can be settled: `final` is the cells as they will be in the end, and the slots of P that cross there can be appended
-pub record Settling (p : Sizes) (r n : ℕ) (P : ℕ → Type 0) (W M T : List ℕ) (j : ℕ) : Type 0 where
+-- they can be settled: `final` is the cells as they will be in the end, and the slots of P that cross there once `region` has ended can be
+-- appended
+pub record Settling (p : Sizes) (n : ℕ) (P : ℕ → Type 0) (W M T : List ℕ) (j : ℕ) : Type 0 where
+  pub region : ℕ
   pub final : List ℕ
-  pub moved : (x : ℕ) → P x → getD final x 0 ≡ moveRef p r W T (getD W x 0)
+  pub moved : (x : ℕ) → P x → getD final x 0 ≡ forwarded W (getD W x 0)
   pub names : (x : ℕ) → P x → Names p (getD final x 0)
-  pub appending : Appending p r n P final M T j
+  pub appending : Appending p region n P final M T j
 
 -- ---- sets of slots
 
@@ -45,18 +48,18 @@ added-read same a = added-like a (crossing-read (λ x q. sym (same x q))) (cross
 pub crossing-in : {p : Sizes} {P Q : ℕ → Type 0} {W T : List ℕ} → ((x : ℕ) → P x → Q x) → (x h : ℕ) → Crossing p P W T x h → Crossing p Q W T x h
 crossing-in f x h q = record { at = f x (q .at); region = q .region; kept = q .kept }
 
-pub settled-none : (p : Sizes) (r n : ℕ) (P : ℕ → Type 0) (W M T : List ℕ) (j : ℕ) → j ≤ n → ((x : ℕ) → P x → ⊥) → Settled p r n P W M T j W M j
-settled-none p r n P W M T j l none =
-    record { rewritten = rewritten-none p r P W T none; added = added-none (Crossing p P W T) j M l (λ x h q. none x (q .at)) }
+pub settled-none : (p : Sizes) (n : ℕ) (P : ℕ → Type 0) (W M T : List ℕ) (j : ℕ) → j ≤ n → ((x : ℕ) → P x → ⊥) → Settled p n P W M T j W M j
+settled-none p n P W M T j l none =
+    record { rewritten = rewritten-none P W none; added = added-none (Crossing p P W T) j M l (λ x h q. none x (q .at)) }
 
-pub settled-like : {p : Sizes} {r n j i : ℕ} {P R : ℕ → Type 0} {W M T W′ M′ : List ℕ} → Settled p r n P W M T j W′ M′ i → ((x : ℕ) → R x → P x) → ((x : ℕ) → P x → R x)
-    → Settled p r n R W M T j W′ M′ i
+pub settled-like : {p : Sizes} {n j i : ℕ} {P R : ℕ → Type 0} {W M T W′ M′ : List ℕ} → Settled p n P W M T j W′ M′ i → ((x : ℕ) → R x → P x) → ((x : ℕ) → P x → R x)
+    → Settled p n R W M T j W′ M′ i
 settled-like h from to =
     record { rewritten = rewritten-like (h .rewritten) from to; added = added-like (h .added) (crossing-in from) (crossing-in to) }
 
 -- one set of slots after another that has none of the first
-settled-join : {p : Sizes} {r n j i k : ℕ} {P Q R : ℕ → Type 0} {W M T W′ M′ W″ M″ : List ℕ} → Settled p r n P W M T j W′ M′ i → Settled p r n Q W′ M′ T i W″ M″ k
-    → ((x : ℕ) → P x → Q x → ⊥) → ((x : ℕ) → R x → P x ⊎ Q x) → ((x : ℕ) → P x ⊎ Q x → R x) → Settled p r n R W M T j W″ M″ k
+settled-join : {p : Sizes} {n j i k : ℕ} {P Q R : ℕ → Type 0} {W M T W′ M′ W″ M″ : List ℕ} → Settled p n P W M T j W′ M′ i → Settled p n Q W′ M′ T i W″ M″ k
+    → ((x : ℕ) → P x → Q x → ⊥) → ((x : ℕ) → R x → P x ⊎ Q x) → ((x : ℕ) → P x ⊎ Q x → R x) → Settled p n R W M T j W″ M″ k
 settled-join a b apart from to =
     record {
       rewritten = rewritten-join (a .rewritten) (b .rewritten) apart from to;
@@ -68,24 +71,25 @@ settled-join a b apart from to =
     }
 
 -- after those of Q are settled, those of R can be
-settling-next : {p : Sizes} {r n j i : ℕ} {P Q R : ℕ → Type 0} {W M T W′ M′ : List ℕ} → Settling p r n P W M T j → Settled p r n Q W M T j W′ M′ i
-    → ((x : ℕ) → Q x → P x) → ((x : ℕ) → R x → P x) → ((x : ℕ) → Q x → R x → ⊥) → Settling p r n R W′ M′ T i
-settling-next {p} {r} {W = W} {T = T} {W′ = W′} s h fq fr apart =
+settling-next : {p : Sizes} {n j i : ℕ} {P Q R : ℕ → Type 0} {W M T W′ M′ : List ℕ} → Settling p n P W M T j → Settled p n Q W M T j W′ M′ i
+    → ((x : ℕ) → Q x → P x) → ((x : ℕ) → R x → P x) → ((x : ℕ) → Q x → R x → ⊥) → Settling p n R W′ M′ T i
+settling-next {W = W} {W′ = W′} s h fq fr apart =
     record {
+      region = s .region;
       final = s .final;
       moved = λ x q.
           s .moved x (fr x q)
-          ∙ sym (ref-same (h .rewritten) (getD W′ x 0) ∙ ap (λ (y : ℕ). moveRef p r W T y) (h .rewritten .same x (λ m. apart x m q)));
+          ∙ sym (ref-same (h .rewritten) (getD W′ x 0) ∙ ap (forwarded W) (h .rewritten .same x (λ m. apart x m q)));
       names = λ x q. s .names x (fr x q);
       appending = appending-next (s .appending) (added-read (λ x q. s .moved x (fq x q) ∙ sym (h .rewritten .moved x q)) (h .added)) fq fr apart;
     }
 
 -- ---- one slot: v is what it becomes, h the region into which it crosses then, else 0
 
-slot-names : {p : Sizes} {r n x i : ℕ} {W M T : List ℕ} → Settling p r n (λ y. y ≡ x) W M T i → (v : ℕ) → v ≡ moveRef p r W T (getD W x 0) → Names p v
+slot-names : {p : Sizes} {n x i : ℕ} {W M T : List ℕ} → Settling p n (λ y. y ≡ x) W M T i → (v : ℕ) → v ≡ forwarded W (getD W x 0) → Names p v
 slot-names {p} {x = x} s v ev = subst (λ (y : ℕ). Names p y) (s .moved x refl ∙ sym ev) (s .names x refl)
 
-module _ {p : Sizes} {r n x i : ℕ} {W M T : List ℕ} (s : Settling p r n (λ y. y ≡ x) W M T i) (v h : ℕ) (ev : v ≡ moveRef p r W T (getD W x 0))
+module _ {p : Sizes} {n x i : ℕ} {W M T : List ℕ} (s : Settling p n (λ y. y ≡ x) W M T i) (v h : ℕ) (ev : v ≡ forwarded W (getD W x 0))
     (eh : h ≡ crossOf p T (ownerOf p T (x / 256)) v) where
   slot-fits : h ≢ 0 → i < n
   slot-fits ne = append-room (s .appending) x refl (λ z. ne (eh ∙ ap (λ (y : ℕ). crossOf p T (ownerOf p T (x / 256)) y) (ev ∙ sym (s .moved x refl)) ∙ z))
@@ -96,7 +100,7 @@ module _ {p : Sizes} {r n x i : ℕ} {W M T : List ℕ} (s : Settling p r n (λ 
         ap (λ (z : ℕ). crossAt p (set W x v) T z) e
         ∙ ap (λ (z : ℕ). crossOf p T (ownerOf p T (x / 256)) z) (getD-set-same W x v 0 low) ∙ sym eh
 
-    slot-comes : h ≢ 0 → Settled p r n (λ y. y ≡ x) W M T i (set W x v) (set (set M (2 + i) x) (2 + n + i) h) (i + 1)
+    slot-comes : h ≢ 0 → Settled p n (λ y. y ≡ x) W M T i (set W x v) (set (set M (2 + i) x) (2 + n + i) h) (i + 1)
     slot-comes ne =
         record {
           rewritten = rewritten-one x v low field ev;
@@ -105,7 +109,7 @@ module _ {p : Sizes} {r n x i : ℕ} {W M T : List ℕ} (s : Settling p r n (λ 
               (λ y g q. record { at = q .0; region = q .1 ∙ sym (crosses y (q .0)); kept = λ z. ne (sym (q .1) ∙ z) });
         }
 
-    slot-stays : h ≡ 0 → Settled p r n (λ y. y ≡ x) W M T i (set W x v) M i
+    slot-stays : h ≡ 0 → Settled p n (λ y. y ≡ x) W M T i (set W x v) M i
     slot-stays z =
         record {
           rewritten = rewritten-one x v low field ev;
@@ -114,15 +118,15 @@ module _ {p : Sizes} {r n x i : ℕ} {W M T : List ℕ} (s : Settling p r n (λ 
 
 -- ---- the fields of one cell
 
-pub fields-settled : (p : Sizes) (r n d : ℕ) (W M T : List ℕ) (j : ℕ) → j ≤ n → Settled p r n (Field d 0) W M T j W M j
-fields-settled p r n d W M T j l = settled-none p r n (Field d 0) W M T j l (λ x q. omega (arith, q .low))
+pub fields-settled : (p : Sizes) (n d : ℕ) (W M T : List ℕ) (j : ℕ) → j ≤ n → Settled p n (Field d 0) W M T j W M j
+fields-settled p n d W M T j l = settled-none p n (Field d 0) W M T j l (λ x q. omega (arith, q .low))
 
-module _ {p : Sizes} {r n d k f j i : ℕ} {W M T W′ M′ : List ℕ} (a : Fields p k d W) (s : Settling p r n (Field d k) W M T j) (lt : f < k)
-    (h : Settled p r n (Field d f) W M T j W′ M′ i) where
+module _ {p : Sizes} {n d k f j i : ℕ} {W M T W′ M′ : List ℕ} (a : Fields p k d W) (s : Settling p n (Field d k) W M T j) (lt : f < k)
+    (h : Settled p n (Field d f) W M T j W′ M′ i) where
   new : (x : ℕ) → Field d f x → x ≡ 16 * d + 2 + f → ⊥
   new x q e = omega (arith, q .low, q .at)
 
-  field-settling : Settling p r n (λ y. y ≡ 16 * d + 2 + f) W′ M′ T i
+  field-settling : Settling p n (λ y. y ≡ 16 * d + 2 + f) W′ M′ T i
   field-settling =
       settling-next s h (λ x q. record { field = q .field; low = omega (arith, q .low); at = q .at }) (λ x e. record { field = f; low = lt; at = e }) new
 
@@ -130,7 +134,7 @@ module _ {p : Sizes} {r n d k f j i : ℕ} {W M T W′ M′ : List ℕ} (a : Fie
   pub field-names : Names p (fieldOf W′ d f)
   field-names = subst (λ (x : ℕ). Names p x) (sym (h .rewritten .same (16 * d + 2 + f) (λ q. new (16 * d + 2 + f) q refl))) (a .names f lt)
 
-  field-joins : {W″ M″ : List ℕ} {i′ : ℕ} → Settled p r n (λ y. y ≡ 16 * d + 2 + f) W′ M′ T i W″ M″ i′ → Settled p r n (Field d (f + 1)) W M T j W″ M″ i′
+  field-joins : {W″ M″ : List ℕ} {i′ : ℕ} → Settled p n (λ y. y ≡ 16 * d + 2 + f) W′ M′ T i W″ M″ i′ → Settled p n (Field d (f + 1)) W M T j W″ M″ i′
   field-joins b =
       settled-join h b new (λ x q. from x q (ℕ-discrete (q .field) f))
       (λ x. ⊎-elim (λ q. record { field = q .field; low = omega (arith, q .low); at = q .at }) (λ e. record { field = f; low = omega arith; at = e }))
@@ -140,11 +144,11 @@ module _ {p : Sizes} {r n d k f j i : ℕ} {W M T W′ M′ : List ℕ} (a : Fie
       from x q (no z) = inl (record { field = q .field; low = omega (arith, q .low); at = q .at })
 
   -- and so does what it becomes
-  pub moved-names : (v : ℕ) → v ≡ moveRef p r W′ T (fieldOf W′ d f) → Names p v
+  pub moved-names : (v : ℕ) → v ≡ forwarded W′ (fieldOf W′ d f) → Names p v
   moved-names = slot-names field-settling
 
   -- v is the forwarded reference, w the region of the cell, g the region into which it crosses, as the code has them
-  module _ (v w g : ℕ) (ev : v ≡ moveRef p r W′ T (fieldOf W′ d f)) (ew : w ≡ ownerOf p T (d / 16)) (eg : g ≡ crossOf p T w v) where
+  module _ (v w g : ℕ) (ev : v ≡ forwarded W′ (fieldOf W′ d f)) (ew : w ≡ ownerOf p T (d / 16)) (eg : g ≡ crossOf p T w v) where
     eg′ : g ≡ crossOf p T (ownerOf p T ((16 * d + 2 + f) / 256)) v
     eg′ =
         eg ∙ ap (λ (y : ℕ). crossOf p T y v)
@@ -156,20 +160,20 @@ module _ {p : Sizes} {r n d k f j i : ℕ} {W M T W′ M′ : List ℕ} (a : Fie
     pub field-fits : g ≢ 0 → i < n
     field-fits = slot-fits field-settling v g ev eg′
 
-    pub field-comes : (x : ℕ) → x ≡ 16 * d + 2 + f → g ≢ 0 → Settled p r n (Field d (f + 1)) W M T j (set W′ (16 * d + 2 + f) v) (set (set M′ (2 + i) x) (2 + n + i) g) (i + 1)
+    pub field-comes : (x : ℕ) → x ≡ 16 * d + 2 + f → g ≢ 0 → Settled p n (Field d (f + 1)) W M T j (set W′ (16 * d + 2 + f) v) (set (set M′ (2 + i) x) (2 + n + i) g) (i + 1)
     field-comes x e ne =
-        subst (λ (y : ℕ). Settled p r n (Field d (f + 1)) W M T j (set W′ (16 * d + 2 + f) v) (set (set M′ (2 + i) y) (2 + n + i) g) (i + 1)) (sym e)
+        subst (λ (y : ℕ). Settled p n (Field d (f + 1)) W M T j (set W′ (16 * d + 2 + f) v) (set (set M′ (2 + i) y) (2 + n + i) g) (i + 1)) (sym e)
         (field-joins (slot-comes field-settling v g ev eg′ low (omega (arith, a .few)) ne))
 
-    pub field-stays : g ≡ 0 → Settled p r n (Field d (f + 1)) W M T j (set W′ (16 * d + 2 + f) v) M′ i
+    pub field-stays : g ≡ 0 → Settled p n (Field d (f + 1)) W M T j (set W′ (16 * d + 2 + f) v) M′ i
     field-stays z = field-joins (slot-stays field-settling v g ev eg′ low (omega (arith, a .few)) z)
 
 -- ---- the copy of one survivor more; x is word 1 of the old cell, as the code read it
 
-module _ {p : Sizes} {r c : ℕ} {P P′ Q : ℕ → Type 0} {W T W′ : List ℕ} (w : Wiring p r Q W T) (g : Grown P c P′) (among : (y : ℕ) → P′ y → Q y)
-    (h : Rewritten p r (CopySlot p r P W T) W T W′) (x : ℕ) (e : x ≡ workOf W′ c) (u : Old p r W T c) where
+module _ {p : Sizes} {c : ℕ} {P P′ Q : ℕ → Type 0} {W T W′ : List ℕ} (w : Wiring p Q W T) (g : Grown P c P′) (among : (y : ℕ) → P′ y → Q y)
+    (h : Rewritten (CopySlot p P W T) W W′) (x : ℕ) (e : x ≡ workOf W′ c) (u : Old p W T c) where
   -- its fields, as the words before have them
-  one : (y : ℕ) → Field (x - 1) (refsOf W′ (x - 1)) y → CopySlot p r (λ z. z ≡ c) W T y
+  one : (y : ℕ) → Field (x - 1) (refsOf W′ (x - 1)) y → CopySlot p (λ z. z ≡ c) W T y
   one y f =
       let f′ : Field (workOf W c - 1) (refsOf W′ (workOf W c - 1)) y = subst (λ (z : ℕ). Field (z - 1) (refsOf W′ (z - 1)) y) (e ∙ link-same h c) f in
       record {
@@ -179,79 +183,79 @@ module _ {p : Sizes} {r c : ℕ} {P P′ Q : ℕ → Type 0} {W T W′ : List �
         field = record { field = f′ .field; low = omega (arith, f′ .low, refs-same h (workOf W c - 1)); at = f′ .at };
       }
 
-  copy-apart : (y : ℕ) → CopySlot p r P W T y → Field (x - 1) (refsOf W′ (x - 1)) y → ⊥
+  copy-apart : (y : ℕ) → CopySlot p P W T y → Field (x - 1) (refsOf W′ (x - 1)) y → ⊥
   copy-apart y q f = earlier-apart w g among h y (one y f) q
 
-  copy-among : (y : ℕ) → Field (x - 1) (refsOf W′ (x - 1)) y → CopySlot p r P′ W T y
+  copy-among : (y : ℕ) → Field (x - 1) (refsOf W′ (x - 1)) y → CopySlot p P′ W T y
   copy-among y f = slot-less (λ z q. subst P′ (sym q) (g .here)) y (one y f)
 
-  copy-split : (y : ℕ) → CopySlot p r P′ W T y → CopySlot p r P W T y ⊎ Field (x - 1) (refsOf W′ (x - 1)) y
+  copy-split : (y : ℕ) → CopySlot p P′ W T y → CopySlot p P W T y ⊎ Field (x - 1) (refsOf W′ (x - 1)) y
   copy-split y q = go (g .split (q .cell) (q .among))
     where
-      go : P (q .cell) ⊎ (q .cell ≡ c) → CopySlot p r P W T y ⊎ Field (x - 1) (refsOf W′ (x - 1)) y
+      go : P (q .cell) ⊎ (q .cell ≡ c) → CopySlot p P W T y ⊎ Field (x - 1) (refsOf W′ (x - 1)) y
       go (inl m) = inl (record { cell = q .cell; among = m; old = q .old; field = q .field })
       go (inr z) =
           let f : Field (workOf W c - 1) (refsOf W (workOf W c - 1)) y = subst (λ (v : ℕ). Field (workOf W v - 1) (refsOf W (workOf W v - 1)) y) z (q .field) in
           inr (subst (λ (v : ℕ). Field (v - 1) (refsOf W′ (v - 1)) y) (sym (e ∙ link-same h c))
           (record { field = f .field; low = omega (arith, f .low, refs-same h (workOf W c - 1)); at = f .at }))
 
-  pub copy-rewritten : {W″ : List ℕ} → Rewritten p r (Field (x - 1) (refsOf W′ (x - 1))) W′ T W″ → Rewritten p r (CopySlot p r P′ W T) W T W″
+  pub copy-rewritten : {W″ : List ℕ} → Rewritten (Field (x - 1) (refsOf W′ (x - 1))) W′ W″ → Rewritten (CopySlot p P′ W T) W W″
   copy-rewritten k = rewritten-join h k copy-apart copy-split (λ y. ⊎-elim (slot-less (g .keeps) y) (copy-among y))
 
-module _ {p : Sizes} {r n c j i : ℕ} {P P′ Q : ℕ → Type 0} {W M T W′ M′ : List ℕ} (w : Wiring p r Q W T) (g : Grown P c P′) (among : (y : ℕ) → P′ y → Q y)
-    (h : Settled p r n (CopySlot p r P W T) W M T j W′ M′ i) (x : ℕ) (e : x ≡ workOf W′ c) (u : Old p r W T c) where
-  pub copy-settling : Settling p r n (CopySlot p r Q W T) W M T j → Settling p r n (Field (x - 1) (refsOf W′ (x - 1))) W′ M′ T i
+module _ {p : Sizes} {n c j i : ℕ} {P P′ Q : ℕ → Type 0} {W M T W′ M′ : List ℕ} (w : Wiring p Q W T) (g : Grown P c P′) (among : (y : ℕ) → P′ y → Q y)
+    (h : Settled p n (CopySlot p P W T) W M T j W′ M′ i) (x : ℕ) (e : x ≡ workOf W′ c) (u : Old p W T c) where
+  pub copy-settling : Settling p n (CopySlot p Q W T) W M T j → Settling p n (Field (x - 1) (refsOf W′ (x - 1))) W′ M′ T i
   copy-settling s =
       settling-next s h (slot-less (λ z m. among z (g .keeps z m))) (λ y f. slot-less among y (copy-among w g among (h .rewritten) x e u y f))
       (copy-apart w g among (h .rewritten) x e u)
 
-  pub copy-settled : {W″ M″ : List ℕ} {i′ : ℕ} → Settled p r n (Field (x - 1) (refsOf W′ (x - 1))) W′ M′ T i W″ M″ i′ → Settled p r n (CopySlot p r P′ W T) W M T j W″ M″ i′
+  pub copy-settled : {W″ M″ : List ℕ} {i′ : ℕ} → Settled p n (Field (x - 1) (refsOf W′ (x - 1))) W′ M′ T i W″ M″ i′ → Settled p n (CopySlot p P′ W T) W M T j W″ M″ i′
   copy-settled k =
       settled-join h k (copy-apart w g among (h .rewritten) x e u) (copy-split w g among (h .rewritten) x e u)
       (λ y. ⊎-elim (slot-less (g .keeps) y) (copy-among w g among (h .rewritten) x e u y))
 
 -- ---- the copies of a page's survivors
 
-pub unset-settled : {p : Sizes} {r n q w j : ℕ} {W M T : List ℕ} → Wiring p r (Between (16 * q) (16 * (q + 1))) W T → w ≡ markOf p T q / 2 ^ 16 → j ≤ n
-    → Settled p r n (CopySlot p r (Passed q w) W T) W M T j W M j
-unset-settled {p} {r} {n} {q} {w} {j} {W} {M} {T} a e l = settled-none p r n (CopySlot p r (Passed q w) W T) W M T j l (unset-none a e)
+pub unset-settled : {p : Sizes} {n q w j : ℕ} {W M T : List ℕ} → Wiring p (Between (16 * q) (16 * (q + 1))) W T → w ≡ markOf p T q / 2 ^ 16 → j ≤ n
+    → Settled p n (CopySlot p (Passed q w) W T) W M T j W M j
+unset-settled {p} {n} {q} {w} {j} {W} {M} {T} a e l = settled-none p n (CopySlot p (Passed q w) W T) W M T j l (unset-none a e)
 
-pub page-settled : {p : Sizes} {r n left j i : ℕ} {W M T W′ M′ : List ℕ} (q : ℕ) → left ≡ 0 → Settled p r n (CopySlot p r (Passed q left) W T) W M T j W′ M′ i
-    → Settled p r n (CopySlot p r (Between (16 * q) (16 * (q + 1))) W T) W M T j W′ M′ i
+pub page-settled : {p : Sizes} {n left j i : ℕ} {W M T W′ M′ : List ℕ} (q : ℕ) → left ≡ 0 → Settled p n (CopySlot p (Passed q left) W T) W M T j W′ M′ i
+    → Settled p n (CopySlot p (Between (16 * q) (16 * (q + 1))) W T) W M T j W′ M′ i
 page-settled {left = left} q z h =
     settled-like h (λ x s. slot-less (λ c m. within-passed q left c z m) x s) (λ x s. slot-less (λ c m. passed-within q left c m) x s)
 
 -- ---- all pages
 
-pub copies-settled : (p : Sizes) (r n a j : ℕ) (W M T : List ℕ) → j ≤ n → Settled p r n (CopySlot p r (Between a a) W T) W M T j W M j
-copies-settled p r n a j W M T l =
-    settled-none p r n (CopySlot p r (Between a a) W T) W M T j l (λ x q. omega (arith, q .among .0, q .among .1))
+pub copies-settled : (p : Sizes) (n a j : ℕ) (W M T : List ℕ) → j ≤ n → Settled p n (CopySlot p (Between a a) W T) W M T j W M j
+copies-settled p n a j W M T l =
+    settled-none p n (CopySlot p (Between a a) W T) W M T j l (λ x q. omega (arith, q .among .0, q .among .1))
 
 -- a page after those below it
-module _ {p : Sizes} {r n q j i : ℕ} {W M T W′ M′ : List ℕ} (w : Wiring p r (Between 0 (16 * p .pages)) W T) (lt : q < p .pages)
-    (s : Settling p r n (CopySlot p r (Between 0 (16 * p .pages)) W T) W M T j) (h : Settled p r n (CopySlot p r (Between 0 (16 * q)) W T) W M T j W′ M′ i) where
-  page-apart : (x : ℕ) → CopySlot p r (Between 0 (16 * q)) W T x → CopySlot p r (Between (16 * q) (16 * (q + 1))) W′ T x → ⊥
+module _ {p : Sizes} {n q j i : ℕ} {W M T W′ M′ : List ℕ} (w : Wiring p (Between 0 (16 * p .pages)) W T) (lt : q < p .pages)
+    (s : Settling p n (CopySlot p (Between 0 (16 * p .pages)) W T) W M T j) (h : Settled p n (CopySlot p (Between 0 (16 * q)) W T) W M T j W′ M′ i) where
+  page-apart : (x : ℕ) → CopySlot p (Between 0 (16 * q)) W T x → CopySlot p (Between (16 * q) (16 * (q + 1))) W′ T x → ⊥
   page-apart x a b = pages-apart w lt (h .rewritten) x (slot-then (h .rewritten) x b) a
 
-  pub page-settling : Settling p r n (CopySlot p r (Between (16 * q) (16 * (q + 1))) W′ T) W′ M′ T i
+  pub page-settling : Settling p n (CopySlot p (Between (16 * q) (16 * (q + 1))) W′ T) W′ M′ T i
   page-settling =
       settling-next s h (λ x a. slot-less (λ y l. (l .0, omega (arith, l .1))) x a)
       (λ x b. slot-less (λ y l. (omega arith, omega (arith, l .1))) x (slot-then (h .rewritten) x b)) page-apart
 
-  pub pages-settled : {W″ M″ : List ℕ} {i′ : ℕ} → Settled p r n (CopySlot p r (Between (16 * q) (16 * (q + 1))) W′ T) W′ M′ T i W″ M″ i′
-      → Settled p r n (CopySlot p r (Between 0 (16 * (q + 1))) W T) W M T j W″ M″ i′
+  pub pages-settled : {W″ M″ : List ℕ} {i′ : ℕ} → Settled p n (CopySlot p (Between (16 * q) (16 * (q + 1))) W′ T) W′ M′ T i W″ M″ i′
+      → Settled p n (CopySlot p (Between 0 (16 * (q + 1))) W T) W M T j W″ M″ i′
   pages-settled k =
       settled-join h k page-apart (λ x a. from x a (decLt (a .cell) (16 * q)))
       (λ x. ⊎-elim (λ a. slot-less (λ y l. (l .0, omega (arith, l .1))) x a)
       (λ b. slot-less (λ y l. (omega arith, l .1)) x (slot-then (h .rewritten) x b)))
     where
-      from : (x : ℕ) (a : CopySlot p r (Between 0 (16 * (q + 1))) W T x) → Dec (a .cell < 16 * q)
-          → CopySlot p r (Between 0 (16 * q)) W T x ⊎ CopySlot p r (Between (16 * q) (16 * (q + 1))) W′ T x
+      from : (x : ℕ) (a : CopySlot p (Between 0 (16 * (q + 1))) W T x) → Dec (a .cell < 16 * q)
+          → CopySlot p (Between 0 (16 * q)) W T x ⊎ CopySlot p (Between (16 * q) (16 * (q + 1))) W′ T x
       from x a (yes l) = inl (record { cell = a .cell; among = (a .among .0, l); old = a .old; field = a .field })
       from x a (no l) =
           inr (slot-now (h .rewritten) x (record { cell = a .cell; among = (omega arith, a .among .1); old = a .old; field = a .field }))
 
 -- a page without marks has no copies
-pub settled-skips : {p : Sizes} {r n j i : ℕ} {W M T W′ M′ : List ℕ} (k : ℕ) (l : List ℕ) → Wiring p r (Between 0 (16 * p .pages)) W T
-    → ((q : ℕ) → q < p .pages → Off l k q → markOf p T q ≡ 0) → Skips (p .pages) k l (λ b. Settled p r n (CopySlot p r (Between 0 (16 * b)) W T) W M T j W′ M′ i)
+pub settled-skips : {p : Sizes} {n j i : ℕ} {W M T W′ M′ : List ℕ} (k : ℕ) (l : List ℕ) → Wiring p (Between 0 (16 * p .pages)) W T
+    → ((q : ℕ) → q < p .pages → Off l k q → markOf p T q ≡ 0) → Skips (p .pages) k l (λ b. Settled p n (CopySlot p (Between 0 (16 * b)) W T) W M T j W′ M′ i)
 settled-skips k l w none q lt off h = settled-like h (unmarked-slots w q lt (none q lt off)) (λ x a. slot-less (λ y l. (l .0, omega (arith, l .1))) x a)

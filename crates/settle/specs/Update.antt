@@ -14,22 +14,22 @@ use Rattle.settle.specs.Entries.{Stays, Entries}
 use Rattle.settle.specs.Append.{crossAt, Crosses, Crossing, Appending}
 use Rattle.settle.specs.RewriteCopies.{CopySlot, Wiring, Between}
 
-abbrev pub Copies : (p : Sizes) (r : ℕ) (W T : List ℕ) → ℕ → Type 0
-Copies p r W T = CopySlot p r (Between 0 (16 * p .pages)) W T
+abbrev pub Copies : (p : Sizes) (W T : List ℕ) → ℕ → Type 0
+Copies p W T = CopySlot p (Between 0 (16 * p .pages)) W T
 
 -- m entries of n are in use
 pub record Updating (p : Sizes) (r n m : ℕ) (W M T : List ℕ) : Type 0 where
   pub entries : Entries p r n m W M
-  pub wiring : Wiring p r (Between 0 (16 * p .pages)) W T
+  pub wiring : Wiring p (Between 0 (16 * p .pages)) W T
   pub small : n ≤ 4096
   pub stays : (x h : ℕ) → Stays p r n W M T m x h → Crosses p r W T x × (h ≡ crossAt p W T x)
-  pub comes : (x : ℕ) → Copies p r W T x → crossAt p W T x ≢ 0 → Crosses p r W T x
-  pub apart : (x h : ℕ) → Stays p r n W M T m x h → Copies p r W T x → ⊥
+  pub comes : (x : ℕ) → Copies p W T x → crossAt p W T x ≢ 0 → Crosses p r W T x
+  pub apart : (x h : ℕ) → Stays p r n W M T m x h → Copies p W T x → ⊥
   pub space : (k : ℕ) (at : ℕ → ℕ) → ((i : ℕ) → i < k → Crosses p r W T (at i)) → ((a b : ℕ) → a < b → b < k → at a ≢ at b) → k ≤ n
   pub rest : (y : ℕ) → m ≤ y → y < n → (slotIn M y ≡ 0) × (slotRegionIn n M y ≡ 0)
 
 pub update-appending : {p : Sizes} {r n m j : ℕ} {W T M M₁ : List ℕ} → Updating p r n m W M T → Added n (Stays p r n W M T m) 0 j M M₁
-    → Appending p r n (Copies p r W T) W M₁ T j
+    → Appending p r n (Copies p W T) W M₁ T j
 update-appending {p} {r} {n} {m} {j} {W} {T} {M} {M₁} u a =
     record {
       long = omega (arith, u .entries .long, a .size);
@@ -43,7 +43,7 @@ update-appending {p} {r} {n} {m} {j} {W} {T} {M} {M₁} u a =
 
 -- an entry that stays, or a crossing slot of a copy
 abbrev pub Entry : (p : Sizes) (r n m : ℕ) (W M T : List ℕ) → ℕ → ℕ → Type 0
-Entry p r n m W M T x h = Stays p r n W M T m x h ⊎ Crossing p (Copies p r W T) W T x h
+Entry p r n m W M T x h = Stays p r n W M T m x h ⊎ Crossing p (Copies p W T) W T x h
 
 pub record Updated (p : Sizes) (r n m : ℕ) (W M T M′ : List ℕ) : Type 0 where
   pub size : length M′ ≡ length M
@@ -56,7 +56,7 @@ pub record Updated (p : Sizes) (r n m : ℕ) (W M T M′ : List ℕ) : Type 0 wh
   pub beyond : (x : ℕ) → 2 + 2 * n ≤ x → getD M′ x 0 ≡ getD M x 0
 
 module _ {p : Sizes} {r n m j k e v : ℕ} {W T M M₁ M₂ M₃ : List ℕ} (u : Updating p r n m W M T) (a : Added n (Stays p r n W M T m) 0 j M M₁) (le : j ≤ m)
-    (b : Added n (Crossing p (Copies p r W T) W T) j k M₁ M₂) (em : e ≡ max k m) (c : Cleared n k e M₂ M₃) (ev : v ≡ k) where
+    (b : Added n (Crossing p (Copies p W T) W T) j k M₁ M₂) (em : e ≡ max k m) (c : Cleared n k e M₂ M₃) (ev : v ≡ k) where
   both : Added n (Entry p r n m W M T) 0 k M M₂
   both = added-join a b (λ x g h s q. u .apart x g s (q .at)) (λ x h q. q) (λ x h q. q)
 

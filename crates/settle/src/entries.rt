@@ -3,7 +3,7 @@ ghost use mathlib.Core.Path.{_≡_};
 ghost use Prim.Native.Nat.{ℕ, _+_, _*_, _<_, _≤_};
 ghost use lib.ListN.{length, getD};
 ghost use Rattle.layout.specs.Places.{Room, usedIn};
-ghost use Rattle.settle.specs.Rewrite.{Names};
+ghost use Rattle.layout.specs.Words.{Names};
 ghost use Rattle.remember.specs.Stretches.{Added};
 ghost use Rattle.settle.specs.Entries.{crossOf, newRegion, Stays, Entries};
 ghost use Rattle.settle.specs.Update.{Copies, Updating, Updated};
@@ -82,7 +82,7 @@ pub fn filter_entries(
 // The remember table after an end that copies nothing: the entries that stay, then zeros.
 pub fn keep_entries(p: Sizes, cells: &[u32], remember: &mut [u32], tables: &[u32], region: u32)
     requires { ⌜ Updating p region (p .entries) (usedIn (now remember)) (now cells) (now remember) (now tables) ⌝ }
-    requires { ⌜ ((x : ℕ) → Copies p region (now cells) (now tables) x → ⊥) ⌝ }
+    requires { ⌜ ((x : ℕ) → Copies p (now cells) (now tables) x → ⊥) ⌝ }
     ensures { λ _. ⌜ Updated p region (p .entries) (usedIn (now (remember .entry))) (now (cells .entry)) (now (remember .entry)) (now (tables .entry)) (now (remember .exit)) ⌝ }
 {
     let entries = p.entries;

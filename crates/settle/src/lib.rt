@@ -1,4 +1,4 @@
-// Settle, after the copying: references into the ending region go by the forward references, in the remembered slots, the variables and the
+// Settle, after the copying: references to cells that moved go by the forward references, in the remembered slots, the variables and the
 // copies' own slots, and the remember table follows. The copies' slots are gone over once: each becomes what it is to be, and if it crosses
 // then, its entry comes.
 pub mod entries;
@@ -29,14 +29,13 @@ pub fn settle_cell(
     cells: &mut [u32],
     remember: &mut [u32],
     tables: &[u32],
-    region: u32,
     cell: usize,
     j: usize,
 ) -> usize
     requires { ⌜ Fields p (refsOf (now cells) cell) cell (now cells) ⌝ }
-    requires { ⌜ Settling p region (p .entries) (Field cell (refsOf (now cells) cell)) (now cells) (now remember) (now tables) j ⌝ }
+    requires { ⌜ Settling p (p .entries) (Field cell (refsOf (now cells) cell)) (now cells) (now remember) (now tables) j ⌝ }
     requires { ⌜ Room p (length (now tables)) ⌝ }
-    ensures { λ i. ⌜ Settled p region (p .entries) (Field cell (refsOf (now (cells .entry)) cell)) (now (cells .entry)) (now (remember .entry)) (now (tables .entry)) j (now (cells .exit)) (now (remember .exit)) i ⌝ }
+    ensures { λ i. ⌜ Settled p (p .entries) (Field cell (refsOf (now (cells .entry)) cell)) (now (cells .entry)) (now (remember .entry)) (now (tables .entry)) j (now (cells .exit)) (now (remember .exit)) i ⌝ }
 {
     let entries = p.entries;
     let n = layout::cells::field_count(Kind::Reference, layout::cells::head(cells, cell));
@@ -44,13 +43,7 @@ pub fn settle_cell(
     let mut i = j;
     let mut f: usize = 0;
     while f < n {
-        let x = forward_ref(
-            p,
-            cells,
-            tables,
-            region,
-            layout::cells::field(cells, cell, f),
-        );
+        let x = forward_ref(cells, layout::cells::field(cells, cell, f));
         let to = cross(p, tables, from, x);
         layout::cells::set_field(cells, cell, f, x);
         if to != 0 {
@@ -74,14 +67,13 @@ pub fn settle_page(
     cells: &mut [u32],
     remember: &mut [u32],
     tables: &[u32],
-    region: u32,
     page: usize,
     j: usize,
 ) -> usize
-    requires { ⌜ Wiring p region (Between (16 * page) (16 * (page + 1))) (now cells) (now tables) ⌝ }
-    requires { ⌜ Settling p region (p .entries) (CopySlot p region (Between (16 * page) (16 * (page + 1))) (now cells) (now tables)) (now cells) (now remember) (now tables) j ⌝ }
+    requires { ⌜ Wiring p (Between (16 * page) (16 * (page + 1))) (now cells) (now tables) ⌝ }
+    requires { ⌜ Settling p (p .entries) (CopySlot p (Between (16 * page) (16 * (page + 1))) (now cells) (now tables)) (now cells) (now remember) (now tables) j ⌝ }
     requires { ⌜ page < p .pages ⌝ }
-    ensures { λ i. ⌜ Settled p region (p .entries) (CopySlot p region (Between (16 * page) (16 * (page + 1))) (now (cells .entry)) (now (tables .entry))) (now (cells .entry)) (now (remember .entry)) (now (tables .entry)) j (now (cells .exit)) (now (remember .exit)) i ⌝ }
+    ensures { λ i. ⌜ Settled p (p .entries) (CopySlot p (Between (16 * page) (16 * (page + 1))) (now (cells .entry)) (now (tables .entry))) (now (cells .entry)) (now (remember .entry)) (now (tables .entry)) j (now (cells .exit)) (now (remember .exit)) i ⌝ }
 {
     let copied = layout::bits::upper_half(layout::tables::mark(p, tables, page));
     let survivors = u32::count_ones(copied);
@@ -92,7 +84,7 @@ pub fn settle_page(
         let a = u32::trailing_zeros(left);
         let forward = layout::cells::work(cells, layout::cells::cell_on(page, layout::wide(a)));
         let copy = layout::cells::cell_named(forward);
-        i = settle_cell(p, cells, remember, tables, region, copy, i);
+        i = settle_cell(p, cells, remember, tables, copy, i);
         left = layout::bits::without_bit(left, a);
         k += 1;
     }
@@ -107,19 +99,18 @@ pub fn settle_copies(
     tables: &[u32],
     list: &[u32],
     n: usize,
-    region: u32,
     j: usize,
 ) -> usize
-    requires { ⌜ Wiring p region (Between 0 (16 * p .pages)) (now cells) (now tables) ⌝ }
-    requires { ⌜ Settling p region (p .entries) (CopySlot p region (Between 0 (16 * p .pages)) (now cells) (now tables)) (now cells) (now remember) (now tables) j ⌝ }
+    requires { ⌜ Wiring p (Between 0 (16 * p .pages)) (now cells) (now tables) ⌝ }
+    requires { ⌜ Settling p (p .entries) (CopySlot p (Between 0 (16 * p .pages)) (now cells) (now tables)) (now cells) (now remember) (now tables) j ⌝ }
     requires { ⌜ Rises (p .pages) n (now list) ⌝ }
     requires { ⌜ ((page : ℕ) → page < p .pages → Off (now list) n page → markOf p (now tables) page ≡ 0) ⌝ }
-    ensures { λ i. ⌜ Settled p region (p .entries) (CopySlot p region (Between 0 (16 * p .pages)) (now (cells .entry)) (now (tables .entry))) (now (cells .entry)) (now (remember .entry)) (now (tables .entry)) j (now (cells .exit)) (now (remember .exit)) i ⌝ }
+    ensures { λ i. ⌜ Settled p (p .entries) (CopySlot p (Between 0 (16 * p .pages)) (now (cells .entry)) (now (tables .entry))) (now (cells .entry)) (now (remember .entry)) (now (tables .entry)) j (now (cells .exit)) (now (remember .exit)) i ⌝ }
 {
     let mut i = j;
     let mut a: usize = 0;
     while a < n {
-        i = settle_page(p, cells, remember, tables, region, layout::wide(list[a]), i);
+        i = settle_page(p, cells, remember, tables, layout::wide(list[a]), i);
         a += 1;
     }
     i
@@ -144,13 +135,13 @@ pub fn settle(
     requires { ⌜ Settles p region (p .entries) (usedIn (now remember)) (now cells) (now remember) (now tables) ⌝ }
     requires { ⌜ Rises (p .pages) n (now list) ⌝ }
     requires { ⌜ ((page : ℕ) → page < p .pages → Off (now list) n page → markOf p (now tables) page ≡ 0) ⌝ }
-    ensures { λ _. ⌜ Rewritten p region (Copies p region (now (cells .entry)) (now (tables .entry))) (now (cells .entry)) (now (tables .entry)) (now (cells .exit)) ⌝ }
+    ensures { λ _. ⌜ Rewritten (Copies p (now (cells .entry)) (now (tables .entry))) (now (cells .entry)) (now (cells .exit)) ⌝ }
     ensures { λ _. ⌜ Updated p region (p .entries) (usedIn (now (remember .entry))) (now (cells .exit)) (now (remember .entry)) (now (tables .entry)) (now (remember .exit)) ⌝ }
 {
     let entries = p.entries;
     let used = layout::wide(layout::remember::used(remember));
     let kept = filter_entries(p, cells, remember, tables, region, used);
-    let all = settle_copies(p, cells, remember, tables, list, n, region, kept);
+    let all = settle_copies(p, cells, remember, tables, list, n, kept);
     clear_entries(entries, remember, all, larger(all, used));
     layout::remember::set_used(remember, all as u32);
 }

@@ -31,7 +31,7 @@ keep-entries-requires : tie.Need-keep-entries-requires
 keep-entries-requires c κs =
     let pre = c .before .before .before .before .before .before .before .before .before .before .pre in
     let a = c .before .before .before .before .before .before .before .before .before .before .args in
-    subst (λ (g : ℕ). Updating (a .p) g (a .p .entries) (usedIn (a .remember .now)) (a .cells .now) (a .remember .now) (a .tables .now) × ((x : ℕ) → Copies (a .p) g (a .cells .now) (a .tables .now) x → ⊥)) (sym (level (c .before .before)))
+    subst (λ (g : ℕ). Updating (a .p) g (a .p .entries) (usedIn (a .remember .now)) (a .cells .now) (a .remember .now) (a .tables .now) × ((x : ℕ) → Copies (a .p) (a .cells .now) (a .tables .now) x → ⊥)) (sym (level (c .before .before)))
     (none-update (pre .0) (pre .1 .1 .0), none-copies (pre .0) (pre .1 .1 .0))
 
 release-region-requires : tie.Need-release-region-requires

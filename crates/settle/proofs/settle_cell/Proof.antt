@@ -7,30 +7,31 @@ use mathlib.Core.List.{List}
 use mathlib.Core.Logic.{⊎-elim}
 use mathlib.Core.Path.{_≡_, refl, sym, ap, _∙_, subst, subst₃}
 use Rattle.layout.specs.Places.{ownerOf}
-use Rattle.layout.specs.Cells.{fieldOf, refsOf}
-use Rattle.settle.specs.Rewrite.{Names, moveRef}
+use Rattle.layout.specs.Cells.{fieldOf, refsOf, cell-in}
+use Rattle.layout.specs.Words.{Names}
+use Rattle.settle.specs.Rewrite.{forwarded}
 use Rattle.settle.specs.RewriteSlots.{Field}
 use Rattle.settle.specs.Settle.{Settled, fields-settled, field-names, moved-names, field-fits, field-comes, field-stays}
 use Rattle.settle.proofs.settle_cell.Statement.{statement}
 use Rattle.settle.proofs.settle_cell.Tie as tie
 
 abbrev Inv-loop : tie.InvT-loop
-Inv-loop p cells₀ remember₀ tables region cell j entries n from i₀ f₀ cells remember i f =
+Inv-loop p cells₀ remember₀ tables cell j entries n from i₀ f₀ cells remember i f =
     (f ≤ n) × (n ≡ refsOf cells₀ cell) × (from ≡ ownerOf p tables (cell / 16)) × (length cells ≡ length cells₀) × (length remember ≡ length remember₀)
-    × Settled p region (p .entries) (Field cell f) cells₀ remember₀ tables j cells remember i
+    × Settled p (p .entries) (Field cell f) cells₀ remember₀ tables j cells remember i
 
 abbrev μ-loop : tie.MeasureT-loop
-μ-loop p cells₀ remember₀ tables region cell j entries n from i₀ f₀ cells remember i f =
+μ-loop p cells₀ remember₀ tables cell j entries n from i₀ f₀ cells remember i f =
     n - f
 
 -- the forwarded reference
 moved : (c : tie.After-forward-ref Inv-loop μ-loop)
     → (let a = c .before .before .before .before .before .before .before .before .before .before .before .before .before .args in
     let l = c .before .before .before .before .loop in
-    c .forward-ref .result ≡ moveRef (a .p) (a .region) (l .cells) (a .tables .now) (fieldOf (l .cells) (a .cell) (l .f)))
+    c .forward-ref .result ≡ forwarded (l .cells) (fieldOf (l .cells) (a .cell) (l .f)))
 moved c =
     let a = c .before .before .before .before .before .before .before .before .before .before .before .before .before .args in
-    c .forward-ref .ensures ∙ ap (λ (x : ℕ). moveRef (a .p) (a .region) (c .before .before .before .before .loop .cells) (a .tables .now) x) (c .before .field .ensures)
+    c .forward-ref .ensures ∙ ap (λ (x : ℕ). forwarded (c .before .before .before .before .loop .cells) x) (c .before .field .ensures)
 
 -- there is room for the entry of a slot that crosses
 roomy : (c : tie.Then1 Inv-loop μ-loop)
@@ -42,7 +43,7 @@ roomy c =
     field-fits (pre .0) (pre .1 .0) (omega (arith, l .inv .1, c .before .before .before .before .before .before .before .before .before .loop-test .taken)) (l .inv .5) (c .before .before .before .before .before .before .forward-ref .result) _ (c .before .before .before .before .before .cross .result) (moved (c .before .before .before .before .before .before)) (l .inv .2) (c .before .before .before .before .before .cross .ensures) (λ z. omega (arith, c .if1 .taken))
 
 head-requires : tie.Need-head-requires Inv-loop μ-loop
-head-requires c κs = (omega (arith, c .before .before .before .before .pre .0 .page, c .before .before .before .before .pre .0 .pages), omega (arith, c .before .before .before .before .pre .0 .page, c .before .before .before .before .pre .0 .cells-long))
+head-requires c κs = let a = c .before .before .before .before .pre .0 in cell-in (a .pages) (a .cells-long) (a .page)
 
 field-count-requires : tie.Need-field-count-requires Inv-loop μ-loop
 field-count-requires c κs = search needs
@@ -56,19 +57,19 @@ owner-requires c κs = (c .before .before .before .before .before .before .befor
 loop-holds : tie.Need-loop-holds Inv-loop μ-loop
 loop-holds c =
     let a = c .before .before .before .before .before .before .before .before .args in
-    (omega arith, c .before .before .field-count .ensures ∙ ap (λ (x : ℕ). x / 16) (c .before .before .before .head .ensures), c .owner .ensures ∙ ap (λ (q : ℕ). ownerOf (a .p) (a .tables .now) q) (c .before .page-of .ensures), refl, refl, fields-settled _ _ _ _ _ _ _ _ (c .before .before .before .before .before .before .before .before .pre .1 .0 .appending .low))
+    (omega arith, c .before .before .field-count .ensures ∙ ap (λ (x : ℕ). x / 16) (c .before .before .before .head .ensures), c .owner .ensures ∙ ap (λ (q : ℕ). ownerOf (a .p) (a .tables .now) q) (c .before .page-of .ensures), refl, refl, fields-settled _ _ _ _ _ _ _ (c .before .before .before .before .before .before .before .before .pre .1 .0 .appending .low))
 
 field-requires : tie.Need-field-requires Inv-loop μ-loop
 field-requires c κs =
     let pre = c .before .before .before .before .before .before .before .before .before .before .before .pre in
     let loop = c .before .before .loop in
-    ((omega (arith, pre .0 .page, pre .0 .pages), omega (arith, pre .0 .page, pre .0 .cells-long, loop .inv .3)), omega (arith, loop .inv .1, pre .0 .few))
+    (cell-in (pre .0 .pages) (omega (arith, pre .0 .cells-long, loop .inv .3)) (pre .0 .page), omega (arith, loop .inv .1, pre .0 .few))
 
 forward-ref-requires : tie.Need-forward-ref-requires Inv-loop μ-loop
 forward-ref-requires c κs =
     let pre = c .before .before .before .before .before .before .before .before .before .before .before .before .pre in
     let l = c .before .before .before .loop in
-    (subst (λ (x : ℕ). Names (c .before .before .before .before .before .before .before .before .before .before .before .before .args .p) x) (sym (c .field .ensures)) (field-names (pre .0) (pre .1 .0) (omega (arith, l .inv .1)) (l .inv .5)), (omega (arith, pre .0 .cells-long, l .inv .3), pre .1 .1))
+    λ ne. cell-in (pre .0 .pages) (omega (arith, pre .0 .cells-long, l .inv .3)) (subst (λ (x : ℕ). Names (c .before .before .before .before .before .before .before .before .before .before .before .before .args .p) x) (sym (c .field .ensures)) (field-names (pre .0) (pre .1 .0) (omega (arith, l .inv .1)) (l .inv .5)) ne)
 
 cross-requires : tie.Need-cross-requires Inv-loop μ-loop
 cross-requires c κs =
@@ -80,7 +81,7 @@ set-field-requires : tie.Need-set-field-requires Inv-loop μ-loop
 set-field-requires c κs =
     let pre = c .before .before .before .before .before .before .before .before .before .before .before .before .before .before .before .pre in
     let loop = c .before .before .before .before .before .before .loop in
-    ((omega (arith, pre .0 .page, pre .0 .pages), omega (arith, pre .0 .page, pre .0 .cells-long, loop .inv .3)), omega (arith, loop .inv .1, pre .0 .few))
+    (cell-in (pre .0 .pages) (omega (arith, pre .0 .cells-long, loop .inv .3)) (pre .0 .page), omega (arith, loop .inv .1, pre .0 .few))
 
 field-at-requires : tie.Need-field-at-requires Inv-loop μ-loop
 field-at-requires c κs =
@@ -115,7 +116,7 @@ loop-again c =
     let lt : l .f < refsOf (a .cells .now) (a .cell) = omega (arith, l .inv .1, c .before .before .before .before .before .before .before .before .before .loop-test .taken) in
     let v = c .before .before .before .before .before .cross in
     let ev = moved (c .before .before .before .before .before .before) in
-    let P : List ℕ → List ℕ → ℕ → Type 0 = (λ X Y y. Settled (a .p) (a .region) (a .p .entries) (Field (a .cell) (l .f + 1)) (a .cells .now) (a .remember .now) (a .tables .now) (a .j) X Y y) in
+    let P : List ℕ → List ℕ → ℕ → Type 0 = (λ X Y y. Settled (a .p) (a .p .entries) (Field (a .cell) (l .f + 1)) (a .cells .now) (a .remember .now) (a .tables .now) (a .j) X Y y) in
     let h : P (c .before .before .before .set-field .last .0) (c .if1 .remember) (c .if1 .i) =
     ⊎-elim
     (λ z.
@@ -138,7 +139,7 @@ returns c =
     let a = c .before .before .before .before .before .before .before .before .before .before .args in
     let l = c .before .loop in
     let e : l .f ≡ refsOf (a .cells .now) (a .cell) = omega (arith, l .inv .0, l .inv .1) in
-    subst (λ (y : ℕ). Settled (a .p) (a .region) (a .p .entries) (Field (a .cell) y) (a .cells .now) (a .remember .now) (a .tables .now) (a .j) (l .cells) (l .remember) (l .i)) e (l .inv .5)
+    subst (λ (y : ℕ). Settled (a .p) (a .p .entries) (Field (a .cell) y) (a .cells .now) (a .remember .now) (a .tables .now) (a .j) (l .cells) (l .remember) (l .i)) e (l .inv .5)
 
 pub settle-cell-spec : {M : Type 1} → statement M
 settle-cell-spec =

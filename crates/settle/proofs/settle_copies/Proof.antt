@@ -11,18 +11,18 @@ use Rattle.settle.proofs.settle_copies.Statement.{statement}
 use Rattle.settle.proofs.settle_copies.Tie as tie
 
 abbrev Inv-loop : tie.InvT-loop
-Inv-loop p cells₀ remember₀ tables list n region j i₀ a₀ cells remember i a =
+Inv-loop p cells₀ remember₀ tables list n j i₀ a₀ cells remember i a =
     (a ≤ n) × (length cells ≡ length cells₀) × (length remember ≡ length remember₀)
-    × Through (p .pages) n list a (λ b. Settled p region (p .entries) (CopySlot p region (Between 0 (16 * b)) cells₀ tables) cells₀ remember₀ tables j cells remember i)
+    × Through (p .pages) n list a (λ b. Settled p (p .entries) (CopySlot p (Between 0 (16 * b)) cells₀ tables) cells₀ remember₀ tables j cells remember i)
 
 abbrev μ-loop : tie.MeasureT-loop
-μ-loop p cells₀ remember₀ tables list n region j i₀ a₀ cells remember i a =
+μ-loop p cells₀ remember₀ tables list n j i₀ a₀ cells remember i a =
     n - a
 
 loop-holds : tie.Need-loop-holds Inv-loop μ-loop
 loop-holds c =
     let pre = c .before .before .before .before .pre in
-    (omega arith, refl, refl, through-start _ _ _ _ (settled-skips (c .before .before .before .before .args .n) (c .before .before .before .before .args .list .now) (pre .0) (pre .1 .1 .1)) (copies-settled _ _ _ _ _ _ _ _ (pre .1 .0 .appending .low)))
+    (omega arith, refl, refl, through-start _ _ _ _ (settled-skips (c .before .before .before .before .args .n) (c .before .before .before .before .args .list .now) (pre .0) (pre .1 .1 .1)) (copies-settled _ _ _ _ _ _ _ (pre .1 .0 .appending .low)))
 
 mul-wide : tie.Need-mul-wide Inv-loop μ-loop
 mul-wide c = omega arith

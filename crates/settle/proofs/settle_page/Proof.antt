@@ -17,12 +17,12 @@ use Rattle.settle.proofs.settle_page.Statement.{statement}
 use Rattle.settle.proofs.settle_page.Tie as tie
 
 abbrev Inv-loop : tie.InvT-loop
-Inv-loop p cells₀ remember₀ tables region page j copied survivors i₀ left₀ k₀ cells remember i left k =
+Inv-loop p cells₀ remember₀ tables page j copied survivors i₀ left₀ k₀ cells remember i left k =
     (survivors ≡ ones copied) × (length cells ≡ length cells₀) × (length remember ≡ length remember₀) × Walked copied left k
-    × Settled p region (p .entries) (CopySlot p region (Passed page left) cells₀ tables) cells₀ remember₀ tables j cells remember i
+    × Settled p (p .entries) (CopySlot p (Passed page left) cells₀ tables) cells₀ remember₀ tables j cells remember i
 
 abbrev μ-loop : tie.MeasureT-loop
-μ-loop p cells₀ remember₀ tables region page j copied survivors i₀ left₀ k₀ cells remember i left k =
+μ-loop p cells₀ remember₀ tables page j copied survivors i₀ left₀ k₀ cells remember i left k =
     survivors - k
 
 lowest : (c : tie.In-loop Inv-loop μ-loop) → Lowest (c .before .loop .left) (trailingZeros 32 (c .before .loop .left))
@@ -35,7 +35,7 @@ cell c = c .cell-on .ensures ∙ ap (λ (y : ℕ). 16 * c .before .before .befor
 -- it is a survivor's, and this is its forward reference
 old : (c : tie.After-work Inv-loop μ-loop)
     → (let a = c .before .before .before .before .before .before .before .before .before .before .before .args in
-    Old (a .p) (a .region) (a .cells .now) (a .tables .now) (16 * a .page + trailingZeros 32 (c .before .before .before .before .before .loop .left)))
+    Old (a .p) (a .cells .now) (a .tables .now) (16 * a .page + trailingZeros 32 (c .before .before .before .before .before .loop .left)))
 old c =
     let pre = c .before .before .before .before .before .before .before .before .before .before .before .pre in
     let l = c .before .before .before .before .before .loop in
@@ -86,7 +86,7 @@ settle-cell-requires c κs =
     let u = old (c .before .before .before) in (
       subst (λ (d : ℕ). Fields (a .p) (refsOf (l .cells) d) d (l .cells)) (sym (c .before .before .cell-named .ensures)) (copy-fields (c .before .before .before .before .before .before .before .before .before .before .before .before .before .before .pre .0) g among (l .inv .4 .rewritten) (c .before .before .before .work .result) e u),
       (
-        subst (λ (d : ℕ). Settling (a .p) (a .region) (a .p .entries) (Field d (refsOf (l .cells) d)) (l .cells) (l .remember) (a .tables .now) (l .i)) (sym (c .before .before .cell-named .ensures))
+        subst (λ (d : ℕ). Settling (a .p) (a .p .entries) (Field d (refsOf (l .cells) d)) (l .cells) (l .remember) (a .tables .now) (l .i)) (sym (c .before .before .cell-named .ensures))
             (copy-settling (c .before .before .before .before .before .before .before .before .before .before .before .before .before .before .pre .0) g among (l .inv .4) (c .before .before .before .work .result) e u (c .before .before .before .before .before .before .before .before .before .before .before .before .before .before .pre .1 .0)),
         c .before .before .before .before .before .before .before .before .before .before .before .before .before .before .pre .0 .tables-long,
       ),
@@ -110,7 +110,7 @@ loop-again c =
     let left = c .without-bit in
     let come = c .before .before .before .before .before .settle-cell in
     let h = copy-settled (c .before .before .before .before .before .before .before .before .before .before .before .before .before .before .before .before .before .before .before .before .pre .0) (passed-grown (a .page) i (left .result) f (left .ensures)) (passed-within (a .page) (left .result)) (l .inv .4) (c .before .before .before .before .before .before .before .before .before .work .result) (link (c .before .before .before .before .before .before .before .before .before)) (old (c .before .before .before .before .before .before .before .before .before))
-    (subst (λ (d : ℕ). Settled (a .p) (a .region) (a .p .entries) (Field d (refsOf (l .cells) d)) (l .cells) (l .remember) (a .tables .now) (l .i) (come .last .1 .0) (come .last .1 .1 .0) (come .result)) (c .before .before .before .before .before .before .before .before .cell-named .ensures) (come .ensures)) in
+    (subst (λ (d : ℕ). Settled (a .p) (a .p .entries) (Field d (refsOf (l .cells) d)) (l .cells) (l .remember) (a .tables .now) (l .i) (come .last .1 .0) (come .last .1 .1 .0) (come .result)) (c .before .before .before .before .before .before .before .before .cell-named .ensures) (come .ensures)) in
     (l .inv .0, h .rewritten .size, h .added .size, walk-turn i (left .result) (l .inv .3) f (left .ensures), h)
 
 same-length : tie.Need-same-length Inv-loop μ-loop

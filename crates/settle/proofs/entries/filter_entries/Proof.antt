@@ -7,7 +7,7 @@ use mathlib.Core.List.{List}
 use mathlib.Core.Logic.{⊎-elim}
 use mathlib.Core.Path.{_≡_, refl, sym, ap, ap₂, _∙_, subst, subst₂}
 use Rattle.layout.specs.Places.{slotIn, slotRegionIn}
-use Rattle.settle.specs.Rewrite.{Names}
+use Rattle.layout.specs.Words.{Names}
 use Rattle.remember.specs.Stretches.{Added}
 use Rattle.settle.specs.Entries.{newRegion, Stays, filter-start, filter-keep, filter-drop, read-slot, read-region}
 use Rattle.settle.proofs.entries.filter_entries.Statement.{statement}

@@ -2,87 +2,86 @@
 use native.Mathlib.Omega.{arith}
 use borrow.Author.Needs.{needs}
 use lib.ListN.{length, getD}
-use Prim.Native.Nat.{ℕ, _≤_, _<_, _+_, _-_, _*_}
+use Prim.Native.Nat.{ℕ, _≤_, _<_, _+_, _-_}
 use mathlib.Core.List.{List}
 use mathlib.Core.Logic.{⊎-elim}
 use mathlib.Core.Path.{_≡_, refl, sym, _∙_, subst}
-use Rattle.layout.specs.Places.{usedIn, slotIn}
-use Rattle.settle.specs.Rewrite.{Names, Rewritten}
+use Rattle.layout.specs.Places.{usedIn, slotIn, cellsWords}
+use Rattle.layout.specs.Cells.{cell-in}
+use Rattle.layout.specs.Words.{Names}
+use Rattle.settle.specs.Rewrite.{Rewritten}
 use Rattle.settle.specs.RewriteSlots.{Remembered, slots-start, slot-names, slot-moved, slot-left}
 use Rattle.settle.proofs.rewrite.rewrite_slots.Statement.{statement}
 use Rattle.settle.proofs.rewrite.rewrite_slots.Tie as tie
 
 abbrev Inv-loop : tie.InvT-loop
-Inv-loop p cells₀ remember tables region entries used i₀ cells i =
-    (i ≤ used) × (used ≡ usedIn remember) × (length cells ≡ length cells₀) × Rewritten p region (Remembered region (p .entries) i remember) cells₀ tables cells
+Inv-loop cells₀ remember region entries used i₀ cells i =
+    (i ≤ used) × (used ≡ usedIn remember) × (length cells ≡ length cells₀) × Rewritten (Remembered region entries i remember) cells₀ cells
 
 abbrev μ-loop : tie.MeasureT-loop
-μ-loop p cells₀ remember tables region entries used i₀ cells i =
+μ-loop cells₀ remember region entries used i₀ cells i =
     used - i
 
-low : (c : tie.In-loop Inv-loop μ-loop) → slotIn (c .before .before .before .before .before .before .before .args .remember .now) (c .before .loop .i) < 256 * c .before .before .before .before .before .before .before .args .p .pages
-low c = c .before .before .before .before .before .before .before .pre .0 .low (c .before .loop .i) (omega (arith, c .before .loop .inv .1, c .loop-test .taken))
+low : (c : tie.In-loop Inv-loop μ-loop) → slotIn (c .before .before .before .before .before .before .args .remember .now) (c .before .loop .i) < cellsWords (c .before .before .before .before .before .before .args .p)
+low c = c .before .before .before .before .before .before .pre .low (c .before .loop .i) (omega (arith, c .before .loop .inv .1, c .loop-test .taken))
 
 used-requires : tie.Need-used-requires Inv-loop μ-loop
-used-requires c κs = omega (arith, c .before .before .before .pre .0 .long)
+used-requires c κs = omega (arith, c .before .before .pre .long)
 
 wide-requires : tie.Need-wide-requires Inv-loop μ-loop
 wide-requires c κs = search needs
 
 loop-holds : tie.Need-loop-holds Inv-loop μ-loop
-loop-holds c = (omega arith, c .wide .ensures ∙ c .before .used .ensures, refl, slots-start _ _ _ _ _ _)
+loop-holds c = (omega arith, c .wide .ensures ∙ c .before .used .ensures, refl, slots-start _ _ _ _)
 
 region-requires : tie.Need-region-requires Inv-loop μ-loop
 region-requires c κs =
-    let pre = c .before .before .before .before .before .before .before .pre in
-    (omega (arith, pre .0 .long), omega (arith, pre .0 .few, c .before .loop .inv .1))
+    let pre = c .before .before .before .before .before .before .pre in
+    (omega (arith, pre .long), omega (arith, pre .few, c .before .loop .inv .1))
 
 slot-requires : tie.Need-slot-requires Inv-loop μ-loop
 slot-requires c κs =
-    let pre = c .before .before .before .before .before .before .before .before .before .pre in
-    (omega (arith, pre .0 .long), omega (arith, pre .0 .few, c .before .before .before .loop .inv .1))
+    let pre = c .before .before .before .before .before .before .before .before .pre in
+    (omega (arith, pre .long), omega (arith, pre .few, c .before .before .before .loop .inv .1))
 
 wide-requires-2 : tie.Need-wide-requires-2 Inv-loop μ-loop
 wide-requires-2 c κs = search needs
 
 mul-forward-ref : tie.Need-mul-forward-ref Inv-loop μ-loop
-mul-forward-ref c = omega (arith, c .before .wide2 .ensures, c .before .before .slot .ensures, low (c .before .before .before .before .before), c .before .before .before .before .before .before .before .before .before .before .before .before .pre .0 .pages)
+mul-forward-ref c = omega (arith, c .before .wide2 .ensures, c .before .before .slot .ensures, low (c .before .before .before .before .before), c .before .before .before .before .before .before .before .before .before .before .before .pre .pages)
 
 slice-reshared-read-forward-ref : tie.Need-slice-reshared-read-forward-ref Inv-loop μ-loop
-slice-reshared-read-forward-ref c = omega (arith, c .before .wide2 .ensures, c .before .before .slot .ensures, low (c .before .before .before .before .before), c .before .before .before .before .before .before .before .before .before .before .before .before .pre .0 .cells-long, c .before .before .before .before .before .before .loop .inv .2)
+slice-reshared-read-forward-ref c = omega (arith, c .before .wide2 .ensures, c .before .before .slot .ensures, low (c .before .before .before .before .before), c .before .before .before .before .before .before .before .before .before .before .before .pre .cells-long, c .before .before .before .before .before .before .loop .inv .2)
 
 forward-ref-requires : tie.Need-forward-ref-requires Inv-loop μ-loop
 forward-ref-requires c κs =
-    let pre = c .before .before .before .before .before .before .before .before .before .before .before .before .pre in
-    let a = c .before .before .before .before .before .before .before .before .before .before .before .before .args in
+    let a = c .before .before .before .before .before .before .before .before .before .before .before .args in
     let l = c .before .before .before .before .before .before .loop in
-    let s = pre .0 in
-    let lt : l .i < usedIn (a .remember .now) = omega (arith, l .inv .1) in (
-      subst (λ (y : ℕ). Names (a .p) (getD (l .cells) y 0)) (sym (c .before .wide2 .ensures ∙ c .before .before .slot .ensures)) (slot-names s lt (l .inv .3) (sym (c .before .before .before .before .region .ensures) ∙ c .before .before .before .if1 .taken)),
-      (omega (arith, s .cells-long, l .inv .2), pre .1),
-    )
+    let s = c .before .before .before .before .before .before .before .before .before .before .before .pre in
+    let lt : l .i < usedIn (a .remember .now) = omega (arith, l .inv .1) in
+    λ ne.
+    cell-in (s .pages) (omega (arith, s .cells-long, l .inv .2))
+    (subst (λ (y : ℕ). Names (a .p) (getD (l .cells) y 0)) (sym (c .before .wide2 .ensures ∙ c .before .before .slot .ensures)) (slot-names s lt (l .inv .3) (sym (c .before .before .before .before .region .ensures) ∙ c .before .before .before .if1 .taken)) ne)
 
 mul-cells : tie.Need-mul-cells Inv-loop μ-loop
-mul-cells c = omega (arith, c .before .before .wide2 .ensures, c .before .before .before .slot .ensures, low (c .before .before .before .before .before .before), c .before .before .before .before .before .before .before .before .before .before .before .before .before .pre .0 .pages)
+mul-cells c = omega (arith, c .before .before .wide2 .ensures, c .before .before .before .slot .ensures, low (c .before .before .before .before .before .before), c .before .before .before .before .before .before .before .before .before .before .before .before .pre .pages)
 
 slice-write-cells : tie.Need-slice-write-cells Inv-loop μ-loop
-slice-write-cells c = omega (arith, c .before .before .wide2 .ensures, c .before .before .before .slot .ensures, low (c .before .before .before .before .before .before), c .before .before .before .before .before .before .before .before .before .before .before .before .before .pre .0 .cells-long, c .before .before .before .before .before .before .before .loop .inv .2)
+slice-write-cells c = omega (arith, c .before .before .wide2 .ensures, c .before .before .before .slot .ensures, low (c .before .before .before .before .before .before), c .before .before .before .before .before .before .before .before .before .before .before .before .pre .cells-long, c .before .before .before .before .before .before .before .loop .inv .2)
 
 add-i : tie.Need-add-i Inv-loop μ-loop
-add-i c =
-    let pre = c .before .before .before .before .before .before .before .before .before .pre in
-    omega (arith, pre .0 .few, c .before .before .before .loop .inv .1, pre .1 .entries-high)
+add-i c = omega (arith, c .before .before .before .loop .inv .1, c .before .before .loop-test .taken)
 
 loop-less : tie.Need-loop-less Inv-loop μ-loop
 loop-less c = omega arith
 
 loop-again : tie.Need-loop-again Inv-loop μ-loop
 loop-again c =
-    let a = c .before .before .before .before .before .before .before .before .before .args in
+    let a = c .before .before .before .before .before .before .before .before .args in
     let l = c .before .before .before .loop in
-    let s = c .before .before .before .before .before .before .before .before .before .pre .0 in
+    let s = c .before .before .before .before .before .before .before .before .pre in
     let lt : l .i < usedIn (a .remember .now) = omega (arith, l .inv .1, c .before .before .loop-test .taken) in
-    let P : List ℕ → Type 0 = (λ X. Rewritten (a .p) (a .region) (Remembered (a .region) (a .p .entries) (l .i + 1) (a .remember .now)) (a .cells .now) (a .tables .now) X) in
+    let P : List ℕ → Type 0 = (λ X. Rewritten (Remembered (a .region) (a .p .entries) (l .i + 1) (a .remember .now)) (a .cells .now) X) in
     let h : P (c .if1 .cells) =
     ⊎-elim
     (λ w.
@@ -97,10 +96,10 @@ same-length c = c .before .loop .inv .2
 
 returns : tie.Need-returns Inv-loop μ-loop
 returns c =
-    let a = c .before .before .before .before .before .before .before .args in
+    let a = c .before .before .before .before .before .before .args in
     let l = c .before .loop in
     let e : l .i ≡ usedIn (a .remember .now) = omega (arith, l .inv .0, l .inv .1) in
-    subst (λ (y : ℕ). Rewritten (a .p) (a .region) (Remembered (a .region) (a .p .entries) y (a .remember .now)) (a .cells .now) (a .tables .now) (l .cells)) e (l .inv .3)
+    subst (λ (y : ℕ). Rewritten (Remembered (a .region) (a .p .entries) y (a .remember .now)) (a .cells .now) (l .cells)) e (l .inv .3)
 
 pub rewrite-slots-spec : {M : Type 1} → statement M
 rewrite-slots-spec =

@@ -1,32 +1,34 @@
 -- The variables below i are rewritten, and nothing else is changed.
 use native.Mathlib.Omega.{arith}
 use lib.ListN.{length}
-use Prim.Native.Nat.{ℕ, _≤_, _<_, _+_, _-_, _*_}
+use Prim.Native.Nat.{ℕ, _≤_, _<_, _+_, _-_}
 use mathlib.Core.List.{List}
 use mathlib.Core.Path.{_≡_, refl, sym, ap, _∙_, subst}
 use native.Mathlib.Nat.{mul-le-mul}
-use Rattle.layout.specs.Places.{varOf}
+use Rattle.layout.specs.Places.{varCount, varOf}
+use Rattle.layout.specs.Cells.{cell-in}
 use Rattle.copy.specs.Taking.{room-same}
-use Rattle.settle.specs.Rewrite.{Names, moveRef}
+use Rattle.layout.specs.Words.{Names}
+use Rattle.settle.specs.Rewrite.{forwarded}
 use Rattle.settle.specs.RewriteSlots.{Variables, variables-start, variables-next, variables-names}
 use Rattle.settle.proofs.rewrite.rewrite_variables.Statement.{statement}
 use Rattle.settle.proofs.rewrite.rewrite_variables.Tie as tie
 
 abbrev Inv-loop : tie.InvT-loop
-Inv-loop p cells tables₀ region n i₀ tables i =
-    (i ≤ p .threads * p .variables) × (length tables ≡ length tables₀) × Variables p i region cells tables₀ tables
+Inv-loop p cells tables₀ n i₀ tables i =
+    (i ≤ varCount p) × (length tables ≡ length tables₀) × Variables p i cells tables₀ tables
 
 abbrev μ-loop : tie.MeasureT-loop
-μ-loop p cells tables₀ region n i₀ tables i =
-    p .threads * p .variables - i
+μ-loop p cells tables₀ n i₀ tables i =
+    varCount p - i
 
 var-count-requires : tie.Need-var-count-requires Inv-loop μ-loop
 var-count-requires c κs = (c .before .before .pre .1 .1 .threads-high, c .before .before .pre .1 .1 .variables-high)
 
 loop-holds : tie.Need-loop-holds Inv-loop μ-loop
-loop-holds c = (omega arith, refl, variables-start _ _ _ _)
+loop-holds c = (omega arith, refl, variables-start _ _ _)
 
-low : (c : tie.In-loop Inv-loop μ-loop) → c .before .loop .i < c .before .before .before .before .before .args .p .threads * c .before .before .before .before .before .args .p .variables
+low : (c : tie.In-loop Inv-loop μ-loop) → c .before .loop .i < varCount (c .before .before .before .before .before .args .p)
 low c = subst (λ (n : ℕ). c .before .loop .i < n) (c .before .before .var-count .ensures) (c .loop-test .taken)
 
 var-requires : tie.Need-var-requires Inv-loop μ-loop
@@ -36,7 +38,7 @@ forward-ref-requires : tie.Need-forward-ref-requires Inv-loop μ-loop
 forward-ref-requires c κs =
     let pre = c .before .before .before .before .before .before .before .pre in
     let l = c .before .before .before .loop in
-    (subst (λ (x : ℕ). Names (c .before .before .before .before .before .before .before .args .p) x) (sym (c .var .ensures)) (variables-names (l .inv .2) (pre .0 (l .i) (low (c .before .before)))), (pre .1 .0, room-same (l .inv .1) (pre .1 .1)))
+    λ ne. cell-in (pre .1 .1 .few) (pre .1 .0) (subst (λ (x : ℕ). Names (c .before .before .before .before .before .before .before .args .p) x) (sym (c .var .ensures)) (variables-names (l .inv .2) (pre .0 (l .i) (low (c .before .before)))) ne)
 
 set-var-requires : tie.Need-set-var-requires Inv-loop μ-loop
 set-var-requires c κs = (room-same (c .before .before .before .before .before .loop .inv .1) (c .before .before .before .before .before .before .before .before .before .pre .1 .1), low (c .before .before .before .before))
@@ -54,10 +56,10 @@ loop-again c =
     let forward-ref = c .before .before .before .before .forward-ref in
     let a = c .before .before .before .before .before .before .before .before .before .before .before .before .args in
     let l = c .before .before .before .before .before .before .before .before .loop in
-    let ev : forward-ref .result ≡ moveRef (a .p) (a .region) (a .cells .now) (l .tables) (varOf (a .p) (l .tables) (l .i)) =
-    forward-ref .ensures ∙ ap (λ (x : ℕ). moveRef (a .p) (a .region) (a .cells .now) (l .tables) x) (c .before .before .before .before .before .var .ensures) in
-    let h : Variables (a .p) (l .i + 1) (a .region) (a .cells .now) (a .tables .now) (c .before .before .set-var .last .1 .0) =
-    subst (λ (X : List ℕ). Variables (a .p) (l .i + 1) (a .region) (a .cells .now) (a .tables .now) X) (sym (c .before .before .set-var .ensures))
+    let ev : forward-ref .result ≡ forwarded (a .cells .now) (varOf (a .p) (l .tables) (l .i)) =
+    forward-ref .ensures ∙ ap (λ (x : ℕ). forwarded (a .cells .now) x) (c .before .before .before .before .before .var .ensures) in
+    let h : Variables (a .p) (l .i + 1) (a .cells .now) (a .tables .now) (c .before .before .set-var .last .1 .0) =
+    subst (λ (X : List ℕ). Variables (a .p) (l .i + 1) (a .cells .now) (a .tables .now) X) (sym (c .before .before .set-var .ensures))
     (variables-next (low (c .before .before .before .before .before .before .before)) (c .before .before .before .before .before .before .before .before .before .before .before .before .pre .1 .1) (l .inv .2) (forward-ref .result) ev) in
     (omega (arith, low (c .before .before .before .before .before .before .before)), h .size, h)
 
@@ -68,8 +70,8 @@ returns : tie.Need-returns Inv-loop μ-loop
 returns c =
     let a = c .before .before .before .before .before .args in
     let l = c .before .loop in
-    let e : l .i ≡ a .p .threads * a .p .variables = omega (arith, l .inv .0) in
-    subst (λ (y : ℕ). Variables (a .p) y (a .region) (a .cells .now) (a .tables .now) (l .tables)) e (l .inv .2)
+    let e : l .i ≡ varCount (a .p) = omega (arith, l .inv .0) in
+    subst (λ (y : ℕ). Variables (a .p) y (a .cells .now) (a .tables .now) (l .tables)) e (l .inv .2)
 
 pub rewrite-variables-spec : {M : Type 1} → statement M
 rewrite-variables-spec =
