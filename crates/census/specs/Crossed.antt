@@ -23,7 +23,7 @@ use Rattle.layout.specs.Marks.{marked}
 use Rattle.layout.specs.Words.{Words, Used, ownerIn, homeIn, refCount, refsIn, graphOf}
 use Rattle.promises.specs.Ends.{partOf}
 use Rattle.promises.specs.Whole.{WholeFor, IsRef}
-use Rattle.promises.specs.Crossing.{other, regionOf, crossTo}
+use Rattle.remember.specs.Crossing.{other, regionOf, crossTo}
 use Rattle.promises.specs.Crossings.{cross-in-sum}
 use Rattle.promises.specs.Slots.{Slot, region-of, slot-cross, cross-slot, field-slot}
 use Rattle.promises.specs.Reading.{used-home, used-owned, used-alive, alive-used, length-refs, getD-refs, refs-few}

@@ -9,7 +9,7 @@ use borrow.Author.Tests.{lt-ltb, le-ltb, le-leb, lt-leb, eq-eqb, ne-eqb}
 use Rattle.rules.specs.declared.Sizes.{Sizes}
 use Rattle.layout.specs.Places.{ownerOf}
 use Rattle.layout.specs.Cells.{pageOf}
-use Rattle.promises.specs.Crossing.{other, regionOf}
+use Rattle.remember.specs.Crossing.{other, regionOf}
 
 -- region g, where the slot's object lies in o
 module _ (o g : ℕ) where

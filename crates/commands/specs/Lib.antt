@@ -8,6 +8,5 @@ pub mod Does
 pub mod Variables
 pub mod Objects
 pub mod Storing
-pub mod Entering
 pub mod Making
 pub mod Obeys

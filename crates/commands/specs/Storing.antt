@@ -21,7 +21,7 @@ use Rattle.layout.specs.declared.Kind.the-variants.{Reference}
 use Rattle.layout.specs.Places.{Room, ownerOf, usedIn, slotIn}
 use Rattle.layout.specs.Cells.{headOf, fieldAt, fieldCount, kindAt, pageOf}
 use Rattle.layout.specs.Words.{Words, words, heapOf, Used, refCount}
-use Rattle.promises.specs.Crossing.{other, regionOf}
+use Rattle.remember.specs.Crossing.{other, regionOf}
 use Rattle.promises.specs.Whole.{WholeFor}
 use Rattle.promises.specs.Reading.{used-alive, remember-room}
 use Rattle.promises.specs.Agreed.{heap-stands, back}
@@ -29,7 +29,7 @@ use Rattle.promises.specs.Here.{here-var}
 use Rattle.promises.specs.Questions.{did-asked, did-lacked, did-done, room-crossing}
 use Rattle.promises.specs.Changes.{withObject, withField, renamed-same}
 use Rattle.promises.specs.Slots.{crossesTo}
-use Rattle.promises.specs.Remembering.{Remembered, remembered-full}
+use Rattle.remember.specs.Remembering.{Remembered, remembered-full}
 use Rattle.promises.specs.FrameReference.{storedWords, Followed, reference-named, reference-beyond, reference-stands, reference-fits, reference-full}
 use Rattle.commands.specs.declared.Decoded.the-variants.{Store}
 use Rattle.commands.specs.Decoding.{commandFor}

@@ -1,3 +1,4 @@
 -- One account of an end, stage by stage.
 pub mod MarkedWords
 pub mod Placing
+pub mod Rewriting

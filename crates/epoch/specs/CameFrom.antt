@@ -17,7 +17,7 @@ use Rattle.layout.specs.Words.{InUse}
 use Rattle.copy.specs.Marks.{mark?}
 use Rattle.copy.specs.Passing.{Ready}
 use Rattle.copy.specs.Forward.{Forwards, forward}
-use Rattle.settle.specs.Rewrite.{forwarded, move-null, move-in, move-out, Rewritten, refs-same}
+use Rattle.settle.specs.Rewrite.{forwarded, forward-null, forward-still, forward-moved, Rewritten, refs-same}
 use Rattle.settle.specs.Append.{crossAt, Crosses}
 use Rattle.settle.specs.Update.{Copies}
 use Rattle.evacuate.specs.Links.{Start}
@@ -50,17 +50,13 @@ module _ {p : Sizes} {r : ℕ} {S : ℕ → Type 0} {W₀ T₀ W T W′ : List �
       was v = ⊎-elim (λ off. absurd (u .moved (F .copying .links c v off ∙ s .idle c v off))) (λ on. (v, on)) (mark? p T₀ c)
 
       new : (b : ℕ) × (b / 16 < p .pages) × (marked p T₀ b ≡ 1) × (forward W b ≡ c) → InUse p T₀ c × (marked p T₀ c ≡ 1)
-      new q =
-          absurd
-          (s .targets (q .0) (q .1) (q .2)
-          (sym (F .moved (q .0) (q .1) (q .2) .home) ∙ ap (λ (x : ℕ). ownerOf p T (x / 16)) (q .3) ∙ u .owner))
+      new q = absurd (u .moved (ap (λ (x : ℕ). workOf W x) (sym (q .3)) ∙ F .moved (q .0) (q .1) (q .2) .clear))
 
   survivor-old : (c : ℕ) → c / 16 < p .pages → marked p T₀ c ≡ 1 → Old p W T c
   survivor-old c l on =
       let u = a₀ .used c l on in
       record {
         used = F .copying .keeps c u;
-        owner = F .copying .owner c u ∙ s .survivors c l on;
         moved = λ z. omega (arith, F .moved c l on .forward);
       }
 
@@ -84,7 +80,9 @@ module _ {p : Sizes} {r : ℕ} {S : ℕ → Type 0} {W₀ T₀ W T W′ : List �
   -- ---- the value of a slot afterwards
 
   same-other : (v : ℕ) → InUse p T₀ (v - 1) → v ≢ 0 → ownerOf p T₀ ((v - 1) / 16) ≢ r → forwarded W v ≡ v
-  same-other v u ne out = sym (move-out p r W T v ne (λ z. out (sym (F .copying .owner (v - 1) u) ∙ z)))
+  same-other v u ne out =
+      forward-still W v
+      (⊎-elim (λ off. F .copying .links (v - 1) u off ∙ s .idle (v - 1) u off) (λ on. absurd (out (s .survivors (v - 1) (u .page) on))) (mark? p T₀ (v - 1)))
 
   old-value : (y f : ℕ) → InUse p T₀ y → ownerOf p T₀ (y / 16) ≢ r → f < refsOf W₀ y → fieldOf W′ y f ≡ forwarded W (fieldOf W₀ y f)
   old-value y f u n lf = go (ℕ-discrete (fieldOf W₀ y f) 0) (ℕ-discrete (ownerOf p T₀ ((fieldOf W₀ y f - 1) / 16)) r)
@@ -107,7 +105,7 @@ module _ {p : Sizes} {r : ℕ} {S : ℕ → Type 0} {W₀ T₀ W T W′ : List �
       stays no-slot = R .same (16 * y + 2 + f) (⊎-elim no-slot (no-copy (16 * y + 2 + f) here)) ∙ before
 
       go : Dec (fieldOf W₀ y f ≡ 0) → Dec (ownerOf p T₀ ((fieldOf W₀ y f - 1) / 16) ≡ r) → fieldOf W′ y f ≡ forwarded W (fieldOf W₀ y f)
-      go (yes z) d = stays (λ q. s .into y f low q .0 z) ∙ move-null p r W T (fieldOf W₀ y f) z
+      go (yes z) d = stays (λ q. s .into y f low q .0 z) ∙ z ∙ sym (forward-null W (fieldOf W₀ y f) z)
       go (no ne) (yes own) =
           let t : ℕ = fieldOf W₀ y f - 1 in
           R .moved (16 * y + 2 + f) (inl (s .slots y f t u n lf (omega arith) own)) ∙ ap (λ (x : ℕ). forwarded W x) before
@@ -143,7 +141,7 @@ module _ {p : Sizes} {r : ℕ} {S : ℕ → Type 0} {W₀ T₀ W T W′ : List �
             let on = l .stays own in
             let lo = l .used .page in (
               forward W d,
-              sym (move-in p r W T v (λ z. omega arith) (ap (λ (y : ℕ). ownerOf p T (y / 16)) d′ ∙ F .copying .owner d (l .used) ∙ own))
+              forward-moved W v (λ z. omega arith) (λ z. omega (arith, ap (λ (y : ℕ). workOf W y) d′, F .moved d lo on .forward))
                   ∙ ap (λ (y : ℕ). workOf W y) d′ ∙ omega (arith, F .moved d lo on .forward),
               F .moved d lo on .home ∙ sym (goes d lo on),
             )
@@ -177,7 +175,7 @@ module _ {p : Sizes} {r : ℕ} {S : ℕ → Type 0} {W₀ T₀ W T W′ : List �
       where
         go : (y : ℕ) → fieldOf W₀ c f ≡ y → getD W′ x 0 ≢ 0 → crossAt p W′ T x ≡ ownerOf p T ((getD W′ x 0 - 1) / 16) → 1 < crossAt p W′ T x → crossAt p W′ T x ≢ ownerOf p T (x / 256)
             → (d : ℕ) × (y ≡ suc d) × (1 < home d) × (home c ≢ home d)
-        go zero e real region high other = absurd (real (val ∙ ap (λ (z : ℕ). forwarded W z) e ∙ sym (move-null p r W T 0 refl)))
+        go zero e real region high other = absurd (real (val ∙ ap (λ (z : ℕ). forwarded W z) e ∙ forward-null W 0 refl))
         go (suc d) e real region high other =
             let q = ref-lands (fieldOf W₀ c f) d e (names-lives c f d l lf e) in
             let z : getD W′ x 0 - 1 ≡ q .0 = omega (arith, val, q .1) in

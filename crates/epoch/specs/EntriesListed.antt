@@ -12,7 +12,7 @@ use Rattle.layout.specs.Places.{Room, ownerOf, usedIn, slotIn}
 use Rattle.layout.specs.Cells.{pageOf, cellOf, wordOf}
 use Rattle.layout.specs.Words.{Words, Used, ownerIn}
 use Rattle.promises.specs.Whole.{WholeFor, IsRef}
-use Rattle.promises.specs.Crossing.{other, regionOf, crossTo}
+use Rattle.remember.specs.Crossing.{other, regionOf, crossTo}
 use Rattle.promises.specs.Slots.{Slot, region-of, slot-low, slot-cross, slot-field}
 use Rattle.mark.specs.Reached.{entry-slot}
 use Rattle.mark.specs.Survivors.{Marked}

@@ -24,7 +24,7 @@ use Rattle.copy.specs.Taking.{endOf, Regular, room-same}
 use Rattle.copy.specs.Passing.{Ready, moves-ready}
 use Rattle.copy.specs.Copying.{no-survivors, copy-marks}
 use Rattle.copy.specs.Forward.{forward}
-use Rattle.settle.specs.Rewrite.{forwarded, move-null, link-same, head-same, ref-same}
+use Rattle.settle.specs.Rewrite.{forwarded, forward-null, link-same, head-same, ref-same}
 use Rattle.release.specs.Release.{Blank, ended-size, ended-depth, ended-rest, ended-blank, ended-alike, ended-use, ended-used, ended-regular}
 use Rattle.settle.specs.Update.{Copies}
 use Rattle.evacuate.specs.Links.{old-survivor, ref-survivor, ref-other, copy-refs, copy-after, copy-number, new-home}
@@ -206,7 +206,7 @@ module _ {p : Sizes} {r n m l t : ℕ} {gs : ℕ → ℕ} {W T M W′ T′ M′ 
 
   -- what a reference to a cell that lives on becomes
   move-renamed : (x : ℕ) → (x ≢ 0 → Lives p r T (x - 1)) → forwarded (f .cells) x ≡ renamed (cellAfter p r T W′) x
-  move-renamed zero h = sym (move-null p r (f .cells) (f .tables) 0 refl)
+  move-renamed zero h = forward-null (f .cells) 0 refl
   move-renamed (suc y) h = go (ℕ-discrete (ownerOf p T (y / 16)) r)
     where
       e : suc y - 1 ≡ y
@@ -269,7 +269,7 @@ module _ {p : Sizes} {r n m l t : ℕ} {gs : ℕ → ℕ} {W T M W′ T′ M′ 
 
       go : Dec (fieldOf W c g ≡ 0) → Dec (ownerOf p T ((fieldOf W c g - 1) / 16) ≡ r)
           → fieldOf W′ c g ≡ forwarded (f .cells) (fieldOf W c g)
-      go (yes z) own = same (λ n. absurd (n z)) ∙ move-null p r (f .cells) (f .tables) (fieldOf W c g) z
+      go (yes z) own = same (λ n. absurd (n z)) ∙ z ∙ sym (forward-null (f .cells) (fieldOf W c g) z)
       go (no n) (no o) =
           same (λ z. o)
           ∙ sym (ref-other (b .start) a₀ a₁ (f .forwards) (fieldOf W c g - 1) (fieldOf W c g) (omega arith) (slot-lives c g v lg n .used) o)

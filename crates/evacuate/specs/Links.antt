@@ -10,11 +10,11 @@ use Rattle.rules.specs.declared.Sizes.{Sizes}
 use Rattle.layout.specs.Places.{ownerOf}
 use Rattle.layout.specs.Cells.{workOf, fieldOf, refsOf}
 use Rattle.layout.specs.Marks.{marked}
-use Rattle.layout.specs.Words.{InUse}
+use Rattle.layout.specs.Words.{InUse, Names}
 use Rattle.copy.specs.Marks.{mark?}
 use Rattle.copy.specs.Passing.{Ready}
 use Rattle.copy.specs.Forward.{Forwards, forward}
-use Rattle.settle.specs.Rewrite.{Names, moveRef, move-null, move-in, move-out, Rewritten, refs-same}
+use Rattle.settle.specs.Rewrite.{forwarded, forward-null, forward-still, forward-moved, Rewritten, refs-same}
 use Rattle.settle.specs.Append.{crossAt, Crosses}
 use Rattle.settle.specs.Update.{Copies}
 use Rattle.settle.specs.RewriteCopies.{Old, Wiring, Between}
@@ -39,7 +39,7 @@ module _ {p : Sizes} {r : ℕ} {S : ℕ → Type 0} {W₀ T₀ W T : List ℕ} (
   new-home c l on e = s .targets c l on (sym (F .moved c l on .home) ∙ e)
 
   -- the cells of r with a forward reference are the survivors
-  pub old-survivor : (c : ℕ) → Old p r W T c → InUse p T₀ c × (marked p T₀ c ≡ 1)
+  pub old-survivor : (c : ℕ) → Old p W T c → InUse p T₀ c × (marked p T₀ c ≡ 1)
   old-survivor c u = ⊎-elim was new (F .only c (u .used))
     where
       was : InUse p T₀ c → InUse p T₀ c × (marked p T₀ c ≡ 1)
@@ -47,14 +47,13 @@ module _ {p : Sizes} {r : ℕ} {S : ℕ → Type 0} {W₀ T₀ W T : List ℕ} (
           ⊎-elim (λ off. absurd (u .moved (F .copying .links c v off ∙ s .idle c v off))) (λ on. (v, on)) (mark? p T₀ c)
 
       new : (b : ℕ) × (b / 16 < p .pages) × (marked p T₀ b ≡ 1) × (forward W b ≡ c) → InUse p T₀ c × (marked p T₀ c ≡ 1)
-      new q = absurd (new-home (q .0) (q .1) (q .2) (ap (λ (x : ℕ). ownerOf p T (x / 16)) (q .3) ∙ u .owner))
+      new q = absurd (u .moved (ap (λ (x : ℕ). workOf W x) (sym (q .3)) ∙ F .moved (q .0) (q .1) (q .2) .clear))
 
-  pub survivor-old : (c : ℕ) → c / 16 < p .pages → marked p T₀ c ≡ 1 → Old p r W T c
+  pub survivor-old : (c : ℕ) → c / 16 < p .pages → marked p T₀ c ≡ 1 → Old p W T c
   survivor-old c l on =
       let u = a₀ .used c l on in
       record {
         used = F .copying .keeps c u;
-        owner = F .copying .owner c u ∙ s .survivors c l on;
         moved = λ z. omega (arith, F .moved c l on .forward);
       }
 
@@ -72,7 +71,7 @@ module _ {p : Sizes} {r : ℕ} {S : ℕ → Type 0} {W₀ T₀ W T : List ℕ} (
       let e′ : 16 * c + (2 + f) ≡ 16 * c + 2 + f = omega arith in
       ap (λ (x : ℕ). getD W x 0) e ∙ F .moved c l on .body (2 + f) (omega arith) (λ z. omega arith) ∙ ap (λ (x : ℕ). getD W₀ x 0) e′
 
-  pub forwards-wiring : Wiring p r (Between 0 (16 * p .pages)) W T
+  pub forwards-wiring : Wiring p (Between 0 (16 * p .pages)) W T
   forwards-wiring =
       record {
         few = a .regular .room .few;
@@ -102,26 +101,26 @@ module _ {p : Sizes} {r : ℕ} {S : ℕ → Type 0} {W₀ T₀ W T : List ℕ} (
 
   -- ---- a reference to a cell in use, after the copy
 
-  -- 1 + forward where it names a survivor, itself where it names a cell of another region
-  pub ref-survivor : (b x : ℕ) → x ≡ 1 + b → b / 16 < p .pages → marked p T₀ b ≡ 1 → moveRef p r W T x ≡ 1 + forward W b
-  ref-survivor b x e l on =
-      let u = a₀ .used b l on in
-      let d : x - 1 ≡ b = omega arith in
-      sym (move-in p r W T x (λ z. omega arith)
-      (ap (λ (y : ℕ). ownerOf p T (y / 16)) d ∙ F .copying .owner b u ∙ s .survivors b l on))
-      ∙ ap (λ (y : ℕ). workOf W y) d ∙ omega (arith, F .moved b l on .forward)
+  -- word 1 of a cell of another region is zero
+  pub still : (b : ℕ) → InUse p T₀ b → ownerOf p T₀ (b / 16) ≢ r → workOf W b ≡ 0
+  still b u n =
+      ⊎-elim (λ off. F .copying .links b u off ∙ s .idle b u off) (λ on. absurd (n (s .survivors b (u .page) on))) (mark? p T₀ b)
 
-  pub ref-other : (b x : ℕ) → x ≡ 1 + b → InUse p T₀ b → ownerOf p T₀ (b / 16) ≢ r → moveRef p r W T x ≡ x
+  -- 1 + forward where it names a survivor, itself where it names a cell of another region
+  pub ref-survivor : (b x : ℕ) → x ≡ 1 + b → b / 16 < p .pages → marked p T₀ b ≡ 1 → forwarded W x ≡ 1 + forward W b
+  ref-survivor b x e l on =
+      let d : workOf W (x - 1) ≡ workOf W b = ap (λ (y : ℕ). workOf W y) (let z : x - 1 ≡ b = omega arith in z) in
+      forward-moved W x (λ z. omega arith) (λ z. omega (arith, F .moved b l on .forward)) ∙ d ∙ omega (arith, F .moved b l on .forward)
+
+  pub ref-other : (b x : ℕ) → x ≡ 1 + b → InUse p T₀ b → ownerOf p T₀ (b / 16) ≢ r → forwarded W x ≡ x
   ref-other b x e u n =
-      let d : x - 1 ≡ b = omega arith in
-      sym (move-out p r W T x (λ z. omega arith)
-      (λ z. n (sym (F .copying .owner b u) ∙ ap (λ (y : ℕ). ownerOf p T (y / 16)) (sym d) ∙ z)))
+      forward-still W x (ap (λ (y : ℕ). workOf W y) (let z : x - 1 ≡ b = omega arith in z) ∙ still b u n)
 
   pub ref-out : (b x : ℕ) → x ≡ 1 + b → InUse p T₀ b → (ownerOf p T₀ (b / 16) ≡ r → marked p T₀ b ≡ 1)
-      → (c : ℕ) × (moveRef p r W T x ≡ 1 + c) × InUse p T c × (ownerOf p T (c / 16) ≢ r)
+      → (c : ℕ) × (forwarded W x ≡ 1 + c) × InUse p T c × (ownerOf p T (c / 16) ≢ r)
   ref-out b x e u h = go (ℕ-discrete (ownerOf p T₀ (b / 16)) r)
     where
-      go : Dec (ownerOf p T₀ (b / 16) ≡ r) → (c : ℕ) × (moveRef p r W T x ≡ 1 + c) × InUse p T c × (ownerOf p T (c / 16) ≢ r)
+      go : Dec (ownerOf p T₀ (b / 16) ≡ r) → (c : ℕ) × (forwarded W x ≡ 1 + c) × InUse p T c × (ownerOf p T (c / 16) ≢ r)
       go (yes own) =
           let on = h own in
           (forward W b, ref-survivor b x e (u .page) on, F .moved b (u .page) on .used, new-home b (u .page) on)
@@ -129,9 +128,9 @@ module _ {p : Sizes} {r : ℕ} {S : ℕ → Type 0} {W₀ T₀ W T : List ℕ} (
 
   -- ---- after the rewriting of the remembered slots and of the copies' slots
 
-  module _ {W′ : List ℕ} (R : Rewritten p r (λ x. S x ⊎ Copies p r W T x) W T W′) where
+  module _ {W′ : List ℕ} (R : Rewritten (λ x. S x ⊎ Copies p W T x) W W′) where
     -- a slot of a copy
-    pub copy-after : (c f : ℕ) → c / 16 < p .pages → marked p T₀ c ≡ 1 → f < refsOf W₀ c → fieldOf W′ (forward W c) f ≡ moveRef p r W T (fieldOf W₀ c f)
+    pub copy-after : (c f : ℕ) → c / 16 < p .pages → marked p T₀ c ≡ 1 → f < refsOf W₀ c → fieldOf W′ (forward W c) f ≡ forwarded W (fieldOf W₀ c f)
     copy-after c f l on lf =
         let few : refsOf W₀ c ≤ 14 = s .refs-few c (a₀ .used c l on) in
         R .moved (16 * forward W c + 2 + f)
@@ -141,7 +140,7 @@ module _ {p : Sizes} {r : ℕ} {S : ℕ → Type 0} {W₀ T₀ W T : List ℕ} (
           old = survivor-old c l on;
           field = record { field = f; low = omega (arith, copy-refs c l on); at = refl };
         }))
-        ∙ ap (λ (x : ℕ). moveRef p r W T x) (copy-slot c f l on (omega arith))
+        ∙ ap (λ (x : ℕ). forwarded W x) (copy-slot c f l on (omega arith))
 
     -- a number of a copy, and the words past its fields
     pub copy-number : (c f : ℕ) → c / 16 < p .pages → marked p T₀ c ≡ 1 → refsOf W₀ c ≤ f → f < 14 → fieldOf W′ (forward W c) f ≡ fieldOf W₀ c f
@@ -177,7 +176,7 @@ module _ {p : Sizes} {r : ℕ} {S : ℕ → Type 0} {W₀ T₀ W T : List ℕ} (
             ap (λ (x : ℕ). getD W x 0) e ∙ F .copying .words y (2 + f) (omega (arith, few)) u (λ z. omega arith) ∙ ap (λ (x : ℕ). getD W₀ x 0) (sym e)
 
         -- it is no slot of a copy
-        no-copy : Copies p r W T (16 * y + 2 + f) → ⊥
+        no-copy : Copies p W T (16 * y + 2 + f) → ⊥
         no-copy q =
             let b : ℕ = q .cell in
             let v = old-survivor b (q .old) in
@@ -204,7 +203,7 @@ module _ {p : Sizes} {r : ℕ} {S : ℕ → Type 0} {W₀ T₀ W T : List ℕ} (
             let w = ref-out t (fieldOf W₀ y f) e ub (λ z. on) in
             inr (
               w .0,
-              R .moved (16 * y + 2 + f) (inl (s .slots y f t u n lf e own)) ∙ ap (λ (x : ℕ). moveRef p r W T x) before ∙ w .1,
+              R .moved (16 * y + 2 + f) (inl (s .slots y f t u n lf e own)) ∙ ap (λ (x : ℕ). forwarded W x) before ∙ w .1,
               w .2,
               w .3,
             )
@@ -239,11 +238,11 @@ module _ {p : Sizes} {r : ℕ} {S : ℕ → Type 0} {W₀ T₀ W T : List ℕ} (
             lc : f < refsOf W₀ (q .0)
             lc = omega (arith, copy-head (q .0) (q .1) (q .2), ap (λ (x : ℕ). refsOf W′ x) (q .3))
 
-            value : fieldOf W′ y f ≡ moveRef p r W T (fieldOf W₀ (q .0) f)
+            value : fieldOf W′ y f ≡ forwarded W (fieldOf W₀ (q .0) f)
             value = ap (λ (x : ℕ). fieldOf W′ x f) (sym (q .3)) ∙ copy-after (q .0) f (q .1) (q .2) lc
 
             go : Dec (fieldOf W₀ (q .0) f ≡ 0) → (fieldOf W′ y f ≡ 0) ⊎ ((b : ℕ) × (fieldOf W′ y f ≡ 1 + b) × InUse p T b × (ownerOf p T (b / 16) ≢ r))
-            go (yes z) = inl (value ∙ sym (move-null p r W T (fieldOf W₀ (q .0) f) z) ∙ z)
+            go (yes z) = inl (value ∙ forward-null W (fieldOf W₀ (q .0) f) z)
             go (no ne) =
                 let t : ℕ = fieldOf W₀ (q .0) f - 1 in
                 let e : fieldOf W₀ (q .0) f ≡ 1 + t = omega arith in
@@ -251,7 +250,7 @@ module _ {p : Sizes} {r : ℕ} {S : ℕ → Type 0} {W₀ T₀ W T : List ℕ} (
                 inr (w .0, value ∙ w .1, w .2, w .3)
 
     -- the copies' slots that cross are crossing slots of the heap after the end
-    pub copies-cross : (x : ℕ) → Copies p r W T x → crossAt p W′ T x ≢ 0 → Crosses p r W′ T x
+    pub copies-cross : (x : ℕ) → Copies p W T x → crossAt p W′ T x ≢ 0 → Crosses p r W′ T x
     copies-cross x q ne =
         let c : ℕ = q .cell in
         let v = old-survivor c (q .old) in

@@ -15,7 +15,7 @@ use Rattle.copy.specs.Marks.{mark?}
 use Rattle.copy.specs.Passing.{Moves.none}
 use Rattle.copy.specs.Copying.{Copy, no-marks}
 use Rattle.copy.specs.Forward.{copy-forwards}
-use Rattle.settle.specs.Rewrite.{forwarded, move-null, move-out, Rewritten, rewritten-none}
+use Rattle.settle.specs.Rewrite.{forwarded, forward-null, forward-still, Rewritten, rewritten-none}
 use Rattle.settle.specs.RewriteSlots.{Remembered, Variables}
 use Rattle.settle.specs.Update.{Copies, Updating, Updated}
 use Rattle.evacuate.specs.Table.{IsSlot, cross-value}
@@ -85,8 +85,8 @@ module _ {p : Sizes} {r n m l : ℕ} {gs : ℕ → ℕ} {W T M : List ℕ} (b : 
   none-variables = record { size = refl; moved = λ i h. moved′ i h (ℕ-discrete (varOf p T i) 0); same = λ x h. refl }
     where
       moved′ : (i : ℕ) → i < p .threads * p .variables → Dec (varOf p T i ≡ 0) → varOf p T i ≡ forwarded W (varOf p T i)
-      moved′ i h (yes z) = move-null p r W T (varOf p T i) z
-      moved′ i h (no z) = let v = b .variables i h z in move-out p r W T (varOf p T i) z (λ e. unset (varOf p T i - 1) (v .used .page) (v .stays e))
+      moved′ i h (yes z) = z ∙ sym (forward-null W (varOf p T i) z)
+      moved′ i h (no z) = let v = b .variables i h z in sym (forward-still W (varOf p T i) (⊎-elim (b .start .idle (varOf p T i - 1) (v .used)) (λ on. absurd (unset (varOf p T i - 1) (v .used .page) on)) (mark? p T (varOf p T i - 1))))
 
   pub none-finished : {t : ℕ} {M′ T′ : List ℕ} → Updated p r n m W M T M′ → Ended p r t T T′ → Finished p r n m l t gs W M T W M′ T′
   none-finished u e =

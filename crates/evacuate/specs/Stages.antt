@@ -10,11 +10,11 @@ use Rattle.rules.specs.declared.Sizes.{Sizes}
 use Rattle.layout.specs.Places.{Room, depthAt, varAt, ownerAt, depthOf, varOf, ownerOf, usedOf, markOf, slotIn, slotRegionIn}
 use Rattle.layout.specs.Cells.{workOf, fieldOf, refsOf}
 use Rattle.layout.specs.Marks.{marked}
-use Rattle.layout.specs.Words.{InUse}
+use Rattle.layout.specs.Words.{InUse, Names}
 use Rattle.copy.specs.Passing.{Ready, moves-ready, moves-tables}
 use Rattle.copy.specs.Copying.{Plan, Copy, no-survivors, copy-marks}
 use Rattle.copy.specs.Forward.{Forwards, forward, copy-forwards}
-use Rattle.settle.specs.Rewrite.{Names, Rewritten, rewritten-join, link-same, refs-same}
+use Rattle.settle.specs.Rewrite.{Rewritten, rewritten-join, link-same, refs-same}
 use Rattle.settle.specs.Append.{Crosses}
 use Rattle.settle.specs.Update.{Copies, Updating, Updated}
 use Rattle.release.specs.Release.{Ended}
@@ -146,10 +146,10 @@ module _ {p : Sizes} {r n m l : ℕ} {gs : ℕ → ℕ} {W T M W₁ T₁ : List 
         }
       where
         now : {d : ℕ} → Old p W₁ T₁ d → Old p W₃ T₁ d
-        now {d} u = record { used = u .used; owner = u .owner; moved = λ z. u .moved (sym (link-same R d) ∙ z) }
+        now {d} u = record { used = u .used; moved = λ z. u .moved (sym (link-same R d) ∙ z) }
 
         then : (d : ℕ) → Old p W₃ T₁ d → Old p W₁ T₁ d
-        then d u = record { used = u .used; owner = u .owner; moved = λ z. u .moved (link-same R d ∙ z) }
+        then d u = record { used = u .used; moved = λ z. u .moved (link-same R d ∙ z) }
 
         fields : (d : ℕ) → Between 0 (16 * p .pages) d → Old p W₁ T₁ d → Fields p (refsOf W₃ (workOf W₁ d - 1)) (workOf W₁ d - 1) W₃
         fields d q u =

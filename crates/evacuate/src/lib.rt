@@ -35,9 +35,9 @@ pub fn evacuate(
     let level = layout::wide(layout::tables::depth(p, tables, thread));
     let region = layout::regions::region_at(p, thread, level);
     copy::copy_survivors(p, cells, tables, notes, list, n, come, thread, level);
-    settle::rewrite::rewrite_slots(p, cells, remember, tables, region);
+    settle::rewrite::rewrite_slots(p, cells, remember, region);
     settle::settle(p, cells, remember, tables, list, n, region);
-    settle::rewrite::rewrite_variables(p, cells, tables, region);
+    settle::rewrite::rewrite_variables(p, cells, tables);
     release::release(p, tables, notes, list, n, region, thread);
 }
 
@@ -58,6 +58,6 @@ pub fn evacuate_none(
 {
     let level = layout::wide(layout::tables::depth(p, tables, thread));
     let region = layout::regions::region_at(p, thread, level);
-    settle::remember::keep_entries(p, cells, remember, tables, region);
+    settle::entries::keep_entries(p, cells, remember, tables, region);
     release::release_region(p, tables, notes, region, thread);
 }

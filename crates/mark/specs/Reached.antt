@@ -21,7 +21,7 @@ use Rattle.laws.specs.GraphLaws.{Refers, Holds, bySlot, byOwn, byOther}
 use Rattle.layout.specs.Places.{varOf, usedIn, slotIn, slotRegionIn, Room}
 use Rattle.layout.specs.Cells.{fieldAt, fieldOf, pageOf, cellOf, wordOf}
 use Rattle.layout.specs.Words.{Words, Used, ownerIn, homeIn, depthIn, refCount, refsIn, varsIn, graphOf}
-use Rattle.promises.specs.Crossing.{other, regionOf, crossTo}
+use Rattle.remember.specs.Crossing.{other, regionOf, crossTo}
 use Rattle.promises.specs.Whole.{WholeFor, IsRef}
 use Rattle.promises.specs.Slots.{Slot, region-of, slot-low, slot-cross, cross-slot, slot-field, field-slot}
 use Rattle.promises.specs.Reading.{range, cells-room, remember-room, used-home, used-owned, used-alive, alive-used, cell-low, length-refs, getD-refs, length-vars, getD-vars, refs-few}

@@ -17,8 +17,8 @@ use Rattle.laws.specs.Counts.{crossIn, crossAt, crossing-sum, crossRef, cross-c
 use Rattle.layout.specs.Places as lp
 use Rattle.layout.specs.Cells.{fieldAt, pageOf, placeOf, cellOf, wordOf}
 use Rattle.layout.specs.Words.{Words, Used, ownerIn, usedIn, refCount, refsIn, homeIn, graphOf}
-use Rattle.promises.specs.Crossing as cr
-use Rattle.promises.specs.Crossing.{other, regionOf, crossTo}
+use Rattle.remember.specs.Crossing as cr
+use Rattle.remember.specs.Crossing.{other, regionOf, crossTo}
 use Rattle.promises.specs.Whole.{WholeFor, IsRef}
 use Rattle.promises.specs.StandsFor.{StandsFor}
 use Rattle.promises.specs.Remember.{every-counted}

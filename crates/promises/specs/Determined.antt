@@ -21,7 +21,7 @@ use Rattle.layout.specs.declared.Kind.{Kind}
 use Rattle.layout.specs.declared.Kind.the-variants.{Reference, Number}
 use Rattle.layout.specs.Cells.{fieldOf, fieldAt, fieldCount, firstField, pageOf, placeOf, cellOn, cellOf, wordOf}
 use Rattle.layout.specs.Words.{Words, Used, sizesIn, depthIn, ownerIn, usedIn, headIn, refCount, numCount, fieldsIn, homeIn}
-use Rattle.promises.specs.Crossing.{other, regionOf, crossTo}
+use Rattle.remember.specs.Crossing.{other, regionOf, crossTo}
 use Rattle.promises.specs.Whole.{WholeFor, objectsOf}
 use Rattle.promises.specs.StandsFor.{StandsFor}
 use Rattle.promises.specs.Reading.{owners-is, used-alive, alive-used, used-home, length-fields, getD-fields, getD-vars, depth-at}

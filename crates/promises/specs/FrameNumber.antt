@@ -14,12 +14,12 @@ use Rattle.laws.specs.RulesLaws.{Sound}
 use Rattle.layout.specs.declared.Kind.the-variants.{Reference, Number}
 use Rattle.layout.specs.Cells.{headOf, fieldAt, cellOf, wordOf}
 use Rattle.layout.specs.Words.{Words, InUse, Used, refCount, numCount}
-use Rattle.promises.specs.Crossing.{crossTo}
+use Rattle.remember.specs.Crossing.{crossTo}
 use Rattle.promises.specs.Whole.{WholeAt, WholeFor}
 use Rattle.promises.specs.StandsFor.{StandsFor, SameBeyond}
 use Rattle.promises.specs.Reading.{alive-used, cells-room}
 use Rattle.promises.specs.Changes.{withCells, withObject, withField}
-use Rattle.promises.specs.Entries.{exact-everywhere}
+use Rattle.remember.specs.Entries.{exact-everywhere}
 use Rattle.promises.specs.Slots.{Slot, crossesTo, cross-same, exact-of, of-exact}
 use Rattle.promises.specs.FieldStore.{field-whole, head-kept, whole-with, cells-beyond, object-stands, fields-kept, fields-set}
 

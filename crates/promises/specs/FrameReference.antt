@@ -25,15 +25,15 @@ use Rattle.layout.specs.Places as lp
 use Rattle.layout.specs.Places.{cellsWords, rememberWords}
 use Rattle.layout.specs.Cells.{fieldAt, fieldOf, cellOf}
 use Rattle.layout.specs.Words.{Words, Used, refCount}
-use Rattle.promises.specs.Crossing.{crossTo}
+use Rattle.remember.specs.Crossing.{crossTo}
 use Rattle.promises.specs.Whole.{WholeFor, IsRef}
 use Rattle.promises.specs.StandsFor.{StandsFor, SameBeyond}
 use Rattle.promises.specs.Reading.{alive-used, cells-room, remember-room, length-refs, getD-refs}
 use Rattle.promises.specs.Crossings.{ref-test, heap-entries}
 use Rattle.promises.specs.Changes.{withObject, withField}
-use Rattle.promises.specs.Entries.{Edited}
+use Rattle.remember.specs.Entries.{Edited}
 use Rattle.promises.specs.Slots.{Slot, crossesTo, field-slot, slot-cross, cross-stored, cross-elsewhere, exact-of, of-exact}
-use Rattle.promises.specs.Remembering.{Remembered, NoRoom, remembered-exact, remembered-edited}
+use Rattle.remember.specs.Remembering.{Remembered, NoRoom, remembered-exact, remembered-edited}
 use Rattle.promises.specs.FieldStore.{field-whole, whole-with, cells-beyond, object-stands, fields-kept, fields-set}
 use Rattle.promises.specs.FrameVariable.{ref-to-cell}
 

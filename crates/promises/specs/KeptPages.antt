@@ -13,7 +13,7 @@ use Rattle.rules.specs.Regions.{threadOf}
 use Rattle.layout.specs.Places.{sizesAt, ownersFrom, cellsWords, rememberWords, tablesWords, depthOf, varOf, ownerOf, usedOf, markOf, countOf, ownerAt, usedAt, markAt, countAt, used-is, mark-is, count-is}
 use Rattle.layout.specs.Cells.{headOf, pageOf, placeOf, cellOf, wordOf}
 use Rattle.layout.specs.Words.{Words, InUse, homeAt, inUseAt, ownerIn}
-use Rattle.promises.specs.Crossing.{other, regionOf, crossTo}
+use Rattle.remember.specs.Crossing.{other, regionOf, crossTo}
 use Rattle.promises.specs.Whole.{SizesWhole, WholeFor, Open, Partial, objectsOf, IsRef, RememberWhole}
 use Rattle.promises.specs.Changes.{withTables}
 

@@ -1,7 +1,6 @@
 -- What lent words stand for, and what a command, a run and prepare promise of them.
 
 -- definitions: what must be read
-pub mod Crossing
 pub mod Whole
 pub mod StandsFor
 pub mod Promises
@@ -21,11 +20,8 @@ pub mod Chained
 -- the questions in words, refusals, and a command that is done
 pub mod Questions
 pub mod NewPages
--- the remember table: exact for crossTo, and kept so by each edit
-pub mod Entries
-pub mod EntryEdits
+-- the remember table is exact for crossTo
 pub mod Slots
-pub mod Remembering
 -- frames: words that differ in one area stand for the heap, changed likewise
 pub mod Changes
 pub mod KeptPages

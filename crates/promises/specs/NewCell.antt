@@ -13,11 +13,11 @@ use Rattle.layout.specs.Places.{sizesAt, cellsWords, rememberWords, tablesWords
 use Rattle.layout.specs.declared.Kind.{Kind}
 use Rattle.layout.specs.Cells.{headAt, headOf, workAt, workOf, fieldAt, fieldOf, fieldCount, firstField, kind-among, pageOf, cellOf, wordOf}
 use Rattle.layout.specs.Words.{Words, Used, depthsAt, varsAt, fieldsAt}
-use Rattle.promises.specs.Crossing.{other, regionOf, crossTo}
+use Rattle.remember.specs.Crossing.{other, regionOf, crossTo}
 use Rattle.promises.specs.Whole.{WholeFor, Open, IsRef, CellFormed}
 use Rattle.promises.specs.StandsFor.{SameBeyond}
 use Rattle.promises.specs.Reading.{owners-is}
-use Rattle.promises.specs.Entries.{exact-everywhere}
+use Rattle.remember.specs.Entries.{exact-everywhere}
 use Rattle.promises.specs.Slots.{Slot, crossesTo, region-of, slot-field, cross-same, exact-of, of-exact}
 use Rattle.promises.specs.TakeCell.{Took, low-past, mark-past, took-unused, still-used, used-split, ref-still, owner-used, depth-past, took-pages, took-partial, took-counts}
 

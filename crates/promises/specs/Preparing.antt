@@ -14,7 +14,7 @@ use Rattle.layout.specs.Cells.{headOf, pageOf, placeOf, cellOf, wordOf}
 use Rattle.lists.specs.Tests.{cond-zero}
 use Rattle.lists.specs.Zeros.{all-zero}
 use Rattle.lists.specs.Counting.{sum-high}
-use Rattle.promises.specs.Crossing.{crossTo, other, regionOf}
+use Rattle.remember.specs.Crossing.{crossTo, other, regionOf}
 use Rattle.promises.specs.Whole.{SizesWhole, objectsOn, WholeAt}
 use Rattle.rules.specs.declared.Sizes.{Sizes}
 use Rattle.rules.specs.NeverFreeing.{empty}

@@ -9,7 +9,7 @@ use Rattle.lists.specs.Counting.{count}
 use Rattle.lists.specs.Pigeonhole.{Names, all-named, named-le, names-le}
 use Rattle.rules.specs.declared.Sizes.{Sizes}
 use Rattle.layout.specs.Places.{usedIn, slotIn}
-use Rattle.promises.specs.Crossing.{crossTo, crossing}
+use Rattle.remember.specs.Crossing.{crossTo, crossing}
 use Rattle.promises.specs.Whole.{EntriesWhole, RememberWhole}
 
 module _ (p : Sizes) (c m t : List ℕ) (w : EntriesWhole p c m t) where

@@ -14,9 +14,9 @@ use Rattle.rules.specs.declared.Sizes.{Sizes}
 use Rattle.layout.specs.Places.{ownerOf, usedOf}
 use Rattle.layout.specs.Cells.{headAt, headOf, fieldAt, pageOf, placeOf, cellOf, wordOf}
 use Rattle.layout.specs.Words.{InUse}
-use Rattle.promises.specs.Crossing.{other, regionOf, crossTo}
+use Rattle.remember.specs.Crossing.{other, regionOf, crossTo}
 use Rattle.promises.specs.Whole.{RememberWhole}
-use Rattle.promises.specs.Entries.{Exact, Elsewhere}
+use Rattle.remember.specs.Entries.{Exact, Elsewhere}
 
 -- the word at q is a reference field of a cell in use
 pub record Slot (p : Sizes) (c t : List ℕ) (q : ℕ) : Type 0 where

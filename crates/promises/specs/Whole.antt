@@ -13,7 +13,7 @@ use Rattle.rules.specs.Regions.{threadOf, levelOf}
 use Rattle.layout.specs.Places.{sizesAt, cellsWords, rememberWords, tablesWords, depthOf, varOf, ownerOf, usedOf, markOf, countOf, usedIn, slotIn, slotRegionIn}
 use Rattle.layout.specs.Cells.{headOf, workOf, fieldOf}
 use Rattle.layout.specs.Words.{Words, InUse, sizesIn}
-use Rattle.promises.specs.Crossing.{crossTo}
+use Rattle.remember.specs.Crossing.{crossTo}
 
 -- ---- the words that the conditions speak of
 

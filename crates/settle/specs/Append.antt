@@ -13,7 +13,8 @@ use Rattle.rules.specs.declared.Sizes.{Sizes}
 use Rattle.layout.specs.Places.{ownerOf, slotIn}
 use Rattle.layout.specs.Cells.{refsOf}
 use Rattle.layout.specs.Words.{InUse}
-use Rattle.settle.specs.Entries.{crossOf, Added, slot-below}
+use Rattle.remember.specs.Stretches.{Added, slot-below}
+use Rattle.settle.specs.Entries.{crossOf}
 
 -- the region into which the word at x crosses, if it is a slot
 abbrev pub crossAt : (p : Sizes) (W T : List ℕ) → ℕ → ℕ

@@ -1,18 +1,18 @@
 -- The remember table: which entries stay, which come.
-use mathlib.Core.Path.{_≡_, refl, sym, ap, ap₂, _∙_, subst}
+use mathlib.Core.Path.{_≡_, sym, ap, ap₂, _∙_}
 use mathlib.Core.Logic.{_≢_, _⊎_, inl, inr, ⊎-elim}
 use mathlib.Core.Bool.{cond}
 use mathlib.Core.List.{List}
-use Prim.Native.Nat.{ℕ, zero, _+_, _-_, _*_, _/_, _≤_, _<_}
-use native.Mathlib.Decide.{ℕ-discrete, decLt}
+use Prim.Native.Nat.{ℕ, _+_, _-_, _*_, _/_, _≤_, _<_}
+use native.Mathlib.Decide.{ℕ-discrete}
 use native.Mathlib.Omega.{arith}
 use borrow.Author.Tests.{eq-eqb, ne-eqb, le-leb, lt-leb}
 use lib.Dec.{eqb}
-use lib.ListN.{length, getD, set, length-set}
-use lib.Seq.{getD-set-same, getD-set-other}
+use lib.ListN.{length, getD, set}
 use Rattle.rules.specs.declared.Sizes.{Sizes}
 use Rattle.layout.specs.Places.{ownerOf, slotIn, slotRegionIn}
-use Rattle.promises.specs.Crossing.{other}
+use Rattle.remember.specs.Crossing.{other}
+use Rattle.remember.specs.Stretches.{Added, added-none, added-one, added-join, added-like, slot-above, region-above}
 use Rattle.layout.specs.Words.{Names}
 
 -- ---- crossing
@@ -62,123 +62,6 @@ pub new-moved : (p : Sizes) (r : ℕ) (W T : List ℕ) (s g : ℕ) → ownerOf p
     → crossOf p T (ownerOf p T (s / 256)) (getD W s 0) ≡ newRegion p r W T s g
 unfolding newRegion
 new-moved p r W T s g n e = rw (ne-eqb _ _ n, eq-eqb _ _ e)
-
--- ---- entries i up to j are those of G: slot x with region h
-
-pub record Added (n : ℕ) (G : ℕ → ℕ → Type 0) (i j : ℕ) (M M′ : List ℕ) : Type 0 where
-  pub size : length M′ ≡ length M
-  pub grows : i ≤ j
-  pub low : j ≤ n
-  pub named : (y : ℕ) → i ≤ y → y < j → G (slotIn M′ y) (slotRegionIn n M′ y)
-  pub every : (x h : ℕ) → G x h → (y : ℕ) × (i ≤ y) × (y < j) × (slotIn M′ y ≡ x) × (slotRegionIn n M′ y ≡ h)
-  pub once : (y z : ℕ) → i ≤ y → y < z → z < j → slotIn M′ y ≢ slotIn M′ z
-  pub same : (x : ℕ) → (2 + i ≤ x → 2 + j ≤ x) → (2 + n + i ≤ x → 2 + n + j ≤ x) → getD M′ x 0 ≡ getD M x 0
-
-pub added-none : {n : ℕ} (G : ℕ → ℕ → Type 0) (i : ℕ) (M : List ℕ) → i ≤ n → ((x h : ℕ) → G x h → ⊥) → Added n G i i M M
-added-none G i M l no-one =
-    record {
-      size = refl;
-      grows = omega arith;
-      low = l;
-      named = λ y a b. absurd (let z : ⊥ = omega arith in z);
-      every = λ x h g. absurd (no-one x h g);
-      once = λ y z a b c. absurd (let w : ⊥ = omega arith in w);
-      same = λ x a b. refl;
-    }
-
-pub added-one : {n : ℕ} (i x h : ℕ) (M : List ℕ) → i < n → 2 + 2 * n ≤ length M
-    → Added n (λ y g. (y ≡ x) × (g ≡ h)) i (i + 1) M (set (set M (2 + i) x) (2 + n + i) h)
-added-one {n} i x h M l long =
-    record {
-      size = length-set X (2 + n + i) h ∙ length-set M (2 + i) x;
-      grows = omega arith;
-      low = omega arith;
-      named = λ y a b.
-          let e : y ≡ i = omega arith in
-          subst (λ (z : ℕ). (slotIn Y z ≡ x) × (slotRegionIn n Y z ≡ h)) (sym e) (slot-i, region-i);
-      every = λ y g q. (i, omega arith, omega arith, slot-i ∙ sym (q .0), region-i ∙ sym (q .1));
-      once = λ y z a b c. absurd (let w : ⊥ = omega arith in w);
-      same = λ y a b.
-          getD-set-other X (2 + n + i) y h 0 (λ e. let w : 2 + n + (i + 1) ≤ y = b (omega arith) in omega arith)
-          ∙ getD-set-other M (2 + i) y x 0 (λ e. let w : 2 + (i + 1) ≤ y = a (omega arith) in omega arith);
-    }
-  where
-    X : List ℕ
-    X = set M (2 + i) x
-
-    Y : List ℕ
-    Y = set (set M (2 + i) x) (2 + n + i) h
-
-    slot-i : slotIn Y i ≡ x
-    slot-i = getD-set-other X (2 + n + i) (2 + i) h 0 (λ e. omega arith) ∙ getD-set-same M (2 + i) x 0 (omega arith)
-
-    region-i : slotRegionIn n Y i ≡ h
-    region-i = getD-set-same X (2 + n + i) h 0 (omega (arith, length-set M (2 + i) x))
-
--- entries below i stay
-module _ {n i j : ℕ} {G : ℕ → ℕ → Type 0} {M M′ : List ℕ} (a : Added n G i j M M′) where
-  pub slot-below : (y : ℕ) → y < i → slotIn M′ y ≡ slotIn M y
-  slot-below y l = a .same (2 + y) (λ z. omega arith) (λ z. omega (arith, a .grows, a .low))
-
-  pub region-below : (y : ℕ) → y < i → slotRegionIn n M′ y ≡ slotRegionIn n M y
-  region-below y l = a .same (2 + n + y) (λ z. omega (arith, a .low)) (λ z. omega arith)
-
-  -- and those from j on
-  pub slot-above : (y : ℕ) → j ≤ y → y < n → slotIn M′ y ≡ slotIn M y
-  slot-above y l m = a .same (2 + y) (λ z. omega arith) (λ z. omega (arith, a .grows))
-
-  pub region-above : (y : ℕ) → j ≤ y → slotRegionIn n M′ y ≡ slotRegionIn n M y
-  region-above y l = a .same (2 + n + y) (λ z. omega (arith, a .low)) (λ z. omega arith)
-
-pub added-join : {n i j k : ℕ} {G H K : ℕ → ℕ → Type 0} {M M′ M″ : List ℕ} → Added n G i j M M′ → Added n H j k M′ M″
-    → ((x g h : ℕ) → G x g → H x h → ⊥) → ((x h : ℕ) → K x h → G x h ⊎ H x h) → ((x h : ℕ) → G x h ⊎ H x h → K x h) → Added n K i k M M″
-added-join {n} {i} {j} {k} {G} {H} {K} {M} {M′} {M″} a b apart from to =
-    record {
-      size = b .size ∙ a .size;
-      grows = omega (arith, a .grows, b .grows);
-      low = b .low;
-      named = λ y l m. named′ y l m (decLt y j);
-      every = λ x h q. every′ x h (from x h q);
-      once = λ y z l m o. once′ y z l m o (decLt y j) (decLt z j);
-      same = λ x u v.
-          b .same x (λ l. let w : 2 + k ≤ x = u (omega (arith, a .grows)) in w) (λ l. let w : 2 + n + k ≤ x = v (omega (arith, a .grows)) in w)
-          ∙ a .same x (λ l. let w : 2 + k ≤ x = u l in omega (arith, b .grows)) (λ l. let w : 2 + n + k ≤ x = v l in omega (arith, b .grows));
-    }
-  where
-    old : (y : ℕ) → i ≤ y → y < j → G (slotIn M″ y) (slotRegionIn n M″ y)
-    old y l m =
-        subst (λ (z : ℕ). G z (slotRegionIn n M″ y)) (sym (slot-below b y m))
-        (subst (λ (z : ℕ). G (slotIn M′ y) z) (sym (region-below b y m)) (a .named y l m))
-
-    named′ : (y : ℕ) → i ≤ y → y < k → Dec (y < j) → K (slotIn M″ y) (slotRegionIn n M″ y)
-    named′ y l m (yes z) = to _ _ (inl (old y l z))
-    named′ y l m (no z) = to _ _ (inr (b .named y (omega arith) m))
-
-    every′ : (x h : ℕ) → G x h ⊎ H x h → (y : ℕ) × (i ≤ y) × (y < k) × (slotIn M″ y ≡ x) × (slotRegionIn n M″ y ≡ h)
-    every′ x h (inl q) =
-        let e = a .every x h q in
-        (e .0, e .1, omega (arith, e .2, b .grows), slot-below b (e .0) (e .2) ∙ e .3, region-below b (e .0) (e .2) ∙ e .4)
-    every′ x h (inr q) = let e = b .every x h q in (e .0, omega (arith, e .1, a .grows), e .2, e .3, e .4)
-
-    once′ : (y z : ℕ) → i ≤ y → y < z → z < k → Dec (y < j) → Dec (z < j) → slotIn M″ y ≢ slotIn M″ z
-    once′ y z l m o (yes u) (yes v) = λ e. a .once y z l m v (sym (slot-below b y u) ∙ e ∙ slot-below b z v)
-    once′ y z l m o (yes u) (no v) = λ e.
-        apart (slotIn M″ z) (slotRegionIn n M″ y) (slotRegionIn n M″ z) (subst (λ (w : ℕ). G w (slotRegionIn n M″ y)) e (old y l u))
-        (b .named z (omega arith) o)
-    once′ y z l m o (no u) (yes v) = absurd (let w : ⊥ = omega arith in w)
-    once′ y z l m o (no u) (no v) = b .once y z (omega arith) m o
-
-pub added-like : {n i j : ℕ} {G K : ℕ → ℕ → Type 0} {M M′ : List ℕ} → Added n G i j M M′ → ((x h : ℕ) → K x h → G x h) → ((x h : ℕ) → G x h → K x h) → Added n K i j M M′
-added-like a from to =
-    record {
-      size = a .size;
-      grows = a .grows;
-      low = a .low;
-      named = λ y l m. to _ _ (a .named y l m);
-      every = λ x h q. a .every x h (from x h q);
-      once = a .once;
-      same = a .same;
-    }
 
 -- ---- the entries that stay, of the first i
 
@@ -252,35 +135,3 @@ module _ {p : Sizes} {r n m i j : ℕ} {W T M M′ : List ℕ} (a : Entries p r 
       from : (x g : ℕ) (q : Stays p r n W M T (i + 1) x g) → Dec (q .entry ≡ i) → Stays p r n W M T i x g
       from x g q (yes e) = absurd (q .kept (q .region ∙ ap (λ (y : ℕ). newRegion p r W T (slotIn M y) (slotRegionIn n M y)) e ∙ value))
       from x g q (no e) = record { entry = q .entry; low = omega (arith, q .low); slot = q .slot; region = q .region; kept = q .kept }
-
--- ---- entries j up to m are cleared
-
-pub record Cleared (n j i : ℕ) (M M′ : List ℕ) : Type 0 where
-  pub size : length M′ ≡ length M
-  pub zero : (y : ℕ) → j ≤ y → y < i → (slotIn M′ y ≡ 0) × (slotRegionIn n M′ y ≡ 0)
-  pub same : (x : ℕ) → (2 + j ≤ x → 2 + i ≤ x) → (2 + n + j ≤ x → 2 + n + i ≤ x) → getD M′ x 0 ≡ getD M x 0
-
-pub clear-start : (n j : ℕ) (M : List ℕ) → Cleared n j j M M
-clear-start n j M = record { size = refl; zero = λ y a b. absurd (let z : ⊥ = omega arith in z); same = λ x a b. refl }
-
-pub clear-next : {n j i : ℕ} {M M′ : List ℕ} → j ≤ i → i < n → 2 + 2 * n ≤ length M → Cleared n j i M M′
-    → Cleared n j (i + 1) M (set (set M′ (2 + i) 0) (2 + n + i) 0)
-clear-next {n} {j} {i} {M} {M′} le lt long h =
-    record {
-      size = o .size ∙ h .size;
-      zero = λ y a b. zero′ y a b (ℕ-discrete y i);
-      same = λ x a b.
-          o .same x (λ l. a (omega arith)) (λ l. b (omega arith))
-          ∙ h .same x (λ l. let w : 2 + (i + 1) ≤ x = a l in omega arith) (λ l. let w : 2 + n + (i + 1) ≤ x = b l in omega arith);
-    }
-  where
-    o : Added n (λ y g. (y ≡ 0) × (g ≡ 0)) i (i + 1) M′ (set (set M′ (2 + i) 0) (2 + n + i) 0)
-    o = added-one i 0 0 M′ lt (omega (arith, h .size))
-
-    zero′ : (y : ℕ) → j ≤ y → y < i + 1 → Dec (y ≡ i)
-        → (slotIn (set (set M′ (2 + i) 0) (2 + n + i) 0) y ≡ 0) × (slotRegionIn n (set (set M′ (2 + i) 0) (2 + n + i) 0) y ≡ 0)
-    zero′ y a b (yes e) = o .named y (omega arith) b
-    zero′ y a b (no e) =
-        let l : y < i = omega arith in
-        let z = h .zero y a l in
-        (slot-below o y l ∙ z .0, region-below o y l ∙ z .1)

@@ -16,7 +16,8 @@ use Rattle.layout.specs.Words.{Names}
 use Rattle.settle.specs.Rewrite.{forwarded, Rewritten, rewritten-none, rewritten-like}
 use Rattle.settle.specs.RewriteSlots.{Field, Fields, fields-start, field-moved}
 use Rattle.settle.specs.RewriteCopies.{CopySlot, Old, Wiring, Grown, Between, copy-fields, slot-less, slot-now, slot-then}
-use Rattle.settle.specs.Entries.{crossOf, newRegion, Added, added-like, Stays, Entries, Cleared}
+use Rattle.remember.specs.Stretches.{Added, added-like, Cleared}
+use Rattle.settle.specs.Entries.{crossOf, newRegion, Stays, Entries}
 use Rattle.settle.specs.Update.{Copies, Updating, Updated, update-appending, updated}
 use Rattle.settle.specs.Settle.{Settled, Settling, crossing-in, copy-rewritten}
 

@@ -8,7 +8,7 @@ use native.Mathlib.Omega.{arith}
 use lib.ListN.{length, getD, set, length-set}
 use lib.Seq.{getD-set-same, getD-set-other}
 use Rattle.rules.specs.declared.Sizes.{Sizes}
-use Rattle.layout.specs.Places.{Room, varAt, ownerAt, varOf, slotIn, slotRegionIn, varsFrom}
+use Rattle.layout.specs.Places.{Room, varAt, varCount, varOf, slotIn, slotRegionIn, varsFrom}
 use Rattle.layout.specs.Cells.{fieldOf}
 use Rattle.layout.specs.Words.{Names}
 use Rattle.settle.specs.Rewrite.{forwarded, Rewritten, rewritten-none, rewritten-one, rewritten-join}
@@ -110,7 +110,7 @@ pub variables-start : (p : Sizes) (W T : List ℕ) → Variables p 0 W T T
 variables-start p W T =
     record { size = refl; moved = λ i l. absurd (let z : ⊥ = omega arith in z); same = λ x h. refl }
 
-pub variables-next : {p : Sizes} {n : ℕ} {W T T′ : List ℕ} → n < p .threads * p .variables → Room p (length T) → Variables p n W T T′ → (y : ℕ)
+pub variables-next : {p : Sizes} {n : ℕ} {W T T′ : List ℕ} → n < varCount p → Room p (length T) → Variables p n W T T′ → (y : ℕ)
     → y ≡ forwarded W (varOf p T′ n) → Variables p (n + 1) W T (set T′ (varAt p n) y)
 variables-next {p} {n} {W} {T} {T′} m room h y e =
     record {

@@ -16,7 +16,8 @@ use Rattle.layout.specs.Words.{Names}
 use Rattle.settle.specs.Rewrite.{forwarded, Rewritten, link-same, refs-same, ref-same, rewritten-none, rewritten-one, rewritten-join, rewritten-like}
 use Rattle.settle.specs.RewriteSlots.{Field, Fields}
 use Rattle.settle.specs.RewriteCopies.{CopySlot, Old, Wiring, Grown, Between, Passed, passed-within, within-passed, unset-none, slot-less, slot-now, slot-then, earlier-apart, unmarked-slots, pages-apart}
-use Rattle.settle.specs.Entries.{crossOf, Added, added-none, added-one, added-join, added-like}
+use Rattle.remember.specs.Stretches.{Added, added-none, added-one, added-join, added-like}
+use Rattle.settle.specs.Entries.{crossOf}
 use Rattle.settle.specs.Append.{crossAt, Crossing, Appending, append-room, appending-next}
 
 -- the slots of P are rewritten; those that cross then stand from entry j up to entry i

@@ -9,7 +9,8 @@ use lib.ListN.{length, getD, set, length-set}
 use lib.Seq.{getD-set-same, getD-set-other}
 use Rattle.rules.specs.declared.Sizes.{Sizes}
 use Rattle.layout.specs.Places.{usedIn, slotIn, slotRegionIn}
-use Rattle.settle.specs.Entries.{Added, added-join, slot-above, region-above, Stays, Entries, Cleared}
+use Rattle.remember.specs.Stretches.{Added, added-join, slot-above, region-above, Cleared}
+use Rattle.settle.specs.Entries.{Stays, Entries}
 use Rattle.settle.specs.Append.{crossAt, Crosses, Crossing, Appending}
 use Rattle.settle.specs.RewriteCopies.{CopySlot, Wiring, Between}
 

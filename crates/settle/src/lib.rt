@@ -1,7 +1,7 @@
 // Settle, after the copying: references to cells that moved go by the forward references, in the remembered slots, the variables and the
 // copies' own slots, and the remember table follows. The copies' slots are gone over once: each becomes what it is to be, and if it crosses
 // then, its entry comes.
-pub mod remember;
+pub mod entries;
 pub mod rewrite;
 
 ghost use mathlib.Core.Path.{_≡_};
@@ -16,11 +16,11 @@ ghost use Rattle.settle.specs.RewriteCopies.{CopySlot, Wiring, Between};
 ghost use Rattle.settle.specs.Update.{Copies, Updated};
 ghost use Rattle.settle.specs.Settle.{Settling, Settled};
 ghost use Rattle.settle.specs.Final.{Settles};
-use crate::remember::clear_entries;
-use crate::remember::cross;
-use crate::remember::filter_entries;
+use crate::entries::cross;
+use crate::entries::filter_entries;
 use crate::rewrite::forward_ref;
 use layout::Kind;
+use remember::entries::clear_entries;
 use rules::Sizes;
 
 // The reference fields of a copy. Those that cross come after the first j entries; how many there are then.

@@ -2,7 +2,7 @@
 // the variables; for the copies' own slots see settle.
 ghost use mathlib.Core.Path.{_≡_};
 ghost use mathlib.Core.Logic.{_≢_};
-ghost use Prim.Native.Nat.{ℕ, _*_, _<_, _≤_};
+ghost use Prim.Native.Nat.{ℕ, _<_, _≤_};
 ghost use lib.ListN.{length};
 ghost use Rattle.layout.specs.Places.{Room, varCount, varOf, usedIn, cellsWords};
 ghost use Rattle.layout.specs.Cells.{cellNamed, CellIn};

@@ -1,20 +1,18 @@
 -- Crossing slots, counted page by page, cell by cell and reference by reference.
-use Prim.Native.Nat.{ℕ, _+_, _*_, _-_, _/_, _≤_, _<_}
+use Prim.Native.Nat.{ℕ, _+_, _*_, _/_, _≤_, _<_}
 use mathlib.Core.List.{List}
 use mathlib.Core.Bool.{false}
 use mathlib.Core.Path.{_≡_, refl, sym, ap, subst, _∙_}
 use native.Mathlib.Omega.{arith}
-use native.Mathlib.Decide.{decLt}
-use borrow.Author.Tests.{lt-ltb, le-ltb, le-leb, lt-leb, eq-eqb, ne-eqb, eqb-true}
-use lib.Dec.{ltb, leb, eqb}
-use lib.ListN.{getD}
+use borrow.Author.Tests.{le-ltb, eq-eqb, eqb-true}
+use lib.Dec.{eqb}
 use Rattle.lists.specs.Counting.{count, count-positive, count-zero, count-to, sum-mono, bit}
-use Rattle.lists.specs.Tests.{cond-zero}
 use Rattle.lists.specs.Says.{Says}
 use Rattle.rules.specs.declared.Sizes.{Sizes}
 use Rattle.layout.specs.Places.{ownerOf, usedOf}
-use Rattle.layout.specs.Cells.{headAt, headOf, fieldAt, fieldOf, IsReference, pageOf, placeOf, cellOn, cellOf, wordOf}
-use Rattle.promises.specs.Crossing.{other, regionOf, crossTo, crossing}
+use Rattle.layout.specs.Cells.{headAt, headOf, fieldAt, fieldOf, pageOf, placeOf, cellOn, cellOf, wordOf}
+use Rattle.remember.specs.Crossing.{other, regionOf, crossTo, crossing}
+use Rattle.remember.specs.Crosses.{slot-of, low-none, high-none, unused-none}
 use Rattle.whole.specs.Cells.{CellsWhole, page-on, place-on}
 
 -- how many slots cross before position n
@@ -27,42 +25,23 @@ pub record CellsCross (p : Sizes) (c t : List ℕ) (n : ℕ) : Type 0 where
   pub crossing : crossingTo p c t (256 * p .pages) ≡ n
 
 module _ (p : Sizes) (c t : List ℕ) where
-  -- the slot of a reference of a cell in use
-  slot-of : (q k w : ℕ) → cellOf q ≡ k → wordOf q ≡ w → placeOf k < usedOf p t (pageOf k) → 2 ≤ w → w < headOf c k / 16 + 2
-      → crossTo p c t q ≡ other (ownerOf p t (pageOf k)) (regionOf p t (getD c q 0))
-  unfolding crossTo
-  slot-of q k w e f u l m = rw (e, f, lt-ltb (placeOf k) (usedOf p t (pageOf k)) u, le-leb 2 w l, lt-ltb w (headOf c k / 16 + 2) m)
-
-  -- words 0 and 1 of a cell are no slots, nor are those after its references, nor any of a cell not in use
-  low-none : (q : ℕ) → wordOf q < 2 → crossTo p c t q ≡ 0
-  unfolding crossTo
-  low-none q h = rw (lt-leb 2 (wordOf q) h) (cond-zero (ltb (placeOf (cellOf q)) (usedOf p t (pageOf (cellOf q)))) 0 0 refl refl)
-
-  high-none : (q k w : ℕ) → cellOf q ≡ k → wordOf q ≡ w → headOf c k / 16 + 2 ≤ w → crossTo p c t q ≡ 0
-  unfolding crossTo
-  high-none q k w e f h = rw (e, f, le-ltb w (headOf c k / 16 + 2) h, cond-zero (leb 2 w) 0 0 refl refl) (cond-zero (ltb (placeOf k) (usedOf p t (pageOf k))) 0 0 refl refl)
-
-  unused-none : (q k : ℕ) → cellOf q ≡ k → usedOf p t (pageOf k) ≤ placeOf k → crossTo p c t q ≡ 0
-  unfolding crossTo
-  unused-none q k e h = rw (e, le-ltb (placeOf k) (usedOf p t (pageOf k)) h)
-
   none : (q : ℕ) → crossTo p c t q ≡ 0 → crossing p c t q ≡ false
   none q e = le-ltb 0 (crossTo p c t q) (omega arith)
 
   -- so a count may pass over them
   pub to-fields : (k : ℕ) → crossingTo p c t (fieldAt k 0) ≡ crossingTo p c t (headAt k)
-  to-fields k = count-to (crossing p c t) (headAt k) (fieldAt k 0) (omega arith) (λ q l m. none q (low-none q (omega arith)))
+  to-fields k = count-to (crossing p c t) (headAt k) (fieldAt k 0) (omega arith) (λ q l m. none q (low-none p c t q (omega arith)))
 
   pub to-next-cell : (k f : ℕ) → headOf c k / 16 ≤ f → f ≤ 14 → crossingTo p c t (headAt (k + 1)) ≡ crossingTo p c t (fieldAt k f)
   to-next-cell k f h i =
       count-to (crossing p c t) (fieldAt k f) (headAt (k + 1)) (omega arith)
-      (λ q l m. none q (high-none q k (wordOf q) (omega arith) refl (omega arith)))
+      (λ q l m. none q (high-none p c t q k (wordOf q) (omega arith) refl (omega arith)))
 
   pub to-next-page : (page place : ℕ) → usedOf p t page ≤ place → place ≤ 16
       → crossingTo p c t (headAt (cellOn (page + 1) 0)) ≡ crossingTo p c t (headAt (cellOn page place))
   to-next-page page place h i =
       count-to (crossing p c t) (headAt (cellOn page place)) (headAt (cellOn (page + 1) 0)) (omega arith)
-      (λ q l m. none q (unused-none q (cellOf q) refl (over q l m)))
+      (λ q l m. none q (unused-none p c t q (cellOf q) refl (over q l m)))
     where
       over : (q : ℕ) → headAt (cellOn page place) ≤ q → q < headAt (cellOn (page + 1) 0) → usedOf p t (pageOf (cellOf q)) ≤ placeOf (cellOf q)
       over q l m =
@@ -76,7 +55,7 @@ module _ (p : Sizes) (c t : List ℕ) where
       let k : cellOf (fieldAt (cellOn page place) f) ≡ cellOn page place = omega arith in
       let w : wordOf (fieldAt (cellOn page place) f) ≡ 2 + f = omega arith in
       z ∙ ap (λ (y : ℕ). other o y) (h ∙ ap (regionOf p t) q) ∙ ap (λ (y : ℕ). other y (regionOf p t (fieldOf c (cellOn page place) f))) e
-      ∙ sym (slot-of (fieldAt (cellOn page place) f) (cellOn page place) (2 + f) k w
+      ∙ sym (slot-of p c t (fieldAt (cellOn page place) f) (cellOn page place) (2 + f) k w
       (rw (page-on page place l, place-on page place l) u) (omega arith) (omega arith)
       ∙ ap (λ (y : ℕ). other (ownerOf p t y) (regionOf p t (fieldOf c (cellOn page place) f))) (page-on page place l))
 
@@ -105,44 +84,6 @@ module _ (p : Sizes) (c t : List ℕ) where
   pub too-many : (k f : ℕ) {n e r : ℕ} → n ≡ crossingTo p c t (fieldAt k f) → r ≡ crossTo p c t (fieldAt k f) → 0 < r → e < n + 1
       → fieldAt k (f + 1) ≤ 256 * p .pages → CellsCross p c t e → ⊥
   too-many k f h q l m b w = omega (arith, crosses-yes k f q l, counted-so-far (fieldAt k (f + 1)) (256 * p .pages) b, w .crossing)
-
-  -- the words of the slot at a position, as the code read them: the ways in which none crosses there, and the slot that may
-  module _ (at cell : ℕ) (e : cell ≡ cellOf at) where
-    pub cross-unused : {page used place : ℕ} → page ≡ pageOf cell → place ≡ placeOf cell → used ≡ usedOf p t page → used ≤ place → 0 ≡ crossTo p c t at
-    cross-unused {page} {used} {place} f g h l =
-        let q : pageOf (cellOf at) ≡ page = omega arith in
-        sym (unused-none at (cellOf at) refl (omega (arith, ap (usedOf p t) q)))
-
-    -- the word is none of the cell's reference fields
-    pub cross-other : {word head : ℕ} → word ≡ wordOf at → head ≡ headOf c cell → (IsReference head word → ⊥) → 0 ≡ crossTo p c t at
-    cross-other {word} {head} f g n = go (decLt word 2) (decLt word (head / 16 + 2))
-      where
-        go : Dec (word < 2) → Dec (word < head / 16 + 2) → 0 ≡ crossTo p c t at
-        go (yes l) d = sym (low-none at (omega arith))
-        go (no l) (yes m) = absurd (n (omega arith, m))
-        go (no l) (no m) = sym (high-none at cell word (sym e) (sym f) (omega arith))
-
-    pub cross-slot : {page used place word head owner region r : ℕ} → page ≡ pageOf cell → place ≡ placeOf cell → used ≡ usedOf p t page
-        → word ≡ wordOf at → head ≡ headOf c cell → owner ≡ ownerOf p t page → region ≡ regionOf p t (getD c at 0) → r ≡ other owner region
-        → place < used → IsReference head word → r ≡ crossTo p c t at
-    cross-slot {page} {used} {place} {word} {head} {owner} {region} f g h i j k l m u v =
-        m ∙ ap (λ (y : ℕ). other y region) (k ∙ ap (ownerOf p t) f) ∙ ap (λ (y : ℕ). other (ownerOf p t (pageOf cell)) y) l
-        ∙ sym (slot-of at cell word (sym e) (sym i) (omega (arith, ap (usedOf p t) f)) (v .0) (omega (arith, v .1)))
-
--- the region of a reference, as the code read its page
-module _ (p : Sizes) (t : List ℕ) (x : ℕ) where
-  pub region-null : x ≡ 0 → 0 ≡ regionOf p t x
-  region-null e = simp (eq-eqb x 0 e)
-
-  module _ {cell page : ℕ} (n : x ≡ 0 → ⊥) (e : cell ≡ x - 1) (f : page ≡ pageOf cell) where
-    page-is : pageOf (x - 1) ≡ page
-    page-is = ap pageOf (sym e) ∙ sym f
-
-    pub region-out : p .pages ≤ page → 0 ≡ regionOf p t x
-    region-out l = simp (ne-eqb x 0 n, page-is, le-ltb page (p .pages) l)
-
-    pub region-there : page < p .pages → {r : ℕ} → r ≡ ownerOf p t page → r ≡ regionOf p t x
-    region-there l g = simp (ne-eqb x 0 n, page-is, lt-ltb page (p .pages) l) g
 
 -- n as the code counted it, all there are
 pub says-cross : {p : Sizes} {c t : List ℕ} (n e : ℕ) → CellsWhole p c t → n ≡ crossingTo p c t (256 * p .pages) → Says (eqb n e) (CellsCross p c t e)

@@ -7,10 +7,10 @@ ghost use Rattle.layout.specs.Places.{Room};
 ghost use Rattle.whole.specs.Pages.{PagesWhole};
 ghost use Rattle.whole.specs.Cells.{ZeroFrom};
 ghost use Rattle.whole.specs.Crossing.{CellsCross};
-use crate::crossing::other_region;
-use crate::crossing::region_of;
 use crate::variables::is_ref;
 use layout::Kind;
+use remember::crossing::other_region;
+use remember::crossing::region_of;
 use rules::Sizes;
 
 // Whether a cell's fields are zero, the first few left out. Two are read in a turn.

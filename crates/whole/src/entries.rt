@@ -7,7 +7,7 @@ ghost use Rattle.lists.specs.Seen.{bitIn, withBit};
 ghost use Rattle.layout.specs.Places.{Room, usedIn, slotIn};
 ghost use Rattle.promises.specs.Whole.{EntryWhole, EntriesWhole};
 ghost use Rattle.whole.specs.Entries.{NamedWhole, ZeroBetween, RestZero, Once, Rising};
-use crate::crossing::cross_to;
+use remember::crossing::cross_to;
 use rules::Sizes;
 
 pub fn entry_whole(p: Sizes, cells: &[u32], remember: &[u32], tables: &[u32], i: usize) -> bool

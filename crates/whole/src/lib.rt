@@ -8,7 +8,6 @@ ghost use Rattle.promises.specs.Whole.{WholeAt, Whole};
 use rules::Sizes;
 
 pub mod cells;
-pub mod crossing;
 pub mod entries;
 pub mod pages;
 pub mod regions;

@@ -1,7 +1,7 @@
 -- The variables below i are rewritten, and nothing else is changed.
 use native.Mathlib.Omega.{arith}
 use lib.ListN.{length}
-use Prim.Native.Nat.{ℕ, _≤_, _<_, _+_, _-_, _*_}
+use Prim.Native.Nat.{ℕ, _≤_, _<_, _+_, _-_}
 use mathlib.Core.List.{List}
 use mathlib.Core.Path.{_≡_, refl, sym, ap, _∙_, subst}
 use native.Mathlib.Nat.{mul-le-mul}
@@ -16,11 +16,11 @@ use Rattle.settle.proofs.rewrite.rewrite_variables.Tie as tie
 
 abbrev Inv-loop : tie.InvT-loop
 Inv-loop p cells tables₀ n i₀ tables i =
-    (i ≤ p .threads * p .variables) × (length tables ≡ length tables₀) × Variables p i cells tables₀ tables
+    (i ≤ varCount p) × (length tables ≡ length tables₀) × Variables p i cells tables₀ tables
 
 abbrev μ-loop : tie.MeasureT-loop
 μ-loop p cells tables₀ n i₀ tables i =
-    p .threads * p .variables - i
+    varCount p - i
 
 var-count-requires : tie.Need-var-count-requires Inv-loop μ-loop
 var-count-requires c κs = (c .before .before .pre .1 .1 .threads-high, c .before .before .pre .1 .1 .variables-high)
@@ -28,7 +28,7 @@ var-count-requires c κs = (c .before .before .pre .1 .1 .threads-high, c .befor
 loop-holds : tie.Need-loop-holds Inv-loop μ-loop
 loop-holds c = (omega arith, refl, variables-start _ _ _)
 
-low : (c : tie.In-loop Inv-loop μ-loop) → c .before .loop .i < c .before .before .before .before .before .args .p .threads * c .before .before .before .before .before .args .p .variables
+low : (c : tie.In-loop Inv-loop μ-loop) → c .before .loop .i < varCount (c .before .before .before .before .before .args .p)
 low c = subst (λ (n : ℕ). c .before .loop .i < n) (c .before .before .var-count .ensures) (c .loop-test .taken)
 
 var-requires : tie.Need-var-requires Inv-loop μ-loop
@@ -70,7 +70,7 @@ returns : tie.Need-returns Inv-loop μ-loop
 returns c =
     let a = c .before .before .before .before .before .args in
     let l = c .before .loop in
-    let e : l .i ≡ a .p .threads * a .p .variables = omega (arith, l .inv .0) in
+    let e : l .i ≡ varCount (a .p) = omega (arith, l .inv .0) in
     subst (λ (y : ℕ). Variables (a .p) y (a .cells .now) (a .tables .now) (l .tables)) e (l .inv .2)
 
 pub rewrite-variables-spec : {M : Type 1} → statement M

@@ -14,7 +14,7 @@ use lib.ListN.{length}
 use mathlib.Core.Bool.{true, false}
 use Rattle.layout.specs.Cells.{headAt, fieldAt, cellOn, fieldOf}
 use Rattle.promises.specs.Whole.{IsRef}
-use Rattle.promises.specs.Crossing.{crossTo}
+use Rattle.remember.specs.Crossing.{crossTo}
 use Rattle.whole.specs.Cells.{CellWhole, PageCells, all-pages, reached, fields-whole, zero-rest, field-is-ref}
 use Rattle.whole.specs.Crossing.{crossingTo, to-fields, to-next-cell, to-next-page, crosses-at, crosses-yes, crosses-no, too-many, says-cross}
 use Rattle.whole.proofs.cells.cells_whole.Statement.{statement}

@@ -4,7 +4,7 @@ use borrow.Author.Needs.{needs}
 use Rattle.lists.specs.Says.{says-yes, says-no}
 use mathlib.Core.Path.{sym, ap, _∙_}
 use denote.Ref.{now}
-use Rattle.promises.specs.Crossing.{crossTo}
+use Rattle.remember.specs.Crossing.{crossTo}
 use Rattle.whole.proofs.entries.entry_whole.Statement.{statement}
 use Rattle.whole.proofs.entries.entry_whole.Tie as tie
 

@@ -1,0 +1,11 @@
+-- The remember table: what crosses, the table that is exact for it, and each edit of the table.
+
+-- definitions: what must be read
+pub mod Crossing
+pub mod Entries
+pub mod Remembering
+-- laws
+pub mod Crosses
+pub mod EntryEdits
+pub mod Entering
+pub mod Stretches
