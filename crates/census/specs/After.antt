@@ -1,16 +1,19 @@
 -- What would cross after the end of r, on the old cells: an object of r lies then where its word 1 says, any other where it lies.
 use mathlib.Core.Path.{_≡_, sym, ap, ap₂, _∙_}
-use mathlib.Core.Bool.{Bool, true, false, cond, not, _&&_}
+use mathlib.Core.Bool.{Bool, true, false, cond, not, _&&_, and-false}
 use mathlib.Core.List.{List}
 use Prim.Native.Nat.{ℕ, _+_, _-_, _/_, _≤_}
 use native.Mathlib.Omega.{arith}
-use lib.Dec.{eqb}
+use native.Mathlib.Decide.{ℕ-discrete}
+use lib.Dec.{ltb, eqb}
 use lib.ListN.{getD}
-use borrow.Author.Tests.{eq-eqb, ne-eqb}
-use Rattle.lists.specs.Counting.{sum}
+use borrow.Author.Tests.{lt-ltb, eq-eqb, ne-eqb}
+use Rattle.lists.specs.Counting.{sum, bit, bit-le-one}
 use Rattle.rules.specs.declared.Sizes.{Sizes}
 use Rattle.layout.specs.Places.{ownerOf, usedIn, slotIn}
 use Rattle.layout.specs.Cells.{headOf, workOf, fieldOf, pageOf, cellOf}
+use Rattle.remember.specs.Crossing.{other}
+use Rattle.remember.specs.Crosses.{other-control, other-same, other-yes}
 use Rattle.mark.specs.Marks.{owner}
 use Rattle.census.specs.Counted.{overMarked}
 
@@ -20,7 +23,21 @@ homeAfter p W T r c = cond (eqb (owner p T c) r) (workOf W c) (owner p T c)
 
 -- a slot of an object in region `from` that points into region h
 abbrev pub crossOne : ℕ → ℕ → ℕ
-crossOne «from» h = cond (not (eqb «from» h) && not (eqb h 1)) 1 0
+crossOne «from» h = bit (ltb 0 (other «from» h))
+
+-- which is the rules' test, of a region that is there
+pub one-rule : («from» h : ℕ) → (h ≡ 0 → ⊥) → cond (not (eqb «from» h) && not (eqb h 1)) 1 0 ≡ crossOne «from» h
+one-rule «from» h n = go (ℕ-discrete h 1) (ℕ-discrete «from» h)
+  where
+    go : Dec (h ≡ 1) → Dec («from» ≡ h) → cond (not (eqb «from» h) && not (eqb h 1)) 1 0 ≡ crossOne «from» h
+    go (yes e) d =
+        ap (λ (b : Bool). cond (not (eqb «from» h) && not b) 1 0) (eq-eqb h 1 e) ∙ ap (λ (b : Bool). cond b 1 0) (and-false (not (eqb «from» h)))
+        ∙ ap (λ (g : ℕ). bit (ltb 0 g)) (other-control «from» h (omega arith))
+    go (no m) (yes e) =
+        ap (λ (b : Bool). cond (not b && not (eqb h 1)) 1 0) (eq-eqb «from» h e) ∙ ap (λ (g : ℕ). bit (ltb 0 g)) (other-same «from» h (omega arith) (sym e))
+    go (no m) (no e) =
+        ap₂ (λ (a b : Bool). cond (not a && not b) 1 0) (ne-eqb «from» h e) (ne-eqb h 1 m)
+        ∙ sym (ap (λ (b : Bool). bit b) (lt-ltb 0 (other «from» h) (omega (arith, other-yes «from» h (omega arith) (λ z. e (sym z))))))
 
 -- 1 if reference x crosses from that region after the end, else 0
 unfoldable pub crossAfter : Sizes → List ℕ → List ℕ → ℕ → ℕ → ℕ → ℕ
@@ -67,33 +84,20 @@ module _ (p : Sizes) (W T : List ℕ) (r : ℕ) where
       ap (λ (b : Bool). cond b 0 (crossOne «from» (homeAfter p W T r (x - 1)))) (ne-eqb x 0 n)
       ∙ ap (crossOne «from») (ap (homeAfter p W T r) (sym ec) ∙ sym e)
 
-  pub cross-inside : («from» x c h : ℕ) → (x ≡ 0 → ⊥) → c ≡ x - 1 → h ≡ homeAfter p W T r c → h ≡ «from» → 0 ≡ crossAfter p W T r «from» x
-  cross-inside «from» x c h n ec e d =
-      sym (cross-some «from» x c h n ec e ∙ ap (λ (b : Bool). cond (not b && not (eqb h 1)) 1 0) (eq-eqb «from» h (sym d)))
+  -- g is the region that the reference crosses into then
+  pub cross-not : («from» x c h g : ℕ) → (x ≡ 0 → ⊥) → c ≡ x - 1 → h ≡ homeAfter p W T r c → g ≡ other «from» h → g ≡ 0 → 0 ≡ crossAfter p W T r «from» x
+  cross-not «from» x c h g n ec e f z = sym (cross-some «from» x c h n ec e ∙ ap (λ (y : ℕ). bit (ltb 0 y)) (sym f ∙ z))
 
-  pub cross-control : («from» x c h : ℕ) → (x ≡ 0 → ⊥) → c ≡ x - 1 → h ≡ homeAfter p W T r c → (h ≡ «from» → ⊥) → h ≡ 1 → 0 ≡ crossAfter p W T r «from» x
-  cross-control «from» x c h n ec e d o =
-      sym
-      (cross-some «from» x c h n ec e
-      ∙ ap₂ (λ (a b : Bool). cond (not a && not b) 1 0) (ne-eqb «from» h (λ z. d (sym z))) (eq-eqb h 1 o))
-
-  pub cross-out : («from» x c h : ℕ) → (x ≡ 0 → ⊥) → c ≡ x - 1 → h ≡ homeAfter p W T r c → (h ≡ «from» → ⊥) → (h ≡ 1 → ⊥) → 1 ≡ crossAfter p W T r «from» x
-  cross-out «from» x c h n ec e d o =
-      sym
-      (cross-some «from» x c h n ec e
-      ∙ ap₂ (λ (a b : Bool). cond (not a && not b) 1 0) (ne-eqb «from» h (λ z. d (sym z))) (ne-eqb h 1 o))
+  pub cross-out : («from» x c h g : ℕ) → (x ≡ 0 → ⊥) → c ≡ x - 1 → h ≡ homeAfter p W T r c → g ≡ other «from» h → (g ≡ 0 → ⊥) → 1 ≡ crossAfter p W T r «from» x
+  cross-out «from» x c h g n ec e f z = sym (cross-some «from» x c h n ec e ∙ ap bit (lt-ltb 0 (other «from» h) (omega arith)))
 
   cond-le : (b : Bool) (x : ℕ) → x ≤ 1 → cond b 0 x ≤ 1
   cond-le true x l = omega arith
   cond-le false x l = l
 
-  one-le : (b : Bool) → cond b 1 0 ≤ 1
-  one-le true = omega arith
-  one-le false = omega arith
-
   pub cross-le : («from» x : ℕ) → crossAfter p W T r «from» x ≤ 1
   unfolding crossAfter
-  cross-le «from» x = cond-le (eqb x 0) _ (one-le (not (eqb «from» (homeAfter p W T r (x - 1))) && not (eqb (homeAfter p W T r (x - 1)) 1)))
+  cross-le «from» x = cond-le (eqb x 0) _ (bit-le-one (ltb 0 (other «from» (homeAfter p W T r (x - 1)))))
 
   pub slot-le : (q : ℕ) → slotCrosses p W T r q ≤ 1
   unfolding slotCrosses

@@ -11,11 +11,13 @@ use lib.ListN.{length, getD}
 use borrow.Author.Tests.{eq-eqb, ne-eqb, lt-ltb, le-ltb}
 use Rattle.lists.specs.Tests.{cond-zero}
 use Rattle.lists.specs.Counting.{sum, sum-same, sum-none, sum-plus, sum-add, sum-blocks}
+use Rattle.lists.specs.Members.{In, getD-in}
 use Rattle.lists.specs.OneToOne.{Paired, sum-paired}
 use Rattle.lists.specs.Bits.{bit-lt}
 use Rattle.rules.specs.declared.Sizes.{Sizes}
 use Rattle.rules.specs.Graph.{Graph, target, ended, crossing}
-use Rattle.laws.specs.EndLaws.{home-stayed, home-went}
+use Rattle.laws.specs.EndLaws.{home-stayed, home-went, closed-ended}
+use Rattle.laws.specs.GraphLaws.{Alive}
 use Rattle.laws.specs.Counts.{crossIn, crossAt, crossing-sum, crossRef}
 use Rattle.layout.specs.Places.{markOf, usedIn, slotIn, Room}
 use Rattle.layout.specs.Cells.{headOf, workOf, fieldAt, fieldOf, pageOf, placeOf, cellOf, wordOf}
@@ -26,12 +28,12 @@ use Rattle.promises.specs.Whole.{WholeFor, IsRef}
 use Rattle.remember.specs.Crossing.{other, regionOf, crossTo}
 use Rattle.promises.specs.Crossings.{cross-in-sum}
 use Rattle.promises.specs.Slots.{Slot, region-of, slot-cross, cross-slot, field-slot}
-use Rattle.promises.specs.Reading.{used-home, used-owned, used-alive, alive-used, length-refs, getD-refs, refs-few}
+use Rattle.promises.specs.Reading.{used-home, used-owned, used-alive, alive-used, length-refs, getD-refs, refs-few, words-closed}
 use Rattle.mark.specs.Marks.{owner, Kept, kept-refs, kept-field, kept-owner}
 use Rattle.mark.specs.Reached.{home-cell, cell-home, is-other}
 use Rattle.mark.specs.Survivors.{Marked, marked-kept}
 use Rattle.census.specs.Counted.{over-cells}
-use Rattle.census.specs.After.{homeAfter, crossOne, crossAfter, cellCrosses, slotCrosses, entriesCross, crossingAfter}
+use Rattle.census.specs.After.{homeAfter, crossOne, one-rule, crossAfter, cellCrosses, slotCrosses, entriesCross, crossingAfter}
 
 module _ (s : Sizes) (w : Words) (k : WholeFor s w) (space : Room s (length (w .tables))) (r : ℕ) (pos : 1 < r) (w′ : Words) (M : Marked s w (partOf s w r) w′) where
   abbrev p : Sizes
@@ -73,27 +75,34 @@ module _ (s : Sizes) (w : Words) (k : WholeFor s w) (space : Room s (length (w .
 
   -- ---- one slot of object x
 
-  cross-one : (x v : ℕ) → IsRef p (w .tables) v → crossRef h x v ≡ crossAfter p (w′ .cells) (w′ .tables) r (h .home x) v
+  cross-one : (x v : ℕ) → IsRef p (w .tables) v → ((y : ℕ) → v ≡ suc y → Alive h y) → crossRef h x v ≡ crossAfter p (w′ .cells) (w′ .tables) r (h .home x) v
   unfolding crossAfter
-  cross-one x zero f = refl
-  cross-one x (suc y) f =
+  cross-one x zero f there = refl
+  cross-one x (suc y) f there =
       let y′ : suc y - 1 ≡ y = omega arith in
       let u : Used s w y = subst (Used s w) y′ (f (omega arith)) in
-      sym
+      one-rule (h .home x) (h .home y) (there y refl)
+      ∙ sym
       (ap (λ (b : Bool). cond b 0 (crossOne (h .home x) (homeAfter p (w′ .cells) (w′ .tables) r (suc y - 1)))) (ne-eqb (suc y) 0 (λ (z : suc y ≡ 0). omega arith))
       ∙ ap (λ (z : ℕ). crossOne (h .home x) (homeAfter p (w′ .cells) (w′ .tables) r z)) y′ ∙ ap (crossOne (h .home x)) (home-after y u))
+
+  -- what a slot of an object names that is there afterwards is there too
+  slot-alive : (x f : ℕ) → Alive h x → f < refCount w x → (y : ℕ) → fieldOf (w .cells) x f ≡ suc y → Alive h y
+  slot-alive x f a l y e =
+      closed-ended s g r (omega arith) (words-closed s w k) .refs x y a
+      (subst (In (suc y)) (sym (ended-refs x)) (getD-in (refsIn w x) f y (getD-refs w x f l ∙ e)))
 
   -- ---- all slots of an object that is in use
 
   module _ (x : ℕ) (u : Used s w x) where
-    slots-sum : crossIn h x (refsIn w x) ≡ sum (λ f. crossAfter p (w′ .cells) (w′ .tables) r (h .home x) (fieldOf (w′ .cells) x f)) (refCount w x)
-    slots-sum =
+    slots-sum : Alive h x → crossIn h x (refsIn w x) ≡ sum (λ f. crossAfter p (w′ .cells) (w′ .tables) r (h .home x) (fieldOf (w′ .cells) x f)) (refCount w x)
+    slots-sum a =
         cross-in-sum h x (refsIn w x) ∙ ap (sum (λ f. crossRef h x (getD (refsIn w x) f 0))) (length-refs s w k x u)
         ∙ sum-same (λ f. crossRef h x (getD (refsIn w x) f 0)) (λ f. crossAfter p (w′ .cells) (w′ .tables) r (h .home x) (fieldOf (w′ .cells) x f)) (refCount w x)
         (λ f l.
         let v : getD (refsIn w x) f 0 ≡ fieldOf (w .cells) x f = getD-refs w x f l in
         let l′ : f < refCount w x = l in
-        ap (crossRef h x) v ∙ cross-one x (fieldOf (w .cells) x f) (k .placed .references x u f l)
+        ap (crossRef h x) v ∙ cross-one x (fieldOf (w .cells) x f) (k .placed .references x u f l) (slot-alive x f a l)
         ∙ ap (crossAfter p (w′ .cells) (w′ .tables) r (h .home x)) (sym (kept-field kept x f (omega (arith, refs-few s w k x u)))))
 
     -- what the rules count of it
@@ -131,7 +140,7 @@ module _ (s : Sizes) (w : Words) (k : WholeFor s w) (space : Room s (length (w .
           ap (λ (b : ℕ). b * sum (λ f. crossAfter p (w′ .cells) (w′ .tables) r (workOf (w′ .cells) x) (fieldOf (w′ .cells) x f)) (headOf (w′ .cells) x / 16)) on
           ∙ one-mul _
           ∙ ap₂ (λ (a n : ℕ). sum (λ f. crossAfter p (w′ .cells) (w′ .tables) r a (fieldOf (w′ .cells) x f)) n) t (kept-refs kept x)
-          ∙ sym (slots-sum x (u .0)) ∙ sym (counted x (u .0) some)
+          ∙ sym (slots-sum x (u .0) some) ∙ sym (counted x (u .0) some)
           ∙ sym (ap (λ (b : Bool). cond b (crossAt h x) 0) (eq-eqb (homeIn s w x) r e))
       go (no off) (no n) = ap (λ (b : ℕ). b * sum (λ f. crossAfter p (w′ .cells) (w′ .tables) r (workOf (w′ .cells) x) (fieldOf (w′ .cells) x f)) (headOf (w′ .cells) x / 16)) (zero-bit x off) ∙ zero-mul _ ∙ sym (ap (λ (b : Bool). cond b (crossAt h x) 0) (ne-eqb (homeIn s w x) r n))
       go (no off) (yes e) =
@@ -165,6 +174,9 @@ module _ (s : Sizes) (w : Words) (k : WholeFor s w) (space : Room s (length (w .
 
     stays : h .home x ≡ homeIn s w x
     stays = home-stayed s g r x out
+
+    some : Alive h x
+    some z = used-alive s w k x u (sym stays ∙ z)
 
     -- a reference that does not cross now does not cross afterwards
     quiet : (v : ℕ) → IsRef p (w .tables) v → other (ownerIn s w (pageOf x)) (regionOf p (w .tables) v) ≡ 0 → crossRef h x v ≡ 0
@@ -222,7 +234,7 @@ module _ (s : Sizes) (w : Words) (k : WholeFor s w) (space : Room s (length (w .
             let z : other (ownerIn s w (pageOf x)) (regionOf p (w .tables) (fieldOf (w .cells) x f)) ≡ 0 =
             ap (λ (c : ℕ). other (ownerIn s w (pageOf c)) (regionOf p (w .tables) (fieldOf (w .cells) x f))) (sym cell)
             ∙ sym (slot-cross p (w .cells) (w .tables) (fieldAt x f) slot) ∙ omega arith in
-            still-no (fieldAt x f) b ∙ sym (quiet (fieldOf (w .cells) x f) ref z) ∙ cross-one x (fieldOf (w .cells) x f) ref
+            still-no (fieldAt x f) b ∙ sym (quiet (fieldOf (w .cells) x f) ref z) ∙ cross-one x (fieldOf (w .cells) x f) ref (slot-alive x f some l)
             ∙ ap (crossAfter p (w′ .cells) (w′ .tables) r (h .home x)) (sym same)
 
     first-two : (j : ℕ) → j < 2 → still (16 * x + j) ≡ 0
@@ -240,7 +252,6 @@ module _ (s : Sizes) (w : Words) (k : WholeFor s w) (space : Room s (length (w .
         let n = refCount w x in
         let e : n + (14 - n) ≡ 14 = omega (arith, refs-few s w k x u) in
         let refs = ap (sum (λ i. still (16 * x + (2 + i)))) (sym e) ∙ sum-add (λ i. still (16 * x + (2 + i))) n (14 - n) in
-        let some : h .home x ≡ 0 → ⊥ = (λ z. used-alive s w k x u (sym stays ∙ z)) in
         omega (
           arith,
           sum-add (λ j. still (16 * x + j)) 2 14,
@@ -248,7 +259,7 @@ module _ (s : Sizes) (w : Words) (k : WholeFor s w) (space : Room s (length (w .
           sum-none (λ j. still (16 * x + j)) 2 first-two,
           sum-none (λ j. still (16 * x + (2 + (n + j)))) (14 - n) past-refs,
           sum-same (λ i. still (16 * x + (2 + i))) (λ f. crossAfter p (w′ .cells) (w′ .tables) r (h .home x) (fieldOf (w′ .cells) x f)) n field-still,
-          slots-sum x u,
+          slots-sum x u some,
           counted x u some,
           ap (λ (b : Bool). cond b 0 (crossAt h x)) (ne-eqb (homeIn s w x) r out),
         )

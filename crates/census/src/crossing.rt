@@ -12,6 +12,7 @@ ghost use Rattle.mark.specs.Holders.{Holding};
 ghost use Rattle.census.specs.Counted.{overMarked};
 ghost use Rattle.census.specs.After.{homeAfter, crossAfter, cellCrosses, slotCrosses, entriesCross, crossingAfter};
 use layout::Kind;
+use remember::crossing::other_region;
 use rules::Sizes;
 
 // The region of cell c after the end.
@@ -38,10 +39,7 @@ pub fn crosses(p: Sizes, cells: &[u32], tables: &[u32], r: u32, home: u32, x: u3
         return 0;
     }
     let h = home_after(p, cells, tables, r, layout::cells::cell_named(x));
-    if h == home {
-        return 0;
-    }
-    if h == 1 {
+    if other_region(home, h) == 0 {
         return 0;
     }
     1

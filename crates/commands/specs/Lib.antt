@@ -1,9 +1,8 @@
 -- What each command finds and leaves in the lent words.
 pub mod Decoding
-pub mod Ready
+pub mod ThreadVariables
 pub mod Fields
 pub mod Blank
-pub mod Crosses
 pub mod Does
 pub mod Variables
 pub mod Objects

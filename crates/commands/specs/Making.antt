@@ -37,7 +37,7 @@ use Rattle.pages.specs.Pages.{Filled, Found, taken}
 use Rattle.pages.specs.Took.{found-room, taken-took}
 use Rattle.commands.specs.declared.Decoded.the-variants.{New}
 use Rattle.commands.specs.Decoding.{commandFor}
-use Rattle.commands.specs.Ready.{Ready, variableAt}
+use Rattle.commands.specs.ThreadVariables.{variableAt}
 use Rattle.commands.specs.Does.{Does}
 
 from-both : {n : ℕ} {k l j : List ℕ} → SameFrom n k l → SameFrom n l j → SameFrom n k j
@@ -47,15 +47,12 @@ beyond-both : {s : Sizes} {u v w : Words} → SameBeyond s u v → SameBeyond s 
 beyond-both a b = record { cells = from-both (a .cells) (b .cells); remember = from-both (a .remember) (b .remember); tables = from-both (a .tables) (b .tables) }
 
 -- g is the region that thread u makes objects in
-module _ (p : Sizes) (c m t : List ℕ) (r : Ready p c m t) (u : ℕ) (l : u < p .threads) (g : ℕ) (eg : g ≡ regionAt p u (depthOf t u)) where
+module _ (p : Sizes) (c m t : List ℕ) (k : WholeFor p (words c m t)) (u : ℕ) (l : u < p .threads) (g : ℕ) (eg : g ≡ regionAt p u (depthOf t u)) where
   abbrev s : Sizes
   s = p
 
   abbrev w : Words
   w = words c m t
-
-  abbrev k : WholeFor s w
-  k = r .whole
 
   abbrev H : Regioned
   H = heapOf s w

@@ -7,6 +7,7 @@ use Rattle.rules.specs.declared.Command.{Command}
 use Rattle.rules.specs.declared.Answer.{Answer}
 use Rattle.rules.specs.Terms.{refused, done}
 use Rattle.layout.specs.Words.{Words, words, heapOf}
+use Rattle.promises.specs.Whole.{WholeFor}
 use Rattle.promises.specs.Promises.{DidHere}
 use Rattle.promises.specs.Questions.{did-answer, did-asked}
 use Rattle.commands.specs.declared.Decoded.{Decoded}
@@ -14,7 +15,6 @@ use Rattle.commands.specs.declared.Decoded.the-variants.{End, Refused}
 use Rattle.commands.specs.declared.Obeyed.{Obeyed}
 use Rattle.commands.specs.declared.Obeyed.the-variants.{Answered, Ends}
 use Rattle.commands.specs.Decoding.{commandFor, decodedAnswer, numberOf, askedAnswer, Decodes, Within, Means, decoded-means, decoded-refused, refused-number}
-use Rattle.commands.specs.Ready.{Ready}
 use Rattle.commands.specs.Does.{Does}
 
 -- 01's number and value: an answer has its own; an end that is left to the caller is not refused yet
@@ -51,7 +51,7 @@ module _ (p : Sizes) (c m t : List ℕ) (x : Command) (d : Decoded) (g : Decodes
       let o = means (End u) f refl in
       record { answer = sym (ap decodedAnswer f) ∙ g .answer; command = o .command; thread = o .within; same = refl }
 
-  pub not-obeyed : Ready p c m t → (q : ℕ) → d ≡ Refused q → {a : Answer} → a ≡ refused q → Obeys p c m t x c m t (Answered a)
+  pub not-obeyed : WholeFor p (words c m t) → (q : ℕ) → d ≡ Refused q → {a : Answer} → a ≡ refused q → Obeys p c m t x c m t (Answered a)
   not-obeyed r q f h =
       let e = subst (Decodes p x) f g in
-      did-answer h (did-asked p (words c m t) (r .whole) x q (refused-number q e) (decoded-refused q e (heapOf p (words c m t) .heap)))
+      did-answer h (did-asked p (words c m t) r x q (refused-number q e) (decoded-refused q e (heapOf p (words c m t) .heap)))

@@ -27,21 +27,18 @@ use Rattle.promises.specs.Changes.{withCells, withVariable, withObject, withFie
 use Rattle.promises.specs.FrameNumber.{number-stands, number-beyond}
 use Rattle.commands.specs.declared.Decoded.the-variants.{Load, Read, Write}
 use Rattle.commands.specs.Decoding.{commandFor}
-use Rattle.commands.specs.Ready.{Ready, variable, variableAt}
+use Rattle.commands.specs.ThreadVariables.{variable, variableAt}
 use Rattle.commands.specs.Fields.{NamesCell, Field, used-both}
 use Rattle.commands.specs.Does.{Does}
 use Rattle.commands.specs.Variables.{variable-did, unchanged-did}
 
 -- x is what variable a of thread u holds
-module _ (p : Sizes) (c m t : List ℕ) (r : Ready p c m t) (u a : ℕ) (l : u < p .threads) (n : a < p .variables) (x : ℕ) (e : x ≡ variable p t u a) where
+module _ (p : Sizes) (c m t : List ℕ) (k : WholeFor p (words c m t)) (u a : ℕ) (l : u < p .threads) (n : a < p .variables) (x : ℕ) (e : x ≡ variable p t u a) where
   abbrev s : Sizes
   s = p
 
   abbrev w : Words
   w = words c m t
-
-  abbrev k : WholeFor s w
-  k = r .whole
 
   abbrev H : Regioned
   H = heapOf s w

@@ -20,10 +20,10 @@ use Rattle.laws.specs.RulesLaws.{Sound, sound-after}
 use Rattle.layout.specs.declared.Kind.the-variants.{Reference}
 use Rattle.layout.specs.Places.{Room, ownerOf, usedIn, slotIn}
 use Rattle.layout.specs.Cells.{headOf, fieldAt, fieldCount, kindAt, pageOf}
-use Rattle.layout.specs.Words.{Words, words, heapOf, Used, refCount}
-use Rattle.remember.specs.Crossing.{other, regionOf}
+use Rattle.layout.specs.Words.{Words, words, heapOf, Used, refCount, Names}
+use Rattle.remember.specs.Crossing.{other, regionOf, crossesFrom}
 use Rattle.promises.specs.Whole.{WholeFor}
-use Rattle.promises.specs.Reading.{used-alive, remember-room}
+use Rattle.promises.specs.Reading.{used-alive, remember-room, whole-room}
 use Rattle.promises.specs.Agreed.{heap-stands, back}
 use Rattle.promises.specs.Here.{here-var}
 use Rattle.promises.specs.Questions.{did-asked, did-lacked, did-done, room-crossing}
@@ -33,54 +33,54 @@ use Rattle.remember.specs.Remembering.{Remembered, remembered-full}
 use Rattle.promises.specs.FrameReference.{storedWords, Followed, reference-named, reference-beyond, reference-stands, reference-fits, reference-full}
 use Rattle.commands.specs.declared.Decoded.the-variants.{Store}
 use Rattle.commands.specs.Decoding.{commandFor}
-use Rattle.commands.specs.Ready.{Ready, variable, placed}
+use Rattle.commands.specs.ThreadVariables.{variable}
 use Rattle.commands.specs.Does.{Does}
-use Rattle.commands.specs.Objects.{asked-is, within, in-use, is-field, heap-var}
+use Rattle.commands.specs.Objects.{is-ref, asked-is, within, in-use, is-field, heap-var}
 use Rattle.commands.specs.Fields.{Field}
 
--- the slot of reference f of x's object, and the region that reference v crosses into there
+-- the slot of reference f of x's object
 abbrev pub slotOf : List ℕ → ℕ → ℕ → ℕ
 slotOf c x f = kindAt Reference c (x - 1) f
 
-abbrev pub crossesFrom : Sizes → List ℕ → ℕ → ℕ → ℕ
-crossesFrom p t x v = crossesTo p t (x - 1) v
-
--- what a store to that slot asks of the tables
-pub record Storing (p : Sizes) (c m t : List ℕ) (x f : ℕ) : Type 0 where
+-- what a store of v to that slot asks of the tables
+pub record Storing (p : Sizes) (c m t : List ℕ) (x f v : ℕ) : Type 0 where
   pub room : Room p (length t)
   pub field : Field Reference c x f
   pub page : pageOf (x - 1) < p .pages
   pub long : 2 * p .entries + 2 ≤ length m
   pub used : usedIn m ≤ p .entries
-  pub named : 0 < crossesFrom p t x (getD c (slotOf c x f) 0) → (i : ℕ) × (i < usedIn m) × (slotIn m i ≡ slotOf c x f)
+  pub named : 0 < crossesTo p t (x - 1) (getD c (slotOf c x f) 0) → (i : ℕ) × (i < usedIn m) × (slotIn m i ≡ slotOf c x f)
+  pub before : Names p (getD c (slotOf c x f) 0)
+  pub after : Names p v
 
 -- v was stored in reference f of x's object, or there was no room
 pub record Stored (p : Sizes) (c m t : List ℕ) (x f v : ℕ) (c′ m′ : List ℕ) (r : ℕ) : Type 0 where
-  pub entries : Remembered (p .entries) m (slotOf c x f) (crossesFrom p t x (getD c (slotOf c x f) 0)) (crossesFrom p t x v) m′ r
+  pub entries : Remembered (p .entries) m (slotOf c x f) (crossesTo p t (x - 1) (getD c (slotOf c x f) 0)) (crossesTo p t (x - 1) v) m′ r
   pub stored : r ≡ 0 → c′ ≡ set c (slotOf c x f) v
   pub full : (r ≡ 0 → ⊥) → c′ ≡ c
 
--- y is x as the code widened it, page its page: what the crossing test gives
-pub cross-is : (p : Sizes) (t : List ℕ) (x v b page : ℕ) {r : ℕ} → b ≡ x - 1 → page ≡ pageOf b → r ≡ other (ownerOf p t page) (regionOf p t v) → r ≡ crossesFrom p t x v
-cross-is p t x v b page q e h = h ∙ ap (λ (i : ℕ). other (ownerOf p t i) (regionOf p t v)) (e ∙ ap pageOf q)
+-- b is the cell that x names, page its page and o its region, as the code has them
+pub cross-is : (p : Sizes) (t : List ℕ) (x v b page o : ℕ) {r : ℕ} → b ≡ x - 1 → page ≡ pageOf b → o ≡ ownerOf p t page → r ≡ crossesFrom p t o v → r ≡ crossesTo p t (x - 1) v
+unfolding crossesFrom
+cross-is p t x v b page o q e g h = h ∙ ap (λ (i : ℕ). other i (regionOf p t v)) (g ∙ ap (ownerOf p t) (e ∙ ap pageOf q))
 
 -- the slot, what it crossed into and what it will, as the code has them
 pub record Seen (p : Sizes) (c t : List ℕ) (x f v at was will : ℕ) : Type 0 where
   pub slot : at ≡ slotOf c x f
-  pub before : was ≡ crossesFrom p t x (getD c (slotOf c x f) 0)
-  pub after : will ≡ crossesFrom p t x v
+  pub before : was ≡ crossesTo p t (x - 1) (getD c (slotOf c x f) 0)
+  pub after : will ≡ crossesTo p t (x - 1) v
 
 module _ (p : Sizes) (c m t : List ℕ) (x f v at was will : ℕ) (e : Seen p c t x f v at was will) where
-  pub slot-few : Storing p c m t x f → at < 262144
+  pub slot-few : Storing p c m t x f v → at < 2 ^ 32
   slot-few s = omega (arith, s .field, e .slot)
 
-  pub slot-entry : Storing p c m t x f → 0 < was → (i : ℕ) × (i < usedIn m) × (slotIn m i ≡ at)
+  pub slot-entry : Storing p c m t x f v → 0 < was → (i : ℕ) × (i < usedIn m) × (slotIn m i ≡ at)
   slot-entry s h = let n = s .named (subst (λ (i : ℕ). 0 < i) (e .before) h) in (n .0, n .1, n .2 ∙ sym (e .slot))
 
   module _ (m′ : List ℕ) (r : ℕ) (d : Remembered (p .entries) m at was will m′ r) where
-    entries-are : Remembered (p .entries) m (slotOf c x f) (crossesFrom p t x (getD c (slotOf c x f) 0)) (crossesFrom p t x v) m′ r
+    entries-are : Remembered (p .entries) m (slotOf c x f) (crossesTo p t (x - 1) (getD c (slotOf c x f) 0)) (crossesTo p t (x - 1) v) m′ r
     entries-are =
-        subst (λ (i : ℕ). Remembered (p .entries) m i (crossesFrom p t x (getD c (slotOf c x f) 0)) (crossesFrom p t x v) m′ r) (e .slot)
+        subst (λ (i : ℕ). Remembered (p .entries) m i (crossesTo p t (x - 1) (getD c (slotOf c x f) 0)) (crossesTo p t (x - 1) v) m′ r) (e .slot)
         (subst₂ (λ (i j : ℕ). Remembered (p .entries) m at i j m′ r) (e .before) (e .after) d)
 
     pub stored-full : (r ≡ 0 → ⊥) → Stored p c m t x f v c m′ r
@@ -89,22 +89,19 @@ module _ (p : Sizes) (c m t : List ℕ) (x f v at was will : ℕ) (e : Seen p c 
     pub stored-done : r ≡ 0 → {c′ : List ℕ} → c′ ≡ set c (slotOf c x f) v → Stored p c m t x f v c′ m′ 0
     stored-done z g =
         record {
-          entries = subst (λ (i : ℕ). Remembered (p .entries) m (slotOf c x f) (crossesFrom p t x (getD c (slotOf c x f) 0)) (crossesFrom p t x v) m′ i) z entries-are;
+          entries = subst (λ (i : ℕ). Remembered (p .entries) m (slotOf c x f) (crossesTo p t (x - 1) (getD c (slotOf c x f) 0)) (crossesTo p t (x - 1) v) m′ i) z entries-are;
           stored = λ h. g;
           full = λ h. absurd (h refl);
         }
 
 -- x is what variable a of thread u holds, v what variable b holds; q the answer to questions 9 and 10
-module _ (p : Sizes) (c m t : List ℕ) (r : Ready p c m t) (u a : ℕ) (l : u < p .threads) (n : a < p .variables) (x : ℕ) (e : x ≡ variable p t u a)
+module _ (p : Sizes) (c m t : List ℕ) (k : WholeFor p (words c m t)) (u a : ℕ) (l : u < p .threads) (n : a < p .variables) (x : ℕ) (e : x ≡ variable p t u a)
     (b : ℕ) (o : b < p .variables) (f q : ℕ) (g : q ≡ used x f (fieldCount Reference (headOf c (x - 1)))) where
   abbrev s : Sizes
   s = p
 
   abbrev w : Words
   w = words c m t
-
-  abbrev k : WholeFor s w
-  k = r .whole
 
   abbrev H : Regioned
   H = heapOf s w
@@ -117,7 +114,7 @@ module _ (p : Sizes) (c m t : List ℕ) (r : Ready p c m t) (u a : ℕ) (l : u <
   store-asked =
       ap (λ (i : Bool). ask i 7 (ask (ltb a (p .variables) && ltb b (p .variables)) 8 (used (varOf (limits s) (H .heap) u a) f (length (objectOf (H .heap) (varOf (limits s) (H .heap) u a) .refs))))) (lt-ltb u (p .threads) l)
       ∙ ap₂ (λ (i j : Bool). ask (i && j) 8 (used (varOf (limits s) (H .heap) u a) f (length (objectOf (H .heap) (varOf (limits s) (H .heap) u a) .refs)))) (lt-ltb a (p .variables) n) (lt-ltb b (p .variables) o)
-      ∙ asked-is p c m t r u a l n x e Reference f q g
+      ∙ asked-is p c m t k u a l n x e Reference f q g
 
   pub store-refused : (q ≡ 0 → ⊥) → Does p c m t (Store u a f b) c m t (refused q)
   store-refused z = did-asked s w k (commandFor (Store u a f b)) q (omega arith) store-asked
@@ -127,33 +124,35 @@ module _ (p : Sizes) (c m t : List ℕ) (r : Ready p c m t) (u a : ℕ) (l : u <
     place = omega arith
 
     inside : f < refCount w y
-    inside = within p c m t r u a l n x e Reference f q g z .1
+    inside = within p c m t k u a l n x e Reference f q g z .1
 
     there : Used s w y
-    there = in-use p c m t r u a l n x e Reference f q g z
+    there = in-use p c m t k u a l n x e Reference f q g z
 
     -- a slot that crosses has its entry
-    pub slot-named : 0 < crossesFrom p t x (getD c (slotOf c x f) 0) → (i : ℕ) × (i < usedIn m) × (slotIn m i ≡ slotOf c x f)
+    pub slot-named : 0 < crossesTo p t (x - 1) (getD c (slotOf c x f) 0) → (i : ℕ) × (i < usedIn m) × (slotIn m i ≡ slotOf c x f)
     slot-named h =
         let i = reference-named s w k y f 0 there inside
-        (subst (λ (j : ℕ). 0 < crossesFrom p t x (getD c j 0)) (sym place) h) in
+        (subst (λ (j : ℕ). 0 < crossesTo p t (x - 1) (getD c j 0)) (sym place) h) in
         (i .0, i .1, i .2 ∙ place)
 
-    pub storing : length t < 2 ^ 63 → Storing p c m t x f
-    storing fits =
+    pub storing : length t < 2 ^ 63 → (v : ℕ) → v ≡ variable p t u b → Storing p c m t x f v
+    storing fits v ev =
         record {
-          room = placed p c m t r fits .room;
-          field = is-field p c m t r u a l n x e Reference f q g z;
+          room = whole-room s w k fits;
+          field = is-field p c m t k u a l n x e Reference f q g z;
           page = there .page;
           long = remember-room s w k;
           used = k .placed .remember .entries .room;
           named = slot-named;
+          before = subst (λ (j : ℕ). Names p (getD c j 0)) place (λ z. k .placed .references y there f inside (omega arith) .page);
+          after = λ z. is-ref p c m t k u b l o v ev (omega arith) .page;
         }
 
     module _ (v : ℕ) (ev : v ≡ variable p t u b) (c′ m′ : List ℕ) (j : ℕ) (d : Stored p c m t x f v c′ m′ j) where
       followed : Followed s w y f v m′ j
       followed =
-          subst (λ (i : ℕ). Remembered (s .entries) m i (crossesFrom s t x (getD c i 0)) (crossesFrom s t x v) m′ j) (sym place)
+          subst (λ (i : ℕ). Remembered (s .entries) m i (crossesTo s t (x - 1) (getD c i 0)) (crossesTo s t (x - 1) v) m′ j) (sym place)
           (d .entries)
 
       abbrev object : Object
@@ -165,7 +164,7 @@ module _ (p : Sizes) (c m t : List ℕ) (r : Ready p c m t) (u a : ℕ) (l : u <
       store-after : ru.after s H (commandFor (Store u a f b)) ≡ h′
       unfolding ru.after ru.homesAfter nf.effect
       store-after =
-          let i : varOf (limits s) (H .heap) u a ≡ suc y = heap-var p c m t r u a l n x e ∙ (let h : x ≡ suc y = omega (arith, within p c m t r u a l n x e Reference f q g z) in h) in
+          let i : varOf (limits s) (H .heap) u a ≡ suc y = heap-var p c m t k u a l n x e ∙ (let h : x ≡ suc y = omega (arith, within p c m t k u a l n x e Reference f q g z) in h) in
           ap₂ (λ (i j : ℕ). record { heap = nf.withObject (H .heap) i (record { refs = set (objectOf (H .heap) i .refs) f j; nums = objectOf (H .heap) i .nums }); homes = H .homes }) i (here-var s w u b l o ∙ sym ev)
 
       sound : Sound h′

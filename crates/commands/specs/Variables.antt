@@ -28,7 +28,7 @@ use Rattle.promises.specs.FrameVariable.{variable-stands, variable-beyond}
 use Rattle.promises.specs.FrameDepth.{depth-stands, depth-beyond, raised-open}
 use Rattle.commands.specs.declared.Decoded.the-variants.{Start, Copy, Clear, Same}
 use Rattle.commands.specs.Decoding.{commandFor}
-use Rattle.commands.specs.Ready.{Ready, variable, variableAt}
+use Rattle.commands.specs.ThreadVariables.{variable, variableAt}
 use Rattle.commands.specs.Does.{Does}
 
 -- a variable gets a reference that the rules give it
@@ -47,15 +47,12 @@ pub unchanged-did : (s : Sizes) (w : Words) (k : WholeFor s w) (m : Command) →
 unchanged-did s w k m keeps x q e f y =
     did-done s w k m w (heapOf s w) x (question-fine s (heapOf s w) (heapOf s w) m f refl refl q e) f y (same-beyond s w) keeps (λ so. heap-stands s w k)
 
-module _ (p : Sizes) (c m t : List ℕ) (r : Ready p c m t) where
+module _ (p : Sizes) (c m t : List ℕ) (k : WholeFor p (words c m t)) where
   abbrev s : Sizes
   s = p
 
   abbrev w : Words
   w = words c m t
-
-  abbrev k : WholeFor s w
-  k = r .whole
 
   abbrev H : Regioned
   H = heapOf s w

@@ -4,8 +4,9 @@ ghost use Prim.Native.Nat.{_+_, _-_, _<_};
 ghost use lib.ListN.{length, getD, set};
 ghost use Rattle.rules.specs.NeverFreeing.{used};
 ghost use Rattle.layout.specs.Cells.{headOf, fieldCount, firstField, kindAt};
+ghost use Rattle.layout.specs.Words.{words};
+ghost use Rattle.promises.specs.Whole.{WholeFor};
 ghost use Rattle.commands.specs.Fields.{NamesCell, Field};
-ghost use Rattle.commands.specs.Ready.{Ready};
 ghost use Rattle.commands.specs.Does.{Does};
 ghost use Rattle.commands.specs.declared.Decoded.the-variants.{Load, Read, Write};
 use crate::variables::read_var;
@@ -74,7 +75,7 @@ pub fn load(
     b: usize,
     f: usize,
 ) -> Answer
-    requires { ⌜ Ready p (now cells) (now remember) (now tables) ⌝ }
+    requires { ⌜ WholeFor p (words (now cells) (now remember) (now tables)) ⌝ }
     requires { ⌜ (t < p .threads) × (a < p .variables) × (b < p .variables) ⌝ }
     ensures { λ r. ⌜ Does p (now (cells .entry)) (now (remember .entry)) (now (tables .entry)) (Load t a b f) (now (cells .entry)) (now (remember .entry)) (now (tables .exit)) r ⌝ }
 {
@@ -101,7 +102,7 @@ pub fn read(
     a: usize,
     f: usize,
 ) -> Answer
-    requires { ⌜ Ready p (now cells) (now remember) (now tables) ⌝ }
+    requires { ⌜ WholeFor p (words (now cells) (now remember) (now tables)) ⌝ }
     requires { ⌜ (t < p .threads) × (a < p .variables) ⌝ }
     ensures { λ r. ⌜ Does p (now (cells .entry)) (now (remember .entry)) (now (tables .entry)) (Read t a f) (now (cells .entry)) (now (remember .entry)) (now (tables .entry)) r ⌝ }
 {
@@ -125,7 +126,7 @@ pub fn write(
     f: usize,
     v: u32,
 ) -> Answer
-    requires { ⌜ Ready p (now cells) (now remember) (now tables) ⌝ }
+    requires { ⌜ WholeFor p (words (now cells) (now remember) (now tables)) ⌝ }
     requires { ⌜ (t < p .threads) × (a < p .variables) ⌝ }
     ensures { λ r. ⌜ Does p (now (cells .entry)) (now (remember .entry)) (now (tables .entry)) (Write t a f v) (now (cells .exit)) (now (remember .entry)) (now (tables .entry)) r ⌝ }
 {

@@ -4,9 +4,10 @@ ghost use Prim.Native.Nat.{_+_, _*_, _<_, _≤_};
 ghost use lib.ListN.{length};
 ghost use Rattle.rules.specs.Regions.{regionAt};
 ghost use Rattle.layout.specs.Places.{Room, depthOf};
+ghost use Rattle.layout.specs.Words.{words};
+ghost use Rattle.promises.specs.Whole.{WholeFor};
 ghost use Rattle.promises.specs.NewCell.{Blank};
 ghost use Rattle.pages.specs.Pages.{noteWords};
-ghost use Rattle.commands.specs.Ready.{Ready};
 ghost use Rattle.commands.specs.Does.{Does};
 ghost use Rattle.commands.specs.declared.Decoded.the-variants.{New};
 use crate::variables::write_var;
@@ -50,7 +51,7 @@ pub fn new_object(
     b: usize,
     c: usize,
 ) -> Answer
-    requires { ⌜ Ready p (now cells) (now remember) (now tables) ⌝ }
+    requires { ⌜ WholeFor p (words (now cells) (now remember) (now tables)) ⌝ }
     requires { ⌜ noteWords ≤ length (now notes) ⌝ }
     requires { ⌜ (t < p .threads) × (a < p .variables) × (b + c ≤ 14) ⌝ }
     ensures { λ r. ⌜ Does p (now (cells .entry)) (now (remember .entry)) (now (tables .entry)) (New t a b c) (now (cells .exit)) (now (remember .entry)) (now (tables .exit)) r ⌝ }

@@ -2,7 +2,8 @@
 ghost use Prim.Native.Nat.{_≤_};
 ghost use lib.ListN.{length};
 ghost use Rattle.pages.specs.Pages.{noteWords};
-ghost use Rattle.commands.specs.Ready.{Ready};
+ghost use Rattle.layout.specs.Words.{words};
+ghost use Rattle.promises.specs.Whole.{WholeFor};
 ghost use Rattle.commands.specs.Obeys.{Obeys};
 use crate::Decoded;
 use crate::Obeyed;
@@ -29,7 +30,7 @@ pub fn obey(
     notes: &mut [u32],
     m: Command,
 ) -> Obeyed
-    requires { ⌜ Ready p (now cells) (now remember) (now tables) ⌝ }
+    requires { ⌜ WholeFor p (words (now cells) (now remember) (now tables)) ⌝ }
     requires { ⌜ noteWords ≤ length (now notes) ⌝ }
     ensures { λ r. ⌜ Obeys p (now (cells .entry)) (now (remember .entry)) (now (tables .entry)) m (now (cells .exit)) (now (remember .exit)) (now (tables .exit)) r ⌝ }
 {

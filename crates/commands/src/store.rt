@@ -1,10 +1,7 @@
 // Code 7: a store, and the remember table, which stays exact.
-ghost use mathlib.Core.Path.{_≡_};
-ghost use Prim.Native.Nat.{ℕ, _+_, _*_, _<_, _≤_};
-ghost use lib.ListN.{length};
-ghost use Rattle.layout.specs.Places.{Room, ownerOf};
-ghost use Rattle.remember.specs.Crossing.{other, regionOf};
-ghost use Rattle.commands.specs.Ready.{Ready};
+ghost use Prim.Native.Nat.{_<_};
+ghost use Rattle.layout.specs.Words.{words};
+ghost use Rattle.promises.specs.Whole.{WholeFor};
 ghost use Rattle.commands.specs.Does.{Does};
 ghost use Rattle.commands.specs.Storing.{Storing, Stored};
 ghost use Rattle.commands.specs.declared.Decoded.the-variants.{Store};
@@ -14,32 +11,10 @@ use crate::fields::read_field;
 use crate::fields::write_field;
 use crate::variables::read_var;
 use layout::Kind;
+use remember::crossing::cross;
 use remember::entries::remember_slot;
 use rules::Sizes;
 use rules::Answer;
-
-// The region that a reference x in a slot of a page crosses into, 0 where it does not cross.
-fn crosses(p: Sizes, tables: &[u32], page: usize, x: u32) -> u32
-    requires { ⌜ Room p (length (now tables)) ⌝ }
-    requires { ⌜ page < p .pages ⌝ }
-    ensures { λ r. ⌜ r ≡ other (ownerOf p (now (tables .entry)) page) (regionOf p (now (tables .entry)) x) ⌝ }
-{
-    if x == 0 {
-        return 0;
-    }
-    let to = layout::cells::page_of(layout::cells::cell_named(x));
-    if p.pages <= to {
-        return 0;
-    }
-    let region = layout::tables::owner(p, tables, to);
-    if region <= 1 {
-        return 0;
-    }
-    if region == layout::tables::owner(p, tables, page) {
-        return 0;
-    }
-    region
-}
 
 // Reference v goes into reference f of x's object, unless there is no room for its entry (14).
 fn store_slot(
@@ -51,13 +26,14 @@ fn store_slot(
     f: usize,
     v: u32,
 ) -> u32
-    requires { ⌜ Storing p (now cells) (now remember) (now tables) x f ⌝ }
+    requires { ⌜ Storing p (now cells) (now remember) (now tables) x f v ⌝ }
     ensures { λ r. ⌜ Stored p (now (cells .entry)) (now (remember .entry)) (now (tables .entry)) x f v (now (cells .exit)) (now (remember .exit)) r ⌝ }
 {
     let page = layout::cells::page_of(layout::cells::cell_named(x));
+    let from = layout::tables::owner(p, tables, page);
     let old = read_field(Kind::Reference, cells, x, f);
-    let was = crosses(p, tables, page, old);
-    let will = crosses(p, tables, page, v);
+    let was = cross(p, tables, from, old);
+    let will = cross(p, tables, from, v);
     let at = field_position(Kind::Reference, cells, x, f);
     let number = remember_slot(p.entries, remember, at, was, will);
     if number != 0 {
@@ -78,7 +54,7 @@ pub fn store(
     f: usize,
     c: usize,
 ) -> Answer
-    requires { ⌜ Ready p (now cells) (now remember) (now tables) ⌝ }
+    requires { ⌜ WholeFor p (words (now cells) (now remember) (now tables)) ⌝ }
     requires { ⌜ (t < p .threads) × (a < p .variables) × (c < p .variables) ⌝ }
     ensures { λ r. ⌜ Does p (now (cells .entry)) (now (remember .entry)) (now (tables .entry)) (Store t a f c) (now (cells .exit)) (now (remember .exit)) (now (tables .entry)) r ⌝ }
 {

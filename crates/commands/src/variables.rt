@@ -2,7 +2,10 @@
 ghost use mathlib.Core.Path.{_≡_};
 ghost use Prim.Native.Nat.{_+_, _<_};
 ghost use lib.ListN.{length, set};
-ghost use Rattle.commands.specs.Ready.{Ready, Placed, variable, variableAt};
+ghost use Rattle.layout.specs.Words.{words};
+ghost use Rattle.layout.specs.Places.{Room};
+ghost use Rattle.promises.specs.Whole.{WholeFor};
+ghost use Rattle.commands.specs.ThreadVariables.{variable, variableAt};
 ghost use Rattle.commands.specs.Does.{Does};
 ghost use Rattle.commands.specs.declared.Decoded.the-variants.{Start, Copy, Clear, Same};
 use rules::Sizes;
@@ -10,7 +13,7 @@ use rules::Answer;
 
 // Variable a of thread t.
 pub fn read_var(p: Sizes, tables: &[u32], t: usize, a: usize) -> u32
-    requires { ⌜ Placed p (length (now tables)) ⌝ }
+    requires { ⌜ Room p (length (now tables)) ⌝ }
     requires { ⌜ (t < p .threads) × (a < p .variables) ⌝ }
     ensures { λ r. ⌜ r ≡ variable p (now (tables .entry)) t a ⌝ }
 {
@@ -19,7 +22,7 @@ pub fn read_var(p: Sizes, tables: &[u32], t: usize, a: usize) -> u32
 }
 
 pub fn write_var(p: Sizes, tables: &mut [u32], t: usize, a: usize, x: u32)
-    requires { ⌜ Placed p (length (now tables)) ⌝ }
+    requires { ⌜ Room p (length (now tables)) ⌝ }
     requires { ⌜ (t < p .threads) × (a < p .variables) ⌝ }
     ensures { λ r. ⌜ now (tables .exit) ≡ set (now (tables .entry)) (variableAt p t a) x ⌝ }
 {
@@ -29,7 +32,7 @@ pub fn write_var(p: Sizes, tables: &mut [u32], t: usize, a: usize, x: u32)
 
 // Code 1: the depth of thread t rises by one.
 pub fn start(p: Sizes, cells: &[u32], remember: &[u32], tables: &mut [u32], t: usize) -> Answer
-    requires { ⌜ Ready p (now cells) (now remember) (now tables) ⌝ }
+    requires { ⌜ WholeFor p (words (now cells) (now remember) (now tables)) ⌝ }
     requires { ⌜ t < p .threads ⌝ }
     ensures { λ r. ⌜ Does p (now (cells .entry)) (now (remember .entry)) (now (tables .entry)) (Start t) (now (cells .entry)) (now (remember .entry)) (now (tables .exit)) r ⌝ }
 {
@@ -52,7 +55,7 @@ pub fn copy(
     b: usize,
     c: usize,
 ) -> Answer
-    requires { ⌜ Ready p (now cells) (now remember) (now tables) ⌝ }
+    requires { ⌜ WholeFor p (words (now cells) (now remember) (now tables)) ⌝ }
     requires { ⌜ (t < p .threads) × (a < p .variables) × (b < p .variables) × (c < p .threads) ⌝ }
     ensures { λ r. ⌜ Does p (now (cells .entry)) (now (remember .entry)) (now (tables .entry)) (Copy t a b c) (now (cells .entry)) (now (remember .entry)) (now (tables .exit)) r ⌝ }
 {
@@ -70,7 +73,7 @@ pub fn clear(
     t: usize,
     a: usize,
 ) -> Answer
-    requires { ⌜ Ready p (now cells) (now remember) (now tables) ⌝ }
+    requires { ⌜ WholeFor p (words (now cells) (now remember) (now tables)) ⌝ }
     requires { ⌜ (t < p .threads) × (a < p .variables) ⌝ }
     ensures { λ r. ⌜ Does p (now (cells .entry)) (now (remember .entry)) (now (tables .entry)) (Clear t a) (now (cells .entry)) (now (remember .entry)) (now (tables .exit)) r ⌝ }
 {
@@ -88,7 +91,7 @@ pub fn same(
     a: usize,
     b: usize,
 ) -> Answer
-    requires { ⌜ Ready p (now cells) (now remember) (now tables) ⌝ }
+    requires { ⌜ WholeFor p (words (now cells) (now remember) (now tables)) ⌝ }
     requires { ⌜ (t < p .threads) × (a < p .variables) × (b < p .variables) ⌝ }
     ensures { λ r. ⌜ Does p (now (cells .entry)) (now (remember .entry)) (now (tables .entry)) (Same t a b) (now (cells .entry)) (now (remember .entry)) (now (tables .entry)) r ⌝ }
 {

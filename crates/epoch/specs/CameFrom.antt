@@ -21,7 +21,7 @@ use Rattle.settle.specs.Rewrite.{forwarded, forward-null, forward-still, forwar
 use Rattle.settle.specs.Append.{crossAt, Crosses}
 use Rattle.settle.specs.Update.{Copies}
 use Rattle.evacuate.specs.Links.{Start}
-use Rattle.evacuate.specs.Table.{cross-value}
+use Rattle.remember.specs.Crosses.{crosses-into}
 use Rattle.evacuate.specs.Stages.{Lives}
 use Rattle.settle.specs.RewriteCopies.{Old}
 
@@ -170,7 +170,7 @@ module _ {p : Sizes} {r : ℕ} {S : ℕ → Type 0} {W₀ T₀ W T W′ : List �
     crossed : (c f x : ℕ) → Lives p r T₀ c → f < refsOf W₀ c → getD W′ x 0 ≡ forwarded W (fieldOf W₀ c f) → ownerOf p T (x / 256) ≡ home c → crossAt p W′ T x ≢ 0
         → (d : ℕ) × (fieldOf W₀ c f ≡ suc d) × (1 < home d) × (home c ≢ home d)
     crossed c f x l lf val own ne =
-        let v = cross-value p T (ownerOf p T (x / 256)) (getD W′ x 0) (crossAt p W′ T x) refl ne in
+        let v = crosses-into p T (ownerOf p T (x / 256)) (getD W′ x 0) (crossAt p W′ T x) refl ne in
         go (fieldOf W₀ c f) refl (v .real) (v .region) (v .high) (v .other)
       where
         go : (y : ℕ) → fieldOf W₀ c f ≡ y → getD W′ x 0 ≢ 0 → crossAt p W′ T x ≡ ownerOf p T ((getD W′ x 0 - 1) / 16) → 1 < crossAt p W′ T x → crossAt p W′ T x ≢ ownerOf p T (x / 256)

@@ -1,22 +1,19 @@
 -- The remember table of whole words lists each crossing slot once, as the evacuation reads crossing off the marked words.
 use mathlib.Core.Path.{_≡_, refl, sym, ap, ap₂, _∙_, subst}
 use mathlib.Core.Logic.{_≢_}
-use mathlib.Core.Bool.{Bool, cond}
 use Prim.Native.Nat.{ℕ, zero, suc, _+_, _-_, _/_, _%_, _<_}
 use native.Mathlib.Omega.{arith}
 use native.Mathlib.Nat.{pos-of-ne-zero}
-use lib.Dec.{eqb·suc-zero}
 use lib.ListN.{length, getD}
 use Rattle.rules.specs.declared.Sizes.{Sizes}
 use Rattle.layout.specs.Places.{Room, ownerOf, usedIn, slotIn}
 use Rattle.layout.specs.Cells.{pageOf, cellOf, wordOf}
 use Rattle.layout.specs.Words.{Words, Used, ownerIn}
 use Rattle.promises.specs.Whole.{WholeFor, IsRef}
-use Rattle.remember.specs.Crossing.{other, regionOf, crossTo}
+use Rattle.remember.specs.Crossing.{crossesFrom, other, regionOf, crossTo}
 use Rattle.promises.specs.Slots.{Slot, region-of, slot-low, slot-cross, slot-field}
 use Rattle.mark.specs.Reached.{entry-slot}
 use Rattle.mark.specs.Survivors.{Marked}
-use Rattle.settle.specs.Entries.{crossOf, otherThan}
 use Rattle.settle.specs.Append.{crossAt}
 use Rattle.evacuate.specs.Table.{IsSlot, Listed}
 use Rattle.evacuation.specs.MarkedWords.{owner-same, now-used, was-used, head-same, word-same}
@@ -40,14 +37,12 @@ module _ (s : Sizes) (w : Words) (k : WholeFor s w) (space : Room s (length (w .
       }
 
   -- reference v of an object in region o
-  value-same : (o o′ : ℕ) → o ≡ o′ → (v : ℕ) → IsRef s (w .tables) v → crossOf s (w₁ .tables) o v ≡ other o′ (regionOf s (w .tables) v)
-  unfolding crossOf otherThan
+  value-same : (o o′ : ℕ) → o ≡ o′ → (v : ℕ) → IsRef s (w .tables) v → crossesFrom s (w₁ .tables) o v ≡ other o′ (regionOf s (w .tables) v)
+  unfolding crossesFrom
   value-same o o′ e zero f = refl
   value-same o o′ e (suc y) f =
-      let y′ : suc y - 1 ≡ y = omega arith in
-      let u : Used s w y = subst (Used s w) y′ (f (omega arith)) in
-      ap₂ (λ (b : Bool) (x : ℕ). cond b 0 (other o (ownerOf s (w₁ .tables) (x / 16)))) (eqb·suc-zero y) y′
-      ∙ ap₂ (λ (a b : ℕ). other a b) e (owner-same M space (y / 16) (u .page) ∙ sym (region-of s (w .tables) y u))
+      let u : Used s w y = subst (Used s w) (let y′ : suc y - 1 ≡ y = omega arith in y′) (f (omega arith)) in
+      ap₂ (λ (a b : ℕ). other a b) e (region-of s (w₁ .tables) y (now-used M space y u) ∙ owner-same M space (y / 16) (u .page) ∙ sym (region-of s (w .tables) y u))
 
   slot-ref : (x : ℕ) → Slot s (w .cells) (w .tables) x → IsRef s (w .tables) (getD (w .cells) x 0)
   slot-ref x o =
@@ -58,7 +53,7 @@ module _ (s : Sizes) (w : Words) (k : WholeFor s w) (space : Room s (length (w .
   pub cross-same : (x : ℕ) → Slot s (w .cells) (w .tables) x → crossAt s (w₁ .cells) (w₁ .tables) x ≡ crossTo s (w .cells) (w .tables) x
   cross-same x o =
       let page : x / 256 ≡ pageOf (cellOf x) = omega arith in
-      ap (λ (v : ℕ). crossOf s (w₁ .tables) (ownerOf s (w₁ .tables) (x / 256)) v) (word-same M space x (λ z. omega (arith, o .field)))
+      ap (λ (v : ℕ). crossesFrom s (w₁ .tables) (ownerOf s (w₁ .tables) (x / 256)) v) (word-same M space x (λ z. omega (arith, o .field)))
       ∙ value-same (ownerOf s (w₁ .tables) (x / 256)) (ownerIn s w (pageOf (cellOf x)))
       (ap (λ (q : ℕ). ownerOf s (w₁ .tables) q) page ∙ owner-same M space (pageOf (cellOf x)) (o .used .page)) (getD (w .cells) x 0) (slot-ref x o)
       ∙ sym (slot-cross s (w .cells) (w .tables) x o)

@@ -118,7 +118,7 @@ module _ (s : Sizes) (w : Words) (k : WholeFor s w) (space : Room s (length (w .
         held = λ b f d u out lf e own.
             let q = points s w k space r pos w₁ M b f d u lf (suc-of e) in
             named b f d q (outside-alive s w k r pos b (record { used = q .used; owner = λ z. out (owner-then s w k space r pos w₁ M b (q .used) ∙ z) })) own;
-        slots = λ b f d u out lf e own. remembered-slots high L b f d u out lf (few′ b u) e own;
+        slots = λ b f d u out lf e own. remembered-slots high L b f d u out lf (few′ b u) e (there′ b f d u lf e) own;
         old = remembered-old high L;
         into = remembered-into high L;
       }
@@ -128,6 +128,9 @@ module _ (s : Sizes) (w : Words) (k : WholeFor s w) (space : Room s (length (w .
 
       suc-of : {x d : ℕ} → x ≡ 1 + d → x ≡ suc d
       suc-of e = omega arith
+
+      there′ : (b f d : ℕ) → InUse s (w₁ .tables) b → f < refsOf (w₁ .cells) b → fieldOf (w₁ .cells) b f ≡ 1 + d → pageOf d < s .pages
+      there′ b f d u l e = points s w k space r pos w₁ M b f d u l (suc-of e) .there .page
 
       used′ : (c f : ℕ) → InUse s (w₁ .tables) c → f < refsOf (w₁ .cells) c → fieldOf (w₁ .cells) c f ≢ 0 → InUse s (w₁ .tables) (fieldOf (w₁ .cells) c f - 1)
       used′ c f u l ne =

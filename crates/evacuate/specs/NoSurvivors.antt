@@ -11,6 +11,7 @@ use Rattle.rules.specs.declared.Sizes.{Sizes}
 use Rattle.layout.specs.Places.{ownerOf, varOf, markOf, slotIn, slotRegionIn}
 use Rattle.layout.specs.Cells.{fieldOf, refsOf}
 use Rattle.layout.specs.Marks.{marked}
+use Rattle.remember.specs.Crosses.{crosses-into}
 use Rattle.copy.specs.Marks.{mark?}
 use Rattle.copy.specs.Passing.{Moves.none}
 use Rattle.copy.specs.Copying.{Copy, no-marks}
@@ -18,7 +19,7 @@ use Rattle.copy.specs.Forward.{copy-forwards}
 use Rattle.settle.specs.Rewrite.{forwarded, forward-null, forward-still, Rewritten, rewritten-none}
 use Rattle.settle.specs.RewriteSlots.{Remembered, Variables}
 use Rattle.settle.specs.Update.{Copies, Updating, Updated}
-use Rattle.evacuate.specs.Table.{IsSlot, cross-value}
+use Rattle.evacuate.specs.Table.{IsSlot}
 use Rattle.release.specs.Release.{Ended}
 use Rattle.evacuate.specs.Stages.{Before, Finished, update-ask}
 
@@ -66,7 +67,7 @@ module _ {p : Sizes} {r n m l : ℕ} {gs : ℕ → ℕ} {W T M : List ℕ} (b : 
 
       out : ownerOf p T (y / 16) ≢ r
       out = λ z.
-          cross-value p T (ownerOf p T (slotIn M (q .entry) / 256)) (getD W (slotIn M (q .entry)) 0) (slotRegionIn n M (q .entry)) (b .listed .right (q .entry) (q .low))
+          crosses-into p T (ownerOf p T (slotIn M (q .entry) / 256)) (getD W (slotIn M (q .entry)) 0) (slotRegionIn n M (q .entry)) (b .listed .right (q .entry) (q .low))
           (b .listed .real (q .entry) (q .low)) .other
           (q .region ∙ sym z ∙ ap (λ (w : ℕ). ownerOf p T w) (let v : slotIn M (q .entry) / 16 / 16 ≡ slotIn M (q .entry) / 256 = omega arith in v))
 

@@ -9,12 +9,12 @@ use Rattle.rules.specs.declared.Sizes.{Sizes}
 use Rattle.layout.specs.Places.{ownerOf, usedIn, slotIn, slotRegionIn}
 use Rattle.layout.specs.Cells.{fieldOf, refsOf}
 use Rattle.layout.specs.Words.{InUse}
-use Rattle.remember.specs.Crossing.{crossTo, other, regionOf}
+use Rattle.remember.specs.Crossing.{crossesFrom, crossTo, other, regionOf}
+use Rattle.remember.specs.Crosses.{crosses-null, crosses-by}
 use Rattle.promises.specs.Slots.{Slot, region-of, slot-low, slot-cross, cross-slot}
 use Rattle.promises.specs.Whole.{EntryWhole, RememberWhole}
 use Rattle.pages.specs.Owned.{regionsOf}
 use Rattle.copy.specs.Passing.{Ready}
-use Rattle.settle.specs.Entries.{crossOf, otherThan, cross-null, cross-ref}
 use Rattle.settle.specs.Append.{crossAt, Crosses}
 use Rattle.settle.specs.Update.{Entry}
 use Rattle.evacuate.specs.Links.{copies-cross, slots-out}
@@ -22,10 +22,6 @@ use Rattle.evacuate.specs.Table.{entry-cross, all-listed}
 use Rattle.evacuate.specs.Stages.{Before, Finished}
 use Rattle.evacuate.specs.Evacuated.{to-end, from-end, ready-after}
 use Rattle.settle.specs.RewriteCopies.{slot-now, slot-then}
-
-other-than : (w h : ℕ) → other w h ≡ otherThan w h
-unfolding otherThan
-other-than w h = refl
 
 module _ {p : Sizes} {r m l t : ℕ} {gs : ℕ → ℕ} {W T M W′ T′ M′ : List ℕ} (b : Before p r (p .entries) m l gs W M T)
     (f : Finished p r (p .entries) m l t gs W M T W′ M′ T′) (high : 1 < r) (low : r ≤ regionsOf p) (thread : t < p .threads) where
@@ -44,19 +40,16 @@ module _ {p : Sizes} {r m l t : ℕ} {gs : ℕ → ℕ} {W T M W′ T′ M′ : 
     slot-after = record { used = to-end b f real low thread (x / 16) u out .0; field = two; count = few }
 
     value : (v : ℕ) → getD W′ x 0 ≡ v → (v ≡ 0) ⊎ ((c : ℕ) × (v ≡ 1 + c) × InUse p (f .tables) c × (ownerOf p (f .tables) (c / 16) ≢ r))
-        → other (ownerOf p T′ (x / 16 / 16)) (regionOf p T′ v) ≡ crossOf p (f .tables) (ownerOf p (f .tables) (x / 16 / 16)) v
-    value v e (inl z) = subst (λ (y : ℕ). other (ownerOf p T′ (x / 16 / 16)) (regionOf p T′ y) ≡ crossOf p (f .tables) (ownerOf p (f .tables) (x / 16 / 16)) y) (sym z) (cross-null p (f .tables) (ownerOf p (f .tables) (x / 16 / 16)) 0 refl)
+        → other (ownerOf p T′ (x / 16 / 16)) (regionOf p T′ v) ≡ crossesFrom p (f .tables) (ownerOf p (f .tables) (x / 16 / 16)) v
+    value v e (inl z) = subst (λ (y : ℕ). other (ownerOf p T′ (x / 16 / 16)) (regionOf p T′ y) ≡ crossesFrom p (f .tables) (ownerOf p (f .tables) (x / 16 / 16)) y) (sym z) (crosses-null p (f .tables) (ownerOf p (f .tables) (x / 16 / 16)) 0 refl)
     value v e (inr q) =
         let c : ℕ = q .0 in
         let z : v ≡ suc c = omega (arith, q .1) in
         let d = to-end b f real low thread c (q .2) (q .3) in
         let w : ownerOf p T′ (x / 16 / 16) ≡ ownerOf p (f .tables) (x / 16 / 16) = to-end b f real low thread (x / 16) u out .1 in
-        let i : v - 1 ≡ c = omega arith in
         ap (λ (y : ℕ). other (ownerOf p T′ (x / 16 / 16)) (regionOf p T′ y)) z
         ∙ ap₂ (λ (g h : ℕ). other g h) w (region-of p T′ c (d .0) ∙ d .1)
-        ∙ other-than (ownerOf p (f .tables) (x / 16 / 16)) (ownerOf p (f .tables) (c / 16))
-        ∙ ap (λ (y : ℕ). otherThan (ownerOf p (f .tables) (x / 16 / 16)) (ownerOf p (f .tables) (y / 16))) (sym i)
-        ∙ cross-ref p (f .tables) (ownerOf p (f .tables) (x / 16 / 16)) v (λ y. omega arith)
+        ∙ crosses-by p (f .tables) (ownerOf p (f .tables) (x / 16 / 16)) v (sym (ap (regionOf p (f .tables)) z ∙ region-of p (f .tables) c (q .2))) refl
 
     cross-after : crossTo p W′ T′ x ≡ crossAt p W′ (f .tables) x
     cross-after =
@@ -68,7 +61,7 @@ module _ {p : Sizes} {r m l t : ℕ} {gs : ℕ → ℕ} {W T M W′ T′ M′ : 
         let page : x / 16 / 16 ≡ x / 256 = omega arith in
         slot-cross p W′ T′ x slot-after
         ∙ value (getD W′ x 0) refl (subst (λ (v : ℕ). (v ≡ 0) ⊎ ((c : ℕ) × (v ≡ 1 + c) × InUse p (f .tables) c × (ownerOf p (f .tables) (c / 16) ≢ r))) h s)
-        ∙ ap (λ (z : ℕ). crossOf p (f .tables) (ownerOf p (f .tables) z) (getD W′ x 0)) page
+        ∙ ap (λ (z : ℕ). crossesFrom p (f .tables) (ownerOf p (f .tables) z) (getD W′ x 0)) page
 
   page-of : (x : ℕ) → ownerOf p (f .tables) (x / 256) ≢ r → ownerOf p (f .tables) (x / 16 / 16) ≢ r
   page-of x n = subst (λ (y : ℕ). ownerOf p (f .tables) y ≢ r) (let e : x / 256 ≡ x / 16 / 16 = omega arith in e) n

@@ -11,6 +11,7 @@ use Rattle.layout.specs.Places.{Room, depthAt, varAt, ownerAt, depthOf, varOf, 
 use Rattle.layout.specs.Cells.{workOf, fieldOf, refsOf}
 use Rattle.layout.specs.Marks.{marked}
 use Rattle.layout.specs.Words.{InUse, Names}
+use Rattle.remember.specs.Crosses.{crosses-into}
 use Rattle.copy.specs.Passing.{Ready, moves-ready, moves-tables}
 use Rattle.copy.specs.Copying.{Plan, Copy, no-survivors, copy-marks}
 use Rattle.copy.specs.Forward.{Forwards, forward, copy-forwards}
@@ -19,7 +20,7 @@ use Rattle.settle.specs.Append.{Crosses}
 use Rattle.settle.specs.Update.{Copies, Updating, Updated}
 use Rattle.release.specs.Release.{Ended}
 use Rattle.evacuate.specs.Links.{Start, new-home, old-survivor, copy-refs, forwards-wiring, copy-head, copies-cross, slots-out}
-use Rattle.evacuate.specs.Table.{IsSlot, Listed, entry-cross, entry-apart, cross-value, no-copy}
+use Rattle.evacuate.specs.Table.{IsSlot, Listed, entry-cross, entry-apart, no-copy}
 use Rattle.settle.specs.RewriteSlots.{Remembered, Slots, Fields, Variables}
 use Rattle.settle.specs.Final.{Settles, copies-exist}
 use Rattle.settle.specs.RewriteCopies.{Old, Wiring, wiring-now, Between, slot-now, slot-then}
@@ -196,7 +197,7 @@ module _ {p : Sizes} {r n m l : ℕ} {gs : ℕ → ℕ} {W T M W₁ T₁ : List 
 
         out : ownerOf p T₁ (y / 16) ≢ r
         out = λ z.
-            cross-value p T (ownerOf p T (slotIn M i / 256)) (getD W (slotIn M i) 0) r (sym e ∙ b .listed .right i h) (λ w. b .listed .real i h (e ∙ w)) .other
+            crosses-into p T (ownerOf p T (slotIn M i / 256)) (getD W (slotIn M i) 0) r (sym e ∙ b .listed .right i h) (λ w. b .listed .real i h (e ∙ w)) .other
             (sym z ∙ F .copying .owner y (t .used) ∙ ap (λ (w : ℕ). ownerOf p T w) (let q : slotIn M i / 16 / 16 ≡ slotIn M i / 256 = omega arith in q))
 
         go : (fieldOf W₃ y f ≡ 0) ⊎ ((c : ℕ) × (fieldOf W₃ y f ≡ 1 + c) × InUse p T₁ c × (ownerOf p T₁ (c / 16) ≢ r)) → (getD W₃ (slotIn M i) 0 - 1) / 16 < p .pages

@@ -11,41 +11,16 @@ use Rattle.layout.specs.Places.{ownerOf, slotIn, slotRegionIn}
 use Rattle.layout.specs.Cells.{workOf, fieldOf, refsOf}
 use Rattle.layout.specs.Marks.{marked}
 use Rattle.layout.specs.Words.{InUse}
+use Rattle.remember.specs.Crossing.{crossesFrom}
+use Rattle.remember.specs.Crosses.{crosses-null, crosses-into, into-crosses}
 use Rattle.copy.specs.Passing.{Ready}
 use Rattle.copy.specs.Forward.{Forwards, forward}
 use Rattle.settle.specs.Rewrite.{Rewritten, refs-same}
-use Rattle.settle.specs.Entries.{crossOf, cross-null, cross-ref, other-control, other-same, other-yes, newRegion, new-gone, new-stays, new-moved, Stays}
+use Rattle.settle.specs.Entries.{newRegion, new-gone, new-stays, new-moved, Stays}
 use Rattle.settle.specs.Append.{crossAt, Crosses, Crossing}
 use Rattle.settle.specs.Update.{Copies}
 use Rattle.evacuate.specs.Links.{Start, old-survivor, survivor-old, copy-refs}
 use Rattle.settle.specs.RewriteSlots.{Remembered}
-
--- ---- what a crossing value says
-
-pub record Value (p : Sizes) (T : List ℕ) (w x h : ℕ) : Type 0 where
-  pub real : x ≢ 0
-  pub region : h ≡ ownerOf p T ((x - 1) / 16)
-  pub high : 1 < h
-  pub other : h ≢ w
-
-pub cross-value : (p : Sizes) (T : List ℕ) (w x h : ℕ) → h ≡ crossOf p T w x → h ≢ 0 → Value p T w x h
-cross-value p T w x h e ne = go (ℕ-discrete x 0) (decLt 1 (ownerOf p T ((x - 1) / 16))) (ℕ-discrete (ownerOf p T ((x - 1) / 16)) w)
-  where
-    g : ℕ
-    g = ownerOf p T ((x - 1) / 16)
-
-    go : Dec (x ≡ 0) → Dec (1 < g) → Dec (g ≡ w) → Value p T w x h
-    go (yes z) l s = absurd (ne (e ∙ sym (cross-null p T w x z)))
-    go (no z) (no l) s = absurd (ne (e ∙ sym (cross-ref p T w x z) ∙ sym (other-control w g (omega arith))))
-    go (no z) (yes l) (yes s) = absurd (ne (e ∙ sym (cross-ref p T w x z) ∙ sym (other-same w g l s)))
-    go (no z) (yes l) (no s) =
-        let v : h ≡ g = e ∙ sym (cross-ref p T w x z) ∙ sym (other-yes w g l s) in
-        record { real = z; region = v; high = omega arith; other = λ q. s (sym v ∙ q) }
-
-pub value-cross : (p : Sizes) (T : List ℕ) (w x h : ℕ) → Value p T w x h → h ≡ crossOf p T w x
-value-cross p T w x h v =
-    let l : 1 < ownerOf p T ((x - 1) / 16) = omega (arith, v .high, v .region) in
-    v .region ∙ other-yes w (ownerOf p T ((x - 1) / 16)) l (λ z. v .other (v .region ∙ z)) ∙ cross-ref p T w x (v .real)
 
 -- ---- the table before
 
@@ -105,12 +80,12 @@ module _ {p : Sizes} {r n m : ℕ} {M W₀ T₀ W T W′ : List ℕ} (s : Start 
     -- a slot that points elsewhere than into r, from outside r, crosses as before
     pub same-cross : (getD W₀ x 0 ≢ 0 → ownerOf p T₀ ((getD W₀ x 0 - 1) / 16) ≢ r) → (h : ℕ) → h ≢ 0 → h ≡ crossAt p W₀ T₀ x → h ≡ crossAt p W′ T x
     same-cross out h ne e =
-        let v = cross-value p T₀ (ownerOf p T₀ (x / 256)) (getD W₀ x 0) h e ne in
+        let v = crosses-into p T₀ (ownerOf p T₀ (x / 256)) (getD W₀ x 0) h e ne in
         let word : getD W′ x 0 ≡ getD W₀ x 0 = R .same x (⊎-elim (into-not out) (no-copy x (t .used))) ∙ before in
         let own : ownerOf p T ((getD W₀ x 0 - 1) / 16) ≡ ownerOf p T₀ ((getD W₀ x 0 - 1) / 16) = F .copying .owner (getD W₀ x 0 - 1) (names (v .real)) in
-        value-cross p T (ownerOf p T (x / 256)) (getD W₀ x 0) h
-        (record { real = v .real; region = v .region ∙ sym own; high = v .high; other = λ z. v .other (z ∙ home) })
-        ∙ ap (λ (z : ℕ). crossOf p T (ownerOf p T (x / 256)) z) (sym word)
+        into-crosses p T (ownerOf p T (x / 256)) (getD W₀ x 0) h
+        (record { real = v .real; page = v .page; region = v .region ∙ sym own; high = v .high; other = λ z. v .other (z ∙ home) })
+        ∙ ap (λ (z : ℕ). crossesFrom p T (ownerOf p T (x / 256)) z) (sym word)
 
   -- an entry that stays names a crossing slot, with the right region
   pub entry-cross : (x h : ℕ) → Stays p r n W′ M T m x h → Crosses p r W′ T x × (h ≡ crossAt p W′ T x)
@@ -155,7 +130,7 @@ module _ {p : Sizes} {r n m : ℕ} {M W₀ T₀ W T W′ : List ℕ} (s : Start 
       go (no out) (no ne) =
           let hg : h ≡ slotRegionIn n M (q .entry) = q .region ∙ sym (new-stays p r W′ T (slotIn M (q .entry)) (slotRegionIn n M (q .entry)) out ne) in
           let hc : h ≡ crossAt p W₀ T₀ (slotIn M (q .entry)) = hg ∙ L .right (q .entry) (q .low) in
-          let v = cross-value p T₀ (ownerOf p T₀ (slotIn M (q .entry) / 256)) (getD W₀ (slotIn M (q .entry)) 0) h hc (q .kept) in
+          let v = crosses-into p T₀ (ownerOf p T₀ (slotIn M (q .entry) / 256)) (getD W₀ (slotIn M (q .entry)) 0) h hc (q .kept) in
           result out (same-cross (slotIn M (q .entry)) t (λ w z. ne (sym hg ∙ v .region ∙ z)) h (q .kept) hc)
 
   pub entry-apart : (x h : ℕ) → Stays p r n W′ M T m x h → Copies p W T x → ⊥
@@ -192,20 +167,21 @@ module _ {p : Sizes} {r n m : ℕ} {M W₀ T₀ W T W′ : List ℕ} (s : Start 
       go : Dec (getD W₀ x 0 ≡ 0) → Dec (ownerOf p T₀ ((getD W₀ x 0 - 1) / 16) ≡ r) → Stays p r n W′ M T m x (crossAt p W′ T x)
       go (no z) (yes own) =
           stay r (λ w. omega arith)
-          (value-cross p T₀ (ownerOf p T₀ (x / 256)) (getD W₀ x 0) r (record { real = z; region = sym own; high = high; other = λ w. out₀ (sym w) }))
+          (into-crosses p T₀ (ownerOf p T₀ (x / 256)) (getD W₀ x 0) r (record { real = z; page = names x t z .page; region = sym own; high = high; other = λ w. out₀ (sym w) }))
           (λ w. absurd (w refl))
-      go (yes z) own = absurd (ne (ap (λ (y : ℕ). crossOf p T (ownerOf p T (x / 256)) y) (word (λ w q. w z)) ∙ sym (cross-null p T (ownerOf p T (x / 256)) (getD W₀ x 0) z)))
+      go (yes z) own = absurd (ne (ap (λ (y : ℕ). crossesFrom p T (ownerOf p T (x / 256)) y) (word (λ w q. w z)) ∙ sym (crosses-null p T (ownerOf p T (x / 256)) (getD W₀ x 0) z)))
         where
           word : (getD W₀ x 0 ≢ 0 → ownerOf p T₀ ((getD W₀ x 0 - 1) / 16) ≢ r) → getD W′ x 0 ≡ getD W₀ x 0
           word f = R .same x (⊎-elim (into-not x t f) (no-copy x (t .used))) ∙ before x t
       go (no z) (no own) =
           let word : getD W′ x 0 ≡ getD W₀ x 0 = R .same x (⊎-elim (into-not x t (λ w. own)) (no-copy x (t .used))) ∙ before x t in
           let h : ℕ = crossAt p W′ T x in
-          let v = cross-value p T (ownerOf p T (x / 256)) (getD W′ x 0) (crossAt p W′ T x) refl ne in
+          let v = crosses-into p T (ownerOf p T (x / 256)) (getD W′ x 0) (crossAt p W′ T x) refl ne in
           let e : crossAt p W′ T x ≡ crossAt p W₀ T₀ x =
-          value-cross p T₀ (ownerOf p T₀ (x / 256)) (getD W₀ x 0) (crossAt p W′ T x)
+          into-crosses p T₀ (ownerOf p T₀ (x / 256)) (getD W₀ x 0) (crossAt p W′ T x)
           (record {
             real = z;
+            page = names x t z .page;
             region =
                 v .region ∙ ap (λ (y : ℕ). ownerOf p T ((y - 1) / 16)) word
                 ∙ F .copying .owner (getD W₀ x 0 - 1) (names x t z);
@@ -255,12 +231,12 @@ module _ {p : Sizes} {r n m : ℕ} {W T M : List ℕ} (high : 1 < r) (L : Listed
   remembered-into b f l q =
       let x : ℕ = 16 * b + 2 + f in
       let e : r ≡ crossAt p W T (16 * b + 2 + f) = sym (q .region) ∙ L .right (q .entry) (q .low) ∙ ap (λ (y : ℕ). crossAt p W T y) (q .slot) in
-      let v = cross-value p T (ownerOf p T ((16 * b + 2 + f) / 256)) (fieldOf W b f) r e (λ z. omega arith) in
+      let v = crosses-into p T (ownerOf p T ((16 * b + 2 + f) / 256)) (fieldOf W b f) r e (λ z. omega arith) in
       (v .real, sym (v .region))
 
-  pub remembered-slots : (b f d : ℕ) → InUse p T b → ownerOf p T (b / 16) ≢ r → f < refsOf W b → refsOf W b ≤ 14 → fieldOf W b f ≡ 1 + d → ownerOf p T (d / 16) ≡ r
+  pub remembered-slots : (b f d : ℕ) → InUse p T b → ownerOf p T (b / 16) ≢ r → f < refsOf W b → refsOf W b ≤ 14 → fieldOf W b f ≡ 1 + d → d / 16 < p .pages → ownerOf p T (d / 16) ≡ r
       → Remembered r n m M (16 * b + 2 + f)
-  remembered-slots b f d u out lf few e own =
+  remembered-slots b f d u out lf few e there own =
       let x : ℕ = 16 * b + 2 + f in
       let at : (16 * b + 2 + f) / 16 ≡ b = omega arith in
       let page : (16 * b + 2 + f) / 256 ≡ b / 16 = omega arith in
@@ -272,9 +248,10 @@ module _ {p : Sizes} {r n m : ℕ} {W T M : List ℕ} (high : 1 < r) (L : Listed
       } in
       let d′ : fieldOf W b f - 1 ≡ d = omega arith in
       let c : r ≡ crossAt p W T (16 * b + 2 + f) =
-      value-cross p T (ownerOf p T ((16 * b + 2 + f) / 256)) (fieldOf W b f) r
+      into-crosses p T (ownerOf p T ((16 * b + 2 + f) / 256)) (fieldOf W b f) r
       (record {
         real = λ z. omega arith;
+        page = omega arith;
         region = sym (ap (λ (y : ℕ). ownerOf p T (y / 16)) d′ ∙ own);
         high = high;
         other = λ z. out (ap (λ (y : ℕ). ownerOf p T y) (sym page) ∙ sym z);

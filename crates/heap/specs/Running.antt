@@ -16,7 +16,6 @@ use Rattle.commands.specs.declared.Decoded.the-variants.{End}
 use Rattle.commands.specs.declared.Obeyed.{Obeyed}
 use Rattle.commands.specs.declared.Obeyed.the-variants.{Answered, Ends}
 use Rattle.commands.specs.Decoding.{commandFor}
-use Rattle.commands.specs.Ready.{Ready}
 use Rattle.commands.specs.Obeys.{LeftToCaller, Obeys}
 use Rattle.heap.specs.Looping.{Looped, looped-start, looped-more, looped-to, looped-ran, written}
 
@@ -26,11 +25,11 @@ pub obeyed-answered : (p : Sizes) (o : Obeyed) {c m t c′ m′ t′ : List ℕ}
 obeyed-answered p o {c} {m} {t} {c′} {m′} {t′} {x} did e = subst (Obeys p c m t x c′ m′ t′) e did
 
 -- an end starts from the words as they were
-pub ends-ready : (p : Sizes) (o : Obeyed) (x : Command) {c m t c′ m′ t′ : List ℕ} {u : ℕ} → Ready p c m t → Obeys p c m t x c′ m′ t′ o → o ≡ Ends u
+pub ends-ready : (p : Sizes) (o : Obeyed) (x : Command) {c m t c′ m′ t′ : List ℕ} {u : ℕ} → WholeFor p (words c m t) → Obeys p c m t x c′ m′ t′ o → o ≡ Ends u
     → WholeFor p (words c′ m′ t′) × (u < p .threads)
 ends-ready p o x {c} {m} {t} {c′} {m′} {t′} {u} r did e =
     let l : LeftToCaller p (words c m t) x (words c′ m′ t′) u = subst (Obeys p c m t x c′ m′ t′) e did in
-    (subst (WholeFor p) (sym (l .same)) (r .whole), l .thread)
+    (subst (WholeFor p) (sym (l .same)) r, l .thread)
 
 pub ends-did : (p : Sizes) (o : Obeyed) {c m t c′ m′ t′ : List ℕ} {x : Command} {u : ℕ} {w : Words} {a : Answer} → Obeys p c m t x c′ m′ t′ o → o ≡ Ends u
     → DidHere p (words c′ m′ t′) (commandFor (End u)) w a → DidHere p (words c m t) x w a
@@ -51,12 +50,12 @@ pub record Turning (p : Sizes) (w : Words) (block lent : List ℕ) (c m t answer
   pub tables-long : length t ≡ length (w .tables)
   pub looped : Looped p w block lent (words c m t) answers i
 
-pub turn-ready : {p : Sizes} {w : Words} {block lent c m t answers : List ℕ} {i : ℕ} → Turning p w block lent c m t answers i → Ready p c m t
-turn-ready k = record { whole = k .looped .whole }
+pub turn-ready : {p : Sizes} {w : Words} {block lent c m t answers : List ℕ} {i : ℕ} → Turning p w block lent c m t answers i → WholeFor p (words c m t)
+turn-ready k = k .looped .whole
 
-pub turn-start : {p : Sizes} {block lent c m t : List ℕ} → Ready p c m t → 2 * size block ≤ length lent → Turning p (words c m t) block lent c m t lent 0
+pub turn-start : {p : Sizes} {block lent c m t : List ℕ} → WholeFor p (words c m t) → 2 * size block ≤ length lent → Turning p (words c m t) block lent c m t lent 0
 turn-start {p} {block} {lent} {c} {m} {t} r room =
-    record { room = room; low = omega arith; cells-long = refl; remember-long = refl; tables-long = refl; looped = looped-start p (words c m t) block lent (r .whole) }
+    record { room = room; low = omega arith; cells-long = refl; remember-long = refl; tables-long = refl; looped = looped-start p (words c m t) block lent r }
 
 pub turn-end : {p : Sizes} {w : Words} {block lent c m t answers : List ℕ} {i : ℕ} → Turning p w block lent c m t answers i → size block ≤ i → Looped p w block lent (words c m t) answers (size block)
 turn-end k l = looped-to (k .looped) (omega (arith, k .low))
@@ -79,8 +78,8 @@ turn-more {p} {w} {block} {lent} {c} {m} {t} {answers} {i} k l {c′} {m′} {t�
     }
 
 -- the tables that the check found whole, for the sizes that are read from them
-pub whole-ready : {c m t : List ℕ} {p : Sizes} → Whole c m t → p ≡ sizesAt t → Ready p c m t
-whole-ready {c} {m} {t} k e = subst (λ (q : Sizes). Ready q c m t) (sym e) (record { whole = record { sized = refl; sizes = k .sizes; placed = k .placed } })
+pub whole-ready : {c m t : List ℕ} {p : Sizes} → Whole c m t → p ≡ sizesAt t → WholeFor p (words c m t)
+whole-ready {c} {m} {t} k e = subst (λ (q : Sizes). WholeFor q (words c m t)) (sym e) (record { sized = refl; sizes = k .sizes; placed = k .placed })
 
 -- the whole block
 pub looped-found : {c m t block lent answers : List ℕ} {p : Sizes} {w′ : Words} → RunAsked (words c m t) block lent 0 → p ≡ sizesAt t

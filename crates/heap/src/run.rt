@@ -3,9 +3,9 @@ ghost use mathlib.Core.Path.{_≡_};
 ghost use Prim.Native.Nat.{_+_, _*_, _<_, _≤_};
 ghost use lib.ListN.{length};
 ghost use Rattle.layout.specs.Words.{words};
+ghost use Rattle.promises.specs.Whole.{WholeFor};
 ghost use Rattle.promises.specs.Promises.{DidHere, Ran, RunAsked, commandAt};
 ghost use Rattle.pages.specs.Pages.{noteWords};
-ghost use Rattle.commands.specs.Ready.{Ready};
 use commands::Obeyed;
 use rules::Sizes;
 use rules::Answer;
@@ -20,7 +20,7 @@ fn obey(
     notes: &mut [u32],
     m: Command,
 ) -> Answer
-    requires { ⌜ Ready p (now cells) (now remember) (now tables) ⌝ }
+    requires { ⌜ WholeFor p (words (now cells) (now remember) (now tables)) ⌝ }
     requires { ⌜ noteWords ≤ length (now notes) ⌝ }
     ensures { λ r. ⌜ DidHere p (words (now (cells .entry)) (now (remember .entry)) (now (tables .entry))) m (words (now (cells .exit)) (now (remember .exit)) (now (tables .exit))) r ⌝ }
 {
@@ -55,7 +55,7 @@ fn obey_at(
     block: &[u32],
     i: usize,
 ) -> Answer
-    requires { ⌜ Ready p (now cells) (now remember) (now tables) ⌝ }
+    requires { ⌜ WholeFor p (words (now cells) (now remember) (now tables)) ⌝ }
     requires { ⌜ noteWords ≤ length (now notes) ⌝ }
     requires { ⌜ (i < 2305843009213693952) × (5 * i + 5 ≤ length (now block)) ⌝ }
     ensures { λ r. ⌜ DidHere p (words (now (cells .entry)) (now (remember .entry)) (now (tables .entry))) (commandAt (now (block .entry)) i) (words (now (cells .exit)) (now (remember .exit)) (now (tables .exit))) r ⌝ }

@@ -1,5 +1,5 @@
 -- What is read from whole words: cells in use, their fields, variables and depths; and that no reference names a cell not in use.
-use Prim.Native.Nat.{ℕ, suc, _+_, _-_, _*_, _≤_, _<_}
+use Prim.Native.Nat.{ℕ, suc, _+_, _-_, _*_, _^_, _≤_, _<_}
 use native.Mathlib.Omega.{arith}
 use mathlib.Core.Path.{_≡_, refl, sym, ap, ap₂, subst, _∙_}
 use mathlib.Core.List.{List}
@@ -15,7 +15,7 @@ use Rattle.rules.specs.Terms.{InRange}
 use Rattle.laws.specs.GraphLaws.{Alive, Closed}
 use Rattle.layout.specs.declared.Kind.{Kind}
 use Rattle.layout.specs.declared.Kind.the-variants.{Reference}
-use Rattle.layout.specs.Places.{depthAt, varAt, varOf, tablesWords, rememberWords, cellsWords, count-room, count-is, ownersFrom}
+use Rattle.layout.specs.Places.{Room, room, depthAt, varAt, varOf, tablesWords, rememberWords, cellsWords, count-room, count-is, ownersFrom}
 use Rattle.layout.specs.Cells.{fieldAt, fieldOf, fieldCount, firstField, kindAt, kind-among, pageOf}
 use Rattle.layout.specs.Words.{Words, depthIn, varIn, ownerIn, depthsIn, varsIn, headIn, refCount, fieldsIn, refsIn, homeIn, graphOf, depthsAt, homeAt, inUseAt, fieldsAt, varsAt, Used, InUse}
 use Rattle.promises.specs.Whole.{WholeFor}
@@ -150,3 +150,7 @@ module _ (s : Sizes) (w : Words) (k : WholeFor s w) where
 
   pub refs-few : (c : ℕ) → Used s w c → refCount w c ≤ 14
   refs-few c u = omega (arith, k .placed .formed c u .head)
+
+-- the tables have room for their arrays
+pub whole-room : (s : Sizes) (w : Words) → WholeFor s w → length (w .tables) < 2 ^ 63 → Room s (length (w .tables))
+whole-room s w k fits = room s (length (w .tables)) (range s w k) (tables-room s w k) fits

@@ -3,7 +3,7 @@ use Prim.Native.Nat.{ℕ, _+_, _-_, _≤_, _<_}
 use mathlib.Core.List.{List}
 use mathlib.Core.Path.{_≡_, refl, sym, ap, _∙_}
 use native.Mathlib.Omega.{arith}
-use native.Mathlib.Decide.{decLt}
+use native.Mathlib.Decide.{ℕ-discrete, decLt}
 use borrow.Author.Tests.{lt-ltb, le-ltb, le-leb, lt-leb, eq-eqb, ne-eqb}
 use lib.Dec.{ltb, leb}
 use lib.ListN.{getD}
@@ -11,8 +11,8 @@ use Rattle.lists.specs.Tests.{cond-zero}
 use Rattle.rules.specs.declared.Sizes.{Sizes}
 use Rattle.layout.specs.declared.Kind.the-variants.{Reference}
 use Rattle.layout.specs.Places.{ownerOf, usedOf}
-use Rattle.layout.specs.Cells.{headOf, refsOf, fieldCount, IsReference, pageOf, placeOf, cellOf, wordOf}
-use Rattle.remember.specs.Crossing.{other, regionOf, crossTo}
+use Rattle.layout.specs.Cells.{headOf, refsOf, fieldCount, IsReference, cellNamed, pageOf, placeOf, cellOf, wordOf}
+use Rattle.remember.specs.Crossing.{other, regionOf, crossesFrom, crossTo}
 
 module _ (p : Sizes) (c t : List ℕ) where
   -- the slot of a reference of a cell in use
@@ -71,3 +71,56 @@ module _ (p : Sizes) (t : List ℕ) (x : ℕ) where
 
     pub region-there : page < p .pages → {r : ℕ} → r ≡ ownerOf p t page → r ≡ regionOf p t x
     region-there l g = simp (ne-eqb x 0 n, page-is, lt-ltb page (p .pages) l) g
+
+-- ---- another region than w, and not the control space
+
+pub other-control : (w h : ℕ) → h ≤ 1 → 0 ≡ other w h
+other-control w h l = rw (le-leb h 1 l)
+
+pub other-same : (w h : ℕ) → 1 < h → h ≡ w → 0 ≡ other w h
+other-same w h l e = rw (lt-leb h 1 l, eq-eqb h w e)
+
+pub other-yes : (w h : ℕ) → 1 < h → (h ≡ w → ⊥) → h ≡ other w h
+other-yes w h l n = rw (lt-leb h 1 l, ne-eqb h w n)
+
+-- ---- a reference from a slot of an object in region w
+
+module _ (p : Sizes) (t : List ℕ) (w x : ℕ) where
+  -- g is the region that the code found there
+  pub crosses-by : {g r : ℕ} → g ≡ regionOf p t x → r ≡ other w g → r ≡ crossesFrom p t w x
+  unfolding crossesFrom
+  crosses-by e f = f ∙ ap (other w) e
+
+  pub crosses-null : x ≡ 0 → 0 ≡ crossesFrom p t w x
+  crosses-null z = crosses-by (region-null p t x z) (other-control w 0 (omega arith))
+
+  pub crosses-named : (x ≡ 0 → ⊥) → pageOf (cellNamed x) < p .pages → other w (ownerOf p t (pageOf (cellNamed x))) ≡ crossesFrom p t w x
+  crosses-named n l = crosses-by (region-there p t x n refl refl l refl) refl
+
+  -- the reference crosses into h
+  pub record Into (h : ℕ) : Type 0 where
+    pub real : x ≡ 0 → ⊥
+    pub page : pageOf (cellNamed x) < p .pages
+    pub region : h ≡ ownerOf p t (pageOf (cellNamed x))
+    pub high : 1 < h
+    pub other : h ≡ w → ⊥
+
+  pub crosses-into : (h : ℕ) → h ≡ crossesFrom p t w x → (h ≡ 0 → ⊥) → Into h
+  crosses-into h e ne = go (ℕ-discrete x 0) (decLt (pageOf (cellNamed x)) (p .pages)) (decLt 1 g) (ℕ-discrete g w)
+    where
+      g : ℕ
+      g = ownerOf p t (pageOf (cellNamed x))
+
+      go : Dec (x ≡ 0) → Dec (pageOf (cellNamed x) < p .pages) → Dec (1 < g) → Dec (g ≡ w) → Into h
+      go (yes z) u l d = absurd (ne (e ∙ sym (crosses-null z)))
+      go (no z) (no u) l d = absurd (ne (e ∙ sym (crosses-by (region-out p t x z refl refl (omega arith)) (other-control w 0 (omega arith)))))
+      go (no z) (yes u) (no l) d = absurd (ne (e ∙ sym (crosses-named z u) ∙ sym (other-control w g (omega arith))))
+      go (no z) (yes u) (yes l) (yes d) = absurd (ne (e ∙ sym (crosses-named z u) ∙ sym (other-same w g l d)))
+      go (no z) (yes u) (yes l) (no d) =
+          let v : h ≡ g = e ∙ sym (crosses-named z u) ∙ sym (other-yes w g l d) in
+          record { real = z; page = u; region = v; high = omega arith; other = λ q. d (sym v ∙ q) }
+
+  pub into-crosses : (h : ℕ) → Into h → h ≡ crossesFrom p t w x
+  into-crosses h v =
+      v .region ∙ other-yes w (ownerOf p t (pageOf (cellNamed x))) (omega (arith, v .high, v .region)) (λ z. v .other (v .region ∙ z))
+      ∙ crosses-named (v .real) (v .page)

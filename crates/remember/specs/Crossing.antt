@@ -17,6 +17,10 @@ other o g = cond (leb g 1) 0 (cond (eqb g o) 0 g)
 abbrev pub regionOf : Sizes → List ℕ → ℕ → ℕ
 regionOf p t x = cond (eqb x 0) 0 (cond (ltb (pageOf (x - 1)) (p .pages)) (ownerOf p t (pageOf (x - 1))) 0)
 
+-- the region that reference x crosses into from a slot of an object in region g, else 0
+unfoldable pub crossesFrom : Sizes → List ℕ → ℕ → ℕ → ℕ
+crossesFrom p t g x = other g (regionOf p t x)
+
 -- 01: a slot is crossing when its object lies in one region and it points into another that is not the control space. Where the word at
 -- position q is such a slot: the region that it points into, else 0
 unfoldable pub crossTo : Sizes → List ℕ → List ℕ → ℕ → ℕ

@@ -1,7 +1,7 @@
 // The entries: one is found, comes, goes or gets another region, a stretch is cleared. They stand in any order, so an entry is looked for one
 // by one, a new one comes last, and the last takes the place of one that goes.
 ghost use mathlib.Core.Path.{_≡_};
-ghost use Prim.Native.Nat.{ℕ, _+_, _*_, _<_, _≤_};
+ghost use Prim.Native.Nat.{ℕ, _+_, _*_, _^_, _<_, _≤_};
 ghost use lib.ListN.{length};
 ghost use Rattle.layout.specs.Places.{usedIn, slotIn};
 ghost use Rattle.remember.specs.Entries.{added, removed};
@@ -28,7 +28,7 @@ pub fn find_entry(entries: usize, remember: &[u32], used: usize, at: usize) -> u
 // One more entry, after the `used` ones.
 pub fn add_entry(entries: usize, remember: &mut [u32], used: usize, at: usize, region: u32)
     requires { ⌜ 2 * entries + 2 ≤ length (now remember) ⌝ }
-    requires { ⌜ (entries ≤ 4096) × (used < entries) × (used ≡ usedIn (now remember)) × (at < 262144) ⌝ }
+    requires { ⌜ (entries < 2 ^ 32) × (used < entries) × (used ≡ usedIn (now remember)) × (at < 2 ^ 32) ⌝ }
     ensures { λ r. ⌜ now (remember .exit) ≡ added entries (now (remember .entry)) at region ⌝ }
 {
     layout::remember::set_slot(entries, remember, used, at as u32);
@@ -39,7 +39,7 @@ pub fn add_entry(entries: usize, remember: &mut [u32], used: usize, at: usize, r
 // Entry i of the `used` ones goes; the last takes its place.
 pub fn remove_entry(entries: usize, remember: &mut [u32], used: usize, i: usize)
     requires { ⌜ 2 * entries + 2 ≤ length (now remember) ⌝ }
-    requires { ⌜ (entries ≤ 4096) × (used ≤ entries) × (used ≡ usedIn (now remember)) × (i < used) ⌝ }
+    requires { ⌜ (entries < 2 ^ 32) × (used ≤ entries) × (used ≡ usedIn (now remember)) × (i < used) ⌝ }
     ensures { λ r. ⌜ now (remember .exit) ≡ removed entries (now (remember .entry)) i ⌝ }
 {
     let last = used - 1;
@@ -55,7 +55,7 @@ pub fn remove_entry(entries: usize, remember: &mut [u32], used: usize, i: usize)
 // Slot `at` crossed into `was` and is to cross into `will`: its entry stays, goes, comes or changes its region, or there is no room (14).
 pub fn remember_slot(entries: usize, remember: &mut [u32], at: usize, was: u32, will: u32) -> u32
     requires { ⌜ 2 * entries + 2 ≤ length (now remember) ⌝ }
-    requires { ⌜ (entries ≤ 4096) × (usedIn (now remember) ≤ entries) × (at < 262144) ⌝ }
+    requires { ⌜ (entries < 2 ^ 32) × (usedIn (now remember) ≤ entries) × (at < 2 ^ 32) ⌝ }
     requires { ⌜ (0 < was → (i : ℕ) × (i < usedIn (now remember)) × (slotIn (now remember) i ≡ at)) ⌝ }
     ensures { λ r. ⌜ Remembered entries (now (remember .entry)) at was will (now (remember .exit)) r ⌝ }
 {

@@ -13,12 +13,12 @@ use Rattle.rules.specs.declared.Sizes.{Sizes}
 use Rattle.layout.specs.Places.{ownerOf, slotIn}
 use Rattle.layout.specs.Cells.{refsOf}
 use Rattle.layout.specs.Words.{InUse}
+use Rattle.remember.specs.Crossing.{crossesFrom}
 use Rattle.remember.specs.Stretches.{Added, slot-below}
-use Rattle.settle.specs.Entries.{crossOf}
 
 -- the region into which the word at x crosses, if it is a slot
 abbrev pub crossAt : (p : Sizes) (W T : List ℕ) → ℕ → ℕ
-crossAt p W T x = crossOf p T (ownerOf p T (x / 256)) (getD W x 0)
+crossAt p W T x = crossesFrom p T (ownerOf p T (x / 256)) (getD W x 0)
 
 -- the slot at x crosses once r has ended
 pub record Crosses (p : Sizes) (r : ℕ) (W T : List ℕ) (x : ℕ) : Type 0 where

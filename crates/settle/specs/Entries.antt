@@ -3,52 +3,22 @@ use mathlib.Core.Path.{_≡_, sym, ap, ap₂, _∙_}
 use mathlib.Core.Logic.{_≢_, _⊎_, inl, inr, ⊎-elim}
 use mathlib.Core.Bool.{cond}
 use mathlib.Core.List.{List}
-use Prim.Native.Nat.{ℕ, _+_, _-_, _*_, _/_, _≤_, _<_}
+use Prim.Native.Nat.{ℕ, _+_, _*_, _/_, _≤_, _<_}
 use native.Mathlib.Decide.{ℕ-discrete}
 use native.Mathlib.Omega.{arith}
-use borrow.Author.Tests.{eq-eqb, ne-eqb, le-leb, lt-leb}
+use borrow.Author.Tests.{eq-eqb, ne-eqb}
 use lib.Dec.{eqb}
 use lib.ListN.{length, getD, set}
 use Rattle.rules.specs.declared.Sizes.{Sizes}
-use Rattle.layout.specs.Places.{ownerOf, slotIn, slotRegionIn}
-use Rattle.remember.specs.Crossing.{other}
-use Rattle.remember.specs.Stretches.{Added, added-none, added-one, added-join, added-like, slot-above, region-above}
+use Rattle.layout.specs.Places.{ownerOf, cellsWords, slotIn, slotRegionIn}
 use Rattle.layout.specs.Words.{Names}
-
--- ---- crossing
-
--- region h, seen from region w: 0 where it is w or the control space
-unfoldable pub otherThan : ℕ → ℕ → ℕ
-otherThan w h = other w h
-
--- the region into which a slot of region w crosses that holds x, else 0
-unfoldable pub crossOf : (p : Sizes) (T : List ℕ) (w x : ℕ) → ℕ
-crossOf p T w x = cond (eqb x 0) 0 (otherThan w (ownerOf p T ((x - 1) / 16)))
-
-pub cross-null : (p : Sizes) (T : List ℕ) (w x : ℕ) → x ≡ 0 → 0 ≡ crossOf p T w x
-unfolding crossOf
-cross-null p T w x e = rw (eq-eqb _ _ e)
-
-pub cross-ref : (p : Sizes) (T : List ℕ) (w x : ℕ) → x ≢ 0 → otherThan w (ownerOf p T ((x - 1) / 16)) ≡ crossOf p T w x
-unfolding crossOf
-cross-ref p T w x n = rw (ne-eqb _ _ n)
-
-pub other-control : (w h : ℕ) → h ≤ 1 → 0 ≡ otherThan w h
-unfolding otherThan
-other-control w h l = rw (le-leb _ _ l)
-
-pub other-same : (w h : ℕ) → 1 < h → h ≡ w → 0 ≡ otherThan w h
-unfolding otherThan
-other-same w h l e = rw (lt-leb _ _ l, eq-eqb _ _ e)
-
-pub other-yes : (w h : ℕ) → 1 < h → h ≢ w → h ≡ otherThan w h
-unfolding otherThan
-other-yes w h l n = rw (lt-leb _ _ l, ne-eqb _ _ n)
+use Rattle.remember.specs.Crossing.{crossesFrom}
+use Rattle.remember.specs.Stretches.{Added, added-none, added-one, added-join, added-like, slot-above, region-above}
 
 -- the region of the entry of slot s with region g after r ended, 0 if it goes
 unfoldable pub newRegion : (p : Sizes) (r : ℕ) (W T : List ℕ) (s g : ℕ) → ℕ
 newRegion p r W T s g =
-    cond (eqb (ownerOf p T (s / 256)) r) 0 (cond (eqb g r) (crossOf p T (ownerOf p T (s / 256)) (getD W s 0)) g)
+    cond (eqb (ownerOf p T (s / 256)) r) 0 (cond (eqb g r) (crossesFrom p T (ownerOf p T (s / 256)) (getD W s 0)) g)
 
 pub new-gone : (p : Sizes) (r : ℕ) (W T : List ℕ) (s g : ℕ) → ownerOf p T (s / 256) ≡ r → 0 ≡ newRegion p r W T s g
 unfolding newRegion
@@ -59,7 +29,7 @@ unfolding newRegion
 new-stays p r W T s g n m = rw (ne-eqb _ _ n, ne-eqb _ _ m)
 
 pub new-moved : (p : Sizes) (r : ℕ) (W T : List ℕ) (s g : ℕ) → ownerOf p T (s / 256) ≢ r → g ≡ r
-    → crossOf p T (ownerOf p T (s / 256)) (getD W s 0) ≡ newRegion p r W T s g
+    → crossesFrom p T (ownerOf p T (s / 256)) (getD W s 0) ≡ newRegion p r W T s g
 unfolding newRegion
 new-moved p r W T s g n e = rw (ne-eqb _ _ n, eq-eqb _ _ e)
 
@@ -74,10 +44,10 @@ pub record Stays (p : Sizes) (r n : ℕ) (W M T : List ℕ) (i x h : ℕ) : Type
 
 pub record Entries (p : Sizes) (r n m : ℕ) (W M : List ℕ) : Type 0 where
   pub pages : p .pages ≤ 1024
-  pub cells-long : 256 * p .pages ≤ length W
+  pub cells-long : cellsWords p ≤ length W
   pub long : 2 + 2 * n ≤ length M
   pub few : m ≤ n
-  pub low : (i : ℕ) → i < m → slotIn M i < 256 * p .pages
+  pub low : (i : ℕ) → i < m → slotIn M i < cellsWords p
   pub once : (i j : ℕ) → i < j → j < m → slotIn M i ≢ slotIn M j
   pub names : (i : ℕ) → i < m → slotRegionIn n M i ≡ r → Names p (getD W (slotIn M i) 0)
 

@@ -14,10 +14,11 @@ use Rattle.layout.specs.Places.{ownerOf, usedOf, slotIn, slotRegionIn}
 use Rattle.layout.specs.Cells.{workOf, fieldOf, refsOf}
 use Rattle.layout.specs.Words.{Names}
 use Rattle.settle.specs.Rewrite.{forwarded, Rewritten, rewritten-none, rewritten-like}
+use Rattle.remember.specs.Crossing.{crossesFrom}
 use Rattle.settle.specs.RewriteSlots.{Field, Fields, fields-start, field-moved}
 use Rattle.settle.specs.RewriteCopies.{CopySlot, Old, Wiring, Grown, Between, copy-fields, slot-less, slot-now, slot-then}
 use Rattle.remember.specs.Stretches.{Added, added-like, Cleared}
-use Rattle.settle.specs.Entries.{crossOf, newRegion, Stays, Entries}
+use Rattle.settle.specs.Entries.{newRegion, Stays, Entries}
 use Rattle.settle.specs.Update.{Copies, Updating, Updated, update-appending, updated}
 use Rattle.settle.specs.Settle.{Settled, Settling, crossing-in, copy-rewritten}
 
@@ -85,7 +86,7 @@ pub record Settles (p : Sizes) (r n m : ℕ) (W M T : List ℕ) : Type 0 where
 new-same : (p : Sizes) (r : ℕ) (W W′ T : List ℕ) (s g : ℕ) → getD W′ s 0 ≡ getD W s 0 → newRegion p r W′ T s g ≡ newRegion p r W T s g
 unfolding newRegion
 new-same p r W W′ T s g e =
-    ap (λ (y : ℕ). cond (eqb (ownerOf p T (s / 256)) r) 0 (cond (eqb g r) (crossOf p T (ownerOf p T (s / 256)) y) g)) e
+    ap (λ (y : ℕ). cond (eqb (ownerOf p T (s / 256)) r) 0 (cond (eqb g r) (crossesFrom p T (ownerOf p T (s / 256)) y) g)) e
 
 module _ {p : Sizes} {r n m : ℕ} {W M T : List ℕ} (u : Settles p r n m W M T) where
   final : (V′ : List ℕ) × Rewritten (Copies p W T) W V′

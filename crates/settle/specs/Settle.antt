@@ -14,10 +14,10 @@ use Rattle.layout.specs.Places.{ownerOf, markOf}
 use Rattle.layout.specs.Cells.{workOf, fieldOf, refsOf}
 use Rattle.layout.specs.Words.{Names}
 use Rattle.settle.specs.Rewrite.{forwarded, Rewritten, link-same, refs-same, ref-same, rewritten-none, rewritten-one, rewritten-join, rewritten-like}
+use Rattle.remember.specs.Crossing.{crossesFrom}
 use Rattle.settle.specs.RewriteSlots.{Field, Fields}
 use Rattle.settle.specs.RewriteCopies.{CopySlot, Old, Wiring, Grown, Between, Passed, passed-within, within-passed, unset-none, slot-less, slot-now, slot-then, earlier-apart, unmarked-slots, pages-apart}
 use Rattle.remember.specs.Stretches.{Added, added-none, added-one, added-join, added-like}
-use Rattle.settle.specs.Entries.{crossOf}
 use Rattle.settle.specs.Append.{crossAt, Crossing, Appending, append-room, appending-next}
 
 -- the slots of P are rewritten; those that cross then stand from entry j up to entry i
@@ -39,7 +39,7 @@ pub record Settling (p : Sizes) (n : ℕ) (P : ℕ → Type 0) (W M T : List ℕ
 -- crossing slots, by words that read the same there
 crossing-read : {p : Sizes} {P : ℕ → Type 0} {T X Y : List ℕ} → ((x : ℕ) → P x → getD Y x 0 ≡ getD X x 0) → (x h : ℕ) → Crossing p P X T x h → Crossing p P Y T x h
 crossing-read {p} {P} {T} {X} {Y} same x h q =
-    record { at = q .at; region = q .region ∙ ap (λ (y : ℕ). crossOf p T (ownerOf p T (x / 256)) y) (sym (same x (q .at))); kept = q .kept }
+    record { at = q .at; region = q .region ∙ ap (λ (y : ℕ). crossesFrom p T (ownerOf p T (x / 256)) y) (sym (same x (q .at))); kept = q .kept }
 
 added-read : {p : Sizes} {n i j : ℕ} {P : ℕ → Type 0} {T X Y M M′ : List ℕ} → ((x : ℕ) → P x → getD Y x 0 ≡ getD X x 0) → Added n (Crossing p P X T) i j M M′
     → Added n (Crossing p P Y T) i j M M′
@@ -90,15 +90,15 @@ slot-names : {p : Sizes} {n x i : ℕ} {W M T : List ℕ} → Settling p n (λ y
 slot-names {p} {x = x} s v ev = subst (λ (y : ℕ). Names p y) (s .moved x refl ∙ sym ev) (s .names x refl)
 
 module _ {p : Sizes} {n x i : ℕ} {W M T : List ℕ} (s : Settling p n (λ y. y ≡ x) W M T i) (v h : ℕ) (ev : v ≡ forwarded W (getD W x 0))
-    (eh : h ≡ crossOf p T (ownerOf p T (x / 256)) v) where
+    (eh : h ≡ crossesFrom p T (ownerOf p T (x / 256)) v) where
   slot-fits : h ≢ 0 → i < n
-  slot-fits ne = append-room (s .appending) x refl (λ z. ne (eh ∙ ap (λ (y : ℕ). crossOf p T (ownerOf p T (x / 256)) y) (ev ∙ sym (s .moved x refl)) ∙ z))
+  slot-fits ne = append-room (s .appending) x refl (λ z. ne (eh ∙ ap (λ (y : ℕ). crossesFrom p T (ownerOf p T (x / 256)) y) (ev ∙ sym (s .moved x refl)) ∙ z))
 
   module _ (low : x < length W) (field : 2 ≤ x % 16) where
     crosses : (y : ℕ) → y ≡ x → crossAt p (set W x v) T y ≡ h
     crosses y e =
         ap (λ (z : ℕ). crossAt p (set W x v) T z) e
-        ∙ ap (λ (z : ℕ). crossOf p T (ownerOf p T (x / 256)) z) (getD-set-same W x v 0 low) ∙ sym eh
+        ∙ ap (λ (z : ℕ). crossesFrom p T (ownerOf p T (x / 256)) z) (getD-set-same W x v 0 low) ∙ sym eh
 
     slot-comes : h ≢ 0 → Settled p n (λ y. y ≡ x) W M T i (set W x v) (set (set M (2 + i) x) (2 + n + i) h) (i + 1)
     slot-comes ne =
@@ -148,10 +148,10 @@ module _ {p : Sizes} {n d k f j i : ℕ} {W M T W′ M′ : List ℕ} (a : Field
   moved-names = slot-names field-settling
 
   -- v is the forwarded reference, w the region of the cell, g the region into which it crosses, as the code has them
-  module _ (v w g : ℕ) (ev : v ≡ forwarded W′ (fieldOf W′ d f)) (ew : w ≡ ownerOf p T (d / 16)) (eg : g ≡ crossOf p T w v) where
-    eg′ : g ≡ crossOf p T (ownerOf p T ((16 * d + 2 + f) / 256)) v
+  module _ (v w g : ℕ) (ev : v ≡ forwarded W′ (fieldOf W′ d f)) (ew : w ≡ ownerOf p T (d / 16)) (eg : g ≡ crossesFrom p T w v) where
+    eg′ : g ≡ crossesFrom p T (ownerOf p T ((16 * d + 2 + f) / 256)) v
     eg′ =
-        eg ∙ ap (λ (y : ℕ). crossOf p T y v)
+        eg ∙ ap (λ (y : ℕ). crossesFrom p T y v)
         (ew ∙ ap (λ (y : ℕ). ownerOf p T y) (let e : d / 16 ≡ (16 * d + 2 + f) / 256 = omega (arith, a .few) in e))
 
     low : 16 * d + 2 + f < length W′

@@ -1,39 +1,20 @@
 // Remember: entries of the ending region's slots go, entries into it get their new region or go.
 ghost use mathlib.Core.Path.{_≡_};
-ghost use Prim.Native.Nat.{ℕ, _+_, _*_, _<_, _≤_};
+ghost use Prim.Native.Nat.{ℕ, _<_, _≤_};
 ghost use lib.ListN.{length, getD};
-ghost use Rattle.layout.specs.Places.{Room, usedIn};
+ghost use Rattle.layout.specs.Places.{Room, cellsWords, usedIn};
 ghost use Rattle.layout.specs.Words.{Names};
 ghost use Rattle.remember.specs.Stretches.{Added};
-ghost use Rattle.settle.specs.Entries.{crossOf, newRegion, Stays, Entries};
+ghost use Rattle.settle.specs.Entries.{newRegion, Stays, Entries};
 ghost use Rattle.settle.specs.Update.{Copies, Updating, Updated};
+use remember::crossing::cross;
 use remember::entries::clear_entries;
 use rules::Sizes;
 
-// The region into which a slot of region `from` crosses that holds x, 0 if it does not cross.
-pub fn cross(p: Sizes, tables: &[u32], from: u32, x: u32) -> u32
-    requires { ⌜ Names p x ⌝ }
-    requires { ⌜ Room p (length (now tables)) ⌝ }
-    ensures { λ h. ⌜ h ≡ crossOf p (now (tables .entry)) from x ⌝ }
-{
-    if x == 0 {
-        return 0;
-    }
-    let page = layout::cells::page_of(layout::cells::cell_named(x));
-    let to = layout::tables::owner(p, tables, page);
-    if to <= 1 {
-        return 0;
-    }
-    if to == from {
-        return 0;
-    }
-    to
-}
-
 // The region of the entry of the slot at a position, with region g, after the end; 0 if the entry goes.
 pub fn new_region(p: Sizes, cells: &[u32], tables: &[u32], region: u32, at: usize, g: u32) -> u32
-    requires { ⌜ at < 256 * p .pages ⌝ }
-    requires { ⌜ 256 * p .pages ≤ length (now cells) ⌝ }
+    requires { ⌜ at < cellsWords p ⌝ }
+    requires { ⌜ cellsWords p ≤ length (now cells) ⌝ }
     requires { ⌜ Room p (length (now tables)) ⌝ }
     requires { ⌜ (g ≡ region → Names p (getD (now cells) at 0)) ⌝ }
     ensures { λ h. ⌜ h ≡ newRegion p region (now (cells .entry)) (now (tables .entry)) at g ⌝ }

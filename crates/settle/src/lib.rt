@@ -16,10 +16,10 @@ ghost use Rattle.settle.specs.RewriteCopies.{CopySlot, Wiring, Between};
 ghost use Rattle.settle.specs.Update.{Copies, Updated};
 ghost use Rattle.settle.specs.Settle.{Settling, Settled};
 ghost use Rattle.settle.specs.Final.{Settles};
-use crate::entries::cross;
 use crate::entries::filter_entries;
 use crate::rewrite::forward_ref;
 use layout::Kind;
+use remember::crossing::cross;
 use remember::entries::clear_entries;
 use rules::Sizes;
 

@@ -2,7 +2,8 @@
 use native.Mathlib.Omega.{arith}
 use Rattle.layout.specs.declared.Kind.the-variants.{Number}
 use Rattle.promises.specs.Questions.{did-answer}
-use Rattle.commands.specs.Ready.{placed}
+use Rattle.layout.specs.Words.{words}
+use Rattle.promises.specs.Reading.{whole-room}
 use Rattle.commands.specs.Objects.{names-cell, is-field, write-refused, write-done}
 use borrow.Author.Needs.{needs}
 use Rattle.commands.proofs.fields.write.Statement.{statement}
@@ -12,7 +13,7 @@ read-var-requires : tie.Need-read-var-requires
 read-var-requires c κs =
     let args = c .before .before .before .args in
     let pre = c .before .before .before .pre in
-    ((placed (args .p) (args .cells .now) (args .remember .now) (args .tables .now) (pre .0) (omega arith)), (pre .1 .0, pre .1 .1))
+    ((whole-room (args .p) (words (args .cells .now) (args .remember .now) (args .tables .now)) (pre .0) (omega arith)), (pre .1 .0, pre .1 .1))
 
 field-question-requires : tie.Need-field-question-requires
 field-question-requires c κs =

@@ -1,10 +1,13 @@
 -- A page is found, its first unused cell taken and written, and the variable names it.
 use native.Mathlib.Omega.{arith}
 use Prim.Native.Nat.{ℕ, _+_, _*_, _<_, _≤_}
-use mathlib.Core.Path.{ap, _∙_}
+use mathlib.Core.Path.{sym, ap, subst, _∙_}
 use lib.ListN.{length, set}
 use Rattle.promises.specs.Questions.{did-answer}
-use Rattle.commands.specs.Ready.{variableAt, placed, placed-still}
+use Rattle.layout.specs.Places.{Room}
+use Rattle.layout.specs.Words.{words}
+use Rattle.promises.specs.Reading.{whole-room}
+use Rattle.commands.specs.ThreadVariables.{variableAt}
 use Rattle.commands.specs.Making.{region-real, region-filled, can-take, cell-inside, new-refused, new-done}
 use borrow.Author.Needs.{needs}
 use Rattle.commands.proofs.new.new_object.Statement.{statement}
@@ -14,8 +17,8 @@ innermost-requires : tie.Need-innermost-requires
 innermost-requires c κs =
     let args = c .before .before .before .before .before .args in
     let pre = c .before .before .before .before .before .pre in (
-      (placed (args .p) (args .cells .now) (args .remember .now) (args .tables .now) (pre .0) (omega arith)) .room,
-      (pre .1 .1 .0, pre .0 .whole .placed .depths (args .t) (pre .1 .1 .0)),
+      (whole-room (args .p) (words (args .cells .now) (args .remember .now) (args .tables .now)) (pre .0) (omega arith)),
+      (pre .1 .1 .0, pre .0 .placed .depths (args .t) (pre .1 .1 .0)),
     )
 
 page-for-requires : tie.Need-page-for-requires
@@ -24,7 +27,7 @@ page-for-requires c κs =
     let pre = c .before .before .before .before .before .before .before .before .pre in
     let innermost = c .before .before .innermost in
     let real = region-real (args .p) (args .cells .now) (args .remember .now) (args .tables .now) (pre .0) (args .t) (pre .1 .1 .0) (innermost .result) (innermost .ensures) in (
-      placed (args .p) (args .cells .now) (args .remember .now) (args .tables .now) (pre .0) (omega arith) .room,
+      whole-room (args .p) (words (args .cells .now) (args .remember .now) (args .tables .now)) (pre .0) (omega arith),
       (
         pre .1 .0,
         (real .0, real .1, region-filled (args .p) (args .cells .now) (args .remember .now) (args .tables .now) (pre .0) (args .t) (pre .1 .1 .0) (innermost .result) (innermost .ensures)),
@@ -61,7 +64,7 @@ take-cell-requires c κs =
     let take =
     can-take (args .p) (args .cells .now) (args .remember .now) (args .tables .now) (pre .0) (args .t) (pre .1 .1 .0) (innermost .result) (innermost .ensures)
     (page .result) (page .ensures) (omega arith) in (
-      placed (args .p) (args .cells .now) (args .remember .now) (args .tables .now) (pre .0) (omega (arith, c .before .before .before .before .before .before .before .before .before .before .before .before .before .before .good .1 .1 .1 .0)) .room,
+      whole-room (args .p) (words (args .cells .now) (args .remember .now) (args .tables .now)) (pre .0) (omega (arith, c .before .before .before .before .before .before .before .before .before .before .before .before .before .before .good .1 .1 .1 .0)),
       ((omega arith, take .0), (real .0, real .1, take .1)),
     )
 
@@ -90,8 +93,8 @@ write-var-requires c κs =
     let pre = c .before .before .before .before .before .before .before .before .before .before .before .before .before .before .before .before .before .before .before .before .before .before .before .pre in
     let good = c .before .before .before .before .before .before .before .before .before .before .before .before .before .before .before .before .before .before .before .before .before .before .before .good in
     let take-cell = c .before .before .before .before .before .before .before .before .take-cell in (
-      placed-still (args .p) (take-cell .kept .1 .0)
-          (placed (args .p) (args .cells .now) (args .remember .now) (args .tables .now) (pre .0) (omega (arith, good .1 .1 .1 .0))),
+      subst (Room (args .p)) (sym (take-cell .kept .1 .0))
+          (whole-room (args .p) (words (args .cells .now) (args .remember .now) (args .tables .now)) (pre .0) (omega (arith, good .1 .1 .1 .0))),
       (pre .1 .1 .0, pre .1 .1 .1),
     )
 

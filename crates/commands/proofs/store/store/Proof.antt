@@ -3,7 +3,8 @@ use native.Mathlib.Omega.{arith}
 use mathlib.Core.Path.{_≡_, ap, _∙_}
 use Rattle.rules.specs.Terms.{refused}
 use Rattle.promises.specs.Questions.{did-answer}
-use Rattle.commands.specs.Ready.{placed}
+use Rattle.layout.specs.Words.{words}
+use Rattle.promises.specs.Reading.{whole-room}
 use Rattle.commands.specs.Objects.{names-cell}
 use Rattle.commands.specs.Storing.{storing, store-refused, store-did}
 use borrow.Author.Needs.{needs}
@@ -14,7 +15,7 @@ read-var-requires : tie.Need-read-var-requires
 read-var-requires c κs =
     let args = c .before .before .before .args in
     let pre = c .before .before .before .pre in
-    ((placed (args .p) (args .cells .now) (args .remember .now) (args .tables .now) (pre .0) (omega arith)), (pre .1 .0, pre .1 .1))
+    ((whole-room (args .p) (words (args .cells .now) (args .remember .now) (args .tables .now)) (pre .0) (omega arith)), (pre .1 .0, pre .1 .1))
 
 field-question-requires : tie.Need-field-question-requires
 field-question-requires c κs =
@@ -45,7 +46,7 @@ read-var-requires-2 : tie.Need-read-var-requires-2
 read-var-requires-2 c κs =
     let args = c .before .before .before .before .before .before .before .args in
     let pre = c .before .before .before .before .before .before .before .pre in
-    ((placed (args .p) (args .cells .now) (args .remember .now) (args .tables .now) (pre .0) (omega arith)), (pre .1 .0, pre .1 .2))
+    ((whole-room (args .p) (words (args .cells .now) (args .remember .now) (args .tables .now)) (pre .0) (omega arith)), (pre .1 .0, pre .1 .2))
 
 store-slot-requires : tie.Need-store-slot-requires
 store-slot-requires c κs =
@@ -55,7 +56,7 @@ store-slot-requires c κs =
     let field-question = c .before .before .before .before .field-question in
     storing (args .p) (args .cells .now) (args .remember .now) (args .tables .now) (pre .0) (args .t) (args .a) (pre .1 .0) (pre .1 .1)
     (read-var .result) (read-var .ensures) (args .c) (pre .1 .2) (args .f) (field-question .result) (field-question .ensures) (omega arith)
-    (omega arith)
+    (omega arith) (c .before .before .read-var2 .result) (c .before .before .read-var2 .ensures)
 
 refused-requires-2 : tie.Need-refused-requires-2
 refused-requires-2 c κs = search needs

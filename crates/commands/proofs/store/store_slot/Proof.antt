@@ -1,7 +1,10 @@
 -- The table follows first; where it has no room nothing is stored.
 use native.Mathlib.Omega.{arith}
-use mathlib.Core.Path.{ap, _∙_}
-use Rattle.commands.specs.Storing.{crossesFrom, Seen, cross-is, slot-few, slot-entry, stored-full, stored-done}
+use Prim.Native.Nat.{_-_}
+use mathlib.Core.Path.{sym, ap, subst, _∙_}
+use Rattle.layout.specs.Words.{Names}
+use Rattle.promises.specs.Slots.{crossesTo}
+use Rattle.commands.specs.Storing.{Seen, cross-is, slot-few, slot-entry, stored-full, stored-done}
 use borrow.Author.Needs.{needs}
 use Rattle.commands.proofs.store.store_slot.Statement.{statement}
 use Rattle.commands.proofs.store.store_slot.Tie as tie
@@ -12,40 +15,48 @@ cell-named-requires c κs = search needs
 page-of-requires : tie.Need-page-of-requires
 page-of-requires c κs = search needs
 
+owner-requires : tie.Need-owner-requires
+owner-requires c κs = search needs
+
 read-field-requires : tie.Need-read-field-requires
 read-field-requires c κs = search needs
 
-crosses-requires : tie.Need-crosses-requires
-crosses-requires c κs = search needs
+cross-requires : tie.Need-cross-requires
+cross-requires c κs =
+    let pre = c .before .before .before .before .before .before .before .before .pre in
+    (subst (Names (c .before .before .before .before .before .before .before .before .args .p)) (sym (c .read-field .ensures)) (pre .before), pre .room)
 
-crosses-requires-2 : tie.Need-crosses-requires-2
-crosses-requires-2 c κs = search needs
+cross-requires-2 : tie.Need-cross-requires-2
+cross-requires-2 c κs =
+    let pre = c .before .before .before .before .before .before .before .before .before .pre in
+    (pre .after, pre .room)
 
 field-position-requires : tie.Need-field-position-requires
 field-position-requires c κs = search needs
 
-seen : (c : tie.After-field-position) → (let a = c .before .before .before .before .before .before .before .before .before .before .before .args in
-    Seen (a .p) (a .cells .now) (a .tables .now) (a .x) (a .f) (a .v) (c .field-position .result) (c .before .before .before .crosses .result) (c .before .before .crosses2 .result))
+seen : (c : tie.After-field-position) → (let a = c .before .before .before .before .before .before .before .before .before .before .before .before .args in
+    Seen (a .p) (a .cells .now) (a .tables .now) (a .x) (a .f) (a .v) (c .field-position .result) (c .before .before .before .cross .result) (c .before .before .cross2 .result))
 seen c =
-    let a = c .before .before .before .before .before .before .before .before .before .before .before .args in
-    let cell = c .before .before .before .before .before .before .before .cell-named in
-    let page = c .before .before .before .before .before .before .page-of in
+    let a = c .before .before .before .before .before .before .before .before .before .before .before .before .args in
+    let cell = c .before .before .before .before .before .before .before .before .cell-named in
+    let page = c .before .before .before .before .before .before .before .page-of in
+    let owner = c .before .before .before .before .before .before .owner in
     let old = c .before .before .before .before .read-field in
     record {
       slot = c .field-position .ensures;
-      before = cross-is (a .p) (a .tables .now) (a .x) (old .result) (cell .result) (page .result) (cell .ensures) (page .ensures) (c .before .before .before .crosses .ensures) ∙ ap (crossesFrom (a .p) (a .tables .now) (a .x)) (old .ensures);
-      after = cross-is (a .p) (a .tables .now) (a .x) (a .v) (cell .result) (page .result) (cell .ensures) (page .ensures) (c .before .before .crosses2 .ensures);
+      before = cross-is (a .p) (a .tables .now) (a .x) (old .result) (cell .result) (page .result) (owner .result) (cell .ensures) (page .ensures) (owner .ensures) (c .before .before .before .cross .ensures) ∙ ap (crossesTo (a .p) (a .tables .now) (a .x - 1)) (old .ensures);
+      after = cross-is (a .p) (a .tables .now) (a .x) (a .v) (cell .result) (page .result) (owner .result) (cell .ensures) (page .ensures) (owner .ensures) (c .before .before .cross2 .ensures);
     }
 
 remember-slot-requires : tie.Need-remember-slot-requires
 remember-slot-requires c κs =
-    let args = c .before .before .before .before .before .before .before .before .before .before .before .before .args in
-    let pre = c .before .before .before .before .before .before .before .before .before .before .before .before .pre in
+    let args = c .before .before .before .before .before .before .before .before .before .before .before .before .before .args in
+    let pre = c .before .before .before .before .before .before .before .before .before .before .before .before .before .pre in
     let slot = seen (c .before) in (
       pre .long,
       (
         (
-          pre .room .entries-high,
+          omega (arith, pre .room .entries-high),
           pre .used,
           slot-few (args .p) (args .cells .now) (args .remember .now) (args .tables .now) (args .x) (args .f) (args .v) _ _ _ slot pre,
         ),
@@ -61,7 +72,7 @@ same-length-2 c = search needs
 
 returns : tie.Need-returns
 returns c =
-    let args = c .before .before .before .before .before .before .before .before .before .before .before .before .before .before .before .before .args in
+    let args = c .before .before .before .before .before .before .before .before .before .before .before .before .before .before .before .before .before .args in
     let remember-slot = c .before .before .before .remember-slot in
     stored-full (args .p) (args .cells .now) (args .remember .now) (args .tables .now) (args .x) (args .f) (args .v) _ _ _ (seen (c .before .before .before .before .before)) _
     (remember-slot .result) (remember-slot .ensures) (c .if1 .taken)
@@ -77,7 +88,7 @@ same-length-4 c = search needs
 
 returns-2 : tie.Need-returns-2
 returns-2 c =
-    let args = c .before .before .before .before .before .before .before .before .before .before .before .before .before .before .before .before .before .before .before .before .args in
+    let args = c .before .before .before .before .before .before .before .before .before .before .before .before .before .before .before .before .before .before .before .before .before .args in
     let remember-slot = c .before .before .before .before .before .before .before .remember-slot in
     stored-done (args .p) (args .cells .now) (args .remember .now) (args .tables .now) (args .x) (args .f) (args .v) _ _ _ (seen (c .before .before .before .before .before .before .before .before .before)) _
     (remember-slot .result) (remember-slot .ensures) (omega arith) (c .before .before .write-field .ensures)
@@ -88,9 +99,10 @@ store-slot-spec =
     (tie.spec
     cell-named-requires
     page-of-requires
+    owner-requires
     read-field-requires
-    crosses-requires
-    crosses-requires-2
+    cross-requires
+    cross-requires-2
     field-position-requires
     remember-slot-requires
     same-length

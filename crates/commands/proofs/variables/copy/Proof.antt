@@ -1,7 +1,8 @@
 -- A variable gets what another holds.
 use native.Mathlib.Omega.{arith}
 use Rattle.promises.specs.Questions.{did-answer}
-use Rattle.commands.specs.Ready.{placed}
+use Rattle.layout.specs.Words.{words}
+use Rattle.promises.specs.Reading.{whole-room}
 use Rattle.commands.specs.Variables.{copy-done}
 use borrow.Author.Needs.{needs}
 use Rattle.commands.proofs.variables.copy.Statement.{statement}
@@ -11,13 +12,13 @@ read-var-requires : tie.Need-read-var-requires
 read-var-requires c κs =
     let args = c .before .before .before .before .args in
     let pre = c .before .before .before .before .pre in
-    ((placed (args .p) (args .cells .now) (args .remember .now) (args .tables .now) (pre .0) (omega arith)), (pre .1 .3, pre .1 .2))
+    ((whole-room (args .p) (words (args .cells .now) (args .remember .now) (args .tables .now)) (pre .0) (omega arith)), (pre .1 .3, pre .1 .2))
 
 write-var-requires : tie.Need-write-var-requires
 write-var-requires c κs =
     let args = c .before .before .before .before .before .before .args in
     let pre = c .before .before .before .before .before .before .pre in
-    ((placed (args .p) (args .cells .now) (args .remember .now) (args .tables .now) (pre .0) (omega arith)), (pre .1 .0, pre .1 .1))
+    ((whole-room (args .p) (words (args .cells .now) (args .remember .now) (args .tables .now)) (pre .0) (omega arith)), (pre .1 .0, pre .1 .1))
 
 done-requires : tie.Need-done-requires
 done-requires c κs = search needs

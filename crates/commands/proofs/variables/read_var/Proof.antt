@@ -1,7 +1,7 @@
 -- A variable is read at the place of its number.
 use native.Mathlib.Omega.{arith}
 use Rattle.layout.specs.Places.{var-low}
-use Rattle.commands.specs.Ready.{read-place}
+use Rattle.commands.specs.ThreadVariables.{read-place}
 use borrow.Author.Needs.{needs}
 use Rattle.commands.proofs.variables.read_var.Statement.{statement}
 use Rattle.commands.proofs.variables.read_var.Tie as tie
@@ -14,7 +14,7 @@ var-requires c κs =
     let pre = c .before .before .pre in
     let args = c .before .before .args in
     let var-number = c .var-number in
-    (pre .0 .room, omega (arith, var-number .ensures, var-low (args .p) (args .t) (args .a) (pre .1 .0) (pre .1 .1)))
+    (pre .0, omega (arith, var-number .ensures, var-low (args .p) (args .t) (args .a) (pre .1 .0) (pre .1 .1)))
 
 returns : tie.Need-returns
 returns c =

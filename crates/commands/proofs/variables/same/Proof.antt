@@ -2,7 +2,8 @@
 use native.Mathlib.Omega.{arith}
 use mathlib.Core.Path.{sym, ap}
 use Rattle.promises.specs.Questions.{did-answer}
-use Rattle.commands.specs.Ready.{placed}
+use Rattle.layout.specs.Words.{words}
+use Rattle.promises.specs.Reading.{whole-room}
 use Rattle.lists.specs.Counting.{bit}
 use borrow.Author.Tests.{eq-eqb, ne-eqb}
 use Rattle.commands.specs.Variables.{same-done}
@@ -14,13 +15,13 @@ read-var-requires : tie.Need-read-var-requires
 read-var-requires c κs =
     let args = c .before .before .before .args in
     let pre = c .before .before .before .pre in
-    ((placed (args .p) (args .cells .now) (args .remember .now) (args .tables .now) (pre .0) (omega arith)), (pre .1 .0, pre .1 .1))
+    ((whole-room (args .p) (words (args .cells .now) (args .remember .now) (args .tables .now)) (pre .0) (omega arith)), (pre .1 .0, pre .1 .1))
 
 read-var-requires-2 : tie.Need-read-var-requires-2
 read-var-requires-2 c κs =
     let args = c .before .before .before .before .args in
     let pre = c .before .before .before .before .pre in
-    ((placed (args .p) (args .cells .now) (args .remember .now) (args .tables .now) (pre .0) (omega arith)), (pre .1 .0, pre .1 .2))
+    ((whole-room (args .p) (words (args .cells .now) (args .remember .now) (args .tables .now)) (pre .0) (omega arith)), (pre .1 .0, pre .1 .2))
 
 done-requires : tie.Need-done-requires
 done-requires c κs = search needs

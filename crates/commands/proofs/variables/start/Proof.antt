@@ -1,7 +1,8 @@
 -- The depth rises by one, if it is below D.
 use native.Mathlib.Omega.{arith}
 use Rattle.promises.specs.Questions.{did-answer}
-use Rattle.commands.specs.Ready.{placed}
+use Rattle.layout.specs.Words.{words}
+use Rattle.promises.specs.Reading.{whole-room}
 use Rattle.commands.specs.Variables.{start-refused, start-done}
 use borrow.Author.Needs.{needs}
 use Rattle.commands.proofs.variables.start.Statement.{statement}
@@ -11,7 +12,7 @@ depth-requires : tie.Need-depth-requires
 depth-requires c κs =
     let args = c .before .before .before .before .args in
     let pre = c .before .before .before .before .pre in
-    ((placed (args .p) (args .cells .now) (args .remember .now) (args .tables .now) (pre .0) (omega arith)) .room, pre .1)
+    ((whole-room (args .p) (words (args .cells .now) (args .remember .now) (args .tables .now)) (pre .0) (omega arith)), pre .1)
 
 wide-requires : tie.Need-wide-requires
 wide-requires c κs = search needs
@@ -37,13 +38,13 @@ add-set-depth c =
     let args = c .before .before .before .before .before .before .before .before .before .args in
     let pre = c .before .before .before .before .before .before .before .before .before .pre in
     let wide = c .before .before .before .wide in
-    omega (arith, wide .ensures, (placed (args .p) (args .cells .now) (args .remember .now) (args .tables .now) (pre .0) (omega arith)) .room)
+    omega (arith, wide .ensures, (whole-room (args .p) (words (args .cells .now) (args .remember .now) (args .tables .now)) (pre .0) (omega arith)))
 
 set-depth-requires : tie.Need-set-depth-requires
 set-depth-requires c κs =
     let args = c .before .before .before .before .before .before .before .before .before .args in
     let pre = c .before .before .before .before .before .before .before .before .before .pre in
-    ((placed (args .p) (args .cells .now) (args .remember .now) (args .tables .now) (pre .0) (omega arith)) .room, pre .1)
+    ((whole-room (args .p) (words (args .cells .now) (args .remember .now) (args .tables .now)) (pre .0) (omega arith)), pre .1)
 
 done-requires : tie.Need-done-requires
 done-requires c κs = search needs

@@ -1,7 +1,7 @@
 -- A variable is written at the place of its number.
 use native.Mathlib.Omega.{arith}
 use Rattle.layout.specs.Places.{var-low}
-use Rattle.commands.specs.Ready.{write-place}
+use Rattle.commands.specs.ThreadVariables.{write-place}
 use borrow.Author.Needs.{needs}
 use Rattle.commands.proofs.variables.write_var.Statement.{statement}
 use Rattle.commands.proofs.variables.write_var.Tie as tie
@@ -14,7 +14,7 @@ set-var-requires c κs =
     let pre = c .before .before .before .pre in
     let args = c .before .before .before .args in
     let var-number = c .before .var-number in
-    (pre .0 .room, omega (arith, var-number .ensures, var-low (args .p) (args .t) (args .a) (pre .1 .0) (pre .1 .1)))
+    (pre .0, omega (arith, var-number .ensures, var-low (args .p) (args .t) (args .a) (pre .1 .0) (pre .1 .1)))
 
 same-length : tie.Need-same-length
 same-length c = search needs

@@ -7,7 +7,8 @@ use mathlib.Core.List.{List}
 use mathlib.Core.Path.{_≡_, sym, ap, _∙_}
 use Rattle.rules.specs.declared.Sizes.{Sizes}
 use Rattle.layout.specs.Places.{ownerOf}
-use Rattle.settle.specs.Entries.{crossOf, new-gone, new-stays, new-moved}
+use Rattle.remember.specs.Crossing.{crossesFrom}
+use Rattle.settle.specs.Entries.{new-gone, new-stays, new-moved}
 use Rattle.settle.proofs.entries.new_region.Statement.{statement}
 use Rattle.settle.proofs.entries.new_region.Tie as tie
 
@@ -52,7 +53,7 @@ returns-3 c =
     let owner = c .before .before .before .before .owner in
     let a = c .before .before .before .before .before .before .before .before .args in
     let e = home (a .p) (a .tables .now) (a .at) (owner .result) (page-at .result) (page-at .ensures) (owner .ensures) in
-    c .cross .ensures ∙ ap (λ (y : ℕ). crossOf (a .p) (a .tables .now) y (getD (a .cells .now) (a .at) 0)) (sym e)
+    c .cross .ensures ∙ ap (λ (y : ℕ). crossesFrom (a .p) (a .tables .now) y (getD (a .cells .now) (a .at) 0)) (sym e)
     ∙ new-moved _ _ _ _ _ _ (λ z. c .before .before .before .if1 .left (sym e ∙ z)) (c .before .before .if2 .left)
 
 pub new-region-spec : {M : Type 1} → statement M
