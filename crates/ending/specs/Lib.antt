@@ -2,3 +2,4 @@
 pub mod MarkedWords
 pub mod Placing
 pub mod Rewriting
+pub mod Crossing
