@@ -3,3 +3,5 @@ pub mod MarkedWords
 pub mod Placing
 pub mod Rewriting
 pub mod Crossing
+pub mod CrossingPositions
+pub mod Space

@@ -3,7 +3,6 @@ pub mod MarkedReady
 pub mod PagesEnough
 pub mod EntriesListed
 pub mod Starting
-pub mod CrossingPositions
 pub mod CameFrom
 pub mod SpaceEnough
 pub mod MayEvacuate
