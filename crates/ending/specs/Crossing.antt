@@ -30,7 +30,7 @@ use Rattle.settle.specs.Update.{Copies, Entry}
 use Rattle.settle.specs.RewriteCopies.{slot-now, slot-then}
 use Rattle.ending.specs.MarkedWords.{owner-same, now-used}
 use Rattle.ending.specs.Placing.{Sends, placed, outside-placed, outside-owner, survivor-placed, survivor-owner, placed-used, placed-out, placed-head, placed-apart}
-use Rattle.ending.specs.Rewriting.{HoldingSlots, fields-apart, copy-survivor, survivor-copy, outside-no-copy, slot-after, head-after}
+use Rattle.ending.specs.Rewriting.{HoldingSlots, fields-apart, copy-survivor, survivor-copy, slot-after, head-after}
 
 -- ---- a slot as a field of its object
 

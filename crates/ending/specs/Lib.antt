@@ -5,3 +5,7 @@ pub mod Rewriting
 pub mod Crossing
 pub mod CrossingPositions
 pub mod Space
+pub mod MarkedReady
+pub mod PagesEnough
+pub mod CensusCounts
+pub mod Stages

@@ -12,7 +12,7 @@ use Rattle.laws.specs.SameRules.{renamed}
 use Rattle.layout.specs.declared.Kind.the-variants.{Reference}
 use Rattle.layout.specs.Places.{Room}
 use Rattle.layout.specs.Cells.{headAt, fieldAt, headOf, workOf, fieldOf, refsOf, fieldCount, pageOf, mostFields, kind-among}
-use Rattle.layout.specs.Words.{Words, InUse, headIn, refCount, cellCount}
+use Rattle.layout.specs.Words.{Words, Used, headIn, refCount, cellCount}
 use Rattle.promises.specs.Whole.{WholeFor}
 use Rattle.promises.specs.Reading.{refs-few}
 use Rattle.promises.specs.Ends.{Part, Outside, Survivor, Lives, outside-lives, survivor-lives, lives-how}
@@ -21,7 +21,7 @@ use Rattle.copy.specs.Forward.{Forwards, forward}
 use Rattle.settle.specs.Rewrite.{forwarded, forward-null, forward-still, Rewritten, head-same, link-same}
 use Rattle.settle.specs.Update.{Copies}
 use Rattle.ending.specs.MarkedWords.{now-used}
-use Rattle.ending.specs.Placing.{Sends, placed, forwarded-placed, outside-idle, outside-placed, survivor-forward, survivor-placed, placed-used, placed-head, placed-field, placed-work, placed-apart, moved-survivor}
+use Rattle.ending.specs.Placing.{Sends, placed, forwarded-placed, outside-idle, outside-placed, survivor-forward, survivor-placed, survivor-fresh, placed-used, placed-head, placed-field, placed-work, placed-apart, moved-survivor}
 
 -- fields of different objects stand apart
 pub fields-apart : (c d f g : ℕ) → f < mostFields → g < mostFields → fieldAt c f ≡ fieldAt d g → (c ≡ d) × (f ≡ g)
@@ -90,14 +90,13 @@ module _ {s : Sizes} {w w₁ : Words} {e : Part} (whole : WholeFor s w) (sends :
         };
       }
 
-  -- no slot of a copy is a field of an object outside the part
-  pub outside-no-copy : (c f : ℕ) → Outside s w e c → f < mostFields → Copies s W T (fieldAt c f) → ⊥
-  outside-no-copy c f o l q =
+  -- no slot of a copy is a field of an object that was there before
+  pub old-no-copy : (c f : ℕ) → Used s w c → f < mostFields → Copies s W T (fieldAt c f) → ⊥
+  old-no-copy c f u l q =
       let k = copy-survivor (fieldAt c f) q in
       let v = k .survivor in
       let z = fields-apart c (placed W (k .object)) f (k .field) l (few (k .object) (k .field) (survivor-lives v) (k .low)) (k .at) in
-      let y : c ≡ k .object = placed-apart whole sends m rm F c (k .object) (outside-lives o) (survivor-lives v) (outside-placed whole sends m rm F c o ∙ z .0) in
-      o .out (subst (λ (x : ℕ). e .ends (pageOf x)) (sym y) (v .within))
+      survivor-fresh whole sends m rm F (k .object) v (subst (Used s w) (z .0 ∙ survivor-placed whole sends m rm F (k .object) v) u)
 
   -- ---- after the rewriting
 
@@ -127,7 +126,7 @@ module _ {s : Sizes} {w w₁ : Words} {e : Part} (whole : WholeFor s w) (sends :
         before = ap (λ (d : ℕ). fieldOf W d f) (sym (outside-placed whole sends m rm F c o)) ∙ placed-field whole sends m rm F c (outside-lives o) f low
 
         no-copy : Copies s W T (fieldAt c f) → ⊥
-        no-copy = outside-no-copy c f o low
+        no-copy = old-no-copy c f (o .used) low
 
         go : (v : ℕ) → fieldOf (w .cells) c f ≡ v → fieldOf W′ c f ≡ forwarded W v
         go zero z = unmoved (fieldAt c f) zero (before ∙ z) (forward-null W zero refl) no-copy
