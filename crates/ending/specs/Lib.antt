@@ -9,3 +9,4 @@ pub mod MarkedReady
 pub mod PagesEnough
 pub mod CensusCounts
 pub mod Stages
+pub mod Finish

@@ -259,3 +259,55 @@ module _ {s : Sizes} {t k r : ℕ} {w w₁ : Words} (b : Begun s t k r w w₁) w
           old = λ i l q. entry-no-copy i l (slot-then R₂ (slotIn (w .remember) i) q);
           updating = λ W₃ R₃. update-ask entries (rewritten-both R₂ R₃);
         }
+
+    -- ---- the listed pages, which are those of r
+
+    -- no survivor was copied off another page
+    pub marks-ask : {n : ℕ} {l : List ℕ} → Lists (λ page. ownerOf s (w₁ .tables) page ≡ r) (s .pages) n l
+        → (page : ℕ) → page < s .pages → Off l n page → markOf s T page ≡ 0
+    marks-ask h page low off = copy-marks p c page low (unlisted h page low off)
+
+    -- no copy went to a page of r
+    pub page-was : (page : ℕ) → page < s .pages → ownerOf s T page ≡ r → ownerIn s w page ≡ r
+    page-was page l e =
+        ⊎-elim (λ u. sym (owner-same (b .marks) (b .room) page l) ∙ ap (ownerOf s (w₁ .tables)) (sym here) ∙ sym (F .copying .owner (cellOn page 0) u) ∙ ap (ownerOf s T) here ∙ e)
+        (λ q.
+        let v = marked-survivor (b .marks) (q .0) (q .1) (q .2) in
+        absurd (away (q .0) v (sym (survivor-owner (b .whole) sends (b .marks) (b .room) F (q .0) v) ∙ ap (λ (x : ℕ). ownerOf s T (pageOf x)) (q .3) ∙ ap (ownerOf s T) here ∙ e)))
+        (F .only (cellOn page 0) first)
+      where
+        here : pageOf (cellOn page 0) ≡ page
+        here = omega arith
+
+        first : InUse s T (cellOn page 0)
+        first = record { page = omega arith; place = omega (arith, ready .regular .taken page l (λ z. omega (arith, high, e)), ap (usedOf s T) here) }
+
+    module _ {W₃ T₂ : List ℕ} (v : Variables s (s .threads * s .variables) W₃ T T₂) where
+      pub owner-after : (page : ℕ) → page < s .pages → ownerOf s T₂ page ≡ ownerOf s T page
+      owner-after page l = v .same (ownerAt s page) (λ z. omega (arith, tables-ask))
+
+      -- copies and variables leave them to r
+      pub pages-ask : {n : ℕ} {l : List ℕ} → Lists (λ page. ownerOf s (w₁ .tables) page ≡ r) (s .pages) n l → Lists (λ page. ownerOf s T₂ page ≡ r) (s .pages) n l
+      pages-ask {l = l} h =
+          record {
+            rises = h .rises;
+            each = λ i m.
+                let q = h .rises .low i m in
+                owner-after (getD l i 0) q ∙ page-kept high (b .whole) sends (b .marks) (b .room) F (getD l i 0) q (sym (owner-same (b .marks) (b .room) (getD l i 0) q) ∙ h .each i m);
+            all = λ page m e. h .all page m (owner-same (b .marks) (b .room) page m ∙ page-was page m (sym (owner-after page m) ∙ e));
+          }
+
+      pub release-ask : Room s (length T₂) × (depthOf T₂ t ≡ suc k)
+      release-ask = (
+        subst (Room s) (sym (v .size)) tables-ask,
+        v .same (depthAt t) (λ z. omega arith) ∙ F .copying .rest (depthAt t) (inl (omega (arith, b .thread, b .room))) ∙ depth-same (b .marks) (b .room) t (b .thread) ∙ b .deep,
+      )
+
+    -- ---- the variables
+
+    pub variable-same : (i : ℕ) → i < s .threads * s .variables → varOf s T i ≡ varOf s (w .tables) i
+    variable-same i l = F .copying .rest (varAt s i) (inl (omega (arith, b .room))) ∙ var-same (b .marks) (b .room) i l
+
+    pub variables-ask : (i : ℕ) → i < s .threads * s .variables → Names s (varOf s T i)
+    variables-ask i l =
+        subst (Names s) (sym (variable-same i l)) (λ n. sends .variables i (cellNamed (varOf s (w .tables) i)) l (omega arith) .used .page)
