@@ -10,3 +10,5 @@ pub mod PagesEnough
 pub mod CensusCounts
 pub mod Stages
 pub mod Finish
+pub mod Ending
+pub mod NoSurvivors

@@ -50,11 +50,6 @@ pub record Begun (s : Sizes) (t k r : ℕ) (w w₁ : Words) : Type 0 where
   pub region : r ≡ regionAt s t (suc k)
   pub marks : Marked s w (partOf s w r) w₁
 
--- there are pages and entries for it
-pub record Accepted (s : Sizes) (t k : ℕ) (w : Words) : Type 0 where
-  pub pages : pagesNeeded s w t k ≤ pagesOwned s w 0
-  pub entries : crossingAfter s w t k ≤ s .entries
-
 module _ {s : Sizes} {t k r : ℕ} {w w₁ : Words} (b : Begun s t k r w w₁) where
   pub high : 1 < r
   high = omega (arith, b .region, region-high s t k)
