@@ -31,7 +31,7 @@ module _ (s : Sizes) (w : Words) (t k : ℕ) (w′ : Words) (forward : ℕ → �
       cell = cellOn page 0
 
       was : Used s w cell
-      was = first-used s w page l (whole .placed .pages page l) (omega (arith, own, region-pos s t (suc k)))
+      was = first-used s w page l (whole .pages page l) (omega (arith, own, region-pos s t (suc k)))
 
       -- no cell of the page is in use afterwards
       unused : Outside s w r cell ⊎ ((b : ℕ) × Survivor s w r b × (forward b ≡ cell)) → ⊥

@@ -97,7 +97,7 @@ module _ (s : Sizes) (w : Words) (t k : ℕ) (w′ : Words) (forward : ℕ → �
 
   nums-after : (c : ℕ) → There c → numsIn w′ (cell c) ≡ numsIn w c
   nums-after c a =
-      let f = whole .placed .formed c (was-there s w whole r pos c a) .head in
+      let f = whole .objects c (was-there s w whole r pos c a) .head in
       fields-after Number (λ x. x) refl c a (λ i l. in-cell s w t k w′ forward whole deep e c a .object .others (refCount w c + i) (omega arith) (omega arith))
       ∙ map-id (numsIn w c)
 

@@ -4,19 +4,18 @@ use native.Mathlib.Omega.{arith}
 use native.Mathlib.Decide.{ℕ-discrete}
 use mathlib.Core.Path.{_≡_, refl, sym, ap, subst, _∙_}
 use mathlib.Core.Logic.{_⊎_, inl, inr}
-use lib.ListN.{length}
 use Rattle.rules.specs.declared.Sizes.{Sizes}
-use Rattle.rules.specs.Terms.{InRange}
 use Rattle.rules.specs.Regions.{regionAt}
 use Rattle.rules.specs.Graph.{ended}
 use Rattle.laws.specs.GraphLaws.{Alive}
 use Rattle.laws.specs.EndLaws.{closed-ended}
 use Rattle.laws.specs.RulesLaws.{region-pos}
 use Rattle.laws.specs.SameRules.{renamed}
-use Rattle.layout.specs.Places.{sizesAt, cellsWords, rememberWords, tablesWords, depthOf, varOf}
-use Rattle.layout.specs.Cells.{headOf, fieldOf, workOf}
+use Rattle.layout.specs.Places.{depthOf, varOf}
+use Rattle.layout.specs.Cells.{headOf, fieldOf, workOf, allFields, Formed, kind-among}
+use Rattle.layout.specs.declared.Kind.the-variants.{Reference}
 use Rattle.layout.specs.Words.{Words, Used, depthIn, refCount, graphOf}
-use Rattle.promises.specs.Whole.{SizesWhole, WholeFor, CellFormed, IsRef}
+use Rattle.promises.specs.Whole.{Sized, WholeFor, ObjectWhole, IsRef}
 use Rattle.promises.specs.Reading.{words-closed, getD-vars}
 use Rattle.ended.specs.Evacuated.{Outside, Survivor, Evacuated}
 use Rattle.ended.specs.InCells.{InCell, was-there, reference-there, object-in-cell, reference-in-cell}
@@ -59,7 +58,7 @@ module _ (s : Sizes) (w : Words) (t k : ℕ) (w′ : Words) (forward : ℕ → �
   reference-after = reference-in-cell s w whole r pos forward w′ (e .stayed) (e .went)
 
   pub variable-after : (i : ℕ) → i < s .threads * s .variables → varOf s (w′ .tables) i ≡ renamed cell (varOf s (w .tables) i)
-  variable-after i l = e .variables i l ∙ rewritten-is s w whole r pos forward (varOf s (w .tables) i) (whole .placed .variables i l)
+  variable-after i l = e .variables i l ∙ rewritten-is s w whole r pos forward (varOf s (w .tables) i) (whole .variables i l)
 
   -- what they name is there
   variable-there : (i : ℕ) → i < s .threads * s .variables → (y : ℕ) → varOf s (w .tables) i ≡ suc y → There y
@@ -68,45 +67,24 @@ module _ (s : Sizes) (w : Words) (t k : ℕ) (w′ : Words) (forward : ℕ → �
 
   -- ---- whole
 
-  sized : sizesAt (w′ .tables) ≡ s
+  sized : Sized s w′
   sized =
-      (λ i. record { threads = e .sizes 0 (omega arith) i; variables = e .sizes 1 (omega arith) i; depth = e .sizes 2 (omega arith) i; pages = e .sizes 3 (omega arith) i; entries = e .sizes 4 (omega arith) i })
-      ∙ whole .sized
-
-  same-sizes : sizesAt (w .tables) ≡ sizesAt (w′ .tables)
-  same-sizes = whole .sized ∙ sym sized
-
-  sizes-whole : SizesWhole (w′ .cells) (w′ .remember) (w′ .tables)
-  sizes-whole =
-      let z = whole .sizes in
+      let z = whole .sized in
       record {
-        sized = omega (arith, z .sized, e .beyond .tables .long);
-        counted = omega (arith, z .counted, e .beyond .remember .long);
-        range = subst InRange same-sizes (z .range);
-        same = e .entries ∙ z .same ∙ sym (e .sizes 4 (omega arith));
-        cells = subst (λ (q : Sizes). cellsWords q ≤ length (w′ .cells)) same-sizes (omega (arith, z .cells, e .beyond .cells .long));
-        remember = subst (λ (q : Sizes). rememberWords q ≤ length (w′ .remember)) same-sizes (omega (arith, z .remember, e .beyond .remember .long));
-        tables = subst (λ (q : Sizes). tablesWords q ≤ length (w′ .tables)) same-sizes (omega (arith, z .tables, e .beyond .tables .long));
+        sizes = (λ i. record { threads = e .sizes 0 (omega arith) i; variables = e .sizes 1 (omega arith) i; depth = e .sizes 2 (omega arith) i; pages = e .sizes 3 (omega arith) i; entries = e .sizes 4 (omega arith) i }) ∙ z .sizes;
+        range = z .range;
+        same = e .entries ∙ z .same;
+        cells = omega (arith, z .cells, e .beyond .cells .long);
+        remember = omega (arith, z .remember, e .beyond .remember .long);
+        tables = omega (arith, z .tables, e .beyond .tables .long);
       }
 
   depths-low : (u : ℕ) → u < s .threads → depthOf (w′ .tables) u ≤ s .depth
   depths-low u l = go (ℕ-discrete u t)
     where
       go : Dec (u ≡ t) → depthOf (w′ .tables) u ≤ s .depth
-      go (yes q) = omega (arith, ap (depthOf (w′ .tables)) q, ap (depthOf (w .tables)) q, e .depth, deep, whole .placed .depths u l)
-      go (no n) = omega (arith, e .depths u l n, whole .placed .depths u l)
-
-  -- an object's cell has the form of its old one
-  formed-in : (b : ℕ) → There b → CellFormed (w′ .cells) (cell b)
-  formed-in b a =
-      let o = in-cell b a .object in
-      let f = whole .placed .formed b (was-there s w whole r pos b a) in
-      record {
-        head = subst (λ (n : ℕ). n / 16 + n % 16 ≤ 14) (sym (o .head)) (f .head);
-        rest = λ i l m.
-            let m′ : headOf (w .cells) b / 16 + headOf (w .cells) b % 16 ≤ i = subst (λ (n : ℕ). n / 16 + n % 16 ≤ i) (o .head) m in
-            o .others i (omega arith) l ∙ f .rest i l m′;
-      }
+      go (yes q) = omega (arith, ap (depthOf (w′ .tables)) q, ap (depthOf (w .tables)) q, e .depth, deep, whole .depths u l)
+      go (no n) = omega (arith, e .depths u l n, whole .depths u l)
 
   references-in : (b : ℕ) → There b → (f : ℕ) → f < headOf (w′ .cells) (cell b) / 16 → IsRef s (w′ .tables) (fieldOf (w′ .cells) (cell b) f)
   references-in b a f l =
@@ -114,23 +92,31 @@ module _ (s : Sizes) (w : Words) (t k : ℕ) (w′ : Words) (forward : ℕ → �
       subst (IsRef s (w′ .tables)) (sym (reference-after b a f l′))
       (ref-alive s w′ cell (fieldOf (w .cells) b f) (λ y q. in-cell y (reference-there s w whole r pos b a f l′ y q) .used))
 
+  -- an object's cell has the form of its old one
+  object-in : (b : ℕ) → There b → ObjectWhole s (w′ .cells) (w′ .tables) (cell b)
+  object-in b a =
+      let o = in-cell b a .object in
+      let f = whole .objects b (was-there s w whole r pos b a) in
+      record {
+        head = subst Formed (sym (o .head)) (f .head);
+        rest = λ i l m.
+            let m′ : allFields (headOf (w .cells) b) ≤ i = subst (λ (n : ℕ). allFields n ≤ i) (o .head) m in
+            o .others i (omega (arith, kind-among Reference (headOf (w .cells) b))) l ∙ f .rest i l m′;
+        references = references-in b a;
+      }
+
   pub evacuated-whole : WholeFor s w′
   evacuated-whole =
       record {
         sized = sized;
-        sizes = sizes-whole;
-        placed = record {
-          depths = depths-low;
-          pages = e .pages;
-          partial = e .partial;
-          counts = e .counts;
-          variables = λ i l. subst (IsRef s (w′ .tables)) (sym (variable-after i l))
-              (ref-alive s w′ cell (varOf s (w .tables) i) (λ y q. in-cell y (variable-there i l y q) .used));
-          references = λ c u. let b = from-cell c u in
-              subst (λ (x : ℕ). (f : ℕ) → f < headOf (w′ .cells) x / 16 → IsRef s (w′ .tables) (fieldOf (w′ .cells) x f)) (b .2) (references-in (b .0) (b .1));
-          formed = λ c u. let b = from-cell c u in subst (CellFormed (w′ .cells)) (b .2) (formed-in (b .0) (b .1));
-          marks = e .marks;
-          working = λ c u. let b = from-cell c u in ap (workOf (w′ .cells)) (sym (b .2)) ∙ in-cell (b .0) (b .1) .object .working;
-          remember = e .remember;
-        };
+        depths = depths-low;
+        pages = e .pages;
+        partial = e .partial;
+        counts = e .counts;
+        variables = λ i l. subst (IsRef s (w′ .tables)) (sym (variable-after i l))
+            (ref-alive s w′ cell (varOf s (w .tables) i) (λ y q. in-cell y (variable-there i l y q) .used));
+        objects = λ c u. let b = from-cell c u in subst (ObjectWhole s (w′ .cells) (w′ .tables)) (b .2) (object-in (b .0) (b .1));
+        marks = e .marks;
+        works = λ c u. let b = from-cell c u in ap (workOf (w′ .cells)) (sym (b .2)) ∙ in-cell (b .0) (b .1) .object .working;
+        remember = e .remember;
       }

@@ -63,4 +63,4 @@ module _ (s : Sizes) (w : Words) (whole : WholeFor s w) (r : ℕ) (pos : 0 < r) 
     pub reference-in-cell : (c : ℕ) → There c → (f : ℕ) → f < refCount w c
         → fieldOf (w′ .cells) (cellAfter s w r forward c) f ≡ renamed (cellAfter s w r forward) (fieldOf (w .cells) c f)
     reference-in-cell c a f l =
-        object-in-cell c a .object .references f l ∙ rewritten-is s w whole r pos forward (fieldOf (w .cells) c f) (whole .placed .references c (was-there c a) f l)
+        object-in-cell c a .object .references f l ∙ rewritten-is s w whole r pos forward (fieldOf (w .cells) c f) (whole .objects c (was-there c a) .references f l)

@@ -96,7 +96,7 @@ module _ {p : Sizes} {t : ℕ} {w w₁ : Words} (m : Ending p t w w₁) where
   depth-now = kept .tables (depthAt t) (inl (omega (arith, room-now, m .thread))) ∙ deep
 
   pub depth-high : depthOf (w₁ .tables) t ≤ p .depth
-  depth-high = omega (arith, depth-now, deep, m .whole .placed .depths t (m .thread))
+  depth-high = omega (arith, depth-now, deep, m .whole .depths t (m .thread))
 
   pub depth-open : 1 ≤ depthOf (w₁ .tables) t
   depth-open = omega (arith, depth-now)
@@ -229,7 +229,7 @@ module _ {p : Sizes} {t : ℕ} {w w₁ : Words} (m : Ending p t w w₁) where
     pub free-way : 0 ≡ roomAsked p (w₁ .cells) (w₁ .remember) (w₁ .tables) t (depthOf (w₁ .tables) t)
     free-way =
         asked-none p (w₁ .cells) (w₁ .remember) (w₁ .tables) t (depthOf (w₁ .tables) t) refl refl refl refl
-        (omega (arith, no-pages)) (omega (arith, crosses, m .whole .placed .remember .entries .room, ap usedIn (marks .remember)))
+        (omega (arith, no-pages)) (omega (arith, crosses, m .whole .remember .entries .room, ap usedIn (marks .remember)))
       where
         no-pages : needsBelow p (w₁ .cells) (w₁ .tables) t (depthOf (w₁ .tables) t) ≡ 0
         no-pages =

@@ -47,7 +47,7 @@ module _ (s : Sizes) (w : Words) (k : WholeFor s w) (space : Room s (length (w .
   slot-ref : (x : ℕ) → Slot s (w .cells) (w .tables) x → IsRef s (w .tables) (getD (w .cells) x 0)
   slot-ref x o =
       let f = slot-field s (w .cells) (w .tables) x o in
-      subst (λ (q : ℕ). IsRef s (w .tables) (getD (w .cells) q 0)) (f .0) (k .placed .references (cellOf x) (o .used) (wordOf x - 2) (f .1))
+      subst (λ (q : ℕ). IsRef s (w .tables) (getD (w .cells) q 0)) (f .0) (k .objects (cellOf x) (o .used) .references (wordOf x - 2) (f .1))
 
   -- what the evacuation reads is what the whole check reads
   pub cross-same : (x : ℕ) → Slot s (w .cells) (w .tables) x → crossAt s (w₁ .cells) (w₁ .tables) x ≡ crossTo s (w .cells) (w .tables) x
@@ -62,8 +62,8 @@ module _ (s : Sizes) (w : Words) (k : WholeFor s w) (space : Room s (length (w .
   listed =
       record {
         slots = λ i l. slot-now (slotIn (w .remember) i) (entry-slot s w k i l);
-        right = λ i l. sym (k .placed .remember .entries .named i l .right) ∙ sym (cross-same (slotIn (w .remember) i) (entry-slot s w k i l));
-        real = λ i l z. omega (arith, k .placed .remember .entries .named i l .region);
+        right = λ i l. sym (k .remember .entries .named i l .right) ∙ sym (cross-same (slotIn (w .remember) i) (entry-slot s w k i l));
+        real = λ i l z. omega (arith, k .remember .entries .named i l .region);
         every = λ x o ne. every x (slot-then x o) ne;
       }
     where
@@ -71,4 +71,4 @@ module _ (s : Sizes) (w : Words) (k : WholeFor s w) (space : Room s (length (w .
           → (i : ℕ) × (i < usedIn (w .remember)) × (slotIn (w .remember) i ≡ x)
       every x o ne =
           let e = cross-same x o in
-          k .placed .remember .every x (slot-low s (w .cells) (w .tables) x o) (pos-of-ne-zero (λ z. ne (e ∙ z)))
+          k .remember .every x (slot-low s (w .cells) (w .tables) x o) (pos-of-ne-zero (λ z. ne (e ∙ z)))

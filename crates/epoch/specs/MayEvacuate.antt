@@ -29,11 +29,11 @@ module _ (s : Sizes) (w : Words) (k : WholeFor s w) (space : Room s (length (w .
         plan = plan s w k space t j th deep w₁ M pages;
         start = start s w k space t j th deep w₁ M;
         listed = listed s w k space (regionAt s t (suc j)) w₁ M;
-        once = k .placed .remember .entries .once;
-        few = k .placed .remember .entries .room;
+        once = k .remember .entries .once;
+        few = k .remember .entries .room;
         small = space .entries-high;
         long = omega (arith, remember-room s w k);
-        rest = k .placed .remember .entries .rest;
+        rest = k .remember .entries .rest;
         variables = variables s w k space (regionAt s t (suc j)) (region-pos s t (suc j)) w₁ M;
         space = space-enough s w k space t j th deep w₁ M entries;
       }

@@ -63,7 +63,7 @@ module _ (s : Sizes) (w : Words) (k : WholeFor s w) (space : Room s (length (w .
       let l′ : f < refCount w b = omega (arith, refs-then b) in
       let e′ : fieldOf (w .cells) b f ≡ suc d = sym (field-same M space b f (omega (arith, refs-few s w k b v))) ∙ e in
       let d′ : fieldOf (w .cells) b f - 1 ≡ d = omega arith in
-      record { used = v; low = l′; value = e′; there = subst (Used s w) d′ (k .placed .references b v f l′ (omega arith)) }
+      record { used = v; low = l′; value = e′; there = subst (Used s w) d′ (k .objects b v .references f l′ (omega arith)) }
 
   owner-then : (c : ℕ) → Used s w c → ownerOf s (w₁ .tables) (c / 16) ≡ ownerIn s w (pageOf c)
   owner-then c u = owner-same M space (pageOf c) (u .page)
@@ -77,7 +77,7 @@ module _ (s : Sizes) (w : Words) (k : WholeFor s w) (space : Room s (length (w .
       go : (x : ℕ) → varOf s (w .tables) i ≡ x → x ≢ 0 → Lives s r (w₁ .tables) (x - 1)
       go x e n =
           let v : varOf s (w .tables) i ≡ suc (x - 1) = omega arith in
-          let u : Used s w (x - 1) = subst (λ (y : ℕ). Used s w (y - 1)) e (k .placed .variables i l (omega arith)) in
+          let u : Used s w (x - 1) = subst (λ (y : ℕ). Used s w (y - 1)) e (k .variables i l (omega arith)) in
           record {
             used = now-used M space (x - 1) u;
             stays = λ own. alive-marked (x - 1) (var-alive i (x - 1) l v) (sym (owner-then (x - 1) u) ∙ own);
@@ -99,7 +99,7 @@ module _ (s : Sizes) (w : Words) (k : WholeFor s w) (space : Room s (length (w .
       go : Dec (ownerIn s w (pageOf c) ≡ r) → workOf (w₁ .cells) c ≡ 0
       go (yes own) = M .goes c u own ∙ unmarked-freed s w r w₁ M c u own (λ (z : marked s (w₁ .tables) c ≡ 1). omega arith)
       go (no n) =
-          M .cells (workAt c) (λ d e v own. n (subst (λ (x : ℕ). ownerIn s w (pageOf x) ≡ r) (let z : d ≡ c = omega arith in z) own)) ∙ k .placed .working c u
+          M .cells (workAt c) (λ d e v own. n (subst (λ (x : ℕ). ownerIn s w (pageOf x) ≡ r) (let z : d ≡ c = omega arith in z) own)) ∙ k .works c u
 
   pub start : Start s r (Remembered r (s .entries) (usedIn (w .remember)) (w .remember)) (w₁ .cells) (w₁ .tables)
   start =

@@ -8,7 +8,7 @@ use lib.ListN.{getD}
 use Rattle.rules.specs.declared.Sizes.{Sizes}
 use Rattle.layout.specs.Places.{ownerOf, usedIn, slotIn, slotRegionIn}
 use Rattle.layout.specs.Cells.{fieldOf, refsOf}
-use Rattle.layout.specs.Words.{InUse}
+use Rattle.layout.specs.Words.{InUse, words}
 use Rattle.remember.specs.Crossing.{crossesFrom, crossTo, other, regionOf}
 use Rattle.remember.specs.Crosses.{crosses-null, crosses-by}
 use Rattle.promises.specs.Slots.{Slot, region-of, slot-low, slot-cross, cross-slot}
@@ -72,7 +72,7 @@ module _ {p : Sizes} {r m l t : ℕ} {gs : ℕ → ℕ} {W T M W′ T′ M′ : 
   entry-crosses x h (inr q) =
       (copies-cross (b .start) a₀ a₁ (f .forwards) (f .rewritten) x (slot-then (f .rewritten) x (q .at)) (λ z. q .kept (q .region ∙ z)), q .region)
 
-  pub finished-remember : RememberWhole p W′ M′ T′
+  pub finished-remember : RememberWhole p (words W′ M′ T′)
   finished-remember =
       record {
         entries =

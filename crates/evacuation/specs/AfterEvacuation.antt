@@ -52,7 +52,7 @@ module _ (s : Sizes) (w : Words) (whole : WholeFor s w) (t k : ℕ) (th : t < s 
   rm = room s (length (w .tables)) (range s w whole) (tables-room s w whole) fits
 
   low : k < s .depth
-  low = omega (arith, whole .placed .depths t th)
+  low = omega (arith, whole .depths t th)
 
   bounds : (1 ≤ regionAt s t (suc k)) × (regionAt s t (suc k) ≤ regionsOf s)
   bounds = region-bounds s t (suc k) th low
@@ -99,14 +99,14 @@ module _ (s : Sizes) (w : Words) (whole : WholeFor s w) (t k : ℕ) (th : t < s 
   object c v =
       let u = was-used m rm c (v .used) in
       let h = head-same m rm c in
-      let few = whole .placed .formed c u .head in
+      let few = whole .objects c u .head in
       record {
         head = E .head c v ∙ h;
         references = λ g lg.
             let lg′ : g < 14 = omega (arith, few) in
             E .slots c g v (omega (arith, ap (λ (x : ℕ). x / 16) h))
             ∙ ap (renamed (cellAfter s (regionAt s t (suc k)) (w₁ .tables) (w′ .cells))) (field-same m rm c g lg′)
-            ∙ rewritten-is (fieldOf (w .cells) c g) (λ ne. whole .placed .references c u g lg (omega arith));
+            ∙ rewritten-is (fieldOf (w .cells) c g) (λ ne. whole .objects c u .references g lg (omega arith));
         others = λ g ge lg. E .rest c g v (omega (arith, ap (λ (x : ℕ). x / 16) h)) lg ∙ field-same m rm c g lg;
         working = E .work c v;
       }
@@ -174,7 +174,7 @@ module _ (s : Sizes) (w : Words) (whole : WholeFor s w) (t k : ℕ) (th : t < s 
           let z : ownerOf s (w′ .tables) q ≡ ownerIn s w (pageOf c) =
           own ∙ ap (λ (x : Bool). cond x (getD (w₁ .cells) (16 * c + 1) 0) (ownerOf s (w₁ .tables) (c / 16))) (ne-eqb (ownerOf s (w₁ .tables) (c / 16)) (regionAt s t (suc k)) (λ y. v .owner (sym a ∙ y))) ∙ a in
           subst (λ (x : ℕ). Open s (w′ .tables) x) (sym z)
-          (still-open (ownerIn s w (pageOf c)) (v .owner) (whole .placed .pages (pageOf c) (v .used .page) .region (omega arith)))
+          (still-open (ownerIn s w (pageOf c)) (v .owner) (whole .pages (pageOf c) (v .used .page) .region (omega arith)))
       go c own (inr v) =
           let a = owner-same m rm (pageOf c) (v .used .page) in
           let z : ownerOf s (w′ .tables) q ≡ target s (graphOf s w) (regionAt s t (suc k)) c =
@@ -200,7 +200,7 @@ module _ (s : Sizes) (w : Words) (whole : WholeFor s w) (t k : ℕ) (th : t < s 
         depths = λ u l n. depth-kept u l n;
         variables = λ i l.
             E .vars i l ∙ ap (renamed (cellAfter s (regionAt s t (suc k)) (w₁ .tables) (w′ .cells))) (var-same m rm i l)
-            ∙ rewritten-is (varOf s (w .tables) i) (λ ne. whole .placed .variables i l (omega arith));
+            ∙ rewritten-is (varOf s (w .tables) i) (λ ne. whole .variables i l (omega arith));
         stayed = λ c o.
             let v = outside-lives m rm c o in
             let n : ownerOf s (w₁ .tables) (c / 16) ≢ regionAt s t (suc k) = (λ z. o .owner (sym (owner-same m rm (pageOf c) (o .used .page)) ∙ z)) in
