@@ -102,7 +102,7 @@ module _ (s : Sizes) (w : Words) (k : WholeFor s w) (space : Room s (length (w .
         (λ f l.
         let v : getD (refsIn w x) f 0 ≡ fieldOf (w .cells) x f = getD-refs w x f l in
         let l′ : f < refCount w x = l in
-        ap (crossRef h x) v ∙ cross-one x (fieldOf (w .cells) x f) (k .placed .references x u f l) (slot-alive x f a l)
+        ap (crossRef h x) v ∙ cross-one x (fieldOf (w .cells) x f) (k .objects x u .references f l) (slot-alive x f a l)
         ∙ ap (crossAfter p (w′ .cells) (w′ .tables) r (h .home x)) (sym (kept-field kept x f (omega (arith, refs-few s w k x u)))))
 
     -- what the rules count of it
@@ -230,7 +230,7 @@ module _ (s : Sizes) (w : Words) (k : WholeFor s w) (space : Room s (length (w .
             (ne-eqb (owner p (w′ .tables) (cellOf (fieldAt x f))) r (λ z. out (sym now ∙ z)))
             ∙ ap (λ (a : ℕ). crossAfter p (w′ .cells) (w′ .tables) r a (fieldOf (w′ .cells) x f)) (now ∙ sym stays)
         go (no b) =
-            let ref = k .placed .references x u f l in
+            let ref = k .objects x u .references f l in
             let z : other (ownerIn s w (pageOf x)) (regionOf p (w .tables) (fieldOf (w .cells) x f)) ≡ 0 =
             ap (λ (c : ℕ). other (ownerIn s w (pageOf c)) (regionOf p (w .tables) (fieldOf (w .cells) x f))) (sym cell)
             ∙ sym (slot-cross p (w .cells) (w .tables) (fieldAt x f) slot) ∙ omega arith in
@@ -292,9 +292,9 @@ module _ (s : Sizes) (w : Words) (k : WholeFor s w) (space : Room s (length (w .
   entries-paired : Paired (slotIn (w .remember)) (λ i. still (slotIn (w .remember) i)) (usedIn (w .remember)) still (256 * s .pages)
   entries-paired =
       record {
-        goes = λ i l b. (k .placed .remember .entries .named i l .slot, refl);
+        goes = λ i l b. (k .remember .entries .named i l .slot, refl);
         apart = λ i j l m a b e. same i j l m e (ℕ-discrete i j) (decLt i j);
-        onto = λ q l b. let n = k .placed .remember .every q l (crosses-now q b) in (n .0, n .1, subst (λ (z : ℕ). 0 < still z) (sym (n .2)) b, n .2);
+        onto = λ q l b. let n = k .remember .every q l (crosses-now q b) in (n .0, n .1, subst (λ (z : ℕ). 0 < still z) (sym (n .2)) b, n .2);
       }
     where
       crosses-now : (q : ℕ) → 0 < still q → 0 < crossTo p (w .cells) (w .tables) q
@@ -306,14 +306,14 @@ module _ (s : Sizes) (w : Words) (k : WholeFor s w) (space : Room s (length (w .
 
       same : (i j : ℕ) → i < usedIn (w .remember) → j < usedIn (w .remember) → slotIn (w .remember) i ≡ slotIn (w .remember) j → Dec (i ≡ j) → Dec (i < j) → i ≡ j
       same i j l m e (yes d) b = d
-      same i j l m e (no d) (yes b) = absurd (k .placed .remember .entries .once i j b m e)
-      same i j l m e (no d) (no b) = absurd (k .placed .remember .entries .once j i (omega arith) l (sym e))
+      same i j l m e (no d) (yes b) = absurd (k .remember .entries .once i j b m e)
+      same i j l m e (no d) (no b) = absurd (k .remember .entries .once j i (omega arith) l (sym e))
 
   entries-sum : entriesCross p (w′ .cells) (w .remember) (w′ .tables) r ≡ sum outside (16 * s .pages)
   entries-sum =
       let e : 256 * s .pages ≡ 16 * (16 * s .pages) = omega arith in
       sum-same (λ i. slotCrosses p (w′ .cells) (w′ .tables) r (slotIn (w .remember) i)) (λ i. still (slotIn (w .remember) i)) (usedIn (w .remember))
-      (λ i l. let n = k .placed .remember .entries .named i l in sym (still-yes (slotIn (w .remember) i) (omega (arith, n .region, n .right))))
+      (λ i l. let n = k .remember .entries .named i l in sym (still-yes (slotIn (w .remember) i) (omega (arith, n .region, n .right))))
       ∙ sum-paired (slotIn (w .remember)) (λ i. still (slotIn (w .remember) i)) (usedIn (w .remember)) still (256 * s .pages) entries-paired
       ∙ ap (sum still) e ∙ sum-blocks 16 still outside (16 * s .pages) cell-sum
 

@@ -22,16 +22,16 @@ use Rattle.layout.specs.Places.{depthOf, ownerOf, usedOf, countOf, countAt, cou
 use Rattle.layout.specs.Cells.{cellOn}
 use Rattle.layout.specs.Words.{Words, words, heapOf}
 use Rattle.promises.specs.Whole.{WholeFor, Open, objectsOn}
-use Rattle.promises.specs.StandsFor.{SameFrom, SameBeyond}
 use Rattle.promises.specs.Reading.{range, cells-room, tables-room}
 use Rattle.promises.specs.Agreed.{heap-stands}
 use Rattle.promises.specs.Here.{here-depth}
 use Rattle.promises.specs.Questions.{did-refused, did-moved}
 use Rattle.promises.specs.NewPages.{innermost-pos, innermost-low, innermost-open, partly-filled, PartlyFilled, FreePage, new-fits, new-lacks}
 use Rattle.promises.specs.Changes.{withTables, withVariable, withNew}
+use Rattle.promises.specs.Areas.{beyond-both}
 use Rattle.promises.specs.TakeCell.{Took}
-use Rattle.promises.specs.NewCell.{Blank, new-whole, new-beyond}
-use Rattle.promises.specs.FrameVariable.{variable-beyond}
+use Rattle.promises.specs.NewCell.{Blank, new-only, new-whole}
+use Rattle.promises.specs.FrameVariable.{variable-only}
 use Rattle.promises.specs.FrameNew.{blankObject, made-stands, to-old, withCell}
 use Rattle.pages.specs.Pages.{Filled, Found, taken}
 use Rattle.pages.specs.Took.{found-room, taken-took}
@@ -39,12 +39,6 @@ use Rattle.commands.specs.declared.Decoded.the-variants.{New}
 use Rattle.commands.specs.Decoding.{commandFor}
 use Rattle.commands.specs.ThreadVariables.{variableAt}
 use Rattle.commands.specs.Does.{Does}
-
-from-both : {n : ℕ} {k l j : List ℕ} → SameFrom n k l → SameFrom n l j → SameFrom n k j
-from-both a b = record { long = b .long ∙ a .long; rest = b .rest ∙ a .rest }
-
-beyond-both : {s : Sizes} {u v w : Words} → SameBeyond s u v → SameBeyond s v w → SameBeyond s u w
-beyond-both a b = record { cells = from-both (a .cells) (b .cells); remember = from-both (a .remember) (b .remember); tables = from-both (a .tables) (b .tables) }
 
 -- g is the region that thread u makes objects in
 module _ (p : Sizes) (c m t : List ℕ) (k : WholeFor p (words c m t)) (u : ℕ) (l : u < p .threads) (g : ℕ) (eg : g ≡ regionAt p u (depthOf t u)) where
@@ -72,13 +66,13 @@ module _ (p : Sizes) (c m t : List ℕ) (k : WholeFor p (words c m t)) (u : ℕ)
 
   count-fits : objects + 1 < 2 ^ 32
   count-fits =
-      omega (arith, k .placed .counts g (region-real .0) (region-real .1), sum-high (objectsOn P t g) 16 (s .pages) each, range s w k)
+      omega (arith, k .counts g (region-real .0) (region-real .1), sum-high (objectsOn P t g) 16 (s .pages) each, range s w k)
     where
       each : (page : ℕ) → page < s .pages → objectsOn P t g page ≤ 16
       each page h = go (eqb (ownerOf P t page) g)
         where
           go : (b : Bool) → cond b (usedOf P t page) 0 ≤ 16
-          go true = k .placed .pages page h .cells
+          go true = k .pages page h .cells
           go false = omega arith
 
   count-inside : countAt P g < length t
@@ -95,7 +89,7 @@ module _ (p : Sizes) (c m t : List ℕ) (k : WholeFor p (words c m t)) (u : ℕ)
     -- what taking a cell of the page that was found asks
     pub can-take : page < p .pages → (usedOf p t page < 16) × (countOf p t g + 1 < 2 ^ 32)
     can-take h =
-        (found-room s t g page h count-inside (k .placed .pages page h .free) found, count-fits)
+        (found-room s t g page h count-inside (k .pages page h .free) found, count-fits)
 
     -- no page was found: the region has none that is partly filled, and none is free
     none-found : p .pages ≤ page → (PartlyFilled s w g → ⊥) × (FreePage s w → ⊥)
@@ -119,7 +113,7 @@ module _ (p : Sizes) (c m t : List ℕ) (k : WholeFor p (words c m t)) (u : ℕ)
       took =
           subst (λ (q : ℕ). Took P t g q t₁) (sym ec)
           (subst (λ (q : List ℕ). Took P t g (cellOn page (usedOf P t page)) q) (sym et)
-          (taken-took s t g page low count-inside (k .placed .pages page low .free) found))
+          (taken-took s t g page low count-inside (k .pages page low .free) found))
 
       pub cell-inside : (cell < 16384) × (16 * cell + 16 ≤ length c)
       cell-inside = omega (arith, took .page, range s w k, cells-room s w k)
@@ -173,8 +167,8 @@ module _ (p : Sizes) (c m t : List ℕ) (k : WholeFor p (words c m t)) (u : ℕ)
             (did-moved s w k (commandFor (New u a b d)) (withTables w₁ (set t₁ (variableAt p u a) (cell + 1))) h₁ 0
             (new-question ∙ ap (λ (x : Bool). ask x 13 0)
             (new-fits s w H (λ x. x) (heap-stands s w k) g (region-real .0) (region-real .1) (H .heap .depths) (h₁ .heap .vars) (blankObject b d) (some-found page f low))) new-after refl
-            (beyond-both (new-beyond s w k g cell b d t₁ c₁ tk blank few (region-real .0) (region-real .1) region-open)
-            (variable-beyond s w₁ k₁ (place (limits s) u a) (cell + 1) (flat-low l n))) (λ g z. z)
+            (beyond-both (new-only s w k g cell b d t₁ c₁ tk blank few (region-real .0) (region-real .1) region-open .beyond)
+            (variable-only s w₁ k₁ (place (limits s) u a) (cell + 1) (flat-low l n) .beyond)) (λ g z. z)
             (λ so. record {
               cell = withCell H (λ x. x) cell;
               stands = made-stands s w H (λ x. x) (heap-stands s w k) g cell b d t₁ c₁ tk blank few (region-real .0) (region-real .1) region-open (place (limits s) u a) (flat-low l n) so;

@@ -24,7 +24,7 @@ use Rattle.promises.specs.Agreed.{heap-stands, back}
 use Rattle.promises.specs.Here.{here-var}
 use Rattle.promises.specs.Questions.{did-asked, did-done, question-fine, fieldsOf, var-ref, asked-field, field-word}
 use Rattle.promises.specs.Changes.{withCells, withVariable, withObject, withField}
-use Rattle.promises.specs.FrameNumber.{number-stands, number-beyond}
+use Rattle.promises.specs.FrameNumber.{number-stands, number-only}
 use Rattle.commands.specs.declared.Decoded.the-variants.{Load, Read, Write}
 use Rattle.commands.specs.Decoding.{commandFor}
 use Rattle.commands.specs.ThreadVariables.{variable, variableAt}
@@ -67,7 +67,7 @@ module _ (p : Sizes) (c m t : List ℕ) (k : WholeFor p (words c m t)) (u a : �
       pub is-field : Field d c x f
       is-field =
           let o = names-cell (within .0) in
-          record { real = within .0; few = o .0; inside = o .1; field = kind-low d c (x - 1) f (k .placed .formed (x - 1) in-use .head) (within .1) }
+          record { real = within .0; few = o .0; inside = o .1; field = kind-low d c (x - 1) f (k .objects (x - 1) in-use .head) (within .1) }
 
       pub heap-word : getD (fieldsOf d (objectOf (H .heap) (varOf (limits s) (H .heap) u a))) f 0 ≡ getD c (kindAt d c (x - 1) f) 0
       heap-word =
@@ -122,7 +122,7 @@ module _ (p : Sizes) (c m t : List ℕ) (k : WholeFor p (words c m t)) (u a : �
           subst (λ (i : List ℕ). Does p c m t (Write u a b v) i m t (done 0)) (sym f)
           (did-done s w k (commandFor (Write u a b v)) (withCells w (set c (fieldAt y (refCount w y + b)) v)) h′ 0
           (question-fine s H h′ (commandFor (Write u a b v)) write-after (sym (length-set (H .heap .objects) y _)) refl (write-asked ∙ z) refl) write-after refl
-          (number-beyond s w k y b v i o) (λ g z. z)
+          (number-only s w k y b v i o .beyond) (λ g z. z)
           (λ so. number-stands s w H (λ i. i) (heap-stands s w k) y (back s w k y (used-alive s w k y i)) b v o so))
 
   -- ---- code 6, into variable a′

@@ -30,7 +30,7 @@ use Rattle.promises.specs.Questions.{did-asked, did-lacked, did-done, room-cros
 use Rattle.promises.specs.Changes.{withObject, withField, renamed-same}
 use Rattle.promises.specs.Slots.{crossesTo}
 use Rattle.remember.specs.Remembering.{Remembered, remembered-full}
-use Rattle.promises.specs.FrameReference.{storedWords, Followed, reference-named, reference-beyond, reference-stands, reference-fits, reference-full}
+use Rattle.promises.specs.FrameReference.{storedWords, Followed, reference-named, reference-only, reference-stands, reference-fits, reference-full}
 use Rattle.commands.specs.declared.Decoded.the-variants.{Store}
 use Rattle.commands.specs.Decoding.{commandFor}
 use Rattle.commands.specs.ThreadVariables.{variable}
@@ -143,9 +143,9 @@ module _ (p : Sizes) (c m t : List ℕ) (k : WholeFor p (words c m t)) (u a : �
           field = is-field p c m t k u a l n x e Reference f q g z;
           page = there .page;
           long = remember-room s w k;
-          used = k .placed .remember .entries .room;
+          used = k .remember .entries .room;
           named = slot-named;
-          before = subst (λ (j : ℕ). Names p (getD c j 0)) place (λ z. k .placed .references y there f inside (omega arith) .page);
+          before = subst (λ (j : ℕ). Names p (getD c j 0)) place (λ z. k .objects y there .references f inside (omega arith) .page);
           after = λ z. is-ref p c m t k u b l o v ev (omega arith) .page;
         }
 
@@ -182,7 +182,7 @@ module _ (p : Sizes) (c m t : List ℕ) (k : WholeFor p (words c m t)) (u a : �
           did-done s w k (commandFor (Store u a f b)) (storedWords s w y f v m′) h′ 0
           (ap₂ first (store-asked ∙ z) (store-room ∙ ap (λ (i : Bool). ask i 14 0)
           (le-leb (crossing (graph h′)) (p .entries) (reference-fits s w H (λ i. i) (heap-stands s w k) y alive f v v inside (sym (renamed-same v)) sound m′ j followed zero′))))
-          store-after refl (reference-beyond s w k y f v there inside m′ j followed) (λ g z. z)
+          store-after refl (reference-only s w k y f v there inside m′ j followed .beyond) (λ g z. z)
           (λ so. reference-stands s w H (λ i. i) (heap-stands s w k) y alive f v v inside (sym (renamed-same v)) so m′ j followed zero′)
 
       store-full : (j ≡ 0 → ⊥) → Does p c m t (Store u a f b) c m t (refused 14)

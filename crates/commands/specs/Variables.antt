@@ -22,10 +22,11 @@ use Rattle.promises.specs.Whole.{WholeFor}
 use Rattle.promises.specs.Promises.{DidHere}
 use Rattle.promises.specs.Agreed.{heap-stands}
 use Rattle.promises.specs.Here.{here-depth, here-var}
-use Rattle.promises.specs.Questions.{FreesNone, did-asked, did-done, same-beyond, question-fine}
+use Rattle.promises.specs.Questions.{FreesNone, did-asked, did-done, question-fine}
+use Rattle.promises.specs.Areas.{same-beyond}
 use Rattle.promises.specs.Changes.{withTables, withVariable, withDepth, renamed-same}
-use Rattle.promises.specs.FrameVariable.{variable-stands, variable-beyond}
-use Rattle.promises.specs.FrameDepth.{depth-stands, depth-beyond, raised-open}
+use Rattle.promises.specs.FrameVariable.{variable-stands, variable-only}
+use Rattle.promises.specs.FrameDepth.{depth-stands, depth-only, raised-open}
 use Rattle.commands.specs.declared.Decoded.the-variants.{Start, Copy, Clear, Same}
 use Rattle.commands.specs.Decoding.{commandFor}
 use Rattle.commands.specs.ThreadVariables.{variable, variableAt}
@@ -38,7 +39,7 @@ pub variable-did : (s : Sizes) (w : Words) (k : WholeFor s w) (t a v : ℕ) → 
 variable-did s w k t a v l n m keeps x q e f y =
     let h = withVariable (heapOf s w) (place (limits s) t a) v in
     did-done s w k m (withTables w (set (w .tables) (varAt s (place (limits s) t a)) v)) h x (question-fine s (heapOf s w) h m f refl refl q e) f y
-    (variable-beyond s w k (place (limits s) t a) v (flat-low l n)) keeps
+    (variable-only s w k (place (limits s) t a) v (flat-low l n) .beyond) keeps
     (λ so. variable-stands s w (heapOf s w) (λ c. c) (heap-stands s w k) (place (limits s) t a) v v (flat-low l n) (sym (renamed-same v)) so)
 
 -- a command that changes nothing
@@ -81,7 +82,7 @@ module _ (p : Sizes) (c m t : List ℕ) (k : WholeFor p (words c m t)) where
         subst (λ (z : List ℕ). Does p c m t (Start u) c m z (done 0)) (sym g)
         (did-done s w k (commandFor (Start u)) (withTables w (set t (depthAt u) (d + 1))) (withDepth H u (d + 1)) 0
         (question-fine s H (withDepth H u (d + 1)) (commandFor (Start u)) start-after refl refl (start-asked ∙ ap (λ (x : Bool). ask x 11 0) (lt-ltb d (p .depth) h)) refl)
-        start-after refl (depth-beyond s w k u (d + 1) l) (λ g z. z)
+        start-after refl (depth-only s w k u (d + 1) l .beyond) (λ g z. z)
         (λ so. depth-stands s w H (λ c. c) (heap-stands s w k) u (d + 1) l (omega arith) (raised-open s w k u (d + 1) l (omega (arith, e))) so))
 
   -- ---- code 4

@@ -115,8 +115,8 @@ module _ {w : Words} (b : Block) (ran : Ran w (b .block) (b .lent) (b .number) (
           refused-run s st (λ z. omega arith)
           (e ∙ sym (ap₂ (λ (t u : Bool). ask t 4 (ask u 5 0)) (eq-eqb (length (b .block) % 5) 0 m) (lt-leb (2 * size (b .block)) (length (b .lent)) l)))
       go (accepted e k m l) =
-          subst (λ (z : Sizes). OneRun z b ran h cellOf) (st .whole .sized)
-          (accepted-run (subst (λ (z : Sizes). StandsFor z w h cellOf) (sym (st .whole .sized)) st) e
+          subst (λ (z : Sizes). OneRun z b ran h cellOf) (st .whole .sized .sizes)
+          (accepted-run (subst (λ (z : Sizes). StandsFor z w h cellOf) (sym (st .whole .sized .sizes)) st) e
           (e ∙ sym (ap₂ (λ (t u : Bool). ask t 4 (ask u 5 0)) (eq-eqb (length (b .block) % 5) 0 m) (le-leb (2 * size (b .block)) (length (b .lent)) l))))
 
 -- ---- the list of blocks

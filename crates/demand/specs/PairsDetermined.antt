@@ -19,7 +19,7 @@ use Rattle.layout.specs.Words.{Words, Used, sizesIn, depthIn, varIn, heapOf}
 use Rattle.promises.specs.Whole.{WholeFor}
 use Rattle.promises.specs.Promises.{Chain, none, more, Did, Ran}
 use Rattle.promises.specs.Reading.{used-alive}
-use Rattle.promises.specs.Agreed.{heap-stands, back, whole-for}
+use Rattle.promises.specs.Agreed.{heap-stands, back}
 use Rattle.promises.specs.Chained.{asked-whole, did-whole}
 use Rattle.demand.specs.DemandThree.{Block, Runs, stop, next, Moves, PairsAfter, Changes, Followed, Traced}
 use Rattle.demand.specs.Pairing.{pairsOf, pair-alive, stands-paired}
@@ -134,8 +134,8 @@ module _ {w : Words} (b : Block) (ran : Ran w (b .block) (b .lent) (b .number) (
     where
       go : Dec (b .number ≡ 0) → (p ≡ q) × Living (sizesIn (b .words)) (b .words) p
       go (yes z) =
-          let h = followed-same (sizesIn w) (ran .obeyed z) (whole-for w (asked-whole (ran .asked) z)) start p q l (e z) (f z) in
-          (h .same, subst (λ (s : Sizes). Living s (b .words) p) (sym (h .whole .sized)) (h .living))
+          let h = followed-same (sizesIn w) (ran .obeyed z) (asked-whole (ran .asked) z) start p q l (e z) (f z) in
+          (h .same, subst (λ (s : Sizes). Living s (b .words) p) (sym (h .whole .sized .sizes)) (h .living))
       go (no n) = (
         e′ n ∙ sym (f′ n),
         subst (λ (x : List ℕ). Living (sizesIn (b .words)) (b .words) x) (sym (e′ n)) (subst (λ (v : Words). Living (sizesIn v) v start) (sym (ran .refused n .0)) l),

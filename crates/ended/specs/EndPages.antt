@@ -52,7 +52,7 @@ module _ (s : Sizes) (w : Words) (whole : WholeFor s w) (t k : ℕ) (th : t < s 
   pos = region-pos s t (suc k)
 
   low : k < s .depth
-  low = omega (arith, whole .placed .depths t th)
+  low = omega (arith, whole .depths t th)
 
   -- a region that survivors go to is around r
   landed-level : (q : ℕ) → 0 < q → 0 < landed s g r q → (j : ℕ) × (j ≤ k) × (q ≡ regionAt s t j)

@@ -49,4 +49,4 @@ pub record Evacuated (s : Sizes) (w : Words) (e : Part) (w′ : Words) (cell : �
   pub partial : (g : ℕ) → 1 ≤ g → (a b : ℕ) → a < b → b < s .pages → Partial s (w′ .tables) g a → Partial s (w′ .tables) g b → ⊥
   pub counts : (g : ℕ) → 1 ≤ g → g ≤ 1 + s .threads * s .depth → countOf s (w′ .tables) g ≡ objectsOf s (w′ .tables) g
   pub marks : (page : ℕ) → page < s .pages → markOf s (w′ .tables) page ≡ 0
-  pub remember : RememberWhole s (w′ .cells) (w′ .remember) (w′ .tables)
+  pub remember : RememberWhole s w′

@@ -30,7 +30,7 @@ module _ (s : Sizes) (w : Words) (e : Part) (w′ : Words) (cell : ℕ → ℕ) 
       here = omega arith
 
       was : Used s w (cellOn page 0)
-      was = first-used s w page l (whole .placed .pages page l) own
+      was = first-used s w page l (whole .pages page l) own
 
       -- no object is in the first cell of the page afterwards
       unused : (c : ℕ) → cell c ≡ cellOn page 0 → Outside s w e c ⊎ Survivor s w e c → ⊥

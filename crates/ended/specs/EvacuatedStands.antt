@@ -87,7 +87,7 @@ module _ (s : Sizes) (w : Words) (t k : ℕ) (w′ : Words) (cell : ℕ → ℕ)
 
   nums-after : (c : ℕ) → There c → numsIn w′ (cell c) ≡ numsIn w c
   nums-after c a =
-      let f = whole .placed .formed c (a .used) .head in
+      let f = whole .objects c (a .used) .head in
       fields-after Number (λ x. x) refl c a (λ i l. e .object c a .others (refCount w c + i) (omega arith) (omega (arith, f, fields-room (headIn w c) f)))
       ∙ map-id (numsIn w c)
 

@@ -33,7 +33,7 @@ module _ (s : Sizes) (w : Words) (whole : WholeFor s w) where
   depth-low t = go (decLt t (s .threads))
     where
       go : Dec (t < s .threads) → getD (depthsIn s w) t 0 ≤ s .depth
-      go (yes l) = omega (arith, depth-at s w t l, whole .placed .depths t l)
+      go (yes l) = omega (arith, depth-at s w t l, whole .depths t l)
       go (no n) = omega (arith, List·getD-eq-default (depthsIn s w) 0 {n = t} (omega (arith, length-depths s w whole)))
 
   owner-open : (page : ℕ) → page < s .pages → (ownerIn s w page ≡ 0 → ⊥) → pl.Open s (depthsIn s w) (ownerIn s w page)
@@ -41,7 +41,7 @@ module _ (s : Sizes) (w : Words) (whole : WholeFor s w) where
     where
       go : Dec (1 < ownerIn s w page) → pl.Open s (depthsIn s w) (ownerIn s w page)
       go (yes h) =
-          let o = whole .placed .pages page l .region h in
+          let o = whole .pages page l .region h in
           level (threadOf s (ownerIn s w page)) ((ownerIn s w page - 2) % s .depth) (o .thread)
           (omega (arith, o .level, depth-at s w (threadOf s (ownerIn s w page)) (o .thread))) (region-number s (ownerIn s w page) (o .real))
       go (no h) = control (omega arith)

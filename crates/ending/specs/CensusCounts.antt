@@ -128,7 +128,7 @@ module _ (s : Sizes) (w : Words) (k : WholeFor s w) (space : Room s (length (w .
   pub targets-low : (c : ℕ) → pageOf c < s .pages → marked s (w₁ .tables) c ≡ 1 → workOf (w₁ .cells) c ≤ regions s
   targets-low c l on =
       let v = survivor-level s w k space t j th deep w₁ M c (marked-survivor M c l on) in
-      omega (arith, v .2, region-bounds s t (v .0) th (omega (arith, v .1, k .placed .depths t th)))
+      omega (arith, v .2, region-bounds s t (v .0) th (omega (arith, v .1, k .depths t th)))
 
   pub free-are : ownedIn s (w₁ .tables) 0 (s .pages) ≡ pagesOwned s w 0
   unfolding ownedOne

@@ -76,8 +76,8 @@ module _ {s : Sizes} {w : Words} (whole : WholeFor s w) where
       into-crosses s (w .tables) (ownerIn s w (pageOf c)) (fieldOf (w .cells) c f) (ownerIn s w (pageOf d))
       (record { real = λ q. omega arith; page = subst (λ (i : ℕ). pageOf i < s .pages) (sym y) p; region = ap (λ (i : ℕ). ownerIn s w (pageOf i)) (sym y); high = high; other = other })
       ∙ sym (cross-field s (w .cells) (w .tables) c f u m l) in
-      let q = whole .placed .remember .every (fieldAt c f) (inside c f u m) (omega arith) in
-      let n = whole .placed .remember .entries .named (q .0) (q .1) in
+      let q = whole .remember .every (fieldAt c f) (inside c f u m) (omega arith) in
+      let n = whole .remember .entries .named (q .0) (q .1) in
       (q .0, q .1, q .2, sym (n .right) ∙ ap (crossTo s (w .cells) (w .tables)) (q .2) ∙ sym x)
 
   -- what an entry says
@@ -95,7 +95,7 @@ module _ {s : Sizes} {w : Words} (whole : WholeFor s w) where
 
   pub entry-says : (i : ℕ) → i < usedIn (w .remember) → Says i
   entry-says i l =
-      let n = whole .placed .remember .entries .named i l in
+      let n = whole .remember .entries .named i l in
       let g : ℕ = slotRegionIn (s .entries) (w .remember) i in
       let q = field-cross s (w .cells) (w .tables) (slotIn (w .remember) i) (n .slot) (omega (arith, n .region, n .right)) in
       let e : g ≡ crossesFrom s (w .tables) (ownerIn s w (pageOf (q .object))) (fieldOf (w .cells) (q .object) (q .field)) =

@@ -65,7 +65,7 @@ module _ {s : Sizes} {t : ℕ} {w w₁ : Words} (e : Ending s t w w₁) where
   depth-now = depth-same (e .marks) room-of t (e .thread)
 
   pub depth-high : depthOf (w₁ .tables) t ≤ s .depth
-  depth-high = omega (arith, depth-now, e .whole .placed .depths t (e .thread))
+  depth-high = omega (arith, depth-now, e .whole .depths t (e .thread))
 
   -- r and l are the region and its level as the code has them
   module _ {r l : ℕ} (er : r ≡ regionAt s t l) (el : l ≡ depthOf (w₁ .tables) t) where

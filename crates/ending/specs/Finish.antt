@@ -188,7 +188,7 @@ module _ {s : Sizes} {t k r : ℕ} {w w₁ : Words} (b : Begun s t k r w w₁) (
           let y = sends b .references (q .object) (q .field) d (q .lives) (q .low) z in
           ap (other g) (region-of s T′ (placed W d) (used-after d y) ∙ owner-end d y ∙ sym (region-of s T (placed W d) (placed-used (b .whole) (sends b) (b .marks) rm (F b p c) d y)))
 
-  remember : RememberWhole s W′ M′ T′
+  remember : RememberWhole s w′
   remember =
       record {
         entries = record { room = U .low; named = named; once = U .once; rest = U .rest };
@@ -247,7 +247,7 @@ module _ {s : Sizes} {t k r : ℕ} {w w₁ : Words} (b : Begun s t k r w w₁) (
       one : regionAt s t 0 ≡ 1
       one = unfold regionAt in refl
   level-open (suc j) l h =
-      let low : suc k ≤ s .depth = omega (arith, b .deep, b .whole .placed .depths t (b .thread)) in
+      let low : suc k ≤ s .depth = omega (arith, b .deep, b .whole .depths t (b .thread)) in
       let a : threadOf s (regionAt s t (suc j)) ≡ t = thread-at s t j (omega (arith, low)) in
       let d : levelOf s (regionAt s t (suc j)) ≡ suc j = level-at s t j (omega (arith, low)) in
       record { real = omega arith; thread = omega (arith, a, b .thread); level = omega (arith, d, ap (depthOf T′) a, depth-now) }
@@ -264,7 +264,7 @@ module _ {s : Sizes} {t k r : ℕ} {w w₁ : Words} (b : Begun s t k r w w₁) (
       go : (x : ℕ) → ownerOf s T′ page ≡ ownerOf s T′ (pageOf (placed W x)) → Outside s w (partOf s w r) x ⊎ Survivor s w (partOf s w r) x → Open s T′ (ownerOf s T′ page)
       go x own (inl o) =
           let z = own ∙ outside-end x o in
-          subst (Open s T′) (sym z) (still-open (ownerIn s w (pageOf x)) (o .out) (b .whole .placed .pages (pageOf x) (o .used .page) .region (omega arith)))
+          subst (Open s T′) (sym z) (still-open (ownerIn s w (pageOf x)) (o .out) (b .whole .pages (pageOf x) (o .used .page) .region (omega arith)))
       go x own (inr v) =
           let e : Survivor s w (partOf s w (regionAt s t (suc k))) x = subst (λ (g : ℕ). Survivor s w (partOf s w g) x) (b .region) v in
           let j = target-level s w (b .whole) t k (b .thread) (b .deep) x (used-home s w (b .whole) x (e .used) ∙ e .within) (e .goes) in

@@ -39,20 +39,20 @@ module _ (s : Sizes) (w : Words) (k : WholeFor s w) (space : Room s (length (w .
   one g a b pos x y = go (decLt a b) (decLt b a)
     where
       go : Dec (a < b) → Dec (b < a) → a ≡ b
-      go (yes l) d = absurd (k .placed .partial g pos a b l (y .low) (x .partial) (y .partial))
-      go (no l) (yes m) = absurd (k .placed .partial g pos b a m (x .low) (y .partial) (x .partial))
+      go (yes l) d = absurd (k .partial g pos a b l (y .low) (x .partial) (y .partial))
+      go (no l) (yes m) = absurd (k .partial g pos b a m (x .low) (y .partial) (x .partial))
       go (no l) (no m) = omega arith
 
   regular : Regular s (w₁ .tables)
   regular =
       record {
         room = subst (Room s) (sym (M .tables-length)) space;
-        free = λ q l z. used-same M space q l ∙ k .placed .pages q l .free (sym (owner-same M space q l) ∙ z);
+        free = λ q l z. used-same M space q l ∙ k .pages q l .free (sym (owner-same M space q l) ∙ z);
         taken = λ q l n.
-            omega (arith, used-same M space q l, k .placed .pages q l .taken (pos-of-ne-zero (λ z. n (owner-same M space q l ∙ z))));
-        full = λ q l. omega (arith, used-same M space q l, k .placed .pages q l .cells);
+            omega (arith, used-same M space q l, k .pages q l .taken (pos-of-ne-zero (λ z. n (owner-same M space q l ∙ z))));
+        full = λ q l. omega (arith, used-same M space q l, k .pages q l .cells);
         one = λ g a b pos x y. one g a b pos (partly-then g a x) (partly-then g b y);
-        count = λ g pos le. count-same M space g ∙ k .placed .counts g pos le ∙ sym (objects-same g);
+        count = λ g pos le. count-same M space g ∙ k .counts g pos le ∙ sym (objects-same g);
       }
 
   pub ready : Ready s (w₁ .cells) (w₁ .tables)

@@ -47,7 +47,7 @@ module _ {s : Sizes} {w w₁ : Words} {e : Part} (m : Marked s w e w₁) where
   -- word 1 of an object outside the part is zero, as in whole words
   pub outside-work : WholeFor s w → (c : ℕ) → Outside s w e c → workOf (w₁ .cells) c ≡ 0
   outside-work k c o =
-      m .cells (workAt c) (λ d z u x. o .out (subst (λ (y : ℕ). e .ends (pageOf y)) (let q : d ≡ c = omega arith in q) x)) ∙ k .placed .working c (o .used)
+      m .cells (workAt c) (λ d z u x. o .out (subst (λ (y : ℕ). e .ends (pageOf y)) (let q : d ≡ c = omega arith in q) x)) ∙ k .works c (o .used)
 
   -- ---- the tables
 

@@ -105,7 +105,7 @@ module _ (s : Sizes) (w : Words) (k : WholeFor s w) (space : Room s (length (w .
         ready = ready s w k space (partOf s w r) w₁ M;
         small = M .small;
         real = λ l m. region-pos s t l;
-        low = λ l m. region-bounds s t l th (omega (arith, k .placed .depths t th)) .1;
+        low = λ l m. region-bounds s t l th (omega (arith, k .depths t th)) .1;
         rising = λ a b l m. numbers-rise s t a b l;
         all = λ c l on. survivor-level c (marked-survivor M c l on);
         enough = subst₂ (λ (a b : ℕ). a ≤ b) (sym needs) (sym free-same) h;

@@ -121,7 +121,7 @@ module _ {s : Sizes} {w w₁ : Words} {e : Part} (whole : WholeFor s w) (sends :
             now-used m rm first
             (record {
               page = omega (arith, low);
-              place = omega (arith, whole .placed .pages page low .taken (sends .owned page low z), ap (usedOf s (w .tables)) here);
+              place = omega (arith, whole .pages page low .taken (sends .owned page low z), ap (usedOf s (w .tables)) here);
             })
 
   -- ---- any object that lives on

@@ -61,7 +61,7 @@ module _ {s : Sizes} {w w₁ : Words} {r : ℕ} (high : 1 < r) (whole : WholeFor
       here = omega arith
 
       used : Used s w (cellOn page 0)
-      used = record { page = omega arith; place = omega (arith, whole .placed .pages page l .taken (sends .owned page l e), ap (usedOf s (w .tables)) here) }
+      used = record { page = omega arith; place = omega (arith, whole .pages page l .taken (sends .owned page l e), ap (usedOf s (w .tables)) here) }
 
   module _ {W′ : List ℕ} (R : Rewritten (λ x. Held s w r x ⊎ Copies s W T x) W W′) where
     abbrev after : Graph

@@ -55,7 +55,7 @@ module _ {s : Sizes} {t k r : ℕ} {w w₁ : Words} (b : Begun s t k r w w₁) w
   high = omega (arith, b .region, region-high s t k)
 
   pub bounds : (1 ≤ r) × (r ≤ regionsOf s)
-  bounds = subst (λ (g : ℕ). (1 ≤ g) × (g ≤ regionsOf s)) (sym (b .region)) (region-bounds s t (suc k) (b .thread) (omega (arith, b .deep, b .whole .placed .depths t (b .thread))))
+  bounds = subst (λ (g : ℕ). (1 ≤ g) × (g ≤ regionsOf s)) (sym (b .region)) (region-bounds s t (suc k) (b .thread) (omega (arith, b .deep, b .whole .depths t (b .thread))))
 
   -- a survivor goes to a region around r
   away : (c : ℕ) → Survivor s w (partOf s w r) c → partOf s w r .goes c ≢ r
@@ -112,7 +112,7 @@ module _ {s : Sizes} {t k r : ℕ} {w w₁ : Words} (b : Begun s t k r w w₁) w
 
     pub slots-ask : Slots s r (s .entries) (usedIn (w .remember)) W (w .remember)
     slots-ask =
-        let e = b .whole .placed .remember .entries in
+        let e = b .whole .remember .entries in
         record {
           few = e .room;
           long = omega (arith, remember-room s w (b .whole));
@@ -244,7 +244,7 @@ module _ {s : Sizes} {t k r : ℕ} {w w₁ : Words} (b : Begun s t k r w w₁) w
             comes = λ x q n. live-crosses high (b .whole) sends (b .marks) (b .room) F R x (copies-live high (b .whole) sends (b .marks) (b .room) F R x (slot-then R x q)) n;
             apart = λ x h q z. entry-no-copy (q .entry) (q .low) (subst (Copies s W T) (sym (q .slot)) (slot-then R x z));
             space = space-enough high (b .whole) sends (b .marks) (b .room) F R (subst (λ (g : ℕ). crossing (ended s (graphOf s w) g) ≤ s .entries) (sym (b .region)) entries);
-            rest = b .whole .placed .remember .entries .rest;
+            rest = b .whole .remember .entries .rest;
           }
 
     pub settle-ask : crossingAfter s w t k ≤ s .entries → {W₂ : List ℕ} → Rewritten (Held s w r) W W₂ → Settles s r (s .entries) (usedIn (w .remember)) W₂ (w .remember) T

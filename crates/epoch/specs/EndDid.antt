@@ -185,7 +185,7 @@ module _ {p : Sizes} {t : ℕ} {w w₁ : Words} (m : Ending p t w w₁) where
     pub free-way : 0 ≡ roomAsked p (w₁ .cells) (w₁ .remember) (w₁ .tables) t (depthOf (w₁ .tables) t)
     free-way =
         asked-none p (w₁ .cells) (w₁ .remember) (w₁ .tables) t (depthOf (w₁ .tables) t) refl refl refl refl
-        (omega (arith, no-pages)) (omega (arith, crosses, m .whole .placed .remember .entries .room, ap usedIn (marks .remember)))
+        (omega (arith, no-pages)) (omega (arith, crosses, m .whole .remember .entries .room, ap usedIn (marks .remember)))
       where
         no-pages : needsBelow p (w₁ .cells) (w₁ .tables) t (depthOf (w₁ .tables) t) ≡ 0
         no-pages =

@@ -9,7 +9,7 @@ use Rattle.rules.specs.declared.Command.{Command}
 use Rattle.rules.specs.declared.Answer.{Answer}
 use Rattle.layout.specs.Places.{sizesAt}
 use Rattle.layout.specs.Words.{Words, words}
-use Rattle.promises.specs.Whole.{Whole, WholeFor}
+use Rattle.promises.specs.Whole.{WholeFor, WholeWords}
 use Rattle.promises.specs.Promises.{DidHere, commandAt, size, RunAsked, Ran}
 use Rattle.promises.specs.Here.{did-anywhere}
 use Rattle.commands.specs.declared.Decoded.the-variants.{End}
@@ -78,8 +78,8 @@ turn-more {p} {w} {block} {lent} {c} {m} {t} {answers} {i} k l {c′} {m′} {t�
     }
 
 -- the tables that the check found whole, for the sizes that are read from them
-pub whole-ready : {c m t : List ℕ} {p : Sizes} → Whole c m t → p ≡ sizesAt t → WholeFor p (words c m t)
-whole-ready {c} {m} {t} k e = subst (λ (q : Sizes). WholeFor q (words c m t)) (sym e) (record { sized = refl; sizes = k .sizes; placed = k .placed })
+pub whole-ready : {c m t : List ℕ} {p : Sizes} → WholeWords (words c m t) → p ≡ sizesAt t → WholeFor p (words c m t)
+whole-ready {c} {m} {t} k e = subst (λ (q : Sizes). WholeFor q (words c m t)) (sym e) k
 
 -- the whole block
 pub looped-found : {c m t block lent answers : List ℕ} {p : Sizes} {w′ : Words} → RunAsked (words c m t) block lent 0 → p ≡ sizesAt t

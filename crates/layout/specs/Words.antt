@@ -1,6 +1,6 @@
 -- Lent words, what is read from them, and the graph and the heap that they make.
 use Prim.Native.Nat.{ℕ, _+_, _*_, _<_}
-use mathlib.Core.List.{List}
+use mathlib.Core.List.{List, []}
 use mathlib.Core.Logic.{_≢_}
 use mathlib.Core.Bool.{Bool, cond, _&&_}
 use lib.ListN.{take, drop}
@@ -23,6 +23,10 @@ pub record Words : Type 0 where
 -- three lent slices, as a contract names them
 abbrev pub words : List ℕ → List ℕ → List ℕ → Words
 words c m t = record { cells = c; remember = m; tables = t }
+
+-- the tables by themselves, where nothing else is read
+abbrev pub tablesOnly : List ℕ → Words
+tablesOnly t = words [] [] t
 
 abbrev pub sizesIn : Words → Sizes
 sizesIn w = sizesAt (w .tables)

@@ -69,7 +69,7 @@ module _ (s : Sizes) (w : Words) (k : WholeFor s w) where
   -- what a reference names is in use
   field-used : (y f x : ℕ) → Used s w y → f < refCount w y → fieldOf (w .cells) y f ≡ suc x → Used s w x
   field-used y f x u l e =
-      let z : fieldOf (w .cells) y f - 1 ≡ x = omega arith in subst (Used s w) z (k .placed .references y u f l (omega arith))
+      let z : fieldOf (w .cells) y f - 1 ≡ x = omega arith in subst (Used s w) z (k .objects y u .references f l (omega arith))
 
   -- ---- chains
 
@@ -104,7 +104,7 @@ module _ (s : Sizes) (w : Words) (k : WholeFor s w) where
       go : Dec (1 < q) → Lies q
       go (no n) = let nz = used-owned s w k c u in control (omega arith)
       go (yes l) =
-          let o = k .placed .pages (pageOf c) (u .page) .region l in
+          let o = k .pages (pageOf c) (u .page) .region l in
           let d : 0 < s .depth = omega (arith, range s w k .depth-low) in
           level (threadOf s q) ((q - 2) % s .depth) (omega (arith, o .level)) (mod-lt (q - 2) d) (number (q - 2) (omega arith))
         where
@@ -115,12 +115,12 @@ module _ (s : Sizes) (w : Words) (k : WholeFor s w) where
 
   pub whole-shaped : Room s (length (w .tables)) → Shaped s (w .cells) (w .tables)
   whole-shaped room =
-      record { room = room; cells-long = cells-room s w k; refs-few = refs-few s w k; references = λ c u f l. k .placed .references c u f l }
+      record { room = room; cells-long = cells-room s w k; refs-few = refs-few s w k; references = λ c u f l. k .objects c u .references f l }
 
   -- the slot of entry i
   pub entry-slot : (i : ℕ) → i < usedIn (w .remember) → Slot s (w .cells) (w .tables) (slotIn (w .remember) i)
   entry-slot i l =
-      let e = k .placed .remember .entries .named i l in
+      let e = k .remember .entries .named i l in
       cross-slot s (w .cells) (w .tables) (slotIn (w .remember) i) (e .slot) (omega (arith, e .region, e .right))
 
   pub whole-holding : Holding s (w .cells) (w .remember) (w .tables)
@@ -128,15 +128,15 @@ module _ (s : Sizes) (w : Words) (k : WholeFor s w) where
       record {
         some = range s w k .variables-low;
         long = remember-room s w k;
-        few = k .placed .remember .entries .room;
-        variables = k .placed .variables;
-        slot = λ i l. k .placed .remember .entries .named i l .slot;
+        few = k .remember .entries .room;
+        variables = k .variables;
+        slot = λ i l. k .remember .entries .named i l .slot;
         field = λ i l e. omega (arith, entry-slot i l .field);
         slots = λ i l.
             let q = slotIn (w .remember) i in
             let o = entry-slot i l in
             let f = slot-field s (w .cells) (w .tables) q o in
-            subst (λ (z : ℕ). IsRef s (w .tables) (getD (w .cells) z 0)) (f .0) (k .placed .references (cellOf q) (o .used) (wordOf q - 2) (f .1));
+            subst (λ (z : ℕ). IsRef s (w .tables) (getD (w .cells) z 0)) (f .0) (k .objects (cellOf q) (o .used) .references (wordOf q - 2) (f .1));
       }
 
   -- ---- entry i of region r: its slot lies outside r and names an object of r
@@ -153,7 +153,7 @@ module _ (s : Sizes) (w : Words) (k : WholeFor s w) where
       let q = slotIn (w .remember) i in
       let o = entry-slot i l in
       let f = slot-field s (w .cells) (w .tables) q o in
-      let n = k .placed .remember .entries .named i l in
+      let n = k .remember .entries .named i l in
       let x = regionOf s (w .tables) (getD (w .cells) q 0) in
       let c : other (ownerIn s w (pageOf (cellOf q))) x ≡ r = sym (slot-cross s (w .cells) (w .tables) q o) ∙ n .right ∙ e in
       let h = other-is (ownerIn s w (pageOf (cellOf q))) x (omega (arith, n .region)) in
@@ -171,8 +171,8 @@ module _ (s : Sizes) (w : Words) (k : WholeFor s w) where
       slot-cross s (w .cells) (w .tables) q o
       ∙ ap₂ (λ (a b : ℕ). other (ownerIn s w (pageOf a)) (regionOf s (w .tables) b)) cell e
       ∙ ap (other (ownerIn s w (pageOf y))) (region-of s (w .tables) x v ∙ own) ∙ is-other (ownerIn s w (pageOf y)) r pos out in
-      let i = k .placed .remember .every q (slot-low s (w .cells) (w .tables) q o) (omega arith) in
-      let n = k .placed .remember .entries .named (i .0) (i .1) in
+      let i = k .remember .every q (slot-low s (w .cells) (w .tables) q o) (omega arith) in
+      let n = k .remember .entries .named (i .0) (i .1) in
       (i .0, i .1, i .2, sym (n .right) ∙ ap (crossTo s (w .cells) (w .tables)) (i .2) ∙ c)
 
   -- ---- the innermost region of thread t, at its depth suc j
@@ -189,7 +189,7 @@ module _ (s : Sizes) (w : Words) (k : WholeFor s w) where
     held g = heldCells s (w .cells) (w .remember) (w .tables) r t outer g
 
     deep : j < s .depth
-    deep = omega (arith, k .placed .depths t th)
+    deep = omega (arith, k .depths t th)
 
     -- what is held for g is held by a holder that calls for g
     pub held-holds : (g x : ℕ) → homeIn s w x ≡ r → In x (held g) → Holds s (graphOf s w) r x g

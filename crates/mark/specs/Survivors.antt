@@ -88,7 +88,7 @@ module _ (s : Sizes) (w : Words) (k : WholeFor s w) (space : Room s (length (w .
           → target s (graphOf s w) r c ≡ regionAt s t l
       go i b e n out (yes d) = e ∙ ap (regionAt s t) (sym d)
       go i b e n out (no d) =
-          absurd (out (subst (FurtherOut s (regionAt s t l)) (sym e) (further-out s t l i (omega (arith, n)) (omega (arith, dk, k .placed .depths t th)))))
+          absurd (out (subst (FurtherOut s (regionAt s t l)) (sym e) (further-out s t l i (omega (arith, n)) (omega (arith, dk, k .depths t th)))))
 
   lost-target : (c : ℕ) → ((l : ℕ) → l < suc j → Held s r (w .cells) (w .tables) calls l c → ⊥) → target s (graphOf s w) r c ≡ 0
   lost-target c n = go (decLt 0 (target s (graphOf s w) r c))
@@ -114,7 +114,7 @@ module _ (s : Sizes) (w : Words) (k : WholeFor s w) (space : Room s (length (w .
         survives = λ c u own l. on c u l (ℕ-discrete (marked s T′ c) 1);
         freed = λ c u own z. off c (λ b. let f = L .found c (u .page) b in omega (arith, first-target c (f .0) (f .1), target-absorbs s (graphOf s w) r c (regionAt s t (f .0)) (held-reaches (f .0) c (f .1 .reached)) .some));
         only = found-owned;
-        small = λ page l. high-none 16 (markOf s T′ page) (λ i h. L .kept .high (markAt s page) i h ∙ ap (λ (x : ℕ). bitAt x i) (k .placed .marks page l) ∙ bit-zero i);
+        small = λ page l. high-none 16 (markOf s T′ page) (λ i h. L .kept .high (markAt s page) i h ∙ ap (λ (x : ℕ). bitAt x i) (k .marks page l) ∙ bit-zero i);
         cells = λ q n. word q n (ℕ-discrete (q % 16) 1);
         tables = λ q n. table q n (decLt q (marksFrom s)) (decLt q (marksFrom s + s .pages));
         remember = refl;
@@ -124,7 +124,7 @@ module _ (s : Sizes) (w : Words) (k : WholeFor s w) (space : Room s (length (w .
     where
       goes : (c : ℕ) → Used s w c → Dec (marked s T′ c ≡ 1) → workOf W′ c ≡ target s (graphOf s w) r c
       goes c u (yes b) = let f = L .found c (u .page) b in f .2 ∙ sym (first-target c (f .0) (f .1))
-      goes c u (no n) = let f = L .lost c (u .page) (off c n) in f .0 ∙ k .placed .working c u ∙ sym (lost-target c (f .1))
+      goes c u (no n) = let f = L .lost c (u .page) (off c n) in f .0 ∙ k .works c u ∙ sym (lost-target c (f .1))
 
       on : (c : ℕ) → Used s w c → 0 < target s (graphOf s w) r c → Dec (marked s T′ c ≡ 1) → marked s T′ c ≡ 1
       on c u l (yes b) = b
@@ -160,7 +160,7 @@ module _ (p : Sizes) (w : Words) (k : WholeFor p w) (fits : length (w .tables) <
   holding-at = whole-holding p w k
 
   pub clean-at : (c : ℕ) → pageOf c < p .pages → marked p (w .tables) c ≡ 0
-  clean-at c b = ap (λ (x : ℕ). bitAt x (placeOf c)) (k .placed .marks (pageOf c) b) ∙ bit-zero (placeOf c)
+  clean-at c b = ap (λ (x : ℕ). bitAt x (placeOf c)) (k .marks (pageOf c) b) ∙ bit-zero (placeOf c)
 
   -- r and outer are the regions of the depth d and of the level around it, as the code has them
   pub marked-at : (t d r outer : ℕ) → t < p .threads → 0 < d → d ≡ depthOf (w .tables) t → r ≡ regionAt p t d → outer ≡ regionAt p t (d - 1) → {W′ T′ : List ℕ}
@@ -202,4 +202,4 @@ marked-kept s w k e w′ m =
         let e : marksFrom s + page ≡ q = omega arith in
         subst (λ (z : ℕ). bitAt (getD (w′ .tables) z 0) i ≡ bitAt (getD (w .tables) z 0) i) e
         (none-high 16 (markOf s (w′ .tables) page) i (m .small page (omega arith)) l
-        ∙ sym (ap (λ (x : ℕ). bitAt x i) (k .placed .marks page (omega arith)) ∙ bit-zero i))
+        ∙ sym (ap (λ (x : ℕ). bitAt x i) (k .marks page (omega arith)) ∙ bit-zero i))

@@ -198,7 +198,7 @@ module _ (s : Sizes) (w : Words) (k : WholeFor s w) (e : Part) (w′ : Words) (M
       go x (no a) (yes b) =
           let q : ℕ = x - marksFrom s in
           let e : marksFrom s + q ≡ x = omega arith in
-          subst (λ (y : ℕ). getD T y 0 ≡ getD (w .tables) y 0) e (U .marks q (omega arith) ∙ sym (k .placed .marks q (omega arith)))
+          subst (λ (y : ℕ). getD T y 0 ≡ getD (w .tables) y 0) e (U .marks q (omega arith) ∙ sym (k .marks q (omega arith)))
       go x (no a) (no b) = away x (λ page l e. omega arith)
 
   used? : (c : ℕ) → Dec (Used s w c)
@@ -214,7 +214,7 @@ module _ (s : Sizes) (w : Words) (k : WholeFor s w) (e : Part) (w′ : Words) (M
     where
       -- an object of the part that is not marked is freed, and has 0 in word 1 as before; any other cell is not touched
       unmarked : Used s w c → e .ends (pageOf c) → (marked s (w′ .tables) c ≡ 1 → ⊥) → workOf (w′ .cells) c ≡ workOf (w .cells) c
-      unmarked u own n = M .goes c u own ∙ zero-target (decLt 0 (e .goes c)) ∙ sym (k .placed .working c u)
+      unmarked u own n = M .goes c u own ∙ zero-target (decLt 0 (e .goes c)) ∙ sym (k .works c u)
         where
           zero-target : Dec (0 < e .goes c) → e .goes c ≡ 0
           zero-target (yes l) = absurd (n (M .survives c u own l))
@@ -226,7 +226,7 @@ module _ (s : Sizes) (w : Words) (k : WholeFor s w) (e : Part) (w′ : Words) (M
       kept n (no u) d = M .cells (workAt c) (λ d e v o. u (subst (Used s w) (let z : d ≡ c = omega arith in z) v))
 
       go : Dec (pageOf c < s .pages) → Dec (marked s (w′ .tables) c ≡ 1) → workOf W c ≡ workOf (w .cells) c
-      go (yes b) (yes on) = U .cleared c b on ∙ sym (k .placed .working c (M .only c b on .0))
+      go (yes b) (yes on) = U .cleared c b on ∙ sym (k .works c (M .only c b on .0))
       go (yes b) (no n) =
           let z : marked s (w′ .tables) c ≡ 0 = omega (arith, bit-lt (placeOf c) (markOf s (w′ .tables) (pageOf c))) in
           U .same c (λ l. z) ∙ kept n (used? c) (e .ends? (pageOf c))

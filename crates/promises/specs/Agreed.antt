@@ -14,7 +14,7 @@ use Rattle.laws.specs.Counts.{same-free}
 use Rattle.laws.specs.SameRules.{renamed, same-target, same-objects, same-crossing}
 use Rattle.rules.specs.Rules.{Regioned, graph}
 use Rattle.layout.specs.Words.{Words, Used, cellCount, sizesIn, homeIn, varsIn, objectIn, graphOf, heapOf}
-use Rattle.promises.specs.Whole.{WholeAt, WholeFor, WholeWords}
+use Rattle.promises.specs.Whole.{WholeFor, WholeWords}
 use Rattle.promises.specs.StandsFor.{StandsFor}
 use Rattle.lists.specs.Listed.{listed, length-listed, getD-listed, listed-past}
 use Rattle.promises.specs.Reading.{alive-used, words-closed}
@@ -73,16 +73,12 @@ module _ (s : Sizes) (w : Words) (k : WholeFor s w) where
         nums = λ x a. ap (λ (o : Object). o .nums) (object-at x (there x a));
       }
 
-pub whole-for : (w : Words) → WholeWords w → WholeFor (sizesIn w) w
-whole-for w k = record { sized = refl; sizes = k .sizes; placed = k .placed }
-
 pub whole-words : (s : Sizes) (w : Words) → WholeFor s w → WholeWords w
-whole-words s w k =
-    record { sizes = k .sizes; placed = subst (λ (z : Sizes). WholeAt z (w .cells) (w .remember) (w .tables)) (sym (k .sized)) (k .placed) }
+whole-words s w k = subst (λ (z : Sizes). WholeFor z w) (sym (k .sized .sizes)) k
 
 -- so no promise about the heap that words stand for is empty
 pub heapOf-stands : (w : Words) → WholeWords w → StandsFor (sizesIn w) w (heapOf (sizesIn w) w) (λ x. x)
-heapOf-stands w k = heap-stands (sizesIn w) w (whole-for w k)
+heapOf-stands w k = heap-stands (sizesIn w) w k
 
 module _ (s : Sizes) (w : Words) (h : Regioned) (cellOf : ℕ → ℕ) (st : StandsFor s w h cellOf) where
   -- an object that is there is in a cell that is in use

@@ -127,7 +127,7 @@ module _ (s : Sizes) (w : Words) (k : WholeFor s w) where
         ∙ ap₂ (λ (a b : Bool). bit (ltb 0 (cond a (cond b (other (ownerIn s w (pageOf c)) (regionOf s (w .tables) (getD (w .cells) (16 * c + (2 + i)) 0))) 0) 0)))
         (le-leb 2 (2 + i) (omega arith)) (lt-ltb (2 + i) (refCount w c + 2) (omega arith))
         ∙ ap (λ (n : ℕ). bit (ltb 0 (other (ownerIn s w (pageOf c)) (regionOf s (w .tables) n)))) (ap (λ (q : ℕ). getD (w .cells) q 0) e ∙ sym v)
-        ∙ ref-test (getD (refsIn w c) i 0) (λ p. subst (λ (x : ℕ). Used s w (x - 1)) (sym v) (k .placed .references c u i m (omega arith)))
+        ∙ ref-test (getD (refsIn w c) i 0) (λ p. subst (λ (x : ℕ). Used s w (x - 1)) (sym v) (k .objects c u .references i m (omega arith)))
 
     cell-used : sum (one c) 16 ≡ crossAt (graphOf s w) c
     unfolding crossAt
@@ -160,7 +160,7 @@ module _ (s : Sizes) (w : Words) (k : WholeFor s w) where
   unfolding one
   entries-crossing =
       let e : 256 * s .pages ≡ 16 * (16 * s .pages) = omega arith in
-      sym (every-counted s (w .cells) (w .remember) (w .tables) (k .placed .remember .entries) (k .placed .remember))
+      sym (every-counted s w (k .remember .entries) (k .remember))
       ∙ ap (count (cr.crossing s (w .cells) (w .tables))) e
       ∙ sum-blocks 16 (λ q. bit (positive (crossTo s (w .cells) (w .tables)) q)) (crossAt (graphOf s w)) (16 * s .pages) cell-cross
       ∙ sym (crossing-sum (graphOf s w))

@@ -16,7 +16,7 @@ use Rattle.rules.specs.Regions.{regions}
 use Rattle.rules.specs.Rules.{Regioned, graph}
 use Rattle.laws.specs.GraphLaws.{Alive}
 use Rattle.layout.specs.Places as lp
-use Rattle.layout.specs.Places.{tablesWords, ownersFrom, depthAt, varAt, varOf, markOf, countOf, slotIn, slotRegionIn, count-room, count-is, mark-is, used-is}
+use Rattle.layout.specs.Places.{tablesWords, ownersFrom, depthAt, varAt, varOf, markOf, countOf, slotIn, slotRegionIn, count-room, count-is, mark-is, used-is, owners-is}
 use Rattle.layout.specs.declared.Kind.{Kind}
 use Rattle.layout.specs.declared.Kind.the-variants.{Reference, Number}
 use Rattle.layout.specs.Cells.{fieldOf, fieldAt, fieldCount, firstField, pageOf, placeOf, cellOn, cellOf, wordOf}
@@ -24,7 +24,7 @@ use Rattle.layout.specs.Words.{Words, Used, sizesIn, depthIn, ownerIn, usedIn, 
 use Rattle.remember.specs.Crossing.{other, regionOf, crossTo}
 use Rattle.promises.specs.Whole.{WholeFor, objectsOf}
 use Rattle.promises.specs.StandsFor.{StandsFor}
-use Rattle.promises.specs.Reading.{owners-is, used-alive, alive-used, used-home, length-fields, getD-fields, getD-vars, depth-at}
+use Rattle.promises.specs.Reading.{used-alive, alive-used, used-home, length-fields, getD-fields, getD-vars, depth-at}
 use Rattle.promises.specs.Crossings.{heap-entries}
 use Rattle.promises.specs.Slots.{cross-same}
 
@@ -79,7 +79,7 @@ module _ (s : Sizes) (w w′ : Words) (h : Regioned) (to : ℕ → ℕ) (st : St
       go (no n) = omega arith
       go (yes n) =
           let c = cellOn page (usedIn s w′ page) in
-          let f : usedIn s w page ≤ 16 = st .whole .placed .pages page l .cells in
+          let f : usedIn s w page ≤ 16 = st .whole .pages page l .cells in
           let e : pageOf c ≡ page = omega arith in
           let d : placeOf c ≡ usedIn s w′ page = omega arith in
           let u : Used s w c = record { page = omega arith; place = subst (λ (q : ℕ). placeOf c < usedIn s w q) (sym e) (omega arith) } in
@@ -116,7 +116,7 @@ module _ (s : Sizes) (w w′ : Words) (h : Regioned) (to : ℕ → ℕ) (st : St
       go (yes a) b = of-kind Reference f a (omega arith)
       go (no a) (yes b) = of-kind Number (f - refCount w c) (omega arith) (omega arith)
       go (no a) (no b) =
-          st .whole .placed .formed c u .rest f l (omega arith) ∙ sym (st′ .whole .placed .formed c (used-as c u) .rest f l (omega (arith, same)))
+          st .whole .objects c u .rest f l (omega arith) ∙ sym (st′ .whole .objects c (used-as c u) .rest f l (omega (arith, same)))
 
   word-as : (q : ℕ) → Used s w (cellOf q) → getD (w .cells) q 0 ≡ getD (w′ .cells) q 0
   word-as q u = go (wordOf q) refl
@@ -125,7 +125,7 @@ module _ (s : Sizes) (w w′ : Words) (h : Regioned) (to : ℕ → ℕ) (st : St
       go zero e = let a : q ≡ 16 * cellOf q = omega arith in ap (λ (i : ℕ). getD (w .cells) i 0) a ∙ head-as (cellOf q) u ∙ sym (ap (λ (i : ℕ). getD (w′ .cells) i 0) a)
       go (suc zero) e =
           let a : q ≡ 16 * cellOf q + 1 = omega arith in
-          ap (λ (i : ℕ). getD (w .cells) i 0) a ∙ st .whole .placed .working (cellOf q) u ∙ sym (ap (λ (i : ℕ). getD (w′ .cells) i 0) a ∙ st′ .whole .placed .working (cellOf q) (used-as (cellOf q) u))
+          ap (λ (i : ℕ). getD (w .cells) i 0) a ∙ st .whole .works (cellOf q) u ∙ sym (ap (λ (i : ℕ). getD (w′ .cells) i 0) a ∙ st′ .whole .works (cellOf q) (used-as (cellOf q) u))
       go (suc (suc f)) e =
           let a : q ≡ fieldAt (cellOf q) f = omega arith in
           ap (λ (i : ℕ). getD (w .cells) i 0) a ∙ field-as (cellOf q) f u (omega arith) ∙ sym (ap (λ (i : ℕ). getD (w′ .cells) i 0) a)
@@ -148,7 +148,7 @@ module _ (s : Sizes) (w w′ : Words) (h : Regioned) (to : ℕ → ℕ) (st : St
         where
           none : (o : ℕ) → ownerIn s v page ≡ o → ownerIn s v page ≡ 0
           none zero e = e
-          none (suc o) e = absurd (let q : ⊥ = omega (arith, k .placed .pages page l .taken (omega arith)) in q)
+          none (suc o) e = absurd (let q : ⊥ = omega (arith, k .pages page l .taken (omega arith)) in q)
 
       go : Dec (usedIn s w page ≡ 0) → ownerIn s w page ≡ ownerIn s w′ page
       go (yes z) = free w (st .whole) z ∙ sym (free w′ (st′ .whole) (sym p ∙ z))
@@ -193,10 +193,10 @@ module _ (s : Sizes) (w w′ : Words) (h : Regioned) (to : ℕ → ℕ) (st : St
 
   named-same : (i : ℕ) → i < lp.usedIn (w .remember) → SameEntry s w w′ i
   named-same i l =
-      let e = st .whole .placed .remember .entries .named i l in
+      let e = st .whole .remember .entries .named i l in
       let x = cross-as (slotIn (w .remember) i) (e .slot) in
-      let r = st′ .whole .placed .remember .every (slotIn (w .remember) i) (e .slot) (omega (arith, x, e .right, e .region)) in
-      let e′ = st′ .whole .placed .remember .entries .named (r .0) (r .1) in
+      let r = st′ .whole .remember .every (slotIn (w .remember) i) (e .slot) (omega (arith, x, e .right, e .region)) in
+      let e′ = st′ .whole .remember .entries .named (r .0) (r .1) in
       record {
         place = r .0;
         low = r .1;
@@ -208,21 +208,21 @@ module _ (s : Sizes) (w w′ : Words) (h : Regioned) (to : ℕ → ℕ) (st : St
   pub determined : SameButOpen s w w′
   determined =
       record {
-        sizes = st .whole .sized ∙ sym (st′ .whole .sized);
+        sizes = st .whole .sized .sizes ∙ sym (st′ .whole .sized .sizes);
         depths = λ t l. sym (depth-at s w t l) ∙ ap (λ (ds : List ℕ). getD ds t 0) (sym (st .depths) ∙ st′ .depths) ∙ depth-at s w′ t l;
         variables = λ i l. sym (getD-vars s w i l) ∙ ap (λ (vs : List ℕ). getD vs i 0) (st .partners .vars ∙ sym (st′ .partners .vars)) ∙ getD-vars s w′ i l;
         owners = owner-same;
         used = used-same;
-        marks = λ page l. st .whole .placed .marks page l ∙ sym (st′ .whole .placed .marks page l);
-        counts = λ g a b. st .whole .placed .counts g a b ∙ objects-same g ∙ sym (st′ .whole .placed .counts g a b);
+        marks = λ page l. st .whole .marks page l ∙ sym (st′ .whole .marks page l);
+        counts = λ g a b. st .whole .counts g a b ∙ objects-same g ∙ sym (st′ .whole .counts g a b);
         inUse = used-as s w w′ h to st st′;
         cells = word-as s w w′ h to st st′;
-        room = st .whole .sizes .same ∙ ap (λ (z : Sizes). z .entries) (st .whole .sized ∙ sym (st′ .whole .sized)) ∙ sym (st′ .whole .sizes .same);
+        room = st .whole .sized .same ∙ sym (st′ .whole .sized .same);
         entries = entries-same;
         named = named-same;
         unused = λ i l m.
-            let a = st .whole .placed .remember .entries .rest i l m in
-            let b = st′ .whole .placed .remember .entries .rest i (omega (arith, entries-same)) m in
+            let a = st .whole .remember .entries .rest i l m in
+            let b = st′ .whole .remember .entries .rest i (omega (arith, entries-same)) m in
             (a .0 ∙ sym (b .0), a .1 ∙ sym (b .1));
       }
 

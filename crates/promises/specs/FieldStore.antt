@@ -1,12 +1,13 @@
 -- A field of an object is stored, reference or number: the tables stay whole, and the words stand for the heap with that object changed.
-use Prim.Native.Nat.{ℕ, _+_, _*_, _/_, _%_, _≤_, _<_}
+use Prim.Native.Nat.{ℕ, _+_, _≤_, _<_}
 use native.Mathlib.Omega.{arith}
 use native.Mathlib.Decide.{ℕ-discrete, decLt}
-use mathlib.Core.Path.{_≡_, sym, ap, ap₂, subst, _∙_}
+use mathlib.Core.Path.{_≡_, refl, sym, ap, ap₂, subst, _∙_}
 use mathlib.Core.Logic.{_⊎_, inl, inr}
-use mathlib.Core.List.{List, map}
+use mathlib.Core.List.{List, [], _∷_, map}
 use lib.ListN.{length, getD, set, take, drop, length-set}
 use lib.Seq.{drop-set-lt}
+use Rattle.lists.specs.Says.{true-not-false}
 use Rattle.lists.specs.Stores.{put, past, part-other, part-here}
 use Rattle.rules.specs.declared.Sizes.{Sizes}
 use Rattle.rules.specs.NeverFreeing.{Object, noObject}
@@ -14,129 +15,118 @@ use Rattle.rules.specs.Rules.{Regioned, graph}
 use Rattle.laws.specs.GraphLaws.{Alive}
 use Rattle.laws.specs.RulesLaws.{Sound}
 use Rattle.laws.specs.SameRules.{renamed}
-use Rattle.layout.specs.Places.{cellsWords}
+use Rattle.layout.specs.Places.{cellsWords, rememberWords}
 use Rattle.layout.specs.declared.Kind.{Kind}
 use Rattle.layout.specs.declared.Kind.the-variants.{Reference, Number}
-use Rattle.layout.specs.Cells.{headAt, headOf, workAt, workOf, fieldAt, fieldOf, fieldCount, firstField, kind-among}
-use Rattle.layout.specs.Words.{Words, InUse, Used, headIn, refCount, numCount, fieldsAt, fieldsIn}
-use Rattle.promises.specs.Whole.{WholeAt, WholeFor, IsRef, RememberWhole}
+use Rattle.layout.specs.Cells.{headAt, headOf, workAt, workOf, fieldAt, fieldOf, fieldCount, firstField, refsOf, allFields, roomFor, Formed, kind-among, fields-room}
+use Rattle.layout.specs.Words.{Words, Used, headIn, refCount, fieldsAt, fieldsIn}
+use Rattle.promises.specs.Whole.{WholeFor, IsRef, ObjectWhole, RememberWhole}
 use Rattle.promises.specs.StandsFor.{StandsFor, SameFrom}
 use Rattle.promises.specs.Agreed.{cell-used}
-use Rattle.promises.specs.Changes.{withObject}
+use Rattle.promises.specs.Changes.{withCells, withObject}
+use Rattle.promises.specs.Areas.{headWords, workWords, fieldWords, entryWords, among, Same, Only, only-trans, cells-only, entries-only}
+use Rattle.promises.specs.Frames.{sized-frame, depths-frame, pages-frame, partial-frame, counts-frame, variables-frame, marks-frame, works-frame, objects-stay}
 
--- ---- whole
-
-module _ (p : Sizes) (c m t : List ℕ) (w : WholeAt p c m t) (y j v : ℕ) (u : InUse p t y) (low : j < headOf c y / 16 + headOf c y % 16) (fit : 256 * p .pages ≤ length c) where
-  abbrev c′ : List ℕ
-  c′ = set c (fieldAt y j) v
-
-  few : j < 14
-  few = omega (arith, w .formed y u .head)
-
-  pub field-room : fieldAt y j < 256 * p .pages
-  field-room = omega (arith, few, u .page)
-
-  pub head-kept : (k : ℕ) → headOf c′ k ≡ headOf c k
-  head-kept k = past c (fieldAt y j) v (headAt k) 0 (λ (e : headAt k ≡ fieldAt y j). omega (arith, few))
-
-  work-kept : (k : ℕ) → workOf c′ k ≡ workOf c k
-  work-kept k = past c (fieldAt y j) v (workAt k) 0 (λ (e : workAt k ≡ fieldAt y j). omega (arith, few))
-
-  pub field-here : fieldOf c′ y j ≡ v
-  field-here = put c (fieldAt y j) v 0 (omega (arith, field-room))
-
-  pub field-kept : (k f : ℕ) → f < 14 → (k ≡ y → f ≡ j → ⊥) → fieldOf c′ k f ≡ fieldOf c k f
-  field-kept k f l d = past c (fieldAt y j) v (fieldAt k f) 0 (λ (e : fieldAt k f ≡ fieldAt y j). d (omega (arith, few)) (omega (arith, few)))
-
-  module _ (m′ : List ℕ) (ref : j < headOf c y / 16 → IsRef p t v) where
-    references : (k : ℕ) → InUse p t k → (f : ℕ) → f < headOf c′ k / 16 → IsRef p t (fieldOf c′ k f)
-    references k i f l = go (ℕ-discrete k y) (ℕ-discrete f j)
-      where
-        n : f < headOf c k / 16
-        n = omega (arith, head-kept k)
-
-        other : (k ≡ y → f ≡ j → ⊥) → IsRef p t (fieldOf c′ k f)
-        other d = subst (IsRef p t) (sym (field-kept k f (omega (arith, n, w .formed k i .head)) d)) (w .references k i f n)
-
-        go : Dec (k ≡ y) → Dec (f ≡ j) → IsRef p t (fieldOf c′ k f)
-        go (yes a) (yes b) =
-            subst (IsRef p t) (sym (ap₂ (fieldOf c′) a b ∙ field-here)) (ref (omega (arith, n, b, ap (λ (z : ℕ). headOf c z / 16) a)))
-        go (yes a) (no b) = other (λ x y. b y)
-        go (no a) b = other (λ x y. a x)
-
-    rest : (k : ℕ) → InUse p t k → (f : ℕ) → f < 14 → headOf c′ k / 16 + headOf c′ k % 16 ≤ f → fieldOf c′ k f ≡ 0
-    rest k i f l h =
-        let n : headOf c k / 16 + headOf c k % 16 ≤ f = subst (λ (z : ℕ). z / 16 + z % 16 ≤ f) (head-kept k) h in
-        field-kept k f l (λ (a : k ≡ y) (b : f ≡ j). omega (arith, low, ap (λ (z : ℕ). headOf c z / 16 + headOf c z % 16) a)) ∙ w .formed k i .rest f l n
-
-    pub field-whole : RememberWhole p c′ m′ t → WholeAt p c′ m′ t
-    field-whole r =
-        record {
-          depths = w .depths;
-          pages = w .pages;
-          partial = w .partial;
-          counts = w .counts;
-          variables = w .variables;
-          references = references;
-          formed = λ k i. record { head = subst (λ (z : ℕ). z / 16 + z % 16 ≤ 14) (sym (head-kept k)) (w .formed k i .head); rest = rest k i };
-          marks = w .marks;
-          working = λ k i. work-kept k ∙ w .working k i;
-          remember = r;
-        }
-
--- other cells and another remember table, as long and of as many entries
-pub whole-with : (s : Sizes) (w : Words) → WholeFor s w → (c′ m′ : List ℕ) → length c′ ≡ length (w .cells) → length m′ ≡ length (w .remember) → getD m′ 0 0 ≡ getD (w .remember) 0 0
-    → WholeAt s c′ m′ (w .tables) → WholeFor s (record { cells = c′; remember = m′; tables = w .tables })
-whole-with s w k c′ m′ lc lm e p =
-    let z = k .sizes in
-    record {
-      sized = k .sized;
-      sizes = record {
-        sized = z .sized;
-        counted = omega (arith, z .counted);
-        range = z .range;
-        same = e ∙ z .same;
-        cells = omega (arith, z .cells);
-        remember = omega (arith, z .remember);
-        tables = z .tables;
-      };
-      placed = p;
-    }
-
--- ---- the cells past the length, and the fields read again
-
-module _ (s : Sizes) (w : Words) (k : WholeFor s w) (y j v : ℕ) (u : Used s w y) (low : j < refCount w y + numCount w y) where
+module _ (s : Sizes) (w : Words) (k : WholeFor s w) (y j v : ℕ) (u : Used s w y) (low : j < allFields (headIn w y)) where
   abbrev C : List ℕ
   C = set (w .cells) (fieldAt y j) v
 
-  limit : j < 14
-  limit = omega (arith, k .placed .formed y u .head)
+  few : j < roomFor (headIn w y)
+  few = omega (arith, fields-room (headIn w y) (k .objects y u .head))
 
-  pub cells-beyond : SameFrom (cellsWords s) (w .cells) C
-  cells-beyond = record { long = length-set (w .cells) (fieldAt y j) v; rest = drop-set-lt (cellsWords s) (w .cells) (fieldAt y j) v (omega (arith, limit, u .page)) }
+  pub field-room : fieldAt y j < cellsWords s
+  field-room = omega (arith, few, u .page)
 
-  head-same : (x : ℕ) → headOf C x ≡ headOf (w .cells) x
-  head-same x = past (w .cells) (fieldAt y j) v (headAt x) 0 (λ (e : headAt x ≡ fieldAt y j). omega (arith, limit))
+  -- ---- the words
+
+  head-kept : (x : ℕ) → Used s w x → headOf C x ≡ headIn w x
+  head-kept x i = past (w .cells) (fieldAt y j) v (headAt x) 0 (λ (e : headAt x ≡ fieldAt y j). omega (arith, few))
+
+  work-kept : (x : ℕ) → Used s w x → workOf C x ≡ workOf (w .cells) x
+  work-kept x i = past (w .cells) (fieldAt y j) v (workAt x) 0 (λ (e : workAt x ≡ fieldAt y j). omega (arith, few))
+
+  field-here : fieldOf C y j ≡ v
+  field-here = put (w .cells) (fieldAt y j) v 0 (omega (arith, field-room, k .sized .cells))
+
+  field-kept : (x f : ℕ) → Used s w x → f < roomFor (headIn w x) → (x ≡ y → f ≡ j → ⊥) → fieldOf C x f ≡ fieldOf (w .cells) x f
+  field-kept x f i l d = past (w .cells) (fieldAt y j) v (fieldAt x f) 0 (λ (e : fieldAt x f ≡ fieldAt y j). d (omega (arith, few)) (omega (arith, few)))
+
+  pub field-only : Only (fieldWords ∷ []) s w (withCells w C)
+  field-only =
+      cells-only s w C (fieldWords ∷ []) (λ n. head-kept) (λ n. work-kept) (λ n. absurd (true-not-false (sym n)))
+      (record { long = length-set (w .cells) (fieldAt y j) v; rest = drop-set-lt (cellsWords s) (w .cells) (fieldAt y j) v field-room })
+
+  -- ---- whole, with a remember table that follows
+
+  module _ (m′ : List ℕ) (size : getD m′ 0 0 ≡ getD (w .remember) 0 0) (past′ : SameFrom (rememberWords s) (w .remember) m′) where
+    abbrev w′ : Words
+    w′ = record { cells = C; remember = m′; tables = w .tables }
+
+    pub stored-only : Only (fieldWords ∷ entryWords ∷ []) s w w′
+    stored-only = only-trans field-only (entries-only s (withCells w C) m′ size past′) (objects-stay field-only refl refl)
+
+    objects : (j < refCount w y → IsRef s (w .tables) v) → (x : ℕ) → Used s w x → ObjectWhole s C (w .tables) x
+    objects ref x i =
+        record {
+          head = subst Formed (sym e) (o .head);
+          rest = λ f l m.
+              let n : allFields (headIn w x) ≤ f = subst (λ (h : ℕ). allFields h ≤ f) e m in
+              let r : f < roomFor (headIn w x) = subst (λ (h : ℕ). f < roomFor h) e l in
+              field-kept x f i r (λ (a : x ≡ y) (b : f ≡ j). omega (arith, low, ap (λ (z : ℕ). allFields (headIn w z)) a)) ∙ o .rest f r n;
+          references = λ f l. let n : f < refCount w x = subst (λ (h : ℕ). f < fieldCount Reference h) e l in go f n (ℕ-discrete x y) (ℕ-discrete f j);
+        }
+      where
+        o : ObjectWhole s (w .cells) (w .tables) x
+        o = k .objects x i
+
+        e : headOf C x ≡ headIn w x
+        e = head-kept x i
+
+        other : (f : ℕ) → f < refCount w x → (x ≡ y → f ≡ j → ⊥) → IsRef s (w .tables) (fieldOf C x f)
+        other f n d =
+            subst (IsRef s (w .tables)) (sym (field-kept x f i (omega (arith, kind-among Reference (headIn w x), fields-room (headIn w x) (o .head))) d)) (o .references f n)
+
+        go : (f : ℕ) → f < refCount w x → Dec (x ≡ y) → Dec (f ≡ j) → IsRef s (w .tables) (fieldOf C x f)
+        go f n (yes a) (yes b) = subst (IsRef s (w .tables)) (sym (ap₂ (fieldOf C) a b ∙ field-here)) (ref (omega (arith, n, b, ap (refCount w) a)))
+        go f n (yes a) (no b) = other f n (λ p q. b q)
+        go f n (no a) b = other f n (λ p q. a p)
+
+    pub field-whole : (j < refCount w y → IsRef s (w .tables) v) → RememberWhole s w′ → WholeFor s w′
+    field-whole ref r =
+        record {
+          sized = sized-frame stored-only refl (k .sized);
+          depths = depths-frame stored-only refl (k .depths);
+          pages = pages-frame stored-only refl refl refl (k .pages);
+          partial = partial-frame stored-only refl refl (k .partial);
+          counts = counts-frame stored-only refl refl refl (k .counts);
+          variables = variables-frame stored-only refl refl (k .variables);
+          objects = objects ref;
+          marks = marks-frame stored-only refl (k .marks);
+          works = works-frame stored-only refl refl (k .works);
+          remember = r;
+        }
+
+  -- ---- the fields read again
 
   abbrev from : Kind → ℕ → ℕ
   from d x = fieldAt x (firstField d (headIn w x))
 
   -- of a kind, where the stored one is not among them
-  pub fields-kept : (d : Kind) (x : ℕ) → (fieldAt y j < from d x) ⊎ (from d x + fieldCount d (headIn w x) ≤ fieldAt y j) → fieldsAt d C x ≡ fieldsIn d w x
+  pub fields-kept : (d : Kind) (x : ℕ) → Used s w x → (fieldAt y j < from d x) ⊎ (from d x + fieldCount d (headIn w x) ≤ fieldAt y j) → fieldsAt d C x ≡ fieldsIn d w x
   unfolding fieldsAt
-  fields-kept d x e =
-      ap (λ (z : ℕ). take (fieldCount d z) (drop (fieldAt x (firstField d z)) C)) (head-same x)
+  fields-kept d x i e =
+      ap (λ (z : ℕ). take (fieldCount d z) (drop (fieldAt x (firstField d z)) C)) (head-kept x i)
       ∙ part-other (fieldCount d (headIn w x)) (from d x) (w .cells) (fieldAt y j) v e
 
   -- of another object
   fields-elsewhere : (d : Kind) (x : ℕ) → Used s w x → (x ≡ y → ⊥) → fieldsAt d C x ≡ fieldsIn d w x
-  fields-elsewhere d x ux n = fields-kept d x (go (decLt y x))
+  fields-elsewhere d x ux n = fields-kept d x ux (go (decLt y x))
     where
-      within : firstField d (headIn w x) + fieldCount d (headIn w x) ≤ 14
-      within = omega (arith, kind-among d (headIn w x), k .placed .formed x ux .head)
+      within : firstField d (headIn w x) + fieldCount d (headIn w x) ≤ roomFor (headIn w x)
+      within = omega (arith, kind-among d (headIn w x), fields-room (headIn w x) (k .objects x ux .head))
 
       go : Dec (y < x) → (fieldAt y j < from d x) ⊎ (from d x + fieldCount d (headIn w x) ≤ fieldAt y j)
-      go (yes l) = inl (omega (arith, limit))
+      go (yes l) = inl (omega (arith, few))
       go (no l) = let g : x < y = omega arith in inr (omega (arith, within))
 
   -- of a kind, where the stored one is the b-th of them
@@ -144,13 +134,13 @@ module _ (s : Sizes) (w : Words) (k : WholeFor s w) (y j v : ℕ) (u : Used s w 
   unfolding fieldsAt
   fields-set d b l q =
       let e : fieldAt y j ≡ from d y + b = omega arith in
-      ap (λ (z : ℕ). take (fieldCount d z) (drop (fieldAt y (firstField d z)) C)) (head-same y)
+      ap (λ (z : ℕ). take (fieldCount d z) (drop (fieldAt y (firstField d z)) C)) (head-kept y u)
       ∙ ap (λ (z : ℕ). take (fieldCount d (headIn w y)) (drop (from d y) (set (w .cells) z v))) e ∙ part-here (fieldCount d (headIn w y)) (from d y) (w .cells) b v l
 
 -- ---- object x becomes o
 
 pub object-stands : (s : Sizes) (w : Words) (h : Regioned) (cellOf : ℕ → ℕ) (st : StandsFor s w h cellOf) (x : ℕ) → Alive (graph h) x
-    → (j v : ℕ) → j < refCount w (cellOf x) + numCount w (cellOf x) → (m′ : List ℕ) (o : Object)
+    → (j v : ℕ) → j < allFields (headIn w (cellOf x)) → (m′ : List ℕ) (o : Object)
     → WholeFor s (record { cells = set (w .cells) (fieldAt (cellOf x) j) v; remember = m′; tables = w .tables })
     → fieldsAt Reference (set (w .cells) (fieldAt (cellOf x) j) v) (cellOf x) ≡ map (renamed cellOf) (o .refs)
     → o .nums ≡ fieldsAt Number (set (w .cells) (fieldAt (cellOf x) j) v) (cellOf x)

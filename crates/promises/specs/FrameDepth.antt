@@ -2,39 +2,35 @@
 use Prim.Native.Nat.{ℕ, _*_, _≤_, _<_}
 use native.Mathlib.Omega.{arith}
 use native.Mathlib.Decide.{ℕ-discrete}
-use mathlib.Core.Path.{_≡_, refl, sym, ap, subst, _∙_}
-use mathlib.Core.List.{List}
-use lib.ListN.{length, set, take, drop, length-set}
-use lib.Seq.{drop-set-add, drop-set-lt, take-set-lt}
+use mathlib.Core.Path.{_≡_, refl, sym, ap, _∙_}
+use mathlib.Core.List.{List, [], _∷_}
+use lib.ListN.{length, set, take, drop}
+use lib.Seq.{drop-set-add, take-set-lt}
 use Rattle.lists.specs.Stores.{put, past}
 use Rattle.rules.specs.declared.Sizes.{Sizes}
+use Rattle.rules.specs.Regions.{threadOf}
 use Rattle.rules.specs.Rules.{Regioned}
 use Rattle.laws.specs.RulesLaws.{Sound}
-use Rattle.layout.specs.Places.{depthAt, depthOf, varAt, varOf, ownersFrom, tablesWords, count-room, count-is}
-use Rattle.layout.specs.Words.{Words, depthsAt, varsAt, depthIn, depthsIn, varsIn, ownerIn}
-use Rattle.promises.specs.Whole.{WholeFor, Open, IsRef}
-use Rattle.promises.specs.StandsFor.{StandsFor, SameBeyond}
-use Rattle.promises.specs.Reading.{tables-room, vars-room}
+use Rattle.layout.specs.Places.{depthAt, depthOf, tablesWords, count-room, count-is, owners-is}
+use Rattle.layout.specs.Words.{Words, depthsAt, depthIn, depthsIn, ownerIn}
+use Rattle.promises.specs.Whole.{WholeFor, Open}
+use Rattle.promises.specs.StandsFor.{StandsFor}
 use Rattle.promises.specs.Changes.{withTables, withDepth}
-use Rattle.promises.specs.KeptPages.{PagesKept, ref-kept, home-kept, kept-whole, still-open}
+use Rattle.promises.specs.Areas.{depthWords, Only, depth-in, store-only}
+use Rattle.promises.specs.Frames.{sized-frame, pages-open, partial-frame, counts-frame, variables-frame, objects-frame, marks-frame, works-frame, remember-frame, vars-same, tables-stand}
 
 module _ (s : Sizes) (w : Words) (k : WholeFor s w) (t d : ℕ) (l : t < s .threads) where
   abbrev T : List ℕ
   T = set (w .tables) (depthAt t) d
 
-  fits : (depthAt t < ownersFrom s) × (depthAt t < tablesWords s) × (depthAt t < length (w .tables))
-  fits = omega (arith, vars-room s w k, tables-room s w k, count-room s, count-is s)
+  low : depthAt t < tablesWords s
+  low = omega (arith, count-room s, count-is s, owners-is s)
 
-  kept : PagesKept s (w .tables) T
-  kept =
-      record {
-        long = length-set (w .tables) (depthAt t) d;
-        low = λ j m. past (w .tables) (depthAt t) d j 0 (λ (e : j ≡ depthAt t). omega arith);
-        high = λ j m. past (w .tables) (depthAt t) d j 0 (λ (e : j ≡ depthAt t). omega (arith, fits));
-      }
+  pub depth-only : Only (depthWords ∷ []) s w (withTables w T)
+  depth-only = store-only s w depthWords (depthAt t) d (depth-in s t l) low
 
   here : depthOf T t ≡ d
-  here = put (w .tables) (depthAt t) d 0 (fits .2)
+  here = put (w .tables) (depthAt t) d 0 (omega (arith, low, k .sized .tables))
 
   elsewhere : (u : ℕ) → (u ≡ t → ⊥) → depthOf T u ≡ depthOf (w .tables) u
   elsewhere u n = past (w .tables) (depthAt t) d (depthAt u) 0 (λ (e : depthAt u ≡ depthAt t). n (omega arith))
@@ -45,17 +41,28 @@ module _ (s : Sizes) (w : Words) (k : WholeFor s w) (t d : ℕ) (l : t < s .thre
 
   pub depth-whole : d ≤ s .depth → OpenStill → WholeFor s (withTables w T)
   depth-whole m o =
-      kept-whole s w k T kept (λ u n. go u n (ℕ-discrete u t)) o
-      (λ i n. subst (IsRef s T) (sym (past (w .tables) (depthAt t) d (varAt s i) 0 (λ (e : varAt s i ≡ depthAt t). omega arith)))
-      (ref-kept s (w .tables) T kept (varOf s (w .tables) i) (k .placed .variables i n)))
+      record {
+        sized = sized-frame depth-only refl (k .sized);
+        depths = λ u n. go u n (ℕ-discrete u t);
+        pages = pages-open depth-only refl refl (k .pages) o;
+        partial = partial-frame depth-only refl refl (k .partial);
+        counts = counts-frame depth-only refl refl refl (k .counts);
+        variables = variables-frame depth-only refl refl (k .variables);
+        objects = objects-frame depth-only refl refl refl (k .objects);
+        marks = marks-frame depth-only refl (k .marks);
+        works = works-frame depth-only refl refl (k .works);
+        remember = remember-frame depth-only refl refl refl refl refl (k .remember);
+      }
     where
       go : (u : ℕ) → u < s .threads → Dec (u ≡ t) → depthOf T u ≤ s .depth
       go u n (yes e) = omega (arith, ap (depthOf T) e, here)
-      go u n (no e) = omega (arith, elsewhere u e, k .placed .depths u n)
+      go u n (no e) = omega (arith, elsewhere u e, k .depths u n)
 
   -- they are if it does not fall
   pub raised-open : depthIn w t ≤ d → OpenStill
-  raised-open m = still-open s w k T kept (λ u n. go u (ℕ-discrete u t))
+  raised-open m page n z =
+      let o = k .pages page n .region z in
+      record { real = o .real; thread = o .thread; level = omega (arith, o .level, go (threadOf s (ownerIn s w page)) (ℕ-discrete (threadOf s (ownerIn s w page)) t)) }
     where
       go : (u : ℕ) → Dec (u ≡ t) → depthOf (w .tables) u ≤ depthOf T u
       go u (yes e) = omega (arith, ap (depthOf T) e, ap (depthOf (w .tables)) e, here)
@@ -67,34 +74,11 @@ module _ (s : Sizes) (w : Words) (k : WholeFor s w) (t d : ℕ) (l : t < s .thre
       let b = depthAt 0 in
       ap (take (s .threads)) (drop-set-add b (w .tables) t d) ∙ take-set-lt (s .threads) (drop b (w .tables)) t d l
 
-  vars-same : varsIn s (withTables w T) ≡ varsIn s w
-  unfolding varsAt
-  vars-same = ap (take (s .threads * s .variables)) (drop-set-lt (varAt s 0) (w .tables) (depthAt t) d (omega arith))
-
-  pub depth-beyond : SameBeyond s w (withTables w T)
-  depth-beyond =
-      record {
-        cells = record { long = refl; rest = refl };
-        remember = record { long = refl; rest = refl };
-        tables = record { long = length-set (w .tables) (depthAt t) d; rest = drop-set-lt (tablesWords s) (w .tables) (depthAt t) d (fits .1) };
-      }
-
 -- thread t gets depth d
 pub depth-stands : (s : Sizes) (w : Words) (h : Regioned) (cellOf : ℕ → ℕ) (st : StandsFor s w h cellOf) (t d : ℕ) (l : t < s .threads) → d ≤ s .depth
     → OpenStill s w (st .whole) t d l → Sound (withDepth h t d) → StandsFor s (withTables w (set (w .tables) (depthAt t) d)) (withDepth h t d) cellOf
 depth-stands s w h cellOf st t d l m o sound =
     let k = st .whole in
-    let home = home-kept s (w .tables) (set (w .tables) (depthAt t) d) (kept s w k t d l) in
-    record {
-      whole = depth-whole s w k t d l m o;
-      sound = sound;
-      depths = ap (λ (ds : List ℕ). set ds t d) (st .depths) ∙ sym (depths-set s w k t d l);
-      partners = record {
-        home = λ x a. home (cellOf x) ∙ st .partners .home x a;
-        apart = st .partners .apart;
-        onto = λ y a. st .partners .onto y (λ z. a (home y ∙ z));
-        refs = st .partners .refs;
-        vars = vars-same s w k t d l ∙ st .partners .vars;
-      };
-      nums = st .nums;
-    }
+    let only = depth-only s w k t d l in
+    tables-stand st only refl refl (set (h .heap .depths) t d) (h .heap .vars) (depth-whole s w k t d l m o)
+    (ap (λ (ds : List ℕ). set ds t d) (st .depths) ∙ sym (depths-set s w k t d l)) (vars-same only refl ∙ st .partners .vars) sound

@@ -23,15 +23,17 @@ use Rattle.laws.specs.SameRules.{renamed, renamed-zeros}
 use Rattle.layout.specs.Places.{varAt}
 use Rattle.layout.specs.declared.Kind.{Kind}
 use Rattle.layout.specs.declared.Kind.the-variants.{Reference, Number}
-use Rattle.layout.specs.Cells.{headOf, fieldCount, firstField, headWord, kind-low}
+use Rattle.layout.specs.Cells.{headOf, fieldCount, firstField, headWord, mostFields, kind-among, fields-room, refs-head, nums-head}
 use Rattle.layout.specs.Words.{Words, Used, fieldsAt, homeIn, graphOf}
 use Rattle.promises.specs.Whole.{WholeFor, Open}
 use Rattle.promises.specs.StandsFor.{StandsFor}
 use Rattle.promises.specs.Reading.{alive-used, used-alive, used-home, length-fields, getD-fields}
 use Rattle.promises.specs.Agreed.{cell-used}
 use Rattle.promises.specs.Changes.{withTables, withNew, withVariable}
+use Rattle.promises.specs.Areas.{ownerWords, usedWords, countWords, Only}
+use Rattle.promises.specs.Frames.{depths-same, vars-same, fields-same}
 use Rattle.promises.specs.TakeCell.{Took, took-used, took-unused, still-used, used-split, owner-used}
-use Rattle.promises.specs.NewCell.{Blank, new-whole, depths-kept, vars-kept, fields-other}
+use Rattle.promises.specs.NewCell.{Blank, new-only, new-whole}
 use Rattle.promises.specs.FrameVariable.{variable-stands}
 
 -- an object of b nulls and d zeros
@@ -43,7 +45,7 @@ abbrev pub withCell : Regioned → (ℕ → ℕ) → ℕ → ℕ → ℕ
 withCell h to cell x = cond (eqb x (length (h .heap .objects))) cell (to x)
 
 module _ (s : Sizes) (w : Words) (h : Regioned) (to : ℕ → ℕ) (st : StandsFor s w h to) (g cell b d : ℕ) (t′ c′ : List ℕ) (took : Took s (w .tables) g cell t′)
-    (blank : Blank (w .cells) cell (16 * b + d) c′) (few : b + d ≤ 14) (pos : 1 ≤ g) (low : g ≤ regions s) (open′ : 1 < g → Open s (w .tables) g) where
+    (blank : Blank (w .cells) cell (headWord b d) c′) (few : b + d ≤ mostFields) (pos : 1 ≤ g) (low : g ≤ regions s) (open′ : 1 < g → Open s (w .tables) g) where
   abbrev n : ℕ
   n = length (h .heap .objects)
 
@@ -61,6 +63,9 @@ module _ (s : Sizes) (w : Words) (h : Regioned) (to : ℕ → ℕ) (st : StandsF
 
   k₁ : WholeFor s w₁
   k₁ = new-whole s w (st .whole) g cell b d t′ c′ took blank few pos low open′
+
+  only : Only (ownerWords ∷ usedWords ∷ countWords ∷ []) s w w₁
+  only = new-only s w (st .whole) g cell b d t′ c′ took blank few pos low open′
 
   to-new : to₁ n ≡ cell
   to-new = ap (λ (x : Bool). cond x cell (to n)) (eq-eqb n n refl)
@@ -113,7 +118,7 @@ module _ (s : Sizes) (w : Words) (h : Regioned) (to : ℕ → ℕ) (st : StandsF
 
   home-kept : (y : ℕ) → Used s w y → homeIn s w₁ y ≡ homeIn s w y
   home-kept y u =
-      used-home s w₁ k₁ y (still-used s (w .tables) g cell t′ took y u) ∙ owner-used s (w .tables) g cell t′ took (st .whole .placed .pages) y u ∙ sym (used-home s w (st .whole) y u)
+      used-home s w₁ k₁ y (still-used s (w .tables) g cell t′ took y u) ∙ owner-used s (w .tables) g cell t′ took (st .whole .pages) y u ∙ sym (used-home s w (st .whole) y u)
 
   apart-new : (x : ℕ) → Alive (graph h) x → to x ≡ cell → ⊥
   apart-new x a e = took-unused s (w .tables) g cell t′ took (subst (Used s w) e (in-use x a))
@@ -142,22 +147,24 @@ module _ (s : Sizes) (w : Words) (h : Regioned) (to : ℕ → ℕ) (st : StandsF
       go zero i = refl
       go (suc y) i = ap suc (to-old y (f y i))
 
+  fields-old : (f : Kind) (y : ℕ) → Used s w y → fieldsAt f c′ y ≡ fieldsAt f (w .cells) y
+  fields-old f y u = fields-same only refl refl f y u (st .whole .objects y u .head)
+
   fields-new : (f : Kind) (m : ℕ) → fieldCount f (headWord b d) ≡ m → fieldsAt f c′ cell ≡ replicate m 0
   fields-new f m e =
       all-zero (fieldsAt f c′ cell) m (length-fields s w₁ k₁ f cell new-used ∙ count)
       (λ i l. let n : i < fieldCount f (headOf c′ cell) = omega (arith, count) in
-      getD-fields f w₁ cell i n ∙ blank .fields (firstField f (headOf c′ cell) + i) (kind-low f c′ cell i (k₁ .placed .formed cell new-used .head) n))
+      getD-fields f w₁ cell i n ∙ blank .fields (firstField f (headOf c′ cell) + i) (omega (arith, kind-among f (headOf c′ cell), fields-room (headOf c′ cell) (k₁ .objects cell new-used .head))))
     where
       count : fieldCount f (headOf c′ cell) ≡ m
       count = ap (fieldCount f) (blank .head) ∙ e
 
   pub new-stands : Sound h₁ → StandsFor s w₁ h₁ to₁
   new-stands sound =
-      let kw = st .whole in
       record {
         whole = k₁;
         sound = sound;
-        depths = st .depths ∙ sym (depths-kept s w kw g cell b d t′ c′ took blank few pos low open′);
+        depths = st .depths ∙ sym (depths-same only refl);
         partners = record {
           home = cases (λ x y. homeIn s w₁ y ≡ graph h₁ .home x)
               (λ x a. home-kept (to x) (in-use x a) ∙ st .partners .home x a ∙ sym (home-old x (below x a)))
@@ -165,15 +172,15 @@ module _ (s : Sizes) (w : Words) (h : Regioned) (to : ℕ → ℕ) (st : StandsF
           apart = λ x y a c e. one-to-one x y (split x a) (split y c) e;
           onto = onto;
           refs = cases (λ x y. fieldsAt Reference c′ y ≡ map (renamed to₁) (getD (h₁ .heap .objects) x noObject .refs))
-              (λ x a. fields-other s w kw g cell b d t′ c′ took blank few pos low open′ Reference (to x) (in-use x a) ∙ st .partners .refs x a
+              (λ x a. fields-old Reference (to x) (in-use x a) ∙ st .partners .refs x a
               ∙ sym (ap (λ (q : Object). map (renamed to₁) (q .refs)) (object-old x (below x a)) ∙ renamed-old (graph h .refs x) (λ y i. st .sound .closed .refs x y a i)))
-              (fields-new Reference b (omega arith) ∙ sym (ap (λ (q : Object). map (renamed to₁) (q .refs)) object-new ∙ renamed-zeros b to₁));
-          vars = vars-kept s w kw g cell b d t′ c′ took blank few pos low open′ ∙ st .partners .vars
+              (fields-new Reference b (refs-head b d few) ∙ sym (ap (λ (q : Object). map (renamed to₁) (q .refs)) object-new ∙ renamed-zeros b to₁));
+          vars = vars-same only refl ∙ st .partners .vars
               ∙ sym (renamed-old (h .heap .vars) (λ y i. let j = in-place (h .heap .vars) (suc y) i in st .sound .closed .vars (j .0) y (j .2)));
         };
         nums = cases (λ x y. getD (h₁ .heap .objects) x noObject .nums ≡ fieldsAt Number c′ y)
-            (λ x a. ap (λ (q : Object). q .nums) (object-old x (below x a)) ∙ st .nums x a ∙ sym (fields-other s w kw g cell b d t′ c′ took blank few pos low open′ Number (to x) (in-use x a)))
-            (ap (λ (q : Object). q .nums) object-new ∙ sym (fields-new Number d (omega arith)));
+            (λ x a. ap (λ (q : Object). q .nums) (object-old x (below x a)) ∙ st .nums x a ∙ sym (fields-old Number (to x) (in-use x a)))
+            (ap (λ (q : Object). q .nums) object-new ∙ sym (fields-new Number d (nums-head b d few)));
       }
 
   -- ---- and variable i, counted through all threads, names it

@@ -4,8 +4,8 @@ use native.Mathlib.Omega.{arith}
 use mathlib.Core.Path.{_≡_, refl, sym, ap, ap₂, subst, _∙_}
 use mathlib.Core.Bool.{cond, not, _&&_}
 use mathlib.Core.Logic.{inl}
-use mathlib.Core.List.{List}
-use lib.ListN.{length, getD, set, length-set, length-map, List·getD-map}
+use mathlib.Core.List.{List, [], _∷_}
+use lib.ListN.{length, getD, set, length-map, List·getD-map}
 use lib.Dec.{ltb, eqb}
 use borrow.Author.Tests.{lt-ltb, le-ltb}
 use Rattle.lists.specs.Counting.{bit}
@@ -23,18 +23,19 @@ use Rattle.laws.specs.AfterLaws.{graph-stored}
 use Rattle.layout.specs.declared.Kind.the-variants.{Reference, Number}
 use Rattle.layout.specs.Places as lp
 use Rattle.layout.specs.Places.{cellsWords, rememberWords}
-use Rattle.layout.specs.Cells.{fieldAt, fieldOf, cellOf}
-use Rattle.layout.specs.Words.{Words, Used, refCount}
+use Rattle.layout.specs.Cells.{fieldAt, fieldOf, allFields, roomFor, kind-among, fields-room, cellOf}
+use Rattle.layout.specs.Words.{Words, Used, headIn, refCount}
 use Rattle.remember.specs.Crossing.{crossTo}
 use Rattle.promises.specs.Whole.{WholeFor, IsRef}
-use Rattle.promises.specs.StandsFor.{StandsFor, SameBeyond}
-use Rattle.promises.specs.Reading.{alive-used, cells-room, remember-room, length-refs, getD-refs}
+use Rattle.promises.specs.StandsFor.{StandsFor, SameFrom}
+use Rattle.promises.specs.Reading.{alive-used, length-refs, getD-refs}
 use Rattle.promises.specs.Crossings.{ref-test, heap-entries}
 use Rattle.promises.specs.Changes.{withObject, withField}
+use Rattle.promises.specs.Areas.{fieldWords, entryWords, Only}
 use Rattle.remember.specs.Entries.{Edited}
 use Rattle.promises.specs.Slots.{Slot, crossesTo, field-slot, slot-cross, cross-stored, cross-elsewhere, exact-of, of-exact}
 use Rattle.remember.specs.Remembering.{Remembered, NoRoom, remembered-exact, remembered-edited}
-use Rattle.promises.specs.FieldStore.{field-whole, whole-with, cells-beyond, object-stands, fields-kept, fields-set}
+use Rattle.promises.specs.FieldStore.{field-room, stored-only, field-whole, object-stands, fields-kept, fields-set}
 use Rattle.promises.specs.FrameVariable.{ref-to-cell}
 
 -- the slot of reference f in cell y, the region it crosses into, and that which reference v would there
@@ -57,8 +58,11 @@ module _ (s : Sizes) (w : Words) (k : WholeFor s w) (y f v : ℕ) (u : Used s w 
   abbrev at : ℕ
   at = fieldAt y f
 
-  few : f < 14
-  few = omega (arith, k .placed .formed y u .head)
+  within : f < allFields (headIn w y)
+  within = omega (arith, kind-among Reference (headIn w y))
+
+  few : f < roomFor (headIn w y)
+  few = omega (arith, within, fields-room (headIn w y) (k .objects y u .head))
 
   pub reference-slot : Slot s (w .cells) (w .tables) at
   reference-slot = field-slot s (w .cells) (w .tables) y f u few low
@@ -67,7 +71,7 @@ module _ (s : Sizes) (w : Words) (k : WholeFor s w) (y f v : ℕ) (u : Used s w 
   cell-is = omega (arith, few)
 
   room : at < cellsWords s
-  room = omega (arith, few, u .page)
+  room = field-room s w k y f v u within
 
   before : crossTo s (w .cells) (w .tables) at ≡ crossedTo s w y f v
   before =
@@ -75,32 +79,29 @@ module _ (s : Sizes) (w : Words) (k : WholeFor s w) (y f v : ℕ) (u : Used s w 
 
   after : crossTo s (set (w .cells) at v) (w .tables) at ≡ willCross s w y f v
   after =
-      cross-stored s (w .cells) (w .tables) at v reference-slot (omega (arith, room, cells-room s w k)) ∙ ap (λ (z : ℕ). crossesTo s (w .tables) z v) cell-is
+      cross-stored s (w .cells) (w .tables) at v reference-slot (omega (arith, room, k .sized .cells)) ∙ ap (λ (z : ℕ). crossesTo s (w .tables) z v) cell-is
 
   -- a slot that crosses has its entry
   pub reference-named : 0 < crossedTo s w y f v → (i : ℕ) × (i < lp.usedIn (w .remember)) × (lp.slotIn (w .remember) i ≡ at)
-  reference-named h = k .placed .remember .every at room (subst (λ (z : ℕ). 0 < z) (sym before) h)
+  reference-named h = k .remember .every at room (subst (λ (z : ℕ). 0 < z) (sym before) h)
 
   module _ (m′ : List ℕ) (r : ℕ) (d : Followed s w y f v m′ r) where
     edited : Edited (s .entries) (w .remember) m′
-    edited = remembered-edited (s .entries) (w .remember) at _ _ m′ r (remember-room s w k) (k .placed .remember .entries .room) d
+    edited = remembered-edited (s .entries) (w .remember) at _ _ m′ r (k .sized .remember) (k .remember .entries .room) d
+
+    spare : SameFrom (rememberWords s) (w .remember) m′
+    spare = record { long = edited .long; rest = drop-same (rememberWords s) (w .remember) m′ (edited .long) (edited .spare) }
+
+    pub reference-only : Only (fieldWords ∷ entryWords ∷ []) s w (storedWords s w y f v m′)
+    reference-only = stored-only s w k y f v u within m′ (edited .size) spare
 
     pub reference-whole : IsRef s (w .tables) v → r ≡ 0 → WholeFor s (storedWords s w y f v m′)
     reference-whole ref z =
-        whole-with s w k (set (w .cells) at v) m′ (length-set (w .cells) at v) (edited .long) (edited .size)
-        (field-whole s (w .cells) (w .remember) (w .tables) (k .placed) y f v u (omega arith) (cells-room s w k) m′ (λ l. ref)
-        (of-exact s (set (w .cells) at v) m′ (w .tables)
+        field-whole s w k y f v u within m′ (edited .size) spare (λ l. ref)
+        (of-exact s (storedWords s w y f v m′)
         (remembered-exact (crossTo s (w .cells) (w .tables)) (crossTo s (set (w .cells) at v) (w .tables)) (cellsWords s) (s .entries) (w .remember) m′
-        (remember-room s w k) (exact-of s (w .cells) (w .remember) (w .tables) (k .placed .remember)) at _ _ r room
-        (cross-elsewhere s (w .cells) (w .tables) at v reference-slot) before after d z)))
-
-    pub reference-beyond : SameBeyond s w (storedWords s w y f v m′)
-    reference-beyond =
-        record {
-          cells = cells-beyond s w k y f v u (omega arith);
-          remember = record { long = edited .long; rest = drop-same (rememberWords s) (w .remember) m′ (edited .long) (edited .spare) };
-          tables = record { long = refl; rest = refl };
-        }
+        (k .sized .remember) (exact-of s w (k .remember)) at _ _ r room
+        (cross-elsewhere s (w .cells) (w .tables) at v reference-slot) before after d z))
 
 -- ---- of whatever heap the words stand for: reference f of object x becomes u, v in the words
 
@@ -121,6 +122,9 @@ module _ (s : Sizes) (w : Words) (h : Regioned) (to : ℕ → ℕ) (st : StandsF
   inside : x < length (h .heap .objects)
   inside = st .sound .closed .below x a
 
+  inner : f < allFields (headIn w y)
+  inner = within s w (st .whole) y f v in-use low
+
   low-refs : f < length (o .refs)
   low-refs = omega (arith, length-refs s w (st .whole) y in-use, ap length (st .partners .refs x a), length-map (o .refs) (renamed to))
 
@@ -134,9 +138,9 @@ module _ (s : Sizes) (w : Words) (h : Regioned) (to : ℕ → ℕ) (st : StandsF
 
   pub reference-stands : (m′ : List ℕ) (r : ℕ) → Followed s w y f v m′ r → r ≡ 0 → StandsFor s (storedWords s w y f v m′) h′ to
   reference-stands m′ r d z =
-      object-stands s w h to st x a f v (omega arith) m′ (withField Reference o f u) (reference-whole s w (st .whole) y f v in-use low m′ r d ref z)
-      (fields-set s w (st .whole) y f v in-use (omega arith) Reference f low (omega arith) ∙ ap₂ (λ (vs : List ℕ) (i : ℕ). set vs f i) (st .partners .refs x a) e ∙ sym (map-set (renamed to) (o .refs) f u))
-      (st .nums x a ∙ sym (fields-kept s w (st .whole) y f v in-use (omega arith) Number y (inl (omega arith)))) sound
+      object-stands s w h to st x a f v inner m′ (withField Reference o f u) (reference-whole s w (st .whole) y f v in-use low m′ r d ref z)
+      (fields-set s w (st .whole) y f v in-use inner Reference f low (omega arith) ∙ ap₂ (λ (vs : List ℕ) (i : ℕ). set vs f i) (st .partners .refs x a) e ∙ sym (map-set (renamed to) (o .refs) f u))
+      (st .nums x a ∙ sym (fields-kept s w (st .whole) y f v in-use inner Number y in-use (inl (omega arith)))) sound
 
   -- ---- question 14
 
@@ -169,7 +173,7 @@ module _ (s : Sizes) (w : Words) (h : Regioned) (to : ℕ → ℕ) (st : StandsF
   pub reference-fits : (m′ : List ℕ) (r : ℕ) → Followed s w y f v m′ r → r ≡ 0 → crossing (graph h′) ≤ s .entries
   reference-fits m′ r d z =
       let st′ = reference-stands m′ r d z in
-      omega (arith, heap-entries s (storedWords s w y f v m′) h′ to st′, st′ .whole .placed .remember .entries .room)
+      omega (arith, heap-entries s (storedWords s w y f v m′) h′ to st′, st′ .whole .remember .entries .room)
 
   -- no room: more would cross than there are entries
   pub reference-full : (m′ : List ℕ) (r : ℕ) → NoRoom (s .entries) (w .remember) (fieldAt y f) (crossedTo s w y f v) (willCross s w y f v) m′ r → s .entries < crossing (graph h′)

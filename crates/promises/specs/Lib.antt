@@ -22,9 +22,10 @@ pub mod Questions
 pub mod NewPages
 -- the remember table is exact for crossTo
 pub mod Slots
--- frames: words that differ in one area stand for the heap, changed likewise
+-- areas and frames: words that differ in one area stand for the heap, changed likewise
 pub mod Changes
-pub mod KeptPages
+pub mod Areas
+pub mod Frames
 pub mod FrameVariable
 pub mod FrameDepth
 pub mod FieldStore

@@ -37,7 +37,7 @@ module _ (s : Sizes) (w : Words) (k : WholeFor s w) (t : ℕ) (l : t < s .thread
 
   pub innermost-low : innermostIn s w t ≤ regions s
   unfolding regionAt
-  innermost-low = go (depthIn w t) (k .placed .depths t l)
+  innermost-low = go (depthIn w t) (k .depths t l)
     where
       go : (d : ℕ) → d ≤ s .depth → regionAt s t d ≤ regions s
       go zero m = omega arith
@@ -50,7 +50,7 @@ module _ (s : Sizes) (w : Words) (k : WholeFor s w) (t : ℕ) (l : t < s .thread
       go : (d : ℕ) → depthIn w t ≡ d → 1 < regionAt s t d → Open s (w .tables) (regionAt s t d)
       go zero e z = absurd (let q : ⊥ = omega arith in q)
       go (suc d) e z =
-          let m : d < s .depth = omega (arith, k .placed .depths t l) in
+          let m : d < s .depth = omega (arith, k .depths t l) in
           let a = thread-at s t d m in
           record {
             real = region-high s t d;
@@ -69,7 +69,7 @@ module _ (s : Sizes) (w : Words) (k : WholeFor s w) (g : ℕ) (pos : 0 < g) (low
 
   -- objects and free cells fill the region's pages
   fill : objects + sum free (s .pages) ≡ 16 * pagesOwned s w g
-  fill = omega (arith, k .placed .counts g pos low, filled s w k g pos (s .pages) (omega arith))
+  fill = omega (arith, k .counts g pos low, filled s w k g pos (s .pages) (omega arith))
 
   pub partly-filled : (page : ℕ) → page < s .pages → Partial s (w .tables) g page → objects % 16 ≡ 0 → ⊥
   partly-filled page l p z =

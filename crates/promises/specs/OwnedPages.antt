@@ -40,7 +40,7 @@ module _ (s : Sizes) (w : Words) (k : WholeFor s w) where
   owner-low page l = go (decLt 1 (ownerIn s w page))
     where
       go : Dec (1 < ownerIn s w page) → ownerIn s w page ≤ regions s
-      go (yes h) = omega (arith, div-lt-iff-lt-mul {x = ownerIn s w page - 2} (range s w k .depth-low) .0 (k .placed .pages page l .region h .thread))
+      go (yes h) = omega (arith, div-lt-iff-lt-mul {x = ownerIn s w page - 2} (range s w k .depth-low) .0 (k .pages page l .region h .thread))
       go (no h) = omega arith
 
   module _ (q : ℕ) (pos : 0 < q) where
@@ -48,13 +48,13 @@ module _ (s : Sizes) (w : Words) (k : WholeFor s w) where
     pub filled : (n : ℕ) → n ≤ s .pages → sum (objectsOn s (w .tables) q) n + sum (freeOn s (w .tables) q) n ≡ 16 * count (λ page. eqb (ownerIn s w page) q) n
     filled zero l = refl
     filled (suc n) l =
-        omega (arith, filled n (omega arith), both-parts (eqb (ownerIn s w n) q) (usedIn s w n) (k .placed .pages n (omega arith) .cells))
+        omega (arith, filled n (omega arith), both-parts (eqb (ownerIn s w n) q) (usedIn s w n) (k .pages n (omega arith) .cells))
 
     free-low : (page : ℕ) → page < s .pages → freeOn s (w .tables) q page ≤ 15
     free-low page l = go (eqb (ownerIn s w page) q) refl
       where
         go : (b : Bool) → eqb (ownerIn s w page) q ≡ b → cond b (16 - usedIn s w page) 0 ≤ 15
-        go true e = omega (arith, k .placed .pages page l .taken (omega (arith, eqb-true (ownerIn s w page) q e)))
+        go true e = omega (arith, k .pages page l .taken (omega (arith, eqb-true (ownerIn s w page) q e)))
         go false e = omega arith
 
     pub free-count : (n : ℕ) → n ≤ s .pages → sum (freeOn s (w .tables) q) n ≤ 15 * count (positive (freeOn s (w .tables) q)) n
@@ -70,7 +70,7 @@ module _ (s : Sizes) (w : Words) (k : WholeFor s w) where
 
     -- at most one of them has free cells
     pub one-part : count (positive (freeOn s (w .tables) q)) (s .pages) ≤ 1
-    one-part = no-two (positive (freeOn s (w .tables) q)) (s .pages) (λ x y l m a b. k .placed .partial q pos x y l m (part x a) (part y b))
+    one-part = no-two (positive (freeOn s (w .tables) q)) (s .pages) (λ x y l m a b. k .partial q pos x y l m (part x a) (part y b))
       where
         part : (page : ℕ) → positive (freeOn s (w .tables) q) page ≡ true → Partial s (w .tables) q page
         part page h = go (eqb (ownerIn s w page) q) refl (ltb-true 0 (freeOn s (w .tables) q page) h)
@@ -110,7 +110,7 @@ module _ (s : Sizes) (w : Words) (k : WholeFor s w) where
         go : Dec (ownerIn s w page ≡ q) → sum f 16 ≡ objectsOn s (w .tables) q page
         go (yes e) =
             sum-first f (usedIn s w page) 16 (λ j m. ap (λ (n : ℕ). cond (eqb n q) 1 0) (home-of page j l m) ∙ mine (ltb j (usedIn s w page)) e)
-            ∙ omega (arith, k .placed .pages page l .cells, ap (λ (b : Bool). cond b (usedIn s w page) 0) (eq-eqb (ownerIn s w page) q e))
+            ∙ omega (arith, k .pages page l .cells, ap (λ (b : Bool). cond b (usedIn s w page) 0) (eq-eqb (ownerIn s w page) q e))
         go (no n) =
             sum-none f 16 (λ j m. ap (λ (n : ℕ). cond (eqb n q) 1 0) (home-of page j l m) ∙ another (ltb j (usedIn s w page)) n)
             ∙ sym (ap (λ (b : Bool). cond b (usedIn s w page) 0) (ne-eqb (ownerIn s w page) q n))
@@ -125,7 +125,7 @@ module _ (s : Sizes) (w : Words) (k : WholeFor s w) where
     region-pages = sym (ap pagesOf objects-on-pages ∙ owned)
 
     pub counted-objects : q ≤ regions s → countOf s (w .tables) q ≡ objectsIn (graphOf s w) q
-    counted-objects l = k .placed .counts q pos l ∙ sym objects-on-pages
+    counted-objects l = k .counts q pos l ∙ sym objects-on-pages
 
   -- and the pages of no region are the free ones
   pub free-pages : pagesOwned s w 0 ≡ freePages s (graphOf s w)

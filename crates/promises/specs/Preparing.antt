@@ -9,13 +9,13 @@ use lib.Seq.{getD-take, getD-drop, length-take-le}
 use lib.Dec.{ltb, leb, eqb}
 use borrow.Author.Tests.{le-ltb}
 use Rattle.rules.specs.Terms.{InRange}
-use Rattle.layout.specs.Places.{varAt, ownersFrom, usedFrom, marksFrom, countsFrom, rememberWords, tablesWords, count-room}
+use Rattle.layout.specs.Places.{depthAt, varAt, markAt, countAt, slotAt, slotRegionAt, ownersFrom, usedFrom, marksFrom, countsFrom, cellsWords, rememberWords, tablesWords, count-room}
 use Rattle.layout.specs.Cells.{headOf, pageOf, placeOf, cellOf, wordOf}
 use Rattle.lists.specs.Tests.{cond-zero}
 use Rattle.lists.specs.Zeros.{all-zero}
 use Rattle.lists.specs.Counting.{sum-high}
 use Rattle.remember.specs.Crossing.{crossTo, other, regionOf}
-use Rattle.promises.specs.Whole.{SizesWhole, objectsOn, WholeAt}
+use Rattle.promises.specs.Whole.{Sized, objectsOn, WholeFor}
 use Rattle.rules.specs.declared.Sizes.{Sizes}
 use Rattle.rules.specs.NeverFreeing.{empty}
 use Rattle.rules.specs.Rules.{unused}
@@ -42,7 +42,7 @@ module _ (s : Sizes) (lent w : Words) (range : InRange s) (long : LongEnough s l
       ∙ ap (λ (j : ℕ). getD (s .threads ∷ s .variables ∷ s .depth ∷ s .pages ∷ s .entries ∷ replicate (tw - 5) 0 ++ drop tw (lent .tables)) j 0) e
       ∙ zeros-then (tw - 5) (i - 5) (drop tw (lent .tables)) (omega arith)
 
-  remember-zero : (i : ℕ) → 1 ≤ i → i < 2 * s .entries + 2 → getD (w .remember) i 0 ≡ 0
+  remember-zero : (i : ℕ) → 1 ≤ i → i < rememberWords s → getD (w .remember) i 0 ≡ 0
   remember-zero i l m =
       let e : i ≡ suc (i - 1) = omega arith in
       ap (λ (t : List ℕ). getD t i 0) (u .remember)
@@ -76,23 +76,22 @@ module _ (s : Sizes) (lent w : Words) (range : InRange s) (long : LongEnough s l
   used-zero : (page : ℕ) → page < s .pages → usedIn s w page ≡ 0
   used-zero page l = table-zero (usedFrom s + page) (omega (arith, room)) (omega (arith, room))
 
-  sizes-whole : SizesWhole (w .cells) (w .remember) (w .tables)
+  sizes-whole : Sized s w
   unfolding tw
   sizes-whole =
       record {
-        sized = omega (arith, long-tables, room);
-        counted = omega (arith, long-remember);
-        range = subst (λ (z : Sizes). InRange z) (sym sized) range;
-        same = ap (λ (t : List ℕ). getD t 0 0) (u .remember) ∙ sym (ap (λ (t : List ℕ). getD t 4 0) (u .tables));
-        tables = subst (λ (z : Sizes). tablesWords z ≤ length (w .tables)) (sym sized) (omega (arith, long-tables));
-        remember = subst (λ (z : Sizes). 2 * z .entries + 2 ≤ length (w .remember)) (sym sized) (omega (arith, long-remember));
-        cells = subst (λ (z : Sizes). 256 * z .pages ≤ length (w .cells)) (sym sized) (omega (arith, u .cells .long, long .cells));
+        sizes = sized;
+        range = range;
+        same = ap (λ (t : List ℕ). getD t 0 0) (u .remember);
+        cells = omega (arith, u .cells .long, long .cells);
+        remember = omega (arith, long-remember);
+        tables = omega (arith, long-tables);
       }
 
   no-objects : (g page : ℕ) → page < s .pages → objectsOn s (w .tables) g page ≡ 0
   no-objects g page l = cond-zero (eqb (ownerIn s w page) g) (usedIn s w page) 0 (used-zero page l) refl
 
-  no-cross : (q : ℕ) → q < 256 * s .pages → crossTo s (w .cells) (w .tables) q ≡ 0
+  no-cross : (q : ℕ) → q < cellsWords s → crossTo s (w .cells) (w .tables) q ≡ 0
   unfolding crossTo
   no-cross q l =
       ap (λ (b : Bool). cond b (cond (leb 2 (wordOf q)) (cond (ltb (wordOf q) (headOf (w .cells) (cellOf q) / 16 + 2)) (other (ownerIn s w (pageOf (cellOf q))) (regionOf s (w .tables) (getD (w .cells) q 0))) 0) 0) 0)
@@ -101,10 +100,11 @@ module _ (s : Sizes) (lent w : Words) (range : InRange s) (long : LongEnough s l
   no-cell : (c : ℕ) → InUse s (w .tables) c → ⊥
   no-cell c v = omega (arith, v .place, used-zero (pageOf c) (v .page))
 
-  placed : WholeAt s (w .cells) (w .remember) (w .tables)
-  placed =
+  whole : WholeFor s w
+  whole =
       record {
-        depths = λ k l. omega (arith, table-zero (5 + k) (omega arith) (omega (arith, room)));
+        sized = sizes-whole;
+        depths = λ k l. omega (arith, table-zero (depthAt k) (omega arith) (omega (arith, room)));
         pages = λ page l. let o = owner-zero page l in let v = used-zero page l in record {
           free = λ e. v;
           taken = λ p. absurd (omega arith);
@@ -112,27 +112,25 @@ module _ (s : Sizes) (lent w : Words) (range : InRange s) (long : LongEnough s l
           region = λ p. absurd (omega arith);
         };
         partial = λ g l a b i j x y. omega (arith, x .owner, owner-zero a (omega arith));
-        counts = λ g l m. table-zero (countsFrom s + (g - 1)) (omega (arith, room)) (omega (arith, room))
+        counts = λ g l m. table-zero (countAt s g) (omega (arith, room)) (omega (arith, room))
             ∙ sym (omega (arith, sum-high (objectsOn s (w .tables) g) 0 (s .pages) (λ k i. omega (arith, no-objects g k i))));
-        variables = λ i l p. absurd (omega (arith, table-zero (5 + s .threads + i) (omega arith) (omega (arith, room))));
-        references = λ c v. absurd (no-cell c v);
-        formed = λ c v. absurd (no-cell c v);
-        marks = λ page l. table-zero (marksFrom s + page) (omega (arith, room)) (omega (arith, room));
-        working = λ c v. absurd (no-cell c v);
+        variables = λ i l p. absurd (omega (arith, table-zero (varAt s i) (omega arith) (omega (arith, room))));
+        objects = λ c v. absurd (no-cell c v);
+        marks = λ page l. table-zero (markAt s page) (omega (arith, room)) (omega (arith, room));
+        works = λ c v. absurd (no-cell c v);
         remember = record {
           entries = record {
             room = omega (arith, remember-zero 1 (omega arith) (omega arith));
             named = λ i l. absurd (omega (arith, remember-zero 1 (omega arith) (omega arith)));
             once = λ i j l m. absurd (omega (arith, remember-zero 1 (omega arith) (omega arith)));
-            rest = λ i l m. (remember-zero (2 + i) (omega arith) (omega arith), remember-zero (2 + s .entries + i) (omega arith) (omega arith));
+            rest = λ i l m. (remember-zero (slotAt i) (omega arith) (omega arith), remember-zero (slotRegionAt (s .entries) i) (omega arith) (omega arith));
           };
           every = λ q l h. absurd (omega (arith, no-cross q l));
         };
       }
 
   none-there : (c : ℕ) → Alive (graphOf s w) c → ⊥
-  none-there c a =
-      no-cell c (alive-used s w (record { sized = sized; sizes = sizes-whole; placed = placed }) c a)
+  none-there c a = no-cell c (alive-used s w whole c a)
 
   depths-zero : depthsIn s w ≡ replicate (s .threads) 0
   unfolding depthsAt
@@ -152,7 +150,7 @@ module _ (s : Sizes) (lent w : Words) (range : InRange s) (long : LongEnough s l
   unfolding unused empty
   unused-stands =
       record {
-        whole = record { sized = sized; sizes = sizes-whole; placed = placed };
+        whole = whole;
         sound = sound-unused s;
         depths = sym depths-zero;
         partners = record {

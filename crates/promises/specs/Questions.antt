@@ -31,10 +31,7 @@ use Rattle.promises.specs.Promises.{Became, DidHere, Frees, Freed}
 use Rattle.promises.specs.Reading.{used-alive, length-fields, getD-fields}
 use Rattle.promises.specs.Agreed.{heap-stands, object-at}
 use Rattle.promises.specs.Here.{here-var}
-
-pub same-beyond : (s : Sizes) (w : Words) → SameBeyond s w w
-same-beyond s w =
-    record { cells = record { long = refl; rest = refl }; remember = record { long = refl; rest = refl }; tables = record { long = refl; rest = refl } }
+use Rattle.promises.specs.Areas.{same-beyond}
 
 -- the same answer, as the code has it
 pub did-answer : {s : Sizes} {w w′ : Words} {m : Command} {a r : Answer} → r ≡ a → DidHere s w m w′ a → DidHere s w m w′ r
@@ -136,7 +133,7 @@ fieldsOf Number o = o .nums
 module _ (s : Sizes) (w : Words) (k : WholeFor s w) where
   -- every variable is null or names a cell in use
   pub var-ref : (t a : ℕ) → t < s .threads → a < s .variables → IsRef s (w .tables) (varIn s w t a)
-  var-ref t a l n = k .placed .variables (t * s .variables + a) (flat-low l n)
+  var-ref t a l n = k .variables (t * s .variables + a) (flat-low l n)
 
   pub object-heap : (y : ℕ) → Used s w y → objectOf (heapOf s w .heap) (suc y) ≡ objectIn w y
   object-heap y u = object-at s w k y (used-alive s w k y u)

@@ -18,7 +18,7 @@ use Rattle.layout.specs.declared.Kind.the-variants.{Reference}
 use Rattle.layout.specs.Places.{Room, room, depthAt, varAt, varOf, tablesWords, rememberWords, cellsWords, count-room, count-is, ownersFrom}
 use Rattle.layout.specs.Cells.{fieldAt, fieldOf, fieldCount, firstField, kindAt, kind-among, pageOf}
 use Rattle.layout.specs.Words.{Words, depthIn, varIn, ownerIn, depthsIn, varsIn, headIn, refCount, fieldsIn, refsIn, homeIn, graphOf, depthsAt, homeAt, inUseAt, fieldsAt, varsAt, Used, InUse}
-use Rattle.promises.specs.Whole.{WholeFor}
+use Rattle.promises.specs.Whole.{Sized, WholeFor}
 
 pub getD-fields : (d : Kind) (w : Words) (c i : ℕ) → i < fieldCount d (headIn w c) → getD (fieldsIn d w c) i 0 ≡ getD (w .cells) (kindAt d (w .cells) c i) 0
 unfolding fieldsAt
@@ -44,11 +44,6 @@ pub depth-at : (s : Sizes) (w : Words) (t : ℕ) → t < s .threads → getD (de
 unfolding depthsAt
 depth-at s w t l = getD-take (s .threads) (drop (depthAt 0) (w .tables)) t 0 l ∙ getD-drop (depthAt 0) (w .tables) t 0
 
--- the arrays of the tables, where the owners begin
-pub owners-is : (s : Sizes) → ownersFrom s ≡ 5 + s .threads + s .threads * s .variables
-unfolding ownersFrom
-owners-is s = refl
-
 -- ---- cells in use
 
 -- the test reads the tables alone
@@ -64,25 +59,33 @@ use-in s t c e =
 
 -- ---- whole words
 
+-- the five sizes and the number of entries used can be read
+pub sizes-there : {s : Sizes} {w : Words} → Sized s w → 5 ≤ length (w .tables)
+unfolding tablesWords
+sizes-there k = omega (arith, k .tables)
+
+pub entries-there : {s : Sizes} {w : Words} → Sized s w → 2 ≤ length (w .remember)
+entries-there k = omega (arith, k .remember)
+
 module _ (s : Sizes) (w : Words) (k : WholeFor s w) where
   pub range : InRange s
-  range = subst InRange (k .sized) (k .sizes .range)
+  range = k .sized .range
 
   pub cells-room : cellsWords s ≤ length (w .cells)
-  cells-room = subst (λ (z : Sizes). cellsWords z ≤ length (w .cells)) (k .sized) (k .sizes .cells)
+  cells-room = k .sized .cells
 
   pub remember-room : rememberWords s ≤ length (w .remember)
-  remember-room = subst (λ (z : Sizes). rememberWords z ≤ length (w .remember)) (k .sized) (k .sizes .remember)
+  remember-room = k .sized .remember
 
   pub tables-room : tablesWords s ≤ length (w .tables)
-  tables-room = subst (λ (z : Sizes). tablesWords z ≤ length (w .tables)) (k .sized) (k .sizes .tables)
+  tables-room = k .sized .tables
 
   pub used-home : (c : ℕ) → Used s w c → homeIn s w c ≡ ownerIn s w (pageOf c)
   unfolding homeAt
   used-home c u = ap (λ (b : Bool). cond b (ownerIn s w (pageOf c)) 0) (in-use s (w .tables) c u)
 
   pub used-owned : (c : ℕ) → Used s w c → ownerIn s w (pageOf c) ≡ 0 → ⊥
-  used-owned c u z = omega (arith, k .placed .pages (pageOf c) (u .page) .free z, u .place)
+  used-owned c u z = omega (arith, k .pages (pageOf c) (u .page) .free z, u .place)
 
   pub used-alive : (c : ℕ) → Used s w c → Alive (graphOf s w) c
   used-alive c u z = used-owned c u (sym (used-home c u) ∙ z)
@@ -105,7 +108,7 @@ module _ (s : Sizes) (w : Words) (k : WholeFor s w) where
   unfolding fieldsAt
   length-fields d c u =
       length-take-le (fieldCount d (headIn w c)) (drop (fieldAt c (firstField d (headIn w c))) (w .cells))
-      (simp length-drop (omega (arith, cell-room c u, k .placed .formed c u .head, kind-among d (headIn w c))))
+      (simp length-drop (omega (arith, cell-room c u, k .objects c u .head, kind-among d (headIn w c))))
 
   pub length-refs : (c : ℕ) → Used s w c → length (refsIn w c) ≡ refCount w c
   length-refs = length-fields Reference
@@ -130,7 +133,7 @@ module _ (s : Sizes) (w : Words) (k : WholeFor s w) where
   vars-alive i x e =
       let l : i < s .threads * s .variables = omega (arith, in-bounds (varsIn s w) i (λ z. omega arith), length-vars) in
       let v : varOf s (w .tables) i ≡ suc x = sym (getD-vars s w i l) ∙ e in
-      let u = k .placed .variables i l (omega arith) in
+      let u = k .variables i l (omega arith) in
       let x′ : varOf s (w .tables) i - 1 ≡ x = omega arith in
       used-alive x (subst (Used s w) x′ u)
 
@@ -140,7 +143,7 @@ module _ (s : Sizes) (w : Words) (k : WholeFor s w) where
       let r = in-place (refsIn w c) (suc y) i in
       let l : r .0 < refCount w c = omega (arith, r .1, length-refs c u) in
       let v : fieldOf (w .cells) c (r .0) ≡ suc y = sym (getD-refs w c (r .0) l) ∙ r .2 in
-      let f = k .placed .references c u (r .0) l (omega arith) in
+      let f = k .objects c u .references (r .0) l (omega arith) in
       let y′ : fieldOf (w .cells) c (r .0) - 1 ≡ y = omega arith in
       used-alive y (subst (Used s w) y′ f)
 
@@ -149,8 +152,8 @@ module _ (s : Sizes) (w : Words) (k : WholeFor s w) where
       record { below = λ c a. omega (arith, alive-used c a .page); vars = vars-alive; refs = refs-alive }
 
   pub refs-few : (c : ℕ) → Used s w c → refCount w c ≤ 14
-  refs-few c u = omega (arith, k .placed .formed c u .head)
+  refs-few c u = omega (arith, k .objects c u .head)
 
 -- the tables have room for their arrays
 pub whole-room : (s : Sizes) (w : Words) → WholeFor s w → length (w .tables) < 2 ^ 63 → Room s (length (w .tables))
-whole-room s w k fits = room s (length (w .tables)) (range s w k) (tables-room s w k) fits
+whole-room s w k fits = room s (length (w .tables)) (k .sized .range) (k .sized .tables) fits

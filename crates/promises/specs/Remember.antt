@@ -1,6 +1,6 @@
 -- As many entries as crossing slots: then every crossing slot is named; and the other way round.
-use Prim.Native.Nat.{ℕ, _*_}
-use mathlib.Core.List.{List}
+use Prim.Native.Nat.{ℕ}
+use mathlib.Core.Bool.{Bool}
 use mathlib.Core.Path.{_≡_}
 use native.Mathlib.Omega.{arith}
 use native.Mathlib.Nat.{le-antisymm}
@@ -8,26 +8,31 @@ use borrow.Author.Tests.{lt-ltb, ltb-true}
 use Rattle.lists.specs.Counting.{count}
 use Rattle.lists.specs.Pigeonhole.{Names, all-named, named-le, names-le}
 use Rattle.rules.specs.declared.Sizes.{Sizes}
-use Rattle.layout.specs.Places.{usedIn, slotIn}
+use Rattle.layout.specs.Places.{cellsWords, usedIn, slotIn}
+use Rattle.layout.specs.Words.{Words}
 use Rattle.remember.specs.Crossing.{crossTo, crossing}
 use Rattle.promises.specs.Whole.{EntriesWhole, RememberWhole}
 
-module _ (p : Sizes) (c m t : List ℕ) (w : EntriesWhole p c m t) where
-  names-of : Names (crossing p c t) (256 * p .pages) (slotIn m) (usedIn m)
+-- the entries name crossing slots, each another
+module _ (s : Sizes) (w : Words) (e : EntriesWhole s (w .cells) (w .remember) (w .tables)) where
+  abbrev b : ℕ → Bool
+  b = crossing s (w .cells) (w .tables)
+
+  names-of : Names b (cellsWords s) (slotIn (w .remember)) (usedIn (w .remember))
   names-of = record {
-    low = λ i l. w .named i l .slot;
-    pass = λ i l. lt-ltb 0 (crossTo p c t (slotIn m i)) (omega (arith, w .named i l .region, w .named i l .right));
-    once = w .once;
+    low = λ i l. e .named i l .slot;
+    pass = λ i l. lt-ltb 0 (crossTo s (w .cells) (w .tables) (slotIn (w .remember) i)) (omega (arith, e .named i l .region, e .named i l .right));
+    once = e .once;
   }
 
-  pub counted-every : count (crossing p c t) (256 * p .pages) ≡ usedIn m → RememberWhole p c m t
-  counted-every e = record {
-    entries = w;
-    every = λ q l h. all-named (crossing p c t) (256 * p .pages) (slotIn m) (usedIn m) names-of e q l (lt-ltb 0 (crossTo p c t q) h);
+  pub counted-every : count b (cellsWords s) ≡ usedIn (w .remember) → RememberWhole s w
+  counted-every n = record {
+    entries = e;
+    every = λ q l h. all-named b (cellsWords s) (slotIn (w .remember)) (usedIn (w .remember)) names-of n q l (lt-ltb 0 (crossTo s (w .cells) (w .tables) q) h);
   }
 
-  pub every-counted : RememberWhole p c m t → count (crossing p c t) (256 * p .pages) ≡ usedIn m
+  pub every-counted : RememberWhole s w → count b (cellsWords s) ≡ usedIn (w .remember)
   every-counted r =
       le-antisymm
-      (named-le (crossing p c t) (256 * p .pages) (slotIn m) (usedIn m) (λ q l h. r .every q l (ltb-true 0 (crossTo p c t q) h)))
-      (names-le (crossing p c t) (256 * p .pages) (slotIn m) (usedIn m) names-of)
+      (named-le b (cellsWords s) (slotIn (w .remember)) (usedIn (w .remember)) (λ q l h. r .every q l (ltb-true 0 (crossTo s (w .cells) (w .tables) q) h)))
+      (names-le b (cellsWords s) (slotIn (w .remember)) (usedIn (w .remember)) names-of)

@@ -11,9 +11,9 @@ use lib.Dec.{ltb, leb}
 use borrow.Author.Tests.{lt-ltb, ltb-true, le-leb, leb-true, ne-eqb}
 use Rattle.lists.specs.Stores.{put, past}
 use Rattle.rules.specs.declared.Sizes.{Sizes}
-use Rattle.layout.specs.Places.{ownerOf, usedOf}
+use Rattle.layout.specs.Places.{cellsWords, ownerOf, usedOf}
 use Rattle.layout.specs.Cells.{headAt, headOf, fieldAt, pageOf, placeOf, cellOf, wordOf}
-use Rattle.layout.specs.Words.{InUse}
+use Rattle.layout.specs.Words.{Words, InUse}
 use Rattle.remember.specs.Crossing.{other, regionOf, crossTo}
 use Rattle.promises.specs.Whole.{RememberWhole}
 use Rattle.remember.specs.Entries.{Exact, Elsewhere}
@@ -121,24 +121,25 @@ module _ (p : Sizes) (c t : List ℕ) (at x : ℕ) (s : Slot p c t at) where
 
 -- ---- the remember table is whole exactly if it is exact for crossTo
 
-pub exact-of : (p : Sizes) (c m t : List ℕ) → RememberWhole p c m t → Exact (crossTo p c t) (256 * p .pages) (p .entries) m
-exact-of p c m t w =
-    record {
-      room = w .entries .room;
-      named = λ i l. let e = w .entries .named i l in record { slot = e .slot; region = e .region; right = e .right };
-      once = w .entries .once;
-      rest = w .entries .rest;
-      every = w .every;
-    }
+module _ (s : Sizes) (w : Words) where
+  pub exact-of : RememberWhole s w → Exact (crossTo s (w .cells) (w .tables)) (cellsWords s) (s .entries) (w .remember)
+  exact-of r =
+      record {
+        room = r .entries .room;
+        named = λ i l. let e = r .entries .named i l in record { slot = e .slot; region = e .region; right = e .right };
+        once = r .entries .once;
+        rest = r .entries .rest;
+        every = r .every;
+      }
 
-pub of-exact : (p : Sizes) (c m t : List ℕ) → Exact (crossTo p c t) (256 * p .pages) (p .entries) m → RememberWhole p c m t
-of-exact p c m t w =
-    record {
-      entries = record {
-        room = w .room;
-        named = λ i l. let e = w .named i l in record { slot = e .slot; region = e .region; right = e .right };
-        once = w .once;
-        rest = w .rest;
-      };
-      every = w .every;
-    }
+  pub of-exact : Exact (crossTo s (w .cells) (w .tables)) (cellsWords s) (s .entries) (w .remember) → RememberWhole s w
+  of-exact r =
+      record {
+        entries = record {
+          room = r .room;
+          named = λ i l. let e = r .named i l in record { slot = e .slot; region = e .region; right = e .right };
+          once = r .once;
+          rest = r .rest;
+        };
+        every = r .every;
+      }

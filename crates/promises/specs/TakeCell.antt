@@ -2,9 +2,9 @@
 use Prim.Native.Nat.{ℕ, _+_, _-_, _*_, _≤_, _<_}
 use native.Mathlib.Omega.{arith}
 use native.Mathlib.Decide.{ℕ-discrete, decLt}
-use mathlib.Core.Path.{_≡_, sym, ap, ap₂, subst, _∙_}
+use mathlib.Core.Path.{_≡_, refl, sym, ap, ap₂, subst, _∙_}
 use mathlib.Core.Logic.{_⊎_, inl, inr}
-use mathlib.Core.List.{List}
+use mathlib.Core.List.{List, [], _∷_}
 use mathlib.Core.Bool.{Bool, cond}
 use lib.ListN.{length, getD, set, length-set}
 use lib.Dec.{eqb}
@@ -12,12 +12,14 @@ use borrow.Author.Tests.{eq-eqb, ne-eqb}
 use Rattle.lists.specs.Counting.{sum-same, sum-change}
 use Rattle.lists.specs.Stores.{put, past}
 use Rattle.rules.specs.declared.Sizes.{Sizes}
-use Rattle.rules.specs.Regions.{threadOf}
-use Rattle.layout.specs.Places.{ownersFrom, depthAt, depthOf, ownerAt, ownerOf, usedAt, usedOf, markAt, markOf, countAt, countOf, used-is, mark-is, count-is}
+use Rattle.rules.specs.Regions.{regions}
+use Rattle.layout.specs.Places.{ownerAt, ownerOf, usedAt, usedOf, countAt, countOf, count-room, used-is, mark-is, count-is}
 use Rattle.layout.specs.Cells.{pageOf, placeOf, cellOn}
-use Rattle.layout.specs.Words.{InUse}
-use Rattle.promises.specs.Reading.{owners-is}
-use Rattle.promises.specs.Whole.{Open, PageWhole, Partial, objectsOn, objectsOf, IsRef, WholeAt}
+use Rattle.layout.specs.Words.{Words, InUse}
+use Rattle.promises.specs.Whole.{Open, PageWhole, Partial, objectsOn, objectsOf, IsRef, PagesWhole, OnePartial, CountsWhole, WholeFor}
+use Rattle.promises.specs.Changes.{withTables}
+use Rattle.promises.specs.Areas.{ownerWords, usedWords, countWords, Only, among-both, owner-in, used-in, count-in, arrays-apart, tables-only}
+use Rattle.promises.specs.Frames.{open-frame}
 
 -- region g took the cell: from tables t, which left t′
 pub record Took (p : Sizes) (t : List ℕ) (g cell : ℕ) (t′ : List ℕ) : Type 0 where
@@ -99,25 +101,17 @@ module _ (s : Sizes) (t : List ℕ) (g cell : ℕ) (t′ : List ℕ) (k : Took s
   abbrev P : Sizes
   P = s
 
-  pub low-past : (j : ℕ) → j < ownersFrom s → getD t′ j 0 ≡ getD t j 0
-  low-past j l = k .others j (λ (e : j ≡ ownerAt P (pageOf cell)). omega arith) (λ (e : j ≡ usedAt P (pageOf cell)). omega (arith, used-is s)) (λ (e : j ≡ countAt P g). omega (arith, count-is s))
-
-  pub owner-past : (page : ℕ) → page < s .pages → (page ≡ pageOf cell → ⊥) → ownerOf P t′ page ≡ ownerOf P t page
+  owner-past : (page : ℕ) → page < s .pages → (page ≡ pageOf cell → ⊥) → ownerOf P t′ page ≡ ownerOf P t page
   owner-past page l d =
       k .others (ownerAt P page) (λ (e : ownerAt P page ≡ ownerAt P (pageOf cell)). d (omega arith)) (λ (e : ownerAt P page ≡ usedAt P (pageOf cell)). omega (arith, used-is s))
       (λ (e : ownerAt P page ≡ countAt P g). omega (arith, count-is s))
 
-  pub used-past : (page : ℕ) → page < s .pages → (page ≡ pageOf cell → ⊥) → usedOf P t′ page ≡ usedOf P t page
+  used-past : (page : ℕ) → page < s .pages → (page ≡ pageOf cell → ⊥) → usedOf P t′ page ≡ usedOf P t page
   used-past page l d =
       k .others (usedAt P page) (λ (e : usedAt P page ≡ ownerAt P (pageOf cell)). omega (arith, used-is s, k .page)) (λ (e : usedAt P page ≡ usedAt P (pageOf cell)). d (omega arith))
       (λ (e : usedAt P page ≡ countAt P g). omega (arith, used-is s, count-is s))
 
-  pub mark-past : (page : ℕ) → page < s .pages → markOf P t′ page ≡ markOf P t page
-  mark-past page l =
-      k .others (markAt P page) (λ (e : markAt P page ≡ ownerAt P (pageOf cell)). omega (arith, mark-is s, k .page)) (λ (e : markAt P page ≡ usedAt P (pageOf cell)). omega (arith, used-is s, mark-is s, k .page))
-      (λ (e : markAt P page ≡ countAt P g). omega (arith, mark-is s, count-is s))
-
-  pub count-past : (q : ℕ) → 1 ≤ q → 1 ≤ g → (q ≡ g → ⊥) → countOf P t′ q ≡ countOf P t q
+  count-past : (q : ℕ) → 1 ≤ q → 1 ≤ g → (q ≡ g → ⊥) → countOf P t′ q ≡ countOf P t q
   count-past q a b d =
       k .others (countAt P q) (λ (e : countAt P q ≡ ownerAt P (pageOf cell)). omega (arith, count-is s, k .page)) (λ (e : countAt P q ≡ usedAt P (pageOf cell)). omega (arith, used-is s, count-is s, k .page))
       (λ (e : countAt P q ≡ countAt P g). d (omega arith))
@@ -158,20 +152,32 @@ module _ (s : Sizes) (t : List ℕ) (g cell : ℕ) (t′ : List ℕ) (k : Took s
       go (yes e) (inl o) = ap (ownerOf P t′) e ∙ k .owner ∙ sym o ∙ sym (ap (ownerOf P t) e)
       go (yes e) (inr o) = absurd (let z : ⊥ = omega (arith, u .place, w (pageOf c) (u .page) .free (ap (ownerOf P t) e ∙ o .0)) in z)
 
+-- only owners, cells in use and counts change
+pub took-only : (s : Sizes) (w : Words) (g cell : ℕ) (t′ : List ℕ) → Took s (w .tables) g cell t′ → 1 ≤ g → g ≤ regions s → Only (ownerWords ∷ usedWords ∷ countWords ∷ []) s w (withTables w t′)
+took-only s w g cell t′ k pos low =
+    tables-only s w t′ (ownerWords ∷ usedWords ∷ countWords ∷ []) (k .long)
+    (λ a n j x.
+    let m = among-both a (ownerWords ∷ []) (usedWords ∷ countWords ∷ []) n in
+    let o = among-both a (usedWords ∷ []) (countWords ∷ []) (m .1) in
+    k .others j (arrays-apart s a ownerWords j _ (m .0) x (owner-in s (pageOf cell) (k .page))) (arrays-apart s a usedWords j _ (o .0) x (used-in s (pageOf cell) (k .page)))
+    (arrays-apart s a countWords j _ (o .1) x (count-in s g pos low)))
+    (λ j l. k .others j (λ (e : j ≡ ownerAt s (pageOf cell)). omega (arith, k .page, count-room s, count-is s)) (λ (e : j ≡ usedAt s (pageOf cell)). omega (arith, k .page, count-room s, count-is s, used-is s))
+    (λ (e : j ≡ countAt s g). omega (arith, count-room s)))
+
 -- ---- pages and counts are whole
 
-module _ (s : Sizes) (c m t : List ℕ) (w : WholeAt s c m t) (g cell : ℕ) (t′ : List ℕ) (k : Took s t g cell t′) (pos : 1 ≤ g) (open′ : 1 < g → Open s t g) where
-  pub depth-past : (u : ℕ) → u < s .threads → depthOf t′ u ≡ depthOf t u
-  depth-past u l = low-past s t g cell t′ k (depthAt u) (omega (arith, owners-is s))
+module _ (s : Sizes) (w : Words) (whole : WholeFor s w) (g cell : ℕ) (t′ : List ℕ) (k : Took s (w .tables) g cell t′) (pos : 1 ≤ g) (low : g ≤ regions s) (open′ : 1 < g → Open s (w .tables) g) where
+  abbrev t : List ℕ
+  t = w .tables
 
   open-past : (q : ℕ) → Open s t q → Open s t′ q
-  open-past q o = record { real = o .real; thread = o .thread; level = omega (arith, o .level, depth-past (threadOf s q) (o .thread)) }
+  open-past = open-frame (took-only s w g cell t′ k pos low) refl
 
-  pub took-pages : (page : ℕ) → page < s .pages → PageWhole s t′ page
+  pub took-pages : PagesWhole s (withTables w t′)
   took-pages page l = go (ℕ-discrete page (pageOf cell))
     where
       o : PageWhole s t page
-      o = w .pages page l
+      o = whole .pages page l
 
       go : Dec (page ≡ pageOf cell) → PageWhole s t′ page
       go (yes e) =
@@ -218,16 +224,16 @@ module _ (s : Sizes) (c m t : List ℕ) (w : WholeAt s c m t) (g cell : ℕ) (t�
           order (no e) = less (decLt page (pageOf cell))
             where
               less : Dec (page < pageOf cell) → ⊥
-              less (yes f) = w .partial g pos page (pageOf cell) f (k .page) there here
-              less (no f) = w .partial g pos (pageOf cell) page (omega arith) l here there
+              less (yes f) = whole .partial g pos page (pageOf cell) f (k .page) there here
+              less (no f) = whole .partial g pos (pageOf cell) page (omega arith) l here there
 
-  pub took-partial : (q : ℕ) → 1 ≤ q → (a b : ℕ) → a < b → b < s .pages → Partial s t′ q a → Partial s t′ q b → ⊥
+  pub took-partial : OnePartial s (withTables w t′)
   took-partial q z a b l h x y = go (ℕ-discrete a (pageOf cell)) (ℕ-discrete b (pageOf cell))
     where
       go : Dec (a ≡ pageOf cell) → Dec (b ≡ pageOf cell) → ⊥
       go (yes e) f = alone q b h (λ (i : b ≡ pageOf cell). omega arith) (subst (Partial s t′ q) e x) y
       go (no e) (yes f) = alone q a (omega arith) e (subst (Partial s t′ q) f y) x
-      go (no e) (no f) = w .partial q z a b l h (was-partial q a (omega arith) e x) (was-partial q b h f y)
+      go (no e) (no f) = whole .partial q z a b l h (was-partial q a (omega arith) e x) (was-partial q b h f y)
 
   -- the objects on the cell's page
   on-page : objectsOn s t′ g (pageOf cell) ≡ objectsOn s t g (pageOf cell) + 1
@@ -236,7 +242,7 @@ module _ (s : Sizes) (c m t : List ℕ) (w : WholeAt s c m t) (g cell : ℕ) (t�
       go : (ownerOf s t (pageOf cell) ≡ g) ⊎ ((ownerOf s t (pageOf cell) ≡ 0) × ((q : ℕ) → q < s .pages → Partial s t g q → ⊥)) → placeOf cell + 1 ≡ objectsOn s t g (pageOf cell) + 1
       go (inl o) = omega (arith, k .first, ap (λ (b : Bool). cond b (usedOf s t (pageOf cell)) 0) (eq-eqb (ownerOf s t (pageOf cell)) g o))
       go (inr o) =
-          omega (arith, k .first, w .pages (pageOf cell) (k .page) .free (o .0), ap (λ (b : Bool). cond b (usedOf s t (pageOf cell)) 0) (ne-eqb (ownerOf s t (pageOf cell)) g (λ (e : ownerOf s t (pageOf cell) ≡ g). omega (arith, o .0))))
+          omega (arith, k .first, whole .pages (pageOf cell) (k .page) .free (o .0), ap (λ (b : Bool). cond b (usedOf s t (pageOf cell)) 0) (ne-eqb (ownerOf s t (pageOf cell)) g (λ (e : ownerOf s t (pageOf cell) ≡ g). omega (arith, o .0))))
 
   on-other : (q page : ℕ) → page < s .pages → (page ≡ pageOf cell → ⊥) → objectsOn s t′ q page ≡ objectsOn s t q page
   on-other q page l d = ap₂ (λ (o u : ℕ). cond (eqb o q) u 0) (owner-past s t g cell t′ k page l d) (used-past s t g cell t′ k page l d)
@@ -250,15 +256,15 @@ module _ (s : Sizes) (c m t : List ℕ) (w : WholeAt s c m t) (g cell : ℕ) (t�
       go (inl o) e = d (sym e ∙ o)
       go (inr o) e = let h : ownerOf s t (pageOf cell) ≡ 0 = o .0 in omega arith
 
-  pub took-counts : (q : ℕ) → 1 ≤ q → q ≤ 1 + s .threads * s .depth → countOf s t′ q ≡ objectsOf s t′ q
+  pub took-counts : CountsWhole s (withTables w t′)
   took-counts q z l = go (ℕ-discrete q g)
     where
       go : Dec (q ≡ g) → countOf s t′ q ≡ objectsOf s t′ q
       go (yes e) =
           subst (λ (i : ℕ). countOf s t′ i ≡ objectsOf s t′ i) (sym e)
-          (omega (arith, k .count, w .counts g pos (omega arith), on-page, sum-change (objectsOn s t′ g) (objectsOn s t g) (pageOf cell) (s .pages) (k .page) (on-other g)))
+          (omega (arith, k .count, whole .counts g pos (omega arith), on-page, sum-change (objectsOn s t′ g) (objectsOn s t g) (pageOf cell) (s .pages) (k .page) (on-other g)))
       go (no d) =
-          count-past s t g cell t′ k q z pos d ∙ w .counts q z l ∙ sym (sum-same _ _ (s .pages) (λ page h. each page h (ℕ-discrete page (pageOf cell))))
+          count-past s t g cell t′ k q z pos d ∙ whole .counts q z l ∙ sym (sum-same _ _ (s .pages) (λ page h. each page h (ℕ-discrete page (pageOf cell))))
         where
           each : (page : ℕ) → page < s .pages → Dec (page ≡ pageOf cell) → objectsOn s t′ q page ≡ objectsOn s t q page
           each page h (yes e) = subst (λ (i : ℕ). objectsOn s t′ q i ≡ objectsOn s t q i) (sym e) (of-other q z d)

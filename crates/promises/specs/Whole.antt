@@ -1,6 +1,6 @@
--- Tables are whole (01, "Sizes and tables"): a field for each condition, in 01's order. c, m and t are the cells, the remember table and
--- the tables.
-use Prim.Native.Nat.{ℕ, _+_, _*_, _-_, _/_, _%_, _≤_, _<_}
+-- Tables are whole (01, "Sizes and tables"): each condition by itself, and all of them in 01's order. c, m and t are the cells, the
+-- remember table and the tables of words w.
+use Prim.Native.Nat.{ℕ, _≤_, _<_}
 use mathlib.Core.List.{List}
 use mathlib.Core.Bool.{cond}
 use mathlib.Core.Path.{_≡_}
@@ -9,101 +9,116 @@ use lib.Dec.{eqb}
 use Rattle.lists.specs.Counting.{sum}
 use Rattle.rules.specs.declared.Sizes.{Sizes}
 use Rattle.rules.specs.Terms.{InRange}
-use Rattle.rules.specs.Regions.{threadOf, levelOf}
-use Rattle.layout.specs.Places.{sizesAt, cellsWords, rememberWords, tablesWords, depthOf, varOf, ownerOf, usedOf, markOf, countOf, usedIn, slotIn, slotRegionIn}
-use Rattle.layout.specs.Cells.{headOf, workOf, fieldOf}
-use Rattle.layout.specs.Words.{Words, InUse, sizesIn}
+use Rattle.rules.specs.Regions.{threadOf, levelOf, regions}
+use Rattle.layout.specs.Places.{cellsWords, rememberWords, tablesWords, varCount, depthOf, varOf, ownerOf, usedOf, markOf, countOf, usedIn, slotIn, slotRegionIn}
+use Rattle.layout.specs.Cells.{headOf, workOf, fieldOf, refsOf, allFields, roomFor, Formed, cellNamed, pageCells}
+use Rattle.layout.specs.Words.{Words, InUse, Used, sizesIn, depthIn}
 use Rattle.remember.specs.Crossing.{crossTo}
 
 -- ---- the words that the conditions speak of
 
 -- region g of a thread is open
-pub record Open (p : Sizes) (t : List ℕ) (g : ℕ) : Type 0 where
+pub record Open (s : Sizes) (t : List ℕ) (g : ℕ) : Type 0 where
   pub real : 2 ≤ g
-  pub thread : threadOf p g < p .threads
-  pub level : levelOf p g ≤ depthOf t (threadOf p g)
+  pub thread : threadOf s g < s .threads
+  pub level : levelOf s g ≤ depthOf t (threadOf s g)
 
 -- a page that is used belongs to the control space or an open region and uses its first 1 to 16 cells, a free page uses none
-pub record PageWhole (p : Sizes) (t : List ℕ) (page : ℕ) : Type 0 where
-  pub free : ownerOf p t page ≡ 0 → usedOf p t page ≡ 0
-  pub taken : 0 < ownerOf p t page → 1 ≤ usedOf p t page
-  pub cells : usedOf p t page ≤ 16
-  pub region : 1 < ownerOf p t page → Open p t (ownerOf p t page)
+pub record PageWhole (s : Sizes) (t : List ℕ) (page : ℕ) : Type 0 where
+  pub free : ownerOf s t page ≡ 0 → usedOf s t page ≡ 0
+  pub taken : 0 < ownerOf s t page → 1 ≤ usedOf s t page
+  pub cells : usedOf s t page ≤ pageCells
+  pub region : 1 < ownerOf s t page → Open s t (ownerOf s t page)
 
 -- a page of g that is partly filled
-pub record Partial (p : Sizes) (t : List ℕ) (g page : ℕ) : Type 0 where
-  pub owner : ownerOf p t page ≡ g
-  pub part : usedOf p t page < 16
+pub record Partial (s : Sizes) (t : List ℕ) (g page : ℕ) : Type 0 where
+  pub owner : ownerOf s t page ≡ g
+  pub part : usedOf s t page < pageCells
 
 -- the objects of region g on a page, and on all pages
 abbrev pub objectsOn : Sizes → List ℕ → ℕ → ℕ → ℕ
-objectsOn p t g page = cond (eqb (ownerOf p t page) g) (usedOf p t page) 0
+objectsOn s t g page = cond (eqb (ownerOf s t page) g) (usedOf s t page) 0
 
 abbrev pub objectsOf : Sizes → List ℕ → ℕ → ℕ
-objectsOf p t g = sum (objectsOn p t g) (p .pages)
+objectsOf s t g = sum (objectsOn s t g) (s .pages)
 
 -- null, or the name of a cell in use
 abbrev pub IsRef : Sizes → List ℕ → ℕ → Type 0
-IsRef p t x = 0 < x → InUse p t (x - 1)
+IsRef s t x = 0 < x → InUse s t (cellNamed x)
 
--- word 0 of cell k counts at most 14 fields, and the words after them are zero
-pub record CellFormed (c : List ℕ) (k : ℕ) : Type 0 where
-  pub head : headOf c k / 16 + headOf c k % 16 ≤ 14
-  pub rest : (f : ℕ) → f < 14 → headOf c k / 16 + headOf c k % 16 ≤ f → fieldOf c k f ≡ 0
+-- the object in cell k has 01's form, word 0 counting at most 14 fields and the words after them zero, and its references are null or
+-- name cells in use
+pub record ObjectWhole (s : Sizes) (c t : List ℕ) (k : ℕ) : Type 0 where
+  pub head : Formed (headOf c k)
+  pub rest : (f : ℕ) → f < roomFor (headOf c k) → allFields (headOf c k) ≤ f → fieldOf c k f ≡ 0
+  pub references : (f : ℕ) → f < refsOf c k → IsRef s t (fieldOf c k f)
 
 -- entry i names a crossing slot, with the right region
-pub record EntryWhole (p : Sizes) (c m t : List ℕ) (i : ℕ) : Type 0 where
-  pub slot : slotIn m i < 256 * p .pages
-  pub region : 0 < slotRegionIn (p .entries) m i
-  pub right : crossTo p c t (slotIn m i) ≡ slotRegionIn (p .entries) m i
+pub record EntryWhole (s : Sizes) (c m t : List ℕ) (i : ℕ) : Type 0 where
+  pub slot : slotIn m i < cellsWords s
+  pub region : 0 < slotRegionIn (s .entries) m i
+  pub right : crossTo s c t (slotIn m i) ≡ slotRegionIn (s .entries) m i
 
 -- the entries name crossing slots, each once, and those that are not used are zero
-pub record EntriesWhole (p : Sizes) (c m t : List ℕ) : Type 0 where
-  pub room : usedIn m ≤ p .entries
-  pub named : (i : ℕ) → i < usedIn m → EntryWhole p c m t i
+pub record EntriesWhole (s : Sizes) (c m t : List ℕ) : Type 0 where
+  pub room : usedIn m ≤ s .entries
+  pub named : (i : ℕ) → i < usedIn m → EntryWhole s c m t i
   pub once : (i j : ℕ) → i < j → j < usedIn m → slotIn m i ≡ slotIn m j → ⊥
-  pub rest : (i : ℕ) → usedIn m ≤ i → i < p .entries → (slotIn m i ≡ 0) × (slotRegionIn (p .entries) m i ≡ 0)
+  pub rest : (i : ℕ) → usedIn m ≤ i → i < s .entries → (slotIn m i ≡ 0) × (slotRegionIn (s .entries) m i ≡ 0)
 
--- and every crossing slot is named
-pub record RememberWhole (p : Sizes) (c m t : List ℕ) : Type 0 where
-  pub entries : EntriesWhole p c m t
-  pub every : (q : ℕ) → q < 256 * p .pages → 0 < crossTo p c t q → (i : ℕ) × (i < usedIn m) × (slotIn m i ≡ q)
+-- ---- the conditions, in 01's order
 
--- ---- the conditions
+-- sizes are in range, N is the same in both places and the slices are long enough; every place is computed from s, and not from the words
+pub record Sized (s : Sizes) (w : Words) : Type 0 where
+  pub sizes : sizesIn w ≡ s
+  pub range : InRange s
+  pub same : getD (w .remember) 0 0 ≡ s .entries
+  pub cells : cellsWords s ≤ length (w .cells)
+  pub remember : rememberWords s ≤ length (w .remember)
+  pub tables : tablesWords s ≤ length (w .tables)
 
--- sizes are in range, N is the same in both places and the slices are long enough
-pub record SizesWhole (c m t : List ℕ) : Type 0 where
-  pub sized : 5 ≤ length t
-  pub counted : 2 ≤ length m
-  pub range : InRange (sizesAt t)
-  pub same : getD m 0 0 ≡ sizesAt t .entries
-  pub cells : cellsWords (sizesAt t) ≤ length c
-  pub remember : rememberWords (sizesAt t) ≤ length m
-  pub tables : tablesWords (sizesAt t) ≤ length t
+abbrev pub DepthsWhole : Sizes → Words → Type 0
+DepthsWhole s w = (t : ℕ) → t < s .threads → depthIn w t ≤ s .depth
 
-pub record WholeAt (p : Sizes) (c m t : List ℕ) : Type 0 where
-  pub depths : (k : ℕ) → k < p .threads → depthOf t k ≤ p .depth
-  pub pages : (page : ℕ) → page < p .pages → PageWhole p t page
-  pub partial : (g : ℕ) → 1 ≤ g → (a b : ℕ) → a < b → b < p .pages → Partial p t g a → Partial p t g b → ⊥
-  pub counts : (g : ℕ) → 1 ≤ g → g ≤ 1 + p .threads * p .depth → countOf p t g ≡ objectsOf p t g
-  pub variables : (i : ℕ) → i < p .threads * p .variables → IsRef p t (varOf p t i)
-  pub references : (k : ℕ) → InUse p t k → (f : ℕ) → f < headOf c k / 16 → IsRef p t (fieldOf c k f)
-  pub formed : (k : ℕ) → InUse p t k → CellFormed c k
-  pub marks : (page : ℕ) → page < p .pages → markOf p t page ≡ 0
-  pub working : (k : ℕ) → InUse p t k → workOf c k ≡ 0
-  pub remember : RememberWhole p c m t
+abbrev pub PagesWhole : Sizes → Words → Type 0
+PagesWhole s w = (page : ℕ) → page < s .pages → PageWhole s (w .tables) page
 
-pub record Whole (c m t : List ℕ) : Type 0 where
-  pub sizes : SizesWhole c m t
-  pub placed : WholeAt (sizesAt t) c m t
+-- a region has at most one partly filled page
+abbrev pub OnePartial : Sizes → Words → Type 0
+OnePartial s w = (g : ℕ) → 1 ≤ g → (a b : ℕ) → a < b → b < s .pages → Partial s (w .tables) g a → Partial s (w .tables) g b → ⊥
 
--- ---- of lent words
+abbrev pub CountsWhole : Sizes → Words → Type 0
+CountsWhole s w = (g : ℕ) → 1 ≤ g → g ≤ regions s → countOf s (w .tables) g ≡ objectsOf s (w .tables) g
+
+abbrev pub VariablesWhole : Sizes → Words → Type 0
+VariablesWhole s w = (i : ℕ) → i < varCount s → IsRef s (w .tables) (varOf s (w .tables) i)
+
+abbrev pub ObjectsWhole : Sizes → Words → Type 0
+ObjectsWhole s w = (k : ℕ) → Used s w k → ObjectWhole s (w .cells) (w .tables) k
+
+-- working words, of pages and of cells in use, are zero
+abbrev pub MarksWhole : Sizes → Words → Type 0
+MarksWhole s w = (page : ℕ) → page < s .pages → markOf s (w .tables) page ≡ 0
+
+abbrev pub WorksWhole : Sizes → Words → Type 0
+WorksWhole s w = (k : ℕ) → Used s w k → workOf (w .cells) k ≡ 0
+
+-- the remember table names every crossing slot
+pub record RememberWhole (s : Sizes) (w : Words) : Type 0 where
+  pub entries : EntriesWhole s (w .cells) (w .remember) (w .tables)
+  pub every : (q : ℕ) → q < cellsWords s → 0 < crossTo s (w .cells) (w .tables) q → (i : ℕ) × (i < usedIn (w .remember)) × (slotIn (w .remember) i ≡ q)
+
+pub record WholeFor (s : Sizes) (w : Words) : Type 0 where
+  pub sized : Sized s w
+  pub depths : DepthsWhole s w
+  pub pages : PagesWhole s w
+  pub partial : OnePartial s w
+  pub counts : CountsWhole s w
+  pub variables : VariablesWhole s w
+  pub objects : ObjectsWhole s w
+  pub marks : MarksWhole s w
+  pub works : WorksWhole s w
+  pub remember : RememberWhole s w
 
 abbrev pub WholeWords : Words → Type 0
-WholeWords w = Whole (w .cells) (w .remember) (w .tables)
-
--- the words are whole, and their sizes are s: every place is computed from s, and not from the words
-pub record WholeFor (s : Sizes) (w : Words) : Type 0 where
-  pub sized : sizesIn w ≡ s
-  pub sizes : SizesWhole (w .cells) (w .remember) (w .tables)
-  pub placed : WholeAt s (w .cells) (w .remember) (w .tables)
+WholeWords w = WholeFor (sizesIn w) w

@@ -30,7 +30,7 @@ module _ (p : Sizes) (t : List ℕ) (k : WholeTables p t) where
   depth-is i l = depth-at p (words (k .cells) (k .remember) t) i l
 
   deep : (i : ℕ) → i < p .threads → getD depths i 0 ≤ p .depth
-  deep i l = omega (arith, depth-is i l, k .whole .placed .depths i l)
+  deep i l = omega (arith, depth-is i l, k .whole .depths i l)
 
   some-depth : 1 ≤ p .depth
   some-depth = range p (words (k .cells) (k .remember) t) (k .whole) .depth-low
@@ -49,7 +49,7 @@ module _ (p : Sizes) (t : List ℕ) (k : WholeTables p t) where
   pub rows-few : length (rowsIn p t) ≤ 129
   rows-few =
       let r = range p (words (k .cells) (k .remember) t) (k .whole) in
-      omega (arith, row-count, r .threads-high, sum-high (depthOf t) 8 (p .threads) (λ i l. omega (arith, k .whole .placed .depths i l, r .depth-high)))
+      omega (arith, row-count, r .threads-high, sum-high (depthOf t) 8 (p .threads) (λ i l. omega (arith, k .whole .depths i l, r .depth-high)))
 
   -- a thread whose levels do not reach row k is not the last
   pub not-last : (n l : ℕ) → n < p .threads → depthOf t n < l → sum (depthOf t) n + l < length (rowsIn p t) → n + 1 < p .threads

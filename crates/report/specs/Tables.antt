@@ -9,8 +9,7 @@ use Rattle.rules.specs.declared.Sizes.{Sizes}
 use Rattle.rules.specs.Regions.{threadOf, levelOf}
 use Rattle.layout.specs.Places.{Room, room, sizesAt, countOf}
 use Rattle.layout.specs.Words.{words, depthsAt}
-use Rattle.promises.specs.Whole.{WholeFor, Whole}
-use Rattle.promises.specs.Agreed.{whole-for}
+use Rattle.promises.specs.Whole.{WholeFor, WholeWords}
 use Rattle.promises.specs.Reading.{range, tables-room}
 use Rattle.pages.specs.Owned.{ownedIn}
 use Rattle.report.specs.declared.Row.{Row}
@@ -57,6 +56,6 @@ module _ (p : Sizes) (t : List ℕ) (q : ℕ) {objects : ℕ} (o : objects ≡ c
       ∙ sym (ap (λ (b : Bool). cond b (rowOf 0 0 (countOf p t q)) (rowOf (threadOf p q) (levelOf p q) (countOf p t q))) (ne-eqb q 1 n))
 
 -- the sizes that were read from whole words
-pub whole-tables : {c m t : List ℕ} {p : Sizes} → Whole c m t → p ≡ sizesAt t → WholeTables p t
+pub whole-tables : {c m t : List ℕ} {p : Sizes} → WholeWords (words c m t) → p ≡ sizesAt t → WholeTables p t
 whole-tables {c} {m} {t} k e =
-    subst (λ (q : Sizes). WholeTables q t) (sym e) (record { cells = c; remember = m; whole = whole-for (words c m t) k })
+    subst (λ (q : Sizes). WholeTables q t) (sym e) (record { cells = c; remember = m; whole = k })

@@ -79,7 +79,7 @@ rows-all rs k e p = put-text (ap (λ (n : ℕ). rowsText (take n rs)) e ∙ ap r
 module _ {c m t : List ℕ} {p : Sizes} (here : Here (words c m t)) (sizes-are : p ≡ sizesAt t) where
   pub here-whole : WholeTables p t
   here-whole =
-      let k : WholeFor (sizesAt t) (words c m t) = subst (λ (s : Sizes). WholeFor s (words c m t)) (sym (here .stands .whole .sized)) (here .stands .whole) in
+      let k : WholeFor (sizesAt t) (words c m t) = subst (λ (s : Sizes). WholeFor s (words c m t)) (sym (here .stands .whole .sized .sizes)) (here .stands .whole) in
       subst (λ (q : Sizes). WholeTables q t) (sym sizes-are) (record { cells = c; remember = m; whole = k })
 
   module _ {out middle after : List ℕ} {at i end free slots : ℕ} (room : at + 5698 ≤ length out)
@@ -92,7 +92,7 @@ module _ {c m t : List ℕ} {p : Sizes} (here : Here (words c m t)) (sizes-are :
         → (s : Sizes) (h : Regioned) (cells : List ℕ) (cellOf : ℕ → ℕ) → StandsFor s (words cells m t) h cellOf → Put out at (reported s h) after end
     unfolding reported
     report-put free-is slots-are s h cells cellOf st =
-        let sized : p ≡ s = sizes-are ∙ st .whole .sized in
+        let sized : p ≡ s = sizes-are ∙ st .whole .sized .sizes in
         let here : StandsFor p (words cells m t) h cellOf = subst (λ (x : Sizes). StandsFor x (words cells m t) h cellOf) (sym sized) st in
         let rs : rowsIn p t ≡ rows s h = rows-stand p t cells m h cellOf here ∙ ap (λ (x : Sizes). rows x h) sized in
         let fs : free ≡ freePages s (graph h) = free-is ∙ free-stands p t cells m h cellOf here ∙ ap (λ (x : Sizes). freePages x (graph h)) sized in

@@ -87,7 +87,7 @@ pub answered : {w w′ : Words} {block lent answers out after : List ℕ} {q end
 answered {w} {w′} {block} {lent} {answers} {out} {after} {q} {end} used room enough ran put s h cellOf st =
     let long : length (take used block) ≡ used = length-take-le used block (room .words) in
     let z : q ≡ 0 = ran-accepted (whole-words s w (st .whole)) (ap (λ (n : ℕ). n % 5) long ∙ room .even) (omega (arith, long, room .few)) ran in
-    let c : Chain s w (commandsIn (take used block)) (answersIn (take used block) answers) w′ = subst (λ (x : Sizes). Chain x w (commandsIn (take used block)) (answersIn (take used block) answers) w′) (st .whole .sized) (ran .obeyed z) in
+    let c : Chain s w (commandsIn (take used block)) (answersIn (take used block) answers) w′ = subst (λ (x : Sizes). Chain x w (commandsIn (take used block)) (answersIn (take used block) answers) w′) (st .whole .sized .sizes) (ran .obeyed z) in
     let k = chained s c h cellOf st in
     record {
       text = put-text (ap (λ (n : ℕ). stacked (answerLine answers) (n / 5)) (sym long) ∙ sym (answers-stacked answers (size (take used block))) ∙ ap answersText (k .answers)) put;

@@ -4,13 +4,10 @@ use mathlib.Core.List.{List}
 use mathlib.Core.Path.{_≡_, sym, ap, subst, subst₂}
 use native.Mathlib.Omega.{arith}
 use Rattle.rules.specs.declared.Sizes.{Sizes}
-use Rattle.layout.specs.Places.{usedOf, varOf}
+use Rattle.layout.specs.Places.{usedOf}
 use Rattle.layout.specs.Cells.{headOf, workOf, fieldOf, pageOf, placeOf, cellOn}
 use Rattle.layout.specs.Words.{InUse}
 use Rattle.promises.specs.Whole.{IsRef}
-
-abbrev pub VariablesWhole : Sizes → List ℕ → Type 0
-VariablesWhole p t = (i : ℕ) → i < p .threads * p .variables → IsRef p t (varOf p t i)
 
 -- field f of cell k: a reference, a number, or past both and zero
 pub record FieldWhole (p : Sizes) (c t : List ℕ) (k f : ℕ) : Type 0 where

@@ -6,19 +6,16 @@ use native.Mathlib.Omega.{arith}
 use native.Mathlib.Nat.{mod-lt, div-add-mod'}
 use Rattle.lists.specs.Products.{flat-low}
 use Rattle.rules.specs.declared.Sizes.{Sizes}
-use Rattle.layout.specs.Places.{depthOf, markOf}
+use Rattle.layout.specs.Places.{markOf}
 use Rattle.promises.specs.Whole.{Open, PageWhole}
-
-abbrev pub DepthsWhole : Sizes → List ℕ → Type 0
-DepthsWhole p t = (k : ℕ) → k < p .threads → depthOf t k ≤ p .depth
 
 -- a page is whole, and so is its working word
 pub record PageChecked (p : Sizes) (t : List ℕ) (page : ℕ) : Type 0 where
   pub whole : PageWhole p t page
   pub mark : markOf p t page ≡ 0
 
-abbrev pub PagesWhole : Sizes → List ℕ → Type 0
-PagesWhole p t = (page : ℕ) → page < p .pages → PageChecked p t page
+abbrev pub PagesChecked : Sizes → List ℕ → Type 0
+PagesChecked p t = (page : ℕ) → page < p .pages → PageChecked p t page
 
 -- an open region is one of the regions
 pub open-high : (p : Sizes) (t : List ℕ) (g : ℕ) → 1 ≤ p .depth → Open p t g → g ≤ 1 + p .threads * p .depth

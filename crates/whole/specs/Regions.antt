@@ -15,21 +15,19 @@ use Rattle.lists.specs.Zeros.{replicate-at}
 use Rattle.lists.specs.Says.{true-not-false}
 use Rattle.lists.specs.Counting.{sum, sum-more, sum-high}
 use Rattle.rules.specs.declared.Sizes.{Sizes}
-use Rattle.layout.specs.Places.{Room, ownerOf, usedOf, countOf}
-use Rattle.promises.specs.Whole.{Partial, objectsOn, objectsOf, PageWhole}
-use Rattle.whole.specs.Pages.{PageChecked, PagesWhole, open-high}
-
-abbrev pub CountsWhole : Sizes → List ℕ → Type 0
-CountsWhole p t = (g : ℕ) → 1 ≤ g → g ≤ 1 + p .threads * p .depth → countOf p t g ≡ objectsOf p t g
+use Rattle.layout.specs.Places.{Room, ownerOf, usedOf}
+use Rattle.promises.specs.Whole.{Partial, objectsOn, PageWhole, OnePartial, CountsWhole}
+use Rattle.layout.specs.Words.{tablesOnly}
+use Rattle.whole.specs.Pages.{PageChecked, PagesChecked, open-high}
 
 -- at most one of the pages below n is a partly filled page of a region
 abbrev pub PartialWhole : Sizes → List ℕ → ℕ → Type 0
 PartialWhole p t n = (g : ℕ) → 1 ≤ g → (a b : ℕ) → a < b → b < n → Partial p t g a → Partial p t g b → ⊥
 
 pub record RegionsWhole (p : Sizes) (t : List ℕ) : Type 0 where
-  pub pages : PagesWhole p t
-  pub partial : PartialWhole p t (p .pages)
-  pub counts : CountsWhole p t
+  pub pages : PagesChecked p t
+  pub partial : OnePartial p (tablesOnly t)
+  pub counts : CountsWhole p (tablesOnly t)
 
 -- what a pass over the pages below n knows of each region: its objects there, and whether one of its pages there is partly filled
 pub record Tallied (p : Sizes) (t : List ℕ) (objects : List ℕ) (partly : List Bool) (n : ℕ) : Type 0 where
@@ -134,7 +132,7 @@ module _ (p : Sizes) (t : List ℕ) (objects : List ℕ) (partly : List Bool) (n
       go g q (no d) = let r = w .only g (sym (getD-set-other partly o g true false d) ∙ q) in (r .0, omega (arith, r .1), r .2, r .3)
 
   -- a second partly filled page
-  pub twice : o < 130 → n < p .pages → u < 16 → getD partly o false ≡ true → PartialWhole p t (p .pages) → ⊥
+  pub twice : o < 130 → n < p .pages → u < 16 → getD partly o false ≡ true → OnePartial p (tablesOnly t) → ⊥
   twice j m h z all =
       let r = w .only o z in
       all o (r .2) (r .0) n (r .1) m (r .3) (record { owner = sym e; part = omega arith })

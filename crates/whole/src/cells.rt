@@ -4,7 +4,7 @@ ghost use Prim.Native.Nat.{_+_, _*_, _^_, _<_, _≤_};
 ghost use lib.ListN.{length};
 ghost use Rattle.lists.specs.Says.{Says};
 ghost use Rattle.layout.specs.Places.{Room};
-ghost use Rattle.whole.specs.Pages.{PagesWhole};
+ghost use Rattle.whole.specs.Pages.{PagesChecked};
 ghost use Rattle.whole.specs.Cells.{ZeroFrom};
 ghost use Rattle.whole.specs.Crossing.{CellsCross};
 use crate::variables::is_ref;
@@ -41,7 +41,7 @@ pub fn zero_from(cells: &[u32], cell: usize, first: usize) -> bool
 pub fn cells_whole(p: Sizes, cells: &[u32], tables: &[u32], entries: usize) -> bool
     requires { ⌜ Room p (length (now tables)) ⌝ }
     requires { ⌜ 256 * p .pages ≤ length (now cells) ⌝ }
-    requires { ⌜ PagesWhole p (now tables) ⌝ }
+    requires { ⌜ PagesChecked p (now tables) ⌝ }
     requires { ⌜ entries < 2 ^ 32 ⌝ }
     ensures { λ r. ⌜ Says r (CellsCross p (now (cells .entry)) (now (tables .entry)) entries) ⌝ }
 {

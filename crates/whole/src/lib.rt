@@ -1,10 +1,10 @@
 // The check that lent words are whole tables (01, "Sizes and tables"). Any words may be handed in. It only reads, looks at no word
 // past the three lengths nor at a cell that is not in use, and ends at the first word that breaks a condition.
-ghost use Prim.Native.Nat.{_+_, _*_, _≤_};
 ghost use lib.ListN.{length};
 ghost use Rattle.lists.specs.Says.{Says};
 ghost use Rattle.layout.specs.Places.{Room};
-ghost use Rattle.promises.specs.Whole.{WholeAt, Whole};
+ghost use Rattle.layout.specs.Words.{words};
+ghost use Rattle.promises.specs.Whole.{Sized, WholeFor, WholeWords};
 use rules::Sizes;
 
 pub mod cells;
@@ -17,9 +17,8 @@ pub mod variables;
 // The conditions after the first, of tables whose sizes are known.
 pub fn placed_whole(p: Sizes, cells: &[u32], remember: &[u32], tables: &[u32]) -> bool
     requires { ⌜ Room p (length (now tables)) ⌝ }
-    requires { ⌜ 256 * p .pages ≤ length (now cells) ⌝ }
-    requires { ⌜ 2 * p .entries + 2 ≤ length (now remember) ⌝ }
-    ensures { λ r. ⌜ Says r (WholeAt p (now (cells .entry)) (now (remember .entry)) (now (tables .entry))) ⌝ }
+    requires { ⌜ Sized p (words (now cells) (now remember) (now tables)) ⌝ }
+    ensures { λ r. ⌜ Says r (WholeFor p (words (now (cells .entry)) (now (remember .entry)) (now (tables .entry)))) ⌝ }
 {
     if !pages::depths_whole(p, tables) {
         return false;
@@ -41,7 +40,7 @@ pub fn placed_whole(p: Sizes, cells: &[u32], remember: &[u32], tables: &[u32]) -
 }
 
 pub fn whole(cells: &[u32], remember: &[u32], tables: &[u32]) -> bool
-    ensures { λ r. ⌜ Says r (Whole (now (cells .entry)) (now (remember .entry)) (now (tables .entry))) ⌝ }
+    ensures { λ r. ⌜ Says r (WholeWords (words (now (cells .entry)) (now (remember .entry)) (now (tables .entry)))) ⌝ }
 {
     if !sizes::sizes_whole(cells, remember, tables) {
         return false;

@@ -4,13 +4,14 @@ ghost use Prim.Native.Nat.{_<_};
 ghost use lib.ListN.{length};
 ghost use Rattle.lists.specs.Says.{Says};
 ghost use Rattle.layout.specs.Places.{Room};
-ghost use Rattle.promises.specs.Whole.{Open};
-ghost use Rattle.whole.specs.Pages.{DepthsWhole, PageChecked};
+ghost use Rattle.promises.specs.Whole.{Open, DepthsWhole};
+ghost use Rattle.layout.specs.Words.{tablesOnly};
+ghost use Rattle.whole.specs.Pages.{PageChecked};
 use rules::Sizes;
 
 pub fn depths_whole(p: Sizes, tables: &[u32]) -> bool
     requires { ⌜ Room p (length (now tables)) ⌝ }
-    ensures { λ r. ⌜ Says r (DepthsWhole p (now (tables .entry))) ⌝ }
+    ensures { λ r. ⌜ Says r (DepthsWhole p (tablesOnly (now (tables .entry)))) ⌝ }
 {
     let threads = p.threads;
     let mut k = 0;

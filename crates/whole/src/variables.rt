@@ -2,8 +2,8 @@
 ghost use lib.ListN.{length};
 ghost use Rattle.lists.specs.Says.{Says};
 ghost use Rattle.layout.specs.Places.{Room};
-ghost use Rattle.promises.specs.Whole.{IsRef};
-ghost use Rattle.whole.specs.Cells.{VariablesWhole};
+ghost use Rattle.promises.specs.Whole.{IsRef, VariablesWhole};
+ghost use Rattle.layout.specs.Words.{tablesOnly};
 use rules::Sizes;
 
 // Whether x is null or names a cell in use.
@@ -28,7 +28,7 @@ pub fn is_ref(p: Sizes, tables: &[u32], x: u32) -> bool
 
 pub fn variables_whole(p: Sizes, tables: &[u32]) -> bool
     requires { ⌜ Room p (length (now tables)) ⌝ }
-    ensures { λ r. ⌜ Says r (VariablesWhole p (now (tables .entry))) ⌝ }
+    ensures { λ r. ⌜ Says r (VariablesWhole p (tablesOnly (now (tables .entry)))) ⌝ }
 {
     let end = layout::tables::var_count(p);
     let mut i = 0;

@@ -73,7 +73,7 @@ region-at-requires c κs =
     let a = c .before .before .before .before .before .before .args in
     let l = c .before .loop in
     let space = tables-room-of (a .p) (a .tables .now) (c .before .before .before .before .before .before .pre .0) (omega arith) in
-    (space .threads-high, space .depth-high, l .inv .0, omega (arith, c .before .before .before .before .before .before .pre .0 .whole .placed .depths (l .thread) (l .inv .0), l .inv .1, c .loop-test .left))
+    (space .threads-high, space .depth-high, l .inv .0, omega (arith, c .before .before .before .before .before .before .pre .0 .whole .depths (l .thread) (l .inv .0), l .inv .1, c .loop-test .left))
 
 wide-requires-3 : tie.Need-wide-requires-3 Inv-loop μ-loop
 wide-requires-3 c κs = tt

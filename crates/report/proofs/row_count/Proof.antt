@@ -35,7 +35,7 @@ add-n c =
     let k = c .before .before .before .before .before .pre in
     let space = tables-room-of (a .p) (a .tables .now) k (omega arith) in
     let d = c .wide .ensures ∙ c .before .depth .ensures in
-    omega (arith, d, k .whole .placed .depths (c .before .before .before .loop .thread) (omega arith), c .before .before .before .loop .inv .2, space .depth-high, space .threads-high)
+    omega (arith, d, k .whole .depths (c .before .before .before .loop .thread) (omega arith), c .before .before .before .loop .inv .2, space .depth-high, space .threads-high)
 
 add-thread : tie.Need-add-thread Inv-loop μ-loop
 add-thread c = omega arith
@@ -51,7 +51,7 @@ loop-again c =
     let d = c .wide .ensures ∙ c .before .depth .ensures in (
       omega arith,
       omega (arith, d, sum-more (depthOf (a .tables .now)) (c .before .before .before .loop .thread), c .before .before .before .loop .inv .1),
-      omega (arith, d, k .whole .placed .depths (c .before .before .before .loop .thread) (omega arith), c .before .before .before .loop .inv .2, space .depth-high),
+      omega (arith, d, k .whole .depths (c .before .before .before .loop .thread) (omega arith), c .before .before .before .loop .inv .2, space .depth-high),
     )
 
 returns : tie.Need-returns Inv-loop μ-loop

@@ -6,6 +6,8 @@ use mathlib.Core.Path.{sym, subst, _∙_}
 use Prim.Native.Nat.{ℕ}
 use denote.Ref.{now}
 use Rattle.lists.specs.Says.{says-yes, says-no, said-no}
+use Rattle.layout.specs.Words.{words}
+use Rattle.promises.specs.Reading.{entries-there}
 use Rattle.whole.specs.Crossing.{CellsCross}
 use Rattle.whole.specs.Parts.{regions-of, cells-of, whole-of}
 use Rattle.whole.proofs.placed_whole.Statement.{statement}
@@ -30,7 +32,7 @@ returns-3 : tie.Need-returns-3
 returns-3 c = says-no (λ h. said-no _ (c .before .variables-whole .ensures) (not-true _ (c .if3 .taken)) (h .variables))
 
 used-requires : tie.Need-used-requires
-used-requires c κs = omega (arith, c .before .before .before .before .before .before .before .before .before .pre .1 .1)
+used-requires c κs = entries-there (c .before .before .before .before .before .before .before .before .before .pre .1)
 
 wide-requires : tie.Need-wide-requires
 wide-requires c κs = search needs
@@ -38,7 +40,7 @@ wide-requires c κs = search needs
 cells-whole-requires : tie.Need-cells-whole-requires
 cells-whole-requires c κs =
     let pre = c .before .before .before .before .before .before .before .before .before .before .before .pre in
-    (pre .0, (pre .1 .0, ((c .before .before .before .before .before .regions-whole .ensures .0 (not-false _ (c .before .before .before .before .if2 .left))) .pages, omega (arith, c .wide .ensures, c .before .used .ensures, c .before .before .before .before .before .before .before .before .before .shared-slice-known2 .given 1))))
+    (pre .0, (pre .1 .cells, ((c .before .before .before .before .before .regions-whole .ensures .0 (not-false _ (c .before .before .before .before .if2 .left))) .pages, omega (arith, c .wide .ensures, c .before .used .ensures, c .before .before .before .before .before .before .before .before .before .shared-slice-known2 .given 1))))
 
 returns-4 : tie.Need-returns-4
 returns-4 c =
@@ -48,7 +50,7 @@ returns-4 c =
 entries-whole-requires : tie.Need-entries-whole-requires
 entries-whole-requires c κs =
     let pre = c .before .before .before .before .before .before .before .before .before .before .before .before .before .pre in
-    (pre .0, (pre .1 .0, pre .1 .1))
+    (pre .0, (pre .1 .cells, pre .1 .remember))
 
 returns-5 : tie.Need-returns-5
 returns-5 c = says-no (λ h. said-no _ (c .before .entries-whole .ensures) (not-true _ (c .if5 .taken)) (h .remember .entries))
@@ -56,7 +58,7 @@ returns-5 c = says-no (λ h. said-no _ (c .before .entries-whole .ensures) (not-
 returns-6 : tie.Need-returns-6
 returns-6 c =
     let args = c .before .before .before .before .before .before .before .before .before .before .before .before .before .before .before .args in
-    says-yes (whole-of (c .before .before .before .before .before .before .before .before .before .before .before .depths-whole .ensures .0 (not-false _ (c .before .before .before .before .before .before .before .before .before .before .if1 .left))) (c .before .before .before .before .before .before .before .before .before .regions-whole .ensures .0 (not-false _ (c .before .before .before .before .before .before .before .before .if2 .left))) (c .before .before .before .before .before .before .before .variables-whole .ensures .0 (not-false _ (c .before .before .before .before .before .before .if3 .left)))
+    says-yes (whole-of {w = words (now (args .cells)) (now (args .remember)) (now (args .tables))} (c .before .before .before .before .before .before .before .before .before .before .before .before .before .before .before .pre .1) (c .before .before .before .before .before .before .before .before .before .before .before .depths-whole .ensures .0 (not-false _ (c .before .before .before .before .before .before .before .before .before .before .if1 .left))) (c .before .before .before .before .before .before .before .before .before .regions-whole .ensures .0 (not-false _ (c .before .before .before .before .before .before .before .before .if2 .left))) (c .before .before .before .before .before .before .before .variables-whole .ensures .0 (not-false _ (c .before .before .before .before .before .before .if3 .left)))
     (subst (λ (n : ℕ). CellsCross (args .p) (now (args .cells)) (now (args .tables)) n) (c .before .before .before .before .wide .ensures ∙ c .before .before .before .before .before .used .ensures) (c .before .before .before .cells-whole .ensures .0 (not-false _ (c .before .before .if4 .left)))) (c .before .entries-whole .ensures .0 (not-false _ (c .if5 .left))))
 
 pub placed-whole-spec : {M : Type 1} → statement M

@@ -18,7 +18,7 @@ innermost-requires c κs =
     let args = c .before .before .before .before .before .args in
     let pre = c .before .before .before .before .before .pre in (
       (whole-room (args .p) (words (args .cells .now) (args .remember .now) (args .tables .now)) (pre .0) (omega arith)),
-      (pre .1 .1 .0, pre .0 .placed .depths (args .t) (pre .1 .1 .0)),
+      (pre .1 .1 .0, pre .0 .depths (args .t) (pre .1 .1 .0)),
     )
 
 page-for-requires : tie.Need-page-for-requires

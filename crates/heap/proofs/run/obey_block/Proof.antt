@@ -7,6 +7,7 @@ use native.Mathlib.Omega.{arith}
 use borrow.Author.Needs.{needs}
 use Rattle.layout.specs.Words.{words}
 use Rattle.promises.specs.Promises.{size}
+use Rattle.promises.specs.Reading.{sizes-there}
 use Rattle.promises.specs.Chained.{asked-whole}
 use Rattle.heap.specs.Looping.{asked-room}
 use Rattle.heap.specs.Running.{Turning, turn-start, turn-ready, turn-fits, turn-more, turn-end, whole-ready, looped-found}
@@ -20,7 +21,7 @@ abbrev μ-loop : tie.MeasureT-loop
 μ-loop cells₀ remember₀ tables₀ block answers₀ p n notes₀ i₀ cells remember tables answers notes i = n - i
 
 read-sizes-requires : tie.Need-read-sizes-requires Inv-loop μ-loop
-read-sizes-requires c κs = asked-whole (c .before .before .before .before .before .before .pre) refl .sizes .sized
+read-sizes-requires c κs = sizes-there (asked-whole (c .before .before .before .before .before .before .pre) refl .sized)
 
 loop-holds : tie.Need-loop-holds Inv-loop μ-loop
 loop-holds c = (turn-start (whole-ready (asked-whole (c .before .before .before .before .before .before .before .pre) refl) (c .read-sizes .ensures)) (asked-room (c .before .before .before .before .before .before .before .pre)), refl, omega arith, refl)

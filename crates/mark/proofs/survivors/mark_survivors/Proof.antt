@@ -20,7 +20,7 @@ region-at-requires : tie.Need-region-at-requires
 region-at-requires c κs =
     let args = c .before .before .before .before .before .before .args in
     let pre = c .before .before .before .before .before .before .pre in
-    omega (arith, space-of (args .p) (words (args .cells .now) (args .remember .now) (args .tables .now)) (pre .0) (omega arith), pre .0 .placed .depths (args .thread) (pre .1 .0), pre .1 .0)
+    omega (arith, space-of (args .p) (words (args .cells .now) (args .remember .now) (args .tables .now)) (pre .0) (omega arith), pre .0 .depths (args .thread) (pre .1 .0), pre .1 .0)
 
 sub-region-at : tie.Need-sub-region-at
 sub-region-at c = search needs
@@ -29,13 +29,13 @@ region-at-requires-2 : tie.Need-region-at-requires-2
 region-at-requires-2 c κs =
     let args = c .before .before .before .before .before .before .before .args in
     let pre = c .before .before .before .before .before .before .before .pre in
-    omega (arith, space-of (args .p) (words (args .cells .now) (args .remember .now) (args .tables .now)) (pre .0) (omega arith), pre .0 .placed .depths (args .thread) (pre .1 .0), pre .1 .0)
+    omega (arith, space-of (args .p) (words (args .cells .now) (args .remember .now) (args .tables .now)) (pre .0) (omega arith), pre .0 .depths (args .thread) (pre .1 .0), pre .1 .0)
 
 mark-levels-requires : tie.Need-mark-levels-requires
 mark-levels-requires c κs =
     let args = c .before .before .before .before .before .before .before .before .before .before .args in
     let pre = c .before .before .before .before .before .before .before .before .before .before .pre in
-    (shaped-at (args .p) (words (args .cells .now) (args .remember .now) (args .tables .now)) (pre .0) (omega arith), (holding-at (args .p) (words (args .cells .now) (args .remember .now) (args .tables .now)) (pre .0) (omega arith), (clean-at (args .p) (words (args .cells .now) (args .remember .now) (args .tables .now)) (pre .0) (omega arith), (pre .1 .0, omega (arith, pre .0 .placed .depths (args .thread) (pre .1 .0))))))
+    (shaped-at (args .p) (words (args .cells .now) (args .remember .now) (args .tables .now)) (pre .0) (omega arith), (holding-at (args .p) (words (args .cells .now) (args .remember .now) (args .tables .now)) (pre .0) (omega arith), (clean-at (args .p) (words (args .cells .now) (args .remember .now) (args .tables .now)) (pre .0) (omega arith), (pre .1 .0, omega (arith, pre .0 .depths (args .thread) (pre .1 .0))))))
 
 same-length : tie.Need-same-length
 same-length c = search needs

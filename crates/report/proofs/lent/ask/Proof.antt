@@ -4,6 +4,7 @@ use native.Mathlib.Omega.{arith}
 use Rattle.lists.specs.Says.{said-no}
 use Rattle.lists.specs.Tests.{not-is}
 use Rattle.layout.specs.Words.{words}
+use Rattle.promises.specs.Reading.{sizes-there, entries-there}
 use Rattle.report.specs.declared.Reported.{Reported}
 use Rattle.report.specs.Tables.{whole-tables}
 use Rattle.report.specs.Stands.{rows-few}
@@ -24,7 +25,7 @@ returns c =
     subst (λ (r : Reported). Asking (words (a .cells .now) (a .remember .now) (a .tables .now)) (a .room) r) (sym (c .refused .ensures)) (asking-not-whole (words (a .cells .now) (a .remember .now) (a .tables .now)) (a .room) (said-no _ (c .before .before .whole .ensures) (not-is _ (c .before .if1 .taken))))
 
 read-sizes-requires : tie.Need-read-sizes-requires
-read-sizes-requires c κs = (c .before .whole .ensures .0 (not-is _ (c .if1 .left))) .sizes .sized
+read-sizes-requires c κs = sizes-there (c .before .whole .ensures .0 (not-is _ (c .if1 .left)) .sized)
 
 row-count-requires : tie.Need-row-count-requires
 row-count-requires c κs = whole-tables (c .before .before .whole .ensures .0 (not-is _ (c .before .if1 .left))) (c .read-sizes .ensures)
@@ -48,7 +49,7 @@ free-pages-requires : tie.Need-free-pages-requires
 free-pages-requires c κs = whole-tables (c .before .before .before .before .whole .ensures .0 (not-is _ (c .before .before .before .if1 .left))) (c .before .before .read-sizes .ensures)
 
 crossing-slots-requires : tie.Need-crossing-slots-requires
-crossing-slots-requires c κs = (c .before .before .before .before .before .whole .ensures .0 (not-is _ (c .before .before .before .before .if1 .left))) .sizes .counted
+crossing-slots-requires c κs = entries-there (c .before .before .before .before .before .whole .ensures .0 (not-is _ (c .before .before .before .before .if1 .left)) .sized)
 
 returns-3 : tie.Need-returns-3
 returns-3 c =

@@ -2,6 +2,7 @@
 use Prim.Native.Nat.{_+_, _*_, _≤_}
 use mathlib.Core.Path.{sym, subst}
 use Rattle.rules.specs.declared.Sizes.{Sizes}
+use Rattle.promises.specs.Reading.{sizes-there}
 use Rattle.layout.specs.Words.{depthsAt}
 use Rattle.report.specs.Opened.{Next}
 use Rattle.report.specs.Tables.{WholeTables}
@@ -9,7 +10,7 @@ use Rattle.report.proofs.lent.open_after.Statement.{statement}
 use Rattle.report.proofs.lent.open_after.Tie as tie
 
 read-sizes-requires : tie.Need-read-sizes-requires
-read-sizes-requires c κs = c .before .pre .0 .whole .sizes .sized
+read-sizes-requires c κs = sizes-there (c .before .pre .0 .whole .sized)
 
 next-open-requires : tie.Need-next-open-requires
 next-open-requires c κs =

@@ -2,12 +2,13 @@
 use Prim.Native.Nat.{_+_, _*_, _≤_}
 use mathlib.Core.Path.{ap, sym, subst, _∙_}
 use Rattle.rules.specs.declared.Sizes.{Sizes}
+use Rattle.promises.specs.Reading.{sizes-there}
 use Rattle.report.specs.Tables.{WholeTables, rowIn}
 use Rattle.report.proofs.lent.row_in.Statement.{statement}
 use Rattle.report.proofs.lent.row_in.Tie as tie
 
 read-sizes-requires : tie.Need-read-sizes-requires
-read-sizes-requires c κs = c .before .pre .0 .whole .sizes .sized
+read-sizes-requires c κs = sizes-there (c .before .pre .0 .whole .sized)
 
 row-of-requires : tie.Need-row-of-requires
 row-of-requires c κs =

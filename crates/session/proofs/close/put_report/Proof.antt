@@ -1,13 +1,14 @@
 -- The rows, then the two figures, for the sizes that the tables name.
 use Prim.Native.Nat.{_<_}
 use native.Mathlib.Omega.{arith}
+use Rattle.promises.specs.Reading.{sizes-there}
 use Rattle.session.specs.Closing.{here-whole, report-end, report-put}
 use borrow.Author.Needs.{needs}
 use Rattle.session.proofs.close.put_report.Statement.{statement}
 use Rattle.session.proofs.close.put_report.Tie as tie
 
 read-sizes-requires : tie.Need-read-sizes-requires
-read-sizes-requires c κs = search needs
+read-sizes-requires c κs = sizes-there (c .before .before .before .pre .0 .1 .stands .whole .sized)
 
 put-rows-requires : tie.Need-put-rows-requires
 put-rows-requires c κs = (here-whole (c .before .before .before .before .before .pre .0 .1) (c .before .read-sizes .ensures), omega (arith, c .before .before .before .before .before .pre .1))

@@ -3,17 +3,18 @@ use native.Mathlib.Omega.{arith}
 use borrow.Author.Needs.{needs}
 use Rattle.lists.specs.Says.{says-yes, says-no, said-no}
 use borrow.Author.Tests.{not-true, not-false}
-use mathlib.Core.Path.{ap}
+use mathlib.Core.Path.{refl, ap}
 use Rattle.rules.specs.declared.Sizes.{Sizes}
 use Rattle.layout.specs.Places.{tablesWords}
+use Rattle.promises.specs.Reading.{sizes-there, entries-there}
 use Rattle.whole.proofs.sizes.sizes_whole.Statement.{statement}
 use Rattle.whole.proofs.sizes.sizes_whole.Tie as tie
 
 returns : tie.Need-returns
-returns c = says-no (λ h. omega (arith, h .sized))
+returns c = says-no (λ h. omega (arith, sizes-there h))
 
 returns-2 : tie.Need-returns-2
-returns-2 c = says-no (λ h. omega (arith, h .counted))
+returns-2 c = says-no (λ h. omega (arith, entries-there h))
 
 read-sizes-requires : tie.Need-read-sizes-requires
 read-sizes-requires c κs = search needs
@@ -55,8 +56,7 @@ returns-8 : tie.Need-returns-8
 returns-8 c =
     let read-sizes = c .before .before .before .before .before .before .before .before .before .before .before .before .read-sizes in
     says-yes (record {
-      sized = omega arith;
-      counted = omega arith;
+      sizes = refl;
       range = rw (read-sizes .ensures) at (c .before .before .before .before .before .before .before .before .before .before .before .in-range .ensures .0 (not-false _ (c .before .before .before .before .before .before .before .before .before .before .if3 .left)));
       same = omega (arith, ap (λ (s : Sizes). s .entries) (read-sizes .ensures));
       cells = omega (arith, ap (λ (s : Sizes). s .pages) (read-sizes .ensures));

@@ -1,0 +1,233 @@
+-- The words by areas. A change names the areas that it changes: every other area, and the words past the three lengths, are the same.
+use Prim.Native.Nat.{ℕ, _+_, _*_, _-_, _≤_, _<_}
+use native.Mathlib.Omega.{arith}
+use native.Mathlib.Decide.{decLt}
+use mathlib.Core.Path.{_≡_, refl, sym, ap, subst, _∙_}
+use mathlib.Core.List.{List, [], _∷_, _++_}
+use mathlib.Core.Bool.{Bool, true, false, cond}
+use lib.ListN.{length, getD, set, length-set}
+use lib.Dec.{eqb}
+use borrow.Author.Tests.{eq-eqb}
+use Rattle.lists.specs.Counting.{sum, sum-mono}
+use Rattle.lists.specs.Says.{true-not-false}
+use Rattle.lists.specs.Stores.{past, drop-same}
+use Rattle.rules.specs.declared.Sizes.{Sizes}
+use Rattle.rules.specs.Regions.{regions}
+use Rattle.layout.specs.Places.{varCount, cellsWords, rememberWords, tablesWords, depthAt, varAt, varOf, ownersFrom, ownerAt, usedFrom, usedAt, marksFrom, markAt, markOf, countsFrom, countAt, countOf, count-room}
+use Rattle.layout.specs.Cells.{workOf, fieldOf, roomFor}
+use Rattle.layout.specs.Words.{Words, Used, sizesIn, depthIn, ownerIn, usedIn, headIn}
+use Rattle.promises.specs.StandsFor.{SameFrom, SameBeyond}
+use Rattle.promises.specs.Changes.{withTables, withCells}
+
+-- the words of the tables, of the objects and of the remember table
+pub data Area : Type 0 where
+  sizeWords depthWords variableWords ownerWords usedWords markWords countWords headWords workWords fieldWords entryWords : Area
+
+-- those of the tables are numbered by their arrays
+abbrev number : Area → ℕ
+number sizeWords = 0
+number depthWords = 1
+number variableWords = 2
+number ownerWords = 3
+number usedWords = 4
+number markWords = 5
+number countWords = 6
+number headWords = 7
+number workWords = 8
+number fieldWords = 9
+number entryWords = 10
+
+abbrev pub among : Area → List Area → Bool
+among a [] = false
+among a (b ∷ l) = cond (eqb (number a) (number b)) true (among a l)
+
+-- an area is the same: of the cells, the words of the objects that w has
+abbrev pub Same : Area → Sizes → Words → Words → Type 0
+Same sizeWords s w w′ = (sizesIn w′ ≡ sizesIn w) × (getD (w′ .remember) 0 0 ≡ getD (w .remember) 0 0)
+Same depthWords s w w′ = (t : ℕ) → t < s .threads → depthIn w′ t ≡ depthIn w t
+Same variableWords s w w′ = (i : ℕ) → i < varCount s → varOf s (w′ .tables) i ≡ varOf s (w .tables) i
+Same ownerWords s w w′ = (q : ℕ) → q < s .pages → ownerIn s w′ q ≡ ownerIn s w q
+Same usedWords s w w′ = (q : ℕ) → q < s .pages → usedIn s w′ q ≡ usedIn s w q
+Same markWords s w w′ = (q : ℕ) → q < s .pages → markOf s (w′ .tables) q ≡ markOf s (w .tables) q
+Same countWords s w w′ = (g : ℕ) → 1 ≤ g → g ≤ regions s → countOf s (w′ .tables) g ≡ countOf s (w .tables) g
+Same headWords s w w′ = (k : ℕ) → Used s w k → headIn w′ k ≡ headIn w k
+Same workWords s w w′ = (k : ℕ) → Used s w k → workOf (w′ .cells) k ≡ workOf (w .cells) k
+Same fieldWords s w w′ = (k : ℕ) → Used s w k → (f : ℕ) → f < roomFor (headIn w k) → fieldOf (w′ .cells) k f ≡ fieldOf (w .cells) k f
+Same entryWords s w w′ = w′ .remember ≡ w .remember
+
+pub record Only (changed : List Area) (s : Sizes) (w w′ : Words) : Type 0 where
+  pub same : (a : Area) → among a changed ≡ false → Same a s w w′
+  pub beyond : SameBeyond s w w′
+
+-- ---- no change, and one after another
+
+pub from-refl : (n : ℕ) (l : List ℕ) → SameFrom n l l
+from-refl n l = record { long = refl; rest = refl }
+
+pub same-beyond : (s : Sizes) (w : Words) → SameBeyond s w w
+same-beyond s w = record { cells = from-refl _ _; remember = from-refl _ _; tables = from-refl _ _ }
+
+from-both : {n : ℕ} {a b c : List ℕ} → SameFrom n a b → SameFrom n b c → SameFrom n a c
+from-both x y = record { long = y .long ∙ x .long; rest = y .rest ∙ x .rest }
+
+pub beyond-both : {s : Sizes} {u v w : Words} → SameBeyond s u v → SameBeyond s v w → SameBeyond s u w
+beyond-both x y =
+    record { cells = from-both (x .cells) (y .cells); remember = from-both (x .remember) (y .remember); tables = from-both (x .tables) (y .tables) }
+
+pub only-refl : (s : Sizes) (w : Words) → Only [] s w w
+only-refl s w = record { same = λ a n. kept a; beyond = same-beyond s w }
+  where
+    kept : (a : Area) → Same a s w w
+    kept sizeWords = (refl, refl)
+    kept depthWords = λ t l. refl
+    kept variableWords = λ i l. refl
+    kept ownerWords = λ q l. refl
+    kept usedWords = λ q l. refl
+    kept markWords = λ q l. refl
+    kept countWords = λ g l m. refl
+    kept headWords = λ k u. refl
+    kept workWords = λ k u. refl
+    kept fieldWords = λ k u f l. refl
+    kept entryWords = refl
+
+pub among-both : (a : Area) (cs ds : List Area) → among a (cs ++ ds) ≡ false → (among a cs ≡ false) × (among a ds ≡ false)
+among-both a [] ds e = (refl, e)
+among-both a (c ∷ cs) ds e = go (eqb (number a) (number c)) (among-both a cs ds) e
+  where
+    go : (b : Bool) → (among a (cs ++ ds) ≡ false → (among a cs ≡ false) × (among a ds ≡ false)) → cond b true (among a (cs ++ ds)) ≡ false → (cond b true (among a cs) ≡ false) × (among a ds ≡ false)
+    go true rest e = absurd (true-not-false (sym e))
+    go false rest e = rest e
+
+-- the objects of w are there, with the same word 0
+abbrev pub ObjectsStay : Sizes → Words → Words → Type 0
+ObjectsStay s w w′ = (k : ℕ) → Used s w k → Used s w′ k × (headIn w′ k ≡ headIn w k)
+
+pub only-trans : {cs ds : List Area} {s : Sizes} {u v w : Words} → Only cs s u v → Only ds s v w → ObjectsStay s u v → Only (cs ++ ds) s u w
+only-trans {cs} {ds} {s} {u} {v} {w} x y stay =
+    record { same = λ a n. let m = among-both a cs ds n in both a (x .same a (m .0)) (y .same a (m .1)); beyond = beyond-both (x .beyond) (y .beyond) }
+  where
+    both : (a : Area) → Same a s u v → Same a s v w → Same a s u w
+    both sizeWords f g = (g .0 ∙ f .0, g .1 ∙ f .1)
+    both depthWords f g = λ t l. g t l ∙ f t l
+    both variableWords f g = λ i l. g i l ∙ f i l
+    both ownerWords f g = λ q l. g q l ∙ f q l
+    both usedWords f g = λ q l. g q l ∙ f q l
+    both markWords f g = λ q l. g q l ∙ f q l
+    both countWords f g = λ h l m. g h l m ∙ f h l m
+    both headWords f g = λ k i. g k (stay k i .0) ∙ f k i
+    both workWords f g = λ k i. g k (stay k i .0) ∙ f k i
+    both fieldWords f g = λ k i j l. g k (stay k i .0) j (subst (λ (h : ℕ). j < roomFor h) (sym (stay k i .1)) l) ∙ f k i j l
+    both entryWords f g = g ∙ f
+
+-- ---- the arrays of the tables stand one after the other
+
+abbrev arrays : Sizes → List ℕ
+arrays s = 5 ∷ s .threads ∷ varCount s ∷ s .pages ∷ s .pages ∷ s .pages ∷ regions s ∷ []
+
+abbrev startOf : Sizes → ℕ → ℕ
+startOf s n = sum (λ i. getD (arrays s) i 0) n
+
+-- position j is one of the area's array
+abbrev pub Within : Area → Sizes → ℕ → Type 0
+Within a s j = (startOf s (number a) ≤ j) × (j < startOf s (number a + 1))
+
+starts : (s : Sizes) → (startOf s 3 ≡ ownersFrom s) × (startOf s 4 ≡ usedFrom s) × (startOf s 5 ≡ marksFrom s) × (startOf s 6 ≡ countsFrom s) × (startOf s 7 ≡ tablesWords s)
+unfolding countsFrom marksFrom usedFrom ownersFrom
+starts s = omega (arith, count-room s)
+
+pub depth-in : (s : Sizes) (t : ℕ) → t < s .threads → Within depthWords s (depthAt t)
+depth-in s t l = omega arith
+
+pub var-in : (s : Sizes) (i : ℕ) → i < varCount s → Within variableWords s (varAt s i)
+var-in s i l = omega (arith, starts s)
+
+pub owner-in : (s : Sizes) (q : ℕ) → q < s .pages → Within ownerWords s (ownerAt s q)
+owner-in s q l = omega (arith, starts s)
+
+pub used-in : (s : Sizes) (q : ℕ) → q < s .pages → Within usedWords s (usedAt s q)
+used-in s q l = omega (arith, starts s)
+
+pub mark-in : (s : Sizes) (q : ℕ) → q < s .pages → Within markWords s (markAt s q)
+mark-in s q l = omega (arith, starts s)
+
+pub count-in : (s : Sizes) (g : ℕ) → 1 ≤ g → g ≤ regions s → Within countWords s (countAt s g)
+count-in s g l m = omega (arith, starts s)
+
+-- THE ARRAYS STAND APART
+pub arrays-apart : (s : Sizes) (a b : Area) (i j : ℕ) → among a (b ∷ []) ≡ false → Within a s i → Within b s j → i ≡ j → ⊥
+arrays-apart s a b i j n x y e = go (decLt (number a) (number b)) (decLt (number b) (number a))
+  where
+    go : Dec (number a < number b) → Dec (number b < number a) → ⊥
+    go (yes l) m = omega (arith, x .1, y .0, sum-mono (λ k. getD (arrays s) k 0) (number a + 1) (number b) (omega arith))
+    go (no l) (yes m) = omega (arith, y .1, x .0, sum-mono (λ k. getD (arrays s) k 0) (number b + 1) (number a) (omega arith))
+    go (no l) (no m) = true-not-false (sym n ∙ ap (λ (t : Bool). cond t true false) (eq-eqb (number a) (number b) (omega arith)))
+
+-- so tables in which the words of every other area are the same
+module _ (s : Sizes) (w : Words) (t′ : List ℕ) (cs : List Area) (long : length t′ ≡ length (w .tables))
+    (kept : (a : Area) → among a cs ≡ false → (j : ℕ) → Within a s j → getD t′ j 0 ≡ getD (w .tables) j 0)
+    (rest : (j : ℕ) → tablesWords s ≤ j → getD t′ j 0 ≡ getD (w .tables) j 0) where
+  pub tables-only : Only cs s w (withTables w t′)
+  tables-only =
+      record {
+        same = same;
+        beyond = record { cells = from-refl _ _; remember = from-refl _ _; tables = record { long = long; rest = drop-same (tablesWords s) (w .tables) t′ long rest } };
+      }
+    where
+      same : (a : Area) → among a cs ≡ false → Same a s w (withTables w t′)
+      same sizeWords n =
+          let e : (j : ℕ) → j < 5 → getD t′ j 0 ≡ getD (w .tables) j 0 = λ j l. kept sizeWords n j (omega arith) in
+          (λ i. record { threads = e 0 (omega arith) i; variables = e 1 (omega arith) i; depth = e 2 (omega arith) i; pages = e 3 (omega arith) i; entries = e 4 (omega arith) i }, refl)
+      same depthWords n = λ t l. kept depthWords n (depthAt t) (depth-in s t l)
+      same variableWords n = λ i l. kept variableWords n (varAt s i) (var-in s i l)
+      same ownerWords n = λ q l. kept ownerWords n (ownerAt s q) (owner-in s q l)
+      same usedWords n = λ q l. kept usedWords n (usedAt s q) (used-in s q l)
+      same markWords n = λ q l. kept markWords n (markAt s q) (mark-in s q l)
+      same countWords n = λ g l m. kept countWords n (countAt s g) (count-in s g l m)
+      same headWords n = λ k u. refl
+      same workWords n = λ k u. refl
+      same fieldWords n = λ k u f l. refl
+      same entryWords n = refl
+
+-- a word of the tables is stored: a depth, a variable, a mark
+pub store-only : (s : Sizes) (w : Words) (b : Area) (at v : ℕ) → Within b s at → at < tablesWords s → Only (b ∷ []) s w (withTables w (set (w .tables) at v))
+store-only s w b at v i l =
+    tables-only s w (set (w .tables) at v) (b ∷ []) (length-set (w .tables) at v)
+    (λ a n j x. past (w .tables) at v j 0 (arrays-apart s a b j at n x i)) (λ j m. past (w .tables) at v j 0 (λ (e : j ≡ at). omega arith))
+
+-- cells in which the words of every other area of the objects are the same
+module _ (s : Sizes) (w : Words) (c′ : List ℕ) (cs : List Area) where
+  pub cells-only : (among headWords cs ≡ false → Same headWords s w (withCells w c′)) → (among workWords cs ≡ false → Same workWords s w (withCells w c′))
+      → (among fieldWords cs ≡ false → Same fieldWords s w (withCells w c′)) → SameFrom (cellsWords s) (w .cells) c′ → Only cs s w (withCells w c′)
+  cells-only h o f b =
+      record { same = same; beyond = record { cells = b; remember = from-refl _ _; tables = from-refl _ _ } }
+    where
+      same : (a : Area) → among a cs ≡ false → Same a s w (withCells w c′)
+      same sizeWords n = (refl, refl)
+      same depthWords n = λ t l. refl
+      same variableWords n = λ i l. refl
+      same ownerWords n = λ q l. refl
+      same usedWords n = λ q l. refl
+      same markWords n = λ q l. refl
+      same countWords n = λ g l m. refl
+      same headWords n = h n
+      same workWords n = o n
+      same fieldWords n = f n
+      same entryWords n = refl
+
+-- another remember table, of as many entries
+pub entries-only : (s : Sizes) (w : Words) (m′ : List ℕ) → getD m′ 0 0 ≡ getD (w .remember) 0 0 → SameFrom (rememberWords s) (w .remember) m′
+    → Only (entryWords ∷ []) s w (record { cells = w .cells; remember = m′; tables = w .tables })
+entries-only s w m′ e b = record { same = same; beyond = record { cells = from-refl _ _; remember = b; tables = from-refl _ _ } }
+  where
+    same : (a : Area) → among a (entryWords ∷ []) ≡ false → Same a s w (record { cells = w .cells; remember = m′; tables = w .tables })
+    same sizeWords n = (refl, e)
+    same depthWords n = λ t l. refl
+    same variableWords n = λ i l. refl
+    same ownerWords n = λ q l. refl
+    same usedWords n = λ q l. refl
+    same markWords n = λ q l. refl
+    same countWords n = λ g l m. refl
+    same headWords n = λ k u. refl
+    same workWords n = λ k u. refl
+    same fieldWords n = λ k u f l. refl
+    same entryWords n = absurd (true-not-false (sym n))

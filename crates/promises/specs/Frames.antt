@@ -1,0 +1,206 @@
+-- Each condition of whole tables holds as it did where the areas that it reads are the same; and so do homes, depths, variables and fields.
+use Prim.Native.Nat.{ℕ, _+_, _-_, _*_, _≤_, _<_}
+use native.Mathlib.Omega.{arith}
+use native.Mathlib.Decide.{decLt}
+use mathlib.Core.Path.{_≡_, refl, sym, ap, ap₂, subst, _∙_}
+use mathlib.Core.Logic.{inl}
+use mathlib.Core.List.{List, map}
+use mathlib.Core.Bool.{Bool, false, cond, _&&_}
+use lib.ListN.{length, getD, take, drop}
+use lib.Dec.{ltb, eqb}
+use borrow.Author.Tests.{le-ltb}
+use Rattle.lists.specs.Counting.{sum-same}
+use Rattle.lists.specs.Stores.{part-same}
+use Rattle.rules.specs.declared.Sizes.{Sizes}
+use Rattle.rules.specs.Regions.{threadOf}
+use Rattle.rules.specs.Rules.{Regioned}
+use Rattle.laws.specs.RulesLaws.{Sound}
+use Rattle.laws.specs.SameRules.{renamed}
+use Rattle.layout.specs.declared.Kind.{Kind}
+use Rattle.layout.specs.declared.Kind.the-variants.{Reference}
+use Rattle.layout.specs.Places.{cellsWords, varCount, depthAt, varAt}
+use Rattle.layout.specs.Cells.{headOf, fieldAt, roomFor, allFields, refsOf, Formed, fieldCount, firstField, fields-room, kind-among, pageOf, placeOf, cellOf, wordOf, cellNamed}
+use Rattle.layout.specs.Words.{Words, Used, headIn, ownerIn, usedIn, homeIn, homeAt, inUseAt, depthsIn, depthsAt, varsIn, varsAt, fieldsIn, fieldsAt}
+use Rattle.remember.specs.Crossing.{other, regionOf, crossTo}
+use Rattle.promises.specs.Whole.{Open, Partial, objectsOf, IsRef, Sized, DepthsWhole, PagesWhole, OnePartial, CountsWhole, VariablesWhole, ObjectWhole, ObjectsWhole, MarksWhole, WorksWhole, RememberWhole, WholeFor}
+use Rattle.promises.specs.StandsFor.{StandsFor}
+use Rattle.promises.specs.Areas.{Area, sizeWords, depthWords, variableWords, ownerWords, usedWords, markWords, countWords, headWords, workWords, fieldWords, entryWords, among, Only, ObjectsStay}
+use Rattle.promises.specs.Changes.{withTables}
+use Rattle.remember.specs.Entries.{Exact, exact-everywhere}
+use Rattle.promises.specs.Slots.{Slot, slot-field, cross-same, exact-of, of-exact}
+
+module _ {cs : List Area} {s : Sizes} {w w′ : Words} (o : Only cs s w w′) where
+  -- ---- what is read
+
+  module _ (u : among usedWords cs ≡ false) where
+    pub used-same : (k : ℕ) → Used s w k → Used s w′ k
+    used-same k i = record { page = i .page; place = subst (λ (n : ℕ). placeOf k < n) (sym (o .same usedWords u (pageOf k) (i .page))) (i .place) }
+
+    pub used-back : (k : ℕ) → Used s w′ k → Used s w k
+    used-back k i = record { page = i .page; place = subst (λ (n : ℕ). placeOf k < n) (o .same usedWords u (pageOf k) (i .page)) (i .place) }
+
+    pub ref-same : (x : ℕ) → IsRef s (w .tables) x → IsRef s (w′ .tables) x
+    ref-same x r z = used-same (cellNamed x) (r z)
+
+    pub objects-stay : among headWords cs ≡ false → ObjectsStay s w w′
+    objects-stay h k i = (used-same k i, o .same headWords h k i)
+
+  module _ (a : among ownerWords cs ≡ false) where
+    region-same : (x : ℕ) → regionOf s (w′ .tables) x ≡ regionOf s (w .tables) x
+    region-same x = go (decLt (pageOf (x - 1)) (s .pages))
+      where
+        go : Dec (pageOf (x - 1) < s .pages) → regionOf s (w′ .tables) x ≡ regionOf s (w .tables) x
+        go (yes l) = ap (λ (n : ℕ). cond (eqb x 0) 0 (cond (ltb (pageOf (x - 1)) (s .pages)) n 0)) (o .same ownerWords a (pageOf (x - 1)) l)
+        go (no l) =
+            let e : ltb (pageOf (x - 1)) (s .pages) ≡ false = le-ltb (pageOf (x - 1)) (s .pages) (omega arith) in
+            ap (λ (b : Bool). cond (eqb x 0) 0 (cond b (ownerIn s w′ (pageOf (x - 1))) 0)) e ∙ sym (ap (λ (b : Bool). cond (eqb x 0) 0 (cond b (ownerIn s w (pageOf (x - 1))) 0)) e)
+
+    pub home-same : among usedWords cs ≡ false → (k : ℕ) → homeIn s w′ k ≡ homeIn s w k
+    unfolding homeAt inUseAt
+    home-same u k = go (decLt (pageOf k) (s .pages))
+      where
+        go : Dec (pageOf k < s .pages) → cond (ltb (pageOf k) (s .pages) && ltb (placeOf k) (usedIn s w′ (pageOf k))) (ownerIn s w′ (pageOf k)) 0
+            ≡ cond (ltb (pageOf k) (s .pages) && ltb (placeOf k) (usedIn s w (pageOf k))) (ownerIn s w (pageOf k)) 0
+        go (yes l) = ap₂ (λ (n r : ℕ). cond (ltb (pageOf k) (s .pages) && ltb (placeOf k) n) r 0) (o .same usedWords u (pageOf k) l) (o .same ownerWords a (pageOf k) l)
+        go (no l) =
+            let e : ltb (pageOf k) (s .pages) ≡ false = le-ltb (pageOf k) (s .pages) (omega arith) in
+            ap (λ (b : Bool). cond (b && ltb (placeOf k) (usedIn s w′ (pageOf k))) (ownerIn s w′ (pageOf k)) 0) e
+            ∙ sym (ap (λ (b : Bool). cond (b && ltb (placeOf k) (usedIn s w (pageOf k))) (ownerIn s w (pageOf k)) 0) e)
+
+  pub depths-same : among depthWords cs ≡ false → depthsIn s w′ ≡ depthsIn s w
+  unfolding depthsAt
+  depths-same n = part-same (s .threads) (depthAt 0) (w .tables) (w′ .tables) (o .beyond .tables .long) (λ i l. o .same depthWords n i l)
+
+  pub vars-same : among variableWords cs ≡ false → varsIn s w′ ≡ varsIn s w
+  unfolding varsAt
+  vars-same n =
+      part-same (varCount s) (varAt s 0) (w .tables) (w′ .tables) (o .beyond .tables .long)
+      (λ i l. subst (λ (j : ℕ). getD (w′ .tables) j 0 ≡ getD (w .tables) j 0) (let e : varAt s i ≡ varAt s 0 + i = omega arith in e) (o .same variableWords n i l))
+
+  pub fields-same : among headWords cs ≡ false → among fieldWords cs ≡ false → (d : Kind) (k : ℕ) → Used s w k → Formed (headIn w k) → fieldsIn d w′ k ≡ fieldsIn d w k
+  unfolding fieldsAt
+  fields-same h f d k u m =
+      let at = firstField d (headIn w k) in
+      ap (λ (z : ℕ). take (fieldCount d z) (drop (fieldAt k (firstField d z)) (w′ .cells))) (o .same headWords h k u)
+      ∙ part-same (fieldCount d (headIn w k)) (fieldAt k at) (w .cells) (w′ .cells) (o .beyond .cells .long)
+      (λ i l. subst (λ (j : ℕ). getD (w′ .cells) j 0 ≡ getD (w .cells) j 0) (let e : fieldAt k (at + i) ≡ fieldAt k at + i = omega arith in e)
+      (o .same fieldWords f k u (at + i) (omega (arith, kind-among d (headIn w k), fields-room (headIn w k) m))))
+
+  -- ---- the conditions
+
+  pub sized-frame : among sizeWords cs ≡ false → Sized s w → Sized s w′
+  sized-frame n k =
+      let e = o .same sizeWords n in
+      let b = o .beyond in
+      record {
+        sizes = e .0 ∙ k .sizes;
+        range = k .range;
+        same = e .1 ∙ k .same;
+        cells = omega (arith, k .cells, b .cells .long);
+        remember = omega (arith, k .remember, b .remember .long);
+        tables = omega (arith, k .tables, b .tables .long);
+      }
+
+  pub depths-frame : among depthWords cs ≡ false → DepthsWhole s w → DepthsWhole s w′
+  depths-frame n k t l = omega (arith, o .same depthWords n t l, k t l)
+
+  -- where each region of a page is open
+  pub pages-open : among ownerWords cs ≡ false → among usedWords cs ≡ false → PagesWhole s w
+      → ((page : ℕ) → page < s .pages → 1 < ownerIn s w page → Open s (w′ .tables) (ownerIn s w page)) → PagesWhole s w′
+  pages-open a u k open′ page l =
+      let p = k page l in
+      let e = o .same ownerWords a page l in
+      let f = o .same usedWords u page l in
+      record {
+        free = λ z. f ∙ p .free (sym e ∙ z);
+        taken = λ z. omega (arith, p .taken (omega arith));
+        cells = omega (arith, p .cells);
+        region = λ z. subst (Open s (w′ .tables)) (sym e) (open′ page l (omega arith));
+      }
+
+  pub open-frame : among depthWords cs ≡ false → (g : ℕ) → Open s (w .tables) g → Open s (w′ .tables) g
+  open-frame n g r = record { real = r .real; thread = r .thread; level = omega (arith, o .same depthWords n (threadOf s g) (r .thread), r .level) }
+
+  pub pages-frame : among ownerWords cs ≡ false → among usedWords cs ≡ false → among depthWords cs ≡ false → PagesWhole s w → PagesWhole s w′
+  pages-frame a u n k = pages-open a u k (λ page l z. open-frame n (ownerIn s w page) (k page l .region z))
+
+  pub partial-frame : among ownerWords cs ≡ false → among usedWords cs ≡ false → OnePartial s w → OnePartial s w′
+  partial-frame a u k g pos i j l m x y = k g pos i j l m (was i (omega arith) x) (was j m y)
+    where
+      was : (page : ℕ) → page < s .pages → Partial s (w′ .tables) g page → Partial s (w .tables) g page
+      was page l p = record { owner = sym (o .same ownerWords a page l) ∙ p .owner; part = omega (arith, p .part, o .same usedWords u page l) }
+
+  pub counts-frame : among countWords cs ≡ false → among ownerWords cs ≡ false → among usedWords cs ≡ false → CountsWhole s w → CountsWhole s w′
+  counts-frame n a u k g l m =
+      o .same countWords n g l m ∙ k g l m
+      ∙ sym (sum-same _ _ (s .pages) (λ page i. ap₂ (λ (r x : ℕ). cond (eqb r g) x 0) (o .same ownerWords a page i) (o .same usedWords u page i)))
+
+  pub variables-frame : among variableWords cs ≡ false → among usedWords cs ≡ false → VariablesWhole s w → VariablesWhole s w′
+  variables-frame n u k i l = subst (IsRef s (w′ .tables)) (sym (o .same variableWords n i l)) (ref-same u _ (k i l))
+
+  -- an object, where the references of w are references of w′
+  pub object-frame : among headWords cs ≡ false → among fieldWords cs ≡ false → ((x : ℕ) → IsRef s (w .tables) x → IsRef s (w′ .tables) x)
+      → (k : ℕ) → Used s w k → ObjectWhole s (w .cells) (w .tables) k → ObjectWhole s (w′ .cells) (w′ .tables) k
+  object-frame h f still k i x =
+      let e = o .same headWords h k i in
+      record {
+        head = subst Formed (sym e) (x .head);
+        rest = λ j l m. o .same fieldWords f k i j (subst (λ (z : ℕ). j < roomFor z) e l) ∙ x .rest j (subst (λ (z : ℕ). j < roomFor z) e l) (omega (arith, ap allFields e));
+        references = λ j l.
+            let n : j < refsOf (w .cells) k = omega (arith, ap (fieldCount Reference) e) in
+            subst (IsRef s (w′ .tables)) (sym (o .same fieldWords f k i j (omega (arith, fields-room (headIn w k) (x .head), kind-among Reference (headIn w k))))) (still _ (x .references j n));
+      }
+
+  pub objects-frame : among headWords cs ≡ false → among fieldWords cs ≡ false → among usedWords cs ≡ false → ObjectsWhole s w → ObjectsWhole s w′
+  objects-frame h f u k c i = let v = used-back u c i in object-frame h f (ref-same u) c v (k c v)
+
+  pub marks-frame : among markWords cs ≡ false → MarksWhole s w → MarksWhole s w′
+  marks-frame n k page l = o .same markWords n page l ∙ k page l
+
+  pub works-frame : among workWords cs ≡ false → among usedWords cs ≡ false → WorksWhole s w → WorksWhole s w′
+  works-frame n u k c i = let v = used-back u c i in o .same workWords n c v ∙ k c v
+
+  -- the same slots cross into the same regions
+  pub cross-frame : among headWords cs ≡ false → among fieldWords cs ≡ false → among ownerWords cs ≡ false → among usedWords cs ≡ false
+      → (q : ℕ) → q < cellsWords s → crossTo s (w′ .cells) (w′ .tables) q ≡ crossTo s (w .cells) (w .tables) q
+  cross-frame h f a u q l =
+      cross-same s (w .cells) (w .tables) (w′ .cells) (w′ .tables) q l
+      (λ x. (
+        record { used = used-same u (cellOf q) (x .used); field = x .field; count = subst (λ (z : ℕ). wordOf q < fieldCount Reference z + 2) (sym (o .same headWords h (cellOf q) (x .used))) (x .count) },
+        ap₂ other (o .same ownerWords a (pageOf (cellOf q)) (x .used .page)) (ap (regionOf s (w′ .tables)) (word x) ∙ region-same a (getD (w .cells) q 0)),
+      ))
+      (λ x. let v = used-back u (cellOf q) (x .used) in
+      inl (record { used = v; field = x .field; count = subst (λ (z : ℕ). wordOf q < fieldCount Reference z + 2) (o .same headWords h (cellOf q) v) (x .count) }))
+    where
+      word : Slot s (w .cells) (w .tables) q → getD (w′ .cells) q 0 ≡ getD (w .cells) q 0
+      word x =
+          let e : fieldAt (cellOf q) (wordOf q - 2) ≡ q = slot-field s (w .cells) (w .tables) q x .0 in
+          subst (λ (j : ℕ). getD (w′ .cells) j 0 ≡ getD (w .cells) j 0) e (o .same fieldWords f (cellOf q) (x .used) (wordOf q - 2) (omega (arith, x .field)))
+
+  pub remember-frame : among entryWords cs ≡ false → among headWords cs ≡ false → among fieldWords cs ≡ false → among ownerWords cs ≡ false → among usedWords cs ≡ false
+      → RememberWhole s w → RememberWhole s w′
+  remember-frame n h f a u k =
+      of-exact s w′ (exact-everywhere (crossTo s (w .cells) (w .tables)) (crossTo s (w′ .cells) (w′ .tables)) (cellsWords s) (s .entries) (w′ .remember) (cross-frame h f a u)
+      (subst (Exact (crossTo s (w .cells) (w .tables)) (cellsWords s) (s .entries)) (sym (o .same entryWords n)) (exact-of s w k)))
+
+-- ---- other depths and variables: the objects are as they were
+
+pub tables-stand : {cs : List Area} {s : Sizes} {w : Words} {h : Regioned} {to : ℕ → ℕ} {t′ : List ℕ} → StandsFor s w h to → Only cs s w (withTables w t′) → among ownerWords cs ≡ false → among usedWords cs ≡ false
+    → (ds vs : List ℕ) → WholeFor s (withTables w t′) → ds ≡ depthsIn s (withTables w t′) → varsIn s (withTables w t′) ≡ map (renamed to) vs
+    → Sound (record { heap = record { depths = ds; vars = vs; objects = h .heap .objects }; homes = h .homes })
+    → StandsFor s (withTables w t′) (record { heap = record { depths = ds; vars = vs; objects = h .heap .objects }; homes = h .homes }) to
+tables-stand {to = to} st o a u ds vs k d v sound =
+    let home = home-same o a u in
+    record {
+      whole = k;
+      sound = sound;
+      depths = d;
+      partners = record {
+        home = λ x b. home (to x) ∙ st .partners .home x b;
+        apart = st .partners .apart;
+        onto = λ y b. st .partners .onto y (λ z. b (home y ∙ z));
+        refs = st .partners .refs;
+        vars = v;
+      };
+      nums = st .nums;
+    }
