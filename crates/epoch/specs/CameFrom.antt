@@ -120,7 +120,7 @@ module _ {p : Sizes} {r : ℕ} {S : ℕ → Type 0} {W₀ T₀ W T W′ : List �
       R .moved (16 * forward W c + 2 + f)
       (inr (record {
         cell = c;
-        among = (omega arith, omega arith);
+        among = l;
         old = survivor-old c l on;
         field = record { field = f; low = omega (arith, copy-refs c l on); at = refl };
       }))
@@ -167,13 +167,13 @@ module _ {p : Sizes} {r : ℕ} {S : ℕ → Type 0} {W₀ T₀ W T W′ : List �
         on own (no n) = s .held c f d (l .used) n lf e′ own
 
     -- what crosses afterwards: the value before
-    crossed : (c f x : ℕ) → Lives p r T₀ c → f < refsOf W₀ c → getD W′ x 0 ≡ forwarded W (fieldOf W₀ c f) → ownerOf p T (x / 256) ≡ home c → crossAt p W′ T x ≢ 0
+    crossed : (c f x : ℕ) → Lives p r T₀ c → f < refsOf W₀ c → getD W′ x 0 ≡ forwarded W (fieldOf W₀ c f) → ownerOf p T (x / 16 / 16) ≡ home c → crossAt p W′ T x ≢ 0
         → (d : ℕ) × (fieldOf W₀ c f ≡ suc d) × (1 < home d) × (home c ≢ home d)
     crossed c f x l lf val own ne =
-        let v = crosses-into p T (ownerOf p T (x / 256)) (getD W′ x 0) (crossAt p W′ T x) refl ne in
+        let v = crosses-into p T (ownerOf p T (x / 16 / 16)) (getD W′ x 0) (crossAt p W′ T x) refl ne in
         go (fieldOf W₀ c f) refl (v .real) (v .region) (v .high) (v .other)
       where
-        go : (y : ℕ) → fieldOf W₀ c f ≡ y → getD W′ x 0 ≢ 0 → crossAt p W′ T x ≡ ownerOf p T ((getD W′ x 0 - 1) / 16) → 1 < crossAt p W′ T x → crossAt p W′ T x ≢ ownerOf p T (x / 256)
+        go : (y : ℕ) → fieldOf W₀ c f ≡ y → getD W′ x 0 ≢ 0 → crossAt p W′ T x ≡ ownerOf p T ((getD W′ x 0 - 1) / 16) → 1 < crossAt p W′ T x → crossAt p W′ T x ≢ ownerOf p T (x / 16 / 16)
             → (d : ℕ) × (y ≡ suc d) × (1 < home d) × (home c ≢ home d)
         go zero e real region high other = absurd (real (val ∙ ap (λ (z : ℕ). forwarded W z) e ∙ forward-null W 0 refl))
         go (suc d) e real region high other =
@@ -193,8 +193,8 @@ module _ {p : Sizes} {r : ℕ} {S : ℕ → Type 0} {W₀ T₀ W T W′ : List �
     came-old : (x : ℕ) → Crosses p r W′ T x → InUse p T₀ (x / 16) → Came p r home W₀ T₀ W x x
     came-old x q u =
         let c : ℕ = x / 16 in
-        let page : x / 256 ≡ x / 16 / 16 = omega arith in
-        let own : ownerOf p T (x / 256) ≡ ownerOf p T₀ (x / 16 / 16) = ap (λ (y : ℕ). ownerOf p T y) page ∙ F .copying .owner (x / 16) u in
+        let page : x / 16 / 16 ≡ x / 16 / 16 = omega arith in
+        let own : ownerOf p T (x / 16 / 16) ≡ ownerOf p T₀ (x / 16 / 16) = ap (λ (y : ℕ). ownerOf p T y) page ∙ F .copying .owner (x / 16) u in
         let out : ownerOf p T₀ (x / 16 / 16) ≢ r = (λ z. q .out (own ∙ z)) in
         let e : 16 * (x / 16) ≡ 16 * (x / 16) + 0 = omega arith in
         let head : refsOf W′ (x / 16) ≡ refsOf W₀ (x / 16) =
@@ -240,8 +240,8 @@ module _ {p : Sizes} {r : ℕ} {S : ℕ → Type 0} {W₀ T₀ W T W′ : List �
             let word : (16 * c + i) % 16 ≡ x % 16 = omega arith in
             let at : 16 * forward W c + 2 + (x % 16 - 2) ≡ x = omega (arith, q .field) in
             let at₀ : 16 * c + i ≡ 16 * c + 2 + (x % 16 - 2) = omega (arith, q .field) in
-            let own : ownerOf p T (x / 256) ≡ home c =
-            ap (λ (y : ℕ). ownerOf p T y) (let y : x / 256 ≡ x / 16 / 16 = omega arith in y) ∙ ap (λ (y : ℕ). ownerOf p T (y / 16)) (sym e)
+            let own : ownerOf p T (x / 16 / 16) ≡ home c =
+            ap (λ (y : ℕ). ownerOf p T y) (let y : x / 16 / 16 ≡ x / 16 / 16 = omega arith in y) ∙ ap (λ (y : ℕ). ownerOf p T (y / 16)) (sym e)
             ∙ F .moved c lc on .home ∙ sym (goes c lc on) in
             let z =
             crossed c (x % 16 - 2) x l lf (ap (λ (y : ℕ). getD W′ y 0) (sym at) ∙ copy-value c (x % 16 - 2) lc on lf) own (q .cross) in

@@ -52,9 +52,9 @@ module _ (s : Sizes) (w : Words) (k : WholeFor s w) (space : Room s (length (w .
   -- what the evacuation reads is what the whole check reads
   pub cross-same : (x : ℕ) → Slot s (w .cells) (w .tables) x → crossAt s (w₁ .cells) (w₁ .tables) x ≡ crossTo s (w .cells) (w .tables) x
   cross-same x o =
-      let page : x / 256 ≡ pageOf (cellOf x) = omega arith in
-      ap (λ (v : ℕ). crossesFrom s (w₁ .tables) (ownerOf s (w₁ .tables) (x / 256)) v) (word-same M space x (λ z. omega (arith, o .field)))
-      ∙ value-same (ownerOf s (w₁ .tables) (x / 256)) (ownerIn s w (pageOf (cellOf x)))
+      let page : x / 16 / 16 ≡ pageOf (cellOf x) = omega arith in
+      ap (λ (v : ℕ). crossesFrom s (w₁ .tables) (ownerOf s (w₁ .tables) (x / 16 / 16)) v) (word-same M space x (λ z. omega (arith, o .field)))
+      ∙ value-same (ownerOf s (w₁ .tables) (x / 16 / 16)) (ownerIn s w (pageOf (cellOf x)))
       (ap (λ (q : ℕ). ownerOf s (w₁ .tables) q) page ∙ owner-same M space (pageOf (cellOf x)) (o .used .page)) (getD (w .cells) x 0) (slot-ref x o)
       ∙ sym (slot-cross s (w .cells) (w .tables) x o)
 

@@ -11,16 +11,16 @@ use lib.Dec.{eqb}
 use lib.ListN.{length, getD}
 use Rattle.lists.specs.Counting.{sum-same}
 use Rattle.laws.specs.SameRules.{renamed}
+use Rattle.rules.specs.Regions.{regions}
 use Rattle.rules.specs.declared.Sizes.{Sizes}
-use Rattle.layout.specs.Places.{Room, depthAt, varAt, ownerAt, usedAt, markAt, countAt, depthOf, varOf, ownerOf, usedOf, markOf, slotIn, countsFrom, varsFrom}
+use Rattle.layout.specs.Places.{Room, depthAt, varAt, ownerAt, usedAt, markAt, countAt, depthOf, varOf, ownerOf, usedOf, markOf, slotIn, countsFrom, varsFrom, tablesWords, count-room}
 use Rattle.layout.specs.Cells.{headOf, workOf, fieldOf, refsOf}
 use Rattle.layout.specs.Marks.{marked}
 use Rattle.layout.specs.Words.{InUse}
 use Rattle.promises.specs.Whole.{objectsOn}
 use Rattle.pages.specs.Pages.{Partly}
 use Rattle.copy.specs.Marks.{mark?, sameThen}
-use Rattle.pages.specs.Owned.{regionsOf}
-use Rattle.copy.specs.Taking.{endOf, Regular, room-same}
+use Rattle.copy.specs.Taking.{Regular, room-same}
 use Rattle.copy.specs.Passing.{Ready, moves-ready}
 use Rattle.copy.specs.Copying.{no-survivors, copy-marks}
 use Rattle.copy.specs.Forward.{forward}
@@ -67,7 +67,7 @@ pub record Evacuated (p : Sizes) (r t : ℕ) (W M T W′ M′ T′ : List ℕ) :
   pub cells-size : length W′ ≡ length W
   pub tables-size : length T′ ≡ length T
   pub cells-beyond : (x : ℕ) → 256 * p .pages ≤ x → getD W′ x 0 ≡ getD W x 0
-  pub tables-beyond : (x : ℕ) → endOf p ≤ x → getD T′ x 0 ≡ getD T x 0
+  pub tables-beyond : (x : ℕ) → tablesWords p ≤ x → getD T′ x 0 ≡ getD T x 0
 
 -- owners, cells in use and counts that stay keep pages regular
 pub regular-like : {p : Sizes} {T T′ : List ℕ} → length T′ ≡ length T → ((x : ℕ) → x < p .pages → ownerOf p T′ x ≡ ownerOf p T x)
@@ -92,7 +92,7 @@ regular-like {p} {T} {T′} size eo eu ec r =
         }
 
 module _ {p : Sizes} {r n m l t : ℕ} {gs : ℕ → ℕ} {W T M W′ T′ M′ : List ℕ} (b : Before p r n m l gs W M T)
-    (f : Finished p r n m l t gs W M T W′ M′ T′) (real : 1 ≤ r) (low : r ≤ regionsOf p) (thread : t < p .threads) where
+    (f : Finished p r n m l t gs W M T W′ M′ T′) (real : 1 ≤ r) (low : r ≤ regions p) (thread : t < p .threads) where
   a₀ : Ready p W T
   a₀ = b .plan .ready
 
@@ -349,8 +349,8 @@ module _ {p : Sizes} {r n m l t : ℕ} {gs : ℕ → ℕ} {W T M W′ T′ M′ 
         tables-size = ended-size regular₂ real low thread (f .ended) ∙ f .variables .size ∙ f .forwards .copying .tables-size;
         cells-beyond = λ x lx. f .rewritten .same x (⊎-elim (far-slot x lx) (far-copy x lx)) ∙ f .forwards .copying .beyond x lx;
         tables-beyond = λ x lx.
-            ended-rest regular₂ real low thread (f .ended) x (λ z. omega (arith, room₁)) (λ z. omega (arith, room₁)) (inr (omega arith))
-            ∙ f .variables .same x (λ z. omega (arith, room₁)) ∙ f .forwards .copying .rest x (inr lx);
+            ended-rest regular₂ real low thread (f .ended) x (λ z. omega (arith, room₁, count-room p)) (λ z. omega (arith, room₁, count-room p)) (inr (omega (arith, count-room p)))
+            ∙ f .variables .same x (λ z. omega (arith, room₁, count-room p)) ∙ f .forwards .copying .rest x (inr lx);
       }
     where
       apart′ : (x y : ℕ) → Lives p r T x → Lives p r T y → cellAfter p r T W′ x ≡ cellAfter p r T W′ y → Dec (ownerOf p T (x / 16) ≡ r) → Dec (ownerOf p T (y / 16) ≡ r) → x ≡ y

@@ -17,7 +17,7 @@ use Rattle.copy.specs.Forward.{Forwards, forward}
 use Rattle.settle.specs.Rewrite.{forwarded, forward-null, forward-still, forward-moved, Rewritten, refs-same}
 use Rattle.settle.specs.Append.{crossAt, Crosses}
 use Rattle.settle.specs.Update.{Copies}
-use Rattle.settle.specs.RewriteCopies.{Old, Wiring, Between}
+use Rattle.settle.specs.RewriteCopies.{Old, Wiring, OnPages}
 
 -- whole tables in which r's survivors are marked; S holds of the slots outside r that point into r
 pub record Start (p : Sizes) (r : ℕ) (S : ℕ → Type 0) (W T : List ℕ) : Type 0 where
@@ -71,7 +71,7 @@ module _ {p : Sizes} {r : ℕ} {S : ℕ → Type 0} {W₀ T₀ W T : List ℕ} (
       let e′ : 16 * c + (2 + f) ≡ 16 * c + 2 + f = omega arith in
       ap (λ (x : ℕ). getD W x 0) e ∙ F .moved c l on .body (2 + f) (omega arith) (λ z. omega arith) ∙ ap (λ (x : ℕ). getD W₀ x 0) e′
 
-  pub forwards-wiring : Wiring p (Between 0 (16 * p .pages)) W T
+  pub forwards-wiring : Wiring p (OnPages (p .pages)) W T
   forwards-wiring =
       record {
         few = a .regular .room .few;
@@ -136,7 +136,7 @@ module _ {p : Sizes} {r : ℕ} {S : ℕ → Type 0} {W₀ T₀ W T : List ℕ} (
         R .moved (16 * forward W c + 2 + f)
         (inr (record {
           cell = c;
-          among = (omega arith, omega arith);
+          among = l;
           old = survivor-old c l on;
           field = record { field = f; low = omega (arith, copy-refs c l on); at = refl };
         }))
@@ -261,7 +261,7 @@ module _ {p : Sizes} {r : ℕ} {S : ℕ → Type 0} {W₀ T₀ W T : List ℕ} (
         let lf : q .field .field < refsOf W (workOf W c - 1) = q .field .low in
         let at : x ≡ 16 * (workOf W c - 1) + 2 + q .field .field = q .field .at in
         let d : x / 16 ≡ forward W c = omega arith in
-        let d′ : x / 256 ≡ forward W c / 16 = omega arith in
+        let d′ : x / 16 / 16 ≡ forward W c / 16 = omega arith in
         record {
           used = subst (λ (y : ℕ). InUse p T y) (sym d) (m .used);
           field = omega arith;

@@ -67,9 +67,9 @@ module _ {p : Sizes} {r n m l : ℕ} {gs : ℕ → ℕ} {W T M : List ℕ} (b : 
 
       out : ownerOf p T (y / 16) ≢ r
       out = λ z.
-          crosses-into p T (ownerOf p T (slotIn M (q .entry) / 256)) (getD W (slotIn M (q .entry)) 0) (slotRegionIn n M (q .entry)) (b .listed .right (q .entry) (q .low))
+          crosses-into p T (ownerOf p T (slotIn M (q .entry) / 16 / 16)) (getD W (slotIn M (q .entry)) 0) (slotRegionIn n M (q .entry)) (b .listed .right (q .entry) (q .low))
           (b .listed .real (q .entry) (q .low)) .other
-          (q .region ∙ sym z ∙ ap (λ (w : ℕ). ownerOf p T w) (let v : slotIn M (q .entry) / 16 / 16 ≡ slotIn M (q .entry) / 256 = omega arith in v))
+          (q .region ∙ sym z ∙ ap (λ (w : ℕ). ownerOf p T w) (let v : slotIn M (q .entry) / 16 / 16 ≡ slotIn M (q .entry) / 16 / 16 = omega arith in v))
 
   pub none-copies : (x : ℕ) → Copies p W T x → ⊥
   none-copies x q =

@@ -5,6 +5,7 @@ use mathlib.Core.List.{List}
 use Prim.Native.Nat.{ℕ, suc, _+_, _-_, _*_, _/_, _%_, _≤_, _<_}
 use native.Mathlib.Omega.{arith}
 use lib.ListN.{getD}
+use Rattle.rules.specs.Regions.{regions}
 use Rattle.rules.specs.declared.Sizes.{Sizes}
 use Rattle.layout.specs.Places.{ownerOf, usedIn, slotIn, slotRegionIn}
 use Rattle.layout.specs.Cells.{fieldOf, refsOf}
@@ -13,7 +14,6 @@ use Rattle.remember.specs.Crossing.{crossesFrom, crossTo, other, regionOf}
 use Rattle.remember.specs.Crosses.{crosses-null, crosses-by}
 use Rattle.promises.specs.Slots.{Slot, region-of, slot-low, slot-cross, cross-slot}
 use Rattle.promises.specs.Whole.{EntryWhole, RememberWhole}
-use Rattle.pages.specs.Owned.{regionsOf}
 use Rattle.copy.specs.Passing.{Ready}
 use Rattle.settle.specs.Append.{crossAt, Crosses}
 use Rattle.settle.specs.Update.{Entry}
@@ -24,7 +24,7 @@ use Rattle.evacuate.specs.Evacuated.{to-end, from-end, ready-after}
 use Rattle.settle.specs.RewriteCopies.{slot-now, slot-then}
 
 module _ {p : Sizes} {r m l t : ℕ} {gs : ℕ → ℕ} {W T M W′ T′ M′ : List ℕ} (b : Before p r (p .entries) m l gs W M T)
-    (f : Finished p r (p .entries) m l t gs W M T W′ M′ T′) (high : 1 < r) (low : r ≤ regionsOf p) (thread : t < p .threads) where
+    (f : Finished p r (p .entries) m l t gs W M T W′ M′ T′) (high : 1 < r) (low : r ≤ regions p) (thread : t < p .threads) where
   real : 1 ≤ r
   real = omega arith
 
@@ -58,13 +58,13 @@ module _ {p : Sizes} {r m l t : ℕ} {gs : ℕ → ℕ} {W T M W′ T′ M′ : 
         let at : 16 * (x / 16) + 2 + (x % 16 - 2) ≡ x = omega arith in
         let h : fieldOf W′ (x / 16) (x % 16 - 2) ≡ getD W′ x 0 = ap (λ (z : ℕ). getD W′ z 0) at in
         let s = slots-out (b .start) a₀ a₁ (f .forwards) (f .rewritten) (x / 16) (x % 16 - 2) u out (omega arith) in
-        let page : x / 16 / 16 ≡ x / 256 = omega arith in
+        let page : x / 16 / 16 ≡ x / 16 / 16 = omega arith in
         slot-cross p W′ T′ x slot-after
         ∙ value (getD W′ x 0) refl (subst (λ (v : ℕ). (v ≡ 0) ⊎ ((c : ℕ) × (v ≡ 1 + c) × InUse p (f .tables) c × (ownerOf p (f .tables) (c / 16) ≢ r))) h s)
         ∙ ap (λ (z : ℕ). crossesFrom p (f .tables) (ownerOf p (f .tables) z) (getD W′ x 0)) page
 
-  page-of : (x : ℕ) → ownerOf p (f .tables) (x / 256) ≢ r → ownerOf p (f .tables) (x / 16 / 16) ≢ r
-  page-of x n = subst (λ (y : ℕ). ownerOf p (f .tables) y ≢ r) (let e : x / 256 ≡ x / 16 / 16 = omega arith in e) n
+  page-of : (x : ℕ) → ownerOf p (f .tables) (x / 16 / 16) ≢ r → ownerOf p (f .tables) (x / 16 / 16) ≢ r
+  page-of x n = subst (λ (y : ℕ). ownerOf p (f .tables) y ≢ r) (let e : x / 16 / 16 ≡ x / 16 / 16 = omega arith in e) n
 
   -- an entry of the new table
   entry-crosses : (x h : ℕ) → Entry p r (p .entries) m W′ M (f .tables) x h → Crosses p r W′ (f .tables) x × (h ≡ crossAt p W′ (f .tables) x)
@@ -108,7 +108,7 @@ module _ {p : Sizes} {r m l t : ℕ} {gs : ℕ → ℕ} {W T M W′ T′ M′ : 
             used = v .0;
             field = s .field;
             ref = s .count;
-            out = subst (λ (y : ℕ). ownerOf p (f .tables) y ≢ r) (let z : q / 16 / 16 ≡ q / 256 = omega arith in z) (v .1);
+            out = subst (λ (y : ℕ). ownerOf p (f .tables) y ≢ r) (let z : q / 16 / 16 ≡ q / 16 / 16 = omega arith in z) (v .1);
             cross = λ z. omega (arith, e);
           } in
           let y = f .remember .every q (crossAt p W′ (f .tables) q) (entry q c) in

@@ -23,7 +23,7 @@ use Rattle.evacuate.specs.Links.{Start, new-home, old-survivor, copy-ref
 use Rattle.evacuate.specs.Table.{IsSlot, Listed, entry-cross, entry-apart, no-copy}
 use Rattle.settle.specs.RewriteSlots.{Remembered, Slots, Fields, Variables}
 use Rattle.settle.specs.Final.{Settles, copies-exist}
-use Rattle.settle.specs.RewriteCopies.{Old, Wiring, wiring-now, Between, slot-now, slot-then}
+use Rattle.settle.specs.RewriteCopies.{Old, Wiring, wiring-now, OnPages, slot-now, slot-then}
 
 -- cell c is in use, and if it is r's its object survives
 pub record Lives (p : Sizes) (r : ℕ) (T : List ℕ) (c : ℕ) : Type 0 where
@@ -108,7 +108,7 @@ module _ {p : Sizes} {r n m l : ℕ} {gs : ℕ → ℕ} {W T M W₁ T₁ : List 
             let same : x / 16 ≡ workOf W₁ d - 1 = omega (arith, q .field .low, q .field .at) in
             F .moved d (w .0 .page) (w .1) .new (subst (λ (y : ℕ). InUse p T y) same u)
 
-    pub copies-ask : Wiring p (Between 0 (16 * p .pages)) W₂ T₁
+    pub copies-ask : Wiring p (OnPages (p .pages)) W₂ T₁
     copies-ask = wiring-now R₂ (forwards-wiring (b .start) a₀ a₁ F) apart₂
 
     pub rewritten-both : {W₃ : List ℕ} → Rewritten (Copies p W₂ T₁) W₂ W₃ → Rewritten (λ x. Remembered r n m M x ⊎ Copies p W₁ T₁ x) W₁ W₃
@@ -132,7 +132,7 @@ module _ {p : Sizes} {r n m l : ℕ} {gs : ℕ → ℕ} {W T M W₁ T₁ : List 
         go (inl z) = absurd (ne z)
         go (inr q) = let e : fieldOf W₃ (forward W₁ d) f - 1 ≡ q .0 = omega (arith, q .1) in subst (λ (x : ℕ). x / 16 < p .pages) (sym e) (q .2 .page)
 
-    wiring₃ : Wiring p (Between 0 (16 * p .pages)) W₃ T₁
+    wiring₃ : Wiring p (OnPages (p .pages)) W₃ T₁
     wiring₃ =
         let w = forwards-wiring (b .start) a₀ a₁ F in
         record {
@@ -152,7 +152,7 @@ module _ {p : Sizes} {r n m l : ℕ} {gs : ℕ → ℕ} {W T M W₁ T₁ : List 
         then : (d : ℕ) → Old p W₃ T₁ d → Old p W₁ T₁ d
         then d u = record { used = u .used; moved = λ z. u .moved (link-same R d ∙ z) }
 
-        fields : (d : ℕ) → Between 0 (16 * p .pages) d → Old p W₁ T₁ d → Fields p (refsOf W₃ (workOf W₁ d - 1)) (workOf W₁ d - 1) W₃
+        fields : (d : ℕ) → OnPages (p .pages) d → Old p W₁ T₁ d → Fields p (refsOf W₃ (workOf W₁ d - 1)) (workOf W₁ d - 1) W₃
         fields d q u =
             let x = old-survivor (b .start) a₀ a₁ F d u in
             let w = forwards-wiring (b .start) a₀ a₁ F .copies d q u in
@@ -197,8 +197,8 @@ module _ {p : Sizes} {r n m l : ℕ} {gs : ℕ → ℕ} {W T M W₁ T₁ : List 
 
         out : ownerOf p T₁ (y / 16) ≢ r
         out = λ z.
-            crosses-into p T (ownerOf p T (slotIn M i / 256)) (getD W (slotIn M i) 0) r (sym e ∙ b .listed .right i h) (λ w. b .listed .real i h (e ∙ w)) .other
-            (sym z ∙ F .copying .owner y (t .used) ∙ ap (λ (w : ℕ). ownerOf p T w) (let q : slotIn M i / 16 / 16 ≡ slotIn M i / 256 = omega arith in q))
+            crosses-into p T (ownerOf p T (slotIn M i / 16 / 16)) (getD W (slotIn M i) 0) r (sym e ∙ b .listed .right i h) (λ w. b .listed .real i h (e ∙ w)) .other
+            (sym z ∙ F .copying .owner y (t .used) ∙ ap (λ (w : ℕ). ownerOf p T w) (let q : slotIn M i / 16 / 16 ≡ slotIn M i / 16 / 16 = omega arith in q))
 
         go : (fieldOf W₃ y f ≡ 0) ⊎ ((c : ℕ) × (fieldOf W₃ y f ≡ 1 + c) × InUse p T₁ c × (ownerOf p T₁ (c / 16) ≢ r)) → (getD W₃ (slotIn M i) 0 - 1) / 16 < p .pages
         go (inl z) = absurd (ne (ap (λ (q : ℕ). getD W₃ q 0) (sym at) ∙ z))
@@ -320,8 +320,8 @@ settle-ask {p} {r} {n} {m} {T₁ = T₁} {W₂ = W₂} b c R₂ =
       updating = λ W₃ R₃. update-ask b c (rewritten-both b c R₂ R₃);
     }
   where
-    w : Wiring p (Between 0 (16 * p .pages)) W₂ T₁
+    w : Wiring p (OnPages (p .pages)) W₂ T₁
     w = copies-ask b c R₂
 
     V′ : (W₃ : List ℕ) × Rewritten (Copies p W₂ T₁) W₂ W₃
-    V′ = copies-exist w (16 * p .pages) (omega arith)
+    V′ = copies-exist w

@@ -56,9 +56,9 @@ module _ {p : Sizes} {r n m : ℕ} {M W₀ T₀ W T W′ : List ℕ} (s : Start 
         ap (λ (y : ℕ). getD W y 0) e
         ∙ F .copying .words (x / 16) (x % 16) (omega arith) (t .used) (λ z. omega (arith, t .field)) ∙ ap (λ (y : ℕ). getD W₀ y 0) (sym e)
 
-    home : ownerOf p T (x / 256) ≡ ownerOf p T₀ (x / 256)
+    home : ownerOf p T (x / 16 / 16) ≡ ownerOf p T₀ (x / 16 / 16)
     home =
-        let e : x / 256 ≡ x / 16 / 16 = omega arith in
+        let e : x / 16 / 16 ≡ x / 16 / 16 = omega arith in
         ap (λ (y : ℕ). ownerOf p T y) e ∙ F .copying .owner (x / 16) (t .used) ∙ ap (λ (y : ℕ). ownerOf p T₀ y) (sym e)
 
     -- the word of a slot, as a field of its cell
@@ -80,16 +80,16 @@ module _ {p : Sizes} {r n m : ℕ} {M W₀ T₀ W T W′ : List ℕ} (s : Start 
     -- a slot that points elsewhere than into r, from outside r, crosses as before
     pub same-cross : (getD W₀ x 0 ≢ 0 → ownerOf p T₀ ((getD W₀ x 0 - 1) / 16) ≢ r) → (h : ℕ) → h ≢ 0 → h ≡ crossAt p W₀ T₀ x → h ≡ crossAt p W′ T x
     same-cross out h ne e =
-        let v = crosses-into p T₀ (ownerOf p T₀ (x / 256)) (getD W₀ x 0) h e ne in
+        let v = crosses-into p T₀ (ownerOf p T₀ (x / 16 / 16)) (getD W₀ x 0) h e ne in
         let word : getD W′ x 0 ≡ getD W₀ x 0 = R .same x (⊎-elim (into-not out) (no-copy x (t .used))) ∙ before in
         let own : ownerOf p T ((getD W₀ x 0 - 1) / 16) ≡ ownerOf p T₀ ((getD W₀ x 0 - 1) / 16) = F .copying .owner (getD W₀ x 0 - 1) (names (v .real)) in
-        into-crosses p T (ownerOf p T (x / 256)) (getD W₀ x 0) h
+        into-crosses p T (ownerOf p T (x / 16 / 16)) (getD W₀ x 0) h
         (record { real = v .real; page = v .page; region = v .region ∙ sym own; high = v .high; other = λ z. v .other (z ∙ home) })
-        ∙ ap (λ (z : ℕ). crossesFrom p T (ownerOf p T (x / 256)) z) (sym word)
+        ∙ ap (λ (z : ℕ). crossesFrom p T (ownerOf p T (x / 16 / 16)) z) (sym word)
 
   -- an entry that stays names a crossing slot, with the right region
   pub entry-cross : (x h : ℕ) → Stays p r n W′ M T m x h → Crosses p r W′ T x × (h ≡ crossAt p W′ T x)
-  entry-cross x h q = subst (λ (y : ℕ). Crosses p r W′ T y × (h ≡ crossAt p W′ T y)) (q .slot) (go (ℕ-discrete (ownerOf p T (y / 256)) r) (ℕ-discrete g r))
+  entry-cross x h q = subst (λ (y : ℕ). Crosses p r W′ T y × (h ≡ crossAt p W′ T y)) (q .slot) (go (ℕ-discrete (ownerOf p T (y / 16 / 16)) r) (ℕ-discrete g r))
     where
       i : ℕ
       i = q .entry
@@ -111,7 +111,7 @@ module _ {p : Sizes} {r n m : ℕ} {M W₀ T₀ W T W′ : List ℕ} (s : Start 
           ∙ ap (λ (x : ℕ). x / 16)
           (ap (λ (x : ℕ). getD W x 0) e ∙ F .copying .words z 0 (omega arith) (t .used) (λ w. omega arith) ∙ ap (λ (x : ℕ). getD W₀ x 0) (sym e))
 
-      result : ownerOf p T (slotIn M (q .entry) / 256) ≢ r → h ≡ crossAt p W′ T (slotIn M (q .entry))
+      result : ownerOf p T (slotIn M (q .entry) / 16 / 16) ≢ r → h ≡ crossAt p W′ T (slotIn M (q .entry))
           → Crosses p r W′ T (slotIn M (q .entry)) × (h ≡ crossAt p W′ T (slotIn M (q .entry)))
       result out e = (
         record {
@@ -124,13 +124,13 @@ module _ {p : Sizes} {r n m : ℕ} {M W₀ T₀ W T W′ : List ℕ} (s : Start 
         e,
       )
 
-      go : Dec (ownerOf p T (y / 256) ≡ r) → Dec (g ≡ r) → Crosses p r W′ T y × (h ≡ crossAt p W′ T y)
+      go : Dec (ownerOf p T (y / 16 / 16) ≡ r) → Dec (g ≡ r) → Crosses p r W′ T y × (h ≡ crossAt p W′ T y)
       go (yes own) d = absurd (q .kept (q .region ∙ sym (new-gone p r W′ T (slotIn M (q .entry)) (slotRegionIn n M (q .entry)) own)))
       go (no out) (yes e) = result out (q .region ∙ sym (new-moved p r W′ T (slotIn M (q .entry)) (slotRegionIn n M (q .entry)) out e))
       go (no out) (no ne) =
           let hg : h ≡ slotRegionIn n M (q .entry) = q .region ∙ sym (new-stays p r W′ T (slotIn M (q .entry)) (slotRegionIn n M (q .entry)) out ne) in
           let hc : h ≡ crossAt p W₀ T₀ (slotIn M (q .entry)) = hg ∙ L .right (q .entry) (q .low) in
-          let v = crosses-into p T₀ (ownerOf p T₀ (slotIn M (q .entry) / 256)) (getD W₀ (slotIn M (q .entry)) 0) h hc (q .kept) in
+          let v = crosses-into p T₀ (ownerOf p T₀ (slotIn M (q .entry) / 16 / 16)) (getD W₀ (slotIn M (q .entry)) 0) h hc (q .kept) in
           result out (same-cross (slotIn M (q .entry)) t (λ w z. ne (sym hg ∙ v .region ∙ z)) h (q .kept) hc)
 
   pub entry-apart : (x h : ℕ) → Stays p r n W′ M T m x h → Copies p W T x → ⊥
@@ -138,14 +138,14 @@ module _ {p : Sizes} {r n m : ℕ} {M W₀ T₀ W T W′ : List ℕ} (s : Start 
       no-copy x (subst (λ (y : ℕ). InUse p T₀ (y / 16)) (q .slot) (L .slots (q .entry) (q .low) .used)) c
 
   -- every slot of an old cell that crosses after the end has an entry that stays
-  pub old-listed : (x : ℕ) → IsSlot p W₀ T₀ x → ownerOf p T (x / 256) ≢ r → 1 < r → crossAt p W′ T x ≢ 0 → Stays p r n W′ M T m x (crossAt p W′ T x)
+  pub old-listed : (x : ℕ) → IsSlot p W₀ T₀ x → ownerOf p T (x / 16 / 16) ≢ r → 1 < r → crossAt p W′ T x ≢ 0 → Stays p r n W′ M T m x (crossAt p W′ T x)
   old-listed x t out high ne = go (ℕ-discrete (getD W₀ x 0) 0) (ℕ-discrete (ownerOf p T₀ ((getD W₀ x 0 - 1) / 16)) r)
     where
       stay : (h : ℕ) → h ≢ 0 → h ≡ crossAt p W₀ T₀ x → (h ≢ r → h ≡ crossAt p W′ T x) → Stays p r n W′ M T m x (crossAt p W′ T x)
       stay h nh e same =
           let l = L .every x t (λ z. nh (e ∙ z)) in
           let g : slotRegionIn n M (l .0) ≡ h = L .right (l .0) (l .1) ∙ ap (λ (y : ℕ). crossAt p W₀ T₀ y) (l .2) ∙ sym e in
-          let out′ : ownerOf p T (slotIn M (l .0) / 256) ≢ r = subst (λ (y : ℕ). ownerOf p T (y / 256) ≢ r) (sym (l .2)) out in
+          let out′ : ownerOf p T (slotIn M (l .0) / 16 / 16) ≢ r = subst (λ (y : ℕ). ownerOf p T (y / 16 / 16) ≢ r) (sym (l .2)) out in
           record {
             entry = l .0;
             low = l .1;
@@ -154,31 +154,31 @@ module _ {p : Sizes} {r n m : ℕ} {M W₀ T₀ W T W′ : List ℕ} (s : Start 
             kept = ne;
           }
         where
-          pick : (i : ℕ) → slotIn M i ≡ x → slotRegionIn n M i ≡ h → ownerOf p T (slotIn M i / 256) ≢ r → Dec (h ≡ r)
+          pick : (i : ℕ) → slotIn M i ≡ x → slotRegionIn n M i ≡ h → ownerOf p T (slotIn M i / 16 / 16) ≢ r → Dec (h ≡ r)
               → crossAt p W′ T x ≡ newRegion p r W′ T (slotIn M i) (slotRegionIn n M i)
           pick i ei eg o′ (yes z) =
               ap (λ (y : ℕ). crossAt p W′ T y) (sym ei) ∙ new-moved p r W′ T (slotIn M i) (slotRegionIn n M i) o′ (eg ∙ z)
           pick i ei eg o′ (no z) =
               sym (same z) ∙ sym eg ∙ new-stays p r W′ T (slotIn M i) (slotRegionIn n M i) o′ (λ w. z (sym eg ∙ w))
 
-      out₀ : ownerOf p T₀ (x / 256) ≢ r
+      out₀ : ownerOf p T₀ (x / 16 / 16) ≢ r
       out₀ = λ z. out (home x t ∙ z)
 
       go : Dec (getD W₀ x 0 ≡ 0) → Dec (ownerOf p T₀ ((getD W₀ x 0 - 1) / 16) ≡ r) → Stays p r n W′ M T m x (crossAt p W′ T x)
       go (no z) (yes own) =
           stay r (λ w. omega arith)
-          (into-crosses p T₀ (ownerOf p T₀ (x / 256)) (getD W₀ x 0) r (record { real = z; page = names x t z .page; region = sym own; high = high; other = λ w. out₀ (sym w) }))
+          (into-crosses p T₀ (ownerOf p T₀ (x / 16 / 16)) (getD W₀ x 0) r (record { real = z; page = names x t z .page; region = sym own; high = high; other = λ w. out₀ (sym w) }))
           (λ w. absurd (w refl))
-      go (yes z) own = absurd (ne (ap (λ (y : ℕ). crossesFrom p T (ownerOf p T (x / 256)) y) (word (λ w q. w z)) ∙ sym (crosses-null p T (ownerOf p T (x / 256)) (getD W₀ x 0) z)))
+      go (yes z) own = absurd (ne (ap (λ (y : ℕ). crossesFrom p T (ownerOf p T (x / 16 / 16)) y) (word (λ w q. w z)) ∙ sym (crosses-null p T (ownerOf p T (x / 16 / 16)) (getD W₀ x 0) z)))
         where
           word : (getD W₀ x 0 ≢ 0 → ownerOf p T₀ ((getD W₀ x 0 - 1) / 16) ≢ r) → getD W′ x 0 ≡ getD W₀ x 0
           word f = R .same x (⊎-elim (into-not x t f) (no-copy x (t .used))) ∙ before x t
       go (no z) (no own) =
           let word : getD W′ x 0 ≡ getD W₀ x 0 = R .same x (⊎-elim (into-not x t (λ w. own)) (no-copy x (t .used))) ∙ before x t in
           let h : ℕ = crossAt p W′ T x in
-          let v = crosses-into p T (ownerOf p T (x / 256)) (getD W′ x 0) (crossAt p W′ T x) refl ne in
+          let v = crosses-into p T (ownerOf p T (x / 16 / 16)) (getD W′ x 0) (crossAt p W′ T x) refl ne in
           let e : crossAt p W′ T x ≡ crossAt p W₀ T₀ x =
-          into-crosses p T₀ (ownerOf p T₀ (x / 256)) (getD W₀ x 0) (crossAt p W′ T x)
+          into-crosses p T₀ (ownerOf p T₀ (x / 16 / 16)) (getD W₀ x 0) (crossAt p W′ T x)
           (record {
             real = z;
             page = names x t z .page;
@@ -213,7 +213,7 @@ module _ {p : Sizes} {r n m : ℕ} {M W₀ T₀ W T W′ : List ℕ} (s : Start 
             at =
                 record {
                   cell = c;
-                  among = (omega arith, omega arith);
+                  among = lc;
                   old = survivor-old s a₀ a F c (u .1) (u .2);
                   field = record { field = x % 16 - 2; low = omega (arith, q .field, q .ref, refs-same R (x / 16)); at = omega (arith, q .field) };
                 };
@@ -231,7 +231,7 @@ module _ {p : Sizes} {r n m : ℕ} {W T M : List ℕ} (high : 1 < r) (L : Listed
   remembered-into b f l q =
       let x : ℕ = 16 * b + 2 + f in
       let e : r ≡ crossAt p W T (16 * b + 2 + f) = sym (q .region) ∙ L .right (q .entry) (q .low) ∙ ap (λ (y : ℕ). crossAt p W T y) (q .slot) in
-      let v = crosses-into p T (ownerOf p T ((16 * b + 2 + f) / 256)) (fieldOf W b f) r e (λ z. omega arith) in
+      let v = crosses-into p T (ownerOf p T ((16 * b + 2 + f) / 16 / 16)) (fieldOf W b f) r e (λ z. omega arith) in
       (v .real, sym (v .region))
 
   pub remembered-slots : (b f d : ℕ) → InUse p T b → ownerOf p T (b / 16) ≢ r → f < refsOf W b → refsOf W b ≤ 14 → fieldOf W b f ≡ 1 + d → d / 16 < p .pages → ownerOf p T (d / 16) ≡ r
@@ -239,7 +239,7 @@ module _ {p : Sizes} {r n m : ℕ} {W T M : List ℕ} (high : 1 < r) (L : Listed
   remembered-slots b f d u out lf few e there own =
       let x : ℕ = 16 * b + 2 + f in
       let at : (16 * b + 2 + f) / 16 ≡ b = omega arith in
-      let page : (16 * b + 2 + f) / 256 ≡ b / 16 = omega arith in
+      let page : (16 * b + 2 + f) / 16 / 16 ≡ b / 16 = omega arith in
       let t : IsSlot p W T (16 * b + 2 + f) =
       record {
         used = subst (λ (y : ℕ). InUse p T y) (sym at) u;
@@ -248,7 +248,7 @@ module _ {p : Sizes} {r n m : ℕ} {W T M : List ℕ} (high : 1 < r) (L : Listed
       } in
       let d′ : fieldOf W b f - 1 ≡ d = omega arith in
       let c : r ≡ crossAt p W T (16 * b + 2 + f) =
-      into-crosses p T (ownerOf p T ((16 * b + 2 + f) / 256)) (fieldOf W b f) r
+      into-crosses p T (ownerOf p T ((16 * b + 2 + f) / 16 / 16)) (fieldOf W b f) r
       (record {
         real = λ z. omega arith;
         page = omega arith;

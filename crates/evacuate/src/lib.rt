@@ -5,10 +5,9 @@ ghost use Prim.Native.Nat.{ℕ, _<_, _≤_};
 ghost use lib.ListN.{length, getD};
 ghost use Rattle.lists.specs.Part.{Lists};
 ghost use Rattle.layout.specs.Places.{depthOf, ownerOf, markOf, usedIn};
-ghost use Rattle.rules.specs.Regions.{regionAt};
+ghost use Rattle.rules.specs.Regions.{regionAt, regions};
 ghost use Rattle.pages.specs.Pages.{noteWords};
 ghost use Rattle.copy.specs.Marks.{hits};
-ghost use Rattle.pages.specs.Owned.{regionsOf};
 ghost use Rattle.evacuate.specs.Stages.{Before, Finished};
 use rules::Sizes;
 
@@ -28,8 +27,8 @@ pub fn evacuate(
     requires { ⌜ Before p (regionAt p thread (depthOf (now tables) thread)) (p .entries) (usedIn (now remember)) (depthOf (now tables) thread) (regionAt p thread) (now cells) (now remember) (now tables) ⌝ }
     requires { ⌜ (thread < p .threads) × (1 ≤ depthOf (now tables) thread) × (depthOf (now tables) thread ≤ p .depth) ⌝ }
     requires { ⌜ Lists (λ page. ownerOf p (now tables) page ≡ regionAt p thread (depthOf (now tables) thread)) (p .pages) n (now list) ⌝ }
-    requires { ⌜ ((g : ℕ) → 1 ≤ g → g ≤ regionsOf p → getD (now come) g 0 ≡ 0 → hits p (now cells) (now tables) g ≡ 0) ⌝ }
-    requires { ⌜ (noteWords ≤ length (now notes)) × (regionsOf p < length (now come)) ⌝ }
+    requires { ⌜ ((g : ℕ) → 1 ≤ g → g ≤ regions p → getD (now come) g 0 ≡ 0 → hits p (now cells) (now tables) g ≡ 0) ⌝ }
+    requires { ⌜ (noteWords ≤ length (now notes)) × (regions p < length (now come)) ⌝ }
     ensures { λ _. ⌜ Finished p (regionAt p thread (depthOf (now (tables .entry)) thread)) (p .entries) (usedIn (now (remember .entry))) (depthOf (now (tables .entry)) thread) thread (regionAt p thread) (now (cells .entry)) (now (remember .entry)) (now (tables .entry)) (now (cells .exit)) (now (remember .exit)) (now (tables .exit)) ⌝ }
 {
     let level = layout::wide(layout::tables::depth(p, tables, thread));

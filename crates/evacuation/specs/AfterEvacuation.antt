@@ -12,7 +12,7 @@ use lib.Dec.{eqb}
 use lib.ListN.{length, getD, drop, length-drop}
 use lib.Seq.{ext-getD, getD-drop}
 use Rattle.rules.specs.declared.Sizes.{Sizes}
-use Rattle.rules.specs.Regions.{regionAt, threadOf, levelOf}
+use Rattle.rules.specs.Regions.{regionAt, threadOf, levelOf, regions}
 use Rattle.rules.specs.Graph.{target}
 use Rattle.laws.specs.SameRules.{renamed}
 use Rattle.laws.specs.RegionLaws.{region-high, thread-at, level-at}
@@ -23,7 +23,6 @@ use Rattle.promises.specs.Whole.{WholeFor, Open}
 use Rattle.promises.specs.StandsFor.{SameFrom}
 use Rattle.promises.specs.Reading.{range, tables-room, used-home}
 use Rattle.mark.specs.Survivors.{Marked}
-use Rattle.pages.specs.Owned.{regionsOf}
 use Rattle.copy.specs.Copying.{region-bounds}
 use Rattle.evacuate.specs.Stages.{Lives, Before, Finished}
 use Rattle.evacuate.specs.Evacuated as ev
@@ -54,7 +53,7 @@ module _ (s : Sizes) (w : Words) (whole : WholeFor s w) (t k : ℕ) (th : t < s 
   low : k < s .depth
   low = omega (arith, whole .placed .depths t th)
 
-  bounds : (1 ≤ regionAt s t (suc k)) × (regionAt s t (suc k) ≤ regionsOf s)
+  bounds : (1 ≤ regionAt s t (suc k)) × (regionAt s t (suc k) ≤ regions s)
   bounds = region-bounds s t (suc k) th low
 
   E : ev.Evacuated s (regionAt s t (suc k)) t (w₁ .cells) (w .remember) (w₁ .tables) (w′ .cells) (w′ .remember) (w′ .tables)
