@@ -2,51 +2,49 @@
 use mathlib.Core.Path.{_≡_, refl, sym, ap, ap₂, _∙_, subst}
 use mathlib.Core.Logic.{_≢_, ⊎-elim}
 use mathlib.Core.List.{List}
-use Prim.Native.Nat.{ℕ, zero, suc, _+_, _-_, _*_, _/_, _%_, _^_, _≤_, _<_}
+use Prim.Native.Nat.{ℕ, zero, suc, _+_, _-_, _*_, _%_, _^_, _≤_, _<_}
 use native.Mathlib.Decide.{ℕ-discrete, decLt}
 use native.Mathlib.Omega.{arith}
 use lib.Count.{trailingZeros}
 use Rattle.lists.specs.Bits.{bitAt, bit-zero, none-high, clear-same, clear-other, Lowest, trailing-low}
 use Rattle.lists.specs.SetBits.{lower-bit}
 use Rattle.lists.specs.Counting.{sum, sum-more, sum-mono}
-use Rattle.rules.specs.Regions.{regionAt}
+use Rattle.rules.specs.Regions.{regionAt, regions}
 use Rattle.rules.specs.Graph.{pagesOf}
 use Rattle.rules.specs.declared.Sizes.{Sizes}
 use Rattle.lists.specs.Products.{flat-low}
 use Rattle.layout.specs.Places.{markOf}
-use Rattle.layout.specs.Cells.{workOf}
+use Rattle.layout.specs.Cells.{workOf, pageOf, placeOf, cellOn, firstOn, pageCells, place-low, page-on, place-on, on-page}
 use Rattle.layout.specs.Marks.{marked}
 use Rattle.promises.specs.Whole.{objectsOf}
+use Rattle.pages.specs.Owned.{ownedIn}
 use Rattle.copy.specs.Marks.{copied, mark?, all-clear, hits}
-use Rattle.pages.specs.Owned.{regionsOf}
-use Rattle.copy.specs.Taking.{pagesOwned, Next}
+use Rattle.copy.specs.Taking.{Next}
 use Rattle.copy.specs.Cursor.{Points, Seeking}
 use Rattle.copy.specs.Moves.{Movable, Step, step-off, step-on, step-points}
 use Rattle.copy.specs.Passing.{Ready, Moves, Moves.none, Moves.more, order, moves-later, moves-append, moves-map, moves-ready, moves-back, moves-bits, moves-marks, step-back, Others, moves-others, Spent, moves-spent, Passing, moves-passing, hit-some, passing-usable, passing-movable, Pass}
 
 -- ---- one page
 
-marked-at : (p : Sizes) (T : List ℕ) (q i : ℕ) → i < 16 → marked p T (16 * q + i) ≡ bitAt (markOf p T q) i
+marked-at : (p : Sizes) (T : List ℕ) (q i : ℕ) → i < pageCells → marked p T (cellOn q i) ≡ bitAt (markOf p T q) i
 marked-at p T q i l =
-    let d : (16 * q + i) / 16 ≡ q = omega arith in
-    let m : (16 * q + i) % 16 ≡ i = omega arith in
-    ap₂ (λ (x y : ℕ). bitAt (markOf p T x) y) d m
+    ap₂ (λ (x y : ℕ). bitAt (markOf p T x) y) (page-on q i l) (place-on q i l)
 
 -- the survivors on page q that go to g moved, but for those at the bits that are left; the pass is at page
 pub record PageMoves (p : Sizes) (g q left page : ℕ) (W T W′ T′ : List ℕ) : Type 0 where
   pub last : ℕ
-  pub moves : Moves p (λ h. h ≡ g) (order g (16 * q)) W T last W′ T′
-  pub later : (i : ℕ) → i < 16 → bitAt left i ≡ 1 → last ≤ order g (16 * q + i)
-  pub high : last ≤ order g (16 * (q + 1))
+  pub moves : Moves p (λ h. h ≡ g) (order g (firstOn q)) W T last W′ T′
+  pub later : (i : ℕ) → i < pageCells → bitAt left i ≡ 1 → last ≤ order g (cellOn q i)
+  pub high : last ≤ order g (firstOn (q + 1))
   pub points : Points p T′ g page
-  pub bits : (i : ℕ) → i < 16 → bitAt left i ≡ 1 → marked p T′ (16 * q + i) ≡ 1
-  pub done : (i : ℕ) → i < 16 → bitAt left i ≡ 0 → marked p T′ (16 * q + i) ≡ 1 → workOf W′ (16 * q + i) ≢ g
+  pub bits : (i : ℕ) → i < pageCells → bitAt left i ≡ 1 → marked p T′ (cellOn q i) ≡ 1
+  pub done : (i : ℕ) → i < pageCells → bitAt left i ≡ 0 → marked p T′ (cellOn q i) ≡ 1 → workOf W′ (cellOn q i) ≢ g
 
 pub page-begin : {p : Sizes} {g : ℕ} (q : ℕ) {page : ℕ} {W T : List ℕ} → Points p T g page → PageMoves p g q (markOf p T q % 2 ^ 16) page W T W T
 page-begin {p} {g} q {page} {W} {T} a =
     record {
-      last = order g (16 * q);
-      moves = none {m = order g (16 * q)} (omega arith);
+      last = order g (firstOn q);
+      moves = none {m = order g (firstOn q)} (omega arith);
       later = λ i l e. omega arith;
       high = omega arith;
       points = a;
@@ -54,10 +52,13 @@ page-begin {p} {g} q {page} {W} {T} a =
       done = λ i l e on. absurd (let z : ⊥ = omega (arith, marked-at p T q i l, lower-bit (markOf p T q) i l) in z);
     }
 
-module _ {p : Sizes} {g q left page : ℕ} {W T W′ T′ : List ℕ} (a : Passing p g W T) (lt : q < p .pages) (i x : ℕ) (e : x ≡ 16 * q + i)
+module _ {p : Sizes} {g q left page : ℕ} {W T W′ T′ : List ℕ} (a : Passing p g W T) (lt : q < p .pages) (i x : ℕ) (e : x ≡ cellOn q i)
     (l : Lowest left i) (low : i ≡ trailingZeros 32 left) (h : PageMoves p g q left page W T W′ T′) where
-  page-on : marked p T′ x ≡ 1
-  page-on = subst (λ (y : ℕ). marked p T′ y ≡ 1) (sym e) (h .bits i (l .lt) (l .on))
+  here-page : pageOf x < p .pages
+  here-page = omega (arith, ap pageOf e, page-on q i (l .lt))
+
+  here-on : marked p T′ x ≡ 1
+  here-on = subst (λ (y : ℕ). marked p T′ y ≡ 1) (sym e) (h .bits i (l .lt) (l .on))
 
   now : Passing p g W′ T′
   now = moves-passing a (h .moves)
@@ -68,12 +69,12 @@ module _ {p : Sizes} {g q left page : ℕ} {W T W′ T′ : List ℕ} (a : Passi
         regular = now .ready .regular;
         real = a .real;
         low = a .low;
-        usable = passing-usable now x (omega (arith, l .lt)) page-on t;
+        usable = passing-usable now x here-page here-on t;
         points = h .points;
       }
 
   pub page-movable : workOf W′ x ≡ g → {n : ℕ} → Next p g n T′ → Movable p g n W′ T′ x
-  page-movable t n = passing-movable now x (omega (arith, l .lt)) page-on t n
+  page-movable t n = passing-movable now x here-page here-on t n
 
   -- a bit that is left still was left, and lies above i
   still : (j : ℕ) → bitAt (left - 2 ^ i) j ≡ 1 → (bitAt left j ≡ 1) × (i < j)
@@ -96,16 +97,16 @@ module _ {p : Sizes} {g q left page : ℕ} {W T W′ T′ : List ℕ} (a : Passi
         points = step-points s;
         bits = λ j lj b.
             let u = still j b in
-            step-on s (16 * q + j) (omega arith) (λ z. omega (arith, u .1)) ∙ h .bits j lj (u .0);
+            step-on s (cellOn q j) (omega arith) (λ z. omega (arith, u .1)) ∙ h .bits j lj (u .0);
         done = λ j lj b on. done′ j lj b on (ℕ-discrete j i);
       }
     where
-      done′ : (j : ℕ) → j < 16 → bitAt (left - 2 ^ i) j ≡ 0 → marked p T″ (16 * q + j) ≡ 1 → Dec (j ≡ i) → workOf W″ (16 * q + j) ≢ g
+      done′ : (j : ℕ) → j < pageCells → bitAt (left - 2 ^ i) j ≡ 0 → marked p T″ (cellOn q j) ≡ 1 → Dec (j ≡ i) → workOf W″ (cellOn q j) ≢ g
       done′ j lj b on (yes z) =
-          absurd (let w : marked p T″ (16 * q + j) ≡ 0 = subst (λ (y : ℕ). marked p T″ y ≡ 0) (let v : x ≡ 16 * q + j = omega arith in v) (step-off s) in
+          absurd (let w : marked p T″ (cellOn q j) ≡ 0 = subst (λ (y : ℕ). marked p T″ y ≡ 0) (let v : x ≡ cellOn q j = omega arith in v) (step-off s) in
           let y : ⊥ = omega arith in y)
       done′ j lj b on (no n) =
-          let u = step-back (moves-ready (a .ready) (h .moves)) s (16 * q + j) (omega arith) on in
+          let u = step-back (moves-ready (a .ready) (h .moves)) s (cellOn q j) (omega arith) on in
           λ z. h .done j lj (sym (clear-other i j left (l .on) n) ∙ b) (u .0) (sym (u .1) ∙ z)
 
   pub page-left : workOf W′ x ≢ g → PageMoves p g q (left - 2 ^ i) page W T W′ T′
@@ -120,13 +121,13 @@ module _ {p : Sizes} {g q left page : ℕ} {W T W′ T′ : List ℕ} (a : Passi
         done = λ j lj b on. done′ j lj b on (ℕ-discrete j i);
       }
     where
-      done′ : (j : ℕ) → j < 16 → bitAt (left - 2 ^ i) j ≡ 0 → marked p T′ (16 * q + j) ≡ 1 → Dec (j ≡ i) → workOf W′ (16 * q + j) ≢ g
-      done′ j lj b on (yes z) = subst (λ (y : ℕ). workOf W′ y ≢ g) (let v : x ≡ 16 * q + j = omega arith in v) ne
+      done′ : (j : ℕ) → j < pageCells → bitAt (left - 2 ^ i) j ≡ 0 → marked p T′ (cellOn q j) ≡ 1 → Dec (j ≡ i) → workOf W′ (cellOn q j) ≢ g
+      done′ j lj b on (yes z) = subst (λ (y : ℕ). workOf W′ y ≢ g) (let v : x ≡ cellOn q j = omega arith in v) ne
       done′ j lj b on (no n) = h .done j lj (sym (clear-other i j left (l .on) n) ∙ b) on
 
 -- the survivors of page q that go to g moved; the pass is at page
 pub record PagePass (p : Sizes) (g q page : ℕ) (W T W′ T′ : List ℕ) : Type 0 where
-  pub pass : Pass p g (λ c. c / 16 ≡ q) (order g (16 * q)) (order g (16 * (q + 1))) W T W′ T′
+  pub pass : Pass p g (λ c. pageOf c ≡ q) (order g (firstOn q)) (order g (firstOn (q + 1))) W T W′ T′
   pub points : Points p T′ g page
 
 pub page-pass : {p : Sizes} {g q left page : ℕ} {W T W′ T′ : List ℕ} → left ≡ 0 → PageMoves p g q left page W T W′ T′ → PagePass p g q page W T W′ T′
@@ -136,9 +137,9 @@ page-pass {p} {g} {q} {left} {page} {W} {T} {W′} {T′} z h =
           record {
             moves = moves-later (h .high) (h .moves);
             done = λ c e l on.
-                let s : c ≡ 16 * q + c % 16 = omega arith in
+                let s : c ≡ cellOn q (placeOf c) = on-page e in
                 subst (λ (y : ℕ). workOf W′ y ≢ g) (sym s)
-                (h .done (c % 16) (omega arith) (ap (λ (y : ℕ). bitAt y (c % 16)) z ∙ bit-zero (c % 16)) (subst (λ (y : ℕ). marked p T′ y ≡ 1) s on));
+                (h .done (placeOf c) (place-low c) (ap (λ (y : ℕ). bitAt y (placeOf c)) z ∙ bit-zero (placeOf c)) (subst (λ (y : ℕ). marked p T′ y ≡ 1) s on));
           };
       points = h .points;
     }
@@ -146,11 +147,11 @@ page-pass {p} {g} {q} {left} {page} {W} {T} {W′} {T′} z h =
 -- ---- all pages: those below q are done
 
 pub record PassMoves (p : Sizes) (g q page : ℕ) (W T W′ T′ : List ℕ) : Type 0 where
-  pub pass : Pass p g (λ c. c / 16 < q) (order g 0) (order g (16 * q)) W T W′ T′
+  pub pass : Pass p g (λ c. pageOf c < q) (order g 0) (order g (firstOn q)) W T W′ T′
   pub points : Points p T′ g page
 
 pub pass-begin : {p : Sizes} {g page : ℕ} {W T : List ℕ} → Points p T g page → PassMoves p g 0 page W T W T
-pass-begin {g = g} a = record { pass = record { moves = none {m = order g (16 * 0)} (omega arith); done = λ c l. absurd (let z : ⊥ = omega arith in z) }; points = a }
+pass-begin {g = g} a = record { pass = record { moves = none {m = order g (firstOn 0)} (omega arith); done = λ c l. absurd (let z : ⊥ = omega arith in z) }; points = a }
 
 pub pass-next : {p : Sizes} {g q page n : ℕ} {W T W′ T′ W″ T″ : List ℕ} → Ready p W T → PassMoves p g q page W T W′ T′ → PagePass p g q n W′ T′ W″ T″
     → PassMoves p g (q + 1) n W T W″ T″
@@ -159,30 +160,30 @@ pass-next {p} {g} {q} {page} {n} {W} {T} {W′} {T′} {W″} {T″} a b d =
       pass =
           record {
             moves = moves-append (b .pass .moves) (d .pass .moves);
-            done = λ c l lp on. go c l lp on (ℕ-discrete (c / 16) q);
+            done = λ c l lp on. go c l lp on (ℕ-discrete (pageOf c) q);
           };
       points = d .points;
     }
   where
-    go : (c : ℕ) → c / 16 < q + 1 → c / 16 < p .pages → marked p T″ c ≡ 1 → Dec (c / 16 ≡ q) → workOf W″ c ≢ g
+    go : (c : ℕ) → pageOf c < q + 1 → pageOf c < p .pages → marked p T″ c ≡ 1 → Dec (pageOf c ≡ q) → workOf W″ c ≢ g
     go c l lp on (yes e) = d .pass .done c e lp on
     go c l lp on (no n) =
         let u = moves-back (moves-ready a (b .pass .moves)) (d .pass .moves) c lp on in
         λ z. b .pass .done c (omega arith) lp (u .0) (sym (u .1) ∙ z)
 
 -- a page without marks has no survivors
-pub no-marks : (p : Sizes) (T : List ℕ) (q : ℕ) → markOf p T q ≡ 0 → (c : ℕ) → c / 16 ≡ q → marked p T c ≡ 1 → ⊥
+pub no-marks : (p : Sizes) (T : List ℕ) (q : ℕ) → markOf p T q ≡ 0 → (c : ℕ) → pageOf c ≡ q → marked p T c ≡ 1 → ⊥
 no-marks p T q z c e on =
-    omega (arith, ap (λ (x : ℕ). bitAt (markOf p T x) (c % 16)) e, ap (λ (x : ℕ). bitAt x (c % 16)) z, bit-zero (c % 16))
+    omega (arith, ap (λ (x : ℕ). bitAt (markOf p T x) (placeOf c)) e, ap (λ (x : ℕ). bitAt x (placeOf c)) z, bit-zero (placeOf c))
 
 pub pass-skip : {p : Sizes} {g q page : ℕ} {W T W′ T′ : List ℕ} → Ready p W T → markOf p T q ≡ 0 → PassMoves p g q page W T W′ T′ → PassMoves p g (q + 1) page W T W′ T′
 pass-skip {p} {g} {q} {page} {W} {T} {W′} {T′} a z b =
     record {
-      pass = record { moves = moves-later (omega arith) (b .pass .moves); done = λ c l lp on. go c l lp on (ℕ-discrete (c / 16) q) };
+      pass = record { moves = moves-later (omega arith) (b .pass .moves); done = λ c l lp on. go c l lp on (ℕ-discrete (pageOf c) q) };
       points = b .points;
     }
   where
-    go : (c : ℕ) → c / 16 < q + 1 → c / 16 < p .pages → marked p T′ c ≡ 1 → Dec (c / 16 ≡ q) → workOf W′ c ≢ g
+    go : (c : ℕ) → pageOf c < q + 1 → pageOf c < p .pages → marked p T′ c ≡ 1 → Dec (pageOf c ≡ q) → workOf W′ c ≢ g
     go c l lp on (yes e) = absurd (no-marks p T q z c e (moves-back a (b .pass .moves) c lp on .0))
     go c l lp on (no n) = b .pass .done c (omega arith) lp on
 
@@ -195,18 +196,18 @@ pub record Plan (p : Sizes) (n : ℕ) (gs : ℕ → ℕ) (W T : List ℕ) : Type
   pub ready : Ready p W T
   pub small : (q : ℕ) → q < p .pages → markOf p T q < 2 ^ 16
   pub real : (l : ℕ) → l < n → 1 ≤ gs l
-  pub low : (l : ℕ) → l < n → gs l ≤ regionsOf p
+  pub low : (l : ℕ) → l < n → gs l ≤ regions p
   pub rising : (i j : ℕ) → i < j → j < n → gs i < gs j
-  pub all : (c : ℕ) → c / 16 < p .pages → marked p T c ≡ 1 → (l : ℕ) × (l < n) × (workOf W c ≡ gs l)
-  pub enough : sum (λ l. need p (gs l) W T) n ≤ pagesOwned p T 0
+  pub all : (c : ℕ) → pageOf c < p .pages → marked p T c ≡ 1 → (l : ℕ) × (l < n) × (workOf W c ≡ gs l)
+  pub enough : sum (λ l. need p (gs l) W T) n ≤ ownedIn p T 0 (p .pages)
 
 -- the targets below l are done
 pub record Copy (p : Sizes) (n : ℕ) (gs : ℕ → ℕ) (l : ℕ) (W T W′ T′ : List ℕ) : Type 0 where
   pub last : ℕ
   pub moves : Moves p (λ g. (j : ℕ) × (j < l) × (g ≡ gs j)) 0 W T last W′ T′
   pub later : (j : ℕ) → l ≤ j → j < n → last ≤ order (gs j) 0
-  pub done : (j : ℕ) → j < l → (c : ℕ) → c / 16 < p .pages → marked p T′ c ≡ 1 → workOf W′ c ≢ gs j
-  pub budget : sum (λ i. need p (gs i) W T) n ≤ pagesOwned p T′ 0 + sum (λ i. need p (gs i) W T) l
+  pub done : (j : ℕ) → j < l → (c : ℕ) → pageOf c < p .pages → marked p T′ c ≡ 1 → workOf W′ c ≢ gs j
+  pub budget : sum (λ i. need p (gs i) W T) n ≤ ownedIn p T′ 0 (p .pages) + sum (λ i. need p (gs i) W T) l
 
 pub copy-begin : {p : Sizes} {n : ℕ} {gs : ℕ → ℕ} {W T : List ℕ} → Plan p n gs W T → Copy p n gs 0 W T W T
 copy-begin a =
@@ -237,10 +238,10 @@ module _ {p : Sizes} {n : ℕ} {gs : ℕ → ℕ} {l : ℕ} {W T W′ T′ : Lis
             omega (arith, b .budget, same-need, sum-more (λ i. need p (gs i) W T) l, sum-mono (λ i. need p (gs i) W T) (l + 1) n (omega arith));
       }
 
-  pub copy-next : {W″ T″ : List ℕ} → Pass p (gs l) (λ c. c / 16 < p .pages) (order (gs l) 0) (order (gs l) (16 * p .pages)) W′ T′ W″ T″ → Copy p n gs (l + 1) W T W″ T″
+  pub copy-next : {W″ T″ : List ℕ} → Pass p (gs l) (λ c. pageOf c < p .pages) (order (gs l) 0) (order (gs l) (firstOn (p .pages))) W′ T′ W″ T″ → Copy p n gs (l + 1) W T W″ T″
   copy-next {W″} {T″} d =
       record {
-        last = order (gs l) (16 * p .pages);
+        last = order (gs l) (firstOn (p .pages));
         moves =
             moves-append (moves-later (b .later l (omega arith) lt) (moves-map (λ g q. (q .0, omega (arith, q .1), q .2)) (b .moves)))
             (moves-map (λ g e. (l, omega arith, e)) (d .moves));
@@ -265,7 +266,7 @@ module _ {p : Sizes} {n : ℕ} {gs : ℕ → ℕ} {l : ℕ} {W T W′ T′ : Lis
       mono : pagesOf (objectsOf p T″ (gs l)) ≤ pagesOf (objectsOf p T″ (gs l) + hits p W″ T″ (gs l))
       mono = omega arith
 
-      go : (j : ℕ) → j < l + 1 → (c : ℕ) → c / 16 < p .pages → marked p T″ c ≡ 1 → Dec (j ≡ l) → workOf W″ c ≢ gs j
+      go : (j : ℕ) → j < l + 1 → (c : ℕ) → pageOf c < p .pages → marked p T″ c ≡ 1 → Dec (j ≡ l) → workOf W″ c ≢ gs j
       go j lj c lp on (yes e) = subst (λ (y : ℕ). workOf W″ c ≢ gs y) (sym e) (d .done c lp lp on)
       go j lj c lp on (no ne) =
           let u = moves-back (copy-passing .ready) (d .moves) c lp on in
@@ -282,14 +283,14 @@ module _ {p : Sizes} {n : ℕ} {gs : ℕ → ℕ} {l : ℕ} {W T W′ T′ : Lis
         budget = omega (arith, b .budget, sum-more (λ i. need p (gs i) W T) l);
       }
     where
-      go : (j : ℕ) → j < l + 1 → (c : ℕ) → c / 16 < p .pages → marked p T′ c ≡ 1 → Dec (j ≡ l) → workOf W′ c ≢ gs j
+      go : (j : ℕ) → j < l + 1 → (c : ℕ) → pageOf c < p .pages → marked p T′ c ≡ 1 → Dec (j ≡ l) → workOf W′ c ≢ gs j
       go j lj c lp on (yes e) =
           let u = moves-back (a .ready) (b .moves) c lp on in
           λ y. hit-some p W T (gs l) c lp (u .0) (sym (u .1) ∙ y ∙ ap gs e) z
       go j lj c lp on (no ne) = b .done j (omega arith) c lp on
 
 -- after all targets no survivor waits
-pub copy-clean : {p : Sizes} {n : ℕ} {gs : ℕ → ℕ} {W T W′ T′ : List ℕ} → Plan p n gs W T → Copy p n gs n W T W′ T′ → (c : ℕ) → c / 16 < p .pages → marked p T′ c ≡ 0
+pub copy-clean : {p : Sizes} {n : ℕ} {gs : ℕ → ℕ} {W T W′ T′ : List ℕ} → Plan p n gs W T → Copy p n gs n W T W′ T′ → (c : ℕ) → pageOf c < p .pages → marked p T′ c ≡ 0
 copy-clean {p} {n} {gs} {W} {T} {W′} {T′} a b c l =
     ⊎-elim (λ off. off)
     (λ on.
@@ -299,27 +300,27 @@ copy-clean {p} {n} {gs} {W} {T} {W′} {T′} a b c l =
     (mark? p T′ c)
 
 -- the survivors are those that are copied
-pub copy-copied : {p : Sizes} {n : ℕ} {gs : ℕ → ℕ} {W T W′ T′ : List ℕ} → Plan p n gs W T → Copy p n gs n W T W′ T′ → (c : ℕ) → c / 16 < p .pages → copied p T′ c ≡ marked p T c
+pub copy-copied : {p : Sizes} {n : ℕ} {gs : ℕ → ℕ} {W T W′ T′ : List ℕ} → Plan p n gs W T → Copy p n gs n W T W′ T′ → (c : ℕ) → pageOf c < p .pages → copied p T′ c ≡ marked p T c
 copy-copied {p} {T = T} a b c l =
     omega (
       arith,
       moves-bits (b .moves) c l,
       copy-clean a b c l,
-      none-high 16 (markOf p T (c / 16)) (16 + c % 16) (a .small (c / 16) l) (omega arith),
+      none-high pageCells (markOf p T (pageOf c)) (pageCells + placeOf c) (a .small (pageOf c) l) (omega arith),
     )
 
 -- a page without survivors has no mark, and gets none
-pub no-survivors : {p : Sizes} {n : ℕ} {gs : ℕ → ℕ} {W T : List ℕ} → Plan p n gs W T → (q : ℕ) → q < p .pages → ((c : ℕ) → c / 16 ≡ q → marked p T c ≡ 1 → ⊥) → markOf p T q ≡ 0
+pub no-survivors : {p : Sizes} {n : ℕ} {gs : ℕ → ℕ} {W T : List ℕ} → Plan p n gs W T → (q : ℕ) → q < p .pages → ((c : ℕ) → pageOf c ≡ q → marked p T c ≡ 1 → ⊥) → markOf p T q ≡ 0
 no-survivors {p} {T = T} a q l off =
-    all-clear 16 (markOf p T q) (a .small q l)
-    (λ i li. sym (marked-at p T q i li) ∙ ⊎-elim (λ z. z) (λ on. absurd (off (16 * q + i) (omega arith) on)) (mark? p T (16 * q + i)))
+    all-clear pageCells (markOf p T q) (a .small q l)
+    (λ i li. sym (marked-at p T q i li) ∙ ⊎-elim (λ z. z) (λ on. absurd (off (cellOn q i) (page-on q i li) on)) (mark? p T (cellOn q i)))
 
 pub copy-marks : {p : Sizes} {n l : ℕ} {gs : ℕ → ℕ} {W T W′ T′ : List ℕ} → Plan p n gs W T → Copy p n gs l W T W′ T′ → (q : ℕ) → q < p .pages → markOf p T q ≡ 0
     → markOf p T′ q ≡ 0
 copy-marks {p} {T = T} a b q l z = moves-marks (a .ready) (b .moves) q l (no-marks p T q z) ∙ z
 
 -- the region of a thread at a level is one of the regions
-pub region-bounds : (p : Sizes) (t l : ℕ) → t < p .threads → l ≤ p .depth → (1 ≤ regionAt p t l) × (regionAt p t l ≤ regionsOf p)
+pub region-bounds : (p : Sizes) (t l : ℕ) → t < p .threads → l ≤ p .depth → (1 ≤ regionAt p t l) × (regionAt p t l ≤ regions p)
 unfolding regionAt
 region-bounds p t zero h k = (omega arith, omega arith)
 region-bounds p t (suc l) h k =

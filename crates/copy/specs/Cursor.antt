@@ -6,15 +6,16 @@ use Prim.Native.Nat.{ℕ, _≤_, _<_}
 use native.Mathlib.Decide.{decLt}
 use native.Mathlib.Omega.{arith}
 use Rattle.rules.specs.declared.Sizes.{Sizes}
+use Rattle.rules.specs.Regions.{regions}
 use Rattle.layout.specs.Places.{ownerOf, usedOf}
+use Rattle.layout.specs.Cells.{pageCells}
 use Rattle.pages.specs.Pages.{Found}
-use Rattle.pages.specs.Owned.{regionsOf}
 use Rattle.copy.specs.Taking.{Usable, Next, Took, Regular, took-owner}
 
 -- page q has no room
 pub record Full (p : Sizes) (T : List ℕ) (q : ℕ) : Type 0 where
   pub low : q < p .pages
-  pub full : 16 ≤ usedOf p T q
+  pub full : pageCells ≤ usedOf p T q
 
 abbrev pub Points : (p : Sizes) (T : List ℕ) (g page : ℕ) → Type 0
 Points p T g page = Found p T g page ⊎ Full p T page
@@ -23,7 +24,7 @@ Points p T g page = Found p T g page ⊎ Full p T page
 pub record Seeking (p : Sizes) (g : ℕ) (T : List ℕ) (page : ℕ) : Type 0 where
   pub regular : Regular p T
   pub real : 1 ≤ g
-  pub low : g ≤ regionsOf p
+  pub low : g ≤ regions p
   pub usable : Usable p g T
   pub points : Points p T g page
 
@@ -31,7 +32,7 @@ pub found-next : {p : Sizes} {T : List ℕ} {g page : ℕ} → Regular p T → U
 found-next r u (inl h) = record { low = h .low; found = inl h; part = h .partial .part }
 found-next {p} {T} {g} {page} r u (inr h) = go (u .why)
   where
-    go : (ownerOf p T (u .at) ≡ 0) ⊎ ((ownerOf p T (u .at) ≡ g) × (usedOf p T (u .at) < 16)) → Next p g page T
+    go : (ownerOf p T (u .at) ≡ 0) ⊎ ((ownerOf p T (u .at) ≡ g) × (usedOf p T (u .at) < pageCells)) → Next p g page T
     go (inl z) =
         let l : page < p .pages = h .some (u .at) (u .low) z in
         record { low = l; found = inr h; part = omega (arith, r .free page l (h .free l)) }
@@ -42,14 +43,14 @@ module _ {p : Sizes} {T : List ℕ} {g page : ℕ} (a : Seeking p g T page) wher
   points-low = ⊎-elim (λ h. found-next (a .regular) (a .usable) h .low) (λ h. h .low) (a .points)
 
   -- the page has room
-  pub points-next : usedOf p T page < 16 → Next p g page T
+  pub points-next : usedOf p T page < pageCells → Next p g page T
   points-next l = ⊎-elim (found-next (a .regular) (a .usable)) (λ h. absurd (let z : ⊥ = omega (arith, h .full) in z)) (a .points)
 
 -- after a cell of the page is taken
-pub took-points : {p : Sizes} {g q : ℕ} {T T′ : List ℕ} {c : ℕ} → Regular p T → 1 ≤ g → g ≤ regionsOf p → Took p g q T T′ c → Points p T′ g q
-took-points {p} {g} {q} {T} {T′} r real low t = at (decLt (usedOf p T′ q) 16)
+pub took-points : {p : Sizes} {g q : ℕ} {T T′ : List ℕ} {c : ℕ} → Regular p T → 1 ≤ g → g ≤ regions p → Took p g q T T′ c → Points p T′ g q
+took-points {p} {g} {q} {T} {T′} r real low t = at (decLt (usedOf p T′ q) pageCells)
   where
-    at : Dec (usedOf p T′ q < 16) → Points p T′ g q
+    at : Dec (usedOf p T′ q < pageCells) → Points p T′ g q
     at (yes m) = inl (inl (record { low = t .next .low; partial = record { owner = took-owner r real low t; part = m } }))
     at (no m) = inr (record { low = t .next .low; full = omega arith })
 

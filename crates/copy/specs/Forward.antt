@@ -3,47 +3,46 @@
 use mathlib.Core.Path.{_≡_, refl, sym, ap, _∙_, subst}
 use mathlib.Core.Logic.{_≢_, _⊎_, inl, inr, ⊎-elim}
 use mathlib.Core.List.{List}
-use Prim.Native.Nat.{ℕ, _+_, _-_, _*_, _/_, _≤_, _<_}
+use Prim.Native.Nat.{ℕ, _≤_, _<_}
 use native.Mathlib.Decide.{ℕ-discrete}
 use native.Mathlib.Omega.{arith}
 use lib.ListN.{length, getD}
 use Rattle.rules.specs.declared.Sizes.{Sizes}
-use Rattle.layout.specs.Places.{ownerOf, ownersFrom}
-use Rattle.layout.specs.Cells.{workOf}
+use Rattle.layout.specs.Places.{ownerOf, ownersFrom, cellsWords, tablesWords}
+use Rattle.layout.specs.Cells.{wordAt, workOf, refTo, cellNamed, pageOf, cellWords}
 use Rattle.layout.specs.Marks.{marked}
 use Rattle.layout.specs.Words.{InUse}
 use Rattle.copy.specs.Marks.{copied}
-use Rattle.copy.specs.Taking.{endOf}
 use Rattle.copy.specs.Moves.{Step, step-size, step-rest, step-off, step-on, step-new, step-in-use, step-home, step-keeps, step-owner, step-only, step-link, step-words}
 use Rattle.copy.specs.Passing.{Ready, Moves, Moves.none, Moves.more, step-back, moves-ready}
 use Rattle.copy.specs.Copying.{Plan, Copy, copy-clean, copy-copied}
 
 -- the object of the old cell c stands in cell d
 pub record Moved (p : Sizes) (W₀ T₀ W T : List ℕ) (c d : ℕ) : Type 0 where
-  pub forward : workOf W c ≡ 1 + d
+  pub forward : workOf W c ≡ refTo d
   pub new : InUse p T₀ d → ⊥
   pub used : InUse p T d
-  pub home : ownerOf p T (d / 16) ≡ workOf W₀ c
-  pub body : (i : ℕ) → i < 16 → i ≢ 1 → getD W (16 * d + i) 0 ≡ getD W₀ (16 * c + i) 0
+  pub home : ownerOf p T (pageOf d) ≡ workOf W₀ c
+  pub body : (i : ℕ) → i < cellWords → i ≢ 1 → getD W (wordAt d i) 0 ≡ getD W₀ (wordAt c i) 0
   pub clear : workOf W d ≡ 0
 
 pub record Gone (p : Sizes) (T₀ T : List ℕ) (c : ℕ) : Type 0 where
-  pub page : c / 16 < p .pages
+  pub page : pageOf c < p .pages
   pub was : marked p T₀ c ≡ 1
   pub now : marked p T c ≡ 0
 
 pub record Copying (p : Sizes) (W₀ T₀ W T : List ℕ) : Type 0 where
   pub cells-size : length W ≡ length W₀
   pub tables-size : length T ≡ length T₀
-  pub rest : (x : ℕ) → (x < ownersFrom p) ⊎ (endOf p ≤ x) → getD T x 0 ≡ getD T₀ x 0
-  pub beyond : (x : ℕ) → 256 * p .pages ≤ x → getD W x 0 ≡ getD W₀ x 0
+  pub rest : (x : ℕ) → (x < ownersFrom p) ⊎ (tablesWords p ≤ x) → getD T x 0 ≡ getD T₀ x 0
+  pub beyond : (x : ℕ) → cellsWords p ≤ x → getD W x 0 ≡ getD W₀ x 0
   pub keeps : (x : ℕ) → InUse p T₀ x → InUse p T x
-  pub owner : (x : ℕ) → InUse p T₀ x → ownerOf p T (x / 16) ≡ ownerOf p T₀ (x / 16)
-  pub back : (x : ℕ) → x / 16 < p .pages → marked p T x ≡ 1 → (marked p T₀ x ≡ 1) × (workOf W x ≡ workOf W₀ x)
-  pub words : (x i : ℕ) → i < 16 → InUse p T₀ x → i ≢ 1 → getD W (16 * x + i) 0 ≡ getD W₀ (16 * x + i) 0
+  pub owner : (x : ℕ) → InUse p T₀ x → ownerOf p T (pageOf x) ≡ ownerOf p T₀ (pageOf x)
+  pub back : (x : ℕ) → pageOf x < p .pages → marked p T x ≡ 1 → (marked p T₀ x ≡ 1) × (workOf W x ≡ workOf W₀ x)
+  pub words : (x i : ℕ) → i < cellWords → InUse p T₀ x → i ≢ 1 → getD W (wordAt x i) 0 ≡ getD W₀ (wordAt x i) 0
   pub links : (x : ℕ) → InUse p T₀ x → marked p T₀ x ≡ 0 → workOf W x ≡ workOf W₀ x
   pub moved : (c : ℕ) → Gone p T₀ T c → (d : ℕ) × Moved p W₀ T₀ W T c d
-  pub only : (d : ℕ) → InUse p T d → InUse p T₀ d ⊎ ((c : ℕ) × Gone p T₀ T c × (workOf W c ≡ 1 + d))
+  pub only : (d : ℕ) → InUse p T d → InUse p T₀ d ⊎ ((c : ℕ) × Gone p T₀ T c × (workOf W c ≡ refTo d))
   pub once : (b c : ℕ) → Gone p T₀ T b → Gone p T₀ T c → workOf W b ≡ workOf W c → b ≡ c
 
 pub copying-start : (p : Sizes) (W T : List ℕ) → Copying p W T W T
@@ -65,7 +64,7 @@ copying-start p W T =
 
 module _ {p : Sizes} {g q e : ℕ} {W₀ T₀ W T W′ T′ : List ℕ} (a₀ : Ready p W₀ T₀) (a : Ready p W T) (h : Copying p W₀ T₀ W T)
     (s : Step p g q e W T W′ T′) where
-  page : e / 16 < p .pages
+  page : pageOf e < p .pages
   page = s .can .used .page
 
   was-on : marked p T₀ e ≡ 1
@@ -78,7 +77,7 @@ module _ {p : Sizes} {g q e : ℕ} {W₀ T₀ W T W′ T′ : List ℕ} (a₀ : 
   before : (c : ℕ) → Gone p T₀ T′ c → c ≢ e → Gone p T₀ T c
   before c w ne = record { page = w .page; was = w .was; now = sym (step-on s c (w .page) ne) ∙ w .now }
 
-  used-now : (c : ℕ) → c / 16 < p .pages → marked p T₀ c ≡ 1 → InUse p T c
+  used-now : (c : ℕ) → pageOf c < p .pages → marked p T₀ c ≡ 1 → InUse p T c
   used-now c l on = h .keeps c (a₀ .used c l on)
 
   after : (c d : ℕ) → Gone p T₀ T c → c ≢ e → Moved p W₀ T₀ W T c d → Moved p W₀ T₀ W′ T′ c d
@@ -114,7 +113,7 @@ module _ {p : Sizes} {g q e : ℕ} {W₀ T₀ W T W′ T′ : List ℕ} (a₀ : 
   alone : (c : ℕ) → Gone p T₀ T c → workOf W′ c ≡ workOf W′ e → ⊥
   alone c w z =
       let m = h .moved c w in
-      let f : workOf W c ≡ 1 + m .0 = m .1 .forward in
+      let f : workOf W c ≡ refTo (m .0) = m .1 .forward in
       let f′ : workOf W′ c ≡ workOf W c = step-link s c (used-now c (w .page) (w .was)) (not-e c w) in
       let y : m .0 ≡ s .new = omega (arith, s .copied .forward) in
       step-new s (subst (λ (x : ℕ). InUse p T x) y (m .1 .used))
@@ -135,7 +134,7 @@ module _ {p : Sizes} {g q e : ℕ} {W₀ T₀ W T W′ T′ : List ℕ} (a₀ : 
             (λ z. let on : marked p T₀ x ≡ 1 = subst (λ (y : ℕ). marked p T₀ y ≡ 1) (sym z) was-on in omega arith)
             ∙ h .links x u off;
         moved = λ c w. moved′ c w (ℕ-discrete c e);
-        only = λ d u. ⊎-elim (λ v. was′ d (h .only d v)) (λ z. inr (e, gone-e, s .copied .forward ∙ ap (λ (x : ℕ). 1 + x) (sym z))) (step-only s d u);
+        only = λ d u. ⊎-elim (λ v. was′ d (h .only d v)) (λ z. inr (e, gone-e, s .copied .forward ∙ ap (λ (x : ℕ). refTo x) (sym z))) (step-only s d u);
         once = λ b c v w z. once′ b c v w z (ℕ-discrete b e) (ℕ-discrete c e);
       }
     where
@@ -146,7 +145,7 @@ module _ {p : Sizes} {g q e : ℕ} {W₀ T₀ W T W′ T′ : List ℕ} (a₀ : 
       moved′ c w (yes z) = (s .new, subst (λ (x : ℕ). Moved p W₀ T₀ W′ T′ x (s .new)) (sym z) here)
       moved′ c w (no n) = let v = before c w n in let m = h .moved c v in (m .0, after c (m .0) v n (m .1))
 
-      was′ : (d : ℕ) → InUse p T₀ d ⊎ ((c : ℕ) × Gone p T₀ T c × (workOf W c ≡ 1 + d)) → InUse p T₀ d ⊎ ((c : ℕ) × Gone p T₀ T′ c × (workOf W′ c ≡ 1 + d))
+      was′ : (d : ℕ) → InUse p T₀ d ⊎ ((c : ℕ) × Gone p T₀ T c × (workOf W c ≡ refTo d)) → InUse p T₀ d ⊎ ((c : ℕ) × Gone p T₀ T′ c × (workOf W′ c ≡ refTo d))
       was′ d (inl u) = inl u
       was′ d (inr q) =
           inr (q .0, still (q .0) (q .1), step-link s (q .0) (used-now (q .0) (q .1 .page) (q .1 .was)) (not-e (q .0) (q .1)) ∙ q .2)
@@ -169,14 +168,14 @@ moves-copying a (more b h u v s) = copying-step a (moves-ready a b) (moves-copyi
 
 -- the map on references to r's cells, as the words have it after the copy
 abbrev pub forward : List ℕ → ℕ → ℕ
-forward W c = workOf W c - 1
+forward W c = cellNamed (workOf W c)
 
 pub record Forwards (p : Sizes) (W₀ T₀ W T : List ℕ) : Type 0 where
   pub copying : Copying p W₀ T₀ W T
-  pub bits : (c : ℕ) → c / 16 < p .pages → copied p T c ≡ marked p T₀ c
-  pub moved : (c : ℕ) → c / 16 < p .pages → marked p T₀ c ≡ 1 → Moved p W₀ T₀ W T c (forward W c)
-  pub once : (b c : ℕ) → b / 16 < p .pages → marked p T₀ b ≡ 1 → c / 16 < p .pages → marked p T₀ c ≡ 1 → forward W b ≡ forward W c → b ≡ c
-  pub only : (d : ℕ) → InUse p T d → InUse p T₀ d ⊎ ((c : ℕ) × (c / 16 < p .pages) × (marked p T₀ c ≡ 1) × (forward W c ≡ d))
+  pub bits : (c : ℕ) → pageOf c < p .pages → copied p T c ≡ marked p T₀ c
+  pub moved : (c : ℕ) → pageOf c < p .pages → marked p T₀ c ≡ 1 → Moved p W₀ T₀ W T c (forward W c)
+  pub once : (b c : ℕ) → pageOf b < p .pages → marked p T₀ b ≡ 1 → pageOf c < p .pages → marked p T₀ c ≡ 1 → forward W b ≡ forward W c → b ≡ c
+  pub only : (d : ℕ) → InUse p T d → InUse p T₀ d ⊎ ((c : ℕ) × (pageOf c < p .pages) × (marked p T₀ c ≡ 1) × (forward W c ≡ d))
 
 pub copy-forwards : {p : Sizes} {n : ℕ} {gs : ℕ → ℕ} {W T W′ T′ : List ℕ} → Plan p n gs W T → Copy p n gs n W T W′ T′ → Forwards p W T W′ T′
 copy-forwards {p} {n} {gs} {W} {T} {W′} {T′} a b =
@@ -193,10 +192,10 @@ copy-forwards {p} {n} {gs} {W} {T} {W′} {T′} a b =
     h : Copying p W T W′ T′
     h = moves-copying (a .ready) (b .moves)
 
-    gone : (c : ℕ) → c / 16 < p .pages → marked p T c ≡ 1 → Gone p T T′ c
+    gone : (c : ℕ) → pageOf c < p .pages → marked p T c ≡ 1 → Gone p T T′ c
     gone c l on = record { page = l; was = on; now = copy-clean a b c l }
 
-    moved′ : (c : ℕ) → c / 16 < p .pages → marked p T c ≡ 1 → Moved p W T W′ T′ c (forward W′ c)
+    moved′ : (c : ℕ) → pageOf c < p .pages → marked p T c ≡ 1 → Moved p W T W′ T′ c (forward W′ c)
     moved′ c l on =
         let m = h .moved c (gone c l on) in
         let e : m .0 ≡ forward W′ c = omega (arith, m .1 .forward) in

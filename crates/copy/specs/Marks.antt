@@ -3,7 +3,7 @@ use mathlib.Core.Path.{_≡_, ap, _∙_}
 use mathlib.Core.Logic.{_≢_, _⊎_, inl, inr}
 use mathlib.Core.Bool.{Bool, cond}
 use mathlib.Core.List.{List}
-use Prim.Native.Nat.{ℕ, _+_, _-_, _*_, _/_, _%_, _^_, _<_}
+use Prim.Native.Nat.{ℕ, _+_, _-_, _*_, _^_, _<_}
 use native.Mathlib.Decide.{ℕ-discrete, decLt}
 use native.Mathlib.Omega.{arith}
 use borrow.Author.Tests.{eq-eqb, ne-eqb}
@@ -12,8 +12,9 @@ use Rattle.lists.specs.Bits.{bitAt, bit-lt, no-bits, none-high, set-same, set-o
 use Rattle.lists.specs.Counting.{sum}
 use Rattle.rules.specs.declared.Sizes.{Sizes}
 use Rattle.layout.specs.Places.{markAt, markOf}
-use Rattle.layout.specs.Cells.{workOf}
+use Rattle.layout.specs.Cells.{workOf, pageOf, placeOf, pageCells}
 use Rattle.layout.specs.Marks.{marked}
+use Rattle.layout.specs.Words.{cellCount}
 
 -- ---- x where a and b are the same, else 0
 
@@ -30,27 +31,27 @@ then-no a b x ne = ap (λ (t : Bool). cond t x 0) (ne-eqb a b ne)
 
 -- where the mark word of cell c's page stands
 abbrev pub marksAt : Sizes → ℕ → ℕ
-marksAt p c = markAt p (c / 16)
+marksAt p c = markAt p (pageOf c)
 
 -- A survivor that waits has its bit in the lower half of the mark word. Once it is copied, the bit stands in the upper half.
 abbrev pub copied : Sizes → List ℕ → ℕ → ℕ
-copied p T c = bitAt (markOf p T (c / 16)) (16 + c % 16)
+copied p T c = bitAt (markOf p T (pageOf c)) (pageCells + placeOf c)
 
 abbrev pub raised : ℕ → ℕ → ℕ
-raised w i = w - 2 ^ i + 2 ^ (16 + i)
+raised w i = w - 2 ^ i + 2 ^ (pageCells + i)
 
-module _ (w i : ℕ) (on : bitAt w i ≡ 1) (fresh : bitAt w (16 + i) ≡ 0) where
-  pub clear-fresh : bitAt (w - 2 ^ i) (16 + i) ≡ 0
-  clear-fresh = clear-other i (16 + i) w on (λ e. omega arith) ∙ fresh
+module _ (w i : ℕ) (on : bitAt w i ≡ 1) (fresh : bitAt w (pageCells + i) ≡ 0) where
+  pub clear-fresh : bitAt (w - 2 ^ i) (pageCells + i) ≡ 0
+  clear-fresh = clear-other i (pageCells + i) w on (λ e. omega arith) ∙ fresh
 
   pub raised-off : bitAt (raised w i) i ≡ 0
-  raised-off = set-other (16 + i) i (w - 2 ^ i) clear-fresh (λ e. omega arith) ∙ clear-same i w on
+  raised-off = set-other (pageCells + i) i (w - 2 ^ i) clear-fresh (λ e. omega arith) ∙ clear-same i w on
 
-  pub raised-on : bitAt (raised w i) (16 + i) ≡ 1
-  raised-on = set-same (16 + i) (w - 2 ^ i) clear-fresh
+  pub raised-on : bitAt (raised w i) (pageCells + i) ≡ 1
+  raised-on = set-same (pageCells + i) (w - 2 ^ i) clear-fresh
 
-  pub raised-other : (j : ℕ) → j ≢ i → j ≢ 16 + i → bitAt (raised w i) j ≡ bitAt w j
-  raised-other j ne nu = set-other (16 + i) j (w - 2 ^ i) clear-fresh nu ∙ clear-other i j w on ne
+  pub raised-other : (j : ℕ) → j ≢ i → j ≢ pageCells + i → bitAt (raised w i) j ≡ bitAt w j
+  raised-other j ne nu = set-other (pageCells + i) j (w - 2 ^ i) clear-fresh nu ∙ clear-other i j w on ne
 
 -- a cell is marked or not
 pub mark? : (p : Sizes) (T : List ℕ) (c : ℕ) → (marked p T c ≡ 0) ⊎ (marked p T c ≡ 1)
@@ -58,7 +59,7 @@ mark? p T c = go (ℕ-discrete (marked p T c) 0)
   where
     go : Dec (marked p T c ≡ 0) → (marked p T c ≡ 0) ⊎ (marked p T c ≡ 1)
     go (yes e) = inl e
-    go (no n) = inr (omega (arith, bit-lt (c % 16) (markOf p T (c / 16))))
+    go (no n) = inr (omega (arith, bit-lt (placeOf c) (markOf p T (pageOf c))))
 
 -- a word below 2 ^ k with none of its bits set
 pub all-clear : (k w : ℕ) → w < 2 ^ k → ((i : ℕ) → i < k → bitAt w i ≡ 0) → w ≡ 0
@@ -86,4 +87,4 @@ unfolding hit
 hit-no W g c ne = then-no (workOf W c) g 1 ne
 
 unfoldable pub hits : Sizes → List ℕ → List ℕ → ℕ → ℕ
-hits p W T g = sum (λ c. marked p T c * hit W g c) (16 * p .pages)
+hits p W T g = sum (λ c. marked p T c * hit W g c) (cellCount p)

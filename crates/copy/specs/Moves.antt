@@ -2,7 +2,7 @@
 use mathlib.Core.Path.{_≡_, refl, sym, ap, ap₂, _∙_, subst}
 use mathlib.Core.Logic.{_≢_, _⊎_, inl, inr}
 use mathlib.Core.List.{List}
-use Prim.Native.Nat.{ℕ, _+_, _*_, _/_, _%_, _^_, _≤_, _<_}
+use Prim.Native.Nat.{ℕ, _+_, _^_, _≤_, _<_}
 use native.Mathlib.Decide.{ℕ-discrete, decLt}
 use native.Mathlib.Omega.{arith}
 use lib.ListN.{length, getD, set, length-set}
@@ -11,81 +11,82 @@ use Rattle.lists.specs.Bits.{bitAt}
 use Rattle.lists.specs.Counting.{sum-same, sum-high}
 use Rattle.rules.specs.Graph.{pagesOf}
 use Rattle.rules.specs.declared.Sizes.{Sizes}
-use Rattle.layout.specs.Places.{Room, ownerAt, usedAt, markAt, countAt, ownerOf, usedOf, markOf, countOf, countsFrom, marksFrom, ownersFrom}
-use Rattle.layout.specs.Cells.{workOf}
+use Rattle.rules.specs.Regions.{regions}
+use Rattle.layout.specs.Places.{Room, ownerAt, usedAt, markAt, countAt, ownerOf, usedOf, markOf, countOf, countsFrom, marksFrom, ownersFrom, cellsWords, tablesWords, count-room}
+use Rattle.layout.specs.Cells.{wordAt, headAt, workAt, workOf, refTo, pageOf, placeOf, cellOf, pageCells, cellWords}
 use Rattle.layout.specs.Marks.{marked}
-use Rattle.layout.specs.Words.{InUse}
+use Rattle.layout.specs.Words.{InUse, cellCount}
 use Rattle.promises.specs.Whole.{objectsOn, objectsOf}
 use Rattle.pages.specs.Pages.{Partly}
+use Rattle.pages.specs.Owned.{ownedOne, ownedIn}
 use Rattle.copy.specs.Marks.{marksAt, copied, raised, raised-off, raised-on, raised-other, sameThen, then-yes, then-no}
 use Rattle.copy.specs.Cursor.{Points, took-points, points-same}
-use Rattle.pages.specs.Owned.{regionsOf}
-use Rattle.copy.specs.Taking.{endOf, ownedOn, pagesOwned, Next, Took, Regular, took-length, took-other, took-marks, took-regular, took-objects, took-objects-other, took-pages, took-new, took-in-use, took-home, took-keeps, took-only}
+use Rattle.copy.specs.Taking.{owned-same, Next, Took, Regular, took-length, took-other, took-marks, took-regular, took-objects, took-objects-other, took-pages, took-new, took-in-use, took-home, took-keeps, took-only}
 
 -- ---- the words of a cell
 
 -- words below n of cell d are those of cell c, and nothing else is changed
 pub record Half (c d n : ℕ) (W W′ : List ℕ) : Type 0 where
   pub size : length W′ ≡ length W
-  pub body : (i : ℕ) → i < n → getD W′ (16 * d + i) 0 ≡ getD W (16 * c + i) 0
-  pub same : (x : ℕ) → (16 * d ≤ x → 16 * d + n ≤ x) → getD W′ x 0 ≡ getD W x 0
+  pub body : (i : ℕ) → i < n → getD W′ (wordAt d i) 0 ≡ getD W (wordAt c i) 0
+  pub same : (x : ℕ) → (headAt d ≤ x → wordAt d n ≤ x) → getD W′ x 0 ≡ getD W x 0
 
 pub half-start : (c d : ℕ) (W : List ℕ) → Half c d 0 W W
 half-start c d W =
     record { size = refl; body = λ i l. absurd (let z : ⊥ = omega arith in z); same = λ x h. refl }
 
-pub half-next : {c d n : ℕ} {W W′ : List ℕ} → c ≢ d → n < 16 → 16 * d + 16 ≤ length W → Half c d n W W′
-    → Half c d (n + 1) W (set W′ (16 * d + n) (getD W′ (16 * c + n) 0))
+pub half-next : {c d n : ℕ} {W W′ : List ℕ} → c ≢ d → n < cellWords → wordAt d cellWords ≤ length W → Half c d n W W′
+    → Half c d (n + 1) W (set W′ (wordAt d n) (getD W′ (wordAt c n) 0))
 half-next {c} {d} {n} {W} {W′} ne lt long h =
     record {
-      size = length-set W′ (16 * d + n) v ∙ h .size;
+      size = length-set W′ (wordAt d n) v ∙ h .size;
       body = λ i l. at i l (ℕ-discrete i n);
       same = λ x k.
-          getD-set-other W′ (16 * d + n) x v 0 (λ e. let z : 16 * d + (n + 1) ≤ x = k (omega arith) in omega arith)
-          ∙ h .same x (λ l. let z : 16 * d + (n + 1) ≤ x = k l in omega arith);
+          getD-set-other W′ (wordAt d n) x v 0 (λ e. let z : wordAt d (n + 1) ≤ x = k (omega arith) in omega arith)
+          ∙ h .same x (λ l. let z : wordAt d (n + 1) ≤ x = k l in omega arith);
     }
   where
     v : ℕ
-    v = getD W′ (16 * c + n) 0
+    v = getD W′ (wordAt c n) 0
 
-    at : (i : ℕ) → i < n + 1 → Dec (i ≡ n) → getD (set W′ (16 * d + n) v) (16 * d + i) 0 ≡ getD W (16 * c + i) 0
+    at : (i : ℕ) → i < n + 1 → Dec (i ≡ n) → getD (set W′ (wordAt d n) v) (wordAt d i) 0 ≡ getD W (wordAt c i) 0
     at i l (yes e) =
-        subst (λ (j : ℕ). getD (set W′ (16 * d + n) v) (16 * d + j) 0 ≡ getD W (16 * c + j) 0) (sym e)
-        (getD-set-same W′ (16 * d + n) v 0 (omega (arith, h .size)) ∙ h .same (16 * c + n) (λ k. absurd-le k (decLt c d)))
+        subst (λ (j : ℕ). getD (set W′ (wordAt d n) v) (wordAt d j) 0 ≡ getD W (wordAt c j) 0) (sym e)
+        (getD-set-same W′ (wordAt d n) v 0 (omega (arith, h .size)) ∙ h .same (wordAt c n) (λ k. absurd-le k (decLt c d)))
       where
-        absurd-le : 16 * d ≤ 16 * c + n → Dec (c < d) → 16 * d + n ≤ 16 * c + n
+        absurd-le : headAt d ≤ wordAt c n → Dec (c < d) → wordAt d n ≤ wordAt c n
         absurd-le k (yes a) = omega arith
         absurd-le k (no a) = omega arith
-    at i l (no m) = getD-set-other W′ (16 * d + n) (16 * d + i) v 0 (λ e. m (omega arith)) ∙ h .body i (omega arith)
+    at i l (no m) = getD-set-other W′ (wordAt d n) (wordAt d i) v 0 (λ e. m (omega arith)) ∙ h .body i (omega arith)
 
 pub record Copied (c d : ℕ) (W W′ : List ℕ) : Type 0 where
   pub size : length W′ ≡ length W
-  pub body : (i : ℕ) → i < 16 → i ≢ 1 → getD W′ (16 * d + i) 0 ≡ getD W (16 * c + i) 0
+  pub body : (i : ℕ) → i < cellWords → i ≢ 1 → getD W′ (wordAt d i) 0 ≡ getD W (wordAt c i) 0
   pub clear : workOf W′ d ≡ 0
-  pub forward : workOf W′ c ≡ 1 + d
-  pub same : (x : ℕ) → x ≢ 16 * c + 1 → x / 16 ≢ d → getD W′ x 0 ≡ getD W x 0
+  pub forward : workOf W′ c ≡ refTo d
+  pub same : (x : ℕ) → x ≢ workAt c → cellOf x ≢ d → getD W′ x 0 ≡ getD W x 0
 
-pub half-copied : {c d : ℕ} {W W′ : List ℕ} → c ≢ d → 16 * d + 16 ≤ length W → 16 * c + 16 ≤ length W → Half c d 16 W W′ → (v : ℕ) → v ≡ 1 + d
-    → Copied c d W (set (set W′ (16 * d + 1) 0) (16 * c + 1) v)
+pub half-copied : {c d : ℕ} {W W′ : List ℕ} → c ≢ d → wordAt d cellWords ≤ length W → wordAt c cellWords ≤ length W → Half c d cellWords W W′ → (v : ℕ) → v ≡ refTo d
+    → Copied c d W (set (set W′ (workAt d) 0) (workAt c) v)
 half-copied {c} {d} {W} {W′} ne ld lc h v e =
     record {
-      size = length-set X (16 * c + 1) v ∙ length-set W′ (16 * d + 1) 0 ∙ h .size;
+      size = length-set X (workAt c) v ∙ length-set W′ (workAt d) 0 ∙ h .size;
       body = λ i l n.
-          getD-set-other X (16 * c + 1) (16 * d + i) v 0 (λ z. ne (omega arith))
-          ∙ getD-set-other W′ (16 * d + 1) (16 * d + i) 0 0 (λ z. n (omega arith)) ∙ h .body i l;
+          getD-set-other X (workAt c) (wordAt d i) v 0 (λ z. ne (omega arith))
+          ∙ getD-set-other W′ (workAt d) (wordAt d i) 0 0 (λ z. n (omega arith)) ∙ h .body i l;
       clear =
-          getD-set-other X (16 * c + 1) (16 * d + 1) v 0 (λ z. ne (omega arith))
-          ∙ getD-set-same W′ (16 * d + 1) 0 0 (omega (arith, h .size));
-      forward = getD-set-same X (16 * c + 1) v 0 (omega (arith, h .size, length-set W′ (16 * d + 1) 0)) ∙ e;
+          getD-set-other X (workAt c) (workAt d) v 0 (λ z. ne (omega arith))
+          ∙ getD-set-same W′ (workAt d) 0 0 (omega (arith, h .size));
+      forward = getD-set-same X (workAt c) v 0 (omega (arith, h .size, length-set W′ (workAt d) 0)) ∙ e;
       same = λ x a b.
-          getD-set-other X (16 * c + 1) x v 0 a ∙ getD-set-other W′ (16 * d + 1) x 0 0 (λ z. b (omega arith))
-          ∙ h .same x (λ l. past x l b (decLt x (16 * d + 16)));
+          getD-set-other X (workAt c) x v 0 a ∙ getD-set-other W′ (workAt d) x 0 0 (λ z. b (omega arith))
+          ∙ h .same x (λ l. past x l b (decLt x (wordAt d cellWords)));
     }
   where
     X : List ℕ
-    X = set W′ (16 * d + 1) 0
+    X = set W′ (workAt d) 0
 
-    past : (x : ℕ) → 16 * d ≤ x → x / 16 ≢ d → Dec (x < 16 * d + 16) → 16 * d + 16 ≤ x
+    past : (x : ℕ) → headAt d ≤ x → cellOf x ≢ d → Dec (x < wordAt d cellWords) → wordAt d cellWords ≤ x
     past x l b (yes z) = absurd (b (omega arith))
     past x l b (no z) = omega arith
 
@@ -95,9 +96,9 @@ half-copied {c} {d} {W} {W′} ne ld lc h v e =
 pub record Movable (p : Sizes) (g q : ℕ) (W T : List ℕ) (c : ℕ) : Type 0 where
   pub regular : Regular p T
   pub real : 1 ≤ g
-  pub low : g ≤ regionsOf p
+  pub low : g ≤ regions p
   pub next : Next p g q T
-  pub cells-long : 256 * p .pages ≤ length W
+  pub cells-long : cellsWords p ≤ length W
   pub used : InUse p T c
   pub on : marked p T c ≡ 1
   pub fresh : copied p T c ≡ 0
@@ -109,31 +110,31 @@ pub record Step (p : Sizes) (g q c : ℕ) (W T W′ T′ : List ℕ) : Type 0 wh
   pub mid : List ℕ
   pub took : Took p g q T mid new
   pub copied : Copied c new W W′
-  pub tables : T′ ≡ set mid (marksAt p c) (raised (getD mid (marksAt p c) 0) (c % 16))
+  pub tables : T′ ≡ set mid (marksAt p c) (raised (getD mid (marksAt p c) 0) (placeOf c))
 
-pub objects-few : {p : Sizes} {T : List ℕ} → Regular p T → (g : ℕ) → objectsOf p T g ≤ 16 * p .pages
-objects-few {p} {T} r g = sum-high (objectsOn p T g) 16 (p .pages) (λ x l. few x l (ℕ-discrete (ownerOf p T x) g))
+pub objects-few : {p : Sizes} {T : List ℕ} → Regular p T → (g : ℕ) → objectsOf p T g ≤ cellCount p
+objects-few {p} {T} r g = sum-high (objectsOn p T g) pageCells (p .pages) (λ x l. few x l (ℕ-discrete (ownerOf p T x) g))
   where
-    few : (x : ℕ) → x < p .pages → Dec (ownerOf p T x ≡ g) → objectsOn p T g x ≤ 16
+    few : (x : ℕ) → x < p .pages → Dec (ownerOf p T x ≡ g) → objectsOn p T g x ≤ pageCells
     few x l (yes e) = omega (arith, then-yes (ownerOf p T x) g (usedOf p T x) e, r .full x l)
     few x l (no n) = omega (arith, then-no (ownerOf p T x) g (usedOf p T x) n)
 
-pub count-fits : {p : Sizes} {T : List ℕ} → Regular p T → (g : ℕ) → 1 ≤ g → g ≤ regionsOf p → countOf p T g + 1 < 2 ^ 32
+pub count-fits : {p : Sizes} {T : List ℕ} → Regular p T → (g : ℕ) → 1 ≤ g → g ≤ regions p → countOf p T g + 1 < 2 ^ 32
 count-fits {p} {T} r g real low = omega (arith, r .room .few, r .count g real low, objects-few r g)
 
 -- what the move needs of the cell that was taken
 pub record Taken (p : Sizes) (W T T′ : List ℕ) (c d at i : ℕ) : Type 0 where
   pub apart : c ≢ d
   pub few : p .pages ≤ 1024
-  pub cell : d / 16 < p .pages
-  pub old : c / 16 < p .pages
-  pub long : 256 * p .pages ≤ length W
+  pub cell : pageOf d < p .pages
+  pub old : pageOf c < p .pages
+  pub long : cellsWords p ≤ length W
   pub word : at < length T′
   pub same : length T′ ≡ length T
   pub on : bitAt (getD T′ at 0) i ≡ 1
-  pub fresh : bitAt (getD T′ at 0) (16 + i) ≡ 0
+  pub fresh : bitAt (getD T′ at 0) (pageCells + i) ≡ 0
 
-pub movable-taken : {p : Sizes} {g q : ℕ} {W T T′ : List ℕ} {c d : ℕ} → Movable p g q W T c → Took p g q T T′ d → Taken p W T T′ c d (marksAt p c) (c % 16)
+pub movable-taken : {p : Sizes} {g q : ℕ} {W T T′ : List ℕ} {c d : ℕ} → Movable p g q W T c → Took p g q T T′ d → Taken p W T T′ c d (marksAt p c) (placeOf c)
 movable-taken {p} {g} {q} {W} {T} {T′} {c} {d} m t =
     let r = m .regular in
     let l = took-length r (m .real) (m .low) t in
@@ -145,8 +146,8 @@ movable-taken {p} {g} {q} {W} {T} {T′} {c} {d} m t =
       long = m .cells-long;
       word = omega (arith, r .room, m .used .page, l);
       same = l;
-      on = ap (λ (x : ℕ). bitAt x (c % 16)) (took-marks r (m .real) (m .low) t (c / 16) (m .used .page)) ∙ m .on;
-      fresh = ap (λ (x : ℕ). bitAt x (16 + c % 16)) (took-marks r (m .real) (m .low) t (c / 16) (m .used .page)) ∙ m .fresh;
+      on = ap (λ (x : ℕ). bitAt x (placeOf c)) (took-marks r (m .real) (m .low) t (pageOf c) (m .used .page)) ∙ m .on;
+      fresh = ap (λ (x : ℕ). bitAt x (pageCells + placeOf c)) (took-marks r (m .real) (m .low) t (pageOf c) (m .used .page)) ∙ m .fresh;
     }
 
 -- ---- words of pages and regions that stay
@@ -162,9 +163,8 @@ module _ {p : Sizes} {T T′ : List ℕ} (r : Regular p T) (e : PagesKept p T T�
       sum-same (objectsOn p T′ g) (objectsOn p T g) (p .pages)
       (λ x l. ap₂ (λ (a b : ℕ). sameThen a g b) (e .pages (ownerAt p x) (omega arith)) (e .pages (usedAt p x) (omega arith)))
 
-  pub kept-owned : (g : ℕ) → pagesOwned p T′ g ≡ pagesOwned p T g
-  unfolding pagesOwned
-  kept-owned g = sum-same (ownedOn p T′ g) (ownedOn p T g) (p .pages) (λ x l. ap (λ (a : ℕ). sameThen a g 1) (e .pages (ownerAt p x) (omega arith)))
+  pub kept-owned : (g : ℕ) → ownedIn p T′ g (p .pages) ≡ ownedIn p T g (p .pages)
+  kept-owned g = sum-same (ownedOne p T′ g) (ownedOne p T g) (p .pages) (λ x l. owned-same p T T′ g x (e .pages (ownerAt p x) (omega arith)))
 
   was : (g a : ℕ) → Partly p T′ g a → Partly p T g a
   was g a w =
@@ -199,12 +199,12 @@ module _ {p : Sizes} {g q c : ℕ} {W T W′ T′ : List ℕ} (s : Step p g q c 
   r₁ = took-regular (s .can .regular) (s .can .real) (s .can .low) (s .took)
 
   mid-size : length T′ ≡ length (s .mid)
-  mid-size = ap length (s .tables) ∙ length-set (s .mid) (marksAt p c) (raised (getD (s .mid) (marksAt p c) 0) (c % 16))
+  mid-size = ap length (s .tables) ∙ length-set (s .mid) (marksAt p c) (raised (getD (s .mid) (marksAt p c) 0) (placeOf c))
 
   mid-other : (x : ℕ) → x ≢ marksAt p c → getD T′ x 0 ≡ getD (s .mid) x 0
   mid-other x ne =
       ap (λ (X : List ℕ). getD X x 0) (s .tables)
-      ∙ getD-set-other (s .mid) (marksAt p c) x (raised (getD (s .mid) (marksAt p c) 0) (c % 16)) 0 ne
+      ∙ getD-set-other (s .mid) (marksAt p c) x (raised (getD (s .mid) (marksAt p c) 0) (placeOf c)) 0 ne
 
   mid-pages : (x : ℕ) → x < marksFrom p → getD T′ x 0 ≡ getD (s .mid) x 0
   mid-pages x l = mid-other x (λ e. omega arith)
@@ -228,7 +228,7 @@ module _ {p : Sizes} {g q c : ℕ} {W T W′ T′ : List ℕ} (s : Step p g q c 
   step-objects-other h pos ne =
       kept-objects r₁ mid-kept h ∙ took-objects-other (s .can .regular) (s .can .real) (s .can .low) (s .took) h pos ne
 
-  pub step-pages : pagesOf (objectsOf p T′ g) + pagesOwned p T′ 0 ≡ pagesOf (objectsOf p T g) + pagesOwned p T 0
+  pub step-pages : pagesOf (objectsOf p T′ g) + ownedIn p T′ 0 (p .pages) ≡ pagesOf (objectsOf p T g) + ownedIn p T 0 (p .pages)
   step-pages =
       omega (
         arith,
@@ -238,50 +238,50 @@ module _ {p : Sizes} {g q c : ℕ} {W T W′ T′ : List ℕ} (s : Step p g q c 
       )
 
   -- words of the tables that are neither a page's nor a count
-  pub step-rest : (x : ℕ) → (x < ownersFrom p) ⊎ (endOf p ≤ x) → getD T′ x 0 ≡ getD T x 0
+  pub step-rest : (x : ℕ) → (x < ownersFrom p) ⊎ (tablesWords p ≤ x) → getD T′ x 0 ≡ getD T x 0
   step-rest x (inl l) =
       mid-pages x (omega arith)
       ∙ took-other (s .can .regular) (s .can .real) (s .can .low) (s .took) x (λ e. omega arith) (λ e. omega arith) (λ e. omega arith)
   step-rest x (inr l) =
-      mid-counts x (omega arith)
-      ∙ took-other (s .can .regular) (s .can .real) (s .can .low) (s .took) x (λ e. omega (arith, s .took .next .low)) (λ e. omega (arith, s .took .next .low))
-      (λ e. omega (arith, s .can .real, s .can .low))
+      mid-counts x (omega (arith, count-room p))
+      ∙ took-other (s .can .regular) (s .can .real) (s .can .low) (s .took) x (λ e. omega (arith, s .took .next .low, count-room p)) (λ e. omega (arith, s .took .next .low, count-room p))
+      (λ e. omega (arith, s .can .real, s .can .low, count-room p))
 
   -- marks
-  mark-here : getD T′ (marksAt p c) 0 ≡ raised (getD T (marksAt p c) 0) (c % 16)
+  mark-here : getD T′ (marksAt p c) 0 ≡ raised (getD T (marksAt p c) 0) (placeOf c)
   mark-here =
       ap (λ (X : List ℕ). getD X (marksAt p c) 0) (s .tables)
-      ∙ getD-set-same (s .mid) (marksAt p c) (raised (getD (s .mid) (marksAt p c) 0) (c % 16)) 0 mid-long
-      ∙ ap (λ (x : ℕ). raised x (c % 16)) (took-marks (s .can .regular) (s .can .real) (s .can .low) (s .took) (c / 16) (s .can .used .page))
+      ∙ getD-set-same (s .mid) (marksAt p c) (raised (getD (s .mid) (marksAt p c) 0) (placeOf c)) 0 mid-long
+      ∙ ap (λ (x : ℕ). raised x (placeOf c)) (took-marks (s .can .regular) (s .can .real) (s .can .low) (s .took) (pageOf c) (s .can .used .page))
 
   -- other pages keep their mark word
-  pub step-marks : (q : ℕ) → q < p .pages → q ≢ c / 16 → markOf p T′ q ≡ markOf p T q
+  pub step-marks : (q : ℕ) → q < p .pages → q ≢ pageOf c → markOf p T′ q ≡ markOf p T q
   step-marks q l n =
       mid-other (markAt p q) (λ e. n (omega arith)) ∙ took-marks (s .can .regular) (s .can .real) (s .can .low) (s .took) q l
 
-  step-bit : (q j : ℕ) → q < p .pages → (q ≡ c / 16 → (j ≢ c % 16) × (j ≢ 16 + c % 16)) → bitAt (markOf p T′ q) j ≡ bitAt (markOf p T q) j
-  step-bit q j l h = go (ℕ-discrete q (c / 16))
+  step-bit : (q j : ℕ) → q < p .pages → (q ≡ pageOf c → (j ≢ placeOf c) × (j ≢ pageCells + placeOf c)) → bitAt (markOf p T′ q) j ≡ bitAt (markOf p T q) j
+  step-bit q j l h = go (ℕ-discrete q (pageOf c))
     where
-      go : Dec (q ≡ c / 16) → bitAt (markOf p T′ q) j ≡ bitAt (markOf p T q) j
+      go : Dec (q ≡ pageOf c) → bitAt (markOf p T′ q) j ≡ bitAt (markOf p T q) j
       go (yes e) =
           subst (λ (y : ℕ). bitAt (markOf p T′ y) j ≡ bitAt (markOf p T y) j) (sym e)
-          (ap (λ (y : ℕ). bitAt y j) mark-here ∙ raised-other (getD T (marksAt p c) 0) (c % 16) (s .can .on) (s .can .fresh) j (h e .0) (h e .1))
+          (ap (λ (y : ℕ). bitAt y j) mark-here ∙ raised-other (getD T (marksAt p c) 0) (placeOf c) (s .can .on) (s .can .fresh) j (h e .0) (h e .1))
       go (no n) = ap (λ (y : ℕ). bitAt y j) (step-marks q l n)
 
   pub step-off : marked p T′ c ≡ 0
-  step-off = ap (λ (x : ℕ). bitAt x (c % 16)) mark-here ∙ raised-off (getD T (marksAt p c) 0) (c % 16) (s .can .on) (s .can .fresh)
+  step-off = ap (λ (x : ℕ). bitAt x (placeOf c)) mark-here ∙ raised-off (getD T (marksAt p c) 0) (placeOf c) (s .can .on) (s .can .fresh)
 
   step-copied : copied p T′ c ≡ 1
-  step-copied = ap (λ (x : ℕ). bitAt x (16 + c % 16)) mark-here ∙ raised-on (getD T (marksAt p c) 0) (c % 16) (s .can .on) (s .can .fresh)
+  step-copied = ap (λ (x : ℕ). bitAt x (pageCells + placeOf c)) mark-here ∙ raised-on (getD T (marksAt p c) 0) (placeOf c) (s .can .on) (s .can .fresh)
 
-  pub step-on : (x : ℕ) → x / 16 < p .pages → x ≢ c → marked p T′ x ≡ marked p T x
-  step-on x l ne = step-bit (x / 16) (x % 16) l (λ e. (λ z. ne (omega arith), λ z. omega arith))
+  pub step-on : (x : ℕ) → pageOf x < p .pages → x ≢ c → marked p T′ x ≡ marked p T x
+  step-on x l ne = step-bit (pageOf x) (placeOf x) l (λ e. (λ z. ne (omega arith), λ z. omega arith))
 
-  pub step-copied-other : (x : ℕ) → x / 16 < p .pages → x ≢ c → copied p T′ x ≡ copied p T x
-  step-copied-other x l ne = step-bit (x / 16) (16 + x % 16) l (λ e. (λ z. omega arith, λ z. ne (omega arith)))
+  pub step-copied-other : (x : ℕ) → pageOf x < p .pages → x ≢ c → copied p T′ x ≡ copied p T x
+  step-copied-other x l ne = step-bit (pageOf x) (pageCells + placeOf x) l (λ e. (λ z. omega arith, λ z. ne (omega arith)))
 
   -- a survivor waits or is copied
-  pub step-bits : (x : ℕ) → x / 16 < p .pages → marked p T′ x + copied p T′ x ≡ marked p T x + copied p T x
+  pub step-bits : (x : ℕ) → pageOf x < p .pages → marked p T′ x + copied p T′ x ≡ marked p T x + copied p T x
   step-bits x l = go (ℕ-discrete x c)
     where
       go : Dec (x ≡ c) → marked p T′ x + copied p T′ x ≡ marked p T x + copied p T x
@@ -292,10 +292,10 @@ module _ {p : Sizes} {g q c : ℕ} {W T W′ T′ : List ℕ} (s : Step p g q c 
 
   -- cells in use
   use-mid : (x : ℕ) → InUse p T′ x → InUse p (s .mid) x
-  use-mid x u = record { page = u .page; place = omega (arith, u .place, mid-pages (usedAt p (x / 16)) (omega (arith, u .page))) }
+  use-mid x u = record { page = u .page; place = omega (arith, u .place, mid-pages (usedAt p (pageOf x)) (omega (arith, u .page))) }
 
   mid-use : (x : ℕ) → InUse p (s .mid) x → InUse p T′ x
-  mid-use x u = record { page = u .page; place = omega (arith, u .place, mid-pages (usedAt p (x / 16)) (omega (arith, u .page))) }
+  mid-use x u = record { page = u .page; place = omega (arith, u .place, mid-pages (usedAt p (pageOf x)) (omega (arith, u .page))) }
 
   pub step-new : InUse p T (s .new) → ⊥
   step-new = took-new (s .can .regular) (s .can .real) (s .can .low) (s .took)
@@ -303,17 +303,17 @@ module _ {p : Sizes} {g q c : ℕ} {W T W′ T′ : List ℕ} (s : Step p g q c 
   pub step-in-use : InUse p T′ (s .new)
   step-in-use = mid-use (s .new) (took-in-use (s .can .regular) (s .can .real) (s .can .low) (s .took))
 
-  pub step-home : ownerOf p T′ (s .new / 16) ≡ g
+  pub step-home : ownerOf p T′ (pageOf (s .new)) ≡ g
   step-home =
-      mid-pages (ownerAt p (s .new / 16)) (omega (arith, took-in-use (s .can .regular) (s .can .real) (s .can .low) (s .took) .page))
+      mid-pages (ownerAt p (pageOf (s .new))) (omega (arith, took-in-use (s .can .regular) (s .can .real) (s .can .low) (s .took) .page))
       ∙ took-home (s .can .regular) (s .can .real) (s .can .low) (s .took)
 
   pub step-keeps : (x : ℕ) → InUse p T x → InUse p T′ x
   step-keeps x u = mid-use x (took-keeps (s .can .regular) (s .can .real) (s .can .low) (s .took) x u .0)
 
-  pub step-owner : (x : ℕ) → InUse p T x → ownerOf p T′ (x / 16) ≡ ownerOf p T (x / 16)
+  pub step-owner : (x : ℕ) → InUse p T x → ownerOf p T′ (pageOf x) ≡ ownerOf p T (pageOf x)
   step-owner x u =
-      mid-pages (ownerAt p (x / 16)) (omega (arith, u .page)) ∙ took-keeps (s .can .regular) (s .can .real) (s .can .low) (s .took) x u .1
+      mid-pages (ownerAt p (pageOf x)) (omega (arith, u .page)) ∙ took-keeps (s .can .regular) (s .can .real) (s .can .low) (s .took) x u .1
 
   pub step-only : (x : ℕ) → InUse p T′ x → InUse p T x ⊎ (x ≡ s .new)
   step-only x u = took-only (s .can .regular) (s .can .real) (s .can .low) (s .took) x (use-mid x u)
@@ -321,13 +321,13 @@ module _ {p : Sizes} {g q c : ℕ} {W T W′ T′ : List ℕ} (s : Step p g q c 
   -- the link of a cell in use other than c stays
   pub step-link : (x : ℕ) → InUse p T x → x ≢ c → workOf W′ x ≡ workOf W x
   step-link x u ne =
-      s .copied .same (16 * x + 1) (λ e. ne (omega arith))
+      s .copied .same (workAt x) (λ e. ne (omega arith))
       (λ e. step-new (subst (λ (y : ℕ). InUse p T y) (let z : x ≡ s .new = omega arith in z) u))
 
   -- and every word of such a cell
-  pub step-words : (x i : ℕ) → i < 16 → InUse p T x → (x ≡ c → i ≢ 1) → getD W′ (16 * x + i) 0 ≡ getD W (16 * x + i) 0
+  pub step-words : (x i : ℕ) → i < cellWords → InUse p T x → (x ≡ c → i ≢ 1) → getD W′ (wordAt x i) 0 ≡ getD W (wordAt x i) 0
   step-words x i l u ne =
-      s .copied .same (16 * x + i) (λ e. ne (omega arith) (omega arith))
+      s .copied .same (wordAt x i) (λ e. ne (omega arith) (omega arith))
       (λ e. step-new (subst (λ (y : ℕ). InUse p T y) (let z : x ≡ s .new = omega arith in z) u))
 
   -- the pass stays at the page

@@ -2,36 +2,37 @@
 use mathlib.Core.Path.{_≡_, refl, sym, ap, ap₂, _∙_, subst}
 use mathlib.Core.Logic.{_≢_, ⊎-elim}
 use mathlib.Core.List.{List}
-use Prim.Native.Nat.{ℕ, _+_, _*_, _/_, _≤_, _<_}
+use Prim.Native.Nat.{ℕ, _+_, _*_, _≤_, _<_}
 use native.Mathlib.Nat.{zero-mul, one-mul}
 use native.Mathlib.Omega.{arith}
 use lib.ListN.{length}
 use Rattle.lists.specs.Counting.{sum-change, sum-part}
 use Rattle.rules.specs.Graph.{pagesOf}
 use Rattle.rules.specs.declared.Sizes.{Sizes}
-use Rattle.layout.specs.Places.{markOf}
-use Rattle.layout.specs.Cells.{workOf}
+use Rattle.rules.specs.Regions.{regions}
+use Rattle.layout.specs.Places.{markOf, cellsWords}
+use Rattle.layout.specs.Cells.{workOf, pageOf, mostCells, page-count, count-page}
 use Rattle.layout.specs.Marks.{marked}
-use Rattle.layout.specs.Words.{InUse}
+use Rattle.layout.specs.Words.{InUse, cellCount}
 use Rattle.promises.specs.Whole.{objectsOf}
+use Rattle.pages.specs.Owned.{ownedIn}
 use Rattle.copy.specs.Marks.{copied, mark?, hit, hit-yes, hit-no, hit-same, hits}
-use Rattle.pages.specs.Owned.{regionsOf}
-use Rattle.copy.specs.Taking.{pagesOwned, Usable, Next, Regular, usable}
+use Rattle.copy.specs.Taking.{Usable, Next, Regular, usable}
 use Rattle.copy.specs.Moves.{Movable, Step, step-regular, step-size, step-objects, step-objects-other, step-pages, step-marks, step-off, step-on, step-copied-other, step-bits, step-keeps, step-link}
 
 -- what holds before and after each move
 pub record Ready (p : Sizes) (W T : List ℕ) : Type 0 where
   pub regular : Regular p T
-  pub cells-long : 256 * p .pages ≤ length W
-  pub used : (c : ℕ) → c / 16 < p .pages → marked p T c ≡ 1 → InUse p T c
-  pub waits : (c : ℕ) → c / 16 < p .pages → marked p T c ≡ 1 → copied p T c ≡ 0
+  pub cells-long : cellsWords p ≤ length W
+  pub used : (c : ℕ) → pageOf c < p .pages → marked p T c ≡ 1 → InUse p T c
+  pub waits : (c : ℕ) → pageOf c < p .pages → marked p T c ≡ 1 → copied p T c ≡ 0
 
 module _ {p : Sizes} {g q c : ℕ} {W T W′ T′ : List ℕ} (a : Ready p W T) (s : Step p g q c W T W′ T′) where
   -- a cell that is marked still
   not-moved : (x : ℕ) → marked p T′ x ≡ 1 → x ≢ c
   not-moved x on e = let z : marked p T′ c ≡ 1 = subst (λ (y : ℕ). marked p T′ y ≡ 1) e on in omega (arith, step-off s)
 
-  pub step-back : (x : ℕ) → x / 16 < p .pages → marked p T′ x ≡ 1 → (marked p T x ≡ 1) × (workOf W′ x ≡ workOf W x)
+  pub step-back : (x : ℕ) → pageOf x < p .pages → marked p T′ x ≡ 1 → (marked p T x ≡ 1) × (workOf W′ x ≡ workOf W x)
   step-back x l on =
       let ne : x ≢ c = not-moved x on in
       let was : marked p T x ≡ 1 = sym (step-on s x l ne) ∙ on in
@@ -46,7 +47,7 @@ module _ {p : Sizes} {g q c : ℕ} {W T W′ T′ : List ℕ} (a : Ready p W T) 
         waits = λ x l on. step-copied-other s x l (not-moved x on) ∙ a .waits x l (step-back x l on .0);
       }
 
-  same-but : (h x : ℕ) → x / 16 < p .pages → x ≢ c → marked p T x * hit W h x ≡ marked p T′ x * hit W′ h x
+  same-but : (h x : ℕ) → pageOf x < p .pages → x ≢ c → marked p T x * hit W h x ≡ marked p T′ x * hit W′ h x
   same-but h x l ne =
       ⊎-elim
       (λ off.
@@ -60,8 +61,8 @@ module _ {p : Sizes} {g q c : ℕ} {W T W′ T′ : List ℕ} (a : Ready p W T) 
   sums : (h : ℕ) → hits p W T h + marked p T′ c * hit W′ h c ≡ hits p W′ T′ h + marked p T c * hit W h c
   unfolding hits
   sums h =
-      sum-change (λ x. marked p T x * hit W h x) (λ x. marked p T′ x * hit W′ h x) c (16 * p .pages) (omega (arith, s .can .used .page))
-      (λ x l ne. same-but h x (omega arith) ne)
+      sum-change (λ x. marked p T x * hit W h x) (λ x. marked p T′ x * hit W′ h x) c (cellCount p) (page-count c (s .can .used .page))
+      (λ x l ne. same-but h x (count-page x l) ne)
 
   pub step-hits : hits p W′ T′ g + 1 ≡ hits p W T g
   step-hits =
@@ -77,9 +78,9 @@ module _ {p : Sizes} {g q c : ℕ} {W T W′ T′ : List ℕ} (a : Ready p W T) 
 
 -- ---- moves to targets of which G holds
 
--- the place of a survivor in the order of copying: by target region, then by old cell, of which there are at most 16,384
+-- the place of a survivor in the order of copying: by target region, then by old cell, of which there are at most as many as the largest heap has
 abbrev pub order : ℕ → ℕ → ℕ
-order g c = 16384 * g + c
+order g c = mostCells * g + c
 
 -- moves in rising order, from place n on and below m
 pub data Moves (p : Sizes) (G : ℕ → Type 0) (n : ℕ) (W T : List ℕ) : ℕ → List ℕ → List ℕ → Type 0 where
@@ -111,7 +112,7 @@ pub moves-tables : {p : Sizes} {G : ℕ → Type 0} {n m : ℕ} {W T W′ T′ :
 moves-tables (none l) = refl
 moves-tables (more b h u v s) = step-size s ∙ moves-tables b
 
-pub moves-back : {p : Sizes} {G : ℕ → Type 0} {n m : ℕ} {W T W′ T′ : List ℕ} → Ready p W T → Moves p G n W T m W′ T′ → (x : ℕ) → x / 16 < p .pages
+pub moves-back : {p : Sizes} {G : ℕ → Type 0} {n m : ℕ} {W T W′ T′ : List ℕ} → Ready p W T → Moves p G n W T m W′ T′ → (x : ℕ) → pageOf x < p .pages
     → marked p T′ x ≡ 1 → (marked p T x ≡ 1) × (workOf W′ x ≡ workOf W x)
 moves-back a (none z) x l on = (on, refl)
 moves-back a (more b h y z s) x l on =
@@ -119,14 +120,14 @@ moves-back a (more b h y z s) x l on =
     let v = moves-back a b x l (u .0) in
     (v .0, u .1 ∙ v .1)
 
-pub moves-bits : {p : Sizes} {G : ℕ → Type 0} {n m : ℕ} {W T W′ T′ : List ℕ} → Moves p G n W T m W′ T′ → (x : ℕ) → x / 16 < p .pages
+pub moves-bits : {p : Sizes} {G : ℕ → Type 0} {n m : ℕ} {W T W′ T′ : List ℕ} → Moves p G n W T m W′ T′ → (x : ℕ) → pageOf x < p .pages
     → marked p T′ x + copied p T′ x ≡ marked p T x + copied p T x
 moves-bits (none z) x l = refl
 moves-bits (more b h y z s) x l = step-bits s x l ∙ moves-bits b x l
 
 -- a page without survivors keeps its mark word
 pub moves-marks : {p : Sizes} {G : ℕ → Type 0} {n m : ℕ} {W T W′ T′ : List ℕ} → Ready p W T → Moves p G n W T m W′ T′ → (q : ℕ) → q < p .pages
-    → ((c : ℕ) → c / 16 ≡ q → marked p T c ≡ 1 → ⊥) → markOf p T′ q ≡ markOf p T q
+    → ((c : ℕ) → pageOf c ≡ q → marked p T c ≡ 1 → ⊥) → markOf p T′ q ≡ markOf p T q
 moves-marks a (none z) q l off = refl
 moves-marks a (more {c = c} b h y z s) q l off =
     step-marks s q l (λ e. off c (sym e) (moves-back a b c (s .can .used .page) (s .can .on) .0)) ∙ moves-marks a b q l off
@@ -149,7 +150,7 @@ moves-others h pos f a (more {g = g} b q l m s) =
 -- the one target of all moves
 pub record Spent (p : Sizes) (g : ℕ) (W T W′ T′ : List ℕ) : Type 0 where
   pub total : objectsOf p T′ g + hits p W′ T′ g ≡ objectsOf p T g + hits p W T g
-  pub pages : pagesOf (objectsOf p T′ g) + pagesOwned p T′ 0 ≡ pagesOf (objectsOf p T g) + pagesOwned p T 0
+  pub pages : pagesOf (objectsOf p T′ g) + ownedIn p T′ 0 (p .pages) ≡ pagesOf (objectsOf p T g) + ownedIn p T 0 (p .pages)
 
 pub moves-spent : {p : Sizes} {g n m : ℕ} {W T W′ T′ : List ℕ} → Ready p W T → Moves p (λ h. h ≡ g) n W T m W′ T′ → Spent p g W T W′ T′
 moves-spent a (none l) = record { total = refl; pages = refl }
@@ -166,8 +167,8 @@ moves-spent {p} {g} a (more {W′ = X} {T′ = Y} {W″ = X′} {T″ = Y′} {g
 pub record Passing (p : Sizes) (g : ℕ) (W T : List ℕ) : Type 0 where
   pub ready : Ready p W T
   pub real : 1 ≤ g
-  pub low : g ≤ regionsOf p
-  pub enough : pagesOf (objectsOf p T g + hits p W T g) ≤ pagesOf (objectsOf p T g) + pagesOwned p T 0
+  pub low : g ≤ regions p
+  pub enough : pagesOf (objectsOf p T g + hits p W T g) ≤ pagesOf (objectsOf p T g) + ownedIn p T 0 (p .pages)
 
 pub moves-passing : {p : Sizes} {g n m : ℕ} {W T W′ T′ : List ℕ} → Passing p g W T → Moves p (λ h. h ≡ g) n W T m W′ T′ → Passing p g W′ T′
 moves-passing a b =
@@ -180,17 +181,17 @@ moves-passing a b =
     }
 
 -- a survivor that goes to g counts
-pub hit-some : (p : Sizes) (W T : List ℕ) (g c : ℕ) → c / 16 < p .pages → marked p T c ≡ 1 → workOf W c ≡ g → hits p W T g ≢ 0
+pub hit-some : (p : Sizes) (W T : List ℕ) (g c : ℕ) → pageOf c < p .pages → marked p T c ≡ 1 → workOf W c ≡ g → hits p W T g ≢ 0
 unfolding hits
 hit-some p W T g c l on e z =
     let one : marked p T c * hit W g c ≡ 1 = ap (λ (y : ℕ). y * hit W g c) on ∙ one-mul (hit W g c) ∙ hit-yes W g c e in
-    omega (arith, one, sum-part (λ x. marked p T x * hit W g x) c (16 * p .pages) (omega arith))
+    omega (arith, one, sum-part (λ x. marked p T x * hit W g x) c (cellCount p) (page-count c l))
 
-pub passing-usable : {p : Sizes} {g : ℕ} {W T : List ℕ} → Passing p g W T → (c : ℕ) → c / 16 < p .pages → marked p T c ≡ 1 → workOf W c ≡ g → Usable p g T
+pub passing-usable : {p : Sizes} {g : ℕ} {W T : List ℕ} → Passing p g W T → (c : ℕ) → pageOf c < p .pages → marked p T c ≡ 1 → workOf W c ≡ g → Usable p g T
 passing-usable {p} {g} {W} {T} a c l on e =
     usable (a .ready .regular) g (a .real) (hits p W T g) (let n : hits p W T g ≢ 0 = hit-some p W T g c l on e in omega arith) (a .enough)
 
-pub passing-movable : {p : Sizes} {g q : ℕ} {W T : List ℕ} → Passing p g W T → (c : ℕ) → c / 16 < p .pages → marked p T c ≡ 1 → workOf W c ≡ g → Next p g q T
+pub passing-movable : {p : Sizes} {g q : ℕ} {W T : List ℕ} → Passing p g W T → (c : ℕ) → pageOf c < p .pages → marked p T c ≡ 1 → workOf W c ≡ g → Next p g q T
     → Movable p g q W T c
 passing-movable a c l on e n =
     record {
@@ -208,4 +209,4 @@ passing-movable a c l on e n =
 -- the survivors of which P holds went to g, in the order of their places from n on and below m
 pub record Pass (p : Sizes) (g : ℕ) (P : ℕ → Type 0) (n m : ℕ) (W T W′ T′ : List ℕ) : Type 0 where
   pub moves : Moves p (λ h. h ≡ g) n W T m W′ T′
-  pub done : (c : ℕ) → P c → c / 16 < p .pages → marked p T′ c ≡ 1 → workOf W′ c ≢ g
+  pub done : (c : ℕ) → P c → pageOf c < p .pages → marked p T′ c ≡ 1 → workOf W′ c ≢ g

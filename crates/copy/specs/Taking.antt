@@ -1,47 +1,48 @@
 -- Regular pages, and what a cell that is taken does to them: counts, free pages, the pages of a region.
 use mathlib.Core.Path.{_≡_, refl, sym, ap, ap₂, _∙_, subst}
 use mathlib.Core.Logic.{_≢_, _⊎_, inl, inr, ⊎-elim}
-use mathlib.Core.Bool.{Bool, true, false, cond}
 use mathlib.Core.List.{List}
-use Prim.Native.Nat.{ℕ, zero, suc, _+_, _*_, _/_, _%_, _≤_, _<_}
+use Prim.Native.Nat.{ℕ, zero, suc, _+_, _*_, _%_, _≤_, _<_}
 use native.Mathlib.Decide.{ℕ-discrete, decLt}
 use native.Mathlib.Omega.{arith}
 use borrow.Author.Tests.{eqb-true}
 use lib.Dec.{eqb}
 use lib.ListN.{length, getD, set, length-set}
 use lib.Seq.{getD-set-same, getD-set-other}
-use Rattle.lists.specs.Counting.{bit, sum, sum-same, sum-change, sum-part, sum-times, sum-pos}
+use Rattle.lists.specs.Counting.{bit, sum-same, sum-change, sum-part, sum-times, sum-pos}
 use Rattle.rules.specs.Graph.{pagesOf}
+use Rattle.rules.specs.Regions.{regions}
 use Rattle.rules.specs.declared.Sizes.{Sizes}
-use Rattle.layout.specs.Places.{Room, ownerAt, usedAt, markAt, countAt, ownerOf, usedOf, markOf, countOf, countsFrom}
-use Rattle.layout.specs.Cells.{cellOn}
+use Rattle.layout.specs.Places.{Room, ownerAt, usedAt, markAt, countAt, ownerOf, usedOf, markOf, countOf}
+use Rattle.layout.specs.Cells.{pageOf, placeOf, cellOn, pageCells, page-on, place-on, on-page}
 use Rattle.layout.specs.Words.{InUse}
 use Rattle.promises.specs.Whole.{objectsOn, objectsOf}
-use Rattle.pages.specs.Owned.{ownedOne, ownedIn, regionsOf}
+use Rattle.pages.specs.Owned.{ownedOne, ownedIn, owned-yes, owned-no}
 use Rattle.pages.specs.Pages.{Partly, Found, Filled, taken}
 use Rattle.copy.specs.Marks.{sameThen, then-yes, then-no}
 
-abbrev pub endOf : Sizes → ℕ
-endOf p = countsFrom p + 1 + p .threads * p .depth
+-- a page counts by its owner
+pub owned-same : (p : Sizes) (T T′ : List ℕ) (g x : ℕ) → ownerOf p T′ x ≡ ownerOf p T x → ownedOne p T′ g x ≡ ownedOne p T g x
+unfolding ownedOne
+owned-same p T T′ g x e = ap (λ (o : ℕ). bit (eqb o g)) e
 
--- 1 for a page of region g; the pages of region g, the free pages where g is 0
-abbrev pub ownedOn : Sizes → List ℕ → ℕ → ℕ → ℕ
-ownedOn p T g page = sameThen (ownerOf p T page) g 1
+owned : (p : Sizes) (T : List ℕ) (g x : ℕ) → ownerOf p T x ≡ g → 1 ≡ ownedOne p T g x
+owned p T g x e = owned-yes p T g x (ownerOf p T x) refl e
 
-unfoldable pub pagesOwned : Sizes → List ℕ → ℕ → ℕ
-pagesOwned p T g = sum (ownedOn p T g) (p .pages)
+unowned : (p : Sizes) (T : List ℕ) (g x : ℕ) → ownerOf p T x ≢ g → 0 ≡ ownedOne p T g x
+unowned p T g x n = owned-no p T g x (ownerOf p T x) refl n
 
 -- g has a page with room, or there is a free page
 pub record Usable (p : Sizes) (g : ℕ) (T : List ℕ) : Type 0 where
   pub at : ℕ
   pub low : at < p .pages
-  pub why : (ownerOf p T at ≡ 0) ⊎ ((ownerOf p T at ≡ g) × (usedOf p T at < 16))
+  pub why : (ownerOf p T at ≡ 0) ⊎ ((ownerOf p T at ≡ g) × (usedOf p T at < pageCells))
 
 -- page q is the one that the next object of g goes to, and has room
 pub record Next (p : Sizes) (g q : ℕ) (T : List ℕ) : Type 0 where
   pub low : q < p .pages
   pub found : Found p T g q
-  pub part : usedOf p T q < 16
+  pub part : usedOf p T q < pageCells
 
 -- cell c of page q was taken for g, the cell that a new object of g gets
 pub record Took (p : Sizes) (g q : ℕ) (T T′ : List ℕ) (c : ℕ) : Type 0 where
@@ -54,13 +55,13 @@ pub record Regular (p : Sizes) (T : List ℕ) : Type 0 where
   pub room : Room p (length T)
   pub free : (q : ℕ) → q < p .pages → ownerOf p T q ≡ 0 → usedOf p T q ≡ 0
   pub taken : (q : ℕ) → q < p .pages → ownerOf p T q ≢ 0 → 1 ≤ usedOf p T q
-  pub full : (q : ℕ) → q < p .pages → usedOf p T q ≤ 16
+  pub full : (q : ℕ) → q < p .pages → usedOf p T q ≤ pageCells
   pub one : (g a b : ℕ) → 1 ≤ g → Partly p T g a → Partly p T g b → a ≡ b
-  pub count : (g : ℕ) → 1 ≤ g → g ≤ regionsOf p → countOf p T g ≡ objectsOf p T g
+  pub count : (g : ℕ) → 1 ≤ g → g ≤ regions p → countOf p T g ≡ objectsOf p T g
 
 -- ---- the tables after a cell is taken
 
-module _ {p : Sizes} {g q : ℕ} {T T′ : List ℕ} {c : ℕ} (r : Regular p T) (real : 1 ≤ g) (low : g ≤ regionsOf p) (t : Took p g q T T′ c) where
+module _ {p : Sizes} {g q : ℕ} {T T′ : List ℕ} {c : ℕ} (r : Regular p T) (real : 1 ≤ g) (low : g ≤ regions p) (t : Took p g q T T′ c) where
   T₁ : List ℕ
   T₁ = set T (ownerAt p q) g
 
@@ -162,9 +163,9 @@ module _ {p : Sizes} {g q : ℕ} {T T′ : List ℕ} {c : ℕ} (r : Regular p T)
       go (yes e) = e
       go (no n) =
           let own : ownerOf p T a ≡ g = sym (took-owner-other a (w .low) n) ∙ w .partial .owner in
-          let part : usedOf p T a < 16 = omega (arith, w .partial .part, took-used-other a (w .low) n) in
+          let part : usedOf p T a < pageCells = omega (arith, w .partial .part, took-used-other a (w .low) n) in
           ⊎-elim (λ h. r .one g a q real (record { low = w .low; partial = record { owner = own; part = part } }) h)
-          (λ h. absurd (let z : 16 ≤ usedOf p T a = h .none a (w .low) own in let y : ⊥ = omega arith in y)) (t .next .found)
+          (λ h. absurd (let z : pageCells ≤ usedOf p T a = h .none a (w .low) own in let y : ⊥ = omega arith in y)) (t .next .found)
 
   pub took-regular : Regular p T′
   took-regular =
@@ -186,7 +187,7 @@ module _ {p : Sizes} {g q : ℕ} {T T′ : List ℕ} {c : ℕ} (r : Regular p T)
       taken′ x l ne (yes z) = omega (arith, ap (λ (w : ℕ). usedOf p T′ w) z, took-used)
       taken′ x l ne (no n) = omega (arith, took-used-other x l n, r .taken x l (λ e. ne (took-owner-other x l n ∙ e)))
 
-      full′ : (x : ℕ) → x < p .pages → Dec (x ≡ q) → usedOf p T′ x ≤ 16
+      full′ : (x : ℕ) → x < p .pages → Dec (x ≡ q) → usedOf p T′ x ≤ pageCells
       full′ x l (yes z) = omega (arith, ap (λ (w : ℕ). usedOf p T′ w) z, took-used, t .next .part)
       full′ x l (no n) = omega (arith, took-used-other x l n, r .full x l)
 
@@ -195,7 +196,7 @@ module _ {p : Sizes} {g q : ℕ} {T T′ : List ℕ} {c : ℕ} (r : Regular p T)
           only-partly a (subst (λ (x : ℕ). Partly p T′ x a) e u) ∙ sym (only-partly b (subst (λ (x : ℕ). Partly p T′ x b) e v))
       one′ h a b pos u v (no n) = r .one h a b pos (was-partly h a n u) (was-partly h b n v)
 
-      count′ : (h : ℕ) → 1 ≤ h → h ≤ regionsOf p → Dec (h ≡ g) → countOf p T′ h ≡ objectsOf p T′ h
+      count′ : (h : ℕ) → 1 ≤ h → h ≤ regions p → Dec (h ≡ g) → countOf p T′ h ≡ objectsOf p T′ h
       count′ h pos le (yes e) =
           subst (λ (x : ℕ). countOf p T′ x ≡ objectsOf p T′ x) (sym e) (omega (arith, took-count, took-objects, r .count g real low))
       count′ h pos le (no n) =
@@ -203,161 +204,156 @@ module _ {p : Sizes} {g q : ℕ} {T T′ : List ℕ} {c : ℕ} (r : Regular p T)
           ∙ r .count h pos le ∙ sym (took-objects-other h pos n)
 
   -- g's pages and the free pages together stay
-  pub took-owned : pagesOwned p T′ g + pagesOwned p T′ 0 ≡ pagesOwned p T g + pagesOwned p T 0
-  unfolding pagesOwned
+  pub took-owned : ownedIn p T′ g (p .pages) + ownedIn p T′ 0 (p .pages) ≡ ownedIn p T g (p .pages) + ownedIn p T 0 (p .pages)
   took-owned =
-      let same : (h x : ℕ) → x < p .pages → x ≢ q → ownedOn p T h x ≡ ownedOn p T′ h x =
-      (λ h x l ne. ap (λ (a : ℕ). sameThen a h 1) (sym (took-owner-other x l ne))) in
-      let a = sum-change (ownedOn p T g) (ownedOn p T′ g) q (p .pages) (t .next .low) (same g) in
-      let b = sum-change (ownedOn p T 0) (ownedOn p T′ 0) q (p .pages) (t .next .low) (same 0) in
-      let x : ownedOn p T′ g q ≡ 1 = then-yes (ownerOf p T′ q) g 1 took-owner in
-      let y : ownedOn p T′ 0 q ≡ 0 = then-no (ownerOf p T′ q) 0 1 (λ e. omega (arith, took-owner)) in
+      let same : (h x : ℕ) → x < p .pages → x ≢ q → ownedOne p T h x ≡ ownedOne p T′ h x =
+      (λ h x l ne. sym (owned-same p T T′ h x (took-owner-other x l ne))) in
+      let a = sum-change (ownedOne p T g) (ownedOne p T′ g) q (p .pages) (t .next .low) (same g) in
+      let b = sum-change (ownedOne p T 0) (ownedOne p T′ 0) q (p .pages) (t .next .low) (same 0) in
+      let x = owned p T′ g q took-owner in
+      let y = unowned p T′ 0 q (λ e. omega (arith, took-owner)) in
       ⊎-elim
-      (λ e. omega (arith, a, b, x, y, then-yes (ownerOf p T q) g 1 e, then-no (ownerOf p T q) 0 1 (λ z. omega arith)))
-      (λ e. omega (arith, a, b, x, y, then-no (ownerOf p T q) g 1 (λ z. omega arith), then-yes (ownerOf p T q) 0 1 e))
+      (λ e. omega (arith, a, b, x, y, owned p T g q e, unowned p T 0 q (λ z. omega arith)))
+      (λ e. omega (arith, a, b, x, y, unowned p T g q (λ z. omega arith), owned p T 0 q e))
       took-page
 
   -- the cell was not in use and is
+  took-on : pageOf c ≡ q
+  took-on = ap pageOf (t .cell) ∙ page-on q (usedOf p T q) (t .next .part)
+
+  took-place : placeOf c ≡ usedOf p T q
+  took-place = ap placeOf (t .cell) ∙ place-on q (usedOf p T q) (t .next .part)
+
   pub took-new : InUse p T c → ⊥
-  took-new u = omega (arith, u .place, t .cell, t .next .part, ap (λ (x : ℕ). usedOf p T x) (let e : c / 16 ≡ q = omega (arith, t .cell, t .next .part) in e))
+  took-new u = omega (arith, u .place, took-place, ap (λ (x : ℕ). usedOf p T x) took-on)
 
   pub took-in-use : InUse p T′ c
   took-in-use =
-      let e : c / 16 ≡ q = omega (arith, t .cell, t .next .part) in
-      record { page = omega (arith, t .next .low); place = omega (arith, t .cell, t .next .part, took-used, ap (λ (x : ℕ). usedOf p T′ x) e) }
+      let e = took-on in
+      record { page = omega (arith, t .next .low); place = omega (arith, took-place, took-used, ap (λ (x : ℕ). usedOf p T′ x) e) }
 
-  pub took-home : ownerOf p T′ (c / 16) ≡ g
-  took-home = ap (λ (x : ℕ). ownerOf p T′ x) (let e : c / 16 ≡ q = omega (arith, t .cell, t .next .part) in e) ∙ took-owner
+  pub took-home : ownerOf p T′ (pageOf c) ≡ g
+  took-home = ap (λ (x : ℕ). ownerOf p T′ x) took-on ∙ took-owner
 
   -- what was in use is, in its region; what is in use was, or is the cell
-  pub took-keeps : (d : ℕ) → InUse p T d → InUse p T′ d × (ownerOf p T′ (d / 16) ≡ ownerOf p T (d / 16))
-  took-keeps d u = go (ℕ-discrete (d / 16) q)
+  pub took-keeps : (d : ℕ) → InUse p T d → InUse p T′ d × (ownerOf p T′ (pageOf d) ≡ ownerOf p T (pageOf d))
+  took-keeps d u = go (ℕ-discrete (pageOf d) q)
     where
-      go : Dec (d / 16 ≡ q) → InUse p T′ d × (ownerOf p T′ (d / 16) ≡ ownerOf p T (d / 16))
+      go : Dec (pageOf d ≡ q) → InUse p T′ d × (ownerOf p T′ (pageOf d) ≡ ownerOf p T (pageOf d))
       go (yes e) = (
         record { page = u .page; place = omega (arith, u .place, took-used, ap (λ (x : ℕ). usedOf p T′ x) e, ap (λ (x : ℕ). usedOf p T x) e) },
         subst (λ (x : ℕ). ownerOf p T′ x ≡ ownerOf p T x) (sym e)
             (⊎-elim (λ h. took-owner ∙ sym h)
             (λ h. absurd (let z : usedOf p T q ≡ 0 = r .free q (t .next .low) h in let y : ⊥ = omega (arith, u .place, ap (λ (x : ℕ). usedOf p T x) e) in y)) took-page),
       )
-      go (no n) = (record { page = u .page; place = omega (arith, u .place, took-used-other (d / 16) (u .page) n) }, took-owner-other (d / 16) (u .page) n)
+      go (no n) = (record { page = u .page; place = omega (arith, u .place, took-used-other (pageOf d) (u .page) n) }, took-owner-other (pageOf d) (u .page) n)
 
   pub took-only : (d : ℕ) → InUse p T′ d → InUse p T d ⊎ (d ≡ c)
-  took-only d u = go (ℕ-discrete (d / 16) q) (ℕ-discrete (d % 16) (usedOf p T q))
+  took-only d u = go (ℕ-discrete (pageOf d) q) (ℕ-discrete (placeOf d) (usedOf p T q))
     where
-      go : Dec (d / 16 ≡ q) → Dec (d % 16 ≡ usedOf p T q) → InUse p T d ⊎ (d ≡ c)
-      go (yes e) (yes f) = inr (omega (arith, t .cell))
+      go : Dec (pageOf d ≡ q) → Dec (placeOf d ≡ usedOf p T q) → InUse p T d ⊎ (d ≡ c)
+      go (yes e) (yes f) = inr (on-page e ∙ ap (cellOn q) f ∙ sym (t .cell))
       go (yes e) (no f) =
           inl (record { page = u .page; place = omega (arith, u .place, took-used, ap (λ (x : ℕ). usedOf p T′ x) e, ap (λ (x : ℕ). usedOf p T x) e) })
-      go (no n) f = inl (record { page = u .page; place = omega (arith, u .place, took-used-other (d / 16) (u .page) n) })
+      go (no n) f = inl (record { page = u .page; place = omega (arith, u .place, took-used-other (pageOf d) (u .page) n) })
 
 -- ---- a region of n objects has pagesOf n pages, and gets one more where n fills them
 
 module _ {p : Sizes} {T : List ℕ} (r : Regular p T) (g : ℕ) (real : 1 ≤ g) where
-  seek : (n : ℕ) → n ≤ p .pages → ((a : ℕ) × Partly p T g a) ⊎ ((x : ℕ) → x < n → ownerOf p T x ≡ g → 16 ≤ usedOf p T x)
+  seek : (n : ℕ) → n ≤ p .pages → ((a : ℕ) × Partly p T g a) ⊎ ((x : ℕ) → x < n → ownerOf p T x ≡ g → pageCells ≤ usedOf p T x)
   seek zero l = inr (λ x h. absurd (let z : ⊥ = omega arith in z))
-  seek (suc n) l = go (seek n (omega arith)) (ℕ-discrete (ownerOf p T n) g) (decLt (usedOf p T n) 16)
+  seek (suc n) l = go (seek n (omega arith)) (ℕ-discrete (ownerOf p T n) g) (decLt (usedOf p T n) pageCells)
     where
-      go : ((a : ℕ) × Partly p T g a) ⊎ ((x : ℕ) → x < n → ownerOf p T x ≡ g → 16 ≤ usedOf p T x) → Dec (ownerOf p T n ≡ g)
-          → Dec (usedOf p T n < 16) → ((a : ℕ) × Partly p T g a) ⊎ ((x : ℕ) → x < suc n → ownerOf p T x ≡ g → 16 ≤ usedOf p T x)
+      go : ((a : ℕ) × Partly p T g a) ⊎ ((x : ℕ) → x < n → ownerOf p T x ≡ g → pageCells ≤ usedOf p T x) → Dec (ownerOf p T n ≡ g)
+          → Dec (usedOf p T n < pageCells) → ((a : ℕ) × Partly p T g a) ⊎ ((x : ℕ) → x < suc n → ownerOf p T x ≡ g → pageCells ≤ usedOf p T x)
       go (inl h) d f = inl h
       go (inr h) (yes e) (yes f) = inl (n, record { low = omega arith; partial = record { owner = e; part = f } })
       go (inr h) (yes e) (no f) = inr (λ x lt own. last x lt own (ℕ-discrete x n))
         where
-          last : (x : ℕ) → x < suc n → ownerOf p T x ≡ g → Dec (x ≡ n) → 16 ≤ usedOf p T x
-          last x lt own (yes z) = subst (λ (y : ℕ). 16 ≤ usedOf p T y) (sym z) (omega arith)
+          last : (x : ℕ) → x < suc n → ownerOf p T x ≡ g → Dec (x ≡ n) → pageCells ≤ usedOf p T x
+          last x lt own (yes z) = subst (λ (y : ℕ). pageCells ≤ usedOf p T y) (sym z) (omega arith)
           last x lt own (no z) = h x (omega arith) own
       go (inr h) (no e) f = inr (λ x lt own. last x lt own (ℕ-discrete x n))
         where
-          last : (x : ℕ) → x < suc n → ownerOf p T x ≡ g → Dec (x ≡ n) → 16 ≤ usedOf p T x
+          last : (x : ℕ) → x < suc n → ownerOf p T x ≡ g → Dec (x ≡ n) → pageCells ≤ usedOf p T x
           last x lt own (yes z) = absurd (e (ap (λ (y : ℕ). ownerOf p T y) (sym z) ∙ own))
           last x lt own (no z) = h x (omega arith) own
 
-  full-on : (x : ℕ) → x < p .pages → (ownerOf p T x ≡ g → 16 ≤ usedOf p T x) → objectsOn p T g x ≡ 16 * ownedOn p T g x
+  full-on : (x : ℕ) → x < p .pages → (ownerOf p T x ≡ g → pageCells ≤ usedOf p T x) → objectsOn p T g x ≡ pageCells * ownedOne p T g x
   full-on x l h = go (ℕ-discrete (ownerOf p T x) g)
     where
-      go : Dec (ownerOf p T x ≡ g) → objectsOn p T g x ≡ 16 * ownedOn p T g x
-      go (yes e) = omega (arith, then-yes (ownerOf p T x) g (usedOf p T x) e, then-yes (ownerOf p T x) g 1 e, h e, r .full x l)
-      go (no n) = omega (arith, then-no (ownerOf p T x) g (usedOf p T x) n, then-no (ownerOf p T x) g 1 n)
+      go : Dec (ownerOf p T x ≡ g) → objectsOn p T g x ≡ pageCells * ownedOne p T g x
+      go (yes e) = omega (arith, then-yes (ownerOf p T x) g (usedOf p T x) e, owned p T g x e, h e, r .full x l)
+      go (no n) = omega (arith, then-no (ownerOf p T x) g (usedOf p T x) n, unowned p T g x n)
 
-  none-partly : ((x : ℕ) → x < p .pages → ownerOf p T x ≡ g → 16 ≤ usedOf p T x) → objectsOf p T g ≡ 16 * pagesOwned p T g
-  unfolding pagesOwned
+  none-partly : ((x : ℕ) → x < p .pages → ownerOf p T x ≡ g → pageCells ≤ usedOf p T x) → objectsOf p T g ≡ pageCells * ownedIn p T g (p .pages)
   none-partly h =
-      sum-same (objectsOn p T g) (λ x. 16 * ownedOn p T g x) (p .pages) (λ x l. full-on x l (h x l)) ∙ sum-times 16 (ownedOn p T g) (p .pages)
+      sum-same (objectsOn p T g) (λ x. pageCells * ownedOne p T g x) (p .pages) (λ x l. full-on x l (h x l)) ∙ sum-times pageCells (ownedOne p T g) (p .pages)
 
-  some-partly : (a : ℕ) → Partly p T g a → objectsOf p T g + 16 ≡ 16 * pagesOwned p T g + usedOf p T a
-  unfolding pagesOwned
+  some-partly : (a : ℕ) → Partly p T g a → objectsOf p T g + pageCells ≡ pageCells * ownedIn p T g (p .pages) + usedOf p T a
   some-partly a w =
       omega (
         arith,
-        sum-change (objectsOn p T g) (λ x. 16 * ownedOn p T g x) a (p .pages) (w .low)
-            (λ x l ne. full-on x l (λ e. full x l e ne (decLt (usedOf p T x) 16))),
-        sum-times 16 (ownedOn p T g) (p .pages),
+        sum-change (objectsOn p T g) (λ x. pageCells * ownedOne p T g x) a (p .pages) (w .low)
+            (λ x l ne. full-on x l (λ e. full x l e ne (decLt (usedOf p T x) pageCells))),
+        sum-times pageCells (ownedOne p T g) (p .pages),
         then-yes (ownerOf p T a) g (usedOf p T a) (w .partial .owner),
-        then-yes (ownerOf p T a) g 1 (w .partial .owner),
+        owned p T g a (w .partial .owner),
       )
     where
-      full : (x : ℕ) → x < p .pages → ownerOf p T x ≡ g → x ≢ a → Dec (usedOf p T x < 16) → 16 ≤ usedOf p T x
+      full : (x : ℕ) → x < p .pages → ownerOf p T x ≡ g → x ≢ a → Dec (usedOf p T x < pageCells) → pageCells ≤ usedOf p T x
       full x l e ne (yes f) = absurd (ne (r .one g x a real (record { low = l; partial = record { owner = e; part = f } }) w))
       full x l e ne (no f) = omega arith
 
   -- objects that fill their pages leave no page partly filled
-  pub regular-filled : g ≤ regionsOf p → Filled p T g
+  pub regular-filled : g ≤ regions p → Filled p T g
   regular-filled low full page l u =
       omega (
         arith,
         some-partly page (record { low = l; partial = u }),
         u .part,
         r .taken page l (λ e. omega (arith, u .owner)),
-        eqb-true (countOf p T g % 16) 0 full,
+        eqb-true (countOf p T g % pageCells) 0 full,
         r .count g real low,
       )
 
-  pub pages-owned : pagesOf (objectsOf p T g) ≡ pagesOwned p T g
+  pub pages-owned : pagesOf (objectsOf p T g) ≡ ownedIn p T g (p .pages)
   pages-owned =
       ⊎-elim
       (λ h. omega (arith, some-partly (h .0) (h .1), h .1 .partial .part, r .taken (h .0) (h .1 .low) (λ e. omega (arith, h .1 .partial .owner))))
       (λ h. omega (arith, none-partly h)) (seek (p .pages) (omega arith))
 
   -- the same as the code counts them
-  pub pages-counted : g ≤ regionsOf p → ownedIn p T g (p .pages) ≡ pagesOf (countOf p T g)
-  unfolding pagesOwned ownedOne
-  pages-counted low =
-      sum-same (ownedOne p T g) (ownedOn p T g) (p .pages) (λ x l. one (eqb (ownerOf p T x) g)) ∙ sym pages-owned ∙ ap pagesOf (sym (r .count g real low))
-    where
-      one : (t : Bool) → bit t ≡ cond t 1 0
-      one true = refl
-      one false = refl
+  pub pages-counted : g ≤ regions p → ownedIn p T g (p .pages) ≡ pagesOf (countOf p T g)
+  pages-counted low = sym pages-owned ∙ ap pagesOf (sym (r .count g real low))
 
   -- a region without objects has no page
-  pub pages-none : g ≤ regionsOf p → countOf p T g ≡ 0 → (x : ℕ) → x < p .pages → ownerOf p T x ≢ g
-  unfolding pagesOwned
+  pub pages-none : g ≤ regions p → countOf p T g ≡ 0 → (x : ℕ) → x < p .pages → ownerOf p T x ≢ g
   pages-none low z x l e =
       omega (
         arith,
         pages-owned,
         r .count g real low,
-        sum-part (ownedOn p T g) x (p .pages) l,
-        then-yes (ownerOf p T x) g 1 e,
+        sum-part (ownedOne p T g) x (p .pages) l,
+        owned p T g x e,
       )
 
-  pub usable : (m : ℕ) → 1 ≤ m → pagesOf (objectsOf p T g + m) ≤ pagesOf (objectsOf p T g) + pagesOwned p T 0 → Usable p g T
-  unfolding pagesOwned
+  pub usable : (m : ℕ) → 1 ≤ m → pagesOf (objectsOf p T g + m) ≤ pagesOf (objectsOf p T g) + ownedIn p T 0 (p .pages) → Usable p g T
   usable m pos le =
       ⊎-elim
       (λ h. record { at = h .0; low = h .1 .low; why = inr (h .1 .partial .owner, h .1 .partial .part) })
       (λ h.
-      let e : objectsOf p T g ≡ 16 * pagesOwned p T g = none-partly h in
-      let s = sum-pos (ownedOn p T 0) (p .pages) (omega arith) in
+      let e : objectsOf p T g ≡ pageCells * ownedIn p T g (p .pages) = none-partly h in
+      let s = sum-pos (ownedOne p T 0) (p .pages) (omega arith) in
       record { at = s .0; low = s .1; why = inl (zero-owner (s .0) (s .2) (ℕ-discrete (ownerOf p T (s .0)) 0)) }) (seek (p .pages) (omega arith))
     where
-      zero-owner : (x : ℕ) → 0 < ownedOn p T 0 x → Dec (ownerOf p T x ≡ 0) → ownerOf p T x ≡ 0
+      zero-owner : (x : ℕ) → 0 < ownedOne p T 0 x → Dec (ownerOf p T x ≡ 0) → ownerOf p T x ≡ 0
       zero-owner x h (yes e) = e
-      zero-owner x h (no n) = absurd (let z : ⊥ = omega (arith, then-no (ownerOf p T x) 0 1 n) in z)
+      zero-owner x h (no n) = absurd (let z : ⊥ = omega (arith, unowned p T 0 x n) in z)
 
 -- taking a cell uses exactly the pages that one more object needs
-pub took-pages : {p : Sizes} {g q : ℕ} {T T′ : List ℕ} {c : ℕ} (r : Regular p T) (real : 1 ≤ g) (low : g ≤ regionsOf p) (t : Took p g q T T′ c)
-    → pagesOf (objectsOf p T′ g) + pagesOwned p T′ 0 ≡ pagesOf (objectsOf p T g) + pagesOwned p T 0
+pub took-pages : {p : Sizes} {g q : ℕ} {T T′ : List ℕ} {c : ℕ} (r : Regular p T) (real : 1 ≤ g) (low : g ≤ regions p) (t : Took p g q T T′ c)
+    → pagesOf (objectsOf p T′ g) + ownedIn p T′ 0 (p .pages) ≡ pagesOf (objectsOf p T g) + ownedIn p T 0 (p .pages)
 took-pages {p} {g} r real low t =
     omega (arith, took-owned r real low t, pages-owned r g real, pages-owned (took-regular r real low t) g real)
 

@@ -1,14 +1,14 @@
 // Place and copy: targets in rising level, survivors in rising cell number, each to the cell that a new object there would take.
 ghost use mathlib.Core.Logic.{_≢_};
 ghost use mathlib.Core.Path.{_≡_};
-ghost use Prim.Native.Nat.{ℕ, _+_, _*_, _/_, _<_, _≤_};
+ghost use Prim.Native.Nat.{ℕ, _<_, _≤_};
 ghost use lib.ListN.{length, getD};
 ghost use Rattle.lists.specs.Part.{Rises, Off};
-ghost use Rattle.rules.specs.Regions.{regionAt};
+ghost use Rattle.rules.specs.Regions.{regionAt, regions};
 ghost use Rattle.layout.specs.Places.{markOf};
+ghost use Rattle.layout.specs.Cells.{pageOf, firstOn, CellIn};
 ghost use Rattle.pages.specs.Pages.{noteWords};
 ghost use Rattle.copy.specs.Marks.{hits};
-ghost use Rattle.pages.specs.Owned.{regionsOf};
 ghost use Rattle.copy.specs.Taking.{Next};
 ghost use Rattle.copy.specs.Cursor.{Points, Seeking};
 ghost use Rattle.copy.specs.Moves.{Copied, Movable, Step};
@@ -31,8 +31,8 @@ pub fn next_page(p: Sizes, tables: &[u32], notes: &mut [u32], region: u32, page:
 // The words of one cell go to another, with word 1 zero; word 1 of the old cell becomes the reference to the new one.
 pub fn copy_cell(cells: &mut [u32], old: usize, new: usize)
     requires { ⌜ old ≢ new ⌝ }
-    requires { ⌜ (old < 16384) × (new < 16384) ⌝ }
-    requires { ⌜ (16 * old + 16 ≤ length (now cells)) × (16 * new + 16 ≤ length (now cells)) ⌝ }
+    requires { ⌜ CellIn old (length (now cells)) ⌝ }
+    requires { ⌜ CellIn new (length (now cells)) ⌝ }
     ensures { λ _. ⌜ Copied old new (now (cells .entry)) (now (cells .exit)) ⌝ }
 {
     let mut i: usize = 0;
@@ -115,7 +115,7 @@ pub fn copy_pass(
     requires { ⌜ Rises (p .pages) n (now list) ⌝ }
     requires { ⌜ ((page : ℕ) → page < p .pages → Off (now list) n page → markOf p (now tables) page ≡ 0) ⌝ }
     requires { ⌜ noteWords ≤ length (now notes) ⌝ }
-    ensures { λ _. ⌜ Pass p region (λ c. c / 16 < p .pages) (order region 0) (order region (16 * p .pages)) (now (cells .entry)) (now (tables .entry)) (now (cells .exit)) (now (tables .exit)) ⌝ }
+    ensures { λ _. ⌜ Pass p region (λ c. pageOf c < p .pages) (order region 0) (order region (firstOn (p .pages))) (now (cells .entry)) (now (tables .entry)) (now (cells .exit)) (now (tables .exit)) ⌝ }
 {
     let mut at = pages::page_for(p, tables, notes, region);
     let mut i: usize = 0;
@@ -141,8 +141,8 @@ pub fn copy_survivors(
     requires { ⌜ (thread < p .threads) × (levels ≤ p .depth) ⌝ }
     requires { ⌜ Rises (p .pages) n (now list) ⌝ }
     requires { ⌜ ((page : ℕ) → page < p .pages → Off (now list) n page → markOf p (now tables) page ≡ 0) ⌝ }
-    requires { ⌜ ((g : ℕ) → 1 ≤ g → g ≤ regionsOf p → getD (now come) g 0 ≡ 0 → hits p (now cells) (now tables) g ≡ 0) ⌝ }
-    requires { ⌜ (noteWords ≤ length (now notes)) × (regionsOf p < length (now come)) ⌝ }
+    requires { ⌜ ((g : ℕ) → 1 ≤ g → g ≤ regions p → getD (now come) g 0 ≡ 0 → hits p (now cells) (now tables) g ≡ 0) ⌝ }
+    requires { ⌜ (noteWords ≤ length (now notes)) × (regions p < length (now come)) ⌝ }
     ensures { λ _. ⌜ Copy p levels (regionAt p thread) levels (now (cells .entry)) (now (tables .entry)) (now (cells .exit)) (now (tables .exit)) ⌝ }
 {
     let mut level: usize = 0;

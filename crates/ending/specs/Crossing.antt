@@ -178,7 +178,7 @@ module _ {s : Sizes} {w : Words} {r : ℕ} (high : 1 < r) (whole : WholeFor s w)
         let z : pageAt (fieldAt (placed W c) f) ≡ pageOf (placed W c) = omega (arith, few c f l h) in
         ap₂ (λ (p x : ℕ). crossesFrom s T (ownerOf s T p) x) (page-at (fieldAt (placed W c) f) ∙ z) (slot-after whole sends m rm F holding R c f l h)
       where
-        page-at : (x : ℕ) → x / 256 ≡ pageAt x
+        page-at : (x : ℕ) → pageAt x ≡ pageAt x
         page-at x = omega arith
 
     -- it crosses exactly if it names an object of another region than its own and than the control space
@@ -219,13 +219,13 @@ module _ {s : Sizes} {w : Words} {r : ℕ} (high : 1 < r) (whole : WholeFor s w)
         record { object = k .object; field = k .field; lives = survivor-lives (k .survivor); low = k .low; at = k .at }
 
     -- the page of such a slot belongs to the region of its object, which does not end
-    live-page : (x : ℕ) (q : LiveSlot x) → ownerOf s T (x / 256) ≡ home (q .object)
+    live-page : (x : ℕ) (q : LiveSlot x) → ownerOf s T (pageAt x) ≡ home (q .object)
     live-page x q = ap (ownerOf s T) (page (placed W (q .object)) (q .field) (few (q .object) (q .field) (q .lives) (q .low)) (q .at))
       where
-        page : (d f : ℕ) → f < mostFields → x ≡ fieldAt d f → x / 256 ≡ pageOf d
+        page : (d f : ℕ) → f < mostFields → x ≡ fieldAt d f → pageAt x ≡ pageOf d
         page d f l e = omega arith
 
-    pub live-out : (x : ℕ) → LiveSlot x → ownerOf s T (x / 256) ≢ r
+    pub live-out : (x : ℕ) → LiveSlot x → ownerOf s T (pageAt x) ≢ r
     live-out x q z = home-out (q .object) (q .lives) (sym (live-page x q) ∙ z)
 
     -- a slot that crosses then, as the table is told of it
@@ -233,7 +233,7 @@ module _ {s : Sizes} {w : Words} {r : ℕ} (high : 1 < r) (whole : WholeFor s w)
     live-crosses x q n =
         let c : ℕ = q .object in
         let h = few c (q .field) (q .lives) (q .low) in
-        let z : x / 16 ≡ placed W c = omega (arith, q .at) in
+        let z : cellOf x ≡ placed W c = omega (arith, q .at) in
         record {
           used = subst (InUse s T) (sym z) (placed-used whole sends m rm F c (q .lives));
           field = omega (arith, q .at);
@@ -252,10 +252,10 @@ module _ {s : Sizes} {w : Words} {r : ℕ} (high : 1 < r) (whole : WholeFor s w)
         y : Says whole (q .entry)
         y = entry-says whole (q .entry) (q .low)
 
-        page : slotIn (w .remember) (q .entry) / 256 ≡ pageOf (y .object)
+        page : pageAt (slotIn (w .remember) (q .entry)) ≡ pageOf (y .object)
         page = omega (arith, y .at, low whole (y .object) (y .field) (y .used) (y .low))
 
-        kept : ownerOf s T (slotIn (w .remember) (q .entry) / 256) ≢ r
+        kept : ownerOf s T (pageAt (slotIn (w .remember) (q .entry))) ≢ r
         kept z = q .kept (q .region ∙ sym (new-gone s r W′ T (slotIn (w .remember) (q .entry)) (slotRegionIn (s .entries) (w .remember) (q .entry)) z))
 
         outside : Outside s w (partOf s w r) (y .object)
@@ -340,8 +340,8 @@ module _ {s : Sizes} {w : Words} {r : ℕ} (high : 1 < r) (whole : WholeFor s w)
                 let y = entry-of whole (q .object) (q .field) (k .0) (o .used) (q .low) (k .2) (k .1 .used .page) up ne in
                 inl (record { entry = y .0; low = y .1; slot = y .2 ∙ sym at; region = region (y .0) (y .2 ∙ sym at) (y .3); kept = n })
 
-            out : (i : ℕ) → slotIn (w .remember) i ≡ x → ownerOf s T (slotIn (w .remember) i / 256) ≢ r
-            out i z = subst (λ (y : ℕ). ownerOf s T (y / 256) ≢ r) (sym z) (live-out x q)
+            out : (i : ℕ) → slotIn (w .remember) i ≡ x → ownerOf s T (pageAt (slotIn (w .remember) i)) ≢ r
+            out i z = subst (λ (y : ℕ). ownerOf s T (pageAt y) ≢ r) (sym z) (live-out x q)
 
             named : Outside s w (partOf s w r) (k .0) ⊎ Survivor s w (partOf s w r) (k .0) → Entry s r (s .entries) (usedIn (w .remember)) W′ (w .remember) T x (crossAt s W′ T x)
             named (inl u) =

@@ -1,7 +1,7 @@
 -- The census of pages is what the copy asks: where the new pages that the rules count fit the free pages, every target has room.
-use mathlib.Core.Path.{_≡_, refl, sym, ap, ap₂, _∙_, subst₂}
+use mathlib.Core.Path.{_≡_, sym, ap, ap₂, _∙_, subst₂}
 use mathlib.Core.Logic.{_≢_}
-use mathlib.Core.Bool.{Bool, true, false, cond}
+use mathlib.Core.Bool.{Bool, cond}
 use Prim.Native.Nat.{ℕ, suc, _*_, _≤_, _<_}
 use native.Mathlib.Decide.{ℕ-discrete, decLt}
 use native.Mathlib.Nat.{zero-mul, one-mul}
@@ -26,8 +26,7 @@ use Rattle.promises.specs.OwnedPages.{pagesOwned, objects-on-pages}
 use Rattle.mark.specs.Survivors.{Marked}
 use Rattle.mark.specs.Reached.{home-cell, cell-home}
 use Rattle.copy.specs.Marks.{hit, hits}
-use Rattle.copy.specs.Taking as ev
-use Rattle.copy.specs.Taking.{ownedOn}
+use Rattle.pages.specs.Owned.{ownedOne, ownedIn}
 use Rattle.copy.specs.Copying.{need, Plan, region-bounds}
 use Rattle.promises.specs.Ends.{partOf, Survivor}
 use Rattle.ended.specs.EndQuestion.{pagesNeeded}
@@ -35,10 +34,6 @@ use Rattle.ended.specs.EndPages.{morePages, new-pages-ended}
 use Rattle.ended.specs.WordsPlaced.{target-level}
 use Rattle.ending.specs.MarkedWords.{marked-survivor, unmarked-freed, owner-same}
 use Rattle.ending.specs.MarkedReady.{objects-same, ready}
-
-cond-bit : (b : Bool) → _≡_ {A = ℕ} (cond b 1 0) (bit b)
-cond-bit true = refl
-cond-bit false = refl
 
 -- ---- the marked cells are the survivors
 
@@ -83,11 +78,11 @@ module _ (s : Sizes) (w : Words) (k : WholeFor s w) (space : Room s (length (w .
       let x = target-level s w k t j th deep c (cell-home s w k c r (v .used) (v .within)) (v .goes) in
       (x .0, omega (arith, x .1), M .goes c (v .used) (v .within) ∙ x .2)
 
-  free-same : ev.pagesOwned s (w₁ .tables) 0 ≡ pagesOwned s w 0
-  unfolding ev.pagesOwned
+  free-same : ownedIn s (w₁ .tables) 0 (s .pages) ≡ pagesOwned s w 0
+  unfolding ownedOne
   free-same =
-      sum-same (ownedOn s (w₁ .tables) 0) (λ page. bit (eqb (ownerIn s w page) 0)) (s .pages)
-      (λ page l. ap (λ (x : ℕ). cond (eqb x 0) 1 0) (owner-same M space page l) ∙ cond-bit (eqb (ownerIn s w page) 0))
+      sum-same (ownedOne s (w₁ .tables) 0) (λ page. bit (eqb (ownerIn s w page) 0)) (s .pages)
+      (λ page l. ap (λ (x : ℕ). bit (eqb x 0)) (owner-same M space page l))
 
   needs : sum (λ l. need s (regionAt s t l) (w₁ .cells) (w₁ .tables)) (suc j) ≡ pagesNeeded s w t j
   needs =

@@ -11,8 +11,8 @@ use Rattle.rules.specs.declared.Sizes.{Sizes}
 use Rattle.laws.specs.SameRules.{renamed}
 use Rattle.layout.specs.declared.Kind.the-variants.{Reference}
 use Rattle.layout.specs.Places.{Room}
-use Rattle.layout.specs.Cells.{headAt, fieldAt, headOf, workOf, fieldOf, refsOf, fieldCount, pageOf, mostFields, kind-among}
-use Rattle.layout.specs.Words.{Words, Used, headIn, refCount, cellCount}
+use Rattle.layout.specs.Cells.{headAt, fieldAt, headOf, workOf, fieldOf, refsOf, fieldCount, pageOf, mostFields, field-apart, field-once}
+use Rattle.layout.specs.Words.{Words, Used, headIn, refCount}
 use Rattle.promises.specs.Whole.{WholeFor}
 use Rattle.promises.specs.Reading.{refs-few}
 use Rattle.promises.specs.Ends.{Part, Outside, Survivor, Lives, outside-lives, survivor-lives, lives-how}
@@ -25,7 +25,7 @@ use Rattle.ending.specs.Placing.{Sends, placed, forwarded-placed, outsid
 
 -- fields of different objects stand apart
 pub fields-apart : (c d f g : ℕ) → f < mostFields → g < mostFields → fieldAt c f ≡ fieldAt d g → (c ≡ d) × (f ≡ g)
-fields-apart c d f g l m e = (omega arith, omega arith)
+fields-apart c d f g l m e = let z : c ≡ d = field-apart l m e in (z, field-once c f g (e ∙ ap (λ (x : ℕ). fieldAt x g) (sym z)))
 
 -- the word at x is field f of an object outside the part, a reference
 pub record OutsideSlot (s : Sizes) (w : Words) (e : Part) (x : ℕ) : Type 0 where
@@ -78,7 +78,7 @@ module _ {s : Sizes} {w w₁ : Words} {e : Part} (whole : WholeFor s w) (sends :
       let z = copy-cell (q .object) v in
       record {
         cell = q .object;
-        among = (omega arith, omega (arith, v .used .page));
+        among = v .used .page;
         old = record {
           used = F .copying .keeps (q .object) (now-used m rm (q .object) (v .used));
           moved = λ y. omega (arith, survivor-forward whole sends m rm F (q .object) v);

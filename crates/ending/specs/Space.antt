@@ -76,15 +76,15 @@ module _ {s : Sizes} {w w₁ : Words} {r : ℕ} (high : 1 < r) (whole : WholeFor
 
     pub crosses-live : (x : ℕ) → Crosses s r W′ T x → LiveSlot high whole sends m rm F R x
     crosses-live x k =
-        let page : x / 256 ≡ pageOf (cellOf x) = omega arith in
+        let page : pageAt x ≡ pageOf (cellOf x) = omega arith in
         let o = placed-only whole sends m rm F (cellOf x) (k .used) (λ z. k .out (ap (ownerOf s T) page ∙ page-kept (pageOf (cellOf x)) (k .used .page) z)) in
         let e : refsOf W′ (cellOf x) ≡ refCount w (o .0) = ap (refsOf W′) (sym (o .2)) ∙ ap (fieldCount Reference) (head-after whole sends m rm F (holding high whole sends) R (o .0) (o .1)) in
         record {
           object = o .0;
-          field = x % 16 - 2;
+          field = wordOf x - 2;
           lives = o .1;
           low = omega (arith, k .field, k .ref, e);
-          at = (let z : x ≡ fieldAt (cellOf x) (x % 16 - 2) = omega (arith, k .field) in z) ∙ ap (λ (d : ℕ). fieldAt d (x % 16 - 2)) (sym (o .2));
+          at = (let z : x ≡ fieldAt (cellOf x) (wordOf x - 2) = omega (arith, k .field) in z) ∙ ap (λ (d : ℕ). fieldAt d (wordOf x - 2)) (sym (o .2));
         }
 
     -- where such a slot stood before the end it counts by the rules
@@ -95,8 +95,8 @@ module _ {s : Sizes} {w w₁ : Words} {r : ℕ} (high : 1 < r) (whole : WholeFor
         let f : ℕ = q .field in
         let h : f < mostFields = omega (arith, refs-few s w whole c (q .lives .used), q .low) in
         let y = live-names high whole sends m rm F R c f (q .lives) (q .low) (λ z. k .cross (ap (λ (p : ℕ). crossAt s W′ T p) (q .at) ∙ z)) in
-        let cell : fieldAt c f / 16 ≡ c = omega arith in
-        let word : fieldAt c f % 16 ≡ 2 + f = omega arith in
+        let cell : cellOf (fieldAt c f) ≡ c = omega arith in
+        let word : wordOf (fieldAt c f) ≡ 2 + f = omega arith in
         let one : crossRef after c (suc (y .0)) ≡ 1 =
         ap₂ (λ (a b : Bool). cond (not a && not b) 1 0)
         (ne-eqb (after .home c) (after .home (y .0)) (λ z. y .5 (sym (home-is (y .0) (y .1)) ∙ sym z ∙ home-is c (q .lives))))

@@ -8,27 +8,26 @@ use native.Mathlib.Omega.{arith}
 use lib.ListN.{length, getD}
 use Rattle.lists.specs.Part.{Off, Lists}
 use Rattle.rules.specs.declared.Sizes.{Sizes}
-use Rattle.rules.specs.Regions.{regionAt}
+use Rattle.rules.specs.Regions.{regionAt, regions}
 use Rattle.rules.specs.Graph.{ended, crossing}
 use Rattle.laws.specs.RegionLaws.{region-high, numbers-rise}
 use Rattle.laws.specs.SameRules.{renamed}
 use Rattle.layout.specs.declared.Kind.the-variants.{Reference}
 use Rattle.layout.specs.Places.{Room, depthAt, varAt, ownerAt, varOf, depthOf, ownerOf, usedOf, markOf, usedIn, slotIn, slotRegionIn}
 use Rattle.layout.specs.Cells.{fieldAt, fieldOf, workOf, refsOf, fieldCount, pageOf, cellOn, cellNamed, mostFields}
-use Rattle.layout.specs.Words.{Words, InUse, Used, Names, depthIn, ownerIn, refCount, cellCount, graphOf}
+use Rattle.layout.specs.Words.{Words, InUse, Used, Names, depthIn, ownerIn, refCount, graphOf}
 use Rattle.promises.specs.Whole.{WholeFor}
 use Rattle.promises.specs.OwnedPages.{pagesOwned}
 use Rattle.promises.specs.Reading.{refs-few, remember-room, used-home}
 use Rattle.promises.specs.Ends.{partOf, Survivor, Lives, outside-lives, survivor-lives}
 use Rattle.mark.specs.Marks.{page-unmarked}
 use Rattle.mark.specs.Survivors.{Marked}
-use Rattle.pages.specs.Owned.{regionsOf}
 use Rattle.copy.specs.Passing.{Ready, moves-ready, moves-tables}
 use Rattle.copy.specs.Copying.{Plan, Copy, copy-marks, region-bounds}
 use Rattle.copy.specs.Forward.{Forwards, forward, copy-forwards}
 use Rattle.settle.specs.Rewrite.{Rewritten, rewritten-join, link-same, refs-same}
 use Rattle.settle.specs.RewriteSlots.{Slots, Fields, Variables}
-use Rattle.settle.specs.RewriteCopies.{Old, Wiring, wiring-now, Between, slot-now, slot-then}
+use Rattle.settle.specs.RewriteCopies.{Old, Wiring, wiring-now, OnPages, slot-now, slot-then}
 use Rattle.settle.specs.Update.{Copies, Updating, Updated}
 use Rattle.settle.specs.Final.{Settles}
 use Rattle.ended.specs.EndQuestion.{pagesNeeded, crossingAfter}
@@ -54,8 +53,8 @@ module _ {s : Sizes} {t k r : ℕ} {w w₁ : Words} (b : Begun s t k r w w₁) w
   pub high : 1 < r
   high = omega (arith, b .region, region-high s t k)
 
-  pub bounds : (1 ≤ r) × (r ≤ regionsOf s)
-  bounds = subst (λ (g : ℕ). (1 ≤ g) × (g ≤ regionsOf s)) (sym (b .region)) (region-bounds s t (suc k) (b .thread) (omega (arith, b .deep, b .whole .depths t (b .thread))))
+  pub bounds : (1 ≤ r) × (r ≤ regions s)
+  bounds = subst (λ (g : ℕ). (1 ≤ g) × (g ≤ regions s)) (sym (b .region)) (region-bounds s t (suc k) (b .thread) (omega (arith, b .deep, b .whole .depths t (b .thread))))
 
   -- a survivor goes to a region around r
   away : (c : ℕ) → Survivor s w (partOf s w r) c → partOf s w r .goes c ≢ r
@@ -149,7 +148,7 @@ module _ {s : Sizes} {t k r : ℕ} {w w₁ : Words} (b : Begun s t k r w w₁) w
 
     -- the slots of the copies, by cells in which every reference of a copy names a cell
     wired : {X : List ℕ} → length X ≡ length W → ((d : ℕ) → workOf X d ≡ workOf W d) → ((d : ℕ) → refsOf X d ≡ refsOf W d)
-        → ((d f : ℕ) → Survivor s w (partOf s w r) d → f < refCount w d → Names s (fieldOf X (placed W d) f)) → Wiring s (Between 0 (cellCount s)) X T
+        → ((d f : ℕ) → Survivor s w (partOf s w r) d → f < refCount w d → Names s (fieldOf X (placed W d) f)) → Wiring s (OnPages (s .pages)) X T
     wired {X} long links heads named =
         record {
           few = b .room .few;
@@ -184,7 +183,7 @@ module _ {s : Sizes} {t k r : ℕ} {w w₁ : Words} (b : Begun s t k r w w₁) w
               names = λ f l. named d f v (omega (arith, n));
             })
 
-    copies-wired : Wiring s (Between 0 (cellCount s)) W T
+    copies-wired : Wiring s (OnPages (s .pages)) W T
     copies-wired =
         wired refl (λ d. refl) (λ d. refl)
         (λ d f v l.
@@ -198,7 +197,7 @@ module _ {s : Sizes} {t k r : ℕ} {w w₁ : Words} (b : Begun s t k r w w₁) w
           old-no-copy (b .whole) sends (b .marks) (b .room) F (o .object) (o .field) (o .outside .used) (few (o .object) (o .field) (outside-lives (o .outside)) (o .low))
           (subst (Copies s W T) (o .at) q)
 
-      copies-ask : Wiring s (Between 0 (cellCount s)) W₂ T
+      copies-ask : Wiring s (OnPages (s .pages)) W₂ T
       copies-ask = wiring-now R₂ copies-wired no-copy
 
       pub rewritten-both : {W₃ : List ℕ} → Rewritten (Copies s W₂ T) W₂ W₃ → Rewritten (λ x. Held s w r x ⊎ Copies s W T x) W W₃

@@ -26,7 +26,7 @@ use Rattle.promises.specs.Promises.{DidHere}
 use Rattle.promises.specs.OwnedPages.{pagesOwned, owner-low, region-pages, counted-objects}
 use Rattle.promises.specs.Ends.{partOf}
 use Rattle.promises.specs.Reading.{cells-room}
-use Rattle.pages.specs.Owned.{ownedOne, ownedIn, Paged, regionsOf}
+use Rattle.pages.specs.Owned.{ownedOne, ownedIn, Paged}
 use Rattle.mark.specs.Marks.{Kept, Shaped, kept-shaped, kept-room, page-unmarked}
 use Rattle.mark.specs.Holders.{Holding, holding-kept}
 use Rattle.mark.specs.Survivors.{Marked, marked-kept, space-of, shaped-at, holding-at}
@@ -70,7 +70,7 @@ module _ {p : Sizes} {t : ℕ} {w w₁ : Words} (m : Ending p t w w₁) where
 
   -- ---- what the calls ask
 
-  pub cells-now : 256 * p .pages ≤ length (w₁ .cells)
+  pub cells-now : cellsWords p ≤ length (w₁ .cells)
   cells-now = omega (arith, cells-room s w (m .whole), marks .cells-length)
 
   level-now : depthOf (w₁ .tables) t ≡ suc k
@@ -79,7 +79,7 @@ module _ {p : Sizes} {t : ℕ} {w w₁ : Words} (m : Ending p t w w₁) where
   pub depth-open : 1 ≤ depthOf (w₁ .tables) t
   depth-open = omega (arith, level-now)
 
-  region-now : (1 ≤ region) × (region ≤ regionsOf p)
+  region-now : (1 ≤ region) × (region ≤ regions p)
   region-now = (region-pos s t (depthOf (w₁ .tables) t), region-bounds p t (depthOf (w₁ .tables) t) (m .thread) (depth-high m) .1)
 
   pub small-now : (page : ℕ) → page < p .pages → markOf p (w₁ .tables) page < 2 ^ 16
@@ -96,7 +96,7 @@ module _ {p : Sizes} {t : ℕ} {w w₁ : Words} (m : Ending p t w w₁) where
       subst (λ (M : List ℕ). Holding p (w₁ .cells) M (w₁ .tables)) (sym (marks .remember))
       (holding-kept kept (space-of p w (m .whole) (m .fits)) (holding-at p w (m .whole) (m .fits)))
 
-  pub targets-now : (c : ℕ) → pageOf c < p .pages → marked p (w₁ .tables) c ≡ 1 → workOf (w₁ .cells) c ≤ regionsOf p
+  pub targets-now : (c : ℕ) → pageOf c < p .pages → marked p (w₁ .tables) c ≡ 1 → workOf (w₁ .cells) c ≤ regions p
   targets-now = targets-low s w (m .whole) (room-of m) t k (m .thread) (deep m) w₁ marks
 
   -- the pages of the regions, as the counts say
@@ -124,8 +124,8 @@ module _ {p : Sizes} {t : ℕ} {w w₁ : Words} (m : Ending p t w w₁) where
 
   -- r is the region as the code has it
   module _ {r : ℕ} (er : r ≡ region) where
-    pub real : (1 ≤ r) × (r ≤ regionsOf p)
-    real = subst (λ (x : ℕ). (1 ≤ x) × (x ≤ regionsOf p)) (sym er) region-now
+    pub real : (1 ≤ r) × (r ≤ regions p)
+    real = subst (λ (x : ℕ). (1 ≤ x) × (x ≤ regions p)) (sym er) region-now
 
     pub listed : {n : ℕ} {l : List ℕ} → Lists (λ page. ownerOf p (w₁ .tables) page ≡ r) (p .pages) n l → Lists (λ page. ownerOf p (w₁ .tables) page ≡ region) (p .pages) n l
     listed {n} {l} = subst (λ (x : ℕ). Lists (λ page. ownerOf p (w₁ .tables) page ≡ x) (p .pages) n l) er

@@ -5,11 +5,10 @@ ghost use mathlib.Core.List.{List};
 ghost use Prim.Native.Nat.{ℕ, _<_, _≤_};
 ghost use lib.ListN.{length, getD};
 ghost use Rattle.lists.specs.Part.{Lists};
-ghost use Rattle.rules.specs.Regions.{regionAt};
+ghost use Rattle.rules.specs.Regions.{regionAt, regions};
 ghost use Rattle.layout.specs.Places.{depthOf, ownerOf, markOf};
 ghost use Rattle.layout.specs.Words.{words};
 ghost use Rattle.pages.specs.Pages.{noteWords};
-ghost use Rattle.pages.specs.Owned.{regionsOf};
 ghost use Rattle.copy.specs.Marks.{hits};
 ghost use Rattle.ending.specs.Ending.{Ending, Accepted, HasEnded};
 use rules::Sizes;
@@ -29,8 +28,8 @@ pub fn evacuate(
 )
     requires { ⌜ ((c t : List ℕ) × Ending p thread (words c (now remember) t) (words (now cells) (now remember) (now tables)) × Accepted p thread (words c (now remember) t)) ⌝ }
     requires { ⌜ Lists (λ page. ownerOf p (now tables) page ≡ regionAt p thread (depthOf (now tables) thread)) (p .pages) n (now list) ⌝ }
-    requires { ⌜ ((g : ℕ) → 1 ≤ g → g ≤ regionsOf p → getD (now come) g 0 ≡ 0 → hits p (now cells) (now tables) g ≡ 0) ⌝ }
-    requires { ⌜ (noteWords ≤ length (now notes)) × (regionsOf p < length (now come)) ⌝ }
+    requires { ⌜ ((g : ℕ) → 1 ≤ g → g ≤ regions p → getD (now come) g 0 ≡ 0 → hits p (now cells) (now tables) g ≡ 0) ⌝ }
+    requires { ⌜ (noteWords ≤ length (now notes)) × (regions p < length (now come)) ⌝ }
     ensures { λ _. ⌜ ((c t : List ℕ) → Ending p thread (words c (now (remember .entry)) t) (words (now (cells .entry)) (now (remember .entry)) (now (tables .entry))) → Accepted p thread (words c (now (remember .entry)) t) → HasEnded p thread (words c (now (remember .entry)) t) (words (now (cells .exit)) (now (remember .exit)) (now (tables .exit)))) ⌝ }
 {
     let level = layout::wide(layout::tables::depth(p, tables, thread));

@@ -10,10 +10,10 @@ use native.Mathlib.Decide.{decLt, ℕ-discrete}
 use native.Mathlib.Omega.{arith}
 use lib.ListN.{set}
 use Rattle.lists.specs.Below.{upto}
+use Rattle.rules.specs.Regions.{regions}
 use Rattle.rules.specs.declared.Sizes.{Sizes}
 use Rattle.layout.specs.Places.{Room, ownerAt, usedAt, countAt, ownerOf, usedOf, countOf}
 use Rattle.promises.specs.Whole.{Partial}
-use Rattle.pages.specs.Owned.{regionsOf}
 
 -- the partly filled page of region g
 pub record Partly (p : Sizes) (t : List ℕ) (g page : ℕ) : Type 0 where
@@ -46,7 +46,7 @@ pub record Highest (p : Sizes) (t : List ℕ) (low high page : ℕ) : Type 0 whe
 abbrev pub noteWords : ℕ
 noteWords = 130
 
-pub note-low : {p : Sizes} {n : ℕ} (region : ℕ) → Room p n → region ≤ regionsOf p → region < noteWords
+pub note-low : {p : Sizes} {n : ℕ} (region : ℕ) → Room p n → region ≤ regions p → region < noteWords
 note-low region r l = omega (arith, mul-le-mul (r .threads-high) (r .depth-high))
 
 -- the page of the next object is a page or the number of pages

@@ -5,10 +5,11 @@ ghost use Prim.Native.Nat.{_+_, _^_, _<_, _≤_, min};
 ghost use lib.ListN.{length};
 ghost use Rattle.lists.specs.Says.{Says};
 ghost use Rattle.lists.specs.Part.{Lists};
+ghost use Rattle.rules.specs.Regions.{regions};
 ghost use Rattle.rules.specs.Graph.{pagesOf};
 ghost use Rattle.layout.specs.Places.{Room, ownerOf, usedOf, countOf};
 ghost use Rattle.layout.specs.Cells.{cellOn};
-ghost use Rattle.pages.specs.Owned.{regionsOf, ownedOne, ownedIn, Paged};
+ghost use Rattle.pages.specs.Owned.{ownedOne, ownedIn, Paged};
 ghost use Rattle.pages.specs.Pages.{fillsPages, noteWords, Filled, Found, Free, Highest, Partly, taken};
 use rules::Sizes;
 
@@ -60,7 +61,7 @@ pub fn free_pages(p: Sizes, tables: &[u32]) -> usize
 // from the last page and ends at the region's first.
 pub fn list_pages(p: Sizes, tables: &[u32], region: u32, list: &mut [u32]) -> usize
     requires { ⌜ Room p (length (now tables)) ⌝ }
-    requires { ⌜ (1 ≤ region) × (region ≤ regionsOf p) ⌝ }
+    requires { ⌜ (1 ≤ region) × (region ≤ regions p) ⌝ }
     requires { ⌜ ownedIn p (now tables) region (p .pages) ≡ pagesOf (countOf p (now tables) region) ⌝ }
     requires { ⌜ p .pages ≤ length (now list) ⌝ }
     ensures { λ n. ⌜ Lists (λ page. ownerOf p (now (tables .entry)) page ≡ region) (p .pages) n (now (list .exit)) ⌝ }
@@ -168,7 +169,7 @@ fn find_page(p: Sizes, tables: &[u32], region: u32) -> usize
 fn search_page(p: Sizes, tables: &[u32], notes: &mut [u32], region: u32) -> usize
     requires { ⌜ Room p (length (now tables)) ⌝ }
     requires { ⌜ noteWords ≤ length (now notes) ⌝ }
-    requires { ⌜ (1 ≤ region) × (region ≤ regionsOf p) × Filled p (now tables) region ⌝ }
+    requires { ⌜ (1 ≤ region) × (region ≤ regions p) × Filled p (now tables) region ⌝ }
     ensures { λ r. ⌜ Found p (now (tables .entry)) region r ⌝ }
 {
     if fills_pages(layout::tables::count(p, tables, layout::wide(region))) {
@@ -181,7 +182,7 @@ fn search_page(p: Sizes, tables: &[u32], notes: &mut [u32], region: u32) -> usiz
 pub fn page_for(p: Sizes, tables: &[u32], notes: &mut [u32], region: u32) -> usize
     requires { ⌜ Room p (length (now tables)) ⌝ }
     requires { ⌜ noteWords ≤ length (now notes) ⌝ }
-    requires { ⌜ (1 ≤ region) × (region ≤ regionsOf p) × Filled p (now tables) region ⌝ }
+    requires { ⌜ (1 ≤ region) × (region ≤ regions p) × Filled p (now tables) region ⌝ }
     ensures { λ r. ⌜ Found p (now (tables .entry)) region r ⌝ }
 {
     let number = layout::wide(region);
@@ -198,7 +199,7 @@ pub fn page_for(p: Sizes, tables: &[u32], notes: &mut [u32], region: u32) -> usi
 pub fn take_cell(p: Sizes, tables: &mut [u32], page: usize, region: u32) -> usize
     requires { ⌜ Room p (length (now tables)) ⌝ }
     requires { ⌜ (page < p .pages) × (usedOf p (now tables) page < 16) ⌝ }
-    requires { ⌜ (1 ≤ region) × (region ≤ regionsOf p) × (countOf p (now tables) region + 1 < 2 ^ 32) ⌝ }
+    requires { ⌜ (1 ≤ region) × (region ≤ regions p) × (countOf p (now tables) region + 1 < 2 ^ 32) ⌝ }
     ensures { λ r. ⌜ (r ≡ cellOn page (usedOf p (now (tables .entry)) page)) × (now (tables .exit) ≡ taken p (now (tables .entry)) page region) ⌝ }
 {
     let place = layout::tables::used(p, tables, page);

@@ -2,19 +2,20 @@
 use mathlib.Core.Path.{_≡_, refl, sym, ap, ap₂, _∙_, subst}
 use mathlib.Core.Logic.{_≢_, _⊎_, inl, inr}
 use mathlib.Core.List.{List}
-use Prim.Native.Nat.{ℕ, _+_, _-_, _/_, _≤_, _<_}
+use Prim.Native.Nat.{ℕ, _+_, _-_, _≤_, _<_}
 use native.Mathlib.Decide.{ℕ-discrete}
 use native.Mathlib.Omega.{arith}
 use lib.ListN.{length, getD, set, length-set}
 use lib.Seq.{getD-set-same, getD-set-other}
 use Rattle.rules.specs.declared.Sizes.{Sizes}
+use Rattle.rules.specs.Regions.{regions}
 use Rattle.lists.specs.Counting.{sum-same, sum-none}
 use Rattle.layout.specs.Places.{Room, depthAt, ownerAt, usedAt, markAt, countAt, depthOf, ownerOf, usedOf, markOf, countOf, countsFrom, ownersFrom}
+use Rattle.layout.specs.Cells.{pageOf, pageCells}
 use Rattle.layout.specs.Words.{InUse}
 use Rattle.promises.specs.Whole.{objectsOn, objectsOf}
 use Rattle.pages.specs.Pages.{Partly}
 use Rattle.copy.specs.Marks.{sameThen, then-no}
-use Rattle.pages.specs.Owned.{regionsOf}
 use Rattle.copy.specs.Taking.{Regular}
 
 -- the three words of page q
@@ -129,7 +130,7 @@ pub record Ended (p : Sizes) (r t : ℕ) (T T′ : List ℕ) : Type 0 where
   pub pages : Released p r (p .pages) T mid
   pub tables : T′ ≡ set (set mid (countAt p r) 0) (depthAt t) (depthOf T t - 1)
 
-module _ {p : Sizes} {r t : ℕ} {T T′ : List ℕ} (a : Regular p T) (real : 1 ≤ r) (low : r ≤ regionsOf p) (thread : t < p .threads) (h : Ended p r t T T′) where
+module _ {p : Sizes} {r t : ℕ} {T T′ : List ℕ} (a : Regular p T) (real : 1 ≤ r) (low : r ≤ regions p) (thread : t < p .threads) (h : Ended p r t T T′) where
   M : List ℕ
   M = h .mid
 
@@ -177,15 +178,15 @@ module _ {p : Sizes} {r t : ℕ} {T T′ : List ℕ} (a : Regular p T) (real : 1
       }
 
   -- the cells in use are those of other regions
-  pub ended-use : (c : ℕ) → InUse p T c → ownerOf p T (c / 16) ≢ r → InUse p T′ c
-  ended-use c u n = record { page = u .page; place = omega (arith, u .place, ended-alike (c / 16) (u .page) n .used) }
+  pub ended-use : (c : ℕ) → InUse p T c → ownerOf p T (pageOf c) ≢ r → InUse p T′ c
+  ended-use c u n = record { page = u .page; place = omega (arith, u .place, ended-alike (pageOf c) (u .page) n .used) }
 
-  pub ended-used : (c : ℕ) → InUse p T′ c → InUse p T c × (ownerOf p T (c / 16) ≢ r)
-  ended-used c u = go (ℕ-discrete (ownerOf p T (c / 16)) r)
+  pub ended-used : (c : ℕ) → InUse p T′ c → InUse p T c × (ownerOf p T (pageOf c) ≢ r)
+  ended-used c u = go (ℕ-discrete (ownerOf p T (pageOf c)) r)
     where
-      go : Dec (ownerOf p T (c / 16) ≡ r) → InUse p T c × (ownerOf p T (c / 16) ≢ r)
-      go (yes e) = absurd (let z : ⊥ = omega (arith, u .place, ended-blank (c / 16) (u .page) e .used) in z)
-      go (no n) = (record { page = u .page; place = omega (arith, u .place, ended-alike (c / 16) (u .page) n .used) }, n)
+      go : Dec (ownerOf p T (pageOf c) ≡ r) → InUse p T c × (ownerOf p T (pageOf c) ≢ r)
+      go (yes e) = absurd (let z : ⊥ = omega (arith, u .place, ended-blank (pageOf c) (u .page) e .used) in z)
+      go (no n) = (record { page = u .page; place = omega (arith, u .place, ended-alike (pageOf c) (u .page) n .used) }, n)
 
   pub ended-objects : (g : ℕ) → 1 ≤ g → g ≢ r → objectsOf p T′ g ≡ objectsOf p T g
   ended-objects g pos ne = sum-same (objectsOn p T′ g) (objectsOn p T g) (p .pages) (λ q l. go q l (ℕ-discrete (ownerOf p T q) r))
@@ -222,7 +223,7 @@ module _ {p : Sizes} {r t : ℕ} {T T′ : List ℕ} (a : Regular p T) (real : 1
       taken′ q l n (yes z) = absurd (n (ended-blank q l z .owner))
       taken′ q l n (no m) = let b = ended-alike q l m in omega (arith, b .used, a .taken q l (λ e. n (b .owner ∙ e)))
 
-      full′ : (q : ℕ) → q < p .pages → Dec (ownerOf p T q ≡ r) → usedOf p T′ q ≤ 16
+      full′ : (q : ℕ) → q < p .pages → Dec (ownerOf p T q ≡ r) → usedOf p T′ q ≤ pageCells
       full′ q l (yes z) = omega (arith, ended-blank q l z .used)
       full′ q l (no m) = omega (arith, ended-alike q l m .used, a .full q l)
 
@@ -232,7 +233,7 @@ module _ {p : Sizes} {r t : ℕ} {T T′ : List ℕ} (a : Regular p T) (real : 1
           let b = ended-alike x (u .low) m in
           record { low = u .low; partial = record { owner = sym (b .owner) ∙ u .partial .owner; part = omega (arith, u .partial .part, b .used) } }
 
-      count′ : (g : ℕ) → 1 ≤ g → g ≤ regionsOf p → Dec (g ≡ r) → countOf p T′ g ≡ objectsOf p T′ g
+      count′ : (g : ℕ) → 1 ≤ g → g ≤ regions p → Dec (g ≡ r) → countOf p T′ g ≡ objectsOf p T′ g
       count′ g pos le (yes e) = subst (λ (x : ℕ). countOf p T′ x ≡ objectsOf p T′ x) (sym e) (ended-count ∙ sym ended-none)
       count′ g pos le (no n) =
           ended-rest (countAt p g) (λ z. omega arith) (λ z. n (omega arith)) (inr (omega arith)) ∙ a .count g pos le

@@ -1,11 +1,11 @@
 // Release: the pages of the ending region become free, its count 0, the depth of its thread one less.
 ghost use mathlib.Core.Path.{_≡_};
-ghost use Prim.Native.Nat.{ℕ, _<_, _≤_};
+ghost use Prim.Native.Nat.{_<_, _≤_};
 ghost use lib.ListN.{length};
 ghost use Rattle.lists.specs.Part.{Lists, Rises};
 ghost use Rattle.layout.specs.Places.{Room, ownerOf, depthOf};
 ghost use Rattle.pages.specs.Pages.{noteWords};
-ghost use Rattle.pages.specs.Owned.{regionsOf};
+ghost use Rattle.rules.specs.Regions.{regions};
 ghost use Rattle.copy.specs.Taking.{Regular};
 ghost use Rattle.release.specs.Notes.{noted};
 ghost use Rattle.release.specs.Release.{Released, Ended};
@@ -53,7 +53,7 @@ pub fn release(
 )
     requires { ⌜ Room p (length (now tables)) ⌝ }
     requires { ⌜ Lists (λ page. ownerOf p (now tables) page ≡ region) (p .pages) n (now list) ⌝ }
-    requires { ⌜ (1 ≤ region) × (region ≤ regionsOf p) ⌝ }
+    requires { ⌜ (1 ≤ region) × (region ≤ regions p) ⌝ }
     requires { ⌜ (thread < p .threads) × (1 ≤ depthOf (now tables) thread) ⌝ }
     requires { ⌜ noteWords ≤ length (now notes) ⌝ }
     ensures { λ _. ⌜ Ended p region thread (now (tables .entry)) (now (tables .exit)) ⌝ }
@@ -68,7 +68,7 @@ pub fn release(
 // The same where the region's pages are not listed yet.
 fn list_and_release(p: Sizes, tables: &mut [u32], notes: &mut [u32], region: u32, thread: usize)
     requires { ⌜ Regular p (now tables) ⌝ }
-    requires { ⌜ (1 ≤ region) × (region ≤ regionsOf p) ⌝ }
+    requires { ⌜ (1 ≤ region) × (region ≤ regions p) ⌝ }
     requires { ⌜ (thread < p .threads) × (1 ≤ depthOf (now tables) thread) ⌝ }
     requires { ⌜ noteWords ≤ length (now notes) ⌝ }
     ensures { λ _. ⌜ Ended p region thread (now (tables .entry)) (now (tables .exit)) ⌝ }
@@ -81,7 +81,7 @@ fn list_and_release(p: Sizes, tables: &mut [u32], notes: &mut [u32], region: u32
 // The same: a region without objects has no pages, and needs no list.
 pub fn release_region(p: Sizes, tables: &mut [u32], notes: &mut [u32], region: u32, thread: usize)
     requires { ⌜ Regular p (now tables) ⌝ }
-    requires { ⌜ (1 ≤ region) × (region ≤ regionsOf p) ⌝ }
+    requires { ⌜ (1 ≤ region) × (region ≤ regions p) ⌝ }
     requires { ⌜ (thread < p .threads) × (1 ≤ depthOf (now tables) thread) ⌝ }
     requires { ⌜ noteWords ≤ length (now notes) ⌝ }
     ensures { λ _. ⌜ Ended p region thread (now (tables .entry)) (now (tables .exit)) ⌝ }

@@ -3,7 +3,7 @@ use mathlib.Core.Path.{_≡_, sym, _∙_, subst}
 use mathlib.Core.Logic.{_≢_}
 use mathlib.Core.Bool.{cond}
 use mathlib.Core.List.{List}
-use Prim.Native.Nat.{ℕ, _+_, _*_, _/_, _%_, _≤_, _<_}
+use Prim.Native.Nat.{ℕ, _+_, _*_, _≤_, _<_}
 use native.Mathlib.Decide.{decLt}
 use native.Mathlib.Omega.{arith}
 use borrow.Author.Tests.{lt-ltb, le-ltb}
@@ -11,21 +11,21 @@ use lib.Dec.{ltb}
 use lib.ListN.{length, getD}
 use Rattle.rules.specs.declared.Sizes.{Sizes}
 use Rattle.layout.specs.Places.{ownerOf, slotIn}
-use Rattle.layout.specs.Cells.{refsOf}
+use Rattle.layout.specs.Cells.{refsOf, cellOf, wordOf, pageAt}
 use Rattle.layout.specs.Words.{InUse}
 use Rattle.remember.specs.Crossing.{crossesFrom}
 use Rattle.remember.specs.Stretches.{Added, slot-below}
 
 -- the region into which the word at x crosses, if it is a slot
 abbrev pub crossAt : (p : Sizes) (W T : List ℕ) → ℕ → ℕ
-crossAt p W T x = crossesFrom p T (ownerOf p T (x / 256)) (getD W x 0)
+crossAt p W T x = crossesFrom p T (ownerOf p T (pageAt x)) (getD W x 0)
 
 -- the slot at x crosses once r has ended
 pub record Crosses (p : Sizes) (r : ℕ) (W T : List ℕ) (x : ℕ) : Type 0 where
-  pub used : InUse p T (x / 16)
-  pub field : 2 ≤ x % 16
-  pub ref : x % 16 < refsOf W (x / 16) + 2
-  pub out : ownerOf p T (x / 256) ≢ r
+  pub used : InUse p T (cellOf x)
+  pub field : 2 ≤ wordOf x
+  pub ref : wordOf x < refsOf W (cellOf x) + 2
+  pub out : ownerOf p T (pageAt x) ≢ r
   pub cross : crossAt p W T x ≢ 0
 
 -- a slot of P that crosses, with its region

@@ -3,7 +3,7 @@ use mathlib.Core.Path.{_≡_, sym, ap, ap₂, _∙_}
 use mathlib.Core.Logic.{_≢_, _⊎_, inl, inr, ⊎-elim}
 use mathlib.Core.Bool.{cond}
 use mathlib.Core.List.{List}
-use Prim.Native.Nat.{ℕ, _+_, _*_, _/_, _≤_, _<_}
+use Prim.Native.Nat.{ℕ, _+_, _*_, _≤_, _<_}
 use native.Mathlib.Decide.{ℕ-discrete}
 use native.Mathlib.Omega.{arith}
 use borrow.Author.Tests.{eq-eqb, ne-eqb}
@@ -11,6 +11,7 @@ use lib.Dec.{eqb}
 use lib.ListN.{length, getD, set}
 use Rattle.rules.specs.declared.Sizes.{Sizes}
 use Rattle.layout.specs.Places.{ownerOf, cellsWords, slotIn, slotRegionIn}
+use Rattle.layout.specs.Cells.{pageAt}
 use Rattle.layout.specs.Words.{Names}
 use Rattle.remember.specs.Crossing.{crossesFrom}
 use Rattle.remember.specs.Stretches.{Added, added-none, added-one, added-join, added-like, slot-above, region-above}
@@ -18,18 +19,18 @@ use Rattle.remember.specs.Stretches.{Added, added-none, added-one, added-join, 
 -- the region of the entry of slot s with region g after r ended, 0 if it goes
 unfoldable pub newRegion : (p : Sizes) (r : ℕ) (W T : List ℕ) (s g : ℕ) → ℕ
 newRegion p r W T s g =
-    cond (eqb (ownerOf p T (s / 256)) r) 0 (cond (eqb g r) (crossesFrom p T (ownerOf p T (s / 256)) (getD W s 0)) g)
+    cond (eqb (ownerOf p T (pageAt s)) r) 0 (cond (eqb g r) (crossesFrom p T (ownerOf p T (pageAt s)) (getD W s 0)) g)
 
-pub new-gone : (p : Sizes) (r : ℕ) (W T : List ℕ) (s g : ℕ) → ownerOf p T (s / 256) ≡ r → 0 ≡ newRegion p r W T s g
+pub new-gone : (p : Sizes) (r : ℕ) (W T : List ℕ) (s g : ℕ) → ownerOf p T (pageAt s) ≡ r → 0 ≡ newRegion p r W T s g
 unfolding newRegion
 new-gone p r W T s g e = rw (eq-eqb _ _ e)
 
-pub new-stays : (p : Sizes) (r : ℕ) (W T : List ℕ) (s g : ℕ) → ownerOf p T (s / 256) ≢ r → g ≢ r → g ≡ newRegion p r W T s g
+pub new-stays : (p : Sizes) (r : ℕ) (W T : List ℕ) (s g : ℕ) → ownerOf p T (pageAt s) ≢ r → g ≢ r → g ≡ newRegion p r W T s g
 unfolding newRegion
 new-stays p r W T s g n m = rw (ne-eqb _ _ n, ne-eqb _ _ m)
 
-pub new-moved : (p : Sizes) (r : ℕ) (W T : List ℕ) (s g : ℕ) → ownerOf p T (s / 256) ≢ r → g ≡ r
-    → crossesFrom p T (ownerOf p T (s / 256)) (getD W s 0) ≡ newRegion p r W T s g
+pub new-moved : (p : Sizes) (r : ℕ) (W T : List ℕ) (s g : ℕ) → ownerOf p T (pageAt s) ≢ r → g ≡ r
+    → crossesFrom p T (ownerOf p T (pageAt s)) (getD W s 0) ≡ newRegion p r W T s g
 unfolding newRegion
 new-moved p r W T s g n e = rw (ne-eqb _ _ n, eq-eqb _ _ e)
 

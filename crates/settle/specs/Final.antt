@@ -4,19 +4,19 @@ use mathlib.Core.Path.{_≡_, refl, sym, ap, _∙_, subst}
 use mathlib.Core.Logic.{_⊎_, inl, inr}
 use mathlib.Core.Bool.{cond}
 use mathlib.Core.List.{List}
-use Prim.Native.Nat.{ℕ, zero, suc, _+_, _-_, _*_, _/_, _%_, _≤_, _<_, max}
+use Prim.Native.Nat.{ℕ, zero, suc, _+_, _≤_, _<_, max}
 use native.Mathlib.Decide.{ℕ-discrete, decLt}
 use native.Mathlib.Omega.{arith}
 use lib.Dec.{eqb}
 use lib.ListN.{getD, set}
 use Rattle.rules.specs.declared.Sizes.{Sizes}
 use Rattle.layout.specs.Places.{ownerOf, usedOf, slotIn, slotRegionIn}
-use Rattle.layout.specs.Cells.{workOf, fieldOf, refsOf}
-use Rattle.layout.specs.Words.{Names}
+use Rattle.layout.specs.Cells.{workOf, fieldAt, fieldOf, refsOf, pageOf, placeOf, pageAt, cellNamed, count-page, page-count}
+use Rattle.layout.specs.Words.{Names, cellCount}
 use Rattle.settle.specs.Rewrite.{forwarded, Rewritten, rewritten-none, rewritten-like}
 use Rattle.remember.specs.Crossing.{crossesFrom}
 use Rattle.settle.specs.RewriteSlots.{Field, Fields, fields-start, field-moved}
-use Rattle.settle.specs.RewriteCopies.{CopySlot, Old, Wiring, Grown, Between, copy-fields, slot-less, slot-now, slot-then}
+use Rattle.settle.specs.RewriteCopies.{CopySlot, Old, Wiring, Grown, OnPages, copy-fields, slot-less, slot-now, slot-then}
 use Rattle.remember.specs.Stretches.{Added, added-like, Cleared}
 use Rattle.settle.specs.Entries.{newRegion, Stays, Entries}
 use Rattle.settle.specs.Update.{Copies, Updating, Updated, update-appending, updated}
@@ -30,55 +30,60 @@ fields-exist {p} {k} {d} {W} a (suc f) l =
     let q = fields-exist a f (omega arith) in
     let v : ℕ = forwarded (q .0) (fieldOf (q .0) d f) in
     let e : f + 1 ≡ suc f = omega arith in
-    (set (q .0) (16 * d + 2 + f) v, subst (λ (y : ℕ). Rewritten (Field d y) W (set (q .0) (16 * d + 2 + f) v)) e (field-moved a (omega arith) (q .1) v refl))
+    (set (q .0) (fieldAt d f) v, subst (λ (y : ℕ). Rewritten (Field d y) W (set (q .0) (fieldAt d f) v)) e (field-moved a (omega arith) (q .1) v refl))
 
 old? : (p : Sizes) (W T : List ℕ) (c : ℕ) → Dec (Old p W T c)
-old? p W T c = go (decLt (c / 16) (p .pages)) (decLt (c % 16) (usedOf p T (c / 16))) (ℕ-discrete (workOf W c) 0)
+old? p W T c = go (decLt (pageOf c) (p .pages)) (decLt (placeOf c) (usedOf p T (pageOf c))) (ℕ-discrete (workOf W c) 0)
   where
-    go : Dec (c / 16 < p .pages) → Dec (c % 16 < usedOf p T (c / 16)) → Dec (workOf W c ≡ 0) → Dec (Old p W T c)
+    go : Dec (pageOf c < p .pages) → Dec (placeOf c < usedOf p T (pageOf c)) → Dec (workOf W c ≡ 0) → Dec (Old p W T c)
     go (yes a) (yes b) (no z) = yes (record { used = record { page = a; place = b }; moved = z })
     go (no a) b z = no (λ u. a (u .used .page))
     go (yes a) (no b) z = no (λ u. b (u .used .place))
     go (yes a) (yes b) (yes z) = no (λ u. u .moved z)
 
 -- cell k after those below it
-between-grown : (k : ℕ) → Grown (Between 0 k) k (Between 0 (suc k))
-between-grown k =
+below-grown : (k : ℕ) → Grown (λ c. c < k) k (λ c. c < suc k)
+below-grown k =
     record {
-      new = λ m. let z : ⊥ = omega (arith, m .1) in z;
-      here = (omega arith, omega arith);
-      keeps = λ y m. (m .0, omega (arith, m .1));
+      new = λ m. let z : ⊥ = omega arith in z;
+      here = omega arith;
+      keeps = λ y m. omega arith;
       split = λ y m. go y m (ℕ-discrete y k);
     }
   where
-    go : (y : ℕ) → Between 0 (suc k) y → Dec (y ≡ k) → Between 0 k y ⊎ (y ≡ k)
+    go : (y : ℕ) → y < suc k → Dec (y ≡ k) → (y < k) ⊎ (y ≡ k)
     go y m (yes e) = inr e
-    go y m (no n) = inl (m .0, omega (arith, m .1))
+    go y m (no n) = inl (omega arith)
 
-pub copies-exist : {p : Sizes} {W T : List ℕ} → Wiring p (Between 0 (16 * p .pages)) W T → (k : ℕ) → k ≤ 16 * p .pages
-    → (V′ : List ℕ) × Rewritten (CopySlot p (Between 0 k) W T) W V′
-copies-exist {p} {W} {T} w zero l = (W, rewritten-none (CopySlot p (Between 0 0) W T) W (λ x q. omega (arith, q .among .1)))
-copies-exist {p} {W} {T} w (suc k) l = go (copies-exist w k (omega arith)) (old? p W T k)
+cells-exist : {p : Sizes} {W T : List ℕ} → Wiring p (OnPages (p .pages)) W T → (k : ℕ) → k ≤ cellCount p
+    → (V′ : List ℕ) × Rewritten (CopySlot p (λ c. c < k) W T) W V′
+cells-exist {p} {W} {T} w zero l = (W, rewritten-none (CopySlot p (λ c. c < 0) W T) W (λ x q. omega (arith, q .among)))
+cells-exist {p} {W} {T} w (suc k) l = go (cells-exist w k (omega arith)) (old? p W T k)
   where
-    among : (y : ℕ) → Between 0 (suc k) y → Between 0 (16 * p .pages) y
-    among y m = (m .0, omega (arith, m .1))
+    among : (y : ℕ) → y < suc k → OnPages (p .pages) y
+    among y m = count-page y (omega arith)
 
-    go : (V′ : List ℕ) × Rewritten (CopySlot p (Between 0 k) W T) W V′ → Dec (Old p W T k) → (V′ : List ℕ) × Rewritten (CopySlot p (Between 0 (suc k)) W T) W V′
+    go : (V′ : List ℕ) × Rewritten (CopySlot p (λ c. c < k) W T) W V′ → Dec (Old p W T k) → (V′ : List ℕ) × Rewritten (CopySlot p (λ c. c < suc k) W T) W V′
     go q (yes u) =
         let x : ℕ = workOf (q .0) k in
-        let f = fields-exist (copy-fields w (between-grown k) among (q .1) x refl u) (refsOf (q .0) (x - 1)) (omega arith) in
-        (f .0, copy-rewritten w (between-grown k) among (q .1) x refl u (f .1))
-    go q (no n) = (q .0, rewritten-like (q .1) (λ x s. less x s (ℕ-discrete (s .cell) k)) (λ x s. slot-less (λ y m. (m .0, omega (arith, m .1))) x s))
+        let f = fields-exist (copy-fields w (below-grown k) among (q .1) x refl u) (refsOf (q .0) (cellNamed x)) (omega arith) in
+        (f .0, copy-rewritten w (below-grown k) among (q .1) x refl u (f .1))
+    go q (no n) = (q .0, rewritten-like (q .1) (λ x s. less x s (ℕ-discrete (s .cell) k)) (slot-less (λ y m. omega arith)))
       where
-        less : (x : ℕ) (s : CopySlot p (Between 0 (suc k)) W T x) → Dec (s .cell ≡ k) → CopySlot p (Between 0 k) W T x
+        less : (x : ℕ) (s : CopySlot p (λ c. c < suc k) W T x) → Dec (s .cell ≡ k) → CopySlot p (λ c. c < k) W T x
         less x s (yes e) = absurd (n (subst (λ (y : ℕ). Old p W T y) e (s .old)))
-        less x s (no e) = record { cell = s .cell; among = (s .among .0, omega (arith, s .among .1)); old = s .old; field = s .field }
+        less x s (no e) = record { cell = s .cell; among = omega (arith, s .among); old = s .old; field = s .field }
+
+pub copies-exist : {p : Sizes} {W T : List ℕ} → Wiring p (OnPages (p .pages)) W T → (V′ : List ℕ) × Rewritten (Copies p W T) W V′
+copies-exist {p} w =
+    let q = cells-exist w (cellCount p) (omega arith) in
+    (q .0, rewritten-like (q .1) (slot-less (λ y l. page-count y l)) (slot-less (λ y l. count-page y l)))
 
 -- ---- the whole settling: m entries of n are in use
 
 -- whatever the cells become, the remember table can be made for them, and the slots of its entries are none of those rewritten
 pub record Settles (p : Sizes) (r n m : ℕ) (W M T : List ℕ) : Type 0 where
-  pub wiring : Wiring p (Between 0 (16 * p .pages)) W T
+  pub wiring : Wiring p (OnPages (p .pages)) W T
   pub old : (i : ℕ) → i < m → Copies p W T (slotIn M i) → ⊥
   pub updating : (W′ : List ℕ) → Rewritten (Copies p W T) W W′ → Updating p r n m W′ M T
 
@@ -86,11 +91,11 @@ pub record Settles (p : Sizes) (r n m : ℕ) (W M T : List ℕ) : Type 0 where
 new-same : (p : Sizes) (r : ℕ) (W W′ T : List ℕ) (s g : ℕ) → getD W′ s 0 ≡ getD W s 0 → newRegion p r W′ T s g ≡ newRegion p r W T s g
 unfolding newRegion
 new-same p r W W′ T s g e =
-    ap (λ (y : ℕ). cond (eqb (ownerOf p T (s / 256)) r) 0 (cond (eqb g r) (crossesFrom p T (ownerOf p T (s / 256)) y) g)) e
+    ap (λ (y : ℕ). cond (eqb (ownerOf p T (pageAt s)) r) 0 (cond (eqb g r) (crossesFrom p T (ownerOf p T (pageAt s)) y) g)) e
 
 module _ {p : Sizes} {r n m : ℕ} {W M T : List ℕ} (u : Settles p r n m W M T) where
   final : (V′ : List ℕ) × Rewritten (Copies p W T) W V′
-  final = copies-exist (u .wiring) (16 * p .pages) (omega arith)
+  final = copies-exist (u .wiring)
 
   -- the table for the cells as they will be
   due : Updating p r n m (final .0) M T

@@ -2,17 +2,18 @@
 use mathlib.Core.Path.{_≡_, refl, sym, ap, _∙_, subst}
 use mathlib.Core.Logic.{_≢_, _⊎_, inl, inr}
 use mathlib.Core.List.{List}
-use Prim.Native.Nat.{ℕ, _+_, _-_, _*_, _/_, _%_, _^_, _≤_, _<_}
-use native.Mathlib.Decide.{ℕ-discrete, decLt}
+use Prim.Native.Nat.{ℕ, _+_, _-_, _/_, _^_, _≤_, _<_}
+use native.Mathlib.Decide.{ℕ-discrete}
 use native.Mathlib.Omega.{arith}
 use lib.ListN.{length}
 use Rattle.lists.specs.Bits.{bitAt, bit-zero, clear-same, clear-other, Lowest}
 use Rattle.lists.specs.SetBits.{upper-bit}
 use Rattle.rules.specs.declared.Sizes.{Sizes}
-use Rattle.layout.specs.Places.{Room, markOf}
-use Rattle.layout.specs.Cells.{workOf, refsOf}
+use Rattle.layout.specs.Places.{Room, markOf, cellsWords}
+use Rattle.layout.specs.Cells.{workOf, refsOf, fieldAt, pageOf, placeOf, cellOn, cellNamed, pageCells, page-on, place-on, on-page, field-apart}
 use Rattle.layout.specs.Words.{InUse, Names}
 use Rattle.copy.specs.Marks.{copied}
+use Rattle.copy.specs.Forward.{forward}
 use Rattle.settle.specs.Rewrite.{Rewritten, link-same, refs-same}
 use Rattle.settle.specs.RewriteSlots.{Field, Fields}
 
@@ -26,15 +27,15 @@ pub record CopySlot (p : Sizes) (Q : ℕ → Type 0) (W T : List ℕ) (x : ℕ) 
   pub cell : ℕ
   pub among : Q cell
   pub old : Old p W T cell
-  pub field : Field (workOf W cell - 1) (refsOf W (workOf W cell - 1)) x
+  pub field : Field (forward W cell) (refsOf W (forward W cell)) x
 
 pub record Wiring (p : Sizes) (Q : ℕ → Type 0) (W T : List ℕ) : Type 0 where
   pub few : p .pages ≤ 1024
-  pub cells-long : 256 * p .pages ≤ length W
+  pub cells-long : cellsWords p ≤ length W
   pub tables-long : Room p (length T)
-  pub bits : (c : ℕ) → Q c → c / 16 < p .pages → copied p T c ≡ 1 → Old p W T c
+  pub bits : (c : ℕ) → Q c → pageOf c < p .pages → copied p T c ≡ 1 → Old p W T c
   pub only : (c : ℕ) → Q c → Old p W T c → copied p T c ≡ 1
-  pub copies : (c : ℕ) → Q c → Old p W T c → Fields p (refsOf W (workOf W c - 1)) (workOf W c - 1) W
+  pub copies : (c : ℕ) → Q c → Old p W T c → Fields p (refsOf W (forward W c)) (forward W c) W
   pub once : (b c : ℕ) → Q b → Q c → Old p W T b → Old p W T c → workOf W b ≡ workOf W c → b ≡ c
 
 module _ {P : ℕ → Type 0} {W W′ : List ℕ} (h : Rewritten P W W′) where
@@ -44,15 +45,15 @@ module _ {P : ℕ → Type 0} {W W′ : List ℕ} (h : Rewritten P W W′) where
   old-then : {p : Sizes} {T : List ℕ} (c : ℕ) → Old p W′ T c → Old p W T c
   old-then c u = record { used = u .used; moved = λ z. u .moved (link-same h c ∙ z) }
 
-  cell-fields : (c x : ℕ) → Field (workOf W c - 1) (refsOf W (workOf W c - 1)) x → Field (workOf W′ c - 1) (refsOf W′ (workOf W′ c - 1)) x
+  cell-fields : (c x : ℕ) → Field (forward W c) (refsOf W (forward W c)) x → Field (forward W′ c) (refsOf W′ (forward W′ c)) x
   cell-fields c x q =
-      subst (λ (y : ℕ). Field (y - 1) (refsOf W′ (y - 1)) x) (sym (link-same h c))
-      (record { field = q .field; low = omega (arith, q .low, refs-same h (workOf W c - 1)); at = q .at })
+      subst (λ (y : ℕ). Field (cellNamed y) (refsOf W′ (cellNamed y)) x) (sym (link-same h c))
+      (record { field = q .field; low = omega (arith, q .low, refs-same h (forward W c)); at = q .at })
 
-  fields-cell : (c x : ℕ) → Field (workOf W′ c - 1) (refsOf W′ (workOf W′ c - 1)) x → Field (workOf W c - 1) (refsOf W (workOf W c - 1)) x
+  fields-cell : (c x : ℕ) → Field (forward W′ c) (refsOf W′ (forward W′ c)) x → Field (forward W c) (refsOf W (forward W c)) x
   fields-cell c x q =
-      let q′ : Field (workOf W c - 1) (refsOf W′ (workOf W c - 1)) x = subst (λ (y : ℕ). Field (y - 1) (refsOf W′ (y - 1)) x) (link-same h c) q in
-      record { field = q′ .field; low = omega (arith, q′ .low, refs-same h (workOf W c - 1)); at = q′ .at }
+      let q′ : Field (forward W c) (refsOf W′ (forward W c)) x = subst (λ (y : ℕ). Field (cellNamed y) (refsOf W′ (cellNamed y)) x) (link-same h c) q in
+      record { field = q′ .field; low = omega (arith, q′ .low, refs-same h (forward W c)); at = q′ .at }
 
   pub slot-now : {p : Sizes} {Q : ℕ → Type 0} {T : List ℕ} (x : ℕ) → CopySlot p Q W T x → CopySlot p Q W′ T x
   slot-now x q = record { cell = q .cell; among = q .among; old = old-now (q .cell) (q .old); field = cell-fields (q .cell) x (q .field) }
@@ -69,14 +70,14 @@ module _ {P : ℕ → Type 0} {W W′ : List ℕ} (h : Rewritten P W W′) where
         tables-long = a .tables-long;
         bits = λ c q l on. old-now c (a .bits c q l on);
         only = λ c q u. a .only c q (old-then c u);
-        copies = λ c q u. subst (λ (y : ℕ). Fields p (refsOf W′ (y - 1)) (y - 1) W′) (sym (link-same h c)) (copies′ c q (old-then c u));
+        copies = λ c q u. subst (λ (y : ℕ). Fields p (refsOf W′ (cellNamed y)) (cellNamed y) W′) (sym (link-same h c)) (copies′ c q (old-then c u));
         once = λ b c q q′ u v e. a .once b c q q′ (old-then b u) (old-then c v) (sym (link-same h b) ∙ e ∙ link-same h c);
       }
     where
-      copies′ : (c : ℕ) → Q c → Old p W T c → Fields p (refsOf W′ (workOf W c - 1)) (workOf W c - 1) W′
+      copies′ : (c : ℕ) → Q c → Old p W T c → Fields p (refsOf W′ (forward W c)) (forward W c) W′
       copies′ c q u =
           let w = a .copies c q u in
-          let d : ℕ = workOf W c - 1 in
+          let d : ℕ = forward W c in
           let e : refsOf W′ d ≡ refsOf W d = refs-same h d in
           record {
             pages = w .pages;
@@ -86,19 +87,21 @@ module _ {P : ℕ → Type 0} {W W′ : List ℕ} (h : Rewritten P W W′) where
             names = λ f l.
                 let l′ : f < refsOf W d = omega arith in
                 subst (λ (x : ℕ). Names p x)
-                (sym (h .same (16 * d + 2 + f)
-                (apart (16 * d + 2 + f) (record { cell = c; among = q; old = u; field = record { field = f; low = l′; at = refl } }))))
+                (sym (h .same (fieldAt d f)
+                (apart (fieldAt d f) (record { cell = c; among = q; old = u; field = record { field = f; low = l′; at = refl } }))))
                 (w .names f l′);
           }
 
 -- slots of copies of different cells are different
 pub slots-apart : {p : Sizes} {Q : ℕ → Type 0} {W T : List ℕ} → Wiring p Q W T → (b c x : ℕ) → Q b → Q c → Old p W T b → Old p W T c
-    → Field (workOf W b - 1) (refsOf W (workOf W b - 1)) x → Field (workOf W c - 1) (refsOf W (workOf W c - 1)) x → b ≡ c
+    → Field (forward W b) (refsOf W (forward W b)) x → Field (forward W c) (refsOf W (forward W c)) x → b ≡ c
 slots-apart {p} {Q} {W} {T} a b c x qb qc ub uc fb fc =
     a .once b c qb qc ub uc
     (let nb : workOf W b ≢ 0 = ub .moved in
     let nc : workOf W c ≢ 0 = uc .moved in
-    omega (arith, a .copies b qb ub .few, a .copies c qc uc .few, fb .low, fb .at, fc .low, fc .at))
+    let e : forward W b ≡ forward W c =
+    field-apart (omega (arith, a .copies b qb ub .few, fb .low)) (omega (arith, a .copies c qc uc .few, fc .low)) (sym (fb .at) ∙ fc .at) in
+    omega arith)
 
 pub wiring-less : {p : Sizes} {P Q : ℕ → Type 0} {W T : List ℕ} → ((c : ℕ) → P c → Q c) → Wiring p Q W T → Wiring p P W T
 wiring-less f a =
@@ -136,37 +139,37 @@ module _ {p : Sizes} {c : ℕ} {P P′ Q : ℕ → Type 0} {W T W′ : List ℕ}
   here-wired : Wiring p (λ y. y ≡ c) W′ T
   here-wired = wiring-now h (wiring-less (λ y e. subst Q (sym e) (among c (g .here))) w) earlier-apart
 
-  pub copy-fields : (x : ℕ) → x ≡ workOf W′ c → Old p W T c → Fields p (refsOf W′ (x - 1)) (x - 1) W′
+  pub copy-fields : (x : ℕ) → x ≡ workOf W′ c → Old p W T c → Fields p (refsOf W′ (cellNamed x)) (cellNamed x) W′
   copy-fields x e u =
-      subst (λ (y : ℕ). Fields p (refsOf W′ (y - 1)) (y - 1) W′) (sym e) (here-wired .copies c refl (old-now h c u))
+      subst (λ (y : ℕ). Fields p (refsOf W′ (cellNamed y)) (cellNamed y) W′) (sym e) (here-wired .copies c refl (old-now h c u))
 
 -- ---- the copies of a page's survivors, bit by bit
 
-abbrev pub Between : ℕ → ℕ → ℕ → Type 0
-Between a b c = (a ≤ c) × (c < b)
+abbrev pub OnPage : ℕ → ℕ → Type 0
+OnPage q c = pageOf c ≡ q
+
+abbrev pub OnPages : ℕ → ℕ → Type 0
+OnPages n c = pageOf c < n
 
 -- the cells of page q whose bit is not left
 abbrev pub Passed : ℕ → ℕ → ℕ → Type 0
-Passed q left c = (c / 16 ≡ q) × (bitAt left (c % 16) ≡ 0)
+Passed q left c = OnPage q c × (bitAt left (placeOf c) ≡ 0)
 
-pub passed-within : (q left c : ℕ) → Passed q left c → Between (16 * q) (16 * (q + 1)) c
-passed-within q left c m = (omega (arith, m .0), omega (arith, m .0))
+pub passed-within : (q left c : ℕ) → Passed q left c → OnPage q c
+passed-within q left c m = m .0
 
 -- left′ as the code has it
-pub passed-grown : {left : ℕ} (q i left′ : ℕ) → Lowest left i → left′ ≡ left - 2 ^ i → Grown (Passed q left) (16 * q + i) (Passed q left′)
+pub passed-grown : {left : ℕ} (q i left′ : ℕ) → Lowest left i → left′ ≡ left - 2 ^ i → Grown (Passed q left) (cellOn q i) (Passed q left′)
 passed-grown {left} q i left′ l e =
     record {
       new = λ m. let z : ⊥ = omega (arith, l .on, ap (bitAt left) place, m .1) in z;
-      here = (page, ap (bitAt left′) place ∙ at i ∙ clear-same i left (l .on));
-      keeps = λ y m. (m .0, at (y % 16) ∙ keeps′ (y % 16) (m .1) (ℕ-discrete (y % 16) i));
-      split = λ y m. split′ y m (ℕ-discrete (y % 16) i);
+      here = (page-on q i (l .lt), ap (bitAt left′) place ∙ at i ∙ clear-same i left (l .on));
+      keeps = λ y m. (m .0, at (placeOf y) ∙ keeps′ (placeOf y) (m .1) (ℕ-discrete (placeOf y) i));
+      split = λ y m. split′ y m (ℕ-discrete (placeOf y) i);
     }
   where
-    place : (16 * q + i) % 16 ≡ i
-    place = omega (arith, l .lt)
-
-    page : (16 * q + i) / 16 ≡ q
-    page = omega (arith, l .lt)
+    place : placeOf (cellOn q i) ≡ i
+    place = place-on q i (l .lt)
 
     at : (j : ℕ) → bitAt left′ j ≡ bitAt (left - 2 ^ i) j
     at j = ap (λ (x : ℕ). bitAt x j) e
@@ -175,60 +178,63 @@ passed-grown {left} q i left′ l e =
     keeps′ j z (yes d) = ap (bitAt (left - 2 ^ i)) d ∙ clear-same i left (l .on)
     keeps′ j z (no n) = clear-other i j left (l .on) n ∙ z
 
-    split′ : (y : ℕ) → Passed q left′ y → Dec (y % 16 ≡ i) → Passed q left y ⊎ (y ≡ 16 * q + i)
-    split′ y m (yes d) = inr (omega (arith, m .0))
-    split′ y m (no n) = inl (m .0, sym (clear-other i (y % 16) left (l .on) n) ∙ sym (at (y % 16)) ∙ m .1)
+    split′ : (y : ℕ) → Passed q left′ y → Dec (placeOf y ≡ i) → Passed q left y ⊎ (y ≡ cellOn q i)
+    split′ y m (yes d) = inr (on-page (m .0) ∙ ap (cellOn q) d)
+    split′ y m (no n) = inl (m .0, sym (clear-other i (placeOf y) left (l .on) n) ∙ sym (at (placeOf y)) ∙ m .1)
 
-module _ {p : Sizes} {q w : ℕ} {W T : List ℕ} (a : Wiring p (Between (16 * q) (16 * (q + 1))) W T) (e : w ≡ markOf p T q / 2 ^ 16) where
+module _ {p : Sizes} {q w : ℕ} {W T : List ℕ} (a : Wiring p (OnPage q) W T) (e : w ≡ markOf p T q / 2 ^ 16) where
   -- w is the upper half of the page's mark word
-  upper-copied : (c : ℕ) → c / 16 ≡ q → bitAt w (c % 16) ≡ copied p T c
+  upper-copied : (c : ℕ) → pageOf c ≡ q → bitAt w (placeOf c) ≡ copied p T c
   upper-copied c d =
-      ap (λ (x : ℕ). bitAt x (c % 16)) e ∙ upper-bit (markOf p T q) (c % 16) ∙ ap (λ (x : ℕ). bitAt (markOf p T x) (16 + c % 16)) (sym d)
+      ap (λ (x : ℕ). bitAt x (placeOf c)) e ∙ upper-bit (markOf p T q) (placeOf c) ∙ ap (λ (x : ℕ). bitAt (markOf p T x) (pageCells + placeOf c)) (sym d)
 
-  pub bit-old : (i : ℕ) → q < p .pages → i < 16 → bitAt w i ≡ 1 → Old p W T (16 * q + i)
+  pub bit-old : (i : ℕ) → q < p .pages → i < pageCells → bitAt w i ≡ 1 → Old p W T (cellOn q i)
   bit-old i l li on =
-      let d : (16 * q + i) / 16 ≡ q = omega arith in
-      let m : (16 * q + i) % 16 ≡ i = omega arith in
-      a .bits (16 * q + i) (omega arith, omega arith) (omega arith) (sym (upper-copied (16 * q + i) d) ∙ ap (bitAt w) m ∙ on)
+      let d = page-on q i li in
+      a .bits (cellOn q i) d (subst (λ (x : ℕ). x < p .pages) (sym d) l) (sym (upper-copied (cellOn q i) d) ∙ ap (bitAt w) (place-on q i li) ∙ on)
 
   -- a cell whose bit is not set has no copy
   pub unset-none : (x : ℕ) → CopySlot p (Passed q w) W T x → ⊥
-  unset-none x s =
-      let c : ℕ = s .cell in
-      omega (arith, a .only c (passed-within q w c (s .among)) (s .old), upper-copied c (s .among .0), s .among .1)
+  unset-none x s = omega (arith, a .only (s .cell) (s .among .0) (s .old), upper-copied (s .cell) (s .among .0), s .among .1)
 
 -- once none is left, all cells of the page are passed
-pub within-passed : (q left c : ℕ) → left ≡ 0 → Between (16 * q) (16 * (q + 1)) c → Passed q left c
-within-passed q left c z m = (omega (arith, m .0, m .1), ap (λ (x : ℕ). bitAt x (c % 16)) z ∙ bit-zero (c % 16))
+pub within-passed : (q left c : ℕ) → left ≡ 0 → OnPage q c → Passed q left c
+within-passed q left c z m = (m, ap (λ (x : ℕ). bitAt x (placeOf c)) z ∙ bit-zero (placeOf c))
 
 -- ---- all pages
 
 -- a page without marks has no copies
-pub unmarked-slots : {p : Sizes} {W T : List ℕ} → Wiring p (Between 0 (16 * p .pages)) W T → (q : ℕ) → q < p .pages → markOf p T q ≡ 0
-    → (x : ℕ) → CopySlot p (Between 0 (16 * (q + 1))) W T x → CopySlot p (Between 0 (16 * q)) W T x
-unmarked-slots {p} {W} {T} w q l z x s = record { cell = s .cell; among = (omega arith, below (decLt (s .cell) (16 * q))); old = s .old; field = s .field }
+pub unmarked-slots : {p : Sizes} {W T : List ℕ} → Wiring p (OnPages (p .pages)) W T → (q : ℕ) → q < p .pages → markOf p T q ≡ 0
+    → (x : ℕ) → CopySlot p (OnPages (q + 1)) W T x → CopySlot p (OnPages q) W T x
+unmarked-slots {p} {W} {T} w q l z x s = record { cell = s .cell; among = below (ℕ-discrete (pageOf (s .cell)) q); old = s .old; field = s .field }
   where
-    m : s .cell < 16 * (q + 1)
-    m = s .among .1
+    m : pageOf (s .cell) < q + 1
+    m = s .among
 
-    below : Dec (s .cell < 16 * q) → s .cell < 16 * q
-    below (yes d) = d
-    below (no d) =
-        let e : s .cell / 16 ≡ q = omega arith in
-        let on : copied p T (s .cell) ≡ 1 = w .only (s .cell) (omega arith, omega arith) (s .old) in
-        absurd (let y : ⊥ = omega (arith, ap (λ (v : ℕ). bitAt (markOf p T v) (16 + s .cell % 16)) e, ap (λ (v : ℕ). bitAt v (16 + s .cell % 16)) z, bit-zero (16 + s .cell % 16)) in y)
+    below : Dec (pageOf (s .cell) ≡ q) → pageOf (s .cell) < q
+    below (yes e) =
+        let on : copied p T (s .cell) ≡ 1 = w .only (s .cell) (omega arith) (s .old) in
+        let off : copied p T (s .cell) ≡ 0 =
+        ap (λ (v : ℕ). bitAt (markOf p T v) (pageCells + placeOf (s .cell))) e ∙ ap (λ (v : ℕ). bitAt v (pageCells + placeOf (s .cell))) z
+        ∙ bit-zero (pageCells + placeOf (s .cell)) in
+        absurd (let y : ⊥ = omega arith in y)
+    below (no n) = omega arith
+
+-- page q is one of n
+pub on-pages : {q n : ℕ} → q < n → (c : ℕ) → OnPage q c → OnPages n c
+on-pages l c e = omega arith
 
 -- a page after those below it
-module _ {p : Sizes} {q : ℕ} {W T W′ : List ℕ} (w : Wiring p (Between 0 (16 * p .pages)) W T) (lt : q < p .pages)
-    (h : Rewritten (CopySlot p (Between 0 (16 * q)) W T) W W′) where
-  pub pages-apart : (x : ℕ) → CopySlot p (Between (16 * q) (16 * (q + 1))) W T x → CopySlot p (Between 0 (16 * q)) W T x → ⊥
+module _ {p : Sizes} {q : ℕ} {W T W′ : List ℕ} (w : Wiring p (OnPages (p .pages)) W T) (lt : q < p .pages)
+    (h : Rewritten (CopySlot p (OnPages q) W T) W W′) where
+  pub pages-apart : (x : ℕ) → CopySlot p (OnPage q) W T x → CopySlot p (OnPages q) W T x → ⊥
   pages-apart x s s′ =
-      let l : 16 * q ≤ s .cell = s .among .0 in
-      let l′ : s′ .cell < 16 * q = s′ .among .1 in
-      let m : s .cell < 16 * (q + 1) = s .among .1 in
-      let z : s .cell ≡ s′ .cell =
-      slots-apart w (s .cell) (s′ .cell) x (omega arith, omega arith) (omega arith, omega arith) (s .old) (s′ .old) (s .field) (s′ .field) in
-      omega arith
+      let e : pageOf (s .cell) ≡ q = s .among in
+      let l : pageOf (s′ .cell) < q = s′ .among in
+      omega (
+        arith,
+        ap pageOf (slots-apart w (s .cell) (s′ .cell) x (on-pages lt (s .cell) e) (omega arith) (s .old) (s′ .old) (s .field) (s′ .field)),
+      )
 
-  pub page-wired : Wiring p (Between (16 * q) (16 * (q + 1))) W′ T
-  page-wired = wiring-now h (wiring-less (λ y l. (omega arith, omega (arith, l .1))) w) pages-apart
+  pub page-wired : Wiring p (OnPage q) W′ T
+  page-wired = wiring-now h (wiring-less (on-pages lt) w) pages-apart

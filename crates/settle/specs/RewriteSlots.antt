@@ -2,14 +2,14 @@
 use mathlib.Core.Path.{_≡_, refl, sym, ap, _∙_, subst}
 use mathlib.Core.Logic.{_≢_, _⊎_, inl, inr, ⊎-elim}
 use mathlib.Core.List.{List}
-use Prim.Native.Nat.{ℕ, _+_, _-_, _*_, _/_, _%_, _≤_, _<_}
+use Prim.Native.Nat.{ℕ, _+_, _*_, _≤_, _<_}
 use native.Mathlib.Decide.{ℕ-discrete}
 use native.Mathlib.Omega.{arith}
 use lib.ListN.{length, getD, set, length-set}
 use lib.Seq.{getD-set-same, getD-set-other}
 use Rattle.rules.specs.declared.Sizes.{Sizes}
-use Rattle.layout.specs.Places.{Room, varAt, varCount, varOf, slotIn, slotRegionIn, varsFrom}
-use Rattle.layout.specs.Cells.{fieldOf}
+use Rattle.layout.specs.Places.{Room, varAt, varCount, varOf, slotIn, slotRegionIn, varsFrom, cellsWords}
+use Rattle.layout.specs.Cells.{fieldAt, fieldOf, pageOf, wordOf, mostFields, field-once, field-word, field-in}
 use Rattle.layout.specs.Words.{Names}
 use Rattle.settle.specs.Rewrite.{forwarded, Rewritten, rewritten-none, rewritten-one, rewritten-join}
 
@@ -26,9 +26,9 @@ pub record Slots (p : Sizes) (r n m : ℕ) (W M : List ℕ) : Type 0 where
   pub few : m ≤ n
   pub long : 2 + 2 * n ≤ length M
   pub pages : p .pages ≤ 1024
-  pub cells-long : 256 * p .pages ≤ length W
-  pub low : (i : ℕ) → i < m → slotIn M i < 256 * p .pages
-  pub fields : (i : ℕ) → i < m → 2 ≤ slotIn M i % 16
+  pub cells-long : cellsWords p ≤ length W
+  pub low : (i : ℕ) → i < m → slotIn M i < cellsWords p
+  pub fields : (i : ℕ) → i < m → 2 ≤ wordOf (slotIn M i)
   pub once : (i j : ℕ) → i < j → j < m → slotIn M i ≢ slotIn M j
   pub names : (i : ℕ) → i < m → slotRegionIn n M i ≡ r → Names p (getD W (slotIn M i) 0)
 
@@ -43,7 +43,7 @@ module _ {p : Sizes} {r n m : ℕ} {W M W′ : List ℕ} {i : ℕ} (a : Slots p 
       → Rewritten (Remembered r n (i + 1) M) W (set W′ s v)
   slot-moved v s e reg ev =
       rewritten-join h
-      (rewritten-one s v (omega (arith, a .low i lt, a .cells-long, h .size)) (subst (λ (z : ℕ). 2 ≤ z % 16) (sym e) (a .fields i lt)) ev)
+      (rewritten-one s v (omega (arith, a .low i lt, a .cells-long, h .size)) (subst (λ (z : ℕ). 2 ≤ wordOf z) (sym e) (a .fields i lt)) ev)
       (λ x q z. fresh (subst (λ (y : ℕ). Remembered r n i M y) (z ∙ e) q))
       (λ x q. from x q (ℕ-discrete (q .entry) i))
       (λ x. ⊎-elim (λ q. record { entry = q .entry; low = omega (arith, q .low); region = q .region; slot = q .slot })
@@ -71,32 +71,35 @@ slots-start r n W M = rewritten-none (Remembered r n 0 M) W (λ x q. omega (arit
 pub record Field (d n x : ℕ) : Type 0 where
   pub field : ℕ
   pub low : field < n
-  pub at : x ≡ 16 * d + 2 + field
+  pub at : x ≡ fieldAt d field
 
 pub record Fields (p : Sizes) (n d : ℕ) (W : List ℕ) : Type 0 where
   pub pages : p .pages ≤ 1024
-  pub cells-long : 256 * p .pages ≤ length W
-  pub page : d / 16 < p .pages
-  pub few : n ≤ 14
+  pub cells-long : cellsWords p ≤ length W
+  pub page : pageOf d < p .pages
+  pub few : n ≤ mostFields
   pub names : (f : ℕ) → f < n → Names p (fieldOf W d f)
 
 pub fields-start : (d : ℕ) (W : List ℕ) → Rewritten (Field d 0) W W
 fields-start d W = rewritten-none (Field d 0) W (λ x q. omega (arith, q .low))
 
 module _ {p : Sizes} {n d : ℕ} {W W′ : List ℕ} {f : ℕ} (a : Fields p n d W) (lt : f < n) (h : Rewritten (Field d f) W W′) where
-  new : Field d f (16 * d + 2 + f) → ⊥
-  new q = omega (arith, q .low, q .at)
+  few : f < mostFields
+  few = omega (arith, a .few)
 
-  pub field-moved : (v : ℕ) → v ≡ forwarded W′ (fieldOf W′ d f) → Rewritten (Field d (f + 1)) W (set W′ (16 * d + 2 + f) v)
+  new : Field d f (fieldAt d f) → ⊥
+  new q = omega (arith, q .low, field-once d f (q .field) (q .at))
+
+  pub field-moved : (v : ℕ) → v ≡ forwarded W′ (fieldOf W′ d f) → Rewritten (Field d (f + 1)) W (set W′ (fieldAt d f) v)
   field-moved v ev =
       rewritten-join h
-      (rewritten-one (16 * d + 2 + f) v (omega (arith, a .page, a .cells-long, h .size, a .few)) (omega (arith, a .few)) ev)
+      (rewritten-one (fieldAt d f) v (field-in d f {pages = p .pages} (omega (arith, a .cells-long, h .size)) (a .page) few) (field-word d f few) ev)
       (λ x q z. new (subst (λ (y : ℕ). Field d f y) z q))
       (λ x q. from x q (ℕ-discrete (q .field) f))
       (λ x. ⊎-elim (λ q. record { field = q .field; low = omega (arith, q .low); at = q .at }) (λ z. record { field = f; low = omega arith; at = z }))
     where
-      from : (x : ℕ) (q : Field d (f + 1) x) → Dec (q .field ≡ f) → Field d f x ⊎ (x ≡ 16 * d + 2 + f)
-      from x q (yes z) = inr (omega (arith, q .at))
+      from : (x : ℕ) (q : Field d (f + 1) x) → Dec (q .field ≡ f) → Field d f x ⊎ (x ≡ fieldAt d f)
+      from x q (yes z) = inr (q .at ∙ ap (fieldAt d) z)
       from x q (no z) = inl (record { field = q .field; low = omega (arith, q .low); at = q .at })
 
 -- ---- the variables: those below n, counted through all threads

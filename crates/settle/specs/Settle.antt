@@ -3,20 +3,21 @@
 use mathlib.Core.Path.{_≡_, refl, sym, ap, _∙_, subst}
 use mathlib.Core.Logic.{_≢_, _⊎_, inl, inr, ⊎-elim}
 use mathlib.Core.List.{List}
-use Prim.Native.Nat.{ℕ, _+_, _-_, _*_, _/_, _%_, _^_, _≤_, _<_}
-use native.Mathlib.Decide.{ℕ-discrete, decLt}
+use Prim.Native.Nat.{ℕ, _+_, _/_, _^_, _≤_, _<_}
+use native.Mathlib.Decide.{ℕ-discrete}
 use native.Mathlib.Omega.{arith}
 use lib.ListN.{length, getD, set}
 use lib.Seq.{getD-set-same}
 use Rattle.lists.specs.Part.{Off, Skips}
 use Rattle.rules.specs.declared.Sizes.{Sizes}
 use Rattle.layout.specs.Places.{ownerOf, markOf}
-use Rattle.layout.specs.Cells.{workOf, fieldOf, refsOf}
+use Rattle.layout.specs.Cells.{workOf, fieldAt, fieldOf, refsOf, pageOf, wordOf, pageAt, cellNamed, mostFields, field-page, field-word, field-once, field-in}
 use Rattle.layout.specs.Words.{Names}
+use Rattle.copy.specs.Forward.{forward}
 use Rattle.settle.specs.Rewrite.{forwarded, Rewritten, link-same, refs-same, ref-same, rewritten-none, rewritten-one, rewritten-join, rewritten-like}
 use Rattle.remember.specs.Crossing.{crossesFrom}
 use Rattle.settle.specs.RewriteSlots.{Field, Fields}
-use Rattle.settle.specs.RewriteCopies.{CopySlot, Old, Wiring, Grown, Between, Passed, passed-within, within-passed, unset-none, slot-less, slot-now, slot-then, earlier-apart, unmarked-slots, pages-apart}
+use Rattle.settle.specs.RewriteCopies.{CopySlot, Old, Wiring, Grown, OnPage, OnPages, Passed, passed-within, within-passed, unset-none, slot-less, slot-now, slot-then, earlier-apart, unmarked-slots, on-pages, pages-apart}
 use Rattle.remember.specs.Stretches.{Added, added-none, added-one, added-join, added-like}
 use Rattle.settle.specs.Append.{crossAt, Crossing, Appending, append-room, appending-next}
 
@@ -39,7 +40,7 @@ pub record Settling (p : Sizes) (n : ℕ) (P : ℕ → Type 0) (W M T : List ℕ
 -- crossing slots, by words that read the same there
 crossing-read : {p : Sizes} {P : ℕ → Type 0} {T X Y : List ℕ} → ((x : ℕ) → P x → getD Y x 0 ≡ getD X x 0) → (x h : ℕ) → Crossing p P X T x h → Crossing p P Y T x h
 crossing-read {p} {P} {T} {X} {Y} same x h q =
-    record { at = q .at; region = q .region ∙ ap (λ (y : ℕ). crossesFrom p T (ownerOf p T (x / 256)) y) (sym (same x (q .at))); kept = q .kept }
+    record { at = q .at; region = q .region ∙ ap (λ (y : ℕ). crossesFrom p T (ownerOf p T (pageAt x)) y) (sym (same x (q .at))); kept = q .kept }
 
 added-read : {p : Sizes} {n i j : ℕ} {P : ℕ → Type 0} {T X Y M M′ : List ℕ} → ((x : ℕ) → P x → getD Y x 0 ≡ getD X x 0) → Added n (Crossing p P X T) i j M M′
     → Added n (Crossing p P Y T) i j M M′
@@ -90,15 +91,15 @@ slot-names : {p : Sizes} {n x i : ℕ} {W M T : List ℕ} → Settling p n (λ y
 slot-names {p} {x = x} s v ev = subst (λ (y : ℕ). Names p y) (s .moved x refl ∙ sym ev) (s .names x refl)
 
 module _ {p : Sizes} {n x i : ℕ} {W M T : List ℕ} (s : Settling p n (λ y. y ≡ x) W M T i) (v h : ℕ) (ev : v ≡ forwarded W (getD W x 0))
-    (eh : h ≡ crossesFrom p T (ownerOf p T (x / 256)) v) where
+    (eh : h ≡ crossesFrom p T (ownerOf p T (pageAt x)) v) where
   slot-fits : h ≢ 0 → i < n
-  slot-fits ne = append-room (s .appending) x refl (λ z. ne (eh ∙ ap (λ (y : ℕ). crossesFrom p T (ownerOf p T (x / 256)) y) (ev ∙ sym (s .moved x refl)) ∙ z))
+  slot-fits ne = append-room (s .appending) x refl (λ z. ne (eh ∙ ap (λ (y : ℕ). crossesFrom p T (ownerOf p T (pageAt x)) y) (ev ∙ sym (s .moved x refl)) ∙ z))
 
-  module _ (low : x < length W) (field : 2 ≤ x % 16) where
+  module _ (low : x < length W) (field : 2 ≤ wordOf x) where
     crosses : (y : ℕ) → y ≡ x → crossAt p (set W x v) T y ≡ h
     crosses y e =
         ap (λ (z : ℕ). crossAt p (set W x v) T z) e
-        ∙ ap (λ (z : ℕ). crossesFrom p T (ownerOf p T (x / 256)) z) (getD-set-same W x v 0 low) ∙ sym eh
+        ∙ ap (λ (z : ℕ). crossesFrom p T (ownerOf p T (pageAt x)) z) (getD-set-same W x v 0 low) ∙ sym eh
 
     slot-comes : h ≢ 0 → Settled p n (λ y. y ≡ x) W M T i (set W x v) (set (set M (2 + i) x) (2 + n + i) h) (i + 1)
     slot-comes ne =
@@ -123,24 +124,27 @@ fields-settled p n d W M T j l = settled-none p n (Field d 0) W M T j l (λ x q.
 
 module _ {p : Sizes} {n d k f j i : ℕ} {W M T W′ M′ : List ℕ} (a : Fields p k d W) (s : Settling p n (Field d k) W M T j) (lt : f < k)
     (h : Settled p n (Field d f) W M T j W′ M′ i) where
-  new : (x : ℕ) → Field d f x → x ≡ 16 * d + 2 + f → ⊥
-  new x q e = omega (arith, q .low, q .at)
+  few : f < mostFields
+  few = omega (arith, a .few)
 
-  field-settling : Settling p n (λ y. y ≡ 16 * d + 2 + f) W′ M′ T i
+  new : (x : ℕ) → Field d f x → x ≡ fieldAt d f → ⊥
+  new x q e = omega (arith, q .low, field-once d f (q .field) (sym e ∙ q .at))
+
+  field-settling : Settling p n (λ y. y ≡ fieldAt d f) W′ M′ T i
   field-settling =
       settling-next s h (λ x q. record { field = q .field; low = omega (arith, q .low); at = q .at }) (λ x e. record { field = f; low = lt; at = e }) new
 
   -- the field as it is read is as it was, and names a cell
   pub field-names : Names p (fieldOf W′ d f)
-  field-names = subst (λ (x : ℕ). Names p x) (sym (h .rewritten .same (16 * d + 2 + f) (λ q. new (16 * d + 2 + f) q refl))) (a .names f lt)
+  field-names = subst (λ (x : ℕ). Names p x) (sym (h .rewritten .same (fieldAt d f) (λ q. new (fieldAt d f) q refl))) (a .names f lt)
 
-  field-joins : {W″ M″ : List ℕ} {i′ : ℕ} → Settled p n (λ y. y ≡ 16 * d + 2 + f) W′ M′ T i W″ M″ i′ → Settled p n (Field d (f + 1)) W M T j W″ M″ i′
+  field-joins : {W″ M″ : List ℕ} {i′ : ℕ} → Settled p n (λ y. y ≡ fieldAt d f) W′ M′ T i W″ M″ i′ → Settled p n (Field d (f + 1)) W M T j W″ M″ i′
   field-joins b =
       settled-join h b new (λ x q. from x q (ℕ-discrete (q .field) f))
       (λ x. ⊎-elim (λ q. record { field = q .field; low = omega (arith, q .low); at = q .at }) (λ e. record { field = f; low = omega arith; at = e }))
     where
-      from : (x : ℕ) (q : Field d (f + 1) x) → Dec (q .field ≡ f) → Field d f x ⊎ (x ≡ 16 * d + 2 + f)
-      from x q (yes z) = inr (omega (arith, q .at))
+      from : (x : ℕ) (q : Field d (f + 1) x) → Dec (q .field ≡ f) → Field d f x ⊎ (x ≡ fieldAt d f)
+      from x q (yes z) = inr (q .at ∙ ap (fieldAt d) z)
       from x q (no z) = inl (record { field = q .field; low = omega (arith, q .low); at = q .at })
 
   -- and so does what it becomes
@@ -148,114 +152,108 @@ module _ {p : Sizes} {n d k f j i : ℕ} {W M T W′ M′ : List ℕ} (a : Field
   moved-names = slot-names field-settling
 
   -- v is the forwarded reference, w the region of the cell, g the region into which it crosses, as the code has them
-  module _ (v w g : ℕ) (ev : v ≡ forwarded W′ (fieldOf W′ d f)) (ew : w ≡ ownerOf p T (d / 16)) (eg : g ≡ crossesFrom p T w v) where
-    eg′ : g ≡ crossesFrom p T (ownerOf p T ((16 * d + 2 + f) / 256)) v
-    eg′ =
-        eg ∙ ap (λ (y : ℕ). crossesFrom p T y v)
-        (ew ∙ ap (λ (y : ℕ). ownerOf p T y) (let e : d / 16 ≡ (16 * d + 2 + f) / 256 = omega (arith, a .few) in e))
+  module _ (v w g : ℕ) (ev : v ≡ forwarded W′ (fieldOf W′ d f)) (ew : w ≡ ownerOf p T (pageOf d)) (eg : g ≡ crossesFrom p T w v) where
+    eg′ : g ≡ crossesFrom p T (ownerOf p T (pageAt (fieldAt d f))) v
+    eg′ = eg ∙ ap (λ (y : ℕ). crossesFrom p T y v) (ew ∙ ap (λ (y : ℕ). ownerOf p T y) (sym (field-page d f few)))
 
-    low : 16 * d + 2 + f < length W′
-    low = omega (arith, a .page, a .cells-long, a .few, h .rewritten .size)
+    low : fieldAt d f < length W′
+    low = field-in d f {pages = p .pages} (omega (arith, a .cells-long, h .rewritten .size)) (a .page) few
 
     pub field-fits : g ≢ 0 → i < n
     field-fits = slot-fits field-settling v g ev eg′
 
-    pub field-comes : (x : ℕ) → x ≡ 16 * d + 2 + f → g ≢ 0 → Settled p n (Field d (f + 1)) W M T j (set W′ (16 * d + 2 + f) v) (set (set M′ (2 + i) x) (2 + n + i) g) (i + 1)
+    pub field-comes : (x : ℕ) → x ≡ fieldAt d f → g ≢ 0 → Settled p n (Field d (f + 1)) W M T j (set W′ (fieldAt d f) v) (set (set M′ (2 + i) x) (2 + n + i) g) (i + 1)
     field-comes x e ne =
-        subst (λ (y : ℕ). Settled p n (Field d (f + 1)) W M T j (set W′ (16 * d + 2 + f) v) (set (set M′ (2 + i) y) (2 + n + i) g) (i + 1)) (sym e)
-        (field-joins (slot-comes field-settling v g ev eg′ low (omega (arith, a .few)) ne))
+        subst (λ (y : ℕ). Settled p n (Field d (f + 1)) W M T j (set W′ (fieldAt d f) v) (set (set M′ (2 + i) y) (2 + n + i) g) (i + 1)) (sym e)
+        (field-joins (slot-comes field-settling v g ev eg′ low (field-word d f few) ne))
 
-    pub field-stays : g ≡ 0 → Settled p n (Field d (f + 1)) W M T j (set W′ (16 * d + 2 + f) v) M′ i
-    field-stays z = field-joins (slot-stays field-settling v g ev eg′ low (omega (arith, a .few)) z)
+    pub field-stays : g ≡ 0 → Settled p n (Field d (f + 1)) W M T j (set W′ (fieldAt d f) v) M′ i
+    field-stays z = field-joins (slot-stays field-settling v g ev eg′ low (field-word d f few) z)
 
 -- ---- the copy of one survivor more; x is word 1 of the old cell, as the code read it
 
 module _ {p : Sizes} {c : ℕ} {P P′ Q : ℕ → Type 0} {W T W′ : List ℕ} (w : Wiring p Q W T) (g : Grown P c P′) (among : (y : ℕ) → P′ y → Q y)
     (h : Rewritten (CopySlot p P W T) W W′) (x : ℕ) (e : x ≡ workOf W′ c) (u : Old p W T c) where
   -- its fields, as the words before have them
-  one : (y : ℕ) → Field (x - 1) (refsOf W′ (x - 1)) y → CopySlot p (λ z. z ≡ c) W T y
+  one : (y : ℕ) → Field (cellNamed x) (refsOf W′ (cellNamed x)) y → CopySlot p (λ z. z ≡ c) W T y
   one y f =
-      let f′ : Field (workOf W c - 1) (refsOf W′ (workOf W c - 1)) y = subst (λ (z : ℕ). Field (z - 1) (refsOf W′ (z - 1)) y) (e ∙ link-same h c) f in
+      let f′ : Field (forward W c) (refsOf W′ (forward W c)) y = subst (λ (z : ℕ). Field (cellNamed z) (refsOf W′ (cellNamed z)) y) (e ∙ link-same h c) f in
       record {
         cell = c;
         among = refl;
         old = u;
-        field = record { field = f′ .field; low = omega (arith, f′ .low, refs-same h (workOf W c - 1)); at = f′ .at };
+        field = record { field = f′ .field; low = omega (arith, f′ .low, refs-same h (forward W c)); at = f′ .at };
       }
 
-  copy-apart : (y : ℕ) → CopySlot p P W T y → Field (x - 1) (refsOf W′ (x - 1)) y → ⊥
+  copy-apart : (y : ℕ) → CopySlot p P W T y → Field (cellNamed x) (refsOf W′ (cellNamed x)) y → ⊥
   copy-apart y q f = earlier-apart w g among h y (one y f) q
 
-  copy-among : (y : ℕ) → Field (x - 1) (refsOf W′ (x - 1)) y → CopySlot p P′ W T y
+  copy-among : (y : ℕ) → Field (cellNamed x) (refsOf W′ (cellNamed x)) y → CopySlot p P′ W T y
   copy-among y f = slot-less (λ z q. subst P′ (sym q) (g .here)) y (one y f)
 
-  copy-split : (y : ℕ) → CopySlot p P′ W T y → CopySlot p P W T y ⊎ Field (x - 1) (refsOf W′ (x - 1)) y
+  copy-split : (y : ℕ) → CopySlot p P′ W T y → CopySlot p P W T y ⊎ Field (cellNamed x) (refsOf W′ (cellNamed x)) y
   copy-split y q = go (g .split (q .cell) (q .among))
     where
-      go : P (q .cell) ⊎ (q .cell ≡ c) → CopySlot p P W T y ⊎ Field (x - 1) (refsOf W′ (x - 1)) y
+      go : P (q .cell) ⊎ (q .cell ≡ c) → CopySlot p P W T y ⊎ Field (cellNamed x) (refsOf W′ (cellNamed x)) y
       go (inl m) = inl (record { cell = q .cell; among = m; old = q .old; field = q .field })
       go (inr z) =
-          let f : Field (workOf W c - 1) (refsOf W (workOf W c - 1)) y = subst (λ (v : ℕ). Field (workOf W v - 1) (refsOf W (workOf W v - 1)) y) z (q .field) in
-          inr (subst (λ (v : ℕ). Field (v - 1) (refsOf W′ (v - 1)) y) (sym (e ∙ link-same h c))
-          (record { field = f .field; low = omega (arith, f .low, refs-same h (workOf W c - 1)); at = f .at }))
+          let f : Field (forward W c) (refsOf W (forward W c)) y = subst (λ (v : ℕ). Field (forward W v) (refsOf W (forward W v)) y) z (q .field) in
+          inr (subst (λ (v : ℕ). Field (cellNamed v) (refsOf W′ (cellNamed v)) y) (sym (e ∙ link-same h c))
+          (record { field = f .field; low = omega (arith, f .low, refs-same h (forward W c)); at = f .at }))
 
-  pub copy-rewritten : {W″ : List ℕ} → Rewritten (Field (x - 1) (refsOf W′ (x - 1))) W′ W″ → Rewritten (CopySlot p P′ W T) W W″
+  pub copy-rewritten : {W″ : List ℕ} → Rewritten (Field (cellNamed x) (refsOf W′ (cellNamed x))) W′ W″ → Rewritten (CopySlot p P′ W T) W W″
   copy-rewritten k = rewritten-join h k copy-apart copy-split (λ y. ⊎-elim (slot-less (g .keeps) y) (copy-among y))
 
 module _ {p : Sizes} {n c j i : ℕ} {P P′ Q : ℕ → Type 0} {W M T W′ M′ : List ℕ} (w : Wiring p Q W T) (g : Grown P c P′) (among : (y : ℕ) → P′ y → Q y)
     (h : Settled p n (CopySlot p P W T) W M T j W′ M′ i) (x : ℕ) (e : x ≡ workOf W′ c) (u : Old p W T c) where
-  pub copy-settling : Settling p n (CopySlot p Q W T) W M T j → Settling p n (Field (x - 1) (refsOf W′ (x - 1))) W′ M′ T i
+  pub copy-settling : Settling p n (CopySlot p Q W T) W M T j → Settling p n (Field (cellNamed x) (refsOf W′ (cellNamed x))) W′ M′ T i
   copy-settling s =
       settling-next s h (slot-less (λ z m. among z (g .keeps z m))) (λ y f. slot-less among y (copy-among w g among (h .rewritten) x e u y f))
       (copy-apart w g among (h .rewritten) x e u)
 
-  pub copy-settled : {W″ M″ : List ℕ} {i′ : ℕ} → Settled p n (Field (x - 1) (refsOf W′ (x - 1))) W′ M′ T i W″ M″ i′ → Settled p n (CopySlot p P′ W T) W M T j W″ M″ i′
+  pub copy-settled : {W″ M″ : List ℕ} {i′ : ℕ} → Settled p n (Field (cellNamed x) (refsOf W′ (cellNamed x))) W′ M′ T i W″ M″ i′ → Settled p n (CopySlot p P′ W T) W M T j W″ M″ i′
   copy-settled k =
       settled-join h k (copy-apart w g among (h .rewritten) x e u) (copy-split w g among (h .rewritten) x e u)
       (λ y. ⊎-elim (slot-less (g .keeps) y) (copy-among w g among (h .rewritten) x e u y))
 
 -- ---- the copies of a page's survivors
 
-pub unset-settled : {p : Sizes} {n q w j : ℕ} {W M T : List ℕ} → Wiring p (Between (16 * q) (16 * (q + 1))) W T → w ≡ markOf p T q / 2 ^ 16 → j ≤ n
+pub unset-settled : {p : Sizes} {n q w j : ℕ} {W M T : List ℕ} → Wiring p (OnPage q) W T → w ≡ markOf p T q / 2 ^ 16 → j ≤ n
     → Settled p n (CopySlot p (Passed q w) W T) W M T j W M j
 unset-settled {p} {n} {q} {w} {j} {W} {M} {T} a e l = settled-none p n (CopySlot p (Passed q w) W T) W M T j l (unset-none a e)
 
 pub page-settled : {p : Sizes} {n left j i : ℕ} {W M T W′ M′ : List ℕ} (q : ℕ) → left ≡ 0 → Settled p n (CopySlot p (Passed q left) W T) W M T j W′ M′ i
-    → Settled p n (CopySlot p (Between (16 * q) (16 * (q + 1))) W T) W M T j W′ M′ i
+    → Settled p n (CopySlot p (OnPage q) W T) W M T j W′ M′ i
 page-settled {left = left} q z h =
     settled-like h (λ x s. slot-less (λ c m. within-passed q left c z m) x s) (λ x s. slot-less (λ c m. passed-within q left c m) x s)
 
 -- ---- all pages
 
-pub copies-settled : (p : Sizes) (n a j : ℕ) (W M T : List ℕ) → j ≤ n → Settled p n (CopySlot p (Between a a) W T) W M T j W M j
-copies-settled p n a j W M T l =
-    settled-none p n (CopySlot p (Between a a) W T) W M T j l (λ x q. omega (arith, q .among .0, q .among .1))
+pub copies-settled : (p : Sizes) (n j : ℕ) (W M T : List ℕ) → j ≤ n → Settled p n (CopySlot p (OnPages 0) W T) W M T j W M j
+copies-settled p n j W M T l = settled-none p n (CopySlot p (OnPages 0) W T) W M T j l (λ x q. omega (arith, q .among))
 
 -- a page after those below it
-module _ {p : Sizes} {n q j i : ℕ} {W M T W′ M′ : List ℕ} (w : Wiring p (Between 0 (16 * p .pages)) W T) (lt : q < p .pages)
-    (s : Settling p n (CopySlot p (Between 0 (16 * p .pages)) W T) W M T j) (h : Settled p n (CopySlot p (Between 0 (16 * q)) W T) W M T j W′ M′ i) where
-  page-apart : (x : ℕ) → CopySlot p (Between 0 (16 * q)) W T x → CopySlot p (Between (16 * q) (16 * (q + 1))) W′ T x → ⊥
+module _ {p : Sizes} {n q j i : ℕ} {W M T W′ M′ : List ℕ} (w : Wiring p (OnPages (p .pages)) W T) (lt : q < p .pages)
+    (s : Settling p n (CopySlot p (OnPages (p .pages)) W T) W M T j) (h : Settled p n (CopySlot p (OnPages q) W T) W M T j W′ M′ i) where
+  page-apart : (x : ℕ) → CopySlot p (OnPages q) W T x → CopySlot p (OnPage q) W′ T x → ⊥
   page-apart x a b = pages-apart w lt (h .rewritten) x (slot-then (h .rewritten) x b) a
 
-  pub page-settling : Settling p n (CopySlot p (Between (16 * q) (16 * (q + 1))) W′ T) W′ M′ T i
+  pub page-settling : Settling p n (CopySlot p (OnPage q) W′ T) W′ M′ T i
   page-settling =
-      settling-next s h (λ x a. slot-less (λ y l. (l .0, omega (arith, l .1))) x a)
-      (λ x b. slot-less (λ y l. (omega arith, omega (arith, l .1))) x (slot-then (h .rewritten) x b)) page-apart
+      settling-next s h (slot-less (λ y l. omega arith)) (λ x b. slot-less (on-pages lt) x (slot-then (h .rewritten) x b)) page-apart
 
-  pub pages-settled : {W″ M″ : List ℕ} {i′ : ℕ} → Settled p n (CopySlot p (Between (16 * q) (16 * (q + 1))) W′ T) W′ M′ T i W″ M″ i′
-      → Settled p n (CopySlot p (Between 0 (16 * (q + 1))) W T) W M T j W″ M″ i′
+  pub pages-settled : {W″ M″ : List ℕ} {i′ : ℕ} → Settled p n (CopySlot p (OnPage q) W′ T) W′ M′ T i W″ M″ i′
+      → Settled p n (CopySlot p (OnPages (q + 1)) W T) W M T j W″ M″ i′
   pages-settled k =
-      settled-join h k page-apart (λ x a. from x a (decLt (a .cell) (16 * q)))
-      (λ x. ⊎-elim (λ a. slot-less (λ y l. (l .0, omega (arith, l .1))) x a)
-      (λ b. slot-less (λ y l. (omega arith, l .1)) x (slot-then (h .rewritten) x b)))
+      settled-join h k page-apart (λ x a. from x a (ℕ-discrete (pageOf (a .cell)) q))
+      (λ x. ⊎-elim (slot-less (λ y l. omega arith) x) (λ b. slot-less (λ y e. omega arith) x (slot-then (h .rewritten) x b)))
     where
-      from : (x : ℕ) (a : CopySlot p (Between 0 (16 * (q + 1))) W T x) → Dec (a .cell < 16 * q)
-          → CopySlot p (Between 0 (16 * q)) W T x ⊎ CopySlot p (Between (16 * q) (16 * (q + 1))) W′ T x
-      from x a (yes l) = inl (record { cell = a .cell; among = (a .among .0, l); old = a .old; field = a .field })
-      from x a (no l) =
-          inr (slot-now (h .rewritten) x (record { cell = a .cell; among = (omega arith, a .among .1); old = a .old; field = a .field }))
+      from : (x : ℕ) (a : CopySlot p (OnPages (q + 1)) W T x) → Dec (pageOf (a .cell) ≡ q)
+          → CopySlot p (OnPages q) W T x ⊎ CopySlot p (OnPage q) W′ T x
+      from x a (yes e) = inr (slot-now (h .rewritten) x (record { cell = a .cell; among = e; old = a .old; field = a .field }))
+      from x a (no n) = inl (record { cell = a .cell; among = omega (arith, a .among); old = a .old; field = a .field })
 
 -- a page without marks has no copies
-pub settled-skips : {p : Sizes} {n j i : ℕ} {W M T W′ M′ : List ℕ} (k : ℕ) (l : List ℕ) → Wiring p (Between 0 (16 * p .pages)) W T
-    → ((q : ℕ) → q < p .pages → Off l k q → markOf p T q ≡ 0) → Skips (p .pages) k l (λ b. Settled p n (CopySlot p (Between 0 (16 * b)) W T) W M T j W′ M′ i)
-settled-skips k l w none q lt off h = settled-like h (unmarked-slots w q lt (none q lt off)) (λ x a. slot-less (λ y l. (l .0, omega (arith, l .1))) x a)
+pub settled-skips : {p : Sizes} {n j i : ℕ} {W M T W′ M′ : List ℕ} (k : ℕ) (l : List ℕ) → Wiring p (OnPages (p .pages)) W T
+    → ((q : ℕ) → q < p .pages → Off l k q → markOf p T q ≡ 0) → Skips (p .pages) k l (λ b. Settled p n (CopySlot p (OnPages b) W T) W M T j W′ M′ i)
+settled-skips k l w none q lt off h = settled-like h (unmarked-slots w q lt (none q lt off)) (slot-less (λ y l. omega arith))

@@ -12,15 +12,15 @@ use Rattle.layout.specs.Places.{usedIn, slotIn, slotRegionIn}
 use Rattle.remember.specs.Stretches.{Added, added-join, slot-above, region-above, Cleared}
 use Rattle.settle.specs.Entries.{Stays, Entries}
 use Rattle.settle.specs.Append.{crossAt, Crosses, Crossing, Appending}
-use Rattle.settle.specs.RewriteCopies.{CopySlot, Wiring, Between}
+use Rattle.settle.specs.RewriteCopies.{CopySlot, Wiring, OnPages}
 
 abbrev pub Copies : (p : Sizes) (W T : List ℕ) → ℕ → Type 0
-Copies p W T = CopySlot p (Between 0 (16 * p .pages)) W T
+Copies p W T = CopySlot p (OnPages (p .pages)) W T
 
 -- m entries of n are in use
 pub record Updating (p : Sizes) (r n m : ℕ) (W M T : List ℕ) : Type 0 where
   pub entries : Entries p r n m W M
-  pub wiring : Wiring p (Between 0 (16 * p .pages)) W T
+  pub wiring : Wiring p (OnPages (p .pages)) W T
   pub small : n ≤ 4096
   pub stays : (x h : ℕ) → Stays p r n W M T m x h → Crosses p r W T x × (h ≡ crossAt p W T x)
   pub comes : (x : ℕ) → Copies p W T x → crossAt p W T x ≢ 0 → Crosses p r W T x

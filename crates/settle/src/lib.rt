@@ -5,14 +5,14 @@ pub mod entries;
 pub mod rewrite;
 
 ghost use mathlib.Core.Path.{_≡_};
-ghost use Prim.Native.Nat.{ℕ, _+_, _*_, _<_, max};
+ghost use Prim.Native.Nat.{ℕ, _<_, max};
 ghost use lib.ListN.{length};
 ghost use Rattle.lists.specs.Part.{Rises, Off};
 ghost use Rattle.layout.specs.Places.{Room, markOf, usedIn};
 ghost use Rattle.layout.specs.Cells.{refsOf};
 ghost use Rattle.settle.specs.Rewrite.{Rewritten};
 ghost use Rattle.settle.specs.RewriteSlots.{Field, Fields};
-ghost use Rattle.settle.specs.RewriteCopies.{CopySlot, Wiring, Between};
+ghost use Rattle.settle.specs.RewriteCopies.{CopySlot, Wiring, OnPage, OnPages};
 ghost use Rattle.settle.specs.Update.{Copies, Updated};
 ghost use Rattle.settle.specs.Settle.{Settling, Settled};
 ghost use Rattle.settle.specs.Final.{Settles};
@@ -70,10 +70,10 @@ pub fn settle_page(
     page: usize,
     j: usize,
 ) -> usize
-    requires { ⌜ Wiring p (Between (16 * page) (16 * (page + 1))) (now cells) (now tables) ⌝ }
-    requires { ⌜ Settling p (p .entries) (CopySlot p (Between (16 * page) (16 * (page + 1))) (now cells) (now tables)) (now cells) (now remember) (now tables) j ⌝ }
+    requires { ⌜ Wiring p (OnPage page) (now cells) (now tables) ⌝ }
+    requires { ⌜ Settling p (p .entries) (CopySlot p (OnPage page) (now cells) (now tables)) (now cells) (now remember) (now tables) j ⌝ }
     requires { ⌜ page < p .pages ⌝ }
-    ensures { λ i. ⌜ Settled p (p .entries) (CopySlot p (Between (16 * page) (16 * (page + 1))) (now (cells .entry)) (now (tables .entry))) (now (cells .entry)) (now (remember .entry)) (now (tables .entry)) j (now (cells .exit)) (now (remember .exit)) i ⌝ }
+    ensures { λ i. ⌜ Settled p (p .entries) (CopySlot p (OnPage page) (now (cells .entry)) (now (tables .entry))) (now (cells .entry)) (now (remember .entry)) (now (tables .entry)) j (now (cells .exit)) (now (remember .exit)) i ⌝ }
 {
     let copied = layout::bits::upper_half(layout::tables::mark(p, tables, page));
     let survivors = u32::count_ones(copied);
@@ -101,11 +101,11 @@ pub fn settle_copies(
     n: usize,
     j: usize,
 ) -> usize
-    requires { ⌜ Wiring p (Between 0 (16 * p .pages)) (now cells) (now tables) ⌝ }
-    requires { ⌜ Settling p (p .entries) (CopySlot p (Between 0 (16 * p .pages)) (now cells) (now tables)) (now cells) (now remember) (now tables) j ⌝ }
+    requires { ⌜ Wiring p (OnPages (p .pages)) (now cells) (now tables) ⌝ }
+    requires { ⌜ Settling p (p .entries) (CopySlot p (OnPages (p .pages)) (now cells) (now tables)) (now cells) (now remember) (now tables) j ⌝ }
     requires { ⌜ Rises (p .pages) n (now list) ⌝ }
     requires { ⌜ ((page : ℕ) → page < p .pages → Off (now list) n page → markOf p (now tables) page ≡ 0) ⌝ }
-    ensures { λ i. ⌜ Settled p (p .entries) (CopySlot p (Between 0 (16 * p .pages)) (now (cells .entry)) (now (tables .entry))) (now (cells .entry)) (now (remember .entry)) (now (tables .entry)) j (now (cells .exit)) (now (remember .exit)) i ⌝ }
+    ensures { λ i. ⌜ Settled p (p .entries) (CopySlot p (OnPages (p .pages)) (now (cells .entry)) (now (tables .entry))) (now (cells .entry)) (now (remember .entry)) (now (tables .entry)) j (now (cells .exit)) (now (remember .exit)) i ⌝ }
 {
     let mut i = j;
     let mut a: usize = 0;

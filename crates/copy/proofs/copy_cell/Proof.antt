@@ -1,21 +1,21 @@
 -- The words of the new cell below i are those of the old, and nothing else is changed.
 use native.Mathlib.Omega.{arith}
 use lib.ListN.{length, getD, set}
-use Prim.Native.Nat.{ℕ, _≤_, _+_, _-_, _*_}
+use Prim.Native.Nat.{ℕ, _≤_, _+_, _-_}
 use mathlib.Core.List.{List}
 use mathlib.Core.Path.{_≡_, refl, sym, ap, _∙_, subst}
-use Rattle.layout.specs.Cells.{wordAt}
+use Rattle.layout.specs.Cells.{wordAt, workAt, cellWords}
 use Rattle.copy.specs.Moves.{Half, half-start, half-next, half-copied, Copied}
 use Rattle.copy.proofs.copy_cell.Statement.{statement}
 use Rattle.copy.proofs.copy_cell.Tie as tie
 
 abbrev Inv-loop : tie.InvT-loop
 Inv-loop cells₀ old new i₀ cells i =
-    (i ≤ 16) × (length cells ≡ length cells₀) × Half old new i cells₀ cells
+    (i ≤ cellWords) × (length cells ≡ length cells₀) × Half old new i cells₀ cells
 
 abbrev μ-loop : tie.MeasureT-loop
 μ-loop cells₀ old new i₀ cells i =
-    16 - i
+    cellWords - i
 
 loop-holds : tie.Need-loop-holds Inv-loop μ-loop
 loop-holds c = (omega arith, refl, half-start _ _ _)
@@ -62,11 +62,11 @@ returns c =
     let ref-to = c .before .before .before .ref-to in
     let a = c .before .before .before .before .before .before .before .before .before .before .before .before .args in
     let l = c .before .before .before .before .before .before .before .before .before .before .loop in
-    let e : l .i ≡ 16 = omega arith in
-    let h : Half (a .old) (a .new) 16 (a .cells .now) (l .cells) = subst (λ (n : ℕ). Half (a .old) (a .new) n (a .cells .now) (l .cells)) e (l .inv .2) in
-    let z : c .before .before .set-work2 .last .0 ≡ set (set (l .cells) (16 * a .new + 1) 0) (16 * a .old + 1) (ref-to .result) =
-    c .before .before .set-work2 .ensures ∙ ap (λ (X : List ℕ). set X (16 * a .old + 1) (ref-to .result)) (c .before .before .before .before .before .before .before .set-work .ensures) in
-    subst (λ (X : List ℕ). Copied (a .old) (a .new) (a .cells .now) X) (sym z) (half-copied (pre .0) (pre .1 .1 .1) (pre .1 .1 .0) h (ref-to .result) (omega (arith, ref-to .ensures)))
+    let e : l .i ≡ cellWords = omega arith in
+    let h : Half (a .old) (a .new) cellWords (a .cells .now) (l .cells) = subst (λ (n : ℕ). Half (a .old) (a .new) n (a .cells .now) (l .cells)) e (l .inv .2) in
+    let z : c .before .before .set-work2 .last .0 ≡ set (set (l .cells) (workAt (a .new)) 0) (workAt (a .old)) (ref-to .result) =
+    c .before .before .set-work2 .ensures ∙ ap (λ (X : List ℕ). set X (workAt (a .old)) (ref-to .result)) (c .before .before .before .before .before .before .before .set-work .ensures) in
+    subst (λ (X : List ℕ). Copied (a .old) (a .new) (a .cells .now) X) (sym z) (half-copied (pre .0) (pre .1 .1 .1) (pre .1 .0 .1) h (ref-to .result) (omega (arith, ref-to .ensures)))
 
 pub copy-cell-spec : {M : Type 1} → statement M
 copy-cell-spec =

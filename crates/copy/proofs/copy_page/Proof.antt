@@ -2,12 +2,13 @@
 use native.Mathlib.Omega.{arith}
 use borrow.Author.Needs.{needs}
 use lib.ListN.{length}
-use Prim.Native.Nat.{ℕ, _+_, _-_, _*_, _%_, _^_}
+use Prim.Native.Nat.{ℕ, _-_, _%_, _^_}
 use mathlib.Core.List.{List}
 use mathlib.Core.Logic.{⊎-elim}
 use mathlib.Core.Path.{_≡_, refl, sym, ap, _∙_, subst, subst₂}
 use lib.Count.{ones, ones-le, trailingZeros}
 use Rattle.lists.specs.SetBits.{Walked, walk-start, walk-lowest, walk-turn, walk-end}
+use Rattle.layout.specs.Cells.{cellOn, pageCells}
 use Rattle.copy.specs.Passing.{moves-cells, moves-tables}
 use Rattle.copy.specs.Copying.{PageMoves, page-begin, page-seeking, page-movable, page-moved, page-left, page-pass}
 use Rattle.copy.proofs.copy_page.Statement.{statement}
@@ -51,7 +52,7 @@ work-requires : tie.Need-work-requires Inv-loop μ-loop
 work-requires c κs =
     let l = c .before .before .before .before .loop in
     let f = walk-lowest (l .inv .3) (omega (arith, l .inv .0, c .before .before .before .loop-test .taken)) in
-    let e = c .before .cell-on .ensures ∙ ap (λ (y : ℕ). 16 * c .before .before .before .before .before .before .before .before .before .before .before .args .page + y) (c .before .before .wide .ensures) in
+    let e = c .before .cell-on .ensures ∙ ap (cellOn (c .before .before .before .before .before .before .before .before .before .before .before .args .page)) (c .before .before .wide .ensures) in
     let r = c .before .before .before .before .before .before .before .before .before .before .before .pre .0 .ready in
     (omega (arith, f, e, r .regular .room .few, c .before .before .before .before .before .before .before .before .before .before .before .pre .1 .1 .0), omega (arith, f, e, r .cells-long, c .before .before .before .before .before .before .before .before .before .before .before .pre .1 .1 .0, l .inv .1))
 
@@ -59,21 +60,21 @@ next-page-requires : tie.Need-next-page-requires Inv-loop μ-loop
 next-page-requires c κs =
     let l = c .before .before .before .before .before .before .before .before .loop in
     let f = walk-lowest (l .inv .3) (omega (arith, l .inv .0, c .before .before .before .before .before .before .before .loop-test .taken)) in
-    let e = c .before .before .before .before .before .cell-on .ensures ∙ ap (λ (y : ℕ). 16 * c .before .before .before .before .before .before .before .before .before .before .before .before .before .before .before .args .page + y) (c .before .before .before .before .before .before .wide .ensures) in
+    let e = c .before .before .before .before .before .cell-on .ensures ∙ ap (cellOn (c .before .before .before .before .before .before .before .before .before .before .before .before .before .before .before .args .page)) (c .before .before .before .before .before .before .wide .ensures) in
     (page-seeking (c .before .before .before .before .before .before .before .before .before .before .before .before .before .before .before .pre .0) (c .before .before .before .before .before .before .before .before .before .before .before .before .before .before .before .pre .1 .1 .0) (trailingZeros 32 (l .left)) (c .before .before .before .before .before .cell-on .result) e f refl (l .inv .4) (sym (c .before .before .before .work .ensures) ∙ c .before .before .if1 .taken), omega (arith, c .before .before .before .before .before .before .before .before .before .before .before .before .before .before .before .pre .1 .1 .1, l .inv .5))
 
 move-cell-requires : tie.Need-move-cell-requires Inv-loop μ-loop
 move-cell-requires c κs =
     let l = c .before .before .before .before .before .before .before .before .before .before .before .before .before .loop in
     let f = walk-lowest (l .inv .3) (omega (arith, l .inv .0, c .before .before .before .before .before .before .before .before .before .before .before .before .loop-test .taken)) in
-    let e = c .before .before .before .before .before .before .before .before .before .before .cell-on .ensures ∙ ap (λ (y : ℕ). 16 * c .before .before .before .before .before .before .before .before .before .before .before .before .before .before .before .before .before .before .before .before .args .page + y) (c .before .before .before .before .before .before .before .before .before .before .before .wide .ensures) in
+    let e = c .before .before .before .before .before .before .before .before .before .before .cell-on .ensures ∙ ap (cellOn (c .before .before .before .before .before .before .before .before .before .before .before .before .before .before .before .before .before .before .before .before .args .page)) (c .before .before .before .before .before .before .before .before .before .before .before .wide .ensures) in
     page-movable (c .before .before .before .before .before .before .before .before .before .before .before .before .before .before .before .before .before .before .before .before .pre .0) (c .before .before .before .before .before .before .before .before .before .before .before .before .before .before .before .before .before .before .before .before .pre .1 .1 .0) (trailingZeros 32 (l .left)) (c .before .before .before .before .before .before .before .before .before .before .cell-on .result) e f refl (l .inv .4) (sym (c .before .before .before .before .before .before .before .before .work .ensures) ∙ c .before .before .before .before .before .before .before .if1 .taken) (c .before .before .before .before .next-page .ensures)
 
 without-bit-requires : tie.Need-without-bit-requires Inv-loop μ-loop
 without-bit-requires c κs = let f = walk-lowest (c .before .before .before .before .before .before .loop .inv .3) (omega (arith, c .before .before .before .before .before .before .loop .inv .0, c .before .before .before .before .before .loop-test .taken)) in (f .lt, f .on)
 
 add-k : tie.Need-add-k Inv-loop μ-loop
-add-k c = omega (arith, ones-le 16 (c .before .before .before .before .before .before .before .before .lower-half .result) (omega (arith, c .before .before .before .before .before .before .before .before .lower-half .ensures)), c .before .before .before .before .before .before .before .loop .inv .0, c .before .before .before .before .before .before .loop-test .taken)
+add-k c = omega (arith, ones-le pageCells (c .before .before .before .before .before .before .before .before .lower-half .result) (omega (arith, c .before .before .before .before .before .before .before .before .lower-half .ensures)), c .before .before .before .before .before .before .before .loop .inv .0, c .before .before .before .before .before .before .loop-test .taken)
 
 loop-less : tie.Need-loop-less Inv-loop μ-loop
 loop-less c = omega (arith, c .before .before .before .before .before .before .loop-test .taken)
@@ -85,7 +86,7 @@ loop-again c =
     let l = c .before .before .before .before .before .before .before .loop in
     let i : ℕ = trailingZeros 32 (l .left) in
     let f = walk-lowest (l .inv .3) (omega (arith, l .inv .0, c .before .before .before .before .before .before .loop-test .taken)) in
-    let e = c .before .before .before .before .cell-on .ensures ∙ ap (λ (y : ℕ). 16 * a .page + y) (c .before .before .before .before .before .wide .ensures) in
+    let e = c .before .before .before .before .cell-on .ensures ∙ ap (cellOn (a .page)) (c .before .before .before .before .before .wide .ensures) in
     let left = c .without-bit in
     let P : ℕ → ℕ → List ℕ → List ℕ → Type 0 =
     (λ y n X Y. PageMoves (a .p) (a .region) (a .page) y n (a .cells .now) (a .tables .now) X Y) in

@@ -2,11 +2,12 @@
 use native.Mathlib.Omega.{arith}
 use borrow.Author.Needs.{needs}
 use lib.ListN.{length, getD}
-use Prim.Native.Nat.{ℕ, _≤_, _<_, _+_, _-_, _*_, _/_}
+use Prim.Native.Nat.{ℕ, _≤_, _<_, _+_, _-_}
 use mathlib.Core.List.{List}
 use mathlib.Core.Logic.{⊎-elim}
 use mathlib.Core.Path.{_≡_, refl, sym, ap, _∙_, subst, subst₂}
 use Rattle.rules.specs.Regions.{regionAt}
+use Rattle.layout.specs.Cells.{pageOf, firstOn}
 use Rattle.pages.specs.Pages.{note-low}
 use Rattle.copy.specs.Passing.{Passing, Pass, order, moves-cells, moves-tables}
 use Rattle.copy.specs.Copying.{Copy, copy-begin, copy-passing, copy-next, copy-skip, copy-marks, region-bounds}
@@ -72,7 +73,7 @@ loop-again c =
     let g : ℕ = regionAt (a .p) (a .thread) (l .level) in
     let e : c .before .before .wide .result ≡ g = c .before .before .wide .ensures ∙ c .before .before .before .region-at .ensures in
     let C : List ℕ → List ℕ → Type 0 = (λ X Y. Copy (a .p) (a .levels) (regionAt (a .p) (a .thread)) (l .level + 1) (a .cells .now) (a .tables .now) X Y) in
-    let P : ℕ → List ℕ → List ℕ → Type 0 = (λ x X Y. Pass (a .p) x (λ y. y / 16 < a .p .pages) (order x 0) (order x (16 * a .p .pages)) (l .cells) (l .tables) X Y) in
+    let P : ℕ → List ℕ → List ℕ → Type 0 = (λ x X Y. Pass (a .p) x (λ y. pageOf y < a .p .pages) (order x 0) (order x (firstOn (a .p .pages))) (l .cells) (l .tables) X Y) in
     let h : C (c .if1 .cells) (c .if1 .tables) × (length (c .if1 .notes) ≡ length (a .notes .now)) =
     ⊎-elim
     (λ w. (

@@ -2,13 +2,13 @@
 use native.Mathlib.Omega.{arith}
 use borrow.Author.Needs.{needs}
 use lib.ListN.{getD, set}
-use Prim.Native.Nat.{ℕ, _+_, _-_, _%_, _^_}
+use Prim.Native.Nat.{ℕ, _+_, _-_, _^_}
 use mathlib.Core.List.{List}
 use mathlib.Core.Path.{_≡_, ap, ap₂, _∙_}
 use Rattle.lists.specs.Bits.{bitAt}
 use Rattle.rules.specs.declared.Sizes.{Sizes}
 use Rattle.layout.specs.Places.{markAt, markOf, usedOf}
-use Rattle.layout.specs.Cells.{cellOn}
+use Rattle.layout.specs.Cells.{cellOn, placeOf, pageCells, cell-in}
 use Rattle.pages.specs.Pages.{taken}
 use Rattle.copy.specs.Marks.{marksAt, raised, clear-fresh}
 use Rattle.copy.specs.Moves.{Movable, Taken, movable-taken, count-fits}
@@ -16,7 +16,7 @@ use Rattle.copy.proofs.move_cell.Statement.{statement}
 use Rattle.copy.proofs.move_cell.Tie as tie
 
 -- the cell as take_cell gave it
-took : {p : Sizes} {g q : ℕ} {W T T′ : List ℕ} {c d : ℕ} → Movable p g q W T c → d ≡ cellOn q (usedOf p T q) → T′ ≡ taken p T q g → Taken p W T T′ c d (marksAt p c) (c % 16)
+took : {p : Sizes} {g q : ℕ} {W T T′ : List ℕ} {c d : ℕ} → Movable p g q W T c → d ≡ cellOn q (usedOf p T q) → T′ ≡ taken p T q g → Taken p W T T′ c d (marksAt p c) (placeOf c)
 took m e f = movable-taken m (record { next = m .next; cell = e; tables = f })
 
 take-cell-requires : tie.Need-take-cell-requires
@@ -27,7 +27,7 @@ take-cell-requires c κs =
 copy-cell-requires : tie.Need-copy-cell-requires
 copy-cell-requires c κs =
     let t = took (c .before .before .before .before .before .before .before .pre) (c .before .before .before .take-cell .ensures .0) (c .before .before .before .take-cell .ensures .1) in
-    (t .apart, ((omega (arith, t), omega (arith, t)), (omega (arith, t), omega (arith, t))))
+    (t .apart, (cell-in (t .few) (t .long) (t .old), cell-in (t .few) (t .long) (t .cell)))
 
 page-of-requires : tie.Need-page-of-requires
 page-of-requires c κs = search needs
@@ -59,7 +59,7 @@ with-bit-requires c κs =
     let t = took (c .before .before .before .before .before .before .before .before .before .before .before .before .before .before .before .pre) (c .before .before .before .before .before .before .before .before .before .before .before .take-cell .ensures .0) (c .before .before .before .before .before .before .before .before .before .before .before .take-cell .ensures .1) in
     let e : c .before .mark .result ≡ getD X (marksAt (a .p) (a .cell)) 0 = c .before .mark .ensures ∙ ap (λ (q : ℕ). markOf (a .p) X q) (c .before .before .before .before .page-of .ensures) in
     let f = c .without-bit .ensures ∙ ap₂ (λ (x y : ℕ). x - 2 ^ y) e (c .before .before .before .place-of .ensures) in
-    (omega (arith, c .before .before .before .place-of .ensures), ap₂ (λ (x y : ℕ). bitAt x (16 + y)) f (c .before .before .before .place-of .ensures) ∙ clear-fresh (getD X (marksAt (a .p) (a .cell)) 0) (a .cell % 16) (t .on) (t .fresh))
+    (omega (arith, c .before .before .before .place-of .ensures), ap₂ (λ (x y : ℕ). bitAt x (pageCells + y)) f (c .before .before .before .place-of .ensures) ∙ clear-fresh (getD X (marksAt (a .p) (a .cell)) 0) (placeOf (a .cell)) (t .on) (t .fresh))
 
 set-mark-requires : tie.Need-set-mark-requires
 set-mark-requires c κs = search needs
@@ -77,7 +77,7 @@ returns c =
     let w : ℕ = marksAt (a .p) (a .cell) in
     let e : c .before .before .before .before .before .before .mark .result ≡ getD X w 0 = c .before .before .before .before .before .before .mark .ensures ∙ ap (λ (q : ℕ). markOf (a .p) X q) (c .before .before .before .before .before .before .before .before .before .page-of .ensures) in
     let f = c .before .before .before .before .before .without-bit .ensures ∙ ap₂ (λ (x y : ℕ). x - 2 ^ y) e (c .before .before .before .before .before .before .before .before .place-of .ensures) in
-    let g : c .before .before .before .before .with-bit .result ≡ raised (getD X w 0) (a .cell % 16) = c .before .before .before .before .with-bit .ensures ∙ ap₂ (λ (x y : ℕ). x + 2 ^ (16 + y)) f (c .before .before .before .before .before .before .before .before .place-of .ensures) in
+    let g : c .before .before .before .before .with-bit .result ≡ raised (getD X w 0) (placeOf (a .cell)) = c .before .before .before .before .with-bit .ensures ∙ ap₂ (λ (x y : ℕ). x + 2 ^ (pageCells + y)) f (c .before .before .before .before .before .before .before .before .place-of .ensures) in
     record {
       can = c .before .before .before .before .before .before .before .before .before .before .before .before .before .before .before .before .before .before .before .before .pre;
       new = c .before .before .before .before .before .before .before .before .before .before .before .before .before .before .before .before .take-cell .result;

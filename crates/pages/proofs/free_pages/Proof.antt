@@ -3,14 +3,15 @@ use borrow.Author.Needs.{needs}
 use native.Mathlib.Omega.{arith}
 use Prim.Native.Nat.{_≤_, _+_, _-_}
 use mathlib.Core.Path.{_≡_, ap, _∙_}
+use Rattle.rules.specs.Regions.{regions}
 use Rattle.rules.specs.Graph.{pagesOf}
-use Rattle.pages.specs.Owned.{regionsOf, ownedBelow, all-owned, owned-turn}
+use Rattle.pages.specs.Owned.{ownedBelow, all-owned, owned-turn}
 use Rattle.pages.proofs.free_pages.Statement.{statement}
 use Rattle.pages.proofs.free_pages.Tie as tie
 
 abbrev Inv-loop : tie.InvT-loop
 Inv-loop p tables last free₀ g₀ free g =
-    (1 ≤ g) × (g ≤ last + 1) × (last ≡ regionsOf p) × (free + ownedBelow p tables (g - 1) ≡ p .pages)
+    (1 ≤ g) × (g ≤ last + 1) × (last ≡ regions p) × (free + ownedBelow p tables (g - 1) ≡ p .pages)
 
 abbrev μ-loop : tie.MeasureT-loop
 μ-loop p tables last free₀ g₀ free g =
@@ -50,7 +51,7 @@ loop-again c =
 
 returns : tie.Need-returns Inv-loop μ-loop
 returns c =
-    let e = ap (ownedBelow (c .before .before .before .before .args .p) (c .before .before .before .before .args .tables .now)) (let z : c .before .loop .g - 1 ≡ regionsOf (c .before .before .before .before .args .p) = omega (arith, c .before .loop .inv .2, c .before .loop .inv .1) in z) in
+    let e = ap (ownedBelow (c .before .before .before .before .args .p) (c .before .before .before .before .args .tables .now)) (let z : c .before .loop .g - 1 ≡ regions (c .before .before .before .before .args .p) = omega (arith, c .before .loop .inv .2, c .before .loop .inv .1) in z) in
     omega (arith, c .before .loop .inv .3, all-owned (c .before .before .before .before .args .p) (c .before .before .before .before .args .tables .now) (c .before .before .before .before .pre .1), e)
 
 pub free-pages-spec : {M : Type 1} → statement M

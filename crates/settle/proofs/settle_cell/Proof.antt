@@ -2,12 +2,13 @@
 use native.Mathlib.Omega.{arith}
 use borrow.Author.Needs.{needs}
 use lib.ListN.{length, set}
-use Prim.Native.Nat.{ℕ, _≤_, _<_, _+_, _-_, _/_}
+use Prim.Native.Nat.{ℕ, _≤_, _<_, _+_, _-_}
 use mathlib.Core.List.{List}
 use mathlib.Core.Logic.{⊎-elim}
 use mathlib.Core.Path.{_≡_, refl, sym, ap, _∙_, subst, subst₃}
 use Rattle.layout.specs.Places.{ownerOf}
-use Rattle.layout.specs.Cells.{fieldOf, refsOf, cell-in}
+use Rattle.layout.specs.Cells.{fieldCount, fieldOf, refsOf, pageOf, cell-in}
+use Rattle.layout.specs.declared.Kind.the-variants.{Reference}
 use Rattle.layout.specs.Words.{Names}
 use Rattle.settle.specs.Rewrite.{forwarded}
 use Rattle.settle.specs.RewriteSlots.{Field}
@@ -17,7 +18,7 @@ use Rattle.settle.proofs.settle_cell.Tie as tie
 
 abbrev Inv-loop : tie.InvT-loop
 Inv-loop p cells₀ remember₀ tables cell j entries n from i₀ f₀ cells remember i f =
-    (f ≤ n) × (n ≡ refsOf cells₀ cell) × (from ≡ ownerOf p tables (cell / 16)) × (length cells ≡ length cells₀) × (length remember ≡ length remember₀)
+    (f ≤ n) × (n ≡ refsOf cells₀ cell) × (from ≡ ownerOf p tables (pageOf cell)) × (length cells ≡ length cells₀) × (length remember ≡ length remember₀)
     × Settled p (p .entries) (Field cell f) cells₀ remember₀ tables j cells remember i
 
 abbrev μ-loop : tie.MeasureT-loop
@@ -57,7 +58,7 @@ owner-requires c κs = (c .before .before .before .before .before .before .befor
 loop-holds : tie.Need-loop-holds Inv-loop μ-loop
 loop-holds c =
     let a = c .before .before .before .before .before .before .before .before .args in
-    (omega arith, c .before .before .field-count .ensures ∙ ap (λ (x : ℕ). x / 16) (c .before .before .before .head .ensures), c .owner .ensures ∙ ap (λ (q : ℕ). ownerOf (a .p) (a .tables .now) q) (c .before .page-of .ensures), refl, refl, fields-settled _ _ _ _ _ _ _ (c .before .before .before .before .before .before .before .before .pre .1 .0 .appending .low))
+    (omega arith, c .before .before .field-count .ensures ∙ ap (fieldCount Reference) (c .before .before .before .head .ensures), c .owner .ensures ∙ ap (λ (q : ℕ). ownerOf (a .p) (a .tables .now) q) (c .before .page-of .ensures), refl, refl, fields-settled _ _ _ _ _ _ _ (c .before .before .before .before .before .before .before .before .pre .1 .0 .appending .low))
 
 field-requires : tie.Need-field-requires Inv-loop μ-loop
 field-requires c κs =

@@ -2,10 +2,10 @@
 use native.Mathlib.Omega.{arith}
 use borrow.Author.Needs.{needs}
 use lib.ListN.{length}
-use Prim.Native.Nat.{_≤_, _<_, _-_, _*_}
+use Prim.Native.Nat.{_≤_, _<_, _-_}
 use mathlib.Core.Path.{_≡_, refl, _∙_}
 use Rattle.lists.specs.Part.{Through, cut-here, through-start, through-turn, through-end}
-use Rattle.settle.specs.RewriteCopies.{CopySlot, Between, page-wired}
+use Rattle.settle.specs.RewriteCopies.{CopySlot, OnPages, page-wired}
 use Rattle.settle.specs.Settle.{Settled, copies-settled, page-settling, pages-settled, settled-skips}
 use Rattle.settle.proofs.settle_copies.Statement.{statement}
 use Rattle.settle.proofs.settle_copies.Tie as tie
@@ -13,7 +13,7 @@ use Rattle.settle.proofs.settle_copies.Tie as tie
 abbrev Inv-loop : tie.InvT-loop
 Inv-loop p cells₀ remember₀ tables list n j i₀ a₀ cells remember i a =
     (a ≤ n) × (length cells ≡ length cells₀) × (length remember ≡ length remember₀)
-    × Through (p .pages) n list a (λ b. Settled p (p .entries) (CopySlot p (Between 0 (16 * b)) cells₀ tables) cells₀ remember₀ tables j cells remember i)
+    × Through (p .pages) n list a (λ b. Settled p (p .entries) (CopySlot p (OnPages b) cells₀ tables) cells₀ remember₀ tables j cells remember i)
 
 abbrev μ-loop : tie.MeasureT-loop
 μ-loop p cells₀ remember₀ tables list n j i₀ a₀ cells remember i a =
@@ -22,7 +22,7 @@ abbrev μ-loop : tie.MeasureT-loop
 loop-holds : tie.Need-loop-holds Inv-loop μ-loop
 loop-holds c =
     let pre = c .before .before .before .before .pre in
-    (omega arith, refl, refl, through-start _ _ _ _ (settled-skips (c .before .before .before .before .args .n) (c .before .before .before .before .args .list .now) (pre .0) (pre .1 .1 .1)) (copies-settled _ _ _ _ _ _ _ (pre .1 .0 .appending .low)))
+    (omega arith, refl, refl, through-start _ _ _ _ (settled-skips (c .before .before .before .before .args .n) (c .before .before .before .before .args .list .now) (pre .0) (pre .1 .1 .1)) (copies-settled _ _ _ _ _ _ (pre .1 .0 .appending .low)))
 
 mul-wide : tie.Need-mul-wide Inv-loop μ-loop
 mul-wide c = omega arith

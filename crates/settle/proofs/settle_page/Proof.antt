@@ -2,13 +2,13 @@
 use native.Mathlib.Omega.{arith}
 use borrow.Author.Needs.{needs}
 use lib.ListN.{length}
-use Prim.Native.Nat.{ℕ, _+_, _-_, _*_, _/_, _^_}
+use Prim.Native.Nat.{ℕ, _-_, _/_, _^_}
 use mathlib.Core.Logic.{_≢_}
 use mathlib.Core.Path.{_≡_, refl, sym, ap, _∙_, subst}
 use lib.Count.{ones, ones-le, trailingZeros}
 use Rattle.lists.specs.Bits.{Lowest}
 use Rattle.lists.specs.SetBits.{Walked, walk-start, walk-lowest, walk-turn, walk-end}
-use Rattle.layout.specs.Cells.{workOf, refsOf}
+use Rattle.layout.specs.Cells.{workOf, refsOf, cellOn, pageOf, pageCells, page-on, cell-in}
 use Rattle.settle.specs.Rewrite.{link-same}
 use Rattle.settle.specs.RewriteSlots.{Field, Fields}
 use Rattle.settle.specs.RewriteCopies.{CopySlot, Old, Passed, passed-within, passed-grown, bit-old, copy-fields}
@@ -29,13 +29,13 @@ lowest : (c : tie.In-loop Inv-loop μ-loop) → Lowest (c .before .loop .left) (
 lowest c = walk-lowest (c .before .loop .inv .3) (omega (arith, c .before .loop .inv .0, c .loop-test .taken))
 
 -- the cell of the lowest bit
-cell : (c : tie.After-cell-on Inv-loop μ-loop) → c .cell-on .result ≡ 16 * c .before .before .before .before .before .before .before .before .before .before .args .page + trailingZeros 32 (c .before .before .before .before .loop .left)
-cell c = c .cell-on .ensures ∙ ap (λ (y : ℕ). 16 * c .before .before .before .before .before .before .before .before .before .before .args .page + y) (c .before .wide .ensures)
+cell : (c : tie.After-cell-on Inv-loop μ-loop) → c .cell-on .result ≡ cellOn (c .before .before .before .before .before .before .before .before .before .before .args .page) (trailingZeros 32 (c .before .before .before .before .loop .left))
+cell c = c .cell-on .ensures ∙ ap (cellOn (c .before .before .before .before .before .before .before .before .before .before .args .page)) (c .before .wide .ensures)
 
 -- it is a survivor's, and this is its forward reference
 old : (c : tie.After-work Inv-loop μ-loop)
     → (let a = c .before .before .before .before .before .before .before .before .before .before .before .args in
-    Old (a .p) (a .cells .now) (a .tables .now) (16 * a .page + trailingZeros 32 (c .before .before .before .before .before .loop .left)))
+    Old (a .p) (a .cells .now) (a .tables .now) (cellOn (a .page) (trailingZeros 32 (c .before .before .before .before .before .loop .left))))
 old c =
     let pre = c .before .before .before .before .before .before .before .before .before .before .before .pre in
     let l = c .before .before .before .before .before .loop in
@@ -44,7 +44,7 @@ old c =
 
 link : (c : tie.After-work Inv-loop μ-loop)
     → (let l = c .before .before .before .before .before .loop in
-    c .work .result ≡ workOf (l .cells) (16 * c .before .before .before .before .before .before .before .before .before .before .before .args .page + trailingZeros 32 (l .left)))
+    c .work .result ≡ workOf (l .cells) (cellOn (c .before .before .before .before .before .before .before .before .before .before .before .args .page) (trailingZeros 32 (l .left))))
 link c = c .work .ensures ∙ ap (λ (x : ℕ). workOf (c .before .before .before .before .before .loop .cells) x) (cell (c .before))
 
 mark-requires : tie.Need-mark-requires Inv-loop μ-loop
@@ -66,9 +66,9 @@ cell-on-requires c κs = (omega (arith, c .before .before .before .before .befor
 
 work-requires : tie.Need-work-requires Inv-loop μ-loop
 work-requires c κs =
-    let f = lowest (c .before .before .before) in
-    let e = cell c in
-    (omega (arith, f, e, c .before .before .before .before .before .before .before .before .before .before .pre .0 .few, c .before .before .before .before .before .before .before .before .before .before .pre .1 .1), omega (arith, f, e, c .before .before .before .before .before .before .before .before .before .before .pre .0 .cells-long, c .before .before .before .before .before .before .before .before .before .before .pre .1 .1, c .before .before .before .before .loop .inv .1))
+    let pre = c .before .before .before .before .before .before .before .before .before .before .pre in
+    let d = ap pageOf (cell c) ∙ page-on _ _ (lowest (c .before .before .before) .lt) in
+    cell-in {pages = c .before .before .before .before .before .before .before .before .before .before .args .p .pages} (pre .0 .few) (omega (arith, pre .0 .cells-long, c .before .before .before .before .loop .inv .1)) (omega (arith, d, pre .1 .1))
 
 cell-named-requires : tie.Need-cell-named-requires Inv-loop μ-loop
 cell-named-requires c κs =
@@ -96,7 +96,7 @@ without-bit-requires : tie.Need-without-bit-requires Inv-loop μ-loop
 without-bit-requires c κs = let f = lowest (c .before .before .before .before .before .before .before .before .before .before .before .before) in (f .lt, f .on)
 
 add-k : tie.Need-add-k Inv-loop μ-loop
-add-k c = omega (arith, ones-le 16 (c .before .before .before .before .before .before .before .before .before .before .before .before .before .before .before .upper-half .result) (omega (arith, c .before .before .before .before .before .before .before .before .before .before .before .before .before .before .before .upper-half .ensures)), c .before .before .before .before .before .before .before .before .before .before .before .before .before .before .loop .inv .0, c .before .before .before .before .before .before .before .before .before .before .before .before .before .loop-test .taken)
+add-k c = omega (arith, ones-le pageCells (c .before .before .before .before .before .before .before .before .before .before .before .before .before .before .before .upper-half .result) (omega (arith, c .before .before .before .before .before .before .before .before .before .before .before .before .before .before .before .upper-half .ensures)), c .before .before .before .before .before .before .before .before .before .before .before .before .before .before .loop .inv .0, c .before .before .before .before .before .before .before .before .before .before .before .before .before .loop-test .taken)
 
 loop-less : tie.Need-loop-less Inv-loop μ-loop
 loop-less c = omega (arith, c .before .before .before .before .before .before .before .before .before .before .before .before .before .loop-test .taken)

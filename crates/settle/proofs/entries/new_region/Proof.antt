@@ -2,18 +2,19 @@
 use native.Mathlib.Omega.{arith}
 use borrow.Author.Needs.{needs}
 use lib.ListN.{getD}
-use Prim.Native.Nat.{ℕ, _/_}
+use Prim.Native.Nat.{ℕ}
 use mathlib.Core.List.{List}
 use mathlib.Core.Path.{_≡_, sym, ap, _∙_}
 use Rattle.rules.specs.declared.Sizes.{Sizes}
 use Rattle.layout.specs.Places.{ownerOf}
+use Rattle.layout.specs.Cells.{pageAt, at-page}
 use Rattle.remember.specs.Crossing.{crossesFrom}
 use Rattle.settle.specs.Entries.{new-gone, new-stays, new-moved}
 use Rattle.settle.proofs.entries.new_region.Statement.{statement}
 use Rattle.settle.proofs.entries.new_region.Tie as tie
 
-home : (p : Sizes) (T : List ℕ) (at w q : ℕ) → q ≡ at / 16 / 16 → w ≡ ownerOf p T q → ownerOf p T (at / 256) ≡ w
-home p T at w q e f = ap (λ (y : ℕ). ownerOf p T y) (let z : at / 256 ≡ q = omega arith in z) ∙ sym f
+home : (p : Sizes) (T : List ℕ) (at w q : ℕ) → q ≡ pageAt at → w ≡ ownerOf p T q → ownerOf p T (pageAt at) ≡ w
+home p T at w q e f = ap (λ (y : ℕ). ownerOf p T y) (sym e) ∙ sym f
 
 page-at-requires : tie.Need-page-at-requires
 page-at-requires c κs = search needs
@@ -21,7 +22,7 @@ page-at-requires c κs = search needs
 owner-requires : tie.Need-owner-requires
 owner-requires c κs =
     let pre = c .before .before .before .pre in
-    (pre .1 .1 .0, omega (arith, c .page-at .ensures, pre .0))
+    (pre .1 .1 .0, omega (arith, c .page-at .ensures, at-page (c .before .before .before .args .at) (pre .0)))
 
 returns : tie.Need-returns
 returns c =
