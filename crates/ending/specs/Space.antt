@@ -14,7 +14,7 @@ use Rattle.rules.specs.Graph.{Graph, ended, crossing}
 use Rattle.laws.specs.Counts.{crossRef}
 use Rattle.layout.specs.declared.Kind.the-variants.{Reference}
 use Rattle.layout.specs.Places.{Room, ownerOf, usedOf, cellsWords}
-use Rattle.layout.specs.Cells.{fieldAt, fieldOf, refsOf, fieldCount, pageOf, cellOn, cellOf, mostFields}
+use Rattle.layout.specs.Cells.{fieldAt, fieldOf, refsOf, fieldCount, pageOf, cellOn, cellOf, wordOf, pageAt, mostFields}
 use Rattle.layout.specs.Words.{Words, InUse, Used, ownerIn, refCount, graphOf}
 use Rattle.promises.specs.Whole.{WholeFor}
 use Rattle.promises.specs.Reading.{refs-few}
