@@ -47,7 +47,7 @@ pub fn decode(p: Sizes, m: Command) -> Decoded
             both(both(a == 0, no_b), no_c),
             Decoded::End(m.thread),
         ),
-        3 => checked(known, both(var_a, b + c <= 14), Decoded::New(t, a, b, c)),
+        3 => checked(known, both(var_a, b + c <= layout::cells::FIELDS), Decoded::New(t, a, b, c)),
         4 => checked(
             known,
             both(both(var_a, var_b), c < p.threads),
