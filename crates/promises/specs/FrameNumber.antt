@@ -11,6 +11,7 @@ use Rattle.rules.specs.NeverFreeing.{noObject}
 use Rattle.rules.specs.Rules.{Regioned, graph}
 use Rattle.laws.specs.GraphLaws.{Alive}
 use Rattle.laws.specs.RulesLaws.{Sound}
+use Rattle.layout.specs.Places.{cellsWords}
 use Rattle.layout.specs.declared.Kind.the-variants.{Reference, Number}
 use Rattle.layout.specs.Cells.{headOf, fieldAt, cellOf, wordOf}
 use Rattle.layout.specs.Words.{Words, InUse, Used, refCount, numCount}
@@ -20,7 +21,7 @@ use Rattle.promises.specs.StandsFor.{StandsFor, SameBeyond}
 use Rattle.promises.specs.Reading.{alive-used, cells-room}
 use Rattle.promises.specs.Changes.{withCells, withObject, withField}
 use Rattle.remember.specs.Entries.{exact-everywhere}
-use Rattle.promises.specs.Slots.{Slot, crossesTo, cross-same, exact-of, of-exact}
+use Rattle.promises.specs.Slots.{Slot, crossesTo, cross-same}
 use Rattle.promises.specs.FieldStore.{field-whole, head-kept, whole-with, cells-beyond, object-stands, fields-kept, fields-set}
 
 -- ---- words past a number's are as they were: no slot changes
@@ -56,7 +57,7 @@ module _ (p : Sizes) (c m t : List ℕ) (w : WholeAt p c m t) (y b v : ℕ) (u :
   pub number-whole-at : WholeAt p c′ m t
   number-whole-at =
       field-whole p c m t w y j v u (omega arith) fit m (λ l. absurd (let z : ⊥ = omega arith in z))
-      (of-exact p c′ m t (exact-everywhere (crossTo p c t) (crossTo p c′ t) (256 * p .pages) (p .entries) m numbers-cross (exact-of p c m t (w .remember))))
+      (exact-everywhere (crossTo p c t) (crossTo p c′ t) (cellsWords p) (p .entries) m numbers-cross (w .remember))
 
 module _ (s : Sizes) (w : Words) (k : WholeFor s w) (y b v : ℕ) (u : Used s w y) (low : b < numCount w y) where
   abbrev C : List ℕ

@@ -32,7 +32,7 @@ use Rattle.promises.specs.Reading.{alive-used, cells-room, remember-room
 use Rattle.promises.specs.Crossings.{ref-test, heap-entries}
 use Rattle.promises.specs.Changes.{withObject, withField}
 use Rattle.remember.specs.Entries.{Edited}
-use Rattle.promises.specs.Slots.{Slot, crossesTo, field-slot, slot-cross, cross-stored, cross-elsewhere, exact-of, of-exact}
+use Rattle.promises.specs.Slots.{Slot, crossesTo, field-slot, slot-cross, cross-stored, cross-elsewhere}
 use Rattle.remember.specs.Remembering.{Remembered, NoRoom, remembered-exact, remembered-edited}
 use Rattle.promises.specs.FieldStore.{field-whole, whole-with, cells-beyond, object-stands, fields-kept, fields-set}
 use Rattle.promises.specs.FrameVariable.{ref-to-cell}
@@ -89,10 +89,9 @@ module _ (s : Sizes) (w : Words) (k : WholeFor s w) (y f v : ℕ) (u : Used s w 
     reference-whole ref z =
         whole-with s w k (set (w .cells) at v) m′ (length-set (w .cells) at v) (edited .long) (edited .size)
         (field-whole s (w .cells) (w .remember) (w .tables) (k .placed) y f v u (omega arith) (cells-room s w k) m′ (λ l. ref)
-        (of-exact s (set (w .cells) at v) m′ (w .tables)
         (remembered-exact (crossTo s (w .cells) (w .tables)) (crossTo s (set (w .cells) at v) (w .tables)) (cellsWords s) (s .entries) (w .remember) m′
-        (remember-room s w k) (exact-of s (w .cells) (w .remember) (w .tables) (k .placed .remember)) at _ _ r room
-        (cross-elsewhere s (w .cells) (w .tables) at v reference-slot) before after d z)))
+        (remember-room s w k) (k .placed .remember) at _ _ r room
+        (cross-elsewhere s (w .cells) (w .tables) at v reference-slot) before after d z))
 
     pub reference-beyond : SameBeyond s w (storedWords s w y f v m′)
     reference-beyond =

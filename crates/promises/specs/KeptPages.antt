@@ -14,6 +14,7 @@ use Rattle.layout.specs.Places.{sizesAt, ownersFrom, cellsWords, rememberWords,
 use Rattle.layout.specs.Cells.{headOf, pageOf, placeOf, cellOf, wordOf}
 use Rattle.layout.specs.Words.{Words, InUse, homeAt, inUseAt, ownerIn}
 use Rattle.remember.specs.Crossing.{other, regionOf, crossTo}
+use Rattle.remember.specs.Entries.{exact-everywhere}
 use Rattle.promises.specs.Whole.{SizesWhole, WholeFor, Open, Partial, objectsOf, IsRef, RememberWhole}
 use Rattle.promises.specs.Changes.{withTables}
 
@@ -88,17 +89,8 @@ module _ (s : Sizes) (w : Words) (k : WholeFor s w) (t : List ℕ) (e : PagesKep
 
   remember-kept : RememberWhole s (w .cells) (w .remember) t
   remember-kept =
-      let r = k .placed .remember in
-      let same = cross-kept s (w .tables) t e (w .cells) in
-      record {
-        entries = record {
-          room = r .entries .room;
-          named = λ i l. let n = r .entries .named i l in record { slot = n .slot; region = n .region; right = same _ ∙ n .right };
-          once = r .entries .once;
-          rest = r .entries .rest;
-        };
-        every = λ q l h. r .every q l (subst (λ (n : ℕ). 0 < n) (same q) h);
-      }
+      exact-everywhere (crossTo s (w .cells) (w .tables)) (crossTo s (w .cells) t) (cellsWords s) (s .entries) (w .remember)
+      (λ q l. cross-kept s (w .tables) t e (w .cells) q) (k .placed .remember)
 
   -- they are whole if depths and variables are, and each page's region is open
   pub kept-whole : ((u : ℕ) → u < s .threads → depthOf t u ≤ s .depth)

@@ -18,7 +18,7 @@ use Rattle.promises.specs.Whole.{WholeFor, Open, IsRef, CellFormed}
 use Rattle.promises.specs.StandsFor.{SameBeyond}
 use Rattle.promises.specs.Reading.{owners-is}
 use Rattle.remember.specs.Entries.{exact-everywhere}
-use Rattle.promises.specs.Slots.{Slot, crossesTo, region-of, slot-field, cross-same, exact-of, of-exact}
+use Rattle.promises.specs.Slots.{Slot, crossesTo, region-of, slot-field, cross-same}
 use Rattle.promises.specs.TakeCell.{Took, low-past, mark-past, took-unused, still-used, used-split, ref-still, owner-used, depth-past, took-pages, took-partial, took-counts}
 
 -- the words of a new object, the first of them given, and all other cells as they were
@@ -154,8 +154,7 @@ module _ (s : Sizes) (w : Words) (k : WholeFor s w) (g cell b d : ℕ) (t′ c�
           formed = formed;
           marks = λ page l. mark-past s t g cell t′ took page l ∙ k .placed .marks page l;
           working = working;
-          remember = of-exact s c′ (w .remember) t′
-              (exact-everywhere (crossTo s c t) (crossTo s c′ t′) (256 * s .pages) (s .entries) (w .remember) cross-kept (exact-of s c (w .remember) t (k .placed .remember)));
+          remember = exact-everywhere (crossTo s c t) (crossTo s c′ t′) (cellsWords s) (s .entries) (w .remember) cross-kept (k .placed .remember);
         };
       }
 

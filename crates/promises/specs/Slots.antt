@@ -15,8 +15,7 @@ use Rattle.layout.specs.Places.{ownerOf, usedOf}
 use Rattle.layout.specs.Cells.{headAt, headOf, fieldAt, pageOf, placeOf, cellOf, wordOf}
 use Rattle.layout.specs.Words.{InUse}
 use Rattle.remember.specs.Crossing.{other, regionOf, crossTo}
-use Rattle.promises.specs.Whole.{RememberWhole}
-use Rattle.remember.specs.Entries.{Exact, Elsewhere}
+use Rattle.remember.specs.Entries.{Elsewhere}
 
 -- the word at q is a reference field of a cell in use
 pub record Slot (p : Sizes) (c t : List ℕ) (q : ℕ) : Type 0 where
@@ -118,27 +117,3 @@ module _ (p : Sizes) (c t : List ℕ) (at x : ℕ) (s : Slot p c t at) where
   cross-elsewhere q d =
       ap₂ (λ (h y : ℕ). cond (ltb (placeOf (cellOf q)) (usedOf p t (pageOf (cellOf q)))) (cond (leb 2 (wordOf q)) (cond (ltb (wordOf q) (h / 16 + 2)) (crossesTo p t (cellOf q) y) 0) 0) 0)
       (head-past (cellOf q)) (past c at x q 0 d)
-
--- ---- the remember table is whole exactly if it is exact for crossTo
-
-pub exact-of : (p : Sizes) (c m t : List ℕ) → RememberWhole p c m t → Exact (crossTo p c t) (256 * p .pages) (p .entries) m
-exact-of p c m t w =
-    record {
-      room = w .entries .room;
-      named = λ i l. let e = w .entries .named i l in record { slot = e .slot; region = e .region; right = e .right };
-      once = w .entries .once;
-      rest = w .entries .rest;
-      every = w .every;
-    }
-
-pub of-exact : (p : Sizes) (c m t : List ℕ) → Exact (crossTo p c t) (256 * p .pages) (p .entries) m → RememberWhole p c m t
-of-exact p c m t w =
-    record {
-      entries = record {
-        room = w .room;
-        named = λ i l. let e = w .named i l in record { slot = e .slot; region = e .region; right = e .right };
-        once = w .once;
-        rest = w .rest;
-      };
-      every = w .every;
-    }

@@ -10,10 +10,11 @@ use Rattle.lists.specs.Counting.{sum}
 use Rattle.rules.specs.declared.Sizes.{Sizes}
 use Rattle.rules.specs.Terms.{InRange}
 use Rattle.rules.specs.Regions.{threadOf, levelOf}
-use Rattle.layout.specs.Places.{sizesAt, cellsWords, rememberWords, tablesWords, depthOf, varOf, ownerOf, usedOf, markOf, countOf, usedIn, slotIn, slotRegionIn}
+use Rattle.layout.specs.Places.{sizesAt, cellsWords, rememberWords, tablesWords, depthOf, varOf, ownerOf, usedOf, markOf, countOf, slotIn, slotRegionIn}
 use Rattle.layout.specs.Cells.{headOf, workOf, fieldOf}
 use Rattle.layout.specs.Words.{Words, InUse, sizesIn}
 use Rattle.remember.specs.Crossing.{crossTo}
+use Rattle.remember.specs.Entries.{Entry, Only, Exact}
 
 -- ---- the words that the conditions speak of
 
@@ -52,22 +53,16 @@ pub record CellFormed (c : List ℕ) (k : ℕ) : Type 0 where
   pub rest : (f : ℕ) → f < 14 → headOf c k / 16 + headOf c k % 16 ≤ f → fieldOf c k f ≡ 0
 
 -- entry i names a crossing slot, with the right region
-pub record EntryWhole (p : Sizes) (c m t : List ℕ) (i : ℕ) : Type 0 where
-  pub slot : slotIn m i < 256 * p .pages
-  pub region : 0 < slotRegionIn (p .entries) m i
-  pub right : crossTo p c t (slotIn m i) ≡ slotRegionIn (p .entries) m i
+abbrev pub EntryWhole : Sizes → List ℕ → List ℕ → List ℕ → ℕ → Type 0
+EntryWhole p c m t i = Entry (crossTo p c t) (cellsWords p) (slotIn m i) (slotRegionIn (p .entries) m i)
 
 -- the entries name crossing slots, each once, and those that are not used are zero
-pub record EntriesWhole (p : Sizes) (c m t : List ℕ) : Type 0 where
-  pub room : usedIn m ≤ p .entries
-  pub named : (i : ℕ) → i < usedIn m → EntryWhole p c m t i
-  pub once : (i j : ℕ) → i < j → j < usedIn m → slotIn m i ≡ slotIn m j → ⊥
-  pub rest : (i : ℕ) → usedIn m ≤ i → i < p .entries → (slotIn m i ≡ 0) × (slotRegionIn (p .entries) m i ≡ 0)
+abbrev pub EntriesWhole : Sizes → List ℕ → List ℕ → List ℕ → Type 0
+EntriesWhole p c m t = Only (crossTo p c t) (cellsWords p) (p .entries) m
 
 -- and every crossing slot is named
-pub record RememberWhole (p : Sizes) (c m t : List ℕ) : Type 0 where
-  pub entries : EntriesWhole p c m t
-  pub every : (q : ℕ) → q < 256 * p .pages → 0 < crossTo p c t q → (i : ℕ) × (i < usedIn m) × (slotIn m i ≡ q)
+abbrev pub RememberWhole : Sizes → List ℕ → List ℕ → List ℕ → Type 0
+RememberWhole p c m t = Exact (crossTo p c t) (cellsWords p) (p .entries) m
 
 -- ---- the conditions
 

@@ -3,9 +3,10 @@ use Prim.Native.Nat.{ℕ}
 use mathlib.Core.List.{List}
 use native.Mathlib.Omega.{arith}
 use Rattle.rules.specs.declared.Sizes.{Sizes}
-use Rattle.layout.specs.Places.{usedIn}
+use Rattle.layout.specs.Places.{cellsWords, usedIn}
 use Rattle.promises.specs.Whole.{WholeAt, EntriesWhole}
-use Rattle.promises.specs.Remember.{every-counted, counted-every}
+use Rattle.remember.specs.Crossing.{crossTo}
+use Rattle.remember.specs.Counted.{every-counted, counted-every}
 use Rattle.whole.specs.Pages.{DepthsWhole}
 use Rattle.whole.specs.Regions.{RegionsWhole}
 use Rattle.whole.specs.Cells.{VariablesWhole}
@@ -27,7 +28,7 @@ module _ {p : Sizes} {c m t : List ℕ} where
       working = w .working k u;
       fields = λ f l. record { reference = λ n. w .references k u f n; rest = λ n. w .formed k u .rest f l n };
     };
-    crossing = every-counted p c m t (w .remember .entries) (w .remember);
+    crossing = every-counted (crossTo p c t) (cellsWords p) (p .entries) m (w .remember);
   }
 
   -- as many entries as crossing slots, each naming another: then every crossing slot is named
@@ -42,5 +43,5 @@ module _ {p : Sizes} {c m t : List ℕ} where
     formed = λ i u. record { head = k .whole i u .head; rest = λ f l n. k .whole i u .fields f l .rest n };
     marks = λ page l. r .pages page l .mark;
     working = λ i u. k .whole i u .working;
-    remember = counted-every p c m t n (k .crossing);
+    remember = counted-every (crossTo p c t) (cellsWords p) (p .entries) m n (k .crossing);
   }
