@@ -6,13 +6,15 @@ use Prim.Native.Nat.{ℕ, suc, _+_, _-_, _*_, _/_, _%_, _≤_, _<_}
 use native.Mathlib.Omega.{arith}
 use lib.ListN.{getD}
 use Rattle.rules.specs.declared.Sizes.{Sizes}
-use Rattle.layout.specs.Places.{ownerOf, usedIn, slotIn, slotRegionIn}
+use Rattle.layout.specs.Places.{ownerOf, cellsWords}
 use Rattle.layout.specs.Cells.{fieldOf, refsOf}
 use Rattle.layout.specs.Words.{InUse}
 use Rattle.remember.specs.Crossing.{crossesFrom, crossTo, other, regionOf}
 use Rattle.remember.specs.Crosses.{crosses-null, crosses-by}
 use Rattle.promises.specs.Slots.{Slot, region-of, slot-low, slot-cross, cross-slot}
-use Rattle.promises.specs.Whole.{EntryWhole, RememberWhole}
+use Rattle.remember.specs.Entries as table
+use Rattle.remember.specs.Renewed.{renewed-exact}
+use Rattle.promises.specs.Whole.{RememberWhole}
 use Rattle.pages.specs.Owned.{regionsOf}
 use Rattle.copy.specs.Passing.{Ready}
 use Rattle.settle.specs.Append.{crossAt, Crosses}
@@ -73,48 +75,34 @@ module _ {p : Sizes} {r m l t : ℕ} {gs : ℕ → ℕ} {W T M W′ T′ M′ : 
       (copies-cross (b .start) a₀ a₁ (f .forwards) (f .rewritten) x (slot-then (f .rewritten) x (q .at)) (λ z. q .kept (q .region ∙ z)), q .region)
 
   pub finished-remember : RememberWhole p W′ M′ T′
-  finished-remember =
-      record {
-        entries =
-            record {
-              room = f .remember .low;
-              named = λ i li. named i li;
-              once = λ i j l′ li. f .remember .once i j l′ li;
-              rest = f .remember .rest;
-            };
-        every = λ q lq h. every q lq h;
-      }
+  finished-remember = renewed-exact (crossTo p W′ T′) (cellsWords p) named every (f .remember)
     where
-      named : (i : ℕ) → i < usedIn M′ → EntryWhole p W′ M′ T′ i
-      named i li =
-          let x : ℕ = slotIn M′ i in
-          let c = entry-crosses (slotIn M′ i) (slotRegionIn (p .entries) M′ i) (f .remember .named i li) in
-          let o = page-of (slotIn M′ i) (c .0 .out) in
-          let e = cross-after (slotIn M′ i) (c .0 .used) o (c .0 .field) (c .0 .ref) in
-          let n : crossAt p W′ (f .tables) (slotIn M′ i) ≢ 0 = c .0 .cross in
+      named : (x h : ℕ) → Entry p r (p .entries) m W′ M (f .tables) x h → table.Entry (crossTo p W′ T′) (cellsWords p) x h
+      named x h q =
+          let c = entry-crosses x h q in
+          let o = page-of x (c .0 .out) in
+          let n : crossAt p W′ (f .tables) x ≢ 0 = c .0 .cross in
           record {
-            slot = slot-low p W′ T′ (slotIn M′ i) (slot-after (slotIn M′ i) (c .0 .used) o (c .0 .field) (c .0 .ref));
+            slot = slot-low p W′ T′ x (slot-after x (c .0 .used) o (c .0 .field) (c .0 .ref));
             region = omega (arith, c .1);
-            right = e ∙ sym (c .1);
+            right = cross-after x (c .0 .used) o (c .0 .field) (c .0 .ref) ∙ sym (c .1);
           }
 
-      every : (q : ℕ) → q < 256 * p .pages → 0 < crossTo p W′ T′ q → (i : ℕ) × (i < usedIn M′) × (slotIn M′ i ≡ q)
+      entry : (q : ℕ) → Crosses p r W′ (f .tables) q → Entry p r (p .entries) m W′ M (f .tables) q (crossAt p W′ (f .tables) q)
+      entry q c =
+          ⊎-elim inl (λ k. inr (record { at = slot-now (f .rewritten) q (k .at); region = k .region; kept = k .kept }))
+          (all-listed (b .start) a₀ a₁ (f .forwards) (f .rewritten) (b .listed) high q c)
+
+      every : (q : ℕ) → q < cellsWords p → 0 < crossTo p W′ T′ q → Entry p r (p .entries) m W′ M (f .tables) q (crossTo p W′ T′ q)
       every q lq h =
           let s = cross-slot p W′ T′ q lq h in
           let v = from-end b f real low thread (q / 16) (s .used) in
           let e = cross-after q (v .0) (v .1) (s .field) (s .count) in
-          let c : Crosses p r W′ (f .tables) q =
-          record {
+          subst (Entry p r (p .entries) m W′ M (f .tables) q) (sym e)
+          (entry q (record {
             used = v .0;
             field = s .field;
             ref = s .count;
             out = subst (λ (y : ℕ). ownerOf p (f .tables) y ≢ r) (let z : q / 16 / 16 ≡ q / 256 = omega arith in z) (v .1);
             cross = λ z. omega (arith, e);
-          } in
-          let y = f .remember .every q (crossAt p W′ (f .tables) q) (entry q c) in
-          (y .0, y .1, y .2)
-        where
-          entry : (q : ℕ) → Crosses p r W′ (f .tables) q → Entry p r (p .entries) m W′ M (f .tables) q (crossAt p W′ (f .tables) q)
-          entry q c =
-              ⊎-elim inl (λ k. inr (record { at = slot-now (f .rewritten) q (k .at); region = k .region; kept = k .kept }))
-              (all-listed (b .start) a₀ a₁ (f .forwards) (f .rewritten) (b .listed) high q c)
+          }))

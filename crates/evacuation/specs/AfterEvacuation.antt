@@ -189,13 +189,13 @@ module _ (s : Sizes) (w : Words) (whole : WholeFor s w) (t k : ℕ) (th : t < s 
         beyond =
             record {
               cells = same-from (256 * s .pages) (w .cells) (w′ .cells) (E .cells-size ∙ m .cells-length) (λ x l. E .cells-beyond x l ∙ far x l);
-              remember = same-from (2 * s .entries + 2) (w .remember) (w′ .remember) (f .remember .size) (λ x l. f .remember .beyond x (omega arith));
+              remember = same-from (2 * s .entries + 2) (w .remember) (w′ .remember) (f .remember .edited .long) (f .remember .edited .spare);
               tables =
                   same-from (tablesWords s) (w .tables) (w′ .tables) (E .tables-size ∙ m .tables-length)
                   (λ x l. E .tables-beyond x (omega (arith, count-room s)) ∙ table-same m rm x (λ z. omega (arith, count-room s)));
             };
         sizes = λ j l. E .before j (omega (arith, rm)) (λ z. omega arith) ∙ table-same m rm j (λ z. omega (arith, rm));
-        entries = f .remember .head;
+        entries = f .remember .edited .size;
         depth = depth-now;
         depths = λ u l n. depth-kept u l n;
         variables = λ i l.

@@ -58,7 +58,7 @@ EntryWhole p c m t i = Entry (crossTo p c t) (cellsWords p) (slotIn m i) (slotRe
 
 -- the entries name crossing slots, each once, and those that are not used are zero
 abbrev pub EntriesWhole : Sizes → List ℕ → List ℕ → List ℕ → Type 0
-EntriesWhole p c m t = Only (crossTo p c t) (cellsWords p) (p .entries) m
+EntriesWhole p c m t = Only (Entry (crossTo p c t) (cellsWords p)) (p .entries) m
 
 -- and every crossing slot is named
 abbrev pub RememberWhole : Sizes → List ℕ → List ℕ → List ℕ → Type 0

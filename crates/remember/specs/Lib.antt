@@ -10,3 +10,4 @@ pub mod EntryEdits
 pub mod Counted
 pub mod Entering
 pub mod Stretches
+pub mod Renewed
