@@ -10,4 +10,5 @@ pub mod EntryEdits
 pub mod Counted
 pub mod Entering
 pub mod Stretches
+pub mod Filtered
 pub mod Renewed
