@@ -12,8 +12,8 @@ ghost use Rattle.commands.specs.declared.Decoded.the-variants.{Load, Rea
 use crate::variables::read_var;
 use crate::variables::write_var;
 use layout::Kind;
-use rules::Sizes;
 use rules::Answer;
+use rules::Sizes;
 
 // Questions 9 and 10, of a reference x and field f of its object.
 pub fn field_question(kind: Kind, cells: &[u32], x: u32, f: usize) -> u32

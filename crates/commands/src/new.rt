@@ -12,8 +12,8 @@ ghost use Rattle.pages.specs.Pages.{noteWords};
 ghost use Rattle.commands.specs.Does.{Does};
 ghost use Rattle.commands.specs.declared.Decoded.the-variants.{New};
 use crate::variables::write_var;
-use rules::Sizes;
 use rules::Answer;
+use rules::Sizes;
 
 // The region that thread t makes objects in.
 fn innermost(p: Sizes, tables: &[u32], t: usize) -> u32
