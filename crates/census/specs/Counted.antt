@@ -21,6 +21,7 @@ use Rattle.layout.specs.Places.{markOf}
 use Rattle.layout.specs.Cells.{workOf, pageOf, placeOf, cellOn}
 use Rattle.layout.specs.Marks.{marked}
 use Rattle.layout.specs.Words.{Words, homeIn, graphOf}
+use Rattle.promises.specs.Ends.{partOf}
 use Rattle.promises.specs.Whole.{WholeFor}
 use Rattle.mark.specs.Reached.{home-cell, cell-home}
 use Rattle.mark.specs.Survivors.{Marked}
@@ -131,7 +132,7 @@ pub tallied-end : {W : List ℕ} {page w left k : ℕ} {come₀ come : List ℕ}
 tallied-end u l t g = summed-end u l (t .each g)
 
 -- after marking, as many as the rules count
-pub goes-landed : (s : Sizes) (w : Words) (k : WholeFor s w) (r : ℕ) (w′ : Words) → Marked s w r w′ → 0 < r → (g : ℕ) → 0 < g
+pub goes-landed : (s : Sizes) (w : Words) (k : WholeFor s w) (r : ℕ) (w′ : Words) → Marked s w (partOf s w r) w′ → 0 < r → (g : ℕ) → 0 < g
     → overMarked s (w′ .tables) (goesTo (w′ .cells) g) (s .pages) ≡ landed s (graphOf s w) r g
 unfolding landed goesTo
 goes-landed s w k r w′ m rpos g pos =

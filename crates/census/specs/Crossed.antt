@@ -23,6 +23,7 @@ use Rattle.layout.specs.Places.{markOf, usedIn, slotIn, Room}
 use Rattle.layout.specs.Cells.{headOf, workOf, fieldAt, fieldOf, pageOf, placeOf, cellOf, wordOf}
 use Rattle.layout.specs.Marks.{marked}
 use Rattle.layout.specs.Words.{Words, Used, ownerIn, homeIn, refCount, refsIn, graphOf}
+use Rattle.promises.specs.Ends.{partOf}
 use Rattle.promises.specs.Whole.{WholeFor, IsRef}
 use Rattle.remember.specs.Crossing.{other, regionOf, crossTo}
 use Rattle.promises.specs.Crossings.{cross-in-sum}
@@ -34,7 +35,7 @@ use Rattle.mark.specs.Survivors.{Marked, marked-kept}
 use Rattle.census.specs.Counted.{over-cells}
 use Rattle.census.specs.After.{homeAfter, crossOne, one-rule, crossAfter, cellCrosses, slotCrosses, entriesCross, crossingAfter}
 
-module _ (s : Sizes) (w : Words) (k : WholeFor s w) (space : Room s (length (w .tables))) (r : ℕ) (pos : 1 < r) (w′ : Words) (M : Marked s w r w′) where
+module _ (s : Sizes) (w : Words) (k : WholeFor s w) (space : Room s (length (w .tables))) (r : ℕ) (pos : 1 < r) (w′ : Words) (M : Marked s w (partOf s w r) w′) where
   abbrev p : Sizes
   p = s
 
@@ -45,7 +46,7 @@ module _ (s : Sizes) (w : Words) (k : WholeFor s w) (space : Room s (length (w .
   h = ended s g r
 
   kept : Kept p (w .cells) (w .tables) (w′ .cells) (w′ .tables)
-  kept = marked-kept s w k r w′ M
+  kept = marked-kept s w k (partOf s w r) w′ M
 
   ended-refs : (x : ℕ) → h .refs x ≡ refsIn w x
   unfolding ended

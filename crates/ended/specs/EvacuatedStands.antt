@@ -3,7 +3,7 @@ use Prim.Native.Nat.{ℕ, suc, _+_, _*_, _<_}
 use native.Mathlib.Omega.{arith}
 use native.Mathlib.Decide.{ℕ-discrete}
 use mathlib.Core.Path.{_≡_, refl, sym, ap, subst, _∙_}
-use mathlib.Core.Logic.{_⊎_, inl, inr}
+use mathlib.Core.Logic.{⊎-elim}
 use mathlib.Core.List.{map, map-id}
 use lib.ListN.{length, getD, set, length-set, length-map, List·getD-map}
 use lib.Seq.{ext-getD, getD-set-same, getD-set-other}
@@ -18,17 +18,17 @@ use Rattle.laws.specs.RulesLaws.{Sound, region-pos, over, graph-ended, sound-af
 use Rattle.laws.specs.SameRules.{renamed, Partners, partners-ended}
 use Rattle.layout.specs.declared.Kind.{Kind}
 use Rattle.layout.specs.declared.Kind.the-variants.{Reference, Number}
-use Rattle.layout.specs.Cells.{fieldOf, fieldCount, firstField}
-use Rattle.layout.specs.Words.{Words, Used, depthIn, depthsIn, headIn, refCount, fieldsIn, refsIn, numsIn, varsIn, graphOf, heapOf}
+use Rattle.layout.specs.Cells.{pageOf, fieldOf, fieldCount, firstField, fields-room}
+use Rattle.layout.specs.Words.{Words, depthIn, depthsIn, ownerIn, headIn, refCount, fieldsIn, refsIn, numsIn, varsIn, graphOf, heapOf}
 use Rattle.promises.specs.Whole.{WholeFor}
 use Rattle.promises.specs.StandsFor.{StandsFor}
 use Rattle.promises.specs.Reading.{words-closed, alive-used, used-home, getD-fields, getD-vars, length-fields, length-vars, length-depths, depth-at}
 use Rattle.promises.specs.Agreed.{renamed-id, heap-stands}
-use Rattle.ended.specs.Evacuated.{Outside, Survivor, Evacuated}
-use Rattle.ended.specs.Rewriting.{cellAfter, after-kinds, outside-cell, survivor-cell}
-use Rattle.ended.specs.InCells.{was-there}
+use Rattle.promises.specs.Ends.{partOf, Lives, lives-how}
+use Rattle.ended.specs.Evacuated.{Evacuated}
+use Rattle.ended.specs.Living.{outside-home, survivor-home, lives-there, there-lives}
 use Rattle.ended.specs.AfterEnd.{endOf, after-end}
-use Rattle.ended.specs.EvacuatedWhole.{evacuated-whole, in-cell, from-cell, reference-after, variable-after}
+use Rattle.ended.specs.EvacuatedWhole.{Lowered, evacuated-whole}
 
 -- partners of partners, where the first keep their numbers
 same-partners : (to : ℕ → ℕ) (f g h : Graph) → Partners (λ x. x) f g → Partners to g h → Partners to f h
@@ -44,61 +44,51 @@ same-partners to f g h p q =
     alive : (x : ℕ) → Alive f x → Alive g x
     alive x a z = a (sym (p .home x a) ∙ z)
 
-module _ (s : Sizes) (w : Words) (t k : ℕ) (w′ : Words) (forward : ℕ → ℕ) (whole : WholeFor s w) (deep : depthIn w t ≡ suc k) (e : Evacuated s w t k w′ forward) where
+module _ (s : Sizes) (w : Words) (t k : ℕ) (w′ : Words) (cell : ℕ → ℕ) (whole : WholeFor s w) (deep : depthIn w t ≡ suc k)
+    (e : Evacuated s w (partOf s w (regionAt s t (suc k))) w′ cell) (lower : Lowered s w t k w′) where
   abbrev r : ℕ
   r = regionAt s t (suc k)
 
-  abbrev cell : ℕ → ℕ
-  cell = cellAfter s w r forward
-
+  -- object c lives on
   abbrev There : ℕ → Type 0
-  There c = Alive (ended s (graphOf s w) r) c
+  There c = Lives s w (partOf s w (regionAt s t (suc k))) c
 
   abbrev pos : 0 < r
   pos = region-pos s t (suc k)
 
   whole′ : WholeFor s w′
-  whole′ = evacuated-whole s w t k w′ forward whole deep e
+  whole′ = evacuated-whole s w t k w′ cell whole deep e lower
 
-  now-used : (c : ℕ) → There c → Used s w′ (cell c)
-  now-used c a = in-cell s w t k w′ forward whole deep e c a .used
-
-  head-same : (c : ℕ) → There c → headIn w′ (cell c) ≡ headIn w c
-  head-same c a = in-cell s w t k w′ forward whole deep e c a .object .head
-
-  -- a cell outside r was in use, a survivor's new cell was not
-  cells-apart : (b c : ℕ) → Outside s w r b ⊎ Survivor s w r b → Outside s w r c ⊎ Survivor s w r c → cell b ≡ cell c → b ≡ c
-  cells-apart b c (inl o) (inl p) q = sym (outside-cell s w whole r pos forward b o) ∙ q ∙ outside-cell s w whole r pos forward c p
-  cells-apart b c (inl o) (inr v) q =
-      absurd (e .went c v .fresh (subst (Used s w) (sym (outside-cell s w whole r pos forward b o) ∙ q ∙ survivor-cell s w whole r pos forward c v) (o .used)))
-  cells-apart b c (inr v) (inl o) q =
-      absurd (e .went b v .fresh (subst (Used s w) (sym (outside-cell s w whole r pos forward c o) ∙ sym q ∙ survivor-cell s w whole r pos forward b v) (o .used)))
-  cells-apart b c (inr v) (inr x) q = e .apart b c v x (sym (survivor-cell s w whole r pos forward b v) ∙ q ∙ survivor-cell s w whole r pos forward c x)
+  owner-after : (c : ℕ) → There c → ownerIn s w′ (pageOf (cell c)) ≡ ended s (graphOf s w) r .home c
+  owner-after c l =
+      ⊎-elim
+      (λ o. ap (λ (x : ℕ). ownerIn s w′ (pageOf x)) (e .stayed c o .same) ∙ e .stayed c o .owner ∙ sym (outside-home s w whole r pos c o))
+      (λ v. e .went c v .owner ∙ sym (survivor-home s w whole r pos c v)) (lives-how l)
 
   -- the fields of a kind, each of which became what g makes of it
   fields-after : (d : Kind) (g : ℕ → ℕ) → g 0 ≡ 0 → (c : ℕ) → There c
       → ((i : ℕ) → i < fieldCount d (headIn w c) → fieldOf (w′ .cells) (cell c) (firstField d (headIn w c) + i) ≡ g (fieldOf (w .cells) c (firstField d (headIn w c) + i)))
       → fieldsIn d w′ (cell c) ≡ map g (fieldsIn d w c)
   fields-after d g z c a became =
-      ext-getD 0 (fieldsIn d w′ (cell c)) (map g (fieldsIn d w c)) (long′ ∙ sym (length-map (fieldsIn d w c) g ∙ length-fields s w whole d c (was-there s w whole r pos c a)))
+      ext-getD 0 (fieldsIn d w′ (cell c)) (map g (fieldsIn d w c)) (long′ ∙ sym (length-map (fieldsIn d w c) g ∙ length-fields s w whole d c (a .used)))
       (λ i l.
       let m : i < fieldCount d (headIn w c) = omega (arith, long′) in
-      getD-fields d w′ (cell c) i (omega (arith, same)) ∙ ap (λ (n : ℕ). fieldOf (w′ .cells) (cell c) (firstField d n + i)) (head-same c a) ∙ became i m
+      getD-fields d w′ (cell c) i (omega (arith, same)) ∙ ap (λ (n : ℕ). fieldOf (w′ .cells) (cell c) (firstField d n + i)) (e .object c a .head) ∙ became i m
       ∙ ap g (sym (getD-fields d w c i m)) ∙ sym (ap (getD (map g (fieldsIn d w c)) i) (sym z) ∙ List·getD-map g (fieldsIn d w c) i 0))
     where
       same : fieldCount d (headIn w′ (cell c)) ≡ fieldCount d (headIn w c)
-      same = ap (fieldCount d) (head-same c a)
+      same = ap (fieldCount d) (e .object c a .head)
 
       long′ : length (fieldsIn d w′ (cell c)) ≡ fieldCount d (headIn w c)
-      long′ = length-fields s w′ whole′ d (cell c) (now-used c a) ∙ same
+      long′ = length-fields s w′ whole′ d (cell c) (e .used c a) ∙ same
 
   refs-after : (c : ℕ) → There c → refsIn w′ (cell c) ≡ map (renamed cell) (refsIn w c)
-  refs-after c a = fields-after Reference (renamed cell) refl c a (λ i l. reference-after s w t k w′ forward whole deep e c a (0 + i) (omega arith))
+  refs-after c a = fields-after Reference (renamed cell) refl c a (λ i l. e .object c a .references (0 + i) (omega arith))
 
   nums-after : (c : ℕ) → There c → numsIn w′ (cell c) ≡ numsIn w c
   nums-after c a =
-      let f = whole .placed .formed c (was-there s w whole r pos c a) .head in
-      fields-after Number (λ x. x) refl c a (λ i l. in-cell s w t k w′ forward whole deep e c a .object .others (refCount w c + i) (omega arith) (omega arith))
+      let f = whole .placed .formed c (a .used) .head in
+      fields-after Number (λ x. x) refl c a (λ i l. e .object c a .others (refCount w c + i) (omega arith) (omega (arith, f, fields-room (headIn w c) f)))
       ∙ map-id (numsIn w c)
 
   vars-after : varsIn s w′ ≡ map (renamed cell) (varsIn s w)
@@ -107,7 +97,7 @@ module _ (s : Sizes) (w : Words) (t k : ℕ) (w′ : Words) (forward : ℕ → �
       (length-vars s w′ whole′ ∙ sym (length-map (varsIn s w) (renamed cell) ∙ length-vars s w whole))
       (λ i l.
       let m : i < s .threads * s .variables = omega (arith, length-vars s w′ whole′) in
-      getD-vars s w′ i m ∙ variable-after s w t k w′ forward whole deep e i m
+      getD-vars s w′ i m ∙ e .variables i m
       ∙ ap (renamed cell) (sym (getD-vars s w i m)) ∙ sym (List·getD-map (renamed cell) (varsIn s w) i 0))
 
   depths-after : t < s .threads → set (depthsIn s w) t k ≡ depthsIn s w′
@@ -121,18 +111,18 @@ module _ (s : Sizes) (w : Words) (t k : ℕ) (w′ : Words) (forward : ℕ → �
       go : (i : ℕ) → i < s .threads → Dec (i ≡ t) → getD (set (depthsIn s w) t k) i 0 ≡ getD (depthsIn s w′) i 0
       go i l (yes q) =
           ap (λ (j : ℕ). getD (set (depthsIn s w) t k) j 0) q ∙ getD-set-same (depthsIn s w) t k 0 (omega (arith, length-depths s w whole))
-          ∙ sym (ap (λ (j : ℕ). getD (depthsIn s w′) j 0) q ∙ depth-at s w′ t th ∙ e .depth)
-      go i l (no n) = getD-set-other (depthsIn s w) t i k 0 n ∙ depth-at s w i l ∙ sym (depth-at s w′ i l ∙ e .depths i l n)
+          ∙ sym (ap (λ (j : ℕ). getD (depthsIn s w′) j 0) q ∙ depth-at s w′ t th ∙ lower .depth)
+      go i l (no n) = getD-set-other (depthsIn s w) t i k 0 n ∙ depth-at s w i l ∙ sym (depth-at s w′ i l ∙ lower .depths i l n)
 
   -- the graph of the words afterwards is the graph after the end
   pub evacuated-partners : Partners cell (ended s (graphOf s w) r) (graphOf s w′)
   unfolding ended
   evacuated-partners =
       record {
-        home = λ c a. used-home s w′ whole′ (cell c) (now-used c a) ∙ in-cell s w t k w′ forward whole deep e c a .owner;
-        apart = λ b c a d q. cells-apart b c (after-kinds s w whole r pos b a) (after-kinds s w whole r pos c d) q;
-        onto = λ c a. from-cell s w t k w′ forward whole deep e c (alive-used s w′ whole′ c a);
-        refs = refs-after;
+        home = λ c a. let l = there-lives s w whole r pos c a in used-home s w′ whole′ (cell c) (e .used c l) ∙ owner-after c l;
+        apart = λ b c a d q. e .apart b c (there-lives s w whole r pos b a) (there-lives s w whole r pos c d) q;
+        onto = λ c a. let o = e .only c (alive-used s w′ whole′ c a) in (o .0, lives-there s w whole r pos (o .0) (o .1), o .2);
+        refs = λ c a. refs-after c (there-lives s w whole r pos c a);
         vars = vars-after;
       }
 
@@ -165,9 +155,11 @@ module _ (s : Sizes) (w : Words) (t k : ℕ) (w′ : Words) (forward : ℕ → �
       there x a = subst (λ (g : Graph). Alive g x) (graph-ended s H r pos (set (H .heap .depths) t k)) a
 
       now : (x : ℕ) → Alive (graph h′) x → There x
-      now x a z =
+      now x a =
+          there-lives s w whole r pos x
+          (λ z.
           let p = partners-ended s (λ x. x) (graph H) (graphOf s w) (base .sound .closed) (words-closed s w whole) (base .partners) r pos in
-          there x a (sym (p .home x (there x a)) ∙ z)
+          there x a (sym (p .home x (there x a)) ∙ z))
 
       stands : StandsFor s w′ h′ cell
       stands =

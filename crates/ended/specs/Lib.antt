@@ -5,8 +5,7 @@ pub mod Evacuated
 -- laws: r's pages are free
 pub mod EvacuatedFrees
 -- laws: they are whole, and stand for what the rules leave
-pub mod Rewriting
-pub mod InCells
+pub mod Living
 pub mod EvacuatedWhole
 pub mod AfterEnd
 pub mod EvacuatedStands

@@ -24,6 +24,7 @@ use Rattle.layout.specs.Words.{Words, words, InUse, depthIn, heapOf}
 use Rattle.promises.specs.Whole.{WholeFor}
 use Rattle.promises.specs.Promises.{DidHere}
 use Rattle.promises.specs.OwnedPages.{pagesOwned, owner-low, region-pages, counted-objects}
+use Rattle.promises.specs.Ends.{partOf}
 use Rattle.promises.specs.Reading.{cells-room}
 use Rattle.pages.specs.Owned.{ownedOne, ownedIn, Paged, regionsOf}
 use Rattle.mark.specs.Marks.{Kept, Shaped, kept-shaped, kept-room, page-unmarked}
@@ -35,14 +36,11 @@ use Rattle.census.specs.Census.{over-none}
 use Rattle.census.specs.After as ce
 use Rattle.census.specs.After.{slotCrosses, slot-le}
 use Rattle.copy.specs.Copying.{region-bounds}
-use Rattle.evacuate.specs.Stages.{Before, Finished}
-use Rattle.evacuation.specs.MarkedWords.{owner-same, count-same, now-used}
-use Rattle.evacuation.specs.AfterEvacuation.{evacuation-evacuated}
 use Rattle.ended.specs.AfterEnd.{endOf}
 use Rattle.ended.specs.EndQuestion.{pagesNeeded, crossingAfter, end-question, refused-shut, ended-refused}
-use Rattle.ended.specs.EvacuatedDid.{ended-did}
-use Rattle.epoch.specs.CensusCounts.{needsBelow, roomAsked, asked-none, needs-none, needs-are, free-are, crossing-are, targets-low}
-use Rattle.epoch.specs.MayEvacuate.{before-same, before}
+use Rattle.ending.specs.MarkedWords.{owner-same, count-same, now-used}
+use Rattle.ending.specs.Ending.{Ending, Accepted, room-of, room-now, deep, depth-now, depth-high}
+use Rattle.ending.specs.CensusCounts.{needsBelow, roomAsked, asked-none, needs-none, needs-are, free-are, crossing-are, targets-low}
 
 -- both were answered with yes
 both-yes : (b c : Bool) → ask b 13 (ask c 14 0) ≡ 0 → (b ≡ true) × (c ≡ true)
@@ -52,14 +50,6 @@ both-yes true false e = absurd (let z : ⊥ = omega arith in z)
 both-yes false c e = absurd (let z : ⊥ = omega arith in z)
 
 -- ---- marked words
-
--- the innermost region of thread t is ending: its survivors are marked in w₁, which was w
-pub record Ending (p : Sizes) (t : ℕ) (w w₁ : Words) : Type 0 where
-  pub whole : WholeFor p w
-  pub fits : length (w .tables) < 2 ^ 63
-  pub thread : t < p .threads
-  pub epoch : 1 ≤ depthOf (w .tables) t
-  pub marks : Marked p w (regionAt p t (depthOf (w .tables) t)) w₁
 
 module _ {p : Sizes} {t : ℕ} {w w₁ : Words} (m : Ending p t w w₁) where
   abbrev s : Sizes
@@ -72,43 +62,31 @@ module _ {p : Sizes} {t : ℕ} {w w₁ : Words} (m : Ending p t w w₁) where
   abbrev region : ℕ
   region = regionAt s t (depthOf (w₁ .tables) t)
 
-  room-of : Room s (length (w .tables))
-  room-of = space-of p w (m .whole) (m .fits)
-
-  deep : depthIn w t ≡ suc k
-  deep = omega (arith, m .epoch)
-
-  marks : Marked s w (regionAt s t (suc k)) w₁
-  marks = subst (λ (n : ℕ). Marked s w (regionAt s t n) w₁) deep (m .marks)
+  marks : Marked s w (partOf s w (regionAt s t (suc k))) w₁
+  marks = subst (λ (n : ℕ). Marked s w (partOf s w (regionAt s t n)) w₁) (deep m) (m .marks)
 
   kept : Kept p (w .cells) (w .tables) (w₁ .cells) (w₁ .tables)
-  kept = marked-kept s w (m .whole) (regionAt s t (suc k)) w₁ marks
+  kept = marked-kept s w (m .whole) (partOf s w (regionAt s t (suc k))) w₁ marks
 
   -- ---- what the calls ask
-
-  pub room-now : Room p (length (w₁ .tables))
-  room-now = kept-room kept (space-of p w (m .whole) (m .fits))
 
   pub cells-now : 256 * p .pages ≤ length (w₁ .cells)
   cells-now = omega (arith, cells-room s w (m .whole), marks .cells-length)
 
-  pub depth-now : depthOf (w₁ .tables) t ≡ suc k
-  depth-now = kept .tables (depthAt t) (inl (omega (arith, room-now, m .thread))) ∙ deep
-
-  pub depth-high : depthOf (w₁ .tables) t ≤ p .depth
-  depth-high = omega (arith, depth-now, deep, m .whole .placed .depths t (m .thread))
+  level-now : depthOf (w₁ .tables) t ≡ suc k
+  level-now = depth-now m ∙ deep m
 
   pub depth-open : 1 ≤ depthOf (w₁ .tables) t
-  depth-open = omega (arith, depth-now)
+  depth-open = omega (arith, level-now)
 
   region-now : (1 ≤ region) × (region ≤ regionsOf p)
-  region-now = (region-pos s t (depthOf (w₁ .tables) t), region-bounds p t (depthOf (w₁ .tables) t) (m .thread) depth-high .1)
+  region-now = (region-pos s t (depthOf (w₁ .tables) t), region-bounds p t (depthOf (w₁ .tables) t) (m .thread) (depth-high m) .1)
 
   pub small-now : (page : ℕ) → page < p .pages → markOf p (w₁ .tables) page < 2 ^ 16
   small-now = marks .small
 
   pub used-now : (c : ℕ) → pageOf c < p .pages → marked p (w₁ .tables) c ≡ 1 → InUse p (w₁ .tables) c
-  used-now c l on = now-used marks room-of c (marks .only c l on .0)
+  used-now c l on = now-used marks (room-of m) c (marks .only c l on .0)
 
   pub shaped-now : Shaped p (w₁ .cells) (w₁ .tables)
   shaped-now = kept-shaped kept (shaped-at p w (m .whole) (m .fits))
@@ -119,7 +97,7 @@ module _ {p : Sizes} {t : ℕ} {w w₁ : Words} (m : Ending p t w w₁) where
       (holding-kept kept (space-of p w (m .whole) (m .fits)) (holding-at p w (m .whole) (m .fits)))
 
   pub targets-now : (c : ℕ) → pageOf c < p .pages → marked p (w₁ .tables) c ≡ 1 → workOf (w₁ .cells) c ≤ regionsOf p
-  targets-now = targets-low s w (m .whole) room-of t k (m .thread) deep w₁ marks
+  targets-now = targets-low s w (m .whole) (room-of m) t k (m .thread) (deep m) w₁ marks
 
   -- the pages of the regions, as the counts say
   pub paged-now : Paged p (w₁ .tables)
@@ -127,9 +105,9 @@ module _ {p : Sizes} {t : ℕ} {w w₁ : Words} (m : Ending p t w w₁) where
   paged-now =
       record {
         pages = λ g pos l.
-            sum-same _ _ (p .pages) (λ page h. ap (λ (x : ℕ). bit (eqb x g)) (owner-same marks room-of page h)) ∙ region-pages s w (m .whole) g pos
-            ∙ ap pagesOf (sym (counted-objects s w (m .whole) g pos l) ∙ sym (count-same marks room-of g));
-        owners = λ page l. subst (λ (x : ℕ). x ≤ regions s) (sym (owner-same marks room-of page l)) (owner-low s w (m .whole) page l);
+            sum-same _ _ (p .pages) (λ page h. ap (λ (x : ℕ). bit (eqb x g)) (owner-same marks (room-of m) page h)) ∙ region-pages s w (m .whole) g pos
+            ∙ ap pagesOf (sym (counted-objects s w (m .whole) g pos l) ∙ sym (count-same marks (room-of m) g));
+        owners = λ page l. subst (λ (x : ℕ). x ≤ regions s) (sym (owner-same marks (room-of m) page l)) (owner-low s w (m .whole) page l);
       }
 
   -- a page that is not listed has no mark
@@ -142,7 +120,7 @@ module _ {p : Sizes} {t : ℕ} {w w₁ : Words} (m : Ending p t w w₁) where
       (subst (λ (x : ℕ). ownerOf p (w₁ .tables) x ≡ region) e (owned c (subst (λ (x : ℕ). x < p .pages) (sym e) low) on)) off)
     where
       owned : (c : ℕ) → pageOf c < p .pages → marked p (w₁ .tables) c ≡ 1 → ownerOf p (w₁ .tables) (pageOf c) ≡ region
-      owned c l on = owner-same marks room-of (pageOf c) l ∙ marks .only c l on .1 ∙ ap (regionAt s t) (sym depth-now)
+      owned c l on = owner-same marks (room-of m) (pageOf c) l ∙ marks .only c l on .1 ∙ ap (regionAt s t) (sym level-now)
 
   -- r is the region as the code has it
   module _ {r : ℕ} (er : r ≡ region) where
@@ -156,16 +134,16 @@ module _ {p : Sizes} {t : ℕ} {w w₁ : Words} (m : Ending p t w w₁) where
 
   needs : needsBelow p (w₁ .cells) (w₁ .tables) t (depthOf (w₁ .tables) t) ≡ pagesNeeded s w t k
   needs =
-      ap (needsBelow p (w₁ .cells) (w₁ .tables) t) depth-now
-      ∙ needs-are s w (m .whole) room-of t k (m .thread) deep w₁ marks
+      ap (needsBelow p (w₁ .cells) (w₁ .tables) t) level-now
+      ∙ needs-are s w (m .whole) (room-of m) t k (m .thread) (deep m) w₁ marks
 
   free : ownedIn p (w₁ .tables) 0 (p .pages) ≡ pagesOwned s w 0
-  free = free-are s w (m .whole) room-of t k (m .thread) deep w₁ marks
+  free = free-are s w (m .whole) (room-of m) t k (m .thread) (deep m) w₁ marks
 
   crossing : ce.crossingAfter p (w₁ .cells) (w₁ .remember) (w₁ .tables) region ≡ crossingAfter s w t k
   crossing =
-      ap (λ (n : ℕ). ce.crossingAfter p (w₁ .cells) (w₁ .remember) (w₁ .tables) (regionAt s t n)) depth-now
-      ∙ crossing-are s w (m .whole) room-of t k (m .thread) deep w₁ marks
+      ap (λ (n : ℕ). ce.crossingAfter p (w₁ .cells) (w₁ .remember) (w₁ .tables) (regionAt s t n)) level-now
+      ∙ crossing-are s w (m .whole) (room-of m) t k (m .thread) (deep m) w₁ marks
 
   -- the rules' question
   asks : roomAsked p (w₁ .cells) (w₁ .remember) (w₁ .tables) t (depthOf (w₁ .tables) t) ≡ ru.question s (heapOf s w) (endOf t)
@@ -173,7 +151,7 @@ module _ {p : Sizes} {t : ℕ} {w w₁ : Words} (m : Ending p t w w₁) where
   asks =
       ap₂ (λ (a b : ℕ). ask (leb a b) 13 (ask (leb (ce.crossingAfter p (w₁ .cells) (w₁ .remember) (w₁ .tables) region) (p .entries)) 14 0)) needs free
       ∙ ap (λ (c : ℕ). ask (leb (pagesNeeded s w t k) (pagesOwned s w 0)) 13 (ask (leb c (p .entries)) 14 0)) crossing
-      ∙ sym (end-question s w (m .whole) t (m .thread) k deep)
+      ∙ sym (end-question s w (m .whole) t (m .thread) k (deep m))
 
   -- ---- refused: the marking is undone
 
@@ -184,40 +162,18 @@ module _ {p : Sizes} {t : ℕ} {w w₁ : Words} (m : Ending p t w w₁) where
     where
       back : w ≡ words W (w₁ .remember) T
       back =
-          ap₂ (λ (c b : List ℕ). words c (w .remember) b) (sym (cells-back s w (m .whole) (regionAt s t (suc k)) w₁ marks U))
-          (sym (tables-back s w (m .whole) (regionAt s t (suc k)) w₁ marks U))
+          ap₂ (λ (c b : List ℕ). words c (w .remember) b) (sym (cells-back s w (m .whole) (partOf s w (regionAt s t (suc k))) w₁ marks U))
+          (sym (tables-back s w (m .whole) (partOf s w (regionAt s t (suc k))) w₁ marks U))
           ∙ ap (λ (M : List ℕ). words W M T) (sym (marks .remember))
 
   -- ---- accepted
 
   module _ (yes : 0 ≡ roomAsked p (w₁ .cells) (w₁ .remember) (w₁ .tables) t (depthOf (w₁ .tables) t)) where
     both : (leb (pagesNeeded s w t k) (pagesOwned s w 0) ≡ true) × (leb (crossingAfter s w t k) (p .entries) ≡ true)
-    both = both-yes _ _ (sym (end-question s w (m .whole) t (m .thread) k deep) ∙ sym asks ∙ sym yes)
+    both = both-yes _ _ (sym (end-question s w (m .whole) t (m .thread) k (deep m)) ∙ sym asks ∙ sym yes)
 
-    enough : pagesNeeded s w t k ≤ pagesOwned s w 0
-    enough = leb-true _ _ (both .0)
-
-    few : crossingAfter s w t k ≤ p .entries
-    few = leb-true _ _ (both .1)
-
-    begin : Before s (regionAt s t (suc k)) (p .entries) (usedIn (w₁ .remember)) (suc k) (regionAt s t) (w₁ .cells) (w₁ .remember) (w₁ .tables)
-    begin = before s w (m .whole) room-of t k (m .thread) deep w₁ marks enough few
-
-    pub goes-on : Before p region (p .entries) (usedIn (w₁ .remember)) (depthOf (w₁ .tables) t) (regionAt s t) (w₁ .cells) (w₁ .remember) (w₁ .tables)
-    goes-on =
-        subst (λ (n : ℕ). Before p (regionAt s t n) (p .entries) (usedIn (w₁ .remember)) n (regionAt s t) (w₁ .cells) (w₁ .remember) (w₁ .tables))
-        (sym depth-now) begin
-
-    pub out-done : {W M T : List ℕ}
-        → Finished p region (p .entries) (usedIn (w₁ .remember)) (depthOf (w₁ .tables) t) t (regionAt s t) (w₁ .cells) (w₁ .remember) (w₁ .tables) W M T
-        → DidHere s w (endOf t) (words W M T) (done 0)
-    out-done {W} {M} {T} f =
-        let f′ =
-        subst (λ (R : List ℕ). Finished s (regionAt s t (suc k)) (p .entries) (usedIn R) (suc k) t (regionAt s t) (w₁ .cells) R (w₁ .tables) W M T) (marks .remember)
-        (subst (λ (n : ℕ). Finished p (regionAt s t n) (p .entries) (usedIn (w₁ .remember)) n t (regionAt s t) (w₁ .cells) (w₁ .remember) (w₁ .tables) W M T)
-        depth-now f) in
-        ended-did s w (m .whole) t k (m .thread) deep (words W M T) _
-        (evacuation-evacuated s w (m .whole) t k (m .thread) deep (m .fits) w₁ (words W M T) marks (before-same s w (m .whole) room-of t k (m .thread) deep w₁ marks enough few) f′) enough few
+    pub accepted : Accepted s t w
+    accepted = record { pages = leb-true _ _ (both .0); entries = leb-true _ _ (both .1) }
 
   -- ---- nothing survives
 

@@ -1,11 +1,2 @@
--- The end of an epoch: after the marking of survivors, what the census allows is what the evacuation asks.
-pub mod MarkedReady
-pub mod PagesEnough
-pub mod EntriesListed
-pub mod Starting
-pub mod CrossingPositions
-pub mod CameFrom
-pub mod SpaceEnough
-pub mod MayEvacuate
-pub mod CensusCounts
+-- The end of an epoch: what each call asks, and the promise of code 2 at each way out.
 pub mod EndDid

@@ -1,16 +1,16 @@
 // The end of an epoch (code 2): mark what survives; where nothing does, take the region's slots out of the remember table and free its pages;
 // else list its pages, count over them, refuse and undo the marking where pages or entries are too few, or copy, rewrite, remember and release.
-ghost use mathlib.Core.Path.{_≡_};
-ghost use Prim.Native.Nat.{_<_, _≤_};
+ghost use mathlib.Core.List.{List};
+ghost use Prim.Native.Nat.{ℕ, _<_, _≤_};
 ghost use lib.ListN.{length};
-ghost use Rattle.layout.specs.Words.{Words, words};
+ghost use Rattle.layout.specs.Words.{words};
 ghost use Rattle.promises.specs.Whole.{WholeFor};
 ghost use Rattle.promises.specs.Promises.{DidHere};
 ghost use Rattle.pages.specs.Pages.{noteWords};
 ghost use Rattle.ended.specs.AfterEnd.{endOf};
-ghost use Rattle.epoch.specs.EndDid.{Ending};
-use rules::Answer;
+ghost use Rattle.ending.specs.Ending.{Ending};
 use rules::Sizes;
+use rules::Answer;
 
 pub mod needs;
 
@@ -23,9 +23,9 @@ fn end_marked(
     notes: &mut [u32],
     thread: usize,
 ) -> Answer
-    requires { ⌜ ((w : Words) × Ending p thread w (words (now cells) (now remember) (now tables))) ⌝ }
+    requires { ⌜ ((c t : List ℕ) × Ending p thread (words c (now remember) t) (words (now cells) (now remember) (now tables))) ⌝ }
     requires { ⌜ noteWords ≤ length (now notes) ⌝ }
-    ensures { λ r. ⌜ ((w : Words) → Ending p thread w (words (now (cells .entry)) (now (remember .entry)) (now (tables .entry))) → DidHere p w (endOf thread) (words (now (cells .exit)) (now (remember .exit)) (now (tables .exit))) r) ⌝ }
+    ensures { λ r. ⌜ ((c t : List ℕ) → Ending p thread (words c (now (remember .entry)) t) (words (now (cells .entry)) (now (remember .entry)) (now (tables .entry))) → DidHere p (words c (now (remember .entry)) t) (endOf thread) (words (now (cells .exit)) (now (remember .exit)) (now (tables .exit))) r) ⌝ }
 {
     let level = layout::wide(layout::tables::depth(p, tables, thread));
     let region = layout::regions::region_at(p, thread, level);

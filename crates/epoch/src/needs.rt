@@ -9,7 +9,7 @@ ghost use Rattle.pages.specs.Owned.{Paged};
 ghost use Rattle.mark.specs.Marks.{Shaped};
 ghost use Rattle.mark.specs.Holders.{Holding};
 ghost use Rattle.census.specs.Census.{Census};
-ghost use Rattle.epoch.specs.CensusCounts.{levelMore, moreBelow, roomAsked};
+ghost use Rattle.ending.specs.CensusCounts.{levelMore, moreBelow, roomAsked};
 use rules::Sizes;
 
 // How many new pages region g needs for the survivors that go to it, which `come` counts: none where none goes.

@@ -1,15 +1,17 @@
 // The end of an epoch once its survivors are marked: word 1 of each cell of the ending region is the region that its object goes to, 0 if
 // it is freed, and its bit in the page's mark word says which is not 0. The stages are crates of their own: place and copy, settle, release.
 ghost use mathlib.Core.Path.{_≡_};
+ghost use mathlib.Core.List.{List};
 ghost use Prim.Native.Nat.{ℕ, _<_, _≤_};
 ghost use lib.ListN.{length, getD};
 ghost use Rattle.lists.specs.Part.{Lists};
-ghost use Rattle.layout.specs.Places.{depthOf, ownerOf, markOf, usedIn};
 ghost use Rattle.rules.specs.Regions.{regionAt};
+ghost use Rattle.layout.specs.Places.{depthOf, ownerOf, markOf};
+ghost use Rattle.layout.specs.Words.{words};
 ghost use Rattle.pages.specs.Pages.{noteWords};
-ghost use Rattle.copy.specs.Marks.{hits};
 ghost use Rattle.pages.specs.Owned.{regionsOf};
-ghost use Rattle.evacuate.specs.Stages.{Before, Finished};
+ghost use Rattle.copy.specs.Marks.{hits};
+ghost use Rattle.ending.specs.Ending.{Ending, Accepted, HasEnded};
 use rules::Sizes;
 
 // The accepted end of a thread's innermost region, whose survivors are marked and whose pages are listed; `come` is not 0 of the regions that
@@ -25,12 +27,11 @@ pub fn evacuate(
     come: &[u32],
     thread: usize,
 )
-    requires { ⌜ Before p (regionAt p thread (depthOf (now tables) thread)) (p .entries) (usedIn (now remember)) (depthOf (now tables) thread) (regionAt p thread) (now cells) (now remember) (now tables) ⌝ }
-    requires { ⌜ (thread < p .threads) × (1 ≤ depthOf (now tables) thread) × (depthOf (now tables) thread ≤ p .depth) ⌝ }
+    requires { ⌜ ((c t : List ℕ) × Ending p thread (words c (now remember) t) (words (now cells) (now remember) (now tables)) × Accepted p thread (words c (now remember) t)) ⌝ }
     requires { ⌜ Lists (λ page. ownerOf p (now tables) page ≡ regionAt p thread (depthOf (now tables) thread)) (p .pages) n (now list) ⌝ }
     requires { ⌜ ((g : ℕ) → 1 ≤ g → g ≤ regionsOf p → getD (now come) g 0 ≡ 0 → hits p (now cells) (now tables) g ≡ 0) ⌝ }
     requires { ⌜ (noteWords ≤ length (now notes)) × (regionsOf p < length (now come)) ⌝ }
-    ensures { λ _. ⌜ Finished p (regionAt p thread (depthOf (now (tables .entry)) thread)) (p .entries) (usedIn (now (remember .entry))) (depthOf (now (tables .entry)) thread) thread (regionAt p thread) (now (cells .entry)) (now (remember .entry)) (now (tables .entry)) (now (cells .exit)) (now (remember .exit)) (now (tables .exit)) ⌝ }
+    ensures { λ _. ⌜ ((c t : List ℕ) → Ending p thread (words c (now (remember .entry)) t) (words (now (cells .entry)) (now (remember .entry)) (now (tables .entry))) → Accepted p thread (words c (now (remember .entry)) t) → HasEnded p thread (words c (now (remember .entry)) t) (words (now (cells .exit)) (now (remember .exit)) (now (tables .exit)))) ⌝ }
 {
     let level = layout::wide(layout::tables::depth(p, tables, thread));
     let region = layout::regions::region_at(p, thread, level);
@@ -50,11 +51,10 @@ pub fn evacuate_none(
     notes: &mut [u32],
     thread: usize,
 )
-    requires { ⌜ Before p (regionAt p thread (depthOf (now tables) thread)) (p .entries) (usedIn (now remember)) (depthOf (now tables) thread) (regionAt p thread) (now cells) (now remember) (now tables) ⌝ }
-    requires { ⌜ (thread < p .threads) × (1 ≤ depthOf (now tables) thread) × (depthOf (now tables) thread ≤ p .depth) ⌝ }
+    requires { ⌜ ((c t : List ℕ) × Ending p thread (words c (now remember) t) (words (now cells) (now remember) (now tables)) × Accepted p thread (words c (now remember) t)) ⌝ }
     requires { ⌜ ((page : ℕ) → page < p .pages → markOf p (now tables) page ≡ 0) ⌝ }
     requires { ⌜ noteWords ≤ length (now notes) ⌝ }
-    ensures { λ _. ⌜ Finished p (regionAt p thread (depthOf (now (tables .entry)) thread)) (p .entries) (usedIn (now (remember .entry))) (depthOf (now (tables .entry)) thread) thread (regionAt p thread) (now (cells .entry)) (now (remember .entry)) (now (tables .entry)) (now (cells .entry)) (now (remember .exit)) (now (tables .exit)) ⌝ }
+    ensures { λ _. ⌜ ((c t : List ℕ) → Ending p thread (words c (now (remember .entry)) t) (words (now (cells .entry)) (now (remember .entry)) (now (tables .entry))) → Accepted p thread (words c (now (remember .entry)) t) → HasEnded p thread (words c (now (remember .entry)) t) (words (now (cells .entry)) (now (remember .exit)) (now (tables .exit)))) ⌝ }
 {
     let level = layout::wide(layout::tables::depth(p, tables, thread));
     let region = layout::regions::region_at(p, thread, level);

@@ -21,6 +21,7 @@ use Rattle.layout.specs.Cells.{workAt, workOf, pageOf, placeOf}
 use Rattle.layout.specs.Marks.{marked}
 use Rattle.layout.specs.Words.{Words, words, Used, ownerIn, depthIn, graphOf}
 use Rattle.promises.specs.Whole.{WholeFor}
+use Rattle.promises.specs.Ends.{Part, partOf}
 use Rattle.promises.specs.Reading.{range, tables-room}
 use Rattle.mark.specs.Marks.{Shaped, Kept, AnyMarked, none-marked}
 use Rattle.mark.specs.Levels.{Held, First, Levels, leads-used, leads-owned, leads-from}
@@ -28,18 +29,18 @@ use Rattle.mark.specs.Holders.{Holding, held-used}
 use Rattle.mark.specs.Rounds.{levelCells}
 use Rattle.mark.specs.Reached.{cell-home, chain-rules, rules-chain, whole-shaped, whole-holding, held-holds, holds-held}
 
--- the words w, whose region r ends, became w′ by marking
-pub record Marked (s : Sizes) (w : Words) (r : ℕ) (w′ : Words) : Type 0 where
-  -- word 1 of an object of r is the region that it goes to, 0 if it is freed
-  pub goes : (c : ℕ) → Used s w c → ownerIn s w (pageOf c) ≡ r → workOf (w′ .cells) c ≡ target s (graphOf s w) r c
+-- the words w became w′ by marking the survivors of an end
+pub record Marked (s : Sizes) (w : Words) (e : Part) (w′ : Words) : Type 0 where
+  -- word 1 of an object of the part is the region that it goes to, 0 if it is freed
+  pub goes : (c : ℕ) → Used s w c → e .ends (pageOf c) → workOf (w′ .cells) c ≡ e .goes c
   -- its bit is set exactly if it survives
-  pub survives : (c : ℕ) → Used s w c → ownerIn s w (pageOf c) ≡ r → 0 < target s (graphOf s w) r c → marked s (w′ .tables) c ≡ 1
-  pub freed : (c : ℕ) → Used s w c → ownerIn s w (pageOf c) ≡ r → target s (graphOf s w) r c ≡ 0 → marked s (w′ .tables) c ≡ 0
+  pub survives : (c : ℕ) → Used s w c → e .ends (pageOf c) → 0 < e .goes c → marked s (w′ .tables) c ≡ 1
+  pub freed : (c : ℕ) → Used s w c → e .ends (pageOf c) → e .goes c ≡ 0 → marked s (w′ .tables) c ≡ 0
   -- no other bit is set
-  pub only : (c : ℕ) → pageOf c < s .pages → marked s (w′ .tables) c ≡ 1 → Used s w c × (ownerIn s w (pageOf c) ≡ r)
+  pub only : (c : ℕ) → pageOf c < s .pages → marked s (w′ .tables) c ≡ 1 → Used s w c × e .ends (pageOf c)
   pub small : (page : ℕ) → page < s .pages → markOf s (w′ .tables) page < 2 ^ 16
   -- every other word is as it was
-  pub cells : (q : ℕ) → ((c : ℕ) → q ≡ workAt c → Used s w c → ownerIn s w (pageOf c) ≡ r → ⊥) → getD (w′ .cells) q 0 ≡ getD (w .cells) q 0
+  pub cells : (q : ℕ) → ((c : ℕ) → q ≡ workAt c → Used s w c → e .ends (pageOf c) → ⊥) → getD (w′ .cells) q 0 ≡ getD (w .cells) q 0
   pub tables : (q : ℕ) → ((page : ℕ) → page < s .pages → q ≡ markAt s page → ⊥) → getD (w′ .tables) q 0 ≡ getD (w .tables) q 0
   pub remember : w′ .remember ≡ w .remember
   pub cells-length : length (w′ .cells) ≡ length (w .cells)
@@ -106,7 +107,7 @@ module _ (s : Sizes) (w : Words) (k : WholeFor s w) (space : Room s (length (w .
       let u = held-used (whole-holding s w k) r t (regionAt s t j) (regionAt s t (L .found c b on .0)) (h .first) (h .called) in
       (leads-used (whole-shaped s w k space) u (h .leads), leads-owned (h .leads))
 
-  pub levels-marked : Marked s w r (words W′ (w .remember) T′)
+  pub levels-marked : Marked s w (partOf s w r) (words W′ (w .remember) T′)
   levels-marked =
       record {
         goes = λ c u own. goes c u (ℕ-discrete (marked s T′ c) 1);
@@ -164,28 +165,28 @@ module _ (p : Sizes) (w : Words) (k : WholeFor p w) (fits : length (w .tables) <
   -- r and outer are the regions of the depth d and of the level around it, as the code has them
   pub marked-at : (t d r outer : ℕ) → t < p .threads → 0 < d → d ≡ depthOf (w .tables) t → r ≡ regionAt p t d → outer ≡ regionAt p t (d - 1) → {W′ T′ : List ℕ}
       → Levels p r d (regionAt p t) (levelCells p (w .cells) (w .remember) (w .tables) r t outer) (w .cells) (w .tables) W′ T′
-      → Marked p w (regionAt p t (depthOf (w .tables) t)) (words W′ (w .remember) T′)
+      → Marked p w (partOf p w (regionAt p t (depthOf (w .tables) t))) (words W′ (w .remember) T′)
   marked-at t zero r outer th l dk er eo L = absurd (let z : ⊥ = omega arith in z)
   marked-at t (suc j) r outer th l dk er eo {W′} {T′} L =
       let j′ : suc j - 1 ≡ j = omega arith in
       let eo′ : outer ≡ regionAt p t j = eo ∙ ap (regionAt p t) j′ in
-      subst (λ (n : ℕ). Marked p w (regionAt p t n) (words W′ (w .remember) T′)) dk
+      subst (λ (n : ℕ). Marked p w (partOf p w (regionAt p t n)) (words W′ (w .remember) T′)) dk
       (levels-marked p w k space-of t j th (sym dk)
       (subst₂ (λ (a b : ℕ). Levels p a (suc j) (regionAt p t) (levelCells p (w .cells) (w .remember) (w .tables) a t b) (w .cells) (w .tables) W′ T′) er eo′ L))
 
 -- where nothing survives, every mark word is 0
-pub none-survives : (p : Sizes) (w : Words) (r : ℕ) (w′ : Words) → Marked p w r w′ → (b : Bool) → Says b (AnyMarked p (w′ .tables)) → b ≡ false
+pub none-survives : (p : Sizes) (w : Words) (e : Part) (w′ : Words) → Marked p w e w′ → (b : Bool) → Says b (AnyMarked p (w′ .tables)) → b ≡ false
     → (page : ℕ) → page < p .pages → markOf p (w′ .tables) page ≡ 0
-none-survives p w r w′ m b says z = none-marked p (w′ .tables) (m .small) (said-no b says z)
+none-survives p w e w′ m b says z = none-marked p (w′ .tables) (m .small) (said-no b says z)
 
 -- ---- what marking keeps
 
-pub marked-kept : (s : Sizes) (w : Words) (k : WholeFor s w) (r : ℕ) (w′ : Words) → Marked s w r w′ → Kept s (w .cells) (w .tables) (w′ .cells) (w′ .tables)
-marked-kept s w k r w′ m =
+pub marked-kept : (s : Sizes) (w : Words) (k : WholeFor s w) (e : Part) (w′ : Words) → Marked s w e w′ → Kept s (w .cells) (w .tables) (w′ .cells) (w′ .tables)
+marked-kept s w k e w′ m =
     record {
       cells-length = m .cells-length;
       tables-length = m .tables-length;
-      words = λ q n. m .cells q (λ c e u own. n (omega arith));
+      words = λ q n. m .cells q (λ c z u own. n (omega arith));
       tables = λ q h. m .tables q (λ page l e. ⊎-elim {C = ⊥} (λ a. omega arith) (λ a. omega arith) h);
       high = λ q i l. high q i l (decLt q (marksFrom s)) (decLt q (marksFrom s + s .pages));
     }

@@ -18,6 +18,7 @@ use Rattle.layout.specs.Marks.{marked}
 use Rattle.rules.specs.Graph.{target}
 use Rattle.layout.specs.Words.{Words, Used, ownerIn, usedIn, graphOf}
 use Rattle.promises.specs.Whole.{WholeFor}
+use Rattle.promises.specs.Ends.{Part}
 use Rattle.mark.specs.Survivors.{Marked}
 
 -- ---- one page
@@ -183,7 +184,7 @@ small-set p page T X long e small q l = subst (λ (Y : List ℕ). markOf p Y q <
 
 -- ---- a marking that is undone
 
-module _ (s : Sizes) (w : Words) (k : WholeFor s w) (r : ℕ) (w′ : Words) (M : Marked s w r w′) {W T : List ℕ}
+module _ (s : Sizes) (w : Words) (k : WholeFor s w) (e : Part) (w′ : Words) (M : Marked s w e w′) {W T : List ℕ}
     (U : Unmarked s (s .pages) (w′ .cells) (w′ .tables) W T) where
   pub tables-back : T ≡ w .tables
   tables-back =
@@ -211,24 +212,24 @@ module _ (s : Sizes) (w : Words) (k : WholeFor s w) (r : ℕ) (w′ : Words) (M 
   work-back : (c : ℕ) → workOf W c ≡ workOf (w .cells) c
   work-back c = go (decLt (pageOf c) (s .pages)) (ℕ-discrete (marked s (w′ .tables) c) 1)
     where
-      -- an object of r that is not marked is freed, and has 0 in word 1 as before; any other cell is not touched
-      unmarked : Used s w c → ownerIn s w (pageOf c) ≡ r → (marked s (w′ .tables) c ≡ 1 → ⊥) → workOf (w′ .cells) c ≡ workOf (w .cells) c
-      unmarked u own n = M .goes c u own ∙ zero-target (decLt 0 (target s (graphOf s w) r c)) ∙ sym (k .placed .working c u)
+      -- an object of the part that is not marked is freed, and has 0 in word 1 as before; any other cell is not touched
+      unmarked : Used s w c → e .ends (pageOf c) → (marked s (w′ .tables) c ≡ 1 → ⊥) → workOf (w′ .cells) c ≡ workOf (w .cells) c
+      unmarked u own n = M .goes c u own ∙ zero-target (decLt 0 (e .goes c)) ∙ sym (k .placed .working c u)
         where
-          zero-target : Dec (0 < target s (graphOf s w) r c) → target s (graphOf s w) r c ≡ 0
+          zero-target : Dec (0 < e .goes c) → e .goes c ≡ 0
           zero-target (yes l) = absurd (n (M .survives c u own l))
           zero-target (no l) = omega arith
 
-      kept : (marked s (w′ .tables) c ≡ 1 → ⊥) → Dec (Used s w c) → Dec (ownerIn s w (pageOf c) ≡ r) → workOf (w′ .cells) c ≡ workOf (w .cells) c
+      kept : (marked s (w′ .tables) c ≡ 1 → ⊥) → Dec (Used s w c) → Dec (e .ends (pageOf c)) → workOf (w′ .cells) c ≡ workOf (w .cells) c
       kept n (yes u) (yes own) = unmarked u own n
-      kept n (yes u) (no own) = M .cells (workAt c) (λ d e v o. own (subst (λ (z : ℕ). ownerIn s w (pageOf z) ≡ r) (let z : d ≡ c = omega arith in z) o))
+      kept n (yes u) (no own) = M .cells (workAt c) (λ d q v o. own (subst (λ (z : ℕ). e .ends (pageOf z)) (let z : d ≡ c = omega arith in z) o))
       kept n (no u) d = M .cells (workAt c) (λ d e v o. u (subst (Used s w) (let z : d ≡ c = omega arith in z) v))
 
       go : Dec (pageOf c < s .pages) → Dec (marked s (w′ .tables) c ≡ 1) → workOf W c ≡ workOf (w .cells) c
       go (yes b) (yes on) = U .cleared c b on ∙ sym (k .placed .working c (M .only c b on .0))
       go (yes b) (no n) =
           let z : marked s (w′ .tables) c ≡ 0 = omega (arith, bit-lt (placeOf c) (markOf s (w′ .tables) (pageOf c))) in
-          U .same c (λ l. z) ∙ kept n (used? c) (ℕ-discrete (ownerIn s w (pageOf c)) r)
+          U .same c (λ l. z) ∙ kept n (used? c) (e .ends? (pageOf c))
       go (no b) d = U .same c (λ l. absurd (b l)) ∙ M .cells (workAt c) (λ d e v o. b (subst (λ (z : ℕ). pageOf z < s .pages) (let z : d ≡ c = omega arith in z) (v .page)))
 
   pub cells-back : W ≡ w .cells

@@ -8,7 +8,8 @@ use Rattle.layout.specs.Places.{markOf}
 use Rattle.layout.specs.Words.{words}
 use Rattle.promises.specs.Questions.{did-answer}
 use Rattle.mark.specs.Survivors.{space-of, none-survives}
-use Rattle.epoch.specs.EndDid.{Ending, depth-high, depth-open, goes-on, out-done, free-way, shut}
+use Rattle.ending.specs.Ending.{Ending, ended-here}
+use Rattle.epoch.specs.EndDid.{accepted, free-way, shut}
 use Rattle.epoch.proofs.end.Statement.{statement}
 use Rattle.epoch.proofs.end.Tie as tie
 
@@ -52,7 +53,7 @@ mark-survivors-requires : tie.Need-mark-survivors-requires
 mark-survivors-requires c κs = (c .before .before .before .before .before .before .before .before .before .before .pre .0, (c .before .before .before .before .before .before .before .before .before .before .pre .1 .0, omega (arith, c .before .before .before .before .depth .ensures, c .before .before .before .if1 .left)))
 
 end-marked-requires : tie.Need-end-marked-requires
-end-marked-requires c κs = ((words (c .before .before .before .before .before .before .before .before .before .before .before .before .before .before .before .before .before .before .before .before .args .cells .now) (c .before .before .before .before .before .before .before .before .before .before .before .before .before .before .before .before .before .before .before .before .args .remember .now) (c .before .before .before .before .before .before .before .before .before .before .before .before .before .before .before .before .before .before .before .before .args .tables .now), ending (c .before .before .before .before .before .before .before .before .before)), c .before .before .before .before .before .before .before .before .before .before .before .before .before .before .before .before .before .before .before .before .pre .1 .1)
+end-marked-requires c κs = ((c .before .before .before .before .before .before .before .before .before .before .before .before .before .before .before .before .before .before .before .before .args .cells .now, c .before .before .before .before .before .before .before .before .before .before .before .before .before .before .before .before .before .before .before .before .args .tables .now, ending (c .before .before .before .before .before .before .before .before .before)), c .before .before .before .before .before .before .before .before .before .before .before .before .before .before .before .before .before .before .before .before .pre .1 .1)
 
 same-length-2 : tie.Need-same-length-2
 same-length-2 c = search needs
@@ -67,13 +68,13 @@ same-length-5 : tie.Need-same-length-5
 same-length-5 c = search needs
 
 returns-2 : tie.Need-returns-2
-returns-2 c = c .before .before .before .before .before .before .before .before .end-marked .ensures (words (c .before .before .before .before .before .before .before .before .before .before .before .before .before .before .before .before .before .before .before .before .before .before .before .before .before .before .before .before .before .args .cells .now) (c .before .before .before .before .before .before .before .before .before .before .before .before .before .before .before .before .before .before .before .before .before .before .before .before .before .before .before .before .before .args .remember .now) (c .before .before .before .before .before .before .before .before .before .before .before .before .before .before .before .before .before .before .before .before .before .before .before .before .before .before .before .before .before .args .tables .now)) (ending (c .before .before .before .before .before .before .before .before .before .before .before .before .before .before .before .before .before .before))
+returns-2 c = c .before .before .before .before .before .before .before .before .end-marked .ensures (c .before .before .before .before .before .before .before .before .before .before .before .before .before .before .before .before .before .before .before .before .before .before .before .before .before .before .before .before .before .args .cells .now) (c .before .before .before .before .before .before .before .before .before .before .before .before .before .before .before .before .before .before .before .before .before .before .before .before .before .before .before .before .before .args .tables .now) (ending (c .before .before .before .before .before .before .before .before .before .before .before .before .before .before .before .before .before .before))
 
 evacuate-none-requires : tie.Need-evacuate-none-requires
 evacuate-none-requires c κs =
     let m = ending (c .before .before .before .before .before .before .before .before .before) in
     let none = unmarked (c .before .before .before .before .before .before .before .before .before) (c .before .before .before .before .if2 .left) in
-    (goes-on m (free-way m none), ((m .thread, depth-open m, depth-high m), (none, c .before .before .before .before .before .before .before .before .before .before .before .before .before .before .before .before .before .before .before .before .pre .1 .1)))
+    ((c .before .before .before .before .before .before .before .before .before .before .before .before .before .before .before .before .before .before .before .before .args .cells .now, c .before .before .before .before .before .before .before .before .before .before .before .before .before .before .before .before .before .before .before .before .args .tables .now, m, accepted m (free-way m none)), (none, c .before .before .before .before .before .before .before .before .before .before .before .before .before .before .before .before .before .before .before .before .pre .1 .1))
 
 done-requires : tie.Need-done-requires
 done-requires c κs = search needs
@@ -94,7 +95,8 @@ returns-3 : tie.Need-returns-3
 returns-3 c =
     let m = ending (c .before .before .before .before .before .before .before .before .before .before .before .before .before .before .before .before .before) in
     let none = unmarked (c .before .before .before .before .before .before .before .before .before .before .before .before .before .before .before .before .before) (c .before .before .before .before .before .before .before .before .before .before .before .before .if2 .left) in
-    did-answer (c .done .ensures) (out-done m (free-way m none) (c .before .before .before .before .before .before .before .evacuate-none .ensures))
+    let a = accepted m (free-way m none) in
+    did-answer (c .done .ensures) (ended-here m a (c .before .before .before .before .before .before .before .evacuate-none .ensures (c .before .before .before .before .before .before .before .before .before .before .before .before .before .before .before .before .before .before .before .before .before .before .before .before .before .before .before .before .args .cells .now) (c .before .before .before .before .before .before .before .before .before .before .before .before .before .before .before .before .before .before .before .before .before .before .before .before .before .before .before .before .args .tables .now) m a))
 
 pub end-spec : {M : Type 1} → statement M
 end-spec =

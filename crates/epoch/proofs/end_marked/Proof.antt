@@ -7,20 +7,21 @@ use Rattle.rules.specs.Regions.{regionAt}
 use Rattle.promises.specs.Questions.{did-answer}
 use Rattle.lists.specs.Zeros.{replicate-at}
 use Rattle.census.specs.Census.{Census}
-use Rattle.epoch.specs.CensusCounts.{roomAsked, regions-few, arrivals-hits}
-use Rattle.epoch.specs.EndDid.{room-now, cells-now, small-now, used-now, shaped-now, holding-now, depth-high, depth-open, targets-now, paged-now, unlisted, real, listed, out-refused, goes-on, out-done}
+use Rattle.ending.specs.CensusCounts.{roomAsked, regions-few, arrivals-hits}
+use Rattle.ending.specs.Ending.{room-now, depth-high, ended-here}
+use Rattle.epoch.specs.EndDid.{cells-now, small-now, used-now, shaped-now, holding-now, targets-now, paged-now, unlisted, real, listed, out-refused, accepted}
 use Rattle.epoch.proofs.end_marked.Statement.{statement}
 use Rattle.epoch.proofs.end_marked.Tie as tie
 
 depth-requires : tie.Need-depth-requires
-depth-requires c κs = (room-now (c .before .before .before .before .before .pre .0 .1), c .before .before .before .before .before .pre .0 .1 .thread)
+depth-requires c κs = (room-now (c .before .before .before .before .before .pre .0 .2), c .before .before .before .before .before .pre .0 .2 .thread)
 
 wide-requires : tie.Need-wide-requires
 wide-requires c κs = search needs
 
 region-at-requires : tie.Need-region-at-requires
 region-at-requires c κs =
-    let m = c .before .before .before .before .before .before .before .pre .0 .1 in
+    let m = c .before .before .before .before .before .before .before .pre .0 .2 in
     let rm = room-now m in
     (rm .threads-high, rm .depth-high, m .thread, omega (arith, depth-high m, c .wide .ensures, c .before .depth .ensures))
 
@@ -29,7 +30,7 @@ slice-aggregate-list-pages c = search needs
 
 list-pages-requires : tie.Need-list-pages-requires
 list-pages-requires c κs =
-    let m = c .before .before .before .before .before .before .before .before .before .before .pre .0 .1 in
+    let m = c .before .before .before .before .before .before .before .before .before .before .pre .0 .2 in
     let er = c .before .before .region-at .ensures ∙ ap (regionAt (c .before .before .before .before .before .before .before .before .before .before .args .p) (c .before .before .before .before .before .before .before .before .before .before .args .thread)) (c .before .before .before .wide .ensures ∙ c .before .before .before .before .depth .ensures) in
     (room-now m, (real m er, (paged-now m .pages (c .before .before .region-at .result) (real m er .0) (real m er .1), room-now m .few)))
 
@@ -41,7 +42,7 @@ slice-aggregate-count-listed-2 c = search needs
 
 count-listed-requires : tie.Need-count-listed-requires
 count-listed-requires c κs =
-    let m = c .before .before .before .before .before .before .before .before .before .before .before .before .before .before .before .before .pre .0 .1 in
+    let m = c .before .before .before .before .before .before .before .before .before .before .before .before .before .before .before .before .pre .0 .2 in
     let er = c .before .before .before .before .before .before .before .before .region-at .ensures ∙ ap (regionAt (c .before .before .before .before .before .before .before .before .before .before .before .before .before .before .before .before .args .p) (c .before .before .before .before .before .before .before .before .before .before .before .before .before .before .before .before .args .thread)) (c .before .before .before .before .before .before .before .before .before .wide .ensures ∙ c .before .before .before .before .before .before .before .before .before .before .depth .ensures) in
     (shaped-now m, (c .before .before .before .before .before .list-pages .ensures .rises, (unlisted m _ _ (listed m er (c .before .before .before .before .before .list-pages .ensures)), (small-now m, (used-now m, (λ x l on. omega (arith, targets-now m x l on, regions-few (room-now m)), λ g. replicate-at 130 g 0))))))
 
@@ -50,7 +51,7 @@ slice-aggregate-ask-room c = search needs
 
 ask-room-requires : tie.Need-ask-room-requires
 ask-room-requires c κs =
-    let m = c .before .before .before .before .before .before .before .before .before .before .before .before .before .before .before .before .before .before .before .before .before .before .pre .0 .1 in
+    let m = c .before .before .before .before .before .before .before .before .before .before .before .before .before .before .before .before .before .before .before .before .before .before .pre .0 .2 in
     let census =
     subst (λ (r : ℕ). Census (c .before .before .before .before .before .before .before .before .before .before .before .before .before .before .before .before .before .before .before .before .before .before .args .p) (c .before .before .before .before .before .before .before .before .before .before .before .before .before .before .before .before .before .before .before .before .before .before .args .cells .now) (c .before .before .before .before .before .before .before .before .before .before .before .before .before .before .before .before .before .before .before .before .before .before .args .tables .now) r (c .before .before .before .before .before .before .before .before .before .before .before .before .before .before .before .before .before .before .before .before .before .before .args .p .pages) (c .before .before .before .before .before .count-listed .last .1 .1 .1 .1 .1 .1 .0) (c .before .before .before .before .before .count-listed .result)) (c .before .before .before .before .before .before .before .before .before .before .before .before .before .before .region-at .ensures) (c .before .before .before .before .before .count-listed .ensures) in
     (shaped-now m, (holding-now m, (paged-now m, (census, (omega (arith, regions-few (room-now m), c .before .before .before .before .before .count-listed .kept .1 .1 .1 .1 .1 .1 .0), (m .thread, omega (arith, depth-high m, c .before .before .before .before .before .before .before .before .before .before .before .before .before .before .before .wide .ensures, c .before .before .before .before .before .before .before .before .before .before .before .before .before .before .before .before .depth .ensures)))))))
@@ -60,7 +61,7 @@ slice-aggregate-unmark c = search needs
 
 unmark-requires : tie.Need-unmark-requires
 unmark-requires c κs =
-    let m = c .before .before .before .before .before .before .before .before .before .before .before .before .before .before .before .before .before .before .before .before .before .before .before .before .before .before .before .pre .0 .1 in
+    let m = c .before .before .before .before .before .before .before .before .before .before .before .before .before .before .before .before .before .before .before .before .before .before .before .before .before .before .before .pre .0 .2 in
     let er = c .before .before .before .before .before .before .before .before .before .before .before .before .before .before .before .before .before .before .before .region-at .ensures ∙ ap (regionAt (c .before .before .before .before .before .before .before .before .before .before .before .before .before .before .before .before .before .before .before .before .before .before .before .before .before .before .before .args .p) (c .before .before .before .before .before .before .before .before .before .before .before .before .before .before .before .before .before .before .before .before .before .before .before .before .before .before .before .args .thread)) (c .before .before .before .before .before .before .before .before .before .before .before .before .before .before .before .before .before .before .before .before .wide .ensures ∙ c .before .before .before .before .before .before .before .before .before .before .before .before .before .before .before .before .before .before .before .before .before .depth .ensures) in
     (room-now m, (cells-now m, (small-now m, (c .before .before .before .before .before .before .before .before .before .before .before .before .before .before .before .before .list-pages .ensures .rises, unlisted m _ _ (listed m er (c .before .before .before .before .before .before .before .before .before .before .before .before .before .before .before .before .list-pages .ensures))))))
 
@@ -77,7 +78,7 @@ same-length-3 : tie.Need-same-length-3
 same-length-3 c = search needs
 
 returns : tie.Need-returns
-returns c = λ w m.
+returns c = λ cells tables m.
     did-answer (c .refused .ensures)
     (out-refused m (c .before .before .before .before .before .before .before .before .before .before .ask-room .result) (omega (arith, c .before .before .before .before .before .before .before .before .before .if1 .taken))
     (c .before .before .before .before .before .before .before .before .before .before .ask-room .ensures ∙ ap (roomAsked (c .before .before .before .before .before .before .before .before .before .before .before .before .before .before .before .before .before .before .before .before .before .before .before .before .before .before .before .before .before .before .before .before .before .args .p) (c .before .before .before .before .before .before .before .before .before .before .before .before .before .before .before .before .before .before .before .before .before .before .before .before .before .before .before .before .before .before .before .before .before .args .cells .now) (c .before .before .before .before .before .before .before .before .before .before .before .before .before .before .before .before .before .before .before .before .before .before .before .before .before .before .before .before .before .before .before .before .before .args .remember .now) (c .before .before .before .before .before .before .before .before .before .before .before .before .before .before .before .before .before .before .before .before .before .before .before .before .before .before .before .before .before .before .before .before .before .args .tables .now) (c .before .before .before .before .before .before .before .before .before .before .before .before .before .before .before .before .before .before .before .before .before .before .before .before .before .before .before .before .before .before .before .before .before .args .thread)) (c .before .before .before .before .before .before .before .before .before .before .before .before .before .before .before .before .before .before .before .before .before .before .before .before .before .before .wide .ensures ∙ c .before .before .before .before .before .before .before .before .before .before .before .before .before .before .before .before .before .before .before .before .before .before .before .before .before .before .before .depth .ensures)) (c .before .before .before .before .before .unmark .ensures))
@@ -90,19 +91,16 @@ slice-aggregate-evacuate-2 c = search needs
 
 evacuate-requires : tie.Need-evacuate-requires
 evacuate-requires c κs =
-    let m = c .before .before .before .before .before .before .before .before .before .before .before .before .before .before .before .before .before .before .before .before .before .before .before .before .before .before .before .before .before .before .pre .0 .1 in
+    let m = c .before .before .before .before .before .before .before .before .before .before .before .before .before .before .before .before .before .before .before .before .before .before .before .before .before .before .before .before .before .before .pre .0 .2 in
     let er = c .before .before .before .before .before .before .before .before .before .before .before .before .before .before .before .before .before .before .before .before .before .before .region-at .ensures ∙ ap (regionAt (c .before .before .before .before .before .before .before .before .before .before .before .before .before .before .before .before .before .before .before .before .before .before .before .before .before .before .before .before .before .before .args .p) (c .before .before .before .before .before .before .before .before .before .before .before .before .before .before .before .before .before .before .before .before .before .before .before .before .before .before .before .before .before .before .args .thread)) (c .before .before .before .before .before .before .before .before .before .before .before .before .before .before .before .before .before .before .before .before .before .before .before .wide .ensures ∙ c .before .before .before .before .before .before .before .before .before .before .before .before .before .before .before .before .before .before .before .before .before .before .before .before .depth .ensures) in
     let yes = sym (let z : c .before .before .before .before .before .before .before .ask-room .result ≡ 0 = omega (arith, c .before .before .before .before .before .before .if1 .left) in z) ∙ c .before .before .before .before .before .before .before .ask-room .ensures
     ∙ ap (roomAsked (c .before .before .before .before .before .before .before .before .before .before .before .before .before .before .before .before .before .before .before .before .before .before .before .before .before .before .before .before .before .before .args .p) (c .before .before .before .before .before .before .before .before .before .before .before .before .before .before .before .before .before .before .before .before .before .before .before .before .before .before .before .before .before .before .args .cells .now) (c .before .before .before .before .before .before .before .before .before .before .before .before .before .before .before .before .before .before .before .before .before .before .before .before .before .before .before .before .before .before .args .remember .now) (c .before .before .before .before .before .before .before .before .before .before .before .before .before .before .before .before .before .before .before .before .before .before .before .before .before .before .before .before .before .before .args .tables .now) (c .before .before .before .before .before .before .before .before .before .before .before .before .before .before .before .before .before .before .before .before .before .before .before .before .before .before .before .before .before .before .args .thread)) (c .before .before .before .before .before .before .before .before .before .before .before .before .before .before .before .before .before .before .before .before .before .before .before .wide .ensures ∙ c .before .before .before .before .before .before .before .before .before .before .before .before .before .before .before .before .before .before .before .before .before .before .before .before .depth .ensures) in (
-      goes-on m yes,
+      (c .before .before .before .before .before .before .before .before .before .before .before .before .before .before .before .before .before .before .before .before .before .before .before .before .before .before .before .before .before .before .pre .0 .0, c .before .before .before .before .before .before .before .before .before .before .before .before .before .before .before .before .before .before .before .before .before .before .before .before .before .before .before .before .before .before .pre .0 .1, m, accepted m yes),
       (
-        (m .thread, depth-open m, depth-high m),
+        listed m er (c .before .before .before .before .before .before .before .before .before .before .before .before .before .before .before .before .before .before .before .list-pages .ensures),
         (
-          listed m er (c .before .before .before .before .before .before .before .before .before .before .before .before .before .before .before .before .before .before .before .list-pages .ensures),
-          (
-            (λ g a b z. sym (arrivals-hits (c .before .before .before .before .before .before .before .before .before .before .before .before .before .before .before .before .before .before .before .before .before .before .before .before .before .before .before .before .before .before .args .p) (c .before .before .before .before .before .before .before .before .before .before .before .before .before .before .before .before .before .before .before .before .before .before .before .before .before .before .before .before .before .before .args .cells .now) (c .before .before .before .before .before .before .before .before .before .before .before .before .before .before .before .before .before .before .before .before .before .before .before .before .before .before .before .before .before .before .args .tables .now) (c .before .before .before .before .before .before .before .before .before .before .before .before .before .count-listed .last .1 .1 .1 .1 .1 .1 .0) (c .before .before .before .before .before .before .before .before .before .before .before .before .before .count-listed .ensures .arrivals) g) ∙ z),
-            (c .before .before .before .before .before .before .before .before .before .before .before .before .before .before .before .before .before .before .before .before .before .before .before .before .before .before .before .before .before .before .pre .1, omega (arith, regions-few (room-now m), c .before .before .before .before .before .before .before .before .before .before .before .before .before .count-listed .kept .1 .1 .1 .1 .1 .1 .0)),
-          ),
+          (λ g a b z. sym (arrivals-hits (c .before .before .before .before .before .before .before .before .before .before .before .before .before .before .before .before .before .before .before .before .before .before .before .before .before .before .before .before .before .before .args .p) (c .before .before .before .before .before .before .before .before .before .before .before .before .before .before .before .before .before .before .before .before .before .before .before .before .before .before .before .before .before .before .args .cells .now) (c .before .before .before .before .before .before .before .before .before .before .before .before .before .before .before .before .before .before .before .before .before .before .before .before .before .before .before .before .before .before .args .tables .now) (c .before .before .before .before .before .before .before .before .before .before .before .before .before .count-listed .last .1 .1 .1 .1 .1 .1 .0) (c .before .before .before .before .before .before .before .before .before .before .before .before .before .count-listed .ensures .arrivals) g) ∙ z),
+          (c .before .before .before .before .before .before .before .before .before .before .before .before .before .before .before .before .before .before .before .before .before .before .before .before .before .before .before .before .before .before .pre .1, omega (arith, regions-few (room-now m), c .before .before .before .before .before .before .before .before .before .before .before .before .before .count-listed .kept .1 .1 .1 .1 .1 .1 .0)),
         ),
       ),
     )
@@ -123,12 +121,12 @@ same-length-7 : tie.Need-same-length-7
 same-length-7 c = search needs
 
 returns-2 : tie.Need-returns-2
-returns-2 c = λ w m.
-    did-answer (c .done .ensures)
-    (out-done m
+returns-2 c = λ cells tables m.
+    let a =
+    accepted m
     (sym (let z : c .before .before .before .before .before .before .before .before .before .before .before .before .before .before .before .before .before .ask-room .result ≡ 0 = omega (arith, c .before .before .before .before .before .before .before .before .before .before .before .before .before .before .before .before .if1 .left) in z) ∙ c .before .before .before .before .before .before .before .before .before .before .before .before .before .before .before .before .before .ask-room .ensures
-    ∙ ap (roomAsked (c .before .before .before .before .before .before .before .before .before .before .before .before .before .before .before .before .before .before .before .before .before .before .before .before .before .before .before .before .before .before .before .before .before .before .before .before .before .before .before .before .args .p) (c .before .before .before .before .before .before .before .before .before .before .before .before .before .before .before .before .before .before .before .before .before .before .before .before .before .before .before .before .before .before .before .before .before .before .before .before .before .before .before .before .args .cells .now) (c .before .before .before .before .before .before .before .before .before .before .before .before .before .before .before .before .before .before .before .before .before .before .before .before .before .before .before .before .before .before .before .before .before .before .before .before .before .before .before .before .args .remember .now) (c .before .before .before .before .before .before .before .before .before .before .before .before .before .before .before .before .before .before .before .before .before .before .before .before .before .before .before .before .before .before .before .before .before .before .before .before .before .before .before .before .args .tables .now) (c .before .before .before .before .before .before .before .before .before .before .before .before .before .before .before .before .before .before .before .before .before .before .before .before .before .before .before .before .before .before .before .before .before .before .before .before .before .before .before .before .args .thread)) (c .before .before .before .before .before .before .before .before .before .before .before .before .before .before .before .before .before .before .before .before .before .before .before .before .before .before .before .before .before .before .before .before .before .wide .ensures ∙ c .before .before .before .before .before .before .before .before .before .before .before .before .before .before .before .before .before .before .before .before .before .before .before .before .before .before .before .before .before .before .before .before .before .before .depth .ensures))
-    (c .before .before .before .before .before .before .before .before .before .evacuate .ensures))
+    ∙ ap (roomAsked (c .before .before .before .before .before .before .before .before .before .before .before .before .before .before .before .before .before .before .before .before .before .before .before .before .before .before .before .before .before .before .before .before .before .before .before .before .before .before .before .before .args .p) (c .before .before .before .before .before .before .before .before .before .before .before .before .before .before .before .before .before .before .before .before .before .before .before .before .before .before .before .before .before .before .before .before .before .before .before .before .before .before .before .before .args .cells .now) (c .before .before .before .before .before .before .before .before .before .before .before .before .before .before .before .before .before .before .before .before .before .before .before .before .before .before .before .before .before .before .before .before .before .before .before .before .before .before .before .before .args .remember .now) (c .before .before .before .before .before .before .before .before .before .before .before .before .before .before .before .before .before .before .before .before .before .before .before .before .before .before .before .before .before .before .before .before .before .before .before .before .before .before .before .before .args .tables .now) (c .before .before .before .before .before .before .before .before .before .before .before .before .before .before .before .before .before .before .before .before .before .before .before .before .before .before .before .before .before .before .before .before .before .before .before .before .before .before .before .before .args .thread)) (c .before .before .before .before .before .before .before .before .before .before .before .before .before .before .before .before .before .before .before .before .before .before .before .before .before .before .before .before .before .before .before .before .before .wide .ensures ∙ c .before .before .before .before .before .before .before .before .before .before .before .before .before .before .before .before .before .before .before .before .before .before .before .before .before .before .before .before .before .before .before .before .before .before .depth .ensures)) in
+    did-answer (c .done .ensures) (ended-here m a (c .before .before .before .before .before .before .before .before .before .evacuate .ensures cells tables m a))
 
 pub end-marked-spec : {M : Type 1} → statement M
 end-marked-spec =

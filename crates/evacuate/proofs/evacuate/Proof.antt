@@ -1,87 +1,95 @@
 -- What each stage asks follows from what the earlier ones leave.
 use native.Mathlib.Omega.{arith}
 use borrow.Author.Needs.{needs}
-use Prim.Native.Nat.{ℕ}
-use mathlib.Core.Path.{_≡_, sym, ap, _∙_, subst, subst₂}
-use mathlib.Core.Logic.{_≢_}
+use Prim.Native.Nat.{ℕ, suc, _-_}
+use mathlib.Core.List.{List}
+use mathlib.Core.Path.{_≡_, sym, ap, _∙_, subst}
 use Rattle.lists.specs.Part.{Lists}
 use Rattle.rules.specs.Regions.{regionAt}
-use Rattle.layout.specs.Places.{depthOf, ownerOf, usedIn}
-use Rattle.copy.specs.Copying.{region-bounds}
-use Rattle.evacuate.specs.Stages.{Before, Finished, slots-ask, tables-ask, unmarked, marks-ask, pages-ask, variables-ask, release-ask, finished, settle-ask}
+use Rattle.layout.specs.Places.{depthOf, ownerOf}
+use Rattle.layout.specs.Words.{Words, words, depthIn}
+use Rattle.copy.specs.Copying.{Plan, Copy}
+use Rattle.ending.specs.Ending.{Ending, Accepted, room-now, depth-high, begun, plan-at, copied-at, has-ended}
+use Rattle.ending.specs.Stages as st
+use Rattle.ending.specs.Stages.{Begun}
 use Rattle.evacuate.proofs.evacuate.Statement.{statement}
 use Rattle.evacuate.proofs.evacuate.Tie as tie
 
-level : (c : tie.After-region-at) → (let a = c .before .before .before .before .before .before .before .before .before .before .args in c .region-at .result ≡ regionAt (a .p) (a .thread) (depthOf (a .tables .now) (a .thread)))
-level c = let a = c .before .before .before .before .before .before .before .before .before .before .args in c .region-at .ensures ∙ ap (regionAt (a .p) (a .thread)) (c .before .wide .ensures ∙ c .before .before .depth .ensures)
+level : (c : tie.After-region-at) → (let a = c .before .before .before .before .before .before .before .before .before .before .args in c .before .wide .result ≡ depthOf (a .tables .now) (a .thread))
+level c = c .before .wide .ensures ∙ c .before .before .depth .ensures
 
-begun : (c : tie.After-region-at)
-    → (let a = c .before .before .before .before .before .before .before .before .before .before .args in
-    Before (a .p) (c .region-at .result) (a .p .entries) (usedIn (a .remember .now)) (c .before .wide .result) (regionAt (a .p) (a .thread)) (a .cells .now) (a .remember .now) (a .tables .now))
-begun c =
-    let a = c .before .before .before .before .before .before .before .before .before .before .args in
-    subst₂
-    (λ (g l : ℕ). Before (a .p) g (a .p .entries) (usedIn (a .remember .now)) l (regionAt (a .p) (a .thread)) (a .cells .now) (a .remember .now) (a .tables .now))
-    (sym (level c)) (sym (c .before .wide .ensures ∙ c .before .before .depth .ensures)) (c .before .before .before .before .before .before .before .before .before .before .pre .0)
+region : (c : tie.After-region-at) → (let a = c .before .before .before .before .before .before .before .before .before .before .args in c .region-at .result ≡ regionAt (a .p) (a .thread) (depthOf (a .tables .now) (a .thread)))
+region c = let a = c .before .before .before .before .before .before .before .before .before .before .args in c .region-at .ensures ∙ ap (regionAt (a .p) (a .thread)) (level c)
+
+-- the words before the marking
+abbrev before : (c : tie.After-region-at) → Words
+before c = let a = c .before .before .before .before .before .before .before .before .before .before .args in let pre = c .before .before .before .before .before .before .before .before .before .before .pre in words (pre .0 .0) (a .remember .now) (pre .0 .1)
+
+-- the region ends
+started : (c : tie.After-region-at) → (let a = c .before .before .before .before .before .before .before .before .before .before .args in Begun (a .p) (a .thread) (depthIn (before c) (a .thread) - 1) (c .region-at .result) (before c) (words (a .cells .now) (a .remember .now) (a .tables .now)))
+started c = begun (c .before .before .before .before .before .before .before .before .before .before .pre .0 .2) (c .region-at .ensures) (level c)
 
 listed : (c : tie.After-region-at) → (let a = c .before .before .before .before .before .before .before .before .before .before .args in Lists (λ page. ownerOf (a .p) (a .tables .now) page ≡ c .region-at .result) (a .p .pages) (a .n) (a .list .now))
 listed c =
     let a = c .before .before .before .before .before .before .before .before .before .before .args in
-    subst (λ (g : ℕ). Lists (λ page. ownerOf (a .p) (a .tables .now) page ≡ g) (a .p .pages) (a .n) (a .list .now)) (sym (level c)) (c .before .before .before .before .before .before .before .before .before .before .pre .1 .1 .0)
+    subst (λ (g : ℕ). Lists (λ page. ownerOf (a .p) (a .tables .now) page ≡ g) (a .p .pages) (a .n) (a .list .now)) (sym (region c)) (c .before .before .before .before .before .before .before .before .before .before .pre .1 .0)
+
+planned : (c : tie.After-region-at) → (let a = c .before .before .before .before .before .before .before .before .before .before .args in Plan (a .p) (suc (depthIn (before c) (a .thread) - 1)) (regionAt (a .p) (a .thread)) (a .cells .now) (a .tables .now))
+planned c = st.plan (started c) (c .before .before .before .before .before .before .before .before .before .before .pre .0 .3 .pages)
+
+-- the copy, at the level of the rules
+copied : (c : tie.After-region-at) {W T : List ℕ} → (let a = c .before .before .before .before .before .before .before .before .before .before .args in Copy (a .p) (c .before .wide .result) (regionAt (a .p) (a .thread)) (c .before .wide .result) (a .cells .now) (a .tables .now) W T)
+    → (let a = c .before .before .before .before .before .before .before .before .before .before .args in Copy (a .p) (suc (depthIn (before c) (a .thread) - 1)) (regionAt (a .p) (a .thread)) (suc (depthIn (before c) (a .thread) - 1)) (a .cells .now) (a .tables .now) W T)
+copied c k = copied-at (c .before .before .before .before .before .before .before .before .before .before .pre .0 .2) (c .region-at .ensures) (level c) (c .before .before .before .before .before .before .before .before .before .before .pre .0 .3) k
 
 depth-requires : tie.Need-depth-requires
-depth-requires c κs =
-    let pre = c .before .before .before .before .before .before .before .pre in
-    (pre .0 .plan .ready .regular .room, pre .1 .0 .0)
+depth-requires c κs = let e = c .before .before .before .before .before .before .before .pre .0 .2 in (room-now e, e .thread)
 
 wide-requires : tie.Need-wide-requires
 wide-requires c κs = search needs
 
 region-at-requires : tie.Need-region-at-requires
 region-at-requires c κs =
-    let pre = c .before .before .before .before .before .before .before .before .before .pre in
-    let rm = pre .0 .plan .ready .regular .room in
-    (rm .threads-high, rm .depth-high, pre .1 .0 .0, omega (arith, pre .1 .0 .2, c .wide .ensures, c .before .depth .ensures))
+    let e = c .before .before .before .before .before .before .before .before .before .pre .0 .2 in
+    let rm = room-now e in
+    (rm .threads-high, rm .depth-high, e .thread, omega (arith, depth-high e, c .wide .ensures, c .before .depth .ensures))
 
 copy-survivors-requires : tie.Need-copy-survivors-requires
 copy-survivors-requires c κs =
     let pre = c .before .before .before .before .before .before .before .before .before .before .before .before .before .pre in
-    let b = begun (c .before .before .before) in
+    let e = pre .0 .2 in
     let o = listed (c .before .before .before) in (
-      b .plan,
-      ((pre .1 .0 .0, omega (arith, pre .1 .0 .2, c .before .before .before .before .wide .ensures, c .before .before .before .before .before .depth .ensures)), (o .rises, (unmarked b o, (pre .1 .1 .1 .0, pre .1 .1 .1 .1)))),
+      plan-at e (c .before .before .before .region-at .ensures) (level (c .before .before .before)) (pre .0 .3),
+      ((e .thread, omega (arith, depth-high e, c .before .before .before .before .wide .ensures, c .before .before .before .before .before .depth .ensures)), (o .rises, (st.unlisted (started (c .before .before .before)) o, (pre .1 .1 .0, pre .1 .1 .1)))),
     )
 
 rewrite-slots-requires : tie.Need-rewrite-slots-requires
-rewrite-slots-requires c κs =
-    let b = begun (c .before .before .before .before .before .before .before .before .before .before .before .before) in
-    let k = c .before .before .before .before .before .before .before .before .copy-survivors .ensures in
-    slots-ask b k
+rewrite-slots-requires c κs = st.slots-ask (started (c .before .before .before .before .before .before .before .before .before .before .before .before)) (planned (c .before .before .before .before .before .before .before .before .before .before .before .before)) (copied (c .before .before .before .before .before .before .before .before .before .before .before .before) (c .before .before .before .before .before .before .before .before .copy-survivors .ensures))
 
 settle-requires : tie.Need-settle-requires
 settle-requires c κs =
-    let b = begun (c .before .before .before .before .before .before .before .before .before .before .before .before .before .before .before .before .before .before) in
-    let k = c .before .before .before .before .before .before .before .before .before .before .before .before .before .before .copy-survivors .ensures in
+    let b = started (c .before .before .before .before .before .before .before .before .before .before .before .before .before .before .before .before .before .before) in
+    let p = planned (c .before .before .before .before .before .before .before .before .before .before .before .before .before .before .before .before .before .before) in
+    let k = copied (c .before .before .before .before .before .before .before .before .before .before .before .before .before .before .before .before .before .before) (c .before .before .before .before .before .before .before .before .before .before .before .before .before .before .copy-survivors .ensures) in
     let o = listed (c .before .before .before .before .before .before .before .before .before .before .before .before .before .before .before .before .before .before) in
-    (settle-ask b k (c .before .before .before .before .before .rewrite-slots .ensures), (o .rises, marks-ask b k o))
+    (st.settle-ask b p k (c .before .before .before .before .before .before .before .before .before .before .before .before .before .before .before .before .before .before .before .before .before .before .before .before .before .before .before .before .pre .0 .3 .entries) (c .before .before .before .before .before .rewrite-slots .ensures), (o .rises, st.marks-ask b p k o))
 
 rewrite-variables-requires : tie.Need-rewrite-variables-requires
 rewrite-variables-requires c κs =
-    let b = begun (c .before .before .before .before .before .before .before .before .before .before .before .before .before .before .before .before .before .before .before .before .before .before .before .before .before) in
-    let k = c .before .before .before .before .before .before .before .before .before .before .before .before .before .before .before .before .before .before .before .before .before .copy-survivors .ensures in
-    (variables-ask b k, (omega (arith, slots-ask b k .cells-long, c .before .before .before .before .before .before .before .before .before .before .before .before .rewrite-slots .ensures .size, c .before .before .before .before .before .before .settle .ensures .0 .size), tables-ask b k))
+    let b = started (c .before .before .before .before .before .before .before .before .before .before .before .before .before .before .before .before .before .before .before .before .before .before .before .before .before) in
+    let p = planned (c .before .before .before .before .before .before .before .before .before .before .before .before .before .before .before .before .before .before .before .before .before .before .before .before .before) in
+    let k = copied (c .before .before .before .before .before .before .before .before .before .before .before .before .before .before .before .before .before .before .before .before .before .before .before .before .before) (c .before .before .before .before .before .before .before .before .before .before .before .before .before .before .before .before .before .before .before .before .before .copy-survivors .ensures) in
+    (st.variables-ask b p k, (omega (arith, st.slots-ask b p k .cells-long, c .before .before .before .before .before .before .before .before .before .before .before .before .rewrite-slots .ensures .size, c .before .before .before .before .before .before .settle .ensures .0 .size), st.tables-ask b p k))
 
 release-requires : tie.Need-release-requires
 release-requires c κs =
     let pre = c .before .before .before .before .before .before .before .before .before .before .before .before .before .before .before .before .before .before .before .before .before .before .before .before .before .before .before .before .before .before .before .before .before .before .before .before .before .before .before .before .pre in
-    let a = c .before .before .before .before .before .before .before .before .before .before .before .before .before .before .before .before .before .before .before .before .before .before .before .before .before .before .before .before .before .before .before .before .before .before .before .before .before .before .before .before .args in
-    let b = begun (c .before .before .before .before .before .before .before .before .before .before .before .before .before .before .before .before .before .before .before .before .before .before .before .before .before .before .before .before .before .before) in
-    let k = c .before .before .before .before .before .before .before .before .before .before .before .before .before .before .before .before .before .before .before .before .before .before .before .before .before .before .copy-survivors .ensures in
-    let z = release-ask (a .thread) b k (pre .1 .0 .0) (pre .1 .0 .1) (c .before .before .before .before .rewrite-variables .ensures) in
-    let g = region-bounds (a .p) (a .thread) (depthOf (a .tables .now) (a .thread)) (pre .1 .0 .0) (pre .1 .0 .2) in
-    let e = level (c .before .before .before .before .before .before .before .before .before .before .before .before .before .before .before .before .before .before .before .before .before .before .before .before .before .before .before .before .before .before) in
-    let real : c .before .before .before .before .before .before .before .before .before .before .before .before .before .before .before .before .before .before .before .before .before .before .before .before .before .before .before .before .before .before .region-at .result ≢ 0 = (λ y. omega (arith, g .0)) in
-    (z .0, (pages-ask b k (listed (c .before .before .before .before .before .before .before .before .before .before .before .before .before .before .before .before .before .before .before .before .before .before .before .before .before .before .before .before .before .before)) real (c .before .before .before .before .rewrite-variables .ensures), ((omega (arith, g .0), omega (arith, g .1)), ((pre .1 .0 .0, omega (arith, z .1, pre .1 .0 .1)), omega (arith, pre .1 .1 .1 .1 .0, c .before .before .before .before .before .before .before .before .before .before .before .before .before .before .before .before .before .before .before .before .before .before .before .before .before .before .copy-survivors .kept .1 .1 .1 .0)))))
+    let b = started (c .before .before .before .before .before .before .before .before .before .before .before .before .before .before .before .before .before .before .before .before .before .before .before .before .before .before .before .before .before .before) in
+    let p = planned (c .before .before .before .before .before .before .before .before .before .before .before .before .before .before .before .before .before .before .before .before .before .before .before .before .before .before .before .before .before .before) in
+    let k = copied (c .before .before .before .before .before .before .before .before .before .before .before .before .before .before .before .before .before .before .before .before .before .before .before .before .before .before .before .before .before .before) (c .before .before .before .before .before .before .before .before .before .before .before .before .before .before .before .before .before .before .before .before .before .before .before .before .before .before .copy-survivors .ensures) in
+    let v = c .before .before .before .before .rewrite-variables .ensures in
+    let z = st.release-ask b p k v in
+    (z .0, (st.pages-ask b p k v (listed (c .before .before .before .before .before .before .before .before .before .before .before .before .before .before .before .before .before .before .before .before .before .before .before .before .before .before .before .before .before .before)), (st.bounds b, ((b .thread, omega (arith, z .1)), omega (arith, pre .1 .1 .1 .0, c .before .before .before .before .before .before .before .before .before .before .before .before .before .before .before .before .before .before .before .before .before .before .before .before .before .before .copy-survivors .kept .1 .1 .1 .0)))))
 
 same-length : tie.Need-same-length
 same-length c = c .before .before .before .before .before .before .before .before .before .before .before .before .before .before .before .before .settle .kept .1 .0 ∙ c .before .before .before .before .before .before .before .before .before .before .before .before .before .before .before .before .before .before .before .before .before .before .rewrite-slots .kept .1 .0 ∙ c .before .before .before .before .before .before .before .before .before .before .before .before .before .before .before .before .before .before .before .before .before .before .before .before .before .before .before .before .before .before .before .copy-survivors .kept .1 .0
@@ -96,13 +104,12 @@ same-length-4 : tie.Need-same-length-4
 same-length-4 c = c .before .before .before .before .release .kept .1 .1 .0 ∙ c .before .before .before .before .before .before .before .before .before .before .before .before .before .before .before .before .before .before .before .before .before .before .before .before .before .before .before .before .before .before .before .copy-survivors .kept .1 .1 .1 .0
 
 returns : tie.Need-returns
-returns c =
-    let a = c .before .before .before .before .before .before .before .before .before .before .before .before .before .before .before .before .before .before .before .before .before .before .before .before .before .before .before .before .before .before .before .before .before .before .before .before .before .before .before .before .before .before .before .before .before .args in
+returns c cells tables e a =
     let settle = c .before .before .before .before .before .before .before .before .before .before .before .before .before .before .before .before .settle in
-    let F : ℕ → ℕ → Type 0 =
-    (λ g l. Finished (a .p) g (a .p .entries) (usedIn (a .remember .now)) l (a .thread) (regionAt (a .p) (a .thread)) (a .cells .now) (a .remember .now) (a .tables .now) (settle .last .1 .0) (settle .last .1 .1 .0) (c .before .before .before .before .release .last .1 .0)) in
-    subst₂ F (level (c .before .before .before .before .before .before .before .before .before .before .before .before .before .before .before .before .before .before .before .before .before .before .before .before .before .before .before .before .before .before .before .before .before .before .before)) (c .before .before .before .before .before .before .before .before .before .before .before .before .before .before .before .before .before .before .before .before .before .before .before .before .before .before .before .before .before .before .before .before .before .before .before .before .wide .ensures ∙ c .before .before .before .before .before .before .before .before .before .before .before .before .before .before .before .before .before .before .before .before .before .before .before .before .before .before .before .before .before .before .before .before .before .before .before .before .before .depth .ensures)
-    (finished (begun (c .before .before .before .before .before .before .before .before .before .before .before .before .before .before .before .before .before .before .before .before .before .before .before .before .before .before .before .before .before .before .before .before .before .before .before)) (c .before .before .before .before .before .before .before .before .before .before .before .before .before .before .before .before .before .before .before .before .before .before .before .before .before .before .before .before .before .before .before .copy-survivors .ensures) (c .before .before .before .before .before .before .before .before .before .before .before .before .before .before .before .before .before .before .before .before .before .before .rewrite-slots .ensures) (settle .ensures .0) (settle .ensures .1) (c .before .before .before .before .before .before .before .before .before .rewrite-variables .ensures) (c .before .before .before .before .release .ensures))
+    let er = c .before .before .before .before .before .before .before .before .before .before .before .before .before .before .before .before .before .before .before .before .before .before .before .before .before .before .before .before .before .before .before .before .before .before .before .region-at .ensures in
+    let el = level (c .before .before .before .before .before .before .before .before .before .before .before .before .before .before .before .before .before .before .before .before .before .before .before .before .before .before .before .before .before .before .before .before .before .before .before) in
+    let k = copied-at e er el a (c .before .before .before .before .before .before .before .before .before .before .before .before .before .before .before .before .before .before .before .before .before .before .before .before .before .before .before .before .before .before .before .copy-survivors .ensures) in
+    has-ended e er el a k (st.rewritten-both (begun e er el) (st.plan (begun e er el) (a .pages)) k (c .before .before .before .before .before .before .before .before .before .before .before .before .before .before .before .before .before .before .before .before .before .before .rewrite-slots .ensures) (settle .ensures .0)) (settle .ensures .1) (c .before .before .before .before .before .before .before .before .before .rewrite-variables .ensures) (c .before .before .before .before .release .ensures)
 
 pub evacuate-spec : {M : Type 1} → statement M
 evacuate-spec =

@@ -4,7 +4,7 @@ use Prim.Native.Nat.{ℕ}
 use mathlib.Core.Path.{sym, _∙_, subst}
 use native.Mathlib.Omega.{arith}
 use Rattle.census.specs.Census.{Census}
-use Rattle.epoch.specs.CensusCounts.{more-needs, asked-pages, asked-entries, asked-none}
+use Rattle.ending.specs.CensusCounts.{more-needs, asked-pages, asked-entries, asked-none}
 use Rattle.epoch.proofs.needs.ask_room.Statement.{statement}
 use Rattle.epoch.proofs.needs.ask_room.Tie as tie
 

@@ -4,7 +4,7 @@ use mathlib.Core.Path.{_≡_, ap, ap₂, _∙_}
 use native.Mathlib.Omega.{arith}
 use lib.ListN.{getD}
 use Rattle.layout.specs.Places.{countOf}
-use Rattle.epoch.specs.CensusCounts.{more-none, more-some}
+use Rattle.ending.specs.CensusCounts.{more-none, more-some}
 use borrow.Author.Needs.{needs}
 use Rattle.epoch.proofs.needs.level_pages.Statement.{statement}
 use Rattle.epoch.proofs.needs.level_pages.Tie as tie

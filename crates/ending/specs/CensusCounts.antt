@@ -30,8 +30,9 @@ use Rattle.copy.specs.Marks.{hit, hits}
 use Rattle.copy.specs.Copying.{region-bounds}
 use Rattle.ended.specs.EndQuestion.{pagesNeeded, crossingAfter}
 use Rattle.ended.specs.EndPages.{morePages, new-pages-counted}
-use Rattle.evacuation.specs.MarkedWords.{owner-same, count-same}
-use Rattle.epoch.specs.PagesEnough.{marked-survivor, survivor-level}
+use Rattle.promises.specs.Ends.{partOf}
+use Rattle.ending.specs.MarkedWords.{marked-survivor, owner-same, count-same}
+use Rattle.ending.specs.PagesEnough.{survivor-level}
 
 -- the new pages for region g, and for the regions of thread t at the levels below n
 unfoldable pub levelNeeds : Sizes → List ℕ → List ℕ → ℕ → ℕ
@@ -113,7 +114,7 @@ regions-few {p} r = omega (arith, mul-le-mul (r .threads-high) (r .depth-high))
 -- ---- as the rules count
 
 module _ (s : Sizes) (w : Words) (k : WholeFor s w) (space : Room s (length (w .tables))) (t j : ℕ) (th : t < s .threads) (deep : depthIn w t ≡ suc j)
-    (w₁ : Words) (M : Marked s w (regionAt s t (suc j)) w₁) where
+    (w₁ : Words) (M : Marked s w (partOf s w (regionAt s t (suc j))) w₁) where
   pub needs-are : needsBelow s (w₁ .cells) (w₁ .tables) t (suc j) ≡ pagesNeeded s w t j
   unfolding levelNeeds
   needs-are =
@@ -126,7 +127,7 @@ module _ (s : Sizes) (w : Words) (k : WholeFor s w) (space : Room s (length (w .
   -- survivors go to regions
   pub targets-low : (c : ℕ) → pageOf c < s .pages → marked s (w₁ .tables) c ≡ 1 → workOf (w₁ .cells) c ≤ regions s
   targets-low c l on =
-      let v = survivor-level s w k space t j th deep w₁ M c (marked-survivor s w (regionAt s t (suc j)) w₁ M c l on) in
+      let v = survivor-level s w k space t j th deep w₁ M c (marked-survivor M c l on) in
       omega (arith, v .2, region-bounds s t (v .0) th (omega (arith, v .1, k .placed .depths t th)))
 
   pub free-are : ownedIn s (w₁ .tables) 0 (s .pages) ≡ pagesOwned s w 0

@@ -14,14 +14,15 @@ use Rattle.layout.specs.Places.{Room, markOf}
 use Rattle.layout.specs.Cells.{pageOf, placeOf}
 use Rattle.layout.specs.Words.{Words}
 use Rattle.promises.specs.Whole.{WholeFor, objectsOn, objectsOf}
+use Rattle.promises.specs.Ends.{Part}
 use Rattle.promises.specs.Reading.{cells-room}
 use Rattle.pages.specs.Pages.{Partly}
 use Rattle.mark.specs.Survivors.{Marked}
 use Rattle.copy.specs.Taking.{Regular}
 use Rattle.copy.specs.Passing.{Ready}
-use Rattle.evacuation.specs.MarkedWords.{owner-same, used-same, count-same, now-used}
+use Rattle.ending.specs.MarkedWords.{owner-same, used-same, count-same, now-used}
 
-module _ (s : Sizes) (w : Words) (k : WholeFor s w) (space : Room s (length (w .tables))) (r : ℕ) (w₁ : Words) (M : Marked s w r w₁) where
+module _ (s : Sizes) (w : Words) (k : WholeFor s w) (space : Room s (length (w .tables))) (e : Part) (w₁ : Words) (M : Marked s w e w₁) where
   pub objects-same : (g : ℕ) → objectsOf s (w₁ .tables) g ≡ objectsOf s (w .tables) g
   objects-same g =
       sum-same (objectsOn s (w₁ .tables) g) (objectsOn s (w .tables) g) (s .pages)
@@ -46,9 +47,9 @@ module _ (s : Sizes) (w : Words) (k : WholeFor s w) (space : Room s (length (w .
   regular =
       record {
         room = subst (Room s) (sym (M .tables-length)) space;
-        free = λ q l e. used-same M space q l ∙ k .placed .pages q l .free (sym (owner-same M space q l) ∙ e);
+        free = λ q l z. used-same M space q l ∙ k .placed .pages q l .free (sym (owner-same M space q l) ∙ z);
         taken = λ q l n.
-            omega (arith, used-same M space q l, k .placed .pages q l .taken (pos-of-ne-zero (λ e. n (owner-same M space q l ∙ e))));
+            omega (arith, used-same M space q l, k .placed .pages q l .taken (pos-of-ne-zero (λ z. n (owner-same M space q l ∙ z))));
         full = λ q l. omega (arith, used-same M space q l, k .placed .pages q l .cells);
         one = λ g a b pos x y. one g a b pos (partly-then g a x) (partly-then g b y);
         count = λ g pos le. count-same M space g ∙ k .placed .counts g pos le ∙ sym (objects-same g);

@@ -29,12 +29,12 @@ use Rattle.copy.specs.Marks.{hit, hits}
 use Rattle.copy.specs.Taking as ev
 use Rattle.copy.specs.Taking.{ownedOn}
 use Rattle.copy.specs.Copying.{need, Plan, region-bounds}
-use Rattle.ended.specs.Evacuated.{Survivor}
+use Rattle.promises.specs.Ends.{partOf, Survivor}
 use Rattle.ended.specs.EndQuestion.{pagesNeeded}
 use Rattle.ended.specs.EndPages.{morePages, new-pages-ended}
 use Rattle.ended.specs.WordsPlaced.{target-level}
-use Rattle.evacuation.specs.MarkedWords.{owner-same}
-use Rattle.epoch.specs.MarkedReady.{objects-same, ready}
+use Rattle.ending.specs.MarkedWords.{marked-survivor, unmarked-freed, owner-same}
+use Rattle.ending.specs.MarkedReady.{objects-same, ready}
 
 cond-bit : (b : Bool) → _≡_ {A = ℕ} (cond b 1 0) (bit b)
 cond-bit true = refl
@@ -42,23 +42,7 @@ cond-bit false = refl
 
 -- ---- the marked cells are the survivors
 
-module _ (s : Sizes) (w : Words) (r : ℕ) (w₁ : Words) (M : Marked s w r w₁) where
-  pub marked-survivor : (c : ℕ) → pageOf c < s .pages → marked s (w₁ .tables) c ≡ 1 → Survivor s w r c
-  marked-survivor c l on =
-      let o = M .only c l on in
-      record { used = o .0; owner = o .1; goes = go (decLt 0 (target s (graphOf s w) r c)) (o .0) (o .1) }
-    where
-      go : Dec (0 < target s (graphOf s w) r c) → Used s w c → ownerIn s w (pageOf c) ≡ r → 0 < target s (graphOf s w) r c
-      go (yes h) u own = h
-      go (no n) u own = absurd (let z : marked s (w₁ .tables) c ≡ 0 = M .freed c u own (omega arith) in let y : ⊥ = omega arith in y)
-
-  pub unmarked-freed : (c : ℕ) → Used s w c → ownerIn s w (pageOf c) ≡ r → marked s (w₁ .tables) c ≢ 1 → target s (graphOf s w) r c ≡ 0
-  unmarked-freed c u own off = go (decLt 0 (target s (graphOf s w) r c))
-    where
-      go : Dec (0 < target s (graphOf s w) r c) → target s (graphOf s w) r c ≡ 0
-      go (yes h) = absurd (off (M .survives c u own h))
-      go (no n) = omega arith
-
+module _ (s : Sizes) (w : Words) (r : ℕ) (w₁ : Words) (M : Marked s w (partOf s w r) w₁) where
   zero-bit : (c : ℕ) → marked s (w₁ .tables) c ≢ 1 → marked s (w₁ .tables) c ≡ 0
   zero-bit c off = omega (arith, bit-lt (placeOf c) (markOf s (w₁ .tables) (pageOf c)))
 
@@ -80,7 +64,7 @@ module _ (s : Sizes) (w : Words) (r : ℕ) (w₁ : Words) (M : Marked s w r w₁
           ∙ sym (ap (λ (b : Bool). cond b (cond (eqb (target s (graphOf s w) r c) q) 1 0) 0) (ne-eqb (homeIn s w c) r n))
       each c l (no off) (yes e) =
           let o = home-cell s w k c r e rpos in
-          let z : target s (graphOf s w) r c ≡ 0 = unmarked-freed c (o .0) (o .1) off in
+          let z : target s (graphOf s w) r c ≡ 0 = unmarked-freed M c (o .0) (o .1) off in
           ap (λ (b : ℕ). b * cond (eqb (workOf (w₁ .cells) c) q) 1 0) (zero-bit c off) ∙ zero-mul _
           ∙ sym
           (ap (λ (b : Bool). cond b (cond (eqb (target s (graphOf s w) r c) q) 1 0) 0) (eq-eqb (homeIn s w c) r e)
@@ -89,15 +73,15 @@ module _ (s : Sizes) (w : Words) (r : ℕ) (w₁ : Words) (M : Marked s w r w₁
 -- ---- the plan of the copy
 
 module _ (s : Sizes) (w : Words) (k : WholeFor s w) (space : Room s (length (w .tables))) (t j : ℕ) (th : t < s .threads) (deep : depthIn w t ≡ suc j)
-    (w₁ : Words) (M : Marked s w (regionAt s t (suc j)) w₁) where
+    (w₁ : Words) (M : Marked s w (partOf s w (regionAt s t (suc j))) w₁) where
   abbrev r : ℕ
   r = regionAt s t (suc j)
 
   -- a survivor's word 1 is the region of a level around r
-  pub survivor-level : (c : ℕ) → Survivor s w r c → (l : ℕ) × (l < suc j) × (workOf (w₁ .cells) c ≡ regionAt s t l)
+  pub survivor-level : (c : ℕ) → Survivor s w (partOf s w r) c → (l : ℕ) × (l < suc j) × (workOf (w₁ .cells) c ≡ regionAt s t l)
   survivor-level c v =
-      let x = target-level s w k t j th deep c (cell-home s w k c r (v .used) (v .owner)) (v .goes) in
-      (x .0, omega (arith, x .1), M .goes c (v .used) (v .owner) ∙ x .2)
+      let x = target-level s w k t j th deep c (cell-home s w k c r (v .used) (v .within)) (v .goes) in
+      (x .0, omega (arith, x .1), M .goes c (v .used) (v .within) ∙ x .2)
 
   free-same : ev.pagesOwned s (w₁ .tables) 0 ≡ pagesOwned s w 0
   unfolding ev.pagesOwned
@@ -111,18 +95,18 @@ module _ (s : Sizes) (w : Words) (k : WholeFor s w) (space : Room s (length (w .
       (λ l. morePages (objectsIn (graphOf s w) (regionAt s t l)) (landed s (graphOf s w) r (regionAt s t l))) (suc j)
       (λ l h.
       ap₂ (λ (a b : ℕ). morePages a b)
-      (objects-same s w k space r w₁ M (regionAt s t l) ∙ sym (objects-on-pages s w k (regionAt s t l) (region-pos s t l)))
+      (objects-same s w k space (partOf s w r) w₁ M (regionAt s t l) ∙ sym (objects-on-pages s w k (regionAt s t l) (region-pos s t l)))
       (hits-landed s w r w₁ M k (region-pos s t (suc j)) (regionAt s t l) (region-pos s t l)))
       ∙ sym (new-pages-ended s w k t j th deep)
 
   pub plan : pagesNeeded s w t j ≤ pagesOwned s w 0 → Plan s (suc j) (regionAt s t) (w₁ .cells) (w₁ .tables)
   plan h =
       record {
-        ready = ready s w k space r w₁ M;
+        ready = ready s w k space (partOf s w r) w₁ M;
         small = M .small;
         real = λ l m. region-pos s t l;
         low = λ l m. region-bounds s t l th (omega (arith, k .placed .depths t th)) .1;
         rising = λ a b l m. numbers-rise s t a b l;
-        all = λ c l on. survivor-level c (marked-survivor s w r w₁ M c l on);
+        all = λ c l on. survivor-level c (marked-survivor M c l on);
         enough = subst₂ (λ (a b : ℕ). a ≤ b) (sym needs) (sym free-same) h;
       }

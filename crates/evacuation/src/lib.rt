@@ -1,1 +1,0 @@
-// Specs only: marking, evacuation and the words that an end leaves fit together.
