@@ -1,5 +1,5 @@
 -- The words of a new object are written, one after the other.
-use Prim.Native.Nat.{ℕ, _+_, _*_, _≤_, _<_}
+use Prim.Native.Nat.{ℕ, _+_, _≤_, _<_}
 use mathlib.Core.List.{List}
 use mathlib.Core.Path.{_≡_, refl, sym, ap, subst, _∙_}
 use native.Mathlib.Omega.{arith}
@@ -7,7 +7,7 @@ use native.Mathlib.Decide.{ℕ-discrete}
 use lib.ListN.{length, getD, set, length-set}
 use Rattle.lists.specs.Stores.{put, past}
 use Rattle.promises.specs.NewCell.{Blank}
-use Rattle.layout.specs.Cells.{headAt, workAt, fieldAt, fieldOf, cellOf}
+use Rattle.layout.specs.Cells.{headAt, workAt, fieldAt, fieldOf, cellOf, mostFields, CellIn}
 
 -- the first n fields are 0
 pub record Zeroed (c c′ : List ℕ) (cell n : ℕ) : Type 0 where
@@ -18,8 +18,8 @@ pub record Zeroed (c c′ : List ℕ) (cell n : ℕ) : Type 0 where
 pub zeroed-none : (c : List ℕ) (cell : ℕ) → Zeroed c c cell 0
 zeroed-none c cell = record { long = refl; fields = λ f l. absurd (let z : ⊥ = omega arith in z); others = λ j d. refl }
 
-module _ (c c₁ : List ℕ) (cell : ℕ) (inside : 16 * cell + 16 ≤ length c) where
-  pub zeroed-more : (n : ℕ) {c₂ : List ℕ} → n < 14 → Zeroed c c₁ cell n → c₂ ≡ set c₁ (fieldAt cell n) 0 → Zeroed c c₂ cell (n + 1)
+module _ (c c₁ : List ℕ) (cell : ℕ) (inside : CellIn cell (length c)) where
+  pub zeroed-more : (n : ℕ) {c₂ : List ℕ} → n < mostFields → Zeroed c c₁ cell n → c₂ ≡ set c₁ (fieldAt cell n) 0 → Zeroed c c₂ cell (n + 1)
   zeroed-more n low z e =
       subst (λ (l : List ℕ). Zeroed c l cell (n + 1)) (sym e)
       (record {
@@ -32,7 +32,7 @@ module _ (c c₁ : List ℕ) (cell : ℕ) (inside : 16 * cell + 16 ≤ length c)
       go f l (yes q) = ap (fieldOf (set c₁ (fieldAt cell n) 0) cell) q ∙ put c₁ (fieldAt cell n) 0 0 (omega (arith, z .long))
       go f l (no d) = past c₁ (fieldAt cell n) 0 (fieldAt cell f) 0 (λ (q : fieldAt cell f ≡ fieldAt cell n). d (omega arith)) ∙ z .fields f (omega arith)
 
-  pub blanked : (n head : ℕ) {c₂ c₃ : List ℕ} → 14 ≤ n → Zeroed c c₁ cell n → c₂ ≡ set c₁ (headAt cell) head → c₃ ≡ set c₂ (workAt cell) 0 → Blank c cell head c₃
+  pub blanked : (n head : ℕ) {c₂ c₃ : List ℕ} → mostFields ≤ n → Zeroed c c₁ cell n → c₂ ≡ set c₁ (headAt cell) head → c₃ ≡ set c₂ (workAt cell) 0 → Blank c cell head c₃
   blanked n head {c₂} {c₃} full z e g =
       subst (λ (l : List ℕ). Blank c cell head l) (sym (g ∙ ap (λ (l : List ℕ). set l (workAt cell) 0) e))
       (record {

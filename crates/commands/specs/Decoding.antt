@@ -17,6 +17,7 @@ use Rattle.rules.specs.Terms.{Code, unknown, start, end, new, copy, clear, load
 use Rattle.rules.specs.declared.Answer.{Answer}
 use Rattle.rules.specs.NeverFreeing.{NeverFreeing, operands, known, question, state}
 use Rattle.rules.specs.Rules.{first}
+use Rattle.layout.specs.Cells.{mostFields}
 use Rattle.commands.specs.declared.Decoded.{Decoded}
 use Rattle.commands.specs.declared.Decoded.the-variants.{Start, End, New, Copy, Clear, Load, Store, Read, Write, Same, Refused}
 
@@ -174,7 +175,7 @@ commandFor (Refused q) = record { code = 0; thread = 0; a = 0; b = 0; c = 0 }
 abbrev pub Within : Sizes → Decoded → Type 0
 Within s (Start t) = t < s .threads
 Within s (End t) = t < s .threads
-Within s (New t a b c) = (t < s .threads) × (a < s .variables) × (b + c ≤ 14)
+Within s (New t a b c) = (t < s .threads) × (a < s .variables) × (b + c ≤ mostFields)
 Within s (Copy t a b c) = (t < s .threads) × (a < s .variables) × (b < s .variables) × (c < s .threads)
 Within s (Clear t a) = (t < s .threads) × (a < s .variables)
 Within s (Load t a b c) = (t < s .threads) × (a < s .variables) × (b < s .variables)
@@ -219,7 +220,7 @@ back-by s start n t a b c e k l q =
 back-by s end n t a b c e k l q =
     let r = three (eqb a 0) (eqb b 0) (eqb c 0) q in record { command = spelt e (eqb-true a 0 (r .0)) (eqb-true b 0 (r .1)) (eqb-true c 0 (r .2)); within = l }
 back-by s new n t a b c e k l q =
-    let r = both-true (ltb a (s .variables)) (leb (b + c) 14) q in record { command = spelt e refl refl refl; within = (l, ltb-true a (s .variables) (r .0), leb-true (b + c) 14 (r .1)) }
+    let r = both-true (ltb a (s .variables)) (leb (b + c) mostFields) q in record { command = spelt e refl refl refl; within = (l, ltb-true a (s .variables) (r .0), leb-true (b + c) mostFields (r .1)) }
 back-by s copy n t a b c e k l q =
     let r = three (ltb a (s .variables)) (ltb b (s .variables)) (ltb c (s .threads)) q in
     record { command = spelt e refl refl refl; within = (l, ltb-true a (s .variables) (r .0), ltb-true b (s .variables) (r .1), ltb-true c (s .threads) (r .2)) }

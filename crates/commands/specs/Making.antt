@@ -1,5 +1,5 @@
 -- Code 3 does what the rules say: 13 exactly if the region has no partly filled page and no page is free, else a new object.
-use Prim.Native.Nat.{ℕ, _+_, _*_, _%_, _^_, _≤_, _<_}
+use Prim.Native.Nat.{ℕ, _+_, _*_, _^_, _≤_, _<_}
 use native.Mathlib.Omega.{arith}
 use mathlib.Core.Path.{_≡_, refl, sym, ap, ap₂, subst, _∙_}
 use mathlib.Core.Logic.{_⊎_, inl, inr}
@@ -19,10 +19,10 @@ use Rattle.rules.specs.Graph.{newPages, freePages}
 use Rattle.rules.specs.Rules as ru
 use Rattle.rules.specs.Rules.{Regioned, graph, first}
 use Rattle.layout.specs.Places.{depthOf, ownerOf, usedOf, countOf, countAt, count-room}
-use Rattle.layout.specs.Cells.{cellOn}
+use Rattle.layout.specs.Cells.{cellOn, headWord, mostFields, CellIn}
 use Rattle.layout.specs.Words.{Words, words, heapOf}
 use Rattle.promises.specs.Whole.{WholeFor, Open, objectsOn}
-use Rattle.promises.specs.Reading.{range, cells-room, tables-room}
+use Rattle.promises.specs.Reading.{range, tables-room, cell-in}
 use Rattle.promises.specs.Agreed.{heap-stands}
 use Rattle.promises.specs.Here.{here-depth}
 use Rattle.promises.specs.Questions.{did-refused, did-moved}
@@ -80,7 +80,7 @@ module _ (p : Sizes) (c m t : List ℕ) (k : WholeFor p (words c m t)) (u : ℕ)
 
   -- where its objects fill pages, none is partly filled
   pub region-filled : Filled p t g
-  region-filled e page h f = partly-filled s w k g (region-real .0) (region-real .1) page h f (eqb-true (objects % 16) 0 e)
+  region-filled e page h f = partly-filled s w k g (region-real .0) (region-real .1) page h f (eqb-true _ 0 e)
 
   module _ (page : ℕ) (found′ : Found p t g page) where
     found : Found P t g page
@@ -115,17 +115,17 @@ module _ (p : Sizes) (c m t : List ℕ) (k : WholeFor p (words c m t)) (u : ℕ)
           (subst (λ (q : List ℕ). Took P t g (cellOn page (usedOf P t page)) q) (sym et)
           (taken-took s t g page low count-inside (k .pages page low .free) found))
 
-      pub cell-inside : (cell < 16384) × (16 * cell + 16 ≤ length c)
-      cell-inside = omega (arith, took .page, range s w k, cells-room s w k)
+      pub cell-inside : CellIn cell (length c)
+      cell-inside = cell-in s w k cell (took .page)
 
   -- ---- the command
 
-  module _ (a b d : ℕ) (n : a < p .variables) (few : b + d ≤ 14) where
+  module _ (a b d : ℕ) (n : a < p .variables) (few : b + d ≤ mostFields) where
     new-asked : nf.question (limits s) (H .heap) (commandFor (New u a b d)) ≡ 0
     unfolding nf.question nf.operands nf.state ask
     new-asked =
-        ap₂ (λ (x y : Bool). ask x 7 (ask (y && leb (b + d) 14) 8 0)) (lt-ltb u (p .threads) l) (lt-ltb a (p .variables) n)
-        ∙ ap (λ (x : Bool). ask x 8 0) (le-leb (b + d) 14 few)
+        ap₂ (λ (x y : Bool). ask x 7 (ask (y && leb (b + d) mostFields) 8 0)) (lt-ltb u (p .threads) l) (lt-ltb a (p .variables) n)
+        ∙ ap (λ (x : Bool). ask x 8 0) (le-leb (b + d) mostFields few)
 
     -- the heap with the new object
     abbrev h₁ : Regioned
@@ -150,7 +150,7 @@ module _ (p : Sizes) (c m t : List ℕ) (k : WholeFor p (words c m t)) (u : ℕ)
           (new-question ∙ ap (λ (x : Bool). ask x 13 0)
           (new-lacks s w H (λ x. x) (heap-stands s w k) g (region-real .0) (region-real .1) (H .heap .depths) (h₁ .heap .vars) (blankObject b d) (none .0) (none .1)))
 
-      module _ (low : page < p .pages) (cell : ℕ) (ec : cell ≡ cellOn page (usedOf p t page)) (t₁ : List ℕ) (et : t₁ ≡ taken p t page g) (c₁ : List ℕ) (blank : Blank c cell (16 * b + d) c₁) where
+      module _ (low : page < p .pages) (cell : ℕ) (ec : cell ≡ cellOn page (usedOf p t page)) (t₁ : List ℕ) (et : t₁ ≡ taken p t page g) (c₁ : List ℕ) (blank : Blank c cell (headWord b d) c₁) where
         abbrev tk : Took P t g cell t₁
         tk = took page f low cell ec t₁ et
 

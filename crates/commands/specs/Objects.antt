@@ -16,10 +16,10 @@ use Rattle.rules.specs.Rules as ru
 use Rattle.rules.specs.Rules.{Regioned}
 use Rattle.layout.specs.declared.Kind.{Kind}
 use Rattle.layout.specs.declared.Kind.the-variants.{Reference, Number}
-use Rattle.layout.specs.Cells.{headOf, fieldAt, fieldCount, kindAt, kind-low}
+use Rattle.layout.specs.Cells.{headOf, fieldAt, fieldCount, kindAt, kind-low, cellNamed}
 use Rattle.layout.specs.Words.{Words, words, heapOf, Used, refCount}
 use Rattle.promises.specs.Whole.{WholeFor, IsRef}
-use Rattle.promises.specs.Reading.{range, cells-room, used-alive}
+use Rattle.promises.specs.Reading.{used-alive, cell-in}
 use Rattle.promises.specs.Agreed.{heap-stands, back}
 use Rattle.promises.specs.Here.{here-var}
 use Rattle.promises.specs.Questions.{did-asked, did-done, question-fine, fieldsOf, var-ref, asked-field, field-word}
@@ -50,7 +50,7 @@ module _ (p : Sizes) (c m t : List ℕ) (k : WholeFor p (words c m t)) (u a : �
   heap-var = here-var s w u a l n ∙ sym e
 
   pub names-cell : NamesCell x (length c)
-  names-cell h = let i = is-ref h in (omega (arith, i .page, range s w k), omega (arith, i .page, cells-room s w k))
+  names-cell h = cell-in s w k (cellNamed x) (is-ref h .page)
 
   -- q is the answer to questions 9 and 10 of field f
   module _ (d : Kind) (f q : ℕ) (g : q ≡ used x f (fieldCount d (headOf c (x - 1)))) where
@@ -66,8 +66,7 @@ module _ (p : Sizes) (c m t : List ℕ) (k : WholeFor p (words c m t)) (u a : �
 
       pub is-field : Field d c x f
       is-field =
-          let o = names-cell (within .0) in
-          record { real = within .0; few = o .0; inside = o .1; field = kind-low d c (x - 1) f (k .objects (x - 1) in-use .head) (within .1) }
+          record { real = within .0; inside = names-cell (within .0); field = kind-low d c (x - 1) f (k .objects (x - 1) in-use .head) (within .1) }
 
       pub heap-word : getD (fieldsOf d (objectOf (H .heap) (varOf (limits s) (H .heap) u a))) f 0 ≡ getD c (kindAt d c (x - 1) f) 0
       heap-word =

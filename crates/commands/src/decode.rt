@@ -3,8 +3,8 @@ ghost use mathlib.Core.Path.{_≡_};
 ghost use mathlib.Core.Bool.{_&&_};
 ghost use Rattle.commands.specs.Decoding.{checkedBy, Decodes};
 use crate::Decoded;
-use rules::Sizes;
 use rules::Command;
+use rules::Sizes;
 
 fn both(x: bool, y: bool) -> bool
     ensures { λ r. ⌜ r ≡ (x && y) ⌝ }
@@ -47,7 +47,11 @@ pub fn decode(p: Sizes, m: Command) -> Decoded
             both(both(a == 0, no_b), no_c),
             Decoded::End(m.thread),
         ),
-        3 => checked(known, both(var_a, b + c <= 14), Decoded::New(t, a, b, c)),
+        3 => checked(
+            known,
+            both(var_a, b + c <= layout::cells::FIELDS),
+            Decoded::New(t, a, b, c),
+        ),
         4 => checked(
             known,
             both(both(var_a, var_b), c < p.threads),

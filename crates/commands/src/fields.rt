@@ -12,8 +12,8 @@ ghost use Rattle.commands.specs.declared.Decoded.the-variants.{Load, Rea
 use crate::variables::read_var;
 use crate::variables::write_var;
 use layout::Kind;
-use rules::Sizes;
 use rules::Answer;
+use rules::Sizes;
 
 // Questions 9 and 10, of a reference x and field f of its object.
 pub fn field_question(kind: Kind, cells: &[u32], x: u32, f: usize) -> u32
@@ -30,7 +30,7 @@ pub fn field_question(kind: Kind, cells: &[u32], x: u32, f: usize) -> u32
     10
 }
 
-// Which of the 14 fields of its object that is.
+// Which of all fields of its object that is.
 fn field_number(kind: Kind, cells: &[u32], x: u32, f: usize) -> usize
     requires { ⌜ Field kind (now cells) x f ⌝ }
     ensures { λ r. ⌜ r ≡ firstField kind (headOf (now (cells .entry)) (x - 1)) + f ⌝ }

@@ -1,9 +1,10 @@
 // Code 3: an object is made in its thread's innermost open region, in the control space if none is open.
 ghost use mathlib.Core.Path.{_≡_};
-ghost use Prim.Native.Nat.{_+_, _*_, _<_, _≤_};
+ghost use Prim.Native.Nat.{_+_, _<_, _≤_};
 ghost use lib.ListN.{length};
 ghost use Rattle.rules.specs.Regions.{regionAt};
 ghost use Rattle.layout.specs.Places.{Room, depthOf};
+ghost use Rattle.layout.specs.Cells.{headWord, mostFields, CellIn};
 ghost use Rattle.layout.specs.Words.{words};
 ghost use Rattle.promises.specs.Whole.{WholeFor};
 ghost use Rattle.promises.specs.NewCell.{Blank};
@@ -11,8 +12,8 @@ ghost use Rattle.pages.specs.Pages.{noteWords};
 ghost use Rattle.commands.specs.Does.{Does};
 ghost use Rattle.commands.specs.declared.Decoded.the-variants.{New};
 use crate::variables::write_var;
-use rules::Sizes;
 use rules::Answer;
+use rules::Sizes;
 
 // The region that thread t makes objects in.
 fn innermost(p: Sizes, tables: &[u32], t: usize) -> u32
@@ -26,8 +27,8 @@ fn innermost(p: Sizes, tables: &[u32], t: usize) -> u32
 
 // The words of a new object: null references and zero numbers, whatever the cell held.
 fn blank(cells: &mut [u32], cell: usize, references: usize, numbers: usize)
-    requires { ⌜ (cell < 16384) × (16 * cell + 16 ≤ length (now cells)) × (references + numbers ≤ 14) ⌝ }
-    ensures { λ r. ⌜ Blank (now (cells .entry)) cell (16 * references + numbers) (now (cells .exit)) ⌝ }
+    requires { ⌜ CellIn cell (length (now cells)) × (references + numbers ≤ mostFields) ⌝ }
+    ensures { λ r. ⌜ Blank (now (cells .entry)) cell (headWord references numbers) (now (cells .exit)) ⌝ }
 {
     let mut f: usize = 0;
     while f < layout::cells::FIELDS {
@@ -53,7 +54,7 @@ pub fn new_object(
 ) -> Answer
     requires { ⌜ WholeFor p (words (now cells) (now remember) (now tables)) ⌝ }
     requires { ⌜ noteWords ≤ length (now notes) ⌝ }
-    requires { ⌜ (t < p .threads) × (a < p .variables) × (b + c ≤ 14) ⌝ }
+    requires { ⌜ (t < p .threads) × (a < p .variables) × (b + c ≤ mostFields) ⌝ }
     ensures { λ r. ⌜ Does p (now (cells .entry)) (now (remember .entry)) (now (tables .entry)) (New t a b c) (now (cells .exit)) (now (remember .entry)) (now (tables .exit)) r ⌝ }
 {
     let region = innermost(p, tables, t);

@@ -17,8 +17,8 @@ use crate::variables::clear;
 use crate::variables::copy;
 use crate::variables::same;
 use crate::variables::start;
-use rules::Sizes;
 use rules::Command;
+use rules::Sizes;
 
 // Every command but an end is answered here; of an end, which changes nothing yet, the thread is given. The notes say where to look for
 // a page first (crate `pages`).

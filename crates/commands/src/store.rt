@@ -13,8 +13,8 @@ use crate::variables::read_var;
 use layout::Kind;
 use remember::crossing::cross;
 use remember::entries::remember_slot;
-use rules::Sizes;
 use rules::Answer;
+use rules::Sizes;
 
 // Reference v goes into reference f of x's object, unless there is no room for its entry (14).
 fn store_slot(

@@ -8,8 +8,8 @@ ghost use Rattle.promises.specs.Whole.{WholeFor};
 ghost use Rattle.commands.specs.ThreadVariables.{variable, variableAt};
 ghost use Rattle.commands.specs.Does.{Does};
 ghost use Rattle.commands.specs.declared.Decoded.the-variants.{Start, Copy, Clear, Same};
-use rules::Sizes;
 use rules::Answer;
+use rules::Sizes;
 
 // Variable a of thread t.
 pub fn read_var(p: Sizes, tables: &[u32], t: usize, a: usize) -> u32

@@ -14,12 +14,14 @@ use Rattle.rules.specs.Regions.{regionAt, threadOf, levelOf}
 use Rattle.laws.specs.RegionLaws.{thread-at, level-at}
 use Rattle.laws.specs.SameRules.{renamed}
 use Rattle.layout.specs.declared.Kind.the-variants.{Reference}
-use Rattle.layout.specs.Places.{Room, depthAt, varAt, ownerAt, usedAt, markAt, countAt, depthOf, varOf, ownerOf, usedOf, markOf, countOf, usedIn, slotIn, slotRegionIn, cellsWords, rememberWords, tablesWords, count-room, countsFrom, varsFrom}
+use Rattle.layout.specs.Places.{Room, depthAt, varAt, ownerAt, usedAt, markAt, countAt, depthOf, varOf, ownerOf, usedOf, markOf, countOf, usedIn, cellsWords, rememberWords, tablesWords, count-room, countsFrom, varsFrom}
 use Rattle.layout.specs.Cells.{fieldAt, fieldOf, refsOf, fieldCount, cellNamed, pageOf, cellOn, mostFields}
 use Rattle.layout.specs.Words.{Words, words, InUse, Used, depthIn, ownerIn, refCount}
 use Rattle.remember.specs.Crossing.{other, crossTo, crossesFrom}
+use Rattle.remember.specs.Entries as table
+use Rattle.remember.specs.Renewed.{renewed-exact}
 use Rattle.promises.specs.Slots.{region-of}
-use Rattle.promises.specs.Whole.{WholeFor, Open, objectsOn, EntryWhole, RememberWhole}
+use Rattle.promises.specs.Whole.{WholeFor, Open, objectsOn, RememberWhole}
 use Rattle.promises.specs.StandsFor.{SameFrom}
 use Rattle.promises.specs.Reading.{refs-few, used-home}
 use Rattle.promises.specs.Ends.{partOf, Outside, Survivor, Lives, outside-lives, survivor-lives, lives-how}
@@ -189,32 +191,25 @@ module _ {s : Sizes} {t k r : ℕ} {w w₁ : Words} (b : Begun s t k r w w₁) (
           ap (other g) (region-of s T′ (placed W d) (used-after d y) ∙ owner-end d y ∙ sym (region-of s T (placed W d) (placed-used (b .whole) (sends b) (b .marks) rm (F b p c) d y)))
 
   remember : RememberWhole s w′
-  remember =
-      record {
-        entries = record { room = U .low; named = named; once = U .once; rest = U .rest };
-        every = λ q l h.
-            let x = live q l h in
-            let n : crossAt s W′ T q ≢ 0 = λ z. omega (arith, cross-end q x) in
-            let y = U .every q (crossAt s W′ T q) (live-entry (high b) (b .whole) (sends b) (b .marks) rm (F b p c) R q x n) in
-            (y .0, y .1, y .2);
-      }
+  remember = renewed-exact (crossTo s W′ T′) (cellsWords s) named every U
     where
-      named : (i : ℕ) → i < usedIn M′ → EntryWhole s W′ M′ T′ i
-      named i l =
-          let q = U .named i l in
-          let y = entry-live (high b) (b .whole) (sends b) (b .marks) rm (F b p c) R (slotIn M′ i) (slotRegionIn (s .entries) M′ i) q in
+      kept : (x h : ℕ) → Entry s r (s .entries) (usedIn (w .remember)) W′ (w .remember) T x h → h ≢ 0
+      kept x h (inl q) = q .kept
+      kept x h (inr q) = q .kept
+
+      named : (x h : ℕ) → Entry s r (s .entries) (usedIn (w .remember)) W′ (w .remember) T x h → table.Entry (crossTo s W′ T′) (cellsWords s) x h
+      named x h q =
+          let y = entry-live (high b) (b .whole) (sends b) (b .marks) rm (F b p c) R x h q in
           let o = y .0 in
-          let e = cross-end (slotIn M′ i) o in
           let f = few (o .object) (o .field) (o .lives) (o .low) in
-          record {
-            slot = omega (arith, o .at, f, used-after (o .object) (o .lives) .page);
-            region = pos-of-ne-zero (kept (slotIn M′ i) (slotRegionIn (s .entries) M′ i) q);
-            right = e ∙ sym (y .1);
-          }
-        where
-          kept : (x h : ℕ) → Entry s r (s .entries) (usedIn (w .remember)) W′ (w .remember) T x h → h ≢ 0
-          kept x h (inl q) = q .kept
-          kept x h (inr q) = q .kept
+          record { slot = omega (arith, o .at, f, used-after (o .object) (o .lives) .page); region = pos-of-ne-zero (kept x h q); right = cross-end x o ∙ sym (y .1) }
+
+      every : (q : ℕ) → q < cellsWords s → 0 < crossTo s W′ T′ q → Entry s r (s .entries) (usedIn (w .remember)) W′ (w .remember) T q (crossTo s W′ T′ q)
+      every q l h =
+          let x = live q l h in
+          let e = cross-end q x in
+          subst (Entry s r (s .entries) (usedIn (w .remember)) W′ (w .remember) T q) (sym e)
+          (live-entry (high b) (b .whole) (sends b) (b .marks) rm (F b p c) R q x (λ z. omega (arith, e)))
 
   -- ---- every page belongs to the control space or an open region
 
@@ -310,14 +305,14 @@ module _ {s : Sizes} {t k r : ℕ} {w w₁ : Words} (b : Begun s t k r w w₁) (
         beyond =
             record {
               cells = same-from (cellsWords s) (w .cells) W′ (R .size ∙ F b p c .copying .cells-size ∙ b .marks .cells-length) far;
-              remember = same-from (rememberWords s) (w .remember) M′ (U .size) (λ x l. U .beyond x (omega arith));
+              remember = same-from (rememberWords s) (w .remember) M′ (U .edited .long) (U .edited .spare);
               tables =
                   same-from (tablesWords s) (w .tables) T′
                   (ended-size regular₂ (bounds b .0) (bounds b .1) (b .thread) Z ∙ Y .size ∙ F b p c .copying .tables-size ∙ b .marks .tables-length)
                   (λ x l. same-word x (λ z. omega (arith, count-room s, tables-ask b p c, b .thread)) (λ z. l));
             };
         sizes = λ j l. same-word j (λ z. omega arith) (λ z. omega arith);
-        entries = U .head;
+        entries = U .edited .size;
         variables = λ i l.
             let room = tables-ask b p c in
             ended-rest regular₂ (bounds b .0) (bounds b .1) (b .thread) Z (varAt s i) (λ z. omega (arith, room, b .thread)) (λ z. omega (arith, room)) (inl (omega (arith, room)))

@@ -7,9 +7,9 @@ ghost use Rattle.promises.specs.Whole.{WholeFor};
 ghost use Rattle.promises.specs.Promises.{DidHere, Ran, RunAsked, commandAt};
 ghost use Rattle.pages.specs.Pages.{noteWords};
 use commands::Obeyed;
-use rules::Sizes;
 use rules::Answer;
 use rules::Command;
+use rules::Sizes;
 
 // One command: what `commands` answers, or the end of an epoch.
 fn obey(

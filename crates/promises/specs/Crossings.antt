@@ -21,7 +21,7 @@ use Rattle.remember.specs.Crossing as cr
 use Rattle.remember.specs.Crossing.{other, regionOf, crossTo}
 use Rattle.promises.specs.Whole.{WholeFor, IsRef}
 use Rattle.promises.specs.StandsFor.{StandsFor}
-use Rattle.promises.specs.Remember.{every-counted}
+use Rattle.remember.specs.Counted.{every-counted}
 use Rattle.promises.specs.Reading.{used-home, used-owned, used-alive, alive-used, length-refs, getD-refs, refs-few}
 use Rattle.promises.specs.Agreed.{crossing-agree}
 
@@ -160,7 +160,7 @@ module _ (s : Sizes) (w : Words) (k : WholeFor s w) where
   unfolding one
   entries-crossing =
       let e : 256 * s .pages ≡ 16 * (16 * s .pages) = omega arith in
-      sym (every-counted s w (k .remember .entries) (k .remember))
+      sym (every-counted (crossTo s (w .cells) (w .tables)) (lp.cellsWords s) (s .entries) (w .remember) (k .remember))
       ∙ ap (count (cr.crossing s (w .cells) (w .tables))) e
       ∙ sum-blocks 16 (λ q. bit (positive (crossTo s (w .cells) (w .tables)) q)) (crossAt (graphOf s w)) (16 * s .pages) cell-cross
       ∙ sym (crossing-sum (graphOf s w))

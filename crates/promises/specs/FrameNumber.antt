@@ -22,7 +22,7 @@ use Rattle.promises.specs.Reading.{alive-used}
 use Rattle.promises.specs.Changes.{withCells, withObject, withField}
 use Rattle.promises.specs.Areas.{headWords, fieldWords, Only, from-refl}
 use Rattle.remember.specs.Entries.{exact-everywhere}
-use Rattle.promises.specs.Slots.{Slot, crossesTo, cross-same, exact-of, of-exact}
+use Rattle.promises.specs.Slots.{Slot, crossesTo, cross-same}
 use Rattle.promises.specs.FieldStore.{field-only, field-whole, object-stands, fields-kept, fields-set}
 
 module _ (s : Sizes) (w : Words) (k : WholeFor s w) (y b v : ℕ) (u : Used s w y) (low : b < numCount w y) where
@@ -60,7 +60,7 @@ module _ (s : Sizes) (w : Words) (k : WholeFor s w) (y b v : ℕ) (u : Used s w 
   pub number-whole : WholeFor s (withCells w C)
   number-whole =
       field-whole s w k y j v u within (w .remember) refl (from-refl _ _) (λ l. absurd (let z : ⊥ = omega arith in z))
-      (of-exact s (withCells w C) (exact-everywhere (crossTo s (w .cells) (w .tables)) (crossTo s C (w .tables)) (cellsWords s) (s .entries) (w .remember) numbers-cross (exact-of s w (k .remember))))
+      (exact-everywhere (crossTo s (w .cells) (w .tables)) (crossTo s C (w .tables)) (cellsWords s) (s .entries) (w .remember) numbers-cross (k .remember))
 
 pub number-stands : (s : Sizes) (w : Words) (h : Regioned) (cellOf : ℕ → ℕ) → StandsFor s w h cellOf → (x : ℕ) → Alive (graph h) x → (b v : ℕ) → b < numCount w (cellOf x)
     → Sound (withObject h x (withField Number (getD (h .heap .objects) x noObject) b v))

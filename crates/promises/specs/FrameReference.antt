@@ -33,7 +33,7 @@ use Rattle.promises.specs.Crossings.{ref-test, heap-entries}
 use Rattle.promises.specs.Changes.{withObject, withField}
 use Rattle.promises.specs.Areas.{fieldWords, entryWords, Only}
 use Rattle.remember.specs.Entries.{Edited}
-use Rattle.promises.specs.Slots.{Slot, crossesTo, field-slot, slot-cross, cross-stored, cross-elsewhere, exact-of, of-exact}
+use Rattle.promises.specs.Slots.{Slot, crossesTo, field-slot, slot-cross, cross-stored, cross-elsewhere}
 use Rattle.remember.specs.Remembering.{Remembered, NoRoom, remembered-exact, remembered-edited}
 use Rattle.promises.specs.FieldStore.{field-room, stored-only, field-whole, object-stands, fields-kept, fields-set}
 use Rattle.promises.specs.FrameVariable.{ref-to-cell}
@@ -98,10 +98,9 @@ module _ (s : Sizes) (w : Words) (k : WholeFor s w) (y f v : ℕ) (u : Used s w 
     pub reference-whole : IsRef s (w .tables) v → r ≡ 0 → WholeFor s (storedWords s w y f v m′)
     reference-whole ref z =
         field-whole s w k y f v u within m′ (edited .size) spare (λ l. ref)
-        (of-exact s (storedWords s w y f v m′)
         (remembered-exact (crossTo s (w .cells) (w .tables)) (crossTo s (set (w .cells) at v) (w .tables)) (cellsWords s) (s .entries) (w .remember) m′
-        (k .sized .remember) (exact-of s w (k .remember)) at _ _ r room
-        (cross-elsewhere s (w .cells) (w .tables) at v reference-slot) before after d z))
+        (k .sized .remember) (k .remember) at _ _ r room
+        (cross-elsewhere s (w .cells) (w .tables) at v reference-slot) before after d z)
 
 -- ---- of whatever heap the words stand for: reference f of object x becomes u, v in the words
 

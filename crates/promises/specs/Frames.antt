@@ -27,7 +27,7 @@ use Rattle.promises.specs.StandsFor.{StandsFor}
 use Rattle.promises.specs.Areas.{Area, sizeWords, depthWords, variableWords, ownerWords, usedWords, markWords, countWords, headWords, workWords, fieldWords, entryWords, among, Only, ObjectsStay}
 use Rattle.promises.specs.Changes.{withTables}
 use Rattle.remember.specs.Entries.{Exact, exact-everywhere}
-use Rattle.promises.specs.Slots.{Slot, slot-field, cross-same, exact-of, of-exact}
+use Rattle.promises.specs.Slots.{Slot, slot-field, cross-same}
 
 module _ {cs : List Area} {s : Sizes} {w w′ : Words} (o : Only cs s w w′) where
   -- ---- what is read
@@ -180,8 +180,8 @@ module _ {cs : List Area} {s : Sizes} {w w′ : Words} (o : Only cs s w w′) wh
   pub remember-frame : among entryWords cs ≡ false → among headWords cs ≡ false → among fieldWords cs ≡ false → among ownerWords cs ≡ false → among usedWords cs ≡ false
       → RememberWhole s w → RememberWhole s w′
   remember-frame n h f a u k =
-      of-exact s w′ (exact-everywhere (crossTo s (w .cells) (w .tables)) (crossTo s (w′ .cells) (w′ .tables)) (cellsWords s) (s .entries) (w′ .remember) (cross-frame h f a u)
-      (subst (Exact (crossTo s (w .cells) (w .tables)) (cellsWords s) (s .entries)) (sym (o .same entryWords n)) (exact-of s w k)))
+      exact-everywhere (crossTo s (w .cells) (w .tables)) (crossTo s (w′ .cells) (w′ .tables)) (cellsWords s) (s .entries) (w′ .remember) (cross-frame h f a u)
+      (subst (Exact (crossTo s (w .cells) (w .tables)) (cellsWords s) (s .entries)) (sym (o .same entryWords n)) k)
 
 -- ---- other depths and variables: the objects are as they were
 

@@ -10,7 +10,6 @@ pub mod Reading
 pub mod Agreed
 pub mod Here
 -- theorems: pages by objects, entries by crossing slots, and that only 01's open points are left free
-pub mod Remember
 pub mod OwnedPages
 pub mod Crossings
 pub mod Determined
@@ -20,7 +19,7 @@ pub mod Chained
 -- the questions in words, refusals, and a command that is done
 pub mod Questions
 pub mod NewPages
--- the remember table is exact for crossTo
+-- slots, and where they cross alike
 pub mod Slots
 -- areas and frames: words that differ in one area stand for the heap, changed likewise
 pub mod Changes

@@ -19,7 +19,7 @@ use Rattle.promises.specs.Changes.{withCells}
 use Rattle.promises.specs.Areas.{variableWords, ownerWords, usedWords, countWords, headWords, workWords, Only, only-trans, cells-only}
 use Rattle.promises.specs.Frames.{sized-frame, depths-frame, marks-frame, object-frame}
 use Rattle.remember.specs.Entries.{exact-everywhere}
-use Rattle.promises.specs.Slots.{Slot, crossesTo, region-of, slot-field, cross-same, exact-of, of-exact}
+use Rattle.promises.specs.Slots.{Slot, crossesTo, region-of, slot-field, cross-same}
 use Rattle.promises.specs.TakeCell.{Took, took-only, took-unused, still-used, used-split, ref-still, owner-used, took-pages, took-partial, took-counts}
 
 -- the words of a new object, the first of them given, and all other cells as they were
@@ -131,6 +131,5 @@ module _ (s : Sizes) (w : Words) (k : WholeFor s w) (g cell b d : ℕ) (t′ c�
         objects = objects;
         marks = marks-frame new-only refl (k .marks);
         works = works;
-        remember = of-exact s newWords
-            (exact-everywhere (crossTo s c t) (crossTo s c′ t′) (cellsWords s) (s .entries) (w .remember) cross-kept (exact-of s w (k .remember)));
+        remember = exact-everywhere (crossTo s c t) (crossTo s c′ t′) (cellsWords s) (s .entries) (w .remember) cross-kept (k .remember);
       }

@@ -16,7 +16,8 @@ use Rattle.laws.specs.GraphLaws.{Alive, Closed}
 use Rattle.layout.specs.declared.Kind.{Kind}
 use Rattle.layout.specs.declared.Kind.the-variants.{Reference}
 use Rattle.layout.specs.Places.{Room, room, depthAt, varAt, varOf, tablesWords, rememberWords, cellsWords, count-room, count-is, ownersFrom}
-use Rattle.layout.specs.Cells.{fieldAt, fieldOf, fieldCount, firstField, kindAt, kind-among, pageOf}
+use Rattle.layout.specs.Cells.{fieldAt, fieldOf, fieldCount, firstField, kindAt, kind-among, pageOf, CellIn}
+use Rattle.layout.specs.Cells as ly
 use Rattle.layout.specs.Words.{Words, depthIn, varIn, ownerIn, depthsIn, varsIn, headIn, refCount, fieldsIn, refsIn, homeIn, graphOf, depthsAt, homeAt, inUseAt, fieldsAt, varsAt, Used, InUse}
 use Rattle.promises.specs.Whole.{Sized, WholeFor}
 
@@ -157,3 +158,7 @@ module _ (s : Sizes) (w : Words) (k : WholeFor s w) where
 -- the tables have room for their arrays
 pub whole-room : (s : Sizes) (w : Words) → WholeFor s w → length (w .tables) < 2 ^ 63 → Room s (length (w .tables))
 whole-room s w k fits = room s (length (w .tables)) (k .sized .range) (k .sized .tables) fits
+
+-- the cells have room for those of every page
+pub cell-in : (s : Sizes) (w : Words) → WholeFor s w → (c : ℕ) → pageOf c < s .pages → CellIn c (length (w .cells))
+cell-in s w k c l = ly.cell-in (k .sized .range .pages-high) (k .sized .cells) l

@@ -13,10 +13,9 @@ use Rattle.lists.specs.Stores.{put, past}
 use Rattle.rules.specs.declared.Sizes.{Sizes}
 use Rattle.layout.specs.Places.{cellsWords, ownerOf, usedOf}
 use Rattle.layout.specs.Cells.{headAt, headOf, fieldAt, pageOf, placeOf, cellOf, wordOf}
-use Rattle.layout.specs.Words.{Words, InUse}
+use Rattle.layout.specs.Words.{InUse}
 use Rattle.remember.specs.Crossing.{other, regionOf, crossTo}
-use Rattle.promises.specs.Whole.{RememberWhole}
-use Rattle.remember.specs.Entries.{Exact, Elsewhere}
+use Rattle.remember.specs.Entries.{Elsewhere}
 
 -- the word at q is a reference field of a cell in use
 pub record Slot (p : Sizes) (c t : List ℕ) (q : ℕ) : Type 0 where
@@ -118,28 +117,3 @@ module _ (p : Sizes) (c t : List ℕ) (at x : ℕ) (s : Slot p c t at) where
   cross-elsewhere q d =
       ap₂ (λ (h y : ℕ). cond (ltb (placeOf (cellOf q)) (usedOf p t (pageOf (cellOf q)))) (cond (leb 2 (wordOf q)) (cond (ltb (wordOf q) (h / 16 + 2)) (crossesTo p t (cellOf q) y) 0) 0) 0)
       (head-past (cellOf q)) (past c at x q 0 d)
-
--- ---- the remember table is whole exactly if it is exact for crossTo
-
-module _ (s : Sizes) (w : Words) where
-  pub exact-of : RememberWhole s w → Exact (crossTo s (w .cells) (w .tables)) (cellsWords s) (s .entries) (w .remember)
-  exact-of r =
-      record {
-        room = r .entries .room;
-        named = λ i l. let e = r .entries .named i l in record { slot = e .slot; region = e .region; right = e .right };
-        once = r .entries .once;
-        rest = r .entries .rest;
-        every = r .every;
-      }
-
-  pub of-exact : Exact (crossTo s (w .cells) (w .tables)) (cellsWords s) (s .entries) (w .remember) → RememberWhole s w
-  of-exact r =
-      record {
-        entries = record {
-          room = r .room;
-          named = λ i l. let e = r .named i l in record { slot = e .slot; region = e .region; right = e .right };
-          once = r .once;
-          rest = r .rest;
-        };
-        every = r .every;
-      }

@@ -10,10 +10,11 @@ use Rattle.lists.specs.Counting.{sum}
 use Rattle.rules.specs.declared.Sizes.{Sizes}
 use Rattle.rules.specs.Terms.{InRange}
 use Rattle.rules.specs.Regions.{threadOf, levelOf, regions}
-use Rattle.layout.specs.Places.{cellsWords, rememberWords, tablesWords, varCount, depthOf, varOf, ownerOf, usedOf, markOf, countOf, usedIn, slotIn, slotRegionIn}
+use Rattle.layout.specs.Places.{cellsWords, rememberWords, tablesWords, varCount, depthOf, varOf, ownerOf, usedOf, markOf, countOf, slotIn, slotRegionIn}
 use Rattle.layout.specs.Cells.{headOf, workOf, fieldOf, refsOf, allFields, roomFor, Formed, cellNamed, pageCells}
 use Rattle.layout.specs.Words.{Words, InUse, Used, sizesIn, depthIn}
 use Rattle.remember.specs.Crossing.{crossTo}
+use Rattle.remember.specs.Entries.{Entry, Only, Exact}
 
 -- ---- the words that the conditions speak of
 
@@ -54,17 +55,12 @@ pub record ObjectWhole (s : Sizes) (c t : List ℕ) (k : ℕ) : Type 0 where
   pub references : (f : ℕ) → f < refsOf c k → IsRef s t (fieldOf c k f)
 
 -- entry i names a crossing slot, with the right region
-pub record EntryWhole (s : Sizes) (c m t : List ℕ) (i : ℕ) : Type 0 where
-  pub slot : slotIn m i < cellsWords s
-  pub region : 0 < slotRegionIn (s .entries) m i
-  pub right : crossTo s c t (slotIn m i) ≡ slotRegionIn (s .entries) m i
+abbrev pub EntryWhole : Sizes → List ℕ → List ℕ → List ℕ → ℕ → Type 0
+EntryWhole s c m t i = Entry (crossTo s c t) (cellsWords s) (slotIn m i) (slotRegionIn (s .entries) m i)
 
 -- the entries name crossing slots, each once, and those that are not used are zero
-pub record EntriesWhole (s : Sizes) (c m t : List ℕ) : Type 0 where
-  pub room : usedIn m ≤ s .entries
-  pub named : (i : ℕ) → i < usedIn m → EntryWhole s c m t i
-  pub once : (i j : ℕ) → i < j → j < usedIn m → slotIn m i ≡ slotIn m j → ⊥
-  pub rest : (i : ℕ) → usedIn m ≤ i → i < s .entries → (slotIn m i ≡ 0) × (slotRegionIn (s .entries) m i ≡ 0)
+abbrev pub EntriesWhole : Sizes → List ℕ → List ℕ → List ℕ → Type 0
+EntriesWhole s c m t = Only (Entry (crossTo s c t) (cellsWords s)) (s .entries) m
 
 -- ---- the conditions, in 01's order
 
@@ -103,10 +99,9 @@ MarksWhole s w = (page : ℕ) → page < s .pages → markOf s (w .tables) page 
 abbrev pub WorksWhole : Sizes → Words → Type 0
 WorksWhole s w = (k : ℕ) → Used s w k → workOf (w .cells) k ≡ 0
 
--- the remember table names every crossing slot
-pub record RememberWhole (s : Sizes) (w : Words) : Type 0 where
-  pub entries : EntriesWhole s (w .cells) (w .remember) (w .tables)
-  pub every : (q : ℕ) → q < cellsWords s → 0 < crossTo s (w .cells) (w .tables) q → (i : ℕ) × (i < usedIn (w .remember)) × (slotIn (w .remember) i ≡ q)
+-- the remember table names every crossing slot once, with the right region, and nothing else
+abbrev pub RememberWhole : Sizes → Words → Type 0
+RememberWhole s w = Exact (crossTo s (w .cells) (w .tables)) (cellsWords s) (s .entries) (w .remember)
 
 pub record WholeFor (s : Sizes) (w : Words) : Type 0 where
   pub sized : Sized s w

@@ -1,5 +1,5 @@
 -- A table of entries is exact for f: it names each number below n at which f is not 0, once, with what f gives, and nothing else.
--- What an edit of the table must be when f changes at one number. The remember table is exact for crossTo (Slots).
+-- What an edit of the table must be when f changes at one number. The remember table of whole words is exact for crossTo.
 use Prim.Native.Nat.{ℕ, _+_, _-_, _*_, _≤_, _<_}
 use mathlib.Core.List.{List}
 use mathlib.Core.Path.{_≡_, refl, sym, ap, subst, _∙_}
@@ -9,16 +9,25 @@ use native.Mathlib.Decide.{ℕ-discrete, decLt}
 use lib.ListN.{getD, length, set}
 use Rattle.layout.specs.Places.{usedIn, slotAt, slotIn, slotRegionAt, slotRegionIn}
 
+-- an entry of number `at` with region g is one of f's
 pub record Entry (f : ℕ → ℕ) (n at g : ℕ) : Type 0 where
   pub slot : at < n
   pub region : 0 < g
   pub right : f at ≡ g
 
-pub record Exact (f : ℕ → ℕ) (n N : ℕ) (m : List ℕ) : Type 0 where
+-- the entries are of G, each of another number, and those that are not used are zero
+pub record Only (G : ℕ → ℕ → Type 0) (N : ℕ) (m : List ℕ) : Type 0 where
   pub room : usedIn m ≤ N
-  pub named : (i : ℕ) → i < usedIn m → Entry f n (slotIn m i) (slotRegionIn N m i)
+  pub named : (i : ℕ) → i < usedIn m → G (slotIn m i) (slotRegionIn N m i)
   pub once : (i j : ℕ) → i < j → j < usedIn m → slotIn m i ≡ slotIn m j → ⊥
   pub rest : (i : ℕ) → usedIn m ≤ i → i < N → (slotIn m i ≡ 0) × (slotRegionIn N m i ≡ 0)
+
+pub only-like : {G H : ℕ → ℕ → Type 0} {N : ℕ} {m : List ℕ} → ((x g : ℕ) → G x g → H x g) → Only G N m → Only H N m
+only-like to o = record { room = o .room; named = λ i l. to _ _ (o .named i l); once = o .once; rest = o .rest }
+
+-- the entries are f's, and every one of f's is there
+pub record Exact (f : ℕ → ℕ) (n N : ℕ) (m : List ℕ) : Type 0 where
+  pub entries : Only (Entry f n) N m
   pub every : (q : ℕ) → q < n → 0 < f q → (i : ℕ) × (i < usedIn m) × (slotIn m i ≡ q)
 
 -- f and f′ differ at most at `at`
@@ -49,10 +58,7 @@ removed N m i =
 pub exact-everywhere : (f f′ : ℕ → ℕ) (n N : ℕ) (m : List ℕ) → ((q : ℕ) → q < n → f′ q ≡ f q) → Exact f n N m → Exact f′ n N m
 exact-everywhere f f′ n N m e x =
     record {
-      room = x .room;
-      named = λ i l. let k = x .named i l in record { slot = k .slot; region = k .region; right = e (slotIn m i) (k .slot) ∙ k .right };
-      once = x .once;
-      rest = x .rest;
+      entries = only-like (λ q g k. record { slot = k .slot; region = k .region; right = e q (k .slot) ∙ k .right }) (x .entries);
       every = λ q l h. x .every q l (subst (λ (v : ℕ). 0 < v) (e q l) h);
     }
 
@@ -67,15 +73,15 @@ module _ (f f′ : ℕ → ℕ) (n N : ℕ) (m : List ℕ) (x : Exact f n N m) (
 
   -- no entry names a number at which f is 0
   pub not-named : f at ≡ 0 → (i : ℕ) → i < usedIn m → slotIn m i ≡ at → ⊥
-  not-named z i l e = let k = x .named i l in omega (arith, k .region, k .right, ap f e)
+  not-named z i l e = let k = x .entries .named i l in omega (arith, k .region, k .right, ap f e)
 
   -- the entry of a number is the only one
   only : (i : ℕ) → i < usedIn m → slotIn m i ≡ at → (j : ℕ) → j < usedIn m → (j ≡ i → ⊥) → slotIn m j ≡ at → ⊥
   only i l e j k d q = go (decLt j i)
     where
       go : Dec (j < i) → ⊥
-      go (yes a) = x .once j i a l (q ∙ sym e)
-      go (no a) = x .once i j (omega arith) k (e ∙ sym q)
+      go (yes a) = x .entries .once j i a l (q ∙ sym e)
+      go (no a) = x .entries .once i j (omega arith) k (e ∙ sym q)
 
   module _ (m′ : List ℕ) (g : ℕ) (pos : 0 < g) (now : f′ at ≡ g) where
     -- reads of a table with one more entry
@@ -83,10 +89,12 @@ module _ (f f′ : ℕ → ℕ) (n N : ℕ) (m : List ℕ) (x : Exact f n N m) (
         → ((j : ℕ) → j < N → (j ≡ usedIn m → ⊥) → (slotIn m′ j ≡ slotIn m j) × (slotRegionIn N m′ j ≡ slotRegionIn N m j)) → Exact f′ n N m′
     exact-added z r u s t o =
         record {
-          room = omega arith;
-          named = λ i l. named i l (ℕ-discrete i (usedIn m));
-          once = λ i j l k e. once i j l k e (ℕ-discrete j (usedIn m));
-          rest = λ i l k. let e = o i k (λ (q : i ≡ usedIn m). omega arith) in let w = x .rest i (omega arith) k in (e .0 ∙ w .0, e .1 ∙ w .1);
+          entries = record {
+            room = omega arith;
+            named = λ i l. named i l (ℕ-discrete i (usedIn m));
+            once = λ i j l k e. once i j l k e (ℕ-discrete j (usedIn m));
+            rest = λ i l k. let e = o i k (λ (q : i ≡ usedIn m). omega arith) in let w = x .entries .rest i (omega arith) k in (e .0 ∙ w .0, e .1 ∙ w .1);
+          };
           every = λ q l h. every q l h (ℕ-discrete q at);
         }
       where
@@ -99,13 +107,13 @@ module _ (f f′ : ℕ → ℕ) (n N : ℕ) (m : List ℕ) (x : Exact f n N m) (
             (record { slot = subst (λ (a : ℕ). a < n) (sym s) low; region = omega arith; right = ap f′ s ∙ now ∙ sym t })
         named i l (no d) =
             let e = old i (omega arith) in
-            let k = x .named i (omega arith) in
+            let k = x .entries .named i (omega arith) in
             let b : slotIn m i ≡ at → ⊥ = not-named z i (omega arith) in
             record { slot = subst (λ (a : ℕ). a < n) (sym (e .0)) (k .slot); region = omega (arith, k .region, e .1); right = ap f′ (e .0) ∙ else′ (slotIn m i) b ∙ k .right ∙ sym (e .1) }
 
         once : (i j : ℕ) → i < j → j < usedIn m′ → slotIn m′ i ≡ slotIn m′ j → Dec (j ≡ usedIn m) → ⊥
         once i j l k e (yes q) = not-named z i (omega arith) (sym (old i (omega arith) .0) ∙ e ∙ ap (slotIn m′) q ∙ s)
-        once i j l k e (no d) = x .once i j l (omega arith) (sym (old i (omega arith) .0) ∙ e ∙ old j (omega arith) .0)
+        once i j l k e (no d) = x .entries .once i j l (omega arith) (sym (old i (omega arith) .0) ∙ e ∙ old j (omega arith) .0)
 
         every : (q : ℕ) → q < n → 0 < f′ q → Dec (q ≡ at) → (i : ℕ) × (i < usedIn m′) × (slotIn m′ i ≡ q)
         every q l h (yes e) = (usedIn m, omega arith, s ∙ sym e)
@@ -118,28 +126,30 @@ module _ (f f′ : ℕ → ℕ) (n N : ℕ) (m : List ℕ) (x : Exact f n N m) (
         → ((j : ℕ) → j < N → (j ≡ i → ⊥) → slotRegionIn N m′ j ≡ slotRegionIn N m j) → Exact f′ n N m′
     exact-changed i l e u t s o =
         record {
-          room = omega (arith, x .room);
-          named = λ j k. named j k (ℕ-discrete j i);
-          once = λ a b p q z. x .once a b p (omega arith) (sym (s a (omega (arith, x .room))) ∙ z ∙ s b (omega (arith, x .room)));
-          rest = λ j p q. let w = x .rest j (omega arith) q in (s j q ∙ w .0, o j q (λ (z : j ≡ i). omega arith) ∙ w .1);
+          entries = record {
+            room = omega (arith, x .entries .room);
+            named = λ j k. named j k (ℕ-discrete j i);
+            once = λ a b p q z. x .entries .once a b p (omega arith) (sym (s a (omega (arith, x .entries .room))) ∙ z ∙ s b (omega (arith, x .entries .room)));
+            rest = λ j p q. let w = x .entries .rest j (omega arith) q in (s j q ∙ w .0, o j q (λ (z : j ≡ i). omega arith) ∙ w .1);
+          };
           every = λ q k h. every q k h (ℕ-discrete q at);
         }
       where
         named : (j : ℕ) → j < usedIn m′ → Dec (j ≡ i) → Entry f′ n (slotIn m′ j) (slotRegionIn N m′ j)
         named j k (yes z) =
             subst (λ (k : ℕ). Entry f′ n (slotIn m′ k) (slotRegionIn N m′ k)) (sym z)
-            (let q = s i (omega (arith, x .room)) ∙ e in record { slot = subst (λ (a : ℕ). a < n) (sym q) low; region = omega arith; right = ap f′ q ∙ now ∙ sym t })
+            (let q = s i (omega (arith, x .entries .room)) ∙ e in record { slot = subst (λ (a : ℕ). a < n) (sym q) low; region = omega arith; right = ap f′ q ∙ now ∙ sym t })
         named j k (no d) =
-            let a = s j (omega (arith, x .room)) in
-            let b = o j (omega (arith, x .room)) d in
-            let w = x .named j (omega arith) in
+            let a = s j (omega (arith, x .entries .room)) in
+            let b = o j (omega (arith, x .entries .room)) d in
+            let w = x .entries .named j (omega arith) in
             record { slot = subst (λ (a : ℕ). a < n) (sym a) (w .slot); region = omega (arith, w .region); right = ap f′ a ∙ else′ (slotIn m j) (only i l e j (omega arith) d) ∙ w .right ∙ sym b }
 
         every : (q : ℕ) → q < n → 0 < f′ q → Dec (q ≡ at) → (j : ℕ) × (j < usedIn m′) × (slotIn m′ j ≡ q)
-        every q k h (yes z) = (i, omega arith, s i (omega (arith, x .room)) ∙ e ∙ sym z)
+        every q k h (yes z) = (i, omega arith, s i (omega (arith, x .entries .room)) ∙ e ∙ sym z)
         every q k h (no d) =
             let w = x .every q k (subst (λ (v : ℕ). 0 < v) (else′ q d) h) in
-            (w .0, omega (arith, w .1), s (w .0) (omega (arith, w .1, x .room)) ∙ w .2)
+            (w .0, omega (arith, w .1), s (w .0) (omega (arith, w .1, x .entries .room)) ∙ w .2)
 
   -- reads of a table without entry i: the last stands in its place
   module _ (m′ : List ℕ) (gone : f′ at ≡ 0) (i : ℕ) (l : i < usedIn m) (e : slotIn m i ≡ at) (u : usedIn m′ ≡ usedIn m - 1)
@@ -155,31 +165,33 @@ module _ (f f′ : ℕ → ℕ) (n N : ℕ) (m : List ℕ) (x : Exact f n N m) (
             let h = here (λ (q : i ≡ usedIn m - 1). omega arith) in
             (usedIn m - 1, omega arith, (λ (q : usedIn m - 1 ≡ i). omega arith), ap (slotIn m′) z ∙ h .0, ap (slotRegionIn N m′) z ∙ h .1, inr (z, refl))
         go (no d) =
-            let h = o j (omega (arith, x .room)) d (λ (q : j ≡ usedIn m - 1). omega arith) in
+            let h = o j (omega (arith, x .entries .room)) d (λ (q : j ≡ usedIn m - 1). omega arith) in
             (j, omega arith, d, h .0, h .1, inl refl)
 
     pub exact-removed : Exact f′ n N m′
     exact-removed =
         record {
-          room = omega (arith, x .room);
-          named = named;
-          once = once;
-          rest = λ j p q. rest j p q (ℕ-discrete j (usedIn m - 1));
+          entries = record {
+            room = omega (arith, x .entries .room);
+            named = named;
+            once = once;
+            rest = λ j p q. rest j p q (ℕ-discrete j (usedIn m - 1));
+          };
           every = every;
         }
       where
         named : (j : ℕ) → j < usedIn m′ → Entry f′ n (slotIn m′ j) (slotRegionIn N m′ j)
         named j p =
             let k = from j p in
-            let w = x .named (k .0) (k .1) in
+            let w = x .entries .named (k .0) (k .1) in
             record { slot = subst (λ (a : ℕ). a < n) (sym (k .3)) (w .slot); region = subst (λ (a : ℕ). 0 < a) (sym (k .4)) (w .region); right = ap f′ (k .3) ∙ else′ (slotIn m (k .0)) (only i l e (k .0) (k .1) (k .2)) ∙ w .right ∙ sym (k .4) }
 
         differ : (a b : ℕ) → a < usedIn m → b < usedIn m → (a ≡ b → ⊥) → slotIn m a ≡ slotIn m b → ⊥
         differ a b p q d z = go (decLt a b)
           where
             go : Dec (a < b) → ⊥
-            go (yes h) = x .once a b h q z
-            go (no h) = x .once b a (omega arith) p (sym z)
+            go (yes h) = x .entries .once a b h q z
+            go (no h) = x .entries .once b a (omega arith) p (sym z)
 
         apart : (j k a b : ℕ) → j < k → k < usedIn m - 1 → ((j ≡ a) ⊎ ((j ≡ i) × (a ≡ usedIn m - 1))) → ((k ≡ b) ⊎ ((k ≡ i) × (b ≡ usedIn m - 1))) → a ≡ b → ⊥
         apart j k a b p q (inl s) (inl t) z = omega arith
@@ -197,7 +209,7 @@ module _ (f f′ : ℕ → ℕ) (n N : ℕ) (m : List ℕ) (x : Exact f n N m) (
         rest j p q (yes z) = (ap (slotIn m′) z ∙ last .0, ap (slotRegionIn N m′) z ∙ last .1)
         rest j p q (no d) =
             let h = o j q (λ (z : j ≡ i). omega arith) d in
-            let w = x .rest j (omega arith) q in
+            let w = x .entries .rest j (omega arith) q in
             (h .0 ∙ w .0, h .1 ∙ w .1)
 
         every : (q : ℕ) → q < n → 0 < f′ q → (j : ℕ) × (j < usedIn m′) × (slotIn m′ j ≡ q)
@@ -216,4 +228,4 @@ module _ (f f′ : ℕ → ℕ) (n N : ℕ) (m : List ℕ) (x : Exact f n N m) (
                     (i, omega arith, here ne .0 ∙ ap (slotIn m) (sym z) ∙ b)
                 place j a b (no y) =
                     let ni : j ≡ i → ⊥ = λ (y : j ≡ i). d (sym b ∙ ap (slotIn m) y ∙ e) in
-                    (j, omega arith, o j (omega (arith, x .room)) ni y .0 ∙ b)
+                    (j, omega arith, o j (omega (arith, x .entries .room)) ni y .0 ∙ b)

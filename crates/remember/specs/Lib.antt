@@ -7,5 +7,8 @@ pub mod Remembering
 -- laws
 pub mod Crosses
 pub mod EntryEdits
+pub mod Counted
 pub mod Entering
 pub mod Stretches
+pub mod Filtered
+pub mod Renewed

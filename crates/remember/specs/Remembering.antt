@@ -22,8 +22,8 @@ pub remembered-exact : (f f′ : ℕ → ℕ) (n N : ℕ) (m m′ : List ℕ) �
 remembered-exact f f′ n N m m′ long x at was will r low e before after (kept a q z) o = subst (Exact f′ n N) (sym q) (exact-same f f′ n N m x at low e (after ∙ sym (before ∙ a)))
 remembered-exact f f′ n N m m′ long x at was will r low e before after (full a b h q z) o = absurd (let p : ⊥ = omega arith in p)
 remembered-exact f f′ n N m m′ long x at was will r low e before after (came a b h q z) o = subst (Exact f′ n N) (sym q) (added-exact N m long h at will f f′ n x low e b after (before ∙ a))
-remembered-exact f f′ n N m m′ long x at was will r low e before after (moved i a b h s q z) o = subst (Exact f′ n N) (sym q) (changed-exact N m long i h (x .room) will at f f′ n x low e b after s)
-remembered-exact f f′ n N m m′ long x at was will r low e before after (gone i a b h s q z) o = subst (Exact f′ n N) (sym q) (removed-exact N m long i h (x .room) at f f′ n x low e (after ∙ b) s)
+remembered-exact f f′ n N m m′ long x at was will r low e before after (moved i a b h s q z) o = subst (Exact f′ n N) (sym q) (changed-exact N m long i h (x .entries .room) will at f f′ n x low e b after s)
+remembered-exact f f′ n N m m′ long x at was will r low e before after (gone i a b h s q z) o = subst (Exact f′ n N) (sym q) (removed-exact N m long i h (x .entries .room) at f f′ n x low e (after ∙ b) s)
 
 module _ (N : ℕ) (m : List ℕ) (at was will : ℕ) (m′ : List ℕ) (r : ℕ) where
   -- no room: 14, and nothing is changed

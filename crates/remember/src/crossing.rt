@@ -31,7 +31,11 @@ pub fn region_named(p: Sizes, tables: &[u32], x: u32) -> u32
     if x == 0 {
         return 0;
     }
-    layout::tables::owner(p, tables, layout::cells::page_of(layout::cells::cell_named(x)))
+    layout::tables::owner(
+        p,
+        tables,
+        layout::cells::page_of(layout::cells::cell_named(x)),
+    )
 }
 
 // The region `to`, where it is another than `from` and not the control space, else 0.

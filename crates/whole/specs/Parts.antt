@@ -1,10 +1,11 @@
 -- The conditions of whole tables, in the parts that the functions check.
 use native.Mathlib.Omega.{arith}
 use Rattle.rules.specs.declared.Sizes.{Sizes}
-use Rattle.layout.specs.Places.{usedIn}
+use Rattle.layout.specs.Places.{cellsWords, usedIn}
 use Rattle.layout.specs.Words.{Words}
 use Rattle.promises.specs.Whole.{Sized, DepthsWhole, VariablesWhole, EntriesWhole, WholeFor}
-use Rattle.promises.specs.Remember.{every-counted, counted-every}
+use Rattle.remember.specs.Crossing.{crossTo}
+use Rattle.remember.specs.Counted.{every-counted, counted-every}
 use Rattle.whole.specs.Regions.{RegionsWhole}
 use Rattle.whole.specs.Crossing.{CellsCross}
 
@@ -24,7 +25,7 @@ module _ {s : Sizes} {w : Words} where
       working = k .works c u;
       fields = λ f l. record { reference = λ n. k .objects c u .references f n; rest = λ n. k .objects c u .rest f l n };
     };
-    crossing = every-counted s w (k .remember .entries) (k .remember);
+    crossing = every-counted (crossTo s (w .cells) (w .tables)) (cellsWords s) (s .entries) (w .remember) (k .remember);
   }
 
   -- as many entries as crossing slots, each naming another: then every crossing slot is named
@@ -44,5 +45,5 @@ module _ {s : Sizes} {w : Words} where
     };
     marks = λ page l. r .pages page l .mark;
     works = λ i u. k .whole i u .working;
-    remember = counted-every s w n (k .crossing);
+    remember = counted-every (crossTo s (w .cells) (w .tables)) (cellsWords s) (s .entries) (w .remember) n (k .crossing);
   }

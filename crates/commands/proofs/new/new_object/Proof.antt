@@ -1,10 +1,11 @@
 -- A page is found, its first unused cell taken and written, and the variable names it.
 use native.Mathlib.Omega.{arith}
-use Prim.Native.Nat.{ℕ, _+_, _*_, _<_, _≤_}
+use Prim.Native.Nat.{ℕ, _+_}
 use mathlib.Core.Path.{sym, ap, subst, _∙_}
 use lib.ListN.{length, set}
 use Rattle.promises.specs.Questions.{did-answer}
 use Rattle.layout.specs.Places.{Room}
+use Rattle.layout.specs.Cells.{CellIn}
 use Rattle.layout.specs.Words.{words}
 use Rattle.promises.specs.Reading.{whole-room}
 use Rattle.commands.specs.ThreadVariables.{variableAt}
@@ -69,7 +70,7 @@ take-cell-requires c κs =
     )
 
 -- the cell that was taken lies in the cells
-inside : (c : tie.After-take-cell) → (c .take-cell .result < 16384) × (16 * c .take-cell .result + 16 ≤ length (c .before .before .before .before .before .before .before .before .before .before .before .before .before .before .before .args .cells .now))
+inside : (c : tie.After-take-cell) → CellIn (c .take-cell .result) (length (c .before .before .before .before .before .before .before .before .before .before .before .before .before .before .before .args .cells .now))
 inside c =
     let args = c .before .before .before .before .before .before .before .before .before .before .before .before .before .before .before .args in
     let pre = c .before .before .before .before .before .before .before .before .before .before .before .before .before .before .before .pre in
@@ -82,7 +83,7 @@ inside c =
 blank-requires : tie.Need-blank-requires
 blank-requires c κs =
     let room = inside (c .before .before .before) in
-    (room .0, room .1, c .before .before .before .before .before .before .before .before .before .before .before .before .before .before .before .before .before .before .pre .1 .1 .2)
+    (room, c .before .before .before .before .before .before .before .before .before .before .before .before .before .before .before .before .before .before .pre .1 .1 .2)
 
 ref-to-requires : tie.Need-ref-to-requires
 ref-to-requires c κs = inside (c .before .before .before .before .before .before .before) .0

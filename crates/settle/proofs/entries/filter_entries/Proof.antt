@@ -2,14 +2,15 @@
 use native.Mathlib.Omega.{arith}
 use borrow.Author.Needs.{needs}
 use lib.ListN.{length, getD, set}
-use Prim.Native.Nat.{ℕ, _≤_, _+_, _-_}
+use Prim.Native.Nat.{ℕ, _≤_, _<_, _+_, _-_}
 use mathlib.Core.List.{List}
 use mathlib.Core.Logic.{⊎-elim}
 use mathlib.Core.Path.{_≡_, refl, sym, ap, ap₂, _∙_, subst, subst₂}
 use Rattle.layout.specs.Places.{slotIn, slotRegionIn}
 use Rattle.layout.specs.Words.{Names}
 use Rattle.remember.specs.Stretches.{Added}
-use Rattle.settle.specs.Entries.{newRegion, Stays, filter-start, filter-keep, filter-drop, read-slot, read-region}
+use Rattle.remember.specs.Filtered.{filter-start, filter-keep, filter-drop, read-slot, read-region}
+use Rattle.settle.specs.Entries.{newRegion, Stays}
 use Rattle.settle.proofs.entries.filter_entries.Statement.{statement}
 use Rattle.settle.proofs.entries.filter_entries.Tie as tie
 
@@ -22,7 +23,7 @@ abbrev μ-loop : tie.MeasureT-loop
     used - i
 
 loop-holds : tie.Need-loop-holds Inv-loop μ-loop
-loop-holds c = (omega arith, omega arith, refl, filter-start _ _ _ _ _ _)
+loop-holds c = (omega arith, omega arith, refl, filter-start _ _ _)
 
 slot-requires : tie.Need-slot-requires Inv-loop μ-loop
 slot-requires c κs =
@@ -44,7 +45,8 @@ new-region-requires c κs =
     let l = c .before .before .before .before .before .before .loop in
     let s = pre .0 in
     let lt = c .before .before .before .before .before .loop-test .taken in
-    let e : c .wide .result ≡ slotIn (a .remember .now) (l .i) = c .wide .ensures ∙ c .before .before .before .slot .ensures ∙ read-slot s lt (l .inv .1) (l .inv .3) in (
+    let few : l .i < a .p .entries = omega (arith, lt, s .few) in
+    let e : c .wide .result ≡ slotIn (a .remember .now) (l .i) = c .wide .ensures ∙ c .before .before .before .slot .ensures ∙ read-slot few (l .inv .1) (l .inv .3) in (
       omega (arith, s .low (l .i) lt),
       (
         s .cells-long,
@@ -52,7 +54,7 @@ new-region-requires c κs =
           pre .1,
           λ z.
               subst (λ (y : ℕ). Names (a .p) (getD (a .cells .now) y 0)) (sym e)
-              (s .names (l .i) lt (sym (c .before .region .ensures ∙ read-region s lt (l .inv .1) (l .inv .3)) ∙ z)),
+              (s .names (l .i) lt (sym (c .before .region .ensures ∙ read-region few (l .inv .1) (l .inv .3)) ∙ z)),
         ),
       ),
     )
@@ -89,6 +91,7 @@ loop-again c =
     let l = c .before .before .before .before .before .before .before .before .loop in
     let s = c .before .before .before .before .before .before .before .before .before .before .before .before .pre .0 in
     let lt = c .before .before .before .before .before .before .before .loop-test .taken in
+    let few : l .i < a .p .entries = omega (arith, lt, s .few) in
     let W : List ℕ = a .cells .now in
     let T : List ℕ = a .tables .now in
     let M : List ℕ = a .remember .now in
@@ -101,9 +104,9 @@ loop-again c =
     ⊎-elim
     (λ z.
     subst₂ P (sym (z .9 ∙ z .6 .ensures ∙ ap (λ (X : List ℕ). set X (2 + n + l .j) (v .result)) (z .2 .ensures))) (sym (z .10))
-    (let k = filter-keep s lt (l .inv .1) (l .inv .3) (slot .result) (v .result) (slot .ensures) ev (z .0 .taken) in (omega (arith, l .inv .1), k .size, k)))
+    (let k = filter-keep few (l .inv .1) (l .inv .3) (s .long) (λ k u. s .once k (l .i) u lt) (slot .result) (v .result) (slot .ensures) ev (z .0 .taken) in (omega (arith, l .inv .1), k .size, k)))
     (λ z. subst₂ P (sym (z .1)) (sym (z .2))
-    (let k = filter-drop s lt (l .inv .1) (l .inv .3) (v .result) ev (z .0 .left) in (omega (arith, l .inv .1), k .size, k)))
+    (let k = filter-drop few (l .inv .1) (l .inv .3) (v .result) ev (z .0 .left) in (omega (arith, l .inv .1), k .size, k)))
     (c .if1 .came) in
     (omega (arith, lt), h .0, h .1, h .2)
 
