@@ -17,7 +17,7 @@ use Rattle.rules.specs.Regions.{regionAt, regions}
 use Rattle.rules.specs.Graph.{pagesOf}
 use Rattle.rules.specs.Rules as ru
 use Rattle.laws.specs.RulesLaws.{region-pos}
-use Rattle.layout.specs.Places.{Room, depthAt, depthOf, ownerOf, markOf, usedIn, slotIn}
+use Rattle.layout.specs.Places.{Room, cellsWords, depthAt, depthOf, ownerOf, markOf, usedIn, slotIn}
 use Rattle.layout.specs.Cells.{pageOf, placeOf, workOf}
 use Rattle.layout.specs.Marks.{marked}
 use Rattle.layout.specs.Words.{Words, words, InUse, depthIn, heapOf}
