@@ -1,111 +1,31 @@
--- The end of the input: the report, and a line that has begun.
-use Prim.Native.Nat.{ℕ, _+_, _*_, _≤_, _<_}
+-- The end of the input: a line that has begun, and what is printed after the last one.
+use Prim.Native.Nat.{ℕ, _+_, _≤_}
 use native.Mathlib.Omega.{arith}
-use native.Mathlib.Numerals.{add-one}
 use mathlib.Core.Path.{_≡_, refl, sym, ap, ap₂, subst, _∙_}
-use mathlib.Core.List.{List, [], _∷_, _++_, append-assoc, append-nil}
+use mathlib.Core.List.{List, [], _∷_, _++_}
 use mathlib.Core.Bool.{Bool, true, false, cond, not}
-use lib.ListN.{length, getD, take, length-append}
-use lib.Seq.{take-suc, take-length}
+use lib.ListN.{length}
 use Rattle.lists.specs.Says.{true-not-false}
 use Rattle.rules.specs.declared.Sizes.{Sizes}
-use Rattle.rules.specs.Terms.{InRange}
-use Rattle.rules.specs.Graph.{crossing, freePages}
-use Rattle.rules.specs.Rules.{Regioned, graph}
-use Rattle.layout.specs.declared.Places.{Places}
-use Rattle.layout.specs.Places.{sizesAt, sizesOf, placesOf, usedIn}
+use Rattle.rules.specs.Rules.{Regioned}
 use Rattle.promises.specs.Words.{Words, words}
-use Rattle.promises.specs.Whole.{WholeFor}
 use Rattle.promises.specs.StandsFor.{StandsFor}
-use Rattle.promises.specs.Crossings.{heap-entries}
-use Rattle.report.specs.declared.Row.{Row}
-use Rattle.report.specs.Report.{rows, noRow}
-use Rattle.report.specs.Tables.{WholeTables, rowsIn, freeIn}
-use Rattle.report.specs.Stands.{rows-stand, free-stands}
-use Rattle.script.specs.declared.Line.{Line}
 use Rattle.script.specs.declared.Reader.{Reader}
-use Rattle.script.specs.declared.Last.{Last}
-use Rattle.script.specs.declared.Last.the-variants.{Nothing, Unended}
-use Rattle.script.specs.Reading.{endOf, fresh, lastOf}
+use Rattle.script.specs.Reading.{fresh}
 use Rattle.script.specs.TextLaws.{found}
-use Rattle.script.specs.Writing.{row, sizesLine, Put}
-use Rattle.script.specs.WritingLaws.{word-length, put-text, put-put}
+use Rattle.script.specs.Writing.{sizesLine, Put}
+use Rattle.script.specs.WritingLaws.{put-text, put-put}
 use Rattle.script.specs.Blocks.{stacked}
-use Rattle.script.specs.BlocksCases.{two-length, stack-none}
-use Rattle.session.specs.declared.Stage.{Stage}
-use Rattle.session.specs.declared.Stage.the-variants.{Opening, Running, Stopped}
-use Rattle.session.specs.declared.Fed.{Fed}
-use Rattle.session.specs.Printed.{Session, opening, running, stopped, rowText, rowsText, reported, takesAll, printsAll, endsWith}
-use Rattle.session.specs.Pieces.{Machine, feed, feedPrints, missing, closePrints}
-use Rattle.session.specs.Stages.{Here, Holds, stageOf, At, LinesChange, Feeds, begunAt, Closes}
-use Rattle.session.specs.Obeying.{stopped-takes, stopped-prints, changes-stopped}
-use Rattle.session.specs.Opening.{at-opening, at-running, at-stopped}
-
--- ---- rows
-
-rows-append : (xs ys : List Row) → rowsText (xs ++ ys) ≡ rowsText xs ++ rowsText ys
-unfolding rowsText
-rows-append [] ys = refl
-rows-append (x ∷ xs) ys = ap (λ (t : List ℕ). rowText x ++ t) (rows-append xs ys) ∙ sym (append-assoc (rowText x) (rowsText xs) (rowsText ys))
-
-four-length : (a b c d : ℕ) → a < 4294967296 → b < 4294967296 → c < 4294967296 → d < 4294967296 → length (row (a ∷ b ∷ c ∷ d ∷ [])) ≤ 44
-unfolding row
-four-length a b c d la lb lc ld = simp length-append (omega (arith, word-length a la, word-length b lb, word-length c lc, word-length d ld))
-
-pub rows-none : (rs : List Row) (out : List ℕ) (at : ℕ) → Put out at (rowsText (take 0 rs)) out at
-unfolding rowsText stacked
-rows-none rs out at = stack-none (λ i. []) out at
-
--- one row more
-module _ (rs : List Row) {out now after : List ℕ} {at end last : ℕ} (k : ℕ) {r : Row} (h : k < length rs) (e : r ≡ getD rs k noRow)
-    (fits : (r .thread < 4294967296) × (r .level < 4294967296) × (r .objects < 4294967296) × (r .pages < 4294967296))
-    (low : end ≤ at + 44 * k) (room : at + 44 * (k + 1) ≤ length out)
-    (p : Put out at (rowsText (take k rs)) now end) (q : Put now end (rowText r) after last) where
-  pub row-end : last ≤ at + 44 * (k + 1)
-  row-end = omega (arith, q .end-is, four-length (r .thread) (r .level) (r .objects) (r .pages) (fits .0) (fits .1) (fits .2) (fits .3))
-
-  pub row-next : Put out at (rowsText (take (k + 1) rs)) after last
-  unfolding rowsText
-  row-next =
-      put-text
-      (sym (ap (λ (n : ℕ). rowsText (take n rs)) (add-one k) ∙ ap rowsText (take-suc rs k noRow h) ∙ rows-append (take k rs) (getD rs k noRow ∷ [])
-      ∙ ap (λ (t : List ℕ). rowsText (take k rs) ++ t) (append-nil (rowText (getD rs k noRow)) ∙ ap rowText (sym e))))
-      (put-put (omega (arith, p .end-is, four-length (r .thread) (r .level) (r .objects) (r .pages) (fits .0) (fits .1) (fits .2) (fits .3))) p q)
-
-pub rows-all : {out after : List ℕ} {at end : ℕ} (rs : List Row) (k : ℕ) → k ≡ length rs → Put out at (rowsText (take k rs)) after end → Put out at (rowsText rs) after end
-rows-all rs k e p = put-text (ap (λ (n : ℕ). rowsText (take n rs)) e ∙ ap rowsText (take-length rs)) p
-
--- ---- the report
-
-pub here-range : {c m t : List ℕ} {z : Sizes} → Here (words c m t) → z ≡ sizesAt t → InRange z
-here-range here e = subst InRange (sym e) (here .stands .whole .sizes .range)
-
-module _ {c m t : List ℕ} {z : Sizes} {p : Places} (here : Here (words c m t)) (e : z ≡ sizesAt t) (f : p ≡ placesOf z) where
-  places-are : p ≡ placesOf (sizesAt t)
-  places-are = f ∙ ap placesOf e
-
-  pub here-whole : WholeTables p t
-  here-whole =
-      let k : WholeFor (sizesAt t) (words c m t) = subst (λ (s : Sizes). WholeFor s (words c m t)) (sym (here .stands .whole .sized)) (here .stands .whole) in
-      subst (λ (q : Places). WholeTables q t) (sym places-are) (record { places = refl; cells = c; remember = m; whole = k })
-
-  module _ {out middle after : List ℕ} {at i end free slots : ℕ} (room : at + 5698 ≤ length out)
-      (rows-put : Put out at (rowsText (rowsIn p t)) middle i) (low : i ≤ at + 5676) (fits : (free < 4294967296) × (slots < 4294967296))
-      (last : Put middle i (row (free ∷ slots ∷ [])) after end) where
-    pub report-end : end ≤ at + 5698
-    report-end = omega (arith, last .end-is, two-length free slots (fits .0) (fits .1))
-
-    pub report-put : free ≡ freeIn p t → slots ≡ usedIn m
-        → (s : Sizes) (h : Regioned) (cells : List ℕ) (cellOf : ℕ → ℕ) → StandsFor s (words cells m t) h cellOf → Put out at (reported s h) after end
-    unfolding reported
-    report-put free-is slots-are s h cells cellOf st =
-        let sized : sizesOf p ≡ s = ap sizesOf places-are ∙ st .whole .sized in
-        let here : StandsFor (sizesOf p) (words cells m t) h cellOf = subst (λ (x : Sizes). StandsFor x (words cells m t) h cellOf) (sym sized) st in
-        let rs : rowsIn p t ≡ rows s h = rows-stand p t (here-whole .places) cells m h cellOf here ∙ ap (λ (x : Sizes). rows x h) sized in
-        let fs : free ≡ freePages s (graph h) = free-is ∙ free-stands p t (here-whole .places) cells m h cellOf here ∙ ap (λ (x : Sizes). freePages x (graph h)) sized in
-        let ss : slots ≡ crossing (graph h) = slots-are ∙ heap-entries s (words cells m t) h cellOf st in
-        put-text (ap₂ (λ (a b : List ℕ). a ++ b) (ap rowsText rs) (ap₂ (λ (a b : ℕ). row (a ∷ b ∷ [])) fs ss))
-        (put-put (omega (arith, rows-put .end-is, two-length free slots (fits .0) (fits .1))) rows-put last)
+use Rattle.script.specs.BlocksCases.{stack-none}
+use Rattle.printed.specs.Printed.{Session, opening, running, stopped, reported, takesAll, printsAll, endsWith}
+use Rattle.printed.specs.Pieces.{Machine, feed, feedPrints, missing, closePrints, stopped-takes, stopped-prints}
+use Rattle.lines.specs.Lines.{Holds, LinesChange}
+use Rattle.lines.specs.Changes.{changes-stopped}
+use Rattle.stages.specs.declared.Stage.{Stage}
+use Rattle.stages.specs.declared.Stage.the-variants.{Opening, Running, Stopped}
+use Rattle.stages.specs.declared.Fed.{Fed}
+use Rattle.stages.specs.Stages.{stageOf, At, Feeds, begunAt, Closes}
+use Rattle.stages.specs.StagesLaws.{at-opening, at-running, at-stopped}
 
 -- ---- after the last line
 
@@ -129,22 +49,6 @@ unfolding endsWith stacked
 ends-stopped {out = out} {at = at} e m cells a = put-text (ap endsWith (sym (at-stopped a e))) (stack-none (λ i. []) out at)
 
 -- ---- a line that has begun
-
-pub told-nothing : (r : Reader) {l : Last} → l ≡ lastOf r → l ≡ Nothing → false ≡ not (fresh r)
-unfolding lastOf
-told-nothing r {l} e f = go (fresh r) (sym e ∙ f)
-  where
-    go : (t : Bool) → cond t Nothing (Unended (endOf r)) ≡ Nothing → false ≡ not t
-    go true q = refl
-    go false q = absurd (let z : _≡_ {A = ℕ} 0 1 = cc in let o : ⊥ = omega arith in o)
-
-pub told-unended : (r : Reader) {l : Last} {x : Line} → l ≡ lastOf r → l ≡ Unended x → true ≡ not (fresh r)
-unfolding lastOf
-told-unended r {l} {x} e f = go (fresh r) (sym e ∙ f)
-  where
-    go : (t : Bool) → cond t Nothing (Unended (endOf r)) ≡ Unended x → true ≡ not t
-    go true q = absurd (let z : _≡_ {A = ℕ} 0 1 = cc in let o : ⊥ = omega arith in o)
-    go false q = refl
 
 pub begun-missing : {m : Machine} {stage : Stage} {w : Words} → At m stage w → begunAt stage ≡ true → missing m ≡ 10 ∷ []
 unfolding stageOf

@@ -1,6 +1,6 @@
 -- Each stage ends in its own way.
 use native.Mathlib.Omega.{arith}
-use Rattle.session.specs.Opening.{placed-here}
+use Rattle.stages.specs.StagesLaws.{placed-here}
 use Rattle.session.specs.Closing.{ends-opening, ends-running, ends-stopped}
 use borrow.Author.Needs.{needs}
 use Rattle.session.proofs.close.put_end.Statement.{statement}

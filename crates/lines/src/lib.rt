@@ -1,0 +1,87 @@
+// What the lines of a script do to the lent tables, and what is printed from these (01, "The program"): the first line prepares them, a block
+// of command lines is answered, and the report is written. Text goes to a lent buffer.
+ghost use Prim.Native.Nat.{ℕ, _+_, _*_, _/_, _≤_};
+ghost use lib.ListN.{length, take};
+ghost use Rattle.rules.specs.declared.Sizes.{Sizes};
+ghost use Rattle.rules.specs.Rules.{Regioned};
+ghost use Rattle.promises.specs.Words.{words};
+ghost use Rattle.promises.specs.StandsFor.{StandsFor};
+ghost use mathlib.Core.List.{List};
+ghost use Rattle.report.specs.Tables.{WholeTables, rowsIn};
+ghost use Rattle.script.specs.Writing.{Put};
+ghost use Rattle.printed.specs.Printed.{rowsText, reported};
+ghost use Rattle.lines.specs.Lines.{Lent, Here, Answered, Counted, Begun};
+
+use layout::Places;
+use script::Line;
+
+// Prepares the tables if a line has sizes that are accepted.
+pub fn prepare(line: Line, cells: &mut [u32], remember: &mut [u32], tables: &mut [u32]) -> bool
+    requires { ⌜ Lent (words (now cells) (now remember) (now tables)) ⌝ }
+    ensures { λ r. ⌜ Begun line (words (now (cells .entry)) (now (remember .entry)) (now (tables .entry))) r (words (now (cells .exit)) (now (remember .exit)) (now (tables .exit))) ⌝ }
+{
+    match line {
+        Line::Numbers(threads, variables, depth, pages, entries) => {
+            let number = heap::prepare::taldreku_prepare(
+                threads,
+                variables,
+                depth,
+                pages,
+                entries,
+                cells,
+                remember,
+                tables,
+            );
+            number == 0
+        }
+        Line::Malformed => false,
+    }
+}
+
+// Obeys the commands in the first `used` words of a block, at most 1,639, and writes a line for each answer.
+pub fn answer(
+    cells: &mut [u32],
+    remember: &mut [u32],
+    tables: &mut [u32],
+    block: &[u32],
+    used: usize,
+    out: &mut [u8],
+) -> usize
+    requires { ⌜ Counted used (now block) (now out) ⌝ }
+    requires { ⌜ Here (words (now cells) (now remember) (now tables)) ⌝ }
+    ensures { λ r. ⌜ ((s : Sizes) (h : Regioned) → (cellOf : ℕ → ℕ) → StandsFor s (words (now (cells .entry)) (now (remember .entry)) (now (tables .entry))) h cellOf → Answered s h (take used (now (block .entry))) (words (now (cells .entry)) (now (remember .entry)) (now (tables .entry))) (now (out .entry)) r (now (out .exit)) (words (now (cells .exit)) (now (remember .exit)) (now (tables .exit)))) ⌝ }
+    ensures { λ r. ⌜ r ≤ 22 * (used / 5) ⌝ }
+{
+    let mut answers = [0u32; 3278];
+    heap::run::taldreku_run(cells, remember, tables, &block[..used], &mut answers);
+    script::blocks::put_answers(out, 0, &answers, used / 5)
+}
+
+// The report's rows from a position on: at most 129, of 44 bytes at most.
+fn put_rows(p: Places, tables: &[u32], out: &mut [u8], at: usize) -> usize
+    requires { ⌜ WholeTables p (now tables) × (at + 5676 ≤ length (now out)) ⌝ }
+    ensures { λ r. ⌜ Put (now (out .entry)) at (rowsText (rowsIn p (now (tables .entry)))) (now (out .exit)) r × (r ≤ at + 5676) ⌝ }
+{
+    let count = report::row_count(p, tables);
+    let mut end = at;
+    let mut k = 0;
+    while k < count {
+        let row = report::row_at(p, tables, k);
+        end = script::write::put_four(out, end, row.thread, row.level, row.objects, row.pages);
+        k += 1;
+    }
+    end
+}
+
+// The report, from a position on.
+pub fn put_report(remember: &[u32], tables: &[u32], out: &mut [u8], at: usize) -> usize
+    requires { ⌜ ((cells : List ℕ) × Here (words cells (now remember) (now tables))) ⌝ }
+    requires { ⌜ at + 5698 ≤ length (now out) ⌝ }
+    ensures { λ r. ⌜ ((s : Sizes) (h : Regioned) (cells : List ℕ) (cellOf : ℕ → ℕ) → StandsFor s (words cells (now (remember .entry)) (now (tables .entry))) h cellOf → Put (now (out .entry)) at (reported s h) (now (out .exit)) r) ⌝ }
+    ensures { λ r. ⌜ r ≤ at + 5698 ⌝ }
+{
+    let p = layout::find_places(layout::read_sizes(tables));
+    let end = put_rows(p, tables, out, at);
+    let free = report::free_pages(p, tables);
+    script::write::put_two(out, end, free, report::crossing_slots(remember))
+}
