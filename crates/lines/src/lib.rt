@@ -1,7 +1,6 @@
-// What the lines of a script do to the lent tables, and what is printed from these (01, "The program"): the first line prepares them, a block
-// of command lines is answered, and the report is written. Text goes to a lent buffer.
-ghost use Prim.Native.Nat.{ℕ, _+_, _*_, _/_, _≤_};
-ghost use lib.ListN.{length, take};
+// What a line of a script does to the lent tables (01, "The program"): the first one prepares them; and the report as lines of text.
+ghost use Prim.Native.Nat.{ℕ, _+_, _≤_};
+ghost use lib.ListN.{length};
 ghost use Rattle.rules.specs.declared.Sizes.{Sizes};
 ghost use Rattle.rules.specs.Rules.{Regioned};
 ghost use Rattle.promises.specs.Words.{words};
@@ -10,7 +9,7 @@ ghost use mathlib.Core.List.{List};
 ghost use Rattle.report.specs.Tables.{WholeTables, rowsIn};
 ghost use Rattle.script.specs.Writing.{Put};
 ghost use Rattle.printed.specs.Printed.{rowsText, reported};
-ghost use Rattle.lines.specs.Lines.{Lent, Here, Answered, Counted, Begun};
+ghost use Rattle.lines.specs.Lines.{Lent, Here, Begun};
 
 use layout::Places;
 use script::Line;
@@ -36,25 +35,6 @@ pub fn prepare(line: Line, cells: &mut [u32], remember: &mut [u32], tables: &mut
         }
         Line::Malformed => false,
     }
-}
-
-// Obeys the commands in the first `used` words of a block, at most 1,639, and writes a line for each answer.
-pub fn answer(
-    cells: &mut [u32],
-    remember: &mut [u32],
-    tables: &mut [u32],
-    block: &[u32],
-    used: usize,
-    out: &mut [u8],
-) -> usize
-    requires { ⌜ Counted used (now block) (now out) ⌝ }
-    requires { ⌜ Here (words (now cells) (now remember) (now tables)) ⌝ }
-    ensures { λ r. ⌜ ((s : Sizes) (h : Regioned) → (cellOf : ℕ → ℕ) → StandsFor s (words (now (cells .entry)) (now (remember .entry)) (now (tables .entry))) h cellOf → Answered s h (take used (now (block .entry))) (words (now (cells .entry)) (now (remember .entry)) (now (tables .entry))) (now (out .entry)) r (now (out .exit)) (words (now (cells .exit)) (now (remember .exit)) (now (tables .exit)))) ⌝ }
-    ensures { λ r. ⌜ r ≤ 22 * (used / 5) ⌝ }
-{
-    let mut answers = [0u32; 3278];
-    heap::run::taldreku_run(cells, remember, tables, &block[..used], &mut answers);
-    script::blocks::put_answers(out, 0, &answers, used / 5)
 }
 
 // The report's rows from a position on: at most 129, of 44 bytes at most.

@@ -37,7 +37,7 @@ fn begin(
         },
         Scan::Found(line, at) => {
             if lines::prepare(line, cells, remember, tables) {
-                stages::obey(
+                answers::obey(
                     script::read::start(),
                     2,
                     text,
@@ -73,7 +73,7 @@ pub fn feed(
 {
     match stage {
         Stage::Opening(reader) => begin(reader, text, cells, remember, tables, out),
-        Stage::Running(reader, line) => stages::obey(reader, line, text, 0, cells, remember, tables, out),
+        Stage::Running(reader, line) => answers::obey(reader, line, text, 0, cells, remember, tables, out),
         Stage::Stopped => Fed {
             stage: Stage::Stopped,
             length: 0,

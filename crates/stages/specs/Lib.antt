@@ -4,4 +4,3 @@
 pub mod Stages
 -- from what the callees promise to each stage
 pub mod StagesLaws
-pub mod Obeying

@@ -6,8 +6,10 @@ use mathlib.Core.Bool.{Bool, true, false, not}
 use lib.ListN.{length}
 use Rattle.promises.specs.Words.{Words}
 use Rattle.script.specs.declared.Reader.{Reader}
+use Rattle.script.specs.declared.Filled.{Filled}
+use Rattle.script.specs.declared.Filled.the-variants.{Done, Full, Broken}
 use Rattle.script.specs.Reading.{fresh}
-use Rattle.script.specs.Writing.{Put}
+use Rattle.script.specs.Writing.{Put, lineLine}
 use Rattle.script.specs.TextLaws.{found}
 use Rattle.printed.specs.Printed.{Session, opening, running, stopped}
 use Rattle.printed.specs.Pieces.{Machine, feed, feedPrints, missing, closePrints}
@@ -66,6 +68,14 @@ mostPrinted n = 22 * ((n + 9) / 10) + 26
 pub record Room (text out : List ℕ) : Type 0 where
   pub piece : length text ≤ 16384
   pub text-room : mostPrinted (length text) ≤ length out
+
+-- what was read of a piece takes the program on after its block, with line `next` to come and the answers ending at `end`: the piece has no
+-- other line, or a malformed one, which is told after the answers, or the block was full
+pub data Proceeds (x : Filled) (next end : ℕ) (out : List ℕ) (fed : Fed) (after : List ℕ) : Type 0 where
+  onward : {rest : Reader} {used : ℕ} → x ≡ Done rest used → fed ≡ record { stage = Running rest next; length = end } → after ≡ out
+      → Proceeds x next end out fed after
+  malformed : {used : ℕ} → x ≡ Broken used → fed .stage ≡ Stopped → Put out end (lineLine next) after (fed .length) → Proceeds x next end out fed after
+  filled : {from used : ℕ} → x ≡ Full from used → fed ≡ record { stage = Stopped; length = 0 } → after ≡ out → Proceeds x next end out fed after
 
 -- ---- the end of the input
 

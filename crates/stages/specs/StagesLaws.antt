@@ -1,10 +1,10 @@
 -- From the stage to the machine; where the program starts, and that each byte ends a line at most.
-use Prim.Native.Nat.{ℕ, _+_, _≤_, _<_}
+use Prim.Native.Nat.{ℕ, _+_, _/_, _≤_, _<_}
 use native.Mathlib.Omega.{arith}
 use mathlib.Core.Path.{_≡_, refl, sym, ap, ap₂, subst, _∙_}
 use mathlib.Core.List.{List, [], _∷_}
 use mathlib.Core.Bool.{Bool, true, false, cond, not}
-use lib.ListN.{length}
+use lib.ListN.{length, length-append}
 use Rattle.rules.specs.declared.Sizes.{Sizes}
 use Rattle.rules.specs.Rules.{Regioned, unused}
 use Rattle.promises.specs.Words.{Words}
@@ -13,16 +13,20 @@ use Rattle.script.specs.declared.Line.the-variants.{Numbers, Malformed}
 use Rattle.script.specs.declared.Reader.{Reader}
 use Rattle.script.specs.Reading.{started, endOf, fresh, lastOf}
 use Rattle.script.specs.TextLaws.{found}
+use Rattle.script.specs.declared.Filled.{Filled}
+use Rattle.script.specs.declared.Filled.the-variants.{Done, Broken}
 use Rattle.script.specs.declared.Last.{Last}
 use Rattle.script.specs.declared.Last.the-variants.{Nothing, Unended}
-use Rattle.script.specs.BlocksLaws.{length-found}
+use Rattle.script.specs.Writing.{row, lineLine, Put}
+use Rattle.script.specs.BlocksLaws.{usedIn, length-found}
+use Rattle.script.specs.WritingLaws.{decimal-length}
 use Rattle.printed.specs.Printed.{sizes, accepted, Session, opening, running, stopped, takes, takesAll}
 use Rattle.printed.specs.Pieces.{Machine, machine, feed, first}
 use Rattle.lines.specs.Lines.{Lent, Here, Holds}
 use Rattle.stages.specs.declared.Stage.{Stage}
 use Rattle.stages.specs.declared.Stage.the-variants.{Opening, Running, Stopped}
 use Rattle.stages.specs.declared.Fed.{Fed}
-use Rattle.stages.specs.Stages.{stageOf, At, Placed, lineOf, Feeds}
+use Rattle.stages.specs.Stages.{stageOf, At, Placed, lineOf, Feeds, Proceeds, onward, malformed}
 
 -- ---- from the stage to the machine
 
@@ -142,3 +146,20 @@ line-fed {m} {stage} {w} {w′} {bytes} {out} {after} {x} a f =
       line-takes-all ls (m .session),
       length-found bytes (m .reader),
     )
+
+-- a message is short
+pub line-length : (k : ℕ) → k < 18446744073709551616 → length (lineLine k) ≤ 26
+unfolding row
+line-length k h = simp length-append (omega (arith, decimal-length k h))
+
+-- ---- after a block
+
+-- with the number of the line to come as the code has it
+module _ {x : Filled} (line used : ℕ) (u : used ≡ usedIn x) {end : ℕ} {out : List ℕ} where
+  pub proceeds-on : {rest : Reader} {n : ℕ} → x ≡ Done rest n
+      → Proceeds x (line + usedIn x / 5) end out (record { stage = Running rest (line + used / 5); length = end }) out
+  proceeds-on {rest} e = onward e (ap {B = Fed} (λ (k : ℕ). record { stage = Running rest (line + k / 5); length = end }) u) refl
+
+  pub proceeds-broken : {n stop : ℕ} {after : List ℕ} → x ≡ Broken n → Put out end (lineLine (line + used / 5)) after stop
+      → Proceeds x (line + usedIn x / 5) end out (record { stage = Stopped; length = stop }) after
+  proceeds-broken {n} {stop} {after} e p = malformed e refl (subst (λ (k : ℕ). Put out end (lineLine (line + k / 5)) after stop) u p)

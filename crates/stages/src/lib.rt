@@ -1,18 +1,12 @@
-// Where the program stands between two pieces of its input (01, "The program"), and how the commands of a piece take it on.
+// Where the program stands between two pieces of its input (01, "The program"), and how it goes on after a block of commands.
 ghost use mathlib.Core.Path.{_≡_};
-ghost use Prim.Native.Nat.{_+_, _<_, _≤_};
-ghost use lib.ListN.{length, drop};
-ghost use Rattle.rules.specs.declared.Sizes.{Sizes};
-ghost use Rattle.rules.specs.Rules.{Regioned};
-ghost use Rattle.promises.specs.Words.{words};
+ghost use Prim.Native.Nat.{_+_, _/_, _<_, _≤_};
+ghost use mathlib.Core.Bool.{not};
+ghost use lib.ListN.{length};
 ghost use Rattle.script.specs.Reading.{started, fresh};
 ghost use Rattle.script.specs.BlocksLaws.{usedIn};
-ghost use mathlib.Core.Bool.{not};
-ghost use Rattle.printed.specs.Printed.{running};
-ghost use Rattle.printed.specs.Pieces.{machine};
-ghost use Rattle.lines.specs.Lines.{Lent, Here, Holds};
 ghost use Rattle.stages.specs.declared.Stage.the-variants.{Opening};
-ghost use Rattle.stages.specs.Stages.{stoppedAt, Feeds, mostPrinted, Room, begunAt};
+ghost use Rattle.stages.specs.Stages.{stoppedAt, begunAt, Proceeds};
 
 use script::Filled;
 use script::Last;
@@ -72,7 +66,7 @@ pub fn is_begun(stage: Stage) -> bool
 }
 
 // How many words a block holds.
-fn words_in(filled: Filled) -> usize
+pub fn words_in(filled: Filled) -> usize
     ensures { λ r. ⌜ r ≡ usedIn filled ⌝ }
 {
     match filled {
@@ -82,28 +76,13 @@ fn words_in(filled: Filled) -> usize
     }
 }
 
-// Obeys the commands of a piece from a position on, of which line `line` is the first, as one block. It has room for the 1,639 commands
-// that a piece of 16,384 bytes can have, and for another.
-pub fn obey(
-    reader: Reader,
-    line: u64,
-    text: &[u8],
-    from: usize,
-    cells: &mut [u32],
-    remember: &mut [u32],
-    tables: &mut [u32],
-    out: &mut [u8],
-) -> Fed
-    requires { ⌜ Room (now text) (now out) × (line + length (now text) < 18446744073709551616) ⌝ }
-    requires { ⌜ Here (words (now cells) (now remember) (now tables)) ⌝ }
-    ensures { λ x. ⌜ ((s : Sizes) (h : Regioned) → Holds (running s h line) (words (now (cells .entry)) (now (remember .entry)) (now (tables .entry))) → Lent (words (now (cells .entry)) (now (remember .entry)) (now (tables .entry))) → Feeds (machine reader (running s h line)) (drop from (now (text .entry))) (words (now (cells .entry)) (now (remember .entry)) (now (tables .entry))) (now (out .entry)) x (now (out .exit)) (words (now (cells .exit)) (now (remember .exit)) (now (tables .exit)))) ⌝ }
-    ensures { λ x. ⌜ x .length ≤ mostPrinted (length (now (text .entry))) ⌝ }
+// Takes the program on after a block, of which line `line` is the first and whose answers end at `end`: a malformed line is told after them.
+pub fn proceed(filled: Filled, line: u64, end: usize, out: &mut [u8]) -> Fed
+    requires { ⌜ (line + usedIn filled / 5 < 18446744073709551616) × (end + 26 ≤ length (now out)) ⌝ }
+    ensures { λ x. ⌜ Proceeds filled (line + usedIn filled / 5) end (now (out .entry)) x (now (out .exit)) ⌝ }
+    ensures { λ x. ⌜ x .length ≤ end + 26 ⌝ }
 {
-    let mut block = [0u32; 8200];
-    let filled = script::blocks::read_block(text, from, reader, &mut block, 0);
-    let used = words_in(filled);
-    let end = lines::answer(cells, remember, tables, &block, used, out);
-    let next = line + (used / 5) as u64;
+    let next = line + (words_in(filled) / 5) as u64;
     match filled {
         Filled::Done(rest, _) => Fed {
             stage: Stage::Running(rest, next),

@@ -1,9 +1,9 @@
 -- The commands of a piece: a block of them is obeyed, and the code is where the machine is.
 use Prim.Native.Nat.{ℕ, zero, suc, _+_, _*_, _/_, _%_, _≤_, _<_}
 use native.Mathlib.Omega.{arith}
-use mathlib.Core.Path.{_≡_, refl, sym, ap, ap₂, subst, _∙_}
+use mathlib.Core.Path.{_≡_, refl, sym, ap, ap₂, subst, subst₂, _∙_}
 use mathlib.Core.List.{List, [], _∷_, _++_, append-nil, map}
-use lib.ListN.{length, getD, take, drop, length-append, length-drop}
+use lib.ListN.{length, getD, take, drop, length-drop}
 use lib.Seq.{length-take-le, getD-take}
 use Rattle.lists.specs.Listed.{listed, listed-same, length-listed, map-listed}
 use Rattle.rules.specs.declared.Sizes.{Sizes}
@@ -18,18 +18,22 @@ use Rattle.script.specs.declared.Reader.{Reader}
 use Rattle.script.specs.declared.Filled.{Filled}
 use Rattle.script.specs.declared.Filled.the-variants.{Done, Full, Broken}
 use Rattle.script.specs.TextLaws.{found, left}
-use Rattle.script.specs.Writing.{Put, row, lineLine}
-use Rattle.script.specs.WritingLaws.{decimal-length, put-text, put-put}
+use Rattle.script.specs.Writing.{Put, lineLine}
+use Rattle.script.specs.WritingLaws.{put-text, put-put}
 use Rattle.script.specs.FewCommands.{commandCount, count-append, commands-few}
 use Rattle.script.specs.Blocks.{Took}
 use Rattle.script.specs.BlocksLaws as sb
 use Rattle.script.specs.BlocksLaws.{usedIn, Follow, block-reads, never-full}
 use Rattle.printed.specs.Printed.{Session, running, stopped, answerText, takes, prints, takesAll, printsAll}
 use Rattle.printed.specs.Pieces.{machine, feed, feedPrints, takes-append, prints-append, stopped-takes, stopped-prints}
-use Rattle.lines.specs.Lines.{Lent, Holds, LineChanges, LinesChange, Counted, asLine, Answered, answersText}
+use Rattle.lines.specs.Lines.{Lent, Holds, LineChanges, LinesChange}
 use Rattle.lines.specs.Changes.{changes-append, changes-stopped}
+use Rattle.stages.specs.declared.Stage.{Stage}
 use Rattle.stages.specs.declared.Stage.the-variants.{Running, Stopped}
-use Rattle.stages.specs.Stages.{stageOf, Feeds, Room}
+use Rattle.stages.specs.declared.Fed.{Fed}
+use Rattle.stages.specs.Stages.{stageOf, Feeds, Room, Proceeds, onward, malformed, filled}
+use Rattle.stages.specs.StagesLaws.{line-length}
+use Rattle.answers.specs.Answers.{Counted, asLine, Answered, answersText}
 
 module _ (s : Sizes) where
   takes-commands : (ms : List Command) (h : Regioned) (k : ℕ) → takesAll (running s h k) (map asLine ms) ≡ running s (ru.run s h ms .last) (k + length ms)
@@ -85,11 +89,6 @@ module _ (block : List ℕ) (used count : ℕ) (e : used ≡ 5 * count) (h : use
         b = word i (5 * i + 3) l (omega arith) q;
         c = word i (5 * i + 4) l (omega arith) q;
       }
-
--- a message is short
-pub line-length : (k : ℕ) → k < 18446744073709551616 → length (lineLine k) ≤ 26
-unfolding row
-line-length k h = simp length-append (omega (arith, decimal-length k h))
 
 -- what was read from a piece: so many commands, and what follows them
 pub record Read (r : Reader) (text : List ℕ) (from : ℕ) (x : Filled) (block : List ℕ) : Type 0 where
@@ -168,7 +167,7 @@ module _ {r : Reader} {text : List ℕ} {from : ℕ} {x : Filled} {block : List 
     changed c = subst (λ (ls : List Line). LinesChange (running s h line) ls w w′) (sym found-is) (changes-append (map asLine ms) (k .after) (running s h line) w w′ w′ (a .changes line) c)
 
     -- the piece ends inside a line, or between two
-    pub obeyed-all : {next : Reader} {n : ℕ} → x ≡ Done next n
+    obeyed-all : {next : Reader} {n : ℕ} → x ≡ Done next n
         → Feeds (machine r (running s h line)) bytes w out (record { stage = Running next (line + used / 5); length = end }) out′ w′
     unfolding feed feedPrints takesAll printsAll stageOf Holds Follow LinesChange
     obeyed-all {next} e =
@@ -185,7 +184,7 @@ module _ {r : Reader} {text : List ℕ} {from : ℕ} {x : Filled} {block : List 
         }
 
     -- a line is malformed
-    pub obeyed-broken : {n : ℕ} {last : List ℕ} {stop : ℕ} → x ≡ Broken n → end + 26 ≤ length out → line + used / 5 < 18446744073709551616 → Put out′ end (lineLine (line + used / 5)) last stop
+    obeyed-broken : {n : ℕ} {last : List ℕ} {stop : ℕ} → x ≡ Broken n → end + 26 ≤ length out → line + used / 5 < 18446744073709551616 → Put out′ end (lineLine (line + used / 5)) last stop
         → Feeds (machine r (running s h line)) bytes w out (record { stage = Stopped; length = stop }) last w′
     unfolding feed feedPrints takesAll printsAll takes prints stageOf Holds Follow LinesChange LineChanges
     obeyed-broken e l b p =
@@ -202,3 +201,14 @@ module _ {r : Reader} {text : List ℕ} {from : ℕ} {x : Filled} {block : List 
           changes = changed (subst (λ (ls : List Line). LinesChange (takesAll (running s h line) (map asLine ms)) ls w′ w′) (sym (f .1))
               (subst (λ (y : Session). LinesChange y (Malformed ∷ f .0) w′ w′) (sym (takes-commands s ms h line)) (w′, refl, changes-stopped (f .0) w′)));
         }
+
+    -- so the piece goes on as the code does after its block
+    pub obeyed : {fed : Fed} {last : List ℕ} → ((i n : ℕ) → x ≡ Full i n → ⊥) → end + 26 ≤ length out → line + used / 5 < 18446744073709551616
+        → Proceeds x (line + usedIn x / 5) end out′ fed last → Feeds (machine r (running s h line)) bytes w out fed last w′
+    obeyed {fed} {last} full l b p = go (subst (λ (n : ℕ). Proceeds x (line + n / 5) end out′ fed last) (sym u) p)
+      where
+        go : Proceeds x (line + used / 5) end out′ fed last → Feeds (machine r (running s h line)) bytes w out fed last w′
+        go (onward e f g) = subst₂ (λ (z : Fed) (o : List ℕ). Feeds (machine r (running s h line)) bytes w out z o w′) (sym f) (sym g) (obeyed-all e)
+        go (malformed e f q) =
+            subst (λ (z : Stage). Feeds (machine r (running s h line)) bytes w out (record { stage = z; length = fed .length }) last w′) (sym f) (obeyed-broken e l b q)
+        go (filled {from = i} {used = n} e f g) = absurd (full i n e)

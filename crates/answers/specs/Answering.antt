@@ -21,7 +21,8 @@ use Rattle.script.specs.Writing.{Put}
 use Rattle.script.specs.WritingLaws.{put-text}
 use Rattle.script.specs.Blocks.{stacked, answerLine}
 use Rattle.printed.specs.Printed.{running, answerText, takes}
-use Rattle.lines.specs.Lines.{Lent, LineChanges, LinesChange, Counted, asLine, Answered, answersText}
+use Rattle.lines.specs.Lines.{Lent, LineChanges, LinesChange}
+use Rattle.answers.specs.Answers.{Counted, asLine, Answered, answersText}
 
 answers-append : (as′ : List Answer) (a : Answer) → answersText (as′ ++ a ∷ []) ≡ answersText as′ ++ answerText a
 unfolding answersText

@@ -4,10 +4,10 @@ use mathlib.Core.Path.{sym}
 use native.Mathlib.Omega.{arith}
 use lib.ListN.{length-replicate}
 use lib.Seq.{length-take-le}
-use Rattle.lines.specs.Answering.{answered}
+use Rattle.answers.specs.Answering.{answered}
 use borrow.Author.Needs.{needs}
-use Rattle.lines.proofs.answer.Statement.{statement}
-use Rattle.lines.proofs.answer.Tie as tie
+use Rattle.answers.proofs.answer.Statement.{statement}
+use Rattle.answers.proofs.answer.Tie as tie
 
 slice-aggregate-taldreku-run : tie.Need-slice-aggregate-taldreku-run
 slice-aggregate-taldreku-run c = sym (length-take-le _ _ (c .before .before .before .before .before .before .before .before .before .pre .0 .words))
