@@ -1,3 +1,2 @@
--- From what the callees promise to a piece and to the end of the input.
+-- From what the callees promise to a piece.
 pub mod Opening
-pub mod Closing

@@ -8,8 +8,6 @@ ghost use Rattle.printed.specs.Pieces.{Machine, machine};
 ghost use Rattle.lines.specs.Lines.{Lent};
 ghost use Rattle.stages.specs.Stages.{At, Placed, lineOf, Feeds, mostPrinted, Room};
 
-pub mod close;
-
 use script::Reader;
 use script::Scan;
 use stages::Fed;

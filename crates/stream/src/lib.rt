@@ -91,7 +91,7 @@ fn advance(
     if piece.len() == 0 {
         Fed {
             stage: Stage::Stopped,
-            length: session::close::close(stage, cells, remember, tables, out),
+            length: closing::close(stage, cells, remember, tables, out),
         }
     } else {
         session::feed(stage, piece, cells, remember, tables, out)

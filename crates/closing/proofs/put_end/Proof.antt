@@ -1,10 +1,10 @@
 -- Each stage ends in its own way.
 use native.Mathlib.Omega.{arith}
 use Rattle.stages.specs.StagesLaws.{placed-here}
-use Rattle.session.specs.Closing.{ends-opening, ends-running, ends-stopped}
+use Rattle.closing.specs.Closing.{ends-opening, ends-running, ends-stopped}
 use borrow.Author.Needs.{needs}
-use Rattle.session.proofs.close.put_end.Statement.{statement}
-use Rattle.session.proofs.close.put_end.Tie as tie
+use Rattle.closing.proofs.put_end.Statement.{statement}
+use Rattle.closing.proofs.put_end.Tie as tie
 
 enum-told : tie.Need-enum-told
 enum-told c = search needs

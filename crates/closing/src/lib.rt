@@ -1,4 +1,4 @@
-// The end of the input: a line that has begun ends, and then comes the report or `sizes`.
+// The end of the input (01, "The program"): a line that has begun ends, and then comes the report or `sizes`.
 ghost use Prim.Native.Nat.{ℕ, _+_, _<_, _≤_};
 ghost use lib.ListN.{length};
 ghost use Rattle.promises.specs.Words.{words};
@@ -7,7 +7,7 @@ ghost use Rattle.script.specs.Writing.{Put};
 ghost use Rattle.printed.specs.Printed.{endsWith};
 ghost use Rattle.printed.specs.Pieces.{Machine};
 ghost use Rattle.stages.specs.Stages.{At, Placed, lineOf, Closes};
-use crate::feed;
+
 use stages::Stage;
 
 // What is printed at the end of the input, after the last line.
@@ -38,7 +38,7 @@ pub fn close(
     ensures { λ r. ⌜ r ≤ 5746 ⌝ }
 {
     if stages::is_begun(stage) {
-        let fed = feed(stage, b"\n", cells, remember, tables, out);
+        let fed = session::feed(stage, b"\n", cells, remember, tables, out);
         let rest = fed.stage;
         put_end(rest, remember, tables, out, fed.length)
     } else {

@@ -2,9 +2,9 @@
 use mathlib.Core.Path.{sym, _∙_}
 use borrow.Author.Needs.{needs}
 use native.Mathlib.Omega.{arith}
-use Rattle.session.specs.Closing.{closed-begun, closed-idle}
-use Rattle.session.proofs.close.close.Statement.{statement}
-use Rattle.session.proofs.close.close.Tie as tie
+use Rattle.closing.specs.Closing.{closed-begun, closed-idle}
+use Rattle.closing.proofs.close.Statement.{statement}
+use Rattle.closing.proofs.close.Tie as tie
 
 is-begun-requires : tie.Need-is-begun-requires
 is-begun-requires c κs = search needs
