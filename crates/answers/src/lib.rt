@@ -10,7 +10,6 @@ ghost use Rattle.printed.specs.Pieces.{machine};
 ghost use Rattle.lines.specs.Lines.{Lent, Here, Holds};
 ghost use Rattle.stages.specs.Stages.{Feeds, mostPrinted, Room};
 ghost use Rattle.answers.specs.Answers.{Answered, Counted};
-
 use script::Reader;
 use stages::Fed;
 

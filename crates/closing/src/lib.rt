@@ -7,7 +7,6 @@ ghost use Rattle.script.specs.Writing.{Put};
 ghost use Rattle.printed.specs.Printed.{endsWith};
 ghost use Rattle.printed.specs.Pieces.{Machine};
 ghost use Rattle.stages.specs.Stages.{At, Placed, lineOf, Closes};
-
 use stages::Stage;
 
 // What is printed at the end of the input, after the last line.

@@ -10,7 +10,6 @@ ghost use Rattle.report.specs.Tables.{WholeTables, rowsIn};
 ghost use Rattle.script.specs.Writing.{Put};
 ghost use Rattle.printed.specs.Printed.{rowsText, reported};
 ghost use Rattle.lines.specs.Lines.{Lent, Here, Begun};
-
 use layout::Places;
 use script::Line;
 

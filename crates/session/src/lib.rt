@@ -7,7 +7,6 @@ ghost use Rattle.printed.specs.Printed.{opening};
 ghost use Rattle.printed.specs.Pieces.{Machine, machine};
 ghost use Rattle.lines.specs.Lines.{Lent};
 ghost use Rattle.stages.specs.Stages.{At, Placed, lineOf, Feeds, mostPrinted, Room};
-
 use script::Reader;
 use script::Scan;
 use stages::Fed;
@@ -71,7 +70,16 @@ pub fn feed(
 {
     match stage {
         Stage::Opening(reader) => begin(reader, text, cells, remember, tables, out),
-        Stage::Running(reader, line) => answers::obey(reader, line, text, 0, cells, remember, tables, out),
+        Stage::Running(reader, line) => answers::obey(
+            reader,
+            line,
+            text,
+            0,
+            cells,
+            remember,
+            tables,
+            out,
+        ),
         Stage::Stopped => Fed {
             stage: Stage::Stopped,
             length: 0,

@@ -7,7 +7,6 @@ ghost use Rattle.script.specs.Reading.{started, fresh};
 ghost use Rattle.script.specs.BlocksLaws.{usedIn};
 ghost use Rattle.stages.specs.declared.Stage.the-variants.{Opening};
 ghost use Rattle.stages.specs.Stages.{stoppedAt, begunAt, Proceeds};
-
 use script::Filled;
 use script::Last;
 use script::Reader;
