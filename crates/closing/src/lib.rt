@@ -1,8 +1,8 @@
 // The end of the input (01, "The program"): a line that has begun ends, and then comes the report or `sizes`.
 ghost use Prim.Native.Nat.{ℕ, _+_, _<_, _≤_};
+ghost use mathlib.Core.List.{List};
 ghost use lib.ListN.{length};
 ghost use Rattle.promises.specs.Words.{words};
-ghost use mathlib.Core.List.{List};
 ghost use Rattle.script.specs.Writing.{Put};
 ghost use Rattle.printed.specs.Printed.{endsWith};
 ghost use Rattle.printed.specs.Pieces.{Machine};

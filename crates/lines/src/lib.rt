@@ -1,11 +1,11 @@
 // What a line of a script does to the lent tables (01, "The program"): the first one prepares them; and the report as lines of text.
 ghost use Prim.Native.Nat.{ℕ, _+_, _≤_};
+ghost use mathlib.Core.List.{List};
 ghost use lib.ListN.{length};
 ghost use Rattle.rules.specs.declared.Sizes.{Sizes};
 ghost use Rattle.rules.specs.Rules.{Regioned};
 ghost use Rattle.promises.specs.Words.{words};
 ghost use Rattle.promises.specs.StandsFor.{StandsFor};
-ghost use mathlib.Core.List.{List};
 ghost use Rattle.report.specs.Tables.{WholeTables, rowsIn};
 ghost use Rattle.script.specs.Writing.{Put};
 ghost use Rattle.printed.specs.Printed.{rowsText, reported};
