@@ -10,15 +10,14 @@ use Rattle.lists.specs.Says.{true-not-false}
 use Rattle.layout.specs.Words.{Words}
 use Rattle.script.specs.Reading.{started}
 use Rattle.script.specs.TextLaws.{found}
-use Rattle.session.specs.declared.Stage.{Stage}
-use Rattle.session.specs.declared.Stage.the-variants.{Opening, Running, Stopped}
-use Rattle.session.specs.declared.Fed.{Fed}
-use Rattle.session.specs.Printed.{Session, stopped, printsAll, takesAll, endsWith, printed}
-use Rattle.session.specs.Pieces.{Machine, first, feed, feedPrints, missing, closePrints, printsPieces, prints-all}
-use Rattle.session.specs.Stages.{Lent, At, lineOf, Feeds, Closes}
-use Rattle.session.specs.Obeying.{stopped-takes, stopped-prints}
-use Rattle.session.specs.Opening.{at-stopped}
-use Rattle.session.specs.Going.{at-first, line-fed}
+use Rattle.printed.specs.Printed.{Session, stopped, printsAll, takesAll, endsWith, printed}
+use Rattle.printed.specs.Pieces.{stopped-takes, stopped-prints, Machine, first, feed, feedPrints, missing, closePrints, printsPieces, prints-all}
+use Rattle.lines.specs.Lines.{Lent}
+use Rattle.stages.specs.declared.Stage.{Stage}
+use Rattle.stages.specs.declared.Stage.the-variants.{Opening, Running, Stopped}
+use Rattle.stages.specs.declared.Fed.{Fed}
+use Rattle.stages.specs.Stages.{At, lineOf, Feeds, Closes}
+use Rattle.stages.specs.StagesLaws.{at-stopped, at-first, line-fed}
 use Rattle.stream.specs.declared.Piece.{Piece}
 use Rattle.stream.specs.declared.Piece.the-variants.{Bytes}
 use Rattle.stream.specs.declared.Ending.{Ending}

@@ -5,12 +5,12 @@ use mathlib.Core.List.{List, [], _∷_, flatten}
 use mathlib.Core.Bool.{Bool, true, false, cond}
 use lib.ListN.{length, take}
 use Rattle.layout.specs.Words.{Words}
-use Rattle.session.specs.declared.Stage.{Stage}
-use Rattle.session.specs.declared.Stage.the-variants.{Stopped}
-use Rattle.session.specs.declared.Fed.{Fed}
-use Rattle.session.specs.Printed.{printed}
-use Rattle.session.specs.Pieces.{Machine}
-use Rattle.session.specs.Stages.{At, stoppedAt, Feeds, Closes}
+use Rattle.printed.specs.Printed.{printed}
+use Rattle.printed.specs.Pieces.{Machine}
+use Rattle.stages.specs.declared.Stage.{Stage}
+use Rattle.stages.specs.declared.Stage.the-variants.{Stopped}
+use Rattle.stages.specs.declared.Fed.{Fed}
+use Rattle.stages.specs.Stages.{At, stoppedAt, Feeds, Closes}
 use Rattle.stream.specs.declared.Piece.{Piece}
 use Rattle.stream.specs.declared.Piece.the-variants as piece
 use Rattle.stream.specs.declared.Ending.{Ending}

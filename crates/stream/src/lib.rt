@@ -4,13 +4,14 @@ ghost use Prim.Native.Nat.{_+_, _<_, _≤_};
 ghost use mathlib.Core.Path.{_≡_};
 ghost use lib.ListN.{length};
 ghost use Rattle.layout.specs.Words.{words};
-ghost use Rattle.session.specs.Pieces.{Machine};
-ghost use Rattle.session.specs.Stages.{Lent, At, Placed, lineOf};
+ghost use Rattle.printed.specs.Pieces.{Machine};
+ghost use Rattle.lines.specs.Lines.{Lent};
+ghost use Rattle.stages.specs.Stages.{At, Placed, lineOf};
 ghost use Rattle.stream.specs.Turns.{Buffers, within, endingOf, goesOn, Advances, Turned, Serves};
 use libc::STDERR_FILENO;
 use libc::STDOUT_FILENO;
-use session::Fed;
-use session::Stage;
+use stages::Fed;
+use stages::Stage;
 
 // A piece of the input: so many bytes, none at its end, or the read failed.
 pub enum Piece {
@@ -90,7 +91,7 @@ fn advance(
     if piece.len() == 0 {
         Fed {
             stage: Stage::Stopped,
-            length: session::close::close(stage, cells, remember, tables, out),
+            length: closing::close(stage, cells, remember, tables, out),
         }
     } else {
         session::feed(stage, piece, cells, remember, tables, out)
@@ -101,7 +102,7 @@ fn ending_at(stage: Stage, taken: bool) -> Ending
     ensures { λ r. ⌜ r ≡ endingOf stage taken ⌝ }
 {
     if taken {
-        if session::is_stopped(stage) {
+        if stages::is_stopped(stage) {
             Ending::Finished
         } else {
             Ending::More
@@ -173,7 +174,7 @@ fn go_on(
     requires { ⌜ Lent (words (now cells) (now remember) (now tables)) ⌝ }
     ensures { λ r. ⌜ Serves r ⌝ }
 {
-    let mut stage = session::start();
+    let mut stage = stages::start();
     let mut read: u64 = 0;
     let mut printed: u64 = 0;
     let mut turns: u64 = 281474976710656;

@@ -1,6 +1,7 @@
 -- Each stage goes its own way.
 use native.Mathlib.Omega.{arith}
-use Rattle.session.specs.Opening.{placed-here, line-low, fed-opening, fed-running, fed-stopped}
+use Rattle.stages.specs.StagesLaws.{placed-here, line-low}
+use Rattle.session.specs.Opening.{fed-opening, fed-running, fed-stopped}
 use borrow.Author.Needs.{needs}
 use Rattle.session.proofs.feed.Statement.{statement}
 use Rattle.session.proofs.feed.Tie as tie

@@ -6,7 +6,7 @@ use borrow.Author.Needs.{needs}
 use borrow.Author.Tests.{not-true, not-false}
 use native.Mathlib.Omega.{arith}
 use Rattle.layout.specs.Words.{words}
-use Rattle.session.specs.Stages.{lineOf}
+use Rattle.stages.specs.Stages.{lineOf}
 use Rattle.stream.specs.declared.Ending.the-variants.{More, Finished}
 use Rattle.stream.specs.Turns.{Buffers}
 use Rattle.stream.specs.Going.{FedSoFar, so-far-first, so-far-serves, turned-serves, turned-on, turned-line, turned-some}

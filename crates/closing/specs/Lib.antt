@@ -1,0 +1,2 @@
+-- From what the callees promise to the end of the input.
+pub mod Closing

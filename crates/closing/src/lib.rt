@@ -1,0 +1,46 @@
+// The end of the input (01, "The program"): a line that has begun ends, and then comes the report or `sizes`.
+ghost use Prim.Native.Nat.{ℕ, _+_, _<_, _≤_};
+ghost use mathlib.Core.List.{List};
+ghost use lib.ListN.{length};
+ghost use Rattle.layout.specs.Words.{words};
+ghost use Rattle.script.specs.Writing.{Put};
+ghost use Rattle.printed.specs.Printed.{endsWith};
+ghost use Rattle.printed.specs.Pieces.{Machine};
+ghost use Rattle.stages.specs.Stages.{At, Placed, lineOf, Closes};
+use stages::Stage;
+
+// What is printed at the end of the input, after the last line.
+fn put_end(stage: Stage, remember: &[u32], tables: &[u32], out: &mut [u8], at: usize) -> usize
+    requires { ⌜ ((cells : List ℕ) × Placed stage (words cells (now remember) (now tables))) ⌝ }
+    requires { ⌜ at + 5698 ≤ length (now out) ⌝ }
+    ensures { λ r. ⌜ ((m : Machine) (cells : List ℕ) → At m stage (words cells (now (remember .entry)) (now (tables .entry))) → Put (now (out .entry)) at (endsWith (m .session)) (now (out .exit)) r) ⌝ }
+    ensures { λ r. ⌜ r ≤ at + 5698 ⌝ }
+{
+    match stage {
+        Stage::Opening(_) => script::write::put_sizes(out, at),
+        Stage::Running(_, _) => lines::put_report(remember, tables, out, at),
+        Stage::Stopped => at,
+    }
+}
+
+// Ends the input: the missing line feed is put to a line that has begun, and what is printed then stands at the start of the buffer.
+pub fn close(
+    stage: Stage,
+    cells: &mut [u32],
+    remember: &mut [u32],
+    tables: &mut [u32],
+    out: &mut [u8],
+) -> usize
+    requires { ⌜ (5746 ≤ length (now out)) × (lineOf stage + 1 < 18446744073709551616) ⌝ }
+    requires { ⌜ Placed stage (words (now cells) (now remember) (now tables)) ⌝ }
+    ensures { λ r. ⌜ ((m : Machine) → At m stage (words (now (cells .entry)) (now (remember .entry)) (now (tables .entry))) → Closes m (words (now (cells .entry)) (now (remember .entry)) (now (tables .entry))) (now (out .entry)) r (now (out .exit)) (words (now (cells .exit)) (now (remember .exit)) (now (tables .exit)))) ⌝ }
+    ensures { λ r. ⌜ r ≤ 5746 ⌝ }
+{
+    if stages::is_begun(stage) {
+        let fed = session::feed(stage, b"\n", cells, remember, tables, out);
+        let rest = fed.stage;
+        put_end(rest, remember, tables, out, fed.length)
+    } else {
+        put_end(stage, remember, tables, out, 0)
+    }
+}

@@ -1,0 +1,87 @@
+-- The report as text: its rows, and the two figures.
+use Prim.Native.Nat.{ℕ, _+_, _*_, _≤_, _<_}
+use native.Mathlib.Omega.{arith}
+use native.Mathlib.Numerals.{add-one}
+use mathlib.Core.Path.{_≡_, refl, sym, ap, ap₂, subst, _∙_}
+use mathlib.Core.List.{List, [], _∷_, _++_, append-assoc, append-nil}
+use lib.ListN.{length, getD, take, length-append}
+use lib.Seq.{take-suc, take-length}
+use Rattle.rules.specs.declared.Sizes.{Sizes}
+use Rattle.rules.specs.Terms.{InRange}
+use Rattle.rules.specs.Graph.{crossing, freePages}
+use Rattle.rules.specs.Rules.{Regioned, graph}
+use Rattle.layout.specs.Places.{sizesAt, usedIn}
+use Rattle.layout.specs.Words.{words}
+use Rattle.promises.specs.Whole.{WholeFor}
+use Rattle.promises.specs.StandsFor.{StandsFor}
+use Rattle.promises.specs.Crossings.{heap-entries}
+use Rattle.report.specs.declared.Row.{Row}
+use Rattle.report.specs.Report.{rows, noRow}
+use Rattle.report.specs.Tables.{WholeTables, rowsIn, freeIn}
+use Rattle.report.specs.Stands.{rows-stand, free-stands}
+use Rattle.script.specs.Writing.{row, Put}
+use Rattle.script.specs.WritingLaws.{word-length, put-text, put-put}
+use Rattle.script.specs.Blocks.{stacked}
+use Rattle.script.specs.BlocksCases.{two-length, stack-none}
+use Rattle.printed.specs.Printed.{rowText, rowsText, reported}
+use Rattle.lines.specs.Lines.{Here}
+
+-- ---- rows
+
+rows-append : (xs ys : List Row) → rowsText (xs ++ ys) ≡ rowsText xs ++ rowsText ys
+unfolding rowsText
+rows-append [] ys = refl
+rows-append (x ∷ xs) ys = ap (λ (t : List ℕ). rowText x ++ t) (rows-append xs ys) ∙ sym (append-assoc (rowText x) (rowsText xs) (rowsText ys))
+
+four-length : (a b c d : ℕ) → a < 4294967296 → b < 4294967296 → c < 4294967296 → d < 4294967296 → length (row (a ∷ b ∷ c ∷ d ∷ [])) ≤ 44
+unfolding row
+four-length a b c d la lb lc ld = simp length-append (omega (arith, word-length a la, word-length b lb, word-length c lc, word-length d ld))
+
+pub rows-none : (rs : List Row) (out : List ℕ) (at : ℕ) → Put out at (rowsText (take 0 rs)) out at
+unfolding rowsText stacked
+rows-none rs out at = stack-none (λ i. []) out at
+
+-- one row more
+module _ (rs : List Row) {out now after : List ℕ} {at end last : ℕ} (k : ℕ) {r : Row} (h : k < length rs) (e : r ≡ getD rs k noRow)
+    (fits : (r .thread < 4294967296) × (r .level < 4294967296) × (r .objects < 4294967296) × (r .pages < 4294967296))
+    (low : end ≤ at + 44 * k) (room : at + 44 * (k + 1) ≤ length out)
+    (p : Put out at (rowsText (take k rs)) now end) (q : Put now end (rowText r) after last) where
+  pub row-end : last ≤ at + 44 * (k + 1)
+  row-end = omega (arith, q .end-is, four-length (r .thread) (r .level) (r .objects) (r .pages) (fits .0) (fits .1) (fits .2) (fits .3))
+
+  pub row-next : Put out at (rowsText (take (k + 1) rs)) after last
+  unfolding rowsText
+  row-next =
+      put-text
+      (sym (ap (λ (n : ℕ). rowsText (take n rs)) (add-one k) ∙ ap rowsText (take-suc rs k noRow h) ∙ rows-append (take k rs) (getD rs k noRow ∷ [])
+      ∙ ap (λ (t : List ℕ). rowsText (take k rs) ++ t) (append-nil (rowText (getD rs k noRow)) ∙ ap rowText (sym e))))
+      (put-put (omega (arith, p .end-is, four-length (r .thread) (r .level) (r .objects) (r .pages) (fits .0) (fits .1) (fits .2) (fits .3))) p q)
+
+pub rows-all : {out after : List ℕ} {at end : ℕ} (rs : List Row) (k : ℕ) → k ≡ length rs → Put out at (rowsText (take k rs)) after end → Put out at (rowsText rs) after end
+rows-all rs k e p = put-text (ap (λ (n : ℕ). rowsText (take n rs)) e ∙ ap rowsText (take-length rs)) p
+
+-- ---- the report
+
+module _ {c m t : List ℕ} {p : Sizes} (here : Here (words c m t)) (sizes-are : p ≡ sizesAt t) where
+  pub here-whole : WholeTables p t
+  here-whole =
+      let k : WholeFor (sizesAt t) (words c m t) = subst (λ (s : Sizes). WholeFor s (words c m t)) (sym (here .stands .whole .sized .sizes)) (here .stands .whole) in
+      subst (λ (q : Sizes). WholeTables q t) (sym sizes-are) (record { cells = c; remember = m; whole = k })
+
+  module _ {out middle after : List ℕ} {at i end free slots : ℕ} (room : at + 5698 ≤ length out)
+      (rows-put : Put out at (rowsText (rowsIn p t)) middle i) (low : i ≤ at + 5676) (fits : (free < 4294967296) × (slots < 4294967296))
+      (last : Put middle i (row (free ∷ slots ∷ [])) after end) where
+    pub report-end : end ≤ at + 5698
+    report-end = omega (arith, last .end-is, two-length free slots (fits .0) (fits .1))
+
+    pub report-put : free ≡ freeIn p t → slots ≡ usedIn m
+        → (s : Sizes) (h : Regioned) (cells : List ℕ) (cellOf : ℕ → ℕ) → StandsFor s (words cells m t) h cellOf → Put out at (reported s h) after end
+    unfolding reported
+    report-put free-is slots-are s h cells cellOf st =
+        let sized : p ≡ s = sizes-are ∙ st .whole .sized .sizes in
+        let here : StandsFor p (words cells m t) h cellOf = subst (λ (x : Sizes). StandsFor x (words cells m t) h cellOf) (sym sized) st in
+        let rs : rowsIn p t ≡ rows s h = rows-stand p t cells m h cellOf here ∙ ap (λ (x : Sizes). rows x h) sized in
+        let fs : free ≡ freePages s (graph h) = free-is ∙ free-stands p t cells m h cellOf here ∙ ap (λ (x : Sizes). freePages x (graph h)) sized in
+        let ss : slots ≡ crossing (graph h) = slots-are ∙ heap-entries s (words cells m t) h cellOf st in
+        put-text (ap₂ (λ (a b : List ℕ). a ++ b) (ap rowsText rs) (ap₂ (λ (a b : ℕ). row (a ∷ b ∷ [])) fs ss))
+        (put-put (omega (arith, rows-put .end-is, two-length free slots (fits .0) (fits .1))) rows-put last)
