@@ -13,7 +13,7 @@ use Rattle.rules.specs.Rules.{Regioned}
 use Rattle.layout.specs.declared.Kind.{Kind}
 use Rattle.layout.specs.declared.Kind.the-variants.{Reference, Number}
 use Rattle.layout.specs.Places.{sizesAt, depthAt, varAt, depthOf, varOf, ownerOf, usedOf}
-use Rattle.layout.specs.Cells.{headOf, fieldAt, fieldCount, firstField, cellNamed, pageOf, placeOf}
+use Rattle.layout.specs.Cells.{headOf, fieldAt, fieldCount, firstField, cellNamed, pageOf, placeOf, firstOn}
 
 pub record Words : Type 0 where
   pub cells : List ℕ
@@ -109,7 +109,7 @@ Names s x = x ≢ 0 → pageOf (cellNamed x) < s .pages
 -- ---- the graph of the words: an object is a cell in use
 
 abbrev pub cellCount : Sizes → ℕ
-cellCount s = 16 * s .pages
+cellCount s = firstOn (s .pages)
 
 abbrev pub graphOf : Sizes → Words → Graph
 graphOf s w = record { count = cellCount s; home = homeIn s w; refs = refsIn w; vars = varsIn s w }
