@@ -16,7 +16,8 @@ use Rattle.layout.specs.Cells.{fieldAt, fieldOf, refsOf, fieldCount, pageOf, ce
 use Rattle.layout.specs.Words.{Words, InUse, Used, ownerIn, refCount}
 use Rattle.remember.specs.Crossing.{other, regionOf, crossTo, crossesFrom}
 use Rattle.remember.specs.Crosses.{Into, crosses-into, into-crosses}
-use Rattle.promises.specs.Slots.{Slot, slot-cross, cross-slot, slot-field, field-slot}
+use Rattle.layout.specs.Objects.{field-slot}
+use Rattle.remember.specs.Crosses.{slot-cross, cross-slot}
 use Rattle.promises.specs.Whole.{WholeFor}
 use Rattle.promises.specs.Reading.{refs-few}
 use Rattle.promises.specs.Ends.{partOf, Outside, Survivor, Lives, outside-lives, survivor-lives, lives-how}
@@ -52,9 +53,8 @@ module _ (s : Sizes) (c t : List ℕ) where
 
   pub field-cross : (x : ℕ) → x < cellsWords s → 0 < crossTo s c t x → FieldOf s c t x
   field-cross x l h =
-      let q = cross-slot s c t x l h in
-      let f = slot-field s c t x q in
-      record { object = cellOf x; field = wordOf x - 2; used = q .used; low = f .1; few = omega (arith, q .field); at = sym (f .0) }
+      let q = cross-slot s c t x h in
+      record { object = q .object; field = q .field; used = q .begins; low = q .low; few = q .room; at = sym (q .at) }
 
 -- ---- whole words
 

@@ -19,7 +19,7 @@ pub data Pushes (p : Sizes) (r : ℕ) (P : ℕ → Type 0) (W T : List ℕ) (top
 
 -- x is one of the references
 pub record Named (p : Sizes) (T : List ℕ) (ref : ℕ → ℕ) (n x : ℕ) : Type 0 where
-  pub is-ref : IsRef p T x
+  pub is-ref : IsRef p W T x
   pub field : ℕ
   pub counted : field < n
   pub names : ref field ≡ x
@@ -59,19 +59,19 @@ pushing-start p r ref n W T top = record { pushes = none; mono = λ d h. h; clos
 
 -- a turn, of the reference x that the code read
 module _ {p : Sizes} {r : ℕ} {ref : ℕ → ℕ} {n : ℕ} {W T : List ℕ} {top : ℕ} {W′ T′ : List ℕ} {top′ f : ℕ} (s : Shaped p W T)
-    (used : (k : ℕ) → k < n → IsRef p T (ref k)) (lt : f < n) (h : Pushing p r ref n W T top W′ T′ top′ f) where
+    (used : (k : ℕ) → k < n → IsRef p W T (ref k)) (lt : f < n) (h : Pushing p r ref n W T top W′ T′ top′ f) where
   pub pushing-kept : Kept p W T W′ T′
   pushing-kept = pushes-kept ref n s (h .pushes)
 
   pub pushing-shaped : Shaped p W′ T′
   pushing-shaped = kept-shaped pushing-kept s
 
-  pub ref-read : (x : ℕ) → x ≡ ref f → IsRef p T′ x
-  ref-read x e = subst (IsRef p T′) (sym e) (λ l. kept-in-use pushing-kept (s .room) (ref f - 1) (used f lt l))
+  pub ref-read : (x : ℕ) → x ≡ ref f → IsRef p W′ T′ x
+  ref-read x e = subst (IsRef p W′ T′) (sym e) (λ l. kept-in-use pushing-kept (s .room) (ref f - 1) (used f lt l))
 
   pub push-read : (x : ℕ) → x ≡ ref f → {W″ T″ : List ℕ} {top″ : ℕ} → Pushed p r W′ T′ top′ x W″ T″ top″ → Pushing p r ref n W T top W″ T″ top″ (f + 1)
   push-read x e {W″} {T″} q =
-      let u : IsRef p T x = subst (IsRef p T) (sym e) (used f lt) in
+      let u : IsRef p W T x = subst (IsRef p W T) (sym e) (used f lt) in
       record {
         pushes = more (h .pushes) (record { is-ref = u; field = f; counted = lt; names = sym e }) q;
         mono = λ d y. pushed-mono pushing-shaped (ref-read x e) q d (h .mono d y);
