@@ -39,10 +39,10 @@ module _ {cs : List Area} {s : Sizes} {w w′ : Words} (o : Only cs s w w′) wh
 
     module _ (h : among headWords cs ≡ false) where
       pub begins-frame : (k : ℕ) → BeginsIn s w k → BeginsIn s w′ k
-      begins-frame k b = begins-same s (w .cells) (w .tables) (w′ .cells) (w′ .tables) k (o .same usedWords u (pageOf k) (begins-page _ _ _ k b)) (heads h (pageOf k)) b
+      begins-frame k b = begins-same s (w .cells) (w .tables) (w′ .cells) (w′ .tables) k (o .same usedWords u (pageOf k) (begins-page s (w .cells) (w .tables) k b)) (heads h (pageOf k)) b
 
       pub begins-was : (k : ℕ) → BeginsIn s w′ k → BeginsIn s w k
-      begins-was k b = begins-back s (w .cells) (w .tables) (w′ .cells) (w′ .tables) k (o .same usedWords u (pageOf k) (begins-page _ _ _ k b)) (heads h (pageOf k)) b
+      begins-was k b = begins-back s (w .cells) (w .tables) (w′ .cells) (w′ .tables) k (o .same usedWords u (pageOf k) (begins-page s (w′ .cells) (w′ .tables) k b)) (heads h (pageOf k)) b
 
       pub ref-frame : (x : ℕ) → IsRef s (w .cells) (w .tables) x → IsRef s (w′ .cells) (w′ .tables) x
       ref-frame x r z = begins-frame (cellNamed x) (r z)
@@ -66,7 +66,7 @@ module _ {cs : List Area} {s : Sizes} {w w′ : Words} (o : Only cs s w w′) wh
       where
         go : Dec (BeginsIn s w k) → cond (beginsAt s (w′ .cells) (w′ .tables) k) (ownerIn s w′ (pageOf k)) 0 ≡ cond (beginsAt s (w .cells) (w .tables) k) (ownerIn s w (pageOf k)) 0
         go (yes b) =
-            ap₂ (λ (x : Bool) (r : ℕ). cond x r 0) (begins-true s (w′ .cells) (w′ .tables) k (begins-frame u h k b)) (o .same ownerWords a (pageOf k) (begins-page _ _ _ k b))
+            ap₂ (λ (x : Bool) (r : ℕ). cond x r 0) (begins-true s (w′ .cells) (w′ .tables) k (begins-frame u h k b)) (o .same ownerWords a (pageOf k) (begins-page s (w .cells) (w .tables) k b))
             ∙ sym (ap (λ (x : Bool). cond x (ownerIn s w (pageOf k)) 0) (begins-true s (w .cells) (w .tables) k b))
         go (no n) =
             ap (λ (x : Bool). cond x (ownerIn s w′ (pageOf k)) 0) (begins-false s (w′ .cells) (w′ .tables) k (λ b. n (begins-was u h k b)))

@@ -147,4 +147,4 @@ whole-room s w k fits = room s (length (w .tables)) (k .sized .range) (k .sized 
 
 -- the cells have room for those of every page
 pub cell-in : (s : Sizes) (w : Words) → WholeFor s w → (c : ℕ) → pageOf c < s .pages → CellIn c (length (w .cells))
-cell-in s w k c l = ly.cell-in (k .sized .range .pages-high) (k .sized .cells) l
+cell-in s w k c l = ly.cell-in s (k .sized .range .pages-high) (k .sized .cells) l
