@@ -283,11 +283,10 @@ module _ {s : Sizes} {w : Words} {r : ℕ} (high : 1 < r) (whole : WholeFor s w)
             let o : Outside s w (partOf s w r) (y .names) = record { used = k .used; out = λ z. n (y .region ∙ z) } in
             let hd = outside-home d o in
             let hc = outside-home (y .object) outside in
-            let z = names-live (y .object) (y .field) d (outside-lives outside) (y .low) (y .value) (omega (arith, y .high, hd)) (λ v. y .other (sym hd ∙ v ∙ hc)) in
-            (
+            let z = names-live (y .object) (y .field) d (outside-lives outside) (y .low) (y .value) (omega (arith, y .high, hd)) (λ v. y .other (sym hd ∙ v ∙ hc)) in (
               live,
               q .region ∙ sym (new-stays s r W′ T (slotIn (w .remember) (q .entry)) (slotRegionIn (s .entries) (w .remember) (q .entry)) kept n)
-              ∙ y .region ∙ sym hd ∙ sym z ∙ ap (crossAt s W′ T) (sym (live .at)),
+                  ∙ y .region ∙ sym hd ∙ sym z ∙ ap (crossAt s W′ T) (sym (live .at)),
             )
 
     -- every entry of the new table is a slot that crosses then, with its region
