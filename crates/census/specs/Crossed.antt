@@ -27,7 +27,9 @@ use Rattle.promises.specs.Ends.{partOf}
 use Rattle.promises.specs.Whole.{WholeFor, IsRef}
 use Rattle.remember.specs.Crossing.{other, regionOf, crossTo}
 use Rattle.promises.specs.Crossings.{cross-in-sum}
-use Rattle.promises.specs.Slots.{Slot, region-of, slot-cross, cross-slot, field-slot}
+use Rattle.layout.specs.Objects.{Slot, slot-word, field-slot}
+use Rattle.remember.specs.Crosses.{slot-cross, cross-slot}
+use Rattle.promises.specs.Slots.{region-of}
 use Rattle.promises.specs.Reading.{used-home, used-owned, used-alive, alive-used, length-refs, getD-refs, refs-few, words-closed}
 use Rattle.mark.specs.Marks.{owner, Kept, kept-refs, kept-field, kept-owner}
 use Rattle.mark.specs.Reached.{home-cell, cell-home, is-other}
@@ -75,7 +77,7 @@ module _ (s : Sizes) (w : Words) (k : WholeFor s w) (space : Room s (length (w .
 
   -- ---- one slot of object x
 
-  cross-one : (x v : ℕ) → IsRef p (w .tables) v → ((y : ℕ) → v ≡ suc y → Alive h y) → crossRef h x v ≡ crossAfter p (w′ .cells) (w′ .tables) r (h .home x) v
+  cross-one : (x v : ℕ) → IsRef p (w .cells) (w .tables) v → ((y : ℕ) → v ≡ suc y → Alive h y) → crossRef h x v ≡ crossAfter p (w′ .cells) (w′ .tables) r (h .home x) v
   unfolding crossAfter
   cross-one x zero f there = refl
   cross-one x (suc y) f there =
@@ -166,7 +168,7 @@ module _ (s : Sizes) (w : Words) (k : WholeFor s w) (space : Room s (length (w .
 
   -- a word that is no slot of x does not count
   no-slot : (x j : ℕ) → x < 16 * s .pages → j < 16 → (Slot p (w .cells) (w .tables) (16 * x + j) → ⊥) → still (16 * x + j) ≡ 0
-  no-slot x j l m n = still-no (16 * x + j) (λ b. n (cross-slot p (w .cells) (w .tables) (16 * x + j) (omega arith) b))
+  no-slot x j l m n = still-no (16 * x + j) (λ b. n (cross-slot p (w .cells) (w .tables) (16 * x + j) b))
 
   module _ (x : ℕ) (u : Used s w x) (out : homeIn s w x ≡ r → ⊥) where
     here : x < 16 * s .pages
@@ -179,7 +181,7 @@ module _ (s : Sizes) (w : Words) (k : WholeFor s w) (space : Room s (length (w .
     some z = used-alive s w k x u (sym stays ∙ z)
 
     -- a reference that does not cross now does not cross afterwards
-    quiet : (v : ℕ) → IsRef p (w .tables) v → other (ownerIn s w (pageOf x)) (regionOf p (w .tables) v) ≡ 0 → crossRef h x v ≡ 0
+    quiet : (v : ℕ) → IsRef p (w .cells) (w .tables) v → other (ownerIn s w (pageOf x)) (regionOf p (w .tables) v) ≡ 0 → crossRef h x v ≡ 0
     quiet zero f z = refl
     quiet (suc y) f z =
         let y′ : suc y - 1 ≡ y = omega arith in
@@ -238,14 +240,14 @@ module _ (s : Sizes) (w : Words) (k : WholeFor s w) (space : Room s (length (w .
             ∙ ap (crossAfter p (w′ .cells) (w′ .tables) r (h .home x)) (sym same)
 
     first-two : (j : ℕ) → j < 2 → still (16 * x + j) ≡ 0
-    first-two j m = no-slot x j here (omega arith) (λ o. omega (arith, o .field))
+    first-two j m = no-slot x j here (omega arith) (λ o. omega (arith, slot-word p (w .cells) (w .tables) (16 * x + j) o .1))
 
     past-refs : (j : ℕ) → j < 14 - refCount w x → still (16 * x + (2 + (refCount w x + j))) ≡ 0
     past-refs j m =
         let q : ℕ = 16 * x + (2 + (refCount w x + j)) in
         let e : cellOf q ≡ x = omega (arith, refs-few s w k x u) in
         let d : wordOf q ≡ 2 + (refCount w x + j) = omega (arith, refs-few s w k x u) in
-        no-slot x (2 + (refCount w x + j)) here (omega (arith, refs-few s w k x u)) (λ o. omega (arith, o .count, ap (headOf (w .cells)) e))
+        no-slot x (2 + (refCount w x + j)) here (omega (arith, refs-few s w k x u)) (λ o. omega (arith, slot-word p (w .cells) (w .tables) q o .1, ap (headOf (w .cells)) e))
 
     used-sum : sum (λ j. still (16 * x + j)) 16 ≡ outside x
     used-sum =
@@ -283,7 +285,7 @@ module _ (s : Sizes) (w : Words) (k : WholeFor s w) (space : Room s (length (w .
           sum-none (λ j. still (16 * x + j)) 16
           (λ j m.
           let c : cellOf (16 * x + j) ≡ x = omega arith in
-          no-slot x j l m (λ o. used-alive s w k x (subst (Used s w) c (o .used)) z))
+          no-slot x j l m (λ o. used-alive s w k x (subst (Used s w) c (slot-word p (w .cells) (w .tables) (16 * x + j) o .0)) z))
           ∙ sym (ap (λ (b : Bool). cond b 0 (crossAt h x)) (ne-eqb (homeIn s w x) r n) ∙ gone x (home-stayed s g r x n ∙ z))
       go (no n) (no a) = used-sum x (alive-used s w k x a) n
 

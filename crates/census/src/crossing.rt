@@ -32,7 +32,7 @@ pub fn home_after(p: Sizes, cells: &[u32], tables: &[u32], r: u32, c: usize) -> 
 pub fn crosses(p: Sizes, cells: &[u32], tables: &[u32], r: u32, home: u32, x: u32) -> usize
     requires { ⌜ Room p (length (now tables)) ⌝ }
     requires { ⌜ 256 * p .pages ≤ length (now cells) ⌝ }
-    requires { ⌜ IsRef p (now tables) x ⌝ }
+    requires { ⌜ IsRef p (now cells) (now tables) x ⌝ }
     ensures { λ n. ⌜ n ≡ crossAfter p (now (cells .entry)) (now (tables .entry)) r home x ⌝ }
 {
     if x == 0 {

@@ -43,8 +43,8 @@ module _ (p : Sizes) (c m t : List ℕ) (k : WholeFor p (words c m t)) (u a : �
   abbrev H : Regioned
   H = heapOf s w
 
-  pub is-ref : IsRef s t x
-  is-ref = subst (IsRef s t) (sym e) (var-ref s w k u a l n)
+  pub is-ref : IsRef s c t x
+  is-ref = subst (IsRef s c t) (sym e) (var-ref s w k u a l n)
 
   pub heap-var : varOf (limits s) (H .heap) u a ≡ x
   heap-var = here-var s w u a l n ∙ sym e

@@ -14,7 +14,7 @@ use Rattle.rules.specs.Graph.{pagesOf}
 use Rattle.rules.specs.declared.Sizes.{Sizes}
 use Rattle.lists.specs.Products.{flat-low}
 use Rattle.layout.specs.Places.{markOf}
-use Rattle.layout.specs.Cells.{workOf, pageOf, placeOf, cellOn, firstOn, pageCells, place-low, page-on, place-on, on-page}
+use Rattle.layout.specs.Cells.{workOf, pageOf, placeOf, cellOn, firstOn, pageCells, place-low, page-on, place-on, on-page, on-rises, on-above, on-below}
 use Rattle.layout.specs.Marks.{marked}
 use Rattle.promises.specs.Whole.{objectsOf}
 use Rattle.pages.specs.Owned.{ownedIn}
@@ -45,8 +45,8 @@ page-begin {p} {g} q {page} {W} {T} a =
     record {
       last = order g (firstOn q);
       moves = none {m = order g (firstOn q)} (omega arith);
-      later = λ i l e. omega arith;
-      high = omega arith;
+      later = λ i l e. omega (arith, on-above q i);
+      high = omega (arith, on-above q 0, on-below q 0 (omega arith));
       points = a;
       bits = λ i l e. marked-at p T q i l ∙ sym (lower-bit (markOf p T q) i l) ∙ e;
       done = λ i l e on. absurd (let z : ⊥ = omega (arith, marked-at p T q i l, lower-bit (markOf p T q) i l) in z);
@@ -92,21 +92,21 @@ module _ {p : Sizes} {g q left page : ℕ} {W T W′ T′ : List ℕ} (a : Passi
       record {
         last = order g x + 1;
         moves = more {k = order g x + 1} {c = x} (h .moves) refl (omega (arith, h .later i (l .lt) (l .on))) (omega arith) s;
-        later = λ j lj b. omega (arith, still j b .1);
-        high = omega (arith, l .lt);
+        later = λ j lj b. omega (arith, on-rises q (still j b .1));
+        high = omega (arith, on-below q i (l .lt));
         points = step-points s;
         bits = λ j lj b.
             let u = still j b in
-            step-on s (cellOn q j) (omega arith) (λ z. omega (arith, u .1)) ∙ h .bits j lj (u .0);
+            step-on s (cellOn q j) (omega (arith, page-on q j lj)) (λ z. omega (arith, on-rises q (u .1))) ∙ h .bits j lj (u .0);
         done = λ j lj b on. done′ j lj b on (ℕ-discrete j i);
       }
     where
       done′ : (j : ℕ) → j < pageCells → bitAt (left - 2 ^ i) j ≡ 0 → marked p T″ (cellOn q j) ≡ 1 → Dec (j ≡ i) → workOf W″ (cellOn q j) ≢ g
       done′ j lj b on (yes z) =
-          absurd (let w : marked p T″ (cellOn q j) ≡ 0 = subst (λ (y : ℕ). marked p T″ y ≡ 0) (let v : x ≡ cellOn q j = omega arith in v) (step-off s) in
+          absurd (let w : marked p T″ (cellOn q j) ≡ 0 = subst (λ (y : ℕ). marked p T″ y ≡ 0) (e ∙ ap (cellOn q) (sym z)) (step-off s) in
           let y : ⊥ = omega arith in y)
       done′ j lj b on (no n) =
-          let u = step-back (moves-ready (a .ready) (h .moves)) s (cellOn q j) (omega arith) on in
+          let u = step-back (moves-ready (a .ready) (h .moves)) s (cellOn q j) (omega (arith, page-on q j lj)) on in
           λ z. h .done j lj (sym (clear-other i j left (l .on) n) ∙ b) (u .0) (sym (u .1) ∙ z)
 
   pub page-left : workOf W′ x ≢ g → PageMoves p g q (left - 2 ^ i) page W T W′ T′
@@ -122,7 +122,7 @@ module _ {p : Sizes} {g q left page : ℕ} {W T W′ T′ : List ℕ} (a : Passi
       }
     where
       done′ : (j : ℕ) → j < pageCells → bitAt (left - 2 ^ i) j ≡ 0 → marked p T′ (cellOn q j) ≡ 1 → Dec (j ≡ i) → workOf W′ (cellOn q j) ≢ g
-      done′ j lj b on (yes z) = subst (λ (y : ℕ). workOf W′ y ≢ g) (let v : x ≡ cellOn q j = omega arith in v) ne
+      done′ j lj b on (yes z) = subst (λ (y : ℕ). workOf W′ y ≢ g) (e ∙ ap (cellOn q) (sym z)) ne
       done′ j lj b on (no n) = h .done j lj (sym (clear-other i j left (l .on) n) ∙ b) on
 
 -- the survivors of page q that go to g moved; the pass is at page
@@ -179,7 +179,7 @@ no-marks p T q z c e on =
 pub pass-skip : {p : Sizes} {g q page : ℕ} {W T W′ T′ : List ℕ} → Ready p W T → markOf p T q ≡ 0 → PassMoves p g q page W T W′ T′ → PassMoves p g (q + 1) page W T W′ T′
 pass-skip {p} {g} {q} {page} {W} {T} {W′} {T′} a z b =
     record {
-      pass = record { moves = moves-later (omega arith) (b .pass .moves); done = λ c l lp on. go c l lp on (ℕ-discrete (pageOf c) q) };
+      pass = record { moves = moves-later (omega (arith, on-above q 0, on-below q 0 (omega arith))) (b .pass .moves); done = λ c l lp on. go c l lp on (ℕ-discrete (pageOf c) q) };
       points = b .points;
     }
   where

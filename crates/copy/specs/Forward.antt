@@ -9,7 +9,7 @@ use native.Mathlib.Omega.{arith}
 use lib.ListN.{length, getD}
 use Rattle.rules.specs.declared.Sizes.{Sizes}
 use Rattle.layout.specs.Places.{ownerOf, ownersFrom, cellsWords, tablesWords}
-use Rattle.layout.specs.Cells.{wordAt, workOf, refTo, cellNamed, pageOf, cellWords}
+use Rattle.layout.specs.Cells.{wordAt, workOf, refTo, cellNamed, pageOf, cellOf, cellWords, work-cell, page-at}
 use Rattle.layout.specs.Marks.{marked}
 use Rattle.layout.specs.Words.{InUse}
 use Rattle.copy.specs.Marks.{copied}
@@ -124,7 +124,10 @@ module _ {p : Sizes} {g q e : ℕ} {W₀ T₀ W T W′ T′ : List ℕ} (a₀ : 
         cells-size = s .copied .size ∙ h .cells-size;
         tables-size = step-size s ∙ h .tables-size;
         rest = λ x w. step-rest s x w ∙ h .rest x w;
-        beyond = λ x l. s .copied .same x (λ z. omega (arith, s .can .used .page)) (λ z. omega (arith, step-in-use s .page)) ∙ h .beyond x l;
+        beyond = λ x l.
+            s .copied .same x (λ z. omega (arith, page-at p x (subst (λ (y : ℕ). pageOf y < p .pages) (sym (ap cellOf z ∙ work-cell e)) page)))
+            (λ z. omega (arith, page-at p x (subst (λ (y : ℕ). pageOf y < p .pages) (sym z) (step-in-use s .page))))
+            ∙ h .beyond x l;
         keeps = λ x u. step-keeps s x (h .keeps x u);
         owner = λ x u. step-owner s x (h .keeps x u) ∙ h .owner x u;
         back = λ x l on. let u = step-back a s x l on in let v = h .back x l (u .0) in (v .0, u .1 ∙ v .1);

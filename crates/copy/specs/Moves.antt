@@ -3,7 +3,7 @@ use mathlib.Core.Path.{_≡_, refl, sym, ap, ap₂, _∙_, subst}
 use mathlib.Core.Logic.{_≢_, _⊎_, inl, inr}
 use mathlib.Core.List.{List}
 use Prim.Native.Nat.{ℕ, _+_, _^_, _≤_, _<_}
-use native.Mathlib.Decide.{ℕ-discrete, decLt}
+use native.Mathlib.Decide.{ℕ-discrete}
 use native.Mathlib.Omega.{arith}
 use lib.ListN.{length, getD, set, length-set}
 use lib.Seq.{getD-set-same, getD-set-other}
@@ -13,7 +13,7 @@ use Rattle.rules.specs.Graph.{pagesOf}
 use Rattle.rules.specs.declared.Sizes.{Sizes}
 use Rattle.rules.specs.Regions.{regions}
 use Rattle.layout.specs.Places.{Room, ownerAt, usedAt, markAt, countAt, ownerOf, usedOf, markOf, countOf, countsFrom, marksFrom, ownersFrom, cellsWords, tablesWords, count-room}
-use Rattle.layout.specs.Cells.{wordAt, headAt, workAt, workOf, refTo, pageOf, placeOf, cellOf, pageCells, cellWords}
+use Rattle.layout.specs.Cells.{wordAt, workAt, workOf, refTo, pageOf, placeOf, cellOf, wordOf, pageCells, cellWords, place-low, same-cell, word-cell, word-there, word-low, work-cell, work-there, work-low}
 use Rattle.layout.specs.Marks.{marked}
 use Rattle.layout.specs.Words.{InUse, cellCount}
 use Rattle.promises.specs.Whole.{objectsOn, objectsOf}
@@ -29,7 +29,7 @@ use Rattle.copy.specs.Taking.{owned-same, Next, Took, Regular, took-leng
 pub record Half (c d n : ℕ) (W W′ : List ℕ) : Type 0 where
   pub size : length W′ ≡ length W
   pub body : (i : ℕ) → i < n → getD W′ (wordAt d i) 0 ≡ getD W (wordAt c i) 0
-  pub same : (x : ℕ) → (headAt d ≤ x → wordAt d n ≤ x) → getD W′ x 0 ≡ getD W x 0
+  pub same : (x : ℕ) → (cellOf x ≡ d → n ≤ wordOf x) → getD W′ x 0 ≡ getD W x 0
 
 pub half-start : (c d : ℕ) (W : List ℕ) → Half c d 0 W W
 half-start c d W =
@@ -42,8 +42,8 @@ half-next {c} {d} {n} {W} {W′} ne lt long h =
       size = length-set W′ (wordAt d n) v ∙ h .size;
       body = λ i l. at i l (ℕ-discrete i n);
       same = λ x k.
-          getD-set-other W′ (wordAt d n) x v 0 (λ e. let z : wordAt d (n + 1) ≤ x = k (omega arith) in omega arith)
-          ∙ h .same x (λ l. let z : wordAt d (n + 1) ≤ x = k l in omega arith);
+          getD-set-other W′ (wordAt d n) x v 0 (λ e. omega (arith, k (ap cellOf e ∙ word-cell d n lt), ap wordOf e, word-there d n lt))
+          ∙ h .same x (λ z. omega (arith, k z));
     }
   where
     v : ℕ
@@ -52,12 +52,11 @@ half-next {c} {d} {n} {W} {W′} ne lt long h =
     at : (i : ℕ) → i < n + 1 → Dec (i ≡ n) → getD (set W′ (wordAt d n) v) (wordAt d i) 0 ≡ getD W (wordAt c i) 0
     at i l (yes e) =
         subst (λ (j : ℕ). getD (set W′ (wordAt d n) v) (wordAt d j) 0 ≡ getD W (wordAt c j) 0) (sym e)
-        (getD-set-same W′ (wordAt d n) v 0 (omega (arith, h .size)) ∙ h .same (wordAt c n) (λ k. absurd-le k (decLt c d)))
-      where
-        absurd-le : headAt d ≤ wordAt c n → Dec (c < d) → wordAt d n ≤ wordAt c n
-        absurd-le k (yes a) = omega arith
-        absurd-le k (no a) = omega arith
-    at i l (no m) = getD-set-other W′ (wordAt d n) (wordAt d i) v 0 (λ e. m (omega arith)) ∙ h .body i (omega arith)
+        (getD-set-same W′ (wordAt d n) v 0 (omega (arith, h .size, word-low d n long lt))
+        ∙ h .same (wordAt c n) (λ z. absurd (ne (sym (word-cell c n lt) ∙ z))))
+    at i l (no m) =
+        let li : i < cellWords = omega arith in
+        getD-set-other W′ (wordAt d n) (wordAt d i) v 0 (λ e. m (sym (word-there d i li) ∙ ap wordOf e ∙ word-there d n lt)) ∙ h .body i (omega arith)
 
 pub record Copied (c d : ℕ) (W W′ : List ℕ) : Type 0 where
   pub size : length W′ ≡ length W
@@ -72,23 +71,19 @@ half-copied {c} {d} {W} {W′} ne ld lc h v e =
     record {
       size = length-set X (workAt c) v ∙ length-set W′ (workAt d) 0 ∙ h .size;
       body = λ i l n.
-          getD-set-other X (workAt c) (wordAt d i) v 0 (λ z. ne (omega arith))
-          ∙ getD-set-other W′ (workAt d) (wordAt d i) 0 0 (λ z. n (omega arith)) ∙ h .body i l;
+          getD-set-other X (workAt c) (wordAt d i) v 0 (λ z. ne (sym (work-cell c) ∙ ap cellOf (sym z) ∙ word-cell d i l))
+          ∙ getD-set-other W′ (workAt d) (wordAt d i) 0 0 (λ z. n (sym (word-there d i l) ∙ ap wordOf z ∙ work-there d)) ∙ h .body i l;
       clear =
-          getD-set-other X (workAt c) (workAt d) v 0 (λ z. ne (omega arith))
-          ∙ getD-set-same W′ (workAt d) 0 0 (omega (arith, h .size));
-      forward = getD-set-same X (workAt c) v 0 (omega (arith, h .size, length-set W′ (workAt d) 0)) ∙ e;
+          getD-set-other X (workAt c) (workAt d) v 0 (λ z. ne (sym (work-cell c) ∙ ap cellOf (sym z) ∙ work-cell d))
+          ∙ getD-set-same W′ (workAt d) 0 0 (omega (arith, h .size, work-low d ld));
+      forward = getD-set-same X (workAt c) v 0 (omega (arith, h .size, length-set W′ (workAt d) 0, work-low c lc)) ∙ e;
       same = λ x a b.
-          getD-set-other X (workAt c) x v 0 a ∙ getD-set-other W′ (workAt d) x 0 0 (λ z. b (omega arith))
-          ∙ h .same x (λ l. past x l b (decLt x (wordAt d cellWords)));
+          getD-set-other X (workAt c) x v 0 a ∙ getD-set-other W′ (workAt d) x 0 0 (λ z. b (ap cellOf z ∙ work-cell d))
+          ∙ h .same x (λ z. absurd (b z));
     }
   where
     X : List ℕ
     X = set W′ (workAt d) 0
-
-    past : (x : ℕ) → headAt d ≤ x → cellOf x ≢ d → Dec (x < wordAt d cellWords) → wordAt d cellWords ≤ x
-    past x l b (yes z) = absurd (b (omega arith))
-    past x l b (no z) = omega arith
 
 -- ---- one move
 
@@ -275,10 +270,10 @@ module _ {p : Sizes} {g q c : ℕ} {W T W′ T′ : List ℕ} (s : Step p g q c 
   step-copied = ap (λ (x : ℕ). bitAt x (pageCells + placeOf c)) mark-here ∙ raised-on (getD T (marksAt p c) 0) (placeOf c) (s .can .on) (s .can .fresh)
 
   pub step-on : (x : ℕ) → pageOf x < p .pages → x ≢ c → marked p T′ x ≡ marked p T x
-  step-on x l ne = step-bit (pageOf x) (placeOf x) l (λ e. (λ z. ne (omega arith), λ z. omega arith))
+  step-on x l ne = step-bit (pageOf x) (placeOf x) l (λ e. (λ z. ne (same-cell e z), λ z. omega (arith, place-low x)))
 
   pub step-copied-other : (x : ℕ) → pageOf x < p .pages → x ≢ c → copied p T′ x ≡ copied p T x
-  step-copied-other x l ne = step-bit (pageOf x) (pageCells + placeOf x) l (λ e. (λ z. omega arith, λ z. ne (omega arith)))
+  step-copied-other x l ne = step-bit (pageOf x) (pageCells + placeOf x) l (λ e. (λ z. omega (arith, place-low c), λ z. ne (same-cell e (omega arith))))
 
   -- a survivor waits or is copied
   pub step-bits : (x : ℕ) → pageOf x < p .pages → marked p T′ x + copied p T′ x ≡ marked p T x + copied p T x
@@ -321,14 +316,14 @@ module _ {p : Sizes} {g q c : ℕ} {W T W′ T′ : List ℕ} (s : Step p g q c 
   -- the link of a cell in use other than c stays
   pub step-link : (x : ℕ) → InUse p T x → x ≢ c → workOf W′ x ≡ workOf W x
   step-link x u ne =
-      s .copied .same (workAt x) (λ e. ne (omega arith))
-      (λ e. step-new (subst (λ (y : ℕ). InUse p T y) (let z : x ≡ s .new = omega arith in z) u))
+      s .copied .same (workAt x) (λ e. ne (sym (work-cell x) ∙ ap cellOf e ∙ work-cell c))
+      (λ e. step-new (subst (λ (y : ℕ). InUse p T y) (sym (work-cell x) ∙ e) u))
 
   -- and every word of such a cell
   pub step-words : (x i : ℕ) → i < cellWords → InUse p T x → (x ≡ c → i ≢ 1) → getD W′ (wordAt x i) 0 ≡ getD W (wordAt x i) 0
   step-words x i l u ne =
-      s .copied .same (wordAt x i) (λ e. ne (omega arith) (omega arith))
-      (λ e. step-new (subst (λ (y : ℕ). InUse p T y) (let z : x ≡ s .new = omega arith in z) u))
+      s .copied .same (wordAt x i) (λ e. ne (sym (word-cell x i l) ∙ ap cellOf e ∙ work-cell c) (sym (word-there x i l) ∙ ap wordOf e ∙ work-there c))
+      (λ e. step-new (subst (λ (y : ℕ). InUse p T y) (sym (word-cell x i l) ∙ e) u))
 
   -- the pass stays at the page
   pub step-points : Points p T′ g q

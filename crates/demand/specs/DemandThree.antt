@@ -15,8 +15,8 @@ use Rattle.rules.specs.NeverFreeing.{NeverFreeing, Object, noObject, depthOf, v
 use Rattle.rules.specs.Regions.{regionAt}
 use Rattle.rules.specs.Graph.{target}
 use Rattle.rules.specs.Rules.{lacking}
-use Rattle.layout.specs.Cells.{fieldOf}
-use Rattle.layout.specs.Words.{Words, Used, sizesIn, depthIn, varIn, ownerIn, refCount, numCount, refsIn, numsIn, varsIn, homeIn, graphOf}
+use Rattle.layout.specs.Cells.{fieldOf, pageOf}
+use Rattle.layout.specs.Words.{Words, BeginsIn, sizesIn, depthIn, varIn, ownerIn, refCount, numCount, refsIn, numsIn, varsIn, homeIn, graphOf}
 use Rattle.promises.specs.Promises.{Chain, none, more, commandsIn, answersIn, size, Ran}
 
 -- ---- a list of runs
@@ -76,8 +76,8 @@ pub record Alike (w : Words) (pairs : List ℕ) (o : Object) (c : ℕ) : Type 0 
 
 pub record Paired (s : Sizes) (w : Words) (n : NeverFreeing) (pairs : List ℕ) : Type 0 where
   pub beside : length pairs ≡ length (n .objects)
-  pub used : (x c : ℕ) → getD pairs x 0 ≡ suc c → Used s w c × (ownerIn s w (c / 16) ≡ 0 → ⊥)
-  pub each : (c : ℕ) → Used s w c → (x : ℕ) × (getD pairs x 0 ≡ suc c)
+  pub used : (x c : ℕ) → getD pairs x 0 ≡ suc c → BeginsIn s w c × (ownerIn s w (pageOf c) ≡ 0 → ⊥)
+  pub each : (c : ℕ) → BeginsIn s w c → (x : ℕ) × (getD pairs x 0 ≡ suc c)
   pub one : (x y c : ℕ) → getD pairs x 0 ≡ suc c → getD pairs y 0 ≡ suc c → x ≡ y
   pub alike : (x c : ℕ) → getD pairs x 0 ≡ suc c → Alike w pairs (getD (n .objects) x noObject) c
   pub variables : (t a : ℕ) → t < s .threads → a < s .variables → Leads pairs (varOf (limits s) n t a) (varIn s w t a)
@@ -93,11 +93,11 @@ regionOf s w (suc c) = homeIn s w c
 -- the end of region r made w′ of w: `move` takes a reference to an object to the reference to it afterwards, 0 where it was freed
 pub record Moves (s : Sizes) (w : Words) (r : ℕ) (w′ : Words) (move : ℕ → ℕ) : Type 0 where
   pub null : move 0 ≡ 0
-  pub stays : (c : ℕ) → Used s w c → (ownerIn s w (c / 16) ≡ r → ⊥) → move (suc c) ≡ suc c
-  pub goes : (c : ℕ) → Used s w c → ownerIn s w (c / 16) ≡ r → regionOf s w′ (move (suc c)) ≡ target s (graphOf s w) r c
-  pub lands : (c c′ : ℕ) → Used s w c → move (suc c) ≡ suc c′ → Used s w′ c′
-  pub refs : (c c′ : ℕ) → Used s w c → move (suc c) ≡ suc c′ → refsIn w′ c′ ≡ map move (refsIn w c)
-  pub nums : (c c′ : ℕ) → Used s w c → move (suc c) ≡ suc c′ → numsIn w′ c′ ≡ numsIn w c
+  pub stays : (c : ℕ) → BeginsIn s w c → (ownerIn s w (pageOf c) ≡ r → ⊥) → move (suc c) ≡ suc c
+  pub goes : (c : ℕ) → BeginsIn s w c → ownerIn s w (pageOf c) ≡ r → regionOf s w′ (move (suc c)) ≡ target s (graphOf s w) r c
+  pub lands : (c c′ : ℕ) → BeginsIn s w c → move (suc c) ≡ suc c′ → BeginsIn s w′ c′
+  pub refs : (c c′ : ℕ) → BeginsIn s w c → move (suc c) ≡ suc c′ → refsIn w′ c′ ≡ map move (refsIn w c)
+  pub nums : (c c′ : ℕ) → BeginsIn s w c → move (suc c) ≡ suc c′ → numsIn w′ c′ ≡ numsIn w c
   pub vars : varsIn s w′ ≡ map move (varsIn s w)
 
 -- the pairs before and after what a command of thread t does, which made w′ of w: the object now in the variable of a new object is paired with the one

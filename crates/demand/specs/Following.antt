@@ -25,7 +25,7 @@ use Rattle.laws.specs.SameRules.{renamed, same-target}
 use Rattle.rules.specs.Rules as ru
 use Rattle.rules.specs.Rules.{Regioned, graph, innermost}
 use Rattle.laws.specs.RulesLaws.{region-pos, graph-ended, afterEffect}
-use Rattle.layout.specs.Words.{Words, graphOf, homeIn, refsIn, numsIn, varsIn, varIn, depthIn, Used}
+use Rattle.layout.specs.Words.{Words, graphOf, homeIn, refsIn, numsIn, varsIn, varIn, depthIn, BeginsIn}
 use Rattle.lists.specs.Listed.{listed, listed-same, map-listed}
 use Rattle.promises.specs.StandsFor.{StandsFor}
 use Rattle.promises.specs.Promises.{Became, Did}
@@ -121,8 +121,8 @@ module _ (s : Sizes) (w w₁ : Words) (h h₁ : Regioned) (cellOf cell : ℕ →
         (λ v i. move-ref v (λ y q. let j = subst (λ (u : ℕ). In u (graph h .refs x)) q i in
         (st .sound .closed .refs x y a j, st₁ .sound .closed .refs x y (b .0) (subst (λ (k : List ℕ). In (suc y) k) (sym same-refs) j)))))
 
-    lands-at : (c : ℕ) → move (suc (cellOf x)) ≡ suc c → Used s w₁ c
-    lands-at c e = let b = pair-suc x c (sym (move-of x a) ∙ e) in subst (Used s w₁) (b .1) (cell-used s w₁ h₁ cell st₁ x (b .0))
+    lands-at : (c : ℕ) → move (suc (cellOf x)) ≡ suc c → BeginsIn s w₁ c
+    lands-at c e = let b = pair-suc x c (sym (move-of x a) ∙ e) in subst (BeginsIn s w₁) (b .1) (cell-used s w₁ h₁ cell st₁ x (b .0))
 
     nums-at : (c : ℕ) → move (suc (cellOf x)) ≡ suc c → numsIn w₁ c ≡ numsIn w (cellOf x)
     nums-at c e =
@@ -136,14 +136,14 @@ module _ (s : Sizes) (w w₁ : Words) (h h₁ : Regioned) (cellOf cell : ℕ →
         null = refl;
         stays = λ c u n. at c u (λ d. (homeIn s w d ≡ r → ⊥) → move (suc d) ≡ suc d) stays-at (λ z. n (sym (used-home s w (st .whole) c u) ∙ z));
         goes = λ c u e. at c u (λ d. homeIn s w d ≡ r → regionOf s w₁ (move (suc d)) ≡ target s (graphOf s w) r d) goes-at (used-home s w (st .whole) c u ∙ e);
-        lands = λ c c′ u e. at c u (λ d. move (suc d) ≡ suc c′ → Used s w₁ c′) (λ x a. lands-at x a c′) e;
+        lands = λ c c′ u e. at c u (λ d. move (suc d) ≡ suc c′ → BeginsIn s w₁ c′) (λ x a. lands-at x a c′) e;
         refs = λ c c′ u e. at c u (λ d. move (suc d) ≡ suc c′ → refsIn w₁ c′ ≡ map move (refsIn w d)) (λ x a. refs-at x a c′) e;
         nums = λ c c′ u e. at c u (λ d. move (suc d) ≡ suc c′ → numsIn w₁ c′ ≡ numsIn w d) (λ x a. nums-at x a c′) e;
         vars = variables;
       }
     where
       -- what holds of each object's cell holds of each cell in use
-      at : (c : ℕ) → Used s w c → (P : ℕ → Type 0) → ((x : ℕ) → Alive (graph h) x → P (cellOf x)) → P c
+      at : (c : ℕ) → BeginsIn s w c → (P : ℕ → Type 0) → ((x : ℕ) → Alive (graph h) x → P (cellOf x)) → P c
       at c u P f = let o = st .partners .onto c (used-alive s w (st .whole) c u) in subst P (o .2) (f (o .0) (o .1))
 
       variables : varsIn s w₁ ≡ map move (varsIn s w)

@@ -11,7 +11,8 @@ use Rattle.rules.specs.declared.Sizes.{Sizes}
 use Rattle.lists.specs.Members.{In, getD-in}
 use Rattle.rules.specs.Graph.{target}
 use Rattle.laws.specs.GraphLaws.{Leads, itself, along, Holds, bySlot, byOwn, byOther, Reaches, target-reached, target-absorbs}
-use Rattle.layout.specs.Words.{Words, homeIn, ownerIn, refsIn, varsIn, graphOf, Used}
+use Rattle.layout.specs.Cells.{pageOf}
+use Rattle.layout.specs.Words.{Words, homeIn, ownerIn, refsIn, varsIn, graphOf, BeginsIn}
 use Rattle.promises.specs.Whole.{WholeFor}
 use Rattle.demand.specs.DemandThree.{Moves, regionOf}
 use Rattle.promises.specs.Reading.{used-home, used-alive, alive-used}
@@ -27,7 +28,7 @@ same-at f g (x ∷ l) v (inr i) q = same-at f g l v i (ap tail q)
 
 module _ (s : Sizes) (w w′ : Words) (k : WholeFor s w) (k′ : WholeFor s w′) (r : ℕ) (pos : 0 < r) (f g : ℕ → ℕ) (mf : Moves s w r w′ f) (mg : Moves s w r w′ g) where
   -- the object of a reference that is not null lies in a region
-  region-null : (u : ℕ) → ((c : ℕ) → u ≡ suc c → Used s w′ c) → regionOf s w′ u ≡ 0 → u ≡ 0
+  region-null : (u : ℕ) → ((c : ℕ) → u ≡ suc c → BeginsIn s w′ c) → regionOf s w′ u ≡ 0 → u ≡ 0
   region-null zero h e = refl
   region-null (suc c) h e = absurd (used-alive s w′ k′ c (h c refl) e)
 
@@ -35,14 +36,14 @@ module _ (s : Sizes) (w w′ : Words) (k : WholeFor s w) (k′ : WholeFor s w′
   not-null zero n = absurd (n refl)
   not-null (suc c) n = (c, refl)
 
-  in-r : (c : ℕ) → Used s w c → homeIn s w c ≡ r → ownerIn s w (c / 16) ≡ r
+  in-r : (c : ℕ) → BeginsIn s w c → homeIn s w c ≡ r → ownerIn s w (pageOf c) ≡ r
   in-r c u e = sym (used-home s w k c u) ∙ e
 
-  lies-used : (c : ℕ) → homeIn s w c ≡ r → Used s w c
+  lies-used : (c : ℕ) → homeIn s w c ≡ r → BeginsIn s w c
   lies-used c e = alive-used s w k c (λ z. omega arith)
 
   -- the slots of an object that goes to the same place lead to the same places
-  slot-same : (y z c : ℕ) → Used s w y → f (suc y) ≡ suc c → g (suc y) ≡ suc c → In (suc z) (refsIn w y) → f (suc z) ≡ g (suc z)
+  slot-same : (y z c : ℕ) → BeginsIn s w y → f (suc y) ≡ suc c → g (suc y) ≡ suc c → In (suc z) (refsIn w y) → f (suc z) ≡ g (suc z)
   slot-same y z c u ef eg i = same-at f g (refsIn w y) (suc z) i (sym (mf .refs y c u ef) ∙ mg .refs y c u eg)
 
   var-same : (i z : ℕ) → getD (varsIn s w) i 0 ≡ suc z → f (suc z) ≡ g (suc z)
@@ -51,7 +52,7 @@ module _ (s : Sizes) (w w′ : Words) (k : WholeFor s w) (k′ : WholeFor s w′
   held-same : (x q : ℕ) → Holds s (graphOf s w) r x q → f (suc x) ≡ g (suc x)
   held-same x q (bySlot y e o p) =
       let u = alive-used s w k y (e .there) in
-      let n : ownerIn s w (y / 16) ≡ r → ⊥ = λ z. o (used-home s w k y u ∙ z) in
+      let n : ownerIn s w (pageOf y) ≡ r → ⊥ = λ z. o (used-home s w k y u ∙ z) in
       slot-same y x y u (mf .stays y u n) (mg .stays y u n) (e .slot)
   held-same x q (byOwn i e t p) = var-same i x e
   held-same x q (byOther i e t p) = var-same i x e
@@ -68,13 +69,13 @@ module _ (s : Sizes) (w w′ : Words) (k : WholeFor s w) (k′ : WholeFor s w′
       let v = not-null (f (suc m)) (reached-there m q (record { first = x; lies = l; held = h; leads = c }) a) in
       slot-same m z (v .0) (lies-used m a) (v .1) (sym rest ∙ v .1) (e .slot)
 
-  pub moves-unique : (c : ℕ) → Used s w c → f (suc c) ≡ g (suc c)
-  moves-unique c u = go (ℕ-discrete (ownerIn s w (c / 16)) r) (eq-zero-or-pos (target s (graphOf s w) r c))
+  pub moves-unique : (c : ℕ) → BeginsIn s w c → f (suc c) ≡ g (suc c)
+  moves-unique c u = go (ℕ-discrete (ownerIn s w (pageOf c)) r) (eq-zero-or-pos (target s (graphOf s w) r c))
     where
-      gone : (m : ℕ → ℕ) → Moves s w r w′ m → ownerIn s w (c / 16) ≡ r → target s (graphOf s w) r c ≡ 0 → m (suc c) ≡ 0
+      gone : (m : ℕ → ℕ) → Moves s w r w′ m → ownerIn s w (pageOf c) ≡ r → target s (graphOf s w) r c ≡ 0 → m (suc c) ≡ 0
       gone m mm e z = region-null (m (suc c)) (λ d q. mm .lands c d u q) (mm .goes c u e ∙ z)
 
-      go : Dec (ownerIn s w (c / 16) ≡ r) → (target s (graphOf s w) r c ≡ 0) ⊎ (0 < target s (graphOf s w) r c) → f (suc c) ≡ g (suc c)
+      go : Dec (ownerIn s w (pageOf c) ≡ r) → (target s (graphOf s w) r c ≡ 0) ⊎ (0 < target s (graphOf s w) r c) → f (suc c) ≡ g (suc c)
       go (no n) t = mf .stays c u n ∙ sym (mg .stays c u n)
       go (yes e) (inl z) = gone f mf e z ∙ sym (gone g mg e z)
       go (yes e) (inr p) = let a = target-reached s (graphOf s w) r c p in leads-same (a .1 .first) (a .0) c (a .1 .lies) (a .1 .held) (a .1 .leads)

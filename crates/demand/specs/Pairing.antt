@@ -15,7 +15,7 @@ use Rattle.laws.specs.GraphLaws.{Alive}
 use Rattle.laws.specs.SameRules.{renamed}
 use Rattle.rules.specs.Rules.{Regioned, graph}
 use Rattle.layout.specs.declared.Kind.the-variants.{Number}
-use Rattle.layout.specs.Words.{Words, Used}
+use Rattle.layout.specs.Words.{Words, BeginsIn}
 use Rattle.lists.specs.Listed.{listed, length-listed, getD-listed}
 use Rattle.promises.specs.StandsFor.{StandsFor}
 use Rattle.promises.specs.Agreed.{cell-used}
@@ -76,7 +76,7 @@ module _ (s : Sizes) (w : Words) (h : Regioned) (cellOf : ℕ → ℕ) (st : Sta
       record {
         beside = length-listed (pairOf h cellOf) (length (h .heap .objects));
         used = λ x c e. let b = pair-back x c e in
-            let u = subst (Used s w) (b .1) (cell-used s w h cellOf st x (b .0)) in (u, used-owned s w (st .whole) c u);
+            let u = subst (BeginsIn s w) (b .1) (cell-used s w h cellOf st x (b .0)) in (u, used-owned s w (st .whole) c u);
         each = λ c u. let o = st .partners .onto c (used-alive s w (st .whole) c u) in (o .0, pair-alive (o .0) (o .1) ∙ ap suc (o .2));
         one = λ x y c e f. let b = pair-back x c e in let d = pair-back y c f in st .partners .apart x y (b .0) (d .0) (b .1 ∙ sym (d .1));
         alike = λ x c e. let b = pair-back x c e in subst (Alike w (pairsOf h cellOf) (getD (h .heap .objects) x noObject)) (b .1) (alike x (b .0));

@@ -15,7 +15,7 @@ use Rattle.rules.specs.NeverFreeing.{Effect, opens, ends, makes, assigns, meani
 use Rattle.rules.specs.Regions.{regionAt}
 use Rattle.rules.specs.Rules as ru
 use Rattle.laws.specs.RulesLaws.{region-pos}
-use Rattle.layout.specs.Words.{Words, Used, sizesIn, depthIn, varIn, heapOf}
+use Rattle.layout.specs.Words.{Words, BeginsIn, sizesIn, depthIn, varIn, heapOf}
 use Rattle.promises.specs.Whole.{WholeFor}
 use Rattle.promises.specs.Promises.{Chain, none, more, Did, Ran}
 use Rattle.promises.specs.Reading.{used-alive}
@@ -28,7 +28,7 @@ use Rattle.demand.specs.Following.{did-changes}
 
 -- every pair leads to a cell in use
 abbrev pub Living : Sizes → Words → List ℕ → Type 0
-Living s w pairs = (c : ℕ) → In (suc c) pairs → Used s w c
+Living s w pairs = (c : ℕ) → In (suc c) pairs → BeginsIn s w c
 
 -- ---- one command, of whole words
 
@@ -40,11 +40,11 @@ module _ {s : Sizes} {w w₁ : Words} {m : Command} {a : Answer} (k : WholeFor s
   pairs₁ : List ℕ
   pairs₁ = pairsOf (ru.step s (heapOf s w) m .next) (did .next (heapOf s w) (λ c. c) (heap-stands s w k) .cell)
 
-  before : (c : ℕ) → Used s w c → getD pairs c 0 ≡ suc c
+  before : (c : ℕ) → BeginsIn s w c → getD pairs c 0 ≡ suc c
   unfolding pairs
   before c u = pair-alive s w (heapOf s w) (λ x. x) (heap-stands s w k) c (back s w k c (used-alive s w k c u))
 
-  after : (x c : ℕ) → getD pairs₁ x 0 ≡ suc c → Used s w₁ c
+  after : (x c : ℕ) → getD pairs₁ x 0 ≡ suc c → BeginsIn s w₁ c
   unfolding pairs₁
   after x c e = stands-paired s w₁ (ru.step s (heapOf s w) m .next) (did .next (heapOf s w) (λ c. c) (heap-stands s w k) .cell) (did .next (heapOf s w) (λ c. c) (heap-stands s w k) .stands) .used x c e .0
 
@@ -60,20 +60,20 @@ module _ {s : Sizes} {w w₁ : Words} {m : Command} {a : Answer} (k : WholeFor s
   effect-living t opens k p p₁ l e c i = kept-living k p p₁ l e c i
   effect-living t ends k p p₁ l (move, mv, e) c i = go p l (subst (λ (q : List ℕ). In (suc c) q) e i)
     where
-      from : (v : ℕ) → ((d : ℕ) → v ≡ suc d → Used s w d) → suc c ≡ move v → Used s w₁ c
+      from : (v : ℕ) → ((d : ℕ) → v ≡ suc d → BeginsIn s w d) → suc c ≡ move v → BeginsIn s w₁ c
       from zero h q = absurd (let y : ⊥ = omega (arith, mv .null) in y)
       from (suc d) h q = mv .lands d c (h d refl) (sym q)
 
-      go : (p : List ℕ) → Living s w p → In (suc c) (map move p) → Used s w₁ c
+      go : (p : List ℕ) → Living s w p → In (suc c) (map move p) → BeginsIn s w₁ c
       go (v ∷ p) h (inl q) = from v (λ d y. h d (inl (sym y))) q
       go (v ∷ p) h (inr j) = go p (λ d y. h d (inr y)) j
   effect-living t (makes a b d) k p p₁ l e c i = ⊎-elim old new (in-append (suc c) p (varIn s w₁ t a ∷ []) (subst (λ (q : List ℕ). In (suc c) q) e i))
     where
-      old : In (suc c) p → Used s w₁ c
+      old : In (suc c) p → BeginsIn s w₁ c
       old j = after c c (ap (λ (l : List ℕ). getD l c 0) k ∙ List·getD-append pairs (varIn s w₁ t a ∷ []) 0 c (in-bounds pairs c (λ z. omega (arith, before c (l c j)))) ∙ before c (l c j))
 
       -- the variable of a new object names it
-      new : In (suc c) (varIn s w₁ t a ∷ []) → Used s w₁ c
+      new : In (suc c) (varIn s w₁ t a ∷ []) → BeginsIn s w₁ c
       new (inl v) = after (length pairs) c (ap (λ (l : List ℕ). getD l (length pairs) 0) k ∙ getD-at pairs (varIn s w₁ t a) [] 0 (length pairs) refl ∙ sym v)
       new (inr j) = absurd j
   effect-living t (assigns x) k p p₁ l e c i = kept-living k p p₁ l e c i
@@ -91,7 +91,7 @@ module _ {s : Sizes} {w w₁ : Words} {m : Command} {a : Answer} (k : WholeFor s
   moved-same r pos f g mf mg (v ∷ p) l =
       ap₂ (λ (x : ℕ) (xs : List ℕ). x ∷ xs) (at v (λ d y. l d (inl (sym y)))) (moved-same r pos f g mf mg p (λ d y. l d (inr y)))
     where
-      at : (v : ℕ) → ((d : ℕ) → v ≡ suc d → Used s w d) → f v ≡ g v
+      at : (v : ℕ) → ((d : ℕ) → v ≡ suc d → BeginsIn s w d) → f v ≡ g v
       at zero h = mf .null ∙ sym (mg .null)
       at (suc d) h = moves-unique s w w₁ k (did-whole s k did) r pos f g mf mg d (h d refl)
 

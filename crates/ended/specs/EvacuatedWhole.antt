@@ -1,5 +1,5 @@
 -- The words after an accepted end are whole.
-use Prim.Native.Nat.{ℕ, zero, suc, _+_, _-_, _*_, _≤_, _<_}
+use Prim.Native.Nat.{ℕ, zero, suc, _-_, _≤_, _<_}
 use native.Mathlib.Omega.{arith}
 use native.Mathlib.Decide.{ℕ-discrete}
 use mathlib.Core.Path.{_≡_, refl, sym, ap, subst, _∙_}
@@ -22,7 +22,7 @@ pub record Lowered (s : Sizes) (w : Words) (t k : ℕ) (w′ : Words) : Type 0 w
   pub depths : (u : ℕ) → u < s .threads → (u ≡ t → ⊥) → depthIn w′ u ≡ depthIn w u
 
 -- a reference that names an object that is there
-ref-alive : (s : Sizes) (w : Words) (to : ℕ → ℕ) (x : ℕ) → ((c : ℕ) → x ≡ suc c → Used s w (to c)) → IsRef s (w .tables) (renamed to x)
+ref-alive : (s : Sizes) (w : Words) (to : ℕ → ℕ) (x : ℕ) → ((c : ℕ) → x ≡ suc c → Used s w (to c)) → IsRef s (w .cells) (w .tables) (renamed to x)
 ref-alive s w to zero f l = absurd (let z : ⊥ = omega arith in z)
 ref-alive s w to (suc c) f l = subst (Used s w) (let e : to c ≡ suc (to c) - 1 = omega arith in e) (f c refl)
 
@@ -59,10 +59,10 @@ module _ (s : Sizes) (w : Words) (t k : ℕ) (w′ : Words) (cell : ℕ → ℕ)
       go (yes q) = omega (arith, ap (depthOf (w′ .tables)) q, ap (depthOf (w .tables)) q, d .depth, deep, whole .depths u l)
       go (no n) = omega (arith, d .depths u l n, whole .depths u l)
 
-  references-in : (b : ℕ) → There b → (f : ℕ) → f < refsOf (w′ .cells) (cell b) → IsRef s (w′ .tables) (fieldOf (w′ .cells) (cell b) f)
+  references-in : (b : ℕ) → There b → (f : ℕ) → f < refsOf (w′ .cells) (cell b) → IsRef s (w′ .cells) (w′ .tables) (fieldOf (w′ .cells) (cell b) f)
   references-in b l f m =
       let m′ : f < refCount w b = subst (λ (n : ℕ). f < fieldCount Reference n) (e .object b l .head) m in
-      subst (IsRef s (w′ .tables)) (sym (e .object b l .references f m′))
+      subst (IsRef s (w′ .cells) (w′ .tables)) (sym (e .object b l .references f m′))
       (ref-alive s w′ cell (fieldOf (w .cells) b f) (λ y q. e .used y (reference-lives s w whole r pos b f y l m′ q)))
 
   -- an object's cell has the form of its old one
@@ -87,7 +87,7 @@ module _ (s : Sizes) (w : Words) (t k : ℕ) (w′ : Words) (cell : ℕ → ℕ)
         pages = e .pages;
         partial = e .partial;
         counts = e .counts;
-        variables = λ i l. subst (IsRef s (w′ .tables)) (sym (e .variables i l))
+        variables = λ i l. subst (IsRef s (w′ .cells) (w′ .tables)) (sym (e .variables i l))
             (ref-alive s w′ cell (varOf s (w .tables) i) (λ y q. e .used y (variable-lives s w whole r pos i y l q)));
         objects = λ c u. let b = e .only c u in subst (ObjectWhole s (w′ .cells) (w′ .tables)) (b .2) (object-in (b .0) (b .1));
         marks = e .marks;

@@ -10,7 +10,7 @@ use Rattle.laws.specs.GraphLaws.{Alive}
 use Rattle.laws.specs.EndLaws.{home-stayed, home-went, was-alive, closed-ended}
 use Rattle.layout.specs.Places.{varOf}
 use Rattle.layout.specs.Cells.{pageOf, fieldOf}
-use Rattle.layout.specs.Words.{Words, Used, ownerIn, homeIn, refCount, refsIn, graphOf}
+use Rattle.layout.specs.Words.{Words, ownerIn, refCount, refsIn, graphOf}
 use Rattle.promises.specs.Whole.{WholeFor}
 use Rattle.promises.specs.Reading.{used-home, used-alive, alive-used, words-closed, getD-refs, getD-vars, length-refs}
 use Rattle.promises.specs.Ends.{partOf, Outside, Survivor, Lives, lives-how}

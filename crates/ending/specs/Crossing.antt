@@ -3,34 +3,34 @@
 use mathlib.Core.Path.{_≡_, refl, sym, ap, ap₂, subst, _∙_}
 use mathlib.Core.Logic.{_≢_, _⊎_, inl, inr, ⊎-elim}
 use mathlib.Core.List.{List}
-use Prim.Native.Nat.{ℕ, zero, suc, _+_, _-_, _*_, _/_, _≤_, _<_}
+use Prim.Native.Nat.{ℕ, zero, suc, _<_}
 use native.Mathlib.Decide.{ℕ-discrete}
-use native.Mathlib.Nat.{pos-of-ne-zero}
 use native.Mathlib.Omega.{arith}
-use lib.ListN.{length, getD}
+use lib.ListN.{length}
 use Rattle.rules.specs.declared.Sizes.{Sizes}
 use Rattle.laws.specs.SameRules.{renamed}
 use Rattle.layout.specs.declared.Kind.the-variants.{Reference}
 use Rattle.layout.specs.Places.{Room, ownerOf, usedIn, slotIn, slotRegionIn, cellsWords}
-use Rattle.layout.specs.Cells.{fieldAt, fieldOf, refsOf, fieldCount, pageOf, cellOf, wordOf, pageAt, cellNamed, mostFields}
+use Rattle.layout.specs.Cells.{fieldAt, fieldOf, refsOf, fieldCount, pageOf, cellOf, pageAt, cellNamed, mostFields}
 use Rattle.layout.specs.Words.{Words, InUse, Used, ownerIn, refCount}
 use Rattle.remember.specs.Crossing.{other, regionOf, crossTo, crossesFrom}
-use Rattle.remember.specs.Crosses.{Into, crosses-into, into-crosses}
-use Rattle.promises.specs.Slots.{Slot, slot-cross, cross-slot, slot-field, field-slot}
+use Rattle.remember.specs.Crosses.{crosses-into, into-crosses}
+use Rattle.layout.specs.Objects.{field-slot}
+use Rattle.remember.specs.Crosses.{slot-cross, cross-slot}
 use Rattle.promises.specs.Whole.{WholeFor}
 use Rattle.promises.specs.Reading.{refs-few}
 use Rattle.promises.specs.Ends.{partOf, Outside, Survivor, Lives, outside-lives, survivor-lives, lives-how}
 use Rattle.mark.specs.Survivors.{Marked}
-use Rattle.copy.specs.Forward.{Forwards, forward}
-use Rattle.settle.specs.Rewrite.{Rewritten, refs-same}
+use Rattle.copy.specs.Forward.{Forwards}
+use Rattle.settle.specs.Rewrite.{Rewritten}
 use Rattle.settle.specs.RewriteSlots.{Remembered}
 use Rattle.settle.specs.Entries.{newRegion, new-gone, new-stays, new-moved, Stays}
-use Rattle.settle.specs.Append.{crossAt, Crosses, Crossing}
+use Rattle.settle.specs.Append.{crossAt, Crosses}
 use Rattle.settle.specs.Update.{Copies, Entry}
 use Rattle.settle.specs.RewriteCopies.{slot-now, slot-then}
 use Rattle.ending.specs.MarkedWords.{owner-same, now-used}
-use Rattle.ending.specs.Placing.{Sends, placed, outside-placed, outside-owner, survivor-placed, survivor-owner, placed-used, placed-out, placed-head, placed-apart}
-use Rattle.ending.specs.Rewriting.{HoldingSlots, fields-apart, copy-survivor, survivor-copy, slot-after, head-after}
+use Rattle.ending.specs.Placing.{Sends, placed, outside-placed, outside-owner, survivor-placed, survivor-owner, placed-used}
+use Rattle.ending.specs.Rewriting.{HoldingSlots, copy-survivor, survivor-copy, slot-after, head-after}
 
 -- ---- a slot as a field of its object
 
@@ -52,9 +52,8 @@ module _ (s : Sizes) (c t : List ℕ) where
 
   pub field-cross : (x : ℕ) → x < cellsWords s → 0 < crossTo s c t x → FieldOf s c t x
   field-cross x l h =
-      let q = cross-slot s c t x l h in
-      let f = slot-field s c t x q in
-      record { object = cellOf x; field = wordOf x - 2; used = q .used; low = f .1; few = omega (arith, q .field); at = sym (f .0) }
+      let q = cross-slot s c t x h in
+      record { object = q .object; field = q .field; used = q .begins; low = q .low; few = q .room; at = sym (q .at) }
 
 -- ---- whole words
 
@@ -284,11 +283,10 @@ module _ {s : Sizes} {w : Words} {r : ℕ} (high : 1 < r) (whole : WholeFor s w)
             let o : Outside s w (partOf s w r) (y .names) = record { used = k .used; out = λ z. n (y .region ∙ z) } in
             let hd = outside-home d o in
             let hc = outside-home (y .object) outside in
-            let z = names-live (y .object) (y .field) d (outside-lives outside) (y .low) (y .value) (omega (arith, y .high, hd)) (λ v. y .other (sym hd ∙ v ∙ hc)) in
-            (
+            let z = names-live (y .object) (y .field) d (outside-lives outside) (y .low) (y .value) (omega (arith, y .high, hd)) (λ v. y .other (sym hd ∙ v ∙ hc)) in (
               live,
               q .region ∙ sym (new-stays s r W′ T (slotIn (w .remember) (q .entry)) (slotRegionIn (s .entries) (w .remember) (q .entry)) kept n)
-              ∙ y .region ∙ sym hd ∙ sym z ∙ ap (crossAt s W′ T) (sym (live .at)),
+                  ∙ y .region ∙ sym hd ∙ sym z ∙ ap (crossAt s W′ T) (sym (live .at)),
             )
 
     -- every entry of the new table is a slot that crosses then, with its region

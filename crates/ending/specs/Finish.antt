@@ -2,7 +2,7 @@
 use mathlib.Core.Path.{_≡_, refl, sym, ap, ap₂, subst, _∙_}
 use mathlib.Core.Logic.{_≢_, _⊎_, inl, inr, ⊎-elim}
 use mathlib.Core.List.{List}
-use Prim.Native.Nat.{ℕ, zero, suc, _+_, _-_, _*_, _/_, _≤_, _<_}
+use Prim.Native.Nat.{ℕ, zero, suc, _+_, _-_, _*_, _≤_, _<_}
 use native.Mathlib.Decide.{ℕ-discrete, decLt}
 use native.Mathlib.Nat.{div-add-mod', pos-of-ne-zero}
 use native.Mathlib.Omega.{arith}
@@ -14,14 +14,14 @@ use Rattle.rules.specs.Regions.{regionAt, threadOf, levelOf}
 use Rattle.laws.specs.RegionLaws.{thread-at, level-at}
 use Rattle.laws.specs.SameRules.{renamed}
 use Rattle.layout.specs.declared.Kind.the-variants.{Reference}
-use Rattle.layout.specs.Places.{Room, depthAt, varAt, ownerAt, usedAt, markAt, countAt, depthOf, varOf, ownerOf, usedOf, markOf, countOf, usedIn, cellsWords, rememberWords, tablesWords, count-room, countsFrom, varsFrom}
+use Rattle.layout.specs.Places.{Room, depthAt, varAt, usedAt, markAt, countAt, depthOf, varOf, ownerOf, usedOf, markOf, usedIn, cellsWords, rememberWords, tablesWords, count-room, countsFrom, varsFrom}
 use Rattle.layout.specs.Cells.{fieldAt, fieldOf, refsOf, fieldCount, cellNamed, pageOf, cellOn, mostFields}
 use Rattle.layout.specs.Words.{Words, words, InUse, Used, depthIn, ownerIn, refCount}
 use Rattle.remember.specs.Crossing.{other, crossTo, crossesFrom}
 use Rattle.remember.specs.Entries as table
 use Rattle.remember.specs.Renewed.{renewed-exact}
 use Rattle.promises.specs.Slots.{region-of}
-use Rattle.promises.specs.Whole.{WholeFor, Open, objectsOn, RememberWhole}
+use Rattle.promises.specs.Whole.{Open, objectsOn, RememberWhole}
 use Rattle.promises.specs.StandsFor.{SameFrom}
 use Rattle.promises.specs.Reading.{refs-few, used-home}
 use Rattle.promises.specs.Ends.{partOf, Outside, Survivor, Lives, outside-lives, survivor-lives, lives-how}
@@ -38,10 +38,10 @@ use Rattle.release.specs.Release.{Ended, ended-size, ended-depth, ended-rest, e
 use Rattle.ended.specs.Evacuated.{Evacuated}
 use Rattle.ended.specs.EvacuatedWhole.{Lowered}
 use Rattle.ended.specs.WordsPlaced.{target-level}
-use Rattle.ending.specs.MarkedWords.{marked-survivor, owner-same, depth-same, table-same}
+use Rattle.ending.specs.MarkedWords.{table-same}
 use Rattle.ending.specs.Placing.{placed, forwarded-placed, outside-placed, outside-owner, survivor-placed, survivor-fresh, survivor-owner, placed-used, placed-apart, placed-only}
 use Rattle.ending.specs.Rewriting.{copy-survivor, slot-after, rest-after, head-after, work-after}
-use Rattle.ending.specs.Crossing.{Held, holding, cross-field, field-cross, home-out, LiveSlot, cross-live, live-out, entry-live, live-entry}
+use Rattle.ending.specs.Crossing.{Held, holding, cross-field, field-cross, home-out, LiveSlot, cross-live, entry-live, live-entry}
 use Rattle.ending.specs.Space.{page-kept}
 use Rattle.ending.specs.Stages.{Begun, high, bounds, sends, F, ready, tables-ask, owner-after, variable-same, release-ask}
 

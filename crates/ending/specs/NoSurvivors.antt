@@ -1,11 +1,9 @@
 -- An end without survivors: no cell is marked, so none moves and nothing outside r points into r. Each stage but the entries and the release
 -- leaves the words as they are.
-use mathlib.Core.Path.{_≡_, refl, sym, ap, subst, _∙_}
-use mathlib.Core.Logic.{_⊎_, inl, inr, ⊎-elim}
-use mathlib.Core.List.{List}
-use Prim.Native.Nat.{ℕ, zero, suc, _-_, _*_, _≤_, _<_}
+use mathlib.Core.Path.{_≡_, refl, sym, ap, _∙_}
+use mathlib.Core.Logic.{_⊎_, ⊎-elim}
+use Prim.Native.Nat.{ℕ, zero, suc, _*_, _≤_, _<_}
 use native.Mathlib.Omega.{arith}
-use lib.ListN.{length}
 use Rattle.lists.specs.Bits.{bitAt, bit-zero}
 use Rattle.rules.specs.declared.Sizes.{Sizes}
 use Rattle.rules.specs.Regions.{regionAt}
@@ -13,7 +11,7 @@ use Rattle.layout.specs.Places.{varOf, markOf, usedIn}
 use Rattle.layout.specs.Cells.{workOf, pageOf, placeOf, cellNamed}
 use Rattle.layout.specs.Marks.{marked}
 use Rattle.layout.specs.Words.{Words}
-use Rattle.promises.specs.Ends.{partOf, Outside, Survivor, Lives, lives-how}
+use Rattle.promises.specs.Ends.{partOf, Survivor, lives-how}
 use Rattle.copy.specs.Passing.{Moves.none}
 use Rattle.copy.specs.Copying.{Plan, Copy}
 use Rattle.settle.specs.Rewrite.{forwarded, forward-null, forward-still, Rewritten, rewritten-none}

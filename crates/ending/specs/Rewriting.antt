@@ -1,9 +1,9 @@
 -- After the rewriting of the holding slots and of the copies' own, every reference of an object that lives on leads to the cell of what it
 -- names; its other words are as they were.
 use mathlib.Core.Path.{_≡_, refl, sym, ap, subst, _∙_}
-use mathlib.Core.Logic.{_≢_, _⊎_, inl, inr, ⊎-elim}
+use mathlib.Core.Logic.{_⊎_, inl, inr, ⊎-elim}
 use mathlib.Core.List.{List}
-use Prim.Native.Nat.{ℕ, zero, suc, _+_, _-_, _*_, _≤_, _<_}
+use Prim.Native.Nat.{ℕ, zero, suc, _-_, _≤_, _<_}
 use native.Mathlib.Decide.{ℕ-discrete}
 use native.Mathlib.Omega.{arith}
 use lib.ListN.{length, getD}
@@ -17,11 +17,11 @@ use Rattle.promises.specs.Whole.{WholeFor}
 use Rattle.promises.specs.Reading.{refs-few}
 use Rattle.promises.specs.Ends.{Part, Outside, Survivor, Lives, outside-lives, survivor-lives, lives-how}
 use Rattle.mark.specs.Survivors.{Marked}
-use Rattle.copy.specs.Forward.{Forwards, forward}
+use Rattle.copy.specs.Forward.{Forwards}
 use Rattle.settle.specs.Rewrite.{forwarded, forward-null, forward-still, Rewritten, head-same, link-same}
 use Rattle.settle.specs.Update.{Copies}
 use Rattle.ending.specs.MarkedWords.{now-used}
-use Rattle.ending.specs.Placing.{Sends, placed, forwarded-placed, outside-idle, outside-placed, survivor-forward, survivor-placed, survivor-fresh, placed-used, placed-head, placed-field, placed-work, placed-apart, moved-survivor}
+use Rattle.ending.specs.Placing.{Sends, placed, forwarded-placed, outside-idle, outside-placed, survivor-forward, survivor-placed, survivor-fresh, placed-head, placed-field, placed-work, placed-apart, moved-survivor}
 
 -- fields of different objects stand apart
 pub fields-apart : (c d f g : ℕ) → f < mostFields → g < mostFields → fieldAt c f ≡ fieldAt d g → (c ≡ d) × (f ≡ g)

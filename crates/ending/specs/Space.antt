@@ -4,7 +4,7 @@ use mathlib.Core.Path.{_≡_, refl, sym, ap, ap₂, subst, _∙_}
 use mathlib.Core.Logic.{_≢_, _⊎_, ⊎-elim}
 use mathlib.Core.Bool.{Bool, cond, not, _&&_}
 use mathlib.Core.List.{List}
-use Prim.Native.Nat.{ℕ, suc, _+_, _-_, _*_, _/_, _%_, _≤_, _<_}
+use Prim.Native.Nat.{ℕ, suc, _+_, _-_, _≤_, _<_}
 use native.Mathlib.Decide.{decLt}
 use native.Mathlib.Omega.{arith}
 use borrow.Author.Tests.{ne-eqb}
@@ -14,8 +14,8 @@ use Rattle.rules.specs.Graph.{Graph, ended, crossing}
 use Rattle.laws.specs.Counts.{crossRef}
 use Rattle.layout.specs.declared.Kind.the-variants.{Reference}
 use Rattle.layout.specs.Places.{Room, ownerOf, usedOf, cellsWords}
-use Rattle.layout.specs.Cells.{fieldAt, fieldOf, refsOf, fieldCount, pageOf, cellOn, cellOf, wordOf, pageAt, mostFields}
-use Rattle.layout.specs.Words.{Words, InUse, Used, ownerIn, refCount, graphOf}
+use Rattle.layout.specs.Cells.{fieldAt, refsOf, fieldCount, pageOf, cellOn, cellOf, wordOf, pageAt, mostFields}
+use Rattle.layout.specs.Words.{Words, Used, ownerIn, refCount, graphOf}
 use Rattle.promises.specs.Whole.{WholeFor}
 use Rattle.promises.specs.Reading.{refs-few}
 use Rattle.promises.specs.Ends.{partOf, Lives, lives-how}

@@ -2,8 +2,7 @@
 use mathlib.Core.Path.{_≡_, refl, sym, ap, subst, _∙_}
 use mathlib.Core.Logic.{_≢_, _⊎_, inl, inr, ⊎-elim}
 use mathlib.Core.List.{List}
-use Prim.Native.Nat.{ℕ, zero, suc, _+_, _-_, _*_, _/_, _%_, _≤_, _<_}
-use native.Mathlib.Decide.{ℕ-discrete}
+use Prim.Native.Nat.{ℕ, zero, suc, _-_, _*_, _≤_, _<_}
 use native.Mathlib.Omega.{arith}
 use lib.ListN.{length, getD}
 use Rattle.lists.specs.Part.{Off, Lists}
@@ -15,20 +14,20 @@ use Rattle.laws.specs.SameRules.{renamed}
 use Rattle.layout.specs.declared.Kind.the-variants.{Reference}
 use Rattle.layout.specs.Places.{Room, depthAt, varAt, ownerAt, varOf, depthOf, ownerOf, usedOf, markOf, usedIn, slotIn, slotRegionIn}
 use Rattle.layout.specs.Cells.{fieldAt, fieldOf, workOf, refsOf, fieldCount, pageOf, cellOn, cellNamed, mostFields}
-use Rattle.layout.specs.Words.{Words, InUse, Used, Names, depthIn, ownerIn, refCount, graphOf}
+use Rattle.layout.specs.Words.{Words, InUse, Names, depthIn, ownerIn, refCount, graphOf}
 use Rattle.promises.specs.Whole.{WholeFor}
 use Rattle.promises.specs.OwnedPages.{pagesOwned}
 use Rattle.promises.specs.Reading.{refs-few, remember-room, used-home}
 use Rattle.promises.specs.Ends.{partOf, Survivor, Lives, outside-lives, survivor-lives}
 use Rattle.mark.specs.Marks.{page-unmarked}
 use Rattle.mark.specs.Survivors.{Marked}
-use Rattle.copy.specs.Passing.{Ready, moves-ready, moves-tables}
+use Rattle.copy.specs.Passing.{Ready, moves-ready}
 use Rattle.copy.specs.Copying.{Plan, Copy, copy-marks, region-bounds}
-use Rattle.copy.specs.Forward.{Forwards, forward, copy-forwards}
+use Rattle.copy.specs.Forward.{Forwards, copy-forwards}
 use Rattle.settle.specs.Rewrite.{Rewritten, rewritten-join, link-same, refs-same}
 use Rattle.settle.specs.RewriteSlots.{Slots, Fields, Variables}
 use Rattle.settle.specs.RewriteCopies.{Old, Wiring, wiring-now, OnPages, slot-now, slot-then}
-use Rattle.settle.specs.Update.{Copies, Updating, Updated}
+use Rattle.settle.specs.Update.{Copies, Updating}
 use Rattle.settle.specs.Final.{Settles}
 use Rattle.ended.specs.EndQuestion.{pagesNeeded, crossingAfter}
 use Rattle.ended.specs.WordsPlaced.{target-level}

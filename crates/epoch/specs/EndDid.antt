@@ -1,9 +1,8 @@
 -- The end of an epoch as the code goes through it: what each call asks, and the promise of code 2 at each way out.
-use mathlib.Core.Path.{_≡_, refl, sym, ap, ap₂, _∙_, subst, subst₂}
-use mathlib.Core.Logic.{inl}
+use mathlib.Core.Path.{_≡_, refl, sym, ap, ap₂, _∙_, subst}
 use mathlib.Core.List.{List}
 use mathlib.Core.Bool.{Bool, true, false}
-use Prim.Native.Nat.{ℕ, suc, _-_, _*_, _^_, _≤_, _<_}
+use Prim.Native.Nat.{ℕ, suc, _-_, _^_, _≤_, _<_}
 use native.Mathlib.Omega.{arith}
 use lib.Dec.{eqb, leb}
 use lib.ListN.{length}
@@ -12,22 +11,22 @@ use Rattle.lists.specs.Bits.{bitAt, bit-zero}
 use Rattle.lists.specs.Counting.{bit, sum-same, sum-none, sum-high}
 use Rattle.lists.specs.Part.{Off, Lists}
 use Rattle.rules.specs.declared.Sizes.{Sizes}
-use Rattle.rules.specs.Terms.{ask, refused, done}
+use Rattle.rules.specs.Terms.{ask, refused}
 use Rattle.rules.specs.Regions.{regionAt, regions}
 use Rattle.rules.specs.Graph.{pagesOf}
 use Rattle.rules.specs.Rules as ru
 use Rattle.laws.specs.RulesLaws.{region-pos}
-use Rattle.layout.specs.Places.{Room, cellsWords, depthAt, depthOf, ownerOf, markOf, usedIn, slotIn}
+use Rattle.layout.specs.Places.{cellsWords, depthOf, ownerOf, markOf, usedIn, slotIn}
 use Rattle.layout.specs.Cells.{pageOf, placeOf, workOf}
 use Rattle.layout.specs.Marks.{marked}
-use Rattle.layout.specs.Words.{Words, words, InUse, depthIn, heapOf}
+use Rattle.layout.specs.Words.{Words, words, InUse, heapOf}
 use Rattle.promises.specs.Whole.{WholeFor}
 use Rattle.promises.specs.Promises.{DidHere}
 use Rattle.promises.specs.OwnedPages.{pagesOwned, owner-low, region-pages, counted-objects}
 use Rattle.promises.specs.Ends.{partOf}
 use Rattle.promises.specs.Reading.{cells-room}
 use Rattle.pages.specs.Owned.{ownedOne, ownedIn, Paged}
-use Rattle.mark.specs.Marks.{Kept, Shaped, kept-shaped, kept-room, page-unmarked}
+use Rattle.mark.specs.Marks.{Kept, Shaped, kept-shaped, page-unmarked}
 use Rattle.mark.specs.Holders.{Holding, holding-kept}
 use Rattle.mark.specs.Survivors.{Marked, marked-kept, space-of, shaped-at, holding-at}
 use Rattle.mark.specs.Unmark.{Unmarked, cells-back, tables-back}
@@ -39,7 +38,7 @@ use Rattle.copy.specs.Copying.{region-bounds}
 use Rattle.ended.specs.AfterEnd.{endOf}
 use Rattle.ended.specs.EndQuestion.{pagesNeeded, crossingAfter, end-question, refused-shut, ended-refused}
 use Rattle.ending.specs.MarkedWords.{owner-same, count-same, now-used}
-use Rattle.ending.specs.Ending.{Ending, Accepted, room-of, room-now, deep, depth-now, depth-high}
+use Rattle.ending.specs.Ending.{Ending, Accepted, room-of, deep, depth-now, depth-high}
 use Rattle.ending.specs.CensusCounts.{needsBelow, roomAsked, asked-none, needs-none, needs-are, free-are, crossing-are, targets-low}
 
 -- both were answered with yes

@@ -9,8 +9,8 @@ ghost use Rattle.promises.specs.Promises.{DidHere};
 ghost use Rattle.pages.specs.Pages.{noteWords};
 ghost use Rattle.ended.specs.AfterEnd.{endOf};
 ghost use Rattle.ending.specs.Ending.{Ending};
-use rules::Sizes;
 use rules::Answer;
+use rules::Sizes;
 
 pub mod needs;
 

@@ -2,9 +2,8 @@
 use Prim.Native.Nat.{ℕ, _+_, _*_, _<_}
 use mathlib.Core.List.{List, []}
 use mathlib.Core.Logic.{_≢_}
-use mathlib.Core.Bool.{Bool, cond, _&&_}
+use mathlib.Core.Bool.{cond}
 use lib.ListN.{take, drop}
-use lib.Dec.{ltb}
 use Rattle.lists.specs.Listed.{listed}
 use Rattle.rules.specs.declared.Sizes.{Sizes}
 use Rattle.rules.specs.NeverFreeing.{Object}
@@ -12,6 +11,7 @@ use Rattle.rules.specs.Graph.{Graph}
 use Rattle.rules.specs.Rules.{Regioned}
 use Rattle.layout.specs.declared.Kind.{Kind}
 use Rattle.layout.specs.declared.Kind.the-variants.{Reference, Number}
+pub use Rattle.layout.specs.Objects.{InUse, Begins, beginsAt, cellCount}
 use Rattle.layout.specs.Places.{sizesAt, depthAt, varAt, depthOf, varOf, ownerOf, usedOf}
 use Rattle.layout.specs.Cells.{headOf, fieldAt, fieldCount, firstField, cellNamed, pageOf, placeOf}
 
@@ -84,37 +84,30 @@ refsIn w c = fieldsIn Reference w c
 abbrev pub numsIn : Words → ℕ → List ℕ
 numsIn w c = fieldsIn Number w c
 
--- cell c is in use: it is one of the first cells of its page
-pub record InUse (p : Sizes) (t : List ℕ) (c : ℕ) : Type 0 where
-  pub page : pageOf c < p .pages
-  pub place : placeOf c < usedOf p t (pageOf c)
-
 abbrev pub Used : Sizes → Words → ℕ → Type 0
 Used s w c = InUse s (w .tables) c
 
-unfoldable pub inUseAt : Sizes → List ℕ → ℕ → Bool
-inUseAt s tables c = ltb (pageOf c) (s .pages) && ltb (placeOf c) (usedOf s tables (pageOf c))
+-- an object begins at cell c
+abbrev pub BeginsIn : Sizes → Words → ℕ → Type 0
+BeginsIn s w c = Begins s (w .cells) (w .tables) c
 
--- the region that a cell in use lies in; a cell not in use has home 0
-unfoldable pub homeAt : Sizes → List ℕ → ℕ → ℕ
-homeAt s tables c = cond (inUseAt s tables c) (ownerOf s tables (pageOf c)) 0
+-- the region that the object at cell c lies in; a cell where none begins has home 0
+unfoldable pub homeAt : Sizes → List ℕ → List ℕ → ℕ → ℕ
+homeAt s cells tables c = cond (beginsAt s cells tables c) (ownerOf s tables (pageOf c)) 0
 
 abbrev pub homeIn : Sizes → Words → ℕ → ℕ
-homeIn s w c = homeAt s (w .tables) c
+homeIn s w c = homeAt s (w .cells) (w .tables) c
 
 -- a reference is null or names a cell of the heap's pages
 abbrev pub Names : Sizes → ℕ → Type 0
 Names s x = x ≢ 0 → pageOf (cellNamed x) < s .pages
 
--- ---- the graph of the words: an object is a cell in use
-
-abbrev pub cellCount : Sizes → ℕ
-cellCount s = 16 * s .pages
+-- ---- the graph of the words: an object is the cell where it begins
 
 abbrev pub graphOf : Sizes → Words → Graph
 graphOf s w = record { count = cellCount s; home = homeIn s w; refs = refsIn w; vars = varsIn s w }
 
--- ---- the heap of the words: one object for each cell, freed where it is not in use
+-- ---- the heap of the words: one object for each cell, freed where none begins
 
 abbrev pub objectIn : Words → ℕ → Object
 objectIn w c = record { refs = refsIn w c; nums = numsIn w c }

@@ -219,7 +219,7 @@ draining-kept h = h .marking .kept
 -- ---- what two runs of pushes on an empty stack leave is pending
 
 pub seeded : {p : Sizes} {r : ℕ} (g : ℕ) (ref ref′ : ℕ → ℕ) (n n′ : ℕ) {W T W′ T′ W″ T″ : List ℕ} {top top′ : ℕ} → Shaped p W T
-    → ((k : ℕ) → k < n′ → IsRef p T (ref′ k)) → Pushing p r ref n W T 0 W′ T′ top n → Pushing p r ref′ n′ W′ T′ top W″ T″ top′ n′
+    → ((k : ℕ) → k < n′ → IsRef p W T (ref′ k)) → Pushing p r ref n W T 0 W′ T′ top n → Pushing p r ref′ n′ W′ T′ top W″ T″ top′ n′
     → Pending p r g W T (named ref n ++ named ref′ n′) W″ T″ top′
 seeded {p} {r} g ref ref′ n n′ {W} {T} {W′} {T′} s used h i =
     let S₀ : List ℕ = named ref n ++ named ref′ n′ in

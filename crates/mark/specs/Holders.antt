@@ -45,25 +45,25 @@ pub record Holding (p : Sizes) (W m T : List ℕ) : Type 0 where
   pub some : 1 ≤ p .variables
   pub long : 2 * p .entries + 2 ≤ length m
   pub few : usedIn m ≤ p .entries
-  pub variables : (i : ℕ) → i < p .threads * p .variables → IsRef p T (varOf p T i)
+  pub variables : (i : ℕ) → i < p .threads * p .variables → IsRef p W T (varOf p T i)
   pub slot : (i : ℕ) → i < usedIn m → slotIn m i < 256 * p .pages
   pub field : (i : ℕ) → i < usedIn m → wordOf (slotIn m i) ≡ 1 → ⊥
-  pub slots : (i : ℕ) → i < usedIn m → IsRef p T (getD W (slotIn m i) 0)
+  pub slots : (i : ℕ) → i < usedIn m → IsRef p W T (getD W (slotIn m i) 0)
 
-cond-ref : (p : Sizes) (T : List ℕ) (b : Bool) (x : ℕ) → IsRef p T x → IsRef p T (cond b x 0)
-cond-ref p T true x h = h
-cond-ref p T false x h = λ l. absurd (let z : ⊥ = omega arith in z)
+cond-ref : (p : Sizes) (W T : List ℕ) (b : Bool) (x : ℕ) → IsRef p W T x → IsRef p W T (cond b x 0)
+cond-ref p W T true x h = h
+cond-ref p W T false x h = λ l. absurd (let z : ⊥ = omega arith in z)
 
 module _ {p : Sizes} {W m T : List ℕ} (h : Holding p W m T) where
-  pub var-held-ref : (thread outer g i : ℕ) → i < p .threads * p .variables → IsRef p T (varHeld p T thread outer g i)
+  pub var-held-ref : (thread outer g i : ℕ) → i < p .threads * p .variables → IsRef p W T (varHeld p T thread outer g i)
   unfolding varHeld
-  var-held-ref thread outer g i l = cond-ref p T (eqb (varCalls p thread outer i) g) (varOf p T i) (h .variables i l)
+  var-held-ref thread outer g i l = cond-ref p W T (eqb (varCalls p thread outer i) g) (varOf p T i) (h .variables i l)
 
-  pub slot-held-ref : (r g i : ℕ) → i < usedIn m → IsRef p T (slotHeld p W m T r g i)
+  pub slot-held-ref : (r g i : ℕ) → i < usedIn m → IsRef p W T (slotHeld p W m T r g i)
   unfolding slotHeld
   slot-held-ref r g i l =
-      cond-ref p T (eqb (slotRegionIn (p .entries) m i) r) (heldFor g (slotCalls p m T r i) (getD W (slotIn m i) 0))
-      (cond-ref p T (eqb (slotCalls p m T r i) g) (getD W (slotIn m i) 0) (h .slots i l))
+      cond-ref p W T (eqb (slotRegionIn (p .entries) m i) r) (heldFor g (slotCalls p m T r i) (getD W (slotIn m i) 0))
+      (cond-ref p W T (eqb (slotCalls p m T r i) g) (getD W (slotIn m i) 0) (h .slots i l))
 
   pub held-used : (r thread outer g x : ℕ) → In x (heldCells p W m T r thread outer g) → InUse p T x
   unfolding heldCells
@@ -72,7 +72,7 @@ module _ {p : Sizes} {W m T : List ℕ} (h : Holding p W m T) where
       (λ j. of (slotHeld p W m T r g) (usedIn m) (slot-held-ref r g) j)
       (in-append x (named (varHeld p T thread outer g) (p .threads * p .variables)) (named (slotHeld p W m T r g) (usedIn m)) i)
     where
-      of : (ref : ℕ → ℕ) (n : ℕ) → ((k : ℕ) → k < n → IsRef p T (ref k)) → In x (named ref n) → InUse p T x
+      of : (ref : ℕ → ℕ) (n : ℕ) → ((k : ℕ) → k < n → IsRef p W T (ref k)) → In x (named ref n) → InUse p T x
       of ref n u j =
           let q = named-from ref n x j in
           let e : ref (q .0) ≡ 1 + x = q .2 in
@@ -136,10 +136,10 @@ module _ {p : Sizes} {W T W′ T′ : List ℕ} (k : Kept p W T W′ T′) (room
         some = h .some;
         long = h .long;
         few = h .few;
-        variables = λ i l. subst (IsRef p T′) (sym (kept-var i l)) (λ n. kept-in-use k room (varOf p T i - 1) (h .variables i l n));
+        variables = λ i l. subst (IsRef p W′ T′) (sym (kept-var i l)) (λ n. kept-in-use k room (varOf p T i - 1) (h .variables i l n));
         slot = h .slot;
         field = h .field;
-        slots = λ i l. subst (IsRef p T′) (sym (kept-slot i l)) (λ n. kept-in-use k room (getD W (slotIn m i) 0 - 1) (h .slots i l n));
+        slots = λ i l. subst (IsRef p W′ T′) (sym (kept-slot i l)) (λ n. kept-in-use k room (getD W (slotIn m i) 0 - 1) (h .slots i l n));
       }
 
   pub kept-var-held : (thread outer g i : ℕ) → i < p .threads * p .variables → varHeld p T′ thread outer g i ≡ varHeld p T thread outer g i

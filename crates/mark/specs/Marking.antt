@@ -17,10 +17,10 @@ use Rattle.mark.specs.Marks.{owner, Shaped, Reach, Chain, Linked, Pushed
 
 -- ---- the words after a push
 
-mark-long : {p : Sizes} {W T : List ℕ} (x : ℕ) → Shaped p W T → IsRef p T x → 0 < x → markAt p (pageOf (x - 1)) < length T
+mark-long : {p : Sizes} {W T : List ℕ} (x : ℕ) → Shaped p W T → IsRef p W T x → 0 < x → markAt p (pageOf (x - 1)) < length T
 mark-long x s u l = omega (arith, s .room, u l .page)
 
-module _ {p : Sizes} {r : ℕ} {W T : List ℕ} {top x : ℕ} {W′ T′ : List ℕ} {top′ : ℕ} (s : Shaped p W T) (u : IsRef p T x) where
+module _ {p : Sizes} {r : ℕ} {W T : List ℕ} {top x : ℕ} {W′ T′ : List ℕ} {top′ : ℕ} (s : Shaped p W T) (u : IsRef p W T x) where
   linked-kept : Linked p r W T top x W′ T′ top′ → Kept p W T W′ T′
   linked-kept l =
       let c : ℕ = x - 1 in
@@ -108,7 +108,7 @@ first-or (inr j) = inr (inr j)
 
 module _ {p : Sizes} {r g : ℕ} {W₀ T₀ S₀ D S W T : List ℕ} {top : ℕ} (m : Marking p r g W₀ T₀ S₀ D S W T top) where
   -- an unmarked cell of r that is reached goes on the stack
-  linked-marking : {x : ℕ} {W′ T′ : List ℕ} {top′ : ℕ} → IsRef p T x → Reach p r W₀ T₀ S₀ (x - 1) → Linked p r W T top x W′ T′ top′
+  linked-marking : {x : ℕ} {W′ T′ : List ℕ} {top′ : ℕ} → IsRef p W T x → Reach p r W₀ T₀ S₀ (x - 1) → Linked p r W T top x W′ T′ top′
       → Marking p r g W₀ T₀ S₀ D ((x - 1) ∷ S) W′ T′ top′
   linked-marking {x} {W′} {T′} {top′} ref reach l =
       let c : ℕ = x - 1 in
@@ -149,7 +149,7 @@ module _ {p : Sizes} {r g : ℕ} {W₀ T₀ S₀ D S W T : List ℕ} {top : ℕ}
             (getD-set-other W (workAt c) (workAt d) top 0 (λ e. fresh (inr (subst (λ (y : ℕ). In y D) (let z : d ≡ c = omega arith in z) i))) ∙ m .done d i);
       }
 
-  pub pushed-marking : {x : ℕ} {W′ T′ : List ℕ} {top′ : ℕ} → IsRef p T x → (0 < x → owner p T (x - 1) ≡ r → marked p T (x - 1) ≡ 0 → Reach p r W₀ T₀ S₀ (x - 1))
+  pub pushed-marking : {x : ℕ} {W′ T′ : List ℕ} {top′ : ℕ} → IsRef p W T x → (0 < x → owner p T (x - 1) ≡ r → marked p T (x - 1) ≡ 0 → Reach p r W₀ T₀ S₀ (x - 1))
       → Pushed p r W T top x W′ T′ top′ → (S′ : List ℕ) × Marking p r g W₀ T₀ S₀ D S′ W′ T′ top′
   pushed-marking u reach (inl l) =
       (S, subst₃ (λ (X Y : List ℕ) (y : ℕ). Marking p r g W₀ T₀ S₀ D S X Y y) (sym (l .cells)) (sym (l .tables)) (sym (l .stack)) m)

@@ -25,7 +25,7 @@ pub record Shaped (p : Sizes) (W T : List ℕ) : Type 0 where
   pub room : Room p (length T)
   pub cells-long : 256 * p .pages ≤ length W
   pub refs-few : (c : ℕ) → InUse p T c → refsOf W c ≤ 14
-  pub references : (c : ℕ) → InUse p T c → (f : ℕ) → f < refsOf W c → IsRef p T (fieldOf W c f)
+  pub references : (c : ℕ) → InUse p T c → (f : ℕ) → f < refsOf W c → IsRef p W T (fieldOf W c f)
 
 -- c is r's and not marked, and a chain of slots inside r leads to it from one of the cells S, over cells that are not marked
 pub data Reach (p : Sizes) (r : ℕ) (W T S : List ℕ) : ℕ → Type 0 where
@@ -159,7 +159,7 @@ module _ {p : Sizes} {W T W′ T′ : List ℕ} (k : Kept p W T W′ T′) where
             let l : refsOf W c ≤ 14 = s .refs-few c v in
             let b : f < refsOf W c = omega (arith, kept-refs c) in
             let e : fieldOf W′ c f ≡ fieldOf W c f = kept-field c f (omega arith) in
-            subst (IsRef p T′) (sym e) (λ n. kept-in-use (s .room) (fieldOf W c f - 1) (s .references c v f b n));
+            subst (IsRef p W′ T′) (sym e) (λ n. kept-in-use (s .room) (fieldOf W c f - 1) (s .references c v f b n));
       }
 
 -- ---- whether a cell is marked

@@ -23,7 +23,9 @@ use Rattle.layout.specs.Cells.{fieldAt, fieldOf, pageOf, cellOf, wordOf}
 use Rattle.layout.specs.Words.{Words, Used, ownerIn, homeIn, depthIn, refCount, refsIn, varsIn, graphOf}
 use Rattle.remember.specs.Crossing.{other, regionOf, crossTo}
 use Rattle.promises.specs.Whole.{WholeFor, IsRef}
-use Rattle.promises.specs.Slots.{Slot, region-of, slot-low, slot-cross, cross-slot, slot-field, field-slot}
+use Rattle.layout.specs.Objects.{Slot, slot-low, slot-word, field-slot}
+use Rattle.remember.specs.Crosses.{slot-cross, cross-slot}
+use Rattle.promises.specs.Slots.{region-of}
 use Rattle.promises.specs.Reading.{range, cells-room, remember-room, used-home, used-owned, used-alive, alive-used, cell-low, length-refs, getD-refs, length-vars, getD-vars, refs-few}
 use Rattle.mark.specs.Marks.{Shaped, Leads, Leads.here, Leads.step, named, named-in, named-from}
 use Rattle.mark.specs.Holders.{varCalls, varHeld, slotCalls, slotHeld, heldCells, Holding, calls-own, calls-other, var-some, slot-some}
@@ -121,7 +123,7 @@ module _ (s : Sizes) (w : Words) (k : WholeFor s w) where
   pub entry-slot : (i : ℕ) → i < usedIn (w .remember) → Slot s (w .cells) (w .tables) (slotIn (w .remember) i)
   entry-slot i l =
       let e = k .remember .entries .named i l in
-      cross-slot s (w .cells) (w .tables) (slotIn (w .remember) i) (e .slot) (omega (arith, e .region, e .right))
+      cross-slot s (w .cells) (w .tables) (slotIn (w .remember) i) (omega (arith, e .region, e .right))
 
   pub whole-holding : Holding s (w .cells) (w .remember) (w .tables)
   whole-holding =
@@ -131,12 +133,11 @@ module _ (s : Sizes) (w : Words) (k : WholeFor s w) where
         few = k .remember .entries .room;
         variables = k .variables;
         slot = λ i l. k .remember .entries .named i l .slot;
-        field = λ i l e. omega (arith, entry-slot i l .field);
+        field = λ i l e. omega (arith, slot-word s (w .cells) (w .tables) (slotIn (w .remember) i) (entry-slot i l) .1);
         slots = λ i l.
             let q = slotIn (w .remember) i in
             let o = entry-slot i l in
-            let f = slot-field s (w .cells) (w .tables) q o in
-            subst (λ (z : ℕ). IsRef s (w .tables) (getD (w .cells) z 0)) (f .0) (k .objects (cellOf q) (o .used) .references (wordOf q - 2) (f .1));
+            subst (λ (z : ℕ). IsRef s (w .cells) (w .tables) (getD (w .cells) z 0)) (o .at) (k .objects (o .object) (o .begins) .references (o .field) (o .low));
       }
 
   -- ---- entry i of region r: its slot lies outside r and names an object of r
@@ -152,12 +153,12 @@ module _ (s : Sizes) (w : Words) (k : WholeFor s w) where
   entry-enters r i l e =
       let q = slotIn (w .remember) i in
       let o = entry-slot i l in
-      let f = slot-field s (w .cells) (w .tables) q o in
+      let f = slot-word s (w .cells) (w .tables) q o in
       let n = k .remember .entries .named i l in
       let x = regionOf s (w .tables) (getD (w .cells) q 0) in
       let c : other (ownerIn s w (pageOf (cellOf q))) x ≡ r = sym (slot-cross s (w .cells) (w .tables) q o) ∙ n .right ∙ e in
       let h = other-is (ownerIn s w (pageOf (cellOf q))) x (omega (arith, n .region)) in
-      record { used = o .used; field = wordOf q - 2; below = f .1; at = f .0; outside = λ z. h .2 (z ∙ sym c ∙ h .0) }
+      record { used = f .0; field = wordOf q - 2; below = omega (arith, f .1); at = omega (arith, f .1); outside = λ z. h .2 (z ∙ sym c ∙ h .0) }
 
   -- and each such slot has an entry
   pub enters-entry : (r y f x : ℕ) → 1 < r → Used s w y → (ownerIn s w (pageOf y) ≡ r → ⊥) → f < refCount w y → fieldOf (w .cells) y f ≡ suc x

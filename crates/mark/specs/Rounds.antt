@@ -25,7 +25,7 @@ level-pending {p} {r} {g} thread outer {W} {m} {T} {W₁} {T₁} {W₂} {T₂} {
     let S : List ℕ = named (varHeld p T thread outer g) n in
     subst (λ (l : List ℕ). Pending p r g W T (S ++ l) W₂ T₂ top′) (named-same _ _ (usedIn m) (kept-slot-held k (s .room) h r g))
     (seeded g (varHeld p T thread outer g) (slotHeld p W₁ m T₁ r g) n (usedIn m) s
-    (λ i l. subst (IsRef p T) (sym (kept-slot-held k (s .room) h r g i l)) (slot-held-ref h r g i l)) a b)
+    (λ i l. subst (IsRef p W T) (sym (kept-slot-held k (s .room) h r g i l)) (slot-held-ref h r g i l)) a b)
 
 -- the cells that holders of each level of the thread hold
 abbrev pub levelCells : Sizes → List ℕ → List ℕ → List ℕ → ℕ → ℕ → ℕ → ℕ → List ℕ

@@ -15,8 +15,7 @@ use Rattle.rules.specs.declared.Sizes.{Sizes}
 use Rattle.layout.specs.Places.{markAt, markOf, marksFrom}
 use Rattle.layout.specs.Cells.{workAt, workOf, pageOf, placeOf, cellOn}
 use Rattle.layout.specs.Marks.{marked}
-use Rattle.rules.specs.Graph.{target}
-use Rattle.layout.specs.Words.{Words, Used, ownerIn, usedIn, graphOf}
+use Rattle.layout.specs.Words.{Words, Used, usedIn}
 use Rattle.promises.specs.Whole.{WholeFor}
 use Rattle.promises.specs.Ends.{Part}
 use Rattle.mark.specs.Survivors.{Marked}

@@ -10,7 +10,7 @@ use rules::Sizes;
 // If reference x names an object of r that is not marked, it is marked and goes on the stack, whose new top is returned.
 pub fn push(p: Sizes, cells: &mut [u32], tables: &mut [u32], r: u32, x: u32, top: u32) -> u32
     requires { ⌜ Shaped p (now cells) (now tables) ⌝ }
-    requires { ⌜ IsRef p (now tables) x ⌝ }
+    requires { ⌜ IsRef p (now cells) (now tables) x ⌝ }
     ensures { λ t. ⌜ Pushed p r (now (cells .entry)) (now (tables .entry)) top x (now (cells .exit)) (now (tables .exit)) t ⌝ }
 {
     if x == 0 {

@@ -13,7 +13,7 @@ use Rattle.laws.specs.GraphLaws.{Alive, Closed}
 use Rattle.laws.specs.Counts.{same-free}
 use Rattle.laws.specs.SameRules.{renamed, same-target, same-objects, same-crossing}
 use Rattle.rules.specs.Rules.{Regioned, graph}
-use Rattle.layout.specs.Words.{Words, Used, cellCount, sizesIn, homeIn, varsIn, objectIn, graphOf, heapOf}
+use Rattle.layout.specs.Words.{Words, BeginsIn, cellCount, sizesIn, homeIn, varsIn, objectIn, graphOf, heapOf}
 use Rattle.promises.specs.Whole.{WholeFor, WholeWords}
 use Rattle.promises.specs.StandsFor.{StandsFor}
 use Rattle.lists.specs.Listed.{listed, length-listed, getD-listed, listed-past}
@@ -85,7 +85,7 @@ module _ (s : Sizes) (w : Words) (h : Regioned) (cellOf : ℕ → ℕ) (st : Sta
   pub cell-alive : (x : ℕ) → Alive (graph h) x → Alive (graphOf s w) (cellOf x)
   cell-alive x a z = a (sym (st .partners .home x a) ∙ z)
 
-  pub cell-used : (x : ℕ) → Alive (graph h) x → Used s w (cellOf x)
+  pub cell-used : (x : ℕ) → Alive (graph h) x → BeginsIn s w (cellOf x)
   cell-used x a = alive-used s w (st .whole) (cellOf x) (cell-alive x a)
 
   -- ---- the rules say the same of the words and of the heap

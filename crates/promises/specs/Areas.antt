@@ -15,7 +15,7 @@ use Rattle.rules.specs.declared.Sizes.{Sizes}
 use Rattle.rules.specs.Regions.{regions}
 use Rattle.layout.specs.Places.{varCount, cellsWords, rememberWords, tablesWords, depthAt, varAt, varOf, ownersFrom, ownerAt, usedFrom, usedAt, marksFrom, markAt, markOf, countsFrom, countAt, countOf, count-room}
 use Rattle.layout.specs.Cells.{workOf, fieldOf, roomFor}
-use Rattle.layout.specs.Words.{Words, Used, sizesIn, depthIn, ownerIn, usedIn, headIn}
+use Rattle.layout.specs.Words.{Words, BeginsIn, sizesIn, depthIn, ownerIn, usedIn, headIn}
 use Rattle.promises.specs.StandsFor.{SameFrom, SameBeyond}
 use Rattle.promises.specs.Changes.{withTables, withCells}
 
@@ -50,9 +50,9 @@ Same ownerWords s w w′ = (q : ℕ) → q < s .pages → ownerIn s w′ q ≡ o
 Same usedWords s w w′ = (q : ℕ) → q < s .pages → usedIn s w′ q ≡ usedIn s w q
 Same markWords s w w′ = (q : ℕ) → q < s .pages → markOf s (w′ .tables) q ≡ markOf s (w .tables) q
 Same countWords s w w′ = (g : ℕ) → 1 ≤ g → g ≤ regions s → countOf s (w′ .tables) g ≡ countOf s (w .tables) g
-Same headWords s w w′ = (k : ℕ) → Used s w k → headIn w′ k ≡ headIn w k
-Same workWords s w w′ = (k : ℕ) → Used s w k → workOf (w′ .cells) k ≡ workOf (w .cells) k
-Same fieldWords s w w′ = (k : ℕ) → Used s w k → (f : ℕ) → f < roomFor (headIn w k) → fieldOf (w′ .cells) k f ≡ fieldOf (w .cells) k f
+Same headWords s w w′ = (k : ℕ) → BeginsIn s w k → headIn w′ k ≡ headIn w k
+Same workWords s w w′ = (k : ℕ) → BeginsIn s w k → workOf (w′ .cells) k ≡ workOf (w .cells) k
+Same fieldWords s w w′ = (k : ℕ) → BeginsIn s w k → (f : ℕ) → f < roomFor (headIn w k) → fieldOf (w′ .cells) k f ≡ fieldOf (w .cells) k f
 Same entryWords s w w′ = w′ .remember ≡ w .remember
 
 pub record Only (changed : List Area) (s : Sizes) (w w′ : Words) : Type 0 where
@@ -100,7 +100,7 @@ among-both a (c ∷ cs) ds e = go (eqb (number a) (number c)) (among-both a cs d
 
 -- the objects of w are there, with the same word 0
 abbrev pub ObjectsStay : Sizes → Words → Words → Type 0
-ObjectsStay s w w′ = (k : ℕ) → Used s w k → Used s w′ k × (headIn w′ k ≡ headIn w k)
+ObjectsStay s w w′ = (k : ℕ) → BeginsIn s w k → BeginsIn s w′ k × (headIn w′ k ≡ headIn w k)
 
 pub only-trans : {cs ds : List Area} {s : Sizes} {u v w : Words} → Only cs s u v → Only ds s v w → ObjectsStay s u v → Only (cs ++ ds) s u w
 only-trans {cs} {ds} {s} {u} {v} {w} x y stay =

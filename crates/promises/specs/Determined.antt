@@ -19,14 +19,15 @@ use Rattle.layout.specs.Places as lp
 use Rattle.layout.specs.Places.{tablesWords, ownersFrom, depthAt, varAt, varOf, markOf, countOf, slotIn, slotRegionIn, count-room, count-is, mark-is, used-is, owners-is}
 use Rattle.layout.specs.declared.Kind.{Kind}
 use Rattle.layout.specs.declared.Kind.the-variants.{Reference, Number}
-use Rattle.layout.specs.Cells.{fieldOf, fieldAt, fieldCount, firstField, pageOf, placeOf, cellOn, cellOf, wordOf}
-use Rattle.layout.specs.Words.{Words, Used, sizesIn, depthIn, ownerIn, usedIn, headIn, refCount, numCount, fieldsIn, homeIn}
+use Rattle.layout.specs.Cells.{headAt, workAt, fieldOf, fieldAt, fieldCount, firstField, first-reference, first-number, head-determined, allFields, roomFor, pageCells, pageOf, page-on, place-on, pageAt, cellOn, cellOf}
+use Rattle.layout.specs.Objects.{begins-used, begins-there, Spot, head, work, field, spot, slot-on, slot-word}
+use Rattle.layout.specs.Words.{Words, Used, BeginsIn, sizesIn, depthIn, ownerIn, usedIn, headIn, refCount, numCount, fieldsIn, homeIn}
 use Rattle.remember.specs.Crossing.{other, regionOf, crossTo}
 use Rattle.promises.specs.Whole.{WholeFor, objectsOf}
 use Rattle.promises.specs.StandsFor.{StandsFor}
 use Rattle.promises.specs.Reading.{used-alive, alive-used, used-home, length-fields, getD-fields, getD-vars, depth-at}
 use Rattle.promises.specs.Crossings.{heap-entries}
-use Rattle.promises.specs.Slots.{cross-same}
+use Rattle.promises.specs.Slots.{slot-stays, cross-same}
 
 -- entry i of the first remember table stands in the second, wherever that may be
 pub record SameEntry (s : Sizes) (w w′ : Words) (i : ℕ) : Type 0 where
@@ -46,7 +47,8 @@ pub record SameButOpen (s : Sizes) (w w′ : Words) : Type 0 where
   pub used : (page : ℕ) → page < s .pages → usedIn s w page ≡ usedIn s w′ page
   pub marks : (page : ℕ) → page < s .pages → markOf s (w .tables) page ≡ markOf s (w′ .tables) page
   pub counts : (g : ℕ) → 1 ≤ g → g ≤ regions s → countOf s (w .tables) g ≡ countOf s (w′ .tables) g
-  -- cells: the same are in use, and these have the same 16 words; the others may hold anything
+  -- cells: objects begin at the same, the same are in use, and these have the same words; the others may hold anything
+  pub objects : (c : ℕ) → BeginsIn s w c → BeginsIn s w′ c
   pub inUse : (c : ℕ) → Used s w c → Used s w′ c
   pub cells : (q : ℕ) → Used s w (cellOf q) → getD (w .cells) q 0 ≡ getD (w′ .cells) q 0
   -- remember table: N, entries used, the same entries in any order, the unused ones zero
@@ -60,15 +62,15 @@ pub record SameButOpen (s : Sizes) (w w′ : Words) : Type 0 where
 
 module _ (s : Sizes) (w w′ : Words) (h : Regioned) (to : ℕ → ℕ) (st : StandsFor s w h to) (st′ : StandsFor s w′ h to) where
   -- the object of a cell in use
-  object-of : (c : ℕ) → Used s w c → (x : ℕ) × Alive (graph h) x × (to x ≡ c)
+  object-of : (c : ℕ) → BeginsIn s w c → (x : ℕ) × Alive (graph h) x × (to x ≡ c)
   object-of c u = st .partners .onto c (used-alive s w (st .whole) c u)
 
-  home-as : (c : ℕ) → Used s w c → homeIn s w c ≡ homeIn s w′ c
+  home-as : (c : ℕ) → BeginsIn s w c → homeIn s w c ≡ homeIn s w′ c
   home-as c u =
       let r = object-of c u in
       subst (λ (y : ℕ). homeIn s w y ≡ homeIn s w′ y) (r .2) (st .partners .home (r .0) (r .1) ∙ sym (st′ .partners .home (r .0) (r .1)))
 
-  used-as : (c : ℕ) → Used s w c → Used s w′ c
+  used-as : (c : ℕ) → BeginsIn s w c → BeginsIn s w′ c
   used-as c u = alive-used s w′ (st′ .whole) c (λ z. used-alive s w (st .whole) c u (home-as c u ∙ z))
 
   -- so a page has at least as many cells in use
@@ -79,28 +81,25 @@ module _ (s : Sizes) (w w′ : Words) (h : Regioned) (to : ℕ → ℕ) (st : St
       go (no n) = omega arith
       go (yes n) =
           let c = cellOn page (usedIn s w′ page) in
-          let f : usedIn s w page ≤ 16 = st .whole .pages page l .cells in
-          let e : pageOf c ≡ page = omega arith in
-          let d : placeOf c ≡ usedIn s w′ page = omega arith in
-          let u : Used s w c = record { page = omega arith; place = subst (λ (q : ℕ). placeOf c < usedIn s w q) (sym e) (omega arith) } in
-          let v : Used s w′ c = used-as c u in
-          absurd (let z : ⊥ = omega (arith, v .place, ap (usedIn s w′) e) in z)
+          let m : usedIn s w′ page < pageCells = omega (arith, st .whole .pages page l .cells) in
+          let v = begins-used s (w′ .cells) (w′ .tables) c (used-as c (begins-there s (w .cells) (w .tables) page (usedIn s w′ page) l m n)) in
+          absurd (let z : ⊥ = omega (arith, v .place, ap (usedIn s w′) (page-on page (usedIn s w′ page) m), place-on page (usedIn s w′ page) m) in z)
 
   -- the fields of an object
-  fields-as : (d : Kind) (c : ℕ) → Used s w c → fieldsIn d w c ≡ fieldsIn d w′ c
+  fields-as : (d : Kind) (c : ℕ) → BeginsIn s w c → fieldsIn d w c ≡ fieldsIn d w′ c
   fields-as d c u = let r = object-of c u in subst (λ (y : ℕ). fieldsIn d w y ≡ fieldsIn d w′ y) (r .2) (go d (r .0) (r .1))
     where
       go : (d : Kind) (x : ℕ) → Alive (graph h) x → fieldsIn d w (to x) ≡ fieldsIn d w′ (to x)
       go Reference x a = st .partners .refs x a ∙ sym (st′ .partners .refs x a)
       go Number x a = sym (st .nums x a) ∙ st′ .nums x a
 
-  count-as : (d : Kind) (c : ℕ) → Used s w c → fieldCount d (headIn w c) ≡ fieldCount d (headIn w′ c)
+  count-as : (d : Kind) (c : ℕ) → BeginsIn s w c → fieldCount d (headIn w c) ≡ fieldCount d (headIn w′ c)
   count-as d c u = sym (length-fields s w (st .whole) d c u) ∙ ap length (fields-as d c u) ∙ length-fields s w′ (st′ .whole) d c (used-as c u)
 
-  head-as : (c : ℕ) → Used s w c → headIn w c ≡ headIn w′ c
-  head-as c u = omega (arith, count-as Reference c u, count-as Number c u)
+  head-as : (c : ℕ) → BeginsIn s w c → headIn w c ≡ headIn w′ c
+  head-as c u = head-determined (headIn w c) (headIn w′ c) (count-as Reference c u) (count-as Number c u)
 
-  field-as : (c f : ℕ) → Used s w c → f < 14 → fieldOf (w .cells) c f ≡ fieldOf (w′ .cells) c f
+  field-as : (c f : ℕ) → BeginsIn s w c → f < roomFor (headIn w c) → fieldOf (w .cells) c f ≡ fieldOf (w′ .cells) c f
   field-as c f u l = go (decLt f (refCount w c)) (decLt f (refCount w c + numCount w c))
     where
       same : headIn w c ≡ headIn w′ c
@@ -113,22 +112,22 @@ module _ (s : Sizes) (w w′ : Words) (h : Regioned) (to : ℕ → ℕ) (st : St
           ∙ getD-fields d w′ c i (subst (λ (n : ℕ). i < fieldCount d n) same m) ∙ ap (fieldOf (w′ .cells) c) (ap (λ (n : ℕ). firstField d n + i) (sym same) ∙ e)
 
       go : Dec (f < refCount w c) → Dec (f < refCount w c + numCount w c) → fieldOf (w .cells) c f ≡ fieldOf (w′ .cells) c f
-      go (yes a) b = of-kind Reference f a (omega arith)
-      go (no a) (yes b) = of-kind Number (f - refCount w c) (omega arith) (omega arith)
+      go (yes a) b = of-kind Reference f a (omega (arith, first-reference (headIn w c)))
+      go (no a) (yes b) = of-kind Number (f - refCount w c) (omega arith) (omega (arith, first-number (headIn w c)))
       go (no a) (no b) =
-          st .whole .objects c u .rest f l (omega arith) ∙ sym (st′ .whole .objects c (used-as c u) .rest f l (omega (arith, same)))
+          st .whole .objects c u .rest f l (omega arith)
+          ∙ sym (st′ .whole .objects c (used-as c u) .rest f (subst (λ (h : ℕ). f < roomFor h) same l) (subst (λ (h : ℕ). allFields h ≤ f) same (omega arith)))
 
   word-as : (q : ℕ) → Used s w (cellOf q) → getD (w .cells) q 0 ≡ getD (w′ .cells) q 0
-  word-as q u = go (wordOf q) refl
+  word-as q u = go (spot s (w .cells) (w .tables) q u)
     where
-      go : (j : ℕ) → wordOf q ≡ j → getD (w .cells) q 0 ≡ getD (w′ .cells) q 0
-      go zero e = let a : q ≡ 16 * cellOf q = omega arith in ap (λ (i : ℕ). getD (w .cells) i 0) a ∙ head-as (cellOf q) u ∙ sym (ap (λ (i : ℕ). getD (w′ .cells) i 0) a)
-      go (suc zero) e =
-          let a : q ≡ 16 * cellOf q + 1 = omega arith in
-          ap (λ (i : ℕ). getD (w .cells) i 0) a ∙ st .whole .works (cellOf q) u ∙ sym (ap (λ (i : ℕ). getD (w′ .cells) i 0) a ∙ st′ .whole .works (cellOf q) (used-as (cellOf q) u))
-      go (suc (suc f)) e =
-          let a : q ≡ fieldAt (cellOf q) f = omega arith in
-          ap (λ (i : ℕ). getD (w .cells) i 0) a ∙ field-as (cellOf q) f u (omega arith) ∙ sym (ap (λ (i : ℕ). getD (w′ .cells) i 0) a)
+      at : (i : ℕ) → q ≡ i → getD (w .cells) i 0 ≡ getD (w′ .cells) i 0 → getD (w .cells) q 0 ≡ getD (w′ .cells) q 0
+      at i e = subst (λ (n : ℕ). getD (w .cells) n 0 ≡ getD (w′ .cells) n 0) (sym e)
+
+      go : Spot s (w .cells) (w .tables) q → getD (w .cells) q 0 ≡ getD (w′ .cells) q 0
+      go (head k b e) = at (headAt k) e (head-as k b)
+      go (work k b e) = at (workAt k) e (st .whole .works k b ∙ sym (st′ .whole .works k (used-as k b)))
+      go (field k f b l e) = at (fieldAt k f) e (field-as k f b l)
 
 -- ---- both halves
 
@@ -154,8 +153,9 @@ module _ (s : Sizes) (w w′ : Words) (h : Regioned) (to : ℕ → ℕ) (st : St
       go (yes z) = free w (st .whole) z ∙ sym (free w′ (st′ .whole) (sym p ∙ z))
       go (no n) =
           let c = cellOn page 0 in
-          let e : pageOf c ≡ page = omega arith in
-          let u : Used s w c = record { page = omega arith; place = subst (λ (q : ℕ). placeOf c < usedIn s w q) (sym e) (omega arith) } in
+          let m : 0 < pageCells = omega arith in
+          let e : pageOf c ≡ page = page-on page 0 m in
+          let u : BeginsIn s w c = begins-there s (w .cells) (w .tables) page 0 l m (omega arith) in
           ap (ownerIn s w) (sym e) ∙ sym (used-home s w (st .whole) c u) ∙ home-as s w w′ h to st st′ c u
           ∙ used-home s w′ (st′ .whole) c (used-as s w w′ h to st st′ c u) ∙ ap (ownerIn s w′) e
 
@@ -171,22 +171,15 @@ module _ (s : Sizes) (w w′ : Words) (h : Regioned) (to : ℕ → ℕ) (st : St
           let e : ltb (pageOf (x - 1)) (s .pages) ≡ false = le-ltb (pageOf (x - 1)) (s .pages) (omega arith) in
           ap (λ (b : Bool). cond (eqb x 0) 0 (cond b (ownerIn s w′ (pageOf (x - 1))) 0)) e ∙ sym (ap (λ (b : Bool). cond (eqb x 0) 0 (cond b (ownerIn s w (pageOf (x - 1))) 0)) e)
 
-  cross-as : (q : ℕ) → q < 256 * s .pages → crossTo s (w′ .cells) (w′ .tables) q ≡ crossTo s (w .cells) (w .tables) q
-  cross-as q l =
-      cross-same s (w .cells) (w .tables) (w′ .cells) (w′ .tables) q l
+  cross-as : (q : ℕ) → crossTo s (w′ .cells) (w′ .tables) q ≡ crossTo s (w .cells) (w .tables) q
+  cross-as q =
+      cross-same s (w .cells) (w .tables) (w′ .cells) (w′ .tables) q
       (λ o. (
-        record {
-          used = used-as s w w′ h to st st′ (cellOf q) (o .used);
-          field = o .field;
-          count = subst (λ (z : ℕ). wordOf q < z / 16 + 2) (head-as s w w′ h to st st′ (cellOf q) (o .used)) (o .count);
-        },
-        ap₂ other (sym (owner-same (pageOf (cellOf q)) (o .used .page))) (ap (regionOf s (w′ .tables)) (sym (word-as s w w′ h to st st′ q (o .used))) ∙ region-same (getD (w .cells) q 0)),
+        slot-stays o (used-as s w w′ h to st st′ (o .object) (o .begins)) (sym (head-as s w w′ h to st st′ (o .object) (o .begins))),
+        ap₂ other (sym (owner-same (pageAt q) (slot-on s (w .cells) (w .tables) q o)))
+            (ap (regionOf s (w′ .tables)) (sym (word-as s w w′ h to st st′ q (slot-word s (w .cells) (w .tables) q o .0))) ∙ region-same (getD (w .cells) q 0)),
       ))
-      (λ o. inl (record {
-        used = used-as s w′ w h to st′ st (cellOf q) (o .used);
-        field = o .field;
-        count = subst (λ (z : ℕ). wordOf q < z / 16 + 2) (head-as s w′ w h to st′ st (cellOf q) (o .used)) (o .count);
-      }))
+      (λ o. inl (slot-stays o (used-as s w′ w h to st′ st (o .object) (o .begins)) (sym (head-as s w′ w h to st′ st (o .object) (o .begins)))))
 
   entries-same : lp.usedIn (w .remember) ≡ lp.usedIn (w′ .remember)
   entries-same = heap-entries s w h to st ∙ sym (heap-entries s w′ h to st′)
@@ -194,7 +187,7 @@ module _ (s : Sizes) (w w′ : Words) (h : Regioned) (to : ℕ → ℕ) (st : St
   named-same : (i : ℕ) → i < lp.usedIn (w .remember) → SameEntry s w w′ i
   named-same i l =
       let e = st .whole .remember .entries .named i l in
-      let x = cross-as (slotIn (w .remember) i) (e .slot) in
+      let x = cross-as (slotIn (w .remember) i) in
       let r = st′ .whole .remember .every (slotIn (w .remember) i) (e .slot) (omega (arith, x, e .right, e .region)) in
       let e′ = st′ .whole .remember .entries .named (r .0) (r .1) in
       record {
@@ -215,7 +208,8 @@ module _ (s : Sizes) (w w′ : Words) (h : Regioned) (to : ℕ → ℕ) (st : St
         used = used-same;
         marks = λ page l. st .whole .marks page l ∙ sym (st′ .whole .marks page l);
         counts = λ g a b. st .whole .counts g a b ∙ objects-same g ∙ sym (st′ .whole .counts g a b);
-        inUse = used-as s w w′ h to st st′;
+        objects = used-as s w w′ h to st st′;
+        inUse = λ c u. record { page = u .page; place = omega (arith, u .place, used-same (pageOf c) (u .page)) };
         cells = word-as s w w′ h to st st′;
         room = st .whole .sized .same ∙ sym (st′ .whole .sized .same);
         entries = entries-same;

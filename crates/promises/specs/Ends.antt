@@ -7,7 +7,7 @@ use mathlib.Core.Logic.{_⊎_, inl, inr}
 use Rattle.rules.specs.declared.Sizes.{Sizes}
 use Rattle.rules.specs.Graph.{target}
 use Rattle.layout.specs.Cells.{pageOf}
-use Rattle.layout.specs.Words.{Words, Used, ownerIn, graphOf}
+use Rattle.layout.specs.Words.{Words, BeginsIn, ownerIn, graphOf}
 
 -- `goes` is the region that the object in a cell of an ending page goes to, 0 if it is freed
 pub record Part : Type 1 where
@@ -21,18 +21,18 @@ partOf s w r = record { ends = λ page. ownerIn s w page ≡ r; ends? = λ page.
 
 -- cell c holds an object outside the part
 pub record Outside (s : Sizes) (w : Words) (e : Part) (c : ℕ) : Type 0 where
-  pub used : Used s w c
+  pub used : BeginsIn s w c
   pub out : e .ends (pageOf c) → ⊥
 
 -- cell c holds an object of the part that goes to some region
 pub record Survivor (s : Sizes) (w : Words) (e : Part) (c : ℕ) : Type 0 where
-  pub used : Used s w c
+  pub used : BeginsIn s w c
   pub within : e .ends (pageOf c)
   pub goes : 0 < e .goes c
 
 -- cell c holds an object that is there after the end
 pub record Lives (s : Sizes) (w : Words) (e : Part) (c : ℕ) : Type 0 where
-  pub used : Used s w c
+  pub used : BeginsIn s w c
   pub goes : e .ends (pageOf c) → 0 < e .goes c
 
 module _ {s : Sizes} {w : Words} {e : Part} {c : ℕ} where

@@ -1,14 +1,13 @@
 -- A field of an object is stored, reference or number: the tables stay whole, and the words stand for the heap with that object changed.
 use Prim.Native.Nat.{ℕ, _+_, _≤_, _<_}
 use native.Mathlib.Omega.{arith}
-use native.Mathlib.Decide.{ℕ-discrete, decLt}
+use native.Mathlib.Decide.{ℕ-discrete}
 use mathlib.Core.Path.{_≡_, refl, sym, ap, ap₂, subst, _∙_}
-use mathlib.Core.Logic.{_⊎_, inl, inr}
 use mathlib.Core.List.{List, [], _∷_, map}
 use lib.ListN.{length, getD, set, take, drop, length-set}
 use lib.Seq.{drop-set-lt}
 use Rattle.lists.specs.Says.{true-not-false}
-use Rattle.lists.specs.Stores.{put, past, part-other, part-here}
+use Rattle.lists.specs.Stores.{put, past, part-here, part-same}
 use Rattle.rules.specs.declared.Sizes.{Sizes}
 use Rattle.rules.specs.NeverFreeing.{Object, noObject}
 use Rattle.rules.specs.Rules.{Regioned, graph}
@@ -19,15 +18,16 @@ use Rattle.layout.specs.Places.{cellsWords, rememberWords}
 use Rattle.layout.specs.declared.Kind.{Kind}
 use Rattle.layout.specs.declared.Kind.the-variants.{Reference, Number}
 use Rattle.layout.specs.Cells.{headAt, headOf, workAt, workOf, fieldAt, fieldOf, fieldCount, firstField, refsOf, allFields, roomFor, Formed, kind-among, fields-room}
-use Rattle.layout.specs.Words.{Words, Used, headIn, refCount, fieldsAt, fieldsIn}
+use Rattle.layout.specs.Objects.{field-inside, field-not-head, field-not-work, objects-apart}
+use Rattle.layout.specs.Words.{Words, BeginsIn, headIn, refCount, fieldsAt, fieldsIn, homeIn}
 use Rattle.promises.specs.Whole.{WholeFor, IsRef, ObjectWhole, RememberWhole}
 use Rattle.promises.specs.StandsFor.{StandsFor, SameFrom}
 use Rattle.promises.specs.Agreed.{cell-used}
 use Rattle.promises.specs.Changes.{withCells, withObject}
 use Rattle.promises.specs.Areas.{headWords, workWords, fieldWords, entryWords, among, Same, Only, only-trans, cells-only, entries-only}
-use Rattle.promises.specs.Frames.{sized-frame, depths-frame, pages-frame, partial-frame, counts-frame, variables-frame, marks-frame, works-frame, objects-stay}
+use Rattle.promises.specs.Frames.{sized-frame, depths-frame, pages-frame, partial-frame, counts-frame, variables-frame, marks-frame, works-frame, begins-was, ref-frame, objects-stay, home-same}
 
-module _ (s : Sizes) (w : Words) (k : WholeFor s w) (y j v : ℕ) (u : Used s w y) (low : j < allFields (headIn w y)) where
+module _ (s : Sizes) (w : Words) (k : WholeFor s w) (y j v : ℕ) (u : BeginsIn s w y) (low : j < allFields (headIn w y)) where
   abbrev C : List ℕ
   C = set (w .cells) (fieldAt y j) v
 
@@ -35,21 +35,21 @@ module _ (s : Sizes) (w : Words) (k : WholeFor s w) (y j v : ℕ) (u : Used s w 
   few = omega (arith, fields-room (headIn w y) (k .objects y u .head))
 
   pub field-room : fieldAt y j < cellsWords s
-  field-room = omega (arith, few, u .page)
+  field-room = field-inside s (w .cells) (w .tables) y u j few
 
   -- ---- the words
 
-  head-kept : (x : ℕ) → Used s w x → headOf C x ≡ headIn w x
-  head-kept x i = past (w .cells) (fieldAt y j) v (headAt x) 0 (λ (e : headAt x ≡ fieldAt y j). omega (arith, few))
+  head-kept : (x : ℕ) → BeginsIn s w x → headOf C x ≡ headIn w x
+  head-kept x i = past (w .cells) (fieldAt y j) v (headAt x) 0 (field-not-head s (w .cells) (w .tables) x i y u j few)
 
-  work-kept : (x : ℕ) → Used s w x → workOf C x ≡ workOf (w .cells) x
-  work-kept x i = past (w .cells) (fieldAt y j) v (workAt x) 0 (λ (e : workAt x ≡ fieldAt y j). omega (arith, few))
+  work-kept : (x : ℕ) → BeginsIn s w x → workOf C x ≡ workOf (w .cells) x
+  work-kept x i = past (w .cells) (fieldAt y j) v (workAt x) 0 (field-not-work s (w .cells) (w .tables) x i y u j few)
 
   field-here : fieldOf C y j ≡ v
   field-here = put (w .cells) (fieldAt y j) v 0 (omega (arith, field-room, k .sized .cells))
 
-  field-kept : (x f : ℕ) → Used s w x → f < roomFor (headIn w x) → (x ≡ y → f ≡ j → ⊥) → fieldOf C x f ≡ fieldOf (w .cells) x f
-  field-kept x f i l d = past (w .cells) (fieldAt y j) v (fieldAt x f) 0 (λ (e : fieldAt x f ≡ fieldAt y j). d (omega (arith, few)) (omega (arith, few)))
+  field-kept : (x f : ℕ) → BeginsIn s w x → f < roomFor (headIn w x) → (x ≡ y → f ≡ j → ⊥) → fieldOf C x f ≡ fieldOf (w .cells) x f
+  field-kept x f i l d = past (w .cells) (fieldAt y j) v (fieldAt x f) 0 (λ e. let a = objects-apart s (w .cells) (w .tables) x i y u j few f l e in d (a .0) (a .1))
 
   pub field-only : Only (fieldWords ∷ []) s w (withCells w C)
   field-only =
@@ -65,7 +65,7 @@ module _ (s : Sizes) (w : Words) (k : WholeFor s w) (y j v : ℕ) (u : Used s w 
     pub stored-only : Only (fieldWords ∷ entryWords ∷ []) s w w′
     stored-only = only-trans field-only (entries-only s (withCells w C) m′ size past′) (objects-stay field-only refl refl)
 
-    objects : (j < refCount w y → IsRef s (w .tables) v) → (x : ℕ) → Used s w x → ObjectWhole s C (w .tables) x
+    objects : (j < refCount w y → IsRef s (w .cells) (w .tables) v) → (x : ℕ) → BeginsIn s w x → ObjectWhole s C (w .tables) x
     objects ref x i =
         record {
           head = subst Formed (sym e) (o .head);
@@ -73,7 +73,7 @@ module _ (s : Sizes) (w : Words) (k : WholeFor s w) (y j v : ℕ) (u : Used s w 
               let n : allFields (headIn w x) ≤ f = subst (λ (h : ℕ). allFields h ≤ f) e m in
               let r : f < roomFor (headIn w x) = subst (λ (h : ℕ). f < roomFor h) e l in
               field-kept x f i r (λ (a : x ≡ y) (b : f ≡ j). omega (arith, low, ap (λ (z : ℕ). allFields (headIn w z)) a)) ∙ o .rest f r n;
-          references = λ f l. let n : f < refCount w x = subst (λ (h : ℕ). f < fieldCount Reference h) e l in go f n (ℕ-discrete x y) (ℕ-discrete f j);
+          references = λ f l. let n : f < refCount w x = subst (λ (h : ℕ). f < fieldCount Reference h) e l in ref-frame field-only refl refl _ (go f n (ℕ-discrete x y) (ℕ-discrete f j));
         }
       where
         o : ObjectWhole s (w .cells) (w .tables) x
@@ -82,16 +82,16 @@ module _ (s : Sizes) (w : Words) (k : WholeFor s w) (y j v : ℕ) (u : Used s w 
         e : headOf C x ≡ headIn w x
         e = head-kept x i
 
-        other : (f : ℕ) → f < refCount w x → (x ≡ y → f ≡ j → ⊥) → IsRef s (w .tables) (fieldOf C x f)
+        other : (f : ℕ) → f < refCount w x → (x ≡ y → f ≡ j → ⊥) → IsRef s (w .cells) (w .tables) (fieldOf C x f)
         other f n d =
-            subst (IsRef s (w .tables)) (sym (field-kept x f i (omega (arith, kind-among Reference (headIn w x), fields-room (headIn w x) (o .head))) d)) (o .references f n)
+            subst (IsRef s (w .cells) (w .tables)) (sym (field-kept x f i (omega (arith, kind-among Reference (headIn w x), fields-room (headIn w x) (o .head))) d)) (o .references f n)
 
-        go : (f : ℕ) → f < refCount w x → Dec (x ≡ y) → Dec (f ≡ j) → IsRef s (w .tables) (fieldOf C x f)
-        go f n (yes a) (yes b) = subst (IsRef s (w .tables)) (sym (ap₂ (fieldOf C) a b ∙ field-here)) (ref (omega (arith, n, b, ap (refCount w) a)))
+        go : (f : ℕ) → f < refCount w x → Dec (x ≡ y) → Dec (f ≡ j) → IsRef s (w .cells) (w .tables) (fieldOf C x f)
+        go f n (yes a) (yes b) = subst (IsRef s (w .cells) (w .tables)) (sym (ap₂ (fieldOf C) a b ∙ field-here)) (ref (omega (arith, n, b, ap (refCount w) a)))
         go f n (yes a) (no b) = other f n (λ p q. b q)
         go f n (no a) b = other f n (λ p q. a p)
 
-    pub field-whole : (j < refCount w y → IsRef s (w .tables) v) → RememberWhole s w′ → WholeFor s w′
+    pub field-whole : (j < refCount w y → IsRef s (w .cells) (w .tables) v) → RememberWhole s w′ → WholeFor s w′
     field-whole ref r =
         record {
           sized = sized-frame stored-only refl (k .sized);
@@ -99,43 +99,34 @@ module _ (s : Sizes) (w : Words) (k : WholeFor s w) (y j v : ℕ) (u : Used s w 
           pages = pages-frame stored-only refl refl refl (k .pages);
           partial = partial-frame stored-only refl refl (k .partial);
           counts = counts-frame stored-only refl refl refl (k .counts);
-          variables = variables-frame stored-only refl refl (k .variables);
-          objects = objects ref;
+          variables = variables-frame stored-only refl refl refl (k .variables);
+          objects = λ x i. objects ref x (begins-was stored-only refl refl x i);
           marks = marks-frame stored-only refl (k .marks);
-          works = works-frame stored-only refl refl (k .works);
+          works = works-frame stored-only refl refl refl (k .works);
           remember = r;
         }
 
   -- ---- the fields read again
 
-  abbrev from : Kind → ℕ → ℕ
-  from d x = fieldAt x (firstField d (headIn w x))
-
   -- of a kind, where the stored one is not among them
-  pub fields-kept : (d : Kind) (x : ℕ) → Used s w x → (fieldAt y j < from d x) ⊎ (from d x + fieldCount d (headIn w x) ≤ fieldAt y j) → fieldsAt d C x ≡ fieldsIn d w x
+  pub fields-kept : (d : Kind) (x : ℕ) → BeginsIn s w x → ((i : ℕ) → i < fieldCount d (headIn w x) → x ≡ y → firstField d (headIn w x) + i ≡ j → ⊥)
+      → fieldsAt d C x ≡ fieldsIn d w x
   unfolding fieldsAt
-  fields-kept d x i e =
-      ap (λ (z : ℕ). take (fieldCount d z) (drop (fieldAt x (firstField d z)) C)) (head-kept x i)
-      ∙ part-other (fieldCount d (headIn w x)) (from d x) (w .cells) (fieldAt y j) v e
-
-  -- of another object
-  fields-elsewhere : (d : Kind) (x : ℕ) → Used s w x → (x ≡ y → ⊥) → fieldsAt d C x ≡ fieldsIn d w x
-  fields-elsewhere d x ux n = fields-kept d x ux (go (decLt y x))
-    where
-      within : firstField d (headIn w x) + fieldCount d (headIn w x) ≤ roomFor (headIn w x)
-      within = omega (arith, kind-among d (headIn w x), fields-room (headIn w x) (k .objects x ux .head))
-
-      go : Dec (y < x) → (fieldAt y j < from d x) ⊎ (from d x + fieldCount d (headIn w x) ≤ fieldAt y j)
-      go (yes l) = inl (omega (arith, few))
-      go (no l) = let g : x < y = omega arith in inr (omega (arith, within))
+  fields-kept d x u′ n =
+      let h = headIn w x in
+      ap (λ (z : ℕ). take (fieldCount d z) (drop (fieldAt x (firstField d z)) C)) (head-kept x u′)
+      ∙ part-same (fieldCount d h) (fieldAt x (firstField d h)) (w .cells) C (length-set (w .cells) (fieldAt y j) v)
+      (λ i l. subst (λ (q : ℕ). getD C q 0 ≡ getD (w .cells) q 0) (let e : fieldAt x (firstField d h + i) ≡ fieldAt x (firstField d h) + i = omega arith in e)
+      (field-kept x (firstField d h + i) u′ (omega (arith, kind-among d h, fields-room h (k .objects x u′ .head))) (n i l)))
 
   -- of a kind, where the stored one is the b-th of them
   pub fields-set : (d : Kind) (b : ℕ) → b < fieldCount d (headIn w y) → j ≡ firstField d (headIn w y) + b → fieldsAt d C y ≡ set (fieldsIn d w y) b v
   unfolding fieldsAt
   fields-set d b l q =
-      let e : fieldAt y j ≡ from d y + b = omega arith in
+      let from = fieldAt y (firstField d (headIn w y)) in
+      let e : fieldAt y j ≡ from + b = omega arith in
       ap (λ (z : ℕ). take (fieldCount d z) (drop (fieldAt y (firstField d z)) C)) (head-kept y u)
-      ∙ ap (λ (z : ℕ). take (fieldCount d (headIn w y)) (drop (from d y) (set (w .cells) z v))) e ∙ part-here (fieldCount d (headIn w y)) (from d y) (w .cells) b v l
+      ∙ ap (λ (z : ℕ). take (fieldCount d (headIn w y)) (drop from (set (w .cells) z v))) e ∙ part-here (fieldCount d (headIn w y)) from (w .cells) b v l
 
 -- ---- object x becomes o
 
@@ -151,9 +142,9 @@ object-stands s w h cellOf st x a j v low m′ o k′ er en sound =
       sound = sound;
       depths = st .depths;
       partners = record {
-        home = st .partners .home;
+        home = λ z b. home (cellOf z) ∙ st .partners .home z b;
         apart = st .partners .apart;
-        onto = st .partners .onto;
+        onto = λ z b. st .partners .onto z (λ e. b (home z ∙ e));
         refs = each (λ c q. fieldsAt Reference cells c ≡ map (renamed cellOf) (q .refs)) er (λ z b n. other Reference z b n ∙ st .partners .refs z b);
         vars = st .partners .vars;
       };
@@ -163,11 +154,14 @@ object-stands s w h cellOf st x a j v low m′ o k′ er en sound =
     cells : List ℕ
     cells = set (w .cells) (fieldAt (cellOf x) j) v
 
-    in-use : (z : ℕ) → Alive (graph h) z → Used s w (cellOf z)
+    in-use : (z : ℕ) → Alive (graph h) z → BeginsIn s w (cellOf z)
     in-use = cell-used s w h cellOf st
 
+    home : (z : ℕ) → homeIn s (withCells w cells) z ≡ homeIn s w z
+    home = home-same (field-only s w (st .whole) (cellOf x) j v (in-use x a) low) refl refl refl
+
     other : (d : Kind) (z : ℕ) → Alive (graph h) z → (z ≡ x → ⊥) → fieldsAt d cells (cellOf z) ≡ fieldsIn d w (cellOf z)
-    other d z b n = fields-elsewhere s w (st .whole) (cellOf x) j v (in-use x a) low d (cellOf z) (in-use z b) (λ e. n (st .partners .apart z x b a e))
+    other d z b n = fields-kept s w (st .whole) (cellOf x) j v (in-use x a) low d (cellOf z) (in-use z b) (λ i l e q. n (st .partners .apart z x b a e))
 
     -- what holds of x with o, and of every other object as it was, holds of each
     each : (Q : ℕ → Object → Type 0) → Q (cellOf x) o → ((z : ℕ) → Alive (graph h) z → (z ≡ x → ⊥) → Q (cellOf z) (getD (h .heap .objects) z noObject))

@@ -47,10 +47,10 @@ module _ (s : Sizes) (w : Words) (k : WholeFor s w) (t d : ℕ) (l : t < s .thre
         pages = pages-open depth-only refl refl (k .pages) o;
         partial = partial-frame depth-only refl refl (k .partial);
         counts = counts-frame depth-only refl refl refl (k .counts);
-        variables = variables-frame depth-only refl refl (k .variables);
+        variables = variables-frame depth-only refl refl refl (k .variables);
         objects = objects-frame depth-only refl refl refl (k .objects);
         marks = marks-frame depth-only refl (k .marks);
-        works = works-frame depth-only refl refl (k .works);
+        works = works-frame depth-only refl refl refl (k .works);
         remember = remember-frame depth-only refl refl refl refl refl (k .remember);
       }
     where
@@ -80,5 +80,5 @@ pub depth-stands : (s : Sizes) (w : Words) (h : Regioned) (cellOf : ℕ → ℕ)
 depth-stands s w h cellOf st t d l m o sound =
     let k = st .whole in
     let only = depth-only s w k t d l in
-    tables-stand st only refl refl (set (h .heap .depths) t d) (h .heap .vars) (depth-whole s w k t d l m o)
+    tables-stand st only refl refl refl (set (h .heap .depths) t d) (h .heap .vars) (depth-whole s w k t d l m o)
     (ap (λ (ds : List ℕ). set ds t d) (st .depths) ∙ sym (depths-set s w k t d l)) (vars-same only refl ∙ st .partners .vars) sound

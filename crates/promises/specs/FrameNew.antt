@@ -24,7 +24,7 @@ use Rattle.layout.specs.Places.{varAt}
 use Rattle.layout.specs.declared.Kind.{Kind}
 use Rattle.layout.specs.declared.Kind.the-variants.{Reference, Number}
 use Rattle.layout.specs.Cells.{headOf, fieldCount, firstField, headWord, mostFields, kind-among, fields-room, refs-head, nums-head}
-use Rattle.layout.specs.Words.{Words, Used, fieldsAt, homeIn, graphOf}
+use Rattle.layout.specs.Words.{Words, BeginsIn, fieldsAt, homeIn, graphOf}
 use Rattle.promises.specs.Whole.{WholeFor, Open}
 use Rattle.promises.specs.StandsFor.{StandsFor}
 use Rattle.promises.specs.Reading.{alive-used, used-alive, used-home, length-fields, getD-fields}
@@ -32,8 +32,8 @@ use Rattle.promises.specs.Agreed.{cell-used}
 use Rattle.promises.specs.Changes.{withTables, withNew, withVariable}
 use Rattle.promises.specs.Areas.{ownerWords, usedWords, countWords, Only}
 use Rattle.promises.specs.Frames.{depths-same, vars-same, fields-same}
-use Rattle.promises.specs.TakeCell.{Took, took-used, took-unused, still-used, used-split, owner-used}
-use Rattle.promises.specs.NewCell.{Blank, new-only, new-whole}
+use Rattle.promises.specs.TakeCell.{Took}
+use Rattle.promises.specs.NewCell.{Blank, new-begins, not-there, still-begins, begins-split, owner-still, new-only, new-whole}
 use Rattle.promises.specs.FrameVariable.{variable-stands}
 
 -- an object of b nulls and d zeros
@@ -108,20 +108,20 @@ module _ (s : Sizes) (w : Words) (h : Regioned) (to : ℕ → ℕ) (st : StandsF
       go (inl e) = subst (P x) (sym (to-old x e)) (f x e)
       go (inr e) = subst (λ (z : ℕ). P z (to₁ z)) (sym e) (subst (P n) (sym to-new) q)
 
-  in-use : (x : ℕ) → Alive (graph h) x → Used s w (to x)
+  in-use : (x : ℕ) → Alive (graph h) x → BeginsIn s w (to x)
   in-use = cell-used s w h to st
 
-  new-used : Used s w₁ cell
-  new-used = took-used s (w .tables) g cell t′ took
+  new-used : BeginsIn s w₁ cell
+  new-used = new-begins s w (st .whole) g cell b d t′ c′ took blank few pos low open′
 
   -- ---- homes
 
-  home-kept : (y : ℕ) → Used s w y → homeIn s w₁ y ≡ homeIn s w y
+  home-kept : (y : ℕ) → BeginsIn s w y → homeIn s w₁ y ≡ homeIn s w y
   home-kept y u =
-      used-home s w₁ k₁ y (still-used s (w .tables) g cell t′ took y u) ∙ owner-used s (w .tables) g cell t′ took (st .whole .pages) y u ∙ sym (used-home s w (st .whole) y u)
+      used-home s w₁ k₁ y (still-begins s w (st .whole) g cell b d t′ c′ took blank few pos low open′ y u) ∙ owner-still s w (st .whole) g cell b d t′ c′ took blank few pos low open′ y u ∙ sym (used-home s w (st .whole) y u)
 
   apart-new : (x : ℕ) → Alive (graph h) x → to x ≡ cell → ⊥
-  apart-new x a e = took-unused s (w .tables) g cell t′ took (subst (Used s w) e (in-use x a))
+  apart-new x a e = not-there s w (st .whole) g cell b d t′ c′ took blank few pos low open′ (subst (BeginsIn s w) e (in-use x a))
 
   one-to-one : (x y : ℕ) → Alive (graph h) x ⊎ (x ≡ n) → Alive (graph h) y ⊎ (y ≡ n) → to₁ x ≡ to₁ y → x ≡ y
   one-to-one x y (inl a) (inl c) e = st .partners .apart x y a c (sym (to-old x a) ∙ e ∙ to-old y c)
@@ -130,9 +130,9 @@ module _ (s : Sizes) (w : Words) (h : Regioned) (to : ℕ → ℕ) (st : StandsF
   one-to-one x y (inr f) (inr i) e = f ∙ sym i
 
   onto : (y : ℕ) → Alive (graphOf s w₁) y → (x : ℕ) × Alive (graph h₁) x × (to₁ x ≡ y)
-  onto y a = go (used-split s (w .tables) g cell t′ took y (alive-used s w₁ k₁ y a))
+  onto y a = go (begins-split s w (st .whole) g cell b d t′ c′ took blank few pos low open′ y (alive-used s w₁ k₁ y a))
     where
-      go : (y ≡ cell) ⊎ Used s w y → (x : ℕ) × Alive (graph h₁) x × (to₁ x ≡ y)
+      go : (y ≡ cell) ⊎ BeginsIn s w y → (x : ℕ) × Alive (graph h₁) x × (to₁ x ≡ y)
       go (inl e) = (n, (λ z. omega (arith, home-new)), to-new ∙ sym e)
       go (inr u) =
           let r = st .partners .onto y (used-alive s w (st .whole) y u) in
@@ -147,7 +147,7 @@ module _ (s : Sizes) (w : Words) (h : Regioned) (to : ℕ → ℕ) (st : StandsF
       go zero i = refl
       go (suc y) i = ap suc (to-old y (f y i))
 
-  fields-old : (f : Kind) (y : ℕ) → Used s w y → fieldsAt f c′ y ≡ fieldsAt f (w .cells) y
+  fields-old : (f : Kind) (y : ℕ) → BeginsIn s w y → fieldsAt f c′ y ≡ fieldsAt f (w .cells) y
   fields-old f y u = fields-same only refl refl f y u (st .whole .objects y u .head)
 
   fields-new : (f : Kind) (m : ℕ) → fieldCount f (headWord b d) ≡ m → fieldsAt f c′ cell ≡ replicate m 0

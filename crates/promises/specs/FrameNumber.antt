@@ -2,7 +2,7 @@
 use Prim.Native.Nat.{ℕ, _+_, _<_}
 use native.Mathlib.Omega.{arith}
 use mathlib.Core.Path.{_≡_, refl, sym, ap, subst, _∙_}
-use mathlib.Core.Logic.{inl, inr}
+use mathlib.Core.Logic.{inl}
 use mathlib.Core.List.{List, [], _∷_}
 use lib.ListN.{getD, set}
 use Rattle.lists.specs.Stores.{past}
@@ -13,8 +13,9 @@ use Rattle.laws.specs.GraphLaws.{Alive}
 use Rattle.laws.specs.RulesLaws.{Sound}
 use Rattle.layout.specs.Places.{cellsWords}
 use Rattle.layout.specs.declared.Kind.the-variants.{Reference, Number}
-use Rattle.layout.specs.Cells.{fieldAt, fieldCount, allFields, roomFor, fields-room, cellOf, wordOf}
-use Rattle.layout.specs.Words.{Words, Used, headIn, refCount, numCount}
+use Rattle.layout.specs.Cells.{fieldAt, allFields, roomFor, fields-room, first-reference, first-number, cellOf}
+use Rattle.layout.specs.Objects.{objects-apart, Slot}
+use Rattle.layout.specs.Words.{Words, BeginsIn, headIn, refCount, numCount}
 use Rattle.remember.specs.Crossing.{crossTo}
 use Rattle.promises.specs.Whole.{WholeFor}
 use Rattle.promises.specs.StandsFor.{StandsFor}
@@ -22,10 +23,11 @@ use Rattle.promises.specs.Reading.{alive-used}
 use Rattle.promises.specs.Changes.{withCells, withObject, withField}
 use Rattle.promises.specs.Areas.{headWords, fieldWords, Only, from-refl}
 use Rattle.remember.specs.Entries.{exact-everywhere}
-use Rattle.promises.specs.Slots.{Slot, crossesTo, cross-same}
+use Rattle.promises.specs.Slots.{crossesTo, slot-stays, cross-same}
+use Rattle.promises.specs.Frames.{begins-frame, begins-was}
 use Rattle.promises.specs.FieldStore.{field-only, field-whole, object-stands, fields-kept, fields-set}
 
-module _ (s : Sizes) (w : Words) (k : WholeFor s w) (y b v : ℕ) (u : Used s w y) (low : b < numCount w y) where
+module _ (s : Sizes) (w : Words) (k : WholeFor s w) (y b v : ℕ) (u : BeginsIn s w y) (low : b < numCount w y) where
   abbrev j : ℕ
   j = refCount w y + b
 
@@ -42,25 +44,23 @@ module _ (s : Sizes) (w : Words) (k : WholeFor s w) (y b v : ℕ) (u : Used s w 
   number-only = field-only s w k y j v u within
 
   -- a number is no slot, so no slot changes
-  slot-is : (q : ℕ) → Slot s (w .cells) (w .tables) q → getD C q 0 ≡ getD (w .cells) q 0
-  slot-is q x =
-      past (w .cells) (fieldAt y j) v q 0 (λ (e : q ≡ fieldAt y j).
-      let c : cellOf q ≡ y = omega (arith, few) in
-      omega (arith, few, x .count, ap (headIn w) c))
+  slot-is : (q : ℕ) (o : Slot s (w .cells) (w .tables) q) → getD C q 0 ≡ getD (w .cells) q 0
+  slot-is q o =
+      past (w .cells) (fieldAt y j) v q 0 (λ e.
+      let a = objects-apart s (w .cells) (w .tables) (o .object) (o .begins) y u j few (o .field) (o .room) (o .at ∙ e) in
+      omega (arith, o .low, a .1, ap (refCount w) (a .0)))
 
-  numbers-cross : (q : ℕ) → q < cellsWords s → crossTo s C (w .tables) q ≡ crossTo s (w .cells) (w .tables) q
-  numbers-cross q l =
-      cross-same s (w .cells) (w .tables) C (w .tables) q l
-      (λ x. (
-        record { used = x .used; field = x .field; count = subst (λ (h : ℕ). wordOf q < fieldCount Reference h + 2) (sym (number-only .same headWords refl (cellOf q) (x .used))) (x .count) },
-        ap (crossesTo s (w .tables) (cellOf q)) (slot-is q x),
-      ))
-      (λ x. inl (record { used = x .used; field = x .field; count = subst (λ (h : ℕ). wordOf q < fieldCount Reference h + 2) (number-only .same headWords refl (cellOf q) (x .used)) (x .count) }))
+  numbers-cross : (q : ℕ) → crossTo s C (w .tables) q ≡ crossTo s (w .cells) (w .tables) q
+  numbers-cross q =
+      let same = number-only .same headWords refl in
+      cross-same s (w .cells) (w .tables) C (w .tables) q
+      (λ o. (slot-stays o (begins-frame number-only refl refl (o .object) (o .begins)) (same (o .object) (o .begins)), ap (crossesTo s (w .tables) (cellOf q)) (slot-is q o)))
+      (λ o. let b = begins-was number-only refl refl (o .object) (o .begins) in inl (slot-stays o b (sym (same (o .object) b))))
 
   pub number-whole : WholeFor s (withCells w C)
   number-whole =
       field-whole s w k y j v u within (w .remember) refl (from-refl _ _) (λ l. absurd (let z : ⊥ = omega arith in z))
-      (exact-everywhere (crossTo s (w .cells) (w .tables)) (crossTo s C (w .tables)) (cellsWords s) (s .entries) (w .remember) numbers-cross (k .remember))
+      (exact-everywhere (crossTo s (w .cells) (w .tables)) (crossTo s C (w .tables)) (cellsWords s) (s .entries) (w .remember) (λ q l. numbers-cross q) (k .remember))
 
 pub number-stands : (s : Sizes) (w : Words) (h : Regioned) (cellOf : ℕ → ℕ) → StandsFor s w h cellOf → (x : ℕ) → Alive (graph h) x → (b v : ℕ) → b < numCount w (cellOf x)
     → Sound (withObject h x (withField Number (getD (h .heap .objects) x noObject) b v))
@@ -68,7 +68,7 @@ pub number-stands : (s : Sizes) (w : Words) (h : Regioned) (cellOf : ℕ → ℕ
 number-stands s w h cellOf st x a b v low sound =
     let k = st .whole in
     let y = cellOf x in
-    let u : Used s w y = alive-used s w k y (λ q. a (sym (st .partners .home x a) ∙ q)) in
+    let u : BeginsIn s w y = alive-used s w k y (λ q. a (sym (st .partners .home x a) ∙ q)) in
     object-stands s w h cellOf st x a (refCount w y + b) v (within s w k y b v u low) (w .remember) (withField Number (getD (h .heap .objects) x noObject) b v) (number-whole s w k y b v u low)
-    (fields-kept s w k y (refCount w y + b) v u (within s w k y b v u low) Reference y u (inr (omega arith)) ∙ st .partners .refs x a)
-    (ap (λ (ns : List ℕ). set ns b v) (st .nums x a) ∙ sym (fields-set s w k y (refCount w y + b) v u (within s w k y b v u low) Number b low refl)) sound
+    (fields-kept s w k y (refCount w y + b) v u (within s w k y b v u low) Reference y u (λ i l e q. omega (arith, first-reference (headIn w y))) ∙ st .partners .refs x a)
+    (ap (λ (ns : List ℕ). set ns b v) (st .nums x a) ∙ sym (fields-set s w k y (refCount w y + b) v u (within s w k y b v u low) Number b low (ap (λ (z : ℕ). z + b) (sym (first-number (headIn w y)))))) sound

@@ -3,7 +3,6 @@ use Prim.Native.Nat.{ℕ, zero, suc, _+_, _≤_, _<_}
 use native.Mathlib.Omega.{arith}
 use mathlib.Core.Path.{_≡_, refl, sym, ap, ap₂, subst, _∙_}
 use mathlib.Core.Bool.{cond, not, _&&_}
-use mathlib.Core.Logic.{inl}
 use mathlib.Core.List.{List, [], _∷_}
 use lib.ListN.{length, getD, set, length-map, List·getD-map}
 use lib.Dec.{ltb, eqb}
@@ -23,9 +22,10 @@ use Rattle.laws.specs.AfterLaws.{graph-stored}
 use Rattle.layout.specs.declared.Kind.the-variants.{Reference, Number}
 use Rattle.layout.specs.Places as lp
 use Rattle.layout.specs.Places.{cellsWords, rememberWords}
-use Rattle.layout.specs.Cells.{fieldAt, fieldOf, allFields, roomFor, kind-among, fields-room, cellOf}
-use Rattle.layout.specs.Words.{Words, Used, headIn, refCount}
-use Rattle.remember.specs.Crossing.{crossTo}
+use Rattle.layout.specs.Cells.{fieldAt, fieldOf, allFields, roomFor, firstField, first-reference, first-number, kind-among, fields-room}
+use Rattle.layout.specs.Objects.{field-on, Slot, field-slot}
+use Rattle.layout.specs.Words.{Words, BeginsIn, headIn, ownerIn, refCount}
+use Rattle.remember.specs.Crossing.{other, regionOf, crossTo}
 use Rattle.promises.specs.Whole.{WholeFor, IsRef}
 use Rattle.promises.specs.StandsFor.{StandsFor, SameFrom}
 use Rattle.promises.specs.Reading.{alive-used, length-refs, getD-refs}
@@ -33,7 +33,8 @@ use Rattle.promises.specs.Crossings.{ref-test, heap-entries}
 use Rattle.promises.specs.Changes.{withObject, withField}
 use Rattle.promises.specs.Areas.{fieldWords, entryWords, Only}
 use Rattle.remember.specs.Entries.{Edited}
-use Rattle.promises.specs.Slots.{Slot, crossesTo, field-slot, slot-cross, cross-stored, cross-elsewhere}
+use Rattle.promises.specs.Slots.{crossesTo, cross-stored, cross-elsewhere}
+use Rattle.remember.specs.Crosses.{slot-cross}
 use Rattle.remember.specs.Remembering.{Remembered, NoRoom, remembered-exact, remembered-edited}
 use Rattle.promises.specs.FieldStore.{field-room, stored-only, field-whole, object-stands, fields-kept, fields-set}
 use Rattle.promises.specs.FrameVariable.{ref-to-cell}
@@ -54,7 +55,7 @@ module _ (s : Sizes) (w : Words) (y f v : ℕ) where
   abbrev pub Followed : List ℕ → ℕ → Type 0
   Followed m′ r = Remembered (s .entries) (w .remember) (fieldAt y f) crossedTo willCross m′ r
 
-module _ (s : Sizes) (w : Words) (k : WholeFor s w) (y f v : ℕ) (u : Used s w y) (low : f < refCount w y) where
+module _ (s : Sizes) (w : Words) (k : WholeFor s w) (y f v : ℕ) (u : BeginsIn s w y) (low : f < refCount w y) where
   abbrev at : ℕ
   at = fieldAt y f
 
@@ -64,22 +65,21 @@ module _ (s : Sizes) (w : Words) (k : WholeFor s w) (y f v : ℕ) (u : Used s w 
   few : f < roomFor (headIn w y)
   few = omega (arith, within, fields-room (headIn w y) (k .objects y u .head))
 
-  pub reference-slot : Slot s (w .cells) (w .tables) at
+  reference-slot : Slot s (w .cells) (w .tables) at
   reference-slot = field-slot s (w .cells) (w .tables) y f u few low
-
-  cell-is : cellOf at ≡ y
-  cell-is = omega (arith, few)
 
   room : at < cellsWords s
   room = field-room s w k y f v u within
 
   before : crossTo s (w .cells) (w .tables) at ≡ crossedTo s w y f v
   before =
-      slot-cross s (w .cells) (w .tables) at reference-slot ∙ ap (λ (z : ℕ). crossesTo s (w .tables) z (getD (w .cells) at 0)) cell-is
+      slot-cross s (w .cells) (w .tables) at reference-slot
+      ∙ ap (λ (p : ℕ). other (ownerIn s w p) (regionOf s (w .tables) (getD (w .cells) at 0))) (field-on s (w .cells) (w .tables) y u f few)
 
   after : crossTo s (set (w .cells) at v) (w .tables) at ≡ willCross s w y f v
   after =
-      cross-stored s (w .cells) (w .tables) at v reference-slot (omega (arith, room, k .sized .cells)) ∙ ap (λ (z : ℕ). crossesTo s (w .tables) z v) cell-is
+      cross-stored s (w .cells) (w .tables) at v reference-slot (omega (arith, room, k .sized .cells))
+      ∙ ap (λ (p : ℕ). other (ownerIn s w p) (regionOf s (w .tables) v)) (field-on s (w .cells) (w .tables) y u f few)
 
   -- a slot that crosses has its entry
   pub reference-named : 0 < crossedTo s w y f v → (i : ℕ) × (i < lp.usedIn (w .remember)) × (lp.slotIn (w .remember) i ≡ at)
@@ -95,7 +95,7 @@ module _ (s : Sizes) (w : Words) (k : WholeFor s w) (y f v : ℕ) (u : Used s w 
     pub reference-only : Only (fieldWords ∷ entryWords ∷ []) s w (storedWords s w y f v m′)
     reference-only = stored-only s w k y f v u within m′ (edited .size) spare
 
-    pub reference-whole : IsRef s (w .tables) v → r ≡ 0 → WholeFor s (storedWords s w y f v m′)
+    pub reference-whole : IsRef s (w .cells) (w .tables) v → r ≡ 0 → WholeFor s (storedWords s w y f v m′)
     reference-whole ref z =
         field-whole s w k y f v u within m′ (edited .size) spare (λ l. ref)
         (remembered-exact (crossTo s (w .cells) (w .tables)) (crossTo s (set (w .cells) at v) (w .tables)) (cellsWords s) (s .entries) (w .remember) m′
@@ -115,7 +115,7 @@ module _ (s : Sizes) (w : Words) (h : Regioned) (to : ℕ → ℕ) (st : StandsF
   abbrev h′ : Regioned
   h′ = withObject h x (withField Reference o f u)
 
-  in-use : Used s w y
+  in-use : BeginsIn s w y
   in-use = alive-used s w (st .whole) y (λ q. a (sym (st .partners .home x a) ∙ q))
 
   inside : x < length (h .heap .objects)
@@ -132,14 +132,14 @@ module _ (s : Sizes) (w : Words) (h : Regioned) (to : ℕ → ℕ) (st : StandsF
   there z q =
       sound .closed .refs x z a (getD-in (graph h′ .refs x) f z (ap (λ (p : Object). getD (p .refs) f 0) (put (h .heap .objects) x (withField Reference o f u) noObject inside) ∙ put (o .refs) f u 0 low-refs ∙ q))
 
-  ref : IsRef s (w .tables) v
+  ref : IsRef s (w .cells) (w .tables) v
   ref = ref-to-cell s w h to st u v e there
 
   pub reference-stands : (m′ : List ℕ) (r : ℕ) → Followed s w y f v m′ r → r ≡ 0 → StandsFor s (storedWords s w y f v m′) h′ to
   reference-stands m′ r d z =
       object-stands s w h to st x a f v inner m′ (withField Reference o f u) (reference-whole s w (st .whole) y f v in-use low m′ r d ref z)
-      (fields-set s w (st .whole) y f v in-use inner Reference f low (omega arith) ∙ ap₂ (λ (vs : List ℕ) (i : ℕ). set vs f i) (st .partners .refs x a) e ∙ sym (map-set (renamed to) (o .refs) f u))
-      (st .nums x a ∙ sym (fields-kept s w (st .whole) y f v in-use inner Number y in-use (inl (omega arith)))) sound
+      (fields-set s w (st .whole) y f v in-use inner Reference f low (let e : f ≡ firstField Reference (headIn w y) + f = omega (arith, first-reference (headIn w y)) in e) ∙ ap₂ (λ (vs : List ℕ) (i : ℕ). set vs f i) (st .partners .refs x a) e ∙ sym (map-set (renamed to) (o .refs) f u))
+      (st .nums x a ∙ sym (fields-kept s w (st .whole) y f v in-use inner Number y in-use (λ i l e q. omega (arith, first-number (headIn w y))))) sound
 
   -- ---- question 14
 

@@ -13,22 +13,22 @@ use Rattle.laws.specs.GraphLaws.{Alive}
 use Rattle.laws.specs.RulesLaws.{Sound}
 use Rattle.laws.specs.SameRules.{renamed}
 use Rattle.layout.specs.Places.{varCount, varAt, varOf, tablesWords, count-room, count-is, owners-is}
-use Rattle.layout.specs.Words.{Words, Used, varsAt, varsIn}
+use Rattle.layout.specs.Words.{Words, BeginsIn, varsAt, varsIn}
 use Rattle.promises.specs.Whole.{WholeFor, IsRef}
 use Rattle.promises.specs.StandsFor.{StandsFor}
 use Rattle.promises.specs.Reading.{length-vars, alive-used}
 use Rattle.promises.specs.Changes.{withTables, withVariable}
 use Rattle.promises.specs.Areas.{variableWords, Only, var-in, store-only}
-use Rattle.promises.specs.Frames.{sized-frame, depths-frame, pages-frame, partial-frame, counts-frame, objects-frame, marks-frame, works-frame, remember-frame, ref-same, depths-same, tables-stand}
+use Rattle.promises.specs.Frames.{sized-frame, depths-frame, pages-frame, partial-frame, counts-frame, objects-frame, marks-frame, works-frame, remember-frame, ref-frame, depths-same, tables-stand}
 
 -- a reference to an object that is there leads to a cell in use
 pub ref-to-cell : (s : Sizes) (w : Words) (h : Regioned) (cellOf : ℕ → ℕ) → StandsFor s w h cellOf → (u v : ℕ) → v ≡ renamed cellOf u
-    → ((x : ℕ) → u ≡ suc x → Alive (graph h) x) → IsRef s (w .tables) v
+    → ((x : ℕ) → u ≡ suc x → Alive (graph h) x) → IsRef s (w .cells) (w .tables) v
 ref-to-cell s w h cellOf st zero v e a z = absurd (let o : ⊥ = omega arith in o)
 ref-to-cell s w h cellOf st (suc x) v e a z =
     let c : cellOf x ≡ v - 1 = omega arith in
     let b : Alive (graph h) x = a x refl in
-    subst (Used s w) c (alive-used s w (st .whole) (cellOf x) (λ z. b (sym (st .partners .home x b) ∙ z)))
+    subst (BeginsIn s w) c (alive-used s w (st .whole) (cellOf x) (λ z. b (sym (st .partners .home x b) ∙ z)))
 
 module _ (s : Sizes) (w : Words) (k : WholeFor s w) (i v : ℕ) (l : i < varCount s) where
   abbrev at : ℕ
@@ -43,7 +43,7 @@ module _ (s : Sizes) (w : Words) (k : WholeFor s w) (i v : ℕ) (l : i < varCoun
   pub variable-only : Only (variableWords ∷ []) s w (withTables w t)
   variable-only = store-only s w variableWords at v (var-in s i l) low
 
-  pub variable-whole : IsRef s (w .tables) v → WholeFor s (withTables w t)
+  pub variable-whole : IsRef s (w .cells) (w .tables) v → WholeFor s (withTables w t)
   variable-whole ref =
       record {
         sized = sized-frame variable-only refl (k .sized);
@@ -51,16 +51,16 @@ module _ (s : Sizes) (w : Words) (k : WholeFor s w) (i v : ℕ) (l : i < varCoun
         pages = pages-frame variable-only refl refl refl (k .pages);
         partial = partial-frame variable-only refl refl (k .partial);
         counts = counts-frame variable-only refl refl refl (k .counts);
-        variables = λ j m. ref-same variable-only refl _ (go j m (ℕ-discrete j i));
+        variables = λ j m. ref-frame variable-only refl refl _ (go j m (ℕ-discrete j i));
         objects = objects-frame variable-only refl refl refl (k .objects);
         marks = marks-frame variable-only refl (k .marks);
-        works = works-frame variable-only refl refl (k .works);
+        works = works-frame variable-only refl refl refl (k .works);
         remember = remember-frame variable-only refl refl refl refl refl (k .remember);
       }
     where
-      go : (j : ℕ) → j < varCount s → Dec (j ≡ i) → IsRef s (w .tables) (varOf s t j)
-      go j m (yes e) = subst (IsRef s (w .tables)) (sym (ap (varOf s t) e ∙ put (w .tables) at v 0 (omega (arith, low, k .sized .tables)))) ref
-      go j m (no n) = subst (IsRef s (w .tables)) (sym (past (w .tables) at v (varAt s j) 0 (λ (e : varAt s j ≡ at). n (omega arith)))) (k .variables j m)
+      go : (j : ℕ) → j < varCount s → Dec (j ≡ i) → IsRef s (w .cells) (w .tables) (varOf s t j)
+      go j m (yes e) = subst (IsRef s (w .cells) (w .tables)) (sym (ap (varOf s t) e ∙ put (w .tables) at v 0 (omega (arith, low, k .sized .tables)))) ref
+      go j m (no n) = subst (IsRef s (w .cells) (w .tables)) (sym (past (w .tables) at v (varAt s j) 0 (λ (e : varAt s j ≡ at). n (omega arith)))) (k .variables j m)
 
   vars-set : varsIn s (withTables w t) ≡ set (varsIn s w) i v
   unfolding varsAt
@@ -76,7 +76,7 @@ pub variable-stands : (s : Sizes) (w : Words) (h : Regioned) (cellOf : ℕ → �
 variable-stands s w h cellOf st i u v l e sound =
     let k = st .whole in
     let only = variable-only s w k i v l in
-    tables-stand st only refl refl (h .heap .depths) (set (h .heap .vars) i u)
+    tables-stand st only refl refl refl (h .heap .depths) (set (h .heap .vars) i u)
     (variable-whole s w k i v l (ref-to-cell s w h cellOf st u v e (λ x q. sound .closed .vars i x (put (h .heap .vars) i u 0 here ∙ q))))
     (st .depths ∙ sym (depths-same only refl))
     (vars-set s w k i v l ∙ ap₂ (λ (vs : List ℕ) (x : ℕ). set vs i x) (st .partners .vars) e ∙ sym (map-set (renamed cellOf) (h .heap .vars) i u)) sound

@@ -5,7 +5,7 @@ use native.Mathlib.Decide.{decLt}
 use mathlib.Core.Path.{_≡_, refl, sym, ap, ap₂, subst, _∙_}
 use mathlib.Core.Logic.{inl}
 use mathlib.Core.List.{List, map}
-use mathlib.Core.Bool.{Bool, false, cond, _&&_}
+use mathlib.Core.Bool.{Bool, false, cond}
 use lib.ListN.{length, getD, take, drop}
 use lib.Dec.{ltb, eqb}
 use borrow.Author.Tests.{le-ltb}
@@ -19,31 +19,36 @@ use Rattle.laws.specs.SameRules.{renamed}
 use Rattle.layout.specs.declared.Kind.{Kind}
 use Rattle.layout.specs.declared.Kind.the-variants.{Reference}
 use Rattle.layout.specs.Places.{cellsWords, varCount, depthAt, varAt}
-use Rattle.layout.specs.Cells.{headOf, fieldAt, roomFor, allFields, refsOf, Formed, fieldCount, firstField, fields-room, kind-among, pageOf, placeOf, cellOf, wordOf, cellNamed}
-use Rattle.layout.specs.Words.{Words, Used, headIn, ownerIn, usedIn, homeIn, homeAt, inUseAt, depthsIn, depthsAt, varsIn, varsAt, fieldsIn, fieldsAt}
+use Rattle.layout.specs.Cells.{headOf, fieldAt, roomFor, allFields, refsOf, Formed, fieldCount, firstField, fields-room, kind-among, pageOf, pageAt, cellNamed}
+use Rattle.layout.specs.Objects.{beginsAt, begins?, begins-page, begins-true, begins-false, begins-same, begins-back, Slot, slot-on}
+use Rattle.layout.specs.Words.{Words, BeginsIn, headIn, ownerIn, usedIn, homeIn, homeAt, depthsIn, depthsAt, varsIn, varsAt, fieldsIn, fieldsAt}
 use Rattle.remember.specs.Crossing.{other, regionOf, crossTo}
 use Rattle.promises.specs.Whole.{Open, Partial, objectsOf, IsRef, Sized, DepthsWhole, PagesWhole, OnePartial, CountsWhole, VariablesWhole, ObjectWhole, ObjectsWhole, MarksWhole, WorksWhole, RememberWhole, WholeFor}
 use Rattle.promises.specs.StandsFor.{StandsFor}
 use Rattle.promises.specs.Areas.{Area, sizeWords, depthWords, variableWords, ownerWords, usedWords, markWords, countWords, headWords, workWords, fieldWords, entryWords, among, Only, ObjectsStay}
 use Rattle.promises.specs.Changes.{withTables}
 use Rattle.remember.specs.Entries.{Exact, exact-everywhere}
-use Rattle.promises.specs.Slots.{Slot, slot-field, cross-same}
+use Rattle.promises.specs.Slots.{slot-stays, cross-same}
 
 module _ {cs : List Area} {s : Sizes} {w w′ : Words} (o : Only cs s w w′) where
   -- ---- what is read
 
   module _ (u : among usedWords cs ≡ false) where
-    pub used-same : (k : ℕ) → Used s w k → Used s w′ k
-    used-same k i = record { page = i .page; place = subst (λ (n : ℕ). placeOf k < n) (sym (o .same usedWords u (pageOf k) (i .page))) (i .place) }
+    heads : among headWords cs ≡ false → (p : ℕ) (j : ℕ) → BeginsIn s w j → pageOf j ≡ p → headIn w′ j ≡ headIn w j
+    heads h p j b e = o .same headWords h j b
 
-    pub used-back : (k : ℕ) → Used s w′ k → Used s w k
-    used-back k i = record { page = i .page; place = subst (λ (n : ℕ). placeOf k < n) (o .same usedWords u (pageOf k) (i .page)) (i .place) }
+    module _ (h : among headWords cs ≡ false) where
+      pub begins-frame : (k : ℕ) → BeginsIn s w k → BeginsIn s w′ k
+      begins-frame k b = begins-same s (w .cells) (w .tables) (w′ .cells) (w′ .tables) k (o .same usedWords u (pageOf k) (begins-page s (w .cells) (w .tables) k b)) (heads h (pageOf k)) b
 
-    pub ref-same : (x : ℕ) → IsRef s (w .tables) x → IsRef s (w′ .tables) x
-    ref-same x r z = used-same (cellNamed x) (r z)
+      pub begins-was : (k : ℕ) → BeginsIn s w′ k → BeginsIn s w k
+      begins-was k b = begins-back s (w .cells) (w .tables) (w′ .cells) (w′ .tables) k (o .same usedWords u (pageOf k) (begins-page s (w′ .cells) (w′ .tables) k b)) (heads h (pageOf k)) b
 
-    pub objects-stay : among headWords cs ≡ false → ObjectsStay s w w′
-    objects-stay h k i = (used-same k i, o .same headWords h k i)
+      pub ref-frame : (x : ℕ) → IsRef s (w .cells) (w .tables) x → IsRef s (w′ .cells) (w′ .tables) x
+      ref-frame x r z = begins-frame (cellNamed x) (r z)
+
+      pub objects-stay : ObjectsStay s w w′
+      objects-stay k b = (begins-frame k b, o .same headWords h k b)
 
   module _ (a : among ownerWords cs ≡ false) where
     region-same : (x : ℕ) → regionOf s (w′ .tables) x ≡ regionOf s (w .tables) x
@@ -55,17 +60,17 @@ module _ {cs : List Area} {s : Sizes} {w w′ : Words} (o : Only cs s w w′) wh
             let e : ltb (pageOf (x - 1)) (s .pages) ≡ false = le-ltb (pageOf (x - 1)) (s .pages) (omega arith) in
             ap (λ (b : Bool). cond (eqb x 0) 0 (cond b (ownerIn s w′ (pageOf (x - 1))) 0)) e ∙ sym (ap (λ (b : Bool). cond (eqb x 0) 0 (cond b (ownerIn s w (pageOf (x - 1))) 0)) e)
 
-    pub home-same : among usedWords cs ≡ false → (k : ℕ) → homeIn s w′ k ≡ homeIn s w k
-    unfolding homeAt inUseAt
-    home-same u k = go (decLt (pageOf k) (s .pages))
+    pub home-same : among usedWords cs ≡ false → among headWords cs ≡ false → (k : ℕ) → homeIn s w′ k ≡ homeIn s w k
+    unfolding homeAt
+    home-same u h k = go (begins? s (w .cells) (w .tables) k)
       where
-        go : Dec (pageOf k < s .pages) → cond (ltb (pageOf k) (s .pages) && ltb (placeOf k) (usedIn s w′ (pageOf k))) (ownerIn s w′ (pageOf k)) 0
-            ≡ cond (ltb (pageOf k) (s .pages) && ltb (placeOf k) (usedIn s w (pageOf k))) (ownerIn s w (pageOf k)) 0
-        go (yes l) = ap₂ (λ (n r : ℕ). cond (ltb (pageOf k) (s .pages) && ltb (placeOf k) n) r 0) (o .same usedWords u (pageOf k) l) (o .same ownerWords a (pageOf k) l)
-        go (no l) =
-            let e : ltb (pageOf k) (s .pages) ≡ false = le-ltb (pageOf k) (s .pages) (omega arith) in
-            ap (λ (b : Bool). cond (b && ltb (placeOf k) (usedIn s w′ (pageOf k))) (ownerIn s w′ (pageOf k)) 0) e
-            ∙ sym (ap (λ (b : Bool). cond (b && ltb (placeOf k) (usedIn s w (pageOf k))) (ownerIn s w (pageOf k)) 0) e)
+        go : Dec (BeginsIn s w k) → cond (beginsAt s (w′ .cells) (w′ .tables) k) (ownerIn s w′ (pageOf k)) 0 ≡ cond (beginsAt s (w .cells) (w .tables) k) (ownerIn s w (pageOf k)) 0
+        go (yes b) =
+            ap₂ (λ (x : Bool) (r : ℕ). cond x r 0) (begins-true s (w′ .cells) (w′ .tables) k (begins-frame u h k b)) (o .same ownerWords a (pageOf k) (begins-page s (w .cells) (w .tables) k b))
+            ∙ sym (ap (λ (x : Bool). cond x (ownerIn s w (pageOf k)) 0) (begins-true s (w .cells) (w .tables) k b))
+        go (no n) =
+            ap (λ (x : Bool). cond x (ownerIn s w′ (pageOf k)) 0) (begins-false s (w′ .cells) (w′ .tables) k (λ b. n (begins-was u h k b)))
+            ∙ sym (ap (λ (x : Bool). cond x (ownerIn s w (pageOf k)) 0) (begins-false s (w .cells) (w .tables) k n))
 
   pub depths-same : among depthWords cs ≡ false → depthsIn s w′ ≡ depthsIn s w
   unfolding depthsAt
@@ -77,7 +82,7 @@ module _ {cs : List Area} {s : Sizes} {w w′ : Words} (o : Only cs s w w′) wh
       part-same (varCount s) (varAt s 0) (w .tables) (w′ .tables) (o .beyond .tables .long)
       (λ i l. subst (λ (j : ℕ). getD (w′ .tables) j 0 ≡ getD (w .tables) j 0) (let e : varAt s i ≡ varAt s 0 + i = omega arith in e) (o .same variableWords n i l))
 
-  pub fields-same : among headWords cs ≡ false → among fieldWords cs ≡ false → (d : Kind) (k : ℕ) → Used s w k → Formed (headIn w k) → fieldsIn d w′ k ≡ fieldsIn d w k
+  pub fields-same : among headWords cs ≡ false → among fieldWords cs ≡ false → (d : Kind) (k : ℕ) → BeginsIn s w k → Formed (headIn w k) → fieldsIn d w′ k ≡ fieldsIn d w k
   unfolding fieldsAt
   fields-same h f d k u m =
       let at = firstField d (headIn w k) in
@@ -135,12 +140,12 @@ module _ {cs : List Area} {s : Sizes} {w w′ : Words} (o : Only cs s w w′) wh
       o .same countWords n g l m ∙ k g l m
       ∙ sym (sum-same _ _ (s .pages) (λ page i. ap₂ (λ (r x : ℕ). cond (eqb r g) x 0) (o .same ownerWords a page i) (o .same usedWords u page i)))
 
-  pub variables-frame : among variableWords cs ≡ false → among usedWords cs ≡ false → VariablesWhole s w → VariablesWhole s w′
-  variables-frame n u k i l = subst (IsRef s (w′ .tables)) (sym (o .same variableWords n i l)) (ref-same u _ (k i l))
+  pub variables-frame : among variableWords cs ≡ false → among usedWords cs ≡ false → among headWords cs ≡ false → VariablesWhole s w → VariablesWhole s w′
+  variables-frame n u h k i l = subst (IsRef s (w′ .cells) (w′ .tables)) (sym (o .same variableWords n i l)) (ref-frame u h _ (k i l))
 
   -- an object, where the references of w are references of w′
-  pub object-frame : among headWords cs ≡ false → among fieldWords cs ≡ false → ((x : ℕ) → IsRef s (w .tables) x → IsRef s (w′ .tables) x)
-      → (k : ℕ) → Used s w k → ObjectWhole s (w .cells) (w .tables) k → ObjectWhole s (w′ .cells) (w′ .tables) k
+  pub object-frame : among headWords cs ≡ false → among fieldWords cs ≡ false → ((x : ℕ) → IsRef s (w .cells) (w .tables) x → IsRef s (w′ .cells) (w′ .tables) x)
+      → (k : ℕ) → BeginsIn s w k → ObjectWhole s (w .cells) (w .tables) k → ObjectWhole s (w′ .cells) (w′ .tables) k
   object-frame h f still k i x =
       let e = o .same headWords h k i in
       record {
@@ -148,49 +153,46 @@ module _ {cs : List Area} {s : Sizes} {w w′ : Words} (o : Only cs s w w′) wh
         rest = λ j l m. o .same fieldWords f k i j (subst (λ (z : ℕ). j < roomFor z) e l) ∙ x .rest j (subst (λ (z : ℕ). j < roomFor z) e l) (omega (arith, ap allFields e));
         references = λ j l.
             let n : j < refsOf (w .cells) k = omega (arith, ap (fieldCount Reference) e) in
-            subst (IsRef s (w′ .tables)) (sym (o .same fieldWords f k i j (omega (arith, fields-room (headIn w k) (x .head), kind-among Reference (headIn w k))))) (still _ (x .references j n));
+            subst (IsRef s (w′ .cells) (w′ .tables)) (sym (o .same fieldWords f k i j (omega (arith, fields-room (headIn w k) (x .head), kind-among Reference (headIn w k))))) (still _ (x .references j n));
       }
 
   pub objects-frame : among headWords cs ≡ false → among fieldWords cs ≡ false → among usedWords cs ≡ false → ObjectsWhole s w → ObjectsWhole s w′
-  objects-frame h f u k c i = let v = used-back u c i in object-frame h f (ref-same u) c v (k c v)
+  objects-frame h f u k c i = let v = begins-was u h c i in object-frame h f (ref-frame u h) c v (k c v)
 
   pub marks-frame : among markWords cs ≡ false → MarksWhole s w → MarksWhole s w′
   marks-frame n k page l = o .same markWords n page l ∙ k page l
 
-  pub works-frame : among workWords cs ≡ false → among usedWords cs ≡ false → WorksWhole s w → WorksWhole s w′
-  works-frame n u k c i = let v = used-back u c i in o .same workWords n c v ∙ k c v
+  pub works-frame : among workWords cs ≡ false → among usedWords cs ≡ false → among headWords cs ≡ false → WorksWhole s w → WorksWhole s w′
+  works-frame n u h k c i = let v = begins-was u h c i in o .same workWords n c v ∙ k c v
 
   -- the same slots cross into the same regions
   pub cross-frame : among headWords cs ≡ false → among fieldWords cs ≡ false → among ownerWords cs ≡ false → among usedWords cs ≡ false
-      → (q : ℕ) → q < cellsWords s → crossTo s (w′ .cells) (w′ .tables) q ≡ crossTo s (w .cells) (w .tables) q
-  cross-frame h f a u q l =
-      cross-same s (w .cells) (w .tables) (w′ .cells) (w′ .tables) q l
+      → (q : ℕ) → crossTo s (w′ .cells) (w′ .tables) q ≡ crossTo s (w .cells) (w .tables) q
+  cross-frame h f a u q =
+      cross-same s (w .cells) (w .tables) (w′ .cells) (w′ .tables) q
       (λ x. (
-        record { used = used-same u (cellOf q) (x .used); field = x .field; count = subst (λ (z : ℕ). wordOf q < fieldCount Reference z + 2) (sym (o .same headWords h (cellOf q) (x .used))) (x .count) },
-        ap₂ other (o .same ownerWords a (pageOf (cellOf q)) (x .used .page)) (ap (regionOf s (w′ .tables)) (word x) ∙ region-same a (getD (w .cells) q 0)),
+        slot-stays x (begins-frame u h (x .object) (x .begins)) (o .same headWords h (x .object) (x .begins)),
+        ap₂ other (o .same ownerWords a (pageAt q) (slot-on s (w .cells) (w .tables) q x)) (ap (regionOf s (w′ .tables)) (word x) ∙ region-same a (getD (w .cells) q 0)),
       ))
-      (λ x. let v = used-back u (cellOf q) (x .used) in
-      inl (record { used = v; field = x .field; count = subst (λ (z : ℕ). wordOf q < fieldCount Reference z + 2) (o .same headWords h (cellOf q) v) (x .count) }))
+      (λ x. let b = begins-was u h (x .object) (x .begins) in inl (slot-stays x b (sym (o .same headWords h (x .object) b))))
     where
       word : Slot s (w .cells) (w .tables) q → getD (w′ .cells) q 0 ≡ getD (w .cells) q 0
-      word x =
-          let e : fieldAt (cellOf q) (wordOf q - 2) ≡ q = slot-field s (w .cells) (w .tables) q x .0 in
-          subst (λ (j : ℕ). getD (w′ .cells) j 0 ≡ getD (w .cells) j 0) e (o .same fieldWords f (cellOf q) (x .used) (wordOf q - 2) (omega (arith, x .field)))
+      word x = subst (λ (j : ℕ). getD (w′ .cells) j 0 ≡ getD (w .cells) j 0) (x .at) (o .same fieldWords f (x .object) (x .begins) (x .field) (x .room))
 
   pub remember-frame : among entryWords cs ≡ false → among headWords cs ≡ false → among fieldWords cs ≡ false → among ownerWords cs ≡ false → among usedWords cs ≡ false
       → RememberWhole s w → RememberWhole s w′
   remember-frame n h f a u k =
-      exact-everywhere (crossTo s (w .cells) (w .tables)) (crossTo s (w′ .cells) (w′ .tables)) (cellsWords s) (s .entries) (w′ .remember) (cross-frame h f a u)
+      exact-everywhere (crossTo s (w .cells) (w .tables)) (crossTo s (w′ .cells) (w′ .tables)) (cellsWords s) (s .entries) (w′ .remember) (λ q l. cross-frame h f a u q)
       (subst (Exact (crossTo s (w .cells) (w .tables)) (cellsWords s) (s .entries)) (sym (o .same entryWords n)) k)
 
 -- ---- other depths and variables: the objects are as they were
 
-pub tables-stand : {cs : List Area} {s : Sizes} {w : Words} {h : Regioned} {to : ℕ → ℕ} {t′ : List ℕ} → StandsFor s w h to → Only cs s w (withTables w t′) → among ownerWords cs ≡ false → among usedWords cs ≡ false
+pub tables-stand : {cs : List Area} {s : Sizes} {w : Words} {h : Regioned} {to : ℕ → ℕ} {t′ : List ℕ} → StandsFor s w h to → Only cs s w (withTables w t′) → among ownerWords cs ≡ false → among usedWords cs ≡ false → among headWords cs ≡ false
     → (ds vs : List ℕ) → WholeFor s (withTables w t′) → ds ≡ depthsIn s (withTables w t′) → varsIn s (withTables w t′) ≡ map (renamed to) vs
     → Sound (record { heap = record { depths = ds; vars = vs; objects = h .heap .objects }; homes = h .homes })
     → StandsFor s (withTables w t′) (record { heap = record { depths = ds; vars = vs; objects = h .heap .objects }; homes = h .homes }) to
-tables-stand {to = to} st o a u ds vs k d v sound =
-    let home = home-same o a u in
+tables-stand {to = to} st o a u h ds vs k d v sound =
+    let home = home-same o a u h in
     record {
       whole = k;
       sound = sound;

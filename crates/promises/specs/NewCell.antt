@@ -8,19 +8,20 @@ use lib.ListN.{length, getD}
 use Rattle.lists.specs.Stores.{drop-same}
 use Rattle.rules.specs.declared.Sizes.{Sizes}
 use Rattle.rules.specs.Regions.{regions}
-use Rattle.layout.specs.Places.{cellsWords}
+use Rattle.layout.specs.Places.{cellsWords, ownerOf}
 use Rattle.layout.specs.declared.Kind.{Kind}
 use Rattle.layout.specs.declared.Kind.the-variants.{Reference}
-use Rattle.layout.specs.Cells.{headAt, headOf, workAt, workOf, fieldAt, fieldOf, fieldCount, headWord, roomFor, mostFields, Formed, kind-among, fields-room, head-formed, pageOf, cellOf, wordOf}
-use Rattle.layout.specs.Words.{Words, Used, headIn}
+use Rattle.layout.specs.Cells.{headAt, headOf, workAt, workOf, fieldAt, fieldOf, fieldCount, headWord, roomFor, mostFields, Formed, kind-among, fields-room, head-formed, pageOf, cellOf, cellNamed}
+use Rattle.layout.specs.Objects.{InUse, begins-used, used-begins, begins-same, Covers, covers-low, head-not-new, work-not-new, field-not-new, Slot, slot-page}
+use Rattle.layout.specs.Words.{Words, BeginsIn, headIn}
 use Rattle.remember.specs.Crossing.{other, regionOf, crossTo}
 use Rattle.promises.specs.Whole.{WholeFor, Open, IsRef, ObjectWhole}
 use Rattle.promises.specs.Changes.{withCells}
-use Rattle.promises.specs.Areas.{variableWords, ownerWords, usedWords, countWords, headWords, workWords, Only, only-trans, cells-only}
+use Rattle.promises.specs.Areas.{variableWords, ownerWords, usedWords, countWords, headWords, workWords, fieldWords, Only, only-trans, cells-only}
 use Rattle.promises.specs.Frames.{sized-frame, depths-frame, marks-frame, object-frame}
 use Rattle.remember.specs.Entries.{exact-everywhere}
-use Rattle.promises.specs.Slots.{Slot, crossesTo, region-of, slot-field, cross-same}
-use Rattle.promises.specs.TakeCell.{Took, took-only, took-unused, still-used, used-split, ref-still, owner-used, took-pages, took-partial, took-counts}
+use Rattle.promises.specs.Slots.{crossesTo, region-of, slot-stays, cross-same}
+use Rattle.promises.specs.TakeCell.{Took, took-only, took-used, took-unused, still-used, used-split, owner-used, took-pages, took-partial, took-counts}
 
 -- the words of a new object, the first of them given, and all other cells as they were
 pub record Blank (c : List ℕ) (cell word : ℕ) (c′ : List ℕ) : Type 0 where
@@ -28,7 +29,7 @@ pub record Blank (c : List ℕ) (cell word : ℕ) (c′ : List ℕ) : Type 0 whe
   pub head : headOf c′ cell ≡ word
   pub work : workOf c′ cell ≡ 0
   pub fields : (f : ℕ) → f < roomFor word → fieldOf c′ cell f ≡ 0
-  pub others : (j : ℕ) → (cellOf j ≡ cell → ⊥) → getD c′ j 0 ≡ getD c j 0
+  pub others : (j : ℕ) → (Covers cell word j → ⊥) → getD c′ j 0 ≡ getD c j 0
 
 -- ---- whole
 
@@ -43,23 +44,43 @@ module _ (s : Sizes) (w : Words) (k : WholeFor s w) (g cell b d : ℕ) (t′ c�
   abbrev c : List ℕ
   c = w .cells
 
-  apart : (x : ℕ) → Used s w x → x ≡ cell → ⊥
-  apart x u e = took-unused s t g cell t′ took (subst (Used s w) e u)
+  -- the object begins there, and the others where they did
+  pub new-begins : BeginsIn s newWords cell
+  new-begins = used-begins s c′ t′ cell (took-used s t g cell t′ took)
+
+  pub not-there : BeginsIn s w cell → ⊥
+  not-there b = took-unused s t g cell t′ took (begins-used s c t cell b)
+
+  pub still-begins : (x : ℕ) → BeginsIn s w x → BeginsIn s newWords x
+  still-begins x b = used-begins s c′ t′ x (still-used s t g cell t′ took x (begins-used s c t x b))
+
+  pub begins-split : (x : ℕ) → BeginsIn s newWords x → (x ≡ cell) ⊎ BeginsIn s w x
+  begins-split x b = go (used-split s t g cell t′ took x (begins-used s c′ t′ x b))
+    where
+      go : (x ≡ cell) ⊎ InUse s t x → (x ≡ cell) ⊎ BeginsIn s w x
+      go (inl e) = inl e
+      go (inr u) = inr (used-begins s c t x u)
+
+  ref-still : (x : ℕ) → IsRef s c t x → IsRef s c′ t′ x
+  ref-still x r z = still-begins (cellNamed x) (r z)
+
+  pub owner-still : (x : ℕ) → BeginsIn s w x → ownerOf s t′ (pageOf x) ≡ ownerOf s t (pageOf x)
+  owner-still x b = owner-used s t g cell t′ took (k .pages) x (begins-used s c t x b)
 
   -- the words of the objects that were there are the same
-  head-other : (x : ℕ) → Used s w x → headOf c′ x ≡ headOf c x
-  head-other x u = blank .others (headAt x) (λ (e : cellOf (headAt x) ≡ cell). apart x u (omega arith))
+  head-other : (x : ℕ) → BeginsIn s w x → headOf c′ x ≡ headOf c x
+  head-other x u = blank .others (headAt x) (head-not-new s c t x u cell (headWord b d) (took-unused s t g cell t′ took))
 
   pub new-only : Only (ownerWords ∷ usedWords ∷ countWords ∷ []) s w newWords
   new-only =
       only-trans
-      (cells-only s w c′ [] (λ n. head-other) (λ n x u. blank .others (workAt x) (λ (e : cellOf (workAt x) ≡ cell). apart x u (omega arith)))
-      (λ n x u f l. blank .others (fieldAt x f) (λ (e : cellOf (fieldAt x f) ≡ cell). apart x u (omega arith)))
-      (record { long = blank .long; rest = drop-same (cellsWords s) c c′ (blank .long) (λ j l. blank .others j (λ (e : cellOf j ≡ cell). omega (arith, took .page))) }))
-      (took-only s (withCells w c′) g cell t′ took pos low) (λ x u. (u, head-other x u))
+      (cells-only s w c′ [] (λ n. head-other) (λ n x u. blank .others (workAt x) (work-not-new s c t x u cell (headWord b d) (took-unused s t g cell t′ took)))
+      (λ n x u f l. blank .others (fieldAt x f) (field-not-new s c t x u cell (headWord b d) (took-unused s t g cell t′ took) f l))
+      (record { long = blank .long; rest = drop-same (cellsWords s) c c′ (blank .long) (λ j l. blank .others j (λ e. omega (arith, covers-low s cell (headWord b d) j (took .page) e))) }))
+      (took-only s (withCells w c′) g cell t′ took pos low) (λ x u. (begins-same s c t c′ t x refl (λ j v e. head-other j v) u, head-other x u))
 
-  objects : (x : ℕ) → Used s newWords x → ObjectWhole s c′ t′ x
-  objects x i = go (used-split s t g cell t′ took x i)
+  objects : (x : ℕ) → BeginsIn s newWords x → ObjectWhole s c′ t′ x
+  objects x i = go (begins-split x i)
     where
       blank-object : ObjectWhole s c′ t′ cell
       blank-object =
@@ -70,54 +91,47 @@ module _ (s : Sizes) (w : Words) (k : WholeFor s w) (g cell b d : ℕ) (t′ c�
             references = λ f l p. absurd (let z : ⊥ = omega (arith, blank .fields f (omega (arith, ap (fieldCount Reference) h, kind-among Reference (headWord b d), fields-room (headWord b d) (head-formed b d few)))) in z);
           }
 
-      go : (x ≡ cell) ⊎ Used s w x → ObjectWhole s c′ t′ x
+      go : (x ≡ cell) ⊎ BeginsIn s w x → ObjectWhole s c′ t′ x
       go (inl e) = subst (ObjectWhole s c′ t′) (sym e) blank-object
-      go (inr u) = object-frame new-only refl refl (ref-still s t g cell t′ took) x u (k .objects x u)
+      go (inr u) = object-frame new-only refl refl ref-still x u (k .objects x u)
 
-  works : (x : ℕ) → Used s newWords x → workOf c′ x ≡ 0
-  works x i = go (used-split s t g cell t′ took x i)
+  works : (x : ℕ) → BeginsIn s newWords x → workOf c′ x ≡ 0
+  works x i = go (begins-split x i)
     where
-      go : (x ≡ cell) ⊎ Used s w x → workOf c′ x ≡ 0
+      go : (x ≡ cell) ⊎ BeginsIn s w x → workOf c′ x ≡ 0
       go (inl e) = ap (workOf c′) e ∙ blank .work
       go (inr u) = new-only .same workWords refl x u ∙ k .works x u
 
   -- a new object has no slot that crosses, and the others cross as they did
-  region-kept : (x : ℕ) → IsRef s t x → regionOf s t′ x ≡ regionOf s t x
+  region-kept : (x : ℕ) → IsRef s c t x → regionOf s t′ x ≡ regionOf s t x
   region-kept zero r = refl
   region-kept (suc x) r =
       let e : suc x - 1 ≡ x = omega arith in
-      let u : Used s w x = subst (Used s w) e (r (omega arith)) in
-      region-of s t′ x (still-used s t g cell t′ took x u) ∙ owner-used s t g cell t′ took (k .pages) x u ∙ sym (region-of s t x u)
+      let u : BeginsIn s w x = subst (BeginsIn s w) e (r (omega arith)) in
+      region-of s t′ x (begins-used s c′ t′ x (still-begins x u)) ∙ owner-still x u ∙ sym (region-of s t x (begins-used s c t x u))
 
-  slot-kept : (q : ℕ) → Slot s c t q
-      → Slot s c′ t′ q × (crossesTo s t′ (cellOf q) (getD c′ q 0) ≡ crossesTo s t (cellOf q) (getD c q 0))
+  slot-kept : (q : ℕ) → Slot s c t q → Slot s c′ t′ q × (crossesTo s t′ (cellOf q) (getD c′ q 0) ≡ crossesTo s t (cellOf q) (getD c q 0))
   slot-kept q o =
-      let u = o .used in
-      let n = apart (cellOf q) u in
-      let f = slot-field s c t q o in
-      let v : getD c′ q 0 ≡ getD c q 0 = blank .others q n in
-      let r : IsRef s t (getD c q 0) = subst (λ (z : ℕ). IsRef s t (getD c z 0)) (f .0) (k .objects (cellOf q) u .references (wordOf q - 2) (f .1)) in (
-        record {
-          used = still-used s t g cell t′ took (cellOf q) u;
-          field = o .field;
-          count = subst (λ (z : ℕ). wordOf q < fieldCount Reference z + 2) (sym (head-other (cellOf q) u)) (o .count);
-        },
-        ap₂ other (owner-used s t g cell t′ took (k .pages) (cellOf q) u) (ap (regionOf s t′) v ∙ region-kept (getD c q 0) r),
+      let u = o .begins in
+      let p = slot-page s c t q o in
+      let v : getD c′ q 0 ≡ getD c q 0 = subst (λ (i : ℕ). getD c′ i 0 ≡ getD c i 0) (o .at) (new-only .same fieldWords refl (o .object) u (o .field) (o .room)) in
+      let r : IsRef s c t (getD c q 0) = subst (λ (z : ℕ). IsRef s c t (getD c z 0)) (o .at) (k .objects (o .object) u .references (o .field) (o .low)) in (
+        slot-stays o (still-begins (o .object) u) (head-other (o .object) u),
+        ap₂ other (ap (ownerOf s t′) p ∙ owner-still (o .object) u ∙ sym (ap (ownerOf s t) p)) (ap (regionOf s t′) v ∙ region-kept (getD c q 0) r),
       )
 
   slot-new : (q : ℕ) → Slot s c′ t′ q → Slot s c t q ⊎ (crossesTo s t′ (cellOf q) (getD c′ q 0) ≡ 0)
-  slot-new q o = go (used-split s t g cell t′ took (cellOf q) (o .used))
+  slot-new q o = go (begins-split (o .object) (o .begins))
     where
-      go : (cellOf q ≡ cell) ⊎ Used s w (cellOf q) → Slot s c t q ⊎ (crossesTo s t′ (cellOf q) (getD c′ q 0) ≡ 0)
+      go : (o .object ≡ cell) ⊎ BeginsIn s w (o .object) → Slot s c t q ⊎ (crossesTo s t′ (cellOf q) (getD c′ q 0) ≡ 0)
       go (inl e) =
-          let at : fieldAt cell (wordOf q - 2) ≡ q = omega (arith, o .field) in
-          let z : getD c′ q 0 ≡ 0 = ap (λ (i : ℕ). getD c′ i 0) (sym at) ∙ blank .fields (wordOf q - 2) (omega (arith, o .field)) in
+          let l : o .field < roomFor (headWord b d) = subst (λ (h : ℕ). o .field < roomFor h) (ap (headOf c′) e ∙ blank .head) (o .room) in
+          let z : getD c′ q 0 ≡ 0 = ap (λ (i : ℕ). getD c′ i 0) (sym (o .at) ∙ ap (λ (i : ℕ). fieldAt i (o .field)) e) ∙ blank .fields (o .field) l in
           inr (ap (crossesTo s t′ (cellOf q)) z)
-      go (inr u) =
-          inl (record { used = u; field = o .field; count = subst (λ (z : ℕ). wordOf q < fieldCount Reference z + 2) (head-other (cellOf q) u) (o .count) })
+      go (inr u) = inl (slot-stays o u (sym (head-other (o .object) u)))
 
-  cross-kept : (q : ℕ) → q < cellsWords s → crossTo s c′ t′ q ≡ crossTo s c t q
-  cross-kept q l = cross-same s c t c′ t′ q l (slot-kept q) (slot-new q)
+  cross-kept : (q : ℕ) → crossTo s c′ t′ q ≡ crossTo s c t q
+  cross-kept q = cross-same s c t c′ t′ q (slot-kept q) (slot-new q)
 
   pub new-whole : WholeFor s newWords
   new-whole =
@@ -127,9 +141,9 @@ module _ (s : Sizes) (w : Words) (k : WholeFor s w) (g cell b d : ℕ) (t′ c�
         pages = took-pages s w k g cell t′ took pos low open′;
         partial = took-partial s w k g cell t′ took pos low open′;
         counts = took-counts s w k g cell t′ took pos low open′;
-        variables = λ i l. subst (IsRef s t′) (sym (new-only .same variableWords refl i l)) (ref-still s t g cell t′ took _ (k .variables i l));
+        variables = λ i l. subst (IsRef s c′ t′) (sym (new-only .same variableWords refl i l)) (ref-still _ (k .variables i l));
         objects = objects;
         marks = marks-frame new-only refl (k .marks);
         works = works;
-        remember = exact-everywhere (crossTo s c t) (crossTo s c′ t′) (cellsWords s) (s .entries) (w .remember) cross-kept (k .remember);
+        remember = exact-everywhere (crossTo s c t) (crossTo s c′ t′) (cellsWords s) (s .entries) (w .remember) (λ q l. cross-kept q) (k .remember);
       }

@@ -20,6 +20,7 @@ use Rattle.laws.specs.RegionLaws.{thread-at, level-at, region-high}
 use Rattle.laws.specs.Counts.{new-pages}
 use Rattle.laws.specs.AfterLaws.{graph-new}
 use Rattle.layout.specs.Places.{depthOf, countOf}
+use Rattle.layout.specs.Cells.{pageCells}
 use Rattle.layout.specs.Words.{Words, depthIn, ownerIn, usedIn}
 use Rattle.promises.specs.Whole.{WholeFor, Open, Partial}
 use Rattle.promises.specs.StandsFor.{StandsFor}
@@ -68,29 +69,29 @@ module _ (s : Sizes) (w : Words) (k : WholeFor s w) (g : ℕ) (pos : 0 < g) (low
   free = freeOn s (w .tables) g
 
   -- objects and free cells fill the region's pages
-  fill : objects + sum free (s .pages) ≡ 16 * pagesOwned s w g
+  fill : objects + sum free (s .pages) ≡ pageCells * pagesOwned s w g
   fill = omega (arith, k .counts g pos low, filled s w k g pos (s .pages) (omega arith))
 
-  pub partly-filled : (page : ℕ) → page < s .pages → Partial s (w .tables) g page → objects % 16 ≡ 0 → ⊥
+  pub partly-filled : (page : ℕ) → page < s .pages → Partial s (w .tables) g page → objects % pageCells ≡ 0 → ⊥
   partly-filled page l p z =
       omega (
         arith,
         fill,
         sum-part free page (s .pages) l,
-        ap (λ (b : Bool). cond b (16 - usedIn s w page) 0) (eq-eqb (ownerIn s w page) g (p .owner)),
+        ap (λ (b : Bool). cond b (pageCells - usedIn s w page) 0) (eq-eqb (ownerIn s w page) g (p .owner)),
         p .part,
         free-count s w k g pos (s .pages) (omega arith),
         one-part s w k g pos,
       )
 
-  pub none-partly : ((page : ℕ) → page < s .pages → Partial s (w .tables) g page → ⊥) → objects % 16 ≡ 0
+  pub none-partly : ((page : ℕ) → page < s .pages → Partial s (w .tables) g page → ⊥) → objects % pageCells ≡ 0
   none-partly none = omega (arith, fill, sum-none free (s .pages) (λ page l. go page l (eqb (ownerIn s w page) g) refl))
     where
-      go : (page : ℕ) → page < s .pages → (b : Bool) → eqb (ownerIn s w page) g ≡ b → cond b (16 - usedIn s w page) 0 ≡ 0
+      go : (page : ℕ) → page < s .pages → (b : Bool) → eqb (ownerIn s w page) g ≡ b → cond b (pageCells - usedIn s w page) 0 ≡ 0
       go page l false e = refl
-      go page l true e = full (16 - usedIn s w page) refl
+      go page l true e = full (pageCells - usedIn s w page) refl
         where
-          full : (n : ℕ) → 16 - usedIn s w page ≡ n → 16 - usedIn s w page ≡ 0
+          full : (n : ℕ) → pageCells - usedIn s w page ≡ n → pageCells - usedIn s w page ≡ 0
           full zero q = q
           full (suc n) q = absurd (none page l (record { owner = eqb-true (ownerIn s w page) g e; part = omega arith }))
 
@@ -119,7 +120,7 @@ module _ (s : Sizes) (w : Words) (h : Regioned) (to : ℕ → ℕ) (st : StandsF
   pub new-fits : PartlyFilled s w g ⊎ FreePage s w → leb (newPages s (graph h) (graph made)) (freePages s (graph h)) ≡ true
   new-fits (inl p) =
       le-leb (newPages s (graph h) (graph made)) (freePages s (graph h))
-      (let n : held % 16 ≡ 0 → ⊥ = partly-filled s w (st .whole) g pos low (p .0) (p .1) (p .2) in omega (arith, needs))
+      (let n : held % pageCells ≡ 0 → ⊥ = partly-filled s w (st .whole) g pos low (p .0) (p .1) (p .2) in omega (arith, needs))
   new-fits (inr p) =
       le-leb (newPages s (graph h) (graph made)) (freePages s (graph h))
       (omega (arith, needs, heap-free s w h to st, count-without (λ page. eqb (ownerIn s w page) 0) (p .0) (s .pages) (p .1) (eq-eqb (ownerIn s w (p .0)) 0 (p .2))))

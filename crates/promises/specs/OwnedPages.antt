@@ -15,8 +15,9 @@ use Rattle.rules.specs.Regions.{regions}
 use Rattle.rules.specs.Graph.{pagesOf, objectsIn, freePages}
 use Rattle.rules.specs.Rules.{Regioned, graph}
 use Rattle.layout.specs.Places.{ownerOf, usedOf, countOf}
-use Rattle.layout.specs.Cells.{cellOn}
-use Rattle.layout.specs.Words.{Words, ownerIn, usedIn, homeIn, graphOf, homeAt, inUseAt}
+use Rattle.layout.specs.Cells.{pageCells, cellOn, page-on}
+use Rattle.layout.specs.Words.{Words, ownerIn, usedIn, homeIn, graphOf, homeAt}
+use Rattle.layout.specs.Objects.{begins-on}
 use Rattle.promises.specs.Whole.{WholeFor, Partial, objectsOn, objectsOf}
 use Rattle.promises.specs.StandsFor.{StandsFor}
 use Rattle.promises.specs.Reading.{range}
@@ -24,13 +25,13 @@ use Rattle.promises.specs.Agreed.{free-agree}
 
 -- the cells of region g's page that are not in use
 abbrev pub freeOn : Sizes → List ℕ → ℕ → ℕ → ℕ
-freeOn p t g page = cond (eqb (ownerOf p t page) g) (16 - usedOf p t page) 0
+freeOn p t g page = cond (eqb (ownerOf p t page) g) (pageCells - usedOf p t page) 0
 
 -- the pages of region q
 abbrev pub pagesOwned : Sizes → Words → ℕ → ℕ
 pagesOwned s w q = count (λ page. eqb (ownerIn s w page) q) (s .pages)
 
-both-parts : (b : Bool) (u : ℕ) → u ≤ 16 → cond b u 0 + cond b (16 - u) 0 ≡ 16 * bit b
+both-parts : (b : Bool) (u : ℕ) → u ≤ pageCells → cond b u 0 + cond b (pageCells - u) 0 ≡ pageCells * bit b
 both-parts true u l = omega arith
 both-parts false u l = omega arith
 
@@ -45,7 +46,7 @@ module _ (s : Sizes) (w : Words) (k : WholeFor s w) where
 
   module _ (q : ℕ) (pos : 0 < q) where
     -- objects and free cells of the region's pages fill these
-    pub filled : (n : ℕ) → n ≤ s .pages → sum (objectsOn s (w .tables) q) n + sum (freeOn s (w .tables) q) n ≡ 16 * count (λ page. eqb (ownerIn s w page) q) n
+    pub filled : (n : ℕ) → n ≤ s .pages → sum (objectsOn s (w .tables) q) n + sum (freeOn s (w .tables) q) n ≡ pageCells * count (λ page. eqb (ownerIn s w page) q) n
     filled zero l = refl
     filled (suc n) l =
         omega (arith, filled n (omega arith), both-parts (eqb (ownerIn s w n) q) (usedIn s w n) (k .pages n (omega arith) .cells))
@@ -53,7 +54,7 @@ module _ (s : Sizes) (w : Words) (k : WholeFor s w) where
     free-low : (page : ℕ) → page < s .pages → freeOn s (w .tables) q page ≤ 15
     free-low page l = go (eqb (ownerIn s w page) q) refl
       where
-        go : (b : Bool) → eqb (ownerIn s w page) q ≡ b → cond b (16 - usedIn s w page) 0 ≤ 15
+        go : (b : Bool) → eqb (ownerIn s w page) q ≡ b → cond b (pageCells - usedIn s w page) 0 ≤ 15
         go true e = omega (arith, k .pages page l .taken (omega (arith, eqb-true (ownerIn s w page) q e)))
         go false e = omega arith
 
@@ -75,7 +76,7 @@ module _ (s : Sizes) (w : Words) (k : WholeFor s w) where
         part : (page : ℕ) → positive (freeOn s (w .tables) q) page ≡ true → Partial s (w .tables) q page
         part page h = go (eqb (ownerIn s w page) q) refl (ltb-true 0 (freeOn s (w .tables) q page) h)
           where
-            go : (b : Bool) → eqb (ownerIn s w page) q ≡ b → 0 < cond b (16 - usedIn s w page) 0 → Partial s (w .tables) q page
+            go : (b : Bool) → eqb (ownerIn s w page) q ≡ b → 0 < cond b (pageCells - usedIn s w page) 0 → Partial s (w .tables) q page
             go true e l = record { owner = eqb-true (ownerIn s w page) q e; part = omega arith }
             go false e l = absurd (let z : ⊥ = omega arith in z)
 
@@ -85,15 +86,11 @@ module _ (s : Sizes) (w : Words) (k : WholeFor s w) where
 
     -- ---- the objects of a page
 
-    home-of : (page j : ℕ) → page < s .pages → j < 16 → homeIn s w (cellOn page j) ≡ cond (ltb j (usedIn s w page)) (ownerIn s w page) 0
-    unfolding homeAt inUseAt
-    home-of page j l m =
-        let d : (cellOn page j) / 16 ≡ page = omega arith in
-        let e : (cellOn page j) % 16 ≡ j = omega arith in
-        ap₂ (λ (x y : ℕ). cond (ltb x (s .pages) && ltb y (usedIn s w x)) (ownerIn s w x) 0) d e
-        ∙ ap (λ (b : Bool). cond (b && ltb j (usedIn s w page)) (ownerIn s w page) 0) (lt-ltb page (s .pages) l)
+    home-of : (page j : ℕ) → page < s .pages → j < pageCells → homeIn s w (cellOn page j) ≡ cond (ltb j (usedIn s w page)) (ownerIn s w page) 0
+    unfolding homeAt
+    home-of page j l m = ap₂ (λ (b : Bool) (p : ℕ). cond b (ownerIn s w p) 0) (begins-on s (w .cells) (w .tables) page j l m) (page-on page j m)
 
-    on-page : (page : ℕ) → page < s .pages → sum (λ j. cond (eqb (homeIn s w (cellOn page j)) q) 1 0) 16 ≡ objectsOn s (w .tables) q page
+    on-page : (page : ℕ) → page < s .pages → sum (λ j. cond (eqb (homeIn s w (cellOn page j)) q) 1 0) pageCells ≡ objectsOn s (w .tables) q page
     on-page page l = go (ℕ-discrete (ownerIn s w page) q)
       where
         f : ℕ → ℕ
@@ -107,18 +104,18 @@ module _ (s : Sizes) (w : Words) (k : WholeFor s w) where
         another true n = ap (λ (t : Bool). cond t 1 0) (ne-eqb (ownerIn s w page) q n)
         another false n = ap (λ (t : Bool). cond t 1 0) (ne-eqb 0 q (λ (z : 0 ≡ q). omega arith))
 
-        go : Dec (ownerIn s w page ≡ q) → sum f 16 ≡ objectsOn s (w .tables) q page
+        go : Dec (ownerIn s w page ≡ q) → sum f pageCells ≡ objectsOn s (w .tables) q page
         go (yes e) =
-            sum-first f (usedIn s w page) 16 (λ j m. ap (λ (n : ℕ). cond (eqb n q) 1 0) (home-of page j l m) ∙ mine (ltb j (usedIn s w page)) e)
+            sum-first f (usedIn s w page) pageCells (λ j m. ap (λ (n : ℕ). cond (eqb n q) 1 0) (home-of page j l m) ∙ mine (ltb j (usedIn s w page)) e)
             ∙ omega (arith, k .pages page l .cells, ap (λ (b : Bool). cond b (usedIn s w page) 0) (eq-eqb (ownerIn s w page) q e))
         go (no n) =
-            sum-none f 16 (λ j m. ap (λ (n : ℕ). cond (eqb n q) 1 0) (home-of page j l m) ∙ another (ltb j (usedIn s w page)) n)
+            sum-none f pageCells (λ j m. ap (λ (n : ℕ). cond (eqb n q) 1 0) (home-of page j l m) ∙ another (ltb j (usedIn s w page)) n)
             ∙ sym (ap (λ (b : Bool). cond b (usedIn s w page) 0) (ne-eqb (ownerIn s w page) q n))
 
     pub objects-on-pages : objectsIn (graphOf s w) q ≡ objectsOf s (w .tables) q
     unfolding objectsIn
     objects-on-pages =
-        sum-blocks 16 (λ c. cond (eqb (homeIn s w c) q) 1 0) (objectsOn s (w .tables) q) (s .pages) on-page
+        sum-blocks pageCells (λ c. cond (eqb (homeIn s w c) q) 1 0) (objectsOn s (w .tables) q) (s .pages) on-page
 
     -- 01: a region of n objects uses n / 16 pages, rounded up
     pub region-pages : pagesOwned s w q ≡ pagesOf (objectsIn (graphOf s w) q)

@@ -10,11 +10,12 @@ use lib.Dec.{ltb, leb, eqb}
 use borrow.Author.Tests.{le-ltb}
 use Rattle.rules.specs.Terms.{InRange}
 use Rattle.layout.specs.Places.{depthAt, varAt, markAt, countAt, slotAt, slotRegionAt, ownersFrom, usedFrom, marksFrom, countsFrom, cellsWords, rememberWords, tablesWords, count-room}
-use Rattle.layout.specs.Cells.{headOf, pageOf, placeOf, cellOf, wordOf}
+use Rattle.layout.specs.Cells.{pageOf}
+use Rattle.layout.specs.Objects.{begins-used}
 use Rattle.lists.specs.Tests.{cond-zero}
 use Rattle.lists.specs.Zeros.{all-zero}
 use Rattle.lists.specs.Counting.{sum-high}
-use Rattle.remember.specs.Crossing.{crossTo, other, regionOf}
+use Rattle.remember.specs.Crosses.{cross-slot}
 use Rattle.promises.specs.Whole.{Sized, objectsOn, WholeFor}
 use Rattle.rules.specs.declared.Sizes.{Sizes}
 use Rattle.rules.specs.NeverFreeing.{empty}
@@ -22,7 +23,7 @@ use Rattle.rules.specs.Rules.{unused}
 use Rattle.laws.specs.RulesLaws.{sound-unused}
 use Rattle.laws.specs.GraphLaws.{Alive}
 use Rattle.laws.specs.SameRules.{renamed-zeros}
-use Rattle.layout.specs.Words.{Words, InUse, sizesIn, depthsIn, varsIn, graphOf, ownerIn, usedIn, depthsAt, varsAt}
+use Rattle.layout.specs.Words.{Words, BeginsIn, sizesIn, depthsIn, varsIn, graphOf, ownerIn, usedIn, depthsAt, varsAt}
 use Rattle.promises.specs.StandsFor.{StandsFor}
 use Rattle.promises.specs.Reading.{alive-used}
 use Rattle.promises.specs.Promises.{LongEnough, PrepareAsked, outOfRange, short, accepted, Unused, Prepared}
@@ -91,14 +92,8 @@ module _ (s : Sizes) (lent w : Words) (range : InRange s) (long : LongEnough s l
   no-objects : (g page : ℕ) → page < s .pages → objectsOn s (w .tables) g page ≡ 0
   no-objects g page l = cond-zero (eqb (ownerIn s w page) g) (usedIn s w page) 0 (used-zero page l) refl
 
-  no-cross : (q : ℕ) → q < cellsWords s → crossTo s (w .cells) (w .tables) q ≡ 0
-  unfolding crossTo
-  no-cross q l =
-      ap (λ (b : Bool). cond b (cond (leb 2 (wordOf q)) (cond (ltb (wordOf q) (headOf (w .cells) (cellOf q) / 16 + 2)) (other (ownerIn s w (pageOf (cellOf q))) (regionOf s (w .tables) (getD (w .cells) q 0))) 0) 0) 0)
-      (le-ltb (placeOf (cellOf q)) (usedIn s w (pageOf (cellOf q))) (omega (arith, used-zero (pageOf (cellOf q)) (omega arith))))
-
-  no-cell : (c : ℕ) → InUse s (w .tables) c → ⊥
-  no-cell c v = omega (arith, v .place, used-zero (pageOf c) (v .page))
+  no-object : (c : ℕ) → BeginsIn s w c → ⊥
+  no-object c b = let v = begins-used s (w .cells) (w .tables) c b in omega (arith, v .place, used-zero (pageOf c) (v .page))
 
   whole : WholeFor s w
   whole =
@@ -115,9 +110,9 @@ module _ (s : Sizes) (lent w : Words) (range : InRange s) (long : LongEnough s l
         counts = λ g l m. table-zero (countAt s g) (omega (arith, room)) (omega (arith, room))
             ∙ sym (omega (arith, sum-high (objectsOn s (w .tables) g) 0 (s .pages) (λ k i. omega (arith, no-objects g k i))));
         variables = λ i l p. absurd (omega (arith, table-zero (varAt s i) (omega arith) (omega (arith, room))));
-        objects = λ c v. absurd (no-cell c v);
+        objects = λ c v. absurd (no-object c v);
         marks = λ page l. table-zero (markAt s page) (omega (arith, room)) (omega (arith, room));
-        works = λ c v. absurd (no-cell c v);
+        works = λ c v. absurd (no-object c v);
         remember = record {
           entries = record {
             room = omega (arith, remember-zero 1 (omega arith) (omega arith));
@@ -125,12 +120,12 @@ module _ (s : Sizes) (lent w : Words) (range : InRange s) (long : LongEnough s l
             once = λ i j l m. absurd (omega (arith, remember-zero 1 (omega arith) (omega arith)));
             rest = λ i l m. (remember-zero (slotAt i) (omega arith) (omega arith), remember-zero (slotRegionAt (s .entries) i) (omega arith) (omega arith));
           };
-          every = λ q l h. absurd (omega (arith, no-cross q l));
+          every = λ q l h. let o = cross-slot s (w .cells) (w .tables) q h in absurd (no-object (o .object) (o .begins));
         };
       }
 
   none-there : (c : ℕ) → Alive (graphOf s w) c → ⊥
-  none-there c a = no-cell c (alive-used s w whole c a)
+  none-there c a = no-object c (alive-used s w whole c a)
 
   depths-zero : depthsIn s w ≡ replicate (s .threads) 0
   unfolding depthsAt

@@ -24,7 +24,7 @@ use Rattle.rules.specs.Rules.{Regioned, graph, asksEntries, first}
 use Rattle.layout.specs.declared.Kind.{Kind}
 use Rattle.layout.specs.declared.Kind.the-variants.{Reference, Number}
 use Rattle.layout.specs.Cells.{headOf, fieldCount, kindAt}
-use Rattle.layout.specs.Words.{Words, Used, heapOf, varIn, headIn, fieldsIn, objectIn, ownerIn}
+use Rattle.layout.specs.Words.{Words, BeginsIn, heapOf, varIn, headIn, fieldsIn, objectIn, ownerIn}
 use Rattle.promises.specs.Whole.{WholeFor, IsRef}
 use Rattle.promises.specs.StandsFor.{StandsFor, SameBeyond}
 use Rattle.promises.specs.Promises.{Became, DidHere, Frees, Freed}
@@ -132,34 +132,34 @@ fieldsOf Number o = o .nums
 
 module _ (s : Sizes) (w : Words) (k : WholeFor s w) where
   -- every variable is null or names a cell in use
-  pub var-ref : (t a : ℕ) → t < s .threads → a < s .variables → IsRef s (w .tables) (varIn s w t a)
+  pub var-ref : (t a : ℕ) → t < s .threads → a < s .variables → IsRef s (w .cells) (w .tables) (varIn s w t a)
   var-ref t a l n = k .variables (t * s .variables + a) (flat-low l n)
 
-  pub object-heap : (y : ℕ) → Used s w y → objectOf (heapOf s w .heap) (suc y) ≡ objectIn w y
+  pub object-heap : (y : ℕ) → BeginsIn s w y → objectOf (heapOf s w .heap) (suc y) ≡ objectIn w y
   object-heap y u = object-at s w k y (used-alive s w k y u)
 
-  fields-heap : (d : Kind) (y : ℕ) → Used s w y → fieldsOf d (objectOf (heapOf s w .heap) (suc y)) ≡ fieldsIn d w y
+  fields-heap : (d : Kind) (y : ℕ) → BeginsIn s w y → fieldsOf d (objectOf (heapOf s w .heap) (suc y)) ≡ fieldsIn d w y
   fields-heap Reference y u = ap (fieldsOf Reference) (object-heap y u)
   fields-heap Number y u = ap (fieldsOf Number) (object-heap y u)
 
   -- a reference v that is null or names a cell in use, and field f of it
   module _ (d : Kind) (f : ℕ) where
-    pub used-fields : (v : ℕ) → IsRef s (w .tables) v
+    pub used-fields : (v : ℕ) → IsRef s (w .cells) (w .tables) v
         → used v f (length (fieldsOf d (objectOf (heapOf s w .heap) v))) ≡ used v f (fieldCount d (headOf (w .cells) (v - 1)))
     unfolding ask
     used-fields zero r = refl
     used-fields (suc y) r =
         let y′ : suc y - 1 ≡ y = omega arith in
-        let u : Used s w y = subst (Used s w) y′ (r (omega arith)) in
+        let u : BeginsIn s w y = subst (BeginsIn s w) y′ (r (omega arith)) in
         ap (used (suc y) f) (ap length (fields-heap d y u) ∙ length-fields s w k d y u ∙ sym (ap (λ (z : ℕ). fieldCount d (headOf (w .cells) z)) y′))
 
     -- the field's word
-    pub field-word : (v : ℕ) → IsRef s (w .tables) v → 0 < v → f < fieldCount d (headOf (w .cells) (v - 1))
+    pub field-word : (v : ℕ) → IsRef s (w .cells) (w .tables) v → 0 < v → f < fieldCount d (headOf (w .cells) (v - 1))
         → getD (fieldsOf d (objectOf (heapOf s w .heap) v)) f 0 ≡ getD (w .cells) (kindAt d (w .cells) (v - 1) f) 0
     field-word zero r p l = absurd (let o : ⊥ = omega arith in o)
     field-word (suc y) r p l =
         let y′ : suc y - 1 ≡ y = omega arith in
-        let u : Used s w y = subst (Used s w) y′ (r (omega arith)) in
+        let u : BeginsIn s w y = subst (BeginsIn s w) y′ (r (omega arith)) in
         let n : f < fieldCount d (headIn w y) = subst (λ (z : ℕ). f < fieldCount d (headOf (w .cells) z)) y′ l in
         ap (λ (vs : List ℕ). getD vs f 0) (fields-heap d y u) ∙ getD-fields d w y f n
         ∙ sym (ap (λ (z : ℕ). getD (w .cells) (kindAt d (w .cells) z f) 0) y′)

@@ -1,13 +1,11 @@
 -- What is read from whole words: cells in use, their fields, variables and depths; and that no reference names a cell not in use.
 use Prim.Native.Nat.{ℕ, suc, _+_, _-_, _*_, _^_, _≤_, _<_}
 use native.Mathlib.Omega.{arith}
-use mathlib.Core.Path.{_≡_, refl, sym, ap, ap₂, subst, _∙_}
+use mathlib.Core.Path.{_≡_, refl, sym, ap, subst, _∙_}
 use mathlib.Core.List.{List}
-use mathlib.Core.Bool.{Bool, true, false, cond, _&&_}
+use mathlib.Core.Bool.{Bool, true, false, cond}
 use lib.ListN.{length, getD, drop, length-drop}
 use lib.Seq.{getD-take, getD-drop, length-take-le}
-use borrow.Author.Tests.{lt-ltb, ltb-true}
-use Rattle.lists.specs.Tests.{both-true}
 use Rattle.lists.specs.Members.{In, in-place, in-bounds}
 use Rattle.lists.specs.Products.{flat-low}
 use Rattle.rules.specs.declared.Sizes.{Sizes}
@@ -16,9 +14,10 @@ use Rattle.laws.specs.GraphLaws.{Alive, Closed}
 use Rattle.layout.specs.declared.Kind.{Kind}
 use Rattle.layout.specs.declared.Kind.the-variants.{Reference}
 use Rattle.layout.specs.Places.{Room, room, depthAt, varAt, varOf, tablesWords, rememberWords, cellsWords, count-room, count-is, ownersFrom}
-use Rattle.layout.specs.Cells.{fieldAt, fieldOf, fieldCount, firstField, kindAt, kind-among, pageOf, CellIn}
+use Rattle.layout.specs.Cells.{fieldAt, fieldOf, fieldCount, firstField, kindAt, mostFields, roomFor, kind-among, fields-room, pageOf, CellIn}
 use Rattle.layout.specs.Cells as ly
-use Rattle.layout.specs.Words.{Words, depthIn, varIn, ownerIn, depthsIn, varsIn, headIn, refCount, fieldsIn, refsIn, homeIn, graphOf, depthsAt, homeAt, inUseAt, fieldsAt, varsAt, Used, InUse}
+use Rattle.layout.specs.Words.{Words, depthIn, varIn, ownerIn, depthsIn, varsIn, headIn, refCount, fieldsIn, refsIn, homeIn, graphOf, depthsAt, homeAt, fieldsAt, varsAt, BeginsIn}
+use Rattle.layout.specs.Objects.{cellCount, beginsAt, begins-used, begins-low, begins-true, true-begins, fields-inside}
 use Rattle.promises.specs.Whole.{Sized, WholeFor}
 
 pub getD-fields : (d : Kind) (w : Words) (c i : ℕ) → i < fieldCount d (headIn w c) → getD (fieldsIn d w c) i 0 ≡ getD (w .cells) (kindAt d (w .cells) c i) 0
@@ -45,19 +44,6 @@ pub depth-at : (s : Sizes) (w : Words) (t : ℕ) → t < s .threads → getD (de
 unfolding depthsAt
 depth-at s w t l = getD-take (s .threads) (drop (depthAt 0) (w .tables)) t 0 l ∙ getD-drop (depthAt 0) (w .tables) t 0
 
--- ---- cells in use
-
--- the test reads the tables alone
-pub in-use : (s : Sizes) (t : List ℕ) (c : ℕ) → InUse s t c → inUseAt s t c ≡ true
-unfolding inUseAt
-in-use s t c u = ap₂ _&&_ (lt-ltb _ _ (u .page)) (lt-ltb _ _ (u .place))
-
-pub use-in : (s : Sizes) (t : List ℕ) (c : ℕ) → inUseAt s t c ≡ true → InUse s t c
-unfolding inUseAt
-use-in s t c e =
-    let r = both-true _ _ e in
-    record { page = ltb-true _ _ (r .0); place = ltb-true _ _ (r .1) }
-
 -- ---- whole words
 
 -- the five sizes and the number of entries used can be read
@@ -81,37 +67,34 @@ module _ (s : Sizes) (w : Words) (k : WholeFor s w) where
   pub tables-room : tablesWords s ≤ length (w .tables)
   tables-room = k .sized .tables
 
-  pub used-home : (c : ℕ) → Used s w c → homeIn s w c ≡ ownerIn s w (pageOf c)
+  pub used-home : (c : ℕ) → BeginsIn s w c → homeIn s w c ≡ ownerIn s w (pageOf c)
   unfolding homeAt
-  used-home c u = ap (λ (b : Bool). cond b (ownerIn s w (pageOf c)) 0) (in-use s (w .tables) c u)
+  used-home c u = ap (λ (b : Bool). cond b (ownerIn s w (pageOf c)) 0) (begins-true s (w .cells) (w .tables) c u)
 
-  pub used-owned : (c : ℕ) → Used s w c → ownerIn s w (pageOf c) ≡ 0 → ⊥
-  used-owned c u z = omega (arith, k .pages (pageOf c) (u .page) .free z, u .place)
+  pub used-owned : (c : ℕ) → BeginsIn s w c → ownerIn s w (pageOf c) ≡ 0 → ⊥
+  used-owned c u z = let i = begins-used s (w .cells) (w .tables) c u in omega (arith, k .pages (pageOf c) (i .page) .free z, i .place)
 
-  pub used-alive : (c : ℕ) → Used s w c → Alive (graphOf s w) c
+  pub used-alive : (c : ℕ) → BeginsIn s w c → Alive (graphOf s w) c
   used-alive c u z = used-owned c u (sym (used-home c u) ∙ z)
 
-  pub alive-used : (c : ℕ) → Alive (graphOf s w) c → Used s w c
+  pub alive-used : (c : ℕ) → Alive (graphOf s w) c → BeginsIn s w c
   unfolding homeAt
-  alive-used c a = go (inUseAt s (w .tables) c) refl
+  alive-used c a = go (beginsAt s (w .cells) (w .tables) c) refl
     where
-      go : (b : Bool) → inUseAt s (w .tables) c ≡ b → Used s w c
-      go true e = use-in s (w .tables) c e
+      go : (b : Bool) → beginsAt s (w .cells) (w .tables) c ≡ b → BeginsIn s w c
+      go true e = true-begins s (w .cells) (w .tables) c e
       go false e = absurd (a (ap (λ (b : Bool). cond b (ownerIn s w (pageOf c)) 0) e))
 
-  pub cell-low : (c : ℕ) → Used s w c → c < 16 * s .pages
-  cell-low c u = omega (arith, u .page)
+  pub cell-low : (c : ℕ) → BeginsIn s w c → c < cellCount s
+  cell-low = begins-low s (w .cells) (w .tables)
 
-  pub cell-room : (c : ℕ) → Used s w c → 16 * c + 16 ≤ length (w .cells)
-  cell-room c u = omega (arith, cells-room, u .page)
-
-  pub length-fields : (d : Kind) (c : ℕ) → Used s w c → length (fieldsIn d w c) ≡ fieldCount d (headIn w c)
+  pub length-fields : (d : Kind) (c : ℕ) → BeginsIn s w c → length (fieldsIn d w c) ≡ fieldCount d (headIn w c)
   unfolding fieldsAt
   length-fields d c u =
       length-take-le (fieldCount d (headIn w c)) (drop (fieldAt c (firstField d (headIn w c))) (w .cells))
-      (simp length-drop (omega (arith, cell-room c u, k .objects c u .head, kind-among d (headIn w c))))
+      (simp length-drop (omega (arith, fields-inside s (w .cells) (w .tables) c u (firstField d (headIn w c) + fieldCount d (headIn w c)) (omega (arith, kind-among d (headIn w c), fields-room (headIn w c) (k .objects c u .head))), cells-room)))
 
-  pub length-refs : (c : ℕ) → Used s w c → length (refsIn w c) ≡ refCount w c
+  pub length-refs : (c : ℕ) → BeginsIn s w c → length (refsIn w c) ≡ refCount w c
   length-refs = length-fields Reference
 
   pub vars-room : varAt s (s .threads * s .variables) ≤ ownersFrom s
@@ -136,7 +119,7 @@ module _ (s : Sizes) (w : Words) (k : WholeFor s w) where
       let v : varOf s (w .tables) i ≡ suc x = sym (getD-vars s w i l) ∙ e in
       let u = k .variables i l (omega arith) in
       let x′ : varOf s (w .tables) i - 1 ≡ x = omega arith in
-      used-alive x (subst (Used s w) x′ u)
+      used-alive x (subst (BeginsIn s w) x′ u)
 
   refs-alive : (c y : ℕ) → Alive (graphOf s w) c → In (suc y) (refsIn w c) → Alive (graphOf s w) y
   refs-alive c y a i =
@@ -146,14 +129,17 @@ module _ (s : Sizes) (w : Words) (k : WholeFor s w) where
       let v : fieldOf (w .cells) c (r .0) ≡ suc y = sym (getD-refs w c (r .0) l) ∙ r .2 in
       let f = k .objects c u .references (r .0) l (omega arith) in
       let y′ : fieldOf (w .cells) c (r .0) - 1 ≡ y = omega arith in
-      used-alive y (subst (Used s w) y′ f)
+      used-alive y (subst (BeginsIn s w) y′ f)
 
   pub words-closed : Closed (graphOf s w)
   words-closed =
-      record { below = λ c a. omega (arith, alive-used c a .page); vars = vars-alive; refs = refs-alive }
+      record { below = λ c a. cell-low c (alive-used c a); vars = vars-alive; refs = refs-alive }
 
-  pub refs-few : (c : ℕ) → Used s w c → refCount w c ≤ 14
-  refs-few c u = omega (arith, k .objects c u .head)
+  pub refs-few : (c : ℕ) → BeginsIn s w c → refCount w c ≤ mostFields
+  refs-few c u = omega (arith, k .objects c u .head, kind-among Reference (headIn w c))
+
+  pub refs-room : (c : ℕ) → BeginsIn s w c → refCount w c ≤ roomFor (headIn w c)
+  refs-room c u = omega (arith, kind-among Reference (headIn w c), fields-room (headIn w c) (k .objects c u .head))
 
 -- the tables have room for their arrays
 pub whole-room : (s : Sizes) (w : Words) → WholeFor s w → length (w .tables) < 2 ^ 63 → Room s (length (w .tables))
@@ -161,4 +147,4 @@ whole-room s w k fits = room s (length (w .tables)) (k .sized .range) (k .sized 
 
 -- the cells have room for those of every page
 pub cell-in : (s : Sizes) (w : Words) → WholeFor s w → (c : ℕ) → pageOf c < s .pages → CellIn c (length (w .cells))
-cell-in s w k c l = ly.cell-in (k .sized .range .pages-high) (k .sized .cells) l
+cell-in s w k c l = ly.cell-in s (k .sized .range .pages-high) (k .sized .cells) l

@@ -16,7 +16,7 @@ use Rattle.rules.specs.Regions.{regions}
 use Rattle.layout.specs.Places.{ownerAt, ownerOf, usedAt, usedOf, countAt, countOf, count-room, used-is, mark-is, count-is}
 use Rattle.layout.specs.Cells.{pageOf, placeOf, cellOn}
 use Rattle.layout.specs.Words.{Words, InUse}
-use Rattle.promises.specs.Whole.{Open, PageWhole, Partial, objectsOn, objectsOf, IsRef, PagesWhole, OnePartial, CountsWhole, WholeFor}
+use Rattle.promises.specs.Whole.{Open, PageWhole, Partial, objectsOn, objectsOf, PagesWhole, OnePartial, CountsWhole, WholeFor}
 use Rattle.promises.specs.Changes.{withTables}
 use Rattle.promises.specs.Areas.{ownerWords, usedWords, countWords, Only, among-both, owner-in, used-in, count-in, arrays-apart, tables-only}
 use Rattle.promises.specs.Frames.{open-frame}
@@ -138,9 +138,6 @@ module _ (s : Sizes) (t : List ℕ) (g cell : ℕ) (t′ : List ℕ) (k : Took s
       go a (yes e) = inl e
       go (yes a) (no d) = inr (record { page = u .page; place = omega (arith, u .place, k .first, k .used, ap (usedOf P t) a, ap (usedOf P t′) a) })
       go (no a) (no d) = inr (record { page = u .page; place = omega (arith, u .place, used-past (pageOf c) (u .page) a) })
-
-  pub ref-still : (x : ℕ) → IsRef P t x → IsRef P t′ x
-  ref-still x r z = still-used (x - 1) (r z)
 
   -- the region of a cell that was in use
   pub owner-used : ((page : ℕ) → page < s .pages → PageWhole P t page) → (c : ℕ) → InUse P t c → ownerOf P t′ (pageOf c) ≡ ownerOf P t (pageOf c)

@@ -12,7 +12,8 @@ use Rattle.rules.specs.Terms.{InRange}
 use Rattle.rules.specs.Regions.{threadOf, levelOf, regions}
 use Rattle.layout.specs.Places.{cellsWords, rememberWords, tablesWords, varCount, depthOf, varOf, ownerOf, usedOf, markOf, countOf, slotIn, slotRegionIn}
 use Rattle.layout.specs.Cells.{headOf, workOf, fieldOf, refsOf, allFields, roomFor, Formed, cellNamed, pageCells}
-use Rattle.layout.specs.Words.{Words, InUse, Used, sizesIn, depthIn}
+use Rattle.layout.specs.Objects.{Begins}
+use Rattle.layout.specs.Words.{Words, BeginsIn, sizesIn, depthIn}
 use Rattle.remember.specs.Crossing.{crossTo}
 use Rattle.remember.specs.Entries.{Entry, Only, Exact}
 
@@ -43,16 +44,16 @@ objectsOn s t g page = cond (eqb (ownerOf s t page) g) (usedOf s t page) 0
 abbrev pub objectsOf : Sizes → List ℕ → ℕ → ℕ
 objectsOf s t g = sum (objectsOn s t g) (s .pages)
 
--- null, or the name of a cell in use
-abbrev pub IsRef : Sizes → List ℕ → ℕ → Type 0
-IsRef s t x = 0 < x → InUse s t (cellNamed x)
+-- null, or the name of an object
+abbrev pub IsRef : Sizes → List ℕ → List ℕ → ℕ → Type 0
+IsRef s c t x = 0 < x → Begins s c t (cellNamed x)
 
--- the object in cell k has 01's form, word 0 counting at most 14 fields and the words after them zero, and its references are null or
--- name cells in use
+-- the object at cell k has 01's form, word 0 counting no more fields than it may have and the words after them zero, and its references
+-- are null or name objects
 pub record ObjectWhole (s : Sizes) (c t : List ℕ) (k : ℕ) : Type 0 where
   pub head : Formed (headOf c k)
   pub rest : (f : ℕ) → f < roomFor (headOf c k) → allFields (headOf c k) ≤ f → fieldOf c k f ≡ 0
-  pub references : (f : ℕ) → f < refsOf c k → IsRef s t (fieldOf c k f)
+  pub references : (f : ℕ) → f < refsOf c k → IsRef s c t (fieldOf c k f)
 
 -- entry i names a crossing slot, with the right region
 abbrev pub EntryWhole : Sizes → List ℕ → List ℕ → List ℕ → ℕ → Type 0
@@ -87,17 +88,17 @@ abbrev pub CountsWhole : Sizes → Words → Type 0
 CountsWhole s w = (g : ℕ) → 1 ≤ g → g ≤ regions s → countOf s (w .tables) g ≡ objectsOf s (w .tables) g
 
 abbrev pub VariablesWhole : Sizes → Words → Type 0
-VariablesWhole s w = (i : ℕ) → i < varCount s → IsRef s (w .tables) (varOf s (w .tables) i)
+VariablesWhole s w = (i : ℕ) → i < varCount s → IsRef s (w .cells) (w .tables) (varOf s (w .tables) i)
 
 abbrev pub ObjectsWhole : Sizes → Words → Type 0
-ObjectsWhole s w = (k : ℕ) → Used s w k → ObjectWhole s (w .cells) (w .tables) k
+ObjectsWhole s w = (k : ℕ) → BeginsIn s w k → ObjectWhole s (w .cells) (w .tables) k
 
--- working words, of pages and of cells in use, are zero
+-- working words, of pages and of objects, are zero
 abbrev pub MarksWhole : Sizes → Words → Type 0
 MarksWhole s w = (page : ℕ) → page < s .pages → markOf s (w .tables) page ≡ 0
 
 abbrev pub WorksWhole : Sizes → Words → Type 0
-WorksWhole s w = (k : ℕ) → Used s w k → workOf (w .cells) k ≡ 0
+WorksWhole s w = (k : ℕ) → BeginsIn s w k → workOf (w .cells) k ≡ 0
 
 -- the remember table names every crossing slot once, with the right region, and nothing else
 abbrev pub RememberWhole : Sizes → Words → Type 0

@@ -1,12 +1,13 @@
 -- The region that a slot crosses into, as one number.
-use Prim.Native.Nat.{ℕ, _+_, _-_}
+use Prim.Native.Nat.{ℕ, _-_}
 use mathlib.Core.List.{List}
 use mathlib.Core.Bool.{Bool, cond}
 use lib.Dec.{ltb, leb, eqb}
 use Rattle.lists.specs.Counting.{positive}
 use Rattle.rules.specs.declared.Sizes.{Sizes}
-use Rattle.layout.specs.Places.{ownerOf, usedOf}
-use Rattle.layout.specs.Cells.{refsOf, pageOf, placeOf, cellOf, wordOf}
+use Rattle.layout.specs.Places.{ownerOf}
+use Rattle.layout.specs.Cells.{pageOf, pageAt}
+use Rattle.layout.specs.Objects.{isSlot}
 use lib.ListN.{getD}
 
 -- the region g, where it is another than o and not the control space, else 0
@@ -24,10 +25,7 @@ crossesFrom p t g x = other g (regionOf p t x)
 -- 01: a slot is crossing when its object lies in one region and it points into another that is not the control space. Where the word at
 -- position q is such a slot: the region that it points into, else 0
 unfoldable pub crossTo : Sizes → List ℕ → List ℕ → ℕ → ℕ
-crossTo p c t q =
-    cond (ltb (placeOf (cellOf q)) (usedOf p t (pageOf (cellOf q))))
-    (cond (leb 2 (wordOf q))
-    (cond (ltb (wordOf q) (refsOf c (cellOf q) + 2)) (other (ownerOf p t (pageOf (cellOf q))) (regionOf p t (getD c q 0))) 0) 0) 0
+crossTo p c t q = cond (isSlot p c t q) (other (ownerOf p t (pageAt q)) (regionOf p t (getD c q 0))) 0
 
 abbrev pub crossing : Sizes → List ℕ → List ℕ → ℕ → Bool
 crossing p c t = positive (crossTo p c t)

@@ -10,7 +10,7 @@ use Rattle.rules.specs.Regions.{regionAt, regions}
 use Rattle.rules.specs.Graph.{objectsIn, freePages}
 use Rattle.rules.specs.Rules.{Regioned, graph}
 use Rattle.rules.specs.declared.Sizes.{Sizes}
-use Rattle.layout.specs.Places.{depthOf, countOf}
+use Rattle.layout.specs.Places.{depthOf}
 use Rattle.layout.specs.Words.{words, depthsAt}
 use Rattle.promises.specs.StandsFor.{StandsFor}
 use Rattle.promises.specs.Reading.{range, depth-at}

@@ -1,6 +1,6 @@
 -- What the tables alone say, as the code reads them.
 use Prim.Native.Nat.{ℕ, _^_, _≤_, _<_}
-use mathlib.Core.Path.{_≡_, refl, sym, ap, ap₂, subst, _∙_}
+use mathlib.Core.Path.{_≡_, sym, ap, ap₂, subst, _∙_}
 use mathlib.Core.List.{List, map}
 use mathlib.Core.Bool.{Bool, cond}
 use lib.ListN.{length}

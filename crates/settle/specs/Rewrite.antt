@@ -10,7 +10,7 @@ use borrow.Author.Tests.{eq-eqb, ne-eqb}
 use lib.Dec.{eqb}
 use lib.ListN.{length, getD, set, length-set}
 use lib.Seq.{getD-set-same, getD-set-other}
-use Rattle.layout.specs.Cells.{workOf, refsOf, cellNamed, headAt, workAt, wordOf, fieldCount}
+use Rattle.layout.specs.Cells.{workOf, refsOf, cellNamed, headAt, workAt, wordOf, fieldCount, head-there, work-there}
 use Rattle.layout.specs.declared.Kind.the-variants.{Reference}
 
 -- the reference x, by way of word 1 of the cell that it names, where that is not zero
@@ -54,10 +54,10 @@ module _ {P : ℕ → Type 0} {W W′ : List ℕ} (h : Rewritten P W W′) where
   head-same x l = h .same x (λ q. let z : 2 ≤ wordOf x = h .fields x q in omega arith)
 
   pub link-same : (c : ℕ) → workOf W′ c ≡ workOf W c
-  link-same c = head-same (workAt c) (omega arith)
+  link-same c = head-same (workAt c) (omega (arith, work-there c))
 
   pub refs-same : (c : ℕ) → refsOf W′ c ≡ refsOf W c
-  refs-same c = ap (fieldCount Reference) (head-same (headAt c) (omega arith))
+  refs-same c = ap (fieldCount Reference) (head-same (headAt c) (omega (arith, head-there c)))
 
   pub ref-same : (x : ℕ) → forwarded W′ x ≡ forwarded W x
   ref-same x = forward-same W W′ x (link-same (cellNamed x))

@@ -93,7 +93,7 @@ module _ {p : Sizes} {n d : ℕ} {W W′ : List ℕ} {f : ℕ} (a : Fields p n d
   pub field-moved : (v : ℕ) → v ≡ forwarded W′ (fieldOf W′ d f) → Rewritten (Field d (f + 1)) W (set W′ (fieldAt d f) v)
   field-moved v ev =
       rewritten-join h
-      (rewritten-one (fieldAt d f) v (field-in d f {pages = p .pages} (omega (arith, a .cells-long, h .size)) (a .page) few) (field-word d f few) ev)
+      (rewritten-one (fieldAt d f) v (field-in p d f (omega (arith, a .cells-long, h .size)) (a .page) few) (field-word d f few) ev)
       (λ x q z. new (subst (λ (y : ℕ). Field d f y) z q))
       (λ x q. from x q (ℕ-discrete (q .field) f))
       (λ x. ⊎-elim (λ q. record { field = q .field; low = omega (arith, q .low); at = q .at }) (λ z. record { field = f; low = omega arith; at = z }))

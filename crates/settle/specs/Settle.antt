@@ -157,7 +157,7 @@ module _ {p : Sizes} {n d k f j i : ℕ} {W M T W′ M′ : List ℕ} (a : Field
     eg′ = eg ∙ ap (λ (y : ℕ). crossesFrom p T y v) (ew ∙ ap (λ (y : ℕ). ownerOf p T y) (sym (field-page d f few)))
 
     low : fieldAt d f < length W′
-    low = field-in d f {pages = p .pages} (omega (arith, a .cells-long, h .rewritten .size)) (a .page) few
+    low = field-in p d f (omega (arith, a .cells-long, h .rewritten .size)) (a .page) few
 
     pub field-fits : g ≢ 0 → i < n
     field-fits = slot-fits field-settling v g ev eg′

@@ -1,12 +1,12 @@
 -- The conditions of whole tables, in the parts that the functions check.
-use native.Mathlib.Omega.{arith}
 use Rattle.rules.specs.declared.Sizes.{Sizes}
 use Rattle.layout.specs.Places.{cellsWords, usedIn}
 use Rattle.layout.specs.Words.{Words}
-use Rattle.promises.specs.Whole.{Sized, DepthsWhole, VariablesWhole, EntriesWhole, WholeFor}
+use Rattle.promises.specs.Whole.{Sized, DepthsWhole, EntriesWhole, WholeFor}
 use Rattle.remember.specs.Crossing.{crossTo}
 use Rattle.remember.specs.Counted.{every-counted, counted-every}
 use Rattle.whole.specs.Regions.{RegionsWhole}
+use Rattle.whole.specs.Cells.{VariablesUsed, used-ref, ref-used}
 use Rattle.whole.specs.Crossing.{CellsCross}
 
 module _ {s : Sizes} {w : Words} where
@@ -17,19 +17,18 @@ module _ {s : Sizes} {w : Words} where
     counts = k .counts;
   }
 
+  pub variables-of : WholeFor s w → VariablesUsed s (w .tables)
+  variables-of k i l = ref-used s (w .cells) (w .tables) _ (k .variables i l)
+
   -- as many slots cross as there are entries used
   pub cells-of : WholeFor s w → CellsCross s (w .cells) (w .tables) (usedIn (w .remember))
   cells-of k = record {
-    whole = λ c u. record {
-      head = k .objects c u .head;
-      working = k .works c u;
-      fields = λ f l. record { reference = λ n. k .objects c u .references f n; rest = λ n. k .objects c u .rest f l n };
-    };
+    whole = λ c u. record { object = k .objects c u; working = k .works c u };
     crossing = every-counted (crossTo s (w .cells) (w .tables)) (cellsWords s) (s .entries) (w .remember) (k .remember);
   }
 
   -- as many entries as crossing slots, each naming another: then every crossing slot is named
-  pub whole-of : Sized s w → DepthsWhole s w → RegionsWhole s (w .tables) → VariablesWhole s w → CellsCross s (w .cells) (w .tables) (usedIn (w .remember))
+  pub whole-of : Sized s w → DepthsWhole s w → RegionsWhole s (w .tables) → VariablesUsed s (w .tables) → CellsCross s (w .cells) (w .tables) (usedIn (w .remember))
       → EntriesWhole s (w .cells) (w .remember) (w .tables) → WholeFor s w
   whole-of z d r v k n = record {
     sized = z;
@@ -37,12 +36,8 @@ module _ {s : Sizes} {w : Words} where
     pages = λ page l. r .pages page l .whole;
     partial = r .partial;
     counts = r .counts;
-    variables = v;
-    objects = λ i u. record {
-      head = k .whole i u .head;
-      rest = λ f l m. k .whole i u .fields f l .rest m;
-      references = λ f l. k .whole i u .fields f (omega (arith, k .whole i u .head)) .reference l;
-    };
+    variables = λ i l. used-ref s (w .cells) (w .tables) _ (v i l);
+    objects = λ i u. k .whole i u .object;
     marks = λ page l. r .pages page l .mark;
     works = λ i u. k .whole i u .working;
     remember = counted-every (crossTo s (w .cells) (w .tables)) (cellsWords s) (s .entries) (w .remember) n (k .crossing);

@@ -16,6 +16,7 @@ use Rattle.lists.specs.Says.{true-not-false}
 use Rattle.lists.specs.Counting.{sum, sum-more, sum-high}
 use Rattle.rules.specs.declared.Sizes.{Sizes}
 use Rattle.layout.specs.Places.{Room, ownerOf, usedOf}
+use Rattle.layout.specs.Cells.{pageCells}
 use Rattle.promises.specs.Whole.{Partial, objectsOn, PageWhole, OnePartial, CountsWhole}
 use Rattle.layout.specs.Words.{tablesOnly}
 use Rattle.whole.specs.Pages.{PageChecked, PagesChecked, open-high}
@@ -98,12 +99,12 @@ module _ (p : Sizes) (t : List ℕ) (objects : List ℕ) (partly : List Bool) (n
           omega (arith, getD-set-other objects o g (getD objects o 0 + u) 0 d, w .counted g l m, sum-more (objectsOn p t g) n, on-other p t g n (λ q. d (sym (e ∙ q))))
 
   -- a full page
-  pub tallied-full : 1 ≤ o → o < 130 → 16 ≤ u → Tallied p t (set objects o (getD objects o 0 + u)) partly (n + 1)
+  pub tallied-full : 1 ≤ o → o < 130 → pageCells ≤ u → Tallied p t (set objects o (getD objects o 0 + u)) partly (n + 1)
   tallied-full i j h =
       unseen (λ g l q. omega (arith, q .part)) (set objects o (getD objects o 0 + u)) (length-set objects o (getD objects o 0 + u) ∙ w .places) (λ g. counted-more g i j)
 
   -- the first partly filled page of its region
-  pub tallied-part : 1 ≤ o → o < 130 → u < 16 → getD partly o false ≡ false → Tallied p t (set objects o (getD objects o 0 + u)) (set partly o true) (n + 1)
+  pub tallied-part : 1 ≤ o → o < 130 → u < pageCells → getD partly o false ≡ false → Tallied p t (set objects o (getD objects o 0 + u)) (set partly o true) (n + 1)
   tallied-part i j h z = record {
     places = length-set objects o (getD objects o 0 + u) ∙ w .places;
     flags = length-set partly o true ∙ w .flags;
@@ -132,21 +133,21 @@ module _ (p : Sizes) (t : List ℕ) (objects : List ℕ) (partly : List Bool) (n
       go g q (no d) = let r = w .only g (sym (getD-set-other partly o g true false d) ∙ q) in (r .0, omega (arith, r .1), r .2, r .3)
 
   -- a second partly filled page
-  pub twice : o < 130 → n < p .pages → u < 16 → getD partly o false ≡ true → OnePartial p (tablesOnly t) → ⊥
+  pub twice : o < 130 → n < p .pages → u < pageCells → getD partly o false ≡ true → OnePartial p (tablesOnly t) → ⊥
   twice j m h z all =
       let r = w .only o z in
       all o (r .2) (r .0) n (r .1) m (r .3) (record { owner = sym e; part = omega arith })
 
 -- the objects counted are no more than the cells passed
 pub objects-low : (p : Sizes) (t : List ℕ) (objects : List ℕ) (partly : List Bool) (n o : ℕ) → Tallied p t objects partly n
-    → ((k : ℕ) → k < n → usedOf p t k ≤ 16) → 1 ≤ o → o < 130 → getD objects o 0 ≤ 16 * n
+    → ((k : ℕ) → k < n → usedOf p t k ≤ pageCells) → 1 ≤ o → o < 130 → getD objects o 0 ≤ pageCells * n
 objects-low p t objects partly n o w h l m =
-    omega (arith, w .counted o l m, sum-high (objectsOn p t o) 16 n (λ k i. on-le k (h k i)))
+    omega (arith, w .counted o l m, sum-high (objectsOn p t o) pageCells n (λ k i. on-le k (h k i)))
   where
-    on-le : (k : ℕ) → usedOf p t k ≤ 16 → objectsOn p t o k ≤ 16
+    on-le : (k : ℕ) → usedOf p t k ≤ pageCells → objectsOn p t o k ≤ pageCells
     on-le k b = go (ℕ-discrete (ownerOf p t k) o)
       where
-        go : Dec (ownerOf p t k ≡ o) → objectsOn p t o k ≤ 16
+        go : Dec (ownerOf p t k ≡ o) → objectsOn p t o k ≤ pageCells
         go (yes q) = omega (arith, on-own p t o k q)
         go (no q) = omega (arith, on-other p t o k q)
 

@@ -1,9 +1,10 @@
 // Every cell in use has 01's form, its working word is zero, and its references are null or name a cell in use. The same pass counts the
 // slots that cross.
-ghost use Prim.Native.Nat.{_+_, _*_, _^_, _<_, _≤_};
+ghost use Prim.Native.Nat.{_^_, _<_, _≤_};
 ghost use lib.ListN.{length};
 ghost use Rattle.lists.specs.Says.{Says};
-ghost use Rattle.layout.specs.Places.{Room};
+ghost use Rattle.layout.specs.Places.{Room, cellsWords};
+ghost use Rattle.layout.specs.Cells.{CellIn};
 ghost use Rattle.whole.specs.Pages.{PagesChecked};
 ghost use Rattle.whole.specs.Cells.{ZeroFrom};
 ghost use Rattle.whole.specs.Crossing.{CellsCross};
@@ -15,7 +16,7 @@ use rules::Sizes;
 
 // Whether a cell's fields are zero, the first few left out. Two are read in a turn.
 pub fn zero_from(cells: &[u32], cell: usize, first: usize) -> bool
-    requires { ⌜ (cell < 16384) × (16 * cell + 16 ≤ length (now cells)) ⌝ }
+    requires { ⌜ CellIn cell (length (now cells)) ⌝ }
     ensures { λ r. ⌜ Says r (ZeroFrom (now (cells .entry)) cell first) ⌝ }
 {
     let mut f = first;
@@ -40,7 +41,7 @@ pub fn zero_from(cells: &[u32], cell: usize, first: usize) -> bool
 // any word, so it is not read. The first slot too many ends it.
 pub fn cells_whole(p: Sizes, cells: &[u32], tables: &[u32], entries: usize) -> bool
     requires { ⌜ Room p (length (now tables)) ⌝ }
-    requires { ⌜ 256 * p .pages ≤ length (now cells) ⌝ }
+    requires { ⌜ cellsWords p ≤ length (now cells) ⌝ }
     requires { ⌜ PagesChecked p (now tables) ⌝ }
     requires { ⌜ entries < 2 ^ 32 ⌝ }
     ensures { λ r. ⌜ Says r (CellsCross p (now (cells .entry)) (now (tables .entry)) entries) ⌝ }

@@ -4,7 +4,7 @@ ghost use Prim.Native.Nat.{ℕ, _+_, _*_, _≤_, _<_};
 ghost use lib.ListN.{length};
 ghost use Rattle.lists.specs.Says.{Says};
 ghost use Rattle.lists.specs.Seen.{bitIn, withBit};
-ghost use Rattle.layout.specs.Places.{Room, usedIn, slotIn};
+ghost use Rattle.layout.specs.Places.{Room, cellsWords, rememberWords, mostWords, usedIn, slotIn};
 ghost use Rattle.promises.specs.Whole.{EntryWhole, EntriesWhole};
 ghost use Rattle.whole.specs.Entries.{NamedWhole, ZeroBetween, RestZero, Once, Rising};
 use remember::crossing::cross_to;
@@ -12,8 +12,8 @@ use rules::Sizes;
 
 pub fn entry_whole(p: Sizes, cells: &[u32], remember: &[u32], tables: &[u32], i: usize) -> bool
     requires { ⌜ Room p (length (now tables)) ⌝ }
-    requires { ⌜ 256 * p .pages ≤ length (now cells) ⌝ }
-    requires { ⌜ 2 * p .entries + 2 ≤ length (now remember) ⌝ }
+    requires { ⌜ cellsWords p ≤ length (now cells) ⌝ }
+    requires { ⌜ rememberWords p ≤ length (now remember) ⌝ }
     requires { ⌜ i < p .entries ⌝ }
     ensures { λ r. ⌜ Says r (EntryWhole p (now (cells .entry)) (now (remember .entry)) (now (tables .entry)) i) ⌝ }
 {
@@ -33,8 +33,8 @@ pub fn entry_whole(p: Sizes, cells: &[u32], remember: &[u32], tables: &[u32], i:
 
 pub fn named_whole(p: Sizes, cells: &[u32], remember: &[u32], tables: &[u32], used: usize) -> bool
     requires { ⌜ Room p (length (now tables)) ⌝ }
-    requires { ⌜ 256 * p .pages ≤ length (now cells) ⌝ }
-    requires { ⌜ 2 * p .entries + 2 ≤ length (now remember) ⌝ }
+    requires { ⌜ cellsWords p ≤ length (now cells) ⌝ }
+    requires { ⌜ rememberWords p ≤ length (now remember) ⌝ }
     requires { ⌜ (used ≡ usedIn (now remember)) × (used ≤ p .entries) ⌝ }
     ensures { λ r. ⌜ Says r (NamedWhole p (now (cells .entry)) (now (remember .entry)) (now (tables .entry))) ⌝ }
 {
@@ -69,7 +69,7 @@ pub fn zero_between(entries: usize, remember: &[u32], from: usize, to: usize) ->
 
 // Eight entries in a turn: a stretch of known length is compiled without a loop. The first word that is not zero still ends it.
 pub fn rest_zero(p: Sizes, remember: &[u32], used: usize) -> bool
-    requires { ⌜ 2 * p .entries + 2 ≤ length (now remember) ⌝ }
+    requires { ⌜ rememberWords p ≤ length (now remember) ⌝ }
     requires { ⌜ (used ≡ usedIn (now remember)) × (used ≤ p .entries) ⌝ }
     ensures { λ r. ⌜ Says r (RestZero p (now (remember .entry))) ⌝ }
 {
@@ -86,7 +86,7 @@ pub fn rest_zero(p: Sizes, remember: &[u32], used: usize) -> bool
 
 // Whether the slots stand in rising order.
 pub fn rising(p: Sizes, remember: &[u32], used: usize) -> bool
-    requires { ⌜ 2 * p .entries + 2 ≤ length (now remember) ⌝ }
+    requires { ⌜ rememberWords p ≤ length (now remember) ⌝ }
     requires { ⌜ (used ≡ usedIn (now remember)) × (used ≤ p .entries) ⌝ }
     ensures { λ r. ⌜ Says r (Rising (now (remember .entry)) (usedIn (now (remember .entry)))) ⌝ }
 {
@@ -120,9 +120,9 @@ fn see(seen: &mut [u32], at: usize)
 
 // Whether no slot is seen twice, by a table with a bit for each.
 pub fn seen_once(p: Sizes, remember: &[u32], used: usize) -> bool
-    requires { ⌜ 2 * p .entries + 2 ≤ length (now remember) ⌝ }
+    requires { ⌜ rememberWords p ≤ length (now remember) ⌝ }
     requires { ⌜ (used ≡ usedIn (now remember)) × (used ≤ p .entries) ⌝ }
-    requires { ⌜ ((i : ℕ) → i < used → slotIn (now remember) i < 262144) ⌝ }
+    requires { ⌜ ((i : ℕ) → i < used → slotIn (now remember) i < mostWords) ⌝ }
     ensures { λ r. ⌜ Says r (Once (now (remember .entry))) ⌝ }
 {
     let entries = p.entries;
@@ -141,9 +141,9 @@ pub fn seen_once(p: Sizes, remember: &[u32], used: usize) -> bool
 
 // Entries in rising order are each another at once; only another order pays for the table.
 pub fn once(p: Sizes, remember: &[u32], used: usize) -> bool
-    requires { ⌜ 2 * p .entries + 2 ≤ length (now remember) ⌝ }
+    requires { ⌜ rememberWords p ≤ length (now remember) ⌝ }
     requires { ⌜ (used ≡ usedIn (now remember)) × (used ≤ p .entries) ⌝ }
-    requires { ⌜ ((i : ℕ) → i < used → slotIn (now remember) i < 262144) ⌝ }
+    requires { ⌜ ((i : ℕ) → i < used → slotIn (now remember) i < mostWords) ⌝ }
     ensures { λ r. ⌜ Says r (Once (now (remember .entry))) ⌝ }
 {
     if rising(p, remember, used) {
@@ -154,8 +154,8 @@ pub fn once(p: Sizes, remember: &[u32], used: usize) -> bool
 
 pub fn entries_whole(p: Sizes, cells: &[u32], remember: &[u32], tables: &[u32]) -> bool
     requires { ⌜ Room p (length (now tables)) ⌝ }
-    requires { ⌜ 256 * p .pages ≤ length (now cells) ⌝ }
-    requires { ⌜ 2 * p .entries + 2 ≤ length (now remember) ⌝ }
+    requires { ⌜ cellsWords p ≤ length (now cells) ⌝ }
+    requires { ⌜ rememberWords p ≤ length (now remember) ⌝ }
     ensures { λ r. ⌜ Says r (EntriesWhole p (now (cells .entry)) (now (remember .entry)) (now (tables .entry))) ⌝ }
 {
     let used = layout::wide(layout::remember::used(remember));

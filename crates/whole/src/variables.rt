@@ -2,14 +2,13 @@
 ghost use lib.ListN.{length};
 ghost use Rattle.lists.specs.Says.{Says};
 ghost use Rattle.layout.specs.Places.{Room};
-ghost use Rattle.promises.specs.Whole.{IsRef, VariablesWhole};
-ghost use Rattle.layout.specs.Words.{tablesOnly};
+ghost use Rattle.whole.specs.Cells.{NamesUsed, VariablesUsed};
 use rules::Sizes;
 
 // Whether x is null or names a cell in use.
 pub fn is_ref(p: Sizes, tables: &[u32], x: u32) -> bool
     requires { ⌜ Room p (length (now tables)) ⌝ }
-    ensures { λ r. ⌜ Says r (IsRef p (now (tables .entry)) x) ⌝ }
+    ensures { λ r. ⌜ Says r (NamesUsed p (now (tables .entry)) x) ⌝ }
 {
     if x == 0 {
         return true;
@@ -28,7 +27,7 @@ pub fn is_ref(p: Sizes, tables: &[u32], x: u32) -> bool
 
 pub fn variables_whole(p: Sizes, tables: &[u32]) -> bool
     requires { ⌜ Room p (length (now tables)) ⌝ }
-    ensures { λ r. ⌜ Says r (VariablesWhole p (tablesOnly (now (tables .entry)))) ⌝ }
+    ensures { λ r. ⌜ Says r (VariablesUsed p (now (tables .entry))) ⌝ }
 {
     let end = layout::tables::var_count(p);
     let mut i = 0;

@@ -26,8 +26,9 @@ take-cell-requires c κs =
 
 copy-cell-requires : tie.Need-copy-cell-requires
 copy-cell-requires c κs =
+    let p = c .before .before .before .before .before .before .before .args .p in
     let t = took (c .before .before .before .before .before .before .before .pre) (c .before .before .before .take-cell .ensures .0) (c .before .before .before .take-cell .ensures .1) in
-    (t .apart, (cell-in (t .few) (t .long) (t .old), cell-in (t .few) (t .long) (t .cell)))
+    (t .apart, (cell-in p (t .few) (t .long) (t .old), cell-in p (t .few) (t .long) (t .cell)))
 
 page-of-requires : tie.Need-page-of-requires
 page-of-requires c κs = search needs

@@ -9,7 +9,7 @@ use Rattle.rules.specs.Regions.{regionAt}
 use Rattle.layout.specs.Places.{depthOf, ownerOf}
 use Rattle.layout.specs.Words.{Words, words, depthIn}
 use Rattle.copy.specs.Copying.{Plan, Copy}
-use Rattle.ending.specs.Ending.{Ending, Accepted, room-now, depth-high, begun, plan-at, copied-at, has-ended}
+use Rattle.ending.specs.Ending.{room-now, depth-high, begun, plan-at, copied-at, has-ended}
 use Rattle.ending.specs.Stages as st
 use Rattle.ending.specs.Stages.{Begun}
 use Rattle.evacuate.proofs.evacuate.Statement.{statement}

@@ -68,7 +68,7 @@ work-requires : tie.Need-work-requires Inv-loop μ-loop
 work-requires c κs =
     let pre = c .before .before .before .before .before .before .before .before .before .before .pre in
     let d = ap pageOf (cell c) ∙ page-on _ _ (lowest (c .before .before .before) .lt) in
-    cell-in {pages = c .before .before .before .before .before .before .before .before .before .before .args .p .pages} (pre .0 .few) (omega (arith, pre .0 .cells-long, c .before .before .before .before .loop .inv .1)) (omega (arith, d, pre .1 .1))
+    cell-in (c .before .before .before .before .before .before .before .before .before .before .args .p) (pre .0 .few) (omega (arith, pre .0 .cells-long, c .before .before .before .before .loop .inv .1)) (omega (arith, d, pre .1 .1))
 
 cell-named-requires : tie.Need-cell-named-requires Inv-loop μ-loop
 cell-named-requires c κs =

@@ -48,7 +48,7 @@ crosses-requires : tie.Need-crosses-requires Inv-loop μ-loop
 crosses-requires c κs =
     let pre = c .before .before .before .before .before .before .before .before .pre in
     let args = c .before .before .before .before .before .before .before .before .args in
-    (pre .0 .room, (pre .0 .cells-long, subst (IsRef (args .p) (args .tables .now)) (sym (c .field .ensures)) (pre .0 .references (args .c) (pre .1) (c .before .before .loop .f) (omega arith))))
+    (pre .0 .room, (pre .0 .cells-long, subst (IsRef (args .p) (args .cells .now) (args .tables .now)) (sym (c .field .ensures)) (pre .0 .references (args .c) (pre .1) (c .before .before .loop .f) (omega arith))))
 
 add-n : tie.Need-add-n Inv-loop μ-loop
 add-n c =

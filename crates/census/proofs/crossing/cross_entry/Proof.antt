@@ -44,7 +44,7 @@ crosses-requires : tie.Need-crosses-requires
 crosses-requires c κs =
     let pre = c .before .before .before .before .before .before .before .before .before .pre in
     let args = c .before .before .before .before .before .before .before .before .before .args in
-    (pre .0 .room, (pre .0 .cells-long, subst (λ (z : ℕ). IsRef (args .p) (args .tables .now) (getD (args .cells .now) z 0)) (sym (c .before .before .before .before .wide .ensures ∙ c .before .before .before .before .before .slot .ensures)) (pre .1 .0 .slots (args .i) (pre .1 .1))))
+    (pre .0 .room, (pre .0 .cells-long, subst (λ (z : ℕ). IsRef (args .p) (args .cells .now) (args .tables .now) (getD (args .cells .now) z 0)) (sym (c .before .before .before .before .wide .ensures ∙ c .before .before .before .before .before .slot .ensures)) (pre .1 .0 .slots (args .i) (pre .1 .1))))
 
 returns-2 : tie.Need-returns-2
 returns-2 c =

@@ -1,6 +1,6 @@
 -- A page is found, its first unused cell taken and written, and the variable names it.
 use native.Mathlib.Omega.{arith}
-use Prim.Native.Nat.{ℕ, _+_}
+use Prim.Native.Nat.{ℕ}
 use mathlib.Core.Path.{sym, ap, subst, _∙_}
 use lib.ListN.{length, set}
 use Rattle.promises.specs.Questions.{did-answer}

@@ -4,7 +4,7 @@ use borrow.Author.Tests.{not-true, not-false}
 use Rattle.lists.specs.Says.{said-no}
 use mathlib.Core.Path.{_∙_}
 use denote.Ref.{now}
-use Rattle.remember.specs.Crosses.{cross-unused, cross-other, cross-slot}
+use Rattle.remember.specs.Crosses.{cross-unused, cross-other, cross-read}
 use Rattle.remember.proofs.crossing.cross_to.Statement.{statement}
 use Rattle.remember.proofs.crossing.cross_to.Tie as tie
 
@@ -73,8 +73,8 @@ returns-3 c =
     let owner = c .before .before .before .owner in
     let args = c .before .before .before .before .before .before .before .before .before .before .before .before .before .before .before .before .args in
     let cell-of = c .before .before .before .before .before .before .before .before .before .before .before .before .before .cell-of in
-    cross-slot (args .p) (now (args .cells)) (now (args .tables)) (args .at) (cell-of .result) (cell-of .ensures) (page-of .ensures) (place-of .ensures) (wide .ensures ∙ used .ensures) (word-of .ensures) (head .ensures)
-    (owner .ensures) (c .before .region-of .ensures) (c .other-region .ensures) (if1 .left) (is-reference .ensures .0 (not-false _ (if2 .left)))
+    cross-read (args .p) (now (args .cells)) (now (args .tables)) (args .at) (cell-of .result) (cell-of .ensures) (page-of .ensures) (place-of .ensures) (wide .ensures ∙ used .ensures) (word-of .ensures) (head .ensures)
+    (owner .ensures) (c .before .region-of .ensures) (c .other-region .ensures) (c .before .before .before .before .before .before .before .before .before .before .before .before .before .before .before .before .pre .1 .1) (if1 .left) (is-reference .ensures .0 (not-false _ (if2 .left)))
 
 pub cross-to-spec : {M : Type 1} → statement M
 cross-to-spec =

@@ -1,5 +1,5 @@
 -- The first question that says no decides; else the figures are those of the sizes that the tables name.
-use mathlib.Core.Path.{refl, sym, subst}
+use mathlib.Core.Path.{sym, subst}
 use native.Mathlib.Omega.{arith}
 use Rattle.lists.specs.Says.{said-no}
 use Rattle.lists.specs.Tests.{not-is}

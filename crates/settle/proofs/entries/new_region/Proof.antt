@@ -22,7 +22,7 @@ page-at-requires c κs = search needs
 owner-requires : tie.Need-owner-requires
 owner-requires c κs =
     let pre = c .before .before .before .pre in
-    (pre .1 .1 .0, omega (arith, c .page-at .ensures, at-page (c .before .before .before .args .at) (pre .0)))
+    (pre .1 .1 .0, omega (arith, c .page-at .ensures, at-page (c .before .before .before .args .p) (c .before .before .before .args .at) (pre .0)))
 
 returns : tie.Need-returns
 returns c =

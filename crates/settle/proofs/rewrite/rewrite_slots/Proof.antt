@@ -60,7 +60,7 @@ forward-ref-requires c κs =
     let s = c .before .before .before .before .before .before .before .before .before .before .before .pre in
     let lt : l .i < usedIn (a .remember .now) = omega (arith, l .inv .1) in
     λ ne.
-    cell-in (s .pages) (omega (arith, s .cells-long, l .inv .2))
+    cell-in (a .p) (s .pages) (omega (arith, s .cells-long, l .inv .2))
     (subst (λ (y : ℕ). Names (a .p) (getD (l .cells) y 0)) (sym (c .before .wide2 .ensures ∙ c .before .before .slot .ensures)) (slot-names s lt (l .inv .3) (sym (c .before .before .before .before .region .ensures) ∙ c .before .before .before .if1 .taken)) ne)
 
 mul-cells : tie.Need-mul-cells Inv-loop μ-loop

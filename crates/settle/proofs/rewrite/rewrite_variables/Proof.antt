@@ -38,7 +38,7 @@ forward-ref-requires : tie.Need-forward-ref-requires Inv-loop μ-loop
 forward-ref-requires c κs =
     let pre = c .before .before .before .before .before .before .before .pre in
     let l = c .before .before .before .loop in
-    λ ne. cell-in (pre .1 .1 .few) (pre .1 .0) (subst (λ (x : ℕ). Names (c .before .before .before .before .before .before .before .args .p) x) (sym (c .var .ensures)) (variables-names (l .inv .2) (pre .0 (l .i) (low (c .before .before)))) ne)
+    λ ne. cell-in (c .before .before .before .before .before .before .before .args .p) (pre .1 .1 .few) (pre .1 .0) (subst (λ (x : ℕ). Names (c .before .before .before .before .before .before .before .args .p) x) (sym (c .var .ensures)) (variables-names (l .inv .2) (pre .0 (l .i) (low (c .before .before)))) ne)
 
 set-var-requires : tie.Need-set-var-requires Inv-loop μ-loop
 set-var-requires c κs = (room-same (c .before .before .before .before .before .loop .inv .1) (c .before .before .before .before .before .before .before .before .before .pre .1 .1), low (c .before .before .before .before))

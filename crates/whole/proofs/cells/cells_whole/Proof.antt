@@ -6,23 +6,24 @@ use Rattle.lists.specs.Says.{true-not-false, says-no, said-no}
 use borrow.Author.Tests.{not-true, not-false}
 use mathlib.Core.Path.{_≡_, refl, sym, ap, subst, _∙_}
 use mathlib.Core.Logic.{⊎-elim}
-use Prim.Native.Nat.{ℕ, _+_, _*_, _-_, _/_, _%_, _≤_, _<_}
+use Prim.Native.Nat.{ℕ, _+_, _-_, _≤_, _<_}
 use denote.Ref.{now}
 use borrow.Author.Count.{below-more}
 use native.Mathlib.Nat.{not-suc-le-zero}
 use lib.ListN.{length}
 use mathlib.Core.Bool.{true, false}
-use Rattle.layout.specs.Cells.{headAt, fieldAt, cellOn, fieldOf}
-use Rattle.promises.specs.Whole.{IsRef}
+use Rattle.layout.specs.declared.Kind.the-variants.{Reference, Number}
+use Rattle.layout.specs.Places.{cellsWords}
+use Rattle.layout.specs.Cells.{headAt, fieldAt, cellOn, fieldOf, fieldCount, mostFields, pageCells, CellIn}
 use Rattle.remember.specs.Crossing.{crossTo}
-use Rattle.whole.specs.Cells.{CellWhole, PageCells, all-pages, reached, fields-whole, zero-rest, field-is-ref}
+use Rattle.whole.specs.Cells.{NamesUsed, CellWhole, PageCells, all-pages, reached, object-whole, zero-rest, field-is-ref}
 use Rattle.whole.specs.Crossing.{crossingTo, to-fields, to-next-cell, to-next-page, crosses-at, crosses-yes, crosses-no, too-many, says-cross}
 use Rattle.whole.proofs.cells.cells_whole.Statement.{statement}
 use Rattle.whole.proofs.cells.cells_whole.Tie as tie
 
 abbrev Inv-fields : tie.InvT-fields
 Inv-fields p cells tables entries pages ok₀ n₀ page owner used place cell head refs all f₀ ok n f =
-    (ok ≡ true) × (f ≤ refs) × ((cell < 16384) × (16 * cell + 16 ≤ length cells)) × (refs ≤ 14) × ((j : ℕ) → j < f → IsRef p tables (fieldOf cells cell j))
+    (ok ≡ true) × (f ≤ refs) × CellIn cell (length cells) × (refs ≤ mostFields) × ((j : ℕ) → j < f → NamesUsed p tables (fieldOf cells cell j))
     × (n ≤ entries) × (n ≡ crossingTo p cells tables (fieldAt cell f))
 
 abbrev μ-fields : tie.MeasureT-fields
@@ -31,7 +32,7 @@ abbrev μ-fields : tie.MeasureT-fields
 
 abbrev Inv-cells : tie.InvT-cells
 Inv-cells p cells tables entries pages ok₀ n₀ page owner used place₀ ok n place =
-    (ok ≡ true) × (place ≤ used) × (used ≤ 16) × ((k : ℕ) → k < place → CellWhole p cells tables (cellOn page k))
+    (ok ≡ true) × (place ≤ used) × (used ≤ pageCells) × ((k : ℕ) → k < place → CellWhole p cells tables (cellOn page k))
     × (n ≤ entries) × (n ≡ crossingTo p cells tables (headAt (cellOn page place)))
 
 abbrev μ-cells : tie.MeasureT-cells
@@ -137,12 +138,12 @@ fields-again c =
     let here : other-region .result ≡ crossTo (args .p) (now (args .cells)) (now (args .tables)) (fieldAt (cell-on .result) (fields .f))
     = crosses-at (args .p) (now (args .cells)) (now (args .tables)) (c .before .before .before .before .before .before .before .before .before .before .before .before .before .before .before .before .before .before .before .before .before .pages .page) (cells .place)
     (cell-on .result) (fields .f) (owner .result) (field .result) (region-of .result) (other-region .result)
-    (cell-on .ensures) (owner .ensures) (field .ensures) (region-of .ensures) (other-region .ensures) (c .before .before .before .before .before .before .before .before .before .before .before .before .before .before .before .before .before .wide .ensures ∙ c .before .before .before .before .before .before .before .before .before .before .before .before .before .before .before .before .before .before .used .ensures) (c .before .before .before .before .before .before .before .before .before .before .before .before .field-count .ensures ∙ ap (λ (h : ℕ). h / 16) (c .before .before .before .before .before .before .before .before .before .before .before .before .before .head .ensures)) (cells .inv .2) (fields .inv .3) (omega (arith, c .before .before .before .before .before .before .before .before .before .before .before .before .before .before .before .cells-test .taken)) (c .before .before .before .before .before .before .fields-test .taken) in (
+    (cell-on .ensures) (owner .ensures) (field .ensures) (region-of .ensures) (other-region .ensures) (c .before .before .before .before .before .before .before .before .before .before .before .before .before .before .before .before .before .wide .ensures ∙ c .before .before .before .before .before .before .before .before .before .before .before .before .before .before .before .before .before .before .used .ensures) (c .before .before .before .before .before .before .before .before .before .before .before .before .field-count .ensures ∙ ap (fieldCount Reference) (c .before .before .before .before .before .before .before .before .before .before .before .before .before .head .ensures)) (c .before .before .before .before .before .before .before .before .before .before .before .before .before .before .before .before .before .before .before .before .pages-test .taken) (cells .inv .2) (fields .inv .3) (omega (arith, c .before .before .before .before .before .before .before .before .before .before .before .before .before .before .before .cells-test .taken)) (c .before .before .before .before .before .before .fields-test .taken) in (
       fields .inv .0,
       omega arith,
       fields .inv .2,
       fields .inv .3,
-      below-more _ _ (fields .inv .4) (subst (λ (y : ℕ). IsRef (args .p) (now (args .tables)) y) (field .ensures) (c .before .before .before .before .is-ref .ensures .0 (not-false _ (c .before .before .before .if3 .left)))),
+      below-more _ _ (fields .inv .4) (subst (λ (y : ℕ). NamesUsed (args .p) (now (args .tables)) y) (field .ensures) (c .before .before .before .before .is-ref .ensures .0 (not-false _ (c .before .before .before .if3 .left)))),
       ⊎-elim (λ w. omega (arith, w .1 .left, w .2)) (λ w. omega (arith, w .1, fields .inv .5)) (c .if4 .came),
       ⊎-elim
           (λ w. w .2 ∙ ap (λ (k : ℕ). k + 1) (fields .inv .6) ∙ sym (crosses-yes (args .p) (now (args .cells)) (now (args .tables)) (cell-on .result) (fields .f) here (omega (arith, w .0 .taken))))
@@ -173,12 +174,11 @@ cells-again c =
       omega arith,
       cells .inv .2,
       below-more _ _ (cells .inv .3) (subst (λ (k : ℕ). CellWhole (args .p) (now (args .cells)) (now (args .tables)) k) (cell-on .ensures) (record {
-        head = omega (arith, (field-count .ensures ∙ ap (λ (h : ℕ). h / 16) (head .ensures)), (field-count2 .ensures ∙ ap (λ (h : ℕ). h % 16) (head .ensures)), c .before .before .before .before .before .before .if1 .left);
         working = sym (c .before .before .before .before .before .work .ensures) ∙ c .before .before .before .before .if2 .left;
-        fields = fields-whole (field-count .ensures ∙ ap (λ (h : ℕ). h / 16) (head .ensures)) (field-count2 .ensures ∙ ap (λ (h : ℕ). h % 16) (head .ensures)) (λ f l. fields .inv .4 f (omega arith)) (c .before .zero-from .ensures .0 (not-false _ (c .if6 .left)));
+        object = object-whole (field-count .ensures ∙ ap (fieldCount Reference) (head .ensures)) (field-count2 .ensures ∙ ap (fieldCount Number) (head .ensures)) (omega (arith, c .before .before .before .before .before .before .if1 .left)) (λ f l. fields .inv .4 f (omega arith)) (c .before .zero-from .ensures .0 (not-false _ (c .if6 .left)));
       })),
       fields .inv .5,
-      fields .inv .6 ∙ sym (to-next-cell (args .p) (now (args .cells)) (now (args .tables)) (cell-on .result) (fields .f) (omega (arith, (field-count .ensures ∙ ap (λ (h : ℕ). h / 16) (head .ensures)))) (omega (arith, fields .inv .3)))
+      fields .inv .6 ∙ sym (to-next-cell (args .p) (now (args .cells)) (now (args .tables)) (cell-on .result) (fields .f) (omega (arith, (field-count .ensures ∙ ap (fieldCount Reference) (head .ensures)))) (omega (arith, fields .inv .3)))
           ∙ ap (λ (k : ℕ). crossingTo (args .p) (now (args .cells)) (now (args .tables)) (headAt k)) e,
     )
 
@@ -211,18 +211,17 @@ returns c =
     says-no (λ h. ⊎-elim
     (λ w. true-not-false (sym no ∙ w .1 ∙ pages .inv .0))
     (⊎-elim
-    (λ w. omega (arith, (w .8 .ensures ∙ ap (λ (h : ℕ). h / 16) (w .7 .ensures)), (w .9 .ensures ∙ ap (λ (h : ℕ). h % 16) (w .7 .ensures)), w .10 .taken, (reached (h .whole) (w .6 .ensures) (w .3 .ensures ∙ w .2 .ensures) (w .0 .taken) (w .4 .inv .2) (w .5 .taken)) .head))
+    (λ w. omega (arith, (w .8 .ensures ∙ ap (fieldCount Reference) (w .7 .ensures)), (w .9 .ensures ∙ ap (fieldCount Number) (w .7 .ensures)), w .10 .taken, (reached (h .whole) (w .6 .ensures) (w .3 .ensures ∙ w .2 .ensures) (w .0 .taken) (w .4 .inv .2) (w .5 .taken)) .object .head))
     (⊎-elim
     (λ w. w .12 .taken (w .11 .ensures ∙ (reached (h .whole) (w .6 .ensures) (w .3 .ensures ∙ w .2 .ensures) (w .0 .taken) (w .4 .inv .2) (w .5 .taken)) .working))
     (⊎-elim
-    (λ w. said-no _ (w .16 .ensures) (not-true _ (w .17 .taken)) (field-is-ref ((reached (h .whole) (w .6 .ensures) (w .3 .ensures ∙ w .2 .ensures) (w .0 .taken) (w .4 .inv .2) (w .5 .taken))
-    .fields (w .13 .f) (omega (arith, w .13 .inv .3, w .14 .taken))) (w .8 .ensures ∙ ap (λ (h : ℕ). h / 16) (w .7 .ensures)) (w .15 .ensures) (w .14 .taken)))
+    (λ w. said-no _ (w .16 .ensures) (not-true _ (w .17 .taken)) (field-is-ref ((reached (h .whole) (w .6 .ensures) (w .3 .ensures ∙ w .2 .ensures) (w .0 .taken) (w .4 .inv .2) (w .5 .taken)) .object) (w .8 .ensures ∙ ap (fieldCount Reference) (w .7 .ensures)) (w .15 .ensures) (w .14 .taken)))
     (⊎-elim
     (λ w. too-many (args .p) (now (args .cells)) (now (args .tables)) (w .6 .result) (w .13 .f) (w .13 .inv .6)
     (crosses-at (args .p) (now (args .cells)) (now (args .tables)) (pages .page) (w .4 .place) (w .6 .result) (w .13 .f) (w .1 .result) (w .15 .result) (w .18 .result) (w .19 .result)
-    (w .6 .ensures) (w .1 .ensures) (w .15 .ensures) (w .18 .ensures) (w .19 .ensures) (w .3 .ensures ∙ w .2 .ensures) (w .8 .ensures ∙ ap (λ (h : ℕ). h / 16) (w .7 .ensures)) (w .4 .inv .2) (w .13 .inv .3) (w .5 .taken) (w .14 .taken))
+    (w .6 .ensures) (w .1 .ensures) (w .15 .ensures) (w .18 .ensures) (w .19 .ensures) (w .3 .ensures ∙ w .2 .ensures) (w .8 .ensures ∙ ap (fieldCount Reference) (w .7 .ensures)) (w .0 .taken) (w .4 .inv .2) (w .13 .inv .3) (w .5 .taken) (w .14 .taken))
     (w .20 .taken) (w .21 .taken) (omega (arith, w .6 .ensures, w .0 .taken, w .4 .inv .2, w .5 .taken, w .13 .inv .3, w .14 .taken)) h)
-    (λ w. said-no _ (w .15 .ensures) (not-true _ (w .16 .taken)) (zero-rest (w .8 .ensures ∙ ap (λ (h : ℕ). h / 16) (w .7 .ensures)) (w .9 .ensures ∙ ap (λ (h : ℕ). h % 16) (w .7 .ensures)) ((reached (h .whole) (w .6 .ensures) (w .3 .ensures ∙ w .2 .ensures) (w .0 .taken) (w .4 .inv .2) (w .5 .taken)) .fields)))))))
+    (λ w. said-no _ (w .15 .ensures) (not-true _ (w .16 .taken)) (zero-rest (w .8 .ensures ∙ ap (fieldCount Reference) (w .7 .ensures)) (w .9 .ensures ∙ ap (fieldCount Number) (w .7 .ensures)) ((reached (h .whole) (w .6 .ensures) (w .3 .ensures ∙ w .2 .ensures) (w .0 .taken) (w .4 .inv .2) (w .5 .taken)) .object)))))))
     (pages-test .came))
 
 returns-2 : tie.Need-returns-2 Inv-fields μ-fields Inv-cells μ-cells Inv-pages μ-pages
@@ -233,7 +232,7 @@ returns-2 c =
     let yes : pages-test .ok ≡ true = not-false _ (c .if7 .left) in
     ⊎-elim
     (λ w.
-    let e : headAt (cellOn (pages .page) 0) ≡ 256 * args .p .pages = omega (arith, w .0 .left, pages .inv .1) in
+    let e : headAt (cellOn (pages .page) 0) ≡ cellsWords (args .p) = omega (arith, w .0 .left, pages .inv .1) in
     says-cross (pages-test .n) (args .entries) (all-pages (args .p) (now (args .cells)) (now (args .tables)) (λ k l. pages .inv .2 k (omega (arith, w .0 .left)))) (w .2 ∙ pages .inv .4 ∙ ap (crossingTo (args .p) (now (args .cells)) (now (args .tables))) e))
     (⊎-elim
     (λ w. absurd (true-not-false (sym (w .11) ∙ yes)))

@@ -6,7 +6,7 @@ use mathlib.Core.Path.{_≡_, sym, _∙_}
 use Prim.Native.Nat.{ℕ, _+_, _-_, _≤_, _<_}
 use denote.Ref.{now}
 use borrow.Author.Count.{below-more}
-use Rattle.layout.specs.Cells.{fieldOf}
+use Rattle.layout.specs.Cells.{fieldOf, mostFields}
 use Rattle.whole.proofs.cells.zero_from.Statement.{statement}
 use Rattle.whole.proofs.cells.zero_from.Tie as tie
 
@@ -16,7 +16,7 @@ Inv-loop cells cell first f₀ f =
 
 abbrev μ-loop : tie.MeasureT-loop
 μ-loop cells cell first f₀ f =
-    14 - f
+    mostFields - f
 
 loop-holds : tie.Need-loop-holds Inv-loop μ-loop
 loop-holds c = (omega arith, λ k a b. absurd (let z : ⊥ = omega arith in z))

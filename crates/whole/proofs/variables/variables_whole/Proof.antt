@@ -9,13 +9,13 @@ use denote.Ref.{now}
 use borrow.Author.Count.{below-more}
 use native.Mathlib.Nat.{not-suc-le-zero}
 use Rattle.layout.specs.Places.{varOf}
-use Rattle.promises.specs.Whole.{IsRef}
+use Rattle.whole.specs.Cells.{NamesUsed}
 use Rattle.whole.proofs.variables.variables_whole.Statement.{statement}
 use Rattle.whole.proofs.variables.variables_whole.Tie as tie
 
 abbrev Inv-loop : tie.InvT-loop
 Inv-loop p tables end i₀ i =
-    (i ≤ end) × ((k : ℕ) → k < i → IsRef p tables (varOf p tables k))
+    (i ≤ end) × ((k : ℕ) → k < i → NamesUsed p tables (varOf p tables k))
 
 abbrev μ-loop : tie.MeasureT-loop
 μ-loop p tables end i₀ i =
@@ -36,7 +36,7 @@ is-ref-requires c κs = search needs
 returns : tie.Need-returns Inv-loop μ-loop
 returns c =
     let args = c .before .before .before .before .before .before .before .args in
-    says-no (λ h. said-no _ (c .before .is-ref .ensures) (not-true _ (c .if1 .taken)) (subst (λ (x : ℕ). IsRef (args .p) (now (args .tables)) x) (sym (c .before .before .var .ensures)) (h (c .before .before .before .before .loop .i) (omega (arith, c .before .before .before .before .before .var-count .ensures, c .before .before .before .loop-test .taken)))))
+    says-no (λ h. said-no _ (c .before .is-ref .ensures) (not-true _ (c .if1 .taken)) (subst (λ (x : ℕ). NamesUsed (args .p) (now (args .tables)) x) (sym (c .before .before .var .ensures)) (h (c .before .before .before .before .loop .i) (omega (arith, c .before .before .before .before .before .var-count .ensures, c .before .before .before .loop-test .taken)))))
 
 add-i : tie.Need-add-i Inv-loop μ-loop
 add-i c = omega arith
@@ -47,7 +47,7 @@ loop-less c = omega arith
 loop-again : tie.Need-loop-again Inv-loop μ-loop
 loop-again c =
     let args = c .before .before .before .before .before .before .before .args in
-    (omega arith, below-more _ _ (c .before .before .before .before .loop .inv .1) (subst (λ (x : ℕ). IsRef (args .p) (now (args .tables)) x) (c .before .before .var .ensures) (c .before .is-ref .ensures .0 (not-false _ (c .if1 .left)))))
+    (omega arith, below-more _ _ (c .before .before .before .before .loop .inv .1) (subst (λ (x : ℕ). NamesUsed (args .p) (now (args .tables)) x) (c .before .before .var .ensures) (c .before .is-ref .ensures .0 (not-false _ (c .if1 .left)))))
 
 returns-2 : tie.Need-returns-2 Inv-loop μ-loop
 returns-2 c = says-yes (λ k l. c .before .loop .inv .1 k (omega arith))
