@@ -2,7 +2,7 @@
 use mathlib.Core.Path.{_≡_, sym, ap, ap₂, _∙_}
 use mathlib.Core.Bool.{Bool, true, false, cond, not, _&&_, and-false}
 use mathlib.Core.List.{List}
-use Prim.Native.Nat.{ℕ, _+_, _-_, _/_, _≤_}
+use Prim.Native.Nat.{ℕ, _+_, _-_, _≤_}
 use native.Mathlib.Omega.{arith}
 use native.Mathlib.Decide.{ℕ-discrete}
 use lib.Dec.{ltb, eqb}
@@ -11,7 +11,7 @@ use borrow.Author.Tests.{lt-ltb, eq-eqb, ne-eqb}
 use Rattle.lists.specs.Counting.{sum, bit, bit-le-one}
 use Rattle.rules.specs.declared.Sizes.{Sizes}
 use Rattle.layout.specs.Places.{ownerOf, usedIn, slotIn}
-use Rattle.layout.specs.Cells.{headOf, workOf, fieldOf, pageOf, cellOf}
+use Rattle.layout.specs.Cells.{workOf, fieldOf, pageOf, cellOf, refsOf}
 use Rattle.remember.specs.Crossing.{other}
 use Rattle.remember.specs.Crosses.{other-control, other-same, other-yes}
 use Rattle.mark.specs.Marks.{owner}
@@ -45,7 +45,7 @@ crossAfter p W T r «from» x = cond (eqb x 0) 0 (crossOne «from» (homeAfter p
 
 -- the slots of survivor c that cross
 unfoldable pub cellCrosses : Sizes → List ℕ → List ℕ → ℕ → ℕ → ℕ
-cellCrosses p W T r c = sum (λ f. crossAfter p W T r (workOf W c) (fieldOf W c f)) (headOf W c / 16)
+cellCrosses p W T r c = sum (λ f. crossAfter p W T r (workOf W c) (fieldOf W c f)) (refsOf W c)
 
 -- 1 if the slot at word q lies outside r and crosses, else 0
 unfoldable pub slotCrosses : Sizes → List ℕ → List ℕ → ℕ → ℕ → ℕ
@@ -119,6 +119,6 @@ module _ (p : Sizes) (W T : List ℕ) (r : ℕ) where
       ∙ sym (ap (λ (b : Bool). cond b 0 (crossAfter p W T r (owner p T (cellOf q)) (getD W q 0))) (ne-eqb (owner p T (cellOf q)) r (λ z. n (f ∙ z))))
 
   -- f is past the last slot
-  pub cells-cross : (c f n : ℕ) → f ≡ headOf W c / 16 → n ≡ sum (λ i. crossAfter p W T r (workOf W c) (fieldOf W c i)) f → n ≡ cellCrosses p W T r c
+  pub cells-cross : (c f n : ℕ) → f ≡ refsOf W c → n ≡ sum (λ i. crossAfter p W T r (workOf W c) (fieldOf W c i)) f → n ≡ cellCrosses p W T r c
   unfolding cellCrosses
   cells-cross c f n e d = d ∙ ap (sum (λ i. crossAfter p W T r (workOf W c) (fieldOf W c i))) e

@@ -7,7 +7,7 @@ use lib.ListN.{getD}
 use Rattle.lists.specs.Counting.{sum-more, sum-none, sum-high}
 use Rattle.rules.specs.declared.Sizes.{Sizes}
 use Rattle.layout.specs.Places.{markOf}
-use Rattle.layout.specs.Cells.{cellOn}
+use Rattle.layout.specs.Cells.{cellOn, firstOn}
 use Rattle.census.specs.Counted.{onPage, overMarked, bits-none, page-high, goesTo, goes-le}
 use Rattle.census.specs.After.{cellCrosses}
 
@@ -22,7 +22,7 @@ pub record Census (p : Sizes) (W T : List ℕ) (r n : ℕ) (come : List ℕ) (k 
   pub few : k ≤ 224 * n
 
 -- at most 16 survivors on a page go to one region
-pub over-high : (p : Sizes) (W T : List ℕ) (g n : ℕ) → overMarked p T (goesTo W g) n ≤ 16 * n
+pub over-high : (p : Sizes) (W T : List ℕ) (g n : ℕ) → overMarked p T (goesTo W g) n ≤ firstOn n
 over-high p W T g n =
     sum-high (λ page. onPage (goesTo W g) page (markOf p T page)) 16 n (λ page l. page-high (goesTo W g) 1 (goes-le W g) page (markOf p T page))
 

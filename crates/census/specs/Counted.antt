@@ -18,9 +18,9 @@ use Rattle.rules.specs.declared.Sizes.{Sizes}
 use Rattle.rules.specs.Graph.{target}
 use Rattle.laws.specs.Counts.{landed}
 use Rattle.layout.specs.Places.{markOf}
-use Rattle.layout.specs.Cells.{workOf, pageOf, placeOf, cellOn}
+use Rattle.layout.specs.Cells.{workOf, pageOf, placeOf, cellOn, firstOn, pageCells}
 use Rattle.layout.specs.Marks.{marked}
-use Rattle.layout.specs.Words.{Words, homeIn, graphOf}
+use Rattle.layout.specs.Words.{Words, homeIn, graphOf, cellCount}
 use Rattle.promises.specs.Ends.{partOf}
 use Rattle.promises.specs.Whole.{WholeFor}
 use Rattle.mark.specs.Reached.{home-cell, cell-home}
@@ -39,11 +39,11 @@ abbrev pub overMarked : Sizes → List ℕ → (ℕ → ℕ) → ℕ → ℕ
 overMarked p T f n = sum (λ page. onPage f page (markOf p T page)) n
 
 -- cell by cell
-pub over-cells : (p : Sizes) (T : List ℕ) (f : ℕ → ℕ) → overMarked p T f (p .pages) ≡ sum (λ c. marked p T c * f c) (16 * p .pages)
+pub over-cells : (p : Sizes) (T : List ℕ) (f : ℕ → ℕ) → overMarked p T f (p .pages) ≡ sum (λ c. marked p T c * f c) (cellCount p)
 unfolding overBits
 over-cells p T f =
     sym
-    (sum-blocks 16 (λ c. marked p T c * f c) (λ page. onPage f page (markOf p T page)) (p .pages)
+    (sum-blocks pageCells (λ c. marked p T c * f c) (λ page. onPage f page (markOf p T page)) (p .pages)
     (λ page l.
     sum-same (λ i. marked p T (cellOn page i) * f (cellOn page i)) (λ i. bitAt (markOf p T page) i * f (cellOn page i)) 16
     (λ i h.
@@ -52,7 +52,7 @@ over-cells p T f =
     ap₂ (λ (x y : ℕ). bitAt (markOf p T x) y * f (cellOn page i)) d m)))
 
 -- no sum is too great for the code
-pub page-high : (f : ℕ → ℕ) (m : ℕ) → ((c : ℕ) → f c ≤ m) → (page w : ℕ) → onPage f page w ≤ m * 16
+pub page-high : (f : ℕ → ℕ) (m : ℕ) → ((c : ℕ) → f c ≤ m) → (page w : ℕ) → onPage f page w ≤ m * pageCells
 unfolding overBits
 page-high f m h page w =
     sum-high (λ i. bitAt w i * f (cellOn page i)) m 16
@@ -63,7 +63,7 @@ page-high f m h page w =
     go x l (suc zero) b = omega (arith, one-mul x)
     go x l (suc (suc n)) b = absurd (let z : ⊥ = omega arith in z)
 
-bits-clear : (f : ℕ → ℕ) (w i : ℕ) → bitAt w i ≡ 1 → i < 16 → overBits f w ≡ overBits f (w - 2 ^ i) + f i
+bits-clear : (f : ℕ → ℕ) (w i : ℕ) → bitAt w i ≡ 1 → i < pageCells → overBits f w ≡ overBits f (w - 2 ^ i) + f i
 unfolding overBits
 bits-clear f w i on l = bit-sum-clear 16 w i f on l
 
@@ -111,10 +111,10 @@ one-more W come c v e l g = go (ℕ-discrete g v)
 -- after k of the cells of a page whose bits are set in w, those before left: what come₀ had, and those that go there; k at most are new
 pub record Tallied (W : List ℕ) (page w left : ℕ) (come₀ come : List ℕ) (k : ℕ) : Type 0 where
   pub each : (g : ℕ) → Summed (λ i. goesTo W g (cellOn page i)) w left (getD come₀ g 0) (getD come g 0)
-  pub few : (g : ℕ) → getD come g 0 ≤ 16 * page + k
+  pub few : (g : ℕ) → getD come g 0 ≤ cellOn page k
   pub long : length come ≡ length come₀
 
-pub tallied-start : {W : List ℕ} {page w : ℕ} {come : List ℕ} → ((g : ℕ) → getD come g 0 ≤ 16 * page) → Tallied W page w w come come 0
+pub tallied-start : {W : List ℕ} {page w : ℕ} {come : List ℕ} → ((g : ℕ) → getD come g 0 ≤ firstOn page) → Tallied W page w w come come 0
 tallied-start h = record { each = λ g. summed-start _ _ _; few = λ g. omega (arith, h g); long = refl }
 
 -- left′, c and come′ are as the code has them
@@ -138,14 +138,14 @@ unfolding landed goesTo
 goes-landed s w k r w′ m rpos g pos =
     over-cells s (w′ .tables) (goesTo (w′ .cells) g)
     ∙ sum-same (λ c. marked s (w′ .tables) c * goesTo (w′ .cells) g c)
-    (λ x. cond (eqb (homeIn s w x) r) (cond (eqb (target s (graphOf s w) r x) g) 1 0) 0) (16 * s .pages)
+    (λ x. cond (eqb (homeIn s w x) r) (cond (eqb (target s (graphOf s w) r x) g) 1 0) 0) (cellCount s)
     (λ c l. go c l (ℕ-discrete (marked s (w′ .tables) c) 1) (ℕ-discrete (homeIn s w c) r))
   where
     one : (b : Bool) → bit b ≡ cond b 1 0
     one true = refl
     one false = refl
 
-    go : (c : ℕ) → c < 16 * s .pages → Dec (marked s (w′ .tables) c ≡ 1) → Dec (homeIn s w c ≡ r)
+    go : (c : ℕ) → c < cellCount s → Dec (marked s (w′ .tables) c ≡ 1) → Dec (homeIn s w c ≡ r)
         → marked s (w′ .tables) c * bit (eqb (workOf (w′ .cells) c) g) ≡ cond (eqb (homeIn s w c) r) (cond (eqb (target s (graphOf s w) r c) g) 1 0) 0
     go c l (yes on) (no h) = let u = m .only c (omega arith) on in absurd (h (cell-home s w k c r (u .0) (u .1)))
     go c l (yes on) (yes h) =
@@ -167,7 +167,7 @@ goes-landed s w k r w′ m rpos g pos =
         ∙ ap (λ (b : Bool). cond b 1 0) (ne-eqb (target s (graphOf s w) r c) g (λ (e : target s (graphOf s w) r c ≡ g). off (m .survives c (u .0) (u .1) (omega arith)))))
 
 -- the cell of a bit that is set in its page's working word is marked
-pub marked-on : (p : Sizes) (T : List ℕ) (page i w : ℕ) → i < 16 → w ≡ markOf p T page → bitAt w i ≡ 1 → marked p T (cellOn page i) ≡ 1
+pub marked-on : (p : Sizes) (T : List ℕ) (page i w : ℕ) → i < pageCells → w ≡ markOf p T page → bitAt w i ≡ 1 → marked p T (cellOn page i) ≡ 1
 marked-on p T page i w l e on =
     let d : pageOf (cellOn page i) ≡ page = omega arith in
     let m : placeOf (cellOn page i) ≡ i = omega arith in

@@ -2,7 +2,7 @@
 use mathlib.Core.Path.{_≡_, refl, sym, ap, ap₂, _∙_, subst}
 use mathlib.Core.Bool.{Bool, true, false, cond, not, _&&_, and-false}
 use mathlib.Core.List.{List}
-use Prim.Native.Nat.{ℕ, zero, suc, _+_, _-_, _*_, _/_, _<_}
+use Prim.Native.Nat.{ℕ, zero, suc, _+_, _-_, _*_, _<_}
 use native.Mathlib.Omega.{arith}
 use native.Mathlib.Decide.{ℕ-discrete, decLt}
 use native.Mathlib.Nat.{one-mul, zero-mul}
@@ -19,10 +19,10 @@ use Rattle.rules.specs.Graph.{Graph, target, ended, crossing}
 use Rattle.laws.specs.EndLaws.{home-stayed, home-went, closed-ended}
 use Rattle.laws.specs.GraphLaws.{Alive}
 use Rattle.laws.specs.Counts.{crossIn, crossAt, crossing-sum, crossRef}
-use Rattle.layout.specs.Places.{markOf, usedIn, slotIn, Room}
-use Rattle.layout.specs.Cells.{headOf, workOf, fieldAt, fieldOf, pageOf, placeOf, cellOf, wordOf}
+use Rattle.layout.specs.Places.{markOf, usedIn, slotIn, Room, cellsWords}
+use Rattle.layout.specs.Cells.{headOf, workOf, fieldAt, fieldOf, pageOf, placeOf, cellOf, wordOf, cellWords, headAt, mostFields, refsOf, wordAt}
 use Rattle.layout.specs.Marks.{marked}
-use Rattle.layout.specs.Words.{Words, Used, ownerIn, homeIn, refCount, refsIn, graphOf}
+use Rattle.layout.specs.Words.{Words, Used, ownerIn, homeIn, refCount, refsIn, graphOf, cellCount}
 use Rattle.promises.specs.Ends.{partOf}
 use Rattle.promises.specs.Whole.{WholeFor, IsRef}
 use Rattle.remember.specs.Crossing.{other, regionOf, crossTo}
@@ -54,7 +54,7 @@ module _ (s : Sizes) (w : Words) (k : WholeFor s w) (space : Room s (length (w .
   unfolding ended
   ended-refs x = refl
 
-  ended-count : h .count ≡ 16 * s .pages
+  ended-count : h .count ≡ cellCount s
   unfolding ended
   ended-count = refl
 
@@ -127,27 +127,27 @@ module _ (s : Sizes) (w : Words) (k : WholeFor s w) (space : Room s (length (w .
   zero-bit : (c : ℕ) → (marked p (w′ .tables) c ≡ 1 → ⊥) → marked p (w′ .tables) c ≡ 0
   zero-bit c off = omega (arith, bit-lt (placeOf c) (markOf p (w′ .tables) (pageOf c)))
 
-  survivor : (x : ℕ) → x < 16 * s .pages → marked p (w′ .tables) x * cellCrosses p (w′ .cells) (w′ .tables) r x ≡ inside x
+  survivor : (x : ℕ) → x < cellCount s → marked p (w′ .tables) x * cellCrosses p (w′ .cells) (w′ .tables) r x ≡ inside x
   unfolding cellCrosses
   survivor x l = go (ℕ-discrete (marked p (w′ .tables) x) 1) (ℕ-discrete (homeIn s w x) r)
     where
       go : Dec (marked p (w′ .tables) x ≡ 1) → Dec (homeIn s w x ≡ r)
-          → marked p (w′ .tables) x * sum (λ f. crossAfter p (w′ .cells) (w′ .tables) r (workOf (w′ .cells) x) (fieldOf (w′ .cells) x f)) (headOf (w′ .cells) x / 16) ≡ inside x
+          → marked p (w′ .tables) x * sum (λ f. crossAfter p (w′ .cells) (w′ .tables) r (workOf (w′ .cells) x) (fieldOf (w′ .cells) x f)) (refsOf (w′ .cells) x) ≡ inside x
       go (yes on) (no n) = let u = M .only x (omega arith) on in absurd (n (cell-home s w k x r (u .0) (u .1)))
       go (yes on) (yes e) =
           let u = M .only x (omega arith) on in
           let t : workOf (w′ .cells) x ≡ h .home x = M .goes x (u .0) (u .1) ∙ sym (home-went s g r x e) in
           let some : h .home x ≡ 0 → ⊥ =
           (λ z. let off = M .freed x (u .0) (u .1) (sym (home-went s g r x e) ∙ z) in let y : ⊥ = omega arith in y) in
-          ap (λ (b : ℕ). b * sum (λ f. crossAfter p (w′ .cells) (w′ .tables) r (workOf (w′ .cells) x) (fieldOf (w′ .cells) x f)) (headOf (w′ .cells) x / 16)) on
+          ap (λ (b : ℕ). b * sum (λ f. crossAfter p (w′ .cells) (w′ .tables) r (workOf (w′ .cells) x) (fieldOf (w′ .cells) x f)) (refsOf (w′ .cells) x)) on
           ∙ one-mul _
           ∙ ap₂ (λ (a n : ℕ). sum (λ f. crossAfter p (w′ .cells) (w′ .tables) r a (fieldOf (w′ .cells) x f)) n) t (kept-refs kept x)
           ∙ sym (slots-sum x (u .0) some) ∙ sym (counted x (u .0) some)
           ∙ sym (ap (λ (b : Bool). cond b (crossAt h x) 0) (eq-eqb (homeIn s w x) r e))
-      go (no off) (no n) = ap (λ (b : ℕ). b * sum (λ f. crossAfter p (w′ .cells) (w′ .tables) r (workOf (w′ .cells) x) (fieldOf (w′ .cells) x f)) (headOf (w′ .cells) x / 16)) (zero-bit x off) ∙ zero-mul _ ∙ sym (ap (λ (b : Bool). cond b (crossAt h x) 0) (ne-eqb (homeIn s w x) r n))
+      go (no off) (no n) = ap (λ (b : ℕ). b * sum (λ f. crossAfter p (w′ .cells) (w′ .tables) r (workOf (w′ .cells) x) (fieldOf (w′ .cells) x f)) (refsOf (w′ .cells) x)) (zero-bit x off) ∙ zero-mul _ ∙ sym (ap (λ (b : Bool). cond b (crossAt h x) 0) (ne-eqb (homeIn s w x) r n))
       go (no off) (yes e) =
           let u = home-cell s w k x r e (omega arith) in
-          ap (λ (b : ℕ). b * sum (λ f. crossAfter p (w′ .cells) (w′ .tables) r (workOf (w′ .cells) x) (fieldOf (w′ .cells) x f)) (headOf (w′ .cells) x / 16)) (zero-bit x off) ∙ zero-mul _
+          ap (λ (b : ℕ). b * sum (λ f. crossAfter p (w′ .cells) (w′ .tables) r (workOf (w′ .cells) x) (fieldOf (w′ .cells) x f)) (refsOf (w′ .cells) x)) (zero-bit x off) ∙ zero-mul _
           ∙ sym (ap (λ (b : Bool). cond b (crossAt h x) 0) (eq-eqb (homeIn s w x) r e) ∙ gone x (home-went s g r x e ∙ freed (decLt 0 (target s g r x)) (u .0) (u .1)))
         where
           freed : Dec (0 < target s g r x) → Used s w x → ownerIn s w (pageOf x) ≡ r → target s g r x ≡ 0
@@ -167,11 +167,11 @@ module _ (s : Sizes) (w : Words) (k : WholeFor s w) (space : Room s (length (w .
   still-yes q l = ap (λ (b : Bool). cond b (slotCrosses p (w′ .cells) (w′ .tables) r q) 0) (lt-ltb 0 (crossTo p (w .cells) (w .tables) q) l)
 
   -- a word that is no slot of x does not count
-  no-slot : (x j : ℕ) → x < 16 * s .pages → j < 16 → (Slot p (w .cells) (w .tables) (16 * x + j) → ⊥) → still (16 * x + j) ≡ 0
-  no-slot x j l m n = still-no (16 * x + j) (λ b. n (cross-slot p (w .cells) (w .tables) (16 * x + j) b))
+  no-slot : (x j : ℕ) → x < cellCount s → j < cellWords → (Slot p (w .cells) (w .tables) (wordAt x j) → ⊥) → still (wordAt x j) ≡ 0
+  no-slot x j l m n = still-no (wordAt x j) (λ b. n (cross-slot p (w .cells) (w .tables) (wordAt x j) b))
 
   module _ (x : ℕ) (u : Used s w x) (out : homeIn s w x ≡ r → ⊥) where
-    here : x < 16 * s .pages
+    here : x < cellCount s
     here = omega (arith, u .page)
 
     stays : h .home x ≡ homeIn s w x
@@ -204,13 +204,13 @@ module _ (s : Sizes) (w : Words) (k : WholeFor s w) (space : Room s (length (w .
             let far : 1 < ownerIn s w (pageOf y) = omega arith in
             absurd (let b : ⊥ = omega (arith, is-other (ownerIn s w (pageOf x)) (ownerIn s w (pageOf y)) far d) in b)
 
-    field-still : (f : ℕ) → f < refCount w x → still (16 * x + (2 + f)) ≡ crossAfter p (w′ .cells) (w′ .tables) r (h .home x) (fieldOf (w′ .cells) x f)
+    field-still : (f : ℕ) → f < refCount w x → still (wordAt x (2 + f)) ≡ crossAfter p (w′ .cells) (w′ .tables) r (h .home x) (fieldOf (w′ .cells) x f)
     unfolding slotCrosses
     field-still f l =
-        let e : 16 * x + (2 + f) ≡ fieldAt x f = omega arith in
+        let e : wordAt x (2 + f) ≡ fieldAt x f = omega arith in
         ap still e ∙ go (decLt 0 (crossTo p (w .cells) (w .tables) (fieldAt x f)))
       where
-        low : f < 14
+        low : f < mostFields
         low = omega (arith, refs-few s w k x u)
 
         slot : Slot p (w .cells) (w .tables) (fieldAt x f)
@@ -239,59 +239,59 @@ module _ (s : Sizes) (w : Words) (k : WholeFor s w) (space : Room s (length (w .
             still-no (fieldAt x f) b ∙ sym (quiet (fieldOf (w .cells) x f) ref z) ∙ cross-one x (fieldOf (w .cells) x f) ref (slot-alive x f some l)
             ∙ ap (crossAfter p (w′ .cells) (w′ .tables) r (h .home x)) (sym same)
 
-    first-two : (j : ℕ) → j < 2 → still (16 * x + j) ≡ 0
-    first-two j m = no-slot x j here (omega arith) (λ o. omega (arith, slot-word p (w .cells) (w .tables) (16 * x + j) o .1))
+    first-two : (j : ℕ) → j < 2 → still (wordAt x j) ≡ 0
+    first-two j m = no-slot x j here (omega arith) (λ o. omega (arith, slot-word p (w .cells) (w .tables) (wordAt x j) o .1))
 
-    past-refs : (j : ℕ) → j < 14 - refCount w x → still (16 * x + (2 + (refCount w x + j))) ≡ 0
+    past-refs : (j : ℕ) → j < mostFields - refCount w x → still (wordAt x (2 + (refCount w x + j))) ≡ 0
     past-refs j m =
-        let q : ℕ = 16 * x + (2 + (refCount w x + j)) in
+        let q : ℕ = wordAt x (2 + (refCount w x + j)) in
         let e : cellOf q ≡ x = omega (arith, refs-few s w k x u) in
         let d : wordOf q ≡ 2 + (refCount w x + j) = omega (arith, refs-few s w k x u) in
         no-slot x (2 + (refCount w x + j)) here (omega (arith, refs-few s w k x u)) (λ o. omega (arith, slot-word p (w .cells) (w .tables) q o .1, ap (headOf (w .cells)) e))
 
-    used-sum : sum (λ j. still (16 * x + j)) 16 ≡ outside x
+    used-sum : sum (λ j. still (wordAt x j)) cellWords ≡ outside x
     used-sum =
         let n = refCount w x in
-        let e : n + (14 - n) ≡ 14 = omega (arith, refs-few s w k x u) in
-        let refs = ap (sum (λ i. still (16 * x + (2 + i)))) (sym e) ∙ sum-add (λ i. still (16 * x + (2 + i))) n (14 - n) in
+        let e : n + (mostFields - n) ≡ mostFields = omega (arith, refs-few s w k x u) in
+        let refs = ap (sum (λ i. still (wordAt x (2 + i)))) (sym e) ∙ sum-add (λ i. still (wordAt x (2 + i))) n (mostFields - n) in
         omega (
           arith,
-          sum-add (λ j. still (16 * x + j)) 2 14,
+          sum-add (λ j. still (wordAt x j)) 2 mostFields,
           refs,
-          sum-none (λ j. still (16 * x + j)) 2 first-two,
-          sum-none (λ j. still (16 * x + (2 + (n + j)))) (14 - n) past-refs,
-          sum-same (λ i. still (16 * x + (2 + i))) (λ f. crossAfter p (w′ .cells) (w′ .tables) r (h .home x) (fieldOf (w′ .cells) x f)) n field-still,
+          sum-none (λ j. still (wordAt x j)) 2 first-two,
+          sum-none (λ j. still (wordAt x (2 + (n + j)))) (mostFields - n) past-refs,
+          sum-same (λ i. still (wordAt x (2 + i))) (λ f. crossAfter p (w′ .cells) (w′ .tables) r (h .home x) (fieldOf (w′ .cells) x f)) n field-still,
           slots-sum x u some,
           counted x u some,
           ap (λ (b : Bool). cond b 0 (crossAt h x)) (ne-eqb (homeIn s w x) r out),
         )
 
   -- an object of r counts with the survivors, a cell that is not in use not at all
-  cell-sum : (x : ℕ) → x < 16 * s .pages → sum (λ j. still (16 * x + j)) 16 ≡ outside x
+  cell-sum : (x : ℕ) → x < cellCount s → sum (λ j. still (wordAt x j)) cellWords ≡ outside x
   unfolding slotCrosses
   cell-sum x l = go (ℕ-discrete (homeIn s w x) r) (ℕ-discrete (homeIn s w x) 0)
     where
-      go : Dec (homeIn s w x ≡ r) → Dec (homeIn s w x ≡ 0) → sum (λ j. still (16 * x + j)) 16 ≡ outside x
+      go : Dec (homeIn s w x ≡ r) → Dec (homeIn s w x ≡ 0) → sum (λ j. still (wordAt x j)) cellWords ≡ outside x
       go (yes e) d =
           let u = home-cell s w k x r e (omega arith) .0 in
-          sum-none (λ j. still (16 * x + j)) 16
+          sum-none (λ j. still (wordAt x j)) cellWords
           (λ j m.
-          let c : cellOf (16 * x + j) ≡ x = omega arith in
-          cond-zero (ltb 0 (crossTo p (w .cells) (w .tables) (16 * x + j))) (slotCrosses p (w′ .cells) (w′ .tables) r (16 * x + j)) 0
-          (ap (λ (b : Bool). cond b 0 (crossAfter p (w′ .cells) (w′ .tables) r (owner p (w′ .tables) (cellOf (16 * x + j))) (getD (w′ .cells) (16 * x + j) 0)))
-          (eq-eqb (owner p (w′ .tables) (cellOf (16 * x + j))) r (ap (owner p (w′ .tables)) c ∙ owner-now x u ∙ e))) refl)
+          let c : cellOf (wordAt x j) ≡ x = omega arith in
+          cond-zero (ltb 0 (crossTo p (w .cells) (w .tables) (wordAt x j))) (slotCrosses p (w′ .cells) (w′ .tables) r (wordAt x j)) 0
+          (ap (λ (b : Bool). cond b 0 (crossAfter p (w′ .cells) (w′ .tables) r (owner p (w′ .tables) (cellOf (wordAt x j))) (getD (w′ .cells) (wordAt x j) 0)))
+          (eq-eqb (owner p (w′ .tables) (cellOf (wordAt x j))) r (ap (owner p (w′ .tables)) c ∙ owner-now x u ∙ e))) refl)
           ∙ sym (ap (λ (b : Bool). cond b 0 (crossAt h x)) (eq-eqb (homeIn s w x) r e))
       go (no n) (yes z) =
-          sum-none (λ j. still (16 * x + j)) 16
+          sum-none (λ j. still (wordAt x j)) cellWords
           (λ j m.
-          let c : cellOf (16 * x + j) ≡ x = omega arith in
-          no-slot x j l m (λ o. used-alive s w k x (subst (Used s w) c (slot-word p (w .cells) (w .tables) (16 * x + j) o .0)) z))
+          let c : cellOf (wordAt x j) ≡ x = omega arith in
+          no-slot x j l m (λ o. used-alive s w k x (subst (Used s w) c (slot-word p (w .cells) (w .tables) (wordAt x j) o .0)) z))
           ∙ sym (ap (λ (b : Bool). cond b 0 (crossAt h x)) (ne-eqb (homeIn s w x) r n) ∙ gone x (home-stayed s g r x n ∙ z))
       go (no n) (no a) = used-sum x (alive-used s w k x a) n
 
   -- ---- entry by entry
 
-  entries-paired : Paired (slotIn (w .remember)) (λ i. still (slotIn (w .remember) i)) (usedIn (w .remember)) still (256 * s .pages)
+  entries-paired : Paired (slotIn (w .remember)) (λ i. still (slotIn (w .remember) i)) (usedIn (w .remember)) still (cellsWords s)
   entries-paired =
       record {
         goes = λ i l b. (k .remember .entries .named i l .slot, refl);
@@ -311,13 +311,13 @@ module _ (s : Sizes) (w : Words) (k : WholeFor s w) (space : Room s (length (w .
       same i j l m e (no d) (yes b) = absurd (k .remember .entries .once i j b m e)
       same i j l m e (no d) (no b) = absurd (k .remember .entries .once j i (omega arith) l (sym e))
 
-  entries-sum : entriesCross p (w′ .cells) (w .remember) (w′ .tables) r ≡ sum outside (16 * s .pages)
+  entries-sum : entriesCross p (w′ .cells) (w .remember) (w′ .tables) r ≡ sum outside (cellCount s)
   entries-sum =
-      let e : 256 * s .pages ≡ 16 * (16 * s .pages) = omega arith in
+      let e : cellsWords s ≡ headAt (cellCount s) = omega arith in
       sum-same (λ i. slotCrosses p (w′ .cells) (w′ .tables) r (slotIn (w .remember) i)) (λ i. still (slotIn (w .remember) i)) (usedIn (w .remember))
       (λ i l. let n = k .remember .entries .named i l in sym (still-yes (slotIn (w .remember) i) (omega (arith, n .region, n .right))))
-      ∙ sum-paired (slotIn (w .remember)) (λ i. still (slotIn (w .remember) i)) (usedIn (w .remember)) still (256 * s .pages) entries-paired
-      ∙ ap (sum still) e ∙ sum-blocks 16 still outside (16 * s .pages) cell-sum
+      ∙ sum-paired (slotIn (w .remember)) (λ i. still (slotIn (w .remember) i)) (usedIn (w .remember)) still (cellsWords s) entries-paired
+      ∙ ap (sum still) e ∙ sum-blocks cellWords still outside (cellCount s) cell-sum
 
   -- ---- both together
 
@@ -334,6 +334,6 @@ module _ (s : Sizes) (w : Words) (k : WholeFor s w) (space : Room s (length (w .
       let a = ap (λ (m : List ℕ). entriesCross p (w′ .cells) m (w′ .tables) r) (M .remember) ∙ entries-sum in
       let b =
       over-cells p (w′ .tables) (cellCrosses p (w′ .cells) (w′ .tables) r)
-      ∙ sum-same (λ c. marked p (w′ .tables) c * cellCrosses p (w′ .cells) (w′ .tables) r c) inside (16 * s .pages) survivor in
-      let c = crossing-sum h ∙ ap (sum (crossAt h)) ended-count ∙ sum-same (crossAt h) (λ x. inside x + outside x) (16 * s .pages) (λ x l. split x) ∙ sum-plus inside outside (16 * s .pages) in
+      ∙ sum-same (λ c. marked p (w′ .tables) c * cellCrosses p (w′ .cells) (w′ .tables) r c) inside (cellCount s) survivor in
+      let c = crossing-sum h ∙ ap (sum (crossAt h)) ended-count ∙ sum-same (crossAt h) (λ x. inside x + outside x) (cellCount s) (λ x l. split x) ∙ sum-plus inside outside (cellCount s) in
       omega (arith, a, b, c)

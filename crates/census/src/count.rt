@@ -6,7 +6,7 @@ ghost use lib.ListN.{length, getD};
 ghost use Rattle.lists.specs.Bits.{bitAt};
 ghost use Rattle.lists.specs.Part.{Rises, Off};
 ghost use Rattle.layout.specs.Places.{markOf};
-ghost use Rattle.layout.specs.Cells.{workOf, pageOf, cellOn};
+ghost use Rattle.layout.specs.Cells.{workOf, pageOf, cellOn, CellIn, firstOn, pageCells};
 ghost use Rattle.layout.specs.Marks.{marked};
 ghost use Rattle.layout.specs.Words.{InUse};
 ghost use Rattle.mark.specs.Marks.{Shaped};
@@ -17,7 +17,7 @@ use rules::Sizes;
 
 // Survivor c is one more that goes where it goes.
 pub fn tally(cells: &[u32], c: usize, come: &mut [u32])
-    requires { ⌜ (c < 16384) × (16 * c + 16 ≤ length (now cells)) ⌝ }
+    requires { ⌜ CellIn c (length (now cells)) ⌝ }
     requires { ⌜ workOf (now cells) c < length (now come) ⌝ }
     requires { ⌜ getD (now come) (workOf (now cells) c) 0 < 2 ^ 31 ⌝ }
     ensures { λ _. ⌜ ((g : ℕ) → getD (now (come .exit)) g 0 ≡ getD (now (come .entry)) g 0 + goesTo (now (cells .entry)) g c) ⌝ }
@@ -38,9 +38,9 @@ pub fn count_page(
 ) -> usize
     requires { ⌜ Shaped p (now cells) (now tables) ⌝ }
     requires { ⌜ (w < 2 ^ 16) × (page < p .pages) ⌝ }
-    requires { ⌜ ((i : ℕ) → i < 16 → bitAt w i ≡ 1 → InUse p (now tables) (cellOn page i)) ⌝ }
-    requires { ⌜ ((i : ℕ) → i < 16 → bitAt w i ≡ 1 → workOf (now cells) (cellOn page i) < length (now come)) ⌝ }
-    requires { ⌜ ((g : ℕ) → getD (now come) g 0 ≤ 16 * page) ⌝ }
+    requires { ⌜ ((i : ℕ) → i < pageCells → bitAt w i ≡ 1 → InUse p (now tables) (cellOn page i)) ⌝ }
+    requires { ⌜ ((i : ℕ) → i < pageCells → bitAt w i ≡ 1 → workOf (now cells) (cellOn page i) < length (now come)) ⌝ }
+    requires { ⌜ ((g : ℕ) → getD (now come) g 0 ≤ firstOn page) ⌝ }
     ensures { λ n. ⌜ ((g : ℕ) → getD (now (come .exit)) g 0 ≡ getD (now (come .entry)) g 0 + onPage (goesTo (now (cells .entry)) g) page w) ⌝ }
     ensures { λ n. ⌜ n ≡ onPage (cellCrosses p (now (cells .entry)) (now (tables .entry)) r) page w ⌝ }
     ensures { λ n. ⌜ n ≤ 224 ⌝ }

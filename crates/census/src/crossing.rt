@@ -3,8 +3,8 @@
 ghost use mathlib.Core.Path.{_≡_};
 ghost use Prim.Native.Nat.{_*_, _<_, _≤_};
 ghost use lib.ListN.{length};
-ghost use Rattle.layout.specs.Places.{Room, slotIn, usedIn};
-ghost use Rattle.layout.specs.Cells.{pageOf};
+ghost use Rattle.layout.specs.Places.{Room, slotIn, usedIn, cellsWords};
+ghost use Rattle.layout.specs.Cells.{pageOf, mostFields};
 ghost use Rattle.layout.specs.Words.{InUse};
 ghost use Rattle.promises.specs.Whole.{IsRef};
 ghost use Rattle.mark.specs.Marks.{Shaped};
@@ -18,7 +18,7 @@ use rules::Sizes;
 // The region of cell c after the end.
 pub fn home_after(p: Sizes, cells: &[u32], tables: &[u32], r: u32, c: usize) -> u32
     requires { ⌜ Room p (length (now tables)) ⌝ }
-    requires { ⌜ (pageOf c < p .pages) × (256 * p .pages ≤ length (now cells)) ⌝ }
+    requires { ⌜ (pageOf c < p .pages) × (cellsWords p ≤ length (now cells)) ⌝ }
     ensures { λ q. ⌜ q ≡ homeAfter p (now (cells .entry)) (now (tables .entry)) r c ⌝ }
 {
     let q = layout::tables::owner(p, tables, layout::cells::page_of(c));
@@ -31,7 +31,7 @@ pub fn home_after(p: Sizes, cells: &[u32], tables: &[u32], r: u32, c: usize) -> 
 // 1 if reference x, in an object that lies in region `home` afterwards, crosses then, else 0.
 pub fn crosses(p: Sizes, cells: &[u32], tables: &[u32], r: u32, home: u32, x: u32) -> usize
     requires { ⌜ Room p (length (now tables)) ⌝ }
-    requires { ⌜ 256 * p .pages ≤ length (now cells) ⌝ }
+    requires { ⌜ cellsWords p ≤ length (now cells) ⌝ }
     requires { ⌜ IsRef p (now cells) (now tables) x ⌝ }
     ensures { λ n. ⌜ n ≡ crossAfter p (now (cells .entry)) (now (tables .entry)) r home x ⌝ }
 {
@@ -50,7 +50,7 @@ pub fn cross_cell(p: Sizes, cells: &[u32], tables: &[u32], r: u32, c: usize) -> 
     requires { ⌜ Shaped p (now cells) (now tables) ⌝ }
     requires { ⌜ InUse p (now tables) c ⌝ }
     ensures { λ n. ⌜ n ≡ cellCrosses p (now (cells .entry)) (now (tables .entry)) r c ⌝ }
-    ensures { λ n. ⌜ n ≤ 14 ⌝ }
+    ensures { λ n. ⌜ n ≤ mostFields ⌝ }
 {
     let home = layout::cells::work(cells, c);
     let refs = layout::cells::field_count(Kind::Reference, layout::cells::head(cells, c));

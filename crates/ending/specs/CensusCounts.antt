@@ -17,7 +17,7 @@ use Rattle.laws.specs.RegionLaws.{region-high}
 use Rattle.layout.specs.Places.{Room, countOf}
 use Rattle.layout.specs.Cells.{pageOf, workOf}
 use Rattle.layout.specs.Marks.{marked}
-use Rattle.layout.specs.Words.{Words, depthIn}
+use Rattle.layout.specs.Words.{Words, depthIn, cellCount}
 use Rattle.promises.specs.Whole.{WholeFor}
 use Rattle.promises.specs.OwnedPages.{pagesOwned}
 use Rattle.pages.specs.Owned.{ownedOne, ownedIn}
@@ -101,7 +101,7 @@ module _ (p : Sizes) (W M T : List ℕ) (t n : ℕ) {needed free : ℕ} (en : ne
 pub arrivals-hits : (p : Sizes) (W T come : List ℕ) → Arrivals p W T (p .pages) come → (g : ℕ) → getD come g 0 ≡ hits p W T g
 unfolding hits hit goesTo
 arrivals-hits p W T come a g =
-    a g ∙ over-cells p T (goesTo W g) ∙ sum-same _ _ (16 * p .pages) (λ c l. ap (λ (n : ℕ). marked p T c * n) (one (eqb (workOf W c) g)))
+    a g ∙ over-cells p T (goesTo W g) ∙ sum-same _ _ (cellCount p) (λ c l. ap (λ (n : ℕ). marked p T c * n) (one (eqb (workOf W c) g)))
   where
     one : (b : Bool) → bit b ≡ cond b 1 0
     one true = refl

@@ -34,26 +34,12 @@ use Rattle.ending.specs.Rewriting.{HoldingSlots, copy-survivor, survivor
 
 -- ---- a slot as a field of its object
 
--- the word at x is field f of the object in cell k, a reference
-pub record FieldOf (s : Sizes) (c t : List ℕ) (x : ℕ) : Type 0 where
-  pub object : ℕ
-  pub field : ℕ
-  pub used : InUse s t object
-  pub low : field < refsOf c object
-  pub few : field < mostFields
-  pub at : x ≡ fieldAt object field
-
 module _ (s : Sizes) (c t : List ℕ) where
   pub cross-field : (k f : ℕ) → InUse s t k → f < mostFields → f < refsOf c k → crossTo s c t (fieldAt k f) ≡ crossesFrom s t (ownerOf s t (pageOf k)) (fieldOf c k f)
   unfolding crossesFrom
   cross-field k f u l h =
       slot-cross s c t (fieldAt k f) (field-slot s c t k f u l h)
       ∙ ap (λ (y : ℕ). other (ownerOf s t (pageOf y)) (regionOf s t (fieldOf c k f))) (let z : cellOf (fieldAt k f) ≡ k = omega arith in z)
-
-  pub field-cross : (x : ℕ) → x < cellsWords s → 0 < crossTo s c t x → FieldOf s c t x
-  field-cross x l h =
-      let q = cross-slot s c t x h in
-      record { object = q .object; field = q .field; used = q .begins; low = q .low; few = q .room; at = sym (q .at) }
 
 -- ---- whole words
 
@@ -96,17 +82,17 @@ module _ {s : Sizes} {w : Words} (whole : WholeFor s w) where
   entry-says i l =
       let n = whole .remember .entries .named i l in
       let g : ℕ = slotRegionIn (s .entries) (w .remember) i in
-      let q = field-cross s (w .cells) (w .tables) (slotIn (w .remember) i) (n .slot) (omega (arith, n .region, n .right)) in
+      let q = cross-slot s (w .cells) (w .tables) (slotIn (w .remember) i) (omega (arith, n .region, n .right)) in
       let e : g ≡ crossesFrom s (w .tables) (ownerIn s w (pageOf (q .object))) (fieldOf (w .cells) (q .object) (q .field)) =
-      sym (n .right) ∙ ap (crossTo s (w .cells) (w .tables)) (q .at) ∙ cross-field s (w .cells) (w .tables) (q .object) (q .field) (q .used) (q .few) (q .low) in
+      sym (n .right) ∙ ap (crossTo s (w .cells) (w .tables)) (sym (q .at)) ∙ cross-field s (w .cells) (w .tables) (q .object) (q .field) (q .begins) (q .room) (q .low) in
       let v = crosses-into s (w .tables) (ownerIn s w (pageOf (q .object))) (fieldOf (w .cells) (q .object) (q .field)) g e (λ z. omega (arith, n .region)) in
       record {
         object = q .object;
         field = q .field;
         names = cellNamed (fieldOf (w .cells) (q .object) (q .field));
-        used = q .used;
+        used = q .begins;
         low = q .low;
-        at = q .at;
+        at = sym (q .at);
         value = let r = v .real in omega arith;
         region = v .region;
         high = omega (arith, v .high, v .region);

@@ -2,7 +2,7 @@
 use mathlib.Core.Path.{_≡_, refl, sym, ap, ap₂, _∙_}
 use mathlib.Core.Logic.{_≢_}
 use mathlib.Core.Bool.{Bool, cond}
-use Prim.Native.Nat.{ℕ, _+_, _-_, _*_, _/_, _%_, _≤_, _<_}
+use Prim.Native.Nat.{ℕ, _+_, _-_, _≤_, _<_}
 use native.Mathlib.Decide.{ℕ-discrete, decLt}
 use native.Mathlib.Omega.{arith}
 use lib.Dec.{eqb, leb, ltb}
@@ -16,7 +16,9 @@ use Rattle.rules.specs.Graph.{Graph, ended, crossing}
 use Rattle.laws.specs.GraphLaws.{Alive}
 use Rattle.laws.specs.Counts.{crossIn, crossAt, crossRef, crossing-sum}
 use Rattle.laws.specs.EndLaws.{was-alive}
-use Rattle.layout.specs.Words.{Words, Used, refCount, refsIn, graphOf}
+use Rattle.layout.specs.Places.{cellsWords}
+use Rattle.layout.specs.Cells.{cellOf, cellWords, fieldAt, headAt, mostFields, wordAt, wordOf}
+use Rattle.layout.specs.Words.{Words, Used, refCount, refsIn, graphOf, cellCount}
 use Rattle.promises.specs.Whole.{WholeFor}
 use Rattle.promises.specs.Crossings.{cross-in-sum}
 use Rattle.promises.specs.Reading.{alive-used, words-closed, length-refs, getD-refs, refs-few}
@@ -34,18 +36,18 @@ wordCrosses s w r c i v =
     cond (eqb (ended s (graphOf s w) r .home c) 0) 0 (cond (leb 2 i) (cond (ltb i (refCount w c + 2)) (crossRef (ended s (graphOf s w) r) c v) 0) 0)
 
 unfoldable pub crossesPast : Sizes → Words → ℕ → ℕ → ℕ
-crossesPast s w r q = wordCrosses s w r (q / 16) (q % 16) (getD (w .cells) q 0)
+crossesPast s w r q = wordCrosses s w r (cellOf q) (wordOf q) (getD (w .cells) q 0)
 
 module _ (s : Sizes) (w : Words) (k : WholeFor s w) (r : ℕ) (pos : 0 < r) where
   abbrev after : Graph
   after = ended s (graphOf s w) r
 
-  at-word : (c i : ℕ) → i < 16 → crossesPast s w r (16 * c + i) ≡ wordCrosses s w r c i (getD (w .cells) (16 * c + i) 0)
+  at-word : (c i : ℕ) → i < cellWords → crossesPast s w r (wordAt c i) ≡ wordCrosses s w r c i (getD (w .cells) (wordAt c i) 0)
   unfolding crossesPast
   at-word c i l =
-      let e₁ : (16 * c + i) / 16 ≡ c = omega arith in
-      let e₂ : (16 * c + i) % 16 ≡ i = omega arith in
-      ap₂ (λ (a b : ℕ). wordCrosses s w r a b (getD (w .cells) (16 * c + i) 0)) e₁ e₂
+      let e₁ : cellOf (wordAt c i) ≡ c = omega arith in
+      let e₂ : wordOf (wordAt c i) ≡ i = omega arith in
+      ap₂ (λ (a b : ℕ). wordCrosses s w r a b (getD (w .cells) (wordAt c i) 0)) e₁ e₂
 
   pub word-slot : (c i v : ℕ) → Alive after c → 2 ≤ i → i < refCount w c + 2 → wordCrosses s w r c i v ≡ crossRef after c v
   unfolding wordCrosses
@@ -71,18 +73,18 @@ module _ (s : Sizes) (w : Words) (k : WholeFor s w) (r : ℕ) (pos : 0 < r) wher
 
   -- ---- the words of a cell count what the rules count of its object
 
-  there : (c : ℕ) → Alive after c → sum (λ i. crossesPast s w r (16 * c + i)) 16 ≡ crossAt after c
+  there : (c : ℕ) → Alive after c → sum (λ i. crossesPast s w r (wordAt c i)) cellWords ≡ crossAt after c
   unfolding crossAt ended
   there c a =
       let n = refCount w c in
-      let e : n + (14 - n) ≡ 14 = omega (arith, few) in
+      let e : n + (mostFields - n) ≡ mostFields = omega (arith, few) in
       omega (
         arith,
-        sum-add (λ i. crossesPast s w r (16 * c + i)) 2 14,
-        ap (sum (λ i. crossesPast s w r (16 * c + (2 + i)))) (sym e) ∙ sum-add (λ i. crossesPast s w r (16 * c + (2 + i))) n (14 - n),
-        sum-none (λ i. crossesPast s w r (16 * c + i)) 2 (λ i l. at-word c i (omega arith) ∙ word-first c i (getD (w .cells) (16 * c + i) 0) l),
-        sum-none (λ i. crossesPast s w r (16 * c + (2 + (n + i)))) (14 - n) past,
-        sum-same (λ i. crossesPast s w r (16 * c + (2 + i))) (λ i. crossRef after c (getD (refsIn w c) i 0)) n slot,
+        sum-add (λ i. crossesPast s w r (wordAt c i)) 2 mostFields,
+        ap (sum (λ i. crossesPast s w r (wordAt c (2 + i)))) (sym e) ∙ sum-add (λ i. crossesPast s w r (wordAt c (2 + i))) n (mostFields - n),
+        sum-none (λ i. crossesPast s w r (wordAt c i)) 2 (λ i l. at-word c i (omega arith) ∙ word-first c i (getD (w .cells) (wordAt c i) 0) l),
+        sum-none (λ i. crossesPast s w r (wordAt c (2 + (n + i)))) (mostFields - n) past,
+        sum-same (λ i. crossesPast s w r (wordAt c (2 + i))) (λ i. crossRef after c (getD (refsIn w c) i 0)) n slot,
         cross-in-sum after c (refsIn w c),
         ap (sum (λ i. crossRef after c (getD (refsIn w c) i 0))) (length-refs s w k c u),
         ap (λ (b : Bool). cond b 0 (crossIn after c (refsIn w c))) (ne-eqb (after .home c) 0 a),
@@ -91,47 +93,47 @@ module _ (s : Sizes) (w : Words) (k : WholeFor s w) (r : ℕ) (pos : 0 < r) wher
       u : Used s w c
       u = alive-used s w k c (was-alive s (graphOf s w) r pos (words-closed s w k) c a)
 
-      few : refCount w c ≤ 14
+      few : refCount w c ≤ mostFields
       few = refs-few s w k c u
 
-      past : (i : ℕ) → i < 14 - refCount w c → crossesPast s w r (16 * c + (2 + (refCount w c + i))) ≡ 0
+      past : (i : ℕ) → i < mostFields - refCount w c → crossesPast s w r (wordAt c (2 + (refCount w c + i))) ≡ 0
       past i l =
           at-word c (2 + (refCount w c + i)) (omega (arith, few))
-          ∙ word-past c (2 + (refCount w c + i)) (getD (w .cells) (16 * c + (2 + (refCount w c + i))) 0) (omega arith) (omega arith)
+          ∙ word-past c (2 + (refCount w c + i)) (getD (w .cells) (wordAt c (2 + (refCount w c + i))) 0) (omega arith) (omega arith)
 
-      slot : (i : ℕ) → i < refCount w c → crossesPast s w r (16 * c + (2 + i)) ≡ crossRef after c (getD (refsIn w c) i 0)
+      slot : (i : ℕ) → i < refCount w c → crossesPast s w r (wordAt c (2 + i)) ≡ crossRef after c (getD (refsIn w c) i 0)
       slot i l =
-          let e : 16 * c + (2 + i) ≡ 16 * c + 2 + i = omega arith in
-          at-word c (2 + i) (omega (arith, few)) ∙ word-slot c (2 + i) (getD (w .cells) (16 * c + (2 + i)) 0) a (omega arith) (omega arith)
+          let e : wordAt c (2 + i) ≡ fieldAt c i = omega arith in
+          at-word c (2 + i) (omega (arith, few)) ∙ word-slot c (2 + i) (getD (w .cells) (wordAt c (2 + i)) 0) a (omega arith) (omega arith)
           ∙ ap (crossRef after c) (ap (λ (q : ℕ). getD (w .cells) q 0) e ∙ sym (getD-refs w c i l))
 
-  gone : (c : ℕ) → after .home c ≡ 0 → sum (λ i. crossesPast s w r (16 * c + i)) 16 ≡ crossAt after c
+  gone : (c : ℕ) → after .home c ≡ 0 → sum (λ i. crossesPast s w r (wordAt c i)) cellWords ≡ crossAt after c
   unfolding crossAt
   gone c z =
-      sum-none (λ i. crossesPast s w r (16 * c + i)) 16 (λ i l. at-word c i l ∙ word-gone c i (getD (w .cells) (16 * c + i) 0) z)
+      sum-none (λ i. crossesPast s w r (wordAt c i)) cellWords (λ i l. at-word c i l ∙ word-gone c i (getD (w .cells) (wordAt c i) 0) z)
       ∙ sym (ap (λ (b : Bool). cond b 0 (crossIn after c (after .refs c))) (eq-eqb (after .home c) 0 z))
 
-  cell : (c : ℕ) → sum (λ i. crossesPast s w r (16 * c + i)) 16 ≡ crossAt after c
+  cell : (c : ℕ) → sum (λ i. crossesPast s w r (wordAt c i)) cellWords ≡ crossAt after c
   cell c = go (ℕ-discrete (after .home c) 0)
     where
-      go : Dec (after .home c ≡ 0) → sum (λ i. crossesPast s w r (16 * c + i)) 16 ≡ crossAt after c
+      go : Dec (after .home c ≡ 0) → sum (λ i. crossesPast s w r (wordAt c i)) cellWords ≡ crossAt after c
       go (yes z) = gone c z
       go (no n) = there c n
 
-  pub positions-crossing : sum (crossesPast s w r) (256 * s .pages) ≡ crossing after
+  pub positions-crossing : sum (crossesPast s w r) (cellsWords s) ≡ crossing after
   unfolding ended
   positions-crossing =
-      let e : 256 * s .pages ≡ 16 * (16 * s .pages) = omega arith in
-      ap (sum (crossesPast s w r)) e ∙ sum-blocks 16 (crossesPast s w r) (crossAt after) (16 * s .pages) (λ c l. cell c) ∙ sym (crossing-sum after)
+      let e : cellsWords s ≡ headAt (cellCount s) = omega arith in
+      ap (sum (crossesPast s w r)) e ∙ sum-blocks cellWords (crossesPast s w r) (crossAt after) (cellCount s) (λ c l. cell c) ∙ sym (crossing-sum after)
 
   -- so different positions that count are at most as many
-  pub positions-few : (n : ℕ) (at : ℕ → ℕ) → ((i : ℕ) → i < n → at i < 256 * s .pages) → ((i : ℕ) → i < n → 0 < crossesPast s w r (at i))
+  pub positions-few : (n : ℕ) (at : ℕ → ℕ) → ((i : ℕ) → i < n → at i < cellsWords s) → ((i : ℕ) → i < n → 0 < crossesPast s w r (at i))
       → ((a b : ℕ) → a < b → b < n → at a ≢ at b) → n ≤ crossing after
   positions-few n at low some once =
       omega (
         arith,
-        names-le (positive (crossesPast s w r)) (256 * s .pages) at n
+        names-le (positive (crossesPast s w r)) (cellsWords s) at n
             (record { low = low; pass = λ i l. lt-ltb 0 (crossesPast s w r (at i)) (some i l); once = once }),
-        sum-le (λ q. bit (positive (crossesPast s w r) q)) (crossesPast s w r) (256 * s .pages) (λ q l. bit-under (crossesPast s w r q)),
+        sum-le (λ q. bit (positive (crossesPast s w r) q)) (crossesPast s w r) (cellsWords s) (λ q l. bit-under (crossesPast s w r q)),
         positions-crossing,
       )

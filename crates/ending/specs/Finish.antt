@@ -18,6 +18,7 @@ use Rattle.layout.specs.Places.{Room, depthAt, varAt, usedAt, markAt, countAt, 
 use Rattle.layout.specs.Cells.{fieldAt, fieldOf, refsOf, fieldCount, cellNamed, pageOf, cellOn, mostFields}
 use Rattle.layout.specs.Words.{Words, words, InUse, Used, depthIn, ownerIn, refCount}
 use Rattle.remember.specs.Crossing.{other, crossTo, crossesFrom}
+use Rattle.remember.specs.Crosses.{cross-slot}
 use Rattle.remember.specs.Entries as table
 use Rattle.remember.specs.Renewed.{renewed-exact}
 use Rattle.promises.specs.Slots.{region-of}
@@ -41,7 +42,7 @@ use Rattle.ended.specs.WordsPlaced.{target-level}
 use Rattle.ending.specs.MarkedWords.{table-same}
 use Rattle.ending.specs.Placing.{placed, forwarded-placed, outside-placed, outside-owner, survivor-placed, survivor-fresh, survivor-owner, placed-used, placed-apart, placed-only}
 use Rattle.ending.specs.Rewriting.{copy-survivor, slot-after, rest-after, head-after, work-after}
-use Rattle.ending.specs.Crossing.{Held, holding, cross-field, field-cross, home-out, LiveSlot, cross-live, entry-live, live-entry}
+use Rattle.ending.specs.Crossing.{Held, holding, cross-field, home-out, LiveSlot, cross-live, entry-live, live-entry}
 use Rattle.ending.specs.Space.{page-kept}
 use Rattle.ending.specs.Stages.{Begun, high, bounds, sends, F, ready, tables-ask, owner-after, variable-same, release-ask}
 
@@ -156,13 +157,13 @@ module _ {s : Sizes} {t k r : ℕ} {w w₁ : Words} (b : Begun s t k r w w₁) (
   -- ---- the remember table
 
   -- a slot after the end is a reference of an object that lives on
-  live : (x : ℕ) → x < cellsWords s → 0 < crossTo s W′ T′ x → LiveSlot (high b) (b .whole) (sends b) (b .marks) rm (F b p c) R x
-  live x l h =
-      let q = field-cross s W′ T′ x l h in
-      let o = from-cell (q .object) (q .used) in
+  live : (x : ℕ) → 0 < crossTo s W′ T′ x → LiveSlot (high b) (b .whole) (sends b) (b .marks) rm (F b p c) R x
+  live x h =
+      let q = cross-slot s W′ T′ x h in
+      let o = from-cell (q .object) (q .begins) in
       let e : refsOf W′ (q .object) ≡ refCount w (o .0) =
       ap (refsOf W′) (sym (o .2)) ∙ ap (fieldCount Reference) (head-after (b .whole) (sends b) (b .marks) rm (F b p c) (holding (high b) (b .whole) (sends b)) R (o .0) (o .1)) in
-      record { object = o .0; field = q .field; lives = o .1; low = omega (arith, q .low, e); at = q .at ∙ ap (λ (d : ℕ). fieldAt d (q .field)) (sym (o .2)) }
+      record { object = o .0; field = q .field; lives = o .1; low = omega (arith, q .low, e); at = sym (q .at) ∙ ap (λ (d : ℕ). fieldAt d (q .field)) (sym (o .2)) }
 
   few : (x f : ℕ) → Lives s w (partOf s w r) x → f < refCount w x → f < mostFields
   few x f l h = omega (arith, refs-few s w (b .whole) x (l .used))
@@ -206,7 +207,7 @@ module _ {s : Sizes} {t k r : ℕ} {w w₁ : Words} (b : Begun s t k r w w₁) (
 
       every : (q : ℕ) → q < cellsWords s → 0 < crossTo s W′ T′ q → Entry s r (s .entries) (usedIn (w .remember)) W′ (w .remember) T q (crossTo s W′ T′ q)
       every q l h =
-          let x = live q l h in
+          let x = live q h in
           let e = cross-end q x in
           subst (Entry s r (s .entries) (usedIn (w .remember)) W′ (w .remember) T q) (sym e)
           (live-entry (high b) (b .whole) (sends b) (b .marks) rm (F b p c) R q x (λ z. omega (arith, e)))

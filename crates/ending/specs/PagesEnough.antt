@@ -20,7 +20,7 @@ use Rattle.laws.specs.Counts.{landed}
 use Rattle.layout.specs.Places.{Room, markOf}
 use Rattle.layout.specs.Cells.{pageOf, placeOf, workOf}
 use Rattle.layout.specs.Marks.{marked}
-use Rattle.layout.specs.Words.{Words, ownerIn, homeIn, depthIn, graphOf}
+use Rattle.layout.specs.Words.{Words, ownerIn, homeIn, depthIn, graphOf, cellCount}
 use Rattle.promises.specs.Whole.{WholeFor}
 use Rattle.promises.specs.OwnedPages.{pagesOwned, objects-on-pages}
 use Rattle.mark.specs.Survivors.{Marked}
@@ -44,9 +44,9 @@ module _ (s : Sizes) (w : Words) (r : ℕ) (w₁ : Words) (M : Marked s w (partO
   -- those that go to region q are as many as the rules say
   pub hits-landed : WholeFor s w → 0 < r → (q : ℕ) → 0 < q → hits s (w₁ .cells) (w₁ .tables) q ≡ landed s (graphOf s w) r q
   unfolding hits landed hit
-  hits-landed k rpos q pos = sum-same _ _ (16 * s .pages) (λ c l. each c l (ℕ-discrete (marked s (w₁ .tables) c) 1) (ℕ-discrete (homeIn s w c) r))
+  hits-landed k rpos q pos = sum-same _ _ (cellCount s) (λ c l. each c l (ℕ-discrete (marked s (w₁ .tables) c) 1) (ℕ-discrete (homeIn s w c) r))
     where
-      each : (c : ℕ) → c < 16 * s .pages → Dec (marked s (w₁ .tables) c ≡ 1) → Dec (homeIn s w c ≡ r)
+      each : (c : ℕ) → c < cellCount s → Dec (marked s (w₁ .tables) c ≡ 1) → Dec (homeIn s w c ≡ r)
           → marked s (w₁ .tables) c * cond (eqb (workOf (w₁ .cells) c) q) 1 0 ≡ cond (eqb (homeIn s w c) r) (cond (eqb (target s (graphOf s w) r c) q) 1 0) 0
       each c l (yes on) (no n) = let o = M .only c (omega arith) on in absurd (n (cell-home s w k c r (o .0) (o .1)))
       each c l (yes on) (yes e) =

@@ -9,7 +9,7 @@ use lib.ListN.{length, getD}
 use Rattle.rules.specs.declared.Sizes.{Sizes}
 use Rattle.laws.specs.SameRules.{renamed}
 use Rattle.layout.specs.Places.{Room, varOf, ownerOf, usedOf}
-use Rattle.layout.specs.Cells.{headAt, fieldAt, wordAt, headOf, workOf, fieldOf, cellNamed, refTo, pageOf, cellOn, mostFields}
+use Rattle.layout.specs.Cells.{headAt, fieldAt, wordAt, headOf, workOf, fieldOf, cellNamed, refTo, pageOf, cellOn, mostFields, cellWords}
 use Rattle.layout.specs.Marks.{marked}
 use Rattle.layout.specs.Words.{Words, InUse, Used, ownerIn, headIn, refCount}
 use Rattle.promises.specs.Whole.{WholeFor}
@@ -67,7 +67,7 @@ forwarded-placed W (suc c) = go (ℕ-discrete (workOf W c) 0)
 module _ {s : Sizes} {w w₁ : Words} {e : Part} (whole : WholeFor s w) (sends : Sends s w e) (m : Marked s w e w₁) (rm : Room s (length (w .tables)))
     {W T : List ℕ} (F : Forwards s (w₁ .cells) (w₁ .tables) W T) where
   -- the words of an old cell other than word 1 are as they were, and a copy has those of its survivor
-  old-word : (c i : ℕ) → i < 16 → Used s w c → i ≢ 1 → getD W (wordAt c i) 0 ≡ getD (w₁ .cells) (wordAt c i) 0
+  old-word : (c i : ℕ) → i < cellWords → Used s w c → i ≢ 1 → getD W (wordAt c i) 0 ≡ getD (w₁ .cells) (wordAt c i) 0
   old-word c i l u n = F .copying .words c i l (now-used m rm c u) n
 
   module _ (c : ℕ) (o : Outside s w e c) where
@@ -138,7 +138,7 @@ module _ {s : Sizes} {w w₁ : Words} {e : Part} (whole : WholeFor s w) (sends :
     pub placed-out : e .ends (pageOf (placed W c)) → ⊥
     placed-out = by-kind (λ d. e .ends (pageOf d) → ⊥) c (λ o. o .out) (survivor-out c) l
 
-    word : (i : ℕ) → i < 16 → i ≢ 1 → getD W (wordAt (placed W c) i) 0 ≡ getD (w₁ .cells) (wordAt c i) 0
+    word : (i : ℕ) → i < cellWords → i ≢ 1 → getD W (wordAt (placed W c) i) 0 ≡ getD (w₁ .cells) (wordAt c i) 0
     word i h n =
         by-kind (λ d. getD W (wordAt d i) 0 ≡ getD (w₁ .cells) (wordAt c i) 0) c (λ o. old-word c i h (o .used) n)
         (λ v. F .moved c (v .used .page) (on c v) .body i h n) l

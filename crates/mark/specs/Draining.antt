@@ -3,16 +3,17 @@ use mathlib.Core.Path.{_≡_, refl, sym, _∙_, subst, subst₂}
 use mathlib.Core.Logic.{_≢_, _⊎_, inl, inr, ⊎-elim}
 use mathlib.Core.Bool.{Bool, true}
 use mathlib.Core.List.{List, [], _∷_, _++_}
-use Prim.Native.Nat.{ℕ, _+_, _-_, _*_, _≤_, _<_}
+use Prim.Native.Nat.{ℕ, _+_, _-_, _≤_, _<_}
 use native.Mathlib.Omega.{arith}
 use lib.ListN.{length, set}
 use Rattle.lists.specs.Members.{In, Distinct, in?, in-append, in-left, in-right}
 use Rattle.lists.specs.Pigeonhole.{distinct-few}
 use Rattle.lists.specs.Says.{Says}
 use Rattle.rules.specs.declared.Sizes.{Sizes}
-use Rattle.layout.specs.Cells.{workAt, workOf, fieldOf, pageOf, refsOf}
+use Rattle.layout.specs.Places.{cellsWords}
+use Rattle.layout.specs.Cells.{workAt, workOf, fieldOf, pageOf, refsOf, mostFields}
 use Rattle.layout.specs.Marks.{marked}
-use Rattle.layout.specs.Words.{InUse}
+use Rattle.layout.specs.Words.{InUse, cellCount}
 use Rattle.promises.specs.Whole.{IsRef}
 use Rattle.mark.specs.Marks.{owner, Shaped, Reach, Reach.held, Reach.via, Chain, named, named-in, named-from, Kept, kept-refs, kept-field, kept-owner, kept-shaped, AnyMarked}
 use Rattle.mark.specs.Marking.{Marking, marking-start, popped-top}
@@ -63,10 +64,10 @@ pub draining-start : {p : Sizes} {r g : ℕ} {W₀ T₀ S₀ W T : List ℕ} {to
 draining-start h = record { done = []; stack = h .stack; count = refl; marking = h .marking; closed = λ c f d i. absurd i; all-held = h .all-held }
 
 -- no more turns than there are cells
-draining-few : {p : Sizes} {r g : ℕ} {W₀ T₀ S₀ W T : List ℕ} {top n : ℕ} → Draining p r g W₀ T₀ S₀ W T top n → n ≤ 16 * p .pages
+draining-few : {p : Sizes} {r g : ℕ} {W₀ T₀ S₀ W T : List ℕ} {top n : ℕ} → Draining p r g W₀ T₀ S₀ W T top n → n ≤ cellCount p
 draining-few {p} h =
     let m = h .marking in
-    let b : length (h .done) ≤ 16 * p .pages = distinct-few (16 * p .pages) (h .done) (m .distinct-done) (λ c i. omega (arith, m .in-use c (inr i) .page)) in
+    let b : length (h .done) ≤ cellCount p = distinct-few (cellCount p) (h .done) (m .distinct-done) (λ c i. omega (arith, m .in-use c (inr i) .page)) in
     omega (arith, h .count)
 
 -- one turn: a pop and a scan
@@ -80,7 +81,7 @@ draining-turn {p} {r} {g} {W₀} {T₀} {S₀} {W} {T} {top} {n} h ne {W′} {T�
     let X : List ℕ = set W (workAt b) g in
     let q = popped-top (h .stack) ne (h .marking) in
     let m = q .2 in
-    let few : refsOf X b ≤ 14 = m .shaped .refs-few b (q .0) in
+    let few : refsOf X b ≤ mostFields = m .shaped .refs-few b (q .0) in
     let same : refsOf X b ≡ refsOf W₀ b = kept-refs (m .kept) b in
     let m′ =
     pushes-marking (fieldOf X b) (refsOf X b) (m .shaped) m
@@ -181,8 +182,8 @@ module _ {p : Sizes} {r g : ℕ} {W₀ T₀ S₀ W T : List ℕ} {n : ℕ} (d : 
 pub record Facts (p : Sizes) (b len n : ℕ) : Type 0 where
   pub page : pageOf b < p .pages
   pub few : p .pages ≤ 1024
-  pub long : 256 * p .pages ≤ len
-  pub counted : n ≤ 16 * p .pages
+  pub long : cellsWords p ≤ len
+  pub counted : n ≤ cellCount p
 
 module _ {p : Sizes} {r g : ℕ} {W₀ T₀ S₀ W T : List ℕ} {top n : ℕ} (h : Draining p r g W₀ T₀ S₀ W T top n) (ne : top ≢ 0) (b : ℕ) (e : b ≡ top - 1) where
   pub turn-facts : Facts p b (length W) n

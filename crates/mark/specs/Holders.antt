@@ -12,7 +12,7 @@ use borrow.Author.Tests.{eq-eqb, ne-eqb}
 use Rattle.lists.specs.Members.{In, in-append}
 use Rattle.rules.specs.Regions.{join}
 use Rattle.rules.specs.declared.Sizes.{Sizes}
-use Rattle.layout.specs.Places.{Room, varOf, ownerOf, usedIn, slotIn, slotRegionIn, varsFrom}
+use Rattle.layout.specs.Places.{Room, varOf, ownerOf, usedIn, slotIn, slotRegionIn, varsFrom, cellsWords, rememberWords}
 use Rattle.layout.specs.Cells.{pageOf, cellOf, wordOf}
 use Rattle.layout.specs.Words.{InUse}
 use Rattle.promises.specs.Whole.{IsRef}
@@ -43,10 +43,10 @@ heldCells p W m T r thread outer g = named (varHeld p T thread outer g) (p .thre
 -- what holders hold is null or names a cell in use, and remembered slots are no working words
 pub record Holding (p : Sizes) (W m T : List ℕ) : Type 0 where
   pub some : 1 ≤ p .variables
-  pub long : 2 * p .entries + 2 ≤ length m
+  pub long : rememberWords p ≤ length m
   pub few : usedIn m ≤ p .entries
   pub variables : (i : ℕ) → i < p .threads * p .variables → IsRef p W T (varOf p T i)
-  pub slot : (i : ℕ) → i < usedIn m → slotIn m i < 256 * p .pages
+  pub slot : (i : ℕ) → i < usedIn m → slotIn m i < cellsWords p
   pub field : (i : ℕ) → i < usedIn m → wordOf (slotIn m i) ≡ 1 → ⊥
   pub slots : (i : ℕ) → i < usedIn m → IsRef p W T (getD W (slotIn m i) 0)
 

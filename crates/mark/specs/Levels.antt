@@ -7,7 +7,7 @@ use native.Mathlib.Decide.{ℕ-discrete}
 use native.Mathlib.Omega.{arith}
 use Rattle.lists.specs.Members.{In, in?}
 use Rattle.rules.specs.declared.Sizes.{Sizes}
-use Rattle.layout.specs.Cells.{workOf, fieldOf, pageOf, refsOf}
+use Rattle.layout.specs.Cells.{workOf, fieldOf, pageOf, refsOf, mostFields}
 use Rattle.layout.specs.Marks.{marked}
 use Rattle.layout.specs.Words.{InUse}
 use Rattle.mark.specs.Marks.{owner, Shaped, Kept, kept-refl, kept-trans, kept-refs, kept-field, kept-owner, Reach, Reach.held, Reach.via, Leads, Leads.here, Leads.step}
@@ -71,7 +71,7 @@ module _ {p : Sizes} {r n : ℕ} {gs : ℕ → ℕ} {calls : ℕ → List ℕ} {
       let h = reach-held b q in
       let i = d .complete c (via q f lt e own off) in
       let u = d .in-use b (d .complete b q) in
-      let few : refsOf W b ≤ 14 = L .shaped .refs-few b u in
+      let few : refsOf W b ≤ mostFields = L .shaped .refs-few b u in
       record {
         first = h .first;
         called = h .called;
@@ -85,7 +85,7 @@ module _ {p : Sizes} {r n : ℕ} {gs : ℕ → ℕ} {calls : ℕ → List ℕ} {
     where
       go : Dec (In b (d .done)) → marked p T′ c ≡ 1
       go (yes i) =
-          let few : refsOf W₀ b ≤ 14 = s₀ .refs-few b u in
+          let few : refsOf W₀ b ≤ mostFields = s₀ .refs-few b u in
           let v = s₀ .references b u f lt (omega arith) in
           let w : fieldOf W₀ b f - 1 ≡ c = omega arith in
           d .closed b f c i (omega (arith, kept-refs (L .kept) b)) (kept-field (L .kept) b f (omega arith) ∙ e)

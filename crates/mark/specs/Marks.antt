@@ -2,7 +2,7 @@
 use mathlib.Core.Path.{_≡_, refl, sym, ap, _∙_, subst, subst₂}
 use mathlib.Core.Logic.{_≢_, _⊎_, inl, inr, ⊎-elim}
 use mathlib.Core.List.{List, [], _∷_}
-use Prim.Native.Nat.{ℕ, zero, suc, _+_, _-_, _*_, _/_, _%_, _^_, _≤_, _<_}
+use Prim.Native.Nat.{ℕ, zero, suc, _+_, _-_, _^_, _≤_, _<_}
 use native.Mathlib.Decide.{ℕ-discrete, decLt}
 use native.Mathlib.Omega.{arith}
 use lib.ListN.{length, getD, set}
@@ -10,8 +10,9 @@ use lib.Seq.{getD-set-same, getD-set-other}
 use Rattle.lists.specs.Bits.{bitAt, bit-lt, no-bits, none-high, set-same, set-other}
 use Rattle.lists.specs.Members.{In}
 use Rattle.rules.specs.declared.Sizes.{Sizes}
-use Rattle.layout.specs.Places.{Room, ownerOf, usedOf, markAt, markOf, marksFrom, ownersFrom, usedFrom}
-use Rattle.layout.specs.Cells.{workAt, workOf, fieldOf, refsOf, pageOf, placeOf, cellOn}
+use Rattle.layout.specs.declared.Kind.the-variants.{Reference}
+use Rattle.layout.specs.Places.{Room, ownerOf, usedOf, markAt, markOf, marksFrom, ownersFrom, usedFrom, cellsWords}
+use Rattle.layout.specs.Cells.{workAt, workOf, fieldOf, refsOf, pageOf, placeOf, cellOn, fieldAt, fieldCount, headAt, mostFields, pageCells, wordOf}
 use Rattle.layout.specs.Marks.{marked}
 use Rattle.layout.specs.Words.{InUse}
 use Rattle.promises.specs.Whole.{IsRef}
@@ -20,11 +21,11 @@ use Rattle.promises.specs.Whole.{IsRef}
 abbrev pub owner : Sizes → List ℕ → ℕ → ℕ
 owner p T c = ownerOf p T (pageOf c)
 
--- the slices are long enough, and cells in use have at most 14 references, each null or to a cell in use
+-- the slices are long enough, and cells in use have at most as many references as an object has fields, each null or to a cell in use
 pub record Shaped (p : Sizes) (W T : List ℕ) : Type 0 where
   pub room : Room p (length T)
-  pub cells-long : 256 * p .pages ≤ length W
-  pub refs-few : (c : ℕ) → InUse p T c → refsOf W c ≤ 14
+  pub cells-long : cellsWords p ≤ length W
+  pub refs-few : (c : ℕ) → InUse p T c → refsOf W c ≤ mostFields
   pub references : (c : ℕ) → InUse p T c → (f : ℕ) → f < refsOf W c → IsRef p W T (fieldOf W c f)
 
 -- c is r's and not marked, and a chain of slots inside r leads to it from one of the cells S, over cells that are not marked
@@ -108,7 +109,7 @@ Pushed p r W T top x W′ T′ top′ = Skipped p r W T top x W′ T′ top′ �
 pub record Kept (p : Sizes) (W T W′ T′ : List ℕ) : Type 0 where
   pub cells-length : length W′ ≡ length W
   pub tables-length : length T′ ≡ length T
-  pub words : (q : ℕ) → q % 16 ≢ 1 → getD W′ q 0 ≡ getD W q 0
+  pub words : (q : ℕ) → wordOf q ≢ 1 → getD W′ q 0 ≡ getD W q 0
   pub tables : (q : ℕ) → (q < marksFrom p) ⊎ (marksFrom p + p .pages ≤ q) → getD T′ q 0 ≡ getD T q 0
   pub high : (q i : ℕ) → 16 ≤ i → bitAt (getD T′ q 0) i ≡ bitAt (getD T q 0) i
 
@@ -127,10 +128,10 @@ kept-trans a b =
 
 module _ {p : Sizes} {W T W′ T′ : List ℕ} (k : Kept p W T W′ T′) where
   pub kept-refs : (c : ℕ) → refsOf W′ c ≡ refsOf W c
-  kept-refs c = ap (λ (x : ℕ). x / 16) (k .words (16 * c) (omega arith))
+  kept-refs c = ap (fieldCount Reference) (k .words (headAt c) (omega arith))
 
-  pub kept-field : (c f : ℕ) → f < 14 → fieldOf W′ c f ≡ fieldOf W c f
-  kept-field c f h = k .words (16 * c + 2 + f) (omega arith)
+  pub kept-field : (c f : ℕ) → f < mostFields → fieldOf W′ c f ≡ fieldOf W c f
+  kept-field c f h = k .words (fieldAt c f) (omega arith)
 
   module _ (room : Room p (length T)) where
     pub kept-owner : (c : ℕ) → pageOf c < p .pages → owner p T′ c ≡ owner p T c
@@ -156,7 +157,7 @@ module _ {p : Sizes} {W T W′ T′ : List ℕ} (k : Kept p W T W′ T′) where
         refs-few = λ c u. omega (arith, s .refs-few c (in-use-kept (s .room) c u), kept-refs c);
         references = λ c u f h.
             let v : InUse p T c = in-use-kept (s .room) c u in
-            let l : refsOf W c ≤ 14 = s .refs-few c v in
+            let l : refsOf W c ≤ mostFields = s .refs-few c v in
             let b : f < refsOf W c = omega (arith, kept-refs c) in
             let e : fieldOf W′ c f ≡ fieldOf W c f = kept-field c f (omega arith) in
             subst (IsRef p W′ T′) (sym e) (λ n. kept-in-use (s .room) (fieldOf W c f - 1) (s .references c v f b n));
@@ -171,7 +172,7 @@ AnyMarked p T = (c : ℕ) × (pageOf c < p .pages) × (marked p T c ≡ 1)
 pub page-unmarked : (p : Sizes) (T : List ℕ) (page : ℕ) → markOf p T page < 2 ^ 16 → ((c : ℕ) → pageOf c ≡ page → marked p T c ≡ 1 → ⊥) → markOf p T page ≡ 0
 page-unmarked p T page small none = no-bits (markOf p T page) (λ i. go i (decLt i 16))
   where
-    go : (i : ℕ) → Dec (i < 16) → bitAt (markOf p T page) i ≡ 0
+    go : (i : ℕ) → Dec (i < pageCells) → bitAt (markOf p T page) i ≡ 0
     go i (no h) = none-high 16 (markOf p T page) i small (omega arith)
     go i (yes h) = off (ℕ-discrete (bitAt (markOf p T page) i) 1)
       where

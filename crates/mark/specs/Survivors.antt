@@ -4,7 +4,7 @@ use mathlib.Core.Path.{_≡_, refl, sym, ap, _∙_, subst, subst₂}
 use mathlib.Core.Logic.{inl, inr, ⊎-elim}
 use mathlib.Core.Bool.{Bool, false}
 use mathlib.Core.List.{List}
-use Prim.Native.Nat.{ℕ, zero, suc, _+_, _-_, _/_, _%_, _^_, _≤_, _<_}
+use Prim.Native.Nat.{ℕ, zero, suc, _+_, _-_, _^_, _≤_, _<_}
 use native.Mathlib.Omega.{arith}
 use native.Mathlib.Decide.{ℕ-discrete, decLt}
 use lib.ListN.{length, getD}
@@ -17,7 +17,7 @@ use Rattle.laws.specs.RegionLaws.{region-high}
 use Rattle.laws.specs.JoinLaws.{further-out}
 use Rattle.laws.specs.GraphLaws.{Reaches, target-absorbs, target-reached, target-called, target-furthest}
 use Rattle.layout.specs.Places.{depthOf, markAt, markOf, Room, room, marksFrom}
-use Rattle.layout.specs.Cells.{workAt, workOf, pageOf, placeOf}
+use Rattle.layout.specs.Cells.{workAt, workOf, pageOf, placeOf, cellOf, wordOf}
 use Rattle.layout.specs.Marks.{marked}
 use Rattle.layout.specs.Words.{Words, words, Used, ownerIn, depthIn, graphOf}
 use Rattle.promises.specs.Whole.{WholeFor}
@@ -115,7 +115,7 @@ module _ (s : Sizes) (w : Words) (k : WholeFor s w) (space : Room s (length (w .
         freed = λ c u own z. off c (λ b. let f = L .found c (u .page) b in omega (arith, first-target c (f .0) (f .1), target-absorbs s (graphOf s w) r c (regionAt s t (f .0)) (held-reaches (f .0) c (f .1 .reached)) .some));
         only = found-owned;
         small = λ page l. high-none 16 (markOf s T′ page) (λ i h. L .kept .high (markAt s page) i h ∙ ap (λ (x : ℕ). bitAt x i) (k .marks page l) ∙ bit-zero i);
-        cells = λ q n. word q n (ℕ-discrete (q % 16) 1);
+        cells = λ q n. word q n (ℕ-discrete (wordOf q) 1);
         tables = λ q n. table q n (decLt q (marksFrom s)) (decLt q (marksFrom s + s .pages));
         remember = refl;
         cells-length = L .kept .cells-length;
@@ -135,12 +135,12 @@ module _ (s : Sizes) (w : Words) (k : WholeFor s w) (space : Room s (length (w .
       work c n (yes b) (yes d) = let f = found-owned c b d in absurd (n (f .0) (f .1))
       work c n (yes b) (no d) = L .lost c b (off c d) .0
 
-      word : (q : ℕ) → ((c : ℕ) → q ≡ workAt c → Used s w c → ownerIn s w (pageOf c) ≡ r → ⊥) → Dec (q % 16 ≡ 1) → getD W′ q 0 ≡ getD (w .cells) q 0
+      word : (q : ℕ) → ((c : ℕ) → q ≡ workAt c → Used s w c → ownerIn s w (pageOf c) ≡ r → ⊥) → Dec (wordOf q ≡ 1) → getD W′ q 0 ≡ getD (w .cells) q 0
       word q n (no d) = L .kept .words q d
       word q n (yes d) =
-          let e : workAt (q / 16) ≡ q = omega arith in
+          let e : workAt (cellOf q) ≡ q = omega arith in
           subst (λ (z : ℕ). getD W′ z 0 ≡ getD (w .cells) z 0) e
-          (work (q / 16) (n (q / 16) (sym e)) (decLt (pageOf (q / 16)) (s .pages)) (ℕ-discrete (marked s T′ (q / 16)) 1))
+          (work (cellOf q) (n (cellOf q) (sym e)) (decLt (pageOf (cellOf q)) (s .pages)) (ℕ-discrete (marked s T′ (cellOf q)) 1))
 
       table : (q : ℕ) → ((page : ℕ) → page < s .pages → q ≡ markAt s page → ⊥) → Dec (q < marksFrom s) → Dec (q < marksFrom s + s .pages) → getD T′ q 0 ≡ getD (w .tables) q 0
       table q n (yes l) d = L .kept .tables q (inl l)

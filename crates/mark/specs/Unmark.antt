@@ -2,7 +2,7 @@
 use mathlib.Core.Path.{_≡_, refl, sym, ap, _∙_, subst, subst₂}
 use mathlib.Core.Logic.{_≢_}
 use mathlib.Core.List.{List}
-use Prim.Native.Nat.{ℕ, _+_, _-_, _*_, _/_, _%_, _^_, _≤_, _<_}
+use Prim.Native.Nat.{ℕ, _+_, _-_, _^_, _≤_, _<_}
 use native.Mathlib.Decide.{ℕ-discrete, decLt}
 use native.Mathlib.Omega.{arith}
 use lib.Count.{ones}
@@ -13,7 +13,7 @@ use Rattle.lists.specs.Bits.{bitAt, bit-lt, bit-zero, clear-same, clear-other, 
 use Rattle.lists.specs.SetBits.{Walked, walk-turn, walk-end}
 use Rattle.rules.specs.declared.Sizes.{Sizes}
 use Rattle.layout.specs.Places.{markAt, markOf, marksFrom}
-use Rattle.layout.specs.Cells.{workAt, workOf, pageOf, placeOf, cellOn}
+use Rattle.layout.specs.Cells.{workAt, workOf, pageOf, placeOf, cellOn, cellOf, firstOn, headAt, wordOf}
 use Rattle.layout.specs.Marks.{marked}
 use Rattle.layout.specs.Words.{Words, Used, usedIn}
 use Rattle.promises.specs.Whole.{WholeFor}
@@ -25,7 +25,7 @@ use Rattle.mark.specs.Survivors.{Marked}
 -- word 1 of the cells of a page whose bit is set in w and no more in left is 0, and nothing else is changed
 pub record PageCleared (page w left : ℕ) (W W′ : List ℕ) : Type 0 where
   pub cells-length : length W′ ≡ length W
-  pub words : (x : ℕ) → x % 16 ≢ 1 → getD W′ x 0 ≡ getD W x 0
+  pub words : (x : ℕ) → wordOf x ≢ 1 → getD W′ x 0 ≡ getD W x 0
   pub cleared : (c : ℕ) → pageOf c ≡ page → bitAt w (placeOf c) ≡ 1 → bitAt left (placeOf c) ≡ 0 → workOf W′ c ≡ 0
   pub same : (c : ℕ) → (pageOf c ≡ page → bitAt w (placeOf c) ≡ 1 → bitAt left (placeOf c) ≡ 0 → ⊥) → workOf W′ c ≡ workOf W c
 
@@ -39,7 +39,7 @@ page-start page w W =
     }
 
 -- d is the cell of the lowest bit, as the code has it
-pub page-clear : {page w left k : ℕ} {W W′ : List ℕ} (i d : ℕ) → d ≡ cellOn page i → 256 * page + 256 ≤ length W → Walked w left k → Lowest left i → PageCleared page w left W W′
+pub page-clear : {page w left k : ℕ} {W W′ : List ℕ} (i d : ℕ) → d ≡ cellOn page i → headAt (firstOn (page + 1)) ≤ length W → Walked w left k → Lowest left i → PageCleared page w left W W′
     → PageCleared page w (left - 2 ^ i) W (set W′ (workAt d) 0)
 page-clear {page} {w} {left} {k} {W} {W′} i d e long u l h =
     record {
@@ -71,7 +71,7 @@ page-clear {page} {w} {left} {k} {W} {W′} i d e long u l h =
         ∙ h .same c (λ a b y. let ne : placeOf c ≢ i = (λ y. z (omega arith)) in n a b (clear-other i (placeOf c) left (l .on) ne ∙ y))
 
 -- X is the cells after the store, left′ what is left of the word
-pub page-turn : {page w left k : ℕ} {W W′ : List ℕ} (i d left′ : ℕ) (X : List ℕ) → d ≡ cellOn page i → 256 * page + 256 ≤ length W → Walked w left k → Lowest left i
+pub page-turn : {page w left k : ℕ} {W W′ : List ℕ} (i d left′ : ℕ) (X : List ℕ) → d ≡ cellOn page i → headAt (firstOn (page + 1)) ≤ length W → Walked w left k → Lowest left i
     → PageCleared page w left W W′ → X ≡ set W′ (workAt d) 0 → left′ ≡ left - 2 ^ i → Walked w left′ (k + 1) × PageCleared page w left′ W X
 page-turn {page} {w} {left} {k} {W} {W′} i d left′ X e long u l h a b = (
   walk-turn i left′ u l b,
@@ -86,7 +86,7 @@ page-end {page} {w} {left} {k} {W} {W′} u l h = subst (λ (z : ℕ). PageClear
 pub record Unmarked (p : Sizes) (n : ℕ) (W T W′ T′ : List ℕ) : Type 0 where
   pub cells-length : length W′ ≡ length W
   pub tables-length : length T′ ≡ length T
-  pub words : (x : ℕ) → x % 16 ≢ 1 → getD W′ x 0 ≡ getD W x 0
+  pub words : (x : ℕ) → wordOf x ≢ 1 → getD W′ x 0 ≡ getD W x 0
   pub tables : (x : ℕ) → ((page : ℕ) → page < n → x ≡ markAt p page → ⊥) → getD T′ x 0 ≡ getD T x 0
   pub marks : (page : ℕ) → page < n → markOf p T′ page ≡ 0
   pub cleared : (c : ℕ) → pageOf c < n → marked p T c ≡ 1 → workOf W′ c ≡ 0
@@ -232,8 +232,8 @@ module _ (s : Sizes) (w : Words) (k : WholeFor s w) (e : Part) (w′ : Words) (M
       go (no b) d = U .same c (λ l. absurd (b l)) ∙ M .cells (workAt c) (λ d e v o. b (subst (λ (z : ℕ). pageOf z < s .pages) (let z : d ≡ c = omega arith in z) (v .page)))
 
   pub cells-back : W ≡ w .cells
-  cells-back = ext-getD 0 W (w .cells) (U .cells-length ∙ M .cells-length) (λ x l. go x (ℕ-discrete (x % 16) 1))
+  cells-back = ext-getD 0 W (w .cells) (U .cells-length ∙ M .cells-length) (λ x l. go x (ℕ-discrete (wordOf x) 1))
     where
-      go : (x : ℕ) → Dec (x % 16 ≡ 1) → getD W x 0 ≡ getD (w .cells) x 0
-      go x (yes e) = let y : workAt (x / 16) ≡ x = omega arith in subst (λ (z : ℕ). getD W z 0 ≡ getD (w .cells) z 0) y (work-back (x / 16))
+      go : (x : ℕ) → Dec (wordOf x ≡ 1) → getD W x 0 ≡ getD (w .cells) x 0
+      go x (yes e) = let y : workAt (cellOf x) ≡ x = omega arith in subst (λ (z : ℕ). getD W z 0 ≡ getD (w .cells) z 0) y (work-back (cellOf x))
       go x (no ne) = U .words x ne ∙ M .cells x (λ c e u own. ne (omega arith))

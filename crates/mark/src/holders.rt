@@ -4,7 +4,7 @@ ghost use mathlib.Core.Path.{_≡_};
 ghost use mathlib.Core.List.{List};
 ghost use Prim.Native.Nat.{ℕ, _+_, _*_, _<_, _≤_};
 ghost use lib.ListN.{length};
-ghost use Rattle.layout.specs.Places.{Room, usedIn, slotIn};
+ghost use Rattle.layout.specs.Places.{Room, usedIn, slotIn, cellsWords, rememberWords};
 ghost use Rattle.mark.specs.Marks.{Shaped};
 ghost use Rattle.mark.specs.Pushes.{Pushing};
 ghost use Rattle.mark.specs.Holders.{varCalls, varHeld, slotHeld, Holding};
@@ -45,8 +45,8 @@ pub fn slot_for(
     i: usize,
 ) -> u32
     requires { ⌜ Room p (length (now tables)) ⌝ }
-    requires { ⌜ (256 * p .pages ≤ length (now cells)) × (2 * p .entries + 2 ≤ length (now remember)) ⌝ }
-    requires { ⌜ (i < p .entries) × (slotIn (now remember) i < 256 * p .pages) ⌝ }
+    requires { ⌜ (cellsWords p ≤ length (now cells)) × (rememberWords p ≤ length (now remember)) ⌝ }
+    requires { ⌜ (i < p .entries) × (slotIn (now remember) i < cellsWords p) ⌝ }
     ensures { λ x. ⌜ x ≡ slotHeld p (now (cells .entry)) (now (remember .entry)) (now (tables .entry)) r g i ⌝ }
 {
     if layout::remember::region(p.entries, remember, i) != r {

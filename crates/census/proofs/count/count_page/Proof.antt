@@ -6,7 +6,7 @@ use native.Mathlib.Nat.{zero-add}
 use borrow.Author.Needs.{needs}
 use lib.Count.{ones, ones-le, trailingZeros}
 use lib.ListN.{length}
-use Rattle.layout.specs.Cells.{cellOn, workOf}
+use Rattle.layout.specs.Cells.{cellOn, workOf, mostFields}
 use Rattle.layout.specs.Words.{InUse}
 use Rattle.lists.specs.SetBits.{Walked, walk-start, walk-lowest, walk-turn}
 use Rattle.census.specs.Counted.{Summed, summed-start, summed-next, summed-end, Tallied, tallied-start, tallied-next, tallied-end}
@@ -16,7 +16,7 @@ use Rattle.census.proofs.count.count_page.Tie as tie
 
 abbrev Inv-loop : tie.InvT-loop
 Inv-loop p cells tables r come₀ w page marks left₀ n₀ k₀ come left n k =
-    (marks ≡ ones w) × Walked w left k × Summed (λ i. cellCrosses p cells tables r (cellOn page i)) w left 0 n × (n ≤ 14 * k) × Tallied cells page w left come₀ come k
+    (marks ≡ ones w) × Walked w left k × Summed (λ i. cellCrosses p cells tables r (cellOn page i)) w left 0 n × (n ≤ mostFields * k) × Tallied cells page w left come₀ come k
 
 abbrev μ-loop : tie.MeasureT-loop
 μ-loop p cells tables r come₀ w page marks left₀ n₀ k₀ come left n k =

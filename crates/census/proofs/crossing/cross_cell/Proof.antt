@@ -1,10 +1,11 @@
 -- n counts the first f slots.
-use Prim.Native.Nat.{ℕ, _≤_, _-_, _/_}
+use Prim.Native.Nat.{_≤_, _-_}
 use mathlib.Core.Path.{_≡_, refl, sym, ap, ap₂, _∙_, subst}
 use native.Mathlib.Omega.{arith}
 use borrow.Author.Needs.{needs}
 use Rattle.lists.specs.Counting.{sum, sum-more}
-use Rattle.layout.specs.Cells.{headOf, workOf, fieldOf}
+use Rattle.layout.specs.declared.Kind.the-variants.{Reference}
+use Rattle.layout.specs.Cells.{workOf, fieldOf, fieldCount, mostFields, refsOf}
 use Rattle.promises.specs.Whole.{IsRef}
 use Rattle.census.specs.After.{crossAfter, cross-le, cells-cross}
 use Rattle.census.proofs.crossing.cross_cell.Statement.{statement}
@@ -12,7 +13,7 @@ use Rattle.census.proofs.crossing.cross_cell.Tie as tie
 
 abbrev Inv-loop : tie.InvT-loop
 Inv-loop p cells tables r c home refs n₀ f₀ n f =
-    (f ≤ refs) × (refs ≡ headOf cells c / 16) × (refs ≤ 14) × (home ≡ workOf cells c) × (n ≡ sum (λ f. crossAfter p cells tables r (workOf cells c) (fieldOf cells c f)) f) × (n ≤ f)
+    (f ≤ refs) × (refs ≡ refsOf cells c) × (refs ≤ mostFields) × (home ≡ workOf cells c) × (n ≡ sum (λ f. crossAfter p cells tables r (workOf cells c) (fieldOf cells c f)) f) × (n ≤ f)
 
 abbrev μ-loop : tie.MeasureT-loop
 μ-loop p cells tables r c home refs n₀ f₀ n f =
@@ -36,7 +37,7 @@ loop-holds : tie.Need-loop-holds Inv-loop μ-loop
 loop-holds c =
     let args = c .before .before .before .before .before .args in
     let pre = c .before .before .before .before .before .pre in
-    let e : c .field-count .result ≡ headOf (args .cells .now) (args .c) / 16 = c .field-count .ensures ∙ ap (λ (x : ℕ). x / 16) (c .before .head .ensures) in
+    let e : c .field-count .result ≡ refsOf (args .cells .now) (args .c) = c .field-count .ensures ∙ ap (fieldCount Reference) (c .before .head .ensures) in
     (omega arith, e, omega (arith, pre .0 .refs-few (args .c) (pre .1)), c .before .before .work .ensures, refl, omega arith)
 
 field-requires : tie.Need-field-requires Inv-loop μ-loop
@@ -77,7 +78,7 @@ returns : tie.Need-returns Inv-loop μ-loop
 returns c =
     let args = c .before .before .before .before .before .before .before .args in
     let loop = c .before .loop in
-    let e : loop .f ≡ headOf (args .cells .now) (args .c) / 16 = omega arith in
+    let e : loop .f ≡ refsOf (args .cells .now) (args .c) = omega arith in
     (cells-cross (args .p) (args .cells .now) (args .tables .now) (args .r) (args .c) (loop .f) (loop .n) e (loop .inv .4), omega (arith, loop .inv .5, loop .inv .2, loop .inv .0))
 
 pub cross-cell-spec : {M : Type 1} → statement M

@@ -1,9 +1,10 @@
 -- Popped cells are done: marked, with g in word 1, and what they name is marked. No cell is popped twice, so the turns are few.
 use mathlib.Core.Path.{_≡_, refl, sym, _∙_}
 use mathlib.Core.List.{List}
-use Prim.Native.Nat.{ℕ, _+_, _-_, _*_}
+use Prim.Native.Nat.{ℕ, _+_, _-_}
 use native.Mathlib.Omega.{arith}
 use lib.ListN.{length}
+use Rattle.layout.specs.Words.{cellCount}
 use Rattle.mark.specs.Draining.{Pending, Draining, draining-start, turn-facts, turn-asks, turn-read, draining-kept, drained}
 use Rattle.mark.proofs.drain.drain.Statement.{statement}
 use Rattle.mark.proofs.drain.drain.Tie as tie
@@ -15,7 +16,7 @@ Inv-loop p cells₀ tables₀ r g top t₀ count₀ cells tables t count =
 
 abbrev μ-loop : tie.MeasureT-loop
 μ-loop p cells₀ tables₀ r g top t₀ count₀ cells tables t count =
-    16 * p .pages + 1 - count
+    cellCount p + 1 - count
 
 loop-holds : tie.Need-loop-holds Inv-loop μ-loop
 loop-holds c =

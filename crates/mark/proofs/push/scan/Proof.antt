@@ -1,10 +1,11 @@
 -- What the first f slots name is pushed. The slots are read where other cells' links were written, and pushes keep them.
 use mathlib.Core.Path.{_≡_, refl, ap, _∙_, subst}
-use Prim.Native.Nat.{ℕ, _≤_, _<_, _-_, _/_}
+use Prim.Native.Nat.{ℕ, _≤_, _<_, _-_}
 use native.Mathlib.Omega.{arith}
 use borrow.Author.Needs.{needs}
 use lib.ListN.{length}
-use Rattle.layout.specs.Cells.{fieldOf, refsOf}
+use Rattle.layout.specs.declared.Kind.the-variants.{Reference}
+use Rattle.layout.specs.Cells.{fieldOf, refsOf, fieldCount, mostFields}
 use Rattle.mark.specs.Marks.{kept-field}
 use Rattle.mark.specs.Pushes.{Pushing, pushing-start, pushing-kept, pushing-shaped, ref-read, push-read, pushes-kept}
 use Rattle.mark.proofs.push.scan.Statement.{statement}
@@ -12,7 +13,7 @@ use Rattle.mark.proofs.push.scan.Tie as tie
 
 abbrev Inv-loop : tie.InvT-loop
 Inv-loop p cells₀ tables₀ r c top n t₀ f₀ cells tables t f =
-    (f ≤ n) × (n ≡ refsOf cells₀ c) × (n ≤ 14) × (length cells ≡ length cells₀) × (length tables ≡ length tables₀)
+    (f ≤ n) × (n ≡ refsOf cells₀ c) × (n ≤ mostFields) × (length cells ≡ length cells₀) × (length tables ≡ length tables₀)
     × Pushing p r (fieldOf cells₀ c) (refsOf cells₀ c) cells₀ tables₀ top cells tables t f
 
 abbrev μ-loop : tie.MeasureT-loop
@@ -31,7 +32,7 @@ loop-holds : tie.Need-loop-holds Inv-loop μ-loop
 loop-holds c =
     let args = c .before .before .before .before .before .args in
     let pre = c .before .before .before .before .before .pre in
-    let e : c .field-count .result ≡ refsOf (args .cells .now) (args .c) = c .field-count .ensures ∙ ap (λ (x : ℕ). x / 16) (c .before .head .ensures) in
+    let e : c .field-count .result ≡ refsOf (args .cells .now) (args .c) = c .field-count .ensures ∙ ap (fieldCount Reference) (c .before .head .ensures) in
     (omega arith, e, omega (arith, pre .0 .refs-few (args .c) (pre .1)), refl, refl, pushing-start _ _ _ _ _ _ _)
 
 field-requires : tie.Need-field-requires Inv-loop μ-loop
