@@ -1,5 +1,5 @@
--- Objects in the cells: where one begins, which words are its own, and its slots. An object takes one cell. Nothing outside this file rests on
--- that but what cites `used-begins`, `begins-on`, `room-is`, `room-cell` or `spot`.
+-- Objects in the cells: where one begins, which words are its own, and its slots. An object takes one cell: what rests on that cites
+-- `used-begins`, `begins-on`, `begins-there`, `room-is`, `room-most` or `spot`, or says that a cell is in use.
 use Prim.Native.Nat.{ℕ, zero, suc, _+_, _-_, _*_, _≤_, _<_}
 use native.Mathlib.Omega.{arith}
 use native.Mathlib.Decide.{decLt}

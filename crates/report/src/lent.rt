@@ -47,7 +47,7 @@ fn ask(cells: &[u32], remember: &[u32], tables: &[u32], room: usize) -> Reported
     }
 }
 
-// The row of a region, and the next open region, by the places that the tables name.
+// The row of a region, and the next open region, by the sizes that the tables name.
 fn row_in(tables: &[u32], region: usize) -> Row
     requires { ⌜ RegionOf (now tables) region ⌝ }
     ensures { λ r. ⌜ r ≡ rowIn (sizesAt (now (tables .entry))) (now (tables .entry)) region ⌝ }
