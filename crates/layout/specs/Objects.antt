@@ -27,7 +27,7 @@ cellCount s = firstOn (s .pages)
 
 -- ---- an object begins at cell k of cells c and tables t
 
-abbrev pub Begins : Sizes → List ℕ → List ℕ → ℕ → Type 0
+unfoldable pub Begins : Sizes → List ℕ → List ℕ → ℕ → Type 0
 Begins s c t k = InUse s t k
 
 unfoldable pub beginsAt : Sizes → List ℕ → List ℕ → ℕ → Bool
@@ -92,7 +92,7 @@ module _ (s : Sizes) (c t c′ t′ : List ℕ) (k : ℕ) (used : usedOf s t′ 
 -- ---- its words
 
 -- position q is one of the words of an object at this cell with this word 0
-abbrev pub Covers : ℕ → ℕ → ℕ → Type 0
+unfoldable pub Covers : ℕ → ℕ → ℕ → Type 0
 Covers cell head q = cellOf q ≡ cell
 
 module _ (s : Sizes) (c t : List ℕ) (k : ℕ) (b : Begins s c t k) where

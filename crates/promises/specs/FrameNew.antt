@@ -23,7 +23,7 @@ use Rattle.laws.specs.SameRules.{renamed, renamed-zeros}
 use Rattle.layout.specs.Places.{varAt}
 use Rattle.layout.specs.declared.Kind.{Kind}
 use Rattle.layout.specs.declared.Kind.the-variants.{Reference, Number}
-use Rattle.layout.specs.Cells.{headOf, fieldCount, firstField, headWord, mostFields, kind-among, fields-room, refs-head, nums-head}
+use Rattle.layout.specs.Cells.{headOf, fieldCount, firstField, headWord, mostFields, roomFor, kind-among, fields-room, refs-head, nums-head}
 use Rattle.layout.specs.Words.{Words, BeginsIn, fieldsAt, homeIn, graphOf}
 use Rattle.promises.specs.Whole.{WholeFor, Open}
 use Rattle.promises.specs.StandsFor.{StandsFor}
@@ -154,7 +154,7 @@ module _ (s : Sizes) (w : Words) (h : Regioned) (to : ℕ → ℕ) (st : StandsF
   fields-new f m e =
       all-zero (fieldsAt f c′ cell) m (length-fields s w₁ k₁ f cell new-used ∙ count)
       (λ i l. let n : i < fieldCount f (headOf c′ cell) = omega (arith, count) in
-      getD-fields f w₁ cell i n ∙ blank .fields (firstField f (headOf c′ cell) + i) (omega (arith, kind-among f (headOf c′ cell), fields-room (headOf c′ cell) (k₁ .objects cell new-used .head))))
+      getD-fields f w₁ cell i n ∙ blank .fields (firstField f (headOf c′ cell) + i) (omega (arith, kind-among f (headOf c′ cell), fields-room (headOf c′ cell) (k₁ .objects cell new-used .head), ap roomFor (blank .head))))
     where
       count : fieldCount f (headOf c′ cell) ≡ m
       count = ap (fieldCount f) (blank .head) ∙ e

@@ -14,7 +14,7 @@ use Rattle.laws.specs.GraphLaws.{Alive, Closed}
 use Rattle.layout.specs.declared.Kind.{Kind}
 use Rattle.layout.specs.declared.Kind.the-variants.{Reference}
 use Rattle.layout.specs.Places.{Room, room, depthAt, varAt, varOf, tablesWords, rememberWords, cellsWords, count-room, count-is, ownersFrom}
-use Rattle.layout.specs.Cells.{fieldAt, fieldOf, fieldCount, firstField, kindAt, mostFields, roomFor, kind-among, fields-room, pageOf, CellIn}
+use Rattle.layout.specs.Cells.{fieldAt, fieldOf, fieldCount, firstField, kindAt, mostFields, roomFor, kind-among, first-reference, fields-room, pageOf, CellIn}
 use Rattle.layout.specs.Cells as ly
 use Rattle.layout.specs.Words.{Words, depthIn, varIn, ownerIn, depthsIn, varsIn, headIn, refCount, fieldsIn, refsIn, homeIn, graphOf, depthsAt, homeAt, fieldsAt, varsAt, BeginsIn}
 use Rattle.layout.specs.Objects.{cellCount, beginsAt, begins-used, begins-low, begins-true, true-begins, fields-inside}
@@ -29,7 +29,7 @@ getD-fields d w c i l =
 
 -- references are the first fields
 pub getD-refs : (w : Words) (c i : ℕ) → i < refCount w c → getD (refsIn w c) i 0 ≡ fieldOf (w .cells) c i
-getD-refs w c i l = getD-fields Reference w c i l ∙ ap (fieldOf (w .cells) c) (let e : 0 + i ≡ i = omega arith in e)
+getD-refs w c i l = getD-fields Reference w c i l ∙ ap (fieldOf (w .cells) c) (let e : firstField Reference (headIn w c) + i ≡ i = omega (arith, first-reference (headIn w c)) in e)
 
 pub getD-vars : (s : Sizes) (w : Words) (i : ℕ) → i < s .threads * s .variables → getD (varsIn s w) i 0 ≡ varOf s (w .tables) i
 unfolding varsAt
