@@ -22,7 +22,7 @@ use Rattle.laws.specs.Counts.{crossIn, crossAt, crossing-sum, crossRef}
 use Rattle.layout.specs.Places.{markOf, usedIn, slotIn, Room, cellsWords}
 use Rattle.layout.specs.Cells.{headOf, workOf, fieldAt, fieldOf, pageOf, placeOf, cellOf, wordOf, cellWords, headAt, mostFields, refsOf, wordAt}
 use Rattle.layout.specs.Marks.{marked}
-use Rattle.layout.specs.Words.{Words, Used, ownerIn, homeIn, refCount, refsIn, graphOf, cellCount}
+use Rattle.layout.specs.Words.{Words, BeginsIn, ownerIn, homeIn, refCount, refsIn, graphOf, cellCount}
 use Rattle.promises.specs.Ends.{partOf}
 use Rattle.promises.specs.Whole.{WholeFor, IsRef}
 use Rattle.remember.specs.Crossing.{other, regionOf, crossTo}
@@ -60,10 +60,10 @@ module _ (s : Sizes) (w : Words) (k : WholeFor s w) (space : Room s (length (w .
 
   -- ---- where objects lie afterwards
 
-  owner-now : (x : ℕ) → Used s w x → owner p (w′ .tables) x ≡ homeIn s w x
+  owner-now : (x : ℕ) → BeginsIn s w x → owner p (w′ .tables) x ≡ homeIn s w x
   owner-now x u = kept-owner kept space x (u .page) ∙ sym (used-home s w k x u)
 
-  home-after : (x : ℕ) → Used s w x → homeAfter p (w′ .cells) (w′ .tables) r x ≡ h .home x
+  home-after : (x : ℕ) → BeginsIn s w x → homeAfter p (w′ .cells) (w′ .tables) r x ≡ h .home x
   unfolding homeAfter
   home-after x u = go (ℕ-discrete (homeIn s w x) r)
     where
@@ -82,7 +82,7 @@ module _ (s : Sizes) (w : Words) (k : WholeFor s w) (space : Room s (length (w .
   cross-one x zero f there = refl
   cross-one x (suc y) f there =
       let y′ : suc y - 1 ≡ y = omega arith in
-      let u : Used s w y = subst (Used s w) y′ (f (omega arith)) in
+      let u : BeginsIn s w y = subst (BeginsIn s w) y′ (f (omega arith)) in
       one-rule (h .home x) (h .home y) (there y refl)
       ∙ sym
       (ap (λ (b : Bool). cond b 0 (crossOne (h .home x) (homeAfter p (w′ .cells) (w′ .tables) r (suc y - 1)))) (ne-eqb (suc y) 0 (λ (z : suc y ≡ 0). omega arith))
@@ -96,7 +96,7 @@ module _ (s : Sizes) (w : Words) (k : WholeFor s w) (space : Room s (length (w .
 
   -- ---- all slots of an object that is in use
 
-  module _ (x : ℕ) (u : Used s w x) where
+  module _ (x : ℕ) (u : BeginsIn s w x) where
     slots-sum : Alive h x → crossIn h x (refsIn w x) ≡ sum (λ f. crossAfter p (w′ .cells) (w′ .tables) r (h .home x) (fieldOf (w′ .cells) x f)) (refCount w x)
     slots-sum a =
         cross-in-sum h x (refsIn w x) ∙ ap (sum (λ f. crossRef h x (getD (refsIn w x) f 0))) (length-refs s w k x u)
@@ -150,7 +150,7 @@ module _ (s : Sizes) (w : Words) (k : WholeFor s w) (space : Room s (length (w .
           ap (λ (b : ℕ). b * sum (λ f. crossAfter p (w′ .cells) (w′ .tables) r (workOf (w′ .cells) x) (fieldOf (w′ .cells) x f)) (refsOf (w′ .cells) x)) (zero-bit x off) ∙ zero-mul _
           ∙ sym (ap (λ (b : Bool). cond b (crossAt h x) 0) (eq-eqb (homeIn s w x) r e) ∙ gone x (home-went s g r x e ∙ freed (decLt 0 (target s g r x)) (u .0) (u .1)))
         where
-          freed : Dec (0 < target s g r x) → Used s w x → ownerIn s w (pageOf x) ≡ r → target s g r x ≡ 0
+          freed : Dec (0 < target s g r x) → BeginsIn s w x → ownerIn s w (pageOf x) ≡ r → target s g r x ≡ 0
           freed (yes b) u own = absurd (off (M .survives x u own b))
           freed (no b) u own = omega arith
 
@@ -170,7 +170,7 @@ module _ (s : Sizes) (w : Words) (k : WholeFor s w) (space : Room s (length (w .
   no-slot : (x j : ℕ) → x < cellCount s → j < cellWords → (Slot p (w .cells) (w .tables) (wordAt x j) → ⊥) → still (wordAt x j) ≡ 0
   no-slot x j l m n = still-no (wordAt x j) (λ b. n (cross-slot p (w .cells) (w .tables) (wordAt x j) b))
 
-  module _ (x : ℕ) (u : Used s w x) (out : homeIn s w x ≡ r → ⊥) where
+  module _ (x : ℕ) (u : BeginsIn s w x) (out : homeIn s w x ≡ r → ⊥) where
     here : x < cellCount s
     here = omega (arith, u .page)
 
@@ -185,11 +185,11 @@ module _ (s : Sizes) (w : Words) (k : WholeFor s w) (space : Room s (length (w .
     quiet zero f z = refl
     quiet (suc y) f z =
         let y′ : suc y - 1 ≡ y = omega arith in
-        let v : Used s w y = subst (Used s w) y′ (f (omega arith)) in
+        let v : BeginsIn s w y = subst (BeginsIn s w) y′ (f (omega arith)) in
         go v (ap (other (ownerIn s w (pageOf x))) (sym (region-of p (w .tables) y v)) ∙ z) (ℕ-discrete (ownerIn s w (pageOf y)) 1)
         (ℕ-discrete (ownerIn s w (pageOf x)) (ownerIn s w (pageOf y)))
       where
-        go : Used s w y → other (ownerIn s w (pageOf x)) (ownerIn s w (pageOf y)) ≡ 0 → Dec (ownerIn s w (pageOf y) ≡ 1) → Dec (ownerIn s w (pageOf x) ≡ ownerIn s w (pageOf y))
+        go : BeginsIn s w y → other (ownerIn s w (pageOf x)) (ownerIn s w (pageOf y)) ≡ 0 → Dec (ownerIn s w (pageOf y) ≡ 1) → Dec (ownerIn s w (pageOf x) ≡ ownerIn s w (pageOf y))
             → crossRef h x (suc y) ≡ 0
         go v z (yes one) d =
             let e : homeIn s w y ≡ 1 = used-home s w k y v ∙ one in
@@ -285,7 +285,7 @@ module _ (s : Sizes) (w : Words) (k : WholeFor s w) (space : Room s (length (w .
           sum-none (λ j. still (wordAt x j)) cellWords
           (λ j m.
           let c : cellOf (wordAt x j) ≡ x = omega arith in
-          no-slot x j l m (λ o. used-alive s w k x (subst (Used s w) c (slot-word p (w .cells) (w .tables) (wordAt x j) o .0)) z))
+          no-slot x j l m (λ o. used-alive s w k x (subst (BeginsIn s w) c (slot-word p (w .cells) (w .tables) (wordAt x j) o .0)) z))
           ∙ sym (ap (λ (b : Bool). cond b 0 (crossAt h x)) (ne-eqb (homeIn s w x) r n) ∙ gone x (home-stayed s g r x n ∙ z))
       go (no n) (no a) = used-sum x (alive-used s w k x a) n
 

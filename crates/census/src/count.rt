@@ -8,7 +8,7 @@ ghost use Rattle.lists.specs.Part.{Rises, Off};
 ghost use Rattle.layout.specs.Places.{markOf};
 ghost use Rattle.layout.specs.Cells.{workOf, pageOf, cellOn, CellIn, firstOn, pageCells};
 ghost use Rattle.layout.specs.Marks.{marked};
-ghost use Rattle.layout.specs.Words.{InUse};
+ghost use Rattle.layout.specs.Words.{Begins};
 ghost use Rattle.mark.specs.Marks.{Shaped};
 ghost use Rattle.census.specs.Counted.{goesTo, onPage};
 ghost use Rattle.census.specs.After.{cellCrosses};
@@ -38,7 +38,7 @@ pub fn count_page(
 ) -> usize
     requires { ⌜ Shaped p (now cells) (now tables) ⌝ }
     requires { ⌜ (w < 2 ^ 16) × (page < p .pages) ⌝ }
-    requires { ⌜ ((i : ℕ) → i < pageCells → bitAt w i ≡ 1 → InUse p (now tables) (cellOn page i)) ⌝ }
+    requires { ⌜ ((i : ℕ) → i < pageCells → bitAt w i ≡ 1 → Begins p (now cells) (now tables) (cellOn page i)) ⌝ }
     requires { ⌜ ((i : ℕ) → i < pageCells → bitAt w i ≡ 1 → workOf (now cells) (cellOn page i) < length (now come)) ⌝ }
     requires { ⌜ ((g : ℕ) → getD (now come) g 0 ≤ firstOn page) ⌝ }
     ensures { λ n. ⌜ ((g : ℕ) → getD (now (come .exit)) g 0 ≡ getD (now (come .entry)) g 0 + onPage (goesTo (now (cells .entry)) g) page w) ⌝ }
@@ -75,7 +75,7 @@ pub fn count_listed(
     requires { ⌜ Rises (p .pages) n (now list) ⌝ }
     requires { ⌜ ((page : ℕ) → page < p .pages → Off (now list) n page → markOf p (now tables) page ≡ 0) ⌝ }
     requires { ⌜ ((page : ℕ) → page < p .pages → markOf p (now tables) page < 2 ^ 16) ⌝ }
-    requires { ⌜ ((c : ℕ) → pageOf c < p .pages → marked p (now tables) c ≡ 1 → InUse p (now tables) c) ⌝ }
+    requires { ⌜ ((c : ℕ) → pageOf c < p .pages → marked p (now tables) c ≡ 1 → Begins p (now cells) (now tables) c) ⌝ }
     requires { ⌜ ((c : ℕ) → pageOf c < p .pages → marked p (now tables) c ≡ 1 → workOf (now cells) c < length (now come)) ⌝ }
     requires { ⌜ ((g : ℕ) → getD (now come) g 0 ≡ 0) ⌝ }
     ensures { λ k. ⌜ Census p (now (cells .entry)) (now (tables .entry)) r (p .pages) (now (come .exit)) k ⌝ }

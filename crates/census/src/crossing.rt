@@ -5,7 +5,7 @@ ghost use Prim.Native.Nat.{_*_, _<_, _≤_};
 ghost use lib.ListN.{length};
 ghost use Rattle.layout.specs.Places.{Room, slotIn, usedIn, cellsWords};
 ghost use Rattle.layout.specs.Cells.{pageOf, mostFields};
-ghost use Rattle.layout.specs.Words.{InUse};
+ghost use Rattle.layout.specs.Words.{Begins};
 ghost use Rattle.promises.specs.Whole.{IsRef};
 ghost use Rattle.mark.specs.Marks.{Shaped};
 ghost use Rattle.mark.specs.Holders.{Holding};
@@ -48,7 +48,7 @@ pub fn crosses(p: Sizes, cells: &[u32], tables: &[u32], r: u32, home: u32, x: u3
 // How many slots of survivor c cross.
 pub fn cross_cell(p: Sizes, cells: &[u32], tables: &[u32], r: u32, c: usize) -> usize
     requires { ⌜ Shaped p (now cells) (now tables) ⌝ }
-    requires { ⌜ InUse p (now tables) c ⌝ }
+    requires { ⌜ Begins p (now cells) (now tables) c ⌝ }
     ensures { λ n. ⌜ n ≡ cellCrosses p (now (cells .entry)) (now (tables .entry)) r c ⌝ }
     ensures { λ n. ⌜ n ≤ mostFields ⌝ }
 {

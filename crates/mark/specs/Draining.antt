@@ -13,9 +13,9 @@ use Rattle.rules.specs.declared.Sizes.{Sizes}
 use Rattle.layout.specs.Places.{cellsWords}
 use Rattle.layout.specs.Cells.{workAt, workOf, fieldOf, pageOf, refsOf, mostFields}
 use Rattle.layout.specs.Marks.{marked}
-use Rattle.layout.specs.Words.{InUse, cellCount}
+use Rattle.layout.specs.Objects.{Begins, begins-page, cellCount}
 use Rattle.promises.specs.Whole.{IsRef}
-use Rattle.mark.specs.Marks.{owner, Shaped, Reach, Reach.held, Reach.via, Chain, named, named-in, named-from, Kept, kept-refs, kept-field, kept-owner, kept-shaped, AnyMarked}
+use Rattle.mark.specs.Marks.{owner, Shaped, shaped-few, Reach, Reach.held, Reach.via, Chain, named, named-in, named-from, Kept, kept-refs, kept-field, kept-owner, kept-shaped, AnyMarked}
 use Rattle.mark.specs.Marking.{Marking, marking-start, popped-top}
 use Rattle.mark.specs.Pushes.{Pushing, pushes-kept, pushes-marking}
 
@@ -42,7 +42,7 @@ pub record Drained (p : Sizes) (r g : ℕ) (W₀ T₀ S₀ W T : List ℕ) (n : 
   pub count : n ≡ length done
   pub sound : (c : ℕ) → In c done → Reach p r W₀ T₀ S₀ c
   pub complete : (c : ℕ) → Reach p r W₀ T₀ S₀ c → In c done
-  pub in-use : (c : ℕ) → In c done → InUse p T₀ c
+  pub in-use : (c : ℕ) → In c done → Begins p W₀ T₀ c
   pub owned : (c : ℕ) → In c done → owner p T₀ c ≡ r
   pub on : (c : ℕ) → In c done → marked p T c ≡ 1
   pub target : (c : ℕ) → In c done → workOf W c ≡ g
@@ -67,7 +67,7 @@ draining-start h = record { done = []; stack = h .stack; count = refl; marking =
 draining-few : {p : Sizes} {r g : ℕ} {W₀ T₀ S₀ W T : List ℕ} {top n : ℕ} → Draining p r g W₀ T₀ S₀ W T top n → n ≤ cellCount p
 draining-few {p} h =
     let m = h .marking in
-    let b : length (h .done) ≤ cellCount p = distinct-few (cellCount p) (h .done) (m .distinct-done) (λ c i. omega (arith, m .in-use c (inr i) .page)) in
+    let b : length (h .done) ≤ cellCount p = distinct-few (cellCount p) (h .done) (m .distinct-done) (λ c i. omega (arith, begins-page _ _ _ _ (m .in-use c (inr i)))) in
     omega (arith, h .count)
 
 -- one turn: a pop and a scan
@@ -81,7 +81,7 @@ draining-turn {p} {r} {g} {W₀} {T₀} {S₀} {W} {T} {top} {n} h ne {W′} {T�
     let X : List ℕ = set W (workAt b) g in
     let q = popped-top (h .stack) ne (h .marking) in
     let m = q .2 in
-    let few : refsOf X b ≤ mostFields = m .shaped .refs-few b (q .0) in
+    let few : refsOf X b ≤ mostFields = shaped-few (m .shaped) b (q .0) in
     let same : refsOf X b ≡ refsOf W₀ b = kept-refs (m .kept) b in
     let m′ =
     pushes-marking (fieldOf X b) (refsOf X b) (m .shaped) m
@@ -103,7 +103,7 @@ draining-turn {p} {r} {g} {W₀} {T₀} {S₀} {W} {T} {top} {n} h ne {W′} {T�
           let e′ : fieldOf W₀ b f ≡ 1 + d = subst (λ (x : ℕ). fieldOf W₀ x f ≡ 1 + d) z e in
           let e″ : fieldOf X b f ≡ 1 + d = kept-field (m .kept) b f (omega arith) ∙ e′ in
           let w : fieldOf X b f - 1 ≡ d = omega arith in
-          let ud : pageOf d < p .pages = subst (λ (x : ℕ). pageOf x < p .pages) w (m .shaped .references b (q .0) f (omega arith) (omega arith) .page) in
+          let ud : pageOf d < p .pages = subst (λ (x : ℕ). pageOf x < p .pages) w (begins-page _ _ _ _ (m .shaped .objects b (q .0) .references f (omega arith) (omega arith))) in
           s .closed f d (omega arith) e″ (kept-owner (m .kept) (m .started) d ud ∙ own))
           (λ j. s .mono d (h .closed c f d j lt e own))
           i;
@@ -165,7 +165,7 @@ none-in (d ∷ D) c z i = omega arith
 module _ {p : Sizes} {r g : ℕ} {W₀ T₀ S₀ W T : List ℕ} {n : ℕ} (d : Drained p r g W₀ T₀ S₀ W T n) where
   -- b is the answer now, a the one before
   pub says-popped : (b : Bool) → b ≡ true → n ≢ 0 → Says b (AnyMarked p T)
-  says-popped b e ne = let f = first-of (d .done) (λ z. ne (d .count ∙ z)) in (λ y. (f .0, d .in-use (f .0) (f .1) .page, d .on (f .0) (f .1)), λ y. e)
+  says-popped b e ne = let f = first-of (d .done) (λ z. ne (d .count ∙ z)) in (λ y. (f .0, begins-page _ _ _ _ (d .in-use (f .0) (f .1)), d .on (f .0) (f .1)), λ y. e)
 
   pub says-idle : (a b : Bool) → b ≡ a → n ≡ 0 → Says a (AnyMarked p T₀) → Says b (AnyMarked p T)
   says-idle a b e z s = (
@@ -190,17 +190,17 @@ module _ {p : Sizes} {r g : ℕ} {W₀ T₀ S₀ W T : List ℕ} {top n : ℕ} (
   turn-facts =
       let s = h .marking .shaped in
       record {
-        page = subst (λ (y : ℕ). pageOf y < p .pages) (sym e) (popped-top (h .stack) ne (h .marking) .0 .page);
+        page = subst (λ (y : ℕ). pageOf y < p .pages) (sym e) (begins-page _ _ _ _ (popped-top (h .stack) ne (h .marking) .0));
         few = s .room .few;
         long = s .cells-long;
         counted = draining-few h;
       }
 
   -- X is the cells after the pop, y the link that was read
-  pub turn-asks : (X : List ℕ) → X ≡ set W (workAt b) g → Shaped p X T × InUse p T b
+  pub turn-asks : (X : List ℕ) → X ≡ set W (workAt b) g → Shaped p X T × Begins p X T b
   turn-asks X a =
-      subst (λ (Y : List ℕ). Shaped p Y T × InUse p T b) (sym a)
-      (subst (λ (y : ℕ). Shaped p (set W (workAt y) g) T × InUse p T y) (sym e)
+      subst (λ (Y : List ℕ). Shaped p Y T × Begins p Y T b) (sym a)
+      (subst (λ (y : ℕ). Shaped p (set W (workAt y) g) T × Begins p (set W (workAt y) g) T y) (sym e)
       (let q = popped-top (h .stack) ne (h .marking) in (q .2 .shaped, q .0)))
 
   pub turn-read : (X : List ℕ) (y : ℕ) → X ≡ set W (workAt b) g → y ≡ workOf W b → {W′ T′ : List ℕ} {top′ : ℕ}
@@ -242,7 +242,7 @@ seeded {p} {r} g ref ref′ n n′ {W} {T} {W′} {T′} s used h i =
           let q = named-from ref′ n′ c j in
           let e : ref′ (q .0) ≡ 1 + c = q .2 in
           let w : ref′ (q .0) - 1 ≡ c = omega arith in
-          let b : pageOf c < p .pages = subst (λ (x : ℕ). pageOf x < p .pages) w (used (q .0) (q .1) (omega arith) .page) in
+          let b : pageOf c < p .pages = subst (λ (x : ℕ). pageOf x < p .pages) w (begins-page _ _ _ _ (used (q .0) (q .1) (omega arith))) in
           i .closed (q .0) c (q .1) e (kept-owner k (s .room) c b ∙ own))
           (in-append c (named ref n) (named ref′ n′) j);
     }

@@ -1,7 +1,7 @@
 -- The holders at the end of region r, read from the words: all variables, and the remembered slots that point into r. Each holds a
 -- reference and calls for a region.
-use mathlib.Core.Path.{_≡_, sym, ap, ap₂, _∙_, subst}
-use mathlib.Core.Logic.{inl, ⊎-elim}
+use mathlib.Core.Path.{_≡_, refl, sym, ap, ap₂, _∙_, subst}
+use mathlib.Core.Logic.{_≢_, inl, ⊎-elim}
 use mathlib.Core.Bool.{Bool, true, false, cond}
 use mathlib.Core.List.{List, _++_}
 use Prim.Native.Nat.{ℕ, _+_, _-_, _*_, _/_, _≤_, _<_}
@@ -13,10 +13,13 @@ use Rattle.lists.specs.Members.{In, in-append}
 use Rattle.rules.specs.Regions.{join}
 use Rattle.rules.specs.declared.Sizes.{Sizes}
 use Rattle.layout.specs.Places.{Room, varOf, ownerOf, usedIn, slotIn, slotRegionIn, varsFrom, cellsWords, rememberWords}
-use Rattle.layout.specs.Cells.{pageOf, cellOf, wordOf}
-use Rattle.layout.specs.Words.{InUse}
-use Rattle.promises.specs.Whole.{IsRef}
-use Rattle.mark.specs.Marks.{Kept, kept-in-use, kept-owner, named, named-from, named-same}
+use Rattle.layout.specs.Cells.{pageAt, cellOf, wordOf, at-page}
+use Rattle.layout.specs.Objects.{Begins, Slot, slot-word}
+use Rattle.layout.specs.Words.{words}
+use Rattle.remember.specs.Crosses.{cross-slot}
+use Rattle.promises.specs.Whole.{IsRef, VariablesWhole, RememberWhole}
+use Rattle.promises.specs.Frames.{variables-frame, remember-frame}
+use Rattle.mark.specs.Marks.{Shaped, Kept, kept-only, kept-owner, named, named-from, named-same}
 
 -- reference x of a holder that calls for q, or null if that is not g
 abbrev pub heldFor : ℕ → ℕ → ℕ → ℕ
@@ -31,7 +34,7 @@ varHeld p T thread outer g i = heldFor g (varCalls p thread outer i) (varOf p T 
 
 -- what the slot of entry i calls for: the join of r and the region that the slot lies in
 abbrev pub slotCalls : Sizes → List ℕ → List ℕ → ℕ → ℕ → ℕ
-slotCalls p m T r i = join p r (ownerOf p T (pageOf (cellOf (slotIn m i))))
+slotCalls p m T r i = join p r (ownerOf p T (pageAt (slotIn m i)))
 
 unfoldable pub slotHeld : Sizes → List ℕ → List ℕ → List ℕ → ℕ → ℕ → ℕ → ℕ
 slotHeld p W m T r g i = cond (eqb (slotRegionIn (p .entries) m i) r) (heldFor g (slotCalls p m T r i) (getD W (slotIn m i) 0)) 0
@@ -40,21 +43,38 @@ slotHeld p W m T r g i = cond (eqb (slotRegionIn (p .entries) m i) r) (heldFor g
 unfoldable pub heldCells : Sizes → List ℕ → List ℕ → List ℕ → ℕ → ℕ → ℕ → ℕ → List ℕ
 heldCells p W m T r thread outer g = named (varHeld p T thread outer g) (p .threads * p .variables) ++ named (slotHeld p W m T r g) (usedIn m)
 
--- what holders hold is null or names a cell in use, and remembered slots are no working words
+-- the variables and the remember table are whole, and can be read
 pub record Holding (p : Sizes) (W m T : List ℕ) : Type 0 where
   pub some : 1 ≤ p .variables
   pub long : rememberWords p ≤ length m
-  pub few : usedIn m ≤ p .entries
-  pub variables : (i : ℕ) → i < p .threads * p .variables → IsRef p W T (varOf p T i)
-  pub slot : (i : ℕ) → i < usedIn m → slotIn m i < cellsWords p
-  pub field : (i : ℕ) → i < usedIn m → wordOf (slotIn m i) ≡ 1 → ⊥
-  pub slots : (i : ℕ) → i < usedIn m → IsRef p W T (getD W (slotIn m i) 0)
+  pub variables : VariablesWhole p (words W m T)
+  pub remember : RememberWhole p (words W m T)
+
+module _ {p : Sizes} {W m T : List ℕ} (h : Holding p W m T) where
+  pub entries-few : usedIn m ≤ p .entries
+  entries-few = h .remember .entries .room
+
+  -- the slot of entry i
+  pub slot-low : (i : ℕ) → i < usedIn m → slotIn m i < cellsWords p
+  slot-low i l = h .remember .entries .named i l .slot
+
+  pub entry-slot : (i : ℕ) → i < usedIn m → Slot p W T (slotIn m i)
+  entry-slot i l = let e = h .remember .entries .named i l in cross-slot p W T (slotIn m i) (omega (arith, e .region, e .right))
+
+  slot-field : (i : ℕ) → i < usedIn m → wordOf (slotIn m i) ≢ 1
+  slot-field i l e = omega (arith, slot-word p W T (slotIn m i) (entry-slot i l) .1)
+
+  -- what it holds is null or names an object
+  pub slot-ref : Shaped p W T → (i : ℕ) → i < usedIn m → IsRef p W T (getD W (slotIn m i) 0)
+  slot-ref s i l =
+      let o = entry-slot i l in
+      subst (λ (q : ℕ). IsRef p W T (getD W q 0)) (o .at) (s .objects (o .object) (o .begins) .references (o .field) (o .low))
 
 cond-ref : (p : Sizes) (W T : List ℕ) (b : Bool) (x : ℕ) → IsRef p W T x → IsRef p W T (cond b x 0)
 cond-ref p W T true x h = h
 cond-ref p W T false x h = λ l. absurd (let z : ⊥ = omega arith in z)
 
-module _ {p : Sizes} {W m T : List ℕ} (h : Holding p W m T) where
+module _ {p : Sizes} {W m T : List ℕ} (s : Shaped p W T) (h : Holding p W m T) where
   pub var-held-ref : (thread outer g i : ℕ) → i < p .threads * p .variables → IsRef p W T (varHeld p T thread outer g i)
   unfolding varHeld
   var-held-ref thread outer g i l = cond-ref p W T (eqb (varCalls p thread outer i) g) (varOf p T i) (h .variables i l)
@@ -63,21 +83,21 @@ module _ {p : Sizes} {W m T : List ℕ} (h : Holding p W m T) where
   unfolding slotHeld
   slot-held-ref r g i l =
       cond-ref p W T (eqb (slotRegionIn (p .entries) m i) r) (heldFor g (slotCalls p m T r i) (getD W (slotIn m i) 0))
-      (cond-ref p W T (eqb (slotCalls p m T r i) g) (getD W (slotIn m i) 0) (h .slots i l))
+      (cond-ref p W T (eqb (slotCalls p m T r i) g) (getD W (slotIn m i) 0) (slot-ref h s i l))
 
-  pub held-used : (r thread outer g x : ℕ) → In x (heldCells p W m T r thread outer g) → InUse p T x
+  pub held-used : (r thread outer g x : ℕ) → In x (heldCells p W m T r thread outer g) → Begins p W T x
   unfolding heldCells
   held-used r thread outer g x i =
       ⊎-elim (λ j. of (varHeld p T thread outer g) (p .threads * p .variables) (var-held-ref thread outer g) j)
       (λ j. of (slotHeld p W m T r g) (usedIn m) (slot-held-ref r g) j)
       (in-append x (named (varHeld p T thread outer g) (p .threads * p .variables)) (named (slotHeld p W m T r g) (usedIn m)) i)
     where
-      of : (ref : ℕ → ℕ) (n : ℕ) → ((k : ℕ) → k < n → IsRef p W T (ref k)) → In x (named ref n) → InUse p T x
+      of : (ref : ℕ → ℕ) (n : ℕ) → ((k : ℕ) → k < n → IsRef p W T (ref k)) → In x (named ref n) → Begins p W T x
       of ref n u j =
           let q = named-from ref n x j in
           let e : ref (q .0) ≡ 1 + x = q .2 in
           let d : ref (q .0) - 1 ≡ x = omega arith in
-          subst (λ (y : ℕ). InUse p T y) d (u (q .0) (q .1) (omega arith))
+          subst (λ (y : ℕ). Begins p W T y) d (u (q .0) (q .1) (omega arith))
 
 -- ---- what is held, as the code decides it
 
@@ -116,10 +136,10 @@ module _ (p : Sizes) (W m T : List ℕ) (r g i : ℕ) where
       (ap₂ (λ (b d : Bool). cond b (cond d (getD W (slotIn m i) 0) 0) 0) (eq-eqb (slotRegionIn (p .entries) m i) r a) (eq-eqb (slotCalls p m T r i) g n))
 
   -- the region that the slot of entry i calls for, as the code came to it
-  pub slot-call : (a at page q u : ℕ) → a ≡ slotIn m i → at ≡ a → page ≡ pageOf (cellOf at) → q ≡ ownerOf p T page → u ≡ join p r q
+  pub slot-call : (a at page q u : ℕ) → a ≡ slotIn m i → at ≡ a → page ≡ pageAt at → q ≡ ownerOf p T page → u ≡ join p r q
       → u ≡ slotCalls p m T r i
   slot-call a at page q u ea eat ep eq eu =
-      eu ∙ ap (join p r) (eq ∙ ap (λ (z : ℕ). ownerOf p T z) (ep ∙ ap (λ (z : ℕ). pageOf (cellOf z)) (eat ∙ ea)))
+      eu ∙ ap (join p r) (eq ∙ ap (λ (z : ℕ). ownerOf p T z) (ep ∙ ap pageAt (eat ∙ ea)))
 
 -- ---- a marking changes none of it
 
@@ -128,19 +148,12 @@ module _ {p : Sizes} {W T W′ T′ : List ℕ} (k : Kept p W T W′ T′) (room
   kept-var i l = k .tables (varsFrom p + i) (inl (omega arith))
 
   kept-slot : (i : ℕ) → i < usedIn m → getD W′ (slotIn m i) 0 ≡ getD W (slotIn m i) 0
-  kept-slot i l = k .words (slotIn m i) (h .field i l)
+  kept-slot i l = k .words (slotIn m i) (slot-field h i l)
 
   pub holding-kept : Holding p W′ m T′
   holding-kept =
-      record {
-        some = h .some;
-        long = h .long;
-        few = h .few;
-        variables = λ i l. subst (IsRef p W′ T′) (sym (kept-var i l)) (λ n. kept-in-use k room (varOf p T i - 1) (h .variables i l n));
-        slot = h .slot;
-        field = h .field;
-        slots = λ i l. subst (IsRef p W′ T′) (sym (kept-slot i l)) (λ n. kept-in-use k room (getD W (slotIn m i) 0 - 1) (h .slots i l n));
-      }
+      let o = kept-only k room m in
+      record { some = h .some; long = h .long; variables = variables-frame o refl refl refl (h .variables); remember = remember-frame o refl refl refl refl refl (h .remember) }
 
   pub kept-var-held : (thread outer g i : ℕ) → i < p .threads * p .variables → varHeld p T′ thread outer g i ≡ varHeld p T thread outer g i
   unfolding varHeld
@@ -149,7 +162,7 @@ module _ {p : Sizes} {W T W′ T′ : List ℕ} (k : Kept p W T W′ T′) (room
   pub kept-slot-held : (r g i : ℕ) → i < usedIn m → slotHeld p W′ m T′ r g i ≡ slotHeld p W m T r g i
   unfolding slotHeld
   kept-slot-held r g i l =
-      let page : pageOf (cellOf (slotIn m i)) < p .pages = omega (arith, h .slot i l) in
+      let page : pageAt (slotIn m i) < p .pages = at-page p (slotIn m i) (slot-low h i l) in
       ap₂ (λ (q x : ℕ). cond (eqb (slotRegionIn (p .entries) m i) r) (heldFor g (join p r q) x) 0) (kept-owner k room (cellOf (slotIn m i)) page) (kept-slot i l)
 
   pub kept-held-cells : (r thread outer g : ℕ) → heldCells p W′ m T′ r thread outer g ≡ heldCells p W m T r thread outer g

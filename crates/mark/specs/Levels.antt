@@ -9,8 +9,8 @@ use Rattle.lists.specs.Members.{In, in?}
 use Rattle.rules.specs.declared.Sizes.{Sizes}
 use Rattle.layout.specs.Cells.{workOf, fieldOf, pageOf, refsOf, mostFields}
 use Rattle.layout.specs.Marks.{marked}
-use Rattle.layout.specs.Words.{InUse}
-use Rattle.mark.specs.Marks.{owner, Shaped, Kept, kept-refl, kept-trans, kept-refs, kept-field, kept-owner, Reach, Reach.held, Reach.via, Leads, Leads.here, Leads.step}
+use Rattle.layout.specs.Objects.{Begins, begins-page}
+use Rattle.mark.specs.Marks.{owner, Shaped, shaped-few, Kept, kept-refl, kept-trans, kept-refs, kept-field, kept-owner, Reach, Reach.held, Reach.via, Leads, Leads.here, Leads.step}
 use Rattle.mark.specs.Draining.{Drained}
 
 -- a cell that a holder of level l holds leads to c
@@ -26,8 +26,8 @@ pub record First (p : Sizes) (r : ℕ) (W T : List ℕ) (calls : ℕ → List �
   pub none : (j : ℕ) → j < l → Held p r W T calls j c → ⊥
 
 -- the cells that holders hold are in use
-abbrev pub CallsUsed : Sizes → List ℕ → (ℕ → List ℕ) → Type 0
-CallsUsed p T calls = (l x : ℕ) → In x (calls l) → InUse p T x
+abbrev pub CallsUsed : Sizes → List ℕ → List ℕ → (ℕ → List ℕ) → Type 0
+CallsUsed p W T calls = (l x : ℕ) → In x (calls l) → Begins p W T x
 
 -- levels below n are marked
 pub record Levels (p : Sizes) (r n : ℕ) (gs : ℕ → ℕ) (calls : ℕ → List ℕ) (W₀ T₀ W T : List ℕ) : Type 0 where
@@ -36,7 +36,7 @@ pub record Levels (p : Sizes) (r n : ℕ) (gs : ℕ → ℕ) (calls : ℕ → Li
   pub found : (c : ℕ) → pageOf c < p .pages → marked p T c ≡ 1 → (l : ℕ) × First p r W₀ T₀ calls n c l × (workOf W c ≡ gs l)
   pub lost : (c : ℕ) → pageOf c < p .pages → marked p T c ≡ 0 → (workOf W c ≡ workOf W₀ c) × ((l : ℕ) → l < n → Held p r W₀ T₀ calls l c → ⊥)
   pub beyond : (c : ℕ) → p .pages ≤ pageOf c → workOf W c ≡ workOf W₀ c
-  pub closed : (b f d : ℕ) → InUse p T₀ b → marked p T b ≡ 1 → f < refsOf W₀ b → fieldOf W₀ b f ≡ 1 + d → owner p T₀ d ≡ r → marked p T d ≡ 1
+  pub closed : (b f d : ℕ) → Begins p W₀ T₀ b → marked p T b ≡ 1 → f < refsOf W₀ b → fieldOf W₀ b f ≡ 1 + d → owner p T₀ d ≡ r → marked p T d ≡ 1
 
 pub levels-start : {p : Sizes} (r : ℕ) (gs : ℕ → ℕ) (calls : ℕ → List ℕ) {W T : List ℕ} → Shaped p W T → ((c : ℕ) → pageOf c < p .pages → marked p T c ≡ 0)
     → Levels p r 0 gs calls W T W T
@@ -47,10 +47,10 @@ levels-start {p} r gs calls {W} {T} s clean =
       found = λ c u h. absurd (let z : marked p T c ≡ 0 = clean c u in let y : ⊥ = omega arith in y);
       lost = λ c u h. (refl, λ l lt. absurd (let y : ⊥ = omega arith in y));
       beyond = λ c h. refl;
-      closed = λ b f d u h. absurd (let z : marked p T b ≡ 0 = clean b (u .page) in let y : ⊥ = omega arith in y);
+      closed = λ b f d u h. absurd (let z : marked p T b ≡ 0 = clean b (begins-page _ _ _ _ u) in let y : ⊥ = omega arith in y);
     }
 
-module _ {p : Sizes} {r n : ℕ} {gs : ℕ → ℕ} {calls : ℕ → List ℕ} {W₀ T₀ W T W′ T′ : List ℕ} {m : ℕ} (s₀ : Shaped p W₀ T₀) (used : CallsUsed p T₀ calls)
+module _ {p : Sizes} {r n : ℕ} {gs : ℕ → ℕ} {calls : ℕ → List ℕ} {W₀ T₀ W T W′ T′ : List ℕ} {m : ℕ} (s₀ : Shaped p W₀ T₀) (used : CallsUsed p W₀ T₀ calls)
     (L : Levels p r n gs calls W₀ T₀ W T) (d : Drained p r (gs n) W T (calls n) W′ T′ m) where
   reach-off : (c : ℕ) → Reach p r W T (calls n) c → marked p T c ≡ 0
   reach-off c (held i own off) = off
@@ -66,40 +66,40 @@ module _ {p : Sizes} {r n : ℕ} {gs : ℕ → ℕ} {calls : ℕ → List ℕ} {
   -- a cell that the drain reached is held from this level
   reach-held : (c : ℕ) → Reach p r W T (calls n) c → Held p r W₀ T₀ calls n c
   reach-held c (held i own off) =
-      record { first = c; called = i; leads = here (sym (kept-owner (L .kept) (s₀ .room) c (used n c i .page)) ∙ own) }
+      record { first = c; called = i; leads = here (sym (kept-owner (L .kept) (s₀ .room) c (begins-page _ _ _ _ (used n c i))) ∙ own) }
   reach-held c (via {b = b} q f lt e own off) =
       let h = reach-held b q in
       let i = d .complete c (via q f lt e own off) in
       let u = d .in-use b (d .complete b q) in
-      let few : refsOf W b ≤ mostFields = L .shaped .refs-few b u in
+      let few : refsOf W b ≤ mostFields = shaped-few (L .shaped) b u in
       record {
         first = h .first;
         called = h .called;
         leads =
             step (h .leads) f (omega (arith, kept-refs (L .kept) b)) (sym (kept-field (L .kept) b f (omega arith)) ∙ e)
-            (sym (kept-owner (L .kept) (s₀ .room) c (d .in-use c i .page)) ∙ own);
+            (sym (kept-owner (L .kept) (s₀ .room) c (begins-page _ _ _ _ (d .in-use c i))) ∙ own);
       }
 
-  next-closed : (b f c : ℕ) → InUse p T₀ b → marked p T′ b ≡ 1 → f < refsOf W₀ b → fieldOf W₀ b f ≡ 1 + c → owner p T₀ c ≡ r → marked p T′ c ≡ 1
+  next-closed : (b f c : ℕ) → Begins p W₀ T₀ b → marked p T′ b ≡ 1 → f < refsOf W₀ b → fieldOf W₀ b f ≡ 1 + c → owner p T₀ c ≡ r → marked p T′ c ≡ 1
   next-closed b f c u h lt e own = go (in? b (d .done))
     where
       go : Dec (In b (d .done)) → marked p T′ c ≡ 1
       go (yes i) =
-          let few : refsOf W₀ b ≤ mostFields = s₀ .refs-few b u in
-          let v = s₀ .references b u f lt (omega arith) in
+          let few : refsOf W₀ b ≤ mostFields = shaped-few s₀ b u in
+          let v = s₀ .objects b u .references f lt (omega arith) in
           let w : fieldOf W₀ b f - 1 ≡ c = omega arith in
           d .closed b f c i (omega (arith, kept-refs (L .kept) b)) (kept-field (L .kept) b f (omega arith) ∙ e)
-          (kept-owner (L .kept) (s₀ .room) c (subst (λ (x : ℕ). pageOf x < p .pages) w (v .page)) ∙ own)
+          (kept-owner (L .kept) (s₀ .room) c (subst (λ (x : ℕ). pageOf x < p .pages) w (begins-page _ _ _ _ v)) ∙ own)
       go (no k) = mono c (L .closed b f c u (sym (d .same-mark b k) ∙ h) lt e own)
 
   -- a chain from a cell that this level holds
-  leads-marked : (x c : ℕ) → In x (calls n) → Leads p r W₀ T₀ x c → InUse p T₀ c × (marked p T′ c ≡ 1)
-  leads-marked x c i (here own) = let u = used n x i in (u, d .all-held x i (kept-owner (L .kept) (s₀ .room) x (u .page) ∙ own))
+  leads-marked : (x c : ℕ) → In x (calls n) → Leads p r W₀ T₀ x c → Begins p W₀ T₀ c × (marked p T′ c ≡ 1)
+  leads-marked x c i (here own) = let u = used n x i in (u, d .all-held x i (kept-owner (L .kept) (s₀ .room) x (begins-page _ _ _ _ u) ∙ own))
   leads-marked x c i (step {b = b} q f lt e own) =
       let h = leads-marked x b i q in
-      let v = s₀ .references b (h .0) f lt (omega arith) in
+      let v = s₀ .objects b (h .0) .references f lt (omega arith) in
       let w : fieldOf W₀ b f - 1 ≡ c = omega arith in
-      (subst (λ (y : ℕ). InUse p T₀ y) w v, next-closed b f c (h .0) (h .1) lt e own)
+      (subst (λ (y : ℕ). Begins p W₀ T₀ y) w v, next-closed b f c (h .0) (h .1) lt e own)
 
   pub levels-next : Levels p r (n + 1) gs calls W₀ T₀ W′ T′
   levels-next =
@@ -108,7 +108,7 @@ module _ {p : Sizes} {r n : ℕ} {gs : ℕ → ℕ} {calls : ℕ → List ℕ} {
         kept = kept-trans (L .kept) (d .kept);
         found = λ c u h. found′ c u h (in? c (d .done));
         lost = λ c u h. lost′ c u h (in? c (d .done));
-        beyond = λ c h. d .same-work c (λ i. let u = d .in-use c i .page in omega arith) ∙ L .beyond c h;
+        beyond = λ c h. d .same-work c (λ i. let u = begins-page _ _ _ _ (d .in-use c i) in omega arith) ∙ L .beyond c h;
         closed = next-closed;
       }
     where
@@ -136,11 +136,11 @@ module _ {p : Sizes} {r n : ℕ} {gs : ℕ → ℕ} {calls : ℕ → List ℕ} {
           last l lt h′ (no ne) old = old l (omega arith) h′
 
 -- a chain from a cell in use stays among cells in use
-pub leads-used : {p : Sizes} {r : ℕ} {W T : List ℕ} {x c : ℕ} → Shaped p W T → InUse p T x → Leads p r W T x c → InUse p T c
+pub leads-used : {p : Sizes} {r : ℕ} {W T : List ℕ} {x c : ℕ} → Shaped p W T → Begins p W T x → Leads p r W T x c → Begins p W T c
 leads-used s u (here own) = u
 leads-used {p} {r} {W} {T} {x} {c} s u (step {b = b} q f lt e own) =
     let w : fieldOf W b f - 1 ≡ c = omega arith in
-    subst (λ (y : ℕ). InUse p T y) w (s .references b (leads-used s u q) f lt (omega arith))
+    subst (λ (y : ℕ). Begins p W T y) w (s .objects b (leads-used s u q) .references f lt (omega arith))
 
 -- and it ends in r
 pub leads-owned : {p : Sizes} {r : ℕ} {W T : List ℕ} {x c : ℕ} → Leads p r W T x c → owner p T c ≡ r

@@ -11,26 +11,27 @@ use Rattle.rules.specs.declared.Sizes.{Sizes}
 use Rattle.layout.specs.Places.{Room, markAt, markOf}
 use Rattle.layout.specs.Cells.{workAt, workOf, pageOf, placeOf}
 use Rattle.layout.specs.Marks.{marked}
-use Rattle.layout.specs.Words.{InUse}
+use Rattle.layout.specs.Objects.{Begins, begins-page}
 use Rattle.promises.specs.Whole.{IsRef}
 use Rattle.mark.specs.Marks.{owner, Shaped, Reach, Chain, Linked, Pushed, Kept, kept-refl, kept-trans, kept-owner, kept-in-use, in-use-kept, kept-shaped, mark-same, mark-other, mark-other-cell}
 
 -- ---- the words after a push
 
 mark-long : {p : Sizes} {W T : List ℕ} (x : ℕ) → Shaped p W T → IsRef p W T x → 0 < x → markAt p (pageOf (x - 1)) < length T
-mark-long x s u l = omega (arith, s .room, u l .page)
+mark-long x s u l = omega (arith, s .room, begins-page _ _ _ _ (u l))
 
 module _ {p : Sizes} {r : ℕ} {W T : List ℕ} {top x : ℕ} {W′ T′ : List ℕ} {top′ : ℕ} (s : Shaped p W T) (u : IsRef p W T x) where
   linked-kept : Linked p r W T top x W′ T′ top′ → Kept p W T W′ T′
   linked-kept l =
       let c : ℕ = x - 1 in
       let w : ℕ = markOf p T (pageOf c) + 2 ^ placeOf c in
-      let b : pageOf c < p .pages = u (l .some) .page in
+      let b : pageOf c < p .pages = begins-page _ _ _ _ (u (l .some)) in
       subst₂ (λ (X Y : List ℕ). Kept p W T X Y) (sym (l .cells)) (sym (l .tables))
       (record {
         cells-length = length-set W (workAt c) top;
         tables-length = length-set T (markAt p (pageOf c)) w;
         words = λ q h. getD-set-other W (workAt c) q top 0 (λ e. h (omega arith));
+        beyond = λ q h. getD-set-other W (workAt c) q top 0 (λ e. omega arith);
         tables = λ q h. getD-set-other T (markAt p (pageOf c)) q w 0 (λ e. ⊎-elim {C = ⊥} (λ a. omega arith) (λ a. omega arith) h);
         high = λ q i h. mark-other p T c (mark-long x s u (l .some)) (l .off) q i (λ e f. omega arith);
       })
@@ -65,7 +66,7 @@ pub record Marking (p : Sizes) (r g : ℕ) (W₀ T₀ S₀ D S W T : List ℕ) (
   pub distinct : Distinct S
   pub distinct-done : Distinct D
   pub apart : (c : ℕ) → In c S → In c D → ⊥
-  pub in-use : (c : ℕ) → In c S ⊎ In c D → InUse p T₀ c
+  pub in-use : (c : ℕ) → In c S ⊎ In c D → Begins p W₀ T₀ c
   pub owned : (c : ℕ) → In c S ⊎ In c D → owner p T₀ c ≡ r
   pub reached : (c : ℕ) → In c S ⊎ In c D → Reach p r W₀ T₀ S₀ c
   pub on : (c : ℕ) → In c S ⊎ In c D → marked p T c ≡ 1
@@ -112,11 +113,11 @@ module _ {p : Sizes} {r g : ℕ} {W₀ T₀ S₀ D S W T : List ℕ} {top : ℕ}
       → Marking p r g W₀ T₀ S₀ D ((x - 1) ∷ S) W′ T′ top′
   linked-marking {x} {W′} {T′} {top′} ref reach l =
       let c : ℕ = x - 1 in
-      let u : InUse p T c = ref (l .some) in
+      let u : Begins p W T c = ref (l .some) in
       let k : Kept p W T W′ T′ = linked-kept (m .shaped) ref l in
-      let u₀ : InUse p T₀ c = in-use-kept (m .kept) (m .started) c u in
+      let u₀ : Begins p W₀ T₀ c = in-use-kept (m .kept) (m .started) c u in
       let long : markAt p (pageOf c) < length T = mark-long x (m .shaped) ref (l .some) in
-      let lw : workAt c < length W = omega (arith, m .shaped .cells-long, u .page) in
+      let lw : workAt c < length W = omega (arith, m .shaped .cells-long, begins-page _ _ _ _ u) in
       let fresh : In c S ⊎ In c D → ⊥ = (λ i. let a : marked p T c ≡ 1 = m .on c i in let b : marked p T c ≡ 0 = l .off in omega arith) in
       record {
         started = m .started;
@@ -131,9 +132,9 @@ module _ {p : Sizes} {r g : ℕ} {W₀ T₀ S₀ D S W T : List ℕ} {top : ℕ}
         distinct = (λ i. fresh (inl i), m .distinct);
         distinct-done = m .distinct-done;
         apart = λ d i j. ⊎-elim (λ e. fresh (inr (subst (λ (y : ℕ). In y D) e j))) (λ i. m .apart d i j) i;
-        in-use = λ d i. ⊎-elim (λ e. subst (λ (y : ℕ). InUse p T₀ y) (sym e) u₀) (m .in-use d) (first-or i);
+        in-use = λ d i. ⊎-elim (λ e. subst (λ (y : ℕ). Begins p W₀ T₀ y) (sym e) u₀) (m .in-use d) (first-or i);
         owned = λ d i.
-            ⊎-elim (λ e. subst (λ (y : ℕ). owner p T₀ y ≡ r) (sym e) (sym (kept-owner (m .kept) (m .started) c (u .page)) ∙ l .owned)) (m .owned d) (first-or i);
+            ⊎-elim (λ e. subst (λ (y : ℕ). owner p T₀ y ≡ r) (sym e) (sym (kept-owner (m .kept) (m .started) c (begins-page _ _ _ _ u)) ∙ l .owned)) (m .owned d) (first-or i);
         reached = λ d i. ⊎-elim (λ e. subst (λ (y : ℕ). Reach p r W₀ T₀ S₀ y) (sym e) reach) (m .reached d) (first-or i);
         on = λ d i.
             ⊎-elim (λ e. subst (λ (y : ℕ). marked p T′ y ≡ 1) (sym e) (pushed-on (m .shaped) ref (l .some) (inr l) (l .owned)))
@@ -169,13 +170,14 @@ over (inr j) = inr (inr j)
 popped : {p : Sizes} {r g : ℕ} {W₀ T₀ S₀ D S W T : List ℕ} {top c : ℕ} → Marking p r g W₀ T₀ S₀ D (c ∷ S) W T top
     → Marking p r g W₀ T₀ S₀ (c ∷ D) S (set W (workAt c) g) T (workOf W c)
 popped {p} {r} {g} {W₀} {T₀} {S₀} {D} {S} {W} {T} {top} {c} m =
-    let u : InUse p T₀ c = m .in-use c (inl (inl refl)) in
-    let lw : workAt c < length W = omega (arith, m .shaped .cells-long, u .page) in
+    let u : Begins p W₀ T₀ c = m .in-use c (inl (inl refl)) in
+    let lw : workAt c < length W = omega (arith, m .shaped .cells-long, begins-page _ _ _ _ u) in
     let k : Kept p W T (set W (workAt c) g) T =
     record {
       cells-length = length-set W (workAt c) g;
       tables-length = refl;
       words = λ q h. getD-set-other W (workAt c) q g 0 (λ e. h (omega arith));
+      beyond = λ q h. getD-set-other W (workAt c) q g 0 (λ e. omega (arith, begins-page _ _ _ _ u));
       tables = λ q h. refl;
       high = λ q i h. refl;
     } in
@@ -201,9 +203,9 @@ popped {p} {r} {g} {W₀} {T₀} {S₀} {D} {S} {W} {T} {top} {c} m =
 
 -- where the stack is not empty, its top, as the code has it, is popped
 pub popped-top : {p : Sizes} {r g : ℕ} {W₀ T₀ S₀ D W T : List ℕ} {top : ℕ} (S : List ℕ) → top ≢ 0 → Marking p r g W₀ T₀ S₀ D S W T top
-    → InUse p T (top - 1) × (S′ : List ℕ) × Marking p r g W₀ T₀ S₀ ((top - 1) ∷ D) S′ (set W (workAt (top - 1)) g) T (workOf W (top - 1))
+    → Begins p (set W (workAt (top - 1)) g) T (top - 1) × (S′ : List ℕ) × Marking p r g W₀ T₀ S₀ ((top - 1) ∷ D) S′ (set W (workAt (top - 1)) g) T (workOf W (top - 1))
 popped-top [] ne m = absurd (ne (m .chain))
 popped-top {p} {r} {g} {W₀} {T₀} {S₀} {D} {W} {T} {top} (c ∷ S) ne m =
     let e : c ≡ top - 1 = omega (arith, m .chain .0) in
-    subst (λ (x : ℕ). InUse p T x × (S′ : List ℕ) × Marking p r g W₀ T₀ S₀ (x ∷ D) S′ (set W (workAt x) g) T (workOf W x)) e
-    (kept-in-use (m .kept) (m .started) c (m .in-use c (inl (inl refl))), S, popped m)
+    subst (λ (x : ℕ). Begins p (set W (workAt x) g) T x × (S′ : List ℕ) × Marking p r g W₀ T₀ S₀ (x ∷ D) S′ (set W (workAt x) g) T (workOf W x)) e
+    (kept-in-use (popped m .kept) (m .started) c (m .in-use c (inl (inl refl))), S, popped m)

@@ -1,6 +1,7 @@
 -- The words that a marking reads and writes: the objects of a region, their mark bits, and what one push does.
 use mathlib.Core.Path.{_≡_, refl, sym, ap, _∙_, subst, subst₂}
 use mathlib.Core.Logic.{_≢_, _⊎_, inl, inr, ⊎-elim}
+use mathlib.Core.Bool.{false}
 use mathlib.Core.List.{List, [], _∷_}
 use Prim.Native.Nat.{ℕ, zero, suc, _+_, _-_, _^_, _≤_, _<_}
 use native.Mathlib.Decide.{ℕ-discrete, decLt}
@@ -9,24 +10,32 @@ use lib.ListN.{length, getD, set}
 use lib.Seq.{getD-set-same, getD-set-other}
 use Rattle.lists.specs.Bits.{bitAt, bit-lt, no-bits, none-high, set-same, set-other}
 use Rattle.lists.specs.Members.{In}
+use Rattle.lists.specs.Says.{true-not-false}
+use Rattle.lists.specs.Stores.{drop-same}
 use Rattle.rules.specs.declared.Sizes.{Sizes}
 use Rattle.layout.specs.declared.Kind.the-variants.{Reference}
-use Rattle.layout.specs.Places.{Room, ownerOf, usedOf, markAt, markOf, marksFrom, ownersFrom, usedFrom, cellsWords}
-use Rattle.layout.specs.Cells.{workAt, workOf, fieldOf, refsOf, pageOf, placeOf, cellOn, fieldAt, fieldCount, headAt, mostFields, pageCells, wordOf}
+use Rattle.layout.specs.Places.{Room, ownerOf, markAt, markOf, marksFrom, ownersFrom, cellsWords, count-room}
+use Rattle.layout.specs.Cells.{workAt, workOf, fieldOf, headOf, refsOf, pageOf, placeOf, cellOn, fieldAt, fieldCount, headAt, mostFields, room-most, pageCells, wordOf, head-there, field-word}
 use Rattle.layout.specs.Marks.{marked}
-use Rattle.layout.specs.Words.{InUse}
-use Rattle.promises.specs.Whole.{IsRef}
+use Rattle.layout.specs.Objects.{Begins}
+use Rattle.layout.specs.Words.{words}
+use Rattle.promises.specs.Whole.{ObjectWhole}
+use Rattle.promises.specs.Areas.{Area, markWords, workWords, among, Within, Only, only-trans, mark-in, arrays-apart, tables-only, cells-only}
+use Rattle.promises.specs.Frames.{begins-frame, begins-was, objects-stay, objects-frame}
 
 -- the region that owns the page of a cell
 abbrev pub owner : Sizes → List ℕ → ℕ → ℕ
 owner p T c = ownerOf p T (pageOf c)
 
--- the slices are long enough, and cells in use have at most as many references as an object has fields, each null or to a cell in use
+-- the slices are long enough, and the objects whole
 pub record Shaped (p : Sizes) (W T : List ℕ) : Type 0 where
   pub room : Room p (length T)
   pub cells-long : cellsWords p ≤ length W
-  pub refs-few : (c : ℕ) → InUse p T c → refsOf W c ≤ mostFields
-  pub references : (c : ℕ) → InUse p T c → (f : ℕ) → f < refsOf W c → IsRef p W T (fieldOf W c f)
+  pub objects : (c : ℕ) → Begins p W T c → ObjectWhole p W T c
+
+-- an object has at most as many references as it may have fields
+pub shaped-few : {p : Sizes} {W T : List ℕ} → Shaped p W T → (c : ℕ) → Begins p W T c → refsOf W c ≤ mostFields
+shaped-few s c u = omega (arith, s .objects c u .head)
 
 -- c is r's and not marked, and a chain of slots inside r leads to it from one of the cells S, over cells that are not marked
 pub data Reach (p : Sizes) (r : ℕ) (W T S : List ℕ) : ℕ → Type 0 where
@@ -110,11 +119,12 @@ pub record Kept (p : Sizes) (W T W′ T′ : List ℕ) : Type 0 where
   pub cells-length : length W′ ≡ length W
   pub tables-length : length T′ ≡ length T
   pub words : (q : ℕ) → wordOf q ≢ 1 → getD W′ q 0 ≡ getD W q 0
+  pub beyond : (q : ℕ) → cellsWords p ≤ q → getD W′ q 0 ≡ getD W q 0
   pub tables : (q : ℕ) → (q < marksFrom p) ⊎ (marksFrom p + p .pages ≤ q) → getD T′ q 0 ≡ getD T q 0
   pub high : (q i : ℕ) → 16 ≤ i → bitAt (getD T′ q 0) i ≡ bitAt (getD T q 0) i
 
 pub kept-refl : (p : Sizes) (W T : List ℕ) → Kept p W T W T
-kept-refl p W T = record { cells-length = refl; tables-length = refl; words = λ q h. refl; tables = λ q h. refl; high = λ q i h. refl }
+kept-refl p W T = record { cells-length = refl; tables-length = refl; words = λ q h. refl; beyond = λ q h. refl; tables = λ q h. refl; high = λ q i h. refl }
 
 pub kept-trans : {p : Sizes} {W T W′ T′ W″ T″ : List ℕ} → Kept p W T W′ T′ → Kept p W′ T′ W″ T″ → Kept p W T W″ T″
 kept-trans a b =
@@ -122,29 +132,51 @@ kept-trans a b =
       cells-length = b .cells-length ∙ a .cells-length;
       tables-length = b .tables-length ∙ a .tables-length;
       words = λ q h. b .words q h ∙ a .words q h;
+      beyond = λ q h. b .beyond q h ∙ a .beyond q h;
       tables = λ q h. b .tables q h ∙ a .tables q h;
       high = λ q i h. b .high q i h ∙ a .high q i h;
     }
 
 module _ {p : Sizes} {W T W′ T′ : List ℕ} (k : Kept p W T W′ T′) where
+  pub kept-head : (c : ℕ) → headOf W′ c ≡ headOf W c
+  kept-head c = k .words (headAt c) (omega (arith, head-there c))
+
   pub kept-refs : (c : ℕ) → refsOf W′ c ≡ refsOf W c
-  kept-refs c = ap (fieldCount Reference) (k .words (headAt c) (omega arith))
+  kept-refs c = ap (fieldCount Reference) (kept-head c)
 
   pub kept-field : (c f : ℕ) → f < mostFields → fieldOf W′ c f ≡ fieldOf W c f
-  kept-field c f h = k .words (fieldAt c f) (omega arith)
+  kept-field c f h = k .words (fieldAt c f) (omega (arith, field-word c f h))
 
   module _ (room : Room p (length T)) where
     pub kept-owner : (c : ℕ) → pageOf c < p .pages → owner p T′ c ≡ owner p T c
     kept-owner c h = k .tables (ownersFrom p + pageOf c) (inl (omega arith))
 
-    pub kept-used : (page : ℕ) → page < p .pages → usedOf p T′ page ≡ usedOf p T page
-    kept-used page h = k .tables (usedFrom p + page) (inl (omega arith))
+    -- the working words are other words, and nothing else is
+    pub kept-only : (m : List ℕ) → Only (markWords ∷ workWords ∷ []) p (words W m T) (words W′ m T′)
+    kept-only m = only-trans other-marks other-works (objects-stay other-marks refl refl)
+      where
+        outside : (a : Area) (j : ℕ) → among a (markWords ∷ []) ≡ false → Within a p j → Dec (j < marksFrom p) → Dec (j < marksFrom p + p .pages) → (j < marksFrom p) ⊎ (marksFrom p + p .pages ≤ j)
+        outside a j n x (yes l) d = inl l
+        outside a j n x (no l) (no h) = inr (omega arith)
+        outside a j n x (no l) (yes h) =
+            let e : markAt p (j - marksFrom p) ≡ j = omega arith in
+            absurd (arrays-apart p a markWords j (markAt p (j - marksFrom p)) n x (mark-in p (j - marksFrom p) (omega arith)) (sym e))
 
-    pub kept-in-use : (c : ℕ) → InUse p T c → InUse p T′ c
-    kept-in-use c u = record { page = u .page; place = omega (arith, kept-used (pageOf c) (u .page), u .place) }
+        other-marks : Only (markWords ∷ []) p (words W m T) (words W m T′)
+        other-marks =
+            tables-only p (words W m T) T′ (markWords ∷ []) (k .tables-length)
+            (λ a n j x. k .tables j (outside a j n x (decLt j (marksFrom p)) (decLt j (marksFrom p + p .pages)))) (λ j l. k .tables j (inr (omega (arith, count-room p))))
 
-    pub in-use-kept : (c : ℕ) → InUse p T′ c → InUse p T c
-    in-use-kept c u = record { page = u .page; place = omega (arith, kept-used (pageOf c) (u .page), u .place) }
+        other-works : Only (workWords ∷ []) p (words W m T′) (words W′ m T′)
+        other-works =
+            cells-only p (words W m T′) W′ (workWords ∷ []) (λ n c b. kept-head c) (λ n. absurd (true-not-false (sym n)))
+            (λ n c b f l. kept-field c f (omega (arith, room-most (headOf W c)))) (record { long = k .cells-length; rest = drop-same (cellsWords p) W W′ (k .cells-length) (k .beyond) })
+
+    pub kept-in-use : (c : ℕ) → Begins p W T c → Begins p W′ T′ c
+    kept-in-use = begins-frame (kept-only []) refl refl
+
+    pub in-use-kept : (c : ℕ) → Begins p W′ T′ c → Begins p W T c
+    in-use-kept = begins-was (kept-only []) refl refl
 
     pub kept-room : Room p (length T′)
     kept-room = subst (Room p) (sym (k .tables-length)) room
@@ -154,13 +186,7 @@ module _ {p : Sizes} {W T W′ T′ : List ℕ} (k : Kept p W T W′ T′) where
       record {
         room = kept-room (s .room);
         cells-long = omega (arith, s .cells-long, k .cells-length);
-        refs-few = λ c u. omega (arith, s .refs-few c (in-use-kept (s .room) c u), kept-refs c);
-        references = λ c u f h.
-            let v : InUse p T c = in-use-kept (s .room) c u in
-            let l : refsOf W c ≤ mostFields = s .refs-few c v in
-            let b : f < refsOf W c = omega (arith, kept-refs c) in
-            let e : fieldOf W′ c f ≡ fieldOf W c f = kept-field c f (omega arith) in
-            subst (IsRef p W′ T′) (sym e) (λ n. kept-in-use (s .room) (fieldOf W c f - 1) (s .references c v f b n));
+        objects = objects-frame (kept-only (s .room) []) refl refl refl (s .objects);
       }
 
 -- ---- whether a cell is marked

@@ -9,6 +9,7 @@ use Rattle.lists.specs.Members.{In}
 use Rattle.rules.specs.declared.Sizes.{Sizes}
 use Rattle.promises.specs.Whole.{IsRef}
 use Rattle.layout.specs.Marks.{marked}
+use Rattle.layout.specs.Objects.{begins-page}
 use Rattle.mark.specs.Marks.{owner, Shaped, Reach, Pushed, Kept, kept-refl, kept-trans, kept-owner, kept-in-use, kept-shaped}
 use Rattle.mark.specs.Marking.{Marking, pushed-kept, pushed-mono, pushed-on, pushed-marking}
 
@@ -50,7 +51,7 @@ module _ {p : Sizes} {r : ℕ} {W T : List ℕ} {top : ℕ} (ref : ℕ → ℕ) 
       let e : x ≡ 1 + c = omega arith in
       let h : (In c (m′ .0) ⊎ In c D → ⊥) = (λ j. let a : marked p Y c ≡ 1 = m′ .1 .on c j in let z : marked p Y c ≡ 0 = off in omega arith) in
       let q′ : Named p W T ref n (1 + c) = subst (Named p W T ref n) e q in
-      let page = kept-in-use k (s .room) c (q .is-ref l) .page in
+      let page = begins-page _ _ _ _ (kept-in-use k (s .room) c (q .is-ref l)) in
       reach c q′ (sym (kept-owner (m′ .1 .kept) (m′ .1 .started) c page) ∙ own) (sym (m′ .1 .same-mark c h) ∙ off))
       u
 
@@ -81,6 +82,6 @@ module _ {p : Sizes} {r : ℕ} {ref : ℕ → ℕ} {n : ℕ} {W T : List ℕ} {t
             let z : x - 1 ≡ d = omega arith in
             let l : 0 < x = omega arith in
             subst (λ (k : ℕ). marked p T″ k ≡ 1) z
-            (pushed-on pushing-shaped (ref-read x e) l q (kept-owner pushing-kept (s .room) (x - 1) (u l .page) ∙ ap (owner p T) z ∙ own)))
+            (pushed-on pushing-shaped (ref-read x e) l q (kept-owner pushing-kept (s .room) (x - 1) (begins-page _ _ _ _ (u l)) ∙ ap (owner p T) z ∙ own)))
             j l y;
       }

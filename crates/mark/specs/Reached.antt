@@ -19,16 +19,16 @@ use Rattle.laws.specs.RegionLaws.{region-high, thread-at, parent-at, join-contr
 use Rattle.laws.specs.GraphLaws as gl
 use Rattle.laws.specs.GraphLaws.{Refers, Holds, bySlot, byOwn, byOther}
 use Rattle.layout.specs.Places.{varOf, usedIn, slotIn, slotRegionIn, Room}
-use Rattle.layout.specs.Cells.{fieldAt, fieldOf, pageOf, cellOf, wordOf}
-use Rattle.layout.specs.Words.{Words, Used, ownerIn, homeIn, depthIn, refCount, refsIn, varsIn, graphOf}
+use Rattle.layout.specs.Cells.{fieldAt, fieldOf, pageOf, pageAt, roomFor, fields-room}
+use Rattle.layout.specs.Words.{Words, BeginsIn, ownerIn, homeIn, depthIn, headIn, refCount, refsIn, varsIn, graphOf}
 use Rattle.remember.specs.Crossing.{other, regionOf, crossTo}
 use Rattle.promises.specs.Whole.{WholeFor, IsRef}
-use Rattle.layout.specs.Objects.{Slot, slot-low, slot-word, field-slot}
-use Rattle.remember.specs.Crosses.{slot-cross, cross-slot}
+use Rattle.layout.specs.Objects.{begins-page, field-on, Slot, slot-low, slot-page, slot-word, field-slot}
+use Rattle.remember.specs.Crosses.{slot-cross}
 use Rattle.promises.specs.Slots.{region-of}
 use Rattle.promises.specs.Reading.{range, cells-room, remember-room, used-home, used-owned, used-alive, alive-used, cell-low, length-refs, getD-refs, length-vars, getD-vars, refs-few}
 use Rattle.mark.specs.Marks.{Shaped, Leads, Leads.here, Leads.step, named, named-in, named-from}
-use Rattle.mark.specs.Holders.{varCalls, varHeld, slotCalls, slotHeld, heldCells, Holding, calls-own, calls-other, var-some, slot-some}
+use Rattle.mark.specs.Holders.{varCalls, varHeld, slotCalls, slotHeld, heldCells, Holding, entry-slot, calls-own, calls-other, var-some, slot-some}
 
 -- ---- numbers that are chosen by tests
 
@@ -51,11 +51,11 @@ is-other o g l n = ap₂ (λ (a b : Bool). cond a 0 (cond b 0 g)) (lt-leb g 1 l)
 module _ (s : Sizes) (w : Words) (k : WholeFor s w) where
   -- ---- objects and their slots
 
-  pub home-cell : (c q : ℕ) → homeIn s w c ≡ q → 0 < q → Used s w c × (ownerIn s w (pageOf c) ≡ q)
+  pub home-cell : (c q : ℕ) → homeIn s w c ≡ q → 0 < q → BeginsIn s w c × (ownerIn s w (pageOf c) ≡ q)
   home-cell c q e l =
       let u = alive-used s w k c (λ (z : homeIn s w c ≡ 0). omega arith) in (u, sym (used-home s w k c u) ∙ e)
 
-  pub cell-home : (c q : ℕ) → Used s w c → ownerIn s w (pageOf c) ≡ q → homeIn s w c ≡ q
+  pub cell-home : (c q : ℕ) → BeginsIn s w c → ownerIn s w (pageOf c) ≡ q → homeIn s w c ≡ q
   cell-home c q u e = used-home s w k c u ∙ e
 
   pub refers-field : (y x : ℕ) → Refers (graphOf s w) y x → (f : ℕ) × (f < refCount w y) × (fieldOf (w .cells) y f ≡ suc x)
@@ -64,19 +64,23 @@ module _ (s : Sizes) (w : Words) (k : WholeFor s w) where
       let l : i .0 < refCount w y = omega (arith, i .1, length-refs s w k y (alive-used s w k y (r .there))) in
       (i .0, l, sym (getD-refs w y (i .0) l) ∙ i .2)
 
-  pub field-refers : (y f x : ℕ) → Used s w y → f < refCount w y → fieldOf (w .cells) y f ≡ suc x → Refers (graphOf s w) y x
+  pub field-refers : (y f x : ℕ) → BeginsIn s w y → f < refCount w y → fieldOf (w .cells) y f ≡ suc x → Refers (graphOf s w) y x
   field-refers y f x u l e =
       record { below = cell-low s w k y u; there = used-alive s w k y u; slot = getD-in (refsIn w y) f x (getD-refs w y f l ∙ e) }
 
   -- what a reference names is in use
-  field-used : (y f x : ℕ) → Used s w y → f < refCount w y → fieldOf (w .cells) y f ≡ suc x → Used s w x
+  -- a reference field lies in its object's room
+  ref-room : (y f : ℕ) → BeginsIn s w y → f < refCount w y → f < roomFor (headIn w y)
+  ref-room y f u l = omega (arith, fields-room (headIn w y) (k .objects y u .head))
+
+  field-used : (y f x : ℕ) → BeginsIn s w y → f < refCount w y → fieldOf (w .cells) y f ≡ suc x → BeginsIn s w x
   field-used y f x u l e =
-      let z : fieldOf (w .cells) y f - 1 ≡ x = omega arith in subst (Used s w) z (k .objects y u .references f l (omega arith))
+      let z : fieldOf (w .cells) y f - 1 ≡ x = omega arith in subst (BeginsIn s w) z (k .objects y u .references f l (omega arith))
 
   -- ---- chains
 
   module _ (r : ℕ) (pos : 0 < r) where
-    pub chain-rules : (x c : ℕ) → Used s w x → Leads s r (w .cells) (w .tables) x c → gl.Leads (graphOf s w) r x c × Used s w c × (homeIn s w c ≡ r)
+    pub chain-rules : (x c : ℕ) → BeginsIn s w x → Leads s r (w .cells) (w .tables) x c → gl.Leads (graphOf s w) r x c × BeginsIn s w c × (homeIn s w c ≡ r)
     chain-rules x c u (here own) = (gl.itself, u, cell-home x r u own)
     chain-rules x c u (step {b = b} q f lt e own) =
         let h = chain-rules x b u q in
@@ -96,7 +100,7 @@ module _ (s : Sizes) (w : Words) (k : WholeFor s w) where
     control : q ≡ 1 → Lies q
     level : (u i : ℕ) → i < depthIn w u → i < s .depth → q ≡ regionAt s u (suc i) → Lies q
 
-  pub cell-lies : (c : ℕ) → Used s w c → Lies (ownerIn s w (pageOf c))
+  pub cell-lies : (c : ℕ) → BeginsIn s w c → Lies (ownerIn s w (pageOf c))
   unfolding regionAt
   cell-lies c u = go (decLt 1 q)
     where
@@ -106,7 +110,7 @@ module _ (s : Sizes) (w : Words) (k : WholeFor s w) where
       go : Dec (1 < q) → Lies q
       go (no n) = let nz = used-owned s w k c u in control (omega arith)
       go (yes l) =
-          let o = k .pages (pageOf c) (u .page) .region l in
+          let o = k .pages (pageOf c) (begins-page _ _ _ _ u) .region l in
           let d : 0 < s .depth = omega (arith, range s w k .depth-low) in
           level (threadOf s q) ((q - 2) % s .depth) (omega (arith, o .level)) (mod-lt (q - 2) d) (number (q - 2) (omega arith))
         where
@@ -117,61 +121,32 @@ module _ (s : Sizes) (w : Words) (k : WholeFor s w) where
 
   pub whole-shaped : Room s (length (w .tables)) → Shaped s (w .cells) (w .tables)
   whole-shaped room =
-      record { room = room; cells-long = cells-room s w k; refs-few = refs-few s w k; references = λ c u f l. k .objects c u .references f l }
-
-  -- the slot of entry i
-  pub entry-slot : (i : ℕ) → i < usedIn (w .remember) → Slot s (w .cells) (w .tables) (slotIn (w .remember) i)
-  entry-slot i l =
-      let e = k .remember .entries .named i l in
-      cross-slot s (w .cells) (w .tables) (slotIn (w .remember) i) (omega (arith, e .region, e .right))
+      record { room = room; cells-long = cells-room s w k; objects = k .objects }
 
   pub whole-holding : Holding s (w .cells) (w .remember) (w .tables)
-  whole-holding =
-      record {
-        some = range s w k .variables-low;
-        long = remember-room s w k;
-        few = k .remember .entries .room;
-        variables = k .variables;
-        slot = λ i l. k .remember .entries .named i l .slot;
-        field = λ i l e. omega (arith, slot-word s (w .cells) (w .tables) (slotIn (w .remember) i) (entry-slot i l) .1);
-        slots = λ i l.
-            let q = slotIn (w .remember) i in
-            let o = entry-slot i l in
-            subst (λ (z : ℕ). IsRef s (w .cells) (w .tables) (getD (w .cells) z 0)) (o .at) (k .objects (o .object) (o .begins) .references (o .field) (o .low));
-      }
+  whole-holding = record { some = range s w k .variables-low; long = remember-room s w k; variables = k .variables; remember = k .remember }
 
-  -- ---- entry i of region r: its slot lies outside r and names an object of r
-
-  pub record Enters (r i : ℕ) : Type 0 where
-    pub used : Used s w (cellOf (slotIn (w .remember) i))
-    pub field : ℕ
-    pub below : field < refCount w (cellOf (slotIn (w .remember) i))
-    pub at : fieldAt (cellOf (slotIn (w .remember) i)) field ≡ slotIn (w .remember) i
-    pub outside : ownerIn s w (pageOf (cellOf (slotIn (w .remember) i))) ≡ r → ⊥
-
-  pub entry-enters : (r i : ℕ) → i < usedIn (w .remember) → slotRegionIn (s .entries) (w .remember) i ≡ r → Enters r i
-  entry-enters r i l e =
+  -- the slot of an entry lies outside the region that it points into
+  pub entry-outside : (i : ℕ) → i < usedIn (w .remember) → ownerIn s w (pageAt (slotIn (w .remember) i)) ≡ slotRegionIn (s .entries) (w .remember) i → ⊥
+  entry-outside i l z =
       let q = slotIn (w .remember) i in
-      let o = entry-slot i l in
-      let f = slot-word s (w .cells) (w .tables) q o in
       let n = k .remember .entries .named i l in
       let x = regionOf s (w .tables) (getD (w .cells) q 0) in
-      let c : other (ownerIn s w (pageOf (cellOf q))) x ≡ r = sym (slot-cross s (w .cells) (w .tables) q o) ∙ n .right ∙ e in
-      let h = other-is (ownerIn s w (pageOf (cellOf q))) x (omega (arith, n .region)) in
-      record { used = f .0; field = wordOf q - 2; below = omega (arith, f .1); at = omega (arith, f .1); outside = λ z. h .2 (z ∙ sym c ∙ h .0) }
+      let c : other (ownerIn s w (pageAt q)) x ≡ slotRegionIn (s .entries) (w .remember) i = sym (slot-cross s (w .cells) (w .tables) q (entry-slot whole-holding i l)) ∙ n .right in
+      let h = other-is (ownerIn s w (pageAt q)) x (omega (arith, n .region)) in
+      h .2 (z ∙ sym c ∙ h .0)
 
-  -- and each such slot has an entry
-  pub enters-entry : (r y f x : ℕ) → 1 < r → Used s w y → (ownerIn s w (pageOf y) ≡ r → ⊥) → f < refCount w y → fieldOf (w .cells) y f ≡ suc x
+  -- and each slot outside r that points into it has an entry
+  pub enters-entry : (r y f x : ℕ) → 1 < r → BeginsIn s w y → (ownerIn s w (pageOf y) ≡ r → ⊥) → f < refCount w y → fieldOf (w .cells) y f ≡ suc x
       → ownerIn s w (pageOf x) ≡ r → (i : ℕ) × (i < usedIn (w .remember)) × (slotIn (w .remember) i ≡ fieldAt y f) × (slotRegionIn (s .entries) (w .remember) i ≡ r)
   enters-entry r y f x pos u out l e own =
       let q = fieldAt y f in
-      let cell : cellOf q ≡ y = omega (arith, refs-few s w k y u) in
-      let o = field-slot s (w .cells) (w .tables) y f u (omega (arith, refs-few s w k y u)) l in
+      let o = field-slot s (w .cells) (w .tables) y f u (ref-room y f u l) l in
       let v = field-used y f x u l e in
       let c : crossTo s (w .cells) (w .tables) q ≡ r =
       slot-cross s (w .cells) (w .tables) q o
-      ∙ ap₂ (λ (a b : ℕ). other (ownerIn s w (pageOf a)) (regionOf s (w .tables) b)) cell e
-      ∙ ap (other (ownerIn s w (pageOf y))) (region-of s (w .tables) x v ∙ own) ∙ is-other (ownerIn s w (pageOf y)) r pos out in
+      ∙ ap₂ (λ (a b : ℕ). other (ownerIn s w a) (regionOf s (w .tables) b)) (field-on s (w .cells) (w .tables) y u f (ref-room y f u l)) e
+      ∙ ap (other (ownerIn s w (pageOf y))) (region-of s (w .tables) x (begins-page _ _ _ _ v) ∙ own) ∙ is-other (ownerIn s w (pageOf y)) r pos out in
       let i = k .remember .every q (slot-low s (w .cells) (w .tables) q o) (omega arith) in
       let n = k .remember .entries .named (i .0) (i .1) in
       (i .0, i .1, i .2, sym (n .right) ∙ ap (crossTo s (w .cells) (w .tables)) (i .2) ∙ c)
@@ -217,11 +192,12 @@ module _ (s : Sizes) (w : Words) (k : WholeFor s w) where
             let q = named-from (slotHeld s (w .cells) (w .remember) (w .tables) r g) (usedIn (w .remember)) x m in
             let a = some-cond (eqb (slotRegionIn (s .entries) (w .remember) (q .0)) r) _ x (q .2) in
             let b = some-cond (eqb (slotCalls s (w .remember) (w .tables) r (q .0)) g) _ x (a .1) in
-            let n = entry-enters r (q .0) (q .1) (eqb-true _ _ (a .0)) in
-            let y = cellOf (slotIn (w .remember) (q .0)) in
-            let f : fieldOf (w .cells) y (n .field) ≡ suc x = ap (λ (z : ℕ). getD (w .cells) z 0) (n .at) ∙ b .1 ∙ one-add x in
-            let hy : homeIn s w y ≡ ownerIn s w (pageOf y) = used-home s w k y (n .used) in
-            bySlot y (field-refers y (n .field) x (n .used) (n .below) f) (λ z. n .outside (sym hy ∙ z)) (sym (eqb-true _ _ (b .0)) ∙ ap (join s r) (sym hy))
+            let at = slotIn (w .remember) (q .0) in
+            let o = entry-slot whole-holding (q .0) (q .1) in
+            let y = o .object in
+            let f : fieldOf (w .cells) y (o .field) ≡ suc x = ap (λ (z : ℕ). getD (w .cells) z 0) (o .at) ∙ b .1 ∙ one-add x in
+            let hy : homeIn s w y ≡ ownerIn s w (pageAt at) = used-home s w k y (o .begins) ∙ ap (ownerIn s w) (sym (slot-page s (w .cells) (w .tables) at o)) in
+            bySlot y (field-refers y (o .field) x (o .begins) (o .low) f) (λ z. entry-outside (q .0) (q .1) (sym hy ∙ z ∙ sym (eqb-true _ _ (a .0)))) (sym (eqb-true _ _ (b .0)) ∙ ap (join s r) (sym hy))
 
     -- a variable, or a slot outside r, that calls for the region of level l is held there
     var-held : (x l i : ℕ) → getD (varsIn s w) i 0 ≡ suc x → regionAt s t l ≡ varCalls s t outer i → In x (held (regionAt s t l))
@@ -243,17 +219,16 @@ module _ (s : Sizes) (w : Words) (k : WholeFor s w) where
         let hy = used-home s w k y u in
         let n = enters-entry r y (i .0) x (region-high s t j) u (λ z. o (hy ∙ z)) (i .1) (i .2) (home-cell x r h (omega (arith, region-high s t j)) .1) in
         let b : i .0 < refCount w y = i .1 in
-        let back : cellOf (fieldAt y (i .0)) ≡ y = omega (arith, refs-few s w k y u) in
-        let cell : cellOf (slotIn (w .remember) (n .0)) ≡ y = ap cellOf (n .2) ∙ back in
+        let page : pageAt (slotIn (w .remember) (n .0)) ≡ pageOf y = ap pageAt (n .2) ∙ field-on s (w .cells) (w .tables) y u (i .0) (ref-room y (i .0) u b) in
         let g : ℕ = regionAt s t l in
-        let call : slotCalls s (w .remember) (w .tables) r (n .0) ≡ g = ap (λ (z : ℕ). join s r (ownerIn s w (pageOf z))) cell ∙ ap (join s r) (sym hy) ∙ e in
+        let call : slotCalls s (w .remember) (w .tables) r (n .0) ≡ g = ap (λ (z : ℕ). join s r (ownerIn s w z)) page ∙ ap (join s r) (sym hy) ∙ e in
         in-right x (named (varHeld s (w .tables) t outer g) (s .threads * s .variables))
         (named (slotHeld s (w .cells) (w .remember) (w .tables) r g) (usedIn (w .remember)))
         (named-in (slotHeld s (w .cells) (w .remember) (w .tables) r g) (usedIn (w .remember)) (n .0) x (n .1)
         (sym (slot-some s (w .cells) (w .remember) (w .tables) r g (n .0) (n .3) call) ∙ ap (λ (z : ℕ). getD (w .cells) z 0) (n .2) ∙ i .2 ∙ sym (one-add x)))
 
     -- what a slot outside r calls for is the region of a level below
-    slot-level : (y : ℕ) → Used s w y → (homeIn s w y ≡ r → ⊥) → (l : ℕ) × (l < suc j) × (join s r (homeIn s w y) ≡ regionAt s t l)
+    slot-level : (y : ℕ) → BeginsIn s w y → (homeIn s w y ≡ r → ⊥) → (l : ℕ) × (l < suc j) × (join s r (homeIn s w y) ≡ regionAt s t l)
     unfolding regionAt
     slot-level y u o = go (cell-lies y u)
       where

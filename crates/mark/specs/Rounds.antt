@@ -25,7 +25,7 @@ level-pending {p} {r} {g} thread outer {W} {m} {T} {W₁} {T₁} {W₂} {T₂} {
     let S : List ℕ = named (varHeld p T thread outer g) n in
     subst (λ (l : List ℕ). Pending p r g W T (S ++ l) W₂ T₂ top′) (named-same _ _ (usedIn m) (kept-slot-held k (s .room) h r g))
     (seeded g (varHeld p T thread outer g) (slotHeld p W₁ m T₁ r g) n (usedIn m) s
-    (λ i l. subst (IsRef p W T) (sym (kept-slot-held k (s .room) h r g i l)) (slot-held-ref h r g i l)) a b)
+    (λ i l. subst (IsRef p W T) (sym (kept-slot-held k (s .room) h r g i l)) (slot-held-ref s h r g i l)) a b)
 
 -- the cells that holders of each level of the thread hold
 abbrev pub levelCells : Sizes → List ℕ → List ℕ → List ℕ → ℕ → ℕ → ℕ → ℕ → List ℕ
@@ -54,5 +54,5 @@ module _ {p : Sizes} {r n : ℕ} {W₀ m T₀ W T : List ℕ} (s₀ : Shaped p W
     pub round-levels : {W′ T′ : List ℕ} {k : ℕ} → Drained p r g W T (heldCells p W₀ m T₀ r thread outer g) W′ T′ k
         → Levels p r (n + 1) (regionAt p thread) (levelCells p W₀ m T₀ r thread outer) W₀ T₀ W′ T′
     round-levels {W′} {T′} {k} d =
-        levels-next s₀ (λ l x i. held-used h₀ r thread outer (regionAt p thread l) x i) L
+        levels-next s₀ (λ l x i. held-used s₀ h₀ r thread outer (regionAt p thread l) x i) L
         (subst (λ (z : ℕ). Drained p r z W T (heldCells p W₀ m T₀ r thread outer z) W′ T′ k) e d)

@@ -19,7 +19,8 @@ use Rattle.laws.specs.GraphLaws.{Reaches, target-absorbs, target-reached, targe
 use Rattle.layout.specs.Places.{depthOf, markAt, markOf, Room, room, marksFrom}
 use Rattle.layout.specs.Cells.{workAt, workOf, pageOf, placeOf, cellOf, wordOf}
 use Rattle.layout.specs.Marks.{marked}
-use Rattle.layout.specs.Words.{Words, words, Used, ownerIn, depthIn, graphOf}
+use Rattle.layout.specs.Objects.{begins-page}
+use Rattle.layout.specs.Words.{Words, words, BeginsIn, ownerIn, depthIn, graphOf}
 use Rattle.promises.specs.Whole.{WholeFor}
 use Rattle.promises.specs.Ends.{Part, partOf}
 use Rattle.promises.specs.Reading.{range, tables-room}
@@ -32,15 +33,15 @@ use Rattle.mark.specs.Reached.{cell-home, chain-rules, rules-chain, whol
 -- the words w became w′ by marking the survivors of an end
 pub record Marked (s : Sizes) (w : Words) (e : Part) (w′ : Words) : Type 0 where
   -- word 1 of an object of the part is the region that it goes to, 0 if it is freed
-  pub goes : (c : ℕ) → Used s w c → e .ends (pageOf c) → workOf (w′ .cells) c ≡ e .goes c
+  pub goes : (c : ℕ) → BeginsIn s w c → e .ends (pageOf c) → workOf (w′ .cells) c ≡ e .goes c
   -- its bit is set exactly if it survives
-  pub survives : (c : ℕ) → Used s w c → e .ends (pageOf c) → 0 < e .goes c → marked s (w′ .tables) c ≡ 1
-  pub freed : (c : ℕ) → Used s w c → e .ends (pageOf c) → e .goes c ≡ 0 → marked s (w′ .tables) c ≡ 0
+  pub survives : (c : ℕ) → BeginsIn s w c → e .ends (pageOf c) → 0 < e .goes c → marked s (w′ .tables) c ≡ 1
+  pub freed : (c : ℕ) → BeginsIn s w c → e .ends (pageOf c) → e .goes c ≡ 0 → marked s (w′ .tables) c ≡ 0
   -- no other bit is set
-  pub only : (c : ℕ) → pageOf c < s .pages → marked s (w′ .tables) c ≡ 1 → Used s w c × e .ends (pageOf c)
+  pub only : (c : ℕ) → pageOf c < s .pages → marked s (w′ .tables) c ≡ 1 → BeginsIn s w c × e .ends (pageOf c)
   pub small : (page : ℕ) → page < s .pages → markOf s (w′ .tables) page < 2 ^ 16
   -- every other word is as it was
-  pub cells : (q : ℕ) → ((c : ℕ) → q ≡ workAt c → Used s w c → e .ends (pageOf c) → ⊥) → getD (w′ .cells) q 0 ≡ getD (w .cells) q 0
+  pub cells : (q : ℕ) → ((c : ℕ) → q ≡ workAt c → BeginsIn s w c → e .ends (pageOf c) → ⊥) → getD (w′ .cells) q 0 ≡ getD (w .cells) q 0
   pub tables : (q : ℕ) → ((page : ℕ) → page < s .pages → q ≡ markAt s page → ⊥) → getD (w′ .tables) q 0 ≡ getD (w .tables) q 0
   pub remember : w′ .remember ≡ w .remember
   pub cells-length : length (w′ .cells) ≡ length (w .cells)
@@ -63,7 +64,7 @@ module _ (s : Sizes) (w : Words) (k : WholeFor s w) (space : Room s (length (w .
 
   held-reaches : (l c : ℕ) → Held s r (w .cells) (w .tables) calls l c → Reaches s (graphOf s w) r (regionAt s t l) c
   held-reaches l c h =
-      let u = held-used (whole-holding s w k) r t (regionAt s t j) (regionAt s t l) (h .first) (h .called) in
+      let u = held-used (whole-shaped s w k space) (whole-holding s w k) r t (regionAt s t j) (regionAt s t l) (h .first) (h .called) in
       let lies = cell-home s w k (h .first) r u (leads-from (h .leads)) in
       record {
         first = h .first;
@@ -101,10 +102,10 @@ module _ (s : Sizes) (w : Words) (k : WholeFor s w) (space : Room s (length (w .
   off : (c : ℕ) → (marked s T′ c ≡ 1 → ⊥) → marked s T′ c ≡ 0
   off c n = omega (arith, bit-lt (placeOf c) (markOf s T′ (pageOf c)))
 
-  found-owned : (c : ℕ) → pageOf c < s .pages → marked s T′ c ≡ 1 → Used s w c × (ownerIn s w (pageOf c) ≡ r)
+  found-owned : (c : ℕ) → pageOf c < s .pages → marked s T′ c ≡ 1 → BeginsIn s w c × (ownerIn s w (pageOf c) ≡ r)
   found-owned c b on =
       let h = L .found c b on .1 .reached in
-      let u = held-used (whole-holding s w k) r t (regionAt s t j) (regionAt s t (L .found c b on .0)) (h .first) (h .called) in
+      let u = held-used (whole-shaped s w k space) (whole-holding s w k) r t (regionAt s t j) (regionAt s t (L .found c b on .0)) (h .first) (h .called) in
       (leads-used (whole-shaped s w k space) u (h .leads), leads-owned (h .leads))
 
   pub levels-marked : Marked s w (partOf s w r) (words W′ (w .remember) T′)
@@ -112,7 +113,7 @@ module _ (s : Sizes) (w : Words) (k : WholeFor s w) (space : Room s (length (w .
       record {
         goes = λ c u own. goes c u (ℕ-discrete (marked s T′ c) 1);
         survives = λ c u own l. on c u l (ℕ-discrete (marked s T′ c) 1);
-        freed = λ c u own z. off c (λ b. let f = L .found c (u .page) b in omega (arith, first-target c (f .0) (f .1), target-absorbs s (graphOf s w) r c (regionAt s t (f .0)) (held-reaches (f .0) c (f .1 .reached)) .some));
+        freed = λ c u own z. off c (λ b. let f = L .found c (begins-page _ _ _ _ u) b in omega (arith, first-target c (f .0) (f .1), target-absorbs s (graphOf s w) r c (regionAt s t (f .0)) (held-reaches (f .0) c (f .1 .reached)) .some));
         only = found-owned;
         small = λ page l. high-none 16 (markOf s T′ page) (λ i h. L .kept .high (markAt s page) i h ∙ ap (λ (x : ℕ). bitAt x i) (k .marks page l) ∙ bit-zero i);
         cells = λ q n. word q n (ℕ-discrete (wordOf q) 1);
@@ -122,20 +123,20 @@ module _ (s : Sizes) (w : Words) (k : WholeFor s w) (space : Room s (length (w .
         tables-length = L .kept .tables-length;
       }
     where
-      goes : (c : ℕ) → Used s w c → Dec (marked s T′ c ≡ 1) → workOf W′ c ≡ target s (graphOf s w) r c
-      goes c u (yes b) = let f = L .found c (u .page) b in f .2 ∙ sym (first-target c (f .0) (f .1))
-      goes c u (no n) = let f = L .lost c (u .page) (off c n) in f .0 ∙ k .works c u ∙ sym (lost-target c (f .1))
+      goes : (c : ℕ) → BeginsIn s w c → Dec (marked s T′ c ≡ 1) → workOf W′ c ≡ target s (graphOf s w) r c
+      goes c u (yes b) = let f = L .found c (begins-page _ _ _ _ u) b in f .2 ∙ sym (first-target c (f .0) (f .1))
+      goes c u (no n) = let f = L .lost c (begins-page _ _ _ _ u) (off c n) in f .0 ∙ k .works c u ∙ sym (lost-target c (f .1))
 
-      on : (c : ℕ) → Used s w c → 0 < target s (graphOf s w) r c → Dec (marked s T′ c ≡ 1) → marked s T′ c ≡ 1
+      on : (c : ℕ) → BeginsIn s w c → 0 < target s (graphOf s w) r c → Dec (marked s T′ c ≡ 1) → marked s T′ c ≡ 1
       on c u l (yes b) = b
-      on c u l (no n) = absurd (let z : ⊥ = omega (arith, lost-target c (L .lost c (u .page) (off c n) .1)) in z)
+      on c u l (no n) = absurd (let z : ⊥ = omega (arith, lost-target c (L .lost c (begins-page _ _ _ _ u) (off c n) .1)) in z)
 
-      work : (c : ℕ) → (Used s w c → ownerIn s w (pageOf c) ≡ r → ⊥) → Dec (pageOf c < s .pages) → Dec (marked s T′ c ≡ 1) → workOf W′ c ≡ workOf (w .cells) c
+      work : (c : ℕ) → (BeginsIn s w c → ownerIn s w (pageOf c) ≡ r → ⊥) → Dec (pageOf c < s .pages) → Dec (marked s T′ c ≡ 1) → workOf W′ c ≡ workOf (w .cells) c
       work c n (no b) d = L .beyond c (omega arith)
       work c n (yes b) (yes d) = let f = found-owned c b d in absurd (n (f .0) (f .1))
       work c n (yes b) (no d) = L .lost c b (off c d) .0
 
-      word : (q : ℕ) → ((c : ℕ) → q ≡ workAt c → Used s w c → ownerIn s w (pageOf c) ≡ r → ⊥) → Dec (wordOf q ≡ 1) → getD W′ q 0 ≡ getD (w .cells) q 0
+      word : (q : ℕ) → ((c : ℕ) → q ≡ workAt c → BeginsIn s w c → ownerIn s w (pageOf c) ≡ r → ⊥) → Dec (wordOf q ≡ 1) → getD W′ q 0 ≡ getD (w .cells) q 0
       word q n (no d) = L .kept .words q d
       word q n (yes d) =
           let e : workAt (cellOf q) ≡ q = omega arith in
@@ -187,6 +188,7 @@ marked-kept s w k e w′ m =
       cells-length = m .cells-length;
       tables-length = m .tables-length;
       words = λ q n. m .cells q (λ c z u own. n (omega arith));
+      beyond = λ q l. m .cells q (λ c z u own. omega (arith, begins-page _ _ _ _ u));
       tables = λ q h. m .tables q (λ page l e. ⊎-elim {C = ⊥} (λ a. omega arith) (λ a. omega arith) h);
       high = λ q i l. high q i l (decLt q (marksFrom s)) (decLt q (marksFrom s + s .pages));
     }

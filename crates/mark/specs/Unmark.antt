@@ -15,7 +15,8 @@ use Rattle.rules.specs.declared.Sizes.{Sizes}
 use Rattle.layout.specs.Places.{markAt, markOf, marksFrom}
 use Rattle.layout.specs.Cells.{workAt, workOf, pageOf, placeOf, cellOn, cellOf, firstOn, headAt, wordOf}
 use Rattle.layout.specs.Marks.{marked}
-use Rattle.layout.specs.Words.{Words, Used, usedIn}
+use Rattle.layout.specs.Objects.{begins-page, begins?}
+use Rattle.layout.specs.Words.{Words, BeginsIn}
 use Rattle.promises.specs.Whole.{WholeFor}
 use Rattle.promises.specs.Ends.{Part}
 use Rattle.mark.specs.Survivors.{Marked}
@@ -200,36 +201,28 @@ module _ (s : Sizes) (w : Words) (k : WholeFor s w) (e : Part) (w′ : Words) (M
           subst (λ (y : ℕ). getD T y 0 ≡ getD (w .tables) y 0) e (U .marks q (omega arith) ∙ sym (k .marks q (omega arith)))
       go x (no a) (no b) = away x (λ page l e. omega arith)
 
-  used? : (c : ℕ) → Dec (Used s w c)
-  used? c = go (decLt (pageOf c) (s .pages)) (decLt (placeOf c) (usedIn s w (pageOf c)))
-    where
-      go : Dec (pageOf c < s .pages) → Dec (placeOf c < usedIn s w (pageOf c)) → Dec (Used s w c)
-      go (yes a) (yes b) = yes (record { page = a; place = b })
-      go (no a) d = no (λ u. a (u .page))
-      go (yes a) (no b) = no (λ u. b (u .place))
-
   work-back : (c : ℕ) → workOf W c ≡ workOf (w .cells) c
   work-back c = go (decLt (pageOf c) (s .pages)) (ℕ-discrete (marked s (w′ .tables) c) 1)
     where
       -- an object of the part that is not marked is freed, and has 0 in word 1 as before; any other cell is not touched
-      unmarked : Used s w c → e .ends (pageOf c) → (marked s (w′ .tables) c ≡ 1 → ⊥) → workOf (w′ .cells) c ≡ workOf (w .cells) c
+      unmarked : BeginsIn s w c → e .ends (pageOf c) → (marked s (w′ .tables) c ≡ 1 → ⊥) → workOf (w′ .cells) c ≡ workOf (w .cells) c
       unmarked u own n = M .goes c u own ∙ zero-target (decLt 0 (e .goes c)) ∙ sym (k .works c u)
         where
           zero-target : Dec (0 < e .goes c) → e .goes c ≡ 0
           zero-target (yes l) = absurd (n (M .survives c u own l))
           zero-target (no l) = omega arith
 
-      kept : (marked s (w′ .tables) c ≡ 1 → ⊥) → Dec (Used s w c) → Dec (e .ends (pageOf c)) → workOf (w′ .cells) c ≡ workOf (w .cells) c
+      kept : (marked s (w′ .tables) c ≡ 1 → ⊥) → Dec (BeginsIn s w c) → Dec (e .ends (pageOf c)) → workOf (w′ .cells) c ≡ workOf (w .cells) c
       kept n (yes u) (yes own) = unmarked u own n
       kept n (yes u) (no own) = M .cells (workAt c) (λ d q v o. own (subst (λ (z : ℕ). e .ends (pageOf z)) (let z : d ≡ c = omega arith in z) o))
-      kept n (no u) d = M .cells (workAt c) (λ d e v o. u (subst (Used s w) (let z : d ≡ c = omega arith in z) v))
+      kept n (no u) d = M .cells (workAt c) (λ d e v o. u (subst (BeginsIn s w) (let z : d ≡ c = omega arith in z) v))
 
       go : Dec (pageOf c < s .pages) → Dec (marked s (w′ .tables) c ≡ 1) → workOf W c ≡ workOf (w .cells) c
       go (yes b) (yes on) = U .cleared c b on ∙ sym (k .works c (M .only c b on .0))
       go (yes b) (no n) =
           let z : marked s (w′ .tables) c ≡ 0 = omega (arith, bit-lt (placeOf c) (markOf s (w′ .tables) (pageOf c))) in
-          U .same c (λ l. z) ∙ kept n (used? c) (e .ends? (pageOf c))
-      go (no b) d = U .same c (λ l. absurd (b l)) ∙ M .cells (workAt c) (λ d e v o. b (subst (λ (z : ℕ). pageOf z < s .pages) (let z : d ≡ c = omega arith in z) (v .page)))
+          U .same c (λ l. z) ∙ kept n (begins? s (w .cells) (w .tables) c) (e .ends? (pageOf c))
+      go (no b) d = U .same c (λ l. absurd (b l)) ∙ M .cells (workAt c) (λ d e v o. b (subst (λ (z : ℕ). pageOf z < s .pages) (let z : d ≡ c = omega arith in z) (begins-page _ _ _ _ v)))
 
   pub cells-back : W ≡ w .cells
   cells-back = ext-getD 0 W (w .cells) (U .cells-length ∙ M .cells-length) (λ x l. go x (ℕ-discrete (wordOf x) 1))

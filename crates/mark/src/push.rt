@@ -1,6 +1,6 @@
 // The stack of objects to look at, threaded through word 1 of the pending cells.
 ghost use Rattle.layout.specs.Cells.{fieldOf, refsOf};
-ghost use Rattle.layout.specs.Words.{InUse};
+ghost use Rattle.layout.specs.Words.{Begins};
 ghost use Rattle.promises.specs.Whole.{IsRef};
 ghost use Rattle.mark.specs.Marks.{Shaped, Pushed};
 ghost use Rattle.mark.specs.Pushes.{Pushing};
@@ -34,7 +34,7 @@ pub fn push(p: Sizes, cells: &mut [u32], tables: &mut [u32], r: u32, x: u32, top
 // Pushes what the slots of cell c name. They are read while the links of other cells are written.
 pub fn scan(p: Sizes, cells: &mut [u32], tables: &mut [u32], r: u32, c: usize, top: u32) -> u32
     requires { ⌜ Shaped p (now cells) (now tables) ⌝ }
-    requires { ⌜ InUse p (now tables) c ⌝ }
+    requires { ⌜ Begins p (now cells) (now tables) c ⌝ }
     ensures { λ t. ⌜ Pushing p r (fieldOf (now (cells .entry)) c) (refsOf (now (cells .entry)) c) (now (cells .entry)) (now (tables .entry)) top (now (cells .exit)) (now (tables .exit)) t (refsOf (now (cells .entry)) c) ⌝ }
 {
     let n = layout::cells::field_count(Kind::Reference, layout::cells::head(cells, c));

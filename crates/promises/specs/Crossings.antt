@@ -16,7 +16,7 @@ use Rattle.rules.specs.Rules.{Regioned, graph}
 use Rattle.laws.specs.Counts.{crossIn, crossAt, crossing-sum, crossRef, cross-cons}
 use Rattle.layout.specs.Places as lp
 use Rattle.layout.specs.Cells.{fieldAt, fieldOf, roomFor, pageOf}
-use Rattle.layout.specs.Objects.{cellCount, beginsAt, begins?, begins-used, begins-true, begins-false, field-on, field-slot, slotsOf, slots-sum}
+use Rattle.layout.specs.Objects.{cellCount, beginsAt, begins?, begins-page, begins-true, begins-false, field-on, field-slot, slotsOf, slots-sum}
 use Rattle.layout.specs.Words.{Words, BeginsIn, ownerIn, headIn, refCount, refsIn, homeIn, homeAt, graphOf}
 use Rattle.remember.specs.Crossing as cr
 use Rattle.remember.specs.Crossing.{other, regionOf}
@@ -63,7 +63,7 @@ module _ (s : Sizes) (w : Words) (k : WholeFor s w) where
         let o = ownerIn s w (pageOf c) in
         let g = ownerIn s w (pageOf y) in
         let pos : g ≡ 0 → ⊥ = used-owned s w k y v in
-        ap (λ (n : ℕ). bit (ltb 0 (other o n))) (region-of s (w .tables) y (begins-used s (w .cells) (w .tables) y v)) ∙ same-test o g (omega arith)
+        ap (λ (n : ℕ). bit (ltb 0 (other o n))) (region-of s (w .tables) y (begins-page s (w .cells) (w .tables) y v)) ∙ same-test o g (omega arith)
         ∙ sym (ap₂ (λ (a b : ℕ). cond (not (eqb a b) && not (eqb b 1)) 1 0) (used-home s w k c u) (used-home s w k y v))
 
     at-ref : (f : ℕ) → f < refCount w c → bit (cr.crossing s (w .cells) (w .tables) (fieldAt c f)) ≡ crossRef (graphOf s w) c (getD (refsIn w c) f 0)

@@ -12,7 +12,7 @@ use Rattle.layout.specs.Places.{cellsWords, ownerOf}
 use Rattle.layout.specs.declared.Kind.{Kind}
 use Rattle.layout.specs.declared.Kind.the-variants.{Reference}
 use Rattle.layout.specs.Cells.{headAt, headOf, workAt, workOf, fieldAt, fieldOf, fieldCount, headWord, roomFor, mostFields, Formed, kind-among, fields-room, head-formed, pageOf, cellOf, cellNamed}
-use Rattle.layout.specs.Objects.{InUse, begins-used, used-begins, begins-same, Covers, covers-low, head-not-new, work-not-new, field-not-new, Slot, slot-page}
+use Rattle.layout.specs.Objects.{InUse, begins-page, begins-used, used-begins, begins-same, Covers, covers-low, head-not-new, work-not-new, field-not-new, Slot, slot-page}
 use Rattle.layout.specs.Words.{Words, BeginsIn, headIn}
 use Rattle.remember.specs.Crossing.{other, regionOf, crossTo}
 use Rattle.promises.specs.Whole.{WholeFor, Open, IsRef, ObjectWhole}
@@ -108,7 +108,7 @@ module _ (s : Sizes) (w : Words) (k : WholeFor s w) (g cell b d : ℕ) (t′ c�
   region-kept (suc x) r =
       let e : suc x - 1 ≡ x = omega arith in
       let u : BeginsIn s w x = subst (BeginsIn s w) e (r (omega arith)) in
-      region-of s t′ x (begins-used s c′ t′ x (still-begins x u)) ∙ owner-still x u ∙ sym (region-of s t x (begins-used s c t x u))
+      region-of s t′ x (begins-page s c′ t′ x (still-begins x u)) ∙ owner-still x u ∙ sym (region-of s t x (begins-page s c t x u))
 
   slot-kept : (q : ℕ) → Slot s c t q → Slot s c′ t′ q × (crossesTo s t′ (cellOf q) (getD c′ q 0) ≡ crossesTo s t (cellOf q) (getD c q 0))
   slot-kept q o =

@@ -13,7 +13,7 @@ use Rattle.rules.specs.declared.Sizes.{Sizes}
 use Rattle.layout.specs.Places.{ownerOf}
 use Rattle.layout.specs.Cells.{headAt, headOf, fieldCount, roomFor, pageOf, cellOf}
 use Rattle.layout.specs.declared.Kind.the-variants.{Reference}
-use Rattle.layout.specs.Objects.{InUse, Begins, begins-same, begins-back, field-not-head, Slot, slot?}
+use Rattle.layout.specs.Objects.{Begins, begins-same, begins-back, field-not-head, Slot, slot?}
 use Rattle.remember.specs.Crossing.{other, regionOf, crossTo}
 use Rattle.remember.specs.Crosses.{slot-cross, no-cross}
 use Rattle.remember.specs.Entries.{Elsewhere}
@@ -22,12 +22,12 @@ use Rattle.remember.specs.Entries.{Elsewhere}
 abbrev pub crossesTo : Sizes → List ℕ → ℕ → ℕ → ℕ
 crossesTo p t cell x = other (ownerOf p t (pageOf cell)) (regionOf p t x)
 
--- the region of a reference to a cell in use
-pub region-of : (p : Sizes) (t : List ℕ) (c : ℕ) → InUse p t c → regionOf p t (suc c) ≡ ownerOf p t (pageOf c)
-region-of p t c u =
+-- the region of a reference to a cell of the heap
+pub region-of : (p : Sizes) (t : List ℕ) (c : ℕ) → pageOf c < p .pages → regionOf p t (suc c) ≡ ownerOf p t (pageOf c)
+region-of p t c l =
     let e : suc c - 1 ≡ c = omega arith in
     ap₂ (λ (b : Bool) (x : ℕ). cond b 0 (cond (ltb (pageOf x) (p .pages)) (ownerOf p t (pageOf x)) 0)) (ne-eqb (suc c) 0 (λ (z : suc c ≡ 0). omega arith)) e
-    ∙ ap (λ (b : Bool). cond b (ownerOf p t (pageOf c)) 0) (lt-ltb (pageOf c) (p .pages) (u .page))
+    ∙ ap (λ (b : Bool). cond b (ownerOf p t (pageOf c)) 0) (lt-ltb (pageOf c) (p .pages) l)
 
 -- an object that keeps its word 0 keeps its slots
 pub slot-stays : {p : Sizes} {c t c′ t′ : List ℕ} {q : ℕ} (o : Slot p c t q) → Begins p c′ t′ (o .object) → headOf c′ (o .object) ≡ headOf c (o .object) → Slot p c′ t′ q

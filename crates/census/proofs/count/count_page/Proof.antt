@@ -7,7 +7,7 @@ use borrow.Author.Needs.{needs}
 use lib.Count.{ones, ones-le, trailingZeros}
 use lib.ListN.{length}
 use Rattle.layout.specs.Cells.{cellOn, workOf, mostFields}
-use Rattle.layout.specs.Words.{InUse}
+use Rattle.layout.specs.Words.{Begins}
 use Rattle.lists.specs.SetBits.{Walked, walk-start, walk-lowest, walk-turn}
 use Rattle.census.specs.Counted.{Summed, summed-start, summed-next, summed-end, Tallied, tallied-start, tallied-next, tallied-end}
 use Rattle.census.specs.After.{cellCrosses}
@@ -48,7 +48,7 @@ cross-cell-requires c κs =
     let a = c .before .before .before .before .before .before .before .before .before .before .before .args in
     let loop = c .before .before .before .before .before .before .before .loop in
     let l = walk-lowest (loop .inv .1) (omega (arith, loop .inv .0)) in
-    (pre .0, subst (InUse (a .p) (a .tables .now)) (sym (c .before .before .before .before .cell-on .ensures ∙ ap (cellOn (a .page)) (c .before .before .before .before .before .wide .ensures))) (pre .1 .1 .0 (trailingZeros 32 (loop .left)) (l .lt) (loop .inv .1 .under (trailingZeros 32 (loop .left)) (l .on))))
+    (pre .0, subst (Begins (a .p) (a .cells .now) (a .tables .now)) (sym (c .before .before .before .before .cell-on .ensures ∙ ap (cellOn (a .page)) (c .before .before .before .before .before .wide .ensures))) (pre .1 .1 .0 (trailingZeros 32 (loop .left)) (l .lt) (loop .inv .1 .under (trailingZeros 32 (loop .left)) (l .on))))
 
 add-n : tie.Need-add-n Inv-loop μ-loop
 add-n c = omega (arith, c .cross-cell .ensures .1, c .before .before .before .before .before .before .before .before .loop .inv .3, ones-le 16 (c .before .before .before .before .before .before .before .before .before .before .before .before .args .w) (c .before .before .before .before .before .before .before .before .before .before .before .before .pre .1 .0 .0), c .before .before .before .before .before .before .before .before .loop .inv .0)

@@ -6,7 +6,7 @@ use borrow.Author.Needs.{needs}
 use lib.ListN.{length}
 use Rattle.mark.specs.Pushes.{Pushing, pushing-start, pushing-kept, pushing-shaped, ref-read, push-read, pushes-kept}
 use Rattle.layout.specs.Places.{usedIn}
-use Rattle.mark.specs.Holders.{slotHeld, slot-held-ref, kept-slot-held}
+use Rattle.mark.specs.Holders.{slotHeld, slot-low, slot-held-ref, kept-slot-held}
 use Rattle.mark.proofs.holders.push_slots.Statement.{statement}
 use Rattle.mark.proofs.holders.push_slots.Tie as tie
 
@@ -29,15 +29,15 @@ wide-requires c κs =
 
 loop-holds : tie.Need-loop-holds Inv-loop μ-loop
 loop-holds c =
-    (omega arith, c .wide .ensures ∙ c .before .used .ensures, omega (arith, c .before .before .before .before .before .pre .1 .few), refl, refl, pushing-start _ _ _ _ _ _ _)
+    (omega arith, c .wide .ensures ∙ c .before .used .ensures, omega (arith, c .before .before .before .before .before .pre .1 .remember .entries .room), refl, refl, pushing-start _ _ _ _ _ _ _)
 
 slot-for-requires : tie.Need-slot-for-requires Inv-loop μ-loop
 slot-for-requires c κs =
     let pre = c .before .before .before .before .before .before .before .before .before .pre in
     let loop = c .before .before .before .loop in
     let lt : loop .i < usedIn (c .before .before .before .before .before .before .before .before .before .args .remember .now) = omega arith in
-    let s = pushing-shaped (pre .0) (slot-held-ref (pre .1) _ _) lt (loop .inv .5) in
-    (s .room, ((s .cells-long, pre .1 .long), (omega arith, pre .1 .slot (loop .i) lt)))
+    let s = pushing-shaped (pre .0) (slot-held-ref (pre .0) (pre .1) _ _) lt (loop .inv .5) in
+    (s .room, ((s .cells-long, pre .1 .long), (omega arith, slot-low (pre .1) (loop .i) lt)))
 
 push-requires : tie.Need-push-requires Inv-loop μ-loop
 push-requires c κs =
@@ -45,7 +45,7 @@ push-requires c κs =
     let pre = c .before .before .before .before .before .before .before .before .before .before .before .before .pre in
     let loop = c .before .before .before .before .before .before .loop in
     let lt : loop .i < usedIn (args .remember .now) = omega arith in
-    let u = slot-held-ref (pre .1) (args .r) (args .g) in
+    let u = slot-held-ref (pre .0) (pre .1) (args .r) (args .g) in
     let k = pushing-kept (pre .0) u lt (loop .inv .5) in (
       pushing-shaped (pre .0) u lt (loop .inv .5),
       ref-read (pre .0) u lt (loop .inv .5) (c .before .before .slot-for .result) (c .before .before .slot-for .ensures ∙ kept-slot-held k (pre .0 .room) (pre .1) _ _ _ lt),
@@ -66,7 +66,7 @@ loop-again c =
     let loop = c .before .before .before .before .before .before .before .before .before .before .before .loop in
     let slot-for = c .before .before .before .before .before .before .before .slot-for in
     let lt : loop .i < usedIn (args .remember .now) = omega arith in
-    let u = slot-held-ref (pre .1) (args .r) (args .g) in
+    let u = slot-held-ref (pre .0) (pre .1) (args .r) (args .g) in
     let k = pushing-kept (pre .0) u lt (loop .inv .5) in
     let h = push-read (pre .0) u lt (loop .inv .5) (slot-for .result) (slot-for .ensures ∙ kept-slot-held k (pre .0 .room) (pre .1) _ _ _ lt) (c .before .before .before .before .push .ensures) in
     let k′ = pushes-kept _ _ (pre .0) (h .pushes) in

@@ -35,7 +35,7 @@ variable-for-requires c κs =
     let args = c .before .before .before .before .before .before .args in
     let pre = c .before .before .before .before .before .before .pre in
     let lt : c .before .before .loop .i < args .p .threads * args .p .variables = omega arith in
-    let s = pushing-shaped (pre .0) (var-held-ref (pre .1 .1) _ _ _) lt (c .before .before .loop .inv .5) in
+    let s = pushing-shaped (pre .0) (var-held-ref (pre .0) (pre .1 .1) _ _ _) lt (c .before .before .loop .inv .5) in
     (s .room, (pre .1 .1 .some, lt))
 
 push-requires : tie.Need-push-requires Inv-loop μ-loop
@@ -45,7 +45,7 @@ push-requires c κs =
     let loop = c .before .before .before .before .before .loop in
     let variable-for = c .before .before .variable-for in
     let lt : loop .i < args .p .threads * args .p .variables = omega arith in
-    let u = var-held-ref (pre .1 .1) (args .thread) (args .outer) (args .g) in
+    let u = var-held-ref (pre .0) (pre .1 .1) (args .thread) (args .outer) (args .g) in
     let k = pushing-kept (pre .0) u lt (loop .inv .5) in (
       pushing-shaped (pre .0) u lt (loop .inv .5),
       ref-read (pre .0) u lt (loop .inv .5) (variable-for .result) (variable-for .ensures ∙ kept-var-held k (pre .0 .room) (pre .1 .1) _ _ _ _ lt),
@@ -66,7 +66,7 @@ loop-again c =
     let loop = c .before .before .before .before .before .before .before .before .before .before .loop in
     let variable-for = c .before .before .before .before .before .before .before .variable-for in
     let lt : loop .i < args .p .threads * args .p .variables = omega arith in
-    let u = var-held-ref (pre .1 .1) (args .thread) (args .outer) (args .g) in
+    let u = var-held-ref (pre .0) (pre .1 .1) (args .thread) (args .outer) (args .g) in
     let k = pushing-kept (pre .0) u lt (loop .inv .5) in
     let h = push-read (pre .0) u lt (loop .inv .5) (variable-for .result) (variable-for .ensures ∙ kept-var-held k (pre .0 .room) (pre .1 .1) _ _ _ _ lt) (c .before .before .before .before .push .ensures) in
     let k′ = pushes-kept _ _ (pre .0) (h .pushes) in

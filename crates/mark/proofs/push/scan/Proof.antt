@@ -6,7 +6,8 @@ use borrow.Author.Needs.{needs}
 use lib.ListN.{length}
 use Rattle.layout.specs.declared.Kind.the-variants.{Reference}
 use Rattle.layout.specs.Cells.{fieldOf, refsOf, fieldCount, mostFields}
-use Rattle.mark.specs.Marks.{kept-field}
+use Rattle.layout.specs.Objects.{begins-page}
+use Rattle.mark.specs.Marks.{shaped-few, kept-field}
 use Rattle.mark.specs.Pushes.{Pushing, pushing-start, pushing-kept, pushing-shaped, ref-read, push-read, pushes-kept}
 use Rattle.mark.proofs.push.scan.Statement.{statement}
 use Rattle.mark.proofs.push.scan.Tie as tie
@@ -22,7 +23,7 @@ abbrev μ-loop : tie.MeasureT-loop
 head-requires : tie.Need-head-requires Inv-loop μ-loop
 head-requires c κs =
     let pre = c .before .before .before .pre in
-    omega (arith, pre .1 .page, pre .0 .cells-long, pre .0 .room)
+    omega (arith, begins-page _ _ _ _ (pre .1), pre .0 .cells-long, pre .0 .room)
 
 field-count-requires : tie.Need-field-count-requires Inv-loop μ-loop
 field-count-requires c κs =
@@ -33,12 +34,12 @@ loop-holds c =
     let args = c .before .before .before .before .before .args in
     let pre = c .before .before .before .before .before .pre in
     let e : c .field-count .result ≡ refsOf (args .cells .now) (args .c) = c .field-count .ensures ∙ ap (fieldCount Reference) (c .before .head .ensures) in
-    (omega arith, e, omega (arith, pre .0 .refs-few (args .c) (pre .1)), refl, refl, pushing-start _ _ _ _ _ _ _)
+    (omega arith, e, omega (arith, shaped-few (pre .0) (args .c) (pre .1)), refl, refl, pushing-start _ _ _ _ _ _ _)
 
 field-requires : tie.Need-field-requires Inv-loop μ-loop
 field-requires c κs =
     let pre = c .before .before .before .before .before .before .before .before .before .before .pre in
-    omega (arith, pre .1 .page, pre .0 .cells-long, pre .0 .room)
+    omega (arith, begins-page _ _ _ _ (pre .1), pre .0 .cells-long, pre .0 .room)
 
 push-requires : tie.Need-push-requires Inv-loop μ-loop
 push-requires c κs =
@@ -46,7 +47,7 @@ push-requires c κs =
     let pre = c .before .before .before .before .before .before .before .before .before .before .before .pre in
     let l = c .before .before .before .before .before .loop in
     let lt : l .f < refsOf (args .cells .now) (args .c) = omega arith in
-    let u = pre .0 .references (args .c) (pre .1) in
+    let u = pre .0 .objects (args .c) (pre .1) .references in
     let k = pushing-kept (pre .0) u lt (l .inv .5) in
     (pushing-shaped (pre .0) u lt (l .inv .5), ref-read (pre .0) u lt (l .inv .5) (c .field .result) (c .field .ensures ∙ kept-field k (args .c) (l .f) (omega arith)))
 
@@ -65,7 +66,7 @@ loop-again c =
     let field = c .before .before .before .before .before .field in
     let l = c .before .before .before .before .before .before .before .before .before .before .loop in
     let lt : l .f < refsOf (args .cells .now) (args .c) = omega arith in
-    let u = pre .0 .references (args .c) (pre .1) in
+    let u = pre .0 .objects (args .c) (pre .1) .references in
     let k = pushing-kept (pre .0) u lt (l .inv .5) in
     let h = push-read (pre .0) u lt (l .inv .5) (field .result) (field .ensures ∙ kept-field k (args .c) (l .f) (omega arith)) (c .before .before .before .before .push .ensures) in
     let k′ = pushes-kept _ _ (pre .0) (h .pushes) in
