@@ -11,7 +11,7 @@ use borrow.Author.Tests.{lt-ltb, eq-eqb, ne-eqb}
 use Rattle.lists.specs.Counting.{sum, bit, bit-le-one}
 use Rattle.rules.specs.declared.Sizes.{Sizes}
 use Rattle.layout.specs.Places.{ownerOf, usedIn, slotIn}
-use Rattle.layout.specs.Cells.{workOf, fieldOf, pageOf, cellOf, refsOf}
+use Rattle.layout.specs.Cells.{workOf, fieldOf, pageOf, pageAt, refsOf}
 use Rattle.remember.specs.Crossing.{other}
 use Rattle.remember.specs.Crosses.{other-control, other-same, other-yes}
 use Rattle.mark.specs.Marks.{owner}
@@ -49,7 +49,7 @@ cellCrosses p W T r c = sum (λ f. crossAfter p W T r (workOf W c) (fieldOf W c 
 
 -- 1 if the slot at word q lies outside r and crosses, else 0
 unfoldable pub slotCrosses : Sizes → List ℕ → List ℕ → ℕ → ℕ → ℕ
-slotCrosses p W T r q = cond (eqb (owner p T (cellOf q)) r) 0 (crossAfter p W T r (owner p T (cellOf q)) (getD W q 0))
+slotCrosses p W T r q = cond (eqb (ownerOf p T (pageAt q)) r) 0 (crossAfter p W T r (ownerOf p T (pageAt q)) (getD W q 0))
 
 -- remembered slots outside r, and the survivors' slots
 abbrev pub entriesCross : Sizes → List ℕ → List ℕ → List ℕ → ℕ → ℕ
@@ -101,22 +101,22 @@ module _ (p : Sizes) (W T : List ℕ) (r : ℕ) where
 
   pub slot-le : (q : ℕ) → slotCrosses p W T r q ≤ 1
   unfolding slotCrosses
-  slot-le q = cond-le (eqb (owner p T (cellOf q)) r) _ (cross-le (owner p T (cellOf q)) (getD W q 0))
+  slot-le q = cond-le (eqb (ownerOf p T (pageAt q)) r) _ (cross-le (ownerOf p T (pageAt q)) (getD W q 0))
 
   -- the slot at q, as the code came to it
-  pub slot-in : (q page o : ℕ) → page ≡ pageOf (cellOf q) → o ≡ ownerOf p T page → o ≡ r → 0 ≡ slotCrosses p W T r q
+  pub slot-in : (q page o : ℕ) → page ≡ pageAt q → o ≡ ownerOf p T page → o ≡ r → 0 ≡ slotCrosses p W T r q
   unfolding slotCrosses
   slot-in q page o ep eo n =
-      let f : o ≡ owner p T (cellOf q) = eo ∙ ap (λ (z : ℕ). ownerOf p T z) ep in
-      sym (ap (λ (b : Bool). cond b 0 (crossAfter p W T r (owner p T (cellOf q)) (getD W q 0))) (eq-eqb (owner p T (cellOf q)) r (sym f ∙ n)))
+      let f : o ≡ ownerOf p T (pageAt q) = eo ∙ ap (λ (z : ℕ). ownerOf p T z) ep in
+      sym (ap (λ (b : Bool). cond b 0 (crossAfter p W T r (ownerOf p T (pageAt q)) (getD W q 0))) (eq-eqb (ownerOf p T (pageAt q)) r (sym f ∙ n)))
 
-  pub slot-out : (q page o v x : ℕ) → page ≡ pageOf (cellOf q) → o ≡ ownerOf p T page → (o ≡ r → ⊥) → v ≡ getD W q 0 → x ≡ crossAfter p W T r o v
+  pub slot-out : (q page o v x : ℕ) → page ≡ pageAt q → o ≡ ownerOf p T page → (o ≡ r → ⊥) → v ≡ getD W q 0 → x ≡ crossAfter p W T r o v
       → x ≡ slotCrosses p W T r q
   unfolding slotCrosses
   slot-out q page o v x ep eo n ev ex =
-      let f : o ≡ owner p T (cellOf q) = eo ∙ ap (λ (z : ℕ). ownerOf p T z) ep in
+      let f : o ≡ ownerOf p T (pageAt q) = eo ∙ ap (λ (z : ℕ). ownerOf p T z) ep in
       ex ∙ ap₂ (crossAfter p W T r) f ev
-      ∙ sym (ap (λ (b : Bool). cond b 0 (crossAfter p W T r (owner p T (cellOf q)) (getD W q 0))) (ne-eqb (owner p T (cellOf q)) r (λ z. n (f ∙ z))))
+      ∙ sym (ap (λ (b : Bool). cond b 0 (crossAfter p W T r (ownerOf p T (pageAt q)) (getD W q 0))) (ne-eqb (ownerOf p T (pageAt q)) r (λ z. n (f ∙ z))))
 
   -- f is past the last slot
   pub cells-cross : (c f n : ℕ) → f ≡ refsOf W c → n ≡ sum (λ i. crossAfter p W T r (workOf W c) (fieldOf W c i)) f → n ≡ cellCrosses p W T r c

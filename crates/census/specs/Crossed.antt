@@ -10,7 +10,7 @@ use lib.Dec.{eqb, ltb}
 use lib.ListN.{length, getD}
 use borrow.Author.Tests.{eq-eqb, ne-eqb, lt-ltb, le-ltb}
 use Rattle.lists.specs.Tests.{cond-zero}
-use Rattle.lists.specs.Counting.{sum, sum-same, sum-none, sum-plus, sum-add, sum-blocks}
+use Rattle.lists.specs.Counting.{sum, sum-same, sum-none, sum-plus}
 use Rattle.lists.specs.Members.{In, getD-in}
 use Rattle.lists.specs.OneToOne.{Paired, sum-paired}
 use Rattle.lists.specs.Bits.{bit-lt}
@@ -19,18 +19,18 @@ use Rattle.rules.specs.Graph.{Graph, target, ended, crossing}
 use Rattle.laws.specs.EndLaws.{home-stayed, home-went, closed-ended}
 use Rattle.laws.specs.GraphLaws.{Alive}
 use Rattle.laws.specs.Counts.{crossIn, crossAt, crossing-sum, crossRef}
-use Rattle.layout.specs.Places.{markOf, usedIn, slotIn, Room, cellsWords}
-use Rattle.layout.specs.Cells.{headOf, workOf, fieldAt, fieldOf, pageOf, placeOf, cellOf, wordOf, cellWords, headAt, mostFields, refsOf, wordAt}
+use Rattle.layout.specs.Places.{ownerOf, markOf, usedIn, slotIn, Room, cellsWords}
+use Rattle.layout.specs.Cells.{workOf, fieldAt, fieldOf, pageOf, placeOf, pageAt, refsOf, roomFor}
 use Rattle.layout.specs.Marks.{marked}
-use Rattle.layout.specs.Words.{Words, BeginsIn, ownerIn, homeIn, refCount, refsIn, graphOf, cellCount}
+use Rattle.layout.specs.Words.{Words, BeginsIn, ownerIn, homeIn, headIn, refCount, refsIn, graphOf, cellCount}
 use Rattle.promises.specs.Ends.{partOf}
 use Rattle.promises.specs.Whole.{WholeFor, IsRef}
 use Rattle.remember.specs.Crossing.{other, regionOf, crossTo}
 use Rattle.promises.specs.Crossings.{cross-in-sum}
-use Rattle.layout.specs.Objects.{Slot, slot-word, field-slot}
+use Rattle.layout.specs.Objects.{begins-page, begins-true, begins-false, begins?, field-on, field-slot, slotsOf, slots-sum}
 use Rattle.remember.specs.Crosses.{slot-cross, cross-slot}
 use Rattle.promises.specs.Slots.{region-of}
-use Rattle.promises.specs.Reading.{used-home, used-owned, used-alive, alive-used, length-refs, getD-refs, refs-few, words-closed}
+use Rattle.promises.specs.Reading.{ref-room, no-home, refs-room, used-home, used-owned, used-alive, alive-used, length-refs, getD-refs, refs-few, words-closed}
 use Rattle.mark.specs.Marks.{owner, Kept, kept-refs, kept-field, kept-owner}
 use Rattle.mark.specs.Reached.{home-cell, cell-home, is-other}
 use Rattle.mark.specs.Survivors.{Marked, marked-kept}
@@ -61,7 +61,7 @@ module _ (s : Sizes) (w : Words) (k : WholeFor s w) (space : Room s (length (w .
   -- ---- where objects lie afterwards
 
   owner-now : (x : ℕ) → BeginsIn s w x → owner p (w′ .tables) x ≡ homeIn s w x
-  owner-now x u = kept-owner kept space x (u .page) ∙ sym (used-home s w k x u)
+  owner-now x u = kept-owner kept space x (begins-page _ _ _ _ u) ∙ sym (used-home s w k x u)
 
   home-after : (x : ℕ) → BeginsIn s w x → homeAfter p (w′ .cells) (w′ .tables) r x ≡ h .home x
   unfolding homeAfter
@@ -97,8 +97,8 @@ module _ (s : Sizes) (w : Words) (k : WholeFor s w) (space : Room s (length (w .
   -- ---- all slots of an object that is in use
 
   module _ (x : ℕ) (u : BeginsIn s w x) where
-    slots-sum : Alive h x → crossIn h x (refsIn w x) ≡ sum (λ f. crossAfter p (w′ .cells) (w′ .tables) r (h .home x) (fieldOf (w′ .cells) x f)) (refCount w x)
-    slots-sum a =
+    slots-cross : Alive h x → crossIn h x (refsIn w x) ≡ sum (λ f. crossAfter p (w′ .cells) (w′ .tables) r (h .home x) (fieldOf (w′ .cells) x f)) (refCount w x)
+    slots-cross a =
         cross-in-sum h x (refsIn w x) ∙ ap (sum (λ f. crossRef h x (getD (refsIn w x) f 0))) (length-refs s w k x u)
         ∙ sum-same (λ f. crossRef h x (getD (refsIn w x) f 0)) (λ f. crossAfter p (w′ .cells) (w′ .tables) r (h .home x) (fieldOf (w′ .cells) x f)) (refCount w x)
         (λ f l.
@@ -142,7 +142,7 @@ module _ (s : Sizes) (w : Words) (k : WholeFor s w) (space : Room s (length (w .
           ap (λ (b : ℕ). b * sum (λ f. crossAfter p (w′ .cells) (w′ .tables) r (workOf (w′ .cells) x) (fieldOf (w′ .cells) x f)) (refsOf (w′ .cells) x)) on
           ∙ one-mul _
           ∙ ap₂ (λ (a n : ℕ). sum (λ f. crossAfter p (w′ .cells) (w′ .tables) r a (fieldOf (w′ .cells) x f)) n) t (kept-refs kept x)
-          ∙ sym (slots-sum x (u .0) some) ∙ sym (counted x (u .0) some)
+          ∙ sym (slots-cross x (u .0) some) ∙ sym (counted x (u .0) some)
           ∙ sym (ap (λ (b : Bool). cond b (crossAt h x) 0) (eq-eqb (homeIn s w x) r e))
       go (no off) (no n) = ap (λ (b : ℕ). b * sum (λ f. crossAfter p (w′ .cells) (w′ .tables) r (workOf (w′ .cells) x) (fieldOf (w′ .cells) x f)) (refsOf (w′ .cells) x)) (zero-bit x off) ∙ zero-mul _ ∙ sym (ap (λ (b : Bool). cond b (crossAt h x) 0) (ne-eqb (homeIn s w x) r n))
       go (no off) (yes e) =
@@ -166,14 +166,7 @@ module _ (s : Sizes) (w : Words) (k : WholeFor s w) (space : Room s (length (w .
   still-yes : (q : ℕ) → 0 < crossTo p (w .cells) (w .tables) q → still q ≡ slotCrosses p (w′ .cells) (w′ .tables) r q
   still-yes q l = ap (λ (b : Bool). cond b (slotCrosses p (w′ .cells) (w′ .tables) r q) 0) (lt-ltb 0 (crossTo p (w .cells) (w .tables) q) l)
 
-  -- a word that is no slot of x does not count
-  no-slot : (x j : ℕ) → x < cellCount s → j < cellWords → (Slot p (w .cells) (w .tables) (wordAt x j) → ⊥) → still (wordAt x j) ≡ 0
-  no-slot x j l m n = still-no (wordAt x j) (λ b. n (cross-slot p (w .cells) (w .tables) (wordAt x j) b))
-
   module _ (x : ℕ) (u : BeginsIn s w x) (out : homeIn s w x ≡ r → ⊥) where
-    here : x < cellCount s
-    here = omega (arith, u .page)
-
     stays : h .home x ≡ homeIn s w x
     stays = home-stayed s g r x out
 
@@ -186,7 +179,7 @@ module _ (s : Sizes) (w : Words) (k : WholeFor s w) (space : Room s (length (w .
     quiet (suc y) f z =
         let y′ : suc y - 1 ≡ y = omega arith in
         let v : BeginsIn s w y = subst (BeginsIn s w) y′ (f (omega arith)) in
-        go v (ap (other (ownerIn s w (pageOf x))) (sym (region-of p (w .tables) y v)) ∙ z) (ℕ-discrete (ownerIn s w (pageOf y)) 1)
+        go v (ap (other (ownerIn s w (pageOf x))) (sym (region-of p (w .tables) y (begins-page _ _ _ _ v))) ∙ z) (ℕ-discrete (ownerIn s w (pageOf y)) 1)
         (ℕ-discrete (ownerIn s w (pageOf x)) (ownerIn s w (pageOf y)))
       where
         go : BeginsIn s w y → other (ownerIn s w (pageOf x)) (ownerIn s w (pageOf y)) ≡ 0 → Dec (ownerIn s w (pageOf y) ≡ 1) → Dec (ownerIn s w (pageOf x) ≡ ownerIn s w (pageOf y))
@@ -204,90 +197,56 @@ module _ (s : Sizes) (w : Words) (k : WholeFor s w) (space : Room s (length (w .
             let far : 1 < ownerIn s w (pageOf y) = omega arith in
             absurd (let b : ⊥ = omega (arith, is-other (ownerIn s w (pageOf x)) (ownerIn s w (pageOf y)) far d) in b)
 
-    field-still : (f : ℕ) → f < refCount w x → still (wordAt x (2 + f)) ≡ crossAfter p (w′ .cells) (w′ .tables) r (h .home x) (fieldOf (w′ .cells) x f)
+    field-still : (f : ℕ) → f < refCount w x → still (fieldAt x f) ≡ crossAfter p (w′ .cells) (w′ .tables) r (h .home x) (fieldOf (w′ .cells) x f)
     unfolding slotCrosses
-    field-still f l =
-        let e : wordAt x (2 + f) ≡ fieldAt x f = omega arith in
-        ap still e ∙ go (decLt 0 (crossTo p (w .cells) (w .tables) (fieldAt x f)))
+    field-still f l = go (decLt 0 (crossTo p (w .cells) (w .tables) (fieldAt x f)))
       where
-        low : f < mostFields
-        low = omega (arith, refs-few s w k x u)
+        inside : f < roomFor (headIn w x)
+        inside = ref-room s w k x f u l
 
-        slot : Slot p (w .cells) (w .tables) (fieldAt x f)
-        slot = field-slot p (w .cells) (w .tables) x f u low l
+        page : pageAt (fieldAt x f) ≡ pageOf x
+        page = field-on p (w .cells) (w .tables) x u f inside
 
-        cell : cellOf (fieldAt x f) ≡ x
-        cell = omega (arith, low)
-
-        same : fieldOf (w′ .cells) x f ≡ fieldOf (w .cells) x f
-        same = kept-field kept x f low
-
-        now : owner p (w′ .tables) (cellOf (fieldAt x f)) ≡ homeIn s w x
-        now = ap (owner p (w′ .tables)) cell ∙ owner-now x u
+        now : ownerOf p (w′ .tables) (pageAt (fieldAt x f)) ≡ homeIn s w x
+        now = ap (ownerOf p (w′ .tables)) page ∙ owner-now x u
 
         go : Dec (0 < crossTo p (w .cells) (w .tables) (fieldAt x f)) → still (fieldAt x f) ≡ crossAfter p (w′ .cells) (w′ .tables) r (h .home x) (fieldOf (w′ .cells) x f)
         go (yes b) =
             still-yes (fieldAt x f) b
-            ∙ ap (λ (t : Bool). cond t 0 (crossAfter p (w′ .cells) (w′ .tables) r (owner p (w′ .tables) (cellOf (fieldAt x f))) (fieldOf (w′ .cells) x f)))
-            (ne-eqb (owner p (w′ .tables) (cellOf (fieldAt x f))) r (λ z. out (sym now ∙ z)))
+            ∙ ap (λ (t : Bool). cond t 0 (crossAfter p (w′ .cells) (w′ .tables) r (ownerOf p (w′ .tables) (pageAt (fieldAt x f))) (fieldOf (w′ .cells) x f)))
+            (ne-eqb (ownerOf p (w′ .tables) (pageAt (fieldAt x f))) r (λ z. out (sym now ∙ z)))
             ∙ ap (λ (a : ℕ). crossAfter p (w′ .cells) (w′ .tables) r a (fieldOf (w′ .cells) x f)) (now ∙ sym stays)
         go (no b) =
             let ref = k .objects x u .references f l in
             let z : other (ownerIn s w (pageOf x)) (regionOf p (w .tables) (fieldOf (w .cells) x f)) ≡ 0 =
-            ap (λ (c : ℕ). other (ownerIn s w (pageOf c)) (regionOf p (w .tables) (fieldOf (w .cells) x f))) (sym cell)
-            ∙ sym (slot-cross p (w .cells) (w .tables) (fieldAt x f) slot) ∙ omega arith in
+            ap (λ (q : ℕ). other (ownerIn s w q) (regionOf p (w .tables) (fieldOf (w .cells) x f))) (sym page)
+            ∙ sym (slot-cross p (w .cells) (w .tables) (fieldAt x f) (field-slot p (w .cells) (w .tables) x f u inside l)) ∙ omega arith in
             still-no (fieldAt x f) b ∙ sym (quiet (fieldOf (w .cells) x f) ref z) ∙ cross-one x (fieldOf (w .cells) x f) ref (slot-alive x f some l)
-            ∙ ap (crossAfter p (w′ .cells) (w′ .tables) r (h .home x)) (sym same)
+            ∙ ap (crossAfter p (w′ .cells) (w′ .tables) r (h .home x)) (sym (kept-field kept x f (omega (arith, refs-few s w k x u))))
 
-    first-two : (j : ℕ) → j < 2 → still (wordAt x j) ≡ 0
-    first-two j m = no-slot x j here (omega arith) (λ o. omega (arith, slot-word p (w .cells) (w .tables) (wordAt x j) o .1))
-
-    past-refs : (j : ℕ) → j < mostFields - refCount w x → still (wordAt x (2 + (refCount w x + j))) ≡ 0
-    past-refs j m =
-        let q : ℕ = wordAt x (2 + (refCount w x + j)) in
-        let e : cellOf q ≡ x = omega (arith, refs-few s w k x u) in
-        let d : wordOf q ≡ 2 + (refCount w x + j) = omega (arith, refs-few s w k x u) in
-        no-slot x (2 + (refCount w x + j)) here (omega (arith, refs-few s w k x u)) (λ o. omega (arith, slot-word p (w .cells) (w .tables) q o .1, ap (headOf (w .cells)) e))
-
-    used-sum : sum (λ j. still (wordAt x j)) cellWords ≡ outside x
-    used-sum =
-        let n = refCount w x in
-        let e : n + (mostFields - n) ≡ mostFields = omega (arith, refs-few s w k x u) in
-        let refs = ap (sum (λ i. still (wordAt x (2 + i)))) (sym e) ∙ sum-add (λ i. still (wordAt x (2 + i))) n (mostFields - n) in
-        omega (
-          arith,
-          sum-add (λ j. still (wordAt x j)) 2 mostFields,
-          refs,
-          sum-none (λ j. still (wordAt x j)) 2 first-two,
-          sum-none (λ j. still (wordAt x (2 + (n + j)))) (mostFields - n) past-refs,
-          sum-same (λ i. still (wordAt x (2 + i))) (λ f. crossAfter p (w′ .cells) (w′ .tables) r (h .home x) (fieldOf (w′ .cells) x f)) n field-still,
-          slots-sum x u some,
-          counted x u some,
-          ap (λ (b : Bool). cond b 0 (crossAt h x)) (ne-eqb (homeIn s w x) r out),
-        )
-
-  -- an object of r counts with the survivors, a cell that is not in use not at all
-  cell-sum : (x : ℕ) → x < cellCount s → sum (λ j. still (wordAt x j)) cellWords ≡ outside x
+  -- an object of r counts with the survivors, a cell where none begins not at all
+  object-sum : (x : ℕ) → slotsOf p (w .cells) (w .tables) still x ≡ outside x
   unfolding slotCrosses
-  cell-sum x l = go (ℕ-discrete (homeIn s w x) r) (ℕ-discrete (homeIn s w x) 0)
+  object-sum x = go (begins? p (w .cells) (w .tables) x) (ℕ-discrete (homeIn s w x) r)
     where
-      go : Dec (homeIn s w x ≡ r) → Dec (homeIn s w x ≡ 0) → sum (λ j. still (wordAt x j)) cellWords ≡ outside x
-      go (yes e) d =
-          let u = home-cell s w k x r e (omega arith) .0 in
-          sum-none (λ j. still (wordAt x j)) cellWords
-          (λ j m.
-          let c : cellOf (wordAt x j) ≡ x = omega arith in
-          cond-zero (ltb 0 (crossTo p (w .cells) (w .tables) (wordAt x j))) (slotCrosses p (w′ .cells) (w′ .tables) r (wordAt x j)) 0
-          (ap (λ (b : Bool). cond b 0 (crossAfter p (w′ .cells) (w′ .tables) r (owner p (w′ .tables) (cellOf (wordAt x j))) (getD (w′ .cells) (wordAt x j) 0)))
-          (eq-eqb (owner p (w′ .tables) (cellOf (wordAt x j))) r (ap (owner p (w′ .tables)) c ∙ owner-now x u ∙ e))) refl)
+      go : Dec (BeginsIn s w x) → Dec (homeIn s w x ≡ r) → slotsOf p (w .cells) (w .tables) still x ≡ outside x
+      go (no n) (yes e) = absurd (n (home-cell s w k x r e (omega arith) .0))
+      go (no n) (no d) =
+          ap (λ (b : Bool). cond b (sum (λ f. still (fieldAt x f)) (refCount w x)) 0) (begins-false p (w .cells) (w .tables) x n)
+          ∙ sym (ap (λ (b : Bool). cond b 0 (crossAt h x)) (ne-eqb (homeIn s w x) r d) ∙ gone x (home-stayed s g r x d ∙ no-home s w k x n))
+      go (yes u) (yes e) =
+          ap (λ (b : Bool). cond b (sum (λ f. still (fieldAt x f)) (refCount w x)) 0) (begins-true p (w .cells) (w .tables) x u)
+          ∙ sum-none (λ f. still (fieldAt x f)) (refCount w x)
+          (λ f l.
+          let page = field-on p (w .cells) (w .tables) x u f (ref-room s w k x f u l) in
+          cond-zero (ltb 0 (crossTo p (w .cells) (w .tables) (fieldAt x f))) (slotCrosses p (w′ .cells) (w′ .tables) r (fieldAt x f)) 0
+          (ap (λ (b : Bool). cond b 0 (crossAfter p (w′ .cells) (w′ .tables) r (ownerOf p (w′ .tables) (pageAt (fieldAt x f))) (fieldOf (w′ .cells) x f)))
+          (eq-eqb (ownerOf p (w′ .tables) (pageAt (fieldAt x f))) r (ap (ownerOf p (w′ .tables)) page ∙ owner-now x u ∙ e))) refl)
           ∙ sym (ap (λ (b : Bool). cond b 0 (crossAt h x)) (eq-eqb (homeIn s w x) r e))
-      go (no n) (yes z) =
-          sum-none (λ j. still (wordAt x j)) cellWords
-          (λ j m.
-          let c : cellOf (wordAt x j) ≡ x = omega arith in
-          no-slot x j l m (λ o. used-alive s w k x (subst (BeginsIn s w) c (slot-word p (w .cells) (w .tables) (wordAt x j) o .0)) z))
-          ∙ sym (ap (λ (b : Bool). cond b 0 (crossAt h x)) (ne-eqb (homeIn s w x) r n) ∙ gone x (home-stayed s g r x n ∙ z))
-      go (no n) (no a) = used-sum x (alive-used s w k x a) n
+      go (yes u) (no d) =
+          ap (λ (b : Bool). cond b (sum (λ f. still (fieldAt x f)) (refCount w x)) 0) (begins-true p (w .cells) (w .tables) x u)
+          ∙ sum-same (λ f. still (fieldAt x f)) (λ f. crossAfter p (w′ .cells) (w′ .tables) r (h .home x) (fieldOf (w′ .cells) x f)) (refCount w x) (field-still x u d)
+          ∙ sym (ap (λ (b : Bool). cond b 0 (crossAt h x)) (ne-eqb (homeIn s w x) r d) ∙ counted x u (some x u d) ∙ slots-cross x u (some x u d))
 
   -- ---- entry by entry
 
@@ -313,11 +272,11 @@ module _ (s : Sizes) (w : Words) (k : WholeFor s w) (space : Room s (length (w .
 
   entries-sum : entriesCross p (w′ .cells) (w .remember) (w′ .tables) r ≡ sum outside (cellCount s)
   entries-sum =
-      let e : cellsWords s ≡ headAt (cellCount s) = omega arith in
       sum-same (λ i. slotCrosses p (w′ .cells) (w′ .tables) r (slotIn (w .remember) i)) (λ i. still (slotIn (w .remember) i)) (usedIn (w .remember))
       (λ i l. let n = k .remember .entries .named i l in sym (still-yes (slotIn (w .remember) i) (omega (arith, n .region, n .right))))
       ∙ sum-paired (slotIn (w .remember)) (λ i. still (slotIn (w .remember) i)) (usedIn (w .remember)) still (cellsWords s) entries-paired
-      ∙ ap (sum still) e ∙ sum-blocks cellWords still outside (cellCount s) cell-sum
+      ∙ slots-sum p (w .cells) (w .tables) still (λ q l n. still-no q (λ b. n (cross-slot p (w .cells) (w .tables) q b))) (refs-room s w k)
+      ∙ sum-same (slotsOf p (w .cells) (w .tables) still) outside (cellCount s) (λ x l. object-sum x)
 
   -- ---- both together
 

@@ -19,14 +19,14 @@ use Rattle.laws.specs.RegionLaws.{region-high, thread-at, parent-at, join-contr
 use Rattle.laws.specs.GraphLaws as gl
 use Rattle.laws.specs.GraphLaws.{Refers, Holds, bySlot, byOwn, byOther}
 use Rattle.layout.specs.Places.{varOf, usedIn, slotIn, slotRegionIn, Room}
-use Rattle.layout.specs.Cells.{fieldAt, fieldOf, pageOf, pageAt, roomFor, fields-room}
-use Rattle.layout.specs.Words.{Words, BeginsIn, ownerIn, homeIn, depthIn, headIn, refCount, refsIn, varsIn, graphOf}
+use Rattle.layout.specs.Cells.{fieldAt, fieldOf, pageOf, pageAt}
+use Rattle.layout.specs.Words.{Words, BeginsIn, ownerIn, homeIn, depthIn, refCount, refsIn, varsIn, graphOf}
 use Rattle.remember.specs.Crossing.{other, regionOf, crossTo}
 use Rattle.promises.specs.Whole.{WholeFor, IsRef}
 use Rattle.layout.specs.Objects.{begins-page, field-on, Slot, slot-low, slot-page, slot-word, field-slot}
 use Rattle.remember.specs.Crosses.{slot-cross}
 use Rattle.promises.specs.Slots.{region-of}
-use Rattle.promises.specs.Reading.{range, cells-room, remember-room, used-home, used-owned, used-alive, alive-used, cell-low, length-refs, getD-refs, length-vars, getD-vars, refs-few}
+use Rattle.promises.specs.Reading.{range, cells-room, remember-room, used-home, used-owned, used-alive, alive-used, cell-low, length-refs, getD-refs, length-vars, getD-vars, ref-room}
 use Rattle.mark.specs.Marks.{Shaped, Leads, Leads.here, Leads.step, named, named-in, named-from}
 use Rattle.mark.specs.Holders.{varCalls, varHeld, slotCalls, slotHeld, heldCells, Holding, entry-slot, calls-own, calls-other, var-some, slot-some}
 
@@ -69,10 +69,6 @@ module _ (s : Sizes) (w : Words) (k : WholeFor s w) where
       record { below = cell-low s w k y u; there = used-alive s w k y u; slot = getD-in (refsIn w y) f x (getD-refs w y f l ∙ e) }
 
   -- what a reference names is in use
-  -- a reference field lies in its object's room
-  ref-room : (y f : ℕ) → BeginsIn s w y → f < refCount w y → f < roomFor (headIn w y)
-  ref-room y f u l = omega (arith, fields-room (headIn w y) (k .objects y u .head))
-
   field-used : (y f x : ℕ) → BeginsIn s w y → f < refCount w y → fieldOf (w .cells) y f ≡ suc x → BeginsIn s w x
   field-used y f x u l e =
       let z : fieldOf (w .cells) y f - 1 ≡ x = omega arith in subst (BeginsIn s w) z (k .objects y u .references f l (omega arith))
@@ -141,11 +137,11 @@ module _ (s : Sizes) (w : Words) (k : WholeFor s w) where
       → ownerIn s w (pageOf x) ≡ r → (i : ℕ) × (i < usedIn (w .remember)) × (slotIn (w .remember) i ≡ fieldAt y f) × (slotRegionIn (s .entries) (w .remember) i ≡ r)
   enters-entry r y f x pos u out l e own =
       let q = fieldAt y f in
-      let o = field-slot s (w .cells) (w .tables) y f u (ref-room y f u l) l in
+      let o = field-slot s (w .cells) (w .tables) y f u (ref-room s w k y f u l) l in
       let v = field-used y f x u l e in
       let c : crossTo s (w .cells) (w .tables) q ≡ r =
       slot-cross s (w .cells) (w .tables) q o
-      ∙ ap₂ (λ (a b : ℕ). other (ownerIn s w a) (regionOf s (w .tables) b)) (field-on s (w .cells) (w .tables) y u f (ref-room y f u l)) e
+      ∙ ap₂ (λ (a b : ℕ). other (ownerIn s w a) (regionOf s (w .tables) b)) (field-on s (w .cells) (w .tables) y u f (ref-room s w k y f u l)) e
       ∙ ap (other (ownerIn s w (pageOf y))) (region-of s (w .tables) x (begins-page _ _ _ _ v) ∙ own) ∙ is-other (ownerIn s w (pageOf y)) r pos out in
       let i = k .remember .every q (slot-low s (w .cells) (w .tables) q o) (omega arith) in
       let n = k .remember .entries .named (i .0) (i .1) in
@@ -219,7 +215,7 @@ module _ (s : Sizes) (w : Words) (k : WholeFor s w) where
         let hy = used-home s w k y u in
         let n = enters-entry r y (i .0) x (region-high s t j) u (λ z. o (hy ∙ z)) (i .1) (i .2) (home-cell x r h (omega (arith, region-high s t j)) .1) in
         let b : i .0 < refCount w y = i .1 in
-        let page : pageAt (slotIn (w .remember) (n .0)) ≡ pageOf y = ap pageAt (n .2) ∙ field-on s (w .cells) (w .tables) y u (i .0) (ref-room y (i .0) u b) in
+        let page : pageAt (slotIn (w .remember) (n .0)) ≡ pageOf y = ap pageAt (n .2) ∙ field-on s (w .cells) (w .tables) y u (i .0) (ref-room s w k y (i .0) u b) in
         let g : ℕ = regionAt s t l in
         let call : slotCalls s (w .remember) (w .tables) r (n .0) ≡ g = ap (λ (z : ℕ). join s r (ownerIn s w z)) page ∙ ap (join s r) (sym hy) ∙ e in
         in-right x (named (varHeld s (w .tables) t outer g) (s .threads * s .variables))

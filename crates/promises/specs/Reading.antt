@@ -17,7 +17,7 @@ use Rattle.layout.specs.Places.{Room, room, depthAt, varAt, varOf, tablesWords,
 use Rattle.layout.specs.Cells.{fieldAt, fieldOf, fieldCount, firstField, kindAt, mostFields, roomFor, kind-among, first-reference, fields-room, pageOf, CellIn}
 use Rattle.layout.specs.Cells as ly
 use Rattle.layout.specs.Words.{Words, depthIn, varIn, ownerIn, depthsIn, varsIn, headIn, refCount, fieldsIn, refsIn, homeIn, graphOf, depthsAt, homeAt, fieldsAt, varsAt, BeginsIn}
-use Rattle.layout.specs.Objects.{cellCount, beginsAt, begins-used, begins-low, begins-true, true-begins, fields-inside}
+use Rattle.layout.specs.Objects.{cellCount, beginsAt, begins-used, begins-low, begins-true, begins-false, true-begins, fields-inside}
 use Rattle.promises.specs.Whole.{Sized, WholeFor}
 
 pub getD-fields : (d : Kind) (w : Words) (c i : ℕ) → i < fieldCount d (headIn w c) → getD (fieldsIn d w c) i 0 ≡ getD (w .cells) (kindAt d (w .cells) c i) 0
@@ -85,6 +85,10 @@ module _ (s : Sizes) (w : Words) (k : WholeFor s w) where
       go true e = true-begins s (w .cells) (w .tables) c e
       go false e = absurd (a (ap (λ (b : Bool). cond b (ownerIn s w (pageOf c)) 0) e))
 
+  pub no-home : (c : ℕ) → (BeginsIn s w c → ⊥) → homeIn s w c ≡ 0
+  unfolding homeAt
+  no-home c n = ap (λ (b : Bool). cond b (ownerIn s w (pageOf c)) 0) (begins-false s (w .cells) (w .tables) c n)
+
   pub cell-low : (c : ℕ) → BeginsIn s w c → c < cellCount s
   cell-low = begins-low s (w .cells) (w .tables)
 
@@ -140,6 +144,9 @@ module _ (s : Sizes) (w : Words) (k : WholeFor s w) where
 
   pub refs-room : (c : ℕ) → BeginsIn s w c → refCount w c ≤ roomFor (headIn w c)
   refs-room c u = omega (arith, kind-among Reference (headIn w c), fields-room (headIn w c) (k .objects c u .head))
+
+  pub ref-room : (c f : ℕ) → BeginsIn s w c → f < refCount w c → f < roomFor (headIn w c)
+  ref-room c f u l = omega (arith, refs-room c u)
 
 -- the tables have room for their arrays
 pub whole-room : (s : Sizes) (w : Words) → WholeFor s w → length (w .tables) < 2 ^ 63 → Room s (length (w .tables))

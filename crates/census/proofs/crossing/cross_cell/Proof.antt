@@ -6,7 +6,9 @@ use borrow.Author.Needs.{needs}
 use Rattle.lists.specs.Counting.{sum, sum-more}
 use Rattle.layout.specs.declared.Kind.the-variants.{Reference}
 use Rattle.layout.specs.Cells.{workOf, fieldOf, fieldCount, mostFields, refsOf}
+use Rattle.layout.specs.Objects.{begins-page}
 use Rattle.promises.specs.Whole.{IsRef}
+use Rattle.mark.specs.Marks.{shaped-few}
 use Rattle.census.specs.After.{crossAfter, cross-le, cells-cross}
 use Rattle.census.proofs.crossing.cross_cell.Statement.{statement}
 use Rattle.census.proofs.crossing.cross_cell.Tie as tie
@@ -22,12 +24,12 @@ abbrev μ-loop : tie.MeasureT-loop
 work-requires : tie.Need-work-requires Inv-loop μ-loop
 work-requires c κs =
     let pre = c .before .before .pre in
-    omega (arith, pre .1 .page, pre .0 .cells-long, pre .0 .room)
+    omega (arith, begins-page _ _ _ _ (pre .1), pre .0 .cells-long, pre .0 .room)
 
 head-requires : tie.Need-head-requires Inv-loop μ-loop
 head-requires c κs =
     let pre = c .before .before .before .pre in
-    omega (arith, pre .1 .page, pre .0 .cells-long, pre .0 .room)
+    omega (arith, begins-page _ _ _ _ (pre .1), pre .0 .cells-long, pre .0 .room)
 
 field-count-requires : tie.Need-field-count-requires Inv-loop μ-loop
 field-count-requires c κs =
@@ -38,18 +40,18 @@ loop-holds c =
     let args = c .before .before .before .before .before .args in
     let pre = c .before .before .before .before .before .pre in
     let e : c .field-count .result ≡ refsOf (args .cells .now) (args .c) = c .field-count .ensures ∙ ap (fieldCount Reference) (c .before .head .ensures) in
-    (omega arith, e, omega (arith, pre .0 .refs-few (args .c) (pre .1)), c .before .before .work .ensures, refl, omega arith)
+    (omega arith, e, omega (arith, shaped-few (pre .0) (args .c) (pre .1)), c .before .before .work .ensures, refl, omega arith)
 
 field-requires : tie.Need-field-requires Inv-loop μ-loop
 field-requires c κs =
     let pre = c .before .before .before .before .before .before .before .pre in
-    omega (arith, pre .1 .page, pre .0 .cells-long, pre .0 .room)
+    omega (arith, begins-page _ _ _ _ (pre .1), pre .0 .cells-long, pre .0 .room)
 
 crosses-requires : tie.Need-crosses-requires Inv-loop μ-loop
 crosses-requires c κs =
     let pre = c .before .before .before .before .before .before .before .before .pre in
     let args = c .before .before .before .before .before .before .before .before .args in
-    (pre .0 .room, (pre .0 .cells-long, subst (IsRef (args .p) (args .cells .now) (args .tables .now)) (sym (c .field .ensures)) (pre .0 .references (args .c) (pre .1) (c .before .before .loop .f) (omega arith))))
+    (pre .0 .room, (pre .0 .cells-long, subst (IsRef (args .p) (args .cells .now) (args .tables .now)) (sym (c .field .ensures)) (pre .0 .objects (args .c) (pre .1) .references (c .before .before .loop .f) (omega arith))))
 
 add-n : tie.Need-add-n Inv-loop μ-loop
 add-n c =

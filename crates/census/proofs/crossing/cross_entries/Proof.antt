@@ -28,7 +28,7 @@ wide-requires c κs =
 loop-holds : tie.Need-loop-holds Inv-loop μ-loop
 loop-holds c =
     let pre = c .before .before .before .before .before .pre in
-    (omega arith, c .wide .ensures ∙ c .before .used .ensures, omega (arith, c .wide .ensures, c .before .used .ensures, pre .1 .few, pre .0 .room), refl, omega arith)
+    (omega arith, c .wide .ensures ∙ c .before .used .ensures, omega (arith, c .wide .ensures, c .before .used .ensures, pre .1 .remember .entries .room, pre .0 .room), refl, omega arith)
 
 cross-entry-requires : tie.Need-cross-entry-requires Inv-loop μ-loop
 cross-entry-requires c κs =

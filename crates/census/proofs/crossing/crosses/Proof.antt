@@ -1,6 +1,7 @@
 -- A slot crosses if what it names lies elsewhere and not in the control space.
 use native.Mathlib.Omega.{arith}
 use borrow.Author.Needs.{needs}
+use Rattle.layout.specs.Objects.{begins-page}
 use Rattle.census.specs.After.{cross-after-null, cross-not, cross-out}
 use Rattle.census.proofs.crossing.crosses.Statement.{statement}
 use Rattle.census.proofs.crossing.crosses.Tie as tie
@@ -16,7 +17,7 @@ cell-named-requires c κs = search needs
 home-after-requires : tie.Need-home-after-requires
 home-after-requires c κs =
     let pre = c .before .before .before .before .pre in
-    (pre .0, (omega (arith, c .cell-named .ensures, pre .1 .1 (omega (arith, c .before .if1 .left)) .page), pre .1 .0))
+    (pre .0, (omega (arith, c .cell-named .ensures, begins-page _ _ _ _ (pre .1 .1 (omega (arith, c .before .if1 .left)))), pre .1 .0))
 
 other-region-requires : tie.Need-other-region-requires
 other-region-requires c κs = search needs
