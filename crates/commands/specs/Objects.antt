@@ -17,7 +17,8 @@ use Rattle.rules.specs.Rules.{Regioned}
 use Rattle.layout.specs.declared.Kind.{Kind}
 use Rattle.layout.specs.declared.Kind.the-variants.{Reference, Number}
 use Rattle.layout.specs.Cells.{headOf, fieldAt, fieldCount, kindAt, kind-low, cellNamed}
-use Rattle.layout.specs.Words.{Words, words, heapOf, Used, refCount}
+use Rattle.layout.specs.Objects.{begins-page}
+use Rattle.layout.specs.Words.{Words, words, heapOf, BeginsIn, refCount}
 use Rattle.promises.specs.Whole.{WholeFor, IsRef}
 use Rattle.promises.specs.Reading.{used-alive, cell-in}
 use Rattle.promises.specs.Agreed.{heap-stands, back}
@@ -50,7 +51,7 @@ module _ (p : Sizes) (c m t : List ℕ) (k : WholeFor p (words c m t)) (u a : �
   heap-var = here-var s w u a l n ∙ sym e
 
   pub names-cell : NamesCell x (length c)
-  names-cell h = cell-in s w k (cellNamed x) (is-ref h .page)
+  names-cell h = cell-in s w k (cellNamed x) (begins-page s c t (cellNamed x) (is-ref h))
 
   -- q is the answer to questions 9 and 10 of field f
   module _ (d : Kind) (f q : ℕ) (g : q ≡ used x f (fieldCount d (headOf c (x - 1)))) where
@@ -61,7 +62,7 @@ module _ (p : Sizes) (c m t : List ℕ) (k : WholeFor p (words c m t)) (u a : �
       pub within : (0 < x) × (f < fieldCount d (headOf c (x - 1)))
       within = used-both x f (fieldCount d (headOf c (x - 1))) (sym g ∙ z)
 
-      pub in-use : Used s w (x - 1)
+      pub in-use : BeginsIn s w (x - 1)
       in-use = is-ref (within .0)
 
       pub is-field : Field d c x f

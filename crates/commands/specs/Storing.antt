@@ -19,8 +19,8 @@ use Rattle.laws.specs.GraphLaws.{Alive}
 use Rattle.laws.specs.RulesLaws.{Sound, sound-after}
 use Rattle.layout.specs.declared.Kind.the-variants.{Reference}
 use Rattle.layout.specs.Places.{Room, ownerOf, usedIn, slotIn}
-use Rattle.layout.specs.Cells.{headOf, fieldAt, fieldCount, kindAt, pageOf}
-use Rattle.layout.specs.Words.{Words, words, heapOf, Used, refCount, Names}
+use Rattle.layout.specs.Cells.{headOf, fieldAt, fieldCount, kindAt, first-reference, pageOf}
+use Rattle.layout.specs.Words.{Words, words, heapOf, BeginsIn, refCount, Names}
 use Rattle.remember.specs.Crossing.{other, regionOf, crossesFrom}
 use Rattle.promises.specs.Whole.{WholeFor}
 use Rattle.promises.specs.Reading.{used-alive, remember-room, whole-room}
@@ -121,12 +121,12 @@ module _ (p : Sizes) (c m t : List ℕ) (k : WholeFor p (words c m t)) (u a : �
 
   module _ (z : q ≡ 0) where
     place : fieldAt y f ≡ slotOf c x f
-    place = omega arith
+    place = omega (arith, first-reference (headOf c y))
 
     inside : f < refCount w y
     inside = within p c m t k u a l n x e Reference f q g z .1
 
-    there : Used s w y
+    there : BeginsIn s w y
     there = in-use p c m t k u a l n x e Reference f q g z
 
     -- a slot that crosses has its entry

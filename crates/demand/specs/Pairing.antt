@@ -15,7 +15,8 @@ use Rattle.laws.specs.GraphLaws.{Alive}
 use Rattle.laws.specs.SameRules.{renamed}
 use Rattle.rules.specs.Rules.{Regioned, graph}
 use Rattle.layout.specs.declared.Kind.the-variants.{Number}
-use Rattle.layout.specs.Words.{Words, BeginsIn}
+use Rattle.layout.specs.Cells.{fieldOf, first-number}
+use Rattle.layout.specs.Words.{Words, BeginsIn, headIn}
 use Rattle.lists.specs.Listed.{listed, length-listed, getD-listed}
 use Rattle.promises.specs.StandsFor.{StandsFor}
 use Rattle.promises.specs.Agreed.{cell-used}
@@ -65,7 +66,7 @@ module _ (s : Sizes) (w : Words) (h : Regioned) (cellOf : ℕ → ℕ) (st : Sta
       record {
         r = sym (length-map (graph h .refs x) (renamed cellOf)) ∙ ap (λ (l : List ℕ). length l) (sym f) ∙ length-refs s w (st .whole) (cellOf x) u;
         d = ap (λ (l : List ℕ). length l) (st .nums x a) ∙ length-fields s w (st .whole) Number (cellOf x) u;
-        numbers = λ i l. ap (λ (k : List ℕ). getD k i 0) (st .nums x a) ∙ getD-fields Number w (cellOf x) i l;
+        numbers = λ i l. ap (λ (k : List ℕ). getD k i 0) (st .nums x a) ∙ getD-fields Number w (cellOf x) i l ∙ ap (λ (n : ℕ). fieldOf (w .cells) (cellOf x) (n + i)) (first-number (headIn w (cellOf x)));
         references = λ i l. leads (getD (graph h .refs x) i 0) _ (λ y e. st .sound .closed .refs x y a (getD-in (graph h .refs x) i y e))
             (sym (getD-refs w (cellOf x) i l) ∙ ap (λ (k : List ℕ). getD k i 0) f ∙ List·getD-map (renamed cellOf) (graph h .refs x) i 0);
       }

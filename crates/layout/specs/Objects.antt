@@ -140,6 +140,20 @@ module _ (s : Sizes) (c t : List ℕ) (k : ℕ) (b : Begins s c t k) where
     pub objects-apart : (f : ℕ) → f < roomFor (headOf c k) → fieldAt k f ≡ fieldAt j g → (k ≡ j) × (f ≡ g)
     objects-apart f m e = (omega (arith, room-is (headOf c j), room-is (headOf c k)), omega (arith, room-is (headOf c j), room-is (headOf c k)))
 
+-- they are word 0, word 1 and the fields that it has room for
+module _ (cell head : ℕ) where
+  pub covers-head : Covers cell head (headAt cell)
+  unfolding Covers
+  covers-head = omega arith
+
+  pub covers-work : Covers cell head (workAt cell)
+  unfolding Covers
+  covers-work = omega arith
+
+  pub covers-field : (f : ℕ) → f < roomFor head → Covers cell head (fieldAt cell f)
+  unfolding Covers
+  covers-field f l = omega (arith, room-is head)
+
 -- the words of an object on a page of the heap lie inside
 pub covers-low : (s : Sizes) (cell head q : ℕ) → pageOf cell < s .pages → Covers cell head q → q < cellsWords s
 unfolding Covers

@@ -9,13 +9,13 @@ use Rattle.commands.proofs.new.blank.Statement.{statement}
 use Rattle.commands.proofs.new.blank.Tie as tie
 
 abbrev Inv-loop : tie.InvT-loop
-Inv-loop cells₀ cell references numbers f₀ cells f = (f ≤ mostFields) × Zeroed cells₀ cells cell f
+Inv-loop cells₀ cell references numbers f₀ cells f = (f ≤ mostFields) × Zeroed cells₀ cells cell (headWord references numbers) f
 
 abbrev μ-loop : tie.MeasureT-loop
 μ-loop cells₀ cell references numbers f₀ cells f = mostFields - f
 
 loop-holds : tie.Need-loop-holds Inv-loop μ-loop
-loop-holds c = (omega arith, zeroed-none _ _)
+loop-holds c = (omega arith, zeroed-none _ _ _)
 
 set-field-requires : tie.Need-set-field-requires Inv-loop μ-loop
 set-field-requires c κs = omega (arith, c .before .before .loop .inv .1 .long)
@@ -32,7 +32,7 @@ loop-again c =
     let pre = c .before .before .before .before .before .before .before .pre in
     let loop = c .before .before .before .before .before .loop in
     let set-field = c .before .before .set-field in
-    (omega arith, zeroed-more (args .cells .now) (loop .cells) (args .cell) (pre .0) (loop .f) (omega arith) (loop .inv .1) (set-field .ensures))
+    (omega arith, zeroed-more (args .cells .now) (loop .cells) (args .cell) (headWord (args .references) (args .numbers)) (pre .0) (loop .f) (omega arith) (loop .inv .1) (set-field .ensures))
 
 head-word-requires : tie.Need-head-word-requires Inv-loop μ-loop
 head-word-requires c κs = omega arith
@@ -60,7 +60,7 @@ returns c =
     let loop = c .before .before .before .before .before .before .before .before .before .before .loop in
     let set-head = c .before .before .before .before .before .before .set-head in
     let set-work = c .before .before .set-work in
-    blanked (args .cells .now) (loop .cells) (args .cell) (pre .0) (loop .f) (headWord (args .references) (args .numbers)) (omega arith) (loop .inv .1)
+    blanked (args .cells .now) (loop .cells) (args .cell) (headWord (args .references) (args .numbers)) (pre .0) (loop .f) (omega arith) (loop .inv .1)
     (set-head .ensures ∙ ap (λ (x : ℕ). set (loop .cells) (headAt (args .cell)) x) (c .before .before .before .before .before .before .before .head-word .ensures)) (set-work .ensures)
 
 pub blank-spec : {M : Type 1} → statement M

@@ -14,7 +14,7 @@ use lib.ListN.{length}
 use mathlib.Core.Bool.{true, false}
 use Rattle.layout.specs.declared.Kind.the-variants.{Reference, Number}
 use Rattle.layout.specs.Places.{cellsWords}
-use Rattle.layout.specs.Cells.{headAt, fieldAt, cellOn, fieldOf, fieldCount, mostFields, pageCells, CellIn}
+use Rattle.layout.specs.Cells.{headAt, fieldAt, cellOn, fieldOf, fieldCount, count-low, mostFields, pageCells, CellIn}
 use Rattle.remember.specs.Crossing.{crossTo}
 use Rattle.whole.specs.Cells.{NamesUsed, CellWhole, PageCells, all-pages, reached, object-whole, zero-rest, field-is-ref}
 use Rattle.whole.specs.Crossing.{crossingTo, to-fields, to-next-cell, to-next-page, crosses-at, crosses-yes, crosses-no, too-many, says-cross}
@@ -80,7 +80,7 @@ field-count-requires-2 : tie.Need-field-count-requires-2 Inv-fields μ-fields In
 field-count-requires-2 c κs = search needs
 
 add-all : tie.Need-add-all Inv-fields μ-fields Inv-cells μ-cells Inv-pages μ-pages
-add-all c = omega arith
+add-all c = omega (arith, c .before .field-count .ensures, count-low Reference (c .before .before .head .result), c .field-count2 .ensures, count-low Number (c .before .before .head .result))
 
 work-requires : tie.Need-work-requires Inv-fields μ-fields Inv-cells μ-cells Inv-pages μ-pages
 work-requires c κs =
