@@ -11,7 +11,7 @@ use Rattle.rules.specs.declared.Sizes.{Sizes}
 use Rattle.layout.specs.Places.{ownerOf, ownersFrom, cellsWords, tablesWords}
 use Rattle.layout.specs.Cells.{wordAt, workOf, refTo, cellNamed, pageOf, cellOf, cellWords, work-cell, page-at}
 use Rattle.layout.specs.Marks.{marked}
-use Rattle.layout.specs.Words.{InUse}
+use Rattle.layout.specs.Objects.{InUse, Begins, begins-used, used-begins, begins-page}
 use Rattle.copy.specs.Marks.{copied}
 use Rattle.copy.specs.Moves.{Step, step-size, step-rest, step-off, step-on, step-new, step-in-use, step-home, step-keeps, step-owner, step-only, step-link, step-words}
 use Rattle.copy.specs.Passing.{Ready, Moves, Moves.none, Moves.more, step-back, moves-ready}
@@ -21,7 +21,7 @@ use Rattle.copy.specs.Copying.{Plan, Copy, copy-clean, copy-copied}
 pub record Moved (p : Sizes) (W₀ T₀ W T : List ℕ) (c d : ℕ) : Type 0 where
   pub forward : workOf W c ≡ refTo d
   pub new : InUse p T₀ d → ⊥
-  pub used : InUse p T d
+  pub used : Begins p W T d
   pub home : ownerOf p T (pageOf d) ≡ workOf W₀ c
   pub body : (i : ℕ) → i < cellWords → i ≢ 1 → getD W (wordAt d i) 0 ≡ getD W₀ (wordAt c i) 0
   pub clear : workOf W d ≡ 0
@@ -36,13 +36,13 @@ pub record Copying (p : Sizes) (W₀ T₀ W T : List ℕ) : Type 0 where
   pub tables-size : length T ≡ length T₀
   pub rest : (x : ℕ) → (x < ownersFrom p) ⊎ (tablesWords p ≤ x) → getD T x 0 ≡ getD T₀ x 0
   pub beyond : (x : ℕ) → cellsWords p ≤ x → getD W x 0 ≡ getD W₀ x 0
-  pub keeps : (x : ℕ) → InUse p T₀ x → InUse p T x
-  pub owner : (x : ℕ) → InUse p T₀ x → ownerOf p T (pageOf x) ≡ ownerOf p T₀ (pageOf x)
+  pub keeps : (x : ℕ) → Begins p W₀ T₀ x → Begins p W T x
+  pub owner : (x : ℕ) → Begins p W₀ T₀ x → ownerOf p T (pageOf x) ≡ ownerOf p T₀ (pageOf x)
   pub back : (x : ℕ) → pageOf x < p .pages → marked p T x ≡ 1 → (marked p T₀ x ≡ 1) × (workOf W x ≡ workOf W₀ x)
-  pub words : (x i : ℕ) → i < cellWords → InUse p T₀ x → i ≢ 1 → getD W (wordAt x i) 0 ≡ getD W₀ (wordAt x i) 0
-  pub links : (x : ℕ) → InUse p T₀ x → marked p T₀ x ≡ 0 → workOf W x ≡ workOf W₀ x
+  pub words : (x i : ℕ) → i < cellWords → Begins p W₀ T₀ x → i ≢ 1 → getD W (wordAt x i) 0 ≡ getD W₀ (wordAt x i) 0
+  pub links : (x : ℕ) → Begins p W₀ T₀ x → marked p T₀ x ≡ 0 → workOf W x ≡ workOf W₀ x
   pub moved : (c : ℕ) → Gone p T₀ T c → (d : ℕ) × Moved p W₀ T₀ W T c d
-  pub only : (d : ℕ) → InUse p T d → InUse p T₀ d ⊎ ((c : ℕ) × Gone p T₀ T c × (workOf W c ≡ refTo d))
+  pub only : (d : ℕ) → Begins p W T d → Begins p W₀ T₀ d ⊎ ((c : ℕ) × Gone p T₀ T c × (workOf W c ≡ refTo d))
   pub once : (b c : ℕ) → Gone p T₀ T b → Gone p T₀ T c → workOf W b ≡ workOf W c → b ≡ c
 
 pub copying-start : (p : Sizes) (W T : List ℕ) → Copying p W T W T
@@ -65,24 +65,24 @@ copying-start p W T =
 module _ {p : Sizes} {g q e : ℕ} {W₀ T₀ W T W′ T′ : List ℕ} (a₀ : Ready p W₀ T₀) (a : Ready p W T) (h : Copying p W₀ T₀ W T)
     (s : Step p g q e W T W′ T′) where
   page : pageOf e < p .pages
-  page = s .can .used .page
+  page = begins-page p W T e (s .can .used)
 
   was-on : marked p T₀ e ≡ 1
-  was-on = h .back e (s .can .used .page) (s .can .on) .0
+  was-on = h .back e page (s .can .on) .0
 
-  old-used : InUse p T₀ e
+  old-used : Begins p W₀ T₀ e
   old-used = a₀ .used e page was-on
 
   -- gone before, if it is not e
   before : (c : ℕ) → Gone p T₀ T′ c → c ≢ e → Gone p T₀ T c
   before c w ne = record { page = w .page; was = w .was; now = sym (step-on s c (w .page) ne) ∙ w .now }
 
-  used-now : (c : ℕ) → pageOf c < p .pages → marked p T₀ c ≡ 1 → InUse p T c
+  used-now : (c : ℕ) → pageOf c < p .pages → marked p T₀ c ≡ 1 → Begins p W T c
   used-now c l on = h .keeps c (a₀ .used c l on)
 
   after : (c d : ℕ) → Gone p T₀ T c → c ≢ e → Moved p W₀ T₀ W T c d → Moved p W₀ T₀ W′ T′ c d
   after c d w ne m =
-      let apart : d ≢ e = (λ z. m .new (subst (λ (x : ℕ). InUse p T₀ x) (sym z) old-used)) in
+      let apart : d ≢ e = (λ z. m .new (subst (InUse p T₀) (sym z) (begins-used p W₀ T₀ e old-used))) in
       record {
         forward = step-link s c (used-now c (w .page) (w .was)) ne ∙ m .forward;
         new = m .new;
@@ -96,7 +96,7 @@ module _ {p : Sizes} {g q e : ℕ} {W₀ T₀ W T W′ T′ : List ℕ} (a₀ : 
   here =
       record {
         forward = s .copied .forward;
-        new = λ u. step-new s (h .keeps (s .new) u);
+        new = λ u. step-new s (begins-used p W T (s .new) (h .keeps (s .new) (used-begins p W₀ T₀ (s .new) u)));
         used = step-in-use s;
         home = step-home s ∙ sym (s .can .target) ∙ h .back e page (s .can .on) .1;
         body = λ i l n. s .copied .body i l n ∙ h .words e i l old-used n;
@@ -116,7 +116,7 @@ module _ {p : Sizes} {g q e : ℕ} {W₀ T₀ W T W′ T′ : List ℕ} (a₀ : 
       let f : workOf W c ≡ refTo (m .0) = m .1 .forward in
       let f′ : workOf W′ c ≡ workOf W c = step-link s c (used-now c (w .page) (w .was)) (not-e c w) in
       let y : m .0 ≡ s .new = omega (arith, s .copied .forward) in
-      step-new s (subst (λ (x : ℕ). InUse p T x) y (m .1 .used))
+      step-new s (subst (InUse p T) y (begins-used p W T (m .0) (m .1 .used)))
 
   pub copying-step : Copying p W₀ T₀ W′ T′
   copying-step =
@@ -126,7 +126,7 @@ module _ {p : Sizes} {g q e : ℕ} {W₀ T₀ W T W′ T′ : List ℕ} (a₀ : 
         rest = λ x w. step-rest s x w ∙ h .rest x w;
         beyond = λ x l.
             s .copied .same x (λ z. omega (arith, page-at p x (subst (λ (y : ℕ). pageOf y < p .pages) (sym (ap cellOf z ∙ work-cell e)) page)))
-            (λ z. omega (arith, page-at p x (subst (λ (y : ℕ). pageOf y < p .pages) (sym z) (step-in-use s .page))))
+            (λ z. omega (arith, page-at p x (subst (λ (y : ℕ). pageOf y < p .pages) (sym z) (begins-page p W′ T′ (s .new) (step-in-use s)))))
             ∙ h .beyond x l;
         keeps = λ x u. step-keeps s x (h .keeps x u);
         owner = λ x u. step-owner s x (h .keeps x u) ∙ h .owner x u;
@@ -148,7 +148,7 @@ module _ {p : Sizes} {g q e : ℕ} {W₀ T₀ W T W′ T′ : List ℕ} (a₀ : 
       moved′ c w (yes z) = (s .new, subst (λ (x : ℕ). Moved p W₀ T₀ W′ T′ x (s .new)) (sym z) here)
       moved′ c w (no n) = let v = before c w n in let m = h .moved c v in (m .0, after c (m .0) v n (m .1))
 
-      was′ : (d : ℕ) → InUse p T₀ d ⊎ ((c : ℕ) × Gone p T₀ T c × (workOf W c ≡ refTo d)) → InUse p T₀ d ⊎ ((c : ℕ) × Gone p T₀ T′ c × (workOf W′ c ≡ refTo d))
+      was′ : (d : ℕ) → Begins p W₀ T₀ d ⊎ ((c : ℕ) × Gone p T₀ T c × (workOf W c ≡ refTo d)) → Begins p W₀ T₀ d ⊎ ((c : ℕ) × Gone p T₀ T′ c × (workOf W′ c ≡ refTo d))
       was′ d (inl u) = inl u
       was′ d (inr q) =
           inr (q .0, still (q .0) (q .1), step-link s (q .0) (used-now (q .0) (q .1 .page) (q .1 .was)) (not-e (q .0) (q .1)) ∙ q .2)
@@ -178,7 +178,7 @@ pub record Forwards (p : Sizes) (W₀ T₀ W T : List ℕ) : Type 0 where
   pub bits : (c : ℕ) → pageOf c < p .pages → copied p T c ≡ marked p T₀ c
   pub moved : (c : ℕ) → pageOf c < p .pages → marked p T₀ c ≡ 1 → Moved p W₀ T₀ W T c (forward W c)
   pub once : (b c : ℕ) → pageOf b < p .pages → marked p T₀ b ≡ 1 → pageOf c < p .pages → marked p T₀ c ≡ 1 → forward W b ≡ forward W c → b ≡ c
-  pub only : (d : ℕ) → InUse p T d → InUse p T₀ d ⊎ ((c : ℕ) × (pageOf c < p .pages) × (marked p T₀ c ≡ 1) × (forward W c ≡ d))
+  pub only : (d : ℕ) → Begins p W T d → Begins p W₀ T₀ d ⊎ ((c : ℕ) × (pageOf c < p .pages) × (marked p T₀ c ≡ 1) × (forward W c ≡ d))
 
 pub copy-forwards : {p : Sizes} {n : ℕ} {gs : ℕ → ℕ} {W T W′ T′ : List ℕ} → Plan p n gs W T → Copy p n gs n W T W′ T′ → Forwards p W T W′ T′
 copy-forwards {p} {n} {gs} {W} {T} {W′} {T′} a b =

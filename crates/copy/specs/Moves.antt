@@ -1,6 +1,6 @@
 -- One survivor is moved: a cell is taken, its words are copied, its mark goes to the upper half.
 use mathlib.Core.Path.{_≡_, refl, sym, ap, ap₂, _∙_, subst}
-use mathlib.Core.Logic.{_≢_, _⊎_, inl, inr}
+use mathlib.Core.Logic.{_≢_, _⊎_, inl, inr, ⊎-elim}
 use mathlib.Core.List.{List}
 use Prim.Native.Nat.{ℕ, _+_, _^_, _≤_, _<_}
 use native.Mathlib.Decide.{ℕ-discrete}
@@ -15,7 +15,7 @@ use Rattle.rules.specs.Regions.{regions}
 use Rattle.layout.specs.Places.{Room, ownerAt, usedAt, markAt, countAt, ownerOf, usedOf, markOf, countOf, countsFrom, marksFrom, ownersFrom, cellsWords, tablesWords, count-room}
 use Rattle.layout.specs.Cells.{wordAt, workAt, workOf, refTo, pageOf, placeOf, cellOf, wordOf, pageCells, cellWords, place-low, same-cell, word-cell, word-there, word-low, work-cell, work-there, work-low}
 use Rattle.layout.specs.Marks.{marked}
-use Rattle.layout.specs.Words.{InUse, cellCount}
+use Rattle.layout.specs.Objects.{InUse, Begins, begins-used, used-begins, begins-page, cellCount}
 use Rattle.promises.specs.Whole.{objectsOn, objectsOf}
 use Rattle.pages.specs.Pages.{Partly}
 use Rattle.pages.specs.Owned.{ownedOne, ownedIn}
@@ -94,7 +94,7 @@ pub record Movable (p : Sizes) (g q : ℕ) (W T : List ℕ) (c : ℕ) : Type 0 w
   pub low : g ≤ regions p
   pub next : Next p g q T
   pub cells-long : cellsWords p ≤ length W
-  pub used : InUse p T c
+  pub used : Begins p W T c
   pub on : marked p T c ≡ 1
   pub fresh : copied p T c ≡ 0
   pub target : workOf W c ≡ g
@@ -133,16 +133,17 @@ pub movable-taken : {p : Sizes} {g q : ℕ} {W T T′ : List ℕ} {c d : ℕ} �
 movable-taken {p} {g} {q} {W} {T} {T′} {c} {d} m t =
     let r = m .regular in
     let l = took-length r (m .real) (m .low) t in
+    let page = begins-page p W T c (m .used) in
     record {
-      apart = λ e. took-new r (m .real) (m .low) t (subst (λ (x : ℕ). InUse p T x) e (m .used));
+      apart = λ e. took-new r (m .real) (m .low) t (subst (InUse p T) e (begins-used p W T c (m .used)));
       few = r .room .few;
       cell = took-in-use r (m .real) (m .low) t .page;
-      old = m .used .page;
+      old = page;
       long = m .cells-long;
-      word = omega (arith, r .room, m .used .page, l);
+      word = omega (arith, r .room, page, l);
       same = l;
-      on = ap (λ (x : ℕ). bitAt x (placeOf c)) (took-marks r (m .real) (m .low) t (pageOf c) (m .used .page)) ∙ m .on;
-      fresh = ap (λ (x : ℕ). bitAt x (pageCells + placeOf c)) (took-marks r (m .real) (m .low) t (pageOf c) (m .used .page)) ∙ m .fresh;
+      on = ap (λ (x : ℕ). bitAt x (placeOf c)) (took-marks r (m .real) (m .low) t (pageOf c) page) ∙ m .on;
+      fresh = ap (λ (x : ℕ). bitAt x (pageCells + placeOf c)) (took-marks r (m .real) (m .low) t (pageOf c) page) ∙ m .fresh;
     }
 
 -- ---- words of pages and regions that stay
@@ -187,6 +188,9 @@ module _ {p : Sizes} {T T′ : List ℕ} (r : Regular p T) (e : PagesKept p T T�
 -- ---- what one move does
 
 module _ {p : Sizes} {g q c : ℕ} {W T W′ T′ : List ℕ} (s : Step p g q c W T W′ T′) where
+  page-in : pageOf c < p .pages
+  page-in = begins-page p W T c (s .can .used)
+
   mid-long : marksAt p c < length (s .mid)
   mid-long = movable-taken (s .can) (s .took) .word
 
@@ -205,7 +209,7 @@ module _ {p : Sizes} {g q c : ℕ} {W T W′ T′ : List ℕ} (s : Step p g q c 
   mid-pages x l = mid-other x (λ e. omega arith)
 
   mid-counts : (x : ℕ) → countsFrom p ≤ x → getD T′ x 0 ≡ getD (s .mid) x 0
-  mid-counts x l = mid-other x (λ e. omega (arith, s .can .used .page))
+  mid-counts x l = mid-other x (λ e. omega (arith, page-in))
 
   mid-kept : PagesKept p (s .mid) T′
   mid-kept = record { size = mid-size; pages = mid-pages; counts = mid-counts }
@@ -247,7 +251,7 @@ module _ {p : Sizes} {g q c : ℕ} {W T W′ T′ : List ℕ} (s : Step p g q c 
   mark-here =
       ap (λ (X : List ℕ). getD X (marksAt p c) 0) (s .tables)
       ∙ getD-set-same (s .mid) (marksAt p c) (raised (getD (s .mid) (marksAt p c) 0) (placeOf c)) 0 mid-long
-      ∙ ap (λ (x : ℕ). raised x (placeOf c)) (took-marks (s .can .regular) (s .can .real) (s .can .low) (s .took) (pageOf c) (s .can .used .page))
+      ∙ ap (λ (x : ℕ). raised x (placeOf c)) (took-marks (s .can .regular) (s .can .real) (s .can .low) (s .took) (pageOf c) page-in)
 
   -- other pages keep their mark word
   pub step-marks : (q : ℕ) → q < p .pages → q ≢ pageOf c → markOf p T′ q ≡ markOf p T q
@@ -285,7 +289,7 @@ module _ {p : Sizes} {g q c : ℕ} {W T W′ T′ : List ℕ} (s : Step p g q c 
           (omega (arith, step-off, step-copied, s .can .on, s .can .fresh))
       go (no n) = ap₂ (λ (a b : ℕ). a + b) (step-on x l n) (step-copied-other x l n)
 
-  -- cells in use
+  -- cells in use, each of which is an object
   use-mid : (x : ℕ) → InUse p T′ x → InUse p (s .mid) x
   use-mid x u = record { page = u .page; place = omega (arith, u .place, mid-pages (usedAt p (pageOf x)) (omega (arith, u .page))) }
 
@@ -295,35 +299,36 @@ module _ {p : Sizes} {g q c : ℕ} {W T W′ T′ : List ℕ} (s : Step p g q c 
   pub step-new : InUse p T (s .new) → ⊥
   step-new = took-new (s .can .regular) (s .can .real) (s .can .low) (s .took)
 
-  pub step-in-use : InUse p T′ (s .new)
-  step-in-use = mid-use (s .new) (took-in-use (s .can .regular) (s .can .real) (s .can .low) (s .took))
+  pub step-in-use : Begins p W′ T′ (s .new)
+  step-in-use = used-begins p W′ T′ (s .new) (mid-use (s .new) (took-in-use (s .can .regular) (s .can .real) (s .can .low) (s .took)))
 
   pub step-home : ownerOf p T′ (pageOf (s .new)) ≡ g
   step-home =
       mid-pages (ownerAt p (pageOf (s .new))) (omega (arith, took-in-use (s .can .regular) (s .can .real) (s .can .low) (s .took) .page))
       ∙ took-home (s .can .regular) (s .can .real) (s .can .low) (s .took)
 
-  pub step-keeps : (x : ℕ) → InUse p T x → InUse p T′ x
-  step-keeps x u = mid-use x (took-keeps (s .can .regular) (s .can .real) (s .can .low) (s .took) x u .0)
+  pub step-keeps : (x : ℕ) → Begins p W T x → Begins p W′ T′ x
+  step-keeps x u = used-begins p W′ T′ x (mid-use x (took-keeps (s .can .regular) (s .can .real) (s .can .low) (s .took) x (begins-used p W T x u) .0))
 
-  pub step-owner : (x : ℕ) → InUse p T x → ownerOf p T′ (pageOf x) ≡ ownerOf p T (pageOf x)
+  pub step-owner : (x : ℕ) → Begins p W T x → ownerOf p T′ (pageOf x) ≡ ownerOf p T (pageOf x)
   step-owner x u =
-      mid-pages (ownerAt p (pageOf x)) (omega (arith, u .page)) ∙ took-keeps (s .can .regular) (s .can .real) (s .can .low) (s .took) x u .1
+      mid-pages (ownerAt p (pageOf x)) (omega (arith, begins-page p W T x u)) ∙ took-keeps (s .can .regular) (s .can .real) (s .can .low) (s .took) x (begins-used p W T x u) .1
 
-  pub step-only : (x : ℕ) → InUse p T′ x → InUse p T x ⊎ (x ≡ s .new)
-  step-only x u = took-only (s .can .regular) (s .can .real) (s .can .low) (s .took) x (use-mid x u)
+  pub step-only : (x : ℕ) → Begins p W′ T′ x → Begins p W T x ⊎ (x ≡ s .new)
+  step-only x u =
+      ⊎-elim (λ v. inl (used-begins p W T x v)) inr (took-only (s .can .regular) (s .can .real) (s .can .low) (s .took) x (use-mid x (begins-used p W′ T′ x u)))
 
-  -- the link of a cell in use other than c stays
-  pub step-link : (x : ℕ) → InUse p T x → x ≢ c → workOf W′ x ≡ workOf W x
+  -- the link of an object other than c stays
+  pub step-link : (x : ℕ) → Begins p W T x → x ≢ c → workOf W′ x ≡ workOf W x
   step-link x u ne =
       s .copied .same (workAt x) (λ e. ne (sym (work-cell x) ∙ ap cellOf e ∙ work-cell c))
-      (λ e. step-new (subst (λ (y : ℕ). InUse p T y) (sym (work-cell x) ∙ e) u))
+      (λ e. step-new (subst (InUse p T) (sym (work-cell x) ∙ e) (begins-used p W T x u)))
 
-  -- and every word of such a cell
-  pub step-words : (x i : ℕ) → i < cellWords → InUse p T x → (x ≡ c → i ≢ 1) → getD W′ (wordAt x i) 0 ≡ getD W (wordAt x i) 0
+  -- and every word of its cell
+  pub step-words : (x i : ℕ) → i < cellWords → Begins p W T x → (x ≡ c → i ≢ 1) → getD W′ (wordAt x i) 0 ≡ getD W (wordAt x i) 0
   step-words x i l u ne =
       s .copied .same (wordAt x i) (λ e. ne (sym (word-cell x i l) ∙ ap cellOf e ∙ work-cell c) (sym (word-there x i l) ∙ ap wordOf e ∙ work-there c))
-      (λ e. step-new (subst (λ (y : ℕ). InUse p T y) (sym (word-cell x i l) ∙ e) u))
+      (λ e. step-new (subst (InUse p T) (sym (word-cell x i l) ∙ e) (begins-used p W T x u)))
 
   -- the pass stays at the page
   pub step-points : Points p T′ g q

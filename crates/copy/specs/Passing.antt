@@ -13,7 +13,7 @@ use Rattle.rules.specs.Regions.{regions}
 use Rattle.layout.specs.Places.{markOf, cellsWords}
 use Rattle.layout.specs.Cells.{workOf, pageOf, mostCells, page-count, count-page}
 use Rattle.layout.specs.Marks.{marked}
-use Rattle.layout.specs.Words.{InUse, cellCount}
+use Rattle.layout.specs.Objects.{Begins, begins-page, cellCount}
 use Rattle.promises.specs.Whole.{objectsOf}
 use Rattle.pages.specs.Owned.{ownedIn}
 use Rattle.copy.specs.Marks.{copied, mark?, hit, hit-yes, hit-no, hit-same, hits}
@@ -24,7 +24,7 @@ use Rattle.copy.specs.Moves.{Movable, Step, step-regular, step-size, ste
 pub record Ready (p : Sizes) (W T : List ℕ) : Type 0 where
   pub regular : Regular p T
   pub cells-long : cellsWords p ≤ length W
-  pub used : (c : ℕ) → pageOf c < p .pages → marked p T c ≡ 1 → InUse p T c
+  pub used : (c : ℕ) → pageOf c < p .pages → marked p T c ≡ 1 → Begins p W T c
   pub waits : (c : ℕ) → pageOf c < p .pages → marked p T c ≡ 1 → copied p T c ≡ 0
 
 module _ {p : Sizes} {g q c : ℕ} {W T W′ T′ : List ℕ} (a : Ready p W T) (s : Step p g q c W T W′ T′) where
@@ -61,7 +61,7 @@ module _ {p : Sizes} {g q c : ℕ} {W T W′ T′ : List ℕ} (a : Ready p W T) 
   sums : (h : ℕ) → hits p W T h + marked p T′ c * hit W′ h c ≡ hits p W′ T′ h + marked p T c * hit W h c
   unfolding hits
   sums h =
-      sum-change (λ x. marked p T x * hit W h x) (λ x. marked p T′ x * hit W′ h x) c (cellCount p) (page-count c (s .can .used .page))
+      sum-change (λ x. marked p T x * hit W h x) (λ x. marked p T′ x * hit W′ h x) c (cellCount p) (page-count c (begins-page _ _ _ _ (s .can .used)))
       (λ x l ne. same-but h x (count-page x l) ne)
 
   pub step-hits : hits p W′ T′ g + 1 ≡ hits p W T g
@@ -130,7 +130,7 @@ pub moves-marks : {p : Sizes} {G : ℕ → Type 0} {n m : ℕ} {W T W′ T′ : 
     → ((c : ℕ) → pageOf c ≡ q → marked p T c ≡ 1 → ⊥) → markOf p T′ q ≡ markOf p T q
 moves-marks a (none z) q l off = refl
 moves-marks a (more {c = c} b h y z s) q l off =
-    step-marks s q l (λ e. off c (sym e) (moves-back a b c (s .can .used .page) (s .can .on) .0)) ∙ moves-marks a b q l off
+    step-marks s q l (λ e. off c (sym e) (moves-back a b c (begins-page _ _ _ _ (s .can .used)) (s .can .on) .0)) ∙ moves-marks a b q l off
 
 -- a target of none of the moves
 pub record Others (p : Sizes) (h : ℕ) (W T W′ T′ : List ℕ) : Type 0 where

@@ -9,6 +9,7 @@ use Rattle.lists.specs.Bits.{bitAt}
 use Rattle.rules.specs.declared.Sizes.{Sizes}
 use Rattle.layout.specs.Places.{markAt, markOf, usedOf}
 use Rattle.layout.specs.Cells.{cellOn, placeOf, pageCells, cell-in}
+use Rattle.layout.specs.Objects.{begins-page}
 use Rattle.pages.specs.Pages.{taken}
 use Rattle.copy.specs.Marks.{marksAt, raised, clear-fresh}
 use Rattle.copy.specs.Moves.{Movable, Taken, movable-taken, count-fits}
@@ -37,7 +38,7 @@ place-of-requires : tie.Need-place-of-requires
 place-of-requires c κs = search needs
 
 mark-requires : tie.Need-mark-requires
-mark-requires c κs = search needs
+mark-requires c κs = (search needs, omega (arith, c .before .before .page-of .ensures, begins-page _ _ _ _ (c .before .before .before .before .before .before .before .before .before .before .before .before .before .pre .used)))
 
 cast-without-bit : tie.Need-cast-without-bit
 cast-without-bit c = search needs
@@ -63,7 +64,7 @@ with-bit-requires c κs =
     (omega (arith, c .before .before .before .place-of .ensures), ap₂ (λ (x y : ℕ). bitAt x (pageCells + y)) f (c .before .before .before .place-of .ensures) ∙ clear-fresh (getD X (marksAt (a .p) (a .cell)) 0) (placeOf (a .cell)) (t .on) (t .fresh))
 
 set-mark-requires : tie.Need-set-mark-requires
-set-mark-requires c κs = search needs
+set-mark-requires c κs = (search needs, omega (arith, c .before .before .before .before .before .before .page-of .ensures, begins-page _ _ _ _ (c .before .before .before .before .before .before .before .before .before .before .before .before .before .before .before .before .before .pre .used)))
 
 same-length : tie.Need-same-length
 same-length c = search needs
