@@ -6,7 +6,7 @@ use native.Mathlib.Omega.{arith}
 use lib.ListN.{getD}
 use Rattle.lists.specs.Counting.{sum-more, sum-none, sum-high}
 use Rattle.rules.specs.declared.Sizes.{Sizes}
-use Rattle.layout.specs.Places.{markOf}
+use Rattle.layout.specs.Places.{markOf, pageWords}
 use Rattle.layout.specs.Cells.{cellOn, firstOn}
 use Rattle.census.specs.Counted.{onPage, overMarked, bits-none, page-high, goesTo, goes-le}
 use Rattle.census.specs.After.{cellCrosses}
@@ -15,11 +15,11 @@ use Rattle.census.specs.After.{cellCrosses}
 abbrev pub Arrivals : Sizes → List ℕ → List ℕ → ℕ → List ℕ → Type 0
 Arrivals p W T n come = (g : ℕ) → getD come g 0 ≡ overMarked p T (goesTo W g) n
 
--- and k is how many of their slots cross; a page has at most 224 slots
+-- and k is how many of their slots cross; no more than their pages have words
 pub record Census (p : Sizes) (W T : List ℕ) (r n : ℕ) (come : List ℕ) (k : ℕ) : Type 0 where
   pub arrivals : Arrivals p W T n come
   pub crossing : k ≡ overMarked p T (cellCrosses p W T r) n
-  pub few : k ≤ 224 * n
+  pub few : k ≤ pageWords * n
 
 -- at most 16 survivors on a page go to one region
 pub over-high : (p : Sizes) (W T : List ℕ) (g n : ℕ) → overMarked p T (goesTo W g) n ≤ firstOn n
@@ -41,7 +41,7 @@ module _ {p : Sizes} {W T : List ℕ} {r : ℕ} where
 
   -- w, x and what is in come now are as the code has them
   pub census-turn : {page k : ℕ} {come : List ℕ} (come′ : List ℕ) (w x : ℕ) → w ≡ markOf p T page → ((g : ℕ) → getD come′ g 0 ≡ getD come g 0 + onPage (goesTo W g) page w)
-      → x ≡ onPage (cellCrosses p W T r) page w → x ≤ 224 → Census p W T r page come k → Census p W T r (page + 1) come′ (k + x)
+      → x ≡ onPage (cellCrosses p W T r) page w → x ≤ pageWords → Census p W T r page come k → Census p W T r (page + 1) come′ (k + x)
   census-turn {page} come′ w x e h ex l c =
       record {
         arrivals = λ g. omega (arith, h g, c .arrivals g, over-more p T (goesTo W g) page w e);

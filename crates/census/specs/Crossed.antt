@@ -30,7 +30,7 @@ use Rattle.promises.specs.Crossings.{cross-in-sum}
 use Rattle.layout.specs.Objects.{begins-page, begins-true, begins-false, begins?, field-on, field-slot, slotsOf, slots-sum}
 use Rattle.remember.specs.Crosses.{slot-cross, cross-slot}
 use Rattle.promises.specs.Slots.{region-of}
-use Rattle.promises.specs.Reading.{ref-room, no-home, refs-room, used-home, used-owned, used-alive, alive-used, length-refs, getD-refs, refs-few, words-closed}
+use Rattle.promises.specs.Reading.{ref-room, no-home, refs-room, used-home, used-owned, used-alive, length-refs, getD-refs, refs-few, words-closed}
 use Rattle.mark.specs.Marks.{owner, Kept, kept-refs, kept-field, kept-owner}
 use Rattle.mark.specs.Reached.{home-cell, cell-home, is-other}
 use Rattle.mark.specs.Survivors.{Marked, marked-kept}

@@ -1,11 +1,11 @@
 // How many survivors go to each region, and how many of their slots would cross, in one pass over the listed pages: on each page as many
 // cells as the ones count of its working word, the next one by trailing zeros.
 ghost use mathlib.Core.Path.{_≡_};
-ghost use Prim.Native.Nat.{ℕ, _+_, _*_, _^_, _<_, _≤_};
+ghost use Prim.Native.Nat.{ℕ, _+_, _^_, _<_, _≤_};
 ghost use lib.ListN.{length, getD};
 ghost use Rattle.lists.specs.Bits.{bitAt};
 ghost use Rattle.lists.specs.Part.{Rises, Off};
-ghost use Rattle.layout.specs.Places.{markOf};
+ghost use Rattle.layout.specs.Places.{markOf, pageWords};
 ghost use Rattle.layout.specs.Cells.{workOf, pageOf, cellOn, CellIn, firstOn, pageCells};
 ghost use Rattle.layout.specs.Marks.{marked};
 ghost use Rattle.layout.specs.Words.{Begins};
@@ -43,7 +43,7 @@ pub fn count_page(
     requires { ⌜ ((g : ℕ) → getD (now come) g 0 ≤ firstOn page) ⌝ }
     ensures { λ n. ⌜ ((g : ℕ) → getD (now (come .exit)) g 0 ≡ getD (now (come .entry)) g 0 + onPage (goesTo (now (cells .entry)) g) page w) ⌝ }
     ensures { λ n. ⌜ n ≡ onPage (cellCrosses p (now (cells .entry)) (now (tables .entry)) r) page w ⌝ }
-    ensures { λ n. ⌜ n ≤ 224 ⌝ }
+    ensures { λ n. ⌜ n ≤ pageWords ⌝ }
 {
     let marks = u32::count_ones(w);
     let mut left = w;

@@ -113,7 +113,7 @@ pub fn count_crossing(
 ) -> usize
     requires { ⌜ Shaped p (now cells) (now tables) ⌝ }
     requires { ⌜ Holding p (now cells) (now remember) (now tables) ⌝ }
-    requires { ⌜ (k ≡ overMarked p (now tables) (cellCrosses p (now cells) (now tables) r) (p .pages)) × (k ≤ 224 * p .pages) ⌝ }
+    requires { ⌜ (k ≡ overMarked p (now tables) (cellCrosses p (now cells) (now tables) r) (p .pages)) × (k ≤ cellsWords p) ⌝ }
     ensures { λ n. ⌜ n ≡ crossingAfter p (now (cells .entry)) (now (remember .entry)) (now (tables .entry)) r ⌝ }
 {
     cross_entries(p, cells, remember, tables, r) + k

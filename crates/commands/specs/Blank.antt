@@ -7,7 +7,7 @@ use native.Mathlib.Decide.{ℕ-discrete}
 use lib.ListN.{length, getD, set, length-set}
 use Rattle.lists.specs.Stores.{put, past}
 use Rattle.promises.specs.NewCell.{Blank}
-use Rattle.layout.specs.Cells.{headAt, workAt, fieldAt, fieldOf, mostFields, room-most, CellIn}
+use Rattle.layout.specs.Cells.{headAt, workAt, fieldAt, fieldOf, mostFields, most-is, room-most, CellIn}
 use Rattle.layout.specs.Objects.{Covers, covers-head, covers-work, covers-field}
 
 -- the first n fields are 0, of an object that will have this word 0
@@ -30,7 +30,7 @@ module _ (c c₁ : List ℕ) (cell head : ℕ) (inside : CellIn cell (length c))
       })
     where
       go : (f : ℕ) → f < n + 1 → Dec (f ≡ n) → fieldOf (set c₁ (fieldAt cell n) 0) cell f ≡ 0
-      go f l (yes q) = ap (fieldOf (set c₁ (fieldAt cell n) 0) cell) q ∙ put c₁ (fieldAt cell n) 0 0 (omega (arith, z .long))
+      go f l (yes q) = ap (fieldOf (set c₁ (fieldAt cell n) 0) cell) q ∙ put c₁ (fieldAt cell n) 0 0 (omega (arith, z .long, most-is))
       go f l (no d) = past c₁ (fieldAt cell n) 0 (fieldAt cell f) 0 (λ (q : fieldAt cell f ≡ fieldAt cell n). d (omega arith)) ∙ z .fields f (omega arith)
 
   pub blanked : (n : ℕ) {c₂ c₃ : List ℕ} → mostFields ≤ n → Zeroed c c₁ cell head n → c₂ ≡ set c₁ (headAt cell) head → c₃ ≡ set c₂ (workAt cell) 0 → Blank c cell head c₃

@@ -16,7 +16,7 @@ use Rattle.rules.specs.Rules as ru
 use Rattle.rules.specs.Rules.{Regioned}
 use Rattle.layout.specs.declared.Kind.{Kind}
 use Rattle.layout.specs.declared.Kind.the-variants.{Reference, Number}
-use Rattle.layout.specs.Cells.{headOf, fieldAt, fieldCount, kindAt, kind-low, cellNamed}
+use Rattle.layout.specs.Cells.{headOf, fieldAt, fieldCount, kindAt, kind-low, first-number, cellNamed}
 use Rattle.layout.specs.Objects.{begins-page}
 use Rattle.layout.specs.Words.{Words, words, heapOf, BeginsIn, refCount}
 use Rattle.promises.specs.Whole.{WholeFor, IsRef}
@@ -119,7 +119,7 @@ module _ (p : Sizes) (c m t : List ℕ) (k : WholeFor p (words c m t)) (u a : �
       write-done f =
           let i = in-use Number b q g z in
           let o = within Number b q g z .1 in
-          subst (λ (i : List ℕ). Does p c m t (Write u a b v) i m t (done 0)) (sym f)
+          subst (λ (i : List ℕ). Does p c m t (Write u a b v) i m t (done 0)) (sym (f ∙ ap (λ (n : ℕ). set c (fieldAt y (n + b)) v) (first-number (headOf c y))))
           (did-done s w k (commandFor (Write u a b v)) (withCells w (set c (fieldAt y (refCount w y + b)) v)) h′ 0
           (question-fine s H h′ (commandFor (Write u a b v)) write-after (sym (length-set (H .heap .objects) y _)) refl (write-asked ∙ z) refl) write-after refl
           (number-only s w k y b v i o .beyond) (λ g z. z)

@@ -19,7 +19,8 @@ use Rattle.laws.specs.GraphLaws.{Alive}
 use Rattle.laws.specs.RulesLaws.{Sound, sound-after}
 use Rattle.layout.specs.declared.Kind.the-variants.{Reference}
 use Rattle.layout.specs.Places.{Room, ownerOf, usedIn, slotIn}
-use Rattle.layout.specs.Cells.{headOf, fieldAt, fieldCount, kindAt, first-reference, pageOf}
+use Rattle.layout.specs.Cells.{headOf, fieldAt, fieldCount, kindAt, first-reference, field-high, pageOf}
+use Rattle.layout.specs.Objects.{begins-page}
 use Rattle.layout.specs.Words.{Words, words, heapOf, BeginsIn, refCount, Names}
 use Rattle.remember.specs.Crossing.{other, regionOf, crossesFrom}
 use Rattle.promises.specs.Whole.{WholeFor}
@@ -72,7 +73,7 @@ pub record Seen (p : Sizes) (c t : List ℕ) (x f v at was will : ℕ) : Type 0 
 
 module _ (p : Sizes) (c m t : List ℕ) (x f v at was will : ℕ) (e : Seen p c t x f v at was will) where
   pub slot-few : Storing p c m t x f v → at < 2 ^ 32
-  slot-few s = omega (arith, s .field, e .slot)
+  slot-few s = subst (λ (i : ℕ). i < 2 ^ 32) (sym (e .slot)) (field-high (x - 1) _ (s .field .inside .0) (s .field .field))
 
   pub slot-entry : Storing p c m t x f v → 0 < was → (i : ℕ) × (i < usedIn m) × (slotIn m i ≡ at)
   slot-entry s h = let n = s .named (subst (λ (i : ℕ). 0 < i) (e .before) h) in (n .0, n .1, n .2 ∙ sym (e .slot))
@@ -141,12 +142,12 @@ module _ (p : Sizes) (c m t : List ℕ) (k : WholeFor p (words c m t)) (u a : �
         record {
           room = whole-room s w k fits;
           field = is-field p c m t k u a l n x e Reference f q g z;
-          page = there .page;
+          page = begins-page s c t y there;
           long = remember-room s w k;
           used = k .remember .entries .room;
           named = slot-named;
-          before = subst (λ (j : ℕ). Names p (getD c j 0)) place (λ z. k .objects y there .references f inside (omega arith) .page);
-          after = λ z. is-ref p c m t k u b l o v ev (omega arith) .page;
+          before = subst (λ (j : ℕ). Names p (getD c j 0)) place (λ z. begins-page _ _ _ _ (k .objects y there .references f inside (omega arith)));
+          after = λ z. begins-page _ _ _ _ (is-ref p c m t k u b l o v ev (omega arith));
         }
 
     module _ (v : ℕ) (ev : v ≡ variable p t u b) (c′ m′ : List ℕ) (j : ℕ) (d : Stored p c m t x f v c′ m′ j) where

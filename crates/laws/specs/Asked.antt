@@ -7,7 +7,7 @@ use lib.Dec.{T, ltb, leb, ltb→lt}
 use Rattle.lists.specs.Tests.{both-hold}
 use Rattle.rules.specs.declared.Command.{Command}
 use Rattle.rules.specs.Terms.{Code, unknown, start, end, new, copy, clear, load, store, read, write, same, decode, ask, Limits}
-use Rattle.rules.specs.NeverFreeing.{NeverFreeing, operands, question, state, Access, noField, references, numbers, accessed, nested}
+use Rattle.rules.specs.NeverFreeing.{NeverFreeing, mostFields, operands, question, state, Access, noField, references, numbers, accessed, nested}
 use Rattle.rules.specs.NeverFreeing.{Effect, opens, ends, makes, assigns, meaning, meaningOf}
 use Rattle.rules.specs.Rules.{first}
 
@@ -32,7 +32,7 @@ unfolding operands
 made-low s unknown t a b c e = tt
 made-low s start t a b c e = tt
 made-low s end t a b c e = tt
-made-low s new t a b c e = ltb→lt _ _ (both-hold (ltb a (s .variables)) (leb (b + c) 14) e .0)
+made-low s new t a b c e = ltb→lt _ _ (both-hold (ltb a (s .variables)) (leb (b + c) mostFields) e .0)
 made-low s copy t a b c e = tt
 made-low s clear t a b c e = tt
 made-low s load t a b c e = tt

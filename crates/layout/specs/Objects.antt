@@ -2,17 +2,15 @@
 -- `used-begins`, `begins-on`, `begins-there`, `room-is`, `room-most` or `spot`, or says that a cell is in use.
 use Prim.Native.Nat.{ℕ, zero, suc, _+_, _-_, _*_, _≤_, _<_}
 use native.Mathlib.Omega.{arith}
-use native.Mathlib.Decide.{decLt}
 use mathlib.Core.List.{List}
 use mathlib.Core.Bool.{Bool, true, false, cond, _&&_}
 use mathlib.Core.Path.{_≡_, refl, sym, ap, ap₂, subst, _∙_}
 use lib.Dec.{ltb, leb}
-use borrow.Author.Tests.{lt-ltb, le-ltb, ltb-true, le-leb, leb-true, lt-leb}
+use borrow.Author.Tests.{lt-ltb, ltb-true, le-leb, leb-true}
 use Rattle.lists.specs.Says.{true-not-false}
 use Rattle.lists.specs.Tests.{both-true}
 use Rattle.lists.specs.Counting.{sum, sum-none, sum-same, sum-add, sum-blocks}
 use Rattle.rules.specs.declared.Sizes.{Sizes}
-use Rattle.layout.specs.declared.Kind.the-variants.{Reference}
 use Rattle.layout.specs.Places.{cellsWords, usedOf}
 use Rattle.layout.specs.Cells.{headAt, workAt, fieldAt, headOf, refsOf, IsReference, roomFor, room-is, pageCells, firstOn, pageOf, placeOf, cellOn, cellOf, wordOf, pageAt}
 

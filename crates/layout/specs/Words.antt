@@ -13,7 +13,7 @@ use Rattle.layout.specs.declared.Kind.{Kind}
 use Rattle.layout.specs.declared.Kind.the-variants.{Reference, Number}
 pub use Rattle.layout.specs.Objects.{InUse, Begins, beginsAt, cellCount}
 use Rattle.layout.specs.Places.{sizesAt, depthAt, varAt, depthOf, varOf, ownerOf, usedOf}
-use Rattle.layout.specs.Cells.{headOf, fieldAt, fieldCount, firstField, cellNamed, pageOf, placeOf}
+use Rattle.layout.specs.Cells.{headOf, fieldAt, fieldCount, firstField, cellNamed, pageOf}
 
 pub record Words : Type 0 where
   pub cells : List ℕ

@@ -22,8 +22,8 @@ use Rattle.layout.specs.Places.{varOf, usedIn, slotIn, slotRegionIn, Room}
 use Rattle.layout.specs.Cells.{fieldAt, fieldOf, pageOf, pageAt}
 use Rattle.layout.specs.Words.{Words, BeginsIn, ownerIn, homeIn, depthIn, refCount, refsIn, varsIn, graphOf}
 use Rattle.remember.specs.Crossing.{other, regionOf, crossTo}
-use Rattle.promises.specs.Whole.{WholeFor, IsRef}
-use Rattle.layout.specs.Objects.{begins-page, field-on, Slot, slot-low, slot-page, slot-word, field-slot}
+use Rattle.promises.specs.Whole.{WholeFor}
+use Rattle.layout.specs.Objects.{begins-page, field-on, slot-low, slot-page, field-slot}
 use Rattle.remember.specs.Crosses.{slot-cross}
 use Rattle.promises.specs.Slots.{region-of}
 use Rattle.promises.specs.Reading.{range, cells-room, remember-room, used-home, used-owned, used-alive, alive-used, cell-low, length-refs, getD-refs, length-vars, getD-vars, ref-room}

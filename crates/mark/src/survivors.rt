@@ -1,5 +1,4 @@
 // The first stage of an end.
-ghost use mathlib.Core.Path.{_≡_};
 ghost use Prim.Native.Nat.{_<_, _≤_};
 ghost use Rattle.lists.specs.Says.{Says};
 ghost use Rattle.rules.specs.Regions.{regionAt};

@@ -1,6 +1,6 @@
 // A marking is undone: a refused end leaves every word as it was.
 ghost use mathlib.Core.Path.{_≡_};
-ghost use Prim.Native.Nat.{ℕ, _+_, _*_, _^_, _<_, _≤_};
+ghost use Prim.Native.Nat.{ℕ, _+_, _^_, _<_, _≤_};
 ghost use lib.ListN.{length};
 ghost use Rattle.lists.specs.Part.{Rises, Off};
 ghost use Rattle.layout.specs.Cells.{firstOn, headAt};

@@ -1,6 +1,6 @@
 -- What words stand for determines them, but for 01's open points: "the cell an object takes, the order of remember entries, the contents
 -- of cells not in use". Two words that stand for the same heap through the same map are SameButOpen.
-use Prim.Native.Nat.{ℕ, zero, suc, _+_, _-_, _*_, _/_, _≤_, _<_}
+use Prim.Native.Nat.{ℕ, zero, suc, _+_, _-_, _*_, _≤_, _<_}
 use native.Mathlib.Omega.{arith}
 use native.Mathlib.Decide.{ℕ-discrete, decLt}
 use mathlib.Core.Path.{_≡_, refl, sym, ap, ap₂, subst, _∙_}

@@ -1,7 +1,6 @@
 -- An end as a part of the words: the pages that go, and where the object in a cell of theirs goes. The end of one region is an instance.
 use Prim.Native.Nat.{ℕ, _<_}
-use native.Mathlib.Omega.{arith}
-use native.Mathlib.Decide.{ℕ-discrete, decLt}
+use native.Mathlib.Decide.{ℕ-discrete}
 use mathlib.Core.Path.{_≡_}
 use mathlib.Core.Logic.{_⊎_, inl, inr}
 use Rattle.rules.specs.declared.Sizes.{Sizes}

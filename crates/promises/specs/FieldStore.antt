@@ -4,7 +4,7 @@ use native.Mathlib.Omega.{arith}
 use native.Mathlib.Decide.{ℕ-discrete}
 use mathlib.Core.Path.{_≡_, refl, sym, ap, ap₂, subst, _∙_}
 use mathlib.Core.List.{List, [], _∷_, map}
-use lib.ListN.{length, getD, set, take, drop, length-set}
+use lib.ListN.{getD, set, take, drop, length-set}
 use lib.Seq.{drop-set-lt}
 use Rattle.lists.specs.Says.{true-not-false}
 use Rattle.lists.specs.Stores.{put, past, part-here, part-same}
@@ -17,14 +17,14 @@ use Rattle.laws.specs.SameRules.{renamed}
 use Rattle.layout.specs.Places.{cellsWords, rememberWords}
 use Rattle.layout.specs.declared.Kind.{Kind}
 use Rattle.layout.specs.declared.Kind.the-variants.{Reference, Number}
-use Rattle.layout.specs.Cells.{headAt, headOf, workAt, workOf, fieldAt, fieldOf, fieldCount, firstField, refsOf, allFields, roomFor, Formed, kind-among, fields-room}
+use Rattle.layout.specs.Cells.{headAt, headOf, workAt, workOf, fieldAt, fieldOf, fieldCount, firstField, allFields, roomFor, Formed, kind-among, fields-room}
 use Rattle.layout.specs.Objects.{field-inside, field-not-head, field-not-work, objects-apart}
 use Rattle.layout.specs.Words.{Words, BeginsIn, headIn, refCount, fieldsAt, fieldsIn, homeIn}
 use Rattle.promises.specs.Whole.{WholeFor, IsRef, ObjectWhole, RememberWhole}
 use Rattle.promises.specs.StandsFor.{StandsFor, SameFrom}
 use Rattle.promises.specs.Agreed.{cell-used}
 use Rattle.promises.specs.Changes.{withCells, withObject}
-use Rattle.promises.specs.Areas.{headWords, workWords, fieldWords, entryWords, among, Same, Only, only-trans, cells-only, entries-only}
+use Rattle.promises.specs.Areas.{fieldWords, entryWords, Only, only-trans, cells-only, entries-only}
 use Rattle.promises.specs.Frames.{sized-frame, depths-frame, pages-frame, partial-frame, counts-frame, variables-frame, marks-frame, works-frame, begins-was, ref-frame, objects-stay, home-same}
 
 module _ (s : Sizes) (w : Words) (k : WholeFor s w) (y j v : ℕ) (u : BeginsIn s w y) (low : j < allFields (headIn w y)) where

@@ -1,12 +1,12 @@
 -- Each condition of whole tables holds as it did where the areas that it reads are the same; and so do homes, depths, variables and fields.
-use Prim.Native.Nat.{ℕ, _+_, _-_, _*_, _≤_, _<_}
+use Prim.Native.Nat.{ℕ, _+_, _-_, _<_}
 use native.Mathlib.Omega.{arith}
 use native.Mathlib.Decide.{decLt}
-use mathlib.Core.Path.{_≡_, refl, sym, ap, ap₂, subst, _∙_}
+use mathlib.Core.Path.{_≡_, sym, ap, ap₂, subst, _∙_}
 use mathlib.Core.Logic.{inl}
 use mathlib.Core.List.{List, map}
 use mathlib.Core.Bool.{Bool, false, cond}
-use lib.ListN.{length, getD, take, drop}
+use lib.ListN.{getD, take, drop}
 use lib.Dec.{ltb, eqb}
 use borrow.Author.Tests.{le-ltb}
 use Rattle.lists.specs.Counting.{sum-same}
@@ -19,11 +19,11 @@ use Rattle.laws.specs.SameRules.{renamed}
 use Rattle.layout.specs.declared.Kind.{Kind}
 use Rattle.layout.specs.declared.Kind.the-variants.{Reference}
 use Rattle.layout.specs.Places.{cellsWords, varCount, depthAt, varAt}
-use Rattle.layout.specs.Cells.{headOf, fieldAt, roomFor, allFields, refsOf, Formed, fieldCount, firstField, fields-room, kind-among, pageOf, pageAt, cellNamed}
+use Rattle.layout.specs.Cells.{fieldAt, roomFor, allFields, refsOf, Formed, fieldCount, firstField, fields-room, kind-among, pageOf, pageAt, cellNamed}
 use Rattle.layout.specs.Objects.{beginsAt, begins?, begins-page, begins-true, begins-false, begins-same, begins-back, Slot, slot-on}
-use Rattle.layout.specs.Words.{Words, BeginsIn, headIn, ownerIn, usedIn, homeIn, homeAt, depthsIn, depthsAt, varsIn, varsAt, fieldsIn, fieldsAt}
+use Rattle.layout.specs.Words.{Words, BeginsIn, headIn, ownerIn, homeIn, homeAt, depthsIn, depthsAt, varsIn, varsAt, fieldsIn, fieldsAt}
 use Rattle.remember.specs.Crossing.{other, regionOf, crossTo}
-use Rattle.promises.specs.Whole.{Open, Partial, objectsOf, IsRef, Sized, DepthsWhole, PagesWhole, OnePartial, CountsWhole, VariablesWhole, ObjectWhole, ObjectsWhole, MarksWhole, WorksWhole, RememberWhole, WholeFor}
+use Rattle.promises.specs.Whole.{Open, Partial, IsRef, Sized, DepthsWhole, PagesWhole, OnePartial, CountsWhole, VariablesWhole, ObjectWhole, ObjectsWhole, MarksWhole, WorksWhole, RememberWhole, WholeFor}
 use Rattle.promises.specs.StandsFor.{StandsFor}
 use Rattle.promises.specs.Areas.{Area, sizeWords, depthWords, variableWords, ownerWords, usedWords, markWords, countWords, headWords, workWords, fieldWords, entryWords, among, Only, ObjectsStay}
 use Rattle.promises.specs.Changes.{withTables}

@@ -9,15 +9,14 @@ use Rattle.lists.specs.Stores.{drop-same}
 use Rattle.rules.specs.declared.Sizes.{Sizes}
 use Rattle.rules.specs.Regions.{regions}
 use Rattle.layout.specs.Places.{cellsWords, ownerOf}
-use Rattle.layout.specs.declared.Kind.{Kind}
 use Rattle.layout.specs.declared.Kind.the-variants.{Reference}
 use Rattle.layout.specs.Cells.{headAt, headOf, workAt, workOf, fieldAt, fieldOf, fieldCount, headWord, roomFor, mostFields, Formed, kind-among, fields-room, head-formed, pageOf, cellOf, cellNamed}
 use Rattle.layout.specs.Objects.{InUse, begins-page, begins-used, used-begins, begins-same, Covers, covers-low, head-not-new, work-not-new, field-not-new, Slot, slot-page}
-use Rattle.layout.specs.Words.{Words, BeginsIn, headIn}
+use Rattle.layout.specs.Words.{Words, BeginsIn}
 use Rattle.remember.specs.Crossing.{other, regionOf, crossTo}
 use Rattle.promises.specs.Whole.{WholeFor, Open, IsRef, ObjectWhole}
 use Rattle.promises.specs.Changes.{withCells}
-use Rattle.promises.specs.Areas.{variableWords, ownerWords, usedWords, countWords, headWords, workWords, fieldWords, Only, only-trans, cells-only}
+use Rattle.promises.specs.Areas.{variableWords, ownerWords, usedWords, countWords, workWords, fieldWords, Only, only-trans, cells-only}
 use Rattle.promises.specs.Frames.{sized-frame, depths-frame, marks-frame, object-frame}
 use Rattle.remember.specs.Entries.{exact-everywhere}
 use Rattle.promises.specs.Slots.{crossesTo, region-of, slot-stays, cross-same}

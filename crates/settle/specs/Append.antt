@@ -11,8 +11,8 @@ use lib.Dec.{ltb}
 use lib.ListN.{length, getD}
 use Rattle.rules.specs.declared.Sizes.{Sizes}
 use Rattle.layout.specs.Places.{ownerOf, slotIn}
-use Rattle.layout.specs.Cells.{refsOf, cellOf, wordOf, pageAt}
-use Rattle.layout.specs.Words.{InUse}
+use Rattle.layout.specs.Cells.{pageAt}
+use Rattle.layout.specs.Objects.{Slot}
 use Rattle.remember.specs.Crossing.{crossesFrom}
 use Rattle.remember.specs.Stretches.{Added, slot-below}
 
@@ -22,9 +22,7 @@ crossAt p W T x = crossesFrom p T (ownerOf p T (pageAt x)) (getD W x 0)
 
 -- the slot at x crosses once r has ended
 pub record Crosses (p : Sizes) (r : ℕ) (W T : List ℕ) (x : ℕ) : Type 0 where
-  pub used : InUse p T (cellOf x)
-  pub field : 2 ≤ wordOf x
-  pub ref : wordOf x < refsOf W (cellOf x) + 2
+  pub slot : Slot p W T x
   pub out : ownerOf p T (pageAt x) ≢ r
   pub cross : crossAt p W T x ≢ 0
 

@@ -5,13 +5,14 @@ use mathlib.Core.Logic.{_⊎_, inl, inr}
 use mathlib.Core.Bool.{cond}
 use mathlib.Core.List.{List}
 use Prim.Native.Nat.{ℕ, zero, suc, _+_, _≤_, _<_, max}
-use native.Mathlib.Decide.{ℕ-discrete, decLt}
+use native.Mathlib.Decide.{ℕ-discrete}
 use native.Mathlib.Omega.{arith}
 use lib.Dec.{eqb}
 use lib.ListN.{getD, set}
 use Rattle.rules.specs.declared.Sizes.{Sizes}
-use Rattle.layout.specs.Places.{ownerOf, usedOf, slotIn, slotRegionIn}
-use Rattle.layout.specs.Cells.{workOf, fieldAt, fieldOf, refsOf, pageOf, placeOf, pageAt, cellNamed, count-page, page-count}
+use Rattle.layout.specs.Places.{ownerOf, slotIn, slotRegionIn}
+use Rattle.layout.specs.Cells.{workOf, fieldAt, fieldOf, refsOf, pageAt, cellNamed, count-page, page-count}
+use Rattle.layout.specs.Objects.{Begins, begins?}
 use Rattle.layout.specs.Words.{Names, cellCount}
 use Rattle.settle.specs.Rewrite.{forwarded, Rewritten, rewritten-none, rewritten-like}
 use Rattle.remember.specs.Crossing.{crossesFrom}
@@ -33,13 +34,12 @@ fields-exist {p} {k} {d} {W} a (suc f) l =
     (set (q .0) (fieldAt d f) v, subst (λ (y : ℕ). Rewritten (Field d y) W (set (q .0) (fieldAt d f) v)) e (field-moved a (omega arith) (q .1) v refl))
 
 old? : (p : Sizes) (W T : List ℕ) (c : ℕ) → Dec (Old p W T c)
-old? p W T c = go (decLt (pageOf c) (p .pages)) (decLt (placeOf c) (usedOf p T (pageOf c))) (ℕ-discrete (workOf W c) 0)
+old? p W T c = go (begins? p W T c) (ℕ-discrete (workOf W c) 0)
   where
-    go : Dec (pageOf c < p .pages) → Dec (placeOf c < usedOf p T (pageOf c)) → Dec (workOf W c ≡ 0) → Dec (Old p W T c)
-    go (yes a) (yes b) (no z) = yes (record { used = record { page = a; place = b }; moved = z })
-    go (no a) b z = no (λ u. a (u .used .page))
-    go (yes a) (no b) z = no (λ u. b (u .used .place))
-    go (yes a) (yes b) (yes z) = no (λ u. u .moved z)
+    go : Dec (Begins p W T c) → Dec (workOf W c ≡ 0) → Dec (Old p W T c)
+    go (yes b) (no z) = yes (record { used = b; moved = z })
+    go (no n) d = no (λ u. n (u .used))
+    go (yes b) (yes z) = no (λ u. u .moved z)
 
 -- cell k after those below it
 below-grown : (k : ℕ) → Grown (λ c. c < k) k (λ c. c < suc k)

@@ -10,8 +10,10 @@ use borrow.Author.Tests.{eq-eqb, ne-eqb}
 use lib.Dec.{eqb}
 use lib.ListN.{length, getD, set, length-set}
 use lib.Seq.{getD-set-same, getD-set-other}
-use Rattle.layout.specs.Cells.{workOf, refsOf, cellNamed, headAt, workAt, wordOf, fieldCount, head-there, work-there}
+use Rattle.layout.specs.Cells.{workOf, headOf, refsOf, cellNamed, headAt, workAt, wordOf, fieldCount, head-there, work-there}
 use Rattle.layout.specs.declared.Kind.the-variants.{Reference}
+use Rattle.layout.specs.Objects.{Begins, begins-same, begins-back}
+use Rattle.rules.specs.declared.Sizes.{Sizes}
 
 -- the reference x, by way of word 1 of the cell that it names, where that is not zero
 unfoldable pub forwarded : List ℕ → ℕ → ℕ
@@ -56,8 +58,18 @@ module _ {P : ℕ → Type 0} {W W′ : List ℕ} (h : Rewritten P W W′) where
   pub link-same : (c : ℕ) → workOf W′ c ≡ workOf W c
   link-same c = head-same (workAt c) (omega (arith, work-there c))
 
+  pub heads-same : (c : ℕ) → headOf W′ c ≡ headOf W c
+  heads-same c = head-same (headAt c) (omega (arith, head-there c))
+
   pub refs-same : (c : ℕ) → refsOf W′ c ≡ refsOf W c
-  refs-same c = ap (fieldCount Reference) (head-same (headAt c) (omega (arith, head-there c)))
+  refs-same c = ap (fieldCount Reference) (heads-same c)
+
+  -- the objects begin where they began
+  pub begins-now : (p : Sizes) (T : List ℕ) (c : ℕ) → Begins p W T c → Begins p W′ T c
+  begins-now p T c = begins-same p W T W′ T c refl (λ j b e. heads-same j)
+
+  pub begins-then : (p : Sizes) (T : List ℕ) (c : ℕ) → Begins p W′ T c → Begins p W T c
+  begins-then p T c = begins-back p W T W′ T c refl (λ j b e. heads-same j)
 
   pub ref-same : (x : ℕ) → forwarded W′ x ≡ forwarded W x
   ref-same x = forward-same W W′ x (link-same (cellNamed x))

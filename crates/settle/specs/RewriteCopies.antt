@@ -11,16 +11,17 @@ use Rattle.lists.specs.SetBits.{upper-bit}
 use Rattle.rules.specs.declared.Sizes.{Sizes}
 use Rattle.layout.specs.Places.{Room, markOf, cellsWords}
 use Rattle.layout.specs.Cells.{workOf, refsOf, fieldAt, pageOf, placeOf, cellOn, cellNamed, pageCells, page-on, place-on, on-page, field-apart}
-use Rattle.layout.specs.Words.{InUse, Names}
+use Rattle.layout.specs.Objects.{Begins}
+use Rattle.layout.specs.Words.{Names}
 use Rattle.copy.specs.Marks.{copied}
 use Rattle.copy.specs.Forward.{forward}
-use Rattle.settle.specs.Rewrite.{Rewritten, link-same, refs-same}
+use Rattle.settle.specs.Rewrite.{Rewritten, link-same, refs-same, begins-now, begins-then}
 use Rattle.settle.specs.RewriteSlots.{Field, Fields}
 
 -- ---- the copies: of the old cells of which Q holds
 
 pub record Old (p : Sizes) (W T : List ℕ) (c : ℕ) : Type 0 where
-  pub used : InUse p T c
+  pub used : Begins p W T c
   pub moved : workOf W c ≢ 0
 
 pub record CopySlot (p : Sizes) (Q : ℕ → Type 0) (W T : List ℕ) (x : ℕ) : Type 0 where
@@ -40,10 +41,10 @@ pub record Wiring (p : Sizes) (Q : ℕ → Type 0) (W T : List ℕ) : Type 0 whe
 
 module _ {P : ℕ → Type 0} {W W′ : List ℕ} (h : Rewritten P W W′) where
   pub old-now : {p : Sizes} {T : List ℕ} (c : ℕ) → Old p W T c → Old p W′ T c
-  old-now c u = record { used = u .used; moved = λ z. u .moved (sym (link-same h c) ∙ z) }
+  old-now {p} {T} c u = record { used = begins-now h p T c (u .used); moved = λ z. u .moved (sym (link-same h c) ∙ z) }
 
   old-then : {p : Sizes} {T : List ℕ} (c : ℕ) → Old p W′ T c → Old p W T c
-  old-then c u = record { used = u .used; moved = λ z. u .moved (link-same h c ∙ z) }
+  old-then {p} {T} c u = record { used = begins-then h p T c (u .used); moved = λ z. u .moved (link-same h c ∙ z) }
 
   cell-fields : (c x : ℕ) → Field (forward W c) (refsOf W (forward W c)) x → Field (forward W′ c) (refsOf W′ (forward W′ c)) x
   cell-fields c x q =

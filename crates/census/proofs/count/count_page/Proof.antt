@@ -6,7 +6,7 @@ use native.Mathlib.Nat.{zero-add}
 use borrow.Author.Needs.{needs}
 use lib.Count.{ones, ones-le, trailingZeros}
 use lib.ListN.{length}
-use Rattle.layout.specs.Cells.{cellOn, workOf, mostFields}
+use Rattle.layout.specs.Cells.{cellOn, workOf, cellWords, most-words}
 use Rattle.layout.specs.Words.{Begins}
 use Rattle.lists.specs.SetBits.{Walked, walk-start, walk-lowest, walk-turn}
 use Rattle.census.specs.Counted.{Summed, summed-start, summed-next, summed-end, Tallied, tallied-start, tallied-next, tallied-end}
@@ -16,7 +16,7 @@ use Rattle.census.proofs.count.count_page.Tie as tie
 
 abbrev Inv-loop : tie.InvT-loop
 Inv-loop p cells tables r come₀ w page marks left₀ n₀ k₀ come left n k =
-    (marks ≡ ones w) × Walked w left k × Summed (λ i. cellCrosses p cells tables r (cellOn page i)) w left 0 n × (n ≤ mostFields * k) × Tallied cells page w left come₀ come k
+    (marks ≡ ones w) × Walked w left k × Summed (λ i. cellCrosses p cells tables r (cellOn page i)) w left 0 n × (n ≤ cellWords * k) × Tallied cells page w left come₀ come k
 
 abbrev μ-loop : tie.MeasureT-loop
 μ-loop p cells tables r come₀ w page marks left₀ n₀ k₀ come left n k =
@@ -51,7 +51,7 @@ cross-cell-requires c κs =
     (pre .0, subst (Begins (a .p) (a .cells .now) (a .tables .now)) (sym (c .before .before .before .before .cell-on .ensures ∙ ap (cellOn (a .page)) (c .before .before .before .before .before .wide .ensures))) (pre .1 .1 .0 (trailingZeros 32 (loop .left)) (l .lt) (loop .inv .1 .under (trailingZeros 32 (loop .left)) (l .on))))
 
 add-n : tie.Need-add-n Inv-loop μ-loop
-add-n c = omega (arith, c .cross-cell .ensures .1, c .before .before .before .before .before .before .before .before .loop .inv .3, ones-le 16 (c .before .before .before .before .before .before .before .before .before .before .before .before .args .w) (c .before .before .before .before .before .before .before .before .before .before .before .before .pre .1 .0 .0), c .before .before .before .before .before .before .before .before .loop .inv .0)
+add-n c = omega (arith, most-words, c .cross-cell .ensures .1, c .before .before .before .before .before .before .before .before .loop .inv .3, ones-le 16 (c .before .before .before .before .before .before .before .before .before .before .before .before .args .w) (c .before .before .before .before .before .before .before .before .before .before .before .before .pre .1 .0 .0), c .before .before .before .before .before .before .before .before .loop .inv .0)
 
 without-bit-requires : tie.Need-without-bit-requires Inv-loop μ-loop
 without-bit-requires c κs =
@@ -71,7 +71,7 @@ loop-again c =
     let i = trailingZeros 32 (loop .left) in
     let l = walk-lowest (loop .inv .1) (omega (arith, loop .inv .0)) in
     let e : c .before .before .before .before .before .before .cell-on .result ≡ cellOn (a .page) i = c .before .before .before .before .before .before .cell-on .ensures ∙ ap (cellOn (a .page)) (c .before .before .before .before .before .before .before .wide .ensures) in
-    (loop .inv .0, walk-turn i (c .without-bit .result) (loop .inv .1) l (c .without-bit .ensures), summed-next i (c .without-bit .result) (loop .n + c .before .cross-cell .result) (c .before .cross-cell .result) l (c .without-bit .ensures) (c .before .cross-cell .ensures .0 ∙ ap (cellCrosses (a .p) (a .cells .now) (a .tables .now) (a .r)) e) refl (loop .inv .2), omega (arith, c .before .cross-cell .ensures .1, loop .inv .3), tallied-next i (c .without-bit .result) (c .before .before .before .before .before .before .cell-on .result) l (c .without-bit .ensures) e (c .before .before .before .before .tally .ensures) (c .before .before .before .before .tally .kept .1 .1 .0) (loop .inv .4))
+    (loop .inv .0, walk-turn i (c .without-bit .result) (loop .inv .1) l (c .without-bit .ensures), summed-next i (c .without-bit .result) (loop .n + c .before .cross-cell .result) (c .before .cross-cell .result) l (c .without-bit .ensures) (c .before .cross-cell .ensures .0 ∙ ap (cellCrosses (a .p) (a .cells .now) (a .tables .now) (a .r)) e) refl (loop .inv .2), omega (arith, most-words, c .before .cross-cell .ensures .1, loop .inv .3), tallied-next i (c .without-bit .result) (c .before .before .before .before .before .before .cell-on .result) l (c .without-bit .ensures) e (c .before .before .before .before .tally .ensures) (c .before .before .before .before .tally .kept .1 .1 .0) (loop .inv .4))
 
 same-length : tie.Need-same-length Inv-loop μ-loop
 same-length c = c .before .loop .inv .4 .long

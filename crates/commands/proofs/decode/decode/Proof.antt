@@ -1,9 +1,10 @@
-use Prim.Native.Nat.{ℕ}
+use Prim.Native.Nat.{ℕ, _+_}
 use mathlib.Core.Path.{refl, sym, ap, _∙_}
 use mathlib.Core.Bool.{Bool, _&&_}
-use lib.Dec.{ltb, eqb}
+use lib.Dec.{ltb, leb, eqb}
 use Rattle.rules.specs.Terms.{decode, start, end, new, copy, clear, load, store, read, write, same}
 use Rattle.rules.specs.NeverFreeing.{operands}
+use Rattle.layout.specs.Cells.{most-is}
 use Rattle.commands.specs.declared.Decoded.the-variants.{End}
 use Rattle.commands.specs.Decoding.{checkedBy, arm, other-code}
 use native.Mathlib.Omega.{arith}
@@ -147,7 +148,7 @@ returns-3 c =
     let both5 = c .before .both5 in
     let checked3 = c .checked3 in
     arm (args .p) (args .m) new (wide .result) (wide2 .result) (wide3 .result) (wide4 .result) (ap decode (match .keys3)) refl refl
-    (wide .ensures) (wide2 .ensures) (wide3 .ensures) (wide4 .ensures) _ (both5 .ensures) (checked3 .ensures)
+    (wide .ensures) (wide2 .ensures) (wide3 .ensures) (wide4 .ensures) _ (both5 .ensures ∙ ap (λ (n : ℕ). ltb (wide2 .result) (args .p .variables) && leb (wide3 .result + wide4 .result) n) (sym most-is)) (checked3 .ensures)
 
 returns-4 : tie.Need-returns-4
 unfolding operands

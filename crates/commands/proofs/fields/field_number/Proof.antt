@@ -1,5 +1,6 @@
 -- The fields of a kind stand side by side.
 use native.Mathlib.Omega.{arith}
+use Rattle.layout.specs.Cells.{most-is}
 use Rattle.commands.specs.Fields.{first-is}
 use borrow.Author.Needs.{needs}
 use Rattle.commands.proofs.fields.field_number.Statement.{statement}
@@ -22,7 +23,7 @@ add-result c =
     let head = c .before .head in
     let first-field = c .first-field in
     omega
-    (arith, pre .field, first-is (args .kind) (args .cells .now) (args .x) (cell .result) (head .result) (first-field .result) (cell .ensures) (head .ensures) (first-field .ensures))
+    (arith, most-is, pre .field, first-is (args .kind) (args .cells .now) (args .x) (cell .result) (head .result) (first-field .result) (cell .ensures) (head .ensures) (first-field .ensures))
 
 returns : tie.Need-returns
 returns c =

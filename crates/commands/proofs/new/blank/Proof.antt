@@ -3,7 +3,7 @@ use native.Mathlib.Omega.{arith}
 use Prim.Native.Nat.{ℕ, _≤_, _-_}
 use mathlib.Core.Path.{ap, _∙_}
 use lib.ListN.{set}
-use Rattle.layout.specs.Cells.{headAt, headWord, mostFields}
+use Rattle.layout.specs.Cells.{headAt, headWord, mostFields, most-is}
 use Rattle.commands.specs.Blank.{Zeroed, zeroed-none, zeroed-more, blanked}
 use Rattle.commands.proofs.new.blank.Statement.{statement}
 use Rattle.commands.proofs.new.blank.Tie as tie
@@ -18,13 +18,13 @@ loop-holds : tie.Need-loop-holds Inv-loop μ-loop
 loop-holds c = (omega arith, zeroed-none _ _ _)
 
 set-field-requires : tie.Need-set-field-requires Inv-loop μ-loop
-set-field-requires c κs = omega (arith, c .before .before .loop .inv .1 .long)
+set-field-requires c κs = omega (arith, c .before .before .loop .inv .1 .long, most-is)
 
 add-f : tie.Need-add-f Inv-loop μ-loop
 add-f c = omega arith
 
 loop-less : tie.Need-loop-less Inv-loop μ-loop
-loop-less c = omega arith
+loop-less c = omega (arith, most-is)
 
 loop-again : tie.Need-loop-again Inv-loop μ-loop
 loop-again c =
@@ -32,7 +32,7 @@ loop-again c =
     let pre = c .before .before .before .before .before .before .before .pre in
     let loop = c .before .before .before .before .before .loop in
     let set-field = c .before .before .set-field in
-    (omega arith, zeroed-more (args .cells .now) (loop .cells) (args .cell) (headWord (args .references) (args .numbers)) (pre .0) (loop .f) (omega arith) (loop .inv .1) (set-field .ensures))
+    (omega (arith, most-is), zeroed-more (args .cells .now) (loop .cells) (args .cell) (headWord (args .references) (args .numbers)) (pre .0) (loop .f) (omega (arith, most-is)) (loop .inv .1) (set-field .ensures))
 
 head-word-requires : tie.Need-head-word-requires Inv-loop μ-loop
 head-word-requires c κs = omega arith
@@ -60,7 +60,7 @@ returns c =
     let loop = c .before .before .before .before .before .before .before .before .before .before .loop in
     let set-head = c .before .before .before .before .before .before .set-head in
     let set-work = c .before .before .set-work in
-    blanked (args .cells .now) (loop .cells) (args .cell) (headWord (args .references) (args .numbers)) (pre .0) (loop .f) (omega arith) (loop .inv .1)
+    blanked (args .cells .now) (loop .cells) (args .cell) (headWord (args .references) (args .numbers)) (pre .0) (loop .f) (omega (arith, most-is)) (loop .inv .1)
     (set-head .ensures ∙ ap (λ (x : ℕ). set (loop .cells) (headAt (args .cell)) x) (c .before .before .before .before .before .before .before .head-word .ensures)) (set-work .ensures)
 
 pub blank-spec : {M : Type 1} → statement M

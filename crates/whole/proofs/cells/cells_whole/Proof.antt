@@ -14,7 +14,7 @@ use lib.ListN.{length}
 use mathlib.Core.Bool.{true, false}
 use Rattle.layout.specs.declared.Kind.the-variants.{Reference, Number}
 use Rattle.layout.specs.Places.{cellsWords}
-use Rattle.layout.specs.Cells.{headAt, fieldAt, cellOn, fieldOf, fieldCount, count-low, mostFields, pageCells, CellIn}
+use Rattle.layout.specs.Cells.{headAt, fieldAt, cellOn, fieldOf, fieldCount, count-low, mostFields, most-is, pageCells, CellIn}
 use Rattle.remember.specs.Crossing.{crossTo}
 use Rattle.whole.specs.Cells.{NamesUsed, CellWhole, PageCells, all-pages, reached, object-whole, zero-rest, field-is-ref}
 use Rattle.whole.specs.Crossing.{crossingTo, to-fields, to-next-cell, to-next-page, crosses-at, crosses-yes, crosses-no, too-many, says-cross}
@@ -96,7 +96,7 @@ fields-holds c =
       cells .inv .0,
       omega arith,
       omega (arith, pre .0 .few, pre .1 .0, cell-on .ensures),
-      omega (arith, c .before .before .if1 .left),
+      omega (arith, c .before .before .if1 .left, most-is),
       λ j l. absurd (not-suc-le-zero l),
       cells .inv .4,
       cells .inv .5 ∙ ap (λ (k : ℕ). crossingTo (args .p) (now (args .cells)) (now (args .tables)) (headAt k)) (sym (cell-on .ensures)) ∙ sym (to-fields (args .p) (now (args .cells)) (now (args .tables)) (cell-on .result)),
@@ -175,7 +175,7 @@ cells-again c =
       cells .inv .2,
       below-more _ _ (cells .inv .3) (subst (λ (k : ℕ). CellWhole (args .p) (now (args .cells)) (now (args .tables)) k) (cell-on .ensures) (record {
         working = sym (c .before .before .before .before .before .work .ensures) ∙ c .before .before .before .before .if2 .left;
-        object = object-whole (field-count .ensures ∙ ap (fieldCount Reference) (head .ensures)) (field-count2 .ensures ∙ ap (fieldCount Number) (head .ensures)) (omega (arith, c .before .before .before .before .before .before .if1 .left)) (λ f l. fields .inv .4 f (omega arith)) (c .before .zero-from .ensures .0 (not-false _ (c .if6 .left)));
+        object = object-whole (field-count .ensures ∙ ap (fieldCount Reference) (head .ensures)) (field-count2 .ensures ∙ ap (fieldCount Number) (head .ensures)) (omega (arith, c .before .before .before .before .before .before .if1 .left, most-is)) (λ f l. fields .inv .4 f (omega arith)) (c .before .zero-from .ensures .0 (not-false _ (c .if6 .left)));
       })),
       fields .inv .5,
       fields .inv .6 ∙ sym (to-next-cell (args .p) (now (args .cells)) (now (args .tables)) (cell-on .result) (fields .f) (omega (arith, (field-count .ensures ∙ ap (fieldCount Reference) (head .ensures)))) (omega (arith, fields .inv .3)))
@@ -211,7 +211,7 @@ returns c =
     says-no (λ h. ⊎-elim
     (λ w. true-not-false (sym no ∙ w .1 ∙ pages .inv .0))
     (⊎-elim
-    (λ w. omega (arith, (w .8 .ensures ∙ ap (fieldCount Reference) (w .7 .ensures)), (w .9 .ensures ∙ ap (fieldCount Number) (w .7 .ensures)), w .10 .taken, (reached (h .whole) (w .6 .ensures) (w .3 .ensures ∙ w .2 .ensures) (w .0 .taken) (w .4 .inv .2) (w .5 .taken)) .object .head))
+    (λ w. omega (arith, (w .8 .ensures ∙ ap (fieldCount Reference) (w .7 .ensures)), (w .9 .ensures ∙ ap (fieldCount Number) (w .7 .ensures)), w .10 .taken, most-is, (reached (h .whole) (w .6 .ensures) (w .3 .ensures ∙ w .2 .ensures) (w .0 .taken) (w .4 .inv .2) (w .5 .taken)) .object .head))
     (⊎-elim
     (λ w. w .12 .taken (w .11 .ensures ∙ (reached (h .whole) (w .6 .ensures) (w .3 .ensures ∙ w .2 .ensures) (w .0 .taken) (w .4 .inv .2) (w .5 .taken)) .working))
     (⊎-elim
