@@ -7,22 +7,7 @@ ghost use Rattle.layout.specs.Words.{Names};
 ghost use Rattle.remember.specs.Crossing.{other, regionOf, crossesFrom, crossTo};
 use rules::Sizes;
 
-// The region that a reference points into, 0 for null and for a page that is not there.
-pub fn region_of(p: Sizes, tables: &[u32], x: u32) -> u32
-    requires { ⌜ Room p (length (now tables)) ⌝ }
-    ensures { λ r. ⌜ r ≡ regionOf p (now (tables .entry)) x ⌝ }
-{
-    if x == 0 {
-        return 0;
-    }
-    let page = layout::cells::page_of(layout::cells::cell_named(x));
-    if p.pages <= page {
-        return 0;
-    }
-    layout::tables::owner(p, tables, page)
-}
-
-// The same of a reference that is null or names a cell of the heap's pages.
+// The region that a reference points into, 0 for null; it names a cell of the heap's pages.
 pub fn region_named(p: Sizes, tables: &[u32], x: u32) -> u32
     requires { ⌜ Names p x ⌝ }
     requires { ⌜ Room p (length (now tables)) ⌝ }
@@ -36,6 +21,20 @@ pub fn region_named(p: Sizes, tables: &[u32], x: u32) -> u32
         tables,
         layout::cells::page_of(layout::cells::cell_named(x)),
     )
+}
+
+// The same of any word, 0 for a page that is not there.
+pub fn region_of(p: Sizes, tables: &[u32], x: u32) -> u32
+    requires { ⌜ Room p (length (now tables)) ⌝ }
+    ensures { λ r. ⌜ r ≡ regionOf p (now (tables .entry)) x ⌝ }
+{
+    if x == 0 {
+        return 0;
+    }
+    if p.pages <= layout::cells::page_of(layout::cells::cell_named(x)) {
+        return 0;
+    }
+    region_named(p, tables, x)
 }
 
 // The region `to`, where it is another than `from` and not the control space, else 0.

@@ -11,7 +11,7 @@ ghost use Rattle.whole.specs.Crossing.{CellsCross};
 use crate::variables::is_ref;
 use layout::Kind;
 use remember::crossing::other_region;
-use remember::crossing::region_of;
+use remember::crossing::region_named;
 use rules::Sizes;
 
 // Whether a cell's fields are zero, the first few left out. Two are read in a turn.
@@ -74,7 +74,7 @@ pub fn cells_whole(p: Sizes, cells: &[u32], tables: &[u32], entries: usize) -> b
                     ok = false;
                     break 'pages;
                 }
-                if 0 < other_region(owner, region_of(p, tables, x)) {
+                if 0 < other_region(owner, region_named(p, tables, x)) {
                     n += 1;
                     if entries < n {
                         ok = false;

@@ -110,8 +110,8 @@ field-requires c κs =
 is-ref-requires : tie.Need-is-ref-requires Inv-fields μ-fields Inv-cells μ-cells Inv-pages μ-pages
 is-ref-requires c κs = c .before .before .before .before .before .before .before .before .before .before .before .before .before .before .before .before .before .before .before .pre .0
 
-region-of-requires : tie.Need-region-of-requires Inv-fields μ-fields Inv-cells μ-cells Inv-pages μ-pages
-region-of-requires c κs = c .before .before .before .before .before .before .before .before .before .before .before .before .before .before .before .before .before .before .before .before .before .pre .0
+region-named-requires : tie.Need-region-named-requires Inv-fields μ-fields Inv-cells μ-cells Inv-pages μ-pages
+region-named-requires c κs = (λ n. c .before .is-ref .ensures .0 (not-false _ (c .if3 .left)) (omega arith) .page, c .before .before .before .before .before .before .before .before .before .before .before .before .before .before .before .before .before .before .before .before .before .pre .0)
 
 other-region-requires : tie.Need-other-region-requires Inv-fields μ-fields Inv-cells μ-cells Inv-pages μ-pages
 other-region-requires c κs = search needs
@@ -134,11 +134,11 @@ fields-again c =
     let cells = c .before .before .before .before .before .before .before .before .before .before .before .before .before .before .before .before .cells in
     let owner = c .before .before .before .before .before .before .before .before .before .before .before .before .before .before .before .before .before .before .before .owner in
     let field = c .before .before .before .before .before .field in
-    let region-of = c .before .before .region-of in
+    let region-named = c .before .before .region-named in
     let here : other-region .result ≡ crossTo (args .p) (now (args .cells)) (now (args .tables)) (fieldAt (cell-on .result) (fields .f))
     = crosses-at (args .p) (now (args .cells)) (now (args .tables)) (c .before .before .before .before .before .before .before .before .before .before .before .before .before .before .before .before .before .before .before .before .before .pages .page) (cells .place)
-    (cell-on .result) (fields .f) (owner .result) (field .result) (region-of .result) (other-region .result)
-    (cell-on .ensures) (owner .ensures) (field .ensures) (region-of .ensures) (other-region .ensures) (c .before .before .before .before .before .before .before .before .before .before .before .before .before .before .before .before .before .wide .ensures ∙ c .before .before .before .before .before .before .before .before .before .before .before .before .before .before .before .before .before .before .used .ensures) (c .before .before .before .before .before .before .before .before .before .before .before .before .field-count .ensures ∙ ap (fieldCount Reference) (c .before .before .before .before .before .before .before .before .before .before .before .before .before .head .ensures)) (c .before .before .before .before .before .before .before .before .before .before .before .before .before .before .before .before .before .before .before .before .pages-test .taken) (cells .inv .2) (fields .inv .3) (omega (arith, c .before .before .before .before .before .before .before .before .before .before .before .before .before .before .before .cells-test .taken)) (c .before .before .before .before .before .before .fields-test .taken) in (
+    (cell-on .result) (fields .f) (owner .result) (field .result) (region-named .result) (other-region .result)
+    (cell-on .ensures) (owner .ensures) (field .ensures) (region-named .ensures) (other-region .ensures) (c .before .before .before .before .before .before .before .before .before .before .before .before .before .before .before .before .before .wide .ensures ∙ c .before .before .before .before .before .before .before .before .before .before .before .before .before .before .before .before .before .before .used .ensures) (c .before .before .before .before .before .before .before .before .before .before .before .before .field-count .ensures ∙ ap (fieldCount Reference) (c .before .before .before .before .before .before .before .before .before .before .before .before .before .head .ensures)) (c .before .before .before .before .before .before .before .before .before .before .before .before .before .before .before .before .before .before .before .before .pages-test .taken) (cells .inv .2) (fields .inv .3) (omega (arith, c .before .before .before .before .before .before .before .before .before .before .before .before .before .before .before .cells-test .taken)) (c .before .before .before .before .before .before .fields-test .taken) in (
       fields .inv .0,
       omega arith,
       fields .inv .2,
@@ -267,7 +267,7 @@ cells-whole-spec =
     fields-holds
     field-requires
     is-ref-requires
-    region-of-requires
+    region-named-requires
     other-region-requires
     add-n
     add-f
