@@ -7,7 +7,7 @@ use Rattle.rules.specs.declared.Sizes.{Sizes}
 use Rattle.laws.specs.SameRules.{renamed}
 use Rattle.layout.specs.Places.{varOf, markOf, countOf}
 use Rattle.layout.specs.Cells.{pageOf, fieldOf, workOf, roomFor}
-use Rattle.layout.specs.Words.{Words, Used, ownerIn, headIn, refCount}
+use Rattle.layout.specs.Words.{Words, BeginsIn, ownerIn, headIn, refCount}
 use Rattle.promises.specs.Whole.{PageWhole, Partial, objectsOf, RememberWhole}
 use Rattle.promises.specs.StandsFor.{SameBeyond}
 use Rattle.promises.specs.Ends.{Part, Outside, Survivor, Lives}
@@ -25,10 +25,9 @@ pub record Stayed (s : Sizes) (w : Words) (cell : ℕ → ℕ) (w′ : Words) (c
   pub same : cell c ≡ c
   pub owner : ownerIn s w′ (pageOf c) ≡ ownerIn s w (pageOf c)
 
--- a survivor has a cell that was not in use, on a page of its target
-pub record Went (s : Sizes) (w : Words) (e : Part) (cell : ℕ → ℕ) (w′ : Words) (c : ℕ) : Type 0 where
-  pub fresh : Used s w (cell c) → ⊥
-  pub owner : ownerIn s w′ (pageOf (cell c)) ≡ e .goes c
+-- a page that ends has no owner afterwards
+abbrev pub Vacated : Sizes → Part → Words → Type 0
+Vacated s e w′ = (page : ℕ) → page < s .pages → e .ends page → ownerIn s w′ page ≡ 0
 
 pub record Evacuated (s : Sizes) (w : Words) (e : Part) (w′ : Words) (cell : ℕ → ℕ) : Type 0 where
   -- the words past the three lengths, the sizes, and the first word of the remember table are as they were
@@ -37,14 +36,14 @@ pub record Evacuated (s : Sizes) (w : Words) (e : Part) (w′ : Words) (cell : �
   pub entries : getD (w′ .remember) 0 0 ≡ getD (w .remember) 0 0
   -- variables lead to the cells of what they named; they are counted through all threads
   pub variables : (i : ℕ) → i < s .threads * s .variables → varOf s (w′ .tables) i ≡ renamed cell (varOf s (w .tables) i)
-  -- the objects that live on have cells, no two of them one, and no other cell is in use
-  pub used : (c : ℕ) → Lives s w e c → Used s w′ (cell c)
+  -- the objects that live on have cells, no two of them one, and there is no other; a survivor's is on a page of its target
+  pub used : (c : ℕ) → Lives s w e c → BeginsIn s w′ (cell c)
   pub object : (c : ℕ) → Lives s w e c → SameObject w cell w′ c
   pub stayed : (c : ℕ) → Outside s w e c → Stayed s w cell w′ c
-  pub went : (c : ℕ) → Survivor s w e c → Went s w e cell w′ c
+  pub went : (c : ℕ) → Survivor s w e c → ownerIn s w′ (pageOf (cell c)) ≡ e .goes c
   pub apart : (b c : ℕ) → Lives s w e b → Lives s w e c → cell b ≡ cell c → b ≡ c
-  pub only : (d : ℕ) → Used s w′ d → (c : ℕ) × Lives s w e c × (cell c ≡ d)
-  -- pages, counts, marks and the remember table are whole (01, "Tables are whole"); an ending page, whose region is no longer open, is then free
+  pub only : (d : ℕ) → BeginsIn s w′ d → (c : ℕ) × Lives s w e c × (cell c ≡ d)
+  -- pages, counts, marks and the remember table are whole (01, "Tables are whole")
   pub pages : (page : ℕ) → page < s .pages → PageWhole s (w′ .tables) page
   pub partial : (g : ℕ) → 1 ≤ g → (a b : ℕ) → a < b → b < s .pages → Partial s (w′ .tables) g a → Partial s (w′ .tables) g b → ⊥
   pub counts : (g : ℕ) → 1 ≤ g → g ≤ 1 + s .threads * s .depth → countOf s (w′ .tables) g ≡ objectsOf s (w′ .tables) g

@@ -2,15 +2,13 @@
 
 -- the definition: what must be read
 pub mod Evacuated
--- laws: r's pages are free
-pub mod EvacuatedFrees
--- laws: they are whole, and stand for what the rules leave
+-- laws, of any part: the words after the end are whole, and stand for what is there then
 pub mod Living
 pub mod EvacuatedWhole
-pub mod AfterEnd
 pub mod EvacuatedStands
+-- laws, of the end of a thread's innermost region: the rules, the questions 12, 13 and 14, and the pages that regions take
+pub mod AfterEnd
 pub mod WordsPlaced
--- laws: the questions 12, 13 and 14, and the pages that regions take
 pub mod EndQuestion
 pub mod EndPages
 -- the promise

@@ -17,6 +17,7 @@ use Rattle.laws.specs.Placed as pl
 use Rattle.laws.specs.Placed.{Placed, control, level, ended-empty}
 use Rattle.laws.specs.Survivors.{held-around}
 use Rattle.layout.specs.Cells.{pageOf}
+use Rattle.layout.specs.Objects.{begins-page}
 use Rattle.layout.specs.Words.{Words, depthIn, depthsIn, ownerIn, homeIn, graphOf, heapOf}
 use Rattle.promises.specs.Whole.{WholeFor, Open}
 use Rattle.promises.specs.Reading.{alive-used, used-home, used-owned, length-depths, depth-at}
@@ -56,7 +57,7 @@ module _ (s : Sizes) (w : Words) (whole : WholeFor s w) where
       open′ : (x : ℕ) → Alive (graphOf s w) x → pl.Open s (depthsIn s w) (homeIn s w x)
       open′ x a =
           let u = alive-used s w whole x a in
-          subst (pl.Open s (depthsIn s w)) (sym (used-home s w whole x u)) (owner-open (pageOf x) (u .page) (used-owned s w whole x u))
+          subst (pl.Open s (depthsIn s w)) (sym (used-home s w whole x u)) (owner-open (pageOf x) (begins-page s (w .cells) (w .tables) x u) (used-owned s w whole x u))
 
   module _ (t k : ℕ) (th : t < s .threads) (deep : depthIn w t ≡ suc k) where
     abbrev r : ℕ
