@@ -21,16 +21,15 @@ use Rattle.settle.specs.Rewrite.{Rewritten}
 use Rattle.settle.specs.RewriteSlots.{Variables}
 use Rattle.settle.specs.Update.{Copies, Updated}
 use Rattle.release.specs.Release.{Ended}
-use Rattle.ended.specs.Evacuated.{Evacuated}
-use Rattle.ended.specs.EvacuatedWhole.{Lowered}
-use Rattle.ended.specs.EvacuatedDid.{ended-did}
+use Rattle.ended.specs.Evacuated.{Evacuated, Vacated}
+use Rattle.ended.specs.EvacuatedDid.{Lowered, ended-did}
 use Rattle.ended.specs.EndQuestion.{pagesNeeded, crossingAfter}
 use Rattle.ended.specs.AfterEnd.{endOf}
 use Rattle.ending.specs.MarkedWords.{depth-same}
 use Rattle.ending.specs.Placing.{placed}
-use Rattle.ending.specs.Crossing.{Held}
-use Rattle.ending.specs.Stages.{Begun, plan}
-use Rattle.ending.specs.Finish.{evacuated, lowered}
+use Rattle.ending.specs.Region.{Held, told}
+use Rattle.ending.specs.Finish.{evacuated, vacated}
+use Rattle.ending.specs.Stages.{Begun, high, plan, rewritten, gave-back, lowered}
 
 -- the innermost region of thread t is ending: its survivors are marked in w₁, which was w
 pub record Ending (s : Sizes) (t : ℕ) (w w₁ : Words) : Type 0 where
@@ -49,6 +48,7 @@ pub record Accepted (s : Sizes) (t : ℕ) (w : Words) : Type 0 where
 pub record HasEnded (s : Sizes) (t : ℕ) (w w′ : Words) : Type 0 where
   pub cell : ℕ → ℕ
   pub evacuated : Evacuated s w (partOf s w (regionAt s t (depthIn w t))) w′ cell
+  pub vacated : Vacated s (partOf s w (regionAt s t (depthIn w t))) w′
   pub lowered : Lowered s w t (depthIn w t - 1) w′
 
 module _ {s : Sizes} {t : ℕ} {w w₁ : Words} (e : Ending s t w w₁) where
@@ -99,14 +99,19 @@ module _ {s : Sizes} {t : ℕ} {w w₁ : Words} (e : Ending s t w w₁) where
           → Rewritten (λ x. Held s w r x ⊎ Copies s W T x) W W′ → Updated s r (s .entries) (usedIn (w .remember)) W′ (w .remember) T M′
           → Variables s (s .threads * s .variables) W′ T T₂ → Ended s r t T₂ T′ → HasEnded s t w (words W′ M′ T′)
       has-ended {W} {T} {W′} {M′} {T₂} {T′} c R u v z =
+          let k = rewritten begun p c R in
+          let g = gave-back begun p c v z in
+          let e : r ≡ regionAt s t (depthIn w t) = er ∙ ap (regionAt s t) level-is in
           record {
             cell = placed W;
-            evacuated = subst (λ (g : ℕ). Evacuated s w (partOf s w g) (words W′ M′ T′) (placed W)) (er ∙ ap (regionAt s t) level-is) (evacuated begun p c R u v z);
-            lowered = lowered begun p c R u v z;
+            evacuated = subst (λ (q : ℕ). Evacuated s w (partOf s w q) (words W′ M′ T′) (placed W)) e (evacuated k (told (high begun) k) u v g);
+            vacated = subst (λ (q : ℕ). Vacated s (partOf s w q) (words W′ M′ T′)) e (vacated k (told (high begun) k) u v g);
+            lowered = lowered begun p c v z;
           }
 
 -- the promise of code 2
 pub ended-here : {s : Sizes} {t : ℕ} {w w₁ w′ : Words} → Ending s t w w₁ → Accepted s t w → HasEnded s t w w′ → DidHere s w (endOf t) w′ (done 0)
 ended-here {s} {t} {w} {w₁} {w′} e a h =
     ended-did s w (e .whole) t (depthIn w t - 1) (e .thread) (deep e) w′ (h .cell)
-    (subst (λ (n : ℕ). Evacuated s w (partOf s w (regionAt s t n)) w′ (h .cell)) (deep e) (h .evacuated)) (h .lowered) (a .pages) (a .entries)
+    (subst (λ (n : ℕ). Evacuated s w (partOf s w (regionAt s t n)) w′ (h .cell)) (deep e) (h .evacuated)) (h .lowered)
+    (subst (λ (n : ℕ). Vacated s (partOf s w (regionAt s t n)) w′) (deep e) (h .vacated)) (a .pages) (a .entries)

@@ -1,50 +1,42 @@
--- The words that the stages of an end leave are those after an accepted end.
+-- The words that the stages of an end leave, once its pages are given back, are those after an accepted end.
 use mathlib.Core.Path.{_≡_, refl, sym, ap, ap₂, subst, _∙_}
-use mathlib.Core.Logic.{_≢_, _⊎_, inl, inr, ⊎-elim}
+use mathlib.Core.Logic.{_⊎_, inl, inr, ⊎-elim}
 use mathlib.Core.List.{List}
-use Prim.Native.Nat.{ℕ, zero, suc, _+_, _-_, _*_, _≤_, _<_}
-use native.Mathlib.Decide.{ℕ-discrete, decLt}
-use native.Mathlib.Nat.{div-add-mod', pos-of-ne-zero}
+use Prim.Native.Nat.{ℕ, zero, suc, _*_, _≤_, _<_}
+use native.Mathlib.Decide.{decLt}
+use native.Mathlib.Nat.{pos-of-ne-zero}
 use native.Mathlib.Omega.{arith}
 use lib.ListN.{length, getD}
 use Rattle.lists.specs.Counting.{sum-same}
 use Rattle.lists.specs.Stores.{drop-same}
 use Rattle.rules.specs.declared.Sizes.{Sizes}
-use Rattle.rules.specs.Regions.{regionAt, threadOf, levelOf}
-use Rattle.laws.specs.RegionLaws.{thread-at, level-at}
 use Rattle.laws.specs.SameRules.{renamed}
-use Rattle.layout.specs.declared.Kind.the-variants.{Reference}
-use Rattle.layout.specs.Places.{Room, depthAt, varAt, usedAt, markAt, countAt, depthOf, varOf, ownerOf, usedOf, markOf, usedIn, cellsWords, rememberWords, tablesWords, count-room, countsFrom, varsFrom}
-use Rattle.layout.specs.Cells.{fieldAt, fieldOf, refsOf, fieldCount, cellNamed, pageOf, cellOn, mostFields}
-use Rattle.layout.specs.Words.{Words, words, InUse, Used, depthIn, ownerIn, refCount}
-use Rattle.remember.specs.Crossing.{other, crossTo, crossesFrom}
-use Rattle.remember.specs.Crosses.{cross-slot}
+use Rattle.layout.specs.Places.{Room, depthAt, varAt, ownerAt, usedAt, markAt, countAt, varOf, ownerOf, usedOf, markOf, cellsWords, rememberWords, tablesWords, count-room, countsFrom, ownersFrom, varsFrom}
+use Rattle.layout.specs.Cells.{fieldAt, fieldOf, cellNamed, pageOf, cellOn, page-on, room-most}
+use Rattle.layout.specs.Objects.{Slot, begins-page, begins-same, begins-back, begins-used, begins-there, slot-low, slot-page}
+use Rattle.layout.specs.Words.{Words, words, Begins, Names, ownerIn, headIn}
+use Rattle.remember.specs.Crossing.{other, regionOf, crossTo, crossesFrom}
+use Rattle.remember.specs.Crosses.{slot-cross, cross-slot}
 use Rattle.remember.specs.Entries as table
-use Rattle.remember.specs.Renewed.{renewed-exact}
+use Rattle.remember.specs.Renewed.{Renewed, renewed-exact}
 use Rattle.promises.specs.Slots.{region-of}
 use Rattle.promises.specs.Whole.{Open, objectsOn, RememberWhole}
 use Rattle.promises.specs.StandsFor.{SameFrom}
-use Rattle.promises.specs.Reading.{refs-few, used-home}
-use Rattle.promises.specs.Ends.{partOf, Outside, Survivor, Lives, outside-lives, survivor-lives, lives-how}
+use Rattle.promises.specs.Ends.{Part, Outside, Survivor, Lives, outside-lives, survivor-lives, lives-how}
 use Rattle.mark.specs.Marks.{page-unmarked}
 use Rattle.pages.specs.Pages.{Partly}
 use Rattle.copy.specs.Marks.{sameThen}
 use Rattle.copy.specs.Taking.{Regular, room-same}
-use Rattle.copy.specs.Copying.{Plan, Copy, copy-marks}
-use Rattle.settle.specs.Rewrite.{forward-same, Rewritten, link-same}
+use Rattle.settle.specs.Rewrite.{forward-same, link-same}
 use Rattle.settle.specs.RewriteSlots.{Variables}
 use Rattle.settle.specs.Append.{crossAt}
-use Rattle.settle.specs.Update.{Copies, Entry, Updated}
-use Rattle.release.specs.Release.{Ended, ended-size, ended-depth, ended-rest, ended-blank, ended-alike, ended-use, ended-used, ended-regular}
-use Rattle.ended.specs.Evacuated.{Evacuated}
-use Rattle.ended.specs.EvacuatedWhole.{Lowered}
-use Rattle.ended.specs.WordsPlaced.{target-level}
-use Rattle.ending.specs.MarkedWords.{table-same}
-use Rattle.ending.specs.Placing.{placed, forwarded-placed, outside-placed, outside-owner, survivor-placed, survivor-fresh, survivor-owner, placed-used, placed-apart, placed-only}
-use Rattle.ending.specs.Rewriting.{copy-survivor, slot-after, rest-after, head-after, work-after}
-use Rattle.ending.specs.Crossing.{Held, holding, cross-field, home-out, LiveSlot, cross-live, entry-live, live-entry}
-use Rattle.ending.specs.Space.{page-kept}
-use Rattle.ending.specs.Stages.{Begun, high, bounds, sends, F, ready, tables-ask, owner-after, variable-same, release-ask}
+use Rattle.settle.specs.Update.{Copies}
+use Rattle.release.specs.Release.{Blank, Alike}
+use Rattle.ended.specs.Evacuated.{Evacuated, Vacated}
+use Rattle.ending.specs.MarkedWords.{table-same, var-same}
+use Rattle.ending.specs.Placing.{HasMoved, placed, forwarded-placed, outside-placed, outside-home, survivor-home, placed-used, placed-out, placed-apart, placed-only}
+use Rattle.ending.specs.Rewriting.{HasRewritten, slot-after, rest-after, head-after, work-after, used-after, used-before}
+use Rattle.ending.specs.Crossing.{LiveSlot, Told, live-slot, slot-live, live-page, copies-live}
 
 -- two lists of one length with the same words from n on
 same-from : (n : ℕ) (l k : List ℕ) → length k ≡ length l → ((x : ℕ) → n ≤ x → getD k x 0 ≡ getD l x 0) → SameFrom n l k
@@ -72,283 +64,233 @@ regular-like {p} {T} {T′} size eo eu ec r =
           partial = record { owner = sym (eo a (w .low)) ∙ w .partial .owner; part = omega (arith, eu a (w .low), w .partial .part) };
         }
 
-module _ {s : Sizes} {t k r : ℕ} {w w₁ : Words} (b : Begun s t k r w w₁) (p : Plan s (suc k) (regionAt s t) (w₁ .cells) (w₁ .tables)) {W T : List ℕ}
-    (c : Copy s (suc k) (regionAt s t) (suc k) (w₁ .cells) (w₁ .tables) W T) {W′ : List ℕ} (R : Rewritten (λ x. Held s w r x ⊎ Copies s W T x) W W′)
-    {M′ : List ℕ} (U : Updated s r (s .entries) (usedIn (w .remember)) W′ (w .remember) T M′) {T₂ : List ℕ} (Y : Variables s (s .threads * s .variables) W′ T T₂)
-    {T′ : List ℕ} (Z : Ended s r t T₂ T′) where
+-- ---- the variables
+
+module _ {s : Sizes} {w w₁ : Words} {e : Part} {W T : List ℕ} (h : HasMoved s w w₁ e W T) where
+  variable-same : (i : ℕ) → i < s .threads * s .variables → varOf s T i ≡ varOf s (w .tables) i
+  variable-same i l = h .forwards .copying .rest (varAt s i) (inl (omega (arith, h .room))) ∙ var-same (h .marks) (h .room) i l
+
+  pub variables-ask : (i : ℕ) → i < s .threads * s .variables → Names s (varOf s T i)
+  variables-ask i l =
+      subst (Names s) (sym (variable-same i l))
+      (λ n. begins-page s (w .cells) (w .tables) (cellNamed (varOf s (w .tables) i)) (h .sends .keeps .variables i (cellNamed (varOf s (w .tables) i)) l (omega arith) .used))
+
+  -- their rewriting leaves the pages and the counts as the copy left them, and what comes before them as it was
+  module _ {X T₂ : List ℕ} (Y : Variables s (s .threads * s .variables) X T T₂) where
+    tables-room : Room s (length T)
+    tables-room = h .ready .regular .room
+
+    pub owner₂ : (page : ℕ) → page < s .pages → ownerOf s T₂ page ≡ ownerOf s T page
+    owner₂ page l = Y .same (ownerAt s page) (λ z. omega (arith, tables-room))
+
+    used₂ : (page : ℕ) → page < s .pages → usedOf s T₂ page ≡ usedOf s T page
+    used₂ page l = Y .same (usedAt s page) (λ z. omega (arith, tables-room))
+
+    pub regular₂ : Regular s T₂
+    regular₂ = regular-like (Y .size) owner₂ used₂ (λ x l. Y .same x (λ z. omega (arith, tables-room))) (h .ready .regular)
+
+    pub word₂ : (x : ℕ) → (varsFrom s ≤ x → tablesWords s ≤ x) → getD T₂ x 0 ≡ getD (w .tables) x 0
+    word₂ x n = far (decLt x (varsFrom s))
+      where
+        far : Dec (x < varsFrom s) → getD T₂ x 0 ≡ getD (w .tables) x 0
+        far (yes l) =
+            Y .same x (λ z. omega arith) ∙ h .forwards .copying .rest x (inl (omega (arith, tables-room))) ∙ table-same (h .marks) (h .room) x (λ z. omega (arith, tables-room))
+        far (no l) =
+            let m : tablesWords s ≤ x = n (omega arith) in
+            Y .same x (λ z. omega (arith, tables-room, count-room s)) ∙ h .forwards .copying .rest x (inr m) ∙ table-same (h .marks) (h .room) x (λ z. omega (arith, count-room s))
+
+-- ---- the release
+
+-- The pages of the part are given back: they are blank, the other pages and every word but depths and counts are as they were, and the
+-- regions of the objects that live on are open.
+pub record GaveBack (s : Sizes) (w : Words) (e : Part) (T T′ : List ℕ) : Type 0 where
+  pub size : length T′ ≡ length T
+  pub regular : Regular s T′
+  pub blank : (page : ℕ) → page < s .pages → e .ends page → Blank s T′ page
+  pub alike : (page : ℕ) → page < s .pages → (e .ends page → ⊥) → Alike s T T′ page
+  pub rest : (x : ℕ) → (depthAt 0 ≤ x → varsFrom s ≤ x) → (ownersFrom s ≤ x → tablesWords s ≤ x) → getD T′ x 0 ≡ getD T x 0
+  pub outside : (c : ℕ) → Outside s w e c → 1 < ownerIn s w (pageOf c) → Open s T′ (ownerIn s w (pageOf c))
+  pub survivor : (c : ℕ) → Survivor s w e c → 1 < e .goes c → Open s T′ (e .goes c)
+
+module _ {s : Sizes} {w w₁ : Words} {e : Part} {W T : List ℕ} {S : ℕ → Type 0} {W′ : List ℕ} (k : HasRewritten s w w₁ e W T S W′)
+    {E : ℕ → ℕ → Type 0} (told : Told s w e W T W′ E) {M′ : List ℕ} (U : Renewed E (s .entries) (w .remember) M′)
+    {T₂ : List ℕ} (Y : Variables s (s .threads * s .variables) W′ T T₂) {T′ : List ℕ} (Z : GaveBack s w e T₂ T′) where
   abbrev w′ : Words
   w′ = words W′ M′ T′
 
-  rm : Room s (length (w .tables))
-  rm = b .room
+  h : HasMoved s w w₁ e W T
+  h = k .moved
 
-  -- ---- the tables
+  -- ---- the objects
 
-  used₂ : (page : ℕ) → page < s .pages → usedOf s T₂ page ≡ usedOf s T page
-  used₂ page l = Y .same (usedAt s page) (λ z. omega (arith, tables-ask b p c))
+  -- a page that does not end
+  owner-end : (page : ℕ) → page < s .pages → (e .ends page → ⊥) → ownerOf s T′ page ≡ ownerOf s T page
+  owner-end page l n = Z .alike page l n .owner ∙ owner₂ h Y page l
 
-  regular₂ : Regular s T₂
-  regular₂ = regular-like (Y .size) (owner-after b p c Y) used₂ (λ x l. Y .same x (λ z. omega (arith, tables-ask b p c))) (ready b p c .regular)
+  used-end : (page : ℕ) → page < s .pages → (e .ends page → ⊥) → usedOf s T′ page ≡ usedOf s T page
+  used-end page l n = Z .alike page l n .used ∙ used₂ h Y page l
 
-  regular : Regular s T′
-  regular = ended-regular regular₂ (bounds b .0) (bounds b .1) (b .thread) Z
+  to-end : (d : ℕ) → Begins s W′ T d → (e .ends (pageOf d) → ⊥) → Begins s W′ T′ d
+  to-end d u n = begins-same s W′ T W′ T′ d (used-end (pageOf d) (begins-page s W′ T d u) n) (λ x b z. refl) u
 
-  -- a word that is neither a page's nor a count nor a variable nor t's depth
-  same-word : (x : ℕ) → x ≢ depthAt t → (varsFrom s ≤ x → tablesWords s ≤ x) → getD T′ x 0 ≡ getD (w .tables) x 0
-  same-word x n h = far (decLt x (varsFrom s))
+  from-end : (d : ℕ) → Begins s W′ T′ d → Begins s W′ T d × (e .ends (pageOf d) → ⊥)
+  from-end d u = (begins-back s W′ T W′ T′ d (used-end (pageOf d) l out) (λ x b z. refl) u, out)
     where
-      room : Room s (length T)
-      room = tables-ask b p c
+      l : pageOf d < s .pages
+      l = begins-page s W′ T′ d u
 
-      far : Dec (x < varsFrom s) → getD T′ x 0 ≡ getD (w .tables) x 0
-      far (yes l) =
-          ended-rest regular₂ (bounds b .0) (bounds b .1) (b .thread) Z x n (λ z. omega (arith, room)) (inl (omega (arith, room)))
-          ∙ Y .same x (λ z. omega arith) ∙ F b p c .copying .rest x (inl (omega (arith, room))) ∙ table-same (b .marks) rm x (λ z. omega (arith, room))
-      far (no l) =
-          let e : tablesWords s ≤ x = h (omega arith) in
-          ended-rest regular₂ (bounds b .0) (bounds b .1) (b .thread) Z x n (λ z. omega (arith, room, count-room s, bounds b)) (inr (omega (arith, count-room s)))
-          ∙ Y .same x (λ z. omega (arith, room, count-room s)) ∙ F b p c .copying .rest x (inr (omega (arith, count-room s)))
-          ∙ table-same (b .marks) rm x (λ z. omega (arith, count-room s))
+      out : e .ends (pageOf d) → ⊥
+      out z = omega (arith, begins-used s W′ T′ d u .place, Z .blank (pageOf d) l z .used)
 
-  -- a cell in use outside r, before and after the release
-  to-end : (d : ℕ) → InUse s T d → ownerOf s T (pageOf d) ≢ r → InUse s T′ d × (ownerOf s T′ (pageOf d) ≡ ownerOf s T (pageOf d))
-  to-end d u n =
-      let o = owner-after b p c Y (pageOf d) (u .page) in
-      let n₂ : ownerOf s T₂ (pageOf d) ≢ r = λ z. n (sym o ∙ z) in
-      let u₂ : InUse s T₂ d = record { page = u .page; place = omega (arith, u .place, used₂ (pageOf d) (u .page)) } in (
-        ended-use regular₂ (bounds b .0) (bounds b .1) (b .thread) Z d u₂ n₂,
-        ended-alike regular₂ (bounds b .0) (bounds b .1) (b .thread) Z (pageOf d) (u .page) n₂ .owner ∙ o,
-      )
+  used : (x : ℕ) → Lives s w e x → Begins s W′ T′ (placed W x)
+  used x l = to-end (placed W x) (used-after k (placed W x) (placed-used h x l)) (placed-out h x l)
 
-  from-end : (d : ℕ) → InUse s T′ d → InUse s T d × (ownerOf s T (pageOf d) ≢ r)
-  from-end d u =
-      let v = ended-used regular₂ (bounds b .0) (bounds b .1) (b .thread) Z d u in (
-        record { page = u .page; place = omega (arith, v .0 .place, used₂ (pageOf d) (u .page)) },
-        λ z. v .1 (owner-after b p c Y (pageOf d) (u .page) ∙ z),
-      )
+  home-end : (x : ℕ) → Lives s w e x → ownerOf s T′ (pageOf (placed W x)) ≡ ownerOf s T (pageOf (placed W x))
+  home-end x l = owner-end (pageOf (placed W x)) (begins-page s W T (placed W x) (placed-used h x l)) (placed-out h x l)
 
-  -- ---- the objects that live on
+  -- there is no other
+  from-cell : (d : ℕ) → Begins s W′ T′ d → (x : ℕ) × Lives s w e x × (placed W x ≡ d)
+  from-cell d u = let v = from-end d u in placed-only h d (used-before k d (v .0)) (v .1)
 
-  out : (x : ℕ) → Lives s w (partOf s w r) x → ownerOf s T (pageOf (placed W x)) ≢ r
-  out = home-out (high b) (b .whole) (sends b) (b .marks) rm (F b p c) R
+  outside-end : (x : ℕ) → Outside s w e x → ownerOf s T′ (pageOf (placed W x)) ≡ ownerIn s w (pageOf x)
+  outside-end x o = home-end x (outside-lives o) ∙ outside-home h x o
 
-  used-after : (x : ℕ) → Lives s w (partOf s w r) x → InUse s T′ (placed W x)
-  used-after x l = to-end (placed W x) (placed-used (b .whole) (sends b) (b .marks) rm (F b p c) x l) (out x l) .0
-
-  owner-end : (x : ℕ) → Lives s w (partOf s w r) x → ownerOf s T′ (pageOf (placed W x)) ≡ ownerOf s T (pageOf (placed W x))
-  owner-end x l = to-end (placed W x) (placed-used (b .whole) (sends b) (b .marks) rm (F b p c) x l) (out x l) .1
-
-  -- a cell in use is one of theirs
-  from-cell : (d : ℕ) → InUse s T′ d → (x : ℕ) × Lives s w (partOf s w r) x × (placed W x ≡ d)
-  from-cell d u =
-      let v = from-end d u in
-      placed-only (b .whole) (sends b) (b .marks) rm (F b p c) d (v .0) (λ z. v .1 (page-kept (high b) (b .whole) (sends b) (b .marks) rm (F b p c) (pageOf d) (u .page) z))
-
-  outside-end : (x : ℕ) (o : Outside s w (partOf s w r) x) → ownerOf s T′ (pageOf (placed W x)) ≡ ownerIn s w (pageOf x)
-  outside-end x o =
-      owner-end x (outside-lives o) ∙ ap (λ (d : ℕ). ownerOf s T (pageOf d)) (outside-placed (b .whole) (sends b) (b .marks) rm (F b p c) x o)
-      ∙ outside-owner (b .whole) (sends b) (b .marks) rm (F b p c) x o
-
-  survivor-end : (x : ℕ) (v : Survivor s w (partOf s w r) x) → ownerOf s T′ (pageOf (placed W x)) ≡ partOf s w r .goes x
-  survivor-end x v =
-      owner-end x (survivor-lives v) ∙ ap (λ (d : ℕ). ownerOf s T (pageOf d)) (survivor-placed (b .whole) (sends b) (b .marks) rm (F b p c) x v)
-      ∙ survivor-owner (b .whole) (sends b) (b .marks) rm (F b p c) x v
+  survivor-end : (x : ℕ) → Survivor s w e x → ownerOf s T′ (pageOf (placed W x)) ≡ e .goes x
+  survivor-end x v = home-end x (survivor-lives v) ∙ survivor-home h x v
 
   -- ---- the remember table
 
   -- a slot after the end is a reference of an object that lives on
-  live : (x : ℕ) → 0 < crossTo s W′ T′ x → LiveSlot (high b) (b .whole) (sends b) (b .marks) rm (F b p c) R x
-  live x h =
-      let q = cross-slot s W′ T′ x h in
-      let o = from-cell (q .object) (q .begins) in
-      let e : refsOf W′ (q .object) ≡ refCount w (o .0) =
-      ap (refsOf W′) (sym (o .2)) ∙ ap (fieldCount Reference) (head-after (b .whole) (sends b) (b .marks) rm (F b p c) (holding (high b) (b .whole) (sends b)) R (o .0) (o .1)) in
-      record { object = o .0; field = q .field; lives = o .1; low = omega (arith, q .low, e); at = sym (q .at) ∙ ap (λ (d : ℕ). fieldAt d (q .field)) (sym (o .2)) }
+  live : (x : ℕ) → Slot s W′ T′ x → LiveSlot s w e W x
+  live x q =
+      let v = from-end (q .object) (q .begins) in
+      slot-live k x (record { object = q .object; field = q .field; begins = v .0; room = q .room; low = q .low; at = q .at }) (v .1)
 
-  few : (x f : ℕ) → Lives s w (partOf s w r) x → f < refCount w x → f < mostFields
-  few x f l h = omega (arith, refs-few s w (b .whole) x (l .used))
+  slot-end : (x : ℕ) → LiveSlot s w e W x → Slot s W′ T′ x
+  slot-end x q =
+      let o = live-slot k x q in
+      let out : e .ends (pageOf (o .object)) → ⊥ = λ z. placed-out h (q .object) (q .lives) (subst (e .ends) (sym (slot-page s W′ T x o) ∙ live-page k x q) z) in
+      record { object = o .object; field = o .field; begins = to-end (o .object) (o .begins) out; room = o .room; low = o .low; at = o .at }
 
   -- and crosses into the region that the table was told
-  cross-end : (x : ℕ) → LiveSlot (high b) (b .whole) (sends b) (b .marks) rm (F b p c) R x → crossTo s W′ T′ x ≡ crossAt s W′ T x
+  cross-end : (x : ℕ) → LiveSlot s w e W x → crossTo s W′ T′ x ≡ crossAt s W′ T x
   unfolding crossesFrom
   cross-end x q =
-      let o : ℕ = q .object in
-      let f : ℕ = q .field in
-      let l = q .lives in
-      let h = holding (high b) (b .whole) (sends b) in
-      ap (crossTo s W′ T′) (q .at)
-      ∙ cross-field s W′ T′ (placed W o) f (used-after o l) (few o f l (q .low)) (omega (arith, q .low, ap (fieldCount Reference) (head-after (b .whole) (sends b) (b .marks) rm (F b p c) h R o l)))
-      ∙ ap₂ (crossesFrom s T′) (owner-end o l) (slot-after (b .whole) (sends b) (b .marks) rm (F b p c) h R o f l (q .low))
-      ∙ same (fieldOf (w .cells) o f) refl
-      ∙ sym (cross-live (high b) (b .whole) (sends b) (b .marks) rm (F b p c) R o f l (q .low)) ∙ ap (crossAt s W′ T) (sym (q .at))
+      slot-cross s W′ T′ x (slot-end x q)
+      ∙ ap₂ other (ap (ownerOf s T′) (live-page k x q) ∙ home-end (q .object) (q .lives) ∙ ap (ownerOf s T) (sym (live-page k x q))) region
     where
-      g : ℕ
-      g = ownerOf s T (pageOf (placed W (q .object)))
+      value : getD W′ x 0 ≡ renamed (placed W) (fieldOf (w .cells) (q .object) (q .field))
+      value = ap (λ (y : ℕ). getD W′ y 0) (q .at) ∙ slot-after k (q .object) (q .field) (q .lives) (q .low)
 
-      same : (v : ℕ) → fieldOf (w .cells) (q .object) (q .field) ≡ v → crossesFrom s T′ g (renamed (placed W) v) ≡ crossesFrom s T g (renamed (placed W) v)
+      same : (v : ℕ) → fieldOf (w .cells) (q .object) (q .field) ≡ v → regionOf s T′ (renamed (placed W) v) ≡ regionOf s T (renamed (placed W) v)
       same zero z = refl
       same (suc d) z =
-          let y = sends b .references (q .object) (q .field) d (q .lives) (q .low) z in
-          ap (other g) (region-of s T′ (placed W d) (used-after d y) ∙ owner-end d y ∙ sym (region-of s T (placed W d) (placed-used (b .whole) (sends b) (b .marks) rm (F b p c) d y)))
+          let y = h .sends .keeps .references (q .object) (q .field) d (q .lives) (q .low) z in
+          region-of s T′ (placed W d) (begins-used s W′ T′ (placed W d) (used d y)) ∙ home-end d y ∙ sym (region-of s T (placed W d) (begins-used s W T (placed W d) (placed-used h d y)))
+
+      region : regionOf s T′ (getD W′ x 0) ≡ regionOf s T (getD W′ x 0)
+      region = ap (regionOf s T′) value ∙ same (fieldOf (w .cells) (q .object) (q .field)) refl ∙ ap (regionOf s T) (sym value)
 
   remember : RememberWhole s w′
-  remember = renewed-exact (crossTo s W′ T′) (cellsWords s) named every U
-    where
-      kept : (x h : ℕ) → Entry s r (s .entries) (usedIn (w .remember)) W′ (w .remember) T x h → h ≢ 0
-      kept x h (inl q) = q .kept
-      kept x h (inr q) = q .kept
-
-      named : (x h : ℕ) → Entry s r (s .entries) (usedIn (w .remember)) W′ (w .remember) T x h → table.Entry (crossTo s W′ T′) (cellsWords s) x h
-      named x h q =
-          let y = entry-live (high b) (b .whole) (sends b) (b .marks) rm (F b p c) R x h q in
-          let o = y .0 in
-          let f = few (o .object) (o .field) (o .lives) (o .low) in
-          record { slot = omega (arith, o .at, f, used-after (o .object) (o .lives) .page); region = pos-of-ne-zero (kept x h q); right = cross-end x o ∙ sym (y .1) }
-
-      every : (q : ℕ) → q < cellsWords s → 0 < crossTo s W′ T′ q → Entry s r (s .entries) (usedIn (w .remember)) W′ (w .remember) T q (crossTo s W′ T′ q)
-      every q l h =
-          let x = live q h in
-          let e = cross-end q x in
-          subst (Entry s r (s .entries) (usedIn (w .remember)) W′ (w .remember) T q) (sym e)
-          (live-entry (high b) (b .whole) (sends b) (b .marks) rm (F b p c) R q x (λ z. omega (arith, e)))
-
-  -- ---- every page belongs to the control space or an open region
-
-  depth-now : depthOf T′ t ≡ k
-  depth-now =
-      ended-depth regular₂ (bounds b .0) (bounds b .1) (b .thread) Z ∙ ap (λ (x : ℕ). x - 1) (release-ask b p c Y .1) ∙ omega arith
-
-  depth-kept : (u : ℕ) → u < s .threads → u ≢ t → depthOf T′ u ≡ depthIn w u
-  depth-kept u l n = same-word (depthAt u) (λ z. n (omega arith)) (λ z. omega arith)
-
-  still-open : (g : ℕ) → g ≢ r → Open s (w .tables) g → Open s T′ g
-  still-open g n o = record { real = o .real; thread = o .thread; level = go (ℕ-discrete (threadOf s g) t) }
-    where
-      number : g ≡ 1 + threadOf s g * s .depth + levelOf s g
-      number = omega (arith, div-add-mod' (g - 2) (s .depth), o .real)
-
-      go : Dec (threadOf s g ≡ t) → levelOf s g ≤ depthOf T′ (threadOf s g)
-      go (no d) = omega (arith, o .level, depth-kept (threadOf s g) (o .thread) d)
-      go (yes d) = last (ℕ-discrete (levelOf s g) (suc k))
-        where
-          last : Dec (levelOf s g ≡ suc k) → levelOf s g ≤ depthOf T′ (threadOf s g)
-          last (no z) = omega (arith, o .level, ap (depthOf T′) d, depth-now, ap (depthIn w) d, b .deep)
-          last (yes z) =
-              let e : 1 + t * s .depth + suc k ≡ regionAt s t (suc k) = unfold regionAt in refl in
-              absurd (n (number ∙ ap₂ (λ (x y : ℕ). 1 + x * s .depth + y) d z ∙ e ∙ sym (b .region)))
-
-  level-open : (j : ℕ) → j ≤ k → 1 < regionAt s t j → Open s T′ (regionAt s t j)
-  level-open zero l h = absurd (let z : ⊥ = omega (arith, one) in z)
-    where
-      one : regionAt s t 0 ≡ 1
-      one = unfold regionAt in refl
-  level-open (suc j) l h =
-      let low : suc k ≤ s .depth = omega (arith, b .deep, b .whole .depths t (b .thread)) in
-      let a : threadOf s (regionAt s t (suc j)) ≡ t = thread-at s t j (omega (arith, low)) in
-      let d : levelOf s (regionAt s t (suc j)) ≡ suc j = level-at s t j (omega (arith, low)) in
-      record { real = omega arith; thread = omega (arith, a, b .thread); level = omega (arith, d, ap (depthOf T′) a, depth-now) }
-
-  page-open : (page : ℕ) → page < s .pages → 1 < ownerOf s T′ page → Open s T′ (ownerOf s T′ page)
-  page-open page l h =
-      let o = from-cell (cellOn page 0) (record { page = omega arith; place = omega (arith, regular .taken page l (λ z. omega arith), ap (usedOf s T′) here) }) in
-      let own : ownerOf s T′ page ≡ ownerOf s T′ (pageOf (placed W (o .0))) = ap (ownerOf s T′) (sym here) ∙ ap (λ (d : ℕ). ownerOf s T′ (pageOf d)) (sym (o .2)) in
-      go (o .0) own (lives-how (o .1))
-    where
-      here : pageOf (cellOn page 0) ≡ page
-      here = omega arith
-
-      go : (x : ℕ) → ownerOf s T′ page ≡ ownerOf s T′ (pageOf (placed W x)) → Outside s w (partOf s w r) x ⊎ Survivor s w (partOf s w r) x → Open s T′ (ownerOf s T′ page)
-      go x own (inl o) =
-          let z = own ∙ outside-end x o in
-          subst (Open s T′) (sym z) (still-open (ownerIn s w (pageOf x)) (o .out) (b .whole .pages (pageOf x) (o .used .page) .region (omega arith)))
-      go x own (inr v) =
-          let e : Survivor s w (partOf s w (regionAt s t (suc k))) x = subst (λ (g : ℕ). Survivor s w (partOf s w g) x) (b .region) v in
-          let j = target-level s w (b .whole) t k (b .thread) (b .deep) x (used-home s w (b .whole) x (e .used) ∙ e .within) (e .goes) in
-          let z : ownerOf s T′ page ≡ regionAt s t (j .0) = own ∙ survivor-end x v ∙ ap (λ (g : ℕ). partOf s w g .goes x) (b .region) ∙ j .2 in
-          subst (Open s T′) (sym z) (level-open (j .0) (j .1) (omega arith))
+  remember =
+      renewed-exact (crossTo s W′ T′) (cellsWords s)
+      (λ x g q.
+      let y = told .live x g q in
+      record { slot = slot-low s W′ T′ x (slot-end x (y .0)); region = pos-of-ne-zero (told .kept x g q); right = cross-end x (y .0) ∙ sym (y .1) })
+      (λ x l p.
+      let y = live x (cross-slot s W′ T′ x p) in
+      let z = cross-end x y in
+      subst (E x) (sym z) (told .every x y (λ n. omega (arith, z)))) U
 
   -- ---- all of it
 
-  marks-end : (page : ℕ) → page < s .pages → markOf s T′ page ≡ 0
-  marks-end page l = go (ℕ-discrete (ownerOf s T₂ page) r)
+  page-open : (page : ℕ) → page < s .pages → 1 < ownerOf s T′ page → Open s T′ (ownerOf s T′ page)
+  page-open page l p =
+      let o = from-cell (cellOn page 0) (begins-there s W′ T′ page 0 l (omega arith) (Z .regular .taken page l (λ z. omega arith))) in
+      go (o .0) (ap (ownerOf s T′) (sym (page-on page 0 (omega arith))) ∙ ap (λ (d : ℕ). ownerOf s T′ (pageOf d)) (sym (o .2))) (lives-how (o .1))
     where
-      go : Dec (ownerOf s T₂ page ≡ r) → markOf s T′ page ≡ 0
-      go (yes e) = ended-blank regular₂ (bounds b .0) (bounds b .1) (b .thread) Z page l e .marks
+      go : (x : ℕ) → ownerOf s T′ page ≡ ownerOf s T′ (pageOf (placed W x)) → Outside s w e x ⊎ Survivor s w e x → Open s T′ (ownerOf s T′ page)
+      go x own (inl o) = let z = own ∙ outside-end x o in subst (Open s T′) (sym z) (Z .outside x o (omega arith))
+      go x own (inr v) = let z = own ∙ survivor-end x v in subst (Open s T′) (sym z) (Z .survivor x v (omega arith))
+
+  marks-end : (page : ℕ) → page < s .pages → markOf s T′ page ≡ 0
+  marks-end page l = go (e .ends? page)
+    where
+      go : Dec (e .ends page) → markOf s T′ page ≡ 0
+      go (yes z) = Z .blank page l z .marks
       go (no n) =
-          ended-alike regular₂ (bounds b .0) (bounds b .1) (b .thread) Z page l n .marks ∙ Y .same (markAt s page) (λ z. omega (arith, tables-ask b p c))
-          ∙ copy-marks p c page l
-          (page-unmarked s (w₁ .tables) page (b .marks .small page l)
-          (λ x e o.
-          let h : pageOf x < s .pages = omega arith in
-          n (owner-after b p c Y page l ∙ page-kept (high b) (b .whole) (sends b) (b .marks) rm (F b p c) page l (subst (λ (y : ℕ). ownerIn s w y ≡ r) e (b .marks .only x h o .1)))))
+          Z .alike page l n .marks ∙ Y .same (markAt s page) (λ z. omega (arith, h .ready .regular .room))
+          ∙ h .clean page l
+          (page-unmarked s (w₁ .tables) page (h .marks .small page l)
+          (λ x z o. n (subst (e .ends) z (h .marks .only x (subst (λ (q : ℕ). q < s .pages) (sym z) l) o .1))))
 
   far : (x : ℕ) → cellsWords s ≤ x → getD W′ x 0 ≡ getD (w .cells) x 0
   far x l =
-      R .same x (⊎-elim far-slot far-copy) ∙ F b p c .copying .beyond x (omega arith) ∙ b .marks .cells x (λ d z u o. omega (arith, u .page))
+      k .cells .same x (⊎-elim far-slot far-copy) ∙ h .forwards .copying .beyond x l
+      ∙ h .marks .cells x (λ d z u o. omega (arith, begins-page s (w .cells) (w .tables) d u))
     where
-      far-slot : Held s w r x → ⊥
+      low : LiveSlot s w e W x → ⊥
+      low q = omega (arith, slot-low s W′ T x (live-slot k x q))
+
+      far-slot : S x → ⊥
       far-slot q =
-          let o = holding (high b) (b .whole) (sends b) .slot x q in
-          omega (arith, o .at, few (o .object) (o .field) (outside-lives (o .outside)) (o .low), o .outside .used .page)
+          let o = k .holding .slot x q in
+          low (record { object = o .object; field = o .field; lives = outside-lives (o .outside); low = o .low; at = o .at ∙ ap (λ (d : ℕ). fieldAt d (o .field)) (sym (outside-placed h (o .object) (o .outside))) })
 
       far-copy : Copies s W T x → ⊥
-      far-copy q =
-          let o = copy-survivor (b .whole) (sends b) (b .marks) rm (F b p c) x q in
-          let e = survivor-lives (o .survivor) in
-          omega (arith, o .at, few (o .object) (o .field) e (o .low), used-after (o .object) e .page)
+      far-copy q = low (copies-live k x q)
 
-  pub lowered : Lowered s w t k w′
-  lowered = record { depth = depth-now; depths = depth-kept }
+  -- a word of the tables before the depths or after the tables
+  same-word : (x : ℕ) → (depthAt 0 ≤ x → tablesWords s ≤ x) → getD T′ x 0 ≡ getD (w .tables) x 0
+  same-word x n =
+      Z .rest x (λ z. let m : tablesWords s ≤ x = n z in omega (arith, h .ready .regular .room, count-room s)) (λ z. n (omega (arith, h .ready .regular .room)))
+      ∙ word₂ h Y x (λ z. n (omega arith))
 
-  pub evacuated : Evacuated s w (partOf s w r) w′ (placed W)
+  pub vacated : Vacated s e w′
+  vacated page l z = Z .blank page l z .owner
+
+  pub evacuated : Evacuated s w e w′ (placed W)
   evacuated =
       record {
         beyond =
             record {
-              cells = same-from (cellsWords s) (w .cells) W′ (R .size ∙ F b p c .copying .cells-size ∙ b .marks .cells-length) far;
+              cells = same-from (cellsWords s) (w .cells) W′ (k .cells .size ∙ h .forwards .copying .cells-size ∙ h .marks .cells-length) far;
               remember = same-from (rememberWords s) (w .remember) M′ (U .edited .long) (U .edited .spare);
               tables =
-                  same-from (tablesWords s) (w .tables) T′
-                  (ended-size regular₂ (bounds b .0) (bounds b .1) (b .thread) Z ∙ Y .size ∙ F b p c .copying .tables-size ∙ b .marks .tables-length)
-                  (λ x l. same-word x (λ z. omega (arith, count-room s, tables-ask b p c, b .thread)) (λ z. l));
+                  same-from (tablesWords s) (w .tables) T′ (Z .size ∙ Y .size ∙ h .forwards .copying .tables-size ∙ h .marks .tables-length) (λ x l. same-word x (λ z. l));
             };
-        sizes = λ j l. same-word j (λ z. omega arith) (λ z. omega arith);
+        sizes = λ j l. same-word j (λ z. omega arith);
         entries = U .edited .size;
         variables = λ i l.
-            let room = tables-ask b p c in
-            ended-rest regular₂ (bounds b .0) (bounds b .1) (b .thread) Z (varAt s i) (λ z. omega (arith, room, b .thread)) (λ z. omega (arith, room)) (inl (omega (arith, room)))
-            ∙ Y .moved i l ∙ forward-same W W′ (varOf s T i) (link-same R (cellNamed (varOf s T i))) ∙ forwarded-placed W (varOf s T i)
-            ∙ ap (renamed (placed W)) (variable-same b p c i l);
-        used = used-after;
+            let room = h .ready .regular .room in
+            Z .rest (varAt s i) (λ z. omega arith) (λ z. omega (arith, room))
+            ∙ Y .moved i l ∙ forward-same W W′ (varOf s T i) (link-same (k .cells) (cellNamed (varOf s T i))) ∙ forwarded-placed W (varOf s T i)
+            ∙ ap (renamed (placed W)) (variable-same h i l);
+        used = used;
         object = λ x l.
-            let h = holding (high b) (b .whole) (sends b) in
             record {
-              head = head-after (b .whole) (sends b) (b .marks) rm (F b p c) h R x l;
-              references = λ f m. slot-after (b .whole) (sends b) (b .marks) rm (F b p c) h R x f l m;
-              others = λ f ge m. rest-after (b .whole) (sends b) (b .marks) rm (F b p c) h R x f l ge m;
-              working = work-after (b .whole) (sends b) (b .marks) rm (F b p c) h R x l;
+              head = head-after k x l;
+              references = λ f m. slot-after k x f l m;
+              others = λ f ge m. rest-after k x f l ge (omega (arith, room-most (headIn w x)));
+              working = work-after k x l;
             };
         stayed = λ x o.
-            let e = outside-placed (b .whole) (sends b) (b .marks) rm (F b p c) x o in
-            record { same = e; owner = ap (λ (d : ℕ). ownerOf s T′ (pageOf d)) (sym e) ∙ outside-end x o };
-        went = λ x v.
-            record {
-              fresh = λ u. survivor-fresh (b .whole) (sends b) (b .marks) rm (F b p c) x v (subst (Used s w) (survivor-placed (b .whole) (sends b) (b .marks) rm (F b p c) x v) u);
-              owner = survivor-end x v;
-            };
-        apart = placed-apart (b .whole) (sends b) (b .marks) rm (F b p c);
+            let z = outside-placed h x o in
+            record { same = z; owner = ap (λ (d : ℕ). ownerOf s T′ (pageOf d)) (sym z) ∙ outside-end x o };
+        went = survivor-end;
+        apart = placed-apart h;
         only = from-cell;
         pages = λ page l.
             record {
-              free = regular .free page l;
-              taken = λ h. regular .taken page l (λ z. omega arith);
-              cells = regular .full page l;
+              free = Z .regular .free page l;
+              taken = λ p. Z .regular .taken page l (λ z. omega arith);
+              cells = Z .regular .full page l;
               region = page-open page l;
             };
-        partial = λ g pos x y l h u v.
-            let z = regular .one g x y pos (record { low = omega arith; partial = u }) (record { low = h; partial = v }) in
+        partial = λ g pos x y l p u v.
+            let z = Z .regular .one g x y pos (record { low = omega arith; partial = u }) (record { low = p; partial = v }) in
             omega arith;
-        counts = λ g pos h. regular .count g pos h;
+        counts = λ g pos p. Z .regular .count g pos p;
         marks = marks-end;
         remember = remember;
       }

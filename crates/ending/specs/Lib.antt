@@ -1,18 +1,20 @@
--- One account of an end, stage by stage.
--- what marking leaves, and what the census asks of it
+-- One account of an end, stage by stage. Of any part:
+-- what marking leaves
 pub mod MarkedWords
 pub mod MarkedReady
-pub mod CensusCounts
-pub mod PagesEnough
-pub mod CrossingPositions
--- copying: room for the survivors, and the cell of each object afterwards
-pub mod Space
+-- copying: the cell of each object afterwards
 pub mod Placing
--- references, variables and the remember table go by these cells
+-- references and the remember table go by these cells
 pub mod Rewriting
 pub mod Crossing
--- put together: the words after the end, from whole words with marked survivors
-pub mod Stages
+pub mod CrossingPositions
+pub mod Space
+-- the words after the end
 pub mod Finish
+-- of the innermost region of a thread: what the census asks, its remembered slots, and its stages
+pub mod CensusCounts
+pub mod PagesEnough
+pub mod Region
+pub mod Stages
 pub mod Ending
 pub mod NoSurvivors

@@ -8,9 +8,10 @@ use native.Mathlib.Omega.{arith}
 use lib.ListN.{length, getD}
 use Rattle.rules.specs.declared.Sizes.{Sizes}
 use Rattle.layout.specs.Places.{Room, varAt, ownerAt, usedAt, countAt, depthAt, varOf, ownerOf, usedOf, countOf, depthOf, marksFrom, countsFrom}
-use Rattle.layout.specs.Cells.{headAt, workAt, fieldAt, wordOf, headOf, workOf, fieldOf, pageOf, mostFields}
+use Rattle.layout.specs.Cells.{headAt, workAt, fieldAt, wordOf, headOf, workOf, fieldOf, pageOf, mostFields, most-is}
 use Rattle.layout.specs.Marks.{marked}
-use Rattle.layout.specs.Words.{Words, InUse, Used, depthIn, ownerIn}
+use Rattle.layout.specs.Objects.{begins-page, begins-same, begins-back}
+use Rattle.layout.specs.Words.{Words, BeginsIn, depthIn, ownerIn}
 use Rattle.promises.specs.Whole.{WholeFor}
 use Rattle.promises.specs.Ends.{Part, Outside, Survivor}
 use Rattle.mark.specs.Survivors.{Marked}
@@ -21,11 +22,11 @@ module _ {s : Sizes} {w w₁ : Words} {e : Part} (m : Marked s w e w₁) where
       let o = m .only c l on in
       record { used = o .0; within = o .1; goes = go (o .0) (o .1) (decLt 0 (e .goes c)) }
     where
-      go : Used s w c → e .ends (pageOf c) → Dec (0 < e .goes c) → 0 < e .goes c
+      go : BeginsIn s w c → e .ends (pageOf c) → Dec (0 < e .goes c) → 0 < e .goes c
       go u z (yes h) = h
       go u z (no n) = absurd (let y : ⊥ = omega (arith, m .freed c u z (omega arith)) in y)
 
-  pub unmarked-freed : (c : ℕ) → Used s w c → e .ends (pageOf c) → marked s (w₁ .tables) c ≢ 1 → e .goes c ≡ 0
+  pub unmarked-freed : (c : ℕ) → BeginsIn s w c → e .ends (pageOf c) → marked s (w₁ .tables) c ≢ 1 → e .goes c ≡ 0
   unmarked-freed c u z off = go (decLt 0 (e .goes c))
     where
       go : Dec (0 < e .goes c) → e .goes c ≡ 0
@@ -42,7 +43,7 @@ module _ {s : Sizes} {w w₁ : Words} {e : Part} (m : Marked s w e w₁) where
   head-same c = word-same (headAt c) (λ z. omega arith)
 
   pub field-same : (c f : ℕ) → f < mostFields → fieldOf (w₁ .cells) c f ≡ fieldOf (w .cells) c f
-  field-same c f l = word-same (fieldAt c f) (λ z. omega arith)
+  field-same c f l = word-same (fieldAt c f) (λ z. omega (arith, most-is))
 
   -- word 1 of an object outside the part is zero, as in whole words
   pub outside-work : WholeFor s w → (c : ℕ) → Outside s w e c → workOf (w₁ .cells) c ≡ 0
@@ -71,9 +72,11 @@ module _ {s : Sizes} {w w₁ : Words} {e : Part} (m : Marked s w e w₁) where
     pub depth-same : (u : ℕ) → u < s .threads → depthOf (w₁ .tables) u ≡ depthIn w u
     depth-same u l = table-same (depthAt u) (λ z. omega (arith, rm))
 
-    -- cells in use
-    pub now-used : (c : ℕ) → Used s w c → InUse s (w₁ .tables) c
-    now-used c u = record { page = u .page; place = omega (arith, u .place, used-same (pageOf c) (u .page)) }
+    -- objects begin where they did
+    pub now-used : (c : ℕ) → BeginsIn s w c → BeginsIn s w₁ c
+    now-used c u =
+        begins-same s (w .cells) (w .tables) (w₁ .cells) (w₁ .tables) c (used-same (pageOf c) (begins-page s (w .cells) (w .tables) c u)) (λ d v z. head-same d) u
 
-    pub was-used : (c : ℕ) → InUse s (w₁ .tables) c → Used s w c
-    was-used c u = record { page = u .page; place = omega (arith, u .place, used-same (pageOf c) (u .page)) }
+    pub was-used : (c : ℕ) → BeginsIn s w₁ c → BeginsIn s w c
+    was-used c u =
+        begins-back s (w .cells) (w .tables) (w₁ .cells) (w₁ .tables) c (used-same (pageOf c) (begins-page s (w₁ .cells) (w₁ .tables) c u)) (λ d v z. head-same d) u

@@ -10,6 +10,7 @@ use Rattle.rules.specs.Regions.{regionAt}
 use Rattle.layout.specs.Places.{varOf, markOf, usedIn}
 use Rattle.layout.specs.Cells.{workOf, pageOf, placeOf, cellNamed}
 use Rattle.layout.specs.Marks.{marked}
+use Rattle.layout.specs.Objects.{begins-page}
 use Rattle.layout.specs.Words.{Words}
 use Rattle.promises.specs.Ends.{partOf, Survivor, lives-how}
 use Rattle.copy.specs.Passing.{Moves.none}
@@ -20,15 +21,16 @@ use Rattle.settle.specs.Update.{Copies, Updating}
 use Rattle.ended.specs.EndQuestion.{crossingAfter}
 use Rattle.ending.specs.MarkedWords.{outside-work, var-same}
 use Rattle.ending.specs.Rewriting.{copy-survivor}
-use Rattle.ending.specs.Crossing.{Held, entry-says}
-use Rattle.ending.specs.Stages.{Begun, sends, F, update-ask}
+use Rattle.ending.specs.Crossing.{entry-says}
+use Rattle.ending.specs.Region.{Held}
+use Rattle.ending.specs.Stages.{Begun, sends, moved, update-ask}
 
 module _ {s : Sizes} {t k r : ℕ} {w w₁ : Words} (b : Begun s t k r w w₁) (off : (page : ℕ) → page < s .pages → markOf s (w₁ .tables) page ≡ 0) where
   unset : (c : ℕ) → pageOf c < s .pages → marked s (w₁ .tables) c ≡ 1 → ⊥
   unset c l on = omega (arith, ap (λ (x : ℕ). bitAt x (placeOf c)) (off (pageOf c) l), bit-zero (placeOf c))
 
   no-survivor : (c : ℕ) → Survivor s w (partOf s w r) c → ⊥
-  no-survivor c v = unset c (v .used .page) (b .marks .survives c (v .used) (v .within) (v .goes))
+  no-survivor c v = unset c (begins-page s (w .cells) (w .tables) c (v .used)) (b .marks .survives c (v .used) (v .within) (v .goes))
 
   pub none-copied : Copy s (suc k) (regionAt s t) (suc k) (w₁ .cells) (w₁ .tables) (w₁ .cells) (w₁ .tables)
   none-copied =
@@ -46,20 +48,20 @@ module _ {s : Sizes} {t k r : ℕ} {w w₁ : Words} (b : Begun s t k r w w₁) (
       let y = entry-says (b .whole) (q .entry) (q .low) in
       let within = sym (y .region) ∙ q .region in
       let v =
-      sends b .references (y .object) (y .field) (y .names) (record { used = y .used; goes = λ z. absurd (y .other (within ∙ sym z)) }) (y .low) (y .value) in
+      sends b .keeps .references (y .object) (y .field) (y .names) (record { used = y .used; goes = λ z. absurd (y .other (within ∙ sym z)) }) (y .low) (y .value) in
       no-survivor (y .names) (record { used = v .used; within = within; goes = v .goes within })
 
   module _ (p : Plan s (suc k) (regionAt s t) (w₁ .cells) (w₁ .tables)) where
     pub none-copies : (x : ℕ) → Copies s (w₁ .cells) (w₁ .tables) x → ⊥
     none-copies x q =
-        let o = copy-survivor (b .whole) (sends b) (b .marks) (b .room) (F b p none-copied) x q in
+        let o = copy-survivor (moved b p none-copied) x q in
         no-survivor (o .object) (o .survivor)
 
     pub none-rewritten : Rewritten (λ x. Held s w r x ⊎ Copies s (w₁ .cells) (w₁ .tables) x) (w₁ .cells) (w₁ .cells)
     none-rewritten = rewritten-none (λ x. Held s w r x ⊎ Copies s (w₁ .cells) (w₁ .tables) x) (w₁ .cells) (λ x. ⊎-elim (none-held x) (none-copies x))
 
     pub none-update : crossingAfter s w t k ≤ s .entries → Updating s r (s .entries) (usedIn (w .remember)) (w₁ .cells) (w .remember) (w₁ .tables)
-    none-update entries = update-ask b p none-copied entries none-rewritten
+    none-update = update-ask b p none-copied none-rewritten
 
   pub none-variables : Variables s (s .threads * s .variables) (w₁ .cells) (w₁ .tables) (w₁ .tables)
   none-variables = record { size = refl; moved = λ i l. moved i l (varOf s (w₁ .tables) i) refl; same = λ x h. refl }
@@ -70,4 +72,4 @@ module _ {s : Sizes} {t k r : ℕ} {w w₁ : Words} (b : Begun s t k r w w₁) (
           let y : cellNamed (suc d) ≡ d = omega arith in
           sym (forward-still (w₁ .cells) (suc d)
           (ap (workOf (w₁ .cells)) y
-          ∙ ⊎-elim (outside-work (b .marks) (b .whole) d) (λ v. absurd (no-survivor d v)) (lives-how (sends b .variables i d l (sym (var-same (b .marks) (b .room) i l) ∙ z)))))
+          ∙ ⊎-elim (outside-work (b .marks) (b .whole) d) (λ v. absurd (no-survivor d v)) (lives-how (sends b .keeps .variables i d l (sym (var-same (b .marks) (b .room) i l) ∙ z)))))

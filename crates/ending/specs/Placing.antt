@@ -2,31 +2,43 @@
 use mathlib.Core.Path.{_≡_, refl, sym, ap, subst, _∙_}
 use mathlib.Core.Logic.{_≢_, _⊎_, inl, inr, ⊎-elim}
 use mathlib.Core.List.{List}
-use Prim.Native.Nat.{ℕ, zero, suc, _+_, _*_, _<_}
+use Prim.Native.Nat.{ℕ, zero, suc, _+_, _<_}
 use native.Mathlib.Decide.{ℕ-discrete}
 use native.Mathlib.Omega.{arith}
 use lib.ListN.{length, getD}
 use Rattle.rules.specs.declared.Sizes.{Sizes}
 use Rattle.laws.specs.SameRules.{renamed}
-use Rattle.layout.specs.Places.{Room, varOf, ownerOf, usedOf}
-use Rattle.layout.specs.Cells.{headAt, fieldAt, wordAt, headOf, workOf, fieldOf, cellNamed, refTo, pageOf, cellOn, mostFields, cellWords}
+use Rattle.layout.specs.Places.{Room, ownerOf, markOf}
+use Rattle.layout.specs.Cells.{headAt, fieldAt, wordAt, headOf, workOf, fieldOf, cellNamed, refTo, pageOf, cellOn, mostFields, cellWords, most-is, page-on}
 use Rattle.layout.specs.Marks.{marked}
-use Rattle.layout.specs.Words.{Words, InUse, Used, ownerIn, headIn, refCount}
+use Rattle.layout.specs.Objects.{begins-page, begins-there}
+use Rattle.layout.specs.Words.{Words, Begins, BeginsIn, ownerIn, headIn, refCount}
 use Rattle.promises.specs.Whole.{WholeFor}
+use Rattle.promises.specs.Reading.{refs-few}
 use Rattle.promises.specs.Ends.{Part, Outside, Survivor, Lives, outside-lives, survivor-lives, lives-how}
 use Rattle.mark.specs.Survivors.{Marked}
 use Rattle.copy.specs.Marks.{mark?}
-use Rattle.copy.specs.Forward.{Forwards, forward}
+use Rattle.copy.specs.Passing.{Ready}
+use Rattle.copy.specs.Forward.{Forwards, Moved, forward}
 use Rattle.settle.specs.Rewrite.{forwarded, forward-null, forward-still, forward-moved}
+use Rattle.ended.specs.Living.{KeepsNamed}
 use Rattle.ending.specs.MarkedWords.{marked-survivor, unmarked-freed, head-same, field-same, outside-work, owner-same, now-used, was-used}
 
--- What an end asks of its part: its pages have owners, its survivors go to regions that do not end, and whatever an object that lives on or
--- a variable names lives on.
+-- What an end asks of its part: its pages have owners, its survivors go to regions that do not end, and what lives on keeps what it names.
 pub record Sends (s : Sizes) (w : Words) (e : Part) : Type 0 where
   pub owned : (page : ℕ) → page < s .pages → e .ends page → 0 < ownerIn s w page
   pub away : (c page : ℕ) → Survivor s w e c → page < s .pages → e .ends page → ownerIn s w page ≢ e .goes c
-  pub references : (c f d : ℕ) → Lives s w e c → f < refCount w c → fieldOf (w .cells) c f ≡ suc d → Lives s w e d
-  pub variables : (i d : ℕ) → i < s .threads * s .variables → varOf s (w .tables) i ≡ suc d → Lives s w e d
+  pub keeps : KeepsNamed s w e
+
+-- w is whole, the survivors of its part e are marked in w₁, and have been copied in W and T
+pub record HasMoved (s : Sizes) (w w₁ : Words) (e : Part) (W T : List ℕ) : Type 0 where
+  pub whole : WholeFor s w
+  pub room : Room s (length (w .tables))
+  pub sends : Sends s w e
+  pub marks : Marked s w e w₁
+  pub forwards : Forwards s (w₁ .cells) (w₁ .tables) W T
+  pub ready : Ready s W T
+  pub clean : (page : ℕ) → page < s .pages → markOf s (w₁ .tables) page ≡ 0 → markOf s T page ≡ 0
 
 -- ---- the cell of an object, by word 1
 
@@ -64,98 +76,108 @@ forwarded-placed W (suc c) = go (ℕ-discrete (workOf W c) 0)
 
 -- ---- after the copy
 
-module _ {s : Sizes} {w w₁ : Words} {e : Part} (whole : WholeFor s w) (sends : Sends s w e) (m : Marked s w e w₁) (rm : Room s (length (w .tables)))
-    {W T : List ℕ} (F : Forwards s (w₁ .cells) (w₁ .tables) W T) where
-  -- the words of an old cell other than word 1 are as they were, and a copy has those of its survivor
-  old-word : (c i : ℕ) → i < cellWords → Used s w c → i ≢ 1 → getD W (wordAt c i) 0 ≡ getD (w₁ .cells) (wordAt c i) 0
-  old-word c i l u n = F .copying .words c i l (now-used m rm c u) n
+module _ {s : Sizes} {w w₁ : Words} {e : Part} {W T : List ℕ} (h : HasMoved s w w₁ e W T) where
+  -- ---- the objects of before
+
+  page-of : (c : ℕ) → BeginsIn s w c → pageOf c < s .pages
+  page-of = begins-page s (w .cells) (w .tables)
+
+  now : (c : ℕ) → BeginsIn s w c → BeginsIn s w₁ c
+  now = now-used (h .marks) (h .room)
+
+  -- they are in their cells still, on pages of their owners
+  pub old-used : (c : ℕ) → BeginsIn s w c → Begins s W T c
+  old-used c u = h .forwards .copying .keeps c (now c u)
+
+  pub old-owner : (c : ℕ) → BeginsIn s w c → ownerOf s T (pageOf c) ≡ ownerIn s w (pageOf c)
+  old-owner c u = h .forwards .copying .owner c (now c u) ∙ owner-same (h .marks) (h .room) (pageOf c) (page-of c u)
+
+  -- so an ending page, which is in use, keeps its owner
+  pub page-kept : (page : ℕ) → page < s .pages → e .ends page → ownerOf s T page ≡ ownerIn s w page
+  page-kept page l z =
+      subst (λ (q : ℕ). ownerOf s T q ≡ ownerIn s w q) (page-on page 0 (omega arith))
+      (old-owner (cellOn page 0) (begins-there s (w .cells) (w .tables) page 0 l (omega arith) (h .whole .pages page l .taken (h .sends .owned page l z))))
+
+  -- a reference of one is one of the most fields
+  pub few : (c f : ℕ) → BeginsIn s w c → f < refCount w c → f < mostFields
+  few c f u l = omega (arith, refs-few s w (h .whole) c u)
 
   module _ (c : ℕ) (o : Outside s w e c) where
     off : marked s (w₁ .tables) c ≡ 0
-    off = ⊎-elim (λ z. z) (λ on. absurd (o .out (m .only c (o .used .page) on .1))) (mark? s (w₁ .tables) c)
+    off = ⊎-elim (λ z. z) (λ on. absurd (o .out (h .marks .only c (page-of c (o .used)) on .1))) (mark? s (w₁ .tables) c)
 
     pub outside-idle : workOf W c ≡ 0
-    outside-idle = F .copying .links c (now-used m rm c (o .used)) off ∙ outside-work m whole c o
+    outside-idle = h .forwards .copying .links c (now c (o .used)) off ∙ outside-work (h .marks) (h .whole) c o
 
     pub outside-placed : placed W c ≡ c
     outside-placed = placed-still W c outside-idle
 
-    pub outside-owner : ownerOf s T (pageOf c) ≡ ownerIn s w (pageOf c)
-    outside-owner = F .copying .owner c (now-used m rm c (o .used)) ∙ owner-same m rm (pageOf c) (o .used .page)
-
   module _ (c : ℕ) (v : Survivor s w e c) where
     pub on : marked s (w₁ .tables) c ≡ 1
-    on = m .survives c (v .used) (v .within) (v .goes)
+    on = h .marks .survives c (v .used) (v .within) (v .goes)
+
+    pub copy : Moved s (w₁ .cells) (w₁ .tables) W T c (forward W c)
+    copy = h .forwards .moved c (page-of c (v .used)) on
 
     pub survivor-forward : workOf W c ≡ suc (forward W c)
-    survivor-forward = omega (arith, F .moved c (v .used .page) on .forward)
+    survivor-forward = omega (arith, copy .forward)
 
     pub survivor-placed : placed W c ≡ forward W c
     survivor-placed = placed-moved W c (forward W c) survivor-forward
 
-    pub survivor-fresh : Used s w (forward W c) → ⊥
-    survivor-fresh u = F .moved c (v .used .page) on .new (now-used m rm (forward W c) u)
+    pub survivor-fresh : BeginsIn s w (forward W c) → ⊥
+    survivor-fresh u = copy .new (now (forward W c) u)
 
     pub survivor-owner : ownerOf s T (pageOf (forward W c)) ≡ e .goes c
-    survivor-owner = F .moved c (v .used .page) on .home ∙ m .goes c (v .used) (v .within)
+    survivor-owner = copy .home ∙ h .marks .goes c (v .used) (v .within)
 
-    -- its new page does not end: an ending page is in use, and keeps its owner
-    pub survivor-out : e .ends (pageOf (forward W c)) → ⊥
+    -- its new page does not end, since an ending page keeps its owner
+    survivor-out : e .ends (pageOf (forward W c)) → ⊥
     survivor-out z =
-        sends .away c page v low z (sym (owner-same m rm page low) ∙ sym (ap (ownerOf s (w₁ .tables)) here) ∙ sym (F .copying .owner first first-used) ∙ ap (ownerOf s T) here ∙ survivor-owner)
-      where
-        page : ℕ
-        page = pageOf (forward W c)
-
-        low : page < s .pages
-        low = F .moved c (v .used .page) on .used .page
-
-        first : ℕ
-        first = cellOn page 0
-
-        here : pageOf (cellOn (pageOf (forward W c)) 0) ≡ pageOf (forward W c)
-        here = omega arith
-
-        first-used : InUse s (w₁ .tables) first
-        first-used =
-            now-used m rm first
-            (record {
-              page = omega (arith, low);
-              place = omega (arith, whole .pages page low .taken (sends .owned page low z), ap (usedOf s (w .tables)) here);
-            })
+        let l = begins-page s W T (forward W c) (copy .used) in
+        h .sends .away c (pageOf (forward W c)) v l z (sym (page-kept (pageOf (forward W c)) l z) ∙ survivor-owner)
 
   -- ---- any object that lives on
 
   by-kind : (X : ℕ → Type 0) (c : ℕ) → (Outside s w e c → X c) → (Survivor s w e c → X (forward W c)) → Lives s w e c → X (placed W c)
-  by-kind X c h k l =
-      ⊎-elim (λ o. subst X (sym (outside-placed c o)) (h o)) (λ v. subst X (sym (survivor-placed c v)) (k v)) (lives-how l)
+  by-kind X c f g l = ⊎-elim (λ o. subst X (sym (outside-placed c o)) (f o)) (λ v. subst X (sym (survivor-placed c v)) (g v)) (lives-how l)
+
+  -- its region
+  pub outside-home : (c : ℕ) → Outside s w e c → ownerOf s T (pageOf (placed W c)) ≡ ownerIn s w (pageOf c)
+  outside-home c o = ap (λ (d : ℕ). ownerOf s T (pageOf d)) (outside-placed c o) ∙ old-owner c (o .used)
+
+  pub survivor-home : (c : ℕ) → Survivor s w e c → ownerOf s T (pageOf (placed W c)) ≡ e .goes c
+  survivor-home c v = ap (λ (d : ℕ). ownerOf s T (pageOf d)) (survivor-placed c v) ∙ survivor-owner c v
 
   module _ (c : ℕ) (l : Lives s w e c) where
-    pub placed-used : InUse s T (placed W c)
-    placed-used =
-        by-kind (InUse s T) c (λ o. F .copying .keeps c (now-used m rm c (o .used))) (λ v. F .moved c (v .used .page) (on c v) .used) l
+    pub placed-used : Begins s W T (placed W c)
+    placed-used = by-kind (Begins s W T) c (λ o. old-used c (o .used)) (λ v. copy c v .used) l
+
+    pub placed-page : pageOf (placed W c) < s .pages
+    placed-page = begins-page s W T (placed W c) placed-used
 
     pub placed-out : e .ends (pageOf (placed W c)) → ⊥
     placed-out = by-kind (λ d. e .ends (pageOf d) → ⊥) c (λ o. o .out) (survivor-out c) l
 
+    -- the words of an old cell other than word 1 are as they were, and a copy has those of its survivor
     word : (i : ℕ) → i < cellWords → i ≢ 1 → getD W (wordAt (placed W c) i) 0 ≡ getD (w₁ .cells) (wordAt c i) 0
-    word i h n =
-        by-kind (λ d. getD W (wordAt d i) 0 ≡ getD (w₁ .cells) (wordAt c i) 0) c (λ o. old-word c i h (o .used) n)
-        (λ v. F .moved c (v .used .page) (on c v) .body i h n) l
+    word i m n =
+        by-kind (λ d. getD W (wordAt d i) 0 ≡ getD (w₁ .cells) (wordAt c i) 0) c (λ o. h .forwards .copying .words c i m (now c (o .used)) n)
+        (λ v. copy c v .body i m n) l
 
     pub placed-head : headOf W (placed W c) ≡ headIn w c
     placed-head =
         let z : (d : ℕ) → headAt d ≡ wordAt d 0 = λ d. omega arith in
-        ap (λ (x : ℕ). getD W x 0) (z (placed W c)) ∙ word 0 (omega arith) (λ y. omega arith) ∙ ap (λ (x : ℕ). getD (w₁ .cells) x 0) (sym (z c)) ∙ head-same m c
+        ap (λ (x : ℕ). getD W x 0) (z (placed W c)) ∙ word 0 (omega arith) (λ y. omega arith) ∙ ap (λ (x : ℕ). getD (w₁ .cells) x 0) (sym (z c)) ∙ head-same (h .marks) c
 
     pub placed-field : (f : ℕ) → f < mostFields → fieldOf W (placed W c) f ≡ fieldOf (w .cells) c f
-    placed-field f h =
+    placed-field f m =
         let z : (d : ℕ) → fieldAt d f ≡ wordAt d (2 + f) = λ d. omega arith in
-        ap (λ (x : ℕ). getD W x 0) (z (placed W c)) ∙ word (2 + f) (omega arith) (λ y. omega arith) ∙ ap (λ (x : ℕ). getD (w₁ .cells) x 0) (sym (z c))
-        ∙ field-same m c f h
+        ap (λ (x : ℕ). getD W x 0) (z (placed W c)) ∙ word (2 + f) (omega (arith, most-is)) (λ y. omega arith) ∙ ap (λ (x : ℕ). getD (w₁ .cells) x 0) (sym (z c))
+        ∙ field-same (h .marks) c f m
 
     pub placed-work : workOf W (placed W c) ≡ 0
-    placed-work = by-kind (λ d. workOf W d ≡ 0) c (outside-idle c) (λ v. F .moved c (v .used .page) (on c v) .clear) l
+    placed-work = by-kind (λ d. workOf W d ≡ 0) c (outside-idle c) (λ v. copy c v .clear) l
 
   -- no two of them have one cell
   pub placed-apart : (b c : ℕ) → Lives s w e b → Lives s w e c → placed W b ≡ placed W c → b ≡ c
@@ -163,32 +185,35 @@ module _ {s : Sizes} {w w₁ : Words} {e : Part} (whole : WholeFor s w) (sends :
     where
       go : Outside s w e b ⊎ Survivor s w e b → Outside s w e c ⊎ Survivor s w e c → b ≡ c
       go (inl o) (inl q) = sym (outside-placed b o) ∙ z ∙ outside-placed c q
-      go (inl o) (inr v) = absurd (survivor-fresh c v (subst (Used s w) (sym (outside-placed b o) ∙ z ∙ survivor-placed c v) (o .used)))
-      go (inr v) (inl o) = absurd (survivor-fresh b v (subst (Used s w) (sym (outside-placed c o) ∙ sym z ∙ survivor-placed b v) (o .used)))
+      go (inl o) (inr v) = absurd (survivor-fresh c v (subst (BeginsIn s w) (sym (outside-placed b o) ∙ z ∙ survivor-placed c v) (o .used)))
+      go (inr v) (inl o) = absurd (survivor-fresh b v (subst (BeginsIn s w) (sym (outside-placed c o) ∙ sym z ∙ survivor-placed b v) (o .used)))
       go (inr v) (inr x) =
-          F .once b c (v .used .page) (on b v) (x .used .page) (on c x) (sym (survivor-placed b v) ∙ z ∙ survivor-placed c x)
+          h .forwards .once b c (page-of b (v .used)) (on b v) (page-of c (x .used)) (on c x) (sym (survivor-placed b v) ∙ z ∙ survivor-placed c x)
 
-  -- a cell in use off the ending pages is one of theirs
-  pub placed-only : (d : ℕ) → InUse s T d → (e .ends (pageOf d) → ⊥) → (c : ℕ) × Lives s w e c × (placed W c ≡ d)
-  placed-only d u n = ⊎-elim old new (F .only d u)
+  -- an object off the ending pages is one of them
+  pub placed-only : (d : ℕ) → Begins s W T d → (e .ends (pageOf d) → ⊥) → (c : ℕ) × Lives s w e c × (placed W c ≡ d)
+  placed-only d u n = ⊎-elim old new (h .forwards .only d u)
     where
-      old : InUse s (w₁ .tables) d → (c : ℕ) × Lives s w e c × (placed W c ≡ d)
-      old q = let o : Outside s w e d = record { used = was-used m rm d q; out = n } in (d, outside-lives o, outside-placed d o)
+      old : BeginsIn s w₁ d → (c : ℕ) × Lives s w e c × (placed W c ≡ d)
+      old q = let o : Outside s w e d = record { used = was-used (h .marks) (h .room) d q; out = n } in (d, outside-lives o, outside-placed d o)
 
       new : (c : ℕ) × (pageOf c < s .pages) × (marked s (w₁ .tables) c ≡ 1) × (forward W c ≡ d) → (c : ℕ) × Lives s w e c × (placed W c ≡ d)
-      new q = let v = marked-survivor m (q .0) (q .1) (q .2) in (q .0, survivor-lives v, survivor-placed (q .0) v ∙ q .3)
+      new q = let v = marked-survivor (h .marks) (q .0) (q .1) (q .2) in (q .0, survivor-lives v, survivor-placed (q .0) v ∙ q .3)
 
-  -- the cells in use with a forward reference are the survivors'
-  pub moved-survivor : (c : ℕ) → InUse s T c → workOf W c ≢ 0 → Survivor s w e c
-  moved-survivor c u n = ⊎-elim old new (F .only c u)
+  -- the objects with a forward reference are the survivors
+  pub moved-survivor : (c : ℕ) → Begins s W T c → workOf W c ≢ 0 → Survivor s w e c
+  moved-survivor c u n = ⊎-elim old new (h .forwards .only c u)
     where
-      old : InUse s (w₁ .tables) c → Survivor s w e c
-      old q = ⊎-elim (λ z. absurd (n (F .copying .links c q z ∙ idle z (e .ends? (pageOf c))))) (marked-survivor m c (q .page)) (mark? s (w₁ .tables) c)
+      old : BeginsIn s w₁ c → Survivor s w e c
+      old q =
+          ⊎-elim (λ z. absurd (n (h .forwards .copying .links c q z ∙ idle z (e .ends? (pageOf c))))) (marked-survivor (h .marks) c (page-of c b)) (mark? s (w₁ .tables) c)
         where
+          b : BeginsIn s w c
+          b = was-used (h .marks) (h .room) c q
+
           idle : marked s (w₁ .tables) c ≡ 0 → Dec (e .ends (pageOf c)) → workOf (w₁ .cells) c ≡ 0
-          idle z (yes y) =
-              let v = was-used m rm c q in m .goes c v y ∙ unmarked-freed m c v y (λ (x : marked s (w₁ .tables) c ≡ 1). omega arith)
-          idle z (no y) = outside-work m whole c (record { used = was-used m rm c q; out = y })
+          idle z (yes y) = h .marks .goes c b y ∙ unmarked-freed (h .marks) c b y (λ (x : marked s (w₁ .tables) c ≡ 1). omega arith)
+          idle z (no y) = outside-work (h .marks) (h .whole) c (record { used = b; out = y })
 
       new : (b : ℕ) × (pageOf b < s .pages) × (marked s (w₁ .tables) b ≡ 1) × (forward W b ≡ c) → Survivor s w e c
-      new q = absurd (n (ap (workOf W) (sym (q .3)) ∙ F .moved (q .0) (q .1) (q .2) .clear))
+      new q = absurd (n (ap (workOf W) (sym (q .3)) ∙ h .forwards .moved (q .0) (q .1) (q .2) .clear))

@@ -10,18 +10,17 @@ use lib.ListN.{length, getD}
 use Rattle.rules.specs.declared.Sizes.{Sizes}
 use Rattle.laws.specs.SameRules.{renamed}
 use Rattle.layout.specs.declared.Kind.the-variants.{Reference}
-use Rattle.layout.specs.Places.{Room}
-use Rattle.layout.specs.Cells.{headAt, fieldAt, headOf, workOf, fieldOf, refsOf, fieldCount, pageOf, mostFields, field-apart, field-once}
-use Rattle.layout.specs.Words.{Words, Used, headIn, refCount}
-use Rattle.promises.specs.Whole.{WholeFor}
+use Rattle.layout.specs.Cells.{headAt, fieldAt, headOf, workOf, fieldOf, refsOf, fieldCount, pageOf, cellNamed, mostFields, field-apart, field-once}
+use Rattle.layout.specs.Objects.{begins-page, begins-same, begins-back}
+use Rattle.layout.specs.Words.{Words, Begins, BeginsIn, Names, headIn, refCount}
 use Rattle.promises.specs.Reading.{refs-few}
 use Rattle.promises.specs.Ends.{Part, Outside, Survivor, Lives, outside-lives, survivor-lives, lives-how}
-use Rattle.mark.specs.Survivors.{Marked}
-use Rattle.copy.specs.Forward.{Forwards}
-use Rattle.settle.specs.Rewrite.{forwarded, forward-null, forward-still, Rewritten, head-same, link-same}
+use Rattle.settle.specs.Rewrite.{forwarded, forward-null, forward-still, Rewritten, rewritten-join, head-same, link-same, refs-same}
+use Rattle.settle.specs.RewriteSlots.{Fields}
+use Rattle.settle.specs.RewriteCopies.{Old, Wiring, wiring-now, OnPages, slot-now, slot-then}
 use Rattle.settle.specs.Update.{Copies}
-use Rattle.ending.specs.MarkedWords.{now-used}
-use Rattle.ending.specs.Placing.{Sends, placed, forwarded-placed, outside-idle, outside-placed, survivor-forward, survivor-placed, survivor-fresh, placed-head, placed-field, placed-work, placed-apart, moved-survivor}
+use Rattle.ending.specs.MarkedWords.{marked-survivor}
+use Rattle.ending.specs.Placing.{HasMoved, placed, forwarded-placed, old-used, few, outside-idle, outside-placed, on, survivor-forward, survivor-placed, survivor-fresh, placed-page, placed-head, placed-field, placed-work, placed-apart, moved-survivor}
 
 -- fields of different objects stand apart
 pub fields-apart : (c d f g : ℕ) → f < mostFields → g < mostFields → fieldAt c f ≡ fieldAt d g → (c ≡ d) × (f ≡ g)
@@ -40,29 +39,26 @@ pub record HoldingSlots (s : Sizes) (w : Words) (e : Part) (S : ℕ → Type 0) 
   pub slot : (x : ℕ) → S x → OutsideSlot s w e x
   pub every : (c f d : ℕ) → Outside s w e c → f < refCount w c → fieldOf (w .cells) c f ≡ suc d → e .ends (pageOf d) → S (fieldAt c f)
 
-module _ {s : Sizes} {w w₁ : Words} {e : Part} (whole : WholeFor s w) (sends : Sends s w e) (m : Marked s w e w₁) (rm : Room s (length (w .tables)))
-    {W T : List ℕ} (F : Forwards s (w₁ .cells) (w₁ .tables) W T) where
-  few : (c f : ℕ) → Lives s w e c → f < refCount w c → f < mostFields
-  few c f l h = omega (arith, refs-few s w whole c (l .used))
+-- the word at x is a reference of a survivor, in its new cell
+pub record SurvivorSlot (s : Sizes) (w : Words) (e : Part) (W : List ℕ) (x : ℕ) : Type 0 where
+  pub object : ℕ
+  pub field : ℕ
+  pub survivor : Survivor s w e object
+  pub low : field < refCount w object
+  pub at : x ≡ fieldAt (placed W object) field
 
-  -- ---- the slots of the copies are the survivors' references, in their new cells
-
-  pub record SurvivorSlot (x : ℕ) : Type 0 where
-    pub object : ℕ
-    pub field : ℕ
-    pub survivor : Survivor s w e object
-    pub low : field < refCount w object
-    pub at : x ≡ fieldAt (placed W object) field
-
+module _ {s : Sizes} {w w₁ : Words} {e : Part} {W T : List ℕ} (h : HasMoved s w w₁ e W T) where
   refs-placed : (c : ℕ) → Lives s w e c → refsOf W (placed W c) ≡ refCount w c
-  refs-placed c l = ap (fieldCount Reference) (placed-head whole sends m rm F c l)
+  refs-placed c l = ap (fieldCount Reference) (placed-head h c l)
 
   copy-cell : (c : ℕ) → Survivor s w e c → workOf W c - 1 ≡ placed W c
-  copy-cell c v = omega (arith, survivor-forward whole sends m rm F c v, survivor-placed whole sends m rm F c v)
+  copy-cell c v = omega (arith, survivor-forward h c v, survivor-placed h c v)
 
-  pub copy-survivor : (x : ℕ) → Copies s W T x → SurvivorSlot x
+  -- ---- the slots of the copies are the survivors' references
+
+  pub copy-survivor : (x : ℕ) → Copies s W T x → SurvivorSlot s w e W x
   copy-survivor x q =
-      let v = moved-survivor whole sends m rm F (q .cell) (q .old .used) (q .old .moved) in
+      let v = moved-survivor h (q .cell) (q .old .used) (q .old .moved) in
       let z = copy-cell (q .cell) v in
       record {
         object = q .cell;
@@ -72,17 +68,14 @@ module _ {s : Sizes} {w w₁ : Words} {e : Part} (whole : WholeFor s w) (sends :
         at = q .field .at ∙ ap (λ (d : ℕ). fieldAt d (q .field .field)) z;
       }
 
-  pub survivor-copy : (x : ℕ) → SurvivorSlot x → Copies s W T x
+  pub survivor-copy : (x : ℕ) → SurvivorSlot s w e W x → Copies s W T x
   survivor-copy x q =
       let v = q .survivor in
       let z = copy-cell (q .object) v in
       record {
         cell = q .object;
-        among = v .used .page;
-        old = record {
-          used = F .copying .keeps (q .object) (now-used m rm (q .object) (v .used));
-          moved = λ y. omega (arith, survivor-forward whole sends m rm F (q .object) v);
-        };
+        among = begins-page s (w .cells) (w .tables) (q .object) (v .used);
+        old = record { used = old-used h (q .object) (v .used); moved = λ y. omega (arith, survivor-forward h (q .object) v) };
         field = record {
           field = q .field;
           low = omega (arith, q .low, ap (refsOf W) z, refs-placed (q .object) (survivor-lives v));
@@ -90,79 +83,170 @@ module _ {s : Sizes} {w w₁ : Words} {e : Part} (whole : WholeFor s w) (sends :
         };
       }
 
-  -- no slot of a copy is a field of an object that was there before
-  pub old-no-copy : (c f : ℕ) → Used s w c → f < mostFields → Copies s W T (fieldAt c f) → ⊥
+  -- none is a field of an object that was there before
+  pub old-no-copy : (c f : ℕ) → BeginsIn s w c → f < refCount w c → Copies s W T (fieldAt c f) → ⊥
   old-no-copy c f u l q =
       let k = copy-survivor (fieldAt c f) q in
       let v = k .survivor in
-      let z = fields-apart c (placed W (k .object)) f (k .field) l (few (k .object) (k .field) (survivor-lives v) (k .low)) (k .at) in
-      survivor-fresh whole sends m rm F (k .object) v (subst (Used s w) (z .0 ∙ survivor-placed whole sends m rm F (k .object) v) u)
+      let z = fields-apart c (placed W (k .object)) f (k .field) (few h c f u l) (few h (k .object) (k .field) (v .used) (k .low)) (k .at) in
+      survivor-fresh h (k .object) v (subst (BeginsIn s w) (z .0 ∙ survivor-placed h (k .object) v) u)
 
-  -- ---- after the rewriting
+  -- ---- what their rewriting asks
 
-  module _ {S : ℕ → Type 0} (H : HoldingSlots s w e S) {W′ : List ℕ} (R : Rewritten (λ x. S x ⊎ Copies s W T x) W W′) where
-    pub head-after : (c : ℕ) → Lives s w e c → headOf W′ (placed W c) ≡ headIn w c
-    head-after c l = head-same R (headAt (placed W c)) (omega arith) ∙ placed-head whole sends m rm F c l
+  -- of cells in which every reference of a copy names a cell
+  pub wired : {X : List ℕ} → length X ≡ length W → ((d : ℕ) → workOf X d ≡ workOf W d) → ((d : ℕ) → refsOf X d ≡ refsOf W d)
+      → ((d f : ℕ) → Survivor s w e d → f < refCount w d → Names s (fieldOf X (placed W d) f)) → Wiring s (OnPages (s .pages)) X T
+  wired {X} long links heads named =
+      record {
+        few = h .room .few;
+        cells-long = omega (arith, h .ready .cells-long, long);
+        tables-long = h .ready .regular .room;
+        bits = λ d q l z. let v = marked-survivor (h .marks) d l (sym (h .forwards .bits d l) ∙ z) in
+            record { used = old-used h d (v .used); moved = λ y. omega (arith, links d, survivor-forward h d v) };
+        only = λ d q u. let v = survivor d u in h .forwards .bits d (begins-page s (w .cells) (w .tables) d (v .used)) ∙ on h d v;
+        copies = λ d q u. fields d (survivor d u);
+        once = λ x y q q′ u v z.
+            let a = survivor x u in
+            let b = survivor y v in
+            placed-apart h x y (survivor-lives a) (survivor-lives b) (sym (cell x a) ∙ ap (λ (i : ℕ). i - 1) z ∙ cell y b);
+      }
+    where
+      survivor : (d : ℕ) → Old s X T d → Survivor s w e d
+      survivor d u = moved-survivor h d (u .used) (λ z. u .moved (links d ∙ z))
 
-    pub work-after : (c : ℕ) → Lives s w e c → workOf W′ (placed W c) ≡ 0
-    work-after c l = link-same R (placed W c) ∙ placed-work whole sends m rm F c l
+      cell : (d : ℕ) → Survivor s w e d → workOf X d - 1 ≡ placed W d
+      cell d v = omega (arith, links d, copy-cell d v)
 
-    -- a reference that is not to be moved stays, whether its slot is looked at or not
-    unmoved : (x v : ℕ) → getD W x 0 ≡ v → forwarded W v ≡ v → (Copies s W T x → ⊥) → getD W′ x 0 ≡ forwarded W v
-    unmoved x v g still no-copy = go (ℕ-discrete (getD W′ x 0) v)
-      where
-        go : Dec (getD W′ x 0 ≡ v) → getD W′ x 0 ≡ forwarded W v
-        go (yes z) = z ∙ sym still
-        go (no n) =
-            absurd (n (R .same x (⊎-elim (λ q. n (R .moved x (inl q) ∙ ap (forwarded W) g ∙ still)) no-copy) ∙ g))
+      fields : (d : ℕ) → Survivor s w e d → Fields s (refsOf X (workOf X d - 1)) (workOf X d - 1) X
+      fields d v =
+          let n : refsOf X (placed W d) ≡ refCount w d = heads (placed W d) ∙ refs-placed d (survivor-lives v) in
+          subst (λ (x : ℕ). Fields s (refsOf X x) x X) (sym (cell d v))
+          (record {
+            pages = h .room .few;
+            cells-long = omega (arith, h .ready .cells-long, long);
+            page = placed-page h d (survivor-lives v);
+            few = omega (arith, n, refs-few s w (h .whole) d (v .used));
+            names = λ f l. named d f v (omega (arith, n));
+          })
 
-    outside-slot : (c f : ℕ) → Outside s w e c → f < refCount w c → fieldOf W′ c f ≡ forwarded W (fieldOf (w .cells) c f)
-    outside-slot c f o l = go (fieldOf (w .cells) c f) refl
-      where
-        low : f < mostFields
-        low = few c f (outside-lives o) l
+-- ---- the holding slots are rewritten
 
-        before : fieldOf W c f ≡ fieldOf (w .cells) c f
-        before = ap (λ (d : ℕ). fieldOf W d f) (sym (outside-placed whole sends m rm F c o)) ∙ placed-field whole sends m rm F c (outside-lives o) f low
+module _ {s : Sizes} {w w₁ : Words} {e : Part} {W T : List ℕ} (h : HasMoved s w w₁ e W T) {S : ℕ → Type 0} (H : HoldingSlots s w e S) where
+  -- what it asks: each names a cell
+  pub held-names : (x : ℕ) → S x → Names s (getD W x 0)
+  held-names x q n =
+      let o = H .slot x q in
+      let l = outside-lives (o .outside) in
+      let v : getD W x 0 ≡ fieldOf (w .cells) (o .object) (o .field) =
+      ap (λ (y : ℕ). getD W y 0) (o .at ∙ ap (λ (d : ℕ). fieldAt d (o .field)) (sym (outside-placed h (o .object) (o .outside))))
+      ∙ placed-field h (o .object) l (o .field) (few h (o .object) (o .field) (l .used) (o .low)) in
+      let d : ℕ = cellNamed (getD W x 0) in
+      begins-page s (w .cells) (w .tables) d (h .sends .keeps .references (o .object) (o .field) d l (o .low) (omega (arith, v)) .used)
 
-        no-copy : Copies s W T (fieldAt c f) → ⊥
-        no-copy = old-no-copy c f (o .used) low
+  no-copy : (x : ℕ) → Copies s W T x → S x → ⊥
+  no-copy x q z = let o = H .slot x z in old-no-copy h (o .object) (o .field) (o .outside .used) (o .low) (subst (Copies s W T) (o .at) q)
 
-        go : (v : ℕ) → fieldOf (w .cells) c f ≡ v → fieldOf W′ c f ≡ forwarded W v
-        go zero z = unmoved (fieldAt c f) zero (before ∙ z) (forward-null W zero refl) no-copy
-        go (suc d) z = how (lives-how (sends .references c f d (outside-lives o) l z))
-          where
-            how : Outside s w e d ⊎ Survivor s w e d → fieldOf W′ c f ≡ forwarded W (suc d)
-            how (inl q) =
-                unmoved (fieldAt c f) (suc d) (before ∙ z)
-                (forward-still W (suc d) (ap (workOf W) (let y : suc d - 1 ≡ d = omega arith in y) ∙ outside-idle whole sends m rm F d q)) no-copy
-            how (inr v) = R .moved (fieldAt c f) (inl (H .every c f d o l z (v .within))) ∙ ap (forwarded W) (before ∙ z)
+  module _ {W₂ : List ℕ} (R₂ : Rewritten S W W₂) where
+    -- the copies' own slots are as they were
+    pub copies-ask : Wiring s (OnPages (s .pages)) W₂ T
+    copies-ask =
+        wiring-now R₂
+        (wired h refl (λ d. refl) (λ d. refl)
+        (λ d f v l.
+        subst (Names s) (sym (placed-field h d (survivor-lives v) f (few h d f (v .used) l)))
+        (λ n. begins-page s (w .cells) (w .tables) _ (h .sends .keeps .references d f (cellNamed (fieldOf (w .cells) d f)) (survivor-lives v) l (omega arith) .used))))
+        no-copy
 
-    survivor-slot : (c f : ℕ) → Survivor s w e c → f < refCount w c → fieldOf W′ (placed W c) f ≡ forwarded W (fieldOf (w .cells) c f)
-    survivor-slot c f v l =
-        R .moved (fieldAt (placed W c) f) (inr (survivor-copy (fieldAt (placed W c) f) (record { object = c; field = f; survivor = v; low = l; at = refl })))
-        ∙ ap (forwarded W) (placed-field whole sends m rm F c (survivor-lives v) f (few c f (survivor-lives v) l))
+    pub rewritten-both : {W₃ : List ℕ} → Rewritten (Copies s W₂ T) W₂ W₃ → Rewritten (λ x. S x ⊎ Copies s W T x) W W₃
+    rewritten-both R₃ =
+        rewritten-join R₂ R₃ (λ x z q. no-copy x (slot-then R₂ x q) z) (λ x. ⊎-elim inl (λ q. inr (slot-now R₂ x q))) (λ x. ⊎-elim inl (λ q. inr (slot-then R₂ x q)))
 
-    pub slot-after : (c f : ℕ) → Lives s w e c → f < refCount w c → fieldOf W′ (placed W c) f ≡ renamed (placed W) (fieldOf (w .cells) c f)
-    slot-after c f l h =
-        ⊎-elim (λ o. ap (λ (d : ℕ). fieldOf W′ d f) (outside-placed whole sends m rm F c o) ∙ outside-slot c f o h) (λ v. survivor-slot c f v h) (lives-how l)
-        ∙ forwarded-placed W (fieldOf (w .cells) c f)
+-- ---- after the rewriting of both
 
-    -- a word after the references is no slot
-    pub rest-after : (c f : ℕ) → Lives s w e c → refCount w c ≤ f → f < mostFields → fieldOf W′ (placed W c) f ≡ fieldOf (w .cells) c f
-    rest-after c f l ge h = R .same (fieldAt (placed W c) f) (⊎-elim no-slot no-copy) ∙ placed-field whole sends m rm F c l f h
-      where
-        same : (b g : ℕ) → Lives s w e b → g < refCount w b → fieldAt (placed W c) f ≡ fieldAt (placed W b) g → ⊥
-        same b g k n z =
-            let y = fields-apart (placed W c) (placed W b) f g h (few b g k n) z in
-            let x : c ≡ b = placed-apart whole sends m rm F c b l k (y .0) in
-            omega (arith, y .1, ap (refCount w) x)
+pub record HasRewritten (s : Sizes) (w w₁ : Words) (e : Part) (W T : List ℕ) (S : ℕ → Type 0) (W′ : List ℕ) : Type 0 where
+  pub moved : HasMoved s w w₁ e W T
+  pub holding : HoldingSlots s w e S
+  pub cells : Rewritten (λ x. S x ⊎ Copies s W T x) W W′
 
-        no-slot : S (fieldAt (placed W c) f) → ⊥
-        no-slot q =
-            let k = H .slot (fieldAt (placed W c) f) q in
-            same (k .object) (k .field) (outside-lives (k .outside)) (k .low)
-            (k .at ∙ ap (λ (d : ℕ). fieldAt d (k .field)) (sym (outside-placed whole sends m rm F (k .object) (k .outside))))
+module _ {s : Sizes} {w w₁ : Words} {e : Part} {W T : List ℕ} {S : ℕ → Type 0} {W′ : List ℕ} (r : HasRewritten s w w₁ e W T S W′) where
+  h : HasMoved s w w₁ e W T
+  h = r .moved
 
-        no-copy : Copies s W T (fieldAt (placed W c) f) → ⊥
-        no-copy q = let k = copy-survivor (fieldAt (placed W c) f) q in same (k .object) (k .field) (survivor-lives (k .survivor)) (k .low) (k .at)
+  pub used-after : (d : ℕ) → Begins s W T d → Begins s W′ T d
+  used-after d u = begins-same s W T W′ T d refl (λ x b z. head-same (r .cells) (headAt x) (omega arith)) u
+
+  pub used-before : (d : ℕ) → Begins s W′ T d → Begins s W T d
+  used-before d u = begins-back s W T W′ T d refl (λ x b z. head-same (r .cells) (headAt x) (omega arith)) u
+
+  pub head-after : (c : ℕ) → Lives s w e c → headOf W′ (placed W c) ≡ headIn w c
+  head-after c l = head-same (r .cells) (headAt (placed W c)) (omega arith) ∙ placed-head h c l
+
+  pub work-after : (c : ℕ) → Lives s w e c → workOf W′ (placed W c) ≡ 0
+  work-after c l = link-same (r .cells) (placed W c) ∙ placed-work h c l
+
+  -- a reference that is not to be moved stays, whether its slot is looked at or not
+  unmoved : (x v : ℕ) → getD W x 0 ≡ v → forwarded W v ≡ v → (Copies s W T x → ⊥) → getD W′ x 0 ≡ forwarded W v
+  unmoved x v g still none = go (ℕ-discrete (getD W′ x 0) v)
+    where
+      go : Dec (getD W′ x 0 ≡ v) → getD W′ x 0 ≡ forwarded W v
+      go (yes z) = z ∙ sym still
+      go (no n) =
+          absurd (n (r .cells .same x (⊎-elim (λ q. n (r .cells .moved x (inl q) ∙ ap (forwarded W) g ∙ still)) none) ∙ g))
+
+  outside-slot : (c f : ℕ) → Outside s w e c → f < refCount w c → fieldOf W′ c f ≡ forwarded W (fieldOf (w .cells) c f)
+  outside-slot c f o l = go (fieldOf (w .cells) c f) refl
+    where
+      before : fieldOf W c f ≡ fieldOf (w .cells) c f
+      before = ap (λ (d : ℕ). fieldOf W d f) (sym (outside-placed h c o)) ∙ placed-field h c (outside-lives o) f (few h c f (o .used) l)
+
+      go : (v : ℕ) → fieldOf (w .cells) c f ≡ v → fieldOf W′ c f ≡ forwarded W v
+      go zero z = unmoved (fieldAt c f) zero (before ∙ z) (forward-null W zero refl) (old-no-copy h c f (o .used) l)
+      go (suc d) z = how (lives-how (h .sends .keeps .references c f d (outside-lives o) l z))
+        where
+          how : Outside s w e d ⊎ Survivor s w e d → fieldOf W′ c f ≡ forwarded W (suc d)
+          how (inl q) =
+              unmoved (fieldAt c f) (suc d) (before ∙ z)
+              (forward-still W (suc d) (ap (workOf W) (let y : suc d - 1 ≡ d = omega arith in y) ∙ outside-idle h d q)) (old-no-copy h c f (o .used) l)
+          how (inr v) = r .cells .moved (fieldAt c f) (inl (r .holding .every c f d o l z (v .within))) ∙ ap (forwarded W) (before ∙ z)
+
+  survivor-slot : (c f : ℕ) → Survivor s w e c → f < refCount w c → fieldOf W′ (placed W c) f ≡ forwarded W (fieldOf (w .cells) c f)
+  survivor-slot c f v l =
+      r .cells .moved (fieldAt (placed W c) f) (inr (survivor-copy h (fieldAt (placed W c) f) (record { object = c; field = f; survivor = v; low = l; at = refl })))
+      ∙ ap (forwarded W) (placed-field h c (survivor-lives v) f (few h c f (v .used) l))
+
+  pub slot-after : (c f : ℕ) → Lives s w e c → f < refCount w c → fieldOf W′ (placed W c) f ≡ renamed (placed W) (fieldOf (w .cells) c f)
+  slot-after c f l m =
+      ⊎-elim (λ o. ap (λ (d : ℕ). fieldOf W′ d f) (outside-placed h c o) ∙ outside-slot c f o m) (λ v. survivor-slot c f v m) (lives-how l)
+      ∙ forwarded-placed W (fieldOf (w .cells) c f)
+
+  -- so it names a cell
+  pub names-after : (c f : ℕ) → Lives s w e c → f < refCount w c → Names s (fieldOf W′ (placed W c) f)
+  names-after c f l m = subst (Names s) (sym (slot-after c f l m)) (go (fieldOf (w .cells) c f) refl)
+    where
+      go : (v : ℕ) → fieldOf (w .cells) c f ≡ v → Names s (renamed (placed W) v)
+      go zero z n = absurd (n refl)
+      go (suc d) z n =
+          subst (λ (x : ℕ). pageOf x < s .pages) (let y : placed W d ≡ cellNamed (suc (placed W d)) = omega arith in y)
+          (placed-page h d (h .sends .keeps .references c f d l m z))
+
+  pub wired-after : Wiring s (OnPages (s .pages)) W′ T
+  wired-after = wired h (r .cells .size) (link-same (r .cells)) (refs-same (r .cells)) (λ d f v. names-after d f (survivor-lives v))
+
+  -- a word after the references is no slot
+  pub rest-after : (c f : ℕ) → Lives s w e c → refCount w c ≤ f → f < mostFields → fieldOf W′ (placed W c) f ≡ fieldOf (w .cells) c f
+  rest-after c f l ge m = r .cells .same (fieldAt (placed W c) f) (⊎-elim no-slot no-copy′) ∙ placed-field h c l f m
+    where
+      same : (b g : ℕ) → Lives s w e b → g < refCount w b → fieldAt (placed W c) f ≡ fieldAt (placed W b) g → ⊥
+      same b g k n z =
+          let y = fields-apart (placed W c) (placed W b) f g m (few h b g (k .used) n) z in
+          let x : c ≡ b = placed-apart h c b l k (y .0) in
+          omega (arith, y .1, ap (refCount w) x)
+
+      no-slot : S (fieldAt (placed W c) f) → ⊥
+      no-slot q =
+          let k = r .holding .slot (fieldAt (placed W c) f) q in
+          same (k .object) (k .field) (outside-lives (k .outside)) (k .low)
+          (k .at ∙ ap (λ (d : ℕ). fieldAt d (k .field)) (sym (outside-placed h (k .object) (k .outside))))
+
+      no-copy′ : Copies s W T (fieldAt (placed W c) f) → ⊥
+      no-copy′ q = let k = copy-survivor h (fieldAt (placed W c) f) q in same (k .object) (k .field) (survivor-lives (k .survivor)) (k .low) (k .at)

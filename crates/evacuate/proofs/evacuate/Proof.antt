@@ -9,6 +9,8 @@ use Rattle.rules.specs.Regions.{regionAt}
 use Rattle.layout.specs.Places.{depthOf, ownerOf}
 use Rattle.layout.specs.Words.{Words, words, depthIn}
 use Rattle.copy.specs.Copying.{Plan, Copy}
+use Rattle.ending.specs.Rewriting.{rewritten-both}
+use Rattle.ending.specs.Finish.{variables-ask}
 use Rattle.ending.specs.Ending.{room-now, depth-high, begun, plan-at, copied-at, has-ended}
 use Rattle.ending.specs.Stages as st
 use Rattle.ending.specs.Stages.{Begun}
@@ -79,7 +81,7 @@ rewrite-variables-requires c κs =
     let b = started (c .before .before .before .before .before .before .before .before .before .before .before .before .before .before .before .before .before .before .before .before .before .before .before .before .before) in
     let p = planned (c .before .before .before .before .before .before .before .before .before .before .before .before .before .before .before .before .before .before .before .before .before .before .before .before .before) in
     let k = copied (c .before .before .before .before .before .before .before .before .before .before .before .before .before .before .before .before .before .before .before .before .before .before .before .before .before) (c .before .before .before .before .before .before .before .before .before .before .before .before .before .before .before .before .before .before .before .before .before .copy-survivors .ensures) in
-    (st.variables-ask b p k, (omega (arith, st.slots-ask b p k .cells-long, c .before .before .before .before .before .before .before .before .before .before .before .before .rewrite-slots .ensures .size, c .before .before .before .before .before .before .settle .ensures .0 .size), st.tables-ask b p k))
+    (variables-ask (st.moved b p k), (omega (arith, st.slots-ask b p k .cells-long, c .before .before .before .before .before .before .before .before .before .before .before .before .rewrite-slots .ensures .size, c .before .before .before .before .before .before .settle .ensures .0 .size), st.moved b p k .ready .regular .room))
 
 release-requires : tie.Need-release-requires
 release-requires c κs =
@@ -109,7 +111,7 @@ returns c cells tables e a =
     let er = c .before .before .before .before .before .before .before .before .before .before .before .before .before .before .before .before .before .before .before .before .before .before .before .before .before .before .before .before .before .before .before .before .before .before .before .region-at .ensures in
     let el = level (c .before .before .before .before .before .before .before .before .before .before .before .before .before .before .before .before .before .before .before .before .before .before .before .before .before .before .before .before .before .before .before .before .before .before .before) in
     let k = copied-at e er el a (c .before .before .before .before .before .before .before .before .before .before .before .before .before .before .before .before .before .before .before .before .before .before .before .before .before .before .before .before .before .before .before .copy-survivors .ensures) in
-    has-ended e er el a k (st.rewritten-both (begun e er el) (st.plan (begun e er el) (a .pages)) k (c .before .before .before .before .before .before .before .before .before .before .before .before .before .before .before .before .before .before .before .before .before .before .rewrite-slots .ensures) (settle .ensures .0)) (settle .ensures .1) (c .before .before .before .before .before .before .before .before .before .rewrite-variables .ensures) (c .before .before .before .before .release .ensures)
+    has-ended e er el a k (rewritten-both (st.moved (begun e er el) (st.plan (begun e er el) (a .pages)) k) (st.held (begun e er el)) (c .before .before .before .before .before .before .before .before .before .before .before .before .before .before .before .before .before .before .before .before .before .before .rewrite-slots .ensures) (settle .ensures .0)) (settle .ensures .1) (c .before .before .before .before .before .before .before .before .before .rewrite-variables .ensures) (c .before .before .before .before .release .ensures)
 
 pub evacuate-spec : {M : Type 1} → statement M
 evacuate-spec =
