@@ -9,18 +9,17 @@ use Rattle.rules.specs.declared.Sizes.{Sizes}
 use Rattle.laws.specs.SameRules.{renamed}
 use Rattle.layout.specs.declared.Kind.the-variants.{Reference}
 use Rattle.layout.specs.Places.{ownerOf, usedIn, slotIn, slotRegionIn, cellsWords}
-use Rattle.layout.specs.Cells.{fieldAt, fieldOf, refsOf, fieldCount, roomFor, pageOf, pageAt, cellNamed, field-page}
+use Rattle.layout.specs.Cells.{fieldAt, fieldOf, refsOf, fieldCount, roomFor, pageOf, pageAt, cellNamed}
 use Rattle.layout.specs.Objects.{Slot, field-inside, slot-page}
 use Rattle.layout.specs.Words.{Words, BeginsIn, ownerIn, headIn, refCount}
 use Rattle.remember.specs.Crossing.{crossTo, crossesFrom}
 use Rattle.remember.specs.Crosses.{crosses-into, into-crosses, crosses-null, slot-cross, cross-slot}
 use Rattle.promises.specs.Whole.{WholeFor}
 use Rattle.promises.specs.Reading.{refs-room}
-use Rattle.promises.specs.Ends.{Part, Lives, survivor-lives}
+use Rattle.promises.specs.Ends.{Part, Lives}
 use Rattle.settle.specs.Append.{crossAt}
-use Rattle.settle.specs.Update.{Copies}
-use Rattle.ending.specs.Placing.{HasMoved, placed, few, placed-used, placed-page, placed-only}
-use Rattle.ending.specs.Rewriting.{HasRewritten, copy-survivor, slot-after, head-after, used-after, used-before}
+use Rattle.ending.specs.Placing.{HasMoved, placed, placed-used, placed-page, placed-only}
+use Rattle.ending.specs.Rewriting.{LiveSlot, HasRewritten, live-after, head-after, used-after, used-before}
 
 -- ---- whole words
 
@@ -32,8 +31,8 @@ module _ {s : Sizes} {w : Words} (whole : WholeFor s w) where
       slot-cross s (w .cells) (w .tables) x q
       ∙ ap₂ (λ (p y : ℕ). crossesFrom s (w .tables) (ownerIn s w p) (getD (w .cells) y 0)) (slot-page s (w .cells) (w .tables) x q) (sym (q .at))
 
-  room : (c f : ℕ) → BeginsIn s w c → f < refCount w c → f < roomFor (headIn w c)
-  room c f u l = omega (arith, refs-room s w whole c u)
+  pub ref-room : (c f : ℕ) → BeginsIn s w c → f < refCount w c → f < roomFor (headIn w c)
+  ref-room c f u l = omega (arith, refs-room s w whole c u)
 
   entered : (x g : ℕ) → x < cellsWords s → 1 < g → g ≡ crossTo s (w .cells) (w .tables) x
       → (i : ℕ) × (i < usedIn (w .remember)) × (slotIn (w .remember) i ≡ x) × (slotRegionIn (s .entries) (w .remember) i ≡ g)
@@ -46,7 +45,7 @@ module _ {s : Sizes} {w : Words} (whole : WholeFor s w) where
       → ownerIn s w (pageOf d) ≢ ownerIn s w (pageOf c)
       → (i : ℕ) × (i < usedIn (w .remember)) × (slotIn (w .remember) i ≡ fieldAt c f) × (slotRegionIn (s .entries) (w .remember) i ≡ ownerIn s w (pageOf d))
   entry-of c f d u l z p high other =
-      let m = room c f u l in
+      let m = ref-room c f u l in
       let y : cellNamed (fieldOf (w .cells) c f) ≡ d = omega arith in
       entered (fieldAt c f) (ownerIn s w (pageOf d)) (field-inside s (w .cells) (w .tables) c u f m) high
       (into-crosses s (w .tables) (ownerIn s w (pageOf c)) (fieldOf (w .cells) c f) (ownerIn s w (pageOf d))
@@ -89,14 +88,6 @@ module _ {s : Sizes} {w : Words} (whole : WholeFor s w) where
 
 -- ---- after the rewriting
 
--- the word at x is a reference of an object that lives on, in its cell
-pub record LiveSlot (s : Sizes) (w : Words) (e : Part) (W : List ℕ) (x : ℕ) : Type 0 where
-  pub object : ℕ
-  pub field : ℕ
-  pub lives : Lives s w e object
-  pub low : field < refCount w object
-  pub at : x ≡ fieldAt (placed W object) field
-
 -- The remember table is told E, an entry by its slot and its region: the slots that cross afterwards. The pages are those of before the
 -- release.
 pub record Told (s : Sizes) (w : Words) (e : Part) (W T W′ : List ℕ) (E : ℕ → ℕ → Type 0) : Type 0 where
@@ -123,7 +114,7 @@ module _ {s : Sizes} {w w₁ : Words} {e : Part} {W T : List ℕ} {S : ℕ → T
         object = placed W c;
         field = q .field;
         begins = used-after r (placed W c) (placed-used h c (q .lives));
-        room = omega (arith, room (h .whole) c (q .field) (q .lives .used) (q .low), ap roomFor (head-after r c (q .lives)));
+        room = omega (arith, ref-room (h .whole) c (q .field) (q .lives .used) (q .low), ap roomFor (head-after r c (q .lives)));
         low = omega (arith, q .low, refs-after c (q .lives));
         at = sym (q .at);
       }
@@ -143,40 +134,35 @@ module _ {s : Sizes} {w w₁ : Words} {e : Part} {W T : List ℕ} {S : ℕ → T
   unfolding live-slot
   live-page x q = slot-page s W′ T x (live-slot x q)
 
-  pub copies-live : (x : ℕ) → Copies s W T x → LiveSlot s w e W x
-  copies-live x q =
-      let k = copy-survivor h x q in
-      record { object = k .object; field = k .field; lives = survivor-lives (k .survivor); low = k .low; at = k .at }
-
   -- the region that one crosses into afterwards
-  cross-live : (c f : ℕ) → Lives s w e c → f < refCount w c → crossAt s W′ T (fieldAt (placed W c) f) ≡ crossesFrom s T (home c) (renamed (placed W) (fieldOf (w .cells) c f))
-  cross-live c f l m =
-      ap₂ (λ (p x : ℕ). crossesFrom s T (ownerOf s T p) x) (field-page (placed W c) f (few h c f (l .used) m)) (slot-after r c f l m)
+  cross-live : (x : ℕ) (q : LiveSlot s w e W x) → crossAt s W′ T x ≡ crossesFrom s T (home (q .object)) (renamed (placed W) (fieldOf (w .cells) (q .object) (q .field)))
+  cross-live x q = ap₂ (λ (p y : ℕ). crossesFrom s T (ownerOf s T p) y) (live-page x q) (live-after r x q)
 
   -- it crosses exactly if it names an object of another region than its own and than the control space
-  pub live-names : (c f : ℕ) → Lives s w e c → f < refCount w c → crossAt s W′ T (fieldAt (placed W c) f) ≢ 0
-      → (d : ℕ) × Lives s w e d × (fieldOf (w .cells) c f ≡ suc d) × (crossAt s W′ T (fieldAt (placed W c) f) ≡ home d) × (1 < home d) × (home d ≢ home c)
-  live-names c f l m n = go (fieldOf (w .cells) c f) refl
+  pub crosses-names : (x : ℕ) (q : LiveSlot s w e W x) → crossAt s W′ T x ≢ 0
+      → (d : ℕ) × Lives s w e d × (fieldOf (w .cells) (q .object) (q .field) ≡ suc d) × (crossAt s W′ T x ≡ home d) × (1 < home d) × (home d ≢ home (q .object))
+  crosses-names x q n = go (fieldOf (w .cells) (q .object) (q .field)) refl
     where
-      go : (v : ℕ) → fieldOf (w .cells) c f ≡ v
-          → (d : ℕ) × Lives s w e d × (fieldOf (w .cells) c f ≡ suc d) × (crossAt s W′ T (fieldAt (placed W c) f) ≡ home d) × (1 < home d) × (home d ≢ home c)
-      go zero z = absurd (n (cross-live c f l m ∙ ap (λ (x : ℕ). crossesFrom s T (home c) (renamed (placed W) x)) z ∙ sym (crosses-null s T (home c) 0 refl)))
-      go (suc d) z =
-          let q : crossAt s W′ T (fieldAt (placed W c) f) ≡ crossesFrom s T (home c) (suc (placed W d)) = cross-live c f l m ∙ ap (λ (x : ℕ). crossesFrom s T (home c) (renamed (placed W) x)) z in
-          let v = crosses-into s T (home c) (suc (placed W d)) (crossAt s W′ T (fieldAt (placed W c) f)) q n in
-          let y : cellNamed (suc (placed W d)) ≡ placed W d = omega arith in
-          let g : crossAt s W′ T (fieldAt (placed W c) f) ≡ home d = v .region ∙ ap (λ (x : ℕ). ownerOf s T (pageOf x)) y in
-          (d, h .sends .keeps .references c f d l m z, z, g, omega (arith, v .high, g), λ p. v .other (g ∙ p))
+      g : ℕ
+      g = home (q .object)
 
-  pub names-live : (c f d : ℕ) → Lives s w e c → f < refCount w c → fieldOf (w .cells) c f ≡ suc d → 1 < home d → home d ≢ home c
-      → crossAt s W′ T (fieldAt (placed W c) f) ≡ home d
-  names-live c f d l m z up ne =
+      go : (v : ℕ) → fieldOf (w .cells) (q .object) (q .field) ≡ v
+          → (d : ℕ) × Lives s w e d × (fieldOf (w .cells) (q .object) (q .field) ≡ suc d) × (crossAt s W′ T x ≡ home d) × (1 < home d) × (home d ≢ home (q .object))
+      go zero z = absurd (n (cross-live x q ∙ ap (λ (y : ℕ). crossesFrom s T g (renamed (placed W) y)) z ∙ sym (crosses-null s T g 0 refl)))
+      go (suc d) z =
+          let v = crosses-into s T g (suc (placed W d)) (crossAt s W′ T x) (cross-live x q ∙ ap (λ (y : ℕ). crossesFrom s T g (renamed (placed W) y)) z) n in
+          let y : cellNamed (suc (placed W d)) ≡ placed W d = omega arith in
+          let o : crossAt s W′ T x ≡ home d = v .region ∙ ap (λ (y : ℕ). ownerOf s T (pageOf y)) y in
+          (d, h .sends .keeps .references (q .object) (q .field) d (q .lives) (q .low) z, z, o, omega (arith, v .high, o), λ p. v .other (o ∙ p))
+
+  pub names-cross : (x : ℕ) (q : LiveSlot s w e W x) (d : ℕ) → fieldOf (w .cells) (q .object) (q .field) ≡ suc d → 1 < home d → home d ≢ home (q .object) → crossAt s W′ T x ≡ home d
+  names-cross x q d z up ne =
       let y : cellNamed (suc (placed W d)) ≡ placed W d = omega arith in
-      cross-live c f l m ∙ ap (λ (x : ℕ). crossesFrom s T (home c) (renamed (placed W) x)) z
-      ∙ sym (into-crosses s T (home c) (suc (placed W d)) (home d)
+      cross-live x q ∙ ap (λ (y : ℕ). crossesFrom s T (home (q .object)) (renamed (placed W) y)) z
+      ∙ sym (into-crosses s T (home (q .object)) (suc (placed W d)) (home d)
       (record {
-        real = λ q. omega arith;
-        page = subst (λ (x : ℕ). pageOf x < s .pages) (sym y) (placed-page h d (h .sends .keeps .references c f d l m z));
+        real = λ p. omega arith;
+        page = subst (λ (x : ℕ). pageOf x < s .pages) (sym y) (placed-page h d (h .sends .keeps .references (q .object) (q .field) d (q .lives) (q .low) z));
         region = ap (λ (x : ℕ). ownerOf s T (pageOf x)) (sym y);
         high = up;
         other = ne;

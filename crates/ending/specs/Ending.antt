@@ -27,9 +27,9 @@ use Rattle.ended.specs.EndQuestion.{pagesNeeded, crossingAfter}
 use Rattle.ended.specs.AfterEnd.{endOf}
 use Rattle.ending.specs.MarkedWords.{depth-same}
 use Rattle.ending.specs.Placing.{placed}
-use Rattle.ending.specs.Region.{Held, told}
+use Rattle.ending.specs.Region.{Held}
 use Rattle.ending.specs.Finish.{evacuated, vacated}
-use Rattle.ending.specs.Stages.{Begun, high, plan, rewritten, gave-back, lowered}
+use Rattle.ending.specs.Stages.{Begun, plan, rewritten, entries-told, gave-back, lowered}
 
 -- the innermost region of thread t is ending: its survivors are marked in w₁, which was w
 pub record Ending (s : Sizes) (t : ℕ) (w w₁ : Words) : Type 0 where
@@ -104,8 +104,8 @@ module _ {s : Sizes} {t : ℕ} {w w₁ : Words} (e : Ending s t w w₁) where
           let e : r ≡ regionAt s t (depthIn w t) = er ∙ ap (regionAt s t) level-is in
           record {
             cell = placed W;
-            evacuated = subst (λ (q : ℕ). Evacuated s w (partOf s w q) (words W′ M′ T′) (placed W)) e (evacuated k (told (high begun) k) u v g);
-            vacated = subst (λ (q : ℕ). Vacated s (partOf s w q) (words W′ M′ T′)) e (vacated k (told (high begun) k) u v g);
+            evacuated = subst (λ (q : ℕ). Evacuated s w (partOf s w q) (words W′ M′ T′) (placed W)) e (evacuated k (entries-told begun p c R) u v g);
+            vacated = subst (λ (q : ℕ). Vacated s (partOf s w q) (words W′ M′ T′)) e (vacated k (entries-told begun p c R) u v g);
             lowered = lowered begun p c v z;
           }
 

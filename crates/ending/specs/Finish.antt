@@ -12,7 +12,7 @@ use Rattle.lists.specs.Stores.{drop-same}
 use Rattle.rules.specs.declared.Sizes.{Sizes}
 use Rattle.laws.specs.SameRules.{renamed}
 use Rattle.layout.specs.Places.{Room, depthAt, varAt, ownerAt, usedAt, markAt, countAt, varOf, ownerOf, usedOf, markOf, cellsWords, rememberWords, tablesWords, count-room, countsFrom, ownersFrom, varsFrom}
-use Rattle.layout.specs.Cells.{fieldAt, fieldOf, cellNamed, pageOf, cellOn, page-on, room-most}
+use Rattle.layout.specs.Cells.{fieldOf, cellNamed, pageOf, cellOn, page-on, room-most}
 use Rattle.layout.specs.Objects.{Slot, begins-page, begins-same, begins-back, begins-used, begins-there, slot-low, slot-page}
 use Rattle.layout.specs.Words.{Words, words, Begins, Names, ownerIn, headIn}
 use Rattle.remember.specs.Crossing.{other, regionOf, crossTo, crossesFrom}
@@ -30,13 +30,12 @@ use Rattle.copy.specs.Taking.{Regular, room-same}
 use Rattle.settle.specs.Rewrite.{forward-same, link-same}
 use Rattle.settle.specs.RewriteSlots.{Variables}
 use Rattle.settle.specs.Append.{crossAt}
-use Rattle.settle.specs.Update.{Copies}
 use Rattle.release.specs.Release.{Blank, Alike}
 use Rattle.ended.specs.Evacuated.{Evacuated, Vacated}
 use Rattle.ending.specs.MarkedWords.{table-same, var-same}
-use Rattle.ending.specs.Placing.{HasMoved, placed, forwarded-placed, outside-placed, outside-home, survivor-home, placed-used, placed-out, placed-apart, placed-only}
-use Rattle.ending.specs.Rewriting.{HasRewritten, slot-after, rest-after, head-after, work-after, used-after, used-before}
-use Rattle.ending.specs.Crossing.{LiveSlot, Told, live-slot, slot-live, live-page, copies-live}
+use Rattle.ending.specs.Placing.{HasMoved, placed, forwarded-placed, page-of, outside-placed, outside-home, survivor-home, placed-used, placed-out, placed-apart, placed-only}
+use Rattle.ending.specs.Rewriting.{LiveSlot, copies-live, held-live, HasRewritten, slot-after, live-after, rest-after, head-after, work-after, used-after, used-before}
+use Rattle.ending.specs.Crossing.{Told, live-slot, slot-live, live-page}
 
 -- two lists of one length with the same words from n on
 same-from : (n : ℕ) (l k : List ℕ) → length k ≡ length l → ((x : ℕ) → n ≤ x → getD k x 0 ≡ getD l x 0) → SameFrom n l k
@@ -73,7 +72,7 @@ module _ {s : Sizes} {w w₁ : Words} {e : Part} {W T : List ℕ} (h : HasMoved 
   pub variables-ask : (i : ℕ) → i < s .threads * s .variables → Names s (varOf s T i)
   variables-ask i l =
       subst (Names s) (sym (variable-same i l))
-      (λ n. begins-page s (w .cells) (w .tables) (cellNamed (varOf s (w .tables) i)) (h .sends .keeps .variables i (cellNamed (varOf s (w .tables) i)) l (omega arith) .used))
+      (λ n. page-of h (cellNamed (varOf s (w .tables) i)) (h .sends .keeps .variables i (cellNamed (varOf s (w .tables) i)) l (omega arith) .used))
 
   -- their rewriting leaves the pages and the counts as the copy left them, and what comes before them as it was
   module _ {X T₂ : List ℕ} (Y : Variables s (s .threads * s .variables) X T T₂) where
@@ -179,9 +178,6 @@ module _ {s : Sizes} {w w₁ : Words} {e : Part} {W T : List ℕ} {S : ℕ → T
       slot-cross s W′ T′ x (slot-end x q)
       ∙ ap₂ other (ap (ownerOf s T′) (live-page k x q) ∙ home-end (q .object) (q .lives) ∙ ap (ownerOf s T) (sym (live-page k x q))) region
     where
-      value : getD W′ x 0 ≡ renamed (placed W) (fieldOf (w .cells) (q .object) (q .field))
-      value = ap (λ (y : ℕ). getD W′ y 0) (q .at) ∙ slot-after k (q .object) (q .field) (q .lives) (q .low)
-
       same : (v : ℕ) → fieldOf (w .cells) (q .object) (q .field) ≡ v → regionOf s T′ (renamed (placed W) v) ≡ regionOf s T (renamed (placed W) v)
       same zero z = refl
       same (suc d) z =
@@ -189,7 +185,7 @@ module _ {s : Sizes} {w w₁ : Words} {e : Part} {W T : List ℕ} {S : ℕ → T
           region-of s T′ (placed W d) (begins-used s W′ T′ (placed W d) (used d y)) ∙ home-end d y ∙ sym (region-of s T (placed W d) (begins-used s W T (placed W d) (placed-used h d y)))
 
       region : regionOf s T′ (getD W′ x 0) ≡ regionOf s T (getD W′ x 0)
-      region = ap (regionOf s T′) value ∙ same (fieldOf (w .cells) (q .object) (q .field)) refl ∙ ap (regionOf s T) (sym value)
+      region = ap (regionOf s T′) (live-after k x q) ∙ same (fieldOf (w .cells) (q .object) (q .field)) refl ∙ ap (regionOf s T) (sym (live-after k x q))
 
   remember : RememberWhole s w′
   remember =
@@ -226,19 +222,11 @@ module _ {s : Sizes} {w w₁ : Words} {e : Part} {W T : List ℕ} {S : ℕ → T
 
   far : (x : ℕ) → cellsWords s ≤ x → getD W′ x 0 ≡ getD (w .cells) x 0
   far x l =
-      k .cells .same x (⊎-elim far-slot far-copy) ∙ h .forwards .copying .beyond x l
-      ∙ h .marks .cells x (λ d z u o. omega (arith, begins-page s (w .cells) (w .tables) d u))
+      k .cells .same x (⊎-elim (λ q. low (held-live h (k .holding) x q)) (λ q. low (copies-live h x q))) ∙ h .forwards .copying .beyond x l
+      ∙ h .marks .cells x (λ d z u o. omega (arith, page-of h d u))
     where
       low : LiveSlot s w e W x → ⊥
       low q = omega (arith, slot-low s W′ T x (live-slot k x q))
-
-      far-slot : S x → ⊥
-      far-slot q =
-          let o = k .holding .slot x q in
-          low (record { object = o .object; field = o .field; lives = outside-lives (o .outside); low = o .low; at = o .at ∙ ap (λ (d : ℕ). fieldAt d (o .field)) (sym (outside-placed h (o .object) (o .outside))) })
-
-      far-copy : Copies s W T x → ⊥
-      far-copy q = low (copies-live k x q)
 
   -- a word of the tables before the depths or after the tables
   same-word : (x : ℕ) → (depthAt 0 ≤ x → tablesWords s ≤ x) → getD T′ x 0 ≡ getD (w .tables) x 0

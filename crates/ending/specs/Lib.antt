@@ -7,6 +7,7 @@ pub mod Placing
 -- references and the remember table go by these cells
 pub mod Rewriting
 pub mod Crossing
+pub mod Remembering
 pub mod CrossingPositions
 pub mod Space
 -- the words after the end

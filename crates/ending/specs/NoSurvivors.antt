@@ -55,7 +55,7 @@ module _ {s : Sizes} {t k r : ℕ} {w w₁ : Words} (b : Begun s t k r w w₁) (
     pub none-copies : (x : ℕ) → Copies s (w₁ .cells) (w₁ .tables) x → ⊥
     none-copies x q =
         let o = copy-survivor (moved b p none-copied) x q in
-        no-survivor (o .object) (o .survivor)
+        no-survivor (o .0 .object) (o .1)
 
     pub none-rewritten : Rewritten (λ x. Held s w r x ⊎ Copies s (w₁ .cells) (w₁ .tables) x) (w₁ .cells) (w₁ .cells)
     none-rewritten = rewritten-none (λ x. Held s w r x ⊎ Copies s (w₁ .cells) (w₁ .tables) x) (w₁ .cells) (λ x. ⊎-elim (none-held x) (none-copies x))

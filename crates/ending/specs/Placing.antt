@@ -11,7 +11,7 @@ use Rattle.laws.specs.SameRules.{renamed}
 use Rattle.layout.specs.Places.{Room, ownerOf, markOf}
 use Rattle.layout.specs.Cells.{headAt, fieldAt, wordAt, headOf, workOf, fieldOf, cellNamed, refTo, pageOf, cellOn, mostFields, cellWords, most-is, page-on}
 use Rattle.layout.specs.Marks.{marked}
-use Rattle.layout.specs.Objects.{begins-page, begins-there}
+use Rattle.layout.specs.Objects.{begins-page, begins-used, begins-there}
 use Rattle.layout.specs.Words.{Words, Begins, BeginsIn, ownerIn, headIn, refCount}
 use Rattle.promises.specs.Whole.{WholeFor}
 use Rattle.promises.specs.Reading.{refs-few}
@@ -79,7 +79,7 @@ forwarded-placed W (suc c) = go (ℕ-discrete (workOf W c) 0)
 module _ {s : Sizes} {w w₁ : Words} {e : Part} {W T : List ℕ} (h : HasMoved s w w₁ e W T) where
   -- ---- the objects of before
 
-  page-of : (c : ℕ) → BeginsIn s w c → pageOf c < s .pages
+  pub page-of : (c : ℕ) → BeginsIn s w c → pageOf c < s .pages
   page-of = begins-page s (w .cells) (w .tables)
 
   now : (c : ℕ) → BeginsIn s w c → BeginsIn s w₁ c
@@ -126,7 +126,7 @@ module _ {s : Sizes} {w w₁ : Words} {e : Part} {W T : List ℕ} (h : HasMoved 
     survivor-placed = placed-moved W c (forward W c) survivor-forward
 
     pub survivor-fresh : BeginsIn s w (forward W c) → ⊥
-    survivor-fresh u = copy .new (now (forward W c) u)
+    survivor-fresh u = copy .new (begins-used s (w₁ .cells) (w₁ .tables) (forward W c) (now (forward W c) u))
 
     pub survivor-owner : ownerOf s T (pageOf (forward W c)) ≡ e .goes c
     survivor-owner = copy .home ∙ h .marks .goes c (v .used) (v .within)

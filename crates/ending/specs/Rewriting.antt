@@ -11,7 +11,7 @@ use Rattle.rules.specs.declared.Sizes.{Sizes}
 use Rattle.laws.specs.SameRules.{renamed}
 use Rattle.layout.specs.declared.Kind.the-variants.{Reference}
 use Rattle.layout.specs.Cells.{headAt, fieldAt, headOf, workOf, fieldOf, refsOf, fieldCount, pageOf, cellNamed, mostFields, field-apart, field-once}
-use Rattle.layout.specs.Objects.{begins-page, begins-same, begins-back}
+use Rattle.layout.specs.Objects.{begins-same, begins-back}
 use Rattle.layout.specs.Words.{Words, Begins, BeginsIn, Names, headIn, refCount}
 use Rattle.promises.specs.Reading.{refs-few}
 use Rattle.promises.specs.Ends.{Part, Outside, Survivor, Lives, outside-lives, survivor-lives, lives-how}
@@ -20,7 +20,7 @@ use Rattle.settle.specs.RewriteSlots.{Fields}
 use Rattle.settle.specs.RewriteCopies.{Old, Wiring, wiring-now, OnPages, slot-now, slot-then}
 use Rattle.settle.specs.Update.{Copies}
 use Rattle.ending.specs.MarkedWords.{marked-survivor}
-use Rattle.ending.specs.Placing.{HasMoved, placed, forwarded-placed, old-used, few, outside-idle, outside-placed, on, survivor-forward, survivor-placed, survivor-fresh, placed-page, placed-head, placed-field, placed-work, placed-apart, moved-survivor}
+use Rattle.ending.specs.Placing.{HasMoved, placed, forwarded-placed, page-of, old-used, few, outside-idle, outside-placed, on, survivor-forward, survivor-placed, survivor-fresh, placed-page, placed-head, placed-field, placed-work, placed-apart, moved-survivor}
 
 -- fields of different objects stand apart
 pub fields-apart : (c d f g : ℕ) → f < mostFields → g < mostFields → fieldAt c f ≡ fieldAt d g → (c ≡ d) × (f ≡ g)
@@ -39,11 +39,11 @@ pub record HoldingSlots (s : Sizes) (w : Words) (e : Part) (S : ℕ → Type 0) 
   pub slot : (x : ℕ) → S x → OutsideSlot s w e x
   pub every : (c f d : ℕ) → Outside s w e c → f < refCount w c → fieldOf (w .cells) c f ≡ suc d → e .ends (pageOf d) → S (fieldAt c f)
 
--- the word at x is a reference of a survivor, in its new cell
-pub record SurvivorSlot (s : Sizes) (w : Words) (e : Part) (W : List ℕ) (x : ℕ) : Type 0 where
+-- the word at x is a reference of an object that lives on, in its cell
+pub record LiveSlot (s : Sizes) (w : Words) (e : Part) (W : List ℕ) (x : ℕ) : Type 0 where
   pub object : ℕ
   pub field : ℕ
-  pub survivor : Survivor s w e object
+  pub lives : Lives s w e object
   pub low : field < refCount w object
   pub at : x ≡ fieldAt (placed W object) field
 
@@ -54,31 +54,44 @@ module _ {s : Sizes} {w w₁ : Words} {e : Part} {W T : List ℕ} (h : HasMoved 
   copy-cell : (c : ℕ) → Survivor s w e c → workOf W c - 1 ≡ placed W c
   copy-cell c v = omega (arith, survivor-forward h c v, survivor-placed h c v)
 
-  -- ---- the slots of the copies are the survivors' references
-
-  pub copy-survivor : (x : ℕ) → Copies s W T x → SurvivorSlot s w e W x
-  copy-survivor x q =
-      let v = moved-survivor h (q .cell) (q .old .used) (q .old .moved) in
-      let z = copy-cell (q .cell) v in
+  abbrev pub outside-live : (x : ℕ) → OutsideSlot s w e x → LiveSlot s w e W x
+  outside-live x q =
       record {
-        object = q .cell;
-        field = q .field .field;
-        survivor = v;
-        low = omega (arith, q .field .low, ap (refsOf W) z, refs-placed (q .cell) (survivor-lives v));
-        at = q .field .at ∙ ap (λ (d : ℕ). fieldAt d (q .field .field)) z;
+        object = q .object;
+        field = q .field;
+        lives = outside-lives (q .outside);
+        low = q .low;
+        at = q .at ∙ ap (λ (d : ℕ). fieldAt d (q .field)) (sym (outside-placed h (q .object) (q .outside)));
       }
 
-  pub survivor-copy : (x : ℕ) → SurvivorSlot s w e W x → Copies s W T x
-  survivor-copy x q =
-      let v = q .survivor in
+  -- the slots of the copies are the survivors' references
+  pub copy-survivor : (x : ℕ) → Copies s W T x → (q : LiveSlot s w e W x) × Survivor s w e (q .object)
+  copy-survivor x q =
+      let v = moved-survivor h (q .cell) (q .old .used) (q .old .moved) in
+      let z = copy-cell (q .cell) v in (
+        record {
+          object = q .cell;
+          field = q .field .field;
+          lives = survivor-lives v;
+          low = omega (arith, q .field .low, ap (refsOf W) z, refs-placed (q .cell) (survivor-lives v));
+          at = q .field .at ∙ ap (λ (d : ℕ). fieldAt d (q .field .field)) z;
+        },
+        v,
+      )
+
+  pub copies-live : (x : ℕ) → Copies s W T x → LiveSlot s w e W x
+  copies-live x q = copy-survivor x q .0
+
+  pub survivor-copy : (x : ℕ) (q : LiveSlot s w e W x) → Survivor s w e (q .object) → Copies s W T x
+  survivor-copy x q v =
       let z = copy-cell (q .object) v in
       record {
         cell = q .object;
-        among = begins-page s (w .cells) (w .tables) (q .object) (v .used);
+        among = page-of h (q .object) (v .used);
         old = record { used = old-used h (q .object) (v .used); moved = λ y. omega (arith, survivor-forward h (q .object) v) };
         field = record {
           field = q .field;
-          low = omega (arith, q .low, ap (refsOf W) z, refs-placed (q .object) (survivor-lives v));
+          low = omega (arith, q .low, ap (refsOf W) z, refs-placed (q .object) (q .lives));
           at = q .at ∙ ap (λ (d : ℕ). fieldAt d (q .field)) (sym z);
         };
       }
@@ -87,15 +100,23 @@ module _ {s : Sizes} {w w₁ : Words} {e : Part} {W T : List ℕ} (h : HasMoved 
   pub old-no-copy : (c f : ℕ) → BeginsIn s w c → f < refCount w c → Copies s W T (fieldAt c f) → ⊥
   old-no-copy c f u l q =
       let k = copy-survivor (fieldAt c f) q in
-      let v = k .survivor in
-      let z = fields-apart c (placed W (k .object)) f (k .field) (few h c f u l) (few h (k .object) (k .field) (v .used) (k .low)) (k .at) in
-      survivor-fresh h (k .object) v (subst (BeginsIn s w) (z .0 ∙ survivor-placed h (k .object) v) u)
+      let d : ℕ = k .0 .object in
+      let z = fields-apart c (placed W d) f (k .0 .field) (few h c f u l) (few h d (k .0 .field) (k .1 .used) (k .0 .low)) (k .0 .at) in
+      survivor-fresh h d (k .1) (subst (BeginsIn s w) (z .0 ∙ survivor-placed h d (k .1)) u)
+
+  -- a reference of an object that lives on names a cell
+  pub live-names : (x : ℕ) → LiveSlot s w e W x → Names s (getD W x 0)
+  live-names x q =
+      let c : ℕ = q .object in
+      let f : ℕ = q .field in
+      subst (Names s) (sym (ap (λ (y : ℕ). getD W y 0) (q .at) ∙ placed-field h c (q .lives) f (few h c f (q .lives .used) (q .low))))
+      (λ n. page-of h (cellNamed (fieldOf (w .cells) c f)) (h .sends .keeps .references c f (cellNamed (fieldOf (w .cells) c f)) (q .lives) (q .low) (omega arith) .used))
 
   -- ---- what their rewriting asks
 
   -- of cells in which every reference of a copy names a cell
   pub wired : {X : List ℕ} → length X ≡ length W → ((d : ℕ) → workOf X d ≡ workOf W d) → ((d : ℕ) → refsOf X d ≡ refsOf W d)
-      → ((d f : ℕ) → Survivor s w e d → f < refCount w d → Names s (fieldOf X (placed W d) f)) → Wiring s (OnPages (s .pages)) X T
+      → ((x : ℕ) → LiveSlot s w e W x → Names s (getD X x 0)) → Wiring s (OnPages (s .pages)) X T
   wired {X} long links heads named =
       record {
         few = h .room .few;
@@ -103,7 +124,7 @@ module _ {s : Sizes} {w w₁ : Words} {e : Part} {W T : List ℕ} (h : HasMoved 
         tables-long = h .ready .regular .room;
         bits = λ d q l z. let v = marked-survivor (h .marks) d l (sym (h .forwards .bits d l) ∙ z) in
             record { used = old-used h d (v .used); moved = λ y. omega (arith, links d, survivor-forward h d v) };
-        only = λ d q u. let v = survivor d u in h .forwards .bits d (begins-page s (w .cells) (w .tables) d (v .used)) ∙ on h d v;
+        only = λ d q u. let v = survivor d u in h .forwards .bits d (page-of h d (v .used)) ∙ on h d v;
         copies = λ d q u. fields d (survivor d u);
         once = λ x y q q′ u v z.
             let a = survivor x u in
@@ -126,22 +147,14 @@ module _ {s : Sizes} {w w₁ : Words} {e : Part} {W T : List ℕ} (h : HasMoved 
             cells-long = omega (arith, h .ready .cells-long, long);
             page = placed-page h d (survivor-lives v);
             few = omega (arith, n, refs-few s w (h .whole) d (v .used));
-            names = λ f l. named d f v (omega (arith, n));
+            names = λ f l. named (fieldAt (placed W d) f) (record { object = d; field = f; lives = survivor-lives v; low = omega (arith, n); at = refl });
           })
 
 -- ---- the holding slots are rewritten
 
 module _ {s : Sizes} {w w₁ : Words} {e : Part} {W T : List ℕ} (h : HasMoved s w w₁ e W T) {S : ℕ → Type 0} (H : HoldingSlots s w e S) where
-  -- what it asks: each names a cell
-  pub held-names : (x : ℕ) → S x → Names s (getD W x 0)
-  held-names x q n =
-      let o = H .slot x q in
-      let l = outside-lives (o .outside) in
-      let v : getD W x 0 ≡ fieldOf (w .cells) (o .object) (o .field) =
-      ap (λ (y : ℕ). getD W y 0) (o .at ∙ ap (λ (d : ℕ). fieldAt d (o .field)) (sym (outside-placed h (o .object) (o .outside))))
-      ∙ placed-field h (o .object) l (o .field) (few h (o .object) (o .field) (l .used) (o .low)) in
-      let d : ℕ = cellNamed (getD W x 0) in
-      begins-page s (w .cells) (w .tables) d (h .sends .keeps .references (o .object) (o .field) d l (o .low) (omega (arith, v)) .used)
+  pub held-live : (x : ℕ) → S x → LiveSlot s w e W x
+  held-live x q = outside-live h x (H .slot x q)
 
   no-copy : (x : ℕ) → Copies s W T x → S x → ⊥
   no-copy x q z = let o = H .slot x z in old-no-copy h (o .object) (o .field) (o .outside .used) (o .low) (subst (Copies s W T) (o .at) q)
@@ -149,13 +162,7 @@ module _ {s : Sizes} {w w₁ : Words} {e : Part} {W T : List ℕ} (h : HasMoved 
   module _ {W₂ : List ℕ} (R₂ : Rewritten S W W₂) where
     -- the copies' own slots are as they were
     pub copies-ask : Wiring s (OnPages (s .pages)) W₂ T
-    copies-ask =
-        wiring-now R₂
-        (wired h refl (λ d. refl) (λ d. refl)
-        (λ d f v l.
-        subst (Names s) (sym (placed-field h d (survivor-lives v) f (few h d f (v .used) l)))
-        (λ n. begins-page s (w .cells) (w .tables) _ (h .sends .keeps .references d f (cellNamed (fieldOf (w .cells) d f)) (survivor-lives v) l (omega arith) .used))))
-        no-copy
+    copies-ask = wiring-now R₂ (wired h refl (λ d. refl) (λ d. refl) (live-names h)) no-copy
 
     pub rewritten-both : {W₃ : List ℕ} → Rewritten (Copies s W₂ T) W₂ W₃ → Rewritten (λ x. S x ⊎ Copies s W T x) W W₃
     rewritten-both R₃ =
@@ -211,7 +218,7 @@ module _ {s : Sizes} {w w₁ : Words} {e : Part} {W T : List ℕ} {S : ℕ → T
 
   survivor-slot : (c f : ℕ) → Survivor s w e c → f < refCount w c → fieldOf W′ (placed W c) f ≡ forwarded W (fieldOf (w .cells) c f)
   survivor-slot c f v l =
-      r .cells .moved (fieldAt (placed W c) f) (inr (survivor-copy h (fieldAt (placed W c) f) (record { object = c; field = f; survivor = v; low = l; at = refl })))
+      r .cells .moved (fieldAt (placed W c) f) (inr (survivor-copy h (fieldAt (placed W c) f) (record { object = c; field = f; lives = survivor-lives v; low = l; at = refl }) v))
       ∙ ap (forwarded W) (placed-field h c (survivor-lives v) f (few h c f (v .used) l))
 
   pub slot-after : (c f : ℕ) → Lives s w e c → f < refCount w c → fieldOf W′ (placed W c) f ≡ renamed (placed W) (fieldOf (w .cells) c f)
@@ -219,34 +226,29 @@ module _ {s : Sizes} {w w₁ : Words} {e : Part} {W T : List ℕ} {S : ℕ → T
       ⊎-elim (λ o. ap (λ (d : ℕ). fieldOf W′ d f) (outside-placed h c o) ∙ outside-slot c f o m) (λ v. survivor-slot c f v m) (lives-how l)
       ∙ forwarded-placed W (fieldOf (w .cells) c f)
 
+  pub live-after : (x : ℕ) (q : LiveSlot s w e W x) → getD W′ x 0 ≡ renamed (placed W) (fieldOf (w .cells) (q .object) (q .field))
+  live-after x q = ap (λ (y : ℕ). getD W′ y 0) (q .at) ∙ slot-after (q .object) (q .field) (q .lives) (q .low)
+
   -- so it names a cell
-  pub names-after : (c f : ℕ) → Lives s w e c → f < refCount w c → Names s (fieldOf W′ (placed W c) f)
-  names-after c f l m = subst (Names s) (sym (slot-after c f l m)) (go (fieldOf (w .cells) c f) refl)
+  pub names-after : (x : ℕ) → LiveSlot s w e W x → Names s (getD W′ x 0)
+  names-after x q = subst (Names s) (sym (live-after x q)) (go (fieldOf (w .cells) (q .object) (q .field)) refl)
     where
-      go : (v : ℕ) → fieldOf (w .cells) c f ≡ v → Names s (renamed (placed W) v)
+      go : (v : ℕ) → fieldOf (w .cells) (q .object) (q .field) ≡ v → Names s (renamed (placed W) v)
       go zero z n = absurd (n refl)
       go (suc d) z n =
           subst (λ (x : ℕ). pageOf x < s .pages) (let y : placed W d ≡ cellNamed (suc (placed W d)) = omega arith in y)
-          (placed-page h d (h .sends .keeps .references c f d l m z))
+          (placed-page h d (h .sends .keeps .references (q .object) (q .field) d (q .lives) (q .low) z))
 
   pub wired-after : Wiring s (OnPages (s .pages)) W′ T
-  wired-after = wired h (r .cells .size) (link-same (r .cells)) (refs-same (r .cells)) (λ d f v. names-after d f (survivor-lives v))
+  wired-after = wired h (r .cells .size) (link-same (r .cells)) (refs-same (r .cells)) names-after
 
   -- a word after the references is no slot
   pub rest-after : (c f : ℕ) → Lives s w e c → refCount w c ≤ f → f < mostFields → fieldOf W′ (placed W c) f ≡ fieldOf (w .cells) c f
-  rest-after c f l ge m = r .cells .same (fieldAt (placed W c) f) (⊎-elim no-slot no-copy′) ∙ placed-field h c l f m
+  rest-after c f l ge m =
+      r .cells .same (fieldAt (placed W c) f) (⊎-elim (λ q. none (held-live h (r .holding) (fieldAt (placed W c) f) q)) (λ q. none (copies-live h (fieldAt (placed W c) f) q))) ∙ placed-field h c l f m
     where
-      same : (b g : ℕ) → Lives s w e b → g < refCount w b → fieldAt (placed W c) f ≡ fieldAt (placed W b) g → ⊥
-      same b g k n z =
-          let y = fields-apart (placed W c) (placed W b) f g m (few h b g (k .used) n) z in
-          let x : c ≡ b = placed-apart h c b l k (y .0) in
-          omega (arith, y .1, ap (refCount w) x)
-
-      no-slot : S (fieldAt (placed W c) f) → ⊥
-      no-slot q =
-          let k = r .holding .slot (fieldAt (placed W c) f) q in
-          same (k .object) (k .field) (outside-lives (k .outside)) (k .low)
-          (k .at ∙ ap (λ (d : ℕ). fieldAt d (k .field)) (sym (outside-placed h (k .object) (k .outside))))
-
-      no-copy′ : Copies s W T (fieldAt (placed W c) f) → ⊥
-      no-copy′ q = let k = copy-survivor h (fieldAt (placed W c) f) q in same (k .object) (k .field) (survivor-lives (k .survivor)) (k .low) (k .at)
+      none : LiveSlot s w e W (fieldAt (placed W c) f) → ⊥
+      none q =
+          let y = fields-apart (placed W c) (placed W (q .object)) f (q .field) m (few h (q .object) (q .field) (q .lives .used) (q .low)) (q .at) in
+          let x : c ≡ q .object = placed-apart h c (q .object) l (q .lives) (y .0) in
+          omega (arith, y .1, q .low, ap (refCount w) x)

@@ -13,14 +13,13 @@ use Rattle.rules.specs.Graph.{Graph, crossing}
 use Rattle.laws.specs.Counts.{crossRef}
 use Rattle.layout.specs.Places.{ownerOf, cellsWords}
 use Rattle.layout.specs.Cells.{fieldAt, pageOf, mostFields, field-in}
-use Rattle.layout.specs.Objects.{begins-page}
-use Rattle.layout.specs.Words.{Words, refCount}
+use Rattle.layout.specs.Words.{Words}
 use Rattle.promises.specs.Ends.{Part, Lives, lives-how}
 use Rattle.settle.specs.Append.{crossAt}
 use Rattle.ended.specs.Living.{GraphAfter, lives-there}
-use Rattle.ending.specs.Placing.{HasMoved, placed, few, outside-home, survivor-home}
-use Rattle.ending.specs.Rewriting.{fields-apart, HasRewritten}
-use Rattle.ending.specs.Crossing.{LiveSlot, live-names}
+use Rattle.ending.specs.Placing.{HasMoved, placed, page-of, few, outside-home, survivor-home}
+use Rattle.ending.specs.Rewriting.{fields-apart, LiveSlot, HasRewritten}
+use Rattle.ending.specs.Crossing.{crosses-names}
 use Rattle.ending.specs.CrossingPositions.{crossesPast, of-object, positions-few}
 
 -- what is there for each number below n, as a function
@@ -49,13 +48,14 @@ module _ {s : Sizes} {w w₁ : Words} {e : Part} {W T : List ℕ} {S : ℕ → T
   home-is c l = ⊎-elim (λ o. a .outside c o ∙ sym (outside-home h c o)) (λ v. a .survivor c v ∙ sym (survivor-home h c v)) (lives-how l)
 
   -- where a slot that crosses stood before the end it counts
-  counts : (c f : ℕ) → Lives s w e c → f < refCount w c → crossAt s W′ T (fieldAt (placed W c) f) ≢ 0 → 0 < crossesPast s w g (fieldAt c f)
-  counts c f l m n =
-      let y = live-names r c f l m n in
+  counts : (x : ℕ) (q : LiveSlot s w e W x) → crossAt s W′ T x ≢ 0 → 0 < crossesPast s w g (fieldAt (q .object) (q .field))
+  counts x q n =
+      let c : ℕ = q .object in
+      let y = crosses-names r x q n in
       let one : crossRef g c (suc (y .0)) ≡ 1 =
-      ap₂ (λ (p q : Bool). cond (not p && not q) 1 0) (ne-eqb (g .home c) (g .home (y .0)) (λ z. y .5 (sym (home-is (y .0) (y .1)) ∙ sym z ∙ home-is c l)))
+      ap₂ (λ (p q : Bool). cond (not p && not q) 1 0) (ne-eqb (g .home c) (g .home (y .0)) (λ z. y .5 (sym (home-is (y .0) (y .1)) ∙ sym z ∙ home-is c (q .lives))))
       (ne-eqb (g .home (y .0)) 1 (λ (z : g .home (y .0) ≡ 1). omega (arith, home-is (y .0) (y .1), y .4))) in
-      omega (arith, of-object (h .whole) a c f (lives-there (h .whole) a c l) m, ap (crossRef g c) (y .2), one)
+      omega (arith, of-object (h .whole) a c (q .field) (lives-there (h .whole) a c (q .lives)) (q .low), ap (crossRef g c) (y .2), one)
 
   pub space-enough : crossing g ≤ s .entries → (n : ℕ) (at : ℕ → ℕ) → ((i : ℕ) → i < n → LiveSlot s w e W (at i) × (crossAt s W′ T (at i) ≢ 0))
       → ((a b : ℕ) → a < b → b < n → at a ≢ at b) → n ≤ s .entries
@@ -80,14 +80,10 @@ module _ {s : Sizes} {w w₁ : Words} {e : Part} {W T : List ℕ} {S : ℕ → T
       low : (i : ℕ) → i < n → from i < cellsWords s
       low i l =
           let k = good i l in
-          subst (λ (q : ℕ). q < cellsWords s) (sym (k .1)) (field-in s (k .0 .object) (k .0 .field) (omega arith) (begins-page s (w .cells) (w .tables) (k .0 .object) (k .0 .lives .used)) (most i l))
+          subst (λ (q : ℕ). q < cellsWords s) (sym (k .1)) (field-in s (k .0 .object) (k .0 .field) (omega arith) (page-of h (k .0 .object) (k .0 .lives .used)) (most i l))
 
       some : (i : ℕ) → i < n → 0 < crossesPast s w g (from i)
-      some i l =
-          let k = good i l in
-          let q = k .0 in
-          subst (λ (x : ℕ). 0 < crossesPast s w g x) (sym (k .1))
-          (counts (q .object) (q .field) (q .lives) (q .low) (λ z. crosses i l .1 (ap (crossAt s W′ T) (q .at) ∙ z)))
+      some i l = let k = good i l in subst (λ (x : ℕ). 0 < crossesPast s w g x) (sym (k .1)) (counts (at i) (k .0) (crosses i l .1))
 
       once : (a b : ℕ) → a < b → b < n → from a ≢ from b
       once a b l m e =

@@ -14,13 +14,13 @@ use Rattle.rules.specs.Regions.{regionAt, regions, threadOf, levelOf}
 use Rattle.rules.specs.Graph.{ended, crossing}
 use Rattle.laws.specs.RegionLaws.{region-high, numbers-rise, thread-at, level-at}
 use Rattle.layout.specs.Places.{Room, depthAt, countAt, depthOf, ownerOf, markOf, usedIn, slotIn, slotRegionIn, ownersFrom, countsFrom, varsFrom, tablesWords, count-room}
-use Rattle.layout.specs.Cells.{fieldAt, pageOf, wordOf, field-word}
+use Rattle.layout.specs.Cells.{pageOf, wordOf, field-word}
 use Rattle.layout.specs.Objects.{begins-page}
-use Rattle.layout.specs.Words.{Words, words, Names, depthIn, ownerIn, graphOf}
+use Rattle.layout.specs.Words.{Words, words, depthIn, ownerIn, graphOf}
 use Rattle.promises.specs.Whole.{WholeFor, Open}
 use Rattle.promises.specs.OwnedPages.{pagesOwned}
 use Rattle.promises.specs.Reading.{remember-room, used-home}
-use Rattle.promises.specs.Ends.{partOf, Survivor, outside-lives}
+use Rattle.promises.specs.Ends.{partOf, Survivor}
 use Rattle.mark.specs.Marks.{page-unmarked}
 use Rattle.mark.specs.Survivors.{Marked}
 use Rattle.copy.specs.Taking.{Regular}
@@ -30,7 +30,7 @@ use Rattle.copy.specs.Forward.{copy-forwards}
 use Rattle.settle.specs.Rewrite.{Rewritten}
 use Rattle.settle.specs.RewriteSlots.{Slots, Variables}
 use Rattle.settle.specs.RewriteCopies.{slot-then}
-use Rattle.settle.specs.Update.{Copies, Updating}
+use Rattle.settle.specs.Update.{Copies, Entry, Updating}
 use Rattle.settle.specs.Final.{Settles}
 use Rattle.release.specs.Release.{Ended, ended-size, ended-depth, ended-rest, ended-blank, ended-alike, ended-regular}
 use Rattle.ended.specs.EndQuestion.{pagesNeeded, crossingAfter}
@@ -38,11 +38,12 @@ use Rattle.ended.specs.EvacuatedDid.{Lowered}
 use Rattle.ended.specs.WordsPlaced.{target-level}
 use Rattle.ended.specs.Living.{region-after, region-keeps}
 use Rattle.ending.specs.MarkedWords.{owner-same}
-use Rattle.ending.specs.Placing.{Sends, HasMoved, placed, few, outside-placed, page-kept}
-use Rattle.ending.specs.Rewriting.{HoldingSlots, HasRewritten, old-no-copy, held-names, copies-ask, rewritten-both, names-after, wired-after}
-use Rattle.ending.specs.Crossing.{entry-says, copies-live}
+use Rattle.ending.specs.Placing.{Sends, HasMoved, few, page-kept}
+use Rattle.ending.specs.Rewriting.{HoldingSlots, LiveSlot, HasRewritten, copies-live, old-no-copy, live-names, held-live, copies-ask, rewritten-both, names-after, wired-after}
+use Rattle.ending.specs.Crossing.{entry-says, Told}
 use Rattle.ending.specs.Space.{space-enough}
-use Rattle.ending.specs.Region.{Held, holding, page-was, live-crosses, crosses-live, stays-live}
+use Rattle.ending.specs.Remembering.{stays-live, told}
+use Rattle.ending.specs.Region.{Held, of-region, holding, page-was, renews, live-crosses, crosses-live}
 use Rattle.ending.specs.Finish.{owner₂, regular₂, word₂, GaveBack}
 use Rattle.ending.specs.PagesEnough as pe
 
@@ -59,6 +60,9 @@ module _ {s : Sizes} {t k r : ℕ} {w w₁ : Words} (b : Begun s t k r w w₁) w
   pub high : 1 < r
   high = omega (arith, b .region, region-high s t k)
 
+  pub pos : 0 < r
+  pos = omega (arith, high)
+
   pub bounds : (1 ≤ r) × (r ≤ regions s)
   bounds = subst (λ (g : ℕ). (1 ≤ g) × (g ≤ regions s)) (sym (b .region)) (region-bounds s t (suc k) (b .thread) (omega (arith, b .deep, b .whole .depths t (b .thread))))
 
@@ -73,7 +77,7 @@ module _ {s : Sizes} {t k r : ℕ} {w w₁ : Words} (b : Begun s t k r w w₁) w
       record {
         owned = λ page l e. omega (arith, e, high);
         away = λ c page v l e z. let j = level c v in omega (arith, numbers-rise s t (j .0) (suc k) (omega (arith, j .1)), j .2, b .region, e, z);
-        keeps = region-keeps s w (b .whole) r (omega (arith, high));
+        keeps = region-keeps s w (b .whole) r pos;
       }
 
   pub held : HoldingSlots s w (partOf s w r) (Held s w r)
@@ -111,8 +115,8 @@ module _ {s : Sizes} {t k r : ℕ} {w w₁ : Words} (b : Begun s t k r w w₁) w
 
     -- ---- the remembered slots
 
-    held-entry : (i : ℕ) → i < usedIn (w .remember) → slotRegionIn (s .entries) (w .remember) i ≡ r → Held s w r (slotIn (w .remember) i)
-    held-entry i l z = record { entry = i; low = l; region = z; slot = refl }
+    entry-live : (i : ℕ) → i < usedIn (w .remember) → slotRegionIn (s .entries) (w .remember) i ≡ r → LiveSlot s w (partOf s w r) W (slotIn (w .remember) i)
+    entry-live i l z = held-live moved held (slotIn (w .remember) i) (record { entry = i; low = l; region = z; slot = refl })
 
     pub slots-ask : Slots s r (s .entries) (usedIn (w .remember)) W (w .remember)
     slots-ask =
@@ -125,7 +129,7 @@ module _ {s : Sizes} {t k r : ℕ} {w w₁ : Words} (b : Begun s t k r w w₁) w
           low = λ i l. e .named i l .slot;
           fields = λ i l. let y = entry-says (b .whole) i l in subst (λ (x : ℕ). 2 ≤ wordOf x) (sym (y .at)) (field-word (y .object) (y .field) (few moved (y .object) (y .field) (y .used) (y .low)));
           once = e .once;
-          names = λ i l z. held-names moved held (slotIn (w .remember) i) (held-entry i l z);
+          names = λ i l z. live-names moved (slotIn (w .remember) i) (entry-live i l z);
         }
 
     -- no entry names a slot of a copy
@@ -138,11 +142,8 @@ module _ {s : Sizes} {t k r : ℕ} {w w₁ : Words} (b : Begun s t k r w w₁) w
       pub rewritten : HasRewritten s w w₁ (partOf s w r) W T (Held s w r) W₃
       rewritten = record { moved = moved; holding = held; cells = R }
 
-      entry-names : (i : ℕ) → i < usedIn (w .remember) → slotRegionIn (s .entries) (w .remember) i ≡ r → Names s (getD W₃ (slotIn (w .remember) i) 0)
-      entry-names i l z =
-          let q = held .slot (slotIn (w .remember) i) (held-entry i l z) in
-          let e : slotIn (w .remember) i ≡ fieldAt (placed W (q .object)) (q .field) = q .at ∙ ap (λ (d : ℕ). fieldAt d (q .field)) (sym (outside-placed moved (q .object) (q .outside))) in
-          subst (λ (x : ℕ). Names s (getD W₃ x 0)) (sym e) (names-after rewritten (q .object) (q .field) (outside-lives (q .outside)) (q .low))
+      pub entries-told : Told s w (partOf s w r) W T W₃ (Entry s r (s .entries) (usedIn (w .remember)) W₃ (w .remember) T)
+      entries-told = told rewritten (of-region high) (renews pos moved W₃)
 
       pub update-ask : crossingAfter s w t k ≤ s .entries → Updating s r (s .entries) (usedIn (w .remember)) W₃ (w .remember) T
       update-ask entries =
@@ -155,16 +156,16 @@ module _ {s : Sizes} {t k r : ℕ} {w w₁ : Words} (b : Begun s t k r w w₁) w
               few = a .few;
               low = a .low;
               once = a .once;
-              names = entry-names;
+              names = λ i l z. names-after rewritten (slotIn (w .remember) i) (entry-live i l z);
             };
             wiring = wired-after rewritten;
             small = b .room .entries-high;
-            stays = λ x h q. let y = stays-live high rewritten x h q in (live-crosses high rewritten x (y .0) (λ z. q .kept (y .1 ∙ z)), y .1);
-            comes = λ x q n. live-crosses high rewritten x (copies-live rewritten x (slot-then R x q)) n;
+            stays = λ x h q. let y = stays-live rewritten (of-region high) (renews pos moved W₃) x h q in (live-crosses pos moved rewritten x (y .0) (λ z. q .kept (y .1 ∙ z)), y .1);
+            comes = λ x q n. live-crosses pos moved rewritten x (copies-live moved x (slot-then R x q)) n;
             apart = λ x h q z. entry-no-copy (q .entry) (q .low) (subst (Copies s W T) (sym (q .slot)) (slot-then R x z));
-            space = λ n at crosses. space-enough rewritten (region-after s w (b .whole) r (omega (arith, high)))
+            space = λ n at crosses. space-enough rewritten (region-after s w (b .whole) r pos)
                 (subst (λ (g : ℕ). crossing (ended s (graphOf s w) g) ≤ s .entries) (sym (b .region)) entries) n at
-                (λ i l. (crosses-live high rewritten (at i) (crosses i l), crosses i l .cross));
+                (λ i l. (crosses-live pos moved rewritten (at i) (crosses i l), crosses i l .cross));
             rest = b .whole .remember .entries .rest;
           }
 
@@ -189,7 +190,7 @@ module _ {s : Sizes} {t k r : ℕ} {w w₁ : Words} (b : Begun s t k r w w₁) w
       kept₂ page l z = owner₂ moved Y page l ∙ page-kept moved page l z ∙ z
 
       was₂ : (page : ℕ) → page < s .pages → ownerOf s T₂ page ≡ r → ownerIn s w page ≡ r
-      was₂ page l z = page-was moved page l (omega (arith, high)) (sym (owner₂ moved Y page l) ∙ z)
+      was₂ page l z = page-was pos moved page l (sym (owner₂ moved Y page l) ∙ z)
 
       pub pages-ask : {n : ℕ} {l : List ℕ} → Lists (λ page. ownerOf s (w₁ .tables) page ≡ r) (s .pages) n l → Lists (λ page. ownerOf s T₂ page ≡ r) (s .pages) n l
       pages-ask {l = l} h =
