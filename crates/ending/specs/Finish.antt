@@ -33,7 +33,7 @@ use Rattle.settle.specs.Append.{crossAt}
 use Rattle.release.specs.Release.{Blank, Alike}
 use Rattle.ended.specs.Evacuated.{Evacuated, Vacated}
 use Rattle.ending.specs.MarkedWords.{table-same, var-same}
-use Rattle.ending.specs.Placing.{HasMoved, placed, forwarded-placed, page-of, outside-placed, outside-home, survivor-home, placed-used, placed-out, placed-apart, placed-only}
+use Rattle.ending.specs.Placing.{HasMoved, placed, forwarded-placed, page-of, outside-placed, outside-home, survivor-home, placed-page, placed-used, placed-out, placed-apart, placed-only}
 use Rattle.ending.specs.Rewriting.{LiveSlot, copies-live, held-live, HasRewritten, slot-after, live-after, rest-after, head-after, work-after, used-after, used-before}
 use Rattle.ending.specs.Crossing.{Told, live-slot, slot-live, live-page}
 
@@ -182,7 +182,7 @@ module _ {s : Sizes} {w w₁ : Words} {e : Part} {W T : List ℕ} {S : ℕ → T
       same zero z = refl
       same (suc d) z =
           let y = h .sends .keeps .references (q .object) (q .field) d (q .lives) (q .low) z in
-          region-of s T′ (placed W d) (begins-used s W′ T′ (placed W d) (used d y)) ∙ home-end d y ∙ sym (region-of s T (placed W d) (begins-used s W T (placed W d) (placed-used h d y)))
+          region-of s T′ (placed W d) (placed-page h d y) ∙ home-end d y ∙ sym (region-of s T (placed W d) (placed-page h d y))
 
       region : regionOf s T′ (getD W′ x 0) ≡ regionOf s T (getD W′ x 0)
       region = ap (regionOf s T′) (live-after k x q) ∙ same (fieldOf (w .cells) (q .object) (q .field)) refl ∙ ap (regionOf s T) (sym (live-after k x q))

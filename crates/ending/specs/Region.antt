@@ -8,7 +8,7 @@ use native.Mathlib.Omega.{arith}
 use Rattle.rules.specs.declared.Sizes.{Sizes}
 use Rattle.layout.specs.Places.{ownerOf, usedIn}
 use Rattle.layout.specs.Cells.{pageOf, pageAt, cellOn, page-on}
-use Rattle.layout.specs.Objects.{begins-there, slot-page, slot-on, slot-word, word-slot}
+use Rattle.layout.specs.Objects.{begins-there, slot-page, slot-on}
 use Rattle.layout.specs.Words.{Words, ownerIn}
 use Rattle.promises.specs.Whole.{WholeFor}
 use Rattle.promises.specs.Ends.{partOf, Lives, lives-how}
@@ -70,18 +70,15 @@ module _ {s : Sizes} {w w₁ : Words} {r : ℕ} {W T : List ℕ} (pos : 0 < r) (
   module _ {W′ : List ℕ} (k : HasRewritten s w w₁ (partOf s w r) W T (Held s w r) W′) where
     pub live-crosses : (x : ℕ) → LiveSlot s w (partOf s w r) W x → crossAt s W′ T x ≢ 0 → Crosses s r W′ T x
     live-crosses x q n =
-        let u = slot-word s W′ T x (live-slot k x q) in
         let p = live-page k x q in
         record {
-          used = u .0;
-          field = u .1 .0;
-          ref = u .1 .1;
+          slot = live-slot k x q;
           out = λ z. placed-out h (q .object) (q .lives) (page-was (pageOf (placed W (q .object))) (placed-page h (q .object) (q .lives)) (ap (ownerOf s T) (sym p) ∙ z));
           cross = n;
         }
 
     pub crosses-live : (x : ℕ) → Crosses s r W′ T x → LiveSlot s w (partOf s w r) W x
     crosses-live x c =
-        let q = word-slot s W′ T x (c .used) (c .field, c .ref) in
+        let q = c .slot in
         let p = slot-page s W′ T x q in
         slot-live k x q (λ z. c .out (ap (ownerOf s T) p ∙ page-kept h (pageOf (q .object)) (subst (λ (y : ℕ). y < s .pages) p (slot-on s W′ T x q)) z ∙ z))

@@ -15,7 +15,7 @@ use Rattle.layout.specs.Objects.{begins-same, begins-back}
 use Rattle.layout.specs.Words.{Words, Begins, BeginsIn, Names, headIn, refCount}
 use Rattle.promises.specs.Reading.{refs-few}
 use Rattle.promises.specs.Ends.{Part, Outside, Survivor, Lives, outside-lives, survivor-lives, lives-how}
-use Rattle.settle.specs.Rewrite.{forwarded, forward-null, forward-still, Rewritten, rewritten-join, head-same, link-same, refs-same}
+use Rattle.settle.specs.Rewrite.{forwarded, forward-null, forward-still, Rewritten, rewritten-join, head-same, link-same, heads-same}
 use Rattle.settle.specs.RewriteSlots.{Fields}
 use Rattle.settle.specs.RewriteCopies.{Old, Wiring, wiring-now, OnPages, slot-now, slot-then}
 use Rattle.settle.specs.Update.{Copies}
@@ -115,7 +115,7 @@ module _ {s : Sizes} {w w₁ : Words} {e : Part} {W T : List ℕ} (h : HasMoved 
   -- ---- what their rewriting asks
 
   -- of cells in which every reference of a copy names a cell
-  pub wired : {X : List ℕ} → length X ≡ length W → ((d : ℕ) → workOf X d ≡ workOf W d) → ((d : ℕ) → refsOf X d ≡ refsOf W d)
+  pub wired : {X : List ℕ} → length X ≡ length W → ((d : ℕ) → workOf X d ≡ workOf W d) → ((d : ℕ) → headOf X d ≡ headOf W d)
       → ((x : ℕ) → LiveSlot s w e W x → Names s (getD X x 0)) → Wiring s (OnPages (s .pages)) X T
   wired {X} long links heads named =
       record {
@@ -123,7 +123,7 @@ module _ {s : Sizes} {w w₁ : Words} {e : Part} {W T : List ℕ} (h : HasMoved 
         cells-long = omega (arith, h .ready .cells-long, long);
         tables-long = h .ready .regular .room;
         bits = λ d q l z. let v = marked-survivor (h .marks) d l (sym (h .forwards .bits d l) ∙ z) in
-            record { used = old-used h d (v .used); moved = λ y. omega (arith, links d, survivor-forward h d v) };
+            record { used = begins-same s W T X T d refl (λ j b z. heads j) (old-used h d (v .used)); moved = λ y. omega (arith, links d, survivor-forward h d v) };
         only = λ d q u. let v = survivor d u in h .forwards .bits d (page-of h d (v .used)) ∙ on h d v;
         copies = λ d q u. fields d (survivor d u);
         once = λ x y q q′ u v z.
@@ -133,14 +133,14 @@ module _ {s : Sizes} {w w₁ : Words} {e : Part} {W T : List ℕ} (h : HasMoved 
       }
     where
       survivor : (d : ℕ) → Old s X T d → Survivor s w e d
-      survivor d u = moved-survivor h d (u .used) (λ z. u .moved (links d ∙ z))
+      survivor d u = moved-survivor h d (begins-back s W T X T d refl (λ j b z. heads j) (u .used)) (λ z. u .moved (links d ∙ z))
 
       cell : (d : ℕ) → Survivor s w e d → workOf X d - 1 ≡ placed W d
       cell d v = omega (arith, links d, copy-cell d v)
 
       fields : (d : ℕ) → Survivor s w e d → Fields s (refsOf X (workOf X d - 1)) (workOf X d - 1) X
       fields d v =
-          let n : refsOf X (placed W d) ≡ refCount w d = heads (placed W d) ∙ refs-placed d (survivor-lives v) in
+          let n : refsOf X (placed W d) ≡ refCount w d = ap (fieldCount Reference) (heads (placed W d)) ∙ refs-placed d (survivor-lives v) in
           subst (λ (x : ℕ). Fields s (refsOf X x) x X) (sym (cell d v))
           (record {
             pages = h .room .few;
@@ -240,7 +240,7 @@ module _ {s : Sizes} {w w₁ : Words} {e : Part} {W T : List ℕ} {S : ℕ → T
           (placed-page h d (h .sends .keeps .references (q .object) (q .field) d (q .lives) (q .low) z))
 
   pub wired-after : Wiring s (OnPages (s .pages)) W′ T
-  wired-after = wired h (r .cells .size) (link-same (r .cells)) (refs-same (r .cells)) names-after
+  wired-after = wired h (r .cells .size) (link-same (r .cells)) (heads-same (r .cells)) names-after
 
   -- a word after the references is no slot
   pub rest-after : (c f : ℕ) → Lives s w e c → refCount w c ≤ f → f < mostFields → fieldOf W′ (placed W c) f ≡ fieldOf (w .cells) c f

@@ -19,7 +19,7 @@ use Rattle.laws.specs.RulesLaws.{region-pos}
 use Rattle.layout.specs.Places.{cellsWords, depthOf, ownerOf, markOf, usedIn, slotIn}
 use Rattle.layout.specs.Cells.{pageOf, placeOf, workOf}
 use Rattle.layout.specs.Marks.{marked}
-use Rattle.layout.specs.Words.{Words, words, InUse, heapOf}
+use Rattle.layout.specs.Words.{Words, words, BeginsIn, heapOf}
 use Rattle.promises.specs.Whole.{WholeFor}
 use Rattle.promises.specs.Promises.{DidHere}
 use Rattle.promises.specs.OwnedPages.{pagesOwned, owner-low, region-pages, counted-objects}
@@ -84,7 +84,7 @@ module _ {p : Sizes} {t : ℕ} {w w₁ : Words} (m : Ending p t w w₁) where
   pub small-now : (page : ℕ) → page < p .pages → markOf p (w₁ .tables) page < 2 ^ 16
   small-now = marks .small
 
-  pub used-now : (c : ℕ) → pageOf c < p .pages → marked p (w₁ .tables) c ≡ 1 → InUse p (w₁ .tables) c
+  pub used-now : (c : ℕ) → pageOf c < p .pages → marked p (w₁ .tables) c ≡ 1 → BeginsIn p w₁ c
   used-now c l on = now-used marks (room-of m) c (marks .only c l on .0)
 
   pub shaped-now : Shaped p (w₁ .cells) (w₁ .tables)

@@ -15,7 +15,7 @@ use Rattle.layout.specs.Cells.{headOf, workOf, fieldOf, refsOf, allFields, room
 use Rattle.layout.specs.Objects.{Begins}
 use Rattle.layout.specs.Words.{Words, BeginsIn, sizesIn, depthIn}
 use Rattle.remember.specs.Crossing.{crossTo}
-use Rattle.remember.specs.Entries.{Entry, Only, Exact}
+use Rattle.remember.specs.Entries.{Entry, EntriesOf, Exact}
 
 -- ---- the words that the conditions speak of
 
@@ -61,7 +61,7 @@ EntryWhole s c m t i = Entry (crossTo s c t) (cellsWords s) (slotIn m i) (slotRe
 
 -- the entries name crossing slots, each once, and those that are not used are zero
 abbrev pub EntriesWhole : Sizes → List ℕ → List ℕ → List ℕ → Type 0
-EntriesWhole s c m t = Only (Entry (crossTo s c t) (cellsWords s)) (s .entries) m
+EntriesWhole s c m t = EntriesOf (Entry (crossTo s c t) (cellsWords s)) (s .entries) m
 
 -- ---- the conditions, in 01's order
 

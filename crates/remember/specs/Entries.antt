@@ -16,18 +16,18 @@ pub record Entry (f : ℕ → ℕ) (n at g : ℕ) : Type 0 where
   pub right : f at ≡ g
 
 -- the entries are of G, each of another number, and those that are not used are zero
-pub record Only (G : ℕ → ℕ → Type 0) (N : ℕ) (m : List ℕ) : Type 0 where
+pub record EntriesOf (G : ℕ → ℕ → Type 0) (N : ℕ) (m : List ℕ) : Type 0 where
   pub room : usedIn m ≤ N
   pub named : (i : ℕ) → i < usedIn m → G (slotIn m i) (slotRegionIn N m i)
   pub once : (i j : ℕ) → i < j → j < usedIn m → slotIn m i ≡ slotIn m j → ⊥
   pub rest : (i : ℕ) → usedIn m ≤ i → i < N → (slotIn m i ≡ 0) × (slotRegionIn N m i ≡ 0)
 
-pub only-like : {G H : ℕ → ℕ → Type 0} {N : ℕ} {m : List ℕ} → ((x g : ℕ) → G x g → H x g) → Only G N m → Only H N m
-only-like to o = record { room = o .room; named = λ i l. to _ _ (o .named i l); once = o .once; rest = o .rest }
+pub entries-like : {G H : ℕ → ℕ → Type 0} {N : ℕ} {m : List ℕ} → ((x g : ℕ) → G x g → H x g) → EntriesOf G N m → EntriesOf H N m
+entries-like to o = record { room = o .room; named = λ i l. to _ _ (o .named i l); once = o .once; rest = o .rest }
 
 -- the entries are f's, and every one of f's is there
 pub record Exact (f : ℕ → ℕ) (n N : ℕ) (m : List ℕ) : Type 0 where
-  pub entries : Only (Entry f n) N m
+  pub entries : EntriesOf (Entry f n) N m
   pub every : (q : ℕ) → q < n → 0 < f q → (i : ℕ) × (i < usedIn m) × (slotIn m i ≡ q)
 
 -- f and f′ differ at most at `at`
@@ -58,7 +58,7 @@ removed N m i =
 pub exact-everywhere : (f f′ : ℕ → ℕ) (n N : ℕ) (m : List ℕ) → ((q : ℕ) → q < n → f′ q ≡ f q) → Exact f n N m → Exact f′ n N m
 exact-everywhere f f′ n N m e x =
     record {
-      entries = only-like (λ q g k. record { slot = k .slot; region = k .region; right = e q (k .slot) ∙ k .right }) (x .entries);
+      entries = entries-like (λ q g k. record { slot = k .slot; region = k .region; right = e q (k .slot) ∙ k .right }) (x .entries);
       every = λ q l h. x .every q l (subst (λ (v : ℕ). 0 < v) (e q l) h);
     }
 

@@ -8,20 +8,20 @@ use native.Mathlib.Omega.{arith}
 use lib.ListN.{length, getD, set, length-set}
 use lib.Seq.{getD-set-same, getD-set-other}
 use Rattle.layout.specs.Places.{usedIn, slotIn, slotRegionIn}
-use Rattle.remember.specs.Entries.{Entry, Only, Exact, Edited, only-like}
+use Rattle.remember.specs.Entries.{Entry, EntriesOf, Exact, Edited, entries-like}
 use Rattle.remember.specs.Stretches.{Added, Cleared, slot-above, region-above}
 
 -- its entries are those of G, a number with its region
 pub record Renewed (G : ℕ → ℕ → Type 0) (N : ℕ) (M M′ : List ℕ) : Type 0 where
   pub edited : Edited N M M′
-  pub entries : Only G N M′
+  pub entries : EntriesOf G N M′
   pub every : (x h : ℕ) → G x h → (y : ℕ) × (y < usedIn M′) × (slotIn M′ y ≡ x) × (slotRegionIn N M′ y ≡ h)
 
 -- where G is f's, the table is exact for f
 pub renewed-exact : {G : ℕ → ℕ → Type 0} {N : ℕ} {M M′ : List ℕ} (f : ℕ → ℕ) (n : ℕ) → ((x h : ℕ) → G x h → Entry f n x h) → ((q : ℕ) → q < n → 0 < f q → G q (f q))
     → Renewed G N M M′ → Exact f n N M′
 renewed-exact f n to from′ r =
-    record { entries = only-like to (r .entries); every = λ q l h. let y = r .every q (f q) (from′ q l h) in (y .0, y .1, y .2) }
+    record { entries = entries-like to (r .entries); every = λ q l h. let y = r .every q (f q) (from′ q l h) in (y .0, y .1, y .2) }
 
 -- the first k entries are those of G, entries up to e are cleared, the rest were zero; v is written as their count
 module _ {G : ℕ → ℕ → Type 0} {N k e v : ℕ} {M M₂ M₃ : List ℕ} (long : 2 + 2 * N ≤ length M) (a : Added N G 0 k M M₂) (c : Cleared N k e M₂ M₃)
