@@ -54,7 +54,7 @@ module _ (p : Sizes) (c m t : List ℕ) (k : WholeFor p (words c m t)) (u : ℕ)
   abbrev P : Sizes
   P = s
 
-  pub region-real : (1 ≤ g) × (g ≤ 1 + p .threads * p .depth)
+  pub region-real : (1 ≤ g) × (g ≤ regions p)
   region-real = subst (λ (x : ℕ). (1 ≤ x) × (x ≤ regions s)) (sym eg) (innermost-pos s w k u l, innermost-low s w k u l)
 
   region-open : 1 < g → Open P t g

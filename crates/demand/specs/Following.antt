@@ -33,6 +33,7 @@ use Rattle.promises.specs.Agreed.{cell-used, cell-alive}
 use Rattle.demand.specs.DemandThree.{Moves, regionOf, PairsAfter, Changes}
 use Rattle.promises.specs.Reading.{used-home, used-alive, words-closed, var-at, depth-at, length-vars}
 use Rattle.demand.specs.Pairing.{pairOf, pairsOf, pair-there, pair-freed}
+use Rattle.layout.specs.Places.{varCount}
 
 -- ---- where nothing changes its home
 
@@ -186,7 +187,7 @@ module _ (s : Sizes) (w w₁ : Words) (h : Regioned) (cellOf : ℕ → ℕ) (st 
       let n = length (h .heap .objects) in
       let p = place (limits s) t a in
       let home : graph h₁ .home n ≡ innermost s h t = getD-at (h .homes) (innermost s h t) [] 0 n (st .sound .aligned) in
-      let long : length (h .heap .vars) ≡ s .threads * s .variables = sym (length-map (h .heap .vars) (renamed cellOf)) ∙ ap (λ (l : List ℕ). length l) (sym (st .partners .vars)) ∙ length-vars s w (st .whole) in
+      let long : length (h .heap .vars) ≡ varCount s = sym (length-map (h .heap .vars) (renamed cellOf)) ∙ ap (λ (l : List ℕ). length l) (sym (st .partners .vars)) ∙ length-vars s w (st .whole) in
       let at : getD (h₁ .heap .vars) p 0 ≡ suc n = getD-set-same (h .heap .vars) p (n + 1) 0 (omega (arith, flat-low th va)) ∙ add-one n in
       pair-there h₁ (d .cell) n (λ y. omega (arith, region-pos s t (depthOf (h .heap) t)))
       ∙ sym (sym (var-at s w₁ t a th va) ∙ ap (λ (l : List ℕ). getD l p 0) (d .stands .partners .vars) ∙ List·getD-map (renamed (d .cell)) (h₁ .heap .vars) p 0 ∙ ap (renamed (d .cell)) at)

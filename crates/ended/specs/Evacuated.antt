@@ -5,12 +5,13 @@ use mathlib.Core.Path.{_≡_}
 use lib.ListN.{getD}
 use Rattle.rules.specs.declared.Sizes.{Sizes}
 use Rattle.laws.specs.SameRules.{renamed}
-use Rattle.layout.specs.Places.{varOf, markOf, countOf}
+use Rattle.layout.specs.Places.{varOf, markOf, countOf, varCount}
 use Rattle.layout.specs.Cells.{pageOf, fieldOf, workOf, roomFor}
 use Rattle.layout.specs.Words.{Words, BeginsIn, ownerIn, headIn, refCount}
 use Rattle.promises.specs.Whole.{PageWhole, Partial, objectsOf, RememberWhole}
 use Rattle.promises.specs.StandsFor.{SameBeyond}
 use Rattle.promises.specs.Ends.{Part, Outside, Survivor, Lives}
+use Rattle.rules.specs.Regions.{regions}
 
 -- The object that was in cell c is in its cell: word 0 is the same, references lead to the cells of what they named, every word after them
 -- (the numbers, and the zeros that follow) is the same, and the working word is zero.
@@ -35,7 +36,7 @@ pub record Evacuated (s : Sizes) (w : Words) (e : Part) (w′ : Words) (cell : �
   pub sizes : (j : ℕ) → j < 5 → getD (w′ .tables) j 0 ≡ getD (w .tables) j 0
   pub entries : getD (w′ .remember) 0 0 ≡ getD (w .remember) 0 0
   -- variables lead to the cells of what they named; they are counted through all threads
-  pub variables : (i : ℕ) → i < s .threads * s .variables → varOf s (w′ .tables) i ≡ renamed cell (varOf s (w .tables) i)
+  pub variables : (i : ℕ) → i < varCount s → varOf s (w′ .tables) i ≡ renamed cell (varOf s (w .tables) i)
   -- the objects that live on have cells, no two of them one, and there is no other; a survivor's is on a page of its target
   pub used : (c : ℕ) → Lives s w e c → BeginsIn s w′ (cell c)
   pub object : (c : ℕ) → Lives s w e c → SameObject w cell w′ c
@@ -46,6 +47,6 @@ pub record Evacuated (s : Sizes) (w : Words) (e : Part) (w′ : Words) (cell : �
   -- pages, counts, marks and the remember table are whole (01, "Tables are whole")
   pub pages : (page : ℕ) → page < s .pages → PageWhole s (w′ .tables) page
   pub partial : (g : ℕ) → 1 ≤ g → (a b : ℕ) → a < b → b < s .pages → Partial s (w′ .tables) g a → Partial s (w′ .tables) g b → ⊥
-  pub counts : (g : ℕ) → 1 ≤ g → g ≤ 1 + s .threads * s .depth → countOf s (w′ .tables) g ≡ objectsOf s (w′ .tables) g
+  pub counts : (g : ℕ) → 1 ≤ g → g ≤ regions s → countOf s (w′ .tables) g ≡ objectsOf s (w′ .tables) g
   pub marks : (page : ℕ) → page < s .pages → markOf s (w′ .tables) page ≡ 0
   pub remember : RememberWhole s w′

@@ -24,6 +24,7 @@ use Rattle.promises.specs.Agreed.{renamed-id}
 use Rattle.promises.specs.Ends.{Part, Lives, lives-how}
 use Rattle.ended.specs.Evacuated.{Evacuated}
 use Rattle.ended.specs.Living.{GraphAfter, lives-there}
+use Rattle.layout.specs.Places.{varCount}
 
 -- partners of partners, where the first keep their numbers
 same-partners : (to : ℕ → ℕ) (f g h : Graph) → Partners (λ x. x) f g → Partners to g h → Partners to f h
@@ -74,7 +75,7 @@ module _ {s : Sizes} {w : Words} {e : Part} {w′ : Words} {cell : ℕ → ℕ} 
       ext-getD 0 (varsIn s w′) (map (renamed cell) (varsIn s w))
       (length-vars s w′ whole′ ∙ sym (length-map (varsIn s w) (renamed cell) ∙ length-vars s w whole))
       (λ i l.
-      let m : i < s .threads * s .variables = omega (arith, length-vars s w′ whole′) in
+      let m : i < varCount s = omega (arith, length-vars s w′ whole′) in
       getD-vars s w′ i m ∙ v .variables i m
       ∙ ap (renamed cell) (sym (getD-vars s w i m)) ∙ sym (List·getD-map (renamed cell) (varsIn s w) i 0))
 

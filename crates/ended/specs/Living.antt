@@ -10,7 +10,7 @@ use Rattle.rules.specs.declared.Sizes.{Sizes}
 use Rattle.rules.specs.Graph.{Graph, ended}
 use Rattle.laws.specs.GraphLaws.{Alive, Closed}
 use Rattle.laws.specs.EndLaws.{home-stayed, home-went, was-alive, closed-ended}
-use Rattle.layout.specs.Places.{varOf}
+use Rattle.layout.specs.Places.{varOf, varCount}
 use Rattle.layout.specs.Cells.{pageOf, fieldOf}
 use Rattle.layout.specs.Words.{Words, ownerIn, refCount, refsIn, varsIn, graphOf, cellCount}
 use Rattle.promises.specs.Whole.{WholeFor}
@@ -20,7 +20,7 @@ use Rattle.promises.specs.Ends.{Part, partOf, Outside, Survivor, Lives, lives-h
 -- whatever an object that lives on or a variable names lives on
 pub record KeepsNamed (s : Sizes) (w : Words) (e : Part) : Type 0 where
   pub references : (c f d : ℕ) → Lives s w e c → f < refCount w c → fieldOf (w .cells) c f ≡ suc d → Lives s w e d
-  pub variables : (i d : ℕ) → i < s .threads * s .variables → varOf s (w .tables) i ≡ suc d → Lives s w e d
+  pub variables : (i d : ℕ) → i < varCount s → varOf s (w .tables) i ≡ suc d → Lives s w e d
 
 -- g is the graph of the objects that live on, each in its region, with the references and variables of before
 pub record GraphAfter (s : Sizes) (w : Words) (e : Part) (g : Graph) : Type 0 where

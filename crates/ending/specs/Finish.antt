@@ -11,7 +11,7 @@ use Rattle.lists.specs.Counting.{sum-same}
 use Rattle.lists.specs.Stores.{drop-same}
 use Rattle.rules.specs.declared.Sizes.{Sizes}
 use Rattle.laws.specs.SameRules.{renamed}
-use Rattle.layout.specs.Places.{Room, depthAt, varAt, ownerAt, usedAt, markAt, countAt, varOf, ownerOf, usedOf, markOf, cellsWords, rememberWords, tablesWords, count-room, countsFrom, ownersFrom, varsFrom}
+use Rattle.layout.specs.Places.{Room, depthAt, varAt, ownerAt, usedAt, markAt, countAt, varOf, ownerOf, usedOf, markOf, cellsWords, rememberWords, tablesWords, count-room, countsFrom, ownersFrom, varsFrom, varCount}
 use Rattle.layout.specs.Cells.{fieldOf, cellNamed, pageOf, cellOn, page-on, room-most}
 use Rattle.layout.specs.Objects.{Slot, begins-page, begins-same, begins-back, begins-used, begins-there, slot-low, slot-page}
 use Rattle.layout.specs.Words.{Words, words, Begins, Names, ownerIn, headIn}
@@ -66,16 +66,16 @@ regular-like {p} {T} {T′} size eo eu ec r =
 -- ---- the variables
 
 module _ {s : Sizes} {w w₁ : Words} {e : Part} {W T : List ℕ} (h : HasMoved s w w₁ e W T) where
-  variable-same : (i : ℕ) → i < s .threads * s .variables → varOf s T i ≡ varOf s (w .tables) i
+  variable-same : (i : ℕ) → i < varCount s → varOf s T i ≡ varOf s (w .tables) i
   variable-same i l = h .forwards .copying .rest (varAt s i) (inl (omega (arith, h .room))) ∙ var-same (h .marks) (h .room) i l
 
-  pub variables-ask : (i : ℕ) → i < s .threads * s .variables → Names s (varOf s T i)
+  pub variables-ask : (i : ℕ) → i < varCount s → Names s (varOf s T i)
   variables-ask i l =
       subst (Names s) (sym (variable-same i l))
       (λ n. page-of h (cellNamed (varOf s (w .tables) i)) (h .sends .keeps .variables i (cellNamed (varOf s (w .tables) i)) l (omega arith) .used))
 
   -- their rewriting leaves the pages and the counts as the copy left them, and what comes before them as it was
-  module _ {X T₂ : List ℕ} (Y : Variables s (s .threads * s .variables) X T T₂) where
+  module _ {X T₂ : List ℕ} (Y : Variables s (varCount s) X T T₂) where
     tables-room : Room s (length T)
     tables-room = h .ready .regular .room
 
@@ -113,7 +113,7 @@ pub record GaveBack (s : Sizes) (w : Words) (e : Part) (T T′ : List ℕ) : Typ
 
 module _ {s : Sizes} {w w₁ : Words} {e : Part} {W T : List ℕ} {S : ℕ → Type 0} {W′ : List ℕ} (k : HasRewritten s w w₁ e W T S W′)
     {E : ℕ → ℕ → Type 0} (told : Told s w e W T W′ E) {M′ : List ℕ} (U : Renewed E (s .entries) (w .remember) M′)
-    {T₂ : List ℕ} (Y : Variables s (s .threads * s .variables) W′ T T₂) {T′ : List ℕ} (Z : GaveBack s w e T₂ T′) where
+    {T₂ : List ℕ} (Y : Variables s (varCount s) W′ T T₂) {T′ : List ℕ} (Z : GaveBack s w e T₂ T′) where
   abbrev w′ : Words
   w′ = words W′ M′ T′
 

@@ -7,7 +7,7 @@ use native.Mathlib.Decide.{decLt}
 use native.Mathlib.Omega.{arith}
 use lib.ListN.{length, getD}
 use Rattle.rules.specs.declared.Sizes.{Sizes}
-use Rattle.layout.specs.Places.{Room, varAt, ownerAt, usedAt, countAt, depthAt, varOf, ownerOf, usedOf, countOf, depthOf, marksFrom, countsFrom}
+use Rattle.layout.specs.Places.{Room, varAt, ownerAt, usedAt, countAt, depthAt, varOf, ownerOf, usedOf, countOf, depthOf, marksFrom, countsFrom, varCount}
 use Rattle.layout.specs.Cells.{headAt, workAt, fieldAt, wordOf, headOf, workOf, fieldOf, pageOf, mostFields, most-is}
 use Rattle.layout.specs.Marks.{marked}
 use Rattle.layout.specs.Objects.{begins-page, begins-same, begins-back}
@@ -63,7 +63,7 @@ module _ {s : Sizes} {w w₁ : Words} {e : Part} (m : Marked s w e w₁) where
     pub used-same : (page : ℕ) → page < s .pages → usedOf s (w₁ .tables) page ≡ usedOf s (w .tables) page
     used-same page l = table-same (usedAt s page) (λ z. omega (arith, rm))
 
-    pub var-same : (i : ℕ) → i < s .threads * s .variables → varOf s (w₁ .tables) i ≡ varOf s (w .tables) i
+    pub var-same : (i : ℕ) → i < varCount s → varOf s (w₁ .tables) i ≡ varOf s (w .tables) i
     var-same i l = table-same (varAt s i) (λ z. omega (arith, rm))
 
     pub count-same : (g : ℕ) → countOf s (w₁ .tables) g ≡ countOf s (w .tables) g

@@ -7,7 +7,7 @@ use native.Mathlib.Omega.{arith}
 use Rattle.lists.specs.Bits.{bitAt, bit-zero}
 use Rattle.rules.specs.declared.Sizes.{Sizes}
 use Rattle.rules.specs.Regions.{regionAt}
-use Rattle.layout.specs.Places.{varOf, markOf, usedIn}
+use Rattle.layout.specs.Places.{varOf, markOf, usedIn, varCount}
 use Rattle.layout.specs.Cells.{workOf, pageOf, placeOf, cellNamed}
 use Rattle.layout.specs.Marks.{marked}
 use Rattle.layout.specs.Objects.{begins-page}
@@ -63,10 +63,10 @@ module _ {s : Sizes} {t k r : ℕ} {w w₁ : Words} (b : Begun s t k r w w₁) (
     pub none-update : crossingAfter s w t k ≤ s .entries → Updating s r (s .entries) (usedIn (w .remember)) (w₁ .cells) (w .remember) (w₁ .tables)
     none-update = update-ask b p none-copied none-rewritten
 
-  pub none-variables : Variables s (s .threads * s .variables) (w₁ .cells) (w₁ .tables) (w₁ .tables)
+  pub none-variables : Variables s (varCount s) (w₁ .cells) (w₁ .tables) (w₁ .tables)
   none-variables = record { size = refl; moved = λ i l. moved i l (varOf s (w₁ .tables) i) refl; same = λ x h. refl }
     where
-      moved : (i : ℕ) → i < s .threads * s .variables → (v : ℕ) → varOf s (w₁ .tables) i ≡ v → v ≡ forwarded (w₁ .cells) v
+      moved : (i : ℕ) → i < varCount s → (v : ℕ) → varOf s (w₁ .tables) i ≡ v → v ≡ forwarded (w₁ .cells) v
       moved i l zero z = sym (forward-null (w₁ .cells) zero refl)
       moved i l (suc d) z =
           let y : cellNamed (suc d) ≡ d = omega arith in

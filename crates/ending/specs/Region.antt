@@ -13,7 +13,7 @@ use Rattle.layout.specs.Words.{Words, ownerIn}
 use Rattle.promises.specs.Whole.{WholeFor}
 use Rattle.promises.specs.Ends.{partOf, Lives, lives-how}
 use Rattle.settle.specs.RewriteSlots.{Remembered}
-use Rattle.settle.specs.Entries.{newRegion, new-gone, new-stays, new-moved}
+use Rattle.remember.specs.Staying.{newRegion, new-gone, new-stays, new-moved}
 use Rattle.settle.specs.Append.{crossAt, Crosses}
 use Rattle.ended.specs.Living.{KeepsNamed}
 use Rattle.ending.specs.Placing.{HasMoved, placed, page-of, page-kept, outside-home, survivor-home, placed-page, placed-out, placed-only}

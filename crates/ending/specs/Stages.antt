@@ -13,7 +13,7 @@ use Rattle.rules.specs.declared.Sizes.{Sizes}
 use Rattle.rules.specs.Regions.{regionAt, regions, threadOf, levelOf}
 use Rattle.rules.specs.Graph.{ended, crossing}
 use Rattle.laws.specs.RegionLaws.{region-high, numbers-rise, thread-at, level-at}
-use Rattle.layout.specs.Places.{Room, depthAt, countAt, depthOf, ownerOf, markOf, usedIn, slotIn, slotRegionIn, ownersFrom, countsFrom, varsFrom, tablesWords, count-room}
+use Rattle.layout.specs.Places.{Room, depthAt, countAt, depthOf, ownerOf, markOf, usedIn, slotIn, slotRegionIn, ownersFrom, countsFrom, varsFrom, tablesWords, count-room, varCount}
 use Rattle.layout.specs.Cells.{pageOf, wordOf, field-word}
 use Rattle.layout.specs.Objects.{begins-page}
 use Rattle.layout.specs.Words.{Words, words, depthIn, ownerIn, graphOf}
@@ -184,7 +184,7 @@ module _ {s : Sizes} {t k r : ℕ} {w w₁ : Words} (b : Begun s t k r w w₁) w
         → (page : ℕ) → page < s .pages → Off l n page → markOf s T page ≡ 0
     marks-ask h page low off = copy-marks p c page low (unlisted h page low off)
 
-    module _ {W₃ T₂ : List ℕ} (Y : Variables s (s .threads * s .variables) W₃ T T₂) where
+    module _ {W₃ T₂ : List ℕ} (Y : Variables s (varCount s) W₃ T T₂) where
       -- copies and variables leave r its pages, and give it no other
       kept₂ : (page : ℕ) → page < s .pages → ownerIn s w page ≡ r → ownerOf s T₂ page ≡ r
       kept₂ page l z = owner₂ moved Y page l ∙ page-kept moved page l z ∙ z

@@ -12,7 +12,7 @@ use borrow.Author.Tests.{eq-eqb, ne-eqb}
 use Rattle.lists.specs.Members.{In, in-append}
 use Rattle.rules.specs.Regions.{join}
 use Rattle.rules.specs.declared.Sizes.{Sizes}
-use Rattle.layout.specs.Places.{Room, varOf, ownerOf, usedIn, slotIn, slotRegionIn, varsFrom, cellsWords, rememberWords}
+use Rattle.layout.specs.Places.{Room, varOf, ownerOf, usedIn, slotIn, slotRegionIn, varsFrom, cellsWords, rememberWords, varCount}
 use Rattle.layout.specs.Cells.{pageAt, cellOf, wordOf, at-page}
 use Rattle.layout.specs.Objects.{Begins, Slot, slot-word}
 use Rattle.layout.specs.Words.{words}
@@ -41,7 +41,7 @@ slotHeld p W m T r g i = cond (eqb (slotRegionIn (p .entries) m i) r) (heldFor g
 
 -- the cells that holders hold which call for g
 unfoldable pub heldCells : Sizes → List ℕ → List ℕ → List ℕ → ℕ → ℕ → ℕ → ℕ → List ℕ
-heldCells p W m T r thread outer g = named (varHeld p T thread outer g) (p .threads * p .variables) ++ named (slotHeld p W m T r g) (usedIn m)
+heldCells p W m T r thread outer g = named (varHeld p T thread outer g) (varCount p) ++ named (slotHeld p W m T r g) (usedIn m)
 
 -- the variables and the remember table are whole, and can be read
 pub record Holding (p : Sizes) (W m T : List ℕ) : Type 0 where
@@ -75,7 +75,7 @@ cond-ref p W T true x h = h
 cond-ref p W T false x h = λ l. absurd (let z : ⊥ = omega arith in z)
 
 module _ {p : Sizes} {W m T : List ℕ} (s : Shaped p W T) (h : Holding p W m T) where
-  pub var-held-ref : (thread outer g i : ℕ) → i < p .threads * p .variables → IsRef p W T (varHeld p T thread outer g i)
+  pub var-held-ref : (thread outer g i : ℕ) → i < varCount p → IsRef p W T (varHeld p T thread outer g i)
   unfolding varHeld
   var-held-ref thread outer g i l = cond-ref p W T (eqb (varCalls p thread outer i) g) (varOf p T i) (h .variables i l)
 
@@ -88,9 +88,9 @@ module _ {p : Sizes} {W m T : List ℕ} (s : Shaped p W T) (h : Holding p W m T)
   pub held-used : (r thread outer g x : ℕ) → In x (heldCells p W m T r thread outer g) → Begins p W T x
   unfolding heldCells
   held-used r thread outer g x i =
-      ⊎-elim (λ j. of (varHeld p T thread outer g) (p .threads * p .variables) (var-held-ref thread outer g) j)
+      ⊎-elim (λ j. of (varHeld p T thread outer g) (varCount p) (var-held-ref thread outer g) j)
       (λ j. of (slotHeld p W m T r g) (usedIn m) (slot-held-ref r g) j)
-      (in-append x (named (varHeld p T thread outer g) (p .threads * p .variables)) (named (slotHeld p W m T r g) (usedIn m)) i)
+      (in-append x (named (varHeld p T thread outer g) (varCount p)) (named (slotHeld p W m T r g) (usedIn m)) i)
     where
       of : (ref : ℕ → ℕ) (n : ℕ) → ((k : ℕ) → k < n → IsRef p W T (ref k)) → In x (named ref n) → Begins p W T x
       of ref n u j =
@@ -144,7 +144,7 @@ module _ (p : Sizes) (W m T : List ℕ) (r g i : ℕ) where
 -- ---- a marking changes none of it
 
 module _ {p : Sizes} {W T W′ T′ : List ℕ} (k : Kept p W T W′ T′) (room : Room p (length T)) {m : List ℕ} (h : Holding p W m T) where
-  kept-var : (i : ℕ) → i < p .threads * p .variables → varOf p T′ i ≡ varOf p T i
+  kept-var : (i : ℕ) → i < varCount p → varOf p T′ i ≡ varOf p T i
   kept-var i l = k .tables (varsFrom p + i) (inl (omega arith))
 
   kept-slot : (i : ℕ) → i < usedIn m → getD W′ (slotIn m i) 0 ≡ getD W (slotIn m i) 0
@@ -155,7 +155,7 @@ module _ {p : Sizes} {W T W′ T′ : List ℕ} (k : Kept p W T W′ T′) (room
       let o = kept-only k room m in
       record { some = h .some; long = h .long; variables = variables-frame o refl refl refl (h .variables); remember = remember-frame o refl refl refl refl refl (h .remember) }
 
-  pub kept-var-held : (thread outer g i : ℕ) → i < p .threads * p .variables → varHeld p T′ thread outer g i ≡ varHeld p T thread outer g i
+  pub kept-var-held : (thread outer g i : ℕ) → i < varCount p → varHeld p T′ thread outer g i ≡ varHeld p T thread outer g i
   unfolding varHeld
   kept-var-held thread outer g i l = ap (heldFor g (varCalls p thread outer i)) (kept-var i l)
 
@@ -168,4 +168,4 @@ module _ {p : Sizes} {W T W′ T′ : List ℕ} (k : Kept p W T W′ T′) (room
   pub kept-held-cells : (r thread outer g : ℕ) → heldCells p W′ m T′ r thread outer g ≡ heldCells p W m T r thread outer g
   unfolding heldCells
   kept-held-cells r thread outer g =
-      ap₂ (λ (x y : List ℕ). x ++ y) (named-same _ _ (p .threads * p .variables) (kept-var-held thread outer g)) (named-same _ _ (usedIn m) (kept-slot-held r g))
+      ap₂ (λ (x y : List ℕ). x ++ y) (named-same _ _ (varCount p) (kept-var-held thread outer g)) (named-same _ _ (usedIn m) (kept-slot-held r g))

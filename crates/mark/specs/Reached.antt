@@ -18,7 +18,7 @@ use Rattle.rules.specs.Regions.{regionAt, threadOf, join}
 use Rattle.laws.specs.RegionLaws.{region-high, thread-at, parent-at, join-control, join-other, join-same}
 use Rattle.laws.specs.GraphLaws as gl
 use Rattle.laws.specs.GraphLaws.{Refers, Holds, bySlot, byOwn, byOther}
-use Rattle.layout.specs.Places.{varOf, usedIn, slotIn, slotRegionIn, Room}
+use Rattle.layout.specs.Places.{varOf, usedIn, slotIn, slotRegionIn, Room, varCount}
 use Rattle.layout.specs.Cells.{fieldAt, fieldOf, pageOf, pageAt}
 use Rattle.layout.specs.Words.{Words, BeginsIn, ownerIn, homeIn, depthIn, refCount, refsIn, varsIn, graphOf}
 use Rattle.remember.specs.Crossing.{other, regionOf, crossTo}
@@ -168,12 +168,12 @@ module _ (s : Sizes) (w : Words) (k : WholeFor s w) where
     unfolding heldCells varHeld slotHeld
     held-holds g x h i =
         ⊎-elim variable slot
-        (in-append x (named (varHeld s (w .tables) t outer g) (s .threads * s .variables))
+        (in-append x (named (varHeld s (w .tables) t outer g) (varCount s))
         (named (slotHeld s (w .cells) (w .remember) (w .tables) r g) (usedIn (w .remember))) i)
       where
-        variable : In x (named (varHeld s (w .tables) t outer g) (s .threads * s .variables)) → Holds s (graphOf s w) r x g
+        variable : In x (named (varHeld s (w .tables) t outer g) (varCount s)) → Holds s (graphOf s w) r x g
         variable m =
-            let q = named-from (varHeld s (w .tables) t outer g) (s .threads * s .variables) x m in
+            let q = named-from (varHeld s (w .tables) t outer g) (varCount s) x m in
             let v = some-cond (eqb (varCalls s t outer (q .0)) g) (varOf s (w .tables) (q .0)) x (q .2) in
             let at : getD (varsIn s w) (q .0) 0 ≡ suc x = getD-vars s w (q .0) (q .1) ∙ v .1 ∙ one-add x in
             let e : varCalls s t outer (q .0) ≡ g = eqb-true _ _ (v .0) in
@@ -199,11 +199,11 @@ module _ (s : Sizes) (w : Words) (k : WholeFor s w) where
     var-held : (x l i : ℕ) → getD (varsIn s w) i 0 ≡ suc x → regionAt s t l ≡ varCalls s t outer i → In x (held (regionAt s t l))
     unfolding heldCells
     var-held x l i at c =
-        let b : i < s .threads * s .variables = omega (arith, in-bounds (varsIn s w) i (λ z. omega arith), length-vars s w k) in
+        let b : i < varCount s = omega (arith, in-bounds (varsIn s w) i (λ z. omega arith), length-vars s w k) in
         let g : ℕ = regionAt s t l in
-        in-left x (named (varHeld s (w .tables) t outer g) (s .threads * s .variables))
+        in-left x (named (varHeld s (w .tables) t outer g) (varCount s))
         (named (slotHeld s (w .cells) (w .remember) (w .tables) r g) (usedIn (w .remember)))
-        (named-in (varHeld s (w .tables) t outer g) (s .threads * s .variables) i x b
+        (named-in (varHeld s (w .tables) t outer g) (varCount s) i x b
         (sym (var-some s (w .tables) t outer g i (varCalls s t outer i) (varOf s (w .tables) i) refl (sym c) refl)
         ∙ sym (getD-vars s w i b) ∙ at ∙ sym (one-add x)))
 
@@ -218,7 +218,7 @@ module _ (s : Sizes) (w : Words) (k : WholeFor s w) where
         let page : pageAt (slotIn (w .remember) (n .0)) ≡ pageOf y = ap pageAt (n .2) ∙ field-on s (w .cells) (w .tables) y u (i .0) (ref-room s w k y (i .0) u b) in
         let g : ℕ = regionAt s t l in
         let call : slotCalls s (w .remember) (w .tables) r (n .0) ≡ g = ap (λ (z : ℕ). join s r (ownerIn s w z)) page ∙ ap (join s r) (sym hy) ∙ e in
-        in-right x (named (varHeld s (w .tables) t outer g) (s .threads * s .variables))
+        in-right x (named (varHeld s (w .tables) t outer g) (varCount s))
         (named (slotHeld s (w .cells) (w .remember) (w .tables) r g) (usedIn (w .remember)))
         (named-in (slotHeld s (w .cells) (w .remember) (w .tables) r g) (usedIn (w .remember)) (n .0) x (n .1)
         (sym (slot-some s (w .cells) (w .remember) (w .tables) r g (n .0) (n .3) call) ∙ ap (λ (z : ℕ). getD (w .cells) z 0) (n .2) ∙ i .2 ∙ sym (one-add x)))

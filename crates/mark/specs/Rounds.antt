@@ -4,7 +4,7 @@ use mathlib.Core.List.{List, _++_}
 use Prim.Native.Nat.{ℕ, _+_, _*_}
 use Rattle.rules.specs.Regions.{regionAt}
 use Rattle.rules.specs.declared.Sizes.{Sizes}
-use Rattle.layout.specs.Places.{usedIn}
+use Rattle.layout.specs.Places.{usedIn, varCount}
 use Rattle.promises.specs.Whole.{IsRef}
 use Rattle.mark.specs.Marks.{Kept, Shaped, named, named-same, kept-shaped}
 use Rattle.mark.specs.Pushes.{Pushing, pushes-kept}
@@ -15,12 +15,12 @@ use Rattle.mark.specs.Holders.{varHeld, slotHeld, heldCells, Holding, sl
 -- the holders that call for g are pushed on an empty stack
 
 level-pending : {p : Sizes} {r g : ℕ} (thread outer : ℕ) {W m T W₁ T₁ W₂ T₂ : List ℕ} {top top′ : ℕ} → Shaped p W T → Holding p W m T
-    → Pushing p r (varHeld p T thread outer g) (p .threads * p .variables) W T 0 W₁ T₁ top (p .threads * p .variables)
+    → Pushing p r (varHeld p T thread outer g) (varCount p) W T 0 W₁ T₁ top (varCount p)
     → Pushing p r (slotHeld p W₁ m T₁ r g) (usedIn m) W₁ T₁ top W₂ T₂ top′ (usedIn m)
     → Pending p r g W T (heldCells p W m T r thread outer g) W₂ T₂ top′
 unfolding heldCells
 level-pending {p} {r} {g} thread outer {W} {m} {T} {W₁} {T₁} {W₂} {T₂} {top} {top′} s h a b =
-    let n : ℕ = p .threads * p .variables in
+    let n : ℕ = varCount p in
     let k : Kept p W T W₁ T₁ = pushes-kept (varHeld p T thread outer g) n s (a .pushes) in
     let S : List ℕ = named (varHeld p T thread outer g) n in
     subst (λ (l : List ℕ). Pending p r g W T (S ++ l) W₂ T₂ top′) (named-same _ _ (usedIn m) (kept-slot-held k (s .room) h r g))
@@ -44,7 +44,7 @@ module _ {p : Sizes} {r n : ℕ} {W₀ m T₀ W T : List ℕ} (s₀ : Shaped p W
 
   module _ (g : ℕ) (e : g ≡ regionAt p thread n) where
     pub round-pending : {W₁ T₁ W₂ T₂ : List ℕ} {top top′ : ℕ}
-        → Pushing p r (varHeld p T thread outer g) (p .threads * p .variables) W T 0 W₁ T₁ top (p .threads * p .variables)
+        → Pushing p r (varHeld p T thread outer g) (varCount p) W T 0 W₁ T₁ top (varCount p)
         → Pushing p r (slotHeld p W₁ m T₁ r g) (usedIn m) W₁ T₁ top W₂ T₂ top′ (usedIn m)
         → Pending p r g W T (heldCells p W₀ m T₀ r thread outer g) W₂ T₂ top′
     round-pending {W₂ = W₂} {T₂ = T₂} {top′ = top′} a b =

@@ -4,7 +4,7 @@ ghost use mathlib.Core.Path.{_≡_};
 ghost use mathlib.Core.List.{List};
 ghost use Prim.Native.Nat.{ℕ, _+_, _*_, _<_, _≤_};
 ghost use lib.ListN.{length};
-ghost use Rattle.layout.specs.Places.{Room, usedIn, slotIn, cellsWords, rememberWords};
+ghost use Rattle.layout.specs.Places.{Room, usedIn, slotIn, cellsWords, rememberWords, varCount};
 ghost use Rattle.mark.specs.Marks.{Shaped};
 ghost use Rattle.mark.specs.Pushes.{Pushing};
 ghost use Rattle.mark.specs.Holders.{varCalls, varHeld, slotHeld, Holding};
@@ -25,7 +25,7 @@ pub fn variable_calls(p: Sizes, thread: usize, outer: u32, i: usize) -> u32
 // What variable i holds if it calls for g, else null.
 pub fn variable_for(p: Sizes, tables: &[u32], thread: usize, outer: u32, g: u32, i: usize) -> u32
     requires { ⌜ Room p (length (now tables)) ⌝ }
-    requires { ⌜ (1 ≤ p .variables) × (i < p .threads * p .variables) ⌝ }
+    requires { ⌜ (1 ≤ p .variables) × (i < varCount p) ⌝ }
     ensures { λ x. ⌜ x ≡ varHeld p (now (tables .entry)) thread outer g i ⌝ }
 {
     if variable_calls(p, thread, outer, i) != g {
@@ -78,7 +78,7 @@ pub fn push_variables(
 ) -> u32
     requires { ⌜ Shaped p (now cells) (now tables) ⌝ }
     requires { ⌜ ((m : List ℕ) × Holding p (now cells) m (now tables)) ⌝ }
-    ensures { λ t. ⌜ Pushing p r (varHeld p (now (tables .entry)) thread outer g) (p .threads * p .variables) (now (cells .entry)) (now (tables .entry)) top (now (cells .exit)) (now (tables .exit)) t (p .threads * p .variables) ⌝ }
+    ensures { λ t. ⌜ Pushing p r (varHeld p (now (tables .entry)) thread outer g) (varCount p) (now (cells .entry)) (now (tables .entry)) top (now (cells .exit)) (now (tables .exit)) t (varCount p) ⌝ }
 {
     let n = layout::tables::var_count(p);
     let mut t = top;

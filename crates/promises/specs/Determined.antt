@@ -16,7 +16,7 @@ use Rattle.rules.specs.Regions.{regions}
 use Rattle.rules.specs.Rules.{Regioned, graph}
 use Rattle.laws.specs.GraphLaws.{Alive}
 use Rattle.layout.specs.Places as lp
-use Rattle.layout.specs.Places.{tablesWords, ownersFrom, depthAt, varAt, varOf, markOf, countOf, slotIn, slotRegionIn, count-room, count-is, mark-is, used-is, owners-is}
+use Rattle.layout.specs.Places.{tablesWords, ownersFrom, depthAt, varAt, varOf, markOf, countOf, slotIn, slotRegionIn, count-room, count-is, mark-is, used-is, owners-is, varCount}
 use Rattle.layout.specs.declared.Kind.{Kind}
 use Rattle.layout.specs.declared.Kind.the-variants.{Reference, Number}
 use Rattle.layout.specs.Cells.{headAt, workAt, fieldOf, fieldAt, fieldCount, firstField, first-reference, first-number, head-determined, allFields, roomFor, pageCells, pageOf, page-on, place-on, pageAt, cellOn, cellOf}
@@ -42,7 +42,7 @@ pub record SameButOpen (s : Sizes) (w w′ : Words) : Type 0 where
   -- tables: T, V, D, P, N; depth of each thread; variables; owners; cells in use on each page; working words; objects in each region
   pub sizes : sizesIn w ≡ sizesIn w′
   pub depths : (t : ℕ) → t < s .threads → depthIn w t ≡ depthIn w′ t
-  pub variables : (i : ℕ) → i < s .threads * s .variables → varOf s (w .tables) i ≡ varOf s (w′ .tables) i
+  pub variables : (i : ℕ) → i < varCount s → varOf s (w .tables) i ≡ varOf s (w′ .tables) i
   pub owners : (page : ℕ) → page < s .pages → ownerIn s w page ≡ ownerIn s w′ page
   pub used : (page : ℕ) → page < s .pages → usedIn s w page ≡ usedIn s w′ page
   pub marks : (page : ℕ) → page < s .pages → markOf s (w .tables) page ≡ markOf s (w′ .tables) page

@@ -20,7 +20,7 @@ use Rattle.rules.specs.Rules.{Regioned, graph}
 use Rattle.laws.specs.GraphLaws.{Alive}
 use Rattle.laws.specs.RulesLaws.{Sound}
 use Rattle.laws.specs.SameRules.{renamed, renamed-zeros}
-use Rattle.layout.specs.Places.{varAt}
+use Rattle.layout.specs.Places.{varAt, varCount}
 use Rattle.layout.specs.declared.Kind.{Kind}
 use Rattle.layout.specs.declared.Kind.the-variants.{Reference, Number}
 use Rattle.layout.specs.Cells.{headOf, fieldCount, firstField, headWord, mostFields, roomFor, kind-among, fields-room, refs-head, nums-head}
@@ -185,7 +185,7 @@ module _ (s : Sizes) (w : Words) (h : Regioned) (to : ℕ → ℕ) (st : StandsF
 
   -- ---- and variable i, counted through all threads, names it
 
-  pub made-stands : (i : ℕ) → i < s .threads * s .variables → Sound (withVariable h₁ i (n + 1)) → StandsFor s (withTables w₁ (set t′ (varAt s i) (cell + 1))) (withVariable h₁ i (n + 1)) to₁
+  pub made-stands : (i : ℕ) → i < varCount s → Sound (withVariable h₁ i (n + 1)) → StandsFor s (withTables w₁ (set t′ (varAt s i) (cell + 1))) (withVariable h₁ i (n + 1)) to₁
   made-stands i l sound =
       variable-stands s w₁ h₁ to₁ (new-stands between) i (n + 1) (cell + 1) l (add-one cell ∙ ap suc (sym to-new) ∙ sym (ap (renamed to₁) (add-one n))) sound
     where

@@ -7,7 +7,7 @@ use lib.ListN.{length, getD, drop, replicate, length-append, length-drop, length
 use lib.Seq.{getD-take, getD-drop, length-take-le}
 use lib.Dec.{eqb}
 use Rattle.rules.specs.Terms.{InRange}
-use Rattle.layout.specs.Places.{depthAt, varAt, markAt, countAt, slotAt, slotRegionAt, ownersFrom, usedFrom, marksFrom, countsFrom, rememberWords, tablesWords, count-room}
+use Rattle.layout.specs.Places.{depthAt, varAt, markAt, countAt, slotAt, slotRegionAt, ownersFrom, usedFrom, marksFrom, countsFrom, rememberWords, tablesWords, count-room, varCount}
 use Rattle.layout.specs.Cells.{pageOf}
 use Rattle.layout.specs.Objects.{begins-used}
 use Rattle.lists.specs.Tests.{cond-zero}
@@ -49,9 +49,9 @@ module _ (s : Sizes) (lent w : Words) (range : InRange s) (long : LongEnough s l
       ∙ zeros-then (rememberWords s - 1) (i - 1) (drop (2 * s .entries + 2) (lent .remember)) (omega arith)
 
   -- the places, below tw
-  room : (5 + s .threads + s .threads * s .variables + 3 * s .pages + 1 + s .threads * s .depth ≡ tw) × (ownersFrom s ≡ 5 + s .threads + s .threads * s .variables)
-      × (usedFrom s ≡ 5 + s .threads + s .threads * s .variables + s .pages) × (marksFrom s ≡ 5 + s .threads + s .threads * s .variables + 2 * s .pages)
-      × (countsFrom s ≡ 5 + s .threads + s .threads * s .variables + 3 * s .pages)
+  room : (5 + s .threads + varCount s + 3 * s .pages + 1 + s .threads * s .depth ≡ tw) × (ownersFrom s ≡ 5 + s .threads + varCount s)
+      × (usedFrom s ≡ 5 + s .threads + varCount s + s .pages) × (marksFrom s ≡ 5 + s .threads + varCount s + 2 * s .pages)
+      × (countsFrom s ≡ 5 + s .threads + varCount s + 3 * s .pages)
   unfolding tw ownersFrom usedFrom marksFrom countsFrom
   room = omega (arith, count-room s)
 
@@ -131,12 +131,12 @@ module _ (s : Sizes) (lent w : Words) (range : InRange s) (long : LongEnough s l
       all-zero (depthsIn s w) (s .threads) (length-take-le (s .threads) (drop 5 (w .tables)) (simp length-drop (omega (arith, long-tables, room))))
       (λ i l. getD-take (s .threads) (drop 5 (w .tables)) i 0 l ∙ getD-drop 5 (w .tables) i 0 ∙ table-zero (5 + i) (omega arith) (omega (arith, room)))
 
-  vars-zero : varsIn s w ≡ replicate (s .threads * s .variables) 0
+  vars-zero : varsIn s w ≡ replicate (varCount s) 0
   unfolding varsAt
   vars-zero =
       let from : ℕ = varAt s 0 in
-      all-zero (varsIn s w) (s .threads * s .variables) (length-take-le (s .threads * s .variables) (drop from (w .tables)) (simp length-drop (omega (arith, long-tables, room))))
-      (λ i l. getD-take (s .threads * s .variables) (drop from (w .tables)) i 0 l ∙ getD-drop from (w .tables) i 0
+      all-zero (varsIn s w) (varCount s) (length-take-le (varCount s) (drop from (w .tables)) (simp length-drop (omega (arith, long-tables, room))))
+      (λ i l. getD-take (varCount s) (drop from (w .tables)) i 0 l ∙ getD-drop from (w .tables) i 0
       ∙ table-zero (from + i) (omega arith) (omega (arith, room)))
 
   unused-stands : StandsFor s w (unused s) (λ x. x)
@@ -151,7 +151,7 @@ module _ (s : Sizes) (lent w : Words) (range : InRange s) (long : LongEnough s l
           apart = λ x y a b e. e;
           onto = λ y a. absurd (none-there y a);
           refs = λ x a. absurd (a refl);
-          vars = vars-zero ∙ sym (renamed-zeros (s .threads * s .variables) (λ x. x));
+          vars = vars-zero ∙ sym (renamed-zeros (varCount s) (λ x. x));
         };
         nums = λ x a. absurd (a refl);
       }

@@ -12,7 +12,7 @@ use Rattle.rules.specs.Terms.{InRange}
 use Rattle.laws.specs.GraphLaws.{Alive, Closed}
 use Rattle.layout.specs.declared.Kind.{Kind}
 use Rattle.layout.specs.declared.Kind.the-variants.{Reference}
-use Rattle.layout.specs.Places.{Room, room, depthAt, varAt, varOf, tablesWords, rememberWords, cellsWords, count-room, count-is, ownersFrom}
+use Rattle.layout.specs.Places.{Room, room, depthAt, varAt, varOf, tablesWords, rememberWords, cellsWords, count-room, count-is, ownersFrom, varCount}
 use Rattle.layout.specs.Cells.{fieldAt, fieldOf, fieldCount, firstField, kindAt, mostFields, roomFor, kind-among, first-reference, fields-room, pageOf, CellIn}
 use Rattle.layout.specs.Cells as ly
 use Rattle.layout.specs.Words.{Words, depthIn, varIn, ownerIn, depthsIn, varsIn, headIn, refCount, fieldsIn, refsIn, homeIn, graphOf, depthsAt, homeAt, fieldsAt, varsAt, BeginsIn}
@@ -30,10 +30,10 @@ getD-fields d w c i l =
 pub getD-refs : (w : Words) (c i : ℕ) → i < refCount w c → getD (refsIn w c) i 0 ≡ fieldOf (w .cells) c i
 getD-refs w c i l = getD-fields Reference w c i l ∙ ap (fieldOf (w .cells) c) (let e : firstField Reference (headIn w c) + i ≡ i = omega (arith, first-reference (headIn w c)) in e)
 
-pub getD-vars : (s : Sizes) (w : Words) (i : ℕ) → i < s .threads * s .variables → getD (varsIn s w) i 0 ≡ varOf s (w .tables) i
+pub getD-vars : (s : Sizes) (w : Words) (i : ℕ) → i < varCount s → getD (varsIn s w) i 0 ≡ varOf s (w .tables) i
 unfolding varsAt
 getD-vars s w i l =
-    getD-take (s .threads * s .variables) (drop (varAt s 0) (w .tables)) i 0 l ∙ getD-drop (varAt s 0) (w .tables) i 0
+    getD-take (varCount s) (drop (varAt s 0) (w .tables)) i 0 l ∙ getD-drop (varAt s 0) (w .tables) i 0
     ∙ ap (λ (n : ℕ). getD (w .tables) n 0) (let e : varAt s 0 + i ≡ varAt s i = omega arith in e)
 
 pub var-at : (s : Sizes) (w : Words) (t a : ℕ) → t < s .threads → a < s .variables → getD (varsIn s w) (t * s .variables + a) 0 ≡ varIn s w t a
@@ -100,14 +100,14 @@ module _ (s : Sizes) (w : Words) (k : WholeFor s w) where
   pub length-refs : (c : ℕ) → BeginsIn s w c → length (refsIn w c) ≡ refCount w c
   length-refs = length-fields Reference
 
-  pub vars-room : varAt s (s .threads * s .variables) ≤ ownersFrom s
+  pub vars-room : varAt s (varCount s) ≤ ownersFrom s
   unfolding ownersFrom
   vars-room = omega arith
 
-  pub length-vars : length (varsIn s w) ≡ s .threads * s .variables
+  pub length-vars : length (varsIn s w) ≡ varCount s
   unfolding varsAt
   length-vars =
-      length-take-le (s .threads * s .variables) (drop (varAt s 0) (w .tables))
+      length-take-le (varCount s) (drop (varAt s 0) (w .tables))
       (simp length-drop (omega (arith, tables-room, count-room s, count-is s, vars-room)))
 
   pub length-depths : length (depthsIn s w) ≡ s .threads
@@ -118,7 +118,7 @@ module _ (s : Sizes) (w : Words) (k : WholeFor s w) where
 
   vars-alive : (i x : ℕ) → getD (varsIn s w) i 0 ≡ suc x → Alive (graphOf s w) x
   vars-alive i x e =
-      let l : i < s .threads * s .variables = omega (arith, in-bounds (varsIn s w) i (λ z. omega arith), length-vars) in
+      let l : i < varCount s = omega (arith, in-bounds (varsIn s w) i (λ z. omega arith), length-vars) in
       let v : varOf s (w .tables) i ≡ suc x = sym (getD-vars s w i l) ∙ e in
       let u = k .variables i l (omega arith) in
       let x′ : varOf s (w .tables) i - 1 ≡ x = omega arith in

@@ -6,7 +6,7 @@ use Prim.Native.Nat.{ℕ, _+_, _*_, _≤_, _<_}
 use native.Mathlib.Decide.{ℕ-discrete}
 use native.Mathlib.Omega.{arith}
 use lib.ListN.{length, set}
-use Rattle.layout.specs.Places.{slotIn, slotRegionIn}
+use Rattle.layout.specs.Places.{slotIn, slotRegionIn, entriesWords}
 use Rattle.remember.specs.Stretches.{Added, added-none, added-one, added-join, added-like, slot-above, region-above}
 
 -- one of the first i entries stays: slot x, with region h
@@ -29,7 +29,7 @@ module _ {anew : ℕ → ℕ → ℕ} {n i j : ℕ} {M M′ : List ℕ} (few : i
   read-region = region-above h i le
 
   -- v is the new region that the code found of it, s its slot
-  pub filter-keep : 2 + 2 * n ≤ length M → ((k : ℕ) → k < i → slotIn M k ≢ slotIn M i) → (s v : ℕ) → s ≡ slotIn M′ i → v ≡ anew (slotIn M′ i) (slotRegionIn n M′ i) → v ≢ 0
+  pub filter-keep : entriesWords n ≤ length M → ((k : ℕ) → k < i → slotIn M k ≢ slotIn M i) → (s v : ℕ) → s ≡ slotIn M′ i → v ≡ anew (slotIn M′ i) (slotRegionIn n M′ i) → v ≢ 0
       → Added n (Stays anew n M (i + 1)) 0 (j + 1) M (set (set M′ (2 + j) s) (2 + n + j) v)
   filter-keep long once s v es ev ne =
       added-join h (added-one j s v M′ (omega arith) (omega (arith, h .size)))

@@ -4,6 +4,7 @@
 pub mod Crossing
 pub mod Entries
 pub mod Remembering
+pub mod Staying
 -- laws
 pub mod Crosses
 pub mod EntryEdits

@@ -7,7 +7,7 @@ use native.Mathlib.Decide.{ℕ-discrete, decLt}
 use native.Mathlib.Omega.{arith}
 use lib.ListN.{length, getD, set, length-set}
 use lib.Seq.{getD-set-same, getD-set-other}
-use Rattle.layout.specs.Places.{slotIn, slotRegionIn}
+use Rattle.layout.specs.Places.{slotIn, slotRegionIn, entriesWords}
 
 -- ---- entries i up to j are those of G: slot x with region h
 
@@ -32,7 +32,7 @@ added-none G i M l no-one =
       same = λ x a b. refl;
     }
 
-pub added-one : {n : ℕ} (i x h : ℕ) (M : List ℕ) → i < n → 2 + 2 * n ≤ length M
+pub added-one : {n : ℕ} (i x h : ℕ) (M : List ℕ) → i < n → entriesWords n ≤ length M
     → Added n (λ y g. (y ≡ x) × (g ≡ h)) i (i + 1) M (set (set M (2 + i) x) (2 + n + i) h)
 added-one {n} i x h M l long =
     record {
@@ -136,7 +136,7 @@ pub record Cleared (n j i : ℕ) (M M′ : List ℕ) : Type 0 where
 pub clear-start : (n j : ℕ) (M : List ℕ) → Cleared n j j M M
 clear-start n j M = record { size = refl; zero = λ y a b. absurd (let z : ⊥ = omega arith in z); same = λ x a b. refl }
 
-pub clear-next : {n j i : ℕ} {M M′ : List ℕ} → j ≤ i → i < n → 2 + 2 * n ≤ length M → Cleared n j i M M′
+pub clear-next : {n j i : ℕ} {M M′ : List ℕ} → j ≤ i → i < n → entriesWords n ≤ length M → Cleared n j i M M′
     → Cleared n j (i + 1) M (set (set M′ (2 + i) 0) (2 + n + i) 0)
 clear-next {n} {j} {i} {M} {M′} le lt long h =
     record {

@@ -3,14 +3,14 @@
 ghost use mathlib.Core.Path.{_≡_};
 ghost use Prim.Native.Nat.{ℕ, _+_, _*_, _^_, _<_, _≤_};
 ghost use lib.ListN.{length};
-ghost use Rattle.layout.specs.Places.{usedIn, slotIn};
+ghost use Rattle.layout.specs.Places.{usedIn, slotIn, entriesWords};
 ghost use Rattle.remember.specs.Entries.{added, removed};
 ghost use Rattle.remember.specs.Remembering.{Remembered};
 ghost use Rattle.remember.specs.Stretches.{Cleared};
 
 // The entry that names slot `at`, which one of the first `used` does.
 pub fn find_entry(entries: usize, remember: &[u32], used: usize, at: usize) -> usize
-    requires { ⌜ 2 * entries + 2 ≤ length (now remember) ⌝ }
+    requires { ⌜ entriesWords entries ≤ length (now remember) ⌝ }
     requires { ⌜ used ≤ entries ⌝ }
     requires { ⌜ ((i : ℕ) × (i < used) × (slotIn (now remember) i ≡ at)) ⌝ }
     ensures { λ r. ⌜ (r < used) × (slotIn (now (remember .entry)) r ≡ at) ⌝ }
@@ -27,7 +27,7 @@ pub fn find_entry(entries: usize, remember: &[u32], used: usize, at: usize) -> u
 
 // One more entry, after the `used` ones.
 pub fn add_entry(entries: usize, remember: &mut [u32], used: usize, at: usize, region: u32)
-    requires { ⌜ 2 * entries + 2 ≤ length (now remember) ⌝ }
+    requires { ⌜ entriesWords entries ≤ length (now remember) ⌝ }
     requires { ⌜ (entries < 2 ^ 32) × (used < entries) × (used ≡ usedIn (now remember)) × (at < 2 ^ 32) ⌝ }
     ensures { λ r. ⌜ now (remember .exit) ≡ added entries (now (remember .entry)) at region ⌝ }
 {
@@ -38,7 +38,7 @@ pub fn add_entry(entries: usize, remember: &mut [u32], used: usize, at: usize, r
 
 // Entry i of the `used` ones goes; the last takes its place.
 pub fn remove_entry(entries: usize, remember: &mut [u32], used: usize, i: usize)
-    requires { ⌜ 2 * entries + 2 ≤ length (now remember) ⌝ }
+    requires { ⌜ entriesWords entries ≤ length (now remember) ⌝ }
     requires { ⌜ (entries < 2 ^ 32) × (used ≤ entries) × (used ≡ usedIn (now remember)) × (i < used) ⌝ }
     ensures { λ r. ⌜ now (remember .exit) ≡ removed entries (now (remember .entry)) i ⌝ }
 {
@@ -54,7 +54,7 @@ pub fn remove_entry(entries: usize, remember: &mut [u32], used: usize, i: usize)
 
 // Slot `at` crossed into `was` and is to cross into `will`: its entry stays, goes, comes or changes its region, or there is no room (14).
 pub fn remember_slot(entries: usize, remember: &mut [u32], at: usize, was: u32, will: u32) -> u32
-    requires { ⌜ 2 * entries + 2 ≤ length (now remember) ⌝ }
+    requires { ⌜ entriesWords entries ≤ length (now remember) ⌝ }
     requires { ⌜ (entries < 2 ^ 32) × (usedIn (now remember) ≤ entries) × (at < 2 ^ 32) ⌝ }
     requires { ⌜ (0 < was → (i : ℕ) × (i < usedIn (now remember)) × (slotIn (now remember) i ≡ at)) ⌝ }
     ensures { λ r. ⌜ Remembered entries (now (remember .entry)) at was will (now (remember .exit)) r ⌝ }
@@ -82,7 +82,7 @@ pub fn remember_slot(entries: usize, remember: &mut [u32], at: usize, was: u32, 
 // Entries `from` up to `to` become zero.
 pub fn clear_entries(entries: usize, remember: &mut [u32], from: usize, to: usize)
     requires { ⌜ (from ≤ to) × (to ≤ entries) ⌝ }
-    requires { ⌜ 2 * entries + 2 ≤ length (now remember) ⌝ }
+    requires { ⌜ entriesWords entries ≤ length (now remember) ⌝ }
     ensures { λ _. ⌜ Cleared entries from to (now (remember .entry)) (now (remember .exit)) ⌝ }
 {
     let mut i = from;

@@ -2,3 +2,4 @@
 // of the entries.
 pub mod crossing;
 pub mod entries;
+pub mod filter;

@@ -8,6 +8,7 @@ ghost use Rattle.layout.specs.Words.{depthsAt};
 ghost use Rattle.report.specs.Report.{rowOf, noRow};
 ghost use Rattle.report.specs.Opened.{Next, Turn};
 ghost use Rattle.report.specs.Tables.{WholeTables, rowIn, rowsIn, freeIn};
+ghost use Rattle.rules.specs.Regions.{regions};
 use rules::Sizes;
 
 pub mod lent;
@@ -46,7 +47,7 @@ fn row_with(thread: u32, level: u32, objects: u32) -> Row
 // The row of a region.
 pub fn row_of(p: Sizes, tables: &[u32], region: usize) -> Row
     requires { ⌜ WholeTables p (now tables) ⌝ }
-    requires { ⌜ (1 ≤ region) × (region ≤ 1 + p .threads * p .depth) ⌝ }
+    requires { ⌜ (1 ≤ region) × (region ≤ regions p) ⌝ }
     ensures { λ r. ⌜ r ≡ rowIn p (now (tables .entry)) region ⌝ }
 {
     let objects = layout::tables::count(p, tables, region);
@@ -61,7 +62,7 @@ pub fn row_of(p: Sizes, tables: &[u32], region: usize) -> Row
 // The next open region by number; one past the last region if there is none.
 pub fn next_open(p: Sizes, tables: &[u32], region: usize) -> usize
     requires { ⌜ WholeTables p (now tables) ⌝ }
-    requires { ⌜ (1 ≤ region) × (region ≤ 1 + p .threads * p .depth) ⌝ }
+    requires { ⌜ (1 ≤ region) × (region ≤ regions p) ⌝ }
     ensures { λ r. ⌜ Next p (depthsAt p (now (tables .entry))) region r ⌝ }
 {
     let last = layout::wide(layout::regions::region_at(p, p.threads - 1, p.depth));

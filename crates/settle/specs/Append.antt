@@ -10,7 +10,7 @@ use borrow.Author.Tests.{lt-ltb, le-ltb}
 use lib.Dec.{ltb}
 use lib.ListN.{length, getD}
 use Rattle.rules.specs.declared.Sizes.{Sizes}
-use Rattle.layout.specs.Places.{ownerOf, slotIn}
+use Rattle.layout.specs.Places.{ownerOf, slotIn, entriesWords}
 use Rattle.layout.specs.Cells.{pageAt}
 use Rattle.layout.specs.Objects.{Slot}
 use Rattle.remember.specs.Crossing.{crossesFrom}
@@ -34,7 +34,7 @@ pub record Crossing (p : Sizes) (P : ℕ → Type 0) (W T : List ℕ) (x h : ℕ
 
 -- the crossing slots of P can be appended to j entries
 pub record Appending (p : Sizes) (r n : ℕ) (P : ℕ → Type 0) (W M T : List ℕ) (j : ℕ) : Type 0 where
-  pub long : 2 + 2 * n ≤ length M
+  pub long : entriesWords n ≤ length M
   pub low : j ≤ n
   pub listed : (y : ℕ) → y < j → Crosses p r W T (slotIn M y)
   pub once : (y z : ℕ) → y < z → z < j → slotIn M y ≢ slotIn M z

@@ -19,7 +19,7 @@ use Rattle.remember.specs.Crossing.{crossesFrom}
 use Rattle.settle.specs.RewriteSlots.{Field, Fields, fields-start, field-moved}
 use Rattle.settle.specs.RewriteCopies.{CopySlot, Old, Wiring, Grown, OnPages, copy-fields, slot-less, slot-now, slot-then}
 use Rattle.remember.specs.Stretches.{Added, added-like, Cleared}
-use Rattle.settle.specs.Entries.{newRegion, Stays, Entries}
+use Rattle.remember.specs.Staying.{newRegion, Stays, Entries}
 use Rattle.settle.specs.Update.{Copies, Updating, Updated, update-appending, updated}
 use Rattle.settle.specs.Settle.{Settled, Settling, crossing-in, copy-rewritten}
 

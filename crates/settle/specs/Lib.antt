@@ -2,7 +2,6 @@
 pub mod Rewrite
 pub mod RewriteSlots
 pub mod RewriteCopies
-pub mod Entries
 pub mod Append
 pub mod Update
 pub mod Settle

@@ -8,7 +8,7 @@ use native.Mathlib.Omega.{arith}
 use lib.ListN.{length, getD, set, length-set}
 use lib.Seq.{getD-set-same, getD-set-other}
 use Rattle.rules.specs.declared.Sizes.{Sizes}
-use Rattle.layout.specs.Places.{Room, varAt, varCount, varOf, slotIn, slotRegionIn, varsFrom, cellsWords}
+use Rattle.layout.specs.Places.{Room, varAt, varCount, varOf, slotIn, slotRegionIn, varsFrom, cellsWords, entriesWords}
 use Rattle.layout.specs.Cells.{fieldAt, fieldOf, pageOf, wordOf, mostFields, field-once, field-word, field-in}
 use Rattle.layout.specs.Words.{Names}
 use Rattle.settle.specs.Rewrite.{forwarded, Rewritten, rewritten-none, rewritten-one, rewritten-join}
@@ -24,7 +24,7 @@ pub record Remembered (r n m : ℕ) (M : List ℕ) (x : ℕ) : Type 0 where
 
 pub record Slots (p : Sizes) (r n m : ℕ) (W M : List ℕ) : Type 0 where
   pub few : m ≤ n
-  pub long : 2 + 2 * n ≤ length M
+  pub long : entriesWords n ≤ length M
   pub pages : p .pages ≤ 1024
   pub cells-long : cellsWords p ≤ length W
   pub low : (i : ℕ) → i < m → slotIn M i < cellsWords p

@@ -9,7 +9,7 @@ use Rattle.rules.specs.declared.Sizes.{Sizes}
 use Rattle.layout.specs.Places.{slotIn, slotRegionIn}
 use Rattle.remember.specs.Stretches.{Added, added-join, Cleared}
 use Rattle.remember.specs.Renewed.{Renewed, renewed}
-use Rattle.settle.specs.Entries.{Stays, Entries}
+use Rattle.remember.specs.Staying.{Stays, Entries}
 use Rattle.settle.specs.Append.{crossAt, Crosses, Crossing, Appending}
 use Rattle.settle.specs.RewriteCopies.{CopySlot, Wiring, OnPages}
 

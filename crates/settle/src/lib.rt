@@ -16,11 +16,11 @@ ghost use Rattle.settle.specs.RewriteCopies.{CopySlot, Wiring, OnPage, O
 ghost use Rattle.settle.specs.Update.{Copies, Updated};
 ghost use Rattle.settle.specs.Settle.{Settling, Settled};
 ghost use Rattle.settle.specs.Final.{Settles};
-use crate::entries::filter_entries;
 use crate::rewrite::forward_ref;
 use layout::Kind;
 use remember::crossing::cross;
 use remember::entries::clear_entries;
+use remember::filter::filter_entries;
 use rules::Sizes;
 
 // The reference fields of a copy. Those that cross come after the first j entries; how many there are then.

@@ -8,6 +8,7 @@ use Rattle.lists.specs.Products.{flat-low}
 use Rattle.rules.specs.declared.Sizes.{Sizes}
 use Rattle.layout.specs.Places.{markOf}
 use Rattle.promises.specs.Whole.{Open, PageWhole}
+use Rattle.rules.specs.Regions.{regions}
 
 -- a page is whole, and so is its working word
 pub record PageChecked (p : Sizes) (t : List ℕ) (page : ℕ) : Type 0 where
@@ -18,6 +19,6 @@ abbrev pub PagesChecked : Sizes → List ℕ → Type 0
 PagesChecked p t = (page : ℕ) → page < p .pages → PageChecked p t page
 
 -- an open region is one of the regions
-pub open-high : (p : Sizes) (t : List ℕ) (g : ℕ) → 1 ≤ p .depth → Open p t g → g ≤ 1 + p .threads * p .depth
+pub open-high : (p : Sizes) (t : List ℕ) (g : ℕ) → 1 ≤ p .depth → Open p t g → g ≤ regions p
 open-high p t g d o =
     omega (arith, o .real, flat-low (o .thread) (mod-lt (g - 2) d), div-add-mod' (g - 2) (p .depth))

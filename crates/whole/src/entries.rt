@@ -4,7 +4,7 @@ ghost use Prim.Native.Nat.{ℕ, _+_, _*_, _≤_, _<_};
 ghost use lib.ListN.{length};
 ghost use Rattle.lists.specs.Says.{Says};
 ghost use Rattle.lists.specs.Seen.{bitIn, withBit};
-ghost use Rattle.layout.specs.Places.{Room, cellsWords, rememberWords, mostWords, usedIn, slotIn};
+ghost use Rattle.layout.specs.Places.{Room, cellsWords, rememberWords, mostWords, usedIn, slotIn, entriesWords};
 ghost use Rattle.promises.specs.Whole.{EntryWhole, EntriesWhole};
 ghost use Rattle.whole.specs.Entries.{NamedWhole, ZeroBetween, RestZero, Once, Rising};
 use remember::crossing::cross_to;
@@ -50,7 +50,7 @@ pub fn named_whole(p: Sizes, cells: &[u32], remember: &[u32], tables: &[u32], us
 
 // Whether the entries of a stretch are zero, slot and region.
 pub fn zero_between(entries: usize, remember: &[u32], from: usize, to: usize) -> bool
-    requires { ⌜ 2 * entries + 2 ≤ length (now remember) ⌝ }
+    requires { ⌜ entriesWords entries ≤ length (now remember) ⌝ }
     requires { ⌜ to ≤ entries ⌝ }
     ensures { λ r. ⌜ Says r (ZeroBetween entries (now (remember .entry)) from to) ⌝ }
 {

@@ -6,18 +6,18 @@ use lib.ListN.{length}
 use Rattle.mark.specs.Pushes.{Pushing, pushing-start, pushing-kept, pushing-shaped, ref-read, push-read, pushes-kept}
 use native.Mathlib.Nat.{mul-le-mul}
 use Rattle.rules.specs.declared.Sizes.{Sizes}
-use Rattle.layout.specs.Places.{Room}
+use Rattle.layout.specs.Places.{Room, varCount}
 use Rattle.mark.specs.Holders.{varHeld, var-held-ref, kept-var-held}
 use Rattle.mark.proofs.holders.push_variables.Statement.{statement}
 use Rattle.mark.proofs.holders.push_variables.Tie as tie
 
-product-low : (p : Sizes) {n : ℕ} → Room p n → p .threads * p .variables ≤ 512
+product-low : (p : Sizes) {n : ℕ} → Room p n → varCount p ≤ 512
 product-low p r = omega (arith, mul-le-mul (r .threads-high) (r .variables-high))
 
 abbrev Inv-loop : tie.InvT-loop
 Inv-loop p cells₀ tables₀ r thread outer g top n t₀ i₀ cells tables t i =
-    (i ≤ n) × (n ≡ p .threads * p .variables) × (n ≤ 512) × (length cells ≡ length cells₀) × (length tables ≡ length tables₀)
-    × Pushing p r (varHeld p tables₀ thread outer g) (p .threads * p .variables) cells₀ tables₀ top cells tables t i
+    (i ≤ n) × (n ≡ varCount p) × (n ≤ 512) × (length cells ≡ length cells₀) × (length tables ≡ length tables₀)
+    × Pushing p r (varHeld p tables₀ thread outer g) (varCount p) cells₀ tables₀ top cells tables t i
 
 abbrev μ-loop : tie.MeasureT-loop
 μ-loop p cells₀ tables₀ r thread outer g top n t₀ i₀ cells tables t i =
@@ -34,7 +34,7 @@ variable-for-requires : tie.Need-variable-for-requires Inv-loop μ-loop
 variable-for-requires c κs =
     let args = c .before .before .before .before .before .before .args in
     let pre = c .before .before .before .before .before .before .pre in
-    let lt : c .before .before .loop .i < args .p .threads * args .p .variables = omega arith in
+    let lt : c .before .before .loop .i < varCount (args .p) = omega arith in
     let s = pushing-shaped (pre .0) (var-held-ref (pre .0) (pre .1 .1) _ _ _) lt (c .before .before .loop .inv .5) in
     (s .room, (pre .1 .1 .some, lt))
 
@@ -44,7 +44,7 @@ push-requires c κs =
     let pre = c .before .before .before .before .before .before .before .before .before .pre in
     let loop = c .before .before .before .before .before .loop in
     let variable-for = c .before .before .variable-for in
-    let lt : loop .i < args .p .threads * args .p .variables = omega arith in
+    let lt : loop .i < varCount (args .p) = omega arith in
     let u = var-held-ref (pre .0) (pre .1 .1) (args .thread) (args .outer) (args .g) in
     let k = pushing-kept (pre .0) u lt (loop .inv .5) in (
       pushing-shaped (pre .0) u lt (loop .inv .5),
@@ -65,7 +65,7 @@ loop-again c =
     let pre = c .before .before .before .before .before .before .before .before .before .before .before .before .before .before .pre in
     let loop = c .before .before .before .before .before .before .before .before .before .before .loop in
     let variable-for = c .before .before .before .before .before .before .before .variable-for in
-    let lt : loop .i < args .p .threads * args .p .variables = omega arith in
+    let lt : loop .i < varCount (args .p) = omega arith in
     let u = var-held-ref (pre .0) (pre .1 .1) (args .thread) (args .outer) (args .g) in
     let k = pushing-kept (pre .0) u lt (loop .inv .5) in
     let h = push-read (pre .0) u lt (loop .inv .5) (variable-for .result) (variable-for .ensures ∙ kept-var-held k (pre .0 .room) (pre .1 .1) _ _ _ _ lt) (c .before .before .before .before .push .ensures) in
@@ -84,8 +84,8 @@ returns : tie.Need-returns Inv-loop μ-loop
 returns c =
     let args = c .before .before .before .before .before .args in
     let loop = c .before .loop in
-    let e : loop .i ≡ args .p .threads * args .p .variables = omega arith in
-    subst (λ (f : ℕ). Pushing (args .p) (args .r) (varHeld (args .p) (args .tables .now) (args .thread) (args .outer) (args .g)) (args .p .threads * args .p .variables) (args .cells .now) (args .tables .now) (args .top) (loop .cells) (loop .tables) (loop .t) f) e (loop .inv .5)
+    let e : loop .i ≡ varCount (args .p) = omega arith in
+    subst (λ (f : ℕ). Pushing (args .p) (args .r) (varHeld (args .p) (args .tables .now) (args .thread) (args .outer) (args .g)) (varCount (args .p)) (args .cells .now) (args .tables .now) (args .top) (loop .cells) (loop .tables) (loop .t) f) e (loop .inv .5)
 
 pub push-variables-spec : {M : Type 1} → statement M
 push-variables-spec =

@@ -8,6 +8,7 @@ use Rattle.report.specs.Opened.{Next}
 use Rattle.report.specs.Tables.{WholeTables}
 use Rattle.report.proofs.lent.open_after.Statement.{statement}
 use Rattle.report.proofs.lent.open_after.Tie as tie
+use Rattle.rules.specs.Regions.{regions}
 
 read-sizes-requires : tie.Need-read-sizes-requires
 read-sizes-requires c κs = sizes-there (c .before .pre .0 .whole .sized)
@@ -15,7 +16,7 @@ read-sizes-requires c κs = sizes-there (c .before .pre .0 .whole .sized)
 next-open-requires : tie.Need-next-open-requires
 next-open-requires c κs =
     let a = c .before .before .args in
-    subst (λ (p : Sizes). WholeTables p (a .tables .now) × ((1 ≤ a .region) × (a .region ≤ 1 + p .threads * p .depth))) (sym (c .read-sizes .ensures)) (c .before .before .pre .0, (c .before .before .pre .1, c .before .before .pre .2))
+    subst (λ (p : Sizes). WholeTables p (a .tables .now) × ((1 ≤ a .region) × (a .region ≤ regions p))) (sym (c .read-sizes .ensures)) (c .before .before .pre .0, (c .before .before .pre .1, c .before .before .pre .2))
 
 returns : tie.Need-returns
 returns c =

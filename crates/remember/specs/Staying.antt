@@ -1,4 +1,4 @@
--- The remember table: which entries stay, which come.
+-- Which entries stay at the end of a region, and with which region.
 use mathlib.Core.Path.{_≡_}
 use mathlib.Core.Logic.{_≢_}
 use mathlib.Core.Bool.{cond}
@@ -8,11 +8,11 @@ use borrow.Author.Tests.{eq-eqb, ne-eqb}
 use lib.Dec.{eqb}
 use lib.ListN.{length, getD}
 use Rattle.rules.specs.declared.Sizes.{Sizes}
-use Rattle.layout.specs.Places.{ownerOf, cellsWords, slotIn, slotRegionIn}
+use Rattle.layout.specs.Places.{ownerOf, cellsWords, slotIn, slotRegionIn, entriesWords}
 use Rattle.layout.specs.Cells.{pageAt}
 use Rattle.layout.specs.Words.{Names}
 use Rattle.remember.specs.Crossing.{crossesFrom}
 use Rattle.remember.specs.Filtered as table
 
 -- the region of the entry of slot s with region g after r ended, 0 if it goes
 unfoldable pub newRegion : (p : Sizes) (r : ℕ) (W T : List ℕ) (s g : ℕ) → ℕ
@@ -39,7 +39,7 @@ Stays p r n W M T = table.Stays (newRegion p r W T) n M
 pub record Entries (p : Sizes) (r n m : ℕ) (W M : List ℕ) : Type 0 where
   pub pages : p .pages ≤ 1024
   pub cells-long : cellsWords p ≤ length W
-  pub long : 2 + 2 * n ≤ length M
+  pub long : entriesWords n ≤ length M
   pub few : m ≤ n
   pub low : (i : ℕ) → i < m → slotIn M i < cellsWords p
   pub once : (i j : ℕ) → i < j → j < m → slotIn M i ≢ slotIn M j

@@ -8,11 +8,11 @@ use mathlib.Core.Logic.{⊎-elim}
 use mathlib.Core.Path.{_≡_, refl, sym, ap, ap₂, _∙_, subst, subst₂}
 use Rattle.layout.specs.Places.{slotIn, slotRegionIn}
 use Rattle.layout.specs.Words.{Names}
 use Rattle.remember.specs.Stretches.{Added}
 use Rattle.remember.specs.Filtered.{filter-start, filter-keep, filter-drop, read-slot, read-region}
-use Rattle.settle.specs.Entries.{newRegion, Stays}
-use Rattle.settle.proofs.entries.filter_entries.Statement.{statement}
-use Rattle.settle.proofs.entries.filter_entries.Tie as tie
+use Rattle.remember.specs.Staying.{newRegion, Stays}
+use Rattle.remember.proofs.filter.filter_entries.Statement.{statement}
+use Rattle.remember.proofs.filter.filter_entries.Tie as tie
 
 abbrev Inv-loop : tie.InvT-loop
 Inv-loop p cells remember₀ tables region used entries j₀ i₀ remember j i =
