@@ -7,7 +7,7 @@ use mathlib.Core.Logic.{_⊎_, inl, inr}
 use native.Mathlib.Omega.{arith}
 use native.Mathlib.Decide.{ℕ-discrete, decLt}
 use lib.ListN.{getD, length, set}
-use Rattle.layout.specs.Places.{usedIn, slotAt, slotIn, slotRegionAt, slotRegionIn}
+use Rattle.layout.specs.Places.{usedIn, slotAt, slotIn, slotRegionAt, slotRegionIn, entriesWords}
 
 -- an entry of number `at` with region g is one of f's
 pub record Entry (f : ℕ → ℕ) (n at g : ℕ) : Type 0 where
@@ -38,7 +38,7 @@ Elsewhere f f′ at = (q : ℕ) → (q ≡ at → ⊥) → f′ q ≡ f q
 pub record Edited (N : ℕ) (m m′ : List ℕ) : Type 0 where
   pub long : length m′ ≡ length m
   pub size : getD m′ 0 0 ≡ getD m 0 0
-  pub spare : (j : ℕ) → 2 * N + 2 ≤ j → getD m′ j 0 ≡ getD m j 0
+  pub spare : (j : ℕ) → entriesWords N ≤ j → getD m′ j 0 ≡ getD m j 0
 
 -- one more entry
 abbrev pub added : ℕ → List ℕ → ℕ → ℕ → List ℕ

@@ -5,10 +5,10 @@ use mathlib.Core.Path.{_≡_, _∙_}
 use native.Mathlib.Omega.{arith}
 use lib.ListN.{getD, length, set, length-set}
 use Rattle.lists.specs.Stores.{put, past}
-use Rattle.layout.specs.Places.{usedIn, slotAt, slotIn, slotRegionAt, slotRegionIn}
+use Rattle.layout.specs.Places.{usedIn, slotAt, slotIn, slotRegionAt, slotRegionIn, entriesWords}
 use Rattle.remember.specs.Entries.{Exact, Elsewhere, Edited, added, changed, removed, exact-added, exact-changed, exact-removed}
 
-module _ (N : ℕ) (m : List ℕ) (long : 2 * N + 2 ≤ length m) where
+module _ (N : ℕ) (m : List ℕ) (long : entriesWords N ≤ length m) where
   module _ (room : usedIn m < N) (at g : ℕ) where
     abbrev u : ℕ
     u = usedIn m

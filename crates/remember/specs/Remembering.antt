@@ -4,7 +4,7 @@ use mathlib.Core.List.{List}
 use mathlib.Core.Path.{_≡_, refl, sym, subst, _∙_}
 use native.Mathlib.Omega.{arith}
 use lib.ListN.{length}
-use Rattle.layout.specs.Places.{usedIn, slotIn}
+use Rattle.layout.specs.Places.{usedIn, slotIn, entriesWords}
 use Rattle.remember.specs.Entries.{Exact, Elsewhere, Edited, added, changed, removed, exact-same}
 use Rattle.remember.specs.EntryEdits.{added-exact, changed-exact, removed-exact, added-edited, changed-edited, removed-edited}
 
@@ -17,7 +17,7 @@ pub data Remembered (N : ℕ) (m : List ℕ) (at was will : ℕ) (m′ : List �
   gone : (i : ℕ) → 0 < was → will ≡ 0 → i < usedIn m → slotIn m i ≡ at → m′ ≡ removed N m i → r ≡ 0 → Remembered N m at was will m′ r
 
 -- a table exact for f becomes one exact for f′, which differs at the slot alone
-pub remembered-exact : (f f′ : ℕ → ℕ) (n N : ℕ) (m m′ : List ℕ) → 2 * N + 2 ≤ length m → Exact f n N m → (at was will r : ℕ) → at < n → Elsewhere f f′ at → f at ≡ was → f′ at ≡ will
+pub remembered-exact : (f f′ : ℕ → ℕ) (n N : ℕ) (m m′ : List ℕ) → entriesWords N ≤ length m → Exact f n N m → (at was will r : ℕ) → at < n → Elsewhere f f′ at → f at ≡ was → f′ at ≡ will
     → Remembered N m at was will m′ r → r ≡ 0 → Exact f′ n N m′
 remembered-exact f f′ n N m m′ long x at was will r low e before after (kept a q z) o = subst (Exact f′ n N) (sym q) (exact-same f f′ n N m x at low e (after ∙ sym (before ∙ a)))
 remembered-exact f f′ n N m m′ long x at was will r low e before after (full a b h q z) o = absurd (let p : ⊥ = omega arith in p)
@@ -41,7 +41,7 @@ module _ (N : ℕ) (m : List ℕ) (at was will : ℕ) (m′ : List ℕ) (r : ℕ
   remembered-full (moved i a b h s e q) z = absurd (z q)
   remembered-full (gone i a b h s e q) z = absurd (z q)
 
-  module _ (long : 2 * N + 2 ≤ length m) (few : usedIn m ≤ N) where
+  module _ (long : entriesWords N ≤ length m) (few : usedIn m ≤ N) where
     pub remembered-edited : Remembered N m at was will m′ r → Edited N m m′
     remembered-edited (kept a e q) = subst (Edited N m) (sym e) (record { long = refl; size = refl; spare = λ j l. refl })
     remembered-edited (full a b h e q) = subst (Edited N m) (sym e) (record { long = refl; size = refl; spare = λ j l. refl })

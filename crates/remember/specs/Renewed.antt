@@ -7,7 +7,7 @@ use native.Mathlib.Decide.{decLt}
 use native.Mathlib.Omega.{arith}
 use lib.ListN.{length, getD, set, length-set}
 use lib.Seq.{getD-set-same, getD-set-other}
-use Rattle.layout.specs.Places.{usedIn, slotIn, slotRegionIn}
+use Rattle.layout.specs.Places.{usedIn, slotIn, slotRegionIn, entriesWords}
 use Rattle.remember.specs.Entries.{Entry, EntriesOf, Exact, Edited, entries-like}
 use Rattle.remember.specs.Stretches.{Added, Cleared, slot-above, region-above}
 
@@ -24,7 +24,7 @@ renewed-exact f n to from′ r =
     record { entries = entries-like to (r .entries); every = λ q l h. let y = r .every q (f q) (from′ q l h) in (y .0, y .1, y .2) }
 
 -- the first k entries are those of G, entries up to e are cleared, the rest were zero; v is written as their count
-module _ {G : ℕ → ℕ → Type 0} {N k e v : ℕ} {M M₂ M₃ : List ℕ} (long : 2 + 2 * N ≤ length M) (a : Added N G 0 k M M₂) (c : Cleared N k e M₂ M₃)
+module _ {G : ℕ → ℕ → Type 0} {N k e v : ℕ} {M M₂ M₃ : List ℕ} (long : entriesWords N ≤ length M) (a : Added N G 0 k M M₂) (c : Cleared N k e M₂ M₃)
     (over : k ≤ e) (few : e ≤ N) (zeros : (y : ℕ) → e ≤ y → y < N → (slotIn M y ≡ 0) × (slotRegionIn N M y ≡ 0)) (ev : v ≡ k) where
   used : usedIn (set M₃ 1 v) ≡ k
   used = getD-set-same M₃ 1 v 0 (omega (arith, c .size, a .size)) ∙ ev
