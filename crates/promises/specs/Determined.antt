@@ -81,7 +81,7 @@ module _ (s : Sizes) (w w′ : Words) (h : Regioned) (to : ℕ → ℕ) (st : St
       go (no n) = omega arith
       go (yes n) =
           let c = cellOn page (usedIn s w′ page) in
-          let m : usedIn s w′ page < pageCells = omega (arith, st .whole .pages page l .cells) in
+          let m : usedIn s w′ page < pageCells = omega (arith, st .whole .pages page l .filled .cells) in
           let v = begins-used s (w′ .cells) (w′ .tables) c (used-as c (begins-there s (w .cells) (w .tables) page (usedIn s w′ page) l m n)) in
           absurd (let z : ⊥ = omega (arith, v .place, ap (usedIn s w′) (page-on page (usedIn s w′ page) m), place-on page (usedIn s w′ page) m) in z)
 
@@ -147,7 +147,7 @@ module _ (s : Sizes) (w w′ : Words) (h : Regioned) (to : ℕ → ℕ) (st : St
         where
           none : (o : ℕ) → ownerIn s v page ≡ o → ownerIn s v page ≡ 0
           none zero e = e
-          none (suc o) e = absurd (let q : ⊥ = omega (arith, k .pages page l .taken (omega arith)) in q)
+          none (suc o) e = absurd (let q : ⊥ = omega (arith, k .pages page l .filled .taken (omega arith)) in q)
 
       go : Dec (usedIn s w page ≡ 0) → ownerIn s w page ≡ ownerIn s w′ page
       go (yes z) = free w (st .whole) z ∙ sym (free w′ (st′ .whole) (sym p ∙ z))

@@ -9,7 +9,6 @@ use mathlib.Core.Bool.{Bool, false, cond}
 use lib.ListN.{getD, take, drop}
 use lib.Dec.{ltb, eqb}
 use borrow.Author.Tests.{le-ltb}
-use Rattle.lists.specs.Counting.{sum-same}
 use Rattle.lists.specs.Stores.{part-same}
 use Rattle.rules.specs.declared.Sizes.{Sizes}
 use Rattle.rules.specs.Regions.{threadOf}
@@ -23,7 +22,8 @@ use Rattle.layout.specs.Cells.{fieldAt, roomFor, allFields, refsOf, Formed, fie
 use Rattle.layout.specs.Objects.{beginsAt, begins?, begins-page, begins-true, begins-false, begins-same, begins-back, Slot, slot-on}
 use Rattle.layout.specs.Words.{Words, BeginsIn, headIn, ownerIn, homeIn, homeAt, depthsIn, depthsAt, varsIn, varsAt, fieldsIn, fieldsAt}
 use Rattle.remember.specs.Crossing.{other, regionOf, crossTo}
-use Rattle.promises.specs.Whole.{Open, Partial, IsRef, Sized, DepthsWhole, PagesWhole, OnePartial, CountsWhole, VariablesWhole, ObjectWhole, ObjectsWhole, MarksWhole, WorksWhole, RememberWhole, WholeFor}
+use Rattle.promises.specs.Whole.{Open, IsRef, Sized, DepthsWhole, PagesWhole, OnePartial, CountsWhole, VariablesWhole, ObjectWhole, ObjectsWhole, MarksWhole, WorksWhole, RememberWhole, WholeFor}
+use Rattle.promises.specs.Regular.{Regular, SamePage, filled-same, partial-same, objects-same, regular-same}
 use Rattle.promises.specs.StandsFor.{StandsFor}
 use Rattle.promises.specs.Areas.{Area, sizeWords, depthWords, variableWords, ownerWords, usedWords, markWords, countWords, headWords, workWords, fieldWords, entryWords, among, Only, ObjectsStay}
 use Rattle.promises.specs.Changes.{withTables}
@@ -109,18 +109,20 @@ module _ {cs : List Area} {s : Sizes} {w w′ : Words} (o : Only cs s w w′) wh
   pub depths-frame : among depthWords cs ≡ false → DepthsWhole s w → DepthsWhole s w′
   depths-frame n k t l = omega (arith, o .same depthWords n t l, k t l)
 
+  same-pages : among ownerWords cs ≡ false → among usedWords cs ≡ false → (page : ℕ) → page < s .pages → SamePage s (w .tables) (w′ .tables) page
+  same-pages a u page l = record { owner = o .same ownerWords a page l; used = o .same usedWords u page l }
+
+  pub regular-frame : among ownerWords cs ≡ false → among usedWords cs ≡ false → among countWords cs ≡ false → Regular s (w .tables) → Regular s (w′ .tables)
+  regular-frame a u n = regular-same (same-pages a u) (o .same countWords n)
+
   -- where each region of a page is open
   pub pages-open : among ownerWords cs ≡ false → among usedWords cs ≡ false → PagesWhole s w
       → ((page : ℕ) → page < s .pages → 1 < ownerIn s w page → Open s (w′ .tables) (ownerIn s w page)) → PagesWhole s w′
   pages-open a u k open′ page l =
-      let p = k page l in
-      let e = o .same ownerWords a page l in
-      let f = o .same usedWords u page l in
+      let e = same-pages a u page l in
       record {
-        free = λ z. f ∙ p .free (sym e ∙ z);
-        taken = λ z. omega (arith, p .taken (omega arith));
-        cells = omega (arith, p .cells);
-        region = λ z. subst (Open s (w′ .tables)) (sym e) (open′ page l (omega arith));
+        filled = filled-same e (k page l .filled);
+        region = λ z. subst (Open s (w′ .tables)) (sym (e .owner)) (open′ page l (omega (arith, e .owner)));
       }
 
   pub open-frame : among depthWords cs ≡ false → (g : ℕ) → Open s (w .tables) g → Open s (w′ .tables) g
@@ -130,15 +132,10 @@ module _ {cs : List Area} {s : Sizes} {w w′ : Words} (o : Only cs s w w′) wh
   pages-frame a u n k = pages-open a u k (λ page l z. open-frame n (ownerIn s w page) (k page l .region z))
 
   pub partial-frame : among ownerWords cs ≡ false → among usedWords cs ≡ false → OnePartial s w → OnePartial s w′
-  partial-frame a u k g pos i j l m x y = k g pos i j l m (was i (omega arith) x) (was j m y)
-    where
-      was : (page : ℕ) → page < s .pages → Partial s (w′ .tables) g page → Partial s (w .tables) g page
-      was page l p = record { owner = sym (o .same ownerWords a page l) ∙ p .owner; part = omega (arith, p .part, o .same usedWords u page l) }
+  partial-frame a u k g pos i j l m x y = k g pos i j l m (partial-same (same-pages a u i (omega arith)) x) (partial-same (same-pages a u j m) y)
 
   pub counts-frame : among countWords cs ≡ false → among ownerWords cs ≡ false → among usedWords cs ≡ false → CountsWhole s w → CountsWhole s w′
-  counts-frame n a u k g l m =
-      o .same countWords n g l m ∙ k g l m
-      ∙ sym (sum-same _ _ (s .pages) (λ page i. ap₂ (λ (r x : ℕ). cond (eqb r g) x 0) (o .same ownerWords a page i) (o .same usedWords u page i)))
+  counts-frame n a u k g l m = o .same countWords n g l m ∙ k g l m ∙ sym (objects-same (same-pages a u) g)
 
   pub variables-frame : among variableWords cs ≡ false → among usedWords cs ≡ false → among headWords cs ≡ false → VariablesWhole s w → VariablesWhole s w′
   variables-frame n u h k i l = subst (IsRef s (w′ .cells) (w′ .tables)) (sym (o .same variableWords n i l)) (ref-frame u h _ (k i l))

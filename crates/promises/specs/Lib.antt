@@ -9,7 +9,8 @@ pub mod Ends
 pub mod Reading
 pub mod Agreed
 pub mod Here
--- theorems: pages by objects, entries by crossing slots, and that only 01's open points are left free
+-- theorems: pages and counts by themselves, pages by objects, entries by crossing slots, and that only 01's open points are left free
+pub mod Regular
 pub mod OwnedPages
 pub mod Crossings
 pub mod Determined

@@ -20,7 +20,8 @@ use Rattle.promises.specs.Areas.{variableWords, ownerWords, usedWords, c
 use Rattle.promises.specs.Frames.{sized-frame, depths-frame, marks-frame, object-frame}
 use Rattle.remember.specs.Entries.{exact-everywhere}
 use Rattle.promises.specs.Slots.{crossesTo, region-of, slot-stays, cross-same}
-use Rattle.promises.specs.TakeCell.{Took, took-only, took-used, took-unused, still-used, used-split, owner-used, took-pages, took-partial, took-counts}
+use Rattle.promises.specs.Regular.{whole-regular}
+use Rattle.promises.specs.TakeCell.{Took, took-only, took-used, took-unused, still-used, used-split, owner-used, took-regular, took-pages}
 
 -- the words of a new object, the first of them given, and all other cells as they were
 pub record Blank (c : List ℕ) (cell word : ℕ) (c′ : List ℕ) : Type 0 where
@@ -45,16 +46,16 @@ module _ (s : Sizes) (w : Words) (k : WholeFor s w) (g cell b d : ℕ) (t′ c�
 
   -- the object begins there, and the others where they did
   pub new-begins : BeginsIn s newWords cell
-  new-begins = used-begins s c′ t′ cell (took-used s t g cell t′ took)
+  new-begins = used-begins s c′ t′ cell (took-used took)
 
   pub not-there : BeginsIn s w cell → ⊥
-  not-there b = took-unused s t g cell t′ took (begins-used s c t cell b)
+  not-there b = took-unused took (begins-used s c t cell b)
 
   pub still-begins : (x : ℕ) → BeginsIn s w x → BeginsIn s newWords x
-  still-begins x b = used-begins s c′ t′ x (still-used s t g cell t′ took x (begins-used s c t x b))
+  still-begins x b = used-begins s c′ t′ x (still-used took x (begins-used s c t x b))
 
   pub begins-split : (x : ℕ) → BeginsIn s newWords x → (x ≡ cell) ⊎ BeginsIn s w x
-  begins-split x b = go (used-split s t g cell t′ took x (begins-used s c′ t′ x b))
+  begins-split x b = go (used-split took x (begins-used s c′ t′ x b))
     where
       go : (x ≡ cell) ⊎ InUse s t x → (x ≡ cell) ⊎ BeginsIn s w x
       go (inl e) = inl e
@@ -64,17 +65,17 @@ module _ (s : Sizes) (w : Words) (k : WholeFor s w) (g cell b d : ℕ) (t′ c�
   ref-still x r z = still-begins (cellNamed x) (r z)
 
   pub owner-still : (x : ℕ) → BeginsIn s w x → ownerOf s t′ (pageOf x) ≡ ownerOf s t (pageOf x)
-  owner-still x b = owner-used s t g cell t′ took (k .pages) x (begins-used s c t x b)
+  owner-still x b = owner-used (whole-regular k) took x (begins-used s c t x b)
 
   -- the words of the objects that were there are the same
   head-other : (x : ℕ) → BeginsIn s w x → headOf c′ x ≡ headOf c x
-  head-other x u = blank .others (headAt x) (head-not-new s c t x u cell (headWord b d) (took-unused s t g cell t′ took))
+  head-other x u = blank .others (headAt x) (head-not-new s c t x u cell (headWord b d) (took-unused took))
 
   pub new-only : Only (ownerWords ∷ usedWords ∷ countWords ∷ []) s w newWords
   new-only =
       only-trans
-      (cells-only s w c′ [] (λ n. head-other) (λ n x u. blank .others (workAt x) (work-not-new s c t x u cell (headWord b d) (took-unused s t g cell t′ took)))
-      (λ n x u f l. blank .others (fieldAt x f) (field-not-new s c t x u cell (headWord b d) (took-unused s t g cell t′ took) f l))
+      (cells-only s w c′ [] (λ n. head-other) (λ n x u. blank .others (workAt x) (work-not-new s c t x u cell (headWord b d) (took-unused took)))
+      (λ n x u f l. blank .others (fieldAt x f) (field-not-new s c t x u cell (headWord b d) (took-unused took) f l))
       (record { long = blank .long; rest = drop-same (cellsWords s) c c′ (blank .long) (λ j l. blank .others j (λ e. omega (arith, covers-low s cell (headWord b d) j (took .page) e))) }))
       (took-only s (withCells w c′) g cell t′ took pos low) (λ x u. (begins-same s c t c′ t x refl (λ j v e. head-other j v) u, head-other x u))
 
@@ -137,9 +138,9 @@ module _ (s : Sizes) (w : Words) (k : WholeFor s w) (g cell b d : ℕ) (t′ c�
       record {
         sized = sized-frame new-only refl (k .sized);
         depths = depths-frame new-only refl (k .depths);
-        pages = took-pages s w k g cell t′ took pos low open′;
-        partial = took-partial s w k g cell t′ took pos low open′;
-        counts = took-counts s w k g cell t′ took pos low open′;
+        pages = took-pages k took pos low open′;
+        partial = took-regular (whole-regular k) took pos .partial;
+        counts = took-regular (whole-regular k) took pos .counts;
         variables = λ i l. subst (IsRef s c′ t′) (sym (new-only .same variableWords refl i l)) (ref-still _ (k .variables i l));
         objects = objects;
         marks = marks-frame new-only refl (k .marks);

@@ -1,15 +1,15 @@
 -- Question 13 of a new object, in words: it says no exactly if its region has no partly filled page and no page is free.
-use Prim.Native.Nat.{ℕ, zero, suc, _+_, _-_, _*_, _%_, _≤_, _<_}
+use Prim.Native.Nat.{ℕ, zero, suc, _+_, _-_, _*_, _≤_, _<_}
 use native.Mathlib.Omega.{arith}
+use native.Mathlib.Decide.{ℕ-discrete}
 use mathlib.Core.Path.{_≡_, refl, sym, ap, subst, _∙_}
 use mathlib.Core.Logic.{_⊎_, inl, inr}
 use mathlib.Core.List.{List, [], _∷_, _++_}
-use mathlib.Core.Bool.{Bool, true, false, cond}
-use lib.Dec.{leb, eqb}
-use borrow.Author.Tests.{le-leb, lt-leb, eq-eqb, eqb-true}
-use Rattle.lists.specs.Counting.{sum, sum-part, sum-none}
+use mathlib.Core.Bool.{true, false}
+use lib.Dec.{leb}
+use borrow.Author.Tests.{le-leb, lt-leb}
+use Rattle.lists.specs.Counting.{sum-part, sum-none}
 use Rattle.lists.specs.Products.{flat-low}
-use Rattle.lists.specs.Pigeonhole.{count-none, count-without}
 use Rattle.rules.specs.declared.Sizes.{Sizes}
 use Rattle.rules.specs.NeverFreeing.{Object}
 use Rattle.rules.specs.Regions.{regionAt, threadOf, regions}
@@ -20,12 +20,13 @@ use Rattle.laws.specs.RegionLaws.{thread-at, level-at, region-high}
 use Rattle.laws.specs.Counts.{new-pages}
 use Rattle.laws.specs.AfterLaws.{graph-new}
 use Rattle.layout.specs.Places.{depthOf, countOf}
-use Rattle.layout.specs.Cells.{pageCells}
-use Rattle.layout.specs.Words.{Words, depthIn, ownerIn, usedIn}
-use Rattle.promises.specs.Whole.{WholeFor, Open, Partial}
+use Rattle.layout.specs.Cells.{placeOf}
+use Rattle.layout.specs.Words.{Words, depthIn, ownerIn}
+use Rattle.promises.specs.Whole.{WholeFor, Open, Partial, objectsOf}
+use Rattle.promises.specs.Regular.{whole-regular}
 use Rattle.promises.specs.StandsFor.{StandsFor}
 use Rattle.promises.specs.Agreed.{objects-agree}
-use Rattle.promises.specs.OwnedPages.{pagesOwned, freeOn, filled, free-count, one-part, counted-objects, heap-free}
+use Rattle.promises.specs.OwnedPages.{ownedOne, pagesOwned, owned-yes, owned-no, partly-filled, some-partly, counted-objects, heap-free}
 
 -- ---- the innermost region of a thread
 
@@ -59,42 +60,6 @@ module _ (s : Sizes) (w : Words) (k : WholeFor s w) (t : ℕ) (l : t < s .thread
             level = subst (λ (x : ℕ). x ≤ depthOf (w .tables) (threadOf s (regionAt s t (suc d)))) (sym (level-at s t d m)) (subst (λ (x : ℕ). suc d ≤ depthOf (w .tables) x) (sym a) (omega arith));
           }
 
--- ---- partly filled pages and the count of objects
-
-module _ (s : Sizes) (w : Words) (k : WholeFor s w) (g : ℕ) (pos : 0 < g) (low : g ≤ regions s) where
-  abbrev objects : ℕ
-  objects = countOf s (w .tables) g
-
-  abbrev free : ℕ → ℕ
-  free = freeOn s (w .tables) g
-
-  -- objects and free cells fill the region's pages
-  fill : objects + sum free (s .pages) ≡ pageCells * pagesOwned s w g
-  fill = omega (arith, k .counts g pos low, filled s w k g pos (s .pages) (omega arith))
-
-  pub partly-filled : (page : ℕ) → page < s .pages → Partial s (w .tables) g page → objects % pageCells ≡ 0 → ⊥
-  partly-filled page l p z =
-      omega (
-        arith,
-        fill,
-        sum-part free page (s .pages) l,
-        ap (λ (b : Bool). cond b (pageCells - usedIn s w page) 0) (eq-eqb (ownerIn s w page) g (p .owner)),
-        p .part,
-        free-count s w k g pos (s .pages) (omega arith),
-        one-part s w k g pos,
-      )
-
-  pub none-partly : ((page : ℕ) → page < s .pages → Partial s (w .tables) g page → ⊥) → objects % pageCells ≡ 0
-  none-partly none = omega (arith, fill, sum-none free (s .pages) (λ page l. go page l (eqb (ownerIn s w page) g) refl))
-    where
-      go : (page : ℕ) → page < s .pages → (b : Bool) → eqb (ownerIn s w page) g ≡ b → cond b (pageCells - usedIn s w page) 0 ≡ 0
-      go page l false e = refl
-      go page l true e = full (pageCells - usedIn s w page) refl
-        where
-          full : (n : ℕ) → pageCells - usedIn s w page ≡ n → pageCells - usedIn s w page ≡ 0
-          full zero q = q
-          full (suc n) q = absurd (none page l (record { owner = eqb-true (ownerIn s w page) g e; part = omega arith }))
-
 -- a page of region g that is partly filled; a page that is free
 abbrev pub PartlyFilled : Sizes → Words → ℕ → Type 0
 PartlyFilled s w g = (page : ℕ) × (page < s .pages) × Partial s (w .tables) g page
@@ -112,6 +77,9 @@ module _ (s : Sizes) (w : Words) (h : Regioned) (to : ℕ → ℕ) (st : StandsF
   abbrev held : ℕ
   held = countOf s (w .tables) g
 
+  few : held ≡ objectsOf s (w .tables) g
+  few = st .whole .counts g pos low
+
   needs : newPages s (graph h) (graph made) ≡ pagesOf (held + 1) - pagesOf held
   needs =
       ap (newPages s (graph h)) (graph-new h (st .sound .aligned) ds vs o g) ∙ new-pages (graph h) g (o .refs) vs s pos low
@@ -120,18 +88,20 @@ module _ (s : Sizes) (w : Words) (h : Regioned) (to : ℕ → ℕ) (st : StandsF
   pub new-fits : PartlyFilled s w g ⊎ FreePage s w → leb (newPages s (graph h) (graph made)) (freePages s (graph h)) ≡ true
   new-fits (inl p) =
       le-leb (newPages s (graph h) (graph made)) (freePages s (graph h))
-      (let n : held % pageCells ≡ 0 → ⊥ = partly-filled s w (st .whole) g pos low (p .0) (p .1) (p .2) in omega (arith, needs))
+      (let n = partly-filled (whole-regular (st .whole)) g pos (p .0) (p .1) (p .2) in omega (arith, needs, few))
   new-fits (inr p) =
       le-leb (newPages s (graph h) (graph made)) (freePages s (graph h))
-      (omega (arith, needs, heap-free s w h to st, count-without (λ page. eqb (ownerIn s w page) 0) (p .0) (s .pages) (p .1) (eq-eqb (ownerIn s w (p .0)) 0 (p .2))))
+      (omega (arith, needs, heap-free s w h to st, sum-part (ownedOne s (w .tables) 0) (p .0) (s .pages) (p .1), owned-yes s (w .tables) 0 (p .0) (p .2)))
 
   pub new-lacks : (PartlyFilled s w g → ⊥) → (FreePage s w → ⊥) → leb (newPages s (graph h) (graph made)) (freePages s (graph h)) ≡ false
-  new-lacks a b =
-      lt-leb (newPages s (graph h) (graph made)) (freePages s (graph h))
-      (omega (
-        arith,
-        needs,
-        heap-free s w h to st,
-        none-partly s w (st .whole) g pos low (λ page l p. a (page, l, p)),
-        count-none (λ page. eqb (ownerIn s w page) 0) (s .pages) (λ page l e. b (page, l, eqb-true (ownerIn s w page) 0 e)),
-      ))
+  new-lacks a b = lt-leb (newPages s (graph h) (graph made)) (freePages s (graph h)) (omega (arith, needs, heap-free s w h to st, few, full, none))
+    where
+      full : placeOf (objectsOf s (w .tables) g) ≡ 0
+      full = go (ℕ-discrete (placeOf (objectsOf s (w .tables) g)) 0)
+        where
+          go : Dec (placeOf (objectsOf s (w .tables) g) ≡ 0) → placeOf (objectsOf s (w .tables) g) ≡ 0
+          go (yes e) = e
+          go (no n) = absurd (a (some-partly (whole-regular (st .whole)) g pos n))
+
+      none : pagesOwned s w 0 ≡ 0
+      none = sum-none (ownedOne s (w .tables) 0) (s .pages) (λ page l. sym (owned-no s (w .tables) 0 page (λ e. b (page, l, e))))

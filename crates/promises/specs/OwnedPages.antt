@@ -8,32 +8,142 @@ use mathlib.Core.List.{List}
 use mathlib.Core.Bool.{Bool, true, false, cond}
 use lib.Dec.{ltb, eqb}
 use borrow.Author.Tests.{lt-ltb, eq-eqb, ne-eqb, eqb-true, ltb-true}
-use Rattle.lists.specs.Counting.{bit, sum, count, positive, sum-same, sum-none, sum-blocks, sum-first, count-owners}
+use Rattle.lists.specs.Counting.{bit, bit-le-one, sum, count, positive, sum-same, sum-none, sum-high, sum-part, sum-pos, sum-blocks, sum-first, count-owners}
 use Rattle.lists.specs.Pigeonhole.{no-two}
 use Rattle.rules.specs.declared.Sizes.{Sizes}
 use Rattle.rules.specs.Regions.{regions}
 use Rattle.rules.specs.Graph.{pagesOf, objectsIn, freePages}
 use Rattle.rules.specs.Rules.{Regioned, graph}
 use Rattle.layout.specs.Places.{ownerOf, usedOf, countOf}
-use Rattle.layout.specs.Cells.{pageCells, cellOn, page-on}
-use Rattle.layout.specs.Words.{Words, ownerIn, usedIn, homeIn, graphOf, homeAt}
+use Rattle.layout.specs.Cells.{pageCells, placeOf, cellOn, page-on}
+use Rattle.layout.specs.Words.{Words, ownerIn, usedIn, homeIn, graphOf, homeAt, cellCount}
 use Rattle.layout.specs.Objects.{begins-on}
 use Rattle.promises.specs.Whole.{WholeFor, Partial, objectsOn, objectsOf}
+use Rattle.promises.specs.Regular.{Regular, whole-regular, objects-yes, objects-no, SamePage}
 use Rattle.promises.specs.StandsFor.{StandsFor}
 use Rattle.promises.specs.Reading.{range}
 use Rattle.promises.specs.Agreed.{free-agree}
 
--- the cells of region g's page that are not in use
-abbrev pub freeOn : Sizes → List ℕ → ℕ → ℕ → ℕ
-freeOn p t g page = cond (eqb (ownerOf p t page) g) (pageCells - usedOf p t page) 0
+-- 1 for a page of g, and the pages of g among the first n; the free pages are those of 0
+unfoldable pub ownedOne : Sizes → List ℕ → ℕ → ℕ → ℕ
+ownedOne p t g page = bit (eqb (ownerOf p t page) g)
 
--- the pages of region q
+abbrev pub ownedIn : Sizes → List ℕ → ℕ → ℕ → ℕ
+ownedIn p t g n = sum (ownedOne p t g) n
+
+-- all pages of region q
 abbrev pub pagesOwned : Sizes → Words → ℕ → ℕ
-pagesOwned s w q = count (λ page. eqb (ownerIn s w page) q) (s .pages)
+pagesOwned s w q = ownedIn s (w .tables) q (s .pages)
+
+module _ (p : Sizes) (t : List ℕ) (g page : ℕ) where
+  pub owned-yes : ownerOf p t page ≡ g → 1 ≡ ownedOne p t g page
+  unfolding ownedOne
+  owned-yes e = sym (ap bit (eq-eqb (ownerOf p t page) g e))
+
+  pub owned-no : (ownerOf p t page ≡ g → ⊥) → 0 ≡ ownedOne p t g page
+  unfolding ownedOne
+  owned-no n = sym (ap bit (ne-eqb (ownerOf p t page) g n))
+
+  pub owned-is : 0 < ownedOne p t g page → ownerOf p t page ≡ g
+  owned-is h = go (ℕ-discrete (ownerOf p t page) g)
+    where
+      go : Dec (ownerOf p t page ≡ g) → ownerOf p t page ≡ g
+      go (yes e) = e
+      go (no n) = absurd (let z : ⊥ = omega (arith, owned-no n) in z)
+
+  pub owned-le : ownedOne p t g page ≤ 1
+  unfolding ownedOne
+  owned-le = bit-le-one (eqb (ownerOf p t page) g)
+
+pub owned-few : (p : Sizes) (t : List ℕ) (g n : ℕ) → ownedIn p t g n ≤ n
+owned-few p t g n = omega (arith, sum-high (ownedOne p t g) 1 n (λ page l. owned-le p t g page))
+
+pub owned-same : {p : Sizes} {t t′ : List ℕ} {page : ℕ} → SamePage p t t′ page → (g : ℕ) → ownedOne p t′ g page ≡ ownedOne p t g page
+unfolding ownedOne
+owned-same e g = ap (λ (o : ℕ). bit (eqb o g)) (e .owner)
+
+-- the cells of region g's page that are not in use
+abbrev freeOn : Sizes → List ℕ → ℕ → ℕ → ℕ
+freeOn p t g page = cond (eqb (ownerOf p t page) g) (pageCells - usedOf p t page) 0
 
 both-parts : (b : Bool) (u : ℕ) → u ≤ pageCells → cond b u 0 + cond b (pageCells - u) 0 ≡ pageCells * bit b
 both-parts true u l = omega arith
 both-parts false u l = omega arith
+
+-- ---- the pages of a region, filled but for one
+
+module _ {s : Sizes} {t : List ℕ} (r : Regular s t) (q : ℕ) where
+  pub objects-few : objectsOf s t q ≤ cellCount s
+  objects-few = sum-high (objectsOn s t q) pageCells (s .pages) (λ page l. go (r .pages page l .cells) (eqb (ownerOf s t page) q))
+    where
+      go : {u : ℕ} → u ≤ pageCells → (b : Bool) → cond b u 0 ≤ pageCells
+      go l true = l
+      go l false = omega arith
+
+  module _ (pos : 0 < q) where
+    -- objects and free cells of the region's pages fill these
+    filled : (n : ℕ) → n ≤ s .pages → sum (objectsOn s t q) n + sum (freeOn s t q) n ≡ pageCells * ownedIn s t q n
+    unfolding ownedOne
+    filled zero l = refl
+    filled (suc n) l = omega (arith, filled n (omega arith), both-parts (eqb (ownerOf s t n) q) (usedOf s t n) (r .pages n (omega arith) .cells))
+
+    free-low : (page : ℕ) → page < s .pages → freeOn s t q page < pageCells
+    free-low page l = go (eqb (ownerOf s t page) q) refl
+      where
+        go : (b : Bool) → eqb (ownerOf s t page) q ≡ b → cond b (pageCells - usedOf s t page) 0 < pageCells
+        go true e = omega (arith, r .pages page l .taken (omega (arith, eqb-true (ownerOf s t page) q e)))
+        go false e = omega arith
+
+    free-count : (n : ℕ) → n ≤ s .pages → sum (freeOn s t q) n ≤ (pageCells - 1) * count (positive (freeOn s t q)) n
+    free-count zero l = omega arith
+    free-count (suc n) l = go (decLt 0 (freeOn s t q n)) (free-count n (omega arith))
+      where
+        f : ℕ → ℕ
+        f = freeOn s t q
+
+        go : Dec (0 < f n) → sum f n ≤ (pageCells - 1) * count (positive f) n → sum f n + f n ≤ (pageCells - 1) * (count (positive f) n + bit (positive f n))
+        go (yes p) rest = omega (arith, free-low n (omega arith), ap bit (lt-ltb 0 (f n) p))
+        go (no p) rest = omega arith
+
+    free-partial : (page : ℕ) → 0 < freeOn s t q page → Partial s t q page
+    free-partial page = go (eqb (ownerOf s t page) q) refl
+      where
+        go : (b : Bool) → eqb (ownerOf s t page) q ≡ b → 0 < cond b (pageCells - usedOf s t page) 0 → Partial s t q page
+        go true e l = record { owner = eqb-true (ownerOf s t page) q e; part = omega arith }
+        go false e l = absurd (let z : ⊥ = omega arith in z)
+
+    -- at most one of them has free cells
+    one-part : count (positive (freeOn s t q)) (s .pages) ≤ 1
+    one-part =
+        no-two (positive (freeOn s t q)) (s .pages)
+        (λ x y l m a b. r .partial q pos x y l m (free-partial x (ltb-true 0 (freeOn s t q x) a)) (free-partial y (ltb-true 0 (freeOn s t q y) b)))
+
+    pub owned : pagesOf (objectsOf s t q) ≡ ownedIn s t q (s .pages)
+    owned = omega (arith, filled (s .pages) (omega arith), free-count (s .pages) (omega arith), one-part)
+
+    -- objects that fill their pages leave none partly filled
+    pub partly-filled : (page : ℕ) → page < s .pages → Partial s t q page → placeOf (objectsOf s t q) ≡ 0 → ⊥
+    partly-filled page l p z =
+        omega (
+          arith,
+          filled (s .pages) (omega arith),
+          sum-part (freeOn s t q) page (s .pages) l,
+          ap (λ (b : Bool). cond b (pageCells - usedOf s t page) 0) (eq-eqb (ownerOf s t page) q (p .owner)),
+          p .part,
+          free-count (s .pages) (omega arith),
+          one-part,
+        )
+
+    -- else one is
+    pub some-partly : (placeOf (objectsOf s t q) ≡ 0 → ⊥) → (page : ℕ) × (page < s .pages) × Partial s t q page
+    some-partly n =
+        let x = sum-pos (freeOn s t q) (s .pages) (omega (arith, filled (s .pages) (omega arith))) in
+        (x .0, x .1, free-partial (x .0) (x .2))
+
+    pub counts-owned : q ≤ regions s → ownedIn s t q (s .pages) ≡ pagesOf (countOf s t q)
+    counts-owned l = sym (ap pagesOf (r .counts q pos l) ∙ owned)
+
+-- ---- the objects of a page
 
 module _ (s : Sizes) (w : Words) (k : WholeFor s w) where
   -- no page is owned by a region that is not there
@@ -45,47 +155,6 @@ module _ (s : Sizes) (w : Words) (k : WholeFor s w) where
       go (no h) = omega arith
 
   module _ (q : ℕ) (pos : 0 < q) where
-    -- objects and free cells of the region's pages fill these
-    pub filled : (n : ℕ) → n ≤ s .pages → sum (objectsOn s (w .tables) q) n + sum (freeOn s (w .tables) q) n ≡ pageCells * count (λ page. eqb (ownerIn s w page) q) n
-    filled zero l = refl
-    filled (suc n) l =
-        omega (arith, filled n (omega arith), both-parts (eqb (ownerIn s w n) q) (usedIn s w n) (k .pages n (omega arith) .cells))
-
-    free-low : (page : ℕ) → page < s .pages → freeOn s (w .tables) q page ≤ 15
-    free-low page l = go (eqb (ownerIn s w page) q) refl
-      where
-        go : (b : Bool) → eqb (ownerIn s w page) q ≡ b → cond b (pageCells - usedIn s w page) 0 ≤ 15
-        go true e = omega (arith, k .pages page l .taken (omega (arith, eqb-true (ownerIn s w page) q e)))
-        go false e = omega arith
-
-    pub free-count : (n : ℕ) → n ≤ s .pages → sum (freeOn s (w .tables) q) n ≤ 15 * count (positive (freeOn s (w .tables) q)) n
-    free-count zero l = omega arith
-    free-count (suc n) l = go (decLt 0 (freeOn s (w .tables) q n)) (free-count n (omega arith))
-      where
-        f : ℕ → ℕ
-        f = freeOn s (w .tables) q
-
-        go : Dec (0 < f n) → sum f n ≤ 15 * count (positive f) n → sum f n + f n ≤ 15 * (count (positive f) n + bit (positive f n))
-        go (yes p) rest = omega (arith, free-low n (omega arith), ap bit (lt-ltb 0 (f n) p))
-        go (no p) rest = omega arith
-
-    -- at most one of them has free cells
-    pub one-part : count (positive (freeOn s (w .tables) q)) (s .pages) ≤ 1
-    one-part = no-two (positive (freeOn s (w .tables) q)) (s .pages) (λ x y l m a b. k .partial q pos x y l m (part x a) (part y b))
-      where
-        part : (page : ℕ) → positive (freeOn s (w .tables) q) page ≡ true → Partial s (w .tables) q page
-        part page h = go (eqb (ownerIn s w page) q) refl (ltb-true 0 (freeOn s (w .tables) q page) h)
-          where
-            go : (b : Bool) → eqb (ownerIn s w page) q ≡ b → 0 < cond b (pageCells - usedIn s w page) 0 → Partial s (w .tables) q page
-            go true e l = record { owner = eqb-true (ownerIn s w page) q e; part = omega arith }
-            go false e l = absurd (let z : ⊥ = omega arith in z)
-
-    owned : pagesOf (objectsOf s (w .tables) q) ≡ pagesOwned s w q
-    owned =
-        omega (arith, filled (s .pages) (omega arith), free-count (s .pages) (omega arith), one-part)
-
-    -- ---- the objects of a page
-
     home-of : (page j : ℕ) → page < s .pages → j < pageCells → homeIn s w (cellOn page j) ≡ cond (ltb j (usedIn s w page)) (ownerIn s w page) 0
     unfolding homeAt
     home-of page j l m = ap₂ (λ (b : Bool) (p : ℕ). cond b (ownerIn s w p) 0) (begins-on s (w .cells) (w .tables) page j l m) (page-on page j m)
@@ -107,10 +176,10 @@ module _ (s : Sizes) (w : Words) (k : WholeFor s w) where
         go : Dec (ownerIn s w page ≡ q) → sum f pageCells ≡ objectsOn s (w .tables) q page
         go (yes e) =
             sum-first f (usedIn s w page) pageCells (λ j m. ap (λ (n : ℕ). cond (eqb n q) 1 0) (home-of page j l m) ∙ mine (ltb j (usedIn s w page)) e)
-            ∙ omega (arith, k .pages page l .cells, ap (λ (b : Bool). cond b (usedIn s w page) 0) (eq-eqb (ownerIn s w page) q e))
+            ∙ omega (arith, k .pages page l .filled .cells, objects-yes s (w .tables) q page e)
         go (no n) =
             sum-none f pageCells (λ j m. ap (λ (n : ℕ). cond (eqb n q) 1 0) (home-of page j l m) ∙ another (ltb j (usedIn s w page)) n)
-            ∙ sym (ap (λ (b : Bool). cond b (usedIn s w page) 0) (ne-eqb (ownerIn s w page) q n))
+            ∙ sym (objects-no s (w .tables) q page n)
 
     pub objects-on-pages : objectsIn (graphOf s w) q ≡ objectsOf s (w .tables) q
     unfolding objectsIn
@@ -119,14 +188,14 @@ module _ (s : Sizes) (w : Words) (k : WholeFor s w) where
 
     -- 01: a region of n objects uses n / 16 pages, rounded up
     pub region-pages : pagesOwned s w q ≡ pagesOf (objectsIn (graphOf s w) q)
-    region-pages = sym (ap pagesOf objects-on-pages ∙ owned)
+    region-pages = sym (ap pagesOf objects-on-pages ∙ owned (whole-regular k) q pos)
 
     pub counted-objects : q ≤ regions s → countOf s (w .tables) q ≡ objectsIn (graphOf s w) q
     counted-objects l = k .counts q pos l ∙ sym objects-on-pages
 
   -- and the pages of no region are the free ones
   pub free-pages : pagesOwned s w 0 ≡ freePages s (graphOf s w)
-  unfolding freePages
+  unfolding freePages ownedOne
   free-pages =
       sym (ap (λ (n : ℕ). s .pages - n) (sum-same _ _ (regions s) (λ i l. sym (region-pages (suc i) (omega arith))))
       ∙ omega (arith, count-owners (ownerIn s w) (regions s) (s .pages) owner-low))

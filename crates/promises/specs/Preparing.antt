@@ -99,9 +99,7 @@ module _ (s : Sizes) (lent w : Words) (range : InRange s) (long : LongEnough s l
         sized = sizes-whole;
         depths = λ k l. omega (arith, table-zero (depthAt k) (omega arith) (omega (arith, room)));
         pages = λ page l. let o = owner-zero page l in let v = used-zero page l in record {
-          free = λ e. v;
-          taken = λ p. absurd (omega arith);
-          cells = omega arith;
+          filled = record { free = λ e. v; taken = λ p. absurd (omega arith); cells = omega arith };
           region = λ p. absurd (omega arith);
         };
         partial = λ g l a b i j x y. omega (arith, x .owner, owner-zero a (omega arith));

@@ -71,7 +71,7 @@ module _ (s : Sizes) (w : Words) (k : WholeFor s w) where
   used-home c u = ap (λ (b : Bool). cond b (ownerIn s w (pageOf c)) 0) (begins-true s (w .cells) (w .tables) c u)
 
   pub used-owned : (c : ℕ) → BeginsIn s w c → ownerIn s w (pageOf c) ≡ 0 → ⊥
-  used-owned c u z = let i = begins-used s (w .cells) (w .tables) c u in omega (arith, k .pages (pageOf c) (i .page) .free z, i .place)
+  used-owned c u z = let i = begins-used s (w .cells) (w .tables) c u in omega (arith, k .pages (pageOf c) (i .page) .filled .free z, i .place)
 
   pub used-alive : (c : ℕ) → BeginsIn s w c → Alive (graphOf s w) c
   used-alive c u z = used-owned c u (sym (used-home c u) ∙ z)

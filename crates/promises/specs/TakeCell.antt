@@ -1,14 +1,11 @@
 -- A region takes the first unused cell of its partly filled page or, if it has none, of a free page: what becomes of pages and counts.
-use Prim.Native.Nat.{ℕ, _+_, _-_, _≤_, _<_}
+use Prim.Native.Nat.{ℕ, _+_, _≤_, _<_}
 use native.Mathlib.Omega.{arith}
-use native.Mathlib.Decide.{ℕ-discrete, decLt}
-use mathlib.Core.Path.{_≡_, refl, sym, ap, ap₂, subst, _∙_}
+use native.Mathlib.Decide.{ℕ-discrete}
+use mathlib.Core.Path.{_≡_, refl, sym, ap, subst, _∙_}
 use mathlib.Core.Logic.{_⊎_, inl, inr}
 use mathlib.Core.List.{List, [], _∷_}
-use mathlib.Core.Bool.{Bool, cond}
 use lib.ListN.{length, getD, set, length-set}
-use lib.Dec.{eqb}
-use borrow.Author.Tests.{eq-eqb, ne-eqb}
 use Rattle.lists.specs.Counting.{sum-same, sum-change}
 use Rattle.lists.specs.Stores.{put, past}
 use Rattle.rules.specs.declared.Sizes.{Sizes}
@@ -16,18 +13,22 @@ use Rattle.rules.specs.Regions.{regions}
 use Rattle.layout.specs.Places.{ownerAt, ownerOf, usedAt, usedOf, countAt, countOf, count-room, used-is, mark-is, count-is}
 use Rattle.layout.specs.Cells.{pageOf, placeOf, cellOn}
 use Rattle.layout.specs.Words.{Words, InUse}
-use Rattle.promises.specs.Whole.{Open, PageWhole, Partial, objectsOn, objectsOf, PagesWhole, OnePartial, CountsWhole, WholeFor}
+use Rattle.promises.specs.Whole.{Open, PageFilled, Partial, objectsOn, objectsOf, PagesWhole, WholeFor}
+use Rattle.promises.specs.Regular.{Regular, whole-regular, one, objects-yes, objects-no, SamePage, filled-same, partial-same, on-same}
 use Rattle.promises.specs.Changes.{withTables}
 use Rattle.promises.specs.Areas.{ownerWords, usedWords, countWords, Only, among-both, owner-in, used-in, count-in, arrays-apart, tables-only}
 use Rattle.promises.specs.Frames.{open-frame}
+
+-- the page is the region's, or it was free and the region had none that is partly filled
+abbrev pub Source : Sizes → List ℕ → ℕ → ℕ → Type 0
+Source p t g page = (ownerOf p t page ≡ g) ⊎ ((ownerOf p t page ≡ 0) × ((q : ℕ) → q < p .pages → Partial p t g q → ⊥))
 
 -- region g took the cell: from tables t, which left t′
 pub record Took (p : Sizes) (t : List ℕ) (g cell : ℕ) (t′ : List ℕ) : Type 0 where
   pub page : pageOf cell < p .pages
   -- the first unused cell of its page
   pub first : usedOf p t (pageOf cell) ≡ placeOf cell
-  -- the page is the region's, or it was free and the region had none that is partly filled
-  pub source : (ownerOf p t (pageOf cell) ≡ g) ⊎ ((ownerOf p t (pageOf cell) ≡ 0) × ((q : ℕ) → q < p .pages → Partial p t g q → ⊥))
+  pub source : Source p t g (pageOf cell)
   pub long : length t′ ≡ length t
   pub owner : ownerOf p t′ (pageOf cell) ≡ g
   pub used : usedOf p t′ (pageOf cell) ≡ placeOf cell + 1
@@ -97,57 +98,45 @@ module _ (s : Sizes) (t : List ℕ) (g page : ℕ) (low : page < s .pages) (room
 
 -- ---- what it leaves as it was
 
-module _ (s : Sizes) (t : List ℕ) (g cell : ℕ) (t′ : List ℕ) (k : Took s t g cell t′) where
-  abbrev P : Sizes
-  P = s
+module _ {s : Sizes} {t : List ℕ} {g cell : ℕ} {t′ : List ℕ} (k : Took s t g cell t′) where
+  pub page-past : (page : ℕ) → page < s .pages → (page ≡ pageOf cell → ⊥) → SamePage s t t′ page
+  page-past page l d =
+      record {
+        owner =
+            k .others (ownerAt s page) (λ (e : ownerAt s page ≡ ownerAt s (pageOf cell)). d (omega arith)) (λ (e : ownerAt s page ≡ usedAt s (pageOf cell)). omega (arith, used-is s))
+            (λ (e : ownerAt s page ≡ countAt s g). omega (arith, count-is s));
+        used =
+            k .others (usedAt s page) (λ (e : usedAt s page ≡ ownerAt s (pageOf cell)). omega (arith, used-is s, k .page)) (λ (e : usedAt s page ≡ usedAt s (pageOf cell)). d (omega arith))
+            (λ (e : usedAt s page ≡ countAt s g). omega (arith, used-is s, count-is s));
+      }
 
-  owner-past : (page : ℕ) → page < s .pages → (page ≡ pageOf cell → ⊥) → ownerOf P t′ page ≡ ownerOf P t page
-  owner-past page l d =
-      k .others (ownerAt P page) (λ (e : ownerAt P page ≡ ownerAt P (pageOf cell)). d (omega arith)) (λ (e : ownerAt P page ≡ usedAt P (pageOf cell)). omega (arith, used-is s))
-      (λ (e : ownerAt P page ≡ countAt P g). omega (arith, count-is s))
-
-  used-past : (page : ℕ) → page < s .pages → (page ≡ pageOf cell → ⊥) → usedOf P t′ page ≡ usedOf P t page
-  used-past page l d =
-      k .others (usedAt P page) (λ (e : usedAt P page ≡ ownerAt P (pageOf cell)). omega (arith, used-is s, k .page)) (λ (e : usedAt P page ≡ usedAt P (pageOf cell)). d (omega arith))
-      (λ (e : usedAt P page ≡ countAt P g). omega (arith, used-is s, count-is s))
-
-  count-past : (q : ℕ) → 1 ≤ q → 1 ≤ g → (q ≡ g → ⊥) → countOf P t′ q ≡ countOf P t q
+  count-past : (q : ℕ) → 1 ≤ q → 1 ≤ g → (q ≡ g → ⊥) → countOf s t′ q ≡ countOf s t q
   count-past q a b d =
-      k .others (countAt P q) (λ (e : countAt P q ≡ ownerAt P (pageOf cell)). omega (arith, count-is s, k .page)) (λ (e : countAt P q ≡ usedAt P (pageOf cell)). omega (arith, used-is s, count-is s, k .page))
-      (λ (e : countAt P q ≡ countAt P g). d (omega arith))
+      k .others (countAt s q) (λ (e : countAt s q ≡ ownerAt s (pageOf cell)). omega (arith, count-is s, k .page)) (λ (e : countAt s q ≡ usedAt s (pageOf cell)). omega (arith, used-is s, count-is s, k .page))
+      (λ (e : countAt s q ≡ countAt s g). d (omega arith))
 
   -- ---- cells in use
 
-  pub took-used : InUse P t′ cell
+  pub took-used : InUse s t′ cell
   took-used = record { page = k .page; place = omega (arith, k .used) }
 
-  pub took-unused : InUse P t cell → ⊥
+  pub took-unused : InUse s t cell → ⊥
   took-unused u = omega (arith, u .place, k .first)
 
-  pub still-used : (c : ℕ) → InUse P t c → InUse P t′ c
+  pub still-used : (c : ℕ) → InUse s t c → InUse s t′ c
   still-used c u = go (ℕ-discrete (pageOf c) (pageOf cell))
     where
-      go : Dec (pageOf c ≡ pageOf cell) → InUse P t′ c
-      go (yes e) = record { page = u .page; place = omega (arith, u .place, k .first, k .used, ap (usedOf P t) e, ap (usedOf P t′) e) }
-      go (no d) = record { page = u .page; place = omega (arith, u .place, used-past (pageOf c) (u .page) d) }
+      go : Dec (pageOf c ≡ pageOf cell) → InUse s t′ c
+      go (yes e) = record { page = u .page; place = omega (arith, u .place, k .first, k .used, ap (usedOf s t) e, ap (usedOf s t′) e) }
+      go (no d) = record { page = u .page; place = omega (arith, u .place, page-past (pageOf c) (u .page) d .used) }
 
-  pub used-split : (c : ℕ) → InUse P t′ c → (c ≡ cell) ⊎ InUse P t c
+  pub used-split : (c : ℕ) → InUse s t′ c → (c ≡ cell) ⊎ InUse s t c
   used-split c u = go (ℕ-discrete (pageOf c) (pageOf cell)) (ℕ-discrete c cell)
     where
-      go : Dec (pageOf c ≡ pageOf cell) → Dec (c ≡ cell) → (c ≡ cell) ⊎ InUse P t c
+      go : Dec (pageOf c ≡ pageOf cell) → Dec (c ≡ cell) → (c ≡ cell) ⊎ InUse s t c
       go a (yes e) = inl e
-      go (yes a) (no d) = inr (record { page = u .page; place = omega (arith, u .place, k .first, k .used, ap (usedOf P t) a, ap (usedOf P t′) a) })
-      go (no a) (no d) = inr (record { page = u .page; place = omega (arith, u .place, used-past (pageOf c) (u .page) a) })
-
-  -- the region of a cell that was in use
-  pub owner-used : ((page : ℕ) → page < s .pages → PageWhole P t page) → (c : ℕ) → InUse P t c → ownerOf P t′ (pageOf c) ≡ ownerOf P t (pageOf c)
-  owner-used w c u = go (ℕ-discrete (pageOf c) (pageOf cell)) (k .source)
-    where
-      go : Dec (pageOf c ≡ pageOf cell) → (ownerOf P t (pageOf cell) ≡ g) ⊎ ((ownerOf P t (pageOf cell) ≡ 0) × ((q : ℕ) → q < s .pages → Partial P t g q → ⊥))
-          → ownerOf P t′ (pageOf c) ≡ ownerOf P t (pageOf c)
-      go (no d) o = owner-past (pageOf c) (u .page) d
-      go (yes e) (inl o) = ap (ownerOf P t′) e ∙ k .owner ∙ sym o ∙ sym (ap (ownerOf P t) e)
-      go (yes e) (inr o) = absurd (let z : ⊥ = omega (arith, u .place, w (pageOf c) (u .page) .free (ap (ownerOf P t) e ∙ o .0)) in z)
+      go (yes a) (no d) = inr (record { page = u .page; place = omega (arith, u .place, k .first, k .used, ap (usedOf s t) a, ap (usedOf s t′) a) })
+      go (no a) (no d) = inr (record { page = u .page; place = omega (arith, u .place, page-past (pageOf c) (u .page) a .used) })
 
 -- only owners, cells in use and counts change
 pub took-only : (s : Sizes) (w : Words) (g cell : ℕ) (t′ : List ℕ) → Took s (w .tables) g cell t′ → 1 ≤ g → g ≤ regions s → Only (ownerWords ∷ usedWords ∷ countWords ∷ []) s w (withTables w t′)
@@ -161,108 +150,98 @@ took-only s w g cell t′ k pos low =
     (λ j l. k .others j (λ (e : j ≡ ownerAt s (pageOf cell)). omega (arith, k .page, count-room s, count-is s)) (λ (e : j ≡ usedAt s (pageOf cell)). omega (arith, k .page, count-room s, count-is s, used-is s))
     (λ (e : j ≡ countAt s g). omega (arith, count-room s)))
 
--- ---- pages and counts are whole
+-- ---- pages and counts are regular
 
-module _ (s : Sizes) (w : Words) (whole : WholeFor s w) (g cell : ℕ) (t′ : List ℕ) (k : Took s (w .tables) g cell t′) (pos : 1 ≤ g) (low : g ≤ regions s) (open′ : 1 < g → Open s (w .tables) g) where
-  abbrev t : List ℕ
-  t = w .tables
-
-  open-past : (q : ℕ) → Open s t q → Open s t′ q
-  open-past = open-frame (took-only s w g cell t′ k pos low) refl
-
-  pub took-pages : PagesWhole s (withTables w t′)
-  took-pages page l = go (ℕ-discrete page (pageOf cell))
+module _ {s : Sizes} {t : List ℕ} {g cell : ℕ} {t′ : List ℕ} (r : Regular s t) (k : Took s t g cell t′) where
+  -- the region of a cell that was in use
+  pub owner-used : (c : ℕ) → InUse s t c → ownerOf s t′ (pageOf c) ≡ ownerOf s t (pageOf c)
+  owner-used c u = go (ℕ-discrete (pageOf c) (pageOf cell)) (k .source)
     where
-      o : PageWhole s t page
-      o = whole .pages page l
+      go : Dec (pageOf c ≡ pageOf cell) → Source s t g (pageOf cell) → ownerOf s t′ (pageOf c) ≡ ownerOf s t (pageOf c)
+      go (no d) o = page-past k (pageOf c) (u .page) d .owner
+      go (yes e) (inl o) = ap (ownerOf s t′) e ∙ k .owner ∙ sym o ∙ sym (ap (ownerOf s t) e)
+      go (yes e) (inr o) = absurd (let z : ⊥ = omega (arith, u .place, r .pages (pageOf c) (u .page) .free (ap (ownerOf s t) e ∙ o .0)) in z)
 
-      go : Dec (page ≡ pageOf cell) → PageWhole s t′ page
-      go (yes e) =
-          let a : ownerOf s t′ page ≡ g = ap (ownerOf s t′) e ∙ k .owner in
-          let b : usedOf s t′ page ≡ placeOf cell + 1 = ap (usedOf s t′) e ∙ k .used in
-          record {
-            free = λ z. absurd (let q : ⊥ = omega arith in q);
-            taken = λ z. omega arith;
-            cells = omega arith;
-            region = λ z. subst (Open s t′) (sym a) (open-past g (open′ (omega arith)));
-          }
-      go (no d) =
-          let a = owner-past s t g cell t′ k page l d in
-          let b = used-past s t g cell t′ k page l d in
-          record {
-            free = λ z. b ∙ o .free (sym a ∙ z);
-            taken = λ z. omega (arith, o .taken (omega arith));
-            cells = omega (arith, o .cells);
-            region = λ z. subst (Open s t′) (sym a) (open-past (ownerOf s t page) (o .region (omega arith)));
-          }
+  module _ (pos : 1 ≤ g) where
+    took-filled : (page : ℕ) → page < s .pages → Dec (page ≡ pageOf cell) → PageFilled s t′ page
+    took-filled page l (yes e) =
+        let a : ownerOf s t′ page ≡ g = ap (ownerOf s t′) e ∙ k .owner in
+        let b : usedOf s t′ page ≡ placeOf cell + 1 = ap (usedOf s t′) e ∙ k .used in
+        record { free = λ z. absurd (let q : ⊥ = omega arith in q); taken = λ z. omega arith; cells = omega arith }
+    took-filled page l (no d) = filled-same (page-past k page l d) (r .pages page l)
 
-  was-partial : (q page : ℕ) → page < s .pages → (page ≡ pageOf cell → ⊥) → Partial s t′ q page → Partial s t q page
-  was-partial q page l d x = record { owner = sym (owner-past s t g cell t′ k page l d) ∙ x .owner; part = omega (arith, x .part, used-past s t g cell t′ k page l d) }
+    -- a page of another region that is partly filled was; of the region, only the cell's page is
+    was-partial : (q page : ℕ) → page < s .pages → (q ≡ g → ⊥) → Partial s t′ q page → Partial s t q page
+    was-partial q page l n x = partial-same (page-past k page l (λ e. n (sym (x .owner) ∙ ap (ownerOf s t′) e ∙ k .owner))) x
 
-  -- another page of the region is not partly filled
-  alone : (q page : ℕ) → page < s .pages → (page ≡ pageOf cell → ⊥) → Partial s t′ q (pageOf cell) → Partial s t′ q page → ⊥
-  alone q page l d x y = go (k .source)
-    where
-      same : q ≡ g
-      same = sym (x .owner) ∙ k .owner
+    alone : (page : ℕ) → page < s .pages → Partial s t′ g page → page ≡ pageOf cell
+    alone page l x = go (ℕ-discrete page (pageOf cell)) (k .source)
+      where
+        go : Dec (page ≡ pageOf cell) → Source s t g (pageOf cell) → page ≡ pageOf cell
+        go (yes e) o = e
+        go (no d) (inl o) = one r pos l (k .page) (partial-same (page-past k page l d) x) (record { owner = o; part = omega (arith, k .first) })
+        go (no d) (inr o) = absurd (o .1 page l (partial-same (page-past k page l d) x))
 
-      there : Partial s t g page
-      there = subst (λ (z : ℕ). Partial s t z page) same (was-partial q page l d y)
+    took-partial : (q : ℕ) → 1 ≤ q → (a b : ℕ) → a < b → b < s .pages → Partial s t′ q a → Partial s t′ q b → Dec (q ≡ g) → ⊥
+    took-partial q z a b l h x y (yes e) =
+        omega (arith, alone a (omega arith) (subst (λ (i : ℕ). Partial s t′ i a) e x), alone b h (subst (λ (i : ℕ). Partial s t′ i b) e y))
+    took-partial q z a b l h x y (no n) = r .partial q z a b l h (was-partial q a (omega arith) n x) (was-partial q b h n y)
 
-      go : (ownerOf s t (pageOf cell) ≡ g) ⊎ ((ownerOf s t (pageOf cell) ≡ 0) × ((q : ℕ) → q < s .pages → Partial s t g q → ⊥)) → ⊥
-      go (inr o) = o .1 page l there
-      go (inl o) = order (ℕ-discrete page (pageOf cell))
-        where
-          here : Partial s t g (pageOf cell)
-          here = record { owner = o; part = omega (arith, k .first) }
+    -- the objects on the cell's page
+    on-page : Source s t g (pageOf cell) → objectsOn s t′ g (pageOf cell) ≡ objectsOn s t g (pageOf cell) + 1
+    on-page (inl o) = omega (arith, k .first, k .used, objects-yes s t′ g (pageOf cell) (k .owner), objects-yes s t g (pageOf cell) o)
+    on-page (inr o) =
+        omega (
+          arith,
+          k .first,
+          k .used,
+          objects-yes s t′ g (pageOf cell) (k .owner),
+          r .pages (pageOf cell) (k .page) .free (o .0),
+          objects-no s t g (pageOf cell) (λ (e : ownerOf s t (pageOf cell) ≡ g). omega (arith, o .0)),
+        )
 
-          order : Dec (page ≡ pageOf cell) → ⊥
-          order (yes e) = d e
-          order (no e) = less (decLt page (pageOf cell))
-            where
-              less : Dec (page < pageOf cell) → ⊥
-              less (yes f) = whole .partial g pos page (pageOf cell) f (k .page) there here
-              less (no f) = whole .partial g pos (pageOf cell) page (omega arith) l here there
+    pub took-objects : objectsOf s t′ g ≡ objectsOf s t g + 1
+    took-objects =
+        omega (arith, on-page (k .source), sum-change (objectsOn s t′ g) (objectsOn s t g) (pageOf cell) (s .pages) (k .page) (λ page l d. on-same (page-past k page l d) g))
 
-  pub took-partial : OnePartial s (withTables w t′)
-  took-partial q z a b l h x y = go (ℕ-discrete a (pageOf cell)) (ℕ-discrete b (pageOf cell))
-    where
-      go : Dec (a ≡ pageOf cell) → Dec (b ≡ pageOf cell) → ⊥
-      go (yes e) f = alone q b h (λ (i : b ≡ pageOf cell). omega arith) (subst (Partial s t′ q) e x) y
-      go (no e) (yes f) = alone q a (omega arith) e (subst (Partial s t′ q) f y) x
-      go (no e) (no f) = whole .partial q z a b l h (was-partial q a (omega arith) e x) (was-partial q b h f y)
+    pub took-objects-other : (q : ℕ) → 1 ≤ q → (q ≡ g → ⊥) → objectsOf s t′ q ≡ objectsOf s t q
+    took-objects-other q z n = sum-same (objectsOn s t′ q) (objectsOn s t q) (s .pages) (λ page l. go page l (ℕ-discrete page (pageOf cell)) (k .source))
+      where
+        go : (page : ℕ) → page < s .pages → Dec (page ≡ pageOf cell) → Source s t g (pageOf cell) → objectsOn s t′ q page ≡ objectsOn s t q page
+        go page l (no d) o = on-same (page-past k page l d) q
+        go page l (yes e) o =
+            objects-no s t′ q page (λ x. n (sym x ∙ ap (ownerOf s t′) e ∙ k .owner)) ∙ sym (objects-no s t q page (was o))
+          where
+            was : Source s t g (pageOf cell) → ownerOf s t page ≡ q → ⊥
+            was (inl o) x = n (sym x ∙ ap (ownerOf s t) e ∙ o)
+            was (inr o) x = let h : ownerOf s t page ≡ 0 = ap (ownerOf s t) e ∙ o .0 in omega arith
 
-  -- the objects on the cell's page
-  on-page : objectsOn s t′ g (pageOf cell) ≡ objectsOn s t g (pageOf cell) + 1
-  on-page = ap (λ (b : Bool). cond b (usedOf s t′ (pageOf cell)) 0) (eq-eqb (ownerOf s t′ (pageOf cell)) g (k .owner)) ∙ k .used ∙ go (k .source)
-    where
-      go : (ownerOf s t (pageOf cell) ≡ g) ⊎ ((ownerOf s t (pageOf cell) ≡ 0) × ((q : ℕ) → q < s .pages → Partial s t g q → ⊥)) → placeOf cell + 1 ≡ objectsOn s t g (pageOf cell) + 1
-      go (inl o) = omega (arith, k .first, ap (λ (b : Bool). cond b (usedOf s t (pageOf cell)) 0) (eq-eqb (ownerOf s t (pageOf cell)) g o))
-      go (inr o) =
-          omega (arith, k .first, whole .pages (pageOf cell) (k .page) .free (o .0), ap (λ (b : Bool). cond b (usedOf s t (pageOf cell)) 0) (ne-eqb (ownerOf s t (pageOf cell)) g (λ (e : ownerOf s t (pageOf cell) ≡ g). omega (arith, o .0))))
+    pub took-regular : Regular s t′
+    took-regular =
+        record {
+          pages = λ page l. took-filled page l (ℕ-discrete page (pageOf cell));
+          partial = λ q z a b l h x y. took-partial q z a b l h x y (ℕ-discrete q g);
+          counts = λ q z l. counts q z l (ℕ-discrete q g);
+        }
+      where
+        counts : (q : ℕ) → 1 ≤ q → q ≤ regions s → Dec (q ≡ g) → countOf s t′ q ≡ objectsOf s t′ q
+        counts q z l (yes e) =
+            subst (λ (i : ℕ). countOf s t′ i ≡ objectsOf s t′ i) (sym e) (omega (arith, k .count, r .counts g pos (omega arith), took-objects))
+        counts q z l (no n) = count-past k q z pos n ∙ r .counts q z l ∙ sym (took-objects-other q z n)
 
-  on-other : (q page : ℕ) → page < s .pages → (page ≡ pageOf cell → ⊥) → objectsOn s t′ q page ≡ objectsOn s t q page
-  on-other q page l d = ap₂ (λ (o u : ℕ). cond (eqb o q) u 0) (owner-past s t g cell t′ k page l d) (used-past s t g cell t′ k page l d)
+-- and pages are whole, where the region is open
+pub took-pages : {s : Sizes} {w : Words} {g cell : ℕ} {t′ : List ℕ} → WholeFor s w → Took s (w .tables) g cell t′ → 1 ≤ g → g ≤ regions s → (1 < g → Open s (w .tables) g)
+    → PagesWhole s (withTables w t′)
+took-pages {s} {w} {g} {cell} {t′} whole k pos low open′ page l =
+    record { filled = took-regular (whole-regular whole) k pos .pages page l; region = go (ℕ-discrete page (pageOf cell)) }
+  where
+    open-past : (q : ℕ) → Open s (w .tables) q → Open s t′ q
+    open-past = open-frame (took-only s w g cell t′ k pos low) refl
 
-  of-other : (q : ℕ) → 1 ≤ q → (q ≡ g → ⊥) → objectsOn s t′ q (pageOf cell) ≡ objectsOn s t q (pageOf cell)
-  of-other q z d =
-      ap (λ (b : Bool). cond b (usedOf s t′ (pageOf cell)) 0) (ne-eqb (ownerOf s t′ (pageOf cell)) q (λ e. d (sym e ∙ k .owner)))
-      ∙ sym (ap (λ (b : Bool). cond b (usedOf s t (pageOf cell)) 0) (ne-eqb (ownerOf s t (pageOf cell)) q (go (k .source))))
-    where
-      go : (ownerOf s t (pageOf cell) ≡ g) ⊎ ((ownerOf s t (pageOf cell) ≡ 0) × ((q : ℕ) → q < s .pages → Partial s t g q → ⊥)) → ownerOf s t (pageOf cell) ≡ q → ⊥
-      go (inl o) e = d (sym e ∙ o)
-      go (inr o) e = let h : ownerOf s t (pageOf cell) ≡ 0 = o .0 in omega arith
-
-  pub took-counts : CountsWhole s (withTables w t′)
-  took-counts q z l = go (ℕ-discrete q g)
-    where
-      go : Dec (q ≡ g) → countOf s t′ q ≡ objectsOf s t′ q
-      go (yes e) =
-          subst (λ (i : ℕ). countOf s t′ i ≡ objectsOf s t′ i) (sym e)
-          (omega (arith, k .count, whole .counts g pos (omega arith), on-page, sum-change (objectsOn s t′ g) (objectsOn s t g) (pageOf cell) (s .pages) (k .page) (on-other g)))
-      go (no d) =
-          count-past s t g cell t′ k q z pos d ∙ whole .counts q z l ∙ sym (sum-same _ _ (s .pages) (λ page h. each page h (ℕ-discrete page (pageOf cell))))
-        where
-          each : (page : ℕ) → page < s .pages → Dec (page ≡ pageOf cell) → objectsOn s t′ q page ≡ objectsOn s t q page
-          each page h (yes e) = subst (λ (i : ℕ). objectsOn s t′ q i ≡ objectsOn s t q i) (sym e) (of-other q z d)
-          each page h (no e) = on-other q page h e
+    go : Dec (page ≡ pageOf cell) → 1 < ownerOf s t′ page → Open s t′ (ownerOf s t′ page)
+    go (yes e) z =
+        let a : ownerOf s t′ page ≡ g = ap (ownerOf s t′) e ∙ k .owner in
+        subst (Open s t′) (sym a) (open-past g (open′ (omega arith)))
+    go (no d) z =
+        let a = page-past k page l d .owner in
+        subst (Open s t′) (sym a) (open-past (ownerOf s (w .tables) page) (whole .pages page l .region (omega arith)))

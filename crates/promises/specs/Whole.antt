@@ -25,11 +25,15 @@ pub record Open (s : Sizes) (t : List ℕ) (g : ℕ) : Type 0 where
   pub thread : threadOf s g < s .threads
   pub level : levelOf s g ≤ depthOf t (threadOf s g)
 
--- a page that is used belongs to the control space or an open region and uses its first 1 to 16 cells, a free page uses none
-pub record PageWhole (s : Sizes) (t : List ℕ) (page : ℕ) : Type 0 where
+-- a page that is used uses its first 1 to 16 cells, a free page uses none
+pub record PageFilled (s : Sizes) (t : List ℕ) (page : ℕ) : Type 0 where
   pub free : ownerOf s t page ≡ 0 → usedOf s t page ≡ 0
   pub taken : 0 < ownerOf s t page → 1 ≤ usedOf s t page
   pub cells : usedOf s t page ≤ pageCells
+
+-- and a used one belongs to the control space or an open region
+pub record PageWhole (s : Sizes) (t : List ℕ) (page : ℕ) : Type 0 where
+  pub filled : PageFilled s t page
   pub region : 1 < ownerOf s t page → Open s t (ownerOf s t page)
 
 -- a page of g that is partly filled
