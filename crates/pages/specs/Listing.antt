@@ -1,6 +1,6 @@
 -- The pages of a region are listed from the last one down: what stands at the end of the list is rising and complete above the page reached.
 use Prim.Native.Nat.{ℕ, _+_, _-_, _≤_, _<_}
-use mathlib.Core.Path.{_≡_, refl, sym, ap, _∙_}
+use mathlib.Core.Path.{_≡_, sym, ap, _∙_}
 use mathlib.Core.List.{List}
 use native.Mathlib.Omega.{arith}
 use native.Mathlib.Decide.{ℕ-discrete, decLt}
@@ -10,7 +10,7 @@ use Rattle.lists.specs.Counting.{sum-more, sum-part}
 use Rattle.lists.specs.Part.{Off, Lists}
 use Rattle.rules.specs.declared.Sizes.{Sizes}
 use Rattle.layout.specs.Places.{ownerOf}
-use Rattle.pages.specs.Owned.{ownedOne, ownedIn, owned-yes, owned-no, owned-few}
+use Rattle.promises.specs.OwnedPages.{ownedOne, ownedIn, owned-yes, owned-no, owned-few}
 
 -- the pages of g from `page` on stand at the places from `left` on and below n
 pub record Listing (p : Sizes) (t : List ℕ) (g n left page : ℕ) (l : List ℕ) : Type 0 where
@@ -57,7 +57,7 @@ module _ {p : Sizes} {t : List ℕ} {g n left page : ℕ} {l : List ℕ} (h : Li
   pub listing-skip : (o : ℕ) → o ≡ ownerOf p t (page - 1) → (o ≡ g → ⊥) → Listing p t g n left (page - 1) l
   listing-skip o e ne =
       record {
-        rest = omega (arith, h .rest, before, owned-no p t g (page - 1) o e ne);
+        rest = omega (arith, h .rest, before, owned-no p t g (page - 1) (λ z. ne (e ∙ z)));
         few = h .few;
         room = h .room;
         within = omega (arith, h .within);
@@ -74,7 +74,7 @@ module _ {p : Sizes} {t : List ℕ} {g n left page : ℕ} {l : List ℕ} (h : Li
   pub listing-take : (o : ℕ) → o ≡ ownerOf p t (page - 1) → o ≡ g → Listing p t g n (left - 1) (page - 1) (set l (left - 1) (page - 1))
   listing-take o e eg =
       record {
-        rest = omega (arith, h .rest, before, owned-yes p t g (page - 1) o e eg, h .few);
+        rest = omega (arith, h .rest, before, owned-yes p t g (page - 1) (sym e ∙ eg), h .few);
         few = omega (arith, h .few);
         room = omega (arith, h .room, length-set l (left - 1) (page - 1));
         within = omega (arith, h .within);
@@ -135,5 +135,5 @@ listing-end {p} {t} {g} {n} {left} {page} {l} z h =
     }
   where
     go : (q : ℕ) → q < p .pages → ownerOf p t q ≡ g → Off l n q → Dec (q < page) → ⊥
-    go q a e f (yes b) = omega (arith, h .rest, sum-part (ownedOne p t g) q page b, owned-yes p t g q (ownerOf p t q) refl e)
+    go q a e f (yes b) = omega (arith, h .rest, sum-part (ownedOne p t g) q page b, owned-yes p t g q e)
     go q a e f (no b) = h .all q (omega arith) a e (λ i u v y. f i v y)

@@ -1,38 +1,14 @@
--- How many pages belong to a region.
+-- The pages of all regions and the free ones are all pages.
 use Prim.Native.Nat.{ℕ, suc, _+_, _-_, _≤_, _<_}
 use mathlib.Core.Path.{_≡_, sym, ap, _∙_}
 use native.Mathlib.Omega.{arith}
 use mathlib.Core.List.{List}
-use lib.Dec.{eqb}
-use borrow.Author.Tests.{eq-eqb, ne-eqb}
-use Rattle.lists.specs.Counting.{bit, bit-le-one, sum, sum-more, sum-mono, sum-high, count-owners}
+use Rattle.lists.specs.Counting.{sum, sum-more, sum-mono, count-owners}
 use Rattle.rules.specs.Regions.{regions}
 use Rattle.rules.specs.Graph.{pagesOf}
 use Rattle.rules.specs.declared.Sizes.{Sizes}
 use Rattle.layout.specs.Places.{ownerOf, countOf}
-
--- 1 for a page of g, and the pages of g among the first n; the free pages are those of 0
-unfoldable pub ownedOne : Sizes → List ℕ → ℕ → ℕ → ℕ
-ownedOne p t g page = bit (eqb (ownerOf p t page) g)
-
-abbrev pub ownedIn : Sizes → List ℕ → ℕ → ℕ → ℕ
-ownedIn p t g n = sum (ownedOne p t g) n
-
--- o is the page's owner as the code read it
-pub owned-yes : (p : Sizes) (t : List ℕ) (g page o : ℕ) → o ≡ ownerOf p t page → o ≡ g → 1 ≡ ownedOne p t g page
-unfolding ownedOne
-owned-yes p t g page o e z = sym (ap bit (eq-eqb (ownerOf p t page) g (sym e ∙ z)))
-
-pub owned-no : (p : Sizes) (t : List ℕ) (g page o : ℕ) → o ≡ ownerOf p t page → (o ≡ g → ⊥) → 0 ≡ ownedOne p t g page
-unfolding ownedOne
-owned-no p t g page o e n = sym (ap bit (ne-eqb (ownerOf p t page) g (λ z. n (e ∙ z))))
-
-pub owned-le : (p : Sizes) (t : List ℕ) (g page : ℕ) → ownedOne p t g page ≤ 1
-unfolding ownedOne
-owned-le p t g page = bit-le-one (eqb (ownerOf p t page) g)
-
-pub owned-few : (p : Sizes) (t : List ℕ) (g n : ℕ) → ownedIn p t g n ≤ n
-owned-few p t g n = omega (arith, sum-high (ownedOne p t g) 1 n (λ page l. owned-le p t g page))
+use Rattle.promises.specs.OwnedPages.{ownedOne, ownedIn}
 
 -- every region owns the pages that its objects fill, and every page is free or a region's
 pub record Paged (p : Sizes) (t : List ℕ) : Type 0 where

@@ -4,7 +4,8 @@ use mathlib.Core.Logic.{_≢_, _⊎_, inl, inr}
 use mathlib.Core.List.{List}
 use mathlib.Core.Bool.{Bool, true}
 use lib.Dec.{eqb}
-use Prim.Native.Nat.{ℕ, _+_, _-_, _%_, _≤_, _<_}
+use borrow.Author.Tests.{eqb-true}
+use Prim.Native.Nat.{ℕ, _+_, _-_, _≤_, _<_}
 use native.Mathlib.Nat.{mul-le-mul}
 use native.Mathlib.Decide.{decLt, ℕ-discrete}
 use native.Mathlib.Omega.{arith}
@@ -13,7 +14,10 @@ use Rattle.lists.specs.Below.{upto}
 use Rattle.rules.specs.Regions.{regions}
 use Rattle.rules.specs.declared.Sizes.{Sizes}
 use Rattle.layout.specs.Places.{Room, ownerAt, usedAt, countAt, ownerOf, usedOf, countOf}
+use Rattle.layout.specs.Cells.{pageCells, placeOf}
 use Rattle.promises.specs.Whole.{Partial}
+use Rattle.promises.specs.Regular.{Regular}
+use Rattle.promises.specs.OwnedPages.{partly-filled}
 
 -- the partly filled page of region g
 pub record Partly (p : Sizes) (t : List ℕ) (g page : ℕ) : Type 0 where
@@ -22,7 +26,7 @@ pub record Partly (p : Sizes) (t : List ℕ) (g page : ℕ) : Type 0 where
 
 -- g has no partly filled page below n; the page is free, the number of pages if none below n is
 pub record Fresh (p : Sizes) (t : List ℕ) (g n page : ℕ) : Type 0 where
-  pub none : (x : ℕ) → x < n → ownerOf p t x ≡ g → 16 ≤ usedOf p t x
+  pub none : (x : ℕ) → x < n → ownerOf p t x ≡ g → pageCells ≤ usedOf p t x
   pub some : (x : ℕ) → x < n → ownerOf p t x ≡ 0 → page < p .pages
   pub free : page < p .pages → ownerOf p t page ≡ 0
   pub within : page ≤ p .pages
@@ -56,11 +60,14 @@ found-within (inr f) = f .within
 
 -- whether so many objects fill their pages
 abbrev pub fillsPages : ℕ → Bool
-fillsPages n = eqb (n % 16) 0
+fillsPages n = eqb (placeOf n) 0
 
 -- a region whose objects fill their pages has no partly filled page
 abbrev pub Filled : Sizes → List ℕ → ℕ → Type 0
 Filled p t g = fillsPages (countOf p t g) ≡ true → (page : ℕ) → page < p .pages → Partial p t g page → ⊥
+
+pub regular-filled : {p : Sizes} {t : List ℕ} → Regular p t → (g : ℕ) → 1 ≤ g → g ≤ regions p → Filled p t g
+regular-filled r g pos low full page l u = partly-filled r g pos page l u (ap placeOf (sym (r .counts g pos low)) ∙ eqb-true _ 0 full)
 
 -- the tables after an object of region g took the first unused cell of a page
 abbrev pub taken : Sizes → List ℕ → ℕ → ℕ → List ℕ
@@ -105,13 +112,13 @@ free-above {p} {t} {mid} {page} {page′} none h k = record { some = λ x l e. g
 pub fresh-filled : (p : Sizes) (t : List ℕ) (g : ℕ) {page : ℕ} → Filled p t g → fillsPages (countOf p t g) ≡ true → Free p t page → Found p t g page
 fresh-filled p t g none full h =
     inr (record {
-      none = λ x l e. go x l e (decLt (usedOf p t x) 16);
+      none = λ x l e. go x l e (decLt (usedOf p t x) pageCells);
       some = h .some;
       free = h .free;
       within = h .within;
     })
   where
-    go : (x : ℕ) → x < p .pages → ownerOf p t x ≡ g → Dec (usedOf p t x < 16) → 16 ≤ usedOf p t x
+    go : (x : ℕ) → x < p .pages → ownerOf p t x ≡ g → Dec (usedOf p t x < pageCells) → pageCells ≤ usedOf p t x
     go x l e (yes u) = absurd (none full x l (record { owner = e; part = u }))
     go x l e (no u) = omega arith
 
@@ -127,11 +134,11 @@ fresh-start p t g =
     }
 
 -- past a page that is not g's, or is full; w is its owner as the code read it
-pub fresh-next : {p : Sizes} {t : List ℕ} {g n page page′ : ℕ} (w : ℕ) → w ≡ ownerOf p t n → n < p .pages → (w ≡ g → 16 ≤ usedOf p t n)
+pub fresh-next : {p : Sizes} {t : List ℕ} {g n page page′ : ℕ} (w : ℕ) → w ≡ ownerOf p t n → n < p .pages → (w ≡ g → pageCells ≤ usedOf p t n)
     → ((w ≡ 0) × (page′ ≡ n)) ⊎ ((w ≢ 0) × (page′ ≡ page)) → Fresh p t g n page → Fresh p t g (n + 1) page′
 fresh-next {p} {t} {g} {n} {page} {page′} w is low full (inl e) h =
     record {
-      none = upto n {X = λ x. ownerOf p t x ≡ g → 16 ≤ usedOf p t x} (h .none) (λ z. full (is ∙ z));
+      none = upto n {X = λ x. ownerOf p t x ≡ g → pageCells ≤ usedOf p t x} (h .none) (λ z. full (is ∙ z));
       some = λ x l z. omega (arith, e .1);
       free = λ l. subst (λ (x : ℕ). ownerOf p t x ≡ 0) (sym (e .1)) (sym is ∙ e .0);
       within = omega (arith, e .1);
@@ -139,7 +146,7 @@ fresh-next {p} {t} {g} {n} {page} {page′} w is low full (inl e) h =
 fresh-next {p} {t} {g} {n} {page} {page′} w is low full (inr e) h =
     subst (λ (x : ℕ). Fresh p t g (n + 1) x) (sym (e .1))
     (record {
-      none = upto n {X = λ x. ownerOf p t x ≡ g → 16 ≤ usedOf p t x} (h .none) (λ z. full (is ∙ z));
+      none = upto n {X = λ x. ownerOf p t x ≡ g → pageCells ≤ usedOf p t x} (h .none) (λ z. full (is ∙ z));
       some = upto n {X = λ x. ownerOf p t x ≡ 0 → page < p .pages} (h .some) (λ z. absurd (e .0 (is ∙ z)));
       free = h .free;
       within = h .within;

@@ -1,5 +1,5 @@
 -- The cell that is taken is the one that a new object of the region takes.
-use mathlib.Core.Path.{_≡_, sym, ap, _∙_, subst}
+use mathlib.Core.Path.{_≡_, sym, ap, _∙_, subst, subst₂}
 use mathlib.Core.Logic.{inl, inr}
 use mathlib.Core.List.{List}
 use Prim.Native.Nat.{ℕ, _+_, _<_}
@@ -7,26 +7,29 @@ use native.Mathlib.Omega.{arith}
 use lib.ListN.{length, set}
 use lib.Seq.{set-getD}
 use Rattle.rules.specs.declared.Sizes.{Sizes}
-use Rattle.layout.specs.Places.{ownerAt, usedAt, countAt, ownerOf, usedOf, countOf}
-use Rattle.layout.specs.Cells.{cellOn}
+use Rattle.layout.specs.Places.{ownerAt, usedAt, countAt, usedOf, countOf}
+use Rattle.layout.specs.Cells.{cellOn, pageCells}
+use Rattle.promises.specs.Regular.{Regular}
 use Rattle.promises.specs.TakeCell.{Took, took-own, took-free}
 use Rattle.pages.specs.Pages.{Found, taken}
 
-module _ (s : Sizes) (t : List ℕ) (g page : ℕ) (low : page < s .pages) (room : countAt s g < length t)
-    (free : ownerOf s t page ≡ 0 → usedOf s t page ≡ 0) where
-  abbrev p : Sizes
-  p = s
-
+module _ {s : Sizes} {t : List ℕ} (r : Regular s t) {g page : ℕ} (low : page < s .pages) where
   -- a page that was found has an unused cell
-  pub found-room : Found p t g page → usedOf p t page < 16
+  pub found-room : Found s t g page → usedOf s t page < pageCells
   found-room (inl f) = f .partial .part
-  found-room (inr f) = omega (arith, free (f .free low))
+  found-room (inr f) = omega (arith, r .pages page low .free (f .free low))
 
-  pub taken-took : Found p t g page → Took p t g (cellOn page (usedOf p t page)) (taken p t page g)
-  taken-took (inl f) =
-      let e : set t (ownerAt p page) g ≡ t = ap (set t (ownerAt p page)) (sym (f .partial .owner)) ∙ set-getD t (ownerAt p page) 0 in
-      subst (λ (l : List ℕ). Took p t g (cellOn page (usedOf p t page)) (set (set l (usedAt p page) (usedOf p t page + 1)) (countAt p g) (countOf p t g + 1))) (sym e)
+  there : countAt s g < length t → Found s t g page → Took s t g (cellOn page (usedOf s t page)) (taken s t page g)
+  there room (inl f) =
+      let e : set t (ownerAt s page) g ≡ t = ap (set t (ownerAt s page)) (sym (f .partial .owner)) ∙ set-getD t (ownerAt s page) 0 in
+      subst (λ (l : List ℕ). Took s t g (cellOn page (usedOf s t page)) (set (set l (usedAt s page) (usedOf s t page + 1)) (countAt s g) (countOf s t g + 1))) (sym e)
       (took-own s t g page low room (f .partial .owner) (f .partial .part))
-  taken-took (inr f) =
-      subst (λ (u : ℕ). Took p t g (cellOn page u) (set (set (set t (ownerAt p page) g) (usedAt p page) (u + 1)) (countAt p g) (countOf p t g + 1))) (sym (free (f .free low)))
-      (took-free s t g page low room (f .free low) (free (f .free low)) (λ q l x. absurd (let z : ⊥ = omega (arith, f .none q l (x .owner), x .part) in z)))
+  there room (inr f) =
+      let o = f .free low in
+      let u = r .pages page low .free o in
+      subst (λ (n : ℕ). Took s t g (cellOn page n) (set (set (set t (ownerAt s page) g) (usedAt s page) (n + 1)) (countAt s g) (countOf s t g + 1))) (sym u)
+      (took-free s t g page low room o u (λ q l x. absurd (let z : ⊥ = omega (arith, f .none q l (x .owner), x .part) in z)))
+
+  -- the cell and the tables as the code has them
+  pub taken-took : countAt s g < length t → Found s t g page → {cell : ℕ} {t′ : List ℕ} → cell ≡ cellOn page (usedOf s t page) → t′ ≡ taken s t page g → Took s t g cell t′
+  taken-took room f e h = subst₂ (λ (c : ℕ) (l : List ℕ). Took s t g c l) (sym e) (sym h) (there room f)

@@ -8,8 +8,9 @@ ghost use Rattle.lists.specs.Part.{Lists};
 ghost use Rattle.rules.specs.Regions.{regions};
 ghost use Rattle.rules.specs.Graph.{pagesOf};
 ghost use Rattle.layout.specs.Places.{Room, ownerOf, usedOf, countOf};
-ghost use Rattle.layout.specs.Cells.{cellOn};
-ghost use Rattle.pages.specs.Owned.{ownedOne, ownedIn, Paged};
+ghost use Rattle.layout.specs.Cells.{cellOn, pageCells};
+ghost use Rattle.promises.specs.OwnedPages.{ownedOne, ownedIn};
+ghost use Rattle.pages.specs.Owned.{Paged};
 ghost use Rattle.pages.specs.Pages.{fillsPages, noteWords, Filled, Found, Free, Highest, Partly, taken};
 use rules::Sizes;
 
@@ -198,7 +199,7 @@ pub fn page_for(p: Sizes, tables: &[u32], notes: &mut [u32], region: u32) -> usi
 // The first unused cell of a page becomes an object of the region: the page's owner, its cells in use and the region's objects follow.
 pub fn take_cell(p: Sizes, tables: &mut [u32], page: usize, region: u32) -> usize
     requires { ⌜ Room p (length (now tables)) ⌝ }
-    requires { ⌜ (page < p .pages) × (usedOf p (now tables) page < 16) ⌝ }
+    requires { ⌜ (page < p .pages) × (usedOf p (now tables) page < pageCells) ⌝ }
     requires { ⌜ (1 ≤ region) × (region ≤ regions p) × (countOf p (now tables) region + 1 < 2 ^ 32) ⌝ }
     ensures { λ r. ⌜ (r ≡ cellOn page (usedOf p (now (tables .entry)) page)) × (now (tables .exit) ≡ taken p (now (tables .entry)) page region) ⌝ }
 {

@@ -1,5 +1,5 @@
 -- A region of n objects owns n / 16 pages, rounded up, and the pages that no region owns are the rules' free pages.
-use Prim.Native.Nat.{ℕ, zero, suc, _+_, _-_, _*_, _≤_, _<_}
+use Prim.Native.Nat.{ℕ, zero, suc, _+_, _-_, _*_, _^_, _≤_, _<_}
 use native.Mathlib.Omega.{arith}
 use native.Mathlib.Nat.{div-lt-iff-lt-mul}
 use native.Mathlib.Decide.{decLt, ℕ-discrete}
@@ -140,8 +140,16 @@ module _ {s : Sizes} {t : List ℕ} (r : Regular s t) (q : ℕ) where
         let x = sum-pos (freeOn s t q) (s .pages) (omega (arith, filled (s .pages) (omega arith))) in
         (x .0, x .1, free-partial (x .0) (x .2))
 
-    pub counts-owned : q ≤ regions s → ownedIn s t q (s .pages) ≡ pagesOf (countOf s t q)
-    counts-owned l = sym (ap pagesOf (r .counts q pos l) ∙ owned)
+    -- the pages as the count of objects has them
+    module _ (low : q ≤ regions s) where
+      pub counts-owned : ownedIn s t q (s .pages) ≡ pagesOf (countOf s t q)
+      counts-owned = sym (ap pagesOf (r .counts q pos low) ∙ owned)
+
+      pub none-owned : countOf s t q ≡ 0 → (page : ℕ) → page < s .pages → ownerOf s t page ≡ q → ⊥
+      none-owned z page l e = omega (arith, counts-owned, sum-part (ownedOne s t q) page (s .pages) l, owned-yes s t q page e)
+
+      pub count-fits : s .pages ≤ 1024 → countOf s t q + 1 < 2 ^ 32
+      count-fits few = omega (arith, r .counts q pos low, objects-few)
 
 -- ---- the objects of a page
 

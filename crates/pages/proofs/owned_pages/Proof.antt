@@ -3,7 +3,7 @@ use Prim.Native.Nat.{_≤_, _-_}
 use mathlib.Core.Path.{_≡_, refl, ap, _∙_}
 use native.Mathlib.Omega.{arith}
 use Rattle.lists.specs.Counting.{sum-more}
-use Rattle.pages.specs.Owned.{ownedOne, ownedIn, owned-le}
+use Rattle.promises.specs.OwnedPages.{ownedOne, ownedIn, owned-le}
 use Rattle.pages.proofs.owned_pages.Statement.{statement}
 use Rattle.pages.proofs.owned_pages.Tie as tie
 
