@@ -17,7 +17,7 @@ use Rattle.layout.specs.Places.{markOf}
 use Rattle.layout.specs.Cells.{workOf, pageOf, placeOf, cellOn, firstOn, pageCells, place-low, page-on, place-on, on-page, on-rises, on-above, on-below}
 use Rattle.layout.specs.Marks.{marked}
 use Rattle.promises.specs.Whole.{objectsOf}
-use Rattle.pages.specs.Owned.{ownedIn}
+use Rattle.promises.specs.OwnedPages.{ownedIn}
 use Rattle.copy.specs.Marks.{copied, mark?, all-clear, hits}
 use Rattle.copy.specs.Taking.{Next}
 use Rattle.copy.specs.Cursor.{Points, Seeking}
@@ -66,6 +66,7 @@ module _ {p : Sizes} {g q left page : ℕ} {W T W′ T′ : List ℕ} (a : Passi
   pub page-seeking : workOf W′ x ≡ g → Seeking p g T′ page
   page-seeking t =
       record {
+        room = now .ready .room;
         regular = now .ready .regular;
         real = a .real;
         low = a .low;
@@ -245,7 +246,7 @@ module _ {p : Sizes} {n : ℕ} {gs : ℕ → ℕ} {l : ℕ} {W T W′ T′ : Lis
         moves =
             moves-append (moves-later (b .later l (omega arith) lt) (moves-map (λ g q. (q .0, omega (arith, q .1), q .2)) (b .moves)))
             (moves-map (λ g e. (l, omega arith, e)) (d .moves));
-        later = λ j u v. omega (arith, a .rising l j (omega arith) v, a .ready .regular .room .few);
+        later = λ j u v. omega (arith, a .rising l j (omega arith) v, a .ready .room .few);
         done = λ j lj c lp on. go j lj c lp on (ℕ-discrete j l);
         budget =
             omega (

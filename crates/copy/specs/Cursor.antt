@@ -5,12 +5,16 @@ use mathlib.Core.List.{List}
 use Prim.Native.Nat.{ℕ, _≤_, _<_}
 use native.Mathlib.Decide.{decLt}
 use native.Mathlib.Omega.{arith}
+use lib.ListN.{length}
 use Rattle.rules.specs.declared.Sizes.{Sizes}
 use Rattle.rules.specs.Regions.{regions}
-use Rattle.layout.specs.Places.{ownerOf, usedOf}
-use Rattle.layout.specs.Cells.{pageCells}
+use Rattle.layout.specs.Places.{Room, ownerOf, usedOf}
+use Rattle.layout.specs.Cells.{pageOf, pageCells}
 use Rattle.pages.specs.Pages.{Found}
-use Rattle.copy.specs.Taking.{Usable, Next, Took, Regular, took-owner}
+use Rattle.promises.specs.Regular.{Regular, SamePage}
+use Rattle.promises.specs.Whole.{Partial}
+use Rattle.promises.specs.TakeCell.{Took}
+use Rattle.copy.specs.Taking.{Usable, Next}
 
 -- page q has no room
 pub record Full (p : Sizes) (T : List ℕ) (q : ℕ) : Type 0 where
@@ -22,6 +26,7 @@ Points p T g page = Found p T g page ⊎ Full p T page
 
 -- the pass is at this page, and one more object of g finds a page
 pub record Seeking (p : Sizes) (g : ℕ) (T : List ℕ) (page : ℕ) : Type 0 where
+  pub room : Room p (length T)
   pub regular : Regular p T
   pub real : 1 ≤ g
   pub low : g ≤ regions p
@@ -32,11 +37,11 @@ pub found-next : {p : Sizes} {T : List ℕ} {g page : ℕ} → Regular p T → U
 found-next r u (inl h) = record { low = h .low; found = inl h; part = h .partial .part }
 found-next {p} {T} {g} {page} r u (inr h) = go (u .why)
   where
-    go : (ownerOf p T (u .at) ≡ 0) ⊎ ((ownerOf p T (u .at) ≡ g) × (usedOf p T (u .at) < pageCells)) → Next p g page T
+    go : (ownerOf p T (u .at) ≡ 0) ⊎ Partial p T g (u .at) → Next p g page T
     go (inl z) =
         let l : page < p .pages = h .some (u .at) (u .low) z in
-        record { low = l; found = inr h; part = omega (arith, r .free page l (h .free l)) }
-    go (inr z) = absurd (let y : ⊥ = omega (arith, z .1, h .none (u .at) (u .low) (z .0)) in y)
+        record { low = l; found = inr h; part = omega (arith, r .pages page l .free (h .free l)) }
+    go (inr z) = absurd (let y : ⊥ = omega (arith, z .part, h .none (u .at) (u .low) (z .owner)) in y)
 
 module _ {p : Sizes} {T : List ℕ} {g page : ℕ} (a : Seeking p g T page) where
   pub points-low : page < p .pages
@@ -47,25 +52,25 @@ module _ {p : Sizes} {T : List ℕ} {g page : ℕ} (a : Seeking p g T page) wher
   points-next l = ⊎-elim (found-next (a .regular) (a .usable)) (λ h. absurd (let z : ⊥ = omega (arith, h .full) in z)) (a .points)
 
 -- after a cell of the page is taken
-pub took-points : {p : Sizes} {g q : ℕ} {T T′ : List ℕ} {c : ℕ} → Regular p T → 1 ≤ g → g ≤ regions p → Took p g q T T′ c → Points p T′ g q
-took-points {p} {g} {q} {T} {T′} r real low t = at (decLt (usedOf p T′ q) pageCells)
+pub took-points : {p : Sizes} {T : List ℕ} {g c : ℕ} {T′ : List ℕ} → Took p T g c T′ → Points p T′ g (pageOf c)
+took-points {p} {T} {g} {c} {T′} t = at (decLt (usedOf p T′ (pageOf c)) pageCells)
   where
-    at : Dec (usedOf p T′ q < pageCells) → Points p T′ g q
-    at (yes m) = inl (inl (record { low = t .next .low; partial = record { owner = took-owner r real low t; part = m } }))
-    at (no m) = inr (record { low = t .next .low; full = omega arith })
+    at : Dec (usedOf p T′ (pageOf c) < pageCells) → Points p T′ g (pageOf c)
+    at (yes m) = inl (inl (record { low = t .page; partial = record { owner = t .owner; part = m } }))
+    at (no m) = inr (record { low = t .page; full = omega arith })
 
--- owners and cells in use that stay
-pub points-same : {p : Sizes} {g page : ℕ} {T T′ : List ℕ} → ((x : ℕ) → x < p .pages → ownerOf p T′ x ≡ ownerOf p T x)
-    → ((x : ℕ) → x < p .pages → usedOf p T′ x ≡ usedOf p T x) → Points p T g page → Points p T′ g page
-points-same {p} {g} {page} {T} {T′} eo eu = ⊎-elim (λ h. inl (found′ h)) (λ h. inr (record { low = h .low; full = omega (arith, eu page (h .low), h .full) }))
+-- pages that stay
+pub points-same : {p : Sizes} {g page : ℕ} {T T′ : List ℕ} → ((x : ℕ) → x < p .pages → SamePage p T T′ x) → Points p T g page → Points p T′ g page
+points-same {p} {g} {page} {T} {T′} e = ⊎-elim (λ h. inl (found′ h)) (λ h. inr (record { low = h .low; full = omega (arith, e page (h .low) .used, h .full) }))
   where
     found′ : Found p T g page → Found p T′ g page
     found′ (inl h) =
-        inl (record { low = h .low; partial = record { owner = eo page (h .low) ∙ h .partial .owner; part = omega (arith, eu page (h .low), h .partial .part) } })
+        let b = e page (h .low) in
+        inl (record { low = h .low; partial = record { owner = b .owner ∙ h .partial .owner; part = omega (arith, b .used, h .partial .part) } })
     found′ (inr h) =
         inr (record {
-          none = λ x l e. omega (arith, eu x l, h .none x l (sym (eo x l) ∙ e));
-          some = λ x l e. h .some x l (sym (eo x l) ∙ e);
-          free = λ l. eo page l ∙ h .free l;
+          none = λ x l z. omega (arith, e x l .used, h .none x l (sym (e x l .owner) ∙ z));
+          some = λ x l z. h .some x l (sym (e x l .owner) ∙ z);
+          free = λ l. e page l .owner ∙ h .free l;
           within = h .within;
         })

@@ -1,27 +1,31 @@
 -- One survivor is moved: a cell is taken, its words are copied, its mark goes to the upper half.
 use mathlib.Core.Path.{_≡_, refl, sym, ap, ap₂, _∙_, subst}
 use mathlib.Core.Logic.{_≢_, _⊎_, inl, inr, ⊎-elim}
-use mathlib.Core.List.{List}
-use Prim.Native.Nat.{ℕ, _+_, _^_, _≤_, _<_}
+use mathlib.Core.List.{List, [], _∷_}
+use Prim.Native.Nat.{ℕ, _+_, _≤_, _<_}
 use native.Mathlib.Decide.{ℕ-discrete}
 use native.Mathlib.Omega.{arith}
 use lib.ListN.{length, getD, set, length-set}
 use lib.Seq.{getD-set-same, getD-set-other}
 use Rattle.lists.specs.Bits.{bitAt}
-use Rattle.lists.specs.Counting.{sum-same, sum-high}
+use Rattle.lists.specs.Counting.{sum-same}
 use Rattle.rules.specs.Graph.{pagesOf}
 use Rattle.rules.specs.declared.Sizes.{Sizes}
 use Rattle.rules.specs.Regions.{regions}
-use Rattle.layout.specs.Places.{Room, ownerAt, usedAt, markAt, countAt, ownerOf, usedOf, markOf, countOf, countsFrom, marksFrom, ownersFrom, cellsWords, tablesWords, count-room}
-use Rattle.layout.specs.Cells.{wordAt, workAt, workOf, refTo, pageOf, placeOf, cellOf, wordOf, pageCells, cellWords, place-low, same-cell, word-cell, word-there, word-low, work-cell, work-there, work-low}
+use Rattle.layout.specs.Places.{Room, markAt, ownerOf, usedOf, markOf, ownersFrom, cellsWords, tablesWords, count-room}
+use Rattle.layout.specs.Cells.{cellOn, page-on, wordAt, workAt, workOf, refTo, pageOf, placeOf, cellOf, wordOf, pageCells, cellWords, place-low, same-cell, word-cell, word-there, word-low, work-cell, work-there, work-low}
 use Rattle.layout.specs.Marks.{marked}
-use Rattle.layout.specs.Objects.{InUse, Begins, begins-used, used-begins, begins-page, cellCount}
-use Rattle.promises.specs.Whole.{objectsOn, objectsOf}
-use Rattle.pages.specs.Pages.{Partly}
-use Rattle.pages.specs.Owned.{ownedOne, ownedIn}
-use Rattle.copy.specs.Marks.{marksAt, copied, raised, raised-off, raised-on, raised-other, sameThen, then-yes, then-no}
+use Rattle.layout.specs.Objects.{InUse, Begins, begins-used, used-begins, begins-page}
+use Rattle.layout.specs.Words.{tablesOnly}
+use Rattle.promises.specs.Whole.{objectsOf}
+use Rattle.promises.specs.Regular.{Regular, SamePage, objects-same}
+use Rattle.promises.specs.OwnedPages.{ownedOne, ownedIn, owned-same}
+use Rattle.promises.specs.Areas.{ownerWords, usedWords, markWords, Only, store-only, mark-in}
+use Rattle.promises.specs.Frames.{regular-frame}
+use Rattle.promises.specs.TakeCell.{Took, took-only, took-used, took-unused, still-used, used-split, owner-used, took-objects, took-objects-other, took-regular}
+use Rattle.copy.specs.Marks.{marksAt, copied, raised, raised-off, raised-on, raised-other}
 use Rattle.copy.specs.Cursor.{Points, took-points, points-same}
-use Rattle.copy.specs.Taking.{owned-same, Next, Took, Regular, took-length, took-other, took-marks, took-regular, took-objects, took-objects-other, took-pages, took-new, took-in-use, took-home, took-keeps, took-only}
+use Rattle.copy.specs.Taking.{Next, took-needs, room-same}
 
 -- ---- the words of a cell
 
@@ -89,6 +93,7 @@ half-copied {c} {d} {W} {W′} ne ld lc h v e =
 
 -- survivor c can go to page q of region g
 pub record Movable (p : Sizes) (g q : ℕ) (W T : List ℕ) (c : ℕ) : Type 0 where
+  pub room : Room p (length T)
   pub regular : Regular p T
   pub real : 1 ≤ g
   pub low : g ≤ regions p
@@ -103,19 +108,10 @@ pub record Step (p : Sizes) (g q c : ℕ) (W T W′ T′ : List ℕ) : Type 0 wh
   pub can : Movable p g q W T c
   pub new : ℕ
   pub mid : List ℕ
-  pub took : Took p g q T mid new
+  pub cell : new ≡ cellOn q (usedOf p T q)
+  pub took : Took p T g new mid
   pub copied : Copied c new W W′
   pub tables : T′ ≡ set mid (marksAt p c) (raised (getD mid (marksAt p c) 0) (placeOf c))
-
-pub objects-few : {p : Sizes} {T : List ℕ} → Regular p T → (g : ℕ) → objectsOf p T g ≤ cellCount p
-objects-few {p} {T} r g = sum-high (objectsOn p T g) pageCells (p .pages) (λ x l. few x l (ℕ-discrete (ownerOf p T x) g))
-  where
-    few : (x : ℕ) → x < p .pages → Dec (ownerOf p T x ≡ g) → objectsOn p T g x ≤ pageCells
-    few x l (yes e) = omega (arith, then-yes (ownerOf p T x) g (usedOf p T x) e, r .full x l)
-    few x l (no n) = omega (arith, then-no (ownerOf p T x) g (usedOf p T x) n)
-
-pub count-fits : {p : Sizes} {T : List ℕ} → Regular p T → (g : ℕ) → 1 ≤ g → g ≤ regions p → countOf p T g + 1 < 2 ^ 32
-count-fits {p} {T} r g real low = omega (arith, r .room .few, r .count g real low, objects-few r g)
 
 -- what the move needs of the cell that was taken
 pub record Taken (p : Sizes) (W T T′ : List ℕ) (c d at i : ℕ) : Type 0 where
@@ -129,61 +125,25 @@ pub record Taken (p : Sizes) (W T T′ : List ℕ) (c d at i : ℕ) : Type 0 whe
   pub on : bitAt (getD T′ at 0) i ≡ 1
   pub fresh : bitAt (getD T′ at 0) (pageCells + i) ≡ 0
 
-pub movable-taken : {p : Sizes} {g q : ℕ} {W T T′ : List ℕ} {c d : ℕ} → Movable p g q W T c → Took p g q T T′ d → Taken p W T T′ c d (marksAt p c) (placeOf c)
+-- the marks stay
+took-marks : {p : Sizes} {T : List ℕ} {g d : ℕ} {T′ : List ℕ} → 1 ≤ g → g ≤ regions p → Took p T g d T′ → (x : ℕ) → x < p .pages → markOf p T′ x ≡ markOf p T x
+took-marks {p} {T} {g} {d} {T′} real low t = took-only p (tablesOnly T) g d T′ t real low .same markWords refl
+
+pub movable-taken : {p : Sizes} {g q : ℕ} {W T T′ : List ℕ} {c d : ℕ} → Movable p g q W T c → Took p T g d T′ → Taken p W T T′ c d (marksAt p c) (placeOf c)
 movable-taken {p} {g} {q} {W} {T} {T′} {c} {d} m t =
-    let r = m .regular in
-    let l = took-length r (m .real) (m .low) t in
     let page = begins-page p W T c (m .used) in
+    let e = took-marks (m .real) (m .low) t (pageOf c) page in
     record {
-      apart = λ e. took-new r (m .real) (m .low) t (subst (InUse p T) e (begins-used p W T c (m .used)));
-      few = r .room .few;
-      cell = took-in-use r (m .real) (m .low) t .page;
+      apart = λ z. took-unused t (subst (InUse p T) z (begins-used p W T c (m .used)));
+      few = m .room .few;
+      cell = t .page;
       old = page;
       long = m .cells-long;
-      word = omega (arith, r .room, page, l);
-      same = l;
-      on = ap (λ (x : ℕ). bitAt x (placeOf c)) (took-marks r (m .real) (m .low) t (pageOf c) page) ∙ m .on;
-      fresh = ap (λ (x : ℕ). bitAt x (pageCells + placeOf c)) (took-marks r (m .real) (m .low) t (pageOf c) page) ∙ m .fresh;
+      word = omega (arith, m .room, page, t .long);
+      same = t .long;
+      on = ap (λ (x : ℕ). bitAt x (placeOf c)) e ∙ m .on;
+      fresh = ap (λ (x : ℕ). bitAt x (pageCells + placeOf c)) e ∙ m .fresh;
     }
-
--- ---- words of pages and regions that stay
-
-pub record PagesKept (p : Sizes) (T T′ : List ℕ) : Type 0 where
-  pub size : length T′ ≡ length T
-  pub pages : (x : ℕ) → x < marksFrom p → getD T′ x 0 ≡ getD T x 0
-  pub counts : (x : ℕ) → countsFrom p ≤ x → getD T′ x 0 ≡ getD T x 0
-
-module _ {p : Sizes} {T T′ : List ℕ} (r : Regular p T) (e : PagesKept p T T′) where
-  pub kept-objects : (g : ℕ) → objectsOf p T′ g ≡ objectsOf p T g
-  kept-objects g =
-      sum-same (objectsOn p T′ g) (objectsOn p T g) (p .pages)
-      (λ x l. ap₂ (λ (a b : ℕ). sameThen a g b) (e .pages (ownerAt p x) (omega arith)) (e .pages (usedAt p x) (omega arith)))
-
-  pub kept-owned : (g : ℕ) → ownedIn p T′ g (p .pages) ≡ ownedIn p T g (p .pages)
-  kept-owned g = sum-same (ownedOne p T′ g) (ownedOne p T g) (p .pages) (λ x l. owned-same p T T′ g x (e .pages (ownerAt p x) (omega arith)))
-
-  was : (g a : ℕ) → Partly p T′ g a → Partly p T g a
-  was g a w =
-      let l : a < p .pages = w .low in
-      record {
-        low = l;
-        partial =
-            record {
-              owner = sym (e .pages (ownerAt p a) (omega arith)) ∙ w .partial .owner;
-              part = omega (arith, w .partial .part, e .pages (usedAt p a) (omega arith));
-            };
-      }
-
-  pub kept-regular : Regular p T′
-  kept-regular =
-      record {
-        room = subst (λ (n : ℕ). Room p n) (sym (e .size)) (r .room);
-        free = λ q l z. e .pages (usedAt p q) (omega arith) ∙ r .free q l (sym (e .pages (ownerAt p q) (omega arith)) ∙ z);
-        taken = λ q l n. omega (arith, e .pages (usedAt p q) (omega arith), r .taken q l (λ z. n (e .pages (ownerAt p q) (omega arith) ∙ z)));
-        full = λ q l. omega (arith, e .pages (usedAt p q) (omega arith), r .full q l);
-        one = λ g a b pos u v. r .one g a b pos (was g a u) (was g b v);
-        count = λ g pos le. e .counts (countAt p g) (omega arith) ∙ r .count g pos le ∙ sym (kept-objects g);
-      }
 
 -- ---- what one move does
 
@@ -194,69 +154,59 @@ module _ {p : Sizes} {g q c : ℕ} {W T W′ T′ : List ℕ} (s : Step p g q c 
   mid-long : marksAt p c < length (s .mid)
   mid-long = movable-taken (s .can) (s .took) .word
 
-  r₁ : Regular p (s .mid)
-  r₁ = took-regular (s .can .regular) (s .can .real) (s .can .low) (s .took)
+  mid-only : Only (markWords ∷ []) p (tablesOnly (s .mid)) (tablesOnly T′)
+  mid-only =
+      subst (λ (X : List ℕ). Only (markWords ∷ []) p (tablesOnly (s .mid)) (tablesOnly X)) (sym (s .tables))
+      (store-only p (tablesOnly (s .mid)) markWords (marksAt p c) _ (mark-in p (pageOf c) page-in) (omega (arith, page-in, s .can .room, count-room p)))
 
-  mid-size : length T′ ≡ length (s .mid)
-  mid-size = ap length (s .tables) ∙ length-set (s .mid) (marksAt p c) (raised (getD (s .mid) (marksAt p c) 0) (placeOf c))
+  mid-pages : (x : ℕ) → x < p .pages → SamePage p (s .mid) T′ x
+  mid-pages x l = record { owner = mid-only .same ownerWords refl x l; used = mid-only .same usedWords refl x l }
+
+  pub step-size : length T′ ≡ length T
+  step-size = mid-only .beyond .tables .long ∙ s .took .long
+
+  pub step-room : Room p (length T′)
+  step-room = room-same step-size (s .can .room)
+
+  pub step-regular : Regular p T′
+  step-regular = regular-frame mid-only refl refl refl (took-regular (s .can .regular) (s .took) (s .can .real))
+
+  pub step-objects : objectsOf p T′ g ≡ objectsOf p T g + 1
+  step-objects = objects-same mid-pages g ∙ took-objects (s .can .regular) (s .took) (s .can .real)
+
+  pub step-objects-other : (h : ℕ) → 1 ≤ h → h ≢ g → objectsOf p T′ h ≡ objectsOf p T h
+  step-objects-other h pos ne = objects-same mid-pages h ∙ took-objects-other (s .can .regular) (s .took) (s .can .real) h pos ne
+
+  pub step-pages : pagesOf (objectsOf p T′ g) + ownedIn p T′ 0 (p .pages) ≡ pagesOf (objectsOf p T g) + ownedIn p T 0 (p .pages)
+  step-pages =
+      ap₂ (λ (a b : ℕ). pagesOf a + b) (objects-same mid-pages g) (sum-same (ownedOne p T′ 0) (ownedOne p (s .mid) 0) (p .pages) (λ x l. owned-same (mid-pages x l) 0))
+      ∙ took-needs (s .can .regular) (s .can .real) (s .took)
 
   mid-other : (x : ℕ) → x ≢ marksAt p c → getD T′ x 0 ≡ getD (s .mid) x 0
   mid-other x ne =
       ap (λ (X : List ℕ). getD X x 0) (s .tables)
       ∙ getD-set-other (s .mid) (marksAt p c) x (raised (getD (s .mid) (marksAt p c) 0) (placeOf c)) 0 ne
 
-  mid-pages : (x : ℕ) → x < marksFrom p → getD T′ x 0 ≡ getD (s .mid) x 0
-  mid-pages x l = mid-other x (λ e. omega arith)
-
-  mid-counts : (x : ℕ) → countsFrom p ≤ x → getD T′ x 0 ≡ getD (s .mid) x 0
-  mid-counts x l = mid-other x (λ e. omega (arith, page-in))
-
-  mid-kept : PagesKept p (s .mid) T′
-  mid-kept = record { size = mid-size; pages = mid-pages; counts = mid-counts }
-
-  pub step-regular : Regular p T′
-  step-regular = kept-regular r₁ mid-kept
-
-  pub step-size : length T′ ≡ length T
-  step-size = mid-size ∙ took-length (s .can .regular) (s .can .real) (s .can .low) (s .took)
-
-  pub step-objects : objectsOf p T′ g ≡ objectsOf p T g + 1
-  step-objects = kept-objects r₁ mid-kept g ∙ took-objects (s .can .regular) (s .can .real) (s .can .low) (s .took)
-
-  pub step-objects-other : (h : ℕ) → 1 ≤ h → h ≢ g → objectsOf p T′ h ≡ objectsOf p T h
-  step-objects-other h pos ne =
-      kept-objects r₁ mid-kept h ∙ took-objects-other (s .can .regular) (s .can .real) (s .can .low) (s .took) h pos ne
-
-  pub step-pages : pagesOf (objectsOf p T′ g) + ownedIn p T′ 0 (p .pages) ≡ pagesOf (objectsOf p T g) + ownedIn p T 0 (p .pages)
-  step-pages =
-      omega (
-        arith,
-        kept-objects r₁ mid-kept g,
-        kept-owned r₁ mid-kept 0,
-        took-pages (s .can .regular) (s .can .real) (s .can .low) (s .took),
-      )
-
   -- words of the tables that are neither a page's nor a count
   pub step-rest : (x : ℕ) → (x < ownersFrom p) ⊎ (tablesWords p ≤ x) → getD T′ x 0 ≡ getD T x 0
   step-rest x (inl l) =
-      mid-pages x (omega arith)
-      ∙ took-other (s .can .regular) (s .can .real) (s .can .low) (s .took) x (λ e. omega arith) (λ e. omega arith) (λ e. omega arith)
+      mid-other x (λ e. omega (arith, s .can .room)) ∙ s .took .others x (λ e. omega arith) (λ e. omega (arith, s .can .room)) (λ e. omega (arith, s .can .room))
   step-rest x (inr l) =
-      mid-counts x (omega (arith, count-room p))
-      ∙ took-other (s .can .regular) (s .can .real) (s .can .low) (s .took) x (λ e. omega (arith, s .took .next .low, count-room p)) (λ e. omega (arith, s .took .next .low, count-room p))
-      (λ e. omega (arith, s .can .real, s .can .low, count-room p))
+      let page = s .took .page in
+      mid-other x (λ e. omega (arith, page-in, s .can .room, count-room p))
+      ∙ s .took .others x (λ e. omega (arith, page, s .can .room, count-room p)) (λ e. omega (arith, page, s .can .room, count-room p)) (λ e. omega (arith, s .can .real, s .can .low, count-room p))
 
   -- marks
   mark-here : getD T′ (marksAt p c) 0 ≡ raised (getD T (marksAt p c) 0) (placeOf c)
   mark-here =
       ap (λ (X : List ℕ). getD X (marksAt p c) 0) (s .tables)
       ∙ getD-set-same (s .mid) (marksAt p c) (raised (getD (s .mid) (marksAt p c) 0) (placeOf c)) 0 mid-long
-      ∙ ap (λ (x : ℕ). raised x (placeOf c)) (took-marks (s .can .regular) (s .can .real) (s .can .low) (s .took) (pageOf c) page-in)
+      ∙ ap (λ (x : ℕ). raised x (placeOf c)) (took-marks (s .can .real) (s .can .low) (s .took) (pageOf c) page-in)
 
   -- other pages keep their mark word
   pub step-marks : (q : ℕ) → q < p .pages → q ≢ pageOf c → markOf p T′ q ≡ markOf p T q
   step-marks q l n =
-      mid-other (markAt p q) (λ e. n (omega arith)) ∙ took-marks (s .can .regular) (s .can .real) (s .can .low) (s .took) q l
+      mid-other (markAt p q) (λ e. n (omega arith)) ∙ took-marks (s .can .real) (s .can .low) (s .took) q l
 
   step-bit : (q j : ℕ) → q < p .pages → (q ≡ pageOf c → (j ≢ placeOf c) × (j ≢ pageCells + placeOf c)) → bitAt (markOf p T′ q) j ≡ bitAt (markOf p T q) j
   step-bit q j l h = go (ℕ-discrete q (pageOf c))
@@ -291,32 +241,28 @@ module _ {p : Sizes} {g q c : ℕ} {W T W′ T′ : List ℕ} (s : Step p g q c 
 
   -- cells in use, each of which is an object
   use-mid : (x : ℕ) → InUse p T′ x → InUse p (s .mid) x
-  use-mid x u = record { page = u .page; place = omega (arith, u .place, mid-pages (usedAt p (pageOf x)) (omega (arith, u .page))) }
+  use-mid x u = record { page = u .page; place = omega (arith, u .place, mid-pages (pageOf x) (u .page) .used) }
 
   mid-use : (x : ℕ) → InUse p (s .mid) x → InUse p T′ x
-  mid-use x u = record { page = u .page; place = omega (arith, u .place, mid-pages (usedAt p (pageOf x)) (omega (arith, u .page))) }
+  mid-use x u = record { page = u .page; place = omega (arith, u .place, mid-pages (pageOf x) (u .page) .used) }
 
   pub step-new : InUse p T (s .new) → ⊥
-  step-new = took-new (s .can .regular) (s .can .real) (s .can .low) (s .took)
+  step-new = took-unused (s .took)
 
   pub step-in-use : Begins p W′ T′ (s .new)
-  step-in-use = used-begins p W′ T′ (s .new) (mid-use (s .new) (took-in-use (s .can .regular) (s .can .real) (s .can .low) (s .took)))
+  step-in-use = used-begins p W′ T′ (s .new) (mid-use (s .new) (took-used (s .took)))
 
   pub step-home : ownerOf p T′ (pageOf (s .new)) ≡ g
-  step-home =
-      mid-pages (ownerAt p (pageOf (s .new))) (omega (arith, took-in-use (s .can .regular) (s .can .real) (s .can .low) (s .took) .page))
-      ∙ took-home (s .can .regular) (s .can .real) (s .can .low) (s .took)
+  step-home = mid-pages (pageOf (s .new)) (s .took .page) .owner ∙ s .took .owner
 
   pub step-keeps : (x : ℕ) → Begins p W T x → Begins p W′ T′ x
-  step-keeps x u = used-begins p W′ T′ x (mid-use x (took-keeps (s .can .regular) (s .can .real) (s .can .low) (s .took) x (begins-used p W T x u) .0))
+  step-keeps x u = used-begins p W′ T′ x (mid-use x (still-used (s .took) x (begins-used p W T x u)))
 
   pub step-owner : (x : ℕ) → Begins p W T x → ownerOf p T′ (pageOf x) ≡ ownerOf p T (pageOf x)
-  step-owner x u =
-      mid-pages (ownerAt p (pageOf x)) (omega (arith, begins-page p W T x u)) ∙ took-keeps (s .can .regular) (s .can .real) (s .can .low) (s .took) x (begins-used p W T x u) .1
+  step-owner x u = mid-pages (pageOf x) (begins-page p W T x u) .owner ∙ owner-used (s .can .regular) (s .took) x (begins-used p W T x u)
 
   pub step-only : (x : ℕ) → Begins p W′ T′ x → Begins p W T x ⊎ (x ≡ s .new)
-  step-only x u =
-      ⊎-elim (λ v. inl (used-begins p W T x v)) inr (took-only (s .can .regular) (s .can .real) (s .can .low) (s .took) x (use-mid x (begins-used p W′ T′ x u)))
+  step-only x u = ⊎-elim inr (λ v. inl (used-begins p W T x v)) (used-split (s .took) x (use-mid x (begins-used p W′ T′ x u)))
 
   -- the link of an object other than c stays
   pub step-link : (x : ℕ) → Begins p W T x → x ≢ c → workOf W′ x ≡ workOf W x
@@ -332,6 +278,4 @@ module _ {p : Sizes} {g q c : ℕ} {W T W′ T′ : List ℕ} (s : Step p g q c 
 
   -- the pass stays at the page
   pub step-points : Points p T′ g q
-  step-points =
-      points-same (λ x l. mid-pages (ownerAt p x) (omega (arith, r₁ .room))) (λ x l. mid-pages (usedAt p x) (omega (arith, r₁ .room)))
-      (took-points (s .can .regular) (s .can .real) (s .can .low) (s .took))
+  step-points = points-same mid-pages (subst (Points p (s .mid) g) (ap pageOf (s .cell) ∙ page-on q (usedOf p T q) (s .can .next .part)) (took-points (s .took)))

@@ -10,18 +10,20 @@ use Rattle.lists.specs.Counting.{sum-change, sum-part}
 use Rattle.rules.specs.Graph.{pagesOf}
 use Rattle.rules.specs.declared.Sizes.{Sizes}
 use Rattle.rules.specs.Regions.{regions}
-use Rattle.layout.specs.Places.{markOf, cellsWords}
+use Rattle.layout.specs.Places.{Room, markOf, cellsWords}
 use Rattle.layout.specs.Cells.{workOf, pageOf, mostCells, page-count, count-page}
 use Rattle.layout.specs.Marks.{marked}
 use Rattle.layout.specs.Objects.{Begins, begins-page, cellCount}
 use Rattle.promises.specs.Whole.{objectsOf}
-use Rattle.pages.specs.Owned.{ownedIn}
+use Rattle.promises.specs.Regular.{Regular}
+use Rattle.promises.specs.OwnedPages.{ownedIn}
 use Rattle.copy.specs.Marks.{copied, mark?, hit, hit-yes, hit-no, hit-same, hits}
-use Rattle.copy.specs.Taking.{Usable, Next, Regular, usable}
-use Rattle.copy.specs.Moves.{Movable, Step, step-regular, step-size, step-objects, step-objects-other, step-pages, step-marks, step-off, step-on, step-copied-other, step-bits, step-keeps, step-link}
+use Rattle.copy.specs.Taking.{Usable, Next, usable}
+use Rattle.copy.specs.Moves.{Movable, Step, step-room, step-regular, step-size, step-objects, step-objects-other, step-pages, step-marks, step-off, step-on, step-copied-other, step-bits, step-keeps, step-link}
 
 -- what holds before and after each move
 pub record Ready (p : Sizes) (W T : List ℕ) : Type 0 where
+  pub room : Room p (length T)
   pub regular : Regular p T
   pub cells-long : cellsWords p ≤ length W
   pub used : (c : ℕ) → pageOf c < p .pages → marked p T c ≡ 1 → Begins p W T c
@@ -41,6 +43,7 @@ module _ {p : Sizes} {g q c : ℕ} {W T W′ T′ : List ℕ} (a : Ready p W T) 
   pub step-ready : Ready p W′ T′
   step-ready =
       record {
+        room = step-room s;
         regular = step-regular s;
         cells-long = omega (arith, a .cells-long, s .copied .size);
         used = λ x l on. step-keeps s x (a .used x l (step-back x l on .0));
@@ -195,6 +198,7 @@ pub passing-movable : {p : Sizes} {g q : ℕ} {W T : List ℕ} → Passing p g W
     → Movable p g q W T c
 passing-movable a c l on e n =
     record {
+      room = a .ready .room;
       regular = a .ready .regular;
       real = a .real;
       low = a .low;

@@ -23,7 +23,7 @@ abbrev μ-loop : tie.MeasureT-loop
     survivors - k
 
 mark-requires : tie.Need-mark-requires Inv-loop μ-loop
-mark-requires c κs = (c .before .before .before .before .pre .0 .ready .regular .room, c .before .before .before .before .pre .1 .1 .0)
+mark-requires c κs = (c .before .before .before .before .pre .0 .ready .room, c .before .before .before .before .pre .1 .1 .0)
 
 lower-half-requires : tie.Need-lower-half-requires Inv-loop μ-loop
 lower-half-requires c κs = search needs
@@ -46,7 +46,7 @@ wide-requires c κs = search needs
 cell-on-requires : tie.Need-cell-on-requires Inv-loop μ-loop
 cell-on-requires c κs =
     let f = walk-lowest (c .before .before .loop .inv .3) (omega (arith, c .before .before .loop .inv .0, c .before .loop-test .taken)) in
-    (omega (arith, c .before .before .before .before .before .before .before .before .before .pre .0 .ready .regular .room .few, c .before .before .before .before .before .before .before .before .before .pre .1 .1 .0), omega (arith, f, c .wide .ensures))
+    (omega (arith, c .before .before .before .before .before .before .before .before .before .pre .0 .ready .room .few, c .before .before .before .before .before .before .before .before .before .pre .1 .1 .0), omega (arith, f, c .wide .ensures))
 
 work-requires : tie.Need-work-requires Inv-loop μ-loop
 work-requires c κs =
@@ -54,7 +54,7 @@ work-requires c κs =
     let f = walk-lowest (l .inv .3) (omega (arith, l .inv .0, c .before .before .before .loop-test .taken)) in
     let e = c .before .cell-on .ensures ∙ ap (cellOn (c .before .before .before .before .before .before .before .before .before .before .before .args .page)) (c .before .before .wide .ensures) in
     let r = c .before .before .before .before .before .before .before .before .before .before .before .pre .0 .ready in
-    (omega (arith, f, e, r .regular .room .few, c .before .before .before .before .before .before .before .before .before .before .before .pre .1 .1 .0), omega (arith, f, e, r .cells-long, c .before .before .before .before .before .before .before .before .before .before .before .pre .1 .1 .0, l .inv .1))
+    (omega (arith, f, e, r .room .few, c .before .before .before .before .before .before .before .before .before .before .before .pre .1 .1 .0), omega (arith, f, e, r .cells-long, c .before .before .before .before .before .before .before .before .before .before .before .pre .1 .1 .0, l .inv .1))
 
 next-page-requires : tie.Need-next-page-requires Inv-loop μ-loop
 next-page-requires c κs =

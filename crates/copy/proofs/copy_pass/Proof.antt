@@ -8,7 +8,7 @@ use mathlib.Core.Logic.{inl}
 use mathlib.Core.Path.{_≡_, refl, _∙_}
 use Rattle.lists.specs.Part.{Through, cut-here, through-start, through-turn, through-end}
 use Rattle.rules.specs.declared.Sizes.{Sizes}
-use Rattle.copy.specs.Taking.{regular-filled}
+use Rattle.pages.specs.Pages.{regular-filled}
 use Rattle.copy.specs.Passing.{moves-passing}
 use Rattle.copy.specs.Copying.{PassMoves, pass-begin, pass-next, pass-skip}
 use Rattle.copy.proofs.copy_pass.Statement.{statement}
@@ -29,7 +29,7 @@ abbrev μ-loop : tie.MeasureT-loop
 page-for-requires : tie.Need-page-for-requires Inv-loop μ-loop
 page-for-requires c κs =
     let a = c .before .before .before .before .before .before .pre .0 in
-    (a .ready .regular .room, (c .before .before .before .before .before .before .pre .1 .1 .1, (a .real, a .low, regular-filled (a .ready .regular) (c .before .before .before .before .before .before .args .region) (a .real) (a .low))))
+    (a .ready .room, (c .before .before .before .before .before .before .pre .1 .1 .1, (a .real, a .low, regular-filled (a .ready .regular) (c .before .before .before .before .before .before .args .region) (a .real) (a .low))))
 
 loop-holds : tie.Need-loop-holds Inv-loop μ-loop
 loop-holds c =

@@ -28,7 +28,7 @@ loop-holds c = (omega arith, refl, refl, copy-begin (c .before .before .before .
 region-at-requires : tie.Need-region-at-requires Inv-loop μ-loop
 region-at-requires c κs =
     let pre = c .before .before .before .before .before .before .before .pre in
-    let rm = pre .0 .ready .regular .room in
+    let rm = pre .0 .ready .room in
     (rm .threads-high, rm .depth-high, pre .1 .0 .0, omega (arith, pre .1 .0 .1))
 
 wide-requires : tie.Need-wide-requires Inv-loop μ-loop
@@ -38,13 +38,13 @@ mul-if1 : tie.Need-mul-if1 Inv-loop μ-loop
 mul-if1 c =
     let a = c .before .before .before .before .before .before .before .before .before .args in
     let b = region-bounds (a .p) (a .thread) (c .before .before .before .loop .level) (c .before .before .before .before .before .before .before .before .before .pre .1 .0 .0) (omega (arith, c .before .before .before .before .before .before .before .before .before .pre .1 .0 .1, c .before .before .loop-test .taken)) in
-    omega (arith, note-low (regionAt (a .p) (a .thread) (c .before .before .before .loop .level)) (c .before .before .before .before .before .before .before .before .before .pre .0 .ready .regular .room) (b .1), c .wide .ensures, c .before .region-at .ensures)
+    omega (arith, note-low (regionAt (a .p) (a .thread) (c .before .before .before .loop .level)) (c .before .before .before .before .before .before .before .before .before .pre .0 .ready .room) (b .1), c .wide .ensures, c .before .region-at .ensures)
 
 shared-slice-read-if1 : tie.Need-shared-slice-read-if1 Inv-loop μ-loop
 shared-slice-read-if1 c =
     let a = c .before .before .before .before .before .before .before .before .before .before .args in
     let b = region-bounds (a .p) (a .thread) (c .before .before .before .before .loop .level) (c .before .before .before .before .before .before .before .before .before .before .pre .1 .0 .0) (omega (arith, c .before .before .before .before .before .before .before .before .before .before .pre .1 .0 .1, c .before .before .before .loop-test .taken)) in
-    omega (arith, note-low (regionAt (a .p) (a .thread) (c .before .before .before .before .loop .level)) (c .before .before .before .before .before .before .before .before .before .before .pre .0 .ready .regular .room) (b .1), c .before .wide .ensures, c .before .before .region-at .ensures, c .before .before .before .before .before .before .before .before .before .before .pre .1 .1 .1 .1 .1)
+    omega (arith, note-low (regionAt (a .p) (a .thread) (c .before .before .before .before .loop .level)) (c .before .before .before .before .before .before .before .before .before .before .pre .0 .ready .room) (b .1), c .before .wide .ensures, c .before .before .region-at .ensures, c .before .before .before .before .before .before .before .before .before .before .pre .1 .1 .1 .1 .1)
 
 copy-pass-requires : tie.Need-copy-pass-requires Inv-loop μ-loop
 copy-pass-requires c κs =
@@ -59,7 +59,7 @@ copy-pass-requires c κs =
 add-level : tie.Need-add-level Inv-loop μ-loop
 add-level c =
     let pre = c .before .before .before .before .before .before .before .before .before .before .before .pre in
-    omega (arith, pre .0 .ready .regular .room .depth-high, pre .1 .0 .1)
+    omega (arith, pre .0 .ready .room .depth-high, pre .1 .0 .1)
 
 loop-less : tie.Need-loop-less Inv-loop μ-loop
 loop-less c = omega (arith, c .before .before .before .before .loop-test .taken)

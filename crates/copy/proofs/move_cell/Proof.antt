@@ -10,25 +10,28 @@ use Rattle.rules.specs.declared.Sizes.{Sizes}
 use Rattle.layout.specs.Places.{markAt, markOf, usedOf}
 use Rattle.layout.specs.Cells.{cellOn, placeOf, pageCells, cell-in}
 use Rattle.layout.specs.Objects.{begins-page}
+use Rattle.promises.specs.OwnedPages.{count-fits}
+use Rattle.promises.specs.TakeCell.{Took}
 use Rattle.pages.specs.Pages.{taken}
+use Rattle.pages.specs.Took.{taken-took}
 use Rattle.copy.specs.Marks.{marksAt, raised, clear-fresh}
-use Rattle.copy.specs.Moves.{Movable, Taken, movable-taken, count-fits}
+use Rattle.copy.specs.Moves.{Movable, movable-taken}
 use Rattle.copy.proofs.move_cell.Statement.{statement}
 use Rattle.copy.proofs.move_cell.Tie as tie
 
 -- the cell as take_cell gave it
-took : {p : Sizes} {g q : ℕ} {W T T′ : List ℕ} {c d : ℕ} → Movable p g q W T c → d ≡ cellOn q (usedOf p T q) → T′ ≡ taken p T q g → Taken p W T T′ c d (marksAt p c) (placeOf c)
-took m e f = movable-taken m (record { next = m .next; cell = e; tables = f })
+took : {p : Sizes} {g q : ℕ} {W T T′ : List ℕ} {c d : ℕ} → Movable p g q W T c → d ≡ cellOn q (usedOf p T q) → T′ ≡ taken p T q g → Took p T g d T′
+took m e f = taken-took (m .regular) (m .next .low) (omega (arith, m .room, m .low)) (m .next .found) e f
 
 take-cell-requires : tie.Need-take-cell-requires
 take-cell-requires c κs =
     let m = c .before .before .before .pre in
-    (m .regular .room, ((m .next .low, m .next .part), (m .real, m .low, count-fits (m .regular) _ (m .real) (m .low))))
+    (m .room, ((m .next .low, m .next .part), (m .real, m .low, count-fits (m .regular) _ (m .real) (m .low) (m .room .few))))
 
 copy-cell-requires : tie.Need-copy-cell-requires
 copy-cell-requires c κs =
     let p = c .before .before .before .before .before .before .before .args .p in
-    let t = took (c .before .before .before .before .before .before .before .pre) (c .before .before .before .take-cell .ensures .0) (c .before .before .before .take-cell .ensures .1) in
+    let t = movable-taken (c .before .before .before .before .before .before .before .pre) (took (c .before .before .before .before .before .before .before .pre) (c .before .before .before .take-cell .ensures .0) (c .before .before .before .take-cell .ensures .1)) in
     (t .apart, (cell-in p (t .few) (t .long) (t .old), cell-in p (t .few) (t .long) (t .cell)))
 
 page-of-requires : tie.Need-page-of-requires
@@ -47,7 +50,7 @@ without-bit-requires : tie.Need-without-bit-requires
 without-bit-requires c κs =
     let a = c .before .before .before .before .before .before .before .before .before .before .before .before .before .before .args in
     let X : List ℕ = c .before .before .before .before .before .before .before .before .before .before .take-cell .last .1 .0 in
-    let t = took (c .before .before .before .before .before .before .before .before .before .before .before .before .before .before .pre) (c .before .before .before .before .before .before .before .before .before .before .take-cell .ensures .0) (c .before .before .before .before .before .before .before .before .before .before .take-cell .ensures .1) in
+    let t = movable-taken (c .before .before .before .before .before .before .before .before .before .before .before .before .before .before .pre) (took (c .before .before .before .before .before .before .before .before .before .before .before .before .before .before .pre) (c .before .before .before .before .before .before .before .before .before .before .take-cell .ensures .0) (c .before .before .before .before .before .before .before .before .before .before .take-cell .ensures .1)) in
     let e : c .mark .result ≡ getD X (marksAt (a .p) (a .cell)) 0 = c .mark .ensures ∙ ap (λ (q : ℕ). markOf (a .p) X q) (c .before .before .before .page-of .ensures) in
     (omega (arith, c .before .before .place-of .ensures), ap₂ (λ (x y : ℕ). bitAt x y) e (c .before .before .place-of .ensures) ∙ t .on)
 
@@ -58,7 +61,7 @@ with-bit-requires : tie.Need-with-bit-requires
 with-bit-requires c κs =
     let a = c .before .before .before .before .before .before .before .before .before .before .before .before .before .before .before .args in
     let X : List ℕ = c .before .before .before .before .before .before .before .before .before .before .before .take-cell .last .1 .0 in
-    let t = took (c .before .before .before .before .before .before .before .before .before .before .before .before .before .before .before .pre) (c .before .before .before .before .before .before .before .before .before .before .before .take-cell .ensures .0) (c .before .before .before .before .before .before .before .before .before .before .before .take-cell .ensures .1) in
+    let t = movable-taken (c .before .before .before .before .before .before .before .before .before .before .before .before .before .before .before .pre) (took (c .before .before .before .before .before .before .before .before .before .before .before .before .before .before .before .pre) (c .before .before .before .before .before .before .before .before .before .before .before .take-cell .ensures .0) (c .before .before .before .before .before .before .before .before .before .before .before .take-cell .ensures .1)) in
     let e : c .before .mark .result ≡ getD X (marksAt (a .p) (a .cell)) 0 = c .before .mark .ensures ∙ ap (λ (q : ℕ). markOf (a .p) X q) (c .before .before .before .before .page-of .ensures) in
     let f = c .without-bit .ensures ∙ ap₂ (λ (x y : ℕ). x - 2 ^ y) e (c .before .before .before .place-of .ensures) in
     (omega (arith, c .before .before .before .place-of .ensures), ap₂ (λ (x y : ℕ). bitAt x (pageCells + y)) f (c .before .before .before .place-of .ensures) ∙ clear-fresh (getD X (marksAt (a .p) (a .cell)) 0) (placeOf (a .cell)) (t .on) (t .fresh))
@@ -84,7 +87,8 @@ returns c =
       can = c .before .before .before .before .before .before .before .before .before .before .before .before .before .before .before .before .before .before .before .before .pre;
       new = c .before .before .before .before .before .before .before .before .before .before .before .before .before .before .before .before .take-cell .result;
       mid = X;
-      took = record { next = c .before .before .before .before .before .before .before .before .before .before .before .before .before .before .before .before .before .before .before .before .pre .next; cell = c .before .before .before .before .before .before .before .before .before .before .before .before .before .before .before .before .take-cell .ensures .0; tables = c .before .before .before .before .before .before .before .before .before .before .before .before .before .before .before .before .take-cell .ensures .1 };
+      cell = c .before .before .before .before .before .before .before .before .before .before .before .before .before .before .before .before .take-cell .ensures .0;
+      took = took (c .before .before .before .before .before .before .before .before .before .before .before .before .before .before .before .before .before .before .before .before .pre) (c .before .before .before .before .before .before .before .before .before .before .before .before .before .before .before .before .take-cell .ensures .0) (c .before .before .before .before .before .before .before .before .before .before .before .before .before .before .before .before .take-cell .ensures .1);
       copied = c .before .before .before .before .before .before .before .before .before .before .before .before .copy-cell .ensures;
       tables = c .before .before .set-mark .ensures ∙ ap₂ (λ (q x : ℕ). set X (markAt (a .p) q) x) (c .before .before .before .before .before .before .before .before .before .page-of .ensures) g;
     }

@@ -1,13 +1,13 @@
 -- The page that the pass is at has room and is next, or another is found.
 use native.Mathlib.Omega.{arith}
 use borrow.Author.Needs.{needs}
-use Rattle.copy.specs.Taking.{regular-filled}
+use Rattle.pages.specs.Pages.{regular-filled}
 use Rattle.copy.specs.Cursor.{found-next, points-low, points-next}
 use Rattle.copy.proofs.next_page.Statement.{statement}
 use Rattle.copy.proofs.next_page.Tie as tie
 
 used-requires : tie.Need-used-requires
-used-requires c κs = (c .before .before .pre .0 .regular .room, points-low (c .before .before .pre .0))
+used-requires c κs = (c .before .before .pre .0 .room, points-low (c .before .before .pre .0))
 
 cast-if1 : tie.Need-cast-if1
 cast-if1 c = search needs
@@ -18,7 +18,7 @@ returns c = points-next (c .before .before .before .before .pre .0) (omega (arit
 page-for-requires : tie.Need-page-for-requires
 page-for-requires c κs =
     let a = c .before .before .before .before .before .pre .0 in
-    (a .regular .room, (c .before .before .before .before .before .pre .1, (a .real, a .low, regular-filled (a .regular) (c .before .before .before .before .before .args .region) (a .real) (a .low))))
+    (a .room, (c .before .before .before .before .before .pre .1, (a .real, a .low, regular-filled (a .regular) (c .before .before .before .before .before .args .region) (a .real) (a .low))))
 
 same-length : tie.Need-same-length
 same-length c = search needs
