@@ -1,5 +1,5 @@
 -- r's pages become free, its count 0, the thread's depth one less.
-use mathlib.Core.Path.{_≡_, refl, sym, ap, ap₂, _∙_, subst}
+use mathlib.Core.Path.{_≡_, refl, sym, ap, _∙_, subst}
 use mathlib.Core.Logic.{_≢_, _⊎_, inl, inr}
 use mathlib.Core.List.{List}
 use Prim.Native.Nat.{ℕ, _+_, _-_, _≤_, _<_}
@@ -11,12 +11,10 @@ use Rattle.rules.specs.declared.Sizes.{Sizes}
 use Rattle.rules.specs.Regions.{regions}
 use Rattle.lists.specs.Counting.{sum-same, sum-none}
 use Rattle.layout.specs.Places.{Room, depthAt, ownerAt, usedAt, markAt, countAt, depthOf, ownerOf, usedOf, markOf, countOf, countsFrom, ownersFrom}
-use Rattle.layout.specs.Cells.{pageOf, pageCells}
+use Rattle.layout.specs.Cells.{pageOf}
 use Rattle.layout.specs.Words.{InUse}
-use Rattle.promises.specs.Whole.{objectsOn, objectsOf}
-use Rattle.pages.specs.Pages.{Partly}
-use Rattle.copy.specs.Marks.{sameThen, then-no}
-use Rattle.copy.specs.Taking.{Regular}
+use Rattle.promises.specs.Whole.{PageFilled, Partial, objectsOn, objectsOf}
+use Rattle.promises.specs.Regular.{Regular, objects-no, SamePage, filled-same, partial-same, on-same}
 
 -- the three words of page q
 pub record Blank (p : Sizes) (T : List ℕ) (q : ℕ) : Type 0 where
@@ -130,7 +128,7 @@ pub record Ended (p : Sizes) (r t : ℕ) (T T′ : List ℕ) : Type 0 where
   pub pages : Released p r (p .pages) T mid
   pub tables : T′ ≡ set (set mid (countAt p r) 0) (depthAt t) (depthOf T t - 1)
 
-module _ {p : Sizes} {r t : ℕ} {T T′ : List ℕ} (a : Regular p T) (real : 1 ≤ r) (low : r ≤ regions p) (thread : t < p .threads) (h : Ended p r t T T′) where
+module _ {p : Sizes} {r t : ℕ} {T T′ : List ℕ} (room : Room p (length T)) (real : 1 ≤ r) (low : r ≤ regions p) (thread : t < p .threads) (h : Ended p r t T T′) where
   M : List ℕ
   M = h .mid
 
@@ -147,13 +145,13 @@ module _ {p : Sizes} {r t : ℕ} {T T′ : List ℕ} (a : Regular p T) (real : 1
   ended-depth =
       ap (λ (L : List ℕ). getD L (depthAt t) 0) (h .tables)
       ∙ getD-set-same (set (h .mid) (countAt p r) 0) (depthAt t) (depthOf T t - 1) 0
-      (omega (arith, a .room, h .pages .size, length-set (h .mid) (countAt p r) 0))
+      (omega (arith, room, h .pages .size, length-set (h .mid) (countAt p r) 0))
 
   pub ended-count : countOf p T′ r ≡ 0
   ended-count =
       ap (λ (L : List ℕ). getD L (countAt p r) 0) (h .tables)
       ∙ getD-set-other (set (h .mid) (countAt p r) 0) (depthAt t) (countAt p r) (depthOf T t - 1) 0 (λ e. omega arith)
-      ∙ getD-set-same (h .mid) (countAt p r) 0 0 (omega (arith, a .room, h .pages .size))
+      ∙ getD-set-same (h .mid) (countAt p r) 0 0 (omega (arith, room, h .pages .size))
 
   -- words of the tables that are neither a page's, nor r's count, nor the depth
   pub ended-rest : (x : ℕ) → x ≢ depthAt t → x ≢ countAt p r → (x < ownersFrom p) ⊎ (countsFrom p ≤ x) → getD T′ x 0 ≡ getD T x 0
@@ -188,55 +186,45 @@ module _ {p : Sizes} {r t : ℕ} {T T′ : List ℕ} (a : Regular p T) (real : 1
       go (yes e) = absurd (let z : ⊥ = omega (arith, u .place, ended-blank (pageOf c) (u .page) e .used) in z)
       go (no n) = (record { page = u .page; place = omega (arith, u .place, ended-alike (pageOf c) (u .page) n .used) }, n)
 
+  ended-page : (q : ℕ) → q < p .pages → ownerOf p T q ≢ r → SamePage p T T′ q
+  ended-page q l n = let b = ended-alike q l n in record { owner = b .owner; used = b .used }
+
   pub ended-objects : (g : ℕ) → 1 ≤ g → g ≢ r → objectsOf p T′ g ≡ objectsOf p T g
   ended-objects g pos ne = sum-same (objectsOn p T′ g) (objectsOn p T g) (p .pages) (λ q l. go q l (ℕ-discrete (ownerOf p T q) r))
     where
       go : (q : ℕ) → q < p .pages → Dec (ownerOf p T q ≡ r) → objectsOn p T′ g q ≡ objectsOn p T g q
-      go q l (yes e) =
-          then-no (ownerOf p T′ q) g (usedOf p T′ q) (λ z. omega (arith, ended-blank q l e .owner))
-          ∙ sym (then-no (ownerOf p T q) g (usedOf p T q) (λ z. ne (sym z ∙ e)))
-      go q l (no n) = let b = ended-alike q l n in ap₂ (λ (x y : ℕ). sameThen x g y) (b .owner) (b .used)
+      go q l (yes e) = objects-no p T′ g q (λ z. omega (arith, ended-blank q l e .owner)) ∙ sym (objects-no p T g q (λ z. ne (sym z ∙ e)))
+      go q l (no n) = on-same (ended-page q l n) g
 
   pub ended-none : objectsOf p T′ r ≡ 0
   ended-none = sum-none (objectsOn p T′ r) (p .pages) (λ q l. go q l (ℕ-discrete (ownerOf p T q) r))
     where
       go : (q : ℕ) → q < p .pages → Dec (ownerOf p T q ≡ r) → objectsOn p T′ r q ≡ 0
-      go q l (yes e) = then-no (ownerOf p T′ q) r (usedOf p T′ q) (λ z. omega (arith, ended-blank q l e .owner))
-      go q l (no n) = then-no (ownerOf p T′ q) r (usedOf p T′ q) (λ z. n (sym (ended-alike q l n .owner) ∙ z))
+      go q l (yes e) = objects-no p T′ r q (λ z. omega (arith, ended-blank q l e .owner))
+      go q l (no n) = objects-no p T′ r q (λ z. n (sym (ended-alike q l n .owner) ∙ z))
 
-  pub ended-regular : Regular p T′
-  ended-regular =
+  pub ended-regular : Regular p T → Regular p T′
+  ended-regular a =
       record {
-        room = subst (λ (n : ℕ). Room p n) (sym ended-size) (a .room);
-        free = λ q l e. free′ q l e (ℕ-discrete (ownerOf p T q) r);
-        taken = λ q l n. taken′ q l n (ℕ-discrete (ownerOf p T q) r);
-        full = λ q l. full′ q l (ℕ-discrete (ownerOf p T q) r);
-        one = λ g x y pos u v. a .one g x y pos (part g x pos u (ℕ-discrete (ownerOf p T x) r)) (part g y pos v (ℕ-discrete (ownerOf p T y) r));
-        count = λ g pos le. count′ g pos le (ℕ-discrete g r);
+        pages = λ q l. filled q l (ℕ-discrete (ownerOf p T q) r);
+        partial = λ g pos x y l m u v. a .partial g pos x y l m (part g x pos (omega arith) u (ℕ-discrete (ownerOf p T x) r)) (part g y pos m v (ℕ-discrete (ownerOf p T y) r));
+        counts = λ g pos le. count g pos le (ℕ-discrete g r);
       }
     where
-      free′ : (q : ℕ) → q < p .pages → ownerOf p T′ q ≡ 0 → Dec (ownerOf p T q ≡ r) → usedOf p T′ q ≡ 0
-      free′ q l e (yes z) = ended-blank q l z .used
-      free′ q l e (no n) = let b = ended-alike q l n in b .used ∙ a .free q l (sym (b .owner) ∙ e)
+      filled : (q : ℕ) → q < p .pages → Dec (ownerOf p T q ≡ r) → PageFilled p T′ q
+      filled q l (yes e) =
+          let b = ended-blank q l e in
+          record { free = λ z. b .used; taken = λ z. absurd (let y : ⊥ = omega (arith, b .owner) in y); cells = omega (arith, b .used) }
+      filled q l (no n) = filled-same (ended-page q l n) (a .pages q l)
 
-      taken′ : (q : ℕ) → q < p .pages → ownerOf p T′ q ≢ 0 → Dec (ownerOf p T q ≡ r) → 1 ≤ usedOf p T′ q
-      taken′ q l n (yes z) = absurd (n (ended-blank q l z .owner))
-      taken′ q l n (no m) = let b = ended-alike q l m in omega (arith, b .used, a .taken q l (λ e. n (b .owner ∙ e)))
+      part : (g x : ℕ) → 1 ≤ g → x < p .pages → Partial p T′ g x → Dec (ownerOf p T x ≡ r) → Partial p T g x
+      part g x pos l u (yes e) = absurd (let y : ⊥ = omega (arith, ended-blank x l e .owner, u .owner) in y)
+      part g x pos l u (no n) = partial-same (ended-page x l n) u
 
-      full′ : (q : ℕ) → q < p .pages → Dec (ownerOf p T q ≡ r) → usedOf p T′ q ≤ pageCells
-      full′ q l (yes z) = omega (arith, ended-blank q l z .used)
-      full′ q l (no m) = omega (arith, ended-alike q l m .used, a .full q l)
-
-      part : (g x : ℕ) → 1 ≤ g → Partly p T′ g x → Dec (ownerOf p T x ≡ r) → Partly p T g x
-      part g x pos u (yes z) = absurd (let y : ⊥ = omega (arith, ended-blank x (u .low) z .owner, u .partial .owner) in y)
-      part g x pos u (no m) =
-          let b = ended-alike x (u .low) m in
-          record { low = u .low; partial = record { owner = sym (b .owner) ∙ u .partial .owner; part = omega (arith, u .partial .part, b .used) } }
-
-      count′ : (g : ℕ) → 1 ≤ g → g ≤ regions p → Dec (g ≡ r) → countOf p T′ g ≡ objectsOf p T′ g
-      count′ g pos le (yes e) = subst (λ (x : ℕ). countOf p T′ x ≡ objectsOf p T′ x) (sym e) (ended-count ∙ sym ended-none)
-      count′ g pos le (no n) =
-          ended-rest (countAt p g) (λ z. omega arith) (λ z. n (omega arith)) (inr (omega arith)) ∙ a .count g pos le
+      count : (g : ℕ) → 1 ≤ g → g ≤ regions p → Dec (g ≡ r) → countOf p T′ g ≡ objectsOf p T′ g
+      count g pos le (yes e) = subst (λ (x : ℕ). countOf p T′ x ≡ objectsOf p T′ x) (sym e) (ended-count ∙ sym ended-none)
+      count g pos le (no n) =
+          ended-rest (countAt p g) (λ z. omega arith) (λ z. n (omega arith)) (inr (omega arith)) ∙ a .counts g pos le
           ∙ sym (ended-objects g pos n)
 
 -- the depth of a thread, after pages were released and a count set

@@ -6,7 +6,7 @@ ghost use Rattle.lists.specs.Part.{Lists, Rises};
 ghost use Rattle.layout.specs.Places.{Room, ownerOf, depthOf};
 ghost use Rattle.pages.specs.Pages.{noteWords};
 ghost use Rattle.rules.specs.Regions.{regions};
-ghost use Rattle.copy.specs.Taking.{Regular};
+ghost use Rattle.promises.specs.Regular.{Regular};
 ghost use Rattle.release.specs.Notes.{noted};
 ghost use Rattle.release.specs.Release.{Released, Ended};
 use rules::Sizes;
@@ -67,6 +67,7 @@ pub fn release(
 
 // The same where the region's pages are not listed yet.
 fn list_and_release(p: Sizes, tables: &mut [u32], notes: &mut [u32], region: u32, thread: usize)
+    requires { ⌜ Room p (length (now tables)) ⌝ }
     requires { ⌜ Regular p (now tables) ⌝ }
     requires { ⌜ (1 ≤ region) × (region ≤ regions p) ⌝ }
     requires { ⌜ (thread < p .threads) × (1 ≤ depthOf (now tables) thread) ⌝ }
@@ -80,6 +81,7 @@ fn list_and_release(p: Sizes, tables: &mut [u32], notes: &mut [u32], region: u32
 
 // The same: a region without objects has no pages, and needs no list.
 pub fn release_region(p: Sizes, tables: &mut [u32], notes: &mut [u32], region: u32, thread: usize)
+    requires { ⌜ Room p (length (now tables)) ⌝ }
     requires { ⌜ Regular p (now tables) ⌝ }
     requires { ⌜ (1 ≤ region) × (region ≤ regions p) ⌝ }
     requires { ⌜ (thread < p .threads) × (1 ≤ depthOf (now tables) thread) ⌝ }

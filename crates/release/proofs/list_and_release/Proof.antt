@@ -1,6 +1,6 @@
 -- The region has as many pages as its count of objects says, so all of them are listed.
 use borrow.Author.Needs.{needs}
-use Rattle.copy.specs.Taking.{pages-counted}
+use Rattle.promises.specs.OwnedPages.{counts-owned}
 use Rattle.release.proofs.list_and_release.Statement.{statement}
 use Rattle.release.proofs.list_and_release.Tie as tie
 
@@ -10,7 +10,7 @@ slice-aggregate-list-pages c = search needs
 list-pages-requires : tie.Need-list-pages-requires
 list-pages-requires c κs =
     let pre = c .before .before .before .before .pre in
-    (pre .0 .room, (pre .1 .0, (pages-counted (pre .0) (c .before .before .before .before .args .region) (pre .1 .0 .0) (pre .1 .0 .1), pre .0 .room .few)))
+    (pre .0, (pre .1 .1 .0, (counts-owned (pre .1 .0) (c .before .before .before .before .args .region) (pre .1 .1 .0 .0) (pre .1 .1 .0 .1), pre .0 .few)))
 
 slice-aggregate-release : tie.Need-slice-aggregate-release
 slice-aggregate-release c = search needs
@@ -18,7 +18,7 @@ slice-aggregate-release c = search needs
 release-requires : tie.Need-release-requires
 release-requires c κs =
     let pre = c .before .before .before .before .before .before .before .before .before .pre in
-    (pre .0 .room, (c .before .before .before .before .list-pages .ensures, (pre .1 .0, (pre .1 .1 .0, pre .1 .1 .1))))
+    (pre .0, (c .before .before .before .before .list-pages .ensures, pre .1 .1))
 
 same-length : tie.Need-same-length
 same-length c = search needs

@@ -4,7 +4,7 @@ use mathlib.Core.Path.{sym, ap, _∙_}
 use Prim.Native.Nat.{ℕ}
 use Rattle.layout.specs.Places.{countOf}
 use Rattle.lists.specs.Part.{lists-none}
-use Rattle.copy.specs.Taking.{pages-none}
+use Rattle.promises.specs.OwnedPages.{none-owned}
 use Rattle.release.proofs.release_region.Statement.{statement}
 use Rattle.release.proofs.release_region.Tie as tie
 
@@ -25,7 +25,7 @@ release-requires c κs =
     let pre = c .before .before .before .before .before .before .before .before .before .pre in
     let a = c .before .before .before .before .before .before .before .before .before .args in
     let z = ap (λ (g : ℕ). countOf (a .p) (a .tables .now) g) (sym (c .before .before .before .before .before .wide .ensures)) ∙ sym (c .before .before .before .before .count .ensures) ∙ c .before .before .before .if1 .left in
-    (pre .0 .room, (lists-none _ (pages-none (pre .0) (a .region) (pre .1 .0 .0) (pre .1 .0 .1) z), (pre .1 .0, (pre .1 .1 .0, pre .1 .1 .1))))
+    (pre .0, (lists-none _ (none-owned (pre .1 .0) (a .region) (pre .1 .1 .0 .0) (pre .1 .1 .0 .1) z), pre .1 .1))
 
 same-length : tie.Need-same-length
 same-length c = search needs
