@@ -4,11 +4,10 @@ use native.Mathlib.Omega.{arith}
 use mathlib.Core.Path.{_≡_, refl, sym, ap, ap₂, subst, _∙_}
 use mathlib.Core.Logic.{_⊎_, inl, inr}
 use mathlib.Core.List.{List, [], _∷_, _++_}
-use mathlib.Core.Bool.{Bool, true, false, cond, _&&_}
+use mathlib.Core.Bool.{Bool, _&&_}
 use lib.ListN.{length, set}
-use lib.Dec.{leb, eqb}
-use borrow.Author.Tests.{lt-ltb, le-leb, eqb-true}
-use Rattle.lists.specs.Counting.{sum-high}
+use lib.Dec.{leb}
+use borrow.Author.Tests.{lt-ltb, le-leb}
 use Rattle.lists.specs.Products.{flat-low}
 use Rattle.rules.specs.declared.Sizes.{Sizes}
 use Rattle.rules.specs.Terms.{ask, refused, done, limits}
@@ -18,22 +17,24 @@ use Rattle.rules.specs.Regions.{regionAt, regions}
 use Rattle.rules.specs.Graph.{newPages, freePages}
 use Rattle.rules.specs.Rules as ru
 use Rattle.rules.specs.Rules.{Regioned, graph, first}
-use Rattle.layout.specs.Places.{depthOf, ownerOf, usedOf, countOf, countAt, count-room}
-use Rattle.layout.specs.Cells.{cellOn, headWord, mostFields, CellIn}
+use Rattle.layout.specs.Places.{depthOf, usedOf, countOf, countAt, count-room}
+use Rattle.layout.specs.Cells.{cellOn, pageCells, headWord, mostFields, CellIn}
 use Rattle.layout.specs.Words.{Words, words, heapOf}
-use Rattle.promises.specs.Whole.{WholeFor, Open, objectsOn}
+use Rattle.promises.specs.Whole.{WholeFor, Open}
+use Rattle.promises.specs.Regular.{whole-regular}
+use Rattle.promises.specs.OwnedPages.{count-fits}
 use Rattle.promises.specs.Reading.{range, tables-room, cell-in}
 use Rattle.promises.specs.Agreed.{heap-stands}
 use Rattle.promises.specs.Here.{here-depth}
 use Rattle.promises.specs.Questions.{did-refused, did-moved}
-use Rattle.promises.specs.NewPages.{innermost-pos, innermost-low, innermost-open, partly-filled, PartlyFilled, FreePage, new-fits, new-lacks}
+use Rattle.promises.specs.NewPages.{innermost-pos, innermost-low, innermost-open, PartlyFilled, FreePage, new-fits, new-lacks}
 use Rattle.promises.specs.Changes.{withTables, withVariable, withNew}
 use Rattle.promises.specs.Areas.{beyond-both}
 use Rattle.promises.specs.TakeCell.{Took}
 use Rattle.promises.specs.NewCell.{Blank, new-only, new-whole}
 use Rattle.promises.specs.FrameVariable.{variable-only}
 use Rattle.promises.specs.FrameNew.{blankObject, made-stands, to-old, withCell}
-use Rattle.pages.specs.Pages.{Filled, Found, taken}
+use Rattle.pages.specs.Pages.{Filled, regular-filled, Found, taken}
 use Rattle.pages.specs.Took.{found-room, taken-took}
 use Rattle.commands.specs.declared.Decoded.the-variants.{New}
 use Rattle.commands.specs.Decoding.{commandFor}
@@ -60,36 +61,20 @@ module _ (p : Sizes) (c m t : List ℕ) (k : WholeFor p (words c m t)) (u : ℕ)
   region-open : 1 < g → Open P t g
   region-open = subst (λ (x : ℕ). 1 < x → Open P t x) (sym eg) (innermost-open s w k u l)
 
-  -- its objects, and those of every page, are few
-  abbrev objects : ℕ
-  objects = countOf P t g
-
-  count-fits : objects + 1 < 2 ^ 32
-  count-fits =
-      omega (arith, k .counts g (region-real .0) (region-real .1), sum-high (objectsOn P t g) 16 (s .pages) each, range s w k)
-    where
-      each : (page : ℕ) → page < s .pages → objectsOn P t g page ≤ 16
-      each page h = go (eqb (ownerOf P t page) g)
-        where
-          go : (b : Bool) → cond b (usedOf P t page) 0 ≤ 16
-          go true = k .pages page h .cells
-          go false = omega arith
-
   count-inside : countAt P g < length t
   count-inside = omega (arith, region-real, count-room s, tables-room s w k)
 
   -- where its objects fill pages, none is partly filled
   pub region-filled : Filled p t g
-  region-filled e page h f = partly-filled s w k g (region-real .0) (region-real .1) page h f (eqb-true _ 0 e)
+  region-filled = regular-filled (whole-regular k) g (region-real .0) (region-real .1)
 
   module _ (page : ℕ) (found′ : Found p t g page) where
     found : Found P t g page
     found = found′
 
     -- what taking a cell of the page that was found asks
-    pub can-take : page < p .pages → (usedOf p t page < 16) × (countOf p t g + 1 < 2 ^ 32)
-    can-take h =
-        (found-room s t g page h count-inside (k .pages page h .free) found, count-fits)
+    pub can-take : page < p .pages → (usedOf p t page < pageCells) × (countOf p t g + 1 < 2 ^ 32)
+    can-take h = (found-room (whole-regular k) h found, count-fits (whole-regular k) g (region-real .0) (region-real .1) (range s w k .pages-high))
 
     -- no page was found: the region has none that is partly filled, and none is free
     none-found : p .pages ≤ page → (PartlyFilled s w g → ⊥) × (FreePage s w → ⊥)
@@ -110,10 +95,7 @@ module _ (p : Sizes) (c m t : List ℕ) (k : WholeFor p (words c m t)) (u : ℕ)
     -- the cell was taken
     module _ (low : page < p .pages) (cell : ℕ) (ec : cell ≡ cellOn page (usedOf p t page)) (t₁ : List ℕ) (et : t₁ ≡ taken p t page g) where
       pub took : Took P t g cell t₁
-      took =
-          subst (λ (q : ℕ). Took P t g q t₁) (sym ec)
-          (subst (λ (q : List ℕ). Took P t g (cellOn page (usedOf P t page)) q) (sym et)
-          (taken-took s t g page low count-inside (k .pages page low .free) found))
+      took = taken-took (whole-regular k) low count-inside found ec et
 
       pub cell-inside : CellIn cell (length c)
       cell-inside = cell-in s w k cell (took .page)

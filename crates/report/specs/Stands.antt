@@ -16,7 +16,6 @@ use Rattle.promises.specs.StandsFor.{StandsFor}
 use Rattle.promises.specs.Reading.{range, depth-at}
 use Rattle.promises.specs.Agreed.{objects-agree}
 use Rattle.promises.specs.OwnedPages.{counted-objects, heap-free}
-use Rattle.pages.specs.Owned.{ownedOne}
 use Rattle.report.specs.Report.{isOpen, openRegions, rowWith, rows}
 use Rattle.report.specs.Passing.{map-passing}
 use Rattle.report.specs.Opened.{Turn, rows-counted, turn-level}
@@ -81,5 +80,4 @@ module _ (p : Sizes) (t : List ℕ) (c m : List ℕ) (h : Regioned) (cellOf : �
           ∙ sym (objects-agree p (words c m t) h cellOf st q pos))
 
   pub free-stands : freeIn p t ≡ freePages p (graph h)
-  unfolding ownedOne
   free-stands = heap-free p (words c m t) h cellOf st

@@ -11,7 +11,7 @@ use Rattle.layout.specs.Places.{Room, room, sizesAt, countOf}
 use Rattle.layout.specs.Words.{words, depthsAt}
 use Rattle.promises.specs.Whole.{WholeFor, WholeWords}
 use Rattle.promises.specs.Reading.{range, tables-room}
-use Rattle.pages.specs.Owned.{ownedIn}
+use Rattle.promises.specs.OwnedPages.{ownedIn}
 use Rattle.report.specs.declared.Row.{Row}
 use Rattle.report.specs.Report.{rowOf, rowWith, openRegions}
 

@@ -1,13 +1,12 @@
 -- The objects and the partly filled pages of all regions, counted in one pass over the pages.
 use Prim.Native.Nat.{ℕ, _+_, _*_, _≤_, _<_}
 use mathlib.Core.List.{List}
-use mathlib.Core.Bool.{Bool, true, false, cond}
+use mathlib.Core.Bool.{Bool, true, false}
 use mathlib.Core.Path.{_≡_, sym, ap, subst, _∙_}
 use mathlib.Core.Logic.{⊎-elim}
 use native.Mathlib.Omega.{arith}
 use native.Mathlib.Nat.{not-suc-le-zero, mul-le-mul}
 use native.Mathlib.Decide.{ℕ-discrete, decLt}
-use borrow.Author.Tests.{eq-eqb, ne-eqb}
 use lib.ListN.{getD, length, set, replicate, length-set, length-replicate}
 use lib.Seq.{getD-set-same, getD-set-other}
 use Rattle.lists.specs.Below.{split}
@@ -18,6 +17,7 @@ use Rattle.rules.specs.declared.Sizes.{Sizes}
 use Rattle.layout.specs.Places.{Room, ownerOf, usedOf}
 use Rattle.layout.specs.Cells.{pageCells}
 use Rattle.promises.specs.Whole.{Partial, objectsOn, PageWhole, OnePartial, CountsWhole}
+use Rattle.promises.specs.Regular.{objects-yes, objects-no}
 use Rattle.layout.specs.Words.{tablesOnly}
 use Rattle.whole.specs.Pages.{PageChecked, PagesChecked, open-high}
 
@@ -57,13 +57,6 @@ tallied-none p t = record {
   once = λ g l a b k m. absurd (not-suc-le-zero m);
 }
 
--- what page n adds to the objects of region g
-on-own : (p : Sizes) (t : List ℕ) (g n : ℕ) → ownerOf p t n ≡ g → objectsOn p t g n ≡ usedOf p t n
-on-own p t g n e = ap (λ (b : Bool). cond b (usedOf p t n) 0) (eq-eqb (ownerOf p t n) g e)
-
-on-other : (p : Sizes) (t : List ℕ) (g n : ℕ) → (ownerOf p t n ≡ g → ⊥) → objectsOn p t g n ≡ 0
-on-other p t g n e = ap (λ (b : Bool). cond b (usedOf p t n) 0) (ne-eqb (ownerOf p t n) g e)
-
 -- a turn of the pass: o and u are the owner and the cells in use of page n, as the code read them
 module _ (p : Sizes) (t : List ℕ) (objects : List ℕ) (partly : List Bool) (n o u : ℕ) (w : Tallied p t objects partly n) (e : o ≡ ownerOf p t n) (f : u ≡ usedOf p t n) where
   later : (g a : ℕ) → (Partial p t g n → ⊥) → a < n + 1 → Partial p t g a → a < n
@@ -84,7 +77,7 @@ module _ (p : Sizes) (t : List ℕ) (objects : List ℕ) (partly : List Bool) (n
   pub tallied-free : o ≡ 0 → Tallied p t objects partly (n + 1)
   tallied-free z =
       unseen (λ g l q. omega (arith, q .owner)) objects (w .places)
-      (λ g l m. omega (arith, w .counted g l m, sum-more (objectsOn p t g) n, on-other p t g n (λ (q : ownerOf p t n ≡ g). omega arith)))
+      (λ g l m. omega (arith, w .counted g l m, sum-more (objectsOn p t g) n, objects-no p t g n (λ (q : ownerOf p t n ≡ g). omega arith)))
 
   counted-more : (g : ℕ) → 1 ≤ o → o < 130 → 1 ≤ g → g < 130 → getD (set objects o (getD objects o 0 + u)) g 0 ≡ sum (objectsOn p t g) (n + 1)
   counted-more g i j l m = go (ℕ-discrete g o)
@@ -94,9 +87,9 @@ module _ (p : Sizes) (t : List ℕ) (objects : List ℕ) (partly : List Bool) (n
           let s : getD (set objects o (getD objects o 0 + u)) o 0 ≡ getD objects o 0 + u = getD-set-same objects o (getD objects o 0 + u) 0 (omega (arith, w .places)) in
           let r : getD (set objects o (getD objects o 0 + u)) g 0 ≡ getD (set objects o (getD objects o 0 + u)) o 0 = ap (λ (x : ℕ). getD (set objects o (getD objects o 0 + u)) x 0) z in
           let v : getD objects g 0 ≡ getD objects o 0 = ap (λ (x : ℕ). getD objects x 0) z in
-          omega (arith, w .counted g l m, sum-more (objectsOn p t g) n, on-own p t g n (omega arith))
+          omega (arith, w .counted g l m, sum-more (objectsOn p t g) n, objects-yes p t g n (omega arith))
       go (no d) =
-          omega (arith, getD-set-other objects o g (getD objects o 0 + u) 0 d, w .counted g l m, sum-more (objectsOn p t g) n, on-other p t g n (λ q. d (sym (e ∙ q))))
+          omega (arith, getD-set-other objects o g (getD objects o 0 + u) 0 d, w .counted g l m, sum-more (objectsOn p t g) n, objects-no p t g n (λ q. d (sym (e ∙ q))))
 
   -- a full page
   pub tallied-full : 1 ≤ o → o < 130 → pageCells ≤ u → Tallied p t (set objects o (getD objects o 0 + u)) partly (n + 1)
@@ -148,8 +141,8 @@ objects-low p t objects partly n o w h l m =
     on-le k b = go (ℕ-discrete (ownerOf p t k) o)
       where
         go : Dec (ownerOf p t k ≡ o) → objectsOn p t o k ≤ pageCells
-        go (yes q) = omega (arith, on-own p t o k q)
-        go (no q) = omega (arith, on-other p t o k q)
+        go (yes q) = omega (arith, objects-yes p t o k q)
+        go (no q) = omega (arith, objects-no p t o k q)
 
 -- the same of lent tables, of a page that is whole; o is its owner as the code read it
 pub region-few : (p : Sizes) (n : ℕ) → Room p n → p .threads * p .depth ≤ 128

@@ -1,6 +1,6 @@
 -- The pages that no region owns.
 use native.Mathlib.Omega.{arith}
-use Rattle.pages.specs.Owned.{owned-few}
+use Rattle.promises.specs.OwnedPages.{owned-few}
 use Rattle.report.specs.Tables.{tables-room-of}
 use Rattle.report.proofs.free_pages.Statement.{statement}
 use Rattle.report.proofs.free_pages.Tie as tie

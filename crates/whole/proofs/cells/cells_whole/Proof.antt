@@ -63,7 +63,7 @@ wide-requires c κs = search needs
 cells-holds : tie.Need-cells-holds Inv-fields μ-fields Inv-cells μ-cells Inv-pages μ-pages
 cells-holds c =
     let pages = c .before .before .before .before .pages in
-    (pages .inv .0, omega arith, omega (arith, c .before .before .before .before .before .before .before .pre .1 .1 .0 (pages .page) (c .before .before .before .pages-test .taken) .whole .cells), λ k l. absurd (not-suc-le-zero l), pages .inv .3, pages .inv .4)
+    (pages .inv .0, omega arith, omega (arith, c .before .before .before .before .before .before .before .pre .1 .1 .0 (pages .page) (c .before .before .before .pages-test .taken) .whole .filled .cells), λ k l. absurd (not-suc-le-zero l), pages .inv .3, pages .inv .4)
 
 cell-on-requires : tie.Need-cell-on-requires Inv-fields μ-fields Inv-cells μ-cells Inv-pages μ-pages
 cell-on-requires c κs = omega (arith, c .before .before .before .before .before .before .before .before .before .pre .0 .few, c .before .cells .inv)

@@ -29,16 +29,16 @@ wide-requires-2 : tie.Need-wide-requires-2
 wide-requires-2 c κs = search needs
 
 returns-2 : tie.Need-returns-2
-returns-2 c = says-no (λ h. c .if3 .taken (omega (arith, h .whole .free (omega arith))))
+returns-2 c = says-no (λ h. c .if3 .taken (omega (arith, h .whole .filled .free (omega arith))))
 
 returns-3 : tie.Need-returns-3
 returns-3 c = search needs
 
 returns-4 : tie.Need-returns-4
-returns-4 c = says-no (λ h. omega (arith, h .whole .taken (omega arith)))
+returns-4 c = says-no (λ h. omega (arith, h .whole .filled .taken (omega arith)))
 
 returns-5 : tie.Need-returns-5
-returns-5 c = says-no (λ h. omega (arith, h .whole .cells))
+returns-5 c = says-no (λ h. omega (arith, h .whole .filled .cells))
 
 returns-6 : tie.Need-returns-6
 returns-6 c = search needs
@@ -56,9 +56,7 @@ returns-8 c =
     let args = c .before .before .before .before .before .before .before .before .before .before .before .before .before .args in
     says-yes (record {
       whole = record {
-        free = λ e. absurd (let z : ⊥ = omega arith in z);
-        taken = λ l. omega arith;
-        cells = omega arith;
+        filled = record { free = λ e. absurd (let z : ⊥ = omega arith in z); taken = λ l. omega arith; cells = omega arith };
         region = λ l. subst (λ (g : ℕ). Open (args .p) (now (args .tables)) g) (c .before .before .before .before .before .before .before .before .wide .ensures ∙ c .before .before .before .before .before .before .before .before .before .owner .ensures) (c .before .is-open .ensures .0 (not-false _ (c .if7 .left)));
       };
       mark = sym (c .before .before .before .before .before .before .before .before .before .before .before .mark .ensures) ∙ c .before .before .before .before .before .before .before .before .before .before .if1 .left;

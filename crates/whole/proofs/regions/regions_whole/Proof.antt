@@ -99,7 +99,7 @@ add-objects c =
     let args = c .before .before .before .before .before .before .before .before .before .before .before .args in
     let loop = c .before .before .before .before .before .before .before .before .before .loop in
     let wide = c .before .before .before .before .wide in
-    omega (arith, page-whole .ensures .0 (not-false _ (if1 .left)) .whole .cells, objects-low (args .p) (now (args .tables)) (loop .objects) (loop .partly) (loop .page) (wide .result) (loop .inv .1) (λ k l. loop .inv .2 k l .whole .cells) (omega arith) (owner-room (args .p) (now (args .tables)) (length (now (args .tables))) (loop .page) (c .before .before .before .before .before .before .before .before .before .before .before .pre) (page-whole .ensures .0 (not-false _ (if1 .left))) (wide .ensures ∙ c .before .before .before .before .before .owner .ensures)))
+    omega (arith, page-whole .ensures .0 (not-false _ (if1 .left)) .whole .filled .cells, objects-low (args .p) (now (args .tables)) (loop .objects) (loop .partly) (loop .page) (wide .result) (loop .inv .1) (λ k l. loop .inv .2 k l .whole .filled .cells) (omega arith) (owner-room (args .p) (now (args .tables)) (length (now (args .tables))) (loop .page) (c .before .before .before .before .before .before .before .before .before .before .before .pre) (page-whole .ensures .0 (not-false _ (if1 .left))) (wide .ensures ∙ c .before .before .before .before .before .owner .ensures)))
 
 array-write-objects : tie.Need-array-write-objects Inv-loop μ-loop Inv-loop2 μ-loop2
 array-write-objects c =
