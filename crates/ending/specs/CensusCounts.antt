@@ -1,14 +1,14 @@
 -- What the census counts on marked words is what the rules ask: free pages, new pages, slots that would cross.
-use mathlib.Core.Path.{_≡_, refl, sym, ap, ap₂, _∙_, subst, subst₂}
-use mathlib.Core.Bool.{Bool, true, false, cond}
+use mathlib.Core.Path.{_≡_, sym, ap, ap₂, _∙_, subst, subst₂}
+use mathlib.Core.Bool.{Bool, true, false}
 use mathlib.Core.List.{List}
-use Prim.Native.Nat.{ℕ, suc, _+_, _*_, _-_, _/_, _≤_, _<_}
+use Prim.Native.Nat.{ℕ, suc, _+_, _-_, _/_, _≤_, _<_}
 use native.Mathlib.Omega.{arith}
 use native.Mathlib.Nat.{mul-le-mul}
-use lib.Dec.{eqb, leb}
+use lib.Dec.{leb}
 use borrow.Author.Tests.{le-leb, lt-leb}
 use lib.ListN.{length, getD}
-use Rattle.lists.specs.Counting.{bit, sum, sum-same}
+use Rattle.lists.specs.Counting.{sum, sum-same}
 use Rattle.rules.specs.declared.Sizes.{Sizes}
 use Rattle.rules.specs.Terms.{ask}
 use Rattle.rules.specs.Regions.{regionAt, regions}
@@ -17,22 +17,22 @@ use Rattle.laws.specs.RegionLaws.{region-high}
 use Rattle.layout.specs.Places.{Room, countOf}
 use Rattle.layout.specs.Cells.{pageOf, workOf}
 use Rattle.layout.specs.Marks.{marked}
-use Rattle.layout.specs.Words.{Words, depthIn, cellCount}
+use Rattle.layout.specs.Words.{Words, depthIn}
 use Rattle.promises.specs.Whole.{WholeFor}
 use Rattle.promises.specs.OwnedPages.{pagesOwned}
-use Rattle.pages.specs.Owned.{ownedOne, ownedIn}
+use Rattle.pages.specs.Owned.{ownedIn}
 use Rattle.mark.specs.Survivors.{Marked}
-use Rattle.census.specs.Counted.{overMarked, over-cells, goesTo, goes-landed}
+use Rattle.census.specs.Counted.{overMarked, goesTo, goes-landed}
 use Rattle.census.specs.Census.{Arrivals}
 use Rattle.census.specs.After as ce
 use Rattle.census.specs.Crossed.{crossing-after}
-use Rattle.copy.specs.Marks.{hit, hits}
+use Rattle.copy.specs.Marks.{hits}
 use Rattle.copy.specs.Copying.{region-bounds}
 use Rattle.ended.specs.EndQuestion.{pagesNeeded, crossingAfter}
 use Rattle.ended.specs.EndPages.{morePages, new-pages-counted}
 use Rattle.promises.specs.Ends.{partOf}
-use Rattle.ending.specs.MarkedWords.{marked-survivor, owner-same, count-same}
-use Rattle.ending.specs.PagesEnough.{survivor-level}
+use Rattle.ending.specs.MarkedWords.{marked-survivor, count-same}
+use Rattle.ending.specs.PagesEnough.{over-hits, survivor-level, free-same}
 
 -- the new pages for region g, and for the regions of thread t at the levels below n
 unfoldable pub levelNeeds : Sizes → List ℕ → List ℕ → ℕ → ℕ
@@ -99,13 +99,7 @@ module _ (p : Sizes) (W M T : List ℕ) (t n : ℕ) {needed free : ℕ} (en : ne
 
 -- as the copy counts them
 pub arrivals-hits : (p : Sizes) (W T come : List ℕ) → Arrivals p W T (p .pages) come → (g : ℕ) → getD come g 0 ≡ hits p W T g
-unfolding hits hit goesTo
-arrivals-hits p W T come a g =
-    a g ∙ over-cells p T (goesTo W g) ∙ sum-same _ _ (cellCount p) (λ c l. ap (λ (n : ℕ). marked p T c * n) (one (eqb (workOf W c) g)))
-  where
-    one : (b : Bool) → bit b ≡ cond b 1 0
-    one true = refl
-    one false = refl
+arrivals-hits p W T come a g = a g ∙ over-hits p W T g
 
 -- there are at most 16 threads of at most 8 levels
 pub regions-few : {p : Sizes} {n : ℕ} → Room p n → regions p < 130
@@ -131,8 +125,7 @@ module _ (s : Sizes) (w : Words) (k : WholeFor s w) (space : Room s (length (w .
       omega (arith, v .2, region-bounds s t (v .0) th (omega (arith, v .1, k .depths t th)))
 
   pub free-are : ownedIn s (w₁ .tables) 0 (s .pages) ≡ pagesOwned s w 0
-  unfolding ownedOne
-  free-are = sum-same _ _ (s .pages) (λ page l. ap (λ (x : ℕ). bit (eqb x 0)) (owner-same M space page l))
+  free-are = free-same s w k space t j th deep w₁ M
 
   pub crossing-are : ce.crossingAfter s (w₁ .cells) (w₁ .remember) (w₁ .tables) (regionAt s t (suc j)) ≡ crossingAfter s w t j
   crossing-are = crossing-after s w k space (regionAt s t (suc j)) (region-high s t j) w₁ M

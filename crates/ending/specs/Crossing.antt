@@ -11,15 +11,16 @@ use Rattle.layout.specs.declared.Kind.the-variants.{Reference}
 use Rattle.layout.specs.Places.{ownerOf, usedIn, slotIn, slotRegionIn, cellsWords}
 use Rattle.layout.specs.Cells.{fieldAt, fieldOf, refsOf, fieldCount, roomFor, pageOf, pageAt, cellNamed}
 use Rattle.layout.specs.Objects.{Slot, field-inside, slot-page}
-use Rattle.layout.specs.Words.{Words, BeginsIn, ownerIn, headIn, refCount}
+use Rattle.layout.specs.Words.{Words, BeginsIn, ownerIn, refCount}
 use Rattle.remember.specs.Crossing.{crossTo, crossesFrom}
 use Rattle.remember.specs.Crosses.{crosses-into, into-crosses, crosses-null, slot-cross, cross-slot}
 use Rattle.promises.specs.Whole.{WholeFor}
-use Rattle.promises.specs.Reading.{refs-room}
+use Rattle.promises.specs.Reading.{ref-room}
 use Rattle.promises.specs.Ends.{Part, Lives}
+use Rattle.settle.specs.Rewrite.{begins-now, begins-then}
 use Rattle.settle.specs.Append.{crossAt}
 use Rattle.ending.specs.Placing.{HasMoved, placed, placed-used, placed-page, placed-only}
-use Rattle.ending.specs.Rewriting.{LiveSlot, HasRewritten, live-after, head-after, used-after, used-before}
+use Rattle.ending.specs.Rewriting.{LiveSlot, HasRewritten, live-after, head-after}
 
 -- ---- whole words
 
@@ -30,9 +31,6 @@ module _ {s : Sizes} {w : Words} (whole : WholeFor s w) where
   crosses x q =
       slot-cross s (w .cells) (w .tables) x q
       ∙ ap₂ (λ (p y : ℕ). crossesFrom s (w .tables) (ownerIn s w p) (getD (w .cells) y 0)) (slot-page s (w .cells) (w .tables) x q) (sym (q .at))
-
-  pub ref-room : (c f : ℕ) → BeginsIn s w c → f < refCount w c → f < roomFor (headIn w c)
-  ref-room c f u l = omega (arith, refs-room s w whole c u)
 
   entered : (x g : ℕ) → x < cellsWords s → 1 < g → g ≡ crossTo s (w .cells) (w .tables) x
       → (i : ℕ) × (i < usedIn (w .remember)) × (slotIn (w .remember) i ≡ x) × (slotRegionIn (s .entries) (w .remember) i ≡ g)
@@ -45,7 +43,7 @@ module _ {s : Sizes} {w : Words} (whole : WholeFor s w) where
       → ownerIn s w (pageOf d) ≢ ownerIn s w (pageOf c)
       → (i : ℕ) × (i < usedIn (w .remember)) × (slotIn (w .remember) i ≡ fieldAt c f) × (slotRegionIn (s .entries) (w .remember) i ≡ ownerIn s w (pageOf d))
   entry-of c f d u l z p high other =
-      let m = ref-room c f u l in
+      let m = ref-room s w whole c f u l in
       let y : cellNamed (fieldOf (w .cells) c f) ≡ d = omega arith in
       entered (fieldAt c f) (ownerIn s w (pageOf d)) (field-inside s (w .cells) (w .tables) c u f m) high
       (into-crosses s (w .tables) (ownerIn s w (pageOf c)) (fieldOf (w .cells) c f) (ownerIn s w (pageOf d))
@@ -113,15 +111,15 @@ module _ {s : Sizes} {w w₁ : Words} {e : Part} {W T : List ℕ} {S : ℕ → T
       record {
         object = placed W c;
         field = q .field;
-        begins = used-after r (placed W c) (placed-used h c (q .lives));
-        room = omega (arith, ref-room (h .whole) c (q .field) (q .lives .used) (q .low), ap roomFor (head-after r c (q .lives)));
+        begins = begins-now (r .cells) s T (placed W c) (placed-used h c (q .lives));
+        room = omega (arith, ref-room s w (h .whole) c (q .field) (q .lives .used) (q .low), ap roomFor (head-after r c (q .lives)));
         low = omega (arith, q .low, refs-after c (q .lives));
         at = sym (q .at);
       }
 
   pub slot-live : (x : ℕ) (q : Slot s W′ T x) → (e .ends (pageOf (q .object)) → ⊥) → LiveSlot s w e W x
   slot-live x q n =
-      let o = placed-only h (q .object) (used-before r (q .object) (q .begins)) n in
+      let o = placed-only h (q .object) (begins-then (r .cells) s T (q .object) (q .begins)) n in
       record {
         object = o .0;
         field = q .field;

@@ -15,12 +15,12 @@ use Rattle.rules.specs.Graph.{Graph, crossing}
 use Rattle.laws.specs.GraphLaws.{Alive}
 use Rattle.laws.specs.Counts.{crossIn, crossAt, crossRef, crossing-sum}
 use Rattle.layout.specs.Places.{cellsWords}
-use Rattle.layout.specs.Cells.{fieldAt, fieldOf, roomFor}
+use Rattle.layout.specs.Cells.{fieldAt, fieldOf}
 use Rattle.layout.specs.Objects.{Slot, slot?, slotsOf, slots-sum, objects-apart, field-slot, begins?, begins-true, begins-false}
-use Rattle.layout.specs.Words.{Words, BeginsIn, headIn, refCount, refsIn, cellCount}
+use Rattle.layout.specs.Words.{Words, BeginsIn, refCount, refsIn, cellCount}
 use Rattle.promises.specs.Whole.{WholeFor}
 use Rattle.promises.specs.Crossings.{cross-in-sum}
-use Rattle.promises.specs.Reading.{length-refs, getD-refs, refs-room}
+use Rattle.promises.specs.Reading.{length-refs, getD-refs, refs-room, ref-room}
 use Rattle.promises.specs.Ends.{Part}
 use Rattle.ended.specs.Living.{GraphAfter}
 
@@ -44,14 +44,11 @@ module _ {s : Sizes} {w : Words} {e : Part} {g : Graph} (whole : WholeFor s w) (
   unfolding crossesPast crossesIf
   of-field c f u l = go (slot? s (w .cells) (w .tables) (fieldAt c f))
     where
-      room : f < roomFor (headIn w c)
-      room = omega (arith, refs-room s w whole c u)
-
       go : (d : Dec (Slot s (w .cells) (w .tables) (fieldAt c f))) → crossesIf s w g (fieldAt c f) d ≡ cond (eqb (g .home c) 0) 0 (crossRef g c (fieldOf (w .cells) c f))
       go (yes o) =
           ap (λ (x : ℕ). cond (eqb (g .home x) 0) 0 (crossRef g x (fieldOf (w .cells) c f)))
-          (objects-apart s (w .cells) (w .tables) (o .object) (o .begins) c u f room (o .field) (o .room) (o .at) .0)
-      go (no n) = absurd (n (field-slot s (w .cells) (w .tables) c f u room l))
+          (objects-apart s (w .cells) (w .tables) (o .object) (o .begins) c u f (ref-room s w whole c f u l) (o .field) (o .room) (o .at) .0)
+      go (no n) = absurd (n (field-slot s (w .cells) (w .tables) c f u (ref-room s w whole c f u l) l))
 
   pub of-object : (c f : ℕ) → Alive g c → f < refCount w c → crossesPast s w g (fieldAt c f) ≡ crossRef g c (fieldOf (w .cells) c f)
   of-object c f l m =

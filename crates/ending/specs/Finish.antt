@@ -7,11 +7,10 @@ use native.Mathlib.Decide.{decLt}
 use native.Mathlib.Nat.{pos-of-ne-zero}
 use native.Mathlib.Omega.{arith}
 use lib.ListN.{length, getD}
-use Rattle.lists.specs.Counting.{sum-same}
 use Rattle.lists.specs.Stores.{drop-same}
 use Rattle.rules.specs.declared.Sizes.{Sizes}
 use Rattle.laws.specs.SameRules.{renamed}
-use Rattle.layout.specs.Places.{Room, depthAt, varAt, ownerAt, usedAt, markAt, countAt, varOf, ownerOf, usedOf, markOf, cellsWords, rememberWords, tablesWords, count-room, countsFrom, ownersFrom, varsFrom, varCount}
+use Rattle.layout.specs.Places.{Room, depthAt, varAt, ownerAt, usedAt, markAt, varOf, ownerOf, usedOf, markOf, cellsWords, rememberWords, tablesWords, count-room, ownersFrom, varsFrom, varCount}
 use Rattle.layout.specs.Cells.{fieldOf, cellNamed, pageOf, cellOn, page-on, room-most}
 use Rattle.layout.specs.Objects.{Slot, begins-page, begins-same, begins-back, begins-used, begins-there, slot-low, slot-page}
 use Rattle.layout.specs.Words.{Words, words, Begins, Names, ownerIn, headIn}
@@ -20,48 +19,25 @@ use Rattle.remember.specs.Crosses.{slot-cross, cross-slot}
 use Rattle.remember.specs.Entries as table
 use Rattle.remember.specs.Renewed.{Renewed, renewed-exact}
 use Rattle.promises.specs.Slots.{region-of}
-use Rattle.promises.specs.Whole.{Open, objectsOn, RememberWhole}
+use Rattle.promises.specs.Whole.{Open, RememberWhole}
 use Rattle.promises.specs.StandsFor.{SameFrom}
 use Rattle.promises.specs.Ends.{Part, Outside, Survivor, Lives, outside-lives, survivor-lives, lives-how}
 use Rattle.mark.specs.Marks.{page-unmarked}
-use Rattle.pages.specs.Pages.{Partly}
-use Rattle.copy.specs.Marks.{sameThen}
-use Rattle.copy.specs.Taking.{Regular, room-same}
-use Rattle.settle.specs.Rewrite.{forward-same, link-same}
+use Rattle.copy.specs.Taking.{Regular}
+use Rattle.settle.specs.Rewrite.{forward-same, link-same, begins-now, begins-then}
 use Rattle.settle.specs.RewriteSlots.{Variables}
 use Rattle.settle.specs.Append.{crossAt}
 use Rattle.release.specs.Release.{Blank, Alike}
 use Rattle.ended.specs.Evacuated.{Evacuated, Vacated}
 use Rattle.ending.specs.MarkedWords.{table-same, var-same}
+use Rattle.ending.specs.MarkedReady.{regular-like}
 use Rattle.ending.specs.Placing.{HasMoved, placed, forwarded-placed, page-of, outside-placed, outside-home, survivor-home, placed-page, placed-used, placed-out, placed-apart, placed-only}
-use Rattle.ending.specs.Rewriting.{LiveSlot, copies-live, held-live, HasRewritten, slot-after, live-after, rest-after, head-after, work-after, used-after, used-before}
+use Rattle.ending.specs.Rewriting.{LiveSlot, copies-live, held-live, HasRewritten, slot-after, live-after, rest-after, head-after, work-after}
 use Rattle.ending.specs.Crossing.{Told, live-slot, slot-live, live-page}
 
 -- two lists of one length with the same words from n on
 same-from : (n : ℕ) (l k : List ℕ) → length k ≡ length l → ((x : ℕ) → n ≤ x → getD k x 0 ≡ getD l x 0) → SameFrom n l k
 same-from n l k e h = record { long = e; rest = drop-same n l k e (λ x z. h x z) }
-
--- owners, cells in use and counts that stay keep pages regular
-regular-like : {p : Sizes} {T T′ : List ℕ} → length T′ ≡ length T → ((x : ℕ) → x < p .pages → ownerOf p T′ x ≡ ownerOf p T x)
-    → ((x : ℕ) → x < p .pages → usedOf p T′ x ≡ usedOf p T x) → ((x : ℕ) → countsFrom p ≤ x → getD T′ x 0 ≡ getD T x 0) → Regular p T → Regular p T′
-regular-like {p} {T} {T′} size eo eu ec r =
-    record {
-      room = room-same size (r .room);
-      free = λ q l e. eu q l ∙ r .free q l (sym (eo q l) ∙ e);
-      taken = λ q l n. omega (arith, eu q l, r .taken q l (λ e. n (eo q l ∙ e)));
-      full = λ q l. omega (arith, eu q l, r .full q l);
-      one = λ g a b pos u v. r .one g a b pos (was g a u) (was g b v);
-      count = λ g pos le.
-          ec (countAt p g) (omega arith) ∙ r .count g pos le
-          ∙ sym (sum-same (objectsOn p T′ g) (objectsOn p T g) (p .pages) (λ x l. ap₂ (λ (a b : ℕ). sameThen a g b) (eo x l) (eu x l)));
-    }
-  where
-    was : (g a : ℕ) → Partly p T′ g a → Partly p T g a
-    was g a w =
-        record {
-          low = w .low;
-          partial = record { owner = sym (eo a (w .low)) ∙ w .partial .owner; part = omega (arith, eu a (w .low), w .partial .part) };
-        }
 
 -- ---- the variables
 
@@ -142,14 +118,14 @@ module _ {s : Sizes} {w w₁ : Words} {e : Part} {W T : List ℕ} {S : ℕ → T
       out z = omega (arith, begins-used s W′ T′ d u .place, Z .blank (pageOf d) l z .used)
 
   used : (x : ℕ) → Lives s w e x → Begins s W′ T′ (placed W x)
-  used x l = to-end (placed W x) (used-after k (placed W x) (placed-used h x l)) (placed-out h x l)
+  used x l = to-end (placed W x) (begins-now (k .cells) s T (placed W x) (placed-used h x l)) (placed-out h x l)
 
   home-end : (x : ℕ) → Lives s w e x → ownerOf s T′ (pageOf (placed W x)) ≡ ownerOf s T (pageOf (placed W x))
   home-end x l = owner-end (pageOf (placed W x)) (begins-page s W T (placed W x) (placed-used h x l)) (placed-out h x l)
 
   -- there is no other
   from-cell : (d : ℕ) → Begins s W′ T′ d → (x : ℕ) × Lives s w e x × (placed W x ≡ d)
-  from-cell d u = let v = from-end d u in placed-only h d (used-before k d (v .0)) (v .1)
+  from-cell d u = let v = from-end d u in placed-only h d (begins-then (k .cells) s T d (v .0)) (v .1)
 
   outside-end : (x : ℕ) → Outside s w e x → ownerOf s T′ (pageOf (placed W x)) ≡ ownerIn s w (pageOf x)
   outside-end x o = home-end x (outside-lives o) ∙ outside-home h x o

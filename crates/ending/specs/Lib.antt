@@ -13,8 +13,8 @@ pub mod Space
 -- the words after the end
 pub mod Finish
 -- of the innermost region of a thread: what the census asks, its remembered slots, and its stages
-pub mod CensusCounts
 pub mod PagesEnough
+pub mod CensusCounts
 pub mod Region
 pub mod Stages
 pub mod Ending

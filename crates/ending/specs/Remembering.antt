@@ -12,6 +12,7 @@ use Rattle.layout.specs.Objects.{begins-page, field-on}
 use Rattle.layout.specs.Words.{Words, ownerIn}
 use Rattle.remember.specs.Filtered.{Stays}
 use Rattle.promises.specs.Whole.{WholeFor}
+use Rattle.promises.specs.Reading.{ref-room}
 use Rattle.promises.specs.Ends.{Part, Outside, Survivor, Lives, outside-lives, lives-how}
 use Rattle.settle.specs.Append.{crossAt, Crossing}
 use Rattle.settle.specs.Update.{Copies}
@@ -19,7 +20,7 @@ use Rattle.settle.specs.RewriteCopies.{slot-now, slot-then}
 use Rattle.ended.specs.Living.{KeepsNamed}
 use Rattle.ending.specs.Placing.{HasMoved, placed, page-of, outside-placed, outside-home, placed-page, placed-out}
 use Rattle.ending.specs.Rewriting.{HoldingSlots, LiveSlot, outside-live, copies-live, survivor-copy, HasRewritten}
-use Rattle.ending.specs.Crossing.{ref-room, entry-of, EntrySays, entry-says, Told, live-page, crosses-names, names-cross}
+use Rattle.ending.specs.Crossing.{entry-of, EntrySays, entry-says, Told, live-page, crosses-names, names-cross}
 
 -- the pages of the part are those of the regions of G, none of which is the control space
 pub record OfRegions (s : Sizes) (w : Words) (e : Part) (G : ℕ → Type 0) : Type 0 where
@@ -49,7 +50,7 @@ remembered-holding {s} {w} {e} {G} {S} whole keeps o from to =
           let p = begins-page s (w .cells) (w .tables) d (keeps .references c f d (outside-lives u) l z .used) in
           let g = o .owner (pageOf d) p own in
           let q = entry-of whole c f d (u .used) l z p (o .high (ownerIn s w (pageOf d)) g) (λ y. u .out (o .ends (pageOf c) (begins-page s (w .cells) (w .tables) c (u .used)) (subst G y g))) in
-          let on : pageAt (slotIn (w .remember) (q .0)) ≡ pageOf c = ap pageAt (q .2) ∙ field-on s (w .cells) (w .tables) c (u .used) f (ref-room whole c f (u .used) l) in
+          let on : pageAt (slotIn (w .remember) (q .0)) ≡ pageOf c = ap pageAt (q .2) ∙ field-on s (w .cells) (w .tables) c (u .used) f (ref-room s w whole c f (u .used) l) in
           subst S (q .2) (to (q .0) (q .1) (subst G (sym (q .3)) g) (λ v. u .out (subst (e .ends) on v)));
     }
 

@@ -10,12 +10,12 @@ use lib.ListN.{length, getD}
 use Rattle.rules.specs.declared.Sizes.{Sizes}
 use Rattle.laws.specs.SameRules.{renamed}
 use Rattle.layout.specs.declared.Kind.the-variants.{Reference}
-use Rattle.layout.specs.Cells.{headAt, fieldAt, headOf, workOf, fieldOf, refsOf, fieldCount, pageOf, cellNamed, mostFields, field-apart, field-once}
+use Rattle.layout.specs.Cells.{fieldAt, headOf, workOf, fieldOf, refsOf, fieldCount, pageOf, cellNamed, mostFields, field-apart, field-once}
 use Rattle.layout.specs.Objects.{begins-same, begins-back}
-use Rattle.layout.specs.Words.{Words, Begins, BeginsIn, Names, headIn, refCount}
+use Rattle.layout.specs.Words.{Words, BeginsIn, Names, headIn, refCount}
 use Rattle.promises.specs.Reading.{refs-few}
 use Rattle.promises.specs.Ends.{Part, Outside, Survivor, Lives, outside-lives, survivor-lives, lives-how}
-use Rattle.settle.specs.Rewrite.{forwarded, forward-null, forward-still, Rewritten, rewritten-join, head-same, link-same, heads-same}
+use Rattle.settle.specs.Rewrite.{forwarded, forward-null, forward-still, Rewritten, rewritten-join, link-same, heads-same}
 use Rattle.settle.specs.RewriteSlots.{Fields}
 use Rattle.settle.specs.RewriteCopies.{Old, Wiring, wiring-now, OnPages, slot-now, slot-then}
 use Rattle.settle.specs.Update.{Copies}
@@ -179,14 +179,8 @@ module _ {s : Sizes} {w w₁ : Words} {e : Part} {W T : List ℕ} {S : ℕ → T
   h : HasMoved s w w₁ e W T
   h = r .moved
 
-  pub used-after : (d : ℕ) → Begins s W T d → Begins s W′ T d
-  used-after d u = begins-same s W T W′ T d refl (λ x b z. head-same (r .cells) (headAt x) (omega arith)) u
-
-  pub used-before : (d : ℕ) → Begins s W′ T d → Begins s W T d
-  used-before d u = begins-back s W T W′ T d refl (λ x b z. head-same (r .cells) (headAt x) (omega arith)) u
-
   pub head-after : (c : ℕ) → Lives s w e c → headOf W′ (placed W c) ≡ headIn w c
-  head-after c l = head-same (r .cells) (headAt (placed W c)) (omega arith) ∙ placed-head h c l
+  head-after c l = heads-same (r .cells) (placed W c) ∙ placed-head h c l
 
   pub work-after : (c : ℕ) → Lives s w e c → workOf W′ (placed W c) ≡ 0
   work-after c l = link-same (r .cells) (placed W c) ∙ placed-work h c l
