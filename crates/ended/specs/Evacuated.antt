@@ -1,17 +1,17 @@
 -- The words after an accepted end, said of the words before it (01, "Region rules"). `cell` is the cell afterwards of the object that was in
 -- a cell.
-use Prim.Native.Nat.{ℕ, _+_, _*_, _≤_, _<_}
+use Prim.Native.Nat.{ℕ, _≤_, _<_}
 use mathlib.Core.Path.{_≡_}
 use lib.ListN.{getD}
 use Rattle.rules.specs.declared.Sizes.{Sizes}
 use Rattle.laws.specs.SameRules.{renamed}
-use Rattle.layout.specs.Places.{varOf, markOf, countOf, varCount}
+use Rattle.layout.specs.Places.{varOf, varCount}
 use Rattle.layout.specs.Cells.{pageOf, fieldOf, workOf, roomFor}
 use Rattle.layout.specs.Words.{Words, BeginsIn, ownerIn, headIn, refCount}
-use Rattle.promises.specs.Whole.{PageWhole, Partial, objectsOf, RememberWhole}
+use Rattle.promises.specs.Whole.{Open, MarksWhole, RememberWhole}
+use Rattle.promises.specs.Regular.{Regular}
 use Rattle.promises.specs.StandsFor.{SameBeyond}
 use Rattle.promises.specs.Ends.{Part, Outside, Survivor, Lives}
-use Rattle.rules.specs.Regions.{regions}
 
 -- The object that was in cell c is in its cell: word 0 is the same, references lead to the cells of what they named, every word after them
 -- (the numbers, and the zeros that follow) is the same, and the working word is zero.
@@ -45,8 +45,7 @@ pub record Evacuated (s : Sizes) (w : Words) (e : Part) (w′ : Words) (cell : �
   pub apart : (b c : ℕ) → Lives s w e b → Lives s w e c → cell b ≡ cell c → b ≡ c
   pub only : (d : ℕ) → BeginsIn s w′ d → (c : ℕ) × Lives s w e c × (cell c ≡ d)
   -- pages, counts, marks and the remember table are whole (01, "Tables are whole")
-  pub pages : (page : ℕ) → page < s .pages → PageWhole s (w′ .tables) page
-  pub partial : (g : ℕ) → 1 ≤ g → (a b : ℕ) → a < b → b < s .pages → Partial s (w′ .tables) g a → Partial s (w′ .tables) g b → ⊥
-  pub counts : (g : ℕ) → 1 ≤ g → g ≤ regions s → countOf s (w′ .tables) g ≡ objectsOf s (w′ .tables) g
-  pub marks : (page : ℕ) → page < s .pages → markOf s (w′ .tables) page ≡ 0
+  pub regular : Regular s (w′ .tables)
+  pub owners : (page : ℕ) → page < s .pages → 1 < ownerIn s w′ page → Open s (w′ .tables) (ownerIn s w′ page)
+  pub marks : MarksWhole s w′
   pub remember : RememberWhole s w′

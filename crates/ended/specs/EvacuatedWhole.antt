@@ -57,9 +57,9 @@ module _ {s : Sizes} {w : Words} {e : Part} {w′ : Words} {cell : ℕ → ℕ} 
       record {
         sized = sized;
         depths = depths;
-        pages = v .pages;
-        partial = v .partial;
-        counts = v .counts;
+        pages = λ page l. record { filled = v .regular .pages page l; region = v .owners page l };
+        partial = v .regular .partial;
+        counts = v .regular .counts;
         variables = λ i l. subst (IsRef s (w′ .cells) (w′ .tables)) (sym (v .variables i l))
             (ref-alive s w′ cell (varOf s (w .tables) i) (λ y q. v .used y (keeps .variables i y l q)));
         objects = λ c u. let b = v .only c u in subst (ObjectWhole s (w′ .cells) (w′ .tables)) (b .2) (object-in (b .0) (b .1));

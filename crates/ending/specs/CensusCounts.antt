@@ -2,7 +2,7 @@
 use mathlib.Core.Path.{_≡_, sym, ap, ap₂, _∙_, subst, subst₂}
 use mathlib.Core.Bool.{Bool, true, false}
 use mathlib.Core.List.{List}
-use Prim.Native.Nat.{ℕ, suc, _+_, _-_, _/_, _≤_, _<_}
+use Prim.Native.Nat.{ℕ, suc, _+_, _-_, _≤_, _<_}
 use native.Mathlib.Omega.{arith}
 use native.Mathlib.Nat.{mul-le-mul}
 use lib.Dec.{leb}
@@ -11,6 +11,7 @@ use lib.ListN.{length, getD}
 use Rattle.lists.specs.Counting.{sum, sum-same}
 use Rattle.rules.specs.declared.Sizes.{Sizes}
 use Rattle.rules.specs.Terms.{ask}
+use Rattle.rules.specs.Graph.{pagesOf}
 use Rattle.rules.specs.Regions.{regionAt, regions}
 use Rattle.laws.specs.RulesLaws.{region-pos}
 use Rattle.laws.specs.RegionLaws.{region-high}
@@ -19,8 +20,7 @@ use Rattle.layout.specs.Cells.{pageOf, workOf}
 use Rattle.layout.specs.Marks.{marked}
 use Rattle.layout.specs.Words.{Words, depthIn}
 use Rattle.promises.specs.Whole.{WholeFor}
-use Rattle.promises.specs.OwnedPages.{pagesOwned}
-use Rattle.pages.specs.Owned.{ownedIn}
+use Rattle.promises.specs.OwnedPages.{pagesOwned, ownedIn}
 use Rattle.mark.specs.Survivors.{Marked}
 use Rattle.census.specs.Counted.{overMarked, goesTo, goes-landed}
 use Rattle.census.specs.Census.{Arrivals}
@@ -60,7 +60,7 @@ module _ (p : Sizes) (T come : List ℕ) (g arrivals : ℕ) (e : arrivals ≡ ge
   unfolding levelMore
   more-none z = omega (arith, e)
 
-  pub more-some : (have : ℕ) → have ≡ countOf p T g → (have + arrivals + 15) / 16 - (have + 15) / 16 ≡ levelMore p T come g
+  pub more-some : (have : ℕ) → have ≡ countOf p T g → pagesOf (have + arrivals) - pagesOf have ≡ levelMore p T come g
   unfolding levelMore
   more-some have h = ap₂ (λ (a b : ℕ). morePages a b) h e
 

@@ -2,7 +2,7 @@
 use mathlib.Core.Path.{_≡_, refl, sym, ap, ap₂, subst, _∙_}
 use mathlib.Core.Logic.{_⊎_, inl, inr, ⊎-elim}
 use mathlib.Core.List.{List}
-use Prim.Native.Nat.{ℕ, zero, suc, _*_, _≤_, _<_}
+use Prim.Native.Nat.{ℕ, zero, suc, _≤_, _<_}
 use native.Mathlib.Decide.{decLt}
 use native.Mathlib.Nat.{pos-of-ne-zero}
 use native.Mathlib.Omega.{arith}
@@ -10,7 +10,7 @@ use lib.ListN.{length, getD}
 use Rattle.lists.specs.Stores.{drop-same}
 use Rattle.rules.specs.declared.Sizes.{Sizes}
 use Rattle.laws.specs.SameRules.{renamed}
-use Rattle.layout.specs.Places.{Room, depthAt, varAt, ownerAt, usedAt, markAt, varOf, ownerOf, usedOf, markOf, cellsWords, rememberWords, tablesWords, count-room, ownersFrom, varsFrom, varCount}
+use Rattle.layout.specs.Places.{Room, depthAt, varAt, ownerAt, usedAt, markAt, countAt, varOf, ownerOf, usedOf, markOf, cellsWords, rememberWords, tablesWords, count-room, ownersFrom, varsFrom, varCount}
 use Rattle.layout.specs.Cells.{fieldOf, cellNamed, pageOf, cellOn, page-on, room-most}
 use Rattle.layout.specs.Objects.{Slot, begins-page, begins-same, begins-back, begins-used, begins-there, slot-low, slot-page}
 use Rattle.layout.specs.Words.{Words, words, Begins, Names, ownerIn, headIn}
@@ -23,14 +23,14 @@ use Rattle.promises.specs.Whole.{Open, RememberWhole}
 use Rattle.promises.specs.StandsFor.{SameFrom}
 use Rattle.promises.specs.Ends.{Part, Outside, Survivor, Lives, outside-lives, survivor-lives, lives-how}
 use Rattle.mark.specs.Marks.{page-unmarked}
-use Rattle.copy.specs.Taking.{Regular}
+use Rattle.promises.specs.Regular.{Regular, regular-same}
+use Rattle.copy.specs.Taking.{room-same}
 use Rattle.settle.specs.Rewrite.{forward-same, link-same, begins-now, begins-then}
 use Rattle.settle.specs.RewriteSlots.{Variables}
 use Rattle.settle.specs.Append.{crossAt}
 use Rattle.release.specs.Release.{Blank, Alike}
 use Rattle.ended.specs.Evacuated.{Evacuated, Vacated}
 use Rattle.ending.specs.MarkedWords.{table-same, var-same}
-use Rattle.ending.specs.MarkedReady.{regular-like}
 use Rattle.ending.specs.Placing.{HasMoved, placed, forwarded-placed, page-of, outside-placed, outside-home, survivor-home, placed-page, placed-used, placed-out, placed-apart, placed-only}
 use Rattle.ending.specs.Rewriting.{LiveSlot, copies-live, held-live, HasRewritten, slot-after, live-after, rest-after, head-after, work-after}
 use Rattle.ending.specs.Crossing.{Told, live-slot, slot-live, live-page}
@@ -53,7 +53,7 @@ module _ {s : Sizes} {w w₁ : Words} {e : Part} {W T : List ℕ} (h : HasMoved 
   -- their rewriting leaves the pages and the counts as the copy left them, and what comes before them as it was
   module _ {X T₂ : List ℕ} (Y : Variables s (varCount s) X T T₂) where
     tables-room : Room s (length T)
-    tables-room = h .ready .regular .room
+    tables-room = h .ready .room
 
     pub owner₂ : (page : ℕ) → page < s .pages → ownerOf s T₂ page ≡ ownerOf s T page
     owner₂ page l = Y .same (ownerAt s page) (λ z. omega (arith, tables-room))
@@ -61,8 +61,11 @@ module _ {s : Sizes} {w w₁ : Words} {e : Part} {W T : List ℕ} (h : HasMoved 
     used₂ : (page : ℕ) → page < s .pages → usedOf s T₂ page ≡ usedOf s T page
     used₂ page l = Y .same (usedAt s page) (λ z. omega (arith, tables-room))
 
+    pub room₂ : Room s (length T₂)
+    room₂ = room-same (Y .size) tables-room
+
     pub regular₂ : Regular s T₂
-    regular₂ = regular-like (Y .size) owner₂ used₂ (λ x l. Y .same x (λ z. omega (arith, tables-room))) (h .ready .regular)
+    regular₂ = regular-same (λ page l. record { owner = owner₂ page l; used = used₂ page l }) (λ g pos low. Y .same (countAt s g) (λ z. omega (arith, tables-room))) (h .ready .regular)
 
     pub word₂ : (x : ℕ) → (varsFrom s ≤ x → tablesWords s ≤ x) → getD T₂ x 0 ≡ getD (w .tables) x 0
     word₂ x n = far (decLt x (varsFrom s))
@@ -178,7 +181,7 @@ module _ {s : Sizes} {w w₁ : Words} {e : Part} {W T : List ℕ} {S : ℕ → T
 
   page-open : (page : ℕ) → page < s .pages → 1 < ownerOf s T′ page → Open s T′ (ownerOf s T′ page)
   page-open page l p =
-      let o = from-cell (cellOn page 0) (begins-there s W′ T′ page 0 l (omega arith) (Z .regular .taken page l (λ z. omega arith))) in
+      let o = from-cell (cellOn page 0) (begins-there s W′ T′ page 0 l (omega arith) (Z .regular .pages page l .taken (omega arith))) in
       go (o .0) (ap (ownerOf s T′) (sym (page-on page 0 (omega arith))) ∙ ap (λ (d : ℕ). ownerOf s T′ (pageOf d)) (sym (o .2))) (lives-how (o .1))
     where
       go : (x : ℕ) → ownerOf s T′ page ≡ ownerOf s T′ (pageOf (placed W x)) → Outside s w e x ⊎ Survivor s w e x → Open s T′ (ownerOf s T′ page)
@@ -191,7 +194,7 @@ module _ {s : Sizes} {w w₁ : Words} {e : Part} {W T : List ℕ} {S : ℕ → T
       go : Dec (e .ends page) → markOf s T′ page ≡ 0
       go (yes z) = Z .blank page l z .marks
       go (no n) =
-          Z .alike page l n .marks ∙ Y .same (markAt s page) (λ z. omega (arith, h .ready .regular .room))
+          Z .alike page l n .marks ∙ Y .same (markAt s page) (λ z. omega (arith, h .ready .room))
           ∙ h .clean page l
           (page-unmarked s (w₁ .tables) page (h .marks .small page l)
           (λ x z o. n (subst (e .ends) z (h .marks .only x (subst (λ (q : ℕ). q < s .pages) (sym z) l) o .1))))
@@ -207,7 +210,7 @@ module _ {s : Sizes} {w w₁ : Words} {e : Part} {W T : List ℕ} {S : ℕ → T
   -- a word of the tables before the depths or after the tables
   same-word : (x : ℕ) → (depthAt 0 ≤ x → tablesWords s ≤ x) → getD T′ x 0 ≡ getD (w .tables) x 0
   same-word x n =
-      Z .rest x (λ z. let m : tablesWords s ≤ x = n z in omega (arith, h .ready .regular .room, count-room s)) (λ z. n (omega (arith, h .ready .regular .room)))
+      Z .rest x (λ z. let m : tablesWords s ≤ x = n z in omega (arith, h .ready .room, count-room s)) (λ z. n (omega (arith, h .ready .room)))
       ∙ word₂ h Y x (λ z. n (omega arith))
 
   pub vacated : Vacated s e w′
@@ -226,7 +229,7 @@ module _ {s : Sizes} {w w₁ : Words} {e : Part} {W T : List ℕ} {S : ℕ → T
         sizes = λ j l. same-word j (λ z. omega arith);
         entries = U .edited .size;
         variables = λ i l.
-            let room = h .ready .regular .room in
+            let room = h .ready .room in
             Z .rest (varAt s i) (λ z. omega arith) (λ z. omega (arith, room))
             ∙ Y .moved i l ∙ forward-same W W′ (varOf s T i) (link-same (k .cells) (cellNamed (varOf s T i))) ∙ forwarded-placed W (varOf s T i)
             ∙ ap (renamed (placed W)) (variable-same h i l);
@@ -244,17 +247,8 @@ module _ {s : Sizes} {w w₁ : Words} {e : Part} {W T : List ℕ} {S : ℕ → T
         went = survivor-end;
         apart = placed-apart h;
         only = from-cell;
-        pages = λ page l.
-            record {
-              free = Z .regular .free page l;
-              taken = λ p. Z .regular .taken page l (λ z. omega arith);
-              cells = Z .regular .full page l;
-              region = page-open page l;
-            };
-        partial = λ g pos x y l p u v.
-            let z = Z .regular .one g x y pos (record { low = omega arith; partial = u }) (record { low = p; partial = v }) in
-            omega arith;
-        counts = λ g pos p. Z .regular .count g pos p;
+        regular = Z .regular;
+        owners = page-open;
         marks = marks-end;
         remember = remember;
       }

@@ -9,28 +9,28 @@ use lib.ListN.{length}
 use Rattle.lists.specs.Counting.{bit, sum, sum-same}
 use Rattle.rules.specs.declared.Sizes.{Sizes}
 use Rattle.rules.specs.Regions.{regionAt}
-use Rattle.rules.specs.Graph.{target, objectsIn}
+use Rattle.rules.specs.Graph.{objectsIn}
 use Rattle.laws.specs.RegionLaws.{numbers-rise}
 use Rattle.laws.specs.RulesLaws.{region-pos}
 use Rattle.laws.specs.Counts.{landed}
 use Rattle.layout.specs.Places.{Room}
 use Rattle.layout.specs.Cells.{workOf}
 use Rattle.layout.specs.Marks.{marked}
-use Rattle.layout.specs.Words.{Words, ownerIn, depthIn, graphOf, cellCount}
+use Rattle.layout.specs.Words.{Words, depthIn, graphOf, cellCount}
 use Rattle.promises.specs.Whole.{WholeFor}
-use Rattle.promises.specs.OwnedPages.{pagesOwned, objects-on-pages}
+use Rattle.promises.specs.OwnedPages.{pagesOwned, ownedOne, ownedIn, owned-same, objects-on-pages}
+use Rattle.promises.specs.Regular.{SamePage, objects-same}
 use Rattle.mark.specs.Survivors.{Marked}
 use Rattle.mark.specs.Reached.{cell-home}
 use Rattle.census.specs.Counted.{overMarked, over-cells, goesTo, goes-landed}
 use Rattle.copy.specs.Marks.{hit, hits}
-use Rattle.pages.specs.Owned.{ownedOne, ownedIn}
 use Rattle.copy.specs.Copying.{need, Plan, region-bounds}
 use Rattle.promises.specs.Ends.{partOf, Survivor}
 use Rattle.ended.specs.EndQuestion.{pagesNeeded}
 use Rattle.ended.specs.EndPages.{morePages, new-pages-ended}
 use Rattle.ended.specs.WordsPlaced.{target-level}
-use Rattle.ending.specs.MarkedWords.{marked-survivor, owner-same}
-use Rattle.ending.specs.MarkedReady.{objects-same, ready}
+use Rattle.ending.specs.MarkedWords.{marked-survivor}
+use Rattle.ending.specs.MarkedReady.{pages-same, ready}
 
 -- the marked cells that go to region g, as the census counts them and as the copy does
 pub over-hits : (p : Sizes) (W T : List ℕ) (g : ℕ) → overMarked p T (goesTo W g) (p .pages) ≡ hits p W T g
@@ -54,11 +54,11 @@ module _ (s : Sizes) (w : Words) (k : WholeFor s w) (space : Room s (length (w .
       let x = target-level s w k t j th deep c (cell-home s w k c r (v .used) (v .within)) (v .goes) in
       (x .0, omega (arith, x .1), M .goes c (v .used) (v .within) ∙ x .2)
 
+  same : (page : ℕ) → page < s .pages → SamePage s (w .tables) (w₁ .tables) page
+  same = pages-same s w k space (partOf s w r) w₁ M
+
   pub free-same : ownedIn s (w₁ .tables) 0 (s .pages) ≡ pagesOwned s w 0
-  unfolding ownedOne
-  free-same =
-      sum-same (ownedOne s (w₁ .tables) 0) (λ page. bit (eqb (ownerIn s w page) 0)) (s .pages)
-      (λ page l. ap (λ (x : ℕ). bit (eqb x 0)) (owner-same M space page l))
+  free-same = sum-same (ownedOne s (w₁ .tables) 0) (ownedOne s (w .tables) 0) (s .pages) (λ page l. owned-same (same page l) 0)
 
   needs : sum (λ l. need s (regionAt s t l) (w₁ .cells) (w₁ .tables)) (suc j) ≡ pagesNeeded s w t j
   needs =
@@ -66,7 +66,7 @@ module _ (s : Sizes) (w : Words) (k : WholeFor s w) (space : Room s (length (w .
       (λ l. morePages (objectsIn (graphOf s w) (regionAt s t l)) (landed s (graphOf s w) r (regionAt s t l))) (suc j)
       (λ l h.
       ap₂ (λ (a b : ℕ). morePages a b)
-      (objects-same s w k space (partOf s w r) w₁ M (regionAt s t l) ∙ sym (objects-on-pages s w k (regionAt s t l) (region-pos s t l)))
+      (objects-same same (regionAt s t l) ∙ sym (objects-on-pages s w k (regionAt s t l) (region-pos s t l)))
       (sym (over-hits s (w₁ .cells) (w₁ .tables) (regionAt s t l)) ∙ goes-landed s w k r w₁ M (region-pos s t (suc j)) (regionAt s t l) (region-pos s t l)))
       ∙ sym (new-pages-ended s w k t j th deep)
 

@@ -96,7 +96,7 @@ module _ {s : Sizes} {w w₁ : Words} {e : Part} {W T : List ℕ} (h : HasMoved 
   pub page-kept : (page : ℕ) → page < s .pages → e .ends page → ownerOf s T page ≡ ownerIn s w page
   page-kept page l z =
       subst (λ (q : ℕ). ownerOf s T q ≡ ownerIn s w q) (page-on page 0 (omega arith))
-      (old-owner (cellOn page 0) (begins-there s (w .cells) (w .tables) page 0 l (omega arith) (h .whole .pages page l .taken (h .sends .owned page l z))))
+      (old-owner (cellOn page 0) (begins-there s (w .cells) (w .tables) page 0 l (omega arith) (h .whole .pages page l .filled .taken (h .sends .owned page l z))))
 
   -- a reference of one is one of the most fields
   pub few : (c f : ℕ) → BeginsIn s w c → f < refCount w c → f < mostFields

@@ -54,7 +54,7 @@ module _ {s : Sizes} {w w₁ : Words} {r : ℕ} {W T : List ℕ} (pos : 0 < r) (
       go : Dec (ownerIn s w page ≡ r) → ownerIn s w page ≡ r
       go (yes y) = y
       go (no n) =
-          let u = begins-there s W T page 0 l (omega arith) (h .ready .regular .taken page l (λ y. omega arith)) in
+          let u = begins-there s W T page 0 l (omega arith) (h .ready .regular .pages page l .taken (omega arith)) in
           let o = placed-only h (cellOn page 0) u (λ y. n (ap (ownerIn s w) (sym here) ∙ y)) in
           absurd (home-out (o .0) (o .1) (ap (λ (d : ℕ). ownerOf s T (pageOf d)) (o .2) ∙ ap (ownerOf s T) here ∙ z))
 

@@ -121,7 +121,7 @@ module _ {s : Sizes} {w w₁ : Words} {e : Part} {W T : List ℕ} (h : HasMoved 
       record {
         few = h .room .few;
         cells-long = omega (arith, h .ready .cells-long, long);
-        tables-long = h .ready .regular .room;
+        tables-long = h .ready .room;
         bits = λ d q l z. let v = marked-survivor (h .marks) d l (sym (h .forwards .bits d l) ∙ z) in
             record { used = begins-same s W T X T d refl (λ j b z. heads j) (old-used h d (v .used)); moved = λ y. omega (arith, links d, survivor-forward h d v) };
         only = λ d q u. let v = survivor d u in h .forwards .bits d (page-of h d (v .used)) ∙ on h d v;

@@ -23,7 +23,6 @@ use Rattle.promises.specs.Reading.{remember-room, used-home}
 use Rattle.promises.specs.Ends.{partOf, Survivor}
 use Rattle.mark.specs.Marks.{page-unmarked}
 use Rattle.mark.specs.Survivors.{Marked}
-use Rattle.copy.specs.Taking.{Regular}
 use Rattle.copy.specs.Passing.{moves-ready}
 use Rattle.copy.specs.Copying.{Plan, Copy, copy-marks, region-bounds}
 use Rattle.copy.specs.Forward.{copy-forwards}
@@ -44,7 +43,7 @@ use Rattle.ending.specs.Crossing.{entry-says, Told}
 use Rattle.ending.specs.Space.{space-enough}
 use Rattle.ending.specs.Remembering.{stays-live, told}
 use Rattle.ending.specs.Region.{Held, of-region, holding, page-was, renews, live-crosses, crosses-live}
-use Rattle.ending.specs.Finish.{owner₂, regular₂, word₂, GaveBack}
+use Rattle.ending.specs.Finish.{owner₂, room₂, regular₂, word₂, GaveBack}
 use Rattle.ending.specs.PagesEnough as pe
 
 -- region r, that of thread t at level suc k, ends: w is whole, and its survivors are marked in w₁
@@ -203,11 +202,11 @@ module _ {s : Sizes} {t k r : ℕ} {w w₁ : Words} (b : Begun s t k r w w₁) w
       -- ---- the release
 
       pub release-ask : Room s (length T₂) × (depthOf T₂ t ≡ suc k)
-      release-ask = (regular₂ moved Y .room, word₂ moved Y (depthAt t) (λ z. omega (arith, b .thread)) ∙ b .deep)
+      release-ask = (room₂ moved Y, word₂ moved Y (depthAt t) (λ z. omega (arith, b .thread)) ∙ b .deep)
 
       module _ {T′ : List ℕ} (Z : Ended s r t T₂ T′) where
-        a : Regular s T₂
-        a = regular₂ moved Y
+        a : Room s (length T₂)
+        a = room₂ moved Y
 
         depth-now : depthOf T′ t ≡ k
         depth-now = ended-depth a (bounds .0) (bounds .1) (b .thread) Z ∙ ap (λ (x : ℕ). x - 1) (release-ask .1) ∙ omega arith
@@ -215,18 +214,15 @@ module _ {s : Sizes} {t k r : ℕ} {w w₁ : Words} (b : Begun s t k r w w₁) w
         rest : (x : ℕ) → x ≢ depthAt t → (ownersFrom s ≤ x → tablesWords s ≤ x) → getD T′ x 0 ≡ getD T₂ x 0
         rest x n m = ended-rest a (bounds .0) (bounds .1) (b .thread) Z x n count (go (decLt x (ownersFrom s)))
           where
-            room : Room s (length T₂)
-            room = a .room
-
             count : x ≢ countAt s r
-            count z = let y : tablesWords s ≤ x = m (omega (arith, room)) in omega (arith, count-room s, bounds)
+            count z = let y : tablesWords s ≤ x = m (omega (arith, a)) in omega (arith, count-room s, bounds)
 
             go : Dec (x < ownersFrom s) → (x < ownersFrom s) ⊎ (countsFrom s ≤ x)
             go (yes l) = inl l
             go (no l) = let y : tablesWords s ≤ x = m (omega arith) in inr (omega (arith, count-room s))
 
         depth-kept : (u : ℕ) → u < s .threads → u ≢ t → depthOf T′ u ≡ depthIn w u
-        depth-kept u l n = rest (depthAt u) (λ z. n (omega arith)) (λ z. omega (arith, a .room)) ∙ word₂ moved Y (depthAt u) (λ z. omega arith)
+        depth-kept u l n = rest (depthAt u) (λ z. n (omega arith)) (λ z. omega (arith, a)) ∙ word₂ moved Y (depthAt u) (λ z. omega arith)
 
         pub lowered : {M′ : List ℕ} → Lowered s w t k (words W₃ M′ T′)
         lowered = record { depth = depth-now; depths = depth-kept }
@@ -263,7 +259,7 @@ module _ {s : Sizes} {t k r : ℕ} {w w₁ : Words} (b : Begun s t k r w w₁) w
         gave-back =
             record {
               size = ended-size a (bounds .0) (bounds .1) (b .thread) Z;
-              regular = ended-regular a (bounds .0) (bounds .1) (b .thread) Z;
+              regular = ended-regular a (bounds .0) (bounds .1) (b .thread) Z (regular₂ moved Y);
               blank = λ page l z. ended-blank a (bounds .0) (bounds .1) (b .thread) Z page l (kept₂ page l z);
               alike = λ page l n. ended-alike a (bounds .0) (bounds .1) (b .thread) Z page l (λ z. n (was₂ page l z));
               rest = λ x n m. rest x (λ z. let y : varsFrom s ≤ x = n (omega arith) in omega (arith, b .thread)) m;

@@ -4,11 +4,11 @@ use mathlib.Core.List.{List}
 use mathlib.Core.Bool.{Bool, true, false}
 use Prim.Native.Nat.{ℕ, suc, _-_, _^_, _≤_, _<_}
 use native.Mathlib.Omega.{arith}
-use lib.Dec.{eqb, leb}
+use lib.Dec.{leb}
 use lib.ListN.{length}
 use borrow.Author.Tests.{leb-true}
 use Rattle.lists.specs.Bits.{bitAt, bit-zero}
-use Rattle.lists.specs.Counting.{bit, sum-same, sum-none, sum-high}
+use Rattle.lists.specs.Counting.{sum-same, sum-none, sum-high}
 use Rattle.lists.specs.Part.{Off, Lists}
 use Rattle.rules.specs.declared.Sizes.{Sizes}
 use Rattle.rules.specs.Terms.{ask, refused}
@@ -22,11 +22,11 @@ use Rattle.layout.specs.Marks.{marked}
 use Rattle.layout.specs.Words.{Words, words, BeginsIn, heapOf}
 use Rattle.promises.specs.Whole.{WholeFor}
 use Rattle.promises.specs.Promises.{DidHere}
-use Rattle.promises.specs.OwnedPages.{pagesOwned, owner-low, region-pages, counted-objects}
+use Rattle.promises.specs.OwnedPages.{ownedIn, pagesOwned, owned-same, owner-low, region-pages, counted-objects}
 use Rattle.promises.specs.Ends.{partOf}
 use Rattle.promises.specs.Reading.{cells-room}
-use Rattle.pages.specs.Owned.{ownedOne, ownedIn, Paged}
-use Rattle.mark.specs.Marks.{Kept, Shaped, kept-shaped, page-unmarked}
+use Rattle.pages.specs.Owned.{Paged}
+use Rattle.mark.specs.Marks.{Kept, Shaped, kept-shaped}
 use Rattle.mark.specs.Holders.{Holding, holding-kept}
 use Rattle.mark.specs.Survivors.{Marked, marked-kept, space-of, shaped-at, holding-at}
 use Rattle.mark.specs.Unmark.{Unmarked, cells-back, tables-back}
@@ -38,7 +38,9 @@ use Rattle.copy.specs.Copying.{region-bounds}
 use Rattle.ended.specs.AfterEnd.{endOf}
 use Rattle.ended.specs.EndQuestion.{pagesNeeded, crossingAfter, end-question, refused-shut, ended-refused}
 use Rattle.ending.specs.MarkedWords.{owner-same, count-same, now-used}
-use Rattle.ending.specs.Ending.{Ending, Accepted, room-of, deep, depth-now, depth-high}
+use Rattle.ending.specs.MarkedReady.{pages-same}
+use Rattle.ending.specs.Stages as st
+use Rattle.ending.specs.Ending.{Ending, Accepted, room-of, deep, depth-now, depth-high, begun}
 use Rattle.ending.specs.CensusCounts.{needsBelow, roomAsked, asked-none, needs-none, needs-are, free-are, crossing-are, targets-low}
 
 -- both were answered with yes
@@ -100,11 +102,10 @@ module _ {p : Sizes} {t : ℕ} {w w₁ : Words} (m : Ending p t w w₁) where
 
   -- the pages of the regions, as the counts say
   pub paged-now : Paged p (w₁ .tables)
-  unfolding ownedOne
   paged-now =
       record {
         pages = λ g pos l.
-            sum-same _ _ (p .pages) (λ page h. ap (λ (x : ℕ). bit (eqb x g)) (owner-same marks (room-of m) page h)) ∙ region-pages s w (m .whole) g pos
+            sum-same _ _ (p .pages) (λ page h. owned-same (pages-same s w (m .whole) (room-of m) (partOf s w (regionAt s t (suc k))) w₁ marks page h) g) ∙ region-pages s w (m .whole) g pos
             ∙ ap pagesOf (sym (counted-objects s w (m .whole) g pos l) ∙ sym (count-same marks (room-of m) g));
         owners = λ page l. subst (λ (x : ℕ). x ≤ regions s) (sym (owner-same marks (room-of m) page l)) (owner-low s w (m .whole) page l);
       }
@@ -112,14 +113,7 @@ module _ {p : Sizes} {t : ℕ} {w w₁ : Words} (m : Ending p t w w₁) where
   -- a page that is not listed has no mark
   pub unlisted : (n : ℕ) (l : List ℕ) → Lists (λ page. ownerOf p (w₁ .tables) page ≡ region) (p .pages) n l
       → (page : ℕ) → page < p .pages → Off l n page → markOf p (w₁ .tables) page ≡ 0
-  unlisted n l h page low off =
-      page-unmarked p (w₁ .tables) page (small-now page low)
-      (λ c e on.
-      h .all page low
-      (subst (λ (x : ℕ). ownerOf p (w₁ .tables) x ≡ region) e (owned c (subst (λ (x : ℕ). x < p .pages) (sym e) low) on)) off)
-    where
-      owned : (c : ℕ) → pageOf c < p .pages → marked p (w₁ .tables) c ≡ 1 → ownerOf p (w₁ .tables) (pageOf c) ≡ region
-      owned c l on = owner-same marks (room-of m) (pageOf c) l ∙ marks .only c l on .1 ∙ ap (regionAt s t) (sym level-now)
+  unlisted n l = st.unlisted (begun m refl refl)
 
   -- r is the region as the code has it
   module _ {r : ℕ} (er : r ≡ region) where

@@ -81,7 +81,7 @@ rewrite-variables-requires c κs =
     let b = started (c .before .before .before .before .before .before .before .before .before .before .before .before .before .before .before .before .before .before .before .before .before .before .before .before .before) in
     let p = planned (c .before .before .before .before .before .before .before .before .before .before .before .before .before .before .before .before .before .before .before .before .before .before .before .before .before) in
     let k = copied (c .before .before .before .before .before .before .before .before .before .before .before .before .before .before .before .before .before .before .before .before .before .before .before .before .before) (c .before .before .before .before .before .before .before .before .before .before .before .before .before .before .before .before .before .before .before .before .before .copy-survivors .ensures) in
-    (variables-ask (st.moved b p k), (omega (arith, st.slots-ask b p k .cells-long, c .before .before .before .before .before .before .before .before .before .before .before .before .rewrite-slots .ensures .size, c .before .before .before .before .before .before .settle .ensures .0 .size), st.moved b p k .ready .regular .room))
+    (variables-ask (st.moved b p k), (omega (arith, st.slots-ask b p k .cells-long, c .before .before .before .before .before .before .before .before .before .before .before .before .rewrite-slots .ensures .size, c .before .before .before .before .before .before .settle .ensures .0 .size), st.moved b p k .ready .room))
 
 release-requires : tie.Need-release-requires
 release-requires c κs =

@@ -36,7 +36,7 @@ release-region-requires c κs =
     let pre = c .before .before .before .before .before .before .before .before .before .before .before .before .before .before .before .pre in
     let e = pre .0 .2 in
     let b = begun e (c .before .before .before .before .before .before .before .region-at .ensures) (level (c .before .before .before .before .before .before .before)) in
-    (st.plan b (pre .0 .3 .pages) .ready .regular, (st.bounds b, ((e .thread, omega (arith, depth-now e, e .epoch)), pre .1 .1)))
+    (st.plan b (pre .0 .3 .pages) .ready .room, (st.plan b (pre .0 .3 .pages) .ready .regular, (st.bounds b, ((e .thread, omega (arith, depth-now e, e .epoch)), pre .1 .1))))
 
 same-length : tie.Need-same-length
 same-length c = c .before .before .before .before .before .before .before .before .before .keep-entries .kept .1 .1 .0
