@@ -19,14 +19,14 @@ use Rattle.laws.specs.RulesLaws.{region-pos}
 use Rattle.laws.specs.RegionLaws.{thread-at, level-at, region-high}
 use Rattle.laws.specs.Counts.{new-pages}
 use Rattle.laws.specs.AfterLaws.{graph-new}
-use Rattle.layout.specs.Places.{depthOf, countOf}
+use Rattle.layout.specs.Places.{depthOf}
 use Rattle.layout.specs.Cells.{placeOf}
 use Rattle.layout.specs.Words.{Words, depthIn, ownerIn}
 use Rattle.promises.specs.Whole.{WholeFor, Open, Partial, objectsOf}
 use Rattle.promises.specs.Regular.{whole-regular}
 use Rattle.promises.specs.StandsFor.{StandsFor}
 use Rattle.promises.specs.Agreed.{objects-agree}
-use Rattle.promises.specs.OwnedPages.{ownedOne, pagesOwned, owned-yes, owned-no, partly-filled, some-partly, counted-objects, heap-free}
+use Rattle.promises.specs.OwnedPages.{ownedOne, pagesOwned, owned-yes, owned-no, partly-filled, some-partly, objects-on-pages, heap-free}
 
 -- ---- the innermost region of a thread
 
@@ -75,31 +75,28 @@ module _ (s : Sizes) (w : Words) (h : Regioned) (to : ℕ → ℕ) (st : StandsF
   made = record { heap = record { depths = ds; vars = vs; objects = h .heap .objects ++ o ∷ [] }; homes = h .homes ++ g ∷ [] }
 
   abbrev held : ℕ
-  held = countOf s (w .tables) g
-
-  few : held ≡ objectsOf s (w .tables) g
-  few = st .whole .counts g pos low
+  held = objectsOf s (w .tables) g
 
   needs : newPages s (graph h) (graph made) ≡ pagesOf (held + 1) - pagesOf held
   needs =
       ap (newPages s (graph h)) (graph-new h (st .sound .aligned) ds vs o g) ∙ new-pages (graph h) g (o .refs) vs s pos low
-      ∙ ap (λ (x : ℕ). pagesOf (x + 1) - pagesOf x) (objects-agree s w h to st g pos ∙ sym (counted-objects s w (st .whole) g pos low))
+      ∙ ap (λ (x : ℕ). pagesOf (x + 1) - pagesOf x) (objects-agree s w h to st g pos ∙ objects-on-pages s w (st .whole) g pos)
 
   pub new-fits : PartlyFilled s w g ⊎ FreePage s w → leb (newPages s (graph h) (graph made)) (freePages s (graph h)) ≡ true
   new-fits (inl p) =
       le-leb (newPages s (graph h) (graph made)) (freePages s (graph h))
-      (let n = partly-filled (whole-regular (st .whole)) g pos (p .0) (p .1) (p .2) in omega (arith, needs, few))
+      (let n = partly-filled (whole-regular (st .whole)) g pos (p .0) (p .1) (p .2) in omega (arith, needs))
   new-fits (inr p) =
       le-leb (newPages s (graph h) (graph made)) (freePages s (graph h))
       (omega (arith, needs, heap-free s w h to st, sum-part (ownedOne s (w .tables) 0) (p .0) (s .pages) (p .1), owned-yes s (w .tables) 0 (p .0) (p .2)))
 
   pub new-lacks : (PartlyFilled s w g → ⊥) → (FreePage s w → ⊥) → leb (newPages s (graph h) (graph made)) (freePages s (graph h)) ≡ false
-  new-lacks a b = lt-leb (newPages s (graph h) (graph made)) (freePages s (graph h)) (omega (arith, needs, heap-free s w h to st, few, full, none))
+  new-lacks a b = lt-leb (newPages s (graph h) (graph made)) (freePages s (graph h)) (omega (arith, needs, heap-free s w h to st, full, none))
     where
-      full : placeOf (objectsOf s (w .tables) g) ≡ 0
-      full = go (ℕ-discrete (placeOf (objectsOf s (w .tables) g)) 0)
+      full : placeOf held ≡ 0
+      full = go (ℕ-discrete (placeOf held) 0)
         where
-          go : Dec (placeOf (objectsOf s (w .tables) g) ≡ 0) → placeOf (objectsOf s (w .tables) g) ≡ 0
+          go : Dec (placeOf held ≡ 0) → placeOf held ≡ 0
           go (yes e) = e
           go (no n) = absurd (a (some-partly (whole-regular (st .whole)) g pos n))
 

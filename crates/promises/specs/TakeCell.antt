@@ -11,7 +11,7 @@ use Rattle.lists.specs.Stores.{put, past}
 use Rattle.rules.specs.declared.Sizes.{Sizes}
 use Rattle.rules.specs.Regions.{regions}
 use Rattle.layout.specs.Places.{ownerAt, ownerOf, usedAt, usedOf, countAt, countOf, count-room, used-is, mark-is, count-is}
-use Rattle.layout.specs.Cells.{pageOf, placeOf, cellOn}
+use Rattle.layout.specs.Cells.{pageOf, placeOf, cellOn, pageCells}
 use Rattle.layout.specs.Words.{Words, InUse}
 use Rattle.promises.specs.Whole.{Open, PageFilled, Partial, objectsOn, objectsOf, PagesWhole, WholeFor}
 use Rattle.promises.specs.Regular.{Regular, whole-regular, one, objects-yes, objects-no, SamePage, filled-same, partial-same, on-same}
@@ -49,7 +49,7 @@ module _ (s : Sizes) (t : List ℕ) (g page : ℕ) (low : page < s .pages) (room
   abbrev p : Sizes
   p = s
 
-  pub took-own : ownerOf p t page ≡ g → usedOf p t page < 16 → Took p t g (cellOn page (usedOf p t page)) (tookOwn p t g page)
+  pub took-own : ownerOf p t page ≡ g → usedOf p t page < pageCells → Took p t g (cellOn page (usedOf p t page)) (tookOwn p t g page)
   took-own o few =
       let u = usedOf p t page in
       let e : pageOf (cellOn page u) ≡ page = omega arith in
