@@ -1,7 +1,7 @@
 // How many slots would cross after the end of r, counted on the old cells: remembered slots outside r, and the survivors' own. An object
 // of r lies then where its word 1 says.
 ghost use mathlib.Core.Path.{_≡_};
-ghost use Prim.Native.Nat.{_*_, _<_, _≤_};
+ghost use Prim.Native.Nat.{_<_, _≤_};
 ghost use lib.ListN.{length};
 ghost use Rattle.layout.specs.Places.{Room, slotIn, usedIn, cellsWords};
 ghost use Rattle.layout.specs.Cells.{pageOf, mostFields};

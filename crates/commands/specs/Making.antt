@@ -1,5 +1,5 @@
 -- Code 3 does what the rules say: 13 exactly if the region has no partly filled page and no page is free, else a new object.
-use Prim.Native.Nat.{ℕ, _+_, _*_, _^_, _≤_, _<_}
+use Prim.Native.Nat.{ℕ, _+_, _^_, _≤_, _<_}
 use native.Mathlib.Omega.{arith}
 use mathlib.Core.Path.{_≡_, refl, sym, ap, ap₂, subst, _∙_}
 use mathlib.Core.Logic.{_⊎_, inl, inr}
@@ -23,7 +23,7 @@ use Rattle.layout.specs.Words.{Words, words, heapOf}
 use Rattle.promises.specs.Whole.{WholeFor, Open}
 use Rattle.promises.specs.Regular.{whole-regular}
 use Rattle.promises.specs.OwnedPages.{count-fits}
-use Rattle.promises.specs.Reading.{range, tables-room, cell-in}
+use Rattle.promises.specs.Reading.{cell-in}
 use Rattle.promises.specs.Agreed.{heap-stands}
 use Rattle.promises.specs.Here.{here-depth}
 use Rattle.promises.specs.Questions.{did-refused, did-moved}
@@ -62,7 +62,7 @@ module _ (p : Sizes) (c m t : List ℕ) (k : WholeFor p (words c m t)) (u : ℕ)
   region-open = subst (λ (x : ℕ). 1 < x → Open P t x) (sym eg) (innermost-open s w k u l)
 
   count-inside : countAt P g < length t
-  count-inside = omega (arith, region-real, count-room s, tables-room s w k)
+  count-inside = omega (arith, region-real, count-room s, k .sized .tables)
 
   -- where its objects fill pages, none is partly filled
   pub region-filled : Filled p t g
@@ -74,7 +74,7 @@ module _ (p : Sizes) (c m t : List ℕ) (k : WholeFor p (words c m t)) (u : ℕ)
 
     -- what taking a cell of the page that was found asks
     pub can-take : page < p .pages → (usedOf p t page < pageCells) × (countOf p t g + 1 < 2 ^ 32)
-    can-take h = (found-room (whole-regular k) h found, count-fits (whole-regular k) g (region-real .0) (region-real .1) (range s w k .pages-high))
+    can-take h = (found-room (whole-regular k) h found, count-fits (whole-regular k) g (region-real .0) (region-real .1) (k .sized .range .pages-high))
 
     -- no page was found: the region has none that is partly filled, and none is free
     none-found : p .pages ≤ page → (PartlyFilled s w g → ⊥) × (FreePage s w → ⊥)

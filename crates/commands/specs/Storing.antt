@@ -24,7 +24,7 @@ use Rattle.layout.specs.Objects.{begins-page}
 use Rattle.layout.specs.Words.{Words, words, heapOf, BeginsIn, refCount, Names}
 use Rattle.remember.specs.Crossing.{other, regionOf, crossesFrom}
 use Rattle.promises.specs.Whole.{WholeFor}
-use Rattle.promises.specs.Reading.{used-alive, remember-room, whole-room}
+use Rattle.promises.specs.Reading.{used-alive, whole-room}
 use Rattle.promises.specs.Agreed.{heap-stands, back}
 use Rattle.promises.specs.Here.{here-var}
 use Rattle.promises.specs.Questions.{did-asked, did-lacked, did-done, room-crossing}
@@ -143,7 +143,7 @@ module _ (p : Sizes) (c m t : List ℕ) (k : WholeFor p (words c m t)) (u a : �
           room = whole-room s w k fits;
           field = is-field p c m t k u a l n x e Reference f q g z;
           page = begins-page s c t y there;
-          long = remember-room s w k;
+          long = k .sized .remember;
           used = k .remember .entries .room;
           named = slot-named;
           before = subst (λ (j : ℕ). Names p (getD c j 0)) place (λ z. begins-page _ _ _ _ (k .objects y there .references f inside (omega arith)));

@@ -18,7 +18,7 @@ use Rattle.layout.specs.Cells.{workOf, pageOf, placeOf, cellOn, firstOn, pageCe
 use Rattle.layout.specs.Marks.{marked}
 use Rattle.promises.specs.Whole.{objectsOf}
 use Rattle.promises.specs.OwnedPages.{ownedIn}
-use Rattle.copy.specs.Marks.{copied, mark?, all-clear, hits}
+use Rattle.copy.specs.Marks.{copied, mark?, hits}
 use Rattle.copy.specs.Taking.{Next}
 use Rattle.copy.specs.Cursor.{Points, Seeking}
 use Rattle.copy.specs.Moves.{Movable, Step, step-off, step-on, step-points}
@@ -309,12 +309,6 @@ copy-copied {p} {T = T} a b c l =
       copy-clean a b c l,
       none-high pageCells (markOf p T (pageOf c)) (pageCells + placeOf c) (a .small (pageOf c) l) (omega arith),
     )
-
--- a page without survivors has no mark, and gets none
-pub no-survivors : {p : Sizes} {n : ℕ} {gs : ℕ → ℕ} {W T : List ℕ} → Plan p n gs W T → (q : ℕ) → q < p .pages → ((c : ℕ) → pageOf c ≡ q → marked p T c ≡ 1 → ⊥) → markOf p T q ≡ 0
-no-survivors {p} {T = T} a q l off =
-    all-clear pageCells (markOf p T q) (a .small q l)
-    (λ i li. sym (marked-at p T q i li) ∙ ⊎-elim (λ z. z) (λ on. absurd (off (cellOn q i) (page-on q i li) on)) (mark? p T (cellOn q i)))
 
 pub copy-marks : {p : Sizes} {n l : ℕ} {gs : ℕ → ℕ} {W T W′ T′ : List ℕ} → Plan p n gs W T → Copy p n gs l W T W′ T′ → (q : ℕ) → q < p .pages → markOf p T q ≡ 0
     → markOf p T′ q ≡ 0

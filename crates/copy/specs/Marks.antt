@@ -3,12 +3,12 @@ use mathlib.Core.Path.{_≡_, ap, _∙_}
 use mathlib.Core.Logic.{_≢_, _⊎_, inl, inr}
 use mathlib.Core.Bool.{Bool, cond}
 use mathlib.Core.List.{List}
-use Prim.Native.Nat.{ℕ, _+_, _-_, _*_, _^_, _<_}
-use native.Mathlib.Decide.{ℕ-discrete, decLt}
+use Prim.Native.Nat.{ℕ, _+_, _-_, _*_, _^_}
+use native.Mathlib.Decide.{ℕ-discrete}
 use native.Mathlib.Omega.{arith}
 use borrow.Author.Tests.{eq-eqb, ne-eqb}
 use lib.Dec.{eqb}
-use Rattle.lists.specs.Bits.{bitAt, bit-lt, no-bits, none-high, set-same, set-other, clear-same, clear-other}
+use Rattle.lists.specs.Bits.{bitAt, bit-lt, set-same, set-other, clear-same, clear-other}
 use Rattle.lists.specs.Counting.{sum}
 use Rattle.rules.specs.declared.Sizes.{Sizes}
 use Rattle.layout.specs.Places.{markAt, markOf}
@@ -60,14 +60,6 @@ mark? p T c = go (ℕ-discrete (marked p T c) 0)
     go : Dec (marked p T c ≡ 0) → (marked p T c ≡ 0) ⊎ (marked p T c ≡ 1)
     go (yes e) = inl e
     go (no n) = inr (omega (arith, bit-lt (placeOf c) (markOf p T (pageOf c))))
-
--- a word below 2 ^ k with none of its bits set
-pub all-clear : (k w : ℕ) → w < 2 ^ k → ((i : ℕ) → i < k → bitAt w i ≡ 0) → w ≡ 0
-all-clear k w l h = no-bits w (λ i. go i (decLt i k))
-  where
-    go : (i : ℕ) → Dec (i < k) → bitAt w i ≡ 0
-    go i (yes m) = h i m
-    go i (no m) = none-high k w i l (omega arith)
 
 -- ---- 1 for a cell that has g in word 1, and the marked cells below n that have
 

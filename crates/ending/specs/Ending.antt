@@ -13,7 +13,6 @@ use Rattle.layout.specs.Words.{Words, words, depthIn}
 use Rattle.promises.specs.Whole.{WholeFor}
 use Rattle.promises.specs.OwnedPages.{pagesOwned}
 use Rattle.promises.specs.Promises.{DidHere}
-use Rattle.promises.specs.Reading.{range, tables-room}
 use Rattle.promises.specs.Ends.{partOf}
 use Rattle.mark.specs.Survivors.{Marked}
 use Rattle.copy.specs.Copying.{Plan, Copy}
@@ -53,7 +52,7 @@ pub record HasEnded (s : Sizes) (t : ℕ) (w w′ : Words) : Type 0 where
 
 module _ {s : Sizes} {t : ℕ} {w w₁ : Words} (e : Ending s t w w₁) where
   pub room-of : Room s (length (w .tables))
-  room-of = room s (length (w .tables)) (range s w (e .whole)) (tables-room s w (e .whole)) (e .fits)
+  room-of = room s (length (w .tables)) (e .whole .sized .range) (e .whole .sized .tables) (e .fits)
 
   pub deep : depthIn w t ≡ suc (depthIn w t - 1)
   deep = omega (arith, e .epoch)

@@ -16,7 +16,6 @@ use Rattle.layout.specs.Objects.{Slot, begins-page, begins-same, begins-back, b
 use Rattle.layout.specs.Words.{Words, words, Begins, Names, ownerIn, headIn}
 use Rattle.remember.specs.Crossing.{other, regionOf, crossTo, crossesFrom}
 use Rattle.remember.specs.Crosses.{slot-cross, cross-slot}
-use Rattle.remember.specs.Entries as table
 use Rattle.remember.specs.Renewed.{Renewed, renewed-exact}
 use Rattle.promises.specs.Slots.{region-of}
 use Rattle.promises.specs.Whole.{Open, RememberWhole}

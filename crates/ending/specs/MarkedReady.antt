@@ -10,7 +10,6 @@ use Rattle.layout.specs.Words.{Words}
 use Rattle.promises.specs.Whole.{WholeFor}
 use Rattle.promises.specs.Regular.{SamePage, whole-regular, regular-same}
 use Rattle.promises.specs.Ends.{Part}
-use Rattle.promises.specs.Reading.{cells-room}
 use Rattle.mark.specs.Survivors.{Marked}
 use Rattle.copy.specs.Taking.{room-same}
 use Rattle.copy.specs.Passing.{Ready}
@@ -25,7 +24,7 @@ module _ (s : Sizes) (w : Words) (k : WholeFor s w) (space : Room s (length (w .
       record {
         room = room-same (M .tables-length) space;
         regular = regular-same pages-same (λ g pos low. count-same M space g) (whole-regular k);
-        cells-long = omega (arith, cells-room s w k, M .cells-length);
+        cells-long = omega (arith, k .sized .cells, M .cells-length);
         used = λ c l on. now-used M space c (M .only c l on .0);
         waits = λ c l on. none-high pageCells (markOf s (w₁ .tables) (pageOf c)) (pageCells + placeOf c) (M .small (pageOf c) l) (omega arith);
       }

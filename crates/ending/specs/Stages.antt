@@ -19,7 +19,7 @@ use Rattle.layout.specs.Objects.{begins-page}
 use Rattle.layout.specs.Words.{Words, words, depthIn, ownerIn, graphOf}
 use Rattle.promises.specs.Whole.{WholeFor, Open}
 use Rattle.promises.specs.OwnedPages.{pagesOwned}
-use Rattle.promises.specs.Reading.{remember-room, used-home}
+use Rattle.promises.specs.Reading.{used-home}
 use Rattle.promises.specs.Ends.{partOf, Survivor}
 use Rattle.mark.specs.Marks.{page-unmarked}
 use Rattle.mark.specs.Survivors.{Marked}
@@ -122,7 +122,7 @@ module _ {s : Sizes} {t k r : ℕ} {w w₁ : Words} (b : Begun s t k r w w₁) w
         let e = b .whole .remember .entries in
         record {
           few = e .room;
-          long = omega (arith, remember-room s w (b .whole));
+          long = omega (arith, b .whole .sized .remember);
           pages = b .room .few;
           cells-long = moved .ready .cells-long;
           low = λ i l. e .named i l .slot;

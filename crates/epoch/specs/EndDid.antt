@@ -24,7 +24,6 @@ use Rattle.promises.specs.Whole.{WholeFor}
 use Rattle.promises.specs.Promises.{DidHere}
 use Rattle.promises.specs.OwnedPages.{ownedIn, pagesOwned, owned-same, owner-low, region-pages, counted-objects}
 use Rattle.promises.specs.Ends.{partOf}
-use Rattle.promises.specs.Reading.{cells-room}
 use Rattle.pages.specs.Owned.{Paged}
 use Rattle.mark.specs.Marks.{Kept, Shaped, kept-shaped}
 use Rattle.mark.specs.Holders.{Holding, holding-kept}
@@ -72,13 +71,10 @@ module _ {p : Sizes} {t : ℕ} {w w₁ : Words} (m : Ending p t w w₁) where
   -- ---- what the calls ask
 
   pub cells-now : cellsWords p ≤ length (w₁ .cells)
-  cells-now = omega (arith, cells-room s w (m .whole), marks .cells-length)
+  cells-now = omega (arith, m .whole .sized .cells, marks .cells-length)
 
   level-now : depthOf (w₁ .tables) t ≡ suc k
   level-now = depth-now m ∙ deep m
-
-  pub depth-open : 1 ≤ depthOf (w₁ .tables) t
-  depth-open = omega (arith, level-now)
 
   region-now : (1 ≤ region) × (region ≤ regions p)
   region-now = (region-pos s t (depthOf (w₁ .tables) t), region-bounds p t (depthOf (w₁ .tables) t) (m .thread) (depth-high m) .1)

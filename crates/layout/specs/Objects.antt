@@ -94,12 +94,6 @@ unfoldable pub Covers : ℕ → ℕ → ℕ → Type 0
 Covers cell head q = cellOf q ≡ cell
 
 module _ (s : Sizes) (c t : List ℕ) (k : ℕ) (b : Begins s c t k) where
-  pub head-inside : headAt k < cellsWords s
-  head-inside = omega (arith, begins-page s c t k b)
-
-  pub work-inside : workAt k < cellsWords s
-  work-inside = omega (arith, begins-page s c t k b)
-
   -- up to the end of its room
   pub fields-inside : (f : ℕ) → f ≤ roomFor (headOf c k) → fieldAt k f ≤ cellsWords s
   fields-inside f l = omega (arith, begins-page s c t k b, room-is (headOf c k))

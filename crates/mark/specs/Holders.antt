@@ -4,7 +4,7 @@ use mathlib.Core.Path.{_≡_, refl, sym, ap, ap₂, _∙_, subst}
 use mathlib.Core.Logic.{_≢_, inl, ⊎-elim}
 use mathlib.Core.Bool.{Bool, true, false, cond}
 use mathlib.Core.List.{List, _++_}
-use Prim.Native.Nat.{ℕ, _+_, _-_, _*_, _/_, _≤_, _<_}
+use Prim.Native.Nat.{ℕ, _+_, _-_, _/_, _≤_, _<_}
 use native.Mathlib.Omega.{arith}
 use lib.Dec.{eqb}
 use lib.ListN.{length, getD}
@@ -51,9 +51,6 @@ pub record Holding (p : Sizes) (W m T : List ℕ) : Type 0 where
   pub remember : RememberWhole p (words W m T)
 
 module _ {p : Sizes} {W m T : List ℕ} (h : Holding p W m T) where
-  pub entries-few : usedIn m ≤ p .entries
-  entries-few = h .remember .entries .room
-
   -- the slot of entry i
   pub slot-low : (i : ℕ) → i < usedIn m → slotIn m i < cellsWords p
   slot-low i l = h .remember .entries .named i l .slot

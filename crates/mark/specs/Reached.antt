@@ -4,7 +4,7 @@ use mathlib.Core.Path.{_≡_, refl, sym, ap, ap₂, _∙_, subst}
 use mathlib.Core.Logic.{⊎-elim}
 use mathlib.Core.Bool.{Bool, true, false, cond}
 use mathlib.Core.List.{List}
-use Prim.Native.Nat.{ℕ, suc, _+_, _-_, _*_, _/_, _%_, _<_}
+use Prim.Native.Nat.{ℕ, suc, _+_, _-_, _/_, _%_, _<_}
 use native.Mathlib.Omega.{arith}
 use native.Mathlib.Numerals.{one-add}
 use native.Mathlib.Nat.{div-add-mod', mod-lt}
@@ -26,7 +26,7 @@ use Rattle.promises.specs.Whole.{WholeFor}
 use Rattle.layout.specs.Objects.{begins-page, field-on, slot-low, slot-page, field-slot}
 use Rattle.remember.specs.Crosses.{slot-cross}
 use Rattle.promises.specs.Slots.{region-of}
-use Rattle.promises.specs.Reading.{range, cells-room, remember-room, used-home, used-owned, used-alive, alive-used, cell-low, length-refs, getD-refs, length-vars, getD-vars, ref-room}
+use Rattle.promises.specs.Reading.{used-home, used-owned, used-alive, alive-used, cell-low, length-refs, getD-refs, length-vars, getD-vars, ref-room}
 use Rattle.mark.specs.Marks.{Shaped, Leads, Leads.here, Leads.step, named, named-in, named-from}
 use Rattle.mark.specs.Holders.{varCalls, varHeld, slotCalls, slotHeld, heldCells, Holding, entry-slot, calls-own, calls-other, var-some, slot-some}
 
@@ -107,7 +107,7 @@ module _ (s : Sizes) (w : Words) (k : WholeFor s w) where
       go (no n) = let nz = used-owned s w k c u in control (omega arith)
       go (yes l) =
           let o = k .pages (pageOf c) (begins-page _ _ _ _ u) .region l in
-          let d : 0 < s .depth = omega (arith, range s w k .depth-low) in
+          let d : 0 < s .depth = omega (arith, k .sized .range .depth-low) in
           level (threadOf s q) ((q - 2) % s .depth) (omega (arith, o .level)) (mod-lt (q - 2) d) (number (q - 2) (omega arith))
         where
           number : (n : ℕ) → q ≡ n + 2 → q ≡ regionAt s (n / s .depth) (suc (n % s .depth))
@@ -117,10 +117,10 @@ module _ (s : Sizes) (w : Words) (k : WholeFor s w) where
 
   pub whole-shaped : Room s (length (w .tables)) → Shaped s (w .cells) (w .tables)
   whole-shaped room =
-      record { room = room; cells-long = cells-room s w k; objects = k .objects }
+      record { room = room; cells-long = k .sized .cells; objects = k .objects }
 
   pub whole-holding : Holding s (w .cells) (w .remember) (w .tables)
-  whole-holding = record { some = range s w k .variables-low; long = remember-room s w k; variables = k .variables; remember = k .remember }
+  whole-holding = record { some = k .sized .range .variables-low; long = k .sized .remember; variables = k .variables; remember = k .remember }
 
   -- the slot of an entry lies outside the region that it points into
   pub entry-outside : (i : ℕ) → i < usedIn (w .remember) → ownerIn s w (pageAt (slotIn (w .remember) i)) ≡ slotRegionIn (s .entries) (w .remember) i → ⊥

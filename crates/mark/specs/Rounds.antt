@@ -1,7 +1,7 @@
 -- One level of the marking of an ending region: the holders that call for its region are pushed, then the stack is drained.
 use mathlib.Core.Path.{_≡_, sym, subst}
 use mathlib.Core.List.{List, _++_}
-use Prim.Native.Nat.{ℕ, _+_, _*_}
+use Prim.Native.Nat.{ℕ, _+_}
 use Rattle.rules.specs.Regions.{regionAt}
 use Rattle.rules.specs.declared.Sizes.{Sizes}
 use Rattle.layout.specs.Places.{usedIn, varCount}

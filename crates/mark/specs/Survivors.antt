@@ -23,7 +23,6 @@ use Rattle.layout.specs.Objects.{begins-page}
 use Rattle.layout.specs.Words.{Words, words, BeginsIn, ownerIn, depthIn, graphOf}
 use Rattle.promises.specs.Whole.{WholeFor}
 use Rattle.promises.specs.Ends.{Part, partOf}
-use Rattle.promises.specs.Reading.{range, tables-room}
 use Rattle.mark.specs.Marks.{Shaped, Kept, AnyMarked, none-marked}
 use Rattle.mark.specs.Levels.{Held, First, Levels, leads-used, leads-owned, leads-from}
 use Rattle.mark.specs.Holders.{Holding, held-used}
@@ -152,7 +151,7 @@ module _ (s : Sizes) (w : Words) (k : WholeFor s w) (space : Room s (length (w .
 
 module _ (p : Sizes) (w : Words) (k : WholeFor p w) (fits : length (w .tables) < 2 ^ 63) where
   pub space-of : Room p (length (w .tables))
-  space-of = room p (length (w .tables)) (range p w k) (tables-room p w k) fits
+  space-of = room p (length (w .tables)) (k .sized .range) (k .sized .tables) fits
 
   pub shaped-at : Shaped p (w .cells) (w .tables)
   shaped-at = whole-shaped p w k space-of

@@ -2,7 +2,7 @@
 // pushed in one pass over both.
 ghost use mathlib.Core.Path.{_≡_};
 ghost use mathlib.Core.List.{List};
-ghost use Prim.Native.Nat.{ℕ, _+_, _*_, _<_, _≤_};
+ghost use Prim.Native.Nat.{ℕ, _<_, _≤_};
 ghost use lib.ListN.{length};
 ghost use Rattle.layout.specs.Places.{Room, usedIn, slotIn, cellsWords, rememberWords, varCount};
 ghost use Rattle.mark.specs.Marks.{Shaped};

@@ -1,5 +1,5 @@
 -- The words by areas. A change names the areas that it changes: every other area, and the words past the three lengths, are the same.
-use Prim.Native.Nat.{ℕ, _+_, _-_, _≤_, _<_}
+use Prim.Native.Nat.{ℕ, _+_, _≤_, _<_}
 use native.Mathlib.Omega.{arith}
 use native.Mathlib.Decide.{decLt}
 use mathlib.Core.Path.{_≡_, refl, sym, ap, subst, _∙_}
@@ -73,22 +73,6 @@ from-both x y = record { long = y .long ∙ x .long; rest = y .rest ∙ x .rest 
 pub beyond-both : {s : Sizes} {u v w : Words} → SameBeyond s u v → SameBeyond s v w → SameBeyond s u w
 beyond-both x y =
     record { cells = from-both (x .cells) (y .cells); remember = from-both (x .remember) (y .remember); tables = from-both (x .tables) (y .tables) }
-
-pub only-refl : (s : Sizes) (w : Words) → Only [] s w w
-only-refl s w = record { same = λ a n. kept a; beyond = same-beyond s w }
-  where
-    kept : (a : Area) → Same a s w w
-    kept sizeWords = (refl, refl)
-    kept depthWords = λ t l. refl
-    kept variableWords = λ i l. refl
-    kept ownerWords = λ q l. refl
-    kept usedWords = λ q l. refl
-    kept markWords = λ q l. refl
-    kept countWords = λ g l m. refl
-    kept headWords = λ k u. refl
-    kept workWords = λ k u. refl
-    kept fieldWords = λ k u f l. refl
-    kept entryWords = refl
 
 pub among-both : (a : Area) (cs ds : List Area) → among a (cs ++ ds) ≡ false → (among a cs ≡ false) × (among a ds ≡ false)
 among-both a [] ds e = (refl, e)

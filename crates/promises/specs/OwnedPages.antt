@@ -21,7 +21,6 @@ use Rattle.layout.specs.Objects.{begins-on}
 use Rattle.promises.specs.Whole.{WholeFor, Partial, objectsOn, objectsOf}
 use Rattle.promises.specs.Regular.{Regular, whole-regular, objects-yes, objects-no, SamePage}
 use Rattle.promises.specs.StandsFor.{StandsFor}
-use Rattle.promises.specs.Reading.{range}
 use Rattle.promises.specs.Agreed.{free-agree}
 
 -- 1 for a page of g, and the pages of g among the first n; the free pages are those of 0
@@ -159,7 +158,7 @@ module _ (s : Sizes) (w : Words) (k : WholeFor s w) where
   owner-low page l = go (decLt 1 (ownerIn s w page))
     where
       go : Dec (1 < ownerIn s w page) → ownerIn s w page ≤ regions s
-      go (yes h) = omega (arith, div-lt-iff-lt-mul {x = ownerIn s w page - 2} (range s w k .depth-low) .0 (k .pages page l .region h .thread))
+      go (yes h) = omega (arith, div-lt-iff-lt-mul {x = ownerIn s w page - 2} (k .sized .range .depth-low) .0 (k .pages page l .region h .thread))
       go (no h) = omega arith
 
   module _ (q : ℕ) (pos : 0 < q) where

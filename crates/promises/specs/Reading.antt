@@ -8,11 +8,10 @@ use lib.Seq.{getD-take, getD-drop, length-take-le}
 use Rattle.lists.specs.Members.{In, in-place, in-bounds}
 use Rattle.lists.specs.Products.{flat-low}
 use Rattle.rules.specs.declared.Sizes.{Sizes}
-use Rattle.rules.specs.Terms.{InRange}
 use Rattle.laws.specs.GraphLaws.{Alive, Closed}
 use Rattle.layout.specs.declared.Kind.{Kind}
 use Rattle.layout.specs.declared.Kind.the-variants.{Reference}
-use Rattle.layout.specs.Places.{Room, room, depthAt, varAt, varOf, tablesWords, rememberWords, cellsWords, count-room, count-is, ownersFrom, varCount}
+use Rattle.layout.specs.Places.{Room, room, depthAt, varAt, varOf, tablesWords, count-room, count-is, ownersFrom, varCount}
 use Rattle.layout.specs.Cells.{fieldAt, fieldOf, fieldCount, firstField, kindAt, mostFields, roomFor, kind-among, first-reference, fields-room, pageOf, CellIn}
 use Rattle.layout.specs.Cells as ly
 use Rattle.layout.specs.Words.{Words, depthIn, varIn, ownerIn, depthsIn, varsIn, headIn, refCount, fieldsIn, refsIn, homeIn, graphOf, depthsAt, homeAt, fieldsAt, varsAt, BeginsIn}
@@ -54,18 +53,6 @@ pub entries-there : {s : Sizes} {w : Words} → Sized s w → 2 ≤ length (w .r
 entries-there k = omega (arith, k .remember)
 
 module _ (s : Sizes) (w : Words) (k : WholeFor s w) where
-  pub range : InRange s
-  range = k .sized .range
-
-  pub cells-room : cellsWords s ≤ length (w .cells)
-  cells-room = k .sized .cells
-
-  pub remember-room : rememberWords s ≤ length (w .remember)
-  remember-room = k .sized .remember
-
-  pub tables-room : tablesWords s ≤ length (w .tables)
-  tables-room = k .sized .tables
-
   pub used-home : (c : ℕ) → BeginsIn s w c → homeIn s w c ≡ ownerIn s w (pageOf c)
   unfolding homeAt
   used-home c u = ap (λ (b : Bool). cond b (ownerIn s w (pageOf c)) 0) (begins-true s (w .cells) (w .tables) c u)
@@ -95,7 +82,7 @@ module _ (s : Sizes) (w : Words) (k : WholeFor s w) where
   unfolding fieldsAt
   length-fields d c u =
       length-take-le (fieldCount d (headIn w c)) (drop (fieldAt c (firstField d (headIn w c))) (w .cells))
-      (simp length-drop (omega (arith, fields-inside s (w .cells) (w .tables) c u (firstField d (headIn w c) + fieldCount d (headIn w c)) (omega (arith, kind-among d (headIn w c), fields-room (headIn w c) (k .objects c u .head))), cells-room)))
+      (simp length-drop (omega (arith, fields-inside s (w .cells) (w .tables) c u (firstField d (headIn w c) + fieldCount d (headIn w c)) (omega (arith, kind-among d (headIn w c), fields-room (headIn w c) (k .objects c u .head))), k .sized .cells)))
 
   pub length-refs : (c : ℕ) → BeginsIn s w c → length (refsIn w c) ≡ refCount w c
   length-refs = length-fields Reference
@@ -108,13 +95,13 @@ module _ (s : Sizes) (w : Words) (k : WholeFor s w) where
   unfolding varsAt
   length-vars =
       length-take-le (varCount s) (drop (varAt s 0) (w .tables))
-      (simp length-drop (omega (arith, tables-room, count-room s, count-is s, vars-room)))
+      (simp length-drop (omega (arith, k .sized .tables, count-room s, count-is s, vars-room)))
 
   pub length-depths : length (depthsIn s w) ≡ s .threads
   unfolding depthsAt
   length-depths =
       length-take-le (s .threads) (drop (depthAt 0) (w .tables))
-      (simp length-drop (omega (arith, tables-room, count-room s, count-is s, vars-room)))
+      (simp length-drop (omega (arith, k .sized .tables, count-room s, count-is s, vars-room)))
 
   vars-alive : (i x : ℕ) → getD (varsIn s w) i 0 ≡ suc x → Alive (graphOf s w) x
   vars-alive i x e =

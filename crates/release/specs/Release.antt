@@ -11,8 +11,6 @@ use Rattle.rules.specs.declared.Sizes.{Sizes}
 use Rattle.rules.specs.Regions.{regions}
 use Rattle.lists.specs.Counting.{sum-same, sum-none}
 use Rattle.layout.specs.Places.{Room, depthAt, ownerAt, usedAt, markAt, countAt, depthOf, ownerOf, usedOf, markOf, countOf, countsFrom, ownersFrom}
-use Rattle.layout.specs.Cells.{pageOf}
-use Rattle.layout.specs.Words.{InUse}
 use Rattle.promises.specs.Whole.{PageFilled, Partial, objectsOn, objectsOf}
 use Rattle.promises.specs.Regular.{Regular, objects-no, SamePage, filled-same, partial-same, on-same}
 
@@ -174,17 +172,6 @@ module _ {p : Sizes} {r t : ℕ} {T T′ : List ℕ} (room : Room p (length T)) 
         used = ended-word (usedAt p q) (λ z. omega arith) (λ z. omega arith) ∙ b .used;
         marks = ended-word (markAt p q) (λ z. omega arith) (λ z. omega arith) ∙ b .marks;
       }
-
-  -- the cells in use are those of other regions
-  pub ended-use : (c : ℕ) → InUse p T c → ownerOf p T (pageOf c) ≢ r → InUse p T′ c
-  ended-use c u n = record { page = u .page; place = omega (arith, u .place, ended-alike (pageOf c) (u .page) n .used) }
-
-  pub ended-used : (c : ℕ) → InUse p T′ c → InUse p T c × (ownerOf p T (pageOf c) ≢ r)
-  ended-used c u = go (ℕ-discrete (ownerOf p T (pageOf c)) r)
-    where
-      go : Dec (ownerOf p T (pageOf c) ≡ r) → InUse p T c × (ownerOf p T (pageOf c) ≢ r)
-      go (yes e) = absurd (let z : ⊥ = omega (arith, u .place, ended-blank (pageOf c) (u .page) e .used) in z)
-      go (no n) = (record { page = u .page; place = omega (arith, u .place, ended-alike (pageOf c) (u .page) n .used) }, n)
 
   ended-page : (q : ℕ) → q < p .pages → ownerOf p T q ≢ r → SamePage p T T′ q
   ended-page q l n = let b = ended-alike q l n in record { owner = b .owner; used = b .used }

@@ -1,6 +1,6 @@
 -- A table of entries is exact for f: it names each number below n at which f is not 0, once, with what f gives, and nothing else.
 -- What an edit of the table must be when f changes at one number. The remember table of whole words is exact for crossTo.
-use Prim.Native.Nat.{ℕ, _+_, _-_, _*_, _≤_, _<_}
+use Prim.Native.Nat.{ℕ, _+_, _-_, _≤_, _<_}
 use mathlib.Core.List.{List}
 use mathlib.Core.Path.{_≡_, refl, sym, ap, subst, _∙_}
 use mathlib.Core.Logic.{_⊎_, inl, inr}

@@ -1,7 +1,7 @@
 // The entries: one is found, comes, goes or gets another region, a stretch is cleared. They stand in any order, so an entry is looked for one
 // by one, a new one comes last, and the last takes the place of one that goes.
 ghost use mathlib.Core.Path.{_≡_};
-ghost use Prim.Native.Nat.{ℕ, _+_, _*_, _^_, _<_, _≤_};
+ghost use Prim.Native.Nat.{ℕ, _+_, _^_, _<_, _≤_};
 ghost use lib.ListN.{length};
 ghost use Rattle.layout.specs.Places.{usedIn, slotIn, entriesWords};
 ghost use Rattle.remember.specs.Entries.{added, removed};

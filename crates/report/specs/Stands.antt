@@ -13,7 +13,7 @@ use Rattle.rules.specs.declared.Sizes.{Sizes}
 use Rattle.layout.specs.Places.{depthOf}
 use Rattle.layout.specs.Words.{words, depthsAt}
 use Rattle.promises.specs.StandsFor.{StandsFor}
-use Rattle.promises.specs.Reading.{range, depth-at}
+use Rattle.promises.specs.Reading.{depth-at}
 use Rattle.promises.specs.Agreed.{objects-agree}
 use Rattle.promises.specs.OwnedPages.{counted-objects, heap-free}
 use Rattle.report.specs.Report.{isOpen, openRegions, rowWith, rows}
@@ -32,7 +32,7 @@ module _ (p : Sizes) (t : List ℕ) (k : WholeTables p t) where
   deep i l = omega (arith, depth-is i l, k .whole .depths i l)
 
   some-depth : 1 ≤ p .depth
-  some-depth = range p (words (k .cells) (k .remember) t) (k .whole) .depth-low
+  some-depth = k .whole .sized .range .depth-low
 
   depths-sum : (n : ℕ) → n ≤ p .threads → sum (λ i. getD depths i 0) n ≡ sum (depthOf t) n
   depths-sum n l = sum-same (λ i. getD depths i 0) (depthOf t) n (λ i h. depth-is i (omega arith))
@@ -47,7 +47,7 @@ module _ (p : Sizes) (t : List ℕ) (k : WholeTables p t) where
   -- at most one for the control space and 8 for each of 16 threads
   pub rows-few : length (rowsIn p t) ≤ 129
   rows-few =
-      let r = range p (words (k .cells) (k .remember) t) (k .whole) in
+      let r = k .whole .sized .range in
       omega (arith, row-count, r .threads-high, sum-high (depthOf t) 8 (p .threads) (λ i l. omega (arith, k .whole .depths i l, r .depth-high)))
 
   -- a thread whose levels do not reach row k is not the last

@@ -10,7 +10,6 @@ use Rattle.rules.specs.Regions.{threadOf, levelOf}
 use Rattle.layout.specs.Places.{Room, room, sizesAt, countOf}
 use Rattle.layout.specs.Words.{words, depthsAt}
 use Rattle.promises.specs.Whole.{WholeFor, WholeWords}
-use Rattle.promises.specs.Reading.{range, tables-room}
 use Rattle.promises.specs.OwnedPages.{ownedIn}
 use Rattle.report.specs.declared.Row.{Row}
 use Rattle.report.specs.Report.{rowOf, rowWith, openRegions}
@@ -37,10 +36,10 @@ freeIn p t = ownedIn p t 0 (p .pages)
 pub tables-room-of : (p : Sizes) (t : List ℕ) → WholeTables p t → length t < 2 ^ 63 → Room p (length t)
 tables-room-of p t k f =
     let w = words (k .cells) (k .remember) t in
-    room p (length t) (range p w (k .whole)) (tables-room p w (k .whole)) f
+    room p (length t) (k .whole .sized .range) (k .whole .sized .tables) f
 
 pub threads-low : (p : Sizes) (t : List ℕ) → WholeTables p t → 1 ≤ p .threads
-threads-low p t k = range p (words (k .cells) (k .remember) t) (k .whole) .threads-low
+threads-low p t k = k .whole .sized .range .threads-low
 
 -- a row as the code makes it
 module _ (p : Sizes) (t : List ℕ) (q : ℕ) {objects : ℕ} (o : objects ≡ countOf p t q) where

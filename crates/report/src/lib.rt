@@ -1,7 +1,7 @@
 // The report (01): a row for the control space and each open region, by region number, then free pages and crossing slots. It reads the
 // tables and changes none of them.
 ghost use mathlib.Core.Path.{_≡_};
-ghost use Prim.Native.Nat.{_+_, _*_, _<_, _≤_};
+ghost use Prim.Native.Nat.{_+_, _<_, _≤_};
 ghost use lib.ListN.{length, getD};
 ghost use Rattle.layout.specs.Places.{usedIn};
 ghost use Rattle.layout.specs.Words.{depthsAt};

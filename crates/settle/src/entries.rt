@@ -1,10 +1,6 @@
 // The remember table where nothing is copied.
-ghost use mathlib.Core.Path.{_≡_};
-ghost use Prim.Native.Nat.{ℕ, _<_, _≤_};
-ghost use lib.ListN.{length, getD};
-ghost use Rattle.layout.specs.Places.{Room, cellsWords, usedIn};
-ghost use Rattle.layout.specs.Words.{Names};
-ghost use Rattle.remember.specs.Stretches.{Added};
+ghost use Prim.Native.Nat.{ℕ};
+ghost use Rattle.layout.specs.Places.{usedIn};
 ghost use Rattle.settle.specs.Update.{Copies, Updating, Updated};
 use remember::entries::clear_entries;
 use remember::filter::filter_entries;

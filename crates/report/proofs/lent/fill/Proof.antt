@@ -51,8 +51,7 @@ use denote.Triple.Walked.{says, needs, Stays, stay-slice, stay-none, stay-none-s
 use denote.Exit.{yes}
 use denote.Signature.{plain}
 use Rattle.layout.specs.Places.{sizesAt}
-use Rattle.layout.specs.Words.{words, depthsAt}
-use Rattle.promises.specs.Reading.{range}
+use Rattle.layout.specs.Words.{depthsAt}
 use Rattle.report.specs.declared.Row.{Row}
 use Rattle.report.specs.Tables.{WholeTables, rowIn, rowsIn}
 use Rattle.report.specs.Opened.{Next, Turn, turn-first, turn-next, turn-high, turn-row}
@@ -278,7 +277,7 @@ module _ {M : Type 1} (𝓤 : URA M) (H : Heap 𝓤) (A : Atoms 𝓤) (W : Given
         region-fits : Holds (ltb k n) → g < 2 ^ 64
         region-fits less =
             let m = may less in
-            let r = range (sizesAt ws) (words (m .0 .cells) (m .0 .remember) ws) (m .0 .whole) in
+            let r = m .0 .whole .sized .range in
             omega (arith, m .2, mul-le-mul (r .threads-high) (r .depth-high))
 
         next : Holds (ltb k n) → (r : ℕ) → After g r → Upto
