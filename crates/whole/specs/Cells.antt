@@ -1,27 +1,14 @@
 -- Cells in use: their form, their working word and their references. An object begins at each of them.
 use Prim.Native.Nat.{ℕ, _+_, _-_, _≤_, _<_}
 use mathlib.Core.List.{List}
-use mathlib.Core.Path.{_≡_, refl, sym, ap, subst}
+use mathlib.Core.Path.{_≡_, refl, sym, ap, subst, _∙_}
 use native.Mathlib.Omega.{arith}
 use Rattle.rules.specs.declared.Sizes.{Sizes}
 use Rattle.layout.specs.declared.Kind.the-variants.{Number}
-use Rattle.layout.specs.Places.{varCount, usedOf, varOf}
+use Rattle.layout.specs.Places.{usedOf}
 use Rattle.layout.specs.Cells.{headOf, workOf, fieldOf, fieldCount, refsOf, mostFields, room-most, cellNamed, pageCells, pageOf, placeOf, cellOn, on-page}
-use Rattle.layout.specs.Objects.{InUse, Begins, begins-used, used-begins, begins-there}
+use Rattle.layout.specs.Objects.{Begins, begins-page, begins-used, used-begins, begins-there}
 use Rattle.promises.specs.Whole.{IsRef, ObjectWhole}
-
--- null, or the name of a cell in use
-abbrev pub NamesUsed : Sizes → List ℕ → ℕ → Type 0
-NamesUsed p t x = 0 < x → InUse p t (cellNamed x)
-
-abbrev pub VariablesUsed : Sizes → List ℕ → Type 0
-VariablesUsed p t = (i : ℕ) → i < varCount p → NamesUsed p t (varOf p t i)
-
-pub used-ref : (p : Sizes) (c t : List ℕ) (x : ℕ) → NamesUsed p t x → IsRef p c t x
-used-ref p c t x r l = used-begins p c t (cellNamed x) (r l)
-
-pub ref-used : (p : Sizes) (c t : List ℕ) (x : ℕ) → IsRef p c t x → NamesUsed p t x
-ref-used p c t x r l = begins-used p c t (cellNamed x) (r l)
 
 pub record CellWhole (p : Sizes) (c t : List ℕ) (k : ℕ) : Type 0 where
   pub object : ObjectWhole p c t k
@@ -47,35 +34,35 @@ all-pages p c t h k b =
 
 -- the fields as the code finds them whole: r is the count of references and d that of numbers, as it read them
 module _ {p : Sizes} {c t : List ℕ} {k r d : ℕ} (e : r ≡ refsOf c k) (q : d ≡ fieldCount Number (headOf c k)) where
-  pub object-whole : r + d ≤ mostFields → ((f : ℕ) → f < r → NamesUsed p t (fieldOf c k f)) → ZeroFrom c k (r + d) → ObjectWhole p c t k
+  pub object-whole : r + d ≤ mostFields → ((f : ℕ) → f < r → IsRef p c t (fieldOf c k f)) → ZeroFrom c k (r + d) → ObjectWhole p c t k
   object-whole few refs rest =
       record {
         head = omega arith;
         rest = λ f l m. rest f (omega (arith, room-most (headOf c k))) (omega arith);
-        references = λ f l. used-ref p c t (fieldOf c k f) (refs f (omega arith));
+        references = λ f l. refs f (omega arith);
       }
 
   -- and what a whole object says
   pub zero-rest : ObjectWhole p c t k → ZeroFrom c k (r + d)
   zero-rest w f l m = w .rest f (omega (arith, room-most (headOf c k))) (omega arith)
 
-pub field-is-ref : {p : Sizes} {c t : List ℕ} {k f r y : ℕ} → ObjectWhole p c t k → r ≡ refsOf c k → y ≡ fieldOf c k f → f < r → NamesUsed p t y
-field-is-ref {p} {c} {t} {k} {f} w e q l = ref-used p c t _ (subst (λ (z : ℕ). IsRef p c t z) (sym q) (w .references f (omega arith)))
+pub field-is-ref : {p : Sizes} {c t : List ℕ} {k f r y : ℕ} → ObjectWhole p c t k → r ≡ refsOf c k → y ≡ fieldOf c k f → f < r → IsRef p c t y
+field-is-ref {p} {c} {t} w e q l = subst (IsRef p c t) (sym q) (w .references _ (omega arith))
 
 -- a reference that is not null: the cell that it names, its page and place, and the cells in use there, as the code read them
-module _ {p : Sizes} {t : List ℕ} {x cell page place used : ℕ} where
-  pub ref-in-use : cell ≡ x - 1 → page ≡ pageOf cell → place ≡ placeOf cell → used ≡ usedOf p t page → page < p .pages → place < used → NamesUsed p t x
-  ref-in-use e f g h l m k =
-      let q : pageOf (x - 1) ≡ page = omega arith in
-      record { page = omega arith; place = omega (arith, ap (usedOf p t) q) }
+module _ (p : Sizes) (c t : List ℕ) (x : ℕ) {cell page : ℕ} (e : cell ≡ x - 1) (f : page ≡ pageOf cell) where
+  pub ref-page : 0 < x → IsRef p c t x → page < p .pages
+  ref-page k r = omega (arith, begins-page p c t (cellNamed x) (r k))
 
-  pub ref-place : cell ≡ x - 1 → page ≡ pageOf cell → place ≡ placeOf cell → used ≡ usedOf p t page → 0 < x → NamesUsed p t x → place < used
-  ref-place e f g h k r =
-      let q : pageOf (x - 1) ≡ page = omega arith in
-      omega (arith, ap (usedOf p t) q, r k .place)
+  module _ {place used : ℕ} (g : place ≡ placeOf cell) (h : used ≡ usedOf p t page) where
+    same : usedOf p t (pageOf (x - 1)) ≡ used
+    same = ap (usedOf p t) (let q : pageOf (x - 1) ≡ page = omega arith in q) ∙ sym h
 
-pub ref-page : {p : Sizes} {t : List ℕ} {x cell page : ℕ} → cell ≡ x - 1 → page ≡ pageOf cell → 0 < x → NamesUsed p t x → page < p .pages
-ref-page e f k r = omega (arith, r k .page)
+    pub ref-begins : page < p .pages → place < used → IsRef p c t x
+    ref-begins l m k = used-begins p c t (cellNamed x) (record { page = omega arith; place = omega (arith, same) })
+
+    pub ref-place : 0 < x → IsRef p c t x → place < used
+    ref-place k r = omega (arith, same, begins-used p c t (cellNamed x) (r k) .place)
 
 -- a cell that the code has reached: its number and the cells in use on its page, as it read them
 pub reached : {p : Sizes} {c t : List ℕ} {page place cell used : ℕ} → CellsWhole p c t → cell ≡ cellOn page place → used ≡ usedOf p t page

@@ -2,11 +2,10 @@
 use Rattle.rules.specs.declared.Sizes.{Sizes}
 use Rattle.layout.specs.Places.{cellsWords, usedIn}
 use Rattle.layout.specs.Words.{Words}
-use Rattle.promises.specs.Whole.{Sized, DepthsWhole, EntriesWhole, WholeFor}
+use Rattle.promises.specs.Whole.{Sized, DepthsWhole, VariablesWhole, EntriesWhole, WholeFor}
 use Rattle.remember.specs.Crossing.{crossTo}
 use Rattle.remember.specs.Counted.{every-counted, counted-every}
 use Rattle.whole.specs.Regions.{RegionsWhole}
-use Rattle.whole.specs.Cells.{VariablesUsed, used-ref, ref-used}
 use Rattle.whole.specs.Crossing.{CellsCross}
 
 module _ {s : Sizes} {w : Words} where
@@ -17,9 +16,6 @@ module _ {s : Sizes} {w : Words} where
     counts = k .counts;
   }
 
-  pub variables-of : WholeFor s w → VariablesUsed s (w .tables)
-  variables-of k i l = ref-used s (w .cells) (w .tables) _ (k .variables i l)
-
   -- as many slots cross as there are entries used
   pub cells-of : WholeFor s w → CellsCross s (w .cells) (w .tables) (usedIn (w .remember))
   cells-of k = record {
@@ -28,7 +24,7 @@ module _ {s : Sizes} {w : Words} where
   }
 
   -- as many entries as crossing slots, each naming another: then every crossing slot is named
-  pub whole-of : Sized s w → DepthsWhole s w → RegionsWhole s (w .tables) → VariablesUsed s (w .tables) → CellsCross s (w .cells) (w .tables) (usedIn (w .remember))
+  pub whole-of : Sized s w → DepthsWhole s w → RegionsWhole s (w .tables) → VariablesWhole s w → CellsCross s (w .cells) (w .tables) (usedIn (w .remember))
       → EntriesWhole s (w .cells) (w .remember) (w .tables) → WholeFor s w
   whole-of z d r v k n = record {
     sized = z;
@@ -36,7 +32,7 @@ module _ {s : Sizes} {w : Words} where
     pages = λ page l. r .pages page l .whole;
     partial = r .partial;
     counts = r .counts;
-    variables = λ i l. used-ref s (w .cells) (w .tables) _ (v i l);
+    variables = v;
     objects = λ i u. k .whole i u .object;
     marks = λ page l. r .pages page l .mark;
     works = λ i u. k .whole i u .working;

@@ -1,4 +1,4 @@
-// Every cell in use has 01's form, its working word is zero, and its references are null or name a cell in use. The same pass counts the
+// Every cell in use has 01's form, its working word is zero, and its references are null or name an object. The same pass counts the
 // slots that cross.
 ghost use Prim.Native.Nat.{_^_, _<_, _≤_};
 ghost use lib.ListN.{length};
@@ -70,7 +70,7 @@ pub fn cells_whole(p: Sizes, cells: &[u32], tables: &[u32], entries: usize) -> b
             let mut f = 0;
             'fields: while f < refs {
                 let x = layout::cells::field(cells, cell, f);
-                if !is_ref(p, tables, x) {
+                if !is_ref(p, cells, tables, x) {
                     ok = false;
                     break 'pages;
                 }

@@ -26,7 +26,7 @@ pub fn placed_whole(p: Sizes, cells: &[u32], remember: &[u32], tables: &[u32]) -
     if !regions::regions_whole(p, tables) {
         return false;
     }
-    if !variables::variables_whole(p, tables) {
+    if !variables::variables_whole(p, cells, tables) {
         return false;
     }
     let used = layout::wide(layout::remember::used(remember));

@@ -9,7 +9,7 @@ use Rattle.lists.specs.Says.{says-yes, says-no, said-no}
 use Rattle.layout.specs.Words.{words}
 use Rattle.promises.specs.Reading.{entries-there}
 use Rattle.whole.specs.Crossing.{CellsCross}
-use Rattle.whole.specs.Parts.{regions-of, variables-of, cells-of, whole-of}
+use Rattle.whole.specs.Parts.{regions-of, cells-of, whole-of}
 use Rattle.whole.proofs.placed_whole.Statement.{statement}
 use Rattle.whole.proofs.placed_whole.Tie as tie
 
@@ -29,7 +29,7 @@ variables-whole-requires : tie.Need-variables-whole-requires
 variables-whole-requires c κs = c .before .before .before .before .before .before .before .pre .0
 
 returns-3 : tie.Need-returns-3
-returns-3 c = says-no (λ h. said-no _ (c .before .variables-whole .ensures) (not-true _ (c .if3 .taken)) (variables-of h))
+returns-3 c = says-no (λ h. said-no _ (c .before .variables-whole .ensures) (not-true _ (c .if3 .taken)) (h .variables))
 
 used-requires : tie.Need-used-requires
 used-requires c κs = entries-there (c .before .before .before .before .before .before .before .before .before .pre .1)

@@ -16,14 +16,16 @@ use Rattle.layout.specs.declared.Kind.the-variants.{Reference, Number}
 use Rattle.layout.specs.Places.{cellsWords}
 use Rattle.layout.specs.Cells.{headAt, fieldAt, cellOn, fieldOf, fieldCount, count-low, mostFields, most-is, pageCells, CellIn}
 use Rattle.remember.specs.Crossing.{crossTo}
-use Rattle.whole.specs.Cells.{NamesUsed, CellWhole, PageCells, all-pages, reached, object-whole, zero-rest, field-is-ref}
+use Rattle.layout.specs.Objects.{begins-page}
+use Rattle.promises.specs.Whole.{IsRef}
+use Rattle.whole.specs.Cells.{CellWhole, PageCells, all-pages, reached, object-whole, zero-rest, field-is-ref}
 use Rattle.whole.specs.Crossing.{crossingTo, to-fields, to-next-cell, to-next-page, crosses-at, crosses-yes, crosses-no, too-many, says-cross}
 use Rattle.whole.proofs.cells.cells_whole.Statement.{statement}
 use Rattle.whole.proofs.cells.cells_whole.Tie as tie
 
 abbrev Inv-fields : tie.InvT-fields
 Inv-fields p cells tables entries pages ok₀ n₀ page owner used place cell head refs all f₀ ok n f =
-    (ok ≡ true) × (f ≤ refs) × CellIn cell (length cells) × (refs ≤ mostFields) × ((j : ℕ) → j < f → NamesUsed p tables (fieldOf cells cell j))
+    (ok ≡ true) × (f ≤ refs) × CellIn cell (length cells) × (refs ≤ mostFields) × ((j : ℕ) → j < f → IsRef p cells tables (fieldOf cells cell j))
     × (n ≤ entries) × (n ≡ crossingTo p cells tables (fieldAt cell f))
 
 abbrev μ-fields : tie.MeasureT-fields
@@ -111,7 +113,7 @@ is-ref-requires : tie.Need-is-ref-requires Inv-fields μ-fields Inv-cells μ-cel
 is-ref-requires c κs = c .before .before .before .before .before .before .before .before .before .before .before .before .before .before .before .before .before .before .before .pre .0
 
 region-named-requires : tie.Need-region-named-requires Inv-fields μ-fields Inv-cells μ-cells Inv-pages μ-pages
-region-named-requires c κs = (λ n. c .before .is-ref .ensures .0 (not-false _ (c .if3 .left)) (omega arith) .page, c .before .before .before .before .before .before .before .before .before .before .before .before .before .before .before .before .before .before .before .before .before .pre .0)
+region-named-requires c κs = (λ n. begins-page _ _ _ _ (c .before .is-ref .ensures .0 (not-false _ (c .if3 .left)) (omega arith)), c .before .before .before .before .before .before .before .before .before .before .before .before .before .before .before .before .before .before .before .before .before .pre .0)
 
 other-region-requires : tie.Need-other-region-requires Inv-fields μ-fields Inv-cells μ-cells Inv-pages μ-pages
 other-region-requires c κs = search needs
@@ -143,7 +145,7 @@ fields-again c =
       omega arith,
       fields .inv .2,
       fields .inv .3,
-      below-more _ _ (fields .inv .4) (subst (λ (y : ℕ). NamesUsed (args .p) (now (args .tables)) y) (field .ensures) (c .before .before .before .before .is-ref .ensures .0 (not-false _ (c .before .before .before .if3 .left)))),
+      below-more _ _ (fields .inv .4) (subst (IsRef (args .p) (now (args .cells)) (now (args .tables))) (field .ensures) (c .before .before .before .before .is-ref .ensures .0 (not-false _ (c .before .before .before .if3 .left)))),
       ⊎-elim (λ w. omega (arith, w .1 .left, w .2)) (λ w. omega (arith, w .1, fields .inv .5)) (c .if4 .came),
       ⊎-elim
           (λ w. w .2 ∙ ap (λ (k : ℕ). k + 1) (fields .inv .6) ∙ sym (crosses-yes (args .p) (now (args .cells)) (now (args .tables)) (cell-on .result) (fields .f) here (omega (arith, w .0 .taken))))
