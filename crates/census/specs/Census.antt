@@ -7,7 +7,7 @@ use lib.ListN.{getD}
 use Rattle.lists.specs.Counting.{sum-more, sum-none, sum-high}
 use Rattle.rules.specs.declared.Sizes.{Sizes}
 use Rattle.layout.specs.Places.{markOf, pageWords}
-use Rattle.layout.specs.Cells.{cellOn, firstOn}
+use Rattle.layout.specs.Cells.{cellOn, firstOn, pageCells}
 use Rattle.census.specs.Counted.{onPage, overMarked, bits-none, page-high, goesTo, goes-le}
 use Rattle.census.specs.After.{cellCrosses}
 
@@ -21,10 +21,10 @@ pub record Census (p : Sizes) (W T : List ℕ) (r n : ℕ) (come : List ℕ) (k 
   pub crossing : k ≡ overMarked p T (cellCrosses p W T r) n
   pub few : k ≤ pageWords * n
 
--- at most 16 survivors on a page go to one region
+-- on a page at most as many survivors go to one region as it has cells
 pub over-high : (p : Sizes) (W T : List ℕ) (g n : ℕ) → overMarked p T (goesTo W g) n ≤ firstOn n
 over-high p W T g n =
-    sum-high (λ page. onPage (goesTo W g) page (markOf p T page)) 16 n (λ page l. page-high (goesTo W g) 1 (goes-le W g) page (markOf p T page))
+    sum-high (λ page. onPage (goesTo W g) page (markOf p T page)) pageCells n (λ page l. page-high (goesTo W g) 1 (goes-le W g) page (markOf p T page))
 
 over-more : (p : Sizes) (T : List ℕ) (f : ℕ → ℕ) (page w : ℕ) → w ≡ markOf p T page → overMarked p T f (page + 1) ≡ overMarked p T f page + onPage f page w
 over-more p T f page w e =

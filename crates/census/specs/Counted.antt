@@ -28,7 +28,7 @@ use Rattle.mark.specs.Survivors.{Marked}
 
 -- the sum of f over the set bits of a working word
 unfoldable pub overBits : (ℕ → ℕ) → ℕ → ℕ
-overBits f w = bitSum 16 w f
+overBits f w = bitSum pageCells w f
 
 -- over the cells of a page whose bit is set in w
 abbrev pub onPage : (ℕ → ℕ) → ℕ → ℕ → ℕ
@@ -45,7 +45,7 @@ over-cells p T f =
     sym
     (sum-blocks pageCells (λ c. marked p T c * f c) (λ page. onPage f page (markOf p T page)) (p .pages)
     (λ page l.
-    sum-same (λ i. marked p T (cellOn page i) * f (cellOn page i)) (λ i. bitAt (markOf p T page) i * f (cellOn page i)) 16
+    sum-same (λ i. marked p T (cellOn page i) * f (cellOn page i)) (λ i. bitAt (markOf p T page) i * f (cellOn page i)) pageCells
     (λ i h.
     let d : pageOf (cellOn page i) ≡ page = omega arith in
     let m : placeOf (cellOn page i) ≡ i = omega arith in
@@ -55,7 +55,7 @@ over-cells p T f =
 pub page-high : (f : ℕ → ℕ) (m : ℕ) → ((c : ℕ) → f c ≤ m) → (page w : ℕ) → onPage f page w ≤ m * pageCells
 unfolding overBits
 page-high f m h page w =
-    sum-high (λ i. bitAt w i * f (cellOn page i)) m 16
+    sum-high (λ i. bitAt w i * f (cellOn page i)) m pageCells
     (λ i l. go (f (cellOn page i)) (h (cellOn page i)) (bitAt w i) (bit-lt i w))
   where
     go : (x : ℕ) → x ≤ m → (b : ℕ) → b < 2 → b * x ≤ m
@@ -65,11 +65,11 @@ page-high f m h page w =
 
 bits-clear : (f : ℕ → ℕ) (w i : ℕ) → bitAt w i ≡ 1 → i < pageCells → overBits f w ≡ overBits f (w - 2 ^ i) + f i
 unfolding overBits
-bits-clear f w i on l = bit-sum-clear 16 w i f on l
+bits-clear f w i on l = bit-sum-clear pageCells w i f on l
 
 pub bits-none : (f : ℕ → ℕ) → overBits f 0 ≡ 0
 unfolding overBits
-bits-none f = bit-sum-zero 16 f
+bits-none f = bit-sum-zero pageCells f
 
 -- ---- the walk over the set bits of w: n is a and the sum of f over those before left
 

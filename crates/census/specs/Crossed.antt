@@ -94,7 +94,7 @@ module _ (s : Sizes) (w : Words) (k : WholeFor s w) (space : Room s (length (w .
       closed-ended s g r (omega arith) (words-closed s w k) .refs x y a
       (subst (In (suc y)) (sym (ended-refs x)) (getD-in (refsIn w x) f y (getD-refs w x f l ∙ e)))
 
-  -- ---- all slots of an object that is in use
+  -- ---- all slots of an object
 
   module _ (x : ℕ) (u : BeginsIn s w x) where
     slots-cross : Alive h x → crossIn h x (refsIn w x) ≡ sum (λ f. crossAfter p (w′ .cells) (w′ .tables) r (h .home x) (fieldOf (w′ .cells) x f)) (refCount w x)

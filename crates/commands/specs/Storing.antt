@@ -18,7 +18,7 @@ use Rattle.rules.specs.Rules.{Regioned, graph, first}
 use Rattle.laws.specs.GraphLaws.{Alive}
 use Rattle.laws.specs.RulesLaws.{Sound, sound-after}
 use Rattle.layout.specs.declared.Kind.the-variants.{Reference}
-use Rattle.layout.specs.Places.{Room, ownerOf, usedIn, slotIn}
+use Rattle.layout.specs.Places.{Room, ownerOf, usedIn, slotIn, rememberWords}
 use Rattle.layout.specs.Cells.{headOf, fieldAt, fieldCount, kindAt, first-reference, field-high, pageOf}
 use Rattle.layout.specs.Objects.{begins-page}
 use Rattle.layout.specs.Words.{Words, words, heapOf, BeginsIn, refCount, Names}
@@ -48,7 +48,7 @@ pub record Storing (p : Sizes) (c m t : List ℕ) (x f v : ℕ) : Type 0 where
   pub room : Room p (length t)
   pub field : Field Reference c x f
   pub page : pageOf (x - 1) < p .pages
-  pub long : 2 * p .entries + 2 ≤ length m
+  pub long : rememberWords p ≤ length m
   pub used : usedIn m ≤ p .entries
   pub named : 0 < crossesTo p t (x - 1) (getD c (slotOf c x f) 0) → (i : ℕ) × (i < usedIn m) × (slotIn m i ≡ slotOf c x f)
   pub before : Names p (getD c (slotOf c x f) 0)

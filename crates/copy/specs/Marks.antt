@@ -1,4 +1,4 @@
--- Marks of cells, and how many marked cells go to a region. W, M and T are the cells, the remember table and the tables.
+-- Marks of cells, and how many marked cells go to a region. W and T are the cells and the tables.
 use mathlib.Core.Path.{_≡_, ap, _∙_}
 use mathlib.Core.Logic.{_≢_, _⊎_, inl, inr}
 use mathlib.Core.Bool.{Bool, cond}
@@ -61,7 +61,7 @@ mark? p T c = go (ℕ-discrete (marked p T c) 0)
     go (yes e) = inl e
     go (no n) = inr (omega (arith, bit-lt (placeOf c) (markOf p T (pageOf c))))
 
--- ---- 1 for a cell that has g in word 1, and the marked cells below n that have
+-- ---- 1 for a cell that has g in word 1, and the marked cells that have
 
 unfoldable pub hit : List ℕ → ℕ → ℕ → ℕ
 hit W g c = sameThen (workOf W c) g 1

@@ -143,7 +143,7 @@ module _ (s : Sizes) (w w₁ : Words) (h h₁ : Regioned) (cellOf cell : ℕ →
         vars = variables;
       }
     where
-      -- what holds of each object's cell holds of each cell in use
+      -- what holds of the cell of each object of the heap holds of each cell where one begins
       at : (c : ℕ) → BeginsIn s w c → (P : ℕ → Type 0) → ((x : ℕ) → Alive (graph h) x → P (cellOf x)) → P c
       at c u P f = let o = st .partners .onto c (used-alive s w (st .whole) c u) in subst P (o .2) (f (o .0) (o .1))
 

@@ -26,14 +26,14 @@ use Rattle.demand.specs.Pairing.{pairsOf, pair-alive, stands-paired}
 use Rattle.demand.specs.MovesUnique.{moves-unique}
 use Rattle.demand.specs.Following.{did-changes}
 
--- every pair leads to a cell in use
+-- every pair leads to an object's cell
 abbrev pub Living : Sizes → Words → List ℕ → Type 0
 Living s w pairs = (c : ℕ) → In (suc c) pairs → BeginsIn s w c
 
 -- ---- one command, of whole words
 
 module _ {s : Sizes} {w w₁ : Words} {m : Command} {a : Answer} (k : WholeFor s w) (did : Did s w m w₁ a) where
-  -- the pairs of every cell in use with itself, before and after
+  -- the pairs of every object's cell with itself, before and after
   pairs : List ℕ
   pairs = pairsOf (heapOf s w) (λ c. c)
 
@@ -52,7 +52,7 @@ module _ {s : Sizes} {w w₁ : Words} {m : Command} {a : Answer} (k : WholeFor s
   unfolding pairs pairs₁
   change = did-changes s did (heapOf s w) (λ c. c) (heap-stands s w k)
 
-  -- where all pairs are kept, cells in use stay in use
+  -- where all pairs are kept, the objects stay where they are
   kept-living : pairs₁ ≡ pairs → (p p₁ : List ℕ) → Living s w p → p₁ ≡ p → Living s w₁ p₁
   kept-living k p p₁ l e c i = after c c (ap (λ (l : List ℕ). getD l c 0) k ∙ before c (l c (subst (λ (q : List ℕ). In (suc c) q) e i)))
 
@@ -141,7 +141,7 @@ module _ {w : Words} (b : Block) (ran : Ran w (b .block) (b .lent) (b .number) (
         subst (λ (x : List ℕ). Living (sizesIn (b .words)) (b .words) x) (sym (e′ n)) (subst (λ (v : Words). Living (sizesIn v) v start) (sym (ran .refused n .0)) l),
       )
 
--- from any pairs that lead to cells in use
+-- from any pairs that lead to objects' cells
 pub traced-same : {w w′ : Words} {bs : List Block} (runs : Runs w bs w′) (start p q : List ℕ) → Living (sizesIn w) w start → Traced runs start p → Traced runs start q → p ≡ q
 traced-same stop start p q l e f = e ∙ sym f
 traced-same (next {b = b} ran rest) start p q l e f =

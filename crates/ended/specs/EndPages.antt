@@ -23,7 +23,7 @@ use Rattle.promises.specs.OwnedPages.{counted-objects}
 use Rattle.ended.specs.WordsPlaced.{target-level}
 use Rattle.ended.specs.EndQuestion.{pagesNeeded}
 
--- the regions of one thread have numbers in the order of their levels
+-- the regions of one thread at two levels are two
 levels-apart : (s : Sizes) (t i j : ℕ) → regionAt s t i ≡ regionAt s t j → i ≡ j
 levels-apart s t i j e = go (decLt i j) (decLt j i)
   where

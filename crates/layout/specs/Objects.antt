@@ -1,5 +1,6 @@
--- Objects in the cells: where one begins, which words are its own, and its slots. An object takes one cell: what rests on that cites
--- `used-begins`, `begins-on`, `begins-there`, `room-is`, `room-most` or `spot`, or says that a cell is in use.
+-- Objects in the cells: where one begins, which words are its own, and its slots. An object takes one cell. What rests on that cites one of
+-- `begins-used`, `used-begins`, `begins-on`, `begins-there`, `spot`, `slot-word`, `word-slot`, `none-before`, `none-after`, `none-past` here,
+-- `room-is`, `room-most`, `most-is`, `most-words` or `field-page` to `field-high` in Cells, or copies a whole cell (`copy`).
 use Prim.Native.Nat.{ℕ, zero, suc, _+_, _-_, _*_, _≤_, _<_}
 use native.Mathlib.Omega.{arith}
 use mathlib.Core.List.{List}

@@ -20,7 +20,7 @@ use Rattle.whole.specs.Cells.{CellsWhole}
 abbrev pub crossingTo : Sizes → List ℕ → List ℕ → ℕ → ℕ
 crossingTo p c t n = count (crossing p c t) n
 
--- every cell in use is whole, and so many slots cross
+-- every object is whole, and so many slots cross
 pub record CellsCross (p : Sizes) (c t : List ℕ) (n : ℕ) : Type 0 where
   pub whole : CellsWhole p c t
   pub crossing : crossingTo p c t (cellsWords p) ≡ n
