@@ -31,9 +31,9 @@ use Rattle.layout.specs.Objects.{begins-page, begins-true, begins-false, begins
 use Rattle.remember.specs.Crosses.{slot-cross, cross-slot}
 use Rattle.promises.specs.Slots.{region-of}
 use Rattle.promises.specs.Reading.{ref-room, no-home, refs-room, used-home, used-owned, used-alive, length-refs, getD-refs, refs-few, words-closed}
-use Rattle.mark.specs.Marks.{owner, Kept, kept-refs, kept-field, kept-owner}
+use Rattle.mark.specs.Marks.{owner, kept-refs, kept-field, kept-owner}
 use Rattle.mark.specs.Reached.{home-cell, cell-home, is-other}
-use Rattle.mark.specs.Survivors.{Marked, marked-kept}
+use Rattle.mark.specs.Survivors.{Marked}
 use Rattle.census.specs.Counted.{over-cells}
 use Rattle.census.specs.After.{homeAfter, crossOne, one-rule, crossAfter, cellCrosses, slotCrosses, entriesCross, crossingAfter}
 
@@ -47,9 +47,6 @@ module _ (s : Sizes) (w : Words) (k : WholeFor s w) (space : Room s (length (w .
   abbrev h : Graph
   h = ended s g r
 
-  kept : Kept p (w .cells) (w .tables) (w′ .cells) (w′ .tables)
-  kept = marked-kept s w k (partOf s w r) w′ M
-
   ended-refs : (x : ℕ) → h .refs x ≡ refsIn w x
   unfolding ended
   ended-refs x = refl
@@ -61,7 +58,7 @@ module _ (s : Sizes) (w : Words) (k : WholeFor s w) (space : Room s (length (w .
   -- ---- where objects lie afterwards
 
   owner-now : (x : ℕ) → BeginsIn s w x → owner p (w′ .tables) x ≡ homeIn s w x
-  owner-now x u = kept-owner kept space x (begins-page _ _ _ _ u) ∙ sym (used-home s w k x u)
+  owner-now x u = kept-owner (M .kept) space x (begins-page _ _ _ _ u) ∙ sym (used-home s w k x u)
 
   home-after : (x : ℕ) → BeginsIn s w x → homeAfter p (w′ .cells) (w′ .tables) r x ≡ h .home x
   unfolding homeAfter
@@ -105,7 +102,7 @@ module _ (s : Sizes) (w : Words) (k : WholeFor s w) (space : Room s (length (w .
         let v : getD (refsIn w x) f 0 ≡ fieldOf (w .cells) x f = getD-refs w x f l in
         let l′ : f < refCount w x = l in
         ap (crossRef h x) v ∙ cross-one x (fieldOf (w .cells) x f) (k .objects x u .references f l) (slot-alive x f a l)
-        ∙ ap (crossAfter p (w′ .cells) (w′ .tables) r (h .home x)) (sym (kept-field kept x f (omega (arith, refs-few s w k x u)))))
+        ∙ ap (crossAfter p (w′ .cells) (w′ .tables) r (h .home x)) (sym (kept-field (M .kept) x f (omega (arith, refs-few s w k x u)))))
 
     -- what the rules count of it
     counted : (h .home x ≡ 0 → ⊥) → crossAt h x ≡ crossIn h x (refsIn w x)
@@ -141,7 +138,7 @@ module _ (s : Sizes) (w : Words) (k : WholeFor s w) (space : Room s (length (w .
           (λ z. let off = M .freed x (u .0) (u .1) (sym (home-went s g r x e) ∙ z) in let y : ⊥ = omega arith in y) in
           ap (λ (b : ℕ). b * sum (λ f. crossAfter p (w′ .cells) (w′ .tables) r (workOf (w′ .cells) x) (fieldOf (w′ .cells) x f)) (refsOf (w′ .cells) x)) on
           ∙ one-mul _
-          ∙ ap₂ (λ (a n : ℕ). sum (λ f. crossAfter p (w′ .cells) (w′ .tables) r a (fieldOf (w′ .cells) x f)) n) t (kept-refs kept x)
+          ∙ ap₂ (λ (a n : ℕ). sum (λ f. crossAfter p (w′ .cells) (w′ .tables) r a (fieldOf (w′ .cells) x f)) n) t (kept-refs (M .kept) x)
           ∙ sym (slots-cross x (u .0) some) ∙ sym (counted x (u .0) some)
           ∙ sym (ap (λ (b : Bool). cond b (crossAt h x) 0) (eq-eqb (homeIn s w x) r e))
       go (no off) (no n) = ap (λ (b : ℕ). b * sum (λ f. crossAfter p (w′ .cells) (w′ .tables) r (workOf (w′ .cells) x) (fieldOf (w′ .cells) x f)) (refsOf (w′ .cells) x)) (zero-bit x off) ∙ zero-mul _ ∙ sym (ap (λ (b : Bool). cond b (crossAt h x) 0) (ne-eqb (homeIn s w x) r n))
@@ -222,7 +219,7 @@ module _ (s : Sizes) (w : Words) (k : WholeFor s w) (space : Room s (length (w .
             ap (λ (q : ℕ). other (ownerIn s w q) (regionOf p (w .tables) (fieldOf (w .cells) x f))) (sym page)
             ∙ sym (slot-cross p (w .cells) (w .tables) (fieldAt x f) (field-slot p (w .cells) (w .tables) x f u inside l)) ∙ omega arith in
             still-no (fieldAt x f) b ∙ sym (quiet (fieldOf (w .cells) x f) ref z) ∙ cross-one x (fieldOf (w .cells) x f) ref (slot-alive x f some l)
-            ∙ ap (crossAfter p (w′ .cells) (w′ .tables) r (h .home x)) (sym (kept-field kept x f (omega (arith, refs-few s w k x u))))
+            ∙ ap (crossAfter p (w′ .cells) (w′ .tables) r (h .home x)) (sym (kept-field (M .kept) x f (omega (arith, refs-few s w k x u))))
 
   -- an object of r counts with the survivors, a cell where none begins not at all
   object-sum : (x : ℕ) → slotsOf p (w .cells) (w .tables) still x ≡ outside x

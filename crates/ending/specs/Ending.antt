@@ -58,7 +58,7 @@ module _ {s : Sizes} {t : ℕ} {w w₁ : Words} (e : Ending s t w w₁) where
   deep = omega (arith, e .epoch)
 
   pub room-now : Room s (length (w₁ .tables))
-  room-now = subst (Room s) (sym (e .marks .tables-length)) room-of
+  room-now = subst (Room s) (sym (e .marks .kept .tables-length)) room-of
 
   pub depth-now : depthOf (w₁ .tables) t ≡ depthIn w t
   depth-now = depth-same (e .marks) room-of t (e .thread)

@@ -220,10 +220,10 @@ module _ {s : Sizes} {w w₁ : Words} {e : Part} {W T : List ℕ} {S : ℕ → T
       record {
         beyond =
             record {
-              cells = same-from (cellsWords s) (w .cells) W′ (k .cells .size ∙ h .forwards .copying .cells-size ∙ h .marks .cells-length) far;
+              cells = same-from (cellsWords s) (w .cells) W′ (k .cells .size ∙ h .forwards .copying .cells-size ∙ h .marks .kept .cells-length) far;
               remember = same-from (rememberWords s) (w .remember) M′ (U .edited .long) (U .edited .spare);
               tables =
-                  same-from (tablesWords s) (w .tables) T′ (Z .size ∙ Y .size ∙ h .forwards .copying .tables-size ∙ h .marks .tables-length) (λ x l. same-word x (λ z. l));
+                  same-from (tablesWords s) (w .tables) T′ (Z .size ∙ Y .size ∙ h .forwards .copying .tables-size ∙ h .marks .kept .tables-length) (λ x l. same-word x (λ z. l));
             };
         sizes = λ j l. same-word j (λ z. omega arith);
         entries = U .edited .size;

@@ -16,13 +16,14 @@ use Rattle.layout.specs.Words.{Words, Begins, BeginsIn, ownerIn, headIn, refCou
 use Rattle.promises.specs.Whole.{WholeFor}
 use Rattle.promises.specs.Reading.{refs-few}
 use Rattle.promises.specs.Ends.{Part, Outside, Survivor, Lives, outside-lives, survivor-lives, lives-how}
-use Rattle.mark.specs.Survivors.{Marked}
+use Rattle.mark.specs.Marks.{kept-head, kept-field, kept-in-use, in-use-kept}
+use Rattle.mark.specs.Survivors.{Marked, unmarked-freed}
 use Rattle.copy.specs.Marks.{mark?}
 use Rattle.copy.specs.Passing.{Ready}
 use Rattle.copy.specs.Forward.{Forwards, Moved, forward}
 use Rattle.settle.specs.Rewrite.{forwarded, forward-null, forward-still, forward-moved}
 use Rattle.ended.specs.Living.{KeepsNamed}
-use Rattle.ending.specs.MarkedWords.{marked-survivor, unmarked-freed, head-same, field-same, outside-work, owner-same, now-used, was-used}
+use Rattle.ending.specs.MarkedWords.{marked-survivor, outside-work, owner-same}
 
 -- What an end asks of its part: its pages have owners, its survivors go to regions that do not end, and what lives on keeps what it names.
 pub record Sends (s : Sizes) (w : Words) (e : Part) : Type 0 where
@@ -83,7 +84,7 @@ module _ {s : Sizes} {w w₁ : Words} {e : Part} {W T : List ℕ} (h : HasMoved 
   page-of = begins-page s (w .cells) (w .tables)
 
   now : (c : ℕ) → BeginsIn s w c → BeginsIn s w₁ c
-  now = now-used (h .marks) (h .room)
+  now = kept-in-use (h .marks .kept) (h .room)
 
   -- they are in their cells still, on pages of their owners
   pub old-used : (c : ℕ) → BeginsIn s w c → Begins s W T c
@@ -168,13 +169,13 @@ module _ {s : Sizes} {w w₁ : Words} {e : Part} {W T : List ℕ} (h : HasMoved 
     pub placed-head : headOf W (placed W c) ≡ headIn w c
     placed-head =
         let z : (d : ℕ) → headAt d ≡ wordAt d 0 = λ d. omega arith in
-        ap (λ (x : ℕ). getD W x 0) (z (placed W c)) ∙ word 0 (omega arith) (λ y. omega arith) ∙ ap (λ (x : ℕ). getD (w₁ .cells) x 0) (sym (z c)) ∙ head-same (h .marks) c
+        ap (λ (x : ℕ). getD W x 0) (z (placed W c)) ∙ word 0 (omega arith) (λ y. omega arith) ∙ ap (λ (x : ℕ). getD (w₁ .cells) x 0) (sym (z c)) ∙ kept-head (h .marks .kept) c
 
     pub placed-field : (f : ℕ) → f < mostFields → fieldOf W (placed W c) f ≡ fieldOf (w .cells) c f
     placed-field f m =
         let z : (d : ℕ) → fieldAt d f ≡ wordAt d (2 + f) = λ d. omega arith in
         ap (λ (x : ℕ). getD W x 0) (z (placed W c)) ∙ word (2 + f) (omega (arith, most-is)) (λ y. omega arith) ∙ ap (λ (x : ℕ). getD (w₁ .cells) x 0) (sym (z c))
-        ∙ field-same (h .marks) c f m
+        ∙ kept-field (h .marks .kept) c f m
 
     pub placed-work : workOf W (placed W c) ≡ 0
     placed-work = by-kind (λ d. workOf W d ≡ 0) c (outside-idle c) (λ v. copy c v .clear) l
@@ -195,7 +196,7 @@ module _ {s : Sizes} {w w₁ : Words} {e : Part} {W T : List ℕ} (h : HasMoved 
   placed-only d u n = ⊎-elim old new (h .forwards .only d u)
     where
       old : BeginsIn s w₁ d → (c : ℕ) × Lives s w e c × (placed W c ≡ d)
-      old q = let o : Outside s w e d = record { used = was-used (h .marks) (h .room) d q; out = n } in (d, outside-lives o, outside-placed d o)
+      old q = let o : Outside s w e d = record { used = in-use-kept (h .marks .kept) (h .room) d q; out = n } in (d, outside-lives o, outside-placed d o)
 
       new : (c : ℕ) × (pageOf c < s .pages) × (marked s (w₁ .tables) c ≡ 1) × (forward W c ≡ d) → (c : ℕ) × Lives s w e c × (placed W c ≡ d)
       new q = let v = marked-survivor (h .marks) (q .0) (q .1) (q .2) in (q .0, survivor-lives v, survivor-placed (q .0) v ∙ q .3)
@@ -209,7 +210,7 @@ module _ {s : Sizes} {w w₁ : Words} {e : Part} {W T : List ℕ} (h : HasMoved 
           ⊎-elim (λ z. absurd (n (h .forwards .copying .links c q z ∙ idle z (e .ends? (pageOf c))))) (marked-survivor (h .marks) c (page-of c b)) (mark? s (w₁ .tables) c)
         where
           b : BeginsIn s w c
-          b = was-used (h .marks) (h .room) c q
+          b = in-use-kept (h .marks .kept) (h .room) c q
 
           idle : marked s (w₁ .tables) c ≡ 0 → Dec (e .ends (pageOf c)) → workOf (w₁ .cells) c ≡ 0
           idle z (yes y) = h .marks .goes c b y ∙ unmarked-freed (h .marks) c b y (λ (x : marked s (w₁ .tables) c ≡ 1). omega arith)

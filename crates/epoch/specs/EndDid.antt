@@ -25,9 +25,10 @@ use Rattle.promises.specs.Promises.{DidHere}
 use Rattle.promises.specs.OwnedPages.{ownedIn, pagesOwned, owned-same, owner-low, region-pages, counted-objects}
 use Rattle.promises.specs.Ends.{partOf}
 use Rattle.pages.specs.Owned.{Paged}
-use Rattle.mark.specs.Marks.{Kept, Shaped, kept-shaped}
+use Rattle.mark.specs.Marks.{Shaped, kept-in-use, kept-shaped}
 use Rattle.mark.specs.Holders.{Holding, holding-kept}
-use Rattle.mark.specs.Survivors.{Marked, marked-kept, space-of, shaped-at, holding-at}
+use Rattle.mark.specs.Reached.{whole-holding}
+use Rattle.mark.specs.Survivors.{Marked, space-of, shaped-at}
 use Rattle.mark.specs.Unmark.{Unmarked, cells-back, tables-back}
 use Rattle.census.specs.Counted.{goesTo}
 use Rattle.census.specs.Census.{over-none}
@@ -36,7 +37,7 @@ use Rattle.census.specs.After.{slotCrosses, slot-le}
 use Rattle.copy.specs.Copying.{region-bounds}
 use Rattle.ended.specs.AfterEnd.{endOf}
 use Rattle.ended.specs.EndQuestion.{pagesNeeded, crossingAfter, end-question, refused-shut, ended-refused}
-use Rattle.ending.specs.MarkedWords.{owner-same, count-same, now-used}
+use Rattle.ending.specs.MarkedWords.{owner-same, count-same}
 use Rattle.ending.specs.MarkedReady.{pages-same}
 use Rattle.ending.specs.Stages as st
 use Rattle.ending.specs.Ending.{Ending, Accepted, room-of, deep, depth-now, depth-high, begun}
@@ -65,13 +66,10 @@ module _ {p : Sizes} {t : ℕ} {w w₁ : Words} (m : Ending p t w w₁) where
   marks : Marked s w (partOf s w (regionAt s t (suc k))) w₁
   marks = subst (λ (n : ℕ). Marked s w (partOf s w (regionAt s t n)) w₁) (deep m) (m .marks)
 
-  kept : Kept p (w .cells) (w .tables) (w₁ .cells) (w₁ .tables)
-  kept = marked-kept s w (m .whole) (partOf s w (regionAt s t (suc k))) w₁ marks
-
   -- ---- what the calls ask
 
   pub cells-now : cellsWords p ≤ length (w₁ .cells)
-  cells-now = omega (arith, m .whole .sized .cells, marks .cells-length)
+  cells-now = omega (arith, m .whole .sized .cells, marks .kept .cells-length)
 
   level-now : depthOf (w₁ .tables) t ≡ suc k
   level-now = depth-now m ∙ deep m
@@ -83,15 +81,15 @@ module _ {p : Sizes} {t : ℕ} {w w₁ : Words} (m : Ending p t w w₁) where
   small-now = marks .small
 
   pub used-now : (c : ℕ) → pageOf c < p .pages → marked p (w₁ .tables) c ≡ 1 → BeginsIn p w₁ c
-  used-now c l on = now-used marks (room-of m) c (marks .only c l on .0)
+  used-now c l on = kept-in-use (marks .kept) (room-of m) c (marks .only c l on .0)
 
   pub shaped-now : Shaped p (w₁ .cells) (w₁ .tables)
-  shaped-now = kept-shaped kept (shaped-at p w (m .whole) (m .fits))
+  shaped-now = kept-shaped (marks .kept) (shaped-at p w (m .whole) (m .fits))
 
   pub holding-now : Holding p (w₁ .cells) (w₁ .remember) (w₁ .tables)
   holding-now =
       subst (λ (M : List ℕ). Holding p (w₁ .cells) M (w₁ .tables)) (sym (marks .remember))
-      (holding-kept kept (space-of p w (m .whole) (m .fits)) (holding-at p w (m .whole) (m .fits)))
+      (holding-kept (marks .kept) (space-of p w (m .whole) (m .fits)) (whole-holding p w (m .whole)))
 
   pub targets-now : (c : ℕ) → pageOf c < p .pages → marked p (w₁ .tables) c ≡ 1 → workOf (w₁ .cells) c ≤ regions p
   targets-now = targets-low s w (m .whole) (room-of m) t k (m .thread) (deep m) w₁ marks

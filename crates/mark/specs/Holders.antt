@@ -1,25 +1,24 @@
 -- The holders at the end of region r, read from the words: all variables, and the remembered slots that point into r. Each holds a
 -- reference and calls for a region.
 use mathlib.Core.Path.{_≡_, refl, sym, ap, ap₂, _∙_, subst}
-use mathlib.Core.Logic.{_≢_, inl, ⊎-elim}
+use mathlib.Core.Logic.{_≢_}
 use mathlib.Core.Bool.{Bool, true, false, cond}
 use mathlib.Core.List.{List, _++_}
-use Prim.Native.Nat.{ℕ, _+_, _-_, _/_, _≤_, _<_}
+use Prim.Native.Nat.{ℕ, _+_, _/_, _≤_, _<_}
 use native.Mathlib.Omega.{arith}
 use lib.Dec.{eqb}
 use lib.ListN.{length, getD}
 use borrow.Author.Tests.{eq-eqb, ne-eqb}
-use Rattle.lists.specs.Members.{In, in-append}
 use Rattle.rules.specs.Regions.{join}
 use Rattle.rules.specs.declared.Sizes.{Sizes}
 use Rattle.layout.specs.Places.{Room, varOf, ownerOf, usedIn, slotIn, slotRegionIn, varsFrom, cellsWords, rememberWords, varCount}
 use Rattle.layout.specs.Cells.{pageAt, cellOf, wordOf, at-page}
-use Rattle.layout.specs.Objects.{Begins, Slot, slot-word}
+use Rattle.layout.specs.Objects.{Slot, slot-word}
 use Rattle.layout.specs.Words.{words}
 use Rattle.remember.specs.Crosses.{cross-slot}
 use Rattle.promises.specs.Whole.{IsRef, VariablesWhole, RememberWhole}
 use Rattle.promises.specs.Frames.{variables-frame, remember-frame}
-use Rattle.mark.specs.Marks.{Shaped, Kept, kept-only, kept-owner, named, named-from, named-same}
+use Rattle.mark.specs.Marks.{Shaped, Kept, kept-only, kept-owner, named, named-same}
 
 -- reference x of a holder that calls for q, or null if that is not g
 abbrev pub heldFor : ℕ → ℕ → ℕ → ℕ
@@ -82,20 +81,6 @@ module _ {p : Sizes} {W m T : List ℕ} (s : Shaped p W T) (h : Holding p W m T)
       cond-ref p W T (eqb (slotRegionIn (p .entries) m i) r) (heldFor g (slotCalls p m T r i) (getD W (slotIn m i) 0))
       (cond-ref p W T (eqb (slotCalls p m T r i) g) (getD W (slotIn m i) 0) (slot-ref h s i l))
 
-  pub held-used : (r thread outer g x : ℕ) → In x (heldCells p W m T r thread outer g) → Begins p W T x
-  unfolding heldCells
-  held-used r thread outer g x i =
-      ⊎-elim (λ j. of (varHeld p T thread outer g) (varCount p) (var-held-ref thread outer g) j)
-      (λ j. of (slotHeld p W m T r g) (usedIn m) (slot-held-ref r g) j)
-      (in-append x (named (varHeld p T thread outer g) (varCount p)) (named (slotHeld p W m T r g) (usedIn m)) i)
-    where
-      of : (ref : ℕ → ℕ) (n : ℕ) → ((k : ℕ) → k < n → IsRef p W T (ref k)) → In x (named ref n) → Begins p W T x
-      of ref n u j =
-          let q = named-from ref n x j in
-          let e : ref (q .0) ≡ 1 + x = q .2 in
-          let d : ref (q .0) - 1 ≡ x = omega arith in
-          subst (λ (y : ℕ). Begins p W T y) d (u (q .0) (q .1) (omega arith))
-
 -- ---- what is held, as the code decides it
 
 pub calls-own : (p : Sizes) (thread outer i : ℕ) → i / p .variables ≡ thread → outer ≡ varCalls p thread outer i
@@ -141,12 +126,6 @@ module _ (p : Sizes) (W m T : List ℕ) (r g i : ℕ) where
 -- ---- a marking changes none of it
 
 module _ {p : Sizes} {W T W′ T′ : List ℕ} (k : Kept p W T W′ T′) (room : Room p (length T)) {m : List ℕ} (h : Holding p W m T) where
-  kept-var : (i : ℕ) → i < varCount p → varOf p T′ i ≡ varOf p T i
-  kept-var i l = k .tables (varsFrom p + i) (inl (omega arith))
-
-  kept-slot : (i : ℕ) → i < usedIn m → getD W′ (slotIn m i) 0 ≡ getD W (slotIn m i) 0
-  kept-slot i l = k .words (slotIn m i) (slot-field h i l)
-
   pub holding-kept : Holding p W′ m T′
   holding-kept =
       let o = kept-only k room m in
@@ -154,13 +133,13 @@ module _ {p : Sizes} {W T W′ T′ : List ℕ} (k : Kept p W T W′ T′) (room
 
   pub kept-var-held : (thread outer g i : ℕ) → i < varCount p → varHeld p T′ thread outer g i ≡ varHeld p T thread outer g i
   unfolding varHeld
-  kept-var-held thread outer g i l = ap (heldFor g (varCalls p thread outer i)) (kept-var i l)
+  kept-var-held thread outer g i l = ap (heldFor g (varCalls p thread outer i)) (k .tables (varsFrom p + i) (λ page h e. omega arith))
 
   pub kept-slot-held : (r g i : ℕ) → i < usedIn m → slotHeld p W′ m T′ r g i ≡ slotHeld p W m T r g i
   unfolding slotHeld
   kept-slot-held r g i l =
       let page : pageAt (slotIn m i) < p .pages = at-page p (slotIn m i) (slot-low h i l) in
-      ap₂ (λ (q x : ℕ). cond (eqb (slotRegionIn (p .entries) m i) r) (heldFor g (join p r q) x) 0) (kept-owner k room (cellOf (slotIn m i)) page) (kept-slot i l)
+      ap₂ (λ (q x : ℕ). cond (eqb (slotRegionIn (p .entries) m i) r) (heldFor g (join p r q) x) 0) (kept-owner k room (cellOf (slotIn m i)) page) (k .cells (slotIn m i) (λ c b e. slot-field h i l (omega arith)))
 
   pub kept-held-cells : (r thread outer g : ℕ) → heldCells p W′ m T′ r thread outer g ≡ heldCells p W m T r thread outer g
   unfolding heldCells

@@ -1,12 +1,11 @@
 -- The words that a marking reads and writes: the objects of a region, their mark bits, and what one push does.
 use mathlib.Core.Path.{_≡_, refl, sym, ap, _∙_, subst, subst₂}
 use mathlib.Core.Logic.{_≢_, _⊎_, inl, inr, ⊎-elim}
-use mathlib.Core.Bool.{false}
 use mathlib.Core.List.{List, [], _∷_}
 use Prim.Native.Nat.{ℕ, zero, suc, _+_, _-_, _^_, _≤_, _<_}
 use native.Mathlib.Decide.{ℕ-discrete, decLt}
 use native.Mathlib.Omega.{arith}
-use lib.ListN.{length, getD, set}
+use lib.ListN.{length, getD, set, length-set}
 use lib.Seq.{getD-set-same, getD-set-other}
 use Rattle.lists.specs.Bits.{bitAt, bit-lt, no-bits, none-high, set-same, set-other}
 use Rattle.lists.specs.Members.{In}
@@ -14,13 +13,13 @@ use Rattle.lists.specs.Says.{true-not-false}
 use Rattle.lists.specs.Stores.{drop-same}
 use Rattle.rules.specs.declared.Sizes.{Sizes}
 use Rattle.layout.specs.declared.Kind.the-variants.{Reference}
-use Rattle.layout.specs.Places.{Room, ownerOf, markAt, markOf, marksFrom, ownersFrom, cellsWords, count-room}
-use Rattle.layout.specs.Cells.{workAt, workOf, fieldOf, headOf, refsOf, pageOf, placeOf, cellOn, fieldAt, fieldCount, headAt, mostFields, room-most, pageCells, wordOf, head-there, field-word}
+use Rattle.layout.specs.Places.{Room, ownerOf, markAt, markOf, ownersFrom, cellsWords, count-room}
+use Rattle.layout.specs.Cells.{workAt, workOf, fieldOf, headOf, refsOf, pageOf, placeOf, cellOn, fieldAt, fieldCount, headAt, mostFields, room-most, pageCells, head-there, field-word}
 use Rattle.layout.specs.Marks.{marked}
 use Rattle.layout.specs.Objects.{Begins}
 use Rattle.layout.specs.Words.{words}
-use Rattle.promises.specs.Whole.{ObjectWhole}
-use Rattle.promises.specs.Areas.{Area, markWords, workWords, among, Within, Only, only-trans, mark-in, arrays-apart, tables-only, cells-only}
+use Rattle.promises.specs.Whole.{IsRef, ObjectWhole}
+use Rattle.promises.specs.Areas.{markWords, workWords, Only, only-trans, mark-in, arrays-apart, tables-only, cells-only}
 use Rattle.promises.specs.Frames.{begins-frame, begins-was, objects-stay, objects-frame}
 
 -- the region that owns the page of a cell
@@ -37,15 +36,26 @@ pub record Shaped (p : Sizes) (W T : List ℕ) : Type 0 where
 pub shaped-few : {p : Sizes} {W T : List ℕ} → Shaped p W T → (c : ℕ) → Begins p W T c → refsOf W c ≤ mostFields
 shaped-few s c u = omega (arith, s .objects c u .head)
 
--- c is r's and not marked, and a chain of slots inside r leads to it from one of the cells S, over cells that are not marked
-pub data Reach (p : Sizes) (r : ℕ) (W T S : List ℕ) : ℕ → Type 0 where
-  held : {c : ℕ} → In c S → owner p T c ≡ r → marked p T c ≡ 0 → Reach p r W T S c
-  via : {b c : ℕ} → Reach p r W T S b → (f : ℕ) → f < refsOf W b → fieldOf W b f ≡ 1 + c → owner p T c ≡ r → marked p T c ≡ 0 → Reach p r W T S c
+-- c is an object of r
+abbrev pub Ours : Sizes → ℕ → List ℕ → List ℕ → ℕ → Type 0
+Ours p r W T c = Begins p W T c × (owner p T c ≡ r)
 
--- a chain of slots inside r, from x to c
-pub data Leads (p : Sizes) (r : ℕ) (W T : List ℕ) (x : ℕ) : ℕ → Type 0 where
-  here : owner p T x ≡ r → Leads p r W T x x
-  step : {b c : ℕ} → Leads p r W T x b → (f : ℕ) → f < refsOf W b → fieldOf W b f ≡ 1 + c → owner p T c ≡ r → Leads p r W T x c
+-- and not marked
+abbrev pub Fresh : Sizes → ℕ → List ℕ → List ℕ → ℕ → Type 0
+Fresh p r W T c = Ours p r W T c × (marked p T c ≡ 0)
+
+-- a chain of slots leads from one of the cells S to c, over cells of which P holds
+pub data Leads (P : ℕ → Type 0) (W S : List ℕ) : ℕ → Type 0 where
+  held : {c : ℕ} → In c S → P c → Leads P W S c
+  via : {b c : ℕ} → Leads P W S b → (f : ℕ) → f < refsOf W b → fieldOf W b f ≡ 1 + c → P c → Leads P W S c
+
+pub leads-last : {P : ℕ → Type 0} {W S : List ℕ} {c : ℕ} → Leads P W S c → P c
+leads-last (held i o) = o
+leads-last (via q f lt e o) = o
+
+-- what a reference names
+pub ref-begins : (p : Sizes) (W T : List ℕ) (x c : ℕ) → IsRef p W T x → x ≡ 1 + c → Begins p W T c
+ref-begins p W T x c u e = subst (Begins p W T) (let z : x - 1 ≡ c = omega arith in z) (u (omega arith))
 
 -- the pending cells, linked through word 1, the bottom's link null
 abbrev pub Chain : List ℕ → ℕ → List ℕ → Type 0
@@ -113,64 +123,86 @@ pub record Linked (p : Sizes) (r : ℕ) (W T : List ℕ) (top x : ℕ) (W′ T�
 abbrev pub Pushed : (p : Sizes) (r : ℕ) (W T : List ℕ) (top x : ℕ) (W′ T′ : List ℕ) (top′ : ℕ) → Type 0
 Pushed p r W T top x W′ T′ top′ = Skipped p r W T top x W′ T′ top′ ⊎ Linked p r W T top x W′ T′ top′
 
--- ---- what no push and no pop changes: everything but word 1 of cells and the low 16 bits of working words
+-- ---- what no push and no pop changes: everything but word 1 of cells and working words
+
+-- working words hold a bit for each cell
+abbrev pub Small : Sizes → List ℕ → Type 0
+Small p T = (page : ℕ) → page < p .pages → markOf p T page < 2 ^ pageCells
 
 pub record Kept (p : Sizes) (W T W′ T′ : List ℕ) : Type 0 where
   pub cells-length : length W′ ≡ length W
   pub tables-length : length T′ ≡ length T
-  pub words : (q : ℕ) → wordOf q ≢ 1 → getD W′ q 0 ≡ getD W q 0
-  pub beyond : (q : ℕ) → cellsWords p ≤ q → getD W′ q 0 ≡ getD W q 0
-  pub tables : (q : ℕ) → (q < marksFrom p) ⊎ (marksFrom p + p .pages ≤ q) → getD T′ q 0 ≡ getD T q 0
-  pub high : (q i : ℕ) → 16 ≤ i → bitAt (getD T′ q 0) i ≡ bitAt (getD T q 0) i
+  pub cells : (q : ℕ) → ((c : ℕ) → pageOf c < p .pages → q ≡ workAt c → ⊥) → getD W′ q 0 ≡ getD W q 0
+  pub tables : (q : ℕ) → ((page : ℕ) → page < p .pages → q ≡ markAt p page → ⊥) → getD T′ q 0 ≡ getD T q 0
+  pub small : Small p T → Small p T′
 
 pub kept-refl : (p : Sizes) (W T : List ℕ) → Kept p W T W T
-kept-refl p W T = record { cells-length = refl; tables-length = refl; words = λ q h. refl; beyond = λ q h. refl; tables = λ q h. refl; high = λ q i h. refl }
+kept-refl p W T = record { cells-length = refl; tables-length = refl; cells = λ q n. refl; tables = λ q n. refl; small = λ s. s }
 
 pub kept-trans : {p : Sizes} {W T W′ T′ W″ T″ : List ℕ} → Kept p W T W′ T′ → Kept p W′ T′ W″ T″ → Kept p W T W″ T″
 kept-trans a b =
     record {
       cells-length = b .cells-length ∙ a .cells-length;
       tables-length = b .tables-length ∙ a .tables-length;
-      words = λ q h. b .words q h ∙ a .words q h;
-      beyond = λ q h. b .beyond q h ∙ a .beyond q h;
-      tables = λ q h. b .tables q h ∙ a .tables q h;
-      high = λ q i h. b .high q i h ∙ a .high q i h;
+      cells = λ q n. b .cells q n ∙ a .cells q n;
+      tables = λ q n. b .tables q n ∙ a .tables q n;
+      small = λ s. b .small (a .small s);
     }
+
+-- a store to word 1 of a cell
+pub kept-work : (p : Sizes) (W T : List ℕ) (c v : ℕ) → pageOf c < p .pages → Kept p W T (set W (workAt c) v) T
+kept-work p W T c v l =
+    record {
+      cells-length = length-set W (workAt c) v;
+      tables-length = refl;
+      cells = λ q n. getD-set-other W (workAt c) q v 0 (n c l);
+      tables = λ q n. refl;
+      small = λ s. s;
+    }
+
+-- and to the working word of a page
+pub kept-mark : (p : Sizes) (W T : List ℕ) (page v : ℕ) → page < p .pages → markAt p page < length T → (Small p T → v < 2 ^ pageCells) → Kept p W T W (set T (markAt p page) v)
+kept-mark p W T page v l long low =
+    record {
+      cells-length = refl;
+      tables-length = length-set T (markAt p page) v;
+      cells = λ q n. refl;
+      tables = λ q n. getD-set-other T (markAt p page) q v 0 (n page l);
+      small = λ s q h. go s q h (ℕ-discrete q page);
+    }
+  where
+    go : Small p T → (q : ℕ) → q < p .pages → Dec (q ≡ page) → markOf p (set T (markAt p page) v) q < 2 ^ pageCells
+    go s q h (yes e) = omega (arith, low s, ap (λ (x : ℕ). markOf p (set T (markAt p page) v) x) e, getD-set-same T (markAt p page) v 0 long)
+    go s q h (no e) = omega (arith, s q h, getD-set-other T (markAt p page) (markAt p q) v 0 (λ y. e (omega arith)))
 
 module _ {p : Sizes} {W T W′ T′ : List ℕ} (k : Kept p W T W′ T′) where
   pub kept-head : (c : ℕ) → headOf W′ c ≡ headOf W c
-  kept-head c = k .words (headAt c) (omega (arith, head-there c))
+  kept-head c = k .cells (headAt c) (λ d l e. omega (arith, head-there c))
 
   pub kept-refs : (c : ℕ) → refsOf W′ c ≡ refsOf W c
   kept-refs c = ap (fieldCount Reference) (kept-head c)
 
   pub kept-field : (c f : ℕ) → f < mostFields → fieldOf W′ c f ≡ fieldOf W c f
-  kept-field c f h = k .words (fieldAt c f) (omega (arith, field-word c f h))
+  kept-field c f h = k .cells (fieldAt c f) (λ d l e. omega (arith, field-word c f h))
 
   module _ (room : Room p (length T)) where
     pub kept-owner : (c : ℕ) → pageOf c < p .pages → owner p T′ c ≡ owner p T c
-    kept-owner c h = k .tables (ownersFrom p + pageOf c) (inl (omega arith))
+    kept-owner c h = k .tables (ownersFrom p + pageOf c) (λ page l e. omega arith)
 
     -- the working words are other words, and nothing else is
     pub kept-only : (m : List ℕ) → Only (markWords ∷ workWords ∷ []) p (words W m T) (words W′ m T′)
     kept-only m = only-trans other-marks other-works (objects-stay other-marks refl refl)
       where
-        outside : (a : Area) (j : ℕ) → among a (markWords ∷ []) ≡ false → Within a p j → Dec (j < marksFrom p) → Dec (j < marksFrom p + p .pages) → (j < marksFrom p) ⊎ (marksFrom p + p .pages ≤ j)
-        outside a j n x (yes l) d = inl l
-        outside a j n x (no l) (no h) = inr (omega arith)
-        outside a j n x (no l) (yes h) =
-            let e : markAt p (j - marksFrom p) ≡ j = omega arith in
-            absurd (arrays-apart p a markWords j (markAt p (j - marksFrom p)) n x (mark-in p (j - marksFrom p) (omega arith)) (sym e))
-
         other-marks : Only (markWords ∷ []) p (words W m T) (words W m T′)
         other-marks =
             tables-only p (words W m T) T′ (markWords ∷ []) (k .tables-length)
-            (λ a n j x. k .tables j (outside a j n x (decLt j (marksFrom p)) (decLt j (marksFrom p + p .pages)))) (λ j l. k .tables j (inr (omega (arith, count-room p))))
+            (λ a n j x. k .tables j (λ page l. arrays-apart p a markWords j (markAt p page) n x (mark-in p page l)))
+            (λ j l. k .tables j (λ page h e. omega (arith, count-room p)))
 
         other-works : Only (workWords ∷ []) p (words W m T′) (words W′ m T′)
         other-works =
             cells-only p (words W m T′) W′ (workWords ∷ []) (λ n c b. kept-head c) (λ n. absurd (true-not-false (sym n)))
-            (λ n c b f l. kept-field c f (omega (arith, room-most (headOf W c)))) (record { long = k .cells-length; rest = drop-same (cellsWords p) W W′ (k .cells-length) (k .beyond) })
+            (λ n c b f l. kept-field c f (omega (arith, room-most (headOf W c)))) (record { long = k .cells-length; rest = drop-same (cellsWords p) W W′ (k .cells-length) (λ q h. k .cells q (λ c l e. omega arith)) })
 
     pub kept-in-use : (c : ℕ) → Begins p W T c → Begins p W′ T′ c
     kept-in-use = begins-frame (kept-only []) refl refl
@@ -178,13 +210,13 @@ module _ {p : Sizes} {W T W′ T′ : List ℕ} (k : Kept p W T W′ T′) where
     pub in-use-kept : (c : ℕ) → Begins p W′ T′ c → Begins p W T c
     in-use-kept = begins-was (kept-only []) refl refl
 
-    pub kept-room : Room p (length T′)
-    kept-room = subst (Room p) (sym (k .tables-length)) room
+    pub kept-ref : {x : ℕ} → IsRef p W T x → IsRef p W′ T′ x
+    kept-ref {x} u l = kept-in-use (x - 1) (u l)
 
   pub kept-shaped : Shaped p W T → Shaped p W′ T′
   kept-shaped s =
       record {
-        room = kept-room (s .room);
+        room = subst (Room p) (sym (k .tables-length)) (s .room);
         cells-long = omega (arith, s .cells-long, k .cells-length);
         objects = objects-frame (kept-only (s .room) []) refl refl refl (s .objects);
       }
@@ -195,11 +227,11 @@ abbrev pub AnyMarked : Sizes → List ℕ → Type 0
 AnyMarked p T = (c : ℕ) × (pageOf c < p .pages) × (marked p T c ≡ 1)
 
 -- a page without a marked cell has mark word 0
-pub page-unmarked : (p : Sizes) (T : List ℕ) (page : ℕ) → markOf p T page < 2 ^ 16 → ((c : ℕ) → pageOf c ≡ page → marked p T c ≡ 1 → ⊥) → markOf p T page ≡ 0
-page-unmarked p T page small none = no-bits (markOf p T page) (λ i. go i (decLt i 16))
+pub page-unmarked : (p : Sizes) (T : List ℕ) (page : ℕ) → markOf p T page < 2 ^ pageCells → ((c : ℕ) → pageOf c ≡ page → marked p T c ≡ 1 → ⊥) → markOf p T page ≡ 0
+page-unmarked p T page small none = no-bits (markOf p T page) (λ i. go i (decLt i pageCells))
   where
     go : (i : ℕ) → Dec (i < pageCells) → bitAt (markOf p T page) i ≡ 0
-    go i (no h) = none-high 16 (markOf p T page) i small (omega arith)
+    go i (no h) = none-high pageCells (markOf p T page) i small (omega arith)
     go i (yes h) = off (ℕ-discrete (bitAt (markOf p T page) i) 1)
       where
         off : Dec (bitAt (markOf p T page) i ≡ 1) → bitAt (markOf p T page) i ≡ 0
@@ -210,7 +242,7 @@ page-unmarked p T page small none = no-bits (markOf p T page) (λ i. go i (decLt
         off (no n) = omega (arith, bit-lt i (markOf p T page))
 
 -- where none is, every mark word is 0
-pub none-marked : (p : Sizes) (T : List ℕ) → ((page : ℕ) → page < p .pages → markOf p T page < 2 ^ 16) → (AnyMarked p T → ⊥) → (page : ℕ) → page < p .pages → markOf p T page ≡ 0
+pub none-marked : (p : Sizes) (T : List ℕ) → Small p T → (AnyMarked p T → ⊥) → (page : ℕ) → page < p .pages → markOf p T page ≡ 0
 none-marked p T small none page l = page-unmarked p T page (small page l) (λ c e on. none (c, omega arith, on))
 
 -- ---- a mark that is set
@@ -223,18 +255,15 @@ module _ (p : Sizes) (T : List ℕ) (c : ℕ) (long : markAt p (pageOf c) < leng
   mark-same =
       ap (λ (x : ℕ). bitAt x (placeOf c)) (getD-set-same T (markAt p (pageOf c)) word 0 long) ∙ set-same (placeOf c) (markOf p T (pageOf c)) off
 
-  -- bit i of the word at q, where they are not c's
-  pub mark-other : (q i : ℕ) → (q ≡ markAt p (pageOf c) → i ≢ placeOf c) → bitAt (getD (set T (markAt p (pageOf c)) word) q 0) i ≡ bitAt (getD T q 0) i
-  mark-other q i ne = go (ℕ-discrete q (markAt p (pageOf c)))
+  pub mark-other : (d : ℕ) → d ≢ c → marked p (set T (markAt p (pageOf c)) word) d ≡ marked p T d
+  mark-other d ne = go (ℕ-discrete (pageOf d) (pageOf c))
     where
-      go : Dec (q ≡ markAt p (pageOf c)) → bitAt (getD (set T (markAt p (pageOf c)) word) q 0) i ≡ bitAt (getD T q 0) i
+      go : Dec (pageOf d ≡ pageOf c) → marked p (set T (markAt p (pageOf c)) word) d ≡ marked p T d
       go (yes e) =
-          subst (λ (x : ℕ). bitAt (getD (set T (markAt p (pageOf c)) word) x 0) i ≡ bitAt (getD T x 0) i) (sym e)
-          (ap (λ (x : ℕ). bitAt x i) (getD-set-same T (markAt p (pageOf c)) word 0 long) ∙ set-other (placeOf c) i (markOf p T (pageOf c)) off (ne e))
-      go (no n) = ap (λ (x : ℕ). bitAt x i) (getD-set-other T (markAt p (pageOf c)) q word 0 n)
-
-  pub mark-other-cell : (d : ℕ) → d ≢ c → marked p (set T (markAt p (pageOf c)) word) d ≡ marked p T d
-  mark-other-cell d ne = mark-other (markAt p (pageOf d)) (placeOf d) (λ e f. ne (omega arith))
+          ap (λ (x : ℕ). bitAt (markOf p (set T (markAt p (pageOf c)) word) x) (placeOf d)) e
+          ∙ ap (λ (x : ℕ). bitAt x (placeOf d)) (getD-set-same T (markAt p (pageOf c)) word 0 long)
+          ∙ set-other (placeOf c) (placeOf d) (markOf p T (pageOf c)) off (λ f. ne (omega arith)) ∙ ap (λ (x : ℕ). bitAt (markOf p T x) (placeOf d)) (sym e)
+      go (no n) = ap (λ (x : ℕ). bitAt x (placeOf d)) (getD-set-other T (markAt p (pageOf c)) (markAt p (pageOf d)) word 0 (λ e. n (omega arith)))
 
 -- ---- a push as the code has it: the cell c of reference x, its page and place, and the working word w
 

@@ -1,6 +1,6 @@
 -- Whole words against the rules: chains of slots are the rules' chains, and the holders that marking takes from the words are the rules'
 -- holders, each at the level of the region that it calls for.
-use mathlib.Core.Path.{_≡_, refl, sym, ap, ap₂, _∙_, subst}
+use mathlib.Core.Path.{_≡_, refl, sym, ap, ap₂, _∙_}
 use mathlib.Core.Logic.{⊎-elim}
 use mathlib.Core.Bool.{Bool, true, false, cond}
 use mathlib.Core.List.{List}
@@ -10,7 +10,7 @@ use native.Mathlib.Numerals.{one-add}
 use native.Mathlib.Nat.{div-add-mod', mod-lt}
 use native.Mathlib.Decide.{ℕ-discrete, decLt}
 use lib.Dec.{eqb, leb}
-use lib.ListN.{length, getD}
+use lib.ListN.{getD}
 use borrow.Author.Tests.{ne-eqb, eqb-true, eqb-false, leb-false, lt-leb}
 use Rattle.lists.specs.Members.{In, in-append, in-left, in-right, getD-in, in-place, in-bounds}
 use Rattle.rules.specs.declared.Sizes.{Sizes}
@@ -18,7 +18,7 @@ use Rattle.rules.specs.Regions.{regionAt, threadOf, join}
 use Rattle.laws.specs.RegionLaws.{region-high, thread-at, parent-at, join-control, join-other, join-same}
 use Rattle.laws.specs.GraphLaws as gl
 use Rattle.laws.specs.GraphLaws.{Refers, Holds, bySlot, byOwn, byOther}
-use Rattle.layout.specs.Places.{varOf, usedIn, slotIn, slotRegionIn, Room, varCount}
+use Rattle.layout.specs.Places.{varOf, usedIn, slotIn, slotRegionIn, varCount}
 use Rattle.layout.specs.Cells.{fieldAt, fieldOf, pageOf, pageAt}
 use Rattle.layout.specs.Words.{Words, BeginsIn, ownerIn, homeIn, depthIn, refCount, refsIn, varsIn, graphOf}
 use Rattle.remember.specs.Crossing.{other, regionOf, crossTo}
@@ -27,7 +27,7 @@ use Rattle.layout.specs.Objects.{begins-page, field-on, slot-low, slot-page, fi
 use Rattle.remember.specs.Crosses.{slot-cross}
 use Rattle.promises.specs.Slots.{region-of}
 use Rattle.promises.specs.Reading.{used-home, used-owned, used-alive, alive-used, cell-low, length-refs, getD-refs, length-vars, getD-vars, ref-room}
-use Rattle.mark.specs.Marks.{Shaped, Leads, Leads.here, Leads.step, named, named-in, named-from}
+use Rattle.mark.specs.Marks.{Ours, Leads, Leads.held, Leads.via, leads-last, ref-begins, named, named-in, named-from}
 use Rattle.mark.specs.Holders.{varCalls, varHeld, slotCalls, slotHeld, heldCells, Holding, entry-slot, calls-own, calls-other, var-some, slot-some}
 
 -- ---- numbers that are chosen by tests
@@ -70,24 +70,22 @@ module _ (s : Sizes) (w : Words) (k : WholeFor s w) where
 
   -- what a reference names is in use
   field-used : (y f x : ℕ) → BeginsIn s w y → f < refCount w y → fieldOf (w .cells) y f ≡ suc x → BeginsIn s w x
-  field-used y f x u l e =
-      let z : fieldOf (w .cells) y f - 1 ≡ x = omega arith in subst (BeginsIn s w) z (k .objects y u .references f l (omega arith))
+  field-used y f x u l e = ref-begins s (w .cells) (w .tables) (fieldOf (w .cells) y f) x (k .objects y u .references f l) (e ∙ sym (one-add x))
 
   -- ---- chains
 
   module _ (r : ℕ) (pos : 0 < r) where
-    pub chain-rules : (x c : ℕ) → BeginsIn s w x → Leads s r (w .cells) (w .tables) x c → gl.Leads (graphOf s w) r x c × BeginsIn s w c × (homeIn s w c ≡ r)
-    chain-rules x c u (here own) = (gl.itself, u, cell-home x r u own)
-    chain-rules x c u (step {b = b} q f lt e own) =
-        let h = chain-rules x b u q in
-        let e′ : fieldOf (w .cells) b f ≡ suc c = e ∙ one-add c in
-        let v = field-used b f c (h .1) lt e′ in
-        (gl.along (h .0) (field-refers b f c (h .1) lt e′) (h .2) (cell-home c r v own), v, cell-home c r v own)
+    pub chain-rules : (S : List ℕ) (c : ℕ) → Leads (Ours s r (w .cells) (w .tables)) (w .cells) S c → (x : ℕ) × In x S × (homeIn s w x ≡ r) × gl.Leads (graphOf s w) r x c
+    chain-rules S c (held i o) = (c, i, cell-home c r (o .0) (o .1), gl.itself)
+    chain-rules S c (via {b = b} q f lt e o) =
+        let h = chain-rules S b q in
+        let u = leads-last q in
+        (h .0, h .1, h .2, gl.along (h .3) (field-refers b f c (u .0) lt (e ∙ one-add c)) (cell-home b r (u .0) (u .1)) (cell-home c r (o .0) (o .1)))
 
-    pub rules-chain : (x c : ℕ) → homeIn s w x ≡ r → gl.Leads (graphOf s w) r x c → Leads s r (w .cells) (w .tables) x c
-    rules-chain x c h gl.itself = here (home-cell x r h pos .1)
-    rules-chain x c h (gl.along {y = y} {z = z} q f a b) =
-        let i = refers-field y z f in step (rules-chain x y h q) (i .0) (i .1) (i .2 ∙ sym (one-add z)) (home-cell z r b pos .1)
+    pub rules-chain : (S : List ℕ) (x c : ℕ) → In x S → homeIn s w x ≡ r → gl.Leads (graphOf s w) r x c → Leads (Ours s r (w .cells) (w .tables)) (w .cells) S c
+    rules-chain S x c i h gl.itself = held i (home-cell x r h pos)
+    rules-chain S x c i h (gl.along {y = y} {z = z} q f a b) =
+        let e = refers-field y z f in via (rules-chain S x y i h q) (e .0) (e .1) (e .2 ∙ sym (one-add z)) (home-cell z r b pos)
 
   -- ---- regions
 
@@ -114,10 +112,6 @@ module _ (s : Sizes) (w : Words) (k : WholeFor s w) where
           number n e = omega (arith, div-add-mod' n (s .depth))
 
   -- ---- the words are such as marking asks for
-
-  pub whole-shaped : Room s (length (w .tables)) → Shaped s (w .cells) (w .tables)
-  whole-shaped room =
-      record { room = room; cells-long = k .sized .cells; objects = k .objects }
 
   pub whole-holding : Holding s (w .cells) (w .remember) (w .tables)
   whole-holding = record { some = k .sized .range .variables-low; long = k .sized .remember; variables = k .variables; remember = k .remember }
@@ -157,14 +151,14 @@ module _ (s : Sizes) (w : Words) (k : WholeFor s w) where
     abbrev outer : ℕ
     outer = regionAt s t j
 
-    abbrev held : ℕ → List ℕ
-    held g = heldCells s (w .cells) (w .remember) (w .tables) r t outer g
+    abbrev heldFrom : ℕ → List ℕ
+    heldFrom g = heldCells s (w .cells) (w .remember) (w .tables) r t outer g
 
     deep : j < s .depth
     deep = omega (arith, k .depths t th)
 
     -- what is held for g is held by a holder that calls for g
-    pub held-holds : (g x : ℕ) → homeIn s w x ≡ r → In x (held g) → Holds s (graphOf s w) r x g
+    pub held-holds : (g x : ℕ) → homeIn s w x ≡ r → In x (heldFrom g) → Holds s (graphOf s w) r x g
     unfolding heldCells varHeld slotHeld
     held-holds g x h i =
         ⊎-elim variable slot
@@ -196,7 +190,7 @@ module _ (s : Sizes) (w : Words) (k : WholeFor s w) where
             bySlot y (field-refers y (o .field) x (o .begins) (o .low) f) (λ z. entry-outside (q .0) (q .1) (sym hy ∙ z ∙ sym (eqb-true _ _ (a .0)))) (sym (eqb-true _ _ (b .0)) ∙ ap (join s r) (sym hy))
 
     -- a variable, or a slot outside r, that calls for the region of level l is held there
-    var-held : (x l i : ℕ) → getD (varsIn s w) i 0 ≡ suc x → regionAt s t l ≡ varCalls s t outer i → In x (held (regionAt s t l))
+    var-held : (x l i : ℕ) → getD (varsIn s w) i 0 ≡ suc x → regionAt s t l ≡ varCalls s t outer i → In x (heldFrom (regionAt s t l))
     unfolding heldCells
     var-held x l i at c =
         let b : i < varCount s = omega (arith, in-bounds (varsIn s w) i (λ z. omega arith), length-vars s w k) in
@@ -207,7 +201,7 @@ module _ (s : Sizes) (w : Words) (k : WholeFor s w) where
         (sym (var-some s (w .tables) t outer g i (varCalls s t outer i) (varOf s (w .tables) i) refl (sym c) refl)
         ∙ sym (getD-vars s w i b) ∙ at ∙ sym (one-add x)))
 
-    slot-held : (x l y : ℕ) → homeIn s w x ≡ r → Refers (graphOf s w) y x → (homeIn s w y ≡ r → ⊥) → join s r (homeIn s w y) ≡ regionAt s t l → In x (held (regionAt s t l))
+    slot-held : (x l y : ℕ) → homeIn s w x ≡ r → Refers (graphOf s w) y x → (homeIn s w y ≡ r → ⊥) → join s r (homeIn s w y) ≡ regionAt s t l → In x (heldFrom (regionAt s t l))
     unfolding heldCells
     slot-held x l y h f o e =
         let u = alive-used s w k y (f .there) in
@@ -243,7 +237,7 @@ module _ (s : Sizes) (w : Words) (k : WholeFor s w) where
                 (suc i, omega arith, ap (join s r) (hy ∙ z) ∙ join-same s t j v i deep d e (omega arith) ∙ ap (λ (a : ℕ). regionAt s a (suc i)) (sym e))
 
     -- each holder calls for the region of a level below, and is held there
-    pub holds-held : (x q : ℕ) → homeIn s w x ≡ r → Holds s (graphOf s w) r x q → (l : ℕ) × (l < suc j) × (q ≡ regionAt s t l) × In x (held (regionAt s t l))
+    pub holds-held : (x q : ℕ) → homeIn s w x ≡ r → Holds s (graphOf s w) r x q → (l : ℕ) × (l < suc j) × (q ≡ regionAt s t l) × In x (heldFrom (regionAt s t l))
     unfolding regionAt
     holds-held x q h (byOwn i at d e) =
         (j, omega arith, e ∙ parent-at s t j deep, var-held x j i at (calls-own s t outer i (d ∙ thread-at s t j deep)))

@@ -7,21 +7,21 @@ use Rattle.rules.specs.declared.Sizes.{Sizes}
 use Rattle.layout.specs.Places.{usedIn, varCount}
 use Rattle.promises.specs.Whole.{IsRef}
 use Rattle.mark.specs.Marks.{Kept, Shaped, named, named-same, kept-shaped}
-use Rattle.mark.specs.Pushes.{Pushing, pushes-kept}
+use Rattle.mark.specs.Pushes.{Pushing, pushing-kept, pushing-shaped}
 use Rattle.mark.specs.Draining.{Pending, Drained, seeded}
 use Rattle.mark.specs.Levels.{Levels, levels-next}
-use Rattle.mark.specs.Holders.{varHeld, slotHeld, heldCells, Holding, slot-held-ref, held-used, holding-kept, kept-slot-held, kept-held-cells}
+use Rattle.mark.specs.Holders.{varHeld, slotHeld, heldCells, Holding, slot-held-ref, holding-kept, kept-slot-held, kept-held-cells}
 
 -- the holders that call for g are pushed on an empty stack
 
 level-pending : {p : Sizes} {r g : ℕ} (thread outer : ℕ) {W m T W₁ T₁ W₂ T₂ : List ℕ} {top top′ : ℕ} → Shaped p W T → Holding p W m T
-    → Pushing p r (varHeld p T thread outer g) (varCount p) W T 0 W₁ T₁ top (varCount p)
-    → Pushing p r (slotHeld p W₁ m T₁ r g) (usedIn m) W₁ T₁ top W₂ T₂ top′ (usedIn m)
+    → Pushing p r (varHeld p T thread outer g) W T 0 W₁ T₁ top (varCount p)
+    → Pushing p r (slotHeld p W₁ m T₁ r g) W₁ T₁ top W₂ T₂ top′ (usedIn m)
     → Pending p r g W T (heldCells p W m T r thread outer g) W₂ T₂ top′
 unfolding heldCells
 level-pending {p} {r} {g} thread outer {W} {m} {T} {W₁} {T₁} {W₂} {T₂} {top} {top′} s h a b =
     let n : ℕ = varCount p in
-    let k : Kept p W T W₁ T₁ = pushes-kept (varHeld p T thread outer g) n s (a .pushes) in
+    let k : Kept p W T W₁ T₁ = pushing-kept s a in
     let S : List ℕ = named (varHeld p T thread outer g) n in
     subst (λ (l : List ℕ). Pending p r g W T (S ++ l) W₂ T₂ top′) (named-same _ _ (usedIn m) (kept-slot-held k (s .room) h r g))
     (seeded g (varHeld p T thread outer g) (slotHeld p W₁ m T₁ r g) n (usedIn m) s
@@ -34,25 +34,27 @@ levelCells p W m T r thread outer l = heldCells p W m T r thread outer (regionAt
 -- levels below n are marked; g is the region of level n, as the code has it
 module _ {p : Sizes} {r n : ℕ} {W₀ m T₀ W T : List ℕ} (s₀ : Shaped p W₀ T₀) (h₀ : Holding p W₀ m T₀) (thread outer : ℕ)
     (L : Levels p r n (regionAt p thread) (levelCells p W₀ m T₀ r thread outer) W₀ T₀ W T) where
+  pub round-shaped : Shaped p W T
+  round-shaped = kept-shaped (L .kept) s₀
+
   pub round-holding : Holding p W m T
   round-holding = holding-kept (L .kept) (s₀ .room) h₀
 
   -- also after the variables are pushed
-  pub round-slots : {ref : ℕ → ℕ} {k : ℕ} {W₁ T₁ : List ℕ} {top top′ i : ℕ} → Pushing p r ref k W T top W₁ T₁ top′ i → Shaped p W₁ T₁ × Holding p W₁ m T₁
-  round-slots {ref} {k} a =
-      let e = pushes-kept ref k (L .shaped) (a .pushes) in (kept-shaped e (L .shaped), holding-kept e (L .shaped .room) round-holding)
+  pub round-slots : {ref : ℕ → ℕ} {W₁ T₁ : List ℕ} {top top′ i : ℕ} → Pushing p r ref W T top W₁ T₁ top′ i → Shaped p W₁ T₁ × Holding p W₁ m T₁
+  round-slots a = (pushing-shaped round-shaped a, holding-kept (pushing-kept round-shaped a) (round-shaped .room) round-holding)
 
   module _ (g : ℕ) (e : g ≡ regionAt p thread n) where
     pub round-pending : {W₁ T₁ W₂ T₂ : List ℕ} {top top′ : ℕ}
-        → Pushing p r (varHeld p T thread outer g) (varCount p) W T 0 W₁ T₁ top (varCount p)
-        → Pushing p r (slotHeld p W₁ m T₁ r g) (usedIn m) W₁ T₁ top W₂ T₂ top′ (usedIn m)
+        → Pushing p r (varHeld p T thread outer g) W T 0 W₁ T₁ top (varCount p)
+        → Pushing p r (slotHeld p W₁ m T₁ r g) W₁ T₁ top W₂ T₂ top′ (usedIn m)
         → Pending p r g W T (heldCells p W₀ m T₀ r thread outer g) W₂ T₂ top′
     round-pending {W₂ = W₂} {T₂ = T₂} {top′ = top′} a b =
         subst (λ (l : List ℕ). Pending p r g W T l W₂ T₂ top′) (kept-held-cells (L .kept) (s₀ .room) h₀ r thread outer g)
-        (level-pending thread outer (L .shaped) round-holding a b)
+        (level-pending thread outer round-shaped round-holding a b)
 
     pub round-levels : {W′ T′ : List ℕ} {k : ℕ} → Drained p r g W T (heldCells p W₀ m T₀ r thread outer g) W′ T′ k
         → Levels p r (n + 1) (regionAt p thread) (levelCells p W₀ m T₀ r thread outer) W₀ T₀ W′ T′
     round-levels {W′} {T′} {k} d =
-        levels-next s₀ (λ l x i. held-used s₀ h₀ r thread outer (regionAt p thread l) x i) L
+        levels-next s₀ L
         (subst (λ (z : ℕ). Drained p r z W T (heldCells p W₀ m T₀ r thread outer z) W′ T′ k) e d)

@@ -1,14 +1,13 @@
 -- What marking promises: word 1 of each object of the ending region is the region that it goes to by the rules, and its bit says whether
 -- it survives.
 use mathlib.Core.Path.{_≡_, refl, sym, ap, _∙_, subst, subst₂}
-use mathlib.Core.Logic.{inl, inr, ⊎-elim}
 use mathlib.Core.Bool.{Bool, false}
 use mathlib.Core.List.{List}
-use Prim.Native.Nat.{ℕ, zero, suc, _+_, _-_, _^_, _≤_, _<_}
+use Prim.Native.Nat.{ℕ, zero, suc, _-_, _^_, _<_}
 use native.Mathlib.Omega.{arith}
 use native.Mathlib.Decide.{ℕ-discrete, decLt}
 use lib.ListN.{length, getD}
-use Rattle.lists.specs.Bits.{bitAt, bit-lt, bit-zero, high-none, none-high}
+use Rattle.lists.specs.Bits.{bitAt, bit-lt, bit-zero}
 use Rattle.lists.specs.Says.{Says, said-no}
 use Rattle.rules.specs.declared.Sizes.{Sizes}
 use Rattle.rules.specs.Regions.{regionAt, FurtherOut}
@@ -16,18 +15,17 @@ use Rattle.rules.specs.Graph.{target}
 use Rattle.laws.specs.RegionLaws.{region-high}
 use Rattle.laws.specs.JoinLaws.{further-out}
 use Rattle.laws.specs.GraphLaws.{Reaches, target-absorbs, target-reached, target-called, target-furthest}
-use Rattle.layout.specs.Places.{depthOf, markAt, markOf, Room, room, marksFrom}
+use Rattle.layout.specs.Places.{depthOf, markOf, Room, room}
 use Rattle.layout.specs.Cells.{workAt, workOf, pageOf, placeOf, cellOf, wordOf}
 use Rattle.layout.specs.Marks.{marked}
 use Rattle.layout.specs.Objects.{begins-page}
 use Rattle.layout.specs.Words.{Words, words, BeginsIn, ownerIn, depthIn, graphOf}
 use Rattle.promises.specs.Whole.{WholeFor}
 use Rattle.promises.specs.Ends.{Part, partOf}
-use Rattle.mark.specs.Marks.{Shaped, Kept, AnyMarked, none-marked}
-use Rattle.mark.specs.Levels.{Held, First, Levels, leads-used, leads-owned, leads-from}
-use Rattle.mark.specs.Holders.{Holding, held-used}
+use Rattle.mark.specs.Marks.{Shaped, leads-last, Small, Kept, AnyMarked, none-marked}
+use Rattle.mark.specs.Levels.{Held, First, Levels}
 use Rattle.mark.specs.Rounds.{levelCells}
-use Rattle.mark.specs.Reached.{cell-home, chain-rules, rules-chain, whole-shaped, whole-holding, held-holds, holds-held}
+use Rattle.mark.specs.Reached.{chain-rules, rules-chain, held-holds, holds-held}
 
 -- the words w became w′ by marking the survivors of an end
 pub record Marked (s : Sizes) (w : Words) (e : Part) (w′ : Words) : Type 0 where
@@ -38,17 +36,22 @@ pub record Marked (s : Sizes) (w : Words) (e : Part) (w′ : Words) : Type 0 whe
   pub freed : (c : ℕ) → BeginsIn s w c → e .ends (pageOf c) → e .goes c ≡ 0 → marked s (w′ .tables) c ≡ 0
   -- no other bit is set
   pub only : (c : ℕ) → pageOf c < s .pages → marked s (w′ .tables) c ≡ 1 → BeginsIn s w c × e .ends (pageOf c)
-  pub small : (page : ℕ) → page < s .pages → markOf s (w′ .tables) page < 2 ^ 16
+  pub small : Small s (w′ .tables)
   -- every other word is as it was
   pub cells : (q : ℕ) → ((c : ℕ) → q ≡ workAt c → BeginsIn s w c → e .ends (pageOf c) → ⊥) → getD (w′ .cells) q 0 ≡ getD (w .cells) q 0
-  pub tables : (q : ℕ) → ((page : ℕ) → page < s .pages → q ≡ markAt s page → ⊥) → getD (w′ .tables) q 0 ≡ getD (w .tables) q 0
+  pub kept : Kept s (w .cells) (w .tables) (w′ .cells) (w′ .tables)
   pub remember : w′ .remember ≡ w .remember
-  pub cells-length : length (w′ .cells) ≡ length (w .cells)
-  pub tables-length : length (w′ .tables) ≡ length (w .tables)
+
+pub unmarked-freed : {s : Sizes} {w w′ : Words} {e : Part} → Marked s w e w′ → (c : ℕ) → BeginsIn s w c → e .ends (pageOf c) → (marked s (w′ .tables) c ≡ 1 → ⊥) → e .goes c ≡ 0
+unmarked-freed {e = e} m c u own off = go (decLt 0 (e .goes c))
+  where
+    go : Dec (0 < e .goes c) → e .goes c ≡ 0
+    go (yes l) = absurd (off (m .survives c u own l))
+    go (no n) = omega arith
 
 -- ---- from the levels
 
-module _ (s : Sizes) (w : Words) (k : WholeFor s w) (space : Room s (length (w .tables))) (t j : ℕ) (th : t < s .threads) (dk : depthIn w t ≡ suc j)
+module _ (s : Sizes) (w : Words) (k : WholeFor s w) (t j : ℕ) (th : t < s .threads) (dk : depthIn w t ≡ suc j)
     {W′ T′ : List ℕ}
     (L : Levels s (regionAt s t (suc j)) (suc j) (regionAt s t)
     (levelCells s (w .cells) (w .remember) (w .tables) (regionAt s t (suc j)) t (regionAt s t j)) (w .cells) (w .tables) W′ T′) where
@@ -63,19 +66,13 @@ module _ (s : Sizes) (w : Words) (k : WholeFor s w) (space : Room s (length (w .
 
   held-reaches : (l c : ℕ) → Held s r (w .cells) (w .tables) calls l c → Reaches s (graphOf s w) r (regionAt s t l) c
   held-reaches l c h =
-      let u = held-used (whole-shaped s w k space) (whole-holding s w k) r t (regionAt s t j) (regionAt s t l) (h .first) (h .called) in
-      let lies = cell-home s w k (h .first) r u (leads-from (h .leads)) in
-      record {
-        first = h .first;
-        lies = lies;
-        held = held-holds s w k t j th dk (regionAt s t l) (h .first) lies (h .called);
-        leads = chain-rules s w k r pos (h .first) c u (h .leads) .0;
-      }
+      let x = chain-rules s w k r pos (calls l) c h in
+      record { first = x .0; lies = x .2; held = held-holds s w k t j th dk (regionAt s t l) (x .0) (x .2) (x .1); leads = x .3 }
 
   reaches-held : (q c : ℕ) → Reaches s (graphOf s w) r q c → (l : ℕ) × (l < suc j) × (q ≡ regionAt s t l) × Held s r (w .cells) (w .tables) calls l c
   reaches-held q c h =
       let x = holds-held s w k t j th dk (h .first) q (h .lies) (h .held) in
-      (x .0, x .1, x .2, record { first = h .first; called = x .3; leads = rules-chain s w k r pos (h .first) c (h .lies) (h .leads) })
+      (x .0, x .1, x .2, rules-chain s w k r pos (calls (x .0)) (h .first) c (x .3) (h .lies) (h .leads))
 
   -- the first level of a holder that leads to c is the outermost region called for
   first-target : (c l : ℕ) → First s r (w .cells) (w .tables) calls (suc j) c l → target s (graphOf s w) r c ≡ regionAt s t l
@@ -103,9 +100,7 @@ module _ (s : Sizes) (w : Words) (k : WholeFor s w) (space : Room s (length (w .
 
   found-owned : (c : ℕ) → pageOf c < s .pages → marked s T′ c ≡ 1 → BeginsIn s w c × (ownerIn s w (pageOf c) ≡ r)
   found-owned c b on =
-      let h = L .found c b on .1 .reached in
-      let u = held-used (whole-shaped s w k space) (whole-holding s w k) r t (regionAt s t j) (regionAt s t (L .found c b on .0)) (h .first) (h .called) in
-      (leads-used (whole-shaped s w k space) u (h .leads), leads-owned (h .leads))
+      leads-last (L .found c b on .1 .reached)
 
   pub levels-marked : Marked s w (partOf s w r) (words W′ (w .remember) T′)
   levels-marked =
@@ -114,12 +109,10 @@ module _ (s : Sizes) (w : Words) (k : WholeFor s w) (space : Room s (length (w .
         survives = λ c u own l. on c u l (ℕ-discrete (marked s T′ c) 1);
         freed = λ c u own z. off c (λ b. let f = L .found c (begins-page _ _ _ _ u) b in omega (arith, first-target c (f .0) (f .1), target-absorbs s (graphOf s w) r c (regionAt s t (f .0)) (held-reaches (f .0) c (f .1 .reached)) .some));
         only = found-owned;
-        small = λ page l. high-none 16 (markOf s T′ page) (λ i h. L .kept .high (markAt s page) i h ∙ ap (λ (x : ℕ). bitAt x i) (k .marks page l) ∙ bit-zero i);
+        small = L .kept .small (λ page l. omega (arith, k .marks page l));
+        kept = L .kept;
         cells = λ q n. word q n (ℕ-discrete (wordOf q) 1);
-        tables = λ q n. table q n (decLt q (marksFrom s)) (decLt q (marksFrom s + s .pages));
         remember = refl;
-        cells-length = L .kept .cells-length;
-        tables-length = L .kept .tables-length;
       }
     where
       goes : (c : ℕ) → BeginsIn s w c → Dec (marked s T′ c ≡ 1) → workOf W′ c ≡ target s (graphOf s w) r c
@@ -131,21 +124,16 @@ module _ (s : Sizes) (w : Words) (k : WholeFor s w) (space : Room s (length (w .
       on c u l (no n) = absurd (let z : ⊥ = omega (arith, lost-target c (L .lost c (begins-page _ _ _ _ u) (off c n) .1)) in z)
 
       work : (c : ℕ) → (BeginsIn s w c → ownerIn s w (pageOf c) ≡ r → ⊥) → Dec (pageOf c < s .pages) → Dec (marked s T′ c ≡ 1) → workOf W′ c ≡ workOf (w .cells) c
-      work c n (no b) d = L .beyond c (omega arith)
+      work c n (no b) d = L .kept .cells (workAt c) (λ e l z. b (omega arith))
       work c n (yes b) (yes d) = let f = found-owned c b d in absurd (n (f .0) (f .1))
       work c n (yes b) (no d) = L .lost c b (off c d) .0
 
       word : (q : ℕ) → ((c : ℕ) → q ≡ workAt c → BeginsIn s w c → ownerIn s w (pageOf c) ≡ r → ⊥) → Dec (wordOf q ≡ 1) → getD W′ q 0 ≡ getD (w .cells) q 0
-      word q n (no d) = L .kept .words q d
+      word q n (no d) = L .kept .cells q (λ c l z. d (omega arith))
       word q n (yes d) =
           let e : workAt (cellOf q) ≡ q = omega arith in
           subst (λ (z : ℕ). getD W′ z 0 ≡ getD (w .cells) z 0) e
           (work (cellOf q) (n (cellOf q) (sym e)) (decLt (pageOf (cellOf q)) (s .pages)) (ℕ-discrete (marked s T′ (cellOf q)) 1))
-
-      table : (q : ℕ) → ((page : ℕ) → page < s .pages → q ≡ markAt s page → ⊥) → Dec (q < marksFrom s) → Dec (q < marksFrom s + s .pages) → getD T′ q 0 ≡ getD (w .tables) q 0
-      table q n (yes l) d = L .kept .tables q (inl l)
-      table q n (no l) (yes h) = absurd (n (q - marksFrom s) (omega arith) (omega arith))
-      table q n (no l) (no h) = L .kept .tables q (inr (omega arith))
 
 -- ---- as the code calls it
 
@@ -154,11 +142,9 @@ module _ (p : Sizes) (w : Words) (k : WholeFor p w) (fits : length (w .tables) <
   space-of = room p (length (w .tables)) (k .sized .range) (k .sized .tables) fits
 
   pub shaped-at : Shaped p (w .cells) (w .tables)
-  shaped-at = whole-shaped p w k space-of
+  shaped-at = record { room = space-of; cells-long = k .sized .cells; objects = k .objects }
 
-  pub holding-at : Holding p (w .cells) (w .remember) (w .tables)
-  holding-at = whole-holding p w k
-
+module _ (p : Sizes) (w : Words) (k : WholeFor p w) where
   pub clean-at : (c : ℕ) → pageOf c < p .pages → marked p (w .tables) c ≡ 0
   clean-at c b = ap (λ (x : ℕ). bitAt x (placeOf c)) (k .marks (pageOf c) b) ∙ bit-zero (placeOf c)
 
@@ -171,36 +157,10 @@ module _ (p : Sizes) (w : Words) (k : WholeFor p w) (fits : length (w .tables) <
       let j′ : suc j - 1 ≡ j = omega arith in
       let eo′ : outer ≡ regionAt p t j = eo ∙ ap (regionAt p t) j′ in
       subst (λ (n : ℕ). Marked p w (partOf p w (regionAt p t n)) (words W′ (w .remember) T′)) dk
-      (levels-marked p w k space-of t j th (sym dk)
+      (levels-marked p w k t j th (sym dk)
       (subst₂ (λ (a b : ℕ). Levels p a (suc j) (regionAt p t) (levelCells p (w .cells) (w .remember) (w .tables) a t b) (w .cells) (w .tables) W′ T′) er eo′ L))
 
 -- where nothing survives, every mark word is 0
 pub none-survives : (p : Sizes) (w : Words) (e : Part) (w′ : Words) → Marked p w e w′ → (b : Bool) → Says b (AnyMarked p (w′ .tables)) → b ≡ false
     → (page : ℕ) → page < p .pages → markOf p (w′ .tables) page ≡ 0
 none-survives p w e w′ m b says z = none-marked p (w′ .tables) (m .small) (said-no b says z)
-
--- ---- what marking keeps
-
-pub marked-kept : (s : Sizes) (w : Words) (k : WholeFor s w) (e : Part) (w′ : Words) → Marked s w e w′ → Kept s (w .cells) (w .tables) (w′ .cells) (w′ .tables)
-marked-kept s w k e w′ m =
-    record {
-      cells-length = m .cells-length;
-      tables-length = m .tables-length;
-      words = λ q n. m .cells q (λ c z u own. n (omega arith));
-      beyond = λ q l. m .cells q (λ c z u own. omega (arith, begins-page _ _ _ _ u));
-      tables = λ q h. m .tables q (λ page l e. ⊎-elim {C = ⊥} (λ a. omega arith) (λ a. omega arith) h);
-      high = λ q i l. high q i l (decLt q (marksFrom s)) (decLt q (marksFrom s + s .pages));
-    }
-  where
-    away : (q i : ℕ) → ((page : ℕ) → page < s .pages → q ≡ markAt s page → ⊥) → bitAt (getD (w′ .tables) q 0) i ≡ bitAt (getD (w .tables) q 0) i
-    away q i n = ap (λ (x : ℕ). bitAt x i) (m .tables q n)
-
-    high : (q i : ℕ) → 16 ≤ i → Dec (q < marksFrom s) → Dec (q < marksFrom s + s .pages) → bitAt (getD (w′ .tables) q 0) i ≡ bitAt (getD (w .tables) q 0) i
-    high q i l (yes a) b = away q i (λ page h e. omega arith)
-    high q i l (no a) (no b) = away q i (λ page h e. omega arith)
-    high q i l (no a) (yes b) =
-        let page : ℕ = q - marksFrom s in
-        let e : marksFrom s + page ≡ q = omega arith in
-        subst (λ (z : ℕ). bitAt (getD (w′ .tables) z 0) i ≡ bitAt (getD (w .tables) z 0) i) e
-        (none-high 16 (markOf s (w′ .tables) page) i (m .small page (omega arith)) l
-        ∙ sym (ap (λ (x : ℕ). bitAt x i) (k .marks page (omega arith)) ∙ bit-zero i))

@@ -78,7 +78,7 @@ pub fn push_variables(
 ) -> u32
     requires { ⌜ Shaped p (now cells) (now tables) ⌝ }
     requires { ⌜ ((m : List ℕ) × Holding p (now cells) m (now tables)) ⌝ }
-    ensures { λ t. ⌜ Pushing p r (varHeld p (now (tables .entry)) thread outer g) (varCount p) (now (cells .entry)) (now (tables .entry)) top (now (cells .exit)) (now (tables .exit)) t (varCount p) ⌝ }
+    ensures { λ t. ⌜ Pushing p r (varHeld p (now (tables .entry)) thread outer g) (now (cells .entry)) (now (tables .entry)) top (now (cells .exit)) (now (tables .exit)) t (varCount p) ⌝ }
 {
     let n = layout::tables::var_count(p);
     let mut t = top;
@@ -103,7 +103,7 @@ pub fn push_slots(
 ) -> u32
     requires { ⌜ Shaped p (now cells) (now tables) ⌝ }
     requires { ⌜ Holding p (now cells) (now remember) (now tables) ⌝ }
-    ensures { λ t. ⌜ Pushing p r (slotHeld p (now (cells .entry)) (now (remember .entry)) (now (tables .entry)) r g) (usedIn (now (remember .entry))) (now (cells .entry)) (now (tables .entry)) top (now (cells .exit)) (now (tables .exit)) t (usedIn (now (remember .entry))) ⌝ }
+    ensures { λ t. ⌜ Pushing p r (slotHeld p (now (cells .entry)) (now (remember .entry)) (now (tables .entry)) r g) (now (cells .entry)) (now (tables .entry)) top (now (cells .exit)) (now (tables .exit)) t (usedIn (now (remember .entry))) ⌝ }
 {
     let n = layout::wide(layout::remember::used(remember));
     let mut t = top;

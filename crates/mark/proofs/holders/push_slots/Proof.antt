@@ -4,7 +4,7 @@ use Prim.Native.Nat.{ℕ, _≤_, _<_, _-_}
 use native.Mathlib.Omega.{arith}
 use borrow.Author.Needs.{needs}
 use lib.ListN.{length}
-use Rattle.mark.specs.Pushes.{Pushing, pushing-start, pushing-kept, pushing-shaped, ref-read, push-read, pushes-kept}
+use Rattle.mark.specs.Pushes.{Pushing, Pushing.none, pushing-kept, pushing-shaped, ref-read, push-read}
 use Rattle.layout.specs.Places.{usedIn}
 use Rattle.mark.specs.Holders.{slotHeld, slot-low, slot-held-ref, kept-slot-held}
 use Rattle.mark.proofs.holders.push_slots.Statement.{statement}
@@ -13,7 +13,7 @@ use Rattle.mark.proofs.holders.push_slots.Tie as tie
 abbrev Inv-loop : tie.InvT-loop
 Inv-loop p cells₀ remember tables₀ r g top n t₀ i₀ cells tables t i =
     (i ≤ n) × (n ≡ usedIn remember) × (n ≤ p .entries) × (length cells ≡ length cells₀) × (length tables ≡ length tables₀)
-    × Pushing p r (slotHeld p cells₀ remember tables₀ r g) (usedIn remember) cells₀ tables₀ top cells tables t i
+    × Pushing p r (slotHeld p cells₀ remember tables₀ r g) cells₀ tables₀ top cells tables t i
 
 abbrev μ-loop : tie.MeasureT-loop
 μ-loop p cells₀ remember tables₀ r g top n t₀ i₀ cells tables t i =
@@ -29,14 +29,14 @@ wide-requires c κs =
 
 loop-holds : tie.Need-loop-holds Inv-loop μ-loop
 loop-holds c =
-    (omega arith, c .wide .ensures ∙ c .before .used .ensures, omega (arith, c .before .before .before .before .before .pre .1 .remember .entries .room), refl, refl, pushing-start _ _ _ _ _ _ _)
+    (omega arith, c .wide .ensures ∙ c .before .used .ensures, omega (arith, c .before .before .before .before .before .pre .1 .remember .entries .room), refl, refl, none)
 
 slot-for-requires : tie.Need-slot-for-requires Inv-loop μ-loop
 slot-for-requires c κs =
     let pre = c .before .before .before .before .before .before .before .before .before .pre in
     let loop = c .before .before .before .loop in
     let lt : loop .i < usedIn (c .before .before .before .before .before .before .before .before .before .args .remember .now) = omega arith in
-    let s = pushing-shaped (pre .0) (slot-held-ref (pre .0) (pre .1) _ _) lt (loop .inv .5) in
+    let s = pushing-shaped (pre .0) (loop .inv .5) in
     (s .room, ((s .cells-long, pre .1 .long), (omega arith, slot-low (pre .1) (loop .i) lt)))
 
 push-requires : tie.Need-push-requires Inv-loop μ-loop
@@ -45,10 +45,10 @@ push-requires c κs =
     let pre = c .before .before .before .before .before .before .before .before .before .before .before .before .pre in
     let loop = c .before .before .before .before .before .before .loop in
     let lt : loop .i < usedIn (args .remember .now) = omega arith in
-    let u = slot-held-ref (pre .0) (pre .1) (args .r) (args .g) in
-    let k = pushing-kept (pre .0) u lt (loop .inv .5) in (
-      pushing-shaped (pre .0) u lt (loop .inv .5),
-      ref-read (pre .0) u lt (loop .inv .5) (c .before .before .slot-for .result) (c .before .before .slot-for .ensures ∙ kept-slot-held k (pre .0 .room) (pre .1) _ _ _ lt),
+    let h = loop .inv .5 in
+    let k = pushing-kept (pre .0) h in (
+      pushing-shaped (pre .0) h,
+      ref-read (pre .0) h (slot-held-ref (pre .0) (pre .1) _ _ (loop .i) lt) (c .before .before .slot-for .result) (c .before .before .slot-for .ensures ∙ kept-slot-held k (pre .0 .room) (pre .1) _ _ _ lt),
     )
 
 add-i : tie.Need-add-i Inv-loop μ-loop
@@ -66,10 +66,9 @@ loop-again c =
     let loop = c .before .before .before .before .before .before .before .before .before .before .before .loop in
     let slot-for = c .before .before .before .before .before .before .before .slot-for in
     let lt : loop .i < usedIn (args .remember .now) = omega arith in
-    let u = slot-held-ref (pre .0) (pre .1) (args .r) (args .g) in
-    let k = pushing-kept (pre .0) u lt (loop .inv .5) in
-    let h = push-read (pre .0) u lt (loop .inv .5) (slot-for .result) (slot-for .ensures ∙ kept-slot-held k (pre .0 .room) (pre .1) _ _ _ lt) (c .before .before .before .before .push .ensures) in
-    let k′ = pushes-kept _ _ (pre .0) (h .pushes) in
+    let k = pushing-kept (pre .0) (loop .inv .5) in
+    let h = push-read (pre .0) (loop .inv .5) (slot-held-ref (pre .0) (pre .1) _ _ (loop .i) lt) (slot-for .result) (slot-for .ensures ∙ kept-slot-held k (pre .0 .room) (pre .1) _ _ _ lt) (c .before .before .before .before .push .ensures) in
+    let k′ = pushing-kept (pre .0) h in
     (omega arith, loop .inv .1, loop .inv .2, k′ .cells-length, k′ .tables-length, h)
 
 same-length : tie.Need-same-length Inv-loop μ-loop
@@ -85,7 +84,7 @@ returns c =
     let args = c .before .before .before .before .before .before .before .args in
     let loop = c .before .loop in
     let e : loop .i ≡ usedIn (args .remember .now) = omega arith in
-    subst (λ (f : ℕ). Pushing (args .p) (args .r) (slotHeld (args .p) (args .cells .now) (args .remember .now) (args .tables .now) (args .r) (args .g)) (usedIn (args .remember .now)) (args .cells .now) (args .tables .now) (args .top) (loop .cells) (loop .tables) (loop .t) f) e (loop .inv .5)
+    subst (λ (f : ℕ). Pushing (args .p) (args .r) (slotHeld (args .p) (args .cells .now) (args .remember .now) (args .tables .now) (args .r) (args .g)) (args .cells .now) (args .tables .now) (args .top) (loop .cells) (loop .tables) (loop .t) f) e (loop .inv .5)
 
 pub push-slots-spec : {M : Type 1} → statement M
 push-slots-spec =

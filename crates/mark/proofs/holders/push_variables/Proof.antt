@@ -3,7 +3,7 @@ use mathlib.Core.Path.{_≡_, refl, _∙_, subst}
 use Prim.Native.Nat.{ℕ, _≤_, _<_, _-_}
 use native.Mathlib.Omega.{arith}
 use lib.ListN.{length}
-use Rattle.mark.specs.Pushes.{Pushing, pushing-start, pushing-kept, pushing-shaped, ref-read, push-read, pushes-kept}
+use Rattle.mark.specs.Pushes.{Pushing, Pushing.none, pushing-kept, pushing-shaped, ref-read, push-read}
 use native.Mathlib.Nat.{mul-le-mul}
 use Rattle.rules.specs.declared.Sizes.{Sizes}
 use Rattle.layout.specs.Places.{Room, varCount}
@@ -17,7 +17,7 @@ product-low p r = omega (arith, mul-le-mul (r .threads-high) (r .variables-high)
 abbrev Inv-loop : tie.InvT-loop
 Inv-loop p cells₀ tables₀ r thread outer g top n t₀ i₀ cells tables t i =
     (i ≤ n) × (n ≡ varCount p) × (n ≤ 512) × (length cells ≡ length cells₀) × (length tables ≡ length tables₀)
-    × Pushing p r (varHeld p tables₀ thread outer g) (varCount p) cells₀ tables₀ top cells tables t i
+    × Pushing p r (varHeld p tables₀ thread outer g) cells₀ tables₀ top cells tables t i
 
 abbrev μ-loop : tie.MeasureT-loop
 μ-loop p cells₀ tables₀ r thread outer g top n t₀ i₀ cells tables t i =
@@ -28,15 +28,12 @@ var-count-requires c κs = (c .before .before .pre .0 .room .threads-high, c .be
 
 loop-holds : tie.Need-loop-holds Inv-loop μ-loop
 loop-holds c =
-    (omega arith, c .var-count .ensures, omega (arith, c .var-count .ensures, product-low (c .before .before .before .args .p) (c .before .before .before .pre .0 .room)), refl, refl, pushing-start _ _ _ _ _ _ _)
+    (omega arith, c .var-count .ensures, omega (arith, c .var-count .ensures, product-low (c .before .before .before .args .p) (c .before .before .before .pre .0 .room)), refl, refl, none)
 
 variable-for-requires : tie.Need-variable-for-requires Inv-loop μ-loop
 variable-for-requires c κs =
-    let args = c .before .before .before .before .before .before .args in
     let pre = c .before .before .before .before .before .before .pre in
-    let lt : c .before .before .loop .i < varCount (args .p) = omega arith in
-    let s = pushing-shaped (pre .0) (var-held-ref (pre .0) (pre .1 .1) _ _ _) lt (c .before .before .loop .inv .5) in
-    (s .room, (pre .1 .1 .some, lt))
+    (pushing-shaped (pre .0) (c .before .before .loop .inv .5) .room, (pre .1 .1 .some, omega arith))
 
 push-requires : tie.Need-push-requires Inv-loop μ-loop
 push-requires c κs =
@@ -45,10 +42,10 @@ push-requires c κs =
     let loop = c .before .before .before .before .before .loop in
     let variable-for = c .before .before .variable-for in
     let lt : loop .i < varCount (args .p) = omega arith in
-    let u = var-held-ref (pre .0) (pre .1 .1) (args .thread) (args .outer) (args .g) in
-    let k = pushing-kept (pre .0) u lt (loop .inv .5) in (
-      pushing-shaped (pre .0) u lt (loop .inv .5),
-      ref-read (pre .0) u lt (loop .inv .5) (variable-for .result) (variable-for .ensures ∙ kept-var-held k (pre .0 .room) (pre .1 .1) _ _ _ _ lt),
+    let h = loop .inv .5 in
+    let k = pushing-kept (pre .0) h in (
+      pushing-shaped (pre .0) h,
+      ref-read (pre .0) h (var-held-ref (pre .0) (pre .1 .1) _ _ _ (loop .i) lt) (variable-for .result) (variable-for .ensures ∙ kept-var-held k (pre .0 .room) (pre .1 .1) _ _ _ _ lt),
     )
 
 add-i : tie.Need-add-i Inv-loop μ-loop
@@ -66,10 +63,9 @@ loop-again c =
     let loop = c .before .before .before .before .before .before .before .before .before .before .loop in
     let variable-for = c .before .before .before .before .before .before .before .variable-for in
     let lt : loop .i < varCount (args .p) = omega arith in
-    let u = var-held-ref (pre .0) (pre .1 .1) (args .thread) (args .outer) (args .g) in
-    let k = pushing-kept (pre .0) u lt (loop .inv .5) in
-    let h = push-read (pre .0) u lt (loop .inv .5) (variable-for .result) (variable-for .ensures ∙ kept-var-held k (pre .0 .room) (pre .1 .1) _ _ _ _ lt) (c .before .before .before .before .push .ensures) in
-    let k′ = pushes-kept _ _ (pre .0) (h .pushes) in
+    let k = pushing-kept (pre .0) (loop .inv .5) in
+    let h = push-read (pre .0) (loop .inv .5) (var-held-ref (pre .0) (pre .1 .1) _ _ _ (loop .i) lt) (variable-for .result) (variable-for .ensures ∙ kept-var-held k (pre .0 .room) (pre .1 .1) _ _ _ _ lt) (c .before .before .before .before .push .ensures) in
+    let k′ = pushing-kept (pre .0) h in
     (omega arith, loop .inv .1, loop .inv .2, k′ .cells-length, k′ .tables-length, h)
 
 same-length : tie.Need-same-length Inv-loop μ-loop
@@ -85,7 +81,7 @@ returns c =
     let args = c .before .before .before .before .before .args in
     let loop = c .before .loop in
     let e : loop .i ≡ varCount (args .p) = omega arith in
-    subst (λ (f : ℕ). Pushing (args .p) (args .r) (varHeld (args .p) (args .tables .now) (args .thread) (args .outer) (args .g)) (varCount (args .p)) (args .cells .now) (args .tables .now) (args .top) (loop .cells) (loop .tables) (loop .t) f) e (loop .inv .5)
+    subst (λ (f : ℕ). Pushing (args .p) (args .r) (varHeld (args .p) (args .tables .now) (args .thread) (args .outer) (args .g)) (args .cells .now) (args .tables .now) (args .top) (loop .cells) (loop .tables) (loop .t) f) e (loop .inv .5)
 
 pub push-variables-spec : {M : Type 1} → statement M
 push-variables-spec =

@@ -10,7 +10,7 @@ use Rattle.mark.specs.Marks.{AnyMarked}
 use Rattle.mark.specs.Draining.{says-popped, says-idle}
 use Rattle.mark.specs.Levels.{Levels, levels-start, levels-at}
 use Rattle.mark.specs.Holders.{heldCells}
-use Rattle.mark.specs.Rounds.{levelCells, round-holding, round-slots, round-pending, round-levels}
+use Rattle.mark.specs.Rounds.{levelCells, round-shaped, round-holding, round-slots, round-pending, round-levels}
 use Rattle.mark.proofs.levels.mark_levels.Statement.{statement}
 use Rattle.mark.proofs.levels.mark_levels.Tie as tie
 
@@ -29,7 +29,7 @@ loop-holds c =
     let args = c .before .before .before .args in
     let pre = c .before .before .before .pre in
     let e : 0 ≡ args .depth - args .depth = omega arith in
-    (omega arith, refl, refl, levels-at e (levels-start _ _ _ (pre .0) (pre .1 .1 .0)), says-no (λ m. omega (arith, pre .1 .1 .0 (m .0) (m .1), m .2)))
+    (omega arith, refl, refl, levels-at e (levels-start _ _ _ (pre .1 .1 .0)), says-no (λ m. omega (arith, pre .1 .1 .0 (m .0) (m .1), m .2)))
 
 sub-level : tie.Need-sub-level Inv-loop μ-loop
 sub-level c = omega arith
@@ -42,7 +42,7 @@ push-variables-requires c κs =
     let args = c .before .before .before .before .before .before .before .before .args in
     let pre = c .before .before .before .before .before .before .before .before .pre in
     let loop = c .before .before .before .before .loop in
-    (loop .inv .3 .shaped, (args .remember .now, round-holding (pre .0) (pre .1 .0) (args .thread) (args .outer) (loop .inv .3)))
+    (round-shaped (pre .0) (pre .1 .0) (args .thread) (args .outer) (loop .inv .3), (args .remember .now, round-holding (pre .0) (pre .1 .0) (args .thread) (args .outer) (loop .inv .3)))
 
 push-slots-requires : tie.Need-push-slots-requires Inv-loop μ-loop
 push-slots-requires c κs =

@@ -3,7 +3,8 @@ use mathlib.Core.Path.{_∙_}
 use native.Mathlib.Omega.{arith}
 use borrow.Author.Needs.{needs}
 use Rattle.layout.specs.Words.{words}
-use Rattle.mark.specs.Survivors.{space-of, shaped-at, holding-at, clean-at, marked-at}
+use Rattle.mark.specs.Reached.{whole-holding}
+use Rattle.mark.specs.Survivors.{space-of, shaped-at, clean-at, marked-at}
 use Rattle.mark.proofs.survivors.mark_survivors.Statement.{statement}
 use Rattle.mark.proofs.survivors.mark_survivors.Tie as tie
 
@@ -35,7 +36,7 @@ mark-levels-requires : tie.Need-mark-levels-requires
 mark-levels-requires c κs =
     let args = c .before .before .before .before .before .before .before .before .before .before .args in
     let pre = c .before .before .before .before .before .before .before .before .before .before .pre in
-    (shaped-at (args .p) (words (args .cells .now) (args .remember .now) (args .tables .now)) (pre .0) (omega arith), (holding-at (args .p) (words (args .cells .now) (args .remember .now) (args .tables .now)) (pre .0) (omega arith), (clean-at (args .p) (words (args .cells .now) (args .remember .now) (args .tables .now)) (pre .0) (omega arith), (pre .1 .0, omega (arith, pre .0 .depths (args .thread) (pre .1 .0))))))
+    (shaped-at (args .p) (words (args .cells .now) (args .remember .now) (args .tables .now)) (pre .0) (omega arith), (whole-holding (args .p) (words (args .cells .now) (args .remember .now) (args .tables .now)) (pre .0), (clean-at (args .p) (words (args .cells .now) (args .remember .now) (args .tables .now)) (pre .0), (pre .1 .0, omega (arith, pre .0 .depths (args .thread) (pre .1 .0))))))
 
 same-length : tie.Need-same-length
 same-length c = search needs
@@ -52,7 +53,7 @@ returns c =
     let mark-levels = c .before .before .before .before .mark-levels in
     let args = c .before .before .before .before .before .before .before .before .before .before .before .before .before .before .before .args in
     let pre = c .before .before .before .before .before .before .before .before .before .before .before .before .before .before .before .pre in
-    (marked-at (args .p) (words (args .cells .now) (args .remember .now) (args .tables .now)) (pre .0) (omega arith) (args .thread) _ _ _ (pre .1 .0) (omega (arith, pre .1 .1)) (wide .ensures ∙ depth .ensures) (region-at .ensures) (region-at2 .ensures) (mark-levels .ensures .0), mark-levels .ensures .1)
+    (marked-at (args .p) (words (args .cells .now) (args .remember .now) (args .tables .now)) (pre .0) (args .thread) _ _ _ (pre .1 .0) (omega (arith, pre .1 .1)) (wide .ensures ∙ depth .ensures) (region-at .ensures) (region-at2 .ensures) (mark-levels .ensures .0), mark-levels .ensures .1)
 
 pub mark-survivors-spec : {M : Type 1} → statement M
 mark-survivors-spec =
