@@ -28,11 +28,11 @@ use Rattle.promises.specs.Whole.{WholeFor, IsRef}
 use Rattle.remember.specs.Crossing.{other, regionOf, crossTo}
 use Rattle.promises.specs.Crossings.{cross-in-sum}
 use Rattle.layout.specs.Objects.{begins-page, begins-true, begins-false, begins?, field-on, field-slot, slotsOf, slots-sum}
-use Rattle.remember.specs.Crosses.{slot-cross, cross-slot}
+use Rattle.remember.specs.Crosses.{slot-cross, cross-slot, other-yes}
 use Rattle.promises.specs.Slots.{region-of}
 use Rattle.promises.specs.Reading.{ref-room, no-home, refs-room, used-home, used-owned, used-alive, length-refs, getD-refs, refs-few, words-closed}
 use Rattle.mark.specs.Marks.{owner, kept-refs, kept-field, kept-owner}
-use Rattle.mark.specs.Reached.{home-cell, cell-home, is-other}
+use Rattle.mark.specs.Reached.{home-cell, cell-home}
 use Rattle.mark.specs.Survivors.{Marked}
 use Rattle.census.specs.Counted.{over-cells}
 use Rattle.census.specs.After.{homeAfter, crossOne, one-rule, crossAfter, cellCrosses, slotCrosses, entriesCross, crossingAfter}
@@ -192,7 +192,7 @@ module _ (s : Sizes) (w : Words) (k : WholeFor s w) (space : Room s (length (w .
         go v z (no n) (no d) =
             let nz = used-owned s w k y v in
             let far : 1 < ownerIn s w (pageOf y) = omega arith in
-            absurd (let b : ⊥ = omega (arith, is-other (ownerIn s w (pageOf x)) (ownerIn s w (pageOf y)) far d) in b)
+            absurd (let b : ⊥ = omega (arith, other-yes (ownerIn s w (pageOf x)) (ownerIn s w (pageOf y)) far (λ z. d (sym z))) in b)
 
     field-still : (f : ℕ) → f < refCount w x → still (fieldAt x f) ≡ crossAfter p (w′ .cells) (w′ .tables) r (h .home x) (fieldOf (w′ .cells) x f)
     unfolding slotCrosses

@@ -44,40 +44,6 @@ draining-few {p} {S = S} h =
     let b : length (S ++ h .done) ≤ cellCount p = distinct-few (cellCount p) (S ++ h .done) (m .distinct) (λ c i. omega (arith, begins-page _ _ _ _ (leads-last (m .reached c i) .0 .0))) in
     omega (arith, h .count, length-append S (h .done))
 
--- one turn: a pop and a scan
-draining-turn : {p : Sizes} {r g : ℕ} {W₀ T₀ S₀ S W T : List ℕ} {top n : ℕ} → Draining p r g W₀ T₀ S₀ S W T top n → top ≢ 0
-    → {W′ T′ : List ℕ} {top′ : ℕ}
-    → (let X : List ℕ = set W (workAt (top - 1)) g in Pushing p r (fieldOf X (top - 1)) X T (workOf W (top - 1)) W′ T′ top′ (refsOf X (top - 1)))
-    → (S′ : List ℕ) × Draining p r g W₀ T₀ S₀ S′ W′ T′ top′ (n + 1)
-draining-turn {p} {r} {g} {W₀} {T₀} {S₀} {S} {W} {T} {top} {n} h ne {W′} {T′} {top′} s =
-    let b : ℕ = top - 1 in
-    let X : List ℕ = set W (workAt b) g in
-    let q = popped-top S ne (h .marking) in
-    let m = q .2 in
-    let sh = shaped-then m in
-    let few : refsOf X b ≤ mostFields = shaped-few sh b (q .0) in
-    let same : refsOf X b ≡ refsOf W₀ b = kept-refs (m .kept) b in
-    let m′ =
-    pushing-marking m
-    (λ f c lt e o. via (m .reached b (in-right b (q .1) (b ∷ h .done) (inl refl))) f (omega arith) (sym (kept-field (m .kept) b f (omega arith)) ∙ e) o) s in (
-      m′ .0,
-      record {
-        done = b ∷ h .done;
-        count = omega (arith, h .count);
-        marking = m′ .1;
-        all-held = λ c i own. pushing-mono sh s c (h .all-held c i own);
-        closed = λ c f d i lt e own.
-            ⊎-elim
-            (λ (z : c ≡ b).
-            let lt′ : f < refsOf W₀ b = subst (λ (x : ℕ). f < refsOf W₀ x) z lt in
-            let e′ : fieldOf X b f ≡ 1 + d = kept-field (m .kept) b f (omega arith) ∙ subst (λ (x : ℕ). fieldOf W₀ x f ≡ 1 + d) z e in
-            let ud = ref-begins p X T (fieldOf X b f) d (sh .objects b (q .0) .references f (omega arith)) e′ in
-            pushing-closed sh s f d (omega arith) e′ (kept-owner (m .kept) (m .started .room) d (begins-page _ _ _ _ ud) ∙ own))
-            (λ j. pushing-mono sh s d (h .closed c f d j lt e own))
-            i;
-      },
-    )
-
 pub drained : {p : Sizes} {r g : ℕ} {W₀ T₀ S₀ W T : List ℕ} {top n : ℕ} (S : List ℕ) → top ≡ 0 → Draining p r g W₀ T₀ S₀ S W T top n → Drained p r g W₀ T₀ S₀ W T n
 drained {p} {r} {g} {W₀} {T₀} {S₀} {W} {T} {top} {n} [] z h = subst (λ (t : ℕ). Draining p r g W₀ T₀ S₀ [] W T t n) z h
 drained (c ∷ S) z h = absurd (let y : ⊥ = omega (arith, h .marking .chain .0) in y)
@@ -122,26 +88,40 @@ module _ {p : Sizes} {r g : ℕ} {W₀ T₀ S₀ S W T : List ℕ} {top n : ℕ}
   pub turn-facts : Facts p b (length W) n
   turn-facts =
       let s = shaped-then (h .marking) in
-      record {
-        page = subst (λ (y : ℕ). pageOf y < p .pages) (sym e) (begins-page _ _ _ _ (popped-top S ne (h .marking) .0));
-        few = s .room .few;
-        long = s .cells-long;
-        counted = draining-few h;
-      }
+      record { page = begins-page _ _ _ _ (popped-top S b ne e refl refl (h .marking) .0); few = s .room .few; long = s .cells-long; counted = draining-few h }
 
   -- X is the cells after the pop, y the link that was read
-  pub turn-asks : (X : List ℕ) → X ≡ set W (workAt b) g → Shaped p X T × Begins p X T b
-  turn-asks X a =
-      subst (λ (Y : List ℕ). Shaped p Y T × Begins p Y T b) (sym a)
-      (subst (λ (y : ℕ). Shaped p (set W (workAt y) g) T × Begins p (set W (workAt y) g) T y) (sym e)
-      (let q = popped-top S ne (h .marking) in (shaped-then (q .2), q .0)))
+  module _ {X : List ℕ} {y : ℕ} (a : X ≡ set W (workAt b) g) (l : y ≡ workOf W b) where
+    pub turn-asks : Shaped p X T × Begins p X T b
+    turn-asks = let q = popped-top S b ne e a l (h .marking) in (shaped-then (q .2), q .0)
 
-  pub turn-read : (X : List ℕ) (y : ℕ) → X ≡ set W (workAt b) g → y ≡ workOf W b → {W′ T′ : List ℕ} {top′ : ℕ}
-      → Pushing p r (fieldOf X b) X T y W′ T′ top′ (refsOf X b) → (S′ : List ℕ) × Draining p r g W₀ T₀ S₀ S′ W′ T′ top′ (n + 1)
-  turn-read X y a d {W′} {T′} {top′} s =
-      draining-turn h ne
-      (subst (λ (z : ℕ). let X : List ℕ = set W (workAt z) g in Pushing p r (fieldOf X z) X T (workOf W z) W′ T′ top′ (refsOf X z)) e
-      (subst₂ (λ (Y : List ℕ) (z : ℕ). Pushing p r (fieldOf Y b) Y T z W′ T′ top′ (refsOf Y b)) a d s))
+    pub turn-read : {W′ T′ : List ℕ} {top′ : ℕ} → Pushing p r (fieldOf X b) X T y W′ T′ top′ (refsOf X b) → (S′ : List ℕ) × Draining p r g W₀ T₀ S₀ S′ W′ T′ top′ (n + 1)
+    turn-read s =
+        let q = popped-top S b ne e a l (h .marking) in
+        let m = q .2 in
+        let sh = shaped-then m in
+        let few : refsOf X b ≤ mostFields = shaped-few sh b (q .0) in
+        let same : refsOf X b ≡ refsOf W₀ b = kept-refs (m .kept) b in
+        let m′ =
+        pushing-marking m
+        (λ f c lt e o. via (m .reached b (in-right b (q .1) (b ∷ h .done) (inl refl))) f (omega arith) (sym (kept-field (m .kept) b f (omega arith)) ∙ e) o) s in (
+          m′ .0,
+          record {
+            done = b ∷ h .done;
+            count = omega (arith, h .count);
+            marking = m′ .1;
+            all-held = λ c i own. pushing-mono sh s c (h .all-held c i own);
+            closed = λ c f d i lt e own.
+                ⊎-elim
+                (λ (z : c ≡ b).
+                let lt′ : f < refsOf W₀ b = subst (λ (x : ℕ). f < refsOf W₀ x) z lt in
+                let e′ : fieldOf X b f ≡ 1 + d = kept-field (m .kept) b f (omega arith) ∙ subst (λ (x : ℕ). fieldOf W₀ x f ≡ 1 + d) z e in
+                let u = ref-begins p X T (fieldOf X b f) d (sh .objects b (q .0) .references f (omega arith)) e′ in
+                pushing-closed sh s f d (omega arith) e′ (kept-owner (m .kept) (m .started .room) d (begins-page _ _ _ _ u) ∙ own))
+                (λ j. pushing-mono sh s d (h .closed c f d j lt e own))
+                i;
+          },
+        )
 
 -- ---- what two runs of pushes on an empty stack leave is pending
 

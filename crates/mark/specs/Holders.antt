@@ -140,8 +140,3 @@ module _ {p : Sizes} {W T W′ T′ : List ℕ} (k : Kept p W T W′ T′) (room
   kept-slot-held r g i l =
       let page : pageAt (slotIn m i) < p .pages = at-page p (slotIn m i) (slot-low h i l) in
       ap₂ (λ (q x : ℕ). cond (eqb (slotRegionIn (p .entries) m i) r) (heldFor g (join p r q) x) 0) (kept-owner k room (cellOf (slotIn m i)) page) (k .cells (slotIn m i) (λ c b e. slot-field h i l (omega arith)))
-
-  pub kept-held-cells : (r thread outer g : ℕ) → heldCells p W′ m T′ r thread outer g ≡ heldCells p W m T r thread outer g
-  unfolding heldCells
-  kept-held-cells r thread outer g =
-      ap₂ (λ (x y : List ℕ). x ++ y) (named-same _ _ (varCount p) (kept-var-held thread outer g)) (named-same _ _ (usedIn m) (kept-slot-held r g))

@@ -163,11 +163,12 @@ popped {p} {r} {g} {W₀} {T₀} {S₀} {D} {S} {W} {T} {top} {c} m =
           i;
     }
 
--- where the stack is not empty, its top, as the code has it, is popped
-pub popped-top : {p : Sizes} {r g : ℕ} {W₀ T₀ S₀ D W T : List ℕ} {top : ℕ} (S : List ℕ) → top ≢ 0 → Marking p r g W₀ T₀ S₀ D S W T top
-    → Begins p (set W (workAt (top - 1)) g) T (top - 1) × (S′ : List ℕ) × Marking p r g W₀ T₀ S₀ ((top - 1) ∷ D) S′ (set W (workAt (top - 1)) g) T (workOf W (top - 1))
-popped-top [] ne m = absurd (ne (m .chain))
-popped-top {p} {r} {g} {W₀} {T₀} {S₀} {D} {W} {T} {top} (c ∷ S) ne m =
-    let e : c ≡ top - 1 = omega (arith, m .chain .0) in
-    subst (λ (x : ℕ). Begins p (set W (workAt x) g) T x × (S′ : List ℕ) × Marking p r g W₀ T₀ S₀ (x ∷ D) S′ (set W (workAt x) g) T (workOf W x)) e
-    (kept-in-use (popped m .kept) (m .started .room) c (leads-last (m .reached c (inl refl)) .0 .0), S, popped m)
+-- where the stack is not empty, its top is popped; b is the cell, X the cells after it and y the link, as the code has them
+pub popped-top : {p : Sizes} {r g : ℕ} {W₀ T₀ S₀ D W T : List ℕ} {top : ℕ} (S : List ℕ) (b : ℕ) {X : List ℕ} {y : ℕ} → top ≢ 0 → b ≡ top - 1 → X ≡ set W (workAt b) g → y ≡ workOf W b
+    → Marking p r g W₀ T₀ S₀ D S W T top → Begins p X T b × (S′ : List ℕ) × Marking p r g W₀ T₀ S₀ (b ∷ D) S′ X T y
+popped-top [] b ne e a d m = absurd (ne (m .chain))
+popped-top {p} {r} {g} {W₀} {T₀} {S₀} {D} {W} {T} (c ∷ S) b ne e a d m =
+    let z : c ≡ b = omega (arith, m .chain .0) in
+    subst₂ (λ (X : List ℕ) (y : ℕ). Begins p X T b × (S′ : List ℕ) × Marking p r g W₀ T₀ S₀ (b ∷ D) S′ X T y) (ap (λ (x : ℕ). set W (workAt x) g) z ∙ sym a) (ap (workOf W) z ∙ sym d)
+    (subst (λ (x : ℕ). Begins p (set W (workAt c) g) T x × (S′ : List ℕ) × Marking p r g W₀ T₀ S₀ (x ∷ D) S′ (set W (workAt c) g) T (workOf W c)) z
+    (kept-in-use (popped m .kept) (m .started .room) c (leads-last (m .reached c (inl refl)) .0 .0), S, popped m))

@@ -14,8 +14,8 @@ use lib.ListN.{getD}
 use borrow.Author.Tests.{ne-eqb, eqb-true, eqb-false, leb-false, lt-leb}
 use Rattle.lists.specs.Members.{In, in-append, in-left, in-right, getD-in, in-place, in-bounds}
 use Rattle.rules.specs.declared.Sizes.{Sizes}
-use Rattle.rules.specs.Regions.{regionAt, threadOf, join}
-use Rattle.laws.specs.RegionLaws.{region-high, thread-at, parent-at, join-control, join-other, join-same}
+use Rattle.rules.specs.Regions.{regionAt, threadOf, levelOf, join}
+use Rattle.laws.specs.RegionLaws.{region-high, thread-at, level-at, parent-at, join-control, join-other, join-same}
 use Rattle.laws.specs.GraphLaws as gl
 use Rattle.laws.specs.GraphLaws.{Refers, Holds, bySlot, byOwn, byOther}
 use Rattle.layout.specs.Places.{varOf, usedIn, slotIn, slotRegionIn, varCount}
@@ -24,7 +24,7 @@ use Rattle.layout.specs.Words.{Words, BeginsIn, ownerIn, homeIn, depthIn, refCo
 use Rattle.remember.specs.Crossing.{other, regionOf, crossTo}
 use Rattle.promises.specs.Whole.{WholeFor}
 use Rattle.layout.specs.Objects.{begins-page, field-on, slot-low, slot-page, field-slot}
-use Rattle.remember.specs.Crosses.{slot-cross}
+use Rattle.remember.specs.Crosses.{slot-cross, other-yes, crosses-by, crosses-into}
 use Rattle.promises.specs.Slots.{region-of}
 use Rattle.promises.specs.Reading.{used-home, used-owned, used-alive, alive-used, cell-low, length-refs, getD-refs, length-vars, getD-vars, ref-room}
 use Rattle.mark.specs.Marks.{Ours, Leads, Leads.held, Leads.via, leads-last, ref-begins, named, named-in, named-from}
@@ -35,18 +35,6 @@ use Rattle.mark.specs.Holders.{varCalls, varHeld, slotCalls, slotHeld, h
 some-cond : (b : Bool) (x y : ℕ) → cond b x 0 ≡ 1 + y → (b ≡ true) × (x ≡ 1 + y)
 some-cond true x y e = (refl, e)
 some-cond false x y e = absurd (let z : ⊥ = omega arith in z)
-
--- the region that a slot crosses into lies elsewhere, and is that of its reference
-other-is : (o g : ℕ) → 0 < other o g → (other o g ≡ g) × (1 < g) × (o ≡ g → ⊥)
-other-is o g = go (leb g 1) refl (eqb g o) refl
-  where
-    go : (a : Bool) → leb g 1 ≡ a → (b : Bool) → eqb g o ≡ b → 0 < cond a 0 (cond b 0 g) → (cond a 0 (cond b 0 g) ≡ g) × (1 < g) × (o ≡ g → ⊥)
-    go true ea b eb h = absurd (let z : ⊥ = omega arith in z)
-    go false ea true eb h = absurd (let z : ⊥ = omega arith in z)
-    go false ea false eb h = (refl, leb-false g 1 ea, λ e. eqb-false g o eb (sym e))
-
-pub is-other : (o g : ℕ) → 1 < g → (o ≡ g → ⊥) → other o g ≡ g
-is-other o g l n = ap₂ (λ (a b : Bool). cond a 0 (cond b 0 g)) (lt-leb g 1 l) (ne-eqb g o (λ e. n (sym e)))
 
 module _ (s : Sizes) (w : Words) (k : WholeFor s w) where
   -- ---- objects and their slots
@@ -87,30 +75,6 @@ module _ (s : Sizes) (w : Words) (k : WholeFor s w) where
     rules-chain S x c i h (gl.along {y = y} {z = z} q f a b) =
         let e = refers-field y z f in via (rules-chain S x y i h q) (e .0) (e .1) (e .2 ∙ sym (one-add z)) (home-cell z r b pos)
 
-  -- ---- regions
-
-  -- the region of a cell in use is the control space, or a thread's at a level that is open
-  pub data Lies (q : ℕ) : Type 0 where
-    control : q ≡ 1 → Lies q
-    level : (u i : ℕ) → i < depthIn w u → i < s .depth → q ≡ regionAt s u (suc i) → Lies q
-
-  pub cell-lies : (c : ℕ) → BeginsIn s w c → Lies (ownerIn s w (pageOf c))
-  unfolding regionAt
-  cell-lies c u = go (decLt 1 q)
-    where
-      q : ℕ
-      q = ownerIn s w (pageOf c)
-
-      go : Dec (1 < q) → Lies q
-      go (no n) = let nz = used-owned s w k c u in control (omega arith)
-      go (yes l) =
-          let o = k .pages (pageOf c) (begins-page _ _ _ _ u) .region l in
-          let d : 0 < s .depth = omega (arith, k .sized .range .depth-low) in
-          level (threadOf s q) ((q - 2) % s .depth) (omega (arith, o .level)) (mod-lt (q - 2) d) (number (q - 2) (omega arith))
-        where
-          number : (n : ℕ) → q ≡ n + 2 → q ≡ regionAt s (n / s .depth) (suc (n % s .depth))
-          number n e = omega (arith, div-add-mod' n (s .depth))
-
   -- ---- the words are such as marking asks for
 
   pub whole-holding : Holding s (w .cells) (w .remember) (w .tables)
@@ -121,10 +85,8 @@ module _ (s : Sizes) (w : Words) (k : WholeFor s w) where
   entry-outside i l z =
       let q = slotIn (w .remember) i in
       let n = k .remember .entries .named i l in
-      let x = regionOf s (w .tables) (getD (w .cells) q 0) in
-      let c : other (ownerIn s w (pageAt q)) x ≡ slotRegionIn (s .entries) (w .remember) i = sym (slot-cross s (w .cells) (w .tables) q (entry-slot whole-holding i l)) ∙ n .right in
-      let h = other-is (ownerIn s w (pageAt q)) x (omega (arith, n .region)) in
-      h .2 (z ∙ sym c ∙ h .0)
+      let c = crosses-by s (w .tables) (ownerIn s w (pageAt q)) (getD (w .cells) q 0) refl (sym (n .right) ∙ slot-cross s (w .cells) (w .tables) q (entry-slot whole-holding i l)) in
+      crosses-into s (w .tables) (ownerIn s w (pageAt q)) (getD (w .cells) q 0) _ c (λ y. omega (arith, n .region)) .other (sym z)
 
   -- and each slot outside r that points into it has an entry
   pub enters-entry : (r y f x : ℕ) → 1 < r → BeginsIn s w y → (ownerIn s w (pageOf y) ≡ r → ⊥) → f < refCount w y → fieldOf (w .cells) y f ≡ suc x
@@ -136,7 +98,7 @@ module _ (s : Sizes) (w : Words) (k : WholeFor s w) where
       let c : crossTo s (w .cells) (w .tables) q ≡ r =
       slot-cross s (w .cells) (w .tables) q o
       ∙ ap₂ (λ (a b : ℕ). other (ownerIn s w a) (regionOf s (w .tables) b)) (field-on s (w .cells) (w .tables) y u f (ref-room s w k y f u l)) e
-      ∙ ap (other (ownerIn s w (pageOf y))) (region-of s (w .tables) x (begins-page _ _ _ _ v) ∙ own) ∙ is-other (ownerIn s w (pageOf y)) r pos out in
+      ∙ ap (other (ownerIn s w (pageOf y))) (region-of s (w .tables) x (begins-page _ _ _ _ v) ∙ own) ∙ sym (other-yes (ownerIn s w (pageOf y)) r pos (λ z. out (sym z))) in
       let i = k .remember .every q (slot-low s (w .cells) (w .tables) q o) (omega arith) in
       let n = k .remember .entries .named (i .0) (i .1) in
       (i .0, i .1, i .2, sym (n .right) ∙ ap (crossTo s (w .cells) (w .tables)) (i .2) ∙ c)
@@ -220,21 +182,29 @@ module _ (s : Sizes) (w : Words) (k : WholeFor s w) where
     -- what a slot outside r calls for is the region of a level below
     slot-level : (y : ℕ) → BeginsIn s w y → (homeIn s w y ≡ r → ⊥) → (l : ℕ) × (l < suc j) × (join s r (homeIn s w y) ≡ regionAt s t l)
     unfolding regionAt
-    slot-level y u o = go (cell-lies y u)
+    slot-level y u o = go (decLt 1 q)
       where
-        hy : homeIn s w y ≡ ownerIn s w (pageOf y)
-        hy = used-home s w k y u
+        q : ℕ
+        q = ownerIn s w (pageOf y)
 
-        go : Lies (ownerIn s w (pageOf y)) → (l : ℕ) × (l < suc j) × (join s r (homeIn s w y) ≡ regionAt s t l)
-        go (control z) = (0, omega arith, ap (join s r) (hy ∙ z) ∙ join-control s r)
-        go (level v i b d z) = same (ℕ-discrete t v)
-          where
-            same : Dec (t ≡ v) → (l : ℕ) × (l < suc j) × (join s r (homeIn s w y) ≡ regionAt s t l)
-            same (no n) = (0, omega arith, ap (join s r) (hy ∙ z) ∙ join-other s t j v i deep d n)
-            same (yes e) =
-                let apart : i ≡ j → ⊥ = λ c. o (hy ∙ z ∙ ap₂ (λ (a b : ℕ). regionAt s a (suc b)) (sym e) c) in
-                let low : i < suc j = omega (arith, ap (depthIn w) e) in
-                (suc i, omega arith, ap (join s r) (hy ∙ z) ∙ join-same s t j v i deep d e (omega arith) ∙ ap (λ (a : ℕ). regionAt s a (suc i)) (sym e))
+        joined : (x : ℕ) → q ≡ x → join s r (homeIn s w y) ≡ join s r x
+        joined x z = ap (join s r) (used-home s w k y u ∙ z)
+
+        level : (v i : ℕ) → i < s .depth → q ≡ regionAt s v (suc i) → 1 < q → Dec (t ≡ v) → (l : ℕ) × (l < suc j) × (join s r (homeIn s w y) ≡ regionAt s t l)
+        level v i d z b (no a) = (0, omega arith, joined (regionAt s v (suc i)) z ∙ join-other s t j v i deep d a)
+        level v i d z b (yes a) =
+            let apart : i ≡ j → ⊥ = λ c. o (used-home s w k y u ∙ z ∙ ap₂ (λ (a b : ℕ). regionAt s a (suc b)) (sym a) c) in
+            let low : i < suc j = omega (arith, k .pages (pageOf y) (begins-page _ _ _ _ u) .region b .level, ap (levelOf s) z ∙ level-at s v i d, ap (depthIn w) (ap (threadOf s) z ∙ thread-at s v i d ∙ sym a)) in
+            (suc i, omega arith, joined (regionAt s v (suc i)) z ∙ join-same s t j v i deep d a (omega arith) ∙ ap (λ (a : ℕ). regionAt s a (suc i)) (sym a))
+
+        number : (n : ℕ) → q ≡ n + 2 → q ≡ regionAt s (n / s .depth) (suc (n % s .depth))
+        number n e = omega (arith, div-add-mod' n (s .depth))
+
+        go : Dec (1 < q) → (l : ℕ) × (l < suc j) × (join s r (homeIn s w y) ≡ regionAt s t l)
+        go (no n) = (0, omega arith, joined 1 (let nz = used-owned s w k y u in let z : q ≡ 1 = omega arith in z) ∙ join-control s r)
+        go (yes l) =
+            let d : 0 < s .depth = omega (arith, k .sized .range .depth-low) in
+            level ((q - 2) / s .depth) ((q - 2) % s .depth) (mod-lt (q - 2) d) (number (q - 2) (omega arith)) l (ℕ-discrete t ((q - 2) / s .depth))
 
     -- each holder calls for the region of a level below, and is held there
     pub holds-held : (x q : ℕ) → homeIn s w x ≡ r → Holds s (graphOf s w) r x q → (l : ℕ) × (l < suc j) × (q ≡ regionAt s t l) × In x (heldFrom (regionAt s t l))

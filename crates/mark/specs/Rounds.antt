@@ -1,31 +1,16 @@
 -- One level of the marking of an ending region: the holders that call for its region are pushed, then the stack is drained.
-use mathlib.Core.Path.{_≡_, sym, subst}
+use mathlib.Core.Path.{_≡_, sym, subst, subst₂}
 use mathlib.Core.List.{List, _++_}
 use Prim.Native.Nat.{ℕ, _+_}
 use Rattle.rules.specs.Regions.{regionAt}
 use Rattle.rules.specs.declared.Sizes.{Sizes}
 use Rattle.layout.specs.Places.{usedIn, varCount}
 use Rattle.promises.specs.Whole.{IsRef}
-use Rattle.mark.specs.Marks.{Kept, Shaped, named, named-same, kept-shaped}
+use Rattle.mark.specs.Marks.{Shaped, named-same, kept-trans, kept-shaped}
 use Rattle.mark.specs.Pushes.{Pushing, pushing-kept, pushing-shaped}
 use Rattle.mark.specs.Draining.{Pending, Drained, seeded}
 use Rattle.mark.specs.Levels.{Levels, levels-next}
-use Rattle.mark.specs.Holders.{varHeld, slotHeld, heldCells, Holding, slot-held-ref, holding-kept, kept-slot-held, kept-held-cells}
-
--- the holders that call for g are pushed on an empty stack
-
-level-pending : {p : Sizes} {r g : ℕ} (thread outer : ℕ) {W m T W₁ T₁ W₂ T₂ : List ℕ} {top top′ : ℕ} → Shaped p W T → Holding p W m T
-    → Pushing p r (varHeld p T thread outer g) W T 0 W₁ T₁ top (varCount p)
-    → Pushing p r (slotHeld p W₁ m T₁ r g) W₁ T₁ top W₂ T₂ top′ (usedIn m)
-    → Pending p r g W T (heldCells p W m T r thread outer g) W₂ T₂ top′
-unfolding heldCells
-level-pending {p} {r} {g} thread outer {W} {m} {T} {W₁} {T₁} {W₂} {T₂} {top} {top′} s h a b =
-    let n : ℕ = varCount p in
-    let k : Kept p W T W₁ T₁ = pushing-kept s a in
-    let S : List ℕ = named (varHeld p T thread outer g) n in
-    subst (λ (l : List ℕ). Pending p r g W T (S ++ l) W₂ T₂ top′) (named-same _ _ (usedIn m) (kept-slot-held k (s .room) h r g))
-    (seeded g (varHeld p T thread outer g) (slotHeld p W₁ m T₁ r g) n (usedIn m) s
-    (λ i l. subst (IsRef p W T) (sym (kept-slot-held k (s .room) h r g i l)) (slot-held-ref s h r g i l)) a b)
+use Rattle.mark.specs.Holders.{varHeld, slotHeld, heldCells, Holding, slot-held-ref, holding-kept, kept-var-held, kept-slot-held}
 
 -- the cells that holders of each level of the thread hold
 abbrev pub levelCells : Sizes → List ℕ → List ℕ → List ℕ → ℕ → ℕ → ℕ → ℕ → List ℕ
@@ -45,13 +30,18 @@ module _ {p : Sizes} {r n : ℕ} {W₀ m T₀ W T : List ℕ} (s₀ : Shaped p W
   round-slots a = (pushing-shaped round-shaped a, holding-kept (pushing-kept round-shaped a) (round-shaped .room) round-holding)
 
   module _ (g : ℕ) (e : g ≡ regionAt p thread n) where
+    -- the holders that call for g are pushed on an empty stack
     pub round-pending : {W₁ T₁ W₂ T₂ : List ℕ} {top top′ : ℕ}
         → Pushing p r (varHeld p T thread outer g) W T 0 W₁ T₁ top (varCount p)
         → Pushing p r (slotHeld p W₁ m T₁ r g) W₁ T₁ top W₂ T₂ top′ (usedIn m)
         → Pending p r g W T (heldCells p W₀ m T₀ r thread outer g) W₂ T₂ top′
+    unfolding heldCells
     round-pending {W₂ = W₂} {T₂ = T₂} {top′ = top′} a b =
-        subst (λ (l : List ℕ). Pending p r g W T l W₂ T₂ top′) (kept-held-cells (L .kept) (s₀ .room) h₀ r thread outer g)
-        (level-pending thread outer round-shaped round-holding a b)
+        let k = pushing-kept round-shaped a in
+        let same = kept-slot-held (kept-trans (L .kept) k) (s₀ .room) h₀ r g in
+        subst₂ (λ (x y : List ℕ). Pending p r g W T (x ++ y) W₂ T₂ top′) (named-same _ _ (varCount p) (kept-var-held (L .kept) (s₀ .room) h₀ thread outer g)) (named-same _ _ (usedIn m) same)
+        (seeded g _ _ (varCount p) (usedIn m) round-shaped
+        (λ i l. subst (IsRef p W T) (sym (kept-slot-held k (round-shaped .room) round-holding r g i l)) (slot-held-ref round-shaped round-holding r g i l)) a b)
 
     pub round-levels : {W′ T′ : List ℕ} {k : ℕ} → Drained p r g W T (heldCells p W₀ m T₀ r thread outer g) W′ T′ k
         → Levels p r (n + 1) (regionAt p thread) (levelCells p W₀ m T₀ r thread outer) W₀ T₀ W′ T′
