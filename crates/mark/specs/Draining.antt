@@ -6,6 +6,7 @@ use mathlib.Core.List.{List, [], _∷_, _++_}
 use Prim.Native.Nat.{ℕ, _+_, _-_, _≤_, _<_}
 use native.Mathlib.Omega.{arith}
 use lib.ListN.{length, length-append, set}
+use Rattle.lists.specs.Listed.{listed}
 use Rattle.lists.specs.Members.{In, in-append, in-left, in-right}
 use Rattle.lists.specs.Pigeonhole.{distinct-few}
 use Rattle.lists.specs.Says.{Says}
@@ -15,7 +16,7 @@ use Rattle.layout.specs.Cells.{workAt, workOf, fieldOf, pageOf, refsOf, mostFie
 use Rattle.layout.specs.Marks.{marked}
 use Rattle.layout.specs.Objects.{Begins, begins-page, cellCount}
 use Rattle.promises.specs.Whole.{IsRef}
-use Rattle.mark.specs.Marks.{owner, Shaped, shaped-few, Leads.held, Leads.via, leads-last, ref-begins, named, named-in, named-from, kept-refs, kept-field, kept-owner, AnyMarked}
+use Rattle.mark.specs.Marks.{owner, Shaped, shaped-few, Leads.held, Leads.via, leads-last, ref-begins, listed-in, in-listed, kept-refs, kept-field, kept-owner, AnyMarked}
 use Rattle.mark.specs.Marking.{Marking, marking-start, shaped-then, popped-top}
 use Rattle.mark.specs.Pushes.{Pushing, pushing-kept, pushing-shaped, pushing-mono, pushing-closed, pushing-marking}
 
@@ -27,7 +28,7 @@ pub record Draining (p : Sizes) (r g : ℕ) (W₀ T₀ S₀ S W T : List ℕ) (t
   -- every cell of r that a done cell's slots name is marked
   pub closed : (c f d : ℕ) → In c done → f < refsOf W₀ c → fieldOf W₀ c f ≡ 1 + d → owner p T₀ d ≡ r → marked p T d ≡ 1
   -- and so is every cell of r that is held
-  pub all-held : (c : ℕ) → In c S₀ → owner p T₀ c ≡ r → marked p T c ≡ 1
+  pub all-held : (c : ℕ) → In (1 + c) S₀ → owner p T₀ c ≡ r → marked p T c ≡ 1
 
 -- the held cells are on the stack, and nothing is done
 abbrev pub Pending : (p : Sizes) (r g : ℕ) (W₀ T₀ S₀ W T : List ℕ) (top : ℕ) → Type 0
@@ -127,13 +128,13 @@ module _ {p : Sizes} {r g : ℕ} {W₀ T₀ S₀ S W T : List ℕ} {top n : ℕ}
 
 pub seeded : {p : Sizes} {r : ℕ} (g : ℕ) (ref ref′ : ℕ → ℕ) (n n′ : ℕ) {W T W′ T′ W″ T″ : List ℕ} {top top′ : ℕ} → Shaped p W T
     → ((k : ℕ) → k < n′ → IsRef p W T (ref′ k)) → Pushing p r ref W T 0 W′ T′ top n → Pushing p r ref′ W′ T′ top W″ T″ top′ n′
-    → Pending p r g W T (named ref n ++ named ref′ n′) W″ T″ top′
+    → Pending p r g W T (listed ref n ++ listed ref′ n′) W″ T″ top′
 seeded {p} {r} g ref ref′ n n′ {W} {T} {W′} {T′} s used h i =
-    let S₀ : List ℕ = named ref n ++ named ref′ n′ in
+    let S₀ : List ℕ = listed ref n ++ listed ref′ n′ in
     let k = pushing-kept s h in
     let s′ = pushing-shaped s h in
-    let m = pushing-marking (marking-start r g S₀ s) (λ k c l e o. held (in-left c (named ref n) (named ref′ n′) (named-in ref n k c l e)) o) h in
-    let m′ = pushing-marking (m .1) (λ k c l e o. held (in-right c (named ref n) (named ref′ n′) (named-in ref′ n′ k c l e)) o) i in (
+    let m = pushing-marking (marking-start r g S₀ s) (λ k c l e o. held (in-left (1 + c) (listed ref n) (listed ref′ n′) (listed-in ref n k (1 + c) l e)) o) h in
+    let m′ = pushing-marking (m .1) (λ k c l e o. held (in-right (1 + c) (listed ref n) (listed ref′ n′) (listed-in ref′ n′ k (1 + c) l e)) o) i in (
       m′ .0,
       record {
         done = [];
@@ -141,10 +142,10 @@ seeded {p} {r} g ref ref′ n n′ {W} {T} {W′} {T′} s used h i =
         marking = m′ .1;
         closed = λ c f d i. absurd i;
         all-held = λ c j own.
-            ⊎-elim (λ j. let q = named-from ref n c j in pushing-mono s′ i c (pushing-closed s h (q .0) c (q .1) (q .2) own))
+            ⊎-elim (λ j. let q = in-listed ref n (1 + c) j in pushing-mono s′ i c (pushing-closed s h (q .0) c (q .1) (q .2) own))
             (λ j.
-            let q = named-from ref′ n′ c j in
+            let q = in-listed ref′ n′ (1 + c) j in
             pushing-closed s′ i (q .0) c (q .1) (q .2) (kept-owner k (s .room) c (begins-page _ _ _ _ (ref-begins p W T (ref′ (q .0)) c (used (q .0) (q .1)) (q .2))) ∙ own))
-            (in-append c (named ref n) (named ref′ n′) j);
+            (in-append (1 + c) (listed ref n) (listed ref′ n′) j);
       },
     )

@@ -9,6 +9,7 @@ use native.Mathlib.Omega.{arith}
 use lib.Dec.{eqb}
 use lib.ListN.{length, getD}
 use borrow.Author.Tests.{eq-eqb, ne-eqb}
+use Rattle.lists.specs.Listed.{listed}
 use Rattle.rules.specs.Regions.{join}
 use Rattle.rules.specs.declared.Sizes.{Sizes}
 use Rattle.layout.specs.Places.{Room, varOf, ownerOf, usedIn, slotIn, slotRegionIn, varsFrom, cellsWords, rememberWords, varCount}
@@ -18,7 +19,7 @@ use Rattle.layout.specs.Words.{words}
 use Rattle.remember.specs.Crosses.{cross-slot}
 use Rattle.promises.specs.Whole.{IsRef, VariablesWhole, RememberWhole}
 use Rattle.promises.specs.Frames.{variables-frame, remember-frame}
-use Rattle.mark.specs.Marks.{Shaped, Kept, kept-only, kept-owner, named, named-same}
+use Rattle.mark.specs.Marks.{Shaped, Kept, kept-only, kept-owner}
 
 -- reference x of a holder that calls for q, or null if that is not g
 abbrev pub heldFor : ℕ → ℕ → ℕ → ℕ
@@ -38,9 +39,9 @@ slotCalls p m T r i = join p r (ownerOf p T (pageAt (slotIn m i)))
 unfoldable pub slotHeld : Sizes → List ℕ → List ℕ → List ℕ → ℕ → ℕ → ℕ → ℕ
 slotHeld p W m T r g i = cond (eqb (slotRegionIn (p .entries) m i) r) (heldFor g (slotCalls p m T r i) (getD W (slotIn m i) 0)) 0
 
--- the cells that holders hold which call for g
-unfoldable pub heldCells : Sizes → List ℕ → List ℕ → List ℕ → ℕ → ℕ → ℕ → ℕ → List ℕ
-heldCells p W m T r thread outer g = named (varHeld p T thread outer g) (varCount p) ++ named (slotHeld p W m T r g) (usedIn m)
+-- the references that holders hold which call for g
+unfoldable pub heldRefs : Sizes → List ℕ → List ℕ → List ℕ → ℕ → ℕ → ℕ → ℕ → List ℕ
+heldRefs p W m T r thread outer g = listed (varHeld p T thread outer g) (varCount p) ++ listed (slotHeld p W m T r g) (usedIn m)
 
 -- the variables and the remember table are whole, and can be read
 pub record Holding (p : Sizes) (W m T : List ℕ) : Type 0 where

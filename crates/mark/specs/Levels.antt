@@ -1,5 +1,5 @@
--- Several drains, outermost level first: each cell of r that a held cell leads to goes to the first level of a holder whose chain reaches
--- it. `calls l` lists the cells that holders of level l hold, `gs l` is the region that they call for.
+-- Several drains, outermost level first: each cell of r that a held reference leads to goes to the first level of a holder whose chain reaches
+-- it. `calls l` lists the references that holders of level l hold, `gs l` is the region that they call for.
 use mathlib.Core.Path.{_≡_, refl, sym, _∙_, subst}
 use mathlib.Core.List.{List}
 use Prim.Native.Nat.{ℕ, _+_, _≤_, _<_}
@@ -13,7 +13,7 @@ use Rattle.layout.specs.Objects.{Begins, begins-page}
 use Rattle.mark.specs.Marks.{owner, Shaped, shaped-few, Ours, Fresh, Leads, Leads.held, Leads.via, leads-last, ref-begins, Kept, kept-refl, kept-trans, kept-refs, kept-field, kept-owner, in-use-kept}
 use Rattle.mark.specs.Draining.{Drained}
 
--- a cell that a holder of level l holds leads to c inside r
+-- a reference that a holder of level l holds leads to c inside r
 abbrev pub Held : (p : Sizes) (r : ℕ) (W T : List ℕ) (calls : ℕ → List ℕ) (l c : ℕ) → Type 0
 Held p r W T calls l c = Leads (Ours p r W T) W (calls l) c
 

@@ -8,7 +8,8 @@ use native.Mathlib.Omega.{arith}
 use lib.ListN.{length, getD, set, length-set}
 use lib.Seq.{getD-set-same, getD-set-other}
 use Rattle.lists.specs.Bits.{bitAt, bit-lt, no-bits, none-high, set-same, set-other}
-use Rattle.lists.specs.Members.{In}
+use Rattle.lists.specs.Listed.{listed, length-listed, getD-listed}
+use Rattle.lists.specs.Members.{In, getD-member, in-place}
 use Rattle.lists.specs.Says.{true-not-false}
 use Rattle.lists.specs.Stores.{drop-same}
 use Rattle.rules.specs.declared.Sizes.{Sizes}
@@ -44,9 +45,9 @@ Ours p r W T c = Begins p W T c × (owner p T c ≡ r)
 abbrev pub Fresh : Sizes → ℕ → List ℕ → List ℕ → ℕ → Type 0
 Fresh p r W T c = Ours p r W T c × (marked p T c ≡ 0)
 
--- a chain of slots leads from one of the cells S to c, over cells of which P holds
+-- one of the references S and then a chain of slots lead to c, over cells of which P holds
 pub data Leads (P : ℕ → Type 0) (W S : List ℕ) : ℕ → Type 0 where
-  held : {c : ℕ} → In c S → P c → Leads P W S c
+  held : {c : ℕ} → In (1 + c) S → P c → Leads P W S c
   via : {b c : ℕ} → Leads P W S b → (f : ℕ) → f < refsOf W b → fieldOf W b f ≡ 1 + c → P c → Leads P W S c
 
 pub leads-last : {P : ℕ → Type 0} {W S : List ℕ} {c : ℕ} → Leads P W S c → P c
@@ -62,46 +63,17 @@ abbrev pub Chain : List ℕ → ℕ → List ℕ → Type 0
 Chain W top [] = top ≡ 0
 Chain W top (c ∷ S) = (top ≡ 1 + c) × Chain W (workOf W c) S
 
--- ---- the cells that references name: ref k, for k below n
+-- ---- a list of references, ref k for k below n
 
-abbrev pub consRef : ℕ → List ℕ → List ℕ
-consRef zero l = l
-consRef (suc c) l = c ∷ l
+pub listed-in : (ref : ℕ → ℕ) (n k x : ℕ) → k < n → ref k ≡ x → In x (listed ref n)
+listed-in ref n k x l e =
+    subst (λ (y : ℕ). In y (listed ref n)) (getD-listed ref n k 0 l ∙ e) (getD-member (listed ref n) k (omega (arith, length-listed ref n)))
 
-abbrev pub named : (ℕ → ℕ) → ℕ → List ℕ
-named ref zero = []
-named ref (suc n) = consRef (ref n) (named ref n)
-
-cons-in : (x c : ℕ) (l : List ℕ) → x ≡ 1 + c → In c (consRef x l)
-cons-in zero c l e = absurd (let z : ⊥ = omega arith in z)
-cons-in (suc x) c l e = inl (omega arith)
-
-cons-later : (x c : ℕ) (l : List ℕ) → In c l → In c (consRef x l)
-cons-later zero c l i = i
-cons-later (suc x) c l i = inr i
-
-cons-from : (x c : ℕ) (l : List ℕ) → In c (consRef x l) → (x ≡ 1 + c) ⊎ In c l
-cons-from zero c l i = inr i
-cons-from (suc x) c l (inl e) = inl (omega arith)
-cons-from (suc x) c l (inr i) = inr i
-
-pub named-in : (ref : ℕ → ℕ) (n k c : ℕ) → k < n → ref k ≡ 1 + c → In c (named ref n)
-named-in ref zero k c h e = absurd (let z : ⊥ = omega arith in z)
-named-in ref (suc n) k c h e = go (ℕ-discrete k n) (named-in ref n k c)
-  where
-    go : Dec (k ≡ n) → (k < n → ref k ≡ 1 + c → In c (named ref n)) → In c (consRef (ref n) (named ref n))
-    go (yes q) ih = cons-in (ref n) c (named ref n) (ap ref (sym q) ∙ e)
-    go (no q) ih = cons-later (ref n) c (named ref n) (ih (omega arith) e)
-
-pub named-from : (ref : ℕ → ℕ) (n c : ℕ) → In c (named ref n) → (k : ℕ) × (k < n) × (ref k ≡ 1 + c)
-named-from ref zero c i = absurd i
-named-from ref (suc n) c i =
-    ⊎-elim (λ e. (n, omega arith, e)) (λ j. let q = named-from ref n c j in (q .0, omega arith, q .2)) (cons-from (ref n) c (named ref n) i)
-
-pub named-same : (ref ref′ : ℕ → ℕ) (n : ℕ) → ((k : ℕ) → k < n → ref k ≡ ref′ k) → named ref n ≡ named ref′ n
-named-same ref ref′ zero e = refl
-named-same ref ref′ (suc n) e =
-    ap (λ (x : ℕ). consRef x (named ref n)) (e n (omega arith)) ∙ ap (consRef (ref′ n)) (named-same ref ref′ n (λ k l. e k (omega arith)))
+pub in-listed : (ref : ℕ → ℕ) (n x : ℕ) → In x (listed ref n) → (k : ℕ) × (k < n) × (ref k ≡ x)
+in-listed ref n x i =
+    let q = in-place (listed ref n) x i in
+    let l : q .0 < n = omega (arith, q .1, length-listed ref n) in
+    (q .0, l, sym (getD-listed ref n (q .0) 0 l) ∙ q .2)
 
 -- ---- one push, of reference x
 
@@ -271,38 +243,13 @@ pub push-null : {p : Sizes} {r : ℕ} {W T : List ℕ} {top x : ℕ} → x ≡ 0
 push-null z = inl (record { cells = refl; tables = refl; stack = refl; why = λ l. absurd (let y : ⊥ = omega arith in y) })
 
 pub push-foreign : {p : Sizes} {r : ℕ} {W T : List ℕ} {top x : ℕ} (b page : ℕ) → b ≡ x - 1 → page ≡ pageOf b → (ownerOf p T page ≡ r → ⊥) → Pushed p r W T top x W T top
-push-foreign {p} {T} b page eb ep n =
-    inl (record { cells = refl; tables = refl; stack = refl; why = λ l e. absurd (n (ap (λ (z : ℕ). ownerOf p T z) (ep ∙ ap pageOf eb) ∙ e)) })
+push-foreign b page eb ep n = inl (record { cells = refl; tables = refl; stack = refl; why = λ l e. absurd (n cc) })
 
 pub push-marked : {p : Sizes} {r : ℕ} {W T : List ℕ} {top x : ℕ} (b page i w : ℕ) → b ≡ x - 1 → page ≡ pageOf b → i ≡ placeOf b → w ≡ markOf p T page → bitAt w i ≡ 1
     → Pushed p r W T top x W T top
-push-marked {p} {T} {x} b page i w eb ep ei ew on =
-    let pg : page ≡ pageOf (x - 1) = ep ∙ ap pageOf eb in
-    let pl : i ≡ placeOf (x - 1) = ei ∙ ap placeOf eb in
-    inl
-    (record {
-      cells = refl;
-      tables = refl;
-      stack = refl;
-      why = λ l e.
-          ap (λ (z : ℕ). bitAt (markOf p T z) (placeOf (x - 1))) (sym pg) ∙ ap (λ (z : ℕ). bitAt z (placeOf (x - 1))) (sym ew) ∙ ap (bitAt w) (sym pl) ∙ on;
-    })
+push-marked b page i w eb ep ei ew on = inl (record { cells = refl; tables = refl; stack = refl; why = λ l e. cc })
 
 pub push-links : {p : Sizes} {r : ℕ} {W T : List ℕ} {top x : ℕ} {W′ T′ : List ℕ} {top′ : ℕ} (b page i w w′ : ℕ) → 0 < x → b ≡ x - 1 → page ≡ pageOf b → i ≡ placeOf b → w ≡ markOf p T page → ownerOf p T page ≡ r
     → bitAt w i ≡ 0 → w′ ≡ w + 2 ^ i → W′ ≡ set W (workAt b) top → T′ ≡ set T (markAt p page) w′ → top′ ≡ x
     → Pushed p r W T top x W′ T′ top′
-push-links {p} {r} {W} {T} {top} {x} b page i w w′ pos eb ep ei ew own off ew′ cs ts e =
-    let pg : page ≡ pageOf (x - 1) = ep ∙ ap pageOf eb in
-    let pl : i ≡ placeOf (x - 1) = ei ∙ ap placeOf eb in
-    let wd : w ≡ markOf p T (pageOf (x - 1)) = ew ∙ ap (λ (z : ℕ). markOf p T z) pg in
-    inr
-    (record {
-      some = pos;
-      owned = ap (λ (z : ℕ). ownerOf p T z) (sym pg) ∙ own;
-      off = ap (λ (z : ℕ). bitAt z (placeOf (x - 1))) (sym wd) ∙ ap (bitAt w) (sym pl) ∙ off;
-      cells = cs ∙ ap (λ (z : ℕ). set W (workAt z) top) eb;
-      tables =
-          ts ∙ ap (λ (z : ℕ). set T (markAt p z) w′) pg
-          ∙ ap (set T (markAt p (pageOf (x - 1)))) (ew′ ∙ ap (λ (z : ℕ). z + 2 ^ i) wd ∙ ap (λ (z : ℕ). markOf p T (pageOf (x - 1)) + 2 ^ z) pl);
-      stack = e;
-    })
+push-links b page i w w′ pos eb ep ei ew own off ew′ cs ts e = inr (record { some = pos; owned = cc; off = cc; cells = cc; tables = cc; stack = e })

@@ -12,6 +12,7 @@ use native.Mathlib.Decide.{ℕ-discrete, decLt}
 use lib.Dec.{eqb, leb}
 use lib.ListN.{getD}
 use borrow.Author.Tests.{ne-eqb, eqb-true, eqb-false, leb-false, lt-leb}
+use Rattle.lists.specs.Listed.{listed}
 use Rattle.lists.specs.Members.{In, in-append, in-left, in-right, getD-in, in-place, in-bounds}
 use Rattle.rules.specs.declared.Sizes.{Sizes}
 use Rattle.rules.specs.Regions.{regionAt, threadOf, levelOf, join}
@@ -27,8 +28,8 @@ use Rattle.layout.specs.Objects.{begins-page, field-on, slot-low, slot-page, fi
 use Rattle.remember.specs.Crosses.{slot-cross, other-yes, crosses-by, crosses-into}
 use Rattle.promises.specs.Slots.{region-of}
 use Rattle.promises.specs.Reading.{used-home, used-owned, used-alive, alive-used, cell-low, length-refs, getD-refs, length-vars, getD-vars, ref-room}
-use Rattle.mark.specs.Marks.{Ours, Leads, Leads.held, Leads.via, leads-last, ref-begins, named, named-in, named-from}
-use Rattle.mark.specs.Holders.{varCalls, varHeld, slotCalls, slotHeld, heldCells, Holding, entry-slot, calls-own, calls-other, var-some, slot-some}
+use Rattle.mark.specs.Marks.{Ours, Leads, Leads.held, Leads.via, leads-last, ref-begins, listed-in, in-listed}
+use Rattle.mark.specs.Holders.{varCalls, varHeld, slotCalls, slotHeld, heldRefs, Holding, entry-slot, calls-own, calls-other, var-some, slot-some}
 
 -- ---- numbers that are chosen by tests
 
@@ -63,14 +64,14 @@ module _ (s : Sizes) (w : Words) (k : WholeFor s w) where
   -- ---- chains
 
   module _ (r : ℕ) (pos : 0 < r) where
-    pub chain-rules : (S : List ℕ) (c : ℕ) → Leads (Ours s r (w .cells) (w .tables)) (w .cells) S c → (x : ℕ) × In x S × (homeIn s w x ≡ r) × gl.Leads (graphOf s w) r x c
+    pub chain-rules : (S : List ℕ) (c : ℕ) → Leads (Ours s r (w .cells) (w .tables)) (w .cells) S c → (x : ℕ) × In (1 + x) S × (homeIn s w x ≡ r) × gl.Leads (graphOf s w) r x c
     chain-rules S c (held i o) = (c, i, cell-home c r (o .0) (o .1), gl.itself)
     chain-rules S c (via {b = b} q f lt e o) =
         let h = chain-rules S b q in
         let u = leads-last q in
         (h .0, h .1, h .2, gl.along (h .3) (field-refers b f c (u .0) lt (e ∙ one-add c)) (cell-home b r (u .0) (u .1)) (cell-home c r (o .0) (o .1)))
 
-    pub rules-chain : (S : List ℕ) (x c : ℕ) → In x S → homeIn s w x ≡ r → gl.Leads (graphOf s w) r x c → Leads (Ours s r (w .cells) (w .tables)) (w .cells) S c
+    pub rules-chain : (S : List ℕ) (x c : ℕ) → In (1 + x) S → homeIn s w x ≡ r → gl.Leads (graphOf s w) r x c → Leads (Ours s r (w .cells) (w .tables)) (w .cells) S c
     rules-chain S x c i h gl.itself = held i (home-cell x r h pos)
     rules-chain S x c i h (gl.along {y = y} {z = z} q f a b) =
         let e = refers-field y z f in via (rules-chain S x y i h q) (e .0) (e .1) (e .2 ∙ sym (one-add z)) (home-cell z r b pos)
@@ -114,22 +115,22 @@ module _ (s : Sizes) (w : Words) (k : WholeFor s w) where
     outer = regionAt s t j
 
     abbrev heldFrom : ℕ → List ℕ
-    heldFrom g = heldCells s (w .cells) (w .remember) (w .tables) r t outer g
+    heldFrom g = heldRefs s (w .cells) (w .remember) (w .tables) r t outer g
 
     deep : j < s .depth
     deep = omega (arith, k .depths t th)
 
     -- what is held for g is held by a holder that calls for g
-    pub held-holds : (g x : ℕ) → homeIn s w x ≡ r → In x (heldFrom g) → Holds s (graphOf s w) r x g
-    unfolding heldCells varHeld slotHeld
+    pub held-holds : (g x : ℕ) → homeIn s w x ≡ r → In (1 + x) (heldFrom g) → Holds s (graphOf s w) r x g
+    unfolding heldRefs varHeld slotHeld
     held-holds g x h i =
         ⊎-elim variable slot
-        (in-append x (named (varHeld s (w .tables) t outer g) (varCount s))
-        (named (slotHeld s (w .cells) (w .remember) (w .tables) r g) (usedIn (w .remember))) i)
+        (in-append (1 + x) (listed (varHeld s (w .tables) t outer g) (varCount s))
+        (listed (slotHeld s (w .cells) (w .remember) (w .tables) r g) (usedIn (w .remember))) i)
       where
-        variable : In x (named (varHeld s (w .tables) t outer g) (varCount s)) → Holds s (graphOf s w) r x g
+        variable : In (1 + x) (listed (varHeld s (w .tables) t outer g) (varCount s)) → Holds s (graphOf s w) r x g
         variable m =
-            let q = named-from (varHeld s (w .tables) t outer g) (varCount s) x m in
+            let q = in-listed (varHeld s (w .tables) t outer g) (varCount s) (1 + x) m in
             let v = some-cond (eqb (varCalls s t outer (q .0)) g) (varOf s (w .tables) (q .0)) x (q .2) in
             let at : getD (varsIn s w) (q .0) 0 ≡ suc x = getD-vars s w (q .0) (q .1) ∙ v .1 ∙ one-add x in
             let e : varCalls s t outer (q .0) ≡ g = eqb-true _ _ (v .0) in
@@ -139,9 +140,9 @@ module _ (s : Sizes) (w : Words) (k : WholeFor s w) where
             go i at e (yes d) = byOwn i at (d ∙ sym (thread-at s t j deep)) (sym e ∙ sym (calls-own s t outer i d) ∙ sym (parent-at s t j deep))
             go i at e (no d) = byOther i at (λ z. d (z ∙ thread-at s t j deep)) (sym e ∙ sym (calls-other s t outer i d))
 
-        slot : In x (named (slotHeld s (w .cells) (w .remember) (w .tables) r g) (usedIn (w .remember))) → Holds s (graphOf s w) r x g
+        slot : In (1 + x) (listed (slotHeld s (w .cells) (w .remember) (w .tables) r g) (usedIn (w .remember))) → Holds s (graphOf s w) r x g
         slot m =
-            let q = named-from (slotHeld s (w .cells) (w .remember) (w .tables) r g) (usedIn (w .remember)) x m in
+            let q = in-listed (slotHeld s (w .cells) (w .remember) (w .tables) r g) (usedIn (w .remember)) (1 + x) m in
             let a = some-cond (eqb (slotRegionIn (s .entries) (w .remember) (q .0)) r) _ x (q .2) in
             let b = some-cond (eqb (slotCalls s (w .remember) (w .tables) r (q .0)) g) _ x (a .1) in
             let at = slotIn (w .remember) (q .0) in
@@ -152,19 +153,19 @@ module _ (s : Sizes) (w : Words) (k : WholeFor s w) where
             bySlot y (field-refers y (o .field) x (o .begins) (o .low) f) (λ z. entry-outside (q .0) (q .1) (sym hy ∙ z ∙ sym (eqb-true _ _ (a .0)))) (sym (eqb-true _ _ (b .0)) ∙ ap (join s r) (sym hy))
 
     -- a variable, or a slot outside r, that calls for the region of level l is held there
-    var-held : (x l i : ℕ) → getD (varsIn s w) i 0 ≡ suc x → regionAt s t l ≡ varCalls s t outer i → In x (heldFrom (regionAt s t l))
-    unfolding heldCells
+    var-held : (x l i : ℕ) → getD (varsIn s w) i 0 ≡ suc x → regionAt s t l ≡ varCalls s t outer i → In (1 + x) (heldFrom (regionAt s t l))
+    unfolding heldRefs
     var-held x l i at c =
         let b : i < varCount s = omega (arith, in-bounds (varsIn s w) i (λ z. omega arith), length-vars s w k) in
         let g : ℕ = regionAt s t l in
-        in-left x (named (varHeld s (w .tables) t outer g) (varCount s))
-        (named (slotHeld s (w .cells) (w .remember) (w .tables) r g) (usedIn (w .remember)))
-        (named-in (varHeld s (w .tables) t outer g) (varCount s) i x b
+        in-left (1 + x) (listed (varHeld s (w .tables) t outer g) (varCount s))
+        (listed (slotHeld s (w .cells) (w .remember) (w .tables) r g) (usedIn (w .remember)))
+        (listed-in (varHeld s (w .tables) t outer g) (varCount s) i (1 + x) b
         (sym (var-some s (w .tables) t outer g i (varCalls s t outer i) (varOf s (w .tables) i) refl (sym c) refl)
         ∙ sym (getD-vars s w i b) ∙ at ∙ sym (one-add x)))
 
-    slot-held : (x l y : ℕ) → homeIn s w x ≡ r → Refers (graphOf s w) y x → (homeIn s w y ≡ r → ⊥) → join s r (homeIn s w y) ≡ regionAt s t l → In x (heldFrom (regionAt s t l))
-    unfolding heldCells
+    slot-held : (x l y : ℕ) → homeIn s w x ≡ r → Refers (graphOf s w) y x → (homeIn s w y ≡ r → ⊥) → join s r (homeIn s w y) ≡ regionAt s t l → In (1 + x) (heldFrom (regionAt s t l))
+    unfolding heldRefs
     slot-held x l y h f o e =
         let u = alive-used s w k y (f .there) in
         let i = refers-field y x f in
@@ -174,9 +175,9 @@ module _ (s : Sizes) (w : Words) (k : WholeFor s w) where
         let page : pageAt (slotIn (w .remember) (n .0)) ≡ pageOf y = ap pageAt (n .2) ∙ field-on s (w .cells) (w .tables) y u (i .0) (ref-room s w k y (i .0) u b) in
         let g : ℕ = regionAt s t l in
         let call : slotCalls s (w .remember) (w .tables) r (n .0) ≡ g = ap (λ (z : ℕ). join s r (ownerIn s w z)) page ∙ ap (join s r) (sym hy) ∙ e in
-        in-right x (named (varHeld s (w .tables) t outer g) (varCount s))
-        (named (slotHeld s (w .cells) (w .remember) (w .tables) r g) (usedIn (w .remember)))
-        (named-in (slotHeld s (w .cells) (w .remember) (w .tables) r g) (usedIn (w .remember)) (n .0) x (n .1)
+        in-right (1 + x) (listed (varHeld s (w .tables) t outer g) (varCount s))
+        (listed (slotHeld s (w .cells) (w .remember) (w .tables) r g) (usedIn (w .remember)))
+        (listed-in (slotHeld s (w .cells) (w .remember) (w .tables) r g) (usedIn (w .remember)) (n .0) (1 + x) (n .1)
         (sym (slot-some s (w .cells) (w .remember) (w .tables) r g (n .0) (n .3) call) ∙ ap (λ (z : ℕ). getD (w .cells) z 0) (n .2) ∙ i .2 ∙ sym (one-add x)))
 
     -- what a slot outside r calls for is the region of a level below
@@ -207,7 +208,7 @@ module _ (s : Sizes) (w : Words) (k : WholeFor s w) where
             level ((q - 2) / s .depth) ((q - 2) % s .depth) (mod-lt (q - 2) d) (number (q - 2) (omega arith)) l (ℕ-discrete t ((q - 2) / s .depth))
 
     -- each holder calls for the region of a level below, and is held there
-    pub holds-held : (x q : ℕ) → homeIn s w x ≡ r → Holds s (graphOf s w) r x q → (l : ℕ) × (l < suc j) × (q ≡ regionAt s t l) × In x (heldFrom (regionAt s t l))
+    pub holds-held : (x q : ℕ) → homeIn s w x ≡ r → Holds s (graphOf s w) r x q → (l : ℕ) × (l < suc j) × (q ≡ regionAt s t l) × In (1 + x) (heldFrom (regionAt s t l))
     unfolding regionAt
     holds-held x q h (byOwn i at d e) =
         (j, omega arith, e ∙ parent-at s t j deep, var-held x j i at (calls-own s t outer i (d ∙ thread-at s t j deep)))

@@ -24,7 +24,7 @@ use Rattle.promises.specs.Whole.{WholeFor}
 use Rattle.promises.specs.Ends.{Part, partOf}
 use Rattle.mark.specs.Marks.{Shaped, leads-last, Small, Kept, AnyMarked, none-marked}
 use Rattle.mark.specs.Levels.{Held, First, Levels}
-use Rattle.mark.specs.Rounds.{levelCells}
+use Rattle.mark.specs.Rounds.{levelRefs}
 use Rattle.mark.specs.Reached.{chain-rules, rules-chain, held-holds, holds-held}
 
 -- the words w became w′ by marking the survivors of an end
@@ -54,12 +54,12 @@ unmarked-freed {e = e} m c u own off = go (decLt 0 (e .goes c))
 module _ (s : Sizes) (w : Words) (k : WholeFor s w) (t j : ℕ) (th : t < s .threads) (dk : depthIn w t ≡ suc j)
     {W′ T′ : List ℕ}
     (L : Levels s (regionAt s t (suc j)) (suc j) (regionAt s t)
-    (levelCells s (w .cells) (w .remember) (w .tables) (regionAt s t (suc j)) t (regionAt s t j)) (w .cells) (w .tables) W′ T′) where
+    (levelRefs s (w .cells) (w .remember) (w .tables) (regionAt s t (suc j)) t (regionAt s t j)) (w .cells) (w .tables) W′ T′) where
   abbrev r : ℕ
   r = regionAt s t (suc j)
 
   abbrev calls : ℕ → List ℕ
-  calls = levelCells s (w .cells) (w .remember) (w .tables) r t (regionAt s t j)
+  calls = levelRefs s (w .cells) (w .remember) (w .tables) r t (regionAt s t j)
 
   pos : 0 < r
   pos = omega (arith, region-high s t j)
@@ -150,7 +150,7 @@ module _ (p : Sizes) (w : Words) (k : WholeFor p w) where
 
   -- r and outer are the regions of the depth d and of the level around it, as the code has them
   pub marked-at : (t d r outer : ℕ) → t < p .threads → 0 < d → d ≡ depthOf (w .tables) t → r ≡ regionAt p t d → outer ≡ regionAt p t (d - 1) → {W′ T′ : List ℕ}
-      → Levels p r d (regionAt p t) (levelCells p (w .cells) (w .remember) (w .tables) r t outer) (w .cells) (w .tables) W′ T′
+      → Levels p r d (regionAt p t) (levelRefs p (w .cells) (w .remember) (w .tables) r t outer) (w .cells) (w .tables) W′ T′
       → Marked p w (partOf p w (regionAt p t (depthOf (w .tables) t))) (words W′ (w .remember) T′)
   marked-at t zero r outer th l dk er eo L = absurd (let z : ⊥ = omega arith in z)
   marked-at t (suc j) r outer th l dk er eo {W′} {T′} L =
@@ -158,7 +158,7 @@ module _ (p : Sizes) (w : Words) (k : WholeFor p w) where
       let eo′ : outer ≡ regionAt p t j = eo ∙ ap (regionAt p t) j′ in
       subst (λ (n : ℕ). Marked p w (partOf p w (regionAt p t n)) (words W′ (w .remember) T′)) dk
       (levels-marked p w k t j th (sym dk)
-      (subst₂ (λ (a b : ℕ). Levels p a (suc j) (regionAt p t) (levelCells p (w .cells) (w .remember) (w .tables) a t b) (w .cells) (w .tables) W′ T′) er eo′ L))
+      (subst₂ (λ (a b : ℕ). Levels p a (suc j) (regionAt p t) (levelRefs p (w .cells) (w .remember) (w .tables) a t b) (w .cells) (w .tables) W′ T′) er eo′ L))
 
 -- where nothing survives, every mark word is 0
 pub none-survives : (p : Sizes) (w : Words) (e : Part) (w′ : Words) → Marked p w e w′ → (b : Bool) → Says b (AnyMarked p (w′ .tables)) → b ≡ false

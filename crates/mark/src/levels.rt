@@ -7,7 +7,7 @@ ghost use Rattle.layout.specs.Cells.{pageOf};
 ghost use Rattle.layout.specs.Marks.{marked};
 ghost use Rattle.mark.specs.Marks.{Shaped, AnyMarked};
 ghost use Rattle.mark.specs.Levels.{Levels};
-ghost use Rattle.mark.specs.Holders.{Holding, heldCells};
+ghost use Rattle.mark.specs.Holders.{Holding, heldRefs};
 use crate::drain::drain;
 use crate::holders::push_slots;
 use crate::holders::push_variables;
@@ -29,7 +29,7 @@ pub fn mark_levels(
     requires { ⌜ Holding p (now cells) (now remember) (now tables) ⌝ }
     requires { ⌜ ((c : ℕ) → pageOf c < p .pages → marked p (now tables) c ≡ 0) ⌝ }
     requires { ⌜ (thread < p .threads) × (depth ≤ p .depth) ⌝ }
-    ensures { λ _. ⌜ Levels p r depth (regionAt p thread) (λ l. heldCells p (now (cells .entry)) (now (remember .entry)) (now (tables .entry)) r thread outer (regionAt p thread l)) (now (cells .entry)) (now (tables .entry)) (now (cells .exit)) (now (tables .exit)) ⌝ }
+    ensures { λ _. ⌜ Levels p r depth (regionAt p thread) (λ l. heldRefs p (now (cells .entry)) (now (remember .entry)) (now (tables .entry)) r thread outer (regionAt p thread l)) (now (cells .entry)) (now (tables .entry)) (now (cells .exit)) (now (tables .exit)) ⌝ }
     ensures { λ b. ⌜ Says b (AnyMarked p (now (tables .exit))) ⌝ }
 {
     let mut found = false;

@@ -9,15 +9,15 @@ use Rattle.rules.specs.Regions.{regionAt}
 use Rattle.mark.specs.Marks.{AnyMarked}
 use Rattle.mark.specs.Draining.{says-popped, says-idle}
 use Rattle.mark.specs.Levels.{Levels, levels-start, levels-at}
-use Rattle.mark.specs.Holders.{heldCells}
-use Rattle.mark.specs.Rounds.{levelCells, round-shaped, round-holding, round-slots, round-pending, round-levels}
+use Rattle.mark.specs.Holders.{heldRefs}
+use Rattle.mark.specs.Rounds.{levelRefs, round-shaped, round-holding, round-slots, round-pending, round-levels}
 use Rattle.mark.proofs.levels.mark_levels.Statement.{statement}
 use Rattle.mark.proofs.levels.mark_levels.Tie as tie
 
 abbrev Inv-loop : tie.InvT-loop
 Inv-loop p cells₀ remember tables₀ r thread outer depth found₀ left₀ cells tables found left =
     (left ≤ depth) × (length cells ≡ length cells₀) × (length tables ≡ length tables₀)
-    × Levels p r (depth - left) (regionAt p thread) (levelCells p cells₀ remember tables₀ r thread outer) cells₀ tables₀ cells tables
+    × Levels p r (depth - left) (regionAt p thread) (levelRefs p cells₀ remember tables₀ r thread outer) cells₀ tables₀ cells tables
     × Says found (AnyMarked p tables)
 
 abbrev μ-loop : tie.MeasureT-loop
@@ -56,7 +56,7 @@ drain-requires c κs =
     let pre = c .before .before .before .before .before .before .before .before .before .before .before .before .before .before .before .before .before .before .before .before .before .before .pre in
     let loop = c .before .before .before .before .before .before .before .before .before .before .before .before .before .before .before .before .before .before .loop in
     let region-at = c .before .before .before .before .before .before .before .before .before .before .before .before .before .before .before .before .region-at in
-    (loop .cells, loop .tables, heldCells (args .p) (args .cells .now) (args .remember .now) (args .tables .now) (args .r) (args .thread) (args .outer) (region-at .result), round-pending (pre .0) (pre .1 .0) (args .thread) (args .outer) (loop .inv .3) (region-at .result) (region-at .ensures) (c .before .before .before .before .before .before .before .before .before .before .before .before .before .push-variables .ensures) (c .before .before .before .before .before .before .push-slots .ensures))
+    (loop .cells, loop .tables, heldRefs (args .p) (args .cells .now) (args .remember .now) (args .tables .now) (args .r) (args .thread) (args .outer) (region-at .result), round-pending (pre .0) (pre .1 .0) (args .thread) (args .outer) (loop .inv .3) (region-at .result) (region-at .ensures) (c .before .before .before .before .before .before .before .before .before .before .before .before .before .push-variables .ensures) (c .before .before .before .before .before .before .push-slots .ensures))
 
 sub-left : tie.Need-sub-left Inv-loop μ-loop
 sub-left c = omega (arith, c .before .before .before .before .before .before .before .before .before .before .before .before .before .before .before .before .before .before .before .before .before .before .before .loop-test .taken)
