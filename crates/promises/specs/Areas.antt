@@ -146,31 +146,36 @@ arrays-apart s a b i j n x y e = go (decLt (number a) (number b)) (decLt (number
     go (no l) (yes m) = omega (arith, y .1, x .0, sum-mono (λ k. getD (arrays s) k 0) (number b + 1) (number a) (omega arith))
     go (no l) (no m) = true-not-false (sym n ∙ ap (λ (t : Bool). cond t true false) (eq-eqb (number a) (number b) (omega arith)))
 
--- so tables in which the words of every other area are the same
-module _ (s : Sizes) (w : Words) (t′ : List ℕ) (cs : List Area) (long : length t′ ≡ length (w .tables))
-    (kept : (a : Area) → among a cs ≡ false → (j : ℕ) → Within a s j → getD t′ j 0 ≡ getD (w .tables) j 0)
-    (rest : (j : ℕ) → tablesWords s ≤ j → getD t′ j 0 ≡ getD (w .tables) j 0) where
-  pub tables-only : Only cs s w (withTables w t′)
-  tables-only =
-      record {
-        same = same;
-        beyond = record { cells = from-refl _ _; remember = from-refl _ _; tables = record { long = long; rest = drop-same (tablesWords s) (w .tables) t′ long rest } };
-      }
+-- ---- words that are the same but for some areas: the tables position by position, the rest area by area
+
+module _ (s : Sizes) (w w′ : Words) (cs : List Area) (beyond : SameBeyond s w w′)
+    (kept : (a : Area) → among a cs ≡ false → (j : ℕ) → Within a s j → getD (w′ .tables) j 0 ≡ getD (w .tables) j 0) where
+  areas-only : getD (w′ .remember) 0 0 ≡ getD (w .remember) 0 0 → (among headWords cs ≡ false → Same headWords s w w′) → (among workWords cs ≡ false → Same workWords s w w′)
+      → (among fieldWords cs ≡ false → Same fieldWords s w w′) → (among entryWords cs ≡ false → Same entryWords s w w′) → Only cs s w w′
+  areas-only size h o f m = record { same = same; beyond = beyond }
     where
-      same : (a : Area) → among a cs ≡ false → Same a s w (withTables w t′)
+      same : (a : Area) → among a cs ≡ false → Same a s w w′
       same sizeWords n =
-          let e : (j : ℕ) → j < 5 → getD t′ j 0 ≡ getD (w .tables) j 0 = λ j l. kept sizeWords n j (omega arith) in
-          (λ i. record { threads = e 0 (omega arith) i; variables = e 1 (omega arith) i; depth = e 2 (omega arith) i; pages = e 3 (omega arith) i; entries = e 4 (omega arith) i }, refl)
+          let e : (j : ℕ) → j < 5 → getD (w′ .tables) j 0 ≡ getD (w .tables) j 0 = λ j l. kept sizeWords n j (omega arith) in
+          (λ i. record { threads = e 0 (omega arith) i; variables = e 1 (omega arith) i; depth = e 2 (omega arith) i; pages = e 3 (omega arith) i; entries = e 4 (omega arith) i }, size)
       same depthWords n = λ t l. kept depthWords n (depthAt t) (depth-in s t l)
       same variableWords n = λ i l. kept variableWords n (varAt s i) (var-in s i l)
       same ownerWords n = λ q l. kept ownerWords n (ownerAt s q) (owner-in s q l)
       same usedWords n = λ q l. kept usedWords n (usedAt s q) (used-in s q l)
       same markWords n = λ q l. kept markWords n (markAt s q) (mark-in s q l)
       same countWords n = λ g l m. kept countWords n (countAt s g) (count-in s g l m)
-      same headWords n = λ k u. refl
-      same workWords n = λ k u. refl
-      same fieldWords n = λ k u f l. refl
-      same entryWords n = refl
+      same headWords n = h n
+      same workWords n = o n
+      same fieldWords n = f n
+      same entryWords n = m n
+
+-- other tables
+pub tables-only : (s : Sizes) (w : Words) (t′ : List ℕ) (cs : List Area) → length t′ ≡ length (w .tables)
+    → ((a : Area) → among a cs ≡ false → (j : ℕ) → Within a s j → getD t′ j 0 ≡ getD (w .tables) j 0)
+    → ((j : ℕ) → tablesWords s ≤ j → getD t′ j 0 ≡ getD (w .tables) j 0) → Only cs s w (withTables w t′)
+tables-only s w t′ cs long kept rest =
+    areas-only s w (withTables w t′) cs (record { cells = from-refl _ _; remember = from-refl _ _; tables = record { long = long; rest = drop-same (tablesWords s) (w .tables) t′ long rest } }) kept
+    refl (λ n k u. refl) (λ n k u. refl) (λ n k u f l. refl) (λ n. refl)
 
 -- a word of the tables is stored: a depth, a variable, a mark
 pub store-only : (s : Sizes) (w : Words) (b : Area) (at v : ℕ) → Within b s at → at < tablesWords s → Only (b ∷ []) s w (withTables w (set (w .tables) at v))
@@ -178,40 +183,15 @@ store-only s w b at v i l =
     tables-only s w (set (w .tables) at v) (b ∷ []) (length-set (w .tables) at v)
     (λ a n j x. past (w .tables) at v j 0 (arrays-apart s a b j at n x i)) (λ j m. past (w .tables) at v j 0 (λ (e : j ≡ at). omega arith))
 
--- cells in which the words of every other area of the objects are the same
-module _ (s : Sizes) (w : Words) (c′ : List ℕ) (cs : List Area) where
-  pub cells-only : (among headWords cs ≡ false → Same headWords s w (withCells w c′)) → (among workWords cs ≡ false → Same workWords s w (withCells w c′))
-      → (among fieldWords cs ≡ false → Same fieldWords s w (withCells w c′)) → SameFrom (cellsWords s) (w .cells) c′ → Only cs s w (withCells w c′)
-  cells-only h o f b =
-      record { same = same; beyond = record { cells = b; remember = from-refl _ _; tables = from-refl _ _ } }
-    where
-      same : (a : Area) → among a cs ≡ false → Same a s w (withCells w c′)
-      same sizeWords n = (refl, refl)
-      same depthWords n = λ t l. refl
-      same variableWords n = λ i l. refl
-      same ownerWords n = λ q l. refl
-      same usedWords n = λ q l. refl
-      same markWords n = λ q l. refl
-      same countWords n = λ g l m. refl
-      same headWords n = h n
-      same workWords n = o n
-      same fieldWords n = f n
-      same entryWords n = refl
+-- other cells
+pub cells-only : (s : Sizes) (w : Words) (c′ : List ℕ) (cs : List Area) → (among headWords cs ≡ false → Same headWords s w (withCells w c′)) → (among workWords cs ≡ false → Same workWords s w (withCells w c′))
+    → (among fieldWords cs ≡ false → Same fieldWords s w (withCells w c′)) → SameFrom (cellsWords s) (w .cells) c′ → Only cs s w (withCells w c′)
+cells-only s w c′ cs h o f b =
+    areas-only s w (withCells w c′) cs (record { cells = b; remember = from-refl _ _; tables = from-refl _ _ }) (λ a n j x. refl) refl h o f (λ n. refl)
 
 -- another remember table, of as many entries
 pub entries-only : (s : Sizes) (w : Words) (m′ : List ℕ) → getD m′ 0 0 ≡ getD (w .remember) 0 0 → SameFrom (rememberWords s) (w .remember) m′
     → Only (entryWords ∷ []) s w (record { cells = w .cells; remember = m′; tables = w .tables })
-entries-only s w m′ e b = record { same = same; beyond = record { cells = from-refl _ _; remember = b; tables = from-refl _ _ } }
-  where
-    same : (a : Area) → among a (entryWords ∷ []) ≡ false → Same a s w (record { cells = w .cells; remember = m′; tables = w .tables })
-    same sizeWords n = (refl, e)
-    same depthWords n = λ t l. refl
-    same variableWords n = λ i l. refl
-    same ownerWords n = λ q l. refl
-    same usedWords n = λ q l. refl
-    same markWords n = λ q l. refl
-    same countWords n = λ g l m. refl
-    same headWords n = λ k u. refl
-    same workWords n = λ k u. refl
-    same fieldWords n = λ k u f l. refl
-    same entryWords n = absurd (true-not-false (sym n))
+entries-only s w m′ e b =
+    areas-only s w (record { cells = w .cells; remember = m′; tables = w .tables }) (entryWords ∷ []) (record { cells = from-refl _ _; remember = b; tables = from-refl _ _ }) (λ a n j x. refl)
+    e (λ n k u. refl) (λ n k u. refl) (λ n k u f l. refl) (λ n. absurd (true-not-false (sym n)))
