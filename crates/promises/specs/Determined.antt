@@ -4,12 +4,10 @@ use Prim.Native.Nat.{ℕ, zero, suc, _+_, _-_, _*_, _≤_, _<_}
 use native.Mathlib.Omega.{arith}
 use native.Mathlib.Decide.{ℕ-discrete, decLt}
 use mathlib.Core.Path.{_≡_, refl, sym, ap, ap₂, subst, _∙_}
-use mathlib.Core.Logic.{inl}
 use mathlib.Core.List.{List}
-use mathlib.Core.Bool.{Bool, false, cond}
+use mathlib.Core.Bool.{cond}
 use lib.ListN.{length, getD}
-use lib.Dec.{ltb, eqb}
-use borrow.Author.Tests.{le-ltb}
+use lib.Dec.{eqb}
 use Rattle.lists.specs.Counting.{sum-same}
 use Rattle.rules.specs.declared.Sizes.{Sizes}
 use Rattle.rules.specs.Regions.{regions}
@@ -19,15 +17,15 @@ use Rattle.layout.specs.Places as lp
 use Rattle.layout.specs.Places.{tablesWords, ownersFrom, depthAt, varAt, varOf, markOf, countOf, slotIn, slotRegionIn, count-room, count-is, mark-is, used-is, owners-is, varCount}
 use Rattle.layout.specs.declared.Kind.{Kind}
 use Rattle.layout.specs.declared.Kind.the-variants.{Reference, Number}
-use Rattle.layout.specs.Cells.{headAt, workAt, fieldOf, fieldAt, fieldCount, firstField, first-reference, first-number, head-determined, allFields, roomFor, pageCells, pageOf, page-on, place-on, pageAt, cellOn, cellOf}
-use Rattle.layout.specs.Objects.{begins-used, begins-there, Spot, head, work, field, spot, slot-on, slot-word}
+use Rattle.layout.specs.Cells.{headAt, workAt, fieldOf, fieldAt, fieldCount, firstField, first-reference, first-number, head-determined, allFields, roomFor, pageCells, pageOf, page-on, place-on, cellOn, cellOf}
+use Rattle.layout.specs.Objects.{begins-used, begins-there, Spot, head, work, field, spot, slot-word}
 use Rattle.layout.specs.Words.{Words, Used, BeginsIn, sizesIn, depthIn, ownerIn, usedIn, headIn, refCount, numCount, fieldsIn, homeIn}
-use Rattle.remember.specs.Crossing.{other, regionOf, crossTo}
+use Rattle.remember.specs.Crossing.{crossTo}
 use Rattle.promises.specs.Whole.{WholeFor, objectsOf}
 use Rattle.promises.specs.StandsFor.{StandsFor}
 use Rattle.promises.specs.Reading.{used-alive, alive-used, used-home, length-fields, getD-fields, getD-vars, depth-at}
 use Rattle.promises.specs.Crossings.{heap-entries}
-use Rattle.promises.specs.Slots.{slot-stays, cross-same}
+use Rattle.promises.specs.Slots.{cross-alike}
 
 -- entry i of the first remember table stands in the second, wherever that may be
 pub record SameEntry (s : Sizes) (w w′ : Words) (i : ℕ) : Type 0 where
@@ -162,24 +160,10 @@ module _ (s : Sizes) (w w′ : Words) (h : Regioned) (to : ℕ → ℕ) (st : St
   objects-same : (g : ℕ) → objectsOf s (w .tables) g ≡ objectsOf s (w′ .tables) g
   objects-same g = sum-same _ _ (s .pages) (λ page l. ap₂ (λ (o n : ℕ). cond (eqb o g) n 0) (owner-same page l) (used-same page l))
 
-  region-same : (x : ℕ) → regionOf s (w′ .tables) x ≡ regionOf s (w .tables) x
-  region-same x = go (decLt (pageOf (x - 1)) (s .pages))
-    where
-      go : Dec (pageOf (x - 1) < s .pages) → regionOf s (w′ .tables) x ≡ regionOf s (w .tables) x
-      go (yes l) = ap (λ (o : ℕ). cond (eqb x 0) 0 (cond (ltb (pageOf (x - 1)) (s .pages)) o 0)) (sym (owner-same (pageOf (x - 1)) l))
-      go (no l) =
-          let e : ltb (pageOf (x - 1)) (s .pages) ≡ false = le-ltb (pageOf (x - 1)) (s .pages) (omega arith) in
-          ap (λ (b : Bool). cond (eqb x 0) 0 (cond b (ownerIn s w′ (pageOf (x - 1))) 0)) e ∙ sym (ap (λ (b : Bool). cond (eqb x 0) 0 (cond b (ownerIn s w (pageOf (x - 1))) 0)) e)
-
   cross-as : (q : ℕ) → crossTo s (w′ .cells) (w′ .tables) q ≡ crossTo s (w .cells) (w .tables) q
   cross-as q =
-      cross-same s (w .cells) (w .tables) (w′ .cells) (w′ .tables) q
-      (λ o. (
-        slot-stays o (used-as s w w′ h to st st′ (o .object) (o .begins)) (sym (head-as s w w′ h to st st′ (o .object) (o .begins))),
-        ap₂ other (sym (owner-same (pageAt q) (slot-on s (w .cells) (w .tables) q o)))
-            (ap (regionOf s (w′ .tables)) (sym (word-as s w w′ h to st st′ q (slot-word s (w .cells) (w .tables) q o .0))) ∙ region-same (getD (w .cells) q 0)),
-      ))
-      (λ o. inl (slot-stays o (used-as s w′ w h to st′ st (o .object) (o .begins)) (sym (head-as s w′ w h to st′ st (o .object) (o .begins)))))
+      cross-alike s (w .cells) (w .tables) (w′ .cells) (w′ .tables) (λ page l. sym (used-same page l)) (λ c u. sym (head-as s w w′ h to st st′ c u)) (λ page l. sym (owner-same page l)) q
+      (λ o. sym (word-as s w w′ h to st st′ q (slot-word s (w .cells) (w .tables) q o .0)))
 
   entries-same : lp.usedIn (w .remember) ≡ lp.usedIn (w′ .remember)
   entries-same = heap-entries s w h to st ∙ sym (heap-entries s w′ h to st′)

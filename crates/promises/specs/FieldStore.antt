@@ -25,7 +25,7 @@ use Rattle.promises.specs.StandsFor.{StandsFor, SameFrom}
 use Rattle.promises.specs.Agreed.{cell-used}
 use Rattle.promises.specs.Changes.{withCells, withObject}
 use Rattle.promises.specs.Areas.{fieldWords, entryWords, Only, only-trans, cells-only, entries-only}
-use Rattle.promises.specs.Frames.{sized-frame, depths-frame, pages-frame, partial-frame, counts-frame, variables-frame, marks-frame, works-frame, begins-was, ref-frame, objects-stay, home-same}
+use Rattle.promises.specs.Frames.{still-whole, depths-frame, pages-frame, variables-frame, begins-was, ref-frame, objects-stay, home-same}
 
 module _ (s : Sizes) (w : Words) (k : WholeFor s w) (y j v : ℕ) (u : BeginsIn s w y) (low : j < allFields (headIn w y)) where
   abbrev C : List ℕ
@@ -93,18 +93,8 @@ module _ (s : Sizes) (w : Words) (k : WholeFor s w) (y j v : ℕ) (u : BeginsIn 
 
     pub field-whole : (j < refCount w y → IsRef s (w .cells) (w .tables) v) → RememberWhole s w′ → WholeFor s w′
     field-whole ref r =
-        record {
-          sized = sized-frame stored-only refl (k .sized);
-          depths = depths-frame stored-only refl (k .depths);
-          pages = pages-frame stored-only refl refl refl (k .pages);
-          partial = partial-frame stored-only refl refl (k .partial);
-          counts = counts-frame stored-only refl refl refl (k .counts);
-          variables = variables-frame stored-only refl refl refl (k .variables);
-          objects = λ x i. objects ref x (begins-was stored-only refl refl x i);
-          marks = marks-frame stored-only refl (k .marks);
-          works = works-frame stored-only refl refl refl (k .works);
-          remember = r;
-        }
+        still-whole stored-only refl refl refl refl refl refl refl k (depths-frame stored-only refl (k .depths)) (pages-frame stored-only refl refl refl (k .pages))
+        (variables-frame stored-only refl refl refl (k .variables)) (λ x i. objects ref x (begins-was stored-only refl refl x i)) r
 
   -- ---- the fields read again
 

@@ -17,7 +17,7 @@ use Rattle.promises.specs.Whole.{WholeFor, Open}
 use Rattle.promises.specs.StandsFor.{StandsFor}
 use Rattle.promises.specs.Changes.{withTables, withDepth}
 use Rattle.promises.specs.Areas.{depthWords, Only, depth-in, store-only}
-use Rattle.promises.specs.Frames.{sized-frame, pages-open, partial-frame, counts-frame, variables-frame, objects-frame, marks-frame, works-frame, remember-frame, vars-same, tables-stand}
+use Rattle.promises.specs.Frames.{still-whole, pages-open, variables-frame, objects-frame, remember-frame, vars-same, tables-stand}
 
 module _ (s : Sizes) (w : Words) (k : WholeFor s w) (t d : ℕ) (l : t < s .threads) where
   abbrev T : List ℕ
@@ -41,18 +41,8 @@ module _ (s : Sizes) (w : Words) (k : WholeFor s w) (t d : ℕ) (l : t < s .thre
 
   pub depth-whole : d ≤ s .depth → OpenStill → WholeFor s (withTables w T)
   depth-whole m o =
-      record {
-        sized = sized-frame depth-only refl (k .sized);
-        depths = λ u n. go u n (ℕ-discrete u t);
-        pages = pages-open depth-only refl refl (k .pages) o;
-        partial = partial-frame depth-only refl refl (k .partial);
-        counts = counts-frame depth-only refl refl refl (k .counts);
-        variables = variables-frame depth-only refl refl refl (k .variables);
-        objects = objects-frame depth-only refl refl refl (k .objects);
-        marks = marks-frame depth-only refl (k .marks);
-        works = works-frame depth-only refl refl refl (k .works);
-        remember = remember-frame depth-only refl refl refl refl refl (k .remember);
-      }
+      still-whole depth-only refl refl refl refl refl refl refl k (λ u n. go u n (ℕ-discrete u t)) (pages-open depth-only refl refl (k .pages) o)
+      (variables-frame depth-only refl refl refl (k .variables)) (objects-frame depth-only refl refl refl (k .objects)) (remember-frame depth-only refl refl refl refl refl (k .remember))
     where
       go : (u : ℕ) → u < s .threads → Dec (u ≡ t) → depthOf T u ≤ s .depth
       go u n (yes e) = omega (arith, ap (depthOf T) e, here)

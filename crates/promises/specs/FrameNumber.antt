@@ -2,7 +2,6 @@
 use Prim.Native.Nat.{ℕ, _+_, _<_}
 use native.Mathlib.Omega.{arith}
 use mathlib.Core.Path.{_≡_, refl, sym, ap, _∙_}
-use mathlib.Core.Logic.{inl}
 use mathlib.Core.List.{List, [], _∷_}
 use lib.ListN.{getD, set}
 use Rattle.lists.specs.Stores.{past}
@@ -23,8 +22,7 @@ use Rattle.promises.specs.Reading.{alive-used}
 use Rattle.promises.specs.Changes.{withCells, withObject, withField}
 use Rattle.promises.specs.Areas.{headWords, fieldWords, Only, from-refl}
 use Rattle.remember.specs.Entries.{exact-everywhere}
-use Rattle.promises.specs.Slots.{crossesTo, slot-stays, cross-same}
-use Rattle.promises.specs.Frames.{begins-frame, begins-was}
+use Rattle.promises.specs.Slots.{cross-alike}
 use Rattle.promises.specs.FieldStore.{field-only, field-whole, object-stands, fields-kept, fields-set}
 
 module _ (s : Sizes) (w : Words) (k : WholeFor s w) (y b v : ℕ) (u : BeginsIn s w y) (low : b < numCount w y) where
@@ -51,11 +49,7 @@ module _ (s : Sizes) (w : Words) (k : WholeFor s w) (y b v : ℕ) (u : BeginsIn 
       omega (arith, o .low, a .1, ap (refCount w) (a .0)))
 
   numbers-cross : (q : ℕ) → crossTo s C (w .tables) q ≡ crossTo s (w .cells) (w .tables) q
-  numbers-cross q =
-      let same = number-only .same headWords refl in
-      cross-same s (w .cells) (w .tables) C (w .tables) q
-      (λ o. (slot-stays o (begins-frame number-only refl refl (o .object) (o .begins)) (same (o .object) (o .begins)), ap (crossesTo s (w .tables) (cellOf q)) (slot-is q o)))
-      (λ o. let b = begins-was number-only refl refl (o .object) (o .begins) in inl (slot-stays o b (sym (same (o .object) b))))
+  numbers-cross q = cross-alike s (w .cells) (w .tables) C (w .tables) (λ page l. refl) (number-only .same headWords refl) (λ page l. refl) q (slot-is q)
 
   pub number-whole : WholeFor s (withCells w C)
   number-whole =

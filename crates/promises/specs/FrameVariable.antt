@@ -19,7 +19,7 @@ use Rattle.promises.specs.StandsFor.{StandsFor}
 use Rattle.promises.specs.Reading.{length-vars, alive-used}
 use Rattle.promises.specs.Changes.{withTables, withVariable}
 use Rattle.promises.specs.Areas.{variableWords, Only, var-in, store-only}
-use Rattle.promises.specs.Frames.{sized-frame, depths-frame, pages-frame, partial-frame, counts-frame, objects-frame, marks-frame, works-frame, remember-frame, ref-frame, depths-same, tables-stand}
+use Rattle.promises.specs.Frames.{still-whole, depths-frame, pages-frame, objects-frame, remember-frame, ref-frame, depths-same, tables-stand}
 
 -- a reference to an object that is there leads to a cell in use
 pub ref-to-cell : (s : Sizes) (w : Words) (h : Regioned) (cellOf : ℕ → ℕ) → StandsFor s w h cellOf → (u v : ℕ) → v ≡ renamed cellOf u
@@ -45,18 +45,8 @@ module _ (s : Sizes) (w : Words) (k : WholeFor s w) (i v : ℕ) (l : i < varCoun
 
   pub variable-whole : IsRef s (w .cells) (w .tables) v → WholeFor s (withTables w t)
   variable-whole ref =
-      record {
-        sized = sized-frame variable-only refl (k .sized);
-        depths = depths-frame variable-only refl (k .depths);
-        pages = pages-frame variable-only refl refl refl (k .pages);
-        partial = partial-frame variable-only refl refl (k .partial);
-        counts = counts-frame variable-only refl refl refl (k .counts);
-        variables = λ j m. ref-frame variable-only refl refl _ (go j m (ℕ-discrete j i));
-        objects = objects-frame variable-only refl refl refl (k .objects);
-        marks = marks-frame variable-only refl (k .marks);
-        works = works-frame variable-only refl refl refl (k .works);
-        remember = remember-frame variable-only refl refl refl refl refl (k .remember);
-      }
+      still-whole variable-only refl refl refl refl refl refl refl k (depths-frame variable-only refl (k .depths)) (pages-frame variable-only refl refl refl (k .pages))
+      (λ j m. ref-frame variable-only refl refl _ (go j m (ℕ-discrete j i))) (objects-frame variable-only refl refl refl (k .objects)) (remember-frame variable-only refl refl refl refl refl (k .remember))
     where
       go : (j : ℕ) → j < varCount s → Dec (j ≡ i) → IsRef s (w .cells) (w .tables) (varOf s t j)
       go j m (yes e) = subst (IsRef s (w .cells) (w .tables)) (sym (ap (varOf s t) e ∙ put (w .tables) at v 0 (omega (arith, low, k .sized .tables)))) ref

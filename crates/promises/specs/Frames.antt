@@ -1,14 +1,10 @@
 -- Each condition of whole tables holds as it did where the areas that it reads are the same; and so do homes, depths, variables and fields.
-use Prim.Native.Nat.{ℕ, _+_, _-_, _<_}
+use Prim.Native.Nat.{ℕ, _+_, _<_}
 use native.Mathlib.Omega.{arith}
-use native.Mathlib.Decide.{decLt}
 use mathlib.Core.Path.{_≡_, sym, ap, ap₂, subst, _∙_}
-use mathlib.Core.Logic.{inl}
 use mathlib.Core.List.{List, map}
 use mathlib.Core.Bool.{Bool, false, cond}
 use lib.ListN.{getD, take, drop}
-use lib.Dec.{ltb, eqb}
-use borrow.Author.Tests.{le-ltb}
 use Rattle.lists.specs.Stores.{part-same}
 use Rattle.rules.specs.declared.Sizes.{Sizes}
 use Rattle.rules.specs.Regions.{threadOf}
@@ -18,59 +14,45 @@ use Rattle.laws.specs.SameRules.{renamed}
 use Rattle.layout.specs.declared.Kind.{Kind}
 use Rattle.layout.specs.declared.Kind.the-variants.{Reference}
 use Rattle.layout.specs.Places.{cellsWords, varCount, depthAt, varAt}
-use Rattle.layout.specs.Cells.{fieldAt, roomFor, allFields, refsOf, Formed, fieldCount, firstField, fields-room, kind-among, pageOf, pageAt, cellNamed}
-use Rattle.layout.specs.Objects.{beginsAt, begins?, begins-page, begins-true, begins-false, begins-same, begins-back, Slot, slot-on}
+use Rattle.layout.specs.Cells.{fieldAt, roomFor, allFields, refsOf, Formed, fieldCount, firstField, fields-room, kind-among, pageOf, cellNamed}
+use Rattle.layout.specs.Objects.{beginsAt, begins?, begins-page, begins-true, begins-false}
 use Rattle.layout.specs.Words.{Words, BeginsIn, headIn, ownerIn, homeIn, homeAt, depthsIn, depthsAt, varsIn, varsAt, fieldsIn, fieldsAt}
-use Rattle.remember.specs.Crossing.{other, regionOf, crossTo}
-use Rattle.promises.specs.Whole.{Open, IsRef, Sized, DepthsWhole, PagesWhole, OnePartial, CountsWhole, VariablesWhole, ObjectWhole, ObjectsWhole, MarksWhole, WorksWhole, RememberWhole, WholeFor}
-use Rattle.promises.specs.Regular.{Regular, SamePage, filled-same, partial-same, objects-same, regular-same}
+use Rattle.remember.specs.Crossing.{crossTo}
+use Rattle.promises.specs.Whole.{Open, IsRef, Sized, DepthsWhole, PagesWhole, VariablesWhole, ObjectWhole, ObjectsWhole, MarksWhole, RememberWhole, WholeFor}
+use Rattle.promises.specs.Regular.{Regular, whole-regular, SamePage, filled-same, regular-same}
 use Rattle.promises.specs.StandsFor.{StandsFor}
 use Rattle.promises.specs.Areas.{Area, sizeWords, depthWords, variableWords, ownerWords, usedWords, markWords, countWords, headWords, workWords, fieldWords, entryWords, among, Only, ObjectsStay}
 use Rattle.promises.specs.Changes.{withTables}
 use Rattle.remember.specs.Entries.{Exact, exact-everywhere}
-use Rattle.promises.specs.Slots.{slot-stays, cross-same}
+use Rattle.promises.specs.Slots.{begins-kept, begins-were, cross-alike}
 
 module _ {cs : List Area} {s : Sizes} {w w′ : Words} (o : Only cs s w w′) where
   -- ---- what is read
 
-  module _ (u : among usedWords cs ≡ false) where
-    heads : among headWords cs ≡ false → (p : ℕ) (j : ℕ) → BeginsIn s w j → pageOf j ≡ p → headIn w′ j ≡ headIn w j
-    heads h p j b e = o .same headWords h j b
+  module _ (u : among usedWords cs ≡ false) (h : among headWords cs ≡ false) where
+    pub begins-frame : (k : ℕ) → BeginsIn s w k → BeginsIn s w′ k
+    begins-frame = begins-kept s (w .cells) (w .tables) (w′ .cells) (w′ .tables) (o .same usedWords u) (o .same headWords h)
 
-    module _ (h : among headWords cs ≡ false) where
-      pub begins-frame : (k : ℕ) → BeginsIn s w k → BeginsIn s w′ k
-      begins-frame k b = begins-same s (w .cells) (w .tables) (w′ .cells) (w′ .tables) k (o .same usedWords u (pageOf k) (begins-page s (w .cells) (w .tables) k b)) (heads h (pageOf k)) b
+    pub begins-was : (k : ℕ) → BeginsIn s w′ k → BeginsIn s w k
+    begins-was = begins-were s (w .cells) (w .tables) (w′ .cells) (w′ .tables) (o .same usedWords u) (o .same headWords h)
 
-      pub begins-was : (k : ℕ) → BeginsIn s w′ k → BeginsIn s w k
-      begins-was k b = begins-back s (w .cells) (w .tables) (w′ .cells) (w′ .tables) k (o .same usedWords u (pageOf k) (begins-page s (w′ .cells) (w′ .tables) k b)) (heads h (pageOf k)) b
+    pub ref-frame : (x : ℕ) → IsRef s (w .cells) (w .tables) x → IsRef s (w′ .cells) (w′ .tables) x
+    ref-frame x r z = begins-frame (cellNamed x) (r z)
 
-      pub ref-frame : (x : ℕ) → IsRef s (w .cells) (w .tables) x → IsRef s (w′ .cells) (w′ .tables) x
-      ref-frame x r z = begins-frame (cellNamed x) (r z)
+    pub objects-stay : ObjectsStay s w w′
+    objects-stay k b = (begins-frame k b, o .same headWords h k b)
 
-      pub objects-stay : ObjectsStay s w w′
-      objects-stay k b = (begins-frame k b, o .same headWords h k b)
-
-  module _ (a : among ownerWords cs ≡ false) where
-    region-same : (x : ℕ) → regionOf s (w′ .tables) x ≡ regionOf s (w .tables) x
-    region-same x = go (decLt (pageOf (x - 1)) (s .pages))
-      where
-        go : Dec (pageOf (x - 1) < s .pages) → regionOf s (w′ .tables) x ≡ regionOf s (w .tables) x
-        go (yes l) = ap (λ (n : ℕ). cond (eqb x 0) 0 (cond (ltb (pageOf (x - 1)) (s .pages)) n 0)) (o .same ownerWords a (pageOf (x - 1)) l)
-        go (no l) =
-            let e : ltb (pageOf (x - 1)) (s .pages) ≡ false = le-ltb (pageOf (x - 1)) (s .pages) (omega arith) in
-            ap (λ (b : Bool). cond (eqb x 0) 0 (cond b (ownerIn s w′ (pageOf (x - 1))) 0)) e ∙ sym (ap (λ (b : Bool). cond (eqb x 0) 0 (cond b (ownerIn s w (pageOf (x - 1))) 0)) e)
-
-    pub home-same : among usedWords cs ≡ false → among headWords cs ≡ false → (k : ℕ) → homeIn s w′ k ≡ homeIn s w k
-    unfolding homeAt
-    home-same u h k = go (begins? s (w .cells) (w .tables) k)
-      where
-        go : Dec (BeginsIn s w k) → cond (beginsAt s (w′ .cells) (w′ .tables) k) (ownerIn s w′ (pageOf k)) 0 ≡ cond (beginsAt s (w .cells) (w .tables) k) (ownerIn s w (pageOf k)) 0
-        go (yes b) =
-            ap₂ (λ (x : Bool) (r : ℕ). cond x r 0) (begins-true s (w′ .cells) (w′ .tables) k (begins-frame u h k b)) (o .same ownerWords a (pageOf k) (begins-page s (w .cells) (w .tables) k b))
-            ∙ sym (ap (λ (x : Bool). cond x (ownerIn s w (pageOf k)) 0) (begins-true s (w .cells) (w .tables) k b))
-        go (no n) =
-            ap (λ (x : Bool). cond x (ownerIn s w′ (pageOf k)) 0) (begins-false s (w′ .cells) (w′ .tables) k (λ b. n (begins-was u h k b)))
-            ∙ sym (ap (λ (x : Bool). cond x (ownerIn s w (pageOf k)) 0) (begins-false s (w .cells) (w .tables) k n))
+  pub home-same : among ownerWords cs ≡ false → among usedWords cs ≡ false → among headWords cs ≡ false → (k : ℕ) → homeIn s w′ k ≡ homeIn s w k
+  unfolding homeAt
+  home-same a u h k = go (begins? s (w .cells) (w .tables) k)
+    where
+      go : Dec (BeginsIn s w k) → cond (beginsAt s (w′ .cells) (w′ .tables) k) (ownerIn s w′ (pageOf k)) 0 ≡ cond (beginsAt s (w .cells) (w .tables) k) (ownerIn s w (pageOf k)) 0
+      go (yes b) =
+          ap₂ (λ (x : Bool) (r : ℕ). cond x r 0) (begins-true s (w′ .cells) (w′ .tables) k (begins-frame u h k b)) (o .same ownerWords a (pageOf k) (begins-page s (w .cells) (w .tables) k b))
+          ∙ sym (ap (λ (x : Bool). cond x (ownerIn s w (pageOf k)) 0) (begins-true s (w .cells) (w .tables) k b))
+      go (no n) =
+          ap (λ (x : Bool). cond x (ownerIn s w′ (pageOf k)) 0) (begins-false s (w′ .cells) (w′ .tables) k (λ b. n (begins-was u h k b)))
+          ∙ sym (ap (λ (x : Bool). cond x (ownerIn s w (pageOf k)) 0) (begins-false s (w .cells) (w .tables) k n))
 
   pub depths-same : among depthWords cs ≡ false → depthsIn s w′ ≡ depthsIn s w
   unfolding depthsAt
@@ -131,12 +113,6 @@ module _ {cs : List Area} {s : Sizes} {w w′ : Words} (o : Only cs s w w′) wh
   pub pages-frame : among ownerWords cs ≡ false → among usedWords cs ≡ false → among depthWords cs ≡ false → PagesWhole s w → PagesWhole s w′
   pages-frame a u n k = pages-open a u k (λ page l z. open-frame n (ownerIn s w page) (k page l .region z))
 
-  pub partial-frame : among ownerWords cs ≡ false → among usedWords cs ≡ false → OnePartial s w → OnePartial s w′
-  partial-frame a u k g pos i j l m x y = k g pos i j l m (partial-same (same-pages a u i (omega arith)) x) (partial-same (same-pages a u j m) y)
-
-  pub counts-frame : among countWords cs ≡ false → among ownerWords cs ≡ false → among usedWords cs ≡ false → CountsWhole s w → CountsWhole s w′
-  counts-frame n a u k g l m = o .same countWords n g l m ∙ k g l m ∙ sym (objects-same (same-pages a u) g)
-
   pub variables-frame : among variableWords cs ≡ false → among usedWords cs ≡ false → among headWords cs ≡ false → VariablesWhole s w → VariablesWhole s w′
   variables-frame n u h k i l = subst (IsRef s (w′ .cells) (w′ .tables)) (sym (o .same variableWords n i l)) (ref-frame u h _ (k i l))
 
@@ -159,28 +135,35 @@ module _ {cs : List Area} {s : Sizes} {w w′ : Words} (o : Only cs s w w′) wh
   pub marks-frame : among markWords cs ≡ false → MarksWhole s w → MarksWhole s w′
   marks-frame n k page l = o .same markWords n page l ∙ k page l
 
-  pub works-frame : among workWords cs ≡ false → among usedWords cs ≡ false → among headWords cs ≡ false → WorksWhole s w → WorksWhole s w′
-  works-frame n u h k c i = let v = begins-was u h c i in o .same workWords n c v ∙ k c v
-
-  -- the same slots cross into the same regions
-  pub cross-frame : among headWords cs ≡ false → among fieldWords cs ≡ false → among ownerWords cs ≡ false → among usedWords cs ≡ false
-      → (q : ℕ) → crossTo s (w′ .cells) (w′ .tables) q ≡ crossTo s (w .cells) (w .tables) q
-  cross-frame h f a u q =
-      cross-same s (w .cells) (w .tables) (w′ .cells) (w′ .tables) q
-      (λ x. (
-        slot-stays x (begins-frame u h (x .object) (x .begins)) (o .same headWords h (x .object) (x .begins)),
-        ap₂ other (o .same ownerWords a (pageAt q) (slot-on s (w .cells) (w .tables) q x)) (ap (regionOf s (w′ .tables)) (word x) ∙ region-same a (getD (w .cells) q 0)),
-      ))
-      (λ x. let b = begins-was u h (x .object) (x .begins) in inl (slot-stays x b (sym (o .same headWords h (x .object) b))))
-    where
-      word : Slot s (w .cells) (w .tables) q → getD (w′ .cells) q 0 ≡ getD (w .cells) q 0
-      word x = subst (λ (j : ℕ). getD (w′ .cells) j 0 ≡ getD (w .cells) j 0) (x .at) (o .same fieldWords f (x .object) (x .begins) (x .field) (x .room))
-
   pub remember-frame : among entryWords cs ≡ false → among headWords cs ≡ false → among fieldWords cs ≡ false → among ownerWords cs ≡ false → among usedWords cs ≡ false
       → RememberWhole s w → RememberWhole s w′
   remember-frame n h f a u k =
-      exact-everywhere (crossTo s (w .cells) (w .tables)) (crossTo s (w′ .cells) (w′ .tables)) (cellsWords s) (s .entries) (w′ .remember) (λ q l. cross-frame h f a u q)
+      exact-everywhere (crossTo s (w .cells) (w .tables)) (crossTo s (w′ .cells) (w′ .tables)) (cellsWords s) (s .entries) (w′ .remember) (λ q l. cross q)
       (subst (Exact (crossTo s (w .cells) (w .tables)) (cellsWords s) (s .entries)) (sym (o .same entryWords n)) k)
+    where
+      -- the same slots cross into the same regions
+      cross : (q : ℕ) → crossTo s (w′ .cells) (w′ .tables) q ≡ crossTo s (w .cells) (w .tables) q
+      cross q =
+          cross-alike s (w .cells) (w .tables) (w′ .cells) (w′ .tables) (o .same usedWords u) (o .same headWords h) (o .same ownerWords a) q
+          (λ x. subst (λ (j : ℕ). getD (w′ .cells) j 0 ≡ getD (w .cells) j 0) (x .at) (o .same fieldWords f (x .object) (x .begins) (x .field) (x .room)))
+
+  -- all of them, where sizes, pages, counts, heads and working words are the same
+  pub still-whole : among sizeWords cs ≡ false → among ownerWords cs ≡ false → among usedWords cs ≡ false → among markWords cs ≡ false → among countWords cs ≡ false
+      → among headWords cs ≡ false → among workWords cs ≡ false → WholeFor s w → DepthsWhole s w′ → PagesWhole s w′ → VariablesWhole s w′ → ObjectsWhole s w′ → RememberWhole s w′ → WholeFor s w′
+  still-whole z a u m n h x k depths pages variables objects remember =
+      let r = regular-frame a u n (whole-regular k) in
+      record {
+        sized = sized-frame z (k .sized);
+        depths = depths;
+        pages = pages;
+        partial = r .partial;
+        counts = r .counts;
+        variables = variables;
+        objects = objects;
+        marks = marks-frame m (k .marks);
+        works = λ c i. let v = begins-was u h c i in o .same workWords x c v ∙ k .works c v;
+        remember = remember;
+      }
 
 -- ---- other depths and variables: the objects are as they were
 

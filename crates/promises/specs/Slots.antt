@@ -1,19 +1,20 @@
 -- Where slots and the regions they cross into are the same, crossing is; and a store to one slot.
 use Prim.Native.Nat.{ℕ, suc, _-_, _<_}
 use mathlib.Core.List.{List}
-use mathlib.Core.Bool.{Bool, cond}
+use mathlib.Core.Bool.{Bool, false, cond}
 use mathlib.Core.Path.{_≡_, refl, sym, ap, ap₂, subst, _∙_}
 use mathlib.Core.Logic.{_⊎_, inl, inr}
 use native.Mathlib.Omega.{arith}
+use native.Mathlib.Decide.{decLt}
 use lib.ListN.{getD, length, set}
-use lib.Dec.{ltb}
-use borrow.Author.Tests.{lt-ltb, ne-eqb}
+use lib.Dec.{ltb, eqb}
+use borrow.Author.Tests.{lt-ltb, le-ltb, ne-eqb}
 use Rattle.lists.specs.Stores.{put, past}
 use Rattle.rules.specs.declared.Sizes.{Sizes}
-use Rattle.layout.specs.Places.{ownerOf}
-use Rattle.layout.specs.Cells.{headAt, headOf, fieldCount, roomFor, pageOf, cellOf}
+use Rattle.layout.specs.Places.{ownerOf, usedOf}
+use Rattle.layout.specs.Cells.{headAt, headOf, fieldCount, roomFor, pageOf, pageAt, cellOf}
 use Rattle.layout.specs.declared.Kind.the-variants.{Reference}
-use Rattle.layout.specs.Objects.{Begins, begins-same, begins-back, field-not-head, Slot, slot?}
+use Rattle.layout.specs.Objects.{Begins, begins-page, begins-same, begins-back, field-not-head, Slot, slot?, slot-on}
 use Rattle.remember.specs.Crossing.{other, regionOf, crossTo}
 use Rattle.remember.specs.Crosses.{slot-cross, no-cross}
 use Rattle.remember.specs.Entries.{Elsewhere}
@@ -62,6 +63,34 @@ module _ (p : Sizes) (c t c′ t′ : List ℕ) (q : ℕ) where
           none (inl o) = absurd (n o)
           none (inr z) = z
 
+-- so where owners, used words and heads are the same, by the words of the slots
+module _ (p : Sizes) (c t c′ t′ : List ℕ) (used : (page : ℕ) → page < p .pages → usedOf p t′ page ≡ usedOf p t page)
+    (heads : (k : ℕ) → Begins p c t k → headOf c′ k ≡ headOf c k) where
+  pub begins-kept : (k : ℕ) → Begins p c t k → Begins p c′ t′ k
+  begins-kept k b = begins-same p c t c′ t′ k (used (pageOf k) (begins-page p c t k b)) (λ j b e. heads j b) b
+
+  pub begins-were : (k : ℕ) → Begins p c′ t′ k → Begins p c t k
+  begins-were k b = begins-back p c t c′ t′ k (used (pageOf k) (begins-page p c′ t′ k b)) (λ j b e. heads j b) b
+
+  module _ (owners : (page : ℕ) → page < p .pages → ownerOf p t′ page ≡ ownerOf p t page) where
+    region-same : (x : ℕ) → regionOf p t′ x ≡ regionOf p t x
+    region-same x = go (decLt (pageOf (x - 1)) (p .pages))
+      where
+        go : Dec (pageOf (x - 1) < p .pages) → regionOf p t′ x ≡ regionOf p t x
+        go (yes l) = ap (λ (n : ℕ). cond (eqb x 0) 0 (cond (ltb (pageOf (x - 1)) (p .pages)) n 0)) (owners (pageOf (x - 1)) l)
+        go (no l) =
+            let e : ltb (pageOf (x - 1)) (p .pages) ≡ false = le-ltb (pageOf (x - 1)) (p .pages) (omega arith) in
+            ap (λ (b : Bool). cond (eqb x 0) 0 (cond b (ownerOf p t′ (pageOf (x - 1))) 0)) e ∙ sym (ap (λ (b : Bool). cond (eqb x 0) 0 (cond b (ownerOf p t (pageOf (x - 1))) 0)) e)
+
+    pub cross-alike : (q : ℕ) → (Slot p c t q → getD c′ q 0 ≡ getD c q 0) → crossTo p c′ t′ q ≡ crossTo p c t q
+    cross-alike q word =
+        cross-same p c t c′ t′ q
+        (λ o. (
+          slot-stays o (begins-kept (o .object) (o .begins)) (heads (o .object) (o .begins)),
+          ap₂ other (owners (pageAt q) (slot-on p c t q o)) (ap (regionOf p t′) (word o) ∙ region-same (getD c q 0)),
+        ))
+        (λ o. let b = begins-were (o .object) (o .begins) in inl (slot-stays o b (sym (heads (o .object) b))))
+
 -- ---- a store to one slot
 
 module _ (p : Sizes) (c t : List ℕ) (at x : ℕ) (o : Slot p c t at) where
@@ -69,20 +98,10 @@ module _ (p : Sizes) (c t : List ℕ) (at x : ℕ) (o : Slot p c t at) where
   head-past : (k : ℕ) → Begins p c t k → headOf (set c at x) k ≡ headOf c k
   head-past k b = past c at x (headAt k) 0 (λ e. field-not-head p c t k b (o .object) (o .begins) (o .field) (o .room) (e ∙ sym (o .at)))
 
-  still : (k : ℕ) → Begins p c t k → Begins p (set c at x) t k
-  still k = begins-same p c t (set c at x) t k refl (λ j b e. head-past j b)
-
-  slot-past : (q : ℕ) → Slot p c t q → Slot p (set c at x) t q
-  slot-past q s = slot-stays s (still (s .object) (s .begins)) (head-past (s .object) (s .begins))
-
-  slot-back : (q : ℕ) → Slot p (set c at x) t q → Slot p c t q
-  slot-back q s =
-      let b = begins-back p c t (set c at x) t (s .object) refl (λ j b e. head-past j b) (s .begins) in
-      slot-stays s b (sym (head-past (s .object) b))
-
   pub cross-stored : at < length c → crossTo p (set c at x) t at ≡ crossesTo p t (cellOf at) x
-  cross-stored l = slot-cross p (set c at x) t at (slot-past at o) ∙ ap (crossesTo p t (cellOf at)) (put c at x 0 l)
+  cross-stored l =
+      slot-cross p (set c at x) t at (slot-stays o (begins-kept p c t (set c at x) t (λ page l. refl) head-past (o .object) (o .begins)) (head-past (o .object) (o .begins)))
+      ∙ ap (crossesTo p t (cellOf at)) (put c at x 0 l)
 
   pub cross-elsewhere : Elsewhere (crossTo p c t) (crossTo p (set c at x) t) at
-  cross-elsewhere q d =
-      cross-same p c t (set c at x) t q (λ s. (slot-past q s, ap (crossesTo p t (cellOf q)) (past c at x q 0 d))) (λ s. inl (slot-back q s))
+  cross-elsewhere q d = cross-alike p c t (set c at x) t (λ page l. refl) head-past (λ page l. refl) q (λ s. past c at x q 0 d)
