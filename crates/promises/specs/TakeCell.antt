@@ -10,8 +10,8 @@ use Rattle.lists.specs.Counting.{sum-same, sum-change}
 use Rattle.lists.specs.Stores.{put, past}
 use Rattle.rules.specs.declared.Sizes.{Sizes}
 use Rattle.rules.specs.Regions.{regions}
-use Rattle.layout.specs.Places.{ownerAt, ownerOf, usedAt, usedOf, countAt, countOf, count-room, used-is, mark-is, count-is}
-use Rattle.layout.specs.Cells.{pageOf, placeOf, cellOn, pageCells}
+use Rattle.layout.specs.Places.{ownerAt, ownerOf, usedAt, usedOf, countAt, countOf, count-room, used-is, count-is}
+use Rattle.layout.specs.Cells.{pageOf, placeOf, cellOn, pageCells, page-on, place-on}
 use Rattle.layout.specs.Words.{Words, InUse}
 use Rattle.promises.specs.Whole.{Open, PageFilled, Partial, objectsOn, objectsOf, PagesWhole, WholeFor}
 use Rattle.promises.specs.Regular.{Regular, whole-regular, one, objects-yes, objects-no, SamePage, filled-same, partial-same, on-same}
@@ -35,66 +35,44 @@ pub record Took (p : Sizes) (t : List ℕ) (g cell : ℕ) (t′ : List ℕ) : Ty
   pub count : countOf p t′ g ≡ countOf p t g + 1
   pub others : (j : ℕ) → (j ≡ ownerAt p (pageOf cell) → ⊥) → (j ≡ usedAt p (pageOf cell) → ⊥) → (j ≡ countAt p g → ⊥) → getD t′ j 0 ≡ getD t j 0
 
--- ---- the words after it
-
--- a cell of the region's own page
-abbrev pub tookOwn : Sizes → List ℕ → ℕ → ℕ → List ℕ
-tookOwn p t g page = set (set t (usedAt p page) (usedOf p t page + 1)) (countAt p g) (countOf p t g + 1)
-
--- the first cell of a free page
-abbrev pub tookFree : Sizes → List ℕ → ℕ → ℕ → List ℕ
-tookFree p t g page = set (set (set t (ownerAt p page) g) (usedAt p page) 1) (countAt p g) (countOf p t g + 1)
+-- ---- the words after it: those of the page, then its used cells and the region's count
 
 module _ (s : Sizes) (t : List ℕ) (g page : ℕ) (low : page < s .pages) (room : countAt s g < length t) where
-  abbrev p : Sizes
-  p = s
-
-  pub took-own : ownerOf p t page ≡ g → usedOf p t page < pageCells → Took p t g (cellOn page (usedOf p t page)) (tookOwn p t g page)
-  took-own o few =
-      let u = usedOf p t page in
-      let e : pageOf (cellOn page u) ≡ page = omega arith in
-      let f : placeOf (cellOn page u) ≡ u = omega arith in
-      let t₁ = set t (usedAt p page) (u + 1) in
-      let l₁ : length t₁ ≡ length t = length-set t (usedAt p page) (u + 1) in
+  -- t₁ is t with the page's owner set, or t itself
+  taken : (t₁ : List ℕ) (u : ℕ) → length t₁ ≡ length t → usedOf s t page ≡ u → u < pageCells → Source s t g page → ownerOf s t₁ page ≡ g → ((j : ℕ) → (j ≡ ownerAt s page → ⊥) → getD t₁ j 0 ≡ getD t j 0)
+      → Took s t g (cellOn page u) (set (set t₁ (usedAt s page) (u + 1)) (countAt s g) (countOf s t g + 1))
+  taken t₁ u l₁ first few source o kept =
+      let e : pageOf (cellOn page u) ≡ page = page-on page u few in
+      let f : placeOf (cellOn page u) ≡ u = place-on page u few in
+      let t₂ = set t₁ (usedAt s page) (u + 1) in
+      let l₂ : length t₂ ≡ length t = length-set t₁ (usedAt s page) (u + 1) ∙ l₁ in
       record {
         page = omega arith;
-        first = ap (usedOf p t) e ∙ sym f;
-        source = inl (ap (ownerOf p t) e ∙ o);
-        long = length-set t₁ (countAt p g) (countOf p t g + 1) ∙ l₁;
+        first = ap (usedOf s t) e ∙ first ∙ sym f;
+        source = subst (Source s t g) (sym e) source;
+        long = length-set t₂ (countAt s g) (countOf s t g + 1) ∙ l₂;
         owner =
-            past t₁ (countAt p g) (countOf p t g + 1) (ownerAt p (pageOf (cellOn page u))) 0 (λ (z : ownerAt p (pageOf (cellOn page u)) ≡ countAt p g). omega (arith, used-is s, mark-is s, count-is s))
-            ∙ past t (usedAt p page) (u + 1) (ownerAt p (pageOf (cellOn page u))) 0 (λ (z : ownerAt p (pageOf (cellOn page u)) ≡ usedAt p page). omega (arith, used-is s)) ∙ ap (ownerOf p t) e ∙ o;
+            ap (ownerOf s (set t₂ (countAt s g) (countOf s t g + 1))) e
+            ∙ past t₂ (countAt s g) (countOf s t g + 1) (ownerAt s page) 0 (λ (z : ownerAt s page ≡ countAt s g). omega (arith, count-is s))
+            ∙ past t₁ (usedAt s page) (u + 1) (ownerAt s page) 0 (λ (z : ownerAt s page ≡ usedAt s page). omega (arith, used-is s)) ∙ o;
         used =
-            past t₁ (countAt p g) (countOf p t g + 1) (usedAt p (pageOf (cellOn page u))) 0 (λ (z : usedAt p (pageOf (cellOn page u)) ≡ countAt p g). omega (arith, used-is s, mark-is s, count-is s))
-            ∙ ap (usedOf p t₁) e ∙ put t (usedAt p page) (u + 1) 0 (omega (arith, used-is s, count-is s)) ∙ omega arith;
-        count = put t₁ (countAt p g) (countOf p t g + 1) 0 (omega arith);
-        others = λ j a b c. past t₁ (countAt p g) (countOf p t g + 1) j 0 c ∙ past t (usedAt p page) (u + 1) j 0 (λ (z : j ≡ usedAt p page). b (omega arith));
+            ap (usedOf s (set t₂ (countAt s g) (countOf s t g + 1))) e
+            ∙ past t₂ (countAt s g) (countOf s t g + 1) (usedAt s page) 0 (λ (z : usedAt s page ≡ countAt s g). omega (arith, used-is s, count-is s))
+            ∙ put t₁ (usedAt s page) (u + 1) 0 (omega (arith, used-is s, count-is s)) ∙ omega arith;
+        count = put t₂ (countAt s g) (countOf s t g + 1) 0 (omega arith);
+        others = λ j a b c. past t₂ (countAt s g) (countOf s t g + 1) j 0 c ∙ past t₁ (usedAt s page) (u + 1) j 0 (λ (z : j ≡ usedAt s page). b (omega arith)) ∙ kept j (λ (z : j ≡ ownerAt s page). a (omega arith));
       }
 
-  pub took-free : ownerOf p t page ≡ 0 → usedOf p t page ≡ 0 → ((q : ℕ) → q < s .pages → Partial p t g q → ⊥) → Took p t g (cellOn page 0) (tookFree p t g page)
+  -- a cell of the region's own page
+  pub took-own : ownerOf s t page ≡ g → usedOf s t page < pageCells
+      → Took s t g (cellOn page (usedOf s t page)) (set (set t (usedAt s page) (usedOf s t page + 1)) (countAt s g) (countOf s t g + 1))
+  took-own o few = taken t (usedOf s t page) refl refl few (inl o) o (λ j n. refl)
+
+  -- the first cell of a free page
+  pub took-free : ownerOf s t page ≡ 0 → usedOf s t page ≡ 0 → ((q : ℕ) → q < s .pages → Partial s t g q → ⊥)
+      → Took s t g (cellOn page 0) (set (set (set t (ownerAt s page) g) (usedAt s page) 1) (countAt s g) (countOf s t g + 1))
   took-free o z none =
-      let e : pageOf (cellOn page 0) ≡ page = omega arith in
-      let f : placeOf (cellOn page 0) ≡ 0 = omega arith in
-      let t₁ = set t (ownerAt p page) g in
-      let t₂ = set t₁ (usedAt p page) 1 in
-      let l₁ : length t₁ ≡ length t = length-set t (ownerAt p page) g in
-      let l₂ : length t₂ ≡ length t = length-set t₁ (usedAt p page) 1 ∙ l₁ in
-      record {
-        page = omega arith;
-        first = ap (usedOf p t) e ∙ z ∙ sym f;
-        source = inr (ap (ownerOf p t) e ∙ o, none);
-        long = length-set t₂ (countAt p g) (countOf p t g + 1) ∙ l₂;
-        owner =
-            past t₂ (countAt p g) (countOf p t g + 1) (ownerAt p (pageOf (cellOn page 0))) 0 (λ (q : ownerAt p (pageOf (cellOn page 0)) ≡ countAt p g). omega (arith, used-is s, mark-is s, count-is s))
-            ∙ past t₁ (usedAt p page) 1 (ownerAt p (pageOf (cellOn page 0))) 0 (λ (q : ownerAt p (pageOf (cellOn page 0)) ≡ usedAt p page). omega (arith, used-is s)) ∙ ap (ownerOf p t₁) e
-            ∙ put t (ownerAt p page) g 0 (omega (arith, count-is s));
-        used =
-            past t₂ (countAt p g) (countOf p t g + 1) (usedAt p (pageOf (cellOn page 0))) 0 (λ (q : usedAt p (pageOf (cellOn page 0)) ≡ countAt p g). omega (arith, used-is s, mark-is s, count-is s))
-            ∙ ap (usedOf p t₂) e ∙ put t₁ (usedAt p page) 1 0 (omega (arith, used-is s, count-is s)) ∙ omega arith;
-        count = put t₂ (countAt p g) (countOf p t g + 1) 0 (omega arith);
-        others = λ j a b c. past t₂ (countAt p g) (countOf p t g + 1) j 0 c ∙ past t₁ (usedAt p page) 1 j 0 (λ (q : j ≡ usedAt p page). b (omega arith))
-            ∙ past t (ownerAt p page) g j 0 (λ (q : j ≡ ownerAt p page). a (omega arith));
-      }
+      taken (set t (ownerAt s page) g) 0 (length-set t (ownerAt s page) g) z (omega arith) (inr (o, none)) (put t (ownerAt s page) g 0 (omega (arith, count-is s))) (λ j. past t (ownerAt s page) g j 0)
 
 -- ---- what it leaves as it was
 
