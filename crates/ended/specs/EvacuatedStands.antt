@@ -20,25 +20,11 @@ use Rattle.layout.specs.Words.{Words, depthsIn, ownerIn, headIn, fieldsIn, refs
 use Rattle.promises.specs.Whole.{WholeFor}
 use Rattle.promises.specs.StandsFor.{StandsFor}
 use Rattle.promises.specs.Reading.{alive-used, used-home, getD-fields, getD-vars, length-fields, length-vars}
-use Rattle.promises.specs.Agreed.{renamed-id}
+use Rattle.promises.specs.Agreed.{partners-trans}
 use Rattle.promises.specs.Ends.{Part, Lives, lives-how}
 use Rattle.ended.specs.Evacuated.{Evacuated}
 use Rattle.ended.specs.Living.{GraphAfter, lives-there}
 use Rattle.layout.specs.Places.{varCount}
-
--- partners of partners, where the first keep their numbers
-same-partners : (to : ℕ → ℕ) (f g h : Graph) → Partners (λ x. x) f g → Partners to g h → Partners to f h
-same-partners to f g h p q =
-    record {
-      home = λ x a. q .home x (alive x a) ∙ p .home x a;
-      apart = λ x y a b e. q .apart x y (alive x a) (alive y b) e;
-      onto = λ y a. let z = q .onto y a in let x = p .onto (z .0) (z .1) in (x .0, x .1, ap to (x .2) ∙ z .2);
-      refs = λ x a. q .refs x (alive x a) ∙ ap (map (renamed to)) (p .refs x a ∙ renamed-id (f .refs x));
-      vars = q .vars ∙ ap (map (renamed to)) (p .vars ∙ renamed-id (f .vars));
-    }
-  where
-    alive : (x : ℕ) → Alive f x → Alive g x
-    alive x a z = a (sym (p .home x a) ∙ z)
 
 module _ {s : Sizes} {w : Words} {e : Part} {w′ : Words} {cell : ℕ → ℕ} (whole : WholeFor s w) (v : Evacuated s w e w′ cell) (whole′ : WholeFor s w′) where
   -- the fields of a kind, each of which became what g makes of it
@@ -104,6 +90,6 @@ module _ {s : Sizes} {w : Words} {e : Part} {w′ : Words} {cell : ℕ → ℕ} 
           whole = whole′;
           sound = sound;
           depths = depths;
-          partners = same-partners cell (graph h) g (graphOf s w′) p evacuated-partners;
+          partners = partners-trans p evacuated-partners;
           nums = λ x l. nums x l ∙ sym (nums-after x (a .lives x (λ z. l (sym (p .home x l) ∙ z))));
         }

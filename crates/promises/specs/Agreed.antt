@@ -1,28 +1,47 @@
 -- Whole words stand for the heap that they make; and whatever heap they stand for, the rules say the same of it and of the words.
 use Prim.Native.Nat.{ℕ, zero, suc, _<_}
 use native.Mathlib.Omega.{arith}
-use native.Mathlib.Decide.{decLt, ℕ-discrete}
+use native.Mathlib.Decide.{decLt}
 use mathlib.Core.Path.{_≡_, refl, sym, ap, subst, _∙_}
 use mathlib.Core.List.{List, [], _∷_, map}
 use lib.ListN.{getD}
 use Rattle.rules.specs.declared.Sizes.{Sizes}
 use Rattle.lists.specs.Members.{In}
 use Rattle.rules.specs.NeverFreeing.{Object, noObject}
-use Rattle.rules.specs.Graph.{target, crossing, objectsIn, freePages}
+use Rattle.rules.specs.Graph.{Graph, target, crossing, objectsIn, freePages}
 use Rattle.laws.specs.GraphLaws.{Alive, Closed}
 use Rattle.laws.specs.Counts.{same-free}
-use Rattle.laws.specs.SameRules.{renamed, same-target, same-objects, same-crossing}
+use Rattle.laws.specs.SameRules.{renamed, Partners, same-target, same-objects, same-crossing}
 use Rattle.rules.specs.Rules.{Regioned, graph}
 use Rattle.layout.specs.Words.{Words, BeginsIn, cellCount, sizesIn, homeIn, varsIn, objectIn, graphOf, heapOf}
 use Rattle.promises.specs.Whole.{WholeFor, WholeWords}
 use Rattle.promises.specs.StandsFor.{StandsFor}
 use Rattle.lists.specs.Listed.{listed, length-listed, getD-listed, listed-past}
-use Rattle.promises.specs.Reading.{alive-used, words-closed}
+use Rattle.promises.specs.Reading.{alive-used, no-home, cell-low, words-closed}
 
 pub renamed-id : (l : List ℕ) → map (renamed (λ x. x)) l ≡ l
 renamed-id [] = refl
 renamed-id (zero ∷ l) = ap (λ (k : List ℕ). 0 ∷ k) (renamed-id l)
 renamed-id (suc x ∷ l) = ap (λ (k : List ℕ). suc x ∷ k) (renamed-id l)
+
+renamed-twice : (f g : ℕ → ℕ) (l : List ℕ) → map (renamed g) (map (renamed f) l) ≡ map (renamed (λ x. g (f x))) l
+renamed-twice f g [] = refl
+renamed-twice f g (zero ∷ l) = ap (λ (k : List ℕ). 0 ∷ k) (renamed-twice f g l)
+renamed-twice f g (suc x ∷ l) = ap (λ (k : List ℕ). suc (g (f x)) ∷ k) (renamed-twice f g l)
+
+-- partners of partners
+pub partners-trans : {to cell : ℕ → ℕ} {f g h : Graph} → Partners to f g → Partners cell g h → Partners (λ x. cell (to x)) f h
+partners-trans {to} {cell} {f} {g} p q =
+    record {
+      home = λ x a. q .home (to x) (alive x a) ∙ p .home x a;
+      apart = λ x y a b e. p .apart x y a b (q .apart (to x) (to y) (alive x a) (alive y b) e);
+      onto = λ y a. let z = q .onto y a in let x = p .onto (z .0) (z .1) in (x .0, x .1, ap cell (x .2) ∙ z .2);
+      refs = λ x a. q .refs (to x) (alive x a) ∙ ap (map (renamed cell)) (p .refs x a) ∙ renamed-twice to cell (f .refs x);
+      vars = q .vars ∙ ap (map (renamed cell)) (p .vars) ∙ renamed-twice to cell (f .vars);
+    }
+  where
+    alive : (x : ℕ) → Alive f x → Alive g (to x)
+    alive x a z = a (sym (p .home x a) ∙ z)
 
 module _ (s : Sizes) (w : Words) (k : WholeFor s w) where
   pub home-at : (x : ℕ) → graph (heapOf s w) .home x ≡ homeIn s w x
@@ -31,11 +50,7 @@ module _ (s : Sizes) (w : Words) (k : WholeFor s w) where
     where
       go : Dec (x < cellCount s) → getD (listed (homeIn s w) (cellCount s)) x 0 ≡ homeIn s w x
       go (yes l) = getD-listed (homeIn s w) (cellCount s) x 0 l
-      go (no l) = listed-past (homeIn s w) (cellCount s) x 0 (omega arith) ∙ sym (out (ℕ-discrete (homeIn s w x) 0))
-        where
-          out : Dec (homeIn s w x ≡ 0) → homeIn s w x ≡ 0
-          out (yes z) = z
-          out (no a) = absurd (l (words-closed s w k .below x a))
+      go (no l) = listed-past (homeIn s w) (cellCount s) x 0 (omega arith) ∙ sym (no-home s w k x (λ u. l (cell-low s w k x u)))
 
   pub there : (x : ℕ) → Alive (graph (heapOf s w)) x → Alive (graphOf s w) x
   there x a z = a (home-at x ∙ z)

@@ -2,8 +2,8 @@
 -- of cells not in use". Two words that stand for the same heap through the same map are SameButOpen.
 use Prim.Native.Nat.{ℕ, zero, suc, _+_, _-_, _*_, _≤_, _<_}
 use native.Mathlib.Omega.{arith}
-use native.Mathlib.Decide.{ℕ-discrete, decLt}
-use mathlib.Core.Path.{_≡_, refl, sym, ap, ap₂, subst, _∙_}
+use native.Mathlib.Decide.{decLt}
+use mathlib.Core.Path.{_≡_, sym, ap, ap₂, subst, _∙_}
 use mathlib.Core.List.{List}
 use mathlib.Core.Bool.{cond}
 use lib.ListN.{length, getD}
@@ -21,7 +21,7 @@ use Rattle.layout.specs.Cells.{headAt, workAt, fieldOf, fieldAt, fieldCount, fi
 use Rattle.layout.specs.Objects.{begins-used, begins-there, Spot, head, work, field, spot, slot-word}
 use Rattle.layout.specs.Words.{Words, Used, BeginsIn, sizesIn, depthIn, ownerIn, usedIn, headIn, refCount, numCount, fieldsIn, homeIn}
 use Rattle.remember.specs.Crossing.{crossTo}
-use Rattle.promises.specs.Whole.{WholeFor, objectsOf}
+use Rattle.promises.specs.Whole.{objectsOf}
 use Rattle.promises.specs.StandsFor.{StandsFor}
 use Rattle.promises.specs.Reading.{used-alive, alive-used, used-home, length-fields, getD-fields, getD-vars, depth-at}
 use Rattle.promises.specs.Crossings.{heap-entries}
@@ -59,14 +59,12 @@ pub record SameButOpen (s : Sizes) (w w′ : Words) : Type 0 where
 -- ---- one half: what the first has, the second has
 
 module _ (s : Sizes) (w w′ : Words) (h : Regioned) (to : ℕ → ℕ) (st : StandsFor s w h to) (st′ : StandsFor s w′ h to) where
-  -- the object of a cell in use
-  object-of : (c : ℕ) → BeginsIn s w c → (x : ℕ) × Alive (graph h) x × (to x ≡ c)
-  object-of c u = st .partners .onto c (used-alive s w (st .whole) c u)
+  -- what holds of the cell of each object holds of each cell in use
+  by-object : (P : ℕ → Type 0) → ((x : ℕ) → Alive (graph h) x → P (to x)) → (c : ℕ) → BeginsIn s w c → P c
+  by-object P f c u = let r = st .partners .onto c (used-alive s w (st .whole) c u) in subst P (r .2) (f (r .0) (r .1))
 
   home-as : (c : ℕ) → BeginsIn s w c → homeIn s w c ≡ homeIn s w′ c
-  home-as c u =
-      let r = object-of c u in
-      subst (λ (y : ℕ). homeIn s w y ≡ homeIn s w′ y) (r .2) (st .partners .home (r .0) (r .1) ∙ sym (st′ .partners .home (r .0) (r .1)))
+  home-as = by-object (λ y. homeIn s w y ≡ homeIn s w′ y) (λ x a. st .partners .home x a ∙ sym (st′ .partners .home x a))
 
   used-as : (c : ℕ) → BeginsIn s w c → BeginsIn s w′ c
   used-as c u = alive-used s w′ (st′ .whole) c (λ z. used-alive s w (st .whole) c u (home-as c u ∙ z))
@@ -83,13 +81,19 @@ module _ (s : Sizes) (w w′ : Words) (h : Regioned) (to : ℕ → ℕ) (st : St
           let v = begins-used s (w′ .cells) (w′ .tables) c (used-as c (begins-there s (w .cells) (w .tables) page (usedIn s w′ page) l m n)) in
           absurd (let z : ⊥ = omega (arith, v .place, ap (usedIn s w′) (page-on page (usedIn s w′ page) m), place-on page (usedIn s w′ page) m) in z)
 
+  -- so is the region of a page
+  owner-as : (page : ℕ) → page < s .pages → 0 < ownerIn s w page → ownerIn s w page ≡ ownerIn s w′ page
+  owner-as page l p =
+      let c = cellOn page 0 in
+      let m : 0 < pageCells = omega arith in
+      let e : pageOf c ≡ page = page-on page 0 m in
+      let u : BeginsIn s w c = begins-there s (w .cells) (w .tables) page 0 l m (st .whole .pages page l .filled .taken p) in
+      ap (ownerIn s w) (sym e) ∙ sym (used-home s w (st .whole) c u) ∙ home-as c u ∙ used-home s w′ (st′ .whole) c (used-as c u) ∙ ap (ownerIn s w′) e
+
   -- the fields of an object
   fields-as : (d : Kind) (c : ℕ) → BeginsIn s w c → fieldsIn d w c ≡ fieldsIn d w′ c
-  fields-as d c u = let r = object-of c u in subst (λ (y : ℕ). fieldsIn d w y ≡ fieldsIn d w′ y) (r .2) (go d (r .0) (r .1))
-    where
-      go : (d : Kind) (x : ℕ) → Alive (graph h) x → fieldsIn d w (to x) ≡ fieldsIn d w′ (to x)
-      go Reference x a = st .partners .refs x a ∙ sym (st′ .partners .refs x a)
-      go Number x a = sym (st .nums x a) ∙ st′ .nums x a
+  fields-as Reference = by-object (λ y. fieldsIn Reference w y ≡ fieldsIn Reference w′ y) (λ x a. st .partners .refs x a ∙ sym (st′ .partners .refs x a))
+  fields-as Number = by-object (λ y. fieldsIn Number w y ≡ fieldsIn Number w′ y) (λ x a. sym (st .nums x a) ∙ st′ .nums x a)
 
   count-as : (d : Kind) (c : ℕ) → BeginsIn s w c → fieldCount d (headIn w c) ≡ fieldCount d (headIn w′ c)
   count-as d c u = sym (length-fields s w (st .whole) d c u) ∙ ap length (fields-as d c u) ∙ length-fields s w′ (st′ .whole) d c (used-as c u)
@@ -134,28 +138,12 @@ module _ (s : Sizes) (w w′ : Words) (h : Regioned) (to : ℕ → ℕ) (st : St
   used-same page l = omega (arith, used-most s w w′ h to st st′ page l, used-most s w′ w h to st′ st page l)
 
   owner-same : (page : ℕ) → page < s .pages → ownerIn s w page ≡ ownerIn s w′ page
-  owner-same page l = go (ℕ-discrete (usedIn s w page) 0)
+  owner-same page l = go (decLt 0 (ownerIn s w page)) (decLt 0 (ownerIn s w′ page))
     where
-      p : usedIn s w page ≡ usedIn s w′ page
-      p = used-same page l
-
-      -- a page without objects is free
-      free : (v : Words) → WholeFor s v → usedIn s v page ≡ 0 → ownerIn s v page ≡ 0
-      free v k z = none (ownerIn s v page) refl
-        where
-          none : (o : ℕ) → ownerIn s v page ≡ o → ownerIn s v page ≡ 0
-          none zero e = e
-          none (suc o) e = absurd (let q : ⊥ = omega (arith, k .pages page l .filled .taken (omega arith)) in q)
-
-      go : Dec (usedIn s w page ≡ 0) → ownerIn s w page ≡ ownerIn s w′ page
-      go (yes z) = free w (st .whole) z ∙ sym (free w′ (st′ .whole) (sym p ∙ z))
-      go (no n) =
-          let c = cellOn page 0 in
-          let m : 0 < pageCells = omega arith in
-          let e : pageOf c ≡ page = page-on page 0 m in
-          let u : BeginsIn s w c = begins-there s (w .cells) (w .tables) page 0 l m (omega arith) in
-          ap (ownerIn s w) (sym e) ∙ sym (used-home s w (st .whole) c u) ∙ home-as s w w′ h to st st′ c u
-          ∙ used-home s w′ (st′ .whole) c (used-as s w w′ h to st st′ c u) ∙ ap (ownerIn s w′) e
+      go : Dec (0 < ownerIn s w page) → Dec (0 < ownerIn s w′ page) → ownerIn s w page ≡ ownerIn s w′ page
+      go (yes p) d = owner-as s w w′ h to st st′ page l p
+      go (no n) (yes p) = sym (owner-as s w′ w h to st′ st page l p)
+      go (no n) (no m) = omega arith
 
   objects-same : (g : ℕ) → objectsOf s (w .tables) g ≡ objectsOf s (w′ .tables) g
   objects-same g = sum-same _ _ (s .pages) (λ page l. ap₂ (λ (o n : ℕ). cond (eqb o g) n 0) (owner-same page l) (used-same page l))

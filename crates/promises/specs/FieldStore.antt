@@ -19,13 +19,13 @@ use Rattle.layout.specs.declared.Kind.{Kind}
 use Rattle.layout.specs.declared.Kind.the-variants.{Reference, Number}
 use Rattle.layout.specs.Cells.{headAt, headOf, workAt, workOf, fieldAt, fieldOf, fieldCount, firstField, allFields, roomFor, Formed, kind-among, fields-room}
 use Rattle.layout.specs.Objects.{field-inside, field-not-head, field-not-work, objects-apart}
-use Rattle.layout.specs.Words.{Words, BeginsIn, headIn, refCount, fieldsAt, fieldsIn, homeIn}
+use Rattle.layout.specs.Words.{Words, BeginsIn, headIn, refCount, fieldsAt, fieldsIn}
 use Rattle.promises.specs.Whole.{WholeFor, IsRef, ObjectWhole, RememberWhole}
 use Rattle.promises.specs.StandsFor.{StandsFor, SameFrom}
 use Rattle.promises.specs.Agreed.{cell-used}
 use Rattle.promises.specs.Changes.{withCells, withObject}
 use Rattle.promises.specs.Areas.{fieldWords, entryWords, Only, only-trans, cells-only, entries-only}
-use Rattle.promises.specs.Frames.{still-whole, depths-frame, pages-frame, variables-frame, begins-was, ref-frame, objects-stay, home-same}
+use Rattle.promises.specs.Frames.{still-whole, depths-frame, pages-frame, variables-frame, begins-was, ref-frame, objects-stay, home-same, stands-still}
 
 module _ (s : Sizes) (w : Words) (k : WholeFor s w) (y j v : ℕ) (u : BeginsIn s w y) (low : j < allFields (headIn w y)) where
   abbrev C : List ℕ
@@ -127,28 +127,15 @@ pub object-stands : (s : Sizes) (w : Words) (h : Regioned) (cellOf : ℕ → ℕ
     → o .nums ≡ fieldsAt Number (set (w .cells) (fieldAt (cellOf x) j) v) (cellOf x)
     → Sound (withObject h x o) → StandsFor s (record { cells = set (w .cells) (fieldAt (cellOf x) j) v; remember = m′; tables = w .tables }) (withObject h x o) cellOf
 object-stands s w h cellOf st x a j v low m′ o k′ er en sound =
-    record {
-      whole = k′;
-      sound = sound;
-      depths = st .depths;
-      partners = record {
-        home = λ z b. home (cellOf z) ∙ st .partners .home z b;
-        apart = st .partners .apart;
-        onto = λ z b. st .partners .onto z (λ e. b (home z ∙ e));
-        refs = each (λ c q. fieldsAt Reference cells c ≡ map (renamed cellOf) (q .refs)) er (λ z b n. other Reference z b n ∙ st .partners .refs z b);
-        vars = st .partners .vars;
-      };
-      nums = each (λ c q. q .nums ≡ fieldsAt Number cells c) en (λ z b n. st .nums z b ∙ sym (other Number z b n));
-    }
+    stands-still st (home-same (field-only s w (st .whole) (cellOf x) j v (in-use x a) low) refl refl refl) (withObject h x o .heap) k′ (st .depths)
+    (each (λ c q. fieldsAt Reference cells c ≡ map (renamed cellOf) (q .refs)) er (λ z b n. other Reference z b n ∙ st .partners .refs z b)) (st .partners .vars)
+    (each (λ c q. q .nums ≡ fieldsAt Number cells c) en (λ z b n. st .nums z b ∙ sym (other Number z b n))) sound
   where
     cells : List ℕ
     cells = set (w .cells) (fieldAt (cellOf x) j) v
 
     in-use : (z : ℕ) → Alive (graph h) z → BeginsIn s w (cellOf z)
     in-use = cell-used s w h cellOf st
-
-    home : (z : ℕ) → homeIn s (withCells w cells) z ≡ homeIn s w z
-    home = home-same (field-only s w (st .whole) (cellOf x) j v (in-use x a) low) refl refl refl
 
     other : (d : Kind) (z : ℕ) → Alive (graph h) z → (z ≡ x → ⊥) → fieldsAt d cells (cellOf z) ≡ fieldsIn d w (cellOf z)
     other d z b n = fields-kept s w (st .whole) (cellOf x) j v (in-use x a) low d (cellOf z) (in-use z b) (λ i l e q. n (st .partners .apart z x b a e))

@@ -17,7 +17,7 @@ use Rattle.promises.specs.Whole.{WholeFor, Open}
 use Rattle.promises.specs.StandsFor.{StandsFor}
 use Rattle.promises.specs.Changes.{withTables, withDepth}
 use Rattle.promises.specs.Areas.{depthWords, Only, depth-in, store-only}
-use Rattle.promises.specs.Frames.{still-whole, pages-open, variables-frame, objects-frame, remember-frame, vars-same, tables-stand}
+use Rattle.promises.specs.Frames.{still-whole, pages-open, variables-frame, objects-frame, remember-frame, vars-same, home-same, stands-still}
 
 module _ (s : Sizes) (w : Words) (k : WholeFor s w) (t d : ℕ) (l : t < s .threads) where
   abbrev T : List ℕ
@@ -70,5 +70,5 @@ pub depth-stands : (s : Sizes) (w : Words) (h : Regioned) (cellOf : ℕ → ℕ)
 depth-stands s w h cellOf st t d l m o sound =
     let k = st .whole in
     let only = depth-only s w k t d l in
-    tables-stand st only refl refl refl (set (h .heap .depths) t d) (h .heap .vars) (depth-whole s w k t d l m o)
-    (ap (λ (ds : List ℕ). set ds t d) (st .depths) ∙ sym (depths-set s w k t d l)) (vars-same only refl ∙ st .partners .vars) sound
+    stands-still st (home-same only refl refl refl) (withDepth h t d .heap) (depth-whole s w k t d l m o)
+    (ap (λ (ds : List ℕ). set ds t d) (st .depths) ∙ sym (depths-set s w k t d l)) (st .partners .refs) (vars-same only refl ∙ st .partners .vars) (st .nums) sound

@@ -19,7 +19,7 @@ use Rattle.promises.specs.StandsFor.{StandsFor}
 use Rattle.promises.specs.Reading.{length-vars, alive-used}
 use Rattle.promises.specs.Changes.{withTables, withVariable}
 use Rattle.promises.specs.Areas.{variableWords, Only, var-in, store-only}
-use Rattle.promises.specs.Frames.{still-whole, depths-frame, pages-frame, objects-frame, remember-frame, ref-frame, depths-same, tables-stand}
+use Rattle.promises.specs.Frames.{still-whole, depths-frame, pages-frame, objects-frame, remember-frame, ref-frame, depths-same, home-same, stands-still}
 
 -- a reference to an object that is there leads to a cell in use
 pub ref-to-cell : (s : Sizes) (w : Words) (h : Regioned) (cellOf : ℕ → ℕ) → StandsFor s w h cellOf → (u v : ℕ) → v ≡ renamed cellOf u
@@ -66,10 +66,10 @@ pub variable-stands : (s : Sizes) (w : Words) (h : Regioned) (cellOf : ℕ → �
 variable-stands s w h cellOf st i u v l e sound =
     let k = st .whole in
     let only = variable-only s w k i v l in
-    tables-stand st only refl refl refl (h .heap .depths) (set (h .heap .vars) i u)
+    stands-still st (home-same only refl refl refl) (withVariable h i u .heap)
     (variable-whole s w k i v l (ref-to-cell s w h cellOf st u v e (λ x q. sound .closed .vars i x (put (h .heap .vars) i u 0 here ∙ q))))
-    (st .depths ∙ sym (depths-same only refl))
-    (vars-set s w k i v l ∙ ap₂ (λ (vs : List ℕ) (x : ℕ). set vs i x) (st .partners .vars) e ∙ sym (map-set (renamed cellOf) (h .heap .vars) i u)) sound
+    (st .depths ∙ sym (depths-same only refl)) (st .partners .refs)
+    (vars-set s w k i v l ∙ ap₂ (λ (vs : List ℕ) (x : ℕ). set vs i x) (st .partners .vars) e ∙ sym (map-set (renamed cellOf) (h .heap .vars) i u)) (st .nums) sound
   where
     here : i < length (h .heap .vars)
     here = omega (arith, length-vars s w (st .whole), ap length (st .partners .vars), length-map (h .heap .vars) (renamed cellOf))

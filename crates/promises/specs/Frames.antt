@@ -8,7 +8,9 @@ use lib.ListN.{getD, take, drop}
 use Rattle.lists.specs.Stores.{part-same}
 use Rattle.rules.specs.declared.Sizes.{Sizes}
 use Rattle.rules.specs.Regions.{threadOf}
-use Rattle.rules.specs.Rules.{Regioned}
+use Rattle.rules.specs.Rules.{Regioned, graph}
+use Rattle.rules.specs.NeverFreeing.{NeverFreeing, noObject}
+use Rattle.laws.specs.GraphLaws.{Alive}
 use Rattle.laws.specs.RulesLaws.{Sound}
 use Rattle.laws.specs.SameRules.{renamed}
 use Rattle.layout.specs.declared.Kind.{Kind}
@@ -16,13 +18,12 @@ use Rattle.layout.specs.declared.Kind.the-variants.{Reference}
 use Rattle.layout.specs.Places.{cellsWords, varCount, depthAt, varAt}
 use Rattle.layout.specs.Cells.{fieldAt, roomFor, allFields, refsOf, Formed, fieldCount, firstField, fields-room, kind-among, pageOf, cellNamed}
 use Rattle.layout.specs.Objects.{beginsAt, begins?, begins-page, begins-true, begins-false}
-use Rattle.layout.specs.Words.{Words, BeginsIn, headIn, ownerIn, homeIn, homeAt, depthsIn, depthsAt, varsIn, varsAt, fieldsIn, fieldsAt}
+use Rattle.layout.specs.Words.{Words, BeginsIn, headIn, ownerIn, homeIn, homeAt, depthsIn, depthsAt, varsIn, varsAt, fieldsIn, fieldsAt, refsIn, numsIn}
 use Rattle.remember.specs.Crossing.{crossTo}
 use Rattle.promises.specs.Whole.{Open, IsRef, Sized, DepthsWhole, PagesWhole, VariablesWhole, ObjectWhole, ObjectsWhole, MarksWhole, RememberWhole, WholeFor}
 use Rattle.promises.specs.Regular.{Regular, whole-regular, SamePage, filled-same, regular-same}
 use Rattle.promises.specs.StandsFor.{StandsFor}
 use Rattle.promises.specs.Areas.{Area, sizeWords, depthWords, variableWords, ownerWords, usedWords, markWords, countWords, headWords, workWords, fieldWords, entryWords, among, Only, ObjectsStay}
-use Rattle.promises.specs.Changes.{withTables}
 use Rattle.remember.specs.Entries.{Exact, exact-everywhere}
 use Rattle.promises.specs.Slots.{begins-kept, begins-were, cross-alike}
 
@@ -165,24 +166,22 @@ module _ {cs : List Area} {s : Sizes} {w w′ : Words} (o : Only cs s w w′) wh
         remember = remember;
       }
 
--- ---- other depths and variables: the objects are as they were
+-- ---- where objects keep their homes, the words stand for a heap with other depths, variables and fields
 
-pub tables-stand : {cs : List Area} {s : Sizes} {w : Words} {h : Regioned} {to : ℕ → ℕ} {t′ : List ℕ} → StandsFor s w h to → Only cs s w (withTables w t′) → among ownerWords cs ≡ false → among usedWords cs ≡ false → among headWords cs ≡ false
-    → (ds vs : List ℕ) → WholeFor s (withTables w t′) → ds ≡ depthsIn s (withTables w t′) → varsIn s (withTables w t′) ≡ map (renamed to) vs
-    → Sound (record { heap = record { depths = ds; vars = vs; objects = h .heap .objects }; homes = h .homes })
-    → StandsFor s (withTables w t′) (record { heap = record { depths = ds; vars = vs; objects = h .heap .objects }; homes = h .homes }) to
-tables-stand {to = to} st o a u h ds vs k d v sound =
-    let home = home-same o a u h in
+pub stands-still : {s : Sizes} {w w′ : Words} {h : Regioned} {to : ℕ → ℕ} → StandsFor s w h to → ((k : ℕ) → homeIn s w′ k ≡ homeIn s w k) → (h′ : NeverFreeing) → WholeFor s w′ → h′ .depths ≡ depthsIn s w′
+    → ((x : ℕ) → Alive (graph h) x → refsIn w′ (to x) ≡ map (renamed to) (getD (h′ .objects) x noObject .refs)) → varsIn s w′ ≡ map (renamed to) (h′ .vars)
+    → ((x : ℕ) → Alive (graph h) x → getD (h′ .objects) x noObject .nums ≡ numsIn w′ (to x)) → Sound (record { heap = h′; homes = h .homes }) → StandsFor s w′ (record { heap = h′; homes = h .homes }) to
+stands-still {to = to} st home h′ k d r v n sound =
     record {
       whole = k;
       sound = sound;
       depths = d;
       partners = record {
-        home = λ x b. home (to x) ∙ st .partners .home x b;
+        home = λ x a. home (to x) ∙ st .partners .home x a;
         apart = st .partners .apart;
-        onto = λ y b. st .partners .onto y (λ z. b (home y ∙ z));
-        refs = st .partners .refs;
+        onto = λ y a. st .partners .onto y (λ z. a (home y ∙ z));
+        refs = r;
         vars = v;
       };
-      nums = st .nums;
+      nums = n;
     }

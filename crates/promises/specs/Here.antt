@@ -1,21 +1,19 @@
 -- A command need only be shown right of the heap that the words themselves make, whose objects are the cells: then it is right of every heap that they stand for.
-use Prim.Native.Nat.{ℕ, zero, suc, _<_}
-use mathlib.Core.Path.{_≡_, refl, sym, ap, _∙_}
-use mathlib.Core.List.{List, [], _∷_, map}
+use Prim.Native.Nat.{ℕ, _<_}
+use mathlib.Core.Path.{_≡_, sym, ap, _∙_}
 use Rattle.rules.specs.declared.Sizes.{Sizes}
 use Rattle.rules.specs.declared.Command.{Command}
 use Rattle.rules.specs.declared.Answer.{Answer}
 use Rattle.rules.specs.Terms.{limits}
 use Rattle.rules.specs.NeverFreeing.{Object, depthOf, varOf}
 use Rattle.laws.specs.GraphLaws.{Alive}
-use Rattle.laws.specs.SameRules.{renamed}
 use Rattle.rules.specs.Rules as ru
 use Rattle.rules.specs.Rules.{Regioned, graph}
 use Rattle.layout.specs.Words.{Words, heapOf, depthIn, varIn}
 use Rattle.promises.specs.StandsFor.{StandsFor}
 use Rattle.promises.specs.Promises.{Became, DidHere, Did}
 use Rattle.promises.specs.Reading.{var-at, depth-at}
-use Rattle.promises.specs.Agreed.{home-at, object-at, heap-stands, there, cell-alive}
+use Rattle.promises.specs.Agreed.{home-at, object-at, partners-trans, heap-stands, there, cell-alive}
 use Rattle.laws.specs.LikeHeaps.{Like}
 use Rattle.laws.specs.LikeSteps.{step-like}
 
@@ -37,11 +35,6 @@ stands-like s w h cellOf st =
       nums = λ x a. ap (λ (o : Object). o .nums) (object-at s w (st .whole) (cellOf x) (cell-alive s w h cellOf st x a)) ∙ sym (st .nums x a);
     }
 
-renamed-twice : (f g : ℕ → ℕ) (l : List ℕ) → map (renamed g) (map (renamed f) l) ≡ map (renamed (λ x. g (f x))) l
-renamed-twice f g [] = refl
-renamed-twice f g (zero ∷ l) = ap (λ (k : List ℕ). 0 ∷ k) (renamed-twice f g l)
-renamed-twice f g (suc x ∷ l) = ap (λ (k : List ℕ). suc (g (f x)) ∷ k) (renamed-twice f g l)
-
 -- words that stand for a heap stand for each that corresponds to it
 like-stands : (s : Sizes) (w : Words) (to : ℕ → ℕ) (h k : Regioned) (cell : ℕ → ℕ) → Like to h k → StandsFor s w k cell → StandsFor s w h (λ x. cell (to x))
 like-stands s w to h k cell l st =
@@ -49,18 +42,9 @@ like-stands s w to h k cell l st =
       whole = st .whole;
       sound = l .sound;
       depths = sym (l .depths) ∙ st .depths;
-      partners = record {
-        home = λ x a. st .partners .home (to x) (alive x a) ∙ l .partners .home x a;
-        apart = λ x y a b e. l .partners .apart x y a b (st .partners .apart (to x) (to y) (alive x a) (alive y b) e);
-        onto = λ c a. let z = st .partners .onto c a in let y = l .partners .onto (z .0) (z .1) in (y .0, y .1, ap cell (y .2) ∙ z .2);
-        refs = λ x a. st .partners .refs (to x) (alive x a) ∙ ap (map (renamed cell)) (l .partners .refs x a) ∙ renamed-twice to cell (graph h .refs x);
-        vars = st .partners .vars ∙ ap (map (renamed cell)) (l .partners .vars) ∙ renamed-twice to cell (h .heap .vars);
-      };
-      nums = λ x a. sym (l .nums x a) ∙ st .nums (to x) (alive x a);
+      partners = partners-trans (l .partners) (st .partners);
+      nums = λ x a. sym (l .nums x a) ∙ st .nums (to x) (λ z. a (sym (l .partners .home x a) ∙ z));
     }
-  where
-    alive : (x : ℕ) → Alive (graph h) x → Alive (graph k) (to x)
-    alive x a z = a (sym (l .partners .home x a) ∙ z)
 
 pub did-anywhere : (s : Sizes) (w : Words) (m : Command) (w′ : Words) (a : Answer) → DidHere s w m w′ a → Did s w m w′ a
 did-anywhere s w m w′ a d =
@@ -72,9 +56,6 @@ did-anywhere s w m w′ a d =
       beyond = d .beyond;
     }
   where
-    k : Regioned
-    k = heapOf s w
-
     next : (h : Regioned) (cellOf : ℕ → ℕ) → StandsFor s w h cellOf → Became s h cellOf w′ (ru.step s h m .next)
     next h cellOf st =
         let l = stands-like s w h cellOf st in

@@ -24,7 +24,7 @@ use Rattle.rules.specs.Rules.{Regioned, graph, asksEntries, first}
 use Rattle.layout.specs.declared.Kind.{Kind}
 use Rattle.layout.specs.declared.Kind.the-variants.{Reference, Number}
 use Rattle.layout.specs.Cells.{headOf, fieldCount, kindAt}
-use Rattle.layout.specs.Words.{Words, BeginsIn, heapOf, varIn, headIn, fieldsIn, objectIn, ownerIn}
+use Rattle.layout.specs.Words.{Words, BeginsIn, heapOf, varIn, headIn, fieldsIn, ownerIn}
 use Rattle.promises.specs.Whole.{WholeFor, IsRef}
 use Rattle.promises.specs.StandsFor.{StandsFor, SameBeyond}
 use Rattle.promises.specs.Promises.{Became, DidHere, Frees, Freed}
@@ -115,14 +115,10 @@ module _ (s : Sizes) (h h′ : Regioned) (m : Command) (n : ru.after s h m ≡ h
       ∙ ap (λ (g : Regioned). ask (leb (crossing (graph g)) (s .entries)) 14 0) n
 
   -- and of other commands there is none
-  pub room-fine : asksEntries (meaningOf m .effect) ≡ false → ru.room s h m (ru.after s h m) ≡ 0
-  unfolding ru.room ask
-  room-fine e =
-      ap₂ (λ (b c : Bool). ask b 13 (cond c (ask (leb (crossing (graph (ru.after s h m))) (s .entries)) 14 0) 0)) pages-fine e
-
   pub question-fine : nf.question (limits s) (h .heap) m ≡ 0 → asksEntries (meaningOf m .effect) ≡ false → ru.question s h m ≡ 0
-  unfolding ru.question
-  question-fine ok e = ap₂ first ok (room-fine e)
+  unfolding ru.question ru.room ask
+  question-fine ok e =
+      ap₂ first ok (ap₂ (λ (b c : Bool). ask b 13 (cond c (ask (leb (crossing (graph (ru.after s h m))) (s .entries)) 14 0) 0)) pages-fine e)
 
 -- ---- questions 9 and 10: a variable, its object and a field, in words; over the kind of field
 
@@ -135,12 +131,9 @@ module _ (s : Sizes) (w : Words) (k : WholeFor s w) where
   pub var-ref : (t a : ℕ) → t < s .threads → a < s .variables → IsRef s (w .cells) (w .tables) (varIn s w t a)
   var-ref t a l n = k .variables (t * s .variables + a) (flat-low l n)
 
-  pub object-heap : (y : ℕ) → BeginsIn s w y → objectOf (heapOf s w .heap) (suc y) ≡ objectIn w y
-  object-heap y u = object-at s w k y (used-alive s w k y u)
-
   fields-heap : (d : Kind) (y : ℕ) → BeginsIn s w y → fieldsOf d (objectOf (heapOf s w .heap) (suc y)) ≡ fieldsIn d w y
-  fields-heap Reference y u = ap (fieldsOf Reference) (object-heap y u)
-  fields-heap Number y u = ap (fieldsOf Number) (object-heap y u)
+  fields-heap Reference y u = ap (fieldsOf Reference) (object-at s w k y (used-alive s w k y u))
+  fields-heap Number y u = ap (fieldsOf Number) (object-at s w k y (used-alive s w k y u))
 
   -- a reference v that is null or names a cell in use, and field f of it
   module _ (d : Kind) (f : ℕ) where
