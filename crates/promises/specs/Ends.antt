@@ -2,7 +2,7 @@
 use Prim.Native.Nat.{ℕ, _<_}
 use native.Mathlib.Decide.{ℕ-discrete}
 use mathlib.Core.Path.{_≡_}
-use mathlib.Core.Logic.{_⊎_, inl, inr}
+use mathlib.Core.Logic.{_⊎_, inl, inr, by-cases}
 use Rattle.rules.specs.declared.Sizes.{Sizes}
 use Rattle.rules.specs.Graph.{target}
 use Rattle.layout.specs.Cells.{pageOf}
@@ -42,8 +42,5 @@ module _ {s : Sizes} {w : Words} {e : Part} {c : ℕ} where
   survivor-lives v = record { used = v .used; goes = λ z. v .goes }
 
   pub lives-how : Lives s w e c → Outside s w e c ⊎ Survivor s w e c
-  lives-how l = go (e .ends? (pageOf c))
-    where
-      go : Dec (e .ends (pageOf c)) → Outside s w e c ⊎ Survivor s w e c
-      go (yes z) = inr (record { used = l .used; within = z; goes = l .goes z })
-      go (no n) = inl (record { used = l .used; out = n })
+  lives-how l =
+      by-cases (e .ends? (pageOf c)) (λ z. inr (record { used = l .used; within = z; goes = l .goes z })) (λ n. inl (record { used = l .used; out = n }))

@@ -2,7 +2,7 @@
 use Prim.Native.Nat.{ℕ, zero, suc, _+_, _-_, _≤_, _<_}
 use native.Mathlib.Omega.{arith}
 use mathlib.Core.Path.{_≡_, refl, sym, ap, ap₂, subst, _∙_}
-use mathlib.Core.Logic.{_⊎_, inl, inr}
+use mathlib.Core.Logic.{_⊎_, inl, inr, ⊎-elim, ⊎-map}
 use mathlib.Core.List.{List, [], _∷_}
 use lib.ListN.{length, getD}
 use Rattle.lists.specs.Stores.{drop-same}
@@ -11,7 +11,7 @@ use Rattle.rules.specs.Regions.{regions}
 use Rattle.layout.specs.Places.{cellsWords, ownerOf}
 use Rattle.layout.specs.declared.Kind.the-variants.{Reference}
 use Rattle.layout.specs.Cells.{headAt, headOf, workAt, workOf, fieldAt, fieldOf, fieldCount, headWord, roomFor, mostFields, Formed, kind-among, fields-room, head-formed, pageOf, cellOf, cellNamed}
-use Rattle.layout.specs.Objects.{InUse, begins-page, begins-used, used-begins, begins-same, Covers, covers-low, head-not-new, work-not-new, field-not-new, Slot, slot-page}
+use Rattle.layout.specs.Objects.{begins-page, begins-used, used-begins, begins-same, Covers, covers-low, head-not-new, work-not-new, field-not-new, Slot, slot-page}
 use Rattle.layout.specs.Words.{Words, BeginsIn}
 use Rattle.remember.specs.Crossing.{other, regionOf, crossTo}
 use Rattle.promises.specs.Whole.{WholeFor, Open, IsRef, ObjectWhole}
@@ -55,11 +55,7 @@ module _ (s : Sizes) (w : Words) (k : WholeFor s w) (g cell b d : ℕ) (t′ c�
   still-begins x b = used-begins s c′ t′ x (still-used took x (begins-used s c t x b))
 
   pub begins-split : (x : ℕ) → BeginsIn s newWords x → (x ≡ cell) ⊎ BeginsIn s w x
-  begins-split x b = go (used-split took x (begins-used s c′ t′ x b))
-    where
-      go : (x ≡ cell) ⊎ InUse s t x → (x ≡ cell) ⊎ BeginsIn s w x
-      go (inl e) = inl e
-      go (inr u) = inr (used-begins s c t x u)
+  begins-split x b = ⊎-map (λ e. e) (used-begins s c t x) (used-split took x (begins-used s c′ t′ x b))
 
   ref-still : (x : ℕ) → IsRef s c t x → IsRef s c′ t′ x
   ref-still x r z = still-begins (cellNamed x) (r z)
@@ -80,27 +76,19 @@ module _ (s : Sizes) (w : Words) (k : WholeFor s w) (g cell b d : ℕ) (t′ c�
       (took-only s (withCells w c′) g cell t′ took pos low) (λ x u. (begins-same s c t c′ t x refl (λ j v e. head-other j v) u, head-other x u))
 
   objects : (x : ℕ) → BeginsIn s newWords x → ObjectWhole s c′ t′ x
-  objects x i = go (begins-split x i)
-    where
-      blank-object : ObjectWhole s c′ t′ cell
-      blank-object =
-          let h = blank .head in
-          record {
-            head = subst Formed (sym h) (head-formed b d few);
-            rest = λ f l m. blank .fields f (subst (λ (z : ℕ). f < roomFor z) h l);
-            references = λ f l p. absurd (let z : ⊥ = omega (arith, blank .fields f (omega (arith, ap (fieldCount Reference) h, kind-among Reference (headWord b d), fields-room (headWord b d) (head-formed b d few)))) in z);
-          }
-
-      go : (x ≡ cell) ⊎ BeginsIn s w x → ObjectWhole s c′ t′ x
-      go (inl e) = subst (ObjectWhole s c′ t′) (sym e) blank-object
-      go (inr u) = object-frame new-only refl refl ref-still x u (k .objects x u)
+  objects x i =
+      let h = blank .head in
+      ⊎-elim
+      (λ e. subst (ObjectWhole s c′ t′) (sym e)
+      (record {
+        head = subst Formed (sym h) (head-formed b d few);
+        rest = λ f l m. blank .fields f (subst (λ (z : ℕ). f < roomFor z) h l);
+        references = λ f l p. absurd (let z : ⊥ = omega (arith, blank .fields f (omega (arith, ap (fieldCount Reference) h, kind-among Reference (headWord b d), fields-room (headWord b d) (head-formed b d few)))) in z);
+      }))
+      (λ u. object-frame new-only refl refl ref-still x u (k .objects x u)) (begins-split x i)
 
   works : (x : ℕ) → BeginsIn s newWords x → workOf c′ x ≡ 0
-  works x i = go (begins-split x i)
-    where
-      go : (x ≡ cell) ⊎ BeginsIn s w x → workOf c′ x ≡ 0
-      go (inl e) = ap (workOf c′) e ∙ blank .work
-      go (inr u) = new-only .same workWords refl x u ∙ k .works x u
+  works x i = ⊎-elim (λ e. ap (workOf c′) e ∙ blank .work) (λ u. new-only .same workWords refl x u ∙ k .works x u) (begins-split x i)
 
   -- a new object has no slot that crosses, and the others cross as they did
   region-kept : (x : ℕ) → IsRef s c t x → regionOf s t′ x ≡ regionOf s t x
@@ -121,17 +109,13 @@ module _ (s : Sizes) (w : Words) (k : WholeFor s w) (g cell b d : ℕ) (t′ c�
       )
 
   slot-new : (q : ℕ) → Slot s c′ t′ q → Slot s c t q ⊎ (crossesTo s t′ (cellOf q) (getD c′ q 0) ≡ 0)
-  slot-new q o = go (begins-split (o .object) (o .begins))
-    where
-      go : (o .object ≡ cell) ⊎ BeginsIn s w (o .object) → Slot s c t q ⊎ (crossesTo s t′ (cellOf q) (getD c′ q 0) ≡ 0)
-      go (inl e) =
-          let l : o .field < roomFor (headWord b d) = subst (λ (h : ℕ). o .field < roomFor h) (ap (headOf c′) e ∙ blank .head) (o .room) in
-          let z : getD c′ q 0 ≡ 0 = ap (λ (i : ℕ). getD c′ i 0) (sym (o .at) ∙ ap (λ (i : ℕ). fieldAt i (o .field)) e) ∙ blank .fields (o .field) l in
-          inr (ap (crossesTo s t′ (cellOf q)) z)
-      go (inr u) = inl (slot-stays o u (sym (head-other (o .object) u)))
-
-  cross-kept : (q : ℕ) → crossTo s c′ t′ q ≡ crossTo s c t q
-  cross-kept q = cross-same s c t c′ t′ q (slot-kept q) (slot-new q)
+  slot-new q o =
+      ⊎-elim
+      (λ e.
+      let l : o .field < roomFor (headWord b d) = subst (λ (h : ℕ). o .field < roomFor h) (ap (headOf c′) e ∙ blank .head) (o .room) in
+      let z : getD c′ q 0 ≡ 0 = ap (λ (i : ℕ). getD c′ i 0) (sym (o .at) ∙ ap (λ (i : ℕ). fieldAt i (o .field)) e) ∙ blank .fields (o .field) l in
+      inr (ap (crossesTo s t′ (cellOf q)) z))
+      (λ u. inl (slot-stays o u (sym (head-other (o .object) u)))) (begins-split (o .object) (o .begins))
 
   pub new-whole : WholeFor s newWords
   new-whole =
@@ -145,5 +129,5 @@ module _ (s : Sizes) (w : Words) (k : WholeFor s w) (g cell b d : ℕ) (t′ c�
         objects = objects;
         marks = marks-frame new-only refl (k .marks);
         works = works;
-        remember = exact-everywhere (crossTo s c t) (crossTo s c′ t′) (cellsWords s) (s .entries) (w .remember) (λ q l. cross-kept q) (k .remember);
+        remember = exact-everywhere (crossTo s c t) (crossTo s c′ t′) (cellsWords s) (s .entries) (w .remember) (λ q l. cross-same s c t c′ t′ q (slot-kept q) (slot-new q)) (k .remember);
       }

@@ -3,7 +3,7 @@ use Prim.Native.Nat.{ℕ, zero, suc, _+_, _-_, _*_, _≤_, _<_}
 use native.Mathlib.Omega.{arith}
 use native.Mathlib.Decide.{ℕ-discrete}
 use mathlib.Core.Path.{_≡_, refl, sym, ap, subst, _∙_}
-use mathlib.Core.Logic.{_⊎_, inl, inr}
+use mathlib.Core.Logic.{_⊎_, inl, inr, by-cases}
 use mathlib.Core.List.{List, [], _∷_, _++_}
 use mathlib.Core.Bool.{true, false}
 use lib.Dec.{leb}
@@ -94,11 +94,7 @@ module _ (s : Sizes) (w : Words) (h : Regioned) (to : ℕ → ℕ) (st : StandsF
   new-lacks a b = lt-leb (newPages s (graph h) (graph made)) (freePages s (graph h)) (omega (arith, needs, heap-free s w h to st, full, none))
     where
       full : placeOf held ≡ 0
-      full = go (ℕ-discrete (placeOf held) 0)
-        where
-          go : Dec (placeOf held ≡ 0) → placeOf held ≡ 0
-          go (yes e) = e
-          go (no n) = absurd (a (some-partly (whole-regular (st .whole)) g pos n))
+      full = by-cases (ℕ-discrete (placeOf held) 0) (λ e. e) (λ n. absurd (a (some-partly (whole-regular (st .whole)) g pos n)))
 
       none : pagesOwned s w 0 ≡ 0
       none = sum-none (ownedOne s (w .tables) 0) (s .pages) (λ page l. sym (owned-no s (w .tables) 0 page (λ e. b (page, l, e))))

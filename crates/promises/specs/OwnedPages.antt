@@ -3,6 +3,7 @@ use Prim.Native.Nat.{ℕ, zero, suc, _+_, _-_, _*_, _^_, _≤_, _<_}
 use native.Mathlib.Omega.{arith}
 use native.Mathlib.Nat.{div-lt-iff-lt-mul}
 use native.Mathlib.Decide.{decLt, ℕ-discrete}
+use mathlib.Core.Logic.{by-cases}
 use mathlib.Core.Path.{_≡_, refl, sym, ap, ap₂, _∙_}
 use mathlib.Core.List.{List}
 use mathlib.Core.Bool.{Bool, true, false, cond}
@@ -44,11 +45,7 @@ module _ (p : Sizes) (t : List ℕ) (g page : ℕ) where
   owned-no n = sym (ap bit (ne-eqb (ownerOf p t page) g n))
 
   pub owned-is : 0 < ownedOne p t g page → ownerOf p t page ≡ g
-  owned-is h = go (ℕ-discrete (ownerOf p t page) g)
-    where
-      go : Dec (ownerOf p t page ≡ g) → ownerOf p t page ≡ g
-      go (yes e) = e
-      go (no n) = absurd (let z : ⊥ = omega (arith, owned-no n) in z)
+  owned-is h = by-cases (ℕ-discrete (ownerOf p t page) g) (λ e. e) (λ n. absurd (let z : ⊥ = omega (arith, owned-no n) in z))
 
   pub owned-le : ownedOne p t g page ≤ 1
   unfolding ownedOne
@@ -155,11 +152,9 @@ module _ {s : Sizes} {t : List ℕ} (r : Regular s t) (q : ℕ) where
 module _ (s : Sizes) (w : Words) (k : WholeFor s w) where
   -- no page is owned by a region that is not there
   pub owner-low : (page : ℕ) → page < s .pages → ownerIn s w page ≤ regions s
-  owner-low page l = go (decLt 1 (ownerIn s w page))
-    where
-      go : Dec (1 < ownerIn s w page) → ownerIn s w page ≤ regions s
-      go (yes h) = omega (arith, div-lt-iff-lt-mul {x = ownerIn s w page - 2} (k .sized .range .depth-low) .0 (k .pages page l .region h .thread))
-      go (no h) = omega arith
+  owner-low page l =
+      by-cases (decLt 1 (ownerIn s w page))
+      (λ h. omega (arith, div-lt-iff-lt-mul {x = ownerIn s w page - 2} (k .sized .range .depth-low) .0 (k .pages page l .region h .thread))) (λ h. omega arith)
 
   module _ (q : ℕ) (pos : 0 < q) where
     home-of : (page j : ℕ) → page < s .pages → j < pageCells → homeIn s w (cellOn page j) ≡ cond (ltb j (usedIn s w page)) (ownerIn s w page) 0

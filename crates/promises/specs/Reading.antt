@@ -1,8 +1,9 @@
 -- What is read from whole words: cells in use, their fields, variables and depths; and that no reference names a cell not in use.
 use Prim.Native.Nat.{ℕ, suc, _+_, _-_, _*_, _^_, _≤_, _<_}
 use native.Mathlib.Omega.{arith}
-use mathlib.Core.Path.{_≡_, refl, sym, ap, subst, _∙_}
-use mathlib.Core.Bool.{Bool, true, false, cond}
+use mathlib.Core.Logic.{by-cases}
+use mathlib.Core.Path.{_≡_, sym, ap, subst, _∙_}
+use mathlib.Core.Bool.{Bool, cond}
 use lib.ListN.{length, getD, drop, length-drop}
 use lib.Seq.{getD-take, getD-drop, length-take-le}
 use Rattle.lists.specs.Members.{In, in-place, in-bounds}
@@ -15,7 +16,7 @@ use Rattle.layout.specs.Places.{Room, room, depthAt, varAt, varOf, tablesWords,
 use Rattle.layout.specs.Cells.{fieldAt, fieldOf, fieldCount, firstField, kindAt, mostFields, roomFor, kind-among, first-reference, fields-room, pageOf, CellIn}
 use Rattle.layout.specs.Cells as ly
 use Rattle.layout.specs.Words.{Words, depthIn, varIn, ownerIn, depthsIn, varsIn, headIn, refCount, fieldsIn, refsIn, homeIn, graphOf, depthsAt, homeAt, fieldsAt, varsAt, BeginsIn}
-use Rattle.layout.specs.Objects.{cellCount, beginsAt, begins-used, begins-low, begins-true, begins-false, true-begins, fields-inside}
+use Rattle.layout.specs.Objects.{cellCount, begins-used, begins-low, begins-true, begins-false, fields-inside, begins?}
 use Rattle.promises.specs.Whole.{Sized, WholeFor}
 
 pub getD-fields : (d : Kind) (w : Words) (c i : ℕ) → i < fieldCount d (headIn w c) → getD (fieldsIn d w c) i 0 ≡ getD (w .cells) (kindAt d (w .cells) c i) 0
@@ -63,17 +64,12 @@ module _ (s : Sizes) (w : Words) (k : WholeFor s w) where
   pub used-alive : (c : ℕ) → BeginsIn s w c → Alive (graphOf s w) c
   used-alive c u z = used-owned c u (sym (used-home c u) ∙ z)
 
-  pub alive-used : (c : ℕ) → Alive (graphOf s w) c → BeginsIn s w c
-  unfolding homeAt
-  alive-used c a = go (beginsAt s (w .cells) (w .tables) c) refl
-    where
-      go : (b : Bool) → beginsAt s (w .cells) (w .tables) c ≡ b → BeginsIn s w c
-      go true e = true-begins s (w .cells) (w .tables) c e
-      go false e = absurd (a (ap (λ (b : Bool). cond b (ownerIn s w (pageOf c)) 0) e))
-
   pub no-home : (c : ℕ) → (BeginsIn s w c → ⊥) → homeIn s w c ≡ 0
   unfolding homeAt
   no-home c n = ap (λ (b : Bool). cond b (ownerIn s w (pageOf c)) 0) (begins-false s (w .cells) (w .tables) c n)
+
+  pub alive-used : (c : ℕ) → Alive (graphOf s w) c → BeginsIn s w c
+  alive-used c a = by-cases (begins? s (w .cells) (w .tables) c) (λ u. u) (λ n. absurd (a (no-home c n)))
 
   pub cell-low : (c : ℕ) → BeginsIn s w c → c < cellCount s
   cell-low = begins-low s (w .cells) (w .tables)

@@ -2,6 +2,7 @@
 use Prim.Native.Nat.{ℕ, _≤_, _<_}
 use native.Mathlib.Omega.{arith}
 use native.Mathlib.Decide.{decLt}
+use mathlib.Core.Logic.{by-cases}
 use mathlib.Core.Path.{_≡_, sym, ap, ap₂, _∙_}
 use mathlib.Core.List.{List}
 use mathlib.Core.Bool.{Bool, cond}
@@ -24,12 +25,8 @@ whole-regular k = record { pages = λ page l. k .pages page l .filled; partial =
 
 -- two partly filled pages of a region are one
 pub one : {s : Sizes} {t : List ℕ} {g a b : ℕ} → Regular s t → 1 ≤ g → a < s .pages → b < s .pages → Partial s t g a → Partial s t g b → a ≡ b
-one {s} {t} {g} {a} {b} r pos l m x y = go (decLt a b) (decLt b a)
-  where
-    go : Dec (a < b) → Dec (b < a) → a ≡ b
-    go (yes h) d = absurd (r .partial g pos a b h m x y)
-    go (no h) (yes d) = absurd (r .partial g pos b a d l y x)
-    go (no h) (no d) = omega arith
+one {a = a} {b} r pos l m x y =
+    by-cases (decLt a b) (λ h. absurd (r .partial _ pos a b h m x y)) (λ h. by-cases (decLt b a) (λ d. absurd (r .partial _ pos b a d l y x)) (λ d. omega arith))
 
 -- ---- the objects of a page
 
