@@ -2,6 +2,7 @@
 use Prim.Native.Nat.{ℕ, _≤_, _<_}
 use native.Mathlib.Omega.{arith}
 use native.Mathlib.Decide.{ℕ-discrete}
+use mathlib.Core.Logic.{by-cases}
 use mathlib.Core.Path.{_≡_, refl, sym, ap, _∙_}
 use mathlib.Core.List.{List, [], _∷_}
 use lib.ListN.{set, take, drop}
@@ -41,22 +42,19 @@ module _ (s : Sizes) (w : Words) (k : WholeFor s w) (t d : ℕ) (l : t < s .thre
 
   pub depth-whole : d ≤ s .depth → OpenStill → WholeFor s (withTables w T)
   depth-whole m o =
-      still-whole depth-only refl refl refl refl refl refl refl k (λ u n. go u n (ℕ-discrete u t)) (pages-open depth-only refl refl (k .pages) o)
+      still-whole depth-only refl refl refl refl refl refl refl k (λ u n. by-cases (ℕ-discrete u t) (λ e. omega (arith, ap (depthOf T) e, here)) (λ e. omega (arith, elsewhere u e, k .depths u n))) (pages-open depth-only refl refl (k .pages) o)
       (variables-frame depth-only refl refl refl (k .variables)) (objects-frame depth-only refl refl refl (k .objects)) (remember-frame depth-only refl refl refl refl refl (k .remember))
-    where
-      go : (u : ℕ) → u < s .threads → Dec (u ≡ t) → depthOf T u ≤ s .depth
-      go u n (yes e) = omega (arith, ap (depthOf T) e, here)
-      go u n (no e) = omega (arith, elsewhere u e, k .depths u n)
 
   -- they are if it does not fall
   pub raised-open : depthIn w t ≤ d → OpenStill
   raised-open m page n z =
       let o = k .pages page n .region z in
-      record { real = o .real; thread = o .thread; level = omega (arith, o .level, go (threadOf s (ownerIn s w page)) (ℕ-discrete (threadOf s (ownerIn s w page)) t)) }
-    where
-      go : (u : ℕ) → Dec (u ≡ t) → depthOf (w .tables) u ≤ depthOf T u
-      go u (yes e) = omega (arith, ap (depthOf T) e, ap (depthOf (w .tables)) e, here)
-      go u (no e) = omega (arith, elsewhere u e)
+      let u = threadOf s (ownerIn s w page) in
+      record {
+        real = o .real;
+        thread = o .thread;
+        level = by-cases (ℕ-discrete u t) (λ e. omega (arith, o .level, ap (depthOf T) e, ap (depthOf (w .tables)) e, here)) (λ e. omega (arith, o .level, elsewhere u e));
+      }
 
   depths-set : depthsIn s (withTables w T) ≡ set (depthsIn s w) t d
   unfolding depthsAt

@@ -2,6 +2,7 @@
 use Prim.Native.Nat.{ℕ, zero, suc, _+_, _-_, _<_}
 use native.Mathlib.Omega.{arith}
 use native.Mathlib.Decide.{ℕ-discrete}
+use mathlib.Core.Logic.{by-cases}
 use mathlib.Core.Path.{_≡_, refl, sym, ap, ap₂, subst, _∙_}
 use mathlib.Core.List.{List, [], _∷_}
 use lib.ListN.{length, set, take, drop, length-map}
@@ -46,11 +47,9 @@ module _ (s : Sizes) (w : Words) (k : WholeFor s w) (i v : ℕ) (l : i < varCoun
   pub variable-whole : IsRef s (w .cells) (w .tables) v → WholeFor s (withTables w t)
   variable-whole ref =
       still-whole variable-only refl refl refl refl refl refl refl k (depths-frame variable-only refl (k .depths)) (pages-frame variable-only refl refl refl (k .pages))
-      (λ j m. ref-frame variable-only refl refl _ (go j m (ℕ-discrete j i))) (objects-frame variable-only refl refl refl (k .objects)) (remember-frame variable-only refl refl refl refl refl (k .remember))
-    where
-      go : (j : ℕ) → j < varCount s → Dec (j ≡ i) → IsRef s (w .cells) (w .tables) (varOf s t j)
-      go j m (yes e) = subst (IsRef s (w .cells) (w .tables)) (sym (ap (varOf s t) e ∙ put (w .tables) at v 0 (omega (arith, low, k .sized .tables)))) ref
-      go j m (no n) = subst (IsRef s (w .cells) (w .tables)) (sym (past (w .tables) at v (varAt s j) 0 (λ (e : varAt s j ≡ at). n (omega arith)))) (k .variables j m)
+      (λ j m. ref-frame variable-only refl refl _ (by-cases (ℕ-discrete j i)
+      (λ e. subst (IsRef s (w .cells) (w .tables)) (sym (ap (varOf s t) e ∙ put (w .tables) at v 0 (omega (arith, low, k .sized .tables)))) ref)
+      (λ n. subst (IsRef s (w .cells) (w .tables)) (sym (past (w .tables) at v (varAt s j) 0 (λ (e : varAt s j ≡ at). n (omega arith)))) (k .variables j m)))) (objects-frame variable-only refl refl refl (k .objects)) (remember-frame variable-only refl refl refl refl refl (k .remember))
 
   vars-set : varsIn s (withTables w t) ≡ set (varsIn s w) i v
   unfolding varsAt

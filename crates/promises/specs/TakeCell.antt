@@ -3,7 +3,7 @@ use Prim.Native.Nat.{ℕ, _+_, _≤_, _<_}
 use native.Mathlib.Omega.{arith}
 use native.Mathlib.Decide.{ℕ-discrete}
 use mathlib.Core.Path.{_≡_, refl, sym, ap, subst, _∙_}
-use mathlib.Core.Logic.{_⊎_, inl, inr}
+use mathlib.Core.Logic.{_⊎_, inl, inr, by-cases, ⊎-elim}
 use mathlib.Core.List.{List, [], _∷_}
 use lib.ListN.{length, getD, set, length-set}
 use Rattle.lists.specs.Counting.{sum-same, sum-change}
@@ -102,11 +102,10 @@ module _ {s : Sizes} {t : List ℕ} {g cell : ℕ} {t′ : List ℕ} (k : Took s
   took-unused u = omega (arith, u .place, k .first)
 
   pub still-used : (c : ℕ) → InUse s t c → InUse s t′ c
-  still-used c u = go (ℕ-discrete (pageOf c) (pageOf cell))
-    where
-      go : Dec (pageOf c ≡ pageOf cell) → InUse s t′ c
-      go (yes e) = record { page = u .page; place = omega (arith, u .place, k .first, k .used, ap (usedOf s t) e, ap (usedOf s t′) e) }
-      go (no d) = record { page = u .page; place = omega (arith, u .place, page-past (pageOf c) (u .page) d .used) }
+  still-used c u =
+      by-cases (ℕ-discrete (pageOf c) (pageOf cell))
+      (λ e. record { page = u .page; place = omega (arith, u .place, k .first, k .used, ap (usedOf s t) e, ap (usedOf s t′) e) })
+      (λ d. record { page = u .page; place = omega (arith, u .place, page-past (pageOf c) (u .page) d .used) })
 
   pub used-split : (c : ℕ) → InUse s t′ c → (c ≡ cell) ⊎ InUse s t c
   used-split c u = go (ℕ-discrete (pageOf c) (pageOf cell)) (ℕ-discrete c cell)
@@ -133,12 +132,12 @@ took-only s w g cell t′ k pos low =
 module _ {s : Sizes} {t : List ℕ} {g cell : ℕ} {t′ : List ℕ} (r : Regular s t) (k : Took s t g cell t′) where
   -- the region of a cell that was in use
   pub owner-used : (c : ℕ) → InUse s t c → ownerOf s t′ (pageOf c) ≡ ownerOf s t (pageOf c)
-  owner-used c u = go (ℕ-discrete (pageOf c) (pageOf cell)) (k .source)
-    where
-      go : Dec (pageOf c ≡ pageOf cell) → Source s t g (pageOf cell) → ownerOf s t′ (pageOf c) ≡ ownerOf s t (pageOf c)
-      go (no d) o = page-past k (pageOf c) (u .page) d .owner
-      go (yes e) (inl o) = ap (ownerOf s t′) e ∙ k .owner ∙ sym o ∙ sym (ap (ownerOf s t) e)
-      go (yes e) (inr o) = absurd (let z : ⊥ = omega (arith, u .place, r .pages (pageOf c) (u .page) .free (ap (ownerOf s t) e ∙ o .0)) in z)
+  owner-used c u =
+      by-cases (ℕ-discrete (pageOf c) (pageOf cell))
+      (λ e.
+      let was : ownerOf s t (pageOf cell) ≡ g = ⊎-elim (λ o. o) (λ o. absurd (let z : ⊥ = omega (arith, u .place, r .pages (pageOf c) (u .page) .free (ap (ownerOf s t) e ∙ o .0)) in z)) (k .source) in
+      ap (ownerOf s t′) e ∙ k .owner ∙ sym was ∙ sym (ap (ownerOf s t) e))
+      (λ d. page-past k (pageOf c) (u .page) d .owner)
 
   module _ (pos : 1 ≤ g) where
     took-filled : (page : ℕ) → page < s .pages → Dec (page ≡ pageOf cell) → PageFilled s t′ page
@@ -153,12 +152,10 @@ module _ {s : Sizes} {t : List ℕ} {g cell : ℕ} {t′ : List ℕ} (r : Regula
     was-partial q page l n x = partial-same (page-past k page l (λ e. n (sym (x .owner) ∙ ap (ownerOf s t′) e ∙ k .owner))) x
 
     alone : (page : ℕ) → page < s .pages → Partial s t′ g page → page ≡ pageOf cell
-    alone page l x = go (ℕ-discrete page (pageOf cell)) (k .source)
-      where
-        go : Dec (page ≡ pageOf cell) → Source s t g (pageOf cell) → page ≡ pageOf cell
-        go (yes e) o = e
-        go (no d) (inl o) = one r pos l (k .page) (partial-same (page-past k page l d) x) (record { owner = o; part = omega (arith, k .first) })
-        go (no d) (inr o) = absurd (o .1 page l (partial-same (page-past k page l d) x))
+    alone page l x =
+        by-cases (ℕ-discrete page (pageOf cell)) (λ e. e)
+        (λ d. let y = partial-same (page-past k page l d) x in
+        ⊎-elim (λ o. one r pos l (k .page) y (record { owner = o; part = omega (arith, k .first) })) (λ o. absurd (o .1 page l y)) (k .source))
 
     took-partial : (q : ℕ) → 1 ≤ q → (a b : ℕ) → a < b → b < s .pages → Partial s t′ q a → Partial s t′ q b → Dec (q ≡ g) → ⊥
     took-partial q z a b l h x y (yes e) =
@@ -183,16 +180,15 @@ module _ {s : Sizes} {t : List ℕ} {g cell : ℕ} {t′ : List ℕ} (r : Regula
         omega (arith, on-page (k .source), sum-change (objectsOn s t′ g) (objectsOn s t g) (pageOf cell) (s .pages) (k .page) (λ page l d. on-same (page-past k page l d) g))
 
     pub took-objects-other : (q : ℕ) → 1 ≤ q → (q ≡ g → ⊥) → objectsOf s t′ q ≡ objectsOf s t q
-    took-objects-other q z n = sum-same (objectsOn s t′ q) (objectsOn s t q) (s .pages) (λ page l. go page l (ℕ-discrete page (pageOf cell)) (k .source))
+    took-objects-other q z n =
+        sum-same (objectsOn s t′ q) (objectsOn s t q) (s .pages)
+        (λ page l. by-cases (ℕ-discrete page (pageOf cell))
+        (λ e. objects-no s t′ q page (λ x. n (sym x ∙ ap (ownerOf s t′) e ∙ k .owner)) ∙ sym (objects-no s t q page (λ x. was (k .source) (ap (ownerOf s t) (sym e) ∙ x))))
+        (λ d. on-same (page-past k page l d) q))
       where
-        go : (page : ℕ) → page < s .pages → Dec (page ≡ pageOf cell) → Source s t g (pageOf cell) → objectsOn s t′ q page ≡ objectsOn s t q page
-        go page l (no d) o = on-same (page-past k page l d) q
-        go page l (yes e) o =
-            objects-no s t′ q page (λ x. n (sym x ∙ ap (ownerOf s t′) e ∙ k .owner)) ∙ sym (objects-no s t q page (was o))
-          where
-            was : Source s t g (pageOf cell) → ownerOf s t page ≡ q → ⊥
-            was (inl o) x = n (sym x ∙ ap (ownerOf s t) e ∙ o)
-            was (inr o) x = let h : ownerOf s t page ≡ 0 = ap (ownerOf s t) e ∙ o .0 in omega arith
+        was : Source s t g (pageOf cell) → ownerOf s t (pageOf cell) ≡ q → ⊥
+        was (inl o) x = n (sym x ∙ o)
+        was (inr o) x = omega (arith, o .0)
 
     pub took-regular : Regular s t′
     took-regular =
@@ -211,15 +207,12 @@ module _ {s : Sizes} {t : List ℕ} {g cell : ℕ} {t′ : List ℕ} (r : Regula
 pub took-pages : {s : Sizes} {w : Words} {g cell : ℕ} {t′ : List ℕ} → WholeFor s w → Took s (w .tables) g cell t′ → 1 ≤ g → g ≤ regions s → (1 < g → Open s (w .tables) g)
     → PagesWhole s (withTables w t′)
 took-pages {s} {w} {g} {cell} {t′} whole k pos low open′ page l =
-    record { filled = took-regular (whole-regular whole) k pos .pages page l; region = go (ℕ-discrete page (pageOf cell)) }
+    record {
+      filled = took-regular (whole-regular whole) k pos .pages page l;
+      region = λ z. by-cases (ℕ-discrete page (pageOf cell))
+          (λ e. let a : ownerOf s t′ page ≡ g = ap (ownerOf s t′) e ∙ k .owner in subst (Open s t′) (sym a) (open-past g (open′ (omega arith))))
+          (λ d. let a = page-past k page l d .owner in subst (Open s t′) (sym a) (open-past (ownerOf s (w .tables) page) (whole .pages page l .region (omega arith))));
+    }
   where
     open-past : (q : ℕ) → Open s (w .tables) q → Open s t′ q
     open-past = open-frame (took-only s w g cell t′ k pos low) refl
-
-    go : Dec (page ≡ pageOf cell) → 1 < ownerOf s t′ page → Open s t′ (ownerOf s t′ page)
-    go (yes e) z =
-        let a : ownerOf s t′ page ≡ g = ap (ownerOf s t′) e ∙ k .owner in
-        subst (Open s t′) (sym a) (open-past g (open′ (omega arith)))
-    go (no d) z =
-        let a = page-past k page l d .owner in
-        subst (Open s t′) (sym a) (open-past (ownerOf s (w .tables) page) (whole .pages page l .region (omega arith)))
