@@ -2,6 +2,7 @@
 use Prim.Native.Nat.{ℕ, zero, suc, _<_}
 use native.Mathlib.Omega.{arith}
 use native.Mathlib.Decide.{decLt}
+use mathlib.Core.Logic.{by-cases}
 use mathlib.Core.Path.{_≡_, refl, sym, ap, subst, _∙_}
 use mathlib.Core.List.{List, [], _∷_, map}
 use lib.ListN.{getD}
@@ -16,7 +17,7 @@ use Rattle.rules.specs.Rules.{Regioned, graph}
 use Rattle.layout.specs.Words.{Words, BeginsIn, cellCount, sizesIn, homeIn, varsIn, objectIn, graphOf, heapOf}
 use Rattle.promises.specs.Whole.{WholeFor, WholeWords}
 use Rattle.promises.specs.StandsFor.{StandsFor}
-use Rattle.lists.specs.Listed.{listed, length-listed, getD-listed, listed-past}
+use Rattle.lists.specs.Listed.{length-listed, getD-listed, listed-past}
 use Rattle.promises.specs.Reading.{alive-used, no-home, cell-low, words-closed}
 
 pub renamed-id : (l : List ℕ) → map (renamed (λ x. x)) l ≡ l
@@ -46,11 +47,9 @@ partners-trans {to} {cell} {f} {g} p q =
 module _ (s : Sizes) (w : Words) (k : WholeFor s w) where
   pub home-at : (x : ℕ) → graph (heapOf s w) .home x ≡ homeIn s w x
   unfolding heapOf
-  home-at x = go (decLt x (cellCount s))
-    where
-      go : Dec (x < cellCount s) → getD (listed (homeIn s w) (cellCount s)) x 0 ≡ homeIn s w x
-      go (yes l) = getD-listed (homeIn s w) (cellCount s) x 0 l
-      go (no l) = listed-past (homeIn s w) (cellCount s) x 0 (omega arith) ∙ sym (no-home s w k x (λ u. l (cell-low s w k x u)))
+  home-at x =
+      by-cases (decLt x (cellCount s)) (getD-listed (homeIn s w) (cellCount s) x 0)
+      (λ l. listed-past (homeIn s w) (cellCount s) x 0 (omega arith) ∙ sym (no-home s w k x (λ u. l (cell-low s w k x u))))
 
   pub there : (x : ℕ) → Alive (graph (heapOf s w)) x → Alive (graphOf s w) x
   there x a z = a (home-at x ∙ z)

@@ -2,6 +2,7 @@
 use Prim.Native.Nat.{ℕ, _+_, _≤_, _<_}
 use native.Mathlib.Omega.{arith}
 use native.Mathlib.Decide.{decLt}
+use mathlib.Core.Logic.{by-cases}
 use mathlib.Core.Path.{_≡_, refl, sym, ap, subst, _∙_}
 use mathlib.Core.List.{List, [], _∷_, _++_}
 use mathlib.Core.Bool.{Bool, true, false, cond}
@@ -139,12 +140,10 @@ count-in s g l m = omega (arith, starts s)
 
 -- THE ARRAYS STAND APART
 pub arrays-apart : (s : Sizes) (a b : Area) (i j : ℕ) → among a (b ∷ []) ≡ false → Within a s i → Within b s j → i ≡ j → ⊥
-arrays-apart s a b i j n x y e = go (decLt (number a) (number b)) (decLt (number b) (number a))
-  where
-    go : Dec (number a < number b) → Dec (number b < number a) → ⊥
-    go (yes l) m = omega (arith, x .1, y .0, sum-mono (λ k. getD (arrays s) k 0) (number a + 1) (number b) (omega arith))
-    go (no l) (yes m) = omega (arith, y .1, x .0, sum-mono (λ k. getD (arrays s) k 0) (number b + 1) (number a) (omega arith))
-    go (no l) (no m) = true-not-false (sym n ∙ ap (λ (t : Bool). cond t true false) (eq-eqb (number a) (number b) (omega arith)))
+arrays-apart s a b i j n x y e =
+    by-cases (decLt (number a) (number b)) (λ l. omega (arith, x .1, y .0, sum-mono (λ k. getD (arrays s) k 0) (number a + 1) (number b) (omega arith)))
+    (λ l. by-cases (decLt (number b) (number a)) (λ m. omega (arith, y .1, x .0, sum-mono (λ k. getD (arrays s) k 0) (number b + 1) (number a) (omega arith)))
+    (λ m. true-not-false (sym n ∙ ap (λ (t : Bool). cond t true false) (eq-eqb (number a) (number b) (omega arith)))))
 
 -- ---- words that are the same but for some areas: the tables position by position, the rest area by area
 

@@ -3,6 +3,7 @@
 use Prim.Native.Nat.{ℕ, zero, suc, _+_, _-_, _*_, _≤_, _<_}
 use native.Mathlib.Omega.{arith}
 use native.Mathlib.Decide.{decLt}
+use mathlib.Core.Logic.{by-cases}
 use mathlib.Core.Path.{_≡_, sym, ap, ap₂, subst, _∙_}
 use mathlib.Core.List.{List}
 use mathlib.Core.Bool.{cond}
@@ -71,15 +72,14 @@ module _ (s : Sizes) (w w′ : Words) (h : Regioned) (to : ℕ → ℕ) (st : St
 
   -- so a page has at least as many cells in use
   used-most : (page : ℕ) → page < s .pages → usedIn s w page ≤ usedIn s w′ page
-  used-most page l = go (decLt (usedIn s w′ page) (usedIn s w page))
-    where
-      go : Dec (usedIn s w′ page < usedIn s w page) → usedIn s w page ≤ usedIn s w′ page
-      go (no n) = omega arith
-      go (yes n) =
-          let c = cellOn page (usedIn s w′ page) in
-          let m : usedIn s w′ page < pageCells = omega (arith, st .whole .pages page l .filled .cells) in
-          let v = begins-used s (w′ .cells) (w′ .tables) c (used-as c (begins-there s (w .cells) (w .tables) page (usedIn s w′ page) l m n)) in
-          absurd (let z : ⊥ = omega (arith, v .place, ap (usedIn s w′) (page-on page (usedIn s w′ page) m), place-on page (usedIn s w′ page) m) in z)
+  used-most page l =
+      by-cases (decLt (usedIn s w′ page) (usedIn s w page))
+      (λ n.
+      let c = cellOn page (usedIn s w′ page) in
+      let m : usedIn s w′ page < pageCells = omega (arith, st .whole .pages page l .filled .cells) in
+      let v = begins-used s (w′ .cells) (w′ .tables) c (used-as c (begins-there s (w .cells) (w .tables) page (usedIn s w′ page) l m n)) in
+      absurd (let z : ⊥ = omega (arith, v .place, ap (usedIn s w′) (page-on page (usedIn s w′ page) m), place-on page (usedIn s w′ page) m) in z))
+      (λ n. omega arith)
 
   -- so is the region of a page
   owner-as : (page : ℕ) → page < s .pages → 0 < ownerIn s w page → ownerIn s w page ≡ ownerIn s w′ page
@@ -138,12 +138,9 @@ module _ (s : Sizes) (w w′ : Words) (h : Regioned) (to : ℕ → ℕ) (st : St
   used-same page l = omega (arith, used-most s w w′ h to st st′ page l, used-most s w′ w h to st′ st page l)
 
   owner-same : (page : ℕ) → page < s .pages → ownerIn s w page ≡ ownerIn s w′ page
-  owner-same page l = go (decLt 0 (ownerIn s w page)) (decLt 0 (ownerIn s w′ page))
-    where
-      go : Dec (0 < ownerIn s w page) → Dec (0 < ownerIn s w′ page) → ownerIn s w page ≡ ownerIn s w′ page
-      go (yes p) d = owner-as s w w′ h to st st′ page l p
-      go (no n) (yes p) = sym (owner-as s w′ w h to st′ st page l p)
-      go (no n) (no m) = omega arith
+  owner-same page l =
+      by-cases (decLt 0 (ownerIn s w page)) (owner-as s w w′ h to st st′ page l)
+      (λ n. by-cases (decLt 0 (ownerIn s w′ page)) (λ p. sym (owner-as s w′ w h to st′ st page l p)) (λ m. omega arith))
 
   objects-same : (g : ℕ) → objectsOf s (w .tables) g ≡ objectsOf s (w′ .tables) g
   objects-same g = sum-same _ _ (s .pages) (λ page l. ap₂ (λ (o n : ℕ). cond (eqb o g) n 0) (owner-same page l) (used-same page l))

@@ -2,6 +2,7 @@
 use Prim.Native.Nat.{ℕ, _+_, _≤_, _<_}
 use native.Mathlib.Omega.{arith}
 use native.Mathlib.Decide.{ℕ-discrete}
+use mathlib.Core.Logic.{by-cases}
 use mathlib.Core.Path.{_≡_, refl, sym, ap, ap₂, subst, _∙_}
 use mathlib.Core.List.{List, [], _∷_, map}
 use lib.ListN.{getD, set, take, drop, length-set}
@@ -73,7 +74,9 @@ module _ (s : Sizes) (w : Words) (k : WholeFor s w) (y j v : ℕ) (u : BeginsIn 
               let n : allFields (headIn w x) ≤ f = subst (λ (h : ℕ). allFields h ≤ f) e m in
               let r : f < roomFor (headIn w x) = subst (λ (h : ℕ). f < roomFor h) e l in
               field-kept x f i r (λ (a : x ≡ y) (b : f ≡ j). omega (arith, low, ap (λ (z : ℕ). allFields (headIn w z)) a)) ∙ o .rest f r n;
-          references = λ f l. let n : f < refCount w x = subst (λ (h : ℕ). f < fieldCount Reference h) e l in ref-frame field-only refl refl _ (go f n (ℕ-discrete x y) (ℕ-discrete f j));
+          references = λ f l. let n : f < refCount w x = subst (λ (h : ℕ). f < fieldCount Reference h) e l in ref-frame field-only refl refl _ (by-cases (ℕ-discrete x y)
+              (λ a. by-cases (ℕ-discrete f j) (λ b. subst (IsRef s (w .cells) (w .tables)) (sym (ap₂ (fieldOf C) a b ∙ field-here)) (ref (omega (arith, n, b, ap (refCount w) a)))) (λ b. other f n (λ p q. b q)))
+              (λ a. other f n (λ p q. a p)));
         }
       where
         o : ObjectWhole s (w .cells) (w .tables) x
@@ -85,11 +88,6 @@ module _ (s : Sizes) (w : Words) (k : WholeFor s w) (y j v : ℕ) (u : BeginsIn 
         other : (f : ℕ) → f < refCount w x → (x ≡ y → f ≡ j → ⊥) → IsRef s (w .cells) (w .tables) (fieldOf C x f)
         other f n d =
             subst (IsRef s (w .cells) (w .tables)) (sym (field-kept x f i (omega (arith, kind-among Reference (headIn w x), fields-room (headIn w x) (o .head))) d)) (o .references f n)
-
-        go : (f : ℕ) → f < refCount w x → Dec (x ≡ y) → Dec (f ≡ j) → IsRef s (w .cells) (w .tables) (fieldOf C x f)
-        go f n (yes a) (yes b) = subst (IsRef s (w .cells) (w .tables)) (sym (ap₂ (fieldOf C) a b ∙ field-here)) (ref (omega (arith, n, b, ap (refCount w) a)))
-        go f n (yes a) (no b) = other f n (λ p q. b q)
-        go f n (no a) b = other f n (λ p q. a p)
 
     pub field-whole : (j < refCount w y → IsRef s (w .cells) (w .tables) v) → RememberWhole s w′ → WholeFor s w′
     field-whole ref r =
@@ -143,10 +141,8 @@ object-stands s w h cellOf st x a j v low m′ o k′ er en sound =
     -- what holds of x with o, and of every other object as it was, holds of each
     each : (Q : ℕ → Object → Type 0) → Q (cellOf x) o → ((z : ℕ) → Alive (graph h) z → (z ≡ x → ⊥) → Q (cellOf z) (getD (h .heap .objects) z noObject))
         → (z : ℕ) → Alive (graph h) z → Q (cellOf z) (getD (set (h .heap .objects) x o) z noObject)
-    each Q here there z b = go (ℕ-discrete z x)
-      where
-        go : Dec (z ≡ x) → Q (cellOf z) (getD (set (h .heap .objects) x o) z noObject)
-        go (yes e) =
-            subst (λ (i : ℕ). Q (cellOf i) (getD (set (h .heap .objects) x o) i noObject)) (sym e)
-            (subst (Q (cellOf x)) (sym (put (h .heap .objects) x o noObject (st .sound .closed .below x a))) here)
-        go (no n) = subst (Q (cellOf z)) (sym (past (h .heap .objects) x o z noObject n)) (there z b n)
+    each Q here there z b =
+        by-cases (ℕ-discrete z x)
+        (λ e. subst (λ (i : ℕ). Q (cellOf i) (getD (set (h .heap .objects) x o) i noObject)) (sym e)
+        (subst (Q (cellOf x)) (sym (put (h .heap .objects) x o noObject (st .sound .closed .below x a))) here))
+        (λ n. subst (Q (cellOf z)) (sym (past (h .heap .objects) x o z noObject n)) (there z b n))

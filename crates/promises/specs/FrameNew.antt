@@ -4,7 +4,7 @@ use native.Mathlib.Omega.{arith}
 use native.Mathlib.Decide.{ℕ-discrete, decLt}
 use native.Mathlib.Numerals.{add-one}
 use mathlib.Core.Path.{_≡_, refl, sym, ap, subst, _∙_}
-use mathlib.Core.Logic.{_⊎_, inl, inr}
+use mathlib.Core.Logic.{_⊎_, inl, inr, by-cases, ⊎-elim}
 use mathlib.Core.List.{List, [], _∷_, _++_, map}
 use mathlib.Core.Bool.{Bool, cond}
 use lib.ListN.{length, getD, set, replicate, length-append, List·getD-append, List·getD-eq-default}
@@ -70,12 +70,9 @@ module _ (s : Sizes) (w : Words) (h : Regioned) (to : ℕ → ℕ) (st : StandsF
   to-new : to₁ n ≡ cell
   to-new = ap (λ (x : Bool). cond x cell (to n)) (eq-eqb n n refl)
 
-  below : (x : ℕ) → Alive (graph h) x → x < n
-  below x a = st .sound .closed .below x a
-
   -- the old objects keep their cells
   pub to-old : (x : ℕ) → Alive (graph h) x → to₁ x ≡ to x
-  to-old x a = ap (λ (q : Bool). cond q cell (to x)) (ne-eqb x n (λ (e : x ≡ n). omega (arith, below x a)))
+  to-old x a = ap (λ (q : Bool). cond q cell (to x)) (ne-eqb x n (λ (e : x ≡ n). omega (arith, st .sound .closed .below x a)))
 
   home-old : (x : ℕ) → x < n → graph h₁ .home x ≡ graph h .home x
   home-old x l = List·getD-append (h .homes) (g ∷ []) 0 x (omega (arith, st .sound .aligned))
@@ -91,25 +88,16 @@ module _ (s : Sizes) (w : Words) (h : Regioned) (to : ℕ → ℕ) (st : StandsF
 
   -- an object that is there is an old one or the new one
   split : (x : ℕ) → Alive (graph h₁) x → Alive (graph h) x ⊎ (x ≡ n)
-  split x a = go (ℕ-discrete x n) (decLt x n)
-    where
-      go : Dec (x ≡ n) → Dec (x < n) → Alive (graph h) x ⊎ (x ≡ n)
-      go (yes e) l = inr e
-      go (no e) (yes l) = inl (λ z. a (home-old x l ∙ z))
-      go (no e) (no l) = absurd (a (List·getD-eq-default (h .homes ++ g ∷ []) 0 (omega (arith, length-append (h .homes) (g ∷ []), st .sound .aligned))))
+  split x a =
+      by-cases (ℕ-discrete x n) inr (λ e. by-cases (decLt x n) (λ l. inl (λ z. a (home-old x l ∙ z)))
+      (λ l. absurd (a (List·getD-eq-default (h .homes ++ g ∷ []) 0 (omega (arith, length-append (h .homes) (g ∷ []), st .sound .aligned))))))
 
   pub still : (x : ℕ) → Alive (graph h) x → Alive (graph h₁) x
-  still x a z = a (sym (home-old x (below x a)) ∙ z)
+  still x a z = a (sym (home-old x (st .sound .closed .below x a)) ∙ z)
 
   cases : (P : ℕ → ℕ → Type 0) → ((x : ℕ) → Alive (graph h) x → P x (to x)) → P n cell → (x : ℕ) → Alive (graph h₁) x → P x (to₁ x)
-  cases P f q x a = go (split x a)
-    where
-      go : Alive (graph h) x ⊎ (x ≡ n) → P x (to₁ x)
-      go (inl e) = subst (P x) (sym (to-old x e)) (f x e)
-      go (inr e) = subst (λ (z : ℕ). P z (to₁ z)) (sym e) (subst (P n) (sym to-new) q)
-
-  in-use : (x : ℕ) → Alive (graph h) x → BeginsIn s w (to x)
-  in-use = cell-used s w h to st
+  cases P f q x a =
+      ⊎-elim (λ e. subst (P x) (sym (to-old x e)) (f x e)) (λ e. subst (λ (z : ℕ). P z (to₁ z)) (sym e) (subst (P n) (sym to-new) q)) (split x a)
 
   new-used : BeginsIn s w₁ cell
   new-used = new-begins s w (st .whole) g cell b d t′ c′ took blank few pos low open′
@@ -121,7 +109,7 @@ module _ (s : Sizes) (w : Words) (h : Regioned) (to : ℕ → ℕ) (st : StandsF
       used-home s w₁ k₁ y (still-begins s w (st .whole) g cell b d t′ c′ took blank few pos low open′ y u) ∙ owner-still s w (st .whole) g cell b d t′ c′ took blank few pos low open′ y u ∙ sym (used-home s w (st .whole) y u)
 
   apart-new : (x : ℕ) → Alive (graph h) x → to x ≡ cell → ⊥
-  apart-new x a e = not-there s w (st .whole) g cell b d t′ c′ took blank few pos low open′ (subst (BeginsIn s w) e (in-use x a))
+  apart-new x a e = not-there s w (st .whole) g cell b d t′ c′ took blank few pos low open′ (subst (BeginsIn s w) e (cell-used s w h to st x a))
 
   one-to-one : (x y : ℕ) → Alive (graph h) x ⊎ (x ≡ n) → Alive (graph h) y ⊎ (y ≡ n) → to₁ x ≡ to₁ y → x ≡ y
   one-to-one x y (inl a) (inl c) e = st .partners .apart x y a c (sym (to-old x a) ∙ e ∙ to-old y c)
@@ -130,13 +118,10 @@ module _ (s : Sizes) (w : Words) (h : Regioned) (to : ℕ → ℕ) (st : StandsF
   one-to-one x y (inr f) (inr i) e = f ∙ sym i
 
   onto : (y : ℕ) → Alive (graphOf s w₁) y → (x : ℕ) × Alive (graph h₁) x × (to₁ x ≡ y)
-  onto y a = go (begins-split s w (st .whole) g cell b d t′ c′ took blank few pos low open′ y (alive-used s w₁ k₁ y a))
-    where
-      go : (y ≡ cell) ⊎ BeginsIn s w y → (x : ℕ) × Alive (graph h₁) x × (to₁ x ≡ y)
-      go (inl e) = (n, (λ z. omega (arith, home-new)), to-new ∙ sym e)
-      go (inr u) =
-          let r = st .partners .onto y (used-alive s w (st .whole) y u) in
-          (r .0, still (r .0) (r .1), to-old (r .0) (r .1) ∙ r .2)
+  onto y a =
+      ⊎-elim (λ e. (n, (λ z. omega (arith, home-new)), to-new ∙ sym e))
+      (λ u. let r = st .partners .onto y (used-alive s w (st .whole) y u) in (r .0, still (r .0) (r .1), to-old (r .0) (r .1) ∙ r .2))
+      (begins-split s w (st .whole) g cell b d t′ c′ took blank few pos low open′ y (alive-used s w₁ k₁ y a))
 
   -- ---- fields
 
@@ -167,19 +152,19 @@ module _ (s : Sizes) (w : Words) (h : Regioned) (to : ℕ → ℕ) (st : StandsF
         depths = st .depths ∙ sym (depths-same only refl);
         partners = record {
           home = cases (λ x y. homeIn s w₁ y ≡ graph h₁ .home x)
-              (λ x a. home-kept (to x) (in-use x a) ∙ st .partners .home x a ∙ sym (home-old x (below x a)))
+              (λ x a. home-kept (to x) (cell-used s w h to st x a) ∙ st .partners .home x a ∙ sym (home-old x (st .sound .closed .below x a)))
               (used-home s w₁ k₁ cell new-used ∙ took .owner ∙ sym home-new);
           apart = λ x y a c e. one-to-one x y (split x a) (split y c) e;
           onto = onto;
           refs = cases (λ x y. fieldsAt Reference c′ y ≡ map (renamed to₁) (getD (h₁ .heap .objects) x noObject .refs))
-              (λ x a. fields-old Reference (to x) (in-use x a) ∙ st .partners .refs x a
-              ∙ sym (ap (λ (q : Object). map (renamed to₁) (q .refs)) (object-old x (below x a)) ∙ renamed-old (graph h .refs x) (λ y i. st .sound .closed .refs x y a i)))
+              (λ x a. fields-old Reference (to x) (cell-used s w h to st x a) ∙ st .partners .refs x a
+              ∙ sym (ap (λ (q : Object). map (renamed to₁) (q .refs)) (object-old x (st .sound .closed .below x a)) ∙ renamed-old (graph h .refs x) (λ y i. st .sound .closed .refs x y a i)))
               (fields-new Reference b (refs-head b d few) ∙ sym (ap (λ (q : Object). map (renamed to₁) (q .refs)) object-new ∙ renamed-zeros b to₁));
           vars = vars-same only refl ∙ st .partners .vars
               ∙ sym (renamed-old (h .heap .vars) (λ y i. let j = in-place (h .heap .vars) (suc y) i in st .sound .closed .vars (j .0) y (j .2)));
         };
         nums = cases (λ x y. getD (h₁ .heap .objects) x noObject .nums ≡ fieldsAt Number c′ y)
-            (λ x a. ap (λ (q : Object). q .nums) (object-old x (below x a)) ∙ st .nums x a ∙ sym (fields-old Number (to x) (in-use x a)))
+            (λ x a. ap (λ (q : Object). q .nums) (object-old x (st .sound .closed .below x a)) ∙ st .nums x a ∙ sym (fields-old Number (to x) (cell-used s w h to st x a)))
             (ap (λ (q : Object). q .nums) object-new ∙ sym (fields-new Number d (nums-head b d few)));
       }
 

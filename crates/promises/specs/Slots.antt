@@ -3,7 +3,7 @@ use Prim.Native.Nat.{ℕ, suc, _-_, _<_}
 use mathlib.Core.List.{List}
 use mathlib.Core.Bool.{Bool, false, cond}
 use mathlib.Core.Path.{_≡_, refl, sym, ap, ap₂, subst, _∙_}
-use mathlib.Core.Logic.{_⊎_, inl, inr}
+use mathlib.Core.Logic.{_⊎_, inl, by-cases, ⊎-elim}
 use native.Mathlib.Omega.{arith}
 use native.Mathlib.Decide.{decLt}
 use lib.ListN.{getD, length, set}
@@ -52,16 +52,9 @@ module _ (p : Sizes) (c t c′ t′ : List ℕ) (q : ℕ) where
   is = crossesTo p t′ (cellOf q) (getD c′ q 0)
 
   pub cross-same : (Slot p c t q → Slot p c′ t′ q × (is ≡ was)) → (Slot p c′ t′ q → Slot p c t q ⊎ (is ≡ 0)) → crossTo p c′ t′ q ≡ crossTo p c t q
-  cross-same kept new = go (slot? p c t q) (slot? p c′ t′ q)
-    where
-      go : Dec (Slot p c t q) → Dec (Slot p c′ t′ q) → crossTo p c′ t′ q ≡ crossTo p c t q
-      go (yes o) d = let k = kept o in slot-cross p c′ t′ q (k .0) ∙ k .1 ∙ sym (slot-cross p c t q o)
-      go (no n) (no m) = no-cross p c′ t′ q m ∙ sym (no-cross p c t q n)
-      go (no n) (yes o) = slot-cross p c′ t′ q o ∙ none (new o) ∙ sym (no-cross p c t q n)
-        where
-          none : Slot p c t q ⊎ (is ≡ 0) → is ≡ 0
-          none (inl o) = absurd (n o)
-          none (inr z) = z
+  cross-same kept new =
+      by-cases (slot? p c t q) (λ o. let k = kept o in slot-cross p c′ t′ q (k .0) ∙ k .1 ∙ sym (slot-cross p c t q o))
+      (λ n. by-cases (slot? p c′ t′ q) (λ o. slot-cross p c′ t′ q o ∙ ⊎-elim (λ x. absurd (n x)) (λ z. z) (new o)) (no-cross p c′ t′ q) ∙ sym (no-cross p c t q n))
 
 -- so where owners, used words and heads are the same, by the words of the slots
 module _ (p : Sizes) (c t c′ t′ : List ℕ) (used : (page : ℕ) → page < p .pages → usedOf p t′ page ≡ usedOf p t page)
@@ -74,13 +67,10 @@ module _ (p : Sizes) (c t c′ t′ : List ℕ) (used : (page : ℕ) → page < 
 
   module _ (owners : (page : ℕ) → page < p .pages → ownerOf p t′ page ≡ ownerOf p t page) where
     region-same : (x : ℕ) → regionOf p t′ x ≡ regionOf p t x
-    region-same x = go (decLt (pageOf (x - 1)) (p .pages))
-      where
-        go : Dec (pageOf (x - 1) < p .pages) → regionOf p t′ x ≡ regionOf p t x
-        go (yes l) = ap (λ (n : ℕ). cond (eqb x 0) 0 (cond (ltb (pageOf (x - 1)) (p .pages)) n 0)) (owners (pageOf (x - 1)) l)
-        go (no l) =
-            let e : ltb (pageOf (x - 1)) (p .pages) ≡ false = le-ltb (pageOf (x - 1)) (p .pages) (omega arith) in
-            ap (λ (b : Bool). cond (eqb x 0) 0 (cond b (ownerOf p t′ (pageOf (x - 1))) 0)) e ∙ sym (ap (λ (b : Bool). cond (eqb x 0) 0 (cond b (ownerOf p t (pageOf (x - 1))) 0)) e)
+    region-same x =
+        by-cases (decLt (pageOf (x - 1)) (p .pages)) (λ l. ap (λ (n : ℕ). cond (eqb x 0) 0 (cond (ltb (pageOf (x - 1)) (p .pages)) n 0)) (owners (pageOf (x - 1)) l))
+        (λ l. let e : ltb (pageOf (x - 1)) (p .pages) ≡ false = le-ltb (pageOf (x - 1)) (p .pages) (omega arith) in
+        ap (λ (b : Bool). cond (eqb x 0) 0 (cond b (ownerOf p t′ (pageOf (x - 1))) 0)) e ∙ sym (ap (λ (b : Bool). cond (eqb x 0) 0 (cond b (ownerOf p t (pageOf (x - 1))) 0)) e))
 
     pub cross-alike : (q : ℕ) → (Slot p c t q → getD c′ q 0 ≡ getD c q 0) → crossTo p c′ t′ q ≡ crossTo p c t q
     cross-alike q word =
