@@ -116,27 +116,13 @@ startOf s n = sum (λ i. getD (arrays s) i 0) n
 abbrev pub Within : Area → Sizes → ℕ → Type 0
 Within a s j = (startOf s (number a) ≤ j) × (j < startOf s (number a + 1))
 
-starts : (s : Sizes) → (startOf s 3 ≡ ownersFrom s) × (startOf s 4 ≡ usedFrom s) × (startOf s 5 ≡ marksFrom s) × (startOf s 6 ≡ countsFrom s) × (startOf s 7 ≡ tablesWords s)
+-- which is where layout has them
+pub starts : (s : Sizes) → (startOf s 3 ≡ ownersFrom s) × (startOf s 4 ≡ usedFrom s) × (startOf s 5 ≡ marksFrom s) × (startOf s 6 ≡ countsFrom s) × (startOf s 7 ≡ tablesWords s)
 unfolding countsFrom marksFrom usedFrom ownersFrom
 starts s = omega (arith, count-room s)
 
-pub depth-in : (s : Sizes) (t : ℕ) → t < s .threads → Within depthWords s (depthAt t)
-depth-in s t l = omega arith
-
-pub var-in : (s : Sizes) (i : ℕ) → i < varCount s → Within variableWords s (varAt s i)
-var-in s i l = omega (arith, starts s)
-
-pub owner-in : (s : Sizes) (q : ℕ) → q < s .pages → Within ownerWords s (ownerAt s q)
-owner-in s q l = omega (arith, starts s)
-
-pub used-in : (s : Sizes) (q : ℕ) → q < s .pages → Within usedWords s (usedAt s q)
-used-in s q l = omega (arith, starts s)
-
 pub mark-in : (s : Sizes) (q : ℕ) → q < s .pages → Within markWords s (markAt s q)
 mark-in s q l = omega (arith, starts s)
-
-pub count-in : (s : Sizes) (g : ℕ) → 1 ≤ g → g ≤ regions s → Within countWords s (countAt s g)
-count-in s g l m = omega (arith, starts s)
 
 -- THE ARRAYS STAND APART
 pub arrays-apart : (s : Sizes) (a b : Area) (i j : ℕ) → among a (b ∷ []) ≡ false → Within a s i → Within b s j → i ≡ j → ⊥
@@ -157,12 +143,12 @@ module _ (s : Sizes) (w w′ : Words) (cs : List Area) (beyond : SameBeyond s w 
       same sizeWords n =
           let e : (j : ℕ) → j < 5 → getD (w′ .tables) j 0 ≡ getD (w .tables) j 0 = λ j l. kept sizeWords n j (omega arith) in
           (λ i. record { threads = e 0 (omega arith) i; variables = e 1 (omega arith) i; depth = e 2 (omega arith) i; pages = e 3 (omega arith) i; entries = e 4 (omega arith) i }, size)
-      same depthWords n = λ t l. kept depthWords n (depthAt t) (depth-in s t l)
-      same variableWords n = λ i l. kept variableWords n (varAt s i) (var-in s i l)
-      same ownerWords n = λ q l. kept ownerWords n (ownerAt s q) (owner-in s q l)
-      same usedWords n = λ q l. kept usedWords n (usedAt s q) (used-in s q l)
+      same depthWords n = λ t l. kept depthWords n (depthAt t) (omega arith)
+      same variableWords n = λ i l. kept variableWords n (varAt s i) (omega (arith, starts s))
+      same ownerWords n = λ q l. kept ownerWords n (ownerAt s q) (omega (arith, starts s))
+      same usedWords n = λ q l. kept usedWords n (usedAt s q) (omega (arith, starts s))
       same markWords n = λ q l. kept markWords n (markAt s q) (mark-in s q l)
-      same countWords n = λ g l m. kept countWords n (countAt s g) (count-in s g l m)
+      same countWords n = λ g l m. kept countWords n (countAt s g) (omega (arith, starts s))
       same headWords n = h n
       same workWords n = o n
       same fieldWords n = f n

@@ -2,6 +2,7 @@
 use Prim.Native.Nat.{ℕ, zero, suc, _+_, _-_, _<_}
 use native.Mathlib.Omega.{arith}
 use native.Mathlib.Decide.{ℕ-discrete}
+use mathlib.Core.Logic.{by-cases}
 use mathlib.Core.Path.{_≡_, refl, sym, ap, ap₂, subst, _∙_}
 use mathlib.Core.List.{List, [], _∷_}
 use mathlib.Core.Bool.{Bool, cond, not, _&&_, and-false}
@@ -40,18 +41,14 @@ cross-in-sum g x (v ∷ vs) = cross-cons g x v vs ∙ ap (λ (n : ℕ). crossRef
 
 -- the check's test of a crossing slot is that of the rules
 pub same-test : (o g : ℕ) → 0 < g → bit (ltb 0 (other o g)) ≡ cond (not (eqb o g) && not (eqb g 1)) 1 0
-same-test o g pos = go (ℕ-discrete g 1) (ℕ-discrete g o)
-  where
-    go : Dec (g ≡ 1) → Dec (g ≡ o) → bit (ltb 0 (other o g)) ≡ cond (not (eqb o g) && not (eqb g 1)) 1 0
-    go (yes e) d =
-        ap (λ (t : Bool). bit (ltb 0 (cond t 0 (cond (eqb g o) 0 g)))) (le-leb g 1 (omega arith))
-        ∙ sym (ap (λ (t : Bool). cond (not (eqb o g) && not t) 1 0) (eq-eqb g 1 e) ∙ ap (λ (t : Bool). cond t 1 0) (and-false (not (eqb o g))))
-    go (no n) (yes e) =
-        ap₂ (λ (t u : Bool). bit (ltb 0 (cond t 0 (cond u 0 g)))) (lt-leb g 1 (omega arith)) (eq-eqb g o e)
-        ∙ sym (ap (λ (t : Bool). cond (not t && not (eqb g 1)) 1 0) (eq-eqb o g (sym e)))
-    go (no n) (no m) =
-        ap₂ (λ (t u : Bool). bit (ltb 0 (cond t 0 (cond u 0 g)))) (lt-leb g 1 (omega arith)) (ne-eqb g o m)
-        ∙ ap bit (lt-ltb 0 g pos) ∙ sym (ap₂ (λ (t u : Bool). cond (not t && not u) 1 0) (ne-eqb o g (λ q. m (sym q))) (ne-eqb g 1 n))
+same-test o g pos =
+    by-cases (ℕ-discrete g 1)
+    (λ e. ap (λ (t : Bool). bit (ltb 0 (cond t 0 (cond (eqb g o) 0 g)))) (le-leb g 1 (omega arith))
+    ∙ sym (ap (λ (t : Bool). cond (not (eqb o g) && not t) 1 0) (eq-eqb g 1 e) ∙ ap (λ (t : Bool). cond t 1 0) (and-false (not (eqb o g)))))
+    (λ n. by-cases (ℕ-discrete g o)
+    (λ e. ap₂ (λ (t u : Bool). bit (ltb 0 (cond t 0 (cond u 0 g)))) (lt-leb g 1 (omega arith)) (eq-eqb g o e) ∙ sym (ap (λ (t : Bool). cond (not t && not (eqb g 1)) 1 0) (eq-eqb o g (sym e))))
+    (λ m. ap₂ (λ (t u : Bool). bit (ltb 0 (cond t 0 (cond u 0 g)))) (lt-leb g 1 (omega arith)) (ne-eqb g o m)
+    ∙ ap bit (lt-ltb 0 g pos) ∙ sym (ap₂ (λ (t u : Bool). cond (not t && not u) 1 0) (ne-eqb o g (λ q. m (sym q))) (ne-eqb g 1 n))))
 
 module _ (s : Sizes) (w : Words) (k : WholeFor s w) where
   module _ (c : ℕ) (u : BeginsIn s w c) where

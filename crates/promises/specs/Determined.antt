@@ -102,7 +102,11 @@ module _ (s : Sizes) (w w′ : Words) (h : Regioned) (to : ℕ → ℕ) (st : St
   head-as c u = head-determined (headIn w c) (headIn w′ c) (count-as Reference c u) (count-as Number c u)
 
   field-as : (c f : ℕ) → BeginsIn s w c → f < roomFor (headIn w c) → fieldOf (w .cells) c f ≡ fieldOf (w′ .cells) c f
-  field-as c f u l = go (decLt f (refCount w c)) (decLt f (refCount w c + numCount w c))
+  field-as c f u l =
+      by-cases (decLt f (refCount w c)) (λ a. of-kind Reference f a (omega (arith, first-reference (headIn w c))))
+      (λ a. by-cases (decLt f (refCount w c + numCount w c)) (λ b. of-kind Number (f - refCount w c) (omega arith) (omega (arith, first-number (headIn w c))))
+      (λ b. st .whole .objects c u .rest f l (omega arith)
+      ∙ sym (st′ .whole .objects c (used-as c u) .rest f (subst (λ (h : ℕ). f < roomFor h) same l) (subst (λ (h : ℕ). allFields h ≤ f) same (omega arith)))))
     where
       same : headIn w c ≡ headIn w′ c
       same = head-as c u
@@ -112,13 +116,6 @@ module _ (s : Sizes) (w w′ : Words) (h : Regioned) (to : ℕ → ℕ) (st : St
       of-kind d i m e =
           ap (fieldOf (w .cells) c) (sym e) ∙ sym (getD-fields d w c i m) ∙ ap (λ (vs : List ℕ). getD vs i 0) (fields-as d c u)
           ∙ getD-fields d w′ c i (subst (λ (n : ℕ). i < fieldCount d n) same m) ∙ ap (fieldOf (w′ .cells) c) (ap (λ (n : ℕ). firstField d n + i) (sym same) ∙ e)
-
-      go : Dec (f < refCount w c) → Dec (f < refCount w c + numCount w c) → fieldOf (w .cells) c f ≡ fieldOf (w′ .cells) c f
-      go (yes a) b = of-kind Reference f a (omega (arith, first-reference (headIn w c)))
-      go (no a) (yes b) = of-kind Number (f - refCount w c) (omega arith) (omega (arith, first-number (headIn w c)))
-      go (no a) (no b) =
-          st .whole .objects c u .rest f l (omega arith)
-          ∙ sym (st′ .whole .objects c (used-as c u) .rest f (subst (λ (h : ℕ). f < roomFor h) same l) (subst (λ (h : ℕ). allFields h ≤ f) same (omega arith)))
 
   word-as : (q : ℕ) → Used s w (cellOf q) → getD (w .cells) q 0 ≡ getD (w′ .cells) q 0
   word-as q u = go (spot s (w .cells) (w .tables) q u)

@@ -18,7 +18,7 @@ use Rattle.laws.specs.SameRules.{renamed}
 use Rattle.layout.specs.Places.{cellsWords, rememberWords}
 use Rattle.layout.specs.declared.Kind.{Kind}
 use Rattle.layout.specs.declared.Kind.the-variants.{Reference, Number}
-use Rattle.layout.specs.Cells.{headAt, headOf, workAt, workOf, fieldAt, fieldOf, fieldCount, firstField, allFields, roomFor, Formed, kind-among, fields-room}
+use Rattle.layout.specs.Cells.{headAt, headOf, workAt, fieldAt, fieldOf, fieldCount, firstField, allFields, roomFor, Formed, kind-among, fields-room}
 use Rattle.layout.specs.Objects.{field-inside, field-not-head, field-not-work, objects-apart}
 use Rattle.layout.specs.Words.{Words, BeginsIn, headIn, refCount, fieldsAt, fieldsIn}
 use Rattle.promises.specs.Whole.{WholeFor, IsRef, ObjectWhole, RememberWhole}
@@ -43,18 +43,13 @@ module _ (s : Sizes) (w : Words) (k : WholeFor s w) (y j v : ℕ) (u : BeginsIn 
   head-kept : (x : ℕ) → BeginsIn s w x → headOf C x ≡ headIn w x
   head-kept x i = past (w .cells) (fieldAt y j) v (headAt x) 0 (field-not-head s (w .cells) (w .tables) x i y u j few)
 
-  work-kept : (x : ℕ) → BeginsIn s w x → workOf C x ≡ workOf (w .cells) x
-  work-kept x i = past (w .cells) (fieldAt y j) v (workAt x) 0 (field-not-work s (w .cells) (w .tables) x i y u j few)
-
-  field-here : fieldOf C y j ≡ v
-  field-here = put (w .cells) (fieldAt y j) v 0 (omega (arith, field-room, k .sized .cells))
-
   field-kept : (x f : ℕ) → BeginsIn s w x → f < roomFor (headIn w x) → (x ≡ y → f ≡ j → ⊥) → fieldOf C x f ≡ fieldOf (w .cells) x f
   field-kept x f i l d = past (w .cells) (fieldAt y j) v (fieldAt x f) 0 (λ e. let a = objects-apart s (w .cells) (w .tables) x i y u j few f l e in d (a .0) (a .1))
 
   pub field-only : Only (fieldWords ∷ []) s w (withCells w C)
   field-only =
-      cells-only s w C (fieldWords ∷ []) (λ n. head-kept) (λ n. work-kept) (λ n. absurd (true-not-false (sym n)))
+      cells-only s w C (fieldWords ∷ []) (λ n. head-kept)
+      (λ n x i. past (w .cells) (fieldAt y j) v (workAt x) 0 (field-not-work s (w .cells) (w .tables) x i y u j few)) (λ n. absurd (true-not-false (sym n)))
       (record { long = length-set (w .cells) (fieldAt y j) v; rest = drop-set-lt (cellsWords s) (w .cells) (fieldAt y j) v field-room })
 
   -- ---- whole, with a remember table that follows
@@ -75,7 +70,7 @@ module _ (s : Sizes) (w : Words) (k : WholeFor s w) (y j v : ℕ) (u : BeginsIn 
               let r : f < roomFor (headIn w x) = subst (λ (h : ℕ). f < roomFor h) e l in
               field-kept x f i r (λ (a : x ≡ y) (b : f ≡ j). omega (arith, low, ap (λ (z : ℕ). allFields (headIn w z)) a)) ∙ o .rest f r n;
           references = λ f l. let n : f < refCount w x = subst (λ (h : ℕ). f < fieldCount Reference h) e l in ref-frame field-only refl refl _ (by-cases (ℕ-discrete x y)
-              (λ a. by-cases (ℕ-discrete f j) (λ b. subst (IsRef s (w .cells) (w .tables)) (sym (ap₂ (fieldOf C) a b ∙ field-here)) (ref (omega (arith, n, b, ap (refCount w) a)))) (λ b. other f n (λ p q. b q)))
+              (λ a. by-cases (ℕ-discrete f j) (λ b. subst (IsRef s (w .cells) (w .tables)) (sym (ap₂ (fieldOf C) a b ∙ put (w .cells) (fieldAt y j) v 0 (omega (arith, field-room, k .sized .cells)))) (ref (omega (arith, n, b, ap (refCount w) a)))) (λ b. other f n (λ p q. b q)))
               (λ a. other f n (λ p q. a p)));
         }
       where

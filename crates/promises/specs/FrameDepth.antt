@@ -17,7 +17,7 @@ use Rattle.layout.specs.Words.{Words, depthsAt, depthIn, depthsIn, ownerIn}
 use Rattle.promises.specs.Whole.{WholeFor, Open}
 use Rattle.promises.specs.StandsFor.{StandsFor}
 use Rattle.promises.specs.Changes.{withTables, withDepth}
-use Rattle.promises.specs.Areas.{depthWords, Only, depth-in, store-only}
+use Rattle.promises.specs.Areas.{depthWords, Only, store-only}
 use Rattle.promises.specs.Frames.{still-whole, pages-open, variables-frame, objects-frame, remember-frame, vars-same, home-same, stands-still}
 
 module _ (s : Sizes) (w : Words) (k : WholeFor s w) (t d : ℕ) (l : t < s .threads) where
@@ -28,7 +28,7 @@ module _ (s : Sizes) (w : Words) (k : WholeFor s w) (t d : ℕ) (l : t < s .thre
   low = omega (arith, count-room s, count-is s, owners-is s)
 
   pub depth-only : Only (depthWords ∷ []) s w (withTables w T)
-  depth-only = store-only s w depthWords (depthAt t) d (depth-in s t l) low
+  depth-only = store-only s w depthWords (depthAt t) d (omega arith) low
 
   here : depthOf T t ≡ d
   here = put (w .tables) (depthAt t) d 0 (omega (arith, low, k .sized .tables))

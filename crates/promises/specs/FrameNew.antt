@@ -17,7 +17,7 @@ use Rattle.rules.specs.declared.Sizes.{Sizes}
 use Rattle.rules.specs.NeverFreeing.{Object, noObject}
 use Rattle.rules.specs.Regions.{regions}
 use Rattle.rules.specs.Rules.{Regioned, graph}
-use Rattle.laws.specs.GraphLaws.{Alive}
+use Rattle.laws.specs.GraphLaws.{Alive, Closed}
 use Rattle.laws.specs.RulesLaws.{Sound}
 use Rattle.laws.specs.SameRules.{renamed, renamed-zeros}
 use Rattle.layout.specs.Places.{varAt, varCount}
@@ -137,12 +137,10 @@ module _ (s : Sizes) (w : Words) (h : Regioned) (to : ℕ → ℕ) (st : StandsF
 
   fields-new : (f : Kind) (m : ℕ) → fieldCount f (headWord b d) ≡ m → fieldsAt f c′ cell ≡ replicate m 0
   fields-new f m e =
+      let count : fieldCount f (headOf c′ cell) ≡ m = ap (fieldCount f) (blank .head) ∙ e in
       all-zero (fieldsAt f c′ cell) m (length-fields s w₁ k₁ f cell new-used ∙ count)
       (λ i l. let n : i < fieldCount f (headOf c′ cell) = omega (arith, count) in
       getD-fields f w₁ cell i n ∙ blank .fields (firstField f (headOf c′ cell) + i) (omega (arith, kind-among f (headOf c′ cell), fields-room (headOf c′ cell) (k₁ .objects cell new-used .head), ap roomFor (blank .head))))
-    where
-      count : fieldCount f (headOf c′ cell) ≡ m
-      count = ap (fieldCount f) (blank .head) ∙ e
 
   pub new-stands : Sound h₁ → StandsFor s w₁ h₁ to₁
   new-stands sound =
@@ -172,11 +170,6 @@ module _ (s : Sizes) (w : Words) (h : Regioned) (to : ℕ → ℕ) (st : StandsF
 
   pub made-stands : (i : ℕ) → i < varCount s → Sound (withVariable h₁ i (n + 1)) → StandsFor s (withTables w₁ (set t′ (varAt s i) (cell + 1))) (withVariable h₁ i (n + 1)) to₁
   made-stands i l sound =
-      variable-stands s w₁ h₁ to₁ (new-stands between) i (n + 1) (cell + 1) l (add-one cell ∙ ap suc (sym to-new) ∙ sym (ap (renamed to₁) (add-one n))) sound
-    where
-      between : Sound h₁
-      between =
-          record {
-            aligned = sound .aligned;
-            closed = record { below = sound .closed .below; vars = λ j x e. still x (st .sound .closed .vars j x e); refs = sound .closed .refs };
-          }
+      let between : Closed (graph h₁) = record { below = sound .closed .below; vars = λ j x e. still x (st .sound .closed .vars j x e); refs = sound .closed .refs } in
+      variable-stands s w₁ h₁ to₁ (new-stands (record { aligned = sound .aligned; closed = between })) i (n + 1) (cell + 1) l
+      (add-one cell ∙ ap suc (sym to-new) ∙ sym (ap (renamed to₁) (add-one n))) sound

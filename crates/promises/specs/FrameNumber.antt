@@ -48,13 +48,11 @@ module _ (s : Sizes) (w : Words) (k : WholeFor s w) (y b v : ℕ) (u : BeginsIn 
       let a = objects-apart s (w .cells) (w .tables) (o .object) (o .begins) y u j few (o .field) (o .room) (o .at ∙ e) in
       omega (arith, o .low, a .1, ap (refCount w) (a .0)))
 
-  numbers-cross : (q : ℕ) → crossTo s C (w .tables) q ≡ crossTo s (w .cells) (w .tables) q
-  numbers-cross q = cross-alike s (w .cells) (w .tables) C (w .tables) (λ page l. refl) (number-only .same headWords refl) (λ page l. refl) q (slot-is q)
-
   pub number-whole : WholeFor s (withCells w C)
   number-whole =
       field-whole s w k y j v u within (w .remember) refl (from-refl _ _) (λ l. absurd (let z : ⊥ = omega arith in z))
-      (exact-everywhere (crossTo s (w .cells) (w .tables)) (crossTo s C (w .tables)) (cellsWords s) (s .entries) (w .remember) (λ q l. numbers-cross q) (k .remember))
+      (exact-everywhere (crossTo s (w .cells) (w .tables)) (crossTo s C (w .tables)) (cellsWords s) (s .entries) (w .remember)
+      (λ q l. cross-alike s (w .cells) (w .tables) C (w .tables) (λ page l. refl) (number-only .same headWords refl) (λ page l. refl) q (slot-is q)) (k .remember))
 
 pub number-stands : (s : Sizes) (w : Words) (h : Regioned) (cellOf : ℕ → ℕ) → StandsFor s w h cellOf → (x : ℕ) → Alive (graph h) x → (b v : ℕ) → b < numCount w (cellOf x)
     → Sound (withObject h x (withField Number (getD (h .heap .objects) x noObject) b v))

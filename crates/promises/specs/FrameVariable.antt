@@ -19,7 +19,7 @@ use Rattle.promises.specs.Whole.{WholeFor, IsRef}
 use Rattle.promises.specs.StandsFor.{StandsFor}
 use Rattle.promises.specs.Reading.{length-vars, alive-used}
 use Rattle.promises.specs.Changes.{withTables, withVariable}
-use Rattle.promises.specs.Areas.{variableWords, Only, var-in, store-only}
+use Rattle.promises.specs.Areas.{variableWords, Only, store-only, starts}
 use Rattle.promises.specs.Frames.{still-whole, depths-frame, pages-frame, objects-frame, remember-frame, ref-frame, depths-same, home-same, stands-still}
 
 -- a reference to an object that is there leads to a cell in use
@@ -42,7 +42,7 @@ module _ (s : Sizes) (w : Words) (k : WholeFor s w) (i v : ℕ) (l : i < varCoun
   low = omega (arith, count-room s, count-is s, owners-is s)
 
   pub variable-only : Only (variableWords ∷ []) s w (withTables w t)
-  variable-only = store-only s w variableWords at v (var-in s i l) low
+  variable-only = store-only s w variableWords at v (omega (arith, starts s)) low
 
   pub variable-whole : IsRef s (w .cells) (w .tables) v → WholeFor s (withTables w t)
   variable-whole ref =

@@ -1,6 +1,7 @@
 -- Each condition of whole tables holds as it did where the areas that it reads are the same; and so do homes, depths, variables and fields.
 use Prim.Native.Nat.{ℕ, _+_, _<_}
 use native.Mathlib.Omega.{arith}
+use mathlib.Core.Logic.{by-cases}
 use mathlib.Core.Path.{_≡_, sym, ap, ap₂, subst, _∙_}
 use mathlib.Core.List.{List, map}
 use mathlib.Core.Bool.{Bool, false, cond}
@@ -17,7 +18,7 @@ use Rattle.layout.specs.declared.Kind.{Kind}
 use Rattle.layout.specs.declared.Kind.the-variants.{Reference}
 use Rattle.layout.specs.Places.{cellsWords, varCount, depthAt, varAt}
 use Rattle.layout.specs.Cells.{fieldAt, roomFor, allFields, refsOf, Formed, fieldCount, firstField, fields-room, kind-among, pageOf, cellNamed}
-use Rattle.layout.specs.Objects.{beginsAt, begins?, begins-page, begins-true, begins-false}
+use Rattle.layout.specs.Objects.{begins?, begins-page, begins-true, begins-false}
 use Rattle.layout.specs.Words.{Words, BeginsIn, headIn, ownerIn, homeIn, homeAt, depthsIn, depthsAt, varsIn, varsAt, fieldsIn, fieldsAt, refsIn, numsIn}
 use Rattle.remember.specs.Crossing.{crossTo}
 use Rattle.promises.specs.Whole.{Open, IsRef, Sized, DepthsWhole, PagesWhole, VariablesWhole, ObjectWhole, ObjectsWhole, MarksWhole, RememberWhole, WholeFor}
@@ -45,15 +46,12 @@ module _ {cs : List Area} {s : Sizes} {w w′ : Words} (o : Only cs s w w′) wh
 
   pub home-same : among ownerWords cs ≡ false → among usedWords cs ≡ false → among headWords cs ≡ false → (k : ℕ) → homeIn s w′ k ≡ homeIn s w k
   unfolding homeAt
-  home-same a u h k = go (begins? s (w .cells) (w .tables) k)
-    where
-      go : Dec (BeginsIn s w k) → cond (beginsAt s (w′ .cells) (w′ .tables) k) (ownerIn s w′ (pageOf k)) 0 ≡ cond (beginsAt s (w .cells) (w .tables) k) (ownerIn s w (pageOf k)) 0
-      go (yes b) =
-          ap₂ (λ (x : Bool) (r : ℕ). cond x r 0) (begins-true s (w′ .cells) (w′ .tables) k (begins-frame u h k b)) (o .same ownerWords a (pageOf k) (begins-page s (w .cells) (w .tables) k b))
-          ∙ sym (ap (λ (x : Bool). cond x (ownerIn s w (pageOf k)) 0) (begins-true s (w .cells) (w .tables) k b))
-      go (no n) =
-          ap (λ (x : Bool). cond x (ownerIn s w′ (pageOf k)) 0) (begins-false s (w′ .cells) (w′ .tables) k (λ b. n (begins-was u h k b)))
-          ∙ sym (ap (λ (x : Bool). cond x (ownerIn s w (pageOf k)) 0) (begins-false s (w .cells) (w .tables) k n))
+  home-same a u h k =
+      by-cases (begins? s (w .cells) (w .tables) k)
+      (λ b. ap₂ (λ (x : Bool) (r : ℕ). cond x r 0) (begins-true s (w′ .cells) (w′ .tables) k (begins-frame u h k b)) (o .same ownerWords a (pageOf k) (begins-page s (w .cells) (w .tables) k b))
+      ∙ sym (ap (λ (x : Bool). cond x (ownerIn s w (pageOf k)) 0) (begins-true s (w .cells) (w .tables) k b)))
+      (λ n. ap (λ (x : Bool). cond x (ownerIn s w′ (pageOf k)) 0) (begins-false s (w′ .cells) (w′ .tables) k (λ b. n (begins-was u h k b)))
+      ∙ sym (ap (λ (x : Bool). cond x (ownerIn s w (pageOf k)) 0) (begins-false s (w .cells) (w .tables) k n)))
 
   pub depths-same : among depthWords cs ≡ false → depthsIn s w′ ≡ depthsIn s w
   unfolding depthsAt

@@ -45,13 +45,8 @@ slot-stays {c′ = c′} o b e =
 -- ---- the same slots cross into the same regions
 
 module _ (p : Sizes) (c t c′ t′ : List ℕ) (q : ℕ) where
-  abbrev was : ℕ
-  was = crossesTo p t (cellOf q) (getD c q 0)
-
-  abbrev is : ℕ
-  is = crossesTo p t′ (cellOf q) (getD c′ q 0)
-
-  pub cross-same : (Slot p c t q → Slot p c′ t′ q × (is ≡ was)) → (Slot p c′ t′ q → Slot p c t q ⊎ (is ≡ 0)) → crossTo p c′ t′ q ≡ crossTo p c t q
+  pub cross-same : (Slot p c t q → Slot p c′ t′ q × (crossesTo p t′ (cellOf q) (getD c′ q 0) ≡ crossesTo p t (cellOf q) (getD c q 0)))
+      → (Slot p c′ t′ q → Slot p c t q ⊎ (crossesTo p t′ (cellOf q) (getD c′ q 0) ≡ 0)) → crossTo p c′ t′ q ≡ crossTo p c t q
   cross-same kept new =
       by-cases (slot? p c t q) (λ o. let k = kept o in slot-cross p c′ t′ q (k .0) ∙ k .1 ∙ sym (slot-cross p c t q o))
       (λ n. by-cases (slot? p c′ t′ q) (λ o. slot-cross p c′ t′ q o ∙ ⊎-elim (λ x. absurd (n x)) (λ z. z) (new o)) (no-cross p c′ t′ q) ∙ sym (no-cross p c t q n))

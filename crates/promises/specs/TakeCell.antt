@@ -16,7 +16,7 @@ use Rattle.layout.specs.Words.{Words, InUse}
 use Rattle.promises.specs.Whole.{Open, PageFilled, Partial, objectsOn, objectsOf, PagesWhole, WholeFor}
 use Rattle.promises.specs.Regular.{Regular, whole-regular, one, objects-yes, objects-no, SamePage, filled-same, partial-same, on-same}
 use Rattle.promises.specs.Changes.{withTables}
-use Rattle.promises.specs.Areas.{ownerWords, usedWords, countWords, Only, among-both, owner-in, used-in, count-in, arrays-apart, tables-only}
+use Rattle.promises.specs.Areas.{ownerWords, usedWords, countWords, Only, among-both, arrays-apart, tables-only, starts}
 use Rattle.promises.specs.Frames.{open-frame}
 
 -- the page is the region's, or it was free and the region had none that is partly filled
@@ -108,12 +108,10 @@ module _ {s : Sizes} {t : List ℕ} {g cell : ℕ} {t′ : List ℕ} (k : Took s
       (λ d. record { page = u .page; place = omega (arith, u .place, page-past (pageOf c) (u .page) d .used) })
 
   pub used-split : (c : ℕ) → InUse s t′ c → (c ≡ cell) ⊎ InUse s t c
-  used-split c u = go (ℕ-discrete (pageOf c) (pageOf cell)) (ℕ-discrete c cell)
-    where
-      go : Dec (pageOf c ≡ pageOf cell) → Dec (c ≡ cell) → (c ≡ cell) ⊎ InUse s t c
-      go a (yes e) = inl e
-      go (yes a) (no d) = inr (record { page = u .page; place = omega (arith, u .place, k .first, k .used, ap (usedOf s t) a, ap (usedOf s t′) a) })
-      go (no a) (no d) = inr (record { page = u .page; place = omega (arith, u .place, page-past (pageOf c) (u .page) a .used) })
+  used-split c u =
+      by-cases (ℕ-discrete c cell) inl (λ n. inr (by-cases (ℕ-discrete (pageOf c) (pageOf cell))
+      (λ e. record { page = u .page; place = omega (arith, u .place, k .first, k .used, ap (usedOf s t) e, ap (usedOf s t′) e) })
+      (λ d. record { page = u .page; place = omega (arith, u .place, page-past (pageOf c) (u .page) d .used) })))
 
 -- only owners, cells in use and counts change
 pub took-only : (s : Sizes) (w : Words) (g cell : ℕ) (t′ : List ℕ) → Took s (w .tables) g cell t′ → 1 ≤ g → g ≤ regions s → Only (ownerWords ∷ usedWords ∷ countWords ∷ []) s w (withTables w t′)
@@ -122,8 +120,8 @@ took-only s w g cell t′ k pos low =
     (λ a n j x.
     let m = among-both a (ownerWords ∷ []) (usedWords ∷ countWords ∷ []) n in
     let o = among-both a (usedWords ∷ []) (countWords ∷ []) (m .1) in
-    k .others j (arrays-apart s a ownerWords j _ (m .0) x (owner-in s (pageOf cell) (k .page))) (arrays-apart s a usedWords j _ (o .0) x (used-in s (pageOf cell) (k .page)))
-    (arrays-apart s a countWords j _ (o .1) x (count-in s g pos low)))
+    k .others j (arrays-apart s a ownerWords j _ (m .0) x (omega (arith, starts s, k .page))) (arrays-apart s a usedWords j _ (o .0) x (omega (arith, starts s, k .page)))
+    (arrays-apart s a countWords j _ (o .1) x (omega (arith, starts s))))
     (λ j l. k .others j (λ (e : j ≡ ownerAt s (pageOf cell)). omega (arith, k .page, count-room s, count-is s)) (λ (e : j ≡ usedAt s (pageOf cell)). omega (arith, k .page, count-room s, count-is s, used-is s))
     (λ (e : j ≡ countAt s g). omega (arith, count-room s)))
 
@@ -140,12 +138,14 @@ module _ {s : Sizes} {t : List ℕ} {g cell : ℕ} {t′ : List ℕ} (r : Regula
       (λ d. page-past k (pageOf c) (u .page) d .owner)
 
   module _ (pos : 1 ≤ g) where
-    took-filled : (page : ℕ) → page < s .pages → Dec (page ≡ pageOf cell) → PageFilled s t′ page
-    took-filled page l (yes e) =
+    took-filled : (page : ℕ) → page < s .pages → PageFilled s t′ page
+    took-filled page l =
+        by-cases (ℕ-discrete page (pageOf cell))
+        (λ e.
         let a : ownerOf s t′ page ≡ g = ap (ownerOf s t′) e ∙ k .owner in
         let b : usedOf s t′ page ≡ placeOf cell + 1 = ap (usedOf s t′) e ∙ k .used in
-        record { free = λ z. absurd (let q : ⊥ = omega arith in q); taken = λ z. omega arith; cells = omega arith }
-    took-filled page l (no d) = filled-same (page-past k page l d) (r .pages page l)
+        record { free = λ z. absurd (let q : ⊥ = omega arith in q); taken = λ z. omega arith; cells = omega arith })
+        (λ d. filled-same (page-past k page l d) (r .pages page l))
 
     -- a page of another region that is partly filled was; of the region, only the cell's page is
     was-partial : (q page : ℕ) → page < s .pages → (q ≡ g → ⊥) → Partial s t′ q page → Partial s t q page
@@ -157,10 +157,11 @@ module _ {s : Sizes} {t : List ℕ} {g cell : ℕ} {t′ : List ℕ} (r : Regula
         (λ d. let y = partial-same (page-past k page l d) x in
         ⊎-elim (λ o. one r pos l (k .page) y (record { owner = o; part = omega (arith, k .first) })) (λ o. absurd (o .1 page l y)) (k .source))
 
-    took-partial : (q : ℕ) → 1 ≤ q → (a b : ℕ) → a < b → b < s .pages → Partial s t′ q a → Partial s t′ q b → Dec (q ≡ g) → ⊥
-    took-partial q z a b l h x y (yes e) =
-        omega (arith, alone a (omega arith) (subst (λ (i : ℕ). Partial s t′ i a) e x), alone b h (subst (λ (i : ℕ). Partial s t′ i b) e y))
-    took-partial q z a b l h x y (no n) = r .partial q z a b l h (was-partial q a (omega arith) n x) (was-partial q b h n y)
+    took-partial : (q : ℕ) → 1 ≤ q → (a b : ℕ) → a < b → b < s .pages → Partial s t′ q a → Partial s t′ q b → ⊥
+    took-partial q z a b l h x y =
+        by-cases (ℕ-discrete q g)
+        (λ e. omega (arith, alone a (omega arith) (subst (λ (i : ℕ). Partial s t′ i a) e x), alone b h (subst (λ (i : ℕ). Partial s t′ i b) e y)))
+        (λ n. r .partial q z a b l h (was-partial q a (omega arith) n x) (was-partial q b h n y))
 
     -- the objects on the cell's page
     on-page : Source s t g (pageOf cell) → objectsOn s t′ g (pageOf cell) ≡ objectsOn s t g (pageOf cell) + 1
@@ -193,15 +194,12 @@ module _ {s : Sizes} {t : List ℕ} {g cell : ℕ} {t′ : List ℕ} (r : Regula
     pub took-regular : Regular s t′
     took-regular =
         record {
-          pages = λ page l. took-filled page l (ℕ-discrete page (pageOf cell));
-          partial = λ q z a b l h x y. took-partial q z a b l h x y (ℕ-discrete q g);
-          counts = λ q z l. counts q z l (ℕ-discrete q g);
+          pages = took-filled;
+          partial = took-partial;
+          counts = λ q z l. by-cases (ℕ-discrete q g)
+              (λ e. subst (λ (i : ℕ). countOf s t′ i ≡ objectsOf s t′ i) (sym e) (omega (arith, k .count, r .counts g pos (omega arith), took-objects)))
+              (λ n. count-past k q z pos n ∙ r .counts q z l ∙ sym (took-objects-other q z n));
         }
-      where
-        counts : (q : ℕ) → 1 ≤ q → q ≤ regions s → Dec (q ≡ g) → countOf s t′ q ≡ objectsOf s t′ q
-        counts q z l (yes e) =
-            subst (λ (i : ℕ). countOf s t′ i ≡ objectsOf s t′ i) (sym e) (omega (arith, k .count, r .counts g pos (omega arith), took-objects))
-        counts q z l (no n) = count-past k q z pos n ∙ r .counts q z l ∙ sym (took-objects-other q z n)
 
 -- and pages are whole, where the region is open
 pub took-pages : {s : Sizes} {w : Words} {g cell : ℕ} {t′ : List ℕ} → WholeFor s w → Took s (w .tables) g cell t′ → 1 ≤ g → g ≤ regions s → (1 < g → Open s (w .tables) g)
