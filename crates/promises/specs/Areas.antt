@@ -17,6 +17,7 @@ use Rattle.rules.specs.Regions.{regions}
 use Rattle.layout.specs.Places.{varCount, cellsWords, rememberWords, tablesWords, depthAt, varAt, varOf, ownersFrom, ownerAt, usedFrom, usedAt, marksFrom, markAt, markOf, countsFrom, countAt, countOf, count-room}
 use Rattle.layout.specs.Cells.{workOf, fieldOf, roomFor}
 use Rattle.layout.specs.Words.{Words, BeginsIn, sizesIn, depthIn, ownerIn, usedIn, headIn}
+use Rattle.remember.specs.Entries.{Edited}
 use Rattle.promises.specs.StandsFor.{SameFrom, SameBeyond}
 use Rattle.promises.specs.Changes.{withTables, withCells}
 
@@ -175,8 +176,8 @@ cells-only s w c′ cs h o f b =
     areas-only s w (withCells w c′) cs (record { cells = b; remember = from-refl _ _; tables = from-refl _ _ }) (λ a n j x. refl) refl h o f (λ n. refl)
 
 -- another remember table, of as many entries
-pub entries-only : (s : Sizes) (w : Words) (m′ : List ℕ) → getD m′ 0 0 ≡ getD (w .remember) 0 0 → SameFrom (rememberWords s) (w .remember) m′
-    → Only (entryWords ∷ []) s w (record { cells = w .cells; remember = m′; tables = w .tables })
-entries-only s w m′ e b =
-    areas-only s w (record { cells = w .cells; remember = m′; tables = w .tables }) (entryWords ∷ []) (record { cells = from-refl _ _; remember = b; tables = from-refl _ _ }) (λ a n j x. refl)
-    e (λ n k u. refl) (λ n k u. refl) (λ n k u f l. refl) (λ n. absurd (true-not-false (sym n)))
+pub entries-only : (s : Sizes) (w : Words) (m′ : List ℕ) → Edited (s .entries) (w .remember) m′ → Only (entryWords ∷ []) s w (record { cells = w .cells; remember = m′; tables = w .tables })
+entries-only s w m′ e =
+    areas-only s w (record { cells = w .cells; remember = m′; tables = w .tables }) (entryWords ∷ [])
+    (record { cells = from-refl _ _; remember = record { long = e .long; rest = drop-same (rememberWords s) (w .remember) m′ (e .long) (e .spare) }; tables = from-refl _ _ }) (λ a n j x. refl)
+    (e .size) (λ n k u. refl) (λ n k u. refl) (λ n k u f l. refl) (λ n. absurd (true-not-false (sym n)))

@@ -1,9 +1,9 @@
 -- The remember table has as many entries as the rules count crossing slots.
-use Prim.Native.Nat.{ℕ, zero, suc, _+_, _-_, _<_}
+use Prim.Native.Nat.{ℕ, zero, suc, _+_, _<_}
 use native.Mathlib.Omega.{arith}
 use native.Mathlib.Decide.{ℕ-discrete}
 use mathlib.Core.Logic.{by-cases}
-use mathlib.Core.Path.{_≡_, refl, sym, ap, ap₂, subst, _∙_}
+use mathlib.Core.Path.{_≡_, refl, sym, ap, ap₂, _∙_}
 use mathlib.Core.List.{List, [], _∷_}
 use mathlib.Core.Bool.{Bool, cond, not, _&&_, and-false}
 use lib.ListN.{length, getD}
@@ -17,8 +17,8 @@ use Rattle.rules.specs.Rules.{Regioned, graph}
 use Rattle.laws.specs.Counts.{crossIn, crossAt, crossing-sum, crossRef, cross-cons}
 use Rattle.layout.specs.Places as lp
 use Rattle.layout.specs.Cells.{fieldAt, fieldOf, roomFor, pageOf}
-use Rattle.layout.specs.Objects.{cellCount, beginsAt, begins?, begins-page, begins-true, begins-false, field-on, field-slot, slotsOf, slots-sum}
-use Rattle.layout.specs.Words.{Words, BeginsIn, ownerIn, headIn, refCount, refsIn, homeIn, homeAt, graphOf}
+use Rattle.layout.specs.Objects.{cellCount, begins?, begins-page, begins-true, begins-false, field-on, field-slot, slotsOf, slots-sum}
+use Rattle.layout.specs.Words.{Words, BeginsIn, ownerIn, headIn, refCount, refsIn, homeIn, graphOf}
 use Rattle.remember.specs.Crossing as cr
 use Rattle.remember.specs.Crossing.{other, regionOf}
 use Rattle.remember.specs.Crosses.{slot-cross, no-cross}
@@ -26,7 +26,7 @@ use Rattle.promises.specs.Whole.{WholeFor, IsRef}
 use Rattle.promises.specs.StandsFor.{StandsFor}
 use Rattle.promises.specs.Slots.{region-of}
 use Rattle.remember.specs.Counted.{every-counted}
-use Rattle.promises.specs.Reading.{used-home, used-owned, used-alive, length-refs, getD-refs, refs-room}
+use Rattle.promises.specs.Reading.{used-home, used-owned, used-alive, length-refs, getD-refs, refs-room, no-home, ref-begins}
 use Rattle.promises.specs.Agreed.{crossing-agree}
 
 sum-head : (f : ℕ → ℕ) (n : ℕ) → sum f (suc n) ≡ f 0 + sum (λ i. f (suc i)) n
@@ -55,8 +55,7 @@ module _ (s : Sizes) (w : Words) (k : WholeFor s w) where
     pub ref-test : (v : ℕ) → IsRef s (w .cells) (w .tables) v → bit (ltb 0 (other (ownerIn s w (pageOf c)) (regionOf s (w .tables) v))) ≡ crossRef (graphOf s w) c v
     ref-test zero f = refl
     ref-test (suc y) f =
-        let y′ : suc y - 1 ≡ y = omega arith in
-        let v : BeginsIn s w y = subst (BeginsIn s w) y′ (f (omega arith)) in
+        let v : BeginsIn s w y = ref-begins s w y f in
         let o = ownerIn s w (pageOf c) in
         let g = ownerIn s w (pageOf y) in
         let pos : g ≡ 0 → ⊥ = used-owned s w k y v in
@@ -72,20 +71,17 @@ module _ (s : Sizes) (w : Words) (k : WholeFor s w) where
 
   -- what the words of an object count
   object-cross : (c : ℕ) → slotsOf s (w .cells) (w .tables) (λ q. bit (cr.crossing s (w .cells) (w .tables) q)) c ≡ crossAt (graphOf s w) c
-  unfolding crossAt homeAt
-  object-cross c = go (begins? s (w .cells) (w .tables) c)
+  unfolding crossAt
+  object-cross c =
+      by-cases (begins? s (w .cells) (w .tables) c)
+      (λ u. ap (λ (b : Bool). cond b x 0) (begins-true s (w .cells) (w .tables) c u) ∙ sum-same _ _ (refCount w c) (at-ref c u)
+      ∙ sym (ap (sum (λ i. crossRef (graphOf s w) c (getD (refsIn w c) i 0))) (length-refs s w k c u)) ∙ sym (cross-in-sum (graphOf s w) c (refsIn w c))
+      ∙ sym (ap (λ (b : Bool). cond b 0 (crossIn (graphOf s w) c (refsIn w c))) (ne-eqb (homeIn s w c) 0 (used-alive s w k c u))))
+      (λ n. ap (λ (b : Bool). cond b x 0) (begins-false s (w .cells) (w .tables) c n)
+      ∙ sym (ap (λ (h : ℕ). cond (eqb h 0) 0 (crossIn (graphOf s w) c (refsIn w c))) (no-home s w k c n)))
     where
       x : ℕ
       x = sum (λ f. bit (cr.crossing s (w .cells) (w .tables) (fieldAt c f))) (refCount w c)
-
-      go : Dec (BeginsIn s w c) → cond (beginsAt s (w .cells) (w .tables) c) x 0 ≡ cond (eqb (homeIn s w c) 0) 0 (crossIn (graphOf s w) c (refsIn w c))
-      go (no n) =
-          let e = begins-false s (w .cells) (w .tables) c n in
-          ap (λ (b : Bool). cond b x 0) e ∙ sym (ap (λ (b : Bool). cond (eqb (cond b (ownerIn s w (pageOf c)) 0) 0) 0 (crossIn (graphOf s w) c (refsIn w c))) e)
-      go (yes u) =
-          ap (λ (b : Bool). cond b x 0) (begins-true s (w .cells) (w .tables) c u) ∙ sum-same _ _ (refCount w c) (at-ref c u)
-          ∙ sym (ap (sum (λ i. crossRef (graphOf s w) c (getD (refsIn w c) i 0))) (length-refs s w k c u)) ∙ sym (cross-in-sum (graphOf s w) c (refsIn w c))
-          ∙ sym (ap (λ (b : Bool). cond b 0 (crossIn (graphOf s w) c (refsIn w c))) (ne-eqb (homeIn s w c) 0 (used-alive s w k c u)))
 
   -- the number of entries used is the rules' count of crossing slots
   pub entries-crossing : lp.usedIn (w .remember) ≡ crossing (graphOf s w)

@@ -4,25 +4,22 @@ use Prim.Native.Nat.{ℕ, zero, suc, _+_, _-_, _*_, _≤_, _<_}
 use native.Mathlib.Omega.{arith}
 use native.Mathlib.Decide.{decLt}
 use mathlib.Core.Logic.{by-cases}
-use mathlib.Core.Path.{_≡_, sym, ap, ap₂, subst, _∙_}
+use mathlib.Core.Path.{_≡_, sym, ap, subst, _∙_}
 use mathlib.Core.List.{List}
-use mathlib.Core.Bool.{cond}
 use lib.ListN.{length, getD}
-use lib.Dec.{eqb}
-use Rattle.lists.specs.Counting.{sum-same}
 use Rattle.rules.specs.declared.Sizes.{Sizes}
 use Rattle.rules.specs.Regions.{regions}
 use Rattle.rules.specs.Rules.{Regioned, graph}
 use Rattle.laws.specs.GraphLaws.{Alive}
 use Rattle.layout.specs.Places as lp
-use Rattle.layout.specs.Places.{tablesWords, ownersFrom, depthAt, varAt, varOf, markOf, countOf, slotIn, slotRegionIn, count-room, count-is, mark-is, used-is, owners-is, varCount}
+use Rattle.layout.specs.Places.{tablesWords, ownersFrom, varOf, markOf, countOf, slotIn, slotRegionIn, count-room, count-is, mark-is, used-is, owners-is, varCount, depthAt, varAt}
 use Rattle.layout.specs.declared.Kind.{Kind}
 use Rattle.layout.specs.declared.Kind.the-variants.{Reference, Number}
-use Rattle.layout.specs.Cells.{headAt, workAt, fieldOf, fieldAt, fieldCount, firstField, first-reference, first-number, head-determined, allFields, roomFor, pageCells, pageOf, page-on, place-on, cellOn, cellOf}
+use Rattle.layout.specs.Cells.{fieldOf, fieldCount, firstField, first-reference, first-number, head-determined, allFields, roomFor, pageCells, pageOf, page-on, place-on, cellOn, cellOf, headAt, workAt, fieldAt}
 use Rattle.layout.specs.Objects.{begins-used, begins-there, Spot, head, work, field, spot, slot-word}
 use Rattle.layout.specs.Words.{Words, Used, BeginsIn, sizesIn, depthIn, ownerIn, usedIn, headIn, refCount, numCount, fieldsIn, homeIn}
 use Rattle.remember.specs.Crossing.{crossTo}
-use Rattle.promises.specs.Whole.{objectsOf}
+use Rattle.promises.specs.Regular.{objects-same}
 use Rattle.promises.specs.StandsFor.{StandsFor}
 use Rattle.promises.specs.Reading.{used-alive, alive-used, used-home, length-fields, getD-fields, getD-vars, depth-at}
 use Rattle.promises.specs.Crossings.{heap-entries}
@@ -56,6 +53,10 @@ pub record SameButOpen (s : Sizes) (w w′ : Words) : Type 0 where
   pub named : (i : ℕ) → i < lp.usedIn (w .remember) → SameEntry s w w′ i
   pub unused : (i : ℕ) → lp.usedIn (w .remember) ≤ i → i < s .entries
       → (slotIn (w .remember) i ≡ slotIn (w′ .remember) i) × (slotRegionIn (s .entries) (w .remember) i ≡ slotRegionIn (s .entries) (w′ .remember) i)
+
+-- a word, once its place is known
+at-place : (l k : List ℕ) (j i : ℕ) → i ≡ j → getD l i 0 ≡ getD k i 0 → getD l j 0 ≡ getD k j 0
+at-place l k j i = subst (λ (n : ℕ). getD l n 0 ≡ getD k n 0)
 
 -- ---- one half: what the first has, the second has
 
@@ -120,13 +121,10 @@ module _ (s : Sizes) (w w′ : Words) (h : Regioned) (to : ℕ → ℕ) (st : St
   word-as : (q : ℕ) → Used s w (cellOf q) → getD (w .cells) q 0 ≡ getD (w′ .cells) q 0
   word-as q u = go (spot s (w .cells) (w .tables) q u)
     where
-      at : (i : ℕ) → q ≡ i → getD (w .cells) i 0 ≡ getD (w′ .cells) i 0 → getD (w .cells) q 0 ≡ getD (w′ .cells) q 0
-      at i e = subst (λ (n : ℕ). getD (w .cells) n 0 ≡ getD (w′ .cells) n 0) (sym e)
-
       go : Spot s (w .cells) (w .tables) q → getD (w .cells) q 0 ≡ getD (w′ .cells) q 0
-      go (head k b e) = at (headAt k) e (head-as k b)
-      go (work k b e) = at (workAt k) e (st .whole .works k b ∙ sym (st′ .whole .works k (used-as k b)))
-      go (field k f b l e) = at (fieldAt k f) e (field-as k f b l)
+      go (head k b e) = at-place (w .cells) (w′ .cells) q (headAt k) (sym e) (head-as k b)
+      go (work k b e) = at-place (w .cells) (w′ .cells) q (workAt k) (sym e) (st .whole .works k b ∙ sym (st′ .whole .works k (used-as k b)))
+      go (field k f b l e) = at-place (w .cells) (w′ .cells) q (fieldAt k f) (sym e) (field-as k f b l)
 
 -- ---- both halves
 
@@ -138,9 +136,6 @@ module _ (s : Sizes) (w w′ : Words) (h : Regioned) (to : ℕ → ℕ) (st : St
   owner-same page l =
       by-cases (decLt 0 (ownerIn s w page)) (owner-as s w w′ h to st st′ page l)
       (λ n. by-cases (decLt 0 (ownerIn s w′ page)) (λ p. sym (owner-as s w′ w h to st′ st page l p)) (λ m. omega arith))
-
-  objects-same : (g : ℕ) → objectsOf s (w .tables) g ≡ objectsOf s (w′ .tables) g
-  objects-same g = sum-same _ _ (s .pages) (λ page l. ap₂ (λ (o n : ℕ). cond (eqb o g) n 0) (owner-same page l) (used-same page l))
 
   cross-as : (q : ℕ) → crossTo s (w′ .cells) (w′ .tables) q ≡ crossTo s (w .cells) (w .tables) q
   cross-as q =
@@ -173,7 +168,7 @@ module _ (s : Sizes) (w w′ : Words) (h : Regioned) (to : ℕ → ℕ) (st : St
         owners = owner-same;
         used = used-same;
         marks = λ page l. st .whole .marks page l ∙ sym (st′ .whole .marks page l);
-        counts = λ g a b. st .whole .counts g a b ∙ objects-same g ∙ sym (st′ .whole .counts g a b);
+        counts = λ g a b. st .whole .counts g a b ∙ sym (st′ .whole .counts g a b ∙ objects-same {t = w .tables} {t′ = w′ .tables} (λ page l. record { owner = sym (owner-same page l); used = sym (used-same page l) }) g);
         objects = used-as s w w′ h to st st′;
         inUse = λ c u. record { page = u .page; place = omega (arith, u .place, used-same (pageOf c) (u .page)) };
         cells = word-as s w w′ h to st st′;
@@ -196,24 +191,20 @@ module _ (s : Sizes) (w w′ : Words) (e : SameButOpen s w w′) where
   first-five (suc (suc (suc (suc zero)))) l = ap (λ (z : Sizes). z .entries) (e .sizes)
   first-five (suc (suc (suc (suc (suc j))))) l = absurd (let z : ⊥ = omega arith in z)
 
-  -- the word at j, once its place in an array is known
-  at-place : (j i : ℕ) → i ≡ j → getD (w .tables) i 0 ≡ getD (w′ .tables) i 0 → getD (w .tables) j 0 ≡ getD (w′ .tables) j 0
-  at-place j i q = subst (λ (n : ℕ). getD (w .tables) n 0 ≡ getD (w′ .tables) n 0) q
-
   pub tables-determined : (j : ℕ) → j < tablesWords s → getD (w .tables) j 0 ≡ getD (w′ .tables) j 0
   tables-determined j l = go (decLt j 5) (decLt j (5 + s .threads)) (decLt j (ownersFrom s)) (decLt j (ownersFrom s + s .pages)) (decLt j (ownersFrom s + 2 * s .pages)) (decLt j (ownersFrom s + 3 * s .pages))
     where
       go : Dec (j < 5) → Dec (j < 5 + s .threads) → Dec (j < ownersFrom s) → Dec (j < ownersFrom s + s .pages) → Dec (j < ownersFrom s + 2 * s .pages) → Dec (j < ownersFrom s + 3 * s .pages)
           → getD (w .tables) j 0 ≡ getD (w′ .tables) j 0
       go (yes a) b c d f g = first-five j a
-      go (no a) (yes b) c d f g = at-place j (depthAt (j - 5)) (omega arith) (e .depths (j - 5) (omega arith))
+      go (no a) (yes b) c d f g = at-place (w .tables) (w′ .tables) j (depthAt (j - 5)) (omega arith) (e .depths (j - 5) (omega arith))
       go (no a) (no b) (yes c) d f g =
-          at-place j (varAt s (j - (5 + s .threads))) (omega arith) (e .variables (j - (5 + s .threads)) (omega (arith, owners-is s)))
-      go (no a) (no b) (no c) (yes d) f g = at-place j (lp.ownerAt s (j - ownersFrom s)) (omega arith) (e .owners (j - ownersFrom s) (omega arith))
+          at-place (w .tables) (w′ .tables) j (varAt s (j - (5 + s .threads))) (omega arith) (e .variables (j - (5 + s .threads)) (omega (arith, owners-is s)))
+      go (no a) (no b) (no c) (yes d) f g = at-place (w .tables) (w′ .tables) j (lp.ownerAt s (j - ownersFrom s)) (omega arith) (e .owners (j - ownersFrom s) (omega arith))
       go (no a) (no b) (no c) (no d) (yes f) g =
-          at-place j (lp.usedAt s (j - (ownersFrom s + s .pages))) (omega (arith, used-is s)) (e .used (j - (ownersFrom s + s .pages)) (omega arith))
+          at-place (w .tables) (w′ .tables) j (lp.usedAt s (j - (ownersFrom s + s .pages))) (omega (arith, used-is s)) (e .used (j - (ownersFrom s + s .pages)) (omega arith))
       go (no a) (no b) (no c) (no d) (no f) (yes g) =
-          at-place j (lp.markAt s (j - (ownersFrom s + 2 * s .pages))) (omega (arith, mark-is s)) (e .marks (j - (ownersFrom s + 2 * s .pages)) (omega arith))
+          at-place (w .tables) (w′ .tables) j (lp.markAt s (j - (ownersFrom s + 2 * s .pages))) (omega (arith, mark-is s)) (e .marks (j - (ownersFrom s + 2 * s .pages)) (omega arith))
       go (no a) (no b) (no c) (no d) (no f) (no g) =
-          at-place j (lp.countAt s (j - (ownersFrom s + 3 * s .pages) + 1)) (omega (arith, count-is s))
+          at-place (w .tables) (w′ .tables) j (lp.countAt s (j - (ownersFrom s + 3 * s .pages) + 1)) (omega (arith, count-is s))
           (e .counts (j - (ownersFrom s + 3 * s .pages) + 1) (omega arith) (omega (arith, count-room s, count-is s)))

@@ -15,14 +15,15 @@ use Rattle.rules.specs.Rules.{Regioned, graph}
 use Rattle.laws.specs.GraphLaws.{Alive}
 use Rattle.laws.specs.RulesLaws.{Sound}
 use Rattle.laws.specs.SameRules.{renamed}
-use Rattle.layout.specs.Places.{cellsWords, rememberWords}
+use Rattle.layout.specs.Places.{cellsWords}
 use Rattle.layout.specs.declared.Kind.{Kind}
 use Rattle.layout.specs.declared.Kind.the-variants.{Reference, Number}
 use Rattle.layout.specs.Cells.{headAt, headOf, workAt, fieldAt, fieldOf, fieldCount, firstField, allFields, roomFor, Formed, kind-among, fields-room}
 use Rattle.layout.specs.Objects.{field-inside, field-not-head, field-not-work, objects-apart}
 use Rattle.layout.specs.Words.{Words, BeginsIn, headIn, refCount, fieldsAt, fieldsIn}
+use Rattle.remember.specs.Entries.{Edited}
 use Rattle.promises.specs.Whole.{WholeFor, IsRef, ObjectWhole, RememberWhole}
-use Rattle.promises.specs.StandsFor.{StandsFor, SameFrom}
+use Rattle.promises.specs.StandsFor.{StandsFor}
 use Rattle.promises.specs.Agreed.{cell-used}
 use Rattle.promises.specs.Changes.{withCells, withObject}
 use Rattle.promises.specs.Areas.{fieldWords, entryWords, Only, only-trans, cells-only, entries-only}
@@ -54,12 +55,12 @@ module _ (s : Sizes) (w : Words) (k : WholeFor s w) (y j v : ℕ) (u : BeginsIn 
 
   -- ---- whole, with a remember table that follows
 
-  module _ (m′ : List ℕ) (size : getD m′ 0 0 ≡ getD (w .remember) 0 0) (past′ : SameFrom (rememberWords s) (w .remember) m′) where
+  module _ (m′ : List ℕ) (edited : Edited (s .entries) (w .remember) m′) where
     abbrev w′ : Words
     w′ = record { cells = C; remember = m′; tables = w .tables }
 
     pub stored-only : Only (fieldWords ∷ entryWords ∷ []) s w w′
-    stored-only = only-trans field-only (entries-only s (withCells w C) m′ size past′) (objects-stay field-only refl refl)
+    stored-only = only-trans field-only (entries-only s (withCells w C) m′ edited) (objects-stay field-only refl refl)
 
     objects : (j < refCount w y → IsRef s (w .cells) (w .tables) v) → (x : ℕ) → BeginsIn s w x → ObjectWhole s C (w .tables) x
     objects ref x i =

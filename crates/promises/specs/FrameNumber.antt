@@ -20,7 +20,7 @@ use Rattle.promises.specs.Whole.{WholeFor}
 use Rattle.promises.specs.StandsFor.{StandsFor}
 use Rattle.promises.specs.Reading.{alive-used}
 use Rattle.promises.specs.Changes.{withCells, withObject, withField}
-use Rattle.promises.specs.Areas.{headWords, fieldWords, Only, from-refl}
+use Rattle.promises.specs.Areas.{headWords, fieldWords, Only}
 use Rattle.remember.specs.Entries.{exact-everywhere}
 use Rattle.promises.specs.Slots.{cross-alike}
 use Rattle.promises.specs.FieldStore.{field-only, field-whole, object-stands, fields-kept, fields-set}
@@ -50,7 +50,7 @@ module _ (s : Sizes) (w : Words) (k : WholeFor s w) (y b v : ℕ) (u : BeginsIn 
 
   pub number-whole : WholeFor s (withCells w C)
   number-whole =
-      field-whole s w k y j v u within (w .remember) refl (from-refl _ _) (λ l. absurd (let z : ⊥ = omega arith in z))
+      field-whole s w k y j v u within (w .remember) (record { long = refl; size = refl; spare = λ q l. refl }) (λ l. absurd (let z : ⊥ = omega arith in z))
       (exact-everywhere (crossTo s (w .cells) (w .tables)) (crossTo s C (w .tables)) (cellsWords s) (s .entries) (w .remember)
       (λ q l. cross-alike s (w .cells) (w .tables) C (w .tables) (λ page l. refl) (number-only .same headWords refl) (λ page l. refl) q (slot-is q)) (k .remember))
 

@@ -9,7 +9,7 @@ use lib.Dec.{ltb, eqb}
 use borrow.Author.Tests.{lt-ltb, le-ltb}
 use Rattle.lists.specs.Counting.{bit}
 use Rattle.lists.specs.Members.{getD-in}
-use Rattle.lists.specs.Stores.{put, drop-same, map-set}
+use Rattle.lists.specs.Stores.{put, map-set}
 use Rattle.rules.specs.declared.Sizes.{Sizes}
 use Rattle.rules.specs.NeverFreeing.{Object, noObject}
 use Rattle.rules.specs.Graph.{crossing}
@@ -21,14 +21,15 @@ use Rattle.laws.specs.Counts.{crossRef, crossing-stored}
 use Rattle.laws.specs.AfterLaws.{graph-stored}
 use Rattle.layout.specs.declared.Kind.the-variants.{Reference, Number}
 use Rattle.layout.specs.Places as lp
-use Rattle.layout.specs.Places.{cellsWords, rememberWords}
+use Rattle.layout.specs.Places.{cellsWords}
 use Rattle.layout.specs.Cells.{fieldAt, fieldOf, allFields, roomFor, firstField, first-reference, first-number, kind-among, fields-room}
 use Rattle.layout.specs.Objects.{field-on, Slot, field-slot}
 use Rattle.layout.specs.Words.{Words, BeginsIn, headIn, ownerIn, refCount}
 use Rattle.remember.specs.Crossing.{other, regionOf, crossTo}
 use Rattle.promises.specs.Whole.{WholeFor, IsRef}
-use Rattle.promises.specs.StandsFor.{StandsFor, SameFrom}
-use Rattle.promises.specs.Reading.{alive-used, length-refs, getD-refs}
+use Rattle.promises.specs.StandsFor.{StandsFor}
+use Rattle.promises.specs.Agreed.{cell-used}
+use Rattle.promises.specs.Reading.{length-refs, getD-refs}
 use Rattle.promises.specs.Crossings.{ref-test, heap-entries}
 use Rattle.promises.specs.Changes.{withObject, withField}
 use Rattle.promises.specs.Areas.{fieldWords, entryWords, Only}
@@ -89,15 +90,12 @@ module _ (s : Sizes) (w : Words) (k : WholeFor s w) (y f v : ℕ) (u : BeginsIn 
     edited : Edited (s .entries) (w .remember) m′
     edited = remembered-edited (s .entries) (w .remember) at _ _ m′ r (k .sized .remember) (k .remember .entries .room) d
 
-    spare : SameFrom (rememberWords s) (w .remember) m′
-    spare = record { long = edited .long; rest = drop-same (rememberWords s) (w .remember) m′ (edited .long) (edited .spare) }
-
     pub reference-only : Only (fieldWords ∷ entryWords ∷ []) s w (storedWords s w y f v m′)
-    reference-only = stored-only s w k y f v u within m′ (edited .size) spare
+    reference-only = stored-only s w k y f v u within m′ edited
 
     pub reference-whole : IsRef s (w .cells) (w .tables) v → r ≡ 0 → WholeFor s (storedWords s w y f v m′)
     reference-whole ref z =
-        field-whole s w k y f v u within m′ (edited .size) spare (λ l. ref)
+        field-whole s w k y f v u within m′ edited (λ l. ref)
         (remembered-exact (crossTo s (w .cells) (w .tables)) (crossTo s (set (w .cells) at v) (w .tables)) (cellsWords s) (s .entries) (w .remember) m′
         (k .sized .remember) (k .remember) at _ _ r room
         (cross-elsewhere s (w .cells) (w .tables) at v reference-slot) before after d z)
@@ -116,7 +114,7 @@ module _ (s : Sizes) (w : Words) (h : Regioned) (to : ℕ → ℕ) (st : StandsF
   h′ = withObject h x (withField Reference o f u)
 
   in-use : BeginsIn s w y
-  in-use = alive-used s w (st .whole) y (λ q. a (sym (st .partners .home x a) ∙ q))
+  in-use = cell-used s w h to st x a
 
   inside : x < length (h .heap .objects)
   inside = st .sound .closed .below x a
@@ -132,12 +130,9 @@ module _ (s : Sizes) (w : Words) (h : Regioned) (to : ℕ → ℕ) (st : StandsF
   there z q =
       sound .closed .refs x z a (getD-in (graph h′ .refs x) f z (ap (λ (p : Object). getD (p .refs) f 0) (put (h .heap .objects) x (withField Reference o f u) noObject inside) ∙ put (o .refs) f u 0 low-refs ∙ q))
 
-  ref : IsRef s (w .cells) (w .tables) v
-  ref = ref-to-cell s w h to st u v e there
-
   pub reference-stands : (m′ : List ℕ) (r : ℕ) → Followed s w y f v m′ r → r ≡ 0 → StandsFor s (storedWords s w y f v m′) h′ to
   reference-stands m′ r d z =
-      object-stands s w h to st x a f v inner m′ (withField Reference o f u) (reference-whole s w (st .whole) y f v in-use low m′ r d ref z)
+      object-stands s w h to st x a f v inner m′ (withField Reference o f u) (reference-whole s w (st .whole) y f v in-use low m′ r d (ref-to-cell s w h to st u v e there) z)
       (fields-set s w (st .whole) y f v in-use inner Reference f low (let e : f ≡ firstField Reference (headIn w y) + f = omega (arith, first-reference (headIn w y)) in e) ∙ ap₂ (λ (vs : List ℕ) (i : ℕ). set vs f i) (st .partners .refs x a) e ∙ sym (map-set (renamed to) (o .refs) f u))
       (st .nums x a ∙ sym (fields-kept s w (st .whole) y f v in-use inner Number y in-use (λ i l e q. omega (arith, first-number (headIn w y))))) sound
 

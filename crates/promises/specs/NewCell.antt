@@ -1,6 +1,7 @@
 -- A new object in a cell that was not in use: the tables stay whole.
-use Prim.Native.Nat.{ℕ, zero, suc, _+_, _-_, _≤_, _<_}
+use Prim.Native.Nat.{ℕ, zero, suc, _+_, _≤_, _<_}
 use native.Mathlib.Omega.{arith}
+use Rattle.promises.specs.Reading.{ref-begins}
 use mathlib.Core.Path.{_≡_, refl, sym, ap, ap₂, subst, _∙_}
 use mathlib.Core.Logic.{_⊎_, inl, inr, ⊎-elim, ⊎-map}
 use mathlib.Core.List.{List, [], _∷_}
@@ -94,8 +95,7 @@ module _ (s : Sizes) (w : Words) (k : WholeFor s w) (g cell b d : ℕ) (t′ c�
   region-kept : (x : ℕ) → IsRef s c t x → regionOf s t′ x ≡ regionOf s t x
   region-kept zero r = refl
   region-kept (suc x) r =
-      let e : suc x - 1 ≡ x = omega arith in
-      let u : BeginsIn s w x = subst (BeginsIn s w) e (r (omega arith)) in
+      let u : BeginsIn s w x = ref-begins s w x r in
       region-of s t′ x (begins-page s c′ t′ x (still-begins x u)) ∙ owner-still x u ∙ sym (region-of s t x (begins-page s c t x u))
 
   slot-kept : (q : ℕ) → Slot s c t q → Slot s c′ t′ q × (crossesTo s t′ (cellOf q) (getD c′ q 0) ≡ crossesTo s t (cellOf q) (getD c q 0))

@@ -3,7 +3,7 @@ use Prim.Native.Nat.{ℕ, zero, suc, _+_, _-_, _*_, _≤_, _<_}
 use native.Mathlib.Omega.{arith}
 use native.Mathlib.Decide.{ℕ-discrete}
 use mathlib.Core.Path.{_≡_, refl, sym, ap, subst, _∙_}
-use mathlib.Core.Logic.{_⊎_, inl, inr, by-cases}
+use mathlib.Core.Logic.{_⊎_, by-cases, ⊎-elim}
 use mathlib.Core.List.{List, [], _∷_, _++_}
 use mathlib.Core.Bool.{true, false}
 use lib.Dec.{leb}
@@ -83,12 +83,10 @@ module _ (s : Sizes) (w : Words) (h : Regioned) (to : ℕ → ℕ) (st : StandsF
       ∙ ap (λ (x : ℕ). pagesOf (x + 1) - pagesOf x) (objects-agree s w h to st g pos ∙ objects-on-pages s w (st .whole) g pos)
 
   pub new-fits : PartlyFilled s w g ⊎ FreePage s w → leb (newPages s (graph h) (graph made)) (freePages s (graph h)) ≡ true
-  new-fits (inl p) =
+  new-fits either =
       le-leb (newPages s (graph h) (graph made)) (freePages s (graph h))
-      (let n = partly-filled (whole-regular (st .whole)) g pos (p .0) (p .1) (p .2) in omega (arith, needs))
-  new-fits (inr p) =
-      le-leb (newPages s (graph h) (graph made)) (freePages s (graph h))
-      (omega (arith, needs, heap-free s w h to st, sum-part (ownedOne s (w .tables) 0) (p .0) (s .pages) (p .1), owned-yes s (w .tables) 0 (p .0) (p .2)))
+      (⊎-elim (λ p. let n = partly-filled (whole-regular (st .whole)) g pos (p .0) (p .1) (p .2) in omega (arith, needs))
+      (λ p. omega (arith, needs, heap-free s w h to st, sum-part (ownedOne s (w .tables) 0) (p .0) (s .pages) (p .1), owned-yes s (w .tables) 0 (p .0) (p .2))) either)
 
   pub new-lacks : (PartlyFilled s w g → ⊥) → (FreePage s w → ⊥) → leb (newPages s (graph h) (graph made)) (freePages s (graph h)) ≡ false
   new-lacks a b = lt-leb (newPages s (graph h) (graph made)) (freePages s (graph h)) (omega (arith, needs, heap-free s w h to st, full, none))

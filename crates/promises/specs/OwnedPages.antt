@@ -92,14 +92,8 @@ module _ {s : Sizes} {t : List ℕ} (r : Regular s t) (q : ℕ) where
 
     free-count : (n : ℕ) → n ≤ s .pages → sum (freeOn s t q) n ≤ (pageCells - 1) * count (positive (freeOn s t q)) n
     free-count zero l = omega arith
-    free-count (suc n) l = go (decLt 0 (freeOn s t q n)) (free-count n (omega arith))
-      where
-        f : ℕ → ℕ
-        f = freeOn s t q
-
-        go : Dec (0 < f n) → sum f n ≤ (pageCells - 1) * count (positive f) n → sum f n + f n ≤ (pageCells - 1) * (count (positive f) n + bit (positive f n))
-        go (yes p) rest = omega (arith, free-low n (omega arith), ap bit (lt-ltb 0 (f n) p))
-        go (no p) rest = omega arith
+    free-count (suc n) l =
+        by-cases (decLt 0 (freeOn s t q n)) (λ p. omega (arith, free-count n (omega arith), free-low n (omega arith), ap bit (lt-ltb 0 (freeOn s t q n) p))) (λ p. omega (arith, free-count n (omega arith)))
 
     free-partial : (page : ℕ) → 0 < freeOn s t q page → Partial s t q page
     free-partial page = go (eqb (ownerOf s t page) q) refl

@@ -1,5 +1,5 @@
 -- What is read from whole words: cells in use, their fields, variables and depths; and that no reference names a cell not in use.
-use Prim.Native.Nat.{ℕ, suc, _+_, _-_, _*_, _^_, _≤_, _<_}
+use Prim.Native.Nat.{ℕ, suc, _+_, _*_, _^_, _≤_, _<_}
 use native.Mathlib.Omega.{arith}
 use mathlib.Core.Logic.{by-cases}
 use mathlib.Core.Path.{_≡_, sym, ap, subst, _∙_}
@@ -13,11 +13,11 @@ use Rattle.laws.specs.GraphLaws.{Alive, Closed}
 use Rattle.layout.specs.declared.Kind.{Kind}
 use Rattle.layout.specs.declared.Kind.the-variants.{Reference}
 use Rattle.layout.specs.Places.{Room, room, depthAt, varAt, varOf, tablesWords, count-room, count-is, ownersFrom, varCount}
-use Rattle.layout.specs.Cells.{fieldAt, fieldOf, fieldCount, firstField, kindAt, mostFields, roomFor, kind-among, first-reference, fields-room, pageOf, CellIn}
+use Rattle.layout.specs.Cells.{fieldAt, fieldOf, fieldCount, firstField, kindAt, mostFields, roomFor, kind-among, first-reference, fields-room, pageOf, CellIn, cellNamed}
 use Rattle.layout.specs.Cells as ly
 use Rattle.layout.specs.Words.{Words, depthIn, varIn, ownerIn, depthsIn, varsIn, headIn, refCount, fieldsIn, refsIn, homeIn, graphOf, depthsAt, homeAt, fieldsAt, varsAt, BeginsIn}
 use Rattle.layout.specs.Objects.{cellCount, begins-used, begins-low, begins-true, begins-false, fields-inside, begins?}
-use Rattle.promises.specs.Whole.{Sized, WholeFor}
+use Rattle.promises.specs.Whole.{Sized, WholeFor, IsRef}
 
 pub getD-fields : (d : Kind) (w : Words) (c i : ℕ) → i < fieldCount d (headIn w c) → getD (fieldsIn d w c) i 0 ≡ getD (w .cells) (kindAt d (w .cells) c i) 0
 unfolding fieldsAt
@@ -52,6 +52,10 @@ sizes-there k = omega (arith, k .tables)
 
 pub entries-there : {s : Sizes} {w : Words} → Sized s w → 2 ≤ length (w .remember)
 entries-there k = omega (arith, k .remember)
+
+-- a reference that is not null names an object
+pub ref-begins : (s : Sizes) (w : Words) (y : ℕ) → IsRef s (w .cells) (w .tables) (suc y) → BeginsIn s w y
+ref-begins s w y r = subst (BeginsIn s w) (let e : cellNamed (suc y) ≡ y = omega arith in e) (r (omega arith))
 
 module _ (s : Sizes) (w : Words) (k : WholeFor s w) where
   pub used-home : (c : ℕ) → BeginsIn s w c → homeIn s w c ≡ ownerIn s w (pageOf c)
@@ -102,20 +106,14 @@ module _ (s : Sizes) (w : Words) (k : WholeFor s w) where
   vars-alive : (i x : ℕ) → getD (varsIn s w) i 0 ≡ suc x → Alive (graphOf s w) x
   vars-alive i x e =
       let l : i < varCount s = omega (arith, in-bounds (varsIn s w) i (λ z. omega arith), length-vars) in
-      let v : varOf s (w .tables) i ≡ suc x = sym (getD-vars s w i l) ∙ e in
-      let u = k .variables i l (omega arith) in
-      let x′ : varOf s (w .tables) i - 1 ≡ x = omega arith in
-      used-alive x (subst (BeginsIn s w) x′ u)
+      used-alive x (ref-begins s w x (subst (IsRef s (w .cells) (w .tables)) (sym (getD-vars s w i l) ∙ e) (k .variables i l)))
 
   refs-alive : (c y : ℕ) → Alive (graphOf s w) c → In (suc y) (refsIn w c) → Alive (graphOf s w) y
   refs-alive c y a i =
       let u = alive-used c a in
       let r = in-place (refsIn w c) (suc y) i in
       let l : r .0 < refCount w c = omega (arith, r .1, length-refs c u) in
-      let v : fieldOf (w .cells) c (r .0) ≡ suc y = sym (getD-refs w c (r .0) l) ∙ r .2 in
-      let f = k .objects c u .references (r .0) l (omega arith) in
-      let y′ : fieldOf (w .cells) c (r .0) - 1 ≡ y = omega arith in
-      used-alive y (subst (BeginsIn s w) y′ f)
+      used-alive y (ref-begins s w y (subst (IsRef s (w .cells) (w .tables)) (sym (getD-refs w c (r .0) l) ∙ r .2) (k .objects c u .references (r .0) l)))
 
   pub words-closed : Closed (graphOf s w)
   words-closed =
