@@ -5,9 +5,8 @@ use native.Mathlib.Decide.{ℕ-discrete}
 use mathlib.Core.Logic.{by-cases}
 use mathlib.Core.Path.{_≡_, refl, sym, ap, _∙_}
 use mathlib.Core.List.{List, [], _∷_}
-use lib.ListN.{set, take, drop}
-use lib.Seq.{drop-set-add, take-set-lt}
-use Rattle.lists.specs.Stores.{put, past}
+use lib.ListN.{set}
+use Rattle.lists.specs.Stores.{put, past, part-here}
 use Rattle.rules.specs.declared.Sizes.{Sizes}
 use Rattle.rules.specs.Regions.{threadOf}
 use Rattle.rules.specs.Rules.{Regioned}
@@ -58,9 +57,7 @@ module _ (s : Sizes) (w : Words) (k : WholeFor s w) (t d : ℕ) (l : t < s .thre
 
   depths-set : depthsIn s (withTables w T) ≡ set (depthsIn s w) t d
   unfolding depthsAt
-  depths-set =
-      let b = depthAt 0 in
-      ap (take (s .threads)) (drop-set-add b (w .tables) t d) ∙ take-set-lt (s .threads) (drop b (w .tables)) t d l
+  depths-set = part-here (s .threads) (depthAt 0) (w .tables) t d l
 
 -- thread t gets depth d
 pub depth-stands : (s : Sizes) (w : Words) (h : Regioned) (cellOf : ℕ → ℕ) (st : StandsFor s w h cellOf) (t d : ℕ) (l : t < s .threads) → d ≤ s .depth

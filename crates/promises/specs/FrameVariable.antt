@@ -6,8 +6,7 @@ use mathlib.Core.Logic.{by-cases}
 use mathlib.Core.Path.{_≡_, refl, sym, ap, ap₂, subst, _∙_}
 use mathlib.Core.List.{List, [], _∷_}
 use lib.ListN.{length, set, take, drop, length-map}
-use lib.Seq.{drop-set-add, take-set-lt}
-use Rattle.lists.specs.Stores.{put, past, map-set}
+use Rattle.lists.specs.Stores.{put, past, map-set, part-here}
 use Rattle.rules.specs.declared.Sizes.{Sizes}
 use Rattle.rules.specs.Rules.{Regioned, graph}
 use Rattle.laws.specs.GraphLaws.{Alive}
@@ -54,10 +53,8 @@ module _ (s : Sizes) (w : Words) (k : WholeFor s w) (i v : ℕ) (l : i < varCoun
   vars-set : varsIn s (withTables w t) ≡ set (varsIn s w) i v
   unfolding varsAt
   vars-set =
-      let b = varAt s 0 in
-      let e : at ≡ b + i = omega arith in
-      ap (λ (q : ℕ). take (varCount s) (drop b (set (w .tables) q v))) e
-      ∙ ap (take (varCount s)) (drop-set-add b (w .tables) i v) ∙ take-set-lt (varCount s) (drop b (w .tables)) i v l
+      ap (λ (q : ℕ). take (varCount s) (drop (varAt s 0) (set (w .tables) q v))) (let e : at ≡ varAt s 0 + i = omega arith in e)
+      ∙ part-here (varCount s) (varAt s 0) (w .tables) i v l
 
 -- variable i, counted through all threads, names object u of the heap, v in the words
 pub variable-stands : (s : Sizes) (w : Words) (h : Regioned) (cellOf : ℕ → ℕ) → StandsFor s w h cellOf → (i u v : ℕ) → i < varCount s → v ≡ renamed cellOf u

@@ -2,9 +2,9 @@
 use Prim.Native.Nat.{ℕ, _+_, _<_}
 use native.Mathlib.Omega.{arith}
 use mathlib.Core.Logic.{by-cases}
-use mathlib.Core.Path.{_≡_, sym, ap, ap₂, subst, _∙_}
+use mathlib.Core.Path.{_≡_, sym, ap, subst, _∙_}
 use mathlib.Core.List.{List, map}
-use mathlib.Core.Bool.{Bool, false, cond}
+use mathlib.Core.Bool.{false}
 use lib.ListN.{getD, take, drop}
 use Rattle.lists.specs.Stores.{part-same}
 use Rattle.rules.specs.declared.Sizes.{Sizes}
@@ -48,10 +48,8 @@ module _ {cs : List Area} {s : Sizes} {w w′ : Words} (o : Only cs s w w′) wh
   unfolding homeAt
   home-same a u h k =
       by-cases (begins? s (w .cells) (w .tables) k)
-      (λ b. ap₂ (λ (x : Bool) (r : ℕ). cond x r 0) (begins-true s (w′ .cells) (w′ .tables) k (begins-frame u h k b)) (o .same ownerWords a (pageOf k) (begins-page s (w .cells) (w .tables) k b))
-      ∙ sym (ap (λ (x : Bool). cond x (ownerIn s w (pageOf k)) 0) (begins-true s (w .cells) (w .tables) k b)))
-      (λ n. ap (λ (x : Bool). cond x (ownerIn s w′ (pageOf k)) 0) (begins-false s (w′ .cells) (w′ .tables) k (λ b. n (begins-was u h k b)))
-      ∙ sym (ap (λ (x : Bool). cond x (ownerIn s w (pageOf k)) 0) (begins-false s (w .cells) (w .tables) k n)))
+      (λ b. rw (begins-true s (w′ .cells) (w′ .tables) k (begins-frame u h k b), begins-true s (w .cells) (w .tables) k b) (o .same ownerWords a (pageOf k) (begins-page s (w .cells) (w .tables) k b)))
+      (λ n. rw (begins-false s (w′ .cells) (w′ .tables) k (λ b. n (begins-was u h k b)), begins-false s (w .cells) (w .tables) k n))
 
   pub depths-same : among depthWords cs ≡ false → depthsIn s w′ ≡ depthsIn s w
   unfolding depthsAt

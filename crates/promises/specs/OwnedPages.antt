@@ -11,6 +11,7 @@ use lib.Dec.{ltb, eqb}
 use borrow.Author.Tests.{lt-ltb, eq-eqb, ne-eqb, eqb-true, ltb-true}
 use Rattle.lists.specs.Counting.{bit, bit-le-one, sum, count, positive, sum-same, sum-none, sum-high, sum-part, sum-pos, sum-blocks, sum-first, count-owners}
 use Rattle.lists.specs.Pigeonhole.{no-two}
+use Rattle.lists.specs.Tests.{cond-zero}
 use Rattle.rules.specs.declared.Sizes.{Sizes}
 use Rattle.rules.specs.Regions.{regions}
 use Rattle.rules.specs.Graph.{pagesOf, objectsIn, freePages}
@@ -84,11 +85,8 @@ module _ {s : Sizes} {t : List ℕ} (r : Regular s t) (q : ℕ) where
     filled (suc n) l = omega (arith, filled n (omega arith), both-parts (eqb (ownerOf s t n) q) (usedOf s t n) (r .pages n (omega arith) .cells))
 
     free-low : (page : ℕ) → page < s .pages → freeOn s t q page < pageCells
-    free-low page l = go (eqb (ownerOf s t page) q) refl
-      where
-        go : (b : Bool) → eqb (ownerOf s t page) q ≡ b → cond b (pageCells - usedOf s t page) 0 < pageCells
-        go true e = omega (arith, r .pages page l .taken (omega (arith, eqb-true (ownerOf s t page) q e)))
-        go false e = omega arith
+    free-low page l =
+        by-cases (ℕ-discrete (ownerOf s t page) q) (λ e. rw (eq-eqb (ownerOf s t page) q e) (omega (arith, r .pages page l .taken (omega arith)))) (λ n. rw (ne-eqb (ownerOf s t page) q n) (omega arith))
 
     free-count : (n : ℕ) → n ≤ s .pages → sum (freeOn s t q) n ≤ (pageCells - 1) * count (positive (freeOn s t q)) n
     free-count zero l = omega arith
@@ -151,31 +149,21 @@ module _ (s : Sizes) (w : Words) (k : WholeFor s w) where
       (λ h. omega (arith, div-lt-iff-lt-mul {x = ownerIn s w page - 2} (k .sized .range .depth-low) .0 (k .pages page l .region h .thread))) (λ h. omega arith)
 
   module _ (q : ℕ) (pos : 0 < q) where
-    home-of : (page j : ℕ) → page < s .pages → j < pageCells → homeIn s w (cellOn page j) ≡ cond (ltb j (usedIn s w page)) (ownerIn s w page) 0
-    unfolding homeAt
-    home-of page j l m = ap₂ (λ (b : Bool) (p : ℕ). cond b (ownerIn s w p) 0) (begins-on s (w .cells) (w .tables) page j l m) (page-on page j m)
-
     on-page : (page : ℕ) → page < s .pages → sum (λ j. cond (eqb (homeIn s w (cellOn page j)) q) 1 0) pageCells ≡ objectsOn s (w .tables) q page
-    on-page page l = go (ℕ-discrete (ownerIn s w page) q)
+    unfolding homeAt
+    on-page page l =
+        by-cases (ℕ-discrete (ownerIn s w page) q)
+        (λ e. sum-first _ (usedIn s w page) pageCells (λ j m. each j m ∙ ap (λ (t : Bool). cond t (bit (ltb j (usedIn s w page))) 0) (eq-eqb (ownerIn s w page) q e))
+        ∙ omega (arith, k .pages page l .filled .cells, objects-yes s (w .tables) q page e))
+        (λ n. sum-none _ pageCells (λ j m. each j m ∙ ap (λ (t : Bool). cond t (bit (ltb j (usedIn s w page))) 0) (ne-eqb (ownerIn s w page) q n)) ∙ sym (objects-no s (w .tables) q page n))
       where
-        f : ℕ → ℕ
-        f j = cond (eqb (homeIn s w (cellOn page j)) q) 1 0
+        pick : (b : Bool) → cond (eqb (cond b (ownerIn s w page) 0) q) 1 0 ≡ cond (eqb (ownerIn s w page) q) (bit b) 0
+        pick true = refl
+        pick false = ap (λ (t : Bool). cond t 1 0) (ne-eqb 0 q (λ (z : 0 ≡ q). omega arith)) ∙ sym (cond-zero (eqb (ownerIn s w page) q) 0 0 refl refl)
 
-        mine : (b : Bool) → ownerIn s w page ≡ q → cond (eqb (cond b (ownerIn s w page) 0) q) 1 0 ≡ bit b
-        mine true e = ap (λ (t : Bool). cond t 1 0) (eq-eqb (ownerIn s w page) q e)
-        mine false e = ap (λ (t : Bool). cond t 1 0) (ne-eqb 0 q (λ (z : 0 ≡ q). omega arith))
-
-        another : (b : Bool) → (ownerIn s w page ≡ q → ⊥) → _≡_ {A = ℕ} (cond (eqb (cond b (ownerIn s w page) 0) q) 1 0) 0
-        another true n = ap (λ (t : Bool). cond t 1 0) (ne-eqb (ownerIn s w page) q n)
-        another false n = ap (λ (t : Bool). cond t 1 0) (ne-eqb 0 q (λ (z : 0 ≡ q). omega arith))
-
-        go : Dec (ownerIn s w page ≡ q) → sum f pageCells ≡ objectsOn s (w .tables) q page
-        go (yes e) =
-            sum-first f (usedIn s w page) pageCells (λ j m. ap (λ (n : ℕ). cond (eqb n q) 1 0) (home-of page j l m) ∙ mine (ltb j (usedIn s w page)) e)
-            ∙ omega (arith, k .pages page l .filled .cells, objects-yes s (w .tables) q page e)
-        go (no n) =
-            sum-none f pageCells (λ j m. ap (λ (n : ℕ). cond (eqb n q) 1 0) (home-of page j l m) ∙ another (ltb j (usedIn s w page)) n)
-            ∙ sym (objects-no s (w .tables) q page n)
+        each : (j : ℕ) → j < pageCells → cond (eqb (homeIn s w (cellOn page j)) q) 1 0 ≡ cond (eqb (ownerIn s w page) q) (bit (ltb j (usedIn s w page))) 0
+        each j m =
+            ap₂ (λ (b : Bool) (p : ℕ). cond (eqb (cond b (ownerIn s w p) 0) q) 1 0) (begins-on s (w .cells) (w .tables) page j l m) (page-on page j m) ∙ pick (ltb j (usedIn s w page))
 
     pub objects-on-pages : objectsIn (graphOf s w) q ≡ objectsOf s (w .tables) q
     unfolding objectsIn

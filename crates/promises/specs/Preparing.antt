@@ -1,12 +1,12 @@
 -- What prepare writes stands for the unused heap.
-use Prim.Native.Nat.{ℕ, suc, _+_, _-_, _*_, _≤_, _<_}
+use Prim.Native.Nat.{ℕ, suc, _+_, _-_, _≤_, _<_}
 use native.Mathlib.Omega.{arith}
 use mathlib.Core.Path.{_≡_, refl, sym, ap, ap₂, _∙_}
 use mathlib.Core.List.{List, _++_}
 use lib.ListN.{length, getD, drop, replicate, length-append, length-replicate, getD-replicate, List·getD-append}
 use lib.Dec.{eqb}
 use Rattle.rules.specs.Terms.{InRange}
-use Rattle.layout.specs.Places.{depthAt, varAt, markAt, countAt, slotAt, slotRegionAt, ownersFrom, usedFrom, marksFrom, countsFrom, rememberWords, tablesWords, count-room, varCount}
+use Rattle.layout.specs.Places.{depthAt, varAt, markAt, countAt, slotAt, slotRegionAt, ownersFrom, usedFrom, rememberWords, tablesWords, varCount}
 use Rattle.layout.specs.Cells.{pageOf}
 use Rattle.layout.specs.Objects.{begins-used}
 use Rattle.lists.specs.Tests.{cond-zero}
@@ -21,6 +21,7 @@ use Rattle.laws.specs.RulesLaws.{sound-unused}
 use Rattle.laws.specs.SameRules.{renamed-zeros}
 use Rattle.layout.specs.Words.{Words, BeginsIn, sizesIn, depthsIn, varsIn, ownerIn, usedIn}
 use Rattle.promises.specs.StandsFor.{StandsFor}
+use Rattle.promises.specs.Areas.{starts}
 use Rattle.promises.specs.Reading.{alive-used, length-depths, depth-at, length-vars, getD-vars}
 use Rattle.promises.specs.Promises.{LongEnough, PrepareAsked, outOfRange, short, accepted, Unused, Prepared}
 
@@ -28,13 +29,6 @@ zeros-then : (n i : ℕ) (rest : List ℕ) → i < n → getD (replicate n 0 ++ 
 zeros-then n i rest l = List·getD-append (replicate n 0) rest 0 i (omega (arith, length-replicate {A = ℕ} n 0)) ∙ getD-replicate n i 0 0 l
 
 module _ (s : Sizes) (lent w : Words) (range : InRange s) (long : LongEnough s lent) (u : Unused s lent w) where
-  -- the places of the tables
-  room : (5 + s .threads + varCount s + 3 * s .pages + 1 + s .threads * s .depth ≡ tablesWords s) × (ownersFrom s ≡ 5 + s .threads + varCount s)
-      × (usedFrom s ≡ 5 + s .threads + varCount s + s .pages) × (marksFrom s ≡ 5 + s .threads + varCount s + 2 * s .pages)
-      × (countsFrom s ≡ 5 + s .threads + varCount s + 3 * s .pages)
-  unfolding ownersFrom usedFrom marksFrom countsFrom
-  room = omega (arith, count-room s)
-
   table-zero : (i : ℕ) → 5 ≤ i → i < tablesWords s → getD (w .tables) i 0 ≡ 0
   table-zero i l m =
       let e : i ≡ suc (suc (suc (suc (suc (i - 5))))) = omega arith in
@@ -46,10 +40,10 @@ module _ (s : Sizes) (lent w : Words) (range : InRange s) (long : LongEnough s l
       ap₂ (λ (t : List ℕ) (j : ℕ). getD t j 0) (u .remember) e ∙ zeros-then (rememberWords s - 1) (i - 1) (drop (rememberWords s) (lent .remember)) (omega arith)
 
   owner-zero : (page : ℕ) → page < s .pages → ownerIn s w page ≡ 0
-  owner-zero page l = table-zero (ownersFrom s + page) (omega (arith, room)) (omega (arith, room))
+  owner-zero page l = table-zero (ownersFrom s + page) (omega (arith, starts s)) (omega (arith, starts s))
 
   used-zero : (page : ℕ) → page < s .pages → usedIn s w page ≡ 0
-  used-zero page l = table-zero (usedFrom s + page) (omega (arith, room)) (omega (arith, room))
+  used-zero page l = table-zero (usedFrom s + page) (omega (arith, starts s)) (omega (arith, starts s))
 
   no-object : (c : ℕ) → BeginsIn s w c → ⊥
   no-object c b = let v = begins-used s (w .cells) (w .tables) c b in omega (arith, v .place, used-zero (pageOf c) (v .page))
@@ -64,19 +58,19 @@ module _ (s : Sizes) (lent w : Words) (range : InRange s) (long : LongEnough s l
           same = ap (λ (t : List ℕ). getD t 0 0) (u .remember);
           cells = omega (arith, u .cells .long, long .cells);
           remember = omega (arith, ap length (u .remember), length-append (replicate (rememberWords s - 1) 0) (drop (rememberWords s) (lent .remember)), length-replicate {A = ℕ} (rememberWords s - 1) 0);
-          tables = omega (arith, room, ap length (u .tables), length-append (replicate (tablesWords s - 5) 0) (drop (tablesWords s) (lent .tables)), length-replicate {A = ℕ} (tablesWords s - 5) 0);
+          tables = omega (arith, starts s, ap length (u .tables), length-append (replicate (tablesWords s - 5) 0) (drop (tablesWords s) (lent .tables)), length-replicate {A = ℕ} (tablesWords s - 5) 0);
         };
-        depths = λ k l. omega (arith, table-zero (depthAt k) (omega arith) (omega (arith, room)));
+        depths = λ k l. omega (arith, table-zero (depthAt k) (omega arith) (omega (arith, starts s)));
         pages = λ page l. let o = owner-zero page l in let v = used-zero page l in record {
           filled = record { free = λ e. v; taken = λ p. absurd (omega arith); cells = omega arith };
           region = λ p. absurd (omega arith);
         };
         partial = λ g l a b i j x y. omega (arith, x .owner, owner-zero a (omega arith));
-        counts = λ g l m. table-zero (countAt s g) (omega (arith, room)) (omega (arith, room))
+        counts = λ g l m. table-zero (countAt s g) (omega (arith, starts s)) (omega (arith, starts s))
             ∙ sym (sum-none (objectsOn s (w .tables) g) (s .pages) (λ k i. cond-zero (eqb (ownerIn s w k) g) (usedIn s w k) 0 (used-zero k i) refl));
-        variables = λ i l p. absurd (omega (arith, table-zero (varAt s i) (omega arith) (omega (arith, room))));
+        variables = λ i l p. absurd (omega (arith, table-zero (varAt s i) (omega arith) (omega (arith, starts s))));
         objects = λ c v. absurd (no-object c v);
-        marks = λ page l. table-zero (markAt s page) (omega (arith, room)) (omega (arith, room));
+        marks = λ page l. table-zero (markAt s page) (omega (arith, starts s)) (omega (arith, starts s));
         works = λ c v. absurd (no-object c v);
         remember = record {
           entries = record {
@@ -90,10 +84,10 @@ module _ (s : Sizes) (lent w : Words) (range : InRange s) (long : LongEnough s l
       }
 
   depths-zero : depthsIn s w ≡ replicate (s .threads) 0
-  depths-zero = all-zero (depthsIn s w) (s .threads) (length-depths s w whole) (λ i l. depth-at s w i l ∙ table-zero (depthAt i) (omega arith) (omega (arith, room)))
+  depths-zero = all-zero (depthsIn s w) (s .threads) (length-depths s w whole) (λ i l. depth-at s w i l ∙ table-zero (depthAt i) (omega arith) (omega (arith, starts s)))
 
   vars-zero : varsIn s w ≡ replicate (varCount s) 0
-  vars-zero = all-zero (varsIn s w) (varCount s) (length-vars s w whole) (λ i l. getD-vars s w i l ∙ table-zero (varAt s i) (omega arith) (omega (arith, room)))
+  vars-zero = all-zero (varsIn s w) (varCount s) (length-vars s w whole) (λ i l. getD-vars s w i l ∙ table-zero (varAt s i) (omega arith) (omega (arith, starts s)))
 
   unused-stands : StandsFor s w (unused s) (λ x. x)
   unfolding unused empty

@@ -1,14 +1,14 @@
 -- Where slots and the regions they cross into are the same, crossing is; and a store to one slot.
 use Prim.Native.Nat.{ℕ, suc, _-_, _<_}
 use mathlib.Core.List.{List}
-use mathlib.Core.Bool.{Bool, false, cond}
+use mathlib.Core.Bool.{cond}
 use mathlib.Core.Path.{_≡_, refl, sym, ap, ap₂, subst, _∙_}
 use mathlib.Core.Logic.{_⊎_, inl, by-cases, ⊎-elim}
 use native.Mathlib.Omega.{arith}
 use native.Mathlib.Decide.{decLt}
 use lib.ListN.{getD, length, set}
 use lib.Dec.{ltb, eqb}
-use borrow.Author.Tests.{lt-ltb, le-ltb, ne-eqb}
+use borrow.Author.Tests.{le-ltb}
 use Rattle.lists.specs.Stores.{put, past}
 use Rattle.rules.specs.declared.Sizes.{Sizes}
 use Rattle.layout.specs.Places.{ownerOf, usedOf}
@@ -16,7 +16,7 @@ use Rattle.layout.specs.Cells.{headAt, headOf, fieldCount, roomFor, pageOf, pag
 use Rattle.layout.specs.declared.Kind.the-variants.{Reference}
 use Rattle.layout.specs.Objects.{Begins, begins-page, begins-same, begins-back, field-not-head, Slot, slot?, slot-on}
 use Rattle.remember.specs.Crossing.{other, regionOf, crossTo}
-use Rattle.remember.specs.Crosses.{slot-cross, no-cross}
+use Rattle.remember.specs.Crosses.{slot-cross, no-cross, region-there}
 use Rattle.remember.specs.Entries.{Elsewhere}
 
 -- the region that reference x, in a slot of the object at a cell, crosses into; else 0
@@ -25,10 +25,7 @@ crossesTo p t cell x = other (ownerOf p t (pageOf cell)) (regionOf p t x)
 
 -- the region of a reference to a cell of the heap
 pub region-of : (p : Sizes) (t : List ℕ) (c : ℕ) → pageOf c < p .pages → regionOf p t (suc c) ≡ ownerOf p t (pageOf c)
-region-of p t c l =
-    let e : suc c - 1 ≡ c = omega arith in
-    ap₂ (λ (b : Bool) (x : ℕ). cond b 0 (cond (ltb (pageOf x) (p .pages)) (ownerOf p t (pageOf x)) 0)) (ne-eqb (suc c) 0 (λ (z : suc c ≡ 0). omega arith)) e
-    ∙ ap (λ (b : Bool). cond b (ownerOf p t (pageOf c)) 0) (lt-ltb (pageOf c) (p .pages) l)
+region-of p t c l = sym (region-there p t (suc c) (λ (z : suc c ≡ 0). omega arith) (let e : c ≡ suc c - 1 = omega arith in e) refl l refl)
 
 -- an object that keeps its word 0 keeps its slots
 pub slot-stays : {p : Sizes} {c t c′ t′ : List ℕ} {q : ℕ} (o : Slot p c t q) → Begins p c′ t′ (o .object) → headOf c′ (o .object) ≡ headOf c (o .object) → Slot p c′ t′ q
@@ -64,8 +61,7 @@ module _ (p : Sizes) (c t c′ t′ : List ℕ) (used : (page : ℕ) → page < 
     region-same : (x : ℕ) → regionOf p t′ x ≡ regionOf p t x
     region-same x =
         by-cases (decLt (pageOf (x - 1)) (p .pages)) (λ l. ap (λ (n : ℕ). cond (eqb x 0) 0 (cond (ltb (pageOf (x - 1)) (p .pages)) n 0)) (owners (pageOf (x - 1)) l))
-        (λ l. let e : ltb (pageOf (x - 1)) (p .pages) ≡ false = le-ltb (pageOf (x - 1)) (p .pages) (omega arith) in
-        ap (λ (b : Bool). cond (eqb x 0) 0 (cond b (ownerOf p t′ (pageOf (x - 1))) 0)) e ∙ sym (ap (λ (b : Bool). cond (eqb x 0) 0 (cond b (ownerOf p t (pageOf (x - 1))) 0)) e))
+        (λ l. rw (le-ltb (pageOf (x - 1)) (p .pages) (omega arith)))
 
     pub cross-alike : (q : ℕ) → (Slot p c t q → getD c′ q 0 ≡ getD c q 0) → crossTo p c′ t′ q ≡ crossTo p c t q
     cross-alike q word =
