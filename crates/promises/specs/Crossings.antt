@@ -5,7 +5,7 @@ use native.Mathlib.Decide.{ℕ-discrete}
 use mathlib.Core.Logic.{by-cases}
 use mathlib.Core.Path.{_≡_, refl, sym, ap, ap₂, _∙_}
 use mathlib.Core.List.{List, [], _∷_}
-use mathlib.Core.Bool.{Bool, cond, not, _&&_, and-false}
+use mathlib.Core.Bool.{cond, not, _&&_, and-false}
 use lib.ListN.{length, getD}
 use lib.Dec.{ltb, eqb}
 use borrow.Author.Tests.{lt-ltb, le-leb, lt-leb, eq-eqb, ne-eqb}
@@ -42,13 +42,9 @@ cross-in-sum g x (v ∷ vs) = cross-cons g x v vs ∙ ap (λ (n : ℕ). crossRef
 -- the check's test of a crossing slot is that of the rules
 pub same-test : (o g : ℕ) → 0 < g → bit (ltb 0 (other o g)) ≡ cond (not (eqb o g) && not (eqb g 1)) 1 0
 same-test o g pos =
-    by-cases (ℕ-discrete g 1)
-    (λ e. ap (λ (t : Bool). bit (ltb 0 (cond t 0 (cond (eqb g o) 0 g)))) (le-leb g 1 (omega arith))
-    ∙ sym (ap (λ (t : Bool). cond (not (eqb o g) && not t) 1 0) (eq-eqb g 1 e) ∙ ap (λ (t : Bool). cond t 1 0) (and-false (not (eqb o g)))))
-    (λ n. by-cases (ℕ-discrete g o)
-    (λ e. ap₂ (λ (t u : Bool). bit (ltb 0 (cond t 0 (cond u 0 g)))) (lt-leb g 1 (omega arith)) (eq-eqb g o e) ∙ sym (ap (λ (t : Bool). cond (not t && not (eqb g 1)) 1 0) (eq-eqb o g (sym e))))
-    (λ m. ap₂ (λ (t u : Bool). bit (ltb 0 (cond t 0 (cond u 0 g)))) (lt-leb g 1 (omega arith)) (ne-eqb g o m)
-    ∙ ap bit (lt-ltb 0 g pos) ∙ sym (ap₂ (λ (t u : Bool). cond (not t && not u) 1 0) (ne-eqb o g (λ q. m (sym q))) (ne-eqb g 1 n))))
+    by-cases (ℕ-discrete g 1) (λ e. rw (le-leb g 1 (omega arith), eq-eqb g 1 e, and-false (not (eqb o g))))
+    (λ n. by-cases (ℕ-discrete g o) (λ e. rw (lt-leb g 1 (omega arith), eq-eqb g o e, eq-eqb o g (sym e)))
+    (λ m. rw (lt-leb g 1 (omega arith), ne-eqb g o m, lt-ltb 0 g pos, ne-eqb o g (λ q. m (sym q)), ne-eqb g 1 n)))
 
 module _ (s : Sizes) (w : Words) (k : WholeFor s w) where
   module _ (c : ℕ) (u : BeginsIn s w c) where
@@ -74,14 +70,9 @@ module _ (s : Sizes) (w : Words) (k : WholeFor s w) where
   unfolding crossAt
   object-cross c =
       by-cases (begins? s (w .cells) (w .tables) c)
-      (λ u. ap (λ (b : Bool). cond b x 0) (begins-true s (w .cells) (w .tables) c u) ∙ sum-same _ _ (refCount w c) (at-ref c u)
-      ∙ sym (ap (sum (λ i. crossRef (graphOf s w) c (getD (refsIn w c) i 0))) (length-refs s w k c u)) ∙ sym (cross-in-sum (graphOf s w) c (refsIn w c))
-      ∙ sym (ap (λ (b : Bool). cond b 0 (crossIn (graphOf s w) c (refsIn w c))) (ne-eqb (homeIn s w c) 0 (used-alive s w k c u))))
-      (λ n. ap (λ (b : Bool). cond b x 0) (begins-false s (w .cells) (w .tables) c n)
-      ∙ sym (ap (λ (h : ℕ). cond (eqb h 0) 0 (crossIn (graphOf s w) c (refsIn w c))) (no-home s w k c n)))
-    where
-      x : ℕ
-      x = sum (λ f. bit (cr.crossing s (w .cells) (w .tables) (fieldAt c f))) (refCount w c)
+      (λ u. rw (begins-true s (w .cells) (w .tables) c u, ne-eqb (homeIn s w c) 0 (used-alive s w k c u))
+      (sum-same _ _ (refCount w c) (at-ref c u) ∙ sym (cross-in-sum (graphOf s w) c (refsIn w c) ∙ ap (sum (λ i. crossRef (graphOf s w) c (getD (refsIn w c) i 0))) (length-refs s w k c u))))
+      (λ n. rw (begins-false s (w .cells) (w .tables) c n, no-home s w k c n))
 
   -- the number of entries used is the rules' count of crossing slots
   pub entries-crossing : lp.usedIn (w .remember) ≡ crossing (graphOf s w)

@@ -8,7 +8,7 @@ use mathlib.Core.Path.{_≡_, refl, sym, ap, ap₂, _∙_}
 use mathlib.Core.List.{List}
 use mathlib.Core.Bool.{Bool, true, false, cond}
 use lib.Dec.{ltb, eqb}
-use borrow.Author.Tests.{lt-ltb, eq-eqb, ne-eqb, eqb-true, ltb-true}
+use borrow.Author.Tests.{lt-ltb, eq-eqb, ne-eqb, ltb-true}
 use Rattle.lists.specs.Counting.{bit, bit-le-one, sum, count, positive, sum-same, sum-none, sum-high, sum-part, sum-pos, sum-blocks, sum-first, count-owners}
 use Rattle.lists.specs.Pigeonhole.{no-two}
 use Rattle.lists.specs.Tests.{cond-zero}
@@ -71,11 +71,9 @@ both-parts false u l = omega arith
 
 module _ {s : Sizes} {t : List ℕ} (r : Regular s t) (q : ℕ) where
   pub objects-few : objectsOf s t q ≤ cellCount s
-  objects-few = sum-high (objectsOn s t q) pageCells (s .pages) (λ page l. go (r .pages page l .cells) (eqb (ownerOf s t page) q))
-    where
-      go : {u : ℕ} → u ≤ pageCells → (b : Bool) → cond b u 0 ≤ pageCells
-      go l true = l
-      go l false = omega arith
+  objects-few =
+      sum-high (objectsOn s t q) pageCells (s .pages)
+      (λ page l. by-cases (ℕ-discrete (ownerOf s t page) q) (λ e. rw (eq-eqb (ownerOf s t page) q e) (r .pages page l .cells)) (λ n. rw (ne-eqb (ownerOf s t page) q n) (omega arith)))
 
   module _ (pos : 0 < q) where
     -- objects and free cells of the region's pages fill these
@@ -94,11 +92,9 @@ module _ {s : Sizes} {t : List ℕ} (r : Regular s t) (q : ℕ) where
         by-cases (decLt 0 (freeOn s t q n)) (λ p. omega (arith, free-count n (omega arith), free-low n (omega arith), ap bit (lt-ltb 0 (freeOn s t q n) p))) (λ p. omega (arith, free-count n (omega arith)))
 
     free-partial : (page : ℕ) → 0 < freeOn s t q page → Partial s t q page
-    free-partial page = go (eqb (ownerOf s t page) q) refl
-      where
-        go : (b : Bool) → eqb (ownerOf s t page) q ≡ b → 0 < cond b (pageCells - usedOf s t page) 0 → Partial s t q page
-        go true e l = record { owner = eqb-true (ownerOf s t page) q e; part = omega arith }
-        go false e l = absurd (let z : ⊥ = omega arith in z)
+    free-partial page =
+        by-cases (ℕ-discrete (ownerOf s t page) q) (λ e. rw (eq-eqb (ownerOf s t page) q e) (λ l. record { owner = e; part = omega arith }))
+        (λ n. rw (ne-eqb (ownerOf s t page) q n) (λ l. absurd (let z : ⊥ = omega arith in z)))
 
     -- at most one of them has free cells
     one-part : count (positive (freeOn s t q)) (s .pages) ≤ 1
