@@ -82,7 +82,7 @@ module _ (s : Sizes) (w w′ : Words) (h : Regioned) (to : ℕ → ℕ) (st : St
       absurd (let z : ⊥ = omega (arith, v .place, ap (usedIn s w′) (page-on page (usedIn s w′ page) m), place-on page (usedIn s w′ page) m) in z))
       (λ n. omega arith)
 
-  -- so is the region of a page
+  -- and a page that is not free is of the same region
   owner-as : (page : ℕ) → page < s .pages → 0 < ownerIn s w page → ownerIn s w page ≡ ownerIn s w′ page
   owner-as page l p =
       let c = cellOn page 0 in
@@ -145,19 +145,6 @@ module _ (s : Sizes) (w w′ : Words) (h : Regioned) (to : ℕ → ℕ) (st : St
   entries-same : lp.usedIn (w .remember) ≡ lp.usedIn (w′ .remember)
   entries-same = heap-entries s w h to st ∙ sym (heap-entries s w′ h to st′)
 
-  named-same : (i : ℕ) → i < lp.usedIn (w .remember) → SameEntry s w w′ i
-  named-same i l =
-      let e = st .whole .remember .entries .named i l in
-      let x = cross-as (slotIn (w .remember) i) in
-      let r = st′ .whole .remember .every (slotIn (w .remember) i) (e .slot) (omega (arith, x, e .right, e .region)) in
-      let e′ = st′ .whole .remember .entries .named (r .0) (r .1) in
-      record {
-        place = r .0;
-        low = r .1;
-        slot = r .2;
-        region = sym (e′ .right) ∙ ap (crossTo s (w′ .cells) (w′ .tables)) (r .2) ∙ x ∙ e .right;
-      }
-
   -- WHAT WORDS STAND FOR DETERMINES THEM, BUT FOR THE OPEN POINTS
   pub determined : SameButOpen s w w′
   determined =
@@ -174,7 +161,12 @@ module _ (s : Sizes) (w w′ : Words) (h : Regioned) (to : ℕ → ℕ) (st : St
         cells = word-as s w w′ h to st st′;
         room = st .whole .sized .same ∙ sym (st′ .whole .sized .same);
         entries = entries-same;
-        named = named-same;
+        named = λ i l.
+            let e = st .whole .remember .entries .named i l in
+            let x = cross-as (slotIn (w .remember) i) in
+            let r = st′ .whole .remember .every (slotIn (w .remember) i) (e .slot) (omega (arith, x, e .right, e .region)) in
+            let e′ = st′ .whole .remember .entries .named (r .0) (r .1) in
+            record { place = r .0; low = r .1; slot = r .2; region = sym (e′ .right) ∙ ap (crossTo s (w′ .cells) (w′ .tables)) (r .2) ∙ x ∙ e .right };
         unused = λ i l m.
             let a = st .whole .remember .entries .rest i l m in
             let b = st′ .whole .remember .entries .rest i (omega (arith, entries-same)) m in

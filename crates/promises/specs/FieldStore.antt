@@ -64,26 +64,28 @@ module _ (s : Sizes) (w : Words) (k : WholeFor s w) (y j v : ℕ) (u : BeginsIn 
 
     objects : (j < refCount w y → IsRef s (w .cells) (w .tables) v) → (x : ℕ) → BeginsIn s w x → ObjectWhole s C (w .tables) x
     objects ref x i =
+        let o = k .objects x i in
+        let e : headOf C x ≡ headIn w x = head-kept x i in
         record {
           head = subst Formed (sym e) (o .head);
           rest = λ f l m.
               let n : allFields (headIn w x) ≤ f = subst (λ (h : ℕ). allFields h ≤ f) e m in
               let r : f < roomFor (headIn w x) = subst (λ (h : ℕ). f < roomFor h) e l in
               field-kept x f i r (λ (a : x ≡ y) (b : f ≡ j). omega (arith, low, ap (λ (z : ℕ). allFields (headIn w z)) a)) ∙ o .rest f r n;
-          references = λ f l. let n : f < refCount w x = subst (λ (h : ℕ). f < fieldCount Reference h) e l in ref-frame field-only refl refl _ (by-cases (ℕ-discrete x y)
-              (λ a. by-cases (ℕ-discrete f j) (λ b. subst (IsRef s (w .cells) (w .tables)) (sym (ap₂ (fieldOf C) a b ∙ put (w .cells) (fieldAt y j) v 0 (omega (arith, field-room, k .sized .cells)))) (ref (omega (arith, n, b, ap (refCount w) a)))) (λ b. other f n (λ p q. b q)))
+          references = λ f l.
+              let n : f < refCount w x = subst (λ (h : ℕ). f < fieldCount Reference h) e l in
+              ref-frame field-only refl refl _
+              (by-cases (ℕ-discrete x y)
+              (λ a. by-cases (ℕ-discrete f j) (λ b. subst (IsRef s (w .cells) (w .tables)) (sym (ap₂ (fieldOf C) a b ∙ here)) (ref (omega (arith, n, b, ap (refCount w) a)))) (λ b. other f n (λ p q. b q)))
               (λ a. other f n (λ p q. a p)));
         }
       where
-        o : ObjectWhole s (w .cells) (w .tables) x
-        o = k .objects x i
-
-        e : headOf C x ≡ headIn w x
-        e = head-kept x i
+        here : fieldOf C y j ≡ v
+        here = put (w .cells) (fieldAt y j) v 0 (omega (arith, field-room, k .sized .cells))
 
         other : (f : ℕ) → f < refCount w x → (x ≡ y → f ≡ j → ⊥) → IsRef s (w .cells) (w .tables) (fieldOf C x f)
         other f n d =
-            subst (IsRef s (w .cells) (w .tables)) (sym (field-kept x f i (omega (arith, kind-among Reference (headIn w x), fields-room (headIn w x) (o .head))) d)) (o .references f n)
+            subst (IsRef s (w .cells) (w .tables)) (sym (field-kept x f i (omega (arith, kind-among Reference (headIn w x), fields-room (headIn w x) (k .objects x i .head))) d)) (k .objects x i .references f n)
 
     pub field-whole : (j < refCount w y → IsRef s (w .cells) (w .tables) v) → RememberWhole s w′ → WholeFor s w′
     field-whole ref r =

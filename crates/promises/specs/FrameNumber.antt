@@ -12,13 +12,13 @@ use Rattle.laws.specs.GraphLaws.{Alive}
 use Rattle.laws.specs.RulesLaws.{Sound}
 use Rattle.layout.specs.Places.{cellsWords}
 use Rattle.layout.specs.declared.Kind.the-variants.{Reference, Number}
-use Rattle.layout.specs.Cells.{fieldAt, allFields, roomFor, fields-room, first-reference, first-number, cellOf}
+use Rattle.layout.specs.Cells.{fieldAt, allFields, fields-room, first-reference, first-number, cellOf}
 use Rattle.layout.specs.Objects.{objects-apart, Slot}
 use Rattle.layout.specs.Words.{Words, BeginsIn, headIn, refCount, numCount}
 use Rattle.remember.specs.Crossing.{crossTo}
 use Rattle.promises.specs.Whole.{WholeFor}
 use Rattle.promises.specs.StandsFor.{StandsFor}
-use Rattle.promises.specs.Reading.{alive-used}
+use Rattle.promises.specs.Agreed.{cell-used}
 use Rattle.promises.specs.Changes.{withCells, withObject, withField}
 use Rattle.promises.specs.Areas.{headWords, fieldWords, Only}
 use Rattle.remember.specs.Entries.{exact-everywhere}
@@ -35,9 +35,6 @@ module _ (s : Sizes) (w : Words) (k : WholeFor s w) (y b v : ℕ) (u : BeginsIn 
   within : j < allFields (headIn w y)
   within = omega arith
 
-  few : j < roomFor (headIn w y)
-  few = omega (arith, within, fields-room (headIn w y) (k .objects y u .head))
-
   pub number-only : Only (fieldWords ∷ []) s w (withCells w C)
   number-only = field-only s w k y j v u within
 
@@ -45,7 +42,7 @@ module _ (s : Sizes) (w : Words) (k : WholeFor s w) (y b v : ℕ) (u : BeginsIn 
   slot-is : (q : ℕ) (o : Slot s (w .cells) (w .tables) q) → getD C q 0 ≡ getD (w .cells) q 0
   slot-is q o =
       past (w .cells) (fieldAt y j) v q 0 (λ e.
-      let a = objects-apart s (w .cells) (w .tables) (o .object) (o .begins) y u j few (o .field) (o .room) (o .at ∙ e) in
+      let a = objects-apart s (w .cells) (w .tables) (o .object) (o .begins) y u j (omega (arith, within, fields-room (headIn w y) (k .objects y u .head))) (o .field) (o .room) (o .at ∙ e) in
       omega (arith, o .low, a .1, ap (refCount w) (a .0)))
 
   pub number-whole : WholeFor s (withCells w C)
@@ -60,7 +57,7 @@ pub number-stands : (s : Sizes) (w : Words) (h : Regioned) (cellOf : ℕ → ℕ
 number-stands s w h cellOf st x a b v low sound =
     let k = st .whole in
     let y = cellOf x in
-    let u : BeginsIn s w y = alive-used s w k y (λ q. a (sym (st .partners .home x a) ∙ q)) in
+    let u : BeginsIn s w y = cell-used s w h cellOf st x a in
     object-stands s w h cellOf st x a (refCount w y + b) v (within s w k y b v u low) (w .remember) (withField Number (getD (h .heap .objects) x noObject) b v) (number-whole s w k y b v u low)
     (fields-kept s w k y (refCount w y + b) v u (within s w k y b v u low) Reference y u (λ i l e q. omega (arith, first-reference (headIn w y))) ∙ st .partners .refs x a)
     (ap (λ (ns : List ℕ). set ns b v) (st .nums x a) ∙ sym (fields-set s w k y (refCount w y + b) v u (within s w k y b v u low) Number b low (ap (λ (z : ℕ). z + b) (sym (first-number (headIn w y)))))) sound

@@ -16,7 +16,8 @@ use Rattle.layout.specs.Places.{varCount, varAt, varOf, tablesWords, count-room
 use Rattle.layout.specs.Words.{Words, BeginsIn, varsAt, varsIn}
 use Rattle.promises.specs.Whole.{WholeFor, IsRef}
 use Rattle.promises.specs.StandsFor.{StandsFor}
-use Rattle.promises.specs.Reading.{length-vars, alive-used}
+use Rattle.promises.specs.Agreed.{cell-used}
+use Rattle.promises.specs.Reading.{length-vars}
 use Rattle.promises.specs.Changes.{withTables, withVariable}
 use Rattle.promises.specs.Areas.{variableWords, Only, store-only, starts}
 use Rattle.promises.specs.Frames.{still-whole, depths-frame, pages-frame, objects-frame, remember-frame, ref-frame, depths-same, home-same, stands-still}
@@ -27,8 +28,7 @@ pub ref-to-cell : (s : Sizes) (w : Words) (h : Regioned) (cellOf : ℕ → ℕ) 
 ref-to-cell s w h cellOf st zero v e a z = absurd (let o : ⊥ = omega arith in o)
 ref-to-cell s w h cellOf st (suc x) v e a z =
     let c : cellOf x ≡ v - 1 = omega arith in
-    let b : Alive (graph h) x = a x refl in
-    subst (BeginsIn s w) c (alive-used s w (st .whole) (cellOf x) (λ z. b (sym (st .partners .home x b) ∙ z)))
+    subst (BeginsIn s w) c (cell-used s w h cellOf st x (a x refl))
 
 module _ (s : Sizes) (w : Words) (k : WholeFor s w) (i v : ℕ) (l : i < varCount s) where
   abbrev at : ℕ

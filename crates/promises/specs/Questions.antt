@@ -24,11 +24,11 @@ use Rattle.rules.specs.Rules.{Regioned, graph, asksEntries, first}
 use Rattle.layout.specs.declared.Kind.{Kind}
 use Rattle.layout.specs.declared.Kind.the-variants.{Reference, Number}
 use Rattle.layout.specs.Cells.{headOf, fieldCount, kindAt}
-use Rattle.layout.specs.Words.{Words, BeginsIn, heapOf, varIn, headIn, fieldsIn, ownerIn}
+use Rattle.layout.specs.Words.{Words, BeginsIn, heapOf, varIn, fieldsIn, ownerIn}
 use Rattle.promises.specs.Whole.{WholeFor, IsRef}
 use Rattle.promises.specs.StandsFor.{StandsFor, SameBeyond}
 use Rattle.promises.specs.Promises.{Became, DidHere, Frees, Freed}
-use Rattle.promises.specs.Reading.{used-alive, length-fields, getD-fields}
+use Rattle.promises.specs.Reading.{used-alive, length-fields, getD-fields, ref-begins}
 use Rattle.promises.specs.Agreed.{heap-stands, object-at}
 use Rattle.promises.specs.Here.{here-var}
 use Rattle.promises.specs.Areas.{same-beyond}
@@ -142,20 +142,16 @@ module _ (s : Sizes) (w : Words) (k : WholeFor s w) where
     unfolding ask
     used-fields zero r = refl
     used-fields (suc y) r =
-        let y′ : suc y - 1 ≡ y = omega arith in
-        let u : BeginsIn s w y = subst (BeginsIn s w) y′ (r (omega arith)) in
-        ap (used (suc y) f) (ap length (fields-heap d y u) ∙ length-fields s w k d y u ∙ sym (ap (λ (z : ℕ). fieldCount d (headOf (w .cells) z)) y′))
+        let u = ref-begins s w y r in
+        rw (let e : suc y - 1 ≡ y = omega arith in e) (ap (used (suc y) f) (ap length (fields-heap d y u) ∙ length-fields s w k d y u))
 
     -- the field's word
     pub field-word : (v : ℕ) → IsRef s (w .cells) (w .tables) v → 0 < v → f < fieldCount d (headOf (w .cells) (v - 1))
         → getD (fieldsOf d (objectOf (heapOf s w .heap) v)) f 0 ≡ getD (w .cells) (kindAt d (w .cells) (v - 1) f) 0
     field-word zero r p l = absurd (let o : ⊥ = omega arith in o)
     field-word (suc y) r p l =
-        let y′ : suc y - 1 ≡ y = omega arith in
-        let u : BeginsIn s w y = subst (BeginsIn s w) y′ (r (omega arith)) in
-        let n : f < fieldCount d (headIn w y) = subst (λ (z : ℕ). f < fieldCount d (headOf (w .cells) z)) y′ l in
-        ap (λ (vs : List ℕ). getD vs f 0) (fields-heap d y u) ∙ getD-fields d w y f n
-        ∙ sym (ap (λ (z : ℕ). getD (w .cells) (kindAt d (w .cells) z f) 0) y′)
+        let e : suc y - 1 ≡ y = omega arith in
+        rw e (ap (λ (vs : List ℕ). getD vs f 0) (fields-heap d y (ref-begins s w y r)) ∙ getD-fields d w y f (subst (λ (z : ℕ). f < fieldCount d (headOf (w .cells) z)) e l))
 
     -- the questions of variable a of thread t
     pub asked-field : (t a : ℕ) → t < s .threads → a < s .variables

@@ -205,12 +205,10 @@ module _ {s : Sizes} {t : List ℕ} {g cell : ℕ} {t′ : List ℕ} (r : Regula
 pub took-pages : {s : Sizes} {w : Words} {g cell : ℕ} {t′ : List ℕ} → WholeFor s w → Took s (w .tables) g cell t′ → 1 ≤ g → g ≤ regions s → (1 < g → Open s (w .tables) g)
     → PagesWhole s (withTables w t′)
 took-pages {s} {w} {g} {cell} {t′} whole k pos low open′ page l =
+    let open-past : (q : ℕ) → Open s (w .tables) q → Open s t′ q = open-frame (took-only s w g cell t′ k pos low) refl in
     record {
       filled = took-regular (whole-regular whole) k pos .pages page l;
       region = λ z. by-cases (ℕ-discrete page (pageOf cell))
           (λ e. let a : ownerOf s t′ page ≡ g = ap (ownerOf s t′) e ∙ k .owner in subst (Open s t′) (sym a) (open-past g (open′ (omega arith))))
           (λ d. let a = page-past k page l d .owner in subst (Open s t′) (sym a) (open-past (ownerOf s (w .tables) page) (whole .pages page l .region (omega arith))));
     }
-  where
-    open-past : (q : ℕ) → Open s (w .tables) q → Open s t′ q
-    open-past = open-frame (took-only s w g cell t′ k pos low) refl
