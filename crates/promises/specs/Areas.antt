@@ -117,7 +117,7 @@ startOf s n = sum (λ i. getD (arrays s) i 0) n
 abbrev pub Within : Area → Sizes → ℕ → Type 0
 Within a s j = (startOf s (number a) ≤ j) × (j < startOf s (number a + 1))
 
--- which is where layout has them
+-- the arrays begin where layout has them
 pub starts : (s : Sizes) → (startOf s 3 ≡ ownersFrom s) × (startOf s 4 ≡ usedFrom s) × (startOf s 5 ≡ marksFrom s) × (startOf s 6 ≡ countsFrom s) × (startOf s 7 ≡ tablesWords s)
 unfolding countsFrom marksFrom usedFrom ownersFrom
 starts s = omega (arith, count-room s)

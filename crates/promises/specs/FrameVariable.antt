@@ -48,7 +48,8 @@ module _ (s : Sizes) (w : Words) (k : WholeFor s w) (i v : ℕ) (l : i < varCoun
       still-whole variable-only refl refl refl refl refl refl refl k (depths-frame variable-only refl (k .depths)) (pages-frame variable-only refl refl refl (k .pages))
       (λ j m. ref-frame variable-only refl refl _ (by-cases (ℕ-discrete j i)
       (λ e. subst (IsRef s (w .cells) (w .tables)) (sym (ap (varOf s t) e ∙ put (w .tables) at v 0 (omega (arith, low, k .sized .tables)))) ref)
-      (λ n. subst (IsRef s (w .cells) (w .tables)) (sym (past (w .tables) at v (varAt s j) 0 (λ (e : varAt s j ≡ at). n (omega arith)))) (k .variables j m)))) (objects-frame variable-only refl refl refl (k .objects)) (remember-frame variable-only refl refl refl refl refl (k .remember))
+      (λ n. subst (IsRef s (w .cells) (w .tables)) (sym (past (w .tables) at v (varAt s j) 0 (λ (e : varAt s j ≡ at). n (omega arith)))) (k .variables j m))))
+      (objects-frame variable-only refl refl refl (k .objects)) (remember-frame variable-only refl refl refl refl refl (k .remember))
 
   vars-set : varsIn s (withTables w t) ≡ set (varsIn s w) i v
   unfolding varsAt
