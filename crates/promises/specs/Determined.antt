@@ -184,19 +184,13 @@ module _ (s : Sizes) (w w′ : Words) (e : SameButOpen s w w′) where
   first-five (suc (suc (suc (suc (suc j))))) l = absurd (let z : ⊥ = omega arith in z)
 
   pub tables-determined : (j : ℕ) → j < tablesWords s → getD (w .tables) j 0 ≡ getD (w′ .tables) j 0
-  tables-determined j l = go (decLt j 5) (decLt j (5 + s .threads)) (decLt j (ownersFrom s)) (decLt j (ownersFrom s + s .pages)) (decLt j (ownersFrom s + 2 * s .pages)) (decLt j (ownersFrom s + 3 * s .pages))
-    where
-      go : Dec (j < 5) → Dec (j < 5 + s .threads) → Dec (j < ownersFrom s) → Dec (j < ownersFrom s + s .pages) → Dec (j < ownersFrom s + 2 * s .pages) → Dec (j < ownersFrom s + 3 * s .pages)
-          → getD (w .tables) j 0 ≡ getD (w′ .tables) j 0
-      go (yes a) b c d f g = first-five j a
-      go (no a) (yes b) c d f g = at-place (w .tables) (w′ .tables) j (depthAt (j - 5)) (omega arith) (e .depths (j - 5) (omega arith))
-      go (no a) (no b) (yes c) d f g =
-          at-place (w .tables) (w′ .tables) j (varAt s (j - (5 + s .threads))) (omega arith) (e .variables (j - (5 + s .threads)) (omega (arith, owners-is s)))
-      go (no a) (no b) (no c) (yes d) f g = at-place (w .tables) (w′ .tables) j (lp.ownerAt s (j - ownersFrom s)) (omega arith) (e .owners (j - ownersFrom s) (omega arith))
-      go (no a) (no b) (no c) (no d) (yes f) g =
-          at-place (w .tables) (w′ .tables) j (lp.usedAt s (j - (ownersFrom s + s .pages))) (omega (arith, used-is s)) (e .used (j - (ownersFrom s + s .pages)) (omega arith))
-      go (no a) (no b) (no c) (no d) (no f) (yes g) =
-          at-place (w .tables) (w′ .tables) j (lp.markAt s (j - (ownersFrom s + 2 * s .pages))) (omega (arith, mark-is s)) (e .marks (j - (ownersFrom s + 2 * s .pages)) (omega arith))
-      go (no a) (no b) (no c) (no d) (no f) (no g) =
-          at-place (w .tables) (w′ .tables) j (lp.countAt s (j - (ownersFrom s + 3 * s .pages) + 1)) (omega (arith, count-is s))
-          (e .counts (j - (ownersFrom s + 3 * s .pages) + 1) (omega arith) (omega (arith, count-room s, count-is s)))
+  tables-determined j l =
+      let at : (i : ℕ) → i ≡ j → getD (w .tables) i 0 ≡ getD (w′ .tables) i 0 → getD (w .tables) j 0 ≡ getD (w′ .tables) j 0 = at-place (w .tables) (w′ .tables) j in
+      let o = ownersFrom s in
+      by-cases (decLt j 5) (first-five j)
+      (λ a. by-cases (decLt j (5 + s .threads)) (λ x. at (depthAt (j - 5)) (omega arith) (e .depths (j - 5) (omega arith)))
+      (λ b. by-cases (decLt j o) (λ x. at (varAt s (j - (5 + s .threads))) (omega arith) (e .variables (j - (5 + s .threads)) (omega (arith, owners-is s))))
+      (λ c. by-cases (decLt j (o + s .pages)) (λ x. at (lp.ownerAt s (j - o)) (omega arith) (e .owners (j - o) (omega arith)))
+      (λ d. by-cases (decLt j (o + 2 * s .pages)) (λ x. at (lp.usedAt s (j - (o + s .pages))) (omega (arith, used-is s)) (e .used (j - (o + s .pages)) (omega arith)))
+      (λ f. by-cases (decLt j (o + 3 * s .pages)) (λ x. at (lp.markAt s (j - (o + 2 * s .pages))) (omega (arith, mark-is s)) (e .marks (j - (o + 2 * s .pages)) (omega arith)))
+      (λ g. at (lp.countAt s (j - (o + 3 * s .pages) + 1)) (omega (arith, count-is s)) (e .counts (j - (o + 3 * s .pages) + 1) (omega arith) (omega (arith, count-room s, count-is s)))))))))
