@@ -7,20 +7,18 @@ use native.Mathlib.Omega.{arith}
 use lib.ListN.{getD}
 use Rattle.rules.specs.declared.Sizes.{Sizes}
 use Rattle.laws.specs.SameRules.{renamed}
-use Rattle.layout.specs.declared.Kind.the-variants.{Reference}
 use Rattle.layout.specs.Places.{ownerOf, usedIn, slotIn, slotRegionIn, cellsWords}
-use Rattle.layout.specs.Cells.{fieldAt, fieldOf, refsOf, fieldCount, roomFor, pageOf, pageAt, cellNamed}
-use Rattle.layout.specs.Objects.{Slot, field-inside, slot-page}
+use Rattle.layout.specs.Cells.{fieldAt, fieldOf, roomFor, pageOf, pageAt, cellNamed}
+use Rattle.layout.specs.Objects.{Slot, field-inside, field-on, slot-page}
 use Rattle.layout.specs.Words.{Words, BeginsIn, ownerIn, refCount}
 use Rattle.remember.specs.Crossing.{crossTo, crossesFrom}
 use Rattle.remember.specs.Crosses.{crosses-into, into-crosses, crosses-null, slot-cross, cross-slot}
 use Rattle.promises.specs.Whole.{WholeFor}
 use Rattle.promises.specs.Reading.{ref-room}
 use Rattle.promises.specs.Ends.{Part, Lives}
-use Rattle.settle.specs.Rewrite.{begins-now, begins-then}
-use Rattle.settle.specs.Append.{crossAt}
-use Rattle.ending.specs.Placing.{HasMoved, placed, placed-used, placed-page, placed-only}
-use Rattle.ending.specs.Rewriting.{LiveSlot, HasRewritten, live-after, head-after}
+use Rattle.settle.specs.Append.{crossLater}
+use Rattle.ending.specs.Placing.{HasMoved, placed, placed-used, placed-page, placed-head}
+use Rattle.ending.specs.Rewriting.{LiveSlot, live-later}
 
 -- ---- whole words
 
@@ -84,76 +82,49 @@ module _ {s : Sizes} {w : Words} (whole : WholeFor s w) where
         other = λ z. v .other (v .region ∙ z);
       }
 
--- ---- after the rewriting
+-- ---- after the end
 
 -- The remember table is told E, an entry by its slot and its region: the slots that cross afterwards. The pages are those of before the
 -- release.
-pub record Told (s : Sizes) (w : Words) (e : Part) (W T W′ : List ℕ) (E : ℕ → ℕ → Type 0) : Type 0 where
-  pub live : (x h : ℕ) → E x h → LiveSlot s w e W x × (h ≡ crossAt s W′ T x)
+pub record Told (s : Sizes) (w : Words) (e : Part) (W T : List ℕ) (E : ℕ → ℕ → Type 0) : Type 0 where
+  pub live : (x h : ℕ) → E x h → LiveSlot s w e W x × (h ≡ crossLater s W T x)
   pub kept : (x h : ℕ) → E x h → h ≢ 0
-  pub every : (x : ℕ) → LiveSlot s w e W x → crossAt s W′ T x ≢ 0 → E x (crossAt s W′ T x)
+  pub every : (x : ℕ) → LiveSlot s w e W x → crossLater s W T x ≢ 0 → E x (crossLater s W T x)
 
-module _ {s : Sizes} {w w₁ : Words} {e : Part} {W T : List ℕ} {S : ℕ → Type 0} {W′ : List ℕ} (r : HasRewritten s w w₁ e W T S W′) where
-  h : HasMoved s w w₁ e W T
-  h = r .moved
-
+module _ {s : Sizes} {w w₁ : Words} {e : Part} {W T : List ℕ} (h : HasMoved s w w₁ e W T) where
   -- the region of an object that lives on
   abbrev home : ℕ → ℕ
   home c = ownerOf s T (pageOf (placed W c))
 
-  refs-after : (c : ℕ) → Lives s w e c → refsOf W′ (placed W c) ≡ refCount w c
-  refs-after c l = ap (fieldCount Reference) (head-after r c l)
-
-  -- the slots off the ending pages
-  pub live-slot : (x : ℕ) → LiveSlot s w e W x → Slot s W′ T x
-  live-slot x q =
-      let c : ℕ = q .object in
-      record {
-        object = placed W c;
-        field = q .field;
-        begins = begins-now (r .cells) s T (placed W c) (placed-used h c (q .lives));
-        room = omega (arith, ref-room s w (h .whole) c (q .field) (q .lives .used) (q .low), ap roomFor (head-after r c (q .lives)));
-        low = omega (arith, q .low, refs-after c (q .lives));
-        at = sym (q .at);
-      }
-
-  pub slot-live : (x : ℕ) (q : Slot s W′ T x) → (e .ends (pageOf (q .object)) → ⊥) → LiveSlot s w e W x
-  slot-live x q n =
-      let o = placed-only h (q .object) (begins-then (r .cells) s T (q .object) (q .begins)) n in
-      record {
-        object = o .0;
-        field = q .field;
-        lives = o .1;
-        low = omega (arith, q .low, ap (refsOf W′) (sym (o .2)) ∙ refs-after (o .0) (o .1));
-        at = sym (q .at) ∙ ap (λ (d : ℕ). fieldAt d (q .field)) (sym (o .2));
-      }
-
   pub live-page : (x : ℕ) (q : LiveSlot s w e W x) → pageAt x ≡ pageOf (placed W (q .object))
-  unfolding live-slot
-  live-page x q = slot-page s W′ T x (live-slot x q)
+  live-page x q =
+      let c : ℕ = q .object in
+      ap pageAt (q .at)
+      ∙ field-on s W T (placed W c) (placed-used h c (q .lives)) (q .field)
+      (omega (arith, ref-room s w (h .whole) c (q .field) (q .lives .used) (q .low), ap roomFor (placed-head h c (q .lives))))
 
   -- the region that one crosses into afterwards
-  cross-live : (x : ℕ) (q : LiveSlot s w e W x) → crossAt s W′ T x ≡ crossesFrom s T (home (q .object)) (renamed (placed W) (fieldOf (w .cells) (q .object) (q .field)))
-  cross-live x q = ap₂ (λ (p y : ℕ). crossesFrom s T (ownerOf s T p) y) (live-page x q) (live-after r x q)
+  cross-live : (x : ℕ) (q : LiveSlot s w e W x) → crossLater s W T x ≡ crossesFrom s T (home (q .object)) (renamed (placed W) (fieldOf (w .cells) (q .object) (q .field)))
+  cross-live x q = ap₂ (λ (p y : ℕ). crossesFrom s T (ownerOf s T p) y) (live-page x q) (live-later h x q)
 
   -- it crosses exactly if it names an object of another region than its own and than the control space
-  pub crosses-names : (x : ℕ) (q : LiveSlot s w e W x) → crossAt s W′ T x ≢ 0
-      → (d : ℕ) × Lives s w e d × (fieldOf (w .cells) (q .object) (q .field) ≡ suc d) × (crossAt s W′ T x ≡ home d) × (1 < home d) × (home d ≢ home (q .object))
+  pub crosses-names : (x : ℕ) (q : LiveSlot s w e W x) → crossLater s W T x ≢ 0
+      → (d : ℕ) × Lives s w e d × (fieldOf (w .cells) (q .object) (q .field) ≡ suc d) × (crossLater s W T x ≡ home d) × (1 < home d) × (home d ≢ home (q .object))
   crosses-names x q n = go (fieldOf (w .cells) (q .object) (q .field)) refl
     where
       g : ℕ
       g = home (q .object)
 
       go : (v : ℕ) → fieldOf (w .cells) (q .object) (q .field) ≡ v
-          → (d : ℕ) × Lives s w e d × (fieldOf (w .cells) (q .object) (q .field) ≡ suc d) × (crossAt s W′ T x ≡ home d) × (1 < home d) × (home d ≢ home (q .object))
+          → (d : ℕ) × Lives s w e d × (fieldOf (w .cells) (q .object) (q .field) ≡ suc d) × (crossLater s W T x ≡ home d) × (1 < home d) × (home d ≢ home (q .object))
       go zero z = absurd (n (cross-live x q ∙ ap (λ (y : ℕ). crossesFrom s T g (renamed (placed W) y)) z ∙ sym (crosses-null s T g 0 refl)))
       go (suc d) z =
-          let v = crosses-into s T g (suc (placed W d)) (crossAt s W′ T x) (cross-live x q ∙ ap (λ (y : ℕ). crossesFrom s T g (renamed (placed W) y)) z) n in
+          let v = crosses-into s T g (suc (placed W d)) (crossLater s W T x) (cross-live x q ∙ ap (λ (y : ℕ). crossesFrom s T g (renamed (placed W) y)) z) n in
           let y : cellNamed (suc (placed W d)) ≡ placed W d = omega arith in
-          let o : crossAt s W′ T x ≡ home d = v .region ∙ ap (λ (y : ℕ). ownerOf s T (pageOf y)) y in
+          let o : crossLater s W T x ≡ home d = v .region ∙ ap (λ (y : ℕ). ownerOf s T (pageOf y)) y in
           (d, h .sends .keeps .references (q .object) (q .field) d (q .lives) (q .low) z, z, o, omega (arith, v .high, o), λ p. v .other (o ∙ p))
 
-  pub names-cross : (x : ℕ) (q : LiveSlot s w e W x) (d : ℕ) → fieldOf (w .cells) (q .object) (q .field) ≡ suc d → 1 < home d → home d ≢ home (q .object) → crossAt s W′ T x ≡ home d
+  pub names-cross : (x : ℕ) (q : LiveSlot s w e W x) (d : ℕ) → fieldOf (w .cells) (q .object) (q .field) ≡ suc d → 1 < home d → home d ≢ home (q .object) → crossLater s W T x ≡ home d
   names-cross x q d z up ne =
       let y : cellNamed (suc (placed W d)) ≡ placed W d = omega arith in
       cross-live x q ∙ ap (λ (y : ℕ). crossesFrom s T (home (q .object)) (renamed (placed W) y)) z

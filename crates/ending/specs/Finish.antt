@@ -10,29 +10,31 @@ use lib.ListN.{length, getD}
 use Rattle.lists.specs.Stores.{drop-same}
 use Rattle.rules.specs.declared.Sizes.{Sizes}
 use Rattle.laws.specs.SameRules.{renamed}
+use Rattle.layout.specs.declared.Kind.the-variants.{Reference}
 use Rattle.layout.specs.Places.{Room, depthAt, varAt, ownerAt, usedAt, markAt, countAt, varOf, ownerOf, usedOf, markOf, cellsWords, rememberWords, tablesWords, count-room, ownersFrom, varsFrom, varCount}
-use Rattle.layout.specs.Cells.{fieldOf, cellNamed, pageOf, cellOn, page-on, room-most}
-use Rattle.layout.specs.Objects.{Slot, begins-page, begins-same, begins-back, begins-used, begins-there, slot-low, slot-page}
-use Rattle.layout.specs.Words.{Words, words, Begins, Names, ownerIn, headIn}
+use Rattle.layout.specs.Cells.{fieldAt, fieldOf, refsOf, fieldCount, roomFor, cellNamed, pageOf, cellOn, page-on, room-most}
+use Rattle.layout.specs.Objects.{Slot, begins-page, begins-same, begins-back, begins-used, begins-there, slot-low}
+use Rattle.layout.specs.Words.{Words, words, Begins, Names, ownerIn, headIn, refCount}
 use Rattle.remember.specs.Crossing.{other, regionOf, crossTo, crossesFrom}
 use Rattle.remember.specs.Crosses.{slot-cross, cross-slot}
 use Rattle.remember.specs.Renewed.{Renewed, renewed-exact}
 use Rattle.promises.specs.Slots.{region-of}
+use Rattle.promises.specs.Reading.{ref-room}
 use Rattle.promises.specs.Whole.{Open, RememberWhole}
 use Rattle.promises.specs.StandsFor.{SameFrom}
 use Rattle.promises.specs.Ends.{Part, Outside, Survivor, Lives, outside-lives, survivor-lives, lives-how}
 use Rattle.mark.specs.Marks.{page-unmarked}
 use Rattle.promises.specs.Regular.{Regular, regular-same}
 use Rattle.copy.specs.Taking.{room-same}
-use Rattle.settle.specs.Rewrite.{forward-same, link-same, begins-now, begins-then}
+use Rattle.settle.specs.Rewrite.{forwarded, forward-same, link-same, begins-now, begins-then}
 use Rattle.settle.specs.RewriteSlots.{Variables}
-use Rattle.settle.specs.Append.{crossAt}
+use Rattle.settle.specs.Append.{crossLater}
 use Rattle.release.specs.Release.{Blank, Alike}
 use Rattle.ended.specs.Evacuated.{Evacuated, Vacated}
 use Rattle.ending.specs.MarkedWords.{table-same, var-same}
 use Rattle.ending.specs.Placing.{HasMoved, placed, forwarded-placed, page-of, outside-placed, outside-home, survivor-home, placed-page, placed-used, placed-out, placed-apart, placed-only}
-use Rattle.ending.specs.Rewriting.{LiveSlot, copies-live, held-live, HasRewritten, slot-after, live-after, rest-after, head-after, work-after}
-use Rattle.ending.specs.Crossing.{Told, live-slot, slot-live, live-page}
+use Rattle.ending.specs.Rewriting.{LiveSlot, copies-live, held-live, HasRewritten, live-later, slot-after, live-after, rest-after, head-after, work-after}
+use Rattle.ending.specs.Crossing.{Told, live-page}
 
 -- two lists of one length with the same words from n on
 same-from : (n : ℕ) (l k : List ℕ) → length k ≡ length l → ((x : ℕ) → n ≤ x → getD k x 0 ≡ getD l x 0) → SameFrom n l k
@@ -90,7 +92,7 @@ pub record GaveBack (s : Sizes) (w : Words) (e : Part) (T T′ : List ℕ) : Typ
   pub survivor : (c : ℕ) → Survivor s w e c → 1 < e .goes c → Open s T′ (e .goes c)
 
 module _ {s : Sizes} {w w₁ : Words} {e : Part} {W T : List ℕ} {S : ℕ → Type 0} {W′ : List ℕ} (k : HasRewritten s w w₁ e W T S W′)
-    {E : ℕ → ℕ → Type 0} (told : Told s w e W T W′ E) {M′ : List ℕ} (U : Renewed E (s .entries) (w .remember) M′)
+    {E : ℕ → ℕ → Type 0} (told : Told s w e W T E) {M′ : List ℕ} (U : Renewed E (s .entries) (w .remember) M′)
     {T₂ : List ℕ} (Y : Variables s (varCount s) W′ T T₂) {T′ : List ℕ} (Z : GaveBack s w e T₂ T′) where
   abbrev w′ : Words
   w′ = words W′ M′ T′
@@ -138,23 +140,38 @@ module _ {s : Sizes} {w w₁ : Words} {e : Part} {W T : List ℕ} {S : ℕ → T
   -- ---- the remember table
 
   -- a slot after the end is a reference of an object that lives on
+  refs-end : (c : ℕ) → Lives s w e c → refsOf W′ (placed W c) ≡ refCount w c
+  refs-end c l = ap (fieldCount Reference) (head-after k c l)
+
   live : (x : ℕ) → Slot s W′ T′ x → LiveSlot s w e W x
   live x q =
-      let v = from-end (q .object) (q .begins) in
-      slot-live k x (record { object = q .object; field = q .field; begins = v .0; room = q .room; low = q .low; at = q .at }) (v .1)
+      let o = from-cell (q .object) (q .begins) in
+      record {
+        object = o .0;
+        field = q .field;
+        lives = o .1;
+        low = omega (arith, q .low, ap (refsOf W′) (sym (o .2)) ∙ refs-end (o .0) (o .1));
+        at = sym (q .at) ∙ ap (λ (d : ℕ). fieldAt d (q .field)) (sym (o .2));
+      }
 
   slot-end : (x : ℕ) → LiveSlot s w e W x → Slot s W′ T′ x
   slot-end x q =
-      let o = live-slot k x q in
-      let out : e .ends (pageOf (o .object)) → ⊥ = λ z. placed-out h (q .object) (q .lives) (subst (e .ends) (sym (slot-page s W′ T x o) ∙ live-page k x q) z) in
-      record { object = o .object; field = o .field; begins = to-end (o .object) (o .begins) out; room = o .room; low = o .low; at = o .at }
+      let c : ℕ = q .object in
+      record {
+        object = placed W c;
+        field = q .field;
+        begins = used c (q .lives);
+        room = omega (arith, ref-room s w (h .whole) c (q .field) (q .lives .used) (q .low), ap roomFor (head-after k c (q .lives)));
+        low = omega (arith, q .low, refs-end c (q .lives));
+        at = sym (q .at);
+      }
 
   -- and crosses into the region that the table was told
-  cross-end : (x : ℕ) → LiveSlot s w e W x → crossTo s W′ T′ x ≡ crossAt s W′ T x
+  cross-end : (x : ℕ) → LiveSlot s w e W x → crossTo s W′ T′ x ≡ crossLater s W T x
   unfolding crossesFrom
   cross-end x q =
       slot-cross s W′ T′ x (slot-end x q)
-      ∙ ap₂ other (ap (ownerOf s T′) (live-page k x q) ∙ home-end (q .object) (q .lives) ∙ ap (ownerOf s T) (sym (live-page k x q))) region
+      ∙ ap₂ other (ap (ownerOf s T′) (live-page h x q) ∙ home-end (q .object) (q .lives) ∙ ap (ownerOf s T) (sym (live-page h x q))) region
     where
       same : (v : ℕ) → fieldOf (w .cells) (q .object) (q .field) ≡ v → regionOf s T′ (renamed (placed W) v) ≡ regionOf s T (renamed (placed W) v)
       same zero z = refl
@@ -162,8 +179,8 @@ module _ {s : Sizes} {w w₁ : Words} {e : Part} {W T : List ℕ} {S : ℕ → T
           let y = h .sends .keeps .references (q .object) (q .field) d (q .lives) (q .low) z in
           region-of s T′ (placed W d) (placed-page h d y) ∙ home-end d y ∙ sym (region-of s T (placed W d) (placed-page h d y))
 
-      region : regionOf s T′ (getD W′ x 0) ≡ regionOf s T (getD W′ x 0)
-      region = ap (regionOf s T′) (live-after k x q) ∙ same (fieldOf (w .cells) (q .object) (q .field)) refl ∙ ap (regionOf s T) (sym (live-after k x q))
+      region : regionOf s T′ (getD W′ x 0) ≡ regionOf s T (forwarded W (getD W x 0))
+      region = ap (regionOf s T′) (live-after k x q ∙ live-later h x q) ∙ same (fieldOf (w .cells) (q .object) (q .field)) refl ∙ ap (regionOf s T) (sym (live-later h x q))
 
   remember : RememberWhole s w′
   remember =
@@ -204,7 +221,7 @@ module _ {s : Sizes} {w w₁ : Words} {e : Part} {W T : List ℕ} {S : ℕ → T
       ∙ h .marks .cells x (λ d z u o. omega (arith, page-of h d u))
     where
       low : LiveSlot s w e W x → ⊥
-      low q = omega (arith, slot-low s W′ T x (live-slot k x q))
+      low q = omega (arith, slot-low s W′ T′ x (slot-end x q))
 
   -- a word of the tables before the depths or after the tables
   same-word : (x : ℕ) → (depthAt 0 ≤ x → tablesWords s ≤ x) → getD T′ x 0 ≡ getD (w .tables) x 0

@@ -17,13 +17,13 @@ use Rattle.copy.specs.Passing.{Moves.none}
 use Rattle.copy.specs.Copying.{Plan, Copy}
 use Rattle.settle.specs.Rewrite.{forwarded, forward-null, forward-still, Rewritten, rewritten-none}
 use Rattle.settle.specs.RewriteSlots.{Variables}
-use Rattle.settle.specs.Update.{Copies, Updating}
+use Rattle.settle.specs.Update.{Copies, Settles}
 use Rattle.ended.specs.EndQuestion.{crossingAfter}
 use Rattle.ending.specs.MarkedWords.{outside-work, var-same}
 use Rattle.ending.specs.Rewriting.{copy-survivor}
 use Rattle.ending.specs.Crossing.{entry-says}
 use Rattle.ending.specs.Region.{Held}
-use Rattle.ending.specs.Stages.{Begun, sends, moved, update-ask}
+use Rattle.ending.specs.Stages.{Begun, sends, moved, settle-ask}
 
 module _ {s : Sizes} {t k r : ℕ} {w w₁ : Words} (b : Begun s t k r w w₁) (off : (page : ℕ) → page < s .pages → markOf s (w₁ .tables) page ≡ 0) where
   unset : (c : ℕ) → pageOf c < s .pages → marked s (w₁ .tables) c ≡ 1 → ⊥
@@ -60,8 +60,8 @@ module _ {s : Sizes} {t k r : ℕ} {w w₁ : Words} (b : Begun s t k r w w₁) (
     pub none-rewritten : Rewritten (λ x. Held s w r x ⊎ Copies s (w₁ .cells) (w₁ .tables) x) (w₁ .cells) (w₁ .cells)
     none-rewritten = rewritten-none (λ x. Held s w r x ⊎ Copies s (w₁ .cells) (w₁ .tables) x) (w₁ .cells) (λ x. ⊎-elim (none-held x) (none-copies x))
 
-    pub none-update : crossingAfter s w t k ≤ s .entries → Updating s r (s .entries) (usedIn (w .remember)) (w₁ .cells) (w .remember) (w₁ .tables)
-    none-update = update-ask b p none-copied none-rewritten
+    pub none-update : crossingAfter s w t k ≤ s .entries → Settles s r (s .entries) (usedIn (w .remember)) (w₁ .cells) (w .remember) (w₁ .tables)
+    none-update = settle-ask b p none-copied (rewritten-none (Held s w r) (w₁ .cells) none-held)
 
   pub none-variables : Variables s (varCount s) (w₁ .cells) (w₁ .tables) (w₁ .tables)
   none-variables = record { size = refl; moved = λ i l. moved i l (varOf s (w₁ .tables) i) refl; same = λ x h. refl }

@@ -1,24 +1,26 @@
 -- The end of one region r, as the crate settle tests it.
-use mathlib.Core.Path.{_≡_, refl, sym, ap, subst, _∙_}
+use mathlib.Core.Path.{_≡_, refl, sym, ap, _∙_}
 use mathlib.Core.Logic.{_≢_, ⊎-elim}
 use mathlib.Core.List.{List}
 use Prim.Native.Nat.{ℕ, _<_}
 use native.Mathlib.Decide.{ℕ-discrete}
 use native.Mathlib.Omega.{arith}
+use lib.ListN.{getD}
 use Rattle.rules.specs.declared.Sizes.{Sizes}
 use Rattle.layout.specs.Places.{ownerOf, usedIn}
 use Rattle.layout.specs.Cells.{pageOf, pageAt, cellOn, page-on}
-use Rattle.layout.specs.Objects.{begins-there, slot-page, slot-on}
+use Rattle.layout.specs.Objects.{begins-there}
 use Rattle.layout.specs.Words.{Words, ownerIn}
 use Rattle.promises.specs.Whole.{WholeFor}
-use Rattle.promises.specs.Ends.{partOf, Lives, lives-how}
+use Rattle.promises.specs.Ends.{partOf, Lives, outside-lives, lives-how}
 use Rattle.settle.specs.RewriteSlots.{Remembered}
 use Rattle.remember.specs.Staying.{newRegion, new-gone, new-stays, new-moved}
-use Rattle.settle.specs.Append.{crossAt, Crosses}
+use Rattle.remember.specs.Crossing.{crossesFrom}
+use Rattle.settle.specs.Rewrite.{forwarded}
 use Rattle.ended.specs.Living.{KeepsNamed}
-use Rattle.ending.specs.Placing.{HasMoved, placed, page-of, page-kept, outside-home, survivor-home, placed-page, placed-out, placed-only}
-use Rattle.ending.specs.Rewriting.{HoldingSlots, LiveSlot, HasRewritten}
-use Rattle.ending.specs.Crossing.{entry-says, live-slot, slot-live, live-page}
+use Rattle.ending.specs.Placing.{HasMoved, placed, page-of, page-kept, outside-home, survivor-home, placed-only}
+use Rattle.ending.specs.Rewriting.{OutsideSlot, HoldingSlots, outside-live}
+use Rattle.ending.specs.Crossing.{entry-says, live-page}
 use Rattle.ending.specs.Remembering.{OfRegions, remembered-holding, Renews}
 
 -- the remembered slots that point into r
@@ -58,27 +60,14 @@ module _ {s : Sizes} {w w₁ : Words} {r : ℕ} {W T : List ℕ} (pos : 0 < r) (
           let o = placed-only h (cellOn page 0) u (λ y. n (ap (ownerIn s w) (sym here) ∙ y)) in
           absurd (home-out (o .0) (o .1) (ap (λ (d : ℕ). ownerOf s T (pageOf d)) (o .2) ∙ ap (ownerOf s T) here ∙ z))
 
-  pub renews : (W′ : List ℕ) → Renews s (partOf s w r) (λ g. g ≡ r) W′ T (newRegion s r W′ T)
-  renews W′ =
+  -- X reads at the slots outside r what the forward references lead to
+  pub renews : (X : List ℕ) → ((x : ℕ) → OutsideSlot s w (partOf s w r) x → getD X x 0 ≡ forwarded W (getD W x 0)) → Renews s w (partOf s w r) (λ g. g ≡ r) W T (newRegion s r X T)
+  renews X reads =
       record {
-        gone = λ x g l z. new-gone s r W′ T x g (page-kept h (pageAt x) l z ∙ z);
-        stays = λ x g l n m. new-stays s r W′ T x g (λ z. n (page-was (pageAt x) l z)) m;
-        moves = λ x g l n m. new-moved s r W′ T x g (λ z. n (page-was (pageAt x) l z)) m;
+        gone = λ x g l z. new-gone s r X T x g (page-kept h (pageAt x) l z ∙ z);
+        stays = λ x g q m. new-stays s r X T x g (out x q) m;
+        moves = λ x g q m. ap (λ (y : ℕ). crossesFrom s T (ownerOf s T (pageAt x)) y) (sym (reads x q)) ∙ new-moved s r X T x g (out x q) m;
       }
-
-  -- the slots that cross once r has ended
-  module _ {W′ : List ℕ} (k : HasRewritten s w w₁ (partOf s w r) W T (Held s w r) W′) where
-    pub live-crosses : (x : ℕ) → LiveSlot s w (partOf s w r) W x → crossAt s W′ T x ≢ 0 → Crosses s r W′ T x
-    live-crosses x q n =
-        let p = live-page k x q in
-        record {
-          slot = live-slot k x q;
-          out = λ z. placed-out h (q .object) (q .lives) (page-was (pageOf (placed W (q .object))) (placed-page h (q .object) (q .lives)) (ap (ownerOf s T) (sym p) ∙ z));
-          cross = n;
-        }
-
-    pub crosses-live : (x : ℕ) → Crosses s r W′ T x → LiveSlot s w (partOf s w r) W x
-    crosses-live x c =
-        let q = c .slot in
-        let p = slot-page s W′ T x q in
-        slot-live k x q (λ z. c .out (ap (ownerOf s T) p ∙ page-kept h (pageOf (q .object)) (subst (λ (y : ℕ). y < s .pages) p (slot-on s W′ T x q)) z ∙ z))
+    where
+      out : (x : ℕ) → OutsideSlot s w (partOf s w r) x → ownerOf s T (pageAt x) ≢ r
+      out x q z = home-out (q .object) (outside-lives (q .outside)) (ap (ownerOf s T) (sym (live-page h x (outside-live h x q))) ∙ z)

@@ -11,16 +11,17 @@ use Rattle.layout.specs.Cells.{fieldAt, fieldOf, pageOf, pageAt}
 use Rattle.layout.specs.Objects.{begins-page, field-on}
 use Rattle.layout.specs.Words.{Words, ownerIn}
 use Rattle.remember.specs.Filtered.{Stays}
+use Rattle.remember.specs.Crossing.{crossesFrom}
 use Rattle.promises.specs.Whole.{WholeFor}
 use Rattle.promises.specs.Reading.{ref-room}
 use Rattle.promises.specs.Ends.{Part, Outside, Survivor, Lives, outside-lives, lives-how}
-use Rattle.settle.specs.Append.{crossAt, Crossing}
+use Rattle.settle.specs.Append.{crossAt, crossLater, Crossing}
 use Rattle.settle.specs.Update.{Copies}
 use Rattle.settle.specs.RewriteCopies.{slot-now, slot-then}
 use Rattle.ended.specs.Living.{KeepsNamed}
-use Rattle.ending.specs.Placing.{HasMoved, placed, page-of, outside-placed, outside-home, placed-page, placed-out}
-use Rattle.ending.specs.Rewriting.{HoldingSlots, LiveSlot, outside-live, copies-live, survivor-copy, HasRewritten}
-use Rattle.ending.specs.Crossing.{entry-of, EntrySays, entry-says, Told, live-page, crosses-names, names-cross}
+use Rattle.ending.specs.Placing.{HasMoved, placed, page-of, outside-home}
+use Rattle.ending.specs.Rewriting.{OutsideSlot, HoldingSlots, LiveSlot, outside-live, live-outside, copies-live, survivor-copy, HasRewritten, live-after}
+use Rattle.ending.specs.Crossing.{entry-of, EntrySays, entry-says, Told, crosses-names, names-cross}
 
 -- the pages of the part are those of the regions of G, none of which is the control space
 pub record OfRegions (s : Sizes) (w : Words) (e : Part) (G : ℕ → Type 0) : Type 0 where
@@ -55,19 +56,16 @@ remembered-holding {s} {w} {e} {G} {S} whole keeps o from to =
     }
 
 -- `anew` gives the region that the entry of slot x with region g has afterwards, 0 if it goes
-pub record Renews (s : Sizes) (e : Part) (G : ℕ → Type 0) (W′ T : List ℕ) (anew : ℕ → ℕ → ℕ) : Type 0 where
+pub record Renews (s : Sizes) (w : Words) (e : Part) (G : ℕ → Type 0) (W T : List ℕ) (anew : ℕ → ℕ → ℕ) : Type 0 where
   pub gone : (x g : ℕ) → pageAt x < s .pages → e .ends (pageAt x) → 0 ≡ anew x g
-  pub stays : (x g : ℕ) → pageAt x < s .pages → (e .ends (pageAt x) → ⊥) → (G g → ⊥) → g ≡ anew x g
-  pub moves : (x g : ℕ) → pageAt x < s .pages → (e .ends (pageAt x) → ⊥) → G g → crossAt s W′ T x ≡ anew x g
+  pub stays : (x g : ℕ) → OutsideSlot s w e x → (G g → ⊥) → g ≡ anew x g
+  pub moves : (x g : ℕ) → OutsideSlot s w e x → G g → crossLater s W T x ≡ anew x g
 
-module _ {s : Sizes} {w w₁ : Words} {e : Part} {W T : List ℕ} {S : ℕ → Type 0} {W′ : List ℕ} (k : HasRewritten s w w₁ e W T S W′)
-    {G : ℕ → Type 0} (o : OfRegions s w e G) {anew : ℕ → ℕ → ℕ} (a : Renews s e G W′ T anew) where
-  h : HasMoved s w w₁ e W T
-  h = k .moved
-
+module _ {s : Sizes} {w w₁ : Words} {e : Part} {W T : List ℕ} (h : HasMoved s w w₁ e W T)
+    {G : ℕ → Type 0} (o : OfRegions s w e G) {anew : ℕ → ℕ → ℕ} (a : Renews s w e G W T anew) where
   -- an entry that stays
-  pub stays-live : (x g : ℕ) → Stays anew (s .entries) (w .remember) (usedIn (w .remember)) x g → LiveSlot s w e W x × (g ≡ crossAt s W′ T x)
-  stays-live x g q = subst (λ (y : ℕ). LiveSlot s w e W y × (g ≡ crossAt s W′ T y)) (q .slot) (here (o .test region))
+  pub stays-live : (x g : ℕ) → Stays anew (s .entries) (w .remember) (usedIn (w .remember)) x g → LiveSlot s w e W x × (g ≡ crossLater s W T x)
+  stays-live x g q = subst (λ (y : ℕ). LiveSlot s w e W y × (g ≡ crossLater s W T y)) (q .slot) (here (o .test region))
     where
       slot : ℕ
       slot = slotIn (w .remember) (q .entry)
@@ -87,56 +85,62 @@ module _ {s : Sizes} {w w₁ : Words} {e : Part} {W T : List ℕ} {S : ℕ → T
       outside : Outside s w e (y .object)
       outside = record { used = y .used; out = λ z. out (subst (e .ends) (sym (y .page)) z) }
 
-      live : LiveSlot s w e W (slotIn (w .remember) (q .entry))
-      live = outside-live h slot (record { object = y .object; field = y .field; outside = outside; low = y .low; at = y .at })
+      found : OutsideSlot s w e (slotIn (w .remember) (q .entry))
+      found = record { object = y .object; field = y .field; outside = outside; low = y .low; at = y .at }
 
-      here : Dec (G (slotRegionIn (s .entries) (w .remember) (q .entry))) → LiveSlot s w e W (slotIn (w .remember) (q .entry)) × (g ≡ crossAt s W′ T (slotIn (w .remember) (q .entry)))
-      here (yes z) = (live, q .region ∙ sym (a .moves slot region page out z))
+      live : LiveSlot s w e W (slotIn (w .remember) (q .entry))
+      live = outside-live h slot found
+
+      here : Dec (G (slotRegionIn (s .entries) (w .remember) (q .entry))) → LiveSlot s w e W (slotIn (w .remember) (q .entry)) × (g ≡ crossLater s W T (slotIn (w .remember) (q .entry)))
+      here (yes z) = (live, q .region ∙ sym (a .moves slot region found z))
       here (no n) =
           let u = h .sends .keeps .references (y .object) (y .field) (y .names) (outside-lives outside) (y .low) (y .value) .used in
           let hd = outside-home h (y .names) (record { used = u; out = λ z. n (subst G (sym (y .region)) (o .owner (pageOf (y .names)) (page-of h (y .names) u) z)) }) in
-          let z = names-cross k slot live (y .names) (y .value) (omega (arith, y .high, hd)) (λ v. y .other (sym hd ∙ v ∙ outside-home h (y .object) outside)) in
-          (live, q .region ∙ sym (a .stays slot region page out n) ∙ y .region ∙ sym hd ∙ sym z)
+          let z = names-cross h slot live (y .names) (y .value) (omega (arith, y .high, hd)) (λ v. y .other (sym hd ∙ v ∙ outside-home h (y .object) outside)) in
+          (live, q .region ∙ sym (a .stays slot region found n) ∙ y .region ∙ sym hd ∙ sym z)
 
-  -- the entries of the new table
-  pub told : Told s w e W T W′ (λ x g. Stays anew (s .entries) (w .remember) (usedIn (w .remember)) x g ⊎ Crossing s (Copies s W′ T) W′ T x g)
-  told =
-      record {
-        live = λ x g. ⊎-elim (stays-live x g) (λ q. (copies-live h x (slot-then (k .cells) x (q .at)), q .region));
-        kept = λ x g. ⊎-elim (λ q. q .kept) (λ q. q .kept);
-        every = λ x q n. ⊎-elim (λ u. inl (stay x q n u)) (λ v. inr (record { at = slot-now (k .cells) x (survivor-copy h x q v); region = refl; kept = n })) (lives-how (q .lives));
-      }
+  -- a slot outside the part that will cross is one's
+  pub stay : (x : ℕ) (q : LiveSlot s w e W x) → crossLater s W T x ≢ 0 → Outside s w e (q .object) → Stays anew (s .entries) (w .remember) (usedIn (w .remember)) x (crossLater s W T x)
+  stay x q n u = go (lives-how (m .1))
     where
-      stay : (x : ℕ) (q : LiveSlot s w e W x) → crossAt s W′ T x ≢ 0 → Outside s w e (q .object) → Stays anew (s .entries) (w .remember) (usedIn (w .remember)) x (crossAt s W′ T x)
-      stay x q n u = go (lives-how (m .1))
-        where
-          m : (d : ℕ) × Lives s w e d × (fieldOf (w .cells) (q .object) (q .field) ≡ suc d) × (crossAt s W′ T x ≡ ownerOf s T (pageOf (placed W d)))
-              × (1 < ownerOf s T (pageOf (placed W d))) × (ownerOf s T (pageOf (placed W d)) ≢ ownerOf s T (pageOf (placed W (q .object))))
-          m = crosses-names k x q n
+      m : (d : ℕ) × Lives s w e d × (fieldOf (w .cells) (q .object) (q .field) ≡ suc d) × (crossLater s W T x ≡ ownerOf s T (pageOf (placed W d)))
+          × (1 < ownerOf s T (pageOf (placed W d))) × (ownerOf s T (pageOf (placed W d)) ≢ ownerOf s T (pageOf (placed W (q .object))))
+      m = crosses-names h x q n
 
-          page : pageAt x < s .pages
-          page = subst (λ (p : ℕ). p < s .pages) (sym (live-page k x q)) (placed-page h (q .object) (q .lives))
+      low : pageOf (m .0) < s .pages
+      low = page-of h (m .0) (m .1 .used)
 
-          out : e .ends (pageAt x) → ⊥
-          out z = placed-out h (q .object) (q .lives) (subst (e .ends) (live-page k x q) z)
+      -- by its old entry
+      by : 1 < ownerIn s w (pageOf (m .0)) → ownerIn s w (pageOf (m .0)) ≢ ownerIn s w (pageOf (q .object)) → crossLater s W T x ≡ anew x (ownerIn s w (pageOf (m .0)))
+          → Stays anew (s .entries) (w .remember) (usedIn (w .remember)) x (crossLater s W T x)
+      by up ne region =
+          let y = entry-of (h .whole) (q .object) (q .field) (m .0) (u .used) (q .low) (m .2) low up ne in
+          let at = y .2 ∙ sym (live-outside h x q u .at) in
+          record { entry = y .0; low = y .1; slot = at; region = region ∙ ap₂ anew (sym at) (sym (y .3)); kept = n }
 
-          low : pageOf (m .0) < s .pages
-          low = page-of h (m .0) (m .1 .used)
+      go : Outside s w e (m .0) ⊎ Survivor s w e (m .0) → Stays anew (s .entries) (w .remember) (usedIn (w .remember)) x (crossLater s W T x)
+      go (inl v) =
+          let hd = outside-home h (m .0) v in
+          by (omega (arith, hd, m .4)) (λ z. m .5 (hd ∙ z ∙ sym (outside-home h (q .object) u)))
+          (m .3 ∙ hd ∙ a .stays x (ownerIn s w (pageOf (m .0))) (live-outside h x q u) (λ z. v .out (o .ends (pageOf (m .0)) low z)))
+      go (inr v) =
+          let g = o .owner (pageOf (m .0)) low (v .within) in
+          by (o .high (ownerIn s w (pageOf (m .0))) g) (λ z. u .out (o .ends (pageOf (q .object)) (page-of h (q .object) (u .used)) (subst G z g)))
+          (a .moves x (ownerIn s w (pageOf (m .0))) (live-outside h x q u) g)
 
-          -- by its old entry
-          by : 1 < ownerIn s w (pageOf (m .0)) → ownerIn s w (pageOf (m .0)) ≢ ownerIn s w (pageOf (q .object)) → crossAt s W′ T x ≡ anew x (ownerIn s w (pageOf (m .0)))
-              → Stays anew (s .entries) (w .remember) (usedIn (w .remember)) x (crossAt s W′ T x)
-          by up ne region =
-              let y = entry-of (h .whole) (q .object) (q .field) (m .0) (u .used) (q .low) (m .2) low up ne in
-              let at = y .2 ∙ sym (q .at ∙ ap (λ (c : ℕ). fieldAt c (q .field)) (outside-placed h (q .object) u)) in
-              record { entry = y .0; low = y .1; slot = at; region = region ∙ ap₂ anew (sym at) (sym (y .3)); kept = n }
+-- a slot that lives on crosses, as it reads, into the region foreseen
+later : {s : Sizes} {w w₁ : Words} {e : Part} {W T : List ℕ} {S : ℕ → Type 0} {W′ : List ℕ} → HasRewritten s w w₁ e W T S W′ → (x : ℕ) → LiveSlot s w e W x → crossAt s W′ T x ≡ crossLater s W T x
+later {s} {T = T} k x q = ap (λ (y : ℕ). crossesFrom s T (ownerOf s T (pageAt x)) y) (live-after k x q)
 
-          go : Outside s w e (m .0) ⊎ Survivor s w e (m .0) → Stays anew (s .entries) (w .remember) (usedIn (w .remember)) x (crossAt s W′ T x)
-          go (inl v) =
-              let hd = outside-home h (m .0) v in
-              by (omega (arith, hd, m .4)) (λ z. m .5 (hd ∙ z ∙ sym (outside-home h (q .object) u)))
-              (m .3 ∙ hd ∙ a .stays x (ownerIn s w (pageOf (m .0))) page out (λ z. v .out (o .ends (pageOf (m .0)) low z)))
-          go (inr v) =
-              let g = o .owner (pageOf (m .0)) low (v .within) in
-              by (o .high (ownerIn s w (pageOf (m .0))) g) (λ z. u .out (o .ends (pageOf (q .object)) (page-of h (q .object) (u .used)) (subst G z g)))
-              (a .moves x (ownerIn s w (pageOf (m .0))) page out g)
+-- the entries of the new table
+pub told : {s : Sizes} {w w₁ : Words} {e : Part} {W T : List ℕ} {S : ℕ → Type 0} {W′ : List ℕ} (k : HasRewritten s w w₁ e W T S W′) {G : ℕ → Type 0} → OfRegions s w e G → {anew : ℕ → ℕ → ℕ} → Renews s w e G W T anew
+    → Told s w e W T (λ x g. Stays anew (s .entries) (w .remember) (usedIn (w .remember)) x g ⊎ Crossing s (Copies s W′ T) W′ T x g)
+told {s} {w} {W = W} {T = T} k o a =
+    let h = k .moved in
+    record {
+      live = λ x g. ⊎-elim (stays-live h o a x g) (λ q. let l = copies-live h x (slot-then (k .cells) x (q .at)) in (l, q .region ∙ later k x l));
+      kept = λ x g. ⊎-elim (λ q. q .kept) (λ q. q .kept);
+      every = λ x q n.
+          ⊎-elim (λ u. inl (stay h o a x q n u)) (λ v. inr (record { at = slot-now (k .cells) x (survivor-copy h x q v); region = sym (later k x q); kept = n }))
+          (lives-how (q .lives));
+    }

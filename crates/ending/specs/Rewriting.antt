@@ -6,12 +6,11 @@ use mathlib.Core.List.{List}
 use Prim.Native.Nat.{ℕ, zero, suc, _-_, _≤_, _<_}
 use native.Mathlib.Decide.{ℕ-discrete}
 use native.Mathlib.Omega.{arith}
-use lib.ListN.{length, getD}
+use lib.ListN.{getD}
 use Rattle.rules.specs.declared.Sizes.{Sizes}
 use Rattle.laws.specs.SameRules.{renamed}
 use Rattle.layout.specs.declared.Kind.the-variants.{Reference}
 use Rattle.layout.specs.Cells.{fieldAt, headOf, workOf, fieldOf, refsOf, fieldCount, pageOf, cellNamed, mostFields, field-apart, field-once}
-use Rattle.layout.specs.Objects.{begins-same, begins-back}
 use Rattle.layout.specs.Words.{Words, BeginsIn, Names, headIn, refCount}
 use Rattle.promises.specs.Reading.{refs-few}
 use Rattle.promises.specs.Ends.{Part, Outside, Survivor, Lives, outside-lives, survivor-lives, lives-how}
@@ -48,7 +47,7 @@ pub record LiveSlot (s : Sizes) (w : Words) (e : Part) (W : List ℕ) (x : ℕ) 
   pub at : x ≡ fieldAt (placed W object) field
 
 module _ {s : Sizes} {w w₁ : Words} {e : Part} {W T : List ℕ} (h : HasMoved s w w₁ e W T) where
-  refs-placed : (c : ℕ) → Lives s w e c → refsOf W (placed W c) ≡ refCount w c
+  pub refs-placed : (c : ℕ) → Lives s w e c → refsOf W (placed W c) ≡ refCount w c
   refs-placed c l = ap (fieldCount Reference) (placed-head h c l)
 
   copy-cell : (c : ℕ) → Survivor s w e c → workOf W c - 1 ≡ placed W c
@@ -62,6 +61,16 @@ module _ {s : Sizes} {w w₁ : Words} {e : Part} {W T : List ℕ} (h : HasMoved 
         lives = outside-lives (q .outside);
         low = q .low;
         at = q .at ∙ ap (λ (d : ℕ). fieldAt d (q .field)) (sym (outside-placed h (q .object) (q .outside)));
+      }
+
+  abbrev pub live-outside : (x : ℕ) (q : LiveSlot s w e W x) → Outside s w e (q .object) → OutsideSlot s w e x
+  live-outside x q o =
+      record {
+        object = q .object;
+        field = q .field;
+        outside = o;
+        low = q .low;
+        at = q .at ∙ ap (λ (d : ℕ). fieldAt d (q .field)) (outside-placed h (q .object) o);
       }
 
   -- the slots of the copies are the survivors' references
@@ -104,50 +113,59 @@ module _ {s : Sizes} {w w₁ : Words} {e : Part} {W T : List ℕ} (h : HasMoved 
       let z = fields-apart c (placed W d) f (k .0 .field) (few h c f u l) (few h d (k .0 .field) (k .1 .used) (k .0 .low)) (k .0 .at) in
       survivor-fresh h d (k .1) (subst (BeginsIn s w) (z .0 ∙ survivor-placed h d (k .1)) u)
 
-  -- a reference of an object that lives on names a cell
+  -- a reference of an object that lives on is as it was, and names a cell
+  live-before : (x : ℕ) (q : LiveSlot s w e W x) → getD W x 0 ≡ fieldOf (w .cells) (q .object) (q .field)
+  live-before x q =
+      ap (λ (y : ℕ). getD W y 0) (q .at) ∙ placed-field h (q .object) (q .lives) (q .field) (few h (q .object) (q .field) (q .lives .used) (q .low))
+
   pub live-names : (x : ℕ) → LiveSlot s w e W x → Names s (getD W x 0)
   live-names x q =
-      let c : ℕ = q .object in
-      let f : ℕ = q .field in
-      subst (Names s) (sym (ap (λ (y : ℕ). getD W y 0) (q .at) ∙ placed-field h c (q .lives) f (few h c f (q .lives .used) (q .low))))
-      (λ n. page-of h (cellNamed (fieldOf (w .cells) c f)) (h .sends .keeps .references c f (cellNamed (fieldOf (w .cells) c f)) (q .lives) (q .low) (omega arith) .used))
+      let d : ℕ = cellNamed (fieldOf (w .cells) (q .object) (q .field)) in
+      subst (Names s) (sym (live-before x q)) (λ n. page-of h d (h .sends .keeps .references (q .object) (q .field) d (q .lives) (q .low) (omega arith) .used))
 
-  -- ---- what their rewriting asks
+  -- the forward references lead to the cell of what it names
+  pub live-later : (x : ℕ) (q : LiveSlot s w e W x) → forwarded W (getD W x 0) ≡ renamed (placed W) (fieldOf (w .cells) (q .object) (q .field))
+  live-later x q = ap (forwarded W) (live-before x q) ∙ forwarded-placed W (fieldOf (w .cells) (q .object) (q .field))
 
-  -- of cells in which every reference of a copy names a cell
-  pub wired : {X : List ℕ} → length X ≡ length W → ((d : ℕ) → workOf X d ≡ workOf W d) → ((d : ℕ) → headOf X d ≡ headOf W d)
-      → ((x : ℕ) → LiveSlot s w e W x → Names s (getD X x 0)) → Wiring s (OnPages (s .pages)) X T
-  wired {X} long links heads named =
+  pub names-later : (x : ℕ) → LiveSlot s w e W x → Names s (forwarded W (getD W x 0))
+  names-later x q = subst (Names s) (sym (live-later x q)) (go (fieldOf (w .cells) (q .object) (q .field)) refl)
+    where
+      go : (v : ℕ) → fieldOf (w .cells) (q .object) (q .field) ≡ v → Names s (renamed (placed W) v)
+      go zero z n = absurd (n refl)
+      go (suc d) z n =
+          subst (λ (x : ℕ). pageOf x < s .pages) (let y : placed W d ≡ cellNamed (suc (placed W d)) = omega arith in y)
+          (placed-page h d (h .sends .keeps .references (q .object) (q .field) d (q .lives) (q .low) z))
+
+  -- what their rewriting asks
+  wired : Wiring s (OnPages (s .pages)) W T
+  wired =
       record {
         few = h .room .few;
-        cells-long = omega (arith, h .ready .cells-long, long);
+        cells-long = h .ready .cells-long;
         tables-long = h .ready .room;
         bits = λ d q l z. let v = marked-survivor (h .marks) d l (sym (h .forwards .bits d l) ∙ z) in
-            record { used = begins-same s W T X T d refl (λ j b z. heads j) (old-used h d (v .used)); moved = λ y. omega (arith, links d, survivor-forward h d v) };
+            record { used = old-used h d (v .used); moved = λ y. omega (arith, survivor-forward h d v) };
         only = λ d q u. let v = survivor d u in h .forwards .bits d (page-of h d (v .used)) ∙ on h d v;
         copies = λ d q u. fields d (survivor d u);
         once = λ x y q q′ u v z.
             let a = survivor x u in
             let b = survivor y v in
-            placed-apart h x y (survivor-lives a) (survivor-lives b) (sym (cell x a) ∙ ap (λ (i : ℕ). i - 1) z ∙ cell y b);
+            placed-apart h x y (survivor-lives a) (survivor-lives b) (sym (copy-cell x a) ∙ ap (λ (i : ℕ). i - 1) z ∙ copy-cell y b);
       }
     where
-      survivor : (d : ℕ) → Old s X T d → Survivor s w e d
-      survivor d u = moved-survivor h d (begins-back s W T X T d refl (λ j b z. heads j) (u .used)) (λ z. u .moved (links d ∙ z))
+      survivor : (d : ℕ) → Old s W T d → Survivor s w e d
+      survivor d u = moved-survivor h d (u .used) (u .moved)
 
-      cell : (d : ℕ) → Survivor s w e d → workOf X d - 1 ≡ placed W d
-      cell d v = omega (arith, links d, copy-cell d v)
-
-      fields : (d : ℕ) → Survivor s w e d → Fields s (refsOf X (workOf X d - 1)) (workOf X d - 1) X
+      fields : (d : ℕ) → Survivor s w e d → Fields s (refsOf W (workOf W d - 1)) (workOf W d - 1) W
       fields d v =
-          let n : refsOf X (placed W d) ≡ refCount w d = ap (fieldCount Reference) (heads (placed W d)) ∙ refs-placed d (survivor-lives v) in
-          subst (λ (x : ℕ). Fields s (refsOf X x) x X) (sym (cell d v))
+          let n = refs-placed d (survivor-lives v) in
+          subst (λ (x : ℕ). Fields s (refsOf W x) x W) (sym (copy-cell d v))
           (record {
             pages = h .room .few;
-            cells-long = omega (arith, h .ready .cells-long, long);
+            cells-long = h .ready .cells-long;
             page = placed-page h d (survivor-lives v);
             few = omega (arith, n, refs-few s w (h .whole) d (v .used));
-            names = λ f l. named (fieldAt (placed W d) f) (record { object = d; field = f; lives = survivor-lives v; low = omega (arith, n); at = refl });
+            names = λ f l. live-names (fieldAt (placed W d) f) (record { object = d; field = f; lives = survivor-lives v; low = omega (arith, n); at = refl });
           })
 
 -- ---- the holding slots are rewritten
@@ -156,17 +174,40 @@ module _ {s : Sizes} {w w₁ : Words} {e : Part} {W T : List ℕ} (h : HasMoved 
   pub held-live : (x : ℕ) → S x → LiveSlot s w e W x
   held-live x q = outside-live h x (H .slot x q)
 
-  no-copy : (x : ℕ) → Copies s W T x → S x → ⊥
+  pub no-copy : (x : ℕ) → Copies s W T x → S x → ⊥
   no-copy x q z = let o = H .slot x z in old-no-copy h (o .object) (o .field) (o .outside .used) (o .low) (subst (Copies s W T) (o .at) q)
 
   module _ {W₂ : List ℕ} (R₂ : Rewritten S W W₂) where
     -- the copies' own slots are as they were
     pub copies-ask : Wiring s (OnPages (s .pages)) W₂ T
-    copies-ask = wiring-now R₂ (wired h refl (λ d. refl) (λ d. refl) (live-names h)) no-copy
+    copies-ask = wiring-now R₂ (wired h) no-copy
 
     pub rewritten-both : {W₃ : List ℕ} → Rewritten (Copies s W₂ T) W₂ W₃ → Rewritten (λ x. S x ⊎ Copies s W T x) W W₃
     rewritten-both R₃ =
         rewritten-join R₂ R₃ (λ x z q. no-copy x (slot-then R₂ x q) z) (λ x. ⊎-elim inl (λ q. inr (slot-now R₂ x q))) (λ x. ⊎-elim inl (λ q. inr (slot-then R₂ x q)))
+
+  -- the slots of objects outside the part lead where they should once the holding slots are rewritten, with others or alone
+  module _ {P : ℕ → Type 0} {X : List ℕ} (R : Rewritten P W X) (among : (x : ℕ) → S x → P x) where
+    -- a reference that is not to be moved stays, whether its slot is looked at or not
+    unmoved : (x : ℕ) → forwarded W (getD W x 0) ≡ getD W x 0 → getD X x 0 ≡ forwarded W (getD W x 0)
+    unmoved x still = go (ℕ-discrete (getD X x 0) (getD W x 0))
+      where
+        go : Dec (getD X x 0 ≡ getD W x 0) → getD X x 0 ≡ forwarded W (getD W x 0)
+        go (yes z) = z ∙ sym still
+        go (no n) = absurd (n (R .same x (λ q. n (R .moved x q ∙ still))))
+
+    pub outside-after : (x : ℕ) → OutsideSlot s w e x → getD X x 0 ≡ forwarded W (getD W x 0)
+    outside-after x q = go (fieldOf (w .cells) (q .object) (q .field)) refl
+      where
+        before : getD W x 0 ≡ fieldOf (w .cells) (q .object) (q .field)
+        before = live-before h x (outside-live h x q)
+
+        go : (v : ℕ) → fieldOf (w .cells) (q .object) (q .field) ≡ v → getD X x 0 ≡ forwarded W (getD W x 0)
+        go zero z = unmoved x (forward-null W (getD W x 0) (before ∙ z) ∙ sym (before ∙ z))
+        go (suc d) z =
+            ⊎-elim (λ o. unmoved x (forward-still W (getD W x 0) (ap (workOf W) (let y : cellNamed (getD W x 0) ≡ d = omega (arith, before ∙ z) in y) ∙ outside-idle h d o)))
+            (λ v. R .moved x (among x (subst S (sym (q .at)) (H .every (q .object) (q .field) d (q .outside) (q .low) z (v .within)))))
+            (lives-how (h .sends .keeps .references (q .object) (q .field) d (outside-lives (q .outside)) (q .low) z))
 
 -- ---- after the rewriting of both
 
@@ -185,56 +226,15 @@ module _ {s : Sizes} {w w₁ : Words} {e : Part} {W T : List ℕ} {S : ℕ → T
   pub work-after : (c : ℕ) → Lives s w e c → workOf W′ (placed W c) ≡ 0
   work-after c l = link-same (r .cells) (placed W c) ∙ placed-work h c l
 
-  -- a reference that is not to be moved stays, whether its slot is looked at or not
-  unmoved : (x v : ℕ) → getD W x 0 ≡ v → forwarded W v ≡ v → (Copies s W T x → ⊥) → getD W′ x 0 ≡ forwarded W v
-  unmoved x v g still none = go (ℕ-discrete (getD W′ x 0) v)
-    where
-      go : Dec (getD W′ x 0 ≡ v) → getD W′ x 0 ≡ forwarded W v
-      go (yes z) = z ∙ sym still
-      go (no n) =
-          absurd (n (r .cells .same x (⊎-elim (λ q. n (r .cells .moved x (inl q) ∙ ap (forwarded W) g ∙ still)) none) ∙ g))
-
-  outside-slot : (c f : ℕ) → Outside s w e c → f < refCount w c → fieldOf W′ c f ≡ forwarded W (fieldOf (w .cells) c f)
-  outside-slot c f o l = go (fieldOf (w .cells) c f) refl
-    where
-      before : fieldOf W c f ≡ fieldOf (w .cells) c f
-      before = ap (λ (d : ℕ). fieldOf W d f) (sym (outside-placed h c o)) ∙ placed-field h c (outside-lives o) f (few h c f (o .used) l)
-
-      go : (v : ℕ) → fieldOf (w .cells) c f ≡ v → fieldOf W′ c f ≡ forwarded W v
-      go zero z = unmoved (fieldAt c f) zero (before ∙ z) (forward-null W zero refl) (old-no-copy h c f (o .used) l)
-      go (suc d) z = how (lives-how (h .sends .keeps .references c f d (outside-lives o) l z))
-        where
-          how : Outside s w e d ⊎ Survivor s w e d → fieldOf W′ c f ≡ forwarded W (suc d)
-          how (inl q) =
-              unmoved (fieldAt c f) (suc d) (before ∙ z)
-              (forward-still W (suc d) (ap (workOf W) (let y : suc d - 1 ≡ d = omega arith in y) ∙ outside-idle h d q)) (old-no-copy h c f (o .used) l)
-          how (inr v) = r .cells .moved (fieldAt c f) (inl (r .holding .every c f d o l z (v .within))) ∙ ap (forwarded W) (before ∙ z)
-
-  survivor-slot : (c f : ℕ) → Survivor s w e c → f < refCount w c → fieldOf W′ (placed W c) f ≡ forwarded W (fieldOf (w .cells) c f)
-  survivor-slot c f v l =
-      r .cells .moved (fieldAt (placed W c) f) (inr (survivor-copy h (fieldAt (placed W c) f) (record { object = c; field = f; lives = survivor-lives v; low = l; at = refl }) v))
-      ∙ ap (forwarded W) (placed-field h c (survivor-lives v) f (few h c f (v .used) l))
+  pub live-after : (x : ℕ) → LiveSlot s w e W x → getD W′ x 0 ≡ forwarded W (getD W x 0)
+  live-after x q =
+      ⊎-elim (λ o. outside-after h (r .holding) (r .cells) (λ y. inl) x (live-outside h x q o)) (λ v. r .cells .moved x (inr (survivor-copy h x q v)))
+      (lives-how (q .lives))
 
   pub slot-after : (c f : ℕ) → Lives s w e c → f < refCount w c → fieldOf W′ (placed W c) f ≡ renamed (placed W) (fieldOf (w .cells) c f)
   slot-after c f l m =
-      ⊎-elim (λ o. ap (λ (d : ℕ). fieldOf W′ d f) (outside-placed h c o) ∙ outside-slot c f o m) (λ v. survivor-slot c f v m) (lives-how l)
-      ∙ forwarded-placed W (fieldOf (w .cells) c f)
-
-  pub live-after : (x : ℕ) (q : LiveSlot s w e W x) → getD W′ x 0 ≡ renamed (placed W) (fieldOf (w .cells) (q .object) (q .field))
-  live-after x q = ap (λ (y : ℕ). getD W′ y 0) (q .at) ∙ slot-after (q .object) (q .field) (q .lives) (q .low)
-
-  -- so it names a cell
-  pub names-after : (x : ℕ) → LiveSlot s w e W x → Names s (getD W′ x 0)
-  names-after x q = subst (Names s) (sym (live-after x q)) (go (fieldOf (w .cells) (q .object) (q .field)) refl)
-    where
-      go : (v : ℕ) → fieldOf (w .cells) (q .object) (q .field) ≡ v → Names s (renamed (placed W) v)
-      go zero z n = absurd (n refl)
-      go (suc d) z n =
-          subst (λ (x : ℕ). pageOf x < s .pages) (let y : placed W d ≡ cellNamed (suc (placed W d)) = omega arith in y)
-          (placed-page h d (h .sends .keeps .references (q .object) (q .field) d (q .lives) (q .low) z))
-
-  pub wired-after : Wiring s (OnPages (s .pages)) W′ T
-  wired-after = wired h (r .cells .size) (link-same (r .cells)) (heads-same (r .cells)) names-after
+      let q : LiveSlot s w e W (fieldAt (placed W c) f) = record { object = c; field = f; lives = l; low = m; at = refl } in
+      live-after (fieldAt (placed W c) f) q ∙ live-later h (fieldAt (placed W c) f) q
 
   -- a word after the references is no slot
   pub rest-after : (c f : ℕ) → Lives s w e c → refCount w c ≤ f → f < mostFields → fieldOf W′ (placed W c) f ≡ fieldOf (w .cells) c f

@@ -15,10 +15,10 @@ use Rattle.layout.specs.Places.{ownerOf, cellsWords}
 use Rattle.layout.specs.Cells.{fieldAt, pageOf, mostFields, field-in}
 use Rattle.layout.specs.Words.{Words}
 use Rattle.promises.specs.Ends.{Part, Lives, lives-how}
-use Rattle.settle.specs.Append.{crossAt}
+use Rattle.settle.specs.Append.{crossLater, AtMost}
 use Rattle.ended.specs.Living.{GraphAfter, lives-there}
 use Rattle.ending.specs.Placing.{HasMoved, placed, page-of, few, outside-home, survivor-home}
-use Rattle.ending.specs.Rewriting.{fields-apart, LiveSlot, HasRewritten}
+use Rattle.ending.specs.Rewriting.{fields-apart, LiveSlot}
 use Rattle.ending.specs.Crossing.{crosses-names}
 use Rattle.ending.specs.CrossingPositions.{crossesPast, of-object, positions-few}
 
@@ -39,27 +39,23 @@ module _ (n : ℕ) (P : ℕ → ℕ → Type 0) (h : (i : ℕ) → i < n → (q 
       go (yes m) = h i m .1
       go (no m) = absurd (m l)
 
-module _ {s : Sizes} {w w₁ : Words} {e : Part} {W T : List ℕ} {S : ℕ → Type 0} {W′ : List ℕ} (r : HasRewritten s w w₁ e W T S W′)
-    {g : Graph} (a : GraphAfter s w e g) where
-  h : HasMoved s w w₁ e W T
-  h = r .moved
-
+module _ {s : Sizes} {w w₁ : Words} {e : Part} {W T : List ℕ} (h : HasMoved s w w₁ e W T) {g : Graph} (a : GraphAfter s w e g) where
   home-is : (c : ℕ) → Lives s w e c → g .home c ≡ ownerOf s T (pageOf (placed W c))
   home-is c l = ⊎-elim (λ o. a .outside c o ∙ sym (outside-home h c o)) (λ v. a .survivor c v ∙ sym (survivor-home h c v)) (lives-how l)
 
   -- where a slot that crosses stood before the end it counts
-  counts : (x : ℕ) (q : LiveSlot s w e W x) → crossAt s W′ T x ≢ 0 → 0 < crossesPast s w g (fieldAt (q .object) (q .field))
+  counts : (x : ℕ) (q : LiveSlot s w e W x) → crossLater s W T x ≢ 0 → 0 < crossesPast s w g (fieldAt (q .object) (q .field))
   counts x q n =
       let c : ℕ = q .object in
-      let y = crosses-names r x q n in
+      let y = crosses-names h x q n in
       let one : crossRef g c (suc (y .0)) ≡ 1 =
       ap₂ (λ (p q : Bool). cond (not p && not q) 1 0) (ne-eqb (g .home c) (g .home (y .0)) (λ z. y .5 (sym (home-is (y .0) (y .1)) ∙ sym z ∙ home-is c (q .lives))))
       (ne-eqb (g .home (y .0)) 1 (λ (z : g .home (y .0) ≡ 1). omega (arith, home-is (y .0) (y .1), y .4))) in
       omega (arith, of-object (h .whole) a c (q .field) (lives-there (h .whole) a c (q .lives)) (q .low), ap (crossRef g c) (y .2), one)
 
-  pub space-enough : crossing g ≤ s .entries → (n : ℕ) (at : ℕ → ℕ) → ((i : ℕ) → i < n → LiveSlot s w e W (at i) × (crossAt s W′ T (at i) ≢ 0))
+  enough : crossing g ≤ s .entries → (n : ℕ) (at : ℕ → ℕ) → ((i : ℕ) → i < n → LiveSlot s w e W (at i) × (crossLater s W T (at i) ≢ 0))
       → ((a b : ℕ) → a < b → b < n → at a ≢ at b) → n ≤ s .entries
-  space-enough fits n at crosses apart = omega (arith, fits, positions-few (h .whole) a n from low some once)
+  enough fits n at crosses apart = omega (arith, fits, positions-few (h .whole) a n from low some once)
     where
       -- the place of slot x before the end
       Came : ℕ → ℕ → Type 0
@@ -92,3 +88,6 @@ module _ {s : Sizes} {w w₁ : Words} {e : Part} {W T : List ℕ} {S : ℕ → T
           let k = good b m .0 in
           let z = fields-apart (j .object) (k .object) (j .field) (k .field) (most a la) (most b m) (sym (good a la .1) ∙ e ∙ good b m .1) in
           apart a b l m (j .at ∙ ap₂ (λ (c f : ℕ). fieldAt (placed W c) f) (z .0) (z .1) ∙ sym (k .at))
+
+  pub space-enough : crossing g ≤ s .entries → AtMost (λ x. LiveSlot s w e W x × (crossLater s W T x ≢ 0)) (s .entries)
+  space-enough fits = record { few = enough fits }

@@ -1,7 +1,7 @@
 -- The end of one region, that of thread t at level suc k, stage by stage: what each stage asks follows from what the earlier ones leave, and
 -- the release gives its pages back.
 use mathlib.Core.Path.{_≡_, refl, sym, ap, ap₂, subst, _∙_}
-use mathlib.Core.Logic.{_≢_, _⊎_, inl, inr}
+use mathlib.Core.Logic.{_≢_, _⊎_, inl, inr, ⊎-elim}
 use mathlib.Core.List.{List}
 use Prim.Native.Nat.{ℕ, zero, suc, _+_, _-_, _*_, _≤_, _<_}
 use native.Mathlib.Decide.{ℕ-discrete, decLt}
@@ -14,9 +14,10 @@ use Rattle.rules.specs.Regions.{regionAt, regions, threadOf, levelOf}
 use Rattle.rules.specs.Graph.{ended, crossing}
 use Rattle.laws.specs.RegionLaws.{region-high, numbers-rise, thread-at, level-at}
 use Rattle.layout.specs.Places.{Room, depthAt, countAt, depthOf, ownerOf, markOf, usedIn, slotIn, slotRegionIn, ownersFrom, countsFrom, varsFrom, tablesWords, count-room, varCount}
-use Rattle.layout.specs.Cells.{pageOf, wordOf, field-word}
+use Rattle.layout.specs.Cells.{pageOf, pageAt, wordOf, field-word}
 use Rattle.layout.specs.Objects.{begins-page}
-use Rattle.layout.specs.Words.{Words, words, depthIn, ownerIn, graphOf}
+use Rattle.layout.specs.Words.{Words, words, Names, depthIn, ownerIn, graphOf}
+use Rattle.remember.specs.Crossing.{crossesFrom}
 use Rattle.promises.specs.Whole.{WholeFor, Open}
 use Rattle.promises.specs.OwnedPages.{pagesOwned}
 use Rattle.promises.specs.Reading.{used-home}
@@ -26,11 +27,11 @@ use Rattle.mark.specs.Survivors.{Marked}
 use Rattle.copy.specs.Passing.{moves-ready}
 use Rattle.copy.specs.Copying.{Plan, Copy, copy-marks, region-bounds}
 use Rattle.copy.specs.Forward.{copy-forwards}
-use Rattle.settle.specs.Rewrite.{Rewritten}
+use Rattle.settle.specs.Rewrite.{forwarded, Rewritten, ref-same}
 use Rattle.settle.specs.RewriteSlots.{Slots, Variables}
 use Rattle.settle.specs.RewriteCopies.{slot-then}
-use Rattle.settle.specs.Update.{Copies, Entry, Updating}
-use Rattle.settle.specs.Final.{Settles}
+use Rattle.settle.specs.Append.{at-most-less}
+use Rattle.settle.specs.Update.{Copies, Entry, Settles}
 use Rattle.release.specs.Release.{Ended, ended-size, ended-depth, ended-rest, ended-blank, ended-alike, ended-regular}
 use Rattle.ended.specs.EndQuestion.{pagesNeeded, crossingAfter}
 use Rattle.ended.specs.EvacuatedDid.{Lowered}
@@ -38,11 +39,11 @@ use Rattle.ended.specs.WordsPlaced.{target-level}
 use Rattle.ended.specs.Living.{region-after, region-keeps}
 use Rattle.ending.specs.MarkedWords.{owner-same}
 use Rattle.ending.specs.Placing.{Sends, HasMoved, few, page-kept}
-use Rattle.ending.specs.Rewriting.{HoldingSlots, LiveSlot, HasRewritten, copies-live, old-no-copy, live-names, held-live, copies-ask, rewritten-both, names-after, wired-after}
+use Rattle.ending.specs.Rewriting.{HoldingSlots, LiveSlot, HasRewritten, copies-live, old-no-copy, live-names, names-later, held-live, no-copy, copies-ask, outside-after}
 use Rattle.ending.specs.Crossing.{entry-says, Told}
 use Rattle.ending.specs.Space.{space-enough}
 use Rattle.ending.specs.Remembering.{stays-live, told}
-use Rattle.ending.specs.Region.{Held, of-region, holding, page-was, renews, live-crosses, crosses-live}
+use Rattle.ending.specs.Region.{Held, of-region, holding, page-was, renews}
 use Rattle.ending.specs.Finish.{owner₂, room₂, regular₂, word₂, GaveBack}
 use Rattle.ending.specs.PagesEnough as pe
 
@@ -114,21 +115,23 @@ module _ {s : Sizes} {t k r : ℕ} {w w₁ : Words} (b : Begun s t k r w w₁) w
 
     -- ---- the remembered slots
 
-    entry-live : (i : ℕ) → i < usedIn (w .remember) → slotRegionIn (s .entries) (w .remember) i ≡ r → LiveSlot s w (partOf s w r) W (slotIn (w .remember) i)
-    entry-live i l z = held-live moved held (slotIn (w .remember) i) (record { entry = i; low = l; region = z; slot = refl })
+    entry-held : (i : ℕ) → i < usedIn (w .remember) → slotRegionIn (s .entries) (w .remember) i ≡ r → Held s w r (slotIn (w .remember) i)
+    entry-held i l z = record { entry = i; low = l; region = z; slot = refl }
 
     pub slots-ask : Slots s r (s .entries) (usedIn (w .remember)) W (w .remember)
     slots-ask =
         let e = b .whole .remember .entries in
         record {
-          few = e .room;
-          long = omega (arith, b .whole .sized .remember);
-          pages = b .room .few;
-          cells-long = moved .ready .cells-long;
-          low = λ i l. e .named i l .slot;
+          entries = record {
+            pages = b .room .few;
+            cells-long = moved .ready .cells-long;
+            long = omega (arith, b .whole .sized .remember);
+            few = e .room;
+            low = λ i l. e .named i l .slot;
+            once = e .once;
+            names = λ i l z. live-names moved (slotIn (w .remember) i) (held-live moved held (slotIn (w .remember) i) (entry-held i l z));
+          };
           fields = λ i l. let y = entry-says (b .whole) i l in subst (λ (x : ℕ). 2 ≤ wordOf x) (sym (y .at)) (field-word (y .object) (y .field) (few moved (y .object) (y .field) (y .used) (y .low)));
-          once = e .once;
-          names = λ i l z. live-names moved (slotIn (w .remember) i) (entry-live i l z);
         }
 
     -- no entry names a slot of a copy
@@ -141,40 +144,43 @@ module _ {s : Sizes} {t k r : ℕ} {w w₁ : Words} (b : Begun s t k r w w₁) w
       pub rewritten : HasRewritten s w w₁ (partOf s w r) W T (Held s w r) W₃
       rewritten = record { moved = moved; holding = held; cells = R }
 
-      pub entries-told : Told s w (partOf s w r) W T W₃ (Entry s r (s .entries) (usedIn (w .remember)) W₃ (w .remember) T)
-      entries-told = told rewritten (of-region high) (renews pos moved W₃)
+      pub entries-told : Told s w (partOf s w r) W T (Entry s r (s .entries) (usedIn (w .remember)) W₃ (w .remember) T)
+      entries-told = told rewritten (of-region high) (renews pos moved W₃ (outside-after moved held R (λ x. inl)))
 
-      pub update-ask : crossingAfter s w t k ≤ s .entries → Updating s r (s .entries) (usedIn (w .remember)) W₃ (w .remember) T
-      update-ask entries =
-          let a = slots-ask in
+    module _ {W₂ : List ℕ} (R₂ : Rewritten (Held s w r) W W₂) where
+      copy-live : (x : ℕ) → Copies s W₂ T x → LiveSlot s w (partOf s w r) W x
+      copy-live x q = copies-live moved x (slot-then R₂ x q)
+
+      copy-later : (x : ℕ) → Copies s W₂ T x → forwarded W₂ (getD W₂ x 0) ≡ forwarded W (getD W x 0)
+      copy-later x q = ref-same R₂ (getD W₂ x 0) ∙ ap (forwarded W) (R₂ .same x (no-copy moved held x (slot-then R₂ x q)))
+
+      pub settle-ask : crossingAfter s w t k ≤ s .entries → Settles s r (s .entries) (usedIn (w .remember)) W₂ (w .remember) T
+      settle-ask entries =
+          let e = slots-ask .entries in
           record {
             entries = record {
-              pages = a .pages;
-              cells-long = omega (arith, a .cells-long, R .size);
-              long = a .long;
-              few = a .few;
-              low = a .low;
-              once = a .once;
-              names = λ i l z. names-after rewritten (slotIn (w .remember) i) (entry-live i l z);
+              pages = e .pages;
+              cells-long = omega (arith, e .cells-long, R₂ .size);
+              long = e .long;
+              few = e .few;
+              low = e .low;
+              once = e .once;
+              names = λ i l z. let x : ℕ = slotIn (w .remember) i in let q = entry-held i l z in subst (Names s) (sym (R₂ .moved x q)) (names-later moved x (held-live moved held x q));
             };
-            wiring = wired-after rewritten;
+            wiring = copies-ask moved held R₂;
             small = b .room .entries-high;
-            stays = λ x h q. let y = stays-live rewritten (of-region high) (renews pos moved W₃) x h q in (live-crosses pos moved rewritten x (y .0) (λ z. q .kept (y .1 ∙ z)), y .1);
-            comes = λ x q n. live-crosses pos moved rewritten x (copies-live moved x (slot-then R x q)) n;
-            apart = λ x h q z. entry-no-copy (q .entry) (q .low) (subst (Copies s W T) (sym (q .slot)) (slot-then R x z));
-            space = λ n at crosses. space-enough rewritten (region-after s w (b .whole) r pos)
-                (subst (λ (g : ℕ). crossing (ended s (graphOf s w) g) ≤ s .entries) (sym (b .region)) entries) n at
-                (λ i l. (crosses-live pos moved rewritten (at i) (crosses i l), crosses i l .cross));
+            old = λ i l q. entry-no-copy i l (slot-then R₂ (slotIn (w .remember) i) q);
+            names = λ x q. subst (Names s) (sym (copy-later x q)) (names-later moved x (copy-live x q));
+            space = at-most-less
+                (λ x.
+                ⊎-elim
+                (λ q.
+                let y = stays-live moved (of-region high) (renews pos moved W₂ (outside-after moved held R₂ (λ x z. z))) x (q .0) (q .1) in
+                (y .0, λ z. q .1 .kept (y .1 ∙ z)))
+                (λ q. (copy-live x (q .0), λ z. q .1 (ap (λ (y : ℕ). crossesFrom s T (ownerOf s T (pageAt x)) y) (copy-later x (q .0)) ∙ z))))
+                (space-enough moved (region-after s w (b .whole) r pos) (subst (λ (g : ℕ). crossing (ended s (graphOf s w) g) ≤ s .entries) (sym (b .region)) entries));
             rest = b .whole .remember .entries .rest;
           }
-
-    pub settle-ask : crossingAfter s w t k ≤ s .entries → {W₂ : List ℕ} → Rewritten (Held s w r) W W₂ → Settles s r (s .entries) (usedIn (w .remember)) W₂ (w .remember) T
-    settle-ask entries R₂ =
-        record {
-          wiring = copies-ask moved held R₂;
-          old = λ i l q. entry-no-copy i l (slot-then R₂ (slotIn (w .remember) i) q);
-          updating = λ W₃ R₃. update-ask (rewritten-both moved held R₂ R₃) entries;
-        }
 
     -- ---- the listed pages, which are those of r
 

@@ -3,6 +3,5 @@ pub mod Rewrite
 pub mod RewriteSlots
 pub mod RewriteCopies
 pub mod Append
-pub mod Update
 pub mod Settle
-pub mod Final
+pub mod Update

@@ -1,6 +1,6 @@
 -- The slots of the copies: those of one survivor, of the survivors of a page, of all pages.
 use mathlib.Core.Path.{_≡_, refl, sym, ap, _∙_, subst}
-use mathlib.Core.Logic.{_≢_, _⊎_, inl, inr}
+use mathlib.Core.Logic.{_≢_, _⊎_, inl, inr, ⊎-elim}
 use mathlib.Core.List.{List}
 use Prim.Native.Nat.{ℕ, _+_, _-_, _/_, _^_, _≤_, _<_}
 use native.Mathlib.Decide.{ℕ-discrete}
@@ -93,17 +93,6 @@ module _ {P : ℕ → Type 0} {W W′ : List ℕ} (h : Rewritten P W W′) where
                 (w .names f l′);
           }
 
--- slots of copies of different cells are different
-pub slots-apart : {p : Sizes} {Q : ℕ → Type 0} {W T : List ℕ} → Wiring p Q W T → (b c x : ℕ) → Q b → Q c → Old p W T b → Old p W T c
-    → Field (forward W b) (refsOf W (forward W b)) x → Field (forward W c) (refsOf W (forward W c)) x → b ≡ c
-slots-apart {p} {Q} {W} {T} a b c x qb qc ub uc fb fc =
-    a .once b c qb qc ub uc
-    (let nb : workOf W b ≢ 0 = ub .moved in
-    let nc : workOf W c ≢ 0 = uc .moved in
-    let e : forward W b ≡ forward W c =
-    field-apart (omega (arith, a .copies b qb ub .few, fb .low)) (omega (arith, a .copies c qc uc .few, fc .low)) (sym (fb .at) ∙ fc .at) in
-    omega arith)
-
 pub wiring-less : {p : Sizes} {P Q : ℕ → Type 0} {W T : List ℕ} → ((c : ℕ) → P c → Q c) → Wiring p Q W T → Wiring p P W T
 wiring-less f a =
     record {
@@ -119,30 +108,30 @@ wiring-less f a =
 pub slot-less : {p : Sizes} {P Q : ℕ → Type 0} {W T : List ℕ} → ((c : ℕ) → P c → Q c) → (x : ℕ) → CopySlot p P W T x → CopySlot p Q W T x
 slot-less f x q = record { cell = q .cell; among = f (q .cell) (q .among); old = q .old; field = q .field }
 
--- ---- the copy of one survivor more
+-- ---- one set of cells after another
 
--- c is new in P′, which holds else where P does
-pub record Grown (P : ℕ → Type 0) (c : ℕ) (P′ : ℕ → Type 0) : Type 0 where
-  pub new : P c → ⊥
-  pub here : P′ c
-  pub keeps : (y : ℕ) → P y → P′ y
-  pub split : (y : ℕ) → P′ y → P y ⊎ (y ≡ c)
+-- R is P and Q, which have no cell in common; all are of A
+pub record Split (A P Q R : ℕ → Type 0) : Type 0 where
+  pub first : (c : ℕ) → P c → A c
+  pub second : (c : ℕ) → Q c → A c
+  pub apart : (c : ℕ) → P c → Q c → ⊥
+  pub from : (c : ℕ) → R c → P c ⊎ Q c
+  pub to : (c : ℕ) → P c ⊎ Q c → R c
 
-module _ {p : Sizes} {c : ℕ} {P P′ Q : ℕ → Type 0} {W T W′ : List ℕ} (w : Wiring p Q W T) (g : Grown P c P′) (among : (y : ℕ) → P′ y → Q y)
-    (h : Rewritten (CopySlot p P W T) W W′) where
-  pub earlier-apart : (x : ℕ) → CopySlot p (λ y. y ≡ c) W T x → CopySlot p P W T x → ⊥
-  earlier-apart x q q′ =
-      let z : q′ .cell ≡ q .cell =
-      slots-apart w (q′ .cell) (q .cell) x (among (q′ .cell) (g .keeps (q′ .cell) (q′ .among))) (subst Q (sym (q .among)) (among c (g .here)))
-      (q′ .old) (q .old) (q′ .field) (q .field) in
-      g .new (subst P (z ∙ q .among) (q′ .among))
+module _ {p : Sizes} {A P Q R : ℕ → Type 0} {W T W′ : List ℕ} (w : Wiring p A W T) (s : Split A P Q R) (h : Rewritten (CopySlot p P W T) W W′) where
+  pub slots-apart : (x : ℕ) → CopySlot p P W T x → CopySlot p Q W T x → ⊥
+  slots-apart x a b =
+      let qa = s .first (a .cell) (a .among) in
+      let qb = s .second (b .cell) (b .among) in
+      let na : workOf W (a .cell) ≢ 0 = a .old .moved in
+      let nb : workOf W (b .cell) ≢ 0 = b .old .moved in
+      let e : forward W (a .cell) ≡ forward W (b .cell) =
+      field-apart (omega (arith, w .copies (a .cell) qa (a .old) .few, a .field .low)) (omega (arith, w .copies (b .cell) qb (b .old) .few, b .field .low))
+      (sym (a .field .at) ∙ b .field .at) in
+      s .apart (b .cell) (subst P (w .once (a .cell) (b .cell) qa qb (a .old) (b .old) (omega arith)) (a .among)) (b .among)
 
-  here-wired : Wiring p (λ y. y ≡ c) W′ T
-  here-wired = wiring-now h (wiring-less (λ y e. subst Q (sym e) (among c (g .here))) w) earlier-apart
-
-  pub copy-fields : (x : ℕ) → x ≡ workOf W′ c → Old p W T c → Fields p (refsOf W′ (cellNamed x)) (cellNamed x) W′
-  copy-fields x e u =
-      subst (λ (y : ℕ). Fields p (refsOf W′ (cellNamed y)) (cellNamed y) W′) (sym e) (here-wired .copies c refl (old-now h c u))
+  pub second-wired : Wiring p Q W′ T
+  second-wired = wiring-now h (wiring-less (s .second) w) (λ x b a. slots-apart x a b)
 
 -- ---- the copies of a page's survivors, bit by bit
 
@@ -156,17 +145,16 @@ OnPages n c = pageOf c < n
 abbrev pub Passed : ℕ → ℕ → ℕ → Type 0
 Passed q left c = OnPage q c × (bitAt left (placeOf c) ≡ 0)
 
-pub passed-within : (q left c : ℕ) → Passed q left c → OnPage q c
-passed-within q left c m = m .0
-
--- left′ as the code has it
-pub passed-grown : {left : ℕ} (q i left′ : ℕ) → Lowest left i → left′ ≡ left - 2 ^ i → Grown (Passed q left) (cellOn q i) (Passed q left′)
-passed-grown {left} q i left′ l e =
+-- the cell of bit i comes; left′ as the code has it
+pub passed-split : {left : ℕ} (q i left′ : ℕ) → Lowest left i → left′ ≡ left - 2 ^ i → Split (OnPage q) (Passed q left) (λ c. c ≡ cellOn q i) (Passed q left′)
+passed-split {left} q i left′ l e =
     record {
-      new = λ m. let z : ⊥ = omega (arith, l .on, ap (bitAt left) place, m .1) in z;
-      here = (page-on q i (l .lt), ap (bitAt left′) place ∙ at i ∙ clear-same i left (l .on));
-      keeps = λ y m. (m .0, at (placeOf y) ∙ keeps′ (placeOf y) (m .1) (ℕ-discrete (placeOf y) i));
-      split = λ y m. split′ y m (ℕ-discrete (placeOf y) i);
+      first = λ c m. m .0;
+      second = λ c z. ap pageOf z ∙ page-on q i (l .lt);
+      apart = λ c m z. let y : ⊥ = omega (arith, l .on, ap (bitAt left) (ap placeOf z ∙ place), m .1) in y;
+      from = λ c m. from′ c m (ℕ-discrete (placeOf c) i);
+      to = λ c. ⊎-elim (λ m. (m .0, at (placeOf c) ∙ keeps (placeOf c) (m .1) (ℕ-discrete (placeOf c) i)))
+          (λ z. subst (Passed q left′) (sym z) (page-on q i (l .lt), ap (bitAt left′) place ∙ at i ∙ clear-same i left (l .on)));
     }
   where
     place : placeOf (cellOn q i) ≡ i
@@ -175,13 +163,13 @@ passed-grown {left} q i left′ l e =
     at : (j : ℕ) → bitAt left′ j ≡ bitAt (left - 2 ^ i) j
     at j = ap (λ (x : ℕ). bitAt x j) e
 
-    keeps′ : (j : ℕ) → bitAt left j ≡ 0 → Dec (j ≡ i) → bitAt (left - 2 ^ i) j ≡ 0
-    keeps′ j z (yes d) = ap (bitAt (left - 2 ^ i)) d ∙ clear-same i left (l .on)
-    keeps′ j z (no n) = clear-other i j left (l .on) n ∙ z
+    keeps : (j : ℕ) → bitAt left j ≡ 0 → Dec (j ≡ i) → bitAt (left - 2 ^ i) j ≡ 0
+    keeps j z (yes d) = ap (bitAt (left - 2 ^ i)) d ∙ clear-same i left (l .on)
+    keeps j z (no n) = clear-other i j left (l .on) n ∙ z
 
-    split′ : (y : ℕ) → Passed q left′ y → Dec (placeOf y ≡ i) → Passed q left y ⊎ (y ≡ cellOn q i)
-    split′ y m (yes d) = inr (on-page (m .0) ∙ ap (cellOn q) d)
-    split′ y m (no n) = inl (m .0, sym (clear-other i (placeOf y) left (l .on) n) ∙ sym (at (placeOf y)) ∙ m .1)
+    from′ : (c : ℕ) → Passed q left′ c → Dec (placeOf c ≡ i) → Passed q left c ⊎ (c ≡ cellOn q i)
+    from′ c m (yes d) = inr (on-page (m .0) ∙ ap (cellOn q) d)
+    from′ c m (no n) = inl (m .0, sym (clear-other i (placeOf c) left (l .on) n) ∙ sym (at (placeOf c)) ∙ m .1)
 
 module _ {p : Sizes} {q w : ℕ} {W T : List ℕ} (a : Wiring p (OnPage q) W T) (e : w ≡ markOf p T q / 2 ^ 16) where
   -- w is the upper half of the page's mark word
@@ -204,38 +192,21 @@ within-passed q left c z m = (m, ap (λ (x : ℕ). bitAt x (placeOf c)) z ∙ bi
 
 -- ---- all pages
 
--- a page without marks has no copies
-pub unmarked-slots : {p : Sizes} {W T : List ℕ} → Wiring p (OnPages (p .pages)) W T → (q : ℕ) → q < p .pages → markOf p T q ≡ 0
-    → (x : ℕ) → CopySlot p (OnPages (q + 1)) W T x → CopySlot p (OnPages q) W T x
-unmarked-slots {p} {W} {T} w q l z x s = record { cell = s .cell; among = below (ℕ-discrete (pageOf (s .cell)) q); old = s .old; field = s .field }
+-- page q after those below it
+pub pages-split : {q n : ℕ} → q < n → Split (OnPages n) (OnPages q) (OnPage q) (OnPages (q + 1))
+pages-split {q} {n} lt =
+    record {
+      first = λ c l. omega arith;
+      second = λ c e. omega arith;
+      apart = λ c l e. let z : ⊥ = omega arith in z;
+      from = λ c l. go c l (ℕ-discrete (pageOf c) q);
+      to = λ c. ⊎-elim (λ (l : pageOf c < q). omega arith) (λ (e : pageOf c ≡ q). omega arith);
+    }
   where
-    m : pageOf (s .cell) < q + 1
-    m = s .among
+    go : (c : ℕ) → OnPages (q + 1) c → Dec (pageOf c ≡ q) → OnPages q c ⊎ OnPage q c
+    go c l (yes e) = inr e
+    go c l (no n) = inl (omega arith)
 
-    below : Dec (pageOf (s .cell) ≡ q) → pageOf (s .cell) < q
-    below (yes e) =
-        let on : copied p T (s .cell) ≡ 1 = w .only (s .cell) (omega arith) (s .old) in
-        let off : copied p T (s .cell) ≡ 0 =
-        ap (λ (v : ℕ). bitAt (markOf p T v) (pageCells + placeOf (s .cell))) e ∙ ap (λ (v : ℕ). bitAt v (pageCells + placeOf (s .cell))) z
-        ∙ bit-zero (pageCells + placeOf (s .cell)) in
-        absurd (let y : ⊥ = omega arith in y)
-    below (no n) = omega arith
-
--- page q is one of n
-pub on-pages : {q n : ℕ} → q < n → (c : ℕ) → OnPage q c → OnPages n c
-on-pages l c e = omega arith
-
--- a page after those below it
-module _ {p : Sizes} {q : ℕ} {W T W′ : List ℕ} (w : Wiring p (OnPages (p .pages)) W T) (lt : q < p .pages)
-    (h : Rewritten (CopySlot p (OnPages q) W T) W W′) where
-  pub pages-apart : (x : ℕ) → CopySlot p (OnPage q) W T x → CopySlot p (OnPages q) W T x → ⊥
-  pages-apart x s s′ =
-      let e : pageOf (s .cell) ≡ q = s .among in
-      let l : pageOf (s′ .cell) < q = s′ .among in
-      omega (
-        arith,
-        ap pageOf (slots-apart w (s .cell) (s′ .cell) x (on-pages lt (s .cell) e) (omega arith) (s .old) (s′ .old) (s .field) (s′ .field)),
-      )
-
-  pub page-wired : Wiring p (OnPage q) W′ T
-  page-wired = wiring-now h (wiring-less (on-pages lt) w) pages-apart
+-- a page without marks has no copies
+pub unmarked-none : {p : Sizes} {q : ℕ} {W T : List ℕ} → Wiring p (OnPage q) W T → markOf p T q ≡ 0 → (x : ℕ) → CopySlot p (OnPage q) W T x → ⊥
+unmarked-none {p} {q} {W} {T} w z x s = unset-none w refl x (slot-less (λ c m. within-passed q (markOf p T q / 2 ^ 16) c (omega (arith, z)) m) x s)

@@ -8,9 +8,10 @@ use native.Mathlib.Omega.{arith}
 use lib.ListN.{length, getD, set, length-set}
 use lib.Seq.{getD-set-same, getD-set-other}
 use Rattle.rules.specs.declared.Sizes.{Sizes}
-use Rattle.layout.specs.Places.{Room, varAt, varCount, varOf, slotIn, slotRegionIn, varsFrom, cellsWords, entriesWords}
-use Rattle.layout.specs.Cells.{fieldAt, fieldOf, pageOf, wordOf, mostFields, field-once, field-word, field-in}
+use Rattle.layout.specs.Places.{Room, varAt, varCount, varOf, slotIn, slotRegionIn, varsFrom, cellsWords}
+use Rattle.layout.specs.Cells.{fieldAt, fieldOf, pageOf, wordOf, mostFields}
 use Rattle.layout.specs.Words.{Names}
+use Rattle.remember.specs.Staying.{Entries}
 use Rattle.settle.specs.Rewrite.{forwarded, Rewritten, rewritten-none, rewritten-one, rewritten-join}
 
 -- ---- the remembered slots with region r
@@ -22,28 +23,23 @@ pub record Remembered (r n m : ℕ) (M : List ℕ) (x : ℕ) : Type 0 where
   pub region : slotRegionIn n M entry ≡ r
   pub slot : slotIn M entry ≡ x
 
+-- entries whose slots are words of fields
 pub record Slots (p : Sizes) (r n m : ℕ) (W M : List ℕ) : Type 0 where
-  pub few : m ≤ n
-  pub long : entriesWords n ≤ length M
-  pub pages : p .pages ≤ 1024
-  pub cells-long : cellsWords p ≤ length W
-  pub low : (i : ℕ) → i < m → slotIn M i < cellsWords p
+  pub entries : Entries p r n m W M
   pub fields : (i : ℕ) → i < m → 2 ≤ wordOf (slotIn M i)
-  pub once : (i j : ℕ) → i < j → j < m → slotIn M i ≢ slotIn M j
-  pub names : (i : ℕ) → i < m → slotRegionIn n M i ≡ r → Names p (getD W (slotIn M i) 0)
 
 module _ {p : Sizes} {r n m : ℕ} {W M W′ : List ℕ} {i : ℕ} (a : Slots p r n m W M) (lt : i < m) (h : Rewritten (Remembered r n i M) W W′) where
   fresh : Remembered r n i M (slotIn M i) → ⊥
-  fresh q = a .once (q .entry) i (q .low) lt (q .slot)
+  fresh q = a .entries .once (q .entry) i (q .low) lt (q .slot)
 
   pub slot-names : slotRegionIn n M i ≡ r → Names p (getD W′ (slotIn M i) 0)
-  slot-names e = subst (λ (x : ℕ). Names p x) (sym (h .same (slotIn M i) fresh)) (a .names i lt e)
+  slot-names e = subst (λ (x : ℕ). Names p x) (sym (h .same (slotIn M i) fresh)) (a .entries .names i lt e)
 
   pub slot-moved : (v s : ℕ) → s ≡ slotIn M i → slotRegionIn n M i ≡ r → v ≡ forwarded W′ (getD W′ s 0)
       → Rewritten (Remembered r n (i + 1) M) W (set W′ s v)
   slot-moved v s e reg ev =
       rewritten-join h
-      (rewritten-one s v (omega (arith, a .low i lt, a .cells-long, h .size)) (subst (λ (z : ℕ). 2 ≤ wordOf z) (sym e) (a .fields i lt)) ev)
+      (rewritten-one s v (omega (arith, a .entries .low i lt, a .entries .cells-long, h .size)) (subst (λ (z : ℕ). 2 ≤ wordOf z) (sym e) (a .fields i lt)) ev)
       (λ x q z. fresh (subst (λ (y : ℕ). Remembered r n i M y) (z ∙ e) q))
       (λ x q. from x q (ℕ-discrete (q .entry) i))
       (λ x. ⊎-elim (λ q. record { entry = q .entry; low = omega (arith, q .low); region = q .region; slot = q .slot })
@@ -79,28 +75,6 @@ pub record Fields (p : Sizes) (n d : ℕ) (W : List ℕ) : Type 0 where
   pub page : pageOf d < p .pages
   pub few : n ≤ mostFields
   pub names : (f : ℕ) → f < n → Names p (fieldOf W d f)
-
-pub fields-start : (d : ℕ) (W : List ℕ) → Rewritten (Field d 0) W W
-fields-start d W = rewritten-none (Field d 0) W (λ x q. omega (arith, q .low))
-
-module _ {p : Sizes} {n d : ℕ} {W W′ : List ℕ} {f : ℕ} (a : Fields p n d W) (lt : f < n) (h : Rewritten (Field d f) W W′) where
-  few : f < mostFields
-  few = omega (arith, a .few)
-
-  new : Field d f (fieldAt d f) → ⊥
-  new q = omega (arith, q .low, field-once d f (q .field) (q .at))
-
-  pub field-moved : (v : ℕ) → v ≡ forwarded W′ (fieldOf W′ d f) → Rewritten (Field d (f + 1)) W (set W′ (fieldAt d f) v)
-  field-moved v ev =
-      rewritten-join h
-      (rewritten-one (fieldAt d f) v (field-in p d f (omega (arith, a .cells-long, h .size)) (a .page) few) (field-word d f few) ev)
-      (λ x q z. new (subst (λ (y : ℕ). Field d f y) z q))
-      (λ x q. from x q (ℕ-discrete (q .field) f))
-      (λ x. ⊎-elim (λ q. record { field = q .field; low = omega (arith, q .low); at = q .at }) (λ z. record { field = f; low = omega arith; at = z }))
-    where
-      from : (x : ℕ) (q : Field d (f + 1) x) → Dec (q .field ≡ f) → Field d f x ⊎ (x ≡ fieldAt d f)
-      from x q (yes z) = inr (q .at ∙ ap (fieldAt d) z)
-      from x q (no z) = inl (record { field = q .field; low = omega (arith, q .low); at = q .at })
 
 -- ---- the variables: those below n, counted through all threads
 

@@ -3,37 +3,35 @@
 use mathlib.Core.Path.{_≡_, refl, sym, ap, _∙_, subst}
 use mathlib.Core.Logic.{_≢_, _⊎_, inl, inr, ⊎-elim}
 use mathlib.Core.List.{List}
-use Prim.Native.Nat.{ℕ, _+_, _/_, _^_, _≤_, _<_}
+use Prim.Native.Nat.{ℕ, _+_, _-_, _/_, _^_, _≤_, _<_}
 use native.Mathlib.Decide.{ℕ-discrete}
 use native.Mathlib.Omega.{arith}
 use lib.ListN.{length, getD, set}
 use lib.Seq.{getD-set-same}
 use Rattle.lists.specs.Part.{Off, Skips}
 use Rattle.rules.specs.declared.Sizes.{Sizes}
-use Rattle.layout.specs.Places.{ownerOf, markOf}
-use Rattle.layout.specs.Cells.{workOf, fieldAt, fieldOf, refsOf, pageOf, wordOf, pageAt, cellNamed, mostFields, field-page, field-word, field-once, field-in}
+use Rattle.layout.specs.Places.{ownerOf, markOf, slotIn, entriesWords}
+use Rattle.layout.specs.Cells.{fieldAt, fieldOf, refsOf, pageOf, wordOf, pageAt, mostFields, field-page, field-word, field-once, field-in}
 use Rattle.layout.specs.Words.{Names}
 use Rattle.copy.specs.Forward.{forward}
-use Rattle.settle.specs.Rewrite.{forwarded, Rewritten, link-same, refs-same, ref-same, rewritten-none, rewritten-one, rewritten-join, rewritten-like}
+use Rattle.settle.specs.Rewrite.{forwarded, Rewritten, ref-same, rewritten-none, rewritten-one, rewritten-join, rewritten-like}
 use Rattle.remember.specs.Crossing.{crossesFrom}
 use Rattle.settle.specs.RewriteSlots.{Field, Fields}
-use Rattle.settle.specs.RewriteCopies.{CopySlot, Old, Wiring, Grown, OnPage, OnPages, Passed, passed-within, within-passed, unset-none, slot-less, slot-now, slot-then, earlier-apart, unmarked-slots, on-pages, pages-apart}
+use Rattle.settle.specs.RewriteCopies.{CopySlot, Old, Wiring, Split, OnPage, OnPages, Passed, within-passed, unset-none, slot-less, slot-now, slot-then, slots-apart, second-wired, pages-split, unmarked-none}
 use Rattle.remember.specs.Stretches.{Added, added-none, added-one, added-join, added-like}
-use Rattle.settle.specs.Append.{crossAt, Crossing, Appending, append-room, appending-next}
+use Rattle.settle.specs.Append.{crossAt, crossLater, Crossing, AtMost, at-most-less, at-most-rest}
 
 -- the slots of P are rewritten; those that cross then stand from entry j up to entry i
 pub record Settled (p : Sizes) (n : ℕ) (P : ℕ → Type 0) (W M T : List ℕ) (j : ℕ) (W′ M′ : List ℕ) (i : ℕ) : Type 0 where
   pub rewritten : Rewritten P W W′
   pub added : Added n (Crossing p P W′ T) j i M M′
 
--- they can be settled: `final` is the cells as they will be in the end, and the slots of P that cross there once `region` has ended can be
--- appended
+-- they can be settled: each names a cell then, and those that cross then have room after j entries
 pub record Settling (p : Sizes) (n : ℕ) (P : ℕ → Type 0) (W M T : List ℕ) (j : ℕ) : Type 0 where
-  pub region : ℕ
-  pub final : List ℕ
-  pub moved : (x : ℕ) → P x → getD final x 0 ≡ forwarded W (getD W x 0)
-  pub names : (x : ℕ) → P x → Names p (getD final x 0)
-  pub appending : Appending p region n P final M T j
+  pub long : entriesWords n ≤ length M
+  pub low : j ≤ n
+  pub names : (x : ℕ) → P x → Names p (forwarded W (getD W x 0))
+  pub space : AtMost (λ x. P x × (crossLater p W T x ≢ 0)) (n - j)
 
 -- ---- sets of slots
 
@@ -71,29 +69,42 @@ settled-join a b apart from to =
           (λ x h. ⊎-elim (crossing-in (λ x q. to x (inl q)) x h) (crossing-in (λ x q. to x (inr q)) x h));
     }
 
+-- those of P can be settled if they are some of Q's
+pub settling-like : {p : Sizes} {n j : ℕ} {P Q : ℕ → Type 0} {W M T : List ℕ} → Settling p n Q W M T j → ((x : ℕ) → P x → Q x) → Settling p n P W M T j
+settling-like s f =
+    record { long = s .long; low = s .low; names = λ x q. s .names x (f x q); space = at-most-less (λ x q. (f x (q .0), q .1)) (s .space) }
+
 -- after those of Q are settled, those of R can be
 settling-next : {p : Sizes} {n j i : ℕ} {P Q R : ℕ → Type 0} {W M T W′ M′ : List ℕ} → Settling p n P W M T j → Settled p n Q W M T j W′ M′ i
     → ((x : ℕ) → Q x → P x) → ((x : ℕ) → R x → P x) → ((x : ℕ) → Q x → R x → ⊥) → Settling p n R W′ M′ T i
-settling-next {W = W} {W′ = W′} s h fq fr apart =
+settling-next {p} {n} {j} {i} {P} {Q} {R} {W} {M} {T} {W′} {M′} s h fq fr apart =
     record {
-      region = s .region;
-      final = s .final;
-      moved = λ x q.
-          s .moved x (fr x q)
-          ∙ sym (ref-same (h .rewritten) (getD W′ x 0) ∙ ap (forwarded W) (h .rewritten .same x (λ m. apart x m q)));
-      names = λ x q. s .names x (fr x q);
-      appending = appending-next (s .appending) (added-read (λ x q. s .moved x (fq x q) ∙ sym (h .rewritten .moved x q)) (h .added)) fq fr apart;
+      long = omega (arith, s .long, h .added .size);
+      low = h .added .low;
+      names = λ x q. subst (λ (y : ℕ). Names p y) (sym (same x q)) (s .names x (fr x q));
+      space =
+          at-most-rest {Q = λ x. Q x × (crossLater p W T x ≢ 0)} (i - j) (n - i) (λ y. slotIn M′ (j + y)) (omega (arith, h .added .grows, h .added .low)) (s .space)
+          (λ y l. let q = h .added .named (j + y) (omega arith) (omega arith) in (q .at, λ z. q .kept (q .region ∙ into (slotIn M′ (j + y)) (h .rewritten .moved (slotIn M′ (j + y)) (q .at)) ∙ z)))
+          (λ a b l m. h .added .once (j + a) (j + b) (omega arith) (omega arith) (omega arith))
+          (λ x q. (fq x (q .0), q .1)) (λ x q. (fr x (q .0), λ z. q .1 (into x (same x (q .0)) ∙ z))) (λ x q q′. apart x (q .0) (q′ .0));
     }
+  where
+    same : (x : ℕ) → R x → forwarded W′ (getD W′ x 0) ≡ forwarded W (getD W x 0)
+    same x q = ref-same (h .rewritten) (getD W′ x 0) ∙ ap (forwarded W) (h .rewritten .same x (λ m. apart x m q))
+
+    into : {v u : ℕ} (x : ℕ) → v ≡ u → crossesFrom p T (ownerOf p T (pageAt x)) v ≡ crossesFrom p T (ownerOf p T (pageAt x)) u
+    into x = ap (λ (y : ℕ). crossesFrom p T (ownerOf p T (pageAt x)) y)
 
 -- ---- one slot: v is what it becomes, h the region into which it crosses then, else 0
-
-slot-names : {p : Sizes} {n x i : ℕ} {W M T : List ℕ} → Settling p n (λ y. y ≡ x) W M T i → (v : ℕ) → v ≡ forwarded W (getD W x 0) → Names p v
-slot-names {p} {x = x} s v ev = subst (λ (y : ℕ). Names p y) (s .moved x refl ∙ sym ev) (s .names x refl)
 
 module _ {p : Sizes} {n x i : ℕ} {W M T : List ℕ} (s : Settling p n (λ y. y ≡ x) W M T i) (v h : ℕ) (ev : v ≡ forwarded W (getD W x 0))
     (eh : h ≡ crossesFrom p T (ownerOf p T (pageAt x)) v) where
   slot-fits : h ≢ 0 → i < n
-  slot-fits ne = append-room (s .appending) x refl (λ z. ne (eh ∙ ap (λ (y : ℕ). crossesFrom p T (ownerOf p T (pageAt x)) y) (ev ∙ sym (s .moved x refl)) ∙ z))
+  slot-fits ne =
+      omega (
+        arith,
+        s .space .few 1 (λ a. x) (λ a l. (refl, λ z. ne (eh ∙ ap (λ (y : ℕ). crossesFrom p T (ownerOf p T (pageAt x)) y) ev ∙ z))) (λ a b l m. absurd (let z : ⊥ = omega arith in z)),
+      )
 
   module _ (low : x < length W) (field : 2 ≤ wordOf x) where
     crosses : (y : ℕ) → y ≡ x → crossAt p (set W x v) T y ≡ h
@@ -106,7 +117,7 @@ module _ {p : Sizes} {n x i : ℕ} {W M T : List ℕ} (s : Settling p n (λ y. y
         record {
           rewritten = rewritten-one x v low field ev;
           added =
-              added-like (added-one i x h M (slot-fits ne) (s .appending .long)) (λ y g q. (q .at, q .region ∙ crosses y (q .at)))
+              added-like (added-one i x h M (slot-fits ne) (s .long)) (λ y g q. (q .at, q .region ∙ crosses y (q .at)))
               (λ y g q. record { at = q .0; region = q .1 ∙ sym (crosses y (q .0)); kept = λ z. ne (sym (q .1) ∙ z) });
         }
 
@@ -114,7 +125,7 @@ module _ {p : Sizes} {n x i : ℕ} {W M T : List ℕ} (s : Settling p n (λ y. y
     slot-stays z =
         record {
           rewritten = rewritten-one x v low field ev;
-          added = added-none (Crossing p (λ y. y ≡ x) (set W x v) T) i M (s .appending .low) (λ y g q. q .kept (q .region ∙ crosses y (q .at) ∙ z));
+          added = added-none (Crossing p (λ y. y ≡ x) (set W x v) T) i M (s .low) (λ y g q. q .kept (q .region ∙ crosses y (q .at) ∙ z));
         }
 
 -- ---- the fields of one cell
@@ -149,7 +160,7 @@ module _ {p : Sizes} {n d k f j i : ℕ} {W M T W′ M′ : List ℕ} (a : Field
 
   -- and so does what it becomes
   pub moved-names : (v : ℕ) → v ≡ forwarded W′ (fieldOf W′ d f) → Names p v
-  moved-names = slot-names field-settling
+  moved-names v e = subst (λ (x : ℕ). Names p x) (sym e) (field-settling .names (fieldAt d f) refl)
 
   -- v is the forwarded reference, w the region of the cell, g the region into which it crosses, as the code has them
   module _ (v w g : ℕ) (ev : v ≡ forwarded W′ (fieldOf W′ d f)) (ew : w ≡ ownerOf p T (pageOf d)) (eg : g ≡ crossesFrom p T w v) where
@@ -170,51 +181,42 @@ module _ {p : Sizes} {n d k f j i : ℕ} {W M T W′ M′ : List ℕ} (a : Field
     pub field-stays : g ≡ 0 → Settled p n (Field d (f + 1)) W M T j (set W′ (fieldAt d f) v) M′ i
     field-stays z = field-joins (slot-stays field-settling v g ev eg′ low (field-word d f few) z)
 
--- ---- the copy of one survivor more; x is word 1 of the old cell, as the code read it
+-- ---- the copies of one set of cells after another
 
-module _ {p : Sizes} {c : ℕ} {P P′ Q : ℕ → Type 0} {W T W′ : List ℕ} (w : Wiring p Q W T) (g : Grown P c P′) (among : (y : ℕ) → P′ y → Q y)
-    (h : Rewritten (CopySlot p P W T) W W′) (x : ℕ) (e : x ≡ workOf W′ c) (u : Old p W T c) where
-  -- its fields, as the words before have them
-  one : (y : ℕ) → Field (cellNamed x) (refsOf W′ (cellNamed x)) y → CopySlot p (λ z. z ≡ c) W T y
-  one y f =
-      let f′ : Field (forward W c) (refsOf W′ (forward W c)) y = subst (λ (z : ℕ). Field (cellNamed z) (refsOf W′ (cellNamed z)) y) (e ∙ link-same h c) f in
-      record {
-        cell = c;
-        among = refl;
-        old = u;
-        field = record { field = f′ .field; low = omega (arith, f′ .low, refs-same h (forward W c)); at = f′ .at };
-      }
+module _ {p : Sizes} {n j i : ℕ} {A P Q R : ℕ → Type 0} {W M T W′ M′ : List ℕ} (w : Wiring p A W T) (s : Split A P Q R)
+    (h : Settled p n (CopySlot p P W T) W M T j W′ M′ i) where
+  new-slots : (x : ℕ) → CopySlot p P W T x → CopySlot p Q W′ T x → ⊥
+  new-slots x a b = slots-apart w s (h .rewritten) x a (slot-then (h .rewritten) x b)
 
-  copy-apart : (y : ℕ) → CopySlot p P W T y → Field (cellNamed x) (refsOf W′ (cellNamed x)) y → ⊥
-  copy-apart y q f = earlier-apart w g among h y (one y f) q
+  pub second-settling : Settling p n (CopySlot p A W T) W M T j → Settling p n (CopySlot p Q W′ T) W′ M′ T i
+  second-settling a = settling-next a h (slot-less (s .first)) (λ x b. slot-less (s .second) x (slot-then (h .rewritten) x b)) new-slots
 
-  copy-among : (y : ℕ) → Field (cellNamed x) (refsOf W′ (cellNamed x)) y → CopySlot p P′ W T y
-  copy-among y f = slot-less (λ z q. subst P′ (sym q) (g .here)) y (one y f)
-
-  copy-split : (y : ℕ) → CopySlot p P′ W T y → CopySlot p P W T y ⊎ Field (cellNamed x) (refsOf W′ (cellNamed x)) y
-  copy-split y q = go (g .split (q .cell) (q .among))
+  pub second-settled : {W″ M″ : List ℕ} {i′ : ℕ} → Settled p n (CopySlot p Q W′ T) W′ M′ T i W″ M″ i′ → Settled p n (CopySlot p R W T) W M T j W″ M″ i′
+  second-settled k =
+      settled-join h k new-slots (λ x a. from x a (s .from (a .cell) (a .among)))
+      (λ x. ⊎-elim (slot-less (λ c m. s .to c (inl m)) x) (λ b. slot-less (λ c m. s .to c (inr m)) x (slot-then (h .rewritten) x b)))
     where
-      go : P (q .cell) ⊎ (q .cell ≡ c) → CopySlot p P W T y ⊎ Field (cellNamed x) (refsOf W′ (cellNamed x)) y
-      go (inl m) = inl (record { cell = q .cell; among = m; old = q .old; field = q .field })
-      go (inr z) =
-          let f : Field (forward W c) (refsOf W (forward W c)) y = subst (λ (v : ℕ). Field (forward W v) (refsOf W (forward W v)) y) z (q .field) in
-          inr (subst (λ (v : ℕ). Field (cellNamed v) (refsOf W′ (cellNamed v)) y) (sym (e ∙ link-same h c))
-          (record { field = f .field; low = omega (arith, f .low, refs-same h (forward W c)); at = f .at }))
+      from : (x : ℕ) (a : CopySlot p R W T x) → P (a .cell) ⊎ Q (a .cell) → CopySlot p P W T x ⊎ CopySlot p Q W′ T x
+      from x a (inl m) = inl (record { cell = a .cell; among = m; old = a .old; field = a .field })
+      from x a (inr m) = inr (slot-now (h .rewritten) x (record { cell = a .cell; among = m; old = a .old; field = a .field }))
 
-  pub copy-rewritten : {W″ : List ℕ} → Rewritten (Field (cellNamed x) (refsOf W′ (cellNamed x))) W′ W″ → Rewritten (CopySlot p P′ W T) W W″
-  copy-rewritten k = rewritten-join h k copy-apart copy-split (λ y. ⊎-elim (slot-less (g .keeps) y) (copy-among y))
+-- ---- the copy of one cell; d is that copy as the code has it
 
-module _ {p : Sizes} {n c j i : ℕ} {P P′ Q : ℕ → Type 0} {W M T W′ M′ : List ℕ} (w : Wiring p Q W T) (g : Grown P c P′) (among : (y : ℕ) → P′ y → Q y)
-    (h : Settled p n (CopySlot p P W T) W M T j W′ M′ i) (x : ℕ) (e : x ≡ workOf W′ c) (u : Old p W T c) where
-  pub copy-settling : Settling p n (CopySlot p Q W T) W M T j → Settling p n (Field (cellNamed x) (refsOf W′ (cellNamed x))) W′ M′ T i
-  copy-settling s =
-      settling-next s h (slot-less (λ z m. among z (g .keeps z m))) (λ y f. slot-less among y (copy-among w g among (h .rewritten) x e u y f))
-      (copy-apart w g among (h .rewritten) x e u)
+module _ {p : Sizes} {W T : List ℕ} {c : ℕ} (u : Old p W T c) (d : ℕ) (e : d ≡ forward W c) where
+  to-copy : (x : ℕ) → Field d (refsOf W d) x → CopySlot p (λ y. y ≡ c) W T x
+  to-copy x f = record { cell = c; among = refl; old = u; field = subst (λ (y : ℕ). Field y (refsOf W y) x) e f }
 
-  pub copy-settled : {W″ M″ : List ℕ} {i′ : ℕ} → Settled p n (Field (cellNamed x) (refsOf W′ (cellNamed x))) W′ M′ T i W″ M″ i′ → Settled p n (CopySlot p P′ W T) W M T j W″ M″ i′
-  copy-settled k =
-      settled-join h k (copy-apart w g among (h .rewritten) x e u) (copy-split w g among (h .rewritten) x e u)
-      (λ y. ⊎-elim (slot-less (g .keeps) y) (copy-among w g among (h .rewritten) x e u y))
+  from-copy : (x : ℕ) → CopySlot p (λ y. y ≡ c) W T x → Field d (refsOf W d) x
+  from-copy x q = subst (λ (y : ℕ). Field y (refsOf W y) x) (sym (e ∙ ap (forward W) (sym (q .among)))) (q .field)
+
+  pub copy-fields : Wiring p (λ y. y ≡ c) W T → Fields p (refsOf W d) d W
+  copy-fields w = subst (λ (y : ℕ). Fields p (refsOf W y) y W) (sym e) (w .copies c refl u)
+
+  pub copy-settling : {n i : ℕ} {M : List ℕ} → Settling p n (CopySlot p (λ y. y ≡ c) W T) W M T i → Settling p n (Field d (refsOf W d)) W M T i
+  copy-settling s = settling-like s to-copy
+
+  pub copy-settled : {n i i′ : ℕ} {M W′ M′ : List ℕ} → Settled p n (Field d (refsOf W d)) W M T i W′ M′ i′ → Settled p n (CopySlot p (λ y. y ≡ c) W T) W M T i W′ M′ i′
+  copy-settled k = settled-like k from-copy to-copy
 
 -- ---- the copies of a page's survivors
 
@@ -225,35 +227,17 @@ unset-settled {p} {n} {q} {w} {j} {W} {M} {T} a e l = settled-none p n (CopySlot
 pub page-settled : {p : Sizes} {n left j i : ℕ} {W M T W′ M′ : List ℕ} (q : ℕ) → left ≡ 0 → Settled p n (CopySlot p (Passed q left) W T) W M T j W′ M′ i
     → Settled p n (CopySlot p (OnPage q) W T) W M T j W′ M′ i
 page-settled {left = left} q z h =
-    settled-like h (λ x s. slot-less (λ c m. within-passed q left c z m) x s) (λ x s. slot-less (λ c m. passed-within q left c m) x s)
+    settled-like h (λ x s. slot-less (λ c m. within-passed q left c z m) x s) (λ x s. slot-less (λ c m. m .0) x s)
 
 -- ---- all pages
 
 pub copies-settled : (p : Sizes) (n j : ℕ) (W M T : List ℕ) → j ≤ n → Settled p n (CopySlot p (OnPages 0) W T) W M T j W M j
 copies-settled p n j W M T l = settled-none p n (CopySlot p (OnPages 0) W T) W M T j l (λ x q. omega (arith, q .among))
 
--- a page after those below it
-module _ {p : Sizes} {n q j i : ℕ} {W M T W′ M′ : List ℕ} (w : Wiring p (OnPages (p .pages)) W T) (lt : q < p .pages)
-    (s : Settling p n (CopySlot p (OnPages (p .pages)) W T) W M T j) (h : Settled p n (CopySlot p (OnPages q) W T) W M T j W′ M′ i) where
-  page-apart : (x : ℕ) → CopySlot p (OnPages q) W T x → CopySlot p (OnPage q) W′ T x → ⊥
-  page-apart x a b = pages-apart w lt (h .rewritten) x (slot-then (h .rewritten) x b) a
-
-  pub page-settling : Settling p n (CopySlot p (OnPage q) W′ T) W′ M′ T i
-  page-settling =
-      settling-next s h (slot-less (λ y l. omega arith)) (λ x b. slot-less (on-pages lt) x (slot-then (h .rewritten) x b)) page-apart
-
-  pub pages-settled : {W″ M″ : List ℕ} {i′ : ℕ} → Settled p n (CopySlot p (OnPage q) W′ T) W′ M′ T i W″ M″ i′
-      → Settled p n (CopySlot p (OnPages (q + 1)) W T) W M T j W″ M″ i′
-  pages-settled k =
-      settled-join h k page-apart (λ x a. from x a (ℕ-discrete (pageOf (a .cell)) q))
-      (λ x. ⊎-elim (slot-less (λ y l. omega arith) x) (λ b. slot-less (λ y e. omega arith) x (slot-then (h .rewritten) x b)))
-    where
-      from : (x : ℕ) (a : CopySlot p (OnPages (q + 1)) W T x) → Dec (pageOf (a .cell) ≡ q)
-          → CopySlot p (OnPages q) W T x ⊎ CopySlot p (OnPage q) W′ T x
-      from x a (yes e) = inr (slot-now (h .rewritten) x (record { cell = a .cell; among = e; old = a .old; field = a .field }))
-      from x a (no n) = inl (record { cell = a .cell; among = omega (arith, a .among); old = a .old; field = a .field })
-
 -- a page without marks has no copies
 pub settled-skips : {p : Sizes} {n j i : ℕ} {W M T W′ M′ : List ℕ} (k : ℕ) (l : List ℕ) → Wiring p (OnPages (p .pages)) W T
     → ((q : ℕ) → q < p .pages → Off l k q → markOf p T q ≡ 0) → Skips (p .pages) k l (λ b. Settled p n (CopySlot p (OnPages b) W T) W M T j W′ M′ i)
-settled-skips k l w none q lt off h = settled-like h (unmarked-slots w q lt (none q lt off)) (slot-less (λ y l. omega arith))
+settled-skips {p} {n} {i = i} {T = T} {W′ = W′} {M′ = M′} k l w none q lt off h =
+    let s = pages-split lt in
+    second-settled w s h
+    (settled-none p n (CopySlot p (OnPage q) W′ T) W′ M′ T i (h .added .low) (unmarked-none (second-wired w s (h .rewritten)) (none q lt off)))

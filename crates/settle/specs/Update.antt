@@ -1,44 +1,41 @@
 -- The remember table after an end: the entries that stay, then the crossing slots of the copies, then zeros.
-use mathlib.Core.Path.{_≡_, subst}
-use mathlib.Core.Logic.{_≢_, _⊎_}
+use mathlib.Core.Path.{_≡_, sym, ap, _∙_, subst}
+use mathlib.Core.Logic.{_≢_, _⊎_, inl, inr, ⊎-elim}
+use mathlib.Core.Bool.{cond}
 use mathlib.Core.List.{List}
-use Prim.Native.Nat.{ℕ, _≤_, _<_, max}
+use Prim.Native.Nat.{ℕ, _-_, _≤_, _<_, max}
 use native.Mathlib.Omega.{arith}
-use lib.ListN.{set}
+use lib.Dec.{eqb}
+use lib.ListN.{getD, set}
 use Rattle.rules.specs.declared.Sizes.{Sizes}
-use Rattle.layout.specs.Places.{slotIn, slotRegionIn}
+use Rattle.layout.specs.Places.{ownerOf, slotIn, slotRegionIn}
+use Rattle.layout.specs.Cells.{pageAt}
+use Rattle.layout.specs.Words.{Names}
+use Rattle.remember.specs.Crossing.{crossesFrom}
 use Rattle.remember.specs.Stretches.{Added, added-join, Cleared}
 use Rattle.remember.specs.Renewed.{Renewed, renewed}
-use Rattle.remember.specs.Staying.{Stays, Entries}
-use Rattle.settle.specs.Append.{crossAt, Crosses, Crossing, Appending}
-use Rattle.settle.specs.RewriteCopies.{CopySlot, Wiring, OnPages}
+use Rattle.remember.specs.Staying.{newRegion, Stays, Entries}
+use Rattle.settle.specs.Rewrite.{forwarded}
+use Rattle.settle.specs.RewriteCopies.{CopySlot, Wiring, OnPages, slot-now, slot-then}
+use Rattle.settle.specs.Append.{crossLater, Crossing, AtMost, at-most-rest}
+use Rattle.settle.specs.Settle.{Settled, Settling, crossing-in}
 
 abbrev pub Copies : (p : Sizes) (W T : List ℕ) → ℕ → Type 0
 Copies p W T = CopySlot p (OnPages (p .pages)) W T
 
--- m entries of n are in use
-pub record Updating (p : Sizes) (r n m : ℕ) (W M T : List ℕ) : Type 0 where
+-- the slots that are to have entries: those of entries that stay, and the copies' that will cross
+abbrev Due : (p : Sizes) (r n m : ℕ) (W M T : List ℕ) → ℕ → Type 0
+Due p r n m W M T x = ((h : ℕ) × Stays p r n W M T m x h) ⊎ (Copies p W T x × (crossLater p W T x ≢ 0))
+
+-- The copies can be settled and the table made anew. m entries of n are in use; none is of a copy's slot.
+pub record Settles (p : Sizes) (r n m : ℕ) (W M T : List ℕ) : Type 0 where
   pub entries : Entries p r n m W M
   pub wiring : Wiring p (OnPages (p .pages)) W T
   pub small : n ≤ 4096
-  pub stays : (x h : ℕ) → Stays p r n W M T m x h → Crosses p r W T x × (h ≡ crossAt p W T x)
-  pub comes : (x : ℕ) → Copies p W T x → crossAt p W T x ≢ 0 → Crosses p r W T x
-  pub apart : (x h : ℕ) → Stays p r n W M T m x h → Copies p W T x → ⊥
-  pub space : (k : ℕ) (at : ℕ → ℕ) → ((i : ℕ) → i < k → Crosses p r W T (at i)) → ((a b : ℕ) → a < b → b < k → at a ≢ at b) → k ≤ n
+  pub old : (i : ℕ) → i < m → Copies p W T (slotIn M i) → ⊥
+  pub names : (x : ℕ) → Copies p W T x → Names p (forwarded W (getD W x 0))
+  pub space : AtMost (Due p r n m W M T) n
   pub rest : (y : ℕ) → m ≤ y → y < n → (slotIn M y ≡ 0) × (slotRegionIn n M y ≡ 0)
-
-pub update-appending : {p : Sizes} {r n m j : ℕ} {W T M M₁ : List ℕ} → Updating p r n m W M T → Added n (Stays p r n W M T m) 0 j M M₁
-    → Appending p r n (Copies p W T) W M₁ T j
-update-appending {p} {r} {n} {m} {j} {W} {T} {M} {M₁} u a =
-    record {
-      long = omega (arith, u .entries .long, a .size);
-      low = a .low;
-      listed = λ y l. u .stays (slotIn M₁ y) (slotRegionIn n M₁ y) (a .named y (omega arith) l) .0;
-      once = λ y z l k. a .once y z (omega arith) l k;
-      new = u .comes;
-      apart = λ x q y l e. u .apart x (slotRegionIn n M₁ y) (subst (λ (z : ℕ). Stays p r n W M T m z (slotRegionIn n M₁ y)) e (a .named y (omega arith) l)) q;
-      space = u .space;
-    }
 
 -- an entry that stays, or a crossing slot of a copy
 abbrev pub Entry : (p : Sizes) (r n m : ℕ) (W M T : List ℕ) → ℕ → ℕ → Type 0
@@ -47,10 +44,49 @@ Entry p r n m W M T x h = Stays p r n W M T m x h ⊎ Crossing p (Copies p W T) 
 abbrev pub Updated : (p : Sizes) (r n m : ℕ) (W M T M′ : List ℕ) → Type 0
 Updated p r n m W M T M′ = Renewed (Entry p r n m W M T) n M M′
 
-module _ {p : Sizes} {r n m j k e v : ℕ} {W T M M₁ M₂ M₃ : List ℕ} (u : Updating p r n m W M T) (a : Added n (Stays p r n W M T m) 0 j M M₁) (le : j ≤ m)
-    (b : Added n (Crossing p (Copies p W T) W T) j k M₁ M₂) (em : e ≡ max k m) (c : Cleared n k e M₂ M₃) (ev : v ≡ k) where
-  both : Added n (Entry p r n m W M T) 0 k M M₂
-  both = added-join a b (λ x g h s q. u .apart x g s (q .at)) (λ x h q. q) (λ x h q. q)
+-- the entries that stay, by cells that read the same at their slots
+stays-read : {n m : ℕ} {M : List ℕ} (p : Sizes) (r : ℕ) (W W′ T : List ℕ) → ((i : ℕ) → i < m → getD W′ (slotIn M i) 0 ≡ getD W (slotIn M i) 0)
+    → (x h : ℕ) → Stays p r n W M T m x h → Stays p r n W′ M T m x h
+unfolding newRegion
+stays-read {n} {M = M} p r W W′ T same x h q =
+    let s : ℕ = slotIn M (q .entry) in
+    let g : ℕ = slotRegionIn n M (q .entry) in
+    record {
+      entry = q .entry;
+      low = q .low;
+      slot = q .slot;
+      region =
+          q .region
+          ∙ ap (λ (y : ℕ). cond (eqb (ownerOf p T (pageAt s)) r) 0 (cond (eqb g r) (crossesFrom p T (ownerOf p T (pageAt s)) y) g)) (sym (same (q .entry) (q .low)));
+      kept = q .kept;
+    }
 
-  pub updated : Updated p r n m W M T (set M₃ 1 v)
-  updated = renewed (u .entries .long) both c (omega arith) (omega (arith, b .low, u .entries .few)) (λ y l h. u .rest y (omega arith) h) ev
+module _ {p : Sizes} {r n m j : ℕ} {W M T M₁ : List ℕ} (u : Settles p r n m W M T) (a : Added n (Stays p r n W M T m) 0 j M M₁) where
+  stays-apart : (x h : ℕ) → Stays p r n W M T m x h → Copies p W T x → ⊥
+  stays-apart x h q z = u .old (q .entry) (q .low) (subst (Copies p W T) (sym (q .slot)) z)
+
+  pub settle-asks : Settling p n (Copies p W T) W M₁ T j
+  settle-asks =
+      record {
+        long = omega (arith, u .entries .long, a .size);
+        low = a .low;
+        names = u .names;
+        space =
+            at-most-rest {Q = λ x. (h : ℕ) × Stays p r n W M T m x h} j (n - j) (slotIn M₁) (omega (arith, a .low)) (u .space) (λ y l. (slotRegionIn n M₁ y, a .named y (omega arith) l)) (λ y z. a .once y z (omega arith))
+            (λ x. inl) (λ x. inr) (λ x q z. stays-apart x (q .0) (q .1) (z .0));
+      }
+
+  -- j entries stay, k are used in the end
+  pub settles-updated : {k e v : ℕ} {W′ M₂ M₃ : List ℕ} → j ≤ m → Settled p n (Copies p W T) W M₁ T j W′ M₂ k → e ≡ max k m → Cleared n k e M₂ M₃ → v ≡ k
+      → Updated p r n m W′ M T (set M₃ 1 v)
+  settles-updated {k} {W′ = W′} {M₂ = M₂} le h em c ev =
+      renewed (u .entries .long) both c (omega arith) (omega (arith, h .added .low, u .entries .few)) (λ y l g. u .rest y (omega arith) g) ev
+    where
+      same : (i : ℕ) → i < m → getD W′ (slotIn M i) 0 ≡ getD W (slotIn M i) 0
+      same i l = h .rewritten .same (slotIn M i) (u .old i l)
+
+      both : Added n (Entry p r n m W′ M T) 0 k M M₂
+      both =
+          added-join a (h .added) (λ x g g′ s q. stays-apart x g s (q .at))
+          (λ x g. ⊎-elim (λ s. inl (stays-read p r W′ W T (λ i l. sym (same i l)) x g s)) (λ q. inr (crossing-in (slot-then (h .rewritten)) x g q)))
+          (λ x g. ⊎-elim (λ s. inl (stays-read p r W W′ T same x g s)) (λ q. inr (crossing-in (slot-now (h .rewritten)) x g q)))

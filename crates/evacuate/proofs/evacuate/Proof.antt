@@ -74,14 +74,14 @@ settle-requires c κs =
     let p = planned (c .before .before .before .before .before .before .before .before .before .before .before .before .before .before .before .before .before .before) in
     let k = copied (c .before .before .before .before .before .before .before .before .before .before .before .before .before .before .before .before .before .before) (c .before .before .before .before .before .before .before .before .before .before .before .before .before .before .copy-survivors .ensures) in
     let o = listed (c .before .before .before .before .before .before .before .before .before .before .before .before .before .before .before .before .before .before) in
-    (st.settle-ask b p k (c .before .before .before .before .before .before .before .before .before .before .before .before .before .before .before .before .before .before .before .before .before .before .before .before .before .before .before .before .pre .0 .3 .entries) (c .before .before .before .before .before .rewrite-slots .ensures), (o .rises, st.marks-ask b p k o))
+    (st.settle-ask b p k (c .before .before .before .before .before .rewrite-slots .ensures) (c .before .before .before .before .before .before .before .before .before .before .before .before .before .before .before .before .before .before .before .before .before .before .before .before .before .before .before .before .pre .0 .3 .entries), (o .rises, st.marks-ask b p k o))
 
 rewrite-variables-requires : tie.Need-rewrite-variables-requires
 rewrite-variables-requires c κs =
     let b = started (c .before .before .before .before .before .before .before .before .before .before .before .before .before .before .before .before .before .before .before .before .before .before .before .before .before) in
     let p = planned (c .before .before .before .before .before .before .before .before .before .before .before .before .before .before .before .before .before .before .before .before .before .before .before .before .before) in
     let k = copied (c .before .before .before .before .before .before .before .before .before .before .before .before .before .before .before .before .before .before .before .before .before .before .before .before .before) (c .before .before .before .before .before .before .before .before .before .before .before .before .before .before .before .before .before .before .before .before .before .copy-survivors .ensures) in
-    (variables-ask (st.moved b p k), (omega (arith, st.slots-ask b p k .cells-long, c .before .before .before .before .before .before .before .before .before .before .before .before .rewrite-slots .ensures .size, c .before .before .before .before .before .before .settle .ensures .0 .size), st.moved b p k .ready .room))
+    (variables-ask (st.moved b p k), (omega (arith, st.slots-ask b p k .entries .cells-long, c .before .before .before .before .before .before .before .before .before .before .before .before .rewrite-slots .ensures .size, c .before .before .before .before .before .before .settle .ensures .0 .size), st.moved b p k .ready .room))
 
 release-requires : tie.Need-release-requires
 release-requires c κs =

@@ -6,8 +6,7 @@ use Prim.Native.Nat.{ℕ}
 use mathlib.Core.List.{List}
 use mathlib.Core.Path.{refl, sym, _∙_, subst}
 use Rattle.layout.specs.Places.{usedIn}
-use Rattle.settle.specs.Update.{Updated}
-use Rattle.settle.specs.Final.{Settles, filter-asks, settle-asks, settles-small, settles-updated}
+use Rattle.settle.specs.Update.{Settles, Updated, settle-asks, settles-updated}
 use Rattle.settle.proofs.settle.Statement.{statement}
 use Rattle.settle.proofs.settle.Tie as tie
 
@@ -18,13 +17,13 @@ settles c =
     subst (λ (y : ℕ). Settles (a .p) (a .region) (a .p .entries) y (a .cells .now) (a .remember .now) (a .tables .now)) (sym (c .wide .ensures ∙ c .before .used .ensures)) (c .before .before .before .before .before .before .before .pre .0)
 
 used-requires : tie.Need-used-requires
-used-requires c κs = omega (arith, filter-asks (c .before .before .before .before .before .pre .0) .long)
+used-requires c κs = omega (arith, c .before .before .before .before .before .pre .0 .entries .long)
 
 wide-requires : tie.Need-wide-requires
 wide-requires c κs = search needs
 
 filter-entries-requires : tie.Need-filter-entries-requires
-filter-entries-requires c κs = (filter-asks (settles (c .before .before)), c .before .before .before .before .before .before .before .before .before .pre .0 .wiring .tables-long)
+filter-entries-requires c κs = (settles (c .before .before) .entries, c .before .before .before .before .before .before .before .before .before .pre .0 .wiring .tables-long)
 
 settle-copies-requires : tie.Need-settle-copies-requires
 settle-copies-requires c κs =
@@ -36,15 +35,15 @@ larger-requires c κs = search needs
 
 clear-entries-requires : tie.Need-clear-entries-requires
 clear-entries-requires c κs =
-    let e = filter-asks (settles (c .before .before .before .before .before .before .before .before .before .before .before .before .before .before)) in
+    let e = settles (c .before .before .before .before .before .before .before .before .before .before .before .before .before .before) .entries in
     let s = c .before .before .before .before .before .before .settle-copies in
     ((omega (arith, c .larger .ensures), omega (arith, c .larger .ensures, s .ensures .added .low, e .few)), omega (arith, e .long, s .kept .1 .1 .0, c .before .before .before .before .before .before .before .before .before .before .before .filter-entries .kept .1 .1 .0))
 
 cast-set-used : tie.Need-cast-set-used
-cast-set-used c = omega (arith, c .before .before .before .before .before .before .before .before .before .before .settle-copies .ensures .added .low, settles-small (c .before .before .before .before .before .before .before .before .before .before .before .before .before .before .before .before .before .before .before .before .before .before .before .before .before .pre .0))
+cast-set-used c = omega (arith, c .before .before .before .before .before .before .before .before .before .before .settle-copies .ensures .added .low, c .before .before .before .before .before .before .before .before .before .before .before .before .before .before .before .before .before .before .before .before .before .before .before .before .before .pre .0 .small)
 
 set-used-requires : tie.Need-set-used-requires
-set-used-requires c κs = omega (arith, filter-asks (c .before .before .before .before .before .before .before .before .before .before .before .before .before .before .before .before .before .before .before .before .before .before .before .before .before .pre .0) .long, c .before .before .before .clear-entries .kept .1 .0, c .before .before .before .before .before .before .before .before .before .before .settle-copies .kept .1 .1 .0, c .before .before .before .before .before .before .before .before .before .before .before .before .before .before .before .filter-entries .kept .1 .1 .0)
+set-used-requires c κs = omega (arith, c .before .before .before .before .before .before .before .before .before .before .before .before .before .before .before .before .before .before .before .before .before .before .before .before .before .pre .0 .entries .long, c .before .before .before .clear-entries .kept .1 .0, c .before .before .before .before .before .before .before .before .before .before .settle-copies .kept .1 .1 .0, c .before .before .before .before .before .before .before .before .before .before .before .before .before .before .before .filter-entries .kept .1 .1 .0)
 
 same-length : tie.Need-same-length
 same-length c = c .before .before .before .before .before .before .before .before .before .before .before .before .before .settle-copies .kept .1 .0

@@ -58,7 +58,7 @@ owner-requires c κs = (c .before .before .before .before .before .before .befor
 loop-holds : tie.Need-loop-holds Inv-loop μ-loop
 loop-holds c =
     let a = c .before .before .before .before .before .before .before .before .args in
-    (omega arith, c .before .before .field-count .ensures ∙ ap (fieldCount Reference) (c .before .before .before .head .ensures), c .owner .ensures ∙ ap (λ (q : ℕ). ownerOf (a .p) (a .tables .now) q) (c .before .page-of .ensures), refl, refl, fields-settled _ _ _ _ _ _ _ (c .before .before .before .before .before .before .before .before .pre .1 .0 .appending .low))
+    (omega arith, c .before .before .field-count .ensures ∙ ap (fieldCount Reference) (c .before .before .before .head .ensures), c .owner .ensures ∙ ap (λ (q : ℕ). ownerOf (a .p) (a .tables .now) q) (c .before .page-of .ensures), refl, refl, fields-settled _ _ _ _ _ _ _ (c .before .before .before .before .before .before .before .before .pre .1 .0 .low))
 
 field-requires : tie.Need-field-requires Inv-loop μ-loop
 field-requires c κs =
@@ -98,10 +98,10 @@ cast-set-slot c =
     omega (arith, c .field-at .ensures, field-high (a .cell) (l .f) (cell-in (a .p) (pre .0 .pages) (pre .0 .cells-long) (pre .0 .page) .0) few)
 
 set-slot-requires : tie.Need-set-slot-requires Inv-loop μ-loop
-set-slot-requires c κs = (omega (arith, c .before .before .before .before .before .before .before .before .before .before .before .before .before .before .before .before .before .before .before .before .before .pre .1 .0 .appending .long, c .before .before .before .before .before .before .before .before .before .before .before .before .loop .inv .4), roomy (c .before .before))
+set-slot-requires c κs = (omega (arith, c .before .before .before .before .before .before .before .before .before .before .before .before .before .before .before .before .before .before .before .before .before .pre .1 .0 .long, c .before .before .before .before .before .before .before .before .before .before .before .before .loop .inv .4), roomy (c .before .before))
 
 set-region-requires : tie.Need-set-region-requires Inv-loop μ-loop
-set-region-requires c κs = (omega (arith, c .before .before .before .before .before .before .before .before .before .before .before .before .before .before .before .before .before .before .before .before .before .before .before .before .before .pre .1 .0 .appending .long, c .before .before .before .before .before .before .before .before .before .before .before .before .before .before .before .before .loop .inv .4, c .before .before .before .set-slot .kept .1 .0), roomy (c .before .before .before .before .before .before))
+set-region-requires c κs = (omega (arith, c .before .before .before .before .before .before .before .before .before .before .before .before .before .before .before .before .before .before .before .before .before .before .before .before .before .pre .1 .0 .long, c .before .before .before .before .before .before .before .before .before .before .before .before .before .before .before .before .loop .inv .4, c .before .before .before .set-slot .kept .1 .0), roomy (c .before .before .before .before .before .before))
 
 add-i : tie.Need-add-i Inv-loop μ-loop
 add-i c = omega (arith, roomy (c .before .before .before .before .before .before .before .before .before), c .before .before .before .before .before .before .before .before .before .before .before .before .before .before .before .before .before .before .before .before .before .before .before .before .before .before .before .before .pre .1 .1 .entries-high)

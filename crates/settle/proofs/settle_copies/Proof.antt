@@ -5,8 +5,8 @@ use lib.ListN.{length}
 use Prim.Native.Nat.{_≤_, _<_, _-_}
 use mathlib.Core.Path.{_≡_, refl, _∙_}
 use Rattle.lists.specs.Part.{Through, cut-here, through-start, through-turn, through-end}
-use Rattle.settle.specs.RewriteCopies.{CopySlot, OnPages, page-wired}
-use Rattle.settle.specs.Settle.{Settled, copies-settled, page-settling, pages-settled, settled-skips}
+use Rattle.settle.specs.RewriteCopies.{CopySlot, OnPages, pages-split, second-wired}
+use Rattle.settle.specs.Settle.{Settled, copies-settled, second-settling, second-settled, settled-skips}
 use Rattle.settle.proofs.settle_copies.Statement.{statement}
 use Rattle.settle.proofs.settle_copies.Tie as tie
 
@@ -22,7 +22,7 @@ abbrev μ-loop : tie.MeasureT-loop
 loop-holds : tie.Need-loop-holds Inv-loop μ-loop
 loop-holds c =
     let pre = c .before .before .before .before .pre in
-    (omega arith, refl, refl, through-start _ _ _ _ (settled-skips (c .before .before .before .before .args .n) (c .before .before .before .before .args .list .now) (pre .0) (pre .1 .1 .1)) (copies-settled _ _ _ _ _ _ (pre .1 .0 .appending .low)))
+    (omega arith, refl, refl, through-start _ _ _ _ (settled-skips (c .before .before .before .before .args .n) (c .before .before .before .before .args .list .now) (pre .0) (pre .1 .1 .1)) (copies-settled _ _ _ _ _ _ (pre .1 .0 .low)))
 
 mul-wide : tie.Need-mul-wide Inv-loop μ-loop
 mul-wide c = omega arith
@@ -39,7 +39,7 @@ settle-page-requires c κs =
     let l = c .before .before .before .before .before .loop in
     let lt : c .wide .result < c .before .before .before .before .before .before .before .before .before .before .args .p .pages = omega (arith, pre .1 .1 .0 .low (l .a) (c .before .before .before .before .loop-test .taken), c .wide .ensures) in
     let h = l .inv .3 (c .wide .result) (cut-here (l .a) (c .wide .result) (pre .1 .1 .0) (c .before .before .before .before .loop-test .taken) (c .wide .ensures)) in
-    (page-wired (pre .0) lt (h .rewritten), (page-settling (pre .0) lt (pre .1 .0) h, lt))
+    (second-wired (pre .0) (pages-split lt) (h .rewritten), (second-settling (pre .0) (pages-split lt) h (pre .1 .0), lt))
 
 add-a : tie.Need-add-a Inv-loop μ-loop
 add-a c = omega (arith, c .before .before .before .before .before .before .before .before .before .before .before .before .before .before .before .pre .1 .1 .0 .few, c .before .before .before .before .before .before .before .before .before .loop-test .taken)
@@ -53,7 +53,7 @@ loop-again c =
     let l = c .before .before .before .before .before .before .before .before .before .before .loop in
     let lt : c .before .before .before .before .before .wide .result < c .before .before .before .before .before .before .before .before .before .before .before .before .before .before .before .args .p .pages = omega (arith, pre .1 .1 .0 .low (l .a) (c .before .before .before .before .before .before .before .before .before .loop-test .taken), c .before .before .before .before .before .wide .ensures) in
     let come = c .before .before .before .before .settle-page in
-    (omega (arith, c .before .before .before .before .before .before .before .before .before .loop-test .taken), come .kept .1 .0 ∙ l .inv .1, come .kept .1 .1 .0 ∙ l .inv .2, through-turn _ _ _ _ _ (l .a) (c .before .before .before .before .before .wide .result) (pre .1 .1 .0) (c .before .before .before .before .before .before .before .before .before .loop-test .taken) (c .before .before .before .before .before .wide .ensures) (l .inv .3) (λ h. pages-settled (pre .0) lt (pre .1 .0) h (come .ensures)) (settled-skips (c .before .before .before .before .before .before .before .before .before .before .before .before .before .before .before .args .n) (c .before .before .before .before .before .before .before .before .before .before .before .before .before .before .before .args .list .now) (pre .0) (pre .1 .1 .1)))
+    (omega (arith, c .before .before .before .before .before .before .before .before .before .loop-test .taken), come .kept .1 .0 ∙ l .inv .1, come .kept .1 .1 .0 ∙ l .inv .2, through-turn _ _ _ _ _ (l .a) (c .before .before .before .before .before .wide .result) (pre .1 .1 .0) (c .before .before .before .before .before .before .before .before .before .loop-test .taken) (c .before .before .before .before .before .wide .ensures) (l .inv .3) (λ h. second-settled (pre .0) (pages-split lt) h (come .ensures)) (settled-skips (c .before .before .before .before .before .before .before .before .before .before .before .before .before .before .before .args .n) (c .before .before .before .before .before .before .before .before .before .before .before .before .before .before .before .args .list .now) (pre .0) (pre .1 .1 .1)))
 
 same-length : tie.Need-same-length Inv-loop μ-loop
 same-length c = c .before .loop .inv .1

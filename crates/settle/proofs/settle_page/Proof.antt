@@ -4,15 +4,14 @@ use borrow.Author.Needs.{needs}
 use lib.ListN.{length}
 use Prim.Native.Nat.{ℕ, _-_, _/_, _^_}
 use mathlib.Core.Logic.{_≢_}
-use mathlib.Core.Path.{_≡_, refl, sym, ap, _∙_, subst}
+use mathlib.Core.Path.{_≡_, refl, sym, ap, _∙_}
 use lib.Count.{ones, ones-le, trailingZeros}
 use Rattle.lists.specs.Bits.{Lowest}
 use Rattle.lists.specs.SetBits.{Walked, walk-start, walk-lowest, walk-turn, walk-end}
-use Rattle.layout.specs.Cells.{workOf, refsOf, cellOn, pageOf, pageCells, page-on, cell-in}
-use Rattle.settle.specs.Rewrite.{link-same}
-use Rattle.settle.specs.RewriteSlots.{Field, Fields}
-use Rattle.settle.specs.RewriteCopies.{CopySlot, Old, Passed, passed-within, passed-grown, bit-old, copy-fields}
-use Rattle.settle.specs.Settle.{Settling, Settled, unset-settled, copy-settling, copy-settled, page-settled}
+use Rattle.layout.specs.Cells.{workOf, cellNamed, cellOn, pageOf, pageCells, page-on, cell-in}
+use Rattle.copy.specs.Forward.{forward}
+use Rattle.settle.specs.RewriteCopies.{CopySlot, Old, Passed, passed-split, bit-old, old-now, second-wired}
+use Rattle.settle.specs.Settle.{Settled, unset-settled, second-settling, second-settled, copy-fields, copy-settling, copy-settled, page-settled}
 use Rattle.settle.proofs.settle_page.Statement.{statement}
 use Rattle.settle.proofs.settle_page.Tie as tie
 
@@ -32,20 +31,24 @@ lowest c = walk-lowest (c .before .loop .inv .3) (omega (arith, c .before .loop 
 cell : (c : tie.After-cell-on Inv-loop μ-loop) → c .cell-on .result ≡ cellOn (c .before .before .before .before .before .before .before .before .before .before .args .page) (trailingZeros 32 (c .before .before .before .before .loop .left))
 cell c = c .cell-on .ensures ∙ ap (cellOn (c .before .before .before .before .before .before .before .before .before .before .args .page)) (c .before .wide .ensures)
 
--- it is a survivor's, and this is its forward reference
+-- it is a survivor's, and this is its copy
 old : (c : tie.After-work Inv-loop μ-loop)
     → (let a = c .before .before .before .before .before .before .before .before .before .before .before .args in
-    Old (a .p) (a .cells .now) (a .tables .now) (cellOn (a .page) (trailingZeros 32 (c .before .before .before .before .before .loop .left))))
+    let l = c .before .before .before .before .before .loop in
+    Old (a .p) (l .cells) (a .tables .now) (cellOn (a .page) (trailingZeros 32 (l .left))))
 old c =
     let pre = c .before .before .before .before .before .before .before .before .before .before .before .pre in
     let l = c .before .before .before .before .before .loop in
     let f = lowest (c .before .before .before .before) in
-    bit-old (pre .0) (c .before .before .before .before .before .before .upper-half .ensures ∙ ap (λ (x : ℕ). x / 2 ^ 16) (c .before .before .before .before .before .before .before .mark .ensures)) (trailingZeros 32 (l .left)) (pre .1 .1) (f .lt) (l .inv .3 .under (trailingZeros 32 (l .left)) (f .on))
+    old-now (l .inv .4 .rewritten) _ (bit-old (pre .0) (c .before .before .before .before .before .before .upper-half .ensures ∙ ap (λ (x : ℕ). x / 2 ^ 16) (c .before .before .before .before .before .before .before .mark .ensures)) (trailingZeros 32 (l .left)) (pre .1 .1) (f .lt) (l .inv .3 .under (trailingZeros 32 (l .left)) (f .on)))
 
 link : (c : tie.After-work Inv-loop μ-loop)
-    → (let l = c .before .before .before .before .before .loop in
-    c .work .result ≡ workOf (l .cells) (cellOn (c .before .before .before .before .before .before .before .before .before .before .before .args .page) (trailingZeros 32 (l .left))))
+    → (let l = c .before .before .before .before .before .loop in c .work .result ≡ workOf (l .cells) (cellOn (c .before .before .before .before .before .before .before .before .before .before .before .args .page) (trailingZeros 32 (l .left))))
 link c = c .work .ensures ∙ ap (λ (x : ℕ). workOf (c .before .before .before .before .before .loop .cells) x) (cell (c .before))
+
+copy : (c : tie.After-cell-named Inv-loop μ-loop)
+    → (let l = c .before .before .before .before .before .before .loop in c .cell-named .result ≡ forward (l .cells) (cellOn (c .before .before .before .before .before .before .before .before .before .before .before .before .args .page) (trailingZeros 32 (l .left))))
+copy c = c .cell-named .ensures ∙ ap cellNamed (link (c .before))
 
 mark-requires : tie.Need-mark-requires Inv-loop μ-loop
 mark-requires c κs = (c .before .before .before .pre .0 .tables-long, c .before .before .before .pre .1 .1)
@@ -56,7 +59,7 @@ upper-half-requires c κs = search needs
 loop-holds : tie.Need-loop-holds Inv-loop μ-loop
 loop-holds c =
     let e = c .upper-half .ensures ∙ ap (λ (x : ℕ). x / 2 ^ 16) (c .before .mark .ensures) in
-    (refl, refl, refl, walk-start (c .upper-half .result) (omega (arith, c .upper-half .ensures)), unset-settled (c .before .before .before .before .before .pre .0) e (c .before .before .before .before .before .pre .1 .0 .appending .low))
+    (refl, refl, refl, walk-start (c .upper-half .result) (omega (arith, c .upper-half .ensures)), unset-settled (c .before .before .before .before .before .pre .0) e (c .before .before .before .before .before .pre .1 .0 .low))
 
 wide-requires : tie.Need-wide-requires Inv-loop μ-loop
 wide-requires c κs = search needs
@@ -72,25 +75,18 @@ work-requires c κs =
 
 cell-named-requires : tie.Need-cell-named-requires Inv-loop μ-loop
 cell-named-requires c κs =
-    let ne : c .work .result ≢ 0 = λ z. old c .moved (sym (link-same (c .before .before .before .before .before .loop .inv .4 .rewritten) _) ∙ sym (link c) ∙ z) in
+    let ne : c .work .result ≢ 0 = λ z. old c .moved (sym (link c) ∙ z) in
     omega (arith, ne)
 
 settle-cell-requires : tie.Need-settle-cell-requires Inv-loop μ-loop
 settle-cell-requires c κs =
-    let a = c .before .before .before .before .before .before .before .before .before .before .before .before .before .before .args in
+    let pre = c .before .before .before .before .before .before .before .before .before .before .before .before .before .before .pre in
     let l = c .before .before .before .before .before .before .before .before .loop in
     let i : ℕ = trailingZeros 32 (l .left) in
-    let g = passed-grown (a .page) i (l .left - 2 ^ i) (lowest (c .before .before .before .before .before .before .before)) refl in
-    let among = passed-within (a .page) (l .left - 2 ^ i) in
-    let e = link (c .before .before .before) in
-    let u = old (c .before .before .before) in (
-      subst (λ (d : ℕ). Fields (a .p) (refsOf (l .cells) d) d (l .cells)) (sym (c .before .before .cell-named .ensures)) (copy-fields (c .before .before .before .before .before .before .before .before .before .before .before .before .before .before .pre .0) g among (l .inv .4 .rewritten) (c .before .before .before .work .result) e u),
-      (
-        subst (λ (d : ℕ). Settling (a .p) (a .p .entries) (Field d (refsOf (l .cells) d)) (l .cells) (l .remember) (a .tables .now) (l .i)) (sym (c .before .before .cell-named .ensures))
-            (copy-settling (c .before .before .before .before .before .before .before .before .before .before .before .before .before .before .pre .0) g among (l .inv .4) (c .before .before .before .work .result) e u (c .before .before .before .before .before .before .before .before .before .before .before .before .before .before .pre .1 .0)),
-        c .before .before .before .before .before .before .before .before .before .before .before .before .before .before .pre .0 .tables-long,
-      ),
-    )
+    let s = passed-split (c .before .before .before .before .before .before .before .before .before .before .before .before .before .before .args .page) i (l .left - 2 ^ i) (lowest (c .before .before .before .before .before .before .before)) refl in
+    let u = old (c .before .before .before) in
+    let e = copy (c .before .before) in
+    (copy-fields u _ e (second-wired (pre .0) s (l .inv .4 .rewritten)), (copy-settling u _ e (second-settling (pre .0) s (l .inv .4) (pre .1 .0)), pre .0 .tables-long))
 
 without-bit-requires : tie.Need-without-bit-requires Inv-loop μ-loop
 without-bit-requires c κs = let f = lowest (c .before .before .before .before .before .before .before .before .before .before .before .before) in (f .lt, f .on)
@@ -109,8 +105,7 @@ loop-again c =
     let f = lowest (c .before .before .before .before .before .before .before .before .before .before .before .before .before) in
     let left = c .without-bit in
     let come = c .before .before .before .before .before .settle-cell in
-    let h = copy-settled (c .before .before .before .before .before .before .before .before .before .before .before .before .before .before .before .before .before .before .before .before .pre .0) (passed-grown (a .page) i (left .result) f (left .ensures)) (passed-within (a .page) (left .result)) (l .inv .4) (c .before .before .before .before .before .before .before .before .before .work .result) (link (c .before .before .before .before .before .before .before .before .before)) (old (c .before .before .before .before .before .before .before .before .before))
-    (subst (λ (d : ℕ). Settled (a .p) (a .p .entries) (Field d (refsOf (l .cells) d)) (l .cells) (l .remember) (a .tables .now) (l .i) (come .last .1 .0) (come .last .1 .1 .0) (come .result)) (c .before .before .before .before .before .before .before .before .cell-named .ensures) (come .ensures)) in
+    let h = second-settled (c .before .before .before .before .before .before .before .before .before .before .before .before .before .before .before .before .before .before .before .before .pre .0) (passed-split (a .page) i (left .result) f (left .ensures)) (l .inv .4) (copy-settled (old (c .before .before .before .before .before .before .before .before .before)) _ (copy (c .before .before .before .before .before .before .before .before)) (come .ensures)) in
     (l .inv .0, h .rewritten .size, h .added .size, walk-turn i (left .result) (l .inv .3) f (left .ensures), h)
 
 same-length : tie.Need-same-length Inv-loop μ-loop

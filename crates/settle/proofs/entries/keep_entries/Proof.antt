@@ -6,16 +6,16 @@ use Prim.Native.Nat.{ℕ, max}
 use mathlib.Core.List.{List}
 use mathlib.Core.Path.{_≡_, refl, sym, _∙_, subst}
 use Rattle.layout.specs.Places.{usedIn}
-use Rattle.remember.specs.Stretches.{added-none}
-use Rattle.settle.specs.Update.{Updating, Updated, updated}
+use Rattle.settle.specs.Settle.{settled-none}
+use Rattle.settle.specs.Update.{Settles, Updated, settles-updated}
 use Rattle.settle.proofs.entries.keep_entries.Statement.{statement}
 use Rattle.settle.proofs.entries.keep_entries.Tie as tie
 
-updating : (c : tie.After-wide)
-    → (let a = c .before .before .before .before .before .before .args in Updating (a .p) (a .region) (a .p .entries) (c .wide .result) (a .cells .now) (a .remember .now) (a .tables .now))
-updating c =
+settles : (c : tie.After-wide)
+    → (let a = c .before .before .before .before .before .before .args in Settles (a .p) (a .region) (a .p .entries) (c .wide .result) (a .cells .now) (a .remember .now) (a .tables .now))
+settles c =
     let a = c .before .before .before .before .before .before .args in
-    subst (λ (y : ℕ). Updating (a .p) (a .region) (a .p .entries) y (a .cells .now) (a .remember .now) (a .tables .now)) (sym (c .wide .ensures ∙ c .before .used .ensures)) (c .before .before .before .before .before .before .pre .0)
+    subst (λ (y : ℕ). Settles (a .p) (a .region) (a .p .entries) y (a .cells .now) (a .remember .now) (a .tables .now)) (sym (c .wide .ensures ∙ c .before .used .ensures)) (c .before .before .before .before .before .before .pre .0)
 
 used-requires : tie.Need-used-requires
 used-requires c κs = search needs
@@ -24,7 +24,7 @@ wide-requires : tie.Need-wide-requires
 wide-requires c κs = search needs
 
 filter-entries-requires : tie.Need-filter-entries-requires
-filter-entries-requires c κs = (updating (c .before) .entries, c .before .before .before .before .before .before .before .pre .0 .wiring .tables-long)
+filter-entries-requires c κs = (settles (c .before) .entries, c .before .before .before .before .before .before .before .pre .0 .wiring .tables-long)
 
 clear-entries-requires : tie.Need-clear-entries-requires
 clear-entries-requires c κs = search needs
@@ -45,7 +45,7 @@ returns c =
     let clear = c .before .before .before .before .before .before .clear-entries in
     let used = c .before .before .before .before .before .before .before .before .before .before .before .before .wide in
     let e : used .result ≡ max (filter .result) (used .result) = omega (arith, filter .ensures .1) in
-    let h = updated (updating (c .before .before .before .before .before .before .before .before .before .before .before .before)) (filter .ensures .0) (filter .ensures .1) (added-none _ _ _ (filter .ensures .0 .low) (λ x h q. c .before .before .before .before .before .before .before .before .before .before .before .before .before .before .before .before .before .before .pre .1 x (q .at))) e (clear .ensures) refl in
+    let h = settles-updated (settles (c .before .before .before .before .before .before .before .before .before .before .before .before)) (filter .ensures .0) (filter .ensures .1) (settled-none _ _ _ _ _ _ _ (filter .ensures .0 .low) (λ x q. c .before .before .before .before .before .before .before .before .before .before .before .before .before .before .before .before .before .before .pre .1 x q)) e (clear .ensures) refl in
     subst (λ (X : List ℕ). Updated (a .p) (a .region) (a .p .entries) (usedIn (a .remember .now)) (a .cells .now) (a .remember .now) (a .tables .now) X) (sym (c .before .before .set-used .ensures))
     (subst (λ (y : ℕ). Updated (a .p) (a .region) (a .p .entries) y (a .cells .now) (a .remember .now) (a .tables .now) (set (clear .last .1 .0) 1 (filter .result))) (used .ensures ∙ c .before .before .before .before .before .before .before .before .before .before .before .before .before .used .ensures) h)
 

@@ -23,10 +23,10 @@ abbrev μ-loop : tie.MeasureT-loop
     used - i
 
 low : (c : tie.In-loop Inv-loop μ-loop) → slotIn (c .before .before .before .before .before .before .args .remember .now) (c .before .loop .i) < cellsWords (c .before .before .before .before .before .before .args .p)
-low c = c .before .before .before .before .before .before .pre .low (c .before .loop .i) (omega (arith, c .before .loop .inv .1, c .loop-test .taken))
+low c = c .before .before .before .before .before .before .pre .entries .low (c .before .loop .i) (omega (arith, c .before .loop .inv .1, c .loop-test .taken))
 
 used-requires : tie.Need-used-requires Inv-loop μ-loop
-used-requires c κs = omega (arith, c .before .before .pre .long)
+used-requires c κs = omega (arith, c .before .before .pre .entries .long)
 
 wide-requires : tie.Need-wide-requires Inv-loop μ-loop
 wide-requires c κs = search needs
@@ -37,21 +37,21 @@ loop-holds c = (omega arith, c .wide .ensures ∙ c .before .used .ensures, refl
 region-requires : tie.Need-region-requires Inv-loop μ-loop
 region-requires c κs =
     let pre = c .before .before .before .before .before .before .pre in
-    (omega (arith, pre .long), omega (arith, pre .few, c .before .loop .inv .1))
+    (omega (arith, pre .entries .long), omega (arith, pre .entries .few, c .before .loop .inv .1))
 
 slot-requires : tie.Need-slot-requires Inv-loop μ-loop
 slot-requires c κs =
     let pre = c .before .before .before .before .before .before .before .before .pre in
-    (omega (arith, pre .long), omega (arith, pre .few, c .before .before .before .loop .inv .1))
+    (omega (arith, pre .entries .long), omega (arith, pre .entries .few, c .before .before .before .loop .inv .1))
 
 wide-requires-2 : tie.Need-wide-requires-2 Inv-loop μ-loop
 wide-requires-2 c κs = search needs
 
 mul-forward-ref : tie.Need-mul-forward-ref Inv-loop μ-loop
-mul-forward-ref c = omega (arith, c .before .wide2 .ensures, c .before .before .slot .ensures, low (c .before .before .before .before .before), c .before .before .before .before .before .before .before .before .before .before .before .pre .pages)
+mul-forward-ref c = omega (arith, c .before .wide2 .ensures, c .before .before .slot .ensures, low (c .before .before .before .before .before), c .before .before .before .before .before .before .before .before .before .before .before .pre .entries .pages)
 
 slice-reshared-read-forward-ref : tie.Need-slice-reshared-read-forward-ref Inv-loop μ-loop
-slice-reshared-read-forward-ref c = omega (arith, c .before .wide2 .ensures, c .before .before .slot .ensures, low (c .before .before .before .before .before), c .before .before .before .before .before .before .before .before .before .before .before .pre .cells-long, c .before .before .before .before .before .before .loop .inv .2)
+slice-reshared-read-forward-ref c = omega (arith, c .before .wide2 .ensures, c .before .before .slot .ensures, low (c .before .before .before .before .before), c .before .before .before .before .before .before .before .before .before .before .before .pre .entries .cells-long, c .before .before .before .before .before .before .loop .inv .2)
 
 forward-ref-requires : tie.Need-forward-ref-requires Inv-loop μ-loop
 forward-ref-requires c κs =
@@ -60,14 +60,14 @@ forward-ref-requires c κs =
     let s = c .before .before .before .before .before .before .before .before .before .before .before .pre in
     let lt : l .i < usedIn (a .remember .now) = omega (arith, l .inv .1) in
     λ ne.
-    cell-in (a .p) (s .pages) (omega (arith, s .cells-long, l .inv .2))
+    cell-in (a .p) (s .entries .pages) (omega (arith, s .entries .cells-long, l .inv .2))
     (subst (λ (y : ℕ). Names (a .p) (getD (l .cells) y 0)) (sym (c .before .wide2 .ensures ∙ c .before .before .slot .ensures)) (slot-names s lt (l .inv .3) (sym (c .before .before .before .before .region .ensures) ∙ c .before .before .before .if1 .taken)) ne)
 
 mul-cells : tie.Need-mul-cells Inv-loop μ-loop
-mul-cells c = omega (arith, c .before .before .wide2 .ensures, c .before .before .before .slot .ensures, low (c .before .before .before .before .before .before), c .before .before .before .before .before .before .before .before .before .before .before .before .pre .pages)
+mul-cells c = omega (arith, c .before .before .wide2 .ensures, c .before .before .before .slot .ensures, low (c .before .before .before .before .before .before), c .before .before .before .before .before .before .before .before .before .before .before .before .pre .entries .pages)
 
 slice-write-cells : tie.Need-slice-write-cells Inv-loop μ-loop
-slice-write-cells c = omega (arith, c .before .before .wide2 .ensures, c .before .before .before .slot .ensures, low (c .before .before .before .before .before .before), c .before .before .before .before .before .before .before .before .before .before .before .before .pre .cells-long, c .before .before .before .before .before .before .before .loop .inv .2)
+slice-write-cells c = omega (arith, c .before .before .wide2 .ensures, c .before .before .before .slot .ensures, low (c .before .before .before .before .before .before), c .before .before .before .before .before .before .before .before .before .before .before .before .pre .entries .cells-long, c .before .before .before .before .before .before .before .loop .inv .2)
 
 add-i : tie.Need-add-i Inv-loop μ-loop
 add-i c = omega (arith, c .before .before .before .loop .inv .1, c .before .before .loop-test .taken)
