@@ -87,7 +87,7 @@ module _ {s : Sizes} {w w₁ : Words} {e : Part} {W T : List ℕ} (h : HasMoved 
   now = kept-in-use (h .marks .kept) (h .room)
 
   -- they are in their cells still, on pages of their owners
-  pub old-used : (c : ℕ) → BeginsIn s w c → Begins s W T c
+  old-used : (c : ℕ) → BeginsIn s w c → Begins s W T c
   old-used c u = h .forwards .copying .keeps c (now c u)
 
   pub old-owner : (c : ℕ) → BeginsIn s w c → ownerOf s T (pageOf c) ≡ ownerIn s w (pageOf c)
@@ -200,21 +200,3 @@ module _ {s : Sizes} {w w₁ : Words} {e : Part} {W T : List ℕ} (h : HasMoved 
 
       new : (c : ℕ) × (pageOf c < s .pages) × (marked s (w₁ .tables) c ≡ 1) × (forward W c ≡ d) → (c : ℕ) × Lives s w e c × (placed W c ≡ d)
       new q = let v = marked-survivor (h .marks) (q .0) (q .1) (q .2) in (q .0, survivor-lives v, survivor-placed (q .0) v ∙ q .3)
-
-  -- the objects with a forward reference are the survivors
-  pub moved-survivor : (c : ℕ) → Begins s W T c → workOf W c ≢ 0 → Survivor s w e c
-  moved-survivor c u n = ⊎-elim old new (h .forwards .only c u)
-    where
-      old : BeginsIn s w₁ c → Survivor s w e c
-      old q =
-          ⊎-elim (λ z. absurd (n (h .forwards .copying .links c q z ∙ idle z (e .ends? (pageOf c))))) (marked-survivor (h .marks) c (page-of c b)) (mark? s (w₁ .tables) c)
-        where
-          b : BeginsIn s w c
-          b = in-use-kept (h .marks .kept) (h .room) c q
-
-          idle : marked s (w₁ .tables) c ≡ 0 → Dec (e .ends (pageOf c)) → workOf (w₁ .cells) c ≡ 0
-          idle z (yes y) = h .marks .goes c b y ∙ unmarked-freed (h .marks) c b y (λ (x : marked s (w₁ .tables) c ≡ 1). omega arith)
-          idle z (no y) = outside-work (h .marks) (h .whole) c (record { used = b; out = y })
-
-      new : (b : ℕ) × (pageOf b < s .pages) × (marked s (w₁ .tables) b ≡ 1) × (forward W b ≡ c) → Survivor s w e c
-      new q = absurd (n (ap (workOf W) (sym (q .3)) ∙ h .forwards .moved (q .0) (q .1) (q .2) .clear))

@@ -1,13 +1,13 @@
 -- The remember table through the end of a part that is made of regions: the slots that it names with one of them are the holding slots, and
 -- the entries that stay and those of the copies are the slots that cross afterwards, with their regions.
-use mathlib.Core.Path.{_≡_, refl, sym, ap, ap₂, subst, _∙_}
+use mathlib.Core.Path.{_≡_, sym, ap, ap₂, subst, _∙_}
 use mathlib.Core.Logic.{_≢_, _⊎_, inl, inr, ⊎-elim}
 use mathlib.Core.List.{List}
 use Prim.Native.Nat.{ℕ, suc, _<_}
 use native.Mathlib.Omega.{arith}
 use Rattle.rules.specs.declared.Sizes.{Sizes}
 use Rattle.layout.specs.Places.{ownerOf, usedIn, slotIn, slotRegionIn}
-use Rattle.layout.specs.Cells.{fieldAt, fieldOf, pageOf, pageAt}
+use Rattle.layout.specs.Cells.{fieldOf, pageOf, pageAt}
 use Rattle.layout.specs.Objects.{begins-page, field-on}
 use Rattle.layout.specs.Words.{Words, ownerIn}
 use Rattle.remember.specs.Filtered.{Stays}

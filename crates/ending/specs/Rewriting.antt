@@ -14,12 +14,13 @@ use Rattle.layout.specs.Cells.{fieldAt, headOf, workOf, fieldOf, refsOf, fieldC
 use Rattle.layout.specs.Words.{Words, BeginsIn, Names, headIn, refCount}
 use Rattle.promises.specs.Reading.{refs-few}
 use Rattle.promises.specs.Ends.{Part, Outside, Survivor, Lives, outside-lives, survivor-lives, lives-how}
+use Rattle.copy.specs.Marks.{copied}
 use Rattle.settle.specs.Rewrite.{forwarded, forward-null, forward-still, Rewritten, rewritten-join, link-same, heads-same}
 use Rattle.settle.specs.RewriteSlots.{Fields}
-use Rattle.settle.specs.RewriteCopies.{Old, Wiring, wiring-now, OnPages, slot-now, slot-then}
+use Rattle.settle.specs.RewriteCopies.{Wiring, wiring-now, OnPages, slot-now, slot-then}
 use Rattle.settle.specs.Update.{Copies}
 use Rattle.ending.specs.MarkedWords.{marked-survivor}
-use Rattle.ending.specs.Placing.{HasMoved, placed, forwarded-placed, page-of, old-used, few, outside-idle, outside-placed, on, survivor-forward, survivor-placed, survivor-fresh, placed-page, placed-head, placed-field, placed-work, placed-apart, moved-survivor}
+use Rattle.ending.specs.Placing.{HasMoved, placed, forwarded-placed, page-of, few, outside-idle, outside-placed, on, survivor-forward, survivor-placed, survivor-fresh, placed-page, placed-head, placed-field, placed-work, placed-apart}
 
 -- fields of different objects stand apart
 pub fields-apart : (c d f g : ℕ) → f < mostFields → g < mostFields → fieldAt c f ≡ fieldAt d g → (c ≡ d) × (f ≡ g)
@@ -74,9 +75,12 @@ module _ {s : Sizes} {w w₁ : Words} {e : Part} {W T : List ℕ} (h : HasMoved 
       }
 
   -- the slots of the copies are the survivors' references
+  copied-survivor : (d : ℕ) → pageOf d < s .pages → copied s T d ≡ 1 → Survivor s w e d
+  copied-survivor d l z = marked-survivor (h .marks) d l (sym (h .forwards .bits d l) ∙ z)
+
   pub copy-survivor : (x : ℕ) → Copies s W T x → (q : LiveSlot s w e W x) × Survivor s w e (q .object)
   copy-survivor x q =
-      let v = moved-survivor h (q .cell) (q .old .used) (q .old .moved) in
+      let v = copied-survivor (q .cell) (q .among) (q .moved) in
       let z = copy-cell (q .cell) v in (
         record {
           object = q .cell;
@@ -97,7 +101,7 @@ module _ {s : Sizes} {w w₁ : Words} {e : Part} {W T : List ℕ} (h : HasMoved 
       record {
         cell = q .object;
         among = page-of h (q .object) (v .used);
-        old = record { used = old-used h (q .object) (v .used); moved = λ y. omega (arith, survivor-forward h (q .object) v) };
+        moved = h .forwards .bits (q .object) (page-of h (q .object) (v .used)) ∙ on h (q .object) v;
         field = record {
           field = q .field;
           low = omega (arith, q .low, ap (refsOf W) z, refs-placed (q .object) (q .lives));
@@ -140,32 +144,23 @@ module _ {s : Sizes} {w w₁ : Words} {e : Part} {W T : List ℕ} (h : HasMoved 
   wired : Wiring s (OnPages (s .pages)) W T
   wired =
       record {
-        few = h .room .few;
         cells-long = h .ready .cells-long;
         tables-long = h .ready .room;
-        bits = λ d q l z. let v = marked-survivor (h .marks) d l (sym (h .forwards .bits d l) ∙ z) in
-            record { used = old-used h d (v .used); moved = λ y. omega (arith, survivor-forward h d v) };
-        only = λ d q u. let v = survivor d u in h .forwards .bits d (page-of h d (v .used)) ∙ on h d v;
-        copies = λ d q u. fields d (survivor d u);
+        moved = λ d q u z. let y : ⊥ = omega (arith, survivor-forward h d (copied-survivor d q u), z) in y;
+        copies = λ d q u. fields d (copied-survivor d q u);
         once = λ x y q q′ u v z.
-            let a = survivor x u in
-            let b = survivor y v in
+            let a = copied-survivor x q u in
+            let b = copied-survivor y q′ v in
             placed-apart h x y (survivor-lives a) (survivor-lives b) (sym (copy-cell x a) ∙ ap (λ (i : ℕ). i - 1) z ∙ copy-cell y b);
       }
     where
-      survivor : (d : ℕ) → Old s W T d → Survivor s w e d
-      survivor d u = moved-survivor h d (u .used) (u .moved)
-
       fields : (d : ℕ) → Survivor s w e d → Fields s (refsOf W (workOf W d - 1)) (workOf W d - 1) W
       fields d v =
-          let n = refs-placed d (survivor-lives v) in
           subst (λ (x : ℕ). Fields s (refsOf W x) x W) (sym (copy-cell d v))
           (record {
-            pages = h .room .few;
             cells-long = h .ready .cells-long;
             page = placed-page h d (survivor-lives v);
-            few = omega (arith, n, refs-few s w (h .whole) d (v .used));
-            names = λ f l. live-names (fieldAt (placed W d) f) (record { object = d; field = f; lives = survivor-lives v; low = omega (arith, n); at = refl });
+            few = omega (arith, refs-placed d (survivor-lives v), refs-few s w (h .whole) d (v .used));
           })
 
 -- ---- the holding slots are rewritten
@@ -180,7 +175,7 @@ module _ {s : Sizes} {w w₁ : Words} {e : Part} {W T : List ℕ} (h : HasMoved 
   module _ {W₂ : List ℕ} (R₂ : Rewritten S W W₂) where
     -- the copies' own slots are as they were
     pub copies-ask : Wiring s (OnPages (s .pages)) W₂ T
-    copies-ask = wiring-now R₂ (wired h) no-copy
+    copies-ask = wiring-now R₂ (wired h)
 
     pub rewritten-both : {W₃ : List ℕ} → Rewritten (Copies s W₂ T) W₂ W₃ → Rewritten (λ x. S x ⊎ Copies s W T x) W W₃
     rewritten-both R₃ =

@@ -13,11 +13,12 @@ use Rattle.rules.specs.declared.Sizes.{Sizes}
 use Rattle.rules.specs.Regions.{regionAt, regions, threadOf, levelOf}
 use Rattle.rules.specs.Graph.{ended, crossing}
 use Rattle.laws.specs.RegionLaws.{region-high, numbers-rise, thread-at, level-at}
-use Rattle.layout.specs.Places.{Room, depthAt, countAt, depthOf, ownerOf, markOf, usedIn, slotIn, slotRegionIn, ownersFrom, countsFrom, varsFrom, tablesWords, count-room, varCount}
+use Rattle.layout.specs.Places.{Room, depthAt, countAt, depthOf, ownerOf, markOf, usedIn, slotIn, ownersFrom, countsFrom, varsFrom, tablesWords, count-room, varCount}
 use Rattle.layout.specs.Cells.{pageOf, pageAt, wordOf, field-word}
 use Rattle.layout.specs.Objects.{begins-page}
 use Rattle.layout.specs.Words.{Words, words, Names, depthIn, ownerIn, graphOf}
 use Rattle.remember.specs.Crossing.{crossesFrom}
+use Rattle.remember.specs.Staying.{Entries}
 use Rattle.promises.specs.Whole.{WholeFor, Open}
 use Rattle.promises.specs.OwnedPages.{pagesOwned}
 use Rattle.promises.specs.Reading.{used-home}
@@ -115,22 +116,24 @@ module _ {s : Sizes} {t k r : ℕ} {w w₁ : Words} (b : Begun s t k r w w₁) w
 
     -- ---- the remembered slots
 
-    entry-held : (i : ℕ) → i < usedIn (w .remember) → slotRegionIn (s .entries) (w .remember) i ≡ r → Held s w r (slotIn (w .remember) i)
-    entry-held i l z = record { entry = i; low = l; region = z; slot = refl }
+    -- the entries, by cells in which every remembered slot names a cell
+    entries-ask : {X : List ℕ} → length X ≡ length W → ((x : ℕ) → Held s w r x → Names s (getD X x 0)) → Entries s r (s .entries) (usedIn (w .remember)) X (w .remember)
+    entries-ask size names =
+        let e = b .whole .remember .entries in
+        record {
+          pages = b .room .few;
+          cells-long = omega (arith, moved .ready .cells-long, size);
+          long = omega (arith, b .whole .sized .remember);
+          few = e .room;
+          low = λ i l. e .named i l .slot;
+          once = e .once;
+          names = λ i l z. names (slotIn (w .remember) i) (record { entry = i; low = l; region = z; slot = refl });
+        }
 
     pub slots-ask : Slots s r (s .entries) (usedIn (w .remember)) W (w .remember)
     slots-ask =
-        let e = b .whole .remember .entries in
         record {
-          entries = record {
-            pages = b .room .few;
-            cells-long = moved .ready .cells-long;
-            long = omega (arith, b .whole .sized .remember);
-            few = e .room;
-            low = λ i l. e .named i l .slot;
-            once = e .once;
-            names = λ i l z. live-names moved (slotIn (w .remember) i) (held-live moved held (slotIn (w .remember) i) (entry-held i l z));
-          };
+          entries = entries-ask refl (λ x q. live-names moved x (held-live moved held x q));
           fields = λ i l. let y = entry-says (b .whole) i l in subst (λ (x : ℕ). 2 ≤ wordOf x) (sym (y .at)) (field-word (y .object) (y .field) (few moved (y .object) (y .field) (y .used) (y .low)));
         }
 
@@ -151,26 +154,19 @@ module _ {s : Sizes} {t k r : ℕ} {w w₁ : Words} (b : Begun s t k r w w₁) w
       copy-live : (x : ℕ) → Copies s W₂ T x → LiveSlot s w (partOf s w r) W x
       copy-live x q = copies-live moved x (slot-then R₂ x q)
 
+      copy-same : (x : ℕ) → Copies s W₂ T x → getD W₂ x 0 ≡ getD W x 0
+      copy-same x q = R₂ .same x (no-copy moved held x (slot-then R₂ x q))
+
       copy-later : (x : ℕ) → Copies s W₂ T x → forwarded W₂ (getD W₂ x 0) ≡ forwarded W (getD W x 0)
-      copy-later x q = ref-same R₂ (getD W₂ x 0) ∙ ap (forwarded W) (R₂ .same x (no-copy moved held x (slot-then R₂ x q)))
+      copy-later x q = ref-same R₂ (getD W₂ x 0) ∙ ap (forwarded W) (copy-same x q)
 
       pub settle-ask : crossingAfter s w t k ≤ s .entries → Settles s r (s .entries) (usedIn (w .remember)) W₂ (w .remember) T
       settle-ask entries =
-          let e = slots-ask .entries in
           record {
-            entries = record {
-              pages = e .pages;
-              cells-long = omega (arith, e .cells-long, R₂ .size);
-              long = e .long;
-              few = e .few;
-              low = e .low;
-              once = e .once;
-              names = λ i l z. let x : ℕ = slotIn (w .remember) i in let q = entry-held i l z in subst (Names s) (sym (R₂ .moved x q)) (names-later moved x (held-live moved held x q));
-            };
+            entries = entries-ask (R₂ .size) (λ x q. subst (Names s) (sym (R₂ .moved x q)) (names-later moved x (held-live moved held x q)));
             wiring = copies-ask moved held R₂;
-            small = b .room .entries-high;
             old = λ i l q. entry-no-copy i l (slot-then R₂ (slotIn (w .remember) i) q);
-            names = λ x q. subst (Names s) (sym (copy-later x q)) (names-later moved x (copy-live x q));
+            names = λ x q. (subst (Names s) (sym (copy-same x q)) (live-names moved x (copy-live x q)), subst (Names s) (sym (copy-later x q)) (names-later moved x (copy-live x q)));
             space = at-most-less
                 (λ x.
                 ⊎-elim

@@ -9,10 +9,10 @@ use lib.ListN.{length, getD, set, length-set}
 use lib.Seq.{getD-set-same, getD-set-other}
 use Rattle.rules.specs.declared.Sizes.{Sizes}
 use Rattle.layout.specs.Places.{Room, varAt, varCount, varOf, slotIn, slotRegionIn, varsFrom, cellsWords}
-use Rattle.layout.specs.Cells.{fieldAt, fieldOf, pageOf, wordOf, mostFields}
+use Rattle.layout.specs.Cells.{fieldAt, pageOf, wordOf, mostFields}
 use Rattle.layout.specs.Words.{Names}
 use Rattle.remember.specs.Staying.{Entries}
-use Rattle.settle.specs.Rewrite.{forwarded, Rewritten, rewritten-none, rewritten-one, rewritten-join}
+use Rattle.settle.specs.Rewrite.{forwarded, Rewritten, rewritten-none, rewritten-one, rewritten-join, rewritten-like}
 
 -- ---- the remembered slots with region r
 
@@ -35,29 +35,27 @@ module _ {p : Sizes} {r n m : ℕ} {W M W′ : List ℕ} {i : ℕ} (a : Slots p 
   pub slot-names : slotRegionIn n M i ≡ r → Names p (getD W′ (slotIn M i) 0)
   slot-names e = subst (λ (x : ℕ). Names p x) (sym (h .same (slotIn M i) fresh)) (a .entries .names i lt e)
 
+  earlier : (x : ℕ) → Remembered r n i M x → Remembered r n (i + 1) M x
+  earlier x q = record { entry = q .entry; low = omega (arith, q .low); region = q .region; slot = q .slot }
+
+  split : (x : ℕ) → Remembered r n (i + 1) M x → Remembered r n i M x ⊎ ((slotRegionIn n M i ≡ r) × (x ≡ slotIn M i))
+  split x q = go (ℕ-discrete (q .entry) i)
+    where
+      go : Dec (q .entry ≡ i) → Remembered r n i M x ⊎ ((slotRegionIn n M i ≡ r) × (x ≡ slotIn M i))
+      go (yes z) = inr (ap (λ (y : ℕ). slotRegionIn n M y) (sym z) ∙ q .region, sym (q .slot) ∙ ap (λ (y : ℕ). slotIn M y) z)
+      go (no z) = inl (record { entry = q .entry; low = omega (arith, q .low); region = q .region; slot = q .slot })
+
   pub slot-moved : (v s : ℕ) → s ≡ slotIn M i → slotRegionIn n M i ≡ r → v ≡ forwarded W′ (getD W′ s 0)
       → Rewritten (Remembered r n (i + 1) M) W (set W′ s v)
   slot-moved v s e reg ev =
       rewritten-join h
       (rewritten-one s v (omega (arith, a .entries .low i lt, a .entries .cells-long, h .size)) (subst (λ (z : ℕ). 2 ≤ wordOf z) (sym e) (a .fields i lt)) ev)
       (λ x q z. fresh (subst (λ (y : ℕ). Remembered r n i M y) (z ∙ e) q))
-      (λ x q. from x q (ℕ-discrete (q .entry) i))
-      (λ x. ⊎-elim (λ q. record { entry = q .entry; low = omega (arith, q .low); region = q .region; slot = q .slot })
-      (λ z. record { entry = i; low = omega arith; region = reg; slot = sym (z ∙ e) }))
-    where
-      from : (x : ℕ) (q : Remembered r n (i + 1) M x) → Dec (q .entry ≡ i) → Remembered r n i M x ⊎ (x ≡ s)
-      from x q (yes z) = inr (sym (q .slot) ∙ ap (λ (y : ℕ). slotIn M y) z ∙ sym e)
-      from x q (no z) = inl (record { entry = q .entry; low = omega (arith, q .low); region = q .region; slot = q .slot })
+      (λ x q. ⊎-elim inl (λ z. inr (z .1 ∙ sym e)) (split x q))
+      (λ x. ⊎-elim (earlier x) (λ z. record { entry = i; low = omega arith; region = reg; slot = sym (z ∙ e) }))
 
   pub slot-left : slotRegionIn n M i ≢ r → Rewritten (Remembered r n (i + 1) M) W W′
-  slot-left ne =
-      rewritten-join h (rewritten-none (λ x. ⊥) W′ (λ x q. q)) (λ x q z. z)
-      (λ x q. inl (from x q (ℕ-discrete (q .entry) i)))
-      (λ x. ⊎-elim (λ q. record { entry = q .entry; low = omega (arith, q .low); region = q .region; slot = q .slot }) (λ z. absurd z))
-    where
-      from : (x : ℕ) (q : Remembered r n (i + 1) M x) → Dec (q .entry ≡ i) → Remembered r n i M x
-      from x q (yes z) = absurd (ne (ap (λ (y : ℕ). slotRegionIn n M y) (sym z) ∙ q .region))
-      from x q (no z) = record { entry = q .entry; low = omega (arith, q .low); region = q .region; slot = q .slot }
+  slot-left ne = rewritten-like h (λ x q. ⊎-elim (λ z. z) (λ z. absurd (ne (z .0))) (split x q)) earlier
 
 pub slots-start : (r n : ℕ) (W M : List ℕ) → Rewritten (Remembered r n 0 M) W W
 slots-start r n W M = rewritten-none (Remembered r n 0 M) W (λ x q. omega (arith, q .low))
@@ -70,11 +68,9 @@ pub record Field (d n x : ℕ) : Type 0 where
   pub at : x ≡ fieldAt d field
 
 pub record Fields (p : Sizes) (n d : ℕ) (W : List ℕ) : Type 0 where
-  pub pages : p .pages ≤ 1024
   pub cells-long : cellsWords p ≤ length W
   pub page : pageOf d < p .pages
   pub few : n ≤ mostFields
-  pub names : (f : ℕ) → f < n → Names p (fieldOf W d f)
 
 -- ---- the variables: those below n, counted through all threads
 

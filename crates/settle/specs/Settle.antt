@@ -13,11 +13,12 @@ use Rattle.rules.specs.declared.Sizes.{Sizes}
 use Rattle.layout.specs.Places.{ownerOf, markOf, slotIn, entriesWords}
 use Rattle.layout.specs.Cells.{fieldAt, fieldOf, refsOf, pageOf, wordOf, pageAt, mostFields, field-page, field-word, field-once, field-in}
 use Rattle.layout.specs.Words.{Names}
+use Rattle.copy.specs.Marks.{copied}
 use Rattle.copy.specs.Forward.{forward}
 use Rattle.settle.specs.Rewrite.{forwarded, Rewritten, ref-same, rewritten-none, rewritten-one, rewritten-join, rewritten-like}
 use Rattle.remember.specs.Crossing.{crossesFrom}
 use Rattle.settle.specs.RewriteSlots.{Field, Fields}
-use Rattle.settle.specs.RewriteCopies.{CopySlot, Old, Wiring, Split, OnPage, OnPages, Passed, within-passed, unset-none, slot-less, slot-now, slot-then, slots-apart, second-wired, pages-split, unmarked-none}
+use Rattle.settle.specs.RewriteCopies.{CopySlot, Wiring, Split, OnPage, OnPages, Passed, within-passed, unset-none, slot-less, slot-now, slot-then, slots-apart, pages-split, unmarked-none}
 use Rattle.remember.specs.Stretches.{Added, added-none, added-one, added-join, added-like}
 use Rattle.settle.specs.Append.{crossAt, crossLater, Crossing, AtMost, at-most-less, at-most-rest}
 
@@ -26,11 +27,11 @@ pub record Settled (p : Sizes) (n : ℕ) (P : ℕ → Type 0) (W M T : List ℕ)
   pub rewritten : Rewritten P W W′
   pub added : Added n (Crossing p P W′ T) j i M M′
 
--- they can be settled: each names a cell then, and those that cross then have room after j entries
+-- they can be settled: each names a cell now and then, and those that cross then have room after j entries
 pub record Settling (p : Sizes) (n : ℕ) (P : ℕ → Type 0) (W M T : List ℕ) (j : ℕ) : Type 0 where
   pub long : entriesWords n ≤ length M
   pub low : j ≤ n
-  pub names : (x : ℕ) → P x → Names p (forwarded W (getD W x 0))
+  pub names : (x : ℕ) → P x → Names p (getD W x 0) × Names p (forwarded W (getD W x 0))
   pub space : AtMost (λ x. P x × (crossLater p W T x ≢ 0)) (n - j)
 
 -- ---- sets of slots
@@ -81,7 +82,9 @@ settling-next {p} {n} {j} {i} {P} {Q} {R} {W} {M} {T} {W′} {M′} s h fq fr ap
     record {
       long = omega (arith, s .long, h .added .size);
       low = h .added .low;
-      names = λ x q. subst (λ (y : ℕ). Names p y) (sym (same x q)) (s .names x (fr x q));
+      names = λ x q.
+          let y = s .names x (fr x q) in
+          (subst (λ (v : ℕ). Names p v) (sym (h .rewritten .same x (λ m. apart x m q))) (y .0), subst (λ (v : ℕ). Names p v) (sym (same x q)) (y .1));
       space =
           at-most-rest {Q = λ x. Q x × (crossLater p W T x ≢ 0)} (i - j) (n - i) (λ y. slotIn M′ (j + y)) (omega (arith, h .added .grows, h .added .low)) (s .space)
           (λ y l. let q = h .added .named (j + y) (omega arith) (omega arith) in (q .at, λ z. q .kept (q .region ∙ into (slotIn M′ (j + y)) (h .rewritten .moved (slotIn M′ (j + y)) (q .at)) ∙ z)))
@@ -145,9 +148,9 @@ module _ {p : Sizes} {n d k f j i : ℕ} {W M T W′ M′ : List ℕ} (a : Field
   field-settling =
       settling-next s h (λ x q. record { field = q .field; low = omega (arith, q .low); at = q .at }) (λ x e. record { field = f; low = lt; at = e }) new
 
-  -- the field as it is read is as it was, and names a cell
+  -- the field as it is read names a cell
   pub field-names : Names p (fieldOf W′ d f)
-  field-names = subst (λ (x : ℕ). Names p x) (sym (h .rewritten .same (fieldAt d f) (λ q. new (fieldAt d f) q refl))) (a .names f lt)
+  field-names = field-settling .names (fieldAt d f) refl .0
 
   field-joins : {W″ M″ : List ℕ} {i′ : ℕ} → Settled p n (λ y. y ≡ fieldAt d f) W′ M′ T i W″ M″ i′ → Settled p n (Field d (f + 1)) W M T j W″ M″ i′
   field-joins b =
@@ -160,7 +163,7 @@ module _ {p : Sizes} {n d k f j i : ℕ} {W M T W′ M′ : List ℕ} (a : Field
 
   -- and so does what it becomes
   pub moved-names : (v : ℕ) → v ≡ forwarded W′ (fieldOf W′ d f) → Names p v
-  moved-names v e = subst (λ (x : ℕ). Names p x) (sym e) (field-settling .names (fieldAt d f) refl)
+  moved-names v e = subst (λ (x : ℕ). Names p x) (sym e) (field-settling .names (fieldAt d f) refl .1)
 
   -- v is the forwarded reference, w the region of the cell, g the region into which it crosses, as the code has them
   module _ (v w g : ℕ) (ev : v ≡ forwarded W′ (fieldOf W′ d f)) (ew : w ≡ ownerOf p T (pageOf d)) (eg : g ≡ crossesFrom p T w v) where
@@ -197,14 +200,14 @@ module _ {p : Sizes} {n j i : ℕ} {A P Q R : ℕ → Type 0} {W M T W′ M′ :
       (λ x. ⊎-elim (slot-less (λ c m. s .to c (inl m)) x) (λ b. slot-less (λ c m. s .to c (inr m)) x (slot-then (h .rewritten) x b)))
     where
       from : (x : ℕ) (a : CopySlot p R W T x) → P (a .cell) ⊎ Q (a .cell) → CopySlot p P W T x ⊎ CopySlot p Q W′ T x
-      from x a (inl m) = inl (record { cell = a .cell; among = m; old = a .old; field = a .field })
-      from x a (inr m) = inr (slot-now (h .rewritten) x (record { cell = a .cell; among = m; old = a .old; field = a .field }))
+      from x a (inl m) = inl (record { cell = a .cell; among = m; moved = a .moved; field = a .field })
+      from x a (inr m) = inr (slot-now (h .rewritten) x (record { cell = a .cell; among = m; moved = a .moved; field = a .field }))
 
 -- ---- the copy of one cell; d is that copy as the code has it
 
-module _ {p : Sizes} {W T : List ℕ} {c : ℕ} (u : Old p W T c) (d : ℕ) (e : d ≡ forward W c) where
+module _ {p : Sizes} {W T : List ℕ} {c : ℕ} (u : copied p T c ≡ 1) (d : ℕ) (e : d ≡ forward W c) where
   to-copy : (x : ℕ) → Field d (refsOf W d) x → CopySlot p (λ y. y ≡ c) W T x
-  to-copy x f = record { cell = c; among = refl; old = u; field = subst (λ (y : ℕ). Field y (refsOf W y) x) e f }
+  to-copy x f = record { cell = c; among = refl; moved = u; field = subst (λ (y : ℕ). Field y (refsOf W y) x) e f }
 
   from-copy : (x : ℕ) → CopySlot p (λ y. y ≡ c) W T x → Field d (refsOf W d) x
   from-copy x q = subst (λ (y : ℕ). Field y (refsOf W y) x) (sym (e ∙ ap (forward W) (sym (q .among)))) (q .field)
@@ -220,9 +223,9 @@ module _ {p : Sizes} {W T : List ℕ} {c : ℕ} (u : Old p W T c) (d : ℕ) (e :
 
 -- ---- the copies of a page's survivors
 
-pub unset-settled : {p : Sizes} {n q w j : ℕ} {W M T : List ℕ} → Wiring p (OnPage q) W T → w ≡ markOf p T q / 2 ^ 16 → j ≤ n
+pub unset-settled : {p : Sizes} {n w j : ℕ} {W M T : List ℕ} (q : ℕ) → w ≡ markOf p T q / 2 ^ 16 → j ≤ n
     → Settled p n (CopySlot p (Passed q w) W T) W M T j W M j
-unset-settled {p} {n} {q} {w} {j} {W} {M} {T} a e l = settled-none p n (CopySlot p (Passed q w) W T) W M T j l (unset-none a e)
+unset-settled {p} {n} {w} {j} {W} {M} {T} q e l = settled-none p n (CopySlot p (Passed q w) W T) W M T j l (unset-none p q T e)
 
 pub page-settled : {p : Sizes} {n left j i : ℕ} {W M T W′ M′ : List ℕ} (q : ℕ) → left ≡ 0 → Settled p n (CopySlot p (Passed q left) W T) W M T j W′ M′ i
     → Settled p n (CopySlot p (OnPage q) W T) W M T j W′ M′ i
@@ -238,6 +241,5 @@ copies-settled p n j W M T l = settled-none p n (CopySlot p (OnPages 0) W T) W M
 pub settled-skips : {p : Sizes} {n j i : ℕ} {W M T W′ M′ : List ℕ} (k : ℕ) (l : List ℕ) → Wiring p (OnPages (p .pages)) W T
     → ((q : ℕ) → q < p .pages → Off l k q → markOf p T q ≡ 0) → Skips (p .pages) k l (λ b. Settled p n (CopySlot p (OnPages b) W T) W M T j W′ M′ i)
 settled-skips {p} {n} {i = i} {T = T} {W′ = W′} {M′ = M′} k l w none q lt off h =
-    let s = pages-split lt in
-    second-settled w s h
-    (settled-none p n (CopySlot p (OnPage q) W′ T) W′ M′ T i (h .added .low) (unmarked-none (second-wired w s (h .rewritten)) (none q lt off)))
+    second-settled w (pages-split lt) h
+    (settled-none p n (CopySlot p (OnPage q) W′ T) W′ M′ T i (h .added .low) (unmarked-none (none q lt off)))

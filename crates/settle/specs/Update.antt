@@ -31,9 +31,8 @@ Due p r n m W M T x = ((h : ℕ) × Stays p r n W M T m x h) ⊎ (Copies p W T x
 pub record Settles (p : Sizes) (r n m : ℕ) (W M T : List ℕ) : Type 0 where
   pub entries : Entries p r n m W M
   pub wiring : Wiring p (OnPages (p .pages)) W T
-  pub small : n ≤ 4096
   pub old : (i : ℕ) → i < m → Copies p W T (slotIn M i) → ⊥
-  pub names : (x : ℕ) → Copies p W T x → Names p (forwarded W (getD W x 0))
+  pub names : (x : ℕ) → Copies p W T x → Names p (getD W x 0) × Names p (forwarded W (getD W x 0))
   pub space : AtMost (Due p r n m W M T) n
   pub rest : (y : ℕ) → m ≤ y → y < n → (slotIn M y ≡ 0) × (slotRegionIn n M y ≡ 0)
 

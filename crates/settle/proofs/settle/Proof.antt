@@ -40,7 +40,7 @@ clear-entries-requires c κs =
     ((omega (arith, c .larger .ensures), omega (arith, c .larger .ensures, s .ensures .added .low, e .few)), omega (arith, e .long, s .kept .1 .1 .0, c .before .before .before .before .before .before .before .before .before .before .before .filter-entries .kept .1 .1 .0))
 
 cast-set-used : tie.Need-cast-set-used
-cast-set-used c = omega (arith, c .before .before .before .before .before .before .before .before .before .before .settle-copies .ensures .added .low, c .before .before .before .before .before .before .before .before .before .before .before .before .before .before .before .before .before .before .before .before .before .before .before .before .before .pre .0 .small)
+cast-set-used c = omega (arith, c .before .before .before .before .before .before .before .before .before .before .settle-copies .ensures .added .low, c .before .before .before .before .before .before .before .before .before .before .before .before .before .before .before .before .before .before .before .before .before .before .before .before .before .pre .0 .wiring .tables-long .entries-high)
 
 set-used-requires : tie.Need-set-used-requires
 set-used-requires c κs = omega (arith, c .before .before .before .before .before .before .before .before .before .before .before .before .before .before .before .before .before .before .before .before .before .before .before .before .before .pre .0 .entries .long, c .before .before .before .clear-entries .kept .1 .0, c .before .before .before .before .before .before .before .before .before .before .settle-copies .kept .1 .1 .0, c .before .before .before .before .before .before .before .before .before .before .before .before .before .before .before .filter-entries .kept .1 .1 .0)

@@ -44,7 +44,7 @@ roomy c =
     field-fits (pre .0) (pre .1 .0) (omega (arith, l .inv .1, c .before .before .before .before .before .before .before .before .before .loop-test .taken)) (l .inv .5) (c .before .before .before .before .before .before .forward-ref .result) _ (c .before .before .before .before .before .cross .result) (moved (c .before .before .before .before .before .before)) (l .inv .2) (c .before .before .before .before .before .cross .ensures) (λ z. omega (arith, c .if1 .taken))
 
 head-requires : tie.Need-head-requires Inv-loop μ-loop
-head-requires c κs = let a = c .before .before .before .before .pre .0 in cell-in (c .before .before .before .before .args .p) (a .pages) (a .cells-long) (a .page)
+head-requires c κs = let pre = c .before .before .before .before .pre in cell-in (c .before .before .before .before .args .p) (pre .1 .1 .few) (pre .0 .cells-long) (pre .0 .page)
 
 field-count-requires : tie.Need-field-count-requires Inv-loop μ-loop
 field-count-requires c κs = search needs
@@ -64,13 +64,13 @@ field-requires : tie.Need-field-requires Inv-loop μ-loop
 field-requires c κs =
     let pre = c .before .before .before .before .before .before .before .before .before .before .before .pre in
     let loop = c .before .before .loop in
-    (cell-in (c .before .before .before .before .before .before .before .before .before .before .before .args .p) (pre .0 .pages) (omega (arith, pre .0 .cells-long, loop .inv .3)) (pre .0 .page), omega (arith, loop .inv .1, pre .0 .few))
+    (cell-in (c .before .before .before .before .before .before .before .before .before .before .before .args .p) (pre .1 .1 .few) (omega (arith, pre .0 .cells-long, loop .inv .3)) (pre .0 .page), omega (arith, loop .inv .1, pre .0 .few))
 
 forward-ref-requires : tie.Need-forward-ref-requires Inv-loop μ-loop
 forward-ref-requires c κs =
     let pre = c .before .before .before .before .before .before .before .before .before .before .before .before .pre in
     let l = c .before .before .before .loop in
-    λ ne. cell-in (c .before .before .before .before .before .before .before .before .before .before .before .before .args .p) (pre .0 .pages) (omega (arith, pre .0 .cells-long, l .inv .3)) (subst (λ (x : ℕ). Names (c .before .before .before .before .before .before .before .before .before .before .before .before .args .p) x) (sym (c .field .ensures)) (field-names (pre .0) (pre .1 .0) (omega (arith, l .inv .1)) (l .inv .5)) ne)
+    λ ne. cell-in (c .before .before .before .before .before .before .before .before .before .before .before .before .args .p) (pre .1 .1 .few) (omega (arith, pre .0 .cells-long, l .inv .3)) (subst (λ (x : ℕ). Names (c .before .before .before .before .before .before .before .before .before .before .before .before .args .p) x) (sym (c .field .ensures)) (field-names (pre .0) (pre .1 .0) (omega (arith, l .inv .1)) (l .inv .5)) ne)
 
 cross-requires : tie.Need-cross-requires Inv-loop μ-loop
 cross-requires c κs =
@@ -82,12 +82,12 @@ set-field-requires : tie.Need-set-field-requires Inv-loop μ-loop
 set-field-requires c κs =
     let pre = c .before .before .before .before .before .before .before .before .before .before .before .before .before .before .before .pre in
     let loop = c .before .before .before .before .before .before .loop in
-    (cell-in (c .before .before .before .before .before .before .before .before .before .before .before .before .before .before .before .args .p) (pre .0 .pages) (omega (arith, pre .0 .cells-long, loop .inv .3)) (pre .0 .page), omega (arith, loop .inv .1, pre .0 .few))
+    (cell-in (c .before .before .before .before .before .before .before .before .before .before .before .before .before .before .before .args .p) (pre .1 .1 .few) (omega (arith, pre .0 .cells-long, loop .inv .3)) (pre .0 .page), omega (arith, loop .inv .1, pre .0 .few))
 
 field-at-requires : tie.Need-field-at-requires Inv-loop μ-loop
 field-at-requires c κs =
     let pre = c .before .before .before .before .before .before .before .before .before .before .before .before .before .before .before .before .before .before .before .before .pre in
-    (cell-in (c .before .before .before .before .before .before .before .before .before .before .before .before .before .before .before .before .before .before .before .before .args .p) (pre .0 .pages) (pre .0 .cells-long) (pre .0 .page) .0, omega (arith, c .before .before .before .before .before .before .before .before .before .before .before .loop .inv .1, pre .0 .few, c .before .before .before .before .before .before .before .before .before .before .loop-test .taken))
+    (cell-in (c .before .before .before .before .before .before .before .before .before .before .before .before .before .before .before .before .before .before .before .before .args .p) (pre .1 .1 .few) (pre .0 .cells-long) (pre .0 .page) .0, omega (arith, c .before .before .before .before .before .before .before .before .before .before .before .loop .inv .1, pre .0 .few, c .before .before .before .before .before .before .before .before .before .before .loop-test .taken))
 
 cast-set-slot : tie.Need-cast-set-slot Inv-loop μ-loop
 cast-set-slot c =
@@ -95,7 +95,7 @@ cast-set-slot c =
     let a = c .before .before .before .before .before .before .before .before .before .before .before .before .before .before .before .before .before .before .before .before .before .args in
     let l = c .before .before .before .before .before .before .before .before .before .before .before .before .loop in
     let few : l .f < mostFields = omega (arith, l .inv .1, pre .0 .few, c .before .before .before .before .before .before .before .before .before .before .before .loop-test .taken) in
-    omega (arith, c .field-at .ensures, field-high (a .cell) (l .f) (cell-in (a .p) (pre .0 .pages) (pre .0 .cells-long) (pre .0 .page) .0) few)
+    omega (arith, c .field-at .ensures, field-high (a .cell) (l .f) (cell-in (a .p) (pre .1 .1 .few) (pre .0 .cells-long) (pre .0 .page) .0) few)
 
 set-slot-requires : tie.Need-set-slot-requires Inv-loop μ-loop
 set-slot-requires c κs = (omega (arith, c .before .before .before .before .before .before .before .before .before .before .before .before .before .before .before .before .before .before .before .before .before .pre .1 .0 .long, c .before .before .before .before .before .before .before .before .before .before .before .before .loop .inv .4), roomy (c .before .before))

@@ -9,8 +9,10 @@ use lib.Count.{ones, ones-le, trailingZeros}
 use Rattle.lists.specs.Bits.{Lowest}
 use Rattle.lists.specs.SetBits.{Walked, walk-start, walk-lowest, walk-turn, walk-end}
 use Rattle.layout.specs.Cells.{workOf, cellNamed, cellOn, pageOf, pageCells, page-on, cell-in}
+use Rattle.copy.specs.Marks.{copied}
 use Rattle.copy.specs.Forward.{forward}
-use Rattle.settle.specs.RewriteCopies.{CopySlot, Old, Passed, passed-split, bit-old, old-now, second-wired}
+use Rattle.settle.specs.Rewrite.{link-same}
+use Rattle.settle.specs.RewriteCopies.{CopySlot, Passed, passed-split, bit-copied, second-wired}
 use Rattle.settle.specs.Settle.{Settled, unset-settled, second-settling, second-settled, copy-fields, copy-settling, copy-settled, page-settled}
 use Rattle.settle.proofs.settle_page.Statement.{statement}
 use Rattle.settle.proofs.settle_page.Tie as tie
@@ -35,12 +37,12 @@ cell c = c .cell-on .ensures ∙ ap (cellOn (c .before .before .before .before .
 old : (c : tie.After-work Inv-loop μ-loop)
     → (let a = c .before .before .before .before .before .before .before .before .before .before .before .args in
     let l = c .before .before .before .before .before .loop in
-    Old (a .p) (l .cells) (a .tables .now) (cellOn (a .page) (trailingZeros 32 (l .left))))
+    copied (a .p) (a .tables .now) (cellOn (a .page) (trailingZeros 32 (l .left))) ≡ 1)
 old c =
-    let pre = c .before .before .before .before .before .before .before .before .before .before .before .pre in
     let l = c .before .before .before .before .before .loop in
     let f = lowest (c .before .before .before .before) in
-    old-now (l .inv .4 .rewritten) _ (bit-old (pre .0) (c .before .before .before .before .before .before .upper-half .ensures ∙ ap (λ (x : ℕ). x / 2 ^ 16) (c .before .before .before .before .before .before .before .mark .ensures)) (trailingZeros 32 (l .left)) (pre .1 .1) (f .lt) (l .inv .3 .under (trailingZeros 32 (l .left)) (f .on)))
+    let a = c .before .before .before .before .before .before .before .before .before .before .before .args in
+    bit-copied (a .p) (a .page) (a .tables .now) (c .before .before .before .before .before .before .upper-half .ensures ∙ ap (λ (x : ℕ). x / 2 ^ 16) (c .before .before .before .before .before .before .before .mark .ensures)) (trailingZeros 32 (l .left)) (f .lt) (l .inv .3 .under (trailingZeros 32 (l .left)) (f .on))
 
 link : (c : tie.After-work Inv-loop μ-loop)
     → (let l = c .before .before .before .before .before .loop in c .work .result ≡ workOf (l .cells) (cellOn (c .before .before .before .before .before .before .before .before .before .before .before .args .page) (trailingZeros 32 (l .left))))
@@ -59,23 +61,23 @@ upper-half-requires c κs = search needs
 loop-holds : tie.Need-loop-holds Inv-loop μ-loop
 loop-holds c =
     let e = c .upper-half .ensures ∙ ap (λ (x : ℕ). x / 2 ^ 16) (c .before .mark .ensures) in
-    (refl, refl, refl, walk-start (c .upper-half .result) (omega (arith, c .upper-half .ensures)), unset-settled (c .before .before .before .before .before .pre .0) e (c .before .before .before .before .before .pre .1 .0 .low))
+    (refl, refl, refl, walk-start (c .upper-half .result) (omega (arith, c .upper-half .ensures)), unset-settled (c .before .before .before .before .before .args .page) e (c .before .before .before .before .before .pre .1 .0 .low))
 
 wide-requires : tie.Need-wide-requires Inv-loop μ-loop
 wide-requires c κs = search needs
 
 cell-on-requires : tie.Need-cell-on-requires Inv-loop μ-loop
-cell-on-requires c κs = (omega (arith, c .before .before .before .before .before .before .before .before .before .pre .0 .few, c .before .before .before .before .before .before .before .before .before .pre .1 .1), omega (arith, lowest (c .before .before), c .wide .ensures))
+cell-on-requires c κs = (omega (arith, c .before .before .before .before .before .before .before .before .before .pre .0 .tables-long .few, c .before .before .before .before .before .before .before .before .before .pre .1 .1), omega (arith, lowest (c .before .before), c .wide .ensures))
 
 work-requires : tie.Need-work-requires Inv-loop μ-loop
 work-requires c κs =
     let pre = c .before .before .before .before .before .before .before .before .before .before .pre in
     let d = ap pageOf (cell c) ∙ page-on _ _ (lowest (c .before .before .before) .lt) in
-    cell-in (c .before .before .before .before .before .before .before .before .before .before .args .p) (pre .0 .few) (omega (arith, pre .0 .cells-long, c .before .before .before .before .loop .inv .1)) (omega (arith, d, pre .1 .1))
+    cell-in (c .before .before .before .before .before .before .before .before .before .before .args .p) (pre .0 .tables-long .few) (omega (arith, pre .0 .cells-long, c .before .before .before .before .loop .inv .1)) (omega (arith, d, pre .1 .1))
 
 cell-named-requires : tie.Need-cell-named-requires Inv-loop μ-loop
 cell-named-requires c κs =
-    let ne : c .work .result ≢ 0 = λ z. old c .moved (sym (link c) ∙ z) in
+    let ne : c .work .result ≢ 0 = λ z. c .before .before .before .before .before .before .before .before .before .before .before .pre .0 .moved _ (page-on _ _ (lowest (c .before .before .before .before) .lt)) (old c) (sym (link-same (c .before .before .before .before .before .loop .inv .4 .rewritten) _) ∙ sym (link c) ∙ z) in
     omega (arith, ne)
 
 settle-cell-requires : tie.Need-settle-cell-requires Inv-loop μ-loop
