@@ -27,16 +27,13 @@ pub forward-moved : (W : List ℕ) (x : ℕ) → x ≢ 0 → workOf W (cellNamed
 unfolding forwarded
 forward-moved W x n m = rw (ne-eqb _ _ n, ne-eqb _ _ m)
 
-named-still : (W : List ℕ) (x : ℕ) → x ≢ 0 → workOf W (cellNamed x) ≡ 0 → forwarded W x ≡ x
-unfolding forwarded
-named-still W x n e = rw (ne-eqb _ _ n, eq-eqb _ _ e)
-
 pub forward-still : (W : List ℕ) (x : ℕ) → workOf W (cellNamed x) ≡ 0 → forwarded W x ≡ x
+unfolding forwarded
 forward-still W x e = go (ℕ-discrete x 0)
   where
     go : Dec (x ≡ 0) → forwarded W x ≡ x
     go (yes z) = forward-null W x z ∙ sym z
-    go (no n) = named-still W x n e
+    go (no n) = rw (ne-eqb _ _ n, eq-eqb _ _ e)
 
 -- it looks at word 1 of cells alone
 pub forward-same : (W W′ : List ℕ) (x : ℕ) → workOf W′ (cellNamed x) ≡ workOf W (cellNamed x) → forwarded W′ x ≡ forwarded W x

@@ -12,7 +12,7 @@ use Rattle.layout.specs.Places.{Room, varAt, varCount, varOf, slotIn, slotRegio
 use Rattle.layout.specs.Cells.{fieldAt, pageOf, wordOf, mostFields}
 use Rattle.layout.specs.Words.{Names}
 use Rattle.remember.specs.Staying.{Entries}
-use Rattle.settle.specs.Rewrite.{forwarded, Rewritten, rewritten-none, rewritten-one, rewritten-join, rewritten-like}
+use Rattle.settle.specs.Rewrite.{forwarded, Rewritten, rewritten-one, rewritten-join, rewritten-like}
 
 -- ---- the remembered slots with region r
 
@@ -56,9 +56,6 @@ module _ {p : Sizes} {r n m : ℕ} {W M W′ : List ℕ} {i : ℕ} (a : Slots p 
 
   pub slot-left : slotRegionIn n M i ≢ r → Rewritten (Remembered r n (i + 1) M) W W′
   slot-left ne = rewritten-like h (λ x q. ⊎-elim (λ z. z) (λ z. absurd (ne (z .0))) (split x q)) earlier
-
-pub slots-start : (r n : ℕ) (W M : List ℕ) → Rewritten (Remembered r n 0 M) W W
-slots-start r n W M = rewritten-none (Remembered r n 0 M) W (λ x q. omega (arith, q .low))
 
 -- ---- the fields of one cell
 

@@ -3,7 +3,7 @@
 use mathlib.Core.Path.{_≡_, refl, sym, ap, _∙_, subst}
 use mathlib.Core.Logic.{_≢_, _⊎_, inl, inr, ⊎-elim}
 use mathlib.Core.List.{List}
-use Prim.Native.Nat.{ℕ, _+_, _-_, _/_, _^_, _≤_, _<_}
+use Prim.Native.Nat.{ℕ, _+_, _-_, _≤_, _<_}
 use native.Mathlib.Decide.{ℕ-discrete}
 use native.Mathlib.Omega.{arith}
 use lib.ListN.{length, getD, set}
@@ -18,7 +18,7 @@ use Rattle.copy.specs.Forward.{forward}
 use Rattle.settle.specs.Rewrite.{forwarded, Rewritten, ref-same, rewritten-none, rewritten-one, rewritten-join, rewritten-like}
 use Rattle.remember.specs.Crossing.{crossesFrom}
 use Rattle.settle.specs.RewriteSlots.{Field, Fields}
-use Rattle.settle.specs.RewriteCopies.{CopySlot, Wiring, Split, OnPage, OnPages, Passed, within-passed, unset-none, slot-less, slot-now, slot-then, slots-apart, pages-split, unmarked-none}
+use Rattle.settle.specs.RewriteCopies.{CopySlot, Wiring, Split, OnPage, OnPages, slot-less, slot-now, slot-then, slots-apart, pages-split, unmarked-none}
 use Rattle.remember.specs.Stretches.{Added, added-none, added-one, added-join, added-like}
 use Rattle.settle.specs.Append.{crossAt, crossLater, Crossing, AtMost, at-most-less, at-most-rest}
 
@@ -69,11 +69,6 @@ settled-join a b apart from to =
           ⊎-elim (λ m. inl (record { at = m; region = q .region; kept = q .kept })) (λ m. inr (record { at = m; region = q .region; kept = q .kept })) (from x (q .at)))
           (λ x h. ⊎-elim (crossing-in (λ x q. to x (inl q)) x h) (crossing-in (λ x q. to x (inr q)) x h));
     }
-
--- those of P can be settled if they are some of Q's
-pub settling-like : {p : Sizes} {n j : ℕ} {P Q : ℕ → Type 0} {W M T : List ℕ} → Settling p n Q W M T j → ((x : ℕ) → P x → Q x) → Settling p n P W M T j
-settling-like s f =
-    record { long = s .long; low = s .low; names = λ x q. s .names x (f x q); space = at-most-less (λ x q. (f x (q .0), q .1)) (s .space) }
 
 -- after those of Q are settled, those of R can be
 settling-next : {p : Sizes} {n j i : ℕ} {P Q R : ℕ → Type 0} {W M T W′ M′ : List ℕ} → Settling p n P W M T j → Settled p n Q W M T j W′ M′ i
@@ -132,9 +127,6 @@ module _ {p : Sizes} {n x i : ℕ} {W M T : List ℕ} (s : Settling p n (λ y. y
         }
 
 -- ---- the fields of one cell
-
-pub fields-settled : (p : Sizes) (n d : ℕ) (W M T : List ℕ) (j : ℕ) → j ≤ n → Settled p n (Field d 0) W M T j W M j
-fields-settled p n d W M T j l = settled-none p n (Field d 0) W M T j l (λ x q. omega (arith, q .low))
 
 module _ {p : Sizes} {n d k f j i : ℕ} {W M T W′ M′ : List ℕ} (a : Fields p k d W) (s : Settling p n (Field d k) W M T j) (lt : f < k)
     (h : Settled p n (Field d f) W M T j W′ M′ i) where
@@ -216,26 +208,13 @@ module _ {p : Sizes} {W T : List ℕ} {c : ℕ} (u : copied p T c ≡ 1) (d : �
   copy-fields w = subst (λ (y : ℕ). Fields p (refsOf W y) y W) (sym e) (w .copies c refl u)
 
   pub copy-settling : {n i : ℕ} {M : List ℕ} → Settling p n (CopySlot p (λ y. y ≡ c) W T) W M T i → Settling p n (Field d (refsOf W d)) W M T i
-  copy-settling s = settling-like s to-copy
+  copy-settling s =
+      record { long = s .long; low = s .low; names = λ x q. s .names x (to-copy x q); space = at-most-less (λ x q. (to-copy x (q .0), q .1)) (s .space) }
 
   pub copy-settled : {n i i′ : ℕ} {M W′ M′ : List ℕ} → Settled p n (Field d (refsOf W d)) W M T i W′ M′ i′ → Settled p n (CopySlot p (λ y. y ≡ c) W T) W M T i W′ M′ i′
   copy-settled k = settled-like k from-copy to-copy
 
--- ---- the copies of a page's survivors
-
-pub unset-settled : {p : Sizes} {n w j : ℕ} {W M T : List ℕ} (q : ℕ) → w ≡ markOf p T q / 2 ^ 16 → j ≤ n
-    → Settled p n (CopySlot p (Passed q w) W T) W M T j W M j
-unset-settled {p} {n} {w} {j} {W} {M} {T} q e l = settled-none p n (CopySlot p (Passed q w) W T) W M T j l (unset-none p q T e)
-
-pub page-settled : {p : Sizes} {n left j i : ℕ} {W M T W′ M′ : List ℕ} (q : ℕ) → left ≡ 0 → Settled p n (CopySlot p (Passed q left) W T) W M T j W′ M′ i
-    → Settled p n (CopySlot p (OnPage q) W T) W M T j W′ M′ i
-page-settled {left = left} q z h =
-    settled-like h (λ x s. slot-less (λ c m. within-passed q left c z m) x s) (λ x s. slot-less (λ c m. m .0) x s)
-
 -- ---- all pages
-
-pub copies-settled : (p : Sizes) (n j : ℕ) (W M T : List ℕ) → j ≤ n → Settled p n (CopySlot p (OnPages 0) W T) W M T j W M j
-copies-settled p n j W M T l = settled-none p n (CopySlot p (OnPages 0) W T) W M T j l (λ x q. omega (arith, q .among))
 
 -- a page without marks has no copies
 pub settled-skips : {p : Sizes} {n j i : ℕ} {W M T W′ M′ : List ℕ} (k : ℕ) (l : List ℕ) → Wiring p (OnPages (p .pages)) W T

@@ -12,7 +12,7 @@ use Rattle.layout.specs.declared.Kind.the-variants.{Reference}
 use Rattle.layout.specs.Words.{Names}
 use Rattle.settle.specs.Rewrite.{forwarded}
 use Rattle.settle.specs.RewriteSlots.{Field}
-use Rattle.settle.specs.Settle.{Settled, fields-settled, field-names, moved-names, field-fits, field-comes, field-stays}
+use Rattle.settle.specs.Settle.{Settled, settled-none, field-names, moved-names, field-fits, field-comes, field-stays}
 use Rattle.settle.proofs.settle_cell.Statement.{statement}
 use Rattle.settle.proofs.settle_cell.Tie as tie
 
@@ -58,7 +58,7 @@ owner-requires c κs = (c .before .before .before .before .before .before .befor
 loop-holds : tie.Need-loop-holds Inv-loop μ-loop
 loop-holds c =
     let a = c .before .before .before .before .before .before .before .before .args in
-    (omega arith, c .before .before .field-count .ensures ∙ ap (fieldCount Reference) (c .before .before .before .head .ensures), c .owner .ensures ∙ ap (λ (q : ℕ). ownerOf (a .p) (a .tables .now) q) (c .before .page-of .ensures), refl, refl, fields-settled _ _ _ _ _ _ _ (c .before .before .before .before .before .before .before .before .pre .1 .0 .low))
+    (omega arith, c .before .before .field-count .ensures ∙ ap (fieldCount Reference) (c .before .before .before .head .ensures), c .owner .ensures ∙ ap (λ (q : ℕ). ownerOf (a .p) (a .tables .now) q) (c .before .page-of .ensures), refl, refl, settled-none _ _ _ _ _ _ _ (c .before .before .before .before .before .before .before .before .pre .1 .0 .low) (λ x q. omega (arith, q .low)))
 
 field-requires : tie.Need-field-requires Inv-loop μ-loop
 field-requires c κs =

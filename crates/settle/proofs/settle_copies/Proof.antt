@@ -6,7 +6,7 @@ use Prim.Native.Nat.{_≤_, _<_, _-_}
 use mathlib.Core.Path.{_≡_, refl, _∙_}
 use Rattle.lists.specs.Part.{Through, cut-here, through-start, through-turn, through-end}
 use Rattle.settle.specs.RewriteCopies.{CopySlot, OnPages, pages-split, second-wired}
-use Rattle.settle.specs.Settle.{Settled, copies-settled, second-settling, second-settled, settled-skips}
+use Rattle.settle.specs.Settle.{Settled, settled-none, second-settling, second-settled, settled-skips}
 use Rattle.settle.proofs.settle_copies.Statement.{statement}
 use Rattle.settle.proofs.settle_copies.Tie as tie
 
@@ -22,7 +22,7 @@ abbrev μ-loop : tie.MeasureT-loop
 loop-holds : tie.Need-loop-holds Inv-loop μ-loop
 loop-holds c =
     let pre = c .before .before .before .before .pre in
-    (omega arith, refl, refl, through-start _ _ _ _ (settled-skips (c .before .before .before .before .args .n) (c .before .before .before .before .args .list .now) (pre .0) (pre .1 .1 .1)) (copies-settled _ _ _ _ _ _ (pre .1 .0 .low)))
+    (omega arith, refl, refl, through-start _ _ _ _ (settled-skips (c .before .before .before .before .args .n) (c .before .before .before .before .args .list .now) (pre .0) (pre .1 .1 .1)) (settled-none _ _ _ _ _ _ _ (pre .1 .0 .low) (λ x q. omega (arith, q .among))))
 
 mul-wide : tie.Need-mul-wide Inv-loop μ-loop
 mul-wide c = omega arith

@@ -12,8 +12,8 @@ use Rattle.layout.specs.Cells.{workOf, cellNamed, cellOn, pageOf, pageCells, pa
 use Rattle.copy.specs.Marks.{copied}
 use Rattle.copy.specs.Forward.{forward}
 use Rattle.settle.specs.Rewrite.{link-same}
-use Rattle.settle.specs.RewriteCopies.{CopySlot, Passed, passed-split, bit-copied, second-wired}
-use Rattle.settle.specs.Settle.{Settled, unset-settled, second-settling, second-settled, copy-fields, copy-settling, copy-settled, page-settled}
+use Rattle.settle.specs.RewriteCopies.{CopySlot, Passed, passed-split, within-passed, bit-copied, unset-none, slot-less, second-wired}
+use Rattle.settle.specs.Settle.{Settled, settled-none, settled-like, second-settling, second-settled, copy-fields, copy-settling, copy-settled}
 use Rattle.settle.proofs.settle_page.Statement.{statement}
 use Rattle.settle.proofs.settle_page.Tie as tie
 
@@ -61,7 +61,7 @@ upper-half-requires c κs = search needs
 loop-holds : tie.Need-loop-holds Inv-loop μ-loop
 loop-holds c =
     let e = c .upper-half .ensures ∙ ap (λ (x : ℕ). x / 2 ^ 16) (c .before .mark .ensures) in
-    (refl, refl, refl, walk-start (c .upper-half .result) (omega (arith, c .upper-half .ensures)), unset-settled (c .before .before .before .before .before .args .page) e (c .before .before .before .before .before .pre .1 .0 .low))
+    (refl, refl, refl, walk-start (c .upper-half .result) (omega (arith, c .upper-half .ensures)), settled-none _ _ _ _ _ _ _ (c .before .before .before .before .before .pre .1 .0 .low) (unset-none (c .before .before .before .before .before .args .p) (c .before .before .before .before .before .args .page) (c .before .before .before .before .before .args .tables .now) e))
 
 wide-requires : tie.Need-wide-requires Inv-loop μ-loop
 wide-requires c κs = search needs
@@ -117,7 +117,9 @@ same-length-2 : tie.Need-same-length-2 Inv-loop μ-loop
 same-length-2 c = c .before .loop .inv .2
 
 returns : tie.Need-returns Inv-loop μ-loop
-returns c = page-settled (c .before .before .before .before .before .before .before .args .page) (walk-end (c .before .loop .inv .3) (omega (arith, c .before .loop .inv .0, c .loop-test .left))) (c .before .loop .inv .4)
+returns c =
+    let none = walk-end (c .before .loop .inv .3) (omega (arith, c .before .loop .inv .0, c .loop-test .left)) in
+    settled-like (c .before .loop .inv .4) (slot-less (λ d m. within-passed (c .before .before .before .before .before .before .before .args .page) (c .before .loop .left) d none m)) (slot-less (λ d m. m .0))
 
 pub settle-page-spec : {M : Type 1} → statement M
 settle-page-spec =

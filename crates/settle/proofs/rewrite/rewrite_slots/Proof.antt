@@ -9,8 +9,8 @@ use mathlib.Core.Path.{_≡_, refl, sym, _∙_, subst}
 use Rattle.layout.specs.Places.{usedIn, slotIn, cellsWords}
 use Rattle.layout.specs.Cells.{cell-in}
 use Rattle.layout.specs.Words.{Names}
-use Rattle.settle.specs.Rewrite.{Rewritten}
-use Rattle.settle.specs.RewriteSlots.{Remembered, slots-start, slot-names, slot-moved, slot-left}
+use Rattle.settle.specs.Rewrite.{Rewritten, rewritten-none}
+use Rattle.settle.specs.RewriteSlots.{Remembered, slot-names, slot-moved, slot-left}
 use Rattle.settle.proofs.rewrite.rewrite_slots.Statement.{statement}
 use Rattle.settle.proofs.rewrite.rewrite_slots.Tie as tie
 
@@ -32,7 +32,7 @@ wide-requires : tie.Need-wide-requires Inv-loop μ-loop
 wide-requires c κs = search needs
 
 loop-holds : tie.Need-loop-holds Inv-loop μ-loop
-loop-holds c = (omega arith, c .wide .ensures ∙ c .before .used .ensures, refl, slots-start _ _ _ _)
+loop-holds c = (omega arith, c .wide .ensures ∙ c .before .used .ensures, refl, rewritten-none _ _ (λ x q. omega (arith, q .low)))
 
 region-requires : tie.Need-region-requires Inv-loop μ-loop
 region-requires c κs =
