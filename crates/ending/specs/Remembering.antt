@@ -99,7 +99,7 @@ module _ {s : Sizes} {w w₁ : Words} {e : Part} {W T : List ℕ} (h : HasMoved 
           let z = names-cross h slot live (y .names) (y .value) (omega (arith, y .high, hd)) (λ v. y .other (sym hd ∙ v ∙ outside-home h (y .object) outside)) in
           (live, q .region ∙ sym (a .stays slot region found n) ∙ y .region ∙ sym hd ∙ sym z)
 
-  -- a slot outside the part that will cross is one's
+  -- a slot of an object outside the part has one if it will cross
   pub stay : (x : ℕ) (q : LiveSlot s w e W x) → crossLater s W T x ≢ 0 → Outside s w e (q .object) → Stays anew (s .entries) (w .remember) (usedIn (w .remember)) x (crossLater s W T x)
   stay x q n u = go (lives-how (m .1))
     where

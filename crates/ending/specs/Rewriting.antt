@@ -48,7 +48,7 @@ pub record LiveSlot (s : Sizes) (w : Words) (e : Part) (W : List ℕ) (x : ℕ) 
   pub at : x ≡ fieldAt (placed W object) field
 
 module _ {s : Sizes} {w w₁ : Words} {e : Part} {W T : List ℕ} (h : HasMoved s w w₁ e W T) where
-  pub refs-placed : (c : ℕ) → Lives s w e c → refsOf W (placed W c) ≡ refCount w c
+  refs-placed : (c : ℕ) → Lives s w e c → refsOf W (placed W c) ≡ refCount w c
   refs-placed c l = ap (fieldCount Reference) (placed-head h c l)
 
   copy-cell : (c : ℕ) → Survivor s w e c → workOf W c - 1 ≡ placed W c
@@ -74,10 +74,10 @@ module _ {s : Sizes} {w w₁ : Words} {e : Part} {W T : List ℕ} (h : HasMoved 
         at = q .at ∙ ap (λ (d : ℕ). fieldAt d (q .field)) (outside-placed h (q .object) o);
       }
 
-  -- the slots of the copies are the survivors' references
   copied-survivor : (d : ℕ) → pageOf d < s .pages → copied s T d ≡ 1 → Survivor s w e d
   copied-survivor d l z = marked-survivor (h .marks) d l (sym (h .forwards .bits d l) ∙ z)
 
+  -- the slots of the copies are the survivors' references
   pub copy-survivor : (x : ℕ) → Copies s W T x → (q : LiveSlot s w e W x) × Survivor s w e (q .object)
   copy-survivor x q =
       let v = copied-survivor (q .cell) (q .among) (q .moved) in
@@ -140,7 +140,7 @@ module _ {s : Sizes} {w w₁ : Words} {e : Part} {W T : List ℕ} (h : HasMoved 
           subst (λ (x : ℕ). pageOf x < s .pages) (let y : placed W d ≡ cellNamed (suc (placed W d)) = omega arith in y)
           (placed-page h d (h .sends .keeps .references (q .object) (q .field) d (q .lives) (q .low) z))
 
-  -- what their rewriting asks
+  -- what the rewriting of the copies' slots asks
   wired : Wiring s (OnPages (s .pages)) W T
   wired =
       record {
@@ -173,7 +173,7 @@ module _ {s : Sizes} {w w₁ : Words} {e : Part} {W T : List ℕ} (h : HasMoved 
   no-copy x q z = let o = H .slot x z in old-no-copy h (o .object) (o .field) (o .outside .used) (o .low) (subst (Copies s W T) (o .at) q)
 
   module _ {W₂ : List ℕ} (R₂ : Rewritten S W W₂) where
-    -- the copies' own slots are as they were
+    -- the copies' own slots are to be rewritten still
     pub copies-ask : Wiring s (OnPages (s .pages)) W₂ T
     copies-ask = wiring-now R₂ (wired h)
 

@@ -16,7 +16,7 @@ use Rattle.copy.specs.Forward.{forward}
 use Rattle.settle.specs.Rewrite.{Rewritten, link-same, refs-same}
 use Rattle.settle.specs.RewriteSlots.{Field, Fields}
 
--- ---- the copies of the survivors of which Q holds, marked as copied
+-- ---- the copies: of the cells that are marked as copied and of which Q holds
 
 pub record CopySlot (p : Sizes) (Q : ℕ → Type 0) (W T : List ℕ) (x : ℕ) : Type 0 where
   pub cell : ℕ
