@@ -17,7 +17,7 @@ use Rattle.promises.specs.Whole.{WholeFor}
 use Rattle.promises.specs.Reading.{refs-few}
 use Rattle.promises.specs.Ends.{Part, Outside, Survivor, Lives, outside-lives, survivor-lives, lives-how}
 use Rattle.mark.specs.Marks.{kept-head, kept-field, kept-in-use, in-use-kept}
-use Rattle.mark.specs.Survivors.{Marked, unmarked-freed}
+use Rattle.mark.specs.Survivors.{Marked}
 use Rattle.copy.specs.Marks.{mark?}
 use Rattle.copy.specs.Passing.{Ready}
 use Rattle.copy.specs.Forward.{Forwards, Moved, forward}
