@@ -58,9 +58,6 @@ module _ {p : Sizes} {W m T : List ℕ} (h : Holding p W m T) where
   pub entry-slot : (i : ℕ) → i < usedIn m → Slot p W T (slotIn m i)
   entry-slot i l = let e = h .remember .entries .named i l in cross-slot p W T (slotIn m i) (omega (arith, e .region, e .right))
 
-  slot-field : (i : ℕ) → i < usedIn m → wordOf (slotIn m i) ≢ 1
-  slot-field i l e = omega (arith, slot-word p W T (slotIn m i) (entry-slot i l) .1)
-
   -- what it holds is null or names an object
   pub slot-ref : Shaped p W T → (i : ℕ) → i < usedIn m → IsRef p W T (getD W (slotIn m i) 0)
   slot-ref s i l =
@@ -140,4 +137,4 @@ module _ {p : Sizes} {W T W′ T′ : List ℕ} (k : Kept p W T W′ T′) (room
   unfolding slotHeld
   kept-slot-held r g i l =
       let page : pageAt (slotIn m i) < p .pages = at-page p (slotIn m i) (slot-low h i l) in
-      ap₂ (λ (q x : ℕ). cond (eqb (slotRegionIn (p .entries) m i) r) (heldFor g (join p r q) x) 0) (kept-owner k room (cellOf (slotIn m i)) page) (k .cells (slotIn m i) (λ c b e. slot-field h i l (omega arith)))
+      ap₂ (λ (q x : ℕ). cond (eqb (slotRegionIn (p .entries) m i) r) (heldFor g (join p r q) x) 0) (kept-owner k room (cellOf (slotIn m i)) page) (k .cells (slotIn m i) (λ c b e. omega (arith, slot-word p W T (slotIn m i) (entry-slot h i l) .1)))

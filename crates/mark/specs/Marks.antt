@@ -213,10 +213,6 @@ page-unmarked p T page small none = no-bits (markOf p T page) (λ i. go i (decLt
             absurd (none (cellOn page i) (sym a) (subst₂ (λ (x y : ℕ). bitAt (markOf p T x) y ≡ 1) a b on))
         off (no n) = omega (arith, bit-lt i (markOf p T page))
 
--- where none is, every mark word is 0
-pub none-marked : (p : Sizes) (T : List ℕ) → Small p T → (AnyMarked p T → ⊥) → (page : ℕ) → page < p .pages → markOf p T page ≡ 0
-none-marked p T small none page l = page-unmarked p T page (small page l) (λ c e on. none (c, omega arith, on))
-
 -- ---- a mark that is set
 
 module _ (p : Sizes) (T : List ℕ) (c : ℕ) (long : markAt p (pageOf c) < length T) (off : marked p T c ≡ 0) where

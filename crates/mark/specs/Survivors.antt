@@ -22,7 +22,7 @@ use Rattle.layout.specs.Objects.{begins-page}
 use Rattle.layout.specs.Words.{Words, words, BeginsIn, ownerIn, depthIn, graphOf}
 use Rattle.promises.specs.Whole.{WholeFor}
 use Rattle.promises.specs.Ends.{Part, partOf}
-use Rattle.mark.specs.Marks.{Shaped, leads-last, Small, Kept, AnyMarked, none-marked}
+use Rattle.mark.specs.Marks.{Shaped, leads-last, Small, Kept, AnyMarked, page-unmarked}
 use Rattle.mark.specs.Levels.{Held, First, Levels}
 use Rattle.mark.specs.Rounds.{levelRefs}
 use Rattle.mark.specs.Reached.{chain-rules, rules-chain, held-holds, holds-held}
@@ -163,4 +163,4 @@ module _ (p : Sizes) (w : Words) (k : WholeFor p w) where
 -- where nothing survives, every mark word is 0
 pub none-survives : (p : Sizes) (w : Words) (e : Part) (w′ : Words) → Marked p w e w′ → (b : Bool) → Says b (AnyMarked p (w′ .tables)) → b ≡ false
     → (page : ℕ) → page < p .pages → markOf p (w′ .tables) page ≡ 0
-none-survives p w e w′ m b says z = none-marked p (w′ .tables) (m .small) (said-no b says z)
+none-survives p w e w′ m b says z page l = page-unmarked p (w′ .tables) page (m .small page l) (λ c q on. said-no b says z (c, omega arith, on))
