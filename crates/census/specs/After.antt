@@ -10,7 +10,7 @@ use lib.ListN.{getD}
 use borrow.Author.Tests.{lt-ltb, eq-eqb, ne-eqb}
 use Rattle.lists.specs.Counting.{sum, bit, bit-le-one}
 use Rattle.rules.specs.declared.Sizes.{Sizes}
-use Rattle.layout.specs.Places.{ownerOf, usedIn, slotIn}
+use Rattle.layout.specs.Places.{ownerOf, entriesUsed, slotIn}
 use Rattle.layout.specs.Cells.{workOf, fieldOf, pageOf, pageAt, refsOf}
 use Rattle.remember.specs.Crossing.{other}
 use Rattle.remember.specs.Crosses.{other-control, other-same, other-yes}
@@ -53,7 +53,7 @@ slotCrosses p W T r q = cond (eqb (ownerOf p T (pageAt q)) r) 0 (crossAfter p W 
 
 -- remembered slots outside r, and the survivors' slots
 abbrev pub entriesCross : Sizes → List ℕ → List ℕ → List ℕ → ℕ → ℕ
-entriesCross p W m T r = sum (λ i. slotCrosses p W T r (slotIn m i)) (usedIn m)
+entriesCross p W m T r = sum (λ i. slotCrosses p W T r (slotIn m i)) (entriesUsed m)
 
 abbrev pub crossingAfter : Sizes → List ℕ → List ℕ → List ℕ → ℕ → ℕ
 crossingAfter p W m T r = entriesCross p W m T r + overMarked p T (cellCrosses p W T r) (p .pages)

@@ -19,7 +19,7 @@ use Rattle.rules.specs.Graph.{Graph, target, ended, crossing}
 use Rattle.laws.specs.EndLaws.{home-stayed, home-went, closed-ended}
 use Rattle.laws.specs.GraphLaws.{Alive}
 use Rattle.laws.specs.Counts.{crossIn, crossAt, crossing-sum, crossRef}
-use Rattle.layout.specs.Places.{ownerOf, markOf, usedIn, slotIn, Room, cellsWords}
+use Rattle.layout.specs.Places.{ownerOf, markOf, entriesUsed, slotIn, Room, cellsWords}
 use Rattle.layout.specs.Cells.{workOf, fieldAt, fieldOf, pageOf, placeOf, pageAt, refsOf, roomFor}
 use Rattle.layout.specs.Marks.{marked}
 use Rattle.layout.specs.Words.{Words, BeginsIn, ownerIn, homeIn, headIn, refCount, refsIn, graphOf, cellCount}
@@ -247,7 +247,7 @@ module _ (s : Sizes) (w : Words) (k : WholeFor s w) (space : Room s (length (w .
 
   -- ---- entry by entry
 
-  entries-paired : Paired (slotIn (w .remember)) (λ i. still (slotIn (w .remember) i)) (usedIn (w .remember)) still (cellsWords s)
+  entries-paired : Paired (slotIn (w .remember)) (λ i. still (slotIn (w .remember) i)) (entriesUsed (w .remember)) still (cellsWords s)
   entries-paired =
       record {
         goes = λ i l b. (k .remember .entries .named i l .slot, refl);
@@ -262,16 +262,16 @@ module _ (s : Sizes) (w : Words) (k : WholeFor s w) (space : Room s (length (w .
           go (yes l) = l
           go (no n) = absurd (let z : ⊥ = omega (arith, still-no q n) in z)
 
-      same : (i j : ℕ) → i < usedIn (w .remember) → j < usedIn (w .remember) → slotIn (w .remember) i ≡ slotIn (w .remember) j → Dec (i ≡ j) → Dec (i < j) → i ≡ j
+      same : (i j : ℕ) → i < entriesUsed (w .remember) → j < entriesUsed (w .remember) → slotIn (w .remember) i ≡ slotIn (w .remember) j → Dec (i ≡ j) → Dec (i < j) → i ≡ j
       same i j l m e (yes d) b = d
       same i j l m e (no d) (yes b) = absurd (k .remember .entries .once i j b m e)
       same i j l m e (no d) (no b) = absurd (k .remember .entries .once j i (omega arith) l (sym e))
 
   entries-sum : entriesCross p (w′ .cells) (w .remember) (w′ .tables) r ≡ sum outside (cellCount s)
   entries-sum =
-      sum-same (λ i. slotCrosses p (w′ .cells) (w′ .tables) r (slotIn (w .remember) i)) (λ i. still (slotIn (w .remember) i)) (usedIn (w .remember))
+      sum-same (λ i. slotCrosses p (w′ .cells) (w′ .tables) r (slotIn (w .remember) i)) (λ i. still (slotIn (w .remember) i)) (entriesUsed (w .remember))
       (λ i l. let n = k .remember .entries .named i l in sym (still-yes (slotIn (w .remember) i) (omega (arith, n .region, n .right))))
-      ∙ sum-paired (slotIn (w .remember)) (λ i. still (slotIn (w .remember) i)) (usedIn (w .remember)) still (cellsWords s) entries-paired
+      ∙ sum-paired (slotIn (w .remember)) (λ i. still (slotIn (w .remember) i)) (entriesUsed (w .remember)) still (cellsWords s) entries-paired
       ∙ slots-sum p (w .cells) (w .tables) still (λ q l n. still-no q (λ b. n (cross-slot p (w .cells) (w .tables) q b))) (refs-room s w k)
       ∙ sum-same (slotsOf p (w .cells) (w .tables) still) outside (cellCount s) (λ x l. object-sum x)
 

@@ -3,7 +3,7 @@
 ghost use mathlib.Core.Path.{_≡_};
 ghost use Prim.Native.Nat.{_<_, _≤_};
 ghost use lib.ListN.{length};
-ghost use Rattle.layout.specs.Places.{Room, slotIn, usedIn, cellsWords};
+ghost use Rattle.layout.specs.Places.{Room, slotIn, entriesUsed, cellsWords};
 ghost use Rattle.layout.specs.Cells.{pageOf, mostFields};
 ghost use Rattle.layout.specs.Words.{Begins};
 ghost use Rattle.promises.specs.Whole.{IsRef};
@@ -74,7 +74,7 @@ pub fn cross_entry(
 ) -> usize
     requires { ⌜ Shaped p (now cells) (now tables) ⌝ }
     requires { ⌜ Holding p (now cells) (now remember) (now tables) ⌝ }
-    requires { ⌜ i < usedIn (now remember) ⌝ }
+    requires { ⌜ i < entriesUsed (now remember) ⌝ }
     ensures { λ n. ⌜ n ≡ slotCrosses p (now (cells .entry)) (now (tables .entry)) r (slotIn (now (remember .entry)) i) ⌝ }
 {
     let at = layout::wide(layout::remember::slot(p.entries, remember, i));

@@ -1,5 +1,5 @@
 -- Code 7 does what the rules say: a reference is stored and the remember table follows, or there is no room for an entry (14).
-use Prim.Native.Nat.{ℕ, suc, _+_, _-_, _*_, _^_, _≤_, _<_}
+use Prim.Native.Nat.{ℕ, suc, _-_, _^_, _≤_, _<_}
 use native.Mathlib.Omega.{arith}
 use native.Mathlib.Decide.{ℕ-discrete}
 use mathlib.Core.Path.{_≡_, refl, sym, ap, ap₂, subst, subst₂, _∙_}
@@ -18,7 +18,7 @@ use Rattle.rules.specs.Rules.{Regioned, graph, first}
 use Rattle.laws.specs.GraphLaws.{Alive}
 use Rattle.laws.specs.RulesLaws.{Sound, sound-after}
 use Rattle.layout.specs.declared.Kind.the-variants.{Reference}
-use Rattle.layout.specs.Places.{Room, ownerOf, usedIn, slotIn, rememberWords}
+use Rattle.layout.specs.Places.{Room, ownerOf, entriesUsed, slotIn, rememberWords}
 use Rattle.layout.specs.Cells.{headOf, fieldAt, fieldCount, kindAt, first-reference, field-high, pageOf}
 use Rattle.layout.specs.Objects.{begins-page}
 use Rattle.layout.specs.Words.{Words, words, heapOf, BeginsIn, refCount, Names}
@@ -49,8 +49,8 @@ pub record Storing (p : Sizes) (c m t : List ℕ) (x f v : ℕ) : Type 0 where
   pub field : Field Reference c x f
   pub page : pageOf (x - 1) < p .pages
   pub long : rememberWords p ≤ length m
-  pub used : usedIn m ≤ p .entries
-  pub named : 0 < crossesTo p t (x - 1) (getD c (slotOf c x f) 0) → (i : ℕ) × (i < usedIn m) × (slotIn m i ≡ slotOf c x f)
+  pub used : entriesUsed m ≤ p .entries
+  pub named : 0 < crossesTo p t (x - 1) (getD c (slotOf c x f) 0) → (i : ℕ) × (i < entriesUsed m) × (slotIn m i ≡ slotOf c x f)
   pub before : Names p (getD c (slotOf c x f) 0)
   pub after : Names p v
 
@@ -75,7 +75,7 @@ module _ (p : Sizes) (c m t : List ℕ) (x f v at was will : ℕ) (e : Seen p c 
   pub slot-few : Storing p c m t x f v → at < 2 ^ 32
   slot-few s = subst (λ (i : ℕ). i < 2 ^ 32) (sym (e .slot)) (field-high (x - 1) _ (s .field .inside .0) (s .field .field))
 
-  pub slot-entry : Storing p c m t x f v → 0 < was → (i : ℕ) × (i < usedIn m) × (slotIn m i ≡ at)
+  pub slot-entry : Storing p c m t x f v → 0 < was → (i : ℕ) × (i < entriesUsed m) × (slotIn m i ≡ at)
   slot-entry s h = let n = s .named (subst (λ (i : ℕ). 0 < i) (e .before) h) in (n .0, n .1, n .2 ∙ sym (e .slot))
 
   module _ (m′ : List ℕ) (r : ℕ) (d : Remembered (p .entries) m at was will m′ r) where
@@ -131,7 +131,7 @@ module _ (p : Sizes) (c m t : List ℕ) (k : WholeFor p (words c m t)) (u a : �
     there = in-use p c m t k u a l n x e Reference f q g z
 
     -- a slot that crosses has its entry
-    pub slot-named : 0 < crossesTo p t (x - 1) (getD c (slotOf c x f) 0) → (i : ℕ) × (i < usedIn m) × (slotIn m i ≡ slotOf c x f)
+    pub slot-named : 0 < crossesTo p t (x - 1) (getD c (slotOf c x f) 0) → (i : ℕ) × (i < entriesUsed m) × (slotIn m i ≡ slotOf c x f)
     slot-named h =
         let i = reference-named s w k y f 0 there inside
         (subst (λ (j : ℕ). 0 < crossesTo p t (x - 1) (getD c j 0)) (sym place) h) in

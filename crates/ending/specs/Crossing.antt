@@ -7,7 +7,7 @@ use native.Mathlib.Omega.{arith}
 use lib.ListN.{getD}
 use Rattle.rules.specs.declared.Sizes.{Sizes}
 use Rattle.laws.specs.SameRules.{renamed}
-use Rattle.layout.specs.Places.{ownerOf, usedIn, slotIn, slotRegionIn, cellsWords}
+use Rattle.layout.specs.Places.{ownerOf, entriesUsed, slotIn, slotRegionIn, cellsWords}
 use Rattle.layout.specs.Cells.{fieldAt, fieldOf, roomFor, pageOf, pageAt, cellNamed}
 use Rattle.layout.specs.Objects.{Slot, field-inside, field-on, slot-page}
 use Rattle.layout.specs.Words.{Words, BeginsIn, ownerIn, refCount}
@@ -31,7 +31,7 @@ module _ {s : Sizes} {w : Words} (whole : WholeFor s w) where
       ∙ ap₂ (λ (p y : ℕ). crossesFrom s (w .tables) (ownerIn s w p) (getD (w .cells) y 0)) (slot-page s (w .cells) (w .tables) x q) (sym (q .at))
 
   entered : (x g : ℕ) → x < cellsWords s → 1 < g → g ≡ crossTo s (w .cells) (w .tables) x
-      → (i : ℕ) × (i < usedIn (w .remember)) × (slotIn (w .remember) i ≡ x) × (slotRegionIn (s .entries) (w .remember) i ≡ g)
+      → (i : ℕ) × (i < entriesUsed (w .remember)) × (slotIn (w .remember) i ≡ x) × (slotRegionIn (s .entries) (w .remember) i ≡ g)
   entered x g l p e =
       let q = whole .remember .every x l (omega arith) in
       (q .0, q .1, q .2, sym (whole .remember .entries .named (q .0) (q .1) .right) ∙ ap (crossTo s (w .cells) (w .tables)) (q .2) ∙ sym e)
@@ -39,7 +39,7 @@ module _ {s : Sizes} {w : Words} (whole : WholeFor s w) where
   -- where one points from its object's region into another than the control space it has an entry, with that region
   pub entry-of : (c f d : ℕ) → BeginsIn s w c → f < refCount w c → fieldOf (w .cells) c f ≡ suc d → pageOf d < s .pages → 1 < ownerIn s w (pageOf d)
       → ownerIn s w (pageOf d) ≢ ownerIn s w (pageOf c)
-      → (i : ℕ) × (i < usedIn (w .remember)) × (slotIn (w .remember) i ≡ fieldAt c f) × (slotRegionIn (s .entries) (w .remember) i ≡ ownerIn s w (pageOf d))
+      → (i : ℕ) × (i < entriesUsed (w .remember)) × (slotIn (w .remember) i ≡ fieldAt c f) × (slotRegionIn (s .entries) (w .remember) i ≡ ownerIn s w (pageOf d))
   entry-of c f d u l z p high other =
       let m = ref-room s w whole c f u l in
       let y : cellNamed (fieldOf (w .cells) c f) ≡ d = omega arith in
@@ -62,7 +62,7 @@ module _ {s : Sizes} {w : Words} (whole : WholeFor s w) where
     pub high : 1 < ownerIn s w (pageOf names)
     pub other : ownerIn s w (pageOf names) ≢ ownerIn s w (pageOf object)
 
-  pub entry-says : (i : ℕ) → i < usedIn (w .remember) → EntrySays i
+  pub entry-says : (i : ℕ) → i < entriesUsed (w .remember) → EntrySays i
   entry-says i l =
       let n = whole .remember .entries .named i l in
       let g : ℕ = slotRegionIn (s .entries) (w .remember) i in

@@ -8,7 +8,7 @@ use lib.ListN.{length}
 use Rattle.rules.specs.declared.Sizes.{Sizes}
 use Rattle.rules.specs.Terms.{done}
 use Rattle.rules.specs.Regions.{regionAt}
-use Rattle.layout.specs.Places.{Room, room, depthOf, usedIn, varCount}
+use Rattle.layout.specs.Places.{Room, room, depthOf, entriesUsed, varCount}
 use Rattle.layout.specs.Words.{Words, words, depthIn}
 use Rattle.promises.specs.Whole.{WholeFor}
 use Rattle.promises.specs.OwnedPages.{pagesOwned}
@@ -95,7 +95,7 @@ module _ {s : Sizes} {t : ℕ} {w w₁ : Words} (e : Ending s t w w₁) where
       copied-at {W} {T} = subst (λ (n : ℕ). Copy s n (regionAt s t) n (w₁ .cells) (w₁ .tables) W T) (level-is ∙ deep)
 
       pub has-ended : {W T W′ M′ T₂ T′ : List ℕ} (c : Copy s (suc (depthIn w t - 1)) (regionAt s t) (suc (depthIn w t - 1)) (w₁ .cells) (w₁ .tables) W T)
-          → Rewritten (λ x. Held s w r x ⊎ Copies s W T x) W W′ → Updated s r (s .entries) (usedIn (w .remember)) W′ (w .remember) T M′
+          → Rewritten (λ x. Held s w r x ⊎ Copies s W T x) W W′ → Updated s r (s .entries) (entriesUsed (w .remember)) W′ (w .remember) T M′
           → Variables s (varCount s) W′ T T₂ → Ended s r t T₂ T′ → HasEnded s t w (words W′ M′ T′)
       has-ended {W} {T} {W′} {M′} {T₂} {T′} c R u v z =
           let k = rewritten begun p c R in

@@ -7,7 +7,7 @@ use native.Mathlib.Omega.{arith}
 use Rattle.lists.specs.Bits.{bitAt, bit-zero}
 use Rattle.rules.specs.declared.Sizes.{Sizes}
 use Rattle.rules.specs.Regions.{regionAt}
-use Rattle.layout.specs.Places.{varOf, markOf, usedIn, varCount}
+use Rattle.layout.specs.Places.{varOf, markOf, entriesUsed, varCount}
 use Rattle.layout.specs.Cells.{workOf, pageOf, placeOf, cellNamed}
 use Rattle.layout.specs.Marks.{marked}
 use Rattle.layout.specs.Objects.{begins-page}
@@ -60,7 +60,7 @@ module _ {s : Sizes} {t k r : ℕ} {w w₁ : Words} (b : Begun s t k r w w₁) (
     pub none-rewritten : Rewritten (λ x. Held s w r x ⊎ Copies s (w₁ .cells) (w₁ .tables) x) (w₁ .cells) (w₁ .cells)
     none-rewritten = rewritten-none (λ x. Held s w r x ⊎ Copies s (w₁ .cells) (w₁ .tables) x) (w₁ .cells) (λ x. ⊎-elim (none-held x) (none-copies x))
 
-    pub none-update : crossingAfter s w t k ≤ s .entries → Settles s r (s .entries) (usedIn (w .remember)) (w₁ .cells) (w .remember) (w₁ .tables)
+    pub none-update : crossingAfter s w t k ≤ s .entries → Settles s r (s .entries) (entriesUsed (w .remember)) (w₁ .cells) (w .remember) (w₁ .tables)
     none-update = settle-ask b p none-copied (rewritten-none (Held s w r) (w₁ .cells) none-held)
 
   pub none-variables : Variables s (varCount s) (w₁ .cells) (w₁ .tables) (w₁ .tables)

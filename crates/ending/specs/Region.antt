@@ -7,7 +7,7 @@ use native.Mathlib.Decide.{ℕ-discrete}
 use native.Mathlib.Omega.{arith}
 use lib.ListN.{getD}
 use Rattle.rules.specs.declared.Sizes.{Sizes}
-use Rattle.layout.specs.Places.{ownerOf, usedIn}
+use Rattle.layout.specs.Places.{ownerOf, entriesUsed}
 use Rattle.layout.specs.Cells.{pageOf, pageAt, cellOn, page-on}
 use Rattle.layout.specs.Objects.{begins-there}
 use Rattle.layout.specs.Words.{Words, ownerIn}
@@ -25,7 +25,7 @@ use Rattle.ending.specs.Remembering.{OfRegions, remembered-holding, Rene
 
 -- the remembered slots that point into r
 abbrev pub Held : Sizes → Words → ℕ → ℕ → Type 0
-Held s w r = Remembered r (s .entries) (usedIn (w .remember)) (w .remember)
+Held s w r = Remembered r (s .entries) (entriesUsed (w .remember)) (w .remember)
 
 module _ {s : Sizes} {w : Words} {r : ℕ} (high : 1 < r) where
   pub of-region : OfRegions s w (partOf s w r) (λ g. g ≡ r)

@@ -6,7 +6,7 @@ use mathlib.Core.List.{List}
 use Prim.Native.Nat.{ℕ, suc, _<_}
 use native.Mathlib.Omega.{arith}
 use Rattle.rules.specs.declared.Sizes.{Sizes}
-use Rattle.layout.specs.Places.{ownerOf, usedIn, slotIn, slotRegionIn}
+use Rattle.layout.specs.Places.{ownerOf, entriesUsed, slotIn, slotRegionIn}
 use Rattle.layout.specs.Cells.{fieldOf, pageOf, pageAt}
 use Rattle.layout.specs.Objects.{begins-page, field-on}
 use Rattle.layout.specs.Words.{Words, ownerIn}
@@ -32,8 +32,8 @@ pub record OfRegions (s : Sizes) (w : Words) (e : Part) (G : ℕ → Type 0) : T
 
 -- slots of the table outside the part, among them all that it names with a region of G, are the holding slots
 pub remembered-holding : {s : Sizes} {w : Words} {e : Part} {G S : ℕ → Type 0} → WholeFor s w → KeepsNamed s w e → OfRegions s w e G
-    → ((x : ℕ) → S x → (i : ℕ) × (i < usedIn (w .remember)) × (slotIn (w .remember) i ≡ x) × (e .ends (pageAt x) → ⊥))
-    → ((i : ℕ) → i < usedIn (w .remember) → G (slotRegionIn (s .entries) (w .remember) i) → (e .ends (pageAt (slotIn (w .remember) i)) → ⊥) → S (slotIn (w .remember) i))
+    → ((x : ℕ) → S x → (i : ℕ) × (i < entriesUsed (w .remember)) × (slotIn (w .remember) i ≡ x) × (e .ends (pageAt x) → ⊥))
+    → ((i : ℕ) → i < entriesUsed (w .remember) → G (slotRegionIn (s .entries) (w .remember) i) → (e .ends (pageAt (slotIn (w .remember) i)) → ⊥) → S (slotIn (w .remember) i))
     → HoldingSlots s w e S
 remembered-holding {s} {w} {e} {G} {S} whole keeps o from to =
     record {
@@ -64,7 +64,7 @@ pub record Renews (s : Sizes) (w : Words) (e : Part) (G : ℕ → Type 0) (W T :
 module _ {s : Sizes} {w w₁ : Words} {e : Part} {W T : List ℕ} (h : HasMoved s w w₁ e W T)
     {G : ℕ → Type 0} (o : OfRegions s w e G) {anew : ℕ → ℕ → ℕ} (a : Renews s w e G W T anew) where
   -- an entry that stays
-  pub stays-live : (x g : ℕ) → Stays anew (s .entries) (w .remember) (usedIn (w .remember)) x g → LiveSlot s w e W x × (g ≡ crossLater s W T x)
+  pub stays-live : (x g : ℕ) → Stays anew (s .entries) (w .remember) (entriesUsed (w .remember)) x g → LiveSlot s w e W x × (g ≡ crossLater s W T x)
   stays-live x g q = subst (λ (y : ℕ). LiveSlot s w e W y × (g ≡ crossLater s W T y)) (q .slot) (here (o .test region))
     where
       slot : ℕ
@@ -100,7 +100,7 @@ module _ {s : Sizes} {w w₁ : Words} {e : Part} {W T : List ℕ} (h : HasMoved 
           (live, q .region ∙ sym (a .stays slot region found n) ∙ y .region ∙ sym hd ∙ sym z)
 
   -- a slot of an object outside the part has one if it will cross
-  pub stay : (x : ℕ) (q : LiveSlot s w e W x) → crossLater s W T x ≢ 0 → Outside s w e (q .object) → Stays anew (s .entries) (w .remember) (usedIn (w .remember)) x (crossLater s W T x)
+  pub stay : (x : ℕ) (q : LiveSlot s w e W x) → crossLater s W T x ≢ 0 → Outside s w e (q .object) → Stays anew (s .entries) (w .remember) (entriesUsed (w .remember)) x (crossLater s W T x)
   stay x q n u = go (lives-how (m .1))
     where
       m : (d : ℕ) × Lives s w e d × (fieldOf (w .cells) (q .object) (q .field) ≡ suc d) × (crossLater s W T x ≡ ownerOf s T (pageOf (placed W d)))
@@ -112,13 +112,13 @@ module _ {s : Sizes} {w w₁ : Words} {e : Part} {W T : List ℕ} (h : HasMoved 
 
       -- by its old entry
       by : 1 < ownerIn s w (pageOf (m .0)) → ownerIn s w (pageOf (m .0)) ≢ ownerIn s w (pageOf (q .object)) → crossLater s W T x ≡ anew x (ownerIn s w (pageOf (m .0)))
-          → Stays anew (s .entries) (w .remember) (usedIn (w .remember)) x (crossLater s W T x)
+          → Stays anew (s .entries) (w .remember) (entriesUsed (w .remember)) x (crossLater s W T x)
       by up ne region =
           let y = entry-of (h .whole) (q .object) (q .field) (m .0) (u .used) (q .low) (m .2) low up ne in
           let at = y .2 ∙ sym (live-outside h x q u .at) in
           record { entry = y .0; low = y .1; slot = at; region = region ∙ ap₂ anew (sym at) (sym (y .3)); kept = n }
 
-      go : Outside s w e (m .0) ⊎ Survivor s w e (m .0) → Stays anew (s .entries) (w .remember) (usedIn (w .remember)) x (crossLater s W T x)
+      go : Outside s w e (m .0) ⊎ Survivor s w e (m .0) → Stays anew (s .entries) (w .remember) (entriesUsed (w .remember)) x (crossLater s W T x)
       go (inl v) =
           let hd = outside-home h (m .0) v in
           by (omega (arith, hd, m .4)) (λ z. m .5 (hd ∙ z ∙ sym (outside-home h (q .object) u)))
@@ -134,7 +134,7 @@ later {s} {T = T} k x q = ap (λ (y : ℕ). crossesFrom s T (ownerOf s T (pageAt
 
 -- the entries of the new table
 pub told : {s : Sizes} {w w₁ : Words} {e : Part} {W T : List ℕ} {S : ℕ → Type 0} {W′ : List ℕ} (k : HasRewritten s w w₁ e W T S W′) {G : ℕ → Type 0} → OfRegions s w e G → {anew : ℕ → ℕ → ℕ} → Renews s w e G W T anew
-    → Told s w e W T (λ x g. Stays anew (s .entries) (w .remember) (usedIn (w .remember)) x g ⊎ Crossing s (Copies s W′ T) W′ T x g)
+    → Told s w e W T (λ x g. Stays anew (s .entries) (w .remember) (entriesUsed (w .remember)) x g ⊎ Crossing s (Copies s W′ T) W′ T x g)
 told {s} {w} {W = W} {T = T} k o a =
     let h = k .moved in
     record {

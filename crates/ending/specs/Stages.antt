@@ -13,7 +13,7 @@ use Rattle.rules.specs.declared.Sizes.{Sizes}
 use Rattle.rules.specs.Regions.{regionAt, regions, threadOf, levelOf}
 use Rattle.rules.specs.Graph.{ended, crossing}
 use Rattle.laws.specs.RegionLaws.{region-high, numbers-rise, thread-at, level-at}
-use Rattle.layout.specs.Places.{Room, depthAt, countAt, depthOf, ownerOf, markOf, usedIn, slotIn, ownersFrom, countsFrom, varsFrom, tablesWords, count-room, varCount}
+use Rattle.layout.specs.Places.{Room, depthAt, countAt, depthOf, ownerOf, markOf, entriesUsed, slotIn, ownersFrom, countsFrom, varsFrom, tablesWords, count-room, varCount}
 use Rattle.layout.specs.Cells.{pageOf, pageAt, wordOf, field-word}
 use Rattle.layout.specs.Objects.{begins-page}
 use Rattle.layout.specs.Words.{Words, words, Names, depthIn, ownerIn, graphOf}
@@ -117,7 +117,7 @@ module _ {s : Sizes} {t k r : ℕ} {w w₁ : Words} (b : Begun s t k r w w₁) w
     -- ---- the remembered slots
 
     -- the entries, by cells in which every remembered slot names a cell
-    entries-ask : {X : List ℕ} → length X ≡ length W → ((x : ℕ) → Held s w r x → Names s (getD X x 0)) → Entries s r (s .entries) (usedIn (w .remember)) X (w .remember)
+    entries-ask : {X : List ℕ} → length X ≡ length W → ((x : ℕ) → Held s w r x → Names s (getD X x 0)) → Entries s r (s .entries) (entriesUsed (w .remember)) X (w .remember)
     entries-ask size names =
         let e = b .whole .remember .entries in
         record {
@@ -130,7 +130,7 @@ module _ {s : Sizes} {t k r : ℕ} {w w₁ : Words} (b : Begun s t k r w w₁) w
           names = λ i l z. names (slotIn (w .remember) i) (record { entry = i; low = l; region = z; slot = refl });
         }
 
-    pub slots-ask : Slots s r (s .entries) (usedIn (w .remember)) W (w .remember)
+    pub slots-ask : Slots s r (s .entries) (entriesUsed (w .remember)) W (w .remember)
     slots-ask =
         record {
           entries = entries-ask refl (λ x q. live-names moved x (held-live moved held x q));
@@ -138,7 +138,7 @@ module _ {s : Sizes} {t k r : ℕ} {w w₁ : Words} (b : Begun s t k r w w₁) w
         }
 
     -- no entry names a slot of a copy
-    entry-no-copy : (i : ℕ) → i < usedIn (w .remember) → Copies s W T (slotIn (w .remember) i) → ⊥
+    entry-no-copy : (i : ℕ) → i < entriesUsed (w .remember) → Copies s W T (slotIn (w .remember) i) → ⊥
     entry-no-copy i l q = let y = entry-says (b .whole) i l in old-no-copy moved (y .object) (y .field) (y .used) (y .low) (subst (Copies s W T) (y .at) q)
 
     -- ---- the remember table
@@ -147,7 +147,7 @@ module _ {s : Sizes} {t k r : ℕ} {w w₁ : Words} (b : Begun s t k r w w₁) w
       pub rewritten : HasRewritten s w w₁ (partOf s w r) W T (Held s w r) W₃
       rewritten = record { moved = moved; holding = held; cells = R }
 
-      pub entries-told : Told s w (partOf s w r) W T (Entry s r (s .entries) (usedIn (w .remember)) W₃ (w .remember) T)
+      pub entries-told : Told s w (partOf s w r) W T (Entry s r (s .entries) (entriesUsed (w .remember)) W₃ (w .remember) T)
       entries-told = told rewritten (of-region high) (renews pos moved W₃ (outside-after moved held R (λ x. inl)))
 
     module _ {W₂ : List ℕ} (R₂ : Rewritten (Held s w r) W W₂) where
@@ -160,7 +160,7 @@ module _ {s : Sizes} {t k r : ℕ} {w w₁ : Words} (b : Begun s t k r w w₁) w
       copy-later : (x : ℕ) → Copies s W₂ T x → forwarded W₂ (getD W₂ x 0) ≡ forwarded W (getD W x 0)
       copy-later x q = ref-same R₂ (getD W₂ x 0) ∙ ap (forwarded W) (copy-same x q)
 
-      pub settle-ask : crossingAfter s w t k ≤ s .entries → Settles s r (s .entries) (usedIn (w .remember)) W₂ (w .remember) T
+      pub settle-ask : crossingAfter s w t k ≤ s .entries → Settles s r (s .entries) (entriesUsed (w .remember)) W₂ (w .remember) T
       settle-ask entries =
           record {
             entries = entries-ask (R₂ .size) (λ x q. subst (Names s) (sym (R₂ .moved x q)) (names-later moved x (held-live moved held x q)));

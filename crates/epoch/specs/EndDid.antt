@@ -16,7 +16,7 @@ use Rattle.rules.specs.Regions.{regionAt, regions}
 use Rattle.rules.specs.Graph.{pagesOf}
 use Rattle.rules.specs.Rules as ru
 use Rattle.laws.specs.RulesLaws.{region-pos}
-use Rattle.layout.specs.Places.{cellsWords, depthOf, ownerOf, markOf, usedIn, slotIn}
+use Rattle.layout.specs.Places.{cellsWords, depthOf, ownerOf, markOf, entriesUsed, slotIn}
 use Rattle.layout.specs.Cells.{pageOf, placeOf, workOf}
 use Rattle.layout.specs.Marks.{marked}
 use Rattle.layout.specs.Words.{Words, words, BeginsIn, heapOf}
@@ -172,19 +172,19 @@ module _ {p : Sizes} {t : ℕ} {w w₁ : Words} (m : Ending p t w w₁) where
     pub free-way : 0 ≡ roomAsked p (w₁ .cells) (w₁ .remember) (w₁ .tables) t (depthOf (w₁ .tables) t)
     free-way =
         asked-none p (w₁ .cells) (w₁ .remember) (w₁ .tables) t (depthOf (w₁ .tables) t) refl refl refl refl
-        (omega (arith, no-pages)) (omega (arith, crosses, m .whole .remember .entries .room, ap usedIn (marks .remember)))
+        (omega (arith, no-pages)) (omega (arith, crosses, m .whole .remember .entries .room, ap entriesUsed (marks .remember)))
       where
         no-pages : needsBelow p (w₁ .cells) (w₁ .tables) t (depthOf (w₁ .tables) t) ≡ 0
         no-pages =
             sum-none _ (depthOf (w₁ .tables) t)
             (λ l h. needs-none p (w₁ .cells) (w₁ .tables) (regionAt s t l) (over-none p (w₁ .tables) (goesTo (w₁ .cells) (regionAt s t l)) (p .pages) none))
 
-        crosses : ce.crossingAfter p (w₁ .cells) (w₁ .remember) (w₁ .tables) region ≤ usedIn (w₁ .remember)
+        crosses : ce.crossingAfter p (w₁ .cells) (w₁ .remember) (w₁ .tables) region ≤ entriesUsed (w₁ .remember)
         crosses =
             omega (
               arith,
               over-none p (w₁ .tables) (ce.cellCrosses p (w₁ .cells) (w₁ .tables) region) (p .pages) none,
-              sum-high (λ i. slotCrosses p (w₁ .cells) (w₁ .tables) region (slotIn (w₁ .remember) i)) 1 (usedIn (w₁ .remember))
+              sum-high (λ i. slotCrosses p (w₁ .cells) (w₁ .tables) region (slotIn (w₁ .remember) i)) 1 (entriesUsed (w₁ .remember))
                   (λ i l. slot-le p (w₁ .cells) (w₁ .tables) region (slotIn (w₁ .remember) i)),
             )
 

@@ -9,7 +9,7 @@ use lib.Seq.{take-suc, take-length}
 use Rattle.rules.specs.declared.Sizes.{Sizes}
 use Rattle.rules.specs.Graph.{crossing, freePages}
 use Rattle.rules.specs.Rules.{Regioned, graph}
-use Rattle.layout.specs.Places.{sizesAt, usedIn}
+use Rattle.layout.specs.Places.{sizesAt, entriesUsed}
 use Rattle.layout.specs.Words.{words}
 use Rattle.promises.specs.Whole.{WholeFor}
 use Rattle.promises.specs.StandsFor.{StandsFor}
@@ -73,7 +73,7 @@ module _ {c m t : List ℕ} {p : Sizes} (here : Here (words c m t)) (sizes-are :
     pub report-end : end ≤ at + 5698
     report-end = omega (arith, last .end-is, two-length free slots (fits .0) (fits .1))
 
-    pub report-put : free ≡ freeIn p t → slots ≡ usedIn m
+    pub report-put : free ≡ freeIn p t → slots ≡ entriesUsed m
         → (s : Sizes) (h : Regioned) (cells : List ℕ) (cellOf : ℕ → ℕ) → StandsFor s (words cells m t) h cellOf → Put out at (reported s h) after end
     unfolding reported
     report-put free-is slots-are s h cells cellOf st =

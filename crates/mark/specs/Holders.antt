@@ -1,7 +1,6 @@
 -- The holders at the end of region r, read from the words: all variables, and the remembered slots that point into r. Each holds a
 -- reference and calls for a region.
 use mathlib.Core.Path.{_≡_, refl, sym, ap, ap₂, _∙_, subst}
-use mathlib.Core.Logic.{_≢_}
 use mathlib.Core.Bool.{Bool, true, false, cond}
 use mathlib.Core.List.{List, _++_}
 use Prim.Native.Nat.{ℕ, _+_, _/_, _≤_, _<_}
@@ -12,8 +11,8 @@ use borrow.Author.Tests.{eq-eqb, ne-eqb}
 use Rattle.lists.specs.Listed.{listed}
 use Rattle.rules.specs.Regions.{join}
 use Rattle.rules.specs.declared.Sizes.{Sizes}
-use Rattle.layout.specs.Places.{Room, varOf, ownerOf, usedIn, slotIn, slotRegionIn, varsFrom, cellsWords, rememberWords, varCount}
-use Rattle.layout.specs.Cells.{pageAt, cellOf, wordOf, at-page}
+use Rattle.layout.specs.Places.{Room, varOf, ownerOf, entriesUsed, slotIn, slotRegionIn, varsFrom, cellsWords, rememberWords, varCount}
+use Rattle.layout.specs.Cells.{pageAt, cellOf, at-page}
 use Rattle.layout.specs.Objects.{Slot, slot-word}
 use Rattle.layout.specs.Words.{words}
 use Rattle.remember.specs.Crosses.{cross-slot}
@@ -41,7 +40,7 @@ slotHeld p W m T r g i = cond (eqb (slotRegionIn (p .entries) m i) r) (heldFor g
 
 -- the references that holders hold which call for g
 unfoldable pub heldRefs : Sizes → List ℕ → List ℕ → List ℕ → ℕ → ℕ → ℕ → ℕ → List ℕ
-heldRefs p W m T r thread outer g = listed (varHeld p T thread outer g) (varCount p) ++ listed (slotHeld p W m T r g) (usedIn m)
+heldRefs p W m T r thread outer g = listed (varHeld p T thread outer g) (varCount p) ++ listed (slotHeld p W m T r g) (entriesUsed m)
 
 -- the variables and the remember table are whole, and can be read
 pub record Holding (p : Sizes) (W m T : List ℕ) : Type 0 where
@@ -52,14 +51,14 @@ pub record Holding (p : Sizes) (W m T : List ℕ) : Type 0 where
 
 module _ {p : Sizes} {W m T : List ℕ} (h : Holding p W m T) where
   -- the slot of entry i
-  pub slot-low : (i : ℕ) → i < usedIn m → slotIn m i < cellsWords p
+  pub slot-low : (i : ℕ) → i < entriesUsed m → slotIn m i < cellsWords p
   slot-low i l = h .remember .entries .named i l .slot
 
-  pub entry-slot : (i : ℕ) → i < usedIn m → Slot p W T (slotIn m i)
+  pub entry-slot : (i : ℕ) → i < entriesUsed m → Slot p W T (slotIn m i)
   entry-slot i l = let e = h .remember .entries .named i l in cross-slot p W T (slotIn m i) (omega (arith, e .region, e .right))
 
   -- what it holds is null or names an object
-  pub slot-ref : Shaped p W T → (i : ℕ) → i < usedIn m → IsRef p W T (getD W (slotIn m i) 0)
+  pub slot-ref : Shaped p W T → (i : ℕ) → i < entriesUsed m → IsRef p W T (getD W (slotIn m i) 0)
   slot-ref s i l =
       let o = entry-slot i l in
       subst (λ (q : ℕ). IsRef p W T (getD W q 0)) (o .at) (s .objects (o .object) (o .begins) .references (o .field) (o .low))
@@ -73,7 +72,7 @@ module _ {p : Sizes} {W m T : List ℕ} (s : Shaped p W T) (h : Holding p W m T)
   unfolding varHeld
   var-held-ref thread outer g i l = cond-ref p W T (eqb (varCalls p thread outer i) g) (varOf p T i) (h .variables i l)
 
-  pub slot-held-ref : (r g i : ℕ) → i < usedIn m → IsRef p W T (slotHeld p W m T r g i)
+  pub slot-held-ref : (r g i : ℕ) → i < entriesUsed m → IsRef p W T (slotHeld p W m T r g i)
   unfolding slotHeld
   slot-held-ref r g i l =
       cond-ref p W T (eqb (slotRegionIn (p .entries) m i) r) (heldFor g (slotCalls p m T r i) (getD W (slotIn m i) 0))
@@ -133,7 +132,7 @@ module _ {p : Sizes} {W T W′ T′ : List ℕ} (k : Kept p W T W′ T′) (room
   unfolding varHeld
   kept-var-held thread outer g i l = ap (heldFor g (varCalls p thread outer i)) (k .tables (varsFrom p + i) (λ page h e. omega arith))
 
-  pub kept-slot-held : (r g i : ℕ) → i < usedIn m → slotHeld p W′ m T′ r g i ≡ slotHeld p W m T r g i
+  pub kept-slot-held : (r g i : ℕ) → i < entriesUsed m → slotHeld p W′ m T′ r g i ≡ slotHeld p W m T r g i
   unfolding slotHeld
   kept-slot-held r g i l =
       let page : pageAt (slotIn m i) < p .pages = at-page p (slotIn m i) (slot-low h i l) in

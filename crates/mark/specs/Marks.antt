@@ -1,8 +1,8 @@
 -- The words that a marking reads and writes: the objects of a region, their mark bits, and what one push does.
 use mathlib.Core.Path.{_≡_, refl, sym, ap, _∙_, subst, subst₂}
-use mathlib.Core.Logic.{_≢_, _⊎_, inl, inr, ⊎-elim}
+use mathlib.Core.Logic.{_≢_, _⊎_, inl, inr}
 use mathlib.Core.List.{List, [], _∷_}
-use Prim.Native.Nat.{ℕ, zero, suc, _+_, _-_, _^_, _≤_, _<_}
+use Prim.Native.Nat.{ℕ, _+_, _-_, _^_, _≤_, _<_}
 use native.Mathlib.Decide.{ℕ-discrete, decLt}
 use native.Mathlib.Omega.{arith}
 use lib.ListN.{length, getD, set, length-set}
@@ -19,7 +19,7 @@ use Rattle.layout.specs.Cells.{workAt, workOf, fieldOf, headOf, refsOf, pageOf,
 use Rattle.layout.specs.Marks.{marked}
 use Rattle.layout.specs.Objects.{Begins}
 use Rattle.layout.specs.Words.{words}
-use Rattle.promises.specs.Whole.{IsRef, ObjectWhole}
+use Rattle.promises.specs.Whole.{IsRef, ObjectsWhole}
 use Rattle.promises.specs.Areas.{markWords, workWords, Only, only-trans, mark-in, arrays-apart, tables-only, cells-only}
 use Rattle.promises.specs.Frames.{begins-frame, begins-was, objects-stay, objects-frame}
 
@@ -31,7 +31,7 @@ owner p T c = ownerOf p T (pageOf c)
 pub record Shaped (p : Sizes) (W T : List ℕ) : Type 0 where
   pub room : Room p (length T)
   pub cells-long : cellsWords p ≤ length W
-  pub objects : (c : ℕ) → Begins p W T c → ObjectWhole p W T c
+  pub objects : ObjectsWhole p (words W [] T)
 
 -- an object has at most as many references as it may have fields
 pub shaped-few : {p : Sizes} {W T : List ℕ} → Shaped p W T → (c : ℕ) → Begins p W T c → refsOf W c ≤ mostFields

@@ -9,9 +9,9 @@ use native.Mathlib.Omega.{arith}
 use native.Mathlib.Numerals.{one-add}
 use native.Mathlib.Nat.{div-add-mod', mod-lt}
 use native.Mathlib.Decide.{ℕ-discrete, decLt}
-use lib.Dec.{eqb, leb}
+use lib.Dec.{eqb}
 use lib.ListN.{getD}
-use borrow.Author.Tests.{ne-eqb, eqb-true, eqb-false, leb-false, lt-leb}
+use borrow.Author.Tests.{eqb-true}
 use Rattle.lists.specs.Listed.{listed}
 use Rattle.lists.specs.Members.{In, in-append, in-left, in-right, getD-in, in-place, in-bounds}
 use Rattle.rules.specs.declared.Sizes.{Sizes}
@@ -19,7 +19,7 @@ use Rattle.rules.specs.Regions.{regionAt, threadOf, levelOf, join}
 use Rattle.laws.specs.RegionLaws.{region-high, thread-at, level-at, parent-at, join-control, join-other, join-same}
 use Rattle.laws.specs.GraphLaws as gl
 use Rattle.laws.specs.GraphLaws.{Refers, Holds, bySlot, byOwn, byOther}
-use Rattle.layout.specs.Places.{varOf, usedIn, slotIn, slotRegionIn, varCount}
+use Rattle.layout.specs.Places.{varOf, entriesUsed, slotIn, slotRegionIn, varCount}
 use Rattle.layout.specs.Cells.{fieldAt, fieldOf, pageOf, pageAt}
 use Rattle.layout.specs.Words.{Words, BeginsIn, ownerIn, homeIn, depthIn, refCount, refsIn, varsIn, graphOf}
 use Rattle.remember.specs.Crossing.{other, regionOf, crossTo}
@@ -57,7 +57,7 @@ module _ (s : Sizes) (w : Words) (k : WholeFor s w) where
   field-refers y f x u l e =
       record { below = cell-low s w k y u; there = used-alive s w k y u; slot = getD-in (refsIn w y) f x (getD-refs w y f l ∙ e) }
 
-  -- what a reference names is in use
+  -- what a reference names is an object
   field-used : (y f x : ℕ) → BeginsIn s w y → f < refCount w y → fieldOf (w .cells) y f ≡ suc x → BeginsIn s w x
   field-used y f x u l e = ref-begins s (w .cells) (w .tables) (fieldOf (w .cells) y f) x (k .objects y u .references f l) (e ∙ sym (one-add x))
 
@@ -82,7 +82,7 @@ module _ (s : Sizes) (w : Words) (k : WholeFor s w) where
   whole-holding = record { some = k .sized .range .variables-low; long = k .sized .remember; variables = k .variables; remember = k .remember }
 
   -- the slot of an entry lies outside the region that it points into
-  pub entry-outside : (i : ℕ) → i < usedIn (w .remember) → ownerIn s w (pageAt (slotIn (w .remember) i)) ≡ slotRegionIn (s .entries) (w .remember) i → ⊥
+  pub entry-outside : (i : ℕ) → i < entriesUsed (w .remember) → ownerIn s w (pageAt (slotIn (w .remember) i)) ≡ slotRegionIn (s .entries) (w .remember) i → ⊥
   entry-outside i l z =
       let q = slotIn (w .remember) i in
       let n = k .remember .entries .named i l in
@@ -91,7 +91,7 @@ module _ (s : Sizes) (w : Words) (k : WholeFor s w) where
 
   -- and each slot outside r that points into it has an entry
   pub enters-entry : (r y f x : ℕ) → 1 < r → BeginsIn s w y → (ownerIn s w (pageOf y) ≡ r → ⊥) → f < refCount w y → fieldOf (w .cells) y f ≡ suc x
-      → ownerIn s w (pageOf x) ≡ r → (i : ℕ) × (i < usedIn (w .remember)) × (slotIn (w .remember) i ≡ fieldAt y f) × (slotRegionIn (s .entries) (w .remember) i ≡ r)
+      → ownerIn s w (pageOf x) ≡ r → (i : ℕ) × (i < entriesUsed (w .remember)) × (slotIn (w .remember) i ≡ fieldAt y f) × (slotRegionIn (s .entries) (w .remember) i ≡ r)
   enters-entry r y f x pos u out l e own =
       let q = fieldAt y f in
       let o = field-slot s (w .cells) (w .tables) y f u (ref-room s w k y f u l) l in
@@ -126,7 +126,7 @@ module _ (s : Sizes) (w : Words) (k : WholeFor s w) where
     held-holds g x h i =
         ⊎-elim variable slot
         (in-append (1 + x) (listed (varHeld s (w .tables) t outer g) (varCount s))
-        (listed (slotHeld s (w .cells) (w .remember) (w .tables) r g) (usedIn (w .remember))) i)
+        (listed (slotHeld s (w .cells) (w .remember) (w .tables) r g) (entriesUsed (w .remember))) i)
       where
         variable : In (1 + x) (listed (varHeld s (w .tables) t outer g) (varCount s)) → Holds s (graphOf s w) r x g
         variable m =
@@ -140,9 +140,9 @@ module _ (s : Sizes) (w : Words) (k : WholeFor s w) where
             go i at e (yes d) = byOwn i at (d ∙ sym (thread-at s t j deep)) (sym e ∙ sym (calls-own s t outer i d) ∙ sym (parent-at s t j deep))
             go i at e (no d) = byOther i at (λ z. d (z ∙ thread-at s t j deep)) (sym e ∙ sym (calls-other s t outer i d))
 
-        slot : In (1 + x) (listed (slotHeld s (w .cells) (w .remember) (w .tables) r g) (usedIn (w .remember))) → Holds s (graphOf s w) r x g
+        slot : In (1 + x) (listed (slotHeld s (w .cells) (w .remember) (w .tables) r g) (entriesUsed (w .remember))) → Holds s (graphOf s w) r x g
         slot m =
-            let q = in-listed (slotHeld s (w .cells) (w .remember) (w .tables) r g) (usedIn (w .remember)) (1 + x) m in
+            let q = in-listed (slotHeld s (w .cells) (w .remember) (w .tables) r g) (entriesUsed (w .remember)) (1 + x) m in
             let a = some-cond (eqb (slotRegionIn (s .entries) (w .remember) (q .0)) r) _ x (q .2) in
             let b = some-cond (eqb (slotCalls s (w .remember) (w .tables) r (q .0)) g) _ x (a .1) in
             let at = slotIn (w .remember) (q .0) in
@@ -159,7 +159,7 @@ module _ (s : Sizes) (w : Words) (k : WholeFor s w) where
         let b : i < varCount s = omega (arith, in-bounds (varsIn s w) i (λ z. omega arith), length-vars s w k) in
         let g : ℕ = regionAt s t l in
         in-left (1 + x) (listed (varHeld s (w .tables) t outer g) (varCount s))
-        (listed (slotHeld s (w .cells) (w .remember) (w .tables) r g) (usedIn (w .remember)))
+        (listed (slotHeld s (w .cells) (w .remember) (w .tables) r g) (entriesUsed (w .remember)))
         (listed-in (varHeld s (w .tables) t outer g) (varCount s) i (1 + x) b
         (sym (var-some s (w .tables) t outer g i (varCalls s t outer i) (varOf s (w .tables) i) refl (sym c) refl)
         ∙ sym (getD-vars s w i b) ∙ at ∙ sym (one-add x)))
@@ -176,8 +176,8 @@ module _ (s : Sizes) (w : Words) (k : WholeFor s w) where
         let g : ℕ = regionAt s t l in
         let call : slotCalls s (w .remember) (w .tables) r (n .0) ≡ g = ap (λ (z : ℕ). join s r (ownerIn s w z)) page ∙ ap (join s r) (sym hy) ∙ e in
         in-right (1 + x) (listed (varHeld s (w .tables) t outer g) (varCount s))
-        (listed (slotHeld s (w .cells) (w .remember) (w .tables) r g) (usedIn (w .remember)))
-        (listed-in (slotHeld s (w .cells) (w .remember) (w .tables) r g) (usedIn (w .remember)) (n .0) (1 + x) (n .1)
+        (listed (slotHeld s (w .cells) (w .remember) (w .tables) r g) (entriesUsed (w .remember)))
+        (listed-in (slotHeld s (w .cells) (w .remember) (w .tables) r g) (entriesUsed (w .remember)) (n .0) (1 + x) (n .1)
         (sym (slot-some s (w .cells) (w .remember) (w .tables) r g (n .0) (n .3) call) ∙ ap (λ (z : ℕ). getD (w .cells) z 0) (n .2) ∙ i .2 ∙ sym (one-add x)))
 
     -- what a slot outside r calls for is the region of a level below

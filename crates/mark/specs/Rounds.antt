@@ -5,7 +5,7 @@ use Prim.Native.Nat.{ℕ, _+_}
 use Rattle.lists.specs.Listed.{listed-same}
 use Rattle.rules.specs.Regions.{regionAt}
 use Rattle.rules.specs.declared.Sizes.{Sizes}
-use Rattle.layout.specs.Places.{usedIn, varCount}
+use Rattle.layout.specs.Places.{entriesUsed, varCount}
 use Rattle.promises.specs.Whole.{IsRef}
 use Rattle.mark.specs.Marks.{Shaped, kept-trans, kept-shaped}
 use Rattle.mark.specs.Pushes.{Pushing, pushing-kept, pushing-shaped}
@@ -34,14 +34,14 @@ module _ {p : Sizes} {r n : ℕ} {W₀ m T₀ W T : List ℕ} (s₀ : Shaped p W
     -- the holders that call for g are pushed on an empty stack
     pub round-pending : {W₁ T₁ W₂ T₂ : List ℕ} {top top′ : ℕ}
         → Pushing p r (varHeld p T thread outer g) W T 0 W₁ T₁ top (varCount p)
-        → Pushing p r (slotHeld p W₁ m T₁ r g) W₁ T₁ top W₂ T₂ top′ (usedIn m)
+        → Pushing p r (slotHeld p W₁ m T₁ r g) W₁ T₁ top W₂ T₂ top′ (entriesUsed m)
         → Pending p r g W T (heldRefs p W₀ m T₀ r thread outer g) W₂ T₂ top′
     unfolding heldRefs
     round-pending {W₂ = W₂} {T₂ = T₂} {top′ = top′} a b =
         let k = pushing-kept round-shaped a in
         let same = kept-slot-held (kept-trans (L .kept) k) (s₀ .room) h₀ r g in
-        subst₂ (λ (x y : List ℕ). Pending p r g W T (x ++ y) W₂ T₂ top′) (listed-same _ _ (varCount p) (kept-var-held (L .kept) (s₀ .room) h₀ thread outer g)) (listed-same _ _ (usedIn m) same)
-        (seeded g _ _ (varCount p) (usedIn m) round-shaped
+        subst₂ (λ (x y : List ℕ). Pending p r g W T (x ++ y) W₂ T₂ top′) (listed-same _ _ (varCount p) (kept-var-held (L .kept) (s₀ .room) h₀ thread outer g)) (listed-same _ _ (entriesUsed m) same)
+        (seeded g _ _ (varCount p) (entriesUsed m) round-shaped
         (λ i l. subst (IsRef p W T) (sym (kept-slot-held k (round-shaped .room) round-holding r g i l)) (slot-held-ref round-shaped round-holding r g i l)) a b)
 
     pub round-levels : {W′ T′ : List ℕ} {k : ℕ} → Drained p r g W T (heldRefs p W₀ m T₀ r thread outer g) W′ T′ k

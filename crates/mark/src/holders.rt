@@ -4,7 +4,7 @@ ghost use mathlib.Core.Path.{_≡_};
 ghost use mathlib.Core.List.{List};
 ghost use Prim.Native.Nat.{ℕ, _<_, _≤_};
 ghost use lib.ListN.{length};
-ghost use Rattle.layout.specs.Places.{Room, usedIn, slotIn, cellsWords, rememberWords, varCount};
+ghost use Rattle.layout.specs.Places.{Room, entriesUsed, slotIn, cellsWords, rememberWords, varCount};
 ghost use Rattle.mark.specs.Marks.{Shaped};
 ghost use Rattle.mark.specs.Pushes.{Pushing};
 ghost use Rattle.mark.specs.Holders.{varCalls, varHeld, slotHeld, Holding};
@@ -103,7 +103,7 @@ pub fn push_slots(
 ) -> u32
     requires { ⌜ Shaped p (now cells) (now tables) ⌝ }
     requires { ⌜ Holding p (now cells) (now remember) (now tables) ⌝ }
-    ensures { λ t. ⌜ Pushing p r (slotHeld p (now (cells .entry)) (now (remember .entry)) (now (tables .entry)) r g) (now (cells .entry)) (now (tables .entry)) top (now (cells .exit)) (now (tables .exit)) t (usedIn (now (remember .entry))) ⌝ }
+    ensures { λ t. ⌜ Pushing p r (slotHeld p (now (cells .entry)) (now (remember .entry)) (now (tables .entry)) r g) (now (cells .entry)) (now (tables .entry)) top (now (cells .exit)) (now (tables .exit)) t (entriesUsed (now (remember .entry))) ⌝ }
 {
     let n = layout::wide(layout::remember::used(remember));
     let mut t = top;

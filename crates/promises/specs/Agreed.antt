@@ -95,7 +95,7 @@ pub heapOf-stands : (w : Words) → WholeWords w → StandsFor (sizesIn w) w (he
 heapOf-stands w k = heap-stands (sizesIn w) w k
 
 module _ (s : Sizes) (w : Words) (h : Regioned) (cellOf : ℕ → ℕ) (st : StandsFor s w h cellOf) where
-  -- an object that is there is in a cell that is in use
+  -- an object that is there begins at its cell
   pub cell-alive : (x : ℕ) → Alive (graph h) x → Alive (graphOf s w) (cellOf x)
   cell-alive x a z = a (sym (st .partners .home x a) ∙ z)
 

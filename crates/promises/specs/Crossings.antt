@@ -15,7 +15,7 @@ use Rattle.rules.specs.declared.Sizes.{Sizes}
 use Rattle.rules.specs.Graph.{Graph, slotsOf as ruleSlots, crossing}
 use Rattle.rules.specs.Rules.{Regioned, graph}
 use Rattle.laws.specs.Counts.{crossIn, crossAt, crossing-sum, crossRef, cross-cons}
-use Rattle.layout.specs.Places as lp
+use Rattle.layout.specs.Places.{cellsWords, entriesUsed}
 use Rattle.layout.specs.Cells.{fieldAt, fieldOf, roomFor, pageOf}
 use Rattle.layout.specs.Objects.{cellCount, begins?, begins-page, begins-true, begins-false, field-on, field-slot, slotsOf, slots-sum}
 use Rattle.layout.specs.Words.{Words, BeginsIn, ownerIn, headIn, refCount, refsIn, homeIn, graphOf}
@@ -75,13 +75,13 @@ module _ (s : Sizes) (w : Words) (k : WholeFor s w) where
       (λ n. rw (begins-false s (w .cells) (w .tables) c n, no-home s w k c n))
 
   -- the number of entries used is the rules' count of crossing slots
-  pub entries-crossing : lp.usedIn (w .remember) ≡ crossing (graphOf s w)
+  pub entries-crossing : entriesUsed (w .remember) ≡ crossing (graphOf s w)
   entries-crossing =
-      sym (every-counted (cr.crossTo s (w .cells) (w .tables)) (lp.cellsWords s) (s .entries) (w .remember) (k .remember))
+      sym (every-counted (cr.crossTo s (w .cells) (w .tables)) (cellsWords s) (s .entries) (w .remember) (k .remember))
       ∙ slots-sum s (w .cells) (w .tables) (λ q. bit (cr.crossing s (w .cells) (w .tables) q)) (λ q l n. ap (λ (x : ℕ). bit (ltb 0 x)) (no-cross s (w .cells) (w .tables) q n)) (refs-room s w k)
       ∙ sum-same _ _ (cellCount s) (λ c l. object-cross c) ∙ sym (crossing-sum (graphOf s w))
 
 -- of whatever heap the words stand for
 module _ (s : Sizes) (w : Words) (h : Regioned) (cellOf : ℕ → ℕ) (st : StandsFor s w h cellOf) where
-  pub heap-entries : lp.usedIn (w .remember) ≡ crossing (graph h)
+  pub heap-entries : entriesUsed (w .remember) ≡ crossing (graph h)
   heap-entries = entries-crossing s w (st .whole) ∙ sym (crossing-agree s w h cellOf st)

@@ -28,7 +28,7 @@ use Rattle.promises.specs.Slots.{cross-alike}
 -- entry i of the first remember table stands in the second, wherever that may be
 pub record SameEntry (s : Sizes) (w w′ : Words) (i : ℕ) : Type 0 where
   pub place : ℕ
-  pub low : place < lp.usedIn (w′ .remember)
+  pub low : place < lp.entriesUsed (w′ .remember)
   pub slot : slotIn (w′ .remember) place ≡ slotIn (w .remember) i
   pub region : slotRegionIn (s .entries) (w′ .remember) place ≡ slotRegionIn (s .entries) (w .remember) i
 
@@ -49,9 +49,9 @@ pub record SameButOpen (s : Sizes) (w w′ : Words) : Type 0 where
   pub cells : (q : ℕ) → Used s w (cellOf q) → getD (w .cells) q 0 ≡ getD (w′ .cells) q 0
   -- remember table: N, entries used, the same entries in any order, the unused ones zero
   pub room : getD (w .remember) 0 0 ≡ getD (w′ .remember) 0 0
-  pub entries : lp.usedIn (w .remember) ≡ lp.usedIn (w′ .remember)
-  pub named : (i : ℕ) → i < lp.usedIn (w .remember) → SameEntry s w w′ i
-  pub unused : (i : ℕ) → lp.usedIn (w .remember) ≤ i → i < s .entries
+  pub entries : lp.entriesUsed (w .remember) ≡ lp.entriesUsed (w′ .remember)
+  pub named : (i : ℕ) → i < lp.entriesUsed (w .remember) → SameEntry s w w′ i
+  pub unused : (i : ℕ) → lp.entriesUsed (w .remember) ≤ i → i < s .entries
       → (slotIn (w .remember) i ≡ slotIn (w′ .remember) i) × (slotRegionIn (s .entries) (w .remember) i ≡ slotRegionIn (s .entries) (w′ .remember) i)
 
 -- a word, once its place is known
@@ -61,7 +61,7 @@ at-place l k j i = subst (λ (n : ℕ). getD l n 0 ≡ getD k n 0)
 -- ---- one half: what the first has, the second has
 
 module _ (s : Sizes) (w w′ : Words) (h : Regioned) (to : ℕ → ℕ) (st : StandsFor s w h to) (st′ : StandsFor s w′ h to) where
-  -- what holds of the cell of each object holds of each cell in use
+  -- what holds of the cell of each object of the heap holds of each cell where one begins
   by-object : (P : ℕ → Type 0) → ((x : ℕ) → Alive (graph h) x → P (to x)) → (c : ℕ) → BeginsIn s w c → P c
   by-object P f c u = let r = st .partners .onto c (used-alive s w (st .whole) c u) in subst P (r .2) (f (r .0) (r .1))
 
@@ -142,7 +142,7 @@ module _ (s : Sizes) (w w′ : Words) (h : Regioned) (to : ℕ → ℕ) (st : St
       cross-alike s (w .cells) (w .tables) (w′ .cells) (w′ .tables) (λ page l. sym (used-same page l)) (λ c u. sym (head-as s w w′ h to st st′ c u)) (λ page l. sym (owner-same page l)) q
       (λ o. sym (word-as s w w′ h to st st′ q (slot-word s (w .cells) (w .tables) q o .0)))
 
-  entries-same : lp.usedIn (w .remember) ≡ lp.usedIn (w′ .remember)
+  entries-same : lp.entriesUsed (w .remember) ≡ lp.entriesUsed (w′ .remember)
   entries-same = heap-entries s w h to st ∙ sym (heap-entries s w′ h to st′)
 
   -- WHAT WORDS STAND FOR DETERMINES THEM, BUT FOR THE OPEN POINTS

@@ -20,8 +20,7 @@ use Rattle.laws.specs.SameRules.{renamed}
 use Rattle.laws.specs.Counts.{crossRef, crossing-stored}
 use Rattle.laws.specs.AfterLaws.{graph-stored}
 use Rattle.layout.specs.declared.Kind.the-variants.{Reference, Number}
-use Rattle.layout.specs.Places as lp
-use Rattle.layout.specs.Places.{cellsWords}
+use Rattle.layout.specs.Places.{cellsWords, entriesUsed, slotIn}
 use Rattle.layout.specs.Cells.{fieldAt, fieldOf, allFields, roomFor, firstField, first-reference, first-number, kind-among, fields-room}
 use Rattle.layout.specs.Objects.{field-on, Slot, field-slot}
 use Rattle.layout.specs.Words.{Words, BeginsIn, headIn, ownerIn, refCount}
@@ -83,7 +82,7 @@ module _ (s : Sizes) (w : Words) (k : WholeFor s w) (y f v : ℕ) (u : BeginsIn 
       ∙ ap (λ (p : ℕ). other (ownerIn s w p) (regionOf s (w .tables) v)) (field-on s (w .cells) (w .tables) y u f few)
 
   -- a slot that crosses has its entry
-  pub reference-named : 0 < crossedTo s w y f v → (i : ℕ) × (i < lp.usedIn (w .remember)) × (lp.slotIn (w .remember) i ≡ at)
+  pub reference-named : 0 < crossedTo s w y f v → (i : ℕ) × (i < entriesUsed (w .remember)) × (slotIn (w .remember) i ≡ at)
   reference-named h = k .remember .every at room (subst (λ (z : ℕ). 0 < z) (sym before) h)
 
   module _ (m′ : List ℕ) (r : ℕ) (d : Followed s w y f v m′ r) where
@@ -150,7 +149,7 @@ module _ (s : Sizes) (w : Words) (h : Regioned) (to : ℕ → ℕ) (st : StandsF
   old = sym (List·getD-map (renamed to) (o .refs) f 0) ∙ ap (λ (vs : List ℕ). getD vs f 0) (sym (st .partners .refs x a)) ∙ getD-refs w y f low
 
   -- crossing slots after the store
-  pub reference-crossing : crossing (graph h′) + bit (ltb 0 (crossedTo s w y f v)) ≡ lp.usedIn (w .remember) + bit (ltb 0 (willCross s w y f v))
+  pub reference-crossing : crossing (graph h′) + bit (ltb 0 (crossedTo s w y f v)) ≡ entriesUsed (w .remember) + bit (ltb 0 (willCross s w y f v))
   reference-crossing =
       omega (
         arith,

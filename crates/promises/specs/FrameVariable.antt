@@ -22,7 +22,7 @@ use Rattle.promises.specs.Changes.{withTables, withVariable}
 use Rattle.promises.specs.Areas.{variableWords, Only, store-only, starts}
 use Rattle.promises.specs.Frames.{still-whole, depths-frame, pages-frame, objects-frame, remember-frame, ref-frame, depths-same, home-same, stands-still}
 
--- a reference to an object that is there leads to a cell in use
+-- a reference to an object that is there leads to an object's cell
 pub ref-to-cell : (s : Sizes) (w : Words) (h : Regioned) (cellOf : ℕ → ℕ) → StandsFor s w h cellOf → (u v : ℕ) → v ≡ renamed cellOf u
     → ((x : ℕ) → u ≡ suc x → Alive (graph h) x) → IsRef s (w .cells) (w .tables) v
 ref-to-cell s w h cellOf st zero v e a z = absurd (let o : ⊥ = omega arith in o)

@@ -21,7 +21,7 @@ use Rattle.layout.specs.Cells.{fieldAt, roomFor, allFields, refsOf, Formed, fie
 use Rattle.layout.specs.Objects.{begins?, begins-page, begins-true, begins-false}
 use Rattle.layout.specs.Words.{Words, BeginsIn, headIn, ownerIn, homeIn, homeAt, depthsIn, depthsAt, varsIn, varsAt, fieldsIn, fieldsAt, refsIn, numsIn}
 use Rattle.remember.specs.Crossing.{crossTo}
-use Rattle.promises.specs.Whole.{Open, IsRef, Sized, DepthsWhole, PagesWhole, VariablesWhole, ObjectWhole, ObjectsWhole, MarksWhole, RememberWhole, WholeFor}
+use Rattle.promises.specs.Whole.{Open, IsRef, Sized, DepthsWhole, PagesWhole, VariablesWhole, ObjectWhole, ObjectsWhole, MarksWhole, WorksWhole, RememberWhole, WholeFor}
 use Rattle.promises.specs.Regular.{Regular, whole-regular, SamePage, filled-same, regular-same}
 use Rattle.promises.specs.StandsFor.{StandsFor}
 use Rattle.promises.specs.Areas.{Area, sizeWords, depthWords, variableWords, ownerWords, usedWords, markWords, countWords, headWords, workWords, fieldWords, entryWords, among, Only, ObjectsStay}
@@ -132,6 +132,9 @@ module _ {cs : List Area} {s : Sizes} {w w′ : Words} (o : Only cs s w w′) wh
   pub marks-frame : among markWords cs ≡ false → MarksWhole s w → MarksWhole s w′
   marks-frame n k page l = o .same markWords n page l ∙ k page l
 
+  pub works-frame : among workWords cs ≡ false → among usedWords cs ≡ false → among headWords cs ≡ false → WorksWhole s w → WorksWhole s w′
+  works-frame n u h k c i = let v = begins-was u h c i in o .same workWords n c v ∙ k c v
+
   pub remember-frame : among entryWords cs ≡ false → among headWords cs ≡ false → among fieldWords cs ≡ false → among ownerWords cs ≡ false → among usedWords cs ≡ false
       → RememberWhole s w → RememberWhole s w′
   remember-frame n h f a u k =
@@ -158,7 +161,7 @@ module _ {cs : List Area} {s : Sizes} {w w′ : Words} (o : Only cs s w w′) wh
         variables = variables;
         objects = objects;
         marks = marks-frame m (k .marks);
-        works = λ c i. let v = begins-was u h c i in o .same workWords x c v ∙ k .works c v;
+        works = works-frame x u h (k .works);
         remember = remember;
       }
 

@@ -127,7 +127,7 @@ fieldsOf Reference o = o .refs
 fieldsOf Number o = o .nums
 
 module _ (s : Sizes) (w : Words) (k : WholeFor s w) where
-  -- every variable is null or names a cell in use
+  -- every variable is null or names an object
   pub var-ref : (t a : ℕ) → t < s .threads → a < s .variables → IsRef s (w .cells) (w .tables) (varIn s w t a)
   var-ref t a l n = k .variables (t * s .variables + a) (flat-low l n)
 
@@ -135,7 +135,7 @@ module _ (s : Sizes) (w : Words) (k : WholeFor s w) where
   fields-heap Reference y u = ap (fieldsOf Reference) (object-at s w k y (used-alive s w k y u))
   fields-heap Number y u = ap (fieldsOf Number) (object-at s w k y (used-alive s w k y u))
 
-  -- a reference v that is null or names a cell in use, and field f of it
+  -- a reference v that is null or names an object, and field f of it
   module _ (d : Kind) (f : ℕ) where
     pub used-fields : (v : ℕ) → IsRef s (w .cells) (w .tables) v
         → used v f (length (fieldsOf d (objectOf (heapOf s w .heap) v))) ≡ used v f (fieldCount d (headOf (w .cells) (v - 1)))

@@ -1,4 +1,4 @@
--- What is read from whole words: cells in use, their fields, variables and depths; and that no reference names a cell not in use.
+-- What is read from whole words: objects, their fields, variables and depths; and that every reference names an object.
 use Prim.Native.Nat.{ℕ, suc, _+_, _*_, _^_, _≤_, _<_}
 use native.Mathlib.Omega.{arith}
 use mathlib.Core.Logic.{by-cases}

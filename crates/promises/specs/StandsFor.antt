@@ -13,7 +13,7 @@ use Rattle.layout.specs.Places.{cellsWords, rememberWords, tablesWords}
 use Rattle.layout.specs.Words.{Words, depthsIn, numsIn, graphOf}
 use Rattle.promises.specs.Whole.{WholeFor}
 
--- cellOf leads each object that is there to its cell: one to one, onto the cells in use, on a page of its home, with its references,
+-- cellOf leads each object that is there to its cell: one to one, onto the cells where objects begin, on a page of its home, with its references,
 -- variables and numbers
 pub record StandsFor (s : Sizes) (w : Words) (h : Regioned) (cellOf : ℕ → ℕ) : Type 0 where
   pub whole : WholeFor s w

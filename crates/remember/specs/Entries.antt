@@ -7,7 +7,7 @@ use mathlib.Core.Logic.{_⊎_, inl, inr}
 use native.Mathlib.Omega.{arith}
 use native.Mathlib.Decide.{ℕ-discrete, decLt}
 use lib.ListN.{getD, length, set}
-use Rattle.layout.specs.Places.{usedIn, slotAt, slotIn, slotRegionAt, slotRegionIn, entriesWords}
+use Rattle.layout.specs.Places.{entriesUsed, slotAt, slotIn, slotRegionAt, slotRegionIn, entriesWords}
 
 -- an entry of number `at` with region g is one of f's
 pub record Entry (f : ℕ → ℕ) (n at g : ℕ) : Type 0 where
@@ -17,10 +17,10 @@ pub record Entry (f : ℕ → ℕ) (n at g : ℕ) : Type 0 where
 
 -- the entries are of G, each of another number, and those that are not used are zero
 pub record EntriesOf (G : ℕ → ℕ → Type 0) (N : ℕ) (m : List ℕ) : Type 0 where
-  pub room : usedIn m ≤ N
-  pub named : (i : ℕ) → i < usedIn m → G (slotIn m i) (slotRegionIn N m i)
-  pub once : (i j : ℕ) → i < j → j < usedIn m → slotIn m i ≡ slotIn m j → ⊥
-  pub rest : (i : ℕ) → usedIn m ≤ i → i < N → (slotIn m i ≡ 0) × (slotRegionIn N m i ≡ 0)
+  pub room : entriesUsed m ≤ N
+  pub named : (i : ℕ) → i < entriesUsed m → G (slotIn m i) (slotRegionIn N m i)
+  pub once : (i j : ℕ) → i < j → j < entriesUsed m → slotIn m i ≡ slotIn m j → ⊥
+  pub rest : (i : ℕ) → entriesUsed m ≤ i → i < N → (slotIn m i ≡ 0) × (slotRegionIn N m i ≡ 0)
 
 pub entries-like : {G H : ℕ → ℕ → Type 0} {N : ℕ} {m : List ℕ} → ((x g : ℕ) → G x g → H x g) → EntriesOf G N m → EntriesOf H N m
 entries-like to o = record { room = o .room; named = λ i l. to _ _ (o .named i l); once = o .once; rest = o .rest }
@@ -28,7 +28,7 @@ entries-like to o = record { room = o .room; named = λ i l. to _ _ (o .named i 
 -- the entries are f's, and every one of f's is there
 pub record Exact (f : ℕ → ℕ) (n N : ℕ) (m : List ℕ) : Type 0 where
   pub entries : EntriesOf (Entry f n) N m
-  pub every : (q : ℕ) → q < n → 0 < f q → (i : ℕ) × (i < usedIn m) × (slotIn m i ≡ q)
+  pub every : (q : ℕ) → q < n → 0 < f q → (i : ℕ) × (i < entriesUsed m) × (slotIn m i ≡ q)
 
 -- f and f′ differ at most at `at`
 abbrev pub Elsewhere : (ℕ → ℕ) → (ℕ → ℕ) → ℕ → Type 0
@@ -42,7 +42,7 @@ pub record Edited (N : ℕ) (m m′ : List ℕ) : Type 0 where
 
 -- one more entry
 abbrev pub added : ℕ → List ℕ → ℕ → ℕ → List ℕ
-added N m at g = set (set (set m (slotAt (usedIn m)) at) (slotRegionAt N (usedIn m)) g) 1 (usedIn m + 1)
+added N m at g = set (set (set m (slotAt (entriesUsed m)) at) (slotRegionAt N (entriesUsed m)) g) 1 (entriesUsed m + 1)
 
 -- entry i has another region
 abbrev pub changed : ℕ → List ℕ → ℕ → ℕ → List ℕ
@@ -51,7 +51,7 @@ changed N m i g = set m (slotRegionAt N i) g
 -- entry i goes, and the last takes its place
 abbrev pub removed : ℕ → List ℕ → ℕ → List ℕ
 removed N m i =
-    let l = usedIn m - 1 in
+    let l = entriesUsed m - 1 in
     set (set (set (set (set m (slotAt i) (slotIn m l)) (slotRegionAt N i) (slotRegionIn N m l)) (slotAt l) 0) (slotRegionAt N l) 0) 1 l
 
 -- where f and f′ agree below n, the table serves both
@@ -72,11 +72,11 @@ module _ (f f′ : ℕ → ℕ) (n N : ℕ) (m : List ℕ) (x : Exact f n N m) (
       go q (no d) = else′ q d
 
   -- no entry names a number at which f is 0
-  pub not-named : f at ≡ 0 → (i : ℕ) → i < usedIn m → slotIn m i ≡ at → ⊥
+  pub not-named : f at ≡ 0 → (i : ℕ) → i < entriesUsed m → slotIn m i ≡ at → ⊥
   not-named z i l e = let k = x .entries .named i l in omega (arith, k .region, k .right, ap f e)
 
   -- the entry of a number is the only one
-  only : (i : ℕ) → i < usedIn m → slotIn m i ≡ at → (j : ℕ) → j < usedIn m → (j ≡ i → ⊥) → slotIn m j ≡ at → ⊥
+  only : (i : ℕ) → i < entriesUsed m → slotIn m i ≡ at → (j : ℕ) → j < entriesUsed m → (j ≡ i → ⊥) → slotIn m j ≡ at → ⊥
   only i l e j k d q = go (decLt j i)
     where
       go : Dec (j < i) → ⊥
@@ -85,23 +85,23 @@ module _ (f f′ : ℕ → ℕ) (n N : ℕ) (m : List ℕ) (x : Exact f n N m) (
 
   module _ (m′ : List ℕ) (g : ℕ) (pos : 0 < g) (now : f′ at ≡ g) where
     -- reads of a table with one more entry
-    pub exact-added : f at ≡ 0 → usedIn m < N → usedIn m′ ≡ usedIn m + 1 → slotIn m′ (usedIn m) ≡ at → slotRegionIn N m′ (usedIn m) ≡ g
-        → ((j : ℕ) → j < N → (j ≡ usedIn m → ⊥) → (slotIn m′ j ≡ slotIn m j) × (slotRegionIn N m′ j ≡ slotRegionIn N m j)) → Exact f′ n N m′
+    pub exact-added : f at ≡ 0 → entriesUsed m < N → entriesUsed m′ ≡ entriesUsed m + 1 → slotIn m′ (entriesUsed m) ≡ at → slotRegionIn N m′ (entriesUsed m) ≡ g
+        → ((j : ℕ) → j < N → (j ≡ entriesUsed m → ⊥) → (slotIn m′ j ≡ slotIn m j) × (slotRegionIn N m′ j ≡ slotRegionIn N m j)) → Exact f′ n N m′
     exact-added z r u s t o =
         record {
           entries = record {
             room = omega arith;
-            named = λ i l. named i l (ℕ-discrete i (usedIn m));
-            once = λ i j l k e. once i j l k e (ℕ-discrete j (usedIn m));
-            rest = λ i l k. let e = o i k (λ (q : i ≡ usedIn m). omega arith) in let w = x .entries .rest i (omega arith) k in (e .0 ∙ w .0, e .1 ∙ w .1);
+            named = λ i l. named i l (ℕ-discrete i (entriesUsed m));
+            once = λ i j l k e. once i j l k e (ℕ-discrete j (entriesUsed m));
+            rest = λ i l k. let e = o i k (λ (q : i ≡ entriesUsed m). omega arith) in let w = x .entries .rest i (omega arith) k in (e .0 ∙ w .0, e .1 ∙ w .1);
           };
           every = λ q l h. every q l h (ℕ-discrete q at);
         }
       where
-        old : (j : ℕ) → j < usedIn m → (slotIn m′ j ≡ slotIn m j) × (slotRegionIn N m′ j ≡ slotRegionIn N m j)
-        old j l = o j (omega arith) (λ (q : j ≡ usedIn m). omega arith)
+        old : (j : ℕ) → j < entriesUsed m → (slotIn m′ j ≡ slotIn m j) × (slotRegionIn N m′ j ≡ slotRegionIn N m j)
+        old j l = o j (omega arith) (λ (q : j ≡ entriesUsed m). omega arith)
 
-        named : (i : ℕ) → i < usedIn m′ → Dec (i ≡ usedIn m) → Entry f′ n (slotIn m′ i) (slotRegionIn N m′ i)
+        named : (i : ℕ) → i < entriesUsed m′ → Dec (i ≡ entriesUsed m) → Entry f′ n (slotIn m′ i) (slotRegionIn N m′ i)
         named i l (yes e) =
             subst (λ (k : ℕ). Entry f′ n (slotIn m′ k) (slotRegionIn N m′ k)) (sym e)
             (record { slot = subst (λ (a : ℕ). a < n) (sym s) low; region = omega arith; right = ap f′ s ∙ now ∙ sym t })
@@ -111,18 +111,18 @@ module _ (f f′ : ℕ → ℕ) (n N : ℕ) (m : List ℕ) (x : Exact f n N m) (
             let b : slotIn m i ≡ at → ⊥ = not-named z i (omega arith) in
             record { slot = subst (λ (a : ℕ). a < n) (sym (e .0)) (k .slot); region = omega (arith, k .region, e .1); right = ap f′ (e .0) ∙ else′ (slotIn m i) b ∙ k .right ∙ sym (e .1) }
 
-        once : (i j : ℕ) → i < j → j < usedIn m′ → slotIn m′ i ≡ slotIn m′ j → Dec (j ≡ usedIn m) → ⊥
+        once : (i j : ℕ) → i < j → j < entriesUsed m′ → slotIn m′ i ≡ slotIn m′ j → Dec (j ≡ entriesUsed m) → ⊥
         once i j l k e (yes q) = not-named z i (omega arith) (sym (old i (omega arith) .0) ∙ e ∙ ap (slotIn m′) q ∙ s)
         once i j l k e (no d) = x .entries .once i j l (omega arith) (sym (old i (omega arith) .0) ∙ e ∙ old j (omega arith) .0)
 
-        every : (q : ℕ) → q < n → 0 < f′ q → Dec (q ≡ at) → (i : ℕ) × (i < usedIn m′) × (slotIn m′ i ≡ q)
-        every q l h (yes e) = (usedIn m, omega arith, s ∙ sym e)
+        every : (q : ℕ) → q < n → 0 < f′ q → Dec (q ≡ at) → (i : ℕ) × (i < entriesUsed m′) × (slotIn m′ i ≡ q)
+        every q l h (yes e) = (entriesUsed m, omega arith, s ∙ sym e)
         every q l h (no d) =
             let w = x .every q l (subst (λ (v : ℕ). 0 < v) (else′ q d) h) in
             (w .0, omega (arith, w .1), old (w .0) (w .1) .0 ∙ w .2)
 
     -- reads of a table with another region in entry i
-    pub exact-changed : (i : ℕ) → i < usedIn m → slotIn m i ≡ at → usedIn m′ ≡ usedIn m → slotRegionIn N m′ i ≡ g → ((j : ℕ) → j < N → slotIn m′ j ≡ slotIn m j)
+    pub exact-changed : (i : ℕ) → i < entriesUsed m → slotIn m i ≡ at → entriesUsed m′ ≡ entriesUsed m → slotRegionIn N m′ i ≡ g → ((j : ℕ) → j < N → slotIn m′ j ≡ slotIn m j)
         → ((j : ℕ) → j < N → (j ≡ i → ⊥) → slotRegionIn N m′ j ≡ slotRegionIn N m j) → Exact f′ n N m′
     exact-changed i l e u t s o =
         record {
@@ -135,7 +135,7 @@ module _ (f f′ : ℕ → ℕ) (n N : ℕ) (m : List ℕ) (x : Exact f n N m) (
           every = λ q k h. every q k h (ℕ-discrete q at);
         }
       where
-        named : (j : ℕ) → j < usedIn m′ → Dec (j ≡ i) → Entry f′ n (slotIn m′ j) (slotRegionIn N m′ j)
+        named : (j : ℕ) → j < entriesUsed m′ → Dec (j ≡ i) → Entry f′ n (slotIn m′ j) (slotRegionIn N m′ j)
         named j k (yes z) =
             subst (λ (k : ℕ). Entry f′ n (slotIn m′ k) (slotRegionIn N m′ k)) (sym z)
             (let q = s i (omega (arith, x .entries .room)) ∙ e in record { slot = subst (λ (a : ℕ). a < n) (sym q) low; region = omega arith; right = ap f′ q ∙ now ∙ sym t })
@@ -145,27 +145,27 @@ module _ (f f′ : ℕ → ℕ) (n N : ℕ) (m : List ℕ) (x : Exact f n N m) (
             let w = x .entries .named j (omega arith) in
             record { slot = subst (λ (a : ℕ). a < n) (sym a) (w .slot); region = omega (arith, w .region); right = ap f′ a ∙ else′ (slotIn m j) (only i l e j (omega arith) d) ∙ w .right ∙ sym b }
 
-        every : (q : ℕ) → q < n → 0 < f′ q → Dec (q ≡ at) → (j : ℕ) × (j < usedIn m′) × (slotIn m′ j ≡ q)
+        every : (q : ℕ) → q < n → 0 < f′ q → Dec (q ≡ at) → (j : ℕ) × (j < entriesUsed m′) × (slotIn m′ j ≡ q)
         every q k h (yes z) = (i, omega arith, s i (omega (arith, x .entries .room)) ∙ e ∙ sym z)
         every q k h (no d) =
             let w = x .every q k (subst (λ (v : ℕ). 0 < v) (else′ q d) h) in
             (w .0, omega (arith, w .1), s (w .0) (omega (arith, w .1, x .entries .room)) ∙ w .2)
 
   -- reads of a table without entry i: the last stands in its place
-  module _ (m′ : List ℕ) (gone : f′ at ≡ 0) (i : ℕ) (l : i < usedIn m) (e : slotIn m i ≡ at) (u : usedIn m′ ≡ usedIn m - 1)
-      (here : (i ≡ usedIn m - 1 → ⊥) → (slotIn m′ i ≡ slotIn m (usedIn m - 1)) × (slotRegionIn N m′ i ≡ slotRegionIn N m (usedIn m - 1)))
-      (last : (slotIn m′ (usedIn m - 1) ≡ 0) × (slotRegionIn N m′ (usedIn m - 1) ≡ 0))
-      (o : (j : ℕ) → j < N → (j ≡ i → ⊥) → (j ≡ usedIn m - 1 → ⊥) → (slotIn m′ j ≡ slotIn m j) × (slotRegionIn N m′ j ≡ slotRegionIn N m j)) where
+  module _ (m′ : List ℕ) (gone : f′ at ≡ 0) (i : ℕ) (l : i < entriesUsed m) (e : slotIn m i ≡ at) (u : entriesUsed m′ ≡ entriesUsed m - 1)
+      (here : (i ≡ entriesUsed m - 1 → ⊥) → (slotIn m′ i ≡ slotIn m (entriesUsed m - 1)) × (slotRegionIn N m′ i ≡ slotRegionIn N m (entriesUsed m - 1)))
+      (last : (slotIn m′ (entriesUsed m - 1) ≡ 0) × (slotRegionIn N m′ (entriesUsed m - 1) ≡ 0))
+      (o : (j : ℕ) → j < N → (j ≡ i → ⊥) → (j ≡ entriesUsed m - 1 → ⊥) → (slotIn m′ j ≡ slotIn m j) × (slotRegionIn N m′ j ≡ slotRegionIn N m j)) where
     -- entry j stood at from j
-    from : (j : ℕ) → j < usedIn m′ → (k : ℕ) × (k < usedIn m) × (k ≡ i → ⊥) × (slotIn m′ j ≡ slotIn m k) × (slotRegionIn N m′ j ≡ slotRegionIn N m k) × ((j ≡ k) ⊎ ((j ≡ i) × (k ≡ usedIn m - 1)))
+    from : (j : ℕ) → j < entriesUsed m′ → (k : ℕ) × (k < entriesUsed m) × (k ≡ i → ⊥) × (slotIn m′ j ≡ slotIn m k) × (slotRegionIn N m′ j ≡ slotRegionIn N m k) × ((j ≡ k) ⊎ ((j ≡ i) × (k ≡ entriesUsed m - 1)))
     from j p = go (ℕ-discrete j i)
       where
-        go : Dec (j ≡ i) → (k : ℕ) × (k < usedIn m) × (k ≡ i → ⊥) × (slotIn m′ j ≡ slotIn m k) × (slotRegionIn N m′ j ≡ slotRegionIn N m k) × ((j ≡ k) ⊎ ((j ≡ i) × (k ≡ usedIn m - 1)))
+        go : Dec (j ≡ i) → (k : ℕ) × (k < entriesUsed m) × (k ≡ i → ⊥) × (slotIn m′ j ≡ slotIn m k) × (slotRegionIn N m′ j ≡ slotRegionIn N m k) × ((j ≡ k) ⊎ ((j ≡ i) × (k ≡ entriesUsed m - 1)))
         go (yes z) =
-            let h = here (λ (q : i ≡ usedIn m - 1). omega arith) in
-            (usedIn m - 1, omega arith, (λ (q : usedIn m - 1 ≡ i). omega arith), ap (slotIn m′) z ∙ h .0, ap (slotRegionIn N m′) z ∙ h .1, inr (z, refl))
+            let h = here (λ (q : i ≡ entriesUsed m - 1). omega arith) in
+            (entriesUsed m - 1, omega arith, (λ (q : entriesUsed m - 1 ≡ i). omega arith), ap (slotIn m′) z ∙ h .0, ap (slotRegionIn N m′) z ∙ h .1, inr (z, refl))
         go (no d) =
-            let h = o j (omega (arith, x .entries .room)) d (λ (q : j ≡ usedIn m - 1). omega arith) in
+            let h = o j (omega (arith, x .entries .room)) d (λ (q : j ≡ entriesUsed m - 1). omega arith) in
             (j, omega arith, d, h .0, h .1, inl refl)
 
     pub exact-removed : Exact f′ n N m′
@@ -175,56 +175,56 @@ module _ (f f′ : ℕ → ℕ) (n N : ℕ) (m : List ℕ) (x : Exact f n N m) (
             room = omega (arith, x .entries .room);
             named = named;
             once = once;
-            rest = λ j p q. rest j p q (ℕ-discrete j (usedIn m - 1));
+            rest = λ j p q. rest j p q (ℕ-discrete j (entriesUsed m - 1));
           };
           every = every;
         }
       where
-        named : (j : ℕ) → j < usedIn m′ → Entry f′ n (slotIn m′ j) (slotRegionIn N m′ j)
+        named : (j : ℕ) → j < entriesUsed m′ → Entry f′ n (slotIn m′ j) (slotRegionIn N m′ j)
         named j p =
             let k = from j p in
             let w = x .entries .named (k .0) (k .1) in
             record { slot = subst (λ (a : ℕ). a < n) (sym (k .3)) (w .slot); region = subst (λ (a : ℕ). 0 < a) (sym (k .4)) (w .region); right = ap f′ (k .3) ∙ else′ (slotIn m (k .0)) (only i l e (k .0) (k .1) (k .2)) ∙ w .right ∙ sym (k .4) }
 
-        differ : (a b : ℕ) → a < usedIn m → b < usedIn m → (a ≡ b → ⊥) → slotIn m a ≡ slotIn m b → ⊥
+        differ : (a b : ℕ) → a < entriesUsed m → b < entriesUsed m → (a ≡ b → ⊥) → slotIn m a ≡ slotIn m b → ⊥
         differ a b p q d z = go (decLt a b)
           where
             go : Dec (a < b) → ⊥
             go (yes h) = x .entries .once a b h q z
             go (no h) = x .entries .once b a (omega arith) p (sym z)
 
-        apart : (j k a b : ℕ) → j < k → k < usedIn m - 1 → ((j ≡ a) ⊎ ((j ≡ i) × (a ≡ usedIn m - 1))) → ((k ≡ b) ⊎ ((k ≡ i) × (b ≡ usedIn m - 1))) → a ≡ b → ⊥
+        apart : (j k a b : ℕ) → j < k → k < entriesUsed m - 1 → ((j ≡ a) ⊎ ((j ≡ i) × (a ≡ entriesUsed m - 1))) → ((k ≡ b) ⊎ ((k ≡ i) × (b ≡ entriesUsed m - 1))) → a ≡ b → ⊥
         apart j k a b p q (inl s) (inl t) z = omega arith
         apart j k a b p q (inl s) (inr t) z = omega (arith, t .1)
         apart j k a b p q (inr s) (inl t) z = omega (arith, s .1)
         apart j k a b p q (inr s) (inr t) z = omega (arith, s .0, t .0)
 
-        once : (j k : ℕ) → j < k → k < usedIn m′ → slotIn m′ j ≡ slotIn m′ k → ⊥
+        once : (j k : ℕ) → j < k → k < entriesUsed m′ → slotIn m′ j ≡ slotIn m′ k → ⊥
         once j k p q z =
             let a = from j (omega arith) in
             let b = from k q in
             differ (a .0) (b .0) (a .1) (b .1) (apart j k (a .0) (b .0) p (omega arith) (a .5) (b .5)) (sym (a .3) ∙ z ∙ b .3)
 
-        rest : (j : ℕ) → usedIn m′ ≤ j → j < N → Dec (j ≡ usedIn m - 1) → (slotIn m′ j ≡ 0) × (slotRegionIn N m′ j ≡ 0)
+        rest : (j : ℕ) → entriesUsed m′ ≤ j → j < N → Dec (j ≡ entriesUsed m - 1) → (slotIn m′ j ≡ 0) × (slotRegionIn N m′ j ≡ 0)
         rest j p q (yes z) = (ap (slotIn m′) z ∙ last .0, ap (slotRegionIn N m′) z ∙ last .1)
         rest j p q (no d) =
             let h = o j q (λ (z : j ≡ i). omega arith) d in
             let w = x .entries .rest j (omega arith) q in
             (h .0 ∙ w .0, h .1 ∙ w .1)
 
-        every : (q : ℕ) → q < n → 0 < f′ q → (j : ℕ) × (j < usedIn m′) × (slotIn m′ j ≡ q)
+        every : (q : ℕ) → q < n → 0 < f′ q → (j : ℕ) × (j < entriesUsed m′) × (slotIn m′ j ≡ q)
         every q p h = go (ℕ-discrete q at)
           where
-            go : Dec (q ≡ at) → (j : ℕ) × (j < usedIn m′) × (slotIn m′ j ≡ q)
+            go : Dec (q ≡ at) → (j : ℕ) × (j < entriesUsed m′) × (slotIn m′ j ≡ q)
             go (yes z) = absurd (let b : ⊥ = omega (arith, ap f′ z) in b)
-            go (no d) = place (w .0) (w .1) (w .2) (ℕ-discrete (w .0) (usedIn m - 1))
+            go (no d) = place (w .0) (w .1) (w .2) (ℕ-discrete (w .0) (entriesUsed m - 1))
               where
-                w : (j : ℕ) × (j < usedIn m) × (slotIn m j ≡ q)
+                w : (j : ℕ) × (j < entriesUsed m) × (slotIn m j ≡ q)
                 w = x .every q p (subst (λ (v : ℕ). 0 < v) (else′ q d) h)
 
-                place : (j : ℕ) → j < usedIn m → slotIn m j ≡ q → Dec (j ≡ usedIn m - 1) → (j : ℕ) × (j < usedIn m′) × (slotIn m′ j ≡ q)
+                place : (j : ℕ) → j < entriesUsed m → slotIn m j ≡ q → Dec (j ≡ entriesUsed m - 1) → (j : ℕ) × (j < entriesUsed m′) × (slotIn m′ j ≡ q)
                 place j a b (yes z) =
-                    let ne : i ≡ usedIn m - 1 → ⊥ = λ (y : i ≡ usedIn m - 1). d (sym b ∙ ap (slotIn m) (z ∙ sym y) ∙ e) in
+                    let ne : i ≡ entriesUsed m - 1 → ⊥ = λ (y : i ≡ entriesUsed m - 1). d (sym b ∙ ap (slotIn m) (z ∙ sym y) ∙ e) in
                     (i, omega arith, here ne .0 ∙ ap (slotIn m) (sym z) ∙ b)
                 place j a b (no y) =
                     let ni : j ≡ i → ⊥ = λ (y : j ≡ i). d (sym b ∙ ap (slotIn m) y ∙ e) in

@@ -5,13 +5,13 @@ use mathlib.Core.Path.{_≡_, _∙_}
 use native.Mathlib.Omega.{arith}
 use lib.ListN.{getD, length, set, length-set}
 use Rattle.lists.specs.Stores.{put, past}
-use Rattle.layout.specs.Places.{usedIn, slotAt, slotIn, slotRegionAt, slotRegionIn, entriesWords}
+use Rattle.layout.specs.Places.{entriesUsed, slotAt, slotIn, slotRegionAt, slotRegionIn, entriesWords}
 use Rattle.remember.specs.Entries.{Exact, Elsewhere, Edited, added, changed, removed, exact-added, exact-changed, exact-removed}
 
 module _ (N : ℕ) (m : List ℕ) (long : entriesWords N ≤ length m) where
-  module _ (room : usedIn m < N) (at g : ℕ) where
+  module _ (room : entriesUsed m < N) (at g : ℕ) where
     abbrev u : ℕ
-    u = usedIn m
+    u = entriesUsed m
 
     abbrev m₁ : List ℕ
     m₁ = set m (slotAt u) at
@@ -47,7 +47,7 @@ module _ (N : ℕ) (m : List ℕ) (long : entriesWords N ≤ length m) where
           spare = λ j l. other-word j (λ (q : j ≡ 1). omega arith) (λ (q : j ≡ slotAt u). omega arith) (λ (q : j ≡ slotRegionAt N u). omega arith);
         }
 
-  module _ (i : ℕ) (l : i < usedIn m) (few : usedIn m ≤ N) where
+  module _ (i : ℕ) (l : i < entriesUsed m) (few : entriesUsed m ≤ N) where
     pub changed-exact : (g at : ℕ) (f f′ : ℕ → ℕ) (n : ℕ) → Exact f n N m → at < n → Elsewhere f f′ at → 0 < g → f′ at ≡ g → slotIn m i ≡ at → Exact f′ n N (changed N m i g)
     changed-exact g at f f′ n x low e pos now s =
         exact-changed f f′ n N m x at low e (changed N m i g) g pos now i l s
@@ -65,7 +65,7 @@ module _ (N : ℕ) (m : List ℕ) (long : entriesWords N ≤ length m) where
         }
 
     abbrev v : ℕ
-    v = usedIn m - 1
+    v = entriesUsed m - 1
 
     abbrev r₁ : List ℕ
     r₁ = set m (slotAt i) (slotIn m v)

@@ -4,17 +4,17 @@ use mathlib.Core.List.{List}
 use mathlib.Core.Path.{_≡_, refl, sym, subst, _∙_}
 use native.Mathlib.Omega.{arith}
 use lib.ListN.{length}
-use Rattle.layout.specs.Places.{usedIn, slotIn, entriesWords}
+use Rattle.layout.specs.Places.{entriesUsed, slotIn, entriesWords}
 use Rattle.remember.specs.Entries.{Exact, Elsewhere, Edited, added, changed, removed, exact-same}
 use Rattle.remember.specs.EntryEdits.{added-exact, changed-exact, removed-exact, added-edited, changed-edited, removed-edited}
 
 -- slot `at` crossed into was and will cross into will, 0 for none; r is the answer's number
 pub data Remembered (N : ℕ) (m : List ℕ) (at was will : ℕ) (m′ : List ℕ) (r : ℕ) : Type 0 where
   kept : was ≡ will → m′ ≡ m → r ≡ 0 → Remembered N m at was will m′ r
-  full : was ≡ 0 → 0 < will → N ≤ usedIn m → m′ ≡ m → r ≡ 14 → Remembered N m at was will m′ r
-  came : was ≡ 0 → 0 < will → usedIn m < N → m′ ≡ added N m at will → r ≡ 0 → Remembered N m at was will m′ r
-  moved : (i : ℕ) → 0 < was → 0 < will → i < usedIn m → slotIn m i ≡ at → m′ ≡ changed N m i will → r ≡ 0 → Remembered N m at was will m′ r
-  gone : (i : ℕ) → 0 < was → will ≡ 0 → i < usedIn m → slotIn m i ≡ at → m′ ≡ removed N m i → r ≡ 0 → Remembered N m at was will m′ r
+  full : was ≡ 0 → 0 < will → N ≤ entriesUsed m → m′ ≡ m → r ≡ 14 → Remembered N m at was will m′ r
+  came : was ≡ 0 → 0 < will → entriesUsed m < N → m′ ≡ added N m at will → r ≡ 0 → Remembered N m at was will m′ r
+  moved : (i : ℕ) → 0 < was → 0 < will → i < entriesUsed m → slotIn m i ≡ at → m′ ≡ changed N m i will → r ≡ 0 → Remembered N m at was will m′ r
+  gone : (i : ℕ) → 0 < was → will ≡ 0 → i < entriesUsed m → slotIn m i ≡ at → m′ ≡ removed N m i → r ≡ 0 → Remembered N m at was will m′ r
 
 -- a table exact for f becomes one exact for f′, which differs at the slot alone
 pub remembered-exact : (f f′ : ℕ → ℕ) (n N : ℕ) (m m′ : List ℕ) → entriesWords N ≤ length m → Exact f n N m → (at was will r : ℕ) → at < n → Elsewhere f f′ at → f at ≡ was → f′ at ≡ will
@@ -31,7 +31,7 @@ module _ (N : ℕ) (m : List ℕ) (at was will : ℕ) (m′ : List ℕ) (r : ℕ
     pub number : r ≡ 14
     pub before : was ≡ 0
     pub after : 0 < will
-    pub many : N ≤ usedIn m
+    pub many : N ≤ entriesUsed m
     pub same : m′ ≡ m
 
   pub remembered-full : Remembered N m at was will m′ r → (r ≡ 0 → ⊥) → NoRoom
@@ -41,7 +41,7 @@ module _ (N : ℕ) (m : List ℕ) (at was will : ℕ) (m′ : List ℕ) (r : ℕ
   remembered-full (moved i a b h s e q) z = absurd (z q)
   remembered-full (gone i a b h s e q) z = absurd (z q)
 
-  module _ (long : entriesWords N ≤ length m) (few : usedIn m ≤ N) where
+  module _ (long : entriesWords N ≤ length m) (few : entriesUsed m ≤ N) where
     pub remembered-edited : Remembered N m at was will m′ r → Edited N m m′
     remembered-edited (kept a e q) = subst (Edited N m) (sym e) (record { long = refl; size = refl; spare = λ j l. refl })
     remembered-edited (full a b h e q) = subst (Edited N m) (sym e) (record { long = refl; size = refl; spare = λ j l. refl })

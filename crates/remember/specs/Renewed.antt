@@ -7,7 +7,7 @@ use native.Mathlib.Decide.{decLt}
 use native.Mathlib.Omega.{arith}
 use lib.ListN.{length, getD, set, length-set}
 use lib.Seq.{getD-set-same, getD-set-other}
-use Rattle.layout.specs.Places.{usedIn, slotIn, slotRegionIn, entriesWords}
+use Rattle.layout.specs.Places.{entriesUsed, slotIn, slotRegionIn, entriesWords}
 use Rattle.remember.specs.Entries.{Entry, EntriesOf, Exact, Edited, entries-like}
 use Rattle.remember.specs.Stretches.{Added, Cleared, slot-above, region-above}
 
@@ -15,7 +15,7 @@ use Rattle.remember.specs.Stretches.{Added, Cleared, slot-above, region-
 pub record Renewed (G : ℕ → ℕ → Type 0) (N : ℕ) (M M′ : List ℕ) : Type 0 where
   pub edited : Edited N M M′
   pub entries : EntriesOf G N M′
-  pub every : (x h : ℕ) → G x h → (y : ℕ) × (y < usedIn M′) × (slotIn M′ y ≡ x) × (slotRegionIn N M′ y ≡ h)
+  pub every : (x h : ℕ) → G x h → (y : ℕ) × (y < entriesUsed M′) × (slotIn M′ y ≡ x) × (slotRegionIn N M′ y ≡ h)
 
 -- where G is f's, the table is exact for f
 pub renewed-exact : {G : ℕ → ℕ → Type 0} {N : ℕ} {M M′ : List ℕ} (f : ℕ → ℕ) (n : ℕ) → ((x h : ℕ) → G x h → Entry f n x h) → ((q : ℕ) → q < n → 0 < f q → G q (f q))
@@ -26,7 +26,7 @@ renewed-exact f n to from′ r =
 -- the first k entries are those of G, entries up to e are cleared, the rest were zero; v is written as their count
 module _ {G : ℕ → ℕ → Type 0} {N k e v : ℕ} {M M₂ M₃ : List ℕ} (long : entriesWords N ≤ length M) (a : Added N G 0 k M M₂) (c : Cleared N k e M₂ M₃)
     (over : k ≤ e) (few : e ≤ N) (zeros : (y : ℕ) → e ≤ y → y < N → (slotIn M y ≡ 0) × (slotRegionIn N M y ≡ 0)) (ev : v ≡ k) where
-  used : usedIn (set M₃ 1 v) ≡ k
+  used : entriesUsed (set M₃ 1 v) ≡ k
   used = getD-set-same M₃ 1 v 0 (omega (arith, c .size, a .size)) ∙ ev
 
   -- a word other than the count

@@ -3,7 +3,7 @@
 ghost use mathlib.Core.Path.{_≡_};
 ghost use Prim.Native.Nat.{ℕ, _+_, _^_, _<_, _≤_};
 ghost use lib.ListN.{length};
-ghost use Rattle.layout.specs.Places.{usedIn, slotIn, entriesWords};
+ghost use Rattle.layout.specs.Places.{entriesUsed, slotIn, entriesWords};
 ghost use Rattle.remember.specs.Entries.{added, removed};
 ghost use Rattle.remember.specs.Remembering.{Remembered};
 ghost use Rattle.remember.specs.Stretches.{Cleared};
@@ -28,7 +28,7 @@ pub fn find_entry(entries: usize, remember: &[u32], used: usize, at: usize) -> u
 // One more entry, after the `used` ones.
 pub fn add_entry(entries: usize, remember: &mut [u32], used: usize, at: usize, region: u32)
     requires { ⌜ entriesWords entries ≤ length (now remember) ⌝ }
-    requires { ⌜ (entries < 2 ^ 32) × (used < entries) × (used ≡ usedIn (now remember)) × (at < 2 ^ 32) ⌝ }
+    requires { ⌜ (entries < 2 ^ 32) × (used < entries) × (used ≡ entriesUsed (now remember)) × (at < 2 ^ 32) ⌝ }
     ensures { λ r. ⌜ now (remember .exit) ≡ added entries (now (remember .entry)) at region ⌝ }
 {
     layout::remember::set_slot(entries, remember, used, at as u32);
@@ -39,7 +39,7 @@ pub fn add_entry(entries: usize, remember: &mut [u32], used: usize, at: usize, r
 // Entry i of the `used` ones goes; the last takes its place.
 pub fn remove_entry(entries: usize, remember: &mut [u32], used: usize, i: usize)
     requires { ⌜ entriesWords entries ≤ length (now remember) ⌝ }
-    requires { ⌜ (entries < 2 ^ 32) × (used ≤ entries) × (used ≡ usedIn (now remember)) × (i < used) ⌝ }
+    requires { ⌜ (entries < 2 ^ 32) × (used ≤ entries) × (used ≡ entriesUsed (now remember)) × (i < used) ⌝ }
     ensures { λ r. ⌜ now (remember .exit) ≡ removed entries (now (remember .entry)) i ⌝ }
 {
     let last = used - 1;
@@ -55,8 +55,8 @@ pub fn remove_entry(entries: usize, remember: &mut [u32], used: usize, i: usize)
 // Slot `at` crossed into `was` and is to cross into `will`: its entry stays, goes, comes or changes its region, or there is no room (14).
 pub fn remember_slot(entries: usize, remember: &mut [u32], at: usize, was: u32, will: u32) -> u32
     requires { ⌜ entriesWords entries ≤ length (now remember) ⌝ }
-    requires { ⌜ (entries < 2 ^ 32) × (usedIn (now remember) ≤ entries) × (at < 2 ^ 32) ⌝ }
-    requires { ⌜ (0 < was → (i : ℕ) × (i < usedIn (now remember)) × (slotIn (now remember) i ≡ at)) ⌝ }
+    requires { ⌜ (entries < 2 ^ 32) × (entriesUsed (now remember) ≤ entries) × (at < 2 ^ 32) ⌝ }
+    requires { ⌜ (0 < was → (i : ℕ) × (i < entriesUsed (now remember)) × (slotIn (now remember) i ≡ at)) ⌝ }
     ensures { λ r. ⌜ Remembered entries (now (remember .entry)) at was will (now (remember .exit)) r ⌝ }
 {
     if was == will {

@@ -10,7 +10,7 @@ use Rattle.rules.specs.Regions.{regions}
 use Rattle.rules.specs.Graph.{crossing, freePages}
 use Rattle.rules.specs.Rules.{graph}
 use Rattle.rules.specs.declared.Sizes.{Sizes}
-use Rattle.layout.specs.Places.{sizesAt, usedIn}
+use Rattle.layout.specs.Places.{sizesAt, entriesUsed}
 use Rattle.layout.specs.Words.{Words, sizesIn, heapOf}
 use Rattle.promises.specs.Whole.{WholeWords}
 use Rattle.promises.specs.Agreed.{heapOf-stands}
@@ -81,7 +81,7 @@ module _ (w : Words) (room : ℕ) where
     pub asking-short : room < n → Asking w room (refusing 15)
     asking-short l = record { asked = short refl k (omega (arith, counted, these-length w)); result = refl }
 
-    pub asking-all : (f x : ℕ) → n ≤ room → f ≡ freeIn p (w .tables) → x ≡ usedIn (w .remember)
+    pub asking-all : (f x : ℕ) → n ≤ room → f ≡ freeIn p (w .tables) → x ≡ entriesUsed (w .remember)
         → Asking w room (record { number = 0; rows = n; «free_pages» = f; «crossing_slots» = x })
     asking-all f x l free cross =
         let s = sizesIn w in

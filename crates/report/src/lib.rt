@@ -3,7 +3,7 @@
 ghost use mathlib.Core.Path.{_≡_};
 ghost use Prim.Native.Nat.{_+_, _<_, _≤_};
 ghost use lib.ListN.{length, getD};
-ghost use Rattle.layout.specs.Places.{usedIn};
+ghost use Rattle.layout.specs.Places.{entriesUsed};
 ghost use Rattle.layout.specs.Words.{depthsAt};
 ghost use Rattle.report.specs.Report.{rowOf, noRow};
 ghost use Rattle.report.specs.Opened.{Next, Turn};
@@ -131,7 +131,7 @@ pub fn free_pages(p: Sizes, tables: &[u32]) -> u32
 // How many slots are crossing: the remember table names each once.
 pub fn crossing_slots(remember: &[u32]) -> u32
     requires { ⌜ 2 ≤ length (now remember) ⌝ }
-    ensures { λ n. ⌜ n ≡ usedIn (now (remember .entry)) ⌝ }
+    ensures { λ n. ⌜ n ≡ entriesUsed (now (remember .entry)) ⌝ }
 {
     layout::remember::used(remember)
 }

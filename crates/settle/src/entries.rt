@@ -1,6 +1,6 @@
 // The remember table where nothing is copied.
 ghost use Prim.Native.Nat.{ℕ};
-ghost use Rattle.layout.specs.Places.{usedIn};
+ghost use Rattle.layout.specs.Places.{entriesUsed};
 ghost use Rattle.settle.specs.Update.{Copies, Settles, Updated};
 use remember::entries::clear_entries;
 use remember::filter::filter_entries;
@@ -8,9 +8,9 @@ use rules::Sizes;
 
 // The remember table after an end that copies nothing: the entries that stay, then zeros.
 pub fn keep_entries(p: Sizes, cells: &[u32], remember: &mut [u32], tables: &[u32], region: u32)
-    requires { ⌜ Settles p region (p .entries) (usedIn (now remember)) (now cells) (now remember) (now tables) ⌝ }
+    requires { ⌜ Settles p region (p .entries) (entriesUsed (now remember)) (now cells) (now remember) (now tables) ⌝ }
     requires { ⌜ ((x : ℕ) → Copies p (now cells) (now tables) x → ⊥) ⌝ }
-    ensures { λ _. ⌜ Updated p region (p .entries) (usedIn (now (remember .entry))) (now (cells .entry)) (now (remember .entry)) (now (tables .entry)) (now (remember .exit)) ⌝ }
+    ensures { λ _. ⌜ Updated p region (p .entries) (entriesUsed (now (remember .entry))) (now (cells .entry)) (now (remember .entry)) (now (tables .entry)) (now (remember .exit)) ⌝ }
 {
     let entries = p.entries;
     let used = layout::wide(layout::remember::used(remember));

@@ -8,7 +8,7 @@ ghost use mathlib.Core.Path.{_≡_};
 ghost use Prim.Native.Nat.{ℕ, _<_, max};
 ghost use lib.ListN.{length};
 ghost use Rattle.lists.specs.Part.{Rises, Off};
-ghost use Rattle.layout.specs.Places.{Room, markOf, usedIn};
+ghost use Rattle.layout.specs.Places.{Room, markOf, entriesUsed};
 ghost use Rattle.layout.specs.Cells.{refsOf};
 ghost use Rattle.settle.specs.Rewrite.{Rewritten};
 ghost use Rattle.settle.specs.RewriteSlots.{Field, Fields};
@@ -131,11 +131,11 @@ pub fn settle(
     n: usize,
     region: u32,
 )
-    requires { ⌜ Settles p region (p .entries) (usedIn (now remember)) (now cells) (now remember) (now tables) ⌝ }
+    requires { ⌜ Settles p region (p .entries) (entriesUsed (now remember)) (now cells) (now remember) (now tables) ⌝ }
     requires { ⌜ Rises (p .pages) n (now list) ⌝ }
     requires { ⌜ ((page : ℕ) → page < p .pages → Off (now list) n page → markOf p (now tables) page ≡ 0) ⌝ }
     ensures { λ _. ⌜ Rewritten (Copies p (now (cells .entry)) (now (tables .entry))) (now (cells .entry)) (now (cells .exit)) ⌝ }
-    ensures { λ _. ⌜ Updated p region (p .entries) (usedIn (now (remember .entry))) (now (cells .exit)) (now (remember .entry)) (now (tables .entry)) (now (remember .exit)) ⌝ }
+    ensures { λ _. ⌜ Updated p region (p .entries) (entriesUsed (now (remember .entry))) (now (cells .exit)) (now (remember .entry)) (now (tables .entry)) (now (remember .exit)) ⌝ }
 {
     let entries = p.entries;
     let used = layout::wide(layout::remember::used(remember));

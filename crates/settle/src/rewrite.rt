@@ -4,7 +4,7 @@ ghost use mathlib.Core.Path.{_≡_};
 ghost use mathlib.Core.Logic.{_≢_};
 ghost use Prim.Native.Nat.{ℕ, _<_, _≤_};
 ghost use lib.ListN.{length};
-ghost use Rattle.layout.specs.Places.{Room, varCount, varOf, usedIn, cellsWords};
+ghost use Rattle.layout.specs.Places.{Room, varCount, varOf, entriesUsed, cellsWords};
 ghost use Rattle.layout.specs.Cells.{cellNamed, CellIn};
 ghost use Rattle.layout.specs.Words.{Names};
 ghost use Rattle.settle.specs.Rewrite.{forwarded, Rewritten};
@@ -28,8 +28,8 @@ pub fn forward_ref(cells: &[u32], x: u32) -> u32
 
 // The remembered slots that point into the region.
 pub fn rewrite_slots(p: Sizes, cells: &mut [u32], remember: &[u32], region: u32)
-    requires { ⌜ Slots p region (p .entries) (usedIn (now remember)) (now cells) (now remember) ⌝ }
-    ensures { λ _. ⌜ Rewritten (Remembered region (p .entries) (usedIn (now (remember .entry))) (now (remember .entry))) (now (cells .entry)) (now (cells .exit)) ⌝ }
+    requires { ⌜ Slots p region (p .entries) (entriesUsed (now remember)) (now cells) (now remember) ⌝ }
+    ensures { λ _. ⌜ Rewritten (Remembered region (p .entries) (entriesUsed (now (remember .entry))) (now (remember .entry))) (now (cells .entry)) (now (cells .exit)) ⌝ }
 {
     let entries = p.entries;
     let used = layout::wide(layout::remember::used(remember));

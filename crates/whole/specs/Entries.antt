@@ -8,12 +8,12 @@ use native.Mathlib.Decide.{decLt}
 use native.Mathlib.Nat.{eq-or-lt-of-le, not-suc-le-zero}
 use native.Mathlib.Numerals.{add-one}
 use Rattle.rules.specs.declared.Sizes.{Sizes}
-use Rattle.layout.specs.Places.{usedIn, slotIn, slotRegionIn}
+use Rattle.layout.specs.Places.{entriesUsed, slotIn, slotRegionIn}
 use Rattle.promises.specs.Whole.{EntryWhole}
 
 -- every entry that is used
 abbrev pub NamedWhole : Sizes → List ℕ → List ℕ → List ℕ → Type 0
-NamedWhole p c m t = (i : ℕ) → i < usedIn m → EntryWhole p c m t i
+NamedWhole p c m t = (i : ℕ) → i < entriesUsed m → EntryWhole p c m t i
 
 -- the entries from a to before b, of a table of n, are zero
 abbrev pub ZeroBetween : ℕ → List ℕ → ℕ → ℕ → Type 0
@@ -28,11 +28,11 @@ zero-on n m a b c h k i l u = go (decLt i b)
 
 -- every entry that is not used
 abbrev pub RestZero : Sizes → List ℕ → Type 0
-RestZero p m = ZeroBetween (p .entries) m (usedIn m) (p .entries)
+RestZero p m = ZeroBetween (p .entries) m (entriesUsed m) (p .entries)
 
 -- no two entries name one slot
 abbrev pub Once : List ℕ → Type 0
-Once m = (i j : ℕ) → i < j → j < usedIn m → slotIn m i ≡ slotIn m j → ⊥
+Once m = (i j : ℕ) → i < j → j < entriesUsed m → slotIn m i ≡ slotIn m j → ⊥
 
 -- below n, each entry's slot stands after the one before it
 abbrev pub Rising : List ℕ → ℕ → Type 0
@@ -45,8 +45,8 @@ rising-far m n i (suc j) r l k =
     ⊎-elim (λ e. subst (λ (x : ℕ). slotIn m x < slotIn m (suc j)) (sym e) here) (λ h. omega (arith, rising-far m n i j r h (omega arith))) (eq-or-lt-of-le {n = i} {m = j} (omega arith))
 
 -- so in rising order no two are the same
-pub rising-once : (m : List ℕ) → Rising m (usedIn m) → Once m
-rising-once m r i j l k e = omega (arith, rising-far m (usedIn m) i j r l k)
+pub rising-once : (m : List ℕ) → Rising m (entriesUsed m) → Once m
+rising-once m r i j l k e = omega (arith, rising-far m (entriesUsed m) i j r l k)
 
 pub rising-more : (m : List ℕ) (i : ℕ) {a b : ℕ} → Rising m i → 1 ≤ i → a ≡ slotIn m (i - 1) → b ≡ slotIn m i → a < b → Rising m (i + 1)
 rising-more m i {a} {b} r h e f l k n = ⊎-elim here (λ q. r k q) (eq-or-lt-of-le {n = k + 1} {m = i} (omega arith))

@@ -1,6 +1,6 @@
 -- The conditions of whole tables, in the parts that the functions check.
 use Rattle.rules.specs.declared.Sizes.{Sizes}
-use Rattle.layout.specs.Places.{cellsWords, usedIn}
+use Rattle.layout.specs.Places.{cellsWords, entriesUsed}
 use Rattle.layout.specs.Words.{Words}
 use Rattle.promises.specs.Whole.{Sized, DepthsWhole, VariablesWhole, EntriesWhole, WholeFor}
 use Rattle.remember.specs.Crossing.{crossTo}
@@ -17,14 +17,14 @@ module _ {s : Sizes} {w : Words} where
   }
 
   -- as many slots cross as there are entries used
-  pub cells-of : WholeFor s w → CellsCross s (w .cells) (w .tables) (usedIn (w .remember))
+  pub cells-of : WholeFor s w → CellsCross s (w .cells) (w .tables) (entriesUsed (w .remember))
   cells-of k = record {
     whole = λ c u. record { object = k .objects c u; working = k .works c u };
     crossing = every-counted (crossTo s (w .cells) (w .tables)) (cellsWords s) (s .entries) (w .remember) (k .remember);
   }
 
   -- as many entries as crossing slots, each naming another: then every crossing slot is named
-  pub whole-of : Sized s w → DepthsWhole s w → RegionsWhole s (w .tables) → VariablesWhole s w → CellsCross s (w .cells) (w .tables) (usedIn (w .remember))
+  pub whole-of : Sized s w → DepthsWhole s w → RegionsWhole s (w .tables) → VariablesWhole s w → CellsCross s (w .cells) (w .tables) (entriesUsed (w .remember))
       → EntriesWhole s (w .cells) (w .remember) (w .tables) → WholeFor s w
   whole-of z d r v k n = record {
     sized = z;

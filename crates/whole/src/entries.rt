@@ -4,7 +4,7 @@ ghost use Prim.Native.Nat.{ℕ, _+_, _*_, _≤_, _<_};
 ghost use lib.ListN.{length};
 ghost use Rattle.lists.specs.Says.{Says};
 ghost use Rattle.lists.specs.Seen.{bitIn, withBit};
-ghost use Rattle.layout.specs.Places.{Room, cellsWords, rememberWords, mostWords, usedIn, slotIn, entriesWords};
+ghost use Rattle.layout.specs.Places.{Room, cellsWords, rememberWords, mostWords, entriesUsed, slotIn, entriesWords};
 ghost use Rattle.promises.specs.Whole.{EntryWhole, EntriesWhole};
 ghost use Rattle.whole.specs.Entries.{NamedWhole, ZeroBetween, RestZero, Once, Rising};
 use remember::crossing::cross_to;
@@ -35,7 +35,7 @@ pub fn named_whole(p: Sizes, cells: &[u32], remember: &[u32], tables: &[u32], us
     requires { ⌜ Room p (length (now tables)) ⌝ }
     requires { ⌜ cellsWords p ≤ length (now cells) ⌝ }
     requires { ⌜ rememberWords p ≤ length (now remember) ⌝ }
-    requires { ⌜ (used ≡ usedIn (now remember)) × (used ≤ p .entries) ⌝ }
+    requires { ⌜ (used ≡ entriesUsed (now remember)) × (used ≤ p .entries) ⌝ }
     ensures { λ r. ⌜ Says r (NamedWhole p (now (cells .entry)) (now (remember .entry)) (now (tables .entry))) ⌝ }
 {
     let mut i = 0;
@@ -70,7 +70,7 @@ pub fn zero_between(entries: usize, remember: &[u32], from: usize, to: usize) ->
 // Eight entries in a turn: a stretch of known length is compiled without a loop. The first word that is not zero still ends it.
 pub fn rest_zero(p: Sizes, remember: &[u32], used: usize) -> bool
     requires { ⌜ rememberWords p ≤ length (now remember) ⌝ }
-    requires { ⌜ (used ≡ usedIn (now remember)) × (used ≤ p .entries) ⌝ }
+    requires { ⌜ (used ≡ entriesUsed (now remember)) × (used ≤ p .entries) ⌝ }
     ensures { λ r. ⌜ Says r (RestZero p (now (remember .entry))) ⌝ }
 {
     let entries = p.entries;
@@ -87,8 +87,8 @@ pub fn rest_zero(p: Sizes, remember: &[u32], used: usize) -> bool
 // Whether the slots stand in rising order.
 pub fn rising(p: Sizes, remember: &[u32], used: usize) -> bool
     requires { ⌜ rememberWords p ≤ length (now remember) ⌝ }
-    requires { ⌜ (used ≡ usedIn (now remember)) × (used ≤ p .entries) ⌝ }
-    ensures { λ r. ⌜ Says r (Rising (now (remember .entry)) (usedIn (now (remember .entry)))) ⌝ }
+    requires { ⌜ (used ≡ entriesUsed (now remember)) × (used ≤ p .entries) ⌝ }
+    ensures { λ r. ⌜ Says r (Rising (now (remember .entry)) (entriesUsed (now (remember .entry)))) ⌝ }
 {
     let entries = p.entries;
     let mut i = 1;
@@ -121,7 +121,7 @@ fn see(seen: &mut [u32], at: usize)
 // Whether no slot is seen twice, by a table with a bit for each.
 pub fn seen_once(p: Sizes, remember: &[u32], used: usize) -> bool
     requires { ⌜ rememberWords p ≤ length (now remember) ⌝ }
-    requires { ⌜ (used ≡ usedIn (now remember)) × (used ≤ p .entries) ⌝ }
+    requires { ⌜ (used ≡ entriesUsed (now remember)) × (used ≤ p .entries) ⌝ }
     requires { ⌜ ((i : ℕ) → i < used → slotIn (now remember) i < mostWords) ⌝ }
     ensures { λ r. ⌜ Says r (Once (now (remember .entry))) ⌝ }
 {
@@ -142,7 +142,7 @@ pub fn seen_once(p: Sizes, remember: &[u32], used: usize) -> bool
 // Entries in rising order are each another at once; only another order pays for the table.
 pub fn once(p: Sizes, remember: &[u32], used: usize) -> bool
     requires { ⌜ rememberWords p ≤ length (now remember) ⌝ }
-    requires { ⌜ (used ≡ usedIn (now remember)) × (used ≤ p .entries) ⌝ }
+    requires { ⌜ (used ≡ entriesUsed (now remember)) × (used ≤ p .entries) ⌝ }
     requires { ⌜ ((i : ℕ) → i < used → slotIn (now remember) i < mostWords) ⌝ }
     ensures { λ r. ⌜ Says r (Once (now (remember .entry))) ⌝ }
 {

@@ -5,7 +5,7 @@ use lib.ListN.{set}
 use Prim.Native.Nat.{ℕ}
 use mathlib.Core.List.{List}
 use mathlib.Core.Path.{refl, sym, _∙_, subst}
-use Rattle.layout.specs.Places.{usedIn}
+use Rattle.layout.specs.Places.{entriesUsed}
 use Rattle.settle.specs.Update.{Settles, Updated, settle-asks, settles-updated}
 use Rattle.settle.proofs.settle.Statement.{statement}
 use Rattle.settle.proofs.settle.Tie as tie
@@ -59,7 +59,7 @@ returns c =
     let clear = c .before .before .before .before .before .before .clear-entries in
     let h = settles-updated (settles (c .before .before .before .before .before .before .before .before .before .before .before .before .before .before .before .before .before .before .before .before .before)) (filter .ensures .0) (filter .ensures .1) (settle .ensures) (c .before .before .before .before .before .before .before .larger .ensures) (clear .ensures) refl in (
       settle .ensures .rewritten,
-      subst (λ (X : List ℕ). Updated (a .p) (a .region) (a .p .entries) (usedIn (a .remember .now)) (settle .last .1 .0) (a .remember .now) (a .tables .now) X) (sym (c .before .before .set-used .ensures))
+      subst (λ (X : List ℕ). Updated (a .p) (a .region) (a .p .entries) (entriesUsed (a .remember .now)) (settle .last .1 .0) (a .remember .now) (a .tables .now) X) (sym (c .before .before .set-used .ensures))
           (subst (λ (y : ℕ). Updated (a .p) (a .region) (a .p .entries) y (settle .last .1 .0) (a .remember .now) (a .tables .now) (set (clear .last .1 .0) 1 (settle .result))) (c .before .before .before .before .before .before .before .before .before .before .before .before .before .before .before .before .before .before .before .before .before .wide .ensures ∙ c .before .before .before .before .before .before .before .before .before .before .before .before .before .before .before .before .before .before .before .before .before .before .used .ensures) h),
     )
 

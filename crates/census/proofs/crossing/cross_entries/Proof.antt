@@ -4,14 +4,14 @@ use mathlib.Core.Path.{_≡_, refl, ap, _∙_}
 use native.Mathlib.Omega.{arith}
 use borrow.Author.Needs.{needs}
 use Rattle.lists.specs.Counting.{sum, sum-more}
-use Rattle.layout.specs.Places.{slotIn, usedIn}
+use Rattle.layout.specs.Places.{slotIn, entriesUsed}
 use Rattle.census.specs.After.{slotCrosses, slot-le}
 use Rattle.census.proofs.crossing.cross_entries.Statement.{statement}
 use Rattle.census.proofs.crossing.cross_entries.Tie as tie
 
 abbrev Inv-loop : tie.InvT-loop
 Inv-loop p cells remember tables r entries n₀ i₀ n i =
-    (i ≤ entries) × (entries ≡ usedIn remember) × (entries ≤ 4096) × (n ≡ sum (λ i. slotCrosses p cells tables r (slotIn remember i)) i) × (n ≤ i)
+    (i ≤ entries) × (entries ≡ entriesUsed remember) × (entries ≤ 4096) × (n ≡ sum (λ i. slotCrosses p cells tables r (slotIn remember i)) i) × (n ≤ i)
 
 abbrev μ-loop : tie.MeasureT-loop
 μ-loop p cells remember tables r entries n₀ i₀ n i =
@@ -60,7 +60,7 @@ returns : tie.Need-returns Inv-loop μ-loop
 returns c =
     let args = c .before .before .before .before .before .before .before .args in
     let loop = c .before .loop in
-    let e : loop .i ≡ usedIn (args .remember .now) = omega arith in
+    let e : loop .i ≡ entriesUsed (args .remember .now) = omega arith in
     (loop .inv .3 ∙ ap (sum (λ i. slotCrosses (args .p) (args .cells .now) (args .tables .now) (args .r) (slotIn (args .remember .now) i))) e, omega (arith, loop .inv .4, loop .inv .2, loop .inv .0))
 
 pub cross-entries-spec : {M : Type 1} → statement M

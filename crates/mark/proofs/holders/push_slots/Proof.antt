@@ -5,14 +5,14 @@ use native.Mathlib.Omega.{arith}
 use borrow.Author.Needs.{needs}
 use lib.ListN.{length}
 use Rattle.mark.specs.Pushes.{Pushing, Pushing.none, pushing-kept, pushing-shaped, ref-read, push-read}
-use Rattle.layout.specs.Places.{usedIn}
+use Rattle.layout.specs.Places.{entriesUsed}
 use Rattle.mark.specs.Holders.{slotHeld, slot-low, slot-held-ref, kept-slot-held}
 use Rattle.mark.proofs.holders.push_slots.Statement.{statement}
 use Rattle.mark.proofs.holders.push_slots.Tie as tie
 
 abbrev Inv-loop : tie.InvT-loop
 Inv-loop p cells₀ remember tables₀ r g top n t₀ i₀ cells tables t i =
-    (i ≤ n) × (n ≡ usedIn remember) × (n ≤ p .entries) × (length cells ≡ length cells₀) × (length tables ≡ length tables₀)
+    (i ≤ n) × (n ≡ entriesUsed remember) × (n ≤ p .entries) × (length cells ≡ length cells₀) × (length tables ≡ length tables₀)
     × Pushing p r (slotHeld p cells₀ remember tables₀ r g) cells₀ tables₀ top cells tables t i
 
 abbrev μ-loop : tie.MeasureT-loop
@@ -35,7 +35,7 @@ slot-for-requires : tie.Need-slot-for-requires Inv-loop μ-loop
 slot-for-requires c κs =
     let pre = c .before .before .before .before .before .before .before .before .before .pre in
     let loop = c .before .before .before .loop in
-    let lt : loop .i < usedIn (c .before .before .before .before .before .before .before .before .before .args .remember .now) = omega arith in
+    let lt : loop .i < entriesUsed (c .before .before .before .before .before .before .before .before .before .args .remember .now) = omega arith in
     let s = pushing-shaped (pre .0) (loop .inv .5) in
     (s .room, ((s .cells-long, pre .1 .long), (omega arith, slot-low (pre .1) (loop .i) lt)))
 
@@ -44,7 +44,7 @@ push-requires c κs =
     let args = c .before .before .before .before .before .before .before .before .before .before .before .before .args in
     let pre = c .before .before .before .before .before .before .before .before .before .before .before .before .pre in
     let loop = c .before .before .before .before .before .before .loop in
-    let lt : loop .i < usedIn (args .remember .now) = omega arith in
+    let lt : loop .i < entriesUsed (args .remember .now) = omega arith in
     let h = loop .inv .5 in
     let k = pushing-kept (pre .0) h in (
       pushing-shaped (pre .0) h,
@@ -65,7 +65,7 @@ loop-again c =
     let pre = c .before .before .before .before .before .before .before .before .before .before .before .before .before .before .before .before .before .pre in
     let loop = c .before .before .before .before .before .before .before .before .before .before .before .loop in
     let slot-for = c .before .before .before .before .before .before .before .slot-for in
-    let lt : loop .i < usedIn (args .remember .now) = omega arith in
+    let lt : loop .i < entriesUsed (args .remember .now) = omega arith in
     let k = pushing-kept (pre .0) (loop .inv .5) in
     let h = push-read (pre .0) (loop .inv .5) (slot-held-ref (pre .0) (pre .1) _ _ (loop .i) lt) (slot-for .result) (slot-for .ensures ∙ kept-slot-held k (pre .0 .room) (pre .1) _ _ _ lt) (c .before .before .before .before .push .ensures) in
     let k′ = pushing-kept (pre .0) h in
@@ -83,7 +83,7 @@ returns : tie.Need-returns Inv-loop μ-loop
 returns c =
     let args = c .before .before .before .before .before .before .before .args in
     let loop = c .before .loop in
-    let e : loop .i ≡ usedIn (args .remember .now) = omega arith in
+    let e : loop .i ≡ entriesUsed (args .remember .now) = omega arith in
     subst (λ (f : ℕ). Pushing (args .p) (args .r) (slotHeld (args .p) (args .cells .now) (args .remember .now) (args .tables .now) (args .r) (args .g)) (args .cells .now) (args .tables .now) (args .top) (loop .cells) (loop .tables) (loop .t) f) e (loop .inv .5)
 
 pub push-slots-spec : {M : Type 1} → statement M

@@ -5,7 +5,7 @@ use lib.ListN.{set}
 use Prim.Native.Nat.{ℕ, max}
 use mathlib.Core.List.{List}
 use mathlib.Core.Path.{_≡_, refl, sym, _∙_, subst}
-use Rattle.layout.specs.Places.{usedIn}
+use Rattle.layout.specs.Places.{entriesUsed}
 use Rattle.settle.specs.Settle.{settled-none}
 use Rattle.settle.specs.Update.{Settles, Updated, settles-updated}
 use Rattle.settle.proofs.entries.keep_entries.Statement.{statement}
@@ -46,7 +46,7 @@ returns c =
     let used = c .before .before .before .before .before .before .before .before .before .before .before .before .wide in
     let e : used .result ≡ max (filter .result) (used .result) = omega (arith, filter .ensures .1) in
     let h = settles-updated (settles (c .before .before .before .before .before .before .before .before .before .before .before .before)) (filter .ensures .0) (filter .ensures .1) (settled-none _ _ _ _ _ _ _ (filter .ensures .0 .low) (λ x q. c .before .before .before .before .before .before .before .before .before .before .before .before .before .before .before .before .before .before .pre .1 x q)) e (clear .ensures) refl in
-    subst (λ (X : List ℕ). Updated (a .p) (a .region) (a .p .entries) (usedIn (a .remember .now)) (a .cells .now) (a .remember .now) (a .tables .now) X) (sym (c .before .before .set-used .ensures))
+    subst (λ (X : List ℕ). Updated (a .p) (a .region) (a .p .entries) (entriesUsed (a .remember .now)) (a .cells .now) (a .remember .now) (a .tables .now) X) (sym (c .before .before .set-used .ensures))
     (subst (λ (y : ℕ). Updated (a .p) (a .region) (a .p .entries) y (a .cells .now) (a .remember .now) (a .tables .now) (set (clear .last .1 .0) 1 (filter .result))) (used .ensures ∙ c .before .before .before .before .before .before .before .before .before .before .before .before .before .used .ensures) h)
 
 pub keep-entries-spec : {M : Type 1} → statement M

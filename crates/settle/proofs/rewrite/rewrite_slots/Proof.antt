@@ -6,7 +6,7 @@ use Prim.Native.Nat.{ℕ, _≤_, _<_, _+_, _-_}
 use mathlib.Core.List.{List}
 use mathlib.Core.Logic.{⊎-elim}
 use mathlib.Core.Path.{_≡_, refl, sym, _∙_, subst}
-use Rattle.layout.specs.Places.{usedIn, slotIn, cellsWords}
+use Rattle.layout.specs.Places.{entriesUsed, slotIn, cellsWords}
 use Rattle.layout.specs.Cells.{cell-in}
 use Rattle.layout.specs.Words.{Names}
 use Rattle.settle.specs.Rewrite.{Rewritten, rewritten-none}
@@ -16,7 +16,7 @@ use Rattle.settle.proofs.rewrite.rewrite_slots.Tie as tie
 
 abbrev Inv-loop : tie.InvT-loop
 Inv-loop cells₀ remember region entries used i₀ cells i =
-    (i ≤ used) × (used ≡ usedIn remember) × (length cells ≡ length cells₀) × Rewritten (Remembered region entries i remember) cells₀ cells
+    (i ≤ used) × (used ≡ entriesUsed remember) × (length cells ≡ length cells₀) × Rewritten (Remembered region entries i remember) cells₀ cells
 
 abbrev μ-loop : tie.MeasureT-loop
 μ-loop cells₀ remember region entries used i₀ cells i =
@@ -58,7 +58,7 @@ forward-ref-requires c κs =
     let a = c .before .before .before .before .before .before .before .before .before .before .before .args in
     let l = c .before .before .before .before .before .before .loop in
     let s = c .before .before .before .before .before .before .before .before .before .before .before .pre in
-    let lt : l .i < usedIn (a .remember .now) = omega (arith, l .inv .1) in
+    let lt : l .i < entriesUsed (a .remember .now) = omega (arith, l .inv .1) in
     λ ne.
     cell-in (a .p) (s .entries .pages) (omega (arith, s .entries .cells-long, l .inv .2))
     (subst (λ (y : ℕ). Names (a .p) (getD (l .cells) y 0)) (sym (c .before .wide2 .ensures ∙ c .before .before .slot .ensures)) (slot-names s lt (l .inv .3) (sym (c .before .before .before .before .region .ensures) ∙ c .before .before .before .if1 .taken)) ne)
@@ -80,7 +80,7 @@ loop-again c =
     let a = c .before .before .before .before .before .before .before .before .args in
     let l = c .before .before .before .loop in
     let s = c .before .before .before .before .before .before .before .before .pre in
-    let lt : l .i < usedIn (a .remember .now) = omega (arith, l .inv .1, c .before .before .loop-test .taken) in
+    let lt : l .i < entriesUsed (a .remember .now) = omega (arith, l .inv .1, c .before .before .loop-test .taken) in
     let P : List ℕ → Type 0 = (λ X. Rewritten (Remembered (a .region) (a .p .entries) (l .i + 1) (a .remember .now)) (a .cells .now) X) in
     let h : P (c .if1 .cells) =
     ⊎-elim
@@ -98,7 +98,7 @@ returns : tie.Need-returns Inv-loop μ-loop
 returns c =
     let a = c .before .before .before .before .before .before .args in
     let l = c .before .loop in
-    let e : l .i ≡ usedIn (a .remember .now) = omega (arith, l .inv .0, l .inv .1) in
+    let e : l .i ≡ entriesUsed (a .remember .now) = omega (arith, l .inv .0, l .inv .1) in
     subst (λ (y : ℕ). Rewritten (Remembered (a .region) (a .p .entries) y (a .remember .now)) (a .cells .now) (l .cells)) e (l .inv .3)
 
 pub rewrite-slots-spec : {M : Type 1} → statement M

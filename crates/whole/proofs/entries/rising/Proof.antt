@@ -4,7 +4,7 @@ use borrow.Author.Needs.{needs}
 use Rattle.lists.specs.Says.{says-yes, says-no}
 use Prim.Native.Nat.{_-_, _≤_}
 use denote.Ref.{now}
-use Rattle.layout.specs.Places.{usedIn}
+use Rattle.layout.specs.Places.{entriesUsed}
 use Rattle.whole.specs.Entries.{Rising, rising-more, rising-at}
 use Rattle.whole.proofs.entries.rising.Statement.{statement}
 use Rattle.whole.proofs.entries.rising.Tie as tie
@@ -33,7 +33,7 @@ returns : tie.Need-returns Inv-loop μ-loop
 returns c =
     let args = c .before .before .before .before .before .before .args in
     let loop = c .before .before .before .before .loop in
-    says-no (λ h. let z : ⊥ = omega (arith, rising-at (now (args .remember)) (usedIn (now (args .remember))) (loop .i) h (loop .inv .0) (omega arith)) in z)
+    says-no (λ h. let z : ⊥ = omega (arith, rising-at (now (args .remember)) (entriesUsed (now (args .remember))) (loop .i) h (loop .inv .0) (omega arith)) in z)
 
 add-i : tie.Need-add-i Inv-loop μ-loop
 add-i c = omega arith
