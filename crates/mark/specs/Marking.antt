@@ -6,7 +6,7 @@ use Prim.Native.Nat.{ℕ, _+_, _-_, _^_, _<_}
 use native.Mathlib.Omega.{arith}
 use lib.ListN.{length, set}
 use lib.Seq.{getD-set-same, getD-set-other}
-use Rattle.lists.specs.Bits.{set-fits}
+use Rattle.lists.specs.Bits.{set-other}
 use Rattle.lists.specs.Members.{In, Distinct, in-left, in-right, in-append}
 use Rattle.rules.specs.declared.Sizes.{Sizes}
 use Rattle.layout.specs.Places.{markAt, markOf}
@@ -30,7 +30,7 @@ module _ {p : Sizes} {r : ℕ} {W T : List ℕ} {top x : ℕ} {W′ T′ : List 
       subst₂ (λ (X Y : List ℕ). Kept p W T X Y) (sym (l .cells)) (sym (l .tables))
       (kept-trans (kept-work p W T c top b)
       (kept-mark p (set W (workAt c) top) T (pageOf c) (markOf p T (pageOf c) + 2 ^ placeOf c) b (mark-long x s u (l .some))
-      (λ low. set-fits pageCells (placeOf c) (markOf p T (pageOf c)) (l .off) (low (pageOf c) b) (omega arith))))
+      (λ i h. set-other (placeOf c) i (markOf p T (pageOf c)) (l .off) (λ e. omega arith))))
 
   -- what was marked is marked, and the cell itself is, if it is r's
   pub pushed-mono : Pushed p r W T top x W′ T′ top′ → (d : ℕ) → marked p T d ≡ 1 → marked p T′ d ≡ 1

@@ -95,7 +95,7 @@ pub record Linked (p : Sizes) (r : ℕ) (W T : List ℕ) (top x : ℕ) (W′ T�
 abbrev pub Pushed : (p : Sizes) (r : ℕ) (W T : List ℕ) (top x : ℕ) (W′ T′ : List ℕ) (top′ : ℕ) → Type 0
 Pushed p r W T top x W′ T′ top′ = Skipped p r W T top x W′ T′ top′ ⊎ Linked p r W T top x W′ T′ top′
 
--- ---- what no push and no pop changes: everything but word 1 of cells and working words
+-- ---- what no push and no pop changes: everything but word 1 of cells and the low 16 bits of working words
 
 -- working words hold a bit for each cell
 abbrev pub Small : Sizes → List ℕ → Type 0
@@ -106,10 +106,10 @@ pub record Kept (p : Sizes) (W T W′ T′ : List ℕ) : Type 0 where
   pub tables-length : length T′ ≡ length T
   pub cells : (q : ℕ) → ((c : ℕ) → pageOf c < p .pages → q ≡ workAt c → ⊥) → getD W′ q 0 ≡ getD W q 0
   pub tables : (q : ℕ) → ((page : ℕ) → page < p .pages → q ≡ markAt p page → ⊥) → getD T′ q 0 ≡ getD T q 0
-  pub small : Small p T → Small p T′
+  pub high : (q i : ℕ) → pageCells ≤ i → bitAt (getD T′ q 0) i ≡ bitAt (getD T q 0) i
 
 pub kept-refl : (p : Sizes) (W T : List ℕ) → Kept p W T W T
-kept-refl p W T = record { cells-length = refl; tables-length = refl; cells = λ q n. refl; tables = λ q n. refl; small = λ s. s }
+kept-refl p W T = record { cells-length = refl; tables-length = refl; cells = λ q n. refl; tables = λ q n. refl; high = λ q i h. refl }
 
 pub kept-trans : {p : Sizes} {W T W′ T′ W″ T″ : List ℕ} → Kept p W T W′ T′ → Kept p W′ T′ W″ T″ → Kept p W T W″ T″
 kept-trans a b =
@@ -118,7 +118,7 @@ kept-trans a b =
       tables-length = b .tables-length ∙ a .tables-length;
       cells = λ q n. b .cells q n ∙ a .cells q n;
       tables = λ q n. b .tables q n ∙ a .tables q n;
-      small = λ s. b .small (a .small s);
+      high = λ q i h. b .high q i h ∙ a .high q i h;
     }
 
 -- a store to word 1 of a cell
@@ -129,23 +129,25 @@ kept-work p W T c v l =
       tables-length = refl;
       cells = λ q n. getD-set-other W (workAt c) q v 0 (n c l);
       tables = λ q n. refl;
-      small = λ s. s;
+      high = λ q i h. refl;
     }
 
 -- and to the working word of a page
-pub kept-mark : (p : Sizes) (W T : List ℕ) (page v : ℕ) → page < p .pages → markAt p page < length T → (Small p T → v < 2 ^ pageCells) → Kept p W T W (set T (markAt p page) v)
-kept-mark p W T page v l long low =
+pub kept-mark : (p : Sizes) (W T : List ℕ) (page v : ℕ) → page < p .pages → markAt p page < length T → ((i : ℕ) → pageCells ≤ i → bitAt v i ≡ bitAt (markOf p T page) i) → Kept p W T W (set T (markAt p page) v)
+kept-mark p W T page v l long same =
     record {
       cells-length = refl;
       tables-length = length-set T (markAt p page) v;
       cells = λ q n. refl;
       tables = λ q n. getD-set-other T (markAt p page) q v 0 (n page l);
-      small = λ s q h. go s q h (ℕ-discrete q page);
+      high = λ q i h. go q i h (ℕ-discrete q (markAt p page));
     }
   where
-    go : Small p T → (q : ℕ) → q < p .pages → Dec (q ≡ page) → markOf p (set T (markAt p page) v) q < 2 ^ pageCells
-    go s q h (yes e) = omega (arith, low s, ap (λ (x : ℕ). markOf p (set T (markAt p page) v) x) e, getD-set-same T (markAt p page) v 0 long)
-    go s q h (no e) = omega (arith, s q h, getD-set-other T (markAt p page) (markAt p q) v 0 (λ y. e (omega arith)))
+    go : (q i : ℕ) → pageCells ≤ i → Dec (q ≡ markAt p page) → bitAt (getD (set T (markAt p page) v) q 0) i ≡ bitAt (getD T q 0) i
+    go q i h (yes e) =
+        ap (λ (x : ℕ). bitAt (getD (set T (markAt p page) v) x 0) i) e ∙ ap (λ (x : ℕ). bitAt x i) (getD-set-same T (markAt p page) v 0 long) ∙ same i h
+        ∙ ap (λ (x : ℕ). bitAt (getD T x 0) i) (sym e)
+    go q i h (no n) = ap (λ (x : ℕ). bitAt x i) (getD-set-other T (markAt p page) q v 0 n)
 
 module _ {p : Sizes} {W T W′ T′ : List ℕ} (k : Kept p W T W′ T′) where
   pub kept-head : (c : ℕ) → headOf W′ c ≡ headOf W c

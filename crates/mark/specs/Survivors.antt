@@ -7,7 +7,7 @@ use Prim.Native.Nat.{ℕ, zero, suc, _-_, _^_, _<_}
 use native.Mathlib.Omega.{arith}
 use native.Mathlib.Decide.{ℕ-discrete, decLt}
 use lib.ListN.{length, getD}
-use Rattle.lists.specs.Bits.{bitAt, bit-lt, bit-zero}
+use Rattle.lists.specs.Bits.{bitAt, bit-lt, bit-zero, high-none}
 use Rattle.lists.specs.Says.{Says, said-no}
 use Rattle.rules.specs.declared.Sizes.{Sizes}
 use Rattle.rules.specs.Regions.{regionAt, FurtherOut}
@@ -15,8 +15,8 @@ use Rattle.rules.specs.Graph.{target}
 use Rattle.laws.specs.RegionLaws.{region-high}
 use Rattle.laws.specs.JoinLaws.{further-out}
 use Rattle.laws.specs.GraphLaws.{Reaches, target-absorbs, target-reached, target-called, target-furthest}
-use Rattle.layout.specs.Places.{depthOf, markOf, Room, room}
-use Rattle.layout.specs.Cells.{workAt, workOf, pageOf, placeOf, cellOf, wordOf}
+use Rattle.layout.specs.Places.{depthOf, markOf, Room, room, markAt}
+use Rattle.layout.specs.Cells.{workAt, workOf, pageOf, placeOf, cellOf, wordOf, pageCells}
 use Rattle.layout.specs.Marks.{marked}
 use Rattle.layout.specs.Objects.{begins-page}
 use Rattle.layout.specs.Words.{Words, words, BeginsIn, ownerIn, depthIn, graphOf}
@@ -109,7 +109,7 @@ module _ (s : Sizes) (w : Words) (k : WholeFor s w) (t j : ℕ) (th : t < s .thr
         survives = λ c u own l. on c u l (ℕ-discrete (marked s T′ c) 1);
         freed = λ c u own z. off c (λ b. let f = L .found c (begins-page _ _ _ _ u) b in omega (arith, first-target c (f .0) (f .1), target-absorbs s (graphOf s w) r c (regionAt s t (f .0)) (held-reaches (f .0) c (f .1 .reached)) .some));
         only = found-owned;
-        small = L .kept .small (λ page l. omega (arith, k .marks page l));
+        small = λ page l. high-none pageCells (markOf s T′ page) (λ i h. L .kept .high (markAt s page) i h ∙ ap (λ (x : ℕ). bitAt x i) (k .marks page l) ∙ bit-zero i);
         kept = L .kept;
         cells = λ q n. word q n (ℕ-discrete (wordOf q) 1);
         remember = refl;
