@@ -13,10 +13,9 @@ use Rattle.promises.specs.Regular.{Regular}
 use Rattle.promises.specs.StandsFor.{SameBeyond}
 use Rattle.promises.specs.Ends.{Part, Outside, Survivor, Lives}
 
--- The object that was in cell c is in its cell: word 0 is the same, references lead to the cells of what they named, every word after them
--- (the numbers, and the zeros that follow) is the same, and the working word is zero.
+-- The references of the object that was in cell c lead to the cells of what they named, every word after them (the numbers, and the zeros
+-- that follow) is the same, and the working word is zero.
 pub record SameObject (w : Words) (cell : ℕ → ℕ) (w′ : Words) (c : ℕ) : Type 0 where
-  pub head : headIn w′ (cell c) ≡ headIn w c
   pub references : (f : ℕ) → f < refCount w c → fieldOf (w′ .cells) (cell c) f ≡ renamed cell (fieldOf (w .cells) c f)
   pub others : (f : ℕ) → refCount w c ≤ f → f < roomFor (headIn w c) → fieldOf (w′ .cells) (cell c) f ≡ fieldOf (w .cells) c f
   pub working : workOf (w′ .cells) (cell c) ≡ 0
@@ -25,6 +24,14 @@ pub record SameObject (w : Words) (cell : ℕ → ℕ) (w′ : Words) (c : ℕ) 
 pub record Stayed (s : Sizes) (w : Words) (cell : ℕ → ℕ) (w′ : Words) (c : ℕ) : Type 0 where
   pub same : cell c ≡ c
   pub owner : ownerIn s w′ (pageOf c) ≡ ownerIn s w (pageOf c)
+
+-- The objects that live on have cells, no two of them one, each with its word 0. A survivor's is on a page of its target.
+pub record Placement (s : Sizes) (w : Words) (e : Part) (w′ : Words) (cell : ℕ → ℕ) : Type 0 where
+  pub used : (c : ℕ) → Lives s w e c → BeginsIn s w′ (cell c)
+  pub head : (c : ℕ) → Lives s w e c → headIn w′ (cell c) ≡ headIn w c
+  pub stayed : (c : ℕ) → Outside s w e c → Stayed s w cell w′ c
+  pub went : (c : ℕ) → Survivor s w e c → ownerIn s w′ (pageOf (cell c)) ≡ e .goes c
+  pub apart : (b c : ℕ) → Lives s w e b → Lives s w e c → cell b ≡ cell c → b ≡ c
 
 -- a page that ends has no owner afterwards
 abbrev pub Vacated : Sizes → Part → Words → Type 0
@@ -37,12 +44,9 @@ pub record Evacuated (s : Sizes) (w : Words) (e : Part) (w′ : Words) (cell : �
   pub entries : getD (w′ .remember) 0 0 ≡ getD (w .remember) 0 0
   -- variables lead to the cells of what they named; they are counted through all threads
   pub variables : (i : ℕ) → i < varCount s → varOf s (w′ .tables) i ≡ renamed cell (varOf s (w .tables) i)
-  -- the objects that live on have cells, no two of them one, and there is no other; a survivor's is on a page of its target
-  pub used : (c : ℕ) → Lives s w e c → BeginsIn s w′ (cell c)
+  -- the objects that live on are in their cells, and there is no other
+  pub placement : Placement s w e w′ cell
   pub object : (c : ℕ) → Lives s w e c → SameObject w cell w′ c
-  pub stayed : (c : ℕ) → Outside s w e c → Stayed s w cell w′ c
-  pub went : (c : ℕ) → Survivor s w e c → ownerIn s w′ (pageOf (cell c)) ≡ e .goes c
-  pub apart : (b c : ℕ) → Lives s w e b → Lives s w e c → cell b ≡ cell c → b ≡ c
   pub only : (d : ℕ) → BeginsIn s w′ d → (c : ℕ) × Lives s w e c × (cell c ≡ d)
   -- pages, counts, marks and the remember table are whole (01, "Tables are whole")
   pub regular : Regular s (w′ .tables)

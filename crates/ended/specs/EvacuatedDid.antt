@@ -96,7 +96,7 @@ module _ (s : Sizes) (w : Words) (whole : WholeFor s w) (t k : ℕ) (th : t < s 
 
   -- an object whose home does not change lay outside r, since none lies in r afterwards
   keeps-cell : (x : ℕ) → Alive (graph H) x → graph H′ .home x ≡ graph H .home x → cell x ≡ x
-  keeps-cell x a q = e .stayed x (record { used = u; out = λ z. gone (used-home s w whole x u ∙ z) }) .same
+  keeps-cell x a q = e .placement .stayed x (record { used = u; out = λ z. gone (used-home s w whole x u ∙ z) }) .same
     where
       u : BeginsIn s w x
       u = alive-used s w whole x (λ z. a (home-at s w whole x ∙ z))

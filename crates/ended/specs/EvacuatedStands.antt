@@ -35,14 +35,14 @@ module _ {s : Sizes} {w : Words} {e : Part} {w′ : Words} {cell : ℕ → ℕ} 
       ext-getD 0 (fieldsIn d w′ (cell c)) (map g (fieldsIn d w c)) (long′ ∙ sym (length-map (fieldsIn d w c) g ∙ length-fields s w whole d c (a .used)))
       (λ i l.
       let m : i < fieldCount d (headIn w c) = omega (arith, long′) in
-      getD-fields d w′ (cell c) i (omega (arith, same)) ∙ ap (λ (n : ℕ). fieldOf (w′ .cells) (cell c) (firstField d n + i)) (v .object c a .head) ∙ became i m
+      getD-fields d w′ (cell c) i (omega (arith, same)) ∙ ap (λ (n : ℕ). fieldOf (w′ .cells) (cell c) (firstField d n + i)) (v .placement .head c a) ∙ became i m
       ∙ ap g (sym (getD-fields d w c i m)) ∙ sym (ap (getD (map g (fieldsIn d w c)) i) (sym z) ∙ List·getD-map g (fieldsIn d w c) i 0))
     where
       same : fieldCount d (headIn w′ (cell c)) ≡ fieldCount d (headIn w c)
-      same = ap (fieldCount d) (v .object c a .head)
+      same = ap (fieldCount d) (v .placement .head c a)
 
       long′ : length (fieldsIn d w′ (cell c)) ≡ fieldCount d (headIn w c)
-      long′ = length-fields s w′ whole′ d (cell c) (v .used c a) ∙ same
+      long′ = length-fields s w′ whole′ d (cell c) (v .placement .used c a) ∙ same
 
   refs-after : (c : ℕ) → Lives s w e c → refsIn w′ (cell c) ≡ map (renamed cell) (refsIn w c)
   refs-after c a =
@@ -68,15 +68,15 @@ module _ {s : Sizes} {w : Words} {e : Part} {w′ : Words} {cell : ℕ → ℕ} 
   module _ {g : Graph} (a : GraphAfter s w e g) where
     owner-after : (c : ℕ) → Lives s w e c → ownerIn s w′ (pageOf (cell c)) ≡ g .home c
     owner-after c l =
-        ⊎-elim (λ o. ap (λ (x : ℕ). ownerIn s w′ (pageOf x)) (v .stayed c o .same) ∙ v .stayed c o .owner ∙ sym (a .outside c o))
-        (λ x. v .went c x ∙ sym (a .survivor c x)) (lives-how l)
+        ⊎-elim (λ o. ap (λ (x : ℕ). ownerIn s w′ (pageOf x)) (v .placement .stayed c o .same) ∙ v .placement .stayed c o .owner ∙ sym (a .outside c o))
+        (λ x. v .placement .went c x ∙ sym (a .survivor c x)) (lives-how l)
 
     -- the graph of the words afterwards is the graph after the end
     pub evacuated-partners : Partners cell g (graphOf s w′)
     evacuated-partners =
         record {
-          home = λ c l. let o = a .lives c l in used-home s w′ whole′ (cell c) (v .used c o) ∙ owner-after c o;
-          apart = λ b c l m. v .apart b c (a .lives b l) (a .lives c m);
+          home = λ c l. let o = a .lives c l in used-home s w′ whole′ (cell c) (v .placement .used c o) ∙ owner-after c o;
+          apart = λ b c l m. v .placement .apart b c (a .lives b l) (a .lives c m);
           onto = λ c l. let o = v .only c (alive-used s w′ whole′ c l) in (o .0, lives-there whole a (o .0) (o .1), o .2);
           refs = λ c l. refs-after c (a .lives c l) ∙ ap (map (renamed cell)) (sym (a .refs c));
           vars = vars-after ∙ ap (map (renamed cell)) (sym (a .vars));

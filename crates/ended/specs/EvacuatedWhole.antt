@@ -34,9 +34,9 @@ module _ {s : Sizes} {w : Words} {e : Part} {w′ : Words} {cell : ℕ → ℕ} 
 
   references-in : (b : ℕ) → Lives s w e b → (f : ℕ) → f < refsOf (w′ .cells) (cell b) → IsRef s (w′ .cells) (w′ .tables) (fieldOf (w′ .cells) (cell b) f)
   references-in b l f m =
-      let m′ : f < refCount w b = subst (λ (n : ℕ). f < fieldCount Reference n) (v .object b l .head) m in
+      let m′ : f < refCount w b = subst (λ (n : ℕ). f < fieldCount Reference n) (v .placement .head b l) m in
       subst (IsRef s (w′ .cells) (w′ .tables)) (sym (v .object b l .references f m′))
-      (ref-alive s w′ cell (fieldOf (w .cells) b f) (λ y q. v .used y (keeps .references b f y l m′ q)))
+      (ref-alive s w′ cell (fieldOf (w .cells) b f) (λ y q. v .placement .used y (keeps .references b f y l m′ q)))
 
   -- an object's cell has the form of its old one
   object-in : (b : ℕ) → Lives s w e b → ObjectWhole s (w′ .cells) (w′ .tables) (cell b)
@@ -44,10 +44,10 @@ module _ {s : Sizes} {w : Words} {e : Part} {w′ : Words} {cell : ℕ → ℕ} 
       let o = v .object b l in
       let f = whole .objects b (l .used) in
       record {
-        head = subst Formed (sym (o .head)) (f .head);
+        head = subst Formed (sym (v .placement .head b l)) (f .head);
         rest = λ i h m.
-            let h′ : i < roomFor (headOf (w .cells) b) = subst (λ (n : ℕ). i < roomFor n) (o .head) h in
-            let m′ : allFields (headOf (w .cells) b) ≤ i = subst (λ (n : ℕ). allFields n ≤ i) (o .head) m in
+            let h′ : i < roomFor (headOf (w .cells) b) = subst (λ (n : ℕ). i < roomFor n) (v .placement .head b l) h in
+            let m′ : allFields (headOf (w .cells) b) ≤ i = subst (λ (n : ℕ). allFields n ≤ i) (v .placement .head b l) m in
             o .others i (omega (arith, kind-among Reference (headOf (w .cells) b))) h′ ∙ f .rest i h′ m′;
         references = references-in b l;
       }
@@ -61,7 +61,7 @@ module _ {s : Sizes} {w : Words} {e : Part} {w′ : Words} {cell : ℕ → ℕ} 
         partial = v .regular .partial;
         counts = v .regular .counts;
         variables = λ i l. subst (IsRef s (w′ .cells) (w′ .tables)) (sym (v .variables i l))
-            (ref-alive s w′ cell (varOf s (w .tables) i) (λ y q. v .used y (keeps .variables i y l q)));
+            (ref-alive s w′ cell (varOf s (w .tables) i) (λ y q. v .placement .used y (keeps .variables i y l q)));
         objects = λ c u. let b = v .only c u in subst (ObjectWhole s (w′ .cells) (w′ .tables)) (b .2) (object-in (b .0) (b .1));
         marks = v .marks;
         works = λ c u. let b = v .only c u in ap (workOf (w′ .cells)) (sym (b .2)) ∙ v .object (b .0) (b .1) .working;

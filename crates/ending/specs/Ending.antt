@@ -25,7 +25,7 @@ use Rattle.ended.specs.EvacuatedDid.{Lowered, ended-did}
 use Rattle.ended.specs.EndQuestion.{pagesNeeded, crossingAfter}
 use Rattle.ended.specs.AfterEnd.{endOf}
 use Rattle.ending.specs.MarkedWords.{depth-same}
-use Rattle.ending.specs.Placing.{placed}
+use Rattle.ending.specs.Copied.{placed}
 use Rattle.ending.specs.Region.{Held}
 use Rattle.ending.specs.Finish.{evacuated, vacated}
 use Rattle.ending.specs.Stages.{Begun, plan, rewritten, entries-told, gave-back, lowered}

@@ -1,18 +1,18 @@
--- One account of an end, stage by stage. Of any part:
+-- One account of an end, stage by stage. Of any part, by whichever way its survivors get to their cells:
 -- what marking leaves
 pub mod MarkedWords
-pub mod MarkedReady
--- copying: the cell of each object afterwards
+-- the cell of each object afterwards, the slots that cross then, and the remember table that names them
 pub mod Placing
--- references and the remember table go by these cells
-pub mod Rewriting
 pub mod Crossing
 pub mod Remembering
 pub mod CrossingPositions
 pub mod Space
--- the words after the end
+-- Where survivors are copied: marked words are ready for it, the copies' cells, references that go by them, the words after the release
+pub mod MarkedReady
+pub mod Copied
+pub mod Rewriting
 pub mod Finish
--- of the innermost region of a thread: what the census asks, its remembered slots, and its stages
+-- Of the innermost region of a thread: what the census asks, its remembered slots, and its stages
 pub mod PagesEnough
 pub mod CensusCounts
 pub mod Region

@@ -23,7 +23,7 @@ use Rattle.ending.specs.MarkedWords.{outside-work, var-same}
 use Rattle.ending.specs.Rewriting.{copy-survivor}
 use Rattle.ending.specs.Crossing.{entry-says}
 use Rattle.ending.specs.Region.{Held}
-use Rattle.ending.specs.Stages.{Begun, sends, moved, settle-ask}
+use Rattle.ending.specs.Stages.{Begun, keeps, moved, settle-ask}
 
 module _ {s : Sizes} {t k r : ℕ} {w w₁ : Words} (b : Begun s t k r w w₁) (off : (page : ℕ) → page < s .pages → markOf s (w₁ .tables) page ≡ 0) where
   unset : (c : ℕ) → pageOf c < s .pages → marked s (w₁ .tables) c ≡ 1 → ⊥
@@ -48,7 +48,7 @@ module _ {s : Sizes} {t k r : ℕ} {w w₁ : Words} (b : Begun s t k r w w₁) (
       let y = entry-says (b .whole) (q .entry) (q .low) in
       let within = sym (y .region) ∙ q .region in
       let v =
-      sends b .keeps .references (y .object) (y .field) (y .names) (record { used = y .used; goes = λ z. absurd (y .other (within ∙ sym z)) }) (y .low) (y .value) in
+      keeps b .references (y .object) (y .field) (y .names) (record { used = y .used; goes = λ z. absurd (y .other (within ∙ sym z)) }) (y .low) (y .value) in
       no-survivor (y .names) (record { used = v .used; within = within; goes = v .goes within })
 
   module _ (p : Plan s (suc k) (regionAt s t) (w₁ .cells) (w₁ .tables)) where
@@ -72,4 +72,4 @@ module _ {s : Sizes} {t k r : ℕ} {w w₁ : Words} (b : Begun s t k r w w₁) (
           let y : cellNamed (suc d) ≡ d = omega arith in
           sym (forward-still (w₁ .cells) (suc d)
           (ap (workOf (w₁ .cells)) y
-          ∙ ⊎-elim (outside-work (b .marks) (b .whole) d) (λ v. absurd (no-survivor d v)) (lives-how (sends b .keeps .variables i d l (sym (var-same (b .marks) (b .room) i l) ∙ z)))))
+          ∙ ⊎-elim (outside-work (b .marks) (b .whole) d) (λ v. absurd (no-survivor d v)) (lives-how (keeps b .variables i d l (sym (var-same (b .marks) (b .room) i l) ∙ z)))))

@@ -1,202 +1,97 @@
--- After the copy each object that lives on has a cell: the one that it had outside the part, a survivor its copy. It is read off word 1.
-use mathlib.Core.Path.{_≡_, refl, sym, ap, subst, _∙_}
-use mathlib.Core.Logic.{_≢_, _⊎_, inl, inr, ⊎-elim}
-use mathlib.Core.List.{List}
-use Prim.Native.Nat.{ℕ, zero, suc, _+_, _<_}
-use native.Mathlib.Decide.{ℕ-discrete}
+-- Where an end puts the objects that live on, and their references there, by whichever way they get there.
+use mathlib.Core.Path.{_≡_, sym, ap, _∙_}
+use Prim.Native.Nat.{ℕ, suc, _<_}
 use native.Mathlib.Omega.{arith}
-use lib.ListN.{length, getD}
 use Rattle.rules.specs.declared.Sizes.{Sizes}
-use Rattle.laws.specs.SameRules.{renamed}
-use Rattle.layout.specs.Places.{Room, ownerOf, markOf}
-use Rattle.layout.specs.Cells.{headAt, fieldAt, wordAt, headOf, workOf, fieldOf, cellNamed, refTo, pageOf, cellOn, mostFields, cellWords, most-is, page-on}
-use Rattle.layout.specs.Marks.{marked}
-use Rattle.layout.specs.Objects.{begins-page, begins-used, begins-there}
-use Rattle.layout.specs.Words.{Words, Begins, BeginsIn, ownerIn, headIn, refCount}
+use Rattle.layout.specs.Places.{cellsWords}
+use Rattle.layout.specs.Cells.{fieldAt, fieldOf, fieldCount, roomFor, pageOf, pageAt}
+use Rattle.layout.specs.declared.Kind.the-variants.{Reference}
+use Rattle.layout.specs.Objects.{Slot, begins-page, slot-page, slot-low}
+use Rattle.layout.specs.Words.{Words, ownerIn, refCount}
 use Rattle.promises.specs.Whole.{WholeFor}
-use Rattle.promises.specs.Reading.{refs-few}
-use Rattle.promises.specs.Ends.{Part, Outside, Survivor, Lives, outside-lives, survivor-lives, lives-how}
-use Rattle.mark.specs.Marks.{kept-head, kept-field, kept-in-use, in-use-kept}
-use Rattle.mark.specs.Survivors.{Marked}
-use Rattle.copy.specs.Marks.{mark?}
-use Rattle.copy.specs.Passing.{Ready}
-use Rattle.copy.specs.Forward.{Forwards, Moved, forward}
-use Rattle.settle.specs.Rewrite.{forwarded, forward-null, forward-still, forward-moved}
+use Rattle.promises.specs.Reading.{ref-room}
+use Rattle.promises.specs.Ends.{Part, Outside, Lives, outside-lives}
 use Rattle.ended.specs.Living.{KeepsNamed}
-use Rattle.ending.specs.MarkedWords.{marked-survivor, outside-work, owner-same}
+use Rattle.ended.specs.Evacuated.{Placement}
 
--- What an end asks of its part: its pages have owners, its survivors go to regions that do not end, and what lives on keeps what it names.
-pub record Sends (s : Sizes) (w : Words) (e : Part) : Type 0 where
-  pub owned : (page : ℕ) → page < s .pages → e .ends page → 0 < ownerIn s w page
-  pub away : (c page : ℕ) → Survivor s w e c → page < s .pages → e .ends page → ownerIn s w page ≢ e .goes c
-  pub keeps : KeepsNamed s w e
-
--- w is whole, the survivors of its part e are marked in w₁, and have been copied in W and T
-pub record HasMoved (s : Sizes) (w w₁ : Words) (e : Part) (W T : List ℕ) : Type 0 where
+-- w is whole, what lives on keeps what it names, and in w′ each object that lives on is in its cell
+pub record Placing (s : Sizes) (w : Words) (e : Part) (w′ : Words) (cell : ℕ → ℕ) : Type 0 where
   pub whole : WholeFor s w
-  pub room : Room s (length (w .tables))
-  pub sends : Sends s w e
-  pub marks : Marked s w e w₁
-  pub forwards : Forwards s (w₁ .cells) (w₁ .tables) W T
-  pub ready : Ready s W T
-  pub clean : (page : ℕ) → page < s .pages → markOf s (w₁ .tables) page ≡ 0 → markOf s T page ≡ 0
+  pub keeps : KeepsNamed s w e
+  pub placement : Placement s w e w′ cell
 
--- ---- the cell of an object, by word 1
+-- the word at x is field f of an object outside the part, a reference
+pub record OutsideSlot (s : Sizes) (w : Words) (e : Part) (x : ℕ) : Type 0 where
+  pub object : ℕ
+  pub field : ℕ
+  pub outside : Outside s w e object
+  pub low : field < refCount w object
+  pub at : x ≡ fieldAt object field
 
-unfoldable pub placed : List ℕ → ℕ → ℕ
-placed W c = cellNamed (forwarded W (refTo c))
+-- S holds of the slots of objects outside the part that name objects of it, and of slots of objects outside it alone
+pub record HoldingSlots (s : Sizes) (w : Words) (e : Part) (S : ℕ → Type 0) : Type 0 where
+  pub slot : (x : ℕ) → S x → OutsideSlot s w e x
+  pub every : (c f d : ℕ) → Outside s w e c → f < refCount w c → fieldOf (w .cells) c f ≡ suc d → e .ends (pageOf d) → S (fieldAt c f)
 
-pub placed-still : (W : List ℕ) (c : ℕ) → workOf W c ≡ 0 → placed W c ≡ c
-unfolding placed
-placed-still W c e =
-    let z : cellNamed (refTo c) ≡ c = omega arith in
-    ap cellNamed (forward-still W (refTo c) (ap (workOf W) z ∙ e)) ∙ z
+-- the word at x is a reference of an object that lives on, in its cell
+pub record LiveSlot (s : Sizes) (w : Words) (e : Part) (cell : ℕ → ℕ) (x : ℕ) : Type 0 where
+  pub object : ℕ
+  pub field : ℕ
+  pub lives : Lives s w e object
+  pub low : field < refCount w object
+  pub at : x ≡ fieldAt (cell object) field
 
-pub placed-moved : (W : List ℕ) (c d : ℕ) → workOf W c ≡ suc d → placed W c ≡ d
-unfolding placed
-placed-moved W c d e =
-    let z : cellNamed (refTo c) ≡ c = omega arith in
-    let v : workOf W (cellNamed (refTo c)) ≡ suc d = ap (workOf W) z ∙ e in
-    ap cellNamed (forward-moved W (refTo c) (λ y. omega arith) (λ y. omega arith) ∙ v) ∙ omega arith
+module _ {s : Sizes} {w : Words} {e : Part} {w′ : Words} {cell : ℕ → ℕ} (h : Placing s w e w′ cell) where
+  pub placed-page : (c : ℕ) → Lives s w e c → pageOf (cell c) < s .pages
+  placed-page c l = begins-page s (w′ .cells) (w′ .tables) (cell c) (h .placement .used c l)
 
--- a reference is forwarded to the cell of what it names
-pub forwarded-placed : (W : List ℕ) (x : ℕ) → forwarded W x ≡ renamed (placed W) x
-unfolding placed
-forwarded-placed W zero = forward-null W zero refl
-forwarded-placed W (suc c) = go (ℕ-discrete (workOf W c) 0)
-  where
-    z : refTo c ≡ suc c
-    z = omega arith
+  pub outside-placed : (c : ℕ) → Outside s w e c → cell c ≡ c
+  outside-placed c o = h .placement .stayed c o .same
 
-    v : workOf W (cellNamed (suc c)) ≡ workOf W c
-    v = ap (workOf W) (let y : cellNamed (suc c) ≡ c = omega arith in y)
+  -- the region of one that stays
+  pub outside-home : (c : ℕ) → Outside s w e c → ownerIn s w′ (pageOf (cell c)) ≡ ownerIn s w (pageOf c)
+  outside-home c o = ap (λ (d : ℕ). ownerIn s w′ (pageOf d)) (outside-placed c o) ∙ h .placement .stayed c o .owner
 
-    go : Dec (workOf W c ≡ 0) → forwarded W (suc c) ≡ suc (cellNamed (forwarded W (refTo c)))
-    go (yes e) = let f = forward-still W (suc c) (v ∙ e) in omega (arith, f, ap (forwarded W) z)
-    go (no n) = let f = forward-moved W (suc c) (λ y. omega arith) (λ y. n (sym v ∙ y)) in omega (arith, f, v, ap (forwarded W) z)
+  -- ---- the slots
 
--- ---- after the copy
+  abbrev pub outside-live : (x : ℕ) → OutsideSlot s w e x → LiveSlot s w e cell x
+  outside-live x q =
+      record {
+        object = q .object;
+        field = q .field;
+        lives = outside-lives (q .outside);
+        low = q .low;
+        at = q .at ∙ ap (λ (d : ℕ). fieldAt d (q .field)) (sym (outside-placed (q .object) (q .outside)));
+      }
 
-module _ {s : Sizes} {w w₁ : Words} {e : Part} {W T : List ℕ} (h : HasMoved s w w₁ e W T) where
-  -- ---- the objects of before
+  abbrev pub live-outside : (x : ℕ) (q : LiveSlot s w e cell x) → Outside s w e (q .object) → OutsideSlot s w e x
+  live-outside x q o =
+      record {
+        object = q .object;
+        field = q .field;
+        outside = o;
+        low = q .low;
+        at = q .at ∙ ap (λ (d : ℕ). fieldAt d (q .field)) (outside-placed (q .object) o);
+      }
 
-  pub page-of : (c : ℕ) → BeginsIn s w c → pageOf c < s .pages
-  page-of = begins-page s (w .cells) (w .tables)
+  pub refs-placed : (c : ℕ) → Lives s w e c → refCount w′ (cell c) ≡ refCount w c
+  refs-placed c l = ap (fieldCount Reference) (h .placement .head c l)
 
-  now : (c : ℕ) → BeginsIn s w c → BeginsIn s w₁ c
-  now = kept-in-use (h .marks .kept) (h .room)
+  -- they are slots of w′
+  abbrev pub live-slot : (x : ℕ) → LiveSlot s w e cell x → Slot s (w′ .cells) (w′ .tables) x
+  live-slot x q =
+      let c : ℕ = q .object in
+      record {
+        object = cell c;
+        field = q .field;
+        begins = h .placement .used c (q .lives);
+        room = omega (arith, ref-room s w (h .whole) c (q .field) (q .lives .used) (q .low), ap roomFor (h .placement .head c (q .lives)));
+        low = omega (arith, q .low, refs-placed c (q .lives));
+        at = sym (q .at);
+      }
 
-  -- they are in their cells still, on pages of their owners
-  old-used : (c : ℕ) → BeginsIn s w c → Begins s W T c
-  old-used c u = h .forwards .copying .keeps c (now c u)
+  pub live-page : (x : ℕ) (q : LiveSlot s w e cell x) → pageAt x ≡ pageOf (cell (q .object))
+  live-page x q = slot-page s (w′ .cells) (w′ .tables) x (live-slot x q)
 
-  pub old-owner : (c : ℕ) → BeginsIn s w c → ownerOf s T (pageOf c) ≡ ownerIn s w (pageOf c)
-  old-owner c u = h .forwards .copying .owner c (now c u) ∙ owner-same (h .marks) (h .room) (pageOf c) (page-of c u)
-
-  -- so an ending page, which is in use, keeps its owner
-  pub page-kept : (page : ℕ) → page < s .pages → e .ends page → ownerOf s T page ≡ ownerIn s w page
-  page-kept page l z =
-      subst (λ (q : ℕ). ownerOf s T q ≡ ownerIn s w q) (page-on page 0 (omega arith))
-      (old-owner (cellOn page 0) (begins-there s (w .cells) (w .tables) page 0 l (omega arith) (h .whole .pages page l .filled .taken (h .sends .owned page l z))))
-
-  -- a reference of one is one of the most fields
-  pub few : (c f : ℕ) → BeginsIn s w c → f < refCount w c → f < mostFields
-  few c f u l = omega (arith, refs-few s w (h .whole) c u)
-
-  module _ (c : ℕ) (o : Outside s w e c) where
-    off : marked s (w₁ .tables) c ≡ 0
-    off = ⊎-elim (λ z. z) (λ on. absurd (o .out (h .marks .only c (page-of c (o .used)) on .1))) (mark? s (w₁ .tables) c)
-
-    pub outside-idle : workOf W c ≡ 0
-    outside-idle = h .forwards .copying .links c (now c (o .used)) off ∙ outside-work (h .marks) (h .whole) c o
-
-    pub outside-placed : placed W c ≡ c
-    outside-placed = placed-still W c outside-idle
-
-  module _ (c : ℕ) (v : Survivor s w e c) where
-    pub on : marked s (w₁ .tables) c ≡ 1
-    on = h .marks .survives c (v .used) (v .within) (v .goes)
-
-    pub copy : Moved s (w₁ .cells) (w₁ .tables) W T c (forward W c)
-    copy = h .forwards .moved c (page-of c (v .used)) on
-
-    pub survivor-forward : workOf W c ≡ suc (forward W c)
-    survivor-forward = omega (arith, copy .forward)
-
-    pub survivor-placed : placed W c ≡ forward W c
-    survivor-placed = placed-moved W c (forward W c) survivor-forward
-
-    pub survivor-fresh : BeginsIn s w (forward W c) → ⊥
-    survivor-fresh u = copy .new (begins-used s (w₁ .cells) (w₁ .tables) (forward W c) (now (forward W c) u))
-
-    pub survivor-owner : ownerOf s T (pageOf (forward W c)) ≡ e .goes c
-    survivor-owner = copy .home ∙ h .marks .goes c (v .used) (v .within)
-
-    -- its new page does not end, since an ending page keeps its owner
-    survivor-out : e .ends (pageOf (forward W c)) → ⊥
-    survivor-out z =
-        let l = begins-page s W T (forward W c) (copy .used) in
-        h .sends .away c (pageOf (forward W c)) v l z (sym (page-kept (pageOf (forward W c)) l z) ∙ survivor-owner)
-
-  -- ---- any object that lives on
-
-  by-kind : (X : ℕ → Type 0) (c : ℕ) → (Outside s w e c → X c) → (Survivor s w e c → X (forward W c)) → Lives s w e c → X (placed W c)
-  by-kind X c f g l = ⊎-elim (λ o. subst X (sym (outside-placed c o)) (f o)) (λ v. subst X (sym (survivor-placed c v)) (g v)) (lives-how l)
-
-  -- its region
-  pub outside-home : (c : ℕ) → Outside s w e c → ownerOf s T (pageOf (placed W c)) ≡ ownerIn s w (pageOf c)
-  outside-home c o = ap (λ (d : ℕ). ownerOf s T (pageOf d)) (outside-placed c o) ∙ old-owner c (o .used)
-
-  pub survivor-home : (c : ℕ) → Survivor s w e c → ownerOf s T (pageOf (placed W c)) ≡ e .goes c
-  survivor-home c v = ap (λ (d : ℕ). ownerOf s T (pageOf d)) (survivor-placed c v) ∙ survivor-owner c v
-
-  module _ (c : ℕ) (l : Lives s w e c) where
-    pub placed-used : Begins s W T (placed W c)
-    placed-used = by-kind (Begins s W T) c (λ o. old-used c (o .used)) (λ v. copy c v .used) l
-
-    pub placed-page : pageOf (placed W c) < s .pages
-    placed-page = begins-page s W T (placed W c) placed-used
-
-    pub placed-out : e .ends (pageOf (placed W c)) → ⊥
-    placed-out = by-kind (λ d. e .ends (pageOf d) → ⊥) c (λ o. o .out) (survivor-out c) l
-
-    -- the words of an old cell other than word 1 are as they were, and a copy has those of its survivor
-    word : (i : ℕ) → i < cellWords → i ≢ 1 → getD W (wordAt (placed W c) i) 0 ≡ getD (w₁ .cells) (wordAt c i) 0
-    word i m n =
-        by-kind (λ d. getD W (wordAt d i) 0 ≡ getD (w₁ .cells) (wordAt c i) 0) c (λ o. h .forwards .copying .words c i m (now c (o .used)) n)
-        (λ v. copy c v .body i m n) l
-
-    pub placed-head : headOf W (placed W c) ≡ headIn w c
-    placed-head =
-        let z : (d : ℕ) → headAt d ≡ wordAt d 0 = λ d. omega arith in
-        ap (λ (x : ℕ). getD W x 0) (z (placed W c)) ∙ word 0 (omega arith) (λ y. omega arith) ∙ ap (λ (x : ℕ). getD (w₁ .cells) x 0) (sym (z c)) ∙ kept-head (h .marks .kept) c
-
-    pub placed-field : (f : ℕ) → f < mostFields → fieldOf W (placed W c) f ≡ fieldOf (w .cells) c f
-    placed-field f m =
-        let z : (d : ℕ) → fieldAt d f ≡ wordAt d (2 + f) = λ d. omega arith in
-        ap (λ (x : ℕ). getD W x 0) (z (placed W c)) ∙ word (2 + f) (omega (arith, most-is)) (λ y. omega arith) ∙ ap (λ (x : ℕ). getD (w₁ .cells) x 0) (sym (z c))
-        ∙ kept-field (h .marks .kept) c f m
-
-    pub placed-work : workOf W (placed W c) ≡ 0
-    placed-work = by-kind (λ d. workOf W d ≡ 0) c (outside-idle c) (λ v. copy c v .clear) l
-
-  -- no two of them have one cell
-  pub placed-apart : (b c : ℕ) → Lives s w e b → Lives s w e c → placed W b ≡ placed W c → b ≡ c
-  placed-apart b c k l z = go (lives-how k) (lives-how l)
-    where
-      go : Outside s w e b ⊎ Survivor s w e b → Outside s w e c ⊎ Survivor s w e c → b ≡ c
-      go (inl o) (inl q) = sym (outside-placed b o) ∙ z ∙ outside-placed c q
-      go (inl o) (inr v) = absurd (survivor-fresh c v (subst (BeginsIn s w) (sym (outside-placed b o) ∙ z ∙ survivor-placed c v) (o .used)))
-      go (inr v) (inl o) = absurd (survivor-fresh b v (subst (BeginsIn s w) (sym (outside-placed c o) ∙ sym z ∙ survivor-placed b v) (o .used)))
-      go (inr v) (inr x) =
-          h .forwards .once b c (page-of b (v .used)) (on b v) (page-of c (x .used)) (on c x) (sym (survivor-placed b v) ∙ z ∙ survivor-placed c x)
-
-  -- an object off the ending pages is one of them
-  pub placed-only : (d : ℕ) → Begins s W T d → (e .ends (pageOf d) → ⊥) → (c : ℕ) × Lives s w e c × (placed W c ≡ d)
-  placed-only d u n = ⊎-elim old new (h .forwards .only d u)
-    where
-      old : BeginsIn s w₁ d → (c : ℕ) × Lives s w e c × (placed W c ≡ d)
-      old q = let o : Outside s w e d = record { used = in-use-kept (h .marks .kept) (h .room) d q; out = n } in (d, outside-lives o, outside-placed d o)
-
-      new : (c : ℕ) × (pageOf c < s .pages) × (marked s (w₁ .tables) c ≡ 1) × (forward W c ≡ d) → (c : ℕ) × Lives s w e c × (placed W c ≡ d)
-      new q = let v = marked-survivor (h .marks) (q .0) (q .1) (q .2) in (q .0, survivor-lives v, survivor-placed (q .0) v ∙ q .3)
+  pub live-low : (x : ℕ) → LiveSlot s w e cell x → x < cellsWords s
+  live-low x q = slot-low s (w′ .cells) (w′ .tables) x (live-slot x q)

@@ -9,8 +9,8 @@ use lib.ListN.{getD}
 use Rattle.rules.specs.declared.Sizes.{Sizes}
 use Rattle.layout.specs.Places.{ownerOf, entriesUsed}
 use Rattle.layout.specs.Cells.{pageOf, pageAt, cellOn, page-on}
-use Rattle.layout.specs.Objects.{begins-there}
-use Rattle.layout.specs.Words.{Words, ownerIn}
+use Rattle.layout.specs.Objects.{begins-page, begins-there}
+use Rattle.layout.specs.Words.{Words, words, ownerIn}
 use Rattle.promises.specs.Whole.{WholeFor}
 use Rattle.promises.specs.Ends.{partOf, Lives, outside-lives, lives-how}
 use Rattle.settle.specs.RewriteSlots.{Remembered}
@@ -18,9 +18,10 @@ use Rattle.remember.specs.Staying.{newRegion, new-gone, new-stays, new-moved}
 use Rattle.remember.specs.Crossing.{crossesFrom}
 use Rattle.settle.specs.Rewrite.{forwarded}
 use Rattle.ended.specs.Living.{KeepsNamed}
-use Rattle.ending.specs.Placing.{HasMoved, placed, page-of, page-kept, outside-home, survivor-home, placed-only}
-use Rattle.ending.specs.Rewriting.{OutsideSlot, HoldingSlots, outside-live}
-use Rattle.ending.specs.Crossing.{entry-says, live-page}
+use Rattle.ending.specs.Placing.{OutsideSlot, HoldingSlots, outside-home, outside-live, live-page}
+use Rattle.ending.specs.Copied.{HasMoved, placed, placing, page-kept, placed-only}
+use Rattle.ending.specs.Rewriting.{cross-live}
+use Rattle.ending.specs.Crossing.{entry-says}
 use Rattle.ending.specs.Remembering.{OfRegions, remembered-holding, Renews}
 
 -- the remembered slots that point into r
@@ -43,8 +44,8 @@ module _ {s : Sizes} {w w₁ : Words} {r : ℕ} {W T : List ℕ} (pos : 0 < r) (
   -- no object that lives on lies in r
   home-out : (c : ℕ) → Lives s w (partOf s w r) c → ownerOf s T (pageOf (placed W c)) ≢ r
   home-out c l z =
-      ⊎-elim (λ o. o .out (sym (outside-home h c o) ∙ z))
-      (λ v. h .sends .away c (pageOf c) v (page-of h c (v .used)) (v .within) (v .within ∙ sym z ∙ survivor-home h c v)) (lives-how l)
+      ⊎-elim (λ o. o .out (sym (outside-home (placing h) c o) ∙ z))
+      (λ v. h .sends .away c (pageOf c) v (begins-page _ _ _ _ (v .used)) (v .within) (v .within ∙ sym z ∙ placing h .placement .went c v)) (lives-how l)
 
   -- so its pages afterwards are its pages
   pub page-was : (page : ℕ) → page < s .pages → ownerOf s T page ≡ r → ownerIn s w page ≡ r
@@ -61,13 +62,16 @@ module _ {s : Sizes} {w w₁ : Words} {r : ℕ} {W T : List ℕ} (pos : 0 < r) (
           absurd (home-out (o .0) (o .1) (ap (λ (d : ℕ). ownerOf s T (pageOf d)) (o .2) ∙ ap (ownerOf s T) here ∙ z))
 
   -- X reads at the slots outside r what the forward references lead to
-  pub renews : (X : List ℕ) → ((x : ℕ) → OutsideSlot s w (partOf s w r) x → getD X x 0 ≡ forwarded W (getD W x 0)) → Renews s w (partOf s w r) (λ g. g ≡ r) W T (newRegion s r X T)
+  pub renews : (X : List ℕ) → ((x : ℕ) → OutsideSlot s w (partOf s w r) x → getD X x 0 ≡ forwarded W (getD W x 0))
+      → Renews s w (partOf s w r) (λ g. g ≡ r) (words W (w .remember) T) (placed W) (newRegion s r X T)
   renews X reads =
       record {
         gone = λ x g l z. new-gone s r X T x g (page-kept h (pageAt x) l z ∙ z);
         stays = λ x g q m. new-stays s r X T x g (out x q) m;
-        moves = λ x g q m. ap (λ (y : ℕ). crossesFrom s T (ownerOf s T (pageAt x)) y) (sym (reads x q)) ∙ new-moved s r X T x g (out x q) m;
+        moves = λ x g q m.
+            sym (cross-live h x (outside-live (placing h) x q)) ∙ ap (λ (y : ℕ). crossesFrom s T (ownerOf s T (pageAt x)) y) (sym (reads x q))
+            ∙ new-moved s r X T x g (out x q) m;
       }
     where
       out : (x : ℕ) → OutsideSlot s w (partOf s w r) x → ownerOf s T (pageAt x) ≢ r
-      out x q z = home-out (q .object) (outside-lives (q .outside)) (ap (ownerOf s T) (sym (live-page h x (outside-live h x q))) ∙ z)
+      out x q z = home-out (q .object) (outside-lives (q .outside)) (ap (ownerOf s T) (sym (live-page (placing h) x (outside-live (placing h) x q))) ∙ z)

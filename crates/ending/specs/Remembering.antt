@@ -1,27 +1,21 @@
 -- The remember table through the end of a part that is made of regions: the slots that it names with one of them are the holding slots, and
--- the entries that stay and those of the copies are the slots that cross afterwards, with their regions.
+-- the entries that stay are those of the objects outside it.
 use mathlib.Core.Path.{_≡_, sym, ap, ap₂, subst, _∙_}
-use mathlib.Core.Logic.{_≢_, _⊎_, inl, inr, ⊎-elim}
-use mathlib.Core.List.{List}
+use mathlib.Core.Logic.{_≢_, _⊎_, inl, inr}
 use Prim.Native.Nat.{ℕ, suc, _<_}
 use native.Mathlib.Omega.{arith}
 use Rattle.rules.specs.declared.Sizes.{Sizes}
-use Rattle.layout.specs.Places.{ownerOf, entriesUsed, slotIn, slotRegionIn}
+use Rattle.layout.specs.Places.{entriesUsed, slotIn, slotRegionIn}
 use Rattle.layout.specs.Cells.{fieldOf, pageOf, pageAt}
 use Rattle.layout.specs.Objects.{begins-page, field-on}
 use Rattle.layout.specs.Words.{Words, ownerIn}
 use Rattle.remember.specs.Filtered.{Stays}
-use Rattle.remember.specs.Crossing.{crossesFrom}
 use Rattle.promises.specs.Whole.{WholeFor}
 use Rattle.promises.specs.Reading.{ref-room}
 use Rattle.promises.specs.Ends.{Part, Outside, Survivor, Lives, outside-lives, lives-how}
-use Rattle.settle.specs.Append.{crossAt, crossLater, Crossing}
-use Rattle.settle.specs.Update.{Copies}
-use Rattle.settle.specs.RewriteCopies.{slot-now, slot-then}
 use Rattle.ended.specs.Living.{KeepsNamed}
-use Rattle.ending.specs.Placing.{HasMoved, placed, page-of, outside-home}
-use Rattle.ending.specs.Rewriting.{OutsideSlot, HoldingSlots, LiveSlot, outside-live, live-outside, copies-live, survivor-copy, HasRewritten, live-after}
-use Rattle.ending.specs.Crossing.{entry-of, EntrySays, entry-says, Told, crosses-names, names-cross}
+use Rattle.ending.specs.Placing.{Placing, OutsideSlot, HoldingSlots, LiveSlot, outside-home, outside-live, live-outside}
+use Rattle.ending.specs.Crossing.{entry-of, EntrySays, entry-says, crossThen, Told, crosses-names, names-cross}
 
 -- the pages of the part are those of the regions of G, none of which is the control space
 pub record OfRegions (s : Sizes) (w : Words) (e : Part) (G : ℕ → Type 0) : Type 0 where
@@ -56,16 +50,16 @@ remembered-holding {s} {w} {e} {G} {S} whole keeps o from to =
     }
 
 -- `anew` gives the region that the entry of slot x with region g has afterwards, 0 if it goes
-pub record Renews (s : Sizes) (w : Words) (e : Part) (G : ℕ → Type 0) (W T : List ℕ) (anew : ℕ → ℕ → ℕ) : Type 0 where
+pub record Renews (s : Sizes) (w : Words) (e : Part) (G : ℕ → Type 0) (w′ : Words) (cell : ℕ → ℕ) (anew : ℕ → ℕ → ℕ) : Type 0 where
   pub gone : (x g : ℕ) → pageAt x < s .pages → e .ends (pageAt x) → 0 ≡ anew x g
   pub stays : (x g : ℕ) → OutsideSlot s w e x → (G g → ⊥) → g ≡ anew x g
-  pub moves : (x g : ℕ) → OutsideSlot s w e x → G g → crossLater s W T x ≡ anew x g
+  pub moves : (x g : ℕ) (q : OutsideSlot s w e x) → G g → crossThen s w w′ cell (q .object) (q .field) ≡ anew x g
 
-module _ {s : Sizes} {w w₁ : Words} {e : Part} {W T : List ℕ} (h : HasMoved s w w₁ e W T)
-    {G : ℕ → Type 0} (o : OfRegions s w e G) {anew : ℕ → ℕ → ℕ} (a : Renews s w e G W T anew) where
-  -- an entry that stays
-  pub stays-live : (x g : ℕ) → Stays anew (s .entries) (w .remember) (entriesUsed (w .remember)) x g → LiveSlot s w e W x × (g ≡ crossLater s W T x)
-  stays-live x g q = subst (λ (y : ℕ). LiveSlot s w e W y × (g ≡ crossLater s W T y)) (q .slot) (here (o .test region))
+-- then the entries that stay are those of the objects outside the part
+module _ {s : Sizes} {w : Words} {e : Part} {w′ : Words} {cell : ℕ → ℕ} (h : Placing s w e w′ cell)
+    {G : ℕ → Type 0} (o : OfRegions s w e G) {anew : ℕ → ℕ → ℕ} (a : Renews s w e G w′ cell anew) where
+  stays-live : (x g : ℕ) → Stays anew (s .entries) (w .remember) (entriesUsed (w .remember)) x g → (q : LiveSlot s w e cell x) × (g ≡ crossThen s w w′ cell (q .object) (q .field))
+  stays-live x g q = subst (λ (y : ℕ). (q : LiveSlot s w e cell y) × (g ≡ crossThen s w w′ cell (q .object) (q .field))) (q .slot) (outside-live h slot found, q .region ∙ sym (here (o .test region)))
     where
       slot : ℕ
       slot = slotIn (w .remember) (q .entry)
@@ -77,70 +71,50 @@ module _ {s : Sizes} {w w₁ : Words} {e : Part} {W T : List ℕ} (h : HasMoved 
       y = entry-says (h .whole) (q .entry) (q .low)
 
       page : pageAt (slotIn (w .remember) (q .entry)) < s .pages
-      page = subst (λ (p : ℕ). p < s .pages) (sym (y .page)) (page-of h (y .object) (y .used))
-
-      out : e .ends (pageAt (slotIn (w .remember) (q .entry))) → ⊥
-      out z = q .kept (q .region ∙ sym (a .gone slot region page z))
+      page = subst (λ (p : ℕ). p < s .pages) (sym (y .page)) (begins-page _ _ _ _ (y .used))
 
       outside : Outside s w e (y .object)
-      outside = record { used = y .used; out = λ z. out (subst (e .ends) (sym (y .page)) z) }
+      outside = record { used = y .used; out = λ z. q .kept (q .region ∙ sym (a .gone slot region page (subst (e .ends) (sym (y .page)) z))) }
 
       found : OutsideSlot s w e (slotIn (w .remember) (q .entry))
       found = record { object = y .object; field = y .field; outside = outside; low = y .low; at = y .at }
 
-      live : LiveSlot s w e W (slotIn (w .remember) (q .entry))
-      live = outside-live h slot found
-
-      here : Dec (G (slotRegionIn (s .entries) (w .remember) (q .entry))) → LiveSlot s w e W (slotIn (w .remember) (q .entry)) × (g ≡ crossLater s W T (slotIn (w .remember) (q .entry)))
-      here (yes z) = (live, q .region ∙ sym (a .moves slot region found z))
+      here : Dec (G (slotRegionIn (s .entries) (w .remember) (q .entry))) → crossThen s w w′ cell (y .object) (y .field) ≡ anew (slotIn (w .remember) (q .entry)) (slotRegionIn (s .entries) (w .remember) (q .entry))
+      here (yes z) = a .moves slot region found z
       here (no n) =
-          let u = h .sends .keeps .references (y .object) (y .field) (y .names) (outside-lives outside) (y .low) (y .value) .used in
-          let hd = outside-home h (y .names) (record { used = u; out = λ z. n (subst G (sym (y .region)) (o .owner (pageOf (y .names)) (page-of h (y .names) u) z)) }) in
-          let z = names-cross h slot live (y .names) (y .value) (omega (arith, y .high, hd)) (λ v. y .other (sym hd ∙ v ∙ outside-home h (y .object) outside)) in
-          (live, q .region ∙ sym (a .stays slot region found n) ∙ y .region ∙ sym hd ∙ sym z)
+          let u = h .keeps .references (y .object) (y .field) (y .names) (outside-lives outside) (y .low) (y .value) .used in
+          let hd = outside-home h (y .names) (record { used = u; out = λ z. n (subst G (sym (y .region)) (o .owner (pageOf (y .names)) (begins-page _ _ _ _ u) z)) }) in
+          names-cross h (y .object) (y .field) (outside-lives outside) (y .low) (y .names) (y .value) (omega (arith, y .high, hd)) (λ v. y .other (sym hd ∙ v ∙ outside-home h (y .object) outside))
+          ∙ hd ∙ sym (y .region) ∙ a .stays slot region found n
 
-  -- a slot of an object outside the part has one if it will cross
-  pub stay : (x : ℕ) (q : LiveSlot s w e W x) → crossLater s W T x ≢ 0 → Outside s w e (q .object) → Stays anew (s .entries) (w .remember) (entriesUsed (w .remember)) x (crossLater s W T x)
-  stay x q n u = go (lives-how (m .1))
+  stay : (x : ℕ) (q : LiveSlot s w e cell x) → Outside s w e (q .object) → crossThen s w w′ cell (q .object) (q .field) ≢ 0
+      → Stays anew (s .entries) (w .remember) (entriesUsed (w .remember)) x (crossThen s w w′ cell (q .object) (q .field))
+  stay x q u n = go (lives-how (m .1))
     where
-      m : (d : ℕ) × Lives s w e d × (fieldOf (w .cells) (q .object) (q .field) ≡ suc d) × (crossLater s W T x ≡ ownerOf s T (pageOf (placed W d)))
-          × (1 < ownerOf s T (pageOf (placed W d))) × (ownerOf s T (pageOf (placed W d)) ≢ ownerOf s T (pageOf (placed W (q .object))))
-      m = crosses-names h x q n
+      m : (d : ℕ) × Lives s w e d × (fieldOf (w .cells) (q .object) (q .field) ≡ suc d) × (crossThen s w w′ cell (q .object) (q .field) ≡ ownerIn s w′ (pageOf (cell d)))
+          × (1 < ownerIn s w′ (pageOf (cell d))) × (ownerIn s w′ (pageOf (cell d)) ≢ ownerIn s w′ (pageOf (cell (q .object))))
+      m = crosses-names h (q .object) (q .field) (q .lives) (q .low) n
 
       low : pageOf (m .0) < s .pages
-      low = page-of h (m .0) (m .1 .used)
+      low = begins-page _ _ _ _ (m .1 .used)
 
       -- by its old entry
-      by : 1 < ownerIn s w (pageOf (m .0)) → ownerIn s w (pageOf (m .0)) ≢ ownerIn s w (pageOf (q .object)) → crossLater s W T x ≡ anew x (ownerIn s w (pageOf (m .0)))
-          → Stays anew (s .entries) (w .remember) (entriesUsed (w .remember)) x (crossLater s W T x)
+      by : 1 < ownerIn s w (pageOf (m .0)) → ownerIn s w (pageOf (m .0)) ≢ ownerIn s w (pageOf (q .object)) → crossThen s w w′ cell (q .object) (q .field) ≡ anew x (ownerIn s w (pageOf (m .0)))
+          → Stays anew (s .entries) (w .remember) (entriesUsed (w .remember)) x (crossThen s w w′ cell (q .object) (q .field))
       by up ne region =
           let y = entry-of (h .whole) (q .object) (q .field) (m .0) (u .used) (q .low) (m .2) low up ne in
           let at = y .2 ∙ sym (live-outside h x q u .at) in
           record { entry = y .0; low = y .1; slot = at; region = region ∙ ap₂ anew (sym at) (sym (y .3)); kept = n }
 
-      go : Outside s w e (m .0) ⊎ Survivor s w e (m .0) → Stays anew (s .entries) (w .remember) (entriesUsed (w .remember)) x (crossLater s W T x)
+      go : Outside s w e (m .0) ⊎ Survivor s w e (m .0) → Stays anew (s .entries) (w .remember) (entriesUsed (w .remember)) x (crossThen s w w′ cell (q .object) (q .field))
       go (inl v) =
           let hd = outside-home h (m .0) v in
           by (omega (arith, hd, m .4)) (λ z. m .5 (hd ∙ z ∙ sym (outside-home h (q .object) u)))
           (m .3 ∙ hd ∙ a .stays x (ownerIn s w (pageOf (m .0))) (live-outside h x q u) (λ z. v .out (o .ends (pageOf (m .0)) low z)))
       go (inr v) =
           let g = o .owner (pageOf (m .0)) low (v .within) in
-          by (o .high (ownerIn s w (pageOf (m .0))) g) (λ z. u .out (o .ends (pageOf (q .object)) (page-of h (q .object) (u .used)) (subst G z g)))
+          by (o .high (ownerIn s w (pageOf (m .0))) g) (λ z. u .out (o .ends (pageOf (q .object)) (begins-page _ _ _ _ (u .used)) (subst G z g)))
           (a .moves x (ownerIn s w (pageOf (m .0))) (live-outside h x q u) g)
 
--- a slot that lives on crosses, as it reads, into the region foreseen
-later : {s : Sizes} {w w₁ : Words} {e : Part} {W T : List ℕ} {S : ℕ → Type 0} {W′ : List ℕ} → HasRewritten s w w₁ e W T S W′ → (x : ℕ) → LiveSlot s w e W x → crossAt s W′ T x ≡ crossLater s W T x
-later {s} {T = T} k x q = ap (λ (y : ℕ). crossesFrom s T (ownerOf s T (pageAt x)) y) (live-after k x q)
-
--- the entries of the new table
-pub told : {s : Sizes} {w w₁ : Words} {e : Part} {W T : List ℕ} {S : ℕ → Type 0} {W′ : List ℕ} (k : HasRewritten s w w₁ e W T S W′) {G : ℕ → Type 0} → OfRegions s w e G → {anew : ℕ → ℕ → ℕ} → Renews s w e G W T anew
-    → Told s w e W T (λ x g. Stays anew (s .entries) (w .remember) (entriesUsed (w .remember)) x g ⊎ Crossing s (Copies s W′ T) W′ T x g)
-told {s} {w} {W = W} {T = T} k o a =
-    let h = k .moved in
-    record {
-      live = λ x g. ⊎-elim (stays-live h o a x g) (λ q. let l = copies-live h x (slot-then (k .cells) x (q .at)) in (l, q .region ∙ later k x l));
-      kept = λ x g. ⊎-elim (λ q. q .kept) (λ q. q .kept);
-      every = λ x q n.
-          ⊎-elim (λ u. inl (stay h o a x q n u)) (λ v. inr (record { at = slot-now (k .cells) x (survivor-copy h x q v); region = sym (later k x q); kept = n }))
-          (lives-how (q .lives));
-    }
+  pub stays-told : Told s w e w′ cell (Outside s w e) (Stays anew (s .entries) (w .remember) (entriesUsed (w .remember)))
+  stays-told = record { live = stays-live; kept = λ x g q. q .kept; every = stay }

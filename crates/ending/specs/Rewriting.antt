@@ -1,6 +1,6 @@
 -- After the rewriting of the holding slots and of the copies' own, every reference of an object that lives on leads to the cell of what it
 -- names; its other words are as they were.
-use mathlib.Core.Path.{_≡_, refl, sym, ap, subst, _∙_}
+use mathlib.Core.Path.{_≡_, refl, sym, ap, ap₂, subst, _∙_}
 use mathlib.Core.Logic.{_⊎_, inl, inr, ⊎-elim}
 use mathlib.Core.List.{List}
 use Prim.Native.Nat.{ℕ, zero, suc, _-_, _≤_, _<_}
@@ -9,76 +9,35 @@ use native.Mathlib.Omega.{arith}
 use lib.ListN.{getD}
 use Rattle.rules.specs.declared.Sizes.{Sizes}
 use Rattle.laws.specs.SameRules.{renamed}
-use Rattle.layout.specs.declared.Kind.the-variants.{Reference}
-use Rattle.layout.specs.Cells.{fieldAt, headOf, workOf, fieldOf, refsOf, fieldCount, pageOf, cellNamed, mostFields, field-apart, field-once}
-use Rattle.layout.specs.Words.{Words, BeginsIn, Names, headIn, refCount}
-use Rattle.promises.specs.Reading.{refs-few}
-use Rattle.promises.specs.Ends.{Part, Outside, Survivor, Lives, outside-lives, survivor-lives, lives-how}
+use Rattle.layout.specs.Places.{ownerOf}
+use Rattle.layout.specs.Cells.{fieldAt, headOf, workOf, fieldOf, refsOf, pageOf, pageAt, cellNamed, roomFor}
+use Rattle.layout.specs.Objects.{Covers, covers-field, begins-page, field-not-new, objects-apart}
+use Rattle.layout.specs.Words.{Words, words, BeginsIn, Names, headIn, refCount}
+use Rattle.remember.specs.Crossing.{crossesFrom}
+use Rattle.promises.specs.Reading.{refs-few, ref-room}
+use Rattle.promises.specs.Ends.{Part, Survivor, Lives, outside-lives, survivor-lives, lives-how}
+use Rattle.mark.specs.Marks.{kept-head}
 use Rattle.copy.specs.Marks.{copied}
+use Rattle.copy.specs.Forward.{forward}
 use Rattle.settle.specs.Rewrite.{forwarded, forward-null, forward-still, Rewritten, rewritten-join, link-same, heads-same}
 use Rattle.settle.specs.RewriteSlots.{Fields}
 use Rattle.settle.specs.RewriteCopies.{Wiring, wiring-now, OnPages, slot-now, slot-then}
+use Rattle.settle.specs.Append.{crossAt, crossLater, Crossing}
 use Rattle.settle.specs.Update.{Copies}
 use Rattle.ending.specs.MarkedWords.{marked-survivor}
-use Rattle.ending.specs.Placing.{HasMoved, placed, forwarded-placed, page-of, few, outside-idle, outside-placed, on, survivor-forward, survivor-placed, survivor-fresh, placed-page, placed-head, placed-field, placed-work, placed-apart}
-
--- fields of different objects stand apart
-pub fields-apart : (c d f g : ℕ) → f < mostFields → g < mostFields → fieldAt c f ≡ fieldAt d g → (c ≡ d) × (f ≡ g)
-fields-apart c d f g l m e = let z : c ≡ d = field-apart l m e in (z, field-once c f g (e ∙ ap (λ (x : ℕ). fieldAt x g) (sym z)))
-
--- the word at x is field f of an object outside the part, a reference
-pub record OutsideSlot (s : Sizes) (w : Words) (e : Part) (x : ℕ) : Type 0 where
-  pub object : ℕ
-  pub field : ℕ
-  pub outside : Outside s w e object
-  pub low : field < refCount w object
-  pub at : x ≡ fieldAt object field
-
--- S holds of the slots of objects outside the part that name objects of it, and of slots of objects outside it alone
-pub record HoldingSlots (s : Sizes) (w : Words) (e : Part) (S : ℕ → Type 0) : Type 0 where
-  pub slot : (x : ℕ) → S x → OutsideSlot s w e x
-  pub every : (c f d : ℕ) → Outside s w e c → f < refCount w c → fieldOf (w .cells) c f ≡ suc d → e .ends (pageOf d) → S (fieldAt c f)
-
--- the word at x is a reference of an object that lives on, in its cell
-pub record LiveSlot (s : Sizes) (w : Words) (e : Part) (W : List ℕ) (x : ℕ) : Type 0 where
-  pub object : ℕ
-  pub field : ℕ
-  pub lives : Lives s w e object
-  pub low : field < refCount w object
-  pub at : x ≡ fieldAt (placed W object) field
+use Rattle.ending.specs.Placing.{OutsideSlot, HoldingSlots, LiveSlot, placed-page, outside-live, live-outside, refs-placed, live-slot, live-page}
+use Rattle.ending.specs.Crossing.{crossThen, Told}
+use Rattle.ending.specs.Copied.{HasMoved, placed, placing, forwarded-placed, still-used, outside-idle, on, copy, survivor-forward, survivor-placed, placed-field, placed-work}
 
 module _ {s : Sizes} {w w₁ : Words} {e : Part} {W T : List ℕ} (h : HasMoved s w w₁ e W T) where
-  refs-placed : (c : ℕ) → Lives s w e c → refsOf W (placed W c) ≡ refCount w c
-  refs-placed c l = ap (fieldCount Reference) (placed-head h c l)
-
   copy-cell : (c : ℕ) → Survivor s w e c → workOf W c - 1 ≡ placed W c
   copy-cell c v = omega (arith, survivor-forward h c v, survivor-placed h c v)
-
-  abbrev pub outside-live : (x : ℕ) → OutsideSlot s w e x → LiveSlot s w e W x
-  outside-live x q =
-      record {
-        object = q .object;
-        field = q .field;
-        lives = outside-lives (q .outside);
-        low = q .low;
-        at = q .at ∙ ap (λ (d : ℕ). fieldAt d (q .field)) (sym (outside-placed h (q .object) (q .outside)));
-      }
-
-  abbrev pub live-outside : (x : ℕ) (q : LiveSlot s w e W x) → Outside s w e (q .object) → OutsideSlot s w e x
-  live-outside x q o =
-      record {
-        object = q .object;
-        field = q .field;
-        outside = o;
-        low = q .low;
-        at = q .at ∙ ap (λ (d : ℕ). fieldAt d (q .field)) (outside-placed h (q .object) o);
-      }
 
   copied-survivor : (d : ℕ) → pageOf d < s .pages → copied s T d ≡ 1 → Survivor s w e d
   copied-survivor d l z = marked-survivor (h .marks) d l (sym (h .forwards .bits d l) ∙ z)
 
   -- the slots of the copies are the survivors' references
-  pub copy-survivor : (x : ℕ) → Copies s W T x → (q : LiveSlot s w e W x) × Survivor s w e (q .object)
+  pub copy-survivor : (x : ℕ) → Copies s W T x → (q : LiveSlot s w e (placed W) x) × Survivor s w e (q .object)
   copy-survivor x q =
       let v = copied-survivor (q .cell) (q .among) (q .moved) in
       let z = copy-cell (q .cell) v in (
@@ -86,59 +45,65 @@ module _ {s : Sizes} {w w₁ : Words} {e : Part} {W T : List ℕ} (h : HasMoved 
           object = q .cell;
           field = q .field .field;
           lives = survivor-lives v;
-          low = omega (arith, q .field .low, ap (refsOf W) z, refs-placed (q .cell) (survivor-lives v));
+          low = omega (arith, q .field .low, ap (refsOf W) z, refs-placed (placing h) (q .cell) (survivor-lives v));
           at = q .field .at ∙ ap (λ (d : ℕ). fieldAt d (q .field .field)) z;
         },
         v,
       )
 
-  pub copies-live : (x : ℕ) → Copies s W T x → LiveSlot s w e W x
+  pub copies-live : (x : ℕ) → Copies s W T x → LiveSlot s w e (placed W) x
   copies-live x q = copy-survivor x q .0
 
-  pub survivor-copy : (x : ℕ) (q : LiveSlot s w e W x) → Survivor s w e (q .object) → Copies s W T x
+  pub survivor-copy : (x : ℕ) (q : LiveSlot s w e (placed W) x) → Survivor s w e (q .object) → Copies s W T x
   survivor-copy x q v =
       let z = copy-cell (q .object) v in
       record {
         cell = q .object;
-        among = page-of h (q .object) (v .used);
-        moved = h .forwards .bits (q .object) (page-of h (q .object) (v .used)) ∙ on h (q .object) v;
+        among = begins-page _ _ _ _ (v .used);
+        moved = h .forwards .bits (q .object) (begins-page _ _ _ _ (v .used)) ∙ on h (q .object) v;
         field = record {
           field = q .field;
-          low = omega (arith, q .low, ap (refsOf W) z, refs-placed (q .object) (q .lives));
+          low = omega (arith, q .low, ap (refsOf W) z, refs-placed (placing h) (q .object) (q .lives));
           at = q .at ∙ ap (λ (d : ℕ). fieldAt d (q .field)) (sym z);
         };
       }
 
-  -- none is a field of an object that was there before
+  -- none is a field of an object that was there before, whose words stand apart from those of a new cell
   pub old-no-copy : (c f : ℕ) → BeginsIn s w c → f < refCount w c → Copies s W T (fieldAt c f) → ⊥
   old-no-copy c f u l q =
       let k = copy-survivor (fieldAt c f) q in
       let d : ℕ = k .0 .object in
-      let z = fields-apart c (placed W d) f (k .0 .field) (few h c f u l) (few h d (k .0 .field) (k .1 .used) (k .0 .low)) (k .0 .at) in
-      survivor-fresh h d (k .1) (subst (BeginsIn s w) (z .0 ∙ survivor-placed h d (k .1)) u)
+      field-not-new s (w₁ .cells) (w₁ .tables) c (still-used h c u) (forward W d) (headIn w d) (copy h d (k .1) .new) f
+      (subst (λ (n : ℕ). f < roomFor n) (sym (kept-head (h .marks .kept) c)) (ref-room s w (h .whole) c f u l))
+      (subst (Covers (forward W d) (headIn w d)) (sym (k .0 .at ∙ ap (λ (y : ℕ). fieldAt y (k .0 .field)) (survivor-placed h d (k .1))))
+      (covers-field (forward W d) (headIn w d) (k .0 .field) (ref-room s w (h .whole) d (k .0 .field) (k .1 .used) (k .0 .low))))
 
   -- a reference of an object that lives on is as it was, and names a cell
-  live-before : (x : ℕ) (q : LiveSlot s w e W x) → getD W x 0 ≡ fieldOf (w .cells) (q .object) (q .field)
+  live-before : (x : ℕ) (q : LiveSlot s w e (placed W) x) → getD W x 0 ≡ fieldOf (w .cells) (q .object) (q .field)
   live-before x q =
-      ap (λ (y : ℕ). getD W y 0) (q .at) ∙ placed-field h (q .object) (q .lives) (q .field) (few h (q .object) (q .field) (q .lives .used) (q .low))
+      ap (λ (y : ℕ). getD W y 0) (q .at) ∙ placed-field h (q .object) (q .lives) (q .field) (ref-room s w (h .whole) (q .object) (q .field) (q .lives .used) (q .low))
 
-  pub live-names : (x : ℕ) → LiveSlot s w e W x → Names s (getD W x 0)
+  pub live-names : (x : ℕ) → LiveSlot s w e (placed W) x → Names s (getD W x 0)
   live-names x q =
       let d : ℕ = cellNamed (fieldOf (w .cells) (q .object) (q .field)) in
-      subst (Names s) (sym (live-before x q)) (λ n. page-of h d (h .sends .keeps .references (q .object) (q .field) d (q .lives) (q .low) (omega arith) .used))
+      subst (Names s) (sym (live-before x q)) (λ n. begins-page _ _ _ _ (h .keeps .references (q .object) (q .field) d (q .lives) (q .low) (omega arith) .used))
 
   -- the forward references lead to the cell of what it names
-  pub live-later : (x : ℕ) (q : LiveSlot s w e W x) → forwarded W (getD W x 0) ≡ renamed (placed W) (fieldOf (w .cells) (q .object) (q .field))
+  pub live-later : (x : ℕ) (q : LiveSlot s w e (placed W) x) → forwarded W (getD W x 0) ≡ renamed (placed W) (fieldOf (w .cells) (q .object) (q .field))
   live-later x q = ap (forwarded W) (live-before x q) ∙ forwarded-placed W (fieldOf (w .cells) (q .object) (q .field))
 
-  pub names-later : (x : ℕ) → LiveSlot s w e W x → Names s (forwarded W (getD W x 0))
+  -- so it crosses where its object and what it names are then
+  pub cross-live : (x : ℕ) (q : LiveSlot s w e (placed W) x) → crossLater s W T x ≡ crossThen s w (words W (w .remember) T) (placed W) (q .object) (q .field)
+  cross-live x q = ap₂ (λ (p y : ℕ). crossesFrom s T (ownerOf s T p) y) (live-page (placing h) x q) (live-later x q)
+
+  pub names-later : (x : ℕ) → LiveSlot s w e (placed W) x → Names s (forwarded W (getD W x 0))
   names-later x q = subst (Names s) (sym (live-later x q)) (go (fieldOf (w .cells) (q .object) (q .field)) refl)
     where
       go : (v : ℕ) → fieldOf (w .cells) (q .object) (q .field) ≡ v → Names s (renamed (placed W) v)
       go zero z n = absurd (n refl)
       go (suc d) z n =
           subst (λ (x : ℕ). pageOf x < s .pages) (let y : placed W d ≡ cellNamed (suc (placed W d)) = omega arith in y)
-          (placed-page h d (h .sends .keeps .references (q .object) (q .field) d (q .lives) (q .low) z))
+          (placed-page (placing h) d (h .keeps .references (q .object) (q .field) d (q .lives) (q .low) z))
 
   -- what the rewriting of the copies' slots asks
   wired : Wiring s (OnPages (s .pages)) W T
@@ -151,7 +116,7 @@ module _ {s : Sizes} {w w₁ : Words} {e : Part} {W T : List ℕ} (h : HasMoved 
         once = λ x y q q′ u v z.
             let a = copied-survivor x q u in
             let b = copied-survivor y q′ v in
-            placed-apart h x y (survivor-lives a) (survivor-lives b) (sym (copy-cell x a) ∙ ap (λ (i : ℕ). i - 1) z ∙ copy-cell y b);
+            placing h .placement .apart x y (survivor-lives a) (survivor-lives b) (sym (copy-cell x a) ∙ ap (λ (i : ℕ). i - 1) z ∙ copy-cell y b);
       }
     where
       fields : (d : ℕ) → Survivor s w e d → Fields s (refsOf W (workOf W d - 1)) (workOf W d - 1) W
@@ -159,15 +124,15 @@ module _ {s : Sizes} {w w₁ : Words} {e : Part} {W T : List ℕ} (h : HasMoved 
           subst (λ (x : ℕ). Fields s (refsOf W x) x W) (sym (copy-cell d v))
           (record {
             cells-long = h .ready .cells-long;
-            page = placed-page h d (survivor-lives v);
-            few = omega (arith, refs-placed d (survivor-lives v), refs-few s w (h .whole) d (v .used));
+            page = placed-page (placing h) d (survivor-lives v);
+            few = omega (arith, refs-placed (placing h) d (survivor-lives v), refs-few s w (h .whole) d (v .used));
           })
 
 -- ---- the holding slots are rewritten
 
 module _ {s : Sizes} {w w₁ : Words} {e : Part} {W T : List ℕ} (h : HasMoved s w w₁ e W T) {S : ℕ → Type 0} (H : HoldingSlots s w e S) where
-  pub held-live : (x : ℕ) → S x → LiveSlot s w e W x
-  held-live x q = outside-live h x (H .slot x q)
+  pub held-live : (x : ℕ) → S x → LiveSlot s w e (placed W) x
+  held-live x q = outside-live (placing h) x (H .slot x q)
 
   pub no-copy : (x : ℕ) → Copies s W T x → S x → ⊥
   no-copy x q z = let o = H .slot x z in old-no-copy h (o .object) (o .field) (o .outside .used) (o .low) (subst (Copies s W T) (o .at) q)
@@ -195,14 +160,14 @@ module _ {s : Sizes} {w w₁ : Words} {e : Part} {W T : List ℕ} (h : HasMoved 
     outside-after x q = go (fieldOf (w .cells) (q .object) (q .field)) refl
       where
         before : getD W x 0 ≡ fieldOf (w .cells) (q .object) (q .field)
-        before = live-before h x (outside-live h x q)
+        before = live-before h x (outside-live (placing h) x q)
 
         go : (v : ℕ) → fieldOf (w .cells) (q .object) (q .field) ≡ v → getD X x 0 ≡ forwarded W (getD W x 0)
         go zero z = unmoved x (forward-null W (getD W x 0) (before ∙ z) ∙ sym (before ∙ z))
         go (suc d) z =
             ⊎-elim (λ o. unmoved x (forward-still W (getD W x 0) (ap (workOf W) (let y : cellNamed (getD W x 0) ≡ d = omega (arith, before ∙ z) in y) ∙ outside-idle h d o)))
             (λ v. R .moved x (among x (subst S (sym (q .at)) (H .every (q .object) (q .field) d (q .outside) (q .low) z (v .within)))))
-            (lives-how (h .sends .keeps .references (q .object) (q .field) d (outside-lives (q .outside)) (q .low) z))
+            (lives-how (h .keeps .references (q .object) (q .field) d (outside-lives (q .outside)) (q .low) z))
 
 -- ---- after the rewriting of both
 
@@ -216,28 +181,41 @@ module _ {s : Sizes} {w w₁ : Words} {e : Part} {W T : List ℕ} {S : ℕ → T
   h = r .moved
 
   pub head-after : (c : ℕ) → Lives s w e c → headOf W′ (placed W c) ≡ headIn w c
-  head-after c l = heads-same (r .cells) (placed W c) ∙ placed-head h c l
+  head-after c l = heads-same (r .cells) (placed W c) ∙ placing h .placement .head c l
 
   pub work-after : (c : ℕ) → Lives s w e c → workOf W′ (placed W c) ≡ 0
   work-after c l = link-same (r .cells) (placed W c) ∙ placed-work h c l
 
-  pub live-after : (x : ℕ) → LiveSlot s w e W x → getD W′ x 0 ≡ forwarded W (getD W x 0)
+  pub live-after : (x : ℕ) → LiveSlot s w e (placed W) x → getD W′ x 0 ≡ forwarded W (getD W x 0)
   live-after x q =
-      ⊎-elim (λ o. outside-after h (r .holding) (r .cells) (λ y. inl) x (live-outside h x q o)) (λ v. r .cells .moved x (inr (survivor-copy h x q v)))
+      ⊎-elim (λ o. outside-after h (r .holding) (r .cells) (λ y. inl) x (live-outside (placing h) x q o)) (λ v. r .cells .moved x (inr (survivor-copy h x q v)))
       (lives-how (q .lives))
 
   pub slot-after : (c f : ℕ) → Lives s w e c → f < refCount w c → fieldOf W′ (placed W c) f ≡ renamed (placed W) (fieldOf (w .cells) c f)
   slot-after c f l m =
-      let q : LiveSlot s w e W (fieldAt (placed W c) f) = record { object = c; field = f; lives = l; low = m; at = refl } in
+      let q : LiveSlot s w e (placed W) (fieldAt (placed W c) f) = record { object = c; field = f; lives = l; low = m; at = refl } in
       live-after (fieldAt (placed W c) f) q ∙ live-later h (fieldAt (placed W c) f) q
 
   -- a word after the references is no slot
-  pub rest-after : (c f : ℕ) → Lives s w e c → refCount w c ≤ f → f < mostFields → fieldOf W′ (placed W c) f ≡ fieldOf (w .cells) c f
+  pub rest-after : (c f : ℕ) → Lives s w e c → refCount w c ≤ f → f < roomFor (headIn w c) → fieldOf W′ (placed W c) f ≡ fieldOf (w .cells) c f
   rest-after c f l ge m =
       r .cells .same (fieldAt (placed W c) f) (⊎-elim (λ q. none (held-live h (r .holding) (fieldAt (placed W c) f) q)) (λ q. none (copies-live h (fieldAt (placed W c) f) q))) ∙ placed-field h c l f m
     where
-      none : LiveSlot s w e W (fieldAt (placed W c) f) → ⊥
+      none : LiveSlot s w e (placed W) (fieldAt (placed W c) f) → ⊥
       none q =
-          let y = fields-apart (placed W c) (placed W (q .object)) f (q .field) m (few h (q .object) (q .field) (q .lives .used) (q .low)) (q .at) in
-          let x : c ≡ q .object = placed-apart h c (q .object) l (q .lives) (y .0) in
+          let o = live-slot (placing h) (fieldAt (placed W c) f) q in
+          let y = objects-apart s W T (placed W c) (placing h .placement .used c l) (o .object) (o .begins) (o .field) (o .room) f (subst (λ (n : ℕ). f < roomFor n) (sym (placing h .placement .head c l)) m) (q .at) in
+          let x : c ≡ q .object = placing h .placement .apart c (q .object) l (q .lives) (y .0) in
           omega (arith, y .1, q .low, ap (refCount w) x)
+
+  -- the entries of the copies' slots, as they read then
+  pub copies-told : Told s w e (words W (w .remember) T) (placed W) (Survivor s w e) (Crossing s (Copies s W′ T) W′ T)
+  copies-told =
+      record {
+        live = λ x g q. let l = copies-live h x (slot-then (r .cells) x (q .at)) in (l, q .region ∙ now x l);
+        kept = λ x g q. q .kept;
+        every = λ x q v n. record { at = slot-now (r .cells) x (survivor-copy h x q v); region = sym (now x q); kept = n };
+      }
+    where
+      now : (x : ℕ) (q : LiveSlot s w e (placed W) x) → crossAt s W′ T x ≡ crossThen s w (words W (w .remember) T) (placed W) (q .object) (q .field)
+      now x q = ap (λ (y : ℕ). crossesFrom s T (ownerOf s T (pageAt x)) y) (live-after x q) ∙ cross-live h x q

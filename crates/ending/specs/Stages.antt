@@ -21,8 +21,8 @@ use Rattle.remember.specs.Crossing.{crossesFrom}
 use Rattle.remember.specs.Staying.{Entries}
 use Rattle.promises.specs.Whole.{WholeFor, Open}
 use Rattle.promises.specs.OwnedPages.{pagesOwned}
-use Rattle.promises.specs.Reading.{used-home}
-use Rattle.promises.specs.Ends.{partOf, Survivor}
+use Rattle.promises.specs.Reading.{used-home, refs-few}
+use Rattle.promises.specs.Ends.{partOf, Survivor, Lives}
 use Rattle.mark.specs.Marks.{page-unmarked}
 use Rattle.mark.specs.Survivors.{Marked}
 use Rattle.copy.specs.Passing.{moves-ready}
@@ -37,13 +37,14 @@ use Rattle.release.specs.Release.{Ended, ended-size, ended-depth, ended-rest, e
 use Rattle.ended.specs.EndQuestion.{pagesNeeded, crossingAfter}
 use Rattle.ended.specs.EvacuatedDid.{Lowered}
 use Rattle.ended.specs.WordsPlaced.{target-level}
-use Rattle.ended.specs.Living.{region-after, region-keeps}
+use Rattle.ended.specs.Living.{KeepsNamed, region-after, region-keeps}
 use Rattle.ending.specs.MarkedWords.{owner-same}
-use Rattle.ending.specs.Placing.{Sends, HasMoved, few, page-kept}
-use Rattle.ending.specs.Rewriting.{HoldingSlots, LiveSlot, HasRewritten, copies-live, old-no-copy, live-names, names-later, held-live, no-copy, copies-ask, outside-after}
-use Rattle.ending.specs.Crossing.{entry-says, Told}
+use Rattle.ending.specs.Placing.{HoldingSlots, LiveSlot}
+use Rattle.ending.specs.Copied.{Sends, HasMoved, placed, placing, page-kept}
+use Rattle.ending.specs.Rewriting.{HasRewritten, copies-live, old-no-copy, live-names, names-later, cross-live, held-live, no-copy, copies-ask, outside-after, copies-told}
+use Rattle.ending.specs.Crossing.{entry-says, Told, told-both}
 use Rattle.ending.specs.Space.{space-enough}
-use Rattle.ending.specs.Remembering.{stays-live, told}
+use Rattle.ending.specs.Remembering.{stays-told}
 use Rattle.ending.specs.Region.{Held, of-region, holding, page-was, renews}
 use Rattle.ending.specs.Finish.{owner₂, room₂, regular₂, word₂, GaveBack}
 use Rattle.ending.specs.PagesEnough as pe
@@ -78,11 +79,13 @@ module _ {s : Sizes} {t k r : ℕ} {w w₁ : Words} (b : Begun s t k r w w₁) w
       record {
         owned = λ page l e. omega (arith, e, high);
         away = λ c page v l e z. let j = level c v in omega (arith, numbers-rise s t (j .0) (suc k) (omega (arith, j .1)), j .2, b .region, e, z);
-        keeps = region-keeps s w (b .whole) r pos;
       }
 
+  pub keeps : KeepsNamed s w (partOf s w r)
+  keeps = region-keeps s w (b .whole) r pos
+
   pub held : HoldingSlots s w (partOf s w r) (Held s w r)
-  held = holding high (b .whole) (sends .keeps)
+  held = holding high (b .whole) keeps
 
   -- ---- the copy
 
@@ -107,6 +110,7 @@ module _ {s : Sizes} {t k r : ℕ} {w w₁ : Words} (b : Begun s t k r w w₁) w
         record {
           whole = b .whole;
           room = b .room;
+          keeps = keeps;
           sends = sends;
           marks = b .marks;
           forwards = copy-forwards p c;
@@ -134,7 +138,7 @@ module _ {s : Sizes} {t k r : ℕ} {w w₁ : Words} (b : Begun s t k r w w₁) w
     slots-ask =
         record {
           entries = entries-ask refl (λ x q. live-names moved x (held-live moved held x q));
-          fields = λ i l. let y = entry-says (b .whole) i l in subst (λ (x : ℕ). 2 ≤ wordOf x) (sym (y .at)) (field-word (y .object) (y .field) (few moved (y .object) (y .field) (y .used) (y .low)));
+          fields = λ i l. let y = entry-says (b .whole) i l in subst (λ (x : ℕ). 2 ≤ wordOf x) (sym (y .at)) (field-word (y .object) (y .field) (omega (arith, y .low, refs-few s w (b .whole) (y .object) (y .used))));
         }
 
     -- no entry names a slot of a copy
@@ -147,11 +151,11 @@ module _ {s : Sizes} {t k r : ℕ} {w w₁ : Words} (b : Begun s t k r w w₁) w
       pub rewritten : HasRewritten s w w₁ (partOf s w r) W T (Held s w r) W₃
       rewritten = record { moved = moved; holding = held; cells = R }
 
-      pub entries-told : Told s w (partOf s w r) W T (Entry s r (s .entries) (entriesUsed (w .remember)) W₃ (w .remember) T)
-      entries-told = told rewritten (of-region high) (renews pos moved W₃ (outside-after moved held R (λ x. inl)))
+      pub entries-told : Told s w (partOf s w r) (words W (w .remember) T) (placed W) (Lives s w (partOf s w r)) (Entry s r (s .entries) (entriesUsed (w .remember)) W₃ (w .remember) T)
+      entries-told = told-both (stays-told (placing moved) (of-region high) (renews pos moved W₃ (outside-after moved held R (λ x. inl)))) (copies-told rewritten)
 
     module _ {W₂ : List ℕ} (R₂ : Rewritten (Held s w r) W W₂) where
-      copy-live : (x : ℕ) → Copies s W₂ T x → LiveSlot s w (partOf s w r) W x
+      copy-live : (x : ℕ) → Copies s W₂ T x → LiveSlot s w (partOf s w r) (placed W) x
       copy-live x q = copies-live moved x (slot-then R₂ x q)
 
       copy-same : (x : ℕ) → Copies s W₂ T x → getD W₂ x 0 ≡ getD W x 0
@@ -171,10 +175,11 @@ module _ {s : Sizes} {t k r : ℕ} {w w₁ : Words} (b : Begun s t k r w w₁) w
                 (λ x.
                 ⊎-elim
                 (λ q.
-                let y = stays-live moved (of-region high) (renews pos moved W₂ (outside-after moved held R₂ (λ x z. z))) x (q .0) (q .1) in
+                let y = stays-told (placing moved) (of-region high) (renews pos moved W₂ (outside-after moved held R₂ (λ x z. z))) .live x (q .0) (q .1) in
                 (y .0, λ z. q .1 .kept (y .1 ∙ z)))
-                (λ q. (copy-live x (q .0), λ z. q .1 (ap (λ (y : ℕ). crossesFrom s T (ownerOf s T (pageAt x)) y) (copy-later x (q .0)) ∙ z))))
-                (space-enough moved (region-after s w (b .whole) r pos) (subst (λ (g : ℕ). crossing (ended s (graphOf s w) g) ≤ s .entries) (sym (b .region)) entries));
+                (λ q.
+                (copy-live x (q .0), λ z. q .1 (ap (λ (y : ℕ). crossesFrom s T (ownerOf s T (pageAt x)) y) (copy-later x (q .0)) ∙ cross-live moved x (copy-live x (q .0)) ∙ z))))
+                (space-enough (placing moved) (region-after s w (b .whole) r pos) (subst (λ (g : ℕ). crossing (ended s (graphOf s w) g) ≤ s .entries) (sym (b .region)) entries));
             rest = b .whole .remember .entries .rest;
           }
 
