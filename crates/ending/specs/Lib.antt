@@ -16,6 +16,6 @@ pub mod Finish
 pub mod PagesEnough
 pub mod CensusCounts
 pub mod Region
-pub mod Stages
 pub mod Ending
+pub mod Stages
 pub mod NoSurvivors

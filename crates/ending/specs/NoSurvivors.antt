@@ -2,7 +2,7 @@
 -- leaves the words as they are.
 use mathlib.Core.Path.{_≡_, refl, sym, ap, _∙_}
 use mathlib.Core.Logic.{_⊎_, ⊎-elim}
-use Prim.Native.Nat.{ℕ, zero, suc, _≤_, _<_}
+use Prim.Native.Nat.{ℕ, zero, suc, _-_, _≤_, _<_}
 use native.Mathlib.Omega.{arith}
 use Rattle.lists.specs.Bits.{bitAt, bit-zero}
 use Rattle.rules.specs.declared.Sizes.{Sizes}
@@ -23,16 +23,17 @@ use Rattle.ending.specs.MarkedWords.{outside-work, var-same}
 use Rattle.ending.specs.Rewriting.{copy-survivor}
 use Rattle.ending.specs.Crossing.{entry-says}
 use Rattle.ending.specs.Region.{Held}
-use Rattle.ending.specs.Stages.{Begun, keeps, moved, settle-ask}
+use Rattle.ending.specs.Ending.{Ending, room-of}
+use Rattle.ending.specs.Stages.{keeps, moved, settle-ask}
 
-module _ {s : Sizes} {t k r : ℕ} {w w₁ : Words} (b : Begun s t k r w w₁) (off : (page : ℕ) → page < s .pages → markOf s (w₁ .tables) page ≡ 0) where
+module _ {s : Sizes} {t l r : ℕ} {w w₁ : Words} (b : Ending s t l r w w₁) (off : (page : ℕ) → page < s .pages → markOf s (w₁ .tables) page ≡ 0) where
   unset : (c : ℕ) → pageOf c < s .pages → marked s (w₁ .tables) c ≡ 1 → ⊥
   unset c l on = omega (arith, ap (λ (x : ℕ). bitAt x (placeOf c)) (off (pageOf c) l), bit-zero (placeOf c))
 
   no-survivor : (c : ℕ) → Survivor s w (partOf s w r) c → ⊥
   no-survivor c v = unset c (begins-page s (w .cells) (w .tables) c (v .used)) (b .marks .survives c (v .used) (v .within) (v .goes))
 
-  pub none-copied : Copy s (suc k) (regionAt s t) (suc k) (w₁ .cells) (w₁ .tables) (w₁ .cells) (w₁ .tables)
+  pub none-copied : Copy s l (regionAt s t) l (w₁ .cells) (w₁ .tables) (w₁ .cells) (w₁ .tables)
   none-copied =
       record {
         last = 0;
@@ -51,7 +52,7 @@ module _ {s : Sizes} {t k r : ℕ} {w w₁ : Words} (b : Begun s t k r w w₁) (
       keeps b .references (y .object) (y .field) (y .names) (record { used = y .used; goes = λ z. absurd (y .other (within ∙ sym z)) }) (y .low) (y .value) in
       no-survivor (y .names) (record { used = v .used; within = within; goes = v .goes within })
 
-  module _ (p : Plan s (suc k) (regionAt s t) (w₁ .cells) (w₁ .tables)) where
+  module _ (p : Plan s l (regionAt s t) (w₁ .cells) (w₁ .tables)) where
     pub none-copies : (x : ℕ) → Copies s (w₁ .cells) (w₁ .tables) x → ⊥
     none-copies x q =
         let o = copy-survivor (moved b p none-copied) x q in
@@ -60,7 +61,7 @@ module _ {s : Sizes} {t k r : ℕ} {w w₁ : Words} (b : Begun s t k r w w₁) (
     pub none-rewritten : Rewritten (λ x. Held s w r x ⊎ Copies s (w₁ .cells) (w₁ .tables) x) (w₁ .cells) (w₁ .cells)
     none-rewritten = rewritten-none (λ x. Held s w r x ⊎ Copies s (w₁ .cells) (w₁ .tables) x) (w₁ .cells) (λ x. ⊎-elim (none-held x) (none-copies x))
 
-    pub none-update : crossingAfter s w t k ≤ s .entries → Settles s r (s .entries) (entriesUsed (w .remember)) (w₁ .cells) (w .remember) (w₁ .tables)
+    pub none-update : crossingAfter s w t (l - 1) ≤ s .entries → Settles s r (s .entries) (entriesUsed (w .remember)) (w₁ .cells) (w .remember) (w₁ .tables)
     none-update = settle-ask b p none-copied (rewritten-none (Held s w r) (w₁ .cells) none-held)
 
   pub none-variables : Variables s (varCount s) (w₁ .cells) (w₁ .tables) (w₁ .tables)
@@ -72,4 +73,4 @@ module _ {s : Sizes} {t k r : ℕ} {w w₁ : Words} (b : Begun s t k r w w₁) (
           let y : cellNamed (suc d) ≡ d = omega arith in
           sym (forward-still (w₁ .cells) (suc d)
           (ap (workOf (w₁ .cells)) y
-          ∙ ⊎-elim (outside-work (b .marks) (b .whole) d) (λ v. absurd (no-survivor d v)) (lives-how (keeps b .variables i d l (sym (var-same (b .marks) (b .room) i l) ∙ z)))))
+          ∙ ⊎-elim (outside-work (b .marks) (b .whole) d) (λ v. absurd (no-survivor d v)) (lives-how (keeps b .variables i d l (sym (var-same (b .marks) (room-of b) i l) ∙ z)))))

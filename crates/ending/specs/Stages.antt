@@ -19,7 +19,7 @@ use Rattle.layout.specs.Objects.{begins-page}
 use Rattle.layout.specs.Words.{Words, words, Names, depthIn, ownerIn, graphOf}
 use Rattle.remember.specs.Crossing.{crossesFrom}
 use Rattle.remember.specs.Staying.{Entries}
-use Rattle.promises.specs.Whole.{WholeFor, Open}
+use Rattle.promises.specs.Whole.{Open}
 use Rattle.promises.specs.OwnedPages.{pagesOwned}
 use Rattle.promises.specs.Reading.{used-home, refs-few}
 use Rattle.promises.specs.Ends.{partOf, Survivor, Lives}
@@ -32,7 +32,7 @@ use Rattle.settle.specs.Rewrite.{forwarded, Rewritten, ref-same}
 use Rattle.settle.specs.RewriteSlots.{Slots, Variables}
 use Rattle.settle.specs.RewriteCopies.{slot-then}
 use Rattle.settle.specs.Append.{at-most-less}
-use Rattle.settle.specs.Update.{Copies, Entry, Settles}
+use Rattle.settle.specs.Update.{Copies, Entry, Settles, Updated}
 use Rattle.release.specs.Release.{Ended, ended-size, ended-depth, ended-rest, ended-blank, ended-alike, ended-regular}
 use Rattle.ended.specs.EndQuestion.{pagesNeeded, crossingAfter}
 use Rattle.ended.specs.EvacuatedDid.{Lowered}
@@ -46,39 +46,35 @@ use Rattle.ending.specs.Crossing.{entry-says, Told, told-both}
 use Rattle.ending.specs.Space.{space-enough}
 use Rattle.ending.specs.Remembering.{stays-told}
 use Rattle.ending.specs.Region.{Held, of-region, holding, page-was, renews}
-use Rattle.ending.specs.Finish.{owner₂, room₂, regular₂, word₂, GaveBack}
+use Rattle.ending.specs.Finish.{owner₂, room₂, regular₂, word₂, GaveBack, evacuated, vacated}
+use Rattle.ending.specs.Ending.{Ending, HasEnded, room-of, level-low, next, deep, region-deep}
 use Rattle.ending.specs.PagesEnough as pe
 
--- region r, that of thread t at level suc k, ends: w is whole, and its survivors are marked in w₁
-pub record Begun (s : Sizes) (t k r : ℕ) (w w₁ : Words) : Type 0 where
-  pub whole : WholeFor s w
-  pub room : Room s (length (w .tables))
-  pub thread : t < s .threads
-  pub deep : depthIn w t ≡ suc k
-  pub region : r ≡ regionAt s t (suc k)
-  pub marks : Marked s w (partOf s w r) w₁
+module _ {s : Sizes} {t l r : ℕ} {w w₁ : Words} (b : Ending s t l r w w₁) where
+  -- the level of the region around r
+  abbrev k : ℕ
+  k = l - 1
 
-module _ {s : Sizes} {t k r : ℕ} {w w₁ : Words} (b : Begun s t k r w w₁) where
   pub high : 1 < r
-  high = omega (arith, b .region, region-high s t k)
+  high = omega (arith, region-deep b, region-high s t k)
 
   pub pos : 0 < r
   pos = omega (arith, high)
 
   pub bounds : (1 ≤ r) × (r ≤ regions s)
-  bounds = subst (λ (g : ℕ). (1 ≤ g) × (g ≤ regions s)) (sym (b .region)) (region-bounds s t (suc k) (b .thread) (omega (arith, b .deep, b .whole .depths t (b .thread))))
+  bounds = subst (λ (g : ℕ). (1 ≤ g) × (g ≤ regions s)) (sym (b .region)) (region-bounds s t l (b .thread) (level-low b))
 
   -- a survivor goes to a region around r
   level : (c : ℕ) → Survivor s w (partOf s w r) c → (j : ℕ) × (j ≤ k) × (partOf s w r .goes c ≡ regionAt s t j)
   level c =
-      subst (λ (g : ℕ). Survivor s w (partOf s w g) c → (j : ℕ) × (j ≤ k) × (partOf s w g .goes c ≡ regionAt s t j)) (sym (b .region))
-      (λ v. target-level s w (b .whole) t k (b .thread) (b .deep) c (used-home s w (b .whole) c (v .used) ∙ v .within) (v .goes))
+      subst (λ (g : ℕ). Survivor s w (partOf s w g) c → (j : ℕ) × (j ≤ k) × (partOf s w g .goes c ≡ regionAt s t j)) (sym (region-deep b))
+      (λ v. target-level s w (b .whole) t k (b .thread) (deep b) c (used-home s w (b .whole) c (v .used) ∙ v .within) (v .goes))
 
   pub sends : Sends s w (partOf s w r)
   sends =
       record {
         owned = λ page l e. omega (arith, e, high);
-        away = λ c page v l e z. let j = level c v in omega (arith, numbers-rise s t (j .0) (suc k) (omega (arith, j .1)), j .2, b .region, e, z);
+        away = λ c page v l e z. let j = level c v in omega (arith, numbers-rise s t (j .0) (suc k) (omega (arith, j .1)), j .2, region-deep b, e, z);
       }
 
   pub keeps : KeepsNamed s w (partOf s w r)
@@ -89,11 +85,10 @@ module _ {s : Sizes} {t k r : ℕ} {w w₁ : Words} (b : Begun s t k r w w₁) w
 
   -- ---- the copy
 
-  marks-at : Marked s w (partOf s w (regionAt s t (suc k))) w₁
-  marks-at = subst (λ (g : ℕ). Marked s w (partOf s w g) w₁) (b .region) (b .marks)
-
-  pub plan : pagesNeeded s w t k ≤ pagesOwned s w 0 → Plan s (suc k) (regionAt s t) (w₁ .cells) (w₁ .tables)
-  plan = pe.plan s w (b .whole) (b .room) t k (b .thread) (b .deep) w₁ marks-at
+  pub plan : pagesNeeded s w t k ≤ pagesOwned s w 0 → Plan s l (regionAt s t) (w₁ .cells) (w₁ .tables)
+  plan h =
+      subst (λ (n : ℕ). Plan s n (regionAt s t) (w₁ .cells) (w₁ .tables)) (sym (next b))
+      (pe.plan s w (b .whole) (room-of b) t k (b .thread) (deep b) w₁ (subst (λ (g : ℕ). Marked s w (partOf s w g) w₁) (region-deep b) (b .marks)) h)
 
   -- a page that is not listed with r's has no mark
   pub unlisted : {n : ℕ} {l : List ℕ} → Lists (λ page. ownerOf s (w₁ .tables) page ≡ r) (s .pages) n l
@@ -102,14 +97,14 @@ module _ {s : Sizes} {t k r : ℕ} {w w₁ : Words} (b : Begun s t k r w w₁) w
       page-unmarked s (w₁ .tables) page (b .marks .small page low)
       (λ c e o.
       let q : pageOf c < s .pages = omega arith in
-      h .all page low (subst (λ (x : ℕ). ownerOf s (w₁ .tables) x ≡ r) e (owner-same (b .marks) (b .room) (pageOf c) q ∙ b .marks .only c q o .1)) off)
+      h .all page low (subst (λ (x : ℕ). ownerOf s (w₁ .tables) x ≡ r) e (owner-same (b .marks) (room-of b) (pageOf c) q ∙ b .marks .only c q o .1)) off)
 
-  module _ (p : Plan s (suc k) (regionAt s t) (w₁ .cells) (w₁ .tables)) {W T : List ℕ} (c : Copy s (suc k) (regionAt s t) (suc k) (w₁ .cells) (w₁ .tables) W T) where
+  module _ (p : Plan s l (regionAt s t) (w₁ .cells) (w₁ .tables)) {W T : List ℕ} (c : Copy s l (regionAt s t) l (w₁ .cells) (w₁ .tables) W T) where
     pub moved : HasMoved s w w₁ (partOf s w r) W T
     moved =
         record {
           whole = b .whole;
-          room = b .room;
+          room = room-of b;
           keeps = keeps;
           sends = sends;
           marks = b .marks;
@@ -125,7 +120,7 @@ module _ {s : Sizes} {t k r : ℕ} {w w₁ : Words} (b : Begun s t k r w w₁) w
     entries-ask size names =
         let e = b .whole .remember .entries in
         record {
-          pages = b .room .few;
+          pages = room-of b .few;
           cells-long = omega (arith, moved .ready .cells-long, size);
           long = omega (arith, b .whole .sized .remember);
           few = e .room;
@@ -148,10 +143,10 @@ module _ {s : Sizes} {t k r : ℕ} {w w₁ : Words} (b : Begun s t k r w w₁) w
     -- ---- the remember table
 
     module _ {W₃ : List ℕ} (R : Rewritten (λ x. Held s w r x ⊎ Copies s W T x) W W₃) where
-      pub rewritten : HasRewritten s w w₁ (partOf s w r) W T (Held s w r) W₃
+      rewritten : HasRewritten s w w₁ (partOf s w r) W T (Held s w r) W₃
       rewritten = record { moved = moved; holding = held; cells = R }
 
-      pub entries-told : Told s w (partOf s w r) (words W (w .remember) T) (placed W) (Lives s w (partOf s w r)) (Entry s r (s .entries) (entriesUsed (w .remember)) W₃ (w .remember) T)
+      entries-told : Told s w (partOf s w r) (words W (w .remember) T) (placed W) (Lives s w (partOf s w r)) (Entry s r (s .entries) (entriesUsed (w .remember)) W₃ (w .remember) T)
       entries-told = told-both (stays-told (placing moved) (of-region high) (renews pos moved W₃ (outside-after moved held R (λ x. inl)))) (copies-told rewritten)
 
     module _ {W₂ : List ℕ} (R₂ : Rewritten (Held s w r) W W₂) where
@@ -179,7 +174,7 @@ module _ {s : Sizes} {t k r : ℕ} {w w₁ : Words} (b : Begun s t k r w w₁) w
                 (y .0, λ z. q .1 .kept (y .1 ∙ z)))
                 (λ q.
                 (copy-live x (q .0), λ z. q .1 (ap (λ (y : ℕ). crossesFrom s T (ownerOf s T (pageAt x)) y) (copy-later x (q .0)) ∙ cross-live moved x (copy-live x (q .0)) ∙ z))))
-                (space-enough (placing moved) (region-after s w (b .whole) r pos) (subst (λ (g : ℕ). crossing (ended s (graphOf s w) g) ≤ s .entries) (sym (b .region)) entries));
+                (space-enough (placing moved) (region-after s w (b .whole) r pos) (subst (λ (g : ℕ). crossing (ended s (graphOf s w) g) ≤ s .entries) (sym (region-deep b)) entries));
             rest = b .whole .remember .entries .rest;
           }
 
@@ -202,21 +197,21 @@ module _ {s : Sizes} {t k r : ℕ} {w w₁ : Words} (b : Begun s t k r w w₁) w
       pages-ask {l = l} h =
           record {
             rises = h .rises;
-            each = λ i m. let q = h .rises .low i m in kept₂ (getD l i 0) q (sym (owner-same (b .marks) (b .room) (getD l i 0) q) ∙ h .each i m);
-            all = λ page m e. h .all page m (owner-same (b .marks) (b .room) page m ∙ was₂ page m e);
+            each = λ i m. let q = h .rises .low i m in kept₂ (getD l i 0) q (sym (owner-same (b .marks) (room-of b) (getD l i 0) q) ∙ h .each i m);
+            all = λ page m e. h .all page m (owner-same (b .marks) (room-of b) page m ∙ was₂ page m e);
           }
 
       -- ---- the release
 
-      pub release-ask : Room s (length T₂) × (depthOf T₂ t ≡ suc k)
-      release-ask = (room₂ moved Y, word₂ moved Y (depthAt t) (λ z. omega (arith, b .thread)) ∙ b .deep)
+      pub release-ask : Room s (length T₂) × (depthOf T₂ t ≡ l)
+      release-ask = (room₂ moved Y, word₂ moved Y (depthAt t) (λ z. omega (arith, b .thread)) ∙ b .level)
 
       module _ {T′ : List ℕ} (Z : Ended s r t T₂ T′) where
         a : Room s (length T₂)
         a = room₂ moved Y
 
         depth-now : depthOf T′ t ≡ k
-        depth-now = ended-depth a (bounds .0) (bounds .1) (b .thread) Z ∙ ap (λ (x : ℕ). x - 1) (release-ask .1) ∙ omega arith
+        depth-now = ended-depth a (bounds .0) (bounds .1) (b .thread) Z ∙ ap (λ (x : ℕ). x - 1) (release-ask .1)
 
         rest : (x : ℕ) → x ≢ depthAt t → (ownersFrom s ≤ x → tablesWords s ≤ x) → getD T′ x 0 ≡ getD T₂ x 0
         rest x n m = ended-rest a (bounds .0) (bounds .1) (b .thread) Z x n count (go (decLt x (ownersFrom s)))
@@ -231,7 +226,7 @@ module _ {s : Sizes} {t k r : ℕ} {w w₁ : Words} (b : Begun s t k r w w₁) w
         depth-kept : (u : ℕ) → u < s .threads → u ≢ t → depthOf T′ u ≡ depthIn w u
         depth-kept u l n = rest (depthAt u) (λ z. n (omega arith)) (λ z. omega (arith, a)) ∙ word₂ moved Y (depthAt u) (λ z. omega arith)
 
-        pub lowered : {M′ : List ℕ} → Lowered s w t k (words W₃ M′ T′)
+        lowered : {M′ : List ℕ} → Lowered s w t k (words W₃ M′ T′)
         lowered = record { depth = depth-now; depths = depth-kept }
 
         -- every region but r that was open is open still, and so is every region around r
@@ -246,10 +241,10 @@ module _ {s : Sizes} {t k r : ℕ} {w w₁ : Words} (b : Begun s t k r w w₁) w
             go (yes d) = last (ℕ-discrete (levelOf s g) (suc k))
               where
                 last : Dec (levelOf s g ≡ suc k) → levelOf s g ≤ depthOf T′ (threadOf s g)
-                last (no z) = omega (arith, o .level, ap (depthOf T′) d, depth-now, ap (depthIn w) d, b .deep)
+                last (no z) = omega (arith, o .level, ap (depthOf T′) d, depth-now, ap (depthIn w) d, deep b)
                 last (yes z) =
                     let e : 1 + t * s .depth + suc k ≡ regionAt s t (suc k) = unfold regionAt in refl in
-                    absurd (n (number ∙ ap₂ (λ (x y : ℕ). 1 + x * s .depth + y) d z ∙ e ∙ sym (b .region)))
+                    absurd (n (number ∙ ap₂ (λ (x y : ℕ). 1 + x * s .depth + y) d z ∙ e ∙ sym (region-deep b)))
 
         level-open : (j : ℕ) → j ≤ k → 1 < regionAt s t j → Open s T′ (regionAt s t j)
         level-open zero l h = absurd (let z : ⊥ = omega (arith, one) in z)
@@ -257,12 +252,12 @@ module _ {s : Sizes} {t k r : ℕ} {w w₁ : Words} (b : Begun s t k r w w₁) w
             one : regionAt s t 0 ≡ 1
             one = unfold regionAt in refl
         level-open (suc j) l h =
-            let low : suc k ≤ s .depth = omega (arith, b .deep, b .whole .depths t (b .thread)) in
+            let low : suc k ≤ s .depth = omega (arith, next b, level-low b) in
             let x : threadOf s (regionAt s t (suc j)) ≡ t = thread-at s t j (omega (arith, low)) in
             let y : levelOf s (regionAt s t (suc j)) ≡ suc j = level-at s t j (omega (arith, low)) in
             record { real = omega arith; thread = omega (arith, x, b .thread); level = omega (arith, y, ap (depthOf T′) x, depth-now) }
 
-        pub gave-back : GaveBack s w (partOf s w r) T₂ T′
+        gave-back : GaveBack s w (partOf s w r) T₂ T′
         gave-back =
             record {
               size = ended-size a (bounds .0) (bounds .1) (b .thread) Z;
@@ -272,4 +267,13 @@ module _ {s : Sizes} {t k r : ℕ} {w w₁ : Words} (b : Begun s t k r w w₁) w
               rest = λ x n m. rest x (λ z. let y : varsFrom s ≤ x = n (omega arith) in omega (arith, b .thread)) m;
               outside = λ x o h. still-open (ownerIn s w (pageOf x)) (o .out) (b .whole .pages (pageOf x) (begins-page s (w .cells) (w .tables) x (o .used)) .region h);
               survivor = λ x v h. let j = level x v in subst (Open s T′) (sym (j .2)) (level-open (j .0) (j .1) (omega (arith, j .2)));
+            }
+
+        pub has-ended : {M′ : List ℕ} → Rewritten (λ x. Held s w r x ⊎ Copies s W T x) W W₃ → Updated s r (s .entries) (entriesUsed (w .remember)) W₃ (w .remember) T M′ → HasEnded s t l r w (words W₃ M′ T′)
+        has-ended R u =
+            record {
+              cell = placed W;
+              evacuated = evacuated (rewritten R) (entries-told R) u Y gave-back;
+              vacated = vacated (rewritten R) (entries-told R) u Y gave-back;
+              lowered = lowered;
             }

@@ -2,22 +2,19 @@
 use mathlib.Core.Path.{_≡_, refl, sym, ap, ap₂, _∙_, subst}
 use mathlib.Core.List.{List}
 use mathlib.Core.Bool.{Bool, true, false}
-use Prim.Native.Nat.{ℕ, suc, _-_, _^_, _≤_, _<_}
+use Prim.Native.Nat.{ℕ, suc, _-_, _≤_, _<_}
 use native.Mathlib.Omega.{arith}
 use lib.Dec.{leb}
 use lib.ListN.{length}
 use borrow.Author.Tests.{leb-true}
-use Rattle.lists.specs.Bits.{bitAt, bit-zero}
 use Rattle.lists.specs.Counting.{sum-same, sum-none, sum-high}
-use Rattle.lists.specs.Part.{Off, Lists}
 use Rattle.rules.specs.declared.Sizes.{Sizes}
 use Rattle.rules.specs.Terms.{ask, refused}
 use Rattle.rules.specs.Regions.{regionAt, regions}
 use Rattle.rules.specs.Graph.{pagesOf}
 use Rattle.rules.specs.Rules as ru
-use Rattle.laws.specs.RulesLaws.{region-pos}
-use Rattle.layout.specs.Places.{cellsWords, depthOf, ownerOf, markOf, entriesUsed, slotIn}
-use Rattle.layout.specs.Cells.{pageOf, placeOf, workOf}
+use Rattle.layout.specs.Places.{cellsWords, depthOf, markOf, entriesUsed, slotIn}
+use Rattle.layout.specs.Cells.{pageOf, workOf}
 use Rattle.layout.specs.Marks.{marked}
 use Rattle.layout.specs.Words.{Words, words, BeginsIn, heapOf}
 use Rattle.promises.specs.Whole.{WholeFor}
@@ -34,13 +31,11 @@ use Rattle.census.specs.Counted.{goesTo}
 use Rattle.census.specs.Census.{over-none}
 use Rattle.census.specs.After as ce
 use Rattle.census.specs.After.{slotCrosses, slot-le}
-use Rattle.copy.specs.Copying.{region-bounds}
 use Rattle.ended.specs.AfterEnd.{endOf}
 use Rattle.ended.specs.EndQuestion.{pagesNeeded, crossingAfter, end-question, refused-shut, ended-refused}
 use Rattle.ending.specs.MarkedWords.{owner-same, count-same}
 use Rattle.ending.specs.MarkedReady.{pages-same}
-use Rattle.ending.specs.Stages as st
-use Rattle.ending.specs.Ending.{Ending, Accepted, room-of, deep, depth-now, depth-high, begun}
+use Rattle.ending.specs.Ending.{Ending, Accepted, room-of, next, deep, region-deep}
 use Rattle.ending.specs.CensusCounts.{needsBelow, roomAsked, asked-none, needs-none, needs-are, free-are, crossing-are, targets-low}
 
 -- both were answered with yes
@@ -52,44 +47,32 @@ both-yes false c e = absurd (let z : ⊥ = omega arith in z)
 
 -- ---- marked words
 
-module _ {p : Sizes} {t : ℕ} {w w₁ : Words} (m : Ending p t w w₁) where
+module _ {p : Sizes} {t l r : ℕ} {w w₁ : Words} (m : Ending p t l r w w₁) where
   abbrev s : Sizes
   s = p
 
   -- the level around the ending one
   abbrev k : ℕ
-  k = depthOf (w .tables) t - 1
-
-  abbrev region : ℕ
-  region = regionAt s t (depthOf (w₁ .tables) t)
+  k = l - 1
 
   marks : Marked s w (partOf s w (regionAt s t (suc k))) w₁
-  marks = subst (λ (n : ℕ). Marked s w (partOf s w (regionAt s t n)) w₁) (deep m) (m .marks)
+  marks = subst (λ (g : ℕ). Marked s w (partOf s w g) w₁) (region-deep m) (m .marks)
 
   -- ---- what the calls ask
 
   pub cells-now : cellsWords p ≤ length (w₁ .cells)
-  cells-now = omega (arith, m .whole .sized .cells, marks .kept .cells-length)
-
-  level-now : depthOf (w₁ .tables) t ≡ suc k
-  level-now = depth-now m ∙ deep m
-
-  region-now : (1 ≤ region) × (region ≤ regions p)
-  region-now = (region-pos s t (depthOf (w₁ .tables) t), region-bounds p t (depthOf (w₁ .tables) t) (m .thread) (depth-high m) .1)
-
-  pub small-now : (page : ℕ) → page < p .pages → markOf p (w₁ .tables) page < 2 ^ 16
-  small-now = marks .small
+  cells-now = omega (arith, m .whole .sized .cells, m .marks .kept .cells-length)
 
   pub used-now : (c : ℕ) → pageOf c < p .pages → marked p (w₁ .tables) c ≡ 1 → BeginsIn p w₁ c
-  used-now c l on = kept-in-use (marks .kept) (room-of m) c (marks .only c l on .0)
+  used-now c l on = kept-in-use (m .marks .kept) (room-of m) c (m .marks .only c l on .0)
 
   pub shaped-now : Shaped p (w₁ .cells) (w₁ .tables)
-  shaped-now = kept-shaped (marks .kept) (shaped-at p w (m .whole) (m .fits))
+  shaped-now = kept-shaped (m .marks .kept) (shaped-at p w (m .whole) (m .fits))
 
   pub holding-now : Holding p (w₁ .cells) (w₁ .remember) (w₁ .tables)
   holding-now =
-      subst (λ (M : List ℕ). Holding p (w₁ .cells) M (w₁ .tables)) (sym (marks .remember))
-      (holding-kept (marks .kept) (space-of p w (m .whole) (m .fits)) (whole-holding p w (m .whole)))
+      subst (λ (M : List ℕ). Holding p (w₁ .cells) M (w₁ .tables)) (sym (m .marks .remember))
+      (holding-kept (m .marks .kept) (space-of p w (m .whole) (m .fits)) (whole-holding p w (m .whole)))
 
   pub targets-now : (c : ℕ) → pageOf c < p .pages → marked p (w₁ .tables) c ≡ 1 → workOf (w₁ .cells) c ≤ regions p
   targets-now = targets-low s w (m .whole) (room-of m) t k (m .thread) (deep m) w₁ marks
@@ -99,93 +82,74 @@ module _ {p : Sizes} {t : ℕ} {w w₁ : Words} (m : Ending p t w w₁) where
   paged-now =
       record {
         pages = λ g pos l.
-            sum-same _ _ (p .pages) (λ page h. owned-same (pages-same s w (m .whole) (room-of m) (partOf s w (regionAt s t (suc k))) w₁ marks page h) g) ∙ region-pages s w (m .whole) g pos
-            ∙ ap pagesOf (sym (counted-objects s w (m .whole) g pos l) ∙ sym (count-same marks (room-of m) g));
-        owners = λ page l. subst (λ (x : ℕ). x ≤ regions s) (sym (owner-same marks (room-of m) page l)) (owner-low s w (m .whole) page l);
+            sum-same _ _ (p .pages) (λ page h. owned-same (pages-same s w (m .whole) (room-of m) (partOf s w r) w₁ (m .marks) page h) g) ∙ region-pages s w (m .whole) g pos
+            ∙ ap pagesOf (sym (counted-objects s w (m .whole) g pos l) ∙ sym (count-same (m .marks) (room-of m) g));
+        owners = λ page l. subst (λ (x : ℕ). x ≤ regions s) (sym (owner-same (m .marks) (room-of m) page l)) (owner-low s w (m .whole) page l);
       }
-
-  -- a page that is not listed has no mark
-  pub unlisted : (n : ℕ) (l : List ℕ) → Lists (λ page. ownerOf p (w₁ .tables) page ≡ region) (p .pages) n l
-      → (page : ℕ) → page < p .pages → Off l n page → markOf p (w₁ .tables) page ≡ 0
-  unlisted n l = st.unlisted (begun m refl refl)
-
-  -- r is the region as the code has it
-  module _ {r : ℕ} (er : r ≡ region) where
-    pub real : (1 ≤ r) × (r ≤ regions p)
-    real = subst (λ (x : ℕ). (1 ≤ x) × (x ≤ regions p)) (sym er) region-now
-
-    pub listed : {n : ℕ} {l : List ℕ} → Lists (λ page. ownerOf p (w₁ .tables) page ≡ r) (p .pages) n l → Lists (λ page. ownerOf p (w₁ .tables) page ≡ region) (p .pages) n l
-    listed {n} {l} = subst (λ (x : ℕ). Lists (λ page. ownerOf p (w₁ .tables) page ≡ x) (p .pages) n l) er
 
   -- ---- 13 and 14
 
-  needs : needsBelow p (w₁ .cells) (w₁ .tables) t (depthOf (w₁ .tables) t) ≡ pagesNeeded s w t k
-  needs =
-      ap (needsBelow p (w₁ .cells) (w₁ .tables) t) level-now
-      ∙ needs-are s w (m .whole) (room-of m) t k (m .thread) (deep m) w₁ marks
+  needs : needsBelow p (w₁ .cells) (w₁ .tables) t l ≡ pagesNeeded s w t k
+  needs = ap (needsBelow p (w₁ .cells) (w₁ .tables) t) (next m) ∙ needs-are s w (m .whole) (room-of m) t k (m .thread) (deep m) w₁ marks
 
   free : ownedIn p (w₁ .tables) 0 (p .pages) ≡ pagesOwned s w 0
   free = free-are s w (m .whole) (room-of m) t k (m .thread) (deep m) w₁ marks
 
-  crossing : ce.crossingAfter p (w₁ .cells) (w₁ .remember) (w₁ .tables) region ≡ crossingAfter s w t k
+  crossing : ce.crossingAfter p (w₁ .cells) (w₁ .remember) (w₁ .tables) (regionAt s t l) ≡ crossingAfter s w t k
   crossing =
-      ap (λ (n : ℕ). ce.crossingAfter p (w₁ .cells) (w₁ .remember) (w₁ .tables) (regionAt s t n)) level-now
+      ap (λ (n : ℕ). ce.crossingAfter p (w₁ .cells) (w₁ .remember) (w₁ .tables) (regionAt s t n)) (next m)
       ∙ crossing-are s w (m .whole) (room-of m) t k (m .thread) (deep m) w₁ marks
 
   -- the rules' question
-  asks : roomAsked p (w₁ .cells) (w₁ .remember) (w₁ .tables) t (depthOf (w₁ .tables) t) ≡ ru.question s (heapOf s w) (endOf t)
+  asks : roomAsked p (w₁ .cells) (w₁ .remember) (w₁ .tables) t l ≡ ru.question s (heapOf s w) (endOf t)
   unfolding roomAsked ask
   asks =
-      ap₂ (λ (a b : ℕ). ask (leb a b) 13 (ask (leb (ce.crossingAfter p (w₁ .cells) (w₁ .remember) (w₁ .tables) region) (p .entries)) 14 0)) needs free
+      ap₂ (λ (a b : ℕ). ask (leb a b) 13 (ask (leb (ce.crossingAfter p (w₁ .cells) (w₁ .remember) (w₁ .tables) (regionAt s t l)) (p .entries)) 14 0)) needs free
       ∙ ap (λ (c : ℕ). ask (leb (pagesNeeded s w t k) (pagesOwned s w 0)) 13 (ask (leb c (p .entries)) 14 0)) crossing
       ∙ sym (end-question s w (m .whole) t (m .thread) k (deep m))
 
   -- ---- refused: the marking is undone
 
-  pub out-refused : (q : ℕ) → 0 < q → q ≡ roomAsked p (w₁ .cells) (w₁ .remember) (w₁ .tables) t (depthOf (w₁ .tables) t) → {W T : List ℕ}
-      → Unmarked p (p .pages) (w₁ .cells) (w₁ .tables) W T → DidHere s w (endOf t) (words W (w₁ .remember) T) (refused q)
+  pub out-refused : (q : ℕ) → 0 < q → q ≡ roomAsked p (w₁ .cells) (w₁ .remember) (w₁ .tables) t l → {W T : List ℕ} → Unmarked p (p .pages) (w₁ .cells) (w₁ .tables) W T
+      → DidHere s w (endOf t) (words W (w₁ .remember) T) (refused q)
   out-refused q pos e {W} {T} U =
       subst (λ (v : Words). DidHere s w (endOf t) v (refused q)) back (ended-refused s w (m .whole) t (m .thread) q pos (sym asks ∙ sym e))
     where
       back : w ≡ words W (w₁ .remember) T
       back =
-          ap₂ (λ (c b : List ℕ). words c (w .remember) b) (sym (cells-back s w (m .whole) (partOf s w (regionAt s t (suc k))) w₁ marks U))
-          (sym (tables-back s w (m .whole) (partOf s w (regionAt s t (suc k))) w₁ marks U))
-          ∙ ap (λ (M : List ℕ). words W M T) (sym (marks .remember))
+          ap₂ (λ (c b : List ℕ). words c (w .remember) b) (sym (cells-back s w (m .whole) (partOf s w r) w₁ (m .marks) U)) (sym (tables-back s w (m .whole) (partOf s w r) w₁ (m .marks) U))
+          ∙ ap (λ (M : List ℕ). words W M T) (sym (m .marks .remember))
 
   -- ---- accepted
 
-  module _ (yes : 0 ≡ roomAsked p (w₁ .cells) (w₁ .remember) (w₁ .tables) t (depthOf (w₁ .tables) t)) where
+  module _ (yes : 0 ≡ roomAsked p (w₁ .cells) (w₁ .remember) (w₁ .tables) t l) where
     both : (leb (pagesNeeded s w t k) (pagesOwned s w 0) ≡ true) × (leb (crossingAfter s w t k) (p .entries) ≡ true)
     both = both-yes _ _ (sym (end-question s w (m .whole) t (m .thread) k (deep m)) ∙ sym asks ∙ sym yes)
 
-    pub accepted : Accepted s t w
+    pub accepted : Accepted s t l w
     accepted = record { pages = leb-true _ _ (both .0); entries = leb-true _ _ (both .1) }
 
   -- ---- nothing survives
 
   module _ (none : (page : ℕ) → page < p .pages → markOf p (w₁ .tables) page ≡ 0) where
-    pub unmarked : (c : ℕ) → pageOf c < p .pages → marked p (w₁ .tables) c ≡ 0
-    unmarked c l = ap (λ (x : ℕ). bitAt x (placeOf c)) (none (pageOf c) l) ∙ bit-zero (placeOf c)
-
     -- no page is needed, and no further slot crosses
-    pub free-way : 0 ≡ roomAsked p (w₁ .cells) (w₁ .remember) (w₁ .tables) t (depthOf (w₁ .tables) t)
+    pub free-way : 0 ≡ roomAsked p (w₁ .cells) (w₁ .remember) (w₁ .tables) t l
     free-way =
-        asked-none p (w₁ .cells) (w₁ .remember) (w₁ .tables) t (depthOf (w₁ .tables) t) refl refl refl refl
-        (omega (arith, no-pages)) (omega (arith, crosses, m .whole .remember .entries .room, ap entriesUsed (marks .remember)))
+        asked-none p (w₁ .cells) (w₁ .remember) (w₁ .tables) t l refl refl refl refl
+        (omega (arith, no-pages)) (omega (arith, crosses, m .whole .remember .entries .room, ap entriesUsed (m .marks .remember)))
       where
-        no-pages : needsBelow p (w₁ .cells) (w₁ .tables) t (depthOf (w₁ .tables) t) ≡ 0
+        no-pages : needsBelow p (w₁ .cells) (w₁ .tables) t l ≡ 0
         no-pages =
-            sum-none _ (depthOf (w₁ .tables) t)
+            sum-none _ l
             (λ l h. needs-none p (w₁ .cells) (w₁ .tables) (regionAt s t l) (over-none p (w₁ .tables) (goesTo (w₁ .cells) (regionAt s t l)) (p .pages) none))
 
-        crosses : ce.crossingAfter p (w₁ .cells) (w₁ .remember) (w₁ .tables) region ≤ entriesUsed (w₁ .remember)
+        crosses : ce.crossingAfter p (w₁ .cells) (w₁ .remember) (w₁ .tables) (regionAt s t l) ≤ entriesUsed (w₁ .remember)
         crosses =
             omega (
               arith,
-              over-none p (w₁ .tables) (ce.cellCrosses p (w₁ .cells) (w₁ .tables) region) (p .pages) none,
-              sum-high (λ i. slotCrosses p (w₁ .cells) (w₁ .tables) region (slotIn (w₁ .remember) i)) 1 (entriesUsed (w₁ .remember))
-                  (λ i l. slot-le p (w₁ .cells) (w₁ .tables) region (slotIn (w₁ .remember) i)),
+              over-none p (w₁ .tables) (ce.cellCrosses p (w₁ .cells) (w₁ .tables) (regionAt s t l)) (p .pages) none,
+              sum-high (λ i. slotCrosses p (w₁ .cells) (w₁ .tables) (regionAt s t l) (slotIn (w₁ .remember) i)) 1 (entriesUsed (w₁ .remember))
+                  (λ i h. slot-le p (w₁ .cells) (w₁ .tables) (regionAt s t l) (slotIn (w₁ .remember) i)),
             )
 
 -- no epoch is open

@@ -14,7 +14,7 @@ use rules::Sizes;
 
 pub mod needs;
 
-// The end of the thread's innermost epoch once its survivors are marked: 13 if there are too few free pages, 14 if too many slots would cross.
+// The end of the thread's innermost epoch, at the given level, once its survivors are marked: 13 if there are too few free pages, 14 if too many slots would cross.
 fn end_marked(
     p: Sizes,
     cells: &mut [u32],
@@ -22,13 +22,13 @@ fn end_marked(
     tables: &mut [u32],
     notes: &mut [u32],
     thread: usize,
+    level: usize,
+    region: u32,
 ) -> Answer
-    requires { ⌜ ((c t : List ℕ) × Ending p thread (words c (now remember) t) (words (now cells) (now remember) (now tables))) ⌝ }
+    requires { ⌜ ((c t : List ℕ) × Ending p thread level region (words c (now remember) t) (words (now cells) (now remember) (now tables))) ⌝ }
     requires { ⌜ noteWords ≤ length (now notes) ⌝ }
-    ensures { λ r. ⌜ ((c t : List ℕ) → Ending p thread (words c (now (remember .entry)) t) (words (now (cells .entry)) (now (remember .entry)) (now (tables .entry))) → DidHere p (words c (now (remember .entry)) t) (endOf thread) (words (now (cells .exit)) (now (remember .exit)) (now (tables .exit))) r) ⌝ }
+    ensures { λ r. ⌜ ((c t : List ℕ) → Ending p thread level region (words c (now (remember .entry)) t) (words (now (cells .entry)) (now (remember .entry)) (now (tables .entry))) → DidHere p (words c (now (remember .entry)) t) (endOf thread) (words (now (cells .exit)) (now (remember .exit)) (now (tables .exit))) r) ⌝ }
 {
-    let level = layout::wide(layout::tables::depth(p, tables, thread));
-    let region = layout::regions::region_at(p, thread, level);
     let mut list = [0u32; 1024];
     let mut come = [0u32; 130];
     let n = pages::list_pages(p, tables, region, &mut list);
@@ -38,7 +38,19 @@ fn end_marked(
         mark::unmark::unmark(p, cells, tables, &list, n);
         return rules::refused(q);
     }
-    evacuate::evacuate(p, cells, remember, tables, notes, &list, n, &come, thread);
+    evacuate::evacuate(
+        p,
+        cells,
+        remember,
+        tables,
+        notes,
+        &list,
+        n,
+        &come,
+        thread,
+        level,
+        region,
+    );
     rules::done(0)
 }
 
@@ -56,12 +68,14 @@ pub fn end(
     requires { ⌜ noteWords ≤ length (now notes) ⌝ }
     ensures { λ r. ⌜ DidHere p (words (now (cells .entry)) (now (remember .entry)) (now (tables .entry))) (endOf thread) (words (now (cells .exit)) (now (remember .exit)) (now (tables .exit))) r ⌝ }
 {
-    if layout::tables::depth(p, tables, thread) == 0 {
+    let level = layout::wide(layout::tables::depth(p, tables, thread));
+    if level == 0 {
         return rules::refused(12);
     }
+    let region = layout::regions::region_at(p, thread, level);
     if mark::survivors::mark_survivors(p, cells, remember, tables, thread) {
-        return end_marked(p, cells, remember, tables, notes, thread);
+        return end_marked(p, cells, remember, tables, notes, thread, level, region);
     }
-    evacuate::evacuate_none(p, cells, remember, tables, notes, thread);
+    evacuate::evacuate_none(p, cells, remember, tables, notes, thread, level, region);
     rules::done(0)
 }

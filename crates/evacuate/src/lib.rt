@@ -5,16 +5,16 @@ ghost use mathlib.Core.List.{List};
 ghost use Prim.Native.Nat.{ℕ, _<_, _≤_};
 ghost use lib.ListN.{length, getD};
 ghost use Rattle.lists.specs.Part.{Lists};
-ghost use Rattle.rules.specs.Regions.{regionAt, regions};
-ghost use Rattle.layout.specs.Places.{depthOf, ownerOf, markOf};
+ghost use Rattle.rules.specs.Regions.{regions};
+ghost use Rattle.layout.specs.Places.{ownerOf, markOf};
 ghost use Rattle.layout.specs.Words.{words};
 ghost use Rattle.pages.specs.Pages.{noteWords};
 ghost use Rattle.copy.specs.Marks.{hits};
 ghost use Rattle.ending.specs.Ending.{Ending, Accepted, HasEnded};
 use rules::Sizes;
 
-// The accepted end of a thread's innermost region, whose survivors are marked and whose pages are listed; `come` is not 0 of the regions that
-// survivors go to.
+// The accepted end of a thread's innermost region, at the given level, whose survivors are marked and whose pages are listed; `come` is not 0
+// of the regions that survivors go to.
 pub fn evacuate(
     p: Sizes,
     cells: &mut [u32],
@@ -25,15 +25,15 @@ pub fn evacuate(
     n: usize,
     come: &[u32],
     thread: usize,
+    level: usize,
+    region: u32,
 )
-    requires { ⌜ ((c t : List ℕ) × Ending p thread (words c (now remember) t) (words (now cells) (now remember) (now tables)) × Accepted p thread (words c (now remember) t)) ⌝ }
-    requires { ⌜ Lists (λ page. ownerOf p (now tables) page ≡ regionAt p thread (depthOf (now tables) thread)) (p .pages) n (now list) ⌝ }
+    requires { ⌜ ((c t : List ℕ) × Ending p thread level region (words c (now remember) t) (words (now cells) (now remember) (now tables)) × Accepted p thread level (words c (now remember) t)) ⌝ }
+    requires { ⌜ Lists (λ page. ownerOf p (now tables) page ≡ region) (p .pages) n (now list) ⌝ }
     requires { ⌜ ((g : ℕ) → 1 ≤ g → g ≤ regions p → getD (now come) g 0 ≡ 0 → hits p (now cells) (now tables) g ≡ 0) ⌝ }
     requires { ⌜ (noteWords ≤ length (now notes)) × (regions p < length (now come)) ⌝ }
-    ensures { λ _. ⌜ ((c t : List ℕ) → Ending p thread (words c (now (remember .entry)) t) (words (now (cells .entry)) (now (remember .entry)) (now (tables .entry))) → Accepted p thread (words c (now (remember .entry)) t) → HasEnded p thread (words c (now (remember .entry)) t) (words (now (cells .exit)) (now (remember .exit)) (now (tables .exit)))) ⌝ }
+    ensures { λ _. ⌜ ((c t : List ℕ) → Ending p thread level region (words c (now (remember .entry)) t) (words (now (cells .entry)) (now (remember .entry)) (now (tables .entry))) → Accepted p thread level (words c (now (remember .entry)) t) → HasEnded p thread level region (words c (now (remember .entry)) t) (words (now (cells .exit)) (now (remember .exit)) (now (tables .exit)))) ⌝ }
 {
-    let level = layout::wide(layout::tables::depth(p, tables, thread));
-    let region = layout::regions::region_at(p, thread, level);
     copy::copy_survivors(p, cells, tables, notes, list, n, come, thread, level);
     settle::rewrite::rewrite_slots(p, cells, remember, region);
     settle::settle(p, cells, remember, tables, list, n, region);
@@ -49,14 +49,14 @@ pub fn evacuate_none(
     tables: &mut [u32],
     notes: &mut [u32],
     thread: usize,
+    level: usize,
+    region: u32,
 )
-    requires { ⌜ ((c t : List ℕ) × Ending p thread (words c (now remember) t) (words (now cells) (now remember) (now tables)) × Accepted p thread (words c (now remember) t)) ⌝ }
+    requires { ⌜ ((c t : List ℕ) × Ending p thread level region (words c (now remember) t) (words (now cells) (now remember) (now tables)) × Accepted p thread level (words c (now remember) t)) ⌝ }
     requires { ⌜ ((page : ℕ) → page < p .pages → markOf p (now tables) page ≡ 0) ⌝ }
     requires { ⌜ noteWords ≤ length (now notes) ⌝ }
-    ensures { λ _. ⌜ ((c t : List ℕ) → Ending p thread (words c (now (remember .entry)) t) (words (now (cells .entry)) (now (remember .entry)) (now (tables .entry))) → Accepted p thread (words c (now (remember .entry)) t) → HasEnded p thread (words c (now (remember .entry)) t) (words (now (cells .entry)) (now (remember .exit)) (now (tables .exit)))) ⌝ }
+    ensures { λ _. ⌜ ((c t : List ℕ) → Ending p thread level region (words c (now (remember .entry)) t) (words (now (cells .entry)) (now (remember .entry)) (now (tables .entry))) → Accepted p thread level (words c (now (remember .entry)) t) → HasEnded p thread level region (words c (now (remember .entry)) t) (words (now (cells .entry)) (now (remember .exit)) (now (tables .exit)))) ⌝ }
 {
-    let level = layout::wide(layout::tables::depth(p, tables, thread));
-    let region = layout::regions::region_at(p, thread, level);
     settle::entries::keep_entries(p, cells, remember, tables, region);
     release::release_region(p, tables, notes, region, thread);
 }

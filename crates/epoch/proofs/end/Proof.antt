@@ -2,41 +2,53 @@
 use borrow.Author.Needs.{needs}
 use Prim.Native.Nat.{ℕ, _<_}
 use mathlib.Core.Bool.{false}
-use mathlib.Core.Path.{_≡_, sym, _∙_}
+use mathlib.Core.Path.{_≡_, sym, ap, _∙_, subst}
 use native.Mathlib.Omega.{arith}
-use Rattle.layout.specs.Places.{markOf}
-use Rattle.layout.specs.Words.{words}
+use Rattle.rules.specs.Regions.{regionAt}
+use Rattle.layout.specs.Places.{depthOf, markOf}
+use Rattle.layout.specs.Words.{Words, words}
+use Rattle.promises.specs.Ends.{partOf}
 use Rattle.promises.specs.Questions.{did-answer}
-use Rattle.mark.specs.Survivors.{space-of, none-survives}
+use Rattle.mark.specs.Survivors.{Marked, space-of, none-survives}
 use Rattle.ending.specs.Ending.{Ending, ended-here}
 use Rattle.epoch.specs.EndDid.{accepted, free-way, shut}
 use Rattle.epoch.proofs.end.Statement.{statement}
 use Rattle.epoch.proofs.end.Tie as tie
 
-ending : (c : tie.After-mark-survivors)
-    → (let a = c .before .before .before .before .before .before .before .before .before .before .before .args in
-    Ending (a .p) (a .thread) (words (a .cells .now) (a .remember .now) (a .tables .now)) (words (c .mark-survivors .last .1 .0) (a .remember .now) (c .mark-survivors .last .1 .1 .1 .0)))
+-- the words before the marking, and after it
+abbrev before : tie.After-mark-survivors → Words
+before c = let a = c .before .before .before .before .before .before .before .before .before .before .before .before .before .args in words (a .cells .now) (a .remember .now) (a .tables .now)
+
+abbrev after : tie.After-mark-survivors → Words
+after c = words (c .mark-survivors .last .1 .0) (c .before .before .before .before .before .before .before .before .before .before .before .before .before .args .remember .now) (c .mark-survivors .last .1 .1 .1 .0)
+
+level : (c : tie.After-mark-survivors) → depthOf (before c .tables) (c .before .before .before .before .before .before .before .before .before .before .before .before .before .args .thread) ≡ c .before .before .before .before .before .before .wide .result
+level c = sym (c .before .before .before .before .before .before .wide .ensures ∙ c .before .before .before .before .before .before .before .depth .ensures)
+
+ending : (c : tie.After-mark-survivors) → Ending (c .before .before .before .before .before .before .before .before .before .before .before .before .before .args .p) (c .before .before .before .before .before .before .before .before .before .before .before .before .before .args .thread) (c .before .before .before .before .before .before .wide .result) (c .before .before .before .before .region-at .result) (before c) (after c)
 ending c =
-    let pre = c .before .before .before .before .before .before .before .before .before .before .before .pre in
+    let a = c .before .before .before .before .before .before .before .before .before .before .before .before .before .args in
+    let pre = c .before .before .before .before .before .before .before .before .before .before .before .before .before .pre in
     record {
       whole = pre .0;
       fits = omega arith;
       thread = pre .1 .0;
-      epoch = omega (arith, c .before .before .before .before .before .depth .ensures, c .before .before .before .before .if1 .left);
-      marks = c .mark-survivors .ensures .0;
+      level = level c;
+      epoch = omega (arith, c .before .before .before .before .before .if1 .left);
+      region = c .before .before .before .before .region-at .ensures;
+      marks = subst (λ (g : ℕ). Marked (a .p) (before c) (partOf (a .p) (before c) g) (after c)) (ap (regionAt (a .p) (a .thread)) (level c) ∙ sym (c .before .before .before .before .region-at .ensures)) (c .mark-survivors .ensures .0);
     }
 
-unmarked : (c : tie.After-mark-survivors) → c .mark-survivors .result ≡ false
-    → (let a = c .before .before .before .before .before .before .before .before .before .before .before .args in (page : ℕ) → page < a .p .pages → markOf (a .p) (c .mark-survivors .last .1 .1 .1 .0) page ≡ 0)
-unmarked c e =
-    let a = c .before .before .before .before .before .before .before .before .before .before .before .args in
-    let w = words (a .cells .now) (a .remember .now) (a .tables .now) in
-    none-survives (a .p) w _ (words (c .mark-survivors .last .1 .0) (a .remember .now) (c .mark-survivors .last .1 .1 .1 .0)) (ending c .marks) (c .mark-survivors .result) (c .mark-survivors .ensures .1) e
+unmarked : (c : tie.After-mark-survivors) → c .mark-survivors .result ≡ false → (page : ℕ) → page < c .before .before .before .before .before .before .before .before .before .before .before .before .before .args .p .pages → markOf (c .before .before .before .before .before .before .before .before .before .before .before .before .before .args .p) (after c .tables) page ≡ 0
+unmarked c e = none-survives (c .before .before .before .before .before .before .before .before .before .before .before .before .before .args .p) (before c) _ (after c) (ending c .marks) (c .mark-survivors .result) (c .mark-survivors .ensures .1) e
 
 depth-requires : tie.Need-depth-requires
 depth-requires c κs =
-    let w = words (c .before .before .before .before .before .args .cells .now) (c .before .before .before .before .before .args .remember .now) (c .before .before .before .before .before .args .tables .now) in
-    (space-of (c .before .before .before .before .before .args .p) w (c .before .before .before .before .before .pre .0) (omega arith), c .before .before .before .before .before .pre .1 .0)
+    let a = c .before .before .before .before .before .args in
+    (space-of (a .p) (words (a .cells .now) (a .remember .now) (a .tables .now)) (c .before .before .before .before .before .pre .0) (omega arith), c .before .before .before .before .before .pre .1 .0)
+
+wide-requires : tie.Need-wide-requires
+wide-requires c κs = search needs
 
 refused-requires : tie.Need-refused-requires
 refused-requires c κs = search needs
@@ -46,14 +58,23 @@ same-length c = search needs
 
 returns : tie.Need-returns
 returns c =
-    let w = words (c .before .before .before .before .before .before .before .before .args .cells .now) (c .before .before .before .before .before .before .before .before .args .remember .now) (c .before .before .before .before .before .before .before .before .args .tables .now) in
-    did-answer (c .refused .ensures) (shut (c .before .before .before .before .before .before .before .before .args .p) w (c .before .before .before .before .before .before .before .before .args .thread) (c .before .before .before .before .before .before .before .before .pre .0) (c .before .before .before .before .before .before .before .before .pre .1 .0) (sym (c .before .before .depth .ensures) ∙ c .before .if1 .taken))
+    let a = c .before .before .before .before .before .before .before .before .before .args in
+    let pre = c .before .before .before .before .before .before .before .before .before .pre in
+    did-answer (c .refused .ensures)
+    (shut (a .p) (words (a .cells .now) (a .remember .now) (a .tables .now)) (a .thread) (pre .0) (pre .1 .0) (sym (c .before .before .wide .ensures ∙ c .before .before .before .depth .ensures) ∙ c .before .if1 .taken))
+
+region-at-requires : tie.Need-region-at-requires
+region-at-requires c κs =
+    let a = c .before .before .before .before .before .before .before .before .args in
+    let pre = c .before .before .before .before .before .before .before .before .pre in
+    let rm = space-of (a .p) (words (a .cells .now) (a .remember .now) (a .tables .now)) (pre .0) (omega arith) in
+    (rm .threads-high, rm .depth-high, pre .1 .0, omega (arith, pre .0 .depths (a .thread) (pre .1 .0), c .before .wide .ensures, c .before .before .depth .ensures))
 
 mark-survivors-requires : tie.Need-mark-survivors-requires
-mark-survivors-requires c κs = (c .before .before .before .before .before .before .before .before .before .before .pre .0, (c .before .before .before .before .before .before .before .before .before .before .pre .1 .0, omega (arith, c .before .before .before .before .depth .ensures, c .before .before .before .if1 .left)))
+mark-survivors-requires c κs = let pre = c .before .before .before .before .before .before .before .before .before .before .before .before .pre in (pre .0, (pre .1 .0, omega (arith, c .before .before .before .before .before .before .depth .ensures, c .before .before .before .before .before .wide .ensures, c .before .before .before .before .if1 .left)))
 
 end-marked-requires : tie.Need-end-marked-requires
-end-marked-requires c κs = ((c .before .before .before .before .before .before .before .before .before .before .before .before .before .before .before .before .before .before .before .before .args .cells .now, c .before .before .before .before .before .before .before .before .before .before .before .before .before .before .before .before .before .before .before .before .args .tables .now, ending (c .before .before .before .before .before .before .before .before .before)), c .before .before .before .before .before .before .before .before .before .before .before .before .before .before .before .before .before .before .before .before .pre .1 .1)
+end-marked-requires c κs = let a = c .before .before .before .before .before .before .before .before .before .before .before .before .before .before .before .before .before .before .before .before .before .before .args in ((a .cells .now, a .tables .now, ending (c .before .before .before .before .before .before .before .before .before)), c .before .before .before .before .before .before .before .before .before .before .before .before .before .before .before .before .before .before .before .before .before .before .pre .1 .1)
 
 same-length-2 : tie.Need-same-length-2
 same-length-2 c = search needs
@@ -68,13 +89,14 @@ same-length-5 : tie.Need-same-length-5
 same-length-5 c = search needs
 
 returns-2 : tie.Need-returns-2
-returns-2 c = c .before .before .before .before .before .before .before .before .end-marked .ensures (c .before .before .before .before .before .before .before .before .before .before .before .before .before .before .before .before .before .before .before .before .before .before .before .before .before .before .before .before .before .args .cells .now) (c .before .before .before .before .before .before .before .before .before .before .before .before .before .before .before .before .before .before .before .before .before .before .before .before .before .before .before .before .before .args .tables .now) (ending (c .before .before .before .before .before .before .before .before .before .before .before .before .before .before .before .before .before .before))
+returns-2 c = let a = c .before .before .before .before .before .before .before .before .before .before .before .before .before .before .before .before .before .before .before .before .before .before .before .before .before .before .before .before .before .before .before .args in c .before .before .before .before .before .before .before .before .end-marked .ensures (a .cells .now) (a .tables .now) (ending (c .before .before .before .before .before .before .before .before .before .before .before .before .before .before .before .before .before .before))
 
 evacuate-none-requires : tie.Need-evacuate-none-requires
 evacuate-none-requires c κs =
+    let a = c .before .before .before .before .before .before .before .before .before .before .before .before .before .before .before .before .before .before .before .before .before .before .args in
     let m = ending (c .before .before .before .before .before .before .before .before .before) in
     let none = unmarked (c .before .before .before .before .before .before .before .before .before) (c .before .before .before .before .if2 .left) in
-    ((c .before .before .before .before .before .before .before .before .before .before .before .before .before .before .before .before .before .before .before .before .args .cells .now, c .before .before .before .before .before .before .before .before .before .before .before .before .before .before .before .before .before .before .before .before .args .tables .now, m, accepted m (free-way m none)), (none, c .before .before .before .before .before .before .before .before .before .before .before .before .before .before .before .before .before .before .before .before .pre .1 .1))
+    ((a .cells .now, a .tables .now, m, accepted m (free-way m none)), (none, c .before .before .before .before .before .before .before .before .before .before .before .before .before .before .before .before .before .before .before .before .before .before .pre .1 .1))
 
 done-requires : tie.Need-done-requires
 done-requires c κs = search needs
@@ -93,19 +115,21 @@ same-length-9 c = search needs
 
 returns-3 : tie.Need-returns-3
 returns-3 c =
+    let a = c .before .before .before .before .before .before .before .before .before .before .before .before .before .before .before .before .before .before .before .before .before .before .before .before .before .before .before .before .before .before .args in
     let m = ending (c .before .before .before .before .before .before .before .before .before .before .before .before .before .before .before .before .before) in
-    let none = unmarked (c .before .before .before .before .before .before .before .before .before .before .before .before .before .before .before .before .before) (c .before .before .before .before .before .before .before .before .before .before .before .before .if2 .left) in
-    let a = accepted m (free-way m none) in
-    did-answer (c .done .ensures) (ended-here m a (c .before .before .before .before .before .before .before .evacuate-none .ensures (c .before .before .before .before .before .before .before .before .before .before .before .before .before .before .before .before .before .before .before .before .before .before .before .before .before .before .before .before .args .cells .now) (c .before .before .before .before .before .before .before .before .before .before .before .before .before .before .before .before .before .before .before .before .before .before .before .before .before .before .before .before .args .tables .now) m a))
+    let yes = accepted m (free-way m (unmarked (c .before .before .before .before .before .before .before .before .before .before .before .before .before .before .before .before .before) (c .before .before .before .before .before .before .before .before .before .before .before .before .if2 .left))) in
+    did-answer (c .done .ensures) (ended-here m yes (c .before .before .before .before .before .before .before .evacuate-none .ensures (a .cells .now) (a .tables .now) m yes))
 
 pub end-spec : {M : Type 1} → statement M
 end-spec =
     tie.close
     (tie.spec
     depth-requires
+    wide-requires
     refused-requires
     same-length
     returns
+    region-at-requires
     mark-survivors-requires
     end-marked-requires
     same-length-2

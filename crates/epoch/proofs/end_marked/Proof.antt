@@ -1,38 +1,26 @@
 -- The listed pages are counted over, and the marking is either undone or evacuated: at each way out the promise of code 2 holds.
 use borrow.Author.Needs.{needs}
 use Prim.Native.Nat.{ℕ}
-use mathlib.Core.Path.{_≡_, sym, ap, _∙_, subst}
+use mathlib.Core.Path.{_≡_, sym, _∙_, subst}
 use native.Mathlib.Omega.{arith}
-use Rattle.rules.specs.Regions.{regionAt}
 use Rattle.promises.specs.Questions.{did-answer}
 use Rattle.lists.specs.Zeros.{replicate-at}
 use Rattle.census.specs.Census.{Census}
-use Rattle.ending.specs.CensusCounts.{roomAsked, regions-few, arrivals-hits}
-use Rattle.ending.specs.Ending.{room-now, depth-high, ended-here}
-use Rattle.epoch.specs.EndDid.{cells-now, small-now, used-now, shaped-now, holding-now, targets-now, paged-now, unlisted, real, listed, out-refused, accepted}
+use Rattle.ending.specs.CensusCounts.{regions-few, arrivals-hits}
+use Rattle.ending.specs.Ending.{room-now, level-low, ended-here}
+use Rattle.ending.specs.Stages.{bounds, unlisted}
+use Rattle.epoch.specs.EndDid.{cells-now, used-now, shaped-now, holding-now, targets-now, paged-now, out-refused, accepted}
 use Rattle.epoch.proofs.end_marked.Statement.{statement}
 use Rattle.epoch.proofs.end_marked.Tie as tie
-
-depth-requires : tie.Need-depth-requires
-depth-requires c κs = (room-now (c .before .before .before .before .before .pre .0 .2), c .before .before .before .before .before .pre .0 .2 .thread)
-
-wide-requires : tie.Need-wide-requires
-wide-requires c κs = search needs
-
-region-at-requires : tie.Need-region-at-requires
-region-at-requires c κs =
-    let m = c .before .before .before .before .before .before .before .pre .0 .2 in
-    let rm = room-now m in
-    (rm .threads-high, rm .depth-high, m .thread, omega (arith, depth-high m, c .wide .ensures, c .before .depth .ensures))
 
 slice-aggregate-list-pages : tie.Need-slice-aggregate-list-pages
 slice-aggregate-list-pages c = search needs
 
 list-pages-requires : tie.Need-list-pages-requires
 list-pages-requires c κs =
-    let m = c .before .before .before .before .before .before .before .before .before .before .pre .0 .2 in
-    let er = c .before .before .region-at .ensures ∙ ap (regionAt (c .before .before .before .before .before .before .before .before .before .before .args .p) (c .before .before .before .before .before .before .before .before .before .before .args .thread)) (c .before .before .before .wide .ensures ∙ c .before .before .before .before .depth .ensures) in
-    (room-now m, (real m er, (paged-now m .pages (c .before .before .region-at .result) (real m er .0) (real m er .1), room-now m .few)))
+    let m = c .before .before .before .before .before .before .pre .0 .2 in
+    let z = bounds m in
+    (room-now m, (z, (paged-now m .pages (c .before .before .before .before .before .before .args .region) (z .0) (z .1), room-now m .few)))
 
 slice-aggregate-count-listed : tie.Need-slice-aggregate-count-listed
 slice-aggregate-count-listed c = search needs
@@ -42,28 +30,28 @@ slice-aggregate-count-listed-2 c = search needs
 
 count-listed-requires : tie.Need-count-listed-requires
 count-listed-requires c κs =
-    let m = c .before .before .before .before .before .before .before .before .before .before .before .before .before .before .before .before .pre .0 .2 in
-    let er = c .before .before .before .before .before .before .before .before .region-at .ensures ∙ ap (regionAt (c .before .before .before .before .before .before .before .before .before .before .before .before .before .before .before .before .args .p) (c .before .before .before .before .before .before .before .before .before .before .before .before .before .before .before .before .args .thread)) (c .before .before .before .before .before .before .before .before .before .wide .ensures ∙ c .before .before .before .before .before .before .before .before .before .before .depth .ensures) in
-    (shaped-now m, (c .before .before .before .before .before .list-pages .ensures .rises, (unlisted m _ _ (listed m er (c .before .before .before .before .before .list-pages .ensures)), (small-now m, (used-now m, (λ x l on. omega (arith, targets-now m x l on, regions-few (room-now m)), λ g. replicate-at 130 g 0))))))
+    let m = c .before .before .before .before .before .before .before .before .before .before .before .before .pre .0 .2 in
+    let o = c .before .before .before .before .before .list-pages .ensures in
+    (shaped-now m, (o .rises, (unlisted m o, (m .marks .small, (used-now m, (λ x l on. omega (arith, targets-now m x l on, regions-few (room-now m)), λ g. replicate-at 130 g 0))))))
 
 slice-aggregate-ask-room : tie.Need-slice-aggregate-ask-room
 slice-aggregate-ask-room c = search needs
 
 ask-room-requires : tie.Need-ask-room-requires
 ask-room-requires c κs =
-    let m = c .before .before .before .before .before .before .before .before .before .before .before .before .before .before .before .before .before .before .before .before .before .before .pre .0 .2 in
-    let census =
-    subst (λ (r : ℕ). Census (c .before .before .before .before .before .before .before .before .before .before .before .before .before .before .before .before .before .before .before .before .before .before .args .p) (c .before .before .before .before .before .before .before .before .before .before .before .before .before .before .before .before .before .before .before .before .before .before .args .cells .now) (c .before .before .before .before .before .before .before .before .before .before .before .before .before .before .before .before .before .before .before .before .before .before .args .tables .now) r (c .before .before .before .before .before .before .before .before .before .before .before .before .before .before .before .before .before .before .before .before .before .before .args .p .pages) (c .before .before .before .before .before .count-listed .last .1 .1 .1 .1 .1 .1 .0) (c .before .before .before .before .before .count-listed .result)) (c .before .before .before .before .before .before .before .before .before .before .before .before .before .before .region-at .ensures) (c .before .before .before .before .before .count-listed .ensures) in
-    (shaped-now m, (holding-now m, (paged-now m, (census, (omega (arith, regions-few (room-now m), c .before .before .before .before .before .count-listed .kept .1 .1 .1 .1 .1 .1 .0), (m .thread, omega (arith, depth-high m, c .before .before .before .before .before .before .before .before .before .before .before .before .before .before .before .wide .ensures, c .before .before .before .before .before .before .before .before .before .before .before .before .before .before .before .before .depth .ensures)))))))
+    let a = c .before .before .before .before .before .before .before .before .before .before .before .before .before .before .before .before .before .before .args in
+    let m = c .before .before .before .before .before .before .before .before .before .before .before .before .before .before .before .before .before .before .pre .0 .2 in
+    let k = c .before .before .before .before .before .count-listed in
+    (shaped-now m, (holding-now m, (paged-now m, (subst (λ (r : ℕ). Census (a .p) (a .cells .now) (a .tables .now) r (a .p .pages) (k .last .1 .1 .1 .1 .1 .1 .0) (k .result)) (m .region) (k .ensures), (omega (arith, regions-few (room-now m), k .kept .1 .1 .1 .1 .1 .1 .0), (m .thread, level-low m))))))
 
 slice-aggregate-unmark : tie.Need-slice-aggregate-unmark
 slice-aggregate-unmark c = search needs
 
 unmark-requires : tie.Need-unmark-requires
 unmark-requires c κs =
-    let m = c .before .before .before .before .before .before .before .before .before .before .before .before .before .before .before .before .before .before .before .before .before .before .before .before .before .before .before .pre .0 .2 in
-    let er = c .before .before .before .before .before .before .before .before .before .before .before .before .before .before .before .before .before .before .before .region-at .ensures ∙ ap (regionAt (c .before .before .before .before .before .before .before .before .before .before .before .before .before .before .before .before .before .before .before .before .before .before .before .before .before .before .before .args .p) (c .before .before .before .before .before .before .before .before .before .before .before .before .before .before .before .before .before .before .before .before .before .before .before .before .before .before .before .args .thread)) (c .before .before .before .before .before .before .before .before .before .before .before .before .before .before .before .before .before .before .before .before .wide .ensures ∙ c .before .before .before .before .before .before .before .before .before .before .before .before .before .before .before .before .before .before .before .before .before .depth .ensures) in
-    (room-now m, (cells-now m, (small-now m, (c .before .before .before .before .before .before .before .before .before .before .before .before .before .before .before .before .list-pages .ensures .rises, unlisted m _ _ (listed m er (c .before .before .before .before .before .before .before .before .before .before .before .before .before .before .before .before .list-pages .ensures))))))
+    let m = c .before .before .before .before .before .before .before .before .before .before .before .before .before .before .before .before .before .before .before .before .before .before .before .pre .0 .2 in
+    let o = c .before .before .before .before .before .before .before .before .before .before .before .before .before .before .before .before .list-pages .ensures in
+    (room-now m, (cells-now m, (m .marks .small, (o .rises, unlisted m o))))
 
 refused-requires : tie.Need-refused-requires
 refused-requires c κs = search needs
@@ -80,8 +68,7 @@ same-length-3 c = search needs
 returns : tie.Need-returns
 returns c = λ cells tables m.
     did-answer (c .refused .ensures)
-    (out-refused m (c .before .before .before .before .before .before .before .before .before .before .ask-room .result) (omega (arith, c .before .before .before .before .before .before .before .before .before .if1 .taken))
-    (c .before .before .before .before .before .before .before .before .before .before .ask-room .ensures ∙ ap (roomAsked (c .before .before .before .before .before .before .before .before .before .before .before .before .before .before .before .before .before .before .before .before .before .before .before .before .before .before .before .before .before .before .before .before .before .args .p) (c .before .before .before .before .before .before .before .before .before .before .before .before .before .before .before .before .before .before .before .before .before .before .before .before .before .before .before .before .before .before .before .before .before .args .cells .now) (c .before .before .before .before .before .before .before .before .before .before .before .before .before .before .before .before .before .before .before .before .before .before .before .before .before .before .before .before .before .before .before .before .before .args .remember .now) (c .before .before .before .before .before .before .before .before .before .before .before .before .before .before .before .before .before .before .before .before .before .before .before .before .before .before .before .before .before .before .before .before .before .args .tables .now) (c .before .before .before .before .before .before .before .before .before .before .before .before .before .before .before .before .before .before .before .before .before .before .before .before .before .before .before .before .before .before .before .before .before .args .thread)) (c .before .before .before .before .before .before .before .before .before .before .before .before .before .before .before .before .before .before .before .before .before .before .before .before .before .before .wide .ensures ∙ c .before .before .before .before .before .before .before .before .before .before .before .before .before .before .before .before .before .before .before .before .before .before .before .before .before .before .before .depth .ensures)) (c .before .before .before .before .before .unmark .ensures))
+    (out-refused m (c .before .before .before .before .before .before .before .before .before .before .ask-room .result) (omega (arith, c .before .before .before .before .before .before .before .before .before .if1 .taken)) (c .before .before .before .before .before .before .before .before .before .before .ask-room .ensures) (c .before .before .before .before .before .unmark .ensures))
 
 slice-aggregate-evacuate : tie.Need-slice-aggregate-evacuate
 slice-aggregate-evacuate c = search needs
@@ -91,16 +78,17 @@ slice-aggregate-evacuate-2 c = search needs
 
 evacuate-requires : tie.Need-evacuate-requires
 evacuate-requires c κs =
-    let m = c .before .before .before .before .before .before .before .before .before .before .before .before .before .before .before .before .before .before .before .before .before .before .before .before .before .before .before .before .before .before .pre .0 .2 in
-    let er = c .before .before .before .before .before .before .before .before .before .before .before .before .before .before .before .before .before .before .before .before .before .before .region-at .ensures ∙ ap (regionAt (c .before .before .before .before .before .before .before .before .before .before .before .before .before .before .before .before .before .before .before .before .before .before .before .before .before .before .before .before .before .before .args .p) (c .before .before .before .before .before .before .before .before .before .before .before .before .before .before .before .before .before .before .before .before .before .before .before .before .before .before .before .before .before .before .args .thread)) (c .before .before .before .before .before .before .before .before .before .before .before .before .before .before .before .before .before .before .before .before .before .before .before .wide .ensures ∙ c .before .before .before .before .before .before .before .before .before .before .before .before .before .before .before .before .before .before .before .before .before .before .before .before .depth .ensures) in
-    let yes = sym (let z : c .before .before .before .before .before .before .before .ask-room .result ≡ 0 = omega (arith, c .before .before .before .before .before .before .if1 .left) in z) ∙ c .before .before .before .before .before .before .before .ask-room .ensures
-    ∙ ap (roomAsked (c .before .before .before .before .before .before .before .before .before .before .before .before .before .before .before .before .before .before .before .before .before .before .before .before .before .before .before .before .before .before .args .p) (c .before .before .before .before .before .before .before .before .before .before .before .before .before .before .before .before .before .before .before .before .before .before .before .before .before .before .before .before .before .before .args .cells .now) (c .before .before .before .before .before .before .before .before .before .before .before .before .before .before .before .before .before .before .before .before .before .before .before .before .before .before .before .before .before .before .args .remember .now) (c .before .before .before .before .before .before .before .before .before .before .before .before .before .before .before .before .before .before .before .before .before .before .before .before .before .before .before .before .before .before .args .tables .now) (c .before .before .before .before .before .before .before .before .before .before .before .before .before .before .before .before .before .before .before .before .before .before .before .before .before .before .before .before .before .before .args .thread)) (c .before .before .before .before .before .before .before .before .before .before .before .before .before .before .before .before .before .before .before .before .before .before .before .wide .ensures ∙ c .before .before .before .before .before .before .before .before .before .before .before .before .before .before .before .before .before .before .before .before .before .before .before .before .depth .ensures) in (
-      (c .before .before .before .before .before .before .before .before .before .before .before .before .before .before .before .before .before .before .before .before .before .before .before .before .before .before .before .before .before .before .pre .0 .0, c .before .before .before .before .before .before .before .before .before .before .before .before .before .before .before .before .before .before .before .before .before .before .before .before .before .before .before .before .before .before .pre .0 .1, m, accepted m yes),
+    let a = c .before .before .before .before .before .before .before .before .before .before .before .before .before .before .before .before .before .before .before .before .before .before .before .before .before .before .args in
+    let pre = c .before .before .before .before .before .before .before .before .before .before .before .before .before .before .before .before .before .before .before .before .before .before .before .before .before .before .pre in
+    let m = pre .0 .2 in
+    let k = c .before .before .before .before .before .before .before .before .before .before .before .before .before .count-listed in
+    let yes = sym (let z : c .before .before .before .before .before .before .before .ask-room .result ≡ 0 = omega (arith, c .before .before .before .before .before .before .if1 .left) in z) ∙ c .before .before .before .before .before .before .before .ask-room .ensures in (
+      (pre .0 .0, pre .0 .1, m, accepted m yes),
       (
-        listed m er (c .before .before .before .before .before .before .before .before .before .before .before .before .before .before .before .before .before .before .before .list-pages .ensures),
+        c .before .before .before .before .before .before .before .before .before .before .before .before .before .before .before .before .before .before .before .list-pages .ensures,
         (
-          (λ g a b z. sym (arrivals-hits (c .before .before .before .before .before .before .before .before .before .before .before .before .before .before .before .before .before .before .before .before .before .before .before .before .before .before .before .before .before .before .args .p) (c .before .before .before .before .before .before .before .before .before .before .before .before .before .before .before .before .before .before .before .before .before .before .before .before .before .before .before .before .before .before .args .cells .now) (c .before .before .before .before .before .before .before .before .before .before .before .before .before .before .before .before .before .before .before .before .before .before .before .before .before .before .before .before .before .before .args .tables .now) (c .before .before .before .before .before .before .before .before .before .before .before .before .before .count-listed .last .1 .1 .1 .1 .1 .1 .0) (c .before .before .before .before .before .before .before .before .before .before .before .before .before .count-listed .ensures .arrivals) g) ∙ z),
-          (c .before .before .before .before .before .before .before .before .before .before .before .before .before .before .before .before .before .before .before .before .before .before .before .before .before .before .before .before .before .before .pre .1, omega (arith, regions-few (room-now m), c .before .before .before .before .before .before .before .before .before .before .before .before .before .count-listed .kept .1 .1 .1 .1 .1 .1 .0)),
+          (λ g low high z. sym (arrivals-hits (a .p) (a .cells .now) (a .tables .now) (k .last .1 .1 .1 .1 .1 .1 .0) (k .ensures .arrivals) g) ∙ z),
+          (pre .1, omega (arith, regions-few (room-now m), k .kept .1 .1 .1 .1 .1 .1 .0)),
         ),
       ),
     )
@@ -122,19 +110,13 @@ same-length-7 c = search needs
 
 returns-2 : tie.Need-returns-2
 returns-2 c = λ cells tables m.
-    let a =
-    accepted m
-    (sym (let z : c .before .before .before .before .before .before .before .before .before .before .before .before .before .before .before .before .before .ask-room .result ≡ 0 = omega (arith, c .before .before .before .before .before .before .before .before .before .before .before .before .before .before .before .before .if1 .left) in z) ∙ c .before .before .before .before .before .before .before .before .before .before .before .before .before .before .before .before .before .ask-room .ensures
-    ∙ ap (roomAsked (c .before .before .before .before .before .before .before .before .before .before .before .before .before .before .before .before .before .before .before .before .before .before .before .before .before .before .before .before .before .before .before .before .before .before .before .before .before .before .before .before .args .p) (c .before .before .before .before .before .before .before .before .before .before .before .before .before .before .before .before .before .before .before .before .before .before .before .before .before .before .before .before .before .before .before .before .before .before .before .before .before .before .before .before .args .cells .now) (c .before .before .before .before .before .before .before .before .before .before .before .before .before .before .before .before .before .before .before .before .before .before .before .before .before .before .before .before .before .before .before .before .before .before .before .before .before .before .before .before .args .remember .now) (c .before .before .before .before .before .before .before .before .before .before .before .before .before .before .before .before .before .before .before .before .before .before .before .before .before .before .before .before .before .before .before .before .before .before .before .before .before .before .before .before .args .tables .now) (c .before .before .before .before .before .before .before .before .before .before .before .before .before .before .before .before .before .before .before .before .before .before .before .before .before .before .before .before .before .before .before .before .before .before .before .before .before .before .before .before .args .thread)) (c .before .before .before .before .before .before .before .before .before .before .before .before .before .before .before .before .before .before .before .before .before .before .before .before .before .before .before .before .before .before .before .before .before .wide .ensures ∙ c .before .before .before .before .before .before .before .before .before .before .before .before .before .before .before .before .before .before .before .before .before .before .before .before .before .before .before .before .before .before .before .before .before .before .depth .ensures)) in
+    let a = accepted m (sym (let z : c .before .before .before .before .before .before .before .before .before .before .before .before .before .before .before .before .before .ask-room .result ≡ 0 = omega (arith, c .before .before .before .before .before .before .before .before .before .before .before .before .before .before .before .before .if1 .left) in z) ∙ c .before .before .before .before .before .before .before .before .before .before .before .before .before .before .before .before .before .ask-room .ensures) in
     did-answer (c .done .ensures) (ended-here m a (c .before .before .before .before .before .before .before .before .before .evacuate .ensures cells tables m a))
 
 pub end-marked-spec : {M : Type 1} → statement M
 end-marked-spec =
     tie.close
     (tie.spec
-    depth-requires
-    wide-requires
-    region-at-requires
     slice-aggregate-list-pages
     list-pages-requires
     slice-aggregate-count-listed
