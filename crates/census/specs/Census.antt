@@ -16,9 +16,9 @@ abbrev pub Arrivals : Sizes → List ℕ → List ℕ → ℕ → List ℕ → T
 Arrivals p W T n come = (g : ℕ) → getD come g 0 ≡ overMarked p T (goesTo W g) n
 
 -- and k is how many of their slots cross; no more than their pages have words
-pub record Census (p : Sizes) (W T : List ℕ) (r n : ℕ) (come : List ℕ) (k : ℕ) : Type 0 where
+pub record Census (p : Sizes) (W T : List ℕ) (n : ℕ) (come : List ℕ) (k : ℕ) : Type 0 where
   pub arrivals : Arrivals p W T n come
-  pub crossing : k ≡ overMarked p T (cellCrosses p W T r) n
+  pub crossing : k ≡ overMarked p T (cellCrosses p W T) n
   pub few : k ≤ pageWords * n
 
 -- on a page at most as many survivors go to one region as it has cells
@@ -35,25 +35,25 @@ pub over-none : (p : Sizes) (T : List ℕ) (f : ℕ → ℕ) (n : ℕ) → ((pag
 over-none p T f n z =
     sum-none (λ page. onPage f page (markOf p T page)) n (λ page l. ap (onPage f page) (z page l) ∙ bits-none (λ i. f (cellOn page i)))
 
-module _ {p : Sizes} {W T : List ℕ} {r : ℕ} where
-  pub census-start : (come : List ℕ) → ((g : ℕ) → getD come g 0 ≡ 0) → Census p W T r 0 come 0
+module _ {p : Sizes} {W T : List ℕ} where
+  pub census-start : (come : List ℕ) → ((g : ℕ) → getD come g 0 ≡ 0) → Census p W T 0 come 0
   census-start come z = record { arrivals = z; crossing = omega arith; few = omega arith }
 
   -- w, x and what is in come now are as the code has them
   pub census-turn : {page k : ℕ} {come : List ℕ} (come′ : List ℕ) (w x : ℕ) → w ≡ markOf p T page → ((g : ℕ) → getD come′ g 0 ≡ getD come g 0 + onPage (goesTo W g) page w)
-      → x ≡ onPage (cellCrosses p W T r) page w → x ≤ pageWords → Census p W T r page come k → Census p W T r (page + 1) come′ (k + x)
+      → x ≡ onPage (cellCrosses p W T) page w → x ≤ pageWords → Census p W T page come k → Census p W T (page + 1) come′ (k + x)
   census-turn {page} come′ w x e h ex l c =
       record {
         arrivals = λ g. omega (arith, h g, c .arrivals g, over-more p T (goesTo W g) page w e);
-        crossing = omega (arith, c .crossing, over-more p T (cellCrosses p W T r) page w e);
+        crossing = omega (arith, c .crossing, over-more p T (cellCrosses p W T) page w e);
         few = omega (arith, c .few);
       }
 
   -- a page without marks
-  pub census-skip : (page k : ℕ) (come : List ℕ) → markOf p T page ≡ 0 → Census p W T r page come k → Census p W T r (page + 1) come k
+  pub census-skip : (page k : ℕ) (come : List ℕ) → markOf p T page ≡ 0 → Census p W T page come k → Census p W T (page + 1) come k
   census-skip page k come z c =
       record {
         arrivals = λ g. omega (arith, c .arrivals g, over-more p T (goesTo W g) page 0 (omega arith), bits-none (λ i. goesTo W g (cellOn page i)));
-        crossing = omega (arith, c .crossing, over-more p T (cellCrosses p W T r) page 0 (omega arith), bits-none (λ i. cellCrosses p W T r (cellOn page i)));
+        crossing = omega (arith, c .crossing, over-more p T (cellCrosses p W T) page 0 (omega arith), bits-none (λ i. cellCrosses p W T (cellOn page i)));
         few = omega (arith, c .few);
       }

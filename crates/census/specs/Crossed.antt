@@ -34,8 +34,9 @@ use Rattle.promises.specs.Reading.{ref-room, no-home, refs-room, used-home, use
 use Rattle.mark.specs.Marks.{owner, kept-refs, kept-field, kept-owner}
 use Rattle.mark.specs.Reached.{home-cell, cell-home}
 use Rattle.mark.specs.Survivors.{Marked}
+use Rattle.mark.specs.MarkedWords.{outside-work}
 use Rattle.census.specs.Counted.{over-cells}
-use Rattle.census.specs.After.{homeAfter, crossOne, one-rule, crossAfter, cellCrosses, slotCrosses, entriesCross, crossingAfter}
+use Rattle.census.specs.After.{homeAfter, after-moved, after-still, crossOne, one-rule, crossAfter, cellCrosses, slotCrosses, entriesCross, crossingAfter}
 
 module _ (s : Sizes) (w : Words) (k : WholeFor s w) (space : Room s (length (w .tables))) (r : ℕ) (pos : 1 < r) (w′ : Words) (M : Marked s w (partOf s w r) w′) where
   abbrev p : Sizes
@@ -60,21 +61,20 @@ module _ (s : Sizes) (w : Words) (k : WholeFor s w) (space : Room s (length (w .
   owner-now : (x : ℕ) → BeginsIn s w x → owner p (w′ .tables) x ≡ homeIn s w x
   owner-now x u = kept-owner (M .kept) space x (begins-page _ _ _ _ u) ∙ sym (used-home s w k x u)
 
-  home-after : (x : ℕ) → BeginsIn s w x → homeAfter p (w′ .cells) (w′ .tables) r x ≡ h .home x
-  unfolding homeAfter
-  home-after x u = go (ℕ-discrete (homeIn s w x) r)
+  home-after : (x : ℕ) → BeginsIn s w x → Alive h x → homeAfter p (w′ .cells) (w′ .tables) x ≡ h .home x
+  home-after x u a = go (ℕ-discrete (homeIn s w x) r)
     where
-      go : Dec (homeIn s w x ≡ r) → cond (eqb (owner p (w′ .tables) x) r) (workOf (w′ .cells) x) (owner p (w′ .tables) x) ≡ h .home x
+      go : Dec (homeIn s w x ≡ r) → homeAfter p (w′ .cells) (w′ .tables) x ≡ h .home x
       go (yes e) =
-          ap (λ (b : Bool). cond b (workOf (w′ .cells) x) (owner p (w′ .tables) x)) (eq-eqb (owner p (w′ .tables) x) r (owner-now x u ∙ e))
-          ∙ M .goes x u (sym (used-home s w k x u) ∙ e) ∙ sym (home-went s g r x e)
+          let z = M .goes x u (sym (used-home s w k x u) ∙ e) ∙ sym (home-went s g r x e) in
+          sym (after-moved p (w′ .cells) (w′ .tables) x (h .home x) (sym z) a)
       go (no n) =
-          ap (λ (b : Bool). cond b (workOf (w′ .cells) x) (owner p (w′ .tables) x)) (ne-eqb (owner p (w′ .tables) x) r (λ z. n (sym (owner-now x u) ∙ z)))
+          sym (after-still p (w′ .cells) (w′ .tables) x (pageOf x) (owner p (w′ .tables) x) (workOf (w′ .cells) x) refl (outside-work M k x (record { used = u; out = λ z. n (used-home s w k x u ∙ z) })) refl refl)
           ∙ owner-now x u ∙ sym (home-stayed s g r x n)
 
   -- ---- one slot of object x
 
-  cross-one : (x v : ℕ) → IsRef p (w .cells) (w .tables) v → ((y : ℕ) → v ≡ suc y → Alive h y) → crossRef h x v ≡ crossAfter p (w′ .cells) (w′ .tables) r (h .home x) v
+  cross-one : (x v : ℕ) → IsRef p (w .cells) (w .tables) v → ((y : ℕ) → v ≡ suc y → Alive h y) → crossRef h x v ≡ crossAfter p (w′ .cells) (w′ .tables) (h .home x) v
   unfolding crossAfter
   cross-one x zero f there = refl
   cross-one x (suc y) f there =
@@ -82,8 +82,8 @@ module _ (s : Sizes) (w : Words) (k : WholeFor s w) (space : Room s (length (w .
       let u : BeginsIn s w y = subst (BeginsIn s w) y′ (f (omega arith)) in
       one-rule (h .home x) (h .home y) (there y refl)
       ∙ sym
-      (ap (λ (b : Bool). cond b 0 (crossOne (h .home x) (homeAfter p (w′ .cells) (w′ .tables) r (suc y - 1)))) (ne-eqb (suc y) 0 (λ (z : suc y ≡ 0). omega arith))
-      ∙ ap (λ (z : ℕ). crossOne (h .home x) (homeAfter p (w′ .cells) (w′ .tables) r z)) y′ ∙ ap (crossOne (h .home x)) (home-after y u))
+      (ap (λ (b : Bool). cond b 0 (crossOne (h .home x) (homeAfter p (w′ .cells) (w′ .tables) (suc y - 1)))) (ne-eqb (suc y) 0 (λ (z : suc y ≡ 0). omega arith))
+      ∙ ap (λ (z : ℕ). crossOne (h .home x) (homeAfter p (w′ .cells) (w′ .tables) z)) y′ ∙ ap (crossOne (h .home x)) (home-after y u (there y refl)))
 
   -- what a slot of an object names that is there afterwards is there too
   slot-alive : (x f : ℕ) → Alive h x → f < refCount w x → (y : ℕ) → fieldOf (w .cells) x f ≡ suc y → Alive h y
@@ -94,15 +94,15 @@ module _ (s : Sizes) (w : Words) (k : WholeFor s w) (space : Room s (length (w .
   -- ---- all slots of an object
 
   module _ (x : ℕ) (u : BeginsIn s w x) where
-    slots-cross : Alive h x → crossIn h x (refsIn w x) ≡ sum (λ f. crossAfter p (w′ .cells) (w′ .tables) r (h .home x) (fieldOf (w′ .cells) x f)) (refCount w x)
+    slots-cross : Alive h x → crossIn h x (refsIn w x) ≡ sum (λ f. crossAfter p (w′ .cells) (w′ .tables) (h .home x) (fieldOf (w′ .cells) x f)) (refCount w x)
     slots-cross a =
         cross-in-sum h x (refsIn w x) ∙ ap (sum (λ f. crossRef h x (getD (refsIn w x) f 0))) (length-refs s w k x u)
-        ∙ sum-same (λ f. crossRef h x (getD (refsIn w x) f 0)) (λ f. crossAfter p (w′ .cells) (w′ .tables) r (h .home x) (fieldOf (w′ .cells) x f)) (refCount w x)
+        ∙ sum-same (λ f. crossRef h x (getD (refsIn w x) f 0)) (λ f. crossAfter p (w′ .cells) (w′ .tables) (h .home x) (fieldOf (w′ .cells) x f)) (refCount w x)
         (λ f l.
         let v : getD (refsIn w x) f 0 ≡ fieldOf (w .cells) x f = getD-refs w x f l in
         let l′ : f < refCount w x = l in
         ap (crossRef h x) v ∙ cross-one x (fieldOf (w .cells) x f) (k .objects x u .references f l) (slot-alive x f a l)
-        ∙ ap (crossAfter p (w′ .cells) (w′ .tables) r (h .home x)) (sym (kept-field (M .kept) x f (omega (arith, refs-few s w k x u)))))
+        ∙ ap (crossAfter p (w′ .cells) (w′ .tables) (h .home x)) (sym (kept-field (M .kept) x f (omega (arith, refs-few s w k x u)))))
 
     -- what the rules count of it
     counted : (h .home x ≡ 0 → ⊥) → crossAt h x ≡ crossIn h x (refsIn w x)
@@ -124,27 +124,27 @@ module _ (s : Sizes) (w : Words) (k : WholeFor s w) (space : Room s (length (w .
   zero-bit : (c : ℕ) → (marked p (w′ .tables) c ≡ 1 → ⊥) → marked p (w′ .tables) c ≡ 0
   zero-bit c off = omega (arith, bit-lt (placeOf c) (markOf p (w′ .tables) (pageOf c)))
 
-  survivor : (x : ℕ) → x < cellCount s → marked p (w′ .tables) x * cellCrosses p (w′ .cells) (w′ .tables) r x ≡ inside x
+  survivor : (x : ℕ) → x < cellCount s → marked p (w′ .tables) x * cellCrosses p (w′ .cells) (w′ .tables) x ≡ inside x
   unfolding cellCrosses
   survivor x l = go (ℕ-discrete (marked p (w′ .tables) x) 1) (ℕ-discrete (homeIn s w x) r)
     where
       go : Dec (marked p (w′ .tables) x ≡ 1) → Dec (homeIn s w x ≡ r)
-          → marked p (w′ .tables) x * sum (λ f. crossAfter p (w′ .cells) (w′ .tables) r (workOf (w′ .cells) x) (fieldOf (w′ .cells) x f)) (refsOf (w′ .cells) x) ≡ inside x
+          → marked p (w′ .tables) x * sum (λ f. crossAfter p (w′ .cells) (w′ .tables) (workOf (w′ .cells) x) (fieldOf (w′ .cells) x f)) (refsOf (w′ .cells) x) ≡ inside x
       go (yes on) (no n) = let u = M .only x (omega arith) on in absurd (n (cell-home s w k x r (u .0) (u .1)))
       go (yes on) (yes e) =
           let u = M .only x (omega arith) on in
           let t : workOf (w′ .cells) x ≡ h .home x = M .goes x (u .0) (u .1) ∙ sym (home-went s g r x e) in
           let some : h .home x ≡ 0 → ⊥ =
           (λ z. let off = M .freed x (u .0) (u .1) (sym (home-went s g r x e) ∙ z) in let y : ⊥ = omega arith in y) in
-          ap (λ (b : ℕ). b * sum (λ f. crossAfter p (w′ .cells) (w′ .tables) r (workOf (w′ .cells) x) (fieldOf (w′ .cells) x f)) (refsOf (w′ .cells) x)) on
+          ap (λ (b : ℕ). b * sum (λ f. crossAfter p (w′ .cells) (w′ .tables) (workOf (w′ .cells) x) (fieldOf (w′ .cells) x f)) (refsOf (w′ .cells) x)) on
           ∙ one-mul _
-          ∙ ap₂ (λ (a n : ℕ). sum (λ f. crossAfter p (w′ .cells) (w′ .tables) r a (fieldOf (w′ .cells) x f)) n) t (kept-refs (M .kept) x)
+          ∙ ap₂ (λ (a n : ℕ). sum (λ f. crossAfter p (w′ .cells) (w′ .tables) a (fieldOf (w′ .cells) x f)) n) t (kept-refs (M .kept) x)
           ∙ sym (slots-cross x (u .0) some) ∙ sym (counted x (u .0) some)
           ∙ sym (ap (λ (b : Bool). cond b (crossAt h x) 0) (eq-eqb (homeIn s w x) r e))
-      go (no off) (no n) = ap (λ (b : ℕ). b * sum (λ f. crossAfter p (w′ .cells) (w′ .tables) r (workOf (w′ .cells) x) (fieldOf (w′ .cells) x f)) (refsOf (w′ .cells) x)) (zero-bit x off) ∙ zero-mul _ ∙ sym (ap (λ (b : Bool). cond b (crossAt h x) 0) (ne-eqb (homeIn s w x) r n))
+      go (no off) (no n) = ap (λ (b : ℕ). b * sum (λ f. crossAfter p (w′ .cells) (w′ .tables) (workOf (w′ .cells) x) (fieldOf (w′ .cells) x f)) (refsOf (w′ .cells) x)) (zero-bit x off) ∙ zero-mul _ ∙ sym (ap (λ (b : Bool). cond b (crossAt h x) 0) (ne-eqb (homeIn s w x) r n))
       go (no off) (yes e) =
           let u = home-cell s w k x r e (omega arith) in
-          ap (λ (b : ℕ). b * sum (λ f. crossAfter p (w′ .cells) (w′ .tables) r (workOf (w′ .cells) x) (fieldOf (w′ .cells) x f)) (refsOf (w′ .cells) x)) (zero-bit x off) ∙ zero-mul _
+          ap (λ (b : ℕ). b * sum (λ f. crossAfter p (w′ .cells) (w′ .tables) (workOf (w′ .cells) x) (fieldOf (w′ .cells) x f)) (refsOf (w′ .cells) x)) (zero-bit x off) ∙ zero-mul _
           ∙ sym (ap (λ (b : Bool). cond b (crossAt h x) 0) (eq-eqb (homeIn s w x) r e) ∙ gone x (home-went s g r x e ∙ freed (decLt 0 (target s g r x)) (u .0) (u .1)))
         where
           freed : Dec (0 < target s g r x) → BeginsIn s w x → ownerIn s w (pageOf x) ≡ r → target s g r x ≡ 0
@@ -194,7 +194,7 @@ module _ (s : Sizes) (w : Words) (k : WholeFor s w) (space : Room s (length (w .
             let far : 1 < ownerIn s w (pageOf y) = omega arith in
             absurd (let b : ⊥ = omega (arith, other-yes (ownerIn s w (pageOf x)) (ownerIn s w (pageOf y)) far (λ z. d (sym z))) in b)
 
-    field-still : (f : ℕ) → f < refCount w x → still (fieldAt x f) ≡ crossAfter p (w′ .cells) (w′ .tables) r (h .home x) (fieldOf (w′ .cells) x f)
+    field-still : (f : ℕ) → f < refCount w x → still (fieldAt x f) ≡ crossAfter p (w′ .cells) (w′ .tables) (h .home x) (fieldOf (w′ .cells) x f)
     unfolding slotCrosses
     field-still f l = go (decLt 0 (crossTo p (w .cells) (w .tables) (fieldAt x f)))
       where
@@ -207,19 +207,19 @@ module _ (s : Sizes) (w : Words) (k : WholeFor s w) (space : Room s (length (w .
         now : ownerOf p (w′ .tables) (pageAt (fieldAt x f)) ≡ homeIn s w x
         now = ap (ownerOf p (w′ .tables)) page ∙ owner-now x u
 
-        go : Dec (0 < crossTo p (w .cells) (w .tables) (fieldAt x f)) → still (fieldAt x f) ≡ crossAfter p (w′ .cells) (w′ .tables) r (h .home x) (fieldOf (w′ .cells) x f)
+        go : Dec (0 < crossTo p (w .cells) (w .tables) (fieldAt x f)) → still (fieldAt x f) ≡ crossAfter p (w′ .cells) (w′ .tables) (h .home x) (fieldOf (w′ .cells) x f)
         go (yes b) =
             still-yes (fieldAt x f) b
-            ∙ ap (λ (t : Bool). cond t 0 (crossAfter p (w′ .cells) (w′ .tables) r (ownerOf p (w′ .tables) (pageAt (fieldAt x f))) (fieldOf (w′ .cells) x f)))
+            ∙ ap (λ (t : Bool). cond t 0 (crossAfter p (w′ .cells) (w′ .tables) (ownerOf p (w′ .tables) (pageAt (fieldAt x f))) (fieldOf (w′ .cells) x f)))
             (ne-eqb (ownerOf p (w′ .tables) (pageAt (fieldAt x f))) r (λ z. out (sym now ∙ z)))
-            ∙ ap (λ (a : ℕ). crossAfter p (w′ .cells) (w′ .tables) r a (fieldOf (w′ .cells) x f)) (now ∙ sym stays)
+            ∙ ap (λ (a : ℕ). crossAfter p (w′ .cells) (w′ .tables) a (fieldOf (w′ .cells) x f)) (now ∙ sym stays)
         go (no b) =
             let ref = k .objects x u .references f l in
             let z : other (ownerIn s w (pageOf x)) (regionOf p (w .tables) (fieldOf (w .cells) x f)) ≡ 0 =
             ap (λ (q : ℕ). other (ownerIn s w q) (regionOf p (w .tables) (fieldOf (w .cells) x f))) (sym page)
             ∙ sym (slot-cross p (w .cells) (w .tables) (fieldAt x f) (field-slot p (w .cells) (w .tables) x f u inside l)) ∙ omega arith in
             still-no (fieldAt x f) b ∙ sym (quiet (fieldOf (w .cells) x f) ref z) ∙ cross-one x (fieldOf (w .cells) x f) ref (slot-alive x f some l)
-            ∙ ap (crossAfter p (w′ .cells) (w′ .tables) r (h .home x)) (sym (kept-field (M .kept) x f (omega (arith, refs-few s w k x u))))
+            ∙ ap (crossAfter p (w′ .cells) (w′ .tables) (h .home x)) (sym (kept-field (M .kept) x f (omega (arith, refs-few s w k x u))))
 
   -- an object of r counts with the survivors, a cell where none begins not at all
   object-sum : (x : ℕ) → slotsOf p (w .cells) (w .tables) still x ≡ outside x
@@ -237,12 +237,12 @@ module _ (s : Sizes) (w : Words) (k : WholeFor s w) (space : Room s (length (w .
           (λ f l.
           let page = field-on p (w .cells) (w .tables) x u f (ref-room s w k x f u l) in
           cond-zero (ltb 0 (crossTo p (w .cells) (w .tables) (fieldAt x f))) (slotCrosses p (w′ .cells) (w′ .tables) r (fieldAt x f)) 0
-          (ap (λ (b : Bool). cond b 0 (crossAfter p (w′ .cells) (w′ .tables) r (ownerOf p (w′ .tables) (pageAt (fieldAt x f))) (fieldOf (w′ .cells) x f)))
+          (ap (λ (b : Bool). cond b 0 (crossAfter p (w′ .cells) (w′ .tables) (ownerOf p (w′ .tables) (pageAt (fieldAt x f))) (fieldOf (w′ .cells) x f)))
           (eq-eqb (ownerOf p (w′ .tables) (pageAt (fieldAt x f))) r (ap (ownerOf p (w′ .tables)) page ∙ owner-now x u ∙ e))) refl)
           ∙ sym (ap (λ (b : Bool). cond b 0 (crossAt h x)) (eq-eqb (homeIn s w x) r e))
       go (yes u) (no d) =
           ap (λ (b : Bool). cond b (sum (λ f. still (fieldAt x f)) (refCount w x)) 0) (begins-true p (w .cells) (w .tables) x u)
-          ∙ sum-same (λ f. still (fieldAt x f)) (λ f. crossAfter p (w′ .cells) (w′ .tables) r (h .home x) (fieldOf (w′ .cells) x f)) (refCount w x) (field-still x u d)
+          ∙ sum-same (λ f. still (fieldAt x f)) (λ f. crossAfter p (w′ .cells) (w′ .tables) (h .home x) (fieldOf (w′ .cells) x f)) (refCount w x) (field-still x u d)
           ∙ sym (ap (λ (b : Bool). cond b 0 (crossAt h x)) (ne-eqb (homeIn s w x) r d) ∙ counted x u (some x u d) ∙ slots-cross x u (some x u d))
 
   -- ---- entry by entry
@@ -289,7 +289,7 @@ module _ (s : Sizes) (w : Words) (k : WholeFor s w) (space : Room s (length (w .
   crossing-after =
       let a = ap (λ (m : List ℕ). entriesCross p (w′ .cells) m (w′ .tables) r) (M .remember) ∙ entries-sum in
       let b =
-      over-cells p (w′ .tables) (cellCrosses p (w′ .cells) (w′ .tables) r)
-      ∙ sum-same (λ c. marked p (w′ .tables) c * cellCrosses p (w′ .cells) (w′ .tables) r c) inside (cellCount s) survivor in
+      over-cells p (w′ .tables) (cellCrosses p (w′ .cells) (w′ .tables))
+      ∙ sum-same (λ c. marked p (w′ .tables) c * cellCrosses p (w′ .cells) (w′ .tables) c) inside (cellCount s) survivor in
       let c = crossing-sum h ∙ ap (sum (crossAt h)) ended-count ∙ sum-same (crossAt h) (λ x. inside x + outside x) (cellCount s) (λ x l. split x) ∙ sum-plus inside outside (cellCount s) in
       omega (arith, a, b, c)

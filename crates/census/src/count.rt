@@ -31,7 +31,6 @@ pub fn count_page(
     p: Sizes,
     cells: &[u32],
     tables: &[u32],
-    r: u32,
     come: &mut [u32],
     w: u32,
     page: usize,
@@ -42,7 +41,7 @@ pub fn count_page(
     requires { ⌜ ((i : ℕ) → i < pageCells → bitAt w i ≡ 1 → workOf (now cells) (cellOn page i) < length (now come)) ⌝ }
     requires { ⌜ ((g : ℕ) → getD (now come) g 0 ≤ firstOn page) ⌝ }
     ensures { λ n. ⌜ ((g : ℕ) → getD (now (come .exit)) g 0 ≡ getD (now (come .entry)) g 0 + onPage (goesTo (now (cells .entry)) g) page w) ⌝ }
-    ensures { λ n. ⌜ n ≡ onPage (cellCrosses p (now (cells .entry)) (now (tables .entry)) r) page w ⌝ }
+    ensures { λ n. ⌜ n ≡ onPage (cellCrosses p (now (cells .entry)) (now (tables .entry))) page w ⌝ }
     ensures { λ n. ⌜ n ≤ pageWords ⌝ }
 {
     let marks = u32::count_ones(w);
@@ -53,7 +52,7 @@ pub fn count_page(
         let i = u32::trailing_zeros(left);
         let c = layout::cells::cell_on(page, layout::wide(i));
         tally(cells, c, come);
-        n += crate::crossing::cross_cell(p, cells, tables, r, c);
+        n += crate::crossing::cross_cell(p, cells, tables, c);
         left = layout::bits::without_bit(left, i);
         k += 1;
     }
@@ -66,7 +65,6 @@ pub fn count_listed(
     p: Sizes,
     cells: &[u32],
     tables: &[u32],
-    r: u32,
     list: &[u32],
     n: usize,
     come: &mut [u32],
@@ -78,14 +76,14 @@ pub fn count_listed(
     requires { ⌜ ((c : ℕ) → pageOf c < p .pages → marked p (now tables) c ≡ 1 → Begins p (now cells) (now tables) c) ⌝ }
     requires { ⌜ ((c : ℕ) → pageOf c < p .pages → marked p (now tables) c ≡ 1 → workOf (now cells) c < length (now come)) ⌝ }
     requires { ⌜ ((g : ℕ) → getD (now come) g 0 ≡ 0) ⌝ }
-    ensures { λ k. ⌜ Census p (now (cells .entry)) (now (tables .entry)) r (p .pages) (now (come .exit)) k ⌝ }
+    ensures { λ k. ⌜ Census p (now (cells .entry)) (now (tables .entry)) (p .pages) (now (come .exit)) k ⌝ }
 {
     let mut k: usize = 0;
     let mut i: usize = 0;
     while i < n {
         let page = layout::wide(list[i]);
         let w = layout::tables::mark(p, tables, page);
-        k += count_page(p, cells, tables, r, come, w, page);
+        k += count_page(p, cells, tables, come, w, page);
         i += 1;
     }
     k

@@ -1,5 +1,5 @@
-// How many slots would cross after the end of r, counted on the old cells: remembered slots outside r, and the survivors' own. An object
-// of r lies then where its word 1 says.
+// How many slots would cross after the end of r, counted on the old cells: remembered slots outside r, and the survivors' own. A survivor
+// lies then where its word 1 says.
 ghost use mathlib.Core.Path.{_≡_};
 ghost use Prim.Native.Nat.{_<_, _≤_};
 ghost use lib.ListN.{length};
@@ -15,30 +15,30 @@ use layout::Kind;
 use remember::crossing::other_region;
 use rules::Sizes;
 
-// The region of cell c after the end.
-pub fn home_after(p: Sizes, cells: &[u32], tables: &[u32], r: u32, c: usize) -> u32
+// The region after the end of the object in cell c, which lives on.
+pub fn home_after(p: Sizes, cells: &[u32], tables: &[u32], c: usize) -> u32
     requires { ⌜ Room p (length (now tables)) ⌝ }
     requires { ⌜ (pageOf c < p .pages) × (cellsWords p ≤ length (now cells)) ⌝ }
-    ensures { λ q. ⌜ q ≡ homeAfter p (now (cells .entry)) (now (tables .entry)) r c ⌝ }
+    ensures { λ q. ⌜ q ≡ homeAfter p (now (cells .entry)) (now (tables .entry)) c ⌝ }
 {
-    let q = layout::tables::owner(p, tables, layout::cells::page_of(c));
-    if q != r {
-        return q;
+    let target = layout::cells::work(cells, c);
+    if target != 0 {
+        return target;
     }
-    layout::cells::work(cells, c)
+    layout::tables::owner(p, tables, layout::cells::page_of(c))
 }
 
 // 1 if reference x, in an object that lies in region `home` afterwards, crosses then, else 0.
-pub fn crosses(p: Sizes, cells: &[u32], tables: &[u32], r: u32, home: u32, x: u32) -> usize
+pub fn crosses(p: Sizes, cells: &[u32], tables: &[u32], home: u32, x: u32) -> usize
     requires { ⌜ Room p (length (now tables)) ⌝ }
     requires { ⌜ cellsWords p ≤ length (now cells) ⌝ }
     requires { ⌜ IsRef p (now cells) (now tables) x ⌝ }
-    ensures { λ n. ⌜ n ≡ crossAfter p (now (cells .entry)) (now (tables .entry)) r home x ⌝ }
+    ensures { λ n. ⌜ n ≡ crossAfter p (now (cells .entry)) (now (tables .entry)) home x ⌝ }
 {
     if x == 0 {
         return 0;
     }
-    let h = home_after(p, cells, tables, r, layout::cells::cell_named(x));
+    let h = home_after(p, cells, tables, layout::cells::cell_named(x));
     if other_region(home, h) == 0 {
         return 0;
     }
@@ -46,10 +46,10 @@ pub fn crosses(p: Sizes, cells: &[u32], tables: &[u32], r: u32, home: u32, x: u3
 }
 
 // How many slots of survivor c cross.
-pub fn cross_cell(p: Sizes, cells: &[u32], tables: &[u32], r: u32, c: usize) -> usize
+pub fn cross_cell(p: Sizes, cells: &[u32], tables: &[u32], c: usize) -> usize
     requires { ⌜ Shaped p (now cells) (now tables) ⌝ }
     requires { ⌜ Begins p (now cells) (now tables) c ⌝ }
-    ensures { λ n. ⌜ n ≡ cellCrosses p (now (cells .entry)) (now (tables .entry)) r c ⌝ }
+    ensures { λ n. ⌜ n ≡ cellCrosses p (now (cells .entry)) (now (tables .entry)) c ⌝ }
     ensures { λ n. ⌜ n ≤ mostFields ⌝ }
 {
     let home = layout::cells::work(cells, c);
@@ -57,7 +57,7 @@ pub fn cross_cell(p: Sizes, cells: &[u32], tables: &[u32], r: u32, c: usize) -> 
     let mut n: usize = 0;
     let mut f: usize = 0;
     while f < refs {
-        n += crosses(p, cells, tables, r, home, layout::cells::field(cells, c, f));
+        n += crosses(p, cells, tables, home, layout::cells::field(cells, c, f));
         f += 1;
     }
     n
@@ -82,7 +82,7 @@ pub fn cross_entry(
     if home == r {
         return 0;
     }
-    crosses(p, cells, tables, r, home, cells[at])
+    crosses(p, cells, tables, home, cells[at])
 }
 
 // How many remembered slots outside r cross.
@@ -113,7 +113,7 @@ pub fn count_crossing(
 ) -> usize
     requires { ⌜ Shaped p (now cells) (now tables) ⌝ }
     requires { ⌜ Holding p (now cells) (now remember) (now tables) ⌝ }
-    requires { ⌜ (k ≡ overMarked p (now tables) (cellCrosses p (now cells) (now tables) r) (p .pages)) × (k ≤ cellsWords p) ⌝ }
+    requires { ⌜ (k ≡ overMarked p (now tables) (cellCrosses p (now cells) (now tables)) (p .pages)) × (k ≤ cellsWords p) ⌝ }
     ensures { λ n. ⌜ n ≡ crossingAfter p (now (cells .entry)) (now (remember .entry)) (now (tables .entry)) r ⌝ }
 {
     cross_entries(p, cells, remember, tables, r) + k

@@ -31,7 +31,7 @@ use Rattle.copy.specs.Copying.{region-bounds}
 use Rattle.ended.specs.EndQuestion.{pagesNeeded, crossingAfter}
 use Rattle.ended.specs.EndPages.{morePages, new-pages-counted}
 use Rattle.promises.specs.Ends.{partOf}
-use Rattle.ending.specs.MarkedWords.{marked-survivor, count-same}
+use Rattle.mark.specs.MarkedWords.{marked-survivor, count-same}
 use Rattle.ending.specs.PagesEnough.{over-hits, survivor-level, free-same}
 
 -- the new pages for region g, and for the regions of thread t at the levels below n

@@ -24,7 +24,7 @@ use Rattle.copy.specs.Forward.{Forwards, Moved, forward}
 use Rattle.settle.specs.Rewrite.{forwarded, forward-null, forward-still, forward-moved}
 use Rattle.ended.specs.Living.{KeepsNamed}
 use Rattle.ending.specs.Placing.{Placing}
-use Rattle.ending.specs.MarkedWords.{marked-survivor, outside-work, owner-same}
+use Rattle.mark.specs.MarkedWords.{marked-survivor, outside-work, owner-same}
 
 -- What copying asks of the part: its pages have owners, and its survivors go to regions that do not end.
 pub record Sends (s : Sizes) (w : Words) (e : Part) : Type 0 where

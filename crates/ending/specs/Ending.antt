@@ -17,7 +17,7 @@ use Rattle.ended.specs.Evacuated.{Evacuated, Vacated}
 use Rattle.ended.specs.EvacuatedDid.{Lowered, ended-did}
 use Rattle.ended.specs.EndQuestion.{pagesNeeded, crossingAfter}
 use Rattle.ended.specs.AfterEnd.{endOf}
-use Rattle.ending.specs.MarkedWords.{depth-same}
+use Rattle.mark.specs.MarkedWords.{depth-same}
 
 -- the innermost region of thread t, r at level l, is ending: w was whole, and its survivors are marked in w₁
 pub record Ending (s : Sizes) (t l r : ℕ) (w w₁ : Words) : Type 0 where

@@ -24,7 +24,7 @@ use Rattle.settle.specs.Rewrite.{forward-same, link-same, begins-now, begins-th
 use Rattle.settle.specs.RewriteSlots.{Variables}
 use Rattle.release.specs.Release.{Blank, Alike}
 use Rattle.ended.specs.Evacuated.{Placement, Evacuated, Vacated}
-use Rattle.ending.specs.MarkedWords.{table-same, var-same}
+use Rattle.mark.specs.MarkedWords.{table-same, var-same}
 use Rattle.ending.specs.Placing.{Placing, LiveSlot, placed-page, outside-home, live-low}
 use Rattle.ending.specs.Crossing.{Told, told-later, told-whole}
 use Rattle.ending.specs.Copied.{HasMoved, placed, placing, forwarded-placed, placed-out, placed-only}

@@ -1,7 +1,5 @@
--- One account of an end, stage by stage. Of any part, by whichever way its survivors get to their cells:
--- what marking leaves
-pub mod MarkedWords
--- the cell of each object afterwards, the slots that cross then, and the remember table that names them
+-- One account of an end, stage by stage. Of any part, by whichever way its survivors get to their cells: the cell of each object
+-- afterwards, the slots that cross then, and the remember table that names them
 pub mod Placing
 pub mod Crossing
 pub mod Remembering

@@ -14,7 +14,7 @@ use Rattle.mark.specs.Marks.{kept-in-use}
 use Rattle.mark.specs.Survivors.{Marked}
 use Rattle.copy.specs.Taking.{room-same}
 use Rattle.copy.specs.Passing.{Ready}
-use Rattle.ending.specs.MarkedWords.{owner-same, used-same, count-same}
+use Rattle.mark.specs.MarkedWords.{owner-same, used-same, count-same}
 
 module _ (s : Sizes) (w : Words) (k : WholeFor s w) (space : Room s (length (w .tables))) (e : Part) (w₁ : Words) (M : Marked s w e w₁) where
   pub pages-same : (page : ℕ) → page < s .pages → SamePage s (w .tables) (w₁ .tables) page

@@ -19,7 +19,7 @@ use Rattle.settle.specs.Rewrite.{forwarded, forward-null, forward-still, Rewrit
 use Rattle.settle.specs.RewriteSlots.{Variables}
 use Rattle.settle.specs.Update.{Copies, Settles}
 use Rattle.ended.specs.EndQuestion.{crossingAfter}
-use Rattle.ending.specs.MarkedWords.{outside-work, var-same}
+use Rattle.mark.specs.MarkedWords.{outside-work, var-same}
 use Rattle.ending.specs.Rewriting.{copy-survivor}
 use Rattle.ending.specs.Crossing.{entry-says}
 use Rattle.ending.specs.Region.{Held}

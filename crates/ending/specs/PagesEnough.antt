@@ -29,7 +29,7 @@ use Rattle.promises.specs.Ends.{partOf, Survivor}
 use Rattle.ended.specs.EndQuestion.{pagesNeeded}
 use Rattle.ended.specs.EndPages.{morePages, new-pages-ended}
 use Rattle.ended.specs.WordsPlaced.{target-level}
-use Rattle.ending.specs.MarkedWords.{marked-survivor}
+use Rattle.mark.specs.MarkedWords.{marked-survivor}
 use Rattle.ending.specs.MarkedReady.{pages-same, ready}
 
 -- the marked cells that go to region g, as the census counts them and as the copy does

@@ -24,7 +24,7 @@ use Rattle.settle.specs.RewriteSlots.{Fields}
 use Rattle.settle.specs.RewriteCopies.{Wiring, wiring-now, OnPages, slot-now, slot-then}
 use Rattle.settle.specs.Append.{crossAt, crossLater, Crossing}
 use Rattle.settle.specs.Update.{Copies}
-use Rattle.ending.specs.MarkedWords.{marked-survivor}
+use Rattle.mark.specs.MarkedWords.{marked-survivor}
 use Rattle.ending.specs.Placing.{OutsideSlot, HoldingSlots, LiveSlot, placed-page, outside-live, live-outside, refs-placed, live-slot, live-page}
 use Rattle.ending.specs.Crossing.{crossThen, Told}
 use Rattle.ending.specs.Copied.{HasMoved, placed, placing, forwarded-placed, still-used, outside-idle, on, copy, survivor-forward, survivor-placed, placed-field, placed-work}

@@ -38,7 +38,7 @@ use Rattle.ended.specs.EndQuestion.{pagesNeeded, crossingAfter}
 use Rattle.ended.specs.EvacuatedDid.{Lowered}
 use Rattle.ended.specs.WordsPlaced.{target-level}
 use Rattle.ended.specs.Living.{KeepsNamed, region-after, region-keeps}
-use Rattle.ending.specs.MarkedWords.{owner-same}
+use Rattle.mark.specs.MarkedWords.{owner-same}
 use Rattle.ending.specs.Placing.{HoldingSlots, LiveSlot}
 use Rattle.ending.specs.Copied.{Sends, HasMoved, placed, placing, page-kept}
 use Rattle.ending.specs.Rewriting.{HasRewritten, copies-live, old-no-copy, live-names, names-later, cross-live, held-live, no-copy, copies-ask, outside-after, copies-told}

@@ -33,7 +33,7 @@ use Rattle.census.specs.After as ce
 use Rattle.census.specs.After.{slotCrosses, slot-le}
 use Rattle.ended.specs.AfterEnd.{endOf}
 use Rattle.ended.specs.EndQuestion.{pagesNeeded, crossingAfter, end-question, refused-shut, ended-refused}
-use Rattle.ending.specs.MarkedWords.{owner-same, count-same}
+use Rattle.mark.specs.MarkedWords.{owner-same, count-same}
 use Rattle.ending.specs.MarkedReady.{pages-same}
 use Rattle.ending.specs.Ending.{Ending, Accepted, room-of, next, deep, region-deep}
 use Rattle.ending.specs.CensusCounts.{needsBelow, roomAsked, asked-none, needs-none, needs-are, free-are, crossing-are, targets-low}
@@ -147,7 +147,7 @@ module _ {p : Sizes} {t l r : ℕ} {w w₁ : Words} (m : Ending p t l r w w₁) 
         crosses =
             omega (
               arith,
-              over-none p (w₁ .tables) (ce.cellCrosses p (w₁ .cells) (w₁ .tables) (regionAt s t l)) (p .pages) none,
+              over-none p (w₁ .tables) (ce.cellCrosses p (w₁ .cells) (w₁ .tables)) (p .pages) none,
               sum-high (λ i. slotCrosses p (w₁ .cells) (w₁ .tables) (regionAt s t l) (slotIn (w₁ .remember) i)) 1 (entriesUsed (w₁ .remember))
                   (λ i h. slot-le p (w₁ .cells) (w₁ .tables) (regionAt s t l) (slotIn (w₁ .remember) i)),
             )

@@ -32,7 +32,7 @@ fn end_marked(
     let mut list = [0u32; 1024];
     let mut come = [0u32; 130];
     let n = pages::list_pages(p, tables, region, &mut list);
-    let k = census::count::count_listed(p, cells, tables, region, &list, n, &mut come);
+    let k = census::count::count_listed(p, cells, tables, &list, n, &mut come);
     let q = needs::ask_room(p, cells, remember, tables, &come, thread, level, k);
     if q != 0 {
         mark::unmark::unmark(p, cells, tables, &list, n);

@@ -3,7 +3,7 @@
 ghost use mathlib.Core.Path.{_≡_};
 ghost use Prim.Native.Nat.{_^_, _<_, _≤_};
 ghost use lib.ListN.{length};
-ghost use Rattle.rules.specs.Regions.{regionAt, regions};
+ghost use Rattle.rules.specs.Regions.{regions};
 ghost use Rattle.layout.specs.Places.{Room};
 ghost use Rattle.pages.specs.Owned.{Paged};
 ghost use Rattle.mark.specs.Marks.{Shaped};
@@ -64,7 +64,7 @@ pub fn ask_room(
     requires { ⌜ Shaped p (now cells) (now tables) ⌝ }
     requires { ⌜ Holding p (now cells) (now remember) (now tables) ⌝ }
     requires { ⌜ Paged p (now tables) ⌝ }
-    requires { ⌜ Census p (now cells) (now tables) (regionAt p thread level) (p .pages) (now come) k ⌝ }
+    requires { ⌜ Census p (now cells) (now tables) (p .pages) (now come) k ⌝ }
     requires { ⌜ regions p < length (now come) ⌝ }
     requires { ⌜ (thread < p .threads) × (level ≤ p .depth) ⌝ }
     ensures { λ q. ⌜ q ≡ roomAsked p (now (cells .entry)) (now (remember .entry)) (now (tables .entry)) thread level ⌝ }

@@ -7,4 +7,5 @@ pub mod Holders
 pub mod Rounds
 pub mod Reached
 pub mod Survivors
+pub mod MarkedWords
 pub mod Unmark

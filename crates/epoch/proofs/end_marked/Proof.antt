@@ -1,11 +1,9 @@
 -- The listed pages are counted over, and the marking is either undone or evacuated: at each way out the promise of code 2 holds.
 use borrow.Author.Needs.{needs}
-use Prim.Native.Nat.{ℕ}
-use mathlib.Core.Path.{_≡_, sym, _∙_, subst}
+use mathlib.Core.Path.{_≡_, sym, _∙_}
 use native.Mathlib.Omega.{arith}
 use Rattle.promises.specs.Questions.{did-answer}
 use Rattle.lists.specs.Zeros.{replicate-at}
-use Rattle.census.specs.Census.{Census}
 use Rattle.ending.specs.CensusCounts.{regions-few, arrivals-hits}
 use Rattle.ending.specs.Ending.{room-now, level-low, ended-here}
 use Rattle.ending.specs.Stages.{bounds, unlisted}
@@ -39,10 +37,9 @@ slice-aggregate-ask-room c = search needs
 
 ask-room-requires : tie.Need-ask-room-requires
 ask-room-requires c κs =
-    let a = c .before .before .before .before .before .before .before .before .before .before .before .before .before .before .before .before .before .before .args in
     let m = c .before .before .before .before .before .before .before .before .before .before .before .before .before .before .before .before .before .before .pre .0 .2 in
     let k = c .before .before .before .before .before .count-listed in
-    (shaped-now m, (holding-now m, (paged-now m, (subst (λ (r : ℕ). Census (a .p) (a .cells .now) (a .tables .now) r (a .p .pages) (k .last .1 .1 .1 .1 .1 .1 .0) (k .result)) (m .region) (k .ensures), (omega (arith, regions-few (room-now m), k .kept .1 .1 .1 .1 .1 .1 .0), (m .thread, level-low m))))))
+    (shaped-now m, (holding-now m, (paged-now m, (k .ensures, (omega (arith, regions-few (room-now m), k .kept .1 .1 .1 .1 .1 .0), (m .thread, level-low m))))))
 
 slice-aggregate-unmark : tie.Need-slice-aggregate-unmark
 slice-aggregate-unmark c = search needs
@@ -87,8 +84,8 @@ evacuate-requires c κs =
       (
         c .before .before .before .before .before .before .before .before .before .before .before .before .before .before .before .before .before .before .before .list-pages .ensures,
         (
-          (λ g low high z. sym (arrivals-hits (a .p) (a .cells .now) (a .tables .now) (k .last .1 .1 .1 .1 .1 .1 .0) (k .ensures .arrivals) g) ∙ z),
-          (pre .1, omega (arith, regions-few (room-now m), k .kept .1 .1 .1 .1 .1 .1 .0)),
+          (λ g low high z. sym (arrivals-hits (a .p) (a .cells .now) (a .tables .now) (k .last .1 .1 .1 .1 .1 .0) (k .ensures .arrivals) g) ∙ z),
+          (pre .1, omega (arith, regions-few (room-now m), k .kept .1 .1 .1 .1 .1 .0)),
         ),
       ),
     )

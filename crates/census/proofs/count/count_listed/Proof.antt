@@ -12,11 +12,11 @@ use Rattle.census.proofs.count.count_listed.Statement.{statement}
 use Rattle.census.proofs.count.count_listed.Tie as tie
 
 abbrev Inv-loop : tie.InvT-loop
-Inv-loop p cells tables r list n come₀ k₀ i₀ come k i =
-    (i ≤ n) × (length come ≡ length come₀) × Through (p .pages) n list i (λ b. Census p cells tables r b come k)
+Inv-loop p cells tables list n come₀ k₀ i₀ come k i =
+    (i ≤ n) × (length come ≡ length come₀) × Through (p .pages) n list i (λ b. Census p cells tables b come k)
 
 abbrev μ-loop : tie.MeasureT-loop
-μ-loop p cells tables r list n come₀ k₀ i₀ come k i =
+μ-loop p cells tables list n come₀ k₀ i₀ come k i =
     n - i
 
 -- the page that the turn is at
@@ -25,7 +25,7 @@ low c = omega (arith, c .before .before .before .before .before .before .before 
 
 here : (c : tie.After-wide Inv-loop μ-loop)
     → Census (c .before .before .before .before .before .before .before .before .args .p) (c .before .before .before .before .before .before .before .before .args .cells .now)
-    (c .before .before .before .before .before .before .before .before .args .tables .now) (c .before .before .before .before .before .before .before .before .args .r) (c .wide .result)
+    (c .before .before .before .before .before .before .before .before .args .tables .now) (c .wide .result)
     (c .before .before .before .loop .come) (c .before .before .before .loop .k)
 here c =
     let loop = c .before .before .before .loop in
@@ -73,7 +73,7 @@ loop-again c =
     let loop = c .before .before .before .before .before .before .before .before .loop in
     let x = c .before .before .before .before .before .wide .result in
     let counted = c .before .before .count-page in
-    (omega arith, counted .kept .1 .1 .1 .1 .0 ∙ loop .inv .1, through-turn (a .p .pages) (a .n) (a .list .now) (λ b. Census (a .p) (a .cells .now) (a .tables .now) (a .r) b (loop .come) (loop .k)) (λ b. Census (a .p) (a .cells .now) (a .tables .now) (a .r) b _ (loop .k + counted .result)) (loop .i) x (pre .1 .0) (omega arith) (c .before .before .before .before .before .wide .ensures) (loop .inv .2) (λ d. census-turn _ (c .before .before .before .before .mark .result) (counted .result) (c .before .before .before .before .mark .ensures) (counted .ensures .0) (counted .ensures .1 .0) (counted .ensures .1 .1) d) (λ q l off d. census-skip q _ _ (pre .1 .1 .0 q l off) d))
+    (omega arith, counted .kept .1 .1 .1 .0 ∙ loop .inv .1, through-turn (a .p .pages) (a .n) (a .list .now) (λ b. Census (a .p) (a .cells .now) (a .tables .now) b (loop .come) (loop .k)) (λ b. Census (a .p) (a .cells .now) (a .tables .now) b _ (loop .k + counted .result)) (loop .i) x (pre .1 .0) (omega arith) (c .before .before .before .before .before .wide .ensures) (loop .inv .2) (λ d. census-turn _ (c .before .before .before .before .mark .result) (counted .result) (c .before .before .before .before .mark .ensures) (counted .ensures .0) (counted .ensures .1 .0) (counted .ensures .1 .1) d) (λ q l off d. census-skip q _ _ (pre .1 .1 .0 q l off) d))
 
 same-length : tie.Need-same-length Inv-loop μ-loop
 same-length c = c .before .loop .inv .1

@@ -15,11 +15,11 @@ use Rattle.census.proofs.count.count_page.Statement.{statement}
 use Rattle.census.proofs.count.count_page.Tie as tie
 
 abbrev Inv-loop : tie.InvT-loop
-Inv-loop p cells tables r come₀ w page marks left₀ n₀ k₀ come left n k =
-    (marks ≡ ones w) × Walked w left k × Summed (λ i. cellCrosses p cells tables r (cellOn page i)) w left 0 n × (n ≤ cellWords * k) × Tallied cells page w left come₀ come k
+Inv-loop p cells tables come₀ w page marks left₀ n₀ k₀ come left n k =
+    (marks ≡ ones w) × Walked w left k × Summed (λ i. cellCrosses p cells tables (cellOn page i)) w left 0 n × (n ≤ cellWords * k) × Tallied cells page w left come₀ come k
 
 abbrev μ-loop : tie.MeasureT-loop
-μ-loop p cells tables r come₀ w page marks left₀ n₀ k₀ come left n k =
+μ-loop p cells tables come₀ w page marks left₀ n₀ k₀ come left n k =
     marks - k
 
 loop-holds : tie.Need-loop-holds Inv-loop μ-loop
@@ -71,7 +71,7 @@ loop-again c =
     let i = trailingZeros 32 (loop .left) in
     let l = walk-lowest (loop .inv .1) (omega (arith, loop .inv .0)) in
     let e : c .before .before .before .before .before .before .cell-on .result ≡ cellOn (a .page) i = c .before .before .before .before .before .before .cell-on .ensures ∙ ap (cellOn (a .page)) (c .before .before .before .before .before .before .before .wide .ensures) in
-    (loop .inv .0, walk-turn i (c .without-bit .result) (loop .inv .1) l (c .without-bit .ensures), summed-next i (c .without-bit .result) (loop .n + c .before .cross-cell .result) (c .before .cross-cell .result) l (c .without-bit .ensures) (c .before .cross-cell .ensures .0 ∙ ap (cellCrosses (a .p) (a .cells .now) (a .tables .now) (a .r)) e) refl (loop .inv .2), omega (arith, most-words, c .before .cross-cell .ensures .1, loop .inv .3), tallied-next i (c .without-bit .result) (c .before .before .before .before .before .before .cell-on .result) l (c .without-bit .ensures) e (c .before .before .before .before .tally .ensures) (c .before .before .before .before .tally .kept .1 .1 .0) (loop .inv .4))
+    (loop .inv .0, walk-turn i (c .without-bit .result) (loop .inv .1) l (c .without-bit .ensures), summed-next i (c .without-bit .result) (loop .n + c .before .cross-cell .result) (c .before .cross-cell .result) l (c .without-bit .ensures) (c .before .cross-cell .ensures .0 ∙ ap (cellCrosses (a .p) (a .cells .now) (a .tables .now)) e) refl (loop .inv .2), omega (arith, most-words, c .before .cross-cell .ensures .1, loop .inv .3), tallied-next i (c .without-bit .result) (c .before .before .before .before .before .before .cell-on .result) l (c .without-bit .ensures) e (c .before .before .before .before .tally .ensures) (c .before .before .before .before .tally .kept .1 .1 .0) (loop .inv .4))
 
 same-length : tie.Need-same-length Inv-loop μ-loop
 same-length c = c .before .loop .inv .4 .long

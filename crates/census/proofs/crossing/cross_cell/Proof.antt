@@ -14,11 +14,11 @@ use Rattle.census.proofs.crossing.cross_cell.Statement.{statement}
 use Rattle.census.proofs.crossing.cross_cell.Tie as tie
 
 abbrev Inv-loop : tie.InvT-loop
-Inv-loop p cells tables r c home refs n₀ f₀ n f =
-    (f ≤ refs) × (refs ≡ refsOf cells c) × (refs ≤ mostFields) × (home ≡ workOf cells c) × (n ≡ sum (λ f. crossAfter p cells tables r (workOf cells c) (fieldOf cells c f)) f) × (n ≤ f)
+Inv-loop p cells tables c home refs n₀ f₀ n f =
+    (f ≤ refs) × (refs ≡ refsOf cells c) × (refs ≤ mostFields) × (home ≡ workOf cells c) × (n ≡ sum (λ f. crossAfter p cells tables (workOf cells c) (fieldOf cells c f)) f) × (n ≤ f)
 
 abbrev μ-loop : tie.MeasureT-loop
-μ-loop p cells tables r c home refs n₀ f₀ n f =
+μ-loop p cells tables c home refs n₀ f₀ n f =
     refs - f
 
 work-requires : tie.Need-work-requires Inv-loop μ-loop
@@ -57,7 +57,7 @@ add-n : tie.Need-add-n Inv-loop μ-loop
 add-n c =
     let args = c .before .before .before .before .before .before .before .before .before .args in
     let loop = c .before .before .before .loop in
-    omega (arith, loop .inv .5, loop .inv .2, c .crosses .ensures, cross-le (args .p) (args .cells .now) (args .tables .now) (args .r) (c .before .before .before .before .before .before .work .result) (c .before .field .result))
+    omega (arith, loop .inv .5, loop .inv .2, c .crosses .ensures, cross-le (args .p) (args .cells .now) (args .tables .now) (c .before .before .before .before .before .before .work .result) (c .before .field .result))
 
 add-f : tie.Need-add-f Inv-loop μ-loop
 add-f c =
@@ -71,9 +71,9 @@ loop-again : tie.Need-loop-again Inv-loop μ-loop
 loop-again c =
     let args = c .before .before .before .before .before .before .before .before .before .args in
     let loop = c .before .before .before .loop in
-    let e = c .crosses .ensures ∙ ap₂ (crossAfter (args .p) (args .cells .now) (args .tables .now) (args .r)) (loop .inv .3) (c .before .field .ensures) in
-    let m = sum-more (λ f. crossAfter (args .p) (args .cells .now) (args .tables .now) (args .r) (workOf (args .cells .now) (args .c)) (fieldOf (args .cells .now) (args .c) f)) (loop .f) in
-    let b = cross-le (args .p) (args .cells .now) (args .tables .now) (args .r) (workOf (args .cells .now) (args .c)) (fieldOf (args .cells .now) (args .c) (loop .f)) in
+    let e = c .crosses .ensures ∙ ap₂ (crossAfter (args .p) (args .cells .now) (args .tables .now)) (loop .inv .3) (c .before .field .ensures) in
+    let m = sum-more (λ f. crossAfter (args .p) (args .cells .now) (args .tables .now) (workOf (args .cells .now) (args .c)) (fieldOf (args .cells .now) (args .c) f)) (loop .f) in
+    let b = cross-le (args .p) (args .cells .now) (args .tables .now) (workOf (args .cells .now) (args .c)) (fieldOf (args .cells .now) (args .c) (loop .f)) in
     (omega arith, loop .inv .1, loop .inv .2, loop .inv .3, omega (arith, e, m, loop .inv .4), omega (arith, e, b, loop .inv .5))
 
 returns : tie.Need-returns Inv-loop μ-loop
@@ -81,7 +81,7 @@ returns c =
     let args = c .before .before .before .before .before .before .before .args in
     let loop = c .before .loop in
     let e : loop .f ≡ refsOf (args .cells .now) (args .c) = omega arith in
-    (cells-cross (args .p) (args .cells .now) (args .tables .now) (args .r) (args .c) (loop .f) (loop .n) e (loop .inv .4), omega (arith, loop .inv .5, loop .inv .2, loop .inv .0))
+    (cells-cross (args .p) (args .cells .now) (args .tables .now) (args .c) (loop .f) (loop .n) e (loop .inv .4), omega (arith, loop .inv .5, loop .inv .2, loop .inv .0))
 
 pub cross-cell-spec : {M : Type 1} → statement M
 cross-cell-spec =

@@ -9,7 +9,7 @@ use Rattle.census.proofs.crossing.crosses.Tie as tie
 returns : tie.Need-returns
 returns c =
     let args = c .before .before .before .args in
-    cross-after-null (args .p) (args .cells .now) (args .tables .now) (args .r) (args .home) (args .x) (c .if1 .taken)
+    cross-after-null (args .p) (args .cells .now) (args .tables .now) (args .home) (args .x) (c .if1 .taken)
 
 cell-named-requires : tie.Need-cell-named-requires
 cell-named-requires c κs = search needs
@@ -25,12 +25,12 @@ other-region-requires c κs = search needs
 returns-2 : tie.Need-returns-2
 returns-2 c =
     let args = c .before .before .before .before .before .before .before .args in
-    cross-not (args .p) (args .cells .now) (args .tables .now) (args .r) (args .home) (args .x) _ _ _ (c .before .before .before .before .if1 .left) (c .before .before .before .cell-named .ensures) (c .before .before .home-after .ensures) (c .before .other-region .ensures) (c .if2 .taken)
+    cross-not (args .p) (args .cells .now) (args .tables .now) (args .home) (args .x) _ _ _ (c .before .before .before .before .if1 .left) (c .before .before .before .cell-named .ensures) (c .before .before .home-after .ensures) (c .before .other-region .ensures) (c .if2 .taken)
 
 returns-3 : tie.Need-returns-3
 returns-3 c =
     let args = c .before .before .before .before .before .before .before .args in
-    cross-out (args .p) (args .cells .now) (args .tables .now) (args .r) (args .home) (args .x) _ _ _ (c .before .before .before .before .if1 .left) (c .before .before .before .cell-named .ensures) (c .before .before .home-after .ensures) (c .before .other-region .ensures) (c .if2 .left)
+    cross-out (args .p) (args .cells .now) (args .tables .now) (args .home) (args .x) _ _ _ (c .before .before .before .before .if1 .left) (c .before .before .before .cell-named .ensures) (c .before .before .home-after .ensures) (c .before .other-region .ensures) (c .if2 .left)
 
 pub crosses-spec : {M : Type 1} → statement M
 crosses-spec =

@@ -1,9 +1,7 @@
 -- The first question that says no.
 use borrow.Author.Needs.{needs}
-use Prim.Native.Nat.{ℕ}
-use mathlib.Core.Path.{sym, _∙_, subst}
+use mathlib.Core.Path.{_∙_}
 use native.Mathlib.Omega.{arith}
-use Rattle.census.specs.Census.{Census}
 use Rattle.ending.specs.CensusCounts.{more-needs, asked-pages, asked-entries, asked-none}
 use Rattle.epoch.proofs.needs.ask_room.Statement.{statement}
 use Rattle.epoch.proofs.needs.ask_room.Tie as tie
@@ -22,9 +20,8 @@ returns c = asked-pages (c .before .before .before .before .before .before .befo
 
 count-crossing-requires : tie.Need-count-crossing-requires
 count-crossing-requires c κs =
-    let census =
-    subst (λ (r : ℕ). Census (c .before .before .before .before .before .before .before .before .args .p) (c .before .before .before .before .before .before .before .before .args .cells .now) (c .before .before .before .before .before .before .before .before .args .tables .now) r (c .before .before .before .before .before .before .before .before .args .p .pages) (c .before .before .before .before .before .before .before .before .args .come .now) (c .before .before .before .before .before .before .before .before .args .k)) (sym (c .before .before .before .region-at .ensures)) (c .before .before .before .before .before .before .before .before .pre .1 .1 .1 .0) in
-    (c .before .before .before .before .before .before .before .before .pre .0, (c .before .before .before .before .before .before .before .before .pre .1 .0, (census .crossing, census .few)))
+    let pre = c .before .before .before .before .before .before .before .before .pre in
+    (pre .0, (pre .1 .0, (pre .1 .1 .1 .0 .crossing, pre .1 .1 .1 .0 .few)))
 
 returns-2 : tie.Need-returns-2
 returns-2 c = asked-entries (c .before .before .before .before .before .before .before .before .before .before .before .args .p) (c .before .before .before .before .before .before .before .before .before .before .before .args .cells .now) (c .before .before .before .before .before .before .before .before .before .before .before .args .remember .now) (c .before .before .before .before .before .before .before .before .before .before .before .args .tables .now) (c .before .before .before .before .before .before .before .before .before .before .before .args .thread) (c .before .before .before .before .before .before .before .before .before .before .before .args .level) (c .before .before .before .before .before .needed-pages .ensures ∙ more-needs (c .before .before .before .before .before .before .before .before .before .before .before .args .p) (c .before .before .before .before .before .before .before .before .before .before .before .args .cells .now) (c .before .before .before .before .before .before .before .before .before .before .before .args .tables .now) (c .before .before .before .before .before .before .before .before .before .before .before .args .come .now) (c .before .before .before .before .before .before .before .before .before .before .before .args .thread) (c .before .before .before .before .before .before .before .before .before .before .before .args .level) (c .before .before .before .before .before .before .before .before .before .before .before .pre .1 .1 .1 .0 .arrivals)) (c .before .before .before .before .free-pages .ensures) (c .before .before .before .before .before .before .region-at .ensures) (c .before .before .count-crossing .ensures) (omega (arith, c .before .before .before .if1 .left)) (c .if2 .taken)
