@@ -1,10 +1,9 @@
 -- What would cross after the end of r, on the old cells: an object lies then where its word 1 says, if that is not 0, else where it lies.
 use mathlib.Core.Path.{_≡_, sym, ap, ap₂, _∙_}
-use mathlib.Core.Bool.{Bool, true, false, cond, not, _&&_, and-false}
+use mathlib.Core.Bool.{Bool, true, false, cond}
 use mathlib.Core.List.{List}
 use Prim.Native.Nat.{ℕ, _+_, _-_, _≤_}
 use native.Mathlib.Omega.{arith}
-use native.Mathlib.Decide.{ℕ-discrete}
 use lib.Dec.{ltb, eqb}
 use lib.ListN.{getD}
 use borrow.Author.Tests.{lt-ltb, eq-eqb, ne-eqb}
@@ -13,7 +12,6 @@ use Rattle.rules.specs.declared.Sizes.{Sizes}
 use Rattle.layout.specs.Places.{ownerOf, entriesUsed, slotIn}
 use Rattle.layout.specs.Cells.{workOf, fieldOf, pageOf, pageAt, refsOf}
 use Rattle.remember.specs.Crossing.{other}
-use Rattle.remember.specs.Crosses.{other-control, other-same, other-yes}
 use Rattle.mark.specs.Marks.{owner}
 use Rattle.census.specs.Counted.{overMarked}
 
@@ -24,20 +22,6 @@ homeAfter p W T c = cond (eqb (workOf W c) 0) (owner p T c) (workOf W c)
 -- a slot of an object in region `from` that points into region h
 abbrev pub crossOne : ℕ → ℕ → ℕ
 crossOne «from» h = bit (ltb 0 (other «from» h))
-
--- which is the rules' test, of a region that is there
-pub one-rule : («from» h : ℕ) → (h ≡ 0 → ⊥) → cond (not (eqb «from» h) && not (eqb h 1)) 1 0 ≡ crossOne «from» h
-one-rule «from» h n = go (ℕ-discrete h 1) (ℕ-discrete «from» h)
-  where
-    go : Dec (h ≡ 1) → Dec («from» ≡ h) → cond (not (eqb «from» h) && not (eqb h 1)) 1 0 ≡ crossOne «from» h
-    go (yes e) d =
-        ap (λ (b : Bool). cond (not (eqb «from» h) && not b) 1 0) (eq-eqb h 1 e) ∙ ap (λ (b : Bool). cond b 1 0) (and-false (not (eqb «from» h)))
-        ∙ ap (λ (g : ℕ). bit (ltb 0 g)) (other-control «from» h (omega arith))
-    go (no m) (yes e) =
-        ap (λ (b : Bool). cond (not b && not (eqb h 1)) 1 0) (eq-eqb «from» h e) ∙ ap (λ (g : ℕ). bit (ltb 0 g)) (other-same «from» h (omega arith) (sym e))
-    go (no m) (no e) =
-        ap₂ (λ (a b : Bool). cond (not a && not b) 1 0) (ne-eqb «from» h e) (ne-eqb h 1 m)
-        ∙ sym (ap (λ (b : Bool). bit b) (lt-ltb 0 (other «from» h) (omega (arith, other-yes «from» h (omega arith) (λ z. e (sym z))))))
 
 -- 1 if reference x crosses from that region after the end, else 0
 unfoldable pub crossAfter : Sizes → List ℕ → List ℕ → ℕ → ℕ → ℕ

@@ -28,15 +28,15 @@ use Rattle.promises.specs.Whole.{WholeFor, IsRef}
 use Rattle.remember.specs.Crossing.{other, regionOf, crossTo}
 use Rattle.promises.specs.Crossings.{cross-in-sum}
 use Rattle.layout.specs.Objects.{begins-page, begins-true, begins-false, begins?, field-on, field-slot, slotsOf, slots-sum}
-use Rattle.remember.specs.Crosses.{slot-cross, cross-slot, other-yes}
+use Rattle.remember.specs.Crosses.{slot-cross, cross-slot, other-yes, other-test}
 use Rattle.promises.specs.Slots.{region-of}
-use Rattle.promises.specs.Reading.{ref-room, no-home, refs-room, used-home, used-owned, used-alive, length-refs, getD-refs, refs-few, words-closed}
+use Rattle.promises.specs.Reading.{ref-begins, ref-room, no-home, refs-room, used-home, used-owned, used-alive, length-refs, getD-refs, refs-few, words-closed}
 use Rattle.mark.specs.Marks.{owner, kept-refs, kept-field, kept-owner}
 use Rattle.mark.specs.Reached.{home-cell, cell-home}
 use Rattle.mark.specs.Survivors.{Marked}
 use Rattle.mark.specs.MarkedWords.{outside-work}
 use Rattle.census.specs.Counted.{over-cells}
-use Rattle.census.specs.After.{homeAfter, after-moved, after-still, crossOne, one-rule, crossAfter, cellCrosses, slotCrosses, entriesCross, crossingAfter}
+use Rattle.census.specs.After.{homeAfter, after-moved, after-still, crossOne, crossAfter, cellCrosses, slotCrosses, entriesCross, crossingAfter}
 
 module _ (s : Sizes) (w : Words) (k : WholeFor s w) (space : Room s (length (w .tables))) (r : ℕ) (pos : 1 < r) (w′ : Words) (M : Marked s w (partOf s w r) w′) where
   abbrev p : Sizes
@@ -79,8 +79,8 @@ module _ (s : Sizes) (w : Words) (k : WholeFor s w) (space : Room s (length (w .
   cross-one x zero f there = refl
   cross-one x (suc y) f there =
       let y′ : suc y - 1 ≡ y = omega arith in
-      let u : BeginsIn s w y = subst (BeginsIn s w) y′ (f (omega arith)) in
-      one-rule (h .home x) (h .home y) (there y refl)
+      let u : BeginsIn s w y = ref-begins s (w .cells) (w .tables) (suc y) y f refl in
+      sym (other-test (h .home x) (h .home y) (let l = there y refl in omega arith))
       ∙ sym
       (ap (λ (b : Bool). cond b 0 (crossOne (h .home x) (homeAfter p (w′ .cells) (w′ .tables) (suc y - 1)))) (ne-eqb (suc y) 0 (λ (z : suc y ≡ 0). omega arith))
       ∙ ap (λ (z : ℕ). crossOne (h .home x) (homeAfter p (w′ .cells) (w′ .tables) z)) y′ ∙ ap (crossOne (h .home x)) (home-after y u (there y refl)))

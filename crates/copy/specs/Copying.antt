@@ -2,17 +2,16 @@
 use mathlib.Core.Path.{_≡_, refl, sym, ap, ap₂, _∙_, subst}
 use mathlib.Core.Logic.{_≢_, ⊎-elim}
 use mathlib.Core.List.{List}
-use Prim.Native.Nat.{ℕ, zero, suc, _+_, _-_, _*_, _%_, _^_, _≤_, _<_}
+use Prim.Native.Nat.{ℕ, _+_, _-_, _%_, _^_, _≤_, _<_}
 use native.Mathlib.Decide.{ℕ-discrete, decLt}
 use native.Mathlib.Omega.{arith}
 use lib.Count.{trailingZeros}
 use Rattle.lists.specs.Bits.{bitAt, bit-zero, none-high, clear-same, clear-other, Lowest, trailing-low}
 use Rattle.lists.specs.SetBits.{lower-bit}
 use Rattle.lists.specs.Counting.{sum, sum-more, sum-mono}
-use Rattle.rules.specs.Regions.{regionAt, regions}
+use Rattle.rules.specs.Regions.{regions}
 use Rattle.rules.specs.Graph.{pagesOf}
 use Rattle.rules.specs.declared.Sizes.{Sizes}
-use Rattle.lists.specs.Products.{flat-low}
 use Rattle.layout.specs.Places.{markOf}
 use Rattle.layout.specs.Cells.{workOf, pageOf, placeOf, cellOn, firstOn, pageCells, place-low, page-on, place-on, on-page, on-rises, on-above, on-below}
 use Rattle.layout.specs.Marks.{marked}
@@ -313,11 +312,3 @@ copy-copied {p} {T = T} a b c l =
 pub copy-marks : {p : Sizes} {n l : ℕ} {gs : ℕ → ℕ} {W T W′ T′ : List ℕ} → Plan p n gs W T → Copy p n gs l W T W′ T′ → (q : ℕ) → q < p .pages → markOf p T q ≡ 0
     → markOf p T′ q ≡ 0
 copy-marks {p} {T = T} a b q l z = moves-marks (a .ready) (b .moves) q l (no-marks p T q z) ∙ z
-
--- the region of a thread at a level is one of the regions
-pub region-bounds : (p : Sizes) (t l : ℕ) → t < p .threads → l ≤ p .depth → (1 ≤ regionAt p t l) × (regionAt p t l ≤ regions p)
-unfolding regionAt
-region-bounds p t zero h k = (omega arith, omega arith)
-region-bounds p t (suc l) h k =
-    let f : t * p .depth + l < p .threads * p .depth = flat-low h (omega arith) in
-    (omega arith, omega arith)

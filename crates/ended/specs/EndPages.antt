@@ -1,5 +1,5 @@
 -- The new pages of an end are those of the regions around r alone: thread t's at the levels up to k, the control space for level 0.
-use Prim.Native.Nat.{ℕ, zero, suc, _+_, _-_, _≤_, _<_}
+use Prim.Native.Nat.{ℕ, suc, _+_, _-_, _≤_, _<_}
 use native.Mathlib.Omega.{arith}
 use native.Mathlib.Decide.{decLt, ℕ-discrete}
 use mathlib.Core.Path.{_≡_, refl, sym, ap, subst, _∙_}
@@ -8,11 +8,10 @@ use lib.Dec.{eqb}
 use borrow.Author.Tests.{eqb-true}
 use Rattle.lists.specs.Counting.{sum, sum-same, sum-none, sum-pos}
 use Rattle.lists.specs.OneToOne.{Paired, sum-paired}
-use Rattle.lists.specs.Products.{flat-low}
 use Rattle.rules.specs.declared.Sizes.{Sizes}
 use Rattle.rules.specs.Regions.{regionAt, regions}
 use Rattle.rules.specs.Graph.{Graph, target, ended, objectsIn, pagesOf, newPages}
-use Rattle.laws.specs.RegionLaws.{numbers-rise}
+use Rattle.laws.specs.RegionLaws.{numbers-rise, region-bounds}
 use Rattle.laws.specs.RulesLaws.{region-pos}
 use Rattle.laws.specs.Counts.{landed, objects-ended}
 use Rattle.laws.specs.EndLaws.{home-went, home-stayed}
@@ -31,11 +30,6 @@ levels-apart s t i j e = go (decLt i j) (decLt j i)
     go (yes l) d = absurd (let z : ⊥ = omega (arith, numbers-rise s t i j l) in z)
     go (no l) (yes m) = absurd (let z : ⊥ = omega (arith, numbers-rise s t j i m) in z)
     go (no l) (no m) = omega arith
-
-level-low : (s : Sizes) (t j : ℕ) → t < s .threads → j ≤ s .depth → regionAt s t j ≤ regions s
-unfolding regionAt
-level-low s t zero th l = omega arith
-level-low s t (suc j) th l = omega (arith, flat-low {t = t} {n = s .threads} {a = j} {v = s .depth} th l)
 
 -- the new pages of region q where n objects come to it
 abbrev pub morePages : ℕ → ℕ → ℕ
@@ -118,7 +112,7 @@ module _ (s : Sizes) (w : Words) (whole : WholeFor s w) (t k : ℕ) (th : t < s 
 
       paired : Paired (λ j. regionAt s t j - 1) level (suc k) more (regions s)
       paired = record {
-        goes = λ j l p. (omega (arith, level-low s t j th (omega (arith, low)), region-pos s t j), more-level (regionAt s t j - 1) j (number j) (omega arith));
+        goes = λ j l p. (omega (arith, region-bounds s t j th (omega (arith, low))), more-level (regionAt s t j - 1) j (number j) (omega arith));
         apart = λ i j l m p q e. levels-apart s t i j (omega (arith, region-pos s t i, region-pos s t j));
         onto = λ i l p.
             let j = grows i p in
@@ -131,4 +125,4 @@ module _ (s : Sizes) (w : Words) (whole : WholeFor s w) (t k : ℕ) (th : t < s 
   new-pages-counted =
       new-pages-ended
       ∙ sum-same _ _ (suc k) (λ j l. ap (λ (n : ℕ). morePages n (landed s g r (regionAt s t j)))
-      (sym (counted-objects s w whole (regionAt s t j) (region-pos s t j) (level-low s t j th (omega (arith, low))))))
+      (sym (counted-objects s w whole (regionAt s t j) (region-pos s t j) (region-bounds s t j th (omega (arith, low)) .1))))

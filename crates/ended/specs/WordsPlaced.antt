@@ -2,7 +2,6 @@
 -- below r's.
 use Prim.Native.Nat.{ℕ, suc, _-_, _%_, _≤_, _<_}
 use native.Mathlib.Omega.{arith}
-use native.Mathlib.Nat.{div-add-mod'}
 use native.Mathlib.Decide.{decLt}
 use mathlib.Core.Path.{_≡_, sym, subst, _∙_}
 use lib.ListN.{getD, List·getD-eq-default}
@@ -13,6 +12,7 @@ use Rattle.rules.specs.Rules as ru
 use Rattle.rules.specs.Rules.{graph}
 use Rattle.laws.specs.GraphLaws.{Alive, target-called}
 use Rattle.laws.specs.RulesLaws.{region-pos}
+use Rattle.laws.specs.RegionLaws.{region-number}
 use Rattle.laws.specs.Placed as pl
 use Rattle.laws.specs.Placed.{Placed, control, level, ended-empty}
 use Rattle.laws.specs.Survivors.{held-around}
@@ -23,11 +23,6 @@ use Rattle.promises.specs.Whole.{WholeFor, Open}
 use Rattle.promises.specs.Reading.{alive-used, used-home, used-owned, length-depths, depth-at}
 use Rattle.promises.specs.Agreed.{home-at, heap-stands, back, targets-agree}
 use Rattle.promises.specs.Here.{here-depth}
-
--- a region of a thread by its thread and level
-region-number : (s : Sizes) (g : ℕ) → 2 ≤ g → g ≡ regionAt s (threadOf s g) (suc ((g - 2) % s .depth))
-unfolding regionAt
-region-number s g l = omega (arith, div-add-mod' (g - 2) (s .depth))
 
 module _ (s : Sizes) (w : Words) (whole : WholeFor s w) where
   depth-low : (t : ℕ) → getD (depthsIn s w) t 0 ≤ s .depth

@@ -4,7 +4,6 @@ use mathlib.Core.Bool.{Bool, true, false}
 use mathlib.Core.List.{List}
 use Prim.Native.Nat.{ℕ, suc, _+_, _-_, _≤_, _<_}
 use native.Mathlib.Omega.{arith}
-use native.Mathlib.Nat.{mul-le-mul}
 use lib.Dec.{leb}
 use borrow.Author.Tests.{le-leb, lt-leb}
 use lib.ListN.{length, getD}
@@ -14,7 +13,7 @@ use Rattle.rules.specs.Terms.{ask}
 use Rattle.rules.specs.Graph.{pagesOf}
 use Rattle.rules.specs.Regions.{regionAt, regions}
 use Rattle.laws.specs.RulesLaws.{region-pos}
-use Rattle.laws.specs.RegionLaws.{region-high}
+use Rattle.laws.specs.RegionLaws.{region-high, region-bounds}
 use Rattle.layout.specs.Places.{Room, countOf}
 use Rattle.layout.specs.Cells.{pageOf, workOf}
 use Rattle.layout.specs.Marks.{marked}
@@ -27,7 +26,6 @@ use Rattle.census.specs.Census.{Arrivals}
 use Rattle.census.specs.After as ce
 use Rattle.census.specs.Crossed.{crossing-after}
 use Rattle.copy.specs.Marks.{hits}
-use Rattle.copy.specs.Copying.{region-bounds}
 use Rattle.ended.specs.EndQuestion.{pagesNeeded, crossingAfter}
 use Rattle.ended.specs.EndPages.{morePages, new-pages-counted}
 use Rattle.promises.specs.Ends.{partOf}
@@ -100,10 +98,6 @@ module _ (p : Sizes) (W M T : List ℕ) (t n : ℕ) {needed free : ℕ} (en : ne
 -- as the copy counts them
 pub arrivals-hits : (p : Sizes) (W T come : List ℕ) → Arrivals p W T (p .pages) come → (g : ℕ) → getD come g 0 ≡ hits p W T g
 arrivals-hits p W T come a g = a g ∙ over-hits p W T g
-
--- there are at most 16 threads of at most 8 levels
-pub regions-few : {p : Sizes} {n : ℕ} → Room p n → regions p < 130
-regions-few {p} r = omega (arith, mul-le-mul (r .threads-high) (r .depth-high))
 
 -- ---- as the rules count
 

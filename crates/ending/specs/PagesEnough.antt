@@ -10,7 +10,7 @@ use Rattle.lists.specs.Counting.{bit, sum, sum-same}
 use Rattle.rules.specs.declared.Sizes.{Sizes}
 use Rattle.rules.specs.Regions.{regionAt}
 use Rattle.rules.specs.Graph.{objectsIn}
-use Rattle.laws.specs.RegionLaws.{numbers-rise}
+use Rattle.laws.specs.RegionLaws.{numbers-rise, region-bounds}
 use Rattle.laws.specs.RulesLaws.{region-pos}
 use Rattle.laws.specs.Counts.{landed}
 use Rattle.layout.specs.Places.{Room}
@@ -24,7 +24,7 @@ use Rattle.mark.specs.Survivors.{Marked}
 use Rattle.mark.specs.Reached.{cell-home}
 use Rattle.census.specs.Counted.{overMarked, over-cells, goesTo, goes-landed}
 use Rattle.copy.specs.Marks.{hit, hits}
-use Rattle.copy.specs.Copying.{need, Plan, region-bounds}
+use Rattle.copy.specs.Copying.{need, Plan}
 use Rattle.promises.specs.Ends.{partOf, Survivor}
 use Rattle.ended.specs.EndQuestion.{pagesNeeded}
 use Rattle.ended.specs.EndPages.{morePages, new-pages-ended}

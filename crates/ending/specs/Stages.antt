@@ -12,7 +12,7 @@ use Rattle.lists.specs.Part.{Off, Lists}
 use Rattle.rules.specs.declared.Sizes.{Sizes}
 use Rattle.rules.specs.Regions.{regionAt, regions, threadOf, levelOf}
 use Rattle.rules.specs.Graph.{ended, crossing}
-use Rattle.laws.specs.RegionLaws.{region-high, numbers-rise, thread-at, level-at}
+use Rattle.laws.specs.RegionLaws.{region-high, region-bounds, numbers-rise, thread-at, level-at}
 use Rattle.layout.specs.Places.{Room, depthAt, countAt, depthOf, ownerOf, markOf, entriesUsed, slotIn, ownersFrom, countsFrom, varsFrom, tablesWords, count-room, varCount}
 use Rattle.layout.specs.Cells.{pageOf, pageAt, wordOf, field-word}
 use Rattle.layout.specs.Objects.{begins-page}
@@ -26,7 +26,7 @@ use Rattle.promises.specs.Ends.{partOf, Survivor, Lives}
 use Rattle.mark.specs.Marks.{page-unmarked}
 use Rattle.mark.specs.Survivors.{Marked}
 use Rattle.copy.specs.Passing.{moves-ready}
-use Rattle.copy.specs.Copying.{Plan, Copy, copy-marks, region-bounds}
+use Rattle.copy.specs.Copying.{Plan, Copy, copy-marks}
 use Rattle.copy.specs.Forward.{copy-forwards}
 use Rattle.settle.specs.Rewrite.{forwarded, Rewritten, ref-same}
 use Rattle.settle.specs.RewriteSlots.{Slots, Variables}

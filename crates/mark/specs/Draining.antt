@@ -5,6 +5,7 @@ use mathlib.Core.Bool.{Bool, true}
 use mathlib.Core.List.{List, [], _∷_, _++_}
 use Prim.Native.Nat.{ℕ, _+_, _-_, _≤_, _<_}
 use native.Mathlib.Omega.{arith}
+use native.Mathlib.Numerals.{one-add}
 use lib.ListN.{length, length-append, set}
 use Rattle.lists.specs.Listed.{listed}
 use Rattle.lists.specs.Members.{In, in-append, in-left, in-right}
@@ -16,7 +17,8 @@ use Rattle.layout.specs.Cells.{workAt, workOf, fieldOf, pageOf, refsOf, mostFie
 use Rattle.layout.specs.Marks.{marked}
 use Rattle.layout.specs.Objects.{Begins, begins-page, cellCount}
 use Rattle.promises.specs.Whole.{IsRef}
-use Rattle.mark.specs.Marks.{owner, Shaped, shaped-few, Leads.held, Leads.via, leads-last, ref-begins, listed-in, in-listed, kept-refs, kept-field, kept-owner, AnyMarked}
+use Rattle.promises.specs.Reading.{ref-begins}
+use Rattle.mark.specs.Marks.{owner, Shaped, shaped-few, Leads.held, Leads.via, leads-last, listed-in, in-listed, kept-refs, kept-field, kept-owner, AnyMarked}
 use Rattle.mark.specs.Marking.{Marking, marking-start, shaped-then, popped-top}
 use Rattle.mark.specs.Pushes.{Pushing, pushing-kept, pushing-shaped, pushing-mono, pushing-closed, pushing-marking}
 
@@ -117,7 +119,7 @@ module _ {p : Sizes} {r g : ℕ} {W₀ T₀ S₀ S W T : List ℕ} {top n : ℕ}
                 (λ (z : c ≡ b).
                 let lt′ : f < refsOf W₀ b = subst (λ (x : ℕ). f < refsOf W₀ x) z lt in
                 let e′ : fieldOf X b f ≡ 1 + d = kept-field (m .kept) b f (omega arith) ∙ subst (λ (x : ℕ). fieldOf W₀ x f ≡ 1 + d) z e in
-                let u = ref-begins p X T (fieldOf X b f) d (sh .objects b (q .0) .references f (omega arith)) e′ in
+                let u = ref-begins p X T (fieldOf X b f) d (sh .objects b (q .0) .references f (omega arith)) (e′ ∙ one-add d) in
                 pushing-closed sh s f d (omega arith) e′ (kept-owner (m .kept) (m .started .room) d (begins-page _ _ _ _ u) ∙ own))
                 (λ j. pushing-mono sh s d (h .closed c f d j lt e own))
                 i;
@@ -145,7 +147,7 @@ seeded {p} {r} g ref ref′ n n′ {W} {T} {W′} {T′} s used h i =
             ⊎-elim (λ j. let q = in-listed ref n (1 + c) j in pushing-mono s′ i c (pushing-closed s h (q .0) c (q .1) (q .2) own))
             (λ j.
             let q = in-listed ref′ n′ (1 + c) j in
-            pushing-closed s′ i (q .0) c (q .1) (q .2) (kept-owner k (s .room) c (begins-page _ _ _ _ (ref-begins p W T (ref′ (q .0)) c (used (q .0) (q .1)) (q .2))) ∙ own))
+            pushing-closed s′ i (q .0) c (q .1) (q .2) (kept-owner k (s .room) c (begins-page _ _ _ _ (ref-begins p W T (ref′ (q .0)) c (used (q .0) (q .1)) (q .2 ∙ one-add c))) ∙ own))
             (in-append (1 + c) (listed ref n) (listed ref′ n′) j);
       },
     )

@@ -4,13 +4,15 @@ use mathlib.Core.Path.{_≡_, refl, sym, _∙_, subst}
 use mathlib.Core.List.{List}
 use Prim.Native.Nat.{ℕ, _+_, _≤_, _<_}
 use native.Mathlib.Omega.{arith}
+use native.Mathlib.Numerals.{one-add}
 use Rattle.lists.specs.Below.{upto}
 use Rattle.lists.specs.Members.{In, in?}
 use Rattle.rules.specs.declared.Sizes.{Sizes}
 use Rattle.layout.specs.Cells.{workOf, fieldOf, pageOf, refsOf, mostFields}
 use Rattle.layout.specs.Marks.{marked}
 use Rattle.layout.specs.Objects.{Begins, begins-page}
-use Rattle.mark.specs.Marks.{owner, Shaped, shaped-few, Ours, Fresh, Leads, Leads.held, Leads.via, leads-last, ref-begins, Kept, kept-refl, kept-trans, kept-refs, kept-field, kept-owner, in-use-kept}
+use Rattle.promises.specs.Reading.{ref-begins}
+use Rattle.mark.specs.Marks.{owner, Shaped, shaped-few, Ours, Fresh, Leads, Leads.held, Leads.via, leads-last, Kept, kept-refl, kept-trans, kept-refs, kept-field, kept-owner, in-use-kept}
 use Rattle.mark.specs.Draining.{Drained}
 
 -- a reference that a holder of level l holds leads to c inside r
@@ -67,7 +69,7 @@ module _ {p : Sizes} {r n : ℕ} {gs : ℕ → ℕ} {calls : ℕ → List ℕ} {
       go : Dec (In b (d .done)) → marked p T′ c ≡ 1
       go (yes i) =
           let few : refsOf W₀ b ≤ mostFields = shaped-few s₀ b u in
-          let v = ref-begins p W₀ T₀ (fieldOf W₀ b f) c (s₀ .objects b u .references f lt) e in
+          let v = ref-begins p W₀ T₀ (fieldOf W₀ b f) c (s₀ .objects b u .references f lt) (e ∙ one-add c) in
           d .closed b f c i (omega (arith, kept-refs (L .kept) b)) (kept-field (L .kept) b f (omega arith) ∙ e)
           (kept-owner (L .kept) (s₀ .room) c (begins-page _ _ _ _ v) ∙ own)
       go (no k) = mono c (L .closed b f c u (sym (d .marking .same-mark b k) ∙ h) lt e own)

@@ -54,10 +54,6 @@ pub leads-last : {P : ℕ → Type 0} {W S : List ℕ} {c : ℕ} → Leads P W S
 leads-last (held i o) = o
 leads-last (via q f lt e o) = o
 
--- what a reference names
-pub ref-begins : (p : Sizes) (W T : List ℕ) (x c : ℕ) → IsRef p W T x → x ≡ 1 + c → Begins p W T c
-ref-begins p W T x c u e = subst (Begins p W T) (let z : x - 1 ≡ c = omega arith in z) (u (omega arith))
-
 -- the pending cells, linked through word 1, the bottom's link null
 abbrev pub Chain : List ℕ → ℕ → List ℕ → Type 0
 Chain W top [] = top ≡ 0

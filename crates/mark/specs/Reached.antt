@@ -7,7 +7,7 @@ use mathlib.Core.List.{List}
 use Prim.Native.Nat.{ℕ, suc, _+_, _-_, _/_, _%_, _<_}
 use native.Mathlib.Omega.{arith}
 use native.Mathlib.Numerals.{one-add}
-use native.Mathlib.Nat.{div-add-mod', mod-lt}
+use native.Mathlib.Nat.{mod-lt}
 use native.Mathlib.Decide.{ℕ-discrete, decLt}
 use lib.Dec.{eqb}
 use lib.ListN.{getD}
@@ -16,7 +16,7 @@ use Rattle.lists.specs.Listed.{listed}
 use Rattle.lists.specs.Members.{In, in-append, in-left, in-right, getD-in, in-place, in-bounds}
 use Rattle.rules.specs.declared.Sizes.{Sizes}
 use Rattle.rules.specs.Regions.{regionAt, threadOf, levelOf, join}
-use Rattle.laws.specs.RegionLaws.{region-high, thread-at, level-at, parent-at, join-control, join-other, join-same}
+use Rattle.laws.specs.RegionLaws.{region-high, region-number, thread-at, level-at, parent-at, join-control, join-other, join-same}
 use Rattle.laws.specs.GraphLaws as gl
 use Rattle.laws.specs.GraphLaws.{Refers, Holds, bySlot, byOwn, byOther}
 use Rattle.layout.specs.Places.{varOf, entriesUsed, slotIn, slotRegionIn, varCount}
@@ -27,8 +27,8 @@ use Rattle.promises.specs.Whole.{WholeFor}
 use Rattle.layout.specs.Objects.{begins-page, field-on, slot-low, slot-page, field-slot}
 use Rattle.remember.specs.Crosses.{slot-cross, other-yes, crosses-by, crosses-into}
 use Rattle.promises.specs.Slots.{region-of}
-use Rattle.promises.specs.Reading.{used-home, used-owned, used-alive, alive-used, cell-low, length-refs, getD-refs, length-vars, getD-vars, ref-room}
-use Rattle.mark.specs.Marks.{Ours, Leads, Leads.held, Leads.via, leads-last, ref-begins, listed-in, in-listed}
+use Rattle.promises.specs.Reading.{used-home, used-owned, used-alive, alive-used, cell-low, length-refs, getD-refs, length-vars, getD-vars, ref-room, ref-begins}
+use Rattle.mark.specs.Marks.{Ours, Leads, Leads.held, Leads.via, leads-last, listed-in, in-listed}
 use Rattle.mark.specs.Holders.{varCalls, varHeld, slotCalls, slotHeld, heldRefs, Holding, entry-slot, calls-own, calls-other, var-some, slot-some}
 
 -- ---- numbers that are chosen by tests
@@ -59,7 +59,7 @@ module _ (s : Sizes) (w : Words) (k : WholeFor s w) where
 
   -- what a reference names is an object
   field-used : (y f x : ℕ) → BeginsIn s w y → f < refCount w y → fieldOf (w .cells) y f ≡ suc x → BeginsIn s w x
-  field-used y f x u l e = ref-begins s (w .cells) (w .tables) (fieldOf (w .cells) y f) x (k .objects y u .references f l) (e ∙ sym (one-add x))
+  field-used y f x u l e = ref-begins s (w .cells) (w .tables) (fieldOf (w .cells) y f) x (k .objects y u .references f l) e
 
   -- ---- chains
 
@@ -198,14 +198,11 @@ module _ (s : Sizes) (w : Words) (k : WholeFor s w) where
             let low : i < suc j = omega (arith, k .pages (pageOf y) (begins-page _ _ _ _ u) .region b .level, ap (levelOf s) z ∙ level-at s v i d, ap (depthIn w) (ap (threadOf s) z ∙ thread-at s v i d ∙ sym a)) in
             (suc i, omega arith, joined (regionAt s v (suc i)) z ∙ join-same s t j v i deep d a (omega arith) ∙ ap (λ (a : ℕ). regionAt s a (suc i)) (sym a))
 
-        number : (n : ℕ) → q ≡ n + 2 → q ≡ regionAt s (n / s .depth) (suc (n % s .depth))
-        number n e = omega (arith, div-add-mod' n (s .depth))
-
         go : Dec (1 < q) → (l : ℕ) × (l < suc j) × (join s r (homeIn s w y) ≡ regionAt s t l)
         go (no n) = (0, omega arith, joined 1 (let nz = used-owned s w k y u in let z : q ≡ 1 = omega arith in z) ∙ join-control s r)
         go (yes l) =
             let d : 0 < s .depth = omega (arith, k .sized .range .depth-low) in
-            level ((q - 2) / s .depth) ((q - 2) % s .depth) (mod-lt (q - 2) d) (number (q - 2) (omega arith)) l (ℕ-discrete t ((q - 2) / s .depth))
+            level ((q - 2) / s .depth) ((q - 2) % s .depth) (mod-lt (q - 2) d) (region-number s q l) l (ℕ-discrete t ((q - 2) / s .depth))
 
     -- each holder calls for the region of a level below, and is held there
     pub holds-held : (x q : ℕ) → homeIn s w x ≡ r → Holds s (graphOf s w) r x q → (l : ℕ) × (l < suc j) × (q ≡ regionAt s t l) × In (1 + x) (heldFrom (regionAt s t l))

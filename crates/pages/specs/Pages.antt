@@ -6,14 +6,13 @@ use mathlib.Core.Bool.{Bool, true}
 use lib.Dec.{eqb}
 use borrow.Author.Tests.{eqb-true}
 use Prim.Native.Nat.{ℕ, _+_, _-_, _≤_, _<_}
-use native.Mathlib.Nat.{mul-le-mul}
 use native.Mathlib.Decide.{decLt, ℕ-discrete}
 use native.Mathlib.Omega.{arith}
 use lib.ListN.{set}
 use Rattle.lists.specs.Below.{upto}
 use Rattle.rules.specs.Regions.{regions}
 use Rattle.rules.specs.declared.Sizes.{Sizes}
-use Rattle.layout.specs.Places.{Room, ownerAt, usedAt, countAt, ownerOf, usedOf, countOf}
+use Rattle.layout.specs.Places.{mostRegions, ownerAt, usedAt, countAt, ownerOf, usedOf, countOf}
 use Rattle.layout.specs.Cells.{pageCells, placeOf}
 use Rattle.promises.specs.Whole.{Partial}
 use Rattle.promises.specs.Regular.{Regular}
@@ -46,12 +45,9 @@ pub record Highest (p : Sizes) (t : List ℕ) (low high page : ℕ) : Type 0 whe
   pub free : page < p .pages → ownerOf p t page ≡ 0
   pub within : page ≤ p .pages
 
--- the notes of a block: the free page found last, and for each region from 1 to 129 at most the page that its last object went to
+-- the notes of a block: the free page found last, and for each region the page that its last object went to
 abbrev pub noteWords : ℕ
-noteWords = 130
-
-pub note-low : {p : Sizes} {n : ℕ} (region : ℕ) → Room p n → region ≤ regions p → region < noteWords
-note-low region r l = omega (arith, mul-le-mul (r .threads-high) (r .depth-high))
+noteWords = mostRegions
 
 -- the page of the next object is a page or the number of pages
 pub found-within : {p : Sizes} {t : List ℕ} {g page : ℕ} → Found p t g page → page ≤ p .pages

@@ -1,14 +1,13 @@
 -- The remember table has as many entries as the rules count crossing slots.
 use Prim.Native.Nat.{ℕ, zero, suc, _+_, _<_}
 use native.Mathlib.Omega.{arith}
-use native.Mathlib.Decide.{ℕ-discrete}
 use mathlib.Core.Logic.{by-cases}
 use mathlib.Core.Path.{_≡_, refl, sym, ap, ap₂, _∙_}
 use mathlib.Core.List.{List, [], _∷_}
-use mathlib.Core.Bool.{cond, not, _&&_, and-false}
+use mathlib.Core.Bool.{cond, not, _&&_}
 use lib.ListN.{length, getD}
 use lib.Dec.{ltb, eqb}
-use borrow.Author.Tests.{lt-ltb, le-leb, lt-leb, eq-eqb, ne-eqb}
+use borrow.Author.Tests.{ne-eqb}
 use Rattle.lists.specs.Counting.{bit, sum, sum-same}
 use Rattle.lists.specs.Members.{tally}
 use Rattle.rules.specs.declared.Sizes.{Sizes}
@@ -21,7 +20,7 @@ use Rattle.layout.specs.Objects.{cellCount, begins?, begins-page, begins-true, 
 use Rattle.layout.specs.Words.{Words, BeginsIn, ownerIn, headIn, refCount, refsIn, homeIn, graphOf}
 use Rattle.remember.specs.Crossing as cr
 use Rattle.remember.specs.Crossing.{other, regionOf}
-use Rattle.remember.specs.Crosses.{slot-cross, no-cross}
+use Rattle.remember.specs.Crosses.{slot-cross, no-cross, other-test}
 use Rattle.promises.specs.Whole.{WholeFor, IsRef}
 use Rattle.promises.specs.StandsFor.{StandsFor}
 use Rattle.promises.specs.Slots.{region-of}
@@ -39,23 +38,16 @@ unfolding crossIn tally ruleSlots
 cross-in-sum g x [] = refl
 cross-in-sum g x (v ∷ vs) = cross-cons g x v vs ∙ ap (λ (n : ℕ). crossRef g x v + n) (cross-in-sum g x vs) ∙ sym (sum-head (λ i. crossRef g x (getD (v ∷ vs) i 0)) (length vs))
 
--- the check's test of a crossing slot is that of the rules
-pub same-test : (o g : ℕ) → 0 < g → bit (ltb 0 (other o g)) ≡ cond (not (eqb o g) && not (eqb g 1)) 1 0
-same-test o g pos =
-    by-cases (ℕ-discrete g 1) (λ e. rw (le-leb g 1 (omega arith), eq-eqb g 1 e, and-false (not (eqb o g))))
-    (λ n. by-cases (ℕ-discrete g o) (λ e. rw (lt-leb g 1 (omega arith), eq-eqb g o e, eq-eqb o g (sym e)))
-    (λ m. rw (lt-leb g 1 (omega arith), ne-eqb g o m, lt-ltb 0 g pos, ne-eqb o g (λ q. m (sym q)), ne-eqb g 1 n)))
-
 module _ (s : Sizes) (w : Words) (k : WholeFor s w) where
   module _ (c : ℕ) (u : BeginsIn s w c) where
     pub ref-test : (v : ℕ) → IsRef s (w .cells) (w .tables) v → bit (ltb 0 (other (ownerIn s w (pageOf c)) (regionOf s (w .tables) v))) ≡ crossRef (graphOf s w) c v
     ref-test zero f = refl
     ref-test (suc y) f =
-        let v : BeginsIn s w y = ref-begins s w y f in
+        let v : BeginsIn s w y = ref-begins s (w .cells) (w .tables) (suc y) y f refl in
         let o = ownerIn s w (pageOf c) in
         let g = ownerIn s w (pageOf y) in
         let pos : g ≡ 0 → ⊥ = used-owned s w k y v in
-        ap (λ (n : ℕ). bit (ltb 0 (other o n))) (region-of s (w .tables) y (begins-page s (w .cells) (w .tables) y v)) ∙ same-test o g (omega arith)
+        ap (λ (n : ℕ). bit (ltb 0 (other o n))) (region-of s (w .tables) y (begins-page s (w .cells) (w .tables) y v)) ∙ other-test o g (omega arith)
         ∙ sym (ap₂ (λ (a b : ℕ). cond (not (eqb a b) && not (eqb b 1)) 1 0) (used-home s w k c u) (used-home s w k y v))
 
     at-ref : (f : ℕ) → f < refCount w c → bit (cr.crossing s (w .cells) (w .tables) (fieldAt c f)) ≡ crossRef (graphOf s w) c (getD (refsIn w c) f 0)

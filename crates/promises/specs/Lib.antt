@@ -5,6 +5,7 @@ pub mod Whole
 pub mod StandsFor
 pub mod Promises
 pub mod Ends
+pub mod Arriving
 -- theorems: what is read from whole words, the heaps that they stand for, and a command here and anywhere
 pub mod Reading
 pub mod Agreed

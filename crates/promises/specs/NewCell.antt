@@ -95,7 +95,7 @@ module _ (s : Sizes) (w : Words) (k : WholeFor s w) (g cell b d : ℕ) (t′ c�
   region-kept : (x : ℕ) → IsRef s c t x → regionOf s t′ x ≡ regionOf s t x
   region-kept zero r = refl
   region-kept (suc x) r =
-      let u : BeginsIn s w x = ref-begins s w x r in
+      let u : BeginsIn s w x = ref-begins s c t (suc x) x r refl in
       region-of s t′ x (begins-page s c′ t′ x (still-begins x u)) ∙ owner-still x u ∙ sym (region-of s t x (begins-page s c t x u))
 
   slot-kept : (q : ℕ) → Slot s c t q → Slot s c′ t′ q × (crossesTo s t′ (cellOf q) (getD c′ q 0) ≡ crossesTo s t (cellOf q) (getD c q 0))

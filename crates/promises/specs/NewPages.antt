@@ -1,5 +1,5 @@
 -- Question 13 of a new object, in words: it says no exactly if its region has no partly filled page and no page is free.
-use Prim.Native.Nat.{ℕ, zero, suc, _+_, _-_, _*_, _≤_, _<_}
+use Prim.Native.Nat.{ℕ, zero, suc, _≤_, _<_}
 use native.Mathlib.Omega.{arith}
 use native.Mathlib.Decide.{ℕ-discrete}
 use mathlib.Core.Path.{_≡_, refl, sym, ap, subst, _∙_}
@@ -9,14 +9,13 @@ use mathlib.Core.Bool.{true, false}
 use lib.Dec.{leb}
 use borrow.Author.Tests.{le-leb, lt-leb}
 use Rattle.lists.specs.Counting.{sum-part, sum-none}
-use Rattle.lists.specs.Products.{flat-low}
 use Rattle.rules.specs.declared.Sizes.{Sizes}
 use Rattle.rules.specs.NeverFreeing.{Object}
 use Rattle.rules.specs.Regions.{regionAt, threadOf, regions}
-use Rattle.rules.specs.Graph.{newPages, freePages, pagesOf}
+use Rattle.rules.specs.Graph.{newPages, freePages}
 use Rattle.rules.specs.Rules.{Regioned, graph}
 use Rattle.laws.specs.RulesLaws.{region-pos}
-use Rattle.laws.specs.RegionLaws.{thread-at, level-at, region-high}
+use Rattle.laws.specs.RegionLaws.{thread-at, level-at, region-high, region-bounds}
 use Rattle.laws.specs.Counts.{new-pages}
 use Rattle.laws.specs.AfterLaws.{graph-new}
 use Rattle.layout.specs.Places.{depthOf}
@@ -26,6 +25,7 @@ use Rattle.promises.specs.Whole.{WholeFor, Open, Partial, objectsOf}
 use Rattle.promises.specs.Regular.{whole-regular}
 use Rattle.promises.specs.StandsFor.{StandsFor}
 use Rattle.promises.specs.Agreed.{objects-agree}
+use Rattle.promises.specs.Arriving.{morePages}
 use Rattle.promises.specs.OwnedPages.{ownedOne, pagesOwned, owned-yes, owned-no, partly-filled, some-partly, objects-on-pages, heap-free}
 
 -- ---- the innermost region of a thread
@@ -38,12 +38,7 @@ module _ (s : Sizes) (w : Words) (k : WholeFor s w) (t : ℕ) (l : t < s .thread
   innermost-pos = region-pos s t (depthIn w t)
 
   pub innermost-low : innermostIn s w t ≤ regions s
-  unfolding regionAt
-  innermost-low = go (depthIn w t) (k .depths t l)
-    where
-      go : (d : ℕ) → d ≤ s .depth → regionAt s t d ≤ regions s
-      go zero m = omega arith
-      go (suc d) m = let f : t * s .depth + d < s .threads * s .depth = flat-low l m in omega arith
+  innermost-low = region-bounds s t (depthIn w t) l (k .depths t l) .1
 
   pub innermost-open : 1 < innermostIn s w t → Open s (w .tables) (innermostIn s w t)
   unfolding regionAt
@@ -77,10 +72,10 @@ module _ (s : Sizes) (w : Words) (h : Regioned) (to : ℕ → ℕ) (st : StandsF
   abbrev held : ℕ
   held = objectsOf s (w .tables) g
 
-  needs : newPages s (graph h) (graph made) ≡ pagesOf (held + 1) - pagesOf held
+  needs : newPages s (graph h) (graph made) ≡ morePages held 1
   needs =
       ap (newPages s (graph h)) (graph-new h (st .sound .aligned) ds vs o g) ∙ new-pages (graph h) g (o .refs) vs s pos low
-      ∙ ap (λ (x : ℕ). pagesOf (x + 1) - pagesOf x) (objects-agree s w h to st g pos ∙ objects-on-pages s w (st .whole) g pos)
+      ∙ ap (λ (x : ℕ). morePages x 1) (objects-agree s w h to st g pos ∙ objects-on-pages s w (st .whole) g pos)
 
   pub new-fits : PartlyFilled s w g ⊎ FreePage s w → leb (newPages s (graph h) (graph made)) (freePages s (graph h)) ≡ true
   new-fits either =

@@ -142,7 +142,7 @@ module _ (s : Sizes) (w : Words) (k : WholeFor s w) where
     unfolding ask
     used-fields zero r = refl
     used-fields (suc y) r =
-        let u = ref-begins s w y r in
+        let u = ref-begins s (w .cells) (w .tables) (suc y) y r refl in
         rw (let e : suc y - 1 ≡ y = omega arith in e) (ap (used (suc y) f) (ap length (fields-heap d y u) ∙ length-fields s w k d y u))
 
     -- the field's word
@@ -151,7 +151,7 @@ module _ (s : Sizes) (w : Words) (k : WholeFor s w) where
     field-word zero r p l = absurd (let o : ⊥ = omega arith in o)
     field-word (suc y) r p l =
         let e : suc y - 1 ≡ y = omega arith in
-        rw e (ap (λ (vs : List ℕ). getD vs f 0) (fields-heap d y (ref-begins s w y r)) ∙ getD-fields d w y f (subst (λ (z : ℕ). f < fieldCount d (headOf (w .cells) z)) e l))
+        rw e (ap (λ (vs : List ℕ). getD vs f 0) (fields-heap d y (ref-begins s (w .cells) (w .tables) (suc y) y r refl)) ∙ getD-fields d w y f (subst (λ (z : ℕ). f < fieldCount d (headOf (w .cells) z)) e l))
 
     -- the questions of variable a of thread t
     pub asked-field : (t a : ℕ) → t < s .threads → a < s .variables

@@ -4,6 +4,7 @@ use native.Mathlib.Omega.{arith}
 use mathlib.Core.Logic.{by-cases}
 use mathlib.Core.Path.{_≡_, sym, ap, subst, _∙_}
 use mathlib.Core.Bool.{Bool, cond}
+use mathlib.Core.List.{List}
 use lib.ListN.{length, getD, drop, length-drop}
 use lib.Seq.{getD-take, getD-drop, length-take-le}
 use Rattle.lists.specs.Members.{In, in-place, in-bounds}
@@ -15,7 +16,7 @@ use Rattle.layout.specs.declared.Kind.the-variants.{Reference}
 use Rattle.layout.specs.Places.{Room, room, depthAt, varAt, varOf, tablesWords, count-room, count-is, ownersFrom, varCount}
 use Rattle.layout.specs.Cells.{fieldAt, fieldOf, fieldCount, firstField, kindAt, mostFields, roomFor, kind-among, first-reference, fields-room, pageOf, CellIn, cellNamed}
 use Rattle.layout.specs.Cells as ly
-use Rattle.layout.specs.Words.{Words, depthIn, varIn, ownerIn, depthsIn, varsIn, headIn, refCount, fieldsIn, refsIn, homeIn, graphOf, depthsAt, homeAt, fieldsAt, varsAt, BeginsIn}
+use Rattle.layout.specs.Words.{Words, depthIn, varIn, ownerIn, depthsIn, varsIn, headIn, refCount, fieldsIn, refsIn, homeIn, graphOf, depthsAt, homeAt, fieldsAt, varsAt, Begins, BeginsIn}
 use Rattle.layout.specs.Objects.{cellCount, begins-used, begins-low, begins-true, begins-false, fields-inside, begins?}
 use Rattle.promises.specs.Whole.{Sized, WholeFor, IsRef}
 
@@ -54,8 +55,8 @@ pub entries-there : {s : Sizes} {w : Words} → Sized s w → 2 ≤ length (w .r
 entries-there k = omega (arith, k .remember)
 
 -- a reference that is not null names an object
-pub ref-begins : (s : Sizes) (w : Words) (y : ℕ) → IsRef s (w .cells) (w .tables) (suc y) → BeginsIn s w y
-ref-begins s w y r = subst (BeginsIn s w) (let e : cellNamed (suc y) ≡ y = omega arith in e) (r (omega arith))
+pub ref-begins : (s : Sizes) (W T : List ℕ) (x c : ℕ) → IsRef s W T x → x ≡ suc c → Begins s W T c
+ref-begins s W T x c r e = subst (Begins s W T) (let z : cellNamed x ≡ c = omega arith in z) (r (omega arith))
 
 module _ (s : Sizes) (w : Words) (k : WholeFor s w) where
   pub used-home : (c : ℕ) → BeginsIn s w c → homeIn s w c ≡ ownerIn s w (pageOf c)
@@ -106,14 +107,14 @@ module _ (s : Sizes) (w : Words) (k : WholeFor s w) where
   vars-alive : (i x : ℕ) → getD (varsIn s w) i 0 ≡ suc x → Alive (graphOf s w) x
   vars-alive i x e =
       let l : i < varCount s = omega (arith, in-bounds (varsIn s w) i (λ z. omega arith), length-vars) in
-      used-alive x (ref-begins s w x (subst (IsRef s (w .cells) (w .tables)) (sym (getD-vars s w i l) ∙ e) (k .variables i l)))
+      used-alive x (ref-begins s (w .cells) (w .tables) (varOf s (w .tables) i) x (k .variables i l) (sym (getD-vars s w i l) ∙ e))
 
   refs-alive : (c y : ℕ) → Alive (graphOf s w) c → In (suc y) (refsIn w c) → Alive (graphOf s w) y
   refs-alive c y a i =
       let u = alive-used c a in
       let r = in-place (refsIn w c) (suc y) i in
       let l : r .0 < refCount w c = omega (arith, r .1, length-refs c u) in
-      used-alive y (ref-begins s w y (subst (IsRef s (w .cells) (w .tables)) (sym (getD-refs w c (r .0) l) ∙ r .2) (k .objects c u .references (r .0) l)))
+      used-alive y (ref-begins s (w .cells) (w .tables) (fieldOf (w .cells) c (r .0)) y (k .objects c u .references (r .0) l) (sym (getD-refs w c (r .0) l) ∙ r .2))
 
   pub words-closed : Closed (graphOf s w)
   words-closed =

@@ -2,11 +2,14 @@
 use Prim.Native.Nat.{ℕ, _-_, _≤_, _<_}
 use mathlib.Core.List.{List}
 use mathlib.Core.Path.{_≡_, refl, sym, ap, ap₂, subst₂, _∙_}
-use mathlib.Core.Bool.{Bool, cond}
+use mathlib.Core.Logic.{by-cases}
+use mathlib.Core.Bool.{Bool, cond, not, _&&_, and-false}
 use native.Mathlib.Omega.{arith}
 use native.Mathlib.Decide.{ℕ-discrete, decLt}
 use borrow.Author.Tests.{lt-ltb, le-ltb, le-leb, lt-leb, eq-eqb, ne-eqb}
+use lib.Dec.{ltb, eqb}
 use lib.ListN.{getD}
+use Rattle.lists.specs.Counting.{bit}
 use Rattle.rules.specs.declared.Sizes.{Sizes}
 use Rattle.layout.specs.Places.{cellsWords, ownerOf, usedOf}
 use Rattle.layout.specs.Cells.{headOf, IsReference, cellNamed, pageOf, placeOf, cellOf, wordOf, pageAt}
@@ -74,6 +77,13 @@ other-same w h l e = rw (lt-leb h 1 l, eq-eqb h w e)
 
 pub other-yes : (w h : ℕ) → 1 < h → (h ≡ w → ⊥) → h ≡ other w h
 other-yes w h l n = rw (lt-leb h 1 l, ne-eqb h w n)
+
+-- which is the rules' test of a crossing slot
+pub other-test : (w h : ℕ) → 0 < h → bit (ltb 0 (other w h)) ≡ cond (not (eqb w h) && not (eqb h 1)) 1 0
+other-test w h pos =
+    by-cases (ℕ-discrete h 1) (λ e. rw (le-leb h 1 (omega arith), eq-eqb h 1 e, and-false (not (eqb w h))))
+    (λ n. by-cases (ℕ-discrete h w) (λ e. rw (lt-leb h 1 (omega arith), eq-eqb h w e, eq-eqb w h (sym e)))
+    (λ m. rw (lt-leb h 1 (omega arith), ne-eqb h w m, lt-ltb 0 h pos, ne-eqb w h (λ q. m (sym q)), ne-eqb h 1 n)))
 
 -- ---- a reference from a slot of an object in region w
 

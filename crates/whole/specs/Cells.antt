@@ -58,8 +58,8 @@ module _ (p : Sizes) (c t : List ℕ) (x : ℕ) {cell page : ℕ} (e : cell ≡ 
     same : usedOf p t (pageOf (x - 1)) ≡ used
     same = ap (usedOf p t) (let q : pageOf (x - 1) ≡ page = omega arith in q) ∙ sym h
 
-    pub ref-begins : page < p .pages → place < used → IsRef p c t x
-    ref-begins l m k = used-begins p c t (cellNamed x) (record { page = omega arith; place = omega (arith, same) })
+    pub used-ref : page < p .pages → place < used → IsRef p c t x
+    used-ref l m k = used-begins p c t (cellNamed x) (record { page = omega arith; place = omega (arith, same) })
 
     pub ref-place : 0 < x → IsRef p c t x → place < used
     ref-place k r = omega (arith, same, begins-used p c t (cellNamed x) (r k) .place)

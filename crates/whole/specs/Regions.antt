@@ -5,7 +5,7 @@ use mathlib.Core.Bool.{Bool, true, false}
 use mathlib.Core.Path.{_≡_, sym, ap, subst, _∙_}
 use mathlib.Core.Logic.{⊎-elim}
 use native.Mathlib.Omega.{arith}
-use native.Mathlib.Nat.{not-suc-le-zero, mul-le-mul}
+use native.Mathlib.Nat.{not-suc-le-zero}
 use native.Mathlib.Decide.{ℕ-discrete, decLt}
 use lib.ListN.{getD, length, set, replicate, length-set, length-replicate}
 use lib.Seq.{getD-set-same, getD-set-other}
@@ -14,9 +14,9 @@ use Rattle.lists.specs.Zeros.{replicate-at}
 use Rattle.lists.specs.Says.{true-not-false}
 use Rattle.lists.specs.Counting.{sum, sum-more, sum-high}
 use Rattle.rules.specs.declared.Sizes.{Sizes}
-use Rattle.layout.specs.Places.{Room, ownerOf, usedOf}
+use Rattle.layout.specs.Places.{Room, mostRegions, regions-few, ownerOf, usedOf}
 use Rattle.layout.specs.Cells.{pageCells}
-use Rattle.promises.specs.Whole.{Partial, objectsOn, PageWhole, OnePartial, CountsWhole}
+use Rattle.promises.specs.Whole.{Partial, objectsOn, OnePartial, CountsWhole}
 use Rattle.promises.specs.Regular.{objects-yes, objects-no}
 use Rattle.layout.specs.Words.{tablesOnly}
 use Rattle.whole.specs.Pages.{PageChecked, PagesChecked, open-high}
@@ -32,28 +32,20 @@ pub record RegionsWhole (p : Sizes) (t : List ℕ) : Type 0 where
 
 -- what a pass over the pages below n knows of each region: its objects there, and whether one of its pages there is partly filled
 pub record Tallied (p : Sizes) (t : List ℕ) (objects : List ℕ) (partly : List Bool) (n : ℕ) : Type 0 where
-  pub places : length objects ≡ 130
-  pub flags : length partly ≡ 130
-  pub counted : (g : ℕ) → 1 ≤ g → g < 130 → getD objects g 0 ≡ sum (objectsOn p t g) n
-  pub marked : (g a : ℕ) → 1 ≤ g → g < 130 → a < n → Partial p t g a → getD partly g false ≡ true
+  pub places : length objects ≡ mostRegions
+  pub flags : length partly ≡ mostRegions
+  pub counted : (g : ℕ) → 1 ≤ g → g < mostRegions → getD objects g 0 ≡ sum (objectsOn p t g) n
+  pub marked : (g a : ℕ) → 1 ≤ g → g < mostRegions → a < n → Partial p t g a → getD partly g false ≡ true
   pub only : (g : ℕ) → getD partly g false ≡ true → (a : ℕ) × (a < n) × (1 ≤ g) × Partial p t g a
   pub once : PartialWhole p t n
 
--- every owner is one of the regions, and these are fewer than 130
-pub owner-high : (p : Sizes) (t : List ℕ) (page : ℕ) → 1 ≤ p .depth → p .threads * p .depth ≤ 128 → PageWhole p t page → ownerOf p t page < 130
-owner-high p t page d h w = go (decLt 1 (ownerOf p t page))
-  where
-    go : Dec (1 < ownerOf p t page) → ownerOf p t page < 130
-    go (yes l) = omega (arith, open-high p t (ownerOf p t page) d (w .region l))
-    go (no l) = omega arith
-
-pub tallied-none : (p : Sizes) (t : List ℕ) → Tallied p t (replicate 130 0) (replicate 130 false) 0
+pub tallied-none : (p : Sizes) (t : List ℕ) → Tallied p t (replicate mostRegions 0) (replicate mostRegions false) 0
 tallied-none p t = record {
-  places = length-replicate {A = ℕ} 130 0;
-  flags = length-replicate 130 false;
-  counted = λ g l m. replicate-at 130 g 0;
+  places = length-replicate {A = ℕ} mostRegions 0;
+  flags = length-replicate mostRegions false;
+  counted = λ g l m. replicate-at mostRegions g 0;
   marked = λ g a l m k. absurd (not-suc-le-zero k);
-  only = λ g e. absurd (true-not-false (sym (replicate-at 130 g false) ∙ e));
+  only = λ g e. absurd (true-not-false (sym (replicate-at mostRegions g false) ∙ e));
   once = λ g l a b k m. absurd (not-suc-le-zero m);
 }
 
@@ -62,8 +54,8 @@ module _ (p : Sizes) (t : List ℕ) (objects : List ℕ) (partly : List Bool) (n
   later : (g a : ℕ) → (Partial p t g n → ⊥) → a < n + 1 → Partial p t g a → a < n
   later g a h l q = ⊎-elim (λ z. absurd (h (subst (λ (x : ℕ). Partial p t g x) z q))) (λ z. z) (split l)
 
-  unseen : ((g : ℕ) → 1 ≤ g → Partial p t g n → ⊥) → (objects′ : List ℕ) → length objects′ ≡ 130
-      → ((g : ℕ) → 1 ≤ g → g < 130 → getD objects′ g 0 ≡ sum (objectsOn p t g) (n + 1)) → Tallied p t objects′ partly (n + 1)
+  unseen : ((g : ℕ) → 1 ≤ g → Partial p t g n → ⊥) → (objects′ : List ℕ) → length objects′ ≡ mostRegions
+      → ((g : ℕ) → 1 ≤ g → g < mostRegions → getD objects′ g 0 ≡ sum (objectsOn p t g) (n + 1)) → Tallied p t objects′ partly (n + 1)
   unseen h objects′ l k = record {
     places = l;
     flags = w .flags;
@@ -79,7 +71,7 @@ module _ (p : Sizes) (t : List ℕ) (objects : List ℕ) (partly : List Bool) (n
       unseen (λ g l q. omega (arith, q .owner)) objects (w .places)
       (λ g l m. omega (arith, w .counted g l m, sum-more (objectsOn p t g) n, objects-no p t g n (λ (q : ownerOf p t n ≡ g). omega arith)))
 
-  counted-more : (g : ℕ) → 1 ≤ o → o < 130 → 1 ≤ g → g < 130 → getD (set objects o (getD objects o 0 + u)) g 0 ≡ sum (objectsOn p t g) (n + 1)
+  counted-more : (g : ℕ) → 1 ≤ o → o < mostRegions → 1 ≤ g → g < mostRegions → getD (set objects o (getD objects o 0 + u)) g 0 ≡ sum (objectsOn p t g) (n + 1)
   counted-more g i j l m = go (ℕ-discrete g o)
     where
       go : Dec (g ≡ o) → getD (set objects o (getD objects o 0 + u)) g 0 ≡ sum (objectsOn p t g) (n + 1)
@@ -92,12 +84,12 @@ module _ (p : Sizes) (t : List ℕ) (objects : List ℕ) (partly : List Bool) (n
           omega (arith, getD-set-other objects o g (getD objects o 0 + u) 0 d, w .counted g l m, sum-more (objectsOn p t g) n, objects-no p t g n (λ q. d (sym (e ∙ q))))
 
   -- a full page
-  pub tallied-full : 1 ≤ o → o < 130 → pageCells ≤ u → Tallied p t (set objects o (getD objects o 0 + u)) partly (n + 1)
+  pub tallied-full : 1 ≤ o → o < mostRegions → pageCells ≤ u → Tallied p t (set objects o (getD objects o 0 + u)) partly (n + 1)
   tallied-full i j h =
       unseen (λ g l q. omega (arith, q .part)) (set objects o (getD objects o 0 + u)) (length-set objects o (getD objects o 0 + u) ∙ w .places) (λ g. counted-more g i j)
 
   -- the first partly filled page of its region
-  pub tallied-part : 1 ≤ o → o < 130 → u < pageCells → getD partly o false ≡ false → Tallied p t (set objects o (getD objects o 0 + u)) (set partly o true) (n + 1)
+  pub tallied-part : 1 ≤ o → o < mostRegions → u < pageCells → getD partly o false ≡ false → Tallied p t (set objects o (getD objects o 0 + u)) (set partly o true) (n + 1)
   tallied-part i j h z = record {
     places = length-set objects o (getD objects o 0 + u) ∙ w .places;
     flags = length-set partly o true ∙ w .flags;
@@ -126,14 +118,14 @@ module _ (p : Sizes) (t : List ℕ) (objects : List ℕ) (partly : List Bool) (n
       go g q (no d) = let r = w .only g (sym (getD-set-other partly o g true false d) ∙ q) in (r .0, omega (arith, r .1), r .2, r .3)
 
   -- a second partly filled page
-  pub twice : o < 130 → n < p .pages → u < pageCells → getD partly o false ≡ true → OnePartial p (tablesOnly t) → ⊥
+  pub twice : o < mostRegions → n < p .pages → u < pageCells → getD partly o false ≡ true → OnePartial p (tablesOnly t) → ⊥
   twice j m h z all =
       let r = w .only o z in
       all o (r .2) (r .0) n (r .1) m (r .3) (record { owner = sym e; part = omega arith })
 
 -- the objects counted are no more than the cells passed
 pub objects-low : (p : Sizes) (t : List ℕ) (objects : List ℕ) (partly : List Bool) (n o : ℕ) → Tallied p t objects partly n
-    → ((k : ℕ) → k < n → usedOf p t k ≤ pageCells) → 1 ≤ o → o < 130 → getD objects o 0 ≤ pageCells * n
+    → ((k : ℕ) → k < n → usedOf p t k ≤ pageCells) → 1 ≤ o → o < mostRegions → getD objects o 0 ≤ pageCells * n
 objects-low p t objects partly n o w h l m =
     omega (arith, w .counted o l m, sum-high (objectsOn p t o) pageCells n (λ k i. on-le k (h k i)))
   where
@@ -144,9 +136,10 @@ objects-low p t objects partly n o w h l m =
         go (yes q) = omega (arith, objects-yes p t o k q)
         go (no q) = omega (arith, objects-no p t o k q)
 
--- the same of lent tables, of a page that is whole; o is its owner as the code read it
-pub region-few : (p : Sizes) (n : ℕ) → Room p n → p .threads * p .depth ≤ 128
-region-few p n r = mul-le-mul (r .threads-high) (r .depth-high)
-
-pub owner-room : (p : Sizes) (t : List ℕ) (n page : ℕ) {o : ℕ} → Room p n → PageChecked p t page → o ≡ ownerOf p t page → o < 130
-owner-room p t n page r w e = omega (arith, owner-high p t page (r .depth-low) (region-few p n r) (w .whole))
+-- every owner is one of the regions; o is the owner of a whole page as the code read it
+pub owner-room : (p : Sizes) (t : List ℕ) (n page : ℕ) {o : ℕ} → Room p n → PageChecked p t page → o ≡ ownerOf p t page → o < mostRegions
+owner-room p t n page {o} r w e = go (decLt 1 (ownerOf p t page))
+  where
+    go : Dec (1 < ownerOf p t page) → o < mostRegions
+    go (yes l) = omega (arith, open-high p t (ownerOf p t page) (r .depth-low) (w .whole .region l), regions-few r)
+    go (no l) = omega arith

@@ -7,10 +7,11 @@ use mathlib.Core.List.{List}
 use mathlib.Core.Logic.{⊎-elim}
 use mathlib.Core.Path.{_≡_, refl, sym, ap, _∙_, subst, subst₂}
 use Rattle.rules.specs.Regions.{regionAt}
+use Rattle.laws.specs.RegionLaws.{region-bounds}
+use Rattle.layout.specs.Places.{regions-few}
 use Rattle.layout.specs.Cells.{pageOf, firstOn}
-use Rattle.pages.specs.Pages.{note-low}
 use Rattle.copy.specs.Passing.{Passing, Pass, order, moves-cells, moves-tables}
-use Rattle.copy.specs.Copying.{Copy, copy-begin, copy-passing, copy-next, copy-skip, copy-marks, region-bounds}
+use Rattle.copy.specs.Copying.{Copy, copy-begin, copy-passing, copy-next, copy-skip, copy-marks}
 use Rattle.copy.proofs.copy_survivors.Statement.{statement}
 use Rattle.copy.proofs.copy_survivors.Tie as tie
 
@@ -38,13 +39,13 @@ mul-if1 : tie.Need-mul-if1 Inv-loop μ-loop
 mul-if1 c =
     let a = c .before .before .before .before .before .before .before .before .before .args in
     let b = region-bounds (a .p) (a .thread) (c .before .before .before .loop .level) (c .before .before .before .before .before .before .before .before .before .pre .1 .0 .0) (omega (arith, c .before .before .before .before .before .before .before .before .before .pre .1 .0 .1, c .before .before .loop-test .taken)) in
-    omega (arith, note-low (regionAt (a .p) (a .thread) (c .before .before .before .loop .level)) (c .before .before .before .before .before .before .before .before .before .pre .0 .ready .room) (b .1), c .wide .ensures, c .before .region-at .ensures)
+    omega (arith, regions-few (c .before .before .before .before .before .before .before .before .before .pre .0 .ready .room), b .1, c .wide .ensures, c .before .region-at .ensures)
 
 shared-slice-read-if1 : tie.Need-shared-slice-read-if1 Inv-loop μ-loop
 shared-slice-read-if1 c =
     let a = c .before .before .before .before .before .before .before .before .before .before .args in
     let b = region-bounds (a .p) (a .thread) (c .before .before .before .before .loop .level) (c .before .before .before .before .before .before .before .before .before .before .pre .1 .0 .0) (omega (arith, c .before .before .before .before .before .before .before .before .before .before .pre .1 .0 .1, c .before .before .before .loop-test .taken)) in
-    omega (arith, note-low (regionAt (a .p) (a .thread) (c .before .before .before .before .loop .level)) (c .before .before .before .before .before .before .before .before .before .before .pre .0 .ready .room) (b .1), c .before .wide .ensures, c .before .before .region-at .ensures, c .before .before .before .before .before .before .before .before .before .before .pre .1 .1 .1 .1 .1)
+    omega (arith, regions-few (c .before .before .before .before .before .before .before .before .before .before .pre .0 .ready .room), b .1, c .before .wide .ensures, c .before .before .region-at .ensures, c .before .before .before .before .before .before .before .before .before .before .pre .1 .1 .1 .1 .1)
 
 copy-pass-requires : tie.Need-copy-pass-requires Inv-loop μ-loop
 copy-pass-requires c κs =

@@ -4,7 +4,8 @@ use mathlib.Core.Path.{_≡_, sym, _∙_}
 use native.Mathlib.Omega.{arith}
 use Rattle.promises.specs.Questions.{did-answer}
 use Rattle.lists.specs.Zeros.{replicate-at}
-use Rattle.ending.specs.CensusCounts.{regions-few, arrivals-hits}
+use Rattle.layout.specs.Places.{regions-few}
+use Rattle.ending.specs.CensusCounts.{arrivals-hits}
 use Rattle.ending.specs.Ending.{room-now, level-low, ended-here}
 use Rattle.ending.specs.Stages.{bounds, unlisted}
 use Rattle.epoch.specs.EndDid.{cells-now, used-now, shaped-now, holding-now, targets-now, paged-now, out-refused, accepted}

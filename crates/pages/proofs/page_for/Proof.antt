@@ -2,7 +2,8 @@
 use borrow.Author.Needs.{needs}
 use native.Mathlib.Omega.{arith}
 use mathlib.Core.Logic.{inl}
-use Rattle.pages.specs.Pages.{note-low, found-within}
+use Rattle.layout.specs.Places.{regions-few}
+use Rattle.pages.specs.Pages.{found-within}
 use Rattle.pages.proofs.page_for.Statement.{statement}
 use Rattle.pages.proofs.page_for.Tie as tie
 
@@ -13,7 +14,7 @@ mul-wide : tie.Need-mul-wide
 mul-wide c = search needs
 
 slice-read-wide : tie.Need-slice-read-wide
-slice-read-wide c = omega (arith, c .before .before .before .before .pre .1 .0, c .before .wide .ensures, note-low (c .before .before .before .before .args .region) (c .before .before .before .before .pre .0) (c .before .before .before .before .pre .1 .1 .1))
+slice-read-wide c = omega (arith, c .before .before .before .before .pre .1 .0, c .before .wide .ensures, regions-few (c .before .before .before .before .pre .0), c .before .before .before .before .pre .1 .1 .1)
 
 wide-requires-2 : tie.Need-wide-requires-2
 wide-requires-2 c κs = search needs
@@ -34,7 +35,7 @@ mul-notes : tie.Need-mul-notes
 mul-notes c = search needs
 
 slice-write-notes : tie.Need-slice-write-notes
-slice-write-notes c = omega (arith, c .before .before .search-page .kept .1 .1 .0, c .before .before .before .before .before .before .before .before .before .before .before .pre .1 .0, c .before .before .before .before .before .before .before .before .wide .ensures, note-low (c .before .before .before .before .before .before .before .before .before .before .before .args .region) (c .before .before .before .before .before .before .before .before .before .before .before .pre .0) (c .before .before .before .before .before .before .before .before .before .before .before .pre .1 .1 .1))
+slice-write-notes c = omega (arith, c .before .before .search-page .kept .1 .1 .0, c .before .before .before .before .before .before .before .before .before .before .before .pre .1 .0, c .before .before .before .before .before .before .before .before .wide .ensures, regions-few (c .before .before .before .before .before .before .before .before .before .before .before .pre .0), c .before .before .before .before .before .before .before .before .before .before .before .pre .1 .1 .1)
 
 same-length : tie.Need-same-length
 same-length c = search needs

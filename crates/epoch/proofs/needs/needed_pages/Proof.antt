@@ -4,7 +4,7 @@ use mathlib.Core.Path.{_≡_, refl, ap, _∙_}
 use native.Mathlib.Omega.{arith}
 use Rattle.lists.specs.Counting.{sum-more}
 use Rattle.rules.specs.Regions.{regionAt}
-use Rattle.copy.specs.Copying.{region-bounds}
+use Rattle.laws.specs.RegionLaws.{region-bounds}
 use Rattle.ending.specs.CensusCounts.{levelMore, moreBelow}
 use Rattle.epoch.proofs.needs.needed_pages.Statement.{statement}
 use Rattle.epoch.proofs.needs.needed_pages.Tie as tie

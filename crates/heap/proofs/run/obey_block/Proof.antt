@@ -9,13 +9,14 @@ use Rattle.layout.specs.Words.{words}
 use Rattle.promises.specs.Promises.{size}
 use Rattle.promises.specs.Reading.{sizes-there}
 use Rattle.promises.specs.Chained.{asked-whole}
+use Rattle.pages.specs.Pages.{noteWords}
 use Rattle.heap.specs.Looping.{asked-room}
 use Rattle.heap.specs.Running.{Turning, turn-start, turn-ready, turn-fits, turn-more, turn-end, whole-ready, looped-found}
 use Rattle.heap.proofs.run.obey_block.Statement.{statement}
 use Rattle.heap.proofs.run.obey_block.Tie as tie
 
 abbrev Inv-loop : tie.InvT-loop
-Inv-loop cells₀ remember₀ tables₀ block answers₀ p n notes₀ i₀ cells remember tables answers notes i = Turning p (words cells₀ remember₀ tables₀) block answers₀ cells remember tables answers i × (n ≡ size block) × (n < 2305843009213693952) × (length notes ≡ 130)
+Inv-loop cells₀ remember₀ tables₀ block answers₀ p n notes₀ i₀ cells remember tables answers notes i = Turning p (words cells₀ remember₀ tables₀) block answers₀ cells remember tables answers i × (n ≡ size block) × (n < 2305843009213693952) × (length notes ≡ noteWords)
 
 abbrev μ-loop : tie.MeasureT-loop
 μ-loop cells₀ remember₀ tables₀ block answers₀ p n notes₀ i₀ cells remember tables answers notes i = n - i

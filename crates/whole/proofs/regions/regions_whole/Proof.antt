@@ -11,13 +11,13 @@ use borrow.Author.Count.{below-more}
 use native.Mathlib.Nat.{not-suc-le-zero}
 use mathlib.Core.Logic.{⊎-elim}
 use lib.ListN.{length, getD}
-use Rattle.layout.specs.Places.{countOf}
+use Rattle.layout.specs.Places.{mostRegions, regions-few, countOf}
 use Rattle.lists.specs.Counting.{sum}
 use mathlib.Core.List.{List}
 use mathlib.Core.Bool.{Bool}
 use Rattle.promises.specs.Whole.{objectsOn}
 use Rattle.whole.specs.Pages.{PageChecked}
-use Rattle.whole.specs.Regions.{Tallied, tallied-none, tallied-free, tallied-full, tallied-part, twice, objects-low, owner-room, region-few}
+use Rattle.whole.specs.Regions.{Tallied, tallied-none, tallied-free, tallied-full, tallied-part, twice, objects-low, owner-room}
 use Rattle.whole.proofs.regions.regions_whole.Statement.{statement}
 use Rattle.whole.proofs.regions.regions_whole.Tie as tie
 
@@ -31,7 +31,7 @@ abbrev μ-loop : tie.MeasureT-loop
 
 abbrev Inv-loop2 : tie.InvT-loop2
 Inv-loop2 p tables pages objects page last g₀ g =
-    (1 ≤ g) × (g ≤ last + 1) × (last ≤ 129) × (length objects ≡ 130) × ((k : ℕ) → k < g → 1 ≤ k → countOf p tables k ≡ getD objects k 0)
+    (1 ≤ g) × (g ≤ last + 1) × (last < mostRegions) × (length objects ≡ mostRegions) × ((k : ℕ) → k < g → 1 ≤ k → countOf p tables k ≡ getD objects k 0)
 
 abbrev μ-loop2 : tie.MeasureT-loop2
 μ-loop2 p tables pages objects page last g₀ g =
@@ -141,8 +141,7 @@ last-region-requires c κs = search needs
 
 loop2-holds : tie.Need-loop2-holds Inv-loop μ-loop Inv-loop2 μ-loop2
 loop2-holds c =
-    let args = c .before .before .before .before .args in
-    (omega arith, omega arith, omega (arith, region-few (args .p) (length (now (args .tables))) (c .before .before .before .before .pre)), c .before .before .loop .inv .1 .places, λ k l m. absurd (let z : ⊥ = omega arith in z))
+    (omega arith, omega arith, omega (arith, regions-few (c .before .before .before .before .pre)), c .before .before .loop .inv .1 .places, λ k l m. absurd (let z : ⊥ = omega arith in z))
 
 count-requires : tie.Need-count-requires Inv-loop μ-loop Inv-loop2 μ-loop2
 count-requires c κs = (c .before .before .before .before .before .before .pre, omega arith)

@@ -3,7 +3,7 @@ use native.Mathlib.Omega.{arith}
 use borrow.Author.Needs.{needs}
 use Rattle.lists.specs.Says.{says-yes, says-no}
 use mathlib.Core.Path.{_∙_}
-use Rattle.whole.specs.Cells.{ref-begins, ref-page, ref-place}
+use Rattle.whole.specs.Cells.{used-ref, ref-page, ref-place}
 use Rattle.whole.proofs.variables.is_ref.Statement.{statement}
 use Rattle.whole.proofs.variables.is_ref.Tie as tie
 
@@ -32,7 +32,7 @@ returns-3 : tie.Need-returns-3
 returns-3 c = says-no (λ h. let z : ⊥ = omega (arith, ref-place _ _ _ _ (c .before .before .before .before .before .before .before .cell-named .ensures) (c .before .before .before .before .before .before .page-of .ensures) (c .before .place-of .ensures) (c .before .before .wide .ensures ∙ c .before .before .before .used .ensures) (omega arith) h) in z)
 
 returns-4 : tie.Need-returns-4
-returns-4 c = says-yes (ref-begins _ _ _ _ (c .before .before .before .before .before .before .before .cell-named .ensures) (c .before .before .before .before .before .before .page-of .ensures) (c .before .place-of .ensures) (c .before .before .wide .ensures ∙ c .before .before .before .used .ensures) (c .before .before .before .before .if2 .left) (c .if3 .left))
+returns-4 c = says-yes (used-ref _ _ _ _ (c .before .before .before .before .before .before .before .cell-named .ensures) (c .before .before .before .before .before .before .page-of .ensures) (c .before .place-of .ensures) (c .before .before .wide .ensures ∙ c .before .before .before .used .ensures) (c .before .before .before .before .if2 .left) (c .if3 .left))
 
 pub is-ref-spec : {M : Type 1} → statement M
 is-ref-spec =
