@@ -39,8 +39,8 @@ slotCrosses p W T r q = cond (eqb (ownerOf p T (pageAt q)) r) 0 (crossAfter p W 
 abbrev pub entriesCross : Sizes → List ℕ → List ℕ → List ℕ → ℕ → ℕ
 entriesCross p W m T r = sum (λ i. slotCrosses p W T r (slotIn m i)) (entriesUsed m)
 
-abbrev pub crossingAfter : Sizes → List ℕ → List ℕ → List ℕ → ℕ → ℕ
-crossingAfter p W m T r = entriesCross p W m T r + overMarked p T (cellCrosses p W T) (p .pages)
+abbrev pub crossingCounted : Sizes → List ℕ → List ℕ → List ℕ → ℕ → ℕ
+crossingCounted p W m T r = entriesCross p W m T r + overMarked p T (cellCrosses p W T) (p .pages)
 
 -- ---- as the code decides it; page, q, v and h are what it read
 

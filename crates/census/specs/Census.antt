@@ -8,7 +8,8 @@ use Rattle.lists.specs.Counting.{sum-more, sum-none, sum-high}
 use Rattle.rules.specs.declared.Sizes.{Sizes}
 use Rattle.layout.specs.Places.{markOf, pageWords}
 use Rattle.layout.specs.Cells.{cellOn, firstOn, pageCells}
-use Rattle.census.specs.Counted.{onPage, overMarked, bits-none, page-high, goesTo, goes-le}
+use Rattle.promises.specs.Arriving.{goesTo, goes-le}
+use Rattle.census.specs.Counted.{onPage, overMarked, bits-none, page-high}
 use Rattle.census.specs.After.{cellCrosses}
 
 -- come says of each region how many of the survivors on the pages below n go to it

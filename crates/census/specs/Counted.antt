@@ -10,7 +10,7 @@ use lib.Count.{ones}
 use lib.Dec.{eqb}
 use lib.ListN.{length, getD, set}
 use borrow.Author.Tests.{eq-eqb, ne-eqb}
-use Rattle.lists.specs.Counting.{bit, bit-le-one, sum, sum-same, sum-high, sum-blocks}
+use Rattle.lists.specs.Counting.{bit, sum, sum-same, sum-high, sum-blocks}
 use Rattle.lists.specs.Bits.{bitAt, bit-lt, Lowest, bitSum, bit-sum-clear, bit-sum-zero}
 use Rattle.lists.specs.SetBits.{Walked, walk-end}
 use Rattle.lists.specs.Stores.{put, past}
@@ -22,6 +22,7 @@ use Rattle.layout.specs.Cells.{workOf, pageOf, placeOf, cellOn, firstOn, pageCe
 use Rattle.layout.specs.Marks.{marked}
 use Rattle.layout.specs.Words.{Words, homeIn, graphOf, cellCount}
 use Rattle.promises.specs.Ends.{partOf}
+use Rattle.promises.specs.Arriving.{goesTo, goes-yes, goes-no, goes-le, arriving}
 use Rattle.promises.specs.Whole.{WholeFor}
 use Rattle.mark.specs.Reached.{home-cell, cell-home}
 use Rattle.mark.specs.Survivors.{Marked}
@@ -90,23 +91,15 @@ summed-end {f} {w} {left} {a} {n} u l h =
 
 -- ---- survivors that go to g
 
-unfoldable pub goesTo : List ℕ → ℕ → ℕ → ℕ
-goesTo W g c = bit (eqb (workOf W c) g)
-
-pub goes-le : (W : List ℕ) (g c : ℕ) → goesTo W g c ≤ 1
-unfolding goesTo
-goes-le W g c = bit-le-one (eqb (workOf W c) g)
-
 -- come with one more at v, which is word 1 of c as the code read it
 pub one-more : (W come : List ℕ) (c v : ℕ) → v ≡ workOf W c → v < length come → (g : ℕ) → getD (set come v (getD come v 0 + 1)) g 0 ≡ getD come g 0 + goesTo W g c
-unfolding goesTo
 one-more W come c v e l g = go (ℕ-discrete g v)
   where
-    go : Dec (g ≡ v) → getD (set come v (getD come v 0 + 1)) g 0 ≡ getD come g 0 + bit (eqb (workOf W c) g)
+    go : Dec (g ≡ v) → getD (set come v (getD come v 0 + 1)) g 0 ≡ getD come g 0 + goesTo W g c
     go (yes d) =
-        subst (λ (x : ℕ). getD (set come v (getD come v 0 + 1)) x 0 ≡ getD come x 0 + bit (eqb (workOf W c) x)) (sym d)
-        (put come v (getD come v 0 + 1) 0 l ∙ ap (λ (b : Bool). getD come v 0 + bit b) (sym (eq-eqb (workOf W c) v (sym e))))
-    go (no d) = omega (arith, past come v (getD come v 0 + 1) g 0 d, ap bit (ne-eqb (workOf W c) g (λ z. d (sym z ∙ sym e))))
+        subst (λ (x : ℕ). getD (set come v (getD come v 0 + 1)) x 0 ≡ getD come x 0 + goesTo W x c) (sym d)
+        (put come v (getD come v 0 + 1) 0 l ∙ ap (λ (n : ℕ). getD come v 0 + n) (sym (goes-yes W v c (sym e))))
+    go (no d) = omega (arith, past come v (getD come v 0 + 1) g 0 d, goes-no W g c (λ z. d (sym z ∙ sym e)))
 
 -- after k of the cells of a page whose bits are set in w, those before left: what come₀ had, and those that go there; k at most are new
 pub record Tallied (W : List ℕ) (page w left : ℕ) (come₀ come : List ℕ) (k : ℕ) : Type 0 where
@@ -132,12 +125,11 @@ pub tallied-end : {W : List ℕ} {page w left k : ℕ} {come₀ come : List ℕ}
 tallied-end u l t g = summed-end u l (t .each g)
 
 -- after marking, as many as the rules count
-pub goes-landed : (s : Sizes) (w : Words) (k : WholeFor s w) (r : ℕ) (w′ : Words) → Marked s w (partOf s w r) w′ → 0 < r → (g : ℕ) → 0 < g
-    → overMarked s (w′ .tables) (goesTo (w′ .cells) g) (s .pages) ≡ landed s (graphOf s w) r g
+pub arriving-landed : (s : Sizes) (w : Words) (k : WholeFor s w) (r : ℕ) (w′ : Words) → Marked s w (partOf s w r) w′ → 0 < r → (g : ℕ) → 0 < g
+    → arriving s (w′ .cells) (w′ .tables) g ≡ landed s (graphOf s w) r g
 unfolding landed goesTo
-goes-landed s w k r w′ m rpos g pos =
-    over-cells s (w′ .tables) (goesTo (w′ .cells) g)
-    ∙ sum-same (λ c. marked s (w′ .tables) c * goesTo (w′ .cells) g c)
+arriving-landed s w k r w′ m rpos g pos =
+    sum-same (λ c. marked s (w′ .tables) c * goesTo (w′ .cells) g c)
     (λ x. cond (eqb (homeIn s w x) r) (cond (eqb (target s (graphOf s w) r x) g) 1 0) 0) (cellCount s)
     (λ c l. go c l (ℕ-discrete (marked s (w′ .tables) c) 1) (ℕ-discrete (homeIn s w c) r))
   where

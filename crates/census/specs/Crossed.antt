@@ -36,7 +36,7 @@ use Rattle.mark.specs.Reached.{home-cell, cell-home}
 use Rattle.mark.specs.Survivors.{Marked}
 use Rattle.mark.specs.MarkedWords.{outside-work}
 use Rattle.census.specs.Counted.{over-cells}
-use Rattle.census.specs.After.{homeAfter, after-moved, after-still, crossOne, crossAfter, cellCrosses, slotCrosses, entriesCross, crossingAfter}
+use Rattle.census.specs.After.{homeAfter, after-moved, after-still, crossOne, crossAfter, cellCrosses, slotCrosses, entriesCross, crossingCounted}
 
 module _ (s : Sizes) (w : Words) (k : WholeFor s w) (space : Room s (length (w .tables))) (r : ℕ) (pos : 1 < r) (w′ : Words) (M : Marked s w (partOf s w r) w′) where
   abbrev p : Sizes
@@ -285,7 +285,7 @@ module _ (s : Sizes) (w : Words) (k : WholeFor s w) (space : Room s (length (w .
       go false = omega arith
 
   -- what the code counts after marking is what would cross by the rules
-  pub crossing-after : crossingAfter p (w′ .cells) (w′ .remember) (w′ .tables) r ≡ crossing (ended s (graphOf s w) r)
+  pub crossing-after : crossingCounted p (w′ .cells) (w′ .remember) (w′ .tables) r ≡ crossing (ended s (graphOf s w) r)
   crossing-after =
       let a = ap (λ (m : List ℕ). entriesCross p (w′ .cells) m (w′ .tables) r) (M .remember) ∙ entries-sum in
       let b =

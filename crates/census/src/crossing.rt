@@ -10,7 +10,7 @@ ghost use Rattle.promises.specs.Whole.{IsRef};
 ghost use Rattle.mark.specs.Marks.{Shaped};
 ghost use Rattle.mark.specs.Holders.{Holding};
 ghost use Rattle.census.specs.Counted.{overMarked};
-ghost use Rattle.census.specs.After.{homeAfter, crossAfter, cellCrosses, slotCrosses, entriesCross, crossingAfter};
+ghost use Rattle.census.specs.After.{homeAfter, crossAfter, cellCrosses, slotCrosses, entriesCross, crossingCounted};
 use layout::Kind;
 use remember::crossing::other_region;
 use rules::Sizes;
@@ -114,7 +114,7 @@ pub fn count_crossing(
     requires { ⌜ Shaped p (now cells) (now tables) ⌝ }
     requires { ⌜ Holding p (now cells) (now remember) (now tables) ⌝ }
     requires { ⌜ (k ≡ overMarked p (now tables) (cellCrosses p (now cells) (now tables)) (p .pages)) × (k ≤ cellsWords p) ⌝ }
-    ensures { λ n. ⌜ n ≡ crossingAfter p (now (cells .entry)) (now (remember .entry)) (now (tables .entry)) r ⌝ }
+    ensures { λ n. ⌜ n ≡ crossingCounted p (now (cells .entry)) (now (remember .entry)) (now (tables .entry)) r ⌝ }
 {
     cross_entries(p, cells, remember, tables, r) + k
 }

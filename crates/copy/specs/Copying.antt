@@ -8,7 +8,7 @@ use native.Mathlib.Omega.{arith}
 use lib.Count.{trailingZeros}
 use Rattle.lists.specs.Bits.{bitAt, bit-zero, none-high, clear-same, clear-other, Lowest, trailing-low}
 use Rattle.lists.specs.SetBits.{lower-bit}
-use Rattle.lists.specs.Counting.{sum, sum-more, sum-mono}
+use Rattle.lists.specs.Counting.{sum-more, sum-mono}
 use Rattle.rules.specs.Regions.{regions}
 use Rattle.rules.specs.Graph.{pagesOf}
 use Rattle.rules.specs.declared.Sizes.{Sizes}
@@ -17,11 +17,12 @@ use Rattle.layout.specs.Cells.{workOf, pageOf, placeOf, cellOn, firstOn, pageCe
 use Rattle.layout.specs.Marks.{marked}
 use Rattle.promises.specs.Whole.{objectsOf}
 use Rattle.promises.specs.OwnedPages.{ownedIn}
-use Rattle.copy.specs.Marks.{copied, mark?, hits}
+use Rattle.promises.specs.Arriving.{arriving, morePages, regionMore, moreBelow}
+use Rattle.copy.specs.Marks.{copied, mark?}
 use Rattle.copy.specs.Taking.{Next}
 use Rattle.copy.specs.Cursor.{Points, Seeking}
 use Rattle.copy.specs.Moves.{Movable, Step, step-off, step-on, step-points}
-use Rattle.copy.specs.Passing.{Ready, Moves, Moves.none, Moves.more, order, moves-later, moves-append, moves-map, moves-ready, moves-back, moves-bits, moves-marks, step-back, Others, moves-others, Spent, moves-spent, Passing, moves-passing, hit-some, passing-usable, passing-movable, Pass}
+use Rattle.copy.specs.Passing.{Ready, Moves, Moves.none, Moves.more, order, moves-later, moves-append, moves-map, moves-ready, moves-back, moves-bits, moves-marks, step-back, Others, moves-others, Spent, moves-spent, Passing, moves-passing, arriving-some, passing-usable, passing-movable, Pass}
 
 -- ---- one page
 
@@ -189,9 +190,6 @@ pass-skip {p} {g} {q} {page} {W} {T} {W′} {T′} a z b =
 
 -- ---- all targets: gs l for l below n, rising
 
-abbrev pub need : (p : Sizes) (g : ℕ) (W T : List ℕ) → ℕ
-need p g W T = pagesOf (objectsOf p T g + hits p W T g) - pagesOf (objectsOf p T g)
-
 pub record Plan (p : Sizes) (n : ℕ) (gs : ℕ → ℕ) (W T : List ℕ) : Type 0 where
   pub ready : Ready p W T
   pub small : (q : ℕ) → q < p .pages → markOf p T q < 2 ^ 16
@@ -199,7 +197,7 @@ pub record Plan (p : Sizes) (n : ℕ) (gs : ℕ → ℕ) (W T : List ℕ) : Type
   pub low : (l : ℕ) → l < n → gs l ≤ regions p
   pub rising : (i j : ℕ) → i < j → j < n → gs i < gs j
   pub all : (c : ℕ) → pageOf c < p .pages → marked p T c ≡ 1 → (l : ℕ) × (l < n) × (workOf W c ≡ gs l)
-  pub enough : sum (λ l. need p (gs l) W T) n ≤ ownedIn p T 0 (p .pages)
+  pub enough : moreBelow p T (arriving p W T) gs n ≤ ownedIn p T 0 (p .pages)
 
 -- the targets below l are done
 pub record Copy (p : Sizes) (n : ℕ) (gs : ℕ → ℕ) (l : ℕ) (W T W′ T′ : List ℕ) : Type 0 where
@@ -207,7 +205,7 @@ pub record Copy (p : Sizes) (n : ℕ) (gs : ℕ → ℕ) (l : ℕ) (W T W′ T�
   pub moves : Moves p (λ g. (j : ℕ) × (j < l) × (g ≡ gs j)) 0 W T last W′ T′
   pub later : (j : ℕ) → l ≤ j → j < n → last ≤ order (gs j) 0
   pub done : (j : ℕ) → j < l → (c : ℕ) → pageOf c < p .pages → marked p T′ c ≡ 1 → workOf W′ c ≢ gs j
-  pub budget : sum (λ i. need p (gs i) W T) n ≤ ownedIn p T′ 0 (p .pages) + sum (λ i. need p (gs i) W T) l
+  pub budget : moreBelow p T (arriving p W T) gs n ≤ ownedIn p T′ 0 (p .pages) + moreBelow p T (arriving p W T) gs l
 
 pub copy-begin : {p : Sizes} {n : ℕ} {gs : ℕ → ℕ} {W T : List ℕ} → Plan p n gs W T → Copy p n gs 0 W T W T
 copy-begin a =
@@ -225,8 +223,14 @@ module _ {p : Sizes} {n : ℕ} {gs : ℕ → ℕ} {l : ℕ} {W T W′ T′ : Lis
       moves-others (gs l) (a .real l lt)
       (λ g q e. let u : g ≡ gs (q .0) = q .2 in omega (arith, a .rising (q .0) l (q .1) lt)) (a .ready) (b .moves)
 
-  same-need : need p (gs l) W′ T′ ≡ need p (gs l) W T
-  same-need = ap₂ (λ (x y : ℕ). pagesOf (x + y) - pagesOf x) (others .objects) (others .hits)
+  -- the new pages of the targets, and of this one by its objects now
+  abbrev needed : ℕ → ℕ
+  needed i = regionMore p T (arriving p W T) (gs i)
+
+  needed-now : needed l ≡ morePages (objectsOf p T′ (gs l)) (arriving p W′ T′ (gs l))
+  unfolding regionMore
+  needed-now =
+      ap₂ (λ (x y : ℕ). morePages x y) (a .ready .regular .counts (gs l) (a .real l lt) (a .low l lt) ∙ sym (others .objects)) (sym (others .arriving))
 
   pub copy-passing : Passing p (gs l) W′ T′
   copy-passing =
@@ -235,7 +239,7 @@ module _ {p : Sizes} {n : ℕ} {gs : ℕ → ℕ} {l : ℕ} {W T W′ T′ : Lis
         real = a .real l lt;
         low = a .low l lt;
         enough =
-            omega (arith, b .budget, same-need, sum-more (λ i. need p (gs i) W T) l, sum-mono (λ i. need p (gs i) W T) (l + 1) n (omega arith));
+            omega (arith, b .budget, needed-now, sum-more needed l, sum-mono needed (l + 1) n (omega arith));
       }
 
   pub copy-next : {W″ T″ : List ℕ} → Pass p (gs l) (λ c. pageOf c < p .pages) (order (gs l) 0) (order (gs l) (firstOn (p .pages))) W′ T′ W″ T″ → Copy p n gs (l + 1) W T W″ T″
@@ -251,8 +255,8 @@ module _ {p : Sizes} {n : ℕ} {gs : ℕ → ℕ} {l : ℕ} {W T W′ T′ : Lis
             omega (
               arith,
               b .budget,
-              same-need,
-              sum-more (λ i. need p (gs i) W T) l,
+              needed-now,
+              sum-more needed l,
               spent .pages,
               ap pagesOf (spent .total),
               copy-passing .enough,
@@ -263,7 +267,7 @@ module _ {p : Sizes} {n : ℕ} {gs : ℕ → ℕ} {l : ℕ} {W T W′ T′ : Lis
       spent : Spent p (gs l) W′ T′ W″ T″
       spent = moves-spent (copy-passing .ready) (d .moves)
 
-      mono : pagesOf (objectsOf p T″ (gs l)) ≤ pagesOf (objectsOf p T″ (gs l) + hits p W″ T″ (gs l))
+      mono : pagesOf (objectsOf p T″ (gs l)) ≤ pagesOf (objectsOf p T″ (gs l) + arriving p W″ T″ (gs l))
       mono = omega arith
 
       go : (j : ℕ) → j < l + 1 → (c : ℕ) → pageOf c < p .pages → marked p T″ c ≡ 1 → Dec (j ≡ l) → workOf W″ c ≢ gs j
@@ -273,20 +277,20 @@ module _ {p : Sizes} {n : ℕ} {gs : ℕ → ℕ} {l : ℕ} {W T W′ T′ : Lis
           λ z. b .done j (omega arith) c lp (u .0) (sym (u .1) ∙ z)
 
   -- a target that nobody goes to
-  pub copy-skip : hits p W T (gs l) ≡ 0 → Copy p n gs (l + 1) W T W′ T′
+  pub copy-skip : arriving p W T (gs l) ≡ 0 → Copy p n gs (l + 1) W T W′ T′
   copy-skip z =
       record {
         last = b .last;
         moves = moves-map (λ g q. (q .0, omega (arith, q .1), q .2)) (b .moves);
         later = λ j u v. b .later j (omega arith) v;
         done = λ j lj c lp on. go j lj c lp on (ℕ-discrete j l);
-        budget = omega (arith, b .budget, sum-more (λ i. need p (gs i) W T) l);
+        budget = omega (arith, b .budget, sum-more needed l);
       }
     where
       go : (j : ℕ) → j < l + 1 → (c : ℕ) → pageOf c < p .pages → marked p T′ c ≡ 1 → Dec (j ≡ l) → workOf W′ c ≢ gs j
       go j lj c lp on (yes e) =
           let u = moves-back (a .ready) (b .moves) c lp on in
-          λ y. hit-some p W T (gs l) c lp (u .0) (sym (u .1) ∙ y ∙ ap gs e) z
+          λ y. arriving-some p W T (gs l) c lp (u .0) (sym (u .1) ∙ y ∙ ap gs e) z
       go j lj c lp on (no ne) = b .done j (omega arith) c lp on
 
 -- after all targets no survivor waits

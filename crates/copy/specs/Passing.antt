@@ -17,7 +17,8 @@ use Rattle.layout.specs.Objects.{Begins, begins-page, cellCount}
 use Rattle.promises.specs.Whole.{objectsOf}
 use Rattle.promises.specs.Regular.{Regular}
 use Rattle.promises.specs.OwnedPages.{ownedIn}
-use Rattle.copy.specs.Marks.{copied, mark?, hit, hit-yes, hit-no, hit-same, hits}
+use Rattle.promises.specs.Arriving.{goesTo, goes-same, goes-yes, goes-no, arriving}
+use Rattle.copy.specs.Marks.{copied, mark?}
 use Rattle.copy.specs.Taking.{Usable, Next, usable}
 use Rattle.copy.specs.Moves.{Movable, Step, step-room, step-regular, step-size, step-objects, step-objects-other, step-pages, step-marks, step-off, step-on, step-copied-other, step-bits, step-keeps, step-link}
 
@@ -50,33 +51,32 @@ module _ {p : Sizes} {g q c : ℕ} {W T W′ T′ : List ℕ} (a : Ready p W T) 
         waits = λ x l on. step-copied-other s x l (not-moved x on) ∙ a .waits x l (step-back x l on .0);
       }
 
-  same-but : (h x : ℕ) → pageOf x < p .pages → x ≢ c → marked p T x * hit W h x ≡ marked p T′ x * hit W′ h x
+  same-but : (h x : ℕ) → pageOf x < p .pages → x ≢ c → marked p T x * goesTo W h x ≡ marked p T′ x * goesTo W′ h x
   same-but h x l ne =
       ⊎-elim
       (λ off.
-      ap (λ (y : ℕ). y * hit W h x) off ∙ zero-mul (hit W h x)
-      ∙ sym (ap (λ (y : ℕ). y * hit W′ h x) (step-on s x l ne ∙ off) ∙ zero-mul (hit W′ h x)))
-      (λ on. ap₂ (λ (y z : ℕ). y * z) (sym (step-on s x l ne)) (sym (hit-same W W′ h x (step-link s x (a .used x l on) ne)))) (mark? p T x)
+      ap (λ (y : ℕ). y * goesTo W h x) off ∙ zero-mul (goesTo W h x)
+      ∙ sym (ap (λ (y : ℕ). y * goesTo W′ h x) (step-on s x l ne ∙ off) ∙ zero-mul (goesTo W′ h x)))
+      (λ on. ap₂ (λ (y z : ℕ). y * z) (sym (step-on s x l ne)) (sym (goes-same W W′ h x (step-link s x (a .used x l on) ne)))) (mark? p T x)
 
-  gone : (h : ℕ) → marked p T′ c * hit W′ h c ≡ 0
-  gone h = ap (λ (y : ℕ). y * hit W′ h c) (step-off s) ∙ zero-mul (hit W′ h c)
+  gone : (h : ℕ) → marked p T′ c * goesTo W′ h c ≡ 0
+  gone h = ap (λ (y : ℕ). y * goesTo W′ h c) (step-off s) ∙ zero-mul (goesTo W′ h c)
 
-  sums : (h : ℕ) → hits p W T h + marked p T′ c * hit W′ h c ≡ hits p W′ T′ h + marked p T c * hit W h c
-  unfolding hits
+  sums : (h : ℕ) → arriving p W T h + marked p T′ c * goesTo W′ h c ≡ arriving p W′ T′ h + marked p T c * goesTo W h c
   sums h =
-      sum-change (λ x. marked p T x * hit W h x) (λ x. marked p T′ x * hit W′ h x) c (cellCount p) (page-count c (begins-page _ _ _ _ (s .can .used)))
+      sum-change (λ x. marked p T x * goesTo W h x) (λ x. marked p T′ x * goesTo W′ h x) c (cellCount p) (page-count c (begins-page _ _ _ _ (s .can .used)))
       (λ x l ne. same-but h x (count-page x l) ne)
 
-  pub step-hits : hits p W′ T′ g + 1 ≡ hits p W T g
-  step-hits =
-      let one : marked p T c * hit W g c ≡ 1 =
-      ap (λ (y : ℕ). y * hit W g c) (s .can .on) ∙ one-mul (hit W g c) ∙ hit-yes W g c (s .can .target) in
+  pub step-arriving : arriving p W′ T′ g + 1 ≡ arriving p W T g
+  step-arriving =
+      let one : marked p T c * goesTo W g c ≡ 1 =
+      ap (λ (y : ℕ). y * goesTo W g c) (s .can .on) ∙ one-mul (goesTo W g c) ∙ goes-yes W g c (s .can .target) in
       omega (arith, sums g, gone g, one)
 
-  pub step-hits-other : (h : ℕ) → h ≢ g → hits p W′ T′ h ≡ hits p W T h
-  step-hits-other h ne =
-      let none : marked p T c * hit W h c ≡ 0 =
-      ap (λ (y : ℕ). y * hit W h c) (s .can .on) ∙ one-mul (hit W h c) ∙ hit-no W h c (λ e. ne (sym e ∙ s .can .target)) in
+  pub step-arriving-other : (h : ℕ) → h ≢ g → arriving p W′ T′ h ≡ arriving p W T h
+  step-arriving-other h ne =
+      let none : marked p T c * goesTo W h c ≡ 0 =
+      ap (λ (y : ℕ). y * goesTo W h c) (s .can .on) ∙ one-mul (goesTo W h c) ∙ goes-no W h c (λ e. ne (sym e ∙ s .can .target)) in
       omega (arith, sums h, gone h, none)
 
 -- ---- moves to targets of which G holds
@@ -138,21 +138,21 @@ moves-marks a (more {c = c} b h y z s) q l off =
 -- a target of none of the moves
 pub record Others (p : Sizes) (h : ℕ) (W T W′ T′ : List ℕ) : Type 0 where
   pub objects : objectsOf p T′ h ≡ objectsOf p T h
-  pub hits : hits p W′ T′ h ≡ hits p W T h
+  pub arriving : arriving p W′ T′ h ≡ arriving p W T h
 
 pub moves-others : {p : Sizes} {G : ℕ → Type 0} {n m : ℕ} {W T W′ T′ : List ℕ} (h : ℕ) → 1 ≤ h → ((g : ℕ) → G g → h ≢ g) → Ready p W T
     → Moves p G n W T m W′ T′ → Others p h W T W′ T′
-moves-others h pos f a (none l) = record { objects = refl; hits = refl }
+moves-others h pos f a (none l) = record { objects = refl; arriving = refl }
 moves-others h pos f a (more {g = g} b q l m s) =
     let u = moves-others h pos f a b in
     record {
       objects = step-objects-other s h pos (f g q) ∙ u .objects;
-      hits = step-hits-other (moves-ready a b) s h (f g q) ∙ u .hits;
+      arriving = step-arriving-other (moves-ready a b) s h (f g q) ∙ u .arriving;
     }
 
 -- the one target of all moves
 pub record Spent (p : Sizes) (g : ℕ) (W T W′ T′ : List ℕ) : Type 0 where
-  pub total : objectsOf p T′ g + hits p W′ T′ g ≡ objectsOf p T g + hits p W T g
+  pub total : objectsOf p T′ g + arriving p W′ T′ g ≡ objectsOf p T g + arriving p W T g
   pub pages : pagesOf (objectsOf p T′ g) + ownedIn p T′ 0 (p .pages) ≡ pagesOf (objectsOf p T g) + ownedIn p T 0 (p .pages)
 
 pub moves-spent : {p : Sizes} {g n m : ℕ} {W T W′ T′ : List ℕ} → Ready p W T → Moves p (λ h. h ≡ g) n W T m W′ T′ → Spent p g W T W′ T′
@@ -161,7 +161,7 @@ moves-spent {p} {g} a (more {W′ = X} {T′ = Y} {W″ = X′} {T″ = Y′} {g
     let u = moves-spent a b in
     let s′ : Step p g o c X Y X′ Y′ = subst (λ (z : ℕ). Step p z o c X Y X′ Y′) e s in
     record {
-      total = omega (arith, u .total, step-objects s′, step-hits (moves-ready a b) s′);
+      total = omega (arith, u .total, step-objects s′, step-arriving (moves-ready a b) s′);
       pages = step-pages s′ ∙ u .pages;
     }
 
@@ -171,7 +171,7 @@ pub record Passing (p : Sizes) (g : ℕ) (W T : List ℕ) : Type 0 where
   pub ready : Ready p W T
   pub real : 1 ≤ g
   pub low : g ≤ regions p
-  pub enough : pagesOf (objectsOf p T g + hits p W T g) ≤ pagesOf (objectsOf p T g) + ownedIn p T 0 (p .pages)
+  pub enough : pagesOf (objectsOf p T g + arriving p W T g) ≤ pagesOf (objectsOf p T g) + ownedIn p T 0 (p .pages)
 
 pub moves-passing : {p : Sizes} {g n m : ℕ} {W T W′ T′ : List ℕ} → Passing p g W T → Moves p (λ h. h ≡ g) n W T m W′ T′ → Passing p g W′ T′
 moves-passing a b =
@@ -184,15 +184,14 @@ moves-passing a b =
     }
 
 -- a survivor that goes to g counts
-pub hit-some : (p : Sizes) (W T : List ℕ) (g c : ℕ) → pageOf c < p .pages → marked p T c ≡ 1 → workOf W c ≡ g → hits p W T g ≢ 0
-unfolding hits
-hit-some p W T g c l on e z =
-    let one : marked p T c * hit W g c ≡ 1 = ap (λ (y : ℕ). y * hit W g c) on ∙ one-mul (hit W g c) ∙ hit-yes W g c e in
-    omega (arith, one, sum-part (λ x. marked p T x * hit W g x) c (cellCount p) (page-count c l))
+pub arriving-some : (p : Sizes) (W T : List ℕ) (g c : ℕ) → pageOf c < p .pages → marked p T c ≡ 1 → workOf W c ≡ g → arriving p W T g ≢ 0
+arriving-some p W T g c l on e z =
+    let one : marked p T c * goesTo W g c ≡ 1 = ap (λ (y : ℕ). y * goesTo W g c) on ∙ one-mul (goesTo W g c) ∙ goes-yes W g c e in
+    omega (arith, one, sum-part (λ x. marked p T x * goesTo W g x) c (cellCount p) (page-count c l))
 
 pub passing-usable : {p : Sizes} {g : ℕ} {W T : List ℕ} → Passing p g W T → (c : ℕ) → pageOf c < p .pages → marked p T c ≡ 1 → workOf W c ≡ g → Usable p g T
 passing-usable {p} {g} {W} {T} a c l on e =
-    usable (a .ready .regular) g (a .real) (hits p W T g) (let n : hits p W T g ≢ 0 = hit-some p W T g c l on e in omega arith) (a .enough)
+    usable (a .ready .regular) g (a .real) (arriving p W T g) (let n : arriving p W T g ≢ 0 = arriving-some p W T g c l on e in omega arith) (a .enough)
 
 pub passing-movable : {p : Sizes} {g q : ℕ} {W T : List ℕ} → Passing p g W T → (c : ℕ) → pageOf c < p .pages → marked p T c ≡ 1 → workOf W c ≡ g → Next p g q T
     → Movable p g q W T c

@@ -7,8 +7,8 @@ ghost use Rattle.lists.specs.Part.{Rises, Off};
 ghost use Rattle.rules.specs.Regions.{regionAt, regions};
 ghost use Rattle.layout.specs.Places.{markOf};
 ghost use Rattle.layout.specs.Cells.{pageOf, firstOn, CellIn};
+ghost use Rattle.promises.specs.Arriving.{arriving};
 ghost use Rattle.pages.specs.Pages.{noteWords};
-ghost use Rattle.copy.specs.Marks.{hits};
 ghost use Rattle.copy.specs.Taking.{Next};
 ghost use Rattle.copy.specs.Cursor.{Points, Seeking};
 ghost use Rattle.copy.specs.Moves.{Copied, Movable, Step};
@@ -141,7 +141,7 @@ pub fn copy_survivors(
     requires { ⌜ (thread < p .threads) × (levels ≤ p .depth) ⌝ }
     requires { ⌜ Rises (p .pages) n (now list) ⌝ }
     requires { ⌜ ((page : ℕ) → page < p .pages → Off (now list) n page → markOf p (now tables) page ≡ 0) ⌝ }
-    requires { ⌜ ((g : ℕ) → 1 ≤ g → g ≤ regions p → getD (now come) g 0 ≡ 0 → hits p (now cells) (now tables) g ≡ 0) ⌝ }
+    requires { ⌜ ((g : ℕ) → 1 ≤ g → g ≤ regions p → getD (now come) g 0 ≡ 0 → arriving p (now cells) (now tables) g ≡ 0) ⌝ }
     requires { ⌜ (noteWords ≤ length (now notes)) × (regions p < length (now come)) ⌝ }
     ensures { λ _. ⌜ Copy p levels (regionAt p thread) levels (now (cells .entry)) (now (tables .entry)) (now (cells .exit)) (now (tables .exit)) ⌝ }
 {

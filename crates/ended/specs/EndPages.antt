@@ -1,12 +1,12 @@
 -- The new pages of an end are those of the regions around r alone: thread t's at the levels up to k, the control space for level 0.
-use Prim.Native.Nat.{ℕ, suc, _+_, _-_, _≤_, _<_}
+use Prim.Native.Nat.{ℕ, suc, _-_, _≤_, _<_}
 use native.Mathlib.Omega.{arith}
 use native.Mathlib.Decide.{decLt, ℕ-discrete}
 use mathlib.Core.Path.{_≡_, refl, sym, ap, subst, _∙_}
 use mathlib.Core.Bool.{Bool, true, false, cond}
 use lib.Dec.{eqb}
 use borrow.Author.Tests.{eqb-true}
-use Rattle.lists.specs.Counting.{sum, sum-same, sum-none, sum-pos}
+use Rattle.lists.specs.Counting.{sum-none, sum-pos}
 use Rattle.lists.specs.OneToOne.{Paired, sum-paired}
 use Rattle.rules.specs.declared.Sizes.{Sizes}
 use Rattle.rules.specs.Regions.{regionAt, regions}
@@ -15,10 +15,10 @@ use Rattle.laws.specs.RegionLaws.{numbers-rise, region-bounds}
 use Rattle.laws.specs.RulesLaws.{region-pos}
 use Rattle.laws.specs.Counts.{landed, objects-ended}
 use Rattle.laws.specs.EndLaws.{home-went, home-stayed}
-use Rattle.layout.specs.Places.{countOf}
 use Rattle.layout.specs.Words.{Words, depthIn, homeIn, graphOf}
 use Rattle.promises.specs.Whole.{WholeFor}
 use Rattle.promises.specs.OwnedPages.{counted-objects}
+use Rattle.promises.specs.Arriving.{morePages, regionMore, moreBelow}
 use Rattle.ended.specs.WordsPlaced.{target-level}
 use Rattle.ended.specs.EndQuestion.{pagesNeeded}
 
@@ -30,10 +30,6 @@ levels-apart s t i j e = go (decLt i j) (decLt j i)
     go (yes l) d = absurd (let z : ⊥ = omega (arith, numbers-rise s t i j l) in z)
     go (no l) (yes m) = absurd (let z : ⊥ = omega (arith, numbers-rise s t j i m) in z)
     go (no l) (no m) = omega arith
-
--- the new pages of region q where n objects come to it
-abbrev pub morePages : ℕ → ℕ → ℕ
-morePages objects n = pagesOf (objects + n) - pagesOf objects
 
 module _ (s : Sizes) (w : Words) (whole : WholeFor s w) (t k : ℕ) (th : t < s .threads) (deep : depthIn w t ≡ suc k) where
   abbrev r : ℕ
@@ -86,13 +82,16 @@ module _ (s : Sizes) (w : Words) (whole : WholeFor s w) (t k : ℕ) (th : t < s 
   more i = pagesOf (objectsIn (ended s g r) (suc i)) - pagesOf (objectsIn g (suc i))
 
   abbrev level : ℕ → ℕ
-  level j = morePages (objectsIn g (regionAt s t j)) (landed s g r (regionAt s t j))
+  level j = regionMore s (w .tables) (landed s g r) (regionAt s t j)
 
   more-level : (i j : ℕ) → suc i ≡ regionAt s t j → j ≤ k → more i ≡ level j
+  unfolding regionMore
   more-level i j e l =
       ap (λ (q : ℕ). pagesOf (objectsIn (ended s g r) q) - pagesOf (objectsIn g q)) e
       ∙ ap (λ (n : ℕ). pagesOf n - pagesOf (objectsIn g (regionAt s t j)))
       (objects-ended s g r (regionAt s t j) (λ z. let d = levels-apart s t j (suc k) z in omega arith))
+      ∙ ap (λ (n : ℕ). morePages n (landed s g r (regionAt s t j)))
+      (sym (counted-objects s w whole (regionAt s t j) (region-pos s t j) (region-bounds s t j th (omega (arith, low)) .1)))
 
   -- a region that grows is around r
   grows : (i : ℕ) → 0 < more i → (j : ℕ) × (j ≤ k) × (suc i ≡ regionAt s t j)
@@ -103,7 +102,7 @@ module _ (s : Sizes) (w : Words) (whole : WholeFor s w) (t k : ℕ) (th : t < s 
       go (no n) (yes l) = landed-level (suc i) (omega arith) l
       go (no n) (no l) = absurd (let z : ⊥ = omega (arith, p, objects-ended s g r (suc i) n) in z)
 
-  pub new-pages-ended : pagesNeeded s w t k ≡ sum (λ j. morePages (objectsIn g (regionAt s t j)) (landed s g r (regionAt s t j))) (suc k)
+  pub new-pages-ended : pagesNeeded s w t k ≡ moreBelow s (w .tables) (landed s g r) (regionAt s t) (suc k)
   unfolding newPages
   new-pages-ended = sym (sum-paired (λ j. regionAt s t j - 1) level (suc k) more (regions s) paired)
     where
@@ -119,10 +118,3 @@ module _ (s : Sizes) (w : Words) (whole : WholeFor s w) (t k : ℕ) (th : t < s 
             let at : regionAt s t (j .0) - 1 ≡ i = omega (arith, j .2) in
             (j .0, omega (arith, j .1), subst (λ (n : ℕ). 0 < n) (more-level i (j .0) (j .2) (j .1)) p, at);
       }
-
-  -- by the counts of objects in the tables
-  pub new-pages-counted : pagesNeeded s w t k ≡ sum (λ j. morePages (countOf s (w .tables) (regionAt s t j)) (landed s g r (regionAt s t j))) (suc k)
-  new-pages-counted =
-      new-pages-ended
-      ∙ sum-same _ _ (suc k) (λ j l. ap (λ (n : ℕ). morePages n (landed s g r (regionAt s t j)))
-      (sym (counted-objects s w whole (regionAt s t j) (region-pos s t j) (region-bounds s t j th (omega (arith, low)) .1))))

@@ -13,6 +13,7 @@ use Rattle.rules.specs.Terms.{ask, refused}
 use Rattle.rules.specs.Regions.{regionAt, regions}
 use Rattle.rules.specs.Graph.{pagesOf}
 use Rattle.rules.specs.Rules as ru
+use Rattle.laws.specs.RegionLaws.{region-high}
 use Rattle.layout.specs.Places.{cellsWords, depthOf, markOf, entriesUsed, slotIn}
 use Rattle.layout.specs.Cells.{pageOf, workOf}
 use Rattle.layout.specs.Marks.{marked}
@@ -21,22 +22,24 @@ use Rattle.promises.specs.Whole.{WholeFor}
 use Rattle.promises.specs.Promises.{DidHere}
 use Rattle.promises.specs.OwnedPages.{ownedIn, pagesOwned, owned-same, owner-low, region-pages, counted-objects}
 use Rattle.promises.specs.Ends.{partOf}
+use Rattle.promises.specs.Arriving.{goesTo, arriving, moreBelow, more-none}
 use Rattle.pages.specs.Owned.{Paged}
 use Rattle.mark.specs.Marks.{Shaped, kept-in-use, kept-shaped}
 use Rattle.mark.specs.Holders.{Holding, holding-kept}
 use Rattle.mark.specs.Reached.{whole-holding}
 use Rattle.mark.specs.Survivors.{Marked, space-of, shaped-at}
 use Rattle.mark.specs.Unmark.{Unmarked, cells-back, tables-back}
-use Rattle.census.specs.Counted.{goesTo}
+use Rattle.census.specs.Counted.{over-cells}
 use Rattle.census.specs.Census.{over-none}
-use Rattle.census.specs.After as ce
-use Rattle.census.specs.After.{slotCrosses, slot-le}
+use Rattle.census.specs.Crossed.{crossing-after}
+use Rattle.census.specs.After.{crossingCounted, cellCrosses, slotCrosses, slot-le}
 use Rattle.ended.specs.AfterEnd.{endOf}
-use Rattle.ended.specs.EndQuestion.{pagesNeeded, crossingAfter, end-question, refused-shut, ended-refused}
+use Rattle.ended.specs.EndQuestion.{pagesNeeded, crossingAfter, end-question, ended-refused}
 use Rattle.mark.specs.MarkedWords.{owner-same, count-same}
 use Rattle.ending.specs.MarkedReady.{pages-same}
 use Rattle.ending.specs.Ending.{Ending, Accepted, room-of, next, deep, region-deep}
-use Rattle.ending.specs.CensusCounts.{needsBelow, roomAsked, asked-none, needs-none, needs-are, free-are, crossing-are, targets-low}
+use Rattle.ending.specs.PagesEnough.{targets-low, needs-are, free-same}
+use Rattle.ending.specs.CensusCounts.{roomAsked, asked-none}
 
 -- both were answered with yes
 both-yes : (b c : Bool) → ask b 13 (ask c 14 0) ≡ 0 → (b ≡ true) × (c ≡ true)
@@ -89,22 +92,24 @@ module _ {p : Sizes} {t l r : ℕ} {w w₁ : Words} (m : Ending p t l r w w₁) 
 
   -- ---- 13 and 14
 
-  needs : needsBelow p (w₁ .cells) (w₁ .tables) t l ≡ pagesNeeded s w t k
-  needs = ap (needsBelow p (w₁ .cells) (w₁ .tables) t) (next m) ∙ needs-are s w (m .whole) (room-of m) t k (m .thread) (deep m) w₁ marks
+  needs : moreBelow p (w₁ .tables) (arriving p (w₁ .cells) (w₁ .tables)) (regionAt s t) l ≡ pagesNeeded s w t k
+  needs =
+      ap (moreBelow p (w₁ .tables) (arriving p (w₁ .cells) (w₁ .tables)) (regionAt s t)) (next m)
+      ∙ needs-are s w (m .whole) (room-of m) t k (m .thread) (deep m) w₁ marks
 
   free : ownedIn p (w₁ .tables) 0 (p .pages) ≡ pagesOwned s w 0
-  free = free-are s w (m .whole) (room-of m) t k (m .thread) (deep m) w₁ marks
+  free = free-same s w (m .whole) (room-of m) t k (m .thread) (deep m) w₁ marks
 
-  crossing : ce.crossingAfter p (w₁ .cells) (w₁ .remember) (w₁ .tables) (regionAt s t l) ≡ crossingAfter s w t k
+  crossing : crossingCounted p (w₁ .cells) (w₁ .remember) (w₁ .tables) (regionAt s t l) ≡ crossingAfter s w t k
   crossing =
-      ap (λ (n : ℕ). ce.crossingAfter p (w₁ .cells) (w₁ .remember) (w₁ .tables) (regionAt s t n)) (next m)
-      ∙ crossing-are s w (m .whole) (room-of m) t k (m .thread) (deep m) w₁ marks
+      ap (λ (n : ℕ). crossingCounted p (w₁ .cells) (w₁ .remember) (w₁ .tables) (regionAt s t n)) (next m)
+      ∙ crossing-after s w (m .whole) (room-of m) (regionAt s t (suc k)) (region-high s t k) w₁ marks
 
   -- the rules' question
   asks : roomAsked p (w₁ .cells) (w₁ .remember) (w₁ .tables) t l ≡ ru.question s (heapOf s w) (endOf t)
   unfolding roomAsked ask
   asks =
-      ap₂ (λ (a b : ℕ). ask (leb a b) 13 (ask (leb (ce.crossingAfter p (w₁ .cells) (w₁ .remember) (w₁ .tables) (regionAt s t l)) (p .entries)) 14 0)) needs free
+      ap₂ (λ (a b : ℕ). ask (leb a b) 13 (ask (leb (crossingCounted p (w₁ .cells) (w₁ .remember) (w₁ .tables) (regionAt s t l)) (p .entries)) 14 0)) needs free
       ∙ ap (λ (c : ℕ). ask (leb (pagesNeeded s w t k) (pagesOwned s w 0)) 13 (ask (leb c (p .entries)) 14 0)) crossing
       ∙ sym (end-question s w (m .whole) t (m .thread) k (deep m))
 
@@ -138,20 +143,18 @@ module _ {p : Sizes} {t l r : ℕ} {w w₁ : Words} (m : Ending p t l r w w₁) 
         asked-none p (w₁ .cells) (w₁ .remember) (w₁ .tables) t l refl refl refl refl
         (omega (arith, no-pages)) (omega (arith, crosses, m .whole .remember .entries .room, ap entriesUsed (m .marks .remember)))
       where
-        no-pages : needsBelow p (w₁ .cells) (w₁ .tables) t l ≡ 0
+        no-pages : moreBelow p (w₁ .tables) (arriving p (w₁ .cells) (w₁ .tables)) (regionAt s t) l ≡ 0
         no-pages =
             sum-none _ l
-            (λ l h. needs-none p (w₁ .cells) (w₁ .tables) (regionAt s t l) (over-none p (w₁ .tables) (goesTo (w₁ .cells) (regionAt s t l)) (p .pages) none))
+            (λ j h.
+            let f = goesTo (w₁ .cells) (regionAt s t j) in
+            more-none p (w₁ .tables) (arriving p (w₁ .cells) (w₁ .tables)) (regionAt s t j) (sym (over-cells p (w₁ .tables) f) ∙ over-none p (w₁ .tables) f (p .pages) none))
 
-        crosses : ce.crossingAfter p (w₁ .cells) (w₁ .remember) (w₁ .tables) (regionAt s t l) ≤ entriesUsed (w₁ .remember)
+        crosses : crossingCounted p (w₁ .cells) (w₁ .remember) (w₁ .tables) (regionAt s t l) ≤ entriesUsed (w₁ .remember)
         crosses =
             omega (
               arith,
-              over-none p (w₁ .tables) (ce.cellCrosses p (w₁ .cells) (w₁ .tables)) (p .pages) none,
+              over-none p (w₁ .tables) (cellCrosses p (w₁ .cells) (w₁ .tables)) (p .pages) none,
               sum-high (λ i. slotCrosses p (w₁ .cells) (w₁ .tables) (regionAt s t l) (slotIn (w₁ .remember) i)) 1 (entriesUsed (w₁ .remember))
                   (λ i h. slot-le p (w₁ .cells) (w₁ .tables) (regionAt s t l) (slotIn (w₁ .remember) i)),
             )
-
--- no epoch is open
-pub shut : (p : Sizes) (w : Words) (t : ℕ) → WholeFor p w → t < p .threads → depthOf (w .tables) t ≡ 0 → DidHere p w (endOf t) w (refused 12)
-shut p w t whole th z = refused-shut p w whole t th z

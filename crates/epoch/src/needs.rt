@@ -2,21 +2,22 @@
 // the entries.
 ghost use mathlib.Core.Path.{_≡_};
 ghost use Prim.Native.Nat.{_^_, _<_, _≤_};
-ghost use lib.ListN.{length};
-ghost use Rattle.rules.specs.Regions.{regions};
+ghost use lib.ListN.{length, getD};
+ghost use Rattle.rules.specs.Regions.{regionAt, regions};
 ghost use Rattle.layout.specs.Places.{Room};
+ghost use Rattle.promises.specs.Arriving.{regionMore, moreBelow};
 ghost use Rattle.pages.specs.Owned.{Paged};
 ghost use Rattle.mark.specs.Marks.{Shaped};
 ghost use Rattle.mark.specs.Holders.{Holding};
 ghost use Rattle.census.specs.Census.{Census};
-ghost use Rattle.ending.specs.CensusCounts.{levelMore, moreBelow, roomAsked};
+ghost use Rattle.ending.specs.CensusCounts.{roomAsked};
 use rules::Sizes;
 
 // How many new pages region g needs for the survivors that go to it, which `come` counts: none where none goes.
 pub fn level_pages(p: Sizes, tables: &[u32], come: &[u32], g: u32) -> usize
     requires { ⌜ Room p (length (now tables)) ⌝ }
     requires { ⌜ (1 ≤ g) × (g ≤ regions p) × (regions p < length (now come)) ⌝ }
-    ensures { λ n. ⌜ n ≡ levelMore p (now (tables .entry)) (now (come .entry)) g ⌝ }
+    ensures { λ n. ⌜ n ≡ regionMore p (now (tables .entry)) (λ h. getD (now (come .entry)) h 0) g ⌝ }
     ensures { λ n. ⌜ n ≤ 2 ^ 28 ⌝ }
 {
     let region = layout::wide(g);
@@ -33,7 +34,7 @@ pub fn needed_pages(p: Sizes, tables: &[u32], come: &[u32], thread: usize, level
     requires { ⌜ Room p (length (now tables)) ⌝ }
     requires { ⌜ regions p < length (now come) ⌝ }
     requires { ⌜ (thread < p .threads) × (levels ≤ p .depth) ⌝ }
-    ensures { λ n. ⌜ n ≡ moreBelow p (now (tables .entry)) (now (come .entry)) thread levels ⌝ }
+    ensures { λ n. ⌜ n ≡ moreBelow p (now (tables .entry)) (λ g. getD (now (come .entry)) g 0) (regionAt p thread) levels ⌝ }
 {
     let mut n: usize = 0;
     let mut level: usize = 0;

@@ -8,8 +8,8 @@ ghost use Rattle.lists.specs.Part.{Lists};
 ghost use Rattle.rules.specs.Regions.{regions};
 ghost use Rattle.layout.specs.Places.{ownerOf, markOf};
 ghost use Rattle.layout.specs.Words.{words};
+ghost use Rattle.promises.specs.Arriving.{arriving};
 ghost use Rattle.pages.specs.Pages.{noteWords};
-ghost use Rattle.copy.specs.Marks.{hits};
 ghost use Rattle.ending.specs.Ending.{Ending, Accepted, HasEnded};
 use rules::Sizes;
 
@@ -30,7 +30,7 @@ pub fn evacuate(
 )
     requires { ⌜ ((c t : List ℕ) × Ending p thread level region (words c (now remember) t) (words (now cells) (now remember) (now tables)) × Accepted p thread level (words c (now remember) t)) ⌝ }
     requires { ⌜ Lists (λ page. ownerOf p (now tables) page ≡ region) (p .pages) n (now list) ⌝ }
-    requires { ⌜ ((g : ℕ) → 1 ≤ g → g ≤ regions p → getD (now come) g 0 ≡ 0 → hits p (now cells) (now tables) g ≡ 0) ⌝ }
+    requires { ⌜ ((g : ℕ) → 1 ≤ g → g ≤ regions p → getD (now come) g 0 ≡ 0 → arriving p (now cells) (now tables) g ≡ 0) ⌝ }
     requires { ⌜ (noteWords ≤ length (now notes)) × (regions p < length (now come)) ⌝ }
     ensures { λ _. ⌜ ((c t : List ℕ) → Ending p thread level region (words c (now (remember .entry)) t) (words (now (cells .entry)) (now (remember .entry)) (now (tables .entry))) → Accepted p thread level (words c (now (remember .entry)) t) → HasEnded p thread level region (words c (now (remember .entry)) t) (words (now (cells .exit)) (now (remember .exit)) (now (tables .exit)))) ⌝ }
 {

@@ -1,7 +1,7 @@
 -- What comes to a region at an end: the survivors that go to it, and the new pages that it takes for them. W and T are the cells and the
 -- tables; word 1 of a marked cell is the region that it goes to.
 use Prim.Native.Nat.{ℕ, _+_, _-_, _*_, _≤_}
-use mathlib.Core.Path.{_≡_, ap}
+use mathlib.Core.Path.{_≡_, ap, ap₂}
 use mathlib.Core.Logic.{_≢_}
 use mathlib.Core.List.{List}
 use native.Mathlib.Omega.{arith}
@@ -39,9 +39,8 @@ goes-le W g c = bit-le-one (eqb (workOf W c) g)
 abbrev pub arriving : Sizes → List ℕ → List ℕ → ℕ → ℕ
 arriving p W T g = sum (λ c. marked p T c * goesTo W g c) (cellCount p)
 
--- ---- the new pages
+-- ---- the new pages of a region of so many objects where n more come to it
 
--- of a region of so many objects where n more come to it
 abbrev pub morePages : ℕ → ℕ → ℕ
 morePages objects n = pagesOf (objects + n) - pagesOf objects
 
@@ -51,6 +50,11 @@ regionMore p T come g = morePages (countOf p T g) (come g)
 
 abbrev pub moreBelow : Sizes → List ℕ → (ℕ → ℕ) → (ℕ → ℕ) → ℕ → ℕ
 moreBelow p T come gs n = sum (λ l. regionMore p T come (gs l)) n
+
+-- objects and n are what the code has
+pub more-is : (p : Sizes) (T : List ℕ) (come : ℕ → ℕ) (g objects n : ℕ) → objects ≡ countOf p T g → n ≡ come g → morePages objects n ≡ regionMore p T come g
+unfolding regionMore
+more-is p T come g objects n e f = ap₂ (λ (a b : ℕ). morePages a b) e f
 
 pub more-none : (p : Sizes) (T : List ℕ) (come : ℕ → ℕ) (g : ℕ) → come g ≡ 0 → regionMore p T come g ≡ 0
 unfolding regionMore

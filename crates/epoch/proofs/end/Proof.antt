@@ -11,7 +11,8 @@ use Rattle.promises.specs.Ends.{partOf}
 use Rattle.promises.specs.Questions.{did-answer}
 use Rattle.mark.specs.Survivors.{Marked, space-of, none-survives}
 use Rattle.ending.specs.Ending.{Ending, ended-here}
-use Rattle.epoch.specs.EndDid.{accepted, free-way, shut}
+use Rattle.ended.specs.EndQuestion.{refused-shut}
+use Rattle.epoch.specs.EndDid.{accepted, free-way}
 use Rattle.epoch.proofs.end.Statement.{statement}
 use Rattle.epoch.proofs.end.Tie as tie
 
@@ -61,7 +62,7 @@ returns c =
     let a = c .before .before .before .before .before .before .before .before .before .args in
     let pre = c .before .before .before .before .before .before .before .before .before .pre in
     did-answer (c .refused .ensures)
-    (shut (a .p) (words (a .cells .now) (a .remember .now) (a .tables .now)) (a .thread) (pre .0) (pre .1 .0) (sym (c .before .before .wide .ensures ∙ c .before .before .before .depth .ensures) ∙ c .before .if1 .taken))
+    (refused-shut (a .p) (words (a .cells .now) (a .remember .now) (a .tables .now)) (pre .0) (a .thread) (pre .1 .0) (sym (c .before .before .wide .ensures ∙ c .before .before .before .depth .ensures) ∙ c .before .if1 .taken))
 
 region-at-requires : tie.Need-region-at-requires
 region-at-requires c κs =

@@ -5,7 +5,8 @@ use native.Mathlib.Omega.{arith}
 use Rattle.promises.specs.Questions.{did-answer}
 use Rattle.lists.specs.Zeros.{replicate-at}
 use Rattle.layout.specs.Places.{regions-few}
-use Rattle.ending.specs.CensusCounts.{arrivals-hits}
+use Rattle.promises.specs.Arriving.{goesTo}
+use Rattle.census.specs.Counted.{over-cells}
 use Rattle.ending.specs.Ending.{room-now, level-low, ended-here}
 use Rattle.ending.specs.Stages.{bounds, unlisted}
 use Rattle.epoch.specs.EndDid.{cells-now, used-now, shaped-now, holding-now, targets-now, paged-now, out-refused, accepted}
@@ -85,7 +86,7 @@ evacuate-requires c κs =
       (
         c .before .before .before .before .before .before .before .before .before .before .before .before .before .before .before .before .before .before .before .list-pages .ensures,
         (
-          (λ g low high z. sym (arrivals-hits (a .p) (a .cells .now) (a .tables .now) (k .last .1 .1 .1 .1 .1 .0) (k .ensures .arrivals) g) ∙ z),
+          (λ g low high z. sym (k .ensures .arrivals g ∙ over-cells (a .p) (a .tables .now) (goesTo (a .cells .now) g)) ∙ z),
           (pre .1, omega (arith, regions-few (room-now m), k .kept .1 .1 .1 .1 .1 .0)),
         ),
       ),

@@ -1,10 +1,10 @@
 -- None if none goes there; else the pages with the survivors, less the pages without them.
 use Prim.Native.Nat.{ℕ, _-_, _<_, _^_}
-use mathlib.Core.Path.{_≡_, ap, ap₂, _∙_}
+use mathlib.Core.Path.{_≡_, sym, ap, ap₂, _∙_}
 use native.Mathlib.Omega.{arith}
 use lib.ListN.{getD}
 use Rattle.layout.specs.Places.{countOf}
-use Rattle.ending.specs.CensusCounts.{more-none, more-some}
+use Rattle.promises.specs.Arriving.{more-is, more-none}
 use borrow.Author.Needs.{needs}
 use Rattle.epoch.proofs.needs.level_pages.Statement.{statement}
 use Rattle.epoch.proofs.needs.level_pages.Tie as tie
@@ -29,7 +29,9 @@ wide-requires-2 : tie.Need-wide-requires-2
 wide-requires-2 c κs = search needs
 
 returns : tie.Need-returns
-returns c = (more-none (c .before .before .before .before .before .before .args .p) (c .before .before .before .before .before .before .args .tables .now) (c .before .before .before .before .before .before .args .come .now) (c .before .before .before .before .before .before .args .g) (c .before .wide2 .result) (arrivals-is (c .before)) (c .if1 .taken), omega arith)
+returns c =
+    let a = c .before .before .before .before .before .before .args in
+    (sym (more-none (a .p) (a .tables .now) (λ h. getD (a .come .now) h 0) (a .g) (sym (arrivals-is (c .before)) ∙ c .if1 .taken)), omega arith)
 
 count-requires : tie.Need-count-requires
 count-requires c κs = search needs
@@ -54,7 +56,7 @@ returns-2 c =
     let a = c .before .before .before .before .before .before .before .before .before .before .args in
     let T = a .tables .now in
     let come = c .before .before .before .before .before in
-    (ap₂ (λ (a b : ℕ). a - b) (c .before .pages-for .ensures) (c .pages-for2 .ensures) ∙ more-some (a .p) T (a .come .now) (a .g) (c .before .before .before .before .before .wide2 .result) (arrivals-is come) (c .before .before .wide3 .result) (c .before .before .wide3 .ensures ∙ c .before .before .before .count .ensures ∙ ap (countOf (a .p) T) (c .before .before .before .before .before .before .before .wide .ensures)), omega (arith, arrivals-fit come, c .before .pages-for .ensures, c .pages-for2 .ensures))
+    (ap₂ (λ (a b : ℕ). a - b) (c .before .pages-for .ensures) (c .pages-for2 .ensures) ∙ more-is (a .p) T (λ h. getD (a .come .now) h 0) (a .g) (c .before .before .wide3 .result) (c .before .before .before .before .before .wide2 .result) (c .before .before .wide3 .ensures ∙ c .before .before .before .count .ensures ∙ ap (countOf (a .p) T) (c .before .before .before .before .before .before .before .wide .ensures)) (arrivals-is come), omega (arith, arrivals-fit come, c .before .pages-for .ensures, c .pages-for2 .ensures))
 
 pub level-pages-spec : {M : Type 1} → statement M
 level-pages-spec =

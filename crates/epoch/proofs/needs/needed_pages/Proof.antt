@@ -2,16 +2,17 @@
 use Prim.Native.Nat.{_≤_, _-_, _*_, _^_}
 use mathlib.Core.Path.{_≡_, refl, ap, _∙_}
 use native.Mathlib.Omega.{arith}
+use lib.ListN.{getD}
 use Rattle.lists.specs.Counting.{sum-more}
 use Rattle.rules.specs.Regions.{regionAt}
 use Rattle.laws.specs.RegionLaws.{region-bounds}
-use Rattle.ending.specs.CensusCounts.{levelMore, moreBelow}
+use Rattle.promises.specs.Arriving.{regionMore, moreBelow}
 use Rattle.epoch.proofs.needs.needed_pages.Statement.{statement}
 use Rattle.epoch.proofs.needs.needed_pages.Tie as tie
 
 abbrev Inv-loop : tie.InvT-loop
 Inv-loop p tables come thread levels n₀ level₀ n level =
-    (level ≤ levels) × (n ≡ moreBelow p tables come thread level) × (n ≤ 2 ^ 28 * level)
+    (level ≤ levels) × (n ≡ moreBelow p tables (λ g. getD come g 0) (regionAt p thread) level) × (n ≤ 2 ^ 28 * level)
 
 abbrev μ-loop : tie.MeasureT-loop
 μ-loop p tables come thread levels n₀ level₀ n level =
@@ -45,15 +46,15 @@ loop-again c =
     let a = c .before .before .before .before .before .before .args in
     let l = c .before .before .before .loop in
     let T = a .tables .now in
-    let e = c .level-pages .ensures .0 ∙ ap (levelMore (a .p) T (a .come .now)) (c .before .region-at .ensures) in
-    let m = sum-more (λ i. levelMore (a .p) T (a .come .now) (regionAt (a .p) (a .thread) i)) (l .level) in
+    let e = c .level-pages .ensures .0 ∙ ap (regionMore (a .p) T (λ g. getD (a .come .now) g 0)) (c .before .region-at .ensures) in
+    let m = sum-more (λ i. regionMore (a .p) T (λ g. getD (a .come .now) g 0) (regionAt (a .p) (a .thread) i)) (l .level) in
     (omega arith, omega (arith, e, m, l .inv .1), omega (arith, c .level-pages .ensures .1, l .inv .2))
 
 returns : tie.Need-returns Inv-loop μ-loop
 returns c =
     let a = c .before .before .before .before .args in
     let e : c .before .loop .level ≡ a .levels = omega arith in
-    c .before .loop .inv .1 ∙ ap (moreBelow (a .p) (a .tables .now) (a .come .now) (a .thread)) e
+    c .before .loop .inv .1 ∙ ap (moreBelow (a .p) (a .tables .now) (λ g. getD (a .come .now) g 0) (regionAt (a .p) (a .thread))) e
 
 pub needed-pages-spec : {M : Type 1} → statement M
 needed-pages-spec =
