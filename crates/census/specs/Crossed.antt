@@ -174,8 +174,7 @@ module _ (s : Sizes) (w : Words) (k : WholeFor s w) (space : Room s (length (w .
     quiet : (v : ℕ) → IsRef p (w .cells) (w .tables) v → other (ownerIn s w (pageOf x)) (regionOf p (w .tables) v) ≡ 0 → crossRef h x v ≡ 0
     quiet zero f z = refl
     quiet (suc y) f z =
-        let y′ : suc y - 1 ≡ y = omega arith in
-        let v : BeginsIn s w y = subst (BeginsIn s w) y′ (f (omega arith)) in
+        let v : BeginsIn s w y = ref-begins s (w .cells) (w .tables) (suc y) y f refl in
         go v (ap (other (ownerIn s w (pageOf x))) (sym (region-of p (w .tables) y (begins-page _ _ _ _ v))) ∙ z) (ℕ-discrete (ownerIn s w (pageOf y)) 1)
         (ℕ-discrete (ownerIn s w (pageOf x)) (ownerIn s w (pageOf y)))
       where
