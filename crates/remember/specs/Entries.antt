@@ -6,7 +6,8 @@ use mathlib.Core.Path.{_≡_, refl, sym, ap, subst, _∙_}
 use mathlib.Core.Logic.{_⊎_, inl, inr}
 use native.Mathlib.Omega.{arith}
 use native.Mathlib.Decide.{ℕ-discrete, decLt}
-use lib.ListN.{getD, length, set}
+use lib.ListN.{getD, length, set, length-set}
+use Rattle.lists.specs.Stores.{put, past}
 use Rattle.layout.specs.Places.{entriesUsed, slotAt, slotIn, slotRegionAt, slotRegionIn, entriesWords}
 
 -- an entry of number `at` with region g is one of f's
@@ -40,9 +41,27 @@ pub record Edited (N : ℕ) (m m′ : List ℕ) : Type 0 where
   pub size : getD m′ 0 0 ≡ getD m 0 0
   pub spare : (j : ℕ) → entriesWords N ≤ j → getD m′ j 0 ≡ getD m j 0
 
+-- entry i is slot `at` with region g
+abbrev pub entered : ℕ → List ℕ → ℕ → ℕ → ℕ → List ℕ
+entered N m i at g = set (set m (slotAt i) at) (slotRegionAt N i) g
+
+module _ (N : ℕ) (m : List ℕ) (i at g : ℕ) where
+  pub entered-long : length (entered N m i at g) ≡ length m
+  entered-long = length-set (set m (slotAt i) at) (slotRegionAt N i) g ∙ length-set m (slotAt i) at
+
+  pub entered-else : (j : ℕ) → (j ≡ slotAt i → ⊥) → (j ≡ slotRegionAt N i → ⊥) → getD (entered N m i at g) j 0 ≡ getD m j 0
+  entered-else j a b = past (set m (slotAt i) at) (slotRegionAt N i) g j 0 b ∙ past m (slotAt i) at j 0 a
+
+  module _ (low : i < N) (long : entriesWords N ≤ length m) where
+    pub entered-slot : slotIn (entered N m i at g) i ≡ at
+    entered-slot = past (set m (slotAt i) at) (slotRegionAt N i) g (slotAt i) 0 (λ (q : slotAt i ≡ slotRegionAt N i). omega arith) ∙ put m (slotAt i) at 0 (omega arith)
+
+    pub entered-region : slotRegionIn N (entered N m i at g) i ≡ g
+    entered-region = put (set m (slotAt i) at) (slotRegionAt N i) g 0 (omega (arith, length-set m (slotAt i) at))
+
 -- one more entry
 abbrev pub added : ℕ → List ℕ → ℕ → ℕ → List ℕ
-added N m at g = set (set (set m (slotAt (entriesUsed m)) at) (slotRegionAt N (entriesUsed m)) g) 1 (entriesUsed m + 1)
+added N m at g = set (entered N m (entriesUsed m) at g) 1 (entriesUsed m + 1)
 
 -- entry i has another region
 abbrev pub changed : ℕ → List ℕ → ℕ → ℕ → List ℕ
@@ -52,7 +71,7 @@ changed N m i g = set m (slotRegionAt N i) g
 abbrev pub removed : ℕ → List ℕ → ℕ → List ℕ
 removed N m i =
     let l = entriesUsed m - 1 in
-    set (set (set (set (set m (slotAt i) (slotIn m l)) (slotRegionAt N i) (slotRegionIn N m l)) (slotAt l) 0) (slotRegionAt N l) 0) 1 l
+    set (entered N (entered N m i (slotIn m l) (slotRegionIn N m l)) l 0 0) 1 l
 
 -- where f and f′ agree below n, the table serves both
 pub exact-everywhere : (f f′ : ℕ → ℕ) (n N : ℕ) (m : List ℕ) → ((q : ℕ) → q < n → f′ q ≡ f q) → Exact f n N m → Exact f′ n N m

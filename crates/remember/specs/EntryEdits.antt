@@ -3,10 +3,10 @@ use Prim.Native.Nat.{ℕ, _+_, _-_, _≤_, _<_}
 use mathlib.Core.List.{List}
 use mathlib.Core.Path.{_≡_, _∙_}
 use native.Mathlib.Omega.{arith}
-use lib.ListN.{getD, length, set, length-set}
+use lib.ListN.{getD, length, length-set}
 use Rattle.lists.specs.Stores.{put, past}
 use Rattle.layout.specs.Places.{entriesUsed, slotAt, slotIn, slotRegionAt, slotRegionIn, entriesWords}
-use Rattle.remember.specs.Entries.{Exact, Elsewhere, Edited, added, changed, removed, exact-added, exact-changed, exact-removed}
+use Rattle.remember.specs.Entries.{Exact, Elsewhere, Edited, entered, added, changed, removed, entered-long, entered-else, entered-slot, entered-region, exact-added, exact-changed, exact-removed}
 
 module _ (N : ℕ) (m : List ℕ) (long : entriesWords N ≤ length m) where
   module _ (room : entriesUsed m < N) (at g : ℕ) where
@@ -14,26 +14,20 @@ module _ (N : ℕ) (m : List ℕ) (long : entriesWords N ≤ length m) where
     u = entriesUsed m
 
     abbrev m₁ : List ℕ
-    m₁ = set m (slotAt u) at
-
-    abbrev m₂ : List ℕ
-    m₂ = set m₁ (slotRegionAt N u) g
+    m₁ = entered N m u at g
 
     len₁ : length m₁ ≡ length m
-    len₁ = length-set m (slotAt u) at
-
-    len₂ : length m₂ ≡ length m
-    len₂ = length-set m₁ (slotRegionAt N u) g ∙ len₁
+    len₁ = entered-long N m u at g
 
     other-word : (j : ℕ) → (j ≡ 1 → ⊥) → (j ≡ slotAt u → ⊥) → (j ≡ slotRegionAt N u → ⊥) → getD (added N m at g) j 0 ≡ getD m j 0
-    other-word j a b c = past m₂ 1 (u + 1) j 0 a ∙ past m₁ (slotRegionAt N u) g j 0 c ∙ past m (slotAt u) at j 0 b
+    other-word j a b c = past m₁ 1 (u + 1) j 0 a ∙ entered-else N m u at g j b c
 
     pub added-exact : (f f′ : ℕ → ℕ) (n : ℕ) → Exact f n N m → at < n → Elsewhere f f′ at → 0 < g → f′ at ≡ g → f at ≡ 0 → Exact f′ n N (added N m at g)
     added-exact f f′ n x low e pos now z =
         exact-added f f′ n N m x at low e (added N m at g) g pos now z room
-        (put m₂ 1 (u + 1) 0 (omega (arith, len₂)))
-        (past m₂ 1 (u + 1) (slotAt u) 0 (λ (q : slotAt u ≡ 1). omega arith) ∙ past m₁ (slotRegionAt N u) g (slotAt u) 0 (λ (q : slotAt u ≡ slotRegionAt N u). omega arith) ∙ put m (slotAt u) at 0 (omega arith))
-        (past m₂ 1 (u + 1) (slotRegionAt N u) 0 (λ (q : slotRegionAt N u ≡ 1). omega arith) ∙ put m₁ (slotRegionAt N u) g 0 (omega (arith, len₁)))
+        (put m₁ 1 (u + 1) 0 (omega (arith, len₁)))
+        (past m₁ 1 (u + 1) (slotAt u) 0 (λ (q : slotAt u ≡ 1). omega arith) ∙ entered-slot N m u at g room long)
+        (past m₁ 1 (u + 1) (slotRegionAt N u) 0 (λ (q : slotRegionAt N u ≡ 1). omega arith) ∙ entered-region N m u at g room long)
         (λ j l d. (
           other-word (slotAt j) (λ (q : slotAt j ≡ 1). omega arith) (λ (q : slotAt j ≡ slotAt u). d (omega arith)) (λ (q : slotAt j ≡ slotRegionAt N u). omega arith),
           other-word (slotRegionAt N j) (λ (q : slotRegionAt N j ≡ 1). omega arith) (λ (q : slotRegionAt N j ≡ slotAt u). omega arith) (λ (q : slotRegionAt N j ≡ slotRegionAt N u). d (omega arith)),
@@ -42,7 +36,7 @@ module _ (N : ℕ) (m : List ℕ) (long : entriesWords N ≤ length m) where
     pub added-edited : Edited N m (added N m at g)
     added-edited =
         record {
-          long = length-set m₂ 1 (u + 1) ∙ len₂;
+          long = length-set m₁ 1 (u + 1) ∙ len₁;
           size = other-word 0 (λ (q : 0 ≡ 1). omega arith) (λ (q : 0 ≡ slotAt u). omega arith) (λ (q : 0 ≡ slotRegionAt N u). omega arith);
           spare = λ j l. other-word j (λ (q : j ≡ 1). omega arith) (λ (q : j ≡ slotAt u). omega arith) (λ (q : j ≡ slotRegionAt N u). omega arith);
         }
@@ -68,48 +62,35 @@ module _ (N : ℕ) (m : List ℕ) (long : entriesWords N ≤ length m) where
     v = entriesUsed m - 1
 
     abbrev r₁ : List ℕ
-    r₁ = set m (slotAt i) (slotIn m v)
+    r₁ = entered N m i (slotIn m v) (slotRegionIn N m v)
 
     abbrev r₂ : List ℕ
-    r₂ = set r₁ (slotRegionAt N i) (slotRegionIn N m v)
-
-    abbrev r₃ : List ℕ
-    r₃ = set r₂ (slotAt v) 0
-
-    abbrev r₄ : List ℕ
-    r₄ = set r₃ (slotRegionAt N v) 0
+    r₂ = entered N r₁ v 0 0
 
     rlen₁ : length r₁ ≡ length m
-    rlen₁ = length-set m (slotAt i) (slotIn m v)
+    rlen₁ = entered-long N m i (slotIn m v) (slotRegionIn N m v)
 
     rlen₂ : length r₂ ≡ length m
-    rlen₂ = length-set r₁ (slotRegionAt N i) (slotRegionIn N m v) ∙ rlen₁
+    rlen₂ = entered-long N r₁ v 0 0 ∙ rlen₁
 
-    rlen₃ : length r₃ ≡ length m
-    rlen₃ = length-set r₂ (slotAt v) 0 ∙ rlen₂
+    late : (j : ℕ) → (j ≡ 1 → ⊥) → (j ≡ slotAt v → ⊥) → (j ≡ slotRegionAt N v → ⊥) → getD (removed N m i) j 0 ≡ getD r₁ j 0
+    late j a b c = past r₂ 1 v j 0 a ∙ entered-else N r₁ v 0 0 j b c
 
-    rlen₄ : length r₄ ≡ length m
-    rlen₄ = length-set r₃ (slotRegionAt N v) 0 ∙ rlen₃
-
-    -- past the last three stores 0
-    late : (j : ℕ) → (j ≡ 1 → ⊥) → (j ≡ slotAt v → ⊥) → (j ≡ slotRegionAt N v → ⊥) → getD (removed N m i) j 0 ≡ getD r₂ j 0
-    late j a b c = past r₄ 1 v j 0 a ∙ past r₃ (slotRegionAt N v) 0 j 0 c ∙ past r₂ (slotAt v) 0 j 0 b
-
-    early : (j : ℕ) → (j ≡ slotAt i → ⊥) → (j ≡ slotRegionAt N i → ⊥) → getD r₂ j 0 ≡ getD m j 0
-    early j a b = past r₁ (slotRegionAt N i) (slotRegionIn N m v) j 0 b ∙ past m (slotAt i) (slotIn m v) j 0 a
+    early : (j : ℕ) → (j ≡ slotAt i → ⊥) → (j ≡ slotRegionAt N i → ⊥) → getD r₁ j 0 ≡ getD m j 0
+    early = entered-else N m i (slotIn m v) (slotRegionIn N m v)
 
     pub removed-exact : (at : ℕ) (f f′ : ℕ → ℕ) (n : ℕ) → Exact f n N m → at < n → Elsewhere f f′ at → f′ at ≡ 0 → slotIn m i ≡ at → Exact f′ n N (removed N m i)
     removed-exact at f f′ n x low e now s =
         exact-removed f f′ n N m x at low e (removed N m i) now i l s
-        (put r₄ 1 v 0 (omega (arith, rlen₄)))
+        (put r₂ 1 v 0 (omega (arith, rlen₂)))
         (λ d. (
           late (slotAt i) (λ (q : slotAt i ≡ 1). omega arith) (λ (q : slotAt i ≡ slotAt v). d (omega arith)) (λ (q : slotAt i ≡ slotRegionAt N v). omega arith)
-              ∙ past r₁ (slotRegionAt N i) (slotRegionIn N m v) (slotAt i) 0 (λ (q : slotAt i ≡ slotRegionAt N i). omega arith) ∙ put m (slotAt i) (slotIn m v) 0 (omega arith),
+              ∙ entered-slot N m i (slotIn m v) (slotRegionIn N m v) (omega arith) long,
           late (slotRegionAt N i) (λ (q : slotRegionAt N i ≡ 1). omega arith) (λ (q : slotRegionAt N i ≡ slotAt v). omega arith) (λ (q : slotRegionAt N i ≡ slotRegionAt N v). d (omega arith))
-              ∙ put r₁ (slotRegionAt N i) (slotRegionIn N m v) 0 (omega (arith, rlen₁)),
+              ∙ entered-region N m i (slotIn m v) (slotRegionIn N m v) (omega arith) long,
         )) (
-          past r₄ 1 v (slotAt v) 0 (λ (q : slotAt v ≡ 1). omega arith) ∙ past r₃ (slotRegionAt N v) 0 (slotAt v) 0 (λ (q : slotAt v ≡ slotRegionAt N v). omega arith) ∙ put r₂ (slotAt v) 0 0 (omega (arith, rlen₂)),
-          past r₄ 1 v (slotRegionAt N v) 0 (λ (q : slotRegionAt N v ≡ 1). omega arith) ∙ put r₃ (slotRegionAt N v) 0 0 (omega (arith, rlen₃)),
+          past r₂ 1 v (slotAt v) 0 (λ (q : slotAt v ≡ 1). omega arith) ∙ entered-slot N r₁ v 0 0 (omega arith) (omega (arith, rlen₁)),
+          past r₂ 1 v (slotRegionAt N v) 0 (λ (q : slotRegionAt N v ≡ 1). omega arith) ∙ entered-region N r₁ v 0 0 (omega arith) (omega (arith, rlen₁)),
         )
         (λ j k d b. (
           late (slotAt j) (λ (q : slotAt j ≡ 1). omega arith) (λ (q : slotAt j ≡ slotAt v). b (omega arith)) (λ (q : slotAt j ≡ slotRegionAt N v). omega arith)
@@ -121,7 +102,7 @@ module _ (N : ℕ) (m : List ℕ) (long : entriesWords N ≤ length m) where
     pub removed-edited : Edited N m (removed N m i)
     removed-edited =
         record {
-          long = length-set r₄ 1 v ∙ rlen₄;
+          long = length-set r₂ 1 v ∙ rlen₂;
           size = late 0 (λ (q : 0 ≡ 1). omega arith) (λ (q : 0 ≡ slotAt v). omega arith) (λ (q : 0 ≡ slotRegionAt N v). omega arith)
               ∙ early 0 (λ (q : 0 ≡ slotAt i). omega arith) (λ (q : 0 ≡ slotRegionAt N i). omega arith);
           spare = λ j k. late j (λ (q : j ≡ 1). omega arith) (λ (q : j ≡ slotAt v). omega arith) (λ (q : j ≡ slotRegionAt N v). omega arith)

@@ -5,8 +5,9 @@ use mathlib.Core.List.{List}
 use Prim.Native.Nat.{ℕ, _+_, _≤_, _<_}
 use native.Mathlib.Decide.{ℕ-discrete}
 use native.Mathlib.Omega.{arith}
-use lib.ListN.{length, set}
+use lib.ListN.{length}
 use Rattle.layout.specs.Places.{slotIn, slotRegionIn, entriesWords}
+use Rattle.remember.specs.Entries.{entered}
 use Rattle.remember.specs.Stretches.{Added, added-none, added-one, added-join, added-like, slot-above, region-above}
 
 -- one of the first i entries stays: slot x, with region h
@@ -30,7 +31,7 @@ module _ {anew : ℕ → ℕ → ℕ} {n i j : ℕ} {M M′ : List ℕ} (few : i
 
   -- v is the new region that the code found of it, s its slot
   pub filter-keep : entriesWords n ≤ length M → ((k : ℕ) → k < i → slotIn M k ≢ slotIn M i) → (s v : ℕ) → s ≡ slotIn M′ i → v ≡ anew (slotIn M′ i) (slotRegionIn n M′ i) → v ≢ 0
-      → Added n (Stays anew n M (i + 1)) 0 (j + 1) M (set (set M′ (2 + j) s) (2 + n + j) v)
+      → Added n (Stays anew n M (i + 1)) 0 (j + 1) M (entered n M′ j s v)
   filter-keep long once s v es ev ne =
       added-join h (added-one j s v M′ (omega arith) (omega (arith, h .size)))
       (λ x g k q e. once (q .entry) (q .low) (q .slot ∙ e .0 ∙ slot′))

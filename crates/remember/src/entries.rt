@@ -1,12 +1,12 @@
-// The entries: one is found, comes, goes or gets another region, a stretch is cleared. They stand in any order, so an entry is looked for one
-// by one, a new one comes last, and the last takes the place of one that goes.
+// The entries: one is found, written, comes, goes or gets another region, a stretch is cleared, and the table ends after so many. They stand in
+// any order, so an entry is looked for one by one, a new one comes last, and the last takes the place of one that goes.
 ghost use mathlib.Core.Path.{_≡_};
 ghost use Prim.Native.Nat.{ℕ, _+_, _^_, _<_, _≤_};
 ghost use lib.ListN.{length};
 ghost use Rattle.layout.specs.Places.{entriesUsed, slotIn, entriesWords};
-ghost use Rattle.remember.specs.Entries.{added, removed};
+ghost use Rattle.remember.specs.Entries.{entered, added, removed};
 ghost use Rattle.remember.specs.Remembering.{Remembered};
-ghost use Rattle.remember.specs.Stretches.{Cleared};
+ghost use Rattle.remember.specs.Stretches.{Cleared, Closed};
 
 // The entry that names slot `at`, which one of the first `used` does.
 pub fn find_entry(entries: usize, remember: &[u32], used: usize, at: usize) -> usize
@@ -25,14 +25,23 @@ pub fn find_entry(entries: usize, remember: &[u32], used: usize, at: usize) -> u
     0
 }
 
+// Entry i becomes slot `at` with its region.
+pub fn put_entry(entries: usize, remember: &mut [u32], i: usize, at: u32, region: u32)
+    requires { ⌜ entriesWords entries ≤ length (now remember) ⌝ }
+    requires { ⌜ i < entries ⌝ }
+    ensures { λ _. ⌜ now (remember .exit) ≡ entered entries (now (remember .entry)) i at region ⌝ }
+{
+    layout::remember::set_slot(entries, remember, i, at);
+    layout::remember::set_region(entries, remember, i, region);
+}
+
 // One more entry, after the `used` ones.
 pub fn add_entry(entries: usize, remember: &mut [u32], used: usize, at: usize, region: u32)
     requires { ⌜ entriesWords entries ≤ length (now remember) ⌝ }
     requires { ⌜ (entries < 2 ^ 32) × (used < entries) × (used ≡ entriesUsed (now remember)) × (at < 2 ^ 32) ⌝ }
     ensures { λ r. ⌜ now (remember .exit) ≡ added entries (now (remember .entry)) at region ⌝ }
 {
-    layout::remember::set_slot(entries, remember, used, at as u32);
-    layout::remember::set_region(entries, remember, used, region);
+    put_entry(entries, remember, used, at as u32, region);
     layout::remember::set_used(remember, (used + 1) as u32);
 }
 
@@ -45,10 +54,8 @@ pub fn remove_entry(entries: usize, remember: &mut [u32], used: usize, i: usize)
     let last = used - 1;
     let slot = layout::remember::slot(entries, remember, last);
     let region = layout::remember::region(entries, remember, last);
-    layout::remember::set_slot(entries, remember, i, slot);
-    layout::remember::set_region(entries, remember, i, region);
-    layout::remember::set_slot(entries, remember, last, 0);
-    layout::remember::set_region(entries, remember, last, 0);
+    put_entry(entries, remember, i, slot, region);
+    put_entry(entries, remember, last, 0, 0);
     layout::remember::set_used(remember, last as u32);
 }
 
@@ -79,16 +86,25 @@ pub fn remember_slot(entries: usize, remember: &mut [u32], at: usize, was: u32, 
     0
 }
 
-// Entries `from` up to `to` become zero.
+// Entries `from` up to `to` become zero; none where `to` is not above `from`.
 pub fn clear_entries(entries: usize, remember: &mut [u32], from: usize, to: usize)
-    requires { ⌜ (from ≤ to) × (to ≤ entries) ⌝ }
+    requires { ⌜ to ≤ entries ⌝ }
     requires { ⌜ entriesWords entries ≤ length (now remember) ⌝ }
     ensures { λ _. ⌜ Cleared entries from to (now (remember .entry)) (now (remember .exit)) ⌝ }
 {
     let mut i = from;
     while i < to {
-        layout::remember::set_slot(entries, remember, i, 0);
-        layout::remember::set_region(entries, remember, i, 0);
+        put_entry(entries, remember, i, 0, 0);
         i += 1;
     }
+}
+
+// The table ends after `all` entries, and those up to the `used` of before become zero.
+pub fn close_entries(entries: usize, remember: &mut [u32], all: usize, used: usize)
+    requires { ⌜ (entries < 2 ^ 32) × (all ≤ entries) × (used ≤ entries) ⌝ }
+    requires { ⌜ entriesWords entries ≤ length (now remember) ⌝ }
+    ensures { λ _. ⌜ Closed entries all used (now (remember .entry)) (now (remember .exit)) ⌝ }
+{
+    clear_entries(entries, remember, all, used);
+    layout::remember::set_used(remember, all as u32);
 }

@@ -7,6 +7,7 @@ ghost use Rattle.layout.specs.Words.{Names};
 ghost use Rattle.remember.specs.Stretches.{Added};
 ghost use Rattle.remember.specs.Staying.{newRegion, Stays, Entries};
 use crate::crossing::cross;
+use crate::entries::put_entry;
 use rules::Sizes;
 
 // The region of the entry of the slot at a position, with region g, after the end; 0 if the entry goes.
@@ -49,8 +50,7 @@ pub fn filter_entries(
         let old = layout::remember::region(entries, remember, i);
         let new = new_region(p, cells, tables, region, layout::wide(at), old);
         if new != 0 {
-            layout::remember::set_slot(entries, remember, j, at);
-            layout::remember::set_region(entries, remember, j, new);
+            put_entry(entries, remember, j, at, new);
             j += 1;
         }
         i += 1;

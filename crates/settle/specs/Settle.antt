@@ -19,6 +19,7 @@ use Rattle.settle.specs.Rewrite.{forwarded, Rewritten, ref-same, rewritt
 use Rattle.remember.specs.Crossing.{crossesFrom}
 use Rattle.settle.specs.RewriteSlots.{Field, Fields}
 use Rattle.settle.specs.RewriteCopies.{CopySlot, Wiring, Split, OnPage, OnPages, slot-less, slot-now, slot-then, slots-apart, pages-split, unmarked-none}
+use Rattle.remember.specs.Entries.{entered}
 use Rattle.remember.specs.Stretches.{Added, added-none, added-one, added-join, added-like}
 use Rattle.settle.specs.Append.{crossAt, crossLater, Crossing, AtMost, at-most-less, at-most-rest}
 
@@ -110,7 +111,7 @@ module _ {p : Sizes} {n x i : ℕ} {W M T : List ℕ} (s : Settling p n (λ y. y
         ap (λ (z : ℕ). crossAt p (set W x v) T z) e
         ∙ ap (λ (z : ℕ). crossesFrom p T (ownerOf p T (pageAt x)) z) (getD-set-same W x v 0 low) ∙ sym eh
 
-    slot-comes : h ≢ 0 → Settled p n (λ y. y ≡ x) W M T i (set W x v) (set (set M (2 + i) x) (2 + n + i) h) (i + 1)
+    slot-comes : h ≢ 0 → Settled p n (λ y. y ≡ x) W M T i (set W x v) (entered n M i x h) (i + 1)
     slot-comes ne =
         record {
           rewritten = rewritten-one x v low field ev;
@@ -168,9 +169,9 @@ module _ {p : Sizes} {n d k f j i : ℕ} {W M T W′ M′ : List ℕ} (a : Field
     pub field-fits : g ≢ 0 → i < n
     field-fits = slot-fits field-settling v g ev eg′
 
-    pub field-comes : (x : ℕ) → x ≡ fieldAt d f → g ≢ 0 → Settled p n (Field d (f + 1)) W M T j (set W′ (fieldAt d f) v) (set (set M′ (2 + i) x) (2 + n + i) g) (i + 1)
+    pub field-comes : (x : ℕ) → x ≡ fieldAt d f → g ≢ 0 → Settled p n (Field d (f + 1)) W M T j (set W′ (fieldAt d f) v) (entered n M′ i x g) (i + 1)
     field-comes x e ne =
-        subst (λ (y : ℕ). Settled p n (Field d (f + 1)) W M T j (set W′ (fieldAt d f) v) (set (set M′ (2 + i) y) (2 + n + i) g) (i + 1)) (sym e)
+        subst (λ (y : ℕ). Settled p n (Field d (f + 1)) W M T j (set W′ (fieldAt d f) v) (entered n M′ i y g) (i + 1)) (sym e)
         (field-joins (slot-comes field-settling v g ev eg′ low (field-word d f few) ne))
 
     pub field-stays : g ≡ 0 → Settled p n (Field d (f + 1)) W M T j (set W′ (fieldAt d f) v) M′ i

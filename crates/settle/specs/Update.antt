@@ -3,16 +3,16 @@ use mathlib.Core.Path.{_≡_, sym, ap, _∙_, subst}
 use mathlib.Core.Logic.{_≢_, _⊎_, inl, inr, ⊎-elim}
 use mathlib.Core.Bool.{cond}
 use mathlib.Core.List.{List}
-use Prim.Native.Nat.{ℕ, _-_, _≤_, _<_, max}
+use Prim.Native.Nat.{ℕ, _-_, _≤_, _<_}
 use native.Mathlib.Omega.{arith}
 use lib.Dec.{eqb}
-use lib.ListN.{getD, set}
+use lib.ListN.{getD}
 use Rattle.rules.specs.declared.Sizes.{Sizes}
 use Rattle.layout.specs.Places.{ownerOf, slotIn, slotRegionIn}
 use Rattle.layout.specs.Cells.{pageAt}
 use Rattle.layout.specs.Words.{Names}
 use Rattle.remember.specs.Crossing.{crossesFrom}
-use Rattle.remember.specs.Stretches.{Added, added-join, Cleared}
+use Rattle.remember.specs.Stretches.{Added, added-join, Closed}
 use Rattle.remember.specs.Renewed.{Renewed, renewed}
 use Rattle.remember.specs.Staying.{newRegion, Stays, Entries}
 use Rattle.settle.specs.Rewrite.{forwarded}
@@ -76,10 +76,9 @@ module _ {p : Sizes} {r n m j : ℕ} {W M T M₁ : List ℕ} (u : Settles p r n 
       }
 
   -- j entries stay, k are used in the end
-  pub settles-updated : {k e v : ℕ} {W′ M₂ M₃ : List ℕ} → j ≤ m → Settled p n (Copies p W T) W M₁ T j W′ M₂ k → e ≡ max k m → Cleared n k e M₂ M₃ → v ≡ k
-      → Updated p r n m W′ M T (set M₃ 1 v)
-  settles-updated {k} {W′ = W′} {M₂ = M₂} le h em c ev =
-      renewed (u .entries .long) both c (omega arith) (omega (arith, h .added .low, u .entries .few)) (λ y l g. u .rest y (omega arith) g) ev
+  pub settles-updated : {k : ℕ} {W′ M₂ M₃ : List ℕ} → Settled p n (Copies p W T) W M₁ T j W′ M₂ k → Closed n k m M₂ M₃ → Updated p r n m W′ M T M₃
+  settles-updated {k} {W′ = W′} {M₂ = M₂} h c =
+      renewed both c (u .entries .few) (u .rest)
     where
       same : (i : ℕ) → i < m → getD W′ (slotIn M i) 0 ≡ getD W (slotIn M i) 0
       same i l = h .rewritten .same (slotIn M i) (u .old i l)

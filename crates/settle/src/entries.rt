@@ -2,7 +2,7 @@
 ghost use Prim.Native.Nat.{ℕ};
 ghost use Rattle.layout.specs.Places.{entriesUsed};
 ghost use Rattle.settle.specs.Update.{Copies, Settles, Updated};
-use remember::entries::clear_entries;
+use remember::entries::close_entries;
 use remember::filter::filter_entries;
 use rules::Sizes;
 
@@ -12,9 +12,7 @@ pub fn keep_entries(p: Sizes, cells: &[u32], remember: &mut [u32], tables: &[u32
     requires { ⌜ ((x : ℕ) → Copies p (now cells) (now tables) x → ⊥) ⌝ }
     ensures { λ _. ⌜ Updated p region (p .entries) (entriesUsed (now (remember .entry))) (now (cells .entry)) (now (remember .entry)) (now (tables .entry)) (now (remember .exit)) ⌝ }
 {
-    let entries = p.entries;
     let used = layout::wide(layout::remember::used(remember));
     let kept = filter_entries(p, cells, remember, tables, region, used);
-    clear_entries(entries, remember, kept, used);
-    layout::remember::set_used(remember, kept as u32);
+    close_entries(p.entries, remember, kept, used);
 }

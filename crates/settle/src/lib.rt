@@ -5,7 +5,7 @@ pub mod entries;
 pub mod rewrite;
 
 ghost use mathlib.Core.Path.{_≡_};
-ghost use Prim.Native.Nat.{ℕ, _<_, max};
+ghost use Prim.Native.Nat.{ℕ, _<_};
 ghost use lib.ListN.{length};
 ghost use Rattle.lists.specs.Part.{Rises, Off};
 ghost use Rattle.layout.specs.Places.{Room, markOf, entriesUsed};
@@ -18,7 +18,8 @@ ghost use Rattle.settle.specs.Settle.{Settling, Settled};
 use crate::rewrite::forward_ref;
 use layout::Kind;
 use remember::crossing::cross;
-use remember::entries::clear_entries;
+use remember::entries::close_entries;
+use remember::entries::put_entry;
 use remember::filter::filter_entries;
 use rules::Sizes;
 
@@ -46,13 +47,13 @@ pub fn settle_cell(
         let to = cross(p, tables, from, x);
         layout::cells::set_field(cells, cell, f, x);
         if to != 0 {
-            layout::remember::set_slot(
+            put_entry(
                 entries,
                 remember,
                 i,
                 layout::cells::field_at(cell, f) as u32,
+                to,
             );
-            layout::remember::set_region(entries, remember, i, to);
             i += 1;
         }
         f += 1;
@@ -115,12 +116,6 @@ pub fn settle_copies(
     i
 }
 
-fn larger(a: usize, b: usize) -> usize
-    ensures { λ r. ⌜ r ≡ max a b ⌝ }
-{
-    if a < b { b } else { a }
-}
-
 // The copies' slots and the remember table after the end: the entries that stay, those of the copies, then zeros.
 pub fn settle(
     p: Sizes,
@@ -137,10 +132,8 @@ pub fn settle(
     ensures { λ _. ⌜ Rewritten (Copies p (now (cells .entry)) (now (tables .entry))) (now (cells .entry)) (now (cells .exit)) ⌝ }
     ensures { λ _. ⌜ Updated p region (p .entries) (entriesUsed (now (remember .entry))) (now (cells .exit)) (now (remember .entry)) (now (tables .entry)) (now (remember .exit)) ⌝ }
 {
-    let entries = p.entries;
     let used = layout::wide(layout::remember::used(remember));
     let kept = filter_entries(p, cells, remember, tables, region, used);
     let all = settle_copies(p, cells, remember, tables, list, n, kept);
-    clear_entries(entries, remember, all, larger(all, used));
-    layout::remember::set_used(remember, all as u32);
+    close_entries(p.entries, remember, all, used);
 }

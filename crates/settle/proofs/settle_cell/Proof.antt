@@ -1,7 +1,7 @@
 -- The reference fields below f are settled: rewritten, and those that cross then stand from entry j up to entry i.
 use native.Mathlib.Omega.{arith}
 use borrow.Author.Needs.{needs}
-use lib.ListN.{length, set}
+use lib.ListN.{length}
 use Prim.Native.Nat.{ℕ, _≤_, _<_, _+_, _-_}
 use mathlib.Core.List.{List}
 use mathlib.Core.Logic.{⊎-elim}
@@ -89,22 +89,19 @@ field-at-requires c κs =
     let pre = c .before .before .before .before .before .before .before .before .before .before .before .before .before .before .before .before .before .before .before .before .pre in
     (cell-in (c .before .before .before .before .before .before .before .before .before .before .before .before .before .before .before .before .before .before .before .before .args .p) (pre .1 .1 .few) (pre .0 .cells-long) (pre .0 .page) .0, omega (arith, c .before .before .before .before .before .before .before .before .before .before .before .loop .inv .1, pre .0 .few, c .before .before .before .before .before .before .before .before .before .before .loop-test .taken))
 
-cast-set-slot : tie.Need-cast-set-slot Inv-loop μ-loop
-cast-set-slot c =
+cast-put-entry : tie.Need-cast-put-entry Inv-loop μ-loop
+cast-put-entry c =
     let pre = c .before .before .before .before .before .before .before .before .before .before .before .before .before .before .before .before .before .before .before .before .before .pre in
     let a = c .before .before .before .before .before .before .before .before .before .before .before .before .before .before .before .before .before .before .before .before .before .args in
     let l = c .before .before .before .before .before .before .before .before .before .before .before .before .loop in
     let few : l .f < mostFields = omega (arith, l .inv .1, pre .0 .few, c .before .before .before .before .before .before .before .before .before .before .before .loop-test .taken) in
     omega (arith, c .field-at .ensures, field-high (a .cell) (l .f) (cell-in (a .p) (pre .1 .1 .few) (pre .0 .cells-long) (pre .0 .page) .0) few)
 
-set-slot-requires : tie.Need-set-slot-requires Inv-loop μ-loop
-set-slot-requires c κs = (omega (arith, c .before .before .before .before .before .before .before .before .before .before .before .before .before .before .before .before .before .before .before .before .before .pre .1 .0 .long, c .before .before .before .before .before .before .before .before .before .before .before .before .loop .inv .4), roomy (c .before .before))
-
-set-region-requires : tie.Need-set-region-requires Inv-loop μ-loop
-set-region-requires c κs = (omega (arith, c .before .before .before .before .before .before .before .before .before .before .before .before .before .before .before .before .before .before .before .before .before .before .before .before .before .pre .1 .0 .long, c .before .before .before .before .before .before .before .before .before .before .before .before .before .before .before .before .loop .inv .4, c .before .before .before .set-slot .kept .1 .0), roomy (c .before .before .before .before .before .before))
+put-entry-requires : tie.Need-put-entry-requires Inv-loop μ-loop
+put-entry-requires c κs = (omega (arith, c .before .before .before .before .before .before .before .before .before .before .before .before .before .before .before .before .before .before .before .before .before .pre .1 .0 .long, c .before .before .before .before .before .before .before .before .before .before .before .before .loop .inv .4), roomy (c .before .before))
 
 add-i : tie.Need-add-i Inv-loop μ-loop
-add-i c = omega (arith, roomy (c .before .before .before .before .before .before .before .before .before), c .before .before .before .before .before .before .before .before .before .before .before .before .before .before .before .before .before .before .before .before .before .before .before .before .before .before .before .before .pre .1 .1 .entries-high)
+add-i c = omega (arith, roomy (c .before .before .before .before .before), c .before .before .before .before .before .before .before .before .before .before .before .before .before .before .before .before .before .before .before .before .before .before .before .before .pre .1 .1 .entries-high)
 
 add-f : tie.Need-add-f Inv-loop μ-loop
 add-f c = omega (arith, c .before .before .before .before .before .before .before .before .before .before .loop .inv .1, c .before .before .before .before .before .before .before .before .before .before .before .before .before .before .before .before .before .before .before .pre .0 .few, c .before .before .before .before .before .before .before .before .before .loop-test .taken)
@@ -124,7 +121,7 @@ loop-again c =
     let h : P (c .before .before .before .set-field .last .0) (c .if1 .remember) (c .if1 .i) =
     ⊎-elim
     (λ z.
-    subst₃ P (sym (c .before .before .before .set-field .ensures)) (sym (z .10 ∙ z .7 .ensures ∙ ap (λ (X : List ℕ). set X (2 + a .p .entries + l .i) (v .result)) (z .3 .ensures))) (sym (z .11))
+    subst₃ P (sym (c .before .before .before .set-field .ensures)) (sym (z .6 ∙ z .3 .ensures)) (sym (z .7))
     (field-comes (pre .0) (pre .1 .0) lt (l .inv .5) (c .before .before .before .before .before .before .forward-ref .result) _ (v .result) ev (l .inv .2) (v .ensures) (z .2 .result) (z .2 .ensures) (λ y. omega (arith, z .0 .taken))))
     (λ z.
     subst₃ P (sym (c .before .before .before .set-field .ensures)) (sym (z .1)) (sym (z .2))
@@ -161,9 +158,8 @@ settle-cell-spec =
     cross-requires
     set-field-requires
     field-at-requires
-    cast-set-slot
-    set-slot-requires
-    set-region-requires
+    cast-put-entry
+    put-entry-requires
     add-i
     add-f
     loop-less

@@ -1,11 +1,11 @@
 -- The entries below j are those of the entries below i that stay, with their new regions.
 use native.Mathlib.Omega.{arith}
 use borrow.Author.Needs.{needs}
-use lib.ListN.{length, getD, set}
+use lib.ListN.{length, getD}
 use Prim.Native.Nat.{ℕ, _≤_, _<_, _+_, _-_}
 use mathlib.Core.List.{List}
 use mathlib.Core.Logic.{⊎-elim}
-use mathlib.Core.Path.{_≡_, refl, sym, ap, ap₂, _∙_, subst, subst₂}
+use mathlib.Core.Path.{_≡_, refl, sym, ap₂, _∙_, subst, subst₂}
 use Rattle.layout.specs.Places.{slotIn, slotRegionIn}
 use Rattle.layout.specs.Words.{Names}
 use Rattle.remember.specs.Stretches.{Added}
@@ -59,22 +59,16 @@ new-region-requires c κs =
       ),
     )
 
-set-slot-requires : tie.Need-set-slot-requires Inv-loop μ-loop
-set-slot-requires c κs =
+put-entry-requires : tie.Need-put-entry-requires Inv-loop μ-loop
+put-entry-requires c κs =
     let pre = c .before .before .before .before .before .before .before .before .before .before .before .before .before .pre in
     let loop = c .before .before .before .before .before .before .before .before .before .loop in
     (omega (arith, pre .0 .long, loop .inv .2), omega (arith, pre .0 .few, loop .inv .1, c .before .before .before .before .before .before .before .before .loop-test .taken))
 
-set-region-requires : tie.Need-set-region-requires Inv-loop μ-loop
-set-region-requires c κs =
-    let pre = c .before .before .before .before .before .before .before .before .before .before .before .before .before .before .before .before .before .pre in
-    let loop = c .before .before .before .before .before .before .before .before .before .before .before .before .before .loop in
-    (omega (arith, pre .0 .long, loop .inv .2, c .before .before .before .set-slot .kept .1 .0), omega (arith, pre .0 .few, loop .inv .1, c .before .before .before .before .before .before .before .before .before .before .before .before .loop-test .taken))
-
 add-j : tie.Need-add-j Inv-loop μ-loop
 add-j c =
-    let pre = c .before .before .before .before .before .before .before .before .before .before .before .before .before .before .before .before .before .before .before .before .pre in
-    omega (arith, pre .0 .few, c .before .before .before .before .before .before .before .before .before .before .before .before .before .before .before .before .loop .inv .1, c .before .before .before .before .before .before .before .before .before .before .before .before .before .before .before .loop-test .taken, pre .1 .entries-high)
+    let pre = c .before .before .before .before .before .before .before .before .before .before .before .before .before .before .before .before .pre in
+    omega (arith, pre .0 .few, c .before .before .before .before .before .before .before .before .before .before .before .before .loop .inv .1, c .before .before .before .before .before .before .before .before .before .before .before .loop-test .taken, pre .1 .entries-high)
 
 add-i : tie.Need-add-i Inv-loop μ-loop
 add-i c =
@@ -103,7 +97,7 @@ loop-again c =
     let h : P (c .if1 .remember) (c .if1 .j) =
     ⊎-elim
     (λ z.
-    subst₂ P (sym (z .9 ∙ z .6 .ensures ∙ ap (λ (X : List ℕ). set X (2 + n + l .j) (v .result)) (z .2 .ensures))) (sym (z .10))
+    subst₂ P (sym (z .5 ∙ z .2 .ensures)) (sym (z .6))
     (let k = filter-keep few (l .inv .1) (l .inv .3) (s .long) (λ k u. s .once k (l .i) u lt) (slot .result) (v .result) (slot .ensures) ev (z .0 .taken) in (omega (arith, l .inv .1), k .size, k)))
     (λ z. subst₂ P (sym (z .1)) (sym (z .2))
     (let k = filter-drop few (l .inv .1) (l .inv .3) (v .result) ev (z .0 .left) in (omega (arith, l .inv .1), k .size, k)))
@@ -133,8 +127,7 @@ filter-entries-spec =
     region-requires
     wide-requires
     new-region-requires
-    set-slot-requires
-    set-region-requires
+    put-entry-requires
     add-j
     add-i
     loop-less
