@@ -13,7 +13,7 @@ use Rattle.layout.specs.Places.{ownerOf}
 use Rattle.layout.specs.Cells.{fieldAt, headOf, workOf, fieldOf, refsOf, pageOf, pageAt, cellNamed, roomFor}
 use Rattle.layout.specs.Objects.{Covers, covers-field, begins-page, field-not-new, objects-apart}
 use Rattle.layout.specs.Words.{Words, words, BeginsIn, Names, headIn, refCount}
-use Rattle.remember.specs.Crossing.{crossesFrom}
+use Rattle.remember.specs.Crossing.{crossesFrom, crossesAt}
 use Rattle.promises.specs.Reading.{refs-few, ref-room}
 use Rattle.promises.specs.Ends.{Part, Survivor, Lives, outside-lives, survivor-lives, lives-how}
 use Rattle.mark.specs.Marks.{kept-head}
@@ -22,7 +22,8 @@ use Rattle.copy.specs.Forward.{forward}
 use Rattle.settle.specs.Rewrite.{forwarded, forward-null, forward-still, Rewritten, rewritten-join, link-same, heads-same}
 use Rattle.settle.specs.RewriteSlots.{Fields}
 use Rattle.settle.specs.RewriteCopies.{Wiring, wiring-now, OnPages, slot-now, slot-then}
-use Rattle.settle.specs.Append.{crossAt, crossLater, Crossing}
+use Rattle.remember.specs.Appending.{Crossing}
+use Rattle.settle.specs.Settle.{crossLater}
 use Rattle.settle.specs.Update.{Copies}
 use Rattle.mark.specs.MarkedWords.{marked-survivor}
 use Rattle.ending.specs.Placing.{OutsideSlot, HoldingSlots, LiveSlot, placed-page, outside-live, live-outside, refs-placed, live-slot, live-page}
@@ -217,5 +218,5 @@ module _ {s : Sizes} {w w₁ : Words} {e : Part} {W T : List ℕ} {S : ℕ → T
         every = λ x q v n. record { at = slot-now (r .cells) x (survivor-copy h x q v); region = sym (now x q); kept = n };
       }
     where
-      now : (x : ℕ) (q : LiveSlot s w e (placed W) x) → crossAt s W′ T x ≡ crossThen s w (words W (w .remember) T) (placed W) (q .object) (q .field)
+      now : (x : ℕ) (q : LiveSlot s w e (placed W) x) → crossesAt s W′ T x ≡ crossThen s w (words W (w .remember) T) (placed W) (q .object) (q .field)
       now x q = ap (λ (y : ℕ). crossesFrom s T (ownerOf s T (pageAt x)) y) (live-after x q) ∙ cross-live h x q

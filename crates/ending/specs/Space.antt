@@ -16,7 +16,7 @@ use Rattle.layout.specs.Objects.{field-inside, objects-apart}
 use Rattle.layout.specs.Words.{Words, ownerIn, headIn, refCount}
 use Rattle.promises.specs.Reading.{ref-room}
 use Rattle.promises.specs.Ends.{Part, Lives, lives-how}
-use Rattle.settle.specs.Append.{AtMost}
+use Rattle.remember.specs.Appending.{AtMost}
 use Rattle.ended.specs.Living.{GraphAfter, lives-there}
 use Rattle.ending.specs.Placing.{Placing, LiveSlot, outside-home}
 use Rattle.ending.specs.Crossing.{crossThen, crosses-names}

@@ -31,7 +31,7 @@ use Rattle.copy.specs.Forward.{copy-forwards}
 use Rattle.settle.specs.Rewrite.{forwarded, Rewritten, ref-same}
 use Rattle.settle.specs.RewriteSlots.{Slots, Variables}
 use Rattle.settle.specs.RewriteCopies.{slot-then}
-use Rattle.settle.specs.Append.{at-most-less}
+use Rattle.remember.specs.Appending.{at-most-less}
 use Rattle.settle.specs.Update.{Copies, Entry, Settles, Updated}
 use Rattle.release.specs.Release.{Ended, ended-size, ended-depth, ended-rest, ended-blank, ended-alike, ended-regular}
 use Rattle.ended.specs.EndQuestion.{pagesNeeded, crossingAfter}

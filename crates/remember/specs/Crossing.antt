@@ -6,7 +6,7 @@ use lib.Dec.{ltb, leb, eqb}
 use Rattle.lists.specs.Counting.{positive}
 use Rattle.rules.specs.declared.Sizes.{Sizes}
 use Rattle.layout.specs.Places.{ownerOf}
-use Rattle.layout.specs.Cells.{pageOf, pageAt}
+use Rattle.layout.specs.Cells.{pageOf, pageAt, cellOf}
 use Rattle.layout.specs.Objects.{isSlot}
 use lib.ListN.{getD}
 
@@ -21,6 +21,14 @@ regionOf p t x = cond (eqb x 0) 0 (cond (ltb (pageOf (x - 1)) (p .pages)) (owner
 -- the region that reference x crosses into from a slot of an object in region g, else 0
 unfoldable pub crossesFrom : Sizes → List ℕ → ℕ → ℕ → ℕ
 crossesFrom p t g x = other g (regionOf p t x)
+
+-- from a slot of the object at a cell
+abbrev pub crossesTo : Sizes → List ℕ → ℕ → ℕ → ℕ
+crossesTo p t cell x = crossesFrom p t (ownerOf p t (pageOf cell)) x
+
+-- what stands at position q, if that is a slot
+abbrev pub crossesAt : Sizes → List ℕ → List ℕ → ℕ → ℕ
+crossesAt p c t q = crossesTo p t (cellOf q) (getD c q 0)
 
 -- 01: a slot is crossing when its object lies in one region and it points into another that is not the control space. Where the word at
 -- position q is such a slot: the region that it points into, else 0

@@ -11,5 +11,6 @@ pub mod EntryEdits
 pub mod Counted
 pub mod Entering
 pub mod Stretches
+pub mod Appending
 pub mod Filtered
 pub mod Renewed

@@ -2,6 +2,5 @@
 pub mod Rewrite
 pub mod RewriteSlots
 pub mod RewriteCopies
-pub mod Append
 pub mod Settle
 pub mod Update

@@ -11,17 +11,21 @@ use lib.Seq.{getD-set-same}
 use Rattle.lists.specs.Part.{Off, Skips}
 use Rattle.rules.specs.declared.Sizes.{Sizes}
 use Rattle.layout.specs.Places.{ownerOf, markOf, slotIn, entriesWords}
-use Rattle.layout.specs.Cells.{fieldAt, fieldOf, refsOf, pageOf, wordOf, pageAt, mostFields, field-page, field-word, field-once, field-in}
+use Rattle.layout.specs.Cells.{fieldAt, fieldOf, refsOf, pageOf, wordOf, cellOf, mostFields, field-page, field-word, field-once, field-in}
 use Rattle.layout.specs.Words.{Names}
 use Rattle.copy.specs.Marks.{copied}
 use Rattle.copy.specs.Forward.{forward}
 use Rattle.settle.specs.Rewrite.{forwarded, Rewritten, ref-same, rewritten-none, rewritten-one, rewritten-join, rewritten-like}
-use Rattle.remember.specs.Crossing.{crossesFrom}
+use Rattle.remember.specs.Crossing.{crossesFrom, crossesTo, crossesAt}
 use Rattle.settle.specs.RewriteSlots.{Field, Fields}
 use Rattle.settle.specs.RewriteCopies.{CopySlot, Wiring, Split, OnPage, OnPages, slot-less, slot-now, slot-then, slots-apart, pages-split, unmarked-none}
 use Rattle.remember.specs.Entries.{entered}
 use Rattle.remember.specs.Stretches.{Added, added-none, added-one, added-join, added-like}
-use Rattle.settle.specs.Append.{crossAt, crossLater, Crossing, AtMost, at-most-less, at-most-rest}
+use Rattle.remember.specs.Appending.{Crossing, crossing-in, added-read, AtMost, at-most-less, at-most-rest}
+
+-- the region into which the word at x crosses once it goes by the forward reference, if it is a slot
+abbrev pub crossLater : (p : Sizes) (W T : List ℕ) → ℕ → ℕ
+crossLater p W T x = crossesTo p T (cellOf x) (forwarded W (getD W x 0))
 
 -- the slots of P are rewritten; those that cross then stand from entry j up to entry i
 pub record Settled (p : Sizes) (n : ℕ) (P : ℕ → Type 0) (W M T : List ℕ) (j : ℕ) (W′ M′ : List ℕ) (i : ℕ) : Type 0 where
@@ -36,18 +40,6 @@ pub record Settling (p : Sizes) (n : ℕ) (P : ℕ → Type 0) (W M T : List ℕ
   pub space : AtMost (λ x. P x × (crossLater p W T x ≢ 0)) (n - j)
 
 -- ---- sets of slots
-
--- crossing slots, by words that read the same there
-crossing-read : {p : Sizes} {P : ℕ → Type 0} {T X Y : List ℕ} → ((x : ℕ) → P x → getD Y x 0 ≡ getD X x 0) → (x h : ℕ) → Crossing p P X T x h → Crossing p P Y T x h
-crossing-read {p} {P} {T} {X} {Y} same x h q =
-    record { at = q .at; region = q .region ∙ ap (λ (y : ℕ). crossesFrom p T (ownerOf p T (pageAt x)) y) (sym (same x (q .at))); kept = q .kept }
-
-added-read : {p : Sizes} {n i j : ℕ} {P : ℕ → Type 0} {T X Y M M′ : List ℕ} → ((x : ℕ) → P x → getD Y x 0 ≡ getD X x 0) → Added n (Crossing p P X T) i j M M′
-    → Added n (Crossing p P Y T) i j M M′
-added-read same a = added-like a (crossing-read (λ x q. sym (same x q))) (crossing-read same)
-
-pub crossing-in : {p : Sizes} {P Q : ℕ → Type 0} {W T : List ℕ} → ((x : ℕ) → P x → Q x) → (x h : ℕ) → Crossing p P W T x h → Crossing p Q W T x h
-crossing-in f x h q = record { at = f x (q .at); region = q .region; kept = q .kept }
 
 pub settled-none : (p : Sizes) (n : ℕ) (P : ℕ → Type 0) (W M T : List ℕ) (j : ℕ) → j ≤ n → ((x : ℕ) → P x → ⊥) → Settled p n P W M T j W M j
 settled-none p n P W M T j l none =
@@ -91,25 +83,23 @@ settling-next {p} {n} {j} {i} {P} {Q} {R} {W} {M} {T} {W′} {M′} s h fq fr ap
     same : (x : ℕ) → R x → forwarded W′ (getD W′ x 0) ≡ forwarded W (getD W x 0)
     same x q = ref-same (h .rewritten) (getD W′ x 0) ∙ ap (forwarded W) (h .rewritten .same x (λ m. apart x m q))
 
-    into : {v u : ℕ} (x : ℕ) → v ≡ u → crossesFrom p T (ownerOf p T (pageAt x)) v ≡ crossesFrom p T (ownerOf p T (pageAt x)) u
-    into x = ap (λ (y : ℕ). crossesFrom p T (ownerOf p T (pageAt x)) y)
+    into : {v u : ℕ} (x : ℕ) → v ≡ u → crossesTo p T (cellOf x) v ≡ crossesTo p T (cellOf x) u
+    into x = ap (crossesTo p T (cellOf x))
 
 -- ---- one slot: v is what it becomes, h the region into which it crosses then, else 0
 
 module _ {p : Sizes} {n x i : ℕ} {W M T : List ℕ} (s : Settling p n (λ y. y ≡ x) W M T i) (v h : ℕ) (ev : v ≡ forwarded W (getD W x 0))
-    (eh : h ≡ crossesFrom p T (ownerOf p T (pageAt x)) v) where
+    (eh : h ≡ crossesTo p T (cellOf x) v) where
   slot-fits : h ≢ 0 → i < n
   slot-fits ne =
       omega (
         arith,
-        s .space .few 1 (λ a. x) (λ a l. (refl, λ z. ne (eh ∙ ap (λ (y : ℕ). crossesFrom p T (ownerOf p T (pageAt x)) y) ev ∙ z))) (λ a b l m. absurd (let z : ⊥ = omega arith in z)),
+        s .space .few 1 (λ a. x) (λ a l. (refl, λ z. ne (eh ∙ ap (crossesTo p T (cellOf x)) ev ∙ z))) (λ a b l m. absurd (let z : ⊥ = omega arith in z)),
       )
 
   module _ (low : x < length W) (field : 2 ≤ wordOf x) where
-    crosses : (y : ℕ) → y ≡ x → crossAt p (set W x v) T y ≡ h
-    crosses y e =
-        ap (λ (z : ℕ). crossAt p (set W x v) T z) e
-        ∙ ap (λ (z : ℕ). crossesFrom p T (ownerOf p T (pageAt x)) z) (getD-set-same W x v 0 low) ∙ sym eh
+    crosses : (y : ℕ) → y ≡ x → crossesAt p (set W x v) T y ≡ h
+    crosses y e = ap (crossesAt p (set W x v) T) e ∙ ap (crossesTo p T (cellOf x)) (getD-set-same W x v 0 low) ∙ sym eh
 
     slot-comes : h ≢ 0 → Settled p n (λ y. y ≡ x) W M T i (set W x v) (entered n M i x h) (i + 1)
     slot-comes ne =
@@ -160,7 +150,7 @@ module _ {p : Sizes} {n d k f j i : ℕ} {W M T W′ M′ : List ℕ} (a : Field
 
   -- v is the forwarded reference, w the region of the cell, g the region into which it crosses, as the code has them
   module _ (v w g : ℕ) (ev : v ≡ forwarded W′ (fieldOf W′ d f)) (ew : w ≡ ownerOf p T (pageOf d)) (eg : g ≡ crossesFrom p T w v) where
-    eg′ : g ≡ crossesFrom p T (ownerOf p T (pageAt (fieldAt d f))) v
+    eg′ : g ≡ crossesTo p T (cellOf (fieldAt d f)) v
     eg′ = eg ∙ ap (λ (y : ℕ). crossesFrom p T y v) (ew ∙ ap (λ (y : ℕ). ownerOf p T y) (sym (field-page d f few)))
 
     low : fieldAt d f < length W′

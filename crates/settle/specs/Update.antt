@@ -13,12 +13,12 @@ use Rattle.layout.specs.Cells.{pageAt}
 use Rattle.layout.specs.Words.{Names}
 use Rattle.remember.specs.Crossing.{crossesFrom}
 use Rattle.remember.specs.Stretches.{Added, added-join, Closed}
+use Rattle.remember.specs.Appending.{Crossing, crossing-in, AtMost, at-most-rest}
 use Rattle.remember.specs.Renewed.{Renewed, renewed}
 use Rattle.remember.specs.Staying.{newRegion, Stays, Entries}
 use Rattle.settle.specs.Rewrite.{forwarded}
 use Rattle.settle.specs.RewriteCopies.{CopySlot, Wiring, OnPages, slot-now, slot-then}
-use Rattle.settle.specs.Append.{crossLater, Crossing, AtMost, at-most-rest}
-use Rattle.settle.specs.Settle.{Settled, Settling, crossing-in}
+use Rattle.settle.specs.Settle.{crossLater, Settled, Settling}
 
 abbrev pub Copies : (p : Sizes) (W T : List ℕ) → ℕ → Type 0
 Copies p W T = CopySlot p (OnPages (p .pages)) W T
