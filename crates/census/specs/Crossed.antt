@@ -25,7 +25,7 @@ use Rattle.layout.specs.Marks.{marked}
 use Rattle.layout.specs.Words.{Words, BeginsIn, ownerIn, homeIn, headIn, refCount, refsIn, graphOf, cellCount}
 use Rattle.promises.specs.Ends.{partOf}
 use Rattle.promises.specs.Whole.{WholeFor, IsRef}
-use Rattle.remember.specs.Crossing.{other, regionOf, crossTo}
+use Rattle.remember.specs.Crossing.{other, crossesFrom, crossesTo, crossTo}
 use Rattle.promises.specs.Crossings.{cross-in-sum}
 use Rattle.layout.specs.Objects.{begins-page, begins-true, begins-false, begins?, field-on, field-slot, slotsOf, slots-sum}
 use Rattle.remember.specs.Crosses.{slot-cross, cross-slot, other-yes, other-test}
@@ -171,7 +171,7 @@ module _ (s : Sizes) (w : Words) (k : WholeFor s w) (space : Room s (length (w .
     some z = used-alive s w k x u (sym stays ∙ z)
 
     -- a reference that does not cross now does not cross afterwards
-    quiet : (v : ℕ) → IsRef p (w .cells) (w .tables) v → other (ownerIn s w (pageOf x)) (regionOf p (w .tables) v) ≡ 0 → crossRef h x v ≡ 0
+    quiet : (v : ℕ) → IsRef p (w .cells) (w .tables) v → crossesTo p (w .tables) x v ≡ 0 → crossRef h x v ≡ 0
     quiet zero f z = refl
     quiet (suc y) f z =
         let v : BeginsIn s w y = ref-begins s (w .cells) (w .tables) (suc y) y f refl in
@@ -214,8 +214,8 @@ module _ (s : Sizes) (w : Words) (k : WholeFor s w) (space : Room s (length (w .
             ∙ ap (λ (a : ℕ). crossAfter p (w′ .cells) (w′ .tables) a (fieldOf (w′ .cells) x f)) (now ∙ sym stays)
         go (no b) =
             let ref = k .objects x u .references f l in
-            let z : other (ownerIn s w (pageOf x)) (regionOf p (w .tables) (fieldOf (w .cells) x f)) ≡ 0 =
-            ap (λ (q : ℕ). other (ownerIn s w q) (regionOf p (w .tables) (fieldOf (w .cells) x f))) (sym page)
+            let z : crossesTo p (w .tables) x (fieldOf (w .cells) x f) ≡ 0 =
+            ap (λ (q : ℕ). crossesFrom p (w .tables) (ownerIn s w q) (fieldOf (w .cells) x f)) (sym page)
             ∙ sym (slot-cross p (w .cells) (w .tables) (fieldAt x f) (field-slot p (w .cells) (w .tables) x f u inside l)) ∙ omega arith in
             still-no (fieldAt x f) b ∙ sym (quiet (fieldOf (w .cells) x f) ref z) ∙ cross-one x (fieldOf (w .cells) x f) ref (slot-alive x f some l)
             ∙ ap (crossAfter p (w′ .cells) (w′ .tables) (h .home x)) (sym (kept-field (M .kept) x f (omega (arith, refs-few s w k x u))))

@@ -18,18 +18,17 @@ use Rattle.rules.specs.Rules.{Regioned, graph, first}
 use Rattle.laws.specs.GraphLaws.{Alive}
 use Rattle.laws.specs.RulesLaws.{Sound, sound-after}
 use Rattle.layout.specs.declared.Kind.the-variants.{Reference}
-use Rattle.layout.specs.Places.{Room, ownerOf, entriesUsed, slotIn, rememberWords}
+use Rattle.layout.specs.Places.{Room, entriesUsed, slotIn, rememberWords}
 use Rattle.layout.specs.Cells.{headOf, fieldAt, fieldCount, kindAt, first-reference, field-high, pageOf}
 use Rattle.layout.specs.Objects.{begins-page}
 use Rattle.layout.specs.Words.{Words, words, heapOf, BeginsIn, refCount, Names}
-use Rattle.remember.specs.Crossing.{other, regionOf, crossesFrom}
+use Rattle.remember.specs.Crossing.{crossesTo}
 use Rattle.promises.specs.Whole.{WholeFor}
 use Rattle.promises.specs.Reading.{used-alive, whole-room}
 use Rattle.promises.specs.Agreed.{heap-stands, back}
 use Rattle.promises.specs.Here.{here-var}
 use Rattle.promises.specs.Questions.{did-asked, did-lacked, did-done, room-crossing}
 use Rattle.promises.specs.Changes.{withObject, withField, renamed-same}
-use Rattle.promises.specs.Slots.{crossesTo}
 use Rattle.remember.specs.Remembering.{Remembered, remembered-full}
 use Rattle.promises.specs.FrameReference.{storedWords, Followed, reference-named, reference-only, reference-stands, reference-fits, reference-full}
 use Rattle.commands.specs.declared.Decoded.the-variants.{Store}
@@ -59,11 +58,6 @@ pub record Stored (p : Sizes) (c m t : List ℕ) (x f v : ℕ) (c′ m′ : List
   pub entries : Remembered (p .entries) m (slotOf c x f) (crossesTo p t (x - 1) (getD c (slotOf c x f) 0)) (crossesTo p t (x - 1) v) m′ r
   pub stored : r ≡ 0 → c′ ≡ set c (slotOf c x f) v
   pub full : (r ≡ 0 → ⊥) → c′ ≡ c
-
--- b is the cell that x names, page its page and o its region, as the code has them
-pub cross-is : (p : Sizes) (t : List ℕ) (x v b page o : ℕ) {r : ℕ} → b ≡ x - 1 → page ≡ pageOf b → o ≡ ownerOf p t page → r ≡ crossesFrom p t o v → r ≡ crossesTo p t (x - 1) v
-unfolding crossesFrom
-cross-is p t x v b page o q e g h = h ∙ ap (λ (i : ℕ). other i (regionOf p t v)) (g ∙ ap (ownerOf p t) (e ∙ ap pageOf q))
 
 -- the slot, what it crossed into and what it will, as the code has them
 pub record Seen (p : Sizes) (c t : List ℕ) (x f v at was will : ℕ) : Type 0 where

@@ -25,7 +25,6 @@ use Rattle.ending.specs.Placing.{Placing, LiveSlot, placed-page, refs-pl
 module _ {s : Sizes} {w : Words} (whole : WholeFor s w) where
   -- a slot crosses into the region that its reference names, out of its page's
   crosses : (x : ℕ) (q : Slot s (w .cells) (w .tables) x) → crossTo s (w .cells) (w .tables) x ≡ crossesFrom s (w .tables) (ownerIn s w (pageOf (q .object))) (fieldOf (w .cells) (q .object) (q .field))
-  unfolding crossesFrom
   crosses x q =
       slot-cross s (w .cells) (w .tables) x q
       ∙ ap₂ (λ (p y : ℕ). crossesFrom s (w .tables) (ownerIn s w p) (getD (w .cells) y 0)) (slot-page s (w .cells) (w .tables) x q) (sym (q .at))

@@ -22,10 +22,10 @@ use Rattle.laws.specs.GraphLaws.{Refers, Holds, bySlot, byOwn, byOther}
 use Rattle.layout.specs.Places.{varOf, entriesUsed, slotIn, slotRegionIn, varCount}
 use Rattle.layout.specs.Cells.{fieldAt, fieldOf, pageOf, pageAt}
 use Rattle.layout.specs.Words.{Words, BeginsIn, ownerIn, homeIn, depthIn, refCount, refsIn, varsIn, graphOf}
-use Rattle.remember.specs.Crossing.{other, regionOf, crossTo}
+use Rattle.remember.specs.Crossing.{other, crossesFrom, crossTo}
 use Rattle.promises.specs.Whole.{WholeFor}
 use Rattle.layout.specs.Objects.{begins-page, field-on, slot-low, slot-page, field-slot}
-use Rattle.remember.specs.Crosses.{slot-cross, other-yes, crosses-by, crosses-into}
+use Rattle.remember.specs.Crosses.{slot-cross, other-yes, crosses-into}
 use Rattle.promises.specs.Slots.{region-of}
 use Rattle.promises.specs.Reading.{used-home, used-owned, used-alive, alive-used, cell-low, length-refs, getD-refs, length-vars, getD-vars, ref-room, ref-begins}
 use Rattle.mark.specs.Marks.{Ours, Leads, Leads.held, Leads.via, leads-last, listed-in, in-listed}
@@ -86,8 +86,7 @@ module _ (s : Sizes) (w : Words) (k : WholeFor s w) where
   entry-outside i l z =
       let q = slotIn (w .remember) i in
       let n = k .remember .entries .named i l in
-      let c = crosses-by s (w .tables) (ownerIn s w (pageAt q)) (getD (w .cells) q 0) refl (sym (n .right) ∙ slot-cross s (w .cells) (w .tables) q (entry-slot whole-holding i l)) in
-      crosses-into s (w .tables) (ownerIn s w (pageAt q)) (getD (w .cells) q 0) _ c (λ y. omega (arith, n .region)) .other (sym z)
+      crosses-into s (w .tables) (ownerIn s w (pageAt q)) (getD (w .cells) q 0) _ (sym (n .right) ∙ slot-cross s (w .cells) (w .tables) q (entry-slot whole-holding i l)) (λ y. omega (arith, n .region)) .other (sym z)
 
   -- and each slot outside r that points into it has an entry
   pub enters-entry : (r y f x : ℕ) → 1 < r → BeginsIn s w y → (ownerIn s w (pageOf y) ≡ r → ⊥) → f < refCount w y → fieldOf (w .cells) y f ≡ suc x
@@ -98,7 +97,7 @@ module _ (s : Sizes) (w : Words) (k : WholeFor s w) where
       let v = field-used y f x u l e in
       let c : crossTo s (w .cells) (w .tables) q ≡ r =
       slot-cross s (w .cells) (w .tables) q o
-      ∙ ap₂ (λ (a b : ℕ). other (ownerIn s w a) (regionOf s (w .tables) b)) (field-on s (w .cells) (w .tables) y u f (ref-room s w k y f u l)) e
+      ∙ ap₂ (λ (a b : ℕ). crossesFrom s (w .tables) (ownerIn s w a) b) (field-on s (w .cells) (w .tables) y u f (ref-room s w k y f u l)) e
       ∙ ap (other (ownerIn s w (pageOf y))) (region-of s (w .tables) x (begins-page _ _ _ _ v) ∙ own) ∙ sym (other-yes (ownerIn s w (pageOf y)) r pos (λ z. out (sym z))) in
       let i = k .remember .every q (slot-low s (w .cells) (w .tables) q o) (omega arith) in
       let n = k .remember .entries .named (i .0) (i .1) in

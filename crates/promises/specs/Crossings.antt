@@ -19,7 +19,7 @@ use Rattle.layout.specs.Cells.{fieldAt, fieldOf, roomFor, pageOf}
 use Rattle.layout.specs.Objects.{cellCount, begins?, begins-page, begins-true, begins-false, field-on, field-slot, slotsOf, slots-sum}
 use Rattle.layout.specs.Words.{Words, BeginsIn, ownerIn, headIn, refCount, refsIn, homeIn, graphOf}
 use Rattle.remember.specs.Crossing as cr
-use Rattle.remember.specs.Crossing.{other, regionOf}
+use Rattle.remember.specs.Crossing.{other, crossesFrom, crossesTo}
 use Rattle.remember.specs.Crosses.{slot-cross, no-cross, other-test}
 use Rattle.promises.specs.Whole.{WholeFor, IsRef}
 use Rattle.promises.specs.StandsFor.{StandsFor}
@@ -40,7 +40,7 @@ cross-in-sum g x (v ∷ vs) = cross-cons g x v vs ∙ ap (λ (n : ℕ). crossRef
 
 module _ (s : Sizes) (w : Words) (k : WholeFor s w) where
   module _ (c : ℕ) (u : BeginsIn s w c) where
-    pub ref-test : (v : ℕ) → IsRef s (w .cells) (w .tables) v → bit (ltb 0 (other (ownerIn s w (pageOf c)) (regionOf s (w .tables) v))) ≡ crossRef (graphOf s w) c v
+    pub ref-test : (v : ℕ) → IsRef s (w .cells) (w .tables) v → bit (ltb 0 (crossesTo s (w .tables) c v)) ≡ crossRef (graphOf s w) c v
     ref-test zero f = refl
     ref-test (suc y) f =
         let v : BeginsIn s w y = ref-begins s (w .cells) (w .tables) (suc y) y f refl in
@@ -54,7 +54,7 @@ module _ (s : Sizes) (w : Words) (k : WholeFor s w) where
     at-ref f m =
         let l : f < roomFor (headIn w c) = omega (arith, refs-room s w k c u) in
         ap (λ (n : ℕ). bit (ltb 0 n)) (slot-cross s (w .cells) (w .tables) (fieldAt c f) (field-slot s (w .cells) (w .tables) c f u l m))
-        ∙ ap (λ (p : ℕ). bit (ltb 0 (other (ownerIn s w p) (regionOf s (w .tables) (fieldOf (w .cells) c f))))) (field-on s (w .cells) (w .tables) c u f l)
+        ∙ ap (λ (p : ℕ). bit (ltb 0 (crossesFrom s (w .tables) (ownerIn s w p) (fieldOf (w .cells) c f)))) (field-on s (w .cells) (w .tables) c u f l)
         ∙ ref-test (fieldOf (w .cells) c f) (k .objects c u .references f m) ∙ ap (crossRef (graphOf s w) c) (sym (getD-refs w c f m))
 
   -- what the words of an object count

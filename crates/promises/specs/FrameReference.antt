@@ -24,7 +24,7 @@ use Rattle.layout.specs.Places.{cellsWords, entriesUsed, slotIn}
 use Rattle.layout.specs.Cells.{fieldAt, fieldOf, allFields, roomFor, firstField, first-reference, first-number, kind-among, fields-room}
 use Rattle.layout.specs.Objects.{field-on, Slot, field-slot}
 use Rattle.layout.specs.Words.{Words, BeginsIn, headIn, ownerIn, refCount}
-use Rattle.remember.specs.Crossing.{other, regionOf, crossTo}
+use Rattle.remember.specs.Crossing.{crossesFrom, crossesTo, crossTo}
 use Rattle.promises.specs.Whole.{WholeFor, IsRef}
 use Rattle.promises.specs.StandsFor.{StandsFor}
 use Rattle.promises.specs.Agreed.{cell-used}
@@ -33,7 +33,7 @@ use Rattle.promises.specs.Crossings.{ref-test, heap-entries}
 use Rattle.promises.specs.Changes.{withObject, withField}
 use Rattle.promises.specs.Areas.{fieldWords, entryWords, Only}
 use Rattle.remember.specs.Entries.{Edited}
-use Rattle.promises.specs.Slots.{crossesTo, cross-stored, cross-elsewhere}
+use Rattle.promises.specs.Slots.{cross-stored, cross-elsewhere}
 use Rattle.remember.specs.Crosses.{slot-cross}
 use Rattle.remember.specs.Remembering.{Remembered, NoRoom, remembered-exact, remembered-edited}
 use Rattle.promises.specs.FieldStore.{field-room, stored-only, field-whole, object-stands, fields-kept, fields-set}
@@ -74,12 +74,12 @@ module _ (s : Sizes) (w : Words) (k : WholeFor s w) (y f v : ℕ) (u : BeginsIn 
   before : crossTo s (w .cells) (w .tables) at ≡ crossedTo s w y f v
   before =
       slot-cross s (w .cells) (w .tables) at reference-slot
-      ∙ ap (λ (p : ℕ). other (ownerIn s w p) (regionOf s (w .tables) (getD (w .cells) at 0))) (field-on s (w .cells) (w .tables) y u f few)
+      ∙ ap (λ (p : ℕ). crossesFrom s (w .tables) (ownerIn s w p) (getD (w .cells) at 0)) (field-on s (w .cells) (w .tables) y u f few)
 
   after : crossTo s (set (w .cells) at v) (w .tables) at ≡ willCross s w y f v
   after =
       cross-stored s (w .cells) (w .tables) at v reference-slot (omega (arith, room, k .sized .cells))
-      ∙ ap (λ (p : ℕ). other (ownerIn s w p) (regionOf s (w .tables) v)) (field-on s (w .cells) (w .tables) y u f few)
+      ∙ ap (λ (p : ℕ). crossesFrom s (w .tables) (ownerIn s w p) v) (field-on s (w .cells) (w .tables) y u f few)
 
   -- a slot that crosses has its entry
   pub reference-named : 0 < crossedTo s w y f v → (i : ℕ) × (i < entriesUsed (w .remember)) × (slotIn (w .remember) i ≡ at)

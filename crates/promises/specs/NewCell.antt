@@ -14,13 +14,13 @@ use Rattle.layout.specs.declared.Kind.the-variants.{Reference}
 use Rattle.layout.specs.Cells.{headAt, headOf, workAt, workOf, fieldAt, fieldOf, fieldCount, headWord, roomFor, mostFields, Formed, kind-among, fields-room, head-formed, pageOf, cellOf, cellNamed}
 use Rattle.layout.specs.Objects.{begins-page, begins-used, used-begins, begins-same, Covers, covers-low, head-not-new, work-not-new, field-not-new, Slot, slot-page}
 use Rattle.layout.specs.Words.{Words, BeginsIn}
-use Rattle.remember.specs.Crossing.{other, regionOf, crossTo}
+use Rattle.remember.specs.Crossing.{other, regionOf, crossesTo, crossesAt, crossTo}
 use Rattle.promises.specs.Whole.{WholeFor, Open, IsRef, ObjectWhole}
 use Rattle.promises.specs.Changes.{withCells}
 use Rattle.promises.specs.Areas.{variableWords, ownerWords, usedWords, countWords, workWords, fieldWords, Only, only-trans, cells-only}
 use Rattle.promises.specs.Frames.{sized-frame, depths-frame, marks-frame, object-frame}
 use Rattle.remember.specs.Entries.{exact-everywhere}
-use Rattle.promises.specs.Slots.{crossesTo, region-of, slot-stays, cross-same}
+use Rattle.promises.specs.Slots.{region-of, slot-stays, cross-same}
 use Rattle.promises.specs.Regular.{whole-regular}
 use Rattle.promises.specs.TakeCell.{Took, took-only, took-used, took-unused, still-used, used-split, owner-used, took-regular, took-pages}
 
@@ -98,7 +98,7 @@ module _ (s : Sizes) (w : Words) (k : WholeFor s w) (g cell b d : ℕ) (t′ c�
       let u : BeginsIn s w x = ref-begins s c t (suc x) x r refl in
       region-of s t′ x (begins-page s c′ t′ x (still-begins x u)) ∙ owner-still x u ∙ sym (region-of s t x (begins-page s c t x u))
 
-  slot-kept : (q : ℕ) → Slot s c t q → Slot s c′ t′ q × (crossesTo s t′ (cellOf q) (getD c′ q 0) ≡ crossesTo s t (cellOf q) (getD c q 0))
+  slot-kept : (q : ℕ) → Slot s c t q → Slot s c′ t′ q × (crossesAt s c′ t′ q ≡ crossesAt s c t q)
   slot-kept q o =
       let u = o .begins in
       let p = slot-page s c t q o in
@@ -108,7 +108,7 @@ module _ (s : Sizes) (w : Words) (k : WholeFor s w) (g cell b d : ℕ) (t′ c�
         ap₂ other (ap (ownerOf s t′) p ∙ owner-still (o .object) u ∙ sym (ap (ownerOf s t) p)) (ap (regionOf s t′) v ∙ region-kept (getD c q 0) r),
       )
 
-  slot-new : (q : ℕ) → Slot s c′ t′ q → Slot s c t q ⊎ (crossesTo s t′ (cellOf q) (getD c′ q 0) ≡ 0)
+  slot-new : (q : ℕ) → Slot s c′ t′ q → Slot s c t q ⊎ (crossesAt s c′ t′ q ≡ 0)
   slot-new q o =
       ⊎-elim
       (λ e.

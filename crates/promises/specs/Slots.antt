@@ -15,13 +15,9 @@ use Rattle.layout.specs.Places.{ownerOf, usedOf}
 use Rattle.layout.specs.Cells.{headAt, headOf, fieldCount, roomFor, pageOf, pageAt, cellOf}
 use Rattle.layout.specs.declared.Kind.the-variants.{Reference}
 use Rattle.layout.specs.Objects.{Begins, begins-page, begins-same, begins-back, field-not-head, Slot, slot?, slot-on}
-use Rattle.remember.specs.Crossing.{other, regionOf, crossTo}
+use Rattle.remember.specs.Crossing.{other, regionOf, crossesTo, crossesAt, crossTo}
 use Rattle.remember.specs.Crosses.{slot-cross, no-cross, region-there}
 use Rattle.remember.specs.Entries.{Elsewhere}
-
--- the region that reference x, in a slot of the object at a cell, crosses into; else 0
-abbrev pub crossesTo : Sizes → List ℕ → ℕ → ℕ → ℕ
-crossesTo p t cell x = other (ownerOf p t (pageOf cell)) (regionOf p t x)
 
 -- the region of a reference to a cell of the heap
 pub region-of : (p : Sizes) (t : List ℕ) (c : ℕ) → pageOf c < p .pages → regionOf p t (suc c) ≡ ownerOf p t (pageOf c)
@@ -42,8 +38,8 @@ slot-stays {c′ = c′} o b e =
 -- ---- the same slots cross into the same regions
 
 module _ (p : Sizes) (c t c′ t′ : List ℕ) (q : ℕ) where
-  pub cross-same : (Slot p c t q → Slot p c′ t′ q × (crossesTo p t′ (cellOf q) (getD c′ q 0) ≡ crossesTo p t (cellOf q) (getD c q 0)))
-      → (Slot p c′ t′ q → Slot p c t q ⊎ (crossesTo p t′ (cellOf q) (getD c′ q 0) ≡ 0)) → crossTo p c′ t′ q ≡ crossTo p c t q
+  pub cross-same : (Slot p c t q → Slot p c′ t′ q × (crossesAt p c′ t′ q ≡ crossesAt p c t q))
+      → (Slot p c′ t′ q → Slot p c t q ⊎ (crossesAt p c′ t′ q ≡ 0)) → crossTo p c′ t′ q ≡ crossTo p c t q
   cross-same kept new =
       by-cases (slot? p c t q) (λ o. let k = kept o in slot-cross p c′ t′ q (k .0) ∙ k .1 ∙ sym (slot-cross p c t q o))
       (λ n. by-cases (slot? p c′ t′ q) (λ o. slot-cross p c′ t′ q o ∙ ⊎-elim (λ x. absurd (n x)) (λ z. z) (new o)) (no-cross p c′ t′ q) ∙ sym (no-cross p c t q n))

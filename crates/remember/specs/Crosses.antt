@@ -12,19 +12,19 @@ use lib.ListN.{getD}
 use Rattle.lists.specs.Counting.{bit}
 use Rattle.rules.specs.declared.Sizes.{Sizes}
 use Rattle.layout.specs.Places.{cellsWords, ownerOf, usedOf}
-use Rattle.layout.specs.Cells.{headOf, IsReference, cellNamed, pageOf, placeOf, cellOf, wordOf, pageAt}
+use Rattle.layout.specs.Cells.{headOf, IsReference, cellNamed, pageOf, placeOf, cellOf, wordOf}
 use Rattle.layout.specs.Objects.{Slot, slot?, slot-true, no-slot, slot-word, word-slot}
-use Rattle.remember.specs.Crossing.{other, regionOf, crossesFrom, crossTo}
+use Rattle.remember.specs.Crossing.{other, regionOf, crossesFrom, crossesAt, crossTo}
 
 module _ (p : Sizes) (c t : List ℕ) (at : ℕ) where
-  pub slot-cross : Slot p c t at → crossTo p c t at ≡ other (ownerOf p t (pageAt at)) (regionOf p t (getD c at 0))
+  pub slot-cross : Slot p c t at → crossTo p c t at ≡ crossesAt p c t at
   unfolding crossTo
-  slot-cross o = ap (λ (b : Bool). cond b (other (ownerOf p t (pageAt at)) (regionOf p t (getD c at 0))) 0) (slot-true p c t at o)
+  slot-cross o = ap (λ (b : Bool). cond b (crossesAt p c t at) 0) (slot-true p c t at o)
 
   -- nothing else crosses
   pub no-cross : (Slot p c t at → ⊥) → crossTo p c t at ≡ 0
   unfolding crossTo
-  no-cross n = ap (λ (b : Bool). cond b (other (ownerOf p t (pageAt at)) (regionOf p t (getD c at 0))) 0) (no-slot p c t at n)
+  no-cross n = ap (λ (b : Bool). cond b (crossesAt p c t at) 0) (no-slot p c t at n)
 
   pub cross-slot : 0 < crossTo p c t at → Slot p c t at
   cross-slot l = go (slot? p c t at)
@@ -90,7 +90,6 @@ other-test w h pos =
 module _ (p : Sizes) (t : List ℕ) (w x : ℕ) where
   -- g is the region that the code found there
   pub crosses-by : {g r : ℕ} → g ≡ regionOf p t x → r ≡ other w g → r ≡ crossesFrom p t w x
-  unfolding crossesFrom
   crosses-by e f = f ∙ ap (other w) e
 
   pub crosses-null : x ≡ 0 → 0 ≡ crossesFrom p t w x

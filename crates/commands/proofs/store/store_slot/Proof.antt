@@ -1,10 +1,12 @@
 -- The table follows first; where it has no room nothing is stored.
 use native.Mathlib.Omega.{arith}
-use Prim.Native.Nat.{_-_}
-use mathlib.Core.Path.{sym, ap, subst, _∙_}
+use Prim.Native.Nat.{ℕ, _-_}
+use mathlib.Core.Path.{_≡_, sym, ap, ap₂, subst, _∙_}
 use Rattle.layout.specs.Words.{Names}
-use Rattle.promises.specs.Slots.{crossesTo}
-use Rattle.commands.specs.Storing.{Seen, cross-is, slot-few, slot-entry, stored-full, stored-done}
+use Rattle.layout.specs.Places.{ownerOf}
+use Rattle.layout.specs.Cells.{pageOf}
+use Rattle.remember.specs.Crossing.{crossesFrom}
+use Rattle.commands.specs.Storing.{Seen, slot-few, slot-entry, stored-full, stored-done}
 use borrow.Author.Needs.{needs}
 use Rattle.commands.proofs.store.store_slot.Statement.{statement}
 use Rattle.commands.proofs.store.store_slot.Tie as tie
@@ -42,10 +44,12 @@ seen c =
     let page = c .before .before .before .before .before .before .before .page-of in
     let owner = c .before .before .before .before .before .before .owner in
     let old = c .before .before .before .before .read-field in
+    let home : owner .result ≡ ownerOf (a .p) (a .tables .now) (pageOf (a .x - 1)) =
+    owner .ensures ∙ ap (ownerOf (a .p) (a .tables .now)) (page .ensures ∙ ap pageOf (cell .ensures)) in
     record {
       slot = c .field-position .ensures;
-      before = cross-is (a .p) (a .tables .now) (a .x) (old .result) (cell .result) (page .result) (owner .result) (cell .ensures) (page .ensures) (owner .ensures) (c .before .before .before .cross .ensures) ∙ ap (crossesTo (a .p) (a .tables .now) (a .x - 1)) (old .ensures);
-      after = cross-is (a .p) (a .tables .now) (a .x) (a .v) (cell .result) (page .result) (owner .result) (cell .ensures) (page .ensures) (owner .ensures) (c .before .before .cross2 .ensures);
+      before = c .before .before .before .cross .ensures ∙ ap₂ (crossesFrom (a .p) (a .tables .now)) home (old .ensures);
+      after = c .before .before .cross2 .ensures ∙ ap (λ (g : ℕ). crossesFrom (a .p) (a .tables .now) g (a .v)) home;
     }
 
 remember-slot-requires : tie.Need-remember-slot-requires
