@@ -1,21 +1,17 @@
 -- The remember table after an end: the entries that stay, then the crossing slots of the copies, then zeros.
-use mathlib.Core.Path.{_≡_, sym, ap, _∙_, subst}
+use mathlib.Core.Path.{_≡_, sym, subst}
 use mathlib.Core.Logic.{_≢_, _⊎_, inl, inr, ⊎-elim}
-use mathlib.Core.Bool.{cond}
 use mathlib.Core.List.{List}
 use Prim.Native.Nat.{ℕ, _-_, _≤_, _<_}
 use native.Mathlib.Omega.{arith}
-use lib.Dec.{eqb}
 use lib.ListN.{getD}
 use Rattle.rules.specs.declared.Sizes.{Sizes}
-use Rattle.layout.specs.Places.{ownerOf, slotIn, slotRegionIn}
-use Rattle.layout.specs.Cells.{pageAt}
+use Rattle.layout.specs.Places.{slotIn, slotRegionIn}
 use Rattle.layout.specs.Words.{Names}
-use Rattle.remember.specs.Crossing.{crossesFrom}
 use Rattle.remember.specs.Stretches.{Added, added-join, Closed}
 use Rattle.remember.specs.Appending.{Crossing, crossing-in, AtMost, at-most-rest}
 use Rattle.remember.specs.Renewed.{Renewed, renewed}
-use Rattle.remember.specs.Staying.{newRegion, Stays, Entries}
+use Rattle.remember.specs.Staying.{Stays, Entries, stays-read}
 use Rattle.settle.specs.Rewrite.{forwarded}
 use Rattle.settle.specs.RewriteCopies.{CopySlot, Wiring, OnPages, slot-now, slot-then}
 use Rattle.settle.specs.Settle.{crossLater, Settled, Settling}
@@ -42,23 +38,6 @@ Entry p r n m W M T x h = Stays p r n W M T m x h ⊎ Crossing p (Copies p W T) 
 
 abbrev pub Updated : (p : Sizes) (r n m : ℕ) (W M T M′ : List ℕ) → Type 0
 Updated p r n m W M T M′ = Renewed (Entry p r n m W M T) n M M′
-
--- the entries that stay, by cells that read the same at their slots
-stays-read : {n m : ℕ} {M : List ℕ} (p : Sizes) (r : ℕ) (W W′ T : List ℕ) → ((i : ℕ) → i < m → getD W′ (slotIn M i) 0 ≡ getD W (slotIn M i) 0)
-    → (x h : ℕ) → Stays p r n W M T m x h → Stays p r n W′ M T m x h
-unfolding newRegion
-stays-read {n} {M = M} p r W W′ T same x h q =
-    let s : ℕ = slotIn M (q .entry) in
-    let g : ℕ = slotRegionIn n M (q .entry) in
-    record {
-      entry = q .entry;
-      low = q .low;
-      slot = q .slot;
-      region =
-          q .region
-          ∙ ap (λ (y : ℕ). cond (eqb (ownerOf p T (pageAt s)) r) 0 (cond (eqb g r) (crossesFrom p T (ownerOf p T (pageAt s)) y) g)) (sym (same (q .entry) (q .low)));
-      kept = q .kept;
-    }
 
 module _ {p : Sizes} {r n m j : ℕ} {W M T M₁ : List ℕ} (u : Settles p r n m W M T) (a : Added n (Stays p r n W M T m) 0 j M M₁) where
   stays-apart : (x h : ℕ) → Stays p r n W M T m x h → Copies p W T x → ⊥

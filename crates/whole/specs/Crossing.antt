@@ -12,7 +12,7 @@ use Rattle.rules.specs.declared.Sizes.{Sizes}
 use Rattle.layout.specs.Places.{cellsWords, ownerOf, usedOf}
 use Rattle.layout.specs.Cells.{headAt, headOf, fieldAt, fieldOf, refsOf, mostFields, roomFor, room-most, field-end, pageCells, pageOf, pageAt, cellOn, page-on}
 use Rattle.layout.specs.Objects.{Begins, begins-there, field-on, Slot, field-slot, none-before, none-after, none-past}
-use Rattle.remember.specs.Crossing.{other, regionOf, crossTo, crossing}
+use Rattle.remember.specs.Crossing.{crossesFrom, crossTo, crossing}
 use Rattle.remember.specs.Crosses.{slot-cross, no-cross}
 use Rattle.whole.specs.Cells.{CellsWhole}
 
@@ -41,15 +41,15 @@ module _ (p : Sizes) (c t : List ℕ) where
   to-next-page page place h i =
       count-to (crossing p c t) (headAt (cellOn page place)) (headAt (cellOn (page + 1) 0)) (omega arith) (λ q l m. none q (none-past p c t q page place h i l m))
 
-  -- the slot of field f: o, x, g and r are its owner, its word, the region there and whether it crosses, as the code read them
-  pub crosses-at : (page place cell f o x g r : ℕ) {used refs : ℕ} → cell ≡ cellOn page place → o ≡ ownerOf p t page → x ≡ fieldOf c cell f
-      → g ≡ regionOf p t x → r ≡ other o g → used ≡ usedOf p t page → refs ≡ refsOf c cell → page < p .pages → used ≤ pageCells → refs ≤ mostFields → place < used → f < refs
+  -- the slot of field f: o, x and r are its owner, its word and the region that it crosses into, as the code read them
+  pub crosses-at : (page place cell f o x r : ℕ) {used refs : ℕ} → cell ≡ cellOn page place → o ≡ ownerOf p t page → x ≡ fieldOf c cell f
+      → r ≡ crossesFrom p t o x → used ≡ usedOf p t page → refs ≡ refsOf c cell → page < p .pages → used ≤ pageCells → refs ≤ mostFields → place < used → f < refs
       → r ≡ crossTo p c t (fieldAt cell f)
-  crosses-at page place cell f o x g r {used} {refs} i e q h z u v w a n l m =
+  crosses-at page place cell f o x r {used} {refs} i e q z u v w a n l m =
       let b : Begins p c t cell = subst (Begins p c t) (sym i) (begins-there p c t page place w (omega arith) (omega arith)) in
       let room : f < roomFor (headOf c cell) = omega (arith, room-most (headOf c cell)) in
       let at : pageAt (fieldAt cell f) ≡ page = field-on p c t cell b f room ∙ ap pageOf i ∙ page-on page place (omega arith) in
-      z ∙ ap₂ other (e ∙ ap (ownerOf p t) (sym at)) (h ∙ ap (regionOf p t) q)
+      z ∙ ap₂ (crossesFrom p t) (e ∙ ap (ownerOf p t) (sym at)) q
       ∙ sym (slot-cross p c t (fieldAt cell f) (field-slot p c t cell f b room (omega arith)))
 
   next : (k f : ℕ) → crossingTo p c t (fieldAt k (f + 1)) ≡ crossingTo p c t (fieldAt k f + 1)

@@ -10,8 +10,7 @@ ghost use Rattle.whole.specs.Cells.{ZeroFrom};
 ghost use Rattle.whole.specs.Crossing.{CellsCross};
 use crate::variables::is_ref;
 use layout::Kind;
-use remember::crossing::other_region;
-use remember::crossing::region_named;
+use remember::crossing::cross;
 use rules::Sizes;
 
 // Whether a cell's fields are zero, the first few left out. Two are read in a turn.
@@ -74,7 +73,7 @@ pub fn cells_whole(p: Sizes, cells: &[u32], tables: &[u32], entries: usize) -> b
                     ok = false;
                     break 'pages;
                 }
-                if 0 < other_region(owner, region_named(p, tables, x)) {
+                if 0 < cross(p, tables, owner, x) {
                     n += 1;
                     if entries < n {
                         ok = false;

@@ -112,14 +112,11 @@ field-requires c κs =
 is-ref-requires : tie.Need-is-ref-requires Inv-fields μ-fields Inv-cells μ-cells Inv-pages μ-pages
 is-ref-requires c κs = c .before .before .before .before .before .before .before .before .before .before .before .before .before .before .before .before .before .before .before .pre .0
 
-region-named-requires : tie.Need-region-named-requires Inv-fields μ-fields Inv-cells μ-cells Inv-pages μ-pages
-region-named-requires c κs = (λ n. begins-page _ _ _ _ (c .before .is-ref .ensures .0 (not-false _ (c .if3 .left)) (omega arith)), c .before .before .before .before .before .before .before .before .before .before .before .before .before .before .before .before .before .before .before .before .before .pre .0)
-
-other-region-requires : tie.Need-other-region-requires Inv-fields μ-fields Inv-cells μ-cells Inv-pages μ-pages
-other-region-requires c κs = search needs
+cross-requires : tie.Need-cross-requires Inv-fields μ-fields Inv-cells μ-cells Inv-pages μ-pages
+cross-requires c κs = (λ n. begins-page _ _ _ _ (c .before .is-ref .ensures .0 (not-false _ (c .if3 .left)) (omega arith)), c .before .before .before .before .before .before .before .before .before .before .before .before .before .before .before .before .before .before .before .before .before .pre .0)
 
 add-n : tie.Need-add-n Inv-fields μ-fields Inv-cells μ-cells Inv-pages μ-pages
-add-n c = omega (arith, c .before .before .before .before .before .before .before .fields .inv .5, c .before .before .before .before .before .before .before .before .before .before .before .before .before .before .before .before .before .before .before .before .before .before .before .before .pre .1 .1 .1)
+add-n c = omega (arith, c .before .before .before .before .before .before .fields .inv .5, c .before .before .before .before .before .before .before .before .before .before .before .before .before .before .before .before .before .before .before .before .before .before .before .pre .1 .1 .1)
 
 add-f : tie.Need-add-f Inv-fields μ-fields Inv-cells μ-cells Inv-pages μ-pages
 add-f c = omega arith
@@ -129,23 +126,22 @@ fields-less c = omega arith
 
 fields-again : tie.Need-fields-again Inv-fields μ-fields Inv-cells μ-cells Inv-pages μ-pages
 fields-again c =
-    let other-region = c .before .other-region in
-    let args = c .before .before .before .before .before .before .before .before .before .before .before .before .before .before .before .before .before .before .before .before .before .before .before .before .args in
-    let cell-on = c .before .before .before .before .before .before .before .before .before .before .before .before .before .before .cell-on in
-    let fields = c .before .before .before .before .before .before .before .fields in
-    let cells = c .before .before .before .before .before .before .before .before .before .before .before .before .before .before .before .before .cells in
-    let owner = c .before .before .before .before .before .before .before .before .before .before .before .before .before .before .before .before .before .before .before .owner in
-    let field = c .before .before .before .before .before .field in
-    let region-named = c .before .before .region-named in
-    let here : other-region .result ≡ crossTo (args .p) (now (args .cells)) (now (args .tables)) (fieldAt (cell-on .result) (fields .f))
-    = crosses-at (args .p) (now (args .cells)) (now (args .tables)) (c .before .before .before .before .before .before .before .before .before .before .before .before .before .before .before .before .before .before .before .before .before .pages .page) (cells .place)
-    (cell-on .result) (fields .f) (owner .result) (field .result) (region-named .result) (other-region .result)
-    (cell-on .ensures) (owner .ensures) (field .ensures) (region-named .ensures) (other-region .ensures) (c .before .before .before .before .before .before .before .before .before .before .before .before .before .before .before .before .before .wide .ensures ∙ c .before .before .before .before .before .before .before .before .before .before .before .before .before .before .before .before .before .before .used .ensures) (c .before .before .before .before .before .before .before .before .before .before .before .before .field-count .ensures ∙ ap (fieldCount Reference) (c .before .before .before .before .before .before .before .before .before .before .before .before .before .head .ensures)) (c .before .before .before .before .before .before .before .before .before .before .before .before .before .before .before .before .before .before .before .before .pages-test .taken) (cells .inv .2) (fields .inv .3) (omega (arith, c .before .before .before .before .before .before .before .before .before .before .before .before .before .before .before .cells-test .taken)) (c .before .before .before .before .before .before .fields-test .taken) in (
+    let cross = c .before .cross in
+    let args = c .before .before .before .before .before .before .before .before .before .before .before .before .before .before .before .before .before .before .before .before .before .before .before .args in
+    let cell-on = c .before .before .before .before .before .before .before .before .before .before .before .before .before .cell-on in
+    let fields = c .before .before .before .before .before .before .fields in
+    let cells = c .before .before .before .before .before .before .before .before .before .before .before .before .before .before .before .cells in
+    let owner = c .before .before .before .before .before .before .before .before .before .before .before .before .before .before .before .before .before .before .owner in
+    let field = c .before .before .before .before .field in
+    let here : cross .result ≡ crossTo (args .p) (now (args .cells)) (now (args .tables)) (fieldAt (cell-on .result) (fields .f))
+    = crosses-at (args .p) (now (args .cells)) (now (args .tables)) (c .before .before .before .before .before .before .before .before .before .before .before .before .before .before .before .before .before .before .before .before .pages .page) (cells .place)
+    (cell-on .result) (fields .f) (owner .result) (field .result) (cross .result)
+    (cell-on .ensures) (owner .ensures) (field .ensures) (cross .ensures) (c .before .before .before .before .before .before .before .before .before .before .before .before .before .before .before .before .wide .ensures ∙ c .before .before .before .before .before .before .before .before .before .before .before .before .before .before .before .before .before .used .ensures) (c .before .before .before .before .before .before .before .before .before .before .before .field-count .ensures ∙ ap (fieldCount Reference) (c .before .before .before .before .before .before .before .before .before .before .before .before .head .ensures)) (c .before .before .before .before .before .before .before .before .before .before .before .before .before .before .before .before .before .before .before .pages-test .taken) (cells .inv .2) (fields .inv .3) (omega (arith, c .before .before .before .before .before .before .before .before .before .before .before .before .before .before .cells-test .taken)) (c .before .before .before .before .before .fields-test .taken) in (
       fields .inv .0,
       omega arith,
       fields .inv .2,
       fields .inv .3,
-      below-more _ _ (fields .inv .4) (subst (IsRef (args .p) (now (args .cells)) (now (args .tables))) (field .ensures) (c .before .before .before .before .is-ref .ensures .0 (not-false _ (c .before .before .before .if3 .left)))),
+      below-more _ _ (fields .inv .4) (subst (IsRef (args .p) (now (args .cells)) (now (args .tables))) (field .ensures) (c .before .before .before .is-ref .ensures .0 (not-false _ (c .before .before .if3 .left)))),
       ⊎-elim (λ w. omega (arith, w .1 .left, w .2)) (λ w. omega (arith, w .1, fields .inv .5)) (c .if4 .came),
       ⊎-elim
           (λ w. w .2 ∙ ap (λ (k : ℕ). k + 1) (fields .inv .6) ∙ sym (crosses-yes (args .p) (now (args .cells)) (now (args .tables)) (cell-on .result) (fields .f) here (omega (arith, w .0 .taken))))
@@ -220,9 +216,9 @@ returns c =
     (λ w. said-no _ (w .16 .ensures) (not-true _ (w .17 .taken)) (field-is-ref ((reached (h .whole) (w .6 .ensures) (w .3 .ensures ∙ w .2 .ensures) (w .0 .taken) (w .4 .inv .2) (w .5 .taken)) .object) (w .8 .ensures ∙ ap (fieldCount Reference) (w .7 .ensures)) (w .15 .ensures) (w .14 .taken)))
     (⊎-elim
     (λ w. too-many (args .p) (now (args .cells)) (now (args .tables)) (w .6 .result) (w .13 .f) (w .13 .inv .6)
-    (crosses-at (args .p) (now (args .cells)) (now (args .tables)) (pages .page) (w .4 .place) (w .6 .result) (w .13 .f) (w .1 .result) (w .15 .result) (w .18 .result) (w .19 .result)
-    (w .6 .ensures) (w .1 .ensures) (w .15 .ensures) (w .18 .ensures) (w .19 .ensures) (w .3 .ensures ∙ w .2 .ensures) (w .8 .ensures ∙ ap (fieldCount Reference) (w .7 .ensures)) (w .0 .taken) (w .4 .inv .2) (w .13 .inv .3) (w .5 .taken) (w .14 .taken))
-    (w .20 .taken) (w .21 .taken) (omega (arith, w .6 .ensures, w .0 .taken, w .4 .inv .2, w .5 .taken, w .13 .inv .3, w .14 .taken)) h)
+    (crosses-at (args .p) (now (args .cells)) (now (args .tables)) (pages .page) (w .4 .place) (w .6 .result) (w .13 .f) (w .1 .result) (w .15 .result) (w .18 .result)
+    (w .6 .ensures) (w .1 .ensures) (w .15 .ensures) (w .18 .ensures) (w .3 .ensures ∙ w .2 .ensures) (w .8 .ensures ∙ ap (fieldCount Reference) (w .7 .ensures)) (w .0 .taken) (w .4 .inv .2) (w .13 .inv .3) (w .5 .taken) (w .14 .taken))
+    (w .19 .taken) (w .20 .taken) (omega (arith, w .6 .ensures, w .0 .taken, w .4 .inv .2, w .5 .taken, w .13 .inv .3, w .14 .taken)) h)
     (λ w. said-no _ (w .15 .ensures) (not-true _ (w .16 .taken)) (zero-rest (w .8 .ensures ∙ ap (fieldCount Reference) (w .7 .ensures)) (w .9 .ensures ∙ ap (fieldCount Number) (w .7 .ensures)) ((reached (h .whole) (w .6 .ensures) (w .3 .ensures ∙ w .2 .ensures) (w .0 .taken) (w .4 .inv .2) (w .5 .taken)) .object)))))))
     (pages-test .came))
 
@@ -242,7 +238,7 @@ returns-2 c =
     (λ w. absurd (true-not-false (sym (w .13) ∙ yes)))
     (⊎-elim
     (λ w. absurd (true-not-false (sym (w .18) ∙ yes)))
-    (⊎-elim (λ w. absurd (true-not-false (sym (w .22) ∙ yes))) (λ w. absurd (true-not-false (sym (w .17) ∙ yes)))))))
+    (⊎-elim (λ w. absurd (true-not-false (sym (w .21) ∙ yes))) (λ w. absurd (true-not-false (sym (w .17) ∙ yes)))))))
     (pages-test .came)
 
 pub cells-whole-spec : {M : Type 1} → statement M
@@ -269,8 +265,7 @@ cells-whole-spec =
     fields-holds
     field-requires
     is-ref-requires
-    region-named-requires
-    other-region-requires
+    cross-requires
     add-n
     add-f
     fields-less
