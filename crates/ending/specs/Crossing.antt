@@ -140,7 +140,6 @@ module _ {s : Sizes} {w : Words} {e : Part} {w′ : Words} {cell : ℕ → ℕ} 
 
   module _ {w″ : Words} (k : Placing s w e w″ cell) (same : (c : ℕ) → Lives s w e c → ownerIn s w″ (pageOf (cell c)) ≡ ownerIn s w′ (pageOf (cell c))) where
     crosses-same : (c f : ℕ) → Lives s w e c → f < refCount w c → crossThen s w w″ cell c f ≡ crossThen s w w′ cell c f
-    unfolding crossesFrom
     crosses-same c f l m = ap₂ other (same c l) (go (fieldOf (w .cells) c f) refl)
       where
         go : (v : ℕ) → fieldOf (w .cells) c f ≡ v → regionOf s (w″ .tables) (renamed cell v) ≡ regionOf s (w′ .tables) (renamed cell v)
@@ -173,7 +172,6 @@ module _ {s : Sizes} {w : Words} {e : Part} {w′ : Words} {cell : ℕ → ℕ} 
         }
 
     cross-here : (x : ℕ) (q : LiveSlot s w e cell x) → crossTo s (w′ .cells) (w′ .tables) x ≡ crossThen s w w′ cell (q .object) (q .field)
-    unfolding crossesFrom
     cross-here x q =
         slot-cross s (w′ .cells) (w′ .tables) x (live-slot h x q)
         ∙ ap₂ (λ (p y : ℕ). other (ownerIn s w′ p) (regionOf s (w′ .tables) y)) (live-page h x q)

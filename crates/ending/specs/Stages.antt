@@ -3,16 +3,15 @@
 use mathlib.Core.Path.{_≡_, refl, sym, ap, ap₂, subst, _∙_}
 use mathlib.Core.Logic.{_≢_, _⊎_, inl, inr, ⊎-elim}
 use mathlib.Core.List.{List}
-use Prim.Native.Nat.{ℕ, zero, suc, _+_, _-_, _*_, _≤_, _<_}
+use Prim.Native.Nat.{ℕ, suc, _-_, _≤_, _<_}
 use native.Mathlib.Decide.{ℕ-discrete, decLt}
-use native.Mathlib.Nat.{div-add-mod'}
 use native.Mathlib.Omega.{arith}
 use lib.ListN.{length, getD}
 use Rattle.lists.specs.Part.{Off, Lists}
 use Rattle.rules.specs.declared.Sizes.{Sizes}
 use Rattle.rules.specs.Regions.{regionAt, regions, threadOf, levelOf}
 use Rattle.rules.specs.Graph.{ended, crossing}
-use Rattle.laws.specs.RegionLaws.{region-high, region-bounds, numbers-rise, thread-at, level-at}
+use Rattle.laws.specs.RegionLaws.{region-high, region-bounds, numbers-rise, region-number}
 use Rattle.layout.specs.Places.{Room, depthAt, countAt, depthOf, ownerOf, markOf, entriesUsed, slotIn, ownersFrom, countsFrom, varsFrom, tablesWords, count-room, varCount}
 use Rattle.layout.specs.Cells.{pageOf, pageAt, wordOf, field-word}
 use Rattle.layout.specs.Objects.{begins-page}
@@ -21,6 +20,7 @@ use Rattle.remember.specs.Crossing.{crossesFrom}
 use Rattle.remember.specs.Staying.{Entries}
 use Rattle.promises.specs.Whole.{Open}
 use Rattle.promises.specs.OwnedPages.{pagesOwned}
+use Rattle.promises.specs.NewPages.{level-open}
 use Rattle.promises.specs.Reading.{used-home, refs-few}
 use Rattle.promises.specs.Ends.{partOf, Survivor, Lives}
 use Rattle.mark.specs.Marks.{page-unmarked}
@@ -233,29 +233,13 @@ module _ {s : Sizes} {t l r : ℕ} {w w₁ : Words} (b : Ending s t l r w w₁) 
         still-open : (g : ℕ) → g ≢ r → Open s (w .tables) g → Open s T′ g
         still-open g n o = record { real = o .real; thread = o .thread; level = go (ℕ-discrete (threadOf s g) t) }
           where
-            number : g ≡ 1 + threadOf s g * s .depth + levelOf s g
-            number = omega (arith, div-add-mod' (g - 2) (s .depth), o .real)
-
             go : Dec (threadOf s g ≡ t) → levelOf s g ≤ depthOf T′ (threadOf s g)
             go (no d) = omega (arith, o .level, depth-kept (threadOf s g) (o .thread) d)
             go (yes d) = last (ℕ-discrete (levelOf s g) (suc k))
               where
                 last : Dec (levelOf s g ≡ suc k) → levelOf s g ≤ depthOf T′ (threadOf s g)
                 last (no z) = omega (arith, o .level, ap (depthOf T′) d, depth-now, ap (depthIn w) d, deep b)
-                last (yes z) =
-                    let e : 1 + t * s .depth + suc k ≡ regionAt s t (suc k) = unfold regionAt in refl in
-                    absurd (n (number ∙ ap₂ (λ (x y : ℕ). 1 + x * s .depth + y) d z ∙ e ∙ sym (region-deep b)))
-
-        level-open : (j : ℕ) → j ≤ k → 1 < regionAt s t j → Open s T′ (regionAt s t j)
-        level-open zero l h = absurd (let z : ⊥ = omega (arith, one) in z)
-          where
-            one : regionAt s t 0 ≡ 1
-            one = unfold regionAt in refl
-        level-open (suc j) l h =
-            let low : suc k ≤ s .depth = omega (arith, next b, level-low b) in
-            let x : threadOf s (regionAt s t (suc j)) ≡ t = thread-at s t j (omega (arith, low)) in
-            let y : levelOf s (regionAt s t (suc j)) ≡ suc j = level-at s t j (omega (arith, low)) in
-            record { real = omega arith; thread = omega (arith, x, b .thread); level = omega (arith, y, ap (depthOf T′) x, depth-now) }
+                last (yes z) = absurd (n (region-number s g (o .real) ∙ ap₂ (regionAt s) d (omega (arith, z)) ∙ sym (region-deep b)))
 
         gave-back : GaveBack s w (partOf s w r) T₂ T′
         gave-back =
@@ -266,7 +250,7 @@ module _ {s : Sizes} {t l r : ℕ} {w w₁ : Words} (b : Ending s t l r w w₁) 
               alike = λ page l n. ended-alike a (bounds .0) (bounds .1) (b .thread) Z page l (λ z. n (was₂ page l z));
               rest = λ x n m. rest x (λ z. let y : varsFrom s ≤ x = n (omega arith) in omega (arith, b .thread)) m;
               outside = λ x o h. still-open (ownerIn s w (pageOf x)) (o .out) (b .whole .pages (pageOf x) (begins-page s (w .cells) (w .tables) x (o .used)) .region h);
-              survivor = λ x v h. let j = level x v in subst (Open s T′) (sym (j .2)) (level-open (j .0) (j .1) (omega (arith, j .2)));
+              survivor = λ x v h. let j = level x v in subst (Open s T′) (sym (j .2)) (level-open s T′ t (j .0) (b .thread) (omega (arith, j .1, next b, level-low b)) (omega (arith, j .1, depth-now)) (omega (arith, j .2)));
             }
 
         pub has-ended : {M′ : List ℕ} → Rewritten (λ x. Held s w r x ⊎ Copies s W T x) W W₃ → Updated s r (s .entries) (entriesUsed (w .remember)) W₃ (w .remember) T M′ → HasEnded s t l r w (words W₃ M′ T′)

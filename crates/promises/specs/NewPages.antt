@@ -2,7 +2,7 @@
 use Prim.Native.Nat.{ℕ, zero, suc, _≤_, _<_}
 use native.Mathlib.Omega.{arith}
 use native.Mathlib.Decide.{ℕ-discrete}
-use mathlib.Core.Path.{_≡_, refl, sym, ap, subst, _∙_}
+use mathlib.Core.Path.{_≡_, sym, ap, _∙_}
 use mathlib.Core.Logic.{_⊎_, by-cases, ⊎-elim}
 use mathlib.Core.List.{List, [], _∷_, _++_}
 use mathlib.Core.Bool.{true, false}
@@ -30,6 +30,14 @@ use Rattle.promises.specs.OwnedPages.{ownedOne, pagesOwned, owned-yes, o
 
 -- ---- the innermost region of a thread
 
+-- a region of a thread at one of its levels is open
+pub level-open : (s : Sizes) (T : List ℕ) (t l : ℕ) → t < s .threads → l ≤ s .depth → l ≤ depthOf T t → 1 < regionAt s t l → Open s T (regionAt s t l)
+unfolding regionAt
+level-open s T t zero th low deep z = absurd (let q : ⊥ = omega arith in q)
+level-open s T t (suc l) th low deep z =
+    let a : threadOf s (regionAt s t (suc l)) ≡ t = thread-at s t l (omega arith) in
+    record { real = region-high s t l; thread = omega arith; level = omega (arith, level-at s t l (omega arith), ap (depthOf T) a) }
+
 abbrev pub innermostIn : Sizes → Words → ℕ → ℕ
 innermostIn s w t = regionAt s t (depthIn w t)
 
@@ -41,19 +49,7 @@ module _ (s : Sizes) (w : Words) (k : WholeFor s w) (t : ℕ) (l : t < s .thread
   innermost-low = region-bounds s t (depthIn w t) l (k .depths t l) .1
 
   pub innermost-open : 1 < innermostIn s w t → Open s (w .tables) (innermostIn s w t)
-  unfolding regionAt
-  innermost-open = go (depthIn w t) refl
-    where
-      go : (d : ℕ) → depthIn w t ≡ d → 1 < regionAt s t d → Open s (w .tables) (regionAt s t d)
-      go zero e z = absurd (let q : ⊥ = omega arith in q)
-      go (suc d) e z =
-          let m : d < s .depth = omega (arith, k .depths t l) in
-          let a = thread-at s t d m in
-          record {
-            real = region-high s t d;
-            thread = subst (λ (x : ℕ). x < s .threads) (sym a) l;
-            level = subst (λ (x : ℕ). x ≤ depthOf (w .tables) (threadOf s (regionAt s t (suc d)))) (sym (level-at s t d m)) (subst (λ (x : ℕ). suc d ≤ depthOf (w .tables) x) (sym a) (omega arith));
-          }
+  innermost-open = level-open s (w .tables) t (depthIn w t) l (k .depths t l) (omega arith)
 
 -- a page of region g that is partly filled; a page that is free
 abbrev pub PartlyFilled : Sizes → Words → ℕ → Type 0

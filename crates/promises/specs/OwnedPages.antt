@@ -20,7 +20,7 @@ use Rattle.layout.specs.Places.{ownerOf, usedOf, countOf}
 use Rattle.layout.specs.Cells.{pageCells, placeOf, cellOn, page-on}
 use Rattle.layout.specs.Words.{Words, ownerIn, usedIn, homeIn, graphOf, homeAt, cellCount}
 use Rattle.layout.specs.Objects.{begins-on}
-use Rattle.promises.specs.Whole.{WholeFor, Partial, objectsOn, objectsOf}
+use Rattle.promises.specs.Whole.{WholeFor, Open, Partial, objectsOn, objectsOf}
 use Rattle.promises.specs.Regular.{Regular, whole-regular, objects-yes, objects-no, SamePage}
 use Rattle.promises.specs.StandsFor.{StandsFor}
 use Rattle.promises.specs.Agreed.{free-agree}
@@ -137,12 +137,16 @@ module _ {s : Sizes} {t : List ℕ} (r : Regular s t) (q : ℕ) where
 
 -- ---- the objects of a page
 
+-- an open region is one of the regions
+pub open-high : (s : Sizes) (t : List ℕ) (g : ℕ) → 1 ≤ s .depth → Open s t g → g ≤ regions s
+open-high s t g d o = omega (arith, o .real, div-lt-iff-lt-mul {x = g - 2} d .0 (o .thread))
+
 module _ (s : Sizes) (w : Words) (k : WholeFor s w) where
   -- no page is owned by a region that is not there
   pub owner-low : (page : ℕ) → page < s .pages → ownerIn s w page ≤ regions s
   owner-low page l =
       by-cases (decLt 1 (ownerIn s w page))
-      (λ h. omega (arith, div-lt-iff-lt-mul {x = ownerIn s w page - 2} (k .sized .range .depth-low) .0 (k .pages page l .region h .thread))) (λ h. omega arith)
+      (λ h. open-high s (w .tables) (ownerIn s w page) (k .sized .range .depth-low) (k .pages page l .region h)) (λ h. omega arith)
 
   module _ (q : ℕ) (pos : 0 < q) where
     on-page : (page : ℕ) → page < s .pages → sum (λ j. cond (eqb (homeIn s w (cellOn page j)) q) 1 0) pageCells ≡ objectsOn s (w .tables) q page

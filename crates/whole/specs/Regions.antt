@@ -17,9 +17,10 @@ use Rattle.rules.specs.declared.Sizes.{Sizes}
 use Rattle.layout.specs.Places.{Room, mostRegions, regions-few, ownerOf, usedOf}
 use Rattle.layout.specs.Cells.{pageCells}
 use Rattle.promises.specs.Whole.{Partial, objectsOn, OnePartial, CountsWhole}
+use Rattle.promises.specs.OwnedPages.{open-high}
 use Rattle.promises.specs.Regular.{objects-yes, objects-no}
 use Rattle.layout.specs.Words.{tablesOnly}
-use Rattle.whole.specs.Pages.{PageChecked, PagesChecked, open-high}
+use Rattle.whole.specs.Pages.{PageChecked, PagesChecked}
 
 -- at most one of the pages below n is a partly filled page of a region
 abbrev pub PartialWhole : Sizes → List ℕ → ℕ → Type 0
