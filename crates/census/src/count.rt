@@ -10,7 +10,7 @@ ghost use Rattle.layout.specs.Cells.{workOf, pageOf, cellOn, CellIn, firstOn, p
 ghost use Rattle.layout.specs.Marks.{marked};
 ghost use Rattle.layout.specs.Words.{Begins};
 ghost use Rattle.promises.specs.Arriving.{goesTo};
-ghost use Rattle.mark.specs.Marks.{Shaped};
+ghost use Rattle.mark.specs.Marks.{Shaped, Small};
 ghost use Rattle.census.specs.Counted.{onPage};
 ghost use Rattle.census.specs.After.{cellCrosses};
 ghost use Rattle.census.specs.Census.{Census};
@@ -73,7 +73,7 @@ pub fn count_listed(
     requires { ⌜ Shaped p (now cells) (now tables) ⌝ }
     requires { ⌜ Rises (p .pages) n (now list) ⌝ }
     requires { ⌜ ((page : ℕ) → page < p .pages → Off (now list) n page → markOf p (now tables) page ≡ 0) ⌝ }
-    requires { ⌜ ((page : ℕ) → page < p .pages → markOf p (now tables) page < 2 ^ 16) ⌝ }
+    requires { ⌜ Small p (now tables) ⌝ }
     requires { ⌜ ((c : ℕ) → pageOf c < p .pages → marked p (now tables) c ≡ 1 → Begins p (now cells) (now tables) c) ⌝ }
     requires { ⌜ ((c : ℕ) → pageOf c < p .pages → marked p (now tables) c ≡ 1 → workOf (now cells) c < length (now come)) ⌝ }
     requires { ⌜ ((g : ℕ) → getD (now come) g 0 ≡ 0) ⌝ }

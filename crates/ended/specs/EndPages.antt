@@ -102,7 +102,7 @@ module _ (s : Sizes) (w : Words) (whole : WholeFor s w) (t k : ℕ) (th : t < s 
       go (no n) (yes l) = landed-level (suc i) (omega arith) l
       go (no n) (no l) = absurd (let z : ⊥ = omega (arith, p, objects-ended s g r (suc i) n) in z)
 
-  pub new-pages-ended : pagesNeeded s w t k ≡ moreBelow s (w .tables) (landed s g r) (regionAt s t) (suc k)
+  pub new-pages-ended : pagesNeeded s w r ≡ moreBelow s (w .tables) (landed s g r) (regionAt s t) (suc k)
   unfolding newPages
   new-pages-ended = sym (sum-paired (λ j. regionAt s t j - 1) level (suc k) more (regions s) paired)
     where

@@ -28,12 +28,12 @@ use Rattle.promises.specs.Questions.{did-refused}
 use Rattle.promises.specs.OwnedPages.{pagesOwned, heap-free}
 use Rattle.ended.specs.AfterEnd.{endOf, after-end}
 
--- the new pages for the regions that grow at the end of thread t's region at level suc k, and the slots that would cross afterwards
-abbrev pub pagesNeeded : Sizes → Words → ℕ → ℕ → ℕ
-pagesNeeded s w t k = newPages s (graphOf s w) (ended s (graphOf s w) (regionAt s t (suc k)))
+-- the new pages for the regions that grow at the end of region r, and the slots that would cross afterwards
+abbrev pub pagesNeeded : Sizes → Words → ℕ → ℕ
+pagesNeeded s w r = newPages s (graphOf s w) (ended s (graphOf s w) r)
 
-abbrev pub crossingAfter : Sizes → Words → ℕ → ℕ → ℕ
-crossingAfter s w t k = crossing (ended s (graphOf s w) (regionAt s t (suc k)))
+abbrev pub crossingAfter : Sizes → Words → ℕ → ℕ
+crossingAfter s w r = crossing (ended s (graphOf s w) r)
 
 module _ (s : Sizes) (w : Words) (whole : WholeFor s w) (t : ℕ) (th : t < s .threads) where
   -- 6 to 12
@@ -57,30 +57,30 @@ module _ (s : Sizes) (w : Words) (whole : WholeFor s w) (t : ℕ) (th : t < s .t
     graph-after : graph (ru.after s (heapOf s w) (endOf t)) ≡ ended s (graph (heapOf s w)) r
     graph-after = ap graph (after-end s w t k th deep) ∙ graph-ended s (heapOf s w) r (region-pos s t (suc k)) (set (heapOf s w .heap .depths) t k)
 
-    new-after : newPages s (graph (heapOf s w)) (graph (ru.after s (heapOf s w) (endOf t))) ≡ (pagesNeeded s w t k)
+    new-after : newPages s (graph (heapOf s w)) (graph (ru.after s (heapOf s w) (endOf t))) ≡ pagesNeeded s w r
     new-after =
         ap (newPages s (graph (heapOf s w))) graph-after
         ∙ same-new-ended s (λ x. x) (graph (heapOf s w)) (graphOf s w) (base .sound .closed) (words-closed s w whole) (base .partners) r (region-pos s t (suc k))
 
-    crossing-after : crossing (graph (ru.after s (heapOf s w) (endOf t))) ≡ (crossingAfter s w t k)
-    crossing-after =
+    crossings-after : crossing (graph (ru.after s (heapOf s w) (endOf t))) ≡ crossingAfter s w r
+    crossings-after =
         ap crossing graph-after
         ∙ same-crossing-ended s (λ x. x) (graph (heapOf s w)) (graphOf s w) (base .sound .closed) (words-closed s w whole) (base .partners) r (region-pos s t (suc k))
 
     -- 13 and 14, by the pages without an owner and the size of the remember table
-    pub end-question : ru.question s (heapOf s w) (endOf t) ≡ ask (leb (pagesNeeded s w t k) (pagesOwned s w 0)) 13 (ask (leb (crossingAfter s w t k) (s .entries)) 14 0)
+    pub end-question : ru.question s (heapOf s w) (endOf t) ≡ ask (leb (pagesNeeded s w r) (pagesOwned s w 0)) 13 (ask (leb (crossingAfter s w r) (s .entries)) 14 0)
     unfolding ru.question ru.room ask
     end-question =
         ap (λ (n : ℕ). first n (ru.room s (heapOf s w) (endOf t) (ru.after s (heapOf s w) (endOf t))))
         (asked ∙ ap (λ (b : Bool). ask b 12 0) (lt-ltb 0 (depthIn w t) (omega arith)))
         ∙ ap₂ (λ (n f : ℕ). ask (leb n f) 13 (ask (leb (crossing (graph (ru.after s (heapOf s w) (endOf t)))) (s .entries)) 14 0)) new-after
         (sym (heap-free s w (heapOf s w) (λ x. x) base))
-        ∙ ap (λ (n : ℕ). ask (leb (pagesNeeded s w t k) (pagesOwned s w 0)) 13 (ask (leb n (s .entries)) 14 0)) crossing-after
+        ∙ ap (λ (n : ℕ). ask (leb (pagesNeeded s w r) (pagesOwned s w 0)) 13 (ask (leb n (s .entries)) 14 0)) crossings-after
 
-    pub end-accepted : (pagesNeeded s w t k) ≤ pagesOwned s w 0 → (crossingAfter s w t k) ≤ s .entries → ru.question s (heapOf s w) (endOf t) ≡ 0
+    pub end-accepted : pagesNeeded s w r ≤ pagesOwned s w 0 → crossingAfter s w r ≤ s .entries → ru.question s (heapOf s w) (endOf t) ≡ 0
     unfolding ask
     end-accepted l m =
-        end-question ∙ ap₂ (λ (b c : Bool). ask b 13 (ask c 14 0)) (le-leb (pagesNeeded s w t k) (pagesOwned s w 0) l) (le-leb (crossingAfter s w t k) (s .entries) m)
+        end-question ∙ ap₂ (λ (b c : Bool). ask b 13 (ask c 14 0)) (le-leb (pagesNeeded s w r) (pagesOwned s w 0) l) (le-leb (crossingAfter s w r) (s .entries) m)
 
   -- ---- refused: nothing is changed
 

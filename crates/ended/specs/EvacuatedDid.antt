@@ -112,5 +112,5 @@ module _ (s : Sizes) (w : Words) (whole : WholeFor s w) (t k : ℕ) (th : t < s 
       (λ so. record { cell = cell; stands = stands so; stays = keeps-cell })
 
   -- so where there are pages and entries
-  pub ended-did : Vacated s (partOf s w (regionAt s t (suc k))) w′ → pagesNeeded s w t k ≤ pagesOwned s w 0 → crossingAfter s w t k ≤ s .entries → DidHere s w (endOf t) w′ (done 0)
+  pub ended-did : Vacated s (partOf s w (regionAt s t (suc k))) w′ → pagesNeeded s w r ≤ pagesOwned s w 0 → crossingAfter s w r ≤ s .entries → DidHere s w (endOf t) w′ (done 0)
   ended-did free l m = evacuated-did free (end-accepted s w whole t th k deep l m)

@@ -6,9 +6,10 @@ use lib.ListN.{length}
 use Rattle.rules.specs.declared.Sizes.{Sizes}
 use Rattle.rules.specs.Terms.{done}
 use Rattle.rules.specs.Regions.{regionAt}
-use Rattle.layout.specs.Places.{Room, room, depthOf}
+use Rattle.layout.specs.Places.{Room, depthOf}
 use Rattle.layout.specs.Words.{Words, depthIn}
 use Rattle.promises.specs.Whole.{WholeFor}
+use Rattle.promises.specs.Reading.{whole-room}
 use Rattle.promises.specs.OwnedPages.{pagesOwned}
 use Rattle.promises.specs.Promises.{DidHere}
 use Rattle.promises.specs.Ends.{partOf}
@@ -30,9 +31,9 @@ pub record Ending (s : Sizes) (t l r : ℕ) (w w₁ : Words) : Type 0 where
   pub marks : Marked s w (partOf s w r) w₁
 
 -- there are pages and entries for it
-pub record Accepted (s : Sizes) (t l : ℕ) (w : Words) : Type 0 where
-  pub pages : pagesNeeded s w t (l - 1) ≤ pagesOwned s w 0
-  pub entries : crossingAfter s w t (l - 1) ≤ s .entries
+pub record Accepted (s : Sizes) (r : ℕ) (w : Words) : Type 0 where
+  pub pages : pagesNeeded s w r ≤ pagesOwned s w 0
+  pub entries : crossingAfter s w r ≤ s .entries
 
 -- it has ended, and left w′
 pub record HasEnded (s : Sizes) (t l r : ℕ) (w w′ : Words) : Type 0 where
@@ -43,7 +44,7 @@ pub record HasEnded (s : Sizes) (t l r : ℕ) (w w′ : Words) : Type 0 where
 
 module _ {s : Sizes} {t l r : ℕ} {w w₁ : Words} (e : Ending s t l r w w₁) where
   pub room-of : Room s (length (w .tables))
-  room-of = room s (length (w .tables)) (e .whole .sized .range) (e .whole .sized .tables) (e .fits)
+  room-of = whole-room s w (e .whole) (e .fits)
 
   pub room-now : Room s (length (w₁ .tables))
   room-now = subst (Room s) (sym (e .marks .kept .tables-length)) room-of
@@ -65,8 +66,7 @@ module _ {s : Sizes} {t l r : ℕ} {w w₁ : Words} (e : Ending s t l r w w₁) 
   region-deep = e .region ∙ ap (regionAt s t) next
 
   -- the promise of code 2
-  pub ended-here : {w′ : Words} → Accepted s t l w → HasEnded s t l r w w′ → DidHere s w (endOf t) w′ (done 0)
+  pub ended-here : {w′ : Words} → Accepted s r w → HasEnded s t l r w w′ → DidHere s w (endOf t) w′ (done 0)
   ended-here {w′} a h =
-      ended-did s w (e .whole) t (l - 1) (e .thread) deep w′ (h .cell)
-      (subst (λ (g : ℕ). Evacuated s w (partOf s w g) w′ (h .cell)) region-deep (h .evacuated)) (h .lowered)
-      (subst (λ (g : ℕ). Vacated s (partOf s w g) w′) region-deep (h .vacated)) (a .pages) (a .entries)
+      subst (λ (g : ℕ). Evacuated s w (partOf s w g) w′ (h .cell) → Vacated s (partOf s w g) w′ → Accepted s g w → DidHere s w (endOf t) w′ (done 0)) (sym region-deep)
+      (λ v z b. ended-did s w (e .whole) t (l - 1) (e .thread) deep w′ (h .cell) v (h .lowered) z (b .pages) (b .entries)) (h .evacuated) (h .vacated) a

@@ -11,9 +11,9 @@ pub mod Copied
 pub mod Rewriting
 pub mod Finish
 -- Of the innermost region of a thread: what the census asks, its remembered slots, and its stages
-pub mod PagesEnough
-pub mod CensusCounts
-pub mod Region
 pub mod Ending
+pub mod PagesEnough
+pub mod RoomAsked
+pub mod Region
 pub mod Stages
 pub mod NoSurvivors

@@ -2,7 +2,7 @@
 -- leaves the words as they are.
 use mathlib.Core.Path.{_≡_, refl, sym, ap, _∙_}
 use mathlib.Core.Logic.{_⊎_, ⊎-elim}
-use Prim.Native.Nat.{ℕ, zero, suc, _-_, _≤_, _<_}
+use Prim.Native.Nat.{ℕ, zero, suc, _≤_, _<_}
 use native.Mathlib.Omega.{arith}
 use Rattle.lists.specs.Bits.{bitAt, bit-zero}
 use Rattle.rules.specs.declared.Sizes.{Sizes}
@@ -61,7 +61,7 @@ module _ {s : Sizes} {t l r : ℕ} {w w₁ : Words} (b : Ending s t l r w w₁) 
     pub none-rewritten : Rewritten (λ x. Held s w r x ⊎ Copies s (w₁ .cells) (w₁ .tables) x) (w₁ .cells) (w₁ .cells)
     none-rewritten = rewritten-none (λ x. Held s w r x ⊎ Copies s (w₁ .cells) (w₁ .tables) x) (w₁ .cells) (λ x. ⊎-elim (none-held x) (none-copies x))
 
-    pub none-update : crossingAfter s w t (l - 1) ≤ s .entries → Settles s r (s .entries) (entriesUsed (w .remember)) (w₁ .cells) (w .remember) (w₁ .tables)
+    pub none-update : crossingAfter s w r ≤ s .entries → Settles s r (s .entries) (entriesUsed (w .remember)) (w₁ .cells) (w .remember) (w₁ .tables)
     none-update = settle-ask b p none-copied (rewritten-none (Held s w r) (w₁ .cells) none-held)
 
   pub none-variables : Variables s (varCount s) (w₁ .cells) (w₁ .tables) (w₁ .tables)

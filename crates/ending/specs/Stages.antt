@@ -3,28 +3,24 @@
 use mathlib.Core.Path.{_≡_, refl, sym, ap, ap₂, subst, _∙_}
 use mathlib.Core.Logic.{_≢_, _⊎_, inl, inr, ⊎-elim}
 use mathlib.Core.List.{List}
-use Prim.Native.Nat.{ℕ, suc, _-_, _≤_, _<_}
+use Prim.Native.Nat.{ℕ, _-_, _≤_, _<_}
 use native.Mathlib.Decide.{ℕ-discrete, decLt}
 use native.Mathlib.Omega.{arith}
 use lib.ListN.{length, getD}
-use Rattle.lists.specs.Part.{Off, Lists}
+use Rattle.lists.specs.Part.{Off, Lists, lists-like}
 use Rattle.rules.specs.declared.Sizes.{Sizes}
 use Rattle.rules.specs.Regions.{regionAt, regions, threadOf, levelOf}
-use Rattle.rules.specs.Graph.{ended, crossing}
 use Rattle.laws.specs.RegionLaws.{region-high, region-bounds, numbers-rise, region-number}
 use Rattle.layout.specs.Places.{Room, depthAt, countAt, depthOf, ownerOf, markOf, entriesUsed, slotIn, ownersFrom, countsFrom, varsFrom, tablesWords, count-room, varCount}
 use Rattle.layout.specs.Cells.{pageOf, pageAt, wordOf, field-word}
 use Rattle.layout.specs.Objects.{begins-page}
-use Rattle.layout.specs.Words.{Words, words, Names, depthIn, ownerIn, graphOf}
+use Rattle.layout.specs.Words.{Words, words, Names, depthIn, ownerIn}
 use Rattle.remember.specs.Crossing.{crossesFrom}
 use Rattle.remember.specs.Staying.{Entries}
 use Rattle.promises.specs.Whole.{Open}
-use Rattle.promises.specs.OwnedPages.{pagesOwned}
 use Rattle.promises.specs.NewPages.{level-open}
-use Rattle.promises.specs.Reading.{used-home, refs-few}
-use Rattle.promises.specs.Ends.{partOf, Survivor, Lives}
-use Rattle.mark.specs.Marks.{page-unmarked}
-use Rattle.mark.specs.Survivors.{Marked}
+use Rattle.promises.specs.Reading.{refs-few}
+use Rattle.promises.specs.Ends.{partOf, Lives}
 use Rattle.copy.specs.Passing.{moves-ready}
 use Rattle.copy.specs.Copying.{Plan, Copy, copy-marks}
 use Rattle.copy.specs.Forward.{copy-forwards}
@@ -34,11 +30,10 @@ use Rattle.settle.specs.RewriteCopies.{slot-then}
 use Rattle.remember.specs.Appending.{at-most-less}
 use Rattle.settle.specs.Update.{Copies, Entry, Settles, Updated}
 use Rattle.release.specs.Release.{Ended, ended-size, ended-depth, ended-rest, ended-blank, ended-alike, ended-regular}
-use Rattle.ended.specs.EndQuestion.{pagesNeeded, crossingAfter}
+use Rattle.ended.specs.EndQuestion.{crossingAfter}
 use Rattle.ended.specs.EvacuatedDid.{Lowered}
-use Rattle.ended.specs.WordsPlaced.{target-level}
 use Rattle.ended.specs.Living.{KeepsNamed, region-after, region-keeps}
-use Rattle.mark.specs.MarkedWords.{owner-same}
+use Rattle.mark.specs.MarkedWords.{owner-same, unlisted}
 use Rattle.ending.specs.Placing.{HoldingSlots, LiveSlot}
 use Rattle.ending.specs.Copied.{Sends, HasMoved, placed, placing, page-kept}
 use Rattle.ending.specs.Rewriting.{HasRewritten, copies-live, old-no-copy, live-names, names-later, cross-live, held-live, no-copy, copies-ask, outside-after, copies-told}
@@ -47,16 +42,12 @@ use Rattle.ending.specs.Space.{space-enough}
 use Rattle.ending.specs.Remembering.{stays-told}
 use Rattle.ending.specs.Region.{Held, of-region, holding, page-was, renews}
 use Rattle.ending.specs.Finish.{owner₂, room₂, regular₂, word₂, GaveBack, evacuated, vacated}
-use Rattle.ending.specs.Ending.{Ending, HasEnded, room-of, level-low, next, deep, region-deep}
-use Rattle.ending.specs.PagesEnough as pe
+use Rattle.ending.specs.Ending.{Ending, HasEnded, room-of, level-low, region-deep}
+use Rattle.ending.specs.PagesEnough.{survivor-level}
 
 module _ {s : Sizes} {t l r : ℕ} {w w₁ : Words} (b : Ending s t l r w w₁) where
-  -- the level of the region around r
-  abbrev k : ℕ
-  k = l - 1
-
   pub high : 1 < r
-  high = omega (arith, region-deep b, region-high s t k)
+  high = omega (arith, region-deep b, region-high s t (l - 1))
 
   pub pos : 0 < r
   pos = omega (arith, high)
@@ -64,17 +55,11 @@ module _ {s : Sizes} {t l r : ℕ} {w w₁ : Words} (b : Ending s t l r w w₁) 
   pub bounds : (1 ≤ r) × (r ≤ regions s)
   bounds = subst (λ (g : ℕ). (1 ≤ g) × (g ≤ regions s)) (sym (b .region)) (region-bounds s t l (b .thread) (level-low b))
 
-  -- a survivor goes to a region around r
-  level : (c : ℕ) → Survivor s w (partOf s w r) c → (j : ℕ) × (j ≤ k) × (partOf s w r .goes c ≡ regionAt s t j)
-  level c =
-      subst (λ (g : ℕ). Survivor s w (partOf s w g) c → (j : ℕ) × (j ≤ k) × (partOf s w g .goes c ≡ regionAt s t j)) (sym (region-deep b))
-      (λ v. target-level s w (b .whole) t k (b .thread) (deep b) c (used-home s w (b .whole) c (v .used) ∙ v .within) (v .goes))
-
   pub sends : Sends s w (partOf s w r)
   sends =
       record {
         owned = λ page l e. omega (arith, e, high);
-        away = λ c page v l e z. let j = level c v in omega (arith, numbers-rise s t (j .0) (suc k) (omega (arith, j .1)), j .2, region-deep b, e, z);
+        away = λ c page v q e z. let j = survivor-level b c v in omega (arith, numbers-rise s t (j .0) l (j .1), j .2, b .region, e, z);
       }
 
   pub keeps : KeepsNamed s w (partOf s w r)
@@ -85,19 +70,9 @@ module _ {s : Sizes} {t l r : ℕ} {w w₁ : Words} (b : Ending s t l r w w₁) 
 
   -- ---- the copy
 
-  pub plan : pagesNeeded s w t k ≤ pagesOwned s w 0 → Plan s l (regionAt s t) (w₁ .cells) (w₁ .tables)
-  plan h =
-      subst (λ (n : ℕ). Plan s n (regionAt s t) (w₁ .cells) (w₁ .tables)) (sym (next b))
-      (pe.plan s w (b .whole) (room-of b) t k (b .thread) (deep b) w₁ (subst (λ (g : ℕ). Marked s w (partOf s w g) w₁) (region-deep b) (b .marks)) h)
-
-  -- a page that is not listed with r's has no mark
-  pub unlisted : {n : ℕ} {l : List ℕ} → Lists (λ page. ownerOf s (w₁ .tables) page ≡ r) (s .pages) n l
-      → (page : ℕ) → page < s .pages → Off l n page → markOf s (w₁ .tables) page ≡ 0
-  unlisted h page low off =
-      page-unmarked s (w₁ .tables) page (b .marks .small page low)
-      (λ c e o.
-      let q : pageOf c < s .pages = omega arith in
-      h .all page low (subst (λ (x : ℕ). ownerOf s (w₁ .tables) x ≡ r) e (owner-same (b .marks) (room-of b) (pageOf c) q ∙ b .marks .only c q o .1)) off)
+  -- the listed pages are those of the part
+  pub listed : {n : ℕ} {l : List ℕ} → Lists (λ page. ownerOf s (w₁ .tables) page ≡ r) (s .pages) n l → Lists (partOf s w r .ends) (s .pages) n l
+  listed h = lists-like h (λ page m e. sym (owner-same (b .marks) (room-of b) page m) ∙ e) (λ page m e. owner-same (b .marks) (room-of b) page m ∙ e)
 
   module _ (p : Plan s l (regionAt s t) (w₁ .cells) (w₁ .tables)) {W T : List ℕ} (c : Copy s l (regionAt s t) l (w₁ .cells) (w₁ .tables) W T) where
     pub moved : HasMoved s w w₁ (partOf s w r) W T
@@ -159,7 +134,7 @@ module _ {s : Sizes} {t l r : ℕ} {w w₁ : Words} (b : Ending s t l r w w₁) 
       copy-later : (x : ℕ) → Copies s W₂ T x → forwarded W₂ (getD W₂ x 0) ≡ forwarded W (getD W x 0)
       copy-later x q = ref-same R₂ (getD W₂ x 0) ∙ ap (forwarded W) (copy-same x q)
 
-      pub settle-ask : crossingAfter s w t k ≤ s .entries → Settles s r (s .entries) (entriesUsed (w .remember)) W₂ (w .remember) T
+      pub settle-ask : crossingAfter s w r ≤ s .entries → Settles s r (s .entries) (entriesUsed (w .remember)) W₂ (w .remember) T
       settle-ask entries =
           record {
             entries = entries-ask (R₂ .size) (λ x q. subst (Names s) (sym (R₂ .moved x q)) (names-later moved x (held-live moved held x q)));
@@ -174,16 +149,15 @@ module _ {s : Sizes} {t l r : ℕ} {w w₁ : Words} (b : Ending s t l r w w₁) 
                 (y .0, λ z. q .1 .kept (y .1 ∙ z)))
                 (λ q.
                 (copy-live x (q .0), λ z. q .1 (ap (λ (y : ℕ). crossesFrom s T (ownerOf s T (pageAt x)) y) (copy-later x (q .0)) ∙ cross-live moved x (copy-live x (q .0)) ∙ z))))
-                (space-enough (placing moved) (region-after s w (b .whole) r pos) (subst (λ (g : ℕ). crossing (ended s (graphOf s w) g) ≤ s .entries) (sym (region-deep b)) entries));
+                (space-enough (placing moved) (region-after s w (b .whole) r pos) entries);
             rest = b .whole .remember .entries .rest;
           }
 
-    -- ---- the listed pages, which are those of r
+    -- ---- the listed pages
 
     -- no survivor was copied off another page
-    pub marks-ask : {n : ℕ} {l : List ℕ} → Lists (λ page. ownerOf s (w₁ .tables) page ≡ r) (s .pages) n l
-        → (page : ℕ) → page < s .pages → Off l n page → markOf s T page ≡ 0
-    marks-ask h page low off = copy-marks p c page low (unlisted h page low off)
+    pub marks-ask : {n : ℕ} {l : List ℕ} → Lists (partOf s w r .ends) (s .pages) n l → (page : ℕ) → page < s .pages → Off l n page → markOf s T page ≡ 0
+    marks-ask h page low off = copy-marks p c page low (unlisted (b .marks) h page low off)
 
     module _ {W₃ T₂ : List ℕ} (Y : Variables s (varCount s) W₃ T T₂) where
       -- copies and variables leave r its pages, and give it no other
@@ -193,13 +167,8 @@ module _ {s : Sizes} {t l r : ℕ} {w w₁ : Words} (b : Ending s t l r w w₁) 
       was₂ : (page : ℕ) → page < s .pages → ownerOf s T₂ page ≡ r → ownerIn s w page ≡ r
       was₂ page l z = page-was pos moved page l (sym (owner₂ moved Y page l) ∙ z)
 
-      pub pages-ask : {n : ℕ} {l : List ℕ} → Lists (λ page. ownerOf s (w₁ .tables) page ≡ r) (s .pages) n l → Lists (λ page. ownerOf s T₂ page ≡ r) (s .pages) n l
-      pages-ask {l = l} h =
-          record {
-            rises = h .rises;
-            each = λ i m. let q = h .rises .low i m in kept₂ (getD l i 0) q (sym (owner-same (b .marks) (room-of b) (getD l i 0) q) ∙ h .each i m);
-            all = λ page m e. h .all page m (owner-same (b .marks) (room-of b) page m ∙ was₂ page m e);
-          }
+      pub pages-ask : {n : ℕ} {l : List ℕ} → Lists (partOf s w r .ends) (s .pages) n l → Lists (λ page. ownerOf s T₂ page ≡ r) (s .pages) n l
+      pages-ask h = lists-like h kept₂ was₂
 
       -- ---- the release
 
@@ -210,7 +179,7 @@ module _ {s : Sizes} {t l r : ℕ} {w w₁ : Words} (b : Ending s t l r w w₁) 
         a : Room s (length T₂)
         a = room₂ moved Y
 
-        depth-now : depthOf T′ t ≡ k
+        depth-now : depthOf T′ t ≡ l - 1
         depth-now = ended-depth a (bounds .0) (bounds .1) (b .thread) Z ∙ ap (λ (x : ℕ). x - 1) (release-ask .1)
 
         rest : (x : ℕ) → x ≢ depthAt t → (ownersFrom s ≤ x → tablesWords s ≤ x) → getD T′ x 0 ≡ getD T₂ x 0
@@ -226,7 +195,7 @@ module _ {s : Sizes} {t l r : ℕ} {w w₁ : Words} (b : Ending s t l r w w₁) 
         depth-kept : (u : ℕ) → u < s .threads → u ≢ t → depthOf T′ u ≡ depthIn w u
         depth-kept u l n = rest (depthAt u) (λ z. n (omega arith)) (λ z. omega (arith, a)) ∙ word₂ moved Y (depthAt u) (λ z. omega arith)
 
-        lowered : {M′ : List ℕ} → Lowered s w t k (words W₃ M′ T′)
+        lowered : {M′ : List ℕ} → Lowered s w t (l - 1) (words W₃ M′ T′)
         lowered = record { depth = depth-now; depths = depth-kept }
 
         -- every region but r that was open is open still, and so is every region around r
@@ -235,11 +204,11 @@ module _ {s : Sizes} {t l r : ℕ} {w w₁ : Words} (b : Ending s t l r w w₁) 
           where
             go : Dec (threadOf s g ≡ t) → levelOf s g ≤ depthOf T′ (threadOf s g)
             go (no d) = omega (arith, o .level, depth-kept (threadOf s g) (o .thread) d)
-            go (yes d) = last (ℕ-discrete (levelOf s g) (suc k))
+            go (yes d) = last (ℕ-discrete (levelOf s g) l)
               where
-                last : Dec (levelOf s g ≡ suc k) → levelOf s g ≤ depthOf T′ (threadOf s g)
-                last (no z) = omega (arith, o .level, ap (depthOf T′) d, depth-now, ap (depthIn w) d, deep b)
-                last (yes z) = absurd (n (region-number s g (o .real) ∙ ap₂ (regionAt s) d (omega (arith, z)) ∙ sym (region-deep b)))
+                last : Dec (levelOf s g ≡ l) → levelOf s g ≤ depthOf T′ (threadOf s g)
+                last (no z) = omega (arith, o .level, ap (depthOf T′) d, depth-now, ap (depthIn w) d, b .level)
+                last (yes z) = absurd (n (region-number s g (o .real) ∙ ap₂ (regionAt s) d (omega (arith, z)) ∙ sym (b .region)))
 
         gave-back : GaveBack s w (partOf s w r) T₂ T′
         gave-back =
@@ -250,7 +219,7 @@ module _ {s : Sizes} {t l r : ℕ} {w w₁ : Words} (b : Ending s t l r w w₁) 
               alike = λ page l n. ended-alike a (bounds .0) (bounds .1) (b .thread) Z page l (λ z. n (was₂ page l z));
               rest = λ x n m. rest x (λ z. let y : varsFrom s ≤ x = n (omega arith) in omega (arith, b .thread)) m;
               outside = λ x o h. still-open (ownerIn s w (pageOf x)) (o .out) (b .whole .pages (pageOf x) (begins-page s (w .cells) (w .tables) x (o .used)) .region h);
-              survivor = λ x v h. let j = level x v in subst (Open s T′) (sym (j .2)) (level-open s T′ t (j .0) (b .thread) (omega (arith, j .1, next b, level-low b)) (omega (arith, j .1, depth-now)) (omega (arith, j .2)));
+              survivor = λ x v h. let j = survivor-level b x v in subst (Open s T′) (sym (j .2)) (level-open s T′ t (j .0) (b .thread) (omega (arith, j .1, level-low b)) (omega (arith, j .1, depth-now)) (omega (arith, j .2)));
             }
 
         pub has-ended : {M′ : List ℕ} → Rewritten (λ x. Held s w r x ⊎ Copies s W T x) W W₃ → Updated s r (s .entries) (entriesUsed (w .remember)) W₃ (w .remember) T M′ → HasEnded s t l r w (words W₃ M′ T′)

@@ -33,7 +33,7 @@ fn end_marked(
     let mut come = [0u32; 130];
     let n = pages::list_pages(p, tables, region, &mut list);
     let k = census::count::count_listed(p, cells, tables, &list, n, &mut come);
-    let q = needs::ask_room(p, cells, remember, tables, &come, thread, level, k);
+    let q = needs::ask_room(p, cells, remember, tables, &come, thread, level, region, k);
     if q != 0 {
         mark::unmark::unmark(p, cells, tables, &list, n);
         return rules::refused(q);
@@ -73,7 +73,7 @@ pub fn end(
         return rules::refused(12);
     }
     let region = layout::regions::region_at(p, thread, level);
-    if mark::survivors::mark_survivors(p, cells, remember, tables, thread) {
+    if mark::survivors::mark_survivors(p, cells, remember, tables, thread, level, region) {
         return end_marked(p, cells, remember, tables, notes, thread, level, region);
     }
     evacuate::evacuate_none(p, cells, remember, tables, notes, thread, level, region);

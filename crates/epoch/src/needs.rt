@@ -10,7 +10,7 @@ ghost use Rattle.pages.specs.Owned.{Paged};
 ghost use Rattle.mark.specs.Marks.{Shaped};
 ghost use Rattle.mark.specs.Holders.{Holding};
 ghost use Rattle.census.specs.Census.{Census};
-ghost use Rattle.ending.specs.CensusCounts.{roomAsked};
+ghost use Rattle.ending.specs.RoomAsked.{roomAsked};
 use rules::Sizes;
 
 // How many new pages region g needs for the survivors that go to it, which `come` counts: none where none goes.
@@ -50,7 +50,7 @@ pub fn needed_pages(p: Sizes, tables: &[u32], come: &[u32], thread: usize, level
     n
 }
 
-// Questions 13 and 14 at the end of the thread's region at a level, whose survivors are marked: the number of the first that says no, 0 if
+// Questions 13 and 14 at the end of the thread's region at the given level, whose survivors are marked: the number of the first that says no, 0 if
 // none does. k is how many of the survivors' slots would cross.
 pub fn ask_room(
     p: Sizes,
@@ -60,6 +60,7 @@ pub fn ask_room(
     come: &[u32],
     thread: usize,
     level: usize,
+    region: u32,
     k: usize,
 ) -> u32
     requires { ⌜ Shaped p (now cells) (now tables) ⌝ }
@@ -68,9 +69,8 @@ pub fn ask_room(
     requires { ⌜ Census p (now cells) (now tables) (p .pages) (now come) k ⌝ }
     requires { ⌜ regions p < length (now come) ⌝ }
     requires { ⌜ (thread < p .threads) × (level ≤ p .depth) ⌝ }
-    ensures { λ q. ⌜ q ≡ roomAsked p (now (cells .entry)) (now (remember .entry)) (now (tables .entry)) thread level ⌝ }
+    ensures { λ q. ⌜ q ≡ roomAsked p (now (cells .entry)) (now (remember .entry)) (now (tables .entry)) thread level region ⌝ }
 {
-    let region = layout::regions::region_at(p, thread, level);
     let needed = needed_pages(p, tables, come, thread, level);
     let free = pages::free_pages(p, tables);
     if free < needed {

@@ -1,5 +1,5 @@
 // The end of an epoch once its survivors are marked: word 1 of each cell of the ending region is the region that its object goes to, 0 if
-// it is freed, and its bit in the page's mark word says which is not 0. The stages are crates of their own: place and copy, settle, release.
+// it is freed, and its bit in the page's mark word says which is not 0. The stages are crates of their own: copy, settle, release.
 ghost use mathlib.Core.Path.{_≡_};
 ghost use mathlib.Core.List.{List};
 ghost use Prim.Native.Nat.{ℕ, _<_, _≤_};
@@ -28,11 +28,11 @@ pub fn evacuate(
     level: usize,
     region: u32,
 )
-    requires { ⌜ ((c t : List ℕ) × Ending p thread level region (words c (now remember) t) (words (now cells) (now remember) (now tables)) × Accepted p thread level (words c (now remember) t)) ⌝ }
+    requires { ⌜ ((c t : List ℕ) × Ending p thread level region (words c (now remember) t) (words (now cells) (now remember) (now tables)) × Accepted p region (words c (now remember) t)) ⌝ }
     requires { ⌜ Lists (λ page. ownerOf p (now tables) page ≡ region) (p .pages) n (now list) ⌝ }
     requires { ⌜ ((g : ℕ) → 1 ≤ g → g ≤ regions p → getD (now come) g 0 ≡ 0 → arriving p (now cells) (now tables) g ≡ 0) ⌝ }
     requires { ⌜ (noteWords ≤ length (now notes)) × (regions p < length (now come)) ⌝ }
-    ensures { λ _. ⌜ ((c t : List ℕ) → Ending p thread level region (words c (now (remember .entry)) t) (words (now (cells .entry)) (now (remember .entry)) (now (tables .entry))) → Accepted p thread level (words c (now (remember .entry)) t) → HasEnded p thread level region (words c (now (remember .entry)) t) (words (now (cells .exit)) (now (remember .exit)) (now (tables .exit)))) ⌝ }
+    ensures { λ _. ⌜ ((c t : List ℕ) → Ending p thread level region (words c (now (remember .entry)) t) (words (now (cells .entry)) (now (remember .entry)) (now (tables .entry))) → Accepted p region (words c (now (remember .entry)) t) → HasEnded p thread level region (words c (now (remember .entry)) t) (words (now (cells .exit)) (now (remember .exit)) (now (tables .exit)))) ⌝ }
 {
     copy::copy_survivors(p, cells, tables, notes, list, n, come, thread, level);
     settle::rewrite::rewrite_slots(p, cells, remember, region);
@@ -52,10 +52,10 @@ pub fn evacuate_none(
     level: usize,
     region: u32,
 )
-    requires { ⌜ ((c t : List ℕ) × Ending p thread level region (words c (now remember) t) (words (now cells) (now remember) (now tables)) × Accepted p thread level (words c (now remember) t)) ⌝ }
+    requires { ⌜ ((c t : List ℕ) × Ending p thread level region (words c (now remember) t) (words (now cells) (now remember) (now tables)) × Accepted p region (words c (now remember) t)) ⌝ }
     requires { ⌜ ((page : ℕ) → page < p .pages → markOf p (now tables) page ≡ 0) ⌝ }
     requires { ⌜ noteWords ≤ length (now notes) ⌝ }
-    ensures { λ _. ⌜ ((c t : List ℕ) → Ending p thread level region (words c (now (remember .entry)) t) (words (now (cells .entry)) (now (remember .entry)) (now (tables .entry))) → Accepted p thread level (words c (now (remember .entry)) t) → HasEnded p thread level region (words c (now (remember .entry)) t) (words (now (cells .entry)) (now (remember .exit)) (now (tables .exit)))) ⌝ }
+    ensures { λ _. ⌜ ((c t : List ℕ) → Ending p thread level region (words c (now (remember .entry)) t) (words (now (cells .entry)) (now (remember .entry)) (now (tables .entry))) → Accepted p region (words c (now (remember .entry)) t) → HasEnded p thread level region (words c (now (remember .entry)) t) (words (now (cells .entry)) (now (remember .exit)) (now (tables .exit)))) ⌝ }
 {
     settle::entries::keep_entries(p, cells, remember, tables, region);
     release::release_region(p, tables, notes, region, thread);

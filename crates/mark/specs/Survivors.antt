@@ -15,11 +15,12 @@ use Rattle.rules.specs.Graph.{target}
 use Rattle.laws.specs.RegionLaws.{region-high}
 use Rattle.laws.specs.JoinLaws.{further-out}
 use Rattle.laws.specs.GraphLaws.{Reaches, target-absorbs, target-reached, target-called, target-furthest}
-use Rattle.layout.specs.Places.{depthOf, markOf, Room, room, markAt}
+use Rattle.layout.specs.Places.{depthOf, markOf, room, markAt}
 use Rattle.layout.specs.Cells.{workAt, workOf, pageOf, placeOf, cellOf, wordOf, pageCells}
 use Rattle.layout.specs.Marks.{marked}
 use Rattle.layout.specs.Objects.{begins-page}
 use Rattle.layout.specs.Words.{Words, words, BeginsIn, ownerIn, depthIn, graphOf}
+use Rattle.promises.specs.Reading.{whole-room}
 use Rattle.promises.specs.Whole.{WholeFor}
 use Rattle.promises.specs.Ends.{Part, partOf}
 use Rattle.mark.specs.Marks.{Shaped, leads-last, Small, Kept, AnyMarked, page-unmarked}
@@ -138,11 +139,8 @@ module _ (s : Sizes) (w : Words) (k : WholeFor s w) (t j : ℕ) (th : t < s .thr
 -- ---- as the code calls it
 
 module _ (p : Sizes) (w : Words) (k : WholeFor p w) (fits : length (w .tables) < 2 ^ 63) where
-  pub space-of : Room p (length (w .tables))
-  space-of = room p (length (w .tables)) (k .sized .range) (k .sized .tables) fits
-
   pub shaped-at : Shaped p (w .cells) (w .tables)
-  shaped-at = record { room = space-of; cells-long = k .sized .cells; objects = k .objects }
+  shaped-at = record { room = whole-room p w k fits; cells-long = k .sized .cells; objects = k .objects }
 
 module _ (p : Sizes) (w : Words) (k : WholeFor p w) where
   pub clean-at : (c : ℕ) → pageOf c < p .pages → marked p (w .tables) c ≡ 0
@@ -151,12 +149,12 @@ module _ (p : Sizes) (w : Words) (k : WholeFor p w) where
   -- r and outer are the regions of the depth d and of the level around it, as the code has them
   pub marked-at : (t d r outer : ℕ) → t < p .threads → 0 < d → d ≡ depthOf (w .tables) t → r ≡ regionAt p t d → outer ≡ regionAt p t (d - 1) → {W′ T′ : List ℕ}
       → Levels p r d (regionAt p t) (levelRefs p (w .cells) (w .remember) (w .tables) r t outer) (w .cells) (w .tables) W′ T′
-      → Marked p w (partOf p w (regionAt p t (depthOf (w .tables) t))) (words W′ (w .remember) T′)
+      → Marked p w (partOf p w r) (words W′ (w .remember) T′)
   marked-at t zero r outer th l dk er eo L = absurd (let z : ⊥ = omega arith in z)
   marked-at t (suc j) r outer th l dk er eo {W′} {T′} L =
       let j′ : suc j - 1 ≡ j = omega arith in
       let eo′ : outer ≡ regionAt p t j = eo ∙ ap (regionAt p t) j′ in
-      subst (λ (n : ℕ). Marked p w (partOf p w (regionAt p t n)) (words W′ (w .remember) T′)) dk
+      subst (λ (g : ℕ). Marked p w (partOf p w g) (words W′ (w .remember) T′)) (sym er)
       (levels-marked p w k t j th (sym dk)
       (subst₂ (λ (a b : ℕ). Levels p a (suc j) (regionAt p t) (levelRefs p (w .cells) (w .remember) (w .tables) a t b) (w .cells) (w .tables) W′ T′) er eo′ L))
 

@@ -2,14 +2,13 @@
 use borrow.Author.Needs.{needs}
 use Prim.Native.Nat.{ℕ, _<_}
 use mathlib.Core.Bool.{false}
-use mathlib.Core.Path.{_≡_, sym, ap, _∙_, subst}
+use mathlib.Core.Path.{_≡_, sym, _∙_}
 use native.Mathlib.Omega.{arith}
-use Rattle.rules.specs.Regions.{regionAt}
 use Rattle.layout.specs.Places.{depthOf, markOf}
 use Rattle.layout.specs.Words.{Words, words}
-use Rattle.promises.specs.Ends.{partOf}
+use Rattle.promises.specs.Reading.{whole-room}
 use Rattle.promises.specs.Questions.{did-answer}
-use Rattle.mark.specs.Survivors.{Marked, space-of, none-survives}
+use Rattle.mark.specs.Survivors.{none-survives}
 use Rattle.ending.specs.Ending.{Ending, ended-here}
 use Rattle.ended.specs.EndQuestion.{refused-shut}
 use Rattle.epoch.specs.EndDid.{accepted, free-way}
@@ -37,7 +36,7 @@ ending c =
       level = level c;
       epoch = omega (arith, c .before .before .before .before .before .if1 .left);
       region = c .before .before .before .before .region-at .ensures;
-      marks = subst (λ (g : ℕ). Marked (a .p) (before c) (partOf (a .p) (before c) g) (after c)) (ap (regionAt (a .p) (a .thread)) (level c) ∙ sym (c .before .before .before .before .region-at .ensures)) (c .mark-survivors .ensures .0);
+      marks = c .mark-survivors .ensures .0;
     }
 
 unmarked : (c : tie.After-mark-survivors) → c .mark-survivors .result ≡ false → (page : ℕ) → page < c .before .before .before .before .before .before .before .before .before .before .before .before .before .args .p .pages → markOf (c .before .before .before .before .before .before .before .before .before .before .before .before .before .args .p) (after c .tables) page ≡ 0
@@ -46,7 +45,7 @@ unmarked c e = none-survives (c .before .before .before .before .before .before 
 depth-requires : tie.Need-depth-requires
 depth-requires c κs =
     let a = c .before .before .before .before .before .args in
-    (space-of (a .p) (words (a .cells .now) (a .remember .now) (a .tables .now)) (c .before .before .before .before .before .pre .0) (omega arith), c .before .before .before .before .before .pre .1 .0)
+    (whole-room (a .p) (words (a .cells .now) (a .remember .now) (a .tables .now)) (c .before .before .before .before .before .pre .0) (omega arith), c .before .before .before .before .before .pre .1 .0)
 
 wide-requires : tie.Need-wide-requires
 wide-requires c κs = search needs
@@ -68,11 +67,11 @@ region-at-requires : tie.Need-region-at-requires
 region-at-requires c κs =
     let a = c .before .before .before .before .before .before .before .before .args in
     let pre = c .before .before .before .before .before .before .before .before .pre in
-    let rm = space-of (a .p) (words (a .cells .now) (a .remember .now) (a .tables .now)) (pre .0) (omega arith) in
+    let rm = whole-room (a .p) (words (a .cells .now) (a .remember .now) (a .tables .now)) (pre .0) (omega arith) in
     (rm .threads-high, rm .depth-high, pre .1 .0, omega (arith, pre .0 .depths (a .thread) (pre .1 .0), c .before .wide .ensures, c .before .before .depth .ensures))
 
 mark-survivors-requires : tie.Need-mark-survivors-requires
-mark-survivors-requires c κs = let pre = c .before .before .before .before .before .before .before .before .before .before .before .before .pre in (pre .0, (pre .1 .0, omega (arith, c .before .before .before .before .before .before .depth .ensures, c .before .before .before .before .before .wide .ensures, c .before .before .before .before .if1 .left)))
+mark-survivors-requires c κs = let pre = c .before .before .before .before .before .before .before .before .before .before .before .before .pre in (pre .0, (pre .1 .0, c .before .before .before .before .before .wide .ensures ∙ c .before .before .before .before .before .before .depth .ensures, omega (arith, c .before .before .before .before .if1 .left), c .before .before .before .region-at .ensures))
 
 end-marked-requires : tie.Need-end-marked-requires
 end-marked-requires c κs = let a = c .before .before .before .before .before .before .before .before .before .before .before .before .before .before .before .before .before .before .before .before .before .before .args in ((a .cells .now, a .tables .now, ending (c .before .before .before .before .before .before .before .before .before)), c .before .before .before .before .before .before .before .before .before .before .before .before .before .before .before .before .before .before .before .before .before .before .pre .1 .1)

@@ -8,8 +8,10 @@ use Rattle.layout.specs.Places.{regions-few}
 use Rattle.promises.specs.Arriving.{goesTo}
 use Rattle.census.specs.Counted.{over-cells}
 use Rattle.ending.specs.Ending.{room-now, level-low, ended-here}
-use Rattle.ending.specs.Stages.{bounds, unlisted}
-use Rattle.epoch.specs.EndDid.{cells-now, used-now, shaped-now, holding-now, targets-now, paged-now, out-refused, accepted}
+use Rattle.mark.specs.MarkedWords.{unlisted}
+use Rattle.ending.specs.PagesEnough.{targets-low}
+use Rattle.ending.specs.Stages.{bounds, listed}
+use Rattle.epoch.specs.EndDid.{marked-ready, shaped-now, holding-now, paged-now, out-refused, accepted}
 use Rattle.epoch.proofs.end_marked.Statement.{statement}
 use Rattle.epoch.proofs.end_marked.Tie as tie
 
@@ -32,7 +34,7 @@ count-listed-requires : tie.Need-count-listed-requires
 count-listed-requires c κs =
     let m = c .before .before .before .before .before .before .before .before .before .before .before .before .pre .0 .2 in
     let o = c .before .before .before .before .before .list-pages .ensures in
-    (shaped-now m, (o .rises, (unlisted m o, (m .marks .small, (used-now m, (λ x l on. omega (arith, targets-now m x l on, regions-few (room-now m)), λ g. replicate-at 130 g 0))))))
+    (shaped-now m, (o .rises, (unlisted (m .marks) (listed m o), (m .marks .small, (marked-ready m .used, (λ x l on. omega (arith, targets-low m x l on, regions-few (room-now m)), λ g. replicate-at 130 g 0))))))
 
 slice-aggregate-ask-room : tie.Need-slice-aggregate-ask-room
 slice-aggregate-ask-room c = search needs
@@ -50,7 +52,7 @@ unmark-requires : tie.Need-unmark-requires
 unmark-requires c κs =
     let m = c .before .before .before .before .before .before .before .before .before .before .before .before .before .before .before .before .before .before .before .before .before .before .before .pre .0 .2 in
     let o = c .before .before .before .before .before .before .before .before .before .before .before .before .before .before .before .before .list-pages .ensures in
-    (room-now m, (cells-now m, (m .marks .small, (o .rises, unlisted m o))))
+    (room-now m, (marked-ready m .cells-long, (m .marks .small, (o .rises, unlisted (m .marks) (listed m o)))))
 
 refused-requires : tie.Need-refused-requires
 refused-requires c κs = search needs

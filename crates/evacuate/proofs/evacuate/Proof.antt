@@ -4,6 +4,8 @@ use mathlib.Core.Path.{_∙_}
 use Rattle.ending.specs.Rewriting.{rewritten-both}
 use Rattle.ending.specs.Finish.{variables-ask}
 use Rattle.ending.specs.Ending.{level-low}
+use Rattle.mark.specs.MarkedWords.{unlisted}
+use Rattle.ending.specs.PagesEnough.{plan}
 use Rattle.ending.specs.Stages as st
 use Rattle.evacuate.proofs.evacuate.Statement.{statement}
 use Rattle.evacuate.proofs.evacuate.Tie as tie
@@ -12,38 +14,38 @@ copy-survivors-requires : tie.Need-copy-survivors-requires
 copy-survivors-requires c κs =
     let pre = c .before .before .before .before .before .before .before .before .before .pre in
     let e = pre .0 .2 in
-    (st.plan e (pre .0 .3 .pages), ((e .thread, level-low e), (pre .1 .0 .rises, (st.unlisted e (pre .1 .0), (pre .1 .1 .0, pre .1 .1 .1)))))
+    (plan e (pre .0 .3 .pages), ((e .thread, level-low e), (pre .1 .0 .rises, (unlisted (e .marks) (st.listed e (pre .1 .0)), (pre .1 .1 .0, pre .1 .1 .1)))))
 
 rewrite-slots-requires : tie.Need-rewrite-slots-requires
 rewrite-slots-requires c κs =
     let pre = c .before .before .before .before .before .before .before .before .before .before .before .before .before .before .before .before .before .before .pre in
     let e = pre .0 .2 in
-    st.slots-ask e (st.plan e (pre .0 .3 .pages)) (c .before .before .before .before .before .before .before .before .copy-survivors .ensures)
+    st.slots-ask e (plan e (pre .0 .3 .pages)) (c .before .before .before .before .before .before .before .before .copy-survivors .ensures)
 
 settle-requires : tie.Need-settle-requires
 settle-requires c κs =
     let pre = c .before .before .before .before .before .before .before .before .before .before .before .before .before .before .before .before .before .before .before .before .before .before .before .before .pre in
     let e = pre .0 .2 in
-    let p = st.plan e (pre .0 .3 .pages) in
+    let p = plan e (pre .0 .3 .pages) in
     let k = c .before .before .before .before .before .before .before .before .before .before .before .before .before .before .copy-survivors .ensures in
-    (st.settle-ask e p k (c .before .before .before .before .before .rewrite-slots .ensures) (pre .0 .3 .entries), (pre .1 .0 .rises, st.marks-ask e p k (pre .1 .0)))
+    (st.settle-ask e p k (c .before .before .before .before .before .rewrite-slots .ensures) (pre .0 .3 .entries), (pre .1 .0 .rises, st.marks-ask e p k (st.listed e (pre .1 .0))))
 
 rewrite-variables-requires : tie.Need-rewrite-variables-requires
 rewrite-variables-requires c κs =
     let pre = c .before .before .before .before .before .before .before .before .before .before .before .before .before .before .before .before .before .before .before .before .before .before .before .before .before .before .before .before .before .before .before .pre in
     let e = pre .0 .2 in
-    let h = st.moved e (st.plan e (pre .0 .3 .pages)) (c .before .before .before .before .before .before .before .before .before .before .before .before .before .before .before .before .before .before .before .before .before .copy-survivors .ensures) in
+    let h = st.moved e (plan e (pre .0 .3 .pages)) (c .before .before .before .before .before .before .before .before .before .before .before .before .before .before .before .before .before .before .before .before .before .copy-survivors .ensures) in
     (variables-ask h, (omega (arith, h .ready .cells-long, c .before .before .before .before .before .before .before .before .before .before .before .before .rewrite-slots .ensures .size, c .before .before .before .before .before .before .settle .ensures .0 .size), h .ready .room))
 
 release-requires : tie.Need-release-requires
 release-requires c κs =
     let pre = c .before .before .before .before .before .before .before .before .before .before .before .before .before .before .before .before .before .before .before .before .before .before .before .before .before .before .before .before .before .before .before .before .before .before .before .before .pre in
     let e = pre .0 .2 in
-    let p = st.plan e (pre .0 .3 .pages) in
+    let p = plan e (pre .0 .3 .pages) in
     let k = c .before .before .before .before .before .before .before .before .before .before .before .before .before .before .before .before .before .before .before .before .before .before .before .before .before .before .copy-survivors .ensures in
     let v = c .before .before .before .before .rewrite-variables .ensures in
     let z = st.release-ask e p k v in
-    (z .0, (st.pages-ask e p k v (pre .1 .0), (st.bounds e, ((e .thread, omega (arith, z .1, e .epoch)), omega (arith, pre .1 .1 .1 .0, c .before .before .before .before .before .before .before .before .before .before .before .before .before .before .before .before .before .before .before .before .before .before .before .before .before .before .copy-survivors .kept .1 .1 .1 .0)))))
+    (z .0, (st.pages-ask e p k v (st.listed e (pre .1 .0)), (st.bounds e, ((e .thread, omega (arith, z .1, e .epoch)), omega (arith, pre .1 .1 .1 .0, c .before .before .before .before .before .before .before .before .before .before .before .before .before .before .before .before .before .before .before .before .before .before .before .before .before .before .copy-survivors .kept .1 .1 .1 .0)))))
 
 same-length : tie.Need-same-length
 same-length c = c .before .before .before .before .before .before .before .before .before .before .before .before .before .before .before .before .settle .kept .1 .0 ∙ c .before .before .before .before .before .before .before .before .before .before .before .before .before .before .before .before .before .before .before .before .before .before .rewrite-slots .kept .1 .0 ∙ c .before .before .before .before .before .before .before .before .before .before .before .before .before .before .before .before .before .before .before .before .before .before .before .before .before .before .before .before .before .before .before .copy-survivors .kept .1 .0
@@ -60,7 +62,7 @@ same-length-4 c = c .before .before .before .before .release .kept .1 .1 .0 ∙ 
 returns : tie.Need-returns
 returns c cells tables e a =
     let settle = c .before .before .before .before .before .before .before .before .before .before .before .before .before .before .before .before .settle in
-    let p = st.plan e (a .pages) in
+    let p = plan e (a .pages) in
     let k = c .before .before .before .before .before .before .before .before .before .before .before .before .before .before .before .before .before .before .before .before .before .before .before .before .before .before .before .before .before .before .before .copy-survivors .ensures in
     let h = st.moved e p k in
     st.has-ended e p k (c .before .before .before .before .before .before .before .before .before .rewrite-variables .ensures) (c .before .before .before .before .release .ensures) (rewritten-both h (st.held e) (c .before .before .before .before .before .before .before .before .before .before .before .before .before .before .before .before .before .before .before .before .before .before .rewrite-slots .ensures) (settle .ensures .0)) (settle .ensures .1)

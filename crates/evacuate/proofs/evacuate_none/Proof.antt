@@ -1,6 +1,7 @@
 -- Nothing moves: the entries are those of the words as they are, and the region's pages go.
 use native.Mathlib.Omega.{arith}
 use Rattle.ending.specs.Ending.{depth-now}
+use Rattle.ending.specs.PagesEnough.{plan}
 use Rattle.ending.specs.Stages as st
 use Rattle.ending.specs.NoSurvivors.{none-copied, none-copies, none-rewritten, none-update, none-variables}
 use Rattle.evacuate.proofs.evacuate_none.Statement.{statement}
@@ -10,14 +11,14 @@ keep-entries-requires : tie.Need-keep-entries-requires
 keep-entries-requires c κs =
     let pre = c .before .before .before .before .before .before .pre in
     let e = pre .0 .2 in
-    let p = st.plan e (pre .0 .3 .pages) in
+    let p = plan e (pre .0 .3 .pages) in
     (none-update e (pre .1 .0) p (pre .0 .3 .entries), none-copies e (pre .1 .0) p)
 
 release-region-requires : tie.Need-release-region-requires
 release-region-requires c κs =
     let pre = c .before .before .before .before .before .before .before .before .before .before .before .pre in
     let e = pre .0 .2 in
-    let p = st.plan e (pre .0 .3 .pages) in
+    let p = plan e (pre .0 .3 .pages) in
     (p .ready .room, (p .ready .regular, (st.bounds e, ((e .thread, omega (arith, depth-now e, e .epoch)), pre .1 .1))))
 
 same-length : tie.Need-same-length
@@ -32,7 +33,7 @@ same-length-3 c = c .before .before .before .before .release-region .kept .1 .1 
 returns : tie.Need-returns
 returns c cells tables e a =
     let off = c .before .before .before .before .before .before .before .before .before .before .before .before .before .before .before .before .pre .1 .0 in
-    let p = st.plan e (a .pages) in
+    let p = plan e (a .pages) in
     st.has-ended e p (none-copied e off) (none-variables e off) (c .before .before .before .before .release-region .ensures) (none-rewritten e off p) (c .before .before .before .before .before .before .before .before .before .keep-entries .ensures)
 
 pub evacuate-none-spec : {M : Type 1} → statement M

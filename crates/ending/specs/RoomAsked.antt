@@ -24,30 +24,27 @@ unfolding regionMore
 more-arriving p W T come t n a =
     sum-same _ _ n (λ l h. ap (morePages (countOf p T (regionAt p t l))) (a (regionAt p t l) ∙ over-cells p T (goesTo W (regionAt p t l))))
 
--- the regions of thread t at the levels below n grow, the one at level n ends
-unfoldable pub roomAsked : Sizes → List ℕ → List ℕ → List ℕ → ℕ → ℕ → ℕ
-roomAsked p W M T t n =
-    ask (leb (moreBelow p T (arriving p W T) (regionAt p t) n) (ownedIn p T 0 (p .pages))) 13 (ask (leb (crossingCounted p W M T (regionAt p t n)) (p .entries)) 14 0)
+-- region r ends, the regions of thread t at the levels below n grow
+unfoldable pub roomAsked : Sizes → List ℕ → List ℕ → List ℕ → ℕ → ℕ → ℕ → ℕ
+roomAsked p W M T t n r =
+    ask (leb (moreBelow p T (arriving p W T) (regionAt p t) n) (ownedIn p T 0 (p .pages))) 13 (ask (leb (crossingCounted p W M T r) (p .entries)) 14 0)
 
 -- the number that the code found
-module _ (p : Sizes) (W M T : List ℕ) (t n : ℕ) {needed free : ℕ} (en : needed ≡ moreBelow p T (arriving p W T) (regionAt p t) n) (ef : free ≡ ownedIn p T 0 (p .pages)) where
-  pub asked-pages : free < needed → 13 ≡ roomAsked p W M T t n
+module _ (p : Sizes) (W M T : List ℕ) (t n r : ℕ) {needed free : ℕ} (en : needed ≡ moreBelow p T (arriving p W T) (regionAt p t) n) (ef : free ≡ ownedIn p T 0 (p .pages)) where
+  pub asked-pages : free < needed → 13 ≡ roomAsked p W M T t n r
   unfolding roomAsked ask
   asked-pages l =
-      sym (ap (λ (b : Bool). ask b 13 (ask (leb (crossingCounted p W M T (regionAt p t n)) (p .entries)) 14 0)) (lt-leb _ _ (subst₂ (λ (a b : ℕ). a < b) ef en l)))
+      sym (ap (λ (b : Bool). ask b 13 (ask (leb (crossingCounted p W M T r) (p .entries)) 14 0)) (lt-leb _ _ (subst₂ (λ (a b : ℕ). a < b) ef en l)))
 
-  module _ {crossing r : ℕ} (er : r ≡ regionAt p t n) (ec : crossing ≡ crossingCounted p W M T r) (l : needed ≤ free) where
-    crossing-is : crossing ≡ crossingCounted p W M T (regionAt p t n)
-    crossing-is = ec ∙ ap (crossingCounted p W M T) er
-
-    then : (b : Bool) → leb (crossingCounted p W M T (regionAt p t n)) (p .entries) ≡ b → roomAsked p W M T t n ≡ ask b 14 0
+  module _ {crossing : ℕ} (ec : crossing ≡ crossingCounted p W M T r) (l : needed ≤ free) where
+    then : (b : Bool) → leb (crossingCounted p W M T r) (p .entries) ≡ b → roomAsked p W M T t n r ≡ ask b 14 0
     unfolding roomAsked ask
     then b e = ap₂ (λ (a c : Bool). ask a 13 (ask c 14 0)) (le-leb _ _ (subst₂ (λ (a b : ℕ). a ≤ b) en ef l)) e
 
-    pub asked-entries : p .entries < crossing → 14 ≡ roomAsked p W M T t n
+    pub asked-entries : p .entries < crossing → 14 ≡ roomAsked p W M T t n r
     unfolding ask
-    asked-entries m = sym (then false (lt-leb _ _ (subst (λ (x : ℕ). p .entries < x) crossing-is m)))
+    asked-entries m = sym (then false (lt-leb _ _ (subst (λ (x : ℕ). p .entries < x) ec m)))
 
-    pub asked-none : crossing ≤ p .entries → 0 ≡ roomAsked p W M T t n
+    pub asked-none : crossing ≤ p .entries → 0 ≡ roomAsked p W M T t n r
     unfolding ask
-    asked-none m = sym (then true (le-leb _ _ (subst (λ (x : ℕ). x ≤ p .entries) crossing-is m)))
+    asked-none m = sym (then true (le-leb _ _ (subst (λ (x : ℕ). x ≤ p .entries) ec m)))
