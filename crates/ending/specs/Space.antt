@@ -41,7 +41,7 @@ module _ (n : ℕ) (P : ℕ → ℕ → Type 0) (h : (i : ℕ) → i < n → (q 
 
 module _ {s : Sizes} {w : Words} {e : Part} {w′ : Words} {cell : ℕ → ℕ} (h : Placing s w e w′ cell) {g : Graph} (a : GraphAfter s w e g) where
   -- a slot that crosses then
-  abbrev Crosses : ℕ → Type 0
+  abbrev pub Crosses : ℕ → Type 0
   Crosses x = (q : LiveSlot s w e cell x) × (crossThen s w w′ cell (q .object) (q .field) ≢ 0)
 
   home-is : (c : ℕ) → Lives s w e c → g .home c ≡ ownerIn s w′ (pageOf (cell c))
@@ -89,5 +89,5 @@ module _ {s : Sizes} {w : Words} {e : Part} {w′ : Words} {cell : ℕ → ℕ} 
           let z = objects-apart s (w .cells) (w .tables) (j .object) (j .lives .used) (k .object) (k .lives .used) (k .field) (room b m) (j .field) (room a la) (sym (good a la .1) ∙ e ∙ good b m .1) in
           apart a b l m (j .at ∙ ap₂ (λ (c f : ℕ). fieldAt (cell c) f) (z .0) (z .1) ∙ sym (k .at))
 
-  pub space-enough : crossing g ≤ s .entries → AtMost (λ x. (q : LiveSlot s w e cell x) × (crossThen s w w′ cell (q .object) (q .field) ≢ 0)) (s .entries)
+  pub space-enough : crossing g ≤ s .entries → AtMost Crosses (s .entries)
   space-enough fits = record { few = enough fits }

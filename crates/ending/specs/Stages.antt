@@ -1,4 +1,4 @@
--- The end of one region, that of thread t at level suc k, stage by stage: what each stage asks follows from what the earlier ones leave, and
+-- The end of one region, that of thread t at level l, stage by stage: what each stage asks follows from what the earlier ones leave, and
 -- the release gives its pages back.
 use mathlib.Core.Path.{_≡_, refl, sym, ap, ap₂, subst, _∙_}
 use mathlib.Core.Logic.{_≢_, _⊎_, inl, inr, ⊎-elim}
@@ -179,8 +179,8 @@ module _ {s : Sizes} {t l r : ℕ} {w w₁ : Words} (b : Ending s t l r w w₁) 
         a : Room s (length T₂)
         a = room₂ moved Y
 
-        depth-now : depthOf T′ t ≡ l - 1
-        depth-now = ended-depth a (bounds .0) (bounds .1) (b .thread) Z ∙ ap (λ (x : ℕ). x - 1) (release-ask .1)
+        depth-after : depthOf T′ t ≡ l - 1
+        depth-after = ended-depth a (bounds .0) (bounds .1) (b .thread) Z ∙ ap (λ (x : ℕ). x - 1) (release-ask .1)
 
         rest : (x : ℕ) → x ≢ depthAt t → (ownersFrom s ≤ x → tablesWords s ≤ x) → getD T′ x 0 ≡ getD T₂ x 0
         rest x n m = ended-rest a (bounds .0) (bounds .1) (b .thread) Z x n count (go (decLt x (ownersFrom s)))
@@ -196,7 +196,7 @@ module _ {s : Sizes} {t l r : ℕ} {w w₁ : Words} (b : Ending s t l r w w₁) 
         depth-kept u l n = rest (depthAt u) (λ z. n (omega arith)) (λ z. omega (arith, a)) ∙ word₂ moved Y (depthAt u) (λ z. omega arith)
 
         lowered : {M′ : List ℕ} → Lowered s w t (l - 1) (words W₃ M′ T′)
-        lowered = record { depth = depth-now; depths = depth-kept }
+        lowered = record { depth = depth-after; depths = depth-kept }
 
         -- every region but r that was open is open still, and so is every region around r
         still-open : (g : ℕ) → g ≢ r → Open s (w .tables) g → Open s T′ g
@@ -207,7 +207,7 @@ module _ {s : Sizes} {t l r : ℕ} {w w₁ : Words} (b : Ending s t l r w w₁) 
             go (yes d) = last (ℕ-discrete (levelOf s g) l)
               where
                 last : Dec (levelOf s g ≡ l) → levelOf s g ≤ depthOf T′ (threadOf s g)
-                last (no z) = omega (arith, o .level, ap (depthOf T′) d, depth-now, ap (depthIn w) d, b .level)
+                last (no z) = omega (arith, o .level, ap (depthOf T′) d, depth-after, ap (depthIn w) d, b .level)
                 last (yes z) = absurd (n (region-number s g (o .real) ∙ ap₂ (regionAt s) d (omega (arith, z)) ∙ sym (b .region)))
 
         gave-back : GaveBack s w (partOf s w r) T₂ T′
@@ -219,7 +219,7 @@ module _ {s : Sizes} {t l r : ℕ} {w w₁ : Words} (b : Ending s t l r w w₁) 
               alike = λ page l n. ended-alike a (bounds .0) (bounds .1) (b .thread) Z page l (λ z. n (was₂ page l z));
               rest = λ x n m. rest x (λ z. let y : varsFrom s ≤ x = n (omega arith) in omega (arith, b .thread)) m;
               outside = λ x o h. still-open (ownerIn s w (pageOf x)) (o .out) (b .whole .pages (pageOf x) (begins-page s (w .cells) (w .tables) x (o .used)) .region h);
-              survivor = λ x v h. let j = survivor-level b x v in subst (Open s T′) (sym (j .2)) (level-open s T′ t (j .0) (b .thread) (omega (arith, j .1, level-low b)) (omega (arith, j .1, depth-now)) (omega (arith, j .2)));
+              survivor = λ x v h. let j = survivor-level b x v in subst (Open s T′) (sym (j .2)) (level-open s T′ t (j .0) (b .thread) (omega (arith, j .1, level-low b)) (omega (arith, j .1, depth-after)) (omega (arith, j .2)));
             }
 
         pub has-ended : {M′ : List ℕ} → Rewritten (λ x. Held s w r x ⊎ Copies s W T x) W W₃ → Updated s r (s .entries) (entriesUsed (w .remember)) W₃ (w .remember) T M′ → HasEnded s t l r w (words W₃ M′ T′)

@@ -14,7 +14,8 @@ use rules::Sizes;
 
 pub mod needs;
 
-// The end of the thread's innermost epoch, at the given level, once its survivors are marked: 13 if there are too few free pages, 14 if too many slots would cross.
+// The end of the thread's innermost epoch, at the given level, once its survivors are marked: 13 if there are too few free pages, 14 if too
+// many slots would cross.
 fn end_marked(
     p: Sizes,
     cells: &mut [u32],

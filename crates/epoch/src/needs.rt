@@ -14,7 +14,7 @@ ghost use Rattle.ending.specs.RoomAsked.{roomAsked};
 use rules::Sizes;
 
 // How many new pages region g needs for the survivors that go to it, which `come` counts: none where none goes.
-pub fn level_pages(p: Sizes, tables: &[u32], come: &[u32], g: u32) -> usize
+pub fn new_pages(p: Sizes, tables: &[u32], come: &[u32], g: u32) -> usize
     requires { ⌜ Room p (length (now tables)) ⌝ }
     requires { ⌜ (1 ≤ g) × (g ≤ regions p) × (regions p < length (now come)) ⌝ }
     ensures { λ n. ⌜ n ≡ regionMore p (now (tables .entry)) (λ h. getD (now (come .entry)) h 0) g ⌝ }
@@ -39,7 +39,7 @@ pub fn needed_pages(p: Sizes, tables: &[u32], come: &[u32], thread: usize, level
     let mut n: usize = 0;
     let mut level: usize = 0;
     while level < levels {
-        n += level_pages(
+        n += new_pages(
             p,
             tables,
             come,

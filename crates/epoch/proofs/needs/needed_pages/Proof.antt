@@ -26,14 +26,14 @@ region-at-requires c κs =
     let pre = c .before .before .before .before .pre in
     (pre .0 .threads-high, pre .0 .depth-high, pre .1 .1 .0, omega (arith, pre .1 .1 .1))
 
-level-pages-requires : tie.Need-level-pages-requires Inv-loop μ-loop
-level-pages-requires c κs =
+new-pages-requires : tie.Need-new-pages-requires Inv-loop μ-loop
+new-pages-requires c κs =
     let pre = c .before .before .before .before .before .pre in
     let b = region-bounds (c .before .before .before .before .before .args .p) (c .before .before .before .before .before .args .thread) (c .before .before .loop .level) (pre .1 .1 .0) (omega (arith, pre .1 .1 .1)) in
     (pre .0, (omega (arith, c .region-at .ensures, b .0), omega (arith, c .region-at .ensures, b .1), pre .1 .0))
 
 add-n : tie.Need-add-n Inv-loop μ-loop
-add-n c = omega (arith, c .level-pages .ensures .1, c .before .before .before .loop .inv .2, c .before .before .before .before .before .before .pre .0, c .before .before .before .before .before .before .pre .1 .1 .1)
+add-n c = omega (arith, c .new-pages .ensures .1, c .before .before .before .loop .inv .2, c .before .before .before .before .before .before .pre .0, c .before .before .before .before .before .before .pre .1 .1 .1)
 
 add-level : tie.Need-add-level Inv-loop μ-loop
 add-level c = omega (arith, c .before .before .before .before .before .before .pre .0, c .before .before .before .before .before .before .pre .1 .1 .1)
@@ -46,9 +46,9 @@ loop-again c =
     let a = c .before .before .before .before .before .before .args in
     let l = c .before .before .before .loop in
     let T = a .tables .now in
-    let e = c .level-pages .ensures .0 ∙ ap (regionMore (a .p) T (λ g. getD (a .come .now) g 0)) (c .before .region-at .ensures) in
+    let e = c .new-pages .ensures .0 ∙ ap (regionMore (a .p) T (λ g. getD (a .come .now) g 0)) (c .before .region-at .ensures) in
     let m = sum-more (λ i. regionMore (a .p) T (λ g. getD (a .come .now) g 0) (regionAt (a .p) (a .thread) i)) (l .level) in
-    (omega arith, omega (arith, e, m, l .inv .1), omega (arith, c .level-pages .ensures .1, l .inv .2))
+    (omega arith, omega (arith, e, m, l .inv .1), omega (arith, c .new-pages .ensures .1, l .inv .2))
 
 returns : tie.Need-returns Inv-loop μ-loop
 returns c =
@@ -64,7 +64,7 @@ needed-pages-spec =
     μ-loop
     loop-holds
     region-at-requires
-    level-pages-requires
+    new-pages-requires
     add-n
     add-level
     loop-less

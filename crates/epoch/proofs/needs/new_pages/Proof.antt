@@ -6,8 +6,8 @@ use lib.ListN.{getD}
 use Rattle.layout.specs.Places.{countOf}
 use Rattle.promises.specs.Arriving.{more-is, more-none}
 use borrow.Author.Needs.{needs}
-use Rattle.epoch.proofs.needs.level_pages.Statement.{statement}
-use Rattle.epoch.proofs.needs.level_pages.Tie as tie
+use Rattle.epoch.proofs.needs.new_pages.Statement.{statement}
+use Rattle.epoch.proofs.needs.new_pages.Tie as tie
 
 -- what was read of come
 arrivals-is : (c : tie.After-wide2) → c .wide2 .result ≡ getD (c .before .before .before .before .before .args .come .now) (c .before .before .before .before .before .args .g) 0
@@ -58,8 +58,8 @@ returns-2 c =
     let come = c .before .before .before .before .before in
     (ap₂ (λ (a b : ℕ). a - b) (c .before .pages-for .ensures) (c .pages-for2 .ensures) ∙ more-is (a .p) T (λ h. getD (a .come .now) h 0) (a .g) (c .before .before .wide3 .result) (c .before .before .before .before .before .wide2 .result) (c .before .before .wide3 .ensures ∙ c .before .before .before .count .ensures ∙ ap (countOf (a .p) T) (c .before .before .before .before .before .before .before .wide .ensures)) (arrivals-is come), omega (arith, arrivals-fit come, c .before .pages-for .ensures, c .pages-for2 .ensures))
 
-pub level-pages-spec : {M : Type 1} → statement M
-level-pages-spec =
+pub new-pages-spec : {M : Type 1} → statement M
+new-pages-spec =
     tie.close
     (tie.spec
     wide-requires
