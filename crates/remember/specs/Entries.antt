@@ -16,12 +16,28 @@ pub record Entry (f : ℕ → ℕ) (n at g : ℕ) : Type 0 where
   pub region : 0 < g
   pub right : f at ≡ g
 
+-- each entry that is used is one of G
+abbrev pub EachOf : (ℕ → ℕ → Type 0) → ℕ → List ℕ → Type 0
+EachOf G N m = (i : ℕ) → i < entriesUsed m → G (slotIn m i) (slotRegionIn N m i)
+
+-- no two of the first k entries name one slot
+abbrev pub Once : List ℕ → ℕ → Type 0
+Once m k = (i j : ℕ) → i < j → j < k → slotIn m i ≡ slotIn m j → ⊥
+
+-- the entries from a to before b are zero
+abbrev pub ZeroBetween : ℕ → List ℕ → ℕ → ℕ → Type 0
+ZeroBetween N m a b = (i : ℕ) → a ≤ i → i < b → (slotIn m i ≡ 0) × (slotRegionIn N m i ≡ 0)
+
+-- every entry that is not used is zero
+abbrev pub RestZero : ℕ → List ℕ → Type 0
+RestZero N m = ZeroBetween N m (entriesUsed m) N
+
 -- the entries are of G, each of another number, and those that are not used are zero
 pub record EntriesOf (G : ℕ → ℕ → Type 0) (N : ℕ) (m : List ℕ) : Type 0 where
   pub room : entriesUsed m ≤ N
-  pub named : (i : ℕ) → i < entriesUsed m → G (slotIn m i) (slotRegionIn N m i)
-  pub once : (i j : ℕ) → i < j → j < entriesUsed m → slotIn m i ≡ slotIn m j → ⊥
-  pub rest : (i : ℕ) → entriesUsed m ≤ i → i < N → (slotIn m i ≡ 0) × (slotRegionIn N m i ≡ 0)
+  pub named : EachOf G N m
+  pub once : Once m (entriesUsed m)
+  pub rest : RestZero N m
 
 pub entries-like : {G H : ℕ → ℕ → Type 0} {N : ℕ} {m : List ℕ} → ((x g : ℕ) → G x g → H x g) → EntriesOf G N m → EntriesOf H N m
 entries-like to o = record { room = o .room; named = λ i l. to _ _ (o .named i l); once = o .once; rest = o .rest }
@@ -199,7 +215,7 @@ module _ (f f′ : ℕ → ℕ) (n N : ℕ) (m : List ℕ) (x : Exact f n N m) (
           every = every;
         }
       where
-        named : (j : ℕ) → j < entriesUsed m′ → Entry f′ n (slotIn m′ j) (slotRegionIn N m′ j)
+        named : EachOf (Entry f′ n) N m′
         named j p =
             let k = from j p in
             let w = x .entries .named (k .0) (k .1) in
@@ -218,7 +234,7 @@ module _ (f f′ : ℕ → ℕ) (n N : ℕ) (m : List ℕ) (x : Exact f n N m) (
         apart j k a b p q (inr s) (inl t) z = omega (arith, s .1)
         apart j k a b p q (inr s) (inr t) z = omega (arith, s .0, t .0)
 
-        once : (j k : ℕ) → j < k → k < entriesUsed m′ → slotIn m′ j ≡ slotIn m′ k → ⊥
+        once : Once m′ (entriesUsed m′)
         once j k p q z =
             let a = from j (omega arith) in
             let b = from k q in

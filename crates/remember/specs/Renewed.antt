@@ -5,7 +5,7 @@ use Prim.Native.Nat.{ℕ, _≤_, _<_}
 use native.Mathlib.Decide.{decLt}
 use native.Mathlib.Omega.{arith}
 use Rattle.layout.specs.Places.{entriesUsed, slotAt, slotIn, slotRegionAt, slotRegionIn}
-use Rattle.remember.specs.Entries.{Entry, EntriesOf, Exact, Edited, entries-like}
+use Rattle.remember.specs.Entries.{Entry, ZeroBetween, EntriesOf, Exact, Edited, entries-like}
 use Rattle.remember.specs.Stretches.{Added, Closed, slot-above, region-above}
 
 -- its entries are those of G, a number with its region
@@ -22,7 +22,7 @@ renewed-exact f n to from′ r =
 
 -- the first k entries are those of G, entries up to e are cleared, the rest were zero
 module _ {G : ℕ → ℕ → Type 0} {N k e : ℕ} {M M₂ M₃ : List ℕ} (a : Added N G 0 k M M₂) (c : Closed N k e M₂ M₃) (few : e ≤ N)
-    (zeros : (y : ℕ) → e ≤ y → y < N → (slotIn M y ≡ 0) × (slotRegionIn N M y ≡ 0)) where
+    (zeros : ZeroBetween N M e N) where
   slot-y : (y : ℕ) → y < k → slotIn M₃ y ≡ slotIn M₂ y
   slot-y y l = c .same (slotAt y) (λ z. omega arith) (λ z. omega arith) (λ z. omega (arith, a .low))
 

@@ -8,7 +8,7 @@ use native.Mathlib.Omega.{arith}
 use lib.ListN.{length, getD, set, length-set}
 use lib.Seq.{getD-set-same, getD-set-other}
 use Rattle.layout.specs.Places.{entriesUsed, slotAt, slotIn, slotRegionAt, slotRegionIn, entriesWords}
-use Rattle.remember.specs.Entries.{entered, entered-long, entered-else, entered-slot, entered-region}
+use Rattle.remember.specs.Entries.{ZeroBetween, entered, entered-long, entered-else, entered-slot, entered-region}
 
 -- ---- entries i up to j are those of G: slot x with region h
 
@@ -125,7 +125,7 @@ added-like a from to =
 
 pub record Cleared (n j i : ℕ) (M M′ : List ℕ) : Type 0 where
   pub size : length M′ ≡ length M
-  pub zero : (y : ℕ) → j ≤ y → y < i → (slotIn M′ y ≡ 0) × (slotRegionIn n M′ y ≡ 0)
+  pub zero : ZeroBetween n M′ j i
   pub same : (x : ℕ) → (slotAt j ≤ x → slotAt i ≤ x) → (slotRegionAt n j ≤ x → slotRegionAt n i ≤ x) → getD M′ x 0 ≡ getD M x 0
 
 pub clear-start : (n j : ℕ) (M : List ℕ) → Cleared n j j M M
@@ -167,7 +167,7 @@ clear-end {n} {j} {e} {i} m h =
 pub record Closed (n k e : ℕ) (M M′ : List ℕ) : Type 0 where
   pub size : length M′ ≡ length M
   pub used : entriesUsed M′ ≡ k
-  pub zero : (y : ℕ) → k ≤ y → y < e → (slotIn M′ y ≡ 0) × (slotRegionIn n M′ y ≡ 0)
+  pub zero : ZeroBetween n M′ k e
   pub same : (x : ℕ) → x ≢ 1 → (slotAt k ≤ x → slotAt e ≤ x) → (slotRegionAt n k ≤ x → slotRegionAt n e ≤ x) → getD M′ x 0 ≡ getD M x 0
 
 pub closed : {n k e : ℕ} {M M′ : List ℕ} → entriesWords n ≤ length M → Cleared n k e M M′ → Closed n k e M (set M′ 1 k)

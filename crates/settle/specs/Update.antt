@@ -8,6 +8,7 @@ use lib.ListN.{getD}
 use Rattle.rules.specs.declared.Sizes.{Sizes}
 use Rattle.layout.specs.Places.{slotIn, slotRegionIn}
 use Rattle.layout.specs.Words.{Names}
+use Rattle.remember.specs.Entries.{ZeroBetween}
 use Rattle.remember.specs.Stretches.{Added, added-join, Closed}
 use Rattle.remember.specs.Appending.{Crossing, crossing-in, AtMost, at-most-rest}
 use Rattle.remember.specs.Renewed.{Renewed, renewed}
@@ -30,7 +31,7 @@ pub record Settles (p : Sizes) (r n m : ℕ) (W M T : List ℕ) : Type 0 where
   pub old : (i : ℕ) → i < m → Copies p W T (slotIn M i) → ⊥
   pub names : (x : ℕ) → Copies p W T x → Names p (getD W x 0) × Names p (forwarded W (getD W x 0))
   pub space : AtMost (Due p r n m W M T) n
-  pub rest : (y : ℕ) → m ≤ y → y < n → (slotIn M y ≡ 0) × (slotRegionIn n M y ≡ 0)
+  pub rest : ZeroBetween n M m n
 
 -- an entry that stays, or a crossing slot of a copy
 abbrev pub Entry : (p : Sizes) (r n m : ℕ) (W M T : List ℕ) → ℕ → ℕ → Type 0

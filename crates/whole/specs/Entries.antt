@@ -1,4 +1,4 @@
--- The entries of the remember table: each by itself, and that no two name one slot.
+-- The entries of the remember table: stretches of zeros, and that in rising order no two name one slot.
 use Prim.Native.Nat.{ℕ, suc, _+_, _-_, _≤_, _<_}
 use mathlib.Core.List.{List}
 use mathlib.Core.Path.{_≡_, ap, subst, sym}
@@ -7,17 +7,8 @@ use native.Mathlib.Omega.{arith}
 use native.Mathlib.Decide.{decLt}
 use native.Mathlib.Nat.{eq-or-lt-of-le, not-suc-le-zero}
 use native.Mathlib.Numerals.{add-one}
-use Rattle.rules.specs.declared.Sizes.{Sizes}
-use Rattle.layout.specs.Places.{entriesUsed, slotIn, slotRegionIn}
-use Rattle.promises.specs.Whole.{EntryWhole}
-
--- every entry that is used
-abbrev pub NamedWhole : Sizes → List ℕ → List ℕ → List ℕ → Type 0
-NamedWhole p c m t = (i : ℕ) → i < entriesUsed m → EntryWhole p c m t i
-
--- the entries from a to before b, of a table of n, are zero
-abbrev pub ZeroBetween : ℕ → List ℕ → ℕ → ℕ → Type 0
-ZeroBetween n m a b = (i : ℕ) → a ≤ i → i < b → (slotIn m i ≡ 0) × (slotRegionIn n m i ≡ 0)
+use Rattle.layout.specs.Places.{slotIn, slotRegionIn}
+use Rattle.remember.specs.Entries.{Once, ZeroBetween}
 
 pub zero-on : (n : ℕ) (m : List ℕ) (a b c : ℕ) → ZeroBetween n m a b → ZeroBetween n m b c → ZeroBetween n m a c
 zero-on n m a b c h k i l u = go (decLt i b)
@@ -25,14 +16,6 @@ zero-on n m a b c h k i l u = go (decLt i b)
     go : Dec (i < b) → (slotIn m i ≡ 0) × (slotRegionIn n m i ≡ 0)
     go (yes v) = h i l v
     go (no v) = k i (omega arith) u
-
--- every entry that is not used
-abbrev pub RestZero : Sizes → List ℕ → Type 0
-RestZero p m = ZeroBetween (p .entries) m (entriesUsed m) (p .entries)
-
--- no two entries name one slot
-abbrev pub Once : List ℕ → Type 0
-Once m = (i j : ℕ) → i < j → j < entriesUsed m → slotIn m i ≡ slotIn m j → ⊥
 
 -- below n, each entry's slot stands after the one before it
 abbrev pub Rising : List ℕ → ℕ → Type 0
@@ -45,8 +28,8 @@ rising-far m n i (suc j) r l k =
     ⊎-elim (λ e. subst (λ (x : ℕ). slotIn m x < slotIn m (suc j)) (sym e) here) (λ h. omega (arith, rising-far m n i j r h (omega arith))) (eq-or-lt-of-le {n = i} {m = j} (omega arith))
 
 -- so in rising order no two are the same
-pub rising-once : (m : List ℕ) → Rising m (entriesUsed m) → Once m
-rising-once m r i j l k e = omega (arith, rising-far m (entriesUsed m) i j r l k)
+pub rising-once : (m : List ℕ) (n : ℕ) → Rising m n → Once m n
+rising-once m n r i j l k e = omega (arith, rising-far m n i j r l k)
 
 pub rising-more : (m : List ℕ) (i : ℕ) {a b : ℕ} → Rising m i → 1 ≤ i → a ≡ slotIn m (i - 1) → b ≡ slotIn m i → a < b → Rising m (i + 1)
 rising-more m i {a} {b} r h e f l k n = ⊎-elim here (λ q. r k q) (eq-or-lt-of-le {n = k + 1} {m = i} (omega arith))

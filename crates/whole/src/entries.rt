@@ -5,8 +5,10 @@ ghost use lib.ListN.{length};
 ghost use Rattle.lists.specs.Says.{Says};
 ghost use Rattle.lists.specs.Seen.{bitIn, withBit};
 ghost use Rattle.layout.specs.Places.{Room, cellsWords, rememberWords, mostWords, entriesUsed, slotIn, entriesWords};
+ghost use Rattle.remember.specs.Crossing.{crossTo};
+ghost use Rattle.remember.specs.Entries.{Entry, EachOf, Once, ZeroBetween, RestZero};
 ghost use Rattle.promises.specs.Whole.{EntryWhole, EntriesWhole};
-ghost use Rattle.whole.specs.Entries.{NamedWhole, ZeroBetween, RestZero, Once, Rising};
+ghost use Rattle.whole.specs.Entries.{Rising};
 use remember::crossing::cross_to;
 use rules::Sizes;
 
@@ -36,7 +38,7 @@ pub fn named_whole(p: Sizes, cells: &[u32], remember: &[u32], tables: &[u32], us
     requires { ⌜ cellsWords p ≤ length (now cells) ⌝ }
     requires { ⌜ rememberWords p ≤ length (now remember) ⌝ }
     requires { ⌜ (used ≡ entriesUsed (now remember)) × (used ≤ p .entries) ⌝ }
-    ensures { λ r. ⌜ Says r (NamedWhole p (now (cells .entry)) (now (remember .entry)) (now (tables .entry))) ⌝ }
+    ensures { λ r. ⌜ Says r (EachOf (Entry (crossTo p (now (cells .entry)) (now (tables .entry))) (cellsWords p)) (p .entries) (now (remember .entry))) ⌝ }
 {
     let mut i = 0;
     while i < used {
@@ -71,7 +73,7 @@ pub fn zero_between(entries: usize, remember: &[u32], from: usize, to: usize) ->
 pub fn rest_zero(p: Sizes, remember: &[u32], used: usize) -> bool
     requires { ⌜ rememberWords p ≤ length (now remember) ⌝ }
     requires { ⌜ (used ≡ entriesUsed (now remember)) × (used ≤ p .entries) ⌝ }
-    ensures { λ r. ⌜ Says r (RestZero p (now (remember .entry))) ⌝ }
+    ensures { λ r. ⌜ Says r (RestZero (p .entries) (now (remember .entry))) ⌝ }
 {
     let entries = p.entries;
     let mut i = used;
@@ -123,7 +125,7 @@ pub fn seen_once(p: Sizes, remember: &[u32], used: usize) -> bool
     requires { ⌜ rememberWords p ≤ length (now remember) ⌝ }
     requires { ⌜ (used ≡ entriesUsed (now remember)) × (used ≤ p .entries) ⌝ }
     requires { ⌜ ((i : ℕ) → i < used → slotIn (now remember) i < mostWords) ⌝ }
-    ensures { λ r. ⌜ Says r (Once (now (remember .entry))) ⌝ }
+    ensures { λ r. ⌜ Says r (Once (now (remember .entry)) (entriesUsed (now (remember .entry)))) ⌝ }
 {
     let entries = p.entries;
     let mut seen = [0u32; 8192];
@@ -144,7 +146,7 @@ pub fn once(p: Sizes, remember: &[u32], used: usize) -> bool
     requires { ⌜ rememberWords p ≤ length (now remember) ⌝ }
     requires { ⌜ (used ≡ entriesUsed (now remember)) × (used ≤ p .entries) ⌝ }
     requires { ⌜ ((i : ℕ) → i < used → slotIn (now remember) i < mostWords) ⌝ }
-    ensures { λ r. ⌜ Says r (Once (now (remember .entry))) ⌝ }
+    ensures { λ r. ⌜ Says r (Once (now (remember .entry)) (entriesUsed (now (remember .entry)))) ⌝ }
 {
     if rising(p, remember, used) {
         return true;

@@ -10,7 +10,7 @@ rising-requires : tie.Need-rising-requires
 rising-requires c κs = search needs
 
 returns : tie.Need-returns
-returns c = says-yes (rising-once (now (c .before .before .before .args .remember)) (c .before .rising .ensures .0 (c .if1 .taken)))
+returns c = says-yes (rising-once (now (c .before .before .before .args .remember)) _ (c .before .rising .ensures .0 (c .if1 .taken)))
 
 seen-once-requires : tie.Need-seen-once-requires
 seen-once-requires c κs = search needs

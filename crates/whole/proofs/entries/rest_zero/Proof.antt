@@ -5,7 +5,8 @@ use borrow.Author.Tests.{not-true, not-false}
 use Rattle.lists.specs.Says.{says-no, said-no}
 use Prim.Native.Nat.{_+_, _-_, _≤_}
 use denote.Ref.{now}
-use Rattle.whole.specs.Entries.{ZeroBetween, zero-on}
+use Rattle.remember.specs.Entries.{ZeroBetween}
+use Rattle.whole.specs.Entries.{zero-on}
 use Rattle.whole.proofs.entries.rest_zero.Statement.{statement}
 use Rattle.whole.proofs.entries.rest_zero.Tie as tie
 
