@@ -13,7 +13,7 @@ use Rattle.layout.specs.Objects.{begins-page, begins-there}
 use Rattle.layout.specs.Words.{Words, words, ownerIn}
 use Rattle.promises.specs.Whole.{WholeFor}
 use Rattle.promises.specs.Ends.{partOf, Lives, outside-lives, lives-how}
-use Rattle.settle.specs.RewriteSlots.{Remembered}
+use Rattle.remember.specs.Entries.{NamedWith}
 use Rattle.remember.specs.Staying.{newRegion, new-gone, new-stays, new-moved}
 use Rattle.remember.specs.Crossing.{crossesFrom}
 use Rattle.settle.specs.Rewrite.{forwarded}
@@ -26,7 +26,7 @@ use Rattle.ending.specs.Remembering.{OfRegions, remembered-holding, Rene
 
 -- the remembered slots that point into r
 abbrev pub Held : Sizes → Words → ℕ → ℕ → Type 0
-Held s w r = Remembered r (s .entries) (entriesUsed (w .remember)) (w .remember)
+Held s w r = NamedWith r (s .entries) (entriesUsed (w .remember)) (w .remember)
 
 module _ {s : Sizes} {w : Words} {r : ℕ} (high : 1 < r) where
   pub of-region : OfRegions s w (partOf s w r) (λ g. g ≡ r)

@@ -28,7 +28,7 @@ use Rattle.settle.specs.Rewrite.{forwarded, Rewritten, ref-same}
 use Rattle.settle.specs.RewriteSlots.{Slots, Variables}
 use Rattle.settle.specs.RewriteCopies.{slot-then}
 use Rattle.remember.specs.Appending.{at-most-less}
-use Rattle.settle.specs.Update.{Copies, Entry, Settles, Updated}
+use Rattle.settle.specs.Update.{Copies, NewEntry, Settles, Updated}
 use Rattle.release.specs.Release.{Ended, ended-size, ended-depth, ended-rest, ended-blank, ended-alike, ended-regular}
 use Rattle.ended.specs.EndQuestion.{crossingAfter}
 use Rattle.ended.specs.EvacuatedDid.{Lowered}
@@ -121,7 +121,7 @@ module _ {s : Sizes} {t l r : ℕ} {w w₁ : Words} (b : Ending s t l r w w₁) 
       rewritten : HasRewritten s w w₁ (partOf s w r) W T (Held s w r) W₃
       rewritten = record { moved = moved; holding = held; cells = R }
 
-      entries-told : Told s w (partOf s w r) (words W (w .remember) T) (placed W) (Lives s w (partOf s w r)) (Entry s r (s .entries) (entriesUsed (w .remember)) W₃ (w .remember) T)
+      entries-told : Told s w (partOf s w r) (words W (w .remember) T) (placed W) (Lives s w (partOf s w r)) (NewEntry s r (s .entries) (entriesUsed (w .remember)) W₃ (w .remember) T)
       entries-told = told-both (stays-told (placing moved) (of-region high) (renews pos moved W₃ (outside-after moved held R (λ x. inl)))) (copies-told rewritten)
 
     module _ {W₂ : List ℕ} (R₂ : Rewritten (Held s w r) W W₂) where

@@ -42,6 +42,13 @@ pub record EntriesOf (G : ℕ → ℕ → Type 0) (N : ℕ) (m : List ℕ) : Typ
 pub entries-like : {G H : ℕ → ℕ → Type 0} {N : ℕ} {m : List ℕ} → ((x g : ℕ) → G x g → H x g) → EntriesOf G N m → EntriesOf H N m
 entries-like to o = record { room = o .room; named = λ i l. to _ _ (o .named i l); once = o .once; rest = o .rest }
 
+-- one of the first k entries names slot `at` with region g
+pub record NamedWith (g N k : ℕ) (m : List ℕ) (at : ℕ) : Type 0 where
+  pub entry : ℕ
+  pub low : entry < k
+  pub region : slotRegionIn N m entry ≡ g
+  pub slot : slotIn m entry ≡ at
+
 -- the entries are f's, and every one of f's is there
 pub record Exact (f : ℕ → ℕ) (n N : ℕ) (m : List ℕ) : Type 0 where
   pub entries : EntriesOf (Entry f n) N m

@@ -6,7 +6,7 @@ use native.Mathlib.Decide.{decLt}
 use native.Mathlib.Omega.{arith}
 use Rattle.layout.specs.Places.{entriesUsed, slotAt, slotIn, slotRegionAt, slotRegionIn}
 use Rattle.remember.specs.Entries.{Entry, ZeroBetween, EntriesOf, Exact, Edited, entries-like}
-use Rattle.remember.specs.Stretches.{Added, Closed, slot-above, region-above}
+use Rattle.remember.specs.Stretches.{Added, EndsAfter, slot-above, region-above}
 
 -- its entries are those of G, a number with its region
 pub record Renewed (G : ℕ → ℕ → Type 0) (N : ℕ) (M M′ : List ℕ) : Type 0 where
@@ -21,7 +21,7 @@ renewed-exact f n to from′ r =
     record { entries = entries-like to (r .entries); every = λ q l h. let y = r .every q (f q) (from′ q l h) in (y .0, y .1, y .2) }
 
 -- the first k entries are those of G, entries up to e are cleared, the rest were zero
-module _ {G : ℕ → ℕ → Type 0} {N k e : ℕ} {M M₂ M₃ : List ℕ} (a : Added N G 0 k M M₂) (c : Closed N k e M₂ M₃) (few : e ≤ N)
+module _ {G : ℕ → ℕ → Type 0} {N k e : ℕ} {M M₂ M₃ : List ℕ} (a : Added N G 0 k M M₂) (c : EndsAfter N k e M₂ M₃) (few : e ≤ N)
     (zeros : ZeroBetween N M e N) where
   slot-y : (y : ℕ) → y < k → slotIn M₃ y ≡ slotIn M₂ y
   slot-y y l = c .same (slotAt y) (λ z. omega arith) (λ z. omega arith) (λ z. omega (arith, a .low))

@@ -13,7 +13,7 @@ use Rattle.layout.specs.Cells.{pageAt, cellOf}
 use Rattle.layout.specs.Words.{Names}
 use Rattle.remember.specs.Crossing.{crossesTo, crossesAt}
 use Rattle.remember.specs.Entries.{Once}
-use Rattle.remember.specs.Filtered as table
+use Rattle.remember.specs.Filtered.{Stays}
 
 -- the region of the entry of slot s with region g after r ended, 0 if it goes
 unfoldable pub newRegion : (p : Sizes) (r : ℕ) (W T : List ℕ) (s g : ℕ) → ℕ
@@ -38,12 +38,8 @@ new-read : (p : Sizes) (r : ℕ) (W W′ T : List ℕ) (s g : ℕ) → getD W′
 unfolding newRegion
 new-read p r W W′ T s g e = ap (λ (y : ℕ). cond (eqb (ownerOf p T (pageAt s)) r) 0 (cond (eqb g r) (crossesTo p T (cellOf s) y) g)) (sym e)
 
--- the entries that stay, of the first i
-abbrev pub Stays : (p : Sizes) (r n : ℕ) (W M T : List ℕ) (i x h : ℕ) → Type 0
-Stays p r n W M T = table.Stays (newRegion p r W T) n M
-
 pub stays-read : {n i : ℕ} {M : List ℕ} (p : Sizes) (r : ℕ) (W W′ T : List ℕ) → ((k : ℕ) → k < i → getD W′ (slotIn M k) 0 ≡ getD W (slotIn M k) 0)
-    → (x h : ℕ) → Stays p r n W M T i x h → Stays p r n W′ M T i x h
+    → (x h : ℕ) → Stays (newRegion p r W T) n M i x h → Stays (newRegion p r W′ T) n M i x h
 stays-read p r W W′ T same x h q =
     record { entry = q .entry; low = q .low; slot = q .slot; region = q .region ∙ new-read p r W W′ T _ _ (same (q .entry) (q .low)); kept = q .kept }
 

@@ -6,7 +6,7 @@ ghost use lib.ListN.{length};
 ghost use Rattle.layout.specs.Places.{entriesUsed, slotIn, entriesWords};
 ghost use Rattle.remember.specs.Entries.{entered, added, removed};
 ghost use Rattle.remember.specs.Remembering.{Remembered};
-ghost use Rattle.remember.specs.Stretches.{Cleared, Closed};
+ghost use Rattle.remember.specs.Stretches.{Cleared, EndsAfter};
 
 // The entry that names slot `at`, which one of the first `used` does.
 pub fn find_entry(entries: usize, remember: &[u32], used: usize, at: usize) -> usize
@@ -103,7 +103,7 @@ pub fn clear_entries(entries: usize, remember: &mut [u32], from: usize, to: usiz
 pub fn close_entries(entries: usize, remember: &mut [u32], all: usize, used: usize)
     requires { ⌜ (entries < 2 ^ 32) × (all ≤ entries) × (used ≤ entries) ⌝ }
     requires { ⌜ entriesWords entries ≤ length (now remember) ⌝ }
-    ensures { λ _. ⌜ Closed entries all used (now (remember .entry)) (now (remember .exit)) ⌝ }
+    ensures { λ _. ⌜ EndsAfter entries all used (now (remember .entry)) (now (remember .exit)) ⌝ }
 {
     clear_entries(entries, remember, all, used);
     layout::remember::set_used(remember, all as u32);

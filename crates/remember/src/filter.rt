@@ -5,7 +5,8 @@ ghost use lib.ListN.{length, getD};
 ghost use Rattle.layout.specs.Places.{Room, cellsWords};
 ghost use Rattle.layout.specs.Words.{Names};
 ghost use Rattle.remember.specs.Stretches.{Added};
-ghost use Rattle.remember.specs.Staying.{newRegion, Stays, Entries};
+ghost use Rattle.remember.specs.Filtered.{Stays};
+ghost use Rattle.remember.specs.Staying.{newRegion, Entries};
 use crate::crossing::cross;
 use crate::entries::put_entry;
 use rules::Sizes;
@@ -39,7 +40,7 @@ pub fn filter_entries(
 ) -> usize
     requires { ⌜ Entries p region (p .entries) used (now cells) (now remember) ⌝ }
     requires { ⌜ Room p (length (now tables)) ⌝ }
-    ensures { λ j. ⌜ Added (p .entries) (Stays p region (p .entries) (now (cells .entry)) (now (remember .entry)) (now (tables .entry)) used) 0 j (now (remember .entry)) (now (remember .exit)) ⌝ }
+    ensures { λ j. ⌜ Added (p .entries) (Stays (newRegion p region (now (cells .entry)) (now (tables .entry))) (p .entries) (now (remember .entry)) used) 0 j (now (remember .entry)) (now (remember .exit)) ⌝ }
     ensures { λ j. ⌜ j ≤ used ⌝ }
 {
     let entries = p.entries;

@@ -11,50 +11,44 @@ use Rattle.rules.specs.declared.Sizes.{Sizes}
 use Rattle.layout.specs.Places.{Room, varAt, varCount, varOf, slotIn, slotRegionIn, varsFrom, cellsWords}
 use Rattle.layout.specs.Cells.{fieldAt, pageOf, wordOf, mostFields}
 use Rattle.layout.specs.Words.{Names}
+use Rattle.remember.specs.Entries.{NamedWith}
 use Rattle.remember.specs.Staying.{Entries}
 use Rattle.settle.specs.Rewrite.{forwarded, Rewritten, rewritten-one, rewritten-join, rewritten-like}
 
 -- ---- the remembered slots with region r
-
--- of the first m entries
-pub record Remembered (r n m : ℕ) (M : List ℕ) (x : ℕ) : Type 0 where
-  pub entry : ℕ
-  pub low : entry < m
-  pub region : slotRegionIn n M entry ≡ r
-  pub slot : slotIn M entry ≡ x
 
 -- entries whose slots are words of fields
 pub record Slots (p : Sizes) (r n m : ℕ) (W M : List ℕ) : Type 0 where
   pub entries : Entries p r n m W M
   pub fields : (i : ℕ) → i < m → 2 ≤ wordOf (slotIn M i)
 
-module _ {p : Sizes} {r n m : ℕ} {W M W′ : List ℕ} {i : ℕ} (a : Slots p r n m W M) (lt : i < m) (h : Rewritten (Remembered r n i M) W W′) where
-  fresh : Remembered r n i M (slotIn M i) → ⊥
+module _ {p : Sizes} {r n m : ℕ} {W M W′ : List ℕ} {i : ℕ} (a : Slots p r n m W M) (lt : i < m) (h : Rewritten (NamedWith r n i M) W W′) where
+  fresh : NamedWith r n i M (slotIn M i) → ⊥
   fresh q = a .entries .once (q .entry) i (q .low) lt (q .slot)
 
   pub slot-names : slotRegionIn n M i ≡ r → Names p (getD W′ (slotIn M i) 0)
   slot-names e = subst (λ (x : ℕ). Names p x) (sym (h .same (slotIn M i) fresh)) (a .entries .names i lt e)
 
-  earlier : (x : ℕ) → Remembered r n i M x → Remembered r n (i + 1) M x
+  earlier : (x : ℕ) → NamedWith r n i M x → NamedWith r n (i + 1) M x
   earlier x q = record { entry = q .entry; low = omega (arith, q .low); region = q .region; slot = q .slot }
 
-  split : (x : ℕ) → Remembered r n (i + 1) M x → Remembered r n i M x ⊎ ((slotRegionIn n M i ≡ r) × (x ≡ slotIn M i))
+  split : (x : ℕ) → NamedWith r n (i + 1) M x → NamedWith r n i M x ⊎ ((slotRegionIn n M i ≡ r) × (x ≡ slotIn M i))
   split x q = go (ℕ-discrete (q .entry) i)
     where
-      go : Dec (q .entry ≡ i) → Remembered r n i M x ⊎ ((slotRegionIn n M i ≡ r) × (x ≡ slotIn M i))
+      go : Dec (q .entry ≡ i) → NamedWith r n i M x ⊎ ((slotRegionIn n M i ≡ r) × (x ≡ slotIn M i))
       go (yes z) = inr (ap (λ (y : ℕ). slotRegionIn n M y) (sym z) ∙ q .region, sym (q .slot) ∙ ap (λ (y : ℕ). slotIn M y) z)
       go (no z) = inl (record { entry = q .entry; low = omega (arith, q .low); region = q .region; slot = q .slot })
 
   pub slot-moved : (v s : ℕ) → s ≡ slotIn M i → slotRegionIn n M i ≡ r → v ≡ forwarded W′ (getD W′ s 0)
-      → Rewritten (Remembered r n (i + 1) M) W (set W′ s v)
+      → Rewritten (NamedWith r n (i + 1) M) W (set W′ s v)
   slot-moved v s e reg ev =
       rewritten-join h
       (rewritten-one s v (omega (arith, a .entries .low i lt, a .entries .cells-long, h .size)) (subst (λ (z : ℕ). 2 ≤ wordOf z) (sym e) (a .fields i lt)) ev)
-      (λ x q z. fresh (subst (λ (y : ℕ). Remembered r n i M y) (z ∙ e) q))
+      (λ x q z. fresh (subst (λ (y : ℕ). NamedWith r n i M y) (z ∙ e) q))
       (λ x q. ⊎-elim inl (λ z. inr (z .1 ∙ sym e)) (split x q))
       (λ x. ⊎-elim (earlier x) (λ z. record { entry = i; low = omega arith; region = reg; slot = sym (z ∙ e) }))
 
-  pub slot-left : slotRegionIn n M i ≢ r → Rewritten (Remembered r n (i + 1) M) W W′
+  pub slot-left : slotRegionIn n M i ≢ r → Rewritten (NamedWith r n (i + 1) M) W W′
   slot-left ne = rewritten-like h (λ x q. ⊎-elim (λ z. z) (λ z. absurd (ne (z .0))) (split x q)) earlier
 
 -- ---- the fields of one cell

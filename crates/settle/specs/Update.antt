@@ -2,17 +2,18 @@
 use mathlib.Core.Path.{_≡_, sym, subst}
 use mathlib.Core.Logic.{_≢_, _⊎_, inl, inr, ⊎-elim}
 use mathlib.Core.List.{List}
-use Prim.Native.Nat.{ℕ, _-_, _≤_, _<_}
+use Prim.Native.Nat.{ℕ, _-_, _<_}
 use native.Mathlib.Omega.{arith}
 use lib.ListN.{getD}
 use Rattle.rules.specs.declared.Sizes.{Sizes}
 use Rattle.layout.specs.Places.{slotIn, slotRegionIn}
 use Rattle.layout.specs.Words.{Names}
 use Rattle.remember.specs.Entries.{ZeroBetween}
-use Rattle.remember.specs.Stretches.{Added, added-join, Closed}
+use Rattle.remember.specs.Stretches.{Added, added-join, EndsAfter}
+use Rattle.remember.specs.Filtered.{Stays}
 use Rattle.remember.specs.Appending.{Crossing, crossing-in, AtMost, at-most-rest}
 use Rattle.remember.specs.Renewed.{Renewed, renewed}
-use Rattle.remember.specs.Staying.{Stays, Entries, stays-read}
+use Rattle.remember.specs.Staying.{newRegion, Entries, stays-read}
 use Rattle.settle.specs.Rewrite.{forwarded}
 use Rattle.settle.specs.RewriteCopies.{CopySlot, Wiring, OnPages, slot-now, slot-then}
 use Rattle.settle.specs.Settle.{crossLater, Settled, Settling}
@@ -22,7 +23,7 @@ Copies p W T = CopySlot p (OnPages (p .pages)) W T
 
 -- the slots that are to have entries: those of entries that stay, and the copies' that will cross
 abbrev Due : (p : Sizes) (r n m : ℕ) (W M T : List ℕ) → ℕ → Type 0
-Due p r n m W M T x = ((h : ℕ) × Stays p r n W M T m x h) ⊎ (Copies p W T x × (crossLater p W T x ≢ 0))
+Due p r n m W M T x = ((h : ℕ) × Stays (newRegion p r W T) n M m x h) ⊎ (Copies p W T x × (crossLater p W T x ≢ 0))
 
 -- The copies can be settled and the table made anew. m entries of n are in use; none is of a copy's slot.
 pub record Settles (p : Sizes) (r n m : ℕ) (W M T : List ℕ) : Type 0 where
@@ -34,14 +35,14 @@ pub record Settles (p : Sizes) (r n m : ℕ) (W M T : List ℕ) : Type 0 where
   pub rest : ZeroBetween n M m n
 
 -- an entry that stays, or a crossing slot of a copy
-abbrev pub Entry : (p : Sizes) (r n m : ℕ) (W M T : List ℕ) → ℕ → ℕ → Type 0
-Entry p r n m W M T x h = Stays p r n W M T m x h ⊎ Crossing p (Copies p W T) W T x h
+abbrev pub NewEntry : (p : Sizes) (r n m : ℕ) (W M T : List ℕ) → ℕ → ℕ → Type 0
+NewEntry p r n m W M T x h = Stays (newRegion p r W T) n M m x h ⊎ Crossing p (Copies p W T) W T x h
 
 abbrev pub Updated : (p : Sizes) (r n m : ℕ) (W M T M′ : List ℕ) → Type 0
-Updated p r n m W M T M′ = Renewed (Entry p r n m W M T) n M M′
+Updated p r n m W M T M′ = Renewed (NewEntry p r n m W M T) n M M′
 
-module _ {p : Sizes} {r n m j : ℕ} {W M T M₁ : List ℕ} (u : Settles p r n m W M T) (a : Added n (Stays p r n W M T m) 0 j M M₁) where
-  stays-apart : (x h : ℕ) → Stays p r n W M T m x h → Copies p W T x → ⊥
+module _ {p : Sizes} {r n m j : ℕ} {W M T M₁ : List ℕ} (u : Settles p r n m W M T) (a : Added n (Stays (newRegion p r W T) n M m) 0 j M M₁) where
+  stays-apart : (x h : ℕ) → Stays (newRegion p r W T) n M m x h → Copies p W T x → ⊥
   stays-apart x h q z = u .old (q .entry) (q .low) (subst (Copies p W T) (sym (q .slot)) z)
 
   pub settle-asks : Settling p n (Copies p W T) W M₁ T j
@@ -51,19 +52,19 @@ module _ {p : Sizes} {r n m j : ℕ} {W M T M₁ : List ℕ} (u : Settles p r n 
         low = a .low;
         names = u .names;
         space =
-            at-most-rest {Q = λ x. (h : ℕ) × Stays p r n W M T m x h} j (n - j) (slotIn M₁) (omega (arith, a .low)) (u .space) (λ y l. (slotRegionIn n M₁ y, a .named y (omega arith) l)) (λ y z. a .once y z (omega arith))
+            at-most-rest {Q = λ x. (h : ℕ) × Stays (newRegion p r W T) n M m x h} j (n - j) (slotIn M₁) (omega (arith, a .low)) (u .space) (λ y l. (slotRegionIn n M₁ y, a .named y (omega arith) l)) (λ y z. a .once y z (omega arith))
             (λ x. inl) (λ x. inr) (λ x q z. stays-apart x (q .0) (q .1) (z .0));
       }
 
   -- j entries stay, k are used in the end
-  pub settles-updated : {k : ℕ} {W′ M₂ M₃ : List ℕ} → Settled p n (Copies p W T) W M₁ T j W′ M₂ k → Closed n k m M₂ M₃ → Updated p r n m W′ M T M₃
+  pub settles-updated : {k : ℕ} {W′ M₂ M₃ : List ℕ} → Settled p n (Copies p W T) W M₁ T j W′ M₂ k → EndsAfter n k m M₂ M₃ → Updated p r n m W′ M T M₃
   settles-updated {k} {W′ = W′} {M₂ = M₂} h c =
       renewed both c (u .entries .few) (u .rest)
     where
       same : (i : ℕ) → i < m → getD W′ (slotIn M i) 0 ≡ getD W (slotIn M i) 0
       same i l = h .rewritten .same (slotIn M i) (u .old i l)
 
-      both : Added n (Entry p r n m W′ M T) 0 k M M₂
+      both : Added n (NewEntry p r n m W′ M T) 0 k M M₂
       both =
           added-join a (h .added) (λ x g g′ s q. stays-apart x g s (q .at))
           (λ x g. ⊎-elim (λ s. inl (stays-read p r W′ W T (λ i l. sym (same i l)) x g s)) (λ q. inr (crossing-in (slot-then (h .rewritten)) x g q)))

@@ -7,8 +7,9 @@ ghost use lib.ListN.{length};
 ghost use Rattle.layout.specs.Places.{Room, varCount, varOf, entriesUsed, cellsWords};
 ghost use Rattle.layout.specs.Cells.{cellNamed, CellIn};
 ghost use Rattle.layout.specs.Words.{Names};
+ghost use Rattle.remember.specs.Entries.{NamedWith};
 ghost use Rattle.settle.specs.Rewrite.{forwarded, Rewritten};
-ghost use Rattle.settle.specs.RewriteSlots.{Remembered, Slots, Variables};
+ghost use Rattle.settle.specs.RewriteSlots.{Slots, Variables};
 use rules::Sizes;
 
 // The reference x, by way of the forward reference where the cell that it names has one.
@@ -29,7 +30,7 @@ pub fn forward_ref(cells: &[u32], x: u32) -> u32
 // The remembered slots that point into the region.
 pub fn rewrite_slots(p: Sizes, cells: &mut [u32], remember: &[u32], region: u32)
     requires { ⌜ Slots p region (p .entries) (entriesUsed (now remember)) (now cells) (now remember) ⌝ }
-    ensures { λ _. ⌜ Rewritten (Remembered region (p .entries) (entriesUsed (now (remember .entry))) (now (remember .entry))) (now (cells .entry)) (now (cells .exit)) ⌝ }
+    ensures { λ _. ⌜ Rewritten (NamedWith region (p .entries) (entriesUsed (now (remember .entry))) (now (remember .entry))) (now (cells .entry)) (now (cells .exit)) ⌝ }
 {
     let entries = p.entries;
     let used = layout::wide(layout::remember::used(remember));

@@ -9,14 +9,14 @@ use mathlib.Core.Path.{_≡_, refl, sym, ap₂, _∙_, subst, subst₂}
 use Rattle.layout.specs.Places.{slotIn, slotRegionIn}
 use Rattle.layout.specs.Words.{Names}
 use Rattle.remember.specs.Stretches.{Added}
-use Rattle.remember.specs.Filtered.{filter-start, filter-keep, filter-drop, read-slot, read-region}
-use Rattle.remember.specs.Staying.{newRegion, Stays}
+use Rattle.remember.specs.Filtered.{Stays, filter-start, filter-keep, filter-drop, read-slot, read-region}
+use Rattle.remember.specs.Staying.{newRegion}
 use Rattle.remember.proofs.filter.filter_entries.Statement.{statement}
 use Rattle.remember.proofs.filter.filter_entries.Tie as tie
 
 abbrev Inv-loop : tie.InvT-loop
 Inv-loop p cells remember₀ tables region used entries j₀ i₀ remember j i =
-    (i ≤ used) × (j ≤ i) × (length remember ≡ length remember₀) × Added (p .entries) (Stays p region (p .entries) cells remember₀ tables i) 0 j remember₀ remember
+    (i ≤ used) × (j ≤ i) × (length remember ≡ length remember₀) × Added (p .entries) (Stays (newRegion p region cells tables) (p .entries) remember₀ i) 0 j remember₀ remember
 
 abbrev μ-loop : tie.MeasureT-loop
 μ-loop p cells remember₀ tables region used entries j₀ i₀ remember j i =
@@ -93,7 +93,7 @@ loop-again c =
     let v = c .before .new-region in
     let ev : v .result ≡ newRegion (a .p) (a .region) W T (slotIn (l .remember) (l .i)) (slotRegionIn n (l .remember) (l .i)) =
     v .ensures ∙ ap₂ (λ (x y : ℕ). newRegion (a .p) (a .region) W T x y) (c .before .before .wide .ensures ∙ slot .ensures) (c .before .before .before .region .ensures) in
-    let P : List ℕ → ℕ → Type 0 = (λ X y. (y ≤ l .i + 1) × (length X ≡ length M) × Added n (Stays (a .p) (a .region) n W M T (l .i + 1)) 0 y M X) in
+    let P : List ℕ → ℕ → Type 0 = (λ X y. (y ≤ l .i + 1) × (length X ≡ length M) × Added n (Stays (newRegion (a .p) (a .region) W T) n M (l .i + 1)) 0 y M X) in
     let h : P (c .if1 .remember) (c .if1 .j) =
     ⊎-elim
     (λ z.
@@ -112,7 +112,7 @@ returns c =
     let a = c .before .before .before .before .before .args in
     let l = c .before .loop in
     let e : l .i ≡ a .used = omega (arith, l .inv .0) in (
-      subst (λ (y : ℕ). Added (a .p .entries) (Stays (a .p) (a .region) (a .p .entries) (a .cells .now) (a .remember .now) (a .tables .now) y) 0 (l .j) (a .remember .now) (l .remember)) e (l .inv .3),
+      subst (λ (y : ℕ). Added (a .p .entries) (Stays (newRegion (a .p) (a .region) (a .cells .now) (a .tables .now)) (a .p .entries) (a .remember .now) y) 0 (l .j) (a .remember .now) (l .remember)) e (l .inv .3),
       omega (arith, l .inv .1),
     )
 

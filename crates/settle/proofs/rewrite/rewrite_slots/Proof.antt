@@ -9,14 +9,15 @@ use mathlib.Core.Path.{_≡_, refl, sym, _∙_, subst}
 use Rattle.layout.specs.Places.{entriesUsed, slotIn, cellsWords}
 use Rattle.layout.specs.Cells.{cell-in}
 use Rattle.layout.specs.Words.{Names}
+use Rattle.remember.specs.Entries.{NamedWith}
 use Rattle.settle.specs.Rewrite.{Rewritten, rewritten-none}
-use Rattle.settle.specs.RewriteSlots.{Remembered, slot-names, slot-moved, slot-left}
+use Rattle.settle.specs.RewriteSlots.{slot-names, slot-moved, slot-left}
 use Rattle.settle.proofs.rewrite.rewrite_slots.Statement.{statement}
 use Rattle.settle.proofs.rewrite.rewrite_slots.Tie as tie
 
 abbrev Inv-loop : tie.InvT-loop
 Inv-loop cells₀ remember region entries used i₀ cells i =
-    (i ≤ used) × (used ≡ entriesUsed remember) × (length cells ≡ length cells₀) × Rewritten (Remembered region entries i remember) cells₀ cells
+    (i ≤ used) × (used ≡ entriesUsed remember) × (length cells ≡ length cells₀) × Rewritten (NamedWith region entries i remember) cells₀ cells
 
 abbrev μ-loop : tie.MeasureT-loop
 μ-loop cells₀ remember region entries used i₀ cells i =
@@ -81,7 +82,7 @@ loop-again c =
     let l = c .before .before .before .loop in
     let s = c .before .before .before .before .before .before .before .before .pre in
     let lt : l .i < entriesUsed (a .remember .now) = omega (arith, l .inv .1, c .before .before .loop-test .taken) in
-    let P : List ℕ → Type 0 = (λ X. Rewritten (Remembered (a .region) (a .p .entries) (l .i + 1) (a .remember .now)) (a .cells .now) X) in
+    let P : List ℕ → Type 0 = (λ X. Rewritten (NamedWith (a .region) (a .p .entries) (l .i + 1) (a .remember .now)) (a .cells .now) X) in
     let h : P (c .if1 .cells) =
     ⊎-elim
     (λ w.
@@ -99,7 +100,7 @@ returns c =
     let a = c .before .before .before .before .before .before .args in
     let l = c .before .loop in
     let e : l .i ≡ entriesUsed (a .remember .now) = omega (arith, l .inv .0, l .inv .1) in
-    subst (λ (y : ℕ). Rewritten (Remembered (a .region) (a .p .entries) y (a .remember .now)) (a .cells .now) (l .cells)) e (l .inv .3)
+    subst (λ (y : ℕ). Rewritten (NamedWith (a .region) (a .p .entries) y (a .remember .now)) (a .cells .now) (l .cells)) e (l .inv .3)
 
 pub rewrite-slots-spec : {M : Type 1} → statement M
 rewrite-slots-spec =
