@@ -19,7 +19,7 @@ use Rattle.rules.specs.Graph.{target}
 use Rattle.laws.specs.Counts.{landed}
 use Rattle.layout.specs.Places.{markOf}
 use Rattle.layout.specs.Cells.{workOf, pageOf, placeOf, cellOn, firstOn, pageCells}
-use Rattle.layout.specs.Marks.{marked}
+use Rattle.layout.specs.Marks.{marked, not-marked}
 use Rattle.layout.specs.Words.{Words, homeIn, graphOf, cellCount}
 use Rattle.promises.specs.Ends.{partOf}
 use Rattle.promises.specs.Arriving.{goesTo, goes-yes, goes-no, goes-le, arriving}
@@ -145,15 +145,11 @@ arriving-landed s w k r w′ m rpos g pos =
         ap₂ (λ (b x : ℕ). b * bit (eqb x g)) on (m .goes c (u .0) (u .1)) ∙ one-mul _ ∙ one (eqb (target s (graphOf s w) r c) g)
         ∙ sym (ap (λ (b : Bool). cond b (cond (eqb (target s (graphOf s w) r c) g) 1 0) 0) (eq-eqb (homeIn s w c) r h))
     go c l (no off) (no h) =
-        ap (λ (b : ℕ). b * bit (eqb (workOf (w′ .cells) c) g)) (zero-bit c off) ∙ zero-mul _
+        ap (λ (b : ℕ). b * bit (eqb (workOf (w′ .cells) c) g)) (not-marked s (w′ .tables) c off) ∙ zero-mul _
         ∙ sym (ap (λ (b : Bool). cond b (cond (eqb (target s (graphOf s w) r c) g) 1 0) 0) (ne-eqb (homeIn s w c) r h))
-      where
-        zero-bit : (c : ℕ) → (marked s (w′ .tables) c ≡ 1 → ⊥) → marked s (w′ .tables) c ≡ 0
-        zero-bit c off = omega (arith, bit-lt (placeOf c) (markOf s (w′ .tables) (pageOf c)))
     go c l (no off) (yes h) =
         let u = home-cell s w k c r h rpos in
-        let z : marked s (w′ .tables) c ≡ 0 = omega (arith, bit-lt (placeOf c) (markOf s (w′ .tables) (pageOf c))) in
-        ap (λ (b : ℕ). b * bit (eqb (workOf (w′ .cells) c) g)) z ∙ zero-mul _
+        ap (λ (b : ℕ). b * bit (eqb (workOf (w′ .cells) c) g)) (not-marked s (w′ .tables) c off) ∙ zero-mul _
         ∙ sym
         (ap (λ (b : Bool). cond b (cond (eqb (target s (graphOf s w) r c) g) 1 0) 0) (eq-eqb (homeIn s w c) r h)
         ∙ ap (λ (b : Bool). cond b 1 0) (ne-eqb (target s (graphOf s w) r c) g (λ (e : target s (graphOf s w) r c ≡ g). off (m .survives c (u .0) (u .1) (omega arith)))))

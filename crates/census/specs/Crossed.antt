@@ -13,15 +13,14 @@ use Rattle.lists.specs.Tests.{cond-zero}
 use Rattle.lists.specs.Counting.{sum, sum-same, sum-none, sum-plus}
 use Rattle.lists.specs.Members.{In, getD-in}
 use Rattle.lists.specs.OneToOne.{Paired, sum-paired}
-use Rattle.lists.specs.Bits.{bit-lt}
 use Rattle.rules.specs.declared.Sizes.{Sizes}
 use Rattle.rules.specs.Graph.{Graph, target, ended, crossing}
 use Rattle.laws.specs.EndLaws.{home-stayed, home-went, closed-ended}
 use Rattle.laws.specs.GraphLaws.{Alive}
 use Rattle.laws.specs.Counts.{crossIn, crossAt, crossing-sum, crossRef}
-use Rattle.layout.specs.Places.{ownerOf, markOf, entriesUsed, slotIn, Room, cellsWords}
-use Rattle.layout.specs.Cells.{workOf, fieldAt, fieldOf, pageOf, placeOf, pageAt, refsOf, roomFor}
-use Rattle.layout.specs.Marks.{marked}
+use Rattle.layout.specs.Places.{ownerOf, entriesUsed, slotIn, Room, cellsWords}
+use Rattle.layout.specs.Cells.{workOf, fieldAt, fieldOf, pageOf, pageAt, refsOf, roomFor}
+use Rattle.layout.specs.Marks.{marked, not-marked}
 use Rattle.layout.specs.Words.{Words, BeginsIn, ownerIn, homeIn, headIn, refCount, refsIn, graphOf, cellCount}
 use Rattle.promises.specs.Ends.{partOf}
 use Rattle.promises.specs.Whole.{WholeFor, IsRef}
@@ -122,7 +121,7 @@ module _ (s : Sizes) (w : Words) (k : WholeFor s w) (space : Room s (length (w .
   outside x = cond (eqb (homeIn s w x) r) 0 (crossAt h x)
 
   zero-bit : (c : ℕ) → (marked p (w′ .tables) c ≡ 1 → ⊥) → marked p (w′ .tables) c ≡ 0
-  zero-bit c off = omega (arith, bit-lt (placeOf c) (markOf p (w′ .tables) (pageOf c)))
+  zero-bit = not-marked p (w′ .tables)
 
   survivor : (x : ℕ) → x < cellCount s → marked p (w′ .tables) x * cellCrosses p (w′ .cells) (w′ .tables) x ≡ inside x
   unfolding cellCrosses

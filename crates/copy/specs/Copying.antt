@@ -14,11 +14,11 @@ use Rattle.rules.specs.Graph.{pagesOf}
 use Rattle.rules.specs.declared.Sizes.{Sizes}
 use Rattle.layout.specs.Places.{markOf}
 use Rattle.layout.specs.Cells.{workOf, pageOf, placeOf, cellOn, firstOn, pageCells, place-low, page-on, place-on, on-page, on-rises, on-above, on-below}
-use Rattle.layout.specs.Marks.{marked}
+use Rattle.layout.specs.Marks.{marked, mark?}
 use Rattle.promises.specs.Whole.{objectsOf}
 use Rattle.promises.specs.OwnedPages.{ownedIn}
 use Rattle.promises.specs.Arriving.{arriving, morePages, regionMore, moreBelow}
-use Rattle.copy.specs.Marks.{copied, mark?}
+use Rattle.copy.specs.Marks.{copied}
 use Rattle.copy.specs.Taking.{Next}
 use Rattle.copy.specs.Cursor.{Points, Seeking}
 use Rattle.copy.specs.Moves.{Movable, Step, step-off, step-on, step-points}

@@ -1,15 +1,13 @@
 -- The marks of survivors: of those that wait, and of those that are copied. T is the tables.
 use mathlib.Core.Path.{_≡_, _∙_}
-use mathlib.Core.Logic.{_≢_, _⊎_, inl, inr}
+use mathlib.Core.Logic.{_≢_}
 use mathlib.Core.List.{List}
 use Prim.Native.Nat.{ℕ, _+_, _-_, _^_}
-use native.Mathlib.Decide.{ℕ-discrete}
 use native.Mathlib.Omega.{arith}
-use Rattle.lists.specs.Bits.{bitAt, bit-lt, set-same, set-other, clear-same, clear-other}
+use Rattle.lists.specs.Bits.{bitAt, set-same, set-other, clear-same, clear-other}
 use Rattle.rules.specs.declared.Sizes.{Sizes}
 use Rattle.layout.specs.Places.{markAt, markOf}
 use Rattle.layout.specs.Cells.{pageOf, placeOf, pageCells}
-use Rattle.layout.specs.Marks.{marked}
 
 -- where the mark word of cell c's page stands
 abbrev pub marksAt : Sizes → ℕ → ℕ
@@ -34,11 +32,3 @@ module _ (w i : ℕ) (on : bitAt w i ≡ 1) (fresh : bitAt w (pageCells + i) ≡
 
   pub raised-other : (j : ℕ) → j ≢ i → j ≢ pageCells + i → bitAt (raised w i) j ≡ bitAt w j
   raised-other j ne nu = set-other (pageCells + i) j (w - 2 ^ i) clear-fresh nu ∙ clear-other i j w on ne
-
--- a cell is marked or not
-pub mark? : (p : Sizes) (T : List ℕ) (c : ℕ) → (marked p T c ≡ 0) ⊎ (marked p T c ≡ 1)
-mark? p T c = go (ℕ-discrete (marked p T c) 0)
-  where
-    go : Dec (marked p T c ≡ 0) → (marked p T c ≡ 0) ⊎ (marked p T c ≡ 1)
-    go (yes e) = inl e
-    go (no n) = inr (omega (arith, bit-lt (placeOf c) (markOf p T (pageOf c))))

@@ -12,13 +12,13 @@ use Rattle.rules.specs.declared.Sizes.{Sizes}
 use Rattle.rules.specs.Regions.{regions}
 use Rattle.layout.specs.Places.{Room, markOf, cellsWords}
 use Rattle.layout.specs.Cells.{workOf, pageOf, mostCells, page-count, count-page}
-use Rattle.layout.specs.Marks.{marked}
+use Rattle.layout.specs.Marks.{marked, mark?}
 use Rattle.layout.specs.Objects.{Begins, begins-page, cellCount}
 use Rattle.promises.specs.Whole.{objectsOf}
 use Rattle.promises.specs.Regular.{Regular}
 use Rattle.promises.specs.OwnedPages.{ownedIn}
 use Rattle.promises.specs.Arriving.{goesTo, goes-same, goes-yes, goes-no, arriving}
-use Rattle.copy.specs.Marks.{copied, mark?}
+use Rattle.copy.specs.Marks.{copied}
 use Rattle.copy.specs.Taking.{Usable, Next, usable}
 use Rattle.copy.specs.Moves.{Movable, Step, step-room, step-regular, step-size, step-objects, step-objects-other, step-pages, step-marks, step-off, step-on, step-copied-other, step-bits, step-keeps, step-link}
 

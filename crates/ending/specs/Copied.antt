@@ -11,14 +11,13 @@ use Rattle.rules.specs.declared.Sizes.{Sizes}
 use Rattle.laws.specs.SameRules.{renamed}
 use Rattle.layout.specs.Places.{Room, ownerOf, markOf}
 use Rattle.layout.specs.Cells.{headAt, fieldAt, wordAt, headOf, workOf, fieldOf, cellNamed, refTo, pageOf, cellOn, roomFor, mostFields, cellWords, most-is, room-most, page-on}
-use Rattle.layout.specs.Marks.{marked}
+use Rattle.layout.specs.Marks.{marked, mark?}
 use Rattle.layout.specs.Objects.{begins-page, begins-used, begins-there}
 use Rattle.layout.specs.Words.{Words, words, Begins, BeginsIn, ownerIn, headIn}
 use Rattle.promises.specs.Whole.{WholeFor}
 use Rattle.promises.specs.Ends.{Part, Outside, Survivor, Lives, outside-lives, survivor-lives, lives-how}
 use Rattle.mark.specs.Marks.{kept-head, kept-field, kept-in-use, in-use-kept}
 use Rattle.mark.specs.Survivors.{Marked}
-use Rattle.copy.specs.Marks.{mark?}
 use Rattle.copy.specs.Passing.{Ready}
 use Rattle.copy.specs.Forward.{Forwards, Moved, forward}
 use Rattle.settle.specs.Rewrite.{forwarded, forward-null, forward-still, forward-moved}

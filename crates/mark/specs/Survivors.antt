@@ -7,7 +7,7 @@ use Prim.Native.Nat.{ℕ, zero, suc, _-_, _^_, _<_}
 use native.Mathlib.Omega.{arith}
 use native.Mathlib.Decide.{ℕ-discrete, decLt}
 use lib.ListN.{length, getD}
-use Rattle.lists.specs.Bits.{bitAt, bit-lt, bit-zero, high-none}
+use Rattle.lists.specs.Bits.{bitAt, bit-zero, high-none}
 use Rattle.lists.specs.Says.{Says, said-no}
 use Rattle.rules.specs.declared.Sizes.{Sizes}
 use Rattle.rules.specs.Regions.{regionAt, FurtherOut}
@@ -17,7 +17,7 @@ use Rattle.laws.specs.JoinLaws.{further-out}
 use Rattle.laws.specs.GraphLaws.{Reaches, target-absorbs, target-reached, target-called, target-furthest}
 use Rattle.layout.specs.Places.{depthOf, markOf, room, markAt}
 use Rattle.layout.specs.Cells.{workAt, workOf, pageOf, placeOf, cellOf, wordOf, pageCells}
-use Rattle.layout.specs.Marks.{marked}
+use Rattle.layout.specs.Marks.{marked, not-marked}
 use Rattle.layout.specs.Objects.{begins-page}
 use Rattle.layout.specs.Words.{Words, words, BeginsIn, ownerIn, depthIn, graphOf}
 use Rattle.promises.specs.Reading.{whole-room}
@@ -95,9 +95,8 @@ module _ (s : Sizes) (w : Words) (k : WholeFor s w) (t j : ℕ) (th : t < s .thr
       go (yes l) = let q = target-reached s (graphOf s w) r c l in let h = reaches-held (q .0) c (q .1) in absurd (n (h .0) (h .1) (h .3))
       go (no l) = omega arith
 
-  -- a bit that is not 1 is 0
   off : (c : ℕ) → (marked s T′ c ≡ 1 → ⊥) → marked s T′ c ≡ 0
-  off c n = omega (arith, bit-lt (placeOf c) (markOf s T′ (pageOf c)))
+  off = not-marked s T′
 
   found-owned : (c : ℕ) → pageOf c < s .pages → marked s T′ c ≡ 1 → BeginsIn s w c × (ownerIn s w (pageOf c) ≡ r)
   found-owned c b on =
