@@ -5,20 +5,20 @@ use Prim.Native.Nat.{ℕ, _≤_, _<_}
 use native.Mathlib.Decide.{decLt}
 use native.Mathlib.Omega.{arith}
 use Rattle.layout.specs.Places.{entriesUsed, slotAt, slotIn, slotRegionAt, slotRegionIn}
-use Rattle.remember.specs.Entries.{Entry, ZeroBetween, EntriesOf, Exact, Edited, entries-like}
+use Rattle.remember.specs.Entries.{Entry, ZeroBetween, EntriesOf, NamedWith, Exact, Edited, entries-like}
 use Rattle.remember.specs.Stretches.{Added, EndsAfter, slot-above, region-above}
 
 -- its entries are those of G, a number with its region
 pub record Renewed (G : ℕ → ℕ → Type 0) (N : ℕ) (M M′ : List ℕ) : Type 0 where
   pub edited : Edited N M M′
   pub entries : EntriesOf G N M′
-  pub every : (x h : ℕ) → G x h → (y : ℕ) × (y < entriesUsed M′) × (slotIn M′ y ≡ x) × (slotRegionIn N M′ y ≡ h)
+  pub every : (x h : ℕ) → G x h → NamedWith h N (entriesUsed M′) M′ x
 
 -- where G is f's, the table is exact for f
 pub renewed-exact : {G : ℕ → ℕ → Type 0} {N : ℕ} {M M′ : List ℕ} (f : ℕ → ℕ) (n : ℕ) → ((x h : ℕ) → G x h → Entry f n x h) → ((q : ℕ) → q < n → 0 < f q → G q (f q))
     → Renewed G N M M′ → Exact f n N M′
 renewed-exact f n to from′ r =
-    record { entries = entries-like to (r .entries); every = λ q l h. let y = r .every q (f q) (from′ q l h) in (y .0, y .1, y .2) }
+    record { entries = entries-like to (r .entries); every = λ q l h. let y = r .every q (f q) (from′ q l h) in (y .entry, y .low, y .slot) }
 
 -- the first k entries are those of G, entries up to e are cleared, the rest were zero
 module _ {G : ℕ → ℕ → Type 0} {N k e : ℕ} {M M₂ M₃ : List ℕ} (a : Added N G 0 k M M₂) (c : EndsAfter N k e M₂ M₃) (few : e ≤ N)
@@ -51,7 +51,7 @@ module _ {G : ℕ → ℕ → Type 0} {N k e : ℕ} {M M₂ M₃ : List ℕ} (a 
         };
         every = λ x h q.
             let w = a .every x h q in
-            (w .0, omega (arith, w .2, c .used), slot-y (w .0) (w .2) ∙ w .3, region-y (w .0) (w .2) ∙ w .4);
+            record { entry = w .0; low = omega (arith, w .2, c .used); region = region-y (w .0) (w .2) ∙ w .4; slot = slot-y (w .0) (w .2) ∙ w .3 };
       }
     where
       rest : (y : ℕ) → k ≤ y → y < N → Dec (y < e) → (slotIn M₃ y ≡ 0) × (slotRegionIn N M₃ y ≡ 0)
