@@ -1,4 +1,5 @@
 -- Question 13 of a new object, in words: it says no exactly if its region has no partly filled page and no page is free.
+-- Its region, the innermost of its thread, is one of the regions and open.
 use Prim.Native.Nat.{ℕ, zero, suc, _≤_, _<_}
 use native.Mathlib.Omega.{arith}
 use native.Mathlib.Decide.{ℕ-discrete}

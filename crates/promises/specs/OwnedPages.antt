@@ -135,7 +135,7 @@ module _ {s : Sizes} {t : List ℕ} (r : Regular s t) (q : ℕ) where
       pub count-fits : s .pages ≤ 1024 → countOf s t q + 1 < 2 ^ 32
       count-fits few = omega (arith, r .counts q pos low, objects-few)
 
--- ---- the objects of a page
+-- ---- the owner of a page is one of the regions
 
 -- an open region is one of the regions
 pub open-high : (s : Sizes) (t : List ℕ) (g : ℕ) → 1 ≤ s .depth → Open s t g → g ≤ regions s
@@ -147,6 +147,8 @@ module _ (s : Sizes) (w : Words) (k : WholeFor s w) where
   owner-low page l =
       by-cases (decLt 1 (ownerIn s w page))
       (λ h. open-high s (w .tables) (ownerIn s w page) (k .sized .range .depth-low) (k .pages page l .region h)) (λ h. omega arith)
+
+  -- ---- the objects of a page
 
   module _ (q : ℕ) (pos : 0 < q) where
     on-page : (page : ℕ) → page < s .pages → sum (λ j. cond (eqb (homeIn s w (cellOn page j)) q) 1 0) pageCells ≡ objectsOn s (w .tables) q page

@@ -5,12 +5,13 @@ pub mod Crossing
 pub mod Entries
 pub mod Remembering
 pub mod Staying
+-- definitions that contracts cite, with their laws
+pub mod Stretches
+pub mod Appending
+pub mod Filtered
+pub mod Renewed
 -- laws
 pub mod Crosses
 pub mod EntryEdits
 pub mod Counted
 pub mod Entering
-pub mod Stretches
-pub mod Appending
-pub mod Filtered
-pub mod Renewed

@@ -1,4 +1,4 @@
--- Depths and pages.
+-- The pages and their working words.
 use Prim.Native.Nat.{ℕ, _<_}
 use mathlib.Core.List.{List}
 use mathlib.Core.Path.{_≡_}
