@@ -10,7 +10,7 @@ use Rattle.lists.specs.Counting.{sum}
 use Rattle.rules.specs.declared.Sizes.{Sizes}
 use Rattle.rules.specs.Terms.{InRange}
 use Rattle.rules.specs.Regions.{threadOf, levelOf, regions}
-use Rattle.layout.specs.Places.{cellsWords, rememberWords, tablesWords, varCount, depthOf, varOf, ownerOf, usedOf, markOf, countOf, slotIn, slotRegionIn}
+use Rattle.layout.specs.Places.{cellsWords, rememberWords, tablesWords, varCount, depthOf, varOf, ownerOf, usedOf, markOf, countOf}
 use Rattle.layout.specs.Cells.{headOf, workOf, fieldOf, refsOf, allFields, roomFor, Formed, cellNamed, pageCells}
 use Rattle.layout.specs.Objects.{Begins}
 use Rattle.layout.specs.Words.{Words, BeginsIn, sizesIn, depthIn}
@@ -59,13 +59,13 @@ pub record ObjectWhole (s : Sizes) (c t : List ℕ) (k : ℕ) : Type 0 where
   pub rest : (f : ℕ) → f < roomFor (headOf c k) → allFields (headOf c k) ≤ f → fieldOf c k f ≡ 0
   pub references : (f : ℕ) → f < refsOf c k → IsRef s c t (fieldOf c k f)
 
--- entry i names a crossing slot, with the right region
-abbrev pub EntryWhole : Sizes → List ℕ → List ℕ → List ℕ → ℕ → Type 0
-EntryWhole s c m t i = Entry (crossTo s c t) (cellsWords s) (slotIn m i) (slotRegionIn (s .entries) m i)
+-- an entry of a slot and a region names a crossing slot, with the right region
+abbrev pub EntryWhole : Sizes → List ℕ → List ℕ → ℕ → ℕ → Type 0
+EntryWhole s c t = Entry (crossTo s c t) (cellsWords s)
 
 -- the entries name crossing slots, each once, and those that are not used are zero
 abbrev pub EntriesWhole : Sizes → List ℕ → List ℕ → List ℕ → Type 0
-EntriesWhole s c m t = EntriesOf (Entry (crossTo s c t) (cellsWords s)) (s .entries) m
+EntriesWhole s c m t = EntriesOf (EntryWhole s c t) (s .entries) m
 
 -- ---- the conditions, in 01's order
 

@@ -4,9 +4,8 @@ ghost use Prim.Native.Nat.{ℕ, _+_, _*_, _≤_, _<_};
 ghost use lib.ListN.{length};
 ghost use Rattle.lists.specs.Says.{Says};
 ghost use Rattle.lists.specs.Seen.{bitIn, withBit};
-ghost use Rattle.layout.specs.Places.{Room, cellsWords, rememberWords, mostWords, entriesUsed, slotIn, entriesWords};
-ghost use Rattle.remember.specs.Crossing.{crossTo};
-ghost use Rattle.remember.specs.Entries.{Entry, EachOf, Once, ZeroBetween, RestZero};
+ghost use Rattle.layout.specs.Places.{Room, cellsWords, rememberWords, mostWords, entriesUsed, slotIn, slotRegionIn, entriesWords};
+ghost use Rattle.remember.specs.Entries.{EachOf, Once, ZeroBetween, RestZero};
 ghost use Rattle.promises.specs.Whole.{EntryWhole, EntriesWhole};
 ghost use Rattle.whole.specs.Entries.{Rising};
 use remember::crossing::cross_to;
@@ -17,7 +16,7 @@ pub fn entry_whole(p: Sizes, cells: &[u32], remember: &[u32], tables: &[u32], i:
     requires { ⌜ cellsWords p ≤ length (now cells) ⌝ }
     requires { ⌜ rememberWords p ≤ length (now remember) ⌝ }
     requires { ⌜ i < p .entries ⌝ }
-    ensures { λ r. ⌜ Says r (EntryWhole p (now (cells .entry)) (now (remember .entry)) (now (tables .entry)) i) ⌝ }
+    ensures { λ r. ⌜ Says r (EntryWhole p (now (cells .entry)) (now (tables .entry)) (slotIn (now (remember .entry)) i) (slotRegionIn (p .entries) (now (remember .entry)) i)) ⌝ }
 {
     let at = layout::wide(layout::remember::slot(p.entries, remember, i));
     if layout::cells::words(p) <= at {
@@ -38,7 +37,7 @@ pub fn named_whole(p: Sizes, cells: &[u32], remember: &[u32], tables: &[u32], us
     requires { ⌜ cellsWords p ≤ length (now cells) ⌝ }
     requires { ⌜ rememberWords p ≤ length (now remember) ⌝ }
     requires { ⌜ (used ≡ entriesUsed (now remember)) × (used ≤ p .entries) ⌝ }
-    ensures { λ r. ⌜ Says r (EachOf (Entry (crossTo p (now (cells .entry)) (now (tables .entry))) (cellsWords p)) (p .entries) (now (remember .entry))) ⌝ }
+    ensures { λ r. ⌜ Says r (EachOf (EntryWhole p (now (cells .entry)) (now (tables .entry))) (p .entries) (now (remember .entry))) ⌝ }
 {
     let mut i = 0;
     while i < used {

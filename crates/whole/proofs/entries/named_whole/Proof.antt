@@ -6,13 +6,14 @@ use borrow.Author.Tests.{not-true, not-false}
 use Prim.Native.Nat.{ℕ, _-_, _≤_, _<_}
 use borrow.Author.Count.{below-more}
 use native.Mathlib.Nat.{not-suc-le-zero}
+use Rattle.layout.specs.Places.{slotIn, slotRegionIn}
 use Rattle.promises.specs.Whole.{EntryWhole}
 use Rattle.whole.proofs.entries.named_whole.Statement.{statement}
 use Rattle.whole.proofs.entries.named_whole.Tie as tie
 
 abbrev Inv-loop : tie.InvT-loop
 Inv-loop p cells remember tables used i₀ i =
-    (i ≤ used) × ((k : ℕ) → k < i → EntryWhole p cells remember tables k)
+    (i ≤ used) × ((k : ℕ) → k < i → EntryWhole p cells tables (slotIn remember k) (slotRegionIn (p .entries) remember k))
 
 abbrev μ-loop : tie.MeasureT-loop
 μ-loop p cells remember tables used i₀ i =
