@@ -24,10 +24,10 @@ use Rattle.layout.specs.Marks.{marked, not-marked}
 use Rattle.layout.specs.Words.{Words, BeginsIn, ownerIn, homeIn, headIn, refCount, refsIn, graphOf, cellCount}
 use Rattle.promises.specs.Ends.{partOf}
 use Rattle.promises.specs.Whole.{WholeFor, IsRef}
-use Rattle.remember.specs.Crossing.{other, crossesFrom, crossesTo, crossTo}
+use Rattle.remember.specs.Crossing.{other, crossesTo, crossTo}
 use Rattle.promises.specs.Crossings.{cross-in-sum}
-use Rattle.layout.specs.Objects.{begins-page, begins-true, begins-false, begins?, field-on, field-slot, slotsOf, slots-sum}
-use Rattle.remember.specs.Crosses.{slot-cross, cross-slot, other-yes, other-test}
+use Rattle.layout.specs.Objects.{begins-page, begins-true, begins-false, begins?, field-on, slotsOf, slots-sum}
+use Rattle.remember.specs.Crosses.{field-cross, cross-slot, other-yes, other-test}
 use Rattle.promises.specs.Slots.{region-of}
 use Rattle.promises.specs.Reading.{ref-begins, ref-room, no-home, refs-room, used-home, used-owned, used-alive, length-refs, getD-refs, refs-few, words-closed}
 use Rattle.mark.specs.Marks.{owner, kept-refs, kept-field, kept-owner}
@@ -213,9 +213,7 @@ module _ (s : Sizes) (w : Words) (k : WholeFor s w) (space : Room s (length (w .
             ∙ ap (λ (a : ℕ). crossAfter p (w′ .cells) (w′ .tables) a (fieldOf (w′ .cells) x f)) (now ∙ sym stays)
         go (no b) =
             let ref = k .objects x u .references f l in
-            let z : crossesTo p (w .tables) x (fieldOf (w .cells) x f) ≡ 0 =
-            ap (λ (q : ℕ). crossesFrom p (w .tables) (ownerIn s w q) (fieldOf (w .cells) x f)) (sym page)
-            ∙ sym (slot-cross p (w .cells) (w .tables) (fieldAt x f) (field-slot p (w .cells) (w .tables) x f u inside l)) ∙ omega arith in
+            let z : crossesTo p (w .tables) x (fieldOf (w .cells) x f) ≡ 0 = sym (field-cross p (w .cells) (w .tables) x f u inside l) ∙ omega arith in
             still-no (fieldAt x f) b ∙ sym (quiet (fieldOf (w .cells) x f) ref z) ∙ cross-one x (fieldOf (w .cells) x f) ref (slot-alive x f some l)
             ∙ ap (crossAfter p (w′ .cells) (w′ .tables) (h .home x)) (sym (kept-field (M .kept) x f (omega (arith, refs-few s w k x u))))
 

@@ -12,7 +12,7 @@ use Rattle.layout.specs.Cells.{fieldAt, fieldOf, pageOf, pageAt, cellNamed}
 use Rattle.layout.specs.Objects.{Slot, field-inside, slot-page}
 use Rattle.layout.specs.Words.{Words, BeginsIn, ownerIn, refCount}
 use Rattle.remember.specs.Crossing.{other, regionOf, crossTo, crossesFrom}
-use Rattle.remember.specs.Crosses.{crosses-into, into-crosses, crosses-null, slot-cross, cross-slot}
+use Rattle.remember.specs.Crosses.{crosses-into, into-crosses, crosses-null, slot-cross, slot-crosses, field-cross, cross-slot}
 use Rattle.remember.specs.Renewed.{Renewed, renewed-exact}
 use Rattle.promises.specs.Whole.{WholeFor, RememberWhole}
 use Rattle.promises.specs.Slots.{region-of}
@@ -23,12 +23,6 @@ use Rattle.ending.specs.Placing.{Placing, LiveSlot, placed-page, refs-pl
 -- ---- whole words
 
 module _ {s : Sizes} {w : Words} (whole : WholeFor s w) where
-  -- a slot crosses into the region that its reference names, out of its page's
-  crosses : (x : ℕ) (q : Slot s (w .cells) (w .tables) x) → crossTo s (w .cells) (w .tables) x ≡ crossesFrom s (w .tables) (ownerIn s w (pageOf (q .object))) (fieldOf (w .cells) (q .object) (q .field))
-  crosses x q =
-      slot-cross s (w .cells) (w .tables) x q
-      ∙ ap₂ (λ (p y : ℕ). crossesFrom s (w .tables) (ownerIn s w p) (getD (w .cells) y 0)) (slot-page s (w .cells) (w .tables) x q) (sym (q .at))
-
   entered : (x g : ℕ) → x < cellsWords s → 1 < g → g ≡ crossTo s (w .cells) (w .tables) x
       → (i : ℕ) × (i < entriesUsed (w .remember)) × (slotIn (w .remember) i ≡ x) × (slotRegionIn (s .entries) (w .remember) i ≡ g)
   entered x g l p e =
@@ -45,7 +39,7 @@ module _ {s : Sizes} {w : Words} (whole : WholeFor s w) where
       entered (fieldAt c f) (ownerIn s w (pageOf d)) (field-inside s (w .cells) (w .tables) c u f m) high
       (into-crosses s (w .tables) (ownerIn s w (pageOf c)) (fieldOf (w .cells) c f) (ownerIn s w (pageOf d))
       (record { real = λ q. omega arith; page = subst (λ (i : ℕ). pageOf i < s .pages) (sym y) p; region = ap (λ (i : ℕ). ownerIn s w (pageOf i)) (sym y); high = high; other = other })
-      ∙ sym (crosses (fieldAt c f) (record { object = c; field = f; begins = u; room = m; low = l; at = refl })))
+      ∙ sym (field-cross s (w .cells) (w .tables) c f u m l))
 
   -- what an entry says
   pub record EntrySays (i : ℕ) : Type 0 where
@@ -66,7 +60,7 @@ module _ {s : Sizes} {w : Words} (whole : WholeFor s w) where
       let n = whole .remember .entries .named i l in
       let g : ℕ = slotRegionIn (s .entries) (w .remember) i in
       let q = cross-slot s (w .cells) (w .tables) (slotIn (w .remember) i) (omega (arith, n .region, n .right)) in
-      let v = crosses-into s (w .tables) (ownerIn s w (pageOf (q .object))) (fieldOf (w .cells) (q .object) (q .field)) g (sym (n .right) ∙ crosses (slotIn (w .remember) i) q) (λ z. omega (arith, n .region)) in
+      let v = crosses-into s (w .tables) (ownerIn s w (pageOf (q .object))) (fieldOf (w .cells) (q .object) (q .field)) g (sym (n .right) ∙ slot-crosses s (w .cells) (w .tables) (slotIn (w .remember) i) q) (λ z. omega (arith, n .region)) in
       record {
         object = q .object;
         field = q .field;

@@ -15,17 +15,17 @@ use Rattle.rules.specs.Graph.{Graph, slotsOf as ruleSlots, crossing}
 use Rattle.rules.specs.Rules.{Regioned, graph}
 use Rattle.laws.specs.Counts.{crossIn, crossAt, crossing-sum, crossRef, cross-cons}
 use Rattle.layout.specs.Places.{cellsWords, entriesUsed}
-use Rattle.layout.specs.Cells.{fieldAt, fieldOf, roomFor, pageOf}
-use Rattle.layout.specs.Objects.{cellCount, begins?, begins-page, begins-true, begins-false, field-on, field-slot, slotsOf, slots-sum}
-use Rattle.layout.specs.Words.{Words, BeginsIn, ownerIn, headIn, refCount, refsIn, homeIn, graphOf}
+use Rattle.layout.specs.Cells.{fieldAt, fieldOf, pageOf}
+use Rattle.layout.specs.Objects.{cellCount, begins?, begins-page, begins-true, begins-false, slotsOf, slots-sum}
+use Rattle.layout.specs.Words.{Words, BeginsIn, ownerIn, refCount, refsIn, homeIn, graphOf}
 use Rattle.remember.specs.Crossing as cr
-use Rattle.remember.specs.Crossing.{other, crossesFrom, crossesTo}
-use Rattle.remember.specs.Crosses.{slot-cross, no-cross, other-test}
+use Rattle.remember.specs.Crossing.{other, crossesTo}
+use Rattle.remember.specs.Crosses.{field-cross, no-cross, other-test}
 use Rattle.promises.specs.Whole.{WholeFor, IsRef}
 use Rattle.promises.specs.StandsFor.{StandsFor}
 use Rattle.promises.specs.Slots.{region-of}
 use Rattle.remember.specs.Counted.{every-counted}
-use Rattle.promises.specs.Reading.{used-home, used-owned, used-alive, length-refs, getD-refs, refs-room, no-home, ref-begins}
+use Rattle.promises.specs.Reading.{used-home, used-owned, used-alive, length-refs, getD-refs, refs-room, ref-room, no-home, ref-begins}
 use Rattle.promises.specs.Agreed.{crossing-agree}
 
 sum-head : (f : ℕ → ℕ) (n : ℕ) → sum f (suc n) ≡ f 0 + sum (λ i. f (suc i)) n
@@ -52,9 +52,7 @@ module _ (s : Sizes) (w : Words) (k : WholeFor s w) where
 
     at-ref : (f : ℕ) → f < refCount w c → bit (cr.crossing s (w .cells) (w .tables) (fieldAt c f)) ≡ crossRef (graphOf s w) c (getD (refsIn w c) f 0)
     at-ref f m =
-        let l : f < roomFor (headIn w c) = omega (arith, refs-room s w k c u) in
-        ap (λ (n : ℕ). bit (ltb 0 n)) (slot-cross s (w .cells) (w .tables) (fieldAt c f) (field-slot s (w .cells) (w .tables) c f u l m))
-        ∙ ap (λ (p : ℕ). bit (ltb 0 (crossesFrom s (w .tables) (ownerIn s w p) (fieldOf (w .cells) c f)))) (field-on s (w .cells) (w .tables) c u f l)
+        ap (λ (n : ℕ). bit (ltb 0 n)) (field-cross s (w .cells) (w .tables) c f u (ref-room s w k c f u m) m)
         ∙ ref-test (fieldOf (w .cells) c f) (k .objects c u .references f m) ∙ ap (crossRef (graphOf s w) c) (sym (getD-refs w c f m))
 
   -- what the words of an object count

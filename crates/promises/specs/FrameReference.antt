@@ -34,7 +34,7 @@ use Rattle.promises.specs.Changes.{withObject, withField}
 use Rattle.promises.specs.Areas.{fieldWords, entryWords, Only}
 use Rattle.remember.specs.Entries.{Edited}
 use Rattle.promises.specs.Slots.{cross-stored, cross-elsewhere}
-use Rattle.remember.specs.Crosses.{slot-cross}
+use Rattle.remember.specs.Crosses.{field-cross}
 use Rattle.remember.specs.Remembering.{Remembered, NoRoom, remembered-exact, remembered-edited}
 use Rattle.promises.specs.FieldStore.{field-room, stored-only, field-whole, object-stands, fields-kept, fields-set}
 use Rattle.promises.specs.FrameVariable.{ref-to-cell}
@@ -72,9 +72,7 @@ module _ (s : Sizes) (w : Words) (k : WholeFor s w) (y f v : ℕ) (u : BeginsIn 
   room = field-room s w k y f v u within
 
   before : crossTo s (w .cells) (w .tables) at ≡ crossedTo s w y f v
-  before =
-      slot-cross s (w .cells) (w .tables) at reference-slot
-      ∙ ap (λ (p : ℕ). crossesFrom s (w .tables) (ownerIn s w p) (getD (w .cells) at 0)) (field-on s (w .cells) (w .tables) y u f few)
+  before = field-cross s (w .cells) (w .tables) y f u few low
 
   after : crossTo s (set (w .cells) at v) (w .tables) at ≡ willCross s w y f v
   after =

@@ -12,14 +12,18 @@ use lib.ListN.{getD}
 use Rattle.lists.specs.Counting.{bit}
 use Rattle.rules.specs.declared.Sizes.{Sizes}
 use Rattle.layout.specs.Places.{cellsWords, ownerOf, usedOf}
-use Rattle.layout.specs.Cells.{headOf, IsReference, cellNamed, pageOf, placeOf, cellOf, wordOf}
-use Rattle.layout.specs.Objects.{Slot, slot?, slot-true, no-slot, slot-word, word-slot}
-use Rattle.remember.specs.Crossing.{other, regionOf, crossesFrom, crossesAt, crossTo}
+use Rattle.layout.specs.Cells.{headOf, refsOf, roomFor, fieldAt, fieldOf, IsReference, cellNamed, pageOf, placeOf, cellOf, wordOf}
+use Rattle.layout.specs.Objects.{Begins, Slot, slot?, slot-true, no-slot, slot-page, slot-word, word-slot}
+use Rattle.remember.specs.Crossing.{other, regionOf, crossesFrom, crossesTo, crossesAt, crossTo}
 
 module _ (p : Sizes) (c t : List ℕ) (at : ℕ) where
   pub slot-cross : Slot p c t at → crossTo p c t at ≡ crossesAt p c t at
   unfolding crossTo
   slot-cross o = ap (λ (b : Bool). cond b (crossesAt p c t at) 0) (slot-true p c t at o)
+
+  -- by its object and its field
+  pub slot-crosses : (o : Slot p c t at) → crossTo p c t at ≡ crossesTo p t (o .object) (fieldOf c (o .object) (o .field))
+  slot-crosses o = slot-cross o ∙ ap₂ (λ (page y : ℕ). crossesFrom p t (ownerOf p t page) (getD c y 0)) (slot-page p c t at o) (sym (o .at))
 
   -- nothing else crosses
   pub no-cross : (Slot p c t at → ⊥) → crossTo p c t at ≡ 0
@@ -51,6 +55,10 @@ module _ (p : Sizes) (c t : List ℕ) (at : ℕ) where
         let q : pageOf (cellOf at) ≡ page = omega arith in
         m ∙ ap₂ other (k ∙ ap (ownerOf p t) (sym q)) l
         ∙ sym (slot-cross (word-slot p c t at (record { page = omega arith; place = omega (arith, ap (usedOf p t) q) }) (subst₂ IsReference (j ∙ ap (headOf c) e) i v)))
+
+-- a reference field of an object crosses as its word does from there
+pub field-cross : (p : Sizes) (c t : List ℕ) (k f : ℕ) → Begins p c t k → f < roomFor (headOf c k) → f < refsOf c k → crossTo p c t (fieldAt k f) ≡ crossesTo p t k (fieldOf c k f)
+field-cross p c t k f b l m = slot-crosses p c t (fieldAt k f) (record { object = k; field = f; begins = b; room = l; low = m; at = refl })
 
 -- the region of a reference, as the code read its page
 module _ (p : Sizes) (t : List ℕ) (x : ℕ) where

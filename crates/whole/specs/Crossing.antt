@@ -10,10 +10,10 @@ use Rattle.lists.specs.Counting.{count, count-positive, count-zero, count-to, s
 use Rattle.lists.specs.Says.{Says}
 use Rattle.rules.specs.declared.Sizes.{Sizes}
 use Rattle.layout.specs.Places.{cellsWords, ownerOf, usedOf}
-use Rattle.layout.specs.Cells.{headAt, headOf, fieldAt, fieldOf, refsOf, mostFields, roomFor, room-most, field-end, pageCells, pageOf, pageAt, cellOn, page-on}
-use Rattle.layout.specs.Objects.{Begins, begins-there, field-on, Slot, field-slot, none-before, none-after, none-past}
+use Rattle.layout.specs.Cells.{headAt, headOf, fieldAt, fieldOf, refsOf, mostFields, roomFor, room-most, field-end, pageCells, pageOf, cellOn, page-on}
+use Rattle.layout.specs.Objects.{Begins, begins-there, Slot, none-before, none-after, none-past}
 use Rattle.remember.specs.Crossing.{crossesFrom, crossTo, crossing}
-use Rattle.remember.specs.Crosses.{slot-cross, no-cross}
+use Rattle.remember.specs.Crosses.{field-cross, no-cross}
 use Rattle.whole.specs.Cells.{CellsWhole}
 
 -- how many slots cross before position n
@@ -48,9 +48,8 @@ module _ (p : Sizes) (c t : List ℕ) where
   crosses-at page place cell f o x r {used} {refs} i e q z u v w a n l m =
       let b : Begins p c t cell = subst (Begins p c t) (sym i) (begins-there p c t page place w (omega arith) (omega arith)) in
       let room : f < roomFor (headOf c cell) = omega (arith, room-most (headOf c cell)) in
-      let at : pageAt (fieldAt cell f) ≡ page = field-on p c t cell b f room ∙ ap pageOf i ∙ page-on page place (omega arith) in
-      z ∙ ap₂ (crossesFrom p t) (e ∙ ap (ownerOf p t) (sym at)) q
-      ∙ sym (slot-cross p c t (fieldAt cell f) (field-slot p c t cell f b room (omega arith)))
+      let at : pageOf cell ≡ page = ap pageOf i ∙ page-on page place (omega arith) in
+      z ∙ ap₂ (crossesFrom p t) (e ∙ ap (ownerOf p t) (sym at)) q ∙ sym (field-cross p c t cell f b room (omega arith))
 
   next : (k f : ℕ) → crossingTo p c t (fieldAt k (f + 1)) ≡ crossingTo p c t (fieldAt k f + 1)
   next k f = let e : fieldAt k (f + 1) ≡ fieldAt k f + 1 = omega arith in ap (crossingTo p c t) e
