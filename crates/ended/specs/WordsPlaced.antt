@@ -2,8 +2,9 @@
 -- below r's.
 use Prim.Native.Nat.{ℕ, suc, _-_, _%_, _≤_, _<_}
 use native.Mathlib.Omega.{arith}
+use native.Mathlib.Numerals.{add-one}
 use native.Mathlib.Decide.{decLt}
-use mathlib.Core.Path.{_≡_, sym, subst, _∙_}
+use mathlib.Core.Path.{_≡_, sym, ap, subst, _∙_}
 use lib.ListN.{getD, List·getD-eq-default}
 use Rattle.rules.specs.declared.Sizes.{Sizes}
 use Rattle.rules.specs.Regions.{regionAt, threadOf}
@@ -39,7 +40,7 @@ module _ (s : Sizes) (w : Words) (whole : WholeFor s w) where
       go (yes h) =
           let o = whole .pages page l .region h in
           level (threadOf s (ownerIn s w page)) ((ownerIn s w page - 2) % s .depth) (o .thread)
-          (omega (arith, o .level, depth-at s w (threadOf s (ownerIn s w page)) (o .thread))) (region-number s (ownerIn s w page) (o .real))
+          (omega (arith, o .level, depth-at s w (threadOf s (ownerIn s w page)) (o .thread))) (region-number s (ownerIn s w page) (o .real) ∙ ap (regionAt s (threadOf s (ownerIn s w page))) (add-one _))
       go (no h) = control (omega arith)
 
   pub words-placed : Placed s (heapOf s w)

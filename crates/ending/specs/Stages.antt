@@ -208,7 +208,7 @@ module _ {s : Sizes} {t l r : ℕ} {w w₁ : Words} (b : Ending s t l r w w₁) 
               where
                 last : Dec (levelOf s g ≡ l) → levelOf s g ≤ depthOf T′ (threadOf s g)
                 last (no z) = omega (arith, o .level, ap (depthOf T′) d, depth-after, ap (depthIn w) d, b .level)
-                last (yes z) = absurd (n (region-number s g (o .real) ∙ ap₂ (regionAt s) d (omega (arith, z)) ∙ sym (b .region)))
+                last (yes z) = absurd (n (region-number s g (o .real) ∙ ap₂ (regionAt s) d z ∙ sym (b .region)))
 
         gave-back : GaveBack s w (partOf s w r) T₂ T′
         gave-back =

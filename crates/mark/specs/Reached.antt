@@ -4,11 +4,10 @@ use mathlib.Core.Path.{_≡_, refl, sym, ap, ap₂, _∙_}
 use mathlib.Core.Logic.{⊎-elim}
 use mathlib.Core.Bool.{Bool, true, false, cond}
 use mathlib.Core.List.{List}
-use Prim.Native.Nat.{ℕ, suc, _+_, _-_, _/_, _%_, _<_}
+use Prim.Native.Nat.{ℕ, suc, _+_, _/_, _<_, min}
 use native.Mathlib.Omega.{arith}
 use native.Mathlib.Numerals.{one-add}
-use native.Mathlib.Nat.{mod-lt}
-use native.Mathlib.Decide.{ℕ-discrete, decLt}
+use native.Mathlib.Decide.{ℕ-discrete}
 use lib.Dec.{eqb}
 use lib.ListN.{getD}
 use borrow.Author.Tests.{eqb-true}
@@ -16,7 +15,7 @@ use Rattle.lists.specs.Listed.{listed}
 use Rattle.lists.specs.Members.{In, in-append, in-left, in-right, getD-in, in-place, in-bounds}
 use Rattle.rules.specs.declared.Sizes.{Sizes}
 use Rattle.rules.specs.Regions.{regionAt, threadOf, levelOf, join}
-use Rattle.laws.specs.RegionLaws.{region-high, region-number, thread-at, level-at, parent-at, join-control, join-other, join-same}
+use Rattle.laws.specs.RegionLaws.{OneThread, one-thread?, region-high, region-number, numbers-rise, thread-at, parent-at, join-one, join-two}
 use Rattle.laws.specs.GraphLaws as gl
 use Rattle.laws.specs.GraphLaws.{Refers, Holds, bySlot, byOwn, byOther}
 use Rattle.layout.specs.Places.{varOf, entriesUsed, slotIn, slotRegionIn, varCount}
@@ -27,7 +26,7 @@ use Rattle.promises.specs.Whole.{WholeFor}
 use Rattle.layout.specs.Objects.{begins-page, field-on, slot-low, slot-page, field-slot}
 use Rattle.remember.specs.Crosses.{slot-cross, other-yes, crosses-into}
 use Rattle.promises.specs.Slots.{region-of}
-use Rattle.promises.specs.Reading.{used-home, used-owned, used-alive, alive-used, cell-low, length-refs, getD-refs, length-vars, getD-vars, ref-room, ref-begins}
+use Rattle.promises.specs.Reading.{used-home, used-alive, alive-used, cell-low, length-refs, getD-refs, length-vars, getD-vars, ref-room, ref-begins}
 use Rattle.mark.specs.Marks.{Ours, Leads, Leads.held, Leads.via, leads-last, listed-in, in-listed}
 use Rattle.mark.specs.Holders.{varCalls, varHeld, slotCalls, slotHeld, heldRefs, Holding, entry-slot, calls-own, calls-other, var-some, slot-some}
 
@@ -182,26 +181,22 @@ module _ (s : Sizes) (w : Words) (k : WholeFor s w) where
     -- what a slot outside r calls for is the region of a level below
     slot-level : (y : ℕ) → BeginsIn s w y → (homeIn s w y ≡ r → ⊥) → (l : ℕ) × (l < suc j) × (join s r (homeIn s w y) ≡ regionAt s t l)
     unfolding regionAt
-    slot-level y u o = go (decLt 1 q)
+    slot-level y u o = go (one-thread? s r q)
       where
         q : ℕ
         q = ownerIn s w (pageOf y)
 
-        joined : (x : ℕ) → q ≡ x → join s r (homeIn s w y) ≡ join s r x
-        joined x z = ap (join s r) (used-home s w k y u ∙ z)
+        joined : join s r (homeIn s w y) ≡ join s r q
+        joined = ap (join s r) (used-home s w k y u)
 
-        level : (v i : ℕ) → i < s .depth → q ≡ regionAt s v (suc i) → 1 < q → Dec (t ≡ v) → (l : ℕ) × (l < suc j) × (join s r (homeIn s w y) ≡ regionAt s t l)
-        level v i d z b (no a) = (0, omega arith, joined (regionAt s v (suc i)) z ∙ join-other s t j v i deep d a)
-        level v i d z b (yes a) =
-            let apart : i ≡ j → ⊥ = λ c. o (used-home s w k y u ∙ z ∙ ap₂ (λ (a b : ℕ). regionAt s a (suc b)) (sym a) c) in
-            let low : i < suc j = omega (arith, k .pages (pageOf y) (begins-page _ _ _ _ u) .region b .level, ap (levelOf s) z ∙ level-at s v i d, ap (depthIn w) (ap (threadOf s) z ∙ thread-at s v i d ∙ sym a)) in
-            (suc i, omega arith, joined (regionAt s v (suc i)) z ∙ join-same s t j v i deep d a (omega arith) ∙ ap (λ (a : ℕ). regionAt s a (suc i)) (sym a))
-
-        go : Dec (1 < q) → (l : ℕ) × (l < suc j) × (join s r (homeIn s w y) ≡ regionAt s t l)
-        go (no n) = (0, omega arith, joined 1 (let nz = used-owned s w k y u in let z : q ≡ 1 = omega arith in z) ∙ join-control s r)
-        go (yes l) =
-            let d : 0 < s .depth = omega (arith, k .sized .range .depth-low) in
-            level ((q - 2) / s .depth) ((q - 2) % s .depth) (mod-lt (q - 2) d) (region-number s q l) l (ℕ-discrete t ((q - 2) / s .depth))
+        go : Dec (OneThread s r q) → (l : ℕ) × (l < suc j) × (join s r (homeIn s w y) ≡ regionAt s t l)
+        go (no n) = (0, omega arith, joined ∙ join-two s n)
+        go (yes h) =
+            let e : threadOf s q ≡ t = sym (h .thread) ∙ thread-at s t j deep in
+            let z : q ≡ regionAt s t (levelOf s q) = region-number s q (h .right) ∙ ap (λ (a : ℕ). regionAt s a (levelOf s q)) e in
+            let apart : levelOf s q ≡ suc j → ⊥ = λ c. o (used-home s w k y u ∙ z ∙ ap (regionAt s t) c) in
+            let low : levelOf s q < suc j = omega (arith, k .pages (pageOf y) (begins-page _ _ _ _ u) .region (h .right) .level, ap (depthIn w) e) in
+            let m : min r q ≡ q = omega (arith, numbers-rise s t (levelOf s q) (suc j) low) in (levelOf s q, low, joined ∙ join-one s h ∙ m ∙ z)
 
     -- each holder calls for the region of a level below, and is held there
     pub holds-held : (x q : ℕ) → homeIn s w x ≡ r → Holds s (graphOf s w) r x q → (l : ℕ) × (l < suc j) × (q ≡ regionAt s t l) × In (1 + x) (heldFrom (regionAt s t l))
