@@ -1,4 +1,4 @@
--- Crossing slots and their entries: in whole words, and after an end, where they are references of the objects that live on, in their cells.
+-- Crossing slots and their entries after an end, where they are references of the objects that live on, in their cells.
 use mathlib.Core.Path.{_≡_, refl, sym, ap, ap₂, subst, _∙_}
 use mathlib.Core.Logic.{_≢_, _⊎_, inl, inr, ⊎-elim}
 use Prim.Native.Nat.{ℕ, zero, suc, _<_}
@@ -7,75 +7,17 @@ use native.Mathlib.Omega.{arith}
 use lib.ListN.{getD}
 use Rattle.rules.specs.declared.Sizes.{Sizes}
 use Rattle.laws.specs.SameRules.{renamed}
-use Rattle.layout.specs.Places.{entriesUsed, slotIn, slotRegionIn, cellsWords}
-use Rattle.layout.specs.Cells.{fieldAt, fieldOf, pageOf, pageAt, cellNamed}
-use Rattle.layout.specs.Objects.{Slot, field-inside, slot-page}
+use Rattle.layout.specs.Places.{cellsWords}
+use Rattle.layout.specs.Cells.{fieldAt, fieldOf, pageOf, cellNamed}
+use Rattle.layout.specs.Objects.{Slot}
 use Rattle.layout.specs.Words.{Words, BeginsIn, ownerIn, refCount}
 use Rattle.remember.specs.Crossing.{other, regionOf, crossTo, crossesFrom}
-use Rattle.remember.specs.Crosses.{crosses-into, into-crosses, crosses-null, slot-cross, slot-crosses, field-cross, cross-slot}
+use Rattle.remember.specs.Crosses.{crosses-into, into-crosses, crosses-null, slot-cross, cross-slot}
 use Rattle.remember.specs.Renewed.{Renewed, renewed-exact}
-use Rattle.promises.specs.Whole.{WholeFor, RememberWhole}
+use Rattle.promises.specs.Whole.{RememberWhole}
 use Rattle.promises.specs.Slots.{region-of}
-use Rattle.promises.specs.Reading.{ref-room}
 use Rattle.promises.specs.Ends.{Part, Outside, Survivor, Lives, lives-how}
 use Rattle.ending.specs.Placing.{Placing, LiveSlot, placed-page, refs-placed, live-slot, live-page, live-low}
-
--- ---- whole words
-
-module _ {s : Sizes} {w : Words} (whole : WholeFor s w) where
-  entered : (x g : ℕ) → x < cellsWords s → 1 < g → g ≡ crossTo s (w .cells) (w .tables) x
-      → (i : ℕ) × (i < entriesUsed (w .remember)) × (slotIn (w .remember) i ≡ x) × (slotRegionIn (s .entries) (w .remember) i ≡ g)
-  entered x g l p e =
-      let q = whole .remember .every x l (omega arith) in
-      (q .0, q .1, q .2, sym (whole .remember .entries .named (q .0) (q .1) .right) ∙ ap (crossTo s (w .cells) (w .tables)) (q .2) ∙ sym e)
-
-  -- where one points from its object's region into another than the control space it has an entry, with that region
-  pub entry-of : (c f d : ℕ) → BeginsIn s w c → f < refCount w c → fieldOf (w .cells) c f ≡ suc d → pageOf d < s .pages → 1 < ownerIn s w (pageOf d)
-      → ownerIn s w (pageOf d) ≢ ownerIn s w (pageOf c)
-      → (i : ℕ) × (i < entriesUsed (w .remember)) × (slotIn (w .remember) i ≡ fieldAt c f) × (slotRegionIn (s .entries) (w .remember) i ≡ ownerIn s w (pageOf d))
-  entry-of c f d u l z p high other =
-      let m = ref-room s w whole c f u l in
-      let y : cellNamed (fieldOf (w .cells) c f) ≡ d = omega arith in
-      entered (fieldAt c f) (ownerIn s w (pageOf d)) (field-inside s (w .cells) (w .tables) c u f m) high
-      (into-crosses s (w .tables) (ownerIn s w (pageOf c)) (fieldOf (w .cells) c f) (ownerIn s w (pageOf d))
-      (record { real = λ q. omega arith; page = subst (λ (i : ℕ). pageOf i < s .pages) (sym y) p; region = ap (λ (i : ℕ). ownerIn s w (pageOf i)) (sym y); high = high; other = other })
-      ∙ sym (field-cross s (w .cells) (w .tables) c f u m l))
-
-  -- what an entry says
-  pub record EntrySays (i : ℕ) : Type 0 where
-    pub object : ℕ
-    pub field : ℕ
-    pub names : ℕ
-    pub used : BeginsIn s w object
-    pub low : field < refCount w object
-    pub at : slotIn (w .remember) i ≡ fieldAt object field
-    pub page : pageAt (slotIn (w .remember) i) ≡ pageOf object
-    pub value : fieldOf (w .cells) object field ≡ suc names
-    pub region : slotRegionIn (s .entries) (w .remember) i ≡ ownerIn s w (pageOf names)
-    pub high : 1 < ownerIn s w (pageOf names)
-    pub other : ownerIn s w (pageOf names) ≢ ownerIn s w (pageOf object)
-
-  pub entry-says : (i : ℕ) → i < entriesUsed (w .remember) → EntrySays i
-  entry-says i l =
-      let n = whole .remember .entries .named i l in
-      let g : ℕ = slotRegionIn (s .entries) (w .remember) i in
-      let q = cross-slot s (w .cells) (w .tables) (slotIn (w .remember) i) (omega (arith, n .region, n .right)) in
-      let v = crosses-into s (w .tables) (ownerIn s w (pageOf (q .object))) (fieldOf (w .cells) (q .object) (q .field)) g (sym (n .right) ∙ slot-crosses s (w .cells) (w .tables) (slotIn (w .remember) i) q) (λ z. omega (arith, n .region)) in
-      record {
-        object = q .object;
-        field = q .field;
-        names = cellNamed (fieldOf (w .cells) (q .object) (q .field));
-        used = q .begins;
-        low = q .low;
-        at = sym (q .at);
-        page = slot-page s (w .cells) (w .tables) (slotIn (w .remember) i) q;
-        value = let r = v .real in omega arith;
-        region = v .region;
-        high = omega (arith, v .high, v .region);
-        other = λ z. v .other (v .region ∙ z);
-      }
-
--- ---- after the end
 
 -- the region that reference f of the object that was in cell c crosses into, with the objects in their cells
 abbrev pub crossThen : Sizes → Words → Words → (ℕ → ℕ) → ℕ → ℕ → ℕ

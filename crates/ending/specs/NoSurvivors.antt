@@ -21,7 +21,7 @@ use Rattle.settle.specs.Update.{Copies, Settles}
 use Rattle.ended.specs.EndQuestion.{crossingAfter}
 use Rattle.mark.specs.MarkedWords.{outside-work, var-same}
 use Rattle.ending.specs.Rewriting.{copy-survivor}
-use Rattle.ending.specs.Crossing.{entry-says}
+use Rattle.promises.specs.EntrySays.{entry-says}
 use Rattle.ending.specs.Region.{Held}
 use Rattle.ending.specs.Ending.{Ending, room-of}
 use Rattle.ending.specs.Stages.{keeps, moved, settle-ask}

@@ -21,7 +21,7 @@ use Rattle.ended.specs.Living.{KeepsNamed}
 use Rattle.ending.specs.Placing.{OutsideSlot, HoldingSlots, outside-home, outside-live, live-page}
 use Rattle.ending.specs.Copied.{HasMoved, placed, placing, page-kept, placed-only}
 use Rattle.ending.specs.Rewriting.{cross-live}
-use Rattle.ending.specs.Crossing.{entry-says}
+use Rattle.promises.specs.EntrySays.{entry-says}
 use Rattle.ending.specs.Remembering.{OfRegions, remembered-holding, Renews}
 
 -- the remembered slots that point into r

@@ -12,10 +12,11 @@ use Rattle.layout.specs.Words.{Words, ownerIn}
 use Rattle.remember.specs.Filtered.{Stays}
 use Rattle.promises.specs.Whole.{WholeFor}
 use Rattle.promises.specs.Reading.{ref-room}
+use Rattle.promises.specs.EntrySays.{EntrySays, entry-of, entry-says}
 use Rattle.promises.specs.Ends.{Part, Outside, Survivor, Lives, outside-lives, lives-how}
 use Rattle.ended.specs.Living.{KeepsNamed}
 use Rattle.ending.specs.Placing.{Placing, OutsideSlot, HoldingSlots, LiveSlot, outside-home, outside-live, live-outside}
-use Rattle.ending.specs.Crossing.{entry-of, EntrySays, entry-says, crossThen, Told, crosses-names, names-cross}
+use Rattle.ending.specs.Crossing.{crossThen, Told, crosses-names, names-cross}
 
 -- the pages of the part are those of the regions of G, none of which is the control space
 pub record OfRegions (s : Sizes) (w : Words) (e : Part) (G : ℕ → Type 0) : Type 0 where
@@ -44,7 +45,7 @@ remembered-holding {s} {w} {e} {G} {S} whole keeps o from to =
       every = λ c f d u l z own.
           let p = begins-page s (w .cells) (w .tables) d (keeps .references c f d (outside-lives u) l z .used) in
           let g = o .owner (pageOf d) p own in
-          let q = entry-of whole c f d (u .used) l z p (o .high (ownerIn s w (pageOf d)) g) (λ y. u .out (o .ends (pageOf c) (begins-page s (w .cells) (w .tables) c (u .used)) (subst G y g))) in
+          let q = entry-of whole c f d (u .used) l z (o .high (ownerIn s w (pageOf d)) g) (λ y. u .out (o .ends (pageOf c) (begins-page s (w .cells) (w .tables) c (u .used)) (subst G y g))) in
           let on : pageAt (slotIn (w .remember) (q .0)) ≡ pageOf c = ap pageAt (q .2) ∙ field-on s (w .cells) (w .tables) c (u .used) f (ref-room s w whole c f (u .used) l) in
           subst S (q .2) (to (q .0) (q .1) (subst G (sym (q .3)) g) (λ v. u .out (subst (e .ends) on v)));
     }
@@ -102,7 +103,7 @@ module _ {s : Sizes} {w : Words} {e : Part} {w′ : Words} {cell : ℕ → ℕ} 
       by : 1 < ownerIn s w (pageOf (m .0)) → ownerIn s w (pageOf (m .0)) ≢ ownerIn s w (pageOf (q .object)) → crossThen s w w′ cell (q .object) (q .field) ≡ anew x (ownerIn s w (pageOf (m .0)))
           → Stays anew (s .entries) (w .remember) (entriesUsed (w .remember)) x (crossThen s w w′ cell (q .object) (q .field))
       by up ne region =
-          let y = entry-of (h .whole) (q .object) (q .field) (m .0) (u .used) (q .low) (m .2) low up ne in
+          let y = entry-of (h .whole) (q .object) (q .field) (m .0) (u .used) (q .low) (m .2) up ne in
           let at = y .2 ∙ sym (live-outside h x q u .at) in
           record { entry = y .0; low = y .1; slot = at; region = region ∙ ap₂ anew (sym at) (sym (y .3)); kept = n }
 

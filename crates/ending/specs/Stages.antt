@@ -37,7 +37,8 @@ use Rattle.mark.specs.MarkedWords.{owner-same, unlisted}
 use Rattle.ending.specs.Placing.{HoldingSlots, LiveSlot}
 use Rattle.ending.specs.Copied.{Sends, HasMoved, placed, placing, page-kept}
 use Rattle.ending.specs.Rewriting.{HasRewritten, copies-live, old-no-copy, live-names, names-later, cross-live, held-live, no-copy, copies-ask, outside-after, copies-told}
-use Rattle.ending.specs.Crossing.{entry-says, Told, told-both}
+use Rattle.promises.specs.EntrySays.{entry-says}
+use Rattle.ending.specs.Crossing.{Told, told-both}
 use Rattle.ending.specs.Space.{space-enough}
 use Rattle.ending.specs.Remembering.{stays-told}
 use Rattle.ending.specs.Region.{Held, of-region, holding, page-was, renews}

@@ -1,6 +1,6 @@
 -- Whole words against the rules: chains of slots are the rules' chains, and the holders that marking takes from the words are the rules'
 -- holders, each at the level of the region that it calls for.
-use mathlib.Core.Path.{_≡_, refl, sym, ap, ap₂, _∙_}
+use mathlib.Core.Path.{_≡_, refl, sym, ap, _∙_}
 use mathlib.Core.Logic.{⊎-elim}
 use mathlib.Core.Bool.{Bool, true, false, cond}
 use mathlib.Core.List.{List}
@@ -19,16 +19,14 @@ use Rattle.laws.specs.RegionLaws.{OneThread, one-thread?, region-high, region-n
 use Rattle.laws.specs.GraphLaws as gl
 use Rattle.laws.specs.GraphLaws.{Refers, Holds, bySlot, byOwn, byOther}
 use Rattle.layout.specs.Places.{varOf, entriesUsed, slotIn, slotRegionIn, varCount}
-use Rattle.layout.specs.Cells.{fieldAt, fieldOf, pageOf, pageAt}
+use Rattle.layout.specs.Cells.{fieldOf, pageOf, pageAt}
 use Rattle.layout.specs.Words.{Words, BeginsIn, ownerIn, homeIn, depthIn, refCount, refsIn, varsIn, graphOf}
-use Rattle.remember.specs.Crossing.{other, crossesFrom, crossTo}
 use Rattle.promises.specs.Whole.{WholeFor}
-use Rattle.layout.specs.Objects.{begins-page, field-on, slot-low, slot-page, field-slot}
-use Rattle.remember.specs.Crosses.{slot-cross, other-yes, crosses-into}
-use Rattle.promises.specs.Slots.{region-of}
-use Rattle.promises.specs.Reading.{used-home, used-alive, alive-used, cell-low, length-refs, getD-refs, length-vars, getD-vars, ref-room, ref-begins}
+use Rattle.layout.specs.Objects.{begins-page, field-on}
+use Rattle.promises.specs.EntrySays.{entry-of, entry-says}
+use Rattle.promises.specs.Reading.{used-home, used-alive, alive-used, cell-low, length-refs, getD-refs, length-vars, getD-vars, ref-room}
 use Rattle.mark.specs.Marks.{Ours, Leads, Leads.held, Leads.via, leads-last, listed-in, in-listed}
-use Rattle.mark.specs.Holders.{varCalls, varHeld, slotCalls, slotHeld, heldRefs, Holding, entry-slot, calls-own, calls-other, var-some, slot-some}
+use Rattle.mark.specs.Holders.{varCalls, varHeld, slotCalls, slotHeld, heldRefs, Holding, calls-own, calls-other, var-some, slot-some}
 
 -- ---- numbers that are chosen by tests
 
@@ -56,10 +54,6 @@ module _ (s : Sizes) (w : Words) (k : WholeFor s w) where
   field-refers y f x u l e =
       record { below = cell-low s w k y u; there = used-alive s w k y u; slot = getD-in (refsIn w y) f x (getD-refs w y f l ∙ e) }
 
-  -- what a reference names is an object
-  field-used : (y f x : ℕ) → BeginsIn s w y → f < refCount w y → fieldOf (w .cells) y f ≡ suc x → BeginsIn s w x
-  field-used y f x u l e = ref-begins s (w .cells) (w .tables) (fieldOf (w .cells) y f) x (k .objects y u .references f l) e
-
   -- ---- chains
 
   module _ (r : ℕ) (pos : 0 < r) where
@@ -79,28 +73,6 @@ module _ (s : Sizes) (w : Words) (k : WholeFor s w) where
 
   pub whole-holding : Holding s (w .cells) (w .remember) (w .tables)
   whole-holding = record { some = k .sized .range .variables-low; long = k .sized .remember; variables = k .variables; remember = k .remember }
-
-  -- the slot of an entry lies outside the region that it points into
-  pub entry-outside : (i : ℕ) → i < entriesUsed (w .remember) → ownerIn s w (pageAt (slotIn (w .remember) i)) ≡ slotRegionIn (s .entries) (w .remember) i → ⊥
-  entry-outside i l z =
-      let q = slotIn (w .remember) i in
-      let n = k .remember .entries .named i l in
-      crosses-into s (w .tables) (ownerIn s w (pageAt q)) (getD (w .cells) q 0) _ (sym (n .right) ∙ slot-cross s (w .cells) (w .tables) q (entry-slot whole-holding i l)) (λ y. omega (arith, n .region)) .other (sym z)
-
-  -- and each slot outside r that points into it has an entry
-  pub enters-entry : (r y f x : ℕ) → 1 < r → BeginsIn s w y → (ownerIn s w (pageOf y) ≡ r → ⊥) → f < refCount w y → fieldOf (w .cells) y f ≡ suc x
-      → ownerIn s w (pageOf x) ≡ r → (i : ℕ) × (i < entriesUsed (w .remember)) × (slotIn (w .remember) i ≡ fieldAt y f) × (slotRegionIn (s .entries) (w .remember) i ≡ r)
-  enters-entry r y f x pos u out l e own =
-      let q = fieldAt y f in
-      let o = field-slot s (w .cells) (w .tables) y f u (ref-room s w k y f u l) l in
-      let v = field-used y f x u l e in
-      let c : crossTo s (w .cells) (w .tables) q ≡ r =
-      slot-cross s (w .cells) (w .tables) q o
-      ∙ ap₂ (λ (a b : ℕ). crossesFrom s (w .tables) (ownerIn s w a) b) (field-on s (w .cells) (w .tables) y u f (ref-room s w k y f u l)) e
-      ∙ ap (other (ownerIn s w (pageOf y))) (region-of s (w .tables) x (begins-page _ _ _ _ v) ∙ own) ∙ sym (other-yes (ownerIn s w (pageOf y)) r pos (λ z. out (sym z))) in
-      let i = k .remember .every q (slot-low s (w .cells) (w .tables) q o) (omega arith) in
-      let n = k .remember .entries .named (i .0) (i .1) in
-      (i .0, i .1, i .2, sym (n .right) ∙ ap (crossTo s (w .cells) (w .tables)) (i .2) ∙ c)
 
   -- ---- the innermost region of thread t, at its depth suc j
 
@@ -143,12 +115,12 @@ module _ (s : Sizes) (w : Words) (k : WholeFor s w) where
             let q = in-listed (slotHeld s (w .cells) (w .remember) (w .tables) r g) (entriesUsed (w .remember)) (1 + x) m in
             let a = some-cond (eqb (slotRegionIn (s .entries) (w .remember) (q .0)) r) _ x (q .2) in
             let b = some-cond (eqb (slotCalls s (w .remember) (w .tables) r (q .0)) g) _ x (a .1) in
-            let at = slotIn (w .remember) (q .0) in
-            let o = entry-slot whole-holding (q .0) (q .1) in
+            let o = entry-says k (q .0) (q .1) in
             let y = o .object in
-            let f : fieldOf (w .cells) y (o .field) ≡ suc x = ap (λ (z : ℕ). getD (w .cells) z 0) (o .at) ∙ b .1 ∙ one-add x in
-            let hy : homeIn s w y ≡ ownerIn s w (pageAt at) = used-home s w k y (o .begins) ∙ ap (ownerIn s w) (sym (slot-page s (w .cells) (w .tables) at o)) in
-            bySlot y (field-refers y (o .field) x (o .begins) (o .low) f) (λ z. entry-outside (q .0) (q .1) (sym hy ∙ z ∙ sym (eqb-true _ _ (a .0)))) (sym (eqb-true _ _ (b .0)) ∙ ap (join s r) (sym hy))
+            let f : fieldOf (w .cells) y (o .field) ≡ suc x = ap (λ (z : ℕ). getD (w .cells) z 0) (sym (o .at)) ∙ b .1 ∙ one-add x in
+            let hy = used-home s w k y (o .used) in
+            bySlot y (field-refers y (o .field) x (o .used) (o .low) f) (λ z. o .other (sym (o .region) ∙ eqb-true _ _ (a .0) ∙ sym z ∙ hy))
+            (sym (eqb-true _ _ (b .0)) ∙ ap (join s r) (ap (ownerIn s w) (o .page) ∙ sym hy))
 
     -- a variable, or a slot outside r, that calls for the region of level l is held there
     var-held : (x l i : ℕ) → getD (varsIn s w) i 0 ≡ suc x → regionAt s t l ≡ varCalls s t outer i → In (1 + x) (heldFrom (regionAt s t l))
@@ -168,7 +140,8 @@ module _ (s : Sizes) (w : Words) (k : WholeFor s w) where
         let u = alive-used s w k y (f .there) in
         let i = refers-field y x f in
         let hy = used-home s w k y u in
-        let n = enters-entry r y (i .0) x (region-high s t j) u (λ z. o (hy ∙ z)) (i .1) (i .2) (home-cell x r h (omega (arith, region-high s t j)) .1) in
+        let own = home-cell x r h (omega (arith, region-high s t j)) .1 in
+        let n = entry-of k y (i .0) x u (i .1) (i .2) (omega (arith, own, region-high s t j)) (λ z. o (hy ∙ sym z ∙ own)) in
         let b : i .0 < refCount w y = i .1 in
         let page : pageAt (slotIn (w .remember) (n .0)) ≡ pageOf y = ap pageAt (n .2) ∙ field-on s (w .cells) (w .tables) y u (i .0) (ref-room s w k y (i .0) u b) in
         let g : ℕ = regionAt s t l in
@@ -176,7 +149,7 @@ module _ (s : Sizes) (w : Words) (k : WholeFor s w) where
         in-right (1 + x) (listed (varHeld s (w .tables) t outer g) (varCount s))
         (listed (slotHeld s (w .cells) (w .remember) (w .tables) r g) (entriesUsed (w .remember)))
         (listed-in (slotHeld s (w .cells) (w .remember) (w .tables) r g) (entriesUsed (w .remember)) (n .0) (1 + x) (n .1)
-        (sym (slot-some s (w .cells) (w .remember) (w .tables) r g (n .0) (n .3) call) ∙ ap (λ (z : ℕ). getD (w .cells) z 0) (n .2) ∙ i .2 ∙ sym (one-add x)))
+        (sym (slot-some s (w .cells) (w .remember) (w .tables) r g (n .0) (n .3 ∙ own) call) ∙ ap (λ (z : ℕ). getD (w .cells) z 0) (n .2) ∙ i .2 ∙ sym (one-add x)))
 
     -- what a slot outside r calls for is the region of a level below
     slot-level : (y : ℕ) → BeginsIn s w y → (homeIn s w y ≡ r → ⊥) → (l : ℕ) × (l < suc j) × (join s r (homeIn s w y) ≡ regionAt s t l)

@@ -21,8 +21,9 @@ pub mod Chained
 -- the questions in words, refusals, and a command that is done
 pub mod Questions
 pub mod NewPages
--- slots, and where they cross alike
+-- slots, where they cross alike, and what their entries say
 pub mod Slots
+pub mod EntrySays
 -- areas and frames: words that differ in one area stand for the heap, changed likewise
 pub mod Changes
 pub mod Areas
