@@ -7,7 +7,7 @@ use native.Mathlib.Omega.{arith}
 use native.Mathlib.Decide.{ℕ-discrete, decLt}
 use native.Mathlib.Nat.{one-mul, zero-mul}
 use lib.Dec.{eqb, ltb}
-use lib.ListN.{length, getD}
+use lib.ListN.{length}
 use borrow.Author.Tests.{eq-eqb, ne-eqb, lt-ltb, le-ltb}
 use Rattle.lists.specs.Tests.{cond-zero}
 use Rattle.lists.specs.Counting.{sum, sum-same, sum-none, sum-plus}
@@ -17,7 +17,7 @@ use Rattle.rules.specs.declared.Sizes.{Sizes}
 use Rattle.rules.specs.Graph.{Graph, target, ended, crossing}
 use Rattle.laws.specs.EndLaws.{home-stayed, home-went, closed-ended}
 use Rattle.laws.specs.GraphLaws.{Alive}
-use Rattle.laws.specs.Counts.{crossIn, crossAt, crossing-sum, crossRef}
+use Rattle.laws.specs.Counts.{crossAt, crossing-sum, crossRef}
 use Rattle.layout.specs.Places.{ownerOf, entriesUsed, slotIn, Room, cellsWords}
 use Rattle.layout.specs.Cells.{workOf, fieldAt, fieldOf, pageOf, pageAt, refsOf, roomFor}
 use Rattle.layout.specs.Marks.{marked, not-marked}
@@ -25,11 +25,11 @@ use Rattle.layout.specs.Words.{Words, BeginsIn, ownerIn, homeIn, headIn, refCou
 use Rattle.promises.specs.Ends.{partOf}
 use Rattle.promises.specs.Whole.{WholeFor, IsRef}
 use Rattle.remember.specs.Crossing.{other, crossesTo, crossTo}
-use Rattle.promises.specs.Crossings.{cross-in-sum}
+use Rattle.promises.specs.Crossings.{gone-cross, alive-cross}
 use Rattle.layout.specs.Objects.{begins-page, begins-true, begins-false, begins?, field-on, slotsOf, slots-sum}
 use Rattle.remember.specs.Crosses.{field-cross, cross-slot, other-yes, other-test}
 use Rattle.promises.specs.Slots.{region-of}
-use Rattle.promises.specs.Reading.{ref-begins, ref-room, no-home, refs-room, used-home, used-owned, used-alive, length-refs, getD-refs, refs-few, words-closed}
+use Rattle.promises.specs.Reading.{ref-begins, ref-room, no-home, refs-room, used-home, used-owned, used-alive, getD-refs, refs-few, words-closed}
 use Rattle.mark.specs.Marks.{owner, kept-refs, kept-field, kept-owner}
 use Rattle.mark.specs.Reached.{home-cell, cell-home}
 use Rattle.mark.specs.Survivors.{Marked}
@@ -92,25 +92,13 @@ module _ (s : Sizes) (w : Words) (k : WholeFor s w) (space : Room s (length (w .
 
   -- ---- all slots of an object
 
-  module _ (x : ℕ) (u : BeginsIn s w x) where
-    slots-cross : Alive h x → crossIn h x (refsIn w x) ≡ sum (λ f. crossAfter p (w′ .cells) (w′ .tables) (h .home x) (fieldOf (w′ .cells) x f)) (refCount w x)
-    slots-cross a =
-        cross-in-sum h x (refsIn w x) ∙ ap (sum (λ f. crossRef h x (getD (refsIn w x) f 0))) (length-refs s w k x u)
-        ∙ sum-same (λ f. crossRef h x (getD (refsIn w x) f 0)) (λ f. crossAfter p (w′ .cells) (w′ .tables) (h .home x) (fieldOf (w′ .cells) x f)) (refCount w x)
-        (λ f l.
-        let v : getD (refsIn w x) f 0 ≡ fieldOf (w .cells) x f = getD-refs w x f l in
-        let l′ : f < refCount w x = l in
-        ap (crossRef h x) v ∙ cross-one x (fieldOf (w .cells) x f) (k .objects x u .references f l) (slot-alive x f a l)
-        ∙ ap (crossAfter p (w′ .cells) (w′ .tables) (h .home x)) (sym (kept-field (M .kept) x f (omega (arith, refs-few s w k x u)))))
-
-    -- what the rules count of it
-    counted : (h .home x ≡ 0 → ⊥) → crossAt h x ≡ crossIn h x (refsIn w x)
-    unfolding crossAt
-    counted n = ap (λ (b : Bool). cond b 0 (crossIn h x (h .refs x))) (ne-eqb (h .home x) 0 n) ∙ ap (crossIn h x) (ended-refs x)
-
-  gone : (x : ℕ) → h .home x ≡ 0 → crossAt h x ≡ 0
-  unfolding crossAt
-  gone x z = ap (λ (b : Bool). cond b 0 (crossIn h x (h .refs x))) (eq-eqb (h .home x) 0 z)
+  slots-cross : (x : ℕ) → BeginsIn s w x → Alive h x → crossAt h x ≡ sum (λ f. crossAfter p (w′ .cells) (w′ .tables) (h .home x) (fieldOf (w′ .cells) x f)) (refCount w x)
+  slots-cross x u a =
+      alive-cross s w k h ended-refs x u a
+      ∙ sum-same _ _ (refCount w x)
+      (λ (f : ℕ) l.
+      cross-one x (fieldOf (w .cells) x f) (k .objects x u .references f l) (slot-alive x f a l)
+      ∙ ap (crossAfter p (w′ .cells) (w′ .tables) (h .home x)) (sym (kept-field (M .kept) x f (omega (arith, l, refs-few s w k x u)))))
 
   -- ---- the survivors' slots
 
@@ -138,13 +126,13 @@ module _ (s : Sizes) (w : Words) (k : WholeFor s w) (space : Room s (length (w .
           ap (λ (b : ℕ). b * sum (λ f. crossAfter p (w′ .cells) (w′ .tables) (workOf (w′ .cells) x) (fieldOf (w′ .cells) x f)) (refsOf (w′ .cells) x)) on
           ∙ one-mul _
           ∙ ap₂ (λ (a n : ℕ). sum (λ f. crossAfter p (w′ .cells) (w′ .tables) a (fieldOf (w′ .cells) x f)) n) t (kept-refs (M .kept) x)
-          ∙ sym (slots-cross x (u .0) some) ∙ sym (counted x (u .0) some)
+          ∙ sym (slots-cross x (u .0) some)
           ∙ sym (ap (λ (b : Bool). cond b (crossAt h x) 0) (eq-eqb (homeIn s w x) r e))
       go (no off) (no n) = ap (λ (b : ℕ). b * sum (λ f. crossAfter p (w′ .cells) (w′ .tables) (workOf (w′ .cells) x) (fieldOf (w′ .cells) x f)) (refsOf (w′ .cells) x)) (zero-bit x off) ∙ zero-mul _ ∙ sym (ap (λ (b : Bool). cond b (crossAt h x) 0) (ne-eqb (homeIn s w x) r n))
       go (no off) (yes e) =
           let u = home-cell s w k x r e (omega arith) in
           ap (λ (b : ℕ). b * sum (λ f. crossAfter p (w′ .cells) (w′ .tables) (workOf (w′ .cells) x) (fieldOf (w′ .cells) x f)) (refsOf (w′ .cells) x)) (zero-bit x off) ∙ zero-mul _
-          ∙ sym (ap (λ (b : Bool). cond b (crossAt h x) 0) (eq-eqb (homeIn s w x) r e) ∙ gone x (home-went s g r x e ∙ freed (decLt 0 (target s g r x)) (u .0) (u .1)))
+          ∙ sym (ap (λ (b : Bool). cond b (crossAt h x) 0) (eq-eqb (homeIn s w x) r e) ∙ gone-cross h x (home-went s g r x e ∙ freed (decLt 0 (target s g r x)) (u .0) (u .1)))
         where
           freed : Dec (0 < target s g r x) → BeginsIn s w x → ownerIn s w (pageOf x) ≡ r → target s g r x ≡ 0
           freed (yes b) u own = absurd (off (M .survives x u own b))
@@ -226,7 +214,7 @@ module _ (s : Sizes) (w : Words) (k : WholeFor s w) (space : Room s (length (w .
       go (no n) (yes e) = absurd (n (home-cell s w k x r e (omega arith) .0))
       go (no n) (no d) =
           ap (λ (b : Bool). cond b (sum (λ f. still (fieldAt x f)) (refCount w x)) 0) (begins-false p (w .cells) (w .tables) x n)
-          ∙ sym (ap (λ (b : Bool). cond b 0 (crossAt h x)) (ne-eqb (homeIn s w x) r d) ∙ gone x (home-stayed s g r x d ∙ no-home s w k x n))
+          ∙ sym (ap (λ (b : Bool). cond b 0 (crossAt h x)) (ne-eqb (homeIn s w x) r d) ∙ gone-cross h x (home-stayed s g r x d ∙ no-home s w k x n))
       go (yes u) (yes e) =
           ap (λ (b : Bool). cond b (sum (λ f. still (fieldAt x f)) (refCount w x)) 0) (begins-true p (w .cells) (w .tables) x u)
           ∙ sum-none (λ f. still (fieldAt x f)) (refCount w x)
@@ -239,7 +227,7 @@ module _ (s : Sizes) (w : Words) (k : WholeFor s w) (space : Room s (length (w .
       go (yes u) (no d) =
           ap (λ (b : Bool). cond b (sum (λ f. still (fieldAt x f)) (refCount w x)) 0) (begins-true p (w .cells) (w .tables) x u)
           ∙ sum-same (λ f. still (fieldAt x f)) (λ f. crossAfter p (w′ .cells) (w′ .tables) (h .home x) (fieldOf (w′ .cells) x f)) (refCount w x) (field-still x u d)
-          ∙ sym (ap (λ (b : Bool). cond b 0 (crossAt h x)) (ne-eqb (homeIn s w x) r d) ∙ counted x u (some x u d) ∙ slots-cross x u (some x u d))
+          ∙ sym (ap (λ (b : Bool). cond b 0 (crossAt h x)) (ne-eqb (homeIn s w x) r d) ∙ slots-cross x u (some x u d))
 
   -- ---- entry by entry
 

@@ -1,26 +1,26 @@
 -- The slots that cross after an end, by their positions in the cells before it: at most as many as the graph after it has.
-use mathlib.Core.Path.{_≡_, refl, sym, ap, _∙_}
+use mathlib.Core.Path.{_≡_, refl, ap, _∙_}
 use mathlib.Core.Logic.{_≢_}
 use mathlib.Core.Bool.{Bool, cond}
 use Prim.Native.Nat.{ℕ, _≤_, _<_}
-use native.Mathlib.Decide.{ℕ-discrete, decLt}
+use native.Mathlib.Decide.{decLt}
 use native.Mathlib.Omega.{arith}
 use lib.Dec.{eqb, ltb}
 use lib.ListN.{getD}
 use borrow.Author.Tests.{eq-eqb, ne-eqb, lt-ltb, le-ltb}
-use Rattle.lists.specs.Counting.{bit, sum, positive, sum-same, sum-none, sum-le}
+use Rattle.lists.specs.Counting.{bit, sum, positive, sum-le}
 use Rattle.lists.specs.Pigeonhole.{names-le}
 use Rattle.rules.specs.declared.Sizes.{Sizes}
 use Rattle.rules.specs.Graph.{Graph, crossing}
 use Rattle.laws.specs.GraphLaws.{Alive}
-use Rattle.laws.specs.Counts.{crossIn, crossAt, crossRef, crossing-sum}
+use Rattle.laws.specs.Counts.{crossRef}
 use Rattle.layout.specs.Places.{cellsWords}
 use Rattle.layout.specs.Cells.{fieldAt, fieldOf}
-use Rattle.layout.specs.Objects.{Slot, slot?, slotsOf, slots-sum, objects-apart, field-slot, begins?, begins-true, begins-false}
-use Rattle.layout.specs.Words.{Words, BeginsIn, refCount, refsIn, cellCount}
+use Rattle.layout.specs.Objects.{Slot, slot?, objects-apart, field-slot}
+use Rattle.layout.specs.Words.{Words, BeginsIn, refCount}
 use Rattle.promises.specs.Whole.{WholeFor}
-use Rattle.promises.specs.Crossings.{cross-in-sum}
-use Rattle.promises.specs.Reading.{length-refs, getD-refs, refs-room, ref-room}
+use Rattle.promises.specs.Crossings.{positions-crossing}
+use Rattle.promises.specs.Reading.{ref-room}
 use Rattle.promises.specs.Ends.{Part}
 use Rattle.ended.specs.Living.{GraphAfter}
 
@@ -54,33 +54,11 @@ module _ {s : Sizes} {w : Words} {e : Part} {g : Graph} (whole : WholeFor s w) (
   of-object c f l m =
       of-field c f (a .lives c l .used) m ∙ ap (λ (b : Bool). cond b 0 (crossRef g c (fieldOf (w .cells) c f))) (ne-eqb (g .home c) 0 l)
 
-  -- the slots of an object count what g counts of it
-  object : (c : ℕ) → slotsOf s (w .cells) (w .tables) (crossesPast s w g) c ≡ crossAt g c
-  unfolding crossAt
-  object c = go (ℕ-discrete (g .home c) 0)
-    where
-      gone : g .home c ≡ 0 → Dec (BeginsIn s w c) → slotsOf s (w .cells) (w .tables) (crossesPast s w g) c ≡ 0
-      gone z (yes u) =
-          ap (λ (b : Bool). cond b (sum (λ f. crossesPast s w g (fieldAt c f)) (refCount w c)) 0) (begins-true s (w .cells) (w .tables) c u)
-          ∙ sum-none _ (refCount w c) (λ f l. of-field c f u l ∙ ap (λ (b : Bool). cond b 0 (crossRef g c (fieldOf (w .cells) c f))) (eq-eqb (g .home c) 0 z))
-      gone z (no n) = ap (λ (b : Bool). cond b (sum (λ f. crossesPast s w g (fieldAt c f)) (refCount w c)) 0) (begins-false s (w .cells) (w .tables) c n)
-
-      go : Dec (g .home c ≡ 0) → slotsOf s (w .cells) (w .tables) (crossesPast s w g) c ≡ cond (eqb (g .home c) 0) 0 (crossIn g c (g .refs c))
-      go (yes z) =
-          gone z (begins? s (w .cells) (w .tables) c) ∙ sym (ap (λ (b : Bool). cond b 0 (crossIn g c (g .refs c))) (eq-eqb (g .home c) 0 z))
-      go (no n) =
-          let u = a .lives c n .used in
-          ap (λ (b : Bool). cond b (sum (λ f. crossesPast s w g (fieldAt c f)) (refCount w c)) 0) (begins-true s (w .cells) (w .tables) c u)
-          ∙ sum-same _ _ (refCount w c) (λ f l. of-object c f n l ∙ ap (crossRef g c) (sym (getD-refs w c f l)))
-          ∙ ap (sum (λ i. crossRef g c (getD (refsIn w c) i 0))) (sym (length-refs s w whole c u))
-          ∙ sym (cross-in-sum g c (refsIn w c)) ∙ ap (crossIn g c) (sym (a .refs c))
-          ∙ sym (ap (λ (b : Bool). cond b 0 (crossIn g c (g .refs c))) (ne-eqb (g .home c) 0 n))
-
-  positions-crossing : sum (crossesPast s w g) (cellsWords s) ≡ crossing g
+  all-positions : sum (crossesPast s w g) (cellsWords s) ≡ crossing g
   unfolding crossesPast crossesIf
-  positions-crossing =
-      slots-sum s (w .cells) (w .tables) (crossesPast s w g) (λ q l n. none q n (slot? s (w .cells) (w .tables) q)) (refs-room s w whole)
-      ∙ sum-same _ _ (cellCount s) (λ c l. object c) ∙ ap (sum (crossAt g)) (sym (a .count)) ∙ sym (crossing-sum g)
+  all-positions =
+      positions-crossing s w whole g (a .refs) (a .count) (λ c l. a .lives c l .used) (crossesPast s w g) (λ q l n. none q n (slot? s (w .cells) (w .tables) q))
+      (λ c f u l z. of-field c f u l ∙ ap (λ (b : Bool). cond b 0 (crossRef g c (fieldOf (w .cells) c f))) (eq-eqb (g .home c) 0 z)) (λ c f u l n. of-object c f n l)
     where
       none : (q : ℕ) → (Slot s (w .cells) (w .tables) q → ⊥) → (d : Dec (Slot s (w .cells) (w .tables) q)) → crossesIf s w g q d ≡ 0
       none q n (yes o) = absurd (n o)
@@ -95,5 +73,5 @@ module _ {s : Sizes} {w : Words} {e : Part} {g : Graph} (whole : WholeFor s w) (
         names-le (positive (crossesPast s w g)) (cellsWords s) at n
             (record { low = low; pass = λ i l. lt-ltb 0 (crossesPast s w g (at i)) (some i l); once = once }),
         sum-le (λ q. bit (positive (crossesPast s w g) q)) (crossesPast s w g) (cellsWords s) (λ q l. bit-under (crossesPast s w g q)),
-        positions-crossing,
+        all-positions,
       )

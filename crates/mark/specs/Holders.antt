@@ -54,7 +54,7 @@ module _ {p : Sizes} {W m T : List ℕ} (h : Holding p W m T) where
   pub slot-low : (i : ℕ) → i < entriesUsed m → slotIn m i < cellsWords p
   slot-low i l = h .remember .entries .named i l .slot
 
-  pub entry-slot : (i : ℕ) → i < entriesUsed m → Slot p W T (slotIn m i)
+  entry-slot : (i : ℕ) → i < entriesUsed m → Slot p W T (slotIn m i)
   entry-slot i l = let e = h .remember .entries .named i l in cross-slot p W T (slotIn m i) (omega (arith, e .region, e .right))
 
   -- what it holds is null or names an object
