@@ -108,9 +108,6 @@ module _ (s : Sizes) (w : Words) (k : WholeFor s w) (space : Room s (length (w .
   abbrev outside : ℕ → ℕ
   outside x = cond (eqb (homeIn s w x) r) 0 (crossAt h x)
 
-  zero-bit : (c : ℕ) → (marked p (w′ .tables) c ≡ 1 → ⊥) → marked p (w′ .tables) c ≡ 0
-  zero-bit = not-marked p (w′ .tables)
-
   survivor : (x : ℕ) → x < cellCount s → marked p (w′ .tables) x * cellCrosses p (w′ .cells) (w′ .tables) x ≡ inside x
   unfolding cellCrosses
   survivor x l = go (ℕ-discrete (marked p (w′ .tables) x) 1) (ℕ-discrete (homeIn s w x) r)
@@ -128,10 +125,10 @@ module _ (s : Sizes) (w : Words) (k : WholeFor s w) (space : Room s (length (w .
           ∙ ap₂ (λ (a n : ℕ). sum (λ f. crossAfter p (w′ .cells) (w′ .tables) a (fieldOf (w′ .cells) x f)) n) t (kept-refs (M .kept) x)
           ∙ sym (slots-cross x (u .0) some)
           ∙ sym (ap (λ (b : Bool). cond b (crossAt h x) 0) (eq-eqb (homeIn s w x) r e))
-      go (no off) (no n) = ap (λ (b : ℕ). b * sum (λ f. crossAfter p (w′ .cells) (w′ .tables) (workOf (w′ .cells) x) (fieldOf (w′ .cells) x f)) (refsOf (w′ .cells) x)) (zero-bit x off) ∙ zero-mul _ ∙ sym (ap (λ (b : Bool). cond b (crossAt h x) 0) (ne-eqb (homeIn s w x) r n))
+      go (no off) (no n) = ap (λ (b : ℕ). b * sum (λ f. crossAfter p (w′ .cells) (w′ .tables) (workOf (w′ .cells) x) (fieldOf (w′ .cells) x f)) (refsOf (w′ .cells) x)) (not-marked p (w′ .tables) x off) ∙ zero-mul _ ∙ sym (ap (λ (b : Bool). cond b (crossAt h x) 0) (ne-eqb (homeIn s w x) r n))
       go (no off) (yes e) =
           let u = home-cell s w k x r e (omega arith) in
-          ap (λ (b : ℕ). b * sum (λ f. crossAfter p (w′ .cells) (w′ .tables) (workOf (w′ .cells) x) (fieldOf (w′ .cells) x f)) (refsOf (w′ .cells) x)) (zero-bit x off) ∙ zero-mul _
+          ap (λ (b : ℕ). b * sum (λ f. crossAfter p (w′ .cells) (w′ .tables) (workOf (w′ .cells) x) (fieldOf (w′ .cells) x f)) (refsOf (w′ .cells) x)) (not-marked p (w′ .tables) x off) ∙ zero-mul _
           ∙ sym (ap (λ (b : Bool). cond b (crossAt h x) 0) (eq-eqb (homeIn s w x) r e) ∙ gone-cross h x (home-went s g r x e ∙ freed (decLt 0 (target s g r x)) (u .0) (u .1)))
         where
           freed : Dec (0 < target s g r x) → BeginsIn s w x → ownerIn s w (pageOf x) ≡ r → target s g r x ≡ 0

@@ -95,9 +95,6 @@ module _ (s : Sizes) (w : Words) (k : WholeFor s w) (t j : ℕ) (th : t < s .thr
       go (yes l) = let q = target-reached s (graphOf s w) r c l in let h = reaches-held (q .0) c (q .1) in absurd (n (h .0) (h .1) (h .3))
       go (no l) = omega arith
 
-  off : (c : ℕ) → (marked s T′ c ≡ 1 → ⊥) → marked s T′ c ≡ 0
-  off = not-marked s T′
-
   found-owned : (c : ℕ) → pageOf c < s .pages → marked s T′ c ≡ 1 → BeginsIn s w c × (ownerIn s w (pageOf c) ≡ r)
   found-owned c b on =
       leads-last (L .found c b on .1 .reached)
@@ -107,7 +104,7 @@ module _ (s : Sizes) (w : Words) (k : WholeFor s w) (t j : ℕ) (th : t < s .thr
       record {
         goes = λ c u own. goes c u (ℕ-discrete (marked s T′ c) 1);
         survives = λ c u own l. on c u l (ℕ-discrete (marked s T′ c) 1);
-        freed = λ c u own z. off c (λ b. let f = L .found c (begins-page _ _ _ _ u) b in omega (arith, first-target c (f .0) (f .1), target-absorbs s (graphOf s w) r c (regionAt s t (f .0)) (held-reaches (f .0) c (f .1 .reached)) .some));
+        freed = λ c u own z. not-marked s T′ c (λ b. let f = L .found c (begins-page _ _ _ _ u) b in omega (arith, first-target c (f .0) (f .1), target-absorbs s (graphOf s w) r c (regionAt s t (f .0)) (held-reaches (f .0) c (f .1 .reached)) .some));
         only = found-owned;
         small = λ page l. high-none pageCells (markOf s T′ page) (λ i h. L .kept .high (markAt s page) i h ∙ ap (λ (x : ℕ). bitAt x i) (k .marks page l) ∙ bit-zero i);
         kept = L .kept;
@@ -117,16 +114,16 @@ module _ (s : Sizes) (w : Words) (k : WholeFor s w) (t j : ℕ) (th : t < s .thr
     where
       goes : (c : ℕ) → BeginsIn s w c → Dec (marked s T′ c ≡ 1) → workOf W′ c ≡ target s (graphOf s w) r c
       goes c u (yes b) = let f = L .found c (begins-page _ _ _ _ u) b in f .2 ∙ sym (first-target c (f .0) (f .1))
-      goes c u (no n) = let f = L .lost c (begins-page _ _ _ _ u) (off c n) in f .0 ∙ k .works c u ∙ sym (lost-target c (f .1))
+      goes c u (no n) = let f = L .lost c (begins-page _ _ _ _ u) (not-marked s T′ c n) in f .0 ∙ k .works c u ∙ sym (lost-target c (f .1))
 
       on : (c : ℕ) → BeginsIn s w c → 0 < target s (graphOf s w) r c → Dec (marked s T′ c ≡ 1) → marked s T′ c ≡ 1
       on c u l (yes b) = b
-      on c u l (no n) = absurd (let z : ⊥ = omega (arith, lost-target c (L .lost c (begins-page _ _ _ _ u) (off c n) .1)) in z)
+      on c u l (no n) = absurd (let z : ⊥ = omega (arith, lost-target c (L .lost c (begins-page _ _ _ _ u) (not-marked s T′ c n) .1)) in z)
 
       work : (c : ℕ) → (BeginsIn s w c → ownerIn s w (pageOf c) ≡ r → ⊥) → Dec (pageOf c < s .pages) → Dec (marked s T′ c ≡ 1) → workOf W′ c ≡ workOf (w .cells) c
       work c n (no b) d = L .kept .cells (workAt c) (λ e l z. b (omega arith))
       work c n (yes b) (yes d) = let f = found-owned c b d in absurd (n (f .0) (f .1))
-      work c n (yes b) (no d) = L .lost c b (off c d) .0
+      work c n (yes b) (no d) = L .lost c b (not-marked s T′ c d) .0
 
       word : (q : ℕ) → ((c : ℕ) → q ≡ workAt c → BeginsIn s w c → ownerIn s w (pageOf c) ≡ r → ⊥) → Dec (wordOf q ≡ 1) → getD W′ q 0 ≡ getD (w .cells) q 0
       word q n (no d) = L .kept .cells q (λ c l z. d (omega arith))
