@@ -44,7 +44,7 @@ pub gone-cross : (g : Graph) (c : ℕ) → g .home c ≡ 0 → crossAt g c ≡ 0
 unfolding crossAt
 gone-cross g c z = ap (λ (b : Bool). cond b 0 (crossIn g c (g .refs c))) (eq-eqb (g .home c) 0 z)
 
--- a graph whose references are those of the words
+-- what a graph counts whose references are those of the words, of an object that begins there
 module _ (s : Sizes) (w : Words) (k : WholeFor s w) (g : Graph) (refs : (c : ℕ) → g .refs c ≡ refsIn w c) where
   pub alive-cross : (c : ℕ) → BeginsIn s w c → Alive g c → crossAt g c ≡ sum (λ f. crossRef g c (fieldOf (w .cells) c f)) (refCount w c)
   unfolding crossAt
@@ -52,13 +52,13 @@ module _ (s : Sizes) (w : Words) (k : WholeFor s w) (g : Graph) (refs : (c : ℕ
       ap (λ (b : Bool). cond b 0 (crossIn g c (g .refs c))) (ne-eqb (g .home c) 0 a) ∙ ap (crossIn g c) (refs c) ∙ cross-in-sum g c (refsIn w c)
       ∙ ap (sum (λ i. crossRef g c (getD (refsIn w c) i 0))) (length-refs s w k c u) ∙ sum-same _ _ (refCount w c) (λ f l. ap (crossRef g c) (getD-refs w c f l))
 
-  -- and of whose cells only such as begin an object are alive: what its slots count, by their positions, is its count of crossing slots
+  -- and all together, where nothing else is alive in it: the sum over the positions of slots
   module _ (count : g .count ≡ cellCount s) (begins : (c : ℕ) → Alive g c → BeginsIn s w c) (at : ℕ → ℕ)
       (none : (q : ℕ) → q < cellsWords s → (Slot s (w .cells) (w .tables) q → ⊥) → at q ≡ 0)
       (gone : (c f : ℕ) → BeginsIn s w c → f < refCount w c → g .home c ≡ 0 → at (fieldAt c f) ≡ 0)
       (there : (c f : ℕ) → BeginsIn s w c → f < refCount w c → Alive g c → at (fieldAt c f) ≡ crossRef g c (fieldOf (w .cells) c f)) where
-    of-object : (c : ℕ) → slotsOf s (w .cells) (w .tables) at c ≡ crossAt g c
-    of-object c = go (begins? s (w .cells) (w .tables) c) (ℕ-discrete (g .home c) 0)
+    object-cross : (c : ℕ) → slotsOf s (w .cells) (w .tables) at c ≡ crossAt g c
+    object-cross c = go (begins? s (w .cells) (w .tables) c) (ℕ-discrete (g .home c) 0)
       where
         go : Dec (BeginsIn s w c) → Dec (g .home c ≡ 0) → slotsOf s (w .cells) (w .tables) at c ≡ crossAt g c
         go (yes u) (yes z) = rw (begins-true s (w .cells) (w .tables) c u) (sum-none _ (refCount w c) (λ f l. gone c f u l z) ∙ sym (gone-cross g c z))
@@ -68,7 +68,7 @@ module _ (s : Sizes) (w : Words) (k : WholeFor s w) (g : Graph) (refs : (c : ℕ
 
     pub positions-crossing : sum at (cellsWords s) ≡ crossing g
     positions-crossing =
-        slots-sum s (w .cells) (w .tables) at none (refs-room s w k) ∙ sum-same _ _ (cellCount s) (λ c l. of-object c) ∙ ap (sum (crossAt g)) (sym count) ∙ sym (crossing-sum g)
+        slots-sum s (w .cells) (w .tables) at none (refs-room s w k) ∙ sum-same _ _ (cellCount s) (λ c l. object-cross c) ∙ ap (sum (crossAt g)) (sym count) ∙ sym (crossing-sum g)
 
 module _ (s : Sizes) (w : Words) (k : WholeFor s w) where
   module _ (c : ℕ) (u : BeginsIn s w c) where
