@@ -4,7 +4,7 @@ use mathlib.Core.Path.{_≡_, sym, _∙_}
 use native.Mathlib.Omega.{arith}
 use Rattle.promises.specs.Questions.{did-answer}
 use Rattle.lists.specs.Zeros.{replicate-at}
-use Rattle.layout.specs.Places.{regions-few}
+use Rattle.layout.specs.Places.{mostRegions, regions-few}
 use Rattle.promises.specs.Arriving.{goesTo}
 use Rattle.census.specs.Counted.{over-cells}
 use Rattle.ending.specs.Ending.{room-now, level-low, ended-here}
@@ -34,7 +34,7 @@ count-listed-requires : tie.Need-count-listed-requires
 count-listed-requires c κs =
     let m = c .before .before .before .before .before .before .before .before .before .before .before .before .pre .0 .2 in
     let o = c .before .before .before .before .before .list-pages .ensures in
-    (shaped-now m, (o .rises, (unlisted (m .marks) (listed m o), (m .marks .small, (marked-ready m .used, (λ x l on. omega (arith, targets-low m x l on, regions-few (room-now m)), λ g. replicate-at 130 g 0))))))
+    (shaped-now m, (o .rises, (unlisted (m .marks) (listed m o), (m .marks .small, (marked-ready m .used, (λ x l on. omega (arith, targets-low m x l on, regions-few (room-now m)), λ g. replicate-at mostRegions g 0))))))
 
 slice-aggregate-ask-room : tie.Need-slice-aggregate-ask-room
 slice-aggregate-ask-room c = search needs
