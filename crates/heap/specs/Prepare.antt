@@ -10,33 +10,9 @@ use Rattle.rules.specs.declared.Sizes.{Sizes}
 use Rattle.rules.specs.Terms.{InRange}
 use Rattle.layout.specs.Places.{withSizes, rememberWords, tablesWords}
 use Rattle.lists.specs.Stores.{put, past}
+use Rattle.lists.specs.Zeros.{Cleared, cleared-to}
 use Rattle.layout.specs.Words.{Words, words}
 use Rattle.promises.specs.Promises.{LongEnough, PrepareAsked, outOfRange, short, accepted, Prepared}
-
--- the words from a up to b became zero
-pub record Cleared (a b : ℕ) (l k : List ℕ) : Type 0 where
-  pub long : length k ≡ length l
-  pub zeros : (i : ℕ) → a ≤ i → i < b → getD k i 0 ≡ 0
-  pub low : (i : ℕ) → i < a → getD k i 0 ≡ getD l i 0
-  pub high : (i : ℕ) → b ≤ i → getD k i 0 ≡ getD l i 0
-
-pub cleared-none : (a : ℕ) (l : List ℕ) → Cleared a a l l
-cleared-none a l = record { long = refl; zeros = λ i m n. absurd (let z : ⊥ = omega arith in z); low = λ i m. refl; high = λ i m. refl }
-
-pub cleared-more : {a b : ℕ} {l k : List ℕ} → Cleared a b l k → a ≤ b → b < length l → Cleared a (b + 1) l (set k b 0)
-cleared-more {a} {b} {l} {k} c m n = record {
-  long = length-set k b 0 ∙ c .long;
-  zeros = λ i x y. go i x y (ℕ-discrete i b);
-  low = λ i x. past k b 0 i 0 (λ (e : i ≡ b). omega arith) ∙ c .low i x;
-  high = λ i x. past k b 0 i 0 (λ (e : i ≡ b). omega arith) ∙ c .high i (omega arith);
-}
-  where
-    go : (i : ℕ) → a ≤ i → i < b + 1 → Dec (i ≡ b) → getD (set k b 0) i 0 ≡ 0
-    go i x y (yes e) = ap (λ (j : ℕ). getD (set k b 0) j 0) e ∙ put k b 0 0 (omega (arith, c .long))
-    go i x y (no e) = past k b 0 i 0 e ∙ c .zeros i x (omega arith)
-
-pub cleared-to : {a i b : ℕ} {l k : List ℕ} → Cleared a i l k → i ≡ b → Cleared a b l k
-cleared-to {a} {i} {b} {l} {k} c e = subst (λ (j : ℕ). Cleared a j l k) e c
 
 -- a list of n words that begins with h and is zero up to n, and then as l
 pub headed : (h : List ℕ) (n : ℕ) (l k : List ℕ) → length h ≤ n → n ≤ length l → length k ≡ length l

@@ -1,8 +1,9 @@
 -- Objects in the cells: where one begins, which words are its own, and its slots. An object takes one cell. What rests on that cites one of
--- `begins-used`, `used-begins`, `begins-on`, `begins-there`, `spot`, `slot-word`, `word-slot`, `none-before`, `none-after`, `none-past` here,
+-- `begins-used`, `used-begins`, `begins-on`, `begins-there`, `spot`, `slot-word`, `word-slot`, `none-before`, `none-after`, `none-past`, `covers-cell` here,
 -- `room-is`, `room-most`, `most-is`, `most-words` or `field-page` to `field-high` in Cells, or copies a whole cell (`copy`).
 use Prim.Native.Nat.{ℕ, zero, suc, _+_, _-_, _*_, _≤_, _<_}
 use native.Mathlib.Omega.{arith}
+use native.Mathlib.Decide.{decLt}
 use mathlib.Core.List.{List}
 use mathlib.Core.Bool.{Bool, true, false, cond, _&&_}
 use mathlib.Core.Path.{_≡_, refl, sym, ap, ap₂, subst, _∙_}
@@ -19,6 +20,33 @@ use Rattle.layout.specs.Cells.{headAt, workAt, fieldAt, headOf, refsOf, 
 pub record InUse (s : Sizes) (t : List ℕ) (k : ℕ) : Type 0 where
   pub page : pageOf k < s .pages
   pub place : placeOf k < usedOf s t (pageOf k)
+
+-- position q is a word of a cell that is not in use
+pub record NotInUse (s : Sizes) (t : List ℕ) (q : ℕ) : Type 0 where
+  pub low : q < cellsWords s
+  pub unused : InUse s t (cellOf q) → ⊥
+
+pub in-use? : (s : Sizes) (t : List ℕ) (k : ℕ) → Dec (InUse s t k)
+in-use? s t k = go (decLt (pageOf k) (s .pages)) (decLt (placeOf k) (usedOf s t (pageOf k)))
+  where
+    go : Dec (pageOf k < s .pages) → Dec (placeOf k < usedOf s t (pageOf k)) → Dec (InUse s t k)
+    go (yes l) (yes m) = yes (record { page = l; place = m })
+    go (yes l) (no n) = no (λ u. n (u .place))
+    go (no n) d = no (λ u. n (u .page))
+
+-- the same where pages use as many cells
+module _ {s : Sizes} {t t′ : List ℕ} (same : (page : ℕ) → page < s .pages → usedOf s t′ page ≡ usedOf s t page) where
+  pub in-use-same : (k : ℕ) → InUse s t k → InUse s t′ k
+  in-use-same k u = record { page = u .page; place = omega (arith, u .place, same (pageOf k) (u .page)) }
+
+  in-use-back : (k : ℕ) → InUse s t′ k → InUse s t k
+  in-use-back k u = record { page = u .page; place = omega (arith, u .place, same (pageOf k) (u .page)) }
+
+  pub unused-same : (q : ℕ) → NotInUse s t q → NotInUse s t′ q
+  unused-same q n = record { low = n .low; unused = λ u. n .unused (in-use-back (cellOf q) u) }
+
+  pub unused-back : (q : ℕ) → NotInUse s t′ q → NotInUse s t q
+  unused-back q n = record { low = n .low; unused = λ u. n .unused (in-use-same (cellOf q) u) }
 
 -- how many cells the pages have
 abbrev pub cellCount : Sizes → ℕ
@@ -105,6 +133,16 @@ module _ (s : Sizes) (c t : List ℕ) (k : ℕ) (b : Begins s c t k) where
   pub field-on : (f : ℕ) → f < roomFor (headOf c k) → pageAt (fieldAt k f) ≡ pageOf k
   field-on f l = omega (arith, room-is (headOf c k))
 
+  -- they lie in cells in use
+  pub head-used : InUse s t (cellOf (headAt k))
+  head-used = subst (InUse s t) (let e : k ≡ cellOf (headAt k) = omega arith in e) (begins-used s c t k b)
+
+  pub work-used : InUse s t (cellOf (workAt k))
+  work-used = subst (InUse s t) (let e : k ≡ cellOf (workAt k) = omega arith in e) (begins-used s c t k b)
+
+  pub field-used : (f : ℕ) → f < roomFor (headOf c k) → InUse s t (cellOf (fieldAt k f))
+  field-used f l = subst (InUse s t) (let e : k ≡ cellOf (fieldAt k f) = omega (arith, room-is (headOf c k)) in e) (begins-used s c t k b)
+
   -- none is a word of a cell that is not in use
   module _ (cell head : ℕ) (none : InUse s t cell → ⊥) where
     apart : k ≡ cell → ⊥
@@ -151,6 +189,11 @@ module _ (cell head : ℕ) where
 pub covers-low : (s : Sizes) (cell head q : ℕ) → pageOf cell < s .pages → Covers cell head q → q < cellsWords s
 unfolding Covers
 covers-low s cell head q l e = omega arith
+
+-- and in its cells
+pub covers-cell : (cell head q : ℕ) → Covers cell head q → cellOf q ≡ cell
+unfolding Covers
+covers-cell cell head q e = e
 
 -- each word of a cell in use is a word of an object
 pub data Spot (s : Sizes) (c t : List ℕ) (q : ℕ) : Type 0 where

@@ -16,14 +16,16 @@ use Rattle.rules.specs.declared.Sizes.{Sizes}
 use Rattle.rules.specs.Regions.{regions}
 use Rattle.layout.specs.Places.{varCount, cellsWords, rememberWords, tablesWords, depthAt, varAt, varOf, ownersFrom, ownerAt, usedFrom, usedAt, marksFrom, markAt, markOf, countsFrom, countAt, countOf, count-room}
 use Rattle.layout.specs.Cells.{workOf, fieldOf, roomFor}
+use Rattle.layout.specs.Objects.{NotInUse, unused-same}
 use Rattle.layout.specs.Words.{Words, BeginsIn, sizesIn, depthIn, ownerIn, usedIn, headIn}
 use Rattle.remember.specs.Entries.{Edited}
 use Rattle.promises.specs.StandsFor.{SameFrom, SameBeyond}
 use Rattle.promises.specs.Changes.{withTables, withCells}
+use Rattle.promises.specs.Slots.{begins-kept}
 
--- the words of the tables, of the objects and of the remember table
+-- the words of the tables, of the objects, of the cells not in use and of the remember table
 pub data Area : Type 0 where
-  sizeWords depthWords variableWords ownerWords usedWords markWords countWords headWords workWords fieldWords entryWords : Area
+  sizeWords depthWords variableWords ownerWords usedWords markWords countWords headWords workWords fieldWords unusedWords entryWords : Area
 
 -- those of the tables are numbered by their arrays
 abbrev number : Area → ℕ
@@ -37,13 +39,14 @@ number countWords = 6
 number headWords = 7
 number workWords = 8
 number fieldWords = 9
-number entryWords = 10
+number unusedWords = 10
+number entryWords = 11
 
 abbrev pub among : Area → List Area → Bool
 among a [] = false
 among a (b ∷ l) = cond (eqb (number a) (number b)) true (among a l)
 
--- an area is the same: of the cells, the words of the objects that w has
+-- an area is the same: of the cells, the words of the objects that w has and of the cells that it does not use
 abbrev pub Same : Area → Sizes → Words → Words → Type 0
 Same sizeWords s w w′ = (sizesIn w′ ≡ sizesIn w) × (getD (w′ .remember) 0 0 ≡ getD (w .remember) 0 0)
 Same depthWords s w w′ = (t : ℕ) → t < s .threads → depthIn w′ t ≡ depthIn w t
@@ -55,6 +58,7 @@ Same countWords s w w′ = (g : ℕ) → 1 ≤ g → g ≤ regions s → countOf
 Same headWords s w w′ = (k : ℕ) → BeginsIn s w k → headIn w′ k ≡ headIn w k
 Same workWords s w w′ = (k : ℕ) → BeginsIn s w k → workOf (w′ .cells) k ≡ workOf (w .cells) k
 Same fieldWords s w w′ = (k : ℕ) → BeginsIn s w k → (f : ℕ) → f < roomFor (headIn w k) → fieldOf (w′ .cells) k f ≡ fieldOf (w .cells) k f
+Same unusedWords s w w′ = (q : ℕ) → NotInUse s (w .tables) q → getD (w′ .cells) q 0 ≡ getD (w .cells) q 0
 Same entryWords s w w′ = w′ .remember ≡ w .remember
 
 pub record Only (changed : List Area) (s : Sizes) (w w′ : Words) : Type 0 where
@@ -84,14 +88,14 @@ among-both a (c ∷ cs) ds e = go (eqb (number a) (number c)) (among-both a cs d
     go true rest e = absurd (true-not-false (sym e))
     go false rest e = rest e
 
--- the objects of w are there, with the same word 0
-abbrev pub ObjectsStay : Sizes → Words → Words → Type 0
-ObjectsStay s w w′ = (k : ℕ) → BeginsIn s w k → BeginsIn s w′ k × (headIn w′ k ≡ headIn w k)
-
-pub only-trans : {cs ds : List Area} {s : Sizes} {u v w : Words} → Only cs s u v → Only ds s v w → ObjectsStay s u v → Only (cs ++ ds) s u w
-only-trans {cs} {ds} {s} {u} {v} {w} x y stay =
+-- where the first keeps the objects
+pub only-trans : {cs ds : List Area} {s : Sizes} {u v w : Words} → Only cs s u v → Only ds s v w → among usedWords cs ≡ false → among headWords cs ≡ false → Only (cs ++ ds) s u w
+only-trans {cs} {ds} {s} {u} {v} {w} x y used head =
     record { same = λ a n. let m = among-both a cs ds n in both a (x .same a (m .0)) (y .same a (m .1)); beyond = beyond-both (x .beyond) (y .beyond) }
   where
+    stay : (k : ℕ) → BeginsIn s u k → BeginsIn s v k × (headIn v k ≡ headIn u k)
+    stay k b = (begins-kept s (u .cells) (u .tables) (v .cells) (v .tables) (x .same usedWords used) (x .same headWords head) k b, x .same headWords head k b)
+
     both : (a : Area) → Same a s u v → Same a s v w → Same a s u w
     both sizeWords f g = (g .0 ∙ f .0, g .1 ∙ f .1)
     both depthWords f g = λ t l. g t l ∙ f t l
@@ -103,6 +107,7 @@ only-trans {cs} {ds} {s} {u} {v} {w} x y stay =
     both headWords f g = λ k i. g k (stay k i .0) ∙ f k i
     both workWords f g = λ k i. g k (stay k i .0) ∙ f k i
     both fieldWords f g = λ k i j l. g k (stay k i .0) j (subst (λ (h : ℕ). j < roomFor h) (sym (stay k i .1)) l) ∙ f k i j l
+    both unusedWords f g = λ q n. g q (unused-same (x .same usedWords used) q n) ∙ f q n
     both entryWords f g = g ∙ f
 
 -- ---- the arrays of the tables stand one after the other
@@ -137,8 +142,9 @@ arrays-apart s a b i j n x y e =
 module _ (s : Sizes) (w w′ : Words) (cs : List Area) (beyond : SameBeyond s w w′)
     (kept : (a : Area) → among a cs ≡ false → (j : ℕ) → Within a s j → getD (w′ .tables) j 0 ≡ getD (w .tables) j 0) where
   areas-only : getD (w′ .remember) 0 0 ≡ getD (w .remember) 0 0 → (among headWords cs ≡ false → Same headWords s w w′) → (among workWords cs ≡ false → Same workWords s w w′)
-      → (among fieldWords cs ≡ false → Same fieldWords s w w′) → (among entryWords cs ≡ false → Same entryWords s w w′) → Only cs s w w′
-  areas-only size h o f m = record { same = same; beyond = beyond }
+      → (among fieldWords cs ≡ false → Same fieldWords s w w′) → (among unusedWords cs ≡ false → Same unusedWords s w w′) → (among entryWords cs ≡ false → Same entryWords s w w′)
+      → Only cs s w w′
+  areas-only size h o f u m = record { same = same; beyond = beyond }
     where
       same : (a : Area) → among a cs ≡ false → Same a s w w′
       same sizeWords n =
@@ -153,6 +159,7 @@ module _ (s : Sizes) (w w′ : Words) (cs : List Area) (beyond : SameBeyond s w 
       same headWords n = h n
       same workWords n = o n
       same fieldWords n = f n
+      same unusedWords n = u n
       same entryWords n = m n
 
 -- other tables
@@ -161,7 +168,7 @@ pub tables-only : (s : Sizes) (w : Words) (t′ : List ℕ) (cs : List Area) →
     → ((j : ℕ) → tablesWords s ≤ j → getD t′ j 0 ≡ getD (w .tables) j 0) → Only cs s w (withTables w t′)
 tables-only s w t′ cs long kept rest =
     areas-only s w (withTables w t′) cs (record { cells = from-refl _ _; remember = from-refl _ _; tables = record { long = long; rest = drop-same (tablesWords s) (w .tables) t′ long rest } }) kept
-    refl (λ n k u. refl) (λ n k u. refl) (λ n k u f l. refl) (λ n. refl)
+    refl (λ n k u. refl) (λ n k u. refl) (λ n k u f l. refl) (λ n q u. refl) (λ n. refl)
 
 -- a word of the tables is stored: a depth, a variable, a mark
 pub store-only : (s : Sizes) (w : Words) (b : Area) (at v : ℕ) → Within b s at → at < tablesWords s → Only (b ∷ []) s w (withTables w (set (w .tables) at v))
@@ -171,13 +178,14 @@ store-only s w b at v i l =
 
 -- other cells
 pub cells-only : (s : Sizes) (w : Words) (c′ : List ℕ) (cs : List Area) → (among headWords cs ≡ false → Same headWords s w (withCells w c′)) → (among workWords cs ≡ false → Same workWords s w (withCells w c′))
-    → (among fieldWords cs ≡ false → Same fieldWords s w (withCells w c′)) → SameFrom (cellsWords s) (w .cells) c′ → Only cs s w (withCells w c′)
-cells-only s w c′ cs h o f b =
-    areas-only s w (withCells w c′) cs (record { cells = b; remember = from-refl _ _; tables = from-refl _ _ }) (λ a n j x. refl) refl h o f (λ n. refl)
+    → (among fieldWords cs ≡ false → Same fieldWords s w (withCells w c′)) → (among unusedWords cs ≡ false → Same unusedWords s w (withCells w c′)) → SameFrom (cellsWords s) (w .cells) c′
+    → Only cs s w (withCells w c′)
+cells-only s w c′ cs h o f u b =
+    areas-only s w (withCells w c′) cs (record { cells = b; remember = from-refl _ _; tables = from-refl _ _ }) (λ a n j x. refl) refl h o f u (λ n. refl)
 
 -- another remember table, of as many entries
 pub entries-only : (s : Sizes) (w : Words) (m′ : List ℕ) → Edited (s .entries) (w .remember) m′ → Only (entryWords ∷ []) s w (record { cells = w .cells; remember = m′; tables = w .tables })
 entries-only s w m′ e =
     areas-only s w (record { cells = w .cells; remember = m′; tables = w .tables }) (entryWords ∷ [])
     (record { cells = from-refl _ _; remember = record { long = e .long; rest = drop-same (rememberWords s) (w .remember) m′ (e .long) (e .spare) }; tables = from-refl _ _ }) (λ a n j x. refl)
-    (e .size) (λ n k u. refl) (λ n k u. refl) (λ n k u f l. refl) (λ n. absurd (true-not-false (sym n)))
+    (e .size) (λ n k u. refl) (λ n k u. refl) (λ n k u f l. refl) (λ n q u. refl) (λ n. absurd (true-not-false (sym n)))

@@ -1,5 +1,5 @@
--- What words stand for determines them, but for 01's open points: "the cell an object takes, the order of remember entries, the contents
--- of cells not in use". Two words that stand for the same heap through the same map are SameButOpen.
+-- What words stand for determines them, but for the open points that 02 leaves of 01's: "the cell an object takes, the order of remember entries".
+-- Two words that stand for the same heap through the same map are SameButOpen: every word of the cells and of the tables is the same.
 use Prim.Native.Nat.{ℕ, zero, suc, _+_, _-_, _*_, _≤_, _<_}
 use native.Mathlib.Omega.{arith}
 use native.Mathlib.Decide.{decLt}
@@ -12,12 +12,12 @@ use Rattle.rules.specs.Regions.{regions}
 use Rattle.rules.specs.Rules.{Regioned, graph}
 use Rattle.laws.specs.GraphLaws.{Alive}
 use Rattle.layout.specs.Places as lp
-use Rattle.layout.specs.Places.{tablesWords, ownersFrom, varOf, markOf, countOf, slotIn, slotRegionIn, count-room, count-is, mark-is, used-is, owners-is, varCount, depthAt, varAt}
+use Rattle.layout.specs.Places.{cellsWords, tablesWords, ownersFrom, varOf, markOf, countOf, slotIn, slotRegionIn, count-room, count-is, mark-is, used-is, owners-is, varCount, depthAt, varAt}
 use Rattle.layout.specs.declared.Kind.{Kind}
 use Rattle.layout.specs.declared.Kind.the-variants.{Reference, Number}
 use Rattle.layout.specs.Cells.{fieldOf, fieldCount, firstField, first-reference, first-number, head-determined, allFields, roomFor, pageCells, pageOf, page-on, place-on, cellOn, cellOf, headAt, workAt, fieldAt}
-use Rattle.layout.specs.Objects.{begins-used, begins-there, Spot, head, work, field, spot, slot-word}
-use Rattle.layout.specs.Words.{Words, Used, BeginsIn, sizesIn, depthIn, ownerIn, usedIn, headIn, refCount, numCount, fieldsIn, homeIn}
+use Rattle.layout.specs.Objects.{InUse, in-use?, NotInUse, unused-back, begins-used, begins-there, Spot, head, work, field, spot, slot-word}
+use Rattle.layout.specs.Words.{Words, BeginsIn, sizesIn, depthIn, ownerIn, usedIn, headIn, refCount, numCount, fieldsIn, homeIn}
 use Rattle.remember.specs.Crossing.{crossTo}
 use Rattle.promises.specs.Regular.{objects-same}
 use Rattle.promises.specs.StandsFor.{StandsFor}
@@ -43,10 +43,9 @@ pub record SameButOpen (s : Sizes) (w w′ : Words) : Type 0 where
   pub used : (page : ℕ) → page < s .pages → usedIn s w page ≡ usedIn s w′ page
   pub marks : (page : ℕ) → page < s .pages → markOf s (w .tables) page ≡ markOf s (w′ .tables) page
   pub counts : (g : ℕ) → 1 ≤ g → g ≤ regions s → countOf s (w .tables) g ≡ countOf s (w′ .tables) g
-  -- cells: objects begin at the same, the same are in use, and these have the same words; the others may hold anything
+  -- cells: objects begin at the same, and every word is the same
   pub objects : (c : ℕ) → BeginsIn s w c → BeginsIn s w′ c
-  pub inUse : (c : ℕ) → Used s w c → Used s w′ c
-  pub cells : (q : ℕ) → Used s w (cellOf q) → getD (w .cells) q 0 ≡ getD (w′ .cells) q 0
+  pub cells : (q : ℕ) → q < cellsWords s → getD (w .cells) q 0 ≡ getD (w′ .cells) q 0
   -- remember table: N, entries used, the same entries in any order, the unused ones zero
   pub room : getD (w .remember) 0 0 ≡ getD (w′ .remember) 0 0
   pub entries : lp.entriesUsed (w .remember) ≡ lp.entriesUsed (w′ .remember)
@@ -118,7 +117,7 @@ module _ (s : Sizes) (w w′ : Words) (h : Regioned) (to : ℕ → ℕ) (st : St
           ap (fieldOf (w .cells) c) (sym e) ∙ sym (getD-fields d w c i m) ∙ ap (λ (vs : List ℕ). getD vs i 0) (fields-as d c u)
           ∙ getD-fields d w′ c i (subst (λ (n : ℕ). i < fieldCount d n) same m) ∙ ap (fieldOf (w′ .cells) c) (ap (λ (n : ℕ). firstField d n + i) (sym same) ∙ e)
 
-  word-as : (q : ℕ) → Used s w (cellOf q) → getD (w .cells) q 0 ≡ getD (w′ .cells) q 0
+  word-as : (q : ℕ) → InUse s (w .tables) (cellOf q) → getD (w .cells) q 0 ≡ getD (w′ .cells) q 0
   word-as q u = go (spot s (w .cells) (w .tables) q u)
     where
       go : Spot s (w .cells) (w .tables) q → getD (w .cells) q 0 ≡ getD (w′ .cells) q 0
@@ -136,6 +135,12 @@ module _ (s : Sizes) (w w′ : Words) (h : Regioned) (to : ℕ → ℕ) (st : St
   owner-same page l =
       by-cases (decLt 0 (ownerIn s w page)) (owner-as s w w′ h to st st′ page l)
       (λ n. by-cases (decLt 0 (ownerIn s w′ page)) (λ p. sym (owner-as s w′ w h to st′ st page l p)) (λ m. omega arith))
+
+  cell-same : (q : ℕ) → q < cellsWords s → getD (w .cells) q 0 ≡ getD (w′ .cells) q 0
+  cell-same q l =
+      by-cases (in-use? s (w .tables) (cellOf q)) (word-as s w w′ h to st st′ q)
+      (λ n. let u : NotInUse s (w .tables) q = record { low = l; unused = n } in
+      st .whole .unused q u ∙ sym (st′ .whole .unused q (unused-back used-same q u)))
 
   cross-as : (q : ℕ) → crossTo s (w′ .cells) (w′ .tables) q ≡ crossTo s (w .cells) (w .tables) q
   cross-as q =
@@ -157,8 +162,7 @@ module _ (s : Sizes) (w w′ : Words) (h : Regioned) (to : ℕ → ℕ) (st : St
         marks = λ page l. st .whole .marks page l ∙ sym (st′ .whole .marks page l);
         counts = λ g a b. st .whole .counts g a b ∙ sym (st′ .whole .counts g a b ∙ objects-same {t = w .tables} {t′ = w′ .tables} (λ page l. record { owner = sym (owner-same page l); used = sym (used-same page l) }) g);
         objects = used-as s w w′ h to st st′;
-        inUse = λ c u. record { page = u .page; place = omega (arith, u .place, used-same (pageOf c) (u .page)) };
-        cells = word-as s w w′ h to st st′;
+        cells = cell-same;
         room = st .whole .sized .same ∙ sym (st′ .whole .sized .same);
         entries = entries-same;
         named = λ i l.

@@ -18,8 +18,8 @@ use Rattle.laws.specs.SameRules.{renamed}
 use Rattle.layout.specs.Places.{cellsWords}
 use Rattle.layout.specs.declared.Kind.{Kind}
 use Rattle.layout.specs.declared.Kind.the-variants.{Reference, Number}
-use Rattle.layout.specs.Cells.{headAt, headOf, workAt, fieldAt, fieldOf, fieldCount, firstField, allFields, roomFor, Formed, kind-among, fields-room}
-use Rattle.layout.specs.Objects.{field-inside, field-not-head, field-not-work, objects-apart}
+use Rattle.layout.specs.Cells.{headAt, headOf, workAt, fieldAt, fieldOf, fieldCount, firstField, allFields, roomFor, Formed, kind-among, fields-room, cellOf}
+use Rattle.layout.specs.Objects.{InUse, field-inside, field-used, field-not-head, field-not-work, objects-apart}
 use Rattle.layout.specs.Words.{Words, BeginsIn, headIn, refCount, fieldsAt, fieldsIn}
 use Rattle.remember.specs.Entries.{Edited}
 use Rattle.promises.specs.Whole.{WholeFor, IsRef, ObjectWhole, RememberWhole}
@@ -27,7 +27,7 @@ use Rattle.promises.specs.StandsFor.{StandsFor}
 use Rattle.promises.specs.Agreed.{cell-used}
 use Rattle.promises.specs.Changes.{withCells, withObject}
 use Rattle.promises.specs.Areas.{fieldWords, entryWords, Only, only-trans, cells-only, entries-only}
-use Rattle.promises.specs.Frames.{still-whole, depths-frame, pages-frame, variables-frame, begins-was, ref-frame, objects-stay, home-same, stands-still}
+use Rattle.promises.specs.Frames.{still-whole, depths-frame, pages-frame, variables-frame, begins-was, ref-frame, home-same, stands-still}
 
 module _ (s : Sizes) (w : Words) (k : WholeFor s w) (y j v : ℕ) (u : BeginsIn s w y) (low : j < allFields (headIn w y)) where
   abbrev C : List ℕ
@@ -51,6 +51,7 @@ module _ (s : Sizes) (w : Words) (k : WholeFor s w) (y j v : ℕ) (u : BeginsIn 
   field-only =
       cells-only s w C (fieldWords ∷ []) (λ n. head-kept)
       (λ n x i. past (w .cells) (fieldAt y j) v (workAt x) 0 (field-not-work s (w .cells) (w .tables) x i y u j few)) (λ n. absurd (true-not-false (sym n)))
+      (λ n q x. past (w .cells) (fieldAt y j) v q 0 (λ e. x .unused (subst (λ (i : ℕ). InUse s (w .tables) (cellOf i)) (sym e) (field-used s (w .cells) (w .tables) y u j few))))
       (record { long = length-set (w .cells) (fieldAt y j) v; rest = drop-set-lt (cellsWords s) (w .cells) (fieldAt y j) v field-room })
 
   -- ---- whole, with a remember table that follows
@@ -60,7 +61,7 @@ module _ (s : Sizes) (w : Words) (k : WholeFor s w) (y j v : ℕ) (u : BeginsIn 
     w′ = record { cells = C; remember = m′; tables = w .tables }
 
     pub stored-only : Only (fieldWords ∷ entryWords ∷ []) s w w′
-    stored-only = only-trans field-only (entries-only s (withCells w C) m′ edited) (objects-stay field-only refl refl)
+    stored-only = only-trans field-only (entries-only s (withCells w C) m′ edited) refl refl
 
     objects : (j < refCount w y → IsRef s (w .cells) (w .tables) v) → (x : ℕ) → BeginsIn s w x → ObjectWhole s C (w .tables) x
     objects ref x i =
@@ -89,7 +90,7 @@ module _ (s : Sizes) (w : Words) (k : WholeFor s w) (y j v : ℕ) (u : BeginsIn 
 
     pub field-whole : (j < refCount w y → IsRef s (w .cells) (w .tables) v) → RememberWhole s w′ → WholeFor s w′
     field-whole ref r =
-        still-whole stored-only refl refl refl refl refl refl refl k (depths-frame stored-only refl (k .depths)) (pages-frame stored-only refl refl refl (k .pages))
+        still-whole stored-only refl refl refl refl refl refl refl refl k (depths-frame stored-only refl (k .depths)) (pages-frame stored-only refl refl refl (k .pages))
         (variables-frame stored-only refl refl refl (k .variables)) (λ x i. objects ref x (begins-was stored-only refl refl x i)) r
 
   -- ---- the fields read again

@@ -41,7 +41,7 @@ module _ (s : Sizes) (w : Words) (k : WholeFor s w) (t d : ℕ) (l : t < s .thre
 
   pub depth-whole : d ≤ s .depth → OpenStill → WholeFor s (withTables w T)
   depth-whole m o =
-      still-whole depth-only refl refl refl refl refl refl refl k
+      still-whole depth-only refl refl refl refl refl refl refl refl k
       (λ u n. by-cases (ℕ-discrete u t) (λ e. omega (arith, ap (depthOf T) e, here)) (λ e. omega (arith, elsewhere u e, k .depths u n))) (pages-open depth-only refl refl (k .pages) o)
       (variables-frame depth-only refl refl refl (k .variables)) (objects-frame depth-only refl refl refl (k .objects)) (remember-frame depth-only refl refl refl refl refl (k .remember))
 

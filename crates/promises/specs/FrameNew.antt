@@ -30,7 +30,7 @@ use Rattle.promises.specs.StandsFor.{StandsFor}
 use Rattle.promises.specs.Reading.{alive-used, used-alive, used-home, length-fields, getD-fields}
 use Rattle.promises.specs.Agreed.{cell-used}
 use Rattle.promises.specs.Changes.{withTables, withNew, withVariable}
-use Rattle.promises.specs.Areas.{ownerWords, usedWords, countWords, Only}
+use Rattle.promises.specs.Areas.{ownerWords, usedWords, countWords, unusedWords, Only}
 use Rattle.promises.specs.Frames.{depths-same, vars-same, fields-same}
 use Rattle.promises.specs.TakeCell.{Took}
 use Rattle.promises.specs.NewCell.{Blank, new-begins, not-there, still-begins, begins-split, owner-still, new-only, new-whole}
@@ -64,7 +64,7 @@ module _ (s : Sizes) (w : Words) (h : Regioned) (to : ℕ → ℕ) (st : StandsF
   k₁ : WholeFor s w₁
   k₁ = new-whole s w (st .whole) g cell b d t′ c′ took blank few pos low open′
 
-  only : Only (ownerWords ∷ usedWords ∷ countWords ∷ []) s w w₁
+  only : Only (unusedWords ∷ ownerWords ∷ usedWords ∷ countWords ∷ []) s w w₁
   only = new-only s w (st .whole) g cell b d t′ c′ took blank few pos low open′
 
   to-new : to₁ n ≡ cell

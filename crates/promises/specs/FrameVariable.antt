@@ -45,7 +45,7 @@ module _ (s : Sizes) (w : Words) (k : WholeFor s w) (i v : ℕ) (l : i < varCoun
 
   pub variable-whole : IsRef s (w .cells) (w .tables) v → WholeFor s (withTables w t)
   variable-whole ref =
-      still-whole variable-only refl refl refl refl refl refl refl k (depths-frame variable-only refl (k .depths)) (pages-frame variable-only refl refl refl (k .pages))
+      still-whole variable-only refl refl refl refl refl refl refl refl k (depths-frame variable-only refl (k .depths)) (pages-frame variable-only refl refl refl (k .pages))
       (λ j m. ref-frame variable-only refl refl _ (by-cases (ℕ-discrete j i)
       (λ e. subst (IsRef s (w .cells) (w .tables)) (sym (ap (varOf s t) e ∙ put (w .tables) at v 0 (omega (arith, low, k .sized .tables)))) ref)
       (λ n. subst (IsRef s (w .cells) (w .tables)) (sym (past (w .tables) at v (varAt s j) 0 (λ (e : varAt s j ≡ at). n (omega arith)))) (k .variables j m))))

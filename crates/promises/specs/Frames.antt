@@ -18,13 +18,13 @@ use Rattle.layout.specs.declared.Kind.{Kind}
 use Rattle.layout.specs.declared.Kind.the-variants.{Reference}
 use Rattle.layout.specs.Places.{cellsWords, varCount, depthAt, varAt}
 use Rattle.layout.specs.Cells.{fieldAt, roomFor, allFields, refsOf, Formed, fieldCount, firstField, fields-room, kind-among, pageOf, cellNamed}
-use Rattle.layout.specs.Objects.{begins?, begins-page, begins-true, begins-false}
+use Rattle.layout.specs.Objects.{begins?, begins-page, begins-true, begins-false, unused-back}
 use Rattle.layout.specs.Words.{Words, BeginsIn, headIn, ownerIn, homeIn, homeAt, depthsIn, depthsAt, varsIn, varsAt, fieldsIn, fieldsAt, refsIn, numsIn}
 use Rattle.remember.specs.Crossing.{crossTo}
-use Rattle.promises.specs.Whole.{Open, IsRef, Sized, DepthsWhole, PagesWhole, VariablesWhole, ObjectWhole, ObjectsWhole, MarksWhole, WorksWhole, RememberWhole, WholeFor}
+use Rattle.promises.specs.Whole.{Open, IsRef, Sized, DepthsWhole, PagesWhole, VariablesWhole, ObjectWhole, ObjectsWhole, MarksWhole, WorksWhole, RememberWhole, UnusedWhole, WholeFor}
 use Rattle.promises.specs.Regular.{Regular, whole-regular, SamePage, filled-same, regular-same}
 use Rattle.promises.specs.StandsFor.{StandsFor}
-use Rattle.promises.specs.Areas.{Area, sizeWords, depthWords, variableWords, ownerWords, usedWords, markWords, countWords, headWords, workWords, fieldWords, entryWords, among, Only, ObjectsStay}
+use Rattle.promises.specs.Areas.{Area, sizeWords, depthWords, variableWords, ownerWords, usedWords, markWords, countWords, headWords, workWords, fieldWords, unusedWords, entryWords, among, Only}
 use Rattle.remember.specs.Entries.{Exact, exact-everywhere}
 use Rattle.promises.specs.Slots.{begins-kept, begins-were, cross-alike}
 
@@ -40,9 +40,6 @@ module _ {cs : List Area} {s : Sizes} {w w′ : Words} (o : Only cs s w w′) wh
 
     pub ref-frame : (x : ℕ) → IsRef s (w .cells) (w .tables) x → IsRef s (w′ .cells) (w′ .tables) x
     ref-frame x r z = begins-frame (cellNamed x) (r z)
-
-    pub objects-stay : ObjectsStay s w w′
-    objects-stay k b = (begins-frame k b, o .same headWords h k b)
 
   pub home-same : among ownerWords cs ≡ false → among usedWords cs ≡ false → among headWords cs ≡ false → (k : ℕ) → homeIn s w′ k ≡ homeIn s w k
   unfolding homeAt
@@ -147,10 +144,13 @@ module _ {cs : List Area} {s : Sizes} {w w′ : Words} (o : Only cs s w w′) wh
           cross-alike s (w .cells) (w .tables) (w′ .cells) (w′ .tables) (o .same usedWords u) (o .same headWords h) (o .same ownerWords a) q
           (λ x. subst (λ (j : ℕ). getD (w′ .cells) j 0 ≡ getD (w .cells) j 0) (x .at) (o .same fieldWords f (x .object) (x .begins) (x .field) (x .room)))
 
-  -- all of them, where sizes, pages, counts, heads and working words are the same
+  pub unused-frame : among unusedWords cs ≡ false → among usedWords cs ≡ false → UnusedWhole s w → UnusedWhole s w′
+  unused-frame n u k q x = let v = unused-back (o .same usedWords u) q x in o .same unusedWords n q v ∙ k q v
+
+  -- all of them, where sizes, pages, counts, heads, working words and cells not in use are the same
   pub still-whole : among sizeWords cs ≡ false → among ownerWords cs ≡ false → among usedWords cs ≡ false → among markWords cs ≡ false → among countWords cs ≡ false
-      → among headWords cs ≡ false → among workWords cs ≡ false → WholeFor s w → DepthsWhole s w′ → PagesWhole s w′ → VariablesWhole s w′ → ObjectsWhole s w′ → RememberWhole s w′ → WholeFor s w′
-  still-whole z a u m n h x k depths pages variables objects remember =
+      → among headWords cs ≡ false → among workWords cs ≡ false → among unusedWords cs ≡ false → WholeFor s w → DepthsWhole s w′ → PagesWhole s w′ → VariablesWhole s w′ → ObjectsWhole s w′ → RememberWhole s w′ → WholeFor s w′
+  still-whole z a u m n h x y k depths pages variables objects remember =
       let r = regular-frame a u n (whole-regular k) in
       record {
         sized = sized-frame z (k .sized);
@@ -163,6 +163,7 @@ module _ {cs : List Area} {s : Sizes} {w w′ : Words} (o : Only cs s w w′) wh
         marks = marks-frame m (k .marks);
         works = works-frame x u h (k .works);
         remember = remember;
+        unused = unused-frame y u (k .unused);
       }
 
 -- ---- where objects keep their homes, the words stand for a heap with other depths, variables and fields

@@ -5,32 +5,47 @@ use Rattle.promises.specs.Reading.{ref-begins}
 use mathlib.Core.Path.{_≡_, refl, sym, ap, ap₂, subst, _∙_}
 use mathlib.Core.Logic.{_⊎_, inl, inr, ⊎-elim, ⊎-map}
 use mathlib.Core.List.{List, [], _∷_}
-use lib.ListN.{length, getD}
-use Rattle.lists.specs.Stores.{drop-same}
+use lib.ListN.{length, getD, set, length-set}
+use Rattle.lists.specs.Says.{true-not-false}
+use Rattle.lists.specs.Stores.{put, past, drop-same}
 use Rattle.rules.specs.declared.Sizes.{Sizes}
 use Rattle.rules.specs.Regions.{regions}
 use Rattle.layout.specs.Places.{cellsWords, ownerOf}
 use Rattle.layout.specs.declared.Kind.the-variants.{Reference}
 use Rattle.layout.specs.Cells.{headAt, headOf, workAt, workOf, fieldAt, fieldOf, fieldCount, headWord, roomFor, mostFields, Formed, kind-among, fields-room, head-formed, pageOf, cellOf, cellNamed}
-use Rattle.layout.specs.Objects.{begins-page, begins-used, used-begins, begins-same, Covers, covers-low, head-not-new, work-not-new, field-not-new, Slot, slot-page}
+use Rattle.layout.specs.Objects.{begins-page, begins-used, used-begins, NotInUse, Covers, covers-low, covers-head, covers-work, covers-field, head-not-new, work-not-new, field-not-new, Slot, slot-page}
 use Rattle.layout.specs.Words.{Words, BeginsIn}
 use Rattle.remember.specs.Crossing.{other, regionOf, crossesTo, crossesAt, crossTo}
 use Rattle.promises.specs.Whole.{WholeFor, Open, IsRef, ObjectWhole}
 use Rattle.promises.specs.Changes.{withCells}
-use Rattle.promises.specs.Areas.{variableWords, ownerWords, usedWords, countWords, workWords, fieldWords, Only, only-trans, cells-only}
+use Rattle.promises.specs.Areas.{variableWords, ownerWords, usedWords, countWords, workWords, fieldWords, unusedWords, Only, only-trans, cells-only}
 use Rattle.promises.specs.Frames.{sized-frame, depths-frame, marks-frame, object-frame}
 use Rattle.remember.specs.Entries.{exact-everywhere}
 use Rattle.promises.specs.Slots.{region-of, slot-stays, cross-same}
 use Rattle.promises.specs.Regular.{whole-regular}
-use Rattle.promises.specs.TakeCell.{Took, took-only, took-used, took-unused, still-used, used-split, owner-used, took-regular, took-pages}
+use Rattle.promises.specs.TakeCell.{Took, took-only, took-used, took-unused, took-blank, took-covers, still-used, used-split, owner-used, took-regular, took-pages}
 
--- the words of a new object, the first of them given, and all other cells as they were
+-- the words of a new object, the first of them given, and all others as they were
 pub record Blank (c : List ℕ) (cell word : ℕ) (c′ : List ℕ) : Type 0 where
   pub long : length c′ ≡ length c
   pub head : headOf c′ cell ≡ word
   pub work : workOf c′ cell ≡ 0
   pub fields : (f : ℕ) → f < roomFor word → fieldOf c′ cell f ≡ 0
   pub others : (j : ℕ) → (Covers cell word j → ⊥) → getD c′ j 0 ≡ getD c j 0
+
+-- the cell that is taken was not in use: word 0 alone is written, and the others are zero already
+pub blanked : {s : Sizes} {w : Words} {g cell : ℕ} (word : ℕ) {t′ : List ℕ} → WholeFor s w → Took s (w .tables) g cell t′ → Blank (w .cells) cell word (set (w .cells) (headAt cell) word)
+blanked {s} {w} {g} {cell} word k took =
+    record {
+      long = length-set (w .cells) (headAt cell) word;
+      head = put (w .cells) (headAt cell) word 0 (omega (arith, covers-low s cell word (headAt cell) (took .page) (covers-head cell word), k .sized .cells));
+      work = zero-at (workAt cell) (covers-work cell word) (λ (e : workAt cell ≡ headAt cell). omega arith);
+      fields = λ f l. zero-at (fieldAt cell f) (covers-field cell word f l) (λ (e : fieldAt cell f ≡ headAt cell). omega arith);
+      others = λ j n. past (w .cells) (headAt cell) word j 0 (λ e. n (subst (Covers cell word) (sym e) (covers-head cell word)));
+    }
+  where
+    zero-at : (q : ℕ) → Covers cell word q → (q ≡ headAt cell → ⊥) → getD (set (w .cells) (headAt cell) word) q 0 ≡ 0
+    zero-at q c n = past (w .cells) (headAt cell) word q 0 n ∙ k .unused q (took-blank took word q c)
 
 -- ---- whole
 
@@ -68,13 +83,13 @@ module _ (s : Sizes) (w : Words) (k : WholeFor s w) (g cell b d : ℕ) (t′ c�
   head-other : (x : ℕ) → BeginsIn s w x → headOf c′ x ≡ headOf c x
   head-other x u = blank .others (headAt x) (head-not-new s c t x u cell (headWord b d) (took-unused took))
 
-  pub new-only : Only (ownerWords ∷ usedWords ∷ countWords ∷ []) s w newWords
+  pub new-only : Only (unusedWords ∷ ownerWords ∷ usedWords ∷ countWords ∷ []) s w newWords
   new-only =
       only-trans
-      (cells-only s w c′ [] (λ n. head-other) (λ n x u. blank .others (workAt x) (work-not-new s c t x u cell (headWord b d) (took-unused took)))
-      (λ n x u f l. blank .others (fieldAt x f) (field-not-new s c t x u cell (headWord b d) (took-unused took) f l))
+      (cells-only s w c′ (unusedWords ∷ []) (λ n. head-other) (λ n x u. blank .others (workAt x) (work-not-new s c t x u cell (headWord b d) (took-unused took)))
+      (λ n x u f l. blank .others (fieldAt x f) (field-not-new s c t x u cell (headWord b d) (took-unused took) f l)) (λ n. absurd (true-not-false (sym n)))
       (record { long = blank .long; rest = drop-same (cellsWords s) c c′ (blank .long) (λ j l. blank .others j (λ e. omega (arith, covers-low s cell (headWord b d) j (took .page) e))) }))
-      (took-only s (withCells w c′) g cell t′ took pos low) (λ x u. (begins-same s c t c′ t x refl (λ j v e. head-other j v) u, head-other x u))
+      (took-only s (withCells w c′) g cell t′ took pos low) refl refl
 
   objects : (x : ℕ) → BeginsIn s newWords x → ObjectWhole s c′ t′ x
   objects x i =
@@ -90,6 +105,12 @@ module _ (s : Sizes) (w : Words) (k : WholeFor s w) (g cell b d : ℕ) (t′ c�
 
   works : (x : ℕ) → BeginsIn s newWords x → workOf c′ x ≡ 0
   works x i = ⊎-elim (λ e. ap (workOf c′) e ∙ blank .work) (λ u. new-only .same workWords refl x u ∙ k .works x u) (begins-split x i)
+
+  -- the cells that are not in use are others than the one that is taken
+  unused : (q : ℕ) → NotInUse s t′ q → getD c′ q 0 ≡ 0
+  unused q n =
+      blank .others q (λ e. n .unused (took-covers took (headWord b d) q e))
+      ∙ k .unused q (record { low = n .low; unused = λ u. n .unused (still-used took (cellOf q) u) })
 
   -- a new object has no slot that crosses, and the others cross as they did
   region-kept : (x : ℕ) → IsRef s c t x → regionOf s t′ x ≡ regionOf s t x
@@ -130,4 +151,5 @@ module _ (s : Sizes) (w : Words) (k : WholeFor s w) (g cell b d : ℕ) (t′ c�
         marks = marks-frame new-only refl (k .marks);
         works = works;
         remember = exact-everywhere (crossTo s c t) (crossTo s c′ t′) (cellsWords s) (s .entries) (w .remember) (λ q l. cross-same s c t c′ t′ q (slot-kept q) (slot-new q)) (k .remember);
+        unused = unused;
       }

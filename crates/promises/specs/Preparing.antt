@@ -6,7 +6,7 @@ use mathlib.Core.List.{List, _++_}
 use lib.ListN.{length, getD, drop, replicate, length-append, length-replicate, getD-replicate, List·getD-append}
 use lib.Dec.{eqb}
 use Rattle.rules.specs.Terms.{InRange}
-use Rattle.layout.specs.Places.{depthAt, varAt, markAt, countAt, slotAt, slotRegionAt, ownersFrom, usedFrom, rememberWords, tablesWords, varCount}
+use Rattle.layout.specs.Places.{depthAt, varAt, markAt, countAt, slotAt, slotRegionAt, ownersFrom, usedFrom, cellsWords, rememberWords, tablesWords, varCount}
 use Rattle.layout.specs.Cells.{pageOf}
 use Rattle.layout.specs.Objects.{begins-used}
 use Rattle.lists.specs.Tests.{cond-zero}
@@ -39,6 +39,9 @@ module _ (s : Sizes) (lent w : Words) (range : InRange s) (long : LongEnough s l
       let e : i ≡ suc (i - 1) = omega arith in
       ap₂ (λ (t : List ℕ) (j : ℕ). getD t j 0) (u .remember) e ∙ zeros-then (rememberWords s - 1) (i - 1) (drop (rememberWords s) (lent .remember)) (omega arith)
 
+  cell-zero : (q : ℕ) → q < cellsWords s → getD (w .cells) q 0 ≡ 0
+  cell-zero q l = ap (λ (c : List ℕ). getD c q 0) (u .cells) ∙ zeros-then (cellsWords s) q (drop (cellsWords s) (lent .cells)) l
+
   owner-zero : (page : ℕ) → page < s .pages → ownerIn s w page ≡ 0
   owner-zero page l = table-zero (ownersFrom s + page) (omega (arith, starts s)) (omega (arith, starts s))
 
@@ -56,7 +59,7 @@ module _ (s : Sizes) (lent w : Words) (range : InRange s) (long : LongEnough s l
           sizes = ap (λ (t : List ℕ). sizesIn (record { cells = w .cells; remember = w .remember; tables = t })) (u .tables);
           range = range;
           same = ap (λ (t : List ℕ). getD t 0 0) (u .remember);
-          cells = omega (arith, u .cells .long, long .cells);
+          cells = omega (arith, ap length (u .cells), length-append (replicate (cellsWords s) 0) (drop (cellsWords s) (lent .cells)), length-replicate {A = ℕ} (cellsWords s) 0);
           remember = omega (arith, ap length (u .remember), length-append (replicate (rememberWords s - 1) 0) (drop (rememberWords s) (lent .remember)), length-replicate {A = ℕ} (rememberWords s - 1) 0);
           tables = omega (arith, starts s, ap length (u .tables), length-append (replicate (tablesWords s - 5) 0) (drop (tablesWords s) (lent .tables)), length-replicate {A = ℕ} (tablesWords s - 5) 0);
         };
@@ -81,6 +84,7 @@ module _ (s : Sizes) (lent w : Words) (range : InRange s) (long : LongEnough s l
           };
           every = λ q l h. let o = cross-slot s (w .cells) (w .tables) q h in absurd (no-object (o .object) (o .begins));
         };
+        unused = λ q n. cell-zero q (n .low);
       }
 
   depths-zero : depthsIn s w ≡ replicate (s .threads) 0

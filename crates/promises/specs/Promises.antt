@@ -107,12 +107,12 @@ pub data PrepareAsked (s : Sizes) (w : Words) (q : ℕ) : Type 0 where
   short : q ≡ 2 → InRange s → (LongEnough s w → ⊥) → PrepareAsked s w q
   accepted : q ≡ 0 → InRange s → LongEnough s w → PrepareAsked s w q
 
--- the tables of an unused heap; the cells, none of which is in use, may hold anything
+-- the tables of an unused heap, none of whose cells is in use: every word but those past the lengths
 pub record Unused (s : Sizes) (w w′ : Words) : Type 0 where
   pub tables :
       w′ .tables ≡ s .threads ∷ s .variables ∷ s .depth ∷ s .pages ∷ s .entries ∷ replicate (tablesWords s - 5) 0 ++ drop (tablesWords s) (w .tables)
   pub remember : w′ .remember ≡ s .entries ∷ replicate (rememberWords s - 1) 0 ++ drop (rememberWords s) (w .remember)
-  pub cells : SameFrom (cellsWords s) (w .cells) (w′ .cells)
+  pub cells : w′ .cells ≡ replicate (cellsWords s) 0 ++ drop (cellsWords s) (w .cells)
 
 -- prepare with sizes s on the words w gave q and left w′
 pub record Prepared (s : Sizes) (w : Words) (q : ℕ) (w′ : Words) : Type 0 where

@@ -11,7 +11,8 @@ use Rattle.lists.specs.Stores.{put, past}
 use Rattle.rules.specs.declared.Sizes.{Sizes}
 use Rattle.rules.specs.Regions.{regions}
 use Rattle.layout.specs.Places.{ownerAt, ownerOf, usedAt, usedOf, countAt, countOf, count-room, used-is, count-is}
-use Rattle.layout.specs.Cells.{pageOf, placeOf, cellOn, pageCells, page-on, place-on}
+use Rattle.layout.specs.Cells.{pageOf, placeOf, cellOf, cellOn, pageCells, page-on, place-on}
+use Rattle.layout.specs.Objects.{NotInUse, Covers, covers-cell, covers-low}
 use Rattle.layout.specs.Words.{Words, InUse}
 use Rattle.promises.specs.Whole.{Open, PageFilled, Partial, objectsOn, objectsOf, PagesWhole, WholeFor}
 use Rattle.promises.specs.Regular.{Regular, whole-regular, one, objects-yes, objects-no, SamePage, filled-same, partial-same, on-same}
@@ -100,6 +101,13 @@ module _ {s : Sizes} {t : List ℕ} {g cell : ℕ} {t′ : List ℕ} (k : Took s
 
   pub took-unused : InUse s t cell → ⊥
   took-unused u = omega (arith, u .place, k .first)
+
+  -- so with each of its words
+  pub took-covers : (head q : ℕ) → Covers cell head q → InUse s t′ (cellOf q)
+  took-covers head q e = subst (InUse s t′) (sym (covers-cell cell head q e)) took-used
+
+  pub took-blank : (head q : ℕ) → Covers cell head q → NotInUse s t q
+  took-blank head q e = record { low = covers-low s cell head q (k .page) e; unused = λ u. took-unused (subst (InUse s t) (covers-cell cell head q e) u) }
 
   pub still-used : (c : ℕ) → InUse s t c → InUse s t′ c
   still-used c u =

@@ -1,4 +1,4 @@
--- Tables are whole (01, "Sizes and tables"): each condition by itself, and all of them in 01's order. c, m and t are the cells, the
+-- Tables are whole (01, "Sizes and tables"; 02, W1): each condition by itself, and all of them in 01's order. c, m and t are the cells, the
 -- remember table and the tables of words w.
 use Prim.Native.Nat.{ℕ, _≤_, _<_}
 use mathlib.Core.List.{List}
@@ -12,7 +12,7 @@ use Rattle.rules.specs.Terms.{InRange}
 use Rattle.rules.specs.Regions.{threadOf, levelOf, regions}
 use Rattle.layout.specs.Places.{cellsWords, rememberWords, tablesWords, varCount, depthOf, varOf, ownerOf, usedOf, markOf, countOf}
 use Rattle.layout.specs.Cells.{headOf, workOf, fieldOf, refsOf, allFields, roomFor, Formed, cellNamed, pageCells}
-use Rattle.layout.specs.Objects.{Begins}
+use Rattle.layout.specs.Objects.{Begins, NotInUse}
 use Rattle.layout.specs.Words.{Words, BeginsIn, sizesIn, depthIn}
 use Rattle.remember.specs.Crossing.{crossTo}
 use Rattle.remember.specs.Entries.{Entry, EntriesOf, Exact}
@@ -108,6 +108,10 @@ WorksWhole s w = (k : ℕ) → BeginsIn s w k → workOf (w .cells) k ≡ 0
 abbrev pub RememberWhole : Sizes → Words → Type 0
 RememberWhole s w = Exact (crossTo s (w .cells) (w .tables)) (cellsWords s) (s .entries) (w .remember)
 
+-- cells that are not in use hold zero words (02, W1)
+abbrev pub UnusedWhole : Sizes → Words → Type 0
+UnusedWhole s w = (q : ℕ) → NotInUse s (w .tables) q → getD (w .cells) q 0 ≡ 0
+
 pub record WholeFor (s : Sizes) (w : Words) : Type 0 where
   pub sized : Sized s w
   pub depths : DepthsWhole s w
@@ -119,6 +123,7 @@ pub record WholeFor (s : Sizes) (w : Words) : Type 0 where
   pub marks : MarksWhole s w
   pub works : WorksWhole s w
   pub remember : RememberWhole s w
+  pub unused : UnusedWhole s w
 
 abbrev pub WholeWords : Words → Type 0
 WholeWords w = WholeFor (sizesIn w) w
