@@ -2,7 +2,6 @@
 pub mod Decoding
 pub mod ThreadVariables
 pub mod Fields
-pub mod Blank
 pub mod Does
 pub mod Variables
 pub mod Objects

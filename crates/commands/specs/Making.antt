@@ -18,7 +18,7 @@ use Rattle.rules.specs.Graph.{newPages, freePages}
 use Rattle.rules.specs.Rules as ru
 use Rattle.rules.specs.Rules.{Regioned, graph, first}
 use Rattle.layout.specs.Places.{depthOf, usedOf, countOf, countAt, count-room}
-use Rattle.layout.specs.Cells.{cellOn, pageCells, headWord, mostFields, CellIn}
+use Rattle.layout.specs.Cells.{headAt, cellOn, pageCells, headWord, mostFields, CellIn}
 use Rattle.layout.specs.Words.{Words, words, heapOf}
 use Rattle.promises.specs.Whole.{WholeFor, Open}
 use Rattle.promises.specs.Regular.{whole-regular}
@@ -31,7 +31,7 @@ use Rattle.promises.specs.NewPages.{innermost-pos, innermost-low, innermost-ope
 use Rattle.promises.specs.Changes.{withTables, withVariable, withNew}
 use Rattle.promises.specs.Areas.{beyond-both}
 use Rattle.promises.specs.TakeCell.{Took}
-use Rattle.promises.specs.NewCell.{Blank, new-only, new-whole}
+use Rattle.promises.specs.NewCell.{Blank, blanked, new-only, new-whole}
 use Rattle.promises.specs.FrameVariable.{variable-only}
 use Rattle.promises.specs.FrameNew.{blankObject, made-stands, to-old, withCell}
 use Rattle.pages.specs.Pages.{Filled, regular-filled, Found, taken}
@@ -132,12 +132,15 @@ module _ (p : Sizes) (c m t : List ℕ) (k : WholeFor p (words c m t)) (u : ℕ)
           (new-question ∙ ap (λ (x : Bool). ask x 13 0)
           (new-lacks s w H (λ x. x) (heap-stands s w k) g (region-real .0) (region-real .1) (H .heap .depths) (h₁ .heap .vars) (blankObject b d) (none .0) (none .1)))
 
-      module _ (low : page < p .pages) (cell : ℕ) (ec : cell ≡ cellOn page (usedOf p t page)) (t₁ : List ℕ) (et : t₁ ≡ taken p t page g) (c₁ : List ℕ) (blank : Blank c cell (headWord b d) c₁) where
+      module _ (low : page < p .pages) (cell : ℕ) (ec : cell ≡ cellOn page (usedOf p t page)) (t₁ : List ℕ) (et : t₁ ≡ taken p t page g) (c₁ : List ℕ) (hc : c₁ ≡ set c (headAt cell) (headWord b d)) where
         abbrev tk : Took P t g cell t₁
         tk = took page f low cell ec t₁ et
 
         abbrev w₁ : Words
         w₁ = words c₁ m t₁
+
+        blank : Blank c cell (headWord b d) c₁
+        blank = subst (Blank c cell (headWord b d)) (sym hc) (blanked {w = w} (headWord b d) k tk)
 
         k₁ : WholeFor s w₁
         k₁ = new-whole s w k g cell b d t₁ c₁ tk blank few (region-real .0) (region-real .1) region-open

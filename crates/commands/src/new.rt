@@ -4,10 +4,9 @@ ghost use Prim.Native.Nat.{_+_, _<_, _≤_};
 ghost use lib.ListN.{length};
 ghost use Rattle.rules.specs.Regions.{regionAt};
 ghost use Rattle.layout.specs.Places.{Room, depthOf};
-ghost use Rattle.layout.specs.Cells.{headWord, mostFields, CellIn};
+ghost use Rattle.layout.specs.Cells.{mostFields};
 ghost use Rattle.layout.specs.Words.{words};
 ghost use Rattle.promises.specs.Whole.{WholeFor};
-ghost use Rattle.promises.specs.NewCell.{Blank};
 ghost use Rattle.pages.specs.Pages.{noteWords};
 ghost use Rattle.commands.specs.Does.{Does};
 ghost use Rattle.commands.specs.declared.Decoded.the-variants.{New};
@@ -25,22 +24,8 @@ fn innermost(p: Sizes, tables: &[u32], t: usize) -> u32
     layout::regions::region_at(p, t, layout::wide(d))
 }
 
-// The words of a new object: null references and zero numbers, whatever the cell held.
-fn blank(cells: &mut [u32], cell: usize, references: usize, numbers: usize)
-    requires { ⌜ CellIn cell (length (now cells)) × (references + numbers ≤ mostFields) ⌝ }
-    ensures { λ r. ⌜ Blank (now (cells .entry)) cell (headWord references numbers) (now (cells .exit)) ⌝ }
-{
-    let mut f: usize = 0;
-    while f < layout::cells::FIELDS {
-        layout::cells::set_field(cells, cell, f, 0);
-        f += 1;
-    }
-    layout::cells::set_head(cells, cell, layout::cells::head_word(references, numbers));
-    layout::cells::set_work(cells, cell, 0);
-}
-
 // Code 3: a new object with b references and c numbers in variable a. It takes the first unused cell of its region's partly filled page,
-// else of a free page; if there is neither, there are no pages (13).
+// else of a free page; if there is neither, there are no pages (13). A cell that is not in use holds zero words, so word 0 alone is written.
 pub fn new_object(
     p: Sizes,
     cells: &mut [u32],
@@ -63,7 +48,7 @@ pub fn new_object(
         return rules::refused(13);
     }
     let cell = pages::take_cell(p, tables, page, region);
-    blank(cells, cell, b, c);
+    layout::cells::set_head(cells, cell, layout::cells::head_word(b, c));
     write_var(p, tables, t, a, layout::cells::ref_to(cell));
     rules::done(0)
 }

@@ -11,9 +11,9 @@ use Rattle.rules.specs.declared.Sizes.{Sizes}
 use Rattle.layout.specs.Places.{ownerOf, ownersFrom, cellsWords, tablesWords}
 use Rattle.layout.specs.Cells.{wordAt, workOf, refTo, cellNamed, pageOf, cellOf, cellWords, work-cell, page-at}
 use Rattle.layout.specs.Marks.{marked}
-use Rattle.layout.specs.Objects.{InUse, Begins, begins-used, used-begins, begins-page}
+use Rattle.layout.specs.Objects.{InUse, NotInUse, Begins, begins-used, used-begins, begins-page}
 use Rattle.copy.specs.Marks.{copied}
-use Rattle.copy.specs.Moves.{Step, step-size, step-rest, step-off, step-on, step-new, step-in-use, step-home, step-keeps, step-owner, step-only, step-link, step-words}
+use Rattle.copy.specs.Moves.{Step, step-size, step-rest, step-off, step-on, step-new, step-in-use, step-home, step-keeps, step-owner, step-only, step-link, step-words, step-unused}
 use Rattle.copy.specs.Passing.{Ready, Moves, Moves.none, Moves.more, step-back, moves-ready}
 use Rattle.copy.specs.Copying.{Plan, Copy, copy-clean, copy-copied}
 
@@ -40,6 +40,8 @@ pub record Copying (p : Sizes) (W₀ T₀ W T : List ℕ) : Type 0 where
   pub owner : (x : ℕ) → Begins p W₀ T₀ x → ownerOf p T (pageOf x) ≡ ownerOf p T₀ (pageOf x)
   pub back : (x : ℕ) → pageOf x < p .pages → marked p T x ≡ 1 → (marked p T₀ x ≡ 1) × (workOf W x ≡ workOf W₀ x)
   pub words : (x i : ℕ) → i < cellWords → Begins p W₀ T₀ x → i ≢ 1 → getD W (wordAt x i) 0 ≡ getD W₀ (wordAt x i) 0
+  -- a cell that is not in use was not, and has the same words
+  pub unused : (q : ℕ) → NotInUse p T q → NotInUse p T₀ q × (getD W q 0 ≡ getD W₀ q 0)
   pub links : (x : ℕ) → Begins p W₀ T₀ x → marked p T₀ x ≡ 0 → workOf W x ≡ workOf W₀ x
   pub moved : (c : ℕ) → Gone p T₀ T c → (d : ℕ) × Moved p W₀ T₀ W T c d
   pub only : (d : ℕ) → Begins p W T d → Begins p W₀ T₀ d ⊎ ((c : ℕ) × Gone p T₀ T c × (workOf W c ≡ refTo d))
@@ -56,6 +58,7 @@ copying-start p W T =
       owner = λ x u. refl;
       back = λ x l on. (on, refl);
       words = λ x i l u n. refl;
+      unused = λ q n. (n, refl);
       links = λ x u off. refl;
       moved = λ c h. absurd (let z : ⊥ = omega (arith, h .was, h .now) in z);
       only = λ d u. inl u;
@@ -132,6 +135,7 @@ module _ {p : Sizes} {g q e : ℕ} {W₀ T₀ W T W′ T′ : List ℕ} (a₀ : 
         owner = λ x u. step-owner s x (h .keeps x u) ∙ h .owner x u;
         back = λ x l on. let u = step-back a s x l on in let v = h .back x l (u .0) in (v .0, u .1 ∙ v .1);
         words = λ x i l u n. step-words s x i l (h .keeps x u) (λ z. n) ∙ h .words x i l u n;
+        unused = λ q n. let u = step-unused s q n in let v = h .unused q (u .0) in (v .0, u .1 ∙ v .1);
         links = λ x u off.
             step-link s x (h .keeps x u)
             (λ z. let on : marked p T₀ x ≡ 1 = subst (λ (y : ℕ). marked p T₀ y ≡ 1) (sym z) was-on in omega arith)

@@ -15,7 +15,7 @@ use Rattle.rules.specs.Regions.{regions}
 use Rattle.layout.specs.Places.{Room, markAt, ownerOf, usedOf, markOf, ownersFrom, cellsWords, tablesWords, count-room}
 use Rattle.layout.specs.Cells.{cellOn, page-on, wordAt, workAt, workOf, refTo, pageOf, placeOf, cellOf, wordOf, pageCells, cellWords, place-low, same-cell, word-cell, word-there, word-low, work-cell, work-there, work-low}
 use Rattle.layout.specs.Marks.{marked}
-use Rattle.layout.specs.Objects.{InUse, Begins, begins-used, used-begins, begins-page}
+use Rattle.layout.specs.Objects.{InUse, NotInUse, Begins, begins-used, used-begins, begins-page, work-used}
 use Rattle.layout.specs.Words.{tablesOnly}
 use Rattle.promises.specs.Whole.{objectsOf}
 use Rattle.promises.specs.Regular.{Regular, SamePage, objects-same}
@@ -275,6 +275,14 @@ module _ {p : Sizes} {g q c : ℕ} {W T W′ T′ : List ℕ} (s : Step p g q c 
   step-words x i l u ne =
       s .copied .same (wordAt x i) (λ e. ne (sym (word-cell x i l) ∙ ap cellOf e ∙ work-cell c) (sym (word-there x i l) ∙ ap wordOf e ∙ work-there c))
       (λ e. step-new (subst (InUse p T) (sym (word-cell x i l) ∙ e) (begins-used p W T x u)))
+
+  -- nothing is written to a cell that is not in use then
+  pub step-unused : (x : ℕ) → NotInUse p T′ x → NotInUse p T x × (getD W′ x 0 ≡ getD W x 0)
+  step-unused x n = (
+    record { low = n .low; unused = λ u. n .unused (mid-use (cellOf x) (still-used (s .took) (cellOf x) u)) },
+    s .copied .same x (λ e. n .unused (subst (λ (i : ℕ). InUse p T′ (cellOf i)) (sym e) (work-used p W′ T′ c (step-keeps c (s .can .used)))))
+        (λ e. n .unused (subst (InUse p T′) (sym e) (mid-use (s .new) (took-used (s .took))))),
+  )
 
   -- the pass stays at the page
   pub step-points : Points p T′ g q

@@ -8,7 +8,7 @@ use Rattle.laws.specs.SameRules.{renamed}
 use Rattle.layout.specs.Places.{varOf, varCount}
 use Rattle.layout.specs.Cells.{pageOf, fieldOf, workOf, roomFor}
 use Rattle.layout.specs.Words.{Words, BeginsIn, ownerIn, headIn, refCount}
-use Rattle.promises.specs.Whole.{Open, MarksWhole, RememberWhole}
+use Rattle.promises.specs.Whole.{Open, MarksWhole, RememberWhole, UnusedWhole}
 use Rattle.promises.specs.Regular.{Regular}
 use Rattle.promises.specs.StandsFor.{SameBeyond}
 use Rattle.promises.specs.Ends.{Part, Outside, Survivor, Lives}
@@ -48,8 +48,9 @@ pub record Evacuated (s : Sizes) (w : Words) (e : Part) (w′ : Words) (cell : �
   pub placement : Placement s w e w′ cell
   pub object : (c : ℕ) → Lives s w e c → SameObject w cell w′ c
   pub only : (d : ℕ) → BeginsIn s w′ d → (c : ℕ) × Lives s w e c × (cell c ≡ d)
-  -- pages, counts, marks and the remember table are whole (01, "Tables are whole")
+  -- pages, counts, marks, the remember table and the cells not in use are whole (01, "Tables are whole"; 02, W1)
   pub regular : Regular s (w′ .tables)
   pub owners : (page : ℕ) → page < s .pages → 1 < ownerIn s w′ page → Open s (w′ .tables) (ownerIn s w′ page)
   pub marks : MarksWhole s w′
   pub remember : RememberWhole s w′
+  pub unused : UnusedWhole s w′

@@ -66,4 +66,5 @@ module _ {s : Sizes} {w : Words} {e : Part} {w′ : Words} {cell : ℕ → ℕ} 
         marks = v .marks;
         works = λ c u. let b = v .only c u in ap (workOf (w′ .cells)) (sym (b .2)) ∙ v .object (b .0) (b .1) .working;
         remember = v .remember;
+        unused = v .unused;
       }

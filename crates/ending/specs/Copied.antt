@@ -10,11 +10,11 @@ use lib.ListN.{length, getD}
 use Rattle.rules.specs.declared.Sizes.{Sizes}
 use Rattle.laws.specs.SameRules.{renamed}
 use Rattle.layout.specs.Places.{Room, ownerOf, markOf}
-use Rattle.layout.specs.Cells.{headAt, fieldAt, wordAt, headOf, workOf, fieldOf, cellNamed, refTo, pageOf, cellOn, roomFor, mostFields, cellWords, most-is, room-most, page-on}
+use Rattle.layout.specs.Cells.{headAt, fieldAt, wordAt, headOf, workOf, fieldOf, cellNamed, refTo, pageOf, cellOf, cellOn, roomFor, mostFields, cellWords, most-is, room-most, page-on}
 use Rattle.layout.specs.Marks.{marked, mark?}
-use Rattle.layout.specs.Objects.{begins-page, begins-used, begins-there}
+use Rattle.layout.specs.Objects.{InUse, unused-back, begins-page, begins-used, begins-there, work-used}
 use Rattle.layout.specs.Words.{Words, words, Begins, BeginsIn, ownerIn, headIn}
-use Rattle.promises.specs.Whole.{WholeFor}
+use Rattle.promises.specs.Whole.{UnusedWhole, WholeFor}
 use Rattle.promises.specs.Ends.{Part, Outside, Survivor, Lives, outside-lives, survivor-lives, lives-how}
 use Rattle.mark.specs.Marks.{kept-head, kept-field, kept-in-use, in-use-kept}
 use Rattle.mark.specs.Survivors.{Marked}
@@ -23,7 +23,7 @@ use Rattle.copy.specs.Forward.{Forwards, Moved, forward}
 use Rattle.settle.specs.Rewrite.{forwarded, forward-null, forward-still, forward-moved}
 use Rattle.ended.specs.Living.{KeepsNamed}
 use Rattle.ending.specs.Placing.{Placing}
-use Rattle.mark.specs.MarkedWords.{marked-survivor, outside-work, owner-same}
+use Rattle.mark.specs.MarkedWords.{marked-survivor, outside-work, owner-same, used-same}
 
 -- What copying asks of the part: its pages have owners, and its survivors go to regions that do not end.
 pub record Sends (s : Sizes) (w : Words) (e : Part) : Type 0 where
@@ -181,6 +181,15 @@ module _ {s : Sizes} {w w₁ : Words} {e : Part} {W T : List ℕ} (h : HasMoved 
 
       new : (c : ℕ) × (pageOf c < s .pages) × (marked s (w₁ .tables) c ≡ 1) × (forward W c ≡ d) → (c : ℕ) × Lives s w e c × (placed W c ≡ d)
       new q = let v = marked-survivor (h .marks) (q .0) (q .1) (q .2) in (q .0, survivor-lives v, survivor-placed (q .0) v ∙ q .3)
+
+  -- cells that are not in use are zero still
+  pub copied-unused : UnusedWhole s (words W (w .remember) T)
+  copied-unused q n =
+      let c = h .forwards .copying .unused q n in
+      let u = unused-back (used-same (h .marks) (h .room)) q (c .0) in
+      c .1
+      ∙ h .marks .cells q (λ d z b o. u .unused (subst (λ (i : ℕ). InUse s (w .tables) (cellOf i)) (sym z) (work-used s (w .cells) (w .tables) d b)))
+      ∙ h .whole .unused q u
 
   pub placing : Placing s w e (words W (w .remember) T) (placed W)
   placing =

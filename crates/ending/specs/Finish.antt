@@ -10,11 +10,12 @@ use Rattle.lists.specs.Stores.{drop-same}
 use Rattle.rules.specs.declared.Sizes.{Sizes}
 use Rattle.laws.specs.SameRules.{renamed}
 use Rattle.layout.specs.Places.{Room, depthAt, varAt, ownerAt, usedAt, markAt, countAt, varOf, ownerOf, usedOf, markOf, cellsWords, rememberWords, tablesWords, count-room, ownersFrom, varsFrom, varCount}
-use Rattle.layout.specs.Cells.{cellNamed, pageOf, cellOn, page-on}
-use Rattle.layout.specs.Objects.{begins-page, begins-same, begins-back, begins-used, begins-there}
-use Rattle.layout.specs.Words.{Words, words, Begins, Names, ownerIn}
+use Rattle.layout.specs.Cells.{headAt, workAt, fieldAt, headOf, fieldOf, roomFor, cellNamed, pageOf, cellOn, cellOf, pageAt, page-on, page-at, work-cell}
+use Rattle.layout.specs.Objects.{InUse, in-use?, in-use-same, begins-page, begins-same, begins-back, begins-used, begins-there, field-on}
+use Rattle.layout.specs.Words.{Words, words, Begins, Names, ownerIn, headIn, refCount}
 use Rattle.remember.specs.Renewed.{Renewed}
-use Rattle.promises.specs.Whole.{Open}
+use Rattle.promises.specs.Whole.{Open, UnusedWhole}
+use Rattle.promises.specs.Reading.{ref-room}
 use Rattle.promises.specs.StandsFor.{SameFrom}
 use Rattle.promises.specs.Ends.{Part, Outside, Survivor, Lives, outside-lives, survivor-lives, lives-how}
 use Rattle.mark.specs.Marks.{page-unmarked}
@@ -28,7 +29,7 @@ use Rattle.mark.specs.MarkedWords.{table-same, var-same}
 use Rattle.ending.specs.Placing.{Placing, LiveSlot, placed-page, outside-home, live-low}
 use Rattle.ending.specs.Crossing.{Told, told-later, told-whole}
 use Rattle.ending.specs.Copied.{HasMoved, placed, placing, forwarded-placed, placed-out, placed-only}
-use Rattle.ending.specs.Rewriting.{copies-live, held-live, HasRewritten, slot-after, rest-after, head-after, work-after}
+use Rattle.ending.specs.Rewriting.{copies-live, held-live, HasRewritten, slot-after, rest-after, head-after, work-after, unused-after}
 
 -- two lists of one length with the same words from n on
 same-from : (n : ℕ) (l k : List ℕ) → length k ≡ length l → ((x : ℕ) → n ≤ x → getD k x 0 ≡ getD l x 0) → SameFrom n l k
@@ -53,7 +54,7 @@ module _ {s : Sizes} {w w₁ : Words} {e : Part} {W T : List ℕ} (h : HasMoved 
     pub owner₂ : (page : ℕ) → page < s .pages → ownerOf s T₂ page ≡ ownerOf s T page
     owner₂ page l = Y .same (ownerAt s page) (λ z. omega (arith, tables-room))
 
-    used₂ : (page : ℕ) → page < s .pages → usedOf s T₂ page ≡ usedOf s T page
+    pub used₂ : (page : ℕ) → page < s .pages → usedOf s T₂ page ≡ usedOf s T page
     used₂ page l = Y .same (usedAt s page) (λ z. omega (arith, tables-room))
 
     pub room₂ : Room s (length T₂)
@@ -75,8 +76,8 @@ module _ {s : Sizes} {w w₁ : Words} {e : Part} {W T : List ℕ} (h : HasMoved 
 -- ---- the release
 
 -- The pages of the part are given back: they are blank, the other pages and every word but depths and counts are as they were, and the
--- regions of the objects that live on are open.
-pub record GaveBack (s : Sizes) (w : Words) (e : Part) (T T′ : List ℕ) : Type 0 where
+-- regions of the objects that live on are open. The cells in use on them are zero, and every other cell is as it was.
+pub record GaveBack (s : Sizes) (w : Words) (e : Part) (W T W′ T′ : List ℕ) : Type 0 where
   pub size : length T′ ≡ length T
   pub regular : Regular s T′
   pub blank : (page : ℕ) → page < s .pages → e .ends page → Blank s T′ page
@@ -84,12 +85,15 @@ pub record GaveBack (s : Sizes) (w : Words) (e : Part) (T T′ : List ℕ) : Typ
   pub rest : (x : ℕ) → (depthAt 0 ≤ x → varsFrom s ≤ x) → (ownersFrom s ≤ x → tablesWords s ≤ x) → getD T′ x 0 ≡ getD T x 0
   pub outside : (c : ℕ) → Outside s w e c → 1 < ownerIn s w (pageOf c) → Open s T′ (ownerIn s w (pageOf c))
   pub survivor : (c : ℕ) → Survivor s w e c → 1 < e .goes c → Open s T′ (e .goes c)
+  pub cells-size : length W′ ≡ length W
+  pub emptied : (q : ℕ) → e .ends (pageAt q) → InUse s T (cellOf q) → getD W′ q 0 ≡ 0
+  pub kept : (q : ℕ) → (e .ends (pageAt q) → InUse s T (cellOf q) → ⊥) → getD W′ q 0 ≡ getD W q 0
 
 module _ {s : Sizes} {w w₁ : Words} {e : Part} {W T : List ℕ} {S : ℕ → Type 0} {W′ : List ℕ} (k : HasRewritten s w w₁ e W T S W′)
     {E : ℕ → ℕ → Type 0} (told : Told s w e (words W (w .remember) T) (placed W) (Lives s w e) E) {M′ : List ℕ} (U : Renewed E (s .entries) (w .remember) M′)
-    {T₂ : List ℕ} (Y : Variables s (varCount s) W′ T T₂) {T′ : List ℕ} (Z : GaveBack s w e T₂ T′) where
+    {T₂ : List ℕ} (Y : Variables s (varCount s) W′ T T₂) {W″ T′ : List ℕ} (Z : GaveBack s w e W′ T₂ W″ T′) where
   abbrev w′ : Words
-  w′ = words W′ M′ T′
+  w′ = words W″ M′ T′
 
   h : HasMoved s w w₁ e W T
   h = k .moved
@@ -103,17 +107,23 @@ module _ {s : Sizes} {w w₁ : Words} {e : Part} {W T : List ℕ} {S : ℕ → T
   used-end : (page : ℕ) → page < s .pages → (e .ends page → ⊥) → usedOf s T′ page ≡ usedOf s T page
   used-end page l n = Z .alike page l n .used ∙ used₂ h Y page l
 
-  to-end : (d : ℕ) → Begins s W′ T d → (e .ends (pageOf d) → ⊥) → Begins s W′ T′ d
-  to-end d u n = begins-same s W′ T W′ T′ d (used-end (pageOf d) (begins-page s W′ T d u) n) (λ x b z. refl) u
+  word-end : (q : ℕ) {page : ℕ} → pageAt q ≡ page → (e .ends page → ⊥) → getD W″ q 0 ≡ getD W′ q 0
+  word-end q z n = Z .kept q (λ y u. n (subst (e .ends) z y))
 
-  from-end : (d : ℕ) → Begins s W′ T′ d → Begins s W′ T d × (e .ends (pageOf d) → ⊥)
-  from-end d u = (begins-back s W′ T W′ T′ d (used-end (pageOf d) l out) (λ x b z. refl) u, out)
+  head-end : (d : ℕ) {page : ℕ} → pageOf d ≡ page → (e .ends page → ⊥) → headOf W″ d ≡ headOf W′ d
+  head-end d z n = word-end (headAt d) (omega (arith, z)) n
+
+  to-end : (d : ℕ) → Begins s W′ T d → (e .ends (pageOf d) → ⊥) → Begins s W″ T′ d
+  to-end d u n = begins-same s W′ T W″ T′ d (used-end (pageOf d) (begins-page s W′ T d u) n) (λ x b z. head-end x z n) u
+
+  from-end : (d : ℕ) → Begins s W″ T′ d → Begins s W′ T d × (e .ends (pageOf d) → ⊥)
+  from-end d u = (begins-back s W′ T W″ T′ d (used-end (pageOf d) l out) (λ x b z. head-end x z out) u, out)
     where
       l : pageOf d < s .pages
-      l = begins-page s W′ T′ d u
+      l = begins-page s W″ T′ d u
 
       out : e .ends (pageOf d) → ⊥
-      out z = omega (arith, begins-used s W′ T′ d u .place, Z .blank (pageOf d) l z .used)
+      out z = omega (arith, begins-used s W″ T′ d u .place, Z .blank (pageOf d) l z .used)
 
   home-end : (x : ℕ) → Lives s w e x → ownerOf s T′ (pageOf (placed W x)) ≡ ownerOf s T (pageOf (placed W x))
   home-end x l = owner-end (pageOf (placed W x)) (placed-page (placing h) x l) (placed-out h x l)
@@ -123,7 +133,7 @@ module _ {s : Sizes} {w w₁ : Words} {e : Part} {W T : List ℕ} {S : ℕ → T
       let p = placing h .placement in
       record {
         used = λ x l. to-end (placed W x) (begins-now (k .cells) s T (placed W x) (p .used x l)) (placed-out h x l);
-        head = head-after k;
+        head = λ x l. head-end (placed W x) refl (placed-out h x l) ∙ head-after k x l;
         stayed = λ x o.
             let z = p .stayed x o .same in
             record { same = z; owner = ap (λ (d : ℕ). ownerOf s T′ (pageOf d)) (sym z) ∙ home-end x (outside-lives o) ∙ outside-home (placing h) x o };
@@ -135,14 +145,36 @@ module _ {s : Sizes} {w w₁ : Words} {e : Part} {W T : List ℕ} {S : ℕ → T
   ended = record { whole = h .whole; keeps = h .keeps; placement = placement }
 
   -- there is no other
-  only : (d : ℕ) → Begins s W′ T′ d → (x : ℕ) × Lives s w e x × (placed W x ≡ d)
+  only : (d : ℕ) → Begins s W″ T′ d → (x : ℕ) × Lives s w e x × (placed W x ≡ d)
   only d u = let v = from-end d u in placed-only h d (begins-then (k .cells) s T d (v .0)) (v .1)
+
+  -- the words of one that lives on are on a page that does not end
+  field-end : (x f : ℕ) → Lives s w e x → f < roomFor (headIn w x) → fieldOf W″ (placed W x) f ≡ fieldOf W′ (placed W x) f
+  field-end x f l m =
+      let p = placing h .placement in
+      word-end (fieldAt (placed W x) f) (field-on s W T (placed W x) (p .used x l) f (subst (λ (n : ℕ). f < roomFor n) (sym (p .head x l)) m)) (placed-out h x l)
+
+  slot-end : (x f : ℕ) → Lives s w e x → f < refCount w x → fieldOf W″ (placed W x) f ≡ renamed (placed W) (fieldOf (w .cells) x f)
+  slot-end x f l m = field-end x f l (ref-room s w (h .whole) x f (l .used) m) ∙ slot-after k x f l m
+
+  -- cells that are not in use: those given back are cleared, the others were not in use before
+  unused-end : UnusedWhole s w′
+  unused-end q n = go (e .ends? (pageAt q)) (in-use? s T (cellOf q))
+    where
+      before : (InUse s T (cellOf q) → ⊥) → getD W″ q 0 ≡ 0
+      before m = Z .kept q (λ z u. m (in-use-same (λ page l. sym (used₂ h Y page l)) (cellOf q) u)) ∙ unused-after k q (record { low = n .low; unused = m })
+
+      go : Dec (e .ends (pageAt q)) → Dec (InUse s T (cellOf q)) → getD W″ q 0 ≡ 0
+      go (yes z) (yes u) = Z .emptied q z (in-use-same (used₂ h Y) (cellOf q) u)
+      go (no m) (yes u) = absurd (n .unused (record { page = u .page; place = omega (arith, u .place, used-end (pageAt q) (u .page) m) }))
+      go (yes z) (no m) = before m
+      go (no z) (no m) = before m
 
   -- ---- all of it
 
   page-open : (page : ℕ) → page < s .pages → 1 < ownerOf s T′ page → Open s T′ (ownerOf s T′ page)
   page-open page l p =
-      let o = only (cellOn page 0) (begins-there s W′ T′ page 0 l (omega arith) (Z .regular .pages page l .taken (omega arith))) in
+      let o = only (cellOn page 0) (begins-there s W″ T′ page 0 l (omega arith) (Z .regular .pages page l .taken (omega arith))) in
       go (o .0) (ap (ownerOf s T′) (sym (page-on page 0 (omega arith))) ∙ ap (λ (d : ℕ). ownerOf s T′ (pageOf d)) (sym (o .2))) (lives-how (o .1))
     where
       go : (x : ℕ) → ownerOf s T′ page ≡ ownerOf s T′ (pageOf (placed W x)) → Outside s w e x ⊎ Survivor s w e x → Open s T′ (ownerOf s T′ page)
@@ -160,9 +192,10 @@ module _ {s : Sizes} {w w₁ : Words} {e : Part} {W T : List ℕ} {S : ℕ → T
           (page-unmarked s (w₁ .tables) page (h .marks .small page l)
           (λ x z o. n (subst (e .ends) z (h .marks .only x (subst (λ (q : ℕ). q < s .pages) (sym z) l) o .1))))
 
-  far : (x : ℕ) → cellsWords s ≤ x → getD W′ x 0 ≡ getD (w .cells) x 0
+  far : (x : ℕ) → cellsWords s ≤ x → getD W″ x 0 ≡ getD (w .cells) x 0
   far x l =
-      k .cells .same x (⊎-elim (λ q. low (held-live h (k .holding) x q)) (λ q. low (copies-live h x q))) ∙ h .forwards .copying .beyond x l
+      Z .kept x (λ z u. omega (arith, page-at s x (u .page)))
+      ∙ k .cells .same x (⊎-elim (λ q. low (held-live h (k .holding) x q)) (λ q. low (copies-live h x q))) ∙ h .forwards .copying .beyond x l
       ∙ h .marks .cells x (λ d z u o. omega (arith, begins-page _ _ _ _ u))
     where
       low : LiveSlot s w e (placed W) x → ⊥
@@ -182,7 +215,7 @@ module _ {s : Sizes} {w w₁ : Words} {e : Part} {W T : List ℕ} {S : ℕ → T
       record {
         beyond =
             record {
-              cells = same-from (cellsWords s) (w .cells) W′ (k .cells .size ∙ h .forwards .copying .cells-size ∙ h .marks .kept .cells-length) far;
+              cells = same-from (cellsWords s) (w .cells) W″ (Z .cells-size ∙ k .cells .size ∙ h .forwards .copying .cells-size ∙ h .marks .kept .cells-length) far;
               remember = same-from (rememberWords s) (w .remember) M′ (U .edited .long) (U .edited .spare);
               tables =
                   same-from (tablesWords s) (w .tables) T′ (Z .size ∙ Y .size ∙ h .forwards .copying .tables-size ∙ h .marks .kept .tables-length) (λ x l. same-word x (λ z. l));
@@ -196,10 +229,15 @@ module _ {s : Sizes} {w w₁ : Words} {e : Part} {W T : List ℕ} {S : ℕ → T
             ∙ ap (renamed (placed W)) (variable-same h i l);
         placement = placement;
         object = λ x l.
-            record { references = λ f m. slot-after k x f l m; others = λ f ge m. rest-after k x f l ge m; working = work-after k x l };
+            record {
+              references = λ f m. slot-end x f l m;
+              others = λ f ge m. field-end x f l m ∙ rest-after k x f l ge m;
+              working = word-end (workAt (placed W x)) (ap pageOf (work-cell (placed W x))) (placed-out h x l) ∙ work-after k x l;
+            };
         only = only;
         regular = Z .regular;
         owners = page-open;
         marks = marks-end;
-        remember = told-whole ended (λ c f l m. slot-after k c f l m) only (told-later (placing h) ended home-end told) U;
+        remember = told-whole ended slot-end only (told-later (placing h) ended home-end told) U;
+        unused = unused-end;
       }

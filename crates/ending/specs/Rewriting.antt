@@ -10,10 +10,11 @@ use lib.ListN.{getD}
 use Rattle.rules.specs.declared.Sizes.{Sizes}
 use Rattle.laws.specs.SameRules.{renamed}
 use Rattle.layout.specs.Places.{ownerOf}
-use Rattle.layout.specs.Cells.{fieldAt, headOf, workOf, fieldOf, refsOf, pageOf, pageAt, cellNamed, roomFor}
-use Rattle.layout.specs.Objects.{Covers, covers-field, begins-page, field-not-new, objects-apart}
+use Rattle.layout.specs.Cells.{fieldAt, headOf, workOf, fieldOf, refsOf, pageOf, pageAt, cellOf, cellNamed, roomFor}
+use Rattle.layout.specs.Objects.{InUse, Covers, covers-field, begins-page, field-used, field-not-new, objects-apart}
 use Rattle.layout.specs.Words.{Words, words, BeginsIn, Names, headIn, refCount}
 use Rattle.remember.specs.Crossing.{crossesFrom, crossesAt}
+use Rattle.promises.specs.Whole.{UnusedWhole}
 use Rattle.promises.specs.Reading.{refs-few, ref-room}
 use Rattle.promises.specs.Ends.{Part, Survivor, Lives, outside-lives, survivor-lives, lives-how}
 use Rattle.mark.specs.Marks.{kept-head}
@@ -28,7 +29,7 @@ use Rattle.settle.specs.Update.{Copies}
 use Rattle.mark.specs.MarkedWords.{marked-survivor}
 use Rattle.ending.specs.Placing.{OutsideSlot, HoldingSlots, LiveSlot, placed-page, outside-live, live-outside, refs-placed, live-slot, live-page}
 use Rattle.ending.specs.Crossing.{crossThen, Told}
-use Rattle.ending.specs.Copied.{HasMoved, placed, placing, forwarded-placed, still-used, outside-idle, on, copy, survivor-forward, survivor-placed, placed-field, placed-work}
+use Rattle.ending.specs.Copied.{HasMoved, placed, placing, forwarded-placed, still-used, outside-idle, on, copy, survivor-forward, survivor-placed, placed-field, placed-work, copied-unused}
 
 module _ {s : Sizes} {w w₁ : Words} {e : Part} {W T : List ℕ} (h : HasMoved s w w₁ e W T) where
   copy-cell : (c : ℕ) → Survivor s w e c → workOf W c - 1 ≡ placed W c
@@ -208,6 +209,16 @@ module _ {s : Sizes} {w w₁ : Words} {e : Part} {W T : List ℕ} {S : ℕ → T
           let y = objects-apart s W T (placed W c) (placing h .placement .used c l) (o .object) (o .begins) (o .field) (o .room) f (subst (λ (n : ℕ). f < roomFor n) (sym (placing h .placement .head c l)) m) (q .at) in
           let x : c ≡ q .object = placing h .placement .apart c (q .object) l (q .lives) (y .0) in
           omega (arith, y .1, q .low, ap (refCount w) x)
+
+  -- no slot lies in a cell that is not in use
+  pub unused-after : UnusedWhole s (words W′ (w .remember) T)
+  unused-after q n =
+      r .cells .same q (⊎-elim (λ x. none (held-live h (r .holding) q x)) (λ x. none (copies-live h q x))) ∙ copied-unused h q n
+    where
+      none : LiveSlot s w e (placed W) q → ⊥
+      none x =
+          let o = live-slot (placing h) q x in
+          n .unused (subst (λ (i : ℕ). InUse s T (cellOf i)) (o .at) (field-used s W T (o .object) (o .begins) (o .field) (o .room)))
 
   -- the entries of the copies' slots, as they read then
   pub copies-told : Told s w e (words W (w .remember) T) (placed W) (Survivor s w e) (Crossing s (Copies s W′ T) W′ T)

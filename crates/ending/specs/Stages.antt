@@ -30,6 +30,7 @@ use Rattle.settle.specs.RewriteCopies.{slot-then}
 use Rattle.remember.specs.Appending.{at-most-less}
 use Rattle.settle.specs.Update.{Copies, NewEntry, Settles, Updated}
 use Rattle.release.specs.Release.{Ended, ended-size, ended-depth, ended-rest, ended-blank, ended-alike, ended-regular}
+use Rattle.release.specs.Emptied.{Emptied}
 use Rattle.ended.specs.EndQuestion.{crossingAfter}
 use Rattle.ended.specs.EvacuatedDid.{Lowered}
 use Rattle.ended.specs.Living.{KeepsNamed, region-after, region-keeps}
@@ -176,7 +177,7 @@ module _ {s : Sizes} {t l r : ℕ} {w w₁ : Words} (b : Ending s t l r w w₁) 
       pub release-ask : Room s (length T₂) × (depthOf T₂ t ≡ l)
       release-ask = (room₂ moved Y, word₂ moved Y (depthAt t) (λ z. omega (arith, b .thread)) ∙ b .level)
 
-      module _ {T′ : List ℕ} (Z : Ended s r t T₂ T′) where
+      module _ {W₄ T′ : List ℕ} (Z : Ended s r t T₂ T′) (X : Emptied s r (s .pages) T₂ W₃ W₄) where
         a : Room s (length T₂)
         a = room₂ moved Y
 
@@ -196,7 +197,7 @@ module _ {s : Sizes} {t l r : ℕ} {w w₁ : Words} (b : Ending s t l r w w₁) 
         depth-kept : (u : ℕ) → u < s .threads → u ≢ t → depthOf T′ u ≡ depthIn w u
         depth-kept u l n = rest (depthAt u) (λ z. n (omega arith)) (λ z. omega (arith, a)) ∙ word₂ moved Y (depthAt u) (λ z. omega arith)
 
-        lowered : {M′ : List ℕ} → Lowered s w t (l - 1) (words W₃ M′ T′)
+        lowered : {M′ : List ℕ} → Lowered s w t (l - 1) (words W₄ M′ T′)
         lowered = record { depth = depth-after; depths = depth-kept }
 
         -- every region but r that was open is open still, and so is every region around r
@@ -211,7 +212,7 @@ module _ {s : Sizes} {t l r : ℕ} {w w₁ : Words} (b : Ending s t l r w w₁) 
                 last (no z) = omega (arith, o .level, ap (depthOf T′) d, depth-after, ap (depthIn w) d, b .level)
                 last (yes z) = absurd (n (region-number s g (o .real) ∙ ap₂ (regionAt s) d z ∙ sym (b .region)))
 
-        gave-back : GaveBack s w (partOf s w r) T₂ T′
+        gave-back : GaveBack s w (partOf s w r) W₃ T₂ W₄ T′
         gave-back =
             record {
               size = ended-size a (bounds .0) (bounds .1) (b .thread) Z;
@@ -221,9 +222,12 @@ module _ {s : Sizes} {t l r : ℕ} {w w₁ : Words} (b : Ending s t l r w w₁) 
               rest = λ x n m. rest x (λ z. let y : varsFrom s ≤ x = n (omega arith) in omega (arith, b .thread)) m;
               outside = λ x o h. still-open (ownerIn s w (pageOf x)) (o .out) (b .whole .pages (pageOf x) (begins-page s (w .cells) (w .tables) x (o .used)) .region h);
               survivor = λ x v h. let j = survivor-level b x v in subst (Open s T′) (sym (j .2)) (level-open s T′ t (j .0) (b .thread) (omega (arith, j .1, level-low b)) (omega (arith, j .1, depth-after)) (omega (arith, j .2)));
+              cells-size = X .size;
+              emptied = λ q z u. X .zero q (u .page) (kept₂ (pageAt q) (u .page) z) u;
+              kept = λ q n. X .same q (λ l z. n (was₂ (pageAt q) l z));
             }
 
-        pub has-ended : {M′ : List ℕ} → Rewritten (λ x. Held s w r x ⊎ Copies s W T x) W W₃ → Updated s r (s .entries) (entriesUsed (w .remember)) W₃ (w .remember) T M′ → HasEnded s t l r w (words W₃ M′ T′)
+        pub has-ended : {M′ : List ℕ} → Rewritten (λ x. Held s w r x ⊎ Copies s W T x) W W₃ → Updated s r (s .entries) (entriesUsed (w .remember)) W₃ (w .remember) T M′ → HasEnded s t l r w (words W₄ M′ T′)
         has-ended R u =
             record {
               cell = placed W;

@@ -38,13 +38,13 @@ pub fn evacuate(
     settle::rewrite::rewrite_slots(p, cells, remember, region);
     settle::settle(p, cells, remember, tables, list, n, region);
     settle::rewrite::rewrite_variables(p, cells, tables);
-    release::release(p, tables, notes, list, n, region, thread);
+    release::release(p, cells, tables, notes, list, n, region, thread);
 }
 
-// The same end where nothing survives: no mark is set, so nothing moves and nothing leads into the region. Its entries and its pages go.
+// The same end where nothing survives: no mark is set, so nothing moves and nothing leads into the region. Its entries, its cells and its pages go.
 pub fn evacuate_none(
     p: Sizes,
-    cells: &[u32],
+    cells: &mut [u32],
     remember: &mut [u32],
     tables: &mut [u32],
     notes: &mut [u32],
@@ -55,8 +55,8 @@ pub fn evacuate_none(
     requires { ⌜ ((c t : List ℕ) × Ending p thread level region (words c (now remember) t) (words (now cells) (now remember) (now tables)) × Accepted p region (words c (now remember) t)) ⌝ }
     requires { ⌜ ((page : ℕ) → page < p .pages → markOf p (now tables) page ≡ 0) ⌝ }
     requires { ⌜ noteWords ≤ length (now notes) ⌝ }
-    ensures { λ _. ⌜ ((c t : List ℕ) → Ending p thread level region (words c (now (remember .entry)) t) (words (now (cells .entry)) (now (remember .entry)) (now (tables .entry))) → Accepted p region (words c (now (remember .entry)) t) → HasEnded p thread level region (words c (now (remember .entry)) t) (words (now (cells .entry)) (now (remember .exit)) (now (tables .exit)))) ⌝ }
+    ensures { λ _. ⌜ ((c t : List ℕ) → Ending p thread level region (words c (now (remember .entry)) t) (words (now (cells .entry)) (now (remember .entry)) (now (tables .entry))) → Accepted p region (words c (now (remember .entry)) t) → HasEnded p thread level region (words c (now (remember .entry)) t) (words (now (cells .exit)) (now (remember .exit)) (now (tables .exit)))) ⌝ }
 {
     settle::entries::keep_entries(p, cells, remember, tables, region);
-    release::release_region(p, tables, notes, region, thread);
+    release::release_region(p, cells, tables, notes, region, thread);
 }

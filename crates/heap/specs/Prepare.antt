@@ -8,7 +8,7 @@ use lib.ListN.{getD, length, set, drop, replicate, length-set, length-append, le
 use lib.Seq.{ext-getD, getD-append-add, getD-drop}
 use Rattle.rules.specs.declared.Sizes.{Sizes}
 use Rattle.rules.specs.Terms.{InRange}
-use Rattle.layout.specs.Places.{withSizes, rememberWords, tablesWords}
+use Rattle.layout.specs.Places.{withSizes, cellsWords, rememberWords, tablesWords}
 use Rattle.lists.specs.Stores.{put, past}
 use Rattle.lists.specs.Zeros.{Cleared, cleared-to}
 use Rattle.layout.specs.Words.{Words, words}
@@ -120,6 +120,10 @@ remember-unused s l k b c =
     first zero h = put k 0 (s .entries) 0 (omega (arith, c .long))
     first (suc i) h = absurd (let z : ⊥ = omega arith in z)
 
+-- zeros alone
+cells-unused : (s : Sizes) (l k : List ℕ) → cellsWords s ≤ length l → Cleared 0 (cellsWords s) l k → k ≡ replicate (cellsWords s) 0 ++ drop (cellsWords s) l
+cells-unused s l k b c = headed [] (cellsWords s) l k (omega arith) b (c .long) (λ i x. absurd (let z : ⊥ = omega arith in z)) (λ i x y. c .zeros i x y) (λ i x. c .high i x)
+
 -- ---- prepare's promise from what it did
 
 pub asked-range : {s : Sizes} {w : Words} {q : ℕ} → PrepareAsked s w q → q ≡ 0 → InRange s × LongEnough s w
@@ -138,10 +142,10 @@ five-words s = omega arith
 pub asked-five : {s : Sizes} {w : Words} {q : ℕ} → PrepareAsked s w q → q ≡ 0 → 5 ≤ length (w .tables)
 asked-five {s} a z = omega (arith, five-words s, asked-range a z .1 .tables)
 
-pub prepared-done : {s s′ : Sizes} {c m t t₁ t₂ m₁ m₂ : List ℕ} {q x y : ℕ} → s ≡ s′ → PrepareAsked s (words c m t) q → q ≡ 0
-    → x ≡ tablesWords s → Cleared 0 x t t₁ → t₂ ≡ withSizes t₁ (s′ .threads) (s′ .variables) (s′ .depth) (s′ .pages) (s′ .entries)
-    → y ≡ rememberWords s → Cleared 0 y m m₁ → m₂ ≡ set m₁ 0 (s′ .entries) → Prepared s′ (words c m t) 0 (words c m₂ t₂)
-prepared-done {s} {s′} {c} {m} {t} {t₁} {t₂} {m₁} {m₂} {q} {x} {y} e a z u ct ft v cm fm =
+pub prepared-done : {s s′ : Sizes} {c m t c₁ t₁ t₂ m₁ m₂ : List ℕ} {q n x y : ℕ} → s ≡ s′ → PrepareAsked s (words c m t) q → q ≡ 0
+    → n ≡ cellsWords s → Cleared 0 n c c₁ → x ≡ tablesWords s → Cleared 0 x t t₁ → t₂ ≡ withSizes t₁ (s′ .threads) (s′ .variables) (s′ .depth) (s′ .pages) (s′ .entries)
+    → y ≡ rememberWords s → Cleared 0 y m m₁ → m₂ ≡ set m₁ 0 (s′ .entries) → Prepared s′ (words c m t) 0 (words c₁ m₂ t₂)
+prepared-done {s} {s′} {c} {m} {t} {c₁} {t₁} {t₂} {m₁} {m₂} {q} {n} {x} {y} e a z g cc u ct ft v cm fm =
     let ar = asked-range a z in
     let long : LongEnough s′ (words c m t) = subst (λ (k : Sizes). LongEnough k (words c m t)) e (ar .1) in
     record {
@@ -150,6 +154,6 @@ prepared-done {s} {s′} {c} {m} {t} {t₁} {t₂} {m₁} {m₂} {q} {x} {y} e a
       unused = λ k. record {
         tables = ft ∙ tables-unused s′ t t₁ (five-words s′) (long .tables) (cleared-to ct (u ∙ ap tablesWords e));
         remember = fm ∙ remember-unused s′ m m₁ (long .remember) (cleared-to cm (v ∙ ap rememberWords e));
-        cells = record { long = refl; rest = refl };
+        cells = cells-unused s′ c c₁ (long .cells) (cleared-to cc (g ∙ ap cellsWords e));
       };
     }

@@ -5,20 +5,8 @@ ghost use Prim.Native.Nat.{ℕ, _≤_};
 ghost use lib.ListN.{length};
 ghost use Rattle.layout.specs.Words.{words};
 ghost use Rattle.promises.specs.Promises.{PrepareAsked, Prepared};
-ghost use Rattle.heap.specs.Prepare.{Cleared, sizes};
+ghost use Rattle.heap.specs.Prepare.{sizes};
 use rules::Sizes;
-
-// The words `from` up to `to` become zero.
-fn clear(slice: &mut [u32], from: usize, to: usize)
-    requires { ⌜ (from ≤ to) × (to ≤ length (now slice)) ⌝ }
-    ensures { λ r. ⌜ Cleared from to (now (slice .entry)) (now (slice .exit)) ⌝ }
-{
-    let mut i = from;
-    while i < to {
-        slice[i] = 0;
-        i += 1;
-    }
-}
 
 // Questions 1 and 2, of slices of these lengths: the number of the one that says no, 0 if none does.
 fn ask(s: Sizes, cells: usize, remember: usize, tables: usize) -> u32
@@ -65,9 +53,10 @@ pub extern "C" fn taldreku_prepare(
     if q != 0 {
         return q;
     }
-    clear(tables, 0, layout::lengths::tables_words(s));
+    layout::clear(cells, 0, layout::lengths::cells_words(s));
+    layout::clear(tables, 0, layout::lengths::tables_words(s));
     layout::write_sizes(tables, threads, variables, depth, pages, entries);
-    clear(remember, 0, layout::lengths::remember_words(s));
+    layout::clear(remember, 0, layout::lengths::remember_words(s));
     layout::remember::set_entries(remember, entries);
     0
 }

@@ -115,7 +115,8 @@ module _ {w w′ : Words} {q : ℕ} (t v d p n : ℕ) (l : Lent w) (k : Prepared
   kept u e =
       let t = simp (length-append, length-replicate, length-drop) at (ap length (u .tables)) in
       let m = simp (length-append, length-replicate, length-drop) at (ap length (u .remember)) in
-      record { cells = u .cells .long ∙ l .cells; remember = omega (arith, l .remember, e .remember); tables = omega (arith, l .tables, e .tables) }
+      let c = simp (length-append, length-replicate, length-drop) at (ap length (u .cells)) in
+      record { cells = omega (arith, l .cells, e .cells); remember = omega (arith, l .remember, e .remember); tables = omega (arith, l .tables, e .tables) }
 
   done : q ≡ 0 → Accepted s → Begun (Numbers t v d p n) w (eqb q 0) w′
   unfolding takes Holds LineChanges Prepares

@@ -20,8 +20,8 @@ use Rattle.layout.specs.Marks.{marked}
 use Rattle.layout.specs.Objects.{Begins}
 use Rattle.layout.specs.Words.{words}
 use Rattle.promises.specs.Whole.{IsRef, ObjectsWhole}
-use Rattle.promises.specs.Areas.{markWords, workWords, Only, only-trans, mark-in, arrays-apart, tables-only, cells-only}
-use Rattle.promises.specs.Frames.{begins-frame, begins-was, objects-stay, objects-frame}
+use Rattle.promises.specs.Areas.{markWords, workWords, unusedWords, Only, only-trans, mark-in, arrays-apart, tables-only, cells-only}
+use Rattle.promises.specs.Frames.{begins-frame, begins-was, objects-frame}
 
 -- the region that owns the page of a cell
 abbrev pub owner : Sizes → List ℕ → ℕ → ℕ
@@ -159,9 +159,9 @@ module _ {p : Sizes} {W T W′ T′ : List ℕ} (k : Kept p W T W′ T′) where
     pub kept-owner : (c : ℕ) → pageOf c < p .pages → owner p T′ c ≡ owner p T c
     kept-owner c h = k .tables (ownersFrom p + pageOf c) (λ page l e. omega arith)
 
-    -- the working words are other words, and nothing else is
-    pub kept-only : (m : List ℕ) → Only (markWords ∷ workWords ∷ []) p (words W m T) (words W′ m T′)
-    kept-only m = only-trans other-marks other-works (objects-stay other-marks refl refl)
+    -- the working words are other words, those of cells not in use too, and nothing else is
+    pub kept-only : (m : List ℕ) → Only (markWords ∷ workWords ∷ unusedWords ∷ []) p (words W m T) (words W′ m T′)
+    kept-only m = only-trans other-marks other-works refl refl
       where
         other-marks : Only (markWords ∷ []) p (words W m T) (words W m T′)
         other-marks =
@@ -169,10 +169,10 @@ module _ {p : Sizes} {W T W′ T′ : List ℕ} (k : Kept p W T W′ T′) where
             (λ a n j x. k .tables j (λ page l. arrays-apart p a markWords j (markAt p page) n x (mark-in p page l)))
             (λ j l. k .tables j (λ page h e. omega (arith, count-room p)))
 
-        other-works : Only (workWords ∷ []) p (words W m T′) (words W′ m T′)
+        other-works : Only (workWords ∷ unusedWords ∷ []) p (words W m T′) (words W′ m T′)
         other-works =
-            cells-only p (words W m T′) W′ (workWords ∷ []) (λ n c b. kept-head c) (λ n. absurd (true-not-false (sym n)))
-            (λ n c b f l. kept-field c f (omega (arith, room-most (headOf W c)))) (record { long = k .cells-length; rest = drop-same (cellsWords p) W W′ (k .cells-length) (λ q h. k .cells q (λ c l e. omega arith)) })
+            cells-only p (words W m T′) W′ (workWords ∷ unusedWords ∷ []) (λ n c b. kept-head c) (λ n. absurd (true-not-false (sym n)))
+            (λ n c b f l. kept-field c f (omega (arith, room-most (headOf W c)))) (λ n. absurd (true-not-false (sym n))) (record { long = k .cells-length; rest = drop-same (cellsWords p) W W′ (k .cells-length) (λ q h. k .cells q (λ c l e. omega arith)) })
 
     pub kept-in-use : (c : ℕ) → Begins p W T c → Begins p W′ T′ c
     kept-in-use = begins-frame (kept-only []) refl refl

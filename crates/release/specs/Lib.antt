@@ -1,3 +1,4 @@
 -- The ending region's pages go back.
 pub mod Release
+pub mod Emptied
 pub mod Notes

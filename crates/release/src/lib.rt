@@ -1,15 +1,33 @@
-// Release: the pages of the ending region become free, its count 0, the depth of its thread one less.
+// Release: the cells of the ending region become zero, its pages free, its count 0, the depth of its thread one less.
 ghost use mathlib.Core.Path.{_≡_};
 ghost use Prim.Native.Nat.{_<_, _≤_};
 ghost use lib.ListN.{length};
 ghost use Rattle.lists.specs.Part.{Lists, Rises};
-ghost use Rattle.layout.specs.Places.{Room, ownerOf, depthOf};
+ghost use Rattle.layout.specs.Places.{Room, cellsWords, ownerOf, depthOf};
 ghost use Rattle.pages.specs.Pages.{noteWords};
 ghost use Rattle.rules.specs.Regions.{regions};
 ghost use Rattle.promises.specs.Regular.{Regular};
 ghost use Rattle.release.specs.Notes.{noted};
 ghost use Rattle.release.specs.Release.{Released, Ended};
+ghost use Rattle.release.specs.Emptied.{Emptied};
 use rules::Sizes;
+
+// The cells in use on the region's pages, which are those listed, become zero.
+pub fn clear_pages(p: Sizes, cells: &mut [u32], tables: &[u32], list: &[u32], n: usize, region: u32)
+    requires { ⌜ Room p (length (now tables)) ⌝ }
+    requires { ⌜ Regular p (now tables) ⌝ }
+    requires { ⌜ cellsWords p ≤ length (now cells) ⌝ }
+    requires { ⌜ Lists (λ page. ownerOf p (now tables) page ≡ region) (p .pages) n (now list) ⌝ }
+    ensures { λ _. ⌜ Emptied p region (p .pages) (now (tables .entry)) (now (cells .entry)) (now (cells .exit)) ⌝ }
+{
+    let mut i: usize = 0;
+    while i < n {
+        let page = layout::wide(list[i]);
+        let used = layout::wide(layout::tables::used(p, tables, page));
+        layout::cells::clear_cells(cells, page, used);
+        i += 1;
+    }
+}
 
 // The region's pages, which are those listed, become free.
 pub fn release_pages(p: Sizes, tables: &mut [u32], list: &[u32], n: usize, region: u32)
@@ -41,9 +59,10 @@ fn note_released(p: Sizes, notes: &mut [u32], list: &[u32], n: usize)
     }
 }
 
-// The end of a thread's region: its pages, its count, the thread's depth.
+// The end of a thread's region: its cells, its pages, its count, the thread's depth.
 pub fn release(
     p: Sizes,
+    cells: &mut [u32],
     tables: &mut [u32],
     notes: &mut [u32],
     list: &[u32],
@@ -52,12 +71,16 @@ pub fn release(
     thread: usize,
 )
     requires { ⌜ Room p (length (now tables)) ⌝ }
+    requires { ⌜ Regular p (now tables) ⌝ }
+    requires { ⌜ cellsWords p ≤ length (now cells) ⌝ }
     requires { ⌜ Lists (λ page. ownerOf p (now tables) page ≡ region) (p .pages) n (now list) ⌝ }
     requires { ⌜ (1 ≤ region) × (region ≤ regions p) ⌝ }
     requires { ⌜ (thread < p .threads) × (1 ≤ depthOf (now tables) thread) ⌝ }
     requires { ⌜ noteWords ≤ length (now notes) ⌝ }
     ensures { λ _. ⌜ Ended p region thread (now (tables .entry)) (now (tables .exit)) ⌝ }
+    ensures { λ _. ⌜ Emptied p region (p .pages) (now (tables .entry)) (now (cells .entry)) (now (cells .exit)) ⌝ }
 {
+    clear_pages(p, cells, tables, list, n, region);
     release_pages(p, tables, list, n, region);
     note_released(p, notes, list, n);
     layout::tables::set_count(p, tables, layout::wide(region), 0);
@@ -66,32 +89,50 @@ pub fn release(
 }
 
 // The same where the region's pages are not listed yet.
-fn list_and_release(p: Sizes, tables: &mut [u32], notes: &mut [u32], region: u32, thread: usize)
+fn list_and_release(
+    p: Sizes,
+    cells: &mut [u32],
+    tables: &mut [u32],
+    notes: &mut [u32],
+    region: u32,
+    thread: usize,
+)
     requires { ⌜ Room p (length (now tables)) ⌝ }
     requires { ⌜ Regular p (now tables) ⌝ }
+    requires { ⌜ cellsWords p ≤ length (now cells) ⌝ }
     requires { ⌜ (1 ≤ region) × (region ≤ regions p) ⌝ }
     requires { ⌜ (thread < p .threads) × (1 ≤ depthOf (now tables) thread) ⌝ }
     requires { ⌜ noteWords ≤ length (now notes) ⌝ }
     ensures { λ _. ⌜ Ended p region thread (now (tables .entry)) (now (tables .exit)) ⌝ }
+    ensures { λ _. ⌜ Emptied p region (p .pages) (now (tables .entry)) (now (cells .entry)) (now (cells .exit)) ⌝ }
 {
     let mut list = [0u32; 1024];
     let n = pages::list_pages(p, tables, region, &mut list);
-    release(p, tables, notes, &list, n, region, thread);
+    release(p, cells, tables, notes, &list, n, region, thread);
 }
 
 // The same: a region without objects has no pages, and needs no list.
-pub fn release_region(p: Sizes, tables: &mut [u32], notes: &mut [u32], region: u32, thread: usize)
+pub fn release_region(
+    p: Sizes,
+    cells: &mut [u32],
+    tables: &mut [u32],
+    notes: &mut [u32],
+    region: u32,
+    thread: usize,
+)
     requires { ⌜ Room p (length (now tables)) ⌝ }
     requires { ⌜ Regular p (now tables) ⌝ }
+    requires { ⌜ cellsWords p ≤ length (now cells) ⌝ }
     requires { ⌜ (1 ≤ region) × (region ≤ regions p) ⌝ }
     requires { ⌜ (thread < p .threads) × (1 ≤ depthOf (now tables) thread) ⌝ }
     requires { ⌜ noteWords ≤ length (now notes) ⌝ }
     ensures { λ _. ⌜ Ended p region thread (now (tables .entry)) (now (tables .exit)) ⌝ }
+    ensures { λ _. ⌜ Emptied p region (p .pages) (now (tables .entry)) (now (cells .entry)) (now (cells .exit)) ⌝ }
 {
     if layout::tables::count(p, tables, layout::wide(region)) != 0 {
-        list_and_release(p, tables, notes, region, thread);
+        list_and_release(p, cells, tables, notes, region, thread);
     } else {
         let none = [0u32; 1];
-        release(p, tables, notes, &none, 0, region, thread);
+        release(p, cells, tables, notes, &none, 0, region, thread);
     }
 }

@@ -115,10 +115,10 @@ same-length-9 c = search needs
 
 returns-3 : tie.Need-returns-3
 returns-3 c =
-    let a = c .before .before .before .before .before .before .before .before .before .before .before .before .before .before .before .before .before .before .before .before .before .before .before .before .before .before .before .before .before .before .args in
-    let m = ending (c .before .before .before .before .before .before .before .before .before .before .before .before .before .before .before .before .before) in
-    let yes = accepted m (free-way m (unmarked (c .before .before .before .before .before .before .before .before .before .before .before .before .before .before .before .before .before) (c .before .before .before .before .before .before .before .before .before .before .before .before .if2 .left))) in
-    did-answer (c .done .ensures) (ended-here m yes (c .before .before .before .before .before .before .before .evacuate-none .ensures (a .cells .now) (a .tables .now) m yes))
+    let a = c .before .before .before .before .before .before .before .before .before .before .before .before .before .before .before .before .before .before .before .before .before .before .before .before .before .before .before .before .before .before .before .before .args in
+    let m = ending (c .before .before .before .before .before .before .before .before .before .before .before .before .before .before .before .before .before .before .before) in
+    let yes = accepted m (free-way m (unmarked (c .before .before .before .before .before .before .before .before .before .before .before .before .before .before .before .before .before .before .before) (c .before .before .before .before .before .before .before .before .before .before .before .before .before .before .if2 .left))) in
+    did-answer (c .done .ensures) (ended-here m yes (c .before .before .before .before .before .before .before .before .before .evacuate-none .ensures (a .cells .now) (a .tables .now) m yes))
 
 pub end-spec : {M : Type 1} → statement M
 end-spec =

@@ -2,7 +2,7 @@
 use native.Mathlib.Omega.{arith}
 use mathlib.Core.Path.{_∙_}
 use Rattle.ending.specs.Rewriting.{rewritten-both}
-use Rattle.ending.specs.Finish.{variables-ask}
+use Rattle.ending.specs.Finish.{variables-ask, regular₂}
 use Rattle.ending.specs.Ending.{level-low}
 use Rattle.mark.specs.MarkedWords.{unlisted}
 use Rattle.ending.specs.PagesEnough.{plan}
@@ -39,33 +39,35 @@ rewrite-variables-requires c κs =
 
 release-requires : tie.Need-release-requires
 release-requires c κs =
-    let pre = c .before .before .before .before .before .before .before .before .before .before .before .before .before .before .before .before .before .before .before .before .before .before .before .before .before .before .before .before .before .before .before .before .before .before .before .before .pre in
+    let pre = c .before .before .before .before .before .before .before .before .before .before .before .before .before .before .before .before .before .before .before .before .before .before .before .before .before .before .before .before .before .before .before .before .before .before .before .before .before .pre in
     let e = pre .0 .2 in
     let p = plan e (pre .0 .3 .pages) in
-    let k = c .before .before .before .before .before .before .before .before .before .before .before .before .before .before .before .before .before .before .before .before .before .before .before .before .before .before .copy-survivors .ensures in
-    let v = c .before .before .before .before .rewrite-variables .ensures in
+    let k = c .before .before .before .before .before .before .before .before .before .before .before .before .before .before .before .before .before .before .before .before .before .before .before .before .before .before .before .copy-survivors .ensures in
+    let h = st.moved e p k in
+    let v = c .before .before .before .before .before .rewrite-variables .ensures in
     let z = st.release-ask e p k v in
-    (z .0, (st.pages-ask e p k v (st.listed e (pre .1 .0)), (st.bounds e, ((e .thread, omega (arith, z .1, e .epoch)), omega (arith, pre .1 .1 .1 .0, c .before .before .before .before .before .before .before .before .before .before .before .before .before .before .before .before .before .before .before .before .before .before .before .before .before .before .copy-survivors .kept .1 .1 .1 .0)))))
+    (z .0, (regular₂ h v, (omega (arith, h .ready .cells-long, c .before .before .before .before .before .before .before .before .before .before .before .before .before .before .before .before .before .before .rewrite-slots .ensures .size, c .before .before .before .before .before .before .before .before .before .before .before .before .settle .ensures .0 .size), (st.pages-ask e p k v (st.listed e (pre .1 .0)), (st.bounds e, ((e .thread, omega (arith, z .1, e .epoch)), omega (arith, pre .1 .1 .1 .0, c .before .before .before .before .before .before .before .before .before .before .before .before .before .before .before .before .before .before .before .before .before .before .before .before .before .before .before .copy-survivors .kept .1 .1 .1 .0)))))))
 
 same-length : tie.Need-same-length
-same-length c = c .before .before .before .before .before .before .before .before .before .before .before .before .before .before .before .before .settle .kept .1 .0 ∙ c .before .before .before .before .before .before .before .before .before .before .before .before .before .before .before .before .before .before .before .before .before .before .rewrite-slots .kept .1 .0 ∙ c .before .before .before .before .before .before .before .before .before .before .before .before .before .before .before .before .before .before .before .before .before .before .before .before .before .before .before .before .before .before .before .copy-survivors .kept .1 .0
+same-length c = c .before .before .before .before .before .before .release .kept .1 .0 ∙ c .before .before .before .before .before .before .before .before .before .before .before .before .before .before .before .before .before .before .before .settle .kept .1 .0 ∙ c .before .before .before .before .before .before .before .before .before .before .before .before .before .before .before .before .before .before .before .before .before .before .before .before .before .rewrite-slots .kept .1 .0 ∙ c .before .before .before .before .before .before .before .before .before .before .before .before .before .before .before .before .before .before .before .before .before .before .before .before .before .before .before .before .before .before .before .before .before .before .copy-survivors .kept .1 .0
 
 same-length-2 : tie.Need-same-length-2
-same-length-2 c = c .before .before .before .before .before .before .before .before .before .before .before .before .before .before .before .before .settle .kept .1 .1 .0
+same-length-2 c = c .before .before .before .before .before .before .before .before .before .before .before .before .before .before .before .before .before .before .before .settle .kept .1 .1 .0
 
 same-length-3 : tie.Need-same-length-3
-same-length-3 c = c .before .before .before .before .release .kept .1 .0 ∙ c .before .before .before .before .before .before .before .before .before .rewrite-variables .kept .1 .1 .0 ∙ c .before .before .before .before .before .before .before .before .before .before .before .before .before .before .before .before .before .before .before .before .before .before .before .before .before .before .before .before .before .before .before .copy-survivors .kept .1 .1 .0
+same-length-3 c = c .before .before .before .before .before .before .release .kept .1 .1 .0 ∙ c .before .before .before .before .before .before .before .before .before .before .before .before .rewrite-variables .kept .1 .1 .0 ∙ c .before .before .before .before .before .before .before .before .before .before .before .before .before .before .before .before .before .before .before .before .before .before .before .before .before .before .before .before .before .before .before .before .before .before .copy-survivors .kept .1 .1 .0
 
 same-length-4 : tie.Need-same-length-4
-same-length-4 c = c .before .before .before .before .release .kept .1 .1 .0 ∙ c .before .before .before .before .before .before .before .before .before .before .before .before .before .before .before .before .before .before .before .before .before .before .before .before .before .before .before .before .before .before .before .copy-survivors .kept .1 .1 .1 .0
+same-length-4 c = c .before .before .before .before .before .before .release .kept .1 .1 .1 .0 ∙ c .before .before .before .before .before .before .before .before .before .before .before .before .before .before .before .before .before .before .before .before .before .before .before .before .before .before .before .before .before .before .before .before .before .before .copy-survivors .kept .1 .1 .1 .0
 
 returns : tie.Need-returns
 returns c cells tables e a =
-    let settle = c .before .before .before .before .before .before .before .before .before .before .before .before .before .before .before .before .settle in
+    let settle = c .before .before .before .before .before .before .before .before .before .before .before .before .before .before .before .before .before .before .before .settle in
+    let release = c .before .before .before .before .before .before .release in
     let p = plan e (a .pages) in
-    let k = c .before .before .before .before .before .before .before .before .before .before .before .before .before .before .before .before .before .before .before .before .before .before .before .before .before .before .before .before .before .before .before .copy-survivors .ensures in
+    let k = c .before .before .before .before .before .before .before .before .before .before .before .before .before .before .before .before .before .before .before .before .before .before .before .before .before .before .before .before .before .before .before .before .before .before .copy-survivors .ensures in
     let h = st.moved e p k in
-    st.has-ended e p k (c .before .before .before .before .before .before .before .before .before .rewrite-variables .ensures) (c .before .before .before .before .release .ensures) (rewritten-both h (st.held e) (c .before .before .before .before .before .before .before .before .before .before .before .before .before .before .before .before .before .before .before .before .before .before .rewrite-slots .ensures) (settle .ensures .0)) (settle .ensures .1)
+    st.has-ended e p k (c .before .before .before .before .before .before .before .before .before .before .before .before .rewrite-variables .ensures) (release .ensures .0) (release .ensures .1) (rewritten-both h (st.held e) (c .before .before .before .before .before .before .before .before .before .before .before .before .before .before .before .before .before .before .before .before .before .before .before .before .before .rewrite-slots .ensures) (settle .ensures .0)) (settle .ensures .1)
 
 pub evacuate-spec : {M : Type 1} → statement M
 evacuate-spec =

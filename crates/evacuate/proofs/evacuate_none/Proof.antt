@@ -1,4 +1,4 @@
--- Nothing moves: the entries are those of the words as they are, and the region's pages go.
+-- Nothing moves: the entries are those of the words as they are, and the region's cells and pages go.
 use native.Mathlib.Omega.{arith}
 use Rattle.ending.specs.Ending.{depth-now}
 use Rattle.ending.specs.PagesEnough.{plan}
@@ -9,32 +9,36 @@ use Rattle.evacuate.proofs.evacuate_none.Tie as tie
 
 keep-entries-requires : tie.Need-keep-entries-requires
 keep-entries-requires c κs =
-    let pre = c .before .before .before .before .before .before .pre in
+    let pre = c .before .before .before .before .before .before .before .pre in
     let e = pre .0 .2 in
     let p = plan e (pre .0 .3 .pages) in
     (none-update e (pre .1 .0) p (pre .0 .3 .entries), none-copies e (pre .1 .0) p)
 
 release-region-requires : tie.Need-release-region-requires
 release-region-requires c κs =
-    let pre = c .before .before .before .before .before .before .before .before .before .before .before .pre in
+    let pre = c .before .before .before .before .before .before .before .before .before .before .before .before .before .pre in
     let e = pre .0 .2 in
     let p = plan e (pre .0 .3 .pages) in
-    (p .ready .room, (p .ready .regular, (st.bounds e, ((e .thread, omega (arith, depth-now e, e .epoch)), pre .1 .1))))
+    (p .ready .room, (p .ready .regular, (p .ready .cells-long, (st.bounds e, ((e .thread, omega (arith, depth-now e, e .epoch)), pre .1 .1)))))
 
 same-length : tie.Need-same-length
-same-length c = c .before .before .before .before .before .before .before .before .before .keep-entries .kept .1 .1 .0
+same-length c = c .before .before .before .before .before .before .release-region .kept .1 .0
 
 same-length-2 : tie.Need-same-length-2
-same-length-2 c = c .before .before .before .before .release-region .kept .1 .0
+same-length-2 c = c .before .before .before .before .before .before .before .before .before .before .before .before .keep-entries .kept .1 .1 .0
 
 same-length-3 : tie.Need-same-length-3
-same-length-3 c = c .before .before .before .before .release-region .kept .1 .1 .0
+same-length-3 c = c .before .before .before .before .before .before .release-region .kept .1 .1 .0
+
+same-length-4 : tie.Need-same-length-4
+same-length-4 c = c .before .before .before .before .before .before .release-region .kept .1 .1 .1 .0
 
 returns : tie.Need-returns
 returns c cells tables e a =
-    let off = c .before .before .before .before .before .before .before .before .before .before .before .before .before .before .before .before .pre .1 .0 in
+    let off = c .before .before .before .before .before .before .before .before .before .before .before .before .before .before .before .before .before .before .before .before .pre .1 .0 in
     let p = plan e (a .pages) in
-    st.has-ended e p (none-copied e off) (none-variables e off) (c .before .before .before .before .release-region .ensures) (none-rewritten e off p) (c .before .before .before .before .before .before .before .before .before .keep-entries .ensures)
+    let release = c .before .before .before .before .before .before .release-region in
+    st.has-ended e p (none-copied e off) (none-variables e off) (release .ensures .0) (release .ensures .1) (none-rewritten e off p) (c .before .before .before .before .before .before .before .before .before .before .before .before .keep-entries .ensures)
 
 pub evacuate-none-spec : {M : Type 1} → statement M
 evacuate-none-spec =
@@ -45,4 +49,5 @@ evacuate-none-spec =
     same-length
     same-length-2
     same-length-3
+    same-length-4
     returns)

@@ -11,64 +11,77 @@ use Rattle.release.specs.Release.{kept-depth}
 use Rattle.release.proofs.release.Statement.{statement}
 use Rattle.release.proofs.release.Tie as tie
 
+clear-pages-requires : tie.Need-clear-pages-requires
+clear-pages-requires c κs = let pre = c .before .before .before .before .before .before .pre in (pre .0, (pre .1 .0, (pre .1 .1 .0, pre .1 .1 .1 .0)))
+
 release-pages-requires : tie.Need-release-pages-requires
-release-pages-requires c κs = (c .before .before .before .before .pre .0, c .before .before .before .before .pre .1 .0)
+release-pages-requires c κs = let pre = c .before .before .before .before .before .before .before .before .before .before .pre in (pre .0, pre .1 .1 .1 .0)
 
 note-released-requires : tie.Need-note-released-requires
-note-released-requires c κs = (c .before .before .before .before .before .before .before .before .pre .1 .0 .rises, (c .before .before .before .before .before .before .before .before .pre .0 .few, c .before .before .before .before .before .before .before .before .pre .1 .1 .1 .1))
+note-released-requires c κs =
+    let pre = c .before .before .before .before .before .before .before .before .before .before .before .before .before .before .pre in
+    (pre .1 .1 .1 .0 .rises, (pre .0 .few, pre .1 .1 .1 .1 .1 .1))
 
 wide-requires : tie.Need-wide-requires
 wide-requires c κs = search needs
 
 set-count-requires : tie.Need-set-count-requires
 set-count-requires c κs =
-    let pre = c .before .before .before .before .before .before .before .before .before .before .before .before .before .pre in
-    (room-same (c .before .before .before .before .before .before .before .before .release-pages .kept .1 .0) (pre .0), (omega (arith, c .wide .ensures, pre .1 .1 .0), omega (arith, c .wide .ensures, pre .1 .1 .0)))
+    let pre = c .before .before .before .before .before .before .before .before .before .before .before .before .before .before .before .before .before .before .before .pre in
+    let region = pre .1 .1 .1 .1 .0 in
+    (room-same (c .before .before .before .before .before .before .before .before .release-pages .kept .1 .0) (pre .0), (omega (arith, c .wide .ensures, region), omega (arith, c .wide .ensures, region)))
 
 depth-requires : tie.Need-depth-requires
 depth-requires c κs =
-    let pre = c .before .before .before .before .before .before .before .before .before .before .before .before .before .before .before .before .before .pre in
-    (room-same (c .before .before .before .set-count .kept .1 .0 ∙ c .before .before .before .before .before .before .before .before .before .before .before .before .release-pages .kept .1 .0) (pre .0), pre .1 .1 .1 .0 .0)
+    let pre = c .before .before .before .before .before .before .before .before .before .before .before .before .before .before .before .before .before .before .before .before .before .before .before .pre in
+    (room-same (c .before .before .before .set-count .kept .1 .0 ∙ c .before .before .before .before .before .before .before .before .before .before .before .before .release-pages .kept .1 .0) (pre .0), pre .1 .1 .1 .1 .1 .0 .0)
 
 sub-set-depth : tie.Need-sub-set-depth
 sub-set-depth c =
-    let pre = c .before .before .before .before .before .before .before .before .before .before .before .before .before .before .before .before .before .before .before .pre in
-    omega (arith, c .before .depth .ensures, pre .1 .1 .1 .0, kept-depth (c .before .before .before .before .before .before .wide .result) (pre .0) (c .before .before .before .before .before .before .before .before .before .before .before .before .before .before .release-pages .ensures) (pre .1 .1 .1 .0 .0) (c .before .before .before .before .before .set-count .ensures))
+    let pre = c .before .before .before .before .before .before .before .before .before .before .before .before .before .before .before .before .before .before .before .before .before .before .before .before .before .pre in
+    let thread = pre .1 .1 .1 .1 .1 .0 in
+    omega (arith, c .before .depth .ensures, thread, kept-depth (c .before .before .before .before .before .before .wide .result) (pre .0) (c .before .before .before .before .before .before .before .before .before .before .before .before .before .before .release-pages .ensures) (thread .0) (c .before .before .before .before .before .set-count .ensures))
 
 set-depth-requires : tie.Need-set-depth-requires
 set-depth-requires c κs =
-    let pre = c .before .before .before .before .before .before .before .before .before .before .before .before .before .before .before .before .before .before .before .pre in
-    (room-same (c .before .before .before .before .before .set-count .kept .1 .0 ∙ c .before .before .before .before .before .before .before .before .before .before .before .before .before .before .release-pages .kept .1 .0) (pre .0), pre .1 .1 .1 .0 .0)
+    let pre = c .before .before .before .before .before .before .before .before .before .before .before .before .before .before .before .before .before .before .before .before .before .before .before .before .before .pre in
+    (room-same (c .before .before .before .before .before .set-count .kept .1 .0 ∙ c .before .before .before .before .before .before .before .before .before .before .before .before .before .before .release-pages .kept .1 .0) (pre .0), pre .1 .1 .1 .1 .1 .0 .0)
 
 same-length : tie.Need-same-length
-same-length c = c .before .before .set-depth .kept .1 .0 ∙ c .before .before .before .before .before .before .before .before .set-count .kept .1 .0 ∙ c .before .before .before .before .before .before .before .before .before .before .before .before .before .before .before .before .before .release-pages .kept .1 .0
+same-length c = c .before .before .before .before .before .before .before .before .before .before .before .before .before .before .before .before .before .before .before .before .before .clear-pages .kept .1 .0
 
 same-length-2 : tie.Need-same-length-2
-same-length-2 c = c .before .before .before .before .before .before .before .before .before .before .before .before .before .note-released .kept .1 .0
+same-length-2 c = c .before .before .set-depth .kept .1 .0 ∙ c .before .before .before .before .before .before .before .before .set-count .kept .1 .0 ∙ c .before .before .before .before .before .before .before .before .before .before .before .before .before .before .before .before .before .release-pages .kept .1 .0
+
+same-length-3 : tie.Need-same-length-3
+same-length-3 c = c .before .before .before .before .before .before .before .before .before .before .before .before .before .note-released .kept .1 .0
 
 returns : tie.Need-returns
 returns c =
-    let pre = c .before .before .before .before .before .before .before .before .before .before .before .before .before .before .before .before .before .before .before .before .before .before .pre in
+    let pre = c .before .before .before .before .before .before .before .before .before .before .before .before .before .before .before .before .before .before .before .before .before .before .before .before .before .before .before .before .pre in
     let release-pages = c .before .before .before .before .before .before .before .before .before .before .before .before .before .before .before .before .before .release-pages in
     let wide = c .before .before .before .before .before .before .before .before .before .wide in
     let set-count = c .before .before .before .before .before .before .before .before .set-count in
-    let a = c .before .before .before .before .before .before .before .before .before .before .before .before .before .before .before .before .before .before .before .before .before .before .args in
+    let a = c .before .before .before .before .before .before .before .before .before .before .before .before .before .before .before .before .before .before .before .before .before .before .before .before .before .before .before .before .args in
     let X : List ℕ = release-pages .last .1 .0 in
-    let d = kept-depth (wide .result) (pre .0) (release-pages .ensures) (pre .1 .1 .1 .0 .0) (set-count .ensures) in
-    record {
-      mid = X;
-      pages = release-pages .ensures;
-      tables =
-          c .before .before .set-depth .ensures
-          ∙ ap (λ (x : ℕ). set (set-count .last .1 .0) (depthAt (a .thread)) (x - 1)) (c .before .before .before .before .depth .ensures ∙ d)
-          ∙ ap (λ (Y : List ℕ). set Y (depthAt (a .thread)) (depthOf (a .tables .now) (a .thread) - 1))
-          (set-count .ensures ∙ ap (λ (g : ℕ). set X (countAt (a .p) g) 0) (wide .ensures));
-    }
+    let d = kept-depth (wide .result) (pre .0) (release-pages .ensures) (pre .1 .1 .1 .1 .1 .0 .0) (set-count .ensures) in (
+      record {
+        mid = X;
+        pages = release-pages .ensures;
+        tables =
+            c .before .before .set-depth .ensures
+            ∙ ap (λ (x : ℕ). set (set-count .last .1 .0) (depthAt (a .thread)) (x - 1)) (c .before .before .before .before .depth .ensures ∙ d)
+            ∙ ap (λ (Y : List ℕ). set Y (depthAt (a .thread)) (depthOf (a .tables .now) (a .thread) - 1))
+            (set-count .ensures ∙ ap (λ (g : ℕ). set X (countAt (a .p) g) 0) (wide .ensures));
+      },
+      c .before .before .before .before .before .before .before .before .before .before .before .before .before .before .before .before .before .before .before .before .before .clear-pages .ensures,
+    )
 
 pub release-spec : {M : Type 1} → statement M
 release-spec =
     tie.close
     (tie.spec
+    clear-pages-requires
     release-pages-requires
     note-released-requires
     wide-requires
@@ -78,4 +91,5 @@ release-spec =
     set-depth-requires
     same-length
     same-length-2
+    same-length-3
     returns)

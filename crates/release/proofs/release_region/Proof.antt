@@ -22,10 +22,11 @@ slice-aggregate-release c = search needs
 
 release-requires : tie.Need-release-requires
 release-requires c κs =
-    let pre = c .before .before .before .before .before .before .before .before .before .pre in
-    let a = c .before .before .before .before .before .before .before .before .before .args in
-    let z = ap (λ (g : ℕ). countOf (a .p) (a .tables .now) g) (sym (c .before .before .before .before .before .wide .ensures)) ∙ sym (c .before .before .before .before .count .ensures) ∙ c .before .before .before .if1 .left in
-    (pre .0, (lists-none _ (none-owned (pre .1 .0) (a .region) (pre .1 .1 .0 .0) (pre .1 .1 .0 .1) z), pre .1 .1))
+    let pre = c .before .before .before .before .before .before .before .before .before .before .before .pre in
+    let a = c .before .before .before .before .before .before .before .before .before .before .before .args in
+    let region = pre .1 .1 .1 .0 in
+    let z = ap (λ (g : ℕ). countOf (a .p) (a .tables .now) g) (sym (c .before .before .before .before .before .before .wide .ensures)) ∙ sym (c .before .before .before .before .before .count .ensures) ∙ c .before .before .before .before .if1 .left in
+    (pre .0, (pre .1 .0, (pre .1 .1 .0, (lists-none _ (none-owned (pre .1 .0) (a .region) (region .0) (region .1) z), pre .1 .1 .1))))
 
 same-length : tie.Need-same-length
 same-length c = search needs
@@ -33,14 +34,20 @@ same-length c = search needs
 same-length-2 : tie.Need-same-length-2
 same-length-2 c = search needs
 
-returns : tie.Need-returns
-returns c = search needs
-
 same-length-3 : tie.Need-same-length-3
 same-length-3 c = search needs
 
+returns : tie.Need-returns
+returns c = search needs
+
 same-length-4 : tie.Need-same-length-4
 same-length-4 c = search needs
+
+same-length-5 : tie.Need-same-length-5
+same-length-5 c = search needs
+
+same-length-6 : tie.Need-same-length-6
+same-length-6 c = search needs
 
 returns-2 : tie.Need-returns-2
 returns-2 c = search needs
@@ -56,9 +63,9 @@ release-region-spec =
     release-requires
     same-length
     same-length-2
-    returns
     same-length-3
+    returns
     same-length-4
+    same-length-5
+    same-length-6
     returns-2)
-
---
