@@ -1,5 +1,5 @@
-/* The check of the tables by hand, for the row that measures ours alone: two passes over the pages, one over the cells in use, one over
- * the remember table. */
+/* The check of the tables by hand, for the rows that measure ours alone: a pass over the pages, one over the cells, one over the remember
+ * table. */
 #include "plain.h"
 
 #include <string.h>
@@ -42,10 +42,16 @@ static int pages_whole(const Lent *l) {
     return memcmp(objects + 1, l->counts, regions * sizeof *objects) == 0;
 }
 
-/* The form of every cell in use; how many slots cross. */
+static int is_zero(const uint32_t *cell) {
+    uint32_t any = 0;
+    for (uint32_t i = 0; i < 16; i++) any |= cell[i];
+    return any == 0;
+}
+
+/* The form of every cell in use, and that the others are zero; how many slots cross. */
 static int cells_whole(const Lent *l, uint32_t *crossing) {
     uint32_t n = 0;
-    for (uint32_t page = 0; page < l->pages; page++)
+    for (uint32_t page = 0; page < l->pages; page++) {
         for (uint32_t place = 0; place < l->used[page]; place++) {
             const uint32_t *cell = l->cells + 16 * (16 * page + place);
             uint32_t refs = cell[0] / 16, all = refs + cell[0] % 16, rest = cell[1];
@@ -57,6 +63,9 @@ static int cells_whole(const Lent *l, uint32_t *crossing) {
             for (uint32_t f = all; f < 14; f++) rest |= cell[2 + f];
             if (rest != 0) return 0;
         }
+        for (uint32_t place = l->used[page]; place < 16; place++)
+            if (!is_zero(l->cells + 16 * (16 * page + place))) return 0;
+    }
     *crossing = n;
     return 1;
 }
