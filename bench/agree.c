@@ -1,5 +1,5 @@
-/* Whether two heaps that obeyed the same commands are the same but for what 01 leaves open: the cell that an object takes, the order of the
- * remember entries and the cells not in use. Objects are paired from the variables on. */
+/* Whether two heaps that obeyed the same commands are the same but for what 01 leaves open: the cell that an object takes and the order of the
+ * remember entries. Objects are paired from the variables on. Cells not in use must be zero in both. */
 #include "agree.h"
 
 #include <string.h>
@@ -8,7 +8,7 @@ enum { CELLS = 16384, WORDS = 16 * CELLS };
 
 typedef struct {
     uint32_t threads, variables, depth, pages, entries;
-    const uint32_t *cells, *depths, *vars, *owners, *counts, *slots, *slot_regions;
+    const uint32_t *cells, *depths, *vars, *owners, *used, *counts, *slots, *slot_regions;
     uint32_t crossing;
 } View;
 
@@ -17,6 +17,7 @@ static View view(const Lent *l) {
     View v = {.threads = t[0], .variables = t[1], .depth = t[2], .pages = t[3], .entries = t[4], .cells = l->cells, .depths = t + 5};
     v.vars = v.depths + v.threads;
     v.owners = v.vars + v.threads * v.variables;
+    v.used = v.owners + v.pages;
     v.counts = v.owners + 3 * v.pages;
     v.crossing = l->remember[1];
     v.slots = l->remember + 2;
@@ -49,6 +50,13 @@ static int partners_agree(const View *a, const View *b, uint32_t x) {
     return memcmp(c + 2 + refs, d + 2 + refs, (14 - refs) * sizeof *c) == 0;
 }
 
+static int unused_zero(const View *v) {
+    for (uint32_t page = 0; page < v->pages; page++)
+        for (uint32_t word = 16 * v->used[page]; word < 256; word++)
+            if (v->cells[256 * page + word] != 0) return 0;
+    return 1;
+}
+
 /* The entries of paired slots are the same, and there are as many of the others. */
 static int entries_agree(const View *a, const View *b) {
     uint32_t paired = 0;
@@ -78,5 +86,5 @@ int agree(const Lent *left, const Lent *right) {
         if (!pair(a.vars[i], b.vars[i])) return 0;
     while (pending != 0)
         if (!partners_agree(&a, &b, stack[--pending])) return 0;
-    return entries_agree(&a, &b);
+    return entries_agree(&a, &b) && unused_zero(&a) && unused_zero(&b);
 }

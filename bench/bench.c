@@ -118,6 +118,40 @@ static uint32_t check_by_hand(uint32_t *cells, size_t cells_words, uint32_t *rem
     return plain_check(cells, cells_words, remember, remember_words, tables, tables_words);
 }
 
+/* A heap is prepared anew with the sizes that it has; by hand too; or all of its words are cleared. The last is not inlined: bench/counts looks
+ * for its name. */
+static uint32_t prepare_anew(uint32_t *cells, size_t cells_words, uint32_t *remember, size_t remember_words, uint32_t *tables,
+                             size_t tables_words, const uint32_t *block, size_t block_words, uint32_t *answers, size_t answers_words) {
+    (void)block, (void)block_words, (void)answers, (void)answers_words;
+    return taldreku_prepare(tables[0], tables[1], tables[2], tables[3], tables[4], cells, cells_words, remember, remember_words, tables,
+                            tables_words);
+}
+
+static uint32_t prepare_by_hand(uint32_t *cells, size_t cells_words, uint32_t *remember, size_t remember_words, uint32_t *tables,
+                                size_t tables_words, const uint32_t *block, size_t block_words, uint32_t *answers, size_t answers_words) {
+    (void)block, (void)block_words, (void)answers, (void)answers_words;
+    return plain_prepare(tables[0], tables[1], tables[2], tables[3], tables[4], cells, cells_words, remember, remember_words, tables,
+                         tables_words);
+}
+
+__attribute__((noinline)) static uint32_t memset_alone(uint32_t *cells, size_t cells_words, uint32_t *remember, size_t remember_words,
+                                                       uint32_t *tables, size_t tables_words, const uint32_t *block, size_t block_words,
+                                                       uint32_t *answers, size_t answers_words) {
+    (void)block, (void)block_words, (void)answers, (void)answers_words;
+    memset(cells, 0, cells_words * sizeof *cells);
+    memset(remember, 0, remember_words * sizeof *remember);
+    memset(tables, 0, tables_words * sizeof *tables);
+    return TALDREKU_DONE;
+}
+
+static Run by_hand(const Workload *w) {
+    switch (w->what) {
+    case PREPARE: return prepare_by_hand;
+    case PREPARE_MEMSET: return memset_alone;
+    default: return w->timed.commands == 0 ? check_by_hand : plain_run;
+    }
+}
+
 static void same_tables(const Workload *w, Lent *ours, Lent *plain) {
     if (run_block(taldreku_run, plain, NULL, 0, NULL) != TALDREKU_DONE) stop(w->name, "the hand-written heap's tables are not whole");
     if (run_block(check_by_hand, ours, NULL, 0, NULL) != TALDREKU_DONE) stop(w->name, "our tables fail the check by hand");
@@ -136,7 +170,7 @@ static Times measure(const Workload *w) {
     Lent kept[2] = {lend(w), lend(w)}, heap[2] = {lend(w), lend(w)};
     size_t most = w->before.commands > w->timed.commands ? w->before.commands : w->timed.commands;
     uint32_t *answers[2] = {room(2 * most), room(2 * most)};
-    Run by_hand = w->timed.commands == 0 ? check_by_hand : plain_run;
+    Run calls[2] = {w->what == BLOCKS ? taldreku_run : prepare_anew, by_hand(w)};
 
     if (taldreku_prepare(w->threads, w->variables, w->depth, w->pages, w->entries, kept[0].cells, kept[0].cells_words, kept[0].remember,
                          kept[0].remember_words, kept[0].tables, kept[0].tables_words) != TALDREKU_DONE
@@ -154,12 +188,14 @@ static Times measure(const Workload *w) {
         for (size_t k = 0; k < 2; k++) {
             size_t side = (n + k) % 2;
             restore(&heap[side], &kept[side]);
-            time_stream(side == 0 ? taldreku_run : by_hand, &heap[side], w, answers[side], (side == 0 ? ours : plain) + n * blocks);
+            time_stream(calls[side], &heap[side], w, answers[side], (side == 0 ? ours : plain) + n * blocks);
         }
         if (memcmp(answers[0], answers[1], 2 * w->timed.commands * sizeof(uint32_t)) != 0) stop(w->name, "the answers differ");
-        if (n == 0) same_tables(w, &heap[0], &heap[1]);
-        restore(&heap[0], &kept[0]);
-        time_checks(taldreku_run, &heap[0], w, answers[0], checks + n * blocks);
+        if (n == 0 && w->what != PREPARE_MEMSET) same_tables(w, &heap[0], &heap[1]);
+        if (w->what == BLOCKS) {
+            restore(&heap[0], &kept[0]);
+            time_checks(taldreku_run, &heap[0], w, answers[0], checks + n * blocks);
+        }
     }
     Times t = {.ours = typical(ours, blocks, n), .checks = typical(checks, blocks, n), .plain = typical(plain, blocks, n)};
     free(ours);
@@ -246,6 +282,8 @@ static void by_heaps(void) {
     row(check("the check alone, no object", 0, 0));
     row(check("the check alone, 16,000 objects", 16000, 0));
     row(check("the check alone, 8,000 objects, 4,000 entries", 8000, 4000));
+    row(prepare("prepare, 1,024 pages", PREPARE));
+    row(prepare("prepare, 1,024 pages, beside memset alone", PREPARE_MEMSET));
 
     if (picked) return;
     Workload w = import_commands("", 1000, SHEETS, &imported);

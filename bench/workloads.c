@@ -258,3 +258,10 @@ Workload check(const char *name, uint32_t objects, uint32_t entries) {
     }
     return w;
 }
+
+Workload prepare(const char *name, Timed what) {
+    Workload w = {.name = name, .what = what, .threads = 2, .variables = 8, .depth = 1, .pages = 1024, .entries = 4096, .block = 1};
+    uint32_t state = 362436069u;
+    graph(&w.before, &state, 16000);
+    return w;
+}

@@ -12,8 +12,12 @@ typedef struct {
     size_t commands, room;
 } Stream;
 
+/* What is timed: the blocks of the timed stream, or prepare, beside the one by hand or beside memset alone. */
+typedef enum { BLOCKS, PREPARE, PREPARE_MEMSET } Timed;
+
 typedef struct {
     const char *name;
+    Timed what;
     uint32_t threads, variables, depth, pages, entries;
     Stream before, timed;
     size_t block;           /* commands in a block of the timed stream */
@@ -44,5 +48,7 @@ Workload new_objects(const char *name, uint32_t pages);
 Workload loads(const char *name, uint32_t pages, uint32_t objects, size_t block);
 /* An empty block, so nothing but the check, on so many objects and so many entries. */
 Workload check(const char *name, uint32_t objects, uint32_t entries);
+/* Prepares a heap of 16,000 objects anew. */
+Workload prepare(const char *name, Timed what);
 
 #endif
