@@ -90,6 +90,8 @@ static void prepare_done(Sizes s, size_t extra, Edge edge) {
     CHECK(l.remember[0] == s.entries);
     for (size_t i = 1; i < remember; i++) zeros += l.remember[i] == 0;
     CHECK(zeros == tables - 5 + remember - 1);
+    for (size_t i = 0; i < cells; i++) zeros += l.cells[i] == 0;
+    CHECK(zeros == tables - 5 + remember - 1 + cells);
     CHECK(memcmp(l.cells + cells, before.cells + cells, extra * sizeof(uint32_t)) == 0);
     CHECK(memcmp(l.remember + remember, before.remember + remember, extra * sizeof(uint32_t)) == 0);
     CHECK(memcmp(l.tables + tables, before.tables + tables, extra * sizeof(uint32_t)) == 0);

@@ -22,6 +22,7 @@ int main(void) {
     versions();
     test_calls();
     test_commands();
+    test_cleared();
     test_reports();
     test_largest();
     test_streams();

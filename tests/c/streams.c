@@ -97,10 +97,7 @@ static void at_the_same_time(void) {
     Block b = {0};
     begin("heaps at the same time");
     for (size_t i = 0; i < 20000; i++) draw_command(&b, s);
-    for (size_t i = 0; i < HEAPS; i++) {
-        works[i] = (Work){.heap = prepared(s, 0, AT_END), .block = &b, .answers = answers[i]};
-        memset(works[i].heap.cells, 0, works[i].heap.cells_words * sizeof(uint32_t));
-    }
+    for (size_t i = 0; i < HEAPS; i++) works[i] = (Work){.heap = prepared(s, 0, AT_END), .block = &b, .answers = answers[i]};
     work(&works[0]);
     for (size_t i = 1; i < HEAPS; i++) CHECK(pthread_create(&threads[i], NULL, work, &works[i]) == 0);
     for (size_t i = 1; i < HEAPS; i++) CHECK(pthread_join(threads[i], NULL) == 0);
