@@ -10,7 +10,8 @@
  *                 its region, which ends with it.
  * control space   The region of no epoch. What a thread makes while it has no epoch open lies here. It never ends, and no object in it is
  *                 ever freed.
- * page            Room for 16 objects of one region. A region of n objects uses n / 16 pages, rounded up.
+ * page            Room for 16 objects of one region. A region of n objects uses n / 16 pages, rounded up. Room without an object holds zero
+ *                 words, on free pages and on others.
  * slot            A reference field of an object.
  * crossing slot   A slot of an object in one region that points into another region, be it further in, further out or of another thread,
  *                 unless that is the control space.
@@ -38,12 +39,14 @@
  *
  * The heap is what stands in the three arrays: no function keeps a pointer or anything else between calls, none allocates, and none calls
  * back. So calls on one heap are made one at a time, from any thread of the operating system, and different heaps are independent: calls on
- * them may be made at the same time. A heap may be copied, or written to a file, word for word. A call takes less than TALDREKU_STACK_BYTES
- * of stack.
+ * them may be made at the same time. A heap may be copied, or written to a file, word for word. Such a dump shows nothing of what was thrown
+ * away: the end of an epoch writes zeros where its objects lay. What nothing leads to any more is there until its region ends, and in the control
+ * space for good; words past the lengths are not cleared. A call takes less than TALDREKU_STACK_BYTES of stack.
  *
  * How many pages and remember entries
  *
- * They stay as prepared. A page takes 1 KiB of the cells, an entry two words of the remember table.
+ * They stay as prepared. A page takes 1 KiB of the cells, an entry two words of the remember table. Prepare writes all of these, a run and a
+ * report read them, used or not.
  *
  * Pages: as many as all regions use together at any time. The control space counts with all that it will ever hold, since it never shrinks; at
  * an end the survivors count where they lie and where they go, since they move before their old pages are free. For an import that has two
@@ -87,7 +90,7 @@ enum taldreku_number {
     TALDREKU_SIZES = 1,          /* a size is out of range */
     TALDREKU_SHORT = 2,          /* one of the three arrays is too short */
     /* run: heap and answers are as before; report: no row was written, and rows, free_pages and crossing_slots are 0 */
-    TALDREKU_NOT_WHOLE = 3,      /* the arrays do not hold a heap */
+    TALDREKU_NOT_WHOLE = 3,      /* the arrays do not hold a heap; a word that is not zero in room without an object is enough */
     TALDREKU_BLOCK = 4,          /* the block is no multiple of five words */
     TALDREKU_ANSWERS = 5,        /* the answer array has fewer than two words for each command */
     /* one command: the heap is as before it, its value is 0, and the block goes on */
@@ -123,7 +126,8 @@ uint32_t taldreku_cells_length(uint32_t pages);
 uint32_t taldreku_remember_length(uint32_t entries);
 uint32_t taldreku_tables_length(uint32_t threads, uint32_t variables, uint32_t depth, uint32_t pages);
 
-/* Writes a heap without objects of these sizes, over whatever the arrays hold. Gives 0, 1 or 2. */
+/* Writes a heap without objects of these sizes, over whatever the arrays hold: every word of the three lengths, so that none of what stood there
+ * is left. Gives 0, 1 or 2. */
 uint32_t taldreku_prepare(uint32_t threads, uint32_t variables, uint32_t depth, uint32_t pages, uint32_t entries,
                           uint32_t *cells, size_t cells_words, uint32_t *remember, size_t remember_words,
                           uint32_t *tables, size_t tables_words);
