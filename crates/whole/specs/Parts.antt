@@ -20,6 +20,7 @@ module _ {s : Sizes} {w : Words} where
   pub cells-of : WholeFor s w → CellsCross s (w .cells) (w .tables) (entriesUsed (w .remember))
   cells-of k = record {
     whole = λ c u. record { object = k .objects c u; working = k .works c u };
+    unused = k .unused;
     crossing = every-counted (crossTo s (w .cells) (w .tables)) (cellsWords s) (s .entries) (w .remember) (k .remember);
   }
 
@@ -37,4 +38,5 @@ module _ {s : Sizes} {w : Words} where
     marks = λ page l. r .pages page l .mark;
     works = λ i u. k .whole i u .working;
     remember = counted-every (crossTo s (w .cells) (w .tables)) (cellsWords s) (s .entries) (w .remember) n (k .crossing);
+    unused = k .unused;
   }

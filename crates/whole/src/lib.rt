@@ -1,5 +1,6 @@
 // The check that lent words are whole tables (01, "Sizes and tables"). Any words may be handed in. It only reads, looks at no word
-// past the three lengths nor at a cell that is not in use, and ends at the first word that breaks a condition.
+// past the three lengths, and ends at the first word that breaks a condition. A cell that is not in use is read whole: 02, W1 asks that
+// its words are zero.
 ghost use lib.ListN.{length};
 ghost use Rattle.lists.specs.Says.{Says};
 ghost use Rattle.layout.specs.Places.{Room};
