@@ -1,5 +1,5 @@
 // Runs the check of lent tables on fresh tables, on tables of a heap in use and on damaged ones, one damage or more for each condition
-// of 01's paragraph on whole tables, and writes a line for each.
+// of 01's paragraph on whole tables and of 02, W1, and writes a line for each.
 ghost use Prim.Native.Nat.{_/_};
 ghost use mathlib.Core.Path.{_≡_};
 ghost use lib.ListN.{length, set};
@@ -218,7 +218,18 @@ fn words() {
     attempt_cells(b"a word after the fields", &[4, 1]);
     attempt_cells(b"any number", &[3, 4294967295]);
     attempt_cells(b"a working word of a cell", &[17, 1]);
-    attempt_cells(b"words of cells not in use", &[32, 999, 600, 5]);
+}
+
+// Cells that are not in use: those of pages 2 and 3, which are free, and on page 0 those from cell 2 on.
+fn free_pages() {
+    attempt_cells(b"the first word of a free page", &[512, 1]);
+    attempt_cells(b"the last word of a free page", &[1023, 2147483648]);
+}
+
+fn cells_not_in_use() {
+    attempt_cells(b"word 0 of a cell not in use", &[32, 1]);
+    attempt_cells(b"word 1 of a cell not in use", &[33, 1]);
+    attempt_cells(b"the last word of a cell not in use", &[47, 1]);
 }
 
 // The remember table.
@@ -277,6 +288,8 @@ fn main() {
     references();
     fields();
     words();
+    free_pages();
+    cells_not_in_use();
     entries_used();
     entries();
     entries_not_used();
