@@ -122,7 +122,10 @@ remember-unused s l k b c =
 
 -- zeros alone
 cells-unused : (s : Sizes) (l k : List ℕ) → cellsWords s ≤ length l → Cleared 0 (cellsWords s) l k → k ≡ replicate (cellsWords s) 0 ++ drop (cellsWords s) l
-cells-unused s l k b c = headed [] (cellsWords s) l k (omega arith) b (c .long) (λ i x. absurd (let z : ⊥ = omega arith in z)) (λ i x y. c .zeros i x y) (λ i x. c .high i x)
+cells-unused s l k b c =
+    let e : cellsWords s - 0 ≡ cellsWords s = omega arith in
+    headed [] (cellsWords s) l k (omega arith) b (c .long) (λ i x. absurd (let z : ⊥ = omega arith in z)) (λ i x y. c .zeros i x y) (λ i x. c .high i x)
+    ∙ ap (λ (n : ℕ). replicate n 0 ++ drop (cellsWords s) l) e
 
 -- ---- prepare's promise from what it did
 

@@ -10,11 +10,13 @@ pub mod Arriving
 pub mod Reading
 pub mod Agreed
 pub mod Here
--- theorems: pages and counts by themselves, pages by objects, entries by crossing slots, and that only 01's open points are left free
+-- theorems: pages and counts by themselves, pages by objects, entries by crossing slots, that only the open points are left free, and that what
+-- goes back is zero
 pub mod Regular
 pub mod OwnedPages
 pub mod Crossings
 pub mod Determined
+pub mod GivenBack
 -- theorems: prepared words and a chain of commands beside the rules' unused heap and run
 pub mod Preparing
 pub mod Chained

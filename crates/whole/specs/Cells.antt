@@ -1,6 +1,6 @@
 -- Cells in use: their form, their working word and their references. An object begins at each of them. Cells not in use: their zeros.
 use Prim.Native.Nat.{ℕ, _+_, _-_, _≤_, _<_}
-use mathlib.Core.List.{List}
+use mathlib.Core.List.{List, []}
 use mathlib.Core.Path.{_≡_, refl, sym, ap, subst, _∙_}
 use mathlib.Core.Logic.{⊎-elim}
 use native.Mathlib.Omega.{arith}
@@ -13,8 +13,9 @@ use Rattle.rules.specs.declared.Sizes.{Sizes}
 use Rattle.layout.specs.declared.Kind.the-variants.{Number}
 use Rattle.layout.specs.Places.{usedOf}
 use Rattle.layout.specs.Cells.{wordAt, headOf, workOf, fieldOf, fieldCount, refsOf, mostFields, room-most, cellNamed, pageCells, pageOf, placeOf, cellOn, cellOf, wordOf, pageAt, cellWords, on-page, place-low, at-page}
-use Rattle.layout.specs.Objects.{InUse, NotInUse, Begins, begins-page, begins-used, used-begins, begins-there}
-use Rattle.promises.specs.Whole.{IsRef, ObjectWhole}
+use Rattle.layout.specs.Objects.{InUse, Begins, begins-page, begins-used, used-begins, begins-there}
+use Rattle.layout.specs.Words.{words}
+use Rattle.promises.specs.Whole.{IsRef, ObjectWhole, UnusedWhole}
 
 pub record CellWhole (p : Sizes) (c t : List ℕ) (k : ℕ) : Type 0 where
   pub object : ObjectWhole p c t k
@@ -88,7 +89,7 @@ ZeroCells c page first = (place : ℕ) → place < pageCells → first ≤ place
 
 -- and of every cell that is not in use
 abbrev pub UnusedZero : Sizes → List ℕ → List ℕ → Type 0
-UnusedZero p c t = (q : ℕ) → NotInUse p t q → getD c q 0 ≡ 0
+UnusedZero p c t = UnusedWhole p (words c [] t)
 
 -- x is 0 just if the first n words of cell k are
 pub record Joined (c : List ℕ) (k n x : ℕ) : Type 0 where

@@ -1,4 +1,4 @@
--- A refusal is one of ask's; else the tables are zero but for the five sizes, and the remember table but for N.
+-- A refusal is one of ask's; else the cells are zero, the tables but for the five sizes, and the remember table but for N.
 use mathlib.Core.Path.{refl}
 use native.Mathlib.Omega.{arith}
 use denote.Ref.{now}
@@ -28,44 +28,61 @@ ask-requires c κs = search needs
 returns : tie.Need-returns
 returns c = prepared-refused (λ i. sizes (c .before .before .before .before .before .before .wide .ensures i) (c .before .before .before .before .before .wide2 .ensures i) (c .before .before .before .before .wide3 .ensures i) (c .before .before .before .wide4 .ensures i) (c .before .before .wide5 .ensures i)) (c .before .ask .ensures _ _ _ refl refl refl) (c .if1 .taken)
 
-tables-words-requires : tie.Need-tables-words-requires
-tables-words-requires c κs = asked-range (c .before .before .ask .ensures (now (c .before .before .before .before .before .before .before .before .before .before .before .args .cells)) (now (c .before .before .before .before .before .before .before .before .before .before .before .args .remember)) (now (c .before .before .before .before .before .before .before .before .before .before .before .args .tables)) refl refl refl) (c .before .if1 .left) .0
+cells-words-requires : tie.Need-cells-words-requires
+cells-words-requires c κs =
+    let args = c .before .before .before .before .before .before .before .before .before .before .before .args in
+    let asked = c .before .before .ask .ensures (now (args .cells)) (now (args .remember)) (now (args .tables)) refl refl refl in
+    let none = c .before .if1 .left in
+    asked-range asked none .0
 
 clear-requires : tie.Need-clear-requires
 clear-requires c κs =
     let args = c .before .before .before .before .before .before .before .before .before .before .before .before .args in
-    let ask = c .before .before .before .ask in
-    (omega arith, omega (arith, asked-range (ask .ensures (now (args .cells)) (now (args .remember)) (now (args .tables)) refl refl refl) (c .before .before .if1 .left) .1 .tables, c .tables-words .ensures))
+    let asked = c .before .before .before .ask .ensures (now (args .cells)) (now (args .remember)) (now (args .tables)) refl refl refl in
+    let none = c .before .before .if1 .left in
+    (omega arith, omega (arith, asked-range asked none .1 .cells, c .cells-words .ensures))
 
-write-sizes-requires : tie.Need-write-sizes-requires
-write-sizes-requires c κs =
+tables-words-requires : tie.Need-tables-words-requires
+tables-words-requires c κs =
     let args = c .before .before .before .before .before .before .before .before .before .before .before .before .before .before .before .before .args in
-    let ask = c .before .before .before .before .before .before .before .ask in
-    let if1 = c .before .before .before .before .before .before .if1 in
-    let clear = c .before .before .before .clear in
-    omega (arith, asked-five (ask .ensures (now (args .cells)) (now (args .remember)) (now (args .tables)) refl refl refl) (if1 .left), clear .ensures .long)
-
-remember-words-requires : tie.Need-remember-words-requires
-remember-words-requires c κs =
-    let args = c .before .before .before .before .before .before .before .before .before .before .before .before .before .before .before .before .before .before .before .before .args in
-    let ask = c .before .before .before .before .before .before .before .before .before .before .before .ask in
-    let if1 = c .before .before .before .before .before .before .before .before .before .before .if1 in
-    asked-range (ask .ensures (now (args .cells)) (now (args .remember)) (now (args .tables)) refl refl refl) (if1 .left) .0
+    let asked = c .before .before .before .before .before .before .before .ask .ensures (now (args .cells)) (now (args .remember)) (now (args .tables)) refl refl refl in
+    let none = c .before .before .before .before .before .before .if1 .left in
+    asked-range asked none .0
 
 clear-requires-2 : tie.Need-clear-requires-2
 clear-requires-2 c κs =
+    let args = c .before .before .before .before .before .before .before .before .before .before .before .before .before .before .before .before .before .args in
+    let asked = c .before .before .before .before .before .before .before .before .ask .ensures (now (args .cells)) (now (args .remember)) (now (args .tables)) refl refl refl in
+    let none = c .before .before .before .before .before .before .before .if1 .left in
+    (omega arith, omega (arith, asked-range asked none .1 .tables, c .tables-words .ensures))
+
+write-sizes-requires : tie.Need-write-sizes-requires
+write-sizes-requires c κs =
     let args = c .before .before .before .before .before .before .before .before .before .before .before .before .before .before .before .before .before .before .before .before .before .args in
-    let ask = c .before .before .before .before .before .before .before .before .before .before .before .before .ask in
-    let if1 = c .before .before .before .before .before .before .before .before .before .before .before .if1 in
-    (omega arith, omega (arith, asked-range (ask .ensures (now (args .cells)) (now (args .remember)) (now (args .tables)) refl refl refl) (if1 .left) .1 .remember, c .remember-words .ensures))
+    let asked = c .before .before .before .before .before .before .before .before .before .before .before .before .ask .ensures (now (args .cells)) (now (args .remember)) (now (args .tables)) refl refl refl in
+    let none = c .before .before .before .before .before .before .before .before .before .before .before .if1 .left in
+    omega (arith, asked-five asked none, c .before .before .before .clear2 .ensures .long)
+
+remember-words-requires : tie.Need-remember-words-requires
+remember-words-requires c κs =
+    let args = c .before .before .before .before .before .before .before .before .before .before .before .before .before .before .before .before .before .before .before .before .before .before .before .before .before .args in
+    let asked = c .before .before .before .before .before .before .before .before .before .before .before .before .before .before .before .before .ask .ensures (now (args .cells)) (now (args .remember)) (now (args .tables)) refl refl refl in
+    let none = c .before .before .before .before .before .before .before .before .before .before .before .before .before .before .before .if1 .left in
+    asked-range asked none .0
+
+clear-requires-3 : tie.Need-clear-requires-3
+clear-requires-3 c κs =
+    let args = c .before .before .before .before .before .before .before .before .before .before .before .before .before .before .before .before .before .before .before .before .before .before .before .before .before .before .args in
+    let asked = c .before .before .before .before .before .before .before .before .before .before .before .before .before .before .before .before .before .ask .ensures (now (args .cells)) (now (args .remember)) (now (args .tables)) refl refl refl in
+    let none = c .before .before .before .before .before .before .before .before .before .before .before .before .before .before .before .before .if1 .left in
+    (omega arith, omega (arith, asked-range asked none .1 .remember, c .remember-words .ensures))
 
 set-entries-requires : tie.Need-set-entries-requires
 set-entries-requires c κs =
-    let args = c .before .before .before .before .before .before .before .before .before .before .before .before .before .before .before .before .before .before .before .before .before .before .before .before .before .args in
-    let ask = c .before .before .before .before .before .before .before .before .before .before .before .before .before .before .before .before .ask in
-    let if1 = c .before .before .before .before .before .before .before .before .before .before .before .before .before .before .before .if1 in
-    let clear2 = c .before .before .before .clear2 in
-    omega (arith, asked-range (ask .ensures (now (args .cells)) (now (args .remember)) (now (args .tables)) refl refl refl) (if1 .left) .1 .remember, clear2 .ensures .long)
+    let args = c .before .before .before .before .before .before .before .before .before .before .before .before .before .before .before .before .before .before .before .before .before .before .before .before .before .before .before .before .before .before .args in
+    let asked = c .before .before .before .before .before .before .before .before .before .before .before .before .before .before .before .before .before .before .before .before .before .ask .ensures (now (args .cells)) (now (args .remember)) (now (args .tables)) refl refl refl in
+    let none = c .before .before .before .before .before .before .before .before .before .before .before .before .before .before .before .before .before .before .before .before .if1 .left in
+    omega (arith, asked-range asked none .1 .remember, c .before .before .before .clear3 .ensures .long)
 
 same-length : tie.Need-same-length
 same-length c = search needs
@@ -73,21 +90,20 @@ same-length c = search needs
 same-length-2 : tie.Need-same-length-2
 same-length-2 c = search needs
 
+same-length-3 : tie.Need-same-length-3
+same-length-3 c = search needs
+
 returns-2 : tie.Need-returns-2
 returns-2 c =
-    let wide = c .before .before .before .before .before .before .before .before .before .before .before .before .before .before .before .before .before .before .before .before .before .before .before .before .wide in
-    let wide2 = c .before .before .before .before .before .before .before .before .before .before .before .before .before .before .before .before .before .before .before .before .before .before .before .wide2 in
-    let wide3 = c .before .before .before .before .before .before .before .before .before .before .before .before .before .before .before .before .before .before .before .before .before .before .wide3 in
-    let wide4 = c .before .before .before .before .before .before .before .before .before .before .before .before .before .before .before .before .before .before .before .before .before .wide4 in
-    let wide5 = c .before .before .before .before .before .before .before .before .before .before .before .before .before .before .before .before .before .before .before .before .wide5 in
-    let ask = c .before .before .before .before .before .before .before .before .before .before .before .before .before .before .before .before .before .before .before .ask in
-    let if1 = c .before .before .before .before .before .before .before .before .before .before .before .before .before .before .before .before .before .before .if1 in
-    let tables-words = c .before .before .before .before .before .before .before .before .before .before .before .before .before .before .before .before .tables-words in
-    let clear = c .before .before .before .before .before .before .before .before .before .before .before .before .before .before .before .clear in
-    let write-sizes = c .before .before .before .before .before .before .before .before .before .before .before .write-sizes in
-    let remember-words = c .before .before .before .before .before .before .before .remember-words in
-    let clear2 = c .before .before .before .before .before .before .clear2 in
-    prepared-done (λ i. sizes (wide .ensures i) (wide2 .ensures i) (wide3 .ensures i) (wide4 .ensures i) (wide5 .ensures i)) (ask .ensures _ _ _ refl refl refl) (if1 .left) (tables-words .ensures) (clear .ensures) (write-sizes .ensures) (remember-words .ensures) (clear2 .ensures) (c .before .before .set-entries .ensures)
+    let wide = c .before .before .before .before .before .before .before .before .before .before .before .before .before .before .before .before .before .before .before .before .before .before .before .before .before .before .before .before .before .wide in
+    let wide2 = c .before .before .before .before .before .before .before .before .before .before .before .before .before .before .before .before .before .before .before .before .before .before .before .before .before .before .before .before .wide2 in
+    let wide3 = c .before .before .before .before .before .before .before .before .before .before .before .before .before .before .before .before .before .before .before .before .before .before .before .before .before .before .before .wide3 in
+    let wide4 = c .before .before .before .before .before .before .before .before .before .before .before .before .before .before .before .before .before .before .before .before .before .before .before .before .before .before .wide4 in
+    let wide5 = c .before .before .before .before .before .before .before .before .before .before .before .before .before .before .before .before .before .before .before .before .before .before .before .before .before .wide5 in
+    prepared-done (λ i. sizes (wide .ensures i) (wide2 .ensures i) (wide3 .ensures i) (wide4 .ensures i) (wide5 .ensures i)) (c .before .before .before .before .before .before .before .before .before .before .before .before .before .before .before .before .before .before .before .before .before .before .before .before .ask .ensures _ _ _ refl refl refl) (c .before .before .before .before .before .before .before .before .before .before .before .before .before .before .before .before .before .before .before .before .before .before .before .if1 .left)
+    (c .before .before .before .before .before .before .before .before .before .before .before .before .before .before .before .before .before .before .before .before .before .cells-words .ensures) (c .before .before .before .before .before .before .before .before .before .before .before .before .before .before .before .before .before .before .before .before .clear .ensures)
+    (c .before .before .before .before .before .before .before .before .before .before .before .before .before .before .before .before .tables-words .ensures) (c .before .before .before .before .before .before .before .before .before .before .before .before .before .before .before .clear2 .ensures) (c .before .before .before .before .before .before .before .before .before .before .before .write-sizes .ensures)
+    (c .before .before .before .before .before .before .before .remember-words .ensures) (c .before .before .before .before .before .before .clear3 .ensures) (c .before .before .set-entries .ensures)
 
 pub taldreku-prepare-spec : {M : Type 1} → statement M
 taldreku-prepare-spec =
@@ -100,12 +116,15 @@ taldreku-prepare-spec =
     wide-requires-5
     ask-requires
     returns
-    tables-words-requires
+    cells-words-requires
     clear-requires
+    tables-words-requires
+    clear-requires-2
     write-sizes-requires
     remember-words-requires
-    clear-requires-2
+    clear-requires-3
     set-entries-requires
     same-length
     same-length-2
+    same-length-3
     returns-2)
