@@ -65,9 +65,9 @@
 extern "C" {
 #endif
 
-#define TALDREKU_VERSION "1.0.0"
+#define TALDREKU_VERSION "1.1.0"
 #define TALDREKU_VERSION_MAJOR 1
-#define TALDREKU_VERSION_MINOR 0
+#define TALDREKU_VERSION_MINOR 1
 #define TALDREKU_VERSION_PATCH 0
 
 /* The largest sizes. All but the entries are at least 1. */

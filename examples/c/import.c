@@ -164,6 +164,13 @@ static void look(void) {
     }
 }
 
+/* What a dump of the heap shows: the register and the wheels that it keeps. Where the others lay there are zeros. */
+static void dump(void) {
+    size_t shown = 0;
+    for (size_t i = 0; i < cells_words; i++) shown += cells[i] != 0;
+    printf("words of the cells that are not zero: %zu\n", shown);
+}
+
 int main(int words, char **word) {
     unsigned long pages = words > 1 ? strtoul(word[1], NULL, 10) : PAGES;
     if (pages > TALDREKU_MAX_PAGES) pages = TALDREKU_MAX_PAGES + 1;
@@ -204,6 +211,7 @@ int main(int words, char **word) {
     }
     look();
     report();
+    dump();
 
     free(cells);
     free(remember);
