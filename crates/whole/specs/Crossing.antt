@@ -14,16 +14,15 @@ use Rattle.layout.specs.Cells.{headAt, headOf, fieldAt, fieldOf, refsOf, mostFi
 use Rattle.layout.specs.Objects.{Begins, begins-there, Slot, none-before, none-after, none-past}
 use Rattle.remember.specs.Crossing.{crossesFrom, crossTo, crossing}
 use Rattle.remember.specs.Crosses.{field-cross, no-cross}
-use Rattle.whole.specs.Cells.{CellsWhole, UnusedZero}
+use Rattle.whole.specs.Cells.{CellsWhole}
 
 -- how many slots cross before position n
 abbrev pub crossingTo : Sizes → List ℕ → List ℕ → ℕ → ℕ
 crossingTo p c t n = count (crossing p c t) n
 
--- every object is whole, every cell not in use is zero, and so many slots cross
+-- every object is whole, and so many slots cross
 pub record CellsCross (p : Sizes) (c t : List ℕ) (n : ℕ) : Type 0 where
   pub whole : CellsWhole p c t
-  pub unused : UnusedZero p c t
   pub crossing : crossingTo p c t (cellsWords p) ≡ n
 
 module _ (p : Sizes) (c t : List ℕ) where
@@ -71,5 +70,5 @@ module _ (p : Sizes) (c t : List ℕ) where
   too-many k f h q l m b w = omega (arith, crosses-yes k f q l, counted-so-far (fieldAt k (f + 1)) (cellsWords p) b, w .crossing)
 
 -- n as the code counted it, all there are
-pub says-cross : {p : Sizes} {c t : List ℕ} (n e : ℕ) → CellsWhole p c t → UnusedZero p c t → n ≡ crossingTo p c t (cellsWords p) → Says (eqb n e) (CellsCross p c t e)
-says-cross n e w z h = (λ q. record { whole = w; unused = z; crossing = sym h ∙ eqb-true n e q }, λ k. eq-eqb n e (h ∙ k .crossing))
+pub says-cross : {p : Sizes} {c t : List ℕ} (n e : ℕ) → CellsWhole p c t → n ≡ crossingTo p c t (cellsWords p) → Says (eqb n e) (CellsCross p c t e)
+says-cross n e w h = (λ q. record { whole = w; crossing = sym h ∙ eqb-true n e q }, λ k. eq-eqb n e (h ∙ k .crossing))

@@ -1,12 +1,12 @@
-// Every cell in use has 01's form, its working word is zero, and its references are null or name an object; a cell that is not in use
-// holds zero words alone (02, W1). The same pass counts the slots that cross.
+// Every cell in use has 01's form, its working word is zero, and its references are null or name an object. The same pass counts the
+// slots that cross.
 ghost use Prim.Native.Nat.{_^_, _<_, _≤_};
 ghost use lib.ListN.{length};
 ghost use Rattle.lists.specs.Says.{Says};
 ghost use Rattle.layout.specs.Places.{Room, cellsWords};
-ghost use Rattle.layout.specs.Cells.{CellIn, headAt, cellOn, pageCells};
+ghost use Rattle.layout.specs.Cells.{CellIn};
 ghost use Rattle.whole.specs.Pages.{PagesChecked};
-ghost use Rattle.whole.specs.Cells.{ZeroFrom, ZeroCell, ZeroCells};
+ghost use Rattle.whole.specs.Cells.{ZeroFrom};
 ghost use Rattle.whole.specs.Crossing.{CellsCross};
 use crate::variables::is_ref;
 use layout::Kind;
@@ -36,37 +36,8 @@ pub fn zero_from(cells: &[u32], cell: usize, first: usize) -> bool
     true
 }
 
-// Whether a cell holds zero words alone: they are joined by "or" and tested once.
-pub fn zero_cell(cells: &[u32], cell: usize) -> bool
-    requires { ⌜ CellIn cell (length (now cells)) ⌝ }
-    ensures { λ r. ⌜ Says r (ZeroCell (now (cells .entry)) cell) ⌝ }
-{
-    let mut x: u32 = 0;
-    let mut i: usize = 0;
-    while i < layout::cells::WORDS {
-        x |= layout::cells::word(cells, cell, i);
-        i += 1;
-    }
-    x == 0
-}
-
-// Whether the cells of a page from a place on hold zero words alone. The first that does not ends it.
-pub fn zero_cells(cells: &[u32], page: usize, first: usize) -> bool
-    requires { ⌜ (page < 1024) × (headAt (cellOn page pageCells) ≤ length (now cells)) ⌝ }
-    ensures { λ r. ⌜ Says r (ZeroCells (now (cells .entry)) page first) ⌝ }
-{
-    let mut place = first;
-    while place < layout::cells::CELLS {
-        if !zero_cell(cells, layout::cells::cell_on(page, place)) {
-            return false;
-        }
-        place += 1;
-    }
-    true
-}
-
-// Whether every cell in use is whole, every other one is zero, and as many slots cross as there are entries used, in one pass. A field
-// that is a number may hold any word, so it is not read. The first slot too many ends it.
+// Whether every cell in use is whole and as many slots cross as there are entries used, in one pass. A field that is a number may hold
+// any word, so it is not read. The first slot too many ends it.
 pub fn cells_whole(p: Sizes, cells: &[u32], tables: &[u32], entries: usize) -> bool
     requires { ⌜ Room p (length (now tables)) ⌝ }
     requires { ⌜ cellsWords p ≤ length (now cells) ⌝ }
@@ -116,10 +87,6 @@ pub fn cells_whole(p: Sizes, cells: &[u32], tables: &[u32], entries: usize) -> b
                 break 'pages;
             }
             place += 1;
-        }
-        if !zero_cells(cells, page, used) {
-            ok = false;
-            break 'pages;
         }
         page += 1;
     }

@@ -1,6 +1,5 @@
-// The check that lent words are whole tables (01, "Sizes and tables"). Any words may be handed in. It only reads, looks at no word
-// past the three lengths, and ends at the first word that breaks a condition. A cell that is not in use is read whole: 02, W1 asks that
-// its words are zero.
+// The check that lent words are whole tables (01, "Sizes and tables"; 02, W1). Any words may be handed in. It only reads, looks at no word
+// past the three lengths, and ends at the first word or cell that breaks a condition.
 ghost use lib.ListN.{length};
 ghost use Rattle.lists.specs.Says.{Says};
 ghost use Rattle.layout.specs.Places.{Room};
@@ -13,6 +12,7 @@ pub mod entries;
 pub mod pages;
 pub mod regions;
 pub mod sizes;
+pub mod unused;
 pub mod variables;
 
 // The conditions after the first, of tables whose sizes are known.
@@ -32,6 +32,9 @@ pub fn placed_whole(p: Sizes, cells: &[u32], remember: &[u32], tables: &[u32]) -
     }
     let used = layout::wide(layout::remember::used(remember));
     if !cells::cells_whole(p, cells, tables, used) {
+        return false;
+    }
+    if !unused::unused_whole(p, cells, tables) {
         return false;
     }
     if !entries::entries_whole(p, cells, remember, tables) {

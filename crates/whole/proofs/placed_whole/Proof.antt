@@ -47,19 +47,26 @@ returns-4 c =
     let args = c .before .before .before .before .before .before .before .before .before .before .before .before .before .args in
     says-no (λ h. said-no _ (c .before .cells-whole .ensures) (not-true _ (c .if4 .taken)) (subst (λ (n : ℕ). CellsCross (args .p) (now (args .cells)) (now (args .tables)) n) (sym (c .before .before .wide .ensures ∙ c .before .before .before .used .ensures)) (cells-of h)))
 
-entries-whole-requires : tie.Need-entries-whole-requires
-entries-whole-requires c κs =
-    let pre = c .before .before .before .before .before .before .before .before .before .before .before .before .before .pre in
-    (pre .0, (pre .1 .cells, pre .1 .remember))
+unused-whole-requires : tie.Need-unused-whole-requires
+unused-whole-requires c κs = let pre = c .before .before .before .before .before .before .before .before .before .before .before .before .before .pre in (pre .0, pre .1 .cells)
 
 returns-5 : tie.Need-returns-5
-returns-5 c = says-no (λ h. said-no _ (c .before .entries-whole .ensures) (not-true _ (c .if5 .taken)) (h .remember .entries))
+returns-5 c = says-no (λ h. said-no _ (c .before .unused-whole .ensures) (not-true _ (c .if5 .taken)) (h .unused))
+
+entries-whole-requires : tie.Need-entries-whole-requires
+entries-whole-requires c κs =
+    let pre = c .before .before .before .before .before .before .before .before .before .before .before .before .before .before .before .pre in
+    (pre .0, (pre .1 .cells, pre .1 .remember))
 
 returns-6 : tie.Need-returns-6
-returns-6 c =
-    let args = c .before .before .before .before .before .before .before .before .before .before .before .before .before .before .before .args in
-    says-yes (whole-of {w = words (now (args .cells)) (now (args .remember)) (now (args .tables))} (c .before .before .before .before .before .before .before .before .before .before .before .before .before .before .before .pre .1) (c .before .before .before .before .before .before .before .before .before .before .before .depths-whole .ensures .0 (not-false _ (c .before .before .before .before .before .before .before .before .before .before .if1 .left))) (c .before .before .before .before .before .before .before .before .before .regions-whole .ensures .0 (not-false _ (c .before .before .before .before .before .before .before .before .if2 .left))) (c .before .before .before .before .before .before .before .variables-whole .ensures .0 (not-false _ (c .before .before .before .before .before .before .if3 .left)))
-    (subst (λ (n : ℕ). CellsCross (args .p) (now (args .cells)) (now (args .tables)) n) (c .before .before .before .before .wide .ensures ∙ c .before .before .before .before .before .used .ensures) (c .before .before .before .cells-whole .ensures .0 (not-false _ (c .before .before .if4 .left)))) (c .before .entries-whole .ensures .0 (not-false _ (c .if5 .left))))
+returns-6 c = says-no (λ h. said-no _ (c .before .entries-whole .ensures) (not-true _ (c .if6 .taken)) (h .remember .entries))
+
+returns-7 : tie.Need-returns-7
+returns-7 c =
+    let args = c .before .before .before .before .before .before .before .before .before .before .before .before .before .before .before .before .before .args in
+    says-yes (whole-of {w = words (now (args .cells)) (now (args .remember)) (now (args .tables))} (c .before .before .before .before .before .before .before .before .before .before .before .before .before .before .before .before .before .pre .1) (c .before .before .before .before .before .before .before .before .before .before .before .before .before .depths-whole .ensures .0 (not-false _ (c .before .before .before .before .before .before .before .before .before .before .before .before .if1 .left))) (c .before .before .before .before .before .before .before .before .before .before .before .regions-whole .ensures .0 (not-false _ (c .before .before .before .before .before .before .before .before .before .before .if2 .left))) (c .before .before .before .before .before .before .before .before .before .variables-whole .ensures .0 (not-false _ (c .before .before .before .before .before .before .before .before .if3 .left)))
+    (subst (λ (n : ℕ). CellsCross (args .p) (now (args .cells)) (now (args .tables)) n) (c .before .before .before .before .before .before .wide .ensures ∙ c .before .before .before .before .before .before .before .used .ensures) (c .before .before .before .before .before .cells-whole .ensures .0 (not-false _ (c .before .before .before .before .if4 .left))))
+    (c .before .before .before .unused-whole .ensures .0 (not-false _ (c .before .before .if5 .left))) (c .before .entries-whole .ensures .0 (not-false _ (c .if6 .left))))
 
 pub placed-whole-spec : {M : Type 1} → statement M
 placed-whole-spec =
@@ -75,6 +82,8 @@ placed-whole-spec =
     wide-requires
     cells-whole-requires
     returns-4
-    entries-whole-requires
+    unused-whole-requires
     returns-5
-    returns-6)
+    entries-whole-requires
+    returns-6
+    returns-7)

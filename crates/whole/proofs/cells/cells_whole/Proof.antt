@@ -1,5 +1,5 @@
--- The invariants: every page passed, every cell passed of this page and every field passed of this cell is whole, the cells not in use of every page
--- passed are zero, and n slots cross before this page, before this cell, before this field, no more than the entries used.
+-- The invariants: every page passed, every cell passed of this page and every field passed of this cell is whole, and n slots cross before this page,
+-- before this cell, before this field, no more than the entries used.
 use native.Mathlib.Omega.{arith}
 use borrow.Author.Needs.{needs}
 use Rattle.lists.specs.Says.{true-not-false, says-no, said-no}
@@ -13,12 +13,12 @@ use native.Mathlib.Nat.{not-suc-le-zero}
 use lib.ListN.{length}
 use mathlib.Core.Bool.{true, false}
 use Rattle.layout.specs.declared.Kind.the-variants.{Reference, Number}
-use Rattle.layout.specs.Places.{cellsWords, usedOf}
+use Rattle.layout.specs.Places.{cellsWords}
 use Rattle.layout.specs.Cells.{headAt, fieldAt, cellOn, fieldOf, fieldCount, count-low, mostFields, most-is, pageCells, CellIn}
 use Rattle.remember.specs.Crossing.{crossTo}
 use Rattle.layout.specs.Objects.{begins-page}
 use Rattle.promises.specs.Whole.{IsRef}
-use Rattle.whole.specs.Cells.{CellWhole, PageCells, all-pages, reached, object-whole, zero-rest, field-is-ref, ZeroCells, all-unused, unused-on}
+use Rattle.whole.specs.Cells.{CellWhole, PageCells, all-pages, reached, object-whole, zero-rest, field-is-ref}
 use Rattle.whole.specs.Crossing.{crossingTo, to-fields, to-next-cell, to-next-page, crosses-at, crosses-yes, crosses-no, too-many, says-cross}
 use Rattle.whole.proofs.cells.cells_whole.Statement.{statement}
 use Rattle.whole.proofs.cells.cells_whole.Tie as tie
@@ -44,14 +44,14 @@ abbrev μ-cells : tie.MeasureT-cells
 abbrev Inv-pages : tie.InvT-pages
 Inv-pages p cells tables entries pages ok₀ n₀ page₀ ok n page =
     (ok ≡ true) × (page ≤ pages) × ((k : ℕ) → k < page → PageCells p cells tables k)
-    × (n ≤ entries) × (n ≡ crossingTo p cells tables (headAt (cellOn page 0))) × ((k : ℕ) → k < page → ZeroCells cells k (usedOf p tables k))
+    × (n ≤ entries) × (n ≡ crossingTo p cells tables (headAt (cellOn page 0)))
 
 abbrev μ-pages : tie.MeasureT-pages
 μ-pages p cells tables entries pages ok₀ n₀ page₀ ok n page =
     pages - page
 
 pages-holds : tie.Need-pages-holds Inv-fields μ-fields Inv-cells μ-cells Inv-pages μ-pages
-pages-holds c = (refl, omega arith, λ k l. absurd (not-suc-le-zero l), omega arith, refl, λ k l. absurd (not-suc-le-zero l))
+pages-holds c = (refl, omega arith, λ k l. absurd (not-suc-le-zero l), omega arith, refl)
 
 owner-requires : tie.Need-owner-requires Inv-fields μ-fields Inv-cells μ-cells Inv-pages μ-pages
 owner-requires c κs = search needs
@@ -180,11 +180,6 @@ cells-again c =
           ∙ ap (λ (k : ℕ). crossingTo (args .p) (now (args .cells)) (now (args .tables)) (headAt k)) e,
     )
 
-zero-cells-requires : tie.Need-zero-cells-requires Inv-fields μ-fields Inv-cells μ-cells Inv-pages μ-pages
-zero-cells-requires c κs =
-    let pre = c .before .before .before .before .before .before .before .before .before .pre in
-    omega (arith, pre .0 .few, pre .1 .0)
-
 add-page : tie.Need-add-page Inv-fields μ-fields Inv-cells μ-cells Inv-pages μ-pages
 add-page c = omega arith
 
@@ -193,18 +188,16 @@ pages-less c = omega arith
 
 pages-again : tie.Need-pages-again Inv-fields μ-fields Inv-cells μ-cells Inv-pages μ-pages
 pages-again c =
-    let zero-cells = c .before .zero-cells in
-    let cells = c .before .before .before .cells in
-    let wide = c .before .before .before .before .wide in
-    let used = c .before .before .before .before .before .used in
-    let pages = c .before .before .before .before .before .before .before .before .pages in
-    let args = c .before .before .before .before .before .before .before .before .before .before .before .args in (
+    let cells = c .before .cells in
+    let pages = c .before .before .before .before .before .before .pages in
+    let wide = c .before .before .wide in
+    let used = c .before .before .before .used in
+    let args = c .before .before .before .before .before .before .before .before .before .args in (
       cells .inv .0,
       omega arith,
       below-more _ _ (pages .inv .2) (λ k l. cells .inv .3 k (omega (arith, (wide .ensures ∙ used .ensures)))),
       cells .inv .4,
       cells .inv .5 ∙ sym (to-next-page (args .p) (now (args .cells)) (now (args .tables)) (pages .page) (cells .place) (omega (arith, (wide .ensures ∙ used .ensures))) (omega (arith, cells .inv .2))),
-      below-more _ _ (pages .inv .5) (λ k l m. zero-cells .ensures .0 (not-false _ (c .if7 .left)) k l (omega (arith, (wide .ensures ∙ used .ensures)))),
     )
 
 returns : tie.Need-returns Inv-fields μ-fields Inv-cells μ-cells Inv-pages μ-pages
@@ -212,7 +205,7 @@ returns c =
     let pages-test = c .before .pages-test in
     let pages = c .before .before .pages in
     let args = c .before .before .before .before .before .args in
-    let no : pages-test .ok ≡ false = not-true _ (c .if8 .taken) in
+    let no : pages-test .ok ≡ false = not-true _ (c .if7 .taken) in
     says-no (λ h. ⊎-elim
     (λ w. true-not-false (sym no ∙ w .1 ∙ pages .inv .0))
     (⊎-elim
@@ -226,9 +219,7 @@ returns c =
     (crosses-at (args .p) (now (args .cells)) (now (args .tables)) (pages .page) (w .4 .place) (w .6 .result) (w .13 .f) (w .1 .result) (w .15 .result) (w .18 .result)
     (w .6 .ensures) (w .1 .ensures) (w .15 .ensures) (w .18 .ensures) (w .3 .ensures ∙ w .2 .ensures) (w .8 .ensures ∙ ap (fieldCount Reference) (w .7 .ensures)) (w .0 .taken) (w .4 .inv .2) (w .13 .inv .3) (w .5 .taken) (w .14 .taken))
     (w .19 .taken) (w .20 .taken) (omega (arith, w .6 .ensures, w .0 .taken, w .4 .inv .2, w .5 .taken, w .13 .inv .3, w .14 .taken)) h)
-    (⊎-elim
-    (λ w. said-no _ (w .15 .ensures) (not-true _ (w .16 .taken)) (zero-rest (w .8 .ensures ∙ ap (fieldCount Reference) (w .7 .ensures)) (w .9 .ensures ∙ ap (fieldCount Number) (w .7 .ensures)) ((reached (h .whole) (w .6 .ensures) (w .3 .ensures ∙ w .2 .ensures) (w .0 .taken) (w .4 .inv .2) (w .5 .taken)) .object)))
-    (λ w. said-no _ (w .6 .ensures) (not-true _ (w .7 .taken)) (unused-on (args .p) (now (args .cells)) (now (args .tables)) (h .unused) (w .3 .ensures ∙ w .2 .ensures) (w .0 .taken))))))))
+    (λ w. said-no _ (w .15 .ensures) (not-true _ (w .16 .taken)) (zero-rest (w .8 .ensures ∙ ap (fieldCount Reference) (w .7 .ensures)) (w .9 .ensures ∙ ap (fieldCount Number) (w .7 .ensures)) ((reached (h .whole) (w .6 .ensures) (w .3 .ensures ∙ w .2 .ensures) (w .0 .taken) (w .4 .inv .2) (w .5 .taken)) .object)))))))
     (pages-test .came))
 
 returns-2 : tie.Need-returns-2 Inv-fields μ-fields Inv-cells μ-cells Inv-pages μ-pages
@@ -236,21 +227,18 @@ returns-2 c =
     let pages-test = c .before .pages-test in
     let pages = c .before .before .pages in
     let args = c .before .before .before .before .before .args in
-    let yes : pages-test .ok ≡ true = not-false _ (c .if8 .left) in
+    let yes : pages-test .ok ≡ true = not-false _ (c .if7 .left) in
     ⊎-elim
     (λ w.
     let e : headAt (cellOn (pages .page) 0) ≡ cellsWords (args .p) = omega (arith, w .0 .left, pages .inv .1) in
-    says-cross (pages-test .n) (args .entries) (all-pages (args .p) (now (args .cells)) (now (args .tables)) (λ k l. pages .inv .2 k (omega (arith, w .0 .left))))
-    (all-unused (args .p) (now (args .cells)) (now (args .tables)) (λ k l. pages .inv .5 k (omega (arith, w .0 .left)))) (w .2 ∙ pages .inv .4 ∙ ap (crossingTo (args .p) (now (args .cells)) (now (args .tables))) e))
+    says-cross (pages-test .n) (args .entries) (all-pages (args .p) (now (args .cells)) (now (args .tables)) (λ k l. pages .inv .2 k (omega (arith, w .0 .left)))) (w .2 ∙ pages .inv .4 ∙ ap (crossingTo (args .p) (now (args .cells)) (now (args .tables))) e))
     (⊎-elim
     (λ w. absurd (true-not-false (sym (w .11) ∙ yes)))
     (⊎-elim
     (λ w. absurd (true-not-false (sym (w .13) ∙ yes)))
     (⊎-elim
     (λ w. absurd (true-not-false (sym (w .18) ∙ yes)))
-    (⊎-elim
-    (λ w. absurd (true-not-false (sym (w .21) ∙ yes)))
-    (⊎-elim (λ w. absurd (true-not-false (sym (w .17) ∙ yes))) (λ w. absurd (true-not-false (sym (w .8) ∙ yes))))))))
+    (⊎-elim (λ w. absurd (true-not-false (sym (w .21) ∙ yes))) (λ w. absurd (true-not-false (sym (w .17) ∙ yes)))))))
     (pages-test .came)
 
 pub cells-whole-spec : {M : Type 1} → statement M
@@ -286,7 +274,6 @@ cells-whole-spec =
     add-place
     cells-less
     cells-again
-    zero-cells-requires
     add-page
     pages-less
     pages-again

@@ -3,9 +3,9 @@ use native.Mathlib.Omega.{arith}
 use borrow.Author.Tests.{eq-eqb, eqb-true}
 use Prim.Native.Nat.{_-_, _≤_}
 use Rattle.layout.specs.Cells.{cellWords}
-use Rattle.whole.specs.Cells.{Joined, joined-none, joined-more}
-use Rattle.whole.proofs.cells.zero_cell.Statement.{statement}
-use Rattle.whole.proofs.cells.zero_cell.Tie as tie
+use Rattle.whole.specs.Unused.{Joined, joined-none, joined-more}
+use Rattle.whole.proofs.unused.zero_cell.Statement.{statement}
+use Rattle.whole.proofs.unused.zero_cell.Tie as tie
 
 abbrev Inv-loop : tie.InvT-loop
 Inv-loop cells cell x₀ i₀ x i =

@@ -7,9 +7,9 @@ use mathlib.Core.Path.{sym, subst}
 use Prim.Native.Nat.{ℕ, _-_, _≤_, _<_}
 use denote.Ref.{now}
 use Rattle.layout.specs.Cells.{cellOn, pageCells}
-use Rattle.whole.specs.Cells.{ZeroCell}
-use Rattle.whole.proofs.cells.zero_cells.Statement.{statement}
-use Rattle.whole.proofs.cells.zero_cells.Tie as tie
+use Rattle.whole.specs.Unused.{ZeroCell}
+use Rattle.whole.proofs.unused.zero_cells.Statement.{statement}
+use Rattle.whole.proofs.unused.zero_cells.Tie as tie
 
 abbrev Inv-loop : tie.InvT-loop
 Inv-loop cells page first place₀ place =
