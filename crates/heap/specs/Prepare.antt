@@ -146,9 +146,9 @@ pub asked-five : {s : Sizes} {w : Words} {q : ℕ} → PrepareAsked s w q → q 
 asked-five {s} a z = omega (arith, five-words s, asked-range a z .1 .tables)
 
 pub prepared-done : {s s′ : Sizes} {c m t c₁ t₁ t₂ m₁ m₂ : List ℕ} {q n x y : ℕ} → s ≡ s′ → PrepareAsked s (words c m t) q → q ≡ 0
-    → n ≡ cellsWords s → Cleared 0 n c c₁ → x ≡ tablesWords s → Cleared 0 x t t₁ → t₂ ≡ withSizes t₁ (s′ .threads) (s′ .variables) (s′ .depth) (s′ .pages) (s′ .entries)
-    → y ≡ rememberWords s → Cleared 0 y m m₁ → m₂ ≡ set m₁ 0 (s′ .entries) → Prepared s′ (words c m t) 0 (words c₁ m₂ t₂)
-prepared-done {s} {s′} {c} {m} {t} {c₁} {t₁} {t₂} {m₁} {m₂} {q} {n} {x} {y} e a z g cc u ct ft v cm fm =
+    → Cleared 0 n c c₁ → n ≡ cellsWords s → Cleared 0 x t t₁ → x ≡ tablesWords s → t₂ ≡ withSizes t₁ (s′ .threads) (s′ .variables) (s′ .depth) (s′ .pages) (s′ .entries)
+    → Cleared 0 y m m₁ → y ≡ rememberWords s → m₂ ≡ set m₁ 0 (s′ .entries) → Prepared s′ (words c m t) 0 (words c₁ m₂ t₂)
+prepared-done {s} {s′} {c} {m} {t} {c₁} {t₁} {t₂} {m₁} {m₂} {q} {n} {x} {y} e a z cc g ct u ft cm v fm =
     let ar = asked-range a z in
     let long : LongEnough s′ (words c m t) = subst (λ (k : Sizes). LongEnough k (words c m t)) e (ar .1) in
     record {

@@ -4,11 +4,10 @@ use borrow.Author.Needs.{needs}
 use lib.ListN.{length}
 use Prim.Native.Nat.{ℕ, _≤_, _+_, _-_}
 use mathlib.Core.List.{List}
-use mathlib.Core.Path.{_≡_, refl, sym, ap, subst, _∙_}
+use mathlib.Core.Path.{_≡_, refl, sym, subst, _∙_}
 use Rattle.lists.specs.Zeros.{cleared-to}
 use Rattle.lists.specs.Part.{Through, through-start, through-turn, through-end}
-use Rattle.layout.specs.Places.{ownerOf, usedOf}
-use Rattle.layout.specs.Cells.{headAt, cellOn}
+use Rattle.layout.specs.Places.{ownerOf}
 use Rattle.release.specs.Emptied.{Emptied, emptied-start, emptied-left, emptied-page}
 use Rattle.release.proofs.clear_pages.Statement.{statement}
 use Rattle.release.proofs.clear_pages.Tie as tie
@@ -71,7 +70,7 @@ loop-again c =
     let D : List ℕ → ℕ → Type 0 = (λ X q. Emptied (a .p) (a .region) q (a .tables .now) (a .cells .now) X) in
     let g = through-turn (a .p .pages) (a .n) (a .list .now) (D (l .cells)) (D (c .before .before .clear-cells .last .0)) (l .i) x (h .rises) t e (l .inv .2)
     (λ b. emptied-page b (omega (arith, low, e)) (subst (λ (y : ℕ). ownerOf (a .p) (a .tables .now) y ≡ a .region) (sym e) (h .each (l .i) t)) (pre .1 .0 .pages x (omega (arith, low, e)) .cells)
-    (cleared-to (c .before .before .clear-cells .ensures) (ap (λ (k : ℕ). headAt (cellOn x k)) u)))
+    (cleared-to (c .before .before .clear-cells .ensures) (omega (arith, u))))
     (λ q lq off b. emptied-left b (λ z. h .all q lq z off)) in
     (omega (arith, t), c .before .before .clear-cells .kept .0 ∙ l .inv .1, g)
 

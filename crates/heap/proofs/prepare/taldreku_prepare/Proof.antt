@@ -101,9 +101,9 @@ returns-2 c =
     let wide4 = c .before .before .before .before .before .before .before .before .before .before .before .before .before .before .before .before .before .before .before .before .before .before .before .before .before .before .wide4 in
     let wide5 = c .before .before .before .before .before .before .before .before .before .before .before .before .before .before .before .before .before .before .before .before .before .before .before .before .before .wide5 in
     prepared-done (λ i. sizes (wide .ensures i) (wide2 .ensures i) (wide3 .ensures i) (wide4 .ensures i) (wide5 .ensures i)) (c .before .before .before .before .before .before .before .before .before .before .before .before .before .before .before .before .before .before .before .before .before .before .before .before .ask .ensures _ _ _ refl refl refl) (c .before .before .before .before .before .before .before .before .before .before .before .before .before .before .before .before .before .before .before .before .before .before .before .if1 .left)
-    (c .before .before .before .before .before .before .before .before .before .before .before .before .before .before .before .before .before .before .before .before .before .cells-words .ensures) (c .before .before .before .before .before .before .before .before .before .before .before .before .before .before .before .before .before .before .before .before .clear .ensures)
-    (c .before .before .before .before .before .before .before .before .before .before .before .before .before .before .before .before .tables-words .ensures) (c .before .before .before .before .before .before .before .before .before .before .before .before .before .before .before .clear2 .ensures) (c .before .before .before .before .before .before .before .before .before .before .before .write-sizes .ensures)
-    (c .before .before .before .before .before .before .before .remember-words .ensures) (c .before .before .before .before .before .before .clear3 .ensures) (c .before .before .set-entries .ensures)
+    (c .before .before .before .before .before .before .before .before .before .before .before .before .before .before .before .before .before .before .before .before .clear .ensures) (omega (arith, c .before .before .before .before .before .before .before .before .before .before .before .before .before .before .before .before .before .before .before .before .before .cells-words .ensures))
+    (c .before .before .before .before .before .before .before .before .before .before .before .before .before .before .before .clear2 .ensures) (omega (arith, c .before .before .before .before .before .before .before .before .before .before .before .before .before .before .before .before .tables-words .ensures)) (c .before .before .before .before .before .before .before .before .before .before .before .write-sizes .ensures)
+    (c .before .before .before .before .before .before .clear3 .ensures) (omega (arith, c .before .before .before .before .before .before .before .remember-words .ensures)) (c .before .before .set-entries .ensures)
 
 pub taldreku-prepare-spec : {M : Type 1} → statement M
 taldreku-prepare-spec =
