@@ -1,4 +1,4 @@
-/* Whether two heaps that obeyed the same commands are the same but for what 01 leaves open: the cell that an object takes and the order of the
+/* Whether two heaps that obeyed the same commands are the same but for what 01 and 02 leave open: the cell that an object takes and the order of the
  * remember entries. Objects are paired from the variables on. Cells not in use must be zero in both. */
 #include "agree.h"
 

@@ -39,9 +39,9 @@
  *
  * The heap is what stands in the three arrays: no function keeps a pointer or anything else between calls, none allocates, and none calls
  * back. So calls on one heap are made one at a time, from any thread of the operating system, and different heaps are independent: calls on
- * them may be made at the same time. A heap may be copied, or written to a file, word for word. Such a dump shows nothing of what was thrown
- * away: the end of an epoch writes zeros where its objects lay. What nothing leads to any more is there until its region ends, and in the control
- * space for good; words past the lengths are not cleared. A call takes less than TALDREKU_STACK_BYTES of stack.
+ * them may be made at the same time. A heap may be copied, or written to a file, word for word. Such a dump shows nothing of what an
+ * ended epoch freed: its end writes zeros where its objects lay. What nothing leads to any more stays until its region ends, in the control space
+ * for good; words past the lengths are not cleared. A call takes less than TALDREKU_STACK_BYTES of stack.
  *
  * How many pages and remember entries
  *
@@ -90,7 +90,8 @@ enum taldreku_number {
     TALDREKU_SIZES = 1,          /* a size is out of range */
     TALDREKU_SHORT = 2,          /* one of the three arrays is too short */
     /* run: heap and answers are as before; report: no row was written, and rows, free_pages and crossing_slots are 0 */
-    TALDREKU_NOT_WHOLE = 3,      /* the arrays do not hold a heap; a word that is not zero in room without an object is enough */
+    TALDREKU_NOT_WHOLE = 3,      /* the arrays do not hold a heap; a word that is not zero in room without an object is enough, so that
+                                    a heap that version 1.0 left may be refused */
     TALDREKU_BLOCK = 4,          /* the block is no multiple of five words */
     TALDREKU_ANSWERS = 5,        /* the answer array has fewer than two words for each command */
     /* one command: the heap is as before it, its value is 0, and the block goes on */

@@ -171,6 +171,9 @@ int same_words(const Lent *l, const Lent *m) {
            same(l->tables, m->tables, l->tables_words);
 }
 
+uint32_t owner_of(const Lent *l, uint32_t page) { return l->tables[5 + l->tables[0] * (1 + l->tables[1]) + page]; }
+uint32_t used_on(const Lent *l, uint32_t page) { return owner_of(l, l->tables[3] + page); }
+
 void drop(Lent *copy) {
     free(copy->cells);
     free(copy->remember);

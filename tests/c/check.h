@@ -62,6 +62,7 @@ void discard(Block *b);
 void obey(const Lent *l, Block *b);         /* runs it, and sees that no command is refused */
 uint32_t answer(const Lent *l, uint32_t code, uint32_t thread, uint32_t a, uint32_t b, uint32_t c, uint32_t *value);
 
+uint32_t owner_of(const Lent *l, uint32_t page);
 uint32_t used_on(const Lent *l, uint32_t page);        /* cells in use */
 /* The report, as the words themselves say it: by the depths, the owners and uses of the pages, and every slot of every cell in use. */
 struct taldreku_reported count_words(const Lent *l, struct taldreku_row *rows);

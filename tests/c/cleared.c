@@ -19,7 +19,7 @@ enum { BOOK, FLEET, WHEEL, LAST, VARIABLES };
 
 static Lent heap;
 static Block block;
-/* whether the wheel with these numbers is there, and which of them stand in the cells how often */
+/* whether the wheel with this number is there, and how often the number stands in the cells */
 static uint32_t living[PLATES], seen[PLATES];
 
 static uint32_t plate(uint32_t thread, uint32_t sheet, uint32_t wheel) { return ((thread * SHEETS + sheet) * WHEELS + wheel) * NUMBERS; }
@@ -28,7 +28,7 @@ static void set_living(uint32_t thread, uint32_t sheet, uint32_t wheel, uint32_t
     for (uint32_t f = 0; f < NUMBERS; f++) living[plate(thread, sheet, wheel) + f] = there;
 }
 
-/* Which wheels the registers keep; some lead to the one before them, which is kept so. */
+/* Which wheels the registers keep; some lead to the one before them, which is kept with them. */
 static int leads(uint32_t wheel) { return wheel % 3 == 2; }
 static int in_book(uint32_t wheel) { return wheel % 10 == 5; }
 static int in_fleet(uint32_t thread, uint32_t wheel) { return wheel == 20 + thread; }
@@ -230,7 +230,7 @@ static void damaged(Edge edge) {
 
 /* ---- an end that is refused */
 
-/* No page is free for the list that variable 0 holds: the end gives 13, and every word stays. Without the variable it ends, and clears them. */
+/* No page is free for the list that variable 0 holds: the end gives 13 (14 is in commands.c), and every word stays. Without the variable it ends, and clears them. */
 static void refused_end(Edge edge) {
     uint32_t value;
     heap = prepared((Sizes){1, 2, 1, 4, 0}, 5, edge);

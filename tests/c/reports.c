@@ -3,8 +3,6 @@
 
 #include <string.h>
 
-static uint32_t owner_of(const Lent *l, uint32_t page) { return l->tables[5 + l->tables[0] * (1 + l->tables[1]) + page]; }
-uint32_t used_on(const Lent *l, uint32_t page) { return owner_of(l, l->tables[3] + page); }
 
 static uint32_t crossing_slots(const Lent *l) {
     uint32_t crossing = 0;

@@ -41,7 +41,8 @@ pub fn evacuate(
     release::release(p, cells, tables, notes, list, n, region, thread);
 }
 
-// The same end where nothing survives: no mark is set, so nothing moves and nothing leads into the region. Its entries, its cells and its pages go.
+// The same end where nothing survives: no mark is set, so nothing moves and nothing leads into the region. Its entries go, its cells are cleared,
+// and its pages go.
 pub fn evacuate_none(
     p: Sizes,
     cells: &mut [u32],

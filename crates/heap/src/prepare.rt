@@ -1,7 +1,7 @@
 // prepare: the tables of an unused heap in three lent slices.
 ghost use mathlib.Core.Path.{_≡_};
 ghost use mathlib.Core.List.{List};
-ghost use Prim.Native.Nat.{ℕ, _≤_};
+ghost use Prim.Native.Nat.{ℕ};
 ghost use lib.ListN.{length};
 ghost use Rattle.layout.specs.Words.{words};
 ghost use Rattle.promises.specs.Promises.{PrepareAsked, Prepared};
@@ -27,7 +27,7 @@ fn ask(s: Sizes, cells: usize, remember: usize, tables: usize) -> u32
     0
 }
 
-// Writes the tables of an unused heap of these sizes. Gives 0, or on refusal, with nothing written, 1 for a size out of range and 2 for
+// Writes the words of an unused heap of these sizes, every one up to the three lengths, the cells with zeros (02, W1). Gives 0, or on refusal, with nothing written, 1 for a size out of range and 2 for
 // a slice that is too short. Words past the three lengths never change.
 #[no_mangle]
 pub extern "C" fn taldreku_prepare(

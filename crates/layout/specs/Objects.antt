@@ -1,6 +1,6 @@
 -- Objects in the cells: where one begins, which words are its own, and its slots. An object takes one cell. What rests on that cites one of
--- `begins-used`, `used-begins`, `begins-on`, `begins-there`, `spot`, `slot-word`, `word-slot`, `none-before`, `none-after`, `none-past`, `covers-cell` here,
--- `room-is`, `room-most`, `most-is`, `most-words` or `field-page` to `field-high` in Cells, or copies a whole cell (`copy`).
+-- `begins-used`, `used-begins`, `begins-on`, `begins-there`, `covers-cell`, `spot`, `slot-word`, `word-slot`, `none-before`, `none-after`, `none-past`
+-- here, `room-is`, `room-most`, `most-is`, `most-words` or `field-page` to `field-high` in Cells, or copies a whole cell (`copy`).
 use Prim.Native.Nat.{ℕ, zero, suc, _+_, _-_, _*_, _≤_, _<_}
 use native.Mathlib.Omega.{arith}
 use native.Mathlib.Decide.{decLt}
@@ -134,9 +134,6 @@ module _ (s : Sizes) (c t : List ℕ) (k : ℕ) (b : Begins s c t k) where
   field-on f l = omega (arith, room-is (headOf c k))
 
   -- they lie in cells in use
-  pub head-used : InUse s t (cellOf (headAt k))
-  head-used = subst (InUse s t) (let e : k ≡ cellOf (headAt k) = omega arith in e) (begins-used s c t k b)
-
   pub work-used : InUse s t (cellOf (workAt k))
   work-used = subst (InUse s t) (let e : k ≡ cellOf (workAt k) = omega arith in e) (begins-used s c t k b)
 

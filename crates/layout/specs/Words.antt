@@ -84,9 +84,6 @@ refsIn w c = fieldsIn Reference w c
 abbrev pub numsIn : Words → ℕ → List ℕ
 numsIn w c = fieldsIn Number w c
 
-abbrev pub Used : Sizes → Words → ℕ → Type 0
-Used s w c = InUse s (w .tables) c
-
 -- an object begins at cell c
 abbrev pub BeginsIn : Sizes → Words → ℕ → Type 0
 BeginsIn s w c = Begins s (w .cells) (w .tables) c

@@ -1,5 +1,5 @@
--- What words stand for determines them, but for the open points that 02 leaves of 01's: "the cell an object takes, the order of remember entries".
--- Two words that stand for the same heap through the same map are SameButOpen: every word of the cells and of the tables is the same.
+-- What words stand for determines them, but for two of 01's open points, "the cell an object takes, the order of remember entries"; 02, W1 closed
+-- the third. Two words that stand for the same heap through the same map are SameButOpen: every word of the cells and of the tables is the same.
 use Prim.Native.Nat.{ℕ, zero, suc, _+_, _-_, _*_, _≤_, _<_}
 use native.Mathlib.Omega.{arith}
 use native.Mathlib.Decide.{decLt}

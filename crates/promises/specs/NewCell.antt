@@ -23,7 +23,7 @@ use Rattle.promises.specs.Frames.{sized-frame, depths-frame, marks-frame
 use Rattle.remember.specs.Entries.{exact-everywhere}
 use Rattle.promises.specs.Slots.{region-of, slot-stays, cross-same}
 use Rattle.promises.specs.Regular.{whole-regular}
-use Rattle.promises.specs.TakeCell.{Took, took-only, took-used, took-unused, took-blank, took-covers, still-used, used-split, owner-used, took-regular, took-pages}
+use Rattle.promises.specs.TakeCell.{Took, took-only, took-used, took-unused, took-not-in-use, took-covers, still-used, used-split, owner-used, took-regular, took-pages}
 
 -- the words of a new object, the first of them given, and all others as they were
 pub record Blank (c : List ℕ) (cell word : ℕ) (c′ : List ℕ) : Type 0 where
@@ -45,7 +45,7 @@ blanked {s} {w} {g} {cell} word k took =
     }
   where
     zero-at : (q : ℕ) → Covers cell word q → (q ≡ headAt cell → ⊥) → getD (set (w .cells) (headAt cell) word) q 0 ≡ 0
-    zero-at q c n = past (w .cells) (headAt cell) word q 0 n ∙ k .unused q (took-blank took word q c)
+    zero-at q c n = past (w .cells) (headAt cell) word q 0 n ∙ k .unused q (took-not-in-use took word q c)
 
 -- ---- whole
 

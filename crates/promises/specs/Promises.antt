@@ -107,7 +107,7 @@ pub data PrepareAsked (s : Sizes) (w : Words) (q : ℕ) : Type 0 where
   short : q ≡ 2 → InRange s → (LongEnough s w → ⊥) → PrepareAsked s w q
   accepted : q ≡ 0 → InRange s → LongEnough s w → PrepareAsked s w q
 
--- the tables of an unused heap, none of whose cells is in use: every word but those past the lengths
+-- the words of an unused heap, every one up to the lengths; no cell is in use, so all of them are zero (02, W1)
 pub record Unused (s : Sizes) (w w′ : Words) : Type 0 where
   pub tables :
       w′ .tables ≡ s .threads ∷ s .variables ∷ s .depth ∷ s .pages ∷ s .entries ∷ replicate (tablesWords s - 5) 0 ++ drop (tablesWords s) (w .tables)

@@ -106,8 +106,8 @@ module _ {s : Sizes} {t : List ℕ} {g cell : ℕ} {t′ : List ℕ} (k : Took s
   pub took-covers : (head q : ℕ) → Covers cell head q → InUse s t′ (cellOf q)
   took-covers head q e = subst (InUse s t′) (sym (covers-cell cell head q e)) took-used
 
-  pub took-blank : (head q : ℕ) → Covers cell head q → NotInUse s t q
-  took-blank head q e = record { low = covers-low s cell head q (k .page) e; unused = λ u. took-unused (subst (InUse s t) (covers-cell cell head q e) u) }
+  pub took-not-in-use : (head q : ℕ) → Covers cell head q → NotInUse s t q
+  took-not-in-use head q e = record { low = covers-low s cell head q (k .page) e; unused = λ u. took-unused (subst (InUse s t) (covers-cell cell head q e) u) }
 
   pub still-used : (c : ℕ) → InUse s t c → InUse s t′ c
   still-used c u =

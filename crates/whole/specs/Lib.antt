@@ -3,6 +3,6 @@ pub mod Pages
 pub mod Regions
 pub mod Cells
 pub mod Crossing
-pub mod Unused
+pub mod ZeroCells
 pub mod Entries
 pub mod Parts

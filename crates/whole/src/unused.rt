@@ -7,7 +7,7 @@ ghost use Rattle.layout.specs.Places.{Room, cellsWords};
 ghost use Rattle.layout.specs.Words.{words};
 ghost use Rattle.layout.specs.Cells.{CellIn, headAt, cellOn, pageCells};
 ghost use Rattle.promises.specs.Whole.{UnusedWhole};
-ghost use Rattle.whole.specs.Unused.{ZeroCell, ZeroCells};
+ghost use Rattle.whole.specs.ZeroCells.{ZeroCell, ZeroCells};
 use rules::Sizes;
 
 // Whether a cell holds zero words alone: they are joined by "or" and tested once.

@@ -81,7 +81,7 @@ inside c =
     (page .result) (page .ensures) (omega arith) (take .result) (take .ensures .0) (take .last .1 .0) (take .ensures .1)
 
 head-word-requires : tie.Need-head-word-requires
-head-word-requires c κs = c .before .before .before .before .before .before .before .before .before .before .before .before .before .before .before .before .before .before .pre .1 .1 .2
+head-word-requires c κs = omega (arith, c .before .before .before .before .before .before .before .before .before .before .before .before .before .before .before .before .before .before .pre .1 .1 .2)
 
 set-head-requires : tie.Need-set-head-requires
 set-head-requires c κs = inside (c .before .before .before .before)

@@ -5,11 +5,10 @@ use borrow.Author.Tests.{not-true, not-false}
 use borrow.Author.Count.{below-more}
 use native.Mathlib.Nat.{not-suc-le-zero}
 use Rattle.lists.specs.Says.{says-yes, says-no, said-no}
-use mathlib.Core.Path.{subst, _∙_}
 use Prim.Native.Nat.{ℕ, _-_, _≤_, _<_}
 use denote.Ref.{now}
 use Rattle.layout.specs.Places.{usedOf}
-use Rattle.whole.specs.Unused.{ZeroCells, all-unused, unused-on}
+use Rattle.whole.specs.ZeroCells.{ZeroCells, all-unused, unused-on}
 use Rattle.whole.proofs.unused.unused_whole.Statement.{statement}
 use Rattle.whole.proofs.unused.unused_whole.Tie as tie
 
@@ -37,7 +36,7 @@ returns : tie.Need-returns Inv-loop μ-loop
 returns c =
     let args = c .before .before .before .before .before .before .before .before .args in
     says-no (λ h. said-no _ (c .before .zero-cells .ensures) (not-true _ (c .if1 .taken))
-    (unused-on (args .p) (now (args .cells)) (now (args .tables)) h (c .before .before .wide .ensures ∙ c .before .before .before .used .ensures) (c .before .before .before .before .loop-test .taken)))
+    (λ place l m. unused-on (args .p) (now (args .cells)) (now (args .tables)) (c .before .before .before .before .before .loop .page) h (c .before .before .before .before .loop-test .taken) place l (omega (arith, m, c .before .before .wide .ensures, c .before .before .before .used .ensures))))
 
 add-page : tie.Need-add-page Inv-loop μ-loop
 add-page c = omega arith
@@ -47,9 +46,8 @@ loop-less c = omega arith
 
 loop-again : tie.Need-loop-again Inv-loop μ-loop
 loop-again c =
-    let args = c .before .before .before .before .before .before .before .before .args in
     let loop = c .before .before .before .before .before .loop in
-    (omega arith, below-more _ _ (loop .inv .1) (subst (ZeroCells (now (args .cells)) (loop .page)) (c .before .before .wide .ensures ∙ c .before .before .before .used .ensures) (c .before .zero-cells .ensures .0 (not-false _ (c .if1 .left)))))
+    (omega arith, below-more _ _ (loop .inv .1) (λ place l m. c .before .zero-cells .ensures .0 (not-false _ (c .if1 .left)) place l (omega (arith, m, c .before .before .wide .ensures, c .before .before .before .used .ensures))))
 
 returns-2 : tie.Need-returns-2 Inv-loop μ-loop
 returns-2 c =

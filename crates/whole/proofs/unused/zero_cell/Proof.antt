@@ -3,7 +3,7 @@ use native.Mathlib.Omega.{arith}
 use borrow.Author.Tests.{eq-eqb, eqb-true}
 use Prim.Native.Nat.{_-_, _≤_}
 use Rattle.layout.specs.Cells.{cellWords}
-use Rattle.whole.specs.Unused.{Joined, joined-none, joined-more}
+use Rattle.whole.specs.ZeroCells.{Joined, joined-none, joined-more}
 use Rattle.whole.proofs.unused.zero_cell.Statement.{statement}
 use Rattle.whole.proofs.unused.zero_cell.Tie as tie
 

@@ -7,7 +7,7 @@ use mathlib.Core.Path.{sym, subst}
 use Prim.Native.Nat.{ℕ, _-_, _≤_, _<_}
 use denote.Ref.{now}
 use Rattle.layout.specs.Cells.{cellOn, pageCells}
-use Rattle.whole.specs.Unused.{ZeroCell}
+use Rattle.whole.specs.ZeroCells.{ZeroCell}
 use Rattle.whole.proofs.unused.zero_cells.Statement.{statement}
 use Rattle.whole.proofs.unused.zero_cells.Tie as tie
 

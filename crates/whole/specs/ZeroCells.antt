@@ -49,9 +49,9 @@ all-unused p c t h q n = go (decLt (placeOf (cellOf q)) (usedOf p t (pageAt q)))
         let e : wordAt (cellOn (pageAt q) (placeOf (cellOf q))) (wordOf q) ≡ q = omega arith in
         subst (λ (x : ℕ). getD c x 0 ≡ 0) e (h (pageAt q) (at-page p q (n .low)) (placeOf (cellOf q)) (place-low (cellOf q)) (omega arith) (wordOf q) (omega arith))
 
--- a page that the code has reached: the cells in use on it, as it read them
-pub unused-on : (p : Sizes) (c t : List ℕ) {page used : ℕ} → UnusedWhole p (words c [] t) → used ≡ usedOf p t page → page < p .pages → ZeroCells c page used
-unused-on p c t {page} {used} z e l place m k i b = z (wordAt (cellOn page place) i) (record { low = omega arith; unused = past })
+-- of a page the cells from those in use on
+pub unused-on : (p : Sizes) (c t : List ℕ) (page : ℕ) → UnusedWhole p (words c [] t) → page < p .pages → ZeroCells c page (usedOf p t page)
+unused-on p c t page z l place m k i b = z (wordAt (cellOn page place) i) (record { low = omega arith; unused = past })
   where
     past : InUse p t (cellOf (wordAt (cellOn page place) i)) → ⊥
     past u =
