@@ -230,7 +230,8 @@ static void damaged(Edge edge) {
 
 /* ---- an end that is refused */
 
-/* No page is free for the list that variable 0 holds: the end gives 13 (14 is in commands.c), and every word stays. Without the variable it ends, and clears them. */
+/* No page is free for the list that variable 0 holds: the end gives 13 (14 is in commands.c), and every word stays. Without the variable it ends,
+ * and clears them. */
 static void refused_end(Edge edge) {
     uint32_t value;
     heap = prepared((Sizes){1, 2, 1, 4, 0}, 5, edge);
