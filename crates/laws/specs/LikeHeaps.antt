@@ -23,21 +23,23 @@ use Rattle.rules.specs.NeverFreeing.{Object, noObject, depthOf, varOf, objectOf
 use Rattle.rules.specs.NeverFreeing.{Access, noField, references, numbers, Source, null, held, loaded, Result, noValue, isObject, theNumber, areSame}
 use Rattle.rules.specs.NeverFreeing.{Assignment, nothing, variable, reference, number, Effect, opens, ends, makes, assigns}
 use Rattle.rules.specs.Regions.{regionAt}
-use Rattle.rules.specs.Graph.{Graph, ended}
+use Rattle.rules.specs.Graph.{Graph, ended, freedBy}
 use Rattle.laws.specs.GraphLaws.{Alive}
 use Rattle.laws.specs.EndLaws.{was-alive}
-use Rattle.laws.specs.SameRules.{renamed, renamed-zeros, Partners, partners-ended}
+use Rattle.laws.specs.SameRules.{renamed, renamed-zeros, Partners, partners-ended, same-freed}
 use Rattle.rules.specs.Rules as ru
-use Rattle.rules.specs.Rules.{Regioned, graph, innermost}
+use Rattle.rules.specs.Rules.{Regioned, graph, innermost, oneMade, moreFreed}
 use Rattle.laws.specs.RulesLaws.{Sound, region-pos, graph-ended, afterEffect}
 
--- `to` leads each object of h that is there to one of k, one to one and onto, with its home, references, numbers and the variables
+-- `to` leads each object of h that is there to one of k, one to one and onto, with its home, references, numbers and the variables;
+-- depths and counters are the same
 pub record Like (to : ℕ → ℕ) (h k : Regioned) : Type 0 where
   pub sound : Sound h
   pub sound′ : Sound k
   pub depths : k .heap .depths ≡ h .heap .depths
   pub partners : Partners to (graph h) (graph k)
   pub nums : (x : ℕ) → Alive (graph h) x → getD (k .heap .objects) (to x) noObject .nums ≡ getD (h .heap .objects) x noObject .nums
+  pub counters : k .counters ≡ h .counters
 
 -- ---- lists
 
@@ -47,11 +49,11 @@ null-like to (suc x) = eqb·suc-zero (to x) ∙ sym (eqb·suc-zero x)
 
 -- a heap after the end of region r, and one with a new object in region q and variable p
 abbrev over : Sizes → ℕ → Regioned → List ℕ → Regioned
-over s r g ds = record { heap = record { depths = ds; vars = g .heap .vars; objects = g .heap .objects }; homes = ru.ended s g r }
+over s r g ds = record { heap = record { depths = ds; vars = g .heap .vars; objects = g .heap .objects }; homes = ru.ended s g r; counters = moreFreed (freedBy s (graph g) r) (g .counters) }
 
 abbrev grownBy : ℕ → ℕ → List ℕ → ℕ → Regioned → Regioned
 grownBy q b ns p g =
-    record { heap = record { depths = g .heap .depths; vars = set (g .heap .vars) p (length (g .heap .objects) + 1); objects = g .heap .objects ++ record { refs = replicate b 0; nums = ns } ∷ [] }; homes = g .homes ++ q ∷ [] }
+    record { heap = record { depths = g .heap .depths; vars = set (g .heap .vars) p (length (g .heap .objects) + 1); objects = g .heap .objects ++ record { refs = replicate b 0; nums = ns } ∷ [] }; homes = g .homes ++ q ∷ []; counters = oneMade (g .counters) }
 
 module _ (s : Sizes) (to : ℕ → ℕ) (h k : Regioned) (l : Like to h k) where
   -- a reference that is null or names an object that is there
@@ -166,8 +168,8 @@ module _ (s : Sizes) (to : ℕ → ℕ) (h k : Regioned) (l : Like to h k) where
         go (no n) =
             subst₂ P (sym (getD-set-other (h .heap .objects) x y o noObject n)) (sym (getD-set-other (k .heap .objects) (to x) (to y) o′ noObject (λ e. n (l .partners .apart y x b a e)))) (f y b)
 
-    object-partners : Partners to (graph (record { heap = record { depths = h .heap .depths; vars = h .heap .vars; objects = set (h .heap .objects) x o }; homes = h .homes }))
-        (graph (record { heap = record { depths = k .heap .depths; vars = k .heap .vars; objects = set (k .heap .objects) (to x) o′ }; homes = k .homes }))
+    object-partners : Partners to (graph (record { heap = record { depths = h .heap .depths; vars = h .heap .vars; objects = set (h .heap .objects) x o }; homes = h .homes; counters = h .counters }))
+        (graph (record { heap = record { depths = k .heap .depths; vars = k .heap .vars; objects = set (k .heap .objects) (to x) o′ }; homes = k .homes; counters = k .counters }))
     object-partners =
         record {
           home = l .partners .home;
@@ -283,7 +285,7 @@ module _ (s : Sizes) (to : ℕ → ℕ) (h k : Regioned) (l : Like to h k) where
 
     new-after : Sound (grown h) → Sound (grown k) → After (grown h) (grown k)
     new-after sh sk =
-        record { to′ = to⁺; like = record { sound = sh; sound′ = sk; depths = l .depths; partners = new-partners; nums = new-nums }; keeps = to-alive }
+        record { to′ = to⁺; like = record { sound = sh; sound′ = sk; depths = l .depths; partners = new-partners; nums = new-nums; counters = ap oneMade (l .counters) }; keeps = to-alive }
 
   -- ---- every command
 
@@ -292,8 +294,8 @@ module _ (s : Sizes) (to : ℕ → ℕ) (h k : Regioned) (l : Like to h k) where
 
   -- the object that a reference v here, and the one that corresponds there, becomes o and o′
   object-after : (v u : ℕ) → Live v → u ≡ renamed to v → (o o′ : Object) → o′ .refs ≡ map (renamed to) (o .refs) → o′ .nums ≡ o .nums
-      → Sound (record { heap = nf.withObject (h .heap) v o; homes = h .homes }) → Sound (record { heap = nf.withObject (k .heap) u o′; homes = k .homes })
-      → After (record { heap = nf.withObject (h .heap) v o; homes = h .homes }) (record { heap = nf.withObject (k .heap) u o′; homes = k .homes })
+      → Sound (record { heap = nf.withObject (h .heap) v o; homes = h .homes; counters = h .counters }) → Sound (record { heap = nf.withObject (k .heap) u o′; homes = k .homes; counters = k .counters })
+      → After (record { heap = nf.withObject (h .heap) v o; homes = h .homes; counters = h .counters }) (record { heap = nf.withObject (k .heap) u o′; homes = k .homes; counters = k .counters })
   object-after zero zero f e o o′ er en sh sk = same-after
   object-after zero (suc y) f e o o′ er en sh sk = absurd (let z : ⊥ = omega arith in z)
   object-after (suc x) zero f e o o′ er en sh sk = absurd (let z : ⊥ = omega arith in z)
@@ -301,20 +303,20 @@ module _ (s : Sizes) (to : ℕ → ℕ) (h k : Regioned) (l : Like to h k) where
       let p : y ≡ to x = suc-inj e in
       record {
         to′ = to;
-        like = record { sound = sh; sound′ = sk; depths = l .depths; partners = rw p (object-partners x (f x refl) o o′ er en); nums = rw p (object-nums x (f x refl) o o′ er en) };
+        like = record { sound = sh; sound′ = sk; depths = l .depths; partners = rw p (object-partners x (f x refl) o o′ er en); nums = rw p (object-nums x (f x refl) o o′ er en); counters = l .counters };
         keeps = λ y b. refl;
       }
 
   -- the objects and homes stay, and the variables follow
   vars-after : (p v u : ℕ) → u ≡ renamed to v
-      → Sound (record { heap = record { depths = h .heap .depths; vars = set (h .heap .vars) p v; objects = h .heap .objects }; homes = h .homes })
-      → Sound (record { heap = record { depths = k .heap .depths; vars = set (k .heap .vars) p u; objects = k .heap .objects }; homes = k .homes })
-      → After (record { heap = record { depths = h .heap .depths; vars = set (h .heap .vars) p v; objects = h .heap .objects }; homes = h .homes })
-      (record { heap = record { depths = k .heap .depths; vars = set (k .heap .vars) p u; objects = k .heap .objects }; homes = k .homes })
+      → Sound (record { heap = record { depths = h .heap .depths; vars = set (h .heap .vars) p v; objects = h .heap .objects }; homes = h .homes; counters = h .counters })
+      → Sound (record { heap = record { depths = k .heap .depths; vars = set (k .heap .vars) p u; objects = k .heap .objects }; homes = k .homes; counters = k .counters })
+      → After (record { heap = record { depths = h .heap .depths; vars = set (h .heap .vars) p v; objects = h .heap .objects }; homes = h .homes; counters = h .counters })
+      (record { heap = record { depths = k .heap .depths; vars = set (k .heap .vars) p u; objects = k .heap .objects }; homes = k .homes; counters = k .counters })
   vars-after p v u e sh sk =
       record {
         to′ = to;
-        like = record { sound = sh; sound′ = sk; depths = l .depths; partners = vars-partners (set (h .heap .vars) p v) (set (k .heap .vars) p u) (set-vars p v u e); nums = l .nums };
+        like = record { sound = sh; sound′ = sk; depths = l .depths; partners = vars-partners (set (h .heap .vars) p v) (set (k .heap .vars) p u) (set-vars p v u e); nums = l .nums; counters = l .counters };
         keeps = λ x a. refl;
       }
 
@@ -334,12 +336,13 @@ module _ (s : Sizes) (to : ℕ → ℕ) (h k : Regioned) (l : Like to h k) where
             partners = subst₂ (Partners to) (sym (graph-ended s h r pos ds)) (sym (graph-ended s k r pos es))
                 (partners-ended s to (graph h) (graph k) (l .sound .closed) (l .sound′ .closed) (l .partners) r pos);
             nums = λ x a. l .nums x (was-alive s (graph h) r pos (l .sound .closed) x (subst (λ (g : Graph). Alive g x) (graph-ended s h r pos ds) a));
+            counters = ap₂ moreFreed (sym (same-freed s to (graph h) (graph k) (l .sound .closed) (l .sound′ .closed) (l .partners) r pos)) (l .counters);
           };
           keeps = λ x a. refl;
         }
 
   assigned-after : (t : ℕ) (x : Assignment) → Sound (afterEffect s h t (assigns x)) → Sound (afterEffect s k t (assigns x)) → After (afterEffect s h t (assigns x)) (afterEffect s k t (assigns x))
-  unfolding nf.effect ru.homesAfter
+  unfolding nf.effect ru.homesAfter ru.countersAfter
   assigned-after t nothing sh sk = same-after
   assigned-after t (variable a v) sh sk = vars-after (place (limits s) t a) _ _ (source-like v) sh sk
   assigned-after t (reference a f v) sh sk =
@@ -351,11 +354,11 @@ module _ (s : Sizes) (to : ℕ → ℕ) (h k : Regioned) (l : Like to h k) where
       (ap (λ (vs : List ℕ). set vs f v) (var-nums (place (limits s) t a))) sh sk
 
   pub after-like : (t : ℕ) (e : Effect) → Sound (afterEffect s h t e) → Sound (afterEffect s k t e) → After (afterEffect s h t e) (afterEffect s k t e)
-  unfolding nf.effect ru.homesAfter
+  unfolding nf.effect ru.homesAfter ru.countersAfter
   after-like t opens sh sk =
       record {
         to′ = to;
-        like = record { sound = sh; sound′ = sk; depths = ap (λ (ds : List ℕ). set ds t (getD ds t 0 + 1)) (l .depths); partners = l .partners; nums = l .nums };
+        like = record { sound = sh; sound′ = sk; depths = ap (λ (ds : List ℕ). set ds t (getD ds t 0 + 1)) (l .depths); partners = l .partners; nums = l .nums; counters = l .counters };
         keeps = λ x d. refl;
       }
   after-like t ends sh sk =

@@ -19,11 +19,11 @@ use Rattle.rules.specs.NeverFreeing as nf
 use Rattle.rules.specs.NeverFreeing.{Object, noObject, depthOf, varOf, objectOf, place, referred, assigned, meaningOf}
 use Rattle.rules.specs.NeverFreeing.{Source, null, held, loaded, Assignment, nothing, variable, reference, number, Effect, opens, ends, makes, assigns}
 use Rattle.rules.specs.Regions.{regionAt}
-use Rattle.rules.specs.Graph.{target, ended}
+use Rattle.rules.specs.Graph.{target, ended, freedBy}
 use Rattle.laws.specs.GraphLaws.{Alive, Closed}
 use Rattle.laws.specs.EndLaws.{closed-ended}
 use Rattle.rules.specs.Rules as ru
-use Rattle.rules.specs.Rules.{Regioned, graph, innermost}
+use Rattle.rules.specs.Rules.{Regioned, graph, innermost, oneMade, moreFreed}
 
 pub record Sound (h : Regioned) : Type 0 where
   pub aligned : length (h .homes) ≡ length (h .heap .objects)
@@ -64,7 +64,7 @@ object-refs h k i y = go (getD (h .heap .vars) i 0) refl
 -- ---- a variable gets what names an object that is there, or null
 
 sound-var : (h : Regioned) → Sound h → (p v : ℕ) → ((x : ℕ) → v ≡ suc x → Alive (graph h) x)
-    → Sound (record { heap = record { depths = h .heap .depths; vars = set (h .heap .vars) p v; objects = h .heap .objects }; homes = h .homes })
+    → Sound (record { heap = record { depths = h .heap .depths; vars = set (h .heap .vars) p v; objects = h .heap .objects }; homes = h .homes; counters = h .counters })
 sound-var h k p v ok =
     record { aligned = k .aligned; closed = record { below = k .closed .below; vars = λ i x. go i x (set-cases (h .heap .vars) p i v 0); refs = k .closed .refs } }
   where
@@ -75,7 +75,7 @@ sound-var h k p v ok =
 
 -- ---- an object gets fields that name objects that are there, or null
 
-sound-object : (h : Regioned) → Sound h → (v : ℕ) (o : Object) → ((y : ℕ) → In (suc y) (o .refs) → Alive (graph h) y) → Sound (record { heap = nf.withObject (h .heap) v o; homes = h .homes })
+sound-object : (h : Regioned) → Sound h → (v : ℕ) (o : Object) → ((y : ℕ) → In (suc y) (o .refs) → Alive (graph h) y) → Sound (record { heap = nf.withObject (h .heap) v o; homes = h .homes; counters = h .counters })
 sound-object h k zero o ok = k
 sound-object h k (suc p) o ok =
     let l = k .aligned ∙ sym (length-set (h .heap .objects) p o) in
@@ -94,7 +94,7 @@ module _ (h : Regioned) (k : Sound h) (p q b : ℕ) (ns : List ℕ) (pos : 0 < q
 
   abbrev grown : Regioned
   grown =
-      record { heap = record { depths = h .heap .depths; vars = set (h .heap .vars) p (length (h .heap .objects) + 1); objects = h .heap .objects ++ made ∷ [] }; homes = h .homes ++ q ∷ [] }
+      record { heap = record { depths = h .heap .depths; vars = set (h .heap .vars) p (length (h .heap .objects) + 1); objects = h .heap .objects ++ made ∷ [] }; homes = h .homes ++ q ∷ []; counters = oneMade (h .counters) }
 
   -- what was there is there
   old : (x : ℕ) → x < length (h .homes) → getD (h .homes ++ q ∷ []) x 0 ≡ getD (h .homes) x 0
@@ -146,7 +146,7 @@ length-moved goes r i (q ∷ qs) = ap suc (length-moved goes r (suc i) qs)
 
 module _ (s : Sizes) (h : Regioned) (r : ℕ) (pos : 0 < r) (ds : List ℕ) where
   abbrev pub over : Regioned
-  over = record { heap = record { depths = ds; vars = h .heap .vars; objects = h .heap .objects }; homes = ru.ended s h r }
+  over = record { heap = record { depths = ds; vars = h .heap .vars; objects = h .heap .objects }; homes = ru.ended s h r; counters = moreFreed (freedBy s (graph h) r) (h .counters) }
 
   -- the heap after an end has the graph after that end
   pub graph-ended : graph over ≡ ended s (graph h) r
@@ -173,7 +173,7 @@ unfolding regionAt
 region-pos s t zero = omega arith
 region-pos s t (suc d) = omega arith
 
-sound-depth : (h : Regioned) → Sound h → (ds : List ℕ) → Sound (record { heap = record { depths = ds; vars = h .heap .vars; objects = h .heap .objects }; homes = h .homes })
+sound-depth : (h : Regioned) → Sound h → (ds : List ℕ) → Sound (record { heap = record { depths = ds; vars = h .heap .vars; objects = h .heap .objects }; homes = h .homes; counters = h .counters })
 sound-depth h k ds = record { aligned = k .aligned; closed = k .closed }
 
 -- what a command reads is null or names an object that is there
@@ -182,7 +182,7 @@ source-alive s h k null x e = absurd (omega arith)
 source-alive s h k (held t a) x e = k .vars (place (limits s) t a) x e
 source-alive s h k (loaded t a f) x e = object-refs h k (place (limits s) t a) x (getD-in (objectOf (h .heap) (varOf (limits s) (h .heap) t a) .refs) f x e)
 
-sound-assigned : (s : Sizes) (h : Regioned) → Sound h → (t : ℕ) (x : Assignment) → Sound (record { heap = assigned (limits s) (h .heap) t x; homes = h .homes })
+sound-assigned : (s : Sizes) (h : Regioned) → Sound h → (t : ℕ) (x : Assignment) → Sound (record { heap = assigned (limits s) (h .heap) t x; homes = h .homes; counters = h .counters })
 sound-assigned s h k t nothing = k
 sound-assigned s h k t (variable a v) = sound-var h k (place (limits s) t a) _ (source-alive s h (k .closed) v)
 sound-assigned s h k t (reference a f v) =
@@ -195,10 +195,10 @@ sound-assigned s h k t (number a f v) = sound-object h k (varOf (limits s) (h .h
 
 -- the heap after what a command of thread t does
 abbrev pub afterEffect : Sizes → Regioned → ℕ → Effect → Regioned
-afterEffect s h t e = record { heap = nf.effect (limits s) (h .heap) t e; homes = ru.homesAfter s h t e }
+afterEffect s h t e = record { heap = nf.effect (limits s) (h .heap) t e; homes = ru.homesAfter s h t e; counters = ru.countersAfter s h t e }
 
 sound-effect : (s : Sizes) (h : Regioned) → Sound h → (t : ℕ) (e : Effect) → Sound (afterEffect s h t e)
-unfolding nf.effect ru.homesAfter
+unfolding nf.effect ru.homesAfter ru.countersAfter
 sound-effect s h k t opens = sound-depth h k _
 sound-effect s h k t ends = sound-ended s h (innermost s h t) (region-pos s t (depthOf (h .heap) t)) _ k
 sound-effect s h k t (makes a b c) = sound-new h k (place (limits s) t a) (innermost s h t) b (replicate c 0) (region-pos s t (depthOf (h .heap) t))

@@ -1,4 +1,4 @@
--- Two graphs whose objects correspond obey the same rules: targets, counts of objects, pages and crossing slots are the same.
+-- Two graphs whose objects correspond obey the same rules: targets, counts of objects, of those freed, pages and crossing slots are the same.
 use Prim.Native.Nat.{ℕ, zero, suc, _<_}
 use native.Mathlib.Omega.{arith}
 use native.Mathlib.Decide.{ℕ-discrete}
@@ -9,13 +9,14 @@ use mathlib.Core.List.{List, [], _∷_, map}
 use mathlib.Core.Bool.{Bool, true, false, cond, not, _&&_}
 use lib.ListN.{getD, replicate, List·getD-map}
 use lib.Dec.{eqb}
-use borrow.Author.Tests.{eq-eqb, ne-eqb, eqb-true}
+use borrow.Author.Tests.{ne-eqb, eqb-true}
 use Rattle.rules.specs.declared.Sizes.{Sizes}
 use Rattle.lists.specs.Members.{In, in-map, map-in, tally}
+use Rattle.lists.specs.Counting.{bit, sum}
 use Rattle.lists.specs.OneToOne.{sum-paired}
 use Rattle.laws.specs.Counts.{crossAt, crossIn, cross-alive, crossing-sum, same-new}
 use Rattle.rules.specs.Regions.{join}
-use Rattle.rules.specs.Graph.{Graph, slotsOf, target, ended, crosses, crossing, objectsIn, newPages}
+use Rattle.rules.specs.Graph.{Graph, slotsOf, target, ended, freedBy, crosses, crossing, objectsIn, newPages}
 use Rattle.laws.specs.Joins.{from-map, join-of-one}
 use Rattle.laws.specs.JoinLaws.{joins}
 use Rattle.laws.specs.EndLaws.{was-alive, home-went, home-stayed, closed-ended}
@@ -168,31 +169,33 @@ module _ (s : Sizes) (to : ℕ → ℕ) (g h : Graph) (cg : Closed g) (ch : Clos
 
   -- ---- counts
 
+  -- what is counted of objects that are there
+  same-count : (f f′ : ℕ → ℕ) → ((x : ℕ) → 0 < f x → Alive g x) → ((y : ℕ) → 0 < f′ y → Alive h y) → ((x : ℕ) → Alive g x → f′ (to x) ≡ f x) → sum f (g .count) ≡ sum f′ (h .count)
+  same-count f f′ ag ah same =
+      sum-paired to f (g .count) f′ (h .count)
+      (record {
+        goes = λ x l k. let a = ag x k in (ch .below (to x) (alive-to x a), same x a);
+        apart = λ x y l m k j e. p .apart x y (ag x k) (ag y j) e;
+        onto = λ y l k. let w = p .onto y (ah y k) in (w .0, cg .below (w .0) (w .1), subst (λ (n : ℕ). 0 < n) (ap f′ (sym (w .2)) ∙ same (w .0) (w .1)) k, w .2);
+      })
+
+  -- of those of region q
+  lies-there : (q : ℕ) → 0 < q → (f : Graph) (n : ℕ → ℕ) (x : ℕ) → 0 < cond (eqb (f .home x) q) (n x) 0 → Alive f x
+  lies-there q pos f n x k z = go (eqb (f .home x) q) refl k
+    where
+      go : (b : Bool) → eqb (f .home x) q ≡ b → 0 < cond b (n x) 0 → ⊥
+      go true e k = omega (arith, eqb-true (f .home x) q e)
+      go false e k = omega arith
+
   pub same-objects : (q : ℕ) → 0 < q → objectsIn g q ≡ objectsIn h q
   unfolding objectsIn
-  same-objects q pos =
-      sum-paired to (λ x. one g x) (g .count) (λ x. one h x) (h .count)
-      (record {
-        goes = λ x l k. let e = lies g x k in let a = alive g x e in (ch .below (to x) (alive-to x a), ap (λ (n : ℕ). cond (eqb n q) 1 0) (p .home x a));
-        apart = λ x y l m k j e. p .apart x y (alive g x (lies g x k)) (alive g y (lies g y j)) e;
-        onto = λ y l k. let w = p .onto y (alive h y (lies h y k)) in (w .0, cg .below (w .0) (w .1), counts (w .0) (sym (p .home (w .0) (w .1)) ∙ ap (h .home) (w .2) ∙ lies h y k), w .2);
-      })
-    where
-      one : Graph → ℕ → ℕ
-      one f x = cond (eqb (f .home x) q) 1 0
+  same-objects q pos = same-count _ _ (lies-there q pos g (λ x. 1)) (lies-there q pos h (λ x. 1)) (λ x a. ap (λ (n : ℕ). cond (eqb n q) 1 0) (p .home x a))
 
-      lies : (f : Graph) (x : ℕ) → 0 < one f x → f .home x ≡ q
-      lies f x = go (eqb (f .home x) q) refl
-        where
-          go : (b : Bool) → eqb (f .home x) q ≡ b → 0 < cond b 1 0 → f .home x ≡ q
-          go true e k = eqb-true _ _ e
-          go false e k = absurd (omega arith)
-
-      alive : (f : Graph) (x : ℕ) → f .home x ≡ q → Alive f x
-      alive f x e z = omega arith
-
-      counts : (x : ℕ) → g .home x ≡ q → 0 < one g x
-      counts x e = subst (λ (b : Bool). 0 < cond b 1 0) (sym (eq-eqb _ _ e)) (omega arith)
+  pub same-freed : (r : ℕ) → 0 < r → freedBy s g r ≡ freedBy s h r
+  unfolding freedBy target
+  same-freed r pos =
+      same-count _ _ (lies-there r pos g (λ x. bit (eqb (target s g r x) 0))) (lies-there r pos h (λ x. bit (eqb (target s h r x) 0)))
+      (λ x a. ap₂ (λ (m n : ℕ). cond (eqb m r) (bit (eqb n 0)) 0) (p .home x a) (same-target r pos x a))
 
   crosses-to : (x y : ℕ) → Alive g x → Alive g y → crosses h (record { «from» = to x; to = to y }) ≡ crosses g (record { «from» = x; to = y })
   crosses-to x y a b = ap₂ (λ (m n : ℕ). not (eqb m n) && not (eqb n 1)) (p .home x a) (p .home y b)
@@ -216,13 +219,7 @@ module _ (s : Sizes) (to : ℕ → ℕ) (g h : Graph) (cg : Closed g) (ch : Clos
   pub same-crossing : crossing g ≡ crossing h
   same-crossing =
       crossing-sum g
-      ∙ sum-paired to (crossAt g) (g .count) (crossAt h) (h .count)
-      (record {
-        goes = λ x l k. let a = cross-alive g x k in (ch .below (to x) (alive-to x a), cross-to x a);
-        apart = λ x y l m k j e. p .apart x y (cross-alive g x k) (cross-alive g y j) e;
-        onto = λ y l k. let w = p .onto y (cross-alive h y k) in
-            (w .0, cg .below (w .0) (w .1), subst (λ (n : ℕ). 0 < n) (ap (crossAt h) (sym (w .2)) ∙ cross-to (w .0) (w .1)) k, w .2);
-      })
+      ∙ same-count (crossAt g) (crossAt h) (cross-alive g) (cross-alive h) cross-to
       ∙ sym (crossing-sum h)
 
 -- ---- so an end is refused in both or in neither
