@@ -6,6 +6,7 @@ pub mod FlowLaws
 pub mod GraphLaws
 pub mod EndLaws
 pub mod Counts
+pub mod Counters
 pub mod SameRules
 pub mod RulesLaws
 pub mod Asked

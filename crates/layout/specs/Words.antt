@@ -8,11 +8,11 @@ use Rattle.lists.specs.Listed.{listed}
 use Rattle.rules.specs.declared.Sizes.{Sizes}
 use Rattle.rules.specs.NeverFreeing.{Object}
 use Rattle.rules.specs.Graph.{Graph}
-use Rattle.rules.specs.Rules.{Regioned}
+use Rattle.rules.specs.Rules.{Counters, Regioned}
 use Rattle.layout.specs.declared.Kind.{Kind}
 use Rattle.layout.specs.declared.Kind.the-variants.{Reference, Number}
 pub use Rattle.layout.specs.Objects.{InUse, Begins, beginsAt, cellCount}
-use Rattle.layout.specs.Places.{sizesAt, depthAt, varAt, depthOf, varOf, ownerOf, usedOf}
+use Rattle.layout.specs.Places.{sizesAt, depthAt, varAt, depthOf, varOf, ownerOf, usedOf, madeOf, freedOf}
 use Rattle.layout.specs.Cells.{headOf, fieldAt, fieldCount, firstField, cellNamed, pageOf}
 
 pub record Words : Type 0 where
@@ -46,6 +46,16 @@ ownerIn s w page = ownerOf s (w .tables) page
 
 abbrev pub usedIn : Sizes → Words → ℕ → ℕ
 usedIn s w page = usedOf s (w .tables) page
+
+abbrev pub madeIn : Sizes → Words → ℕ
+madeIn s w = madeOf s (w .tables)
+
+abbrev pub freedIn : Sizes → Words → ℕ
+freedIn s w = freedOf s (w .tables)
+
+-- the two counters
+abbrev pub countersIn : Sizes → Words → Counters
+countersIn s w = record { made = madeIn s w; freed = freedIn s w }
 
 unfoldable pub depthsAt : Sizes → List ℕ → List ℕ
 depthsAt s tables = take (s .threads) (drop (depthAt 0) tables)
@@ -114,4 +124,5 @@ heapOf s w =
     record {
       heap = record { depths = depthsIn s w; vars = varsIn s w; objects = listed (objectIn w) (cellCount s) };
       homes = listed (homeIn s w) (cellCount s);
+      counters = countersIn s w;
     }

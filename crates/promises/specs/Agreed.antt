@@ -85,6 +85,7 @@ module _ (s : Sizes) (w : Words) (k : WholeFor s w) where
           vars = sym (renamed-id (varsIn s w));
         };
         nums = λ x a. ap (λ (o : Object). o .nums) (object-at x (there x a));
+        counters = refl;
       }
 
 pub whole-words : (s : Sizes) (w : Words) → WholeFor s w → WholeWords w

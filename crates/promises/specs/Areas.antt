@@ -14,10 +14,10 @@ use Rattle.lists.specs.Says.{true-not-false}
 use Rattle.lists.specs.Stores.{past, drop-same}
 use Rattle.rules.specs.declared.Sizes.{Sizes}
 use Rattle.rules.specs.Regions.{regions}
-use Rattle.layout.specs.Places.{varCount, cellsWords, rememberWords, tablesWords, depthAt, varAt, varOf, ownersFrom, ownerAt, usedFrom, usedAt, marksFrom, markAt, markOf, countsFrom, countAt, countOf, count-room}
+use Rattle.layout.specs.Places.{varCount, cellsWords, rememberWords, tablesWords, depthAt, varAt, varOf, ownersFrom, ownerAt, usedFrom, usedAt, marksFrom, markAt, markOf, countsFrom, countAt, countOf, madeAt, freedAt, count-room}
 use Rattle.layout.specs.Cells.{workOf, fieldOf, roomFor}
 use Rattle.layout.specs.Objects.{NotInUse, unused-same}
-use Rattle.layout.specs.Words.{Words, BeginsIn, sizesIn, depthIn, ownerIn, usedIn, headIn}
+use Rattle.layout.specs.Words.{Words, BeginsIn, sizesIn, depthIn, ownerIn, usedIn, madeIn, freedIn, headIn}
 use Rattle.remember.specs.Entries.{Edited}
 use Rattle.promises.specs.StandsFor.{SameFrom, SameBeyond}
 use Rattle.promises.specs.Changes.{withTables, withCells}
@@ -25,7 +25,7 @@ use Rattle.promises.specs.Slots.{begins-kept}
 
 -- the words of the tables, of the objects, of the cells not in use and of the remember table
 pub data Area : Type 0 where
-  sizeWords depthWords variableWords ownerWords usedWords markWords countWords headWords workWords fieldWords unusedWords entryWords : Area
+  sizeWords depthWords variableWords ownerWords usedWords markWords countWords madeWords freedWords headWords workWords fieldWords unusedWords entryWords : Area
 
 -- those of the tables are numbered by their arrays
 abbrev number : Area → ℕ
@@ -36,11 +36,13 @@ number ownerWords = 3
 number usedWords = 4
 number markWords = 5
 number countWords = 6
-number headWords = 7
-number workWords = 8
-number fieldWords = 9
-number unusedWords = 10
-number entryWords = 11
+number madeWords = 7
+number freedWords = 8
+number headWords = 9
+number workWords = 10
+number fieldWords = 11
+number unusedWords = 12
+number entryWords = 13
 
 abbrev pub among : Area → List Area → Bool
 among a [] = false
@@ -55,6 +57,8 @@ Same ownerWords s w w′ = (q : ℕ) → q < s .pages → ownerIn s w′ q ≡ o
 Same usedWords s w w′ = (q : ℕ) → q < s .pages → usedIn s w′ q ≡ usedIn s w q
 Same markWords s w w′ = (q : ℕ) → q < s .pages → markOf s (w′ .tables) q ≡ markOf s (w .tables) q
 Same countWords s w w′ = (g : ℕ) → 1 ≤ g → g ≤ regions s → countOf s (w′ .tables) g ≡ countOf s (w .tables) g
+Same madeWords s w w′ = madeIn s w′ ≡ madeIn s w
+Same freedWords s w w′ = freedIn s w′ ≡ freedIn s w
 Same headWords s w w′ = (k : ℕ) → BeginsIn s w k → headIn w′ k ≡ headIn w k
 Same workWords s w w′ = (k : ℕ) → BeginsIn s w k → workOf (w′ .cells) k ≡ workOf (w .cells) k
 Same fieldWords s w w′ = (k : ℕ) → BeginsIn s w k → (f : ℕ) → f < roomFor (headIn w k) → fieldOf (w′ .cells) k f ≡ fieldOf (w .cells) k f
@@ -104,6 +108,8 @@ only-trans {cs} {ds} {s} {u} {v} {w} x y used head =
     both usedWords f g = λ q l. g q l ∙ f q l
     both markWords f g = λ q l. g q l ∙ f q l
     both countWords f g = λ h l m. g h l m ∙ f h l m
+    both madeWords f g = g ∙ f
+    both freedWords f g = g ∙ f
     both headWords f g = λ k i. g k (stay k i .0) ∙ f k i
     both workWords f g = λ k i. g k (stay k i .0) ∙ f k i
     both fieldWords f g = λ k i j l. g k (stay k i .0) j (subst (λ (h : ℕ). j < roomFor h) (sym (stay k i .1)) l) ∙ f k i j l
@@ -113,7 +119,7 @@ only-trans {cs} {ds} {s} {u} {v} {w} x y used head =
 -- ---- the arrays of the tables stand one after the other
 
 abbrev arrays : Sizes → List ℕ
-arrays s = 5 ∷ s .threads ∷ varCount s ∷ s .pages ∷ s .pages ∷ s .pages ∷ regions s ∷ []
+arrays s = 5 ∷ s .threads ∷ varCount s ∷ s .pages ∷ s .pages ∷ s .pages ∷ regions s ∷ 1 ∷ 1 ∷ []
 
 abbrev startOf : Sizes → ℕ → ℕ
 startOf s n = sum (λ i. getD (arrays s) i 0) n
@@ -123,7 +129,7 @@ abbrev pub Within : Area → Sizes → ℕ → Type 0
 Within a s j = (startOf s (number a) ≤ j) × (j < startOf s (number a + 1))
 
 -- the arrays begin where layout has them
-pub starts : (s : Sizes) → (startOf s 3 ≡ ownersFrom s) × (startOf s 4 ≡ usedFrom s) × (startOf s 5 ≡ marksFrom s) × (startOf s 6 ≡ countsFrom s) × (startOf s 7 ≡ tablesWords s)
+pub starts : (s : Sizes) → (startOf s 3 ≡ ownersFrom s) × (startOf s 4 ≡ usedFrom s) × (startOf s 5 ≡ marksFrom s) × (startOf s 6 ≡ countsFrom s) × (startOf s 7 ≡ madeAt s) × (startOf s 9 ≡ tablesWords s)
 unfolding countsFrom marksFrom usedFrom ownersFrom
 starts s = omega (arith, count-room s)
 
@@ -156,6 +162,8 @@ module _ (s : Sizes) (w w′ : Words) (cs : List Area) (beyond : SameBeyond s w 
       same usedWords n = λ q l. kept usedWords n (usedAt s q) (omega (arith, starts s))
       same markWords n = λ q l. kept markWords n (markAt s q) (mark-in s q l)
       same countWords n = λ g l m. kept countWords n (countAt s g) (omega (arith, starts s))
+      same madeWords n = kept madeWords n (madeAt s) (omega (arith, starts s))
+      same freedWords n = kept freedWords n (freedAt s) (omega (arith, starts s))
       same headWords n = h n
       same workWords n = o n
       same fieldWords n = f n
@@ -170,7 +178,7 @@ tables-only s w t′ cs long kept rest =
     areas-only s w (withTables w t′) cs (record { cells = from-refl _ _; remember = from-refl _ _; tables = record { long = long; rest = drop-same (tablesWords s) (w .tables) t′ long rest } }) kept
     refl (λ n k u. refl) (λ n k u. refl) (λ n k u f l. refl) (λ n q u. refl) (λ n. refl)
 
--- a word of the tables is stored: a depth, a variable, a mark
+-- a word of the tables is stored: a depth, a variable, a mark, a counter
 pub store-only : (s : Sizes) (w : Words) (b : Area) (at v : ℕ) → Within b s at → at < tablesWords s → Only (b ∷ []) s w (withTables w (set (w .tables) at v))
 store-only s w b at v i l =
     tables-only s w (set (w .tables) at v) (b ∷ []) (length-set (w .tables) at v)

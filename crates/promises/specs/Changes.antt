@@ -4,7 +4,7 @@ use mathlib.Core.Path.{_≡_, refl}
 use mathlib.Core.List.{List, [], _∷_, _++_}
 use lib.ListN.{set}
 use Rattle.rules.specs.NeverFreeing.{Object}
-use Rattle.rules.specs.Rules.{Regioned}
+use Rattle.rules.specs.Rules.{Regioned, oneMade}
 use Rattle.laws.specs.SameRules.{renamed}
 use Rattle.layout.specs.declared.Kind.{Kind}
 use Rattle.layout.specs.declared.Kind.the-variants.{Reference, Number}
@@ -18,15 +18,15 @@ withCells w c = record { cells = c; remember = w .remember; tables = w .tables }
 
 -- variable i, counted through all threads, becomes u
 abbrev pub withVariable : Regioned → ℕ → ℕ → Regioned
-withVariable h i u = record { heap = record { depths = h .heap .depths; vars = set (h .heap .vars) i u; objects = h .heap .objects }; homes = h .homes }
+withVariable h i u = record { heap = record { depths = h .heap .depths; vars = set (h .heap .vars) i u; objects = h .heap .objects }; homes = h .homes; counters = h .counters }
 
 -- thread t gets depth d
 abbrev pub withDepth : Regioned → ℕ → ℕ → Regioned
-withDepth h t d = record { heap = record { depths = set (h .heap .depths) t d; vars = h .heap .vars; objects = h .heap .objects }; homes = h .homes }
+withDepth h t d = record { heap = record { depths = set (h .heap .depths) t d; vars = h .heap .vars; objects = h .heap .objects }; homes = h .homes; counters = h .counters }
 
 -- object x becomes o
 abbrev pub withObject : Regioned → ℕ → Object → Regioned
-withObject h x o = record { heap = record { depths = h .heap .depths; vars = h .heap .vars; objects = set (h .heap .objects) x o }; homes = h .homes }
+withObject h x o = record { heap = record { depths = h .heap .depths; vars = h .heap .vars; objects = set (h .heap .objects) x o }; homes = h .homes; counters = h .counters }
 
 -- object o with field f of a kind changed to u
 abbrev pub withField : Kind → Object → ℕ → ℕ → Object
@@ -35,7 +35,7 @@ withField Number o f u = record { refs = o .refs; nums = set (o .nums) f u }
 
 -- object o is appended, in region g
 abbrev pub withNew : Regioned → Object → ℕ → Regioned
-withNew h o g = record { heap = record { depths = h .heap .depths; vars = h .heap .vars; objects = h .heap .objects ++ o ∷ [] }; homes = h .homes ++ g ∷ [] }
+withNew h o g = record { heap = record { depths = h .heap .depths; vars = h .heap .vars; objects = h .heap .objects ++ o ∷ [] }; homes = h .homes ++ g ∷ []; counters = oneMade (h .counters) }
 
 -- ---- references, renamed
 

@@ -9,15 +9,15 @@ use mathlib.Core.List.{List}
 use lib.ListN.{length, getD}
 use Rattle.rules.specs.declared.Sizes.{Sizes}
 use Rattle.rules.specs.Regions.{regions}
-use Rattle.rules.specs.Rules.{Regioned, graph}
+use Rattle.rules.specs.Rules.{Counters, Regioned, graph}
 use Rattle.laws.specs.GraphLaws.{Alive}
 use Rattle.layout.specs.Places as lp
-use Rattle.layout.specs.Places.{cellsWords, tablesWords, ownersFrom, varOf, markOf, countOf, slotIn, slotRegionIn, count-room, count-is, mark-is, used-is, owners-is, varCount, depthAt, varAt}
+use Rattle.layout.specs.Places.{cellsWords, tablesWords, ownersFrom, madeAt, freedAt, varOf, markOf, countOf, slotIn, slotRegionIn, count-room, count-is, mark-is, used-is, owners-is, varCount, depthAt, varAt}
 use Rattle.layout.specs.declared.Kind.{Kind}
 use Rattle.layout.specs.declared.Kind.the-variants.{Reference, Number}
 use Rattle.layout.specs.Cells.{fieldOf, fieldCount, firstField, first-reference, first-number, head-determined, allFields, roomFor, pageCells, pageOf, page-on, place-on, cellOn, cellOf, headAt, workAt, fieldAt}
 use Rattle.layout.specs.Objects.{InUse, in-use?, NotInUse, unused-back, begins-used, begins-there, Spot, head, work, field, spot, slot-word}
-use Rattle.layout.specs.Words.{Words, BeginsIn, sizesIn, depthIn, ownerIn, usedIn, headIn, refCount, numCount, fieldsIn, homeIn}
+use Rattle.layout.specs.Words.{Words, BeginsIn, sizesIn, depthIn, countersIn, ownerIn, usedIn, headIn, refCount, numCount, fieldsIn, homeIn}
 use Rattle.remember.specs.Crossing.{crossTo}
 use Rattle.promises.specs.Regular.{objects-same}
 use Rattle.promises.specs.StandsFor.{StandsFor}
@@ -35,7 +35,7 @@ pub record SameEntry (s : Sizes) (w w′ : Words) (i : ℕ) : Type 0 where
 -- Two words agree but for the open points, area by area of 01's three tables. Which cell an object takes is what both have in common: the
 -- map through which they stand for the heap.
 pub record SameButOpen (s : Sizes) (w w′ : Words) : Type 0 where
-  -- tables: T, V, D, P, N; depth of each thread; variables; owners; cells in use on each page; working words; objects in each region
+  -- tables: T, V, D, P, N; depth of each thread; variables; owners; cells in use on each page; working words; objects in each region; counters
   pub sizes : sizesIn w ≡ sizesIn w′
   pub depths : (t : ℕ) → t < s .threads → depthIn w t ≡ depthIn w′ t
   pub variables : (i : ℕ) → i < varCount s → varOf s (w .tables) i ≡ varOf s (w′ .tables) i
@@ -43,6 +43,7 @@ pub record SameButOpen (s : Sizes) (w w′ : Words) : Type 0 where
   pub used : (page : ℕ) → page < s .pages → usedIn s w page ≡ usedIn s w′ page
   pub marks : (page : ℕ) → page < s .pages → markOf s (w .tables) page ≡ markOf s (w′ .tables) page
   pub counts : (g : ℕ) → 1 ≤ g → g ≤ regions s → countOf s (w .tables) g ≡ countOf s (w′ .tables) g
+  pub counters : countersIn s w ≡ countersIn s w′
   -- cells: objects begin at the same, and every word is the same
   pub objects : (c : ℕ) → BeginsIn s w c → BeginsIn s w′ c
   pub cells : (q : ℕ) → q < cellsWords s → getD (w .cells) q 0 ≡ getD (w′ .cells) q 0
@@ -161,6 +162,7 @@ module _ (s : Sizes) (w w′ : Words) (h : Regioned) (to : ℕ → ℕ) (st : St
         used = used-same;
         marks = λ page l. st .whole .marks page l ∙ sym (st′ .whole .marks page l);
         counts = λ g a b. st .whole .counts g a b ∙ sym (st′ .whole .counts g a b ∙ objects-same {t = w .tables} {t′ = w′ .tables} (λ page l. record { owner = sym (owner-same page l); used = sym (used-same page l) }) g);
+        counters = sym (st .counters) ∙ st′ .counters;
         objects = used-as s w w′ h to st st′;
         cells = cell-same;
         room = st .whole .sized .same ∙ sym (st′ .whole .sized .same);
@@ -197,4 +199,6 @@ module _ (s : Sizes) (w w′ : Words) (e : SameButOpen s w w′) where
       (λ c. by-cases (decLt j (o + s .pages)) (λ x. at (lp.ownerAt s (j - o)) (omega arith) (e .owners (j - o) (omega arith)))
       (λ d. by-cases (decLt j (o + 2 * s .pages)) (λ x. at (lp.usedAt s (j - (o + s .pages))) (omega (arith, used-is s)) (e .used (j - (o + s .pages)) (omega arith)))
       (λ f. by-cases (decLt j (o + 3 * s .pages)) (λ x. at (lp.markAt s (j - (o + 2 * s .pages))) (omega (arith, mark-is s)) (e .marks (j - (o + 2 * s .pages)) (omega arith)))
-      (λ g. at (lp.countAt s (j - (o + 3 * s .pages) + 1)) (omega (arith, count-is s)) (e .counts (j - (o + 3 * s .pages) + 1) (omega arith) (omega (arith, count-room s, count-is s)))))))))
+      (λ g. by-cases (decLt j (madeAt s)) (λ x. at (lp.countAt s (j - (o + 3 * s .pages) + 1)) (omega (arith, count-is s)) (e .counts (j - (o + 3 * s .pages) + 1) (omega arith) (omega (arith, count-room s, count-is s))))
+      (λ h. by-cases (decLt j (freedAt s)) (λ x. at (madeAt s) (omega arith) (ap (λ (k : Counters). k .made) (e .counters)))
+      (λ i. at (freedAt s) (omega (arith, count-room s)) (ap (λ (k : Counters). k .freed) (e .counters))))))))))

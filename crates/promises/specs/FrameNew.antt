@@ -3,7 +3,7 @@ use Prim.Native.Nat.{ℕ, zero, suc, _+_, _≤_, _<_}
 use native.Mathlib.Omega.{arith}
 use native.Mathlib.Decide.{ℕ-discrete, decLt}
 use native.Mathlib.Numerals.{add-one}
-use mathlib.Core.Path.{_≡_, refl, sym, ap, subst, _∙_}
+use mathlib.Core.Path.{_≡_, refl, sym, ap, ap₂, subst, _∙_}
 use mathlib.Core.Logic.{_⊎_, inl, inr, by-cases, ⊎-elim}
 use mathlib.Core.List.{List, [], _∷_, _++_, map}
 use mathlib.Core.Bool.{Bool, cond}
@@ -16,7 +16,7 @@ use Rattle.lists.specs.Zeros.{all-zero}
 use Rattle.rules.specs.declared.Sizes.{Sizes}
 use Rattle.rules.specs.NeverFreeing.{Object, noObject}
 use Rattle.rules.specs.Regions.{regions}
-use Rattle.rules.specs.Rules.{Regioned, graph}
+use Rattle.rules.specs.Rules.{counted, Regioned, graph, oneMade}
 use Rattle.laws.specs.GraphLaws.{Alive, Closed}
 use Rattle.laws.specs.RulesLaws.{Sound}
 use Rattle.laws.specs.SameRules.{renamed, renamed-zeros}
@@ -24,13 +24,13 @@ use Rattle.layout.specs.Places.{varAt, varCount}
 use Rattle.layout.specs.declared.Kind.{Kind}
 use Rattle.layout.specs.declared.Kind.the-variants.{Reference, Number}
 use Rattle.layout.specs.Cells.{headOf, fieldCount, firstField, headWord, mostFields, roomFor, kind-among, fields-room, refs-head, nums-head}
-use Rattle.layout.specs.Words.{Words, BeginsIn, fieldsAt, homeIn, graphOf}
+use Rattle.layout.specs.Words.{Words, BeginsIn, fieldsAt, homeIn, madeIn, graphOf}
 use Rattle.promises.specs.Whole.{WholeFor, Open}
 use Rattle.promises.specs.StandsFor.{StandsFor}
 use Rattle.promises.specs.Reading.{alive-used, used-alive, used-home, length-fields, getD-fields}
 use Rattle.promises.specs.Agreed.{cell-used}
 use Rattle.promises.specs.Changes.{withTables, withNew, withVariable}
-use Rattle.promises.specs.Areas.{ownerWords, usedWords, countWords, unusedWords, Only}
+use Rattle.promises.specs.Areas.{ownerWords, usedWords, countWords, madeWords, freedWords, unusedWords, Only}
 use Rattle.promises.specs.Frames.{depths-same, vars-same, fields-same}
 use Rattle.promises.specs.TakeCell.{Took}
 use Rattle.promises.specs.NewCell.{Blank, new-begins, not-there, still-begins, begins-split, owner-still, new-only, new-whole}
@@ -44,7 +44,7 @@ blankObject b d = record { refs = replicate b 0; nums = replicate d 0 }
 abbrev pub withCell : Regioned → (ℕ → ℕ) → ℕ → ℕ → ℕ
 withCell h to cell x = cond (eqb x (length (h .heap .objects))) cell (to x)
 
-module _ (s : Sizes) (w : Words) (h : Regioned) (to : ℕ → ℕ) (st : StandsFor s w h to) (g cell b d : ℕ) (t′ c′ : List ℕ) (took : Took s (w .tables) g cell t′)
+module _ (s : Sizes) (w : Words) (h : Regioned) (to : ℕ → ℕ) (st : StandsFor s w h to) (g cell b d : ℕ) (t′ c′ : List ℕ) (took : Took s (w .tables) g cell (counted (madeIn s w + 1)) t′)
     (blank : Blank (w .cells) cell (headWord b d) c′) (few : b + d ≤ mostFields) (pos : 1 ≤ g) (low : g ≤ regions s) (open′ : 1 < g → Open s (w .tables) g) where
   abbrev n : ℕ
   n = length (h .heap .objects)
@@ -64,7 +64,7 @@ module _ (s : Sizes) (w : Words) (h : Regioned) (to : ℕ → ℕ) (st : StandsF
   k₁ : WholeFor s w₁
   k₁ = new-whole s w (st .whole) g cell b d t′ c′ took blank few pos low open′
 
-  only : Only (unusedWords ∷ ownerWords ∷ usedWords ∷ countWords ∷ []) s w w₁
+  only : Only (unusedWords ∷ ownerWords ∷ usedWords ∷ countWords ∷ madeWords ∷ []) s w w₁
   only = new-only s w (st .whole) g cell b d t′ c′ took blank few pos low open′
 
   to-new : to₁ n ≡ cell
@@ -164,6 +164,7 @@ module _ (s : Sizes) (w : Words) (h : Regioned) (to : ℕ → ℕ) (st : StandsF
         nums = cases (λ x y. getD (h₁ .heap .objects) x noObject .nums ≡ fieldsAt Number c′ y)
             (λ x a. ap (λ (q : Object). q .nums) (object-old x (st .sound .closed .below x a)) ∙ st .nums x a ∙ sym (fields-old Number (to x) (cell-used s w h to st x a)))
             (ap (λ (q : Object). q .nums) object-new ∙ sym (fields-new Number d (nums-head b d few)));
+        counters = ap oneMade (st .counters) ∙ ap₂ (λ (x y : ℕ). record { made = x; freed = y }) (sym (took .made)) (sym (only .same freedWords refl));
       }
 
   -- ---- and variable i, counted through all threads, names it

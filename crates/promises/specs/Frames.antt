@@ -1,15 +1,16 @@
 -- Each condition of whole tables holds as it did where the areas that it reads are the same; and so do homes, depths, variables and fields.
-use Prim.Native.Nat.{ℕ, _+_, _<_}
+use Prim.Native.Nat.{ℕ, suc, _+_, _<_}
 use native.Mathlib.Omega.{arith}
 use mathlib.Core.Logic.{by-cases}
-use mathlib.Core.Path.{_≡_, sym, ap, subst, _∙_}
+use mathlib.Core.Path.{_≡_, sym, ap, ap₂, subst, _∙_}
 use mathlib.Core.List.{List, map}
 use mathlib.Core.Bool.{false}
 use lib.ListN.{getD, take, drop}
+use Rattle.lists.specs.Counting.{sum-same}
 use Rattle.lists.specs.Stores.{part-same}
 use Rattle.rules.specs.declared.Sizes.{Sizes}
-use Rattle.rules.specs.Regions.{threadOf}
-use Rattle.rules.specs.Rules.{Regioned, graph}
+use Rattle.rules.specs.Regions.{threadOf, regions}
+use Rattle.rules.specs.Rules.{counted, Regioned, graph}
 use Rattle.rules.specs.NeverFreeing.{NeverFreeing, noObject}
 use Rattle.laws.specs.GraphLaws.{Alive}
 use Rattle.laws.specs.RulesLaws.{Sound}
@@ -19,12 +20,12 @@ use Rattle.layout.specs.declared.Kind.the-variants.{Reference}
 use Rattle.layout.specs.Places.{cellsWords, varCount, depthAt, varAt}
 use Rattle.layout.specs.Cells.{fieldAt, roomFor, allFields, refsOf, Formed, fieldCount, firstField, fields-room, kind-among, pageOf, cellNamed}
 use Rattle.layout.specs.Objects.{begins?, begins-page, begins-true, begins-false, unused-back}
-use Rattle.layout.specs.Words.{Words, BeginsIn, headIn, ownerIn, homeIn, homeAt, depthsIn, depthsAt, varsIn, varsAt, fieldsIn, fieldsAt, refsIn, numsIn}
+use Rattle.layout.specs.Words.{Words, BeginsIn, headIn, ownerIn, homeIn, homeAt, depthsIn, depthsAt, varsIn, varsAt, countersIn, fieldsIn, fieldsAt, refsIn, numsIn}
 use Rattle.remember.specs.Crossing.{crossTo}
-use Rattle.promises.specs.Whole.{Open, IsRef, Sized, DepthsWhole, PagesWhole, VariablesWhole, ObjectWhole, ObjectsWhole, MarksWhole, WorksWhole, RememberWhole, UnusedWhole, WholeFor}
+use Rattle.promises.specs.Whole.{Open, IsRef, Sized, DepthsWhole, PagesWhole, VariablesWhole, ObjectWhole, ObjectsWhole, MarksWhole, WorksWhole, RememberWhole, UnusedWhole, CountersWhole, WholeFor}
 use Rattle.promises.specs.Regular.{Regular, whole-regular, SamePage, filled-same, regular-same}
 use Rattle.promises.specs.StandsFor.{StandsFor}
-use Rattle.promises.specs.Areas.{Area, sizeWords, depthWords, variableWords, ownerWords, usedWords, markWords, countWords, headWords, workWords, fieldWords, unusedWords, entryWords, among, Only}
+use Rattle.promises.specs.Areas.{Area, sizeWords, depthWords, variableWords, ownerWords, usedWords, markWords, countWords, madeWords, freedWords, headWords, workWords, fieldWords, unusedWords, entryWords, among, Only}
 use Rattle.remember.specs.Entries.{Exact, exact-everywhere}
 use Rattle.promises.specs.Slots.{begins-kept, begins-were, cross-alike}
 
@@ -147,10 +148,17 @@ module _ {cs : List Area} {s : Sizes} {w w′ : Words} (o : Only cs s w w′) wh
   pub unused-frame : among unusedWords cs ≡ false → among usedWords cs ≡ false → UnusedWhole s w → UnusedWhole s w′
   unused-frame n u k q x = let v = unused-back (o .same usedWords u) q x in o .same unusedWords n q v ∙ k q v
 
-  -- all of them, where sizes, pages, counts, heads, working words and cells not in use are the same
+  pub counters-same : among madeWords cs ≡ false → among freedWords cs ≡ false → countersIn s w′ ≡ countersIn s w
+  counters-same m f = ap₂ (λ (x y : ℕ). record { made = x; freed = y }) (o .same madeWords m) (o .same freedWords f)
+
+  pub counters-frame : among countWords cs ≡ false → among madeWords cs ≡ false → among freedWords cs ≡ false → CountersWhole s w → CountersWhole s w′
+  counters-frame n m f k =
+      ap₂ (λ (x y : ℕ). counted (x + y)) (sum-same _ _ (regions s) (λ i l. o .same countWords n (suc i) (omega arith) (omega arith))) (o .same freedWords f) ∙ k ∙ sym (o .same madeWords m)
+
+  -- all of them, where sizes, pages, counts, counters, heads, working words and cells not in use are the same
   pub still-whole : among sizeWords cs ≡ false → among ownerWords cs ≡ false → among usedWords cs ≡ false → among markWords cs ≡ false → among countWords cs ≡ false
-      → among headWords cs ≡ false → among workWords cs ≡ false → among unusedWords cs ≡ false → WholeFor s w → DepthsWhole s w′ → PagesWhole s w′ → VariablesWhole s w′ → ObjectsWhole s w′ → RememberWhole s w′ → WholeFor s w′
-  still-whole z a u m n h x y k depths pages variables objects remember =
+      → among madeWords cs ≡ false → among freedWords cs ≡ false → among headWords cs ≡ false → among workWords cs ≡ false → among unusedWords cs ≡ false → WholeFor s w → DepthsWhole s w′ → PagesWhole s w′ → VariablesWhole s w′ → ObjectsWhole s w′ → RememberWhole s w′ → WholeFor s w′
+  still-whole z a u m n i j h x y k depths pages variables objects remember =
       let r = regular-frame a u n (whole-regular k) in
       record {
         sized = sized-frame z (k .sized);
@@ -164,14 +172,16 @@ module _ {cs : List Area} {s : Sizes} {w w′ : Words} (o : Only cs s w w′) wh
         works = works-frame x u h (k .works);
         remember = remember;
         unused = unused-frame y u (k .unused);
+        counters = counters-frame n i j (k .counters);
       }
 
 -- ---- where objects keep their homes, the words stand for a heap with other depths, variables and fields
 
 pub stands-still : {s : Sizes} {w w′ : Words} {h : Regioned} {to : ℕ → ℕ} → StandsFor s w h to → ((k : ℕ) → homeIn s w′ k ≡ homeIn s w k) → (h′ : NeverFreeing) → WholeFor s w′ → h′ .depths ≡ depthsIn s w′
     → ((x : ℕ) → Alive (graph h) x → refsIn w′ (to x) ≡ map (renamed to) (getD (h′ .objects) x noObject .refs)) → varsIn s w′ ≡ map (renamed to) (h′ .vars)
-    → ((x : ℕ) → Alive (graph h) x → getD (h′ .objects) x noObject .nums ≡ numsIn w′ (to x)) → Sound (record { heap = h′; homes = h .homes }) → StandsFor s w′ (record { heap = h′; homes = h .homes }) to
-stands-still {to = to} st home h′ k d r v n sound =
+    → ((x : ℕ) → Alive (graph h) x → getD (h′ .objects) x noObject .nums ≡ numsIn w′ (to x)) → countersIn s w′ ≡ countersIn s w
+    → Sound (record { heap = h′; homes = h .homes; counters = h .counters }) → StandsFor s w′ (record { heap = h′; homes = h .homes; counters = h .counters }) to
+stands-still {to = to} st home h′ k d r v n c sound =
     record {
       whole = k;
       sound = sound;
@@ -184,4 +194,5 @@ stands-still {to = to} st home h′ k d r v n sound =
         vars = v;
       };
       nums = n;
+      counters = st .counters ∙ sym c;
     }

@@ -33,6 +33,7 @@ stands-like s w h cellOf st =
         vars = st .partners .vars;
       };
       nums = λ x a. ap (λ (o : Object). o .nums) (object-at s w (st .whole) (cellOf x) (cell-alive s w h cellOf st x a)) ∙ sym (st .nums x a);
+      counters = sym (st .counters);
     }
 
 -- words that stand for a heap stand for each that corresponds to it
@@ -44,6 +45,7 @@ like-stands s w to h k cell l st =
       depths = sym (l .depths) ∙ st .depths;
       partners = partners-trans (l .partners) (st .partners);
       nums = λ x a. sym (l .nums x a) ∙ st .nums (to x) (λ z. a (sym (l .partners .home x a) ∙ z));
+      counters = sym (l .counters) ∙ st .counters;
     }
 
 pub did-anywhere : (s : Sizes) (w : Words) (m : Command) (w′ : Words) (a : Answer) → DidHere s w m w′ a → Did s w m w′ a

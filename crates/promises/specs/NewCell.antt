@@ -10,20 +10,22 @@ use Rattle.lists.specs.Says.{true-not-false}
 use Rattle.lists.specs.Stores.{put, past, drop-same}
 use Rattle.rules.specs.declared.Sizes.{Sizes}
 use Rattle.rules.specs.Regions.{regions}
+use Rattle.rules.specs.Rules.{counted}
+use Rattle.laws.specs.Counters.{leaves-made}
 use Rattle.layout.specs.Places.{cellsWords, ownerOf}
 use Rattle.layout.specs.declared.Kind.the-variants.{Reference}
 use Rattle.layout.specs.Cells.{headAt, headOf, workAt, workOf, fieldAt, fieldOf, fieldCount, headWord, roomFor, mostFields, Formed, kind-among, fields-room, head-formed, pageOf, cellOf, cellNamed}
 use Rattle.layout.specs.Objects.{begins-page, begins-used, used-begins, NotInUse, Covers, covers-low, covers-head, covers-work, covers-field, head-not-new, work-not-new, field-not-new, Slot, slot-page}
-use Rattle.layout.specs.Words.{Words, BeginsIn}
+use Rattle.layout.specs.Words.{Words, BeginsIn, madeIn, countersIn}
 use Rattle.remember.specs.Crossing.{other, regionOf, crossesTo, crossesAt, crossTo}
-use Rattle.promises.specs.Whole.{WholeFor, Open, IsRef, ObjectWhole}
+use Rattle.promises.specs.Whole.{WholeFor, Open, IsRef, ObjectWhole, liveOf}
 use Rattle.promises.specs.Changes.{withCells}
-use Rattle.promises.specs.Areas.{variableWords, ownerWords, usedWords, countWords, workWords, fieldWords, unusedWords, Only, only-trans, cells-only}
+use Rattle.promises.specs.Areas.{variableWords, ownerWords, usedWords, countWords, madeWords, freedWords, workWords, fieldWords, unusedWords, Only, only-trans, cells-only}
 use Rattle.promises.specs.Frames.{sized-frame, depths-frame, marks-frame, object-frame}
 use Rattle.remember.specs.Entries.{exact-everywhere}
 use Rattle.promises.specs.Slots.{region-of, slot-stays, cross-same}
 use Rattle.promises.specs.Regular.{whole-regular}
-use Rattle.promises.specs.TakeCell.{Took, took-only, took-used, took-unused, took-not-in-use, took-covers, still-used, used-split, owner-used, took-regular, took-pages}
+use Rattle.promises.specs.TakeCell.{Took, took-only, took-used, took-unused, took-not-in-use, took-covers, still-used, used-split, owner-used, took-live, took-regular, took-pages}
 
 -- the words of a new object, the first of them given, and all others as they were
 pub record Blank (c : List ℕ) (cell word : ℕ) (c′ : List ℕ) : Type 0 where
@@ -34,8 +36,8 @@ pub record Blank (c : List ℕ) (cell word : ℕ) (c′ : List ℕ) : Type 0 whe
   pub others : (j : ℕ) → (Covers cell word j → ⊥) → getD c′ j 0 ≡ getD c j 0
 
 -- the cell that is taken was not in use: word 0 alone is written, and the others are zero already
-pub blanked : {s : Sizes} {w : Words} {g cell : ℕ} (word : ℕ) {t′ : List ℕ} → WholeFor s w → Took s (w .tables) g cell t′ → Blank (w .cells) cell word (set (w .cells) (headAt cell) word)
-blanked {s} {w} {g} {cell} word k took =
+pub blanked : {s : Sizes} {w : Words} {g cell n : ℕ} (word : ℕ) {t′ : List ℕ} → WholeFor s w → Took s (w .tables) g cell n t′ → Blank (w .cells) cell word (set (w .cells) (headAt cell) word)
+blanked {s} {w} {g} {cell} {n} word k took =
     record {
       long = length-set (w .cells) (headAt cell) word;
       head = put (w .cells) (headAt cell) word 0 (omega (arith, covers-low s cell word (headAt cell) (took .page) (covers-head cell word), k .sized .cells));
@@ -49,7 +51,7 @@ blanked {s} {w} {g} {cell} word k took =
 
 -- ---- whole
 
-module _ (s : Sizes) (w : Words) (k : WholeFor s w) (g cell b d : ℕ) (t′ c′ : List ℕ) (took : Took s (w .tables) g cell t′) (blank : Blank (w .cells) cell (headWord b d) c′)
+module _ (s : Sizes) (w : Words) (k : WholeFor s w) (g cell b d : ℕ) (t′ c′ : List ℕ) (took : Took s (w .tables) g cell (counted (madeIn s w + 1)) t′) (blank : Blank (w .cells) cell (headWord b d) c′)
     (few : b + d ≤ mostFields) (pos : 1 ≤ g) (low : g ≤ regions s) (open′ : 1 < g → Open s (w .tables) g) where
   abbrev pub newWords : Words
   newWords = record { cells = c′; remember = w .remember; tables = t′ }
@@ -83,13 +85,13 @@ module _ (s : Sizes) (w : Words) (k : WholeFor s w) (g cell b d : ℕ) (t′ c�
   head-other : (x : ℕ) → BeginsIn s w x → headOf c′ x ≡ headOf c x
   head-other x u = blank .others (headAt x) (head-not-new s c t x u cell (headWord b d) (took-unused took))
 
-  pub new-only : Only (unusedWords ∷ ownerWords ∷ usedWords ∷ countWords ∷ []) s w newWords
+  pub new-only : Only (unusedWords ∷ ownerWords ∷ usedWords ∷ countWords ∷ madeWords ∷ []) s w newWords
   new-only =
       only-trans
       (cells-only s w c′ (unusedWords ∷ []) (λ n. head-other) (λ n x u. blank .others (workAt x) (work-not-new s c t x u cell (headWord b d) (took-unused took)))
       (λ n x u f l. blank .others (fieldAt x f) (field-not-new s c t x u cell (headWord b d) (took-unused took) f l)) (λ n. absurd (true-not-false (sym n)))
       (record { long = blank .long; rest = drop-same (cellsWords s) c c′ (blank .long) (λ j l. blank .others j (λ e. omega (arith, covers-low s cell (headWord b d) j (took .page) e))) }))
-      (took-only s (withCells w c′) g cell t′ took pos low) refl refl
+      (took-only s (withCells w c′) g cell _ t′ took pos low) refl refl
 
   objects : (x : ℕ) → BeginsIn s newWords x → ObjectWhole s c′ t′ x
   objects x i =
@@ -152,4 +154,7 @@ module _ (s : Sizes) (w : Words) (k : WholeFor s w) (g cell b d : ℕ) (t′ c�
         works = works;
         remember = exact-everywhere (crossTo s c t) (crossTo s c′ t′) (cellsWords s) (s .entries) (w .remember) (λ q l. cross-same s c t c′ t′ q (slot-kept q) (slot-new q)) (k .remember);
         unused = unused;
+        counters =
+            ap₂ (λ (x y : ℕ). counted (x + y)) (took-live s t g cell _ t′ took pos low) (new-only .same freedWords refl) ∙ leaves-made (countersIn s w) (liveOf s t) (k .counters)
+            ∙ sym (took .made);
       }

@@ -6,7 +6,7 @@ use mathlib.Core.List.{List, _++_}
 use lib.ListN.{length, getD, drop, replicate, length-append, length-replicate, getD-replicate, List·getD-append}
 use lib.Dec.{eqb}
 use Rattle.rules.specs.Terms.{InRange}
-use Rattle.layout.specs.Places.{depthAt, varAt, markAt, countAt, slotAt, slotRegionAt, ownersFrom, usedFrom, cellsWords, rememberWords, tablesWords, varCount}
+use Rattle.layout.specs.Places.{depthAt, varAt, markAt, countAt, countOf, madeAt, freedAt, slotAt, slotRegionAt, ownersFrom, usedFrom, cellsWords, rememberWords, tablesWords, varCount}
 use Rattle.layout.specs.Cells.{pageOf}
 use Rattle.layout.specs.Objects.{begins-used}
 use Rattle.lists.specs.Tests.{cond-zero}
@@ -16,10 +16,12 @@ use Rattle.remember.specs.Crosses.{cross-slot}
 use Rattle.promises.specs.Whole.{objectsOn, WholeFor}
 use Rattle.rules.specs.declared.Sizes.{Sizes}
 use Rattle.rules.specs.NeverFreeing.{empty}
-use Rattle.rules.specs.Rules.{unused}
+use Rattle.rules.specs.Regions.{regions}
+use Rattle.rules.specs.Rules.{counted, unused}
+use Rattle.laws.specs.Counters.{counted-small}
 use Rattle.laws.specs.RulesLaws.{sound-unused}
 use Rattle.laws.specs.SameRules.{renamed-zeros}
-use Rattle.layout.specs.Words.{Words, BeginsIn, sizesIn, depthsIn, varsIn, ownerIn, usedIn}
+use Rattle.layout.specs.Words.{Words, BeginsIn, sizesIn, depthsIn, varsIn, ownerIn, usedIn, madeIn, freedIn}
 use Rattle.promises.specs.StandsFor.{StandsFor}
 use Rattle.promises.specs.Areas.{starts}
 use Rattle.promises.specs.Reading.{alive-used, length-depths, depth-at, length-vars, getD-vars}
@@ -50,6 +52,12 @@ module _ (s : Sizes) (lent w : Words) (range : InRange s) (long : LongEnough s l
 
   no-object : (c : ℕ) → BeginsIn s w c → ⊥
   no-object c b = let v = begins-used s (w .cells) (w .tables) c b in omega (arith, v .place, used-zero (pageOf c) (v .page))
+
+  made-zero : madeIn s w ≡ 0
+  made-zero = table-zero (madeAt s) (omega (arith, starts s)) (omega (arith, starts s))
+
+  freed-zero : freedIn s w ≡ 0
+  freed-zero = table-zero (freedAt s) (omega (arith, starts s)) (omega (arith, starts s))
 
   whole : WholeFor s w
   whole =
@@ -85,6 +93,10 @@ module _ (s : Sizes) (lent w : Words) (range : InRange s) (long : LongEnough s l
           every = λ q l h. let o = cross-slot s (w .cells) (w .tables) q h in absurd (no-object (o .object) (o .begins));
         };
         unused = λ q n. cell-zero q (n .low);
+        counters =
+            ap₂ (λ (x y : ℕ). counted (x + y))
+            (sum-none (λ i. countOf s (w .tables) (suc i)) (regions s) (λ i l. table-zero (countAt s (suc i)) (omega (arith, starts s)) (omega (arith, starts s)))) freed-zero
+            ∙ counted-small 0 (omega arith) ∙ sym made-zero;
       }
 
   depths-zero : depthsIn s w ≡ replicate (s .threads) 0
@@ -108,6 +120,7 @@ module _ (s : Sizes) (lent w : Words) (range : InRange s) (long : LongEnough s l
           vars = vars-zero ∙ sym (renamed-zeros (varCount s) (λ x. x));
         };
         nums = λ x a. absurd (a refl);
+        counters = ap₂ (λ (x y : ℕ). record { made = x; freed = y }) (sym made-zero) (sym freed-zero);
       }
 
 pub prepared-stands : (s : Sizes) (lent w : Words) → Prepared s lent 0 w → StandsFor s w (unused s) (λ x. x)

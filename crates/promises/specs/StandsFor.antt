@@ -10,17 +10,18 @@ use Rattle.rules.specs.Rules.{Regioned, graph}
 use Rattle.laws.specs.RulesLaws.{Sound}
 use Rattle.laws.specs.SameRules.{Partners}
 use Rattle.layout.specs.Places.{cellsWords, rememberWords, tablesWords}
-use Rattle.layout.specs.Words.{Words, depthsIn, numsIn, graphOf}
+use Rattle.layout.specs.Words.{Words, depthsIn, numsIn, countersIn, graphOf}
 use Rattle.promises.specs.Whole.{WholeFor}
 
 -- cellOf leads each object that is there to its cell: one to one, onto the cells where objects begin, on a page of its home, with its references,
--- variables and numbers
+-- variables and numbers; depths and counters are the heap's
 pub record StandsFor (s : Sizes) (w : Words) (h : Regioned) (cellOf : ℕ → ℕ) : Type 0 where
   pub whole : WholeFor s w
   pub sound : Sound h
   pub depths : h .heap .depths ≡ depthsIn s w
   pub partners : Partners cellOf (graph h) (graphOf s w)
   pub nums : (x : ℕ) → Alive (graph h) x → getD (h .heap .objects) x noObject .nums ≡ numsIn w (cellOf x)
+  pub counters : h .counters ≡ countersIn s w
 
 -- two lists are as long, and the same from n on
 pub record SameFrom (n : ℕ) (l k : List ℕ) : Type 0 where

@@ -1,6 +1,6 @@
--- Tables are whole (01, "Sizes and tables"; 02, W1): each condition by itself, and all of them in 01's order. c, m and t are the cells, the
+-- Tables are whole (01, "Sizes and tables"; 02, W1 and W2): each condition by itself, and all of them in 01's order. c, m and t are the cells, the
 -- remember table and the tables of words w.
-use Prim.Native.Nat.{ℕ, _≤_, _<_}
+use Prim.Native.Nat.{ℕ, suc, _≤_, _<_}
 use mathlib.Core.List.{List}
 use mathlib.Core.Bool.{cond}
 use mathlib.Core.Path.{_≡_}
@@ -10,10 +10,11 @@ use Rattle.lists.specs.Counting.{sum}
 use Rattle.rules.specs.declared.Sizes.{Sizes}
 use Rattle.rules.specs.Terms.{InRange}
 use Rattle.rules.specs.Regions.{threadOf, levelOf, regions}
+use Rattle.rules.specs.Rules.{Leaves}
 use Rattle.layout.specs.Places.{cellsWords, rememberWords, tablesWords, varCount, depthOf, varOf, ownerOf, usedOf, markOf, countOf}
 use Rattle.layout.specs.Cells.{headOf, workOf, fieldOf, refsOf, allFields, roomFor, Formed, cellNamed, pageCells}
 use Rattle.layout.specs.Objects.{Begins, NotInUse}
-use Rattle.layout.specs.Words.{Words, BeginsIn, sizesIn, depthIn}
+use Rattle.layout.specs.Words.{Words, BeginsIn, sizesIn, depthIn, countersIn}
 use Rattle.remember.specs.Crossing.{crossTo}
 use Rattle.remember.specs.Entries.{Entry, EntriesOf, Exact}
 
@@ -47,6 +48,10 @@ objectsOn s t g page = cond (eqb (ownerOf s t page) g) (usedOf s t page) 0
 
 abbrev pub objectsOf : Sizes → List ℕ → ℕ → ℕ
 objectsOf s t g = sum (objectsOn s t g) (s .pages)
+
+-- the objects of all regions, by their counts
+abbrev pub liveOf : Sizes → List ℕ → ℕ
+liveOf s t = sum (λ i. countOf s t (suc i)) (regions s)
 
 -- null, or the name of an object
 abbrev pub IsRef : Sizes → List ℕ → List ℕ → ℕ → Type 0
@@ -112,6 +117,10 @@ RememberWhole s w = Exact (crossTo s (w .cells) (w .tables)) (cellsWords s) (s .
 abbrev pub UnusedWhole : Sizes → Words → Type 0
 UnusedWhole s w = (q : ℕ) → NotInUse s (w .tables) q → getD (w .cells) q 0 ≡ 0
 
+-- made less freed, modulo 4,294,967,296, is the sum of the object counts (02, W2)
+abbrev pub CountersWhole : Sizes → Words → Type 0
+CountersWhole s w = Leaves (countersIn s w) (liveOf s (w .tables))
+
 pub record WholeFor (s : Sizes) (w : Words) : Type 0 where
   pub sized : Sized s w
   pub depths : DepthsWhole s w
@@ -124,6 +133,7 @@ pub record WholeFor (s : Sizes) (w : Words) : Type 0 where
   pub works : WorksWhole s w
   pub remember : RememberWhole s w
   pub unused : UnusedWhole s w
+  pub counters : CountersWhole s w
 
 abbrev pub WholeWords : Words → Type 0
 WholeWords w = WholeFor (sizesIn w) w
