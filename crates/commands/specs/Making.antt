@@ -16,8 +16,8 @@ use Rattle.rules.specs.NeverFreeing.{place}
 use Rattle.rules.specs.Regions.{regionAt, regions}
 use Rattle.rules.specs.Graph.{newPages, freePages}
 use Rattle.rules.specs.Rules as ru
-use Rattle.rules.specs.Rules.{Regioned, graph, first}
-use Rattle.layout.specs.Places.{depthOf, usedOf, countOf, countAt, count-room}
+use Rattle.rules.specs.Rules.{counted, Regioned, graph, oneMade, first}
+use Rattle.layout.specs.Places.{depthOf, usedOf, countOf, countAt, madeAt, madeOf, count-room}
 use Rattle.layout.specs.Cells.{headAt, cellOn, pageCells, headWord, mostFields, CellIn}
 use Rattle.layout.specs.Words.{Words, words, heapOf}
 use Rattle.promises.specs.Whole.{WholeFor, Open}
@@ -30,7 +30,7 @@ use Rattle.promises.specs.Questions.{did-refused, did-moved}
 use Rattle.promises.specs.NewPages.{innermost-pos, innermost-low, innermost-open, PartlyFilled, FreePage, new-fits, new-lacks}
 use Rattle.promises.specs.Changes.{withTables, withVariable, withNew}
 use Rattle.promises.specs.Areas.{beyond-both}
-use Rattle.promises.specs.TakeCell.{Took}
+use Rattle.promises.specs.TakeCell.{Took, took-made}
 use Rattle.promises.specs.NewCell.{Blank, blanked, new-only, new-whole}
 use Rattle.promises.specs.FrameVariable.{variable-only}
 use Rattle.promises.specs.FrameNew.{blankObject, made-stands, to-old, withCell}
@@ -94,8 +94,8 @@ module _ (p : Sizes) (c m t : List ℕ) (k : WholeFor p (words c m t)) (u : ℕ)
 
     -- the cell was taken
     module _ (low : page < p .pages) (cell : ℕ) (ec : cell ≡ cellOn page (usedOf p t page)) (t₁ : List ℕ) (et : t₁ ≡ taken p t page g) where
-      pub took : Took P t g cell t₁
-      took = taken-took (whole-regular k) low count-inside found ec et
+      pub took : Took P t g cell (madeOf p t) t₁
+      took = taken-took (whole-regular k) low count-inside region-real found ec et
 
       pub cell-inside : CellIn cell (length c)
       cell-inside = cell-in s w k cell (took .page)
@@ -114,8 +114,8 @@ module _ (p : Sizes) (c m t : List ℕ) (k : WholeFor p (words c m t)) (u : ℕ)
     h₁ = withVariable (withNew H (blankObject b d) g) (place (limits s) u a) (length (H .heap .objects) + 1)
 
     new-after : ru.after s H (commandFor (New u a b d)) ≡ h₁
-    unfolding ru.after ru.homesAfter nf.effect
-    new-after = ap (λ (x : ℕ). record { heap = h₁ .heap; homes = H .homes ++ x ∷ [] }) (ap (regionAt s u) (here-depth s w u l) ∙ sym eg)
+    unfolding ru.after ru.homesAfter ru.countersAfter nf.effect
+    new-after = ap (λ (x : ℕ). record { heap = h₁ .heap; homes = H .homes ++ x ∷ []; counters = oneMade (H .counters) }) (ap (regionAt s u) (here-depth s w u l) ∙ sym eg)
 
     -- question 13
     new-question : ru.question s H (commandFor (New u a b d)) ≡ ask (leb (newPages s (graph H) (graph h₁)) (freePages s (graph H))) 13 0
@@ -132,30 +132,34 @@ module _ (p : Sizes) (c m t : List ℕ) (k : WholeFor p (words c m t)) (u : ℕ)
           (new-question ∙ ap (λ (x : Bool). ask x 13 0)
           (new-lacks s w H (λ x. x) (heap-stands s w k) g (region-real .0) (region-real .1) (H .heap .depths) (h₁ .heap .vars) (blankObject b d) (none .0) (none .1)))
 
-      module _ (low : page < p .pages) (cell : ℕ) (ec : cell ≡ cellOn page (usedOf p t page)) (t₁ : List ℕ) (et : t₁ ≡ taken p t page g) (c₁ : List ℕ) (hc : c₁ ≡ set c (headAt cell) (headWord b d)) where
-        abbrev tk : Took P t g cell t₁
-        tk = took page f low cell ec t₁ et
+      module _ (low : page < p .pages) (cell : ℕ) (ec : cell ≡ cellOn page (usedOf p t page)) (t₁ : List ℕ) (et : t₁ ≡ taken p t page g) (t₂ : List ℕ) (em : t₂ ≡ set t₁ (madeAt p) (counted (madeOf p t₁ + 1))) (c₁ : List ℕ) (hc : c₁ ≡ set c (headAt cell) (headWord b d)) where
+        -- and one object more is made
+        tk : Took P t g cell (counted (madeOf p t + 1)) t₂
+        tk =
+            let o = took page f low cell ec t₁ et in
+            subst (Took P t g cell (counted (madeOf p t + 1))) (ap (λ (x : ℕ). set t₁ (madeAt p) (counted (x + 1))) (sym (o .made)) ∙ sym em)
+            (took-made (counted (madeOf p t + 1)) o (region-real .0) (region-real .1) (omega (arith, o .long, count-room s, k .sized .tables)))
 
         abbrev w₁ : Words
-        w₁ = words c₁ m t₁
+        w₁ = words c₁ m t₂
 
         blank : Blank c cell (headWord b d) c₁
         blank = subst (Blank c cell (headWord b d)) (sym hc) (blanked {w = w} (headWord b d) k tk)
 
         k₁ : WholeFor s w₁
-        k₁ = new-whole s w k g cell b d t₁ c₁ tk blank few (region-real .0) (region-real .1) region-open
+        k₁ = new-whole s w k g cell b d t₂ c₁ tk blank few (region-real .0) (region-real .1) region-open
 
-        pub new-done : {t₂ : List ℕ} → t₂ ≡ set t₁ (variableAt p u a) (cell + 1) → Does p c m t (New u a b d) c₁ m t₂ (done 0)
+        pub new-done : {t₃ : List ℕ} → t₃ ≡ set t₂ (variableAt p u a) (cell + 1) → Does p c m t (New u a b d) c₁ m t₃ (done 0)
         unfolding nf.value ask
         new-done e =
             subst (λ (q : List ℕ). Does p c m t (New u a b d) c₁ m q (done 0)) (sym e)
-            (did-moved s w k (commandFor (New u a b d)) (withTables w₁ (set t₁ (variableAt p u a) (cell + 1))) h₁ 0
+            (did-moved s w k (commandFor (New u a b d)) (withTables w₁ (set t₂ (variableAt p u a) (cell + 1))) h₁ 0
             (new-question ∙ ap (λ (x : Bool). ask x 13 0)
             (new-fits s w H (λ x. x) (heap-stands s w k) g (region-real .0) (region-real .1) (H .heap .depths) (h₁ .heap .vars) (blankObject b d) (some-found page f low))) new-after refl
-            (beyond-both (new-only s w k g cell b d t₁ c₁ tk blank few (region-real .0) (region-real .1) region-open .beyond)
+            (beyond-both (new-only s w k g cell b d t₂ c₁ tk blank few (region-real .0) (region-real .1) region-open .beyond)
             (variable-only s w₁ k₁ (place (limits s) u a) (cell + 1) (flat-low l n) .beyond)) (λ g z. z)
             (λ so. record {
               cell = withCell H (λ x. x) cell;
-              stands = made-stands s w H (λ x. x) (heap-stands s w k) g cell b d t₁ c₁ tk blank few (region-real .0) (region-real .1) region-open (place (limits s) u a) (flat-low l n) so;
-              stays = λ x al z. to-old s w H (λ x. x) (heap-stands s w k) g cell b d t₁ c₁ tk blank few (region-real .0) (region-real .1) region-open x al;
+              stands = made-stands s w H (λ x. x) (heap-stands s w k) g cell b d t₂ c₁ tk blank few (region-real .0) (region-real .1) region-open (place (limits s) u a) (flat-low l n) so;
+              stays = λ x al z. to-old s w H (λ x. x) (heap-stands s w k) g cell b d t₂ c₁ tk blank few (region-real .0) (region-real .1) region-open x al;
             }))

@@ -1,9 +1,10 @@
 // Code 3: an object is made in its thread's innermost open region, in the control space if none is open.
 ghost use mathlib.Core.Path.{_≡_};
 ghost use Prim.Native.Nat.{_+_, _<_, _≤_};
-ghost use lib.ListN.{length};
+ghost use lib.ListN.{length, set};
 ghost use Rattle.rules.specs.Regions.{regionAt};
-ghost use Rattle.layout.specs.Places.{Room, depthOf};
+ghost use Rattle.rules.specs.Rules.{counted};
+ghost use Rattle.layout.specs.Places.{Room, depthOf, madeAt, madeOf};
 ghost use Rattle.layout.specs.Cells.{mostFields};
 ghost use Rattle.layout.specs.Words.{words};
 ghost use Rattle.promises.specs.Whole.{WholeFor};
@@ -22,6 +23,15 @@ fn innermost(p: Sizes, tables: &[u32], t: usize) -> u32
 {
     let d = layout::tables::depth(p, tables, t);
     layout::regions::region_at(p, t, layout::wide(d))
+}
+
+// One object more is made.
+fn count_made(p: Sizes, tables: &mut [u32])
+    requires { ⌜ Room p (length (now tables)) ⌝ }
+    ensures { λ _. ⌜ now (tables .exit) ≡ set (now (tables .entry)) (madeAt p) (counted (madeOf p (now (tables .entry)) + 1)) ⌝ }
+{
+    let made = layout::tables::made(p, tables);
+    layout::tables::set_made(p, tables, std::num::wrapping_add_u32(made, 1));
 }
 
 // Code 3: a new object with b references and c numbers in variable a. It takes the first unused cell of its region's partly filled page,
@@ -48,6 +58,7 @@ pub fn new_object(
         return rules::refused(13);
     }
     let cell = pages::take_cell(p, tables, page, region);
+    count_made(p, tables);
     layout::cells::set_head(cells, cell, layout::cells::head_word(b, c));
     write_var(p, tables, t, a, layout::cells::ref_to(cell));
     rules::done(0)

@@ -80,23 +80,27 @@ inside c =
     cell-inside (args .p) (args .cells .now) (args .remember .now) (args .tables .now) (pre .0) (args .t) (pre .1 .1 .0) (innermost .result) (innermost .ensures)
     (page .result) (page .ensures) (omega arith) (take .result) (take .ensures .0) (take .last .1 .0) (take .ensures .1)
 
+count-made-requires : tie.Need-count-made-requires
+count-made-requires c κs =
+    let args = c .before .before .before .before .before .before .before .before .before .before .before .before .before .before .before .before .before .before .args in
+    subst (Room (args .p)) (sym (c .before .before .before .take-cell .kept .1 .0))
+    (whole-room (args .p) (words (args .cells .now) (args .remember .now) (args .tables .now)) (c .before .before .before .before .before .before .before .before .before .before .before .before .before .before .before .before .before .before .pre .0) (omega (arith, c .before .before .before .before .before .before .before .before .before .before .before .before .before .before .before .before .before .before .good .1 .1 .1 .0)))
+
 head-word-requires : tie.Need-head-word-requires
-head-word-requires c κs = omega (arith, c .before .before .before .before .before .before .before .before .before .before .before .before .before .before .before .before .before .before .pre .1 .1 .2)
+head-word-requires c κs = omega (arith, c .before .before .before .before .before .before .before .before .before .before .before .before .before .before .before .before .before .before .before .before .before .before .pre .1 .1 .2)
 
 set-head-requires : tie.Need-set-head-requires
-set-head-requires c κs = inside (c .before .before .before .before)
+set-head-requires c κs = inside (c .before .before .before .before .before .before .before .before)
 
 ref-to-requires : tie.Need-ref-to-requires
-ref-to-requires c κs = inside (c .before .before .before .before .before .before .before .before) .0
+ref-to-requires c κs = inside (c .before .before .before .before .before .before .before .before .before .before .before .before) .0
 
 write-var-requires : tie.Need-write-var-requires
 write-var-requires c κs =
-    let args = c .before .before .before .before .before .before .before .before .before .before .before .before .before .before .before .before .before .before .before .before .before .before .before .before .args in
-    let pre = c .before .before .before .before .before .before .before .before .before .before .before .before .before .before .before .before .before .before .before .before .before .before .before .before .pre in
-    let good = c .before .before .before .before .before .before .before .before .before .before .before .before .before .before .before .before .before .before .before .before .before .before .before .before .good in
-    let take-cell = c .before .before .before .before .before .before .before .before .before .take-cell in (
-      subst (Room (args .p)) (sym (take-cell .kept .1 .0))
-          (whole-room (args .p) (words (args .cells .now) (args .remember .now) (args .tables .now)) (pre .0) (omega (arith, good .1 .1 .1 .0))),
+    let args = c .before .before .before .before .before .before .before .before .before .before .before .before .before .before .before .before .before .before .before .before .before .before .before .before .before .before .before .before .args in
+    let pre = c .before .before .before .before .before .before .before .before .before .before .before .before .before .before .before .before .before .before .before .before .before .before .before .before .before .before .before .before .pre in (
+      subst (Room (args .p)) (sym (c .before .before .before .before .before .before .before .before .before .count-made .kept .1 .0 ∙ c .before .before .before .before .before .before .before .before .before .before .before .before .before .take-cell .kept .1 .0))
+          (whole-room (args .p) (words (args .cells .now) (args .remember .now) (args .tables .now)) (pre .0) (omega (arith, c .before .before .before .before .before .before .before .before .before .before .before .before .before .before .before .before .before .before .before .before .before .before .before .before .before .before .before .before .good .1 .1 .1 .0))),
       (pre .1 .1 .0, pre .1 .1 .1),
     )
 
@@ -114,21 +118,22 @@ same-length-5 c = search needs
 
 returns-2 : tie.Need-returns-2
 returns-2 c =
-    let args = c .before .before .before .before .before .before .before .before .before .before .before .before .before .before .before .before .before .before .before .before .before .before .before .before .before .before .before .before .args in
-    let pre = c .before .before .before .before .before .before .before .before .before .before .before .before .before .before .before .before .before .before .before .before .before .before .before .before .before .before .before .before .pre in
-    let innermost = c .before .before .before .before .before .before .before .before .before .before .before .before .before .before .before .before .before .before .before .before .before .before .innermost in
-    let page-for = c .before .before .before .before .before .before .before .before .before .before .before .before .before .before .before .before .before .before .before .page-for in
-    let if1 = c .before .before .before .before .before .before .before .before .before .before .before .before .before .before .before .if1 in
-    let take-cell = c .before .before .before .before .before .before .before .before .before .before .before .before .before .take-cell in
+    let args = c .before .before .before .before .before .before .before .before .before .before .before .before .before .before .before .before .before .before .before .before .before .before .before .before .before .before .before .before .before .before .before .before .args in
+    let pre = c .before .before .before .before .before .before .before .before .before .before .before .before .before .before .before .before .before .before .before .before .before .before .before .before .before .before .before .before .before .before .before .before .pre in
+    let innermost = c .before .before .before .before .before .before .before .before .before .before .before .before .before .before .before .before .before .before .before .before .before .before .before .before .before .before .innermost in
+    let page-for = c .before .before .before .before .before .before .before .before .before .before .before .before .before .before .before .before .before .before .before .before .before .before .before .page-for in
+    let if1 = c .before .before .before .before .before .before .before .before .before .before .before .before .before .before .before .before .before .before .before .if1 in
+    let take-cell = c .before .before .before .before .before .before .before .before .before .before .before .before .before .before .before .before .before .take-cell in
+    let count-made = c .before .before .before .before .before .before .before .before .before .before .before .before .before .count-made in
     let head-word = c .before .before .before .before .before .before .before .before .before .head-word in
     let set-head = c .before .before .before .before .before .before .before .before .set-head in
     let write-var = c .before .before .before .write-var in
     did-answer (c .done .ensures)
     (new-done (args .p) (args .cells .now) (args .remember .now) (args .tables .now) (pre .0) (args .t) (pre .1 .1 .0) (innermost .result)
     (innermost .ensures) (args .a) (args .b) (args .c) (pre .1 .1 .1) (pre .1 .1 .2) (page-for .result) (page-for .ensures) (omega (arith, if1 .left))
-    (take-cell .result) (take-cell .ensures .0) (take-cell .last .1 .0) (take-cell .ensures .1)
+    (take-cell .result) (take-cell .ensures .0) (take-cell .last .1 .0) (take-cell .ensures .1) (count-made .last .1 .0) (count-made .ensures)
     (set-head .last .0) (set-head .ensures ∙ ap (λ (x : ℕ). set (args .cells .now) (headAt (take-cell .result)) x) (head-word .ensures))
-    (write-var .ensures ∙ ap (λ (x : ℕ). set (take-cell .last .1 .0) (variableAt (args .p) (args .t) (args .a)) x) (c .before .before .before .before .ref-to .ensures)))
+    (write-var .ensures ∙ ap (λ (x : ℕ). set (count-made .last .1 .0) (variableAt (args .p) (args .t) (args .a)) x) (c .before .before .before .before .ref-to .ensures)))
 
 pub new-object-spec : {M : Type 1} → statement M
 new-object-spec =
@@ -141,6 +146,7 @@ new-object-spec =
     same-length-2
     returns
     take-cell-requires
+    count-made-requires
     head-word-requires
     set-head-requires
     ref-to-requires
