@@ -1,4 +1,4 @@
-//! The epoch heap of document 01 as a graph of objects.
+//! The epoch heap of documents 01 and 02 (W2) as a graph of objects.
 //!
 //! There are no cells, no pages and no remember table here: an object knows its region, a thread is a stack of open epochs, an epoch is
 //! the list of its objects. Pages are counted from the number of objects, and crossing slots are counted by looking at the slots.
@@ -42,6 +42,9 @@ pub struct Heap {
     unused: Vec<Id>,
     /// How many slots are crossing.
     crossing: usize,
+    /// Objects made and objects freed since the heap is there, each modulo 4,294,967,296 (02, W2).
+    made: u32,
+    freed: u32,
 }
 
 /// A row of the report.
@@ -62,6 +65,8 @@ impl Heap {
             objects: Vec::new(),
             unused: Vec::new(),
             crossing: 0,
+            made: 0,
+            freed: 0,
         }
     }
 
@@ -179,6 +184,7 @@ impl Heap {
         };
         self.members_mut(region).push(id);
         self.threads[thread].variables[variable] = Some(id);
+        self.made = self.made.wrapping_add(1);
         Ok(0)
     }
 
@@ -214,6 +220,7 @@ impl Heap {
         for id in ending.freed {
             self.objects[id] = None;
             self.unused.push(id);
+            self.freed = self.freed.wrapping_add(1);
         }
         self.crossing = ending.crossing;
         Ok(0)
@@ -243,6 +250,19 @@ impl Heap {
 
     pub fn crossing_slots(&self) -> usize {
         self.crossing
+    }
+
+    pub fn made(&self) -> u32 {
+        self.made
+    }
+
+    pub fn freed(&self) -> u32 {
+        self.freed
+    }
+
+    /// Live objects: the sum of the rows.
+    pub fn total(&self) -> usize {
+        self.report().iter().map(|row| row.objects).sum()
     }
 
     pub fn depth(&self, thread: usize) -> usize {

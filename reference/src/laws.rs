@@ -1,7 +1,8 @@
-//! `laws COUNT SEED`: holds this folder's heap to document 01 in a second way, over generated scripts.
+//! `laws COUNT SEED`: holds this folder's heap to documents 01 and 02 (W2) in a second way, over generated scripts.
 //!
 //! After every command: the answer is that of the heap that never frees, 13 and 14 aside; the objects are paired with its objects; a
-//! refused command has changed nothing; and the counts agree with what is found by looking. Before every end: the survivors and their
+//! refused command has changed nothing; the counts agree with what is found by looking; and objects made and freed are the new objects
+//! that were done and the objects of the heap that never frees which have lost their partner. Before every end: the survivors and their
 //! regions are worked out again, word for word as 01 defines them, holder by holder.
 
 use epochs::counted::commas;
@@ -24,6 +25,7 @@ fn main() {
             heap: Heap::new(limits),
             forever: Forever::new(limits.threads, limits.variables, limits.depth),
             partners: BTreeMap::new(),
+            new_objects: 0,
         };
         for (k, line) in lines.enumerate() {
             let Some(words) = five_numbers(line) else { break };
@@ -42,6 +44,8 @@ struct Both {
     heap: Heap,
     forever: Forever,
     partners: BTreeMap<Id, usize>,
+    /// How many commands of code 3 were done.
+    new_objects: u32,
 }
 
 fn law(holds: bool, text: &str) -> Result<(), String> {
@@ -73,6 +77,7 @@ impl Both {
             law(answer == expected, "the answer is that of the heap that never frees")?;
         }
         if answer.is_ok() && code == 3 {
+            self.new_objects = self.new_objects.wrapping_add(1);
             self.partners.insert(self.heap.variable(thread, a as usize).unwrap(), self.forever.objects.len() - 1);
         }
         if answer.is_ok() && code == 2 {
@@ -80,7 +85,17 @@ impl Both {
             self.partners.retain(|id, _| live.contains(id));
         }
         self.paired()?;
+        self.counted()?;
         looked_at(&self.heap)
+    }
+
+    /// Objects made, objects freed, and their total (02, W2).
+    fn counted(&self) -> Result<(), String> {
+        let paired: BTreeSet<usize> = self.partners.values().copied().collect();
+        let lost = (0..self.forever.objects.len()).filter(|place| !paired.contains(place)).count();
+        law(self.heap.made() == self.new_objects, "objects made are the new objects that were done")?;
+        law(self.heap.freed() == lost as u32, "objects freed are those of the heap that never frees which lost their partner")?;
+        law(self.heap.total() as u32 == self.heap.made().wrapping_sub(self.heap.freed()), "the total is made less freed")
     }
 
     /// The same object means paired.
@@ -189,6 +204,8 @@ fn by_definition(before: &Heap, after: &Heap, ending_thread: usize, answer: Resu
     law(answer == expected, "an end is done or refused as its definition says")?;
     if answer.is_ok() {
         law(after.ids().collect::<Vec<_>>() == kept, "the survivors are those of the definition")?;
+        let freed = before.ids().count() - kept.len();
+        law(after.freed() == before.freed().wrapping_add(freed as u32), "an end counts the objects that the definition frees")?;
         law(kept.iter().all(|&id| Some(after.region(id)) == region_after(id)), "each survivor is where the definition sends it")?;
         law(after.crossing_slots() == crossing, "as many crossing slots as the definition says")?;
         law(after.free_pages() == before.limits.pages as usize - then, "as many free pages as the definition says")?;
@@ -216,5 +233,6 @@ fn looked_at(heap: &Heap) -> Result<(), String> {
         used += row.pages;
     }
     law(rows == heap.ids().count(), "every object is in one open region")?;
+    law(rows == heap.total(), "the total is the sum of the rows")?;
     law(used + heap.free_pages() == heap.limits.pages as usize, "used and free pages add up to P")
 }

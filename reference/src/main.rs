@@ -1,4 +1,4 @@
-//! The second program: document 01's section "The program" over an object graph.
+//! The second program: document 01's section "The program", with the last line of 02's W2, over an object graph.
 
 use epochs::heap::Heap;
 use epochs::lines::{five_numbers, sizes};
@@ -40,6 +40,7 @@ fn run(mut input: impl BufRead, mut output: impl Write) -> io::Result<()> {
         writeln!(output, "{} {} {} {}", row.thread, row.level, row.objects, row.pages)?;
     }
     writeln!(output, "{} {}", heap.free_pages(), heap.crossing_slots())?;
+    writeln!(output, "{} {} {}", heap.made(), heap.freed(), heap.total())?;
     output.flush()
 }
 
