@@ -77,9 +77,9 @@ static int entries_agree(const View *a, const View *b) {
 
 int agree(const Lent *left, const Lent *right) {
     View a = view(left), b = view(right);
-    uint32_t regions = 1 + a.threads * a.depth;
+    uint32_t counters = 1 + a.threads * a.depth + 2;        /* objects in each region, objects made, objects freed */
     if (memcmp(left->tables, right->tables, (5 + a.threads) * sizeof *left->tables) != 0) return 0;
-    if (memcmp(a.counts, b.counts, regions * sizeof *a.counts) != 0) return 0;
+    if (memcmp(a.counts, b.counts, counters * sizeof *a.counts) != 0) return 0;
     memset(partner, 0, sizeof partner);
     pending = 0;
     for (uint32_t i = 0; i < a.threads * a.variables; i++)

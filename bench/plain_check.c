@@ -39,7 +39,10 @@ static int pages_whole(const Lent *l) {
         if (used < 16 && partly[owner]++) return 0;
         objects[owner] += used;
     }
-    return memcmp(objects + 1, l->counts, regions * sizeof *objects) == 0;
+    if (memcmp(objects + 1, l->counts, regions * sizeof *objects) != 0) return 0;
+    uint32_t all = 0;
+    for (uint32_t region = 0; region < regions; region++) all += l->counts[region];
+    return l->counts[regions] - l->counts[regions + 1] == all;      /* objects made less objects freed */
 }
 
 static int is_zero(const uint32_t *cell) {
@@ -105,7 +108,7 @@ uint32_t plain_check(const uint32_t *cells, size_t cells_words, const uint32_t *
         || l.pages > 1024 || l.entries > 4096 || remember[0] != l.entries)
         return 3;
     if (cells_words < 256 * l.pages || remember_words < 2 * l.entries + 2
-        || tables_words < l.threads * (l.variables + l.depth + 1) + 3 * l.pages + 6)
+        || tables_words < l.threads * (l.variables + l.depth + 1) + 3 * l.pages + 8)
         return 3;
     l.depths = tables + 5;
     l.vars = l.depths + l.threads;
