@@ -16,6 +16,8 @@
  * crossing slot   A slot of an object in one region that points into another region, be it further in, further out or of another thread,
  *                 unless that is the control space.
  * remember entry  The heap keeps an entry for each crossing slot; there are as many as it was prepared with.
+ * made, freed     The heap counts the objects that were made and those that were freed since it was prepared, each modulo 4,294,967,296. A new
+ *                 object that is refused was not made, and an object that moves is neither made nor freed.
  *
  * The end of an epoch frees the objects of its region, except those that a variable or a slot of another region leads to, directly or by way
  * of objects of the ending region. These move, and variables and slots go on leading to the same objects. What leads to one calls for a region:
@@ -65,9 +67,9 @@
 extern "C" {
 #endif
 
-#define TALDREKU_VERSION "1.1.0"
-#define TALDREKU_VERSION_MAJOR 1
-#define TALDREKU_VERSION_MINOR 1
+#define TALDREKU_VERSION "2.0.0"
+#define TALDREKU_VERSION_MAJOR 2
+#define TALDREKU_VERSION_MINOR 0
 #define TALDREKU_VERSION_PATCH 0
 
 /* The largest sizes. All but the entries are at least 1. */
@@ -89,9 +91,11 @@ enum taldreku_number {
     /* prepare: nothing was written */
     TALDREKU_SIZES = 1,          /* a size is out of range */
     TALDREKU_SHORT = 2,          /* one of the three arrays is too short */
-    /* run: heap and answers are as before; report: no row was written, and rows, free_pages and crossing_slots are 0 */
-    TALDREKU_NOT_WHOLE = 3,      /* the arrays do not hold a heap; a word that is not zero in room without an object is enough, so that
-                                    a heap that version 1.0 left may be refused */
+    /* run: heap and answers are as before; report: no row was written, and all other words of the result are 0 */
+    TALDREKU_NOT_WHOLE = 3,      /* the arrays do not hold a heap. A word that is not zero in room without an object is enough. So are counts of
+                                    objects made and freed that do not differ, modulo 4,294,967,296, by the objects there are: they are two
+                                    words that version 1 did not have, so that tables it left are too short, or are refused unless the words
+                                    behind them happen to agree */
     TALDREKU_BLOCK = 4,          /* the block is no multiple of five words */
     TALDREKU_ANSWERS = 5,        /* the answer array has fewer than two words for each command */
     /* one command: the heap is as before it, its value is 0, and the block goes on */
@@ -122,7 +126,7 @@ enum taldreku_code {
     TALDREKU_SAME = 10           /* value 1 if variables a and b hold the same object or are both null, else 0 */
 };
 
-/* How many words each array needs; 0 if a size is out of range. */
+/* How many words each array needs; 0 if a size is out of range. The tables need two words more than in version 1. */
 uint32_t taldreku_cells_length(uint32_t pages);
 uint32_t taldreku_remember_length(uint32_t entries);
 uint32_t taldreku_tables_length(uint32_t threads, uint32_t variables, uint32_t depth, uint32_t pages);
@@ -149,9 +153,11 @@ struct taldreku_row {
     uint32_t thread, level, objects, pages;
 };
 
-/* The result of a report: 0, 3 or 15; how many rows were written; pages that are free, and slots that are crossing. */
+/* The result of a report: 0, 3 or 15; how many rows were written; pages that are free, and slots that are crossing; objects made and objects
+ * freed since the heap was prepared, each modulo 4,294,967,296; and the total of the objects there are, which is the sum of the rows' objects, and
+ * made less freed modulo the same number. Version 1 did not have the last three. */
 struct taldreku_reported {
-    uint32_t number, rows, free_pages, crossing_slots;
+    uint32_t number, rows, free_pages, crossing_slots, made, freed, total;
 };
 
 /* Writes a row for the control space and one for each open region: the control space, then thread by thread from the outermost region in.

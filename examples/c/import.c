@@ -148,6 +148,7 @@ static void report(void) {
     for (uint32_t i = 0; i < r.rows; i++)
         printf("%6u %6u %8u %6u\n", (unsigned)rows[i].thread, (unsigned)rows[i].level, (unsigned)rows[i].objects, (unsigned)rows[i].pages);
     printf("free pages %u, crossing slots %u\n", (unsigned)r.free_pages, (unsigned)r.crossing_slots);
+    printf("objects made %u, freed %u, total %u\n", (unsigned)r.made, (unsigned)r.freed, (unsigned)r.total);
 }
 
 /* What the register keeps has moved to the control space, with what it leads to. */
