@@ -15,7 +15,7 @@ static void lengths(void) {
                 for (uint32_t p = 0; p <= TALDREKU_MAX_PAGES + 1; p += p == 1 ? TALDREKU_MAX_PAGES - 1 : 1) {
                     int in_range = t >= 1 && t <= TALDREKU_MAX_THREADS && v >= 1 && v <= TALDREKU_MAX_VARIABLES && d >= 1 &&
                                    d <= TALDREKU_MAX_DEPTH && p >= 1 && p <= TALDREKU_MAX_PAGES;
-                    CHECK(taldreku_tables_length(t, v, d, p) == (in_range ? t * (v + d + 1) + 3 * p + 6 : 0));
+                    CHECK(taldreku_tables_length(t, v, d, p) == (in_range ? t * (v + d + 1) + 3 * p + 8 : 0));
                 }
     static const uint32_t out[] = {0x80000000, 0x80000001, 0xffffffff, 0x10001};
     for (size_t i = 0; i < sizeof out / sizeof out[0]; i++) {

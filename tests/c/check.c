@@ -173,6 +173,8 @@ int same_words(const Lent *l, const Lent *m) {
 
 uint32_t owner_of(const Lent *l, uint32_t page) { return l->tables[5 + l->tables[0] * (1 + l->tables[1]) + page]; }
 uint32_t used_on(const Lent *l, uint32_t page) { return owner_of(l, l->tables[3] + page); }
+uint32_t *made_word(const Lent *l) { return l->tables + taldreku_tables_length(l->tables[0], l->tables[1], l->tables[2], l->tables[3]) - 2; }
+uint32_t *freed_word(const Lent *l) { return made_word(l) + 1; }
 
 void drop(Lent *copy) {
     free(copy->cells);

@@ -64,8 +64,12 @@ uint32_t answer(const Lent *l, uint32_t code, uint32_t thread, uint32_t a, uint3
 
 uint32_t owner_of(const Lent *l, uint32_t page);
 uint32_t used_on(const Lent *l, uint32_t page);        /* cells in use */
-/* The report, as the words themselves say it: by the depths, the owners and uses of the pages, and every slot of every cell in use. */
+uint32_t *made_word(const Lent *l);                     /* objects made and objects freed, the last two words of the tables */
+uint32_t *freed_word(const Lent *l);
+/* The report, as the words themselves say it: by the depths, the owners and uses of the pages, every slot of every cell in use, and the last two
+ * words of the tables. */
 struct taldreku_reported count_words(const Lent *l, struct taldreku_row *rows);
+int no_figures(struct taldreku_reported r);             /* all words of the result but its number are 0 */
 /* The report is that into enough rows, spare ones among them, and is refused into fewer. Rows that it does not write stay, and so do the words. */
 void check_report(const Lent *l);
 
@@ -75,6 +79,7 @@ size_t stack_of(void (*work)(void));
 void test_calls(void);
 void test_commands(void);
 void test_cleared(void);
+void test_counters(void);
 void test_reports(void);
 void test_largest(void);
 void test_streams(void);

@@ -9,6 +9,8 @@
 #include "../../bench/plain.h"
 
 enum { THREADS = 15, LEVELS = 8, LIST = 112, CROSSING = 39, HELD = 10, FILLER = 15 };
+/* the objects that survive, with the register, and those of the sixteenth thread, which are freed */
+enum { KEPT = 1 + THREADS * LEVELS * LIST, FILLING = 183 * 16 };
 /* variables: the head of the list of a level, and of every thread the object that is made, the one held, and the register */
 enum { OBJECT = LEVELS, LOOK, TENTH, REGISTER };
 /* fields of an object */
@@ -62,9 +64,10 @@ static void fill(void) {
 
     struct taldreku_reported r = report(&ours, rows, TALDREKU_MAX_ROWS);
     CHECK(r.number == TALDREKU_DONE && r.rows == TALDREKU_MAX_ROWS && r.free_pages == 0 && r.crossing_slots == TALDREKU_MAX_ENTRIES);
+    CHECK(r.made == KEPT + FILLING && r.freed == 0 && r.total == KEPT + FILLING);
     CHECK(rows[0].objects == 1 && rows[0].pages == 1);
     CHECK(rows[1].objects == LIST && rows[1].pages == LIST / 16 && rows[1].thread == 0 && rows[1].level == 1);
-    CHECK(rows[128].objects == 183 * 16 && rows[128].pages == 183 && rows[128].thread == FILLER && rows[128].level == LEVELS);
+    CHECK(rows[128].objects == FILLING && rows[128].pages == 183 && rows[128].thread == FILLER && rows[128].level == LEVELS);
     check_report(&ours);
 
     /* no page and no entry is left, and what is refused changes no word */
@@ -92,6 +95,7 @@ static void ends(void) {
     both();
     struct taldreku_reported r = report(&ours, rows, TALDREKU_MAX_ROWS);
     CHECK(r.rows == 1 + THREADS * LEVELS && r.free_pages == 183);
+    CHECK(r.made == KEPT + FILLING && r.freed == FILLING && r.total == KEPT);
 
     /* the innermost epoch of thread 0: ten objects go to the control space, and with them slots that still cross */
     add(&block, TALDREKU_END, 0, 0, 0, 0);
@@ -111,7 +115,8 @@ static void ends(void) {
     }
     r = report(&ours, rows, TALDREKU_MAX_ROWS);
     CHECK(r.rows == 1 && r.crossing_slots == 0 && r.free_pages == TALDREKU_MAX_PAGES - rows[0].pages);
-    CHECK(rows[0].objects == 1 + THREADS * LEVELS * LIST && rows[0].pages == (1 + THREADS * LEVELS * LIST + 15) / 16);
+    CHECK(rows[0].objects == KEPT && rows[0].pages == (KEPT + 15) / 16);
+    CHECK(r.made == KEPT + FILLING && r.freed == FILLING && r.total == KEPT);
 }
 
 /* Every list is as it was made. */

@@ -23,6 +23,7 @@ int main(void) {
     test_calls();
     test_commands();
     test_cleared();
+    test_counters();
     test_reports();
     test_largest();
     test_streams();

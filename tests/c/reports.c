@@ -3,6 +3,9 @@
 
 #include <string.h>
 
+int no_figures(struct taldreku_reported r) {
+    return (r.rows | r.free_pages | r.crossing_slots | r.made | r.freed | r.total) == 0;
+}
 
 static uint32_t crossing_slots(const Lent *l) {
     uint32_t crossing = 0;
@@ -26,11 +29,11 @@ static struct taldreku_row row_by_words(const Lent *l, uint32_t thread, uint32_t
 }
 
 struct taldreku_reported count_words(const Lent *l, struct taldreku_row *rows) {
-    struct taldreku_reported r = {.crossing_slots = crossing_slots(l)};
+    struct taldreku_reported r = {.crossing_slots = crossing_slots(l), .made = *made_word(l), .freed = *freed_word(l)};
     rows[r.rows++] = row_by_words(l, 0, 0);
     for (uint32_t thread = 0; thread < l->tables[0]; thread++)
         for (uint32_t level = 1; level <= l->tables[5 + thread]; level++) rows[r.rows++] = row_by_words(l, thread, level);
-    for (uint32_t page = 0; page < l->tables[3]; page++) r.free_pages += owner_of(l, page) == 0;
+    for (uint32_t page = 0; page < l->tables[3]; page++) r.free_pages += owner_of(l, page) == 0, r.total += used_on(l, page);
     return r;
 }
 
@@ -43,11 +46,15 @@ static void report_into(const Lent *l, const struct taldreku_reported *wanted, c
     noise((uint32_t *)rows, ROW_WORDS * count);
     memcpy(kept, rows, count * sizeof *rows);
     struct taldreku_reported r = report(l, count == 0 ? NULL : rows, count);
-    if (count < wanted->rows) CHECK(r.number == TALDREKU_ROWS && r.rows == 0 && r.free_pages == 0 && r.crossing_slots == 0);
+    if (count < wanted->rows) CHECK(r.number == TALDREKU_ROWS && no_figures(r));
     else {
+        uint32_t total = 0;
         CHECK(r.number == TALDREKU_DONE && r.rows == wanted->rows);
         CHECK(r.free_pages == wanted->free_pages && r.crossing_slots == wanted->crossing_slots);
+        CHECK(r.made == wanted->made && r.freed == wanted->freed && r.total == wanted->total);
         CHECK(memcmp(rows, by_words, r.rows * sizeof *rows) == 0);
+        for (uint32_t i = 0; i < r.rows; i++) total += rows[i].objects;
+        CHECK(r.total == total && r.total == r.made - r.freed);
     }
     CHECK(memcmp(rows + r.rows, kept + r.rows, (count - r.rows) * sizeof *rows) == 0);
     release_last();
@@ -83,7 +90,7 @@ static Lent stepped(size_t extra, Edge edge) {
 
 static void counted(Edge edge) {
     static const struct taldreku_row rows[] = {{0, 0, 33, 3}, {1, 1, 7, 1}, {2, 1, 14, 1}, {2, 2, 0, 0}, {3, 1, 21, 2}, {3, 2, 0, 0}, {3, 3, 21, 2}};
-    static const struct taldreku_reported wanted = {.rows = 7, .free_pages = 11, .crossing_slots = 6};
+    static const struct taldreku_reported wanted = {.rows = 7, .free_pages = 11, .crossing_slots = 6, .made = 96, .total = 96};
     for (size_t extra = 0; extra <= 2; extra++)
         for (size_t count = 0; count <= 10; count++) {
             Lent l = stepped(extra, edge), before = copy_of(&l);
@@ -114,12 +121,12 @@ static void not_whole(Edge edge) {
         if (which == 6) l.tables[5]++;          /* an epoch of thread 0 that was not started is open: still a heap, with a row more */
         struct taldreku_reported r = report(&l, rows, which == 6 ? 7 : 8);
         CHECK(r.number == (which == 6 ? TALDREKU_ROWS : TALDREKU_NOT_WHOLE));
-        CHECK(r.rows == 0 && r.free_pages == 0 && r.crossing_slots == 0);
+        CHECK(no_figures(r));
         CHECK(memcmp(rows, kept, sizeof rows) == 0);
         release();
     }
     struct taldreku_reported r = taldreku_report(NULL, 0, NULL, 0, NULL, 0, NULL, 0);
-    CHECK(r.number == TALDREKU_NOT_WHOLE && r.rows == 0 && r.free_pages == 0 && r.crossing_slots == 0);
+    CHECK(r.number == TALDREKU_NOT_WHOLE && no_figures(r));
 }
 
 void test_reports(void) {
