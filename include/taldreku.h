@@ -154,8 +154,8 @@ struct taldreku_row {
 };
 
 /* The result of a report: 0, 3 or 15; how many rows were written; pages that are free, and slots that are crossing; objects made and objects
- * freed since the heap was prepared, each modulo 4,294,967,296; and the total of the objects there are, which is the sum of the rows' objects, and
- * made less freed modulo the same number. Version 1 did not have the last three. */
+ * freed since the heap was prepared, each modulo 4,294,967,296; and the total of the objects there are, which is the sum of the rows' objects
+ * and made less freed, modulo the same number. Version 1 did not have the last three. */
 struct taldreku_reported {
     uint32_t number, rows, free_pages, crossing_slots, made, freed, total;
 };
