@@ -52,8 +52,8 @@ module _ {p : Sizes} {T : List ℕ} {g page : ℕ} (a : Seeking p g T page) wher
   points-next l = ⊎-elim (found-next (a .regular) (a .usable)) (λ h. absurd (let z : ⊥ = omega (arith, h .full) in z)) (a .points)
 
 -- after a cell of the page is taken
-pub took-points : {p : Sizes} {T : List ℕ} {g c : ℕ} {T′ : List ℕ} → Took p T g c T′ → Points p T′ g (pageOf c)
-took-points {p} {T} {g} {c} {T′} t = at (decLt (usedOf p T′ (pageOf c)) pageCells)
+pub took-points : {p : Sizes} {T : List ℕ} {g c n : ℕ} {T′ : List ℕ} → Took p T g c n T′ → Points p T′ g (pageOf c)
+took-points {p} {T} {g} {c} {n} {T′} t = at (decLt (usedOf p T′ (pageOf c)) pageCells)
   where
     at : Dec (usedOf p T′ (pageOf c) < pageCells) → Points p T′ g (pageOf c)
     at (yes m) = inl (inl (record { low = t .page; partial = record { owner = t .owner; part = m } }))

@@ -8,7 +8,7 @@ use native.Mathlib.Decide.{ℕ-discrete}
 use native.Mathlib.Omega.{arith}
 use lib.ListN.{length, getD}
 use Rattle.rules.specs.declared.Sizes.{Sizes}
-use Rattle.layout.specs.Places.{ownerOf, ownersFrom, cellsWords, tablesWords}
+use Rattle.layout.specs.Places.{ownerOf, ownersFrom, madeAt, cellsWords}
 use Rattle.layout.specs.Cells.{wordAt, workOf, refTo, cellNamed, pageOf, cellOf, cellWords, work-cell, page-at}
 use Rattle.layout.specs.Marks.{marked}
 use Rattle.layout.specs.Objects.{InUse, NotInUse, Begins, begins-used, used-begins, begins-page}
@@ -34,7 +34,7 @@ pub record Gone (p : Sizes) (T₀ T : List ℕ) (c : ℕ) : Type 0 where
 pub record Copying (p : Sizes) (W₀ T₀ W T : List ℕ) : Type 0 where
   pub cells-size : length W ≡ length W₀
   pub tables-size : length T ≡ length T₀
-  pub rest : (x : ℕ) → (x < ownersFrom p) ⊎ (tablesWords p ≤ x) → getD T x 0 ≡ getD T₀ x 0
+  pub rest : (x : ℕ) → (x < ownersFrom p) ⊎ (madeAt p ≤ x) → getD T x 0 ≡ getD T₀ x 0
   pub beyond : (x : ℕ) → cellsWords p ≤ x → getD W x 0 ≡ getD W₀ x 0
   pub keeps : (x : ℕ) → Begins p W₀ T₀ x → Begins p W T x
   pub owner : (x : ℕ) → Begins p W₀ T₀ x → ownerOf p T (pageOf x) ≡ ownerOf p T₀ (pageOf x)

@@ -1,6 +1,6 @@
 -- One survivor is moved: a cell is taken, its words are copied, its mark goes to the upper half.
 use mathlib.Core.Path.{_≡_, refl, sym, ap, ap₂, _∙_, subst}
-use mathlib.Core.Logic.{_≢_, _⊎_, inl, inr, ⊎-elim}
+use mathlib.Core.Logic.{_≢_, _⊎_, inl, inr, ⊎-elim, by-cases}
 use mathlib.Core.List.{List, [], _∷_}
 use Prim.Native.Nat.{ℕ, _+_, _≤_, _<_}
 use native.Mathlib.Decide.{ℕ-discrete}
@@ -12,7 +12,7 @@ use Rattle.lists.specs.Counting.{sum-same}
 use Rattle.rules.specs.Graph.{pagesOf}
 use Rattle.rules.specs.declared.Sizes.{Sizes}
 use Rattle.rules.specs.Regions.{regions}
-use Rattle.layout.specs.Places.{Room, markAt, ownerOf, usedOf, markOf, ownersFrom, cellsWords, tablesWords, count-room}
+use Rattle.layout.specs.Places.{Room, markAt, ownerOf, usedOf, markOf, ownersFrom, madeAt, madeOf, cellsWords, count-room}
 use Rattle.layout.specs.Cells.{cellOn, page-on, wordAt, workAt, workOf, refTo, pageOf, placeOf, cellOf, wordOf, pageCells, cellWords, place-low, same-cell, word-cell, word-there, word-low, work-cell, work-there, work-low}
 use Rattle.layout.specs.Marks.{marked}
 use Rattle.layout.specs.Objects.{InUse, NotInUse, Begins, begins-used, used-begins, begins-page, work-used}
@@ -109,7 +109,7 @@ pub record Step (p : Sizes) (g q c : ℕ) (W T W′ T′ : List ℕ) : Type 0 wh
   pub new : ℕ
   pub mid : List ℕ
   pub cell : new ≡ cellOn q (usedOf p T q)
-  pub took : Took p T g new mid
+  pub took : Took p T g new (madeOf p T) mid
   pub copied : Copied c new W W′
   pub tables : T′ ≡ set mid (marksAt p c) (raised (getD mid (marksAt p c) 0) (placeOf c))
 
@@ -126,11 +126,11 @@ pub record Taken (p : Sizes) (W T T′ : List ℕ) (c d at i : ℕ) : Type 0 whe
   pub fresh : bitAt (getD T′ at 0) (pageCells + i) ≡ 0
 
 -- the marks stay
-took-marks : {p : Sizes} {T : List ℕ} {g d : ℕ} {T′ : List ℕ} → 1 ≤ g → g ≤ regions p → Took p T g d T′ → (x : ℕ) → x < p .pages → markOf p T′ x ≡ markOf p T x
-took-marks {p} {T} {g} {d} {T′} real low t = took-only p (tablesOnly T) g d T′ t real low .same markWords refl
+took-marks : {p : Sizes} {T : List ℕ} {g d n : ℕ} {T′ : List ℕ} → 1 ≤ g → g ≤ regions p → Took p T g d n T′ → (x : ℕ) → x < p .pages → markOf p T′ x ≡ markOf p T x
+took-marks {p} {T} {g} {d} {n} {T′} real low t = took-only p (tablesOnly T) g d n T′ t real low .same markWords refl
 
-pub movable-taken : {p : Sizes} {g q : ℕ} {W T T′ : List ℕ} {c d : ℕ} → Movable p g q W T c → Took p T g d T′ → Taken p W T T′ c d (marksAt p c) (placeOf c)
-movable-taken {p} {g} {q} {W} {T} {T′} {c} {d} m t =
+pub movable-taken : {p : Sizes} {g q : ℕ} {W T T′ : List ℕ} {c d n : ℕ} → Movable p g q W T c → Took p T g d n T′ → Taken p W T T′ c d (marksAt p c) (placeOf c)
+movable-taken {p} {g} {q} {W} {T} {T′} {c} {d} {n} m t =
     let page = begins-page p W T c (m .used) in
     let e = took-marks (m .real) (m .low) t (pageOf c) page in
     record {
@@ -188,13 +188,14 @@ module _ {p : Sizes} {g q c : ℕ} {W T W′ T′ : List ℕ} (s : Step p g q c 
       ∙ getD-set-other (s .mid) (marksAt p c) x (raised (getD (s .mid) (marksAt p c) 0) (placeOf c)) 0 ne
 
   -- words of the tables that are neither a page's nor a count
-  pub step-rest : (x : ℕ) → (x < ownersFrom p) ⊎ (tablesWords p ≤ x) → getD T′ x 0 ≡ getD T x 0
+  pub step-rest : (x : ℕ) → (x < ownersFrom p) ⊎ (madeAt p ≤ x) → getD T′ x 0 ≡ getD T x 0
   step-rest x (inl l) =
-      mid-other x (λ e. omega (arith, s .can .room)) ∙ s .took .others x (λ e. omega arith) (λ e. omega (arith, s .can .room)) (λ e. omega (arith, s .can .room))
+      mid-other x (λ e. omega (arith, s .can .room)) ∙ s .took .others x (λ e. omega arith) (λ e. omega (arith, s .can .room)) (λ e. omega (arith, s .can .room)) (λ e. omega (arith, s .can .room))
   step-rest x (inr l) =
       let page = s .took .page in
-      mid-other x (λ e. omega (arith, page-in, s .can .room, count-room p))
-      ∙ s .took .others x (λ e. omega (arith, page, s .can .room, count-room p)) (λ e. omega (arith, page, s .can .room, count-room p)) (λ e. omega (arith, s .can .real, s .can .low, count-room p))
+      mid-other x (λ e. omega (arith, page-in, s .can .room))
+      ∙ by-cases (ℕ-discrete x (madeAt p)) (λ e. ap (λ (y : ℕ). getD (s .mid) y 0) e ∙ s .took .made ∙ ap (λ (y : ℕ). getD T y 0) (sym e))
+      (s .took .others x (λ e. omega (arith, page, s .can .room)) (λ e. omega (arith, page, s .can .room)) (λ e. omega (arith, s .can .real, s .can .low, s .can .room)))
 
   -- marks
   mark-here : getD T′ (marksAt p c) 0 ≡ raised (getD T (marksAt p c) 0) (placeOf c)

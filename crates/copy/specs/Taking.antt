@@ -37,9 +37,9 @@ usable {p} {T} r g real m pos le = go (ℕ-discrete (placeOf (objectsOf p T g)) 
     go (no n) = let s = some-partly r g real n in record { at = s .0; low = s .1; why = inr (s .2) }
 
 -- taking a cell uses exactly the pages that one more object needs
-pub took-needs : {p : Sizes} {T : List ℕ} {g c : ℕ} {T′ : List ℕ} → Regular p T → 1 ≤ g → Took p T g c T′
+pub took-needs : {p : Sizes} {T : List ℕ} {g c n : ℕ} {T′ : List ℕ} → Regular p T → 1 ≤ g → Took p T g c n T′
     → pagesOf (objectsOf p T′ g) + ownedIn p T′ 0 (p .pages) ≡ pagesOf (objectsOf p T g) + ownedIn p T 0 (p .pages)
-took-needs {p} {T} {g} {c} {T′} r real t = omega (arith, both (t .source), owned r g real, owned (took-regular r t real) g real)
+took-needs {p} {T} {g} {c} {n} {T′} r real t = omega (arith, both (t .source), owned r g real, owned (took-regular r t real) g real)
   where
     q : ℕ
     q = pageOf c

@@ -7,7 +7,7 @@ use mathlib.Core.List.{List}
 use mathlib.Core.Path.{_≡_, ap, ap₂, _∙_}
 use Rattle.lists.specs.Bits.{bitAt}
 use Rattle.rules.specs.declared.Sizes.{Sizes}
-use Rattle.layout.specs.Places.{markAt, markOf, usedOf}
+use Rattle.layout.specs.Places.{markAt, markOf, usedOf, madeOf}
 use Rattle.layout.specs.Cells.{cellOn, placeOf, pageCells, cell-in}
 use Rattle.layout.specs.Objects.{begins-page}
 use Rattle.promises.specs.OwnedPages.{count-fits}
@@ -20,8 +20,8 @@ use Rattle.copy.proofs.move_cell.Statement.{statement}
 use Rattle.copy.proofs.move_cell.Tie as tie
 
 -- the cell as take_cell gave it
-took : {p : Sizes} {g q : ℕ} {W T T′ : List ℕ} {c d : ℕ} → Movable p g q W T c → d ≡ cellOn q (usedOf p T q) → T′ ≡ taken p T q g → Took p T g d T′
-took m e f = taken-took (m .regular) (m .next .low) (omega (arith, m .room, m .low)) (m .next .found) e f
+took : {p : Sizes} {g q : ℕ} {W T T′ : List ℕ} {c d : ℕ} → Movable p g q W T c → d ≡ cellOn q (usedOf p T q) → T′ ≡ taken p T q g → Took p T g d (madeOf p T) T′
+took m e f = taken-took (m .regular) (m .next .low) (omega (arith, m .room, m .low)) (m .real, m .low) (m .next .found) e f
 
 take-cell-requires : tie.Need-take-cell-requires
 take-cell-requires c κs =
