@@ -27,7 +27,7 @@ pub over-high : (p : Sizes) (W T : List ℕ) (g n : ℕ) → overMarked p T (goe
 over-high p W T g n =
     sum-high (λ page. onPage (goesTo W g) page (markOf p T page)) pageCells n (λ page l. page-high (goesTo W g) 1 (goes-le W g) page (markOf p T page))
 
-over-more : (p : Sizes) (T : List ℕ) (f : ℕ → ℕ) (page w : ℕ) → w ≡ markOf p T page → overMarked p T f (page + 1) ≡ overMarked p T f page + onPage f page w
+pub over-more : (p : Sizes) (T : List ℕ) (f : ℕ → ℕ) (page w : ℕ) → w ≡ markOf p T page → overMarked p T f (page + 1) ≡ overMarked p T f page + onPage f page w
 over-more p T f page w e =
     sum-more (λ page. onPage f page (markOf p T page)) page ∙ ap (λ (x : ℕ). overMarked p T f page + onPage f page x) (let s : markOf p T page ≡ w = omega arith in s)
 

@@ -211,7 +211,7 @@ module _ (s : Sizes) (w : Words) (k : WholeFor s w) (space : Room s (length (w .
       go (no n) (yes e) = absurd (n (home-cell s w k x r e (omega arith) .0))
       go (no n) (no d) =
           ap (λ (b : Bool). cond b (sum (λ f. still (fieldAt x f)) (refCount w x)) 0) (begins-false p (w .cells) (w .tables) x n)
-          ∙ sym (ap (λ (b : Bool). cond b 0 (crossAt h x)) (ne-eqb (homeIn s w x) r d) ∙ gone-cross h x (home-stayed s g r x d ∙ no-home s w k x n))
+          ∙ sym (ap (λ (b : Bool). cond b 0 (crossAt h x)) (ne-eqb (homeIn s w x) r d) ∙ gone-cross h x (home-stayed s g r x d ∙ no-home s w x n))
       go (yes u) (yes e) =
           ap (λ (b : Bool). cond b (sum (λ f. still (fieldAt x f)) (refCount w x)) 0) (begins-true p (w .cells) (w .tables) x u)
           ∙ sum-none (λ f. still (fieldAt x f)) (refCount w x)

@@ -2,4 +2,5 @@
 pub mod Counted
 pub mod After
 pub mod Census
+pub mod Survivors
 pub mod Crossed

@@ -2,3 +2,4 @@
 // afterwards. The tables are only read.
 pub mod count;
 pub mod crossing;
+pub mod survivors;

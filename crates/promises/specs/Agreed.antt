@@ -49,7 +49,7 @@ module _ (s : Sizes) (w : Words) (k : WholeFor s w) where
   unfolding heapOf
   home-at x =
       by-cases (decLt x (cellCount s)) (getD-listed (homeIn s w) (cellCount s) x 0)
-      (λ l. listed-past (homeIn s w) (cellCount s) x 0 (omega arith) ∙ sym (no-home s w k x (λ u. l (cell-low s w k x u))))
+      (λ l. listed-past (homeIn s w) (cellCount s) x 0 (omega arith) ∙ sym (no-home s w x (λ u. l (cell-low s w k x u))))
 
   pub there : (x : ℕ) → Alive (graph (heapOf s w)) x → Alive (graphOf s w) x
   there x a z = a (home-at x ∙ z)

@@ -27,7 +27,7 @@ use Rattle.promises.specs.Regular.{whole-regular}
 use Rattle.promises.specs.StandsFor.{StandsFor}
 use Rattle.promises.specs.Agreed.{objects-agree}
 use Rattle.promises.specs.Arriving.{morePages}
-use Rattle.promises.specs.OwnedPages.{ownedOne, pagesOwned, owned-yes, owned-no, partly-filled, some-partly, objects-on-pages, heap-free}
+use Rattle.promises.specs.OwnedPages.{ownedOne, pagesOwned, owned-yes, owned-no, partly-filled, some-partly, objects-on, heap-free}
 
 -- ---- the innermost region of a thread
 
@@ -72,7 +72,7 @@ module _ (s : Sizes) (w : Words) (h : Regioned) (to : ℕ → ℕ) (st : StandsF
   needs : newPages s (graph h) (graph made) ≡ morePages held 1
   needs =
       ap (newPages s (graph h)) (graph-new h (st .sound .aligned) ds vs o g) ∙ new-pages (graph h) g (o .refs) vs s pos low
-      ∙ ap (λ (x : ℕ). morePages x 1) (objects-agree s w h to st g pos ∙ objects-on-pages s w (st .whole) g pos)
+      ∙ ap (λ (x : ℕ). morePages x 1) (objects-agree s w h to st g pos ∙ objects-on s w (whole-regular (st .whole)) g pos)
 
   pub new-fits : PartlyFilled s w g ⊎ FreePage s w → leb (newPages s (graph h) (graph made)) (freePages s (graph h)) ≡ true
   new-fits either =

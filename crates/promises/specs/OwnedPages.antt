@@ -16,11 +16,12 @@ use Rattle.rules.specs.declared.Sizes.{Sizes}
 use Rattle.rules.specs.Regions.{regions}
 use Rattle.rules.specs.Graph.{pagesOf, objectsIn, freePages}
 use Rattle.rules.specs.Rules.{Regioned, graph}
+use Rattle.laws.specs.Counters.{living, living-regions}
 use Rattle.layout.specs.Places.{ownerOf, usedOf, countOf}
-use Rattle.layout.specs.Cells.{pageCells, placeOf, cellOn, page-on}
+use Rattle.layout.specs.Cells.{pageCells, pageOf, placeOf, cellOn, page-on}
 use Rattle.layout.specs.Words.{Words, ownerIn, usedIn, homeIn, graphOf, homeAt, cellCount}
-use Rattle.layout.specs.Objects.{begins-on}
-use Rattle.promises.specs.Whole.{WholeFor, Open, Partial, objectsOn, objectsOf}
+use Rattle.layout.specs.Objects.{beginsAt, begins-on}
+use Rattle.promises.specs.Whole.{WholeFor, Open, Partial, objectsOn, objectsOf, liveOf}
 use Rattle.promises.specs.Regular.{Regular, whole-regular, objects-yes, objects-no, SamePage}
 use Rattle.promises.specs.StandsFor.{StandsFor}
 use Rattle.promises.specs.Agreed.{free-agree}
@@ -141,22 +142,16 @@ module _ {s : Sizes} {t : List ℕ} (r : Regular s t) (q : ℕ) where
 pub open-high : (s : Sizes) (t : List ℕ) (g : ℕ) → 1 ≤ s .depth → Open s t g → g ≤ regions s
 open-high s t g d o = omega (arith, o .real, div-lt-iff-lt-mul {x = g - 2} d .0 (o .thread))
 
-module _ (s : Sizes) (w : Words) (k : WholeFor s w) where
-  -- no page is owned by a region that is not there
-  pub owner-low : (page : ℕ) → page < s .pages → ownerIn s w page ≤ regions s
-  owner-low page l =
-      by-cases (decLt 1 (ownerIn s w page))
-      (λ h. open-high s (w .tables) (ownerIn s w page) (k .sized .range .depth-low) (k .pages page l .region h)) (λ h. omega arith)
+-- ---- the objects of a page
 
-  -- ---- the objects of a page
-
+module _ (s : Sizes) (w : Words) (r : Regular s (w .tables)) where
   module _ (q : ℕ) (pos : 0 < q) where
     on-page : (page : ℕ) → page < s .pages → sum (λ j. cond (eqb (homeIn s w (cellOn page j)) q) 1 0) pageCells ≡ objectsOn s (w .tables) q page
     unfolding homeAt
     on-page page l =
         by-cases (ℕ-discrete (ownerIn s w page) q)
         (λ e. sum-first _ (usedIn s w page) pageCells (λ j m. each j m ∙ ap (λ (t : Bool). cond t (bit (ltb j (usedIn s w page))) 0) (eq-eqb (ownerIn s w page) q e))
-        ∙ omega (arith, k .pages page l .filled .cells, objects-yes s (w .tables) q page e))
+        ∙ omega (arith, r .pages page l .cells, objects-yes s (w .tables) q page e))
         (λ n. sum-none _ pageCells (λ j m. each j m ∙ ap (λ (t : Bool). cond t (bit (ltb j (usedIn s w page))) 0) (ne-eqb (ownerIn s w page) q n)) ∙ sym (objects-no s (w .tables) q page n))
       where
         pick : (b : Bool) → cond (eqb (cond b (ownerIn s w page) 0) q) 1 0 ≡ cond (eqb (ownerIn s w page) q) (bit b) 0
@@ -167,17 +162,39 @@ module _ (s : Sizes) (w : Words) (k : WholeFor s w) where
         each j m =
             ap₂ (λ (b : Bool) (p : ℕ). cond (eqb (cond b (ownerIn s w p) 0) q) 1 0) (begins-on s (w .cells) (w .tables) page j l m) (page-on page j m) ∙ pick (ltb j (usedIn s w page))
 
-    pub objects-on-pages : objectsIn (graphOf s w) q ≡ objectsOf s (w .tables) q
+    pub objects-on : objectsIn (graphOf s w) q ≡ objectsOf s (w .tables) q
     unfolding objectsIn
-    objects-on-pages =
+    objects-on =
         sum-blocks pageCells (λ c. cond (eqb (homeIn s w c) q) 1 0) (objectsOn s (w .tables) q) (s .pages) on-page
 
+  -- the counts add up to the objects that are there, where every page's owner is one of the regions
+  pub live-there : ((page : ℕ) → page < s .pages → ownerIn s w page ≤ regions s) → liveOf s (w .tables) ≡ living (graphOf s w)
+  unfolding homeAt
+  live-there low =
+      sum-same _ _ (regions s) (λ i l. r .counts (suc i) (omega arith) (omega arith) ∙ sym (objects-on (suc i) (omega arith)))
+      ∙ living-regions s (graphOf s w) (λ c l. go (beginsAt s (w .cells) (w .tables) c) (low (pageOf c) (omega arith)))
+    where
+      go : {o : ℕ} (b : Bool) → o ≤ regions s → cond b o 0 ≤ regions s
+      go true l = l
+      go false l = omega arith
+
+module _ (s : Sizes) (w : Words) (k : WholeFor s w) where
+  -- no page is owned by a region that is not there
+  pub owner-low : (page : ℕ) → page < s .pages → ownerIn s w page ≤ regions s
+  owner-low page l =
+      by-cases (decLt 1 (ownerIn s w page))
+      (λ h. open-high s (w .tables) (ownerIn s w page) (k .sized .range .depth-low) (k .pages page l .region h)) (λ h. omega arith)
+
+  module _ (q : ℕ) (pos : 0 < q) where
     -- 01: a region of n objects uses n / 16 pages, rounded up
     pub region-pages : pagesOwned s w q ≡ pagesOf (objectsIn (graphOf s w) q)
-    region-pages = sym (ap pagesOf objects-on-pages ∙ owned (whole-regular k) q pos)
+    region-pages = sym (ap pagesOf (objects-on s w (whole-regular k) q pos) ∙ owned (whole-regular k) q pos)
 
     pub counted-objects : q ≤ regions s → countOf s (w .tables) q ≡ objectsIn (graphOf s w) q
-    counted-objects l = k .counts q pos l ∙ sym objects-on-pages
+    counted-objects l = k .counts q pos l ∙ sym (objects-on s w (whole-regular k) q pos)
+
+  pub live-objects : liveOf s (w .tables) ≡ living (graphOf s w)
+  live-objects = live-there s w (whole-regular k) owner-low
 
   -- and the pages of no region are the free ones
   pub free-pages : pagesOwned s w 0 ≡ freePages s (graphOf s w)

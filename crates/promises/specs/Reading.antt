@@ -44,6 +44,20 @@ pub depth-at : (s : Sizes) (w : Words) (t : ℕ) → t < s .threads → getD (de
 unfolding depthsAt
 depth-at s w t l = getD-take (s .threads) (drop (depthAt 0) (w .tables)) t 0 l ∙ getD-drop (depthAt 0) (w .tables) t 0
 
+-- ---- the home of a cell
+
+module _ (s : Sizes) (w : Words) where
+  pub home-there : (c : ℕ) → BeginsIn s w c → homeIn s w c ≡ ownerIn s w (pageOf c)
+  unfolding homeAt
+  home-there c u = ap (λ (b : Bool). cond b (ownerIn s w (pageOf c)) 0) (begins-true s (w .cells) (w .tables) c u)
+
+  pub no-home : (c : ℕ) → (BeginsIn s w c → ⊥) → homeIn s w c ≡ 0
+  unfolding homeAt
+  no-home c n = ap (λ (b : Bool). cond b (ownerIn s w (pageOf c)) 0) (begins-false s (w .cells) (w .tables) c n)
+
+  pub alive-begins : (c : ℕ) → Alive (graphOf s w) c → BeginsIn s w c
+  alive-begins c a = by-cases (begins? s (w .cells) (w .tables) c) (λ u. u) (λ n. absurd (a (no-home c n)))
+
 -- ---- whole words
 
 -- the five sizes and the number of entries used can be read
@@ -60,8 +74,7 @@ ref-begins s W T x c r e = subst (Begins s W T) (let z : cellNamed x ≡ c = ome
 
 module _ (s : Sizes) (w : Words) (k : WholeFor s w) where
   pub used-home : (c : ℕ) → BeginsIn s w c → homeIn s w c ≡ ownerIn s w (pageOf c)
-  unfolding homeAt
-  used-home c u = ap (λ (b : Bool). cond b (ownerIn s w (pageOf c)) 0) (begins-true s (w .cells) (w .tables) c u)
+  used-home = home-there s w
 
   pub used-owned : (c : ℕ) → BeginsIn s w c → ownerIn s w (pageOf c) ≡ 0 → ⊥
   used-owned c u z = let i = begins-used s (w .cells) (w .tables) c u in omega (arith, k .pages (pageOf c) (i .page) .filled .free z, i .place)
@@ -69,12 +82,8 @@ module _ (s : Sizes) (w : Words) (k : WholeFor s w) where
   pub used-alive : (c : ℕ) → BeginsIn s w c → Alive (graphOf s w) c
   used-alive c u z = used-owned c u (sym (used-home c u) ∙ z)
 
-  pub no-home : (c : ℕ) → (BeginsIn s w c → ⊥) → homeIn s w c ≡ 0
-  unfolding homeAt
-  no-home c n = ap (λ (b : Bool). cond b (ownerIn s w (pageOf c)) 0) (begins-false s (w .cells) (w .tables) c n)
-
   pub alive-used : (c : ℕ) → Alive (graphOf s w) c → BeginsIn s w c
-  alive-used c a = by-cases (begins? s (w .cells) (w .tables) c) (λ u. u) (λ n. absurd (a (no-home c n)))
+  alive-used = alive-begins s w
 
   pub cell-low : (c : ℕ) → BeginsIn s w c → c < cellCount s
   cell-low = begins-low s (w .cells) (w .tables)
