@@ -1,4 +1,4 @@
--- r's pages become free, its count 0, the thread's depth one less.
+-- r's pages become free, its count 0, the thread's depth one less, and what is freed is counted.
 use mathlib.Core.Path.{_≡_, refl, sym, ap, _∙_, subst}
 use mathlib.Core.Logic.{_≢_, _⊎_, inl, inr}
 use mathlib.Core.List.{List}
@@ -9,8 +9,9 @@ use lib.ListN.{length, getD, set, length-set}
 use lib.Seq.{getD-set-same, getD-set-other}
 use Rattle.rules.specs.declared.Sizes.{Sizes}
 use Rattle.rules.specs.Regions.{regions}
+use Rattle.rules.specs.Rules.{counted}
 use Rattle.lists.specs.Counting.{sum-same, sum-none}
-use Rattle.layout.specs.Places.{Room, depthAt, ownerAt, usedAt, markAt, countAt, depthOf, ownerOf, usedOf, markOf, countOf, countsFrom, ownersFrom}
+use Rattle.layout.specs.Places.{Room, depthAt, ownerAt, usedAt, markAt, countAt, depthOf, ownerOf, usedOf, markOf, countOf, freedAt, freedOf, countsFrom, ownersFrom}
 use Rattle.promises.specs.Whole.{PageFilled, Partial, objectsOn, objectsOf}
 use Rattle.promises.specs.Regular.{Regular, objects-no, SamePage, filled-same, partial-same, on-same}
 
@@ -119,58 +120,75 @@ module _ {p : Sizes} {r n : ℕ} {T T′ : List ℕ} (room : Room p (length T)) 
       rest′ x (inl l) = other x (λ e. omega arith) (λ e. omega arith) (λ e. omega arith)
       rest′ x (inr l) = other x (λ e. omega arith) (λ e. omega arith) (λ e. omega arith)
 
--- ---- the whole release, by thread t
+-- ---- the whole release, by thread t, which frees n objects
 
-pub record Ended (p : Sizes) (r t : ℕ) (T T′ : List ℕ) : Type 0 where
+pub record Ended (p : Sizes) (r t n : ℕ) (T T′ : List ℕ) : Type 0 where
   pub mid : List ℕ
   pub pages : Released p r (p .pages) T mid
-  pub tables : T′ ≡ set (set mid (countAt p r) 0) (depthAt t) (depthOf T t - 1)
+  pub tables : T′ ≡ set (set (set mid (countAt p r) 0) (depthAt t) (depthOf T t - 1)) (freedAt p) (counted (freedOf p T + n))
 
-module _ {p : Sizes} {r t : ℕ} {T T′ : List ℕ} (room : Room p (length T)) (real : 1 ≤ r) (low : r ≤ regions p) (thread : t < p .threads) (h : Ended p r t T T′) where
+module _ {p : Sizes} {r t n : ℕ} {T T′ : List ℕ} (room : Room p (length T)) (real : 1 ≤ r) (low : r ≤ regions p) (thread : t < p .threads) (h : Ended p r t n T T′) where
+  -- the tables before the counter is set
   M : List ℕ
-  M = h .mid
+  M = set (set (h .mid) (countAt p r) 0) (depthAt t) (depthOf T t - 1)
+
+  long : length M ≡ length T
+  unfolding M
+  long = simp length-set (h .pages .size)
 
   pub ended-size : length T′ ≡ length T
-  ended-size = ap length (h .tables) ∙ simp length-set (h .pages .size)
+  unfolding M
+  ended-size = ap length (h .tables) ∙ length-set M (freedAt p) (counted (freedOf p T + n)) ∙ long
 
-  pub ended-word : (x : ℕ) → x ≢ depthAt t → x ≢ countAt p r → getD T′ x 0 ≡ getD (h .mid) x 0
-  ended-word x n m =
-      ap (λ (L : List ℕ). getD L x 0) (h .tables)
-      ∙ getD-set-other (set (h .mid) (countAt p r) 0) (depthAt t) x (depthOf T t - 1) 0 n
+  ended-mid : (x : ℕ) → x ≢ freedAt p → getD T′ x 0 ≡ getD M x 0
+  unfolding M
+  ended-mid x f = ap (λ (L : List ℕ). getD L x 0) (h .tables) ∙ getD-set-other M (freedAt p) x (counted (freedOf p T + n)) 0 f
+
+  pub ended-word : (x : ℕ) → x ≢ depthAt t → x ≢ countAt p r → x ≢ freedAt p → getD T′ x 0 ≡ getD (h .mid) x 0
+  unfolding M
+  ended-word x d m f =
+      ended-mid x f
+      ∙ getD-set-other (set (h .mid) (countAt p r) 0) (depthAt t) x (depthOf T t - 1) 0 d
       ∙ getD-set-other (h .mid) (countAt p r) x 0 0 m
 
+  pub ended-freed : freedOf p T′ ≡ counted (freedOf p T + n)
+  unfolding M
+  ended-freed = ap (λ (L : List ℕ). getD L (freedAt p) 0) (h .tables) ∙ getD-set-same M (freedAt p) (counted (freedOf p T + n)) 0 (omega (arith, room, long))
+
   pub ended-depth : depthOf T′ t ≡ depthOf T t - 1
+  unfolding M
   ended-depth =
-      ap (λ (L : List ℕ). getD L (depthAt t) 0) (h .tables)
+      ended-mid (depthAt t) (λ e. omega (arith, room))
       ∙ getD-set-same (set (h .mid) (countAt p r) 0) (depthAt t) (depthOf T t - 1) 0
       (omega (arith, room, h .pages .size, length-set (h .mid) (countAt p r) 0))
 
   pub ended-count : countOf p T′ r ≡ 0
+  unfolding M
   ended-count =
-      ap (λ (L : List ℕ). getD L (countAt p r) 0) (h .tables)
+      ended-mid (countAt p r) (λ e. omega (arith, room))
       ∙ getD-set-other (set (h .mid) (countAt p r) 0) (depthAt t) (countAt p r) (depthOf T t - 1) 0 (λ e. omega arith)
       ∙ getD-set-same (h .mid) (countAt p r) 0 0 (omega (arith, room, h .pages .size))
 
-  -- words of the tables that are neither a page's, nor r's count, nor the depth
-  pub ended-rest : (x : ℕ) → x ≢ depthAt t → x ≢ countAt p r → (x < ownersFrom p) ⊎ (countsFrom p ≤ x) → getD T′ x 0 ≡ getD T x 0
-  ended-rest x n m k = ended-word x n m ∙ h .pages .rest x k
+  -- words of the tables that are neither a page's, nor r's count, nor the depth, nor the counter
+  pub ended-rest : (x : ℕ) → x ≢ depthAt t → x ≢ countAt p r → x ≢ freedAt p → (x < ownersFrom p) ⊎ (countsFrom p ≤ x) → getD T′ x 0 ≡ getD T x 0
+  ended-rest x d m f k = ended-word x d m f ∙ h .pages .rest x k
 
   pub ended-blank : (q : ℕ) → q < p .pages → ownerOf p T q ≡ r → Blank p T′ q
   ended-blank q l e =
       let b = h .pages .freed q l e in
       record {
-        owner = ended-word (ownerAt p q) (λ z. omega arith) (λ z. omega arith) ∙ b .owner;
-        used = ended-word (usedAt p q) (λ z. omega arith) (λ z. omega arith) ∙ b .used;
-        marks = ended-word (markAt p q) (λ z. omega arith) (λ z. omega arith) ∙ b .marks;
+        owner = ended-word (ownerAt p q) (λ z. omega arith) (λ z. omega arith) (λ z. omega arith) ∙ b .owner;
+        used = ended-word (usedAt p q) (λ z. omega arith) (λ z. omega arith) (λ z. omega arith) ∙ b .used;
+        marks = ended-word (markAt p q) (λ z. omega arith) (λ z. omega arith) (λ z. omega arith) ∙ b .marks;
       }
 
   pub ended-alike : (q : ℕ) → q < p .pages → ownerOf p T q ≢ r → Alike p T T′ q
   ended-alike q l n =
       let b = h .pages .kept q l (λ m. n) in
       record {
-        owner = ended-word (ownerAt p q) (λ z. omega arith) (λ z. omega arith) ∙ b .owner;
-        used = ended-word (usedAt p q) (λ z. omega arith) (λ z. omega arith) ∙ b .used;
-        marks = ended-word (markAt p q) (λ z. omega arith) (λ z. omega arith) ∙ b .marks;
+        owner = ended-word (ownerAt p q) (λ z. omega arith) (λ z. omega arith) (λ z. omega arith) ∙ b .owner;
+        used = ended-word (usedAt p q) (λ z. omega arith) (λ z. omega arith) (λ z. omega arith) ∙ b .used;
+        marks = ended-word (markAt p q) (λ z. omega arith) (λ z. omega arith) (λ z. omega arith) ∙ b .marks;
       }
 
   ended-page : (q : ℕ) → q < p .pages → ownerOf p T q ≢ r → SamePage p T T′ q
@@ -211,7 +229,7 @@ module _ {p : Sizes} {r t : ℕ} {T T′ : List ℕ} (room : Room p (length T)) 
       count : (g : ℕ) → 1 ≤ g → g ≤ regions p → Dec (g ≡ r) → countOf p T′ g ≡ objectsOf p T′ g
       count g pos le (yes e) = subst (λ (x : ℕ). countOf p T′ x ≡ objectsOf p T′ x) (sym e) (ended-count ∙ sym ended-none)
       count g pos le (no n) =
-          ended-rest (countAt p g) (λ z. omega arith) (λ z. n (omega arith)) (inr (omega arith)) ∙ a .counts g pos le
+          ended-rest (countAt p g) (λ z. omega arith) (λ z. n (omega arith)) (λ z. omega arith) (inr (omega arith)) ∙ a .counts g pos le
           ∙ sym (ended-objects g pos n)
 
 -- the depth of a thread, after pages were released and a count set
@@ -220,3 +238,11 @@ pub kept-depth : {p : Sizes} {r n t : ℕ} (g : ℕ) {T M X : List ℕ} → Room
 kept-depth {p} {r} {n} {t} g {T} {M} rm h l e =
     ap (λ (L : List ℕ). depthOf L t) e ∙ getD-set-other M (countAt p g) (depthAt t) 0 0 (λ z. omega (arith, rm))
     ∙ h .rest (depthAt t) (inl (omega (arith, rm)))
+
+-- and the counter, after the depth was set too
+pub kept-freed : {p : Sizes} {r n t : ℕ} (g d : ℕ) {T M X Y : List ℕ} → Room p (length T) → Released p r n T M → t < p .threads → g ≤ regions p → X ≡ set M (countAt p g) 0 → Y ≡ set X (depthAt t) d
+    → freedOf p Y ≡ freedOf p T
+kept-freed {p} {r} {n} {t} g d {T} {M} {X} rm h l low e f =
+    ap (λ (L : List ℕ). freedOf p L) f ∙ getD-set-other X (depthAt t) (freedAt p) d 0 (λ z. omega (arith, rm))
+    ∙ ap (λ (L : List ℕ). freedOf p L) e ∙ getD-set-other M (countAt p g) (freedAt p) 0 0 (λ z. omega (arith, rm))
+    ∙ h .rest (freedAt p) (inr (omega (arith, rm)))

@@ -1,11 +1,13 @@
-// Release: the cells of the ending region become zero, its pages free, its count 0, the depth of its thread one less.
+// Release: the cells of the ending region become zero, its pages free, its count 0, the depth of its thread one less, and the objects that are
+// freed are counted.
 ghost use mathlib.Core.Path.{_≡_};
-ghost use Prim.Native.Nat.{_<_, _≤_};
-ghost use lib.ListN.{length};
+ghost use Prim.Native.Nat.{_+_, _<_, _≤_};
+ghost use lib.ListN.{length, set};
 ghost use Rattle.lists.specs.Part.{Lists, Rises};
-ghost use Rattle.layout.specs.Places.{Room, cellsWords, ownerOf, depthOf};
+ghost use Rattle.layout.specs.Places.{Room, cellsWords, ownerOf, depthOf, countOf, freedAt, freedOf};
 ghost use Rattle.pages.specs.Pages.{noteWords};
 ghost use Rattle.rules.specs.Regions.{regions};
+ghost use Rattle.rules.specs.Rules.{counted};
 ghost use Rattle.promises.specs.Regular.{Regular};
 ghost use Rattle.release.specs.Notes.{noted};
 ghost use Rattle.release.specs.Release.{Released, Ended};
@@ -59,7 +61,16 @@ fn note_released(p: Sizes, notes: &mut [u32], list: &[u32], n: usize)
     }
 }
 
-// The end of a thread's region: its cells, its pages, its count, the thread's depth.
+// So many objects more are freed.
+fn count_freed(p: Sizes, tables: &mut [u32], n: u32)
+    requires { ⌜ Room p (length (now tables)) ⌝ }
+    ensures { λ _. ⌜ now (tables .exit) ≡ set (now (tables .entry)) (freedAt p) (counted (freedOf p (now (tables .entry)) + n)) ⌝ }
+{
+    let freed = layout::tables::freed(p, tables);
+    layout::tables::set_freed(p, tables, std::num::wrapping_add_u32(freed, n));
+}
+
+// The end of a thread's region, which frees so many objects: its cells, its pages, its count, the thread's depth, the counter.
 pub fn release(
     p: Sizes,
     cells: &mut [u32],
@@ -69,6 +80,7 @@ pub fn release(
     n: usize,
     region: u32,
     thread: usize,
+    freed: u32,
 )
     requires { ⌜ Room p (length (now tables)) ⌝ }
     requires { ⌜ Regular p (now tables) ⌝ }
@@ -77,7 +89,7 @@ pub fn release(
     requires { ⌜ (1 ≤ region) × (region ≤ regions p) ⌝ }
     requires { ⌜ (thread < p .threads) × (1 ≤ depthOf (now tables) thread) ⌝ }
     requires { ⌜ noteWords ≤ length (now notes) ⌝ }
-    ensures { λ _. ⌜ Ended p region thread (now (tables .entry)) (now (tables .exit)) ⌝ }
+    ensures { λ _. ⌜ Ended p region thread freed (now (tables .entry)) (now (tables .exit)) ⌝ }
     ensures { λ _. ⌜ Emptied p region (p .pages) (now (tables .entry)) (now (cells .entry)) (now (cells .exit)) ⌝ }
 {
     clear_pages(p, cells, tables, list, n, region);
@@ -86,6 +98,7 @@ pub fn release(
     layout::tables::set_count(p, tables, layout::wide(region), 0);
     let depth = layout::tables::depth(p, tables, thread);
     layout::tables::set_depth(p, tables, thread, depth - 1);
+    count_freed(p, tables, freed);
 }
 
 // The same where the region's pages are not listed yet.
@@ -96,6 +109,7 @@ fn list_and_release(
     notes: &mut [u32],
     region: u32,
     thread: usize,
+    freed: u32,
 )
     requires { ⌜ Room p (length (now tables)) ⌝ }
     requires { ⌜ Regular p (now tables) ⌝ }
@@ -103,15 +117,17 @@ fn list_and_release(
     requires { ⌜ (1 ≤ region) × (region ≤ regions p) ⌝ }
     requires { ⌜ (thread < p .threads) × (1 ≤ depthOf (now tables) thread) ⌝ }
     requires { ⌜ noteWords ≤ length (now notes) ⌝ }
-    ensures { λ _. ⌜ Ended p region thread (now (tables .entry)) (now (tables .exit)) ⌝ }
+    ensures { λ _. ⌜ Ended p region thread freed (now (tables .entry)) (now (tables .exit)) ⌝ }
     ensures { λ _. ⌜ Emptied p region (p .pages) (now (tables .entry)) (now (cells .entry)) (now (cells .exit)) ⌝ }
 {
     let mut list = [0u32; 1024];
     let n = pages::list_pages(p, tables, region, &mut list);
-    release(p, cells, tables, notes, &list, n, region, thread);
+    release(
+        p, cells, tables, notes, &list, n, region, thread, freed,
+    );
 }
 
-// The same: a region without objects has no pages, and needs no list.
+// The same where all objects of the region are freed. A region without objects has no pages, and needs no list.
 pub fn release_region(
     p: Sizes,
     cells: &mut [u32],
@@ -126,13 +142,16 @@ pub fn release_region(
     requires { ⌜ (1 ≤ region) × (region ≤ regions p) ⌝ }
     requires { ⌜ (thread < p .threads) × (1 ≤ depthOf (now tables) thread) ⌝ }
     requires { ⌜ noteWords ≤ length (now notes) ⌝ }
-    ensures { λ _. ⌜ Ended p region thread (now (tables .entry)) (now (tables .exit)) ⌝ }
+    ensures { λ _. ⌜ Ended p region thread (countOf p (now (tables .entry)) region) (now (tables .entry)) (now (tables .exit)) ⌝ }
     ensures { λ _. ⌜ Emptied p region (p .pages) (now (tables .entry)) (now (cells .entry)) (now (cells .exit)) ⌝ }
 {
-    if layout::tables::count(p, tables, layout::wide(region)) != 0 {
-        list_and_release(p, cells, tables, notes, region, thread);
+    let objects = layout::tables::count(p, tables, layout::wide(region));
+    if objects != 0 {
+        list_and_release(p, cells, tables, notes, region, thread, objects);
     } else {
         let none = [0u32; 1];
-        release(p, cells, tables, notes, &none, 0, region, thread);
+        release(
+            p, cells, tables, notes, &none, 0, region, thread, objects,
+        );
     }
 }

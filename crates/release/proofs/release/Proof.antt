@@ -1,13 +1,14 @@
--- The depth stands apart from the pages and the counts.
+-- The depth and the counter stand apart from the pages and the counts.
 use native.Mathlib.Omega.{arith}
 use borrow.Author.Needs.{needs}
 use lib.ListN.{set}
-use Prim.Native.Nat.{ℕ, _-_}
+use Prim.Native.Nat.{ℕ, _+_, _-_}
 use mathlib.Core.List.{List}
-use mathlib.Core.Path.{ap, _∙_}
-use Rattle.layout.specs.Places.{depthAt, countAt, depthOf}
+use mathlib.Core.Path.{ap, ap₂, _∙_}
+use Rattle.rules.specs.Rules.{counted}
+use Rattle.layout.specs.Places.{depthAt, countAt, depthOf, freedAt}
 use Rattle.copy.specs.Taking.{room-same}
-use Rattle.release.specs.Release.{kept-depth}
+use Rattle.release.specs.Release.{kept-depth, kept-freed}
 use Rattle.release.proofs.release.Statement.{statement}
 use Rattle.release.proofs.release.Tie as tie
 
@@ -47,34 +48,45 @@ set-depth-requires c κs =
     let pre = c .before .before .before .before .before .before .before .before .before .before .before .before .before .before .before .before .before .before .before .before .before .before .before .before .before .pre in
     (room-same (c .before .before .before .before .before .set-count .kept .1 .0 ∙ c .before .before .before .before .before .before .before .before .before .before .before .before .before .before .release-pages .kept .1 .0) (pre .0), pre .1 .1 .1 .1 .1 .0 .0)
 
+count-freed-requires : tie.Need-count-freed-requires
+count-freed-requires c κs =
+    room-same (c .before .before .before .set-depth .kept .1 .0 ∙ c .before .before .before .before .before .before .before .before .before .set-count .kept .1 .0 ∙ c .before .before .before .before .before .before .before .before .before .before .before .before .before .before .before .before .before .before .release-pages .kept .1 .0) (c .before .before .before .before .before .before .before .before .before .before .before .before .before .before .before .before .before .before .before .before .before .before .before .before .before .before .before .before .before .pre .0)
+
 same-length : tie.Need-same-length
-same-length c = c .before .before .before .before .before .before .before .before .before .before .before .before .before .before .before .before .before .before .before .before .before .clear-pages .kept .1 .0
+same-length c = c .before .before .before .before .before .before .before .before .before .before .before .before .before .before .before .before .before .before .before .before .before .before .before .before .before .clear-pages .kept .1 .0
 
 same-length-2 : tie.Need-same-length-2
-same-length-2 c = c .before .before .set-depth .kept .1 .0 ∙ c .before .before .before .before .before .before .before .before .set-count .kept .1 .0 ∙ c .before .before .before .before .before .before .before .before .before .before .before .before .before .before .before .before .before .release-pages .kept .1 .0
+same-length-2 c = c .before .before .count-freed .kept .1 .0 ∙ c .before .before .before .before .before .before .set-depth .kept .1 .0 ∙ c .before .before .before .before .before .before .before .before .before .before .before .before .set-count .kept .1 .0 ∙ c .before .before .before .before .before .before .before .before .before .before .before .before .before .before .before .before .before .before .before .before .before .release-pages .kept .1 .0
 
 same-length-3 : tie.Need-same-length-3
-same-length-3 c = c .before .before .before .before .before .before .before .before .before .before .before .before .before .note-released .kept .1 .0
+same-length-3 c = c .before .before .before .before .before .before .before .before .before .before .before .before .before .before .before .before .before .note-released .kept .1 .0
 
 returns : tie.Need-returns
 returns c =
-    let pre = c .before .before .before .before .before .before .before .before .before .before .before .before .before .before .before .before .before .before .before .before .before .before .before .before .before .before .before .before .pre in
-    let release-pages = c .before .before .before .before .before .before .before .before .before .before .before .before .before .before .before .before .before .release-pages in
-    let wide = c .before .before .before .before .before .before .before .before .before .wide in
-    let set-count = c .before .before .before .before .before .before .before .before .set-count in
-    let a = c .before .before .before .before .before .before .before .before .before .before .before .before .before .before .before .before .before .before .before .before .before .before .before .before .before .before .before .before .args in
+    let pre = c .before .before .before .before .before .before .before .before .before .before .before .before .before .before .before .before .before .before .before .before .before .before .before .before .before .before .before .before .before .before .before .before .pre in
+    let a = c .before .before .before .before .before .before .before .before .before .before .before .before .before .before .before .before .before .before .before .before .before .before .before .before .before .before .before .before .before .before .before .before .args in
+    let release-pages = c .before .before .before .before .before .before .before .before .before .before .before .before .before .before .before .before .before .before .before .before .before .release-pages in
+    let wide = c .before .before .before .before .before .before .before .before .before .before .before .before .before .wide in
+    let set-count = c .before .before .before .before .before .before .before .before .before .before .before .before .set-count in
+    let set-depth = c .before .before .before .before .before .before .set-depth in
+    let region = pre .1 .1 .1 .1 .0 in
+    let thread = pre .1 .1 .1 .1 .1 .0 .0 in
     let X : List ℕ = release-pages .last .1 .0 in
-    let d = kept-depth (wide .result) (pre .0) (release-pages .ensures) (pre .1 .1 .1 .1 .1 .0 .0) (set-count .ensures) in (
+    let d = kept-depth (wide .result) (pre .0) (release-pages .ensures) thread (set-count .ensures) in
+    let f = kept-freed (wide .result) (c .before .before .before .before .before .before .before .before .depth .result - 1) (pre .0) (release-pages .ensures) thread (omega (arith, wide .ensures, region)) (set-count .ensures) (set-depth .ensures) in (
       record {
         mid = X;
         pages = release-pages .ensures;
         tables =
-            c .before .before .set-depth .ensures
-            ∙ ap (λ (x : ℕ). set (set-count .last .1 .0) (depthAt (a .thread)) (x - 1)) (c .before .before .before .before .depth .ensures ∙ d)
+            c .before .before .count-freed .ensures
+            ∙ ap₂ (λ (Y : List ℕ) (x : ℕ). set Y (freedAt (a .p)) (counted (x + a .freed)))
+            (set-depth .ensures
+            ∙ ap (λ (x : ℕ). set (set-count .last .1 .0) (depthAt (a .thread)) (x - 1)) (c .before .before .before .before .before .before .before .before .depth .ensures ∙ d)
             ∙ ap (λ (Y : List ℕ). set Y (depthAt (a .thread)) (depthOf (a .tables .now) (a .thread) - 1))
-            (set-count .ensures ∙ ap (λ (g : ℕ). set X (countAt (a .p) g) 0) (wide .ensures));
+            (set-count .ensures ∙ ap (λ (g : ℕ). set X (countAt (a .p) g) 0) (wide .ensures)))
+            f;
       },
-      c .before .before .before .before .before .before .before .before .before .before .before .before .before .before .before .before .before .before .before .before .before .clear-pages .ensures,
+      c .before .before .before .before .before .before .before .before .before .before .before .before .before .before .before .before .before .before .before .before .before .before .before .before .before .clear-pages .ensures,
     )
 
 pub release-spec : {M : Type 1} → statement M
@@ -89,6 +101,7 @@ release-spec =
     depth-requires
     sub-set-depth
     set-depth-requires
+    count-freed-requires
     same-length
     same-length-2
     same-length-3

@@ -1,10 +1,11 @@
 -- A region without objects has no pages, and else its pages are listed.
 use borrow.Author.Needs.{needs}
-use mathlib.Core.Path.{sym, ap, _∙_}
+use mathlib.Core.Path.{sym, ap, subst, _∙_}
 use Prim.Native.Nat.{ℕ}
 use Rattle.layout.specs.Places.{countOf}
 use Rattle.lists.specs.Part.{lists-none}
 use Rattle.promises.specs.OwnedPages.{none-owned}
+use Rattle.release.specs.Release.{Ended}
 use Rattle.release.proofs.release_region.Statement.{statement}
 use Rattle.release.proofs.release_region.Tie as tie
 
@@ -38,7 +39,10 @@ same-length-3 : tie.Need-same-length-3
 same-length-3 c = search needs
 
 returns : tie.Need-returns
-returns c = search needs
+returns c =
+    let a = c .before .before .before .before .before .before .before .before .before .before .before .before .before .before .before .before .before .args in
+    let e = c .before .before .before .before .before .before .before .before .before .before .before .count .ensures ∙ ap (countOf (a .p) (a .tables .now)) (c .before .before .before .before .before .before .before .before .before .before .before .before .wide .ensures) in
+    (subst (λ (n : ℕ). Ended (a .p) (a .region) (a .thread) n (a .tables .now) (c .before .before .before .before .before .before .list-and-release .last .1 .1 .0)) e (c .before .before .before .before .before .before .list-and-release .ensures .0), c .before .before .before .before .before .before .list-and-release .ensures .1)
 
 same-length-4 : tie.Need-same-length-4
 same-length-4 c = search needs
@@ -50,7 +54,10 @@ same-length-6 : tie.Need-same-length-6
 same-length-6 c = search needs
 
 returns-2 : tie.Need-returns-2
-returns-2 c = search needs
+returns-2 c =
+    let a = c .before .before .before .before .before .before .before .before .before .before .before .before .before .before .before .before .before .before .args in
+    let e = c .before .before .before .before .before .before .before .before .before .before .before .before .count .ensures ∙ ap (countOf (a .p) (a .tables .now)) (c .before .before .before .before .before .before .before .before .before .before .before .before .before .wide .ensures) in
+    (subst (λ (n : ℕ). Ended (a .p) (a .region) (a .thread) n (a .tables .now) (c .before .before .before .before .before .before .release .last .1 .1 .0)) e (c .before .before .before .before .before .before .release .ensures .0), c .before .before .before .before .before .before .release .ensures .1)
 
 pub release-region-spec : {M : Type 1} → statement M
 release-region-spec =
