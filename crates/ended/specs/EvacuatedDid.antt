@@ -2,7 +2,7 @@
 use Prim.Native.Nat.{ℕ, suc, _≤_, _<_}
 use native.Mathlib.Omega.{arith}
 use native.Mathlib.Decide.{ℕ-discrete}
-use mathlib.Core.Path.{_≡_, refl, sym, ap, subst, _∙_}
+use mathlib.Core.Path.{_≡_, refl, sym, ap, ap₂, subst, _∙_}
 use lib.ListN.{length, getD, set, length-set}
 use lib.Seq.{ext-getD, getD-set-same, getD-set-other}
 use Rattle.rules.specs.declared.Sizes.{Sizes}
@@ -11,11 +11,11 @@ use Rattle.rules.specs.NeverFreeing as nf
 use Rattle.rules.specs.Regions.{regionAt}
 use Rattle.rules.specs.Graph.{Graph, ended}
 use Rattle.rules.specs.Rules as ru
-use Rattle.rules.specs.Rules.{Regioned, graph}
+use Rattle.rules.specs.Rules.{Regioned, graph, moreFreed}
 use Rattle.laws.specs.GraphLaws.{Alive}
 use Rattle.laws.specs.EndLaws.{was-alive}
 use Rattle.laws.specs.RulesLaws.{Sound, region-pos, over, graph-ended}
-use Rattle.laws.specs.SameRules.{Partners, partners-ended}
+use Rattle.laws.specs.SameRules.{Partners, partners-ended, same-freed}
 use Rattle.layout.specs.Words.{Words, BeginsIn, depthIn, depthsIn, homeIn, graphOf, heapOf}
 use Rattle.promises.specs.Whole.{WholeFor, DepthsWhole}
 use Rattle.promises.specs.StandsFor.{StandsFor}
@@ -27,6 +27,7 @@ use Rattle.promises.specs.Questions.{did-freed}
 use Rattle.promises.specs.OwnedPages.{pagesOwned}
 use Rattle.ended.specs.Evacuated.{Evacuated, Vacated}
 use Rattle.ended.specs.Living.{region-after, region-keeps}
+use Rattle.ended.specs.EvacuatedCounts.{Counted, counted-whole}
 use Rattle.ended.specs.EvacuatedWhole.{evacuated-whole}
 use Rattle.ended.specs.AfterEnd.{endOf, after-end}
 use Rattle.ended.specs.EvacuatedStands.{evacuated-stands}
@@ -39,7 +40,8 @@ pub record Lowered (s : Sizes) (w : Words) (t k : ℕ) (w′ : Words) : Type 0 w
   pub depths : (u : ℕ) → u < s .threads → (u ≡ t → ⊥) → depthIn w′ u ≡ depthIn w u
 
 module _ (s : Sizes) (w : Words) (whole : WholeFor s w) (t k : ℕ) (th : t < s .threads) (deep : depthIn w t ≡ suc k) (w′ : Words) (cell : ℕ → ℕ)
-    (e : Evacuated s w (partOf s w (regionAt s t (suc k))) w′ cell) (lower : Lowered s w t k w′) where
+    (e : Evacuated s w (partOf s w (regionAt s t (suc k))) w′ cell) (lower : Lowered s w t k w′)
+    (counted : Counted s w (regionAt s t (suc k)) w′) where
   abbrev r : ℕ
   r = regionAt s t (suc k)
 
@@ -56,7 +58,7 @@ module _ (s : Sizes) (w : Words) (whole : WholeFor s w) (t k : ℕ) (th : t < s 
       go (no n) = omega (arith, lower .depths u l n, whole .depths u l)
 
   whole′ : WholeFor s w′
-  whole′ = evacuated-whole whole (region-keeps s w whole r pos) e depths-low
+  whole′ = evacuated-whole whole (region-keeps s w whole r pos) e depths-low (counted-whole s w whole r pos w′ cell e counted)
 
   depths-after : set (depthsIn s w) t k ≡ depthsIn s w′
   depths-after =
@@ -91,6 +93,7 @@ module _ (s : Sizes) (w : Words) (whole : WholeFor s w) (t k : ℕ) (th : t < s 
       (subst (λ (g : Graph). Partners (λ x. x) g (ended s (graphOf s w) r)) (sym alike)
       (partners-ended s (λ x. x) (graph H) (graphOf s w) (base .sound .closed) (words-closed s w whole) (base .partners) r pos))
       (λ x a. base .nums x (was-alive s (graph H) r pos (base .sound .closed) x (subst (λ (g : Graph). Alive g x) alike a)))
+      (ap₂ moreFreed (same-freed s (λ x. x) (graph H) (graphOf s w) (base .sound .closed) (words-closed s w whole) (base .partners) r pos) (base .counters) ∙ sym counted)
 
   -- ---- the promise
 

@@ -8,7 +8,7 @@ use Rattle.layout.specs.declared.Kind.the-variants.{Reference}
 use Rattle.layout.specs.Places.{varOf}
 use Rattle.layout.specs.Cells.{headOf, fieldOf, workOf, refsOf, fieldCount, allFields, roomFor, Formed, kind-among}
 use Rattle.layout.specs.Words.{Words, BeginsIn, refCount}
-use Rattle.promises.specs.Whole.{Sized, DepthsWhole, WholeFor, ObjectWhole, IsRef}
+use Rattle.promises.specs.Whole.{Sized, DepthsWhole, CountersWhole, WholeFor, ObjectWhole, IsRef}
 use Rattle.promises.specs.Ends.{Part, Lives}
 use Rattle.ended.specs.Evacuated.{Evacuated}
 use Rattle.ended.specs.Living.{KeepsNamed}
@@ -19,7 +19,7 @@ ref-alive s w to zero f l = absurd (let z : ⊥ = omega arith in z)
 ref-alive s w to (suc c) f l = subst (BeginsIn s w) (let e : to c ≡ suc (to c) - 1 = omega arith in e) (f c refl)
 
 module _ {s : Sizes} {w : Words} {e : Part} {w′ : Words} {cell : ℕ → ℕ} (whole : WholeFor s w) (keeps : KeepsNamed s w e) (v : Evacuated s w e w′ cell)
-    (depths : DepthsWhole s w′) where
+    (depths : DepthsWhole s w′) (counters : CountersWhole s w′) where
   sized : Sized s w′
   sized =
       let z = whole .sized in
@@ -67,4 +67,5 @@ module _ {s : Sizes} {w : Words} {e : Part} {w′ : Words} {cell : ℕ → ℕ} 
         works = λ c u. let b = v .only c u in ap (workOf (w′ .cells)) (sym (b .2)) ∙ v .object (b .0) (b .1) .working;
         remember = v .remember;
         unused = v .unused;
+        counters = counters;
       }
