@@ -1,15 +1,15 @@
 -- The words that the stages of an end leave, once its pages are given back, are those after an accepted end.
 use mathlib.Core.Path.{_≡_, refl, sym, ap, subst, _∙_}
-use mathlib.Core.Logic.{_⊎_, inl, inr, ⊎-elim}
+use mathlib.Core.Logic.{_≢_, _⊎_, inl, inr, ⊎-elim}
 use mathlib.Core.List.{List}
-use Prim.Native.Nat.{ℕ, _≤_, _<_}
+use Prim.Native.Nat.{ℕ, _+_, _≤_, _<_}
 use native.Mathlib.Decide.{decLt}
 use native.Mathlib.Omega.{arith}
 use lib.ListN.{length, getD}
 use Rattle.lists.specs.Stores.{drop-same}
 use Rattle.rules.specs.declared.Sizes.{Sizes}
 use Rattle.laws.specs.SameRules.{renamed}
-use Rattle.layout.specs.Places.{Room, depthAt, varAt, ownerAt, usedAt, markAt, countAt, varOf, ownerOf, usedOf, markOf, cellsWords, rememberWords, tablesWords, count-room, ownersFrom, varsFrom, varCount}
+use Rattle.layout.specs.Places.{Room, depthAt, varAt, ownerAt, usedAt, markAt, countAt, varOf, ownerOf, usedOf, markOf, cellsWords, rememberWords, tablesWords, count-room, ownersFrom, varsFrom, madeAt, freedAt, varCount}
 use Rattle.layout.specs.Cells.{headAt, workAt, fieldAt, headOf, fieldOf, roomFor, cellNamed, pageOf, cellOn, cellOf, pageAt, page-on, page-at, work-cell}
 use Rattle.layout.specs.Objects.{InUse, in-use?, in-use-same, begins-page, begins-same, begins-back, begins-used, begins-there, field-on}
 use Rattle.layout.specs.Words.{Words, words, Begins, Names, ownerIn, headIn, refCount}
@@ -63,26 +63,26 @@ module _ {s : Sizes} {w w₁ : Words} {e : Part} {W T : List ℕ} (h : HasMoved 
     pub regular₂ : Regular s T₂
     regular₂ = regular-same (λ page l. record { owner = owner₂ page l; used = used₂ page l }) (λ g pos low. Y .same (countAt s g) (λ z. omega (arith, tables-room))) (h .ready .regular)
 
-    pub word₂ : (x : ℕ) → (varsFrom s ≤ x → tablesWords s ≤ x) → getD T₂ x 0 ≡ getD (w .tables) x 0
+    pub word₂ : (x : ℕ) → (varsFrom s ≤ x → madeAt s ≤ x) → getD T₂ x 0 ≡ getD (w .tables) x 0
     word₂ x n = far (decLt x (varsFrom s))
       where
         far : Dec (x < varsFrom s) → getD T₂ x 0 ≡ getD (w .tables) x 0
         far (yes l) =
             Y .same x (λ z. omega arith) ∙ h .forwards .copying .rest x (inl (omega (arith, tables-room))) ∙ table-same (h .marks) (h .room) x (λ z. omega (arith, tables-room))
         far (no l) =
-            let m : tablesWords s ≤ x = n (omega arith) in
-            Y .same x (λ z. omega (arith, tables-room, count-room s)) ∙ h .forwards .copying .rest x (inr m) ∙ table-same (h .marks) (h .room) x (λ z. omega (arith, count-room s))
+            let m : madeAt s ≤ x = n (omega arith) in
+            Y .same x (λ z. omega (arith, tables-room)) ∙ h .forwards .copying .rest x (inr m) ∙ table-same (h .marks) (h .room) x (λ z. omega (arith, tables-room))
 
 -- ---- the release
 
--- The pages of the part are given back: they are blank, the other pages and every word but depths and counts are as they were, and the
--- regions of the objects that live on are open. The cells in use on them are zero, and every other cell is as it was.
+-- The pages of the part are given back: they are blank, the other pages and every word but depths, counts and the freed objects are as they
+-- were, and the regions of the objects that live on are open. The cells in use on them are zero, and every other cell is as it was.
 pub record GaveBack (s : Sizes) (w : Words) (e : Part) (W T W′ T′ : List ℕ) : Type 0 where
   pub size : length T′ ≡ length T
   pub regular : Regular s T′
   pub blank : (page : ℕ) → page < s .pages → e .ends page → Blank s T′ page
   pub alike : (page : ℕ) → page < s .pages → (e .ends page → ⊥) → Alike s T T′ page
-  pub rest : (x : ℕ) → (depthAt 0 ≤ x → varsFrom s ≤ x) → (ownersFrom s ≤ x → tablesWords s ≤ x) → getD T′ x 0 ≡ getD T x 0
+  pub rest : (x : ℕ) → (depthAt 0 ≤ x → varsFrom s ≤ x) → (ownersFrom s ≤ x → madeAt s ≤ x) → x ≢ freedAt s → getD T′ x 0 ≡ getD T x 0
   pub outside : (c : ℕ) → Outside s w e c → 1 < ownerIn s w (pageOf c) → Open s T′ (ownerIn s w (pageOf c))
   pub survivor : (c : ℕ) → Survivor s w e c → 1 < e .goes c → Open s T′ (e .goes c)
   pub cells-size : length W′ ≡ length W
@@ -204,8 +204,9 @@ module _ {s : Sizes} {w w₁ : Words} {e : Part} {W T : List ℕ} {S : ℕ → T
   -- a word of the tables before the depths or after the tables
   same-word : (x : ℕ) → (depthAt 0 ≤ x → tablesWords s ≤ x) → getD T′ x 0 ≡ getD (w .tables) x 0
   same-word x n =
-      Z .rest x (λ z. let m : tablesWords s ≤ x = n z in omega (arith, h .ready .room, count-room s)) (λ z. n (omega (arith, h .ready .room)))
-      ∙ word₂ h Y x (λ z. n (omega arith))
+      let far : depthAt 0 ≤ x → madeAt s + 2 ≤ x = λ z. omega (arith, n z, count-room s) in
+      Z .rest x (λ z. omega (arith, far z, h .ready .room)) (λ z. omega (arith, far (omega (arith, h .ready .room)))) (λ z. omega (arith, far (omega (arith, z, h .ready .room))))
+      ∙ word₂ h Y x (λ z. omega (arith, far (omega arith)))
 
   pub vacated : Vacated s e w′
   vacated page l z = Z .blank page l z .owner
@@ -224,7 +225,7 @@ module _ {s : Sizes} {w w₁ : Words} {e : Part} {W T : List ℕ} {S : ℕ → T
         entries = U .edited .size;
         variables = λ i l.
             let room = h .ready .room in
-            Z .rest (varAt s i) (λ z. omega arith) (λ z. omega (arith, room))
+            Z .rest (varAt s i) (λ z. omega arith) (λ z. omega (arith, room)) (λ z. omega (arith, room))
             ∙ Y .moved i l ∙ forward-same W W′ (varOf s T i) (link-same (k .cells) (cellNamed (varOf s T i))) ∙ forwarded-placed W (varOf s T i)
             ∙ ap (renamed (placed W)) (variable-same h i l);
         placement = placement;

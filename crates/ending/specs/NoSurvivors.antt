@@ -7,12 +7,14 @@ use native.Mathlib.Omega.{arith}
 use Rattle.lists.specs.Bits.{bitAt, bit-zero}
 use Rattle.rules.specs.declared.Sizes.{Sizes}
 use Rattle.rules.specs.Regions.{regionAt}
-use Rattle.layout.specs.Places.{varOf, markOf, entriesUsed, varCount}
+use Rattle.rules.specs.Graph.{freedBy}
+use Rattle.layout.specs.Places.{varOf, markOf, countOf, entriesUsed, varCount}
 use Rattle.layout.specs.Cells.{workOf, pageOf, placeOf, cellNamed}
 use Rattle.layout.specs.Marks.{marked}
 use Rattle.layout.specs.Objects.{begins-page}
-use Rattle.layout.specs.Words.{Words}
+use Rattle.layout.specs.Words.{Words, graphOf}
 use Rattle.promises.specs.Ends.{partOf, Survivor, lives-how}
+use Rattle.census.specs.Census.{over-none}
 use Rattle.copy.specs.Passing.{Moves.none}
 use Rattle.copy.specs.Copying.{Plan, Copy}
 use Rattle.settle.specs.Rewrite.{forwarded, forward-null, forward-still, Rewritten, rewritten-none}
@@ -24,7 +26,7 @@ use Rattle.ending.specs.Rewriting.{copy-survivor}
 use Rattle.promises.specs.EntrySays.{entry-says}
 use Rattle.ending.specs.Region.{Held}
 use Rattle.ending.specs.Ending.{Ending, room-of}
-use Rattle.ending.specs.Stages.{keeps, moved, settle-ask}
+use Rattle.ending.specs.Stages.{freed-rest, keeps, moved, settle-ask}
 
 module _ {s : Sizes} {t l r : ℕ} {w w₁ : Words} (b : Ending s t l r w w₁) (off : (page : ℕ) → page < s .pages → markOf s (w₁ .tables) page ≡ 0) where
   unset : (c : ℕ) → pageOf c < s .pages → marked s (w₁ .tables) c ≡ 1 → ⊥
@@ -32,6 +34,10 @@ module _ {s : Sizes} {t l r : ℕ} {w w₁ : Words} (b : Ending s t l r w w₁) 
 
   no-survivor : (c : ℕ) → Survivor s w (partOf s w r) c → ⊥
   no-survivor c v = unset c (begins-page s (w .cells) (w .tables) c (v .used)) (b .marks .survives c (v .used) (v .within) (v .goes))
+
+  -- every object of r is freed
+  pub none-rest : countOf s (w₁ .tables) r ≡ freedBy s (graphOf s w) r
+  none-rest = omega (arith, freed-rest b, over-none s (w₁ .tables) (λ c. 1) (s .pages) off)
 
   pub none-copied : Copy s l (regionAt s t) l (w₁ .cells) (w₁ .tables) (w₁ .cells) (w₁ .tables)
   none-copied =

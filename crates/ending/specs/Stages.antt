@@ -3,22 +3,25 @@
 use mathlib.Core.Path.{_≡_, refl, sym, ap, ap₂, subst, _∙_}
 use mathlib.Core.Logic.{_≢_, _⊎_, inl, inr, ⊎-elim}
 use mathlib.Core.List.{List}
-use Prim.Native.Nat.{ℕ, _-_, _≤_, _<_}
+use Prim.Native.Nat.{ℕ, _+_, _-_, _≤_, _<_}
 use native.Mathlib.Decide.{ℕ-discrete, decLt}
 use native.Mathlib.Omega.{arith}
 use lib.ListN.{length, getD}
 use Rattle.lists.specs.Part.{Off, Lists, lists-like}
 use Rattle.rules.specs.declared.Sizes.{Sizes}
 use Rattle.rules.specs.Regions.{regionAt, regions, threadOf, levelOf}
+use Rattle.rules.specs.Graph.{freedBy}
+use Rattle.rules.specs.Rules.{counted}
 use Rattle.laws.specs.RegionLaws.{region-high, region-bounds, numbers-rise, region-number}
-use Rattle.layout.specs.Places.{Room, depthAt, countAt, depthOf, ownerOf, markOf, entriesUsed, slotIn, ownersFrom, countsFrom, varsFrom, tablesWords, count-room, varCount}
+use Rattle.layout.specs.Places.{Room, depthAt, countAt, depthOf, ownerOf, markOf, countOf, entriesUsed, slotIn, ownersFrom, countsFrom, varsFrom, madeAt, freedAt, varCount}
 use Rattle.layout.specs.Cells.{pageOf, pageAt, wordOf, field-word}
 use Rattle.layout.specs.Objects.{begins-page}
-use Rattle.layout.specs.Words.{Words, words, Names, depthIn, ownerIn}
+use Rattle.layout.specs.Words.{Words, words, Names, depthIn, ownerIn, graphOf}
 use Rattle.remember.specs.Crossing.{crossesFrom}
 use Rattle.remember.specs.Staying.{Entries}
 use Rattle.promises.specs.Whole.{Open}
 use Rattle.promises.specs.NewPages.{level-open}
+use Rattle.promises.specs.OwnedPages.{counted-objects}
 use Rattle.promises.specs.Reading.{refs-few}
 use Rattle.promises.specs.Ends.{partOf, Lives}
 use Rattle.copy.specs.Passing.{moves-ready}
@@ -29,12 +32,14 @@ use Rattle.settle.specs.RewriteSlots.{Slots, Variables}
 use Rattle.settle.specs.RewriteCopies.{slot-then}
 use Rattle.remember.specs.Appending.{at-most-less}
 use Rattle.settle.specs.Update.{Copies, NewEntry, Settles, Updated}
-use Rattle.release.specs.Release.{Ended, ended-size, ended-depth, ended-rest, ended-blank, ended-alike, ended-regular}
+use Rattle.release.specs.Release.{Ended, ended-size, ended-freed, ended-depth, ended-rest, ended-blank, ended-alike, ended-regular}
 use Rattle.release.specs.Emptied.{Emptied}
 use Rattle.ended.specs.EndQuestion.{crossingAfter}
+use Rattle.ended.specs.EvacuatedCounts.{Counted}
 use Rattle.ended.specs.EvacuatedDid.{Lowered}
 use Rattle.ended.specs.Living.{KeepsNamed, region-after, region-keeps}
-use Rattle.mark.specs.MarkedWords.{owner-same, unlisted}
+use Rattle.census.specs.Survivors.{survivorsIn, survivors-rest}
+use Rattle.mark.specs.MarkedWords.{owner-same, count-same, unlisted}
 use Rattle.ending.specs.Placing.{HoldingSlots, LiveSlot}
 use Rattle.ending.specs.Copied.{Sends, HasMoved, placed, placing, page-kept}
 use Rattle.ending.specs.Rewriting.{HasRewritten, copies-live, old-no-copy, live-names, names-later, cross-live, held-live, no-copy, copies-ask, outside-after, copies-told}
@@ -56,6 +61,11 @@ module _ {s : Sizes} {t l r : ℕ} {w w₁ : Words} (b : Ending s t l r w w₁) 
 
   pub bounds : (1 ≤ r) × (r ≤ regions s)
   bounds = subst (λ (g : ℕ). (1 ≤ g) × (g ≤ regions s)) (sym (b .region)) (region-bounds s t l (b .thread) (level-low b))
+
+  -- the objects of r, by its count, are those that are freed and the survivors
+  pub freed-rest : freedBy s (graphOf s w) r + survivorsIn s (w₁ .tables) (s .pages) ≡ countOf s (w₁ .tables) r
+  freed-rest =
+      survivors-rest s w (b .whole) r w₁ (b .marks) pos ∙ sym (count-same (b .marks) (room-of b) r ∙ counted-objects s w (b .whole) r pos (bounds .1))
 
   pub sends : Sends s w (partOf s w r)
   sends =
@@ -177,28 +187,35 @@ module _ {s : Sizes} {t l r : ℕ} {w w₁ : Words} (b : Ending s t l r w w₁) 
       pub release-ask : Room s (length T₂) × (depthOf T₂ t ≡ l)
       release-ask = (room₂ moved Y, word₂ moved Y (depthAt t) (λ z. omega (arith, b .thread)) ∙ b .level)
 
-      module _ {W₄ T′ : List ℕ} (Z : Ended s r t T₂ T′) (X : Emptied s r (s .pages) T₂ W₃ W₄) where
+      module _ {n : ℕ} {W₄ T′ : List ℕ} (f : n ≡ freedBy s (graphOf s w) r) (Z : Ended s r t n T₂ T′) (X : Emptied s r (s .pages) T₂ W₃ W₄) where
         a : Room s (length T₂)
         a = room₂ moved Y
 
         depth-after : depthOf T′ t ≡ l - 1
         depth-after = ended-depth a (bounds .0) (bounds .1) (b .thread) Z ∙ ap (λ (x : ℕ). x - 1) (release-ask .1)
 
-        rest : (x : ℕ) → x ≢ depthAt t → (ownersFrom s ≤ x → tablesWords s ≤ x) → getD T′ x 0 ≡ getD T₂ x 0
-        rest x n m = ended-rest a (bounds .0) (bounds .1) (b .thread) Z x n count (go (decLt x (ownersFrom s)))
+        rest : (x : ℕ) → x ≢ depthAt t → (ownersFrom s ≤ x → madeAt s ≤ x) → x ≢ freedAt s → getD T′ x 0 ≡ getD T₂ x 0
+        rest x n m k = ended-rest a (bounds .0) (bounds .1) (b .thread) Z x n count k (go (decLt x (ownersFrom s)))
           where
             count : x ≢ countAt s r
-            count z = let y : tablesWords s ≤ x = m (omega (arith, a)) in omega (arith, count-room s, bounds)
+            count z = let y : madeAt s ≤ x = m (omega (arith, a)) in omega (arith, a, bounds)
 
             go : Dec (x < ownersFrom s) → (x < ownersFrom s) ⊎ (countsFrom s ≤ x)
             go (yes l) = inl l
-            go (no l) = let y : tablesWords s ≤ x = m (omega arith) in inr (omega (arith, count-room s))
+            go (no l) = let y : madeAt s ≤ x = m (omega arith) in inr (omega (arith, a))
 
         depth-kept : (u : ℕ) → u < s .threads → u ≢ t → depthOf T′ u ≡ depthIn w u
-        depth-kept u l n = rest (depthAt u) (λ z. n (omega arith)) (λ z. omega (arith, a)) ∙ word₂ moved Y (depthAt u) (λ z. omega arith)
+        depth-kept u l n = rest (depthAt u) (λ z. n (omega arith)) (λ z. omega (arith, a)) (λ z. omega (arith, a)) ∙ word₂ moved Y (depthAt u) (λ z. omega arith)
 
         lowered : {M′ : List ℕ} → Lowered s w t (l - 1) (words W₄ M′ T′)
         lowered = record { depth = depth-after; depths = depth-kept }
+
+        -- the counters: made is as it was, and what is freed is counted
+        counted-end : (M′ : List ℕ) → Counted s w r (words W₄ M′ T′)
+        counted-end M′ =
+            ap₂ (λ (x y : ℕ). record { made = x; freed = y })
+            (rest (madeAt s) (λ z. omega (arith, a, b .thread)) (λ z. omega arith) (λ z. omega arith) ∙ word₂ moved Y (madeAt s) (λ z. omega arith))
+            (ended-freed a (bounds .0) (bounds .1) (b .thread) Z ∙ ap₂ (λ (x y : ℕ). counted (x + y)) (word₂ moved Y (freedAt s) (λ z. omega arith)) f)
 
         -- every region but r that was open is open still, and so is every region around r
         still-open : (g : ℕ) → g ≢ r → Open s (w .tables) g → Open s T′ g
@@ -219,7 +236,7 @@ module _ {s : Sizes} {t l r : ℕ} {w w₁ : Words} (b : Ending s t l r w w₁) 
               regular = ended-regular a (bounds .0) (bounds .1) (b .thread) Z (regular₂ moved Y);
               blank = λ page l z. ended-blank a (bounds .0) (bounds .1) (b .thread) Z page l (kept₂ page l z);
               alike = λ page l n. ended-alike a (bounds .0) (bounds .1) (b .thread) Z page l (λ z. n (was₂ page l z));
-              rest = λ x n m. rest x (λ z. let y : varsFrom s ≤ x = n (omega arith) in omega (arith, b .thread)) m;
+              rest = λ x n m k. rest x (λ z. let y : varsFrom s ≤ x = n (omega arith) in omega (arith, b .thread)) m k;
               outside = λ x o h. still-open (ownerIn s w (pageOf x)) (o .out) (b .whole .pages (pageOf x) (begins-page s (w .cells) (w .tables) x (o .used)) .region h);
               survivor = λ x v h. let j = survivor-level b x v in subst (Open s T′) (sym (j .2)) (level-open s T′ t (j .0) (b .thread) (omega (arith, j .1, level-low b)) (omega (arith, j .1, depth-after)) (omega (arith, j .2)));
               cells-size = X .size;
@@ -228,10 +245,11 @@ module _ {s : Sizes} {t l r : ℕ} {w w₁ : Words} (b : Ending s t l r w w₁) 
             }
 
         pub has-ended : {M′ : List ℕ} → Rewritten (λ x. Held s w r x ⊎ Copies s W T x) W W₃ → Updated s r (s .entries) (entriesUsed (w .remember)) W₃ (w .remember) T M′ → HasEnded s t l r w (words W₄ M′ T′)
-        has-ended R u =
+        has-ended {M′} R u =
             record {
               cell = placed W;
               evacuated = evacuated (rewritten R) (entries-told R) u Y gave-back;
               vacated = vacated (rewritten R) (entries-told R) u Y gave-back;
               lowered = lowered;
+              counted = counted-end M′;
             }

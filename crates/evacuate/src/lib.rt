@@ -34,11 +34,13 @@ pub fn evacuate(
     requires { ⌜ (noteWords ≤ length (now notes)) × (regions p < length (now come)) ⌝ }
     ensures { λ _. ⌜ ((c t : List ℕ) → Ending p thread level region (words c (now (remember .entry)) t) (words (now (cells .entry)) (now (remember .entry)) (now (tables .entry))) → Accepted p region (words c (now (remember .entry)) t) → HasEnded p thread level region (words c (now (remember .entry)) t) (words (now (cells .exit)) (now (remember .exit)) (now (tables .exit)))) ⌝ }
 {
+    let survivors = census::survivors::count_survivors(p, tables, list, n);
+    let freed = layout::tables::count(p, tables, layout::wide(region)) - survivors;
     copy::copy_survivors(p, cells, tables, notes, list, n, come, thread, level);
     settle::rewrite::rewrite_slots(p, cells, remember, region);
     settle::settle(p, cells, remember, tables, list, n, region);
     settle::rewrite::rewrite_variables(p, cells, tables);
-    release::release(p, cells, tables, notes, list, n, region, thread);
+    release::release(p, cells, tables, notes, list, n, region, thread, freed);
 }
 
 // The same end where nothing survives: no mark is set, so nothing moves and nothing leads into the region. Its entries go, its cells are cleared,

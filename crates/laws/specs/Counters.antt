@@ -66,7 +66,7 @@ living-regions s g low =
     omega (
       arith,
       sum-same (λ i. objectsIn g (suc i)) (λ i. count (λ x. eqb (g .home x) (suc i)) (g .count)) (regions s)
-      (λ i l. sum-same (λ x. cond (eqb (g .home x) (suc i)) 1 0) (λ x. bit (eqb (g .home x) (suc i))) (g .count) (λ x m. bit-cond (eqb (g .home x) (suc i)))),
+          (λ i l. sum-same (λ x. cond (eqb (g .home x) (suc i)) 1 0) (λ x. bit (eqb (g .home x) (suc i))) (g .count) (λ x m. bit-cond (eqb (g .home x) (suc i)))),
       count-owners (g .home) (regions s) (g .count) low,
       all (λ x. eqb (g .home x) 0) (g .count),
     )

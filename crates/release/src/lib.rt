@@ -122,9 +122,7 @@ fn list_and_release(
 {
     let mut list = [0u32; 1024];
     let n = pages::list_pages(p, tables, region, &mut list);
-    release(
-        p, cells, tables, notes, &list, n, region, thread, freed,
-    );
+    release(p, cells, tables, notes, &list, n, region, thread, freed);
 }
 
 // The same where all objects of the region are freed. A region without objects has no pages, and needs no list.
@@ -150,8 +148,6 @@ pub fn release_region(
         list_and_release(p, cells, tables, notes, region, thread, objects);
     } else {
         let none = [0u32; 1];
-        release(
-            p, cells, tables, notes, &none, 0, region, thread, objects,
-        );
+        release(p, cells, tables, notes, &none, 0, region, thread, objects);
     }
 }

@@ -1,30 +1,55 @@
 -- What each stage asks follows from what the earlier ones leave.
+use Prim.Native.Nat.{_-_}
 use native.Mathlib.Omega.{arith}
-use mathlib.Core.Path.{_∙_}
+use mathlib.Core.Path.{_≡_, ap, _∙_}
+use borrow.Author.Needs.{needs}
+use Rattle.rules.specs.Graph.{freedBy}
+use Rattle.layout.specs.Places.{countOf}
+use Rattle.layout.specs.Words.{words, graphOf}
 use Rattle.ending.specs.Rewriting.{rewritten-both}
 use Rattle.ending.specs.Finish.{variables-ask, regular₂}
-use Rattle.ending.specs.Ending.{level-low}
+use Rattle.ending.specs.Ending.{level-low, room-now}
 use Rattle.mark.specs.MarkedWords.{unlisted}
 use Rattle.ending.specs.PagesEnough.{plan}
 use Rattle.ending.specs.Stages as st
 use Rattle.evacuate.proofs.evacuate.Statement.{statement}
 use Rattle.evacuate.proofs.evacuate.Tie as tie
 
+count-survivors-requires : tie.Need-count-survivors-requires
+count-survivors-requires c κs =
+    let pre = c .before .before .before .before .before .before .before .pre in
+    let e = pre .0 .2 in
+    (room-now e, (pre .1 .0 .rises, (unlisted (e .marks) (st.listed e (pre .1 .0)), e .marks .small)))
+
+wide-requires : tie.Need-wide-requires
+wide-requires c κs = search needs
+
+count-requires : tie.Need-count-requires
+count-requires c κs =
+    let e = c .before .before .before .before .before .before .before .before .before .before .pre .0 .2 in
+    (room-now e, (omega (arith, c .wide .ensures, st.bounds e), omega (arith, c .wide .ensures, st.bounds e)))
+
+-- the objects of the region less the survivors
+sub-freed : tie.Need-sub-freed
+sub-freed c =
+    let a = c .before .before .before .before .before .before .before .before .before .before .before .args in
+    omega (arith, c .count .ensures, ap (countOf (a .p) (a .tables .now)) (c .before .wide .ensures), c .before .before .before .count-survivors .ensures, st.freed-rest (c .before .before .before .before .before .before .before .before .before .before .before .pre .0 .2))
+
 copy-survivors-requires : tie.Need-copy-survivors-requires
 copy-survivors-requires c κs =
-    let pre = c .before .before .before .before .before .before .before .before .before .pre in
+    let pre = c .before .before .before .before .before .before .before .before .before .before .before .before .before .before .pre in
     let e = pre .0 .2 in
     (plan e (pre .0 .3 .pages), ((e .thread, level-low e), (pre .1 .0 .rises, (unlisted (e .marks) (st.listed e (pre .1 .0)), (pre .1 .1 .0, pre .1 .1 .1)))))
 
 rewrite-slots-requires : tie.Need-rewrite-slots-requires
 rewrite-slots-requires c κs =
-    let pre = c .before .before .before .before .before .before .before .before .before .before .before .before .before .before .before .before .before .before .pre in
+    let pre = c .before .before .before .before .before .before .before .before .before .before .before .before .before .before .before .before .before .before .before .before .before .before .before .pre in
     let e = pre .0 .2 in
     st.slots-ask e (plan e (pre .0 .3 .pages)) (c .before .before .before .before .before .before .before .before .copy-survivors .ensures)
 
 settle-requires : tie.Need-settle-requires
 settle-requires c κs =
-    let pre = c .before .before .before .before .before .before .before .before .before .before .before .before .before .before .before .before .before .before .before .before .before .before .before .before .pre in
+    let pre = c .before .before .before .before .before .before .before .before .before .before .before .before .before .before .before .before .before .before .before .before .before .before .before .before .before .before .before .before .before .pre in
     let e = pre .0 .2 in
     let p = plan e (pre .0 .3 .pages) in
     let k = c .before .before .before .before .before .before .before .before .before .before .before .before .before .before .copy-survivors .ensures in
@@ -32,14 +57,14 @@ settle-requires c κs =
 
 rewrite-variables-requires : tie.Need-rewrite-variables-requires
 rewrite-variables-requires c κs =
-    let pre = c .before .before .before .before .before .before .before .before .before .before .before .before .before .before .before .before .before .before .before .before .before .before .before .before .before .before .before .before .before .before .before .pre in
+    let pre = c .before .before .before .before .before .before .before .before .before .before .before .before .before .before .before .before .before .before .before .before .before .before .before .before .before .before .before .before .before .before .before .before .before .before .before .before .pre in
     let e = pre .0 .2 in
     let h = st.moved e (plan e (pre .0 .3 .pages)) (c .before .before .before .before .before .before .before .before .before .before .before .before .before .before .before .before .before .before .before .before .before .copy-survivors .ensures) in
     (variables-ask h, (omega (arith, h .ready .cells-long, c .before .before .before .before .before .before .before .before .before .before .before .before .rewrite-slots .ensures .size, c .before .before .before .before .before .before .settle .ensures .0 .size), h .ready .room))
 
 release-requires : tie.Need-release-requires
 release-requires c κs =
-    let pre = c .before .before .before .before .before .before .before .before .before .before .before .before .before .before .before .before .before .before .before .before .before .before .before .before .before .before .before .before .before .before .before .before .before .before .before .before .before .pre in
+    let pre = c .before .before .before .before .before .before .before .before .before .before .before .before .before .before .before .before .before .before .before .before .before .before .before .before .before .before .before .before .before .before .before .before .before .before .before .before .before .before .before .before .before .before .pre in
     let e = pre .0 .2 in
     let p = plan e (pre .0 .3 .pages) in
     let k = c .before .before .before .before .before .before .before .before .before .before .before .before .before .before .before .before .before .before .before .before .before .before .before .before .before .before .before .copy-survivors .ensures in
@@ -62,17 +87,27 @@ same-length-4 c = c .before .before .before .before .before .before .release .ke
 
 returns : tie.Need-returns
 returns c cells tables e a =
+    let args = c .before .before .before .before .before .before .before .before .before .before .before .before .before .before .before .before .before .before .before .before .before .before .before .before .before .before .before .before .before .before .before .before .before .before .before .before .before .before .before .before .before .before .before .before .before .before .before .before .before .args in
+    let count = c .before .before .before .before .before .before .before .before .before .before .before .before .before .before .before .before .before .before .before .before .before .before .before .before .before .before .before .before .before .before .before .before .before .before .before .before .before .before .count in
+    let survivors = c .before .before .before .before .before .before .before .before .before .before .before .before .before .before .before .before .before .before .before .before .before .before .before .before .before .before .before .before .before .before .before .before .before .before .before .before .before .before .before .before .before .count-survivors in
     let settle = c .before .before .before .before .before .before .before .before .before .before .before .before .before .before .before .before .before .before .before .settle in
     let release = c .before .before .before .before .before .before .release in
     let p = plan e (a .pages) in
     let k = c .before .before .before .before .before .before .before .before .before .before .before .before .before .before .before .before .before .before .before .before .before .before .before .before .before .before .before .before .before .before .before .before .before .before .copy-survivors .ensures in
     let h = st.moved e p k in
-    st.has-ended e p k (c .before .before .before .before .before .before .before .before .before .before .before .before .rewrite-variables .ensures) (release .ensures .0) (release .ensures .1) (rewritten-both h (st.held e) (c .before .before .before .before .before .before .before .before .before .before .before .before .before .before .before .before .before .before .before .before .before .before .before .before .before .rewrite-slots .ensures) (settle .ensures .0)) (settle .ensures .1)
+    let freed : count .result - survivors .result ≡ freedBy (args .p) (graphOf (args .p) (words cells (args .remember .now) tables)) (args .region) =
+    omega (arith, count .ensures, ap (countOf (args .p) (args .tables .now)) (c .before .before .before .before .before .before .before .before .before .before .before .before .before .before .before .before .before .before .before .before .before .before .before .before .before .before .before .before .before .before .before .before .before .before .before .before .before .before .before .wide .ensures), survivors .ensures, st.freed-rest e) in
+    st.has-ended e p k (c .before .before .before .before .before .before .before .before .before .before .before .before .rewrite-variables .ensures) freed (release .ensures .0) (release .ensures .1)
+    (rewritten-both h (st.held e) (c .before .before .before .before .before .before .before .before .before .before .before .before .before .before .before .before .before .before .before .before .before .before .before .before .before .rewrite-slots .ensures) (settle .ensures .0)) (settle .ensures .1)
 
 pub evacuate-spec : {M : Type 1} → statement M
 evacuate-spec =
     tie.close
     (tie.spec
+    count-survivors-requires
+    wide-requires
+    count-requires
+    sub-freed
     copy-survivors-requires
     rewrite-slots-requires
     settle-requires
