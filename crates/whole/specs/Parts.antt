@@ -2,7 +2,7 @@
 use Rattle.rules.specs.declared.Sizes.{Sizes}
 use Rattle.layout.specs.Places.{cellsWords, entriesUsed}
 use Rattle.layout.specs.Words.{Words}
-use Rattle.promises.specs.Whole.{Sized, DepthsWhole, VariablesWhole, EntriesWhole, UnusedWhole, WholeFor}
+use Rattle.promises.specs.Whole.{Sized, DepthsWhole, VariablesWhole, EntriesWhole, UnusedWhole, CountersWhole, WholeFor}
 use Rattle.remember.specs.Crossing.{crossTo}
 use Rattle.remember.specs.Counted.{every-counted, counted-every}
 use Rattle.whole.specs.Regions.{RegionsWhole}
@@ -24,9 +24,9 @@ module _ {s : Sizes} {w : Words} where
   }
 
   -- as many entries as crossing slots, each naming another: then every crossing slot is named
-  pub whole-of : Sized s w → DepthsWhole s w → RegionsWhole s (w .tables) → VariablesWhole s w → CellsCross s (w .cells) (w .tables) (entriesUsed (w .remember))
+  pub whole-of : Sized s w → DepthsWhole s w → RegionsWhole s (w .tables) → CountersWhole s w → VariablesWhole s w → CellsCross s (w .cells) (w .tables) (entriesUsed (w .remember))
       → UnusedWhole s w → EntriesWhole s (w .cells) (w .remember) (w .tables) → WholeFor s w
-  whole-of z d r v k u n = record {
+  whole-of z d r a v k u n = record {
     sized = z;
     depths = d;
     pages = λ page l. r .pages page l .whole;
@@ -38,4 +38,5 @@ module _ {s : Sizes} {w : Words} where
     works = λ i b. k .whole i b .working;
     remember = counted-every (crossTo s (w .cells) (w .tables)) (cellsWords s) (s .entries) (w .remember) n (k .crossing);
     unused = u;
+    counters = a;
   }

@@ -124,18 +124,19 @@ module _ (p : Sizes) (t : List ℕ) (objects : List ℕ) (partly : List Bool) (n
       let r = w .only o z in
       all o (r .2) (r .0) n (r .1) m (r .3) (record { owner = sym e; part = omega arith })
 
+-- no page has more objects of a region than cells
+pub on-low : (p : Sizes) (t : List ℕ) (g k : ℕ) → usedOf p t k ≤ pageCells → objectsOn p t g k ≤ pageCells
+on-low p t g k b = go (ℕ-discrete (ownerOf p t k) g)
+  where
+    go : Dec (ownerOf p t k ≡ g) → objectsOn p t g k ≤ pageCells
+    go (yes q) = omega (arith, objects-yes p t g k q)
+    go (no q) = omega (arith, objects-no p t g k q)
+
 -- the objects counted are no more than the cells passed
 pub objects-low : (p : Sizes) (t : List ℕ) (objects : List ℕ) (partly : List Bool) (n o : ℕ) → Tallied p t objects partly n
     → ((k : ℕ) → k < n → usedOf p t k ≤ pageCells) → 1 ≤ o → o < mostRegions → getD objects o 0 ≤ pageCells * n
 objects-low p t objects partly n o w h l m =
-    omega (arith, w .counted o l m, sum-high (objectsOn p t o) pageCells n (λ k i. on-le k (h k i)))
-  where
-    on-le : (k : ℕ) → usedOf p t k ≤ pageCells → objectsOn p t o k ≤ pageCells
-    on-le k b = go (ℕ-discrete (ownerOf p t k) o)
-      where
-        go : Dec (ownerOf p t k ≡ o) → objectsOn p t o k ≤ pageCells
-        go (yes q) = omega (arith, objects-yes p t o k q)
-        go (no q) = omega (arith, objects-no p t o k q)
+    omega (arith, w .counted o l m, sum-high (objectsOn p t o) pageCells n (λ k i. on-low p t o k (h k i)))
 
 -- every owner is one of the regions; o is the owner of a whole page as the code read it
 pub owner-room : (p : Sizes) (t : List ℕ) (n page : ℕ) {o : ℕ} → Room p n → PageChecked p t page → o ≡ ownerOf p t page → o < mostRegions

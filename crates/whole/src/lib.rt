@@ -1,4 +1,4 @@
-// The check that lent words are whole tables (01, "Sizes and tables"; 02, W1). Any words may be handed in. It only reads, looks at no word
+// The check that lent words are whole tables (01, "Sizes and tables"; 02, W1 and W2). Any words may be handed in. It only reads, looks at no word
 // past the three lengths, and ends at the first word or cell that breaks a condition.
 ghost use lib.ListN.{length};
 ghost use Rattle.lists.specs.Says.{Says};
@@ -8,6 +8,7 @@ ghost use Rattle.promises.specs.Whole.{Sized, WholeFor, WholeWords};
 use rules::Sizes;
 
 pub mod cells;
+pub mod counters;
 pub mod entries;
 pub mod pages;
 pub mod regions;
@@ -25,6 +26,9 @@ pub fn placed_whole(p: Sizes, cells: &[u32], remember: &[u32], tables: &[u32]) -
         return false;
     }
     if !regions::regions_whole(p, tables) {
+        return false;
+    }
+    if !counters::counters_whole(p, tables) {
         return false;
     }
     if !variables::variables_whole(p, cells, tables) {

@@ -1,5 +1,5 @@
 // Runs the check of lent tables on fresh tables, on tables of a heap in use and on damaged ones, one damage or more for each condition
-// of 01's paragraph on whole tables and of 02, W1, and writes a line for each.
+// of 01's paragraph on whole tables and of 02, W1 and W2, and writes a line for each.
 ghost use Prim.Native.Nat.{_/_};
 ghost use mathlib.Core.Path.{_≡_};
 ghost use lib.ListN.{length, set};
@@ -44,12 +44,14 @@ fn check(name: &[u8], cells: &[u32], remember: &[u32], tables: &[u32]) {
 fn fresh() {
     let cells = [0u32; 512];
     let remember: [u32; 6] = [2, 0, 0, 0, 0, 0];
-    let tables: [u32; 22] = [
+    let tables: [u32; 24] = [
         2,
         2,
         2,
         2,
         2,
+        0,
+        0,
         0,
         0,
         0,
@@ -71,7 +73,7 @@ fn fresh() {
     check(b"fresh", &cells, &remember, &tables);
     check(b"cells too short", &cells[..511], &remember, &tables);
     check(b"remember table too short", &cells, &remember[..5], &tables);
-    check(b"tables too short", &cells, &remember, &tables[..21]);
+    check(b"tables too short", &cells, &remember, &tables[..23]);
     check(b"tables without sizes", &cells, &remember, &tables[..4]);
     check(b"remember table without N", &cells, &remember[..0], &tables);
     check(b"no words", &cells[..0], &remember[..0], &tables[..0]);
@@ -81,18 +83,18 @@ fn fresh() {
 fn smallest() {
     let cells = [0u32; 256];
     let remember: [u32; 2] = [0, 0];
-    let tables: [u32; 12] = [1, 1, 1, 1, 0, 0, 0, 0, 0, 0, 0, 0];
+    let tables: [u32; 14] = [1, 1, 1, 1, 0, 0, 0, 0, 0, 0, 0, 0, 0, 0];
     check(b"fresh and smallest", &cells, &remember, &tables);
 }
 
 // The heap in use: T 2, V 2, D 2, P 4, N 2. Thread 0 has one epoch open, so region 2 is open. Page 0 is the control space's: cell 0 has
 // one reference, to cell 16, and one number; cell 1 has no field. Page 1 is region 2's: cell 16 has one reference, to cell 0. Variables 0
-// and 1 of thread 0 name cells 0 and 16. So the slot at word 2 crosses into region 2. The slices are longer than asked, and the words
-// past the three lengths are not zero. It is changed as asked, and checked.
+// and 1 of thread 0 name cells 0 and 16. So the slot at word 2 crosses into region 2. Of 5 objects made, 2 are freed. The slices are longer
+// than asked, and the words past the three lengths are not zero. It is changed as asked, and checked.
 fn attempt(name: &[u8], cells_changes: &[u32], remember_changes: &[u32], tables_changes: &[u32]) {
     let mut cells = [0u32; 1040];
     let mut remember: [u32; 8] = [2, 1, 2, 0, 2, 0, 7, 7];
-    let mut tables: [u32; 30] = [
+    let mut tables: [u32; 32] = [
         2,
         2,
         2,
@@ -121,6 +123,8 @@ fn attempt(name: &[u8], cells_changes: &[u32], remember_changes: &[u32], tables_
         0,
         0,
         0,
+        5,
+        2,
         7,
         7,
     ];
@@ -178,20 +182,38 @@ fn owners() {
 
 // Cells in use on a page, and partly filled pages.
 fn used() {
-    attempt_tables(b"a page of 17 cells", &[15, 17, 23, 17]);
+    attempt_tables(b"a page of 17 cells", &[15, 17, 23, 17, 28, 20]);
     attempt_tables(b"a free page with a cell", &[17, 1]);
-    attempt_tables(b"two partly filled pages", &[13, 1, 17, 1, 23, 3]);
+    attempt_tables(b"two partly filled pages", &[13, 1, 17, 1, 23, 3, 28, 6]);
     attempt_tables(
         b"a full page and a partly filled one",
-        &[13, 1, 15, 16, 17, 1, 23, 17],
+        &[13, 1, 15, 16, 17, 1, 23, 17, 28, 20],
     );
 }
 
 // Object counts, and working words of pages.
 fn counts() {
-    attempt_tables(b"an object too many", &[23, 3]);
-    attempt_tables(b"an object in a closed region", &[27, 1]);
+    attempt_tables(b"an object too many", &[23, 3, 28, 6]);
+    attempt_tables(b"an object in a closed region", &[27, 1, 28, 6]);
     attempt_tables(b"a working word of a page", &[22, 1]);
+}
+
+// Objects made, word 28, and objects freed, word 29: 3 more are made than freed, also where made has passed 4,294,967,295 and starts anew.
+fn counters() {
+    attempt_tables(b"an object made that is not there", &[28, 6]);
+    attempt_tables(b"an object freed that is there", &[29, 3]);
+    attempt_tables(b"made and freed the other way round", &[28, 2, 29, 5]);
+    attempt_tables(b"nothing freed", &[28, 3, 29, 0]);
+}
+
+fn wrapped_counters() {
+    attempt_tables(b"made less than freed", &[28, 1, 29, 4294967294]);
+    attempt_tables(
+        b"made less than freed by one too many",
+        &[28, 0, 29, 4294967294],
+    );
+    attempt_tables(b"made 4294967295", &[28, 4294967295, 29, 4294967292]);
+    attempt_tables(b"freed 4294967295", &[28, 2, 29, 4294967295]);
 }
 
 // References.
@@ -284,6 +306,8 @@ fn main() {
     owners();
     used();
     counts();
+    counters();
+    wrapped_counters();
     variables();
     references();
     fields();
