@@ -2,7 +2,7 @@
 use Prim.Native.Nat.{ℕ, suc, _+_, _≤_, _<_}
 use native.Mathlib.Omega.{arith}
 use native.Mathlib.Numerals.{add-one}
-use mathlib.Core.Path.{_≡_, refl, sym, ap, ap₂, _∙_}
+use mathlib.Core.Path.{_≡_, refl, sym, ap, _∙_}
 use mathlib.Core.List.{List, _++_}
 use lib.ListN.{length, getD, set, take, drop, length-append, length-drop, length-map}
 use lib.Seq.{length-take-le, take-suc, drop-cons, append-snoc, set-at, take-length}
@@ -10,15 +10,15 @@ use Rattle.rules.specs.Regions.{regions}
 use Rattle.rules.specs.Graph.{crossing, freePages}
 use Rattle.rules.specs.Rules.{graph}
 use Rattle.rules.specs.declared.Sizes.{Sizes}
-use Rattle.layout.specs.Places.{sizesAt, entriesUsed}
+use Rattle.layout.specs.Places.{sizesAt, entriesUsed, madeOf, freedOf}
 use Rattle.layout.specs.Words.{Words, sizesIn, heapOf}
 use Rattle.promises.specs.Whole.{WholeWords}
 use Rattle.promises.specs.Agreed.{heapOf-stands}
 use Rattle.promises.specs.Crossings.{heap-entries}
 use Rattle.report.specs.declared.Row.{Row}
-use Rattle.report.specs.Report.{noRow, rows, rowCount, ReportAsked, notWhole, short, accepted, Told, refusing, resultOf, leftOf}
+use Rattle.report.specs.Report.{noRow, rows, rowCount, ReportAsked, notWhole, short, accepted, Told, refusing, resultOf, leftOf, totalOf}
 use Rattle.report.specs.Tables.{WholeTables, rowIn, openIn, rowsIn, whole-tables, freeIn}
-use Rattle.report.specs.Stands.{rows-stand, free-stands}
+use Rattle.report.specs.Stands.{rows-stand, free-stands, made-stands, freed-stands, total-stands}
 use Rattle.report.specs.declared.Reported.{Reported}
 
 -- ---- the first k rows of a list over the first k of those lent
@@ -69,6 +69,13 @@ module _ (w : Words) where
   these-stand : WholeWords w → these ≡ rows (sizesIn w) (heapOf (sizesIn w) w)
   these-stand k = rows-stand (sizesAt (w .tables)) (w .tables) (w .cells) (w .remember) (heapOf (sizesIn w) w) (λ x. x) (heapOf-stands w k)
 
+-- a report that is not refused
+abbrev pub reporting : ℕ → ℕ → ℕ → ℕ → ℕ → ℕ → Reported
+reporting n f x m d v = record { number = 0; rows = n; «free_pages» = f; «crossing_slots» = x; made = m; freed = d; total = v }
+
+pub reporting-same : {n n′ f f′ x x′ m m′ d d′ v v′ : ℕ} → n ≡ n′ → f ≡ f′ → x ≡ x′ → m ≡ m′ → d ≡ d′ → v ≡ v′ → reporting n f x m d v ≡ reporting n′ f′ x′ m′ d′ v′
+reporting-same n f x m d v = λ i. reporting (n i) (f i) (x i) (m i) (d i) (v i)
+
 -- as the code answers; p are the sizes that it read
 module _ (w : Words) (room : ℕ) where
   pub asking-not-whole : (WholeWords w → ⊥) → Asking w room (refusing 3)
@@ -81,21 +88,20 @@ module _ (w : Words) (room : ℕ) where
     pub asking-short : room < n → Asking w room (refusing 15)
     asking-short l = record { asked = short refl k (omega (arith, counted, these-length w)); result = refl }
 
-    pub asking-all : (f x : ℕ) → n ≤ room → f ≡ freeIn p (w .tables) → x ≡ entriesUsed (w .remember)
-        → Asking w room (record { number = 0; rows = n; «free_pages» = f; «crossing_slots» = x })
-    asking-all f x l free cross =
+    pub asking-all : (f x m d v : ℕ) → n ≤ room → f ≡ freeIn p (w .tables) → x ≡ entriesUsed (w .remember)
+        → m ≡ madeOf p (w .tables) → d ≡ freedOf p (w .tables) → v ≡ totalOf (rowsIn p (w .tables)) → Asking w room (reporting n f x m d v)
+    asking-all f x m d v l free cross made freed total =
         let s = sizesIn w in
+        let t = w .tables in
         let h = heapOf (sizesIn w) w in
         let st = heapOf-stands w k in
         let n-is : n ≡ length (rows s h) = counted ∙ ap length (these-stand w k) in
-        let f-is : f ≡ freePages s (graph h) =
-        free ∙ ap (λ (q : Sizes). freeIn q (w .tables)) e ∙ free-stands (sizesAt (w .tables)) (w .tables) (w .cells) (w .remember) h (λ c. c) st in
+        let f-is : f ≡ freePages s (graph h) = free ∙ ap (λ (q : Sizes). freeIn q t) e ∙ free-stands s t (w .cells) (w .remember) h (λ c. c) st in
         let x-is : x ≡ crossing (graph h) = cross ∙ heap-entries s w h (λ c. c) st in
-        record {
-          asked = accepted refl k (omega (arith, counted, these-length w));
-          result = ap₂ (λ (i j : ℕ). record { number = 0; rows = i; «free_pages» = j; «crossing_slots» = x }) n-is f-is
-              ∙ ap (λ (i : ℕ). record { number = 0; rows = length (rows s h); «free_pages» = freePages s (graph h); «crossing_slots» = i }) x-is;
-        }
+        let m-is : m ≡ h .counters .made = made ∙ ap (λ (q : Sizes). madeOf q t) e ∙ made-stands s t (w .cells) (w .remember) h (λ c. c) st in
+        let d-is : d ≡ h .counters .freed = freed ∙ ap (λ (q : Sizes). freedOf q t) e ∙ freed-stands s t (w .cells) (w .remember) h (λ c. c) st in
+        let v-is : v ≡ totalOf (rows s h) = total ∙ ap (λ (q : Sizes). totalOf (rowsIn q t)) e ∙ total-stands s t (w .cells) (w .remember) h (λ c. c) st in
+        record { asked = accepted refl k (omega (arith, counted, these-length w)); result = reporting-same n-is f-is x-is m-is d-is v-is }
 
 -- ---- rows written as asked for
 

@@ -2,13 +2,15 @@
 
 -- definitions: what must be read
 pub mod Report
--- and what they give in three runs
+-- and what they give in four runs
 pub mod Examples
 -- what the tables say
 pub mod Tables
 -- the numbers that pass a test, and the open regions one after the other
 pub mod Passing
 pub mod Opened
+-- the total of live objects
+pub mod Totals
 -- the tables say what the rules say of every heap
 pub mod Stands
 -- the rows in a lent list

@@ -1,8 +1,8 @@
 -- The report (01, "The questions, in order"): rows stand by region number: thread, level, objects, pages, the control space as thread 0
--- level 0; then free pages and crossing slots.
-use Prim.Native.Nat.{ℕ, zero, suc, _≤_, _<_}
+-- level 0; then free pages and crossing slots; then objects made, objects freed and the total of live objects (02, W2).
+use Prim.Native.Nat.{ℕ, zero, suc, _+_, _≤_, _<_}
 use mathlib.Core.Path.{_≡_}
-use mathlib.Core.List.{List, _++_, map}
+use mathlib.Core.List.{List, [], _∷_, _++_, map}
 use mathlib.Core.Bool.{Bool, cond, _||_}
 use lib.ListN.{length, getD, drop}
 use lib.Dec.{leb, eqb}
@@ -42,6 +42,11 @@ rows s h = map (λ q. rowWith s q (objectsIn (graph h) q)) (openRegions s (h .he
 abbrev pub noRow : Row
 noRow = record { thread = 0; level = 0; objects = 0; pages = 0 }
 
+-- the total of live objects: those of all rows
+unfoldable pub totalOf : List Row → ℕ
+totalOf [] = 0
+totalOf (r ∷ rs) = r .objects + totalOf rs
+
 -- ---- the questions 3 and 15 in order, of a lent list of so many rows: q is the first that says no, 0 if none does
 
 -- how many rows there are
@@ -55,13 +60,22 @@ pub data ReportAsked (w : Words) (room q : ℕ) : Type 0 where
 
 -- ---- the report, once the questions gave q
 
--- on refusal no row is written, and both figures are 0
+-- on refusal no row is written, and every figure is 0
 abbrev pub refusing : ℕ → Reported
-refusing q = record { number = q; rows = 0; «free_pages» = 0; «crossing_slots» = 0 }
+refusing q = record { number = q; rows = 0; «free_pages» = 0; «crossing_slots» = 0; made = 0; freed = 0; total = 0 }
 
 -- the result of a report on the heap h
 abbrev pub resultOf : Sizes → Regioned → ℕ → Reported
-resultOf s h zero = record { number = 0; rows = length (rows s h); «free_pages» = freePages s (graph h); «crossing_slots» = crossing (graph h) }
+resultOf s h zero =
+    record {
+      number = 0;
+      rows = length (rows s h);
+      «free_pages» = freePages s (graph h);
+      «crossing_slots» = crossing (graph h);
+      made = h .counters .made;
+      freed = h .counters .freed;
+      total = totalOf (rows s h);
+    }
 resultOf s h (suc q) = refusing (suc q)
 
 -- and the rows that it leaves of those lent: its own, then the spare rows as they were; on refusal all of them as they were

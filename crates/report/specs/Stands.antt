@@ -2,24 +2,25 @@
 use Prim.Native.Nat.{ℕ, suc, _+_, _≤_, _<_}
 use native.Mathlib.Omega.{arith}
 use native.Mathlib.Decide.{decLt}
-use mathlib.Core.Path.{_≡_, sym, ap, subst, _∙_}
+use mathlib.Core.Path.{_≡_, sym, ap, subst, subst₂, _∙_}
 use mathlib.Core.List.{List, map}
 use lib.ListN.{length, getD, length-map}
 use Rattle.lists.specs.Counting.{sum, sum-same, sum-more, sum-high}
 use Rattle.rules.specs.Regions.{regionAt, regions}
 use Rattle.rules.specs.Graph.{objectsIn, freePages}
-use Rattle.rules.specs.Rules.{Regioned, graph}
+use Rattle.rules.specs.Rules.{Counters, Leaves, Regioned, graph}
 use Rattle.rules.specs.declared.Sizes.{Sizes}
-use Rattle.layout.specs.Places.{depthOf}
+use Rattle.layout.specs.Places.{depthOf, madeOf, freedOf}
 use Rattle.layout.specs.Words.{words, depthsAt}
 use Rattle.promises.specs.StandsFor.{StandsFor}
 use Rattle.promises.specs.Reading.{depth-at}
 use Rattle.promises.specs.Agreed.{objects-agree}
 use Rattle.promises.specs.OwnedPages.{counted-objects, heap-free}
-use Rattle.report.specs.Report.{isOpen, openRegions, rowWith, rows}
+use Rattle.report.specs.Report.{isOpen, openRegions, rowWith, rows, totalOf}
 use Rattle.report.specs.Passing.{map-passing}
 use Rattle.report.specs.Opened.{Turn, rows-counted, turn-level}
 use Rattle.report.specs.Tables.{WholeTables, rowIn, rowsIn, freeIn}
+use Rattle.report.specs.Totals.{total-left}
 
 module _ (p : Sizes) (t : List ℕ) (k : WholeTables p t) where
   abbrev depths : List ℕ
@@ -81,3 +82,16 @@ module _ (p : Sizes) (t : List ℕ) (c m : List ℕ) (h : Regioned) (cellOf : �
 
   pub free-stands : freeIn p t ≡ freePages p (graph h)
   free-stands = heap-free p (words c m t) h cellOf st
+
+  pub made-stands : madeOf p t ≡ h .counters .made
+  made-stands = sym (ap (λ (k : Counters). k .made) (st .counters))
+
+  pub freed-stands : freedOf p t ≡ h .counters .freed
+  freed-stands = sym (ap (λ (k : Counters). k .freed) (st .counters))
+
+  pub total-stands : totalOf (rowsIn p t) ≡ totalOf (rows p h)
+  total-stands = ap totalOf rows-stand
+
+  -- the total is made less freed
+  pub total-leaves : Leaves (h .counters) (totalOf (rows p h))
+  total-leaves = subst₂ Leaves (sym (st .counters)) total-stands (total-left p t (record { cells = c; remember = m; whole = st .whole }))

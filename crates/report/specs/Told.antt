@@ -1,19 +1,23 @@
 -- A report said of the heap that the words make is right of every heap that they stand for; and it says all of the result and of the rows left.
-use Prim.Native.Nat.{ℕ, zero, suc}
+use Prim.Native.Nat.{ℕ, zero, suc, _+_}
 use native.Mathlib.Omega.{arith}
-use mathlib.Core.Path.{_≡_, refl, sym, ap, ap₂, _∙_}
+use mathlib.Core.Path.{_≡_, refl, sym, ap, _∙_}
 use mathlib.Core.List.{List, _++_}
-use lib.ListN.{length, drop}
+use lib.ListN.{length, take, drop}
+use lib.Seq.{take-at}
+use Rattle.rules.specs.declared.Sizes.{Sizes}
 use Rattle.rules.specs.Graph.{crossing, freePages}
-use Rattle.rules.specs.Rules.{Regioned, graph}
-use Rattle.layout.specs.Words.{Words, sizesIn, heapOf}
+use Rattle.rules.specs.Rules.{Counters, counted, Regioned, graph}
+use Rattle.layout.specs.Words.{Words, sizesIn, madeIn, freedIn, heapOf}
+use Rattle.promises.specs.Whole.{WholeWords}
 use Rattle.promises.specs.StandsFor.{StandsFor}
-use Rattle.promises.specs.Agreed.{heap-stands}
+use Rattle.promises.specs.Agreed.{heap-stands, heapOf-stands}
 use Rattle.promises.specs.Crossings.{heap-entries}
 use Rattle.report.specs.declared.Row.{Row}
 use Rattle.report.specs.declared.Reported.{Reported}
-use Rattle.report.specs.Report.{rows, ReportAsked, notWhole, short, accepted, resultOf, leftOf, Told}
-use Rattle.report.specs.Stands.{rows-stand, free-stands}
+use Rattle.report.specs.Report.{rows, ReportAsked, notWhole, short, accepted, resultOf, leftOf, totalOf, Told}
+use Rattle.report.specs.Stands.{rows-stand, free-stands, total-leaves}
+use Rattle.report.specs.Lent.{reporting-same}
 
 module _ (w : Words) (h : Regioned) (cellOf : ℕ → ℕ) (st : StandsFor (sizesIn w) w h cellOf) where
   stands-here : StandsFor (sizesIn w) w (heapOf (sizesIn w) w) (λ x. x)
@@ -32,10 +36,12 @@ module _ (w : Words) (h : Regioned) (cellOf : ℕ → ℕ) (st : StandsFor (size
   same-crossing : crossing (graph (heapOf (sizesIn w) w)) ≡ crossing (graph h)
   same-crossing = sym (heap-entries (sizesIn w) w (heapOf (sizesIn w) w) (λ x. x) stands-here) ∙ heap-entries (sizesIn w) w h cellOf st
 
+  same-counters : heapOf (sizesIn w) w .counters ≡ h .counters
+  same-counters = stands-here .counters ∙ sym (st .counters)
+
   same-result : (q : ℕ) → resultOf (sizesIn w) (heapOf (sizesIn w) w) q ≡ resultOf (sizesIn w) h q
   same-result zero =
-      ap₂ (λ (l : List Row) (n : ℕ). record { number = 0; rows = length l; «free_pages» = n; «crossing_slots» = crossing (graph (heapOf (sizesIn w) w)) }) same-rows same-free
-      ∙ ap (λ (n : ℕ). record { number = 0; rows = length (rows (sizesIn w) h); «free_pages» = freePages (sizesIn w) (graph h); «crossing_slots» = n }) same-crossing
+      reporting-same (ap length same-rows) same-free same-crossing (ap (λ (k : Counters). k .made) same-counters) (ap (λ (k : Counters). k .freed) same-counters) (ap totalOf same-rows)
   same-result (suc q) = refl
 
   same-left : (lent : List Row) (q : ℕ) → leftOf (sizesIn w) (heapOf (sizesIn w) w) lent q ≡ leftOf (sizesIn w) h lent q
@@ -62,3 +68,39 @@ pub told-once : {w : Words} {lent : List Row} {r r′ : Reported} {left left′ 
 told-once {w} {lent} t u =
     let e = asked-once (t .asked) (u .asked) in
     (t .result ∙ ap (resultOf (sizesIn w) (heapOf (sizesIn w) w)) e ∙ sym (u .result), t .rows-left ∙ ap (leftOf (sizesIn w) (heapOf (sizesIn w) w) lent) e ∙ sym (u .rows-left))
+
+asked-whole : {w : Words} {room q : ℕ} → ReportAsked w room q → q ≡ 0 → WholeWords w
+asked-whole (notWhole e n) z = absurd (let y : ⊥ = omega arith in y)
+asked-whole (short e k l) z = k
+asked-whole (accepted e k l) z = k
+
+-- where it is not refused: made and freed are the counters of the words, the total is that of the rows that it wrote, and made less freed
+pub record CountedReport (w : Words) (r : Reported) (left : List Row) : Type 0 where
+  pub made : r .made ≡ madeIn (sizesIn w) w
+  pub freed : r .freed ≡ freedIn (sizesIn w) w
+  pub total : r .total ≡ totalOf (take (r .rows) left)
+  pub leaves : counted (r .total + r .freed) ≡ r .made
+
+pub told-counted : (w : Words) (lent : List Row) (r : Reported) (left : List Row) → Told w lent r left → r .number ≡ 0 → CountedReport w r left
+told-counted w lent r left t z = record {
+  made = ap (λ (x : Reported). x .made) result ∙ ap (λ (k : Counters). k .made) (st .counters);
+  freed = ap (λ (x : Reported). x .freed) result ∙ ap (λ (k : Counters). k .freed) (st .counters);
+  total = ap (λ (x : Reported). x .total) result ∙ ap totalOf (sym written-rows);
+  leaves = ap (λ (x : Reported). counted (x .total + x .freed)) result ∙ total-leaves s (w .tables) (w .cells) (w .remember) h (λ c. c) st ∙ sym (ap (λ (x : Reported). x .made) result);
+}
+  where
+    s : Sizes
+    s = sizesIn w
+
+    h : Regioned
+    h = heapOf s w
+
+    st : StandsFor s w h (λ c. c)
+    st = heapOf-stands w (asked-whole (t .asked) z)
+
+    result : r ≡ resultOf s h 0
+    result = t .result ∙ ap (resultOf s h) z
+
+    written-rows : take (r .rows) left ≡ rows s h
+    written-rows =
+        ap (take (r .rows)) (t .rows-left ∙ ap (leftOf s h lent) z) ∙ take-at (rows s h) (drop (length (rows s h)) lent) (r .rows) (sym (ap (λ (x : Reported). x .rows) result))

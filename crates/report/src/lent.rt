@@ -24,6 +24,9 @@ fn refused(number: u32) -> Reported
         rows: 0,
         free_pages: 0,
         crossing_slots: 0,
+        made: 0,
+        freed: 0,
+        total: 0,
     }
 }
 
@@ -44,6 +47,9 @@ fn ask(cells: &[u32], remember: &[u32], tables: &[u32], room: usize) -> Reported
         rows: rows as u32,
         free_pages: crate::free_pages(p, tables),
         crossing_slots: crate::crossing_slots(remember),
+        made: crate::made(p, tables),
+        freed: crate::freed(p, tables),
+        total: crate::total(p, tables),
     }
 }
 
@@ -76,9 +82,9 @@ fn fill(rows: &mut [Row], tables: &[u32], n: usize)
     }
 }
 
-// Writes a row for the control space and each open region, by region number. Gives 0 with how many these are, free pages and crossing
-// slots; or on refusal, with no row written and the other words 0, 3 for tables that are not whole, 15 for too few rows. Spare rows never
-// change.
+// Writes a row for the control space and each open region, by region number. Gives 0 with how many these are, free pages, crossing
+// slots, and objects made, freed and there; or on refusal, with no row written and the other words 0, 3 for tables that are not whole, 15
+// for too few rows. Spare rows never change.
 #[no_mangle]
 pub extern "C" fn taldreku_report(
     cells: &[u32],

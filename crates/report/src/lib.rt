@@ -1,11 +1,11 @@
-// The report (01): a row for the control space and each open region, by region number, then free pages and crossing slots. It reads the
-// tables and changes none of them.
+// The report (01; 02, W2): a row for the control space and each open region, by region number, then free pages and crossing slots, then
+// objects made, objects freed and the total of live objects. It reads the tables and changes none of them.
 ghost use mathlib.Core.Path.{_≡_};
 ghost use Prim.Native.Nat.{_+_, _<_, _≤_};
 ghost use lib.ListN.{length, getD};
-ghost use Rattle.layout.specs.Places.{entriesUsed};
+ghost use Rattle.layout.specs.Places.{entriesUsed, madeOf, freedOf};
 ghost use Rattle.layout.specs.Words.{depthsAt};
-ghost use Rattle.report.specs.Report.{rowOf, noRow};
+ghost use Rattle.report.specs.Report.{rowOf, noRow, totalOf};
 ghost use Rattle.report.specs.Opened.{Next, Turn};
 ghost use Rattle.report.specs.Tables.{WholeTables, rowIn, rowsIn, freeIn};
 ghost use Rattle.rules.specs.Regions.{regions};
@@ -22,13 +22,16 @@ pub struct Row {
     pub pages: u32,
 }
 
-// 0 if the rows were written, else the number of the question that said no; how many rows were written; and the two figures.
+// 0 if the rows were written, else the number of the question that said no; how many rows were written; and the figures.
 #[repr(C)]
 pub struct Reported {
     pub number: u32,
     pub rows: u32,
     pub free_pages: u32,
     pub crossing_slots: u32,
+    pub made: u32,
+    pub freed: u32,
+    pub total: u32,
 }
 
 // A row with the pages that so many objects use.
@@ -134,4 +137,29 @@ pub fn crossing_slots(remember: &[u32]) -> u32
     ensures { λ n. ⌜ n ≡ entriesUsed (now (remember .entry)) ⌝ }
 {
     layout::remember::used(remember)
+}
+
+// How many objects were made since prepare, modulo 4,294,967,296, and how many freed.
+pub fn made(p: Sizes, tables: &[u32]) -> u32
+    requires { ⌜ WholeTables p (now tables) ⌝ }
+    ensures { λ n. ⌜ n ≡ madeOf p (now (tables .entry)) ⌝ }
+{
+    layout::tables::made(p, tables)
+}
+
+pub fn freed(p: Sizes, tables: &[u32]) -> u32
+    requires { ⌜ WholeTables p (now tables) ⌝ }
+    ensures { λ n. ⌜ n ≡ freedOf p (now (tables .entry)) ⌝ }
+{
+    layout::tables::freed(p, tables)
+}
+
+// How many objects all rows have: those made less those freed.
+pub fn total(p: Sizes, tables: &[u32]) -> u32
+    requires { ⌜ WholeTables p (now tables) ⌝ }
+    ensures { λ n. ⌜ n ≡ totalOf (rowsIn p (now (tables .entry))) ⌝ }
+{
+    let all = made(p, tables);
+    let gone = freed(p, tables);
+    std::num::wrapping_sub_u32(all, gone)
 }

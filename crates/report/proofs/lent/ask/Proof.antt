@@ -51,11 +51,20 @@ free-pages-requires c κs = whole-tables (c .before .before .before .before .who
 crossing-slots-requires : tie.Need-crossing-slots-requires
 crossing-slots-requires c κs = entries-there (c .before .before .before .before .before .whole .ensures .0 (not-is _ (c .before .before .before .before .if1 .left)) .sized)
 
+made-requires : tie.Need-made-requires
+made-requires c κs = whole-tables (c .before .before .before .before .before .before .whole .ensures .0 (not-is _ (c .before .before .before .before .before .if1 .left))) (c .before .before .before .before .read-sizes .ensures)
+
+freed-requires : tie.Need-freed-requires
+freed-requires c κs = whole-tables (c .before .before .before .before .before .before .before .whole .ensures .0 (not-is _ (c .before .before .before .before .before .before .if1 .left))) (c .before .before .before .before .before .read-sizes .ensures)
+
+total-requires : tie.Need-total-requires
+total-requires c κs = whole-tables (c .before .before .before .before .before .before .before .before .whole .ensures .0 (not-is _ (c .before .before .before .before .before .before .before .if1 .left))) (c .before .before .before .before .before .before .read-sizes .ensures)
+
 returns-3 : tie.Need-returns-3
 returns-3 c =
-    let a = c .before .before .before .before .before .before .before .before .before .before .args in
-    asking-all (words (a .cells .now) (a .remember .now) (a .tables .now)) (a .room) (c .before .before .before .before .before .before .whole .ensures .0 (not-is _ (c .before .before .before .before .before .if1 .left))) (c .before .before .before .before .read-sizes .result) (c .before .before .before .before .read-sizes .ensures) (c .before .before .before .row-count .result) (c .before .before .before .row-count .ensures)
-    (c .before .free-pages .result) (c .crossing-slots .result) (c .before .before .if2 .left) (c .before .free-pages .ensures) (c .crossing-slots .ensures)
+    let a = c .before .before .before .before .before .before .before .before .before .before .before .before .before .args in
+    asking-all (words (a .cells .now) (a .remember .now) (a .tables .now)) (a .room) (c .before .before .before .before .before .before .before .before .before .whole .ensures .0 (not-is _ (c .before .before .before .before .before .before .before .before .if1 .left))) (c .before .before .before .before .before .before .before .read-sizes .result) (c .before .before .before .before .before .before .before .read-sizes .ensures) (c .before .before .before .before .before .before .row-count .result) (c .before .before .before .before .before .before .row-count .ensures)
+    (c .before .before .before .before .free-pages .result) (c .before .before .before .crossing-slots .result) (c .before .before .made .result) (c .before .freed .result) (c .total .result) (c .before .before .before .before .before .if2 .left) (c .before .before .before .before .free-pages .ensures) (c .before .before .before .crossing-slots .ensures) (c .before .before .made .ensures) (c .before .freed .ensures) (c .total .ensures)
 
 pub ask-spec : {M : Type 1} → statement M
 ask-spec =
@@ -71,4 +80,7 @@ ask-spec =
     cast-t9
     free-pages-requires
     crossing-slots-requires
+    made-requires
+    freed-requires
+    total-requires
     returns-3)

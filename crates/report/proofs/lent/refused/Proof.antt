@@ -1,4 +1,4 @@
--- No row is to be written, and both figures are 0.
+-- No row is to be written, and every figure is 0.
 use mathlib.Core.Path.{refl}
 use Rattle.report.proofs.lent.refused.Statement.{statement}
 use Rattle.report.proofs.lent.refused.Tie as tie

@@ -67,7 +67,7 @@ stayed = (stay-none-slice (0 ∷ []) tt (plain (λ _. u32)) yes, (stay-none-slic
 
 -- the result as a machine value
 abbrev mach : Reported → Val
-mach r = vstruct (vcons (vint w32 (r .number)) (vcons (vint w32 (r .rows)) (vcons (vint w32 (r .«free_pages»)) (vcons (vint w32 (r .«crossing_slots»)) vnil))))
+mach r = vstruct (vcons (vint w32 (r .number)) (vcons (vint w32 (r .rows)) (vcons (vint w32 (r .«free_pages»)) (vcons (vint w32 (r .«crossing_slots»)) (vcons (vint w32 (r .made)) (vcons (vint w32 (r .freed)) (vcons (vint w32 (r .total)) vnil)))))))
 
 spelled : (r : Reported) (u : Val) → Is R.the-row r (u ∷ []) → u ∷ [] ≡ mach r ∷ []
 spelled r u is = LL.tells R.the-type R′.the-laws r (u ∷ []) is
