@@ -187,7 +187,7 @@ module _ {s : Sizes} {t l r : ℕ} {w w₁ : Words} (b : Ending s t l r w w₁) 
       pub release-ask : Room s (length T₂) × (depthOf T₂ t ≡ l)
       release-ask = (room₂ moved Y, word₂ moved Y (depthAt t) (λ z. omega (arith, b .thread)) ∙ b .level)
 
-      module _ {n : ℕ} {W₄ T′ : List ℕ} (f : n ≡ freedBy s (graphOf s w) r) (Z : Ended s r t n T₂ T′) (X : Emptied s r (s .pages) T₂ W₃ W₄) where
+      module _ {n : ℕ} {W₄ T′ : List ℕ} (Z : Ended s r t n T₂ T′) (f : n ≡ freedBy s (graphOf s w) r) (X : Emptied s r (s .pages) T₂ W₃ W₄) where
         a : Room s (length T₂)
         a = room₂ moved Y
 

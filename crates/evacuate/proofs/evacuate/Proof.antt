@@ -1,11 +1,8 @@
 -- What each stage asks follows from what the earlier ones leave.
-use Prim.Native.Nat.{_-_}
 use native.Mathlib.Omega.{arith}
-use mathlib.Core.Path.{_≡_, ap, _∙_}
+use mathlib.Core.Path.{ap, _∙_}
 use borrow.Author.Needs.{needs}
-use Rattle.rules.specs.Graph.{freedBy}
 use Rattle.layout.specs.Places.{countOf}
-use Rattle.layout.specs.Words.{words, graphOf}
 use Rattle.ending.specs.Rewriting.{rewritten-both}
 use Rattle.ending.specs.Finish.{variables-ask, regular₂}
 use Rattle.ending.specs.Ending.{level-low, room-now}
@@ -95,9 +92,8 @@ returns c cells tables e a =
     let p = plan e (a .pages) in
     let k = c .before .before .before .before .before .before .before .before .before .before .before .before .before .before .before .before .before .before .before .before .before .before .before .before .before .before .before .before .before .before .before .before .before .before .copy-survivors .ensures in
     let h = st.moved e p k in
-    let freed : count .result - survivors .result ≡ freedBy (args .p) (graphOf (args .p) (words cells (args .remember .now) tables)) (args .region) =
-    omega (arith, count .ensures, ap (countOf (args .p) (args .tables .now)) (c .before .before .before .before .before .before .before .before .before .before .before .before .before .before .before .before .before .before .before .before .before .before .before .before .before .before .before .before .before .before .before .before .before .before .before .before .before .before .before .wide .ensures), survivors .ensures, st.freed-rest e) in
-    st.has-ended e p k (c .before .before .before .before .before .before .before .before .before .before .before .before .rewrite-variables .ensures) freed (release .ensures .0) (release .ensures .1)
+    st.has-ended e p k (c .before .before .before .before .before .before .before .before .before .before .before .before .rewrite-variables .ensures) (release .ensures .0)
+    (omega (arith, count .ensures, ap (countOf (args .p) (args .tables .now)) (c .before .before .before .before .before .before .before .before .before .before .before .before .before .before .before .before .before .before .before .before .before .before .before .before .before .before .before .before .before .before .before .before .before .before .before .before .before .before .before .wide .ensures), survivors .ensures, st.freed-rest e)) (release .ensures .1)
     (rewritten-both h (st.held e) (c .before .before .before .before .before .before .before .before .before .before .before .before .before .before .before .before .before .before .before .before .before .before .before .before .before .rewrite-slots .ensures) (settle .ensures .0)) (settle .ensures .1)
 
 pub evacuate-spec : {M : Type 1} → statement M
