@@ -4,6 +4,7 @@ use native.Mathlib.Decide.{ℕ-discrete}
 use mathlib.Core.Path.{_≡_}
 use mathlib.Core.List.{List, [], _∷_}
 use mathlib.Core.Bool.{cond}
+use lib.ListN.{take}
 use lib.Dec.{eqb}
 use Rattle.lists.specs.Counting.{bit}
 use Rattle.rules.specs.declared.Sizes.{Sizes}
@@ -16,6 +17,9 @@ use Rattle.rules.specs.Rules.{counted, Leaves}
 use Rattle.layout.specs.Words.{Words, sizesIn, depthIn, madeIn, freedIn, countersIn, graphOf}
 use Rattle.promises.specs.Whole.{liveOf}
 use Rattle.promises.specs.Promises.{Chain, none, more, commandsIn, answersIn, Ran}
+use Rattle.report.specs.declared.Row.{Row}
+use Rattle.report.specs.declared.Reported.{Reported}
+use Rattle.report.specs.Report.{totalOf, Told}
 use Rattle.demand.specs.DemandThree.{Block, Runs, stop, next}
 
 -- ---- made
@@ -64,9 +68,17 @@ objectsFreed (next {b = b} ran rest) = freedRun b ran (ℕ-discrete (b .number) 
 
 -- ---- the claim, of the words w that prepare wrote, the blocks bs, and the words w′ at the end
 
+-- a report that was not refused says so: both counters, and as its total the sum of the rows that it wrote, which is made less freed
+pub record Reports (made freed : ℕ) (r : Reported) (left : List Row) : Type 0 where
+  pub made-says : r .made ≡ counted made
+  pub freed-says : r .freed ≡ counted freed
+  pub total : r .total ≡ totalOf (take (r .rows) left)
+  pub leaves : Leaves (record { made = r .made; freed = r .freed }) (r .total)
+
 pub record Counted (s : Sizes) {w w′ : Words} {bs : List Block} (runs : Runs w bs w′) : Type 0 where
   -- the stored made is the number of code 3 commands that were done, the stored freed the number of objects that the ends that were done freed
   pub made : madeIn s w′ ≡ counted (objectsMade bs)
   pub freed : freedIn s w′ ≡ counted (objectsFreed runs)
   -- made less freed is the sum of the object counts
   pub live : Leaves (countersIn s w′) (liveOf s (w′ .tables))
+  pub report : (lent : List Row) (r : Reported) (left : List Row) → Told w′ lent r left → r .number ≡ 0 → Reports (objectsMade bs) (objectsFreed runs) r left

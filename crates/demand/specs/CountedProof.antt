@@ -29,6 +29,7 @@ use Rattle.promises.specs.Promises.{Became, Did, Chain, none, more, commandsIn,
 use Rattle.promises.specs.Reading.{depth-at, words-closed}
 use Rattle.promises.specs.Agreed.{heap-stands}
 use Rattle.promises.specs.Preparing.{prepared-stands}
+use Rattle.report.specs.Told.{told-counted}
 use Rattle.demand.specs.DemandThree.{Block, Runs, stop, next}
 use Rattle.demand.specs.Counted.{madeOne, madeBy, objectsMade, freedOn, freedOne, freedThrough, freedRun, objectsFreed, Counted}
 
@@ -204,8 +205,19 @@ counted-three s lent w p bs w′ runs =
       made = sym (ap (λ (k : Counters). k .made) (st .counters)) ∙ zero-is;
       freed = sym (ap (λ (k : Counters). k .freed) (st .counters)) ∙ zero-is;
     }) in
+    let made = r .made ∙ ap counted (let z : 0 + objectsMade bs ≡ objectsMade bs = omega arith in z) in
+    let freed = r .freed ∙ ap counted (let z : 0 + objectsFreed runs ≡ objectsFreed runs = omega arith in z) in
     record {
-      made = r .made ∙ ap counted (let z : 0 + objectsMade bs ≡ objectsMade bs = omega arith in z);
-      freed = r .freed ∙ ap counted (let z : 0 + objectsFreed runs ≡ objectsFreed runs = omega arith in z);
+      made = made;
+      freed = freed;
       live = r .whole .counters;
+      report = λ rows′ x left told z.
+          let q = told-counted w′ rows′ x left told z in
+          let same = r .whole .sized .sizes in
+          record {
+            made-says = q .made ∙ ap (λ (p : Sizes). madeIn p w′) same ∙ made;
+            freed-says = q .freed ∙ ap (λ (p : Sizes). freedIn p w′) same ∙ freed;
+            total = q .total;
+            leaves = q .leaves;
+          };
     }
