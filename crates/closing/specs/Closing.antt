@@ -87,7 +87,7 @@ idle {m} {stage} {w} a e = go (m .session) refl (ap begunAt (sym (a .stage-is)) 
 module _ {m : Machine} {stage : Stage} {w : Words} (a : At m stage w) where
   pub closed-begun : begunAt stage ≡ true → {out middle after : List ℕ} {x : Fed} {end : ℕ} {c mm t : List ℕ} → Feeds m (10 ∷ []) w out x middle (words c mm t)
       → ((y : Machine) (cells : List ℕ) → At y (x .stage) (words cells mm t) → Put middle (x .length) (endsWith (y .session)) after end)
-      → x .length + 5698 ≤ length out → end ≤ x .length + 5698 → Closes m w out end after (words c mm t)
+      → x .length + 5731 ≤ length out → end ≤ x .length + 5731 → Closes m w out end after (words c mm t)
   unfolding closePrints
   closed-begun e {out} {middle} {after} {x} {end} {c} {mm} {t} f p room low =
       let q = begun-missing a e in

@@ -12,9 +12,9 @@ use stages::Stage;
 // What is printed at the end of the input, after the last line.
 fn put_end(stage: Stage, remember: &[u32], tables: &[u32], out: &mut [u8], at: usize) -> usize
     requires { ⌜ ((cells : List ℕ) × Placed stage (words cells (now remember) (now tables))) ⌝ }
-    requires { ⌜ at + 5698 ≤ length (now out) ⌝ }
+    requires { ⌜ at + 5731 ≤ length (now out) ⌝ }
     ensures { λ r. ⌜ ((m : Machine) (cells : List ℕ) → At m stage (words cells (now (remember .entry)) (now (tables .entry))) → Put (now (out .entry)) at (endsWith (m .session)) (now (out .exit)) r) ⌝ }
-    ensures { λ r. ⌜ r ≤ at + 5698 ⌝ }
+    ensures { λ r. ⌜ r ≤ at + 5731 ⌝ }
 {
     match stage {
         Stage::Opening(_) => script::write::put_sizes(out, at),
@@ -31,10 +31,10 @@ pub fn close(
     tables: &mut [u32],
     out: &mut [u8],
 ) -> usize
-    requires { ⌜ (5746 ≤ length (now out)) × (lineOf stage + 1 < 18446744073709551616) ⌝ }
+    requires { ⌜ (5779 ≤ length (now out)) × (lineOf stage + 1 < 18446744073709551616) ⌝ }
     requires { ⌜ Placed stage (words (now cells) (now remember) (now tables)) ⌝ }
     ensures { λ r. ⌜ ((m : Machine) → At m stage (words (now (cells .entry)) (now (remember .entry)) (now (tables .entry))) → Closes m (words (now (cells .entry)) (now (remember .entry)) (now (tables .entry))) (now (out .entry)) r (now (out .exit)) (words (now (cells .exit)) (now (remember .exit)) (now (tables .exit)))) ⌝ }
-    ensures { λ r. ⌜ r ≤ 5746 ⌝ }
+    ensures { λ r. ⌜ r ≤ 5779 ⌝ }
 {
     if stages::is_begun(stage) {
         let fed = session::feed(stage, b"\n", cells, remember, tables, out);

@@ -20,7 +20,7 @@ use Rattle.printed.specs.Printed.{sizes, command, accepted, Session, opening, r
 pub record Lent (w : Words) : Type 0 where
   pub cells : length (w .cells) ≡ 8192
   pub remember : length (w .remember) ≡ 2050
-  pub tables : length (w .tables) ≡ 758
+  pub tables : length (w .tables) ≡ 760
 
 -- the words stand for a heap
 pub record Here (w : Words) : Type 0 where

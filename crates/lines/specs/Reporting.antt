@@ -1,23 +1,23 @@
--- The report as text: its rows, and the two figures.
+-- The report as text: its rows, and the two lines of figures.
 use Prim.Native.Nat.{ℕ, _+_, _*_, _≤_, _<_}
 use native.Mathlib.Omega.{arith}
 use native.Mathlib.Numerals.{add-one}
-use mathlib.Core.Path.{_≡_, refl, sym, ap, ap₂, subst, _∙_}
+use mathlib.Core.Path.{_≡_, refl, sym, ap, subst, _∙_}
 use mathlib.Core.List.{List, [], _∷_, _++_, append-assoc, append-nil}
 use lib.ListN.{length, getD, take, length-append}
 use lib.Seq.{take-suc, take-length}
 use Rattle.rules.specs.declared.Sizes.{Sizes}
 use Rattle.rules.specs.Graph.{crossing, freePages}
 use Rattle.rules.specs.Rules.{Regioned, graph}
-use Rattle.layout.specs.Places.{sizesAt, entriesUsed}
+use Rattle.layout.specs.Places.{sizesAt, entriesUsed, madeOf, freedOf}
 use Rattle.layout.specs.Words.{words}
 use Rattle.promises.specs.Whole.{WholeFor}
 use Rattle.promises.specs.StandsFor.{StandsFor}
 use Rattle.promises.specs.Crossings.{heap-entries}
 use Rattle.report.specs.declared.Row.{Row}
-use Rattle.report.specs.Report.{rows, noRow}
+use Rattle.report.specs.Report.{rows, noRow, totalOf}
 use Rattle.report.specs.Tables.{WholeTables, rowsIn, freeIn}
-use Rattle.report.specs.Stands.{rows-stand, free-stands}
+use Rattle.report.specs.Stands.{rows-stand, free-stands, made-stands, freed-stands}
 use Rattle.script.specs.Writing.{row, Put}
 use Rattle.script.specs.WritingLaws.{word-length, put-text, put-put}
 use Rattle.script.specs.Blocks.{stacked}
@@ -35,6 +35,14 @@ rows-append (x ∷ xs) ys = ap (λ (t : List ℕ). rowText x ++ t) (rows-append 
 four-length : (a b c d : ℕ) → a < 4294967296 → b < 4294967296 → c < 4294967296 → d < 4294967296 → length (row (a ∷ b ∷ c ∷ d ∷ [])) ≤ 44
 unfolding row
 four-length a b c d la lb lc ld = simp length-append (omega (arith, word-length a la, word-length b lb, word-length c lc, word-length d ld))
+
+three-length : (a b c : ℕ) → a < 4294967296 → b < 4294967296 → c < 4294967296 → length (row (a ∷ b ∷ c ∷ [])) ≤ 33
+unfolding row
+three-length a b c la lb lc = simp length-append (omega (arith, word-length a la, word-length b lb, word-length c lc))
+
+-- a line of two numbers ends 22 bytes further on at most
+pub figures-end : {bytes after : List ℕ} {at end a b : ℕ} → Put bytes at (row (a ∷ b ∷ [])) after end → a < 4294967296 → b < 4294967296 → end ≤ at + 22
+figures-end {a = a} {b = b} p la lb = omega (arith, p .end-is, two-length a b la lb)
 
 pub rows-none : (rs : List Row) (out : List ℕ) (at : ℕ) → Put out at (rowsText (take 0 rs)) out at
 unfolding rowsText stacked
@@ -67,20 +75,31 @@ module _ {c m t : List ℕ} {p : Sizes} (here : Here (words c m t)) (sizes-are :
       let k : WholeFor (sizesAt t) (words c m t) = subst (λ (s : Sizes). WholeFor s (words c m t)) (sym (here .stands .whole .sized .sizes)) (here .stands .whole) in
       subst (λ (q : Sizes). WholeTables q t) (sym sizes-are) (record { cells = c; remember = m; whole = k })
 
-  module _ {out middle after : List ℕ} {at i end free slots : ℕ} (room : at + 5698 ≤ length out)
-      (rows-put : Put out at (rowsText (rowsIn p t)) middle i) (low : i ≤ at + 5676) (fits : (free < 4294967296) × (slots < 4294967296))
-      (last : Put middle i (row (free ∷ slots ∷ [])) after end) where
-    pub report-end : end ≤ at + 5698
-    report-end = omega (arith, last .end-is, two-length free slots (fits .0) (fits .1))
+  module _ {out middle figured after : List ℕ} {at i j end free slots made freed total : ℕ} (room : at + 5731 ≤ length out)
+      (rows-put : Put out at (rowsText (rowsIn p t)) middle i) (low : i ≤ at + 5676)
+      (fits : (free < 4294967296) × (slots < 4294967296) × (made < 4294967296) × (freed < 4294967296) × (total < 4294967296))
+      (figures : Put middle i (row (free ∷ slots ∷ [])) figured j) (last : Put figured j (row (made ∷ freed ∷ total ∷ [])) after end) where
+    two-low : length (row (free ∷ slots ∷ [])) ≤ 22
+    two-low = two-length free slots (fits .0) (fits .1)
 
-    pub report-put : free ≡ freeIn p t → slots ≡ entriesUsed m
+    three-low : length (row (made ∷ freed ∷ total ∷ [])) ≤ 33
+    three-low = three-length made freed total (fits .2) (fits .3) (fits .4)
+
+    pub report-end : end ≤ at + 5731
+    report-end = omega (arith, figures .end-is, last .end-is, two-low, three-low)
+
+    pub report-put : free ≡ freeIn p t → slots ≡ entriesUsed m → made ≡ madeOf p t → freed ≡ freedOf p t → total ≡ totalOf (rowsIn p t)
         → (s : Sizes) (h : Regioned) (cells : List ℕ) (cellOf : ℕ → ℕ) → StandsFor s (words cells m t) h cellOf → Put out at (reported s h) after end
     unfolding reported
-    report-put free-is slots-are s h cells cellOf st =
+    report-put free-is slots-are made-are freed-are total-is s h cells cellOf st =
         let sized : p ≡ s = sizes-are ∙ st .whole .sized .sizes in
         let here : StandsFor p (words cells m t) h cellOf = subst (λ (x : Sizes). StandsFor x (words cells m t) h cellOf) (sym sized) st in
         let rs : rowsIn p t ≡ rows s h = rows-stand p t cells m h cellOf here ∙ ap (λ (x : Sizes). rows x h) sized in
         let fs : free ≡ freePages s (graph h) = free-is ∙ free-stands p t cells m h cellOf here ∙ ap (λ (x : Sizes). freePages x (graph h)) sized in
         let ss : slots ≡ crossing (graph h) = slots-are ∙ heap-entries s (words cells m t) h cellOf st in
-        put-text (ap₂ (λ (a b : List ℕ). a ++ b) (ap rowsText rs) (ap₂ (λ (a b : ℕ). row (a ∷ b ∷ [])) fs ss))
-        (put-put (omega (arith, rows-put .end-is, two-length free slots (fits .0) (fits .1))) rows-put last)
+        let ms : made ≡ h .counters .made = made-are ∙ made-stands p t cells m h cellOf here in
+        let ds : freed ≡ h .counters .freed = freed-are ∙ freed-stands p t cells m h cellOf here in
+        let ts : total ≡ totalOf (rows s h) = total-is ∙ ap totalOf rs in
+        put-text (λ x. rowsText (rs x) ++ row (fs x ∷ ss x ∷ []) ++ row (ms x ∷ ds x ∷ ts x ∷ []))
+        (put-put (omega (arith, rows-put .end-is, length-append (rowsText (rowsIn p t)) (row (free ∷ slots ∷ [])), two-low, three-low))
+        (put-put (omega (arith, rows-put .end-is, two-low)) rows-put figures) last)

@@ -52,15 +52,19 @@ fn put_rows(p: Sizes, tables: &[u32], out: &mut [u8], at: usize) -> usize
     end
 }
 
-// The report, from a position on.
+// The report, from a position on: its rows, a line of 22 bytes at most and one of 33.
 pub fn put_report(remember: &[u32], tables: &[u32], out: &mut [u8], at: usize) -> usize
     requires { ⌜ ((cells : List ℕ) × Here (words cells (now remember) (now tables))) ⌝ }
-    requires { ⌜ at + 5698 ≤ length (now out) ⌝ }
+    requires { ⌜ at + 5731 ≤ length (now out) ⌝ }
     ensures { λ r. ⌜ ((s : Sizes) (h : Regioned) (cells : List ℕ) (cellOf : ℕ → ℕ) → StandsFor s (words cells (now (remember .entry)) (now (tables .entry))) h cellOf → Put (now (out .entry)) at (reported s h) (now (out .exit)) r) ⌝ }
-    ensures { λ r. ⌜ r ≤ at + 5698 ⌝ }
+    ensures { λ r. ⌜ r ≤ at + 5731 ⌝ }
 {
     let p = layout::read_sizes(tables);
     let end = put_rows(p, tables, out, at);
     let free = report::free_pages(p, tables);
-    script::write::put_two(out, end, free, report::crossing_slots(remember))
+    let last = script::write::put_two(out, end, free, report::crossing_slots(remember));
+    let made = report::made(p, tables);
+    let freed = report::freed(p, tables);
+    let total = report::total(p, tables);
+    script::write::put_three(out, last, made, freed, total)
 }

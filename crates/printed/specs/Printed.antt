@@ -1,4 +1,4 @@
--- What the program prints for every input (01, "The program"), by the region rules alone: nothing here knows of words, blocks or pieces.
+-- What the program prints for every input (01, "The program"; 02, W2), by the region rules alone: nothing here knows of words, blocks or pieces.
 use Prim.Native.Nat.{ℕ, _+_}
 use mathlib.Core.List.{List, [], _∷_, _++_}
 use mathlib.Core.Bool.{Bool, cond, _&&_}
@@ -9,7 +9,7 @@ use Rattle.rules.specs.declared.Answer.{Answer}
 use Rattle.rules.specs.Graph.{crossing, freePages}
 use Rattle.rules.specs.Rules.{Regioned, graph, unused, step}
 use Rattle.report.specs.declared.Row.{Row}
-use Rattle.report.specs.Report.{rows}
+use Rattle.report.specs.Report.{rows, totalOf}
 use Rattle.script.specs.declared.Line.{Line}
 use Rattle.script.specs.declared.Line.the-variants.{Numbers, Malformed}
 use Rattle.script.specs.Text.{textSays}
@@ -41,9 +41,10 @@ unfoldable pub rowsText : List Row → List ℕ
 rowsText [] = []
 rowsText (r ∷ rs) = rowText r ++ rowsText rs
 
--- the report's rows, then free pages and crossing slots
+-- the report's rows, then free pages and crossing slots, then objects made, objects freed and the total of live objects
 unfoldable pub reported : Sizes → Regioned → List ℕ
 reported s h = rowsText (rows s h) ++ row (freePages s (graph h) ∷ crossing (graph h) ∷ [])
+    ++ row (h .counters .made ∷ h .counters .freed ∷ totalOf (rows s h) ∷ [])
 
 -- ---- line by line
 

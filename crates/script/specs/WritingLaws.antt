@@ -160,6 +160,14 @@ module _ {bytes after : List ℕ} {at : ℕ} where
       put-text (append-snoc (decimal a) 32 (decimal b ++ (10 ∷ [])))
       (put-put (simp length-append (omega (arith, word-length a la, word-length b lb))) p q)
 
+  pub put-three : {x y : List ℕ} {i j end : ℕ} (a b c : ℕ) → a < 4_294_967_296 → b < 4_294_967_296 → c < 4_294_967_296 → at + 33 ≤ length bytes
+      → Put bytes at (decimal a ++ (32 ∷ [])) x i → Put x i (decimal b ++ (32 ∷ [])) y j → Put y j (decimal c ++ (10 ∷ [])) after end → Put bytes at (row (a ∷ b ∷ c ∷ [])) after end
+  unfolding row
+  put-three a b c la lb lc room p q r =
+      put-text (simp append-assoc)
+      (put-put (simp length-append (omega (arith, word-length a la, word-length b lb, word-length c lc)))
+      (put-put (simp length-append (omega (arith, word-length a la, word-length b lb))) p q) r)
+
   pub put-four : {x y z : List ℕ} {i j k end : ℕ} (a b c d : ℕ) → a < 4_294_967_296 → b < 4_294_967_296 → c < 4_294_967_296 → d < 4_294_967_296
       → at + 44 ≤ length bytes → Put bytes at (decimal a ++ (32 ∷ [])) x i → Put x i (decimal b ++ (32 ∷ [])) y j → Put y j (decimal c ++ (32 ∷ [])) z k
       → Put z k (decimal d ++ (10 ∷ [])) after end → Put bytes at (row (a ∷ b ∷ c ∷ d ∷ [])) after end

@@ -47,6 +47,16 @@ pub fn put_two(out: &mut [u8], at: usize, a: u32, b: u32) -> usize
     put_then(out, second, b as u64, 10)
 }
 
+// A line of three numbers: objects made, objects freed and the total of live objects.
+pub fn put_three(out: &mut [u8], at: usize, a: u32, b: u32, c: u32) -> usize
+    requires { ⌜ at + 33 ≤ length (now out) ⌝ }
+    ensures { λ r. ⌜ Put (now (out .entry)) at (row (a ∷ b ∷ c ∷ [])) (now (out .exit)) r ⌝ }
+{
+    let second = put_then(out, at, a as u64, 32);
+    let third = put_then(out, second, b as u64, 32);
+    put_then(out, third, c as u64, 10)
+}
+
 // A line of four numbers: a row of the report.
 pub fn put_four(out: &mut [u8], at: usize, a: u32, b: u32, c: u32, d: u32) -> usize
     requires { ⌜ at + 44 ≤ length (now out) ⌝ }

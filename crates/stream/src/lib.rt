@@ -207,7 +207,7 @@ pub fn serve(fd: i32) -> Served
     let mut text = [0u8; 16384];
     let mut cells = [0u32; 8192];
     let mut remember = [0u32; 2050];
-    let mut tables = [0u32; 758];
+    let mut tables = [0u32; 760];
     let mut out = [0u8; 36084];
     go_on(
         fd,

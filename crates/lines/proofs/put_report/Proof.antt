@@ -1,7 +1,7 @@
--- The rows, then the two figures, for the sizes that the tables name.
+-- The rows, then the two lines of figures, for the sizes that the tables name.
 use Prim.Native.Nat.{_<_}
 use native.Mathlib.Omega.{arith}
-use Rattle.lines.specs.Reporting.{here-whole, report-end, report-put}
+use Rattle.lines.specs.Reporting.{here-whole, figures-end, report-end, report-put}
 use Rattle.promises.specs.Reading.{sizes-there}
 use borrow.Author.Needs.{needs}
 use Rattle.lines.proofs.put_report.Statement.{statement}
@@ -22,21 +22,48 @@ crossing-slots-requires c κs = search needs
 put-two-requires : tie.Need-put-two-requires
 put-two-requires c κs = search needs
 
+made-requires : tie.Need-made-requires
+made-requires c κs = here-whole (c .before .before .before .before .before .before .before .before .before .before .before .before .before .before .pre .0 .1) (c .before .before .before .before .before .before .before .before .before .before .read-sizes .ensures)
+
+freed-requires : tie.Need-freed-requires
+freed-requires c κs = here-whole (c .before .before .before .before .before .before .before .before .before .before .before .before .before .before .before .pre .0 .1) (c .before .before .before .before .before .before .before .before .before .before .before .read-sizes .ensures)
+
+total-requires : tie.Need-total-requires
+total-requires c κs = here-whole (c .before .before .before .before .before .before .before .before .before .before .before .before .before .before .before .before .pre .0 .1) (c .before .before .before .before .before .before .before .before .before .before .before .before .read-sizes .ensures)
+
+put-three-requires : tie.Need-put-three-requires
+put-three-requires c κs =
+    let free = c .before .before .before .before .before .before .before .before .before .free-pages .ok in
+    let slots = c .before .before .before .before .before .before .before .crossing-slots .ok in
+    let put-rows = c .before .before .before .before .before .before .before .before .before .before .before .before .put-rows in
+    let put-two = c .before .before .before .before .before .before .put-two in
+    omega (arith, c .before .before .before .before .before .before .before .before .before .before .before .before .before .before .before .before .before .before .pre .1, put-rows .ensures .1, put-rows .kept .1 .1 .0, put-two .kept .0, figures-end (put-two .ensures) (omega (arith, free, slots)) (omega (arith, free, slots)))
+
 same-length : tie.Need-same-length
 same-length c = search needs
 
 returns : tie.Need-returns
 returns c =
-    let pre = c .before .before .before .before .before .before .before .before .before .before .before .before .before .before .pre in
-    let read-sizes = c .before .before .before .before .before .before .before .before .before .before .read-sizes in
-    let put-rows = c .before .before .before .before .before .before .before .before .put-rows in
-    let free-pages = c .before .before .before .before .before .free-pages in
-    let crossing-slots = c .before .before .before .crossing-slots in
-    let free = free-pages .ok in
-    let slots = crossing-slots .ok in
-    let fits : (free-pages .result < 4294967296) × (crossing-slots .result < 4294967296) = omega (arith, free, slots) in
-    let rows = put-rows .ensures in
-    (report-put (pre .0 .1) (read-sizes .ensures) (pre .1) (rows .0) (rows .1) fits (c .before .before .put-two .ensures) (free-pages .ensures) (crossing-slots .ensures), report-end (pre .0 .1) (read-sizes .ensures) (pre .1) (rows .0) (rows .1) fits (c .before .before .put-two .ensures))
+    let pre = c .before .before .before .before .before .before .before .before .before .before .before .before .before .before .before .before .before .before .before .before .before .pre in
+    let read-sizes = c .before .before .before .before .before .before .before .before .before .before .before .before .before .before .before .before .before .read-sizes in
+    let rows = c .before .before .before .before .before .before .before .before .before .before .before .before .before .before .before .put-rows .ensures in
+    let free-pages = c .before .before .before .before .before .before .before .before .before .before .before .before .free-pages in
+    let crossing-slots = c .before .before .before .before .before .before .before .before .before .before .crossing-slots in
+    let figures = c .before .before .before .before .before .before .before .before .before .put-two .ensures in
+    let made = c .before .before .before .before .before .before .made in
+    let freed = c .before .before .before .before .before .freed in
+    let total = c .before .before .before .before .total in
+    let last = c .before .before .put-three .ensures in
+    let free-ok = free-pages .ok in
+    let slots-ok = crossing-slots .ok in
+    let made-ok = made .ok in
+    let freed-ok = freed .ok in
+    let total-ok = total .ok in
+    let fits : (free-pages .result < 4294967296) × (crossing-slots .result < 4294967296) × (made .result < 4294967296) × (freed .result < 4294967296) × (total .result < 4294967296) =
+    omega (arith, free-ok, slots-ok, made-ok, freed-ok, total-ok) in (
+      report-put (pre .0 .1) (read-sizes .ensures) (pre .1) (rows .0) (rows .1) fits figures last (free-pages .ensures) (crossing-slots .ensures) (made .ensures) (freed .ensures) (total .ensures),
+      report-end (pre .0 .1) (read-sizes .ensures) (pre .1) (rows .0) (rows .1) fits figures last,
+    )
 
 pub put-report-spec : {M : Type 1} → statement M
 put-report-spec =
@@ -47,5 +74,9 @@ put-report-spec =
     free-pages-requires
     crossing-slots-requires
     put-two-requires
+    made-requires
+    freed-requires
+    total-requires
+    put-three-requires
     same-length
     returns)

@@ -23,7 +23,7 @@ slice-aggregate-go-on-5 c = search needs
 go-on-requires : tie.Need-go-on-requires
 go-on-requires c κs = (
   record { piece-room = length-replicate {A = ℕ} 16384 0; text-room = length-replicate {A = ℕ} 36084 0 },
-  record { cells = length-replicate {A = ℕ} 8192 0; remember = length-replicate {A = ℕ} 2050 0; tables = length-replicate {A = ℕ} 758 0 },
+  record { cells = length-replicate {A = ℕ} 8192 0; remember = length-replicate {A = ℕ} 2050 0; tables = length-replicate {A = ℕ} 760 0 },
 )
 
 returns : tie.Need-returns
