@@ -118,7 +118,7 @@ fn list(
 fn main() {
     let mut cells = [0u32; 262144];
     let mut remember = [0u32; 2];
-    let mut tables = [0u32; 3084];
+    let mut tables = [0u32; 3086];
     let mut block = [0u32; 7665];
     let mut answers = [1u32; 3066];
     list(
