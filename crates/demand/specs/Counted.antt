@@ -15,7 +15,7 @@ use Rattle.rules.specs.Regions.{regionAt}
 use Rattle.rules.specs.Graph.{freedBy}
 use Rattle.rules.specs.Rules.{counted, Leaves}
 use Rattle.layout.specs.Words.{Words, sizesIn, depthIn, madeIn, freedIn, countersIn, graphOf}
-use Rattle.promises.specs.Whole.{liveOf}
+use Rattle.promises.specs.Whole.{liveOf, WholeWords}
 use Rattle.promises.specs.Promises.{Chain, none, more, commandsIn, answersIn, Ran}
 use Rattle.report.specs.declared.Row.{Row}
 use Rattle.report.specs.declared.Reported.{Reported}
@@ -68,10 +68,10 @@ objectsFreed (next {b = b} ran rest) = freedRun b ran (ℕ-discrete (b .number) 
 
 -- ---- the claim, of the words w that prepare wrote, the blocks bs, and the words w′ at the end
 
--- a report that was not refused says so: both counters, and as its total the sum of the rows that it wrote, which is made less freed
-pub record Reports (made freed : ℕ) (r : Reported) (left : List Row) : Type 0 where
-  pub made-says : r .made ≡ counted made
-  pub freed-says : r .freed ≡ counted freed
+-- a report that was not refused says that n objects were made and f freed; its total is the sum of the rows that it wrote, and made less freed
+pub record Reports (n f : ℕ) (r : Reported) (left : List Row) : Type 0 where
+  pub made : r .made ≡ counted n
+  pub freed : r .freed ≡ counted f
   pub total : r .total ≡ totalOf (take (r .rows) left)
   pub leaves : Leaves (record { made = r .made; freed = r .freed }) (r .total)
 
@@ -81,4 +81,6 @@ pub record Counted (s : Sizes) {w w′ : Words} {bs : List Block} (runs : Runs w
   pub freed : freedIn s w′ ≡ counted (objectsFreed runs)
   -- made less freed is the sum of the object counts
   pub live : Leaves (countersIn s w′) (liveOf s (w′ .tables))
+  -- no report is refused for the state of the tables, and one that is not refused says the same
+  pub whole : WholeWords w′
   pub report : (lent : List Row) (r : Reported) (left : List Row) → Told w′ lent r left → r .number ≡ 0 → Reports (objectsMade bs) (objectsFreed runs) r left

@@ -27,7 +27,7 @@ use Rattle.promises.specs.Whole.{WholeFor}
 use Rattle.promises.specs.StandsFor.{StandsFor}
 use Rattle.promises.specs.Promises.{Became, Did, Chain, none, more, commandsIn, answersIn, Ran, Prepared}
 use Rattle.promises.specs.Reading.{depth-at, words-closed}
-use Rattle.promises.specs.Agreed.{heap-stands}
+use Rattle.promises.specs.Agreed.{heap-stands, whole-words}
 use Rattle.promises.specs.Preparing.{prepared-stands}
 use Rattle.report.specs.Told.{told-counted}
 use Rattle.demand.specs.DemandThree.{Block, Runs, stop, next}
@@ -211,12 +211,13 @@ counted-three s lent w p bs w′ runs =
       made = made;
       freed = freed;
       live = r .whole .counters;
+      whole = whole-words s w′ (r .whole);
       report = λ rows′ x left told z.
           let q = told-counted w′ rows′ x left told z in
           let same = r .whole .sized .sizes in
           record {
-            made-says = q .made ∙ ap (λ (p : Sizes). madeIn p w′) same ∙ made;
-            freed-says = q .freed ∙ ap (λ (p : Sizes). freedIn p w′) same ∙ freed;
+            made = q .made ∙ ap (λ (p : Sizes). madeIn p w′) same ∙ made;
+            freed = q .freed ∙ ap (λ (p : Sizes). freedIn p w′) same ∙ freed;
             total = q .total;
             leaves = q .leaves;
           };
