@@ -184,7 +184,7 @@ static void refused_blocks(void) {
     Lent before = copy_of(&heap), shorter = heap;
     CHECK(run(&heap, new_object, TALDREKU_COMMAND_WORDS - 1, answers, TALDREKU_ANSWER_WORDS) == TALDREKU_BLOCK);
     CHECK(run(&heap, new_object, TALDREKU_COMMAND_WORDS, answers, TALDREKU_ANSWER_WORDS - 1) == TALDREKU_ANSWERS);
-    /* tables without the counters, or without the second */
+    /* tables without the second counter, or without both */
     for (size_t words = 1; words <= 2; words++) {
         shorter.tables_words = (size_t)(made_word(&heap) + 2 - heap.tables) - words;
         CHECK(run(&shorter, new_object, TALDREKU_COMMAND_WORDS, answers, TALDREKU_ANSWER_WORDS) == TALDREKU_NOT_WHOLE);

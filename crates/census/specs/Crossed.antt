@@ -58,17 +58,17 @@ module _ (s : Sizes) (w : Words) (k : WholeFor s w) (space : Room s (length (w .
   -- ---- where objects lie afterwards
 
   owner-now : (x : ℕ) → BeginsIn s w x → owner p (w′ .tables) x ≡ homeIn s w x
-  owner-now x u = kept-owner (M .kept) space x (begins-page _ _ _ _ u) ∙ sym (used-home s w k x u)
+  owner-now x u = kept-owner (M .kept) space x (begins-page _ _ _ _ u) ∙ sym (used-home s w x u)
 
   home-after : (x : ℕ) → BeginsIn s w x → Alive h x → homeAfter p (w′ .cells) (w′ .tables) x ≡ h .home x
   home-after x u a = go (ℕ-discrete (homeIn s w x) r)
     where
       go : Dec (homeIn s w x ≡ r) → homeAfter p (w′ .cells) (w′ .tables) x ≡ h .home x
       go (yes e) =
-          let z = M .goes x u (sym (used-home s w k x u) ∙ e) ∙ sym (home-went s g r x e) in
+          let z = M .goes x u (sym (used-home s w x u) ∙ e) ∙ sym (home-went s g r x e) in
           sym (after-moved p (w′ .cells) (w′ .tables) x (h .home x) (sym z) a)
       go (no n) =
-          sym (after-still p (w′ .cells) (w′ .tables) x (pageOf x) (owner p (w′ .tables) x) (workOf (w′ .cells) x) refl (outside-work M k x (record { used = u; out = λ z. n (used-home s w k x u ∙ z) })) refl refl)
+          sym (after-still p (w′ .cells) (w′ .tables) x (pageOf x) (owner p (w′ .tables) x) (workOf (w′ .cells) x) refl (outside-work M k x (record { used = u; out = λ z. n (used-home s w x u ∙ z) })) refl refl)
           ∙ owner-now x u ∙ sym (home-stayed s g r x n)
 
   -- ---- one slot of object x
@@ -165,11 +165,11 @@ module _ (s : Sizes) (w : Words) (k : WholeFor s w) (space : Room s (length (w .
         go : BeginsIn s w y → other (ownerIn s w (pageOf x)) (ownerIn s w (pageOf y)) ≡ 0 → Dec (ownerIn s w (pageOf y) ≡ 1) → Dec (ownerIn s w (pageOf x) ≡ ownerIn s w (pageOf y))
             → crossRef h x (suc y) ≡ 0
         go v z (yes one) d =
-            let e : homeIn s w y ≡ 1 = used-home s w k y v ∙ one in
+            let e : homeIn s w y ≡ 1 = used-home s w y v ∙ one in
             let e′ : h .home y ≡ 1 = home-stayed s g r y (λ (c : homeIn s w y ≡ r). omega arith) ∙ e in
             ap (λ (b : Bool). cond (not (eqb (h .home x) (h .home y)) && not b) 1 0) (eq-eqb (h .home y) 1 e′) ∙ ap (λ (b : Bool). cond b 1 0) (and-false (not (eqb (h .home x) (h .home y))))
         go v z (no n) (yes d) =
-            let e : homeIn s w x ≡ homeIn s w y = used-home s w k x u ∙ d ∙ sym (used-home s w k y v) in
+            let e : homeIn s w x ≡ homeIn s w y = used-home s w x u ∙ d ∙ sym (used-home s w y v) in
             let e′ : h .home x ≡ h .home y = stays ∙ e ∙ sym (home-stayed s g r y (λ c. out (e ∙ c))) in
             ap (λ (b : Bool). cond (not b && not (eqb (h .home y) 1)) 1 0) (eq-eqb (h .home x) (h .home y) e′)
         go v z (no n) (no d) =

@@ -1,6 +1,6 @@
 -- How many survivors there are: the bits that are set in the working words. The other objects of the region are freed.
-use mathlib.Core.Path.{_≡_, sym, ap, ap₂, _∙_}
-use mathlib.Core.Bool.{Bool, cond}
+use mathlib.Core.Path.{_≡_, sym, ap, _∙_}
+use mathlib.Core.Bool.{cond}
 use mathlib.Core.List.{List}
 use Prim.Native.Nat.{ℕ, _+_, _*_, _^_, _≤_, _<_}
 use native.Mathlib.Omega.{arith}
@@ -54,26 +54,9 @@ survivors-rest s w k r w′ m pos =
         → cond (eqb (homeIn s w c) r) (bit (eqb (target s (graphOf s w) r c) 0)) 0 + marked s (w′ .tables) c * 1 ≡ cond (eqb (homeIn s w c) r) 1 0
     one c l (yes h) (yes on) =
         let u = home-cell s w k c r h pos in
-        omega (
-          arith,
-          ap (λ (b : Bool). cond b (bit (eqb (target s (graphOf s w) r c) 0)) 0) (eq-eqb (homeIn s w c) r h),
-          ap bit (ne-eqb (target s (graphOf s w) r c) 0 (λ z. omega (arith, m .freed c (u .0) (u .1) z))),
-          ap (λ (b : Bool). let x : ℕ = cond b 1 0 in x) (eq-eqb (homeIn s w c) r h),
-        )
+        rw (eq-eqb (homeIn s w c) r h) (omega (arith, ap bit (ne-eqb (target s (graphOf s w) r c) 0 (λ z. omega (arith, m .freed c (u .0) (u .1) z)))))
     one c l (yes h) (no off) =
         let u = home-cell s w k c r h pos in
-        omega (
-          arith,
-          not-marked s (w′ .tables) c off,
-          ap (λ (b : Bool). cond b (bit (eqb (target s (graphOf s w) r c) 0)) 0) (eq-eqb (homeIn s w c) r h),
-          ap bit (eq-eqb (target s (graphOf s w) r c) 0 (unmarked-freed m c (u .0) (u .1) off)),
-          ap (λ (b : Bool). let x : ℕ = cond b 1 0 in x) (eq-eqb (homeIn s w c) r h),
-        )
+        rw (eq-eqb (homeIn s w c) r h) (omega (arith, not-marked s (w′ .tables) c off, ap bit (eq-eqb (target s (graphOf s w) r c) 0 (unmarked-freed m c (u .0) (u .1) off))))
     one c l (no h) (yes on) = let u = m .only c (omega arith) on in absurd (h (cell-home s w k c r (u .0) (u .1)))
-    one c l (no h) (no off) =
-        omega (
-          arith,
-          not-marked s (w′ .tables) c off,
-          ap (λ (b : Bool). cond b (bit (eqb (target s (graphOf s w) r c) 0)) 0) (ne-eqb (homeIn s w c) r h),
-          ap (λ (b : Bool). let x : ℕ = cond b 1 0 in x) (ne-eqb (homeIn s w c) r h),
-        )
+    one c l (no h) (no off) = rw (ne-eqb (homeIn s w c) r h) (omega (arith, not-marked s (w′ .tables) c off))

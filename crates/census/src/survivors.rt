@@ -1,6 +1,6 @@
 // How many survivors there are: the bits that are set in the working words of the listed pages.
 ghost use mathlib.Core.Path.{_≡_};
-ghost use Prim.Native.Nat.{ℕ, _<_, _≤_};
+ghost use Prim.Native.Nat.{ℕ, _<_};
 ghost use lib.ListN.{length};
 ghost use Rattle.lists.specs.Part.{Rises, Off};
 ghost use Rattle.layout.specs.Places.{Room, markOf};

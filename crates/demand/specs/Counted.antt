@@ -1,10 +1,9 @@
--- The two counters over every list of blocks (02, W2): how many objects the blocks made and freed, and that the tables say so.
+-- The two counters over every list of blocks (02, W2): how many objects the blocks made and freed, and that the tables and the report say so.
 use Prim.Native.Nat.{ℕ, _+_}
 use native.Mathlib.Decide.{ℕ-discrete}
 use mathlib.Core.Path.{_≡_}
 use mathlib.Core.List.{List, [], _∷_}
 use mathlib.Core.Bool.{cond}
-use lib.ListN.{take}
 use lib.Dec.{eqb}
 use Rattle.lists.specs.Counting.{bit}
 use Rattle.rules.specs.declared.Sizes.{Sizes}
@@ -19,7 +18,8 @@ use Rattle.promises.specs.Whole.{liveOf, WholeWords}
 use Rattle.promises.specs.Promises.{Chain, none, more, commandsIn, answersIn, Ran}
 use Rattle.report.specs.declared.Row.{Row}
 use Rattle.report.specs.declared.Reported.{Reported}
-use Rattle.report.specs.Report.{totalOf, Told}
+use Rattle.report.specs.Report.{Told}
+use Rattle.report.specs.Told.{Reports}
 use Rattle.demand.specs.DemandThree.{Block, Runs, stop, next}
 
 -- ---- made
@@ -68,13 +68,6 @@ objectsFreed (next {b = b} ran rest) = freedRun b ran (ℕ-discrete (b .number) 
 
 -- ---- the claim, of the words w that prepare wrote, the blocks bs, and the words w′ at the end
 
--- a report that was not refused says that n objects were made and f freed; its total is the sum of the rows that it wrote, and made less freed
-pub record Reports (n f : ℕ) (r : Reported) (left : List Row) : Type 0 where
-  pub made : r .made ≡ counted n
-  pub freed : r .freed ≡ counted f
-  pub total : r .total ≡ totalOf (take (r .rows) left)
-  pub leaves : Leaves (record { made = r .made; freed = r .freed }) (r .total)
-
 pub record Counted (s : Sizes) {w w′ : Words} {bs : List Block} (runs : Runs w bs w′) : Type 0 where
   -- the stored made is the number of code 3 commands that were done, the stored freed the number of objects that the ends that were done freed
   pub made : madeIn s w′ ≡ counted (objectsMade bs)
@@ -83,4 +76,4 @@ pub record Counted (s : Sizes) {w w′ : Words} {bs : List Block} (runs : Runs w
   pub live : Leaves (countersIn s w′) (liveOf s (w′ .tables))
   -- no report is refused for the state of the tables, and one that is not refused says the same
   pub whole : WholeWords w′
-  pub report : (lent : List Row) (r : Reported) (left : List Row) → Told w′ lent r left → r .number ≡ 0 → Reports (objectsMade bs) (objectsFreed runs) r left
+  pub report : (lent : List Row) (r : Reported) (left : List Row) → Told w′ lent r left → r .number ≡ 0 → Reports (counted (objectsMade bs)) (counted (objectsFreed runs)) r left

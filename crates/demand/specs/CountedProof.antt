@@ -195,9 +195,9 @@ runs-counts s {w} {w′} (next {b = b} {bs = bs} ran rest) n f said =
     let g = freedRun b ran (ℕ-discrete (b .number) 0) in
     counts-joined s w′ n i (objectsMade bs) f g (objectsFreed rest) (runs-counts s rest (n + i) (f + g) (run-counts s b ran n f said))
 
-pub counted-three : (s : Sizes) (lent w : Words) → Prepared s lent 0 w → (bs : List Block) (w′ : Words) (runs : Runs w bs w′) → Counted s runs
+pub blocks-counted : (s : Sizes) (lent w : Words) → Prepared s lent 0 w → (bs : List Block) (w′ : Words) (runs : Runs w bs w′) → Counted s runs
 unfolding ru.unused
-counted-three s lent w p bs w′ runs =
+blocks-counted s lent w p bs w′ runs =
     let st = prepared-stands s lent w p in
     let zero-is : 0 ≡ counted 0 = sym (counted-small 0 (omega arith)) in
     let r = runs-counts s runs 0 0 (record {

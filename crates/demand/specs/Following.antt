@@ -135,8 +135,8 @@ module _ (s : Sizes) (w w₁ : Words) (h h₁ : Regioned) (cellOf cell : ℕ →
   moves =
       record {
         null = refl;
-        stays = λ c u n. at c u (λ d. (homeIn s w d ≡ r → ⊥) → move (suc d) ≡ suc d) stays-at (λ z. n (sym (used-home s w (st .whole) c u) ∙ z));
-        goes = λ c u e. at c u (λ d. homeIn s w d ≡ r → regionOf s w₁ (move (suc d)) ≡ target s (graphOf s w) r d) goes-at (used-home s w (st .whole) c u ∙ e);
+        stays = λ c u n. at c u (λ d. (homeIn s w d ≡ r → ⊥) → move (suc d) ≡ suc d) stays-at (λ z. n (sym (used-home s w c u) ∙ z));
+        goes = λ c u e. at c u (λ d. homeIn s w d ≡ r → regionOf s w₁ (move (suc d)) ≡ target s (graphOf s w) r d) goes-at (used-home s w c u ∙ e);
         lands = λ c c′ u e. at c u (λ d. move (suc d) ≡ suc c′ → BeginsIn s w₁ c′) (λ x a. lands-at x a c′) e;
         refs = λ c c′ u e. at c u (λ d. move (suc d) ≡ suc c′ → refsIn w₁ c′ ≡ map move (refsIn w d)) (λ x a. refs-at x a c′) e;
         nums = λ c c′ u e. at c u (λ d. move (suc d) ≡ suc c′ → numsIn w₁ c′ ≡ numsIn w d) (λ x a. nums-at x a c′) e;

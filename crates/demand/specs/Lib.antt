@@ -5,6 +5,6 @@ pub mod MovesUnique
 pub mod Following
 pub mod PairsDetermined
 pub mod Demand
--- The two counters of 02, W2, stated (Counted) and proved (CountedProof) from the same promises.
+-- The two counters of 02, W2, stated (Counted) and proved (CountedProof) from these and what the report promises.
 pub mod Counted
 pub mod CountedProof

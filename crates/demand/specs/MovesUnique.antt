@@ -37,10 +37,10 @@ module _ (s : Sizes) (w w′ : Words) (k : WholeFor s w) (k′ : WholeFor s w′
   not-null (suc c) n = (c, refl)
 
   in-r : (c : ℕ) → BeginsIn s w c → homeIn s w c ≡ r → ownerIn s w (pageOf c) ≡ r
-  in-r c u e = sym (used-home s w k c u) ∙ e
+  in-r c u e = sym (used-home s w c u) ∙ e
 
   lies-used : (c : ℕ) → homeIn s w c ≡ r → BeginsIn s w c
-  lies-used c e = alive-used s w k c (λ z. omega arith)
+  lies-used c e = alive-used s w c (λ z. omega arith)
 
   -- the slots of an object that goes to the same place lead to the same places
   slot-same : (y z c : ℕ) → BeginsIn s w y → f (suc y) ≡ suc c → g (suc y) ≡ suc c → In (suc z) (refsIn w y) → f (suc z) ≡ g (suc z)
@@ -51,8 +51,8 @@ module _ (s : Sizes) (w w′ : Words) (k : WholeFor s w) (k′ : WholeFor s w′
 
   held-same : (x q : ℕ) → Holds s (graphOf s w) r x q → f (suc x) ≡ g (suc x)
   held-same x q (bySlot y e o p) =
-      let u = alive-used s w k y (e .there) in
-      let n : ownerIn s w (pageOf y) ≡ r → ⊥ = λ z. o (used-home s w k y u ∙ z) in
+      let u = alive-used s w y (e .there) in
+      let n : ownerIn s w (pageOf y) ≡ r → ⊥ = λ z. o (used-home s w y u ∙ z) in
       slot-same y x y u (mf .stays y u n) (mg .stays y u n) (e .slot)
   held-same x q (byOwn i e t p) = var-same i x e
   held-same x q (byOther i e t p) = var-same i x e

@@ -1,1 +1,1 @@
-// Demand 3 as a theorem about what prepare and run promise; it stands in specs/.
+// Demand 3, and the claim over the counters (02, W2), as theorems about what prepare, run and the report promise; they stand in specs/.

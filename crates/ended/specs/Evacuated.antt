@@ -4,10 +4,12 @@ use Prim.Native.Nat.{ℕ, _≤_, _<_}
 use mathlib.Core.Path.{_≡_}
 use lib.ListN.{getD}
 use Rattle.rules.specs.declared.Sizes.{Sizes}
+use Rattle.rules.specs.Graph.{freedBy}
+use Rattle.rules.specs.Rules.{moreFreed}
 use Rattle.laws.specs.SameRules.{renamed}
 use Rattle.layout.specs.Places.{varOf, varCount}
 use Rattle.layout.specs.Cells.{pageOf, fieldOf, workOf, roomFor}
-use Rattle.layout.specs.Words.{Words, BeginsIn, ownerIn, headIn, refCount}
+use Rattle.layout.specs.Words.{Words, BeginsIn, ownerIn, headIn, refCount, countersIn, graphOf}
 use Rattle.promises.specs.Whole.{Open, MarksWhole, RememberWhole, UnusedWhole}
 use Rattle.promises.specs.Regular.{Regular}
 use Rattle.promises.specs.StandsFor.{SameBeyond}
@@ -36,6 +38,10 @@ pub record Placement (s : Sizes) (w : Words) (e : Part) (w′ : Words) (cell : �
 -- a page that ends has no owner afterwards
 abbrev pub Vacated : Sizes → Part → Words → Type 0
 Vacated s e w′ = (page : ℕ) → page < s .pages → e .ends page → ownerIn s w′ page ≡ 0
+
+-- the end of region r: made stays, and its objects that have no target are freed
+abbrev pub FreedCounted : Sizes → Words → ℕ → Words → Type 0
+FreedCounted s w r w′ = countersIn s w′ ≡ moreFreed (freedBy s (graphOf s w) r) (countersIn s w)
 
 pub record Evacuated (s : Sizes) (w : Words) (e : Part) (w′ : Words) (cell : ℕ → ℕ) : Type 0 where
   -- the words past the three lengths, the sizes, and the first word of the remember table are as they were

@@ -12,16 +12,16 @@ use Rattle.lists.specs.OneToOne.{sum-paired}
 use Rattle.rules.specs.declared.Sizes.{Sizes}
 use Rattle.rules.specs.Regions.{regions}
 use Rattle.rules.specs.Graph.{Graph, freedBy}
-use Rattle.rules.specs.Rules.{Counters, Leaves, moreFreed}
+use Rattle.rules.specs.Rules.{Counters, Leaves}
 use Rattle.laws.specs.Counters.{living, living-ended, leaves-freed}
 use Rattle.layout.specs.Cells.{pageOf}
 use Rattle.layout.specs.Objects.{begins-low}
 use Rattle.layout.specs.Words.{Words, ownerIn, homeIn, countersIn, graphOf, cellCount}
 use Rattle.promises.specs.Whole.{WholeFor, CountersWhole, liveOf}
-use Rattle.promises.specs.Reading.{home-there, alive-begins, used-owned}
+use Rattle.promises.specs.Reading.{used-home, alive-used, used-owned}
 use Rattle.promises.specs.OwnedPages.{open-high, live-there, live-objects}
 use Rattle.promises.specs.Ends.{Part, partOf, Lives, lives-how}
-use Rattle.ended.specs.Evacuated.{Evacuated}
+use Rattle.ended.specs.Evacuated.{Evacuated, FreedCounted}
 use Rattle.ended.specs.Living.{GraphAfter, lives-there, region-after}
 
 -- an object is counted where it is there
@@ -40,7 +40,7 @@ module _ {s : Sizes} {w : Words} {e : Part} {w′ : Words} {cell : ℕ → ℕ} 
       (λ x. omega (arith, v .placement .went c x, x .goes)) (lives-how l)
 
   home-some : (c : ℕ) → Lives s w e c → homeIn s w′ (cell c) ≢ 0
-  home-some c l z = owner-some c l (sym (home-there s w′ (cell c) (v .placement .used c l)) ∙ z)
+  home-some c l z = owner-some c l (sym (used-home s w′ (cell c) (v .placement .used c l)) ∙ z)
 
   -- as many are there as in the graph of those that live on
   living-after : {g : Graph} → GraphAfter s w e g → living g ≡ living (graphOf s w′)
@@ -53,7 +53,7 @@ module _ {s : Sizes} {w : Words} {e : Part} {w′ : Words} {cell : ℕ → ℕ} 
             (begins-low s _ _ (cell x) (v .placement .used x y), one (homeIn s w′ (cell x)) (home-some x y) ∙ sym (one (g .home x) (there (g .home x) k)));
         apart = λ x y l m k j. v .placement .apart x y (a .lives x (there (g .home x) k)) (a .lives y (there (g .home y) j));
         onto = λ y l k.
-            let c = v .only y (alive-begins s w′ y (there (homeIn s w′ y) k)) in
+            let c = v .only y (alive-used s w′ y (there (homeIn s w′ y) k)) in
             (c .0, omega (arith, a .count, begins-low s _ _ (c .0) (c .1 .used)), omega (arith, one (g .home (c .0)) (lives-there whole a (c .0) (c .1))), c .2);
       })
 
@@ -61,10 +61,6 @@ module _ {s : Sizes} {w : Words} {e : Part} {w′ : Words} {cell : ℕ → ℕ} 
   owner-low page l =
       by-cases (decLt 1 (ownerIn s w′ page))
       (λ h. open-high s (w′ .tables) (ownerIn s w′ page) (whole .sized .range .depth-low) (v .owners page l h)) (λ h. omega arith)
-
--- made stays, and the objects of r that have no target are freed
-abbrev pub Counted : Sizes → Words → ℕ → Words → Type 0
-Counted s w r w′ = countersIn s w′ ≡ moreFreed (freedBy s (graphOf s w) r) (countersIn s w)
 
 -- the end of region r
 module _ (s : Sizes) (w : Words) (whole : WholeFor s w) (r : ℕ) (pos : 0 < r) (w′ : Words) (cell : ℕ → ℕ) (v : Evacuated s w (partOf s w r) w′ cell) where
@@ -78,7 +74,7 @@ module _ (s : Sizes) (w : Words) (whole : WholeFor s w) (r : ℕ) (pos : 0 < r) 
         live-objects s w whole,
       )
 
-  pub counted-whole : Counted s w r w′ → CountersWhole s w′
+  pub counted-whole : FreedCounted s w r w′ → CountersWhole s w′
   counted-whole e =
       subst (λ (k : Counters). Leaves k (liveOf s (w′ .tables))) (sym e)
       (leaves-freed (countersIn s w) (liveOf s (w′ .tables)) (freedBy s (graphOf s w) r) (subst (Leaves (countersIn s w)) (sym live-after) (whole .counters)))

@@ -25,9 +25,9 @@ use Rattle.promises.specs.Reading.{alive-used, used-home, words-closed, length-
 use Rattle.promises.specs.Agreed.{home-at, heap-stands}
 use Rattle.promises.specs.Questions.{did-freed}
 use Rattle.promises.specs.OwnedPages.{pagesOwned}
-use Rattle.ended.specs.Evacuated.{Evacuated, Vacated}
+use Rattle.ended.specs.Evacuated.{Evacuated, Vacated, FreedCounted}
 use Rattle.ended.specs.Living.{region-after, region-keeps}
-use Rattle.ended.specs.EvacuatedCounts.{Counted, counted-whole}
+use Rattle.ended.specs.EvacuatedCounts.{counted-whole}
 use Rattle.ended.specs.EvacuatedWhole.{evacuated-whole}
 use Rattle.ended.specs.AfterEnd.{endOf, after-end}
 use Rattle.ended.specs.EvacuatedStands.{evacuated-stands}
@@ -41,7 +41,7 @@ pub record Lowered (s : Sizes) (w : Words) (t k : ℕ) (w′ : Words) : Type 0 w
 
 module _ (s : Sizes) (w : Words) (whole : WholeFor s w) (t k : ℕ) (th : t < s .threads) (deep : depthIn w t ≡ suc k) (w′ : Words) (cell : ℕ → ℕ)
     (e : Evacuated s w (partOf s w (regionAt s t (suc k))) w′ cell) (lower : Lowered s w t k w′)
-    (counted : Counted s w (regionAt s t (suc k)) w′) where
+    (counted : FreedCounted s w (regionAt s t (suc k)) w′) where
   abbrev r : ℕ
   r = regionAt s t (suc k)
 
@@ -99,10 +99,10 @@ module _ (s : Sizes) (w : Words) (whole : WholeFor s w) (t k : ℕ) (th : t < s 
 
   -- an object whose home does not change lay outside r, since none lies in r afterwards
   keeps-cell : (x : ℕ) → Alive (graph H) x → graph H′ .home x ≡ graph H .home x → cell x ≡ x
-  keeps-cell x a q = e .placement .stayed x (record { used = u; out = λ z. gone (used-home s w whole x u ∙ z) }) .same
+  keeps-cell x a q = e .placement .stayed x (record { used = u; out = λ z. gone (used-home s w x u ∙ z) }) .same
     where
       u : BeginsIn s w x
-      u = alive-used s w whole x (λ z. a (home-at s w whole x ∙ z))
+      u = alive-used s w x (λ z. a (home-at s w whole x ∙ z))
 
       gone : homeIn s w x ≡ r → ⊥
       gone z = left s w whole t k th deep x (q ∙ home-at s w whole x ∙ z)

@@ -75,9 +75,9 @@ module _ {s : Sizes} {w : Words} {e : Part} {w′ : Words} {cell : ℕ → ℕ} 
     pub evacuated-partners : Partners cell g (graphOf s w′)
     evacuated-partners =
         record {
-          home = λ c l. let o = a .lives c l in used-home s w′ whole′ (cell c) (v .placement .used c o) ∙ owner-after c o;
+          home = λ c l. let o = a .lives c l in used-home s w′ (cell c) (v .placement .used c o) ∙ owner-after c o;
           apart = λ b c l m. v .placement .apart b c (a .lives b l) (a .lives c m);
-          onto = λ c l. let o = v .only c (alive-used s w′ whole′ c l) in (o .0, lives-there whole a (o .0) (o .1), o .2);
+          onto = λ c l. let o = v .only c (alive-used s w′ c l) in (o .0, lives-there whole a (o .0) (o .1), o .2);
           refs = λ c l. refs-after c (a .lives c l) ∙ ap (map (renamed cell)) (sym (a .refs c));
           vars = vars-after ∙ ap (map (renamed cell)) (sym (a .vars));
         }

@@ -52,15 +52,15 @@ module _ (s : Sizes) (w : Words) (whole : WholeFor s w) (r : ℕ) (pos : 0 < r) 
   region-after =
       record {
         outside = λ c o.
-            let h = used-home s w whole c (o .used) in
+            let h = used-home s w c (o .used) in
             home-stayed s (graphOf s w) r c (λ z. o .out (sym h ∙ z)) ∙ h;
-        survivor = λ c v. home-went s (graphOf s w) r c (used-home s w whole c (v .used) ∙ v .within);
+        survivor = λ c v. home-went s (graphOf s w) r c (used-home s w c (v .used) ∙ v .within);
         lives = λ c a.
-            let u = alive-used s w whole c (was-alive s (graphOf s w) r pos (words-closed s w whole) c a) in
+            let u = alive-used s w c (was-alive s (graphOf s w) r pos (words-closed s w whole) c a) in
             record {
               used = u;
               goes = λ z.
-                  let nz : partOf s w r .goes c ≡ 0 → ⊥ = λ y. a (home-went s (graphOf s w) r c (used-home s w whole c u ∙ z) ∙ y) in
+                  let nz : partOf s w r .goes c ≡ 0 → ⊥ = λ y. a (home-went s (graphOf s w) r c (used-home s w c u ∙ z) ∙ y) in
                   omega arith;
             };
         count = refl;

@@ -52,8 +52,8 @@ module _ (s : Sizes) (w : Words) (whole : WholeFor s w) where
     where
       open′ : (x : ℕ) → Alive (graphOf s w) x → pl.Open s (depthsIn s w) (homeIn s w x)
       open′ x a =
-          let u = alive-used s w whole x a in
-          subst (pl.Open s (depthsIn s w)) (sym (used-home s w whole x u)) (owner-open (pageOf x) (begins-page s (w .cells) (w .tables) x u) (used-owned s w whole x u))
+          let u = alive-used s w x a in
+          subst (pl.Open s (depthsIn s w)) (sym (used-home s w x u)) (owner-open (pageOf x) (begins-page s (w .cells) (w .tables) x u) (used-owned s w whole x u))
 
   module _ (t k : ℕ) (th : t < s .threads) (deep : depthIn w t ≡ suc k) where
     abbrev r : ℕ

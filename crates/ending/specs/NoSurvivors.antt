@@ -36,8 +36,8 @@ module _ {s : Sizes} {t l r : ℕ} {w w₁ : Words} (b : Ending s t l r w w₁) 
   no-survivor c v = unset c (begins-page s (w .cells) (w .tables) c (v .used)) (b .marks .survives c (v .used) (v .within) (v .goes))
 
   -- every object of r is freed
-  pub none-rest : countOf s (w₁ .tables) r ≡ freedBy s (graphOf s w) r
-  none-rest = omega (arith, freed-rest b, over-none s (w₁ .tables) (λ c. 1) (s .pages) off)
+  pub all-freed : countOf s (w₁ .tables) r ≡ freedBy s (graphOf s w) r
+  all-freed = omega (arith, freed-rest b, over-none s (w₁ .tables) (λ c. 1) (s .pages) off)
 
   pub none-copied : Copy s l (regionAt s t) l (w₁ .cells) (w₁ .tables) (w₁ .cells) (w₁ .tables)
   none-copied =

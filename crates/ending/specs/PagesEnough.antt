@@ -30,7 +30,7 @@ module _ {s : Sizes} {t l r : ℕ} {w w₁ : Words} (e : Ending s t l r w w₁) 
   survivor-level c =
       subst (λ (g : ℕ). Survivor s w (partOf s w g) c → (j : ℕ) × (j < l) × (partOf s w g .goes c ≡ regionAt s t j)) (sym (region-deep e))
       (λ v.
-      let x = target-level s w (e .whole) t (l - 1) (e .thread) (deep e) c (used-home s w (e .whole) c (v .used) ∙ v .within) (v .goes) in
+      let x = target-level s w (e .whole) t (l - 1) (e .thread) (deep e) c (used-home s w c (v .used) ∙ v .within) (v .goes) in
       (x .0, omega (arith, x .1, e .epoch), x .2))
 
   -- which its word 1 says

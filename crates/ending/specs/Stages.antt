@@ -35,7 +35,7 @@ use Rattle.settle.specs.Update.{Copies, NewEntry, Settles, Updated}
 use Rattle.release.specs.Release.{Ended, ended-size, ended-freed, ended-depth, ended-rest, ended-blank, ended-alike, ended-regular}
 use Rattle.release.specs.Emptied.{Emptied}
 use Rattle.ended.specs.EndQuestion.{crossingAfter}
-use Rattle.ended.specs.EvacuatedCounts.{Counted}
+use Rattle.ended.specs.Evacuated.{FreedCounted}
 use Rattle.ended.specs.EvacuatedDid.{Lowered}
 use Rattle.ended.specs.Living.{KeepsNamed, region-after, region-keeps}
 use Rattle.census.specs.Survivors.{survivorsIn, survivors-rest}
@@ -211,7 +211,7 @@ module _ {s : Sizes} {t l r : ℕ} {w w₁ : Words} (b : Ending s t l r w w₁) 
         lowered = record { depth = depth-after; depths = depth-kept }
 
         -- the counters: made is as it was, and what is freed is counted
-        counted-end : (M′ : List ℕ) → Counted s w r (words W₄ M′ T′)
+        counted-end : (M′ : List ℕ) → FreedCounted s w r (words W₄ M′ T′)
         counted-end M′ =
             ap₂ (λ (x y : ℕ). record { made = x; freed = y })
             (rest (madeAt s) (λ z. omega (arith, a, b .thread)) (λ z. omega arith) (λ z. omega arith) ∙ word₂ moved Y (madeAt s) (λ z. omega arith))

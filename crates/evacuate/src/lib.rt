@@ -1,5 +1,6 @@
 // The end of an epoch once its survivors are marked: word 1 of each cell of the ending region is the region that its object goes to, 0 if
-// it is freed, and its bit in the page's mark word says which is not 0. The stages are crates of their own: copy, settle, release.
+// it is freed, and its bit in the page's mark word says which is not 0. The stages are crates of their own: copy, settle, release; what is
+// freed is known by the survivors, which census counts.
 ghost use mathlib.Core.Path.{_≡_};
 ghost use mathlib.Core.List.{List};
 ghost use Prim.Native.Nat.{ℕ, _<_, _≤_};

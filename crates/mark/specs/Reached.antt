@@ -39,15 +39,15 @@ module _ (s : Sizes) (w : Words) (k : WholeFor s w) where
 
   pub home-cell : (c q : ℕ) → homeIn s w c ≡ q → 0 < q → BeginsIn s w c × (ownerIn s w (pageOf c) ≡ q)
   home-cell c q e l =
-      let u = alive-used s w k c (λ (z : homeIn s w c ≡ 0). omega arith) in (u, sym (used-home s w k c u) ∙ e)
+      let u = alive-used s w c (λ (z : homeIn s w c ≡ 0). omega arith) in (u, sym (used-home s w c u) ∙ e)
 
   pub cell-home : (c q : ℕ) → BeginsIn s w c → ownerIn s w (pageOf c) ≡ q → homeIn s w c ≡ q
-  cell-home c q u e = used-home s w k c u ∙ e
+  cell-home c q u e = used-home s w c u ∙ e
 
   pub refers-field : (y x : ℕ) → Refers (graphOf s w) y x → (f : ℕ) × (f < refCount w y) × (fieldOf (w .cells) y f ≡ suc x)
   refers-field y x r =
       let i = in-place (refsIn w y) (suc x) (r .slot) in
-      let l : i .0 < refCount w y = omega (arith, i .1, length-refs s w k y (alive-used s w k y (r .there))) in
+      let l : i .0 < refCount w y = omega (arith, i .1, length-refs s w k y (alive-used s w y (r .there))) in
       (i .0, l, sym (getD-refs w y (i .0) l) ∙ i .2)
 
   pub field-refers : (y f x : ℕ) → BeginsIn s w y → f < refCount w y → fieldOf (w .cells) y f ≡ suc x → Refers (graphOf s w) y x
@@ -118,7 +118,7 @@ module _ (s : Sizes) (w : Words) (k : WholeFor s w) where
             let o = entry-says k (q .0) (q .1) in
             let y = o .object in
             let f : fieldOf (w .cells) y (o .field) ≡ suc x = ap (λ (z : ℕ). getD (w .cells) z 0) (sym (o .at)) ∙ b .1 ∙ one-add x in
-            let hy = used-home s w k y (o .used) in
+            let hy = used-home s w y (o .used) in
             bySlot y (field-refers y (o .field) x (o .used) (o .low) f) (λ z. o .other (sym (o .region) ∙ eqb-true _ _ (a .0) ∙ sym z ∙ hy))
             (sym (eqb-true _ _ (b .0)) ∙ ap (join s r) (ap (ownerIn s w) (o .page) ∙ sym hy))
 
@@ -137,9 +137,9 @@ module _ (s : Sizes) (w : Words) (k : WholeFor s w) where
     slot-held : (x l y : ℕ) → homeIn s w x ≡ r → Refers (graphOf s w) y x → (homeIn s w y ≡ r → ⊥) → join s r (homeIn s w y) ≡ regionAt s t l → In (1 + x) (heldFrom (regionAt s t l))
     unfolding heldRefs
     slot-held x l y h f o e =
-        let u = alive-used s w k y (f .there) in
+        let u = alive-used s w y (f .there) in
         let i = refers-field y x f in
-        let hy = used-home s w k y u in
+        let hy = used-home s w y u in
         let own = home-cell x r h (omega (arith, region-high s t j)) .1 in
         let n = entry-of k y (i .0) x u (i .1) (i .2) (omega (arith, own, region-high s t j)) (λ z. o (hy ∙ sym z ∙ own)) in
         let b : i .0 < refCount w y = i .1 in
@@ -160,14 +160,14 @@ module _ (s : Sizes) (w : Words) (k : WholeFor s w) where
         q = ownerIn s w (pageOf y)
 
         joined : join s r (homeIn s w y) ≡ join s r q
-        joined = ap (join s r) (used-home s w k y u)
+        joined = ap (join s r) (used-home s w y u)
 
         go : Dec (OneThread s r q) → (l : ℕ) × (l < suc j) × (join s r (homeIn s w y) ≡ regionAt s t l)
         go (no n) = (0, omega arith, joined ∙ join-two s n)
         go (yes h) =
             let e : threadOf s q ≡ t = sym (h .thread) ∙ thread-at s t j deep in
             let z : q ≡ regionAt s t (levelOf s q) = region-number s q (h .right) ∙ ap (λ (a : ℕ). regionAt s a (levelOf s q)) e in
-            let apart : levelOf s q ≡ suc j → ⊥ = λ c. o (used-home s w k y u ∙ z ∙ ap (regionAt s t) c) in
+            let apart : levelOf s q ≡ suc j → ⊥ = λ c. o (used-home s w y u ∙ z ∙ ap (regionAt s t) c) in
             let low : levelOf s q < suc j = omega (arith, k .pages (pageOf y) (begins-page _ _ _ _ u) .region (h .right) .level, ap (depthIn w) e) in
             let m : min r q ≡ q = omega (arith, numbers-rise s t (levelOf s q) (suc j) low) in (levelOf s q, low, joined ∙ join-one s h ∙ m ∙ z)
 
@@ -179,4 +179,4 @@ module _ (s : Sizes) (w : Words) (k : WholeFor s w) where
     holds-held x q h (byOther i at d e) =
         (0, omega arith, e, var-held x 0 i at (calls-other s t outer i (λ z. d (z ∙ sym (thread-at s t j deep)))))
     holds-held x q h (bySlot y f o e) =
-        let l = slot-level y (alive-used s w k y (f .there)) o in (l .0, l .1, e ∙ l .2, slot-held x (l .0) y h f o (l .2))
+        let l = slot-level y (alive-used s w y (f .there)) o in (l .0, l .1, e ∙ l .2, slot-held x (l .0) y h f o (l .2))

@@ -1,1 +1,1 @@
-// What the program prints for every input (01, "The program"), by the rules alone; it stands in specs/.
+// What the program prints for every input (01, "The program"; 02, W2), by the rules alone; it stands in specs/.

@@ -101,7 +101,7 @@ module _ (s : Sizes) (w : Words) (h : Regioned) (cellOf : ℕ → ℕ) (st : Sta
   cell-alive x a z = a (sym (st .partners .home x a) ∙ z)
 
   pub cell-used : (x : ℕ) → Alive (graph h) x → BeginsIn s w (cellOf x)
-  cell-used x a = alive-used s w (st .whole) (cellOf x) (cell-alive x a)
+  cell-used x a = alive-used s w (cellOf x) (cell-alive x a)
 
   -- ---- the rules say the same of the words and of the heap
 

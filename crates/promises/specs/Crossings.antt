@@ -80,7 +80,7 @@ module _ (s : Sizes) (w : Words) (k : WholeFor s w) where
         let g = ownerIn s w (pageOf y) in
         let pos : g ≡ 0 → ⊥ = used-owned s w k y v in
         ap (λ (n : ℕ). bit (ltb 0 (other o n))) (region-of s (w .tables) y (begins-page s (w .cells) (w .tables) y v)) ∙ other-test o g (omega arith)
-        ∙ sym (ap₂ (λ (a b : ℕ). cond (not (eqb a b) && not (eqb b 1)) 1 0) (used-home s w k c u) (used-home s w k y v))
+        ∙ sym (ap₂ (λ (a b : ℕ). cond (not (eqb a b) && not (eqb b 1)) 1 0) (used-home s w c u) (used-home s w y v))
 
     at-ref : (f : ℕ) → f < refCount w c → bit (cr.crossing s (w .cells) (w .tables) (fieldAt c f)) ≡ crossRef (graphOf s w) c (fieldOf (w .cells) c f)
     at-ref f m =
@@ -91,7 +91,7 @@ module _ (s : Sizes) (w : Words) (k : WholeFor s w) where
   pub entries-crossing : entriesUsed (w .remember) ≡ crossing (graphOf s w)
   entries-crossing =
       sym (every-counted (cr.crossTo s (w .cells) (w .tables)) (cellsWords s) (s .entries) (w .remember) (k .remember))
-      ∙ positions-crossing s w k (graphOf s w) (λ c. refl) refl (alive-used s w k) (λ q. bit (cr.crossing s (w .cells) (w .tables) q))
+      ∙ positions-crossing s w k (graphOf s w) (λ c. refl) refl (alive-used s w) (λ q. bit (cr.crossing s (w .cells) (w .tables) q))
       (λ q l n. ap (λ (x : ℕ). bit (ltb 0 x)) (no-cross s (w .cells) (w .tables) q n)) (λ c f u l z. absurd (used-alive s w k c u z)) (λ c f u l a. at-ref c u f l)
 
 -- of whatever heap the words stand for

@@ -69,7 +69,7 @@ module _ (s : Sizes) (w w′ : Words) (h : Regioned) (to : ℕ → ℕ) (st : St
   home-as = by-object (λ y. homeIn s w y ≡ homeIn s w′ y) (λ x a. st .partners .home x a ∙ sym (st′ .partners .home x a))
 
   used-as : (c : ℕ) → BeginsIn s w c → BeginsIn s w′ c
-  used-as c u = alive-used s w′ (st′ .whole) c (λ z. used-alive s w (st .whole) c u (home-as c u ∙ z))
+  used-as c u = alive-used s w′ c (λ z. used-alive s w (st .whole) c u (home-as c u ∙ z))
 
   -- so a page has at least as many cells in use
   used-most : (page : ℕ) → page < s .pages → usedIn s w page ≤ usedIn s w′ page
@@ -89,7 +89,7 @@ module _ (s : Sizes) (w w′ : Words) (h : Regioned) (to : ℕ → ℕ) (st : St
       let m : 0 < pageCells = omega arith in
       let e : pageOf c ≡ page = page-on page 0 m in
       let u : BeginsIn s w c = begins-there s (w .cells) (w .tables) page 0 l m (st .whole .pages page l .filled .taken p) in
-      ap (ownerIn s w) (sym e) ∙ sym (used-home s w (st .whole) c u) ∙ home-as c u ∙ used-home s w′ (st′ .whole) c (used-as c u) ∙ ap (ownerIn s w′) e
+      ap (ownerIn s w) (sym e) ∙ sym (used-home s w c u) ∙ home-as c u ∙ used-home s w′ c (used-as c u) ∙ ap (ownerIn s w′) e
 
   -- the fields of an object
   fields-as : (d : Kind) (c : ℕ) → BeginsIn s w c → fieldsIn d w c ≡ fieldsIn d w′ c

@@ -106,7 +106,7 @@ module _ (s : Sizes) (w : Words) (h : Regioned) (to : ℕ → ℕ) (st : StandsF
 
   home-kept : (y : ℕ) → BeginsIn s w y → homeIn s w₁ y ≡ homeIn s w y
   home-kept y u =
-      used-home s w₁ k₁ y (still-begins s w (st .whole) g cell b d t′ c′ took blank few pos low open′ y u) ∙ owner-still s w (st .whole) g cell b d t′ c′ took blank few pos low open′ y u ∙ sym (used-home s w (st .whole) y u)
+      used-home s w₁ y (still-begins s w (st .whole) g cell b d t′ c′ took blank few pos low open′ y u) ∙ owner-still s w (st .whole) g cell b d t′ c′ took blank few pos low open′ y u ∙ sym (used-home s w y u)
 
   apart-new : (x : ℕ) → Alive (graph h) x → to x ≡ cell → ⊥
   apart-new x a e = not-there s w (st .whole) g cell b d t′ c′ took blank few pos low open′ (subst (BeginsIn s w) e (cell-used s w h to st x a))
@@ -121,7 +121,7 @@ module _ (s : Sizes) (w : Words) (h : Regioned) (to : ℕ → ℕ) (st : StandsF
   onto y a =
       ⊎-elim (λ e. (n, (λ z. omega (arith, home-new)), to-new ∙ sym e))
       (λ u. let r = st .partners .onto y (used-alive s w (st .whole) y u) in (r .0, still (r .0) (r .1), to-old (r .0) (r .1) ∙ r .2))
-      (begins-split s w (st .whole) g cell b d t′ c′ took blank few pos low open′ y (alive-used s w₁ k₁ y a))
+      (begins-split s w (st .whole) g cell b d t′ c′ took blank few pos low open′ y (alive-used s w₁ y a))
 
   -- ---- fields
 
@@ -151,7 +151,7 @@ module _ (s : Sizes) (w : Words) (h : Regioned) (to : ℕ → ℕ) (st : StandsF
         partners = record {
           home = cases (λ x y. homeIn s w₁ y ≡ graph h₁ .home x)
               (λ x a. home-kept (to x) (cell-used s w h to st x a) ∙ st .partners .home x a ∙ sym (home-old x (st .sound .closed .below x a)))
-              (used-home s w₁ k₁ cell new-used ∙ took .owner ∙ sym home-new);
+              (used-home s w₁ cell new-used ∙ took .owner ∙ sym home-new);
           apart = λ x y a c e. one-to-one x y (split x a) (split y c) e;
           onto = onto;
           refs = cases (λ x y. fieldsAt Reference c′ y ≡ map (renamed to₁) (getD (h₁ .heap .objects) x noObject .refs))

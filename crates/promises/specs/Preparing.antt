@@ -115,7 +115,7 @@ module _ (s : Sizes) (lent w : Words) (range : InRange s) (long : LongEnough s l
         partners = record {
           home = λ x a. absurd (a refl);
           apart = λ x y a b e. e;
-          onto = λ y a. absurd (no-object y (alive-used s w whole y a));
+          onto = λ y a. absurd (no-object y (alive-used s w y a));
           refs = λ x a. absurd (a refl);
           vars = vars-zero ∙ sym (renamed-zeros (varCount s) (λ x. x));
         };

@@ -47,16 +47,16 @@ depth-at s w t l = getD-take (s .threads) (drop (depthAt 0) (w .tables)) t 0 l �
 -- ---- the home of a cell
 
 module _ (s : Sizes) (w : Words) where
-  pub home-there : (c : ℕ) → BeginsIn s w c → homeIn s w c ≡ ownerIn s w (pageOf c)
+  pub used-home : (c : ℕ) → BeginsIn s w c → homeIn s w c ≡ ownerIn s w (pageOf c)
   unfolding homeAt
-  home-there c u = ap (λ (b : Bool). cond b (ownerIn s w (pageOf c)) 0) (begins-true s (w .cells) (w .tables) c u)
+  used-home c u = ap (λ (b : Bool). cond b (ownerIn s w (pageOf c)) 0) (begins-true s (w .cells) (w .tables) c u)
 
   pub no-home : (c : ℕ) → (BeginsIn s w c → ⊥) → homeIn s w c ≡ 0
   unfolding homeAt
   no-home c n = ap (λ (b : Bool). cond b (ownerIn s w (pageOf c)) 0) (begins-false s (w .cells) (w .tables) c n)
 
-  pub alive-begins : (c : ℕ) → Alive (graphOf s w) c → BeginsIn s w c
-  alive-begins c a = by-cases (begins? s (w .cells) (w .tables) c) (λ u. u) (λ n. absurd (a (no-home c n)))
+  pub alive-used : (c : ℕ) → Alive (graphOf s w) c → BeginsIn s w c
+  alive-used c a = by-cases (begins? s (w .cells) (w .tables) c) (λ u. u) (λ n. absurd (a (no-home c n)))
 
 -- ---- whole words
 
@@ -73,17 +73,11 @@ pub ref-begins : (s : Sizes) (W T : List ℕ) (x c : ℕ) → IsRef s W T x → 
 ref-begins s W T x c r e = subst (Begins s W T) (let z : cellNamed x ≡ c = omega arith in z) (r (omega arith))
 
 module _ (s : Sizes) (w : Words) (k : WholeFor s w) where
-  pub used-home : (c : ℕ) → BeginsIn s w c → homeIn s w c ≡ ownerIn s w (pageOf c)
-  used-home = home-there s w
-
   pub used-owned : (c : ℕ) → BeginsIn s w c → ownerIn s w (pageOf c) ≡ 0 → ⊥
   used-owned c u z = let i = begins-used s (w .cells) (w .tables) c u in omega (arith, k .pages (pageOf c) (i .page) .filled .free z, i .place)
 
   pub used-alive : (c : ℕ) → BeginsIn s w c → Alive (graphOf s w) c
-  used-alive c u z = used-owned c u (sym (used-home c u) ∙ z)
-
-  pub alive-used : (c : ℕ) → Alive (graphOf s w) c → BeginsIn s w c
-  alive-used = alive-begins s w
+  used-alive c u z = used-owned c u (sym (used-home s w c u) ∙ z)
 
   pub cell-low : (c : ℕ) → BeginsIn s w c → c < cellCount s
   cell-low = begins-low s (w .cells) (w .tables)
@@ -120,14 +114,14 @@ module _ (s : Sizes) (w : Words) (k : WholeFor s w) where
 
   refs-alive : (c y : ℕ) → Alive (graphOf s w) c → In (suc y) (refsIn w c) → Alive (graphOf s w) y
   refs-alive c y a i =
-      let u = alive-used c a in
+      let u = alive-used s w c a in
       let r = in-place (refsIn w c) (suc y) i in
       let l : r .0 < refCount w c = omega (arith, r .1, length-refs c u) in
       used-alive y (ref-begins s (w .cells) (w .tables) (fieldOf (w .cells) c (r .0)) y (k .objects c u .references (r .0) l) (sym (getD-refs w c (r .0) l) ∙ r .2))
 
   pub words-closed : Closed (graphOf s w)
   words-closed =
-      record { below = λ c a. cell-low c (alive-used c a); vars = vars-alive; refs = refs-alive }
+      record { below = λ c a. cell-low c (alive-used s w c a); vars = vars-alive; refs = refs-alive }
 
   pub refs-few : (c : ℕ) → BeginsIn s w c → refCount w c ≤ mostFields
   refs-few c u = omega (arith, k .objects c u .head, kind-among Reference (headIn w c))

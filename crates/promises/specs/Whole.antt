@@ -49,9 +49,12 @@ objectsOn s t g page = cond (eqb (ownerOf s t page) g) (usedOf s t page) 0
 abbrev pub objectsOf : Sizes → List ℕ → ℕ → ℕ
 objectsOf s t g = sum (objectsOn s t g) (s .pages)
 
--- the objects of all regions, by their counts
+-- the objects of the regions 1 to n, by their counts, and of all regions
+abbrev pub liveTo : Sizes → List ℕ → ℕ → ℕ
+liveTo s t n = sum (λ i. countOf s t (suc i)) n
+
 abbrev pub liveOf : Sizes → List ℕ → ℕ
-liveOf s t = sum (λ i. countOf s t (suc i)) (regions s)
+liveOf s t = liveTo s t (regions s)
 
 -- null, or the name of an object
 abbrev pub IsRef : Sizes → List ℕ → List ℕ → ℕ → Type 0

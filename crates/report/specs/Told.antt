@@ -7,7 +7,7 @@ use lib.ListN.{length, take, drop}
 use lib.Seq.{take-at}
 use Rattle.rules.specs.declared.Sizes.{Sizes}
 use Rattle.rules.specs.Graph.{crossing, freePages}
-use Rattle.rules.specs.Rules.{Counters, counted, Regioned, graph}
+use Rattle.rules.specs.Rules.{Counters, Leaves, counted, Regioned, graph}
 use Rattle.layout.specs.Words.{Words, sizesIn, madeIn, freedIn, heapOf}
 use Rattle.promises.specs.Whole.{WholeWords}
 use Rattle.promises.specs.StandsFor.{StandsFor}
@@ -74,14 +74,15 @@ asked-whole (notWhole e n) z = absurd (let y : ⊥ = omega arith in y)
 asked-whole (short e k l) z = k
 asked-whole (accepted e k l) z = k
 
--- where it is not refused: made and freed are the counters of the words, the total is that of the rows that it wrote, and made less freed
-pub record CountedReport (w : Words) (r : Reported) (left : List Row) : Type 0 where
-  pub made : r .made ≡ madeIn (sizesIn w) w
-  pub freed : r .freed ≡ freedIn (sizesIn w) w
+-- a report that is not refused says that n objects were made and f freed; its total is that of the rows that it wrote, and made less freed
+pub record Reports (n f : ℕ) (r : Reported) (left : List Row) : Type 0 where
+  pub made : r .made ≡ n
+  pub freed : r .freed ≡ f
   pub total : r .total ≡ totalOf (take (r .rows) left)
-  pub leaves : counted (r .total + r .freed) ≡ r .made
+  pub leaves : Leaves (record { made = r .made; freed = r .freed }) (r .total)
 
-pub told-counted : (w : Words) (lent : List Row) (r : Reported) (left : List Row) → Told w lent r left → r .number ≡ 0 → CountedReport w r left
+-- by the words
+pub told-counted : (w : Words) (lent : List Row) (r : Reported) (left : List Row) → Told w lent r left → r .number ≡ 0 → Reports (madeIn (sizesIn w) w) (freedIn (sizesIn w) w) r left
 told-counted w lent r left t z = record {
   made = ap (λ (x : Reported). x .made) result ∙ ap (λ (k : Counters). k .made) (st .counters);
   freed = ap (λ (x : Reported). x .freed) result ∙ ap (λ (k : Counters). k .freed) (st .counters);

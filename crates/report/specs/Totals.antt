@@ -14,13 +14,13 @@ use Rattle.rules.specs.declared.Sizes.{Sizes}
 use Rattle.rules.specs.Regions.{threadOf, levelOf, regions}
 use Rattle.rules.specs.Rules.{Leaves}
 use Rattle.layout.specs.Places.{Room, ownerOf, countOf, madeOf, freedOf}
-use Rattle.layout.specs.Words.{words, depthsAt, countersIn, tablesOnly}
+use Rattle.layout.specs.Words.{depthsAt, countersIn, tablesOnly}
 use Rattle.promises.specs.Whole.{Open, objectsOn, liveOf}
 use Rattle.promises.specs.Regular.{objects-no}
-use Rattle.whole.specs.Counters.{live-low, same-counters}
+use Rattle.whole.specs.Counters.{live-low, whole-left}
 use Rattle.whole.specs.Parts.{regions-of}
 use Rattle.report.specs.declared.Row.{Row}
-use Rattle.report.specs.Report.{isOpen, openRegions, rowOf, rowWith, totalOf}
+use Rattle.report.specs.Report.{isOpen, openRegions, rowOf, totalOf}
 use Rattle.report.specs.Passing.{passing, passing-next}
 use Rattle.report.specs.Opened.{open-yes}
 use Rattle.report.specs.Tables.{WholeTables, rowIn, rowsIn}
@@ -80,4 +80,4 @@ module _ (p : Sizes) (t : List ℕ) (k : WholeTables p t) where
 
   -- d is made less freed, as the code has it
   pub total-less : (n d made freed : ℕ) → Room p n → d < 2 ^ 32 → (d + freed) % 2 ^ 32 ≡ made → made ≡ madeOf p t → freed ≡ freedOf p t → d ≡ totalOf (rowsIn p t)
-  total-less n d made freed r low e f g = same-counters p t d made freed low e f g (live-low p t n r (regions-of (k .whole))) (k .whole .counters) ∙ sym total-live
+  total-less n d made freed r low e f g = whole-left p t d made freed low e f g (live-low p t n r (regions-of (k .whole))) (k .whole .counters) ∙ sym total-live

@@ -12,12 +12,8 @@ use Rattle.laws.specs.Counters.{leaves-one}
 use Rattle.layout.specs.Places.{Room, mostRegions, regions-few, countOf}
 use Rattle.layout.specs.Cells.{pageCells}
 use Rattle.layout.specs.Words.{tablesOnly, countersIn}
-use Rattle.promises.specs.Whole.{objectsOn, liveOf, CountersWhole}
+use Rattle.promises.specs.Whole.{objectsOn, liveTo, liveOf, CountersWhole}
 use Rattle.whole.specs.Regions.{RegionsWhole, on-low}
-
--- the objects of the regions 1 to n, by their counts
-abbrev pub liveTo : Sizes → List ℕ → ℕ → ℕ
-liveTo s t n = sum (λ i. countOf s t (suc i)) n
 
 -- k is the count of region g as the code read it
 pub live-more : (s : Sizes) (t : List ℕ) (g k : ℕ) → 1 ≤ g → k ≡ countOf s t g → liveTo s t (g + 1 - 1) ≡ liveTo s t (g - 1) + k
@@ -49,8 +45,8 @@ module _ (s : Sizes) (t : List ℕ) (d made freed : ℕ) (low : d < 2 ^ 32) (e :
   unfolding counted
   left = subst (λ (x : ℕ). (d + x) % 2 ^ 32 ≡ countersIn s (tablesOnly t) .made) g (e ∙ f)
 
-  pub counters-same : d ≡ liveOf s t → CountersWhole s (tablesOnly t)
-  counters-same q = subst (λ (x : ℕ). Leaves (countersIn s (tablesOnly t)) x) q left
+  pub left-whole : d ≡ liveOf s t → CountersWhole s (tablesOnly t)
+  left-whole q = subst (λ (x : ℕ). Leaves (countersIn s (tablesOnly t)) x) q left
 
-  pub same-counters : liveOf s t < 2 ^ 32 → CountersWhole s (tablesOnly t) → d ≡ liveOf s t
-  same-counters h k = leaves-one (countersIn s (tablesOnly t)) d (liveOf s t) low h left k
+  pub whole-left : liveOf s t < 2 ^ 32 → CountersWhole s (tablesOnly t) → d ≡ liveOf s t
+  whole-left h k = leaves-one (countersIn s (tablesOnly t)) d (liveOf s t) low h left k

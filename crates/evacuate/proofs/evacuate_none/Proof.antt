@@ -3,7 +3,7 @@ use native.Mathlib.Omega.{arith}
 use Rattle.ending.specs.Ending.{depth-now}
 use Rattle.ending.specs.PagesEnough.{plan}
 use Rattle.ending.specs.Stages as st
-use Rattle.ending.specs.NoSurvivors.{none-rest, none-copied, none-copies, none-rewritten, none-update, none-variables}
+use Rattle.ending.specs.NoSurvivors.{all-freed, none-copied, none-copies, none-rewritten, none-update, none-variables}
 use Rattle.evacuate.proofs.evacuate_none.Statement.{statement}
 use Rattle.evacuate.proofs.evacuate_none.Tie as tie
 
@@ -38,7 +38,7 @@ returns c cells tables e a =
     let off = c .before .before .before .before .before .before .before .before .before .before .before .before .before .before .before .before .before .before .before .before .pre .1 .0 in
     let p = plan e (a .pages) in
     let release = c .before .before .before .before .before .before .release-region in
-    st.has-ended e p (none-copied e off) (none-variables e off) (release .ensures .0) (none-rest e off) (release .ensures .1) (none-rewritten e off p) (c .before .before .before .before .before .before .before .before .before .before .before .before .keep-entries .ensures)
+    st.has-ended e p (none-copied e off) (none-variables e off) (release .ensures .0) (all-freed e off) (release .ensures .1) (none-rewritten e off p) (c .before .before .before .before .before .before .before .before .before .before .before .before .keep-entries .ensures)
 
 pub evacuate-none-spec : {M : Type 1} → statement M
 evacuate-none-spec =

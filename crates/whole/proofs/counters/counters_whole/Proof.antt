@@ -6,7 +6,7 @@ use Prim.Native.Nat.{_+_, _<_, _%_, _^_}
 use lib.ListN.{length}
 use denote.Ref.{now}
 use Rattle.lists.specs.Says.{says-yes, says-no}
-use Rattle.whole.specs.Counters.{live-low, counters-same, same-counters}
+use Rattle.whole.specs.Counters.{live-low, left-whole, whole-left}
 use Rattle.whole.proofs.counters.counters_whole.Statement.{statement}
 use Rattle.whole.proofs.counters.counters_whole.Tie as tie
 
@@ -35,7 +35,7 @@ returns c =
     let low : less .result < 2 ^ 32 = omega arith in
     let difference : (less .result + freed .result) % 2 ^ 32 ≡ made .result = omega (arith, less .ensures) in
     says-no (λ h. c .if1 .taken (c .before .before .wide .ensures
-    ∙ same-counters (args .p) (now (args .tables)) (less .result) (made .result) (freed .result) low difference (made .ensures) (freed .ensures) (live-low (args .p) (now (args .tables)) (length (now (args .tables))) (pre .0) (pre .1)) h
+    ∙ whole-left (args .p) (now (args .tables)) (less .result) (made .result) (freed .result) low difference (made .ensures) (freed .ensures) (live-low (args .p) (now (args .tables)) (length (now (args .tables))) (pre .0) (pre .1)) h
     ∙ sym (c .before .live-objects .ensures)))
 
 returns-2 : tie.Need-returns-2
@@ -46,7 +46,7 @@ returns-2 c =
     let less = c .before .before .before .wrapping-sub-u32 in
     let low : less .result < 2 ^ 32 = omega arith in
     let difference : (less .result + freed .result) % 2 ^ 32 ≡ made .result = omega (arith, less .ensures) in
-    says-yes (counters-same (args .p) (now (args .tables)) (less .result) (made .result) (freed .result) low difference (made .ensures) (freed .ensures)
+    says-yes (left-whole (args .p) (now (args .tables)) (less .result) (made .result) (freed .result) low difference (made .ensures) (freed .ensures)
     (sym (c .before .before .wide .ensures) ∙ c .if1 .left ∙ c .before .live-objects .ensures))
 
 pub counters-whole-spec : {M : Type 1} → statement M

@@ -5,7 +5,8 @@ use mathlib.Core.Path.{_≡_, ap, _∙_}
 use Prim.Native.Nat.{_+_, _*_, _-_, _≤_, _<_}
 use denote.Ref.{now}
 use Rattle.layout.specs.Places.{mostRegions, regions-few}
-use Rattle.whole.specs.Counters.{liveTo, live-more}
+use Rattle.promises.specs.Whole.{liveTo}
+use Rattle.whole.specs.Counters.{live-more}
 use Rattle.whole.proofs.counters.live_objects.Statement.{statement}
 use Rattle.whole.proofs.counters.live_objects.Tie as tie
 
