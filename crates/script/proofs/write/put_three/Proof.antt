@@ -16,7 +16,7 @@ put-then-requires-3 c κs =
     let fits = c .before .before .before .before .before .before .before .before .before .before .fits in
     let put-then = c .before .before .before .before .before .before .before .put-then in
     let put-then2 = c .before .before .before .put-then2 in
-    omega (arith, word-length _ (fits .c .fits), put-end _ _ (fits .a .fits) (put-then .ensures), put-end _ _ (fits .b .fits) (put-then2 .ensures))
+    omega (arith, word-length _ (fits .b .fits), word-length _ (fits .c .fits), put-end _ _ (fits .a .fits) (put-then .ensures), put-end _ _ (fits .b .fits) (put-then2 .ensures))
 
 same-length : tie.Need-same-length
 same-length c = search needs
