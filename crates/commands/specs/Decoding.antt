@@ -13,10 +13,10 @@ use Rattle.lists.specs.Listed.{listed, getD-listed}
 use Rattle.lists.specs.Tests.{both-true}
 use Rattle.rules.specs.declared.Sizes.{Sizes}
 use Rattle.rules.specs.declared.Command.{Command}
-use Rattle.rules.specs.Terms.{Code, unknown, start, end, new, copy, clear, load, store, read, write, same, codes, decode, ask, limits, refused, done}
+use Rattle.rules.specs.Terms.{Code, unknown, start, end, new, copy, clear, load, store, read, write, same, codes, decode, ask, limits, refused, done, first}
 use Rattle.rules.specs.declared.Answer.{Answer}
 use Rattle.rules.specs.NeverFreeing.{NeverFreeing, operands, known, question, state}
-use Rattle.rules.specs.Rules.{first}
+
 use Rattle.layout.specs.Cells.{mostFields}
 use Rattle.commands.specs.declared.Decoded.{Decoded}
 use Rattle.commands.specs.declared.Decoded.the-variants.{Start, End, New, Copy, Clear, Load, Store, Read, Write, Same, Refused}

@@ -10,13 +10,13 @@ use lib.Dec.{leb}
 use borrow.Author.Tests.{lt-ltb, le-leb}
 use Rattle.lists.specs.Products.{flat-low}
 use Rattle.rules.specs.declared.Sizes.{Sizes}
-use Rattle.rules.specs.Terms.{ask, refused, done, limits}
+use Rattle.rules.specs.Terms.{ask, refused, done, limits, first}
 use Rattle.rules.specs.NeverFreeing as nf
 use Rattle.rules.specs.NeverFreeing.{place}
 use Rattle.rules.specs.Regions.{regionAt, regions}
 use Rattle.rules.specs.Graph.{newPages, freePages}
 use Rattle.rules.specs.Rules as ru
-use Rattle.rules.specs.Rules.{counted, Regioned, graph, oneMade, first}
+use Rattle.rules.specs.Rules.{counted, Regioned, graph, oneMade}
 use Rattle.layout.specs.Places.{depthOf, usedOf, countOf, countAt, madeAt, madeOf, count-room}
 use Rattle.layout.specs.Cells.{headAt, cellOn, pageCells, headWord, mostFields, CellIn}
 use Rattle.layout.specs.Words.{Words, words, heapOf}

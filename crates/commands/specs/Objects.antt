@@ -112,7 +112,7 @@ module _ (p : Sizes) (c m t : List ℕ) (k : WholeFor p (words c m t)) (u a : �
       unfolding ru.after ru.homesAfter ru.countersAfter nf.effect
       write-after =
           let i : varOf (limits s) (H .heap) u a ≡ suc y = heap-var ∙ (let o : x ≡ suc y = omega (arith, within Number b q g z) in o) in
-          ap (λ (j : ℕ). record { heap = nf.withObject (H .heap) j (record { refs = objectOf (H .heap) j .refs; nums = set (objectOf (H .heap) j .nums) b v }); homes = H .homes; counters = H .counters }) i
+          ap (λ (j : ℕ). record { heap = nf.withObject (H .heap) j (record { refs = objectOf (H .heap) j .refs; nums = set (objectOf (H .heap) j .nums) b v }); homes = H .homes; counters = H .counters; occupancy = H .occupancy }) i
 
       pub write-done : {c′ : List ℕ} → c′ ≡ set c (kindAt Number c (x - 1) b) v → Does p c m t (Write u a b v) c′ m t (done 0)
       unfolding nf.value

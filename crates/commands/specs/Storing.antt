@@ -9,12 +9,12 @@ use lib.ListN.{length, getD, set, length-set}
 use lib.Dec.{ltb, leb}
 use borrow.Author.Tests.{lt-ltb, le-leb, lt-leb}
 use Rattle.rules.specs.declared.Sizes.{Sizes}
-use Rattle.rules.specs.Terms.{ask, refused, done, limits}
+use Rattle.rules.specs.Terms.{ask, refused, done, limits, first}
 use Rattle.rules.specs.NeverFreeing as nf
 use Rattle.rules.specs.NeverFreeing.{Object, noObject, used, varOf, objectOf}
 use Rattle.rules.specs.Graph.{crossing}
 use Rattle.rules.specs.Rules as ru
-use Rattle.rules.specs.Rules.{Regioned, graph, first}
+use Rattle.rules.specs.Rules.{Regioned, graph}
 use Rattle.laws.specs.GraphLaws.{Alive}
 use Rattle.laws.specs.RulesLaws.{Sound, sound-after}
 use Rattle.layout.specs.declared.Kind.the-variants.{Reference}
@@ -160,7 +160,7 @@ module _ (p : Sizes) (c m t : List ℕ) (k : WholeFor p (words c m t)) (u a : �
       unfolding ru.after ru.homesAfter ru.countersAfter nf.effect
       store-after =
           let i : varOf (limits s) (H .heap) u a ≡ suc y = heap-var p c m t k u a l n x e ∙ (let h : x ≡ suc y = omega (arith, within p c m t k u a l n x e Reference f q g z) in h) in
-          ap₂ (λ (i j : ℕ). record { heap = nf.withObject (H .heap) i (record { refs = set (objectOf (H .heap) i .refs) f j; nums = objectOf (H .heap) i .nums }); homes = H .homes; counters = H .counters }) i (here-var s w u b l o ∙ sym ev)
+          ap₂ (λ (i j : ℕ). record { heap = nf.withObject (H .heap) i (record { refs = set (objectOf (H .heap) i .refs) f j; nums = objectOf (H .heap) i .nums }); homes = H .homes; counters = H .counters; occupancy = H .occupancy }) i (here-var s w u b l o ∙ sym ev)
 
       sound : Sound h′
       sound = subst Sound store-after (sound-after s H (heap-stands s w k .sound) (commandFor (Store u a f b)))

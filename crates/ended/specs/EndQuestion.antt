@@ -8,13 +8,13 @@ use lib.ListN.{set}
 use lib.Dec.{ltb, leb}
 use borrow.Author.Tests.{lt-ltb, le-leb}
 use Rattle.rules.specs.declared.Sizes.{Sizes}
-use Rattle.rules.specs.Terms.{ask, refused, limits}
+use Rattle.rules.specs.Terms.{ask, refused, limits, first}
 use Rattle.rules.specs.NeverFreeing as nf
 use Rattle.rules.specs.NeverFreeing.{depthOf}
 use Rattle.rules.specs.Regions.{regionAt}
 use Rattle.rules.specs.Graph.{ended, crossing, newPages}
 use Rattle.rules.specs.Rules as ru
-use Rattle.rules.specs.Rules.{graph, first}
+use Rattle.rules.specs.Rules.{graph}
 use Rattle.laws.specs.RulesLaws.{region-pos, graph-ended}
 use Rattle.laws.specs.SameRules.{same-new-ended, same-crossing-ended}
 use Rattle.layout.specs.Words.{Words, depthIn, graphOf, heapOf}

@@ -11,12 +11,12 @@ use Rattle.lists.specs.Members.{keep}
 use Rattle.rules.specs.declared.Sizes.{Sizes}
 use Rattle.rules.specs.declared.Command.{Command}
 use Rattle.rules.specs.declared.Answer.{Answer}
-use Rattle.rules.specs.Terms.{refused, ask, Limits, limits}
+use Rattle.rules.specs.Terms.{refused, ask, Limits, limits, first}
 use Rattle.rules.specs.NeverFreeing as nf
 use Rattle.rules.specs.NeverFreeing.{Access, noField, references, numbers, accessed, Effect, opens, ends, makes, assigns, meaningOf, nested}
 use Rattle.rules.specs.Graph.{crossing, freePages, newPages}
 use Rattle.rules.specs.Rules as ru
-use Rattle.rules.specs.Rules.{Regioned, graph, asksEntries, lacking, first}
+use Rattle.rules.specs.Rules.{Regioned, graph, asksEntries, lacking}
 
 ask-le : (b : Bool) (q rest : ℕ) → q ≤ 12 → rest ≤ 12 → ask b q rest ≤ 12
 unfolding ask

@@ -6,10 +6,10 @@ use mathlib.Core.Bool.{Bool, true, false}
 use lib.Dec.{T, ltb, leb, ltb→lt}
 use Rattle.lists.specs.Tests.{both-hold}
 use Rattle.rules.specs.declared.Command.{Command}
-use Rattle.rules.specs.Terms.{Code, unknown, start, end, new, copy, clear, load, store, read, write, same, decode, ask, Limits}
+use Rattle.rules.specs.Terms.{Code, unknown, start, end, new, copy, clear, load, store, read, write, same, decode, ask, Limits, first}
 use Rattle.rules.specs.NeverFreeing.{NeverFreeing, mostFields, operands, question, state, Access, noField, references, numbers, accessed, nested}
 use Rattle.rules.specs.NeverFreeing.{Effect, opens, ends, makes, assigns, meaning, meaningOf}
-use Rattle.rules.specs.Rules.{first}
+
 
 pub ask-zero : (b : Bool) (q rest : ℕ) → ask b (suc q) rest ≡ 0 → T b × (rest ≡ 0)
 unfolding ask

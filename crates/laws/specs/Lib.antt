@@ -11,6 +11,7 @@ pub mod SameRules
 pub mod RulesLaws
 pub mod Asked
 pub mod AfterLaws
+pub mod LikeCells
 pub mod LikeHeaps
 pub mod LikeSteps
 pub mod Placed

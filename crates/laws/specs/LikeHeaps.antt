@@ -22,17 +22,19 @@ use Rattle.rules.specs.NeverFreeing as nf
 use Rattle.rules.specs.NeverFreeing.{Object, noObject, depthOf, varOf, objectOf, place, usedThen, accessed, nested, referred, meaningOf}
 use Rattle.rules.specs.NeverFreeing.{Access, noField, references, numbers, Source, null, held, loaded, Result, noValue, isObject, theNumber, areSame}
 use Rattle.rules.specs.NeverFreeing.{Assignment, nothing, variable, reference, number, Effect, opens, ends, makes, assigns}
-use Rattle.rules.specs.Regions.{regionAt}
+use Rattle.rules.specs.Regions.{regionAt, only}
+use Rattle.rules.specs.Pages.{Pages, take}
 use Rattle.rules.specs.Graph.{Graph, ended, freedBy}
 use Rattle.laws.specs.GraphLaws.{Alive}
 use Rattle.laws.specs.EndLaws.{was-alive}
 use Rattle.laws.specs.SameRules.{renamed, renamed-zeros, Partners, partners-ended, same-freed}
 use Rattle.rules.specs.Rules as ru
-use Rattle.rules.specs.Rules.{Regioned, graph, innermost, oneMade, moreFreed}
+use Rattle.rules.specs.Rules.{Regioned, graph, objectCell, innermost, oneMade, moreFreed}
 use Rattle.laws.specs.RulesLaws.{Sound, region-pos, graph-ended, afterEffect}
+use Rattle.laws.specs.LikeCells.{Apart, SameOccupancy, vacated-pages, vacated-cells}
 
 -- `to` leads each object of h that is there to one of k, one to one and onto, with its home, references, numbers and the variables;
--- depths and counters are the same
+-- depths and counters are the same, and so are the cells of partners and the pages
 pub record Like (to : ℕ → ℕ) (h k : Regioned) : Type 0 where
   pub sound : Sound h
   pub sound′ : Sound k
@@ -40,6 +42,7 @@ pub record Like (to : ℕ → ℕ) (h k : Regioned) : Type 0 where
   pub partners : Partners to (graph h) (graph k)
   pub nums : (x : ℕ) → Alive (graph h) x → getD (k .heap .objects) (to x) noObject .nums ≡ getD (h .heap .objects) x noObject .nums
   pub counters : k .counters ≡ h .counters
+  pub occupancy : SameOccupancy to h k
 
 -- ---- lists
 
@@ -49,11 +52,11 @@ null-like to (suc x) = eqb·suc-zero (to x) ∙ sym (eqb·suc-zero x)
 
 -- a heap after the end of region r, and one with a new object in region q and variable p
 abbrev over : Sizes → ℕ → Regioned → List ℕ → Regioned
-over s r g ds = record { heap = record { depths = ds; vars = g .heap .vars; objects = g .heap .objects }; homes = ru.ended s g r; counters = moreFreed (freedBy s (graph g) r) (g .counters) }
+over s r g ds = record { heap = record { depths = ds; vars = g .heap .vars; objects = g .heap .objects }; homes = ru.ended s g r; counters = moreFreed (freedBy s (graph g) r) (g .counters); occupancy = ru.vacated s g (only r) (ru.ended s g r) }
 
 abbrev grownBy : ℕ → ℕ → List ℕ → ℕ → Regioned → Regioned
 grownBy q b ns p g =
-    record { heap = record { depths = g .heap .depths; vars = set (g .heap .vars) p (length (g .heap .objects) + 1); objects = g .heap .objects ++ record { refs = replicate b 0; nums = ns } ∷ [] }; homes = g .homes ++ q ∷ []; counters = oneMade (g .counters) }
+    record { heap = record { depths = g .heap .depths; vars = set (g .heap .vars) p (length (g .heap .objects) + 1); objects = g .heap .objects ++ record { refs = replicate b 0; nums = ns } ∷ [] }; homes = g .homes ++ q ∷ []; counters = oneMade (g .counters); occupancy = ru.takenBy (g .occupancy) q }
 
 module _ (s : Sizes) (to : ℕ → ℕ) (h k : Regioned) (l : Like to h k) where
   -- a reference that is null or names an object that is there
@@ -168,8 +171,8 @@ module _ (s : Sizes) (to : ℕ → ℕ) (h k : Regioned) (l : Like to h k) where
         go (no n) =
             subst₂ P (sym (getD-set-other (h .heap .objects) x y o noObject n)) (sym (getD-set-other (k .heap .objects) (to x) (to y) o′ noObject (λ e. n (l .partners .apart y x b a e)))) (f y b)
 
-    object-partners : Partners to (graph (record { heap = record { depths = h .heap .depths; vars = h .heap .vars; objects = set (h .heap .objects) x o }; homes = h .homes; counters = h .counters }))
-        (graph (record { heap = record { depths = k .heap .depths; vars = k .heap .vars; objects = set (k .heap .objects) (to x) o′ }; homes = k .homes; counters = k .counters }))
+    object-partners : Partners to (graph (record { heap = record { depths = h .heap .depths; vars = h .heap .vars; objects = set (h .heap .objects) x o }; homes = h .homes; counters = h .counters; occupancy = h .occupancy }))
+        (graph (record { heap = record { depths = k .heap .depths; vars = k .heap .vars; objects = set (k .heap .objects) (to x) o′ }; homes = k .homes; counters = k .counters; occupancy = k .occupancy }))
     object-partners =
         record {
           home = l .partners .home;
@@ -283,9 +286,21 @@ module _ (s : Sizes) (to : ℕ → ℕ) (h k : Regioned) (l : Like to h k) where
         (λ x a. ap (λ (o : Object). o .nums) (object-old k (to x) (low′ x a)) ∙ l .nums x a ∙ ap (λ (o : Object). o .nums) (sym (object-old h x (low x a))))
         (ap (λ (o : Object). o .nums) (object-new k) ∙ sym (ap (λ (o : Object). o .nums) (object-new h)))
 
+    new-occupancy : SameOccupancy to⁺ (grown h) (grown k)
+    unfolding ru.takenBy
+    new-occupancy =
+        record {
+          pages = ap (λ (ps : Pages). take ps q .pages) (l .occupancy .pages);
+          cells = cases (λ x y. objectCell (grown k) y ≡ objectCell (grown h) x)
+              (λ x a. List·getD-append (k .occupancy .cells) (take (k .occupancy .pages) q .cell ∷ []) 0 (to x) (omega (arith, low′ x a, l .sound′ .celled, l .sound′ .aligned)) ∙ l .occupancy .cells x a
+              ∙ sym (List·getD-append (h .occupancy .cells) (take (h .occupancy .pages) q .cell ∷ []) 0 x (omega (arith, low x a, l .sound .celled, l .sound .aligned))))
+              (getD-at (k .occupancy .cells) (take (k .occupancy .pages) q .cell) [] 0 n′ (l .sound′ .celled ∙ l .sound′ .aligned) ∙ ap (λ (ps : Pages). take ps q .cell) (l .occupancy .pages)
+              ∙ sym (getD-at (h .occupancy .cells) (take (h .occupancy .pages) q .cell) [] 0 n (l .sound .celled ∙ l .sound .aligned)));
+        }
+
     new-after : Sound (grown h) → Sound (grown k) → After (grown h) (grown k)
     new-after sh sk =
-        record { to′ = to⁺; like = record { sound = sh; sound′ = sk; depths = l .depths; partners = new-partners; nums = new-nums; counters = ap oneMade (l .counters) }; keeps = to-alive }
+        record { to′ = to⁺; like = record { sound = sh; sound′ = sk; depths = l .depths; partners = new-partners; nums = new-nums; counters = ap oneMade (l .counters); occupancy = new-occupancy }; keeps = to-alive }
 
   -- ---- every command
 
@@ -294,8 +309,8 @@ module _ (s : Sizes) (to : ℕ → ℕ) (h k : Regioned) (l : Like to h k) where
 
   -- the object that a reference v here, and the one that corresponds there, becomes o and o′
   object-after : (v u : ℕ) → Live v → u ≡ renamed to v → (o o′ : Object) → o′ .refs ≡ map (renamed to) (o .refs) → o′ .nums ≡ o .nums
-      → Sound (record { heap = nf.withObject (h .heap) v o; homes = h .homes; counters = h .counters }) → Sound (record { heap = nf.withObject (k .heap) u o′; homes = k .homes; counters = k .counters })
-      → After (record { heap = nf.withObject (h .heap) v o; homes = h .homes; counters = h .counters }) (record { heap = nf.withObject (k .heap) u o′; homes = k .homes; counters = k .counters })
+      → Sound (record { heap = nf.withObject (h .heap) v o; homes = h .homes; counters = h .counters; occupancy = h .occupancy }) → Sound (record { heap = nf.withObject (k .heap) u o′; homes = k .homes; counters = k .counters; occupancy = k .occupancy })
+      → After (record { heap = nf.withObject (h .heap) v o; homes = h .homes; counters = h .counters; occupancy = h .occupancy }) (record { heap = nf.withObject (k .heap) u o′; homes = k .homes; counters = k .counters; occupancy = k .occupancy })
   object-after zero zero f e o o′ er en sh sk = same-after
   object-after zero (suc y) f e o o′ er en sh sk = absurd (let z : ⊥ = omega arith in z)
   object-after (suc x) zero f e o o′ er en sh sk = absurd (let z : ⊥ = omega arith in z)
@@ -303,20 +318,20 @@ module _ (s : Sizes) (to : ℕ → ℕ) (h k : Regioned) (l : Like to h k) where
       let p : y ≡ to x = suc-inj e in
       record {
         to′ = to;
-        like = record { sound = sh; sound′ = sk; depths = l .depths; partners = rw p (object-partners x (f x refl) o o′ er en); nums = rw p (object-nums x (f x refl) o o′ er en); counters = l .counters };
+        like = record { sound = sh; sound′ = sk; depths = l .depths; partners = rw p (object-partners x (f x refl) o o′ er en); nums = rw p (object-nums x (f x refl) o o′ er en); counters = l .counters; occupancy = record { pages = l .occupancy .pages; cells = l .occupancy .cells } };
         keeps = λ y b. refl;
       }
 
   -- the objects and homes stay, and the variables follow
   vars-after : (p v u : ℕ) → u ≡ renamed to v
-      → Sound (record { heap = record { depths = h .heap .depths; vars = set (h .heap .vars) p v; objects = h .heap .objects }; homes = h .homes; counters = h .counters })
-      → Sound (record { heap = record { depths = k .heap .depths; vars = set (k .heap .vars) p u; objects = k .heap .objects }; homes = k .homes; counters = k .counters })
-      → After (record { heap = record { depths = h .heap .depths; vars = set (h .heap .vars) p v; objects = h .heap .objects }; homes = h .homes; counters = h .counters })
-      (record { heap = record { depths = k .heap .depths; vars = set (k .heap .vars) p u; objects = k .heap .objects }; homes = k .homes; counters = k .counters })
+      → Sound (record { heap = record { depths = h .heap .depths; vars = set (h .heap .vars) p v; objects = h .heap .objects }; homes = h .homes; counters = h .counters; occupancy = h .occupancy })
+      → Sound (record { heap = record { depths = k .heap .depths; vars = set (k .heap .vars) p u; objects = k .heap .objects }; homes = k .homes; counters = k .counters; occupancy = k .occupancy })
+      → After (record { heap = record { depths = h .heap .depths; vars = set (h .heap .vars) p v; objects = h .heap .objects }; homes = h .homes; counters = h .counters; occupancy = h .occupancy })
+      (record { heap = record { depths = k .heap .depths; vars = set (k .heap .vars) p u; objects = k .heap .objects }; homes = k .homes; counters = k .counters; occupancy = k .occupancy })
   vars-after p v u e sh sk =
       record {
         to′ = to;
-        like = record { sound = sh; sound′ = sk; depths = l .depths; partners = vars-partners (set (h .heap .vars) p v) (set (k .heap .vars) p u) (set-vars p v u e); nums = l .nums; counters = l .counters };
+        like = record { sound = sh; sound′ = sk; depths = l .depths; partners = vars-partners (set (h .heap .vars) p v) (set (k .heap .vars) p u) (set-vars p v u e); nums = l .nums; counters = l .counters; occupancy = record { pages = l .occupancy .pages; cells = l .occupancy .cells } };
         keeps = λ x a. refl;
       }
 
@@ -325,8 +340,8 @@ module _ (s : Sizes) (to : ℕ → ℕ) (h k : Regioned) (l : Like to h k) where
 
   -- the end of the region r
   module _ (r : ℕ) (pos : 0 < r) where
-    end-after : (ds es : List ℕ) → es ≡ ds → Sound (over s r h ds) → Sound (over s r k es) → After (over s r h ds) (over s r k es)
-    end-after ds es e sh sk =
+    end-after : Apart h → (ds es : List ℕ) → es ≡ ds → Sound (over s r h ds) → Sound (over s r k es) → After (over s r h ds) (over s r k es)
+    end-after apart ds es e sh sk =
         record {
           to′ = to;
           like = record {
@@ -335,14 +350,21 @@ module _ (s : Sizes) (to : ℕ → ℕ) (h k : Regioned) (l : Like to h k) where
             depths = e;
             partners = subst₂ (Partners to) (sym (graph-ended s h r pos ds)) (sym (graph-ended s k r pos es))
                 (partners-ended s to (graph h) (graph k) (l .sound .closed) (l .sound′ .closed) (l .partners) r pos);
-            nums = λ x a. l .nums x (was-alive s (graph h) r pos (l .sound .closed) x (subst (λ (g : Graph). Alive g x) (graph-ended s h r pos ds) a));
+            nums = λ x a. l .nums x (before x a);
             counters = ap₂ moreFreed (sym (same-freed s to (graph h) (graph k) (l .sound .closed) (l .sound′ .closed) (l .partners) r pos)) (l .counters);
+            occupancy = record {
+              pages = vacated-pages s to h k (l .sound) (l .sound′) (l .partners) (l .occupancy) apart r pos;
+              cells = λ x a. vacated-cells s to h k (l .sound) (l .sound′) (l .partners) (l .occupancy) apart r pos x (before x a);
+            };
           };
           keeps = λ x a. refl;
         }
+      where
+        before : (x : ℕ) → Alive (graph (over s r h ds)) x → Alive (graph h) x
+        before x a = was-alive s (graph h) r pos (l .sound .closed) x (subst (λ (g : Graph). Alive g x) (graph-ended s h r pos ds) a)
 
   assigned-after : (t : ℕ) (x : Assignment) → Sound (afterEffect s h t (assigns x)) → Sound (afterEffect s k t (assigns x)) → After (afterEffect s h t (assigns x)) (afterEffect s k t (assigns x))
-  unfolding nf.effect ru.homesAfter ru.countersAfter
+  unfolding nf.effect ru.homesAfter ru.countersAfter ru.occupancyAfter
   assigned-after t nothing sh sk = same-after
   assigned-after t (variable a v) sh sk = vars-after (place (limits s) t a) _ _ (source-like v) sh sk
   assigned-after t (reference a f v) sh sk =
@@ -353,20 +375,20 @@ module _ (s : Sizes) (to : ℕ → ℕ) (h k : Regioned) (l : Like to h k) where
       object-after (varOf (limits s) (h .heap) t a) _ (var-live (place (limits s) t a)) (var-like (place (limits s) t a)) _ _ (var-refs (place (limits s) t a))
       (ap (λ (vs : List ℕ). set vs f v) (var-nums (place (limits s) t a))) sh sk
 
-  pub after-like : (t : ℕ) (e : Effect) → Sound (afterEffect s h t e) → Sound (afterEffect s k t e) → After (afterEffect s h t e) (afterEffect s k t e)
-  unfolding nf.effect ru.homesAfter ru.countersAfter
-  after-like t opens sh sk =
+  pub after-like : Apart h → (t : ℕ) (e : Effect) → Sound (afterEffect s h t e) → Sound (afterEffect s k t e) → After (afterEffect s h t e) (afterEffect s k t e)
+  unfolding nf.effect ru.homesAfter ru.countersAfter ru.occupancyAfter
+  after-like apart t opens sh sk =
       record {
         to′ = to;
-        like = record { sound = sh; sound′ = sk; depths = ap (λ (ds : List ℕ). set ds t (getD ds t 0 + 1)) (l .depths); partners = l .partners; nums = l .nums; counters = l .counters };
+        like = record { sound = sh; sound′ = sk; depths = ap (λ (ds : List ℕ). set ds t (getD ds t 0 + 1)) (l .depths); partners = l .partners; nums = l .nums; counters = l .counters; occupancy = record { pages = l .occupancy .pages; cells = l .occupancy .cells } };
         keeps = λ x d. refl;
       }
-  after-like t ends sh sk =
+  after-like apart t ends sh sk =
       let q = innermost-like t in
       let ds = ap (λ (ds : List ℕ). set ds t (getD ds t 0 - 1)) (l .depths) in
       subst (λ (r : ℕ). Sound (over s r k (set (k .heap .depths) t (depthOf (k .heap) t - 1))) → After (over s (innermost s h t) h (set (h .heap .depths) t (depthOf (h .heap) t - 1))) (over s r k (set (k .heap .depths) t (depthOf (k .heap) t - 1))))
-      (sym q) (λ sk′. end-after (innermost s h t) (region-pos s t (depthOf (h .heap) t)) _ _ ds sh sk′) sk
-  after-like t (makes a b c) sh sk =
+      (sym q) (λ sk′. end-after (innermost s h t) (region-pos s t (depthOf (h .heap) t)) apart _ _ ds sh sk′) sk
+  after-like apart t (makes a b c) sh sk =
       subst (λ (r : ℕ). Sound (grownBy r b (replicate c 0) (place (limits s) t a) k) → After (grownBy (innermost s h t) b (replicate c 0) (place (limits s) t a) h) (grownBy r b (replicate c 0) (place (limits s) t a) k)) (sym (innermost-like t))
       (λ sk′. new-after (innermost s h t) b (replicate c 0) (place (limits s) t a) (region-pos s t (depthOf (h .heap) t)) sh sk′) sk
-  after-like t (assigns x) sh sk = assigned-after t x sh sk
+  after-like apart t (assigns x) sh sk = assigned-after t x sh sk

@@ -5,7 +5,7 @@ use mathlib.Core.Bool.{Bool, cond}
 use lib.Dec.{leb}
 use Rattle.rules.specs.declared.Sizes.{Sizes}
 use Rattle.rules.specs.declared.Command.{Command}
-use Rattle.rules.specs.Terms.{ask, done, limits}
+use Rattle.rules.specs.Terms.{ask, done, limits, first}
 use Rattle.rules.specs.NeverFreeing as nf
 use Rattle.rules.specs.NeverFreeing.{meaningOf}
 use Rattle.rules.specs.Graph.{target, ended, objectsIn, pagesOf, newPages, freePages, crossing}
@@ -13,13 +13,14 @@ use Rattle.laws.specs.GraphLaws.{Alive}
 use Rattle.laws.specs.Counts.{same-free, same-new}
 use Rattle.laws.specs.SameRules.{same-objects, same-crossing, same-target, same-new-ended, same-crossing-ended}
 use Rattle.rules.specs.Rules as ru
-use Rattle.rules.specs.Rules.{Regioned, graph, asksEntries, first}
+use Rattle.rules.specs.Rules.{Regioned, graph, asksEntries}
 use Rattle.laws.specs.RulesLaws.{sound-after}
+use Rattle.laws.specs.LikeCells.{Apart}
 use Rattle.laws.specs.LikeHeaps.{Like, After, question-like, value-like, after-like, same-after}
 
 -- ---- a whole command, with its questions
 
-module _ (s : Sizes) (to : ℕ → ℕ) (h k : Regioned) (l : Like to h k) (m : Command) where
+module _ (s : Sizes) (to : ℕ → ℕ) (h k : Regioned) (l : Like to h k) (apart : Apart h) (m : Command) where
   room-like : (h₁ k₁ : Regioned) (to₁ : ℕ → ℕ) → Like to₁ h₁ k₁ → ru.room s k m k₁ ≡ ru.room s h m h₁
   unfolding ru.room
   room-like h₁ k₁ to₁ l₁ =
@@ -57,7 +58,7 @@ module _ (s : Sizes) (to : ℕ → ℕ) (h k : Regioned) (l : Like to h k) (m : 
         where
           after : After s to h k l (ru.after s h m) (ru.after s k m)
           after =
-              after-like s to h k l (m .thread) (meaningOf m .effect) (sound-after s h (l .sound) m) (sound-after s k (l .sound′) m)
+              after-like s to h k l apart (m .thread) (meaningOf m .effect) (sound-after s h (l .sound) m) (sound-after s k (l .sound′) m)
 
           at-h : (w : ℕ) → ru.room s h m (ru.after s h m) ≡ w → ru.question s h m ≡ w
           at-h w f = ap₂ first e f
@@ -80,11 +81,11 @@ pub record SameRules (s : Sizes) (to : ℕ → ℕ) (h k : Regioned) : Type 0 wh
   pub crossings : crossing (graph k) ≡ crossing (graph h)
   pub ends : (r : ℕ) → 0 < r → (newPages s (graph k) (ended s (graph k) r) ≡ newPages s (graph h) (ended s (graph h) r)) × (crossing (ended s (graph k) r) ≡ crossing (ended s (graph h) r))
 
-pub same-rules : (s : Sizes) (to : ℕ → ℕ) (h k : Regioned) → Like to h k → SameRules s to h k
-same-rules s to h k l =
+pub same-rules : (s : Sizes) (to : ℕ → ℕ) (h k : Regioned) → Like to h k → Apart h → SameRules s to h k
+same-rules s to h k l apart =
     let objects = same-objects s to (graph h) (graph k) (l .sound .closed) (l .sound′ .closed) (l .partners) in
     record {
-      answers = λ m. step-like s to h k l m .answers;
+      answers = λ m. step-like s to h k l apart m .answers;
       targets = λ r pos x a. same-target s to (graph h) (graph k) (l .sound .closed) (l .sound′ .closed) (l .partners) r pos x a;
       objects = λ q pos. sym (objects q pos);
       pages = λ q pos. ap pagesOf (sym (objects q pos));

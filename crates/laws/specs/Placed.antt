@@ -14,7 +14,7 @@ use Rattle.rules.specs.Terms.{Limits, limits}
 use Rattle.rules.specs.NeverFreeing as nf
 use Rattle.rules.specs.NeverFreeing.{NeverFreeing, Object, depthOf, varOf, nested, assigned, meaningOf}
 use Rattle.rules.specs.NeverFreeing.{Assignment, nothing, variable, reference, number, Effect, opens, ends, makes, assigns}
-use Rattle.rules.specs.Regions.{regionAt, parent, join}
+use Rattle.rules.specs.Regions.{regionAt, parent, join, only}
 use Rattle.rules.specs.Graph.{Graph, target, ended, freedBy}
 use Rattle.laws.specs.RegionLaws.{region-high, parent-at, region-apart, join-control, join-other, join-same}
 use Rattle.laws.specs.GraphLaws.{Alive, Holds, bySlot, byOwn, byOther, target-called}
@@ -120,7 +120,7 @@ module _ (s : Sizes) (h : Regioned) (p : Placed s h) (t k : ℕ) (th : t < s .th
           let w = at ∙ home-stayed s (graph h) r x n in
           subst (Open s ended-depths) (sym w) (stays-open (getD (h .homes) x 0) n (p .homes x (λ z. a (w ∙ z))) .0)
 
-  placed-ended : (vs : List ℕ) → Placed s (record { heap = record { depths = ended-depths; vars = vs; objects = h .heap .objects }; homes = ru.ended s h r; counters = moreFreed (freedBy s (graph h) r) (h .counters) })
+  placed-ended : (vs : List ℕ) → Placed s (record { heap = record { depths = ended-depths; vars = vs; objects = h .heap .objects }; homes = ru.ended s h r; counters = moreFreed (freedBy s (graph h) r) (h .counters); occupancy = ru.vacated s h (only r) (ru.ended s h r) })
   placed-ended vs = record { depths = λ u. set-at-most (h .heap .depths) t k u (s .depth) (omega (arith, k-fits)) (p .depths u); homes = ended-open }
 
   -- so the ended region is empty
@@ -143,7 +143,7 @@ innermost-open s ds t th = go (getD ds t 0) refl
     go (suc k) e = level t k th (omega arith) refl
 
 placed-new : (s : Sizes) (h : Regioned) → Placed s h → (q : ℕ) → Open s (h .heap .depths) q → (n : NeverFreeing) → n .depths ≡ h .heap .depths
-    → Placed s (record { heap = n; homes = h .homes ++ q ∷ []; counters = oneMade (h .counters) })
+    → Placed s (record { heap = n; homes = h .homes ++ q ∷ []; counters = oneMade (h .counters); occupancy = ru.takenBy (h .occupancy) q })
 placed-new s h p q o n e =
     record {
       depths = λ t. subst (λ (ds : List ℕ). getD ds t 0 ≤ s .depth) (sym e) (p .depths t);
@@ -157,14 +157,14 @@ placed-new s h p q o n e =
     home x a (no l) (no d) = absurd (a (List·getD-eq-default (h .homes ++ q ∷ []) 0 {n = x} (omega (arith, length-append (h .homes) (q ∷ [])))))
 
 placed-start : (s : Sizes) (h : Regioned) → Placed s h → (t : ℕ) → getD (h .heap .depths) t 0 < s .depth
-    → Placed s (record { heap = record { depths = set (h .heap .depths) t (getD (h .heap .depths) t 0 + 1); vars = h .heap .vars; objects = h .heap .objects }; homes = h .homes; counters = h .counters })
+    → Placed s (record { heap = record { depths = set (h .heap .depths) t (getD (h .heap .depths) t 0 + 1); vars = h .heap .vars; objects = h .heap .objects }; homes = h .homes; counters = h .counters; occupancy = h .occupancy })
 placed-start s h p t l =
     record {
       depths = λ u. set-at-most (h .heap .depths) t _ u (s .depth) (omega arith) (p .depths u);
       homes = λ x a. open-more s (h .heap .depths) _ _ (raised (h .heap .depths) t) (p .homes x a);
     }
 
-placed-same : (s : Sizes) (h : Regioned) → Placed s h → (n : NeverFreeing) → n .depths ≡ h .heap .depths → Placed s (record { heap = n; homes = h .homes; counters = h .counters })
+placed-same : (s : Sizes) (h : Regioned) → Placed s h → (n : NeverFreeing) → n .depths ≡ h .heap .depths → Placed s (record { heap = n; homes = h .homes; counters = h .counters; occupancy = h .occupancy })
 placed-same s h p n e =
     record { depths = λ t. subst (λ (ds : List ℕ). getD ds t 0 ≤ s .depth) (sym e) (p .depths t); homes = λ x a. subst (λ (ds : List ℕ). Open s ds (getD (h .homes) x 0)) (sym e) (p .homes x a) }
 
@@ -181,12 +181,12 @@ assigned-depths s n t (reference a f v) = object-depths n (varOf s n t a) _
 assigned-depths s n t (number a f v) = object-depths n (varOf s n t a) _
 
 placed-effect : (s : Sizes) (h : Regioned) → Placed s h → (t : ℕ) (e : Effect) → t < s .threads → nested (limits s) (h .heap) t e ≡ 0 → Placed s (afterEffect s h t e)
-unfolding nf.effect ru.homesAfter ru.countersAfter
+unfolding nf.effect ru.homesAfter ru.countersAfter ru.occupancyAfter
 placed-effect s h p t opens th q = placed-start s h p t (ltb→lt _ _ (ask-zero _ 10 _ q .0))
 placed-effect s h p t ends th q = go (depthOf (h .heap) t) refl (ltb→lt _ _ (ask-zero _ 11 _ q .0))
   where
     go : (d : ℕ) → depthOf (h .heap) t ≡ d → 0 < depthOf (h .heap) t
-        → Placed s (record { heap = record { depths = set (h .heap .depths) t (depthOf (h .heap) t - 1); vars = h .heap .vars; objects = h .heap .objects }; homes = ru.ended s h (innermost s h t); counters = moreFreed (freedBy s (graph h) (innermost s h t)) (h .counters) })
+        → Placed s (record { heap = record { depths = set (h .heap .depths) t (depthOf (h .heap) t - 1); vars = h .heap .vars; objects = h .heap .objects }; homes = ru.ended s h (innermost s h t); counters = moreFreed (freedBy s (graph h) (innermost s h t)) (h .counters); occupancy = ru.vacated s h (only (innermost s h t)) (ru.ended s h (innermost s h t)) })
     go zero e l = absurd (omega arith)
     go (suc k) e l =
         let d : depthOf (h .heap) t - 1 ≡ k = omega arith in

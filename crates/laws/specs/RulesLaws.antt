@@ -7,7 +7,7 @@ use mathlib.Core.Path.{_≡_, refl, sym, ap, subst, _∙_}
 use mathlib.Core.Logic.{_⊎_, inl, inr}
 use mathlib.Core.List.{List, [], _∷_, _++_}
 use mathlib.Core.Bool.{Bool, cond}
-use lib.ListN.{length, getD, set, replicate, length-set, length-append, List·getD-append}
+use lib.ListN.{length, getD, set, replicate, length-set, length-append, length-map, List·getD-append}
 use lib.Seq.{getD-at}
 use lib.Dec.{eqb}
 use borrow.Author.Tests.{ne-eqb}
@@ -18,7 +18,8 @@ use Rattle.rules.specs.Terms.{limits}
 use Rattle.rules.specs.NeverFreeing as nf
 use Rattle.rules.specs.NeverFreeing.{Object, noObject, depthOf, varOf, objectOf, place, referred, assigned, meaningOf}
 use Rattle.rules.specs.NeverFreeing.{Source, null, held, loaded, Assignment, nothing, variable, reference, number, Effect, opens, ends, makes, assigns}
-use Rattle.rules.specs.Regions.{regionAt}
+use Rattle.rules.specs.Regions.{regionAt, only}
+use Rattle.rules.specs.Pages.{newCell}
 use Rattle.rules.specs.Graph.{target, ended, freedBy}
 use Rattle.laws.specs.GraphLaws.{Alive, Closed}
 use Rattle.laws.specs.EndLaws.{closed-ended}
@@ -27,6 +28,7 @@ use Rattle.rules.specs.Rules.{Regioned, graph, innermost, oneMade, moreFreed}
 
 pub record Sound (h : Regioned) : Type 0 where
   pub aligned : length (h .homes) ≡ length (h .heap .objects)
+  pub celled : length (h .occupancy .cells) ≡ length (h .homes)
   pub closed : Closed (graph h)
 
 -- ---- lists
@@ -64,9 +66,9 @@ object-refs h k i y = go (getD (h .heap .vars) i 0) refl
 -- ---- a variable gets what names an object that is there, or null
 
 sound-var : (h : Regioned) → Sound h → (p v : ℕ) → ((x : ℕ) → v ≡ suc x → Alive (graph h) x)
-    → Sound (record { heap = record { depths = h .heap .depths; vars = set (h .heap .vars) p v; objects = h .heap .objects }; homes = h .homes; counters = h .counters })
+    → Sound (record { heap = record { depths = h .heap .depths; vars = set (h .heap .vars) p v; objects = h .heap .objects }; homes = h .homes; counters = h .counters; occupancy = h .occupancy })
 sound-var h k p v ok =
-    record { aligned = k .aligned; closed = record { below = k .closed .below; vars = λ i x. go i x (set-cases (h .heap .vars) p i v 0); refs = k .closed .refs } }
+    record { aligned = k .aligned; celled = k .celled; closed = record { below = k .closed .below; vars = λ i x. go i x (set-cases (h .heap .vars) p i v 0); refs = k .closed .refs } }
   where
     go : (i x : ℕ) → (getD (set (h .heap .vars) p v) i 0 ≡ v) ⊎ (getD (set (h .heap .vars) p v) i 0 ≡ getD (h .heap .vars) i 0)
         → getD (set (h .heap .vars) p v) i 0 ≡ suc x → Alive (graph h) x
@@ -75,11 +77,11 @@ sound-var h k p v ok =
 
 -- ---- an object gets fields that name objects that are there, or null
 
-sound-object : (h : Regioned) → Sound h → (v : ℕ) (o : Object) → ((y : ℕ) → In (suc y) (o .refs) → Alive (graph h) y) → Sound (record { heap = nf.withObject (h .heap) v o; homes = h .homes; counters = h .counters })
+sound-object : (h : Regioned) → Sound h → (v : ℕ) (o : Object) → ((y : ℕ) → In (suc y) (o .refs) → Alive (graph h) y) → Sound (record { heap = nf.withObject (h .heap) v o; homes = h .homes; counters = h .counters; occupancy = h .occupancy })
 sound-object h k zero o ok = k
 sound-object h k (suc p) o ok =
     let l = k .aligned ∙ sym (length-set (h .heap .objects) p o) in
-    record { aligned = l; closed = record { below = λ x a. subst (λ (n : ℕ). x < n) l (in-bounds (h .homes) x a); vars = k .closed .vars; refs = λ x y a i. go x y a i (set-cases (h .heap .objects) p x o noObject) } }
+    record { aligned = l; celled = k .celled; closed = record { below = λ x a. subst (λ (n : ℕ). x < n) l (in-bounds (h .homes) x a); vars = k .closed .vars; refs = λ x y a i. go x y a i (set-cases (h .heap .objects) p x o noObject) } }
   where
     go : (x y : ℕ) → Alive (graph h) x → In (suc y) (getD (set (h .heap .objects) p o) x noObject .refs)
         → (getD (set (h .heap .objects) p o) x noObject ≡ o) ⊎ (getD (set (h .heap .objects) p o) x noObject ≡ getD (h .heap .objects) x noObject) → Alive (graph h) y
@@ -94,7 +96,7 @@ module _ (h : Regioned) (k : Sound h) (p q b : ℕ) (ns : List ℕ) (pos : 0 < q
 
   abbrev grown : Regioned
   grown =
-      record { heap = record { depths = h .heap .depths; vars = set (h .heap .vars) p (length (h .heap .objects) + 1); objects = h .heap .objects ++ made ∷ [] }; homes = h .homes ++ q ∷ []; counters = oneMade (h .counters) }
+      record { heap = record { depths = h .heap .depths; vars = set (h .heap .vars) p (length (h .heap .objects) + 1); objects = h .heap .objects ++ made ∷ [] }; homes = h .homes ++ q ∷ []; counters = oneMade (h .counters); occupancy = ru.takenBy (h .occupancy) q }
 
   -- what was there is there
   old : (x : ℕ) → x < length (h .homes) → getD (h .homes ++ q ∷ []) x 0 ≡ getD (h .homes) x 0
@@ -122,6 +124,7 @@ module _ (h : Regioned) (k : Sound h) (p q b : ℕ) (ns : List ℕ) (pos : 0 < q
       let l = length-append (h .homes) (q ∷ []) ∙ ap (λ (n : ℕ). n + 1) (k .aligned) ∙ sym (length-append (h .heap .objects) (made ∷ [])) in
       record {
         aligned = l;
+        celled = unfold ru.takenBy in (length-append (h .occupancy .cells) (_ ∷ []) ∙ ap (λ (n : ℕ). n + 1) (k .celled) ∙ sym (length-append (h .homes) (q ∷ [])));
         closed = record {
           below = λ x a. subst (λ (n : ℕ). x < n) l (in-bounds (h .homes ++ q ∷ []) x a);
           vars = λ i x e. new-var i x e (set-cases (h .heap .vars) p i (length (h .heap .objects) + 1) 0);
@@ -146,7 +149,7 @@ length-moved goes r i (q ∷ qs) = ap suc (length-moved goes r (suc i) qs)
 
 module _ (s : Sizes) (h : Regioned) (r : ℕ) (pos : 0 < r) (ds : List ℕ) where
   abbrev pub over : Regioned
-  over = record { heap = record { depths = ds; vars = h .heap .vars; objects = h .heap .objects }; homes = ru.ended s h r; counters = moreFreed (freedBy s (graph h) r) (h .counters) }
+  over = record { heap = record { depths = ds; vars = h .heap .vars; objects = h .heap .objects }; homes = ru.ended s h r; counters = moreFreed (freedBy s (graph h) r) (h .counters); occupancy = ru.vacated s h (only r) (ru.ended s h r) }
 
   -- the heap after an end has the graph after that end
   pub graph-ended : graph over ≡ ended s (graph h) r
@@ -159,10 +162,15 @@ module _ (s : Sizes) (h : Regioned) (r : ℕ) (pos : 0 < r) (ds : List ℕ) wher
       at : (x : ℕ) → getD (ru.moved goes r 0 (h .homes)) x 0 ≡ cond (eqb (getD (h .homes) x 0) r) (goes x) (getD (h .homes) x 0)
       at x = homes-moved goes r (h .homes) 0 x pos ∙ ap (λ (n : ℕ). cond (eqb (getD (h .homes) x 0) r) (goes n) (getD (h .homes) x 0)) (zero-add x)
 
+  length-ended : length (ru.ended s h r) ≡ length (h .homes)
+  unfolding ru.ended target
+  length-ended = length-moved (target s (graph h) r) r 0 (h .homes)
+
   sound-ended : Sound h → Sound over
   sound-ended k =
       record {
-        aligned = unfold ru.ended target in (length-moved (target s (graph h) r) r 0 (h .homes) ∙ k .aligned);
+        aligned = length-ended ∙ k .aligned;
+        celled = unfold ru.vacated in (length-map (h .occupancy .cells) (newCell _) ∙ k .celled ∙ sym length-ended);
         closed = subst Closed (sym graph-ended) (closed-ended s (graph h) r pos (k .closed));
       }
 
@@ -173,8 +181,8 @@ unfolding regionAt
 region-pos s t zero = omega arith
 region-pos s t (suc d) = omega arith
 
-sound-depth : (h : Regioned) → Sound h → (ds : List ℕ) → Sound (record { heap = record { depths = ds; vars = h .heap .vars; objects = h .heap .objects }; homes = h .homes; counters = h .counters })
-sound-depth h k ds = record { aligned = k .aligned; closed = k .closed }
+sound-depth : (h : Regioned) → Sound h → (ds : List ℕ) → Sound (record { heap = record { depths = ds; vars = h .heap .vars; objects = h .heap .objects }; homes = h .homes; counters = h .counters; occupancy = h .occupancy })
+sound-depth h k ds = record { aligned = k .aligned; celled = k .celled; closed = k .closed }
 
 -- what a command reads is null or names an object that is there
 pub source-alive : (s : Sizes) (h : Regioned) → Closed (graph h) → (v : Source) (x : ℕ) → referred (limits s) (h .heap) v ≡ suc x → Alive (graph h) x
@@ -182,7 +190,7 @@ source-alive s h k null x e = absurd (omega arith)
 source-alive s h k (held t a) x e = k .vars (place (limits s) t a) x e
 source-alive s h k (loaded t a f) x e = object-refs h k (place (limits s) t a) x (getD-in (objectOf (h .heap) (varOf (limits s) (h .heap) t a) .refs) f x e)
 
-sound-assigned : (s : Sizes) (h : Regioned) → Sound h → (t : ℕ) (x : Assignment) → Sound (record { heap = assigned (limits s) (h .heap) t x; homes = h .homes; counters = h .counters })
+sound-assigned : (s : Sizes) (h : Regioned) → Sound h → (t : ℕ) (x : Assignment) → Sound (record { heap = assigned (limits s) (h .heap) t x; homes = h .homes; counters = h .counters; occupancy = h .occupancy })
 sound-assigned s h k t nothing = k
 sound-assigned s h k t (variable a v) = sound-var h k (place (limits s) t a) _ (source-alive s h (k .closed) v)
 sound-assigned s h k t (reference a f v) =
@@ -195,10 +203,10 @@ sound-assigned s h k t (number a f v) = sound-object h k (varOf (limits s) (h .h
 
 -- the heap after what a command of thread t does
 abbrev pub afterEffect : Sizes → Regioned → ℕ → Effect → Regioned
-afterEffect s h t e = record { heap = nf.effect (limits s) (h .heap) t e; homes = ru.homesAfter s h t e; counters = ru.countersAfter s h t e }
+afterEffect s h t e = record { heap = nf.effect (limits s) (h .heap) t e; homes = ru.homesAfter s h t e; counters = ru.countersAfter s h t e; occupancy = ru.occupancyAfter s h t e }
 
 sound-effect : (s : Sizes) (h : Regioned) → Sound h → (t : ℕ) (e : Effect) → Sound (afterEffect s h t e)
-unfolding nf.effect ru.homesAfter ru.countersAfter
+unfolding nf.effect ru.homesAfter ru.countersAfter ru.occupancyAfter
 sound-effect s h k t opens = sound-depth h k _
 sound-effect s h k t ends = sound-ended s h (innermost s h t) (region-pos s t (depthOf (h .heap) t)) _ k
 sound-effect s h k t (makes a b c) = sound-new h k (place (limits s) t a) (innermost s h t) b (replicate c 0) (region-pos s t (depthOf (h .heap) t))
@@ -221,6 +229,7 @@ unfolding ru.unused nf.empty
 sound-unused s =
     record {
       aligned = refl;
+      celled = refl;
       closed = record {
         below = λ x a. absurd (a refl);
         vars = λ i x e. absurd (no-refs (s .threads * s .variables) x (getD-in (replicate (s .threads * s .variables) 0) i x e));

@@ -180,7 +180,7 @@ module _ {cs : List Area} {s : Sizes} {w w′ : Words} (o : Only cs s w w′) wh
 pub stands-still : {s : Sizes} {w w′ : Words} {h : Regioned} {to : ℕ → ℕ} → StandsFor s w h to → ((k : ℕ) → homeIn s w′ k ≡ homeIn s w k) → (h′ : NeverFreeing) → WholeFor s w′ → h′ .depths ≡ depthsIn s w′
     → ((x : ℕ) → Alive (graph h) x → refsIn w′ (to x) ≡ map (renamed to) (getD (h′ .objects) x noObject .refs)) → varsIn s w′ ≡ map (renamed to) (h′ .vars)
     → ((x : ℕ) → Alive (graph h) x → getD (h′ .objects) x noObject .nums ≡ numsIn w′ (to x)) → countersIn s w′ ≡ countersIn s w
-    → Sound (record { heap = h′; homes = h .homes; counters = h .counters }) → StandsFor s w′ (record { heap = h′; homes = h .homes; counters = h .counters }) to
+    → Sound (record { heap = h′; homes = h .homes; counters = h .counters; occupancy = h .occupancy }) → StandsFor s w′ (record { heap = h′; homes = h .homes; counters = h .counters; occupancy = h .occupancy }) to
 stands-still {to = to} st home h′ k d r v n c sound =
     record {
       whole = k;

@@ -12,7 +12,7 @@ use Rattle.lists.specs.Counting.{sum-none}
 use Rattle.lists.specs.Products.{flat-low}
 use Rattle.rules.specs.declared.Sizes.{Sizes}
 use Rattle.rules.specs.declared.Command.{Command}
-use Rattle.rules.specs.Terms.{ask, refused, done, limits}
+use Rattle.rules.specs.Terms.{ask, refused, done, limits, first}
 use Rattle.rules.specs.declared.Answer.{Answer}
 use Rattle.rules.specs.NeverFreeing as nf
 use Rattle.rules.specs.NeverFreeing.{Object, used, varOf, objectOf, meaningOf}
@@ -20,7 +20,7 @@ use Rattle.rules.specs.Regions.{regions}
 use Rattle.rules.specs.Graph.{Graph, crossing, newPages, freePages, objectsIn, pagesOf}
 use Rattle.laws.specs.RulesLaws.{Sound, no-dangling}
 use Rattle.rules.specs.Rules as ru
-use Rattle.rules.specs.Rules.{Regioned, graph, asksEntries, first}
+use Rattle.rules.specs.Rules.{Regioned, graph, asksEntries}
 use Rattle.layout.specs.declared.Kind.{Kind}
 use Rattle.layout.specs.declared.Kind.the-variants.{Reference, Number}
 use Rattle.layout.specs.Cells.{headOf, fieldCount, kindAt}
