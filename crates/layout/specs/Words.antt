@@ -1,13 +1,15 @@
 -- Lent words, what is read from them, and the graph and the heap that they make.
-use Prim.Native.Nat.{ℕ, _+_, _*_, _<_}
+use Prim.Native.Nat.{ℕ, _+_, _*_, _≤_, _<_}
 use mathlib.Core.List.{List, []}
 use mathlib.Core.Logic.{_≢_}
+use mathlib.Core.Path.{_≡_}
 use mathlib.Core.Bool.{cond}
-use lib.ListN.{take, drop}
-use Rattle.lists.specs.Listed.{listed}
+use lib.ListN.{length, take, drop}
+use Rattle.lists.specs.Listed.{listed, length-listed, getD-listed, listed-past}
 use Rattle.rules.specs.declared.Sizes.{Sizes}
 use Rattle.rules.specs.NeverFreeing.{Object}
 use Rattle.rules.specs.Graph.{Graph}
+use Rattle.rules.specs.Pages.{Page, Pages, freePage, pageAt}
 use Rattle.rules.specs.Rules.{Counters, Regioned}
 use Rattle.layout.specs.declared.Kind.{Kind}
 use Rattle.layout.specs.declared.Kind.the-variants.{Reference, Number}
@@ -56,6 +58,29 @@ freedIn s w = freedOf s (w .tables)
 -- the two counters
 abbrev pub countersIn : Sizes → Words → Counters
 countersIn s w = record { made = madeIn s w; freed = freedIn s w }
+
+-- the pages: owner and cells in use of each (02, W3)
+abbrev pub pageIn : Sizes → List ℕ → ℕ → Page
+pageIn s tables page = record { owner = ownerOf s tables page; used = usedOf s tables page }
+
+unfoldable pub pagesAt : Sizes → List ℕ → Pages
+pagesAt s tables = listed (pageIn s tables) (s .pages)
+
+abbrev pub pagesIn : Sizes → Words → Pages
+pagesIn s w = pagesAt s (w .tables)
+
+module _ (s : Sizes) (tables : List ℕ) where
+  pub pages-count : length (pagesAt s tables) ≡ s .pages
+  unfolding pagesAt
+  pages-count = length-listed (pageIn s tables) (s .pages)
+
+  pub page-there : (page : ℕ) → page < s .pages → pageAt (pagesAt s tables) page ≡ pageIn s tables page
+  unfolding pagesAt
+  page-there page l = getD-listed (pageIn s tables) (s .pages) page freePage l
+
+  pub page-beyond : (page : ℕ) → s .pages ≤ page → pageAt (pagesAt s tables) page ≡ freePage
+  unfolding pagesAt
+  page-beyond page l = listed-past (pageIn s tables) (s .pages) page freePage l
 
 unfoldable pub depthsAt : Sizes → List ℕ → List ℕ
 depthsAt s tables = take (s .threads) (drop (depthAt 0) tables)
