@@ -13,6 +13,7 @@ use Rattle.lists.specs.Says.{true-not-false}
 use Rattle.lists.specs.Tests.{both-true}
 use Rattle.lists.specs.Counting.{sum, sum-none, sum-same, sum-add, sum-blocks}
 use Rattle.rules.specs.declared.Sizes.{Sizes}
+pub use Rattle.rules.specs.Rules.{cellCount}
 use Rattle.layout.specs.Places.{cellsWords, usedOf}
 use Rattle.layout.specs.Cells.{headAt, workAt, fieldAt, headOf, refsOf, IsReference, roomFor, room-is, pageCells, firstOn, pageOf, placeOf, cellOn, cellOf, wordOf, pageAt}
 
@@ -47,10 +48,6 @@ module _ {s : Sizes} {t t′ : List ℕ} (same : (page : ℕ) → page < s .page
 
   pub unused-back : (q : ℕ) → NotInUse s t′ q → NotInUse s t q
   unused-back q n = record { low = n .low; unused = λ u. n .unused (in-use-same (cellOf q) u) }
-
--- how many cells the pages have
-abbrev pub cellCount : Sizes → ℕ
-cellCount s = firstOn (s .pages)
 
 -- ---- an object begins at cell k of cells c and tables t
 

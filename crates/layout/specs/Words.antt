@@ -139,7 +139,7 @@ Names s x = x ≢ 0 → pageOf (cellNamed x) < s .pages
 abbrev pub graphOf : Sizes → Words → Graph
 graphOf s w = record { count = cellCount s; home = homeIn s w; refs = refsIn w; vars = varsIn s w }
 
--- ---- the heap of the words: one object for each cell, freed where none begins
+-- ---- the heap of the words: one object for each cell, in that cell, freed where none begins
 
 abbrev pub objectIn : Words → ℕ → Object
 objectIn w c = record { refs = refsIn w c; nums = numsIn w c }
@@ -150,4 +150,5 @@ heapOf s w =
       heap = record { depths = depthsIn s w; vars = varsIn s w; objects = listed (objectIn w) (cellCount s) };
       homes = listed (homeIn s w) (cellCount s);
       counters = countersIn s w;
+      occupancy = record { cells = listed (λ c. c) (cellCount s); pages = pagesIn s w };
     }

@@ -75,7 +75,7 @@ module _ (s : Sizes) (w : Words) (k : WholeFor s w) where
   heap-stands =
       record {
         whole = k;
-        sound = record { aligned = length-listed (homeIn s w) (cellCount s) ∙ sym (length-listed (objectIn w) (cellCount s)); closed = heap-closed };
+        sound = record { aligned = length-listed (homeIn s w) (cellCount s) ∙ sym (length-listed (objectIn w) (cellCount s)); celled = length-listed (λ c. c) (cellCount s) ∙ sym (length-listed (homeIn s w) (cellCount s)); closed = heap-closed };
         depths = refl;
         partners = record {
           home = λ x a. sym (home-at x);
@@ -86,6 +86,7 @@ module _ (s : Sizes) (w : Words) (k : WholeFor s w) where
         };
         nums = λ x a. ap (λ (o : Object). o .nums) (object-at x (there x a));
         counters = refl;
+        occupies = record { cells = λ x a. getD-listed (λ c. c) (cellCount s) x 0 (words-closed s w k .below x (there x a)); pages = refl };
       }
 
 pub whole-words : (s : Sizes) (w : Words) → WholeFor s w → WholeWords w

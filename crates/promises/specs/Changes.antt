@@ -4,7 +4,7 @@ use mathlib.Core.Path.{_≡_, refl}
 use mathlib.Core.List.{List, [], _∷_, _++_}
 use lib.ListN.{set}
 use Rattle.rules.specs.NeverFreeing.{Object}
-use Rattle.rules.specs.Rules.{Regioned, oneMade}
+use Rattle.rules.specs.Rules.{Regioned, oneMade, takenBy}
 use Rattle.laws.specs.SameRules.{renamed}
 use Rattle.layout.specs.declared.Kind.{Kind}
 use Rattle.layout.specs.declared.Kind.the-variants.{Reference, Number}
@@ -35,7 +35,7 @@ withField Number o f u = record { refs = o .refs; nums = set (o .nums) f u }
 
 -- object o is appended, in region g
 abbrev pub withNew : Regioned → Object → ℕ → Regioned
-withNew h o g = record { heap = record { depths = h .heap .depths; vars = h .heap .vars; objects = h .heap .objects ++ o ∷ [] }; homes = h .homes ++ g ∷ []; counters = oneMade (h .counters) }
+withNew h o g = record { heap = record { depths = h .heap .depths; vars = h .heap .vars; objects = h .heap .objects ++ o ∷ [] }; homes = h .homes ++ g ∷ []; counters = oneMade (h .counters); occupancy = takenBy (h .occupancy) g }
 
 -- ---- references, renamed
 

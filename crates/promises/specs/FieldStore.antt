@@ -126,7 +126,7 @@ pub object-stands : (s : Sizes) (w : Words) (h : Regioned) (cellOf : ℕ → ℕ
 object-stands s w h cellOf st x a j v low m′ o k′ er en sound =
     stands-still st (home-same (field-only s w (st .whole) (cellOf x) j v (in-use x a) low) refl refl refl) (withObject h x o .heap) k′ (st .depths)
     (each (λ c q. fieldsAt Reference cells c ≡ map (renamed cellOf) (q .refs)) er (λ z b n. other Reference z b n ∙ st .partners .refs z b)) (st .partners .vars)
-    (each (λ c q. q .nums ≡ fieldsAt Number cells c) en (λ z b n. st .nums z b ∙ sym (other Number z b n))) refl sound
+    (each (λ c q. q .nums ≡ fieldsAt Number cells c) en (λ z b n. st .nums z b ∙ sym (other Number z b n))) refl refl sound
   where
     cells : List ℕ
     cells = set (w .cells) (fieldAt (cellOf x) j) v

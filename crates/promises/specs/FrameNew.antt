@@ -16,7 +16,8 @@ use Rattle.lists.specs.Zeros.{all-zero}
 use Rattle.rules.specs.declared.Sizes.{Sizes}
 use Rattle.rules.specs.NeverFreeing.{Object, noObject}
 use Rattle.rules.specs.Regions.{regions}
-use Rattle.rules.specs.Rules.{counted, Regioned, graph, oneMade}
+use Rattle.rules.specs.Pages.{Pages, take}
+use Rattle.rules.specs.Rules.{counted, Regioned, graph, objectCell, oneMade, takenBy}
 use Rattle.laws.specs.GraphLaws.{Alive, Closed}
 use Rattle.laws.specs.RulesLaws.{Sound}
 use Rattle.laws.specs.SameRules.{renamed, renamed-zeros}
@@ -24,9 +25,9 @@ use Rattle.layout.specs.Places.{varAt, varCount}
 use Rattle.layout.specs.declared.Kind.{Kind}
 use Rattle.layout.specs.declared.Kind.the-variants.{Reference, Number}
 use Rattle.layout.specs.Cells.{headOf, fieldCount, firstField, headWord, mostFields, roomFor, kind-among, fields-room, refs-head, nums-head}
-use Rattle.layout.specs.Words.{Words, BeginsIn, fieldsAt, homeIn, madeIn, graphOf}
+use Rattle.layout.specs.Words.{Words, BeginsIn, fieldsAt, homeIn, madeIn, pagesAt, graphOf}
 use Rattle.promises.specs.Whole.{WholeFor, Open}
-use Rattle.promises.specs.StandsFor.{StandsFor}
+use Rattle.promises.specs.StandsFor.{Occupies, StandsFor}
 use Rattle.promises.specs.Reading.{alive-used, used-alive, used-home, length-fields, getD-fields}
 use Rattle.promises.specs.Agreed.{cell-used}
 use Rattle.promises.specs.Changes.{withTables, withNew, withVariable}
@@ -40,12 +41,16 @@ use Rattle.promises.specs.FrameVariable.{variable-stands}
 abbrev pub blankObject : ℕ → ℕ → Object
 blankObject b d = record { refs = replicate b 0; nums = replicate d 0 }
 
+-- the cell that region g took is the one that the rules say, and the pages after it are theirs
+abbrev pub Takes : Sizes → List ℕ → ℕ → ℕ → List ℕ → Type 0
+Takes s t g cell t′ = (cell ≡ take (pagesAt s t) g .cell) × (pagesAt s t′ ≡ take (pagesAt s t) g .pages)
+
 -- the map to cells, with the new object's
 abbrev pub withCell : Regioned → (ℕ → ℕ) → ℕ → ℕ → ℕ
 withCell h to cell x = cond (eqb x (length (h .heap .objects))) cell (to x)
 
 module _ (s : Sizes) (w : Words) (h : Regioned) (to : ℕ → ℕ) (st : StandsFor s w h to) (g cell b d : ℕ) (t′ c′ : List ℕ) (took : Took s (w .tables) g cell (counted (madeIn s w + 1)) t′)
-    (blank : Blank (w .cells) cell (headWord b d) c′) (few : b + d ≤ mostFields) (pos : 1 ≤ g) (low : g ≤ regions s) (open′ : 1 < g → Open s (w .tables) g) where
+    (takes : Takes s (w .tables) g cell t′) (blank : Blank (w .cells) cell (headWord b d) c′) (few : b + d ≤ mostFields) (pos : 1 ≤ g) (low : g ≤ regions s) (open′ : 1 < g → Open s (w .tables) g) where
   abbrev n : ℕ
   n = length (h .heap .objects)
 
@@ -142,6 +147,18 @@ module _ (s : Sizes) (w : Words) (h : Regioned) (to : ℕ → ℕ) (st : StandsF
       (λ i l. let n : i < fieldCount f (headOf c′ cell) = omega (arith, count) in
       getD-fields f w₁ cell i n ∙ blank .fields (firstField f (headOf c′ cell) + i) (omega (arith, kind-among f (headOf c′ cell), fields-room (headOf c′ cell) (k₁ .objects cell new-used .head), ap roomFor (blank .head))))
 
+  new-occupies : Occupies s w₁ h₁ to₁
+  unfolding takenBy
+  new-occupies =
+      let ps = h .occupancy .pages in
+      let e = st .occupies .pages in
+      record {
+        cells = cases (λ x y. objectCell h₁ x ≡ y)
+            (λ x a. List·getD-append (h .occupancy .cells) (take ps g .cell ∷ []) 0 x (omega (arith, st .sound .closed .below x a, st .sound .celled, st .sound .aligned)) ∙ st .occupies .cells x a)
+            (getD-at (h .occupancy .cells) (take ps g .cell) [] 0 n (st .sound .celled ∙ st .sound .aligned) ∙ ap (λ (q : Pages). take q g .cell) e ∙ sym (takes .0));
+        pages = ap (λ (q : Pages). take q g .pages) e ∙ sym (takes .1);
+      }
+
   pub new-stands : Sound h₁ → StandsFor s w₁ h₁ to₁
   new-stands sound =
       record {
@@ -165,6 +182,7 @@ module _ (s : Sizes) (w : Words) (h : Regioned) (to : ℕ → ℕ) (st : StandsF
             (λ x a. ap (λ (q : Object). q .nums) (object-old x (st .sound .closed .below x a)) ∙ st .nums x a ∙ sym (fields-old Number (to x) (cell-used s w h to st x a)))
             (ap (λ (q : Object). q .nums) object-new ∙ sym (fields-new Number d (nums-head b d few)));
         counters = ap oneMade (st .counters) ∙ ap₂ (λ (x y : ℕ). record { made = x; freed = y }) (sym (took .made)) (sym (only .same freedWords refl));
+        occupies = new-occupies;
       }
 
   -- ---- and variable i, counted through all threads, names it
@@ -172,5 +190,5 @@ module _ (s : Sizes) (w : Words) (h : Regioned) (to : ℕ → ℕ) (st : StandsF
   pub made-stands : (i : ℕ) → i < varCount s → Sound (withVariable h₁ i (n + 1)) → StandsFor s (withTables w₁ (set t′ (varAt s i) (cell + 1))) (withVariable h₁ i (n + 1)) to₁
   made-stands i l sound =
       let between : Closed (graph h₁) = record { below = sound .closed .below; vars = λ j x e. still x (st .sound .closed .vars j x e); refs = sound .closed .refs } in
-      variable-stands s w₁ h₁ to₁ (new-stands (record { aligned = sound .aligned; closed = between })) i (n + 1) (cell + 1) l
+      variable-stands s w₁ h₁ to₁ (new-stands (record { aligned = sound .aligned; celled = sound .celled; closed = between })) i (n + 1) (cell + 1) l
       (add-one cell ∙ ap suc (sym to-new) ∙ sym (ap (renamed to₁) (add-one n))) sound

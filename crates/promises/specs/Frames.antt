@@ -8,6 +8,7 @@ use mathlib.Core.Bool.{false}
 use lib.ListN.{getD, take, drop}
 use Rattle.lists.specs.Counting.{sum-same}
 use Rattle.lists.specs.Stores.{part-same}
+use Rattle.lists.specs.Listed.{listed-same}
 use Rattle.rules.specs.declared.Sizes.{Sizes}
 use Rattle.rules.specs.Regions.{threadOf, regions}
 use Rattle.rules.specs.Rules.{counted, Regioned, graph}
@@ -20,7 +21,7 @@ use Rattle.layout.specs.declared.Kind.the-variants.{Reference}
 use Rattle.layout.specs.Places.{cellsWords, varCount, depthAt, varAt}
 use Rattle.layout.specs.Cells.{fieldAt, roomFor, allFields, refsOf, Formed, fieldCount, firstField, fields-room, kind-among, pageOf, cellNamed}
 use Rattle.layout.specs.Objects.{begins?, begins-page, begins-true, begins-false, unused-back}
-use Rattle.layout.specs.Words.{Words, BeginsIn, headIn, ownerIn, homeIn, homeAt, depthsIn, depthsAt, varsIn, varsAt, countersIn, fieldsIn, fieldsAt, refsIn, numsIn}
+use Rattle.layout.specs.Words.{Words, BeginsIn, headIn, ownerIn, homeIn, homeAt, depthsIn, depthsAt, varsIn, varsAt, countersIn, pageIn, pagesAt, pagesIn, fieldsIn, fieldsAt, refsIn, numsIn}
 use Rattle.remember.specs.Crossing.{crossTo}
 use Rattle.promises.specs.Whole.{Open, IsRef, Sized, DepthsWhole, PagesWhole, VariablesWhole, ObjectWhole, ObjectsWhole, MarksWhole, WorksWhole, RememberWhole, UnusedWhole, CountersWhole, WholeFor}
 use Rattle.promises.specs.Regular.{Regular, whole-regular, SamePage, filled-same, regular-same}
@@ -58,6 +59,12 @@ module _ {cs : List Area} {s : Sizes} {w w′ : Words} (o : Only cs s w w′) wh
   vars-same n =
       part-same (varCount s) (varAt s 0) (w .tables) (w′ .tables) (o .beyond .tables .long)
       (λ i l. subst (λ (j : ℕ). getD (w′ .tables) j 0 ≡ getD (w .tables) j 0) (let e : varAt s i ≡ varAt s 0 + i = omega arith in e) (o .same variableWords n i l))
+
+  pub pages-same : among ownerWords cs ≡ false → among usedWords cs ≡ false → pagesIn s w′ ≡ pagesIn s w
+  unfolding pagesAt
+  pages-same a u =
+      listed-same (pageIn s (w′ .tables)) (pageIn s (w .tables)) (s .pages)
+      (λ i l. ap₂ (λ (x y : ℕ). record { owner = x; used = y }) (o .same ownerWords a i l) (o .same usedWords u i l))
 
   pub fields-same : among headWords cs ≡ false → among fieldWords cs ≡ false → (d : Kind) (k : ℕ) → BeginsIn s w k → Formed (headIn w k) → fieldsIn d w′ k ≡ fieldsIn d w k
   unfolding fieldsAt
@@ -179,9 +186,9 @@ module _ {cs : List Area} {s : Sizes} {w w′ : Words} (o : Only cs s w w′) wh
 
 pub stands-still : {s : Sizes} {w w′ : Words} {h : Regioned} {to : ℕ → ℕ} → StandsFor s w h to → ((k : ℕ) → homeIn s w′ k ≡ homeIn s w k) → (h′ : NeverFreeing) → WholeFor s w′ → h′ .depths ≡ depthsIn s w′
     → ((x : ℕ) → Alive (graph h) x → refsIn w′ (to x) ≡ map (renamed to) (getD (h′ .objects) x noObject .refs)) → varsIn s w′ ≡ map (renamed to) (h′ .vars)
-    → ((x : ℕ) → Alive (graph h) x → getD (h′ .objects) x noObject .nums ≡ numsIn w′ (to x)) → countersIn s w′ ≡ countersIn s w
+    → ((x : ℕ) → Alive (graph h) x → getD (h′ .objects) x noObject .nums ≡ numsIn w′ (to x)) → countersIn s w′ ≡ countersIn s w → pagesIn s w′ ≡ pagesIn s w
     → Sound (record { heap = h′; homes = h .homes; counters = h .counters; occupancy = h .occupancy }) → StandsFor s w′ (record { heap = h′; homes = h .homes; counters = h .counters; occupancy = h .occupancy }) to
-stands-still {to = to} st home h′ k d r v n c sound =
+stands-still {to = to} st home h′ k d r v n c p sound =
     record {
       whole = k;
       sound = sound;
@@ -195,4 +202,5 @@ stands-still {to = to} st home h′ k d r v n c sound =
       };
       nums = n;
       counters = st .counters ∙ sym c;
+      occupies = record { cells = st .occupies .cells; pages = st .occupies .pages ∙ sym p };
     }

@@ -9,11 +9,13 @@ use Rattle.rules.specs.NeverFreeing.{Object, depthOf, varOf}
 use Rattle.laws.specs.GraphLaws.{Alive}
 use Rattle.rules.specs.Rules as ru
 use Rattle.rules.specs.Rules.{Regioned, graph}
-use Rattle.layout.specs.Words.{Words, heapOf, depthIn, varIn}
+use Rattle.lists.specs.Listed.{getD-listed}
+use Rattle.layout.specs.Words.{Words, cellCount, heapOf, depthIn, varIn}
 use Rattle.promises.specs.StandsFor.{StandsFor}
 use Rattle.promises.specs.Promises.{Became, DidHere, Did}
-use Rattle.promises.specs.Reading.{var-at, depth-at}
+use Rattle.promises.specs.Reading.{var-at, depth-at, words-closed}
 use Rattle.promises.specs.Agreed.{home-at, object-at, partners-trans, heap-stands, there, cell-alive}
+use Rattle.laws.specs.LikeCells.{Apart}
 use Rattle.laws.specs.LikeHeaps.{Like}
 use Rattle.laws.specs.LikeSteps.{step-like}
 
@@ -34,7 +36,15 @@ stands-like s w h cellOf st =
       };
       nums = λ x a. ap (λ (o : Object). o .nums) (object-at s w (st .whole) (cellOf x) (cell-alive s w h cellOf st x a)) ∙ sym (st .nums x a);
       counters = sym (st .counters);
+      occupancy = record {
+        pages = sym (st .occupies .pages);
+        cells = λ x a. getD-listed (λ c. c) (cellCount s) (cellOf x) 0 (words-closed s w (st .whole) .below (cellOf x) (cell-alive s w h cellOf st x a)) ∙ sym (st .occupies .cells x a);
+      };
     }
+
+-- and its objects lie in different cells
+stands-apart : (s : Sizes) (w : Words) (h : Regioned) (cellOf : ℕ → ℕ) → StandsFor s w h cellOf → Apart h
+stands-apart s w h cellOf st x y a b e = st .partners .apart x y a b (sym (st .occupies .cells x a) ∙ e ∙ st .occupies .cells y b)
 
 -- words that stand for a heap stand for each that corresponds to it
 like-stands : (s : Sizes) (w : Words) (to : ℕ → ℕ) (h k : Regioned) (cell : ℕ → ℕ) → Like to h k → StandsFor s w k cell → StandsFor s w h (λ x. cell (to x))
@@ -46,12 +56,16 @@ like-stands s w to h k cell l st =
       partners = partners-trans (l .partners) (st .partners);
       nums = λ x a. sym (l .nums x a) ∙ st .nums (to x) (λ z. a (sym (l .partners .home x a) ∙ z));
       counters = sym (l .counters) ∙ st .counters;
+      occupies = record {
+        cells = λ x a. sym (l .occupancy .cells x a) ∙ st .occupies .cells (to x) (λ z. a (sym (l .partners .home x a) ∙ z));
+        pages = sym (l .occupancy .pages) ∙ st .occupies .pages;
+      };
     }
 
 pub did-anywhere : (s : Sizes) (w : Words) (m : Command) (w′ : Words) (a : Answer) → DidHere s w m w′ a → Did s w m w′ a
 did-anywhere s w m w′ a d =
     record {
-      answer = λ h cellOf st. d .answer ∙ step-like s cellOf h (heapOf s w) (stands-like s w h cellOf st) m .answers;
+      answer = λ h cellOf st. d .answer ∙ step-like s cellOf h (heapOf s w) (stands-like s w h cellOf st) (stands-apart s w h cellOf st) m .answers;
       next = next;
       freed = d .freed;
       refused = d .refused;
@@ -61,7 +75,7 @@ did-anywhere s w m w′ a d =
     next : (h : Regioned) (cellOf : ℕ → ℕ) → StandsFor s w h cellOf → Became s h cellOf w′ (ru.step s h m .next)
     next h cellOf st =
         let l = stands-like s w h cellOf st in
-        let n = step-like s cellOf h (heapOf s w) l m .next in
+        let n = step-like s cellOf h (heapOf s w) l (stands-apart s w h cellOf st) m .next in
         let b = d .next in
         record {
           cell = λ x. b .cell (n .to′ x);

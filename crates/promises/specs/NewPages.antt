@@ -14,7 +14,7 @@ use Rattle.rules.specs.declared.Sizes.{Sizes}
 use Rattle.rules.specs.NeverFreeing.{Object}
 use Rattle.rules.specs.Regions.{regionAt, threadOf, regions}
 use Rattle.rules.specs.Graph.{newPages, freePages}
-use Rattle.rules.specs.Rules.{Regioned, graph, oneMade}
+use Rattle.rules.specs.Rules.{Regioned, graph, oneMade, takenBy}
 use Rattle.laws.specs.RulesLaws.{region-pos}
 use Rattle.laws.specs.RegionLaws.{thread-at, level-at, region-high, region-bounds}
 use Rattle.laws.specs.Counts.{new-pages}
@@ -64,7 +64,7 @@ FreePage s w = (page : ℕ) × (page < s .pages) × (ownerIn s w page ≡ 0)
 module _ (s : Sizes) (w : Words) (h : Regioned) (to : ℕ → ℕ) (st : StandsFor s w h to) (g : ℕ) (pos : 0 < g) (low : g ≤ regions s) (ds vs : List ℕ) (o : Object) where
   -- the heap with a new object in region g
   abbrev made : Regioned
-  made = record { heap = record { depths = ds; vars = vs; objects = h .heap .objects ++ o ∷ [] }; homes = h .homes ++ g ∷ []; counters = oneMade (h .counters) }
+  made = record { heap = record { depths = ds; vars = vs; objects = h .heap .objects ++ o ∷ [] }; homes = h .homes ++ g ∷ []; counters = oneMade (h .counters); occupancy = takenBy (h .occupancy) g }
 
   abbrev held : ℕ
   held = objectsOf s (w .tables) g

@@ -12,6 +12,7 @@ use Rattle.layout.specs.Objects.{begins-used}
 use Rattle.lists.specs.Tests.{cond-zero}
 use Rattle.lists.specs.Zeros.{all-zero}
 use Rattle.lists.specs.Counting.{sum-none}
+use Rattle.lists.specs.Listed.{listed-same, listed-all}
 use Rattle.remember.specs.Crosses.{cross-slot}
 use Rattle.promises.specs.Whole.{objectsOn, WholeFor}
 use Rattle.rules.specs.declared.Sizes.{Sizes}
@@ -21,7 +22,8 @@ use Rattle.rules.specs.Rules.{counted, unused}
 use Rattle.laws.specs.Counters.{counted-small}
 use Rattle.laws.specs.RulesLaws.{sound-unused}
 use Rattle.laws.specs.SameRules.{renamed-zeros}
-use Rattle.layout.specs.Words.{Words, BeginsIn, sizesIn, depthsIn, varsIn, ownerIn, usedIn, madeIn, freedIn}
+use Rattle.rules.specs.Pages.{freePage}
+use Rattle.layout.specs.Words.{Words, BeginsIn, sizesIn, depthsIn, varsIn, ownerIn, usedIn, madeIn, freedIn, pageIn, pagesAt, pagesIn}
 use Rattle.promises.specs.StandsFor.{StandsFor}
 use Rattle.promises.specs.Areas.{starts}
 use Rattle.promises.specs.Reading.{alive-used, length-depths, depth-at, length-vars, getD-vars}
@@ -105,6 +107,12 @@ module _ (s : Sizes) (lent w : Words) (range : InRange s) (long : LongEnough s l
   vars-zero : varsIn s w ≡ replicate (varCount s) 0
   vars-zero = all-zero (varsIn s w) (varCount s) (length-vars s w whole) (λ i l. getD-vars s w i l ∙ table-zero (varAt s i) (omega arith) (omega (arith, starts s)))
 
+  pages-free : pagesIn s w ≡ replicate (s .pages) freePage
+  unfolding pagesAt
+  pages-free =
+      listed-same (pageIn s (w .tables)) (λ i. freePage) (s .pages) (λ i l. ap₂ (λ (x y : ℕ). record { owner = x; used = y }) (owner-zero i l) (used-zero i l))
+      ∙ listed-all (s .pages) freePage
+
   unused-stands : StandsFor s w (unused s) (λ x. x)
   unfolding unused empty
   unused-stands =
@@ -121,6 +129,7 @@ module _ (s : Sizes) (lent w : Words) (range : InRange s) (long : LongEnough s l
         };
         nums = λ x a. absurd (a refl);
         counters = ap₂ (λ (x y : ℕ). record { made = x; freed = y }) (sym made-zero) (sym freed-zero);
+        occupies = record { cells = λ x a. absurd (a refl); pages = sym pages-free };
       }
 
 pub prepared-stands : (s : Sizes) (lent w : Words) → Prepared s lent 0 w → StandsFor s w (unused s) (λ x. x)
