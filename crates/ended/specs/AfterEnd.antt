@@ -25,7 +25,7 @@ module _ (s : Sizes) (w : Words) (t k : ℕ) (th : t < s .threads) (deep : depth
   pos = region-pos s t (suc k)
 
   pub after-end : ru.after s (heapOf s w) (endOf t) ≡ over s (heapOf s w) r pos (set (heapOf s w .heap .depths) t k)
-  unfolding ru.after nf.effect ru.homesAfter ru.countersAfter
+  unfolding ru.after nf.effect ru.homesAfter ru.countersAfter ru.occupancyAfter
   after-end =
       let d : depthOf (heapOf s w .heap) t ≡ suc k = here-depth s w t th ∙ deep in
       let less : suc k - 1 ≡ k = omega arith in

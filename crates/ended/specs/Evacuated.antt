@@ -2,18 +2,22 @@
 -- a cell.
 use Prim.Native.Nat.{ℕ, _≤_, _<_}
 use mathlib.Core.Path.{_≡_}
+use mathlib.Core.Bool.{cond}
 use lib.ListN.{getD}
+use lib.Dec.{eqb}
 use Rattle.rules.specs.declared.Sizes.{Sizes}
-use Rattle.rules.specs.Graph.{freedBy}
+use Rattle.rules.specs.Regions.{regions, only}
+use Rattle.rules.specs.Graph.{target, freedBy}
+use Rattle.rules.specs.Pages.{Placing, noneMoved, placeAll, newCell, released}
 use Rattle.rules.specs.Rules.{moreFreed}
 use Rattle.laws.specs.SameRules.{renamed}
 use Rattle.layout.specs.Places.{varOf, varCount}
 use Rattle.layout.specs.Cells.{pageOf, fieldOf, workOf, roomFor}
-use Rattle.layout.specs.Words.{Words, BeginsIn, ownerIn, headIn, refCount, countersIn, graphOf}
+use Rattle.layout.specs.Words.{Words, BeginsIn, cellCount, ownerIn, headIn, homeIn, refCount, countersIn, pagesIn, graphOf}
 use Rattle.promises.specs.Whole.{Open, MarksWhole, RememberWhole, UnusedWhole}
 use Rattle.promises.specs.Regular.{Regular}
 use Rattle.promises.specs.StandsFor.{SameBeyond}
-use Rattle.promises.specs.Ends.{Part, Outside, Survivor, Lives}
+use Rattle.promises.specs.Ends.{Part, partOf, Outside, Survivor, Lives}
 
 -- The references of the object that was in cell c lead to the cells of what they named, every word after them (the numbers, and the zeros
 -- that follow) is the same, and the working word is zero.
@@ -42,6 +46,19 @@ Vacated s e w′ = (page : ℕ) → page < s .pages → e .ends page → ownerIn
 -- the end of region r: made stays, and its objects that have no target are freed
 abbrev pub FreedCounted : Sizes → Words → ℕ → Words → Type 0
 FreedCounted s w r w′ = countersIn s w′ ≡ moreFreed (freedBy s (graphOf s w) r) (countersIn s w)
+
+-- the region that the object in a cell goes to at the end of region r, 0 if none goes from there
+unfoldable pub goalIn : Sizes → Words → ℕ → ℕ → ℕ
+goalIn s w r c = cond (eqb (homeIn s w c) r) (target s (graphOf s w) r c) 0
+
+-- its survivors in the cells that the rules give them, while r's pages still stand (02, W3)
+abbrev pub copiesIn : Sizes → Words → ℕ → Placing
+copiesIn s w r = placeAll (goalIn s w r) (cellCount s) (regions s) (noneMoved (pagesIn s w))
+
+-- each object that lives on is in the cell that the rules say, and the pages are theirs, r's given back
+pub record Repacked (s : Sizes) (w : Words) (r : ℕ) (w′ : Words) (cell : ℕ → ℕ) : Type 0 where
+  pub cells : (c : ℕ) → Lives s w (partOf s w r) c → cell c ≡ newCell (copiesIn s w r .moves) c
+  pub pages : pagesIn s w′ ≡ released (only r) (copiesIn s w r .pages)
 
 pub record Evacuated (s : Sizes) (w : Words) (e : Part) (w′ : Words) (cell : ℕ → ℕ) : Type 0 where
   -- the words past the three lengths, the sizes, and the first word of the remember table are as they were

@@ -20,17 +20,18 @@ use Rattle.layout.specs.Words.{Words, BeginsIn, depthIn, depthsIn, homeIn, grap
 use Rattle.promises.specs.Whole.{WholeFor, DepthsWhole}
 use Rattle.promises.specs.StandsFor.{StandsFor}
 use Rattle.promises.specs.Promises.{DidHere}
-use Rattle.promises.specs.Ends.{partOf}
+use Rattle.promises.specs.Ends.{partOf, Lives}
 use Rattle.promises.specs.Reading.{alive-used, used-home, words-closed, length-depths, depth-at}
 use Rattle.promises.specs.Agreed.{home-at, heap-stands}
 use Rattle.promises.specs.Questions.{did-freed}
 use Rattle.promises.specs.OwnedPages.{pagesOwned}
-use Rattle.ended.specs.Evacuated.{Evacuated, Vacated, FreedCounted}
+use Rattle.ended.specs.Evacuated.{Evacuated, Vacated, FreedCounted, Repacked}
 use Rattle.ended.specs.Living.{region-after, region-keeps}
 use Rattle.ended.specs.EvacuatedCounts.{counted-whole}
 use Rattle.ended.specs.EvacuatedWhole.{evacuated-whole}
 use Rattle.ended.specs.AfterEnd.{endOf, after-end}
 use Rattle.ended.specs.EvacuatedStands.{evacuated-stands}
+use Rattle.ended.specs.Repacking.{repacked-occupies}
 use Rattle.ended.specs.WordsPlaced.{left}
 use Rattle.ended.specs.EndQuestion.{pagesNeeded, crossingAfter, end-accepted}
 
@@ -41,7 +42,7 @@ pub record Lowered (s : Sizes) (w : Words) (t k : ℕ) (w′ : Words) : Type 0 w
 
 module _ (s : Sizes) (w : Words) (whole : WholeFor s w) (t k : ℕ) (th : t < s .threads) (deep : depthIn w t ≡ suc k) (w′ : Words) (cell : ℕ → ℕ)
     (e : Evacuated s w (partOf s w (regionAt s t (suc k))) w′ cell) (lower : Lowered s w t k w′)
-    (counted : FreedCounted s w (regionAt s t (suc k)) w′) where
+    (counted : FreedCounted s w (regionAt s t (suc k)) w′) (repacked : Repacked s w (regionAt s t (suc k)) w′ cell) where
   abbrev r : ℕ
   r = regionAt s t (suc k)
 
@@ -87,13 +88,23 @@ module _ (s : Sizes) (w : Words) (whole : WholeFor s w) (t k : ℕ) (th : t < s 
   alike : graph H′ ≡ ended s (graph H) r
   alike = graph-ended s H r pos (set (H .heap .depths) t k)
 
+  -- an object that is there afterwards was there, and lives on
+  was : (x : ℕ) → Alive (ended s (graph H) r) x → Alive (graph H) x
+  was = was-alive s (graph H) r pos (base .sound .closed)
+
+  lives : (x : ℕ) → Alive (ended s (graph H) r) x → Lives s w (partOf s w r) x
+  lives x a =
+      region-after s w whole r pos .lives x
+      (λ z. a (sym (partners-ended s (λ x. x) (graph H) (graphOf s w) (base .sound .closed) (words-closed s w whole) (base .partners) r pos .home x a) ∙ z))
+
   stands : Sound H′ → StandsFor s w′ H′ cell
   stands sound =
       evacuated-stands whole e whole′ (region-after s w whole r pos) H′ sound (unfold heapOf in depths-after)
       (subst (λ (g : Graph). Partners (λ x. x) g (ended s (graphOf s w) r)) (sym alike)
       (partners-ended s (λ x. x) (graph H) (graphOf s w) (base .sound .closed) (words-closed s w whole) (base .partners) r pos))
-      (λ x a. base .nums x (was-alive s (graph H) r pos (base .sound .closed) x (subst (λ (g : Graph). Alive g x) alike a)))
+      (λ x a. base .nums x (was x (subst (λ (g : Graph). Alive g x) alike a)))
       (ap₂ moreFreed (same-freed s (λ x. x) (graph H) (graphOf s w) (base .sound .closed) (words-closed s w whole) (base .partners) r pos) (base .counters) ∙ sym counted)
+      (repacked-occupies s w whole r pos repacked lives was (set (H .heap .depths) t k))
 
   -- ---- the promise
 

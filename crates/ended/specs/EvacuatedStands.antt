@@ -18,7 +18,7 @@ use Rattle.layout.specs.declared.Kind.the-variants.{Reference, Number}
 use Rattle.layout.specs.Cells.{pageOf, fieldOf, fieldCount, firstField, first-reference, first-number, kind-among, fields-room}
 use Rattle.layout.specs.Words.{Words, depthsIn, ownerIn, headIn, fieldsIn, refsIn, numsIn, varsIn, countersIn, graphOf}
 use Rattle.promises.specs.Whole.{WholeFor}
-use Rattle.promises.specs.StandsFor.{StandsFor}
+use Rattle.promises.specs.StandsFor.{Occupies, StandsFor}
 use Rattle.promises.specs.Reading.{alive-used, used-home, getD-fields, getD-vars, length-fields, length-vars}
 use Rattle.promises.specs.Agreed.{partners-trans}
 use Rattle.promises.specs.Ends.{Part, Lives, lives-how}
@@ -84,8 +84,8 @@ module _ {s : Sizes} {w : Words} {e : Part} {w′ : Words} {cell : ℕ → ℕ} 
 
     -- so they stand for a heap that has it, with the numbers of before
     pub evacuated-stands : (h : Regioned) → Sound h → h .heap .depths ≡ depthsIn s w′ → Partners (λ x. x) (graph h) g
-        → ((x : ℕ) → Alive (graph h) x → getD (h .heap .objects) x noObject .nums ≡ numsIn w x) → h .counters ≡ countersIn s w′ → StandsFor s w′ h cell
-    evacuated-stands h sound depths p nums counters =
+        → ((x : ℕ) → Alive (graph h) x → getD (h .heap .objects) x noObject .nums ≡ numsIn w x) → h .counters ≡ countersIn s w′ → Occupies s w′ h cell → StandsFor s w′ h cell
+    evacuated-stands h sound depths p nums counters occupies =
         record {
           whole = whole′;
           sound = sound;
@@ -93,4 +93,5 @@ module _ {s : Sizes} {w : Words} {e : Part} {w′ : Words} {cell : ℕ → ℕ} 
           partners = partners-trans p evacuated-partners;
           nums = λ x l. nums x l ∙ sym (nums-after x (a .lives x (λ z. l (sym (p .home x l) ∙ z))));
           counters = counters;
+          occupies = occupies;
         }

@@ -7,6 +7,7 @@ pub mod Living
 pub mod EvacuatedCounts
 pub mod EvacuatedWhole
 pub mod EvacuatedStands
+pub mod Repacking
 -- laws, of the end of a thread's innermost region: the rules, the questions 12, 13 and 14, and the pages that regions take
 pub mod AfterEnd
 pub mod WordsPlaced

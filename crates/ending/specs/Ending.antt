@@ -14,7 +14,7 @@ use Rattle.promises.specs.OwnedPages.{pagesOwned}
 use Rattle.promises.specs.Promises.{DidHere}
 use Rattle.promises.specs.Ends.{partOf}
 use Rattle.mark.specs.Survivors.{Marked}
-use Rattle.ended.specs.Evacuated.{Evacuated, Vacated, FreedCounted}
+use Rattle.ended.specs.Evacuated.{Evacuated, Vacated, FreedCounted, Repacked}
 use Rattle.ended.specs.EvacuatedDid.{Lowered, ended-did}
 use Rattle.ended.specs.EndQuestion.{pagesNeeded, crossingAfter}
 use Rattle.ended.specs.AfterEnd.{endOf}
@@ -42,6 +42,7 @@ pub record HasEnded (s : Sizes) (t l r : ℕ) (w w′ : Words) : Type 0 where
   pub vacated : Vacated s (partOf s w r) w′
   pub lowered : Lowered s w t (l - 1) w′
   pub counted : FreedCounted s w r w′
+  pub repacked : Repacked s w r w′ cell
 
 module _ {s : Sizes} {t l r : ℕ} {w w₁ : Words} (e : Ending s t l r w w₁) where
   pub room-of : Room s (length (w .tables))
@@ -69,5 +70,5 @@ module _ {s : Sizes} {t l r : ℕ} {w w₁ : Words} (e : Ending s t l r w w₁) 
   -- the promise of code 2
   pub ended-here : {w′ : Words} → Accepted s r w → HasEnded s t l r w w′ → DidHere s w (endOf t) w′ (done 0)
   ended-here {w′} a h =
-      subst (λ (g : ℕ). Evacuated s w (partOf s w g) w′ (h .cell) → Vacated s (partOf s w g) w′ → FreedCounted s w g w′ → Accepted s g w → DidHere s w (endOf t) w′ (done 0)) (sym region-deep)
-      (λ v z k b. ended-did s w (e .whole) t (l - 1) (e .thread) deep w′ (h .cell) v (h .lowered) k z (b .pages) (b .entries)) (h .evacuated) (h .vacated) (h .counted) a
+      subst (λ (g : ℕ). Evacuated s w (partOf s w g) w′ (h .cell) → Vacated s (partOf s w g) w′ → FreedCounted s w g w′ → Repacked s w g w′ (h .cell) → Accepted s g w → DidHere s w (endOf t) w′ (done 0)) (sym region-deep)
+      (λ v z k p b. ended-did s w (e .whole) t (l - 1) (e .thread) deep w′ (h .cell) v (h .lowered) k p z (b .pages) (b .entries)) (h .evacuated) (h .vacated) (h .counted) (h .repacked) a
