@@ -4,6 +4,7 @@
 pub mod Whole
 pub mod StandsFor
 pub mod Promises
+pub mod WordsOf
 pub mod Ends
 pub mod Arriving
 -- theorems: what is read from whole words, the heaps that they stand for, and a command here and anywhere
@@ -17,6 +18,8 @@ pub mod OwnedPages
 pub mod Crossings
 pub mod Determined
 pub mod GivenBack
+pub mod LaidCells
+pub mod Laid
 -- theorems: prepared words and a chain of commands beside the rules' unused heap and run
 pub mod Preparing
 pub mod Chained
