@@ -12,7 +12,7 @@ use Rattle.layout.specs.Places.{ownerOf, cellsWords, slotIn, slotRegionIn, entr
 use Rattle.layout.specs.Cells.{pageAt, cellOf}
 use Rattle.layout.specs.Words.{Names}
 use Rattle.remember.specs.Crossing.{crossesTo, crossesAt}
-use Rattle.remember.specs.Entries.{Once}
+use Rattle.remember.specs.Entries.{Rising}
 use Rattle.remember.specs.Filtered.{Stays}
 
 -- the region of the entry of slot s with region g after r ended, 0 if it goes
@@ -49,5 +49,5 @@ pub record Entries (p : Sizes) (r n m : ℕ) (W M : List ℕ) : Type 0 where
   pub long : entriesWords n ≤ length M
   pub few : m ≤ n
   pub low : (i : ℕ) → i < m → slotIn M i < cellsWords p
-  pub once : Once M m
+  pub rising : Rising M m
   pub names : (i : ℕ) → i < m → slotRegionIn n M i ≡ r → Names p (getD W (slotIn M i) 0)

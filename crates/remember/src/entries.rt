@@ -1,28 +1,39 @@
-// The entries: one is found, written, comes, goes or gets another region, a stretch is cleared, and the table ends after so many. They stand in
-// any order, so an entry is looked for one by one, a new one comes last, and the last takes the place of one that goes.
+// The entries: one is found, written, comes, goes or gets another region, a stretch is cleared, and the table ends after so many. They stand by
+// rising slot, so an entry is found by halving, and those after its place move by one when it comes or goes.
 ghost use mathlib.Core.Path.{_≡_};
 ghost use Prim.Native.Nat.{ℕ, _+_, _^_, _<_, _≤_};
 ghost use lib.ListN.{length};
 ghost use Rattle.layout.specs.Places.{entriesUsed, slotIn, entriesWords};
-ghost use Rattle.remember.specs.Entries.{entered, added, removed};
+ghost use Rattle.remember.specs.Entries.{entered};
+ghost use Rattle.remember.specs.Table.{entry, entriesIn, written, inserted, removed, placeOf, Table};
 ghost use Rattle.remember.specs.Remembering.{Remembered};
 ghost use Rattle.remember.specs.Stretches.{Cleared, EndsAfter};
+use crate::shift::lower;
+use crate::shift::raise;
 
-// The entry that names slot `at`, which one of the first `used` does.
-pub fn find_entry(entries: usize, remember: &[u32], used: usize, at: usize) -> usize
-    requires { ⌜ entriesWords entries ≤ length (now remember) ⌝ }
-    requires { ⌜ used ≤ entries ⌝ }
-    requires { ⌜ ((i : ℕ) × (i < used) × (slotIn (now remember) i ≡ at)) ⌝ }
-    ensures { λ r. ⌜ (r < used) × (slotIn (now (remember .entry)) r ≡ at) ⌝ }
+// The place of the first entry whose slot is at least `at`, by halving: all before `low` are below it, none from `low + size` on is. How
+// the size falls does not depend on what is read.
+pub fn find_entry(entries: usize, remember: &[u32], at: u32) -> usize
+    requires table { ⌜ Table entries (now remember) ⌝ }
+    requires { ⌜ entries < 2 ^ 32 ⌝ }
+    ensures { λ r. ⌜ r ≡ placeOf at (entriesIn entries (now (remember .entry))) ⌝ }
 {
-    let mut i: usize = 0;
-    while i < used {
-        if layout::wide(layout::remember::slot(entries, remember, i)) == at {
-            return i;
-        }
-        i += 1;
+    let mut low: usize = 0;
+    let mut size = layout::wide(layout::remember::used(remember));
+    if size == 0 {
+        return 0;
     }
-    0
+    while 1 < size {
+        let half = size / 2;
+        if layout::remember::slot(entries, remember, low + half) < at {
+            low += half;
+        }
+        size -= half;
+    }
+    if layout::remember::slot(entries, remember, low) < at {
+        low += 1;
+    }
+    low
 }
 
 // Entry i becomes slot `at` with its region.
@@ -35,54 +46,58 @@ pub fn put_entry(entries: usize, remember: &mut [u32], i: usize, at: u32, region
     layout::remember::set_region(entries, remember, i, region);
 }
 
-// One more entry, after the `used` ones.
-pub fn add_entry(entries: usize, remember: &mut [u32], used: usize, at: usize, region: u32)
-    requires { ⌜ entriesWords entries ≤ length (now remember) ⌝ }
-    requires { ⌜ (entries < 2 ^ 32) × (used < entries) × (used ≡ entriesUsed (now remember)) × (at < 2 ^ 32) ⌝ }
-    ensures { λ r. ⌜ now (remember .exit) ≡ added entries (now (remember .entry)) at region ⌝ }
+// One more entry, before the one at a place.
+pub fn insert_entry(entries: usize, remember: &mut [u32], place: usize, at: u32, region: u32)
+    requires table { ⌜ Table entries (now remember) ⌝ }
+    requires { ⌜ (entries < 2 ^ 32) × (place ≤ entriesUsed (now remember)) × (entriesUsed (now remember) < entries) ⌝ }
+    ensures { λ _. ⌜ now (remember .exit) ≡ written entries (inserted place (entry at region) (entriesIn entries (now (remember .entry)))) (now (remember .entry)) ⌝ }
 {
-    put_entry(entries, remember, used, at as u32, region);
+    let used = layout::wide(layout::remember::used(remember));
+    raise(remember, 2 + place, 2 + used);
+    raise(remember, 2 + entries + place, 2 + entries + used);
+    put_entry(entries, remember, place, at, region);
     layout::remember::set_used(remember, (used + 1) as u32);
 }
 
-// Entry i of the `used` ones goes; the last takes its place.
-pub fn remove_entry(entries: usize, remember: &mut [u32], used: usize, i: usize)
-    requires { ⌜ entriesWords entries ≤ length (now remember) ⌝ }
-    requires { ⌜ (entries < 2 ^ 32) × (used ≤ entries) × (used ≡ entriesUsed (now remember)) × (i < used) ⌝ }
-    ensures { λ r. ⌜ now (remember .exit) ≡ removed entries (now (remember .entry)) i ⌝ }
+// The entry at a place goes.
+pub fn remove_entry(entries: usize, remember: &mut [u32], place: usize)
+    requires table { ⌜ Table entries (now remember) ⌝ }
+    requires { ⌜ (entries < 2 ^ 32) × (place < entriesUsed (now remember)) ⌝ }
+    ensures { λ _. ⌜ now (remember .exit) ≡ written entries (removed place (entriesIn entries (now (remember .entry)))) (now (remember .entry)) ⌝ }
 {
+    let used = layout::wide(layout::remember::used(remember));
     let last = used - 1;
-    let slot = layout::remember::slot(entries, remember, last);
-    let region = layout::remember::region(entries, remember, last);
-    put_entry(entries, remember, i, slot, region);
+    lower(remember, 2 + place, 2 + used);
+    lower(remember, 2 + entries + place, 2 + entries + used);
     put_entry(entries, remember, last, 0, 0);
     layout::remember::set_used(remember, last as u32);
 }
 
 // Slot `at` crossed into `was` and is to cross into `will`: its entry stays, goes, comes or changes its region, or there is no room (14).
 pub fn remember_slot(entries: usize, remember: &mut [u32], at: usize, was: u32, will: u32) -> u32
-    requires { ⌜ entriesWords entries ≤ length (now remember) ⌝ }
-    requires { ⌜ (entries < 2 ^ 32) × (entriesUsed (now remember) ≤ entries) × (at < 2 ^ 32) ⌝ }
-    requires { ⌜ (0 < was → (i : ℕ) × (i < entriesUsed (now remember)) × (slotIn (now remember) i ≡ at)) ⌝ }
+    requires table { ⌜ Table entries (now remember) ⌝ }
+    requires { ⌜ (entries < 2 ^ 32) × (at < 2 ^ 32) ⌝ }
+    requires named { ⌜ (0 < was → (i : ℕ) × (i < entriesUsed (now remember)) × (slotIn (now remember) i ≡ at)) ⌝ }
+    requires new { ⌜ (was ≡ 0 → (i : ℕ) → i < entriesUsed (now remember) → slotIn (now remember) i ≡ at → ⊥) ⌝ }
     ensures { λ r. ⌜ Remembered entries (now (remember .entry)) at was will (now (remember .exit)) r ⌝ }
 {
     if was == will {
         return 0;
     }
-    let used = layout::wide(layout::remember::used(remember));
     if was == 0 {
-        if entries <= used {
+        if entries <= layout::wide(layout::remember::used(remember)) {
             return 14;
         }
-        add_entry(entries, remember, used, at, will);
+        let place = find_entry(entries, remember, at as u32);
+        insert_entry(entries, remember, place, at as u32, will);
         return 0;
     }
-    let i = find_entry(entries, remember, used, at);
+    let place = find_entry(entries, remember, at as u32);
     if will == 0 {
-        remove_entry(entries, remember, used, i);
+        remove_entry(entries, remember, place);
         return 0;
     }
-    layout::remember::set_region(entries, remember, i, will);
+    layout::remember::set_region(entries, remember, place, will);
     0
 }
 

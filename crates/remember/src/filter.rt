@@ -4,6 +4,7 @@ ghost use Prim.Native.Nat.{_<_, _≤_};
 ghost use lib.ListN.{length, getD};
 ghost use Rattle.layout.specs.Places.{Room, cellsWords};
 ghost use Rattle.layout.specs.Words.{Names};
+ghost use Rattle.remember.specs.Entries.{Rising};
 ghost use Rattle.remember.specs.Stretches.{Added};
 ghost use Rattle.remember.specs.Filtered.{Stays};
 ghost use Rattle.remember.specs.Staying.{newRegion, Entries};
@@ -29,7 +30,7 @@ pub fn new_region(p: Sizes, cells: &[u32], tables: &[u32], region: u32, at: usiz
     cross(p, tables, from, cells[at])
 }
 
-// The entries that stay move to the front, with their new regions; how many they are.
+// The entries that stay move to the front, in their order and with their new regions; how many they are.
 pub fn filter_entries(
     p: Sizes,
     cells: &[u32],
@@ -42,6 +43,7 @@ pub fn filter_entries(
     requires { ⌜ Room p (length (now tables)) ⌝ }
     ensures { λ j. ⌜ Added (p .entries) (Stays (newRegion p region (now (cells .entry)) (now (tables .entry))) (p .entries) (now (remember .entry)) used) 0 j (now (remember .entry)) (now (remember .exit)) ⌝ }
     ensures { λ j. ⌜ j ≤ used ⌝ }
+    ensures { λ j. ⌜ Rising (now (remember .exit)) j ⌝ }
 {
     let entries = p.entries;
     let mut j: usize = 0;

@@ -1,8 +1,9 @@
 -- Nothing, one entry more, one less, or another region; or there is no room.
 use native.Mathlib.Omega.{arith}
 use mathlib.Core.Path.{refl}
-use Rattle.remember.specs.Remembering.Remembered.{kept, full, came, moved, gone}
 use borrow.Author.Needs.{needs}
+use Rattle.remember.specs.Remembering.{place-low, place-used, entry-comes, entry-changes, entry-goes}
+use Rattle.remember.specs.Remembering.Remembered.{kept, full}
 use Rattle.remember.proofs.entries.remember_slot.Statement.{statement}
 use Rattle.remember.proofs.entries.remember_slot.Tie as tie
 
@@ -19,65 +20,57 @@ same-length : tie.Need-same-length
 same-length c = search needs
 
 returns-2 : tie.Need-returns-2
-returns-2 c =
-    let used = c .before .before .before .used in
-    let wide = c .before .before .wide in
-    full (c .before .if2 .taken) (omega arith) (omega (arith, wide .ensures, used .ensures)) refl refl
+returns-2 c = full (c .before .before .before .before .if2 .taken) (omega arith) (omega (arith, c .if3 .taken, c .before .wide .ensures, c .before .before .used .ensures)) refl refl
 
-add-entry-requires : tie.Need-add-entry-requires
-add-entry-requires c κs = search needs
+cast-find-entry : tie.Need-cast-find-entry
+cast-find-entry c = search needs
+
+find-entry-requires : tie.Need-find-entry-requires
+find-entry-requires c κs = search needs
+
+cast-insert-entry : tie.Need-cast-insert-entry
+cast-insert-entry c = search needs
+
+insert-entry-requires : tie.Need-insert-entry-requires
+insert-entry-requires c κs = (c .before .before .before .before .before .before .before .before .before .before .pre .0, (c .before .before .before .before .before .before .before .before .before .before .pre .1 .0 .0, place-low (c .before .before .before .before .before .before .before .before .before .before .pre .0) (c .before .before .before .before .before .before .before .before .before .before .args .at) (c .before .find-entry .ensures), omega (arith, c .before .before .before .if3 .left, c .before .before .before .before .wide .ensures, c .before .before .before .before .before .used .ensures)))
 
 same-length-2 : tie.Need-same-length-2
 same-length-2 c = search needs
 
 returns-3 : tie.Need-returns-3
-returns-3 c =
-    let used = c .before .before .before .before .before .before .before .used in
-    let wide = c .before .before .before .before .before .before .wide in
-    let if2 = c .before .before .before .before .before .if2 in
-    let add-entry = c .before .before .add-entry in
-    came (if2 .taken) (omega arith) (omega (arith, wide .ensures, used .ensures)) (add-entry .ensures) refl
+returns-3 c = entry-comes (c .before .before .before .before .before .before .before .before .before .before .before .before .before .pre .0) (c .before .before .before .before .before .before .before .before .before .before .before .before .before .args .at) (c .before .before .before .before .find-entry .ensures) (omega (arith, c .before .before .before .before .before .before .before .before .before .before .before .if1 .left, c .before .before .before .before .before .before .before .before .before .before .if2 .taken)) (omega (arith, c .before .before .before .before .before .before .if3 .left, c .before .before .before .before .before .before .before .wide .ensures, c .before .before .before .before .before .before .before .before .used .ensures)) (c .before .before .before .before .before .before .before .before .before .before .before .before .before .pre .1 .1 .1 (c .before .before .before .before .before .before .before .before .before .before .if2 .taken)) (c .before .before .insert-entry .ensures)
 
-find-entry-requires : tie.Need-find-entry-requires
-find-entry-requires c κs =
-    let pre = c .before .before .before .before .before .before .before .pre in
-    let wide = c .before .before .wide in
-    let used = c .before .before .before .used in
-    let named = pre .1 .1 (omega arith) in (
-      pre .0,
-      (omega (arith, wide .ensures, used .ensures, pre .1 .0), (named .0, omega (arith, named .1, wide .ensures, used .ensures), named .2)),
-    )
+cast-find-entry-2 : tie.Need-cast-find-entry-2
+cast-find-entry-2 c = search needs
+
+find-entry-requires-2 : tie.Need-find-entry-requires-2
+find-entry-requires-2 c κs = search needs
 
 remove-entry-requires : tie.Need-remove-entry-requires
-remove-entry-requires c κs = search needs
+remove-entry-requires c κs =
+    let n = c .before .before .before .before .before .before .before .pre .1 .1 .0 (omega (arith, c .before .before .before .before .if2 .left)) in
+    (c .before .before .before .before .before .before .before .pre .0, (c .before .before .before .before .before .before .before .pre .1 .0 .0, place-used (c .before .before .before .before .before .before .before .pre .0) (c .before .before .before .before .before .before .before .args .at) (c .before .before .find-entry2 .ensures) (n .0) (n .1) (n .2)))
 
 same-length-3 : tie.Need-same-length-3
 same-length-3 c = search needs
 
 returns-4 : tie.Need-returns-4
 returns-4 c =
-    let used = c .before .before .before .before .before .before .before .before .before .used in
-    let wide = c .before .before .before .before .before .before .before .before .wide in
-    let find-entry = c .before .before .before .before .before .find-entry in
-    let if4 = c .before .before .before .before .if4 in
-    let remove-entry = c .before .before .remove-entry in
-    gone (find-entry .result) (omega arith) (if4 .taken) (omega (arith, find-entry .ensures .0, wide .ensures, used .ensures))
-    (find-entry .ensures .1) (remove-entry .ensures) refl
+    let n = c .before .before .before .before .before .before .before .before .before .before .pre .1 .1 .0 (omega (arith, c .before .before .before .before .before .before .before .if2 .left)) in
+    entry-goes (c .before .before .before .before .before .before .before .before .before .before .pre .0) (c .before .before .before .before .before .before .before .before .before .before .args .at) (c .before .before .before .before .before .find-entry2 .ensures) (n .0) (n .1) (n .2) (c .before .before .before .before .if4 .taken) (c .before .before .remove-entry .ensures)
 
 set-region-requires : tie.Need-set-region-requires
-set-region-requires c κs = search needs
+set-region-requires c κs =
+    let n = c .before .before .before .before .before .before .before .pre .1 .1 .0 (omega (arith, c .before .before .before .before .if2 .left)) in
+    (c .before .before .before .before .before .before .before .pre .0 .long, omega (arith, place-used (c .before .before .before .before .before .before .before .pre .0) (c .before .before .before .before .before .before .before .args .at) (c .before .before .find-entry2 .ensures) (n .0) (n .1) (n .2), c .before .before .before .before .before .before .before .pre .0 .room))
 
 same-length-4 : tie.Need-same-length-4
 same-length-4 c = search needs
 
 returns-5 : tie.Need-returns-5
 returns-5 c =
-    let used = c .before .before .before .before .before .before .before .before .before .used in
-    let wide = c .before .before .before .before .before .before .before .before .wide in
-    let find-entry = c .before .before .before .before .before .find-entry in
-    let set-region = c .before .before .set-region in
-    moved (find-entry .result) (omega arith) (omega arith) (omega (arith, find-entry .ensures .0, wide .ensures, used .ensures))
-    (find-entry .ensures .1) (set-region .ensures) refl
+    let n = c .before .before .before .before .before .before .before .before .before .before .pre .1 .1 .0 (omega (arith, c .before .before .before .before .before .before .before .if2 .left)) in
+    entry-changes (c .before .before .before .before .before .before .before .before .before .before .pre .0) (c .before .before .before .before .before .before .before .before .before .before .args .at) (c .before .before .before .before .before .find-entry2 .ensures) (n .0) (n .1) (n .2) (omega (arith, c .before .before .before .before .if4 .left)) (c .before .before .set-region .ensures)
 
 pub remember-slot-spec : {M : Type 1} → statement M
 remember-slot-spec =
@@ -88,10 +81,14 @@ remember-slot-spec =
     wide-requires
     same-length
     returns-2
-    add-entry-requires
+    cast-find-entry
+    find-entry-requires
+    cast-insert-entry
+    insert-entry-requires
     same-length-2
     returns-3
-    find-entry-requires
+    cast-find-entry-2
+    find-entry-requires-2
     remove-entry-requires
     same-length-3
     returns-4
