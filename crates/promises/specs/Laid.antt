@@ -13,12 +13,15 @@ use Rattle.rules.specs.Graph.{objectsIn}
 use Rattle.rules.specs.Pages.{Page, Pages}
 use Rattle.rules.specs.Rules.{Counters, Regioned, graph}
 use Rattle.layout.specs.Places.{cellsWords, rememberWords, tablesWords, varCount, varAt, depthAt, varsFrom, ownersFrom, usedFrom, marksFrom, countsFrom, madeAt, freedAt, count-room, count-is, mark-is, used-is, owners-is, ownerOf, usedOf, countOf}
+use Rattle.remember.specs.Crossing.{crossTo}
+use Rattle.remember.specs.Entries.{exact-everywhere}
+use Rattle.remember.specs.ExactTable.{exact-table}
 use Rattle.layout.specs.Words.{Words, depthsIn, depthsAt, varsIn, varsAt, pageIn, pagesIn, pagesAt, sizesIn}
 use Rattle.promises.specs.StandsFor.{StandsFor, SameFrom, SameBeyond}
 use Rattle.promises.specs.Regular.{whole-regular}
 use Rattle.promises.specs.OwnedPages.{objects-on}
 use Rattle.promises.specs.Agreed.{objects-agree}
-use Rattle.promises.specs.WordsOf.{refWord, cellWord, wordsOf, laid}
+use Rattle.promises.specs.WordsOf.{refWord, cellWord, crossedAt, wordsOf, laid}
 use Rattle.promises.specs.LaidCells.{ref-words, cell-is, crossed-is}
 
 module _ (s : Sizes) (w : Words) (h : Regioned) (to : ℕ → ℕ) (st : StandsFor s w h to) where
@@ -102,3 +105,20 @@ module _ (s : Sizes) (w : Words) (h : Regioned) (to : ℕ → ℕ) (st : StandsF
       ∙ then 5 n₁ 0 sizes-are (then (s .threads) n₂ 5 depths-are (then (s .threads * s .variables) n₃ (varsFrom s) vars-are
       (then (s .pages) n₄ (ownersFrom s) owners-are (then (s .pages) n₅ (usedFrom s) used-are (then (s .pages) n₆ (marksFrom s) marks-are
       (then (regions s) 2 (countsFrom s) counts-are counters-are))))))
+
+  -- ---- the remember table
+
+  remember-is : take (rememberWords s) (w .remember) ≡ wordsOf s h .remember
+  unfolding wordsOf
+  remember-is =
+      exact-table
+      (exact-everywhere (crossTo s (w .cells) t) (crossedAt h) (cellsWords s) (s .entries) (w .remember) (crossed-is s w h to st) (st .whole .remember))
+      (st .whole .sized .same) (st .whole .sized .remember)
+
+  -- THE WORDS ARE THOSE OF THE HEAP, and past them what stood there
+  pub stands-laid : (w₀ : Words) → SameBeyond s w₀ w → w ≡ laid s h w₀
+  unfolding laid
+  stands-laid w₀ b = λ i. record { cells = both cells-are (b .cells) i; remember = both remember-is (b .remember) i; tables = both tables-are (b .tables) i }
+    where
+      both : {n : ℕ} {l k x : List ℕ} → take n k ≡ x → SameFrom n l k → k ≡ x ++ drop n l
+      both {n} {l} {k} e f = sym (take-append-drop n k) ∙ ap₂ _++_ e (f .rest)

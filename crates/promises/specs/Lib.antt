@@ -11,15 +11,14 @@ pub mod Arriving
 pub mod Reading
 pub mod Agreed
 pub mod Here
--- theorems: pages and counts by themselves, pages by objects, entries by crossing slots, that only the open points are left free, and that what
--- goes back is zero
+-- theorems: pages and counts by themselves, pages by objects, entries by crossing slots, that words are those of the heap that they stand for, and
+-- that what goes back is zero
 pub mod Regular
 pub mod OwnedPages
 pub mod Crossings
-pub mod Determined
-pub mod GivenBack
 pub mod LaidCells
 pub mod Laid
+pub mod GivenBack
 -- theorems: prepared words and a chain of commands beside the rules' unused heap and run
 pub mod Preparing
 pub mod Chained

@@ -89,7 +89,7 @@ module _ (s : Sizes) (lent w : Words) (range : InRange s) (long : LongEnough s l
           entries = record {
             room = omega (arith, none);
             named = λ i l. absurd (omega (arith, none));
-            once = λ i j l m. absurd (omega (arith, none));
+            rising = λ i j l m. absurd (omega (arith, none));
             rest = λ i l m. (remember-zero (slotAt i) (omega arith) (omega arith), remember-zero (slotRegionAt (s .entries) i) (omega arith) (omega arith));
           };
           every = λ q l h. let o = cross-slot s (w .cells) (w .tables) q h in absurd (no-object (o .object) (o .begins));

@@ -1,4 +1,4 @@
--- Tables are whole (01, "Sizes and tables"; 02, W1 and W2): each condition by itself, and all of them in 01's order. c, m and t are the cells, the
+-- Tables are whole (01, "Sizes and tables"; 02, W1 to W3): each condition by itself, and all of them in 01's order. c, m and t are the cells, the
 -- remember table and the tables of words w.
 use Prim.Native.Nat.{ℕ, suc, _≤_, _<_}
 use mathlib.Core.List.{List}
@@ -16,7 +16,7 @@ use Rattle.layout.specs.Cells.{headOf, workOf, fieldOf, refsOf, allFields, room
 use Rattle.layout.specs.Objects.{Begins, NotInUse}
 use Rattle.layout.specs.Words.{Words, BeginsIn, sizesIn, depthIn, countersIn}
 use Rattle.remember.specs.Crossing.{crossTo}
-use Rattle.remember.specs.Entries.{Entry, EntriesOf, Exact}
+use Rattle.remember.specs.Entries.{EntryOf, EntriesOf, Exact}
 
 -- ---- the words that the conditions speak of
 
@@ -69,9 +69,9 @@ pub record ObjectWhole (s : Sizes) (c t : List ℕ) (k : ℕ) : Type 0 where
 
 -- an entry of a slot and a region names a crossing slot, with the right region
 abbrev pub EntryWhole : Sizes → List ℕ → List ℕ → ℕ → ℕ → Type 0
-EntryWhole s c t = Entry (crossTo s c t) (cellsWords s)
+EntryWhole s c t = EntryOf (crossTo s c t) (cellsWords s)
 
--- the entries name crossing slots, each once, and those that are not used are zero
+-- the entries name crossing slots, by rising position (02, W3), and those that are not used are zero
 abbrev pub EntriesWhole : Sizes → List ℕ → List ℕ → List ℕ → Type 0
 EntriesWhole s c m t = EntriesOf (EntryWhole s c t) (s .entries) m
 
@@ -112,7 +112,7 @@ MarksWhole s w = (page : ℕ) → page < s .pages → markOf s (w .tables) page 
 abbrev pub WorksWhole : Sizes → Words → Type 0
 WorksWhole s w = (k : ℕ) → BeginsIn s w k → workOf (w .cells) k ≡ 0
 
--- the remember table names every crossing slot once, with the right region, and nothing else
+-- the remember table names every crossing slot once, with the right region, and nothing else; by rising position (02, W3)
 abbrev pub RememberWhole : Sizes → Words → Type 0
 RememberWhole s w = Exact (crossTo s (w .cells) (w .tables)) (cellsWords s) (s .entries) (w .remember)
 

@@ -12,7 +12,7 @@ use Rattle.rules.specs.Rules.{Regioned, graph, homeOf, objectCell, objectAt}
 use Rattle.layout.specs.Places.{cellsWords, rememberWords, tablesWords}
 use Rattle.layout.specs.Cells.{headWord, cellOf, wordOf}
 use Rattle.layout.specs.Words.{Words}
--- TMP
+use Rattle.remember.specs.Table.{tableOf, namedBy}
 
 -- a reference: 0 for null, else 1 + the cell of the object that it names
 unfoldable pub refWord : Regioned → ℕ → ℕ
@@ -59,7 +59,7 @@ unfoldable pub wordsOf : Sizes → Regioned → Words
 wordsOf s h =
     record {
       cells = listed (cellWord h) (cellsWords s);
-      remember = [];
+      remember = tableOf (s .entries) (namedBy (crossedAt h) (cellsWords s));
       tables =
           (s .threads ∷ s .variables ∷ s .depth ∷ s .pages ∷ s .entries ∷ [])
           ++ (h .heap .depths
