@@ -15,6 +15,7 @@ use Rattle.promises.specs.StandsFor.{StandsFor}
 use Rattle.promises.specs.Promises.{Became, DidHere, Did}
 use Rattle.promises.specs.Reading.{var-at, depth-at, words-closed}
 use Rattle.promises.specs.Agreed.{home-at, object-at, partners-trans, heap-stands, there, cell-alive}
+use Rattle.promises.specs.Laid.{stands-laid}
 use Rattle.laws.specs.LikeCells.{Apart}
 use Rattle.laws.specs.LikeHeaps.{Like}
 use Rattle.laws.specs.LikeSteps.{step-like}
@@ -66,6 +67,7 @@ pub did-anywhere : (s : Sizes) (w : Words) (m : Command) (w′ : Words) (a : Ans
 did-anywhere s w m w′ a d =
     record {
       answer = λ h cellOf st. d .answer ∙ step-like s cellOf h (heapOf s w) (stands-like s w h cellOf st) (stands-apart s w h cellOf st) m .answers;
+      words = λ h cellOf st. let b = next h cellOf st in stands-laid s w′ (ru.step s h m .next) (b .cell) (b .stands) w (d .beyond);
       next = next;
       freed = d .freed;
       refused = d .refused;

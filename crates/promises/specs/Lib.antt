@@ -22,6 +22,7 @@ pub mod GivenBack
 -- theorems: prepared words and a chain of commands beside the rules' unused heap and run
 pub mod Preparing
 pub mod Chained
+pub mod Once
 -- the questions in words, refusals, and a command that is done
 pub mod Questions
 pub mod NewPages

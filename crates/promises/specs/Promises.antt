@@ -17,6 +17,7 @@ use Rattle.layout.specs.Places.{cellsWords, rememberWords, tablesWords}
 use Rattle.layout.specs.Words.{Words, sizesIn, depthIn, ownerIn, heapOf}
 use Rattle.promises.specs.Whole.{WholeWords}
 use Rattle.promises.specs.StandsFor.{StandsFor, SameFrom, SameBeyond}
+use Rattle.promises.specs.WordsOf.{laid}
 
 -- ---- one command
 
@@ -37,9 +38,11 @@ Frees s w t (assigns x) r = ⊥
 pub record Freed (s : Sizes) (w : Words) (m : Command) (w′ : Words) : Type 0 where
   pub pages : (page : ℕ) → page < s .pages → Frees s w (m .thread) (meaningOf m .effect) (ownerIn s w page) → ownerIn s w′ page ≡ 0
 
--- command m on the words w answered a and left w′, said of the heap that the words make
+-- command m on the words w answered a and left w′, said of the heap that the words make: the rules' answer, and the words of the heap that the
+-- rules leave, every one (02, W3)
 pub record DidHere (s : Sizes) (w : Words) (m : Command) (w′ : Words) (a : Answer) : Type 0 where
   pub answer : a ≡ ru.step s (heapOf s w) m .answer
+  pub words : w′ ≡ laid s (ru.step s (heapOf s w) m .next) w
   pub next : Became s (heapOf s w) (λ c. c) w′ (ru.step s (heapOf s w) m .next)
   pub freed : a .number ≡ 0 → Freed s w m w′
   pub refused : (a .number ≡ 0 → ⊥) → w′ ≡ w
@@ -48,6 +51,7 @@ pub record DidHere (s : Sizes) (w : Words) (m : Command) (w′ : Words) (a : Ans
 -- the same of every heap h that the words stood for (`did-anywhere` of Here: the first says as much)
 pub record Did (s : Sizes) (w : Words) (m : Command) (w′ : Words) (a : Answer) : Type 0 where
   pub answer : (h : Regioned) (cellOf : ℕ → ℕ) → StandsFor s w h cellOf → a ≡ ru.step s h m .answer
+  pub words : (h : Regioned) (cellOf : ℕ → ℕ) → StandsFor s w h cellOf → w′ ≡ laid s (ru.step s h m .next) w
   pub next : (h : Regioned) (cellOf : ℕ → ℕ) → StandsFor s w h cellOf → Became s h cellOf w′ (ru.step s h m .next)
   pub freed : a .number ≡ 0 → Freed s w m w′
   pub refused : (a .number ≡ 0 → ⊥) → w′ ≡ w

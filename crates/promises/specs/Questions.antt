@@ -31,6 +31,8 @@ use Rattle.promises.specs.Promises.{Became, DidHere, Frees, Freed}
 use Rattle.promises.specs.Reading.{used-alive, length-fields, getD-fields, ref-begins}
 use Rattle.promises.specs.Agreed.{heap-stands, object-at}
 use Rattle.promises.specs.Here.{here-var}
+use Rattle.promises.specs.WordsOf.{laid}
+use Rattle.promises.specs.Laid.{stands-laid}
 use Rattle.promises.specs.Areas.{same-beyond}
 
 -- the same answer, as the code has it
@@ -52,6 +54,7 @@ module _ (s : Sizes) (w : Words) (k : WholeFor s w) (m : Command) where
   did-refused (suc q) z e =
       record {
         answer = sym (ap (λ (n : ℕ). ru.answered s H m n .answer) e);
+        words = stands-laid s w H (λ c. c) (heap-stands s w k) w (same-beyond s w) ∙ sym (ap (λ (n : ℕ). laid s (ru.answered s H m n .next) w) e);
         next = subst (λ (h : Regioned). Became s H (λ c. c) w h) (sym (ap (λ (n : ℕ). ru.answered s H m n .next) e))
             (record { cell = λ c. c; stands = heap-stands s w k; stays = λ x a z. refl });
         freed = λ z. absurd (let o : ⊥ = omega arith in o);
@@ -77,9 +80,11 @@ module _ (s : Sizes) (w : Words) (k : WholeFor s w) (m : Command) where
     unfolding ru.step ru.answered
     did-freed r st =
         let next : ru.step s H m .next ≡ h′ = ap (λ (q : ℕ). ru.answered s H m q .next) e ∙ n in
+        let became = st (subst Sound next (no-dangling s H m (heap-stands s w k .sound))) in
         record {
           answer = sym (ap (λ (q : ℕ). ru.answered s H m q .answer) e ∙ ap done f);
-          next = subst (λ (h : Regioned). Became s H (λ c. c) w′ h) (sym next) (st (subst Sound next (no-dangling s H m (heap-stands s w k .sound))));
+          words = stands-laid s w′ h′ (became .cell) (became .stands) w b ∙ sym (ap (λ (h : Regioned). laid s h w) next);
+          next = subst (λ (h : Regioned). Became s H (λ c. c) w′ h) (sym next) became;
           freed = λ z. r;
           refused = λ z. absurd (z refl);
           beyond = b;

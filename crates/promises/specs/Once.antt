@@ -1,0 +1,151 @@
+-- Every lent word is determined: after a list of commands, a run and prepare. Two runs from the same words with the same block and answer slice
+-- give the same number, words and answers.
+use Prim.Native.Nat.{ℕ, _+_, _-_, _*_, _/_, _%_, _≤_, _<_}
+use native.Mathlib.Omega.{arith}
+use native.Mathlib.Decide.{ℕ-discrete}
+use mathlib.Core.Path.{_≡_, refl, sym, ap, ap₂, subst, _∙_}
+use mathlib.Core.List.{List, [], _∷_, _++_}
+use lib.ListN.{length, getD, drop, replicate, take-append-drop, length-append, length-drop, length-replicate}
+use lib.Seq.{drop-append-seam}
+use Rattle.lists.specs.Listed.{getD-listed}
+use Rattle.lists.specs.Stores.{part-same}
+use Rattle.rules.specs.declared.Sizes.{Sizes}
+use Rattle.rules.specs.declared.Command.{Command}
+use Rattle.rules.specs.declared.Answer.{Answer}
+use Rattle.rules.specs.Rules.{Regioned, run, step, unused}
+use Rattle.layout.specs.Places.{cellsWords, rememberWords, tablesWords}
+use Rattle.layout.specs.Words.{Words, sizesIn, heapOf}
+use Rattle.promises.specs.Whole.{WholeFor, WholeWords}
+use Rattle.promises.specs.StandsFor.{StandsFor, SameFrom, SameBeyond}
+use Rattle.promises.specs.WordsOf.{laid}
+use Rattle.promises.specs.Promises.{Did, Chain, none, more, commandsIn, answersIn, size, answerAt, RunAsked, notWhole, uneven, short, accepted, Ran, LongEnough, PrepareAsked, outOfRange, Unused, Prepared}
+use Rattle.promises.specs.Agreed.{heap-stands}
+use Rattle.promises.specs.Areas.{same-beyond, beyond-both, starts}
+use Rattle.promises.specs.Chained.{Chained, chained, asked-whole}
+use Rattle.promises.specs.Laid.{stands-laid}
+use Rattle.promises.specs.Preparing.{prepared-stands}
+
+-- the words past the three lengths are as they were after a list of commands
+chain-beyond : (s : Sizes) {w w′ : Words} {ms : List Command} {as′ : List Answer} → Chain s w ms as′ w′ → SameBeyond s w w′
+chain-beyond s {w} none = same-beyond s w
+chain-beyond s (more did rest) = beyond-both (did .beyond) (chain-beyond s rest)
+
+-- A LIST OF COMMANDS leaves the words of the heap that the rules' run leaves, and answers as it does
+module _ (s : Sizes) {w w′ : Words} {ms : List Command} {as′ : List Answer} (k : WholeFor s w) (c : Chain s w ms as′ w′) where
+  after : Chained s (heapOf s w) ms as′ w′
+  after = chained s c (heapOf s w) (λ x. x) (heap-stands s w k)
+
+  pub chain-words : w′ ≡ laid s (run s (heapOf s w) ms .last) w
+  chain-words = stands-laid s w′ (run s (heapOf s w) ms .last) (after .cell) (after .stands) w (chain-beyond s c)
+
+  pub chain-answers : as′ ≡ run s (heapOf s w) ms .answers
+  chain-answers = after .answers
+
+-- A RUN that is not refused: the same of the commands of its block
+module _ {w : Words} {block lent : List ℕ} {q : ℕ} {w′ : Words} {answers : List ℕ} (r : Ran w block lent q w′ answers) (z : q ≡ 0) where
+  pub ran-words : w′ ≡ laid (sizesIn w) (run (sizesIn w) (heapOf (sizesIn w) w) (commandsIn block) .last) w
+  ran-words = chain-words (sizesIn w) (asked-whole (r .asked) z) (r .obeyed z)
+
+  pub ran-answers : answersIn block answers ≡ run (sizesIn w) (heapOf (sizesIn w) w) (commandsIn block) .answers
+  ran-answers = chain-answers (sizesIn w) (asked-whole (r .asked) z) (r .obeyed z)
+
+-- ---- two runs
+
+same-asked : {w : Words} {block lent : List ℕ} {p q : ℕ} → RunAsked w block lent p → RunAsked w block lent q → p ≡ q
+same-asked (notWhole e n) (notWhole f m) = e ∙ sym f
+same-asked (notWhole e n) (uneven f k m) = absurd (n k)
+same-asked (notWhole e n) (short f k m l) = absurd (n k)
+same-asked (notWhole e n) (accepted f k m l) = absurd (n k)
+same-asked (uneven e k n) (notWhole f m) = absurd (m k)
+same-asked (uneven e k n) (uneven f i m) = e ∙ sym f
+same-asked (uneven e k n) (short f i m l) = absurd (n m)
+same-asked (uneven e k n) (accepted f i m l) = absurd (n m)
+same-asked (short e k n l) (notWhole f m) = absurd (m k)
+same-asked (short e k n l) (uneven f i m) = absurd (m n)
+same-asked (short e k n l) (short f i m j) = e ∙ sym f
+same-asked (short e k n l) (accepted f i m j) = absurd (let z : ⊥ = omega arith in z)
+same-asked (accepted e k n l) (notWhole f m) = absurd (m k)
+same-asked (accepted e k n l) (uneven f i m) = absurd (m n)
+same-asked (accepted e k n l) (short f i m j) = absurd (let z : ⊥ = omega arith in z)
+same-asked (accepted e k n l) (accepted f i m j) = e ∙ sym f
+
+-- answer slices with the same answers to a block and the same words past them
+module _ (block lent a b : List ℕ) (x : SameFrom (2 * size block) lent a) (y : SameFrom (2 * size block) lent b) (e : answersIn block a ≡ answersIn block b) where
+  answer-same : (i : ℕ) → i < size block → answerAt a i ≡ answerAt b i
+  answer-same i l =
+      let d : Answer = record { number = 0; value = 0 } in
+      sym (getD-listed (answerAt a) (size block) i d l) ∙ ap (λ (as′ : List Answer). getD as′ i d) e ∙ getD-listed (answerAt b) (size block) i d l
+
+  word-same : (j : ℕ) → j < 2 * size block → getD a j 0 ≡ getD b j 0
+  word-same j l = go (ℕ-discrete (j % 2) 0)
+    where
+      go : Dec (j % 2 ≡ 0) → getD a j 0 ≡ getD b j 0
+      go (yes z) =
+          subst (λ (i : ℕ). getD a i 0 ≡ getD b i 0) (let q : 2 * (j / 2) ≡ j = omega arith in q)
+          (ap (λ (r : Answer). r .number) (answer-same (j / 2) (omega arith)))
+      go (no n) =
+          subst (λ (i : ℕ). getD a i 0 ≡ getD b i 0) (let q : 2 * (j / 2) + 1 ≡ j = omega arith in q)
+          (ap (λ (r : Answer). r .value) (answer-same (j / 2) (omega arith)))
+
+  answers-same : a ≡ b
+  answers-same =
+      sym (take-append-drop (2 * size block) a)
+      ∙ ap₂ _++_ (part-same (2 * size block) 0 b a (x .long ∙ sym (y .long)) (λ i l. subst (λ (j : ℕ). getD a j 0 ≡ getD b j 0) (let q : i ≡ 0 + i = omega arith in q) (word-same i l)))
+      (x .rest ∙ sym (y .rest))
+      ∙ take-append-drop (2 * size block) b
+
+pub record SameRun (p : ℕ) (u : Words) (a : List ℕ) (q : ℕ) (v : Words) (b : List ℕ) : Type 0 where
+  pub number : p ≡ q
+  pub words : u ≡ v
+  pub answers : a ≡ b
+
+-- TWO RUNS from the same words with the same block and answer slice give the same number, words and answers
+pub ran-once : {w : Words} {block lent : List ℕ} {p : ℕ} {u : Words} {a : List ℕ} {q : ℕ} {v : Words} {b : List ℕ} → Ran w block lent p u a → Ran w block lent q v b → SameRun p u a q v b
+ran-once {w} {block} {lent} {p} {u} {a} {q} {v} {b} x y = go (ℕ-discrete p 0)
+  where
+    same : p ≡ q
+    same = same-asked (x .asked) (y .asked)
+
+    go : Dec (p ≡ 0) → SameRun p u a q v b
+    go (yes z) =
+        let z′ : q ≡ 0 = sym same ∙ z in
+        record {
+          number = same;
+          words = ran-words x z ∙ sym (ran-words y z′);
+          answers = answers-same block lent a b (x .spare) (y .spare) (ran-answers x z ∙ sym (ran-answers y z′));
+        }
+    go (no n) =
+        let m : q ≡ 0 → ⊥ = λ z. n (same ∙ z) in
+        record { number = same; words = x .refused n .0 ∙ sym (y .refused m .0); answers = x .refused n .1 ∙ sym (y .refused m .1) }
+
+-- ---- prepare
+
+-- a list that has other words up to n
+kept-from : (n : ℕ) (l front : List ℕ) → n ≤ length l → length front ≡ n → SameFrom n l (front ++ drop n l)
+kept-from n l front h e =
+    record {
+      long = omega (arith, length-append front (drop n l), length-drop n l);
+      rest = ap (λ (m : ℕ). drop m (front ++ drop n l)) (sym e) ∙ drop-append-seam front (drop n l);
+    }
+
+unused-beyond : (s : Sizes) (lent w : Words) → LongEnough s lent → 5 ≤ tablesWords s → Unused s lent w → SameBeyond s lent w
+unused-beyond s lent w l five u =
+    record {
+      cells = subst (SameFrom (cellsWords s) (lent .cells)) (sym (u .cells)) (kept-from (cellsWords s) (lent .cells) (replicate (cellsWords s) 0) (l .cells) (length-replicate (cellsWords s) 0));
+      remember =
+          subst (SameFrom (rememberWords s) (lent .remember)) (sym (u .remember))
+          (kept-from (rememberWords s) (lent .remember) (s .entries ∷ replicate (rememberWords s - 1) 0) (l .remember) (omega (arith, length-replicate {A = ℕ} (rememberWords s - 1) 0)));
+      tables =
+          subst (SameFrom (tablesWords s) (lent .tables)) (sym (u .tables))
+          (kept-from (tablesWords s) (lent .tables) (s .threads ∷ s .variables ∷ s .depth ∷ s .pages ∷ s .entries ∷ replicate (tablesWords s - 5) 0) (l .tables)
+          (omega (arith, length-replicate {A = ℕ} (tablesWords s - 5) 0)));
+    }
+
+-- PREPARE leaves the words of the unused heap
+pub prepared-words : (s : Sizes) (lent w : Words) → Prepared s lent 0 w → w ≡ laid s (unused s) lent
+prepared-words s lent w p = stands-laid s w (unused s) (λ x. x) (prepared-stands s lent w p) lent (go (p .asked))
+  where
+    go : PrepareAsked s lent 0 → SameBeyond s lent w
+    go (outOfRange e n) = absurd (let z : ⊥ = omega arith in z)
+    go (short e r n) = absurd (let z : ⊥ = omega arith in z)
+    go (accepted e r l) = unused-beyond s lent w l (omega (arith, starts s)) (p .unused refl)
