@@ -2,4 +2,5 @@
 pub mod Owned
 pub mod Listing
 pub mod Pages
+pub mod Noted
 pub mod Took

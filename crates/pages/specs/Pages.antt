@@ -12,7 +12,7 @@ use lib.ListN.{set}
 use Rattle.lists.specs.Below.{upto}
 use Rattle.rules.specs.Regions.{regions}
 use Rattle.rules.specs.declared.Sizes.{Sizes}
-use Rattle.layout.specs.Places.{mostRegions, ownerAt, usedAt, countAt, ownerOf, usedOf, countOf}
+use Rattle.layout.specs.Places.{ownerAt, usedAt, countAt, ownerOf, usedOf, countOf}
 use Rattle.layout.specs.Cells.{pageCells, placeOf}
 use Rattle.promises.specs.Whole.{Partial}
 use Rattle.promises.specs.Regular.{Regular}
@@ -23,31 +23,25 @@ pub record Partly (p : Sizes) (t : List ℕ) (g page : ℕ) : Type 0 where
   pub low : page < p .pages
   pub partial : Partial p t g page
 
--- g has no partly filled page below n; the page is free, the number of pages if none below n is
+-- where a page below n is free, the page given is one, and no free page below n has a higher number
+abbrev pub NoneHigher : Sizes → List ℕ → ℕ → ℕ → Type 0
+NoneHigher p t n page = (x : ℕ) → x < n → ownerOf p t x ≡ 0 → (x ≤ page) × (page < p .pages)
+
+-- g has no partly filled page below n; the page is the highest-numbered free one, the number of pages if none below n is free
 pub record Fresh (p : Sizes) (t : List ℕ) (g n page : ℕ) : Type 0 where
   pub none : (x : ℕ) → x < n → ownerOf p t x ≡ g → pageCells ≤ usedOf p t x
-  pub some : (x : ℕ) → x < n → ownerOf p t x ≡ 0 → page < p .pages
+  pub some : NoneHigher p t n page
   pub free : page < p .pages → ownerOf p t page ≡ 0
   pub within : page ≤ p .pages
 
 abbrev pub Found : Sizes → List ℕ → ℕ → ℕ → Type 0
 Found p t g page = Partly p t g page ⊎ Fresh p t g (p .pages) page
 
--- a free page, the number of pages if there is none
-pub record Free (p : Sizes) (t : List ℕ) (page : ℕ) : Type 0 where
-  pub some : (x : ℕ) → x < p .pages → ownerOf p t x ≡ 0 → page < p .pages
+-- the highest-numbered free page below n, the number of pages if there is none
+pub record Free (p : Sizes) (t : List ℕ) (n page : ℕ) : Type 0 where
+  pub some : NoneHigher p t n page
   pub free : page < p .pages → ownerOf p t page ≡ 0
   pub within : page ≤ p .pages
-
--- the highest-numbered free page from low on and below high, the number of pages if there is none
-pub record Highest (p : Sizes) (t : List ℕ) (low high page : ℕ) : Type 0 where
-  pub last : (x : ℕ) → low ≤ x → x < high → ownerOf p t x ≡ 0 → (x ≤ page) × (page < p .pages)
-  pub free : page < p .pages → ownerOf p t page ≡ 0
-  pub within : page ≤ p .pages
-
--- the notes of a block: the free page found last, and for each region the page that its last object went to
-abbrev pub noteWords : ℕ
-noteWords = mostRegions
 
 -- the page of the next object is a page or the number of pages
 pub found-within : {p : Sizes} {t : List ℕ} {g page : ℕ} → Found p t g page → page ≤ p .pages
@@ -82,30 +76,26 @@ none-from p t {n} pos used none x l m e = go (ℕ-discrete x (n - 1))
     go (yes d) = used (subst (λ (y : ℕ). ownerOf p t y ≡ 0) d e)
     go (no d) = none x (omega arith) m e
 
-pub highest-found : (p : Sizes) (t : List ℕ) (low : ℕ) {n high : ℕ} → 0 < n → n ≤ high → high ≤ p .pages → ownerOf p t (n - 1) ≡ 0 → NoneFrom p t n high
-    → Highest p t low high (n - 1)
-highest-found p t low {n} {high} pos l h e none = record { last = λ x k m d. (go x m d (decLt x n), omega arith); free = λ k. e; within = omega arith }
+pub free-found : (p : Sizes) (t : List ℕ) {n high : ℕ} → 0 < n → n ≤ high → high ≤ p .pages → ownerOf p t (n - 1) ≡ 0 → NoneFrom p t n high → Free p t high (n - 1)
+free-found p t {n} {high} pos l h e none = record { some = λ x m d. (go x m d (decLt x n), omega arith); free = λ k. e; within = omega arith }
   where
     go : (x : ℕ) → x < high → ownerOf p t x ≡ 0 → Dec (x < n) → x ≤ n - 1
     go x m d (yes k) = omega arith
     go x m d (no k) = absurd (none x (omega arith) m d)
 
-pub highest-none : {p : Sizes} {t : List ℕ} {low n high : ℕ} → n ≤ low → NoneFrom p t n high → Highest p t low high (p .pages)
-highest-none {p} {t} {low} {n} {high} z none =
-    record { last = λ x k l e. absurd (none x (omega arith) l e); free = λ l. absurd (let f : ⊥ = omega arith in f); within = omega arith }
+pub free-none : {p : Sizes} {t : List ℕ} {n high : ℕ} → n ≤ 0 → NoneFrom p t n high → Free p t high (p .pages)
+free-none {p} {t} {n} {high} z none =
+    record { some = λ x l e. absurd (none x (omega arith) l e); free = λ l. absurd (let f : ⊥ = omega arith in f); within = omega arith }
 
--- below the bound, else from it on
-pub free-below : {p : Sizes} {t : List ℕ} {mid page : ℕ} → page < p .pages → Highest p t 0 mid page → Free p t page
-free-below l h = record { some = λ x k e. l; free = h .free; within = h .within }
-
-pub free-above : {p : Sizes} {t : List ℕ} {mid page page′ : ℕ} → p .pages ≤ page → Highest p t 0 mid page → Highest p t mid (p .pages) page′ → Free p t page′
-free-above {p} {t} {mid} {page} {page′} none h k = record { some = λ x l e. go x l e (decLt x mid); free = k .free; within = k .within }
+-- none is free from the bound on
+pub free-all : {p : Sizes} {t : List ℕ} {n page : ℕ} → NoneFrom p t n (p .pages) → Free p t n page → Free p t (p .pages) page
+free-all {p} {t} {n} {page} none h = record { some = λ x l e. go x l e (decLt x n); free = h .free; within = h .within }
   where
-    go : (x : ℕ) → x < p .pages → ownerOf p t x ≡ 0 → Dec (x < mid) → page′ < p .pages
-    go x l e (yes m) = absurd (let z : ⊥ = omega (arith, h .last x (omega arith) m e .1) in z)
-    go x l e (no m) = k .last x (omega arith) l e .1
+    go : (x : ℕ) → x < p .pages → ownerOf p t x ≡ 0 → Dec (x < n) → (x ≤ page) × (page < p .pages)
+    go x l e (yes m) = h .some x m e
+    go x l e (no m) = absurd (none x (omega arith) l e)
 
-pub fresh-filled : (p : Sizes) (t : List ℕ) (g : ℕ) {page : ℕ} → Filled p t g → fillsPages (countOf p t g) ≡ true → Free p t page → Found p t g page
+pub fresh-filled : (p : Sizes) (t : List ℕ) (g : ℕ) {page : ℕ} → Filled p t g → fillsPages (countOf p t g) ≡ true → Free p t (p .pages) page → Found p t g page
 fresh-filled p t g none full h =
     inr (record {
       none = λ x l e. go x l e (decLt (usedOf p t x) pageCells);
@@ -135,7 +125,7 @@ pub fresh-next : {p : Sizes} {t : List ℕ} {g n page page′ : ℕ} (w : ℕ) �
 fresh-next {p} {t} {g} {n} {page} {page′} w is low full (inl e) h =
     record {
       none = upto n {X = λ x. ownerOf p t x ≡ g → pageCells ≤ usedOf p t x} (h .none) (λ z. full (is ∙ z));
-      some = λ x l z. omega (arith, e .1);
+      some = λ x l z. (omega (arith, e .1), omega (arith, e .1));
       free = λ l. subst (λ (x : ℕ). ownerOf p t x ≡ 0) (sym (e .1)) (sym is ∙ e .0);
       within = omega (arith, e .1);
     }
@@ -143,7 +133,7 @@ fresh-next {p} {t} {g} {n} {page} {page′} w is low full (inr e) h =
     subst (λ (x : ℕ). Fresh p t g (n + 1) x) (sym (e .1))
     (record {
       none = upto n {X = λ x. ownerOf p t x ≡ g → pageCells ≤ usedOf p t x} (h .none) (λ z. full (is ∙ z));
-      some = upto n {X = λ x. ownerOf p t x ≡ 0 → page < p .pages} (h .some) (λ z. absurd (e .0 (is ∙ z)));
+      some = upto n {X = λ x. ownerOf p t x ≡ 0 → (x ≤ page) × (page < p .pages)} (h .some) (λ z. absurd (e .0 (is ∙ z)));
       free = h .free;
       within = h .within;
     })

@@ -1,5 +1,5 @@
 // The pages of a region, and the cell that an object gets: the first unused cell of its region's partly filled page, else the first cell
-// of a free page.
+// of the highest-numbered free page (02, W3).
 ghost use mathlib.Core.Path.{_≡_};
 ghost use Prim.Native.Nat.{_+_, _^_, _<_, _≤_, min};
 ghost use lib.ListN.{length};
@@ -11,7 +11,8 @@ ghost use Rattle.layout.specs.Places.{Room, ownerOf, usedOf, countOf};
 ghost use Rattle.layout.specs.Cells.{cellOn, pageCells};
 ghost use Rattle.promises.specs.OwnedPages.{ownedOne, ownedIn};
 ghost use Rattle.pages.specs.Owned.{Paged};
-ghost use Rattle.pages.specs.Pages.{fillsPages, noteWords, Filled, Found, Free, Highest, Partly, taken};
+ghost use Rattle.pages.specs.Pages.{fillsPages, Filled, Found, Free, Partly, taken};
+ghost use Rattle.pages.specs.Noted.{Above, Noted};
 use rules::Sizes;
 
 // 1 if a page belongs to region g, else 0.
@@ -104,14 +105,14 @@ fn is_partly(p: Sizes, tables: &[u32], region: u32, page: usize) -> bool
     false
 }
 
-// The highest-numbered free page from `low` on and below `high`; the number of pages if there is none.
-fn free_between(p: Sizes, tables: &[u32], low: usize, high: usize) -> usize
+// The highest-numbered free page below `high`; the number of pages if there is none.
+fn free_below(p: Sizes, tables: &[u32], high: usize) -> usize
     requires { ⌜ Room p (length (now tables)) ⌝ }
     requires { ⌜ high ≤ p .pages ⌝ }
-    ensures { λ r. ⌜ Highest p (now (tables .entry)) low high r ⌝ }
+    ensures { λ r. ⌜ Free p (now (tables .entry)) high r ⌝ }
 {
     let mut page = high;
-    while low < page {
+    while 0 < page {
         page -= 1;
         if layout::tables::owner(p, tables, page) == 0 {
             return page;
@@ -126,24 +127,29 @@ fn lower(a: usize, b: usize) -> usize
     if a < b { a } else { b }
 }
 
-// A free page; the number of pages if there is none. Note 0 is the page that was found last: the search goes on below it, and looks at the
-// pages above it last. The notes are kept for the length of a block and are hints: the answer is right whatever they hold.
+// How many of so many pages lie above a page; all of them, where it is their number.
+fn pages_above(pages: usize, page: usize) -> usize
+    ensures { λ r. ⌜ Above pages page r ⌝ }
+{
+    if page < pages { pages - 1 - page } else { pages }
+}
+
+// The highest-numbered free page; the number of pages if there is none. The search begins below the pages that note 0 counts, none of which is
+// free, and note 0 becomes the pages above the one that is found. The notes are kept for the length of a block.
 pub fn free_page(p: Sizes, tables: &[u32], notes: &mut [u32]) -> usize
     requires { ⌜ Room p (length (now tables)) ⌝ }
-    requires { ⌜ noteWords ≤ length (now notes) ⌝ }
-    ensures { λ r. ⌜ Free p (now (tables .entry)) r ⌝ }
+    requires { ⌜ Noted p (now tables) (now notes) ⌝ }
+    ensures { λ r. ⌜ Free p (now (tables .entry)) (p .pages) r ⌝ }
+    ensures { λ _. ⌜ Noted p (now (tables .entry)) (now (notes .exit)) ⌝ }
 {
     let pages = p.pages;
-    let from = lower(layout::wide(notes[0]), pages);
-    let mut page = free_between(p, tables, 0, from);
-    if pages <= page {
-        page = free_between(p, tables, from, pages);
-    }
-    notes[0] = page as u32;
+    let passed = lower(layout::wide(notes[0]), pages);
+    let page = free_below(p, tables, pages - passed);
+    notes[0] = pages_above(pages, page) as u32;
     page
 }
 
-// The partly filled page of a region; if it has none a free page; the number of pages if there is none.
+// The partly filled page of a region; if it has none the highest-numbered free page; the number of pages if there is none.
 fn find_page(p: Sizes, tables: &[u32], region: u32) -> usize
     requires { ⌜ Room p (length (now tables)) ⌝ }
     ensures { λ r. ⌜ Found p (now (tables .entry)) region r ⌝ }
@@ -169,9 +175,10 @@ fn find_page(p: Sizes, tables: &[u32], region: u32) -> usize
 // The same page. Where the region's objects fill their pages it has no partly filled one, and a free page is all there is to look for.
 fn search_page(p: Sizes, tables: &[u32], notes: &mut [u32], region: u32) -> usize
     requires { ⌜ Room p (length (now tables)) ⌝ }
-    requires { ⌜ noteWords ≤ length (now notes) ⌝ }
+    requires { ⌜ Noted p (now tables) (now notes) ⌝ }
     requires { ⌜ (1 ≤ region) × (region ≤ regions p) × Filled p (now tables) region ⌝ }
     ensures { λ r. ⌜ Found p (now (tables .entry)) region r ⌝ }
+    ensures { λ _. ⌜ Noted p (now (tables .entry)) (now (notes .exit)) ⌝ }
 {
     if fills_pages(layout::tables::count(p, tables, layout::wide(region))) {
         return free_page(p, tables, notes);
@@ -182,9 +189,10 @@ fn search_page(p: Sizes, tables: &[u32], notes: &mut [u32], region: u32) -> usiz
 // The same page, found without a search where the region's note names it: the page that its last object went to.
 pub fn page_for(p: Sizes, tables: &[u32], notes: &mut [u32], region: u32) -> usize
     requires { ⌜ Room p (length (now tables)) ⌝ }
-    requires { ⌜ noteWords ≤ length (now notes) ⌝ }
+    requires { ⌜ Noted p (now tables) (now notes) ⌝ }
     requires { ⌜ (1 ≤ region) × (region ≤ regions p) × Filled p (now tables) region ⌝ }
     ensures { λ r. ⌜ Found p (now (tables .entry)) region r ⌝ }
+    ensures { λ _. ⌜ Noted p (now (tables .entry)) (now (notes .exit)) ⌝ }
 {
     let number = layout::wide(region);
     let noted = layout::wide(notes[number]);

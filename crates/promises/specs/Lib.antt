@@ -39,5 +39,6 @@ pub mod FieldStore
 pub mod FrameNumber
 pub mod FrameReference
 pub mod TakeCell
+pub mod TakenPage
 pub mod NewCell
 pub mod FrameNew

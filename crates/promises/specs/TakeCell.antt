@@ -1,4 +1,5 @@
--- A region takes the first unused cell of its partly filled page or, if it has none, of a free page: what becomes of pages and counts.
+-- A region takes the first unused cell of its partly filled page or, if it has none, of the highest-numbered free page (02, W3): what becomes of
+-- pages and counts.
 use Prim.Native.Nat.{ℕ, suc, _+_, _-_, _≤_, _<_}
 use native.Mathlib.Omega.{arith}
 use native.Mathlib.Decide.{ℕ-discrete}
@@ -20,9 +21,10 @@ use Rattle.promises.specs.Changes.{withTables}
 use Rattle.promises.specs.Areas.{ownerWords, usedWords, countWords, madeWords, Only, among-both, arrays-apart, tables-only, starts}
 use Rattle.promises.specs.Frames.{open-frame}
 
--- the page is the region's, or it was free and the region had none that is partly filled
+-- the page is the region's, or it was the highest-numbered free one and the region had none that is partly filled
 abbrev pub Source : Sizes → List ℕ → ℕ → ℕ → Type 0
-Source p t g page = (ownerOf p t page ≡ g) ⊎ ((ownerOf p t page ≡ 0) × ((q : ℕ) → q < p .pages → Partial p t g q → ⊥))
+Source p t g page =
+    (ownerOf p t page ≡ g) ⊎ ((ownerOf p t page ≡ 0) × ((q : ℕ) → q < p .pages → Partial p t g q → ⊥) × ((q : ℕ) → q < p .pages → ownerOf p t q ≡ 0 → q ≤ page))
 
 -- region g took the cell: from tables t, which left t′, with n as the counter of objects made: one more for a new object, the same for a copy
 pub record Took (p : Sizes) (t : List ℕ) (g cell n : ℕ) (t′ : List ℕ) : Type 0 where
@@ -74,11 +76,11 @@ module _ (s : Sizes) (t : List ℕ) (g page : ℕ) (low : page < s .pages) (room
       → Took s t g (cellOn page (usedOf s t page)) (madeOf s t) (set (set t (usedAt s page) (usedOf s t page + 1)) (countAt s g) (countOf s t g + 1))
   took-own o few = taken t (usedOf s t page) refl refl few (inl o) o (λ j n. refl)
 
-  -- the first cell of a free page
-  pub took-free : ownerOf s t page ≡ 0 → usedOf s t page ≡ 0 → ((q : ℕ) → q < s .pages → Partial s t g q → ⊥)
+  -- the first cell of the highest-numbered free page
+  pub took-free : ownerOf s t page ≡ 0 → usedOf s t page ≡ 0 → ((q : ℕ) → q < s .pages → Partial s t g q → ⊥) → ((q : ℕ) → q < s .pages → ownerOf s t q ≡ 0 → q ≤ page)
       → Took s t g (cellOn page 0) (madeOf s t) (set (set (set t (ownerAt s page) g) (usedAt s page) 1) (countAt s g) (countOf s t g + 1))
-  took-free o z none =
-      taken (set t (ownerAt s page) g) 0 (length-set t (ownerAt s page) g) z (omega arith) (inr (o, none)) (put t (ownerAt s page) g 0 (omega (arith, count-is s))) (λ j. past t (ownerAt s page) g j 0)
+  took-free o z none highest =
+      taken (set t (ownerAt s page) g) 0 (length-set t (ownerAt s page) g) z (omega arith) (inr (o, none, highest)) (put t (ownerAt s page) g 0 (omega (arith, count-is s))) (λ j. past t (ownerAt s page) g j 0)
 
 -- ---- what it leaves as it was
 

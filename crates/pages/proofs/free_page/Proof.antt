@@ -1,19 +1,9 @@
--- Below the note, else from it on.
+-- The search begins below the pages that note 0 counts, and what lies above the page that it finds is counted next.
 use borrow.Author.Needs.{needs}
 use native.Mathlib.Omega.{arith}
-use Prim.Native.Nat.{ℕ}
-use mathlib.Core.Path.{sym, subst}
-use mathlib.Core.Logic.{⊎-elim}
-use Rattle.pages.specs.Pages.{Free, free-below, free-above}
+use Rattle.pages.specs.Noted.{above-within, noted-free, noted-found}
 use Rattle.pages.proofs.free_page.Statement.{statement}
 use Rattle.pages.proofs.free_page.Tie as tie
-
-free : (c : tie.After-row-known) → Free (c .before .before .before .before .before .before .before .before .args .p) (c .before .before .before .before .before .before .before .before .args .tables .now) (c .before .if1 .page)
-free c =
-    ⊎-elim
-    (λ w. subst (λ (x : ℕ). Free (c .before .before .before .before .before .before .before .before .args .p) (c .before .before .before .before .before .before .before .before .args .tables .now) x) (sym (w .2)) (free-above (w .0 .taken) (c .before .before .free-between .ensures) (w .1 .ensures)))
-    (λ w. subst (λ (x : ℕ). Free (c .before .before .before .before .before .before .before .before .args .p) (c .before .before .before .before .before .before .before .before .args .tables .now) x) (sym (w .1)) (free-below (omega (arith, w .0 .left)) (c .before .before .free-between .ensures)))
-    (c .before .if1 .came)
 
 slice-read-wide : tie.Need-slice-read-wide
 slice-read-wide c = search needs
@@ -24,14 +14,17 @@ wide-requires c κs = search needs
 lower-requires : tie.Need-lower-requires
 lower-requires c κs = search needs
 
-free-between-requires : tie.Need-free-between-requires
-free-between-requires c κs = search needs
+sub-free-below : tie.Need-sub-free-below
+sub-free-below c = search needs
 
-free-between-requires-2 : tie.Need-free-between-requires-2
-free-between-requires-2 c κs = search needs
+free-below-requires : tie.Need-free-below-requires
+free-below-requires c κs = search needs
+
+pages-above-requires : tie.Need-pages-above-requires
+pages-above-requires c κs = search needs
 
 cast-notes : tie.Need-cast-notes
-cast-notes c = omega (arith, free c .within, c .before .before .before .before .before .before .before .before .pre .0 .few)
+cast-notes c = omega (arith, above-within _ _ _ (c .pages-above .ensures), c .before .before .before .before .before .before .before .pre .0 .few)
 
 slice-write-notes : tie.Need-slice-write-notes
 slice-write-notes c = search needs
@@ -40,7 +33,10 @@ same-length : tie.Need-same-length
 same-length c = search needs
 
 returns : tie.Need-returns
-returns c = free c
+returns c = (
+  noted-free (c .before .before .before .before .before .before .before .pre .1) (omega (arith, c .before .before .lower .ensures, c .before .before .before .wide .ensures)) (c .before .free-below .ensures),
+  noted-found (c .before .before .before .before .before .before .before .pre .1) (omega (arith, c .before .before .lower .ensures, c .before .before .before .wide .ensures)) (c .before .free-below .ensures) (c .pages-above .ensures),
+)
 
 pub free-page-spec : {M : Type 1} → statement M
 free-page-spec =
@@ -49,8 +45,9 @@ free-page-spec =
     slice-read-wide
     wide-requires
     lower-requires
-    free-between-requires
-    free-between-requires-2
+    sub-free-below
+    free-below-requires
+    pages-above-requires
     cast-notes
     slice-write-notes
     same-length

@@ -23,14 +23,16 @@ same-length c = search needs
 
 returns : tie.Need-returns
 returns c =
-    let objects = c .before .before .before .before .before .before .count .ensures ∙ ap (countOf (c .before .before .before .before .before .before .before .before .before .before .args .p) (c .before .before .before .before .before .before .before .before .before .before .args .tables .now)) (c .before .before .before .before .before .before .before .wide .ensures) in
-    fresh-filled (c .before .before .before .before .before .before .before .before .before .before .args .p) (c .before .before .before .before .before .before .before .before .before .before .args .tables .now) (c .before .before .before .before .before .before .before .before .before .before .args .region) (c .before .before .before .before .before .before .before .before .before .before .pre .1 .1 .2) (sym (c .before .before .before .before .before .fills-pages .ensures ∙ ap fillsPages objects) ∙ c .before .before .before .before .if1 .taken) (c .before .before .free-page .ensures)
+    let objects = c .before .before .before .before .before .before .count .ensures ∙ ap (countOf (c .before .before .before .before .before .before .before .before .before .before .args .p) (c .before .before .before .before .before .before .before .before .before .before .args .tables .now)) (c .before .before .before .before .before .before .before .wide .ensures) in (
+      fresh-filled (c .before .before .before .before .before .before .before .before .before .before .args .p) (c .before .before .before .before .before .before .before .before .before .before .args .tables .now) (c .before .before .before .before .before .before .before .before .before .before .args .region) (c .before .before .before .before .before .before .before .before .before .before .pre .1 .1 .2) (sym (c .before .before .before .before .before .fills-pages .ensures ∙ ap fillsPages objects) ∙ c .before .before .before .before .if1 .taken) (c .before .before .free-page .ensures .0),
+      c .before .before .free-page .ensures .1,
+    )
 
 find-page-requires : tie.Need-find-page-requires
 find-page-requires c κs = search needs
 
 returns-2 : tie.Need-returns-2
-returns-2 c = search needs
+returns-2 c = (c .find-page .ensures, c .before .before .before .before .before .before .before .pre .1 .0)
 
 pub search-page-spec : {M : Type 1} → statement M
 search-page-spec =
