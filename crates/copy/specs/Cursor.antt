@@ -39,7 +39,7 @@ found-next {p} {T} {g} {page} r u (inr h) = go (u .why)
   where
     go : (ownerOf p T (u .at) ≡ 0) ⊎ Partial p T g (u .at) → Next p g page T
     go (inl z) =
-        let l : page < p .pages = h .some (u .at) (u .low) z in
+        let l : page < p .pages = h .some (u .at) (u .low) z .1 in
         record { low = l; found = inr h; part = omega (arith, r .pages page l .free (h .free l)) }
     go (inr z) = absurd (let y : ⊥ = omega (arith, z .part, h .none (u .at) (u .low) (z .owner)) in y)
 

@@ -23,6 +23,7 @@ use Rattle.promises.specs.OwnedPages.{ownedOne, ownedIn, owned-same}
 use Rattle.promises.specs.Areas.{ownerWords, usedWords, markWords, Only, store-only, mark-in}
 use Rattle.promises.specs.Frames.{regular-frame}
 use Rattle.promises.specs.TakeCell.{Took, took-only, took-used, took-unused, still-used, used-split, owner-used, took-objects, took-objects-other, took-regular}
+use Rattle.pages.specs.Noted.{NoneFreed, took-none-freed}
 use Rattle.copy.specs.Marks.{marksAt, copied, raised, raised-off, raised-on, raised-other}
 use Rattle.copy.specs.Cursor.{Points, took-points, points-same}
 use Rattle.copy.specs.Taking.{Next, took-needs, room-same}
@@ -170,6 +171,10 @@ module _ {p : Sizes} {g q c : ℕ} {W T W′ T′ : List ℕ} (s : Step p g q c 
 
   pub step-regular : Regular p T′
   step-regular = regular-frame mid-only refl refl refl (took-regular (s .can .regular) (s .took) (s .can .real))
+
+  -- no page becomes free
+  pub step-none-freed : NoneFreed p T T′
+  step-none-freed = record { was = λ x l z. took-none-freed (s .can .real) (s .took) .was x l (sym (mid-pages x l .owner) ∙ z) }
 
   pub step-objects : objectsOf p T′ g ≡ objectsOf p T g + 1
   step-objects = objects-same mid-pages g ∙ took-objects (s .can .regular) (s .took) (s .can .real)

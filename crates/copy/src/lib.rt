@@ -8,7 +8,7 @@ ghost use Rattle.rules.specs.Regions.{regionAt, regions};
 ghost use Rattle.layout.specs.Places.{markOf};
 ghost use Rattle.layout.specs.Cells.{pageOf, firstOn, CellIn};
 ghost use Rattle.promises.specs.Arriving.{arriving};
-ghost use Rattle.pages.specs.Pages.{noteWords};
+ghost use Rattle.pages.specs.Noted.{Noted};
 ghost use Rattle.copy.specs.Taking.{Next};
 ghost use Rattle.copy.specs.Cursor.{Points, Seeking};
 ghost use Rattle.copy.specs.Moves.{Copied, Movable, Step};
@@ -19,8 +19,9 @@ use rules::Sizes;
 // The page that the region's next object goes to: the one that the pass is at if it has room, else the one that is found.
 pub fn next_page(p: Sizes, tables: &[u32], notes: &mut [u32], region: u32, page: usize) -> usize
     requires { ⌜ Seeking p region (now tables) page ⌝ }
-    requires { ⌜ noteWords ≤ length (now notes) ⌝ }
+    requires { ⌜ Noted p (now tables) (now notes) ⌝ }
     ensures { λ r. ⌜ Next p region r (now (tables .entry)) ⌝ }
+    ensures { λ _. ⌜ Noted p (now (tables .entry)) (now (notes .exit)) ⌝ }
 {
     if layout::tables::used(p, tables, page) < layout::cells::CELLS as u32 {
         return page;
@@ -80,8 +81,9 @@ pub fn copy_page(
     requires { ⌜ Passing p region (now cells) (now tables) ⌝ }
     requires { ⌜ Points p (now tables) region at ⌝ }
     requires { ⌜ page < p .pages ⌝ }
-    requires { ⌜ noteWords ≤ length (now notes) ⌝ }
+    requires { ⌜ Noted p (now tables) (now notes) ⌝ }
     ensures { λ r. ⌜ PagePass p region page r (now (cells .entry)) (now (tables .entry)) (now (cells .exit)) (now (tables .exit)) ⌝ }
+    ensures { λ _. ⌜ Noted p (now (tables .exit)) (now (notes .exit)) ⌝ }
 {
     let waiting = layout::bits::lower_half(layout::tables::mark(p, tables, page));
     let survivors = u32::count_ones(waiting);
@@ -114,8 +116,9 @@ pub fn copy_pass(
     requires { ⌜ Passing p region (now cells) (now tables) ⌝ }
     requires { ⌜ Rises (p .pages) n (now list) ⌝ }
     requires { ⌜ ((page : ℕ) → page < p .pages → Off (now list) n page → markOf p (now tables) page ≡ 0) ⌝ }
-    requires { ⌜ noteWords ≤ length (now notes) ⌝ }
+    requires { ⌜ Noted p (now tables) (now notes) ⌝ }
     ensures { λ _. ⌜ Pass p region (λ c. pageOf c < p .pages) (order region 0) (order region (firstOn (p .pages))) (now (cells .entry)) (now (tables .entry)) (now (cells .exit)) (now (tables .exit)) ⌝ }
+    ensures { λ _. ⌜ Noted p (now (tables .exit)) (now (notes .exit)) ⌝ }
 {
     let mut at = pages::page_for(p, tables, notes, region);
     let mut i: usize = 0;
@@ -142,8 +145,9 @@ pub fn copy_survivors(
     requires { ⌜ Rises (p .pages) n (now list) ⌝ }
     requires { ⌜ ((page : ℕ) → page < p .pages → Off (now list) n page → markOf p (now tables) page ≡ 0) ⌝ }
     requires { ⌜ ((g : ℕ) → 1 ≤ g → g ≤ regions p → getD (now come) g 0 ≡ 0 → arriving p (now cells) (now tables) g ≡ 0) ⌝ }
-    requires { ⌜ (noteWords ≤ length (now notes)) × (regions p < length (now come)) ⌝ }
+    requires { ⌜ Noted p (now tables) (now notes) × (regions p < length (now come)) ⌝ }
     ensures { λ _. ⌜ Copy p levels (regionAt p thread) levels (now (cells .entry)) (now (tables .entry)) (now (cells .exit)) (now (tables .exit)) ⌝ }
+    ensures { λ _. ⌜ Noted p (now (tables .exit)) (now (notes .exit)) ⌝ }
 {
     let mut level: usize = 0;
     while level < levels {

@@ -1,15 +1,17 @@
 -- The notes of a block. Note 0 counts pages: so many of the last are not free, and a search for the highest-numbered free page begins below them.
 -- Notes of zero, as a block begins with, say nothing. The note of a region is the page that its last object went to, which is tested before use.
-use mathlib.Core.Path.{_≡_, sym, _∙_}
+use mathlib.Core.Path.{_≡_, sym, ap, _∙_}
 use mathlib.Core.Logic.{by-cases}
 use mathlib.Core.List.{List}
 use Prim.Native.Nat.{ℕ, _+_, _-_, _≤_, _<_}
-use native.Mathlib.Decide.{decLt}
+use native.Mathlib.Decide.{ℕ-discrete, decLt}
 use native.Mathlib.Omega.{arith}
 use lib.ListN.{length, getD, set, length-set}
 use lib.Seq.{getD-set-same, getD-set-other}
 use Rattle.rules.specs.declared.Sizes.{Sizes}
 use Rattle.layout.specs.Places.{mostRegions, ownerOf}
+use Rattle.layout.specs.Cells.{pageOf}
+use Rattle.promises.specs.TakeCell.{Took, page-past}
 use Rattle.pages.specs.Pages.{Free, NoneFrom, free-all}
 
 abbrev pub noteWords : ℕ
@@ -35,6 +37,11 @@ noted-kept e h = record { long = h .long; passed = λ x l m z. h .passed x l m (
 -- every page has the owner that it had
 pub none-freed : (p : Sizes) (t t′ : List ℕ) → ((page : ℕ) → page < p .pages → ownerOf p t′ page ≡ ownerOf p t page) → NoneFreed p t t′
 none-freed p t t′ e = record { was = λ page l z. sym (e page l) ∙ z }
+
+-- a cell is taken
+pub took-none-freed : {p : Sizes} {t : List ℕ} {g cell n : ℕ} {t′ : List ℕ} → 1 ≤ g → Took p t g cell n t′ → NoneFreed p t t′
+took-none-freed {p} {t} {g} {cell} {n} {t′} pos k =
+    record { was = λ page l z. by-cases (ℕ-discrete page (pageOf cell)) (λ e. absurd (let y : ⊥ = omega (arith, k .owner, ap (ownerOf p t′) e) in y)) (λ d. sym (page-past k page l d .owner) ∙ z) }
 
 -- the note of a region is set
 pub noted-region : {p : Sizes} {t notes : List ℕ} (g page : ℕ) → 1 ≤ g → Noted p t notes → Noted p t (set notes g page)

@@ -131,7 +131,11 @@ fn lower(a: usize, b: usize) -> usize
 fn pages_above(pages: usize, page: usize) -> usize
     ensures { λ r. ⌜ Above pages page r ⌝ }
 {
-    if page < pages { pages - 1 - page } else { pages }
+    if page < pages {
+        pages - 1 - page
+    } else {
+        pages
+    }
 }
 
 // The highest-numbered free page; the number of pages if there is none. The search begins below the pages that note 0 counts, none of which is

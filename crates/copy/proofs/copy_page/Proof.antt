@@ -9,6 +9,8 @@ use mathlib.Core.Path.{_≡_, refl, sym, ap, _∙_, subst, subst₂}
 use lib.Count.{ones, ones-le, trailingZeros}
 use Rattle.lists.specs.SetBits.{Walked, walk-start, walk-lowest, walk-turn, walk-end}
 use Rattle.layout.specs.Cells.{cellOn, pageCells}
+use Rattle.pages.specs.Noted.{Noted, noted-kept}
+use Rattle.copy.specs.Moves.{step-none-freed}
 use Rattle.copy.specs.Passing.{moves-cells, moves-tables}
 use Rattle.copy.specs.Copying.{PageMoves, page-begin, page-seeking, page-movable, page-moved, page-left, page-pass}
 use Rattle.copy.proofs.copy_page.Statement.{statement}
@@ -16,7 +18,7 @@ use Rattle.copy.proofs.copy_page.Tie as tie
 
 abbrev Inv-loop : tie.InvT-loop
 Inv-loop p cells₀ tables₀ notes₀ region page at waiting survivors next₀ left₀ k₀ cells tables notes next left k =
-    (survivors ≡ ones waiting) × (length cells ≡ length cells₀) × (length tables ≡ length tables₀) × Walked waiting left k × PageMoves p region page left next cells₀ tables₀ cells tables × (length notes ≡ length notes₀)
+    (survivors ≡ ones waiting) × (length cells ≡ length cells₀) × (length tables ≡ length tables₀) × Walked waiting left k × PageMoves p region page left next cells₀ tables₀ cells tables × (length notes ≡ length notes₀) × Noted p tables notes
 
 abbrev μ-loop : tie.MeasureT-loop
 μ-loop p cells₀ tables₀ notes₀ region page at waiting survivors next₀ left₀ k₀ cells tables notes next left k =
@@ -38,6 +40,7 @@ loop-holds c =
       walk-start (c .lower-half .result) (omega (arith, e)),
       subst (λ (x : ℕ). PageMoves (a .p) (a .region) (a .page) x (a .at) (a .cells .now) (a .tables .now) (a .cells .now) (a .tables .now)) (sym e) (page-begin (a .page) (c .before .before .before .before .before .before .pre .1 .0)),
       refl,
+      c .before .before .before .before .before .before .pre .1 .1 .1,
     )
 
 wide-requires : tie.Need-wide-requires Inv-loop μ-loop
@@ -61,14 +64,14 @@ next-page-requires c κs =
     let l = c .before .before .before .before .before .before .before .before .loop in
     let f = walk-lowest (l .inv .3) (omega (arith, l .inv .0, c .before .before .before .before .before .before .before .loop-test .taken)) in
     let e = c .before .before .before .before .before .cell-on .ensures ∙ ap (cellOn (c .before .before .before .before .before .before .before .before .before .before .before .before .before .before .before .args .page)) (c .before .before .before .before .before .before .wide .ensures) in
-    (page-seeking (c .before .before .before .before .before .before .before .before .before .before .before .before .before .before .before .pre .0) (c .before .before .before .before .before .before .before .before .before .before .before .before .before .before .before .pre .1 .1 .0) (trailingZeros 32 (l .left)) (c .before .before .before .before .before .cell-on .result) e f refl (l .inv .4) (sym (c .before .before .before .work .ensures) ∙ c .before .before .if1 .taken), omega (arith, c .before .before .before .before .before .before .before .before .before .before .before .before .before .before .before .pre .1 .1 .1, l .inv .5))
+    (page-seeking (c .before .before .before .before .before .before .before .before .before .before .before .before .before .before .before .pre .0) (c .before .before .before .before .before .before .before .before .before .before .before .before .before .before .before .pre .1 .1 .0) (trailingZeros 32 (l .left)) (c .before .before .before .before .before .cell-on .result) e f refl (l .inv .4) (sym (c .before .before .before .work .ensures) ∙ c .before .before .if1 .taken), l .inv .6)
 
 move-cell-requires : tie.Need-move-cell-requires Inv-loop μ-loop
 move-cell-requires c κs =
     let l = c .before .before .before .before .before .before .before .before .before .before .before .before .before .loop in
     let f = walk-lowest (l .inv .3) (omega (arith, l .inv .0, c .before .before .before .before .before .before .before .before .before .before .before .before .loop-test .taken)) in
     let e = c .before .before .before .before .before .before .before .before .before .before .cell-on .ensures ∙ ap (cellOn (c .before .before .before .before .before .before .before .before .before .before .before .before .before .before .before .before .before .before .before .before .args .page)) (c .before .before .before .before .before .before .before .before .before .before .before .wide .ensures) in
-    page-movable (c .before .before .before .before .before .before .before .before .before .before .before .before .before .before .before .before .before .before .before .before .pre .0) (c .before .before .before .before .before .before .before .before .before .before .before .before .before .before .before .before .before .before .before .before .pre .1 .1 .0) (trailingZeros 32 (l .left)) (c .before .before .before .before .before .before .before .before .before .before .cell-on .result) e f refl (l .inv .4) (sym (c .before .before .before .before .before .before .before .before .work .ensures) ∙ c .before .before .before .before .before .before .before .if1 .taken) (c .before .before .before .before .next-page .ensures)
+    page-movable (c .before .before .before .before .before .before .before .before .before .before .before .before .before .before .before .before .before .before .before .before .pre .0) (c .before .before .before .before .before .before .before .before .before .before .before .before .before .before .before .before .before .before .before .before .pre .1 .1 .0) (trailingZeros 32 (l .left)) (c .before .before .before .before .before .before .before .before .before .before .cell-on .result) e f refl (l .inv .4) (sym (c .before .before .before .before .before .before .before .before .work .ensures) ∙ c .before .before .before .before .before .before .before .if1 .taken) (c .before .before .before .before .next-page .ensures .0)
 
 without-bit-requires : tie.Need-without-bit-requires Inv-loop μ-loop
 without-bit-requires c κs = let f = walk-lowest (c .before .before .before .before .before .before .loop .inv .3) (omega (arith, c .before .before .before .before .before .before .loop .inv .0, c .before .before .before .before .before .loop-test .taken)) in (f .lt, f .on)
@@ -93,17 +96,19 @@ loop-again c =
     let Q : ℕ → List ℕ → List ℕ → Type 0 = P (l .left - 2 ^ i) in
     let x = c .before .before .before .before .cell-on .result in
     let n = a .notes .now in
-    let h : Q (c .before .if1 .next) (c .before .if1 .cells) (c .before .if1 .tables) × (length (c .before .if1 .notes) ≡ length n) =
+    let h : Q (c .before .if1 .next) (c .before .if1 .cells) (c .before .if1 .tables) × (length (c .before .if1 .notes) ≡ length n) × Noted (a .p) (c .before .if1 .tables) (c .before .if1 .notes) =
     ⊎-elim
     (λ w. (
       subst (λ (n : ℕ). Q n (c .before .if1 .cells) (c .before .if1 .tables)) (sym (w .16))
           (subst₂ (Q (w .3 .result)) (sym (w .13)) (sym (w .14)) (page-moved (pre .0) (pre .1 .1 .0) i x e f refl (l .inv .4) (w .8 .ensures))),
       ap length (w .15) ∙ w .3 .kept .1 .1 .0 ∙ l .inv .5,
+      subst₂ (Noted (a .p)) (sym (w .14)) (sym (w .15)) (noted-kept (step-none-freed (w .8 .ensures)) (w .3 .ensures .1)),
     ))
     (λ w. (
       subst (λ (n : ℕ). Q n (c .before .if1 .cells) (c .before .if1 .tables)) (sym (w .4))
           (subst₂ (Q (l .next)) (sym (w .1)) (sym (w .2)) (page-left (pre .0) (pre .1 .1 .0) i x e f refl (l .inv .4) (λ z. w .0 .left (c .before .before .work .ensures ∙ z)))),
       ap length (w .3) ∙ l .inv .5,
+      subst₂ (Noted (a .p)) (sym (w .2)) (sym (w .3)) (l .inv .6),
     ))
     (c .before .if1 .came) in (
       l .inv .0,
@@ -112,6 +117,7 @@ loop-again c =
       walk-turn i (left .result) (l .inv .3) f (left .ensures),
       subst (λ (y : ℕ). P y (c .before .if1 .next) (c .before .if1 .cells) (c .before .if1 .tables)) (sym (left .ensures)) (h .0),
       h .1,
+      h .2,
     )
 
 same-length : tie.Need-same-length Inv-loop μ-loop
@@ -124,7 +130,7 @@ same-length-3 : tie.Need-same-length-3 Inv-loop μ-loop
 same-length-3 c = c .before .loop .inv .5
 
 returns : tie.Need-returns Inv-loop μ-loop
-returns c = page-pass (walk-end (c .before .loop .inv .3) (omega (arith, c .before .loop .inv .0, c .loop-test .left))) (c .before .loop .inv .4)
+returns c = (page-pass (walk-end (c .before .loop .inv .3) (omega (arith, c .before .loop .inv .0, c .loop-test .left))) (c .before .loop .inv .4), c .before .loop .inv .6)
 
 pub copy-page-spec : {M : Type 1} → statement M
 copy-page-spec =

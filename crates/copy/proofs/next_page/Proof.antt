@@ -13,7 +13,7 @@ cast-if1 : tie.Need-cast-if1
 cast-if1 c = search needs
 
 returns : tie.Need-returns
-returns c = points-next (c .before .before .before .before .pre .0) (omega (arith, c .before .used .ensures))
+returns c = (points-next (c .before .before .before .before .pre .0) (omega (arith, c .before .used .ensures)), c .before .before .before .before .pre .1)
 
 page-for-requires : tie.Need-page-for-requires
 page-for-requires c κs =
@@ -24,7 +24,7 @@ same-length : tie.Need-same-length
 same-length c = search needs
 
 returns-2 : tie.Need-returns-2
-returns-2 c = found-next (c .before .before .before .before .before .before .before .before .pre .0 .regular) (c .before .before .before .before .before .before .before .before .pre .0 .usable) (c .before .before .page-for .ensures)
+returns-2 c = (found-next (c .before .before .before .before .before .before .before .before .pre .0 .regular) (c .before .before .before .before .before .before .before .before .pre .0 .usable) (c .before .before .page-for .ensures .0), c .before .before .page-for .ensures .1)
 
 pub next-page-spec : {M : Type 1} → statement M
 next-page-spec =
