@@ -5,7 +5,7 @@ ghost use Prim.Native.Nat.{_+_, _<_, _≤_};
 ghost use lib.ListN.{length, set};
 ghost use Rattle.lists.specs.Part.{Lists, Rises};
 ghost use Rattle.layout.specs.Places.{Room, cellsWords, ownerOf, depthOf, countOf, freedAt, freedOf};
-ghost use Rattle.pages.specs.Pages.{noteWords};
+ghost use Rattle.pages.specs.Noted.{noteWords, Noted};
 ghost use Rattle.rules.specs.Regions.{regions};
 ghost use Rattle.rules.specs.Rules.{counted};
 ghost use Rattle.promises.specs.Regular.{Regular};
@@ -47,16 +47,16 @@ pub fn release_pages(p: Sizes, tables: &mut [u32], list: &[u32], n: usize, regio
     }
 }
 
-// Note 0 rises above the listed pages: a search for a free page goes down from it.
+// Note 0 counts no more pages than lie above the last of the listed ones, which become free.
 fn note_released(p: Sizes, notes: &mut [u32], list: &[u32], n: usize)
     requires { ⌜ Rises (p .pages) n (now list) ⌝ }
     requires { ⌜ (p .pages ≤ 1024) × (noteWords ≤ length (now notes)) ⌝ }
-    ensures { λ _. ⌜ now (notes .exit) ≡ noted (now (notes .entry)) (now (list .entry)) n ⌝ }
+    ensures { λ _. ⌜ now (notes .exit) ≡ noted (p .pages) (now (notes .entry)) (now (list .entry)) n ⌝ }
 {
     if n != 0 {
-        let last = list[n - 1];
-        if notes[0] <= last {
-            notes[0] = last + 1;
+        let above = p.pages - 1 - layout::wide(list[n - 1]);
+        if above < layout::wide(notes[0]) {
+            notes[0] = above as u32;
         }
     }
 }
@@ -88,9 +88,10 @@ pub fn release(
     requires { ⌜ Lists (λ page. ownerOf p (now tables) page ≡ region) (p .pages) n (now list) ⌝ }
     requires { ⌜ (1 ≤ region) × (region ≤ regions p) ⌝ }
     requires { ⌜ (thread < p .threads) × (1 ≤ depthOf (now tables) thread) ⌝ }
-    requires { ⌜ noteWords ≤ length (now notes) ⌝ }
+    requires { ⌜ Noted p (now tables) (now notes) ⌝ }
     ensures { λ _. ⌜ Ended p region thread freed (now (tables .entry)) (now (tables .exit)) ⌝ }
     ensures { λ _. ⌜ Emptied p region (p .pages) (now (tables .entry)) (now (cells .entry)) (now (cells .exit)) ⌝ }
+    ensures { λ _. ⌜ Noted p (now (tables .exit)) (now (notes .exit)) ⌝ }
 {
     clear_pages(p, cells, tables, list, n, region);
     release_pages(p, tables, list, n, region);
@@ -116,9 +117,10 @@ fn list_and_release(
     requires { ⌜ cellsWords p ≤ length (now cells) ⌝ }
     requires { ⌜ (1 ≤ region) × (region ≤ regions p) ⌝ }
     requires { ⌜ (thread < p .threads) × (1 ≤ depthOf (now tables) thread) ⌝ }
-    requires { ⌜ noteWords ≤ length (now notes) ⌝ }
+    requires { ⌜ Noted p (now tables) (now notes) ⌝ }
     ensures { λ _. ⌜ Ended p region thread freed (now (tables .entry)) (now (tables .exit)) ⌝ }
     ensures { λ _. ⌜ Emptied p region (p .pages) (now (tables .entry)) (now (cells .entry)) (now (cells .exit)) ⌝ }
+    ensures { λ _. ⌜ Noted p (now (tables .exit)) (now (notes .exit)) ⌝ }
 {
     let mut list = [0u32; 1024];
     let n = pages::list_pages(p, tables, region, &mut list);
@@ -139,9 +141,10 @@ pub fn release_region(
     requires { ⌜ cellsWords p ≤ length (now cells) ⌝ }
     requires { ⌜ (1 ≤ region) × (region ≤ regions p) ⌝ }
     requires { ⌜ (thread < p .threads) × (1 ≤ depthOf (now tables) thread) ⌝ }
-    requires { ⌜ noteWords ≤ length (now notes) ⌝ }
+    requires { ⌜ Noted p (now tables) (now notes) ⌝ }
     ensures { λ _. ⌜ Ended p region thread (countOf p (now (tables .entry)) region) (now (tables .entry)) (now (tables .exit)) ⌝ }
     ensures { λ _. ⌜ Emptied p region (p .pages) (now (tables .entry)) (now (cells .entry)) (now (cells .exit)) ⌝ }
+    ensures { λ _. ⌜ Noted p (now (tables .exit)) (now (notes .exit)) ⌝ }
 {
     let objects = layout::tables::count(p, tables, layout::wide(region));
     if objects != 0 {

@@ -8,7 +8,8 @@ use mathlib.Core.Path.{ap, ap₂, _∙_}
 use Rattle.rules.specs.Rules.{counted}
 use Rattle.layout.specs.Places.{depthAt, countAt, depthOf, freedAt}
 use Rattle.copy.specs.Taking.{room-same}
-use Rattle.release.specs.Release.{kept-depth, kept-freed}
+use Rattle.release.specs.Release.{Ended, kept-depth, kept-freed}
+use Rattle.release.specs.Notes.{ended-noted}
 use Rattle.release.proofs.release.Statement.{statement}
 use Rattle.release.proofs.release.Tie as tie
 
@@ -21,7 +22,7 @@ release-pages-requires c κs = let pre = c .before .before .before .before .befo
 note-released-requires : tie.Need-note-released-requires
 note-released-requires c κs =
     let pre = c .before .before .before .before .before .before .before .before .before .before .before .before .before .before .pre in
-    (pre .1 .1 .1 .0 .rises, (pre .0 .few, pre .1 .1 .1 .1 .1 .1))
+    (pre .1 .1 .1 .0 .rises, (pre .0 .few, pre .1 .1 .1 .1 .1 .1 .long))
 
 wide-requires : tie.Need-wide-requires
 wide-requires c κs = search needs
@@ -73,21 +74,21 @@ returns c =
     let thread = pre .1 .1 .1 .1 .1 .0 .0 in
     let X : List ℕ = release-pages .last .1 .0 in
     let d = kept-depth (wide .result) (pre .0) (release-pages .ensures) thread (set-count .ensures) in
-    let f = kept-freed (wide .result) (c .before .before .before .before .before .before .before .before .depth .result - 1) (pre .0) (release-pages .ensures) thread (omega (arith, wide .ensures, region)) (set-count .ensures) (set-depth .ensures) in (
-      record {
-        mid = X;
-        pages = release-pages .ensures;
-        tables =
-            c .before .before .count-freed .ensures
-            ∙ ap₂ (λ (Y : List ℕ) (x : ℕ). set Y (freedAt (a .p)) (counted (x + a .freed)))
-            (set-depth .ensures
-            ∙ ap (λ (x : ℕ). set (set-count .last .1 .0) (depthAt (a .thread)) (x - 1)) (c .before .before .before .before .before .before .before .before .depth .ensures ∙ d)
-            ∙ ap (λ (Y : List ℕ). set Y (depthAt (a .thread)) (depthOf (a .tables .now) (a .thread) - 1))
-            (set-count .ensures ∙ ap (λ (g : ℕ). set X (countAt (a .p) g) 0) (wide .ensures)))
-            f;
-      },
-      c .before .before .before .before .before .before .before .before .before .before .before .before .before .before .before .before .before .before .before .before .before .before .before .before .before .clear-pages .ensures,
-    )
+    let f = kept-freed (wide .result) (c .before .before .before .before .before .before .before .before .depth .result - 1) (pre .0) (release-pages .ensures) thread (omega (arith, wide .ensures, region)) (set-count .ensures) (set-depth .ensures) in
+    let e : Ended (a .p) (a .region) (a .thread) (a .freed) (a .tables .now) (c .before .before .count-freed .last .1 .0) =
+    record {
+      mid = X;
+      pages = release-pages .ensures;
+      tables =
+          c .before .before .count-freed .ensures
+          ∙ ap₂ (λ (Y : List ℕ) (x : ℕ). set Y (freedAt (a .p)) (counted (x + a .freed)))
+          (set-depth .ensures
+          ∙ ap (λ (x : ℕ). set (set-count .last .1 .0) (depthAt (a .thread)) (x - 1)) (c .before .before .before .before .before .before .before .before .depth .ensures ∙ d)
+          ∙ ap (λ (Y : List ℕ). set Y (depthAt (a .thread)) (depthOf (a .tables .now) (a .thread) - 1))
+          (set-count .ensures ∙ ap (λ (g : ℕ). set X (countAt (a .p) g) 0) (wide .ensures)))
+          f;
+    } in
+    (e, (c .before .before .before .before .before .before .before .before .before .before .before .before .before .before .before .before .before .before .before .before .before .before .before .before .before .clear-pages .ensures, ended-noted (pre .0) (region .0) (region .1) thread e (pre .1 .1 .1 .0) (pre .1 .1 .1 .1 .1 .1) (c .before .before .before .before .before .before .before .before .before .before .before .before .before .before .before .before .before .note-released .ensures)))
 
 pub release-spec : {M : Type 1} → statement M
 release-spec =
