@@ -16,7 +16,7 @@ use Rattle.rules.specs.NeverFreeing.{place}
 use Rattle.rules.specs.Regions.{regionAt, regions}
 use Rattle.rules.specs.Graph.{newPages, freePages}
 use Rattle.rules.specs.Rules as ru
-use Rattle.rules.specs.Rules.{counted, Regioned, graph, oneMade}
+use Rattle.rules.specs.Rules.{counted, Regioned, graph, oneMade, takenBy}
 use Rattle.layout.specs.Places.{depthOf, usedOf, countOf, countAt, madeAt, madeOf, count-room}
 use Rattle.layout.specs.Cells.{headAt, cellOn, pageCells, headWord, mostFields, CellIn}
 use Rattle.layout.specs.Words.{Words, words, heapOf}
@@ -33,7 +33,8 @@ use Rattle.promises.specs.Areas.{beyond-both}
 use Rattle.promises.specs.TakeCell.{Took, took-made}
 use Rattle.promises.specs.NewCell.{Blank, blanked, new-only, new-whole}
 use Rattle.promises.specs.FrameVariable.{variable-only}
-use Rattle.promises.specs.FrameNew.{blankObject, made-stands, to-old, withCell}
+use Rattle.promises.specs.FrameNew.{Takes, blankObject, made-stands, to-old, withCell}
+use Rattle.promises.specs.TakenPage.{took-takes}
 use Rattle.pages.specs.Pages.{Filled, regular-filled, Found, taken}
 use Rattle.pages.specs.Took.{found-room, taken-took}
 use Rattle.commands.specs.declared.Decoded.the-variants.{New}
@@ -114,8 +115,8 @@ module _ (p : Sizes) (c m t : List ℕ) (k : WholeFor p (words c m t)) (u : ℕ)
     h₁ = withVariable (withNew H (blankObject b d) g) (place (limits s) u a) (length (H .heap .objects) + 1)
 
     new-after : ru.after s H (commandFor (New u a b d)) ≡ h₁
-    unfolding ru.after ru.homesAfter ru.countersAfter nf.effect
-    new-after = ap (λ (x : ℕ). record { heap = h₁ .heap; homes = H .homes ++ x ∷ []; counters = oneMade (H .counters) }) (ap (regionAt s u) (here-depth s w u l) ∙ sym eg)
+    unfolding ru.after ru.homesAfter ru.countersAfter ru.occupancyAfter nf.effect
+    new-after = ap (λ (x : ℕ). record { heap = h₁ .heap; homes = H .homes ++ x ∷ []; counters = oneMade (H .counters); occupancy = takenBy (H .occupancy) x }) (ap (regionAt s u) (here-depth s w u l) ∙ sym eg)
 
     -- question 13
     new-question : ru.question s H (commandFor (New u a b d)) ≡ ask (leb (newPages s (graph H) (graph h₁)) (freePages s (graph H))) 13 0
@@ -140,6 +141,10 @@ module _ (p : Sizes) (c m t : List ℕ) (k : WholeFor p (words c m t)) (u : ℕ)
             subst (Took P t g cell (counted (madeOf p t + 1))) (ap (λ (x : ℕ). set t₁ (madeAt p) (counted (x + 1))) (sym (o .made)) ∙ sym em)
             (took-made (counted (madeOf p t + 1)) o (region-real .0) (region-real .1) (omega (arith, o .long, count-room s, k .sized .tables)))
 
+        -- the cell that the rules say
+        takes : Takes P t g cell t₂
+        takes = took-takes (whole-regular k) (region-real .0) tk
+
         abbrev w₁ : Words
         w₁ = words c₁ m t₂
 
@@ -160,6 +165,6 @@ module _ (p : Sizes) (c m t : List ℕ) (k : WholeFor p (words c m t)) (u : ℕ)
             (variable-only s w₁ k₁ (place (limits s) u a) (cell + 1) (flat-low l n) .beyond)) (λ g z. z)
             (λ so. record {
               cell = withCell H (λ x. x) cell;
-              stands = made-stands s w H (λ x. x) (heap-stands s w k) g cell b d t₂ c₁ tk blank few (region-real .0) (region-real .1) region-open (place (limits s) u a) (flat-low l n) so;
-              stays = λ x al z. to-old s w H (λ x. x) (heap-stands s w k) g cell b d t₂ c₁ tk blank few (region-real .0) (region-real .1) region-open x al;
+              stands = made-stands s w H (λ x. x) (heap-stands s w k) g cell b d t₂ c₁ tk takes blank few (region-real .0) (region-real .1) region-open (place (limits s) u a) (flat-low l n) so;
+              stays = λ x al z. to-old s w H (λ x. x) (heap-stands s w k) g cell b d t₂ c₁ tk takes blank few (region-real .0) (region-real .1) region-open x al;
             }))
