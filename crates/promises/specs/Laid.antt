@@ -16,11 +16,13 @@ use Rattle.layout.specs.Places.{cellsWords, rememberWords, tablesWords, varCoun
 use Rattle.remember.specs.Crossing.{crossTo}
 use Rattle.remember.specs.Entries.{exact-everywhere}
 use Rattle.remember.specs.ExactTable.{exact-table}
-use Rattle.layout.specs.Words.{Words, depthsIn, depthsAt, varsIn, varsAt, pageIn, pagesIn, pagesAt, sizesIn}
+use Rattle.layout.specs.Words.{Words, depthsIn, depthsAt, varsIn, varsAt, pageIn, pagesIn, pagesAt, sizesIn, heapOf}
+use Rattle.promises.specs.Whole.{WholeFor}
 use Rattle.promises.specs.StandsFor.{StandsFor, SameFrom, SameBeyond}
 use Rattle.promises.specs.Regular.{whole-regular}
 use Rattle.promises.specs.OwnedPages.{objects-on}
-use Rattle.promises.specs.Agreed.{objects-agree}
+use Rattle.promises.specs.Agreed.{objects-agree, heap-stands}
+use Rattle.promises.specs.Areas.{same-beyond}
 use Rattle.promises.specs.WordsOf.{refWord, cellWord, crossedAt, wordsOf, laid}
 use Rattle.promises.specs.LaidCells.{ref-words, cell-is, crossed-is}
 
@@ -122,3 +124,7 @@ module _ (s : Sizes) (w : Words) (h : Regioned) (to : ℕ → ℕ) (st : StandsF
     where
       both : {n : ℕ} {l k x : List ℕ} → take n k ≡ x → SameFrom n l k → k ≡ x ++ drop n l
       both {n} {l} {k} e f = sym (take-append-drop n k) ∙ ap₂ _++_ e (f .rest)
+
+-- WHOLE WORDS ARE THOSE OF THE HEAP THAT THEY MAKE
+pub whole-laid : (s : Sizes) (w : Words) → WholeFor s w → w ≡ laid s (heapOf s w) w
+whole-laid s w k = stands-laid s w (heapOf s w) (λ c. c) (heap-stands s w k) w (same-beyond s w)

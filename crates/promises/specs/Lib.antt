@@ -19,6 +19,7 @@ pub mod Crossings
 pub mod LaidCells
 pub mod Laid
 pub mod GivenBack
+pub mod PagesTaken
 -- theorems: prepared words and a chain of commands beside the rules' unused heap and run
 pub mod Preparing
 pub mod Chained

@@ -32,7 +32,7 @@ use Rattle.promises.specs.Reading.{used-alive, length-fields, getD-field
 use Rattle.promises.specs.Agreed.{heap-stands, object-at}
 use Rattle.promises.specs.Here.{here-var}
 use Rattle.promises.specs.WordsOf.{laid}
-use Rattle.promises.specs.Laid.{stands-laid}
+use Rattle.promises.specs.Laid.{stands-laid, whole-laid}
 use Rattle.promises.specs.Areas.{same-beyond}
 
 -- the same answer, as the code has it
@@ -54,7 +54,7 @@ module _ (s : Sizes) (w : Words) (k : WholeFor s w) (m : Command) where
   did-refused (suc q) z e =
       record {
         answer = sym (ap (λ (n : ℕ). ru.answered s H m n .answer) e);
-        words = stands-laid s w H (λ c. c) (heap-stands s w k) w (same-beyond s w) ∙ sym (ap (λ (n : ℕ). laid s (ru.answered s H m n .next) w) e);
+        words = whole-laid s w k ∙ sym (ap (λ (n : ℕ). laid s (ru.answered s H m n .next) w) e);
         next = subst (λ (h : Regioned). Became s H (λ c. c) w h) (sym (ap (λ (n : ℕ). ru.answered s H m n .next) e))
             (record { cell = λ c. c; stands = heap-stands s w k; stays = λ x a z. refl });
         freed = λ z. absurd (let o : ⊥ = omega arith in o);
