@@ -10,7 +10,7 @@ ghost use Rattle.rules.specs.Regions.{regions};
 ghost use Rattle.layout.specs.Places.{ownerOf, markOf};
 ghost use Rattle.layout.specs.Words.{words};
 ghost use Rattle.promises.specs.Arriving.{arriving};
-ghost use Rattle.pages.specs.Pages.{noteWords};
+ghost use Rattle.pages.specs.Noted.{Noted};
 ghost use Rattle.ending.specs.Ending.{Ending, Accepted, HasEnded};
 use rules::Sizes;
 
@@ -32,8 +32,9 @@ pub fn evacuate(
     requires { ⌜ ((c t : List ℕ) × Ending p thread level region (words c (now remember) t) (words (now cells) (now remember) (now tables)) × Accepted p region (words c (now remember) t)) ⌝ }
     requires { ⌜ Lists (λ page. ownerOf p (now tables) page ≡ region) (p .pages) n (now list) ⌝ }
     requires { ⌜ ((g : ℕ) → 1 ≤ g → g ≤ regions p → getD (now come) g 0 ≡ 0 → arriving p (now cells) (now tables) g ≡ 0) ⌝ }
-    requires { ⌜ (noteWords ≤ length (now notes)) × (regions p < length (now come)) ⌝ }
+    requires { ⌜ Noted p (now tables) (now notes) × (regions p < length (now come)) ⌝ }
     ensures { λ _. ⌜ ((c t : List ℕ) → Ending p thread level region (words c (now (remember .entry)) t) (words (now (cells .entry)) (now (remember .entry)) (now (tables .entry))) → Accepted p region (words c (now (remember .entry)) t) → HasEnded p thread level region (words c (now (remember .entry)) t) (words (now (cells .exit)) (now (remember .exit)) (now (tables .exit)))) ⌝ }
+    ensures { λ _. ⌜ Noted p (now (tables .exit)) (now (notes .exit)) ⌝ }
 {
     let survivors = census::survivors::count_survivors(p, tables, list, n);
     let freed = layout::tables::count(p, tables, layout::wide(region)) - survivors;
@@ -58,8 +59,9 @@ pub fn evacuate_none(
 )
     requires { ⌜ ((c t : List ℕ) × Ending p thread level region (words c (now remember) t) (words (now cells) (now remember) (now tables)) × Accepted p region (words c (now remember) t)) ⌝ }
     requires { ⌜ ((page : ℕ) → page < p .pages → markOf p (now tables) page ≡ 0) ⌝ }
-    requires { ⌜ noteWords ≤ length (now notes) ⌝ }
+    requires { ⌜ Noted p (now tables) (now notes) ⌝ }
     ensures { λ _. ⌜ ((c t : List ℕ) → Ending p thread level region (words c (now (remember .entry)) t) (words (now (cells .entry)) (now (remember .entry)) (now (tables .entry))) → Accepted p region (words c (now (remember .entry)) t) → HasEnded p thread level region (words c (now (remember .entry)) t) (words (now (cells .exit)) (now (remember .exit)) (now (tables .exit)))) ⌝ }
+    ensures { λ _. ⌜ Noted p (now (tables .exit)) (now (notes .exit)) ⌝ }
 {
     settle::entries::keep_entries(p, cells, remember, tables, region);
     release::release_region(p, cells, tables, notes, region, thread);

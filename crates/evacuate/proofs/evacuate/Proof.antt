@@ -3,8 +3,9 @@ use native.Mathlib.Omega.{arith}
 use mathlib.Core.Path.{ap, _∙_}
 use borrow.Author.Needs.{needs}
 use Rattle.layout.specs.Places.{countOf}
+use Rattle.pages.specs.Noted.{noted-kept, none-freed}
 use Rattle.ending.specs.Rewriting.{rewritten-both}
-use Rattle.ending.specs.Finish.{variables-ask, regular₂}
+use Rattle.ending.specs.Finish.{variables-ask, owner₂, regular₂}
 use Rattle.ending.specs.Ending.{level-low, room-now}
 use Rattle.mark.specs.MarkedWords.{unlisted}
 use Rattle.ending.specs.PagesEnough.{plan}
@@ -42,21 +43,21 @@ rewrite-slots-requires : tie.Need-rewrite-slots-requires
 rewrite-slots-requires c κs =
     let pre = c .before .before .before .before .before .before .before .before .before .before .before .before .before .before .before .before .before .before .before .before .before .before .before .pre in
     let e = pre .0 .2 in
-    st.slots-ask e (plan e (pre .0 .3 .pages)) (c .before .before .before .before .before .before .before .before .copy-survivors .ensures)
+    st.slots-ask e (plan e (pre .0 .3 .pages)) (c .before .before .before .before .before .before .before .before .copy-survivors .ensures .0)
 
 settle-requires : tie.Need-settle-requires
 settle-requires c κs =
     let pre = c .before .before .before .before .before .before .before .before .before .before .before .before .before .before .before .before .before .before .before .before .before .before .before .before .before .before .before .before .before .pre in
     let e = pre .0 .2 in
     let p = plan e (pre .0 .3 .pages) in
-    let k = c .before .before .before .before .before .before .before .before .before .before .before .before .before .before .copy-survivors .ensures in
+    let k = c .before .before .before .before .before .before .before .before .before .before .before .before .before .before .copy-survivors .ensures .0 in
     (st.settle-ask e p k (c .before .before .before .before .before .rewrite-slots .ensures) (pre .0 .3 .entries), (pre .1 .0 .rises, st.marks-ask e p k (st.listed e (pre .1 .0))))
 
 rewrite-variables-requires : tie.Need-rewrite-variables-requires
 rewrite-variables-requires c κs =
     let pre = c .before .before .before .before .before .before .before .before .before .before .before .before .before .before .before .before .before .before .before .before .before .before .before .before .before .before .before .before .before .before .before .before .before .before .before .before .pre in
     let e = pre .0 .2 in
-    let h = st.moved e (plan e (pre .0 .3 .pages)) (c .before .before .before .before .before .before .before .before .before .before .before .before .before .before .before .before .before .before .before .before .before .copy-survivors .ensures) in
+    let h = st.moved e (plan e (pre .0 .3 .pages)) (c .before .before .before .before .before .before .before .before .before .before .before .before .before .before .before .before .before .before .before .before .before .copy-survivors .ensures .0) in
     (variables-ask h, (omega (arith, h .ready .cells-long, c .before .before .before .before .before .before .before .before .before .before .before .before .rewrite-slots .ensures .size, c .before .before .before .before .before .before .settle .ensures .0 .size), h .ready .room))
 
 release-requires : tie.Need-release-requires
@@ -64,11 +65,11 @@ release-requires c κs =
     let pre = c .before .before .before .before .before .before .before .before .before .before .before .before .before .before .before .before .before .before .before .before .before .before .before .before .before .before .before .before .before .before .before .before .before .before .before .before .before .before .before .before .before .before .pre in
     let e = pre .0 .2 in
     let p = plan e (pre .0 .3 .pages) in
-    let k = c .before .before .before .before .before .before .before .before .before .before .before .before .before .before .before .before .before .before .before .before .before .before .before .before .before .before .before .copy-survivors .ensures in
+    let k = c .before .before .before .before .before .before .before .before .before .before .before .before .before .before .before .before .before .before .before .before .before .before .before .before .before .before .before .copy-survivors .ensures .0 in
     let h = st.moved e p k in
     let v = c .before .before .before .before .before .rewrite-variables .ensures in
     let z = st.release-ask e p k v in
-    (z .0, (regular₂ h v, (omega (arith, h .ready .cells-long, c .before .before .before .before .before .before .before .before .before .before .before .before .before .before .before .before .before .before .rewrite-slots .ensures .size, c .before .before .before .before .before .before .before .before .before .before .before .before .settle .ensures .0 .size), (st.pages-ask e p k v (st.listed e (pre .1 .0)), (st.bounds e, ((e .thread, omega (arith, z .1, e .epoch)), omega (arith, pre .1 .1 .1 .0, c .before .before .before .before .before .before .before .before .before .before .before .before .before .before .before .before .before .before .before .before .before .before .before .before .before .before .before .copy-survivors .kept .1 .1 .1 .0)))))))
+    (z .0, (regular₂ h v, (omega (arith, h .ready .cells-long, c .before .before .before .before .before .before .before .before .before .before .before .before .before .before .before .before .before .before .rewrite-slots .ensures .size, c .before .before .before .before .before .before .before .before .before .before .before .before .settle .ensures .0 .size), (st.pages-ask e p k v (st.listed e (pre .1 .0)), (st.bounds e, ((e .thread, omega (arith, z .1, e .epoch)), noted-kept (none-freed _ _ _ (owner₂ h v)) (c .before .before .before .before .before .before .before .before .before .before .before .before .before .before .before .before .before .before .before .before .before .before .before .before .before .before .before .copy-survivors .ensures .1)))))))
 
 same-length : tie.Need-same-length
 same-length c = c .before .before .before .before .before .before .release .kept .1 .0 ∙ c .before .before .before .before .before .before .before .before .before .before .before .before .before .before .before .before .before .before .before .settle .kept .1 .0 ∙ c .before .before .before .before .before .before .before .before .before .before .before .before .before .before .before .before .before .before .before .before .before .before .before .before .before .rewrite-slots .kept .1 .0 ∙ c .before .before .before .before .before .before .before .before .before .before .before .before .before .before .before .before .before .before .before .before .before .before .before .before .before .before .before .before .before .before .before .before .before .before .copy-survivors .kept .1 .0
@@ -83,18 +84,18 @@ same-length-4 : tie.Need-same-length-4
 same-length-4 c = c .before .before .before .before .before .before .release .kept .1 .1 .1 .0 ∙ c .before .before .before .before .before .before .before .before .before .before .before .before .before .before .before .before .before .before .before .before .before .before .before .before .before .before .before .before .before .before .before .before .before .before .copy-survivors .kept .1 .1 .1 .0
 
 returns : tie.Need-returns
-returns c cells tables e a =
+returns c = (λ cells tables e a.
     let args = c .before .before .before .before .before .before .before .before .before .before .before .before .before .before .before .before .before .before .before .before .before .before .before .before .before .before .before .before .before .before .before .before .before .before .before .before .before .before .before .before .before .before .before .before .before .before .before .before .before .args in
     let count = c .before .before .before .before .before .before .before .before .before .before .before .before .before .before .before .before .before .before .before .before .before .before .before .before .before .before .before .before .before .before .before .before .before .before .before .before .before .before .count in
     let survivors = c .before .before .before .before .before .before .before .before .before .before .before .before .before .before .before .before .before .before .before .before .before .before .before .before .before .before .before .before .before .before .before .before .before .before .before .before .before .before .before .before .before .count-survivors in
     let settle = c .before .before .before .before .before .before .before .before .before .before .before .before .before .before .before .before .before .before .before .settle in
     let release = c .before .before .before .before .before .before .release in
     let p = plan e (a .pages) in
-    let k = c .before .before .before .before .before .before .before .before .before .before .before .before .before .before .before .before .before .before .before .before .before .before .before .before .before .before .before .before .before .before .before .before .before .before .copy-survivors .ensures in
+    let k = c .before .before .before .before .before .before .before .before .before .before .before .before .before .before .before .before .before .before .before .before .before .before .before .before .before .before .before .before .before .before .before .before .before .before .copy-survivors .ensures .0 in
     let h = st.moved e p k in
     st.has-ended e p k (c .before .before .before .before .before .before .before .before .before .before .before .before .rewrite-variables .ensures) (release .ensures .0)
-    (omega (arith, count .ensures, ap (countOf (args .p) (args .tables .now)) (c .before .before .before .before .before .before .before .before .before .before .before .before .before .before .before .before .before .before .before .before .before .before .before .before .before .before .before .before .before .before .before .before .before .before .before .before .before .before .before .wide .ensures), survivors .ensures, st.freed-rest e)) (release .ensures .1)
-    (rewritten-both h (st.held e) (c .before .before .before .before .before .before .before .before .before .before .before .before .before .before .before .before .before .before .before .before .before .before .before .before .before .rewrite-slots .ensures) (settle .ensures .0)) (settle .ensures .1)
+    (omega (arith, count .ensures, ap (countOf (args .p) (args .tables .now)) (c .before .before .before .before .before .before .before .before .before .before .before .before .before .before .before .before .before .before .before .before .before .before .before .before .before .before .before .before .before .before .before .before .before .before .before .before .before .before .before .wide .ensures), survivors .ensures, st.freed-rest e)) (release .ensures .1 .0)
+    (rewritten-both h (st.held e) (c .before .before .before .before .before .before .before .before .before .before .before .before .before .before .before .before .before .before .before .before .before .before .before .before .before .rewrite-slots .ensures) (settle .ensures .0)) (settle .ensures .1), c .before .before .before .before .before .before .release .ensures .1 .1)
 
 pub evacuate-spec : {M : Type 1} → statement M
 evacuate-spec =
