@@ -11,13 +11,14 @@ use Rattle.rules.specs.declared.Sizes.{Sizes}
 use Rattle.rules.specs.Terms.{ask, refused}
 use Rattle.rules.specs.Regions.{regionAt, regions}
 use Rattle.rules.specs.Rules as ru
-use Rattle.layout.specs.Places.{markOf, entriesUsed, slotIn}
+use Rattle.layout.specs.Places.{ownerOf, markOf, entriesUsed, slotIn}
 use Rattle.layout.specs.Words.{Words, words, heapOf}
 use Rattle.promises.specs.Promises.{DidHere}
 use Rattle.promises.specs.OwnedPages.{pagesOwned, owner-low, counts-owned}
 use Rattle.promises.specs.Ends.{partOf}
 use Rattle.promises.specs.Arriving.{goesTo, arriving, moreBelow, more-none}
 use Rattle.pages.specs.Owned.{Paged}
+use Rattle.pages.specs.Noted.{Noted, noted-kept, none-freed}
 use Rattle.mark.specs.Marks.{Shaped, kept-shaped}
 use Rattle.mark.specs.Holders.{Holding, holding-kept}
 use Rattle.mark.specs.Reached.{whole-holding}
@@ -68,6 +69,10 @@ module _ {s : Sizes} {t l r : ℕ} {w w₁ : Words} (m : Ending s t l r w w₁) 
         owners = λ page q. subst (λ (x : ℕ). x ≤ regions s) (sym (owner-same (m .marks) (room-of m) page q)) (owner-low s w (m .whole) page q);
       }
 
+  -- the marking changes no owner
+  pub marked-noted : {notes : List ℕ} → Noted s (w .tables) notes → Noted s (w₁ .tables) notes
+  marked-noted = noted-kept (none-freed s (w .tables) (w₁ .tables) (owner-same (m .marks) (room-of m)))
+
   -- ---- 13 and 14
 
   asked : ru.question s (heapOf s w) (endOf t) ≡ ask (leb (pagesNeeded s w r) (pagesOwned s w 0)) 13 (ask (leb (crossingAfter s w r) (s .entries)) 14 0)
@@ -94,6 +99,11 @@ module _ {s : Sizes} {t l r : ℕ} {w w₁ : Words} (m : Ending s t l r w w₁) 
       back =
           ap₂ (λ (c b : List ℕ). words c (w .remember) b) (sym (cells-back s w (m .whole) (partOf s w r) w₁ (m .marks) U)) (sym (tables-back s w (m .whole) (partOf s w r) w₁ (m .marks) U))
           ∙ ap (λ (M : List ℕ). words W M T) (sym (m .marks .remember))
+
+  pub out-noted : {notes : List ℕ} {W T : List ℕ} → Unmarked s (s .pages) (w₁ .cells) (w₁ .tables) W T → Noted s (w₁ .tables) notes → Noted s T notes
+  out-noted {notes} {W} {T} U =
+      noted-kept (none-freed s (w₁ .tables) T
+      (λ page l. ap (λ (L : List ℕ). ownerOf s L page) (tables-back s w (m .whole) (partOf s w r) w₁ (m .marks) U) ∙ sym (owner-same (m .marks) (room-of m) page l)))
 
   -- ---- accepted
 

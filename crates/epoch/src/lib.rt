@@ -1,12 +1,11 @@
 // The end of an epoch (code 2): mark what survives; where nothing does, take the region's slots out of the remember table and free its pages;
 // else list its pages, count over them, refuse and undo the marking where pages or entries are too few, or copy, rewrite, remember and release.
 ghost use mathlib.Core.List.{List};
-ghost use Prim.Native.Nat.{ℕ, _<_, _≤_};
-ghost use lib.ListN.{length};
+ghost use Prim.Native.Nat.{ℕ, _<_};
 ghost use Rattle.layout.specs.Words.{words};
 ghost use Rattle.promises.specs.Whole.{WholeFor};
 ghost use Rattle.promises.specs.Promises.{DidHere};
-ghost use Rattle.pages.specs.Pages.{noteWords};
+ghost use Rattle.pages.specs.Noted.{Noted};
 ghost use Rattle.ended.specs.AfterEnd.{endOf};
 ghost use Rattle.ending.specs.Ending.{Ending};
 use rules::Answer;
@@ -27,8 +26,9 @@ fn end_marked(
     region: u32,
 ) -> Answer
     requires { ⌜ ((c t : List ℕ) × Ending p thread level region (words c (now remember) t) (words (now cells) (now remember) (now tables))) ⌝ }
-    requires { ⌜ noteWords ≤ length (now notes) ⌝ }
+    requires { ⌜ Noted p (now tables) (now notes) ⌝ }
     ensures { λ r. ⌜ ((c t : List ℕ) → Ending p thread level region (words c (now (remember .entry)) t) (words (now (cells .entry)) (now (remember .entry)) (now (tables .entry))) → DidHere p (words c (now (remember .entry)) t) (endOf thread) (words (now (cells .exit)) (now (remember .exit)) (now (tables .exit))) r) ⌝ }
+    ensures { λ _. ⌜ Noted p (now (tables .exit)) (now (notes .exit)) ⌝ }
 {
     let mut list = [0u32; 1024];
     let mut come = [0u32; 130];
@@ -66,8 +66,9 @@ pub fn end(
 ) -> Answer
     requires { ⌜ WholeFor p (words (now cells) (now remember) (now tables)) ⌝ }
     requires { ⌜ thread < p .threads ⌝ }
-    requires { ⌜ noteWords ≤ length (now notes) ⌝ }
+    requires { ⌜ Noted p (now tables) (now notes) ⌝ }
     ensures { λ r. ⌜ DidHere p (words (now (cells .entry)) (now (remember .entry)) (now (tables .entry))) (endOf thread) (words (now (cells .exit)) (now (remember .exit)) (now (tables .exit))) r ⌝ }
+    ensures { λ _. ⌜ Noted p (now (tables .exit)) (now (notes .exit)) ⌝ }
 {
     let level = layout::wide(layout::tables::depth(p, tables, thread));
     if level == 0 {

@@ -11,7 +11,7 @@ use Rattle.promises.specs.Questions.{did-answer}
 use Rattle.mark.specs.Survivors.{none-survives}
 use Rattle.ending.specs.Ending.{Ending, ended-here}
 use Rattle.ended.specs.EndQuestion.{refused-shut}
-use Rattle.epoch.specs.EndDid.{accepted, free-way}
+use Rattle.epoch.specs.EndDid.{marked-noted, accepted, free-way}
 use Rattle.epoch.proofs.end.Statement.{statement}
 use Rattle.epoch.proofs.end.Tie as tie
 
@@ -60,8 +60,8 @@ returns : tie.Need-returns
 returns c =
     let a = c .before .before .before .before .before .before .before .before .before .args in
     let pre = c .before .before .before .before .before .before .before .before .before .pre in
-    did-answer (c .refused .ensures)
-    (refused-shut (a .p) (words (a .cells .now) (a .remember .now) (a .tables .now)) (pre .0) (a .thread) (pre .1 .0) (sym (c .before .before .wide .ensures ∙ c .before .before .before .depth .ensures) ∙ c .before .if1 .taken))
+    (did-answer (c .refused .ensures)
+    (refused-shut (a .p) (words (a .cells .now) (a .remember .now) (a .tables .now)) (pre .0) (a .thread) (pre .1 .0) (sym (c .before .before .wide .ensures ∙ c .before .before .before .depth .ensures) ∙ c .before .if1 .taken)), pre .1 .1)
 
 region-at-requires : tie.Need-region-at-requires
 region-at-requires c κs =
@@ -74,7 +74,9 @@ mark-survivors-requires : tie.Need-mark-survivors-requires
 mark-survivors-requires c κs = let pre = c .before .before .before .before .before .before .before .before .before .before .before .before .pre in (pre .0, (pre .1 .0, c .before .before .before .before .before .wide .ensures ∙ c .before .before .before .before .before .before .depth .ensures, omega (arith, c .before .before .before .before .if1 .left), c .before .before .before .region-at .ensures))
 
 end-marked-requires : tie.Need-end-marked-requires
-end-marked-requires c κs = let a = c .before .before .before .before .before .before .before .before .before .before .before .before .before .before .before .before .before .before .before .before .before .before .args in ((a .cells .now, a .tables .now, ending (c .before .before .before .before .before .before .before .before .before)), c .before .before .before .before .before .before .before .before .before .before .before .before .before .before .before .before .before .before .before .before .before .before .pre .1 .1)
+end-marked-requires c κs =
+    let m = ending (c .before .before .before .before .before .before .before .before .before) in
+    ((c .before .before .before .before .before .before .before .before .before .before .before .before .before .before .before .before .before .before .before .before .before .before .args .cells .now, c .before .before .before .before .before .before .before .before .before .before .before .before .before .before .before .before .before .before .before .before .before .before .args .tables .now, m), marked-noted m (c .before .before .before .before .before .before .before .before .before .before .before .before .before .before .before .before .before .before .before .before .before .before .pre .1 .1))
 
 same-length-2 : tie.Need-same-length-2
 same-length-2 c = search needs
@@ -89,14 +91,16 @@ same-length-5 : tie.Need-same-length-5
 same-length-5 c = search needs
 
 returns-2 : tie.Need-returns-2
-returns-2 c = let a = c .before .before .before .before .before .before .before .before .before .before .before .before .before .before .before .before .before .before .before .before .before .before .before .before .before .before .before .before .before .before .before .args in c .before .before .before .before .before .before .before .before .end-marked .ensures (a .cells .now) (a .tables .now) (ending (c .before .before .before .before .before .before .before .before .before .before .before .before .before .before .before .before .before .before))
+returns-2 c =
+    let m = ending (c .before .before .before .before .before .before .before .before .before .before .before .before .before .before .before .before .before .before) in
+    (c .before .before .before .before .before .before .before .before .end-marked .ensures .0 (c .before .before .before .before .before .before .before .before .before .before .before .before .before .before .before .before .before .before .before .before .before .before .before .before .before .before .before .before .before .before .before .args .cells .now) (c .before .before .before .before .before .before .before .before .before .before .before .before .before .before .before .before .before .before .before .before .before .before .before .before .before .before .before .before .before .before .before .args .tables .now) m, c .before .before .before .before .before .before .before .before .end-marked .ensures .1)
 
 evacuate-none-requires : tie.Need-evacuate-none-requires
 evacuate-none-requires c κs =
     let a = c .before .before .before .before .before .before .before .before .before .before .before .before .before .before .before .before .before .before .before .before .before .before .args in
     let m = ending (c .before .before .before .before .before .before .before .before .before) in
     let none = unmarked (c .before .before .before .before .before .before .before .before .before) (c .before .before .before .before .if2 .left) in
-    ((a .cells .now, a .tables .now, m, accepted m (free-way m none)), (none, c .before .before .before .before .before .before .before .before .before .before .before .before .before .before .before .before .before .before .before .before .before .before .pre .1 .1))
+    ((a .cells .now, a .tables .now, m, accepted m (free-way m none)), (none, marked-noted m (c .before .before .before .before .before .before .before .before .before .before .before .before .before .before .before .before .before .before .before .before .before .before .pre .1 .1)))
 
 done-requires : tie.Need-done-requires
 done-requires c κs = search needs
@@ -118,7 +122,7 @@ returns-3 c =
     let a = c .before .before .before .before .before .before .before .before .before .before .before .before .before .before .before .before .before .before .before .before .before .before .before .before .before .before .before .before .before .before .before .before .args in
     let m = ending (c .before .before .before .before .before .before .before .before .before .before .before .before .before .before .before .before .before .before .before) in
     let yes = accepted m (free-way m (unmarked (c .before .before .before .before .before .before .before .before .before .before .before .before .before .before .before .before .before .before .before) (c .before .before .before .before .before .before .before .before .before .before .before .before .before .before .if2 .left))) in
-    did-answer (c .done .ensures) (ended-here m yes (c .before .before .before .before .before .before .before .before .before .evacuate-none .ensures (a .cells .now) (a .tables .now) m yes))
+    (did-answer (c .done .ensures) (ended-here m yes (c .before .before .before .before .before .before .before .before .before .evacuate-none .ensures .0 (a .cells .now) (a .tables .now) m yes)), c .before .before .before .before .before .before .before .before .before .evacuate-none .ensures .1)
 
 pub end-spec : {M : Type 1} → statement M
 end-spec =
