@@ -6,3 +6,4 @@ pub mod Moves
 pub mod Passing
 pub mod Copying
 pub mod Forward
+pub mod Placement

@@ -160,7 +160,7 @@ module _ {p : Sizes} {g q c : ℕ} {W T W′ T′ : List ℕ} (s : Step p g q c 
       subst (λ (X : List ℕ). Only (markWords ∷ []) p (tablesOnly (s .mid)) (tablesOnly X)) (sym (s .tables))
       (store-only p (tablesOnly (s .mid)) markWords (marksAt p c) _ (mark-in p (pageOf c) page-in) (omega (arith, page-in, s .can .room, count-room p)))
 
-  mid-pages : (x : ℕ) → x < p .pages → SamePage p (s .mid) T′ x
+  pub mid-pages : (x : ℕ) → x < p .pages → SamePage p (s .mid) T′ x
   mid-pages x l = record { owner = mid-only .same ownerWords refl x l; used = mid-only .same usedWords refl x l }
 
   pub step-size : length T′ ≡ length T
