@@ -36,10 +36,11 @@ use Rattle.promises.specs.FrameVariable.{variable-only}
 use Rattle.promises.specs.FrameNew.{Takes, blankObject, made-stands, to-old, withCell}
 use Rattle.promises.specs.TakenPage.{took-takes}
 use Rattle.pages.specs.Pages.{Filled, regular-filled, Found, taken}
+use Rattle.pages.specs.Noted.{Noted, noted-kept, none-freed-before, took-none-freed}
 use Rattle.pages.specs.Took.{found-room, taken-took}
 use Rattle.commands.specs.declared.Decoded.the-variants.{New}
 use Rattle.commands.specs.Decoding.{commandFor}
-use Rattle.commands.specs.ThreadVariables.{variableAt}
+use Rattle.commands.specs.ThreadVariables.{variableAt, variable-low}
 use Rattle.commands.specs.Does.{Does}
 
 -- g is the region that thread u makes objects in
@@ -83,7 +84,7 @@ module _ (p : Sizes) (c m t : List ℕ) (k : WholeFor p (words c m t)) (u : ℕ)
       where
         go : Found P t g page → (PartlyFilled s w g → ⊥) × (FreePage s w → ⊥)
         go (inl f) = absurd (let z : ⊥ = omega (arith, f .low) in z)
-        go (inr f) = ((λ x. omega (arith, f .none (x .0) (x .1) (x .2 .owner), x .2 .part)), (λ x. omega (arith, f .some (x .0) (x .1) (x .2))))
+        go (inr f) = ((λ x. omega (arith, f .none (x .0) (x .1) (x .2 .owner), x .2 .part)), (λ x. omega (arith, f .some (x .0) (x .1) (x .2) .1)))
 
     -- a page was found
     some-found : page < p .pages → PartlyFilled s w g ⊎ FreePage s w
@@ -144,6 +145,10 @@ module _ (p : Sizes) (c m t : List ℕ) (k : WholeFor p (words c m t)) (u : ℕ)
         -- the cell that the rules say
         takes : Takes P t g cell t₂
         takes = took-takes (whole-regular k) (region-real .0) tk
+
+        -- no page became free
+        pub new-noted : {t₃ : List ℕ} → t₃ ≡ set t₂ (variableAt p u a) (cell + 1) → {notes : List ℕ} → Noted p t notes → Noted p t₃ notes
+        new-noted e h = noted-kept (none-freed-before p t₂ (variableAt p u a) (cell + 1) (variable-low p u a l n) e) (noted-kept (took-none-freed (region-real .0) tk) h)
 
         abbrev w₁ : Words
         w₁ = words c₁ m t₂

@@ -1,10 +1,11 @@
 -- Where a thread's variables are.
-use Prim.Native.Nat.{ℕ}
+use Prim.Native.Nat.{ℕ, _<_}
+use native.Mathlib.Omega.{arith}
 use mathlib.Core.List.{List}
 use mathlib.Core.Path.{_≡_, ap, _∙_}
 use lib.ListN.{set}
 use Rattle.rules.specs.declared.Sizes.{Sizes}
-use Rattle.layout.specs.Places.{varNumber, varAt, varOf}
+use Rattle.layout.specs.Places.{varNumber, varAt, varOf, ownersFrom, owners-is, var-low}
 
 -- variable a of thread k
 abbrev pub variableAt : Sizes → ℕ → ℕ → ℕ
@@ -12,6 +13,10 @@ variableAt p k a = varAt p (varNumber p k a)
 
 abbrev pub variable : Sizes → List ℕ → ℕ → ℕ → ℕ
 variable p t k a = varOf p t (varNumber p k a)
+
+-- it stands before the owners of the pages
+pub variable-low : (p : Sizes) (k a : ℕ) → k < p .threads → a < p .variables → variableAt p k a < ownersFrom p
+variable-low p k a h l = omega (arith, owners-is p, var-low p k a h l)
 
 -- as the code reads and writes it
 module _ (p : Sizes) (k a i : ℕ) (d : i ≡ varNumber p k a) where

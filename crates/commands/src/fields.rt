@@ -6,6 +6,7 @@ ghost use Rattle.rules.specs.NeverFreeing.{used};
 ghost use Rattle.layout.specs.Cells.{headOf, fieldCount, firstField, kindAt};
 ghost use Rattle.layout.specs.Words.{words};
 ghost use Rattle.promises.specs.Whole.{WholeFor};
+ghost use Rattle.pages.specs.Noted.{NoneFreed};
 ghost use Rattle.commands.specs.Fields.{NamesCell, Field};
 ghost use Rattle.commands.specs.Does.{Does};
 ghost use Rattle.commands.specs.declared.Decoded.the-variants.{Load, Read, Write};
@@ -78,6 +79,7 @@ pub fn load(
     requires { ⌜ WholeFor p (words (now cells) (now remember) (now tables)) ⌝ }
     requires { ⌜ (t < p .threads) × (a < p .variables) × (b < p .variables) ⌝ }
     ensures { λ r. ⌜ Does p (now (cells .entry)) (now (remember .entry)) (now (tables .entry)) (Load t a b f) (now (cells .entry)) (now (remember .entry)) (now (tables .exit)) r ⌝ }
+    ensures { λ _. ⌜ NoneFreed p (now (tables .entry)) (now (tables .exit)) ⌝ }
 {
     let x = read_var(p, tables, t, b);
     let q = field_question(Kind::Reference, cells, x, f);

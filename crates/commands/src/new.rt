@@ -8,7 +8,7 @@ ghost use Rattle.layout.specs.Places.{Room, depthOf, madeAt, madeOf};
 ghost use Rattle.layout.specs.Cells.{mostFields};
 ghost use Rattle.layout.specs.Words.{words};
 ghost use Rattle.promises.specs.Whole.{WholeFor};
-ghost use Rattle.pages.specs.Pages.{noteWords};
+ghost use Rattle.pages.specs.Noted.{Noted};
 ghost use Rattle.commands.specs.Does.{Does};
 ghost use Rattle.commands.specs.declared.Decoded.the-variants.{New};
 use crate::variables::write_var;
@@ -35,7 +35,8 @@ fn count_made(p: Sizes, tables: &mut [u32])
 }
 
 // Code 3: a new object with b references and c numbers in variable a. It takes the first unused cell of its region's partly filled page,
-// else of a free page; if there is neither, there are no pages (13). A cell that is not in use holds zero words, so word 0 alone is written.
+// else of the highest-numbered free page; if there is neither, there are no pages (13). A cell that is not in use holds zero words, so word 0
+// alone is written.
 pub fn new_object(
     p: Sizes,
     cells: &mut [u32],
@@ -48,9 +49,10 @@ pub fn new_object(
     c: usize,
 ) -> Answer
     requires { ⌜ WholeFor p (words (now cells) (now remember) (now tables)) ⌝ }
-    requires { ⌜ noteWords ≤ length (now notes) ⌝ }
+    requires { ⌜ Noted p (now tables) (now notes) ⌝ }
     requires { ⌜ (t < p .threads) × (a < p .variables) × (b + c ≤ mostFields) ⌝ }
     ensures { λ r. ⌜ Does p (now (cells .entry)) (now (remember .entry)) (now (tables .entry)) (New t a b c) (now (cells .exit)) (now (remember .entry)) (now (tables .exit)) r ⌝ }
+    ensures { λ _. ⌜ Noted p (now (tables .exit)) (now (notes .exit)) ⌝ }
 {
     let region = innermost(p, tables, t);
     let page = pages::page_for(p, tables, notes, region);

@@ -1,7 +1,5 @@
 // One command, decoded and done.
-ghost use Prim.Native.Nat.{_≤_};
-ghost use lib.ListN.{length};
-ghost use Rattle.pages.specs.Pages.{noteWords};
+ghost use Rattle.pages.specs.Noted.{Noted};
 ghost use Rattle.layout.specs.Words.{words};
 ghost use Rattle.promises.specs.Whole.{WholeFor};
 ghost use Rattle.commands.specs.Obeys.{Obeys};
@@ -31,8 +29,9 @@ pub fn obey(
     m: Command,
 ) -> Obeyed
     requires { ⌜ WholeFor p (words (now cells) (now remember) (now tables)) ⌝ }
-    requires { ⌜ noteWords ≤ length (now notes) ⌝ }
+    requires { ⌜ Noted p (now tables) (now notes) ⌝ }
     ensures { λ r. ⌜ Obeys p (now (cells .entry)) (now (remember .entry)) (now (tables .entry)) m (now (cells .exit)) (now (remember .exit)) (now (tables .exit)) r ⌝ }
+    ensures { λ _. ⌜ Noted p (now (tables .exit)) (now (notes .exit)) ⌝ }
 {
     let d = decode(p, m);
     match d {

@@ -5,6 +5,7 @@ ghost use lib.ListN.{length, set};
 ghost use Rattle.layout.specs.Words.{words};
 ghost use Rattle.layout.specs.Places.{Room};
 ghost use Rattle.promises.specs.Whole.{WholeFor};
+ghost use Rattle.pages.specs.Noted.{NoneFreed};
 ghost use Rattle.commands.specs.ThreadVariables.{variable, variableAt};
 ghost use Rattle.commands.specs.Does.{Does};
 ghost use Rattle.commands.specs.declared.Decoded.the-variants.{Start, Copy, Clear, Same};
@@ -35,6 +36,7 @@ pub fn start(p: Sizes, cells: &[u32], remember: &[u32], tables: &mut [u32], t: u
     requires { ⌜ WholeFor p (words (now cells) (now remember) (now tables)) ⌝ }
     requires { ⌜ t < p .threads ⌝ }
     ensures { λ r. ⌜ Does p (now (cells .entry)) (now (remember .entry)) (now (tables .entry)) (Start t) (now (cells .entry)) (now (remember .entry)) (now (tables .exit)) r ⌝ }
+    ensures { λ _. ⌜ NoneFreed p (now (tables .entry)) (now (tables .exit)) ⌝ }
 {
     let d = layout::tables::depth(p, tables, t);
     if p.depth <= layout::wide(d) {
@@ -58,6 +60,7 @@ pub fn copy(
     requires { ⌜ WholeFor p (words (now cells) (now remember) (now tables)) ⌝ }
     requires { ⌜ (t < p .threads) × (a < p .variables) × (b < p .variables) × (c < p .threads) ⌝ }
     ensures { λ r. ⌜ Does p (now (cells .entry)) (now (remember .entry)) (now (tables .entry)) (Copy t a b c) (now (cells .entry)) (now (remember .entry)) (now (tables .exit)) r ⌝ }
+    ensures { λ _. ⌜ NoneFreed p (now (tables .entry)) (now (tables .exit)) ⌝ }
 {
     let x = read_var(p, tables, c, b);
     write_var(p, tables, t, a, x);
@@ -76,6 +79,7 @@ pub fn clear(
     requires { ⌜ WholeFor p (words (now cells) (now remember) (now tables)) ⌝ }
     requires { ⌜ (t < p .threads) × (a < p .variables) ⌝ }
     ensures { λ r. ⌜ Does p (now (cells .entry)) (now (remember .entry)) (now (tables .entry)) (Clear t a) (now (cells .entry)) (now (remember .entry)) (now (tables .exit)) r ⌝ }
+    ensures { λ _. ⌜ NoneFreed p (now (tables .entry)) (now (tables .exit)) ⌝ }
 {
     write_var(p, tables, t, a, 0);
     rules::done(0)

@@ -9,7 +9,7 @@ use native.Mathlib.Omega.{arith}
 use lib.ListN.{length, getD, set, length-set}
 use lib.Seq.{getD-set-same, getD-set-other}
 use Rattle.rules.specs.declared.Sizes.{Sizes}
-use Rattle.layout.specs.Places.{mostRegions, ownerOf}
+use Rattle.layout.specs.Places.{mostRegions, ownersFrom, ownerAt, ownerOf}
 use Rattle.layout.specs.Cells.{pageOf}
 use Rattle.promises.specs.TakeCell.{Took, page-past}
 use Rattle.pages.specs.Pages.{Free, NoneFrom, free-all}
@@ -37,6 +37,14 @@ noted-kept e h = record { long = h .long; passed = λ x l m z. h .passed x l m (
 -- every page has the owner that it had
 pub none-freed : (p : Sizes) (t t′ : List ℕ) → ((page : ℕ) → page < p .pages → ownerOf p t′ page ≡ ownerOf p t page) → NoneFreed p t t′
 none-freed p t t′ e = record { was = λ page l z. sym (e page l) ∙ z }
+
+pub none-freed-refl : (p : Sizes) (t : List ℕ) → NoneFreed p t t
+none-freed-refl p t = record { was = λ page l z. z }
+
+-- a word before the owners is set
+pub none-freed-before : (p : Sizes) (t : List ℕ) (i x : ℕ) {t′ : List ℕ} → i < ownersFrom p → t′ ≡ set t i x → NoneFreed p t t′
+none-freed-before p t i x {t′} l e =
+    none-freed p t t′ (λ page m. ap (λ (w : List ℕ). ownerOf p w page) e ∙ getD-set-other t i (ownerAt p page) x 0 (λ (z : ownerAt p page ≡ i). omega arith))
 
 -- a cell is taken
 pub took-none-freed : {p : Sizes} {t : List ℕ} {g cell n : ℕ} {t′ : List ℕ} → 1 ≤ g → Took p t g cell n t′ → NoneFreed p t t′

@@ -9,7 +9,7 @@ use Rattle.layout.specs.Cells.{headAt, CellIn}
 use Rattle.layout.specs.Words.{words}
 use Rattle.promises.specs.Reading.{whole-room}
 use Rattle.commands.specs.ThreadVariables.{variableAt}
-use Rattle.commands.specs.Making.{region-real, region-filled, can-take, cell-inside, new-refused, new-done}
+use Rattle.commands.specs.Making.{region-real, region-filled, can-take, cell-inside, new-refused, new-noted, new-done}
 use borrow.Author.Needs.{needs}
 use Rattle.commands.proofs.new.new_object.Statement.{statement}
 use Rattle.commands.proofs.new.new_object.Tie as tie
@@ -51,9 +51,9 @@ returns c =
     let innermost = c .before .before .before .before .before .before .before .before .innermost in
     let page-for = c .before .before .before .before .before .page-for in
     let if1 = c .before .if1 in
-    did-answer (c .refused .ensures)
+    (did-answer (c .refused .ensures)
     (new-refused (args .p) (args .cells .now) (args .remember .now) (args .tables .now) (pre .0) (args .t) (pre .1 .1 .0) (innermost .result)
-    (innermost .ensures) (args .a) (args .b) (args .c) (pre .1 .1 .1) (pre .1 .1 .2) (page-for .result) (page-for .ensures) (if1 .taken))
+    (innermost .ensures) (args .a) (args .b) (args .c) (pre .1 .1 .1) (pre .1 .1 .2) (page-for .result) (page-for .ensures .0) (if1 .taken)), page-for .ensures .1)
 
 take-cell-requires : tie.Need-take-cell-requires
 take-cell-requires c κs =
@@ -64,7 +64,7 @@ take-cell-requires c κs =
     let real = region-real (args .p) (args .cells .now) (args .remember .now) (args .tables .now) (pre .0) (args .t) (pre .1 .1 .0) (innermost .result) (innermost .ensures) in
     let take =
     can-take (args .p) (args .cells .now) (args .remember .now) (args .tables .now) (pre .0) (args .t) (pre .1 .1 .0) (innermost .result) (innermost .ensures)
-    (page .result) (page .ensures) (omega arith) in (
+    (page .result) (page .ensures .0) (omega arith) in (
       whole-room (args .p) (words (args .cells .now) (args .remember .now) (args .tables .now)) (pre .0) (omega (arith, c .before .before .before .before .before .before .before .before .before .before .before .before .before .before .good .1 .1 .1 .0)),
       ((omega arith, take .0), (real .0, real .1, take .1)),
     )
@@ -78,7 +78,7 @@ inside c =
     let page = c .before .before .before .before .before .before .page-for in
     let take = c .take-cell in
     cell-inside (args .p) (args .cells .now) (args .remember .now) (args .tables .now) (pre .0) (args .t) (pre .1 .1 .0) (innermost .result) (innermost .ensures)
-    (page .result) (page .ensures) (omega arith) (take .result) (take .ensures .0) (take .last .1 .0) (take .ensures .1)
+    (page .result) (page .ensures .0) (omega arith) (take .result) (take .ensures .0) (take .last .1 .0) (take .ensures .1)
 
 count-made-requires : tie.Need-count-made-requires
 count-made-requires c κs =
@@ -128,12 +128,18 @@ returns-2 c =
     let head-word = c .before .before .before .before .before .before .before .before .before .head-word in
     let set-head = c .before .before .before .before .before .before .before .before .set-head in
     let write-var = c .before .before .before .write-var in
-    did-answer (c .done .ensures)
-    (new-done (args .p) (args .cells .now) (args .remember .now) (args .tables .now) (pre .0) (args .t) (pre .1 .1 .0) (innermost .result)
-    (innermost .ensures) (args .a) (args .b) (args .c) (pre .1 .1 .1) (pre .1 .1 .2) (page-for .result) (page-for .ensures) (omega (arith, if1 .left))
-    (take-cell .result) (take-cell .ensures .0) (take-cell .last .1 .0) (take-cell .ensures .1) (count-made .last .1 .0) (count-made .ensures)
-    (set-head .last .0) (set-head .ensures ∙ ap (λ (x : ℕ). set (args .cells .now) (headAt (take-cell .result)) x) (head-word .ensures))
-    (write-var .ensures ∙ ap (λ (x : ℕ). set (count-made .last .1 .0) (variableAt (args .p) (args .t) (args .a)) x) (c .before .before .before .before .ref-to .ensures)))
+    let named = write-var .ensures ∙ ap (λ (x : ℕ). set (count-made .last .1 .0) (variableAt (args .p) (args .t) (args .a)) x) (c .before .before .before .before .ref-to .ensures) in
+    let head = set-head .ensures ∙ ap (λ (x : ℕ). set (args .cells .now) (headAt (take-cell .result)) x) (head-word .ensures) in (
+      did-answer (c .done .ensures)
+          (new-done (args .p) (args .cells .now) (args .remember .now) (args .tables .now) (pre .0) (args .t) (pre .1 .1 .0) (innermost .result)
+          (innermost .ensures) (args .a) (args .b) (args .c) (pre .1 .1 .1) (pre .1 .1 .2) (page-for .result) (page-for .ensures .0) (omega (arith, if1 .left))
+          (take-cell .result) (take-cell .ensures .0) (take-cell .last .1 .0) (take-cell .ensures .1) (count-made .last .1 .0) (count-made .ensures)
+          (set-head .last .0) head named),
+      new-noted (args .p) (args .cells .now) (args .remember .now) (args .tables .now) (pre .0) (args .t) (pre .1 .1 .0) (innermost .result)
+          (innermost .ensures) (args .a) (args .b) (args .c) (pre .1 .1 .1) (pre .1 .1 .2) (page-for .result) (page-for .ensures .0) (omega (arith, if1 .left))
+          (take-cell .result) (take-cell .ensures .0) (take-cell .last .1 .0) (take-cell .ensures .1) (count-made .last .1 .0) (count-made .ensures)
+          (set-head .last .0) head named (page-for .ensures .1),
+    )
 
 pub new-object-spec : {M : Type 1} → statement M
 new-object-spec =

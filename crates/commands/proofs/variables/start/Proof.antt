@@ -1,7 +1,9 @@
 -- The depth rises by one, if it is below D.
 use native.Mathlib.Omega.{arith}
 use Rattle.promises.specs.Questions.{did-answer}
+use Rattle.layout.specs.Places.{depthAt, owners-is}
 use Rattle.layout.specs.Words.{words}
+use Rattle.pages.specs.Noted.{none-freed-refl, none-freed-before}
 use Rattle.promises.specs.Reading.{whole-room}
 use Rattle.commands.specs.Variables.{start-refused, start-done}
 use borrow.Author.Needs.{needs}
@@ -29,9 +31,9 @@ returns c =
     let pre = c .before .before .before .before .before .before .before .before .before .pre in
     let depth = c .before .before .before .before .depth in
     let wide = c .before .before .before .wide in
-    did-answer (c .refused .ensures)
+    (did-answer (c .refused .ensures)
     (start-refused (args .p) (args .cells .now) (args .remember .now) (args .tables .now) (pre .0) (args .t) (pre .1) (depth .result) (depth .ensures)
-    (omega (arith, wide .ensures)))
+    (omega (arith, wide .ensures))), none-freed-refl _ _)
 
 add-set-depth : tie.Need-add-set-depth
 add-set-depth c =
@@ -59,9 +61,9 @@ returns-2 c =
     let depth = c .before .before .before .before .before .before .before .before .depth in
     let wide = c .before .before .before .before .before .before .before .wide in
     let set-depth = c .before .before .before .set-depth in
-    did-answer (c .done .ensures)
+    (did-answer (c .done .ensures)
     (start-done (args .p) (args .cells .now) (args .remember .now) (args .tables .now) (pre .0) (args .t) (pre .1) (depth .result) (depth .ensures)
-    (omega (arith, wide .ensures)) (set-depth .ensures))
+    (omega (arith, wide .ensures)) (set-depth .ensures)), none-freed-before (args .p) (args .tables .now) (depthAt (args .t)) _ (omega (arith, owners-is (args .p), pre .1)) (set-depth .ensures))
 
 pub start-spec : {M : Type 1} → statement M
 start-spec =
