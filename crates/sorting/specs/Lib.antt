@@ -1,0 +1,7 @@
+-- Entries in any order, sorted by slot and merged with those that rise already.
+pub mod Sorting
+pub mod Pairs
+pub mod Merging
+pub mod Runs
+pub mod Distinct
+pub mod SortedIn
