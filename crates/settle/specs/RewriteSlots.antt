@@ -11,7 +11,7 @@ use Rattle.rules.specs.declared.Sizes.{Sizes}
 use Rattle.layout.specs.Places.{Room, varAt, varCount, varOf, slotIn, slotRegionIn, varsFrom, cellsWords}
 use Rattle.layout.specs.Cells.{fieldAt, pageOf, wordOf, mostFields}
 use Rattle.layout.specs.Words.{Names}
-use Rattle.remember.specs.Entries.{NamedWith}
+use Rattle.remember.specs.Entries.{NamedWith, rising-once}
 use Rattle.remember.specs.Staying.{Entries}
 use Rattle.settle.specs.Rewrite.{forwarded, Rewritten, rewritten-one, rewritten-join, rewritten-like}
 
@@ -24,7 +24,7 @@ pub record Slots (p : Sizes) (r n m : ℕ) (W M : List ℕ) : Type 0 where
 
 module _ {p : Sizes} {r n m : ℕ} {W M W′ : List ℕ} {i : ℕ} (a : Slots p r n m W M) (lt : i < m) (h : Rewritten (NamedWith r n i M) W W′) where
   fresh : NamedWith r n i M (slotIn M i) → ⊥
-  fresh q = a .entries .once (q .entry) i (q .low) lt (q .slot)
+  fresh q = rising-once M m (a .entries .rising) (q .entry) i (q .low) lt (q .slot)
 
   pub slot-names : slotRegionIn n M i ≡ r → Names p (getD W′ (slotIn M i) 0)
   slot-names e = subst (λ (x : ℕ). Names p x) (sym (h .same (slotIn M i) fresh)) (a .entries .names i lt e)

@@ -1,4 +1,4 @@
--- The remember table after an end: the entries that stay, then the crossing slots of the copies, then zeros.
+-- The remember table after an end: the entries that stay and those of the crossing slots of the copies, by rising slot, then zeros.
 use mathlib.Core.Path.{_≡_, sym, subst}
 use mathlib.Core.Logic.{_≢_, _⊎_, inl, inr, ⊎-elim}
 use mathlib.Core.List.{List}
@@ -8,12 +8,14 @@ use lib.ListN.{getD}
 use Rattle.rules.specs.declared.Sizes.{Sizes}
 use Rattle.layout.specs.Places.{slotIn, slotRegionIn}
 use Rattle.layout.specs.Words.{Names}
-use Rattle.remember.specs.Entries.{ZeroBetween}
-use Rattle.remember.specs.Stretches.{Added, added-join, EndsAfter}
+use Rattle.remember.specs.Entries.{Rising, ZeroBetween}
+use Rattle.remember.specs.Stretches.{Added, added-join, slot-below, EndsAfter}
 use Rattle.remember.specs.Filtered.{Stays}
 use Rattle.remember.specs.Appending.{Crossing, crossing-in, AtMost, at-most-rest}
-use Rattle.remember.specs.Renewed.{Renewed, renewed}
+use Rattle.remember.specs.Renewed.{Renewed, Appended, appended, appended-all}
 use Rattle.remember.specs.Staying.{newRegion, Entries, stays-read}
+use Rattle.sorting.specs.Sorting.{sortedFrom}
+use Rattle.sorting.specs.SortedIn.{sorted-renewed}
 use Rattle.settle.specs.Rewrite.{forwarded}
 use Rattle.settle.specs.RewriteCopies.{CopySlot, Wiring, OnPages, slot-now, slot-then}
 use Rattle.settle.specs.Settle.{crossLater, Settled, Settling}
@@ -56,16 +58,26 @@ module _ {p : Sizes} {r n m j : ℕ} {W M T M₁ : List ℕ} (u : Settles p r n 
             (λ x. inl) (λ x. inr) (λ x q z. stays-apart x (q .0) (q .1) (z .0));
       }
 
-  -- j entries stay, k are used in the end
-  pub settles-updated : {k : ℕ} {W′ M₂ M₃ : List ℕ} → Settled p n (Copies p W T) W M₁ T j W′ M₂ k → EndsAfter n k m M₂ M₃ → Updated p r n m W′ M T M₃
-  settles-updated {k} {W′ = W′} {M₂ = M₂} h c =
-      renewed both c (u .entries .few) (u .rest)
-    where
-      same : (i : ℕ) → i < m → getD W′ (slotIn M i) 0 ≡ getD W (slotIn M i) 0
-      same i l = h .rewritten .same (slotIn M i) (u .old i l)
+  -- j entries stay, in their order; k are used in the end
+  module _ (rise : Rising M₁ j) {k : ℕ} {W′ M₂ M₃ : List ℕ} (h : Settled p n (Copies p W T) W M₁ T j W′ M₂ k) (c : EndsAfter n k m M₂ M₃) where
+    pub settles-appended : Appended (NewEntry p r n m W′ M T) n j M M₃
+    settles-appended =
+        appended both c (u .entries .few) (u .rest) (u .entries .long) (h .added .grows)
+        (λ y z l q. omega (arith, rise y z l q, slot-below (h .added) y (omega arith), slot-below (h .added) z q))
+      where
+        same : (i : ℕ) → i < m → getD W′ (slotIn M i) 0 ≡ getD W (slotIn M i) 0
+        same i l = h .rewritten .same (slotIn M i) (u .old i l)
 
-      both : Added n (NewEntry p r n m W′ M T) 0 k M M₂
-      both =
-          added-join a (h .added) (λ x g g′ s q. stays-apart x g s (q .at))
-          (λ x g. ⊎-elim (λ s. inl (stays-read p r W′ W T (λ i l. sym (same i l)) x g s)) (λ q. inr (crossing-in (slot-then (h .rewritten)) x g q)))
-          (λ x g. ⊎-elim (λ s. inl (stays-read p r W W′ T same x g s)) (λ q. inr (crossing-in (slot-now (h .rewritten)) x g q)))
+        both : Added n (NewEntry p r n m W′ M T) 0 k M M₂
+        both =
+            added-join a (h .added) (λ x g g′ s q. stays-apart x g s (q .at))
+            (λ x g. ⊎-elim (λ s. inl (stays-read p r W′ W T (λ i l. sym (same i l)) x g s)) (λ q. inr (crossing-in (slot-then (h .rewritten)) x g q)))
+            (λ x g. ⊎-elim (λ s. inl (stays-read p r W W′ T same x g s)) (λ q. inr (crossing-in (slot-now (h .rewritten)) x g q)))
+
+    -- those of the copies are sorted in
+    pub settles-updated : {M₄ : List ℕ} → M₄ ≡ sortedFrom n j M₃ → Updated p r n m W′ M T M₄
+    settles-updated = sorted-renewed settles-appended
+
+    -- there are none
+    pub settles-kept : k ≡ j → Updated p r n m W′ M T M₃
+    settles-kept e = appended-all settles-appended (omega (arith, c .used))

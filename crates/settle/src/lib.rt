@@ -22,6 +22,7 @@ use remember::entries::close_entries;
 use remember::entries::put_entry;
 use remember::filter::filter_entries;
 use rules::Sizes;
+use sorting::order::order_entries;
 
 // The reference fields of a copy. Those that cross come after the first j entries; how many there are then.
 pub fn settle_cell(
@@ -116,7 +117,7 @@ pub fn settle_copies(
     i
 }
 
-// The copies' slots and the remember table after the end: the entries that stay, those of the copies, then zeros.
+// The copies' slots and the remember table after the end: the entries that stay and those of the copies, by rising slot, then zeros.
 pub fn settle(
     p: Sizes,
     cells: &mut [u32],
@@ -136,4 +137,5 @@ pub fn settle(
     let kept = filter_entries(p, cells, remember, tables, region, used);
     let all = settle_copies(p, cells, remember, tables, list, n, kept);
     close_entries(p.entries, remember, all, used);
+    order_entries(p.entries, remember, kept);
 }

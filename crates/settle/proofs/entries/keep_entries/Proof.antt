@@ -2,9 +2,9 @@
 use native.Mathlib.Omega.{arith}
 use borrow.Author.Needs.{needs}
 use Prim.Native.Nat.{ℕ}
-use mathlib.Core.Path.{sym, _∙_, subst}
+use mathlib.Core.Path.{refl, sym, _∙_, subst}
 use Rattle.settle.specs.Settle.{settled-none}
-use Rattle.settle.specs.Update.{Settles, Updated, settles-updated}
+use Rattle.settle.specs.Update.{Settles, Updated, settles-kept}
 use Rattle.settle.proofs.entries.keep_entries.Statement.{statement}
 use Rattle.settle.proofs.entries.keep_entries.Tie as tie
 
@@ -36,7 +36,7 @@ returns c =
     let a = c .before .before .before .before .before .before .before .before .before .before .before .before .before .before .args in
     let filter = c .before .before .before .before .before .before .filter-entries in
     let close = c .before .before .close-entries in
-    let h = settles-updated (settles (c .before .before .before .before .before .before .before .before)) (filter .ensures .0) (settled-none _ _ _ _ _ _ _ (filter .ensures .0 .low) (c .before .before .before .before .before .before .before .before .before .before .before .before .before .before .pre .1)) (close .ensures) in
+    let h = settles-kept (settles (c .before .before .before .before .before .before .before .before)) (filter .ensures .0) (filter .ensures .1 .1) (settled-none _ _ _ _ _ _ _ (filter .ensures .0 .low) (c .before .before .before .before .before .before .before .before .before .before .before .before .before .before .pre .1)) (close .ensures) refl in
     subst (λ (y : ℕ). Updated (a .p) (a .region) (a .p .entries) y (a .cells .now) (a .remember .now) (a .tables .now) (close .last .1 .0)) (c .before .before .before .before .before .before .before .before .wide .ensures ∙ c .before .before .before .before .before .before .before .before .before .used .ensures) h
 
 pub keep-entries-spec : {M : Type 1} → statement M
