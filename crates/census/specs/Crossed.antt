@@ -27,6 +27,7 @@ use Rattle.promises.specs.Whole.{WholeFor, IsRef}
 use Rattle.remember.specs.Crossing.{other, crossesTo, crossTo}
 use Rattle.promises.specs.Crossings.{gone-cross, alive-cross}
 use Rattle.layout.specs.Objects.{begins-page, begins-true, begins-false, begins?, field-on, slotsOf, slots-sum}
+use Rattle.remember.specs.Entries.{rising-once}
 use Rattle.remember.specs.Crosses.{field-cross, cross-slot, other-yes, other-test}
 use Rattle.promises.specs.Slots.{region-of}
 use Rattle.promises.specs.Reading.{ref-begins, ref-room, no-home, refs-room, used-home, used-owned, used-alive, getD-refs, refs-few, words-closed}
@@ -245,8 +246,8 @@ module _ (s : Sizes) (w : Words) (k : WholeFor s w) (space : Room s (length (w .
 
       same : (i j : ℕ) → i < entriesUsed (w .remember) → j < entriesUsed (w .remember) → slotIn (w .remember) i ≡ slotIn (w .remember) j → Dec (i ≡ j) → Dec (i < j) → i ≡ j
       same i j l m e (yes d) b = d
-      same i j l m e (no d) (yes b) = absurd (k .remember .entries .once i j b m e)
-      same i j l m e (no d) (no b) = absurd (k .remember .entries .once j i (omega arith) l (sym e))
+      same i j l m e (no d) (yes b) = absurd (rising-once (w .remember) (entriesUsed (w .remember)) (k .remember .entries .rising) i j b m e)
+      same i j l m e (no d) (no b) = absurd (rising-once (w .remember) (entriesUsed (w .remember)) (k .remember .entries .rising) j i (omega arith) l (sym e))
 
   entries-sum : entriesCross p (w′ .cells) (w .remember) (w′ .tables) r ≡ sum outside (cellCount s)
   entries-sum =

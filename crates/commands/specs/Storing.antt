@@ -18,11 +18,13 @@ use Rattle.rules.specs.Rules.{Regioned, graph}
 use Rattle.laws.specs.GraphLaws.{Alive}
 use Rattle.laws.specs.RulesLaws.{Sound, sound-after}
 use Rattle.layout.specs.declared.Kind.the-variants.{Reference}
-use Rattle.layout.specs.Places.{Room, entriesUsed, slotIn, rememberWords}
+use Rattle.layout.specs.Places.{Room, entriesUsed, slotIn}
 use Rattle.layout.specs.Cells.{headOf, fieldAt, fieldCount, kindAt, first-reference, field-high, pageOf}
 use Rattle.layout.specs.Objects.{begins-page}
 use Rattle.layout.specs.Words.{Words, words, heapOf, BeginsIn, refCount, Names}
 use Rattle.remember.specs.Crossing.{crossesTo}
+use Rattle.remember.specs.Table.{Table}
+use Rattle.remember.specs.ExactTable.{entries-table}
 use Rattle.promises.specs.Whole.{WholeFor}
 use Rattle.promises.specs.Reading.{used-alive, whole-room}
 use Rattle.promises.specs.Agreed.{heap-stands, back}
@@ -30,7 +32,7 @@ use Rattle.promises.specs.Here.{here-var}
 use Rattle.promises.specs.Questions.{did-asked, did-lacked, did-done, room-crossing}
 use Rattle.promises.specs.Changes.{withObject, withField, renamed-same}
 use Rattle.remember.specs.Remembering.{Remembered, remembered-full}
-use Rattle.promises.specs.FrameReference.{storedWords, Followed, reference-named, reference-only, reference-stands, reference-fits, reference-full}
+use Rattle.promises.specs.FrameReference.{storedWords, Followed, reference-named, reference-unnamed, reference-only, reference-stands, reference-fits, reference-full}
 use Rattle.commands.specs.declared.Decoded.the-variants.{Store}
 use Rattle.commands.specs.Decoding.{commandFor}
 use Rattle.commands.specs.ThreadVariables.{variable}
@@ -47,9 +49,9 @@ pub record Storing (p : Sizes) (c m t : List ℕ) (x f v : ℕ) : Type 0 where
   pub room : Room p (length t)
   pub field : Field Reference c x f
   pub page : pageOf (x - 1) < p .pages
-  pub long : rememberWords p ≤ length m
-  pub used : entriesUsed m ≤ p .entries
+  pub table : Table (p .entries) m
   pub named : 0 < crossesTo p t (x - 1) (getD c (slotOf c x f) 0) → (i : ℕ) × (i < entriesUsed m) × (slotIn m i ≡ slotOf c x f)
+  pub new : crossesTo p t (x - 1) (getD c (slotOf c x f) 0) ≡ 0 → (i : ℕ) → i < entriesUsed m → slotIn m i ≡ slotOf c x f → ⊥
   pub before : Names p (getD c (slotOf c x f) 0)
   pub after : Names p v
 
@@ -71,6 +73,9 @@ module _ (p : Sizes) (c m t : List ℕ) (x f v at was will : ℕ) (e : Seen p c 
 
   pub slot-entry : Storing p c m t x f v → 0 < was → (i : ℕ) × (i < entriesUsed m) × (slotIn m i ≡ at)
   slot-entry s h = let n = s .named (subst (λ (i : ℕ). 0 < i) (e .before) h) in (n .0, n .1, n .2 ∙ sym (e .slot))
+
+  pub slot-new : Storing p c m t x f v → was ≡ 0 → (i : ℕ) → i < entriesUsed m → slotIn m i ≡ at → ⊥
+  slot-new s z i l q = s .new (sym (e .before) ∙ z) i l (q ∙ e .slot)
 
   module _ (m′ : List ℕ) (r : ℕ) (d : Remembered (p .entries) m at was will m′ r) where
     entries-are : Remembered (p .entries) m (slotOf c x f) (crossesTo p t (x - 1) (getD c (slotOf c x f) 0)) (crossesTo p t (x - 1) v) m′ r
@@ -131,15 +136,19 @@ module _ (p : Sizes) (c m t : List ℕ) (k : WholeFor p (words c m t)) (u a : �
         (subst (λ (j : ℕ). 0 < crossesTo p t (x - 1) (getD c j 0)) (sym place) h) in
         (i .0, i .1, i .2 ∙ place)
 
+    slot-unnamed : crossesTo p t (x - 1) (getD c (slotOf c x f) 0) ≡ 0 → (i : ℕ) → i < entriesUsed m → slotIn m i ≡ slotOf c x f → ⊥
+    slot-unnamed h i o q =
+        reference-unnamed s w k y f 0 there inside (subst (λ (j : ℕ). crossesTo p t (x - 1) (getD c j 0) ≡ 0) (sym place) h) i o (q ∙ sym place)
+
     pub storing : length t < 2 ^ 63 → (v : ℕ) → v ≡ variable p t u b → Storing p c m t x f v
     storing fits v ev =
         record {
           room = whole-room s w k fits;
           field = is-field p c m t k u a l n x e Reference f q g z;
           page = begins-page s c t y there;
-          long = k .sized .remember;
-          used = k .remember .entries .room;
+          table = entries-table (k .sized .remember) (k .remember .entries);
           named = slot-named;
+          new = slot-unnamed;
           before = subst (λ (j : ℕ). Names p (getD c j 0)) place (λ z. begins-page _ _ _ _ (k .objects y there .references f inside (omega arith)));
           after = λ z. begins-page _ _ _ _ (is-ref p c m t k u b l o v ev (omega arith));
         }

@@ -112,7 +112,7 @@ module _ {s : Sizes} {t l r : ℕ} {w w₁ : Words} (b : Ending s t l r w w₁) 
           long = omega (arith, b .whole .sized .remember);
           few = e .room;
           low = λ i l. e .named i l .slot;
-          once = e .once;
+          rising = e .rising;
           names = λ i l z. names (slotIn (w .remember) i) (record { entry = i; low = l; region = z; slot = refl });
         }
 

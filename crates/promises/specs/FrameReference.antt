@@ -32,7 +32,7 @@ use Rattle.promises.specs.Reading.{length-refs, getD-refs}
 use Rattle.promises.specs.Crossings.{ref-test, heap-entries}
 use Rattle.promises.specs.Changes.{withObject, withField}
 use Rattle.promises.specs.Areas.{fieldWords, entryWords, Only}
-use Rattle.remember.specs.Entries.{Edited}
+use Rattle.remember.specs.Entries.{Edited, not-named}
 use Rattle.promises.specs.Slots.{cross-stored, cross-elsewhere}
 use Rattle.remember.specs.Crosses.{field-cross}
 use Rattle.remember.specs.Remembering.{Remembered, NoRoom, remembered-exact, remembered-edited}
@@ -82,6 +82,10 @@ module _ (s : Sizes) (w : Words) (k : WholeFor s w) (y f v : ℕ) (u : BeginsIn 
   -- a slot that crosses has its entry
   pub reference-named : 0 < crossedTo s w y f v → (i : ℕ) × (i < entriesUsed (w .remember)) × (slotIn (w .remember) i ≡ at)
   reference-named h = k .remember .every at room (subst (λ (z : ℕ). 0 < z) (sym before) h)
+
+  -- and one that does not has none
+  pub reference-unnamed : crossedTo s w y f v ≡ 0 → (i : ℕ) → i < entriesUsed (w .remember) → slotIn (w .remember) i ≡ at → ⊥
+  reference-unnamed z = not-named (k .remember) at (before ∙ z)
 
   module _ (m′ : List ℕ) (r : ℕ) (d : Followed s w y f v m′ r) where
     edited : Edited (s .entries) (w .remember) m′

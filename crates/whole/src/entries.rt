@@ -1,13 +1,11 @@
-// The entries that are used name crossing slots, each another, with the right region; those that are not used are zero.
+// The entries that are used name crossing slots, by rising position, with the right region; those that are not used are zero.
 ghost use mathlib.Core.Path.{_≡_};
-ghost use Prim.Native.Nat.{ℕ, _+_, _*_, _≤_, _<_};
+ghost use Prim.Native.Nat.{_≤_, _<_};
 ghost use lib.ListN.{length};
 ghost use Rattle.lists.specs.Says.{Says};
-ghost use Rattle.lists.specs.Seen.{bitIn, withBit};
-ghost use Rattle.layout.specs.Places.{Room, cellsWords, rememberWords, mostWords, entriesUsed, slotIn, slotRegionIn, entriesWords};
-ghost use Rattle.remember.specs.Entries.{EachOf, Once, ZeroBetween, RestZero};
+ghost use Rattle.layout.specs.Places.{Room, cellsWords, rememberWords, entriesUsed, slotIn, slotRegionIn, entriesWords};
+ghost use Rattle.remember.specs.Entries.{EachOf, Rising, ZeroBetween, RestZero};
 ghost use Rattle.promises.specs.Whole.{EntryWhole, EntriesWhole};
-ghost use Rattle.whole.specs.Entries.{Rising};
 use remember::crossing::cross_to;
 use rules::Sizes;
 
@@ -85,7 +83,7 @@ pub fn rest_zero(p: Sizes, remember: &[u32], used: usize) -> bool
     zero_between(entries, remember, i, entries)
 }
 
-// Whether the slots stand in rising order.
+// Whether the slots rise: each is above the one before it.
 pub fn rising(p: Sizes, remember: &[u32], used: usize) -> bool
     requires { ⌜ rememberWords p ≤ length (now remember) ⌝ }
     requires { ⌜ (used ≡ entriesUsed (now remember)) × (used ≤ p .entries) ⌝ }
@@ -103,56 +101,6 @@ pub fn rising(p: Sizes, remember: &[u32], used: usize) -> bool
     true
 }
 
-// A slot's bit in a table of those seen, 32 to a word.
-fn seen_bit(seen: &[u32], at: usize) -> u32
-    requires { ⌜ at < 32 * length (now seen) ⌝ }
-    ensures { λ r. ⌜ r ≡ bitIn (now (seen .entry)) at ⌝ }
-{
-    layout::bits::bit_at(seen[at / 32], at % 32)
-}
-
-// The slot's bit is set that was not.
-fn see(seen: &mut [u32], at: usize)
-    requires { ⌜ (at < 32 * length (now seen)) × (bitIn (now seen) at ≡ 0) ⌝ }
-    ensures { λ _. ⌜ now (seen .exit) ≡ withBit (now (seen .entry)) at ⌝ }
-{
-    seen[at / 32] = layout::bits::with_bit(seen[at / 32], at % 32);
-}
-
-// Whether no slot is seen twice, by a table with a bit for each.
-pub fn seen_once(p: Sizes, remember: &[u32], used: usize) -> bool
-    requires { ⌜ rememberWords p ≤ length (now remember) ⌝ }
-    requires { ⌜ (used ≡ entriesUsed (now remember)) × (used ≤ p .entries) ⌝ }
-    requires { ⌜ ((i : ℕ) → i < used → slotIn (now remember) i < mostWords) ⌝ }
-    ensures { λ r. ⌜ Says r (Once (now (remember .entry)) (entriesUsed (now (remember .entry)))) ⌝ }
-{
-    let entries = p.entries;
-    let mut seen = [0u32; 8192];
-    let mut i = 0;
-    while i < used {
-        let at = layout::wide(layout::remember::slot(entries, remember, i));
-        if seen_bit(&seen, at) != 0 {
-            return false;
-        }
-        see(&mut seen, at);
-        i += 1;
-    }
-    true
-}
-
-// Entries in rising order are each another at once; only another order pays for the table.
-pub fn once(p: Sizes, remember: &[u32], used: usize) -> bool
-    requires { ⌜ rememberWords p ≤ length (now remember) ⌝ }
-    requires { ⌜ (used ≡ entriesUsed (now remember)) × (used ≤ p .entries) ⌝ }
-    requires { ⌜ ((i : ℕ) → i < used → slotIn (now remember) i < mostWords) ⌝ }
-    ensures { λ r. ⌜ Says r (Once (now (remember .entry)) (entriesUsed (now (remember .entry)))) ⌝ }
-{
-    if rising(p, remember, used) {
-        return true;
-    }
-    seen_once(p, remember, used)
-}
-
 pub fn entries_whole(p: Sizes, cells: &[u32], remember: &[u32], tables: &[u32]) -> bool
     requires { ⌜ Room p (length (now tables)) ⌝ }
     requires { ⌜ cellsWords p ≤ length (now cells) ⌝ }
@@ -166,7 +114,7 @@ pub fn entries_whole(p: Sizes, cells: &[u32], remember: &[u32], tables: &[u32]) 
     if !named_whole(p, cells, remember, tables, used) {
         return false;
     }
-    if !once(p, remember, used) {
+    if !rising(p, remember, used) {
         return false;
     }
     if !rest_zero(p, remember, used) {

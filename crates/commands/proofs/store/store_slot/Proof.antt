@@ -6,7 +6,7 @@ use Rattle.layout.specs.Words.{Names}
 use Rattle.layout.specs.Places.{ownerOf}
 use Rattle.layout.specs.Cells.{pageOf}
 use Rattle.remember.specs.Crossing.{crossesFrom}
-use Rattle.commands.specs.Storing.{Seen, slot-few, slot-entry, stored-full, stored-done}
+use Rattle.commands.specs.Storing.{Seen, slot-few, slot-entry, slot-new, stored-full, stored-done}
 use borrow.Author.Needs.{needs}
 use Rattle.commands.proofs.store.store_slot.Statement.{statement}
 use Rattle.commands.proofs.store.store_slot.Tie as tie
@@ -57,14 +57,13 @@ remember-slot-requires c κs =
     let args = c .before .before .before .before .before .before .before .before .before .before .before .before .before .args in
     let pre = c .before .before .before .before .before .before .before .before .before .before .before .before .before .pre in
     let slot = seen (c .before) in (
-      pre .long,
+      pre .table,
       (
+        (omega (arith, pre .room .entries-high), slot-few (args .p) (args .cells .now) (args .remember .now) (args .tables .now) (args .x) (args .f) (args .v) _ _ _ slot pre),
         (
-          omega (arith, pre .room .entries-high),
-          pre .used,
-          slot-few (args .p) (args .cells .now) (args .remember .now) (args .tables .now) (args .x) (args .f) (args .v) _ _ _ slot pre,
+          slot-entry (args .p) (args .cells .now) (args .remember .now) (args .tables .now) (args .x) (args .f) (args .v) _ _ _ slot pre,
+          slot-new (args .p) (args .cells .now) (args .remember .now) (args .tables .now) (args .x) (args .f) (args .v) _ _ _ slot pre,
         ),
-        slot-entry (args .p) (args .cells .now) (args .remember .now) (args .tables .now) (args .x) (args .f) (args .v) _ _ _ slot pre,
       ),
     )
 

@@ -24,13 +24,12 @@ named-whole-requires c κs =
 returns-2 : tie.Need-returns-2
 returns-2 c = says-no (λ h. said-no _ (c .before .named-whole .ensures) (not-true _ (c .if2 .taken)) (h .named))
 
-once-requires : tie.Need-once-requires
-once-requires c κs =
-    let pre = c .before .before .before .before .before .before .before .before .before .pre in
-    (pre .1 .1, ((c .before .before .before .before .wide .ensures ∙ c .before .before .before .before .before .used .ensures, c .before .before .if1 .left), λ i l. omega (arith, pre .0 .few, (c .before .named-whole .ensures .0 (not-false _ (c .if2 .left))) i (omega arith) .slot)))
+rising-requires : tie.Need-rising-requires
+rising-requires c κs =
+    (c .before .before .before .before .before .before .before .before .before .pre .1 .1, (c .before .before .before .before .wide .ensures ∙ c .before .before .before .before .before .used .ensures, c .before .before .if1 .left))
 
 returns-3 : tie.Need-returns-3
-returns-3 c = says-no (λ h. said-no _ (c .before .once .ensures) (not-true _ (c .if3 .taken)) (h .once))
+returns-3 c = says-no (λ h. said-no _ (c .before .rising .ensures) (not-true _ (c .if3 .taken)) (h .rising))
 
 rest-zero-requires : tie.Need-rest-zero-requires
 rest-zero-requires c κs = (c .before .before .before .before .before .before .before .before .before .before .before .pre .1 .1, (c .before .before .before .before .before .before .wide .ensures ∙ c .before .before .before .before .before .before .before .used .ensures, c .before .before .before .before .if1 .left))
@@ -39,7 +38,7 @@ returns-4 : tie.Need-returns-4
 returns-4 c = says-no (λ h. said-no _ (c .before .rest-zero .ensures) (not-true _ (c .if4 .taken)) (h .rest))
 
 returns-5 : tie.Need-returns-5
-returns-5 c = says-yes (record { room = omega arith; named = c .before .before .before .before .before .named-whole .ensures .0 (not-false _ (c .before .before .before .before .if2 .left)); once = c .before .before .before .once .ensures .0 (not-false _ (c .before .before .if3 .left)); rest = c .before .rest-zero .ensures .0 (not-false _ (c .if4 .left)) })
+returns-5 c = says-yes (record { room = omega arith; named = c .before .before .before .before .before .named-whole .ensures .0 (not-false _ (c .before .before .before .before .if2 .left)); rising = c .before .before .before .rising .ensures .0 (not-false _ (c .before .before .if3 .left)); rest = c .before .rest-zero .ensures .0 (not-false _ (c .if4 .left)) })
 
 pub entries-whole-spec : {M : Type 1} → statement M
 entries-whole-spec =
@@ -50,7 +49,7 @@ entries-whole-spec =
     returns
     named-whole-requires
     returns-2
-    once-requires
+    rising-requires
     returns-3
     rest-zero-requires
     returns-4

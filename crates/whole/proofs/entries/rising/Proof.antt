@@ -4,8 +4,8 @@ use borrow.Author.Needs.{needs}
 use Rattle.lists.specs.Says.{says-yes, says-no}
 use Prim.Native.Nat.{_-_, _≤_}
 use denote.Ref.{now}
-use Rattle.layout.specs.Places.{entriesUsed}
-use Rattle.whole.specs.Entries.{Rising, rising-more, rising-at}
+use Rattle.remember.specs.Entries.{Rising}
+use Rattle.whole.specs.Entries.{rising-more}
 use Rattle.whole.proofs.entries.rising.Statement.{statement}
 use Rattle.whole.proofs.entries.rising.Tie as tie
 
@@ -18,7 +18,7 @@ abbrev μ-loop : tie.MeasureT-loop
     used - i
 
 loop-holds : tie.Need-loop-holds Inv-loop μ-loop
-loop-holds c = (omega arith, λ k l. absurd (let z : ⊥ = omega arith in z))
+loop-holds c = (omega arith, λ i j l k. absurd (let z : ⊥ = omega arith in z))
 
 sub-slot : tie.Need-sub-slot Inv-loop μ-loop
 sub-slot c = omega arith
@@ -31,9 +31,8 @@ slot-requires-2 c κs = search needs
 
 returns : tie.Need-returns Inv-loop μ-loop
 returns c =
-    let args = c .before .before .before .before .before .before .args in
-    let loop = c .before .before .before .before .loop in
-    says-no (λ h. let z : ⊥ = omega (arith, rising-at (now (args .remember)) (entriesUsed (now (args .remember))) (loop .i) h (loop .inv .0) (omega arith)) in z)
+    let i = c .before .before .before .before .loop .i in
+    says-no (λ h. let z : ⊥ = omega (arith, h (i - 1) i (omega arith) (omega arith)) in z)
 
 add-i : tie.Need-add-i Inv-loop μ-loop
 add-i c = omega arith
@@ -47,7 +46,7 @@ loop-again c =
     (omega arith, rising-more (now (c .before .before .before .before .before .before .args .remember)) (loop .i) (loop .inv .1) (loop .inv .0) (c .before .before .slot .ensures) (c .before .slot2 .ensures) (c .if1 .left))
 
 returns-2 : tie.Need-returns-2 Inv-loop μ-loop
-returns-2 c = says-yes (λ k l. c .before .loop .inv .1 k (omega arith))
+returns-2 c = says-yes (λ i j l k. c .before .loop .inv .1 i j l (omega arith))
 
 pub rising-spec : {M : Type 1} → statement M
 rising-spec =
