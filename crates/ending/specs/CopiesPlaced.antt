@@ -6,35 +6,39 @@ use mathlib.Core.Bool.{Bool, cond}
 use Prim.Native.Nat.{ℕ, suc, _+_, _-_, _≤_, _<_}
 use native.Mathlib.Decide.{ℕ-discrete}
 use native.Mathlib.Omega.{arith}
+use native.Mathlib.Numerals.{add-one}
 use lib.Dec.{eqb}
 use borrow.Author.Tests.{eq-eqb, ne-eqb}
 use Rattle.lists.specs.Listed.{listed-same, map-listed}
 use Rattle.rules.specs.declared.Sizes.{Sizes}
-use Rattle.rules.specs.Regions.{regionAt, only}
+use Rattle.rules.specs.Regions.{regionAt, regions, only}
 use Rattle.rules.specs.Graph.{target}
-use Rattle.rules.specs.Pages.{Page, Placing, freePage, released, newCell}
+use Rattle.rules.specs.Pages.{Page, Pages, Placing, freePage, noneMoved, placeAll, released, newCell}
 use Rattle.layout.specs.Places.{ownerOf, usedOf}
 use Rattle.layout.specs.Cells.{workOf, pageOf, count-page}
 use Rattle.layout.specs.Marks.{marked, mark?}
-use Rattle.layout.specs.Objects.{begins-page}
+use Rattle.layout.specs.Objects.{begins-page, begins-low}
 use Rattle.layout.specs.Words.{Words, words, cellCount, homeIn, graphOf, pageIn, pagesAt, pagesIn}
-use Rattle.promises.specs.Reading.{used-home, alive-used}
+use Rattle.promises.specs.Reading.{used-home, alive-used, no-home}
 use Rattle.promises.specs.Ends.{partOf, Outside, Survivor, Lives, lives-how}
 use Rattle.release.specs.Release.{Blank, Alike}
 use Rattle.ended.specs.Evacuated.{goalIn, copiesIn, Repacked}
 use Rattle.mark.specs.MarkedWords.{owner-same, used-same}
+use Rattle.copy.specs.Copying.{Plan, Copy}
+use Rattle.copy.specs.Placement.{Goals, copy-pages, copy-cells, copy-still}
+use Rattle.ending.specs.Copied.{HasMoved, placed, placed-still, placed-moved, outside-idle, on}
 use Rattle.ending.specs.Ending.{Ending, room-of}
 
 -- ---- where the object in each cell goes, by marks and word 1
 
 module _ {s : Sizes} {t l r : ℕ} {w w₁ : Words} (b : Ending s t l r w w₁) (pos : 0 < r) where
-  pub goal-marked : (c : ℕ) → pageOf c < s .pages → marked s (w₁ .tables) c ≡ 1 → goalIn s w r c ≡ workOf (w₁ .cells) c
+  goal-marked : (c : ℕ) → pageOf c < s .pages → marked s (w₁ .tables) c ≡ 1 → goalIn s w r c ≡ workOf (w₁ .cells) c
   unfolding goalIn
   goal-marked c low on =
       let o = b .marks .only c low on in
       ap (λ (x : Bool). cond x (target s (graphOf s w) r c) 0) (eq-eqb (homeIn s w c) r (used-home s w c (o .0) ∙ o .1)) ∙ sym (b .marks .goes c (o .0) (o .1))
 
-  pub goal-unmarked : (c : ℕ) → marked s (w₁ .tables) c ≡ 0 → goalIn s w r c ≡ 0
+  goal-unmarked : (c : ℕ) → marked s (w₁ .tables) c ≡ 0 → goalIn s w r c ≡ 0
   unfolding goalIn
   goal-unmarked c off = go (ℕ-discrete (homeIn s w c) r) (ℕ-discrete (target s (graphOf s w) r c) 0)
     where
@@ -46,11 +50,47 @@ module _ {s : Sizes} {t l r : ℕ} {w w₁ : Words} (b : Ending s t l r w w₁) 
           absurd (let z : ⊥ = omega (arith, b .marks .survives c u (sym (used-home s w c u) ∙ e) (omega arith)) in z)
 
   -- the pages are not marked
-  pub pages-before : pagesAt s (w₁ .tables) ≡ pagesIn s w
+  pages-before : pagesAt s (w₁ .tables) ≡ pagesIn s w
   unfolding pagesAt
   pages-before =
       listed-same (pageIn s (w₁ .tables)) (pageIn s (w .tables)) (s .pages)
       (λ i m. ap₂ (λ (x y : ℕ). record { owner = x; used = y }) (owner-same (b .marks) (room-of b) i m) (used-same (b .marks) (room-of b) i m))
+
+  -- an object elsewhere goes nowhere, nor does what is past the cells
+  goal-away : (c : ℕ) → (homeIn s w c ≡ r → ⊥) → goalIn s w r c ≡ 0
+  unfolding goalIn
+  goal-away c n = ap (λ (x : Bool). cond x (target s (graphOf s w) r c) 0) (ne-eqb (homeIn s w c) r n)
+
+  goals : Goals s (goalIn s w r) (w₁ .cells) (w₁ .tables)
+  goals =
+      record {
+        goes = goal-marked;
+        stays = goal-unmarked;
+        past = λ c h. goal-away c (λ (e : homeIn s w c ≡ r). omega (arith, no-home s w c (λ u. omega (arith, begins-low s (w .cells) (w .tables) c u))));
+      }
+
+  -- ---- the copy
+
+  module _ (p : Plan s l (regionAt s t) (w₁ .cells) (w₁ .tables)) {W T : List ℕ} (c : Copy s l (regionAt s t) l (w₁ .cells) (w₁ .tables) W T) where
+    same-placing : placeAll (goalIn s w r) (cellCount s) (regions s) (noneMoved (pagesAt s (w₁ .tables))) ≡ copiesIn s w r
+    same-placing = ap (λ (ps : Pages). placeAll (goalIn s w r) (cellCount s) (regions s) (noneMoved ps)) pages-before
+
+    pub copied-pages : pagesAt s T ≡ copiesIn s w r .pages
+    copied-pages = copy-pages p c (goalIn s w r) goals ∙ ap (λ (x : Placing). x .pages) same-placing
+
+    pub copied-cells : HasMoved s w w₁ (partOf s w r) W T → (x : ℕ) → Lives s w (partOf s w r) x → placed W x ≡ newCell (copiesIn s w r .moves) x
+    copied-cells h x q = ⊎-elim outside survivor (lives-how q) ∙ ap (λ (z : Placing). newCell (z .moves) x) same-placing
+      where
+        to : ℕ
+        to = newCell (placeAll (goalIn s w r) (cellCount s) (regions s) (noneMoved (pagesAt s (w₁ .tables))) .moves) x
+
+        outside : Outside s w (partOf s w r) x → placed W x ≡ to
+        outside o = placed-still W x (outside-idle h x o) ∙ sym (copy-still p c (goalIn s w r) goals x (goal-away x (λ e. o .out (sym (used-home s w x (o .used)) ∙ e))))
+
+        survivor : Survivor s w (partOf s w r) x → placed W x ≡ to
+        survivor v =
+            let e = copy-cells p c (goalIn s w r) goals x (begins-page s (w .cells) (w .tables) x (v .used)) (on h x v) in
+            placed-moved W x to (e ∙ add-one to)
 
 -- ---- the release
 

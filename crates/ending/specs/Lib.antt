@@ -15,5 +15,6 @@ pub mod Ending
 pub mod PagesEnough
 pub mod RoomAsked
 pub mod Region
+pub mod CopiesPlaced
 pub mod Stages
 pub mod NoSurvivors

@@ -9,7 +9,8 @@ use native.Mathlib.Omega.{arith}
 use lib.ListN.{length, getD}
 use Rattle.lists.specs.Part.{Off, Lists, lists-like}
 use Rattle.rules.specs.declared.Sizes.{Sizes}
-use Rattle.rules.specs.Regions.{regionAt, regions, threadOf, levelOf}
+use Rattle.rules.specs.Regions.{regionAt, regions, threadOf, levelOf, only}
+use Rattle.rules.specs.Pages.{released}
 use Rattle.rules.specs.Graph.{freedBy}
 use Rattle.rules.specs.Rules.{counted}
 use Rattle.laws.specs.RegionLaws.{region-high, region-bounds, numbers-rise, region-number}
@@ -21,6 +22,7 @@ use Rattle.remember.specs.Crossing.{crossesFrom}
 use Rattle.remember.specs.Staying.{Entries}
 use Rattle.promises.specs.Whole.{Open}
 use Rattle.promises.specs.NewPages.{level-open}
+use Rattle.promises.specs.TakenPage.{pages-same}
 use Rattle.promises.specs.OwnedPages.{counted-objects}
 use Rattle.promises.specs.Reading.{refs-few}
 use Rattle.promises.specs.Ends.{partOf, Lives}
@@ -48,7 +50,8 @@ use Rattle.ending.specs.Crossing.{Told, told-both}
 use Rattle.ending.specs.Space.{space-enough}
 use Rattle.ending.specs.Remembering.{stays-told}
 use Rattle.ending.specs.Region.{Held, of-region, holding, page-was, renews}
-use Rattle.ending.specs.Finish.{owner₂, room₂, regular₂, word₂, GaveBack, evacuated, vacated}
+use Rattle.ending.specs.CopiesPlaced.{copied-pages, copied-cells, pages-released}
+use Rattle.ending.specs.Finish.{owner₂, used₂, room₂, regular₂, word₂, GaveBack, evacuated, vacated}
 use Rattle.ending.specs.Ending.{Ending, HasEnded, room-of, level-low, region-deep}
 use Rattle.ending.specs.PagesEnough.{survivor-level}
 
@@ -252,4 +255,10 @@ module _ {s : Sizes} {t l r : ℕ} {w w₁ : Words} (b : Ending s t l r w w₁) 
               vacated = vacated (rewritten R) (entries-told R) u Y gave-back;
               lowered = lowered;
               counted = counted-end M′;
+              repacked = record {
+                cells = copied-cells b pos p c moved;
+                pages =
+                    pages-released s r T₂ T′ (λ page m e. ended-blank a (bounds .0) (bounds .1) (b .thread) Z page m e) (λ page m e. ended-alike a (bounds .0) (bounds .1) (b .thread) Z page m e)
+                    ∙ ap (released (only r)) (pages-same s T T₂ (λ page m. record { owner = owner₂ moved Y page m; used = used₂ moved Y page m }) ∙ copied-pages b pos p c);
+              };
             }
