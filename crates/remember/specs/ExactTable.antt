@@ -8,8 +8,8 @@ use lib.ListN.{length, getD, take}
 use Rattle.lists.specs.Members.{In}
 use Rattle.layout.specs.Places.{entriesUsed, slotIn, slotRegionIn, entriesWords}
 use Rattle.remember.specs.Entries.{EntryOf, EntriesOf, Exact, exact-everywhere}
-use Rattle.remember.specs.Table.{Entry, entry, slot, region, unused, nthSlot, nthRegion, entryIn, entriesTo, entriesIn, tableOf, namedBy, Table}
-use Rattle.remember.specs.TableWords.{Holds, to-long, to-at, to-ascending, words-hold, holds-rest, holds-rising, table-is}
+use Rattle.remember.specs.Table.{Entry, entry, slot, region, unused, entryIn, entriesTo, entriesIn, tableOf, namedBy, Table}
+use Rattle.remember.specs.TableWords.{HoldsEntries, to-long, to-at, to-ascending, words-hold, holds-rest, holds-rising, table-is}
 use Rattle.remember.specs.Named.{named-rising, named-right, named-all, named-is}
 
 -- ---- members and places
@@ -51,11 +51,11 @@ module _ {f : ℕ → ℕ} {n N : ℕ} {m : List ℕ} where
       let k = x .entries .named (r .0) (r .1) in
       subst (λ (y : Entry). In y (entriesIn N m)) (ap₂ entry (r .2) (sym (k .right) ∙ ap f (r .2))) (to-member N m (entriesUsed m) (r .0) (r .1)))
 
-  pub exact-holds : Exact f n N m → Holds N (namedBy f n) m
-  exact-holds x = subst (λ (es : List Entry). Holds N es m) (exact-named x) (words-hold N m (x .entries .room) (x .entries .rest))
+  pub exact-holds : Exact f n N m → HoldsEntries N (namedBy f n) m
+  exact-holds x = subst (λ (es : List Entry). HoldsEntries N es m) (exact-named x) (words-hold N m (x .entries .room) (x .entries .rest))
 
   -- and the other way round
-  pub holds-exact : Holds N (namedBy f n) m → Exact f n N m
+  pub holds-exact : HoldsEntries N (namedBy f n) m → Exact f n N m
   holds-exact h =
       record {
         entries = record { room = omega (arith, h .used, h .room); named = named; rising = holds-rising h (named-rising f n); rest = holds-rest h };
@@ -78,10 +78,10 @@ module _ {f : ℕ → ℕ} {n N : ℕ} {m : List ℕ} where
 
 -- tables exact for functions that agree have the same entries used, slots and regions
 module _ (f f′ : ℕ → ℕ) (n N : ℕ) (m m′ : List ℕ) (same : (q : ℕ) → q < n → f′ q ≡ f q) (x : Exact f n N m) (y : Exact f′ n N m′) where
-  h : Holds N (namedBy f n) m
+  h : HoldsEntries N (namedBy f n) m
   h = exact-holds x
 
-  h′ : Holds N (namedBy f n) m′
+  h′ : HoldsEntries N (namedBy f n) m′
   h′ = exact-holds (exact-everywhere f′ f n N m′ (λ q l. sym (same q l)) y)
 
   pub exact-used : entriesUsed m ≡ entriesUsed m′

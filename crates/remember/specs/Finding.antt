@@ -1,10 +1,9 @@
 -- Halving: the place lies between low and high.
-use Prim.Native.Nat.{ℕ, suc, _+_, _-_, _/_, _≤_, _<_}
+use Prim.Native.Nat.{ℕ, _+_, _-_, _/_, _≤_, _<_}
 use mathlib.Core.List.{List}
-use mathlib.Core.Path.{_≡_, ap, _∙_}
+use mathlib.Core.Path.{_≡_, ap}
 use native.Mathlib.Omega.{arith}
 use native.Mathlib.Decide.{decLt}
-use lib.ListN.{length}
 use Rattle.layout.specs.Places.{entriesUsed, slotIn}
 use Rattle.remember.specs.Table.{slot, entriesIn, placeOf, Table}
 use Rattle.remember.specs.TableWords.{to-long, to-at}

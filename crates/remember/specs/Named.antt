@@ -10,16 +10,16 @@ use native.Mathlib.Decide.{decLt, ℕ-discrete}
 use lib.Dec.{eqb, ltb}
 use borrow.Author.Tests.{lt-ltb, le-ltb, eq-eqb, ne-eqb}
 use Rattle.lists.specs.Members.{In}
-use Rattle.remember.specs.Table.{Entry, entry, slot, region, Ascending, with, without, namedFrom, namedBy}
-use Rattle.remember.specs.BySlot.{From, from-less, from-rising, rising-from, from-member, rising-same, with-rising, without-rising}
+use Rattle.remember.specs.Table.{Entry, entry, slot, region, Ascending, withSlot, withoutSlot, namedFrom, namedBy}
+use Rattle.remember.specs.BySlot.{RisesFrom, from-less, from-rising, rising-from, from-member, rising-same, with-rising, without-rising}
 
 module _ (f : ℕ → ℕ) where
-  named-from : (k n : ℕ) → From k (namedFrom f k n)
+  named-from : (k n : ℕ) → RisesFrom k (namedFrom f k n)
   unfolding namedFrom
   named-from k zero = tt
   named-from k (suc n) = go (eqb (f k) 0) (named-from (suc k) n)
     where
-      go : (b : Bool) → From (suc k) (namedFrom f (suc k) n) → From k (cond b (namedFrom f (suc k) n) (entry k (f k) ∷ namedFrom f (suc k) n))
+      go : (b : Bool) → RisesFrom (suc k) (namedFrom f (suc k) n) → RisesFrom k (cond b (namedFrom f (suc k) n) (entry k (f k) ∷ namedFrom f (suc k) n))
       go true h = from-less (suc k) k (namedFrom f (suc k) n) (omega arith) h
       go false h = (omega arith, h)
 
@@ -71,29 +71,29 @@ named-is f n es r right all =
 -- ---- what is in the edited entries
 
 module _ (s g : ℕ) (e : Entry) (es : List Entry) where
-  with-on : e .slot < s → with s g (e ∷ es) ≡ e ∷ with s g es
-  unfolding with
+  with-on : e .slot < s → withSlot s g (e ∷ es) ≡ e ∷ withSlot s g es
+  unfolding withSlot
   with-on l = rw (lt-ltb (e .slot) s l)
 
-  with-own : e .slot ≡ s → with s g (e ∷ es) ≡ entry s g ∷ es
-  unfolding with
+  with-own : e .slot ≡ s → withSlot s g (e ∷ es) ≡ entry s g ∷ es
+  unfolding withSlot
   with-own q = rw (le-ltb (e .slot) s (omega arith), eq-eqb (e .slot) s q)
 
-  with-front : s < e .slot → with s g (e ∷ es) ≡ entry s g ∷ e ∷ es
-  unfolding with
+  with-front : s < e .slot → withSlot s g (e ∷ es) ≡ entry s g ∷ e ∷ es
+  unfolding withSlot
   with-front l = rw (le-ltb (e .slot) s (omega arith), ne-eqb (e .slot) s (λ (q : e .slot ≡ s). omega arith))
 
 module _ (s : ℕ) (e : Entry) (es : List Entry) where
-  without-on : e .slot < s → without s (e ∷ es) ≡ e ∷ without s es
-  unfolding without
+  without-on : e .slot < s → withoutSlot s (e ∷ es) ≡ e ∷ withoutSlot s es
+  unfolding withoutSlot
   without-on l = rw (lt-ltb (e .slot) s l)
 
-  without-own : e .slot ≡ s → without s (e ∷ es) ≡ es
-  unfolding without
+  without-own : e .slot ≡ s → withoutSlot s (e ∷ es) ≡ es
+  unfolding withoutSlot
   without-own q = rw (le-ltb (e .slot) s (omega arith), eq-eqb (e .slot) s q)
 
-  without-front : s < e .slot → without s (e ∷ es) ≡ e ∷ es
-  unfolding without
+  without-front : s < e .slot → withoutSlot s (e ∷ es) ≡ e ∷ es
+  unfolding withoutSlot
   without-front l = rw (le-ltb (e .slot) s (omega arith), ne-eqb (e .slot) s (λ (q : e .slot ≡ s). omega arith))
 
 -- how the first slot stands to s
@@ -114,15 +114,15 @@ side x s = go (decLt x s) (decLt s x)
 abbrev pub Other : ℕ → Entry → List Entry → Type 0
 Other s a es = In a es × (a .slot ≡ s → ⊥)
 
-pub with-in : (s g lo : ℕ) (es : List Entry) → From lo es → (a : Entry) → In a (with s g es) → (a ≡ entry s g) ⊎ Other s a es
-unfolding with
+pub with-in : (s g lo : ℕ) (es : List Entry) → RisesFrom lo es → (a : Entry) → In a (withSlot s g es) → (a ≡ entry s g) ⊎ Other s a es
+unfolding withSlot
 with-in s g lo [] f a (inl q) = inl q
 with-in s g lo (e ∷ es) f a h = go (side (e .slot) s) (with-in s g (suc (e .slot)) es (f .1) a)
   where
-    go : Side (e .slot) s → (In a (with s g es) → (a ≡ entry s g) ⊎ Other s a es) → (a ≡ entry s g) ⊎ Other s a (e ∷ es)
+    go : Side (e .slot) s → (In a (withSlot s g es) → (a ≡ entry s g) ⊎ Other s a es) → (a ≡ entry s g) ⊎ Other s a (e ∷ es)
     go (below l) rest = pick (subst (In a) (with-on s g e es l) h)
       where
-        pick : In a (e ∷ with s g es) → (a ≡ entry s g) ⊎ Other s a (e ∷ es)
+        pick : In a (e ∷ withSlot s g es) → (a ≡ entry s g) ⊎ Other s a (e ∷ es)
         pick (inl q) = inr (inl q, λ z. omega (arith, ap slot q))
         pick (inr i) = ⊎-elim (λ q. inl q) (λ o. inr (inr (o .0), o .1)) (rest i)
     go (own q) rest = pick (subst (In a) (with-own s g e es q) h)
@@ -136,36 +136,36 @@ with-in s g lo (e ∷ es) f a h = go (side (e .slot) s) (with-in s g (suc (e .sl
         pick (inl q) = inl q
         pick (inr i) = inr (i, λ z. omega (arith, from-member (e .slot) (e ∷ es) (omega arith, f .1) a i))
 
-pub in-with : (s g : ℕ) (es : List Entry) (a : Entry) → (a ≡ entry s g) ⊎ Other s a es → In a (with s g es)
-unfolding with
+pub in-with : (s g : ℕ) (es : List Entry) (a : Entry) → (a ≡ entry s g) ⊎ Other s a es → In a (withSlot s g es)
+unfolding withSlot
 in-with s g [] a (inl q) = inl q
 in-with s g [] a (inr o) = absurd (o .0)
 in-with s g (e ∷ es) a h = go (side (e .slot) s) h (in-with s g es a)
   where
-    go : Side (e .slot) s → (a ≡ entry s g) ⊎ Other s a (e ∷ es) → ((a ≡ entry s g) ⊎ Other s a es → In a (with s g es)) → In a (with s g (e ∷ es))
+    go : Side (e .slot) s → (a ≡ entry s g) ⊎ Other s a (e ∷ es) → ((a ≡ entry s g) ⊎ Other s a es → In a (withSlot s g es)) → In a (withSlot s g (e ∷ es))
     go (below l) h rest = subst (In a) (sym (with-on s g e es l)) (⊎-elim (λ q. inr (rest (inl q))) (λ o. ⊎-elim (λ q. inl q) (λ i. inr (rest (inr (i, o .1)))) (o .0)) h)
     go (own k) h rest = subst (In a) (sym (with-own s g e es k)) (⊎-elim (λ q. inl q) (λ o. ⊎-elim (λ q. absurd (o .1 (ap slot q ∙ k))) (λ i. inr i) (o .0)) h)
     go (above l) h rest = subst (In a) (sym (with-front s g e es l)) (⊎-elim (λ q. inl q) (λ o. inr (o .0)) h)
 
-pub without-in : (s lo : ℕ) (es : List Entry) → From lo es → (a : Entry) → In a (without s es) → Other s a es
-unfolding without
+pub without-in : (s lo : ℕ) (es : List Entry) → RisesFrom lo es → (a : Entry) → In a (withoutSlot s es) → Other s a es
+unfolding withoutSlot
 without-in s lo (e ∷ es) f a h = go (side (e .slot) s) (without-in s (suc (e .slot)) es (f .1) a)
   where
-    go : Side (e .slot) s → (In a (without s es) → Other s a es) → Other s a (e ∷ es)
+    go : Side (e .slot) s → (In a (withoutSlot s es) → Other s a es) → Other s a (e ∷ es)
     go (below l) rest = pick (subst (In a) (without-on s e es l) h)
       where
-        pick : In a (e ∷ without s es) → Other s a (e ∷ es)
+        pick : In a (e ∷ withoutSlot s es) → Other s a (e ∷ es)
         pick (inl q) = (inl q, λ z. omega (arith, ap slot q))
         pick (inr i) = (inr (rest i .0), rest i .1)
     go (own q) rest = let i = subst (In a) (without-own s e es q) h in (inr i, λ z. omega (arith, from-member (suc (e .slot)) es (f .1) a i))
     go (above l) rest = let i = subst (In a) (without-front s e es l) h in (i, λ z. omega (arith, from-member (e .slot) (e ∷ es) (omega arith, f .1) a i))
 
-pub in-without : (s : ℕ) (es : List Entry) (a : Entry) → Other s a es → In a (without s es)
-unfolding without
+pub in-without : (s : ℕ) (es : List Entry) (a : Entry) → Other s a es → In a (withoutSlot s es)
+unfolding withoutSlot
 in-without s [] a o = absurd (o .0)
 in-without s (e ∷ es) a o = go (side (e .slot) s) (in-without s es a)
   where
-    go : Side (e .slot) s → (Other s a es → In a (without s es)) → In a (without s (e ∷ es))
+    go : Side (e .slot) s → (Other s a es → In a (withoutSlot s es)) → In a (withoutSlot s (e ∷ es))
     go (below l) rest = subst (In a) (sym (without-on s e es l)) (⊎-elim (λ q. inl q) (λ i. inr (rest (i, o .1))) (o .0))
     go (own k) rest = subst (In a) (sym (without-own s e es k)) (⊎-elim (λ q. absurd (o .1 (ap slot q ∙ k))) (λ i. i) (o .0))
     go (above l) rest = subst (In a) (sym (without-front s e es l)) (o .0)
@@ -181,9 +181,9 @@ module _ (f f′ : ℕ → ℕ) (n s : ℕ) (same : (q : ℕ) → (q ≡ s → �
       let e = same q d in
       (subst (λ (x : ℕ). In (entry q x) (namedBy f n)) (sym e) (named-all f 0 n q (omega arith) (omega arith) (omega arith)), d)
 
-  pub with-named : {g : ℕ} → s < n → 0 < g → f′ s ≡ g → with s g (namedBy f n) ≡ namedBy f′ n
+  pub with-named : {g : ℕ} → s < n → 0 < g → f′ s ≡ g → withSlot s g (namedBy f n) ≡ namedBy f′ n
   with-named {g} l p e =
-      named-is f′ n (with s g (namedBy f n)) (with-rising s g (namedBy f n) (named-rising f n))
+      named-is f′ n (withSlot s g (namedBy f n)) (with-rising s g (namedBy f n) (named-rising f n))
       (λ a i. ⊎-elim (λ q. let z = ap slot q in (omega arith, omega (arith, ap region q), ap region q ∙ sym e ∙ ap f′ (sym z))) (λ o. other-right a o) (with-in s g 0 (namedBy f n) (rising-from 0 (namedBy f n) (named-rising f n) (λ h. omega arith)) a i))
       (λ q k h. in-with s g (namedBy f n) (entry q (f′ q)) (go q k h (ℕ-discrete q s)))
     where
@@ -191,8 +191,8 @@ module _ (f f′ : ℕ → ℕ) (n s : ℕ) (same : (q : ℕ) → (q ≡ s → �
       go q k h (yes z) = inl (ap₂ entry z (ap f′ z ∙ e))
       go q k h (no z) = inr (other-all q k h z)
 
-  pub without-named : f′ s ≡ 0 → without s (namedBy f n) ≡ namedBy f′ n
+  pub without-named : f′ s ≡ 0 → withoutSlot s (namedBy f n) ≡ namedBy f′ n
   without-named e =
-      named-is f′ n (without s (namedBy f n)) (without-rising s (namedBy f n) (named-rising f n))
+      named-is f′ n (withoutSlot s (namedBy f n)) (without-rising s (namedBy f n) (named-rising f n))
       (λ a i. other-right a (without-in s 0 (namedBy f n) (rising-from 0 (namedBy f n) (named-rising f n) (λ h. omega arith)) a i))
       (λ q k h. in-without s (namedBy f n) (entry q (f′ q)) (other-all q k h (λ (z : q ≡ s). omega (arith, ap f′ z))))

@@ -9,10 +9,10 @@ use lib.Seq.{ext-getD, getD-append-add, getD-drop, take-append-seam}
 use Rattle.lists.specs.Listed.{listed, length-listed, getD-listed, listed-past}
 use Rattle.layout.specs.Places.{entriesUsed, slotAt, slotIn, slotRegionAt, slotRegionIn, entriesWords}
 use Rattle.remember.specs.Entries.{Rising, RestZero, Edited}
-use Rattle.remember.specs.Table.{Entry, entry, slot, region, unused, nthSlot, nthRegion, entryIn, entriesTo, entriesIn, padded, columns, tableOf, written, Ascending, Table}
+use Rattle.remember.specs.Table.{Entry, entry, slot, region, unused, nthSlot, nthRegion, entryIn, entriesTo, entriesIn, padded, columns, tableOf, withEntries, Ascending, Table}
 
 -- the table's words say these entries
-pub record Holds (N : ℕ) (es : List Entry) (m : List ℕ) : Type 0 where
+pub record HoldsEntries (N : ℕ) (es : List Entry) (m : List ℕ) : Type 0 where
   pub room : length es ≤ N
   pub used : entriesUsed m ≡ length es
   pub slots : (i : ℕ) → i < N → slotIn m i ≡ nthSlot es i
@@ -21,7 +21,7 @@ pub record Holds (N : ℕ) (es : List Entry) (m : List ℕ) : Type 0 where
 -- and nothing but those words differs from m
 pub record Becomes (N : ℕ) (es : List Entry) (m m′ : List ℕ) : Type 0 where
   pub edited : Edited N m m′
-  pub holds : Holds N es m′
+  pub holds : HoldsEntries N es m′
 
 -- ---- padding
 
@@ -94,8 +94,8 @@ module _ (N : ℕ) (es : List Entry) (m : List ℕ) (room : length es ≤ N) (lo
   abbrev W : List ℕ
   W = getD m 0 0 ∷ length es ∷ words
 
-  written-words : written N es m ≡ W
-  unfolding written
+  written-words : withEntries N es m ≡ W
+  unfolding withEntries
   written-words = ap (λ l. getD m 0 0 ∷ length es ∷ l) words-are
 
   words-become : Becomes N es m W
@@ -116,7 +116,7 @@ module _ (N : ℕ) (es : List Entry) (m : List ℕ) (room : length es ≤ N) (lo
     };
   }
 
-  pub written-becomes : Becomes N es m (written N es m)
+  pub written-becomes : Becomes N es m (withEntries N es m)
   written-becomes = subst (Becomes N es m) (sym written-words) words-become
 
 -- no two lists of words can be that
@@ -139,7 +139,7 @@ becomes-unique {N} {es} {m} {a} {b} x y = ext-getD 0 a b (x .edited .long ∙ sy
         go (no h) (no l) = let r : entriesWords N ≤ suc (suc k) = omega arith in x .edited .spare (suc (suc k)) r ∙ sym (y .edited .spare (suc (suc k)) r)
 
 -- so a table that becomes so is that
-pub is-written : {N : ℕ} {es : List Entry} {m m′ : List ℕ} → entriesWords N ≤ length m → Becomes N es m m′ → m′ ≡ written N es m
+pub is-written : {N : ℕ} {es : List Entry} {m m′ : List ℕ} → entriesWords N ≤ length m → Becomes N es m m′ → m′ ≡ withEntries N es m
 is-written {N} {es} {m} {m′} long x = becomes-unique x (written-becomes N es m (x .holds .room) long)
 
 -- ---- the entries that the words say
@@ -161,16 +161,8 @@ to-ascending N m k r i j l h =
     let b : j < k = omega (arith, to-long N m k) in
     omega (arith, r i j l b, ap slot (to-at N m k i (omega arith)), ap slot (to-at N m k j b))
 
-pub holds-entries : {N : ℕ} {es : List Entry} {m : List ℕ} → Holds N es m → entriesIn N m ≡ es
-holds-entries {N} {es} {m} h =
-    ext-getD unused (entriesIn N m) es (to-long N m (entriesUsed m) ∙ h .used)
-    (λ i l.
-    let k : i < entriesUsed m = omega (arith, to-long N m (entriesUsed m)) in
-    let b : i < N = omega (arith, h .used, h .room) in
-    to-at N m (entriesUsed m) i k ∙ ap₂ entry (h .slots i b) (h .regions i b))
-
 -- where the words hold rising entries their slots rise, and the rest is zero
-module _ {N : ℕ} {es : List Entry} {m : List ℕ} (h : Holds N es m) where
+module _ {N : ℕ} {es : List Entry} {m : List ℕ} (h : HoldsEntries N es m) where
   pub holds-rest : RestZero N m
   holds-rest i l b =
       let e : getD es i unused ≡ unused = List·getD-eq-default es unused (omega (arith, h .used)) in
@@ -189,24 +181,24 @@ module _ (N : ℕ) (m : List ℕ) (room : entriesUsed m ≤ N) (rest : RestZero 
       go (yes h) = sym (to-at N m (entriesUsed m) i h)
       go (no h) = let z = rest i (omega arith) l in ap₂ entry (z .0) (z .1) ∙ sym (to-past N m (entriesUsed m) i (omega arith))
 
-  pub words-hold : Holds N (entriesIn N m) m
+  pub words-hold : HoldsEntries N (entriesIn N m) m
   words-hold =
       let long = to-long N m (entriesUsed m) in
       record { room = omega (arith, long); used = sym long; slots = λ i l. ap slot (entry-is i l); regions = λ i l. ap region (entry-is i l) }
 
-pub table-holds : {N : ℕ} {m : List ℕ} → Table N m → Holds N (entriesIn N m) m
+pub table-holds : {N : ℕ} {m : List ℕ} → Table N m → HoldsEntries N (entriesIn N m) m
 table-holds {N} {m} t = words-hold N m (t .room) (t .rest)
 
 -- ---- the words of the table alone
 
-module _ {N : ℕ} {es : List Entry} {m : List ℕ} (h : Holds N es m) (long : entriesWords N ≤ length m) (size : getD m 0 0 ≡ N) where
+module _ {N : ℕ} {es : List Entry} {m : List ℕ} (h : HoldsEntries N es m) (long : entriesWords N ≤ length m) (size : getD m 0 0 ≡ N) where
   columns-long : length (columns N es) ≡ N + N
   columns-long =
       length-append (padded N (map slot es)) (padded N (map region es))
       ∙ ap₂ (λ (a b : ℕ). a + b) (length-padded N (map slot es) (omega (arith, length-map es slot, h .room))) (length-padded N (map region es) (omega (arith, length-map es region, h .room)))
 
   pub table-is : take (entriesWords N) m ≡ tableOf N es
-  unfolding tableOf written
+  unfolding tableOf withEntries
   table-is =
       let e : entriesWords N ≡ suc (suc (length (columns N es))) = omega (arith, columns-long) in
       ap (take (entriesWords N)) (is-written {m = m} {m′ = m} long (record { edited = record { long = refl; size = refl; spare = λ j l. refl }; holds = h }))

@@ -5,7 +5,7 @@ ghost use Prim.Native.Nat.{ℕ, _+_, _^_, _<_, _≤_};
 ghost use lib.ListN.{length};
 ghost use Rattle.layout.specs.Places.{entriesUsed, slotIn, entriesWords};
 ghost use Rattle.remember.specs.Entries.{entered};
-ghost use Rattle.remember.specs.Table.{entry, entriesIn, written, inserted, removed, placeOf, Table};
+ghost use Rattle.remember.specs.Table.{entry, entriesIn, withEntries, inserted, removed, placeOf, Table};
 ghost use Rattle.remember.specs.Remembering.{Remembered};
 ghost use Rattle.remember.specs.Stretches.{Cleared, EndsAfter};
 use crate::shift::lower;
@@ -50,7 +50,7 @@ pub fn put_entry(entries: usize, remember: &mut [u32], i: usize, at: u32, region
 pub fn insert_entry(entries: usize, remember: &mut [u32], place: usize, at: u32, region: u32)
     requires table { ⌜ Table entries (now remember) ⌝ }
     requires { ⌜ (entries < 2 ^ 32) × (place ≤ entriesUsed (now remember)) × (entriesUsed (now remember) < entries) ⌝ }
-    ensures { λ _. ⌜ now (remember .exit) ≡ written entries (inserted place (entry at region) (entriesIn entries (now (remember .entry)))) (now (remember .entry)) ⌝ }
+    ensures { λ _. ⌜ now (remember .exit) ≡ withEntries entries (inserted place (entry at region) (entriesIn entries (now (remember .entry)))) (now (remember .entry)) ⌝ }
 {
     let used = layout::wide(layout::remember::used(remember));
     raise(remember, 2 + place, 2 + used);
@@ -63,7 +63,7 @@ pub fn insert_entry(entries: usize, remember: &mut [u32], place: usize, at: u32,
 pub fn remove_entry(entries: usize, remember: &mut [u32], place: usize)
     requires table { ⌜ Table entries (now remember) ⌝ }
     requires { ⌜ (entries < 2 ^ 32) × (place < entriesUsed (now remember)) ⌝ }
-    ensures { λ _. ⌜ now (remember .exit) ≡ written entries (removed place (entriesIn entries (now (remember .entry)))) (now (remember .entry)) ⌝ }
+    ensures { λ _. ⌜ now (remember .exit) ≡ withEntries entries (removed place (entriesIn entries (now (remember .entry)))) (now (remember .entry)) ⌝ }
 {
     let used = layout::wide(layout::remember::used(remember));
     let last = used - 1;

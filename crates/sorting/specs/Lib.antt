@@ -3,5 +3,5 @@ pub mod Sorting
 pub mod Pairs
 pub mod Merging
 pub mod Runs
-pub mod Distinct
+pub mod DistinctSlots
 pub mod SortedIn
