@@ -86,7 +86,7 @@ module _ (p : Sizes) (c m t : List ℕ) (k : WholeFor p (words c m t)) (u a : �
     read-refused z = did-asked s w k (commandFor (Read u a b)) q (omega arith) read-asked
 
     pub read-done : q ≡ 0 → (v : ℕ) → v ≡ getD c (kindAt Number c (x - 1) b) 0 → Does p c m t (Read u a b) c m t (done v)
-    unfolding nf.value ru.after ru.homesAfter ru.countersAfter nf.effect
+    unfolding nf.value ru.after ru.homesAfter ru.countersAfter ru.occupancyAfter nf.effect
     read-done z v f = unchanged-did s w k (commandFor (Read u a b)) (λ g z. z) v (read-asked ∙ z) refl refl (heap-word Number b q g z ∙ sym f)
 
   -- ---- code 9
@@ -109,7 +109,7 @@ module _ (p : Sizes) (c m t : List ℕ) (k : WholeFor p (words c m t)) (u a : �
       h′ = withObject H y (withField Number (getD (H .heap .objects) y noObject) b v)
 
       write-after : ru.after s H (commandFor (Write u a b v)) ≡ h′
-      unfolding ru.after ru.homesAfter ru.countersAfter nf.effect
+      unfolding ru.after ru.homesAfter ru.countersAfter ru.occupancyAfter nf.effect
       write-after =
           let i : varOf (limits s) (H .heap) u a ≡ suc y = heap-var ∙ (let o : x ≡ suc y = omega (arith, within Number b q g z) in o) in
           ap (λ (j : ℕ). record { heap = nf.withObject (H .heap) j (record { refs = objectOf (H .heap) j .refs; nums = set (objectOf (H .heap) j .nums) b v }); homes = H .homes; counters = H .counters; occupancy = H .occupancy }) i
@@ -139,7 +139,7 @@ module _ (p : Sizes) (c m t : List ℕ) (k : WholeFor p (words c m t)) (u a : �
     load-refused z = did-asked s w k (commandFor (Load u a′ a f)) q (omega arith) load-asked
 
     pub load-done : q ≡ 0 → (v : ℕ) → v ≡ getD c (kindAt Reference c (x - 1) f) 0 → (i : ℕ) → i ≡ bit (not (eqb v 0)) → {t′ : List ℕ} → t′ ≡ set t (variableAt p u a′) v → Does p c m t (Load u a′ a f) c m t′ (done i)
-    unfolding nf.value ru.after ru.homesAfter ru.countersAfter nf.effect
+    unfolding nf.value ru.after ru.homesAfter ru.countersAfter ru.occupancyAfter nf.effect
     load-done z v d i o h =
         let word = heap-word Reference f q g z ∙ sym d in
         subst (λ (t′ : List ℕ). Does p c m t (Load u a′ a f) c m t′ (done i)) (sym h)

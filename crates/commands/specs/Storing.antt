@@ -166,7 +166,7 @@ module _ (p : Sizes) (c m t : List ℕ) (k : WholeFor p (words c m t)) (u a : �
       h′ = withObject H y (withField Reference object f v)
 
       store-after : ru.after s H (commandFor (Store u a f b)) ≡ h′
-      unfolding ru.after ru.homesAfter ru.countersAfter nf.effect
+      unfolding ru.after ru.homesAfter ru.countersAfter ru.occupancyAfter nf.effect
       store-after =
           let i : varOf (limits s) (H .heap) u a ≡ suc y = heap-var p c m t k u a l n x e ∙ (let h : x ≡ suc y = omega (arith, within p c m t k u a l n x e Reference f q g z) in h) in
           ap₂ (λ (i j : ℕ). record { heap = nf.withObject (H .heap) i (record { refs = set (objectOf (H .heap) i .refs) f j; nums = objectOf (H .heap) i .nums }); homes = H .homes; counters = H .counters; occupancy = H .occupancy }) i (here-var s w u b l o ∙ sym ev)

@@ -73,7 +73,7 @@ module _ (p : Sizes) (c m t : List ℕ) (k : WholeFor p (words c m t)) where
         did-asked s w k (commandFor (Start u)) 11 (omega arith) (start-asked ∙ ap (λ (x : Bool). ask x 11 0) (le-ltb d (p .depth) h))
 
     start-after : ru.after s H (commandFor (Start u)) ≡ withDepth H u (d + 1)
-    unfolding ru.after ru.homesAfter ru.countersAfter nf.effect
+    unfolding ru.after ru.homesAfter ru.countersAfter ru.occupancyAfter nf.effect
     start-after = ap (λ (x : ℕ). withDepth H u (x + 1)) (here-depth s w u l ∙ sym e)
 
     pub start-done : d < p .depth → {t′ : List ℕ} → t′ ≡ set t (depthAt u) (d + 1) → Does p c m t (Start u) c m t′ (done 0)
@@ -95,7 +95,7 @@ module _ (p : Sizes) (c m t : List ℕ) (k : WholeFor p (words c m t)) where
         ∙ ap₂ (λ (x y : Bool). ask (x && y) 8 0) (lt-ltb b (p .variables) o) (lt-ltb v (p .threads) q)
 
     pub copy-done : (x : ℕ) → x ≡ variable p t v b → {t′ : List ℕ} → t′ ≡ set t (variableAt p u a) x → Does p c m t (Copy u a b v) c m t′ (done 0)
-    unfolding nf.value ru.after ru.homesAfter ru.countersAfter nf.effect
+    unfolding nf.value ru.after ru.homesAfter ru.countersAfter ru.occupancyAfter nf.effect
     copy-done x e g =
         subst (λ (z : List ℕ). Does p c m t (Copy u a b v) c m z (done 0)) (sym g)
         (variable-did s w k u a x l n (commandFor (Copy u a b v)) (λ g z. z) 0 copy-asked refl
@@ -109,7 +109,7 @@ module _ (p : Sizes) (c m t : List ℕ) (k : WholeFor p (words c m t)) where
     clear-asked = ap₂ (λ (x y : Bool). ask x 7 (ask (y && true && true) 8 0)) (lt-ltb u (p .threads) l) (lt-ltb a (p .variables) n)
 
     pub clear-done : {t′ : List ℕ} → t′ ≡ set t (variableAt p u a) 0 → Does p c m t (Clear u a) c m t′ (done 0)
-    unfolding nf.value ru.after ru.homesAfter ru.countersAfter nf.effect
+    unfolding nf.value ru.after ru.homesAfter ru.countersAfter ru.occupancyAfter nf.effect
     clear-done g =
         subst (λ (z : List ℕ). Does p c m t (Clear u a) c m z (done 0)) (sym g) (variable-did s w k u a 0 l n (commandFor (Clear u a)) (λ g z. z) 0 clear-asked refl refl refl)
 
@@ -123,7 +123,7 @@ module _ (p : Sizes) (c m t : List ℕ) (k : WholeFor p (words c m t)) where
         ∙ ap (λ (x : Bool). ask (x && true) 8 0) (lt-ltb b (p .variables) o)
 
     pub same-done : (x y : ℕ) → x ≡ variable p t u a → y ≡ variable p t u b → (v : ℕ) → v ≡ bit (eqb x y) → Does p c m t (Same u a b) c m t (done v)
-    unfolding nf.value ru.after ru.homesAfter ru.countersAfter nf.effect
+    unfolding nf.value ru.after ru.homesAfter ru.countersAfter ru.occupancyAfter nf.effect
     same-done x y e f v g =
         unchanged-did s w k (commandFor (Same u a b)) (λ g z. z) v same-asked refl refl
         (ap₂ (λ (i j : ℕ). bit (eqb i j)) (here-var s w u a l n ∙ sym e) (here-var s w u b l o ∙ sym f) ∙ sym g)
