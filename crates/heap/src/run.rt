@@ -5,7 +5,7 @@ ghost use lib.ListN.{length};
 ghost use Rattle.layout.specs.Words.{words};
 ghost use Rattle.promises.specs.Whole.{WholeFor};
 ghost use Rattle.promises.specs.Promises.{DidHere, Ran, RunAsked, commandAt};
-ghost use Rattle.pages.specs.Pages.{noteWords};
+ghost use Rattle.pages.specs.Noted.{Noted};
 use commands::Obeyed;
 use rules::Answer;
 use rules::Command;
@@ -21,8 +21,9 @@ fn obey(
     m: Command,
 ) -> Answer
     requires { ⌜ WholeFor p (words (now cells) (now remember) (now tables)) ⌝ }
-    requires { ⌜ noteWords ≤ length (now notes) ⌝ }
+    requires { ⌜ Noted p (now tables) (now notes) ⌝ }
     ensures { λ r. ⌜ DidHere p (words (now (cells .entry)) (now (remember .entry)) (now (tables .entry))) m (words (now (cells .exit)) (now (remember .exit)) (now (tables .exit))) r ⌝ }
+    ensures { λ _. ⌜ Noted p (now (tables .exit)) (now (notes .exit)) ⌝ }
 {
     let o = commands::obey::obey(p, cells, remember, tables, notes, m);
     match o {
@@ -56,9 +57,10 @@ fn obey_at(
     i: usize,
 ) -> Answer
     requires { ⌜ WholeFor p (words (now cells) (now remember) (now tables)) ⌝ }
-    requires { ⌜ noteWords ≤ length (now notes) ⌝ }
+    requires { ⌜ Noted p (now tables) (now notes) ⌝ }
     requires { ⌜ (i < 2305843009213693952) × (5 * i + 5 ≤ length (now block)) ⌝ }
     ensures { λ r. ⌜ DidHere p (words (now (cells .entry)) (now (remember .entry)) (now (tables .entry))) (commandAt (now (block .entry)) i) (words (now (cells .exit)) (now (remember .exit)) (now (tables .exit))) r ⌝ }
+    ensures { λ _. ⌜ Noted p (now (tables .exit)) (now (notes .exit)) ⌝ }
 {
     obey(p, cells, remember, tables, notes, command_at(block, i))
 }

@@ -25,6 +25,10 @@ pub record Noted (p : Sizes) (t notes : List ℕ) : Type 0 where
   pub long : noteWords ≤ length notes
   pub passed : NoneFrom p t (passedFrom p notes) (p .pages)
 
+-- a block begins with notes of zero
+pub noted-start : (p : Sizes) (t notes : List ℕ) → noteWords ≤ length notes → getD notes 0 0 ≡ 0 → Noted p t notes
+noted-start p t notes l e = record { long = l; passed = λ x b m z. omega (arith, e) }
+
 -- ---- they stay right
 
 -- no page became free

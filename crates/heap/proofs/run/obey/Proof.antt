@@ -26,8 +26,8 @@ end-requires c κs =
     let obey = c .before .before .before .before .before .before .before .before .before .before .before .before .before .before .before .before .obey in
     let o2 = c .before .before .before .before .before .before .o2 in
     let wide = c .wide in
-    let r = ends-ready (args .p) (obey .result) (args .m) (pre .0) (obey .ensures) (o2 .given .1 ∙ ap Ends (sym (wide .ensures))) in
-    (r .0, (r .1, omega (arith, pre .1, obey .kept .1 .1 .1 .1 .0)))
+    let r = ends-ready (args .p) (obey .result) (args .m) (pre .0) (obey .ensures .0) (o2 .given .1 ∙ ap Ends (sym (wide .ensures))) in
+    (r .0, (r .1, obey .ensures .1))
 
 same-length : tie.Need-same-length
 same-length c = search needs
@@ -42,7 +42,7 @@ same-length-4 : tie.Need-same-length-4
 same-length-4 c = search needs
 
 returns : tie.Need-returns
-returns c = obeyed-answered (c .before .before .before .before .before .before .before .before .before .before .before .before .before .before .before .before .before .before .before .before .args .p) (c .before .before .before .before .before .before .before .before .before .before .before .obey .result) (c .before .before .before .before .before .before .before .before .before .before .before .obey .ensures) (c .before .o .given .1)
+returns c = (obeyed-answered (c .before .before .before .before .before .before .before .before .before .before .before .before .before .before .before .before .before .before .before .before .args .p) (c .before .before .before .before .before .before .before .before .before .before .before .obey .result) (c .before .before .before .before .before .before .before .before .before .before .before .obey .ensures .0) (c .before .o .given .1), c .before .before .before .before .before .before .before .before .before .before .before .obey .ensures .1)
 
 same-length-5 : tie.Need-same-length-5
 same-length-5 c = search needs
@@ -63,7 +63,7 @@ returns-2 c =
     let o2 = c .before .before .before .before .before .before .before .before .before .before .before .before .before .before .before .o2 in
     let end = c .before .before .before .before .before .before .before .before .end in
     let wide = c .before .before .before .before .before .before .before .before .before .wide in
-    ends-did (args .p) (obey .result) (obey .ensures) (o2 .given .1 ∙ ap Ends (sym (wide .ensures))) (end .ensures)
+    (ends-did (args .p) (obey .result) (obey .ensures .0) (o2 .given .1 ∙ ap Ends (sym (wide .ensures))) (end .ensures .0), end .ensures .1)
 
 pub obey-spec : {M : Type 1} → statement M
 obey-spec =

@@ -23,7 +23,7 @@ same-length-4 : tie.Need-same-length-4
 same-length-4 c = search needs
 
 returns : tie.Need-returns
-returns c = search did-same
+returns c = (did-same (c .before .before .before .before .before .before .before .before .obey .ensures .0) (c .before .before .before .before .before .before .before .before .before .command-at .ensures), c .before .before .before .before .before .before .before .before .obey .ensures .1)
 
 pub obey-at-spec : {M : Type 1} → statement M
 obey-at-spec =

@@ -9,14 +9,14 @@ use Rattle.layout.specs.Words.{words}
 use Rattle.promises.specs.Promises.{size}
 use Rattle.promises.specs.Reading.{sizes-there}
 use Rattle.promises.specs.Chained.{asked-whole}
-use Rattle.pages.specs.Pages.{noteWords}
+use Rattle.pages.specs.Noted.{noteWords, Noted, noted-start}
 use Rattle.heap.specs.Looping.{asked-room}
 use Rattle.heap.specs.Running.{Turning, turn-start, turn-ready, turn-fits, turn-more, turn-end, whole-ready, looped-found}
 use Rattle.heap.proofs.run.obey_block.Statement.{statement}
 use Rattle.heap.proofs.run.obey_block.Tie as tie
 
 abbrev Inv-loop : tie.InvT-loop
-Inv-loop cells₀ remember₀ tables₀ block answers₀ p n notes₀ i₀ cells remember tables answers notes i = Turning p (words cells₀ remember₀ tables₀) block answers₀ cells remember tables answers i × (n ≡ size block) × (n < 2305843009213693952) × (length notes ≡ noteWords)
+Inv-loop cells₀ remember₀ tables₀ block answers₀ p n notes₀ i₀ cells remember tables answers notes i = Turning p (words cells₀ remember₀ tables₀) block answers₀ cells remember tables answers i × (n ≡ size block) × (n < 2305843009213693952) × (length notes ≡ noteWords) × Noted p tables notes
 
 abbrev μ-loop : tie.MeasureT-loop
 μ-loop cells₀ remember₀ tables₀ block answers₀ p n notes₀ i₀ cells remember tables answers notes i = n - i
@@ -25,7 +25,7 @@ read-sizes-requires : tie.Need-read-sizes-requires Inv-loop μ-loop
 read-sizes-requires c κs = sizes-there (asked-whole (c .before .before .before .before .before .before .pre) refl .sized)
 
 loop-holds : tie.Need-loop-holds Inv-loop μ-loop
-loop-holds c = (turn-start (whole-ready (asked-whole (c .before .before .before .before .before .before .before .pre) refl) (c .read-sizes .ensures)) (asked-room (c .before .before .before .before .before .before .before .pre)), refl, omega arith, refl)
+loop-holds c = (turn-start (whole-ready (asked-whole (c .before .before .before .before .before .before .before .pre) refl) (c .read-sizes .ensures)) (asked-room (c .before .before .before .before .before .before .before .pre)), refl, omega arith, refl, noted-start _ _ _ (omega arith) refl)
 
 slice-aggregate-obey-at : tie.Need-slice-aggregate-obey-at Inv-loop μ-loop
 slice-aggregate-obey-at c = search needs
@@ -33,7 +33,7 @@ slice-aggregate-obey-at c = search needs
 obey-at-requires : tie.Need-obey-at-requires Inv-loop μ-loop
 obey-at-requires c κs =
     let inv = c .before .before .before .before .before .loop .inv in
-    (turn-ready (inv .0), (omega (arith, inv .3), omega (arith, inv .1, inv .2)))
+    (turn-ready (inv .0), (inv .4, omega (arith, inv .1, inv .2)))
 
 mul-answers : tie.Need-mul-answers Inv-loop μ-loop
 mul-answers c = omega (arith, c .before .before .before .before .before .before .before .before .before .before .before .before .before .loop .inv .1, c .before .before .before .before .before .before .before .before .before .before .before .before .before .loop .inv .2)
@@ -66,7 +66,7 @@ loop-again : tie.Need-loop-again Inv-loop μ-loop
 loop-again c =
     let loop = c .before .before .before .before .before .before .before .before .before .before .before .before .before .loop in
     let obey-at = c .before .before .before .before .before .before .before .obey-at in
-    (turn-more (loop .inv .0) (omega (arith, loop .inv .1)) (obey-at .ensures), loop .inv .1, loop .inv .2, obey-at .kept .1 .1 .1 .1 .0 ∙ loop .inv .3)
+    (turn-more (loop .inv .0) (omega (arith, loop .inv .1)) (obey-at .ensures .0), loop .inv .1, loop .inv .2, obey-at .kept .1 .1 .1 .1 .0 ∙ loop .inv .3, obey-at .ensures .1)
 
 same-length : tie.Need-same-length Inv-loop μ-loop
 same-length c = c .before .loop .inv .0 .cells-long
