@@ -7,6 +7,7 @@ use crate::rules::{crosses, join, pages_for, Region};
 pub struct Ending {
     /// By `Id`: the region of each object that is in the heap after the end.
     pub regions: Vec<Option<Region>>,
+    /// In the order in which they are copied: by target region, the control space first, then by old cell (02, W3).
     pub survivors: Vec<Id>,
     pub freed: Vec<Id>,
     /// New pages for the regions that grow.
@@ -48,6 +49,8 @@ impl Heap {
                 }
             }
         }
+
+        survivors.sort_by_key(|&id| (regions[id], self.cell(id)));
 
         let freed = self.members(r).iter().copied().filter(|&id| regions[id].is_none()).collect();
         let new_pages = self.new_pages(thread, &regions, &survivors);

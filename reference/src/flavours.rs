@@ -14,6 +14,7 @@ pub struct Flavour {
     pub patterns: &'static [(Pattern, usize)],
 }
 
+/// For the program.
 #[rustfmt::skip]
 pub const FLAVOURS: &[Flavour] = &[
     Flavour {
@@ -88,5 +89,38 @@ pub const FLAVOURS: &[Flavour] = &[
             (Any, 40), (Open, 4), (Close, 5), (List, 3), (Ring, 2), (Tangle, 6), (Descend, 2), (Share, 4), (Probe, 4), (Fill, 1), (Clear, 2), (Fan, 1),
             (Overwrite, 1), (Wide, 3), (LongList, 1), (Refuse, 1),
         ],
+    },
+];
+
+/// For dumps alone: survivors that go to several regions, and sizes up to the largest.
+#[rustfmt::skip]
+pub const DUMPED: &[Flavour] = &[
+    Flavour {
+        name: "spread",
+        weight: 56,
+        sizes: [(1, 3), (8, 16), (3, 8), (10, 48), (4, 64)],
+        commands: (200, 600),
+        patterns: &[(Spread, 12), (Descend, 3), (Tangle, 4), (Fill, 2), (Overwrite, 4), (Clear, 2), (Share, 3), (Any, 12), (Close, 2), (Wide, 1)],
+    },
+    Flavour {
+        name: "many pages",
+        weight: 26,
+        sizes: [(1, 16), (8, 32), (2, 8), (33, 1024), (16, 4096)],
+        commands: (500, 2000),
+        patterns: &[(Spread, 8), (LongList, 6), (List, 4), (Tangle, 6), (Share, 4), (Open, 4), (Any, 20), (Fan, 2), (Overwrite, 3), (Wide, 3), (Fill, 3)],
+    },
+    Flavour {
+        name: "many entries",
+        weight: 12,
+        sizes: [(1, 4), (8, 16), (4, 8), (64, 512), (500, 4096)],
+        commands: (1000, 3000),
+        patterns: &[(Wide, 12), (Spread, 6), (Overwrite, 8), (Any, 8), (Fan, 4), (Share, 4), (Again, 2), (Tangle, 2)],
+    },
+    Flavour {
+        name: "pages to the last",
+        weight: 6,
+        sizes: [(1, 8), (8, 16), (2, 6), (33, 160), (64, 1024)],
+        commands: (4000, 9000),
+        patterns: &[(LongList, 12), (Spread, 8), (List, 6), (Fill, 6), (Press, 4), (Any, 10), (Tangle, 4), (Close, 3), (Clear, 2), (Share, 3)],
     },
 ];

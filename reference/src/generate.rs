@@ -1,7 +1,7 @@
-//! `generate SEED` prints the script of a seed, `generate --long COMMANDS SEED` a long one on small tables; `generate --statistics COUNT
-//! SEED` says what COUNT scripts from SEED on reach.
+//! `generate SEED` prints the script of a seed, `generate --dump SEED` the one that is to end in a dump, `generate --long COMMANDS SEED` a
+//! long one on small tables; `generate --statistics COUNT SEED` says what COUNT scripts from SEED on reach.
 
-use epochs::scripts::{long, script};
+use epochs::scripts::{dump_script, long, script};
 use epochs::statistics::Statistics;
 use std::io::Write;
 
@@ -18,9 +18,10 @@ fn main() {
             statistics.print();
         }
         ["--long", commands, seed] => print(&long(whole(seed), whole(commands) as usize)),
+        ["--dump", seed] => print(&dump_script(whole(seed)).text),
         [seed] => print(&script(whole(seed)).text),
         _ => {
-            eprintln!("usage: generate SEED | generate --long COMMANDS SEED | generate --statistics COUNT SEED");
+            eprintln!("usage: generate SEED | generate --dump SEED | generate --long COMMANDS SEED | generate --statistics COUNT SEED");
             std::process::exit(2);
         }
     }

@@ -1,8 +1,10 @@
-//! The epoch heap of documents 01 and 02 (W2) as a graph of objects.
+//! The epoch heap of documents 01 and 02 (W2, W3) as a graph of objects.
 //!
-//! There are no cells, no pages and no remember table here: an object knows its region, a thread is a stack of open epochs, an epoch is
-//! the list of its objects. Pages are counted from the number of objects, and crossing slots are counted by looking at the slots.
+//! An object knows its region and its cell, a thread is a stack of open epochs, an epoch is the list of its objects. What is asked and
+//! counted goes by the graph: pages by the number of objects, crossing slots by looking at the slots. Which cells and pages those are
+//! stands beside it. There is no remember table: its entries are read from the graph.
 
+use crate::pages::{Page, Pages};
 use crate::rules::{crosses, pages_for, Region};
 
 /// An object's place in the list of objects. It is its identity: moving an object to another region does not change it.
@@ -21,6 +23,7 @@ pub struct Limits {
 #[derive(Clone, PartialEq)]
 struct Object {
     region: Region,
+    cell: usize,
     references: Vec<Option<Id>>,
     numbers: Vec<u32>,
 }
@@ -40,6 +43,7 @@ pub struct Heap {
     /// `None` is a place that no object has now.
     objects: Vec<Option<Object>>,
     unused: Vec<Id>,
+    pages: Pages,
     /// How many slots are crossing.
     crossing: usize,
     /// Objects made and objects freed since the heap is there, each modulo 4,294,967,296 (02, W2).
@@ -64,6 +68,7 @@ impl Heap {
             control: Vec::new(),
             objects: Vec::new(),
             unused: Vec::new(),
+            pages: Pages::new(limits.pages as usize),
             crossing: 0,
             made: 0,
             freed: 0,
@@ -171,7 +176,8 @@ impl Heap {
         if pages_for(now + 1) - pages_for(now) > self.free_pages() {
             return Err(13);
         }
-        let object = Object { region, references: vec![None; references], numbers: vec![0; numbers] };
+        let cell = self.pages.take(region);
+        let object = Object { region, cell, references: vec![None; references], numbers: vec![0; numbers] };
         let id = match self.unused.pop() {
             Some(id) => {
                 self.objects[id] = Some(object);
@@ -204,6 +210,7 @@ impl Heap {
         if self.depth(thread) == 0 {
             return Err(12);
         }
+        let r = self.innermost(thread);
         let ending = self.ending(thread);
         if ending.new_pages > self.free_pages() {
             return Err(13);
@@ -214,9 +221,13 @@ impl Heap {
         self.threads[thread].epochs.pop();
         for id in ending.survivors {
             let region = ending.regions[id].unwrap();
-            self.get_mut(id).region = region;
+            let cell = self.pages.take(region);
+            let object = self.get_mut(id);
+            object.region = region;
+            object.cell = cell;
             self.members_mut(region).push(id);
         }
+        self.pages.give_back(r);
         for id in ending.freed {
             self.objects[id] = None;
             self.unused.push(id);
@@ -293,6 +304,14 @@ impl Heap {
 
     pub fn region(&self, id: Id) -> Region {
         self.get(id).region
+    }
+
+    pub fn cell(&self, id: Id) -> usize {
+        self.get(id).cell
+    }
+
+    pub fn pages(&self) -> &[Page] {
+        self.pages.list()
     }
 
     pub fn references(&self, id: Id) -> &[Option<Id>] {

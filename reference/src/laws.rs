@@ -1,26 +1,32 @@
-//! `laws COUNT SEED`: holds this folder's heap to documents 01 and 02 (W2) in a second way, over generated scripts.
+//! `laws COUNT SEED`: holds this folder's heap to documents 01 and 02 (W2, W3) in a second way, over generated scripts.
 //!
 //! After every command: the answer is that of the heap that never frees, 13 and 14 aside; the objects are paired with its objects; a
 //! refused command has changed nothing; the counts agree with what is found by looking; and objects made and freed are the new objects
 //! that were done and the objects of the heap that never frees which have lost their partner. Before every end: the survivors and their
-//! regions are worked out again, word for word as 01 defines them, holder by holder.
+//! regions are worked out again, word for word as 01 defines them, holder by holder. After a new object, a store and an end: the cells are
+//! those of W3, found by the objects alone, and the words hold whole tables, read by the layout alone.
+
+mod placement;
 
 use epochs::counted::commas;
 use epochs::forever::Forever;
 use epochs::heap::{Heap, Id};
 use epochs::lines::{five_numbers, sizes};
 use epochs::rules::Region;
-use epochs::scripts::script;
+use epochs::scripts::dump_script;
 use std::collections::{BTreeMap, BTreeSet};
+
+/// Scripts on more pages are left out: every command looks at all objects.
+const MOST_PAGES: u32 = 64;
 
 fn main() {
     let arguments: Vec<u64> = std::env::args().skip(1).map(|word| word.parse().expect("usage: laws COUNT SEED")).collect();
     let [count, seed] = arguments[..] else { panic!("usage: laws COUNT SEED") };
     let (mut commands, mut ends) = (0, 0);
     for i in 0..count {
-        let text = script(seed + i).text;
+        let text = dump_script(seed + i).text;
         let mut lines = text.split(|&byte| byte == b'\n');
-        let Some(limits) = lines.next().and_then(sizes) else { continue };
+        let Some(limits) = lines.next().and_then(sizes).filter(|limits| limits.pages <= MOST_PAGES) else { continue };
         let mut both = Both {
             heap: Heap::new(limits),
             forever: Forever::new(limits.threads, limits.variables, limits.depth),
@@ -83,6 +89,15 @@ impl Both {
         if answer.is_ok() && code == 2 {
             let live: BTreeSet<Id> = self.heap.ids().collect();
             self.partners.retain(|id, _| live.contains(id));
+        }
+        if answer.is_ok() && [2, 3, 7].contains(&code) {
+            match code {
+                2 => placement::ended(&before, &self.heap, before.innermost(thread))?,
+                3 => placement::made(&before, &self.heap, self.heap.variable(thread, a as usize).unwrap())?,
+                _ => {}
+            }
+            placement::stand(&self.heap)?;
+            placement::words(&self.heap)?;
         }
         self.paired()?;
         self.counted()?;

@@ -1,4 +1,5 @@
-//! What the four programs of this folder share: the heap as an object graph, the reading of lines, and the making of scripts.
+//! What the programs of this folder share: the heap as an object graph with its cells and pages, the lent words, the reading of lines, the
+//! making of scripts, and running two programs on them.
 
 pub mod counted;
 pub mod ending;
@@ -7,6 +8,8 @@ pub mod forever;
 pub mod heap;
 pub mod lines;
 pub mod malformed;
+pub mod pages;
+pub mod pair;
 pub mod patterns;
 pub mod random;
 pub mod rules;
@@ -14,4 +17,5 @@ pub mod scripts;
 pub mod single;
 pub mod statistics;
 pub mod structures;
+pub mod words;
 pub mod writer;

@@ -32,19 +32,24 @@ pub fn five_numbers(line: &[u8]) -> Option<[u32; 5]> {
     words.try_into().ok()
 }
 
-/// The first line: T V D P N, each in its range; the program takes P up to 32 and N up to 1,024.
+/// The first line: T V D P N, each in its range.
 pub fn sizes(line: &[u8]) -> Option<Limits> {
     let [threads, variables, depth, pages, entries] = five_numbers(line)?;
     let in_range = (1..=16).contains(&threads)
         && (1..=32).contains(&variables)
         && (1..=8).contains(&depth)
-        && (1..=32).contains(&pages)
-        && entries <= 1024;
+        && (1..=1024).contains(&pages)
+        && entries <= 4096;
     in_range.then_some(Limits { threads, variables, depth, pages, entries })
 }
 
+/// The first line of the program's input: it takes P up to 32 and N up to 1,024.
+pub fn program_sizes(line: &[u8]) -> Option<Limits> {
+    sizes(line).filter(|limits| limits.pages <= 32 && limits.entries <= 1024)
+}
+
 /// The commands that a whole text leads to: none if its first line is no sizes line, else those before the first malformed line.
-pub fn commands(text: &[u8]) -> Vec<[u32; 5]> {
+pub fn commands(text: &[u8], sizes: fn(&[u8]) -> Option<Limits>) -> Vec<[u32; 5]> {
     let mut lines = text.split(|&byte| byte == b'\n');
     match lines.next().and_then(sizes) {
         Some(_) => lines.map_while(five_numbers).collect(),

@@ -74,7 +74,7 @@ pub fn spoil(random: &mut Random, good: &str, kind: usize) -> Vec<u8> {
     line.into_bytes()
 }
 
-/// Sizes out of range: which of T, V, D, P and N, and its value.
+/// Sizes out of the program's range: which of T, V, D, P and N, and its value. Some are in the range of 01.
 pub const OUT_OF_RANGE: &[(usize, &str)] = &[
     (0, "0"),
     (0, "17"),
@@ -86,8 +86,10 @@ pub const OUT_OF_RANGE: &[(usize, &str)] = &[
     (3, "0"),
     (3, "33"),
     (3, "1024"),
+    (3, "1025"),
     (4, "1025"),
     (4, "4096"),
+    (4, "4097"),
 ];
 
 /// A first line with one size out of range, the one that OUT_OF_RANGE has at this place.

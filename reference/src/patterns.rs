@@ -18,6 +18,7 @@ pub enum Pattern {
     List,
     LongList,
     Ring,
+    Spread,
     Again,
     Share,
     Wide,
@@ -58,6 +59,7 @@ impl Writer {
                 self.probe(t);
             }
             Pattern::Ring => self.ring(t),
+            Pattern::Spread => self.spread(t),
             Pattern::Again => self.again(t),
             Pattern::Share => self.share(t),
             Pattern::Wide => self.wide(t),
@@ -88,7 +90,7 @@ impl Writer {
     }
 
     /// Objects in the innermost region, linked at random and held in every way or not at all; then the region ends.
-    fn tangle(&mut self, t: usize) {
+    pub fn tangle(&mut self, t: usize) {
         if self.heap.depth(t) == 0 {
             self.descend(t);
         }

@@ -3,7 +3,7 @@
 //! A script is written with a heap at hand that obeys it, so that most commands can be chosen to be accepted, and the refused ones to be
 //! refused by the question that is meant. A flavour sets the sizes and how often each pattern is used.
 
-use crate::flavours::FLAVOURS;
+use crate::flavours::{Flavour, DUMPED, FLAVOURS};
 use crate::heap::{Heap, Limits};
 use crate::malformed::{sizes_out_of_range, spoil, KINDS, OUT_OF_RANGE};
 use crate::patterns::Pattern::*;
@@ -17,13 +17,22 @@ pub struct Script {
     pub fault: Option<String>,
 }
 
-/// The script of a seed.
+/// The script of a seed, with sizes that the program takes.
 pub fn script(seed: u64) -> Script {
+    of_flavours(seed, FLAVOURS)
+}
+
+/// The script of a seed that is to end in a dump: every fifth is of the flavours for that, some of which have sizes up to 01's largest.
+pub fn dump_script(seed: u64) -> Script {
+    of_flavours(seed, if seed % 5 == 3 { DUMPED } else { FLAVOURS })
+}
+
+fn of_flavours(seed: u64, flavours: &'static [Flavour]) -> Script {
     // Neighbouring seeds must not give neighbouring scripts.
     let mut random = Random::new(seed.wrapping_mul(0x2545_f491_4f6c_dd1d) ^ 0x5851_f42d_4c95_7f2d);
     random.next();
-    let places: Vec<(usize, usize)> = FLAVOURS.iter().enumerate().map(|(place, flavour)| (place, flavour.weight)).collect();
-    let flavour = &FLAVOURS[random.weighted(&places)];
+    let places: Vec<(usize, usize)> = flavours.iter().enumerate().map(|(place, flavour)| (place, flavour.weight)).collect();
+    let flavour = &flavours[random.weighted(&places)];
     let [threads, variables, depth, pages, entries] = flavour.sizes.map(|(low, high)| random.between(low, high) as u32);
     let limits = Limits { threads, variables, depth, pages, entries };
     let most = random.between(flavour.commands.0, flavour.commands.1);

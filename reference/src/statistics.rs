@@ -3,7 +3,7 @@
 use crate::counted::{commas, share};
 use crate::ending::Ending;
 use crate::heap::{Heap, Id};
-use crate::lines::{five_numbers, sizes};
+use crate::lines::{five_numbers, program_sizes};
 use crate::rules::{crosses, Region};
 use crate::scripts::Script;
 use std::collections::{BTreeMap, BTreeSet};
@@ -48,7 +48,7 @@ impl Statistics {
 
     fn play(&mut self, text: &[u8]) {
         let mut lines = text.split(|&byte| byte == b'\n');
-        let Some(limits) = lines.next().and_then(sizes) else {
+        let Some(limits) = lines.next().and_then(program_sizes) else {
             return self.once("F texts", "prints sizes");
         };
         self.once(

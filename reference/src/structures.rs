@@ -1,6 +1,7 @@
-//! Full pages, full objects, lists and rings, and looking at what there is.
+//! Full pages, full objects, lists, rings and lists held from several levels, and looking at what there is.
 
 use crate::heap::{Heap, Id};
+use crate::rules::Region;
 use crate::writer::Writer;
 
 impl Writer {
@@ -51,6 +52,43 @@ impl Writer {
             }
         }
         self.clear(t, x);
+    }
+
+    /// Objects of the innermost region in lists that are mixed up, each held from another level or by nothing; then the region ends.
+    pub fn spread(&mut self, t: usize) {
+        while self.heap.depth(t) < 2 {
+            let v = self.scratch(t, 1)[0];
+            if !self.make_known(t, v, 3, 1) || !self.start(t) {
+                return;
+            }
+        }
+        let mut anchors = Vec::new();
+        for level in 0..self.heap.depth(t) {
+            let region = Region::at(t, level);
+            anchors.extend(self.find(t, |heap, id| heap.region(id) == region && !heap.references(id).is_empty()));
+        }
+        let scratch: Vec<usize> = self.scratch(t, 4).into_iter().filter(|v| !anchors.contains(v)).collect();
+        if anchors.is_empty() || scratch.len() < 2 {
+            return self.tangle(t);
+        }
+        let (x, next) = (scratch[0], scratch[1]);
+        for _ in 0..self.random.pick(&[3, 12, 20, 40, 70]) {
+            if !self.make_known(t, x, 1, 1) {
+                break;
+            }
+            if self.random.percent(80) {
+                let anchor = self.random.pick(&anchors);
+                self.load(t, next, anchor, 0);
+                self.store(t, x, 0, next);
+                self.store(t, anchor, 0, x);
+            }
+        }
+        if self.random.percent(70) {
+            self.clear(t, x);
+            self.clear(t, next);
+        }
+        self.end(t);
+        self.probe(t);
     }
 
     /// Objects that point to each other in a circle, held afterwards by a variable, by something else, or only by themselves.
