@@ -81,19 +81,11 @@ static int entry_whole(const Lent *l, uint32_t at, uint32_t region) {
     return crosses(l, l->owners[page], l->cells[at]) == region;
 }
 
+/* As many entries as slots cross, all of crossing slots, and rising: so they name each once. */
 static int entries_whole(const Lent *l, uint32_t n) {
-    int rising = 1;
     for (uint32_t i = 0; i < n; i++) {
         if (!entry_whole(l, l->slots[i], l->slot_regions[i])) return 0;
-        if (i != 0 && l->slots[i] <= l->slots[i - 1]) rising = 0;
-    }
-    if (!rising) {
-        uint32_t seen[262144 / 32] = {0};
-        for (uint32_t i = 0; i < n; i++) {
-            uint32_t bit = 1u << l->slots[i] % 32, *word = seen + l->slots[i] / 32;
-            if (*word & bit) return 0;
-            *word |= bit;
-        }
+        if (i != 0 && l->slots[i] <= l->slots[i - 1]) return 0;
     }
     for (uint32_t i = n; i < l->entries; i++)
         if ((l->slots[i] | l->slot_regions[i]) != 0) return 0;
