@@ -10,7 +10,8 @@ typedef struct {
     size_t cells_words, remember_words, tables_words;
 } Lent;
 
-/* Both must be whole. */
+/* Whether two heaps hold the same words. If not, the first word that differs is told on standard error. The left one must be whole; words past
+ * the lengths for its sizes are not looked at. */
 int agree(const Lent *left, const Lent *right);
 
 #endif

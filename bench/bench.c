@@ -1,6 +1,6 @@
 /* Runs every workload on our heap and on the hand-written one, interleaved, and prints nanoseconds a command and the ratio. Every answer
- * word of every timed run is compared, and the tables after it, but for the row of memset, which leaves no heap; a difference stops the
- * program. For bench/counts the command line may name one row, which is then run once. */
+ * word of every timed run is compared, and every lent word after the first, but for the row of memset, which leaves no heap; a difference stops
+ * the program. For bench/counts the command line may name one row, which is then run once. */
 #define _POSIX_C_SOURCE 199309L
 #include <stdio.h>
 #include <stdlib.h>

@@ -80,6 +80,7 @@ void test_calls(void);
 void test_commands(void);
 void test_cleared(void);
 void test_counters(void);
+void test_order(void);
 void test_reports(void);
 void test_largest(void);
 void test_streams(void);

@@ -24,6 +24,7 @@ int main(void) {
     test_commands();
     test_cleared();
     test_counters();
+    test_order();
     test_reports();
     test_largest();
     test_streams();

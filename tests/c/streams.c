@@ -1,5 +1,5 @@
 /* Pseudo-random commands, on sizes up to the largest: the same answers as the hand-written heap's, which keeps no check and shares no code, the
- * same heap afterwards, and a report that the words bear out. Then the same commands on several heaps at the same time. */
+ * same words afterwards, and a report that the words bear out. Then the same commands on several heaps at the same time. */
 #include "check.h"
 
 #include <pthread.h>
