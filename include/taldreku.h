@@ -10,12 +10,13 @@
  *                 its region, which ends with it.
  * control space   The region of no epoch. What a thread makes while it has no epoch open lies here. It never ends, and no object in it is
  *                 ever freed.
- * page            Room for 16 objects of one region. A region of n objects uses n / 16 pages, rounded up. Room without an object holds zero
- *                 words, on free pages and on others.
+ * page, cell      A page has 16 cells, each room for one object, and is free or one region's. A new object takes the first unused cell of the
+ *                 page that its region has partly filled, else of the highest-numbered free page, so that a region of n objects uses n / 16
+ *                 pages, rounded up. A cell without an object holds zero words.
  * slot            A reference field of an object.
  * crossing slot   A slot of an object in one region that points into another region, be it further in, further out or of another thread,
  *                 unless that is the control space.
- * remember entry  The heap keeps an entry for each crossing slot; there are as many as it was prepared with.
+ * remember entry  The heap keeps an entry for each crossing slot, by rising position of the slots; there are as many as it was prepared with.
  * made, freed     The heap counts the objects that were made and those that were freed since it was prepared, each modulo 4,294,967,296. A new
  *                 object that is refused was not made, and an object that moves is neither made nor freed.
  *
@@ -27,7 +28,8 @@
  *     a slot of the control space, or a variable or
  *     a slot of a region of another thread              the control space
  *
- * and it moves to the outermost region that is called for.
+ * and it moves to the outermost region that is called for. The objects that move are copied region by region, from the control space in, and
+ * for each by the number of the cell they lie in, to the cell that a new object there would take; then the old pages become free.
  *
  * Calls
  *
@@ -41,9 +43,11 @@
  *
  * The heap is what stands in the three arrays: no function keeps a pointer or anything else between calls, none allocates, and none calls
  * back. So calls on one heap are made one at a time, from any thread of the operating system, and different heaps are independent: calls on
- * them may be made at the same time. A heap may be copied, or written to a file, word for word. Such a dump shows nothing of what an
- * ended epoch freed: its end writes zeros where its objects lay. What nothing leads to any more stays until its region ends, in the control space
- * for good; words past the lengths are not cleared. A call takes less than TALDREKU_STACK_BYTES of stack.
+ * them may be made at the same time. A heap may be copied, or written to a file, word for word. Every word follows from the sizes and the
+ * commands, however they were put into blocks: two heaps of the same sizes that obeyed the same commands since they were prepared hold the same
+ * words, so that dumps can be compared. A dump shows nothing of what an ended epoch freed: its end writes zeros where its objects lay. What
+ * nothing leads to any more stays until its region ends, in the control space for good; words past the lengths are not cleared. A call takes
+ * less than TALDREKU_STACK_BYTES of stack.
  *
  * How many pages and remember entries
  *
@@ -67,9 +71,9 @@
 extern "C" {
 #endif
 
-#define TALDREKU_VERSION "2.0.0"
+#define TALDREKU_VERSION "2.1.0"
 #define TALDREKU_VERSION_MAJOR 2
-#define TALDREKU_VERSION_MINOR 0
+#define TALDREKU_VERSION_MINOR 1
 #define TALDREKU_VERSION_PATCH 0
 
 /* The largest sizes. All but the entries are at least 1. */
@@ -92,10 +96,11 @@ enum taldreku_number {
     TALDREKU_SIZES = 1,          /* a size is out of range */
     TALDREKU_SHORT = 2,          /* one of the three arrays is too short */
     /* run: heap and answers are as before; report: no row was written, and all other words of the result are 0 */
-    TALDREKU_NOT_WHOLE = 3,      /* the arrays do not hold a heap. A word that is not zero in room without an object is enough. So are counts of
-                                    objects made and freed that do not differ, modulo 4,294,967,296, by the objects there are: they are two
-                                    words that version 1 did not have, so that tables it left are too short, or are refused unless the words
-                                    behind them happen to agree */
+    TALDREKU_NOT_WHOLE = 3,      /* the arrays do not hold a heap. A word that is not zero in a cell without an object is enough. So are remember
+                                    entries that do not stand by rising slot position, as versions before 2.1 may have left them, and counts
+                                    of objects made and freed that do not differ, modulo 4,294,967,296, by the objects there are: they are
+                                    two words that version 1 did not have, so that tables it left are too short, or are refused unless the
+                                    words behind them happen to agree */
     TALDREKU_BLOCK = 4,          /* the block is no multiple of five words */
     TALDREKU_ANSWERS = 5,        /* the answer array has fewer than two words for each command */
     /* one command: the heap is as before it, its value is 0, and the block goes on */
