@@ -17,7 +17,8 @@ use Rattle.layout.specs.Cells.{workOf, refTo, pageOf, mostCells, count-page}
 use Rattle.layout.specs.Marks.{marked, mark?}
 use Rattle.layout.specs.Objects.{Begins, begins-page, cellCount}
 use Rattle.layout.specs.Words.{pageIn, pagesAt}
-use Rattle.promises.specs.TakenPage.{pages-same, took-takes}
+use Rattle.promises.specs.Regular.{pages-alike}
+use Rattle.promises.specs.TakenPage.{took-takes}
 use Rattle.copy.specs.Moves.{Step, mid-pages, step-off, step-on, step-link, step-keeps}
 use Rattle.copy.specs.Passing.{Ready, Moves, Moves.none, Moves.more, order, moves-ready, moves-later, moves-back}
 use Rattle.copy.specs.Copying.{Plan, Copy, copy-clean}
@@ -25,45 +26,45 @@ use Rattle.copy.specs.Copying.{Plan, Copy, copy-clean}
 -- ---- the places of the rules in one row: those of region 1, then those of region 2, and so on
 
 module _ (goal : ℕ → ℕ) (p : Placing) where
-  -- place i belongs to this region and this cell
-  abbrev regionAt′ : ℕ → ℕ
-  regionAt′ i = i / mostCells + 1
+  -- the region and the cell of place i
+  abbrev regionNext : ℕ → ℕ
+  regionNext i = i / mostCells + 1
 
-  abbrev cellAt′ : ℕ → ℕ
-  cellAt′ i = i % mostCells
+  abbrev cellNext : ℕ → ℕ
+  cellNext i = i % mostCells
 
   unfoldable walk : ℕ → Placing
   walk zero = p
-  walk (suc i) = let q = walk i in cond (eqb (goal (cellAt′ i)) (regionAt′ i)) (place (regionAt′ i) (cellAt′ i) q) q
+  walk (suc i) = let q = walk i in cond (eqb (goal (cellNext i)) (regionNext i)) (place (regionNext i) (cellNext i) q) q
 
-  walk-yes : (i : ℕ) → goal (cellAt′ i) ≡ regionAt′ i → walk (suc i) ≡ place (regionAt′ i) (cellAt′ i) (walk i)
+  walk-yes : (i : ℕ) → goal (cellNext i) ≡ regionNext i → walk (suc i) ≡ place (regionNext i) (cellNext i) (walk i)
   unfolding walk
-  walk-yes i e = ap (λ (b : Bool). cond b (place (regionAt′ i) (cellAt′ i) (walk i)) (walk i)) (eq-eqb (goal (cellAt′ i)) (regionAt′ i) e)
+  walk-yes i e = ap (λ (b : Bool). cond b (place (regionNext i) (cellNext i) (walk i)) (walk i)) (eq-eqb (goal (cellNext i)) (regionNext i) e)
 
-  walk-no : (i : ℕ) → goal (cellAt′ i) ≢ regionAt′ i → walk (suc i) ≡ walk i
+  walk-no : (i : ℕ) → goal (cellNext i) ≢ regionNext i → walk (suc i) ≡ walk i
   unfolding walk
-  walk-no i n = ap (λ (b : Bool). cond b (place (regionAt′ i) (cellAt′ i) (walk i)) (walk i)) (ne-eqb (goal (cellAt′ i)) (regionAt′ i) n)
+  walk-no i n = ap (λ (b : Bool). cond b (place (regionNext i) (cellNext i) (walk i)) (walk i)) (ne-eqb (goal (cellNext i)) (regionNext i) n)
 
   -- places from i on to which nobody goes
-  walk-gap : (i d : ℕ) → ((j : ℕ) → i ≤ j → j < i + d → goal (cellAt′ j) ≢ regionAt′ j) → walk (i + d) ≡ walk i
+  walk-gap : (i d : ℕ) → ((j : ℕ) → i ≤ j → j < i + d → goal (cellNext j) ≢ regionNext j) → walk (i + d) ≡ walk i
   walk-gap i zero h = ap walk (let e : i + 0 ≡ i = omega arith in e)
   walk-gap i (suc d) h =
       ap walk (let e : i + suc d ≡ suc (i + d) = omega arith in e) ∙ walk-no (i + d) (h (i + d) (omega arith) (omega arith)) ∙ walk-gap i d (λ j l m. h j l (omega arith))
 
-  walk-to : (i k : ℕ) → i ≤ k → ((j : ℕ) → i ≤ j → j < k → goal (cellAt′ j) ≢ regionAt′ j) → walk k ≡ walk i
+  walk-to : (i k : ℕ) → i ≤ k → ((j : ℕ) → i ≤ j → j < k → goal (cellNext j) ≢ regionNext j) → walk k ≡ walk i
   walk-to i k l h = ap walk (let e : k ≡ i + (k - i) = omega arith in e) ∙ walk-gap i (k - i) (λ j a b. h j a (omega arith))
 
   -- a cell from which nobody goes
   walk-still : (c : ℕ) → goal c ≡ 0 → newCell (p .moves) c ≡ c → (i : ℕ) → newCell (walk i .moves) c ≡ c
   unfolding walk newCell
   walk-still c z s zero = s
-  walk-still c z s (suc i) = go (ℕ-discrete (goal (cellAt′ i)) (regionAt′ i)) (walk-still c z s i)
+  walk-still c z s (suc i) = go (ℕ-discrete (goal (cellNext i)) (regionNext i)) (walk-still c z s i)
     where
-      go : Dec (goal (cellAt′ i) ≡ regionAt′ i) → newCell (walk i .moves) c ≡ c → newCell (walk (suc i) .moves) c ≡ c
+      go : Dec (goal (cellNext i) ≡ regionNext i) → newCell (walk i .moves) c ≡ c → newCell (walk (suc i) .moves) c ≡ c
       go (no n) h = ap (λ (q : Placing). newCell (q .moves) c) (walk-no i n) ∙ h
       go (yes e) h =
           ap (λ (q : Placing). newCell (q .moves) c) (walk-yes i e)
-          ∙ ap (λ (b : Bool). cond b (take (walk i .pages) (regionAt′ i) .cell) (newCell (walk i .moves) c)) (ne-eqb (cellAt′ i) c (λ (d : cellAt′ i ≡ c). omega (arith, ap goal d)))
+          ∙ ap (λ (b : Bool). cond b (take (walk i .pages) (regionNext i) .cell) (newCell (walk i .moves) c)) (ne-eqb (cellNext i) c (λ (d : cellNext i ≡ c). omega (arith, ap goal d)))
           ∙ h
 
   -- ---- they are the rules'
@@ -73,8 +74,8 @@ module _ (goal : ℕ → ℕ) (p : Placing) where
   row k s zero l = ap walk (let e : mostCells * k + 0 ≡ mostCells * k = omega arith in e) ∙ s
   row k s (suc c) l =
       let i = mostCells * k + c in
-      let x : cellAt′ i ≡ c = omega arith in
-      let y : regionAt′ i ≡ suc k = omega arith in
+      let x : cellNext i ≡ c = omega arith in
+      let y : regionNext i ≡ suc k = omega arith in
       ap walk (let e : mostCells * k + suc c ≡ suc i = omega arith in e)
       ∙ ap₂ (λ (a q : ℕ). cond (eqb (goal a) q) (place q a (walk i)) (walk i)) x y
       ∙ ap (λ (z : Placing). cond (eqb (goal c) (suc k)) (place (suc k) c z) z) (row k s c (omega arith))
@@ -201,7 +202,7 @@ module _ {p : Sizes} {goal : ℕ → ℕ} {W T : List ℕ} (few : p .pages ≤ 1
           record {
             only = λ x l on off. by-cases (ℕ-discrete x c) (λ e. omega (arith, goal-c, ap goal e)) (λ n. let y = i .only x l on (before x l n off) in omega arith);
             pages =
-                pages-same p (s .mid) T″ (mid-pages s) ∙ takes .1 ∙ ap (λ (ps : Pages). take ps g .pages) (i .pages)
+                pages-alike p (s .mid) T″ (mid-pages s) ∙ takes .1 ∙ ap (λ (ps : Pages). take ps g .pages) (i .pages)
                 ∙ sym (ap (λ (z : Placing). z .pages) past-here);
             cells = λ x l on off. here x l on off (ℕ-discrete x c) ∙ sym (ap (λ (z : Placing). refTo (newCell (z .moves) x)) past-here);
             begins = λ x l on. step-keeps s x (i .begins x l on);

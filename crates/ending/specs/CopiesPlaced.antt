@@ -23,7 +23,8 @@ use Rattle.promises.specs.Reading.{used-home, alive-used, no-home}
 use Rattle.promises.specs.Ends.{partOf, Outside, Survivor, Lives, lives-how}
 use Rattle.release.specs.Release.{Blank, Alike}
 use Rattle.ended.specs.Evacuated.{goalIn, copiesIn, Repacked}
-use Rattle.mark.specs.MarkedWords.{owner-same, used-same}
+use Rattle.promises.specs.Regular.{pages-alike}
+use Rattle.ending.specs.MarkedReady.{pages-same}
 use Rattle.copy.specs.Copying.{Plan, Copy}
 use Rattle.copy.specs.Placement.{Goals, copy-pages, copy-cells, copy-still}
 use Rattle.ending.specs.Copied.{HasMoved, placed, placed-still, placed-moved, outside-idle, on}
@@ -51,10 +52,7 @@ module _ {s : Sizes} {t l r : ℕ} {w w₁ : Words} (b : Ending s t l r w w₁) 
 
   -- the pages are not marked
   pages-before : pagesAt s (w₁ .tables) ≡ pagesIn s w
-  unfolding pagesAt
-  pages-before =
-      listed-same (pageIn s (w₁ .tables)) (pageIn s (w .tables)) (s .pages)
-      (λ i m. ap₂ (λ (x y : ℕ). record { owner = x; used = y }) (owner-same (b .marks) (room-of b) i m) (used-same (b .marks) (room-of b) i m))
+  pages-before = pages-alike s (w .tables) (w₁ .tables) (pages-same s w (b .whole) (room-of b) (partOf s w r) w₁ (b .marks))
 
   -- an object elsewhere goes nowhere, nor does what is past the cells
   goal-away : (c : ℕ) → (homeIn s w c ≡ r → ⊥) → goalIn s w r c ≡ 0

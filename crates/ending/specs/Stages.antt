@@ -22,7 +22,7 @@ use Rattle.remember.specs.Crossing.{crossesFrom}
 use Rattle.remember.specs.Staying.{Entries}
 use Rattle.promises.specs.Whole.{Open}
 use Rattle.promises.specs.NewPages.{level-open}
-use Rattle.promises.specs.TakenPage.{pages-same}
+use Rattle.promises.specs.Regular.{pages-alike}
 use Rattle.promises.specs.OwnedPages.{counted-objects}
 use Rattle.promises.specs.Reading.{refs-few}
 use Rattle.promises.specs.Ends.{partOf, Lives}
@@ -259,6 +259,6 @@ module _ {s : Sizes} {t l r : ℕ} {w w₁ : Words} (b : Ending s t l r w w₁) 
                 cells = copied-cells b pos p c moved;
                 pages =
                     pages-released s r T₂ T′ (λ page m e. ended-blank a (bounds .0) (bounds .1) (b .thread) Z page m e) (λ page m e. ended-alike a (bounds .0) (bounds .1) (b .thread) Z page m e)
-                    ∙ ap (released (only r)) (pages-same s T T₂ (λ page m. record { owner = owner₂ moved Y page m; used = used₂ moved Y page m }) ∙ copied-pages b pos p c);
+                    ∙ ap (released (only r)) (pages-alike s T T₂ (λ page m. record { owner = owner₂ moved Y page m; used = used₂ moved Y page m }) ∙ copied-pages b pos p c);
               };
             }

@@ -11,6 +11,7 @@ pub mod SameRules
 pub mod RulesLaws
 pub mod Asked
 pub mod AfterLaws
+pub mod Highest
 pub mod PlaceLaws
 pub mod LikeCells
 pub mod LikeHeaps

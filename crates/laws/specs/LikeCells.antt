@@ -19,36 +19,11 @@ use Rattle.rules.specs.Graph.{Graph, ended}
 use Rattle.rules.specs.Pages.{Pages, Move, Placing, highest, noneMoved, placeAll, newCell, released}
 use Rattle.rules.specs.Rules as ru
 use Rattle.rules.specs.Rules.{Regioned, graph, homeOf, objectCell, cellCount, objectAt, goalOf, copies, vacated}
+use Rattle.laws.specs.Highest.{highest-some, highest-zero}
 use Rattle.laws.specs.GraphLaws.{Alive}
 use Rattle.laws.specs.EndLaws.{home-went}
 use Rattle.laws.specs.SameRules.{Partners, same-target}
 use Rattle.laws.specs.RulesLaws.{Sound, graph-ended}
-
--- ---- the highest number that passes
-
-pub highest-some : (b : ℕ → Bool) (n x : ℕ) → highest b n ≡ suc x → (x < n) × (b x ≡ true)
-unfolding highest
-highest-some b zero x e = absurd (let z : ⊥ = omega arith in z)
-highest-some b (suc n) x e = go (b n) refl (highest-some b n x)
-  where
-    go : (t : Bool) → b n ≡ t → (highest b n ≡ suc x → (x < n) × (b x ≡ true)) → (x < suc n) × (b x ≡ true)
-    go true q rest =
-        let f : suc n ≡ suc x = sym (ap (λ (t : Bool). cond t (suc n) (highest b n)) q) ∙ e in
-        let z : n ≡ x = omega arith in
-        (omega arith, ap b (sym z) ∙ q)
-    go false q rest =
-        let r = rest (sym (ap (λ (t : Bool). cond t (suc n) (highest b n)) q) ∙ e) in
-        (omega (arith, r .0), r .1)
-
-pub highest-none : (b : ℕ → Bool) (n : ℕ) → highest b n ≡ 0 → (y : ℕ) → y < n → b y ≡ true → ⊥
-unfolding highest
-highest-none b zero e y l t = omega arith
-highest-none b (suc n) e y l t = go (b n) refl (ℕ-discrete y n) (highest-none b n)
-  where
-    go : (x : Bool) → b n ≡ x → Dec (y ≡ n) → (highest b n ≡ 0 → (y : ℕ) → y < n → b y ≡ true → ⊥) → ⊥
-    go true q d rest = let f : suc n ≡ 0 = sym (ap (λ (x : Bool). cond x (suc n) (highest b n)) q) ∙ e in omega arith
-    go false q (yes z) rest = true-not-false (sym q ∙ sym (ap b z) ∙ t)
-    go false q (no z) rest = rest (sym (ap (λ (x : Bool). cond x (suc n) (highest b n)) q) ∙ e) y (omega arith) t
 
 -- ---- the object in a cell
 
@@ -71,7 +46,7 @@ held-by h c = go (objectAt h c) refl
     passes x a e = ap₂ (λ (p q : Bool). not p && q) (ne-eqb (homeOf h x) 0 a) (eq-eqb (objectCell h x) c e)
 
     go : (n : ℕ) → objectAt h c ≡ n → Held h c
-    go zero e = none e (λ x a f. highest-none test (length (h .homes)) e x (in-bounds (h .homes) x a) (passes x a f))
+    go zero e = none e (λ x a f. highest-zero test (length (h .homes)) e x (in-bounds (h .homes) x a) (passes x a f))
     go (suc x) e =
         let t = both-true _ _ (highest-some test (length (h .homes)) x e .1) in
         by x e (λ z. true-not-false (sym (ap not (eq-eqb (homeOf h x) 0 z)) ∙ t .0)) (eqb-true (objectCell h x) c (t .1))

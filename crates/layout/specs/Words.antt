@@ -9,7 +9,7 @@ use Rattle.lists.specs.Listed.{listed, length-listed, getD-listed, listed-past}
 use Rattle.rules.specs.declared.Sizes.{Sizes}
 use Rattle.rules.specs.NeverFreeing.{Object}
 use Rattle.rules.specs.Graph.{Graph}
-use Rattle.rules.specs.Pages.{Page, Pages, freePage, pageAt}
+use Rattle.rules.specs.Pages.{Page, Pages, freePage, nthPage}
 use Rattle.rules.specs.Rules.{Counters, Regioned}
 use Rattle.layout.specs.declared.Kind.{Kind}
 use Rattle.layout.specs.declared.Kind.the-variants.{Reference, Number}
@@ -74,11 +74,11 @@ module _ (s : Sizes) (tables : List ℕ) where
   unfolding pagesAt
   pages-count = length-listed (pageIn s tables) (s .pages)
 
-  pub page-there : (page : ℕ) → page < s .pages → pageAt (pagesAt s tables) page ≡ pageIn s tables page
+  pub page-there : (page : ℕ) → page < s .pages → nthPage (pagesAt s tables) page ≡ pageIn s tables page
   unfolding pagesAt
   page-there page l = getD-listed (pageIn s tables) (s .pages) page freePage l
 
-  pub page-beyond : (page : ℕ) → s .pages ≤ page → pageAt (pagesAt s tables) page ≡ freePage
+  pub page-beyond : (page : ℕ) → s .pages ≤ page → nthPage (pagesAt s tables) page ≡ freePage
   unfolding pagesAt
   page-beyond page l = listed-past (pageIn s tables) (s .pages) page freePage l
 

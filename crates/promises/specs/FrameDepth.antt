@@ -17,7 +17,7 @@ use Rattle.promises.specs.Whole.{WholeFor, Open}
 use Rattle.promises.specs.StandsFor.{StandsFor}
 use Rattle.promises.specs.Changes.{withTables, withDepth}
 use Rattle.promises.specs.Areas.{depthWords, Only, store-only}
-use Rattle.promises.specs.Frames.{still-whole, pages-open, variables-frame, objects-frame, remember-frame, vars-same, home-same, counters-same, pages-same, stands-still}
+use Rattle.promises.specs.Frames.{still-whole, pages-open, variables-frame, objects-frame, remember-frame, vars-same, home-same, counters-same, occupancy-same, stands-still}
 
 module _ (s : Sizes) (w : Words) (k : WholeFor s w) (t d : ℕ) (l : t < s .threads) where
   abbrev T : List ℕ
@@ -67,4 +67,4 @@ depth-stands s w h cellOf st t d l m o sound =
     let k = st .whole in
     let only = depth-only s w k t d l in
     stands-still st (home-same only refl refl refl) (withDepth h t d .heap) (depth-whole s w k t d l m o)
-    (ap (λ (ds : List ℕ). set ds t d) (st .depths) ∙ sym (depths-set s w k t d l)) (st .partners .refs) (vars-same only refl ∙ st .partners .vars) (st .nums) (counters-same only refl refl) (pages-same only refl refl) sound
+    (ap (λ (ds : List ℕ). set ds t d) (st .depths) ∙ sym (depths-set s w k t d l)) (st .partners .refs) (vars-same only refl ∙ st .partners .vars) (st .nums) (counters-same only refl refl) (occupancy-same only refl refl) sound

@@ -20,7 +20,7 @@ use Rattle.promises.specs.Agreed.{cell-used}
 use Rattle.promises.specs.Reading.{length-vars}
 use Rattle.promises.specs.Changes.{withTables, withVariable}
 use Rattle.promises.specs.Areas.{variableWords, Only, store-only, starts}
-use Rattle.promises.specs.Frames.{still-whole, depths-frame, pages-frame, objects-frame, remember-frame, ref-frame, depths-same, home-same, counters-same, pages-same, stands-still}
+use Rattle.promises.specs.Frames.{still-whole, depths-frame, pages-frame, objects-frame, remember-frame, ref-frame, depths-same, home-same, counters-same, occupancy-same, stands-still}
 
 -- a reference to an object that is there leads to an object's cell
 pub ref-to-cell : (s : Sizes) (w : Words) (h : Regioned) (cellOf : ℕ → ℕ) → StandsFor s w h cellOf → (u v : ℕ) → v ≡ renamed cellOf u
@@ -66,7 +66,7 @@ variable-stands s w h cellOf st i u v l e sound =
     stands-still st (home-same only refl refl refl) (withVariable h i u .heap)
     (variable-whole s w k i v l (ref-to-cell s w h cellOf st u v e (λ x q. sound .closed .vars i x (put (h .heap .vars) i u 0 here ∙ q))))
     (st .depths ∙ sym (depths-same only refl)) (st .partners .refs)
-    (vars-set s w k i v l ∙ ap₂ (λ (vs : List ℕ) (x : ℕ). set vs i x) (st .partners .vars) e ∙ sym (map-set (renamed cellOf) (h .heap .vars) i u)) (st .nums) (counters-same only refl refl) (pages-same only refl refl) sound
+    (vars-set s w k i v l ∙ ap₂ (λ (vs : List ℕ) (x : ℕ). set vs i x) (st .partners .vars) e ∙ sym (map-set (renamed cellOf) (h .heap .vars) i u)) (st .nums) (counters-same only refl refl) (occupancy-same only refl refl) sound
   where
     here : i < length (h .heap .vars)
     here = omega (arith, length-vars s w (st .whole), ap length (st .partners .vars), length-map (h .heap .vars) (renamed cellOf))

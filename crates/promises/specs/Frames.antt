@@ -8,7 +8,6 @@ use mathlib.Core.Bool.{false}
 use lib.ListN.{getD, take, drop}
 use Rattle.lists.specs.Counting.{sum-same}
 use Rattle.lists.specs.Stores.{part-same}
-use Rattle.lists.specs.Listed.{listed-same}
 use Rattle.rules.specs.declared.Sizes.{Sizes}
 use Rattle.rules.specs.Regions.{threadOf, regions}
 use Rattle.rules.specs.Rules.{counted, Regioned, graph}
@@ -21,10 +20,10 @@ use Rattle.layout.specs.declared.Kind.the-variants.{Reference}
 use Rattle.layout.specs.Places.{cellsWords, varCount, depthAt, varAt}
 use Rattle.layout.specs.Cells.{fieldAt, roomFor, allFields, refsOf, Formed, fieldCount, firstField, fields-room, kind-among, pageOf, cellNamed}
 use Rattle.layout.specs.Objects.{begins?, begins-page, begins-true, begins-false, unused-back}
-use Rattle.layout.specs.Words.{Words, BeginsIn, headIn, ownerIn, homeIn, homeAt, depthsIn, depthsAt, varsIn, varsAt, countersIn, pageIn, pagesAt, pagesIn, fieldsIn, fieldsAt, refsIn, numsIn}
+use Rattle.layout.specs.Words.{Words, BeginsIn, headIn, ownerIn, homeIn, homeAt, depthsIn, depthsAt, varsIn, varsAt, countersIn, pagesIn, fieldsIn, fieldsAt, refsIn, numsIn}
 use Rattle.remember.specs.Crossing.{crossTo}
 use Rattle.promises.specs.Whole.{Open, IsRef, Sized, DepthsWhole, PagesWhole, VariablesWhole, ObjectWhole, ObjectsWhole, MarksWhole, WorksWhole, RememberWhole, UnusedWhole, CountersWhole, WholeFor}
-use Rattle.promises.specs.Regular.{Regular, whole-regular, SamePage, filled-same, regular-same}
+use Rattle.promises.specs.Regular.{Regular, whole-regular, SamePage, pages-alike, filled-same, regular-same}
 use Rattle.promises.specs.StandsFor.{StandsFor}
 use Rattle.promises.specs.Areas.{Area, sizeWords, depthWords, variableWords, ownerWords, usedWords, markWords, countWords, madeWords, freedWords, headWords, workWords, fieldWords, unusedWords, entryWords, among, Only}
 use Rattle.remember.specs.Entries.{Exact, exact-everywhere}
@@ -60,11 +59,11 @@ module _ {cs : List Area} {s : Sizes} {w w′ : Words} (o : Only cs s w w′) wh
       part-same (varCount s) (varAt s 0) (w .tables) (w′ .tables) (o .beyond .tables .long)
       (λ i l. subst (λ (j : ℕ). getD (w′ .tables) j 0 ≡ getD (w .tables) j 0) (let e : varAt s i ≡ varAt s 0 + i = omega arith in e) (o .same variableWords n i l))
 
-  pub pages-same : among ownerWords cs ≡ false → among usedWords cs ≡ false → pagesIn s w′ ≡ pagesIn s w
-  unfolding pagesAt
-  pages-same a u =
-      listed-same (pageIn s (w′ .tables)) (pageIn s (w .tables)) (s .pages)
-      (λ i l. ap₂ (λ (x y : ℕ). record { owner = x; used = y }) (o .same ownerWords a i l) (o .same usedWords u i l))
+  same-pages : among ownerWords cs ≡ false → among usedWords cs ≡ false → (page : ℕ) → page < s .pages → SamePage s (w .tables) (w′ .tables) page
+  same-pages a u page l = record { owner = o .same ownerWords a page l; used = o .same usedWords u page l }
+
+  pub occupancy-same : among ownerWords cs ≡ false → among usedWords cs ≡ false → pagesIn s w′ ≡ pagesIn s w
+  occupancy-same a u = pages-alike s (w .tables) (w′ .tables) (same-pages a u)
 
   pub fields-same : among headWords cs ≡ false → among fieldWords cs ≡ false → (d : Kind) (k : ℕ) → BeginsIn s w k → Formed (headIn w k) → fieldsIn d w′ k ≡ fieldsIn d w k
   unfolding fieldsAt
@@ -92,9 +91,6 @@ module _ {cs : List Area} {s : Sizes} {w w′ : Words} (o : Only cs s w w′) wh
 
   pub depths-frame : among depthWords cs ≡ false → DepthsWhole s w → DepthsWhole s w′
   depths-frame n k t l = omega (arith, o .same depthWords n t l, k t l)
-
-  same-pages : among ownerWords cs ≡ false → among usedWords cs ≡ false → (page : ℕ) → page < s .pages → SamePage s (w .tables) (w′ .tables) page
-  same-pages a u page l = record { owner = o .same ownerWords a page l; used = o .same usedWords u page l }
 
   pub regular-frame : among ownerWords cs ≡ false → among usedWords cs ≡ false → among countWords cs ≡ false → Regular s (w .tables) → Regular s (w′ .tables)
   regular-frame a u n = regular-same (same-pages a u) (o .same countWords n)

@@ -35,9 +35,9 @@ balance : (a b : ℕ → ℕ) (n : ℕ) → sum b n + sum (λ i. a i - b i) n �
 balance a b n = sym (sum-plus b (λ i. a i - b i) n) ∙ sum-same _ _ n (λ i l. omega arith) ∙ sum-plus a (λ i. b i - a i) n
 
 module _ (s : Sizes) (w w′ : Words) (h h′ : Regioned) (to to′ : ℕ → ℕ) (st : StandsFor s w h to) (st′ : StandsFor s w′ h′ to′) where
-  pages-changed : pagesOwned s w′ 0 + newPages s (graph h) (graph h′) ≡ pagesOwned s w 0 + newPages s (graph h′) (graph h)
+  balanced : pagesOwned s w′ 0 + newPages s (graph h) (graph h′) ≡ pagesOwned s w 0 + newPages s (graph h′) (graph h)
   unfolding newPages
-  pages-changed =
+  balanced =
       omega (arith, all-pages s w h to st, all-pages s w′ h′ to′ st′, balance (filledBy (graph h)) (filledBy (graph h′)) (regions s))
 
 -- THE PACKING TAKES JUST THE PAGES THAT 13 COUNTS
@@ -45,4 +45,4 @@ pub pages-taken : (s : Sizes) (w : Words) (m : Command) (w′ : Words) (a : Answ
     → let h = heapOf s w in
     let h′ = ru.step s h m .next in
     pagesOwned s w′ 0 + newPages s (graph h) (graph h′) ≡ pagesOwned s w 0 + newPages s (graph h′) (graph h)
-pages-taken s w m w′ a k d = pages-changed s w w′ (heapOf s w) (ru.step s (heapOf s w) m .next) (λ c. c) (d .next .cell) (heap-stands s w k) (d .next .stands)
+pages-taken s w m w′ a k d = balanced s w w′ (heapOf s w) (ru.step s (heapOf s w) m .next) (λ c. c) (d .next .cell) (heap-stands s w k) (d .next .stands)

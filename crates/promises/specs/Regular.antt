@@ -9,10 +9,11 @@ use mathlib.Core.Bool.{Bool, cond}
 use lib.Dec.{eqb}
 use borrow.Author.Tests.{eq-eqb, ne-eqb}
 use Rattle.lists.specs.Counting.{sum-same}
+use Rattle.lists.specs.Listed.{listed-same}
 use Rattle.rules.specs.declared.Sizes.{Sizes}
 use Rattle.rules.specs.Regions.{regions}
 use Rattle.layout.specs.Places.{ownerOf, usedOf, countOf}
-use Rattle.layout.specs.Words.{Words, tablesOnly}
+use Rattle.layout.specs.Words.{Words, tablesOnly, pageIn, pagesAt}
 use Rattle.promises.specs.Whole.{PageFilled, Partial, objectsOn, objectsOf, OnePartial, CountsWhole, WholeFor}
 
 pub record Regular (s : Sizes) (t : List ℕ) : Type 0 where
@@ -41,6 +42,12 @@ objects-no s t g page n = ap (λ (b : Bool). cond b (usedOf s t page) 0) (ne-eqb
 pub record SamePage (s : Sizes) (t t′ : List ℕ) (page : ℕ) : Type 0 where
   pub owner : ownerOf s t′ page ≡ ownerOf s t page
   pub used : usedOf s t′ page ≡ usedOf s t page
+
+-- so the rules' pages are
+pub pages-alike : (s : Sizes) (t t′ : List ℕ) → ((page : ℕ) → page < s .pages → SamePage s t t′ page) → pagesAt s t′ ≡ pagesAt s t
+unfolding pagesAt
+pages-alike s t t′ same =
+    listed-same (pageIn s t′) (pageIn s t) (s .pages) (λ q l. ap₂ (λ (x y : ℕ). record { owner = x; used = y }) (same q l .owner) (same q l .used))
 
 module _ {s : Sizes} {t t′ : List ℕ} {page : ℕ} (e : SamePage s t t′ page) where
   pub filled-same : PageFilled s t page → PageFilled s t′ page

@@ -15,37 +15,14 @@ use Rattle.lists.specs.Tests.{both-true}
 use Rattle.lists.specs.Listed.{listed-same}
 use Rattle.rules.specs.declared.Sizes.{Sizes}
 use Rattle.rules.specs.Terms.{first}
-use Rattle.rules.specs.Pages.{Page, Pages, freePage, pageAt, highest, isFree, isPartial, pageFor, Taken, takeOn, take}
+use Rattle.rules.specs.Pages.{Page, Pages, freePage, nthPage, highest, isFree, isPartial, pageFor, Taken, takeOn, take}
+use Rattle.laws.specs.Highest.{highest-is, highest-none}
 use Rattle.layout.specs.Places.{ownerOf, usedOf}
 use Rattle.layout.specs.Cells.{pageCells, pageOf, placeOf}
 use Rattle.layout.specs.Words.{pageIn, pagesAt, pages-count, page-there}
 use Rattle.promises.specs.Whole.{Partial}
 use Rattle.promises.specs.Regular.{Regular, SamePage, one}
 use Rattle.promises.specs.TakeCell.{Source, Took, page-past}
-
--- ---- the highest number that passes a test
-
-highest-step : (b : ℕ → Bool) (n : ℕ) (t : Bool) → b n ≡ t → highest b (suc n) ≡ cond t (suc n) (highest b n)
-unfolding highest
-highest-step b n t e = ap (λ (x : Bool). cond x (suc n) (highest b n)) e
-
-pub highest-is : (b : ℕ → Bool) (n x : ℕ) → x < n → b x ≡ true → ((y : ℕ) → y < n → b y ≡ true → y ≤ x) → highest b n ≡ suc x
-highest-is b zero x l e top = absurd (let z : ⊥ = omega arith in z)
-highest-is b (suc n) x l e top = go (b n) refl (λ (k : x < n). highest-is b n x k e (λ y m g. top y (omega arith) g))
-  where
-    go : (t : Bool) → b n ≡ t → (x < n → highest b n ≡ suc x) → highest b (suc n) ≡ suc x
-    go true f rest = highest-step b n true f ∙ (let z : suc n ≡ suc x = omega (arith, top n (omega arith) f) in z)
-    go false f rest =
-        highest-step b n false f ∙ by-cases (ℕ-discrete x n) (λ z. absurd (true-not-false (sym f ∙ ap b (sym z) ∙ e))) (λ z. rest (omega arith))
-
-pub highest-none : (b : ℕ → Bool) (n : ℕ) → ((y : ℕ) → y < n → b y ≡ true → ⊥) → highest b n ≡ 0
-unfolding highest
-highest-none b zero none = refl
-highest-none b (suc n) none = go (b n) refl (highest-none b n (λ y m. none y (omega arith)))
-  where
-    go : (t : Bool) → b n ≡ t → highest b n ≡ 0 → highest b (suc n) ≡ 0
-    go true f rest = absurd (none n (omega arith) f)
-    go false f rest = highest-step b n false f ∙ rest
 
 -- ---- the tests, in words
 
@@ -118,10 +95,6 @@ pages-changed s t t′ page o u l eo eu same =
         ap₂ (λ (x y : ℕ). record { owner = x; used = y }) (b .owner) (b .used) ∙ sym (getD-set-other (pagesAt s t) page q new freePage n ∙ page-there s t q k)
 
 -- pages whose words are the same
-pub pages-same : (s : Sizes) (t t′ : List ℕ) → ((q : ℕ) → q < s .pages → SamePage s t t′ q) → pagesAt s t′ ≡ pagesAt s t
-unfolding pagesAt
-pages-same s t t′ same =
-    listed-same (pageIn s t′) (pageIn s t) (s .pages) (λ q l. ap₂ (λ (x y : ℕ). record { owner = x; used = y }) (same q l .owner) (same q l .used))
 
 -- ---- the cell and the pages after it is taken are the rules'
 
@@ -132,7 +105,7 @@ module _ {s : Sizes} {t : List ℕ} {g cell n : ℕ} {t′ : List ℕ} (r : Regu
   took-on : take (pagesAt s t) g ≡ takeOn (pagesAt s t) g (pageOf cell)
   took-on = ap (takeOn (pagesAt s t) g) (let z : pageFor (pagesAt s t) g - 1 ≡ pageOf cell = omega (arith, took-page) in z)
 
-  used-there : pageAt (pagesAt s t) (pageOf cell) .used ≡ placeOf cell
+  used-there : nthPage (pagesAt s t) (pageOf cell) .used ≡ placeOf cell
   used-there = ap (λ (q : Page). q .used) (page-there s t (pageOf cell) (k .page)) ∙ k .first
 
   pub took-takes : (cell ≡ take (pagesAt s t) g .cell) × (pagesAt s t′ ≡ take (pagesAt s t) g .pages)
