@@ -16,7 +16,6 @@ use Rattle.rules.specs.declared.Command.{Command}
 use Rattle.rules.specs.Terms.{Code, unknown, start, end, new, copy, clear, load, store, read, write, same, codes, decode, ask, limits, refused, done, first}
 use Rattle.rules.specs.declared.Answer.{Answer}
 use Rattle.rules.specs.NeverFreeing.{NeverFreeing, operands, known, question, state}
-
 use Rattle.layout.specs.Cells.{mostFields}
 use Rattle.commands.specs.declared.Decoded.{Decoded}
 use Rattle.commands.specs.declared.Decoded.the-variants.{Start, End, New, Copy, Clear, Load, Store, Read, Write, Same, Refused}

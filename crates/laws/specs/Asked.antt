@@ -10,7 +10,6 @@ use Rattle.rules.specs.Terms.{Code, unknown, start, end, new, copy, clear, load
 use Rattle.rules.specs.NeverFreeing.{NeverFreeing, mostFields, operands, question, state, Access, noField, references, numbers, accessed, nested}
 use Rattle.rules.specs.NeverFreeing.{Effect, opens, ends, makes, assigns, meaning, meaningOf}
 
-
 pub ask-zero : (b : Bool) (q rest : ℕ) → ask b (suc q) rest ≡ 0 → T b × (rest ≡ 0)
 unfolding ask
 ask-zero true q rest e = (tt, e)

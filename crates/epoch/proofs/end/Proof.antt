@@ -59,9 +59,11 @@ same-length c = search needs
 returns : tie.Need-returns
 returns c =
     let a = c .before .before .before .before .before .before .before .before .before .args in
-    let pre = c .before .before .before .before .before .before .before .before .before .pre in
-    (did-answer (c .refused .ensures)
-    (refused-shut (a .p) (words (a .cells .now) (a .remember .now) (a .tables .now)) (pre .0) (a .thread) (pre .1 .0) (sym (c .before .before .wide .ensures ∙ c .before .before .before .depth .ensures) ∙ c .before .if1 .taken)), pre .1 .1)
+    let pre = c .before .before .before .before .before .before .before .before .before .pre in (
+      did-answer (c .refused .ensures)
+          (refused-shut (a .p) (words (a .cells .now) (a .remember .now) (a .tables .now)) (pre .0) (a .thread) (pre .1 .0) (sym (c .before .before .wide .ensures ∙ c .before .before .before .depth .ensures) ∙ c .before .if1 .taken)),
+      pre .1 .1,
+    )
 
 region-at-requires : tie.Need-region-at-requires
 region-at-requires c κs =

@@ -67,9 +67,12 @@ same-length-3 : tie.Need-same-length-3
 same-length-3 c = search needs
 
 returns : tie.Need-returns
-returns c = (λ cells tables m.
-    did-answer (c .refused .ensures)
-    (out-refused m (c .before .before .before .before .before .before .before .before .before .before .ask-room .result) (omega (arith, c .before .before .before .before .before .before .before .before .before .if1 .taken)) (c .before .before .before .before .before .before .before .before .before .before .ask-room .ensures) (c .before .before .before .before .before .unmark .ensures)), out-noted (c .before .before .before .before .before .before .before .before .before .before .before .before .before .before .before .before .before .before .before .before .before .before .before .before .before .before .before .before .before .pre .0 .2) (c .before .before .before .before .before .unmark .ensures) (c .before .before .before .before .before .before .before .before .before .before .before .before .before .before .before .before .before .before .before .before .before .before .before .before .before .before .before .before .before .pre .1))
+returns c = (
+  λ cells tables m.
+      did-answer (c .refused .ensures)
+      (out-refused m (c .before .before .before .before .before .before .before .before .before .before .ask-room .result) (omega (arith, c .before .before .before .before .before .before .before .before .before .if1 .taken)) (c .before .before .before .before .before .before .before .before .before .before .ask-room .ensures) (c .before .before .before .before .before .unmark .ensures)),
+  out-noted (c .before .before .before .before .before .before .before .before .before .before .before .before .before .before .before .before .before .before .before .before .before .before .before .before .before .before .before .before .before .pre .0 .2) (c .before .before .before .before .before .unmark .ensures) (c .before .before .before .before .before .before .before .before .before .before .before .before .before .before .before .before .before .before .before .before .before .before .before .before .before .before .before .before .before .pre .1),
+)
 
 slice-aggregate-evacuate : tie.Need-slice-aggregate-evacuate
 slice-aggregate-evacuate c = search needs
@@ -110,9 +113,12 @@ same-length-7 : tie.Need-same-length-7
 same-length-7 c = search needs
 
 returns-2 : tie.Need-returns-2
-returns-2 c = (λ cells tables m.
-    let a = accepted m (sym (let z : c .before .before .before .before .before .before .before .before .before .before .before .before .before .before .before .before .before .ask-room .result ≡ 0 = omega (arith, c .before .before .before .before .before .before .before .before .before .before .before .before .before .before .before .before .if1 .left) in z) ∙ c .before .before .before .before .before .before .before .before .before .before .before .before .before .before .before .before .before .ask-room .ensures) in
-    did-answer (c .done .ensures) (ended-here m a (c .before .before .before .before .before .before .before .before .before .evacuate .ensures .0 cells tables m a)), c .before .before .before .before .before .before .before .before .before .evacuate .ensures .1)
+returns-2 c = (
+  λ cells tables m.
+      let a = accepted m (sym (let z : c .before .before .before .before .before .before .before .before .before .before .before .before .before .before .before .before .before .ask-room .result ≡ 0 = omega (arith, c .before .before .before .before .before .before .before .before .before .before .before .before .before .before .before .before .if1 .left) in z) ∙ c .before .before .before .before .before .before .before .before .before .before .before .before .before .before .before .before .before .ask-room .ensures) in
+      did-answer (c .done .ensures) (ended-here m a (c .before .before .before .before .before .before .before .before .before .evacuate .ensures .0 cells tables m a)),
+  c .before .before .before .before .before .before .before .before .before .evacuate .ensures .1,
+)
 
 pub end-marked-spec : {M : Type 1} → statement M
 end-marked-spec =

@@ -84,18 +84,21 @@ same-length-4 : tie.Need-same-length-4
 same-length-4 c = c .before .before .before .before .before .before .release .kept .1 .1 .1 .0 ∙ c .before .before .before .before .before .before .before .before .before .before .before .before .before .before .before .before .before .before .before .before .before .before .before .before .before .before .before .before .before .before .before .before .before .before .copy-survivors .kept .1 .1 .1 .0
 
 returns : tie.Need-returns
-returns c = (λ cells tables e a.
-    let args = c .before .before .before .before .before .before .before .before .before .before .before .before .before .before .before .before .before .before .before .before .before .before .before .before .before .before .before .before .before .before .before .before .before .before .before .before .before .before .before .before .before .before .before .before .before .before .before .before .before .args in
-    let count = c .before .before .before .before .before .before .before .before .before .before .before .before .before .before .before .before .before .before .before .before .before .before .before .before .before .before .before .before .before .before .before .before .before .before .before .before .before .before .count in
-    let survivors = c .before .before .before .before .before .before .before .before .before .before .before .before .before .before .before .before .before .before .before .before .before .before .before .before .before .before .before .before .before .before .before .before .before .before .before .before .before .before .before .before .before .count-survivors in
-    let settle = c .before .before .before .before .before .before .before .before .before .before .before .before .before .before .before .before .before .before .before .settle in
-    let release = c .before .before .before .before .before .before .release in
-    let p = plan e (a .pages) in
-    let k = c .before .before .before .before .before .before .before .before .before .before .before .before .before .before .before .before .before .before .before .before .before .before .before .before .before .before .before .before .before .before .before .before .before .before .copy-survivors .ensures .0 in
-    let h = st.moved e p k in
-    st.has-ended e p k (c .before .before .before .before .before .before .before .before .before .before .before .before .rewrite-variables .ensures) (release .ensures .0)
-    (omega (arith, count .ensures, ap (countOf (args .p) (args .tables .now)) (c .before .before .before .before .before .before .before .before .before .before .before .before .before .before .before .before .before .before .before .before .before .before .before .before .before .before .before .before .before .before .before .before .before .before .before .before .before .before .before .wide .ensures), survivors .ensures, st.freed-rest e)) (release .ensures .1 .0)
-    (rewritten-both h (st.held e) (c .before .before .before .before .before .before .before .before .before .before .before .before .before .before .before .before .before .before .before .before .before .before .before .before .before .rewrite-slots .ensures) (settle .ensures .0)) (settle .ensures .1), c .before .before .before .before .before .before .release .ensures .1 .1)
+returns c = (
+  λ cells tables e a.
+      let args = c .before .before .before .before .before .before .before .before .before .before .before .before .before .before .before .before .before .before .before .before .before .before .before .before .before .before .before .before .before .before .before .before .before .before .before .before .before .before .before .before .before .before .before .before .before .before .before .before .before .args in
+      let count = c .before .before .before .before .before .before .before .before .before .before .before .before .before .before .before .before .before .before .before .before .before .before .before .before .before .before .before .before .before .before .before .before .before .before .before .before .before .before .count in
+      let survivors = c .before .before .before .before .before .before .before .before .before .before .before .before .before .before .before .before .before .before .before .before .before .before .before .before .before .before .before .before .before .before .before .before .before .before .before .before .before .before .before .before .before .count-survivors in
+      let settle = c .before .before .before .before .before .before .before .before .before .before .before .before .before .before .before .before .before .before .before .settle in
+      let release = c .before .before .before .before .before .before .release in
+      let p = plan e (a .pages) in
+      let k = c .before .before .before .before .before .before .before .before .before .before .before .before .before .before .before .before .before .before .before .before .before .before .before .before .before .before .before .before .before .before .before .before .before .before .copy-survivors .ensures .0 in
+      let h = st.moved e p k in
+      st.has-ended e p k (c .before .before .before .before .before .before .before .before .before .before .before .before .rewrite-variables .ensures) (release .ensures .0)
+      (omega (arith, count .ensures, ap (countOf (args .p) (args .tables .now)) (c .before .before .before .before .before .before .before .before .before .before .before .before .before .before .before .before .before .before .before .before .before .before .before .before .before .before .before .before .before .before .before .before .before .before .before .before .before .before .before .wide .ensures), survivors .ensures, st.freed-rest e)) (release .ensures .1 .0)
+      (rewritten-both h (st.held e) (c .before .before .before .before .before .before .before .before .before .before .before .before .before .before .before .before .before .before .before .before .before .before .before .before .before .rewrite-slots .ensures) (settle .ensures .0)) (settle .ensures .1),
+  c .before .before .before .before .before .before .release .ensures .1 .1,
+)
 
 pub evacuate-spec : {M : Type 1} → statement M
 evacuate-spec =

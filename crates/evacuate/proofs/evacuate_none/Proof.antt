@@ -34,11 +34,14 @@ same-length-4 : tie.Need-same-length-4
 same-length-4 c = c .before .before .before .before .before .before .release-region .kept .1 .1 .1 .0
 
 returns : tie.Need-returns
-returns c = (λ cells tables e a.
-    let off = c .before .before .before .before .before .before .before .before .before .before .before .before .before .before .before .before .before .before .before .before .pre .1 .0 in
-    let p = plan e (a .pages) in
-    let release = c .before .before .before .before .before .before .release-region in
-    st.has-ended e p (none-copied e off) (none-variables e off) (release .ensures .0) (all-freed e off) (release .ensures .1 .0) (none-rewritten e off p) (c .before .before .before .before .before .before .before .before .before .before .before .before .keep-entries .ensures), c .before .before .before .before .before .before .release-region .ensures .1 .1)
+returns c = (
+  λ cells tables e a.
+      let off = c .before .before .before .before .before .before .before .before .before .before .before .before .before .before .before .before .before .before .before .before .pre .1 .0 in
+      let p = plan e (a .pages) in
+      let release = c .before .before .before .before .before .before .release-region in
+      st.has-ended e p (none-copied e off) (none-variables e off) (release .ensures .0) (all-freed e off) (release .ensures .1 .0) (none-rewritten e off p) (c .before .before .before .before .before .before .before .before .before .before .before .before .keep-entries .ensures),
+  c .before .before .before .before .before .before .release-region .ensures .1 .1,
+)
 
 pub evacuate-none-spec : {M : Type 1} → statement M
 evacuate-none-spec =

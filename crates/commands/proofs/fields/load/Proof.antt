@@ -41,10 +41,12 @@ returns c =
     let pre = c .before .before .before .before .before .before .before .before .pre in
     let read-var = c .before .before .before .read-var in
     let field-question = c .before .before .field-question in
-    let if1 = c .before .if1 in
-    (did-answer (c .refused .ensures)
-    (load-refused (args .p) (args .cells .now) (args .remember .now) (args .tables .now) (pre .0) (args .t) (args .b) (pre .1 .0) (pre .1 .2)
-    (read-var .result) (read-var .ensures) (args .a) (pre .1 .1) (args .f) (field-question .result) (field-question .ensures) (if1 .taken)), none-freed-refl _ _)
+    let if1 = c .before .if1 in (
+      did-answer (c .refused .ensures)
+          (load-refused (args .p) (args .cells .now) (args .remember .now) (args .tables .now) (pre .0) (args .t) (args .b) (pre .1 .0) (pre .1 .2)
+          (read-var .result) (read-var .ensures) (args .a) (pre .1 .1) (args .f) (field-question .result) (field-question .ensures) (if1 .taken)),
+      none-freed-refl _ _,
+    )
 
 read-field-requires : tie.Need-read-field-requires
 read-field-requires c κs =
@@ -75,11 +77,13 @@ returns-2 c =
     let field-question = c .before .before .before .before .before .before .before .before .field-question in
     let read-field = c .before .before .before .before .before .before .read-field in
     let write-var = c .before .before .before .before .write-var in
-    let if2 = c .before .if2 in
-    (did-answer (c .done .ensures)
-    (load-done (args .p) (args .cells .now) (args .remember .now) (args .tables .now) (pre .0) (args .t) (args .b) (pre .1 .0) (pre .1 .2)
-    (read-var .result) (read-var .ensures) (args .a) (pre .1 .1) (args .f) (field-question .result) (field-question .ensures) (omega arith)
-    (read-field .result) (read-field .ensures) 0 (sym (ap (λ (i : Bool). bit (not i)) (eq-eqb _ _ (if2 .taken)))) (write-var .ensures)), none-freed-before (args .p) (args .tables .now) (variableAt (args .p) (args .t) (args .a)) _ (variable-low (args .p) (args .t) (args .a) (pre .1 .0) (pre .1 .1)) (write-var .ensures))
+    let if2 = c .before .if2 in (
+      did-answer (c .done .ensures)
+          (load-done (args .p) (args .cells .now) (args .remember .now) (args .tables .now) (pre .0) (args .t) (args .b) (pre .1 .0) (pre .1 .2)
+          (read-var .result) (read-var .ensures) (args .a) (pre .1 .1) (args .f) (field-question .result) (field-question .ensures) (omega arith)
+          (read-field .result) (read-field .ensures) 0 (sym (ap (λ (i : Bool). bit (not i)) (eq-eqb _ _ (if2 .taken)))) (write-var .ensures)),
+      none-freed-before (args .p) (args .tables .now) (variableAt (args .p) (args .t) (args .a)) _ (variable-low (args .p) (args .t) (args .a) (pre .1 .0) (pre .1 .1)) (write-var .ensures),
+    )
 
 done-requires-2 : tie.Need-done-requires-2
 done-requires-2 c κs = search needs
@@ -95,11 +99,13 @@ returns-3 c =
     let field-question = c .before .before .before .before .before .before .before .before .field-question in
     let read-field = c .before .before .before .before .before .before .read-field in
     let write-var = c .before .before .before .before .write-var in
-    let if2 = c .before .if2 in
-    (did-answer (c .done2 .ensures)
-    (load-done (args .p) (args .cells .now) (args .remember .now) (args .tables .now) (pre .0) (args .t) (args .b) (pre .1 .0) (pre .1 .2)
-    (read-var .result) (read-var .ensures) (args .a) (pre .1 .1) (args .f) (field-question .result) (field-question .ensures) (omega arith)
-    (read-field .result) (read-field .ensures) 1 (sym (ap (λ (i : Bool). bit (not i)) (ne-eqb _ _ (if2 .left)))) (write-var .ensures)), none-freed-before (args .p) (args .tables .now) (variableAt (args .p) (args .t) (args .a)) _ (variable-low (args .p) (args .t) (args .a) (pre .1 .0) (pre .1 .1)) (write-var .ensures))
+    let if2 = c .before .if2 in (
+      did-answer (c .done2 .ensures)
+          (load-done (args .p) (args .cells .now) (args .remember .now) (args .tables .now) (pre .0) (args .t) (args .b) (pre .1 .0) (pre .1 .2)
+          (read-var .result) (read-var .ensures) (args .a) (pre .1 .1) (args .f) (field-question .result) (field-question .ensures) (omega arith)
+          (read-field .result) (read-field .ensures) 1 (sym (ap (λ (i : Bool). bit (not i)) (ne-eqb _ _ (if2 .left)))) (write-var .ensures)),
+      none-freed-before (args .p) (args .tables .now) (variableAt (args .p) (args .t) (args .a)) _ (variable-low (args .p) (args .t) (args .a) (pre .1 .0) (pre .1 .1)) (write-var .ensures),
+    )
 
 pub load-spec : {M : Type 1} → statement M
 load-spec =

@@ -50,10 +50,12 @@ returns c =
     let pre = c .before .before .before .before .before .before .before .before .before .before .before .before .before .before .pre in
     let innermost = c .before .before .before .before .before .before .before .before .innermost in
     let page-for = c .before .before .before .before .before .page-for in
-    let if1 = c .before .if1 in
-    (did-answer (c .refused .ensures)
-    (new-refused (args .p) (args .cells .now) (args .remember .now) (args .tables .now) (pre .0) (args .t) (pre .1 .1 .0) (innermost .result)
-    (innermost .ensures) (args .a) (args .b) (args .c) (pre .1 .1 .1) (pre .1 .1 .2) (page-for .result) (page-for .ensures .0) (if1 .taken)), page-for .ensures .1)
+    let if1 = c .before .if1 in (
+      did-answer (c .refused .ensures)
+          (new-refused (args .p) (args .cells .now) (args .remember .now) (args .tables .now) (pre .0) (args .t) (pre .1 .1 .0) (innermost .result)
+          (innermost .ensures) (args .a) (args .b) (args .c) (pre .1 .1 .1) (pre .1 .1 .2) (page-for .result) (page-for .ensures .0) (if1 .taken)),
+      page-for .ensures .1,
+    )
 
 take-cell-requires : tie.Need-take-cell-requires
 take-cell-requires c κs =

@@ -162,17 +162,21 @@ returns c =
     let args = c .before .before .before .before .before .before .before .before .before .before .before .before .before .before .args in
     let decode = c .before .before .before .before .before .before .before .before .before .decode in
     let d = c .before .before .before .before .before .before .before .d in
-    let start = c .before .before .start in
-    (obeyed (args .p) (args .cells .now) (args .remember .now) (args .tables .now) (args .m) (decode .result) (decode .ensures)
-    (Start (d .given .0 .0)) (d .given .1) refl (start .ensures .0), noted-kept (start .ensures .1) (c .before .before .before .before .before .before .before .before .before .before .before .before .before .before .pre .1))
+    let start = c .before .before .start in (
+      obeyed (args .p) (args .cells .now) (args .remember .now) (args .tables .now) (args .m) (decode .result) (decode .ensures)
+          (Start (d .given .0 .0)) (d .given .1) refl (start .ensures .0),
+      noted-kept (start .ensures .1) (c .before .before .before .before .before .before .before .before .before .before .before .before .before .before .pre .1),
+    )
 
 returns-2 : tie.Need-returns-2
 returns-2 c =
     let args = c .before .before .before .before .before .before .before .before .args in
     let decode = c .before .before .before .decode in
-    let d2 = c .before .d2 in
-    (ends (args .p) (args .cells .now) (args .remember .now) (args .tables .now) (args .m) (decode .result) (decode .ensures) (d2 .given .0 .0)
-    (d2 .given .1), c .before .before .before .before .before .before .before .before .pre .1)
+    let d2 = c .before .d2 in (
+      ends (args .p) (args .cells .now) (args .remember .now) (args .tables .now) (args .m) (decode .result) (decode .ensures) (d2 .given .0 .0)
+          (d2 .given .1),
+      c .before .before .before .before .before .before .before .before .pre .1,
+    )
 
 same-length-4 : tie.Need-same-length-4
 same-length-4 c = search needs
@@ -191,9 +195,11 @@ returns-3 c =
     let args = c .before .before .before .before .before .before .before .before .before .before .before .before .before .before .before .before .before .before .before .args in
     let decode = c .before .before .before .before .before .before .before .before .before .before .before .before .before .before .decode in
     let d3 = c .before .before .before .before .before .before .before .before .before .before .before .before .d3 in
-    let new-object = c .before .before .before .before .before .before .new-object in
-    (obeyed (args .p) (args .cells .now) (args .remember .now) (args .tables .now) (args .m) (decode .result) (decode .ensures)
-    (New (d3 .given .0 .0) (d3 .given .0 .1 .0) (d3 .given .0 .1 .1 .0) (d3 .given .0 .1 .1 .1 .0)) (d3 .given .1) refl (new-object .ensures .0), new-object .ensures .1)
+    let new-object = c .before .before .before .before .before .before .new-object in (
+      obeyed (args .p) (args .cells .now) (args .remember .now) (args .tables .now) (args .m) (decode .result) (decode .ensures)
+          (New (d3 .given .0 .0) (d3 .given .0 .1 .0) (d3 .given .0 .1 .1 .0) (d3 .given .0 .1 .1 .1 .0)) (d3 .given .1) refl (new-object .ensures .0),
+      new-object .ensures .1,
+    )
 
 same-length-8 : tie.Need-same-length-8
 same-length-8 c = search needs
@@ -209,9 +215,11 @@ returns-4 c =
     let args = c .before .before .before .before .before .before .before .before .before .before .before .before .before .before .args in
     let decode = c .before .before .before .before .before .before .before .before .before .decode in
     let d4 = c .before .before .before .before .before .before .before .d4 in
-    let copy = c .before .before .copy in
-    (obeyed (args .p) (args .cells .now) (args .remember .now) (args .tables .now) (args .m) (decode .result) (decode .ensures)
-    (Copy (d4 .given .0 .0) (d4 .given .0 .1 .0) (d4 .given .0 .1 .1 .0) (d4 .given .0 .1 .1 .1 .0)) (d4 .given .1) refl (copy .ensures .0), noted-kept (copy .ensures .1) (c .before .before .before .before .before .before .before .before .before .before .before .before .before .before .pre .1))
+    let copy = c .before .before .copy in (
+      obeyed (args .p) (args .cells .now) (args .remember .now) (args .tables .now) (args .m) (decode .result) (decode .ensures)
+          (Copy (d4 .given .0 .0) (d4 .given .0 .1 .0) (d4 .given .0 .1 .1 .0) (d4 .given .0 .1 .1 .1 .0)) (d4 .given .1) refl (copy .ensures .0),
+      noted-kept (copy .ensures .1) (c .before .before .before .before .before .before .before .before .before .before .before .before .before .before .pre .1),
+    )
 
 same-length-11 : tie.Need-same-length-11
 same-length-11 c = search needs
@@ -227,9 +235,11 @@ returns-5 c =
     let args = c .before .before .before .before .before .before .before .before .before .before .before .before .before .before .args in
     let decode = c .before .before .before .before .before .before .before .before .before .decode in
     let d5 = c .before .before .before .before .before .before .before .d5 in
-    let clear = c .before .before .clear in
-    (obeyed (args .p) (args .cells .now) (args .remember .now) (args .tables .now) (args .m) (decode .result) (decode .ensures)
-    (Clear (d5 .given .0 .0) (d5 .given .0 .1 .0)) (d5 .given .1) refl (clear .ensures .0), noted-kept (clear .ensures .1) (c .before .before .before .before .before .before .before .before .before .before .before .before .before .before .pre .1))
+    let clear = c .before .before .clear in (
+      obeyed (args .p) (args .cells .now) (args .remember .now) (args .tables .now) (args .m) (decode .result) (decode .ensures)
+          (Clear (d5 .given .0 .0) (d5 .given .0 .1 .0)) (d5 .given .1) refl (clear .ensures .0),
+      noted-kept (clear .ensures .1) (c .before .before .before .before .before .before .before .before .before .before .before .before .before .before .pre .1),
+    )
 
 same-length-14 : tie.Need-same-length-14
 same-length-14 c = search needs
@@ -245,9 +255,11 @@ returns-6 c =
     let args = c .before .before .before .before .before .before .before .before .before .before .before .before .before .before .args in
     let decode = c .before .before .before .before .before .before .before .before .before .decode in
     let d6 = c .before .before .before .before .before .before .before .d6 in
-    let load = c .before .before .load in
-    (obeyed (args .p) (args .cells .now) (args .remember .now) (args .tables .now) (args .m) (decode .result) (decode .ensures)
-    (Load (d6 .given .0 .0) (d6 .given .0 .1 .0) (d6 .given .0 .1 .1 .0) (d6 .given .0 .1 .1 .1 .0)) (d6 .given .1) refl (load .ensures .0), noted-kept (load .ensures .1) (c .before .before .before .before .before .before .before .before .before .before .before .before .before .before .pre .1))
+    let load = c .before .before .load in (
+      obeyed (args .p) (args .cells .now) (args .remember .now) (args .tables .now) (args .m) (decode .result) (decode .ensures)
+          (Load (d6 .given .0 .0) (d6 .given .0 .1 .0) (d6 .given .0 .1 .1 .0) (d6 .given .0 .1 .1 .1 .0)) (d6 .given .1) refl (load .ensures .0),
+      noted-kept (load .ensures .1) (c .before .before .before .before .before .before .before .before .before .before .before .before .before .before .pre .1),
+    )
 
 same-length-17 : tie.Need-same-length-17
 same-length-17 c = search needs
@@ -263,9 +275,11 @@ returns-7 c =
     let args = c .before .before .before .before .before .before .before .before .before .before .before .before .before .before .before .before .args in
     let decode = c .before .before .before .before .before .before .before .before .before .before .before .decode in
     let d7 = c .before .before .before .before .before .before .before .before .before .d7 in
-    let store = c .before .before .before .before .store in
-    (obeyed (args .p) (args .cells .now) (args .remember .now) (args .tables .now) (args .m) (decode .result) (decode .ensures)
-    (Store (d7 .given .0 .0) (d7 .given .0 .1 .0) (d7 .given .0 .1 .1 .0) (d7 .given .0 .1 .1 .1 .0)) (d7 .given .1) refl (store .ensures), c .before .before .before .before .before .before .before .before .before .before .before .before .before .before .before .before .pre .1)
+    let store = c .before .before .before .before .store in (
+      obeyed (args .p) (args .cells .now) (args .remember .now) (args .tables .now) (args .m) (decode .result) (decode .ensures)
+          (Store (d7 .given .0 .0) (d7 .given .0 .1 .0) (d7 .given .0 .1 .1 .0) (d7 .given .0 .1 .1 .1 .0)) (d7 .given .1) refl (store .ensures),
+      c .before .before .before .before .before .before .before .before .before .before .before .before .before .before .before .before .pre .1,
+    )
 
 same-length-20 : tie.Need-same-length-20
 same-length-20 c = search needs
@@ -281,9 +295,11 @@ returns-8 c =
     let args = c .before .before .before .before .before .before .before .before .before .before .before .before .args in
     let decode = c .before .before .before .before .before .before .before .decode in
     let d8 = c .before .before .before .before .before .d8 in
-    let read = c .read in
-    (obeyed (args .p) (args .cells .now) (args .remember .now) (args .tables .now) (args .m) (decode .result) (decode .ensures)
-    (Read (d8 .given .0 .0) (d8 .given .0 .1 .0) (d8 .given .0 .1 .1 .0)) (d8 .given .1) refl (read .ensures), c .before .before .before .before .before .before .before .before .before .before .before .before .pre .1)
+    let read = c .read in (
+      obeyed (args .p) (args .cells .now) (args .remember .now) (args .tables .now) (args .m) (decode .result) (decode .ensures)
+          (Read (d8 .given .0 .0) (d8 .given .0 .1 .0) (d8 .given .0 .1 .1 .0)) (d8 .given .1) refl (read .ensures),
+      c .before .before .before .before .before .before .before .before .before .before .before .before .pre .1,
+    )
 
 same-length-23 : tie.Need-same-length-23
 same-length-23 c = search needs
@@ -299,9 +315,11 @@ returns-9 c =
     let args = c .before .before .before .before .before .before .before .before .before .before .before .before .before .before .args in
     let decode = c .before .before .before .before .before .before .before .before .before .decode in
     let d9 = c .before .before .before .before .before .before .before .d9 in
-    let write = c .before .before .write in
-    (obeyed (args .p) (args .cells .now) (args .remember .now) (args .tables .now) (args .m) (decode .result) (decode .ensures)
-    (Write (d9 .given .0 .0) (d9 .given .0 .1 .0) (d9 .given .0 .1 .1 .0) (d9 .given .0 .1 .1 .1 .0)) (d9 .given .1) refl (write .ensures), c .before .before .before .before .before .before .before .before .before .before .before .before .before .before .pre .1)
+    let write = c .before .before .write in (
+      obeyed (args .p) (args .cells .now) (args .remember .now) (args .tables .now) (args .m) (decode .result) (decode .ensures)
+          (Write (d9 .given .0 .0) (d9 .given .0 .1 .0) (d9 .given .0 .1 .1 .0) (d9 .given .0 .1 .1 .1 .0)) (d9 .given .1) refl (write .ensures),
+      c .before .before .before .before .before .before .before .before .before .before .before .before .before .before .pre .1,
+    )
 
 same-length-26 : tie.Need-same-length-26
 same-length-26 c = search needs
@@ -317,18 +335,22 @@ returns-10 c =
     let args = c .before .before .before .before .before .before .before .before .before .before .before .before .args in
     let decode = c .before .before .before .before .before .before .before .decode in
     let d10 = c .before .before .before .before .before .d10 in
-    let same = c .same in
-    (obeyed (args .p) (args .cells .now) (args .remember .now) (args .tables .now) (args .m) (decode .result) (decode .ensures)
-    (Same (d10 .given .0 .0) (d10 .given .0 .1 .0) (d10 .given .0 .1 .1 .0)) (d10 .given .1) refl (same .ensures), c .before .before .before .before .before .before .before .before .before .before .before .before .pre .1)
+    let same = c .same in (
+      obeyed (args .p) (args .cells .now) (args .remember .now) (args .tables .now) (args .m) (decode .result) (decode .ensures)
+          (Same (d10 .given .0 .0) (d10 .given .0 .1 .0) (d10 .given .0 .1 .1 .0)) (d10 .given .1) refl (same .ensures),
+      c .before .before .before .before .before .before .before .before .before .before .before .before .pre .1,
+    )
 
 returns-11 : tie.Need-returns-11
 returns-11 c =
     let args = c .before .before .before .before .before .before .before .before .before .args in
     let pre = c .before .before .before .before .before .before .before .before .before .pre in
     let decode = c .before .before .before .before .decode in
-    let d11 = c .before .before .d11 in
-    (not-obeyed (args .p) (args .cells .now) (args .remember .now) (args .tables .now) (args .m) (decode .result) (decode .ensures) (pre .0)
-    (d11 .given .0 .0) (d11 .given .1) (c .refused .ensures), c .before .before .before .before .before .before .before .before .before .pre .1)
+    let d11 = c .before .before .d11 in (
+      not-obeyed (args .p) (args .cells .now) (args .remember .now) (args .tables .now) (args .m) (decode .result) (decode .ensures) (pre .0)
+          (d11 .given .0 .0) (d11 .given .1) (c .refused .ensures),
+      c .before .before .before .before .before .before .before .before .before .pre .1,
+    )
 
 pub obey-spec : {M : Type 1} → statement M
 obey-spec =

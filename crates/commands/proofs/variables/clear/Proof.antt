@@ -26,10 +26,12 @@ returns : tie.Need-returns
 returns c =
     let args = c .before .before .before .before .before .before .before .before .args in
     let pre = c .before .before .before .before .before .before .before .before .pre in
-    let write-var = c .before .before .before .write-var in
-    (did-answer (c .done .ensures)
-    (clear-done (args .p) (args .cells .now) (args .remember .now) (args .tables .now) (pre .0) (args .t) (args .a) (pre .1 .0) (pre .1 .1)
-    (write-var .ensures)), none-freed-before (args .p) (args .tables .now) (variableAt (args .p) (args .t) (args .a)) _ (variable-low (args .p) (args .t) (args .a) (pre .1 .0) (pre .1 .1)) (write-var .ensures))
+    let write-var = c .before .before .before .write-var in (
+      did-answer (c .done .ensures)
+          (clear-done (args .p) (args .cells .now) (args .remember .now) (args .tables .now) (pre .0) (args .t) (args .a) (pre .1 .0) (pre .1 .1)
+          (write-var .ensures)),
+      none-freed-before (args .p) (args .tables .now) (variableAt (args .p) (args .t) (args .a)) _ (variable-low (args .p) (args .t) (args .a) (pre .1 .0) (pre .1 .1)) (write-var .ensures),
+    )
 
 pub clear-spec : {M : Type 1} → statement M
 clear-spec = tie.close (tie.spec write-var-requires done-requires same-length returns)

@@ -33,10 +33,12 @@ returns c =
     let args = c .before .before .before .before .before .before .before .before .before .before .args in
     let pre = c .before .before .before .before .before .before .before .before .before .before .pre in
     let read-var = c .before .before .before .before .before .read-var in
-    let write-var = c .before .before .before .write-var in
-    (did-answer (c .done .ensures)
-    (copy-done (args .p) (args .cells .now) (args .remember .now) (args .tables .now) (pre .0) (args .t) (args .a) (args .b) (args .c) (pre .1 .0)
-    (pre .1 .1) (pre .1 .2) (pre .1 .3) (read-var .result) (read-var .ensures) (write-var .ensures)), none-freed-before (args .p) (args .tables .now) (variableAt (args .p) (args .t) (args .a)) _ (variable-low (args .p) (args .t) (args .a) (pre .1 .0) (pre .1 .1)) (write-var .ensures))
+    let write-var = c .before .before .before .write-var in (
+      did-answer (c .done .ensures)
+          (copy-done (args .p) (args .cells .now) (args .remember .now) (args .tables .now) (pre .0) (args .t) (args .a) (args .b) (args .c) (pre .1 .0)
+          (pre .1 .1) (pre .1 .2) (pre .1 .3) (read-var .result) (read-var .ensures) (write-var .ensures)),
+      none-freed-before (args .p) (args .tables .now) (variableAt (args .p) (args .t) (args .a)) _ (variable-low (args .p) (args .t) (args .a) (pre .1 .0) (pre .1 .1)) (write-var .ensures),
+    )
 
 pub copy-spec : {M : Type 1} → statement M
 copy-spec = tie.close (tie.spec read-var-requires write-var-requires done-requires same-length returns)

@@ -30,10 +30,12 @@ returns c =
     let args = c .before .before .before .before .before .before .before .before .before .args in
     let pre = c .before .before .before .before .before .before .before .before .before .pre in
     let depth = c .before .before .before .before .depth in
-    let wide = c .before .before .before .wide in
-    (did-answer (c .refused .ensures)
-    (start-refused (args .p) (args .cells .now) (args .remember .now) (args .tables .now) (pre .0) (args .t) (pre .1) (depth .result) (depth .ensures)
-    (omega (arith, wide .ensures))), none-freed-refl _ _)
+    let wide = c .before .before .before .wide in (
+      did-answer (c .refused .ensures)
+          (start-refused (args .p) (args .cells .now) (args .remember .now) (args .tables .now) (pre .0) (args .t) (pre .1) (depth .result) (depth .ensures)
+          (omega (arith, wide .ensures))),
+      none-freed-refl _ _,
+    )
 
 add-set-depth : tie.Need-add-set-depth
 add-set-depth c =
@@ -60,10 +62,12 @@ returns-2 c =
     let pre = c .before .before .before .before .before .before .before .before .before .before .before .before .before .pre in
     let depth = c .before .before .before .before .before .before .before .before .depth in
     let wide = c .before .before .before .before .before .before .before .wide in
-    let set-depth = c .before .before .before .set-depth in
-    (did-answer (c .done .ensures)
-    (start-done (args .p) (args .cells .now) (args .remember .now) (args .tables .now) (pre .0) (args .t) (pre .1) (depth .result) (depth .ensures)
-    (omega (arith, wide .ensures)) (set-depth .ensures)), none-freed-before (args .p) (args .tables .now) (depthAt (args .t)) _ (omega (arith, owners-is (args .p), pre .1)) (set-depth .ensures))
+    let set-depth = c .before .before .before .set-depth in (
+      did-answer (c .done .ensures)
+          (start-done (args .p) (args .cells .now) (args .remember .now) (args .tables .now) (pre .0) (args .t) (pre .1) (depth .result) (depth .ensures)
+          (omega (arith, wide .ensures)) (set-depth .ensures)),
+      none-freed-before (args .p) (args .tables .now) (depthAt (args .t)) _ (omega (arith, owners-is (args .p), pre .1)) (set-depth .ensures),
+    )
 
 pub start-spec : {M : Type 1} → statement M
 start-spec =
