@@ -87,7 +87,7 @@ extern "C" {
 #define TALDREKU_MAX_ROWS 129          /* of a report: 1 + threads * depth */
 #define TALDREKU_COMMAND_WORDS 5
 #define TALDREKU_ANSWER_WORDS 2
-#define TALDREKU_STACK_BYTES 40960     /* enough for any call */
+#define TALDREKU_STACK_BYTES 81920     /* enough for any call */
 
 /* What a call or a command was refused for. Where there are several reasons, the smallest number is given. */
 enum taldreku_number {
