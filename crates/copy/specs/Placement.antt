@@ -1,26 +1,25 @@
 -- The survivors are copied as the rules place them (02, W3): by target region number, then by old cell number, each to the cell that a new object
 -- there would take. `goal` is the region that the object in a cell goes to, 0 if none goes from there.
-use mathlib.Core.Path.{_≡_, refl, sym, ap, ap₂, subst, _∙_}
+use mathlib.Core.Path.{_≡_, refl, sym, ap, ap₂, _∙_}
 use mathlib.Core.Logic.{_≢_, by-cases, ⊎-elim}
-use mathlib.Core.List.{List, [], _∷_}
-use mathlib.Core.Bool.{Bool, true, false, cond}
+use mathlib.Core.List.{List}
+use mathlib.Core.Bool.{Bool, cond}
 use Prim.Native.Nat.{ℕ, zero, suc, _+_, _-_, _*_, _/_, _%_, _≤_, _<_}
 use native.Mathlib.Decide.{ℕ-discrete, decLt}
 use native.Mathlib.Omega.{arith}
 use lib.Dec.{eqb}
 use borrow.Author.Tests.{eq-eqb, ne-eqb}
-use Rattle.lists.specs.Listed.{listed-same}
 use Rattle.rules.specs.declared.Sizes.{Sizes}
 use Rattle.rules.specs.Regions.{regions}
-use Rattle.rules.specs.Pages.{Pages, Taken, take, Move, Placing, noneMoved, place, placeBelow, placeAll, newCell}
+use Rattle.rules.specs.Pages.{Pages, take, Placing, noneMoved, place, placeBelow, placeAll, newCell}
 use Rattle.layout.specs.Cells.{workOf, refTo, pageOf, mostCells, count-page}
 use Rattle.layout.specs.Marks.{marked, mark?}
 use Rattle.layout.specs.Objects.{Begins, begins-page, cellCount}
-use Rattle.layout.specs.Words.{pageIn, pagesAt}
+use Rattle.layout.specs.Words.{pagesAt}
 use Rattle.promises.specs.Regular.{pages-alike}
 use Rattle.promises.specs.TakenPage.{took-takes}
-use Rattle.copy.specs.Moves.{Step, mid-pages, step-off, step-on, step-link, step-keeps}
-use Rattle.copy.specs.Passing.{Ready, Moves, Moves.none, Moves.more, order, moves-ready, moves-later, moves-back}
+use Rattle.copy.specs.Moves.{Step, mid-pages, step-on, step-link, step-keeps}
+use Rattle.copy.specs.Passing.{Ready, Moves, Moves.none, Moves.more, order, moves-back}
 use Rattle.copy.specs.Copying.{Plan, Copy, copy-clean}
 
 -- ---- the places of the rules in one row: those of region 1, then those of region 2, and so on

@@ -6,13 +6,12 @@ use mathlib.Core.Path.{_≡_, sym, ap, ap₂, subst, _∙_}
 use mathlib.Core.List.{List, []}
 use mathlib.Core.Bool.{Bool, cond}
 use lib.ListN.{length, getD}
-use lib.Dec.{eqb}
 use borrow.Author.Tests.{ne-eqb, eq-eqb}
 use Rattle.lists.specs.Listed.{length-listed, getD-listed}
 use Rattle.rules.specs.declared.Sizes.{Sizes}
 use Rattle.rules.specs.Regions.{regions, only}
 use Rattle.rules.specs.Graph.{Graph, target, ended}
-use Rattle.rules.specs.Pages.{Placing, noneMoved, placeAll, newCell, released}
+use Rattle.rules.specs.Pages.{Placing, noneMoved, newCell, released}
 use Rattle.rules.specs.Rules as ru
 use Rattle.rules.specs.Rules.{Regioned, graph, homeOf, objectAt, goalOf, goals, copies, vacated}
 use Rattle.laws.specs.GraphLaws.{Alive}

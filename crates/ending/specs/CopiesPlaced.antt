@@ -3,26 +3,25 @@ use mathlib.Core.Path.{_≡_, sym, ap, ap₂, _∙_}
 use mathlib.Core.Logic.{⊎-elim}
 use mathlib.Core.List.{List}
 use mathlib.Core.Bool.{Bool, cond}
-use Prim.Native.Nat.{ℕ, suc, _+_, _-_, _≤_, _<_}
+use Prim.Native.Nat.{ℕ, _-_, _<_}
 use native.Mathlib.Decide.{ℕ-discrete}
 use native.Mathlib.Omega.{arith}
 use native.Mathlib.Numerals.{add-one}
-use lib.Dec.{eqb}
 use borrow.Author.Tests.{eq-eqb, ne-eqb}
 use Rattle.lists.specs.Listed.{listed-same, map-listed}
 use Rattle.rules.specs.declared.Sizes.{Sizes}
 use Rattle.rules.specs.Regions.{regionAt, regions, only}
 use Rattle.rules.specs.Graph.{target}
 use Rattle.rules.specs.Pages.{Page, Pages, Placing, freePage, noneMoved, placeAll, released, newCell}
-use Rattle.layout.specs.Places.{ownerOf, usedOf}
-use Rattle.layout.specs.Cells.{workOf, pageOf, count-page}
-use Rattle.layout.specs.Marks.{marked, mark?}
+use Rattle.layout.specs.Places.{ownerOf}
+use Rattle.layout.specs.Cells.{workOf, pageOf}
+use Rattle.layout.specs.Marks.{marked}
 use Rattle.layout.specs.Objects.{begins-page, begins-low}
-use Rattle.layout.specs.Words.{Words, words, cellCount, homeIn, graphOf, pageIn, pagesAt, pagesIn}
+use Rattle.layout.specs.Words.{Words, cellCount, homeIn, graphOf, pageIn, pagesAt, pagesIn}
 use Rattle.promises.specs.Reading.{used-home, alive-used, no-home}
 use Rattle.promises.specs.Ends.{partOf, Outside, Survivor, Lives, lives-how}
 use Rattle.release.specs.Release.{Blank, Alike}
-use Rattle.ended.specs.Evacuated.{goalIn, copiesIn, Repacked}
+use Rattle.ended.specs.Evacuated.{goalIn, copiesIn}
 use Rattle.promises.specs.Regular.{pages-alike}
 use Rattle.ending.specs.MarkedReady.{pages-same}
 use Rattle.copy.specs.Copying.{Plan, Copy}

@@ -5,18 +5,18 @@ use native.Mathlib.Omega.{arith}
 use native.Mathlib.Decide.{ℕ-discrete}
 use mathlib.Core.Path.{_≡_, refl, sym, ap, ap₂, _∙_}
 use mathlib.Core.List.{List, [], _∷_, map}
-use mathlib.Core.Bool.{Bool, true, false, cond, not, _&&_}
+use mathlib.Core.Bool.{Bool, true, cond, not, _&&_}
 use lib.ListN.{length, getD, length-map, List·getD-map}
 use lib.Dec.{eqb}
 use borrow.Author.Tests.{eq-eqb, ne-eqb, eqb-true}
 use Rattle.lists.specs.Says.{true-not-false}
 use Rattle.lists.specs.Tests.{both-true}
 use Rattle.lists.specs.Members.{in-bounds}
-use Rattle.lists.specs.Listed.{listed, listed-same}
+use Rattle.lists.specs.Listed.{listed-same}
 use Rattle.rules.specs.declared.Sizes.{Sizes}
 use Rattle.rules.specs.Regions.{regions, only}
 use Rattle.rules.specs.Graph.{Graph, ended}
-use Rattle.rules.specs.Pages.{Pages, Move, Placing, highest, noneMoved, placeAll, newCell, released}
+use Rattle.rules.specs.Pages.{Pages, Move, Placing, noneMoved, placeAll, newCell, released}
 use Rattle.rules.specs.Rules as ru
 use Rattle.rules.specs.Rules.{Regioned, graph, homeOf, objectCell, cellCount, objectAt, goalOf, copies, vacated}
 use Rattle.laws.specs.Highest.{highest-some, highest-zero}

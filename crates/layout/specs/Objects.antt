@@ -15,7 +15,7 @@ use Rattle.lists.specs.Counting.{sum, sum-none, sum-same, sum-add, sum-blocks}
 use Rattle.rules.specs.declared.Sizes.{Sizes}
 pub use Rattle.rules.specs.Rules.{cellCount}
 use Rattle.layout.specs.Places.{cellsWords, usedOf}
-use Rattle.layout.specs.Cells.{headAt, workAt, fieldAt, headOf, refsOf, IsReference, roomFor, room-is, pageCells, firstOn, pageOf, placeOf, cellOn, cellOf, wordOf, pageAt}
+use Rattle.layout.specs.Cells.{headAt, workAt, fieldAt, headOf, refsOf, IsReference, roomFor, room-is, pageCells, pageOf, placeOf, cellOn, cellOf, wordOf, pageAt}
 
 -- cell k is in use: it is one of the first cells of its page
 pub record InUse (s : Sizes) (t : List ℕ) (k : ℕ) : Type 0 where

@@ -1,5 +1,5 @@
 -- Words that stand for a heap are the words of that heap: all of them.
-use Prim.Native.Nat.{ℕ, zero, suc, _+_, _-_, _*_, _≤_, _<_}
+use Prim.Native.Nat.{ℕ, suc, _+_, _-_, _*_, _≤_, _<_}
 use native.Mathlib.Omega.{arith}
 use mathlib.Core.Path.{_≡_, refl, sym, ap, ap₂, _∙_}
 use mathlib.Core.List.{List, [], _∷_, _++_, map}
@@ -10,13 +10,13 @@ use Rattle.lists.specs.Parts.{part-more, part-listed}
 use Rattle.rules.specs.declared.Sizes.{Sizes}
 use Rattle.rules.specs.Regions.{regions}
 use Rattle.rules.specs.Graph.{objectsIn}
-use Rattle.rules.specs.Pages.{Page, Pages}
+use Rattle.rules.specs.Pages.{Page}
 use Rattle.rules.specs.Rules.{Counters, Regioned, graph}
-use Rattle.layout.specs.Places.{cellsWords, rememberWords, tablesWords, varCount, varAt, depthAt, varsFrom, ownersFrom, usedFrom, marksFrom, countsFrom, madeAt, freedAt, count-room, count-is, mark-is, used-is, owners-is, ownerOf, usedOf, countOf}
+use Rattle.layout.specs.Places.{cellsWords, rememberWords, tablesWords, varAt, varsFrom, ownersFrom, usedFrom, marksFrom, countsFrom, madeAt, count-room, count-is, mark-is, used-is, owners-is}
 use Rattle.remember.specs.Crossing.{crossTo}
 use Rattle.remember.specs.Entries.{exact-everywhere}
 use Rattle.remember.specs.ExactTable.{exact-table}
-use Rattle.layout.specs.Words.{Words, depthsIn, depthsAt, varsIn, varsAt, pageIn, pagesIn, pagesAt, sizesIn, heapOf}
+use Rattle.layout.specs.Words.{Words, depthsAt, varsAt, pageIn, pagesAt, heapOf}
 use Rattle.promises.specs.Whole.{WholeFor}
 use Rattle.promises.specs.StandsFor.{StandsFor, SameFrom, SameBeyond}
 use Rattle.promises.specs.Regular.{whole-regular}

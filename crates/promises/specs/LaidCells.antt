@@ -2,15 +2,15 @@
 use Prim.Native.Nat.{ℕ, zero, suc, _+_, _-_, _≤_, _<_}
 use native.Mathlib.Omega.{arith}
 use native.Mathlib.Decide.{decLt, ℕ-discrete}
-use mathlib.Core.Path.{_≡_, refl, sym, ap, ap₂, subst, _∙_}
+use mathlib.Core.Path.{_≡_, refl, sym, ap, ap₂, _∙_}
 use mathlib.Core.Logic.{by-cases}
-use mathlib.Core.List.{List, _∷_, _++_, map}
+use mathlib.Core.List.{List, _++_, map}
 use mathlib.Core.Bool.{Bool, true, false, cond, not, _&&_}
 use lib.ListN.{length, getD, length-map, length-append, List·getD-append, List·getD-map, List·getD-eq-default}
 use lib.Seq.{getD-append-add}
-use lib.Dec.{eqb, leb}
+use lib.Dec.{eqb}
 use borrow.Author.Tests.{eq-eqb, ne-eqb, le-leb, lt-leb}
-use Rattle.lists.specs.Members.{In, map-same, getD-in, in-place}
+use Rattle.lists.specs.Members.{In, map-same, getD-in}
 use Rattle.rules.specs.declared.Sizes.{Sizes}
 use Rattle.rules.specs.NeverFreeing.{Object, noObject}
 use Rattle.rules.specs.Graph.{crosses}
@@ -21,7 +21,7 @@ use Rattle.laws.specs.LikeCells.{Held, by, none, held-by}
 use Rattle.layout.specs.declared.Kind.the-variants.{Reference, Number}
 use Rattle.layout.specs.Places.{cellsWords}
 use Rattle.layout.specs.Cells.{headAt, workAt, fieldAt, fieldOf, headWord, mostFields, refs-head, nums-head, head-determined, first-number, firstField, roomFor, room-is, pageOf, cellOf, wordOf}
-use Rattle.layout.specs.Objects.{Spot, head, work, field, spot, begins-used, used-begins, begins-page, Slot, slot-word, field-slot}
+use Rattle.layout.specs.Objects.{head, used-begins, begins-page, slot-word}
 use Rattle.layout.specs.Words.{Words, BeginsIn, headIn, ownerIn, refsIn, numsIn, refCount, numCount}
 use Rattle.remember.specs.Crossing.{other, crossesTo, crossTo}
 use Rattle.remember.specs.Crosses.{field-cross, no-cross}

@@ -4,7 +4,7 @@ use Prim.Native.Nat.{ℕ, _+_, _-_, _*_, _/_, _%_, _≤_, _<_}
 use native.Mathlib.Omega.{arith}
 use native.Mathlib.Decide.{ℕ-discrete}
 use mathlib.Core.Path.{_≡_, refl, sym, ap, ap₂, subst, _∙_}
-use mathlib.Core.List.{List, [], _∷_, _++_}
+use mathlib.Core.List.{List, _∷_, _++_}
 use lib.ListN.{length, getD, drop, replicate, take-append-drop, length-append, length-drop, length-replicate}
 use lib.Seq.{drop-append-seam}
 use Rattle.lists.specs.Listed.{getD-listed}
@@ -12,13 +12,13 @@ use Rattle.lists.specs.Stores.{part-same}
 use Rattle.rules.specs.declared.Sizes.{Sizes}
 use Rattle.rules.specs.declared.Command.{Command}
 use Rattle.rules.specs.declared.Answer.{Answer}
-use Rattle.rules.specs.Rules.{Regioned, run, step, unused}
+use Rattle.rules.specs.Rules.{run, unused}
 use Rattle.layout.specs.Places.{cellsWords, rememberWords, tablesWords}
 use Rattle.layout.specs.Words.{Words, sizesIn, heapOf}
-use Rattle.promises.specs.Whole.{WholeFor, WholeWords}
-use Rattle.promises.specs.StandsFor.{StandsFor, SameFrom, SameBeyond}
+use Rattle.promises.specs.Whole.{WholeFor}
+use Rattle.promises.specs.StandsFor.{SameFrom, SameBeyond}
 use Rattle.promises.specs.WordsOf.{laid}
-use Rattle.promises.specs.Promises.{Did, Chain, none, more, commandsIn, answersIn, size, answerAt, RunAsked, notWhole, uneven, short, accepted, Ran, LongEnough, PrepareAsked, outOfRange, Unused, Prepared}
+use Rattle.promises.specs.Promises.{Chain, none, more, commandsIn, answersIn, size, answerAt, RunAsked, notWhole, uneven, short, accepted, Ran, LongEnough, PrepareAsked, outOfRange, Unused, Prepared}
 use Rattle.promises.specs.Agreed.{heap-stands}
 use Rattle.promises.specs.Areas.{same-beyond, beyond-both, starts}
 use Rattle.promises.specs.Chained.{Chained, chained, asked-whole}

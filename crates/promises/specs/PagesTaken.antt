@@ -1,6 +1,6 @@
 -- Where objects are packed as 02, W3 says, a command takes just the pages that question 13 counts: as many pages are free after it as before,
 -- less the new pages of the regions that grow, and with those of the regions that shrink. At an end that is the region that ended alone.
-use Prim.Native.Nat.{ℕ, suc, _+_, _-_, _<_}
+use Prim.Native.Nat.{ℕ, suc, _+_, _-_}
 use native.Mathlib.Omega.{arith}
 use mathlib.Core.Path.{_≡_, sym, ap, _∙_}
 use Rattle.lists.specs.Counting.{sum, sum-same, sum-plus, count-owners}

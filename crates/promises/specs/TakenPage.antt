@@ -1,21 +1,19 @@
 -- The cell that a region takes is the one that the rules' pages give (02, W3): the page is determined by owners and cells in use.
-use Prim.Native.Nat.{ℕ, zero, suc, _+_, _-_, _*_, _≤_, _<_}
+use Prim.Native.Nat.{ℕ, suc, _+_, _-_, _≤_, _<_}
 use native.Mathlib.Omega.{arith}
 use native.Mathlib.Decide.{ℕ-discrete}
 use mathlib.Core.Path.{_≡_, refl, sym, ap, ap₂, _∙_}
-use mathlib.Core.Logic.{_⊎_, inl, inr, by-cases}
+use mathlib.Core.Logic.{inl, inr}
 use mathlib.Core.List.{List}
-use mathlib.Core.Bool.{Bool, true, false, cond, _&&_}
-use lib.ListN.{length, getD, set, length-set}
+use mathlib.Core.Bool.{Bool, true, _&&_}
+use lib.ListN.{getD, set, length-set}
 use lib.Seq.{ext-getD, getD-set-same, getD-set-other}
 use lib.Dec.{ltb, eqb}
-use borrow.Author.Tests.{lt-ltb, ltb-true, eq-eqb, ne-eqb, eqb-true}
-use Rattle.lists.specs.Says.{true-not-false}
+use borrow.Author.Tests.{lt-ltb, ltb-true, eq-eqb, eqb-true}
 use Rattle.lists.specs.Tests.{both-true}
-use Rattle.lists.specs.Listed.{listed-same}
 use Rattle.rules.specs.declared.Sizes.{Sizes}
 use Rattle.rules.specs.Terms.{first}
-use Rattle.rules.specs.Pages.{Page, Pages, freePage, nthPage, highest, isFree, isPartial, pageFor, Taken, takeOn, take}
+use Rattle.rules.specs.Pages.{Page, freePage, nthPage, highest, isFree, isPartial, pageFor, Taken, takeOn, take}
 use Rattle.laws.specs.Highest.{highest-is, highest-none}
 use Rattle.layout.specs.Places.{ownerOf, usedOf}
 use Rattle.layout.specs.Cells.{pageCells, pageOf, placeOf}

@@ -1,6 +1,6 @@
 -- The words of a heap (01, "Sizes and tables"; 02, W1 to W3): every lent word up to the three lengths. Nothing is left open.
 use Prim.Native.Nat.{ℕ, zero, suc, _+_}
-use mathlib.Core.List.{List, [], _∷_, _++_, map}
+use mathlib.Core.List.{[], _∷_, _++_, map}
 use mathlib.Core.Bool.{cond}
 use lib.ListN.{length, getD, drop, replicate}
 use Rattle.lists.specs.Listed.{listed}

@@ -14,7 +14,7 @@ use Rattle.lists.specs.Part.{Rises, Lists}
 use Rattle.rules.specs.declared.Sizes.{Sizes}
 use Rattle.rules.specs.Regions.{regions}
 use Rattle.layout.specs.Places.{Room, ownerOf}
-use Rattle.pages.specs.Noted.{noteWords, passedFrom, Noted}
+use Rattle.pages.specs.Noted.{Noted}
 use Rattle.release.specs.Release.{Ended, ended-alike}
 
 -- of so many pages, those above the last of the first n of the list l

@@ -3,7 +3,6 @@ use mathlib.Core.Path.{sym, ap, _∙_}
 use Rattle.commands.specs.declared.Obeyed.the-variants.{Ends}
 use Rattle.heap.specs.Running.{obeyed-answered, ends-ready, ends-did}
 use borrow.Author.Needs.{needs}
-use native.Mathlib.Omega.{arith}
 use Rattle.heap.proofs.run.obey.Statement.{statement}
 use Rattle.heap.proofs.run.obey.Tie as tie
 
