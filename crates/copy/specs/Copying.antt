@@ -17,12 +17,12 @@ use Rattle.layout.specs.Cells.{workOf, pageOf, placeOf, cellOn, firstOn, pageCe
 use Rattle.layout.specs.Marks.{marked, mark?}
 use Rattle.promises.specs.Whole.{objectsOf}
 use Rattle.promises.specs.OwnedPages.{ownedIn}
-use Rattle.promises.specs.Arriving.{arriving, morePages, regionMore, moreBelow}
+use Rattle.promises.specs.Arriving.{arriving, morePages, regionMore, moreBelow, more-none}
 use Rattle.copy.specs.Marks.{copied}
 use Rattle.copy.specs.Taking.{Next}
 use Rattle.copy.specs.Cursor.{Points, Seeking}
 use Rattle.copy.specs.Moves.{Movable, Step, step-off, step-on, step-points}
-use Rattle.copy.specs.Passing.{Ready, Moves, Moves.none, Moves.more, order, moves-later, moves-append, moves-map, moves-ready, moves-back, moves-bits, moves-marks, step-back, Others, moves-others, Spent, moves-spent, Passing, moves-passing, arriving-some, passing-usable, passing-movable, Pass}
+use Rattle.copy.specs.Passing.{Ready, Moves, Moves.none, Moves.more, order, moves-later, moves-append, moves-map, moves-ready, moves-back, moves-bits, moves-marks, step-back, Others, moves-others, Spent, moves-spent, Passing, moves-passing, arriving-some, none-arriving, passing-usable, passing-movable, Pass}
 
 -- ---- one page
 
@@ -205,7 +205,8 @@ pub record Copy (p : Sizes) (n : ℕ) (gs : ℕ → ℕ) (l : ℕ) (W T W′ T�
   pub moves : Moves p (λ g. (j : ℕ) × (j < l) × (g ≡ gs j)) 0 W T last W′ T′
   pub later : (j : ℕ) → l ≤ j → j < n → last ≤ order (gs j) 0
   pub done : (j : ℕ) → j < l → (c : ℕ) → pageOf c < p .pages → marked p T′ c ≡ 1 → workOf W′ c ≢ gs j
-  pub budget : moreBelow p T (arriving p W T) gs n ≤ ownedIn p T′ 0 (p .pages) + moreBelow p T (arriving p W T) gs l
+  -- the free pages that they took are the new pages that they need
+  pub took : ownedIn p T 0 (p .pages) ≡ ownedIn p T′ 0 (p .pages) + moreBelow p T (arriving p W T) gs l
 
 pub copy-begin : {p : Sizes} {n : ℕ} {gs : ℕ → ℕ} {W T : List ℕ} → Plan p n gs W T → Copy p n gs 0 W T W T
 copy-begin a =
@@ -214,7 +215,7 @@ copy-begin a =
       moves = none {m = 0} (omega arith);
       later = λ j l m. omega arith;
       done = λ j l. absurd (let z : ⊥ = omega arith in z);
-      budget = omega (arith, a .enough);
+      took = omega arith;
     }
 
 module _ {p : Sizes} {n : ℕ} {gs : ℕ → ℕ} {l : ℕ} {W T W′ T′ : List ℕ} (a : Plan p n gs W T) (lt : l < n) (b : Copy p n gs l W T W′ T′) where
@@ -239,7 +240,7 @@ module _ {p : Sizes} {n : ℕ} {gs : ℕ → ℕ} {l : ℕ} {W T W′ T′ : Lis
         real = a .real l lt;
         low = a .low l lt;
         enough =
-            omega (arith, b .budget, needed-now, sum-more needed l, sum-mono needed (l + 1) n (omega arith));
+            omega (arith, b .took, a .enough, needed-now, sum-more needed l, sum-mono needed (l + 1) n (omega arith));
       }
 
   pub copy-next : {W″ T″ : List ℕ} → Pass p (gs l) (λ c. pageOf c < p .pages) (order (gs l) 0) (order (gs l) (firstOn (p .pages))) W′ T′ W″ T″ → Copy p n gs (l + 1) W T W″ T″
@@ -251,24 +252,18 @@ module _ {p : Sizes} {n : ℕ} {gs : ℕ → ℕ} {l : ℕ} {W T W′ T′ : Lis
             (moves-map (λ g e. (l, omega arith, e)) (d .moves));
         later = λ j u v. omega (arith, a .rising l j (omega arith) v, a .ready .room .few);
         done = λ j lj c lp on. go j lj c lp on (ℕ-discrete j l);
-        budget =
-            omega (
-              arith,
-              b .budget,
-              needed-now,
-              sum-more needed l,
-              spent .pages,
-              ap pagesOf (spent .total),
-              copy-passing .enough,
-              mono,
-            );
+        took = omega (arith, b .took, needed-now, sum-more needed l, spent .pages, ap pagesOf all-there, mono);
       }
     where
       spent : Spent p (gs l) W′ T′ W″ T″
       spent = moves-spent (copy-passing .ready) (d .moves)
 
-      mono : pagesOf (objectsOf p T″ (gs l)) ≤ pagesOf (objectsOf p T″ (gs l) + arriving p W″ T″ (gs l))
+      mono : pagesOf (objectsOf p T′ (gs l)) ≤ pagesOf (objectsOf p T′ (gs l) + arriving p W′ T′ (gs l))
       mono = omega arith
+
+      -- nobody waits to go there
+      all-there : objectsOf p T″ (gs l) ≡ objectsOf p T′ (gs l) + arriving p W′ T′ (gs l)
+      all-there = omega (arith, spent .total, none-arriving p W″ T″ (gs l) (λ c lp on. d .done c lp lp on))
 
       go : (j : ℕ) → j < l + 1 → (c : ℕ) → pageOf c < p .pages → marked p T″ c ≡ 1 → Dec (j ≡ l) → workOf W″ c ≢ gs j
       go j lj c lp on (yes e) = subst (λ (y : ℕ). workOf W″ c ≢ gs y) (sym e) (d .done c lp lp on)
@@ -284,7 +279,7 @@ module _ {p : Sizes} {n : ℕ} {gs : ℕ → ℕ} {l : ℕ} {W T W′ T′ : Lis
         moves = moves-map (λ g q. (q .0, omega (arith, q .1), q .2)) (b .moves);
         later = λ j u v. b .later j (omega arith) v;
         done = λ j lj c lp on. go j lj c lp on (ℕ-discrete j l);
-        budget = omega (arith, b .budget, sum-more needed l);
+        took = omega (arith, b .took, sum-more needed l, more-none p T (arriving p W T) (gs l) z);
       }
     where
       go : (j : ℕ) → j < l + 1 → (c : ℕ) → pageOf c < p .pages → marked p T′ c ≡ 1 → Dec (j ≡ l) → workOf W′ c ≢ gs j

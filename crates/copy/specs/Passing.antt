@@ -3,10 +3,10 @@ use mathlib.Core.Path.{_≡_, refl, sym, ap, ap₂, _∙_, subst}
 use mathlib.Core.Logic.{_≢_, ⊎-elim}
 use mathlib.Core.List.{List}
 use Prim.Native.Nat.{ℕ, _+_, _*_, _≤_, _<_}
-use native.Mathlib.Nat.{zero-mul, one-mul}
+use native.Mathlib.Nat.{zero-mul, mul-zero, one-mul}
 use native.Mathlib.Omega.{arith}
 use lib.ListN.{length}
-use Rattle.lists.specs.Counting.{sum-change, sum-part}
+use Rattle.lists.specs.Counting.{sum-change, sum-part, sum-none}
 use Rattle.rules.specs.Graph.{pagesOf}
 use Rattle.rules.specs.declared.Sizes.{Sizes}
 use Rattle.rules.specs.Regions.{regions}
@@ -188,6 +188,14 @@ pub arriving-some : (p : Sizes) (W T : List ℕ) (g c : ℕ) → pageOf c < p .p
 arriving-some p W T g c l on e z =
     let one : marked p T c * goesTo W g c ≡ 1 = ap (λ (y : ℕ). y * goesTo W g c) on ∙ one-mul (goesTo W g c) ∙ goes-yes W g c e in
     omega (arith, one, sum-part (λ x. marked p T x * goesTo W g x) c (cellCount p) (page-count c l))
+
+-- where no survivor goes to g none comes
+pub none-arriving : (p : Sizes) (W T : List ℕ) (g : ℕ) → ((c : ℕ) → pageOf c < p .pages → marked p T c ≡ 1 → workOf W c ≢ g) → arriving p W T g ≡ 0
+none-arriving p W T g away =
+    sum-none (λ c. marked p T c * goesTo W g c) (cellCount p)
+    (λ c l.
+    ⊎-elim (λ off. ap (λ (y : ℕ). y * goesTo W g c) off ∙ zero-mul (goesTo W g c))
+    (λ on. ap (λ (y : ℕ). marked p T c * y) (goes-no W g c (away c (count-page c l) on)) ∙ mul-zero (marked p T c)) (mark? p T c))
 
 pub passing-usable : {p : Sizes} {g : ℕ} {W T : List ℕ} → Passing p g W T → (c : ℕ) → pageOf c < p .pages → marked p T c ≡ 1 → workOf W c ≡ g → Usable p g T
 passing-usable {p} {g} {W} {T} a c l on e =

@@ -3,7 +3,7 @@ use mathlib.Core.Path.{_≡_, sym, ap, ap₂, _∙_}
 use mathlib.Core.Logic.{⊎-elim}
 use mathlib.Core.List.{List}
 use mathlib.Core.Bool.{Bool, cond}
-use Prim.Native.Nat.{ℕ, _-_, _<_}
+use Prim.Native.Nat.{ℕ, _+_, _-_, _<_}
 use native.Mathlib.Decide.{ℕ-discrete}
 use native.Mathlib.Omega.{arith}
 use native.Mathlib.Numerals.{add-one}
@@ -12,7 +12,7 @@ use Rattle.lists.specs.Listed.{listed-same, map-listed}
 use Rattle.rules.specs.declared.Sizes.{Sizes}
 use Rattle.rules.specs.Regions.{regionAt, regions, only}
 use Rattle.rules.specs.Graph.{target}
-use Rattle.rules.specs.Pages.{Page, Pages, Placing, freePage, noneMoved, placeAll, released, newCell}
+use Rattle.rules.specs.Pages.{Page, Pages, freeAmong, Placing, freePage, noneMoved, placeAll, released, newCell}
 use Rattle.layout.specs.Places.{ownerOf}
 use Rattle.layout.specs.Cells.{workOf, pageOf}
 use Rattle.layout.specs.Marks.{marked}
@@ -23,7 +23,10 @@ use Rattle.promises.specs.Ends.{partOf, Outside, Survivor, Lives, lives-how}
 use Rattle.release.specs.Release.{Blank, Alike}
 use Rattle.ended.specs.Evacuated.{goalIn, copiesIn}
 use Rattle.promises.specs.Regular.{pages-alike}
+use Rattle.promises.specs.TakenPage.{free-among}
+use Rattle.ended.specs.EndQuestion.{pagesNeeded}
 use Rattle.ending.specs.MarkedReady.{pages-same}
+use Rattle.ending.specs.PagesEnough.{free-same, needs-are}
 use Rattle.copy.specs.Copying.{Plan, Copy}
 use Rattle.copy.specs.Placement.{Goals, copy-pages, copy-cells, copy-still}
 use Rattle.ending.specs.Copied.{HasMoved, placed, placed-still, placed-moved, outside-idle, on}
@@ -74,6 +77,12 @@ module _ {s : Sizes} {t l r : ℕ} {w w₁ : Words} (b : Ending s t l r w w₁) 
 
     pub copied-pages : pagesAt s T ≡ copiesIn s w r .pages
     copied-pages = copy-pages p c (goalIn s w r) goals ∙ ap (λ (x : Placing). x .pages) same-placing
+
+    -- THE PACKING TAKES JUST THE PAGES THAT QUESTION 13 COUNTS, out of those that were free beforehand
+    pub copies-take : freeAmong (pagesIn s w) ≡ freeAmong (copiesIn s w r .pages) + pagesNeeded s w r
+    copies-take =
+        sym (free-among s (w .tables)) ∙ sym (free-same b) ∙ c .took
+        ∙ ap₂ _+_ (free-among s T ∙ ap freeAmong copied-pages) (needs-are b)
 
     pub copied-cells : HasMoved s w w₁ (partOf s w r) W T → (x : ℕ) → Lives s w (partOf s w r) x → placed W x ≡ newCell (copiesIn s w r .moves) x
     copied-cells h x q = ⊎-elim outside survivor (lives-how q) ∙ ap (λ (z : Placing). newCell (z .moves) x) same-placing

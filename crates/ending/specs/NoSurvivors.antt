@@ -4,6 +4,7 @@ use mathlib.Core.Path.{_≡_, refl, sym, ap, _∙_}
 use mathlib.Core.Logic.{_⊎_, ⊎-elim}
 use Prim.Native.Nat.{ℕ, zero, suc, _≤_, _<_}
 use native.Mathlib.Omega.{arith}
+use Rattle.lists.specs.Counting.{sum-none}
 use Rattle.lists.specs.Bits.{bitAt, bit-zero}
 use Rattle.rules.specs.declared.Sizes.{Sizes}
 use Rattle.rules.specs.Regions.{regionAt}
@@ -15,7 +16,8 @@ use Rattle.layout.specs.Objects.{begins-page}
 use Rattle.layout.specs.Words.{Words, graphOf}
 use Rattle.promises.specs.Ends.{partOf, Survivor, lives-how}
 use Rattle.census.specs.Census.{over-none}
-use Rattle.copy.specs.Passing.{Moves.none}
+use Rattle.promises.specs.Arriving.{arriving, regionMore, more-none}
+use Rattle.copy.specs.Passing.{Moves.none, none-arriving}
 use Rattle.copy.specs.Copying.{Plan, Copy}
 use Rattle.settle.specs.Rewrite.{forwarded, forward-null, forward-still, Rewritten, rewritten-none}
 use Rattle.settle.specs.RewriteSlots.{Variables}
@@ -46,7 +48,7 @@ module _ {s : Sizes} {t l r : ℕ} {w w₁ : Words} (b : Ending s t l r w w₁) 
         moves = none {m = 0} (omega arith);
         later = λ j h m. omega arith;
         done = λ j h c l on. absurd (unset c l on);
-        budget = omega arith;
+        took = omega (arith, sum-none (λ j. regionMore s (w₁ .tables) (arriving s (w₁ .cells) (w₁ .tables)) (regionAt s t j)) l (λ j m. more-none s (w₁ .tables) _ (regionAt s t j) (none-arriving s (w₁ .cells) (w₁ .tables) (regionAt s t j) (λ c low on. absurd (unset c low on)))));
       }
 
   -- a remembered slot would hold a survivor

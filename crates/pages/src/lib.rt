@@ -176,7 +176,7 @@ fn find_page(p: Sizes, tables: &[u32], region: u32) -> usize
     last
 }
 
-// The same page. Where the region's objects fill their pages it has no partly filled one, and a free page is all there is to look for.
+// The same page. Where the region's objects fill their pages it has no partly filled one, and the highest-numbered free page is all there is to look for.
 fn search_page(p: Sizes, tables: &[u32], notes: &mut [u32], region: u32) -> usize
     requires { ⌜ Room p (length (now tables)) ⌝ }
     requires { ⌜ Noted p (now tables) (now notes) ⌝ }

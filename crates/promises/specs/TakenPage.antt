@@ -11,15 +11,17 @@ use lib.Seq.{ext-getD, getD-set-same, getD-set-other}
 use lib.Dec.{ltb, eqb}
 use borrow.Author.Tests.{lt-ltb, ltb-true, eq-eqb, eqb-true}
 use Rattle.lists.specs.Tests.{both-true}
+use Rattle.lists.specs.Counting.{bit, sum, sum-same}
 use Rattle.rules.specs.declared.Sizes.{Sizes}
 use Rattle.rules.specs.Terms.{first}
-use Rattle.rules.specs.Pages.{Page, freePage, nthPage, highest, isFree, isPartial, pageFor, Taken, takeOn, take}
+use Rattle.rules.specs.Pages.{Page, freePage, nthPage, highest, isFree, freeAmong, isPartial, pageFor, Taken, takeOn, take}
 use Rattle.laws.specs.Highest.{highest-is, highest-none}
 use Rattle.layout.specs.Places.{ownerOf, usedOf}
 use Rattle.layout.specs.Cells.{pageCells, pageOf, placeOf}
 use Rattle.layout.specs.Words.{pageIn, pagesAt, pages-count, page-there}
 use Rattle.promises.specs.Whole.{Partial}
 use Rattle.promises.specs.Regular.{Regular, SamePage, one}
+use Rattle.promises.specs.OwnedPages.{ownedOne, ownedIn}
 use Rattle.promises.specs.TakeCell.{Source, Took, page-past}
 
 -- ---- the tests, in words
@@ -93,6 +95,14 @@ pages-changed s t t′ page o u l eo eu same =
         ap₂ (λ (x y : ℕ). record { owner = x; used = y }) (b .owner) (b .used) ∙ sym (getD-set-other (pagesAt s t) page q new freePage n ∙ page-there s t q k)
 
 -- pages whose words are the same
+
+-- ---- the free pages
+
+pub free-among : (s : Sizes) (t : List ℕ) → ownedIn s t 0 (s .pages) ≡ freeAmong (pagesAt s t)
+unfolding freeAmong ownedOne
+free-among s t =
+    sum-same _ _ (s .pages) (λ page l. sym (ap (λ (q : Page). bit (eqb (q .owner) 0)) (page-there s t page l)))
+    ∙ ap (sum (λ i. bit (isFree (pagesAt s t) i))) (sym (pages-count s t))
 
 -- ---- the cell and the pages after it is taken are the rules'
 
