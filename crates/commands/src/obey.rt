@@ -18,8 +18,8 @@ use crate::variables::start;
 use rules::Command;
 use rules::Sizes;
 
-// Every command but an end is answered here; of an end, which changes nothing yet, the thread is given. The notes say where to look for
-// a page first (crate `pages`).
+// Every command but an end is answered here; of an end, which changes nothing yet, the thread is given. The notes are
+// right of the tables (`Noted`, crate `pages`).
 pub fn obey(
     p: Sizes,
     cells: &mut [u32],

@@ -106,12 +106,12 @@ moves-from (none l) = l
 moves-from (more b h u v s) = let l = moves-from b in omega arith
 
 -- goal says where each survivor goes, and that nobody else goes anywhere
-pub record Goals (p : Sizes) (goal : ℕ → ℕ) (W T : List ℕ) : Type 0 where
+pub record GoalsMarked (p : Sizes) (goal : ℕ → ℕ) (W T : List ℕ) : Type 0 where
   pub goes : (c : ℕ) → pageOf c < p .pages → marked p T c ≡ 1 → goal c ≡ workOf W c
   pub stays : (c : ℕ) → marked p T c ≡ 0 → goal c ≡ 0
   pub past : (c : ℕ) → cellCount p ≤ c → goal c ≡ 0
 
-module _ {p : Sizes} {goal : ℕ → ℕ} {W T : List ℕ} (few : p .pages ≤ 1024) (a : Ready p W T) (gs : Goals p goal W T) (real : (c : ℕ) → pageOf c < p .pages → marked p T c ≡ 1 → 1 ≤ goal c) where
+module _ {p : Sizes} {goal : ℕ → ℕ} {W T : List ℕ} (few : p .pages ≤ 1024) (a : Ready p W T) (gs : GoalsMarked p goal W T) (real : (c : ℕ) → pageOf c < p .pages → marked p T c ≡ 1 → 1 ≤ goal c) where
   abbrev walked : ℕ → Placing
   walked = walk goal (noneMoved (pagesAt p T))
 
@@ -123,7 +123,7 @@ module _ {p : Sizes} {goal : ℕ → ℕ} {W T : List ℕ} (few : p .pages ≤ 1
   goes-marked c l = ⊎-elim (λ off. absurd (let z : ⊥ = omega (arith, gs .stays c off) in z)) (λ on. on) (mark? p T c)
 
   -- the survivors with places below m, and no others, have moved, to the cells that the rules say
-  record Placed (m : ℕ) (W′ T′ : List ℕ) : Type 0 where
+  record PlacedTo (m : ℕ) (W′ T′ : List ℕ) : Type 0 where
     only : (c : ℕ) → pageOf c < p .pages → marked p T c ≡ 1 → marked p T′ c ≡ 0 → order (goal c) c < m
     pages : pagesAt p T′ ≡ walked (m - mostCells) .pages
     cells : (c : ℕ) → pageOf c < p .pages → marked p T c ≡ 1 → marked p T′ c ≡ 0 → workOf W′ c ≡ refTo (newCell (walked (m - mostCells) .moves) c)
@@ -170,7 +170,7 @@ module _ {p : Sizes} {goal : ℕ → ℕ} {W T : List ℕ} (few : p .pages ≤ 1
     step-done : Done m T′
     step-done x l on h = before x l (λ (e : x ≡ c). omega (arith, goal-c, ap goal e)) (d x l on (omega arith))
 
-    module _ (i : Placed m W′ T′) where
+    module _ (i : PlacedTo m W′ T′) where
       -- up to this survivor's place nobody else goes
       to-here : walked (order g c - mostCells) ≡ walked (m - mostCells)
       to-here =
@@ -195,7 +195,7 @@ module _ {p : Sizes} {goal : ℕ → ℕ} {W T : List ℕ} (few : p .pages ≤ 1
       takes : (s .new ≡ take (pagesAt p T′) g .cell) × (pagesAt p (s .mid) ≡ take (pagesAt p T′) g .pages)
       takes = took-takes (s .can .regular) (s .can .real) (s .took)
 
-      step-placed : Placed k W″ T″
+      step-placed : PlacedTo k W″ T″
       unfolding newCell
       step-placed =
           record {
@@ -218,7 +218,7 @@ module _ {p : Sizes} {goal : ℕ → ℕ} {W T : List ℕ} (few : p .pages ≤ 1
               step-link s x (i .begins x l on) n ∙ i .cells x l on (before x l n off)
               ∙ sym (ap (λ (t : Bool). refTo (cond t (take (X .pages) g .cell) (newCell (X .moves) x))) (ne-eqb c x (λ e. n (sym e))))
 
-  placed-moves : {G : ℕ → Type 0} {m : ℕ} {W′ T′ : List ℕ} → Moves p G mostCells W T m W′ T′ → Done m T′ → Placed m W′ T′
+  placed-moves : {G : ℕ → Type 0} {m : ℕ} {W′ T′ : List ℕ} → Moves p G mostCells W T m W′ T′ → Done m T′ → PlacedTo m W′ T′
   unfolding walk
   placed-moves (none {m = m} l) d =
       record {
@@ -238,7 +238,7 @@ moves-raise (none l) k e f = none {m = k} f
 moves-raise (more {g = g} {c = c} b h u v s) k e f =
     more {m = order g c} {k = k} {g = g} {c = c} (moves-raise b (order g c) u (omega (arith, s .can .real))) h (omega arith) (omega arith) s
 
-module _ {p : Sizes} {n : ℕ} {gs : ℕ → ℕ} {W T W′ T′ : List ℕ} (a : Plan p n gs W T) (b : Copy p n gs n W T W′ T′) (goal : ℕ → ℕ) (goals : Goals p goal W T) where
+module _ {p : Sizes} {n : ℕ} {gs : ℕ → ℕ} {W T W′ T′ : List ℕ} (a : Plan p n gs W T) (b : Copy p n gs n W T W′ T′) (goal : ℕ → ℕ) (goals : GoalsMarked p goal W T) where
   abbrev base : Placing
   base = noneMoved (pagesAt p T)
 
@@ -255,7 +255,7 @@ module _ {p : Sizes} {n : ℕ} {gs : ℕ → ℕ} {W T W′ T′ : List ℕ} (a 
       let e = goals .goes c l on ∙ j .2 in
       (omega (arith, e, a .real (j .0) (j .1)), omega (arith, e, a .low (j .0) (j .1)))
 
-  placed : Placed (a .ready .room .few) (a .ready) goals (λ c l on. goal-level c l on .0) (b .last + all) W′ T′
+  placed : PlacedTo (a .ready .room .few) (a .ready) goals (λ c l on. goal-level c l on .0) (b .last + all) W′ T′
   placed =
       placed-moves (a .ready .room .few) (a .ready) goals (λ c l on. goal-level c l on .0) (moves-raise (b .moves) (b .last + all) (omega arith) (omega arith))
       (λ c l on m. copy-clean a b c l)

@@ -28,7 +28,7 @@ use Rattle.ended.specs.EndQuestion.{pagesNeeded}
 use Rattle.ending.specs.MarkedReady.{pages-same}
 use Rattle.ending.specs.PagesEnough.{free-same, needs-are}
 use Rattle.copy.specs.Copying.{Plan, Copy}
-use Rattle.copy.specs.Placement.{Goals, copy-pages, copy-cells, copy-still}
+use Rattle.copy.specs.Placement.{GoalsMarked, copy-pages, copy-cells, copy-still}
 use Rattle.ending.specs.Copied.{HasMoved, placed, placed-still, placed-moved, outside-idle, on}
 use Rattle.ending.specs.Ending.{Ending, room-of}
 
@@ -61,8 +61,8 @@ module _ {s : Sizes} {t l r : ℕ} {w w₁ : Words} (b : Ending s t l r w w₁) 
   unfolding goalIn
   goal-away c n = ap (λ (x : Bool). cond x (target s (graphOf s w) r c) 0) (ne-eqb (homeIn s w c) r n)
 
-  goals : Goals s (goalIn s w r) (w₁ .cells) (w₁ .tables)
-  goals =
+  goals-marked : GoalsMarked s (goalIn s w r) (w₁ .cells) (w₁ .tables)
+  goals-marked =
       record {
         goes = goal-marked;
         stays = goal-unmarked;
@@ -76,7 +76,7 @@ module _ {s : Sizes} {t l r : ℕ} {w w₁ : Words} (b : Ending s t l r w w₁) 
     same-placing = ap (λ (ps : Pages). placeAll (goalIn s w r) (cellCount s) (regions s) (noneMoved ps)) pages-before
 
     pub copied-pages : pagesAt s T ≡ copiesIn s w r .pages
-    copied-pages = copy-pages p c (goalIn s w r) goals ∙ ap (λ (x : Placing). x .pages) same-placing
+    copied-pages = copy-pages p c (goalIn s w r) goals-marked ∙ ap (λ (x : Placing). x .pages) same-placing
 
     -- THE PACKING TAKES JUST THE PAGES THAT QUESTION 13 COUNTS, out of those that were free beforehand
     pub copies-take : freeAmong (pagesIn s w) ≡ freeAmong (copiesIn s w r .pages) + pagesNeeded s w r
@@ -91,11 +91,11 @@ module _ {s : Sizes} {t l r : ℕ} {w w₁ : Words} (b : Ending s t l r w w₁) 
         to = newCell (placeAll (goalIn s w r) (cellCount s) (regions s) (noneMoved (pagesAt s (w₁ .tables))) .moves) x
 
         outside : Outside s w (partOf s w r) x → placed W x ≡ to
-        outside o = placed-still W x (outside-idle h x o) ∙ sym (copy-still p c (goalIn s w r) goals x (goal-away x (λ e. o .out (sym (used-home s w x (o .used)) ∙ e))))
+        outside o = placed-still W x (outside-idle h x o) ∙ sym (copy-still p c (goalIn s w r) goals-marked x (goal-away x (λ e. o .out (sym (used-home s w x (o .used)) ∙ e))))
 
         survivor : Survivor s w (partOf s w r) x → placed W x ≡ to
         survivor v =
-            let e = copy-cells p c (goalIn s w r) goals x (begins-page s (w .cells) (w .tables) x (v .used)) (on h x v) in
+            let e = copy-cells p c (goalIn s w r) goals-marked x (begins-page s (w .cells) (w .tables) x (v .used)) (on h x v) in
             placed-moved W x to (e ∙ add-one to)
 
 -- ---- the release

@@ -55,7 +55,7 @@ fn end_marked(
     rules::done(0)
 }
 
-// Ends the thread's innermost epoch: 12 if it has none. The notes say where to look for a page first (crate `pages`).
+// Ends the thread's innermost epoch: 12 if it has none. The notes are right of the tables (`Noted`, crate `pages`).
 pub fn end(
     p: Sizes,
     cells: &mut [u32],

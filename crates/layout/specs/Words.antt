@@ -1,11 +1,11 @@
 -- Lent words, what is read from them, and the graph and the heap that they make.
-use Prim.Native.Nat.{ℕ, _+_, _*_, _≤_, _<_}
+use Prim.Native.Nat.{ℕ, _+_, _*_, _<_}
 use mathlib.Core.List.{List, []}
 use mathlib.Core.Logic.{_≢_}
 use mathlib.Core.Path.{_≡_}
 use mathlib.Core.Bool.{cond}
 use lib.ListN.{length, take, drop}
-use Rattle.lists.specs.Listed.{listed, length-listed, getD-listed, listed-past}
+use Rattle.lists.specs.Listed.{listed, length-listed, getD-listed}
 use Rattle.rules.specs.declared.Sizes.{Sizes}
 use Rattle.rules.specs.NeverFreeing.{Object}
 use Rattle.rules.specs.Graph.{Graph}
@@ -77,10 +77,6 @@ module _ (s : Sizes) (tables : List ℕ) where
   pub page-there : (page : ℕ) → page < s .pages → nthPage (pagesAt s tables) page ≡ pageIn s tables page
   unfolding pagesAt
   page-there page l = getD-listed (pageIn s tables) (s .pages) page freePage l
-
-  pub page-beyond : (page : ℕ) → s .pages ≤ page → nthPage (pagesAt s tables) page ≡ freePage
-  unfolding pagesAt
-  page-beyond page l = listed-past (pageIn s tables) (s .pages) page freePage l
 
 unfoldable pub depthsAt : Sizes → List ℕ → List ℕ
 depthsAt s tables = take (s .threads) (drop (depthAt 0) tables)

@@ -2,19 +2,16 @@
 use mathlib.Core.Path.{_≡_, sym, ap, _∙_, subst, subst₂}
 use mathlib.Core.Logic.{inl, inr}
 use mathlib.Core.List.{List}
-use Prim.Native.Nat.{ℕ, suc, _+_, _≤_, _<_}
+use Prim.Native.Nat.{ℕ, _+_, _≤_, _<_}
 use native.Mathlib.Omega.{arith}
 use lib.ListN.{length, set}
 use lib.Seq.{set-getD}
 use Rattle.rules.specs.declared.Sizes.{Sizes}
 use Rattle.rules.specs.Regions.{regions}
-use Rattle.rules.specs.Pages.{pageFor, take}
 use Rattle.layout.specs.Places.{ownerAt, usedAt, countAt, usedOf, countOf, madeOf}
 use Rattle.layout.specs.Cells.{cellOn, pageCells}
-use Rattle.layout.specs.Words.{pagesAt}
 use Rattle.promises.specs.Regular.{Regular}
 use Rattle.promises.specs.TakeCell.{Took, took-own, took-free}
-use Rattle.promises.specs.TakenPage.{page-for-partial, page-for-free, page-for-none, took-takes}
 use Rattle.pages.specs.Pages.{Found, taken}
 
 module _ {s : Sizes} {t : List ℕ} (r : Regular s t) {g page : ℕ} (low : page < s .pages) where
@@ -37,19 +34,3 @@ module _ {s : Sizes} {t : List ℕ} (r : Regular s t) {g page : ℕ} (low : page
   -- the cell and the tables as the code has them
   pub taken-took : countAt s g < length t → (1 ≤ g) × (g ≤ regions s) → Found s t g page → {cell : ℕ} {t′ : List ℕ} → cell ≡ cellOn page (usedOf s t page) → t′ ≡ taken s t page g → Took s t g cell (madeOf s t) t′
   taken-took room real f e h = subst₂ (λ (c : ℕ) (l : List ℕ). Took s t g c (madeOf s t) l) (sym e) (sym h) (there room real f)
-
-  -- the page is the rules' (02, W3)
-  pub found-page : 1 ≤ g → Found s t g page → pageFor (pagesAt s t) g ≡ suc page
-  found-page pos (inl f) = page-for-partial s t g r pos page low (f .partial)
-  found-page pos (inr f) =
-      page-for-free s t g page low (f .free low) (λ q l x. omega (arith, f .none q l (x .owner), x .part)) (λ q l e. f .some q l e .0)
-
-  -- and so are the cell and the pages after it is taken
-  pub taken-pages : countAt s g < length t → (1 ≤ g) × (g ≤ regions s) → Found s t g page
-      → (cellOn page (usedOf s t page) ≡ take (pagesAt s t) g .cell) × (pagesAt s (taken s t page g) ≡ take (pagesAt s t) g .pages)
-  taken-pages room real f = took-takes r (real .0) (there room real f)
-
--- no page was found: the rules have none either
-pub found-none : (s : Sizes) (t : List ℕ) (g page : ℕ) → s .pages ≤ page → Found s t g page → pageFor (pagesAt s t) g ≡ 0
-found-none s t g page h (inl f) = absurd (let z : ⊥ = omega (arith, f .low) in z)
-found-none s t g page h (inr f) = page-for-none s t g (λ q l x. omega (arith, f .none q l (x .owner), x .part)) (λ q l e. omega (arith, f .some q l e .1))

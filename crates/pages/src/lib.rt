@@ -121,7 +121,7 @@ fn free_below(p: Sizes, tables: &[u32], high: usize) -> usize
     p.pages
 }
 
-fn lower(a: usize, b: usize) -> usize
+fn smaller(a: usize, b: usize) -> usize
     ensures { λ r. ⌜ r ≡ min a b ⌝ }
 {
     if a < b { a } else { b }
@@ -147,7 +147,7 @@ pub fn free_page(p: Sizes, tables: &[u32], notes: &mut [u32]) -> usize
     ensures { λ _. ⌜ Noted p (now (tables .entry)) (now (notes .exit)) ⌝ }
 {
     let pages = p.pages;
-    let passed = lower(layout::wide(notes[0]), pages);
+    let passed = smaller(layout::wide(notes[0]), pages);
     let page = free_below(p, tables, pages - passed);
     notes[0] = pages_above(pages, page) as u32;
     page

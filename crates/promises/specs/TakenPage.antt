@@ -68,9 +68,6 @@ module _ (s : Sizes) (t : List ℕ) (g : ℕ) where
       page-for (none-partial none)
       (highest-is (isFree (pagesAt s t)) (s .pages) page l (free-there s t page l e) (λ q m f. top q m (there-free s t q m f)))
 
-  pub page-for-none : ((q : ℕ) → q < s .pages → Partial s t g q → ⊥) → ((q : ℕ) → q < s .pages → ownerOf s t q ≡ 0 → ⊥) → pageFor (pagesAt s t) g ≡ 0
-  page-for-none none full = page-for (none-partial none) (highest-none (isFree (pagesAt s t)) (s .pages) (λ q m f. full q m (there-free s t q m f)))
-
   pub page-for-source : Regular s t → 1 ≤ g → (page : ℕ) → page < s .pages → usedOf s t page < pageCells → Source s t g page → pageFor (pagesAt s t) g ≡ suc page
   page-for-source r pos page l u (inl e) = page-for-partial r pos page l (record { owner = e; part = u })
   page-for-source r pos page l u (inr e) = page-for-free page l (e .0) (e .1) (e .2)
@@ -93,8 +90,6 @@ pages-changed s t t′ page o u l eo eu same =
     at q k (no n) =
         let b = same q k n in
         ap₂ (λ (x y : ℕ). record { owner = x; used = y }) (b .owner) (b .used) ∙ sym (getD-set-other (pagesAt s t) page q new freePage n ∙ page-there s t q k)
-
--- pages whose words are the same
 
 -- ---- the free pages
 

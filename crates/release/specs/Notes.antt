@@ -42,23 +42,23 @@ module _ (pages : ℕ) (notes l : List ℕ) (n : ℕ) where
     noted-stays h = sym (noted-is (ne-eqb n 0 some) (le-ltb (aboveLast pages l n) (getD notes 0 0) h))
 
 -- note 0 counts no page that it did not, and none that is listed
-pub record Lowered (pages : ℕ) (notes l : List ℕ) (n : ℕ) (notes′ : List ℕ) : Type 0 where
+pub record NoteLowered (pages : ℕ) (notes l : List ℕ) (n : ℕ) (notes′ : List ℕ) : Type 0 where
   pub long : length notes′ ≡ length notes
   pub less : getD notes′ 0 0 ≤ getD notes 0 0
   pub below : (i : ℕ) → i < n → getD l i 0 + getD notes′ 0 0 < pages
 
-pub lowered : (pages : ℕ) (notes l : List ℕ) (n : ℕ) → 0 < length notes → Rises pages n l → Lowered pages notes l n (noted pages notes l n)
+pub lowered : (pages : ℕ) (notes l : List ℕ) (n : ℕ) → 0 < length notes → Rises pages n l → NoteLowered pages notes l n (noted pages notes l n)
 lowered pages notes l n some r =
     by-cases (ℕ-discrete n 0)
-    (λ z. subst (Lowered pages notes l n) (noted-none pages notes l n z) (record { long = refl; less = omega arith; below = λ i m. absurd (let y : ⊥ = omega arith in y) }))
+    (λ z. subst (NoteLowered pages notes l n) (noted-none pages notes l n z) (record { long = refl; less = omega arith; below = λ i m. absurd (let y : ⊥ = omega arith in y) }))
     (λ z. by-cases (decLt (aboveLast pages l n) (getD notes 0 0))
-    (λ h. subst (Lowered pages notes l n) (noted-falls pages notes l n z (aboveLast pages l n) refl h)
+    (λ h. subst (NoteLowered pages notes l n) (noted-falls pages notes l n z (aboveLast pages l n) refl h)
     (record {
       long = length-set notes 0 (aboveLast pages l n);
       less = omega (arith, put);
       below = λ i m. omega (arith, put, last i m, r .low (n - 1) (omega arith));
     }))
-    (λ h. subst (Lowered pages notes l n) (noted-stays pages notes l n z (omega arith))
+    (λ h. subst (NoteLowered pages notes l n) (noted-stays pages notes l n z (omega arith))
     (record { long = refl; less = omega arith; below = λ i m. omega (arith, last i m, r .low (n - 1) (omega arith)) })))
   where
     put : getD (set notes 0 (aboveLast pages l n)) 0 0 ≡ aboveLast pages l n
@@ -80,5 +80,5 @@ ended-noted {p} {r} {t} {k} {n} {T} {T′} {l} {notes} room real low thread h li
           (λ o. a .passed x (omega (arith, d .less)) b (sym (ended-alike room real low thread h x b o .owner) ∙ z));
     })
   where
-    d : Lowered (p .pages) notes l n (noted (p .pages) notes l n)
+    d : NoteLowered (p .pages) notes l n (noted (p .pages) notes l n)
     d = lowered (p .pages) notes l n (omega (arith, a .long)) (list .rises)

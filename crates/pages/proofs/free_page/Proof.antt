@@ -11,8 +11,8 @@ slice-read-wide c = search needs
 wide-requires : tie.Need-wide-requires
 wide-requires c κs = search needs
 
-lower-requires : tie.Need-lower-requires
-lower-requires c κs = search needs
+smaller-requires : tie.Need-smaller-requires
+smaller-requires c κs = search needs
 
 sub-free-below : tie.Need-sub-free-below
 sub-free-below c = search needs
@@ -34,8 +34,8 @@ same-length c = search needs
 
 returns : tie.Need-returns
 returns c = (
-  noted-free (c .before .before .before .before .before .before .before .pre .1) (omega (arith, c .before .before .lower .ensures, c .before .before .before .wide .ensures)) (c .before .free-below .ensures),
-  noted-found (c .before .before .before .before .before .before .before .pre .1) (omega (arith, c .before .before .lower .ensures, c .before .before .before .wide .ensures)) (c .before .free-below .ensures) (c .pages-above .ensures),
+  noted-free (c .before .before .before .before .before .before .before .pre .1) (omega (arith, c .before .before .smaller .ensures, c .before .before .before .wide .ensures)) (c .before .free-below .ensures),
+  noted-found (c .before .before .before .before .before .before .before .pre .1) (omega (arith, c .before .before .smaller .ensures, c .before .before .before .wide .ensures)) (c .before .free-below .ensures) (c .pages-above .ensures),
 )
 
 pub free-page-spec : {M : Type 1} → statement M
@@ -44,7 +44,7 @@ free-page-spec =
     (tie.spec
     slice-read-wide
     wide-requires
-    lower-requires
+    smaller-requires
     sub-free-below
     free-below-requires
     pages-above-requires
