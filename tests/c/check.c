@@ -210,6 +210,16 @@ void obey(const Lent *l, Block *b) {
     CHECK(refused == 0);
 }
 
+void obey_all(const Lent *l, Block *b) {
+    obey(l, b);
+    empty(b);
+}
+
+void obey_next(const Lent *l, Block *b, uint32_t code, uint32_t thread, uint32_t a, uint32_t x, uint32_t y) {
+    add(b, code, thread, a, x, y);
+    obey_all(l, b);
+}
+
 uint32_t answer(const Lent *l, uint32_t code, uint32_t thread, uint32_t a, uint32_t b, uint32_t c, uint32_t *value) {
     uint32_t block[TALDREKU_COMMAND_WORDS] = {code, thread, a, b, c}, words[TALDREKU_ANSWER_WORDS] = {99, 99};
     CHECK(run(l, block, TALDREKU_COMMAND_WORDS, words, TALDREKU_ANSWER_WORDS) == TALDREKU_DONE);

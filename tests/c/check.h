@@ -60,6 +60,8 @@ void add(Block *b, uint32_t code, uint32_t thread, uint32_t a, uint32_t x, uint3
 void empty(Block *b);       /* leaves no command, and keeps the room */
 void discard(Block *b);
 void obey(const Lent *l, Block *b);         /* runs it, and sees that no command is refused */
+void obey_all(const Lent *l, Block *b);     /* and leaves no command */
+void obey_next(const Lent *l, Block *b, uint32_t code, uint32_t thread, uint32_t a, uint32_t x, uint32_t y);      /* with this one more */
 uint32_t answer(const Lent *l, uint32_t code, uint32_t thread, uint32_t a, uint32_t b, uint32_t c, uint32_t *value);
 
 uint32_t owner_of(const Lent *l, uint32_t page);

@@ -10,16 +10,6 @@
 static Lent heap;
 static Block block;
 
-static void go(void) {
-    obey(&heap, &block);
-    empty(&block);
-}
-
-static void command(uint32_t code, uint32_t thread, uint32_t a, uint32_t b, uint32_t c) {
-    add(&block, code, thread, a, b, c);
-    go();
-}
-
 static uint32_t check_by_hand(void) {
     return plain_check(heap.cells, heap.cells_words, heap.remember, heap.remember_words, heap.tables, heap.tables_words);
 }
@@ -60,12 +50,12 @@ static void load_sheets(uint32_t sheet, uint32_t *made, uint32_t *freed) {
             if (wheel == 20 + thread) add(&block, TALDREKU_STORE, thread, FLEET, SHEETS * thread + sheet, WHEEL);
         }
         add(&block, TALDREKU_CLEAR, thread, WHEEL, 0, 0);
-        go();
+        obey_all(&heap, &block);
         *made += WHEELS;
         check_counters(*made, *freed, *made - *freed);
     }
     for (uint32_t thread = 0; thread < THREADS; thread++) {
-        command(TALDREKU_END, thread, 0, 0, 0);
+        obey_next(&heap, &block, TALDREKU_END, thread, 0, 0, 0);
         *freed += WHEELS - IN_BOOK - IN_FLEET;
         check_counters(*made, *freed, *made - *freed);
     }
@@ -83,7 +73,7 @@ static void import(uint32_t before, Edge edge) {
         add(&block, TALDREKU_START, thread, 0, 0, 0);
         add(&block, TALDREKU_NEW, thread, BOOK, IN_BOOK * SHEETS, 0);
     }
-    go();
+    obey_all(&heap, &block);
     made = before + 1 + THREADS, freed = before;
     check_counters(made, freed, 1 + THREADS);
     for (uint32_t sheet = 0; sheet < SHEETS; sheet++) load_sheets(sheet, &made, &freed);
@@ -93,7 +83,7 @@ static void import(uint32_t before, Edge edge) {
     for (uint32_t thread = 0; thread < THREADS; thread++) {
         add(&block, TALDREKU_CLEAR, thread, BOOK, 0, 0);
         add(&block, TALDREKU_END, thread, 0, 0, 0);
-        go();
+        obey_all(&heap, &block);
         freed += 1 + SHEETS * IN_BOOK;
         check_counters(made, freed, made - freed);
     }
@@ -109,23 +99,23 @@ static void wrapped(Edge edge) {
     add(&block, TALDREKU_NEW, 1, 0, 1, 1);          /* in the control space */
     add(&block, TALDREKU_START, 0, 0, 0, 0);
     for (uint32_t v = 0; v < 3; v++) add(&block, TALDREKU_NEW, 0, v, 1, 1);
-    go();
+    obey_all(&heap, &block);
     check_counters(4, 0, 4);
     count_from(4294967294);
     check_counters(4294967294, 4294967290, 4);
 
-    command(TALDREKU_NEW, 0, 3, 0, 0);
+    obey_next(&heap, &block, TALDREKU_NEW, 0, 3, 0, 0);
     check_counters(4294967295, 4294967290, 5);
-    command(TALDREKU_NEW, 0, 3, 0, 0);
+    obey_next(&heap, &block, TALDREKU_NEW, 0, 3, 0, 0);
     check_counters(0, 4294967290, 6);
-    command(TALDREKU_NEW, 0, 3, 0, 0);
+    obey_next(&heap, &block, TALDREKU_NEW, 0, 3, 0, 0);
     check_counters(1, 4294967290, 7);
 
     /* of the six objects of the epoch variables 0 and 3 keep two: four are freed */
     add(&block, TALDREKU_CLEAR, 0, 1, 0, 0);
     add(&block, TALDREKU_CLEAR, 0, 2, 0, 0);
     add(&block, TALDREKU_END, 0, 0, 0, 0);
-    go();
+    obey_all(&heap, &block);
     check_counters(1, 4294967294, 3);
 
     /* two are freed: to 0 */
@@ -133,7 +123,7 @@ static void wrapped(Edge edge) {
     for (uint32_t i = 0; i < 2; i++) add(&block, TALDREKU_NEW, 0, 1, 2, 0);
     add(&block, TALDREKU_CLEAR, 0, 1, 0, 0);
     add(&block, TALDREKU_END, 0, 0, 0, 0);
-    go();
+    obey_all(&heap, &block);
     check_counters(3, 0, 3);
 
     /* past the limit in one end, which keeps three of twenty: by a slot of the control space and by variables 1 and 2 */
@@ -146,9 +136,9 @@ static void wrapped(Edge edge) {
     }
     add(&block, TALDREKU_STORE, 1, 0, 0, 1);
     add(&block, TALDREKU_CLEAR, 1, 1, 0, 0);
-    go();
+    obey_all(&heap, &block);
     check_counters(14, 4294967287, 23);
-    command(TALDREKU_END, 0, 0, 0, 0);
+    obey_next(&heap, &block, TALDREKU_END, 0, 0, 0, 0);
     check_counters(14, 8, 6);
 
     /* an epoch inside another: what the inner keeps is freed once, by the outer */
@@ -156,11 +146,11 @@ static void wrapped(Edge edge) {
     add(&block, TALDREKU_START, 0, 0, 0, 0);
     for (uint32_t i = 0; i < 3; i++) add(&block, TALDREKU_NEW, 0, 3, 0, 1);
     add(&block, TALDREKU_END, 0, 0, 0, 0);
-    go();
+    obey_all(&heap, &block);
     check_counters(17, 10, 7);
     add(&block, TALDREKU_CLEAR, 0, 3, 0, 0);
     add(&block, TALDREKU_END, 0, 0, 0, 0);
-    go();
+    obey_all(&heap, &block);
     check_counters(17, 11, 6);
 
     CHECK(prepare(sizes, &heap) == TALDREKU_DONE);
@@ -207,7 +197,7 @@ static void refusals(Edge edge) {
     add(&block, TALDREKU_STORE, 0, 0, 0, 2);
     for (uint32_t f = 0; f < 2; f++) add(&block, TALDREKU_STORE, 0, 1, f, 2);
     add(&block, TALDREKU_CLEAR, 0, 3, 0, 0);
-    go();
+    obey_all(&heap, &block);
     check_counters(4, 0, 4);
     count_from(4294967295);
 
@@ -228,7 +218,7 @@ static void refusals(Edge edge) {
     /* the third page goes to the control space, and is the last */
     add(&block, TALDREKU_NEW, 1, 0, 0, 0);
     add(&block, TALDREKU_START, 1, 0, 0, 0);
-    go();
+    obey_all(&heap, &block);
     refused(TALDREKU_PAGES, TALDREKU_NEW, 1, 1, 0, 0);
     refused(TALDREKU_PAGES, TALDREKU_END, 0, 0, 0, 0);
     check_counters(0, 4294967291, 5);
@@ -239,8 +229,8 @@ static void refusals(Edge edge) {
     CHECK(r.number == TALDREKU_DONE && r.rows == 5 && r.made == 0 && r.freed == 4294967291 && r.total == 5);
 
     /* without x the end needs neither page nor entry: x and w are freed */
-    command(TALDREKU_CLEAR, 0, 1, 0, 0);
-    command(TALDREKU_END, 0, 0, 0, 0);
+    obey_next(&heap, &block, TALDREKU_CLEAR, 0, 1, 0, 0);
+    obey_next(&heap, &block, TALDREKU_END, 0, 0, 0, 0);
     check_counters(0, 4294967293, 3);
     release();
 }
@@ -303,13 +293,13 @@ static void damaged(Edge edge) {
         add(&block, TALDREKU_START, 1, 0, 0, 0);
         for (uint32_t i = 0; i < 3; i++) add(&block, TALDREKU_NEW, 1, 1, 2, 0);
     }
-    go();
+    obey_all(&heap, &block);
     check_counters(33, 5, 28);
     damage();
     release();
 
     heap = prepared(LARGEST, 3, edge);
-    command(TALDREKU_NEW, 15, 31, 0, 0);
+    obey_next(&heap, &block, TALDREKU_NEW, 15, 31, 0, 0);
     damage();
     release();
 }

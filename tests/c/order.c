@@ -9,16 +9,6 @@
 static Lent heap;
 static Block block;
 
-static void go(void) {
-    obey(&heap, &block);
-    empty(&block);
-}
-
-static void command(uint32_t code, uint32_t thread, uint32_t a, uint32_t b, uint32_t c) {
-    add(&block, code, thread, a, b, c);
-    go();
-}
-
 /* The cell that a variable names. */
 static uint32_t cell_in(uint32_t thread, uint32_t variable) {
     uint32_t x = heap.tables[5 + heap.tables[0] + thread * heap.tables[1] + variable];
@@ -31,7 +21,7 @@ static uint32_t cell_in(uint32_t thread, uint32_t variable) {
 /* Makes so many objects, which take the cells from this one on. */
 static void take(uint32_t thread, uint32_t count, uint32_t page, uint32_t place) {
     for (uint32_t i = 0; i < count; i++) {
-        command(TALDREKU_NEW, thread, 0, 0, 0);
+        obey_next(&heap, &block, TALDREKU_NEW, thread, 0, 0, 0);
         CHECK(cell_in(thread, 0) == 16 * page + place + i);
     }
 }
@@ -39,23 +29,23 @@ static void take(uint32_t thread, uint32_t count, uint32_t page, uint32_t place)
 static void new_objects(Edge edge) {
     heap = prepared((Sizes){2, 1, 2, 6, 0}, 7, edge);
     take(0, 3, 5, 0);
-    command(TALDREKU_START, 1, 0, 0, 0);
+    obey_next(&heap, &block, TALDREKU_START, 1, 0, 0, 0);
     take(1, 16, 4, 0);
     take(0, 13, 5, 3);
     take(0, 1, 3, 0);
-    command(TALDREKU_START, 1, 0, 0, 0);
+    obey_next(&heap, &block, TALDREKU_START, 1, 0, 0, 0);
     take(1, 2, 2, 0);
 
     /* nothing of the inner region survives: its page is free, and it is the highest */
-    command(TALDREKU_CLEAR, 1, 0, 0, 0);
-    command(TALDREKU_END, 1, 0, 0, 0);
+    obey_next(&heap, &block, TALDREKU_CLEAR, 1, 0, 0, 0);
+    obey_next(&heap, &block, TALDREKU_END, 1, 0, 0, 0);
     take(1, 1, 2, 0);
     take(0, 15, 3, 1);
 
     /* with the outer region pages 4 and 2 become free, and a region takes them before pages 1 and 0 */
-    command(TALDREKU_CLEAR, 1, 0, 0, 0);
-    command(TALDREKU_END, 1, 0, 0, 0);
-    command(TALDREKU_START, 0, 0, 0, 0);
+    obey_next(&heap, &block, TALDREKU_CLEAR, 1, 0, 0, 0);
+    obey_next(&heap, &block, TALDREKU_END, 1, 0, 0, 0);
+    obey_next(&heap, &block, TALDREKU_START, 0, 0, 0, 0);
     take(0, 16, 4, 0);
     take(1, 16, 2, 0);
     take(0, 16, 1, 0);
@@ -100,13 +90,13 @@ static void survivors(Edge edge) {
     }
     add(&block, TALDREKU_CLEAR, 0, OBJECT, 0, 0);
     add(&block, TALDREKU_CLEAR, 0, NEXT, 0, 0);
-    go();
+    obey_all(&heap, &block);
     /* pages 13, 12 and 11 have an object each, and the innermost region has the five after them */
     CHECK(cell_in(0, 0) == 16 * 13 && cell_in(0, 1) == 16 * 12 && cell_in(0, 2) == 16 * 11);
     for (uint32_t page = 6; page <= 10; page++) CHECK(owner_of(&heap, page) == 4 && used_on(&heap, page) == 16);
     CHECK(heap.remember[1] == 3);
 
-    command(TALDREKU_END, 0, 0, 0, 0);
+    obey_next(&heap, &block, TALDREKU_END, 0, 0, 0, 0);
     /* each kind fills up its page, and then takes one of those that were free before: the control space first, then level by level */
     for (uint32_t kind = 0; kind < 3; kind++) {
         CHECK(owner_of(&heap, 13 - kind) == 1 + kind && owner_of(&heap, 5 - kind) == 1 + kind);
@@ -119,7 +109,7 @@ static void survivors(Edge edge) {
     /* the pages that came back are the highest free ones */
     add(&block, TALDREKU_START, 0, 0, 0, 0);
     add(&block, TALDREKU_NEW, 0, OBJECT, 0, 0);
-    go();
+    obey_all(&heap, &block);
     CHECK(cell_in(0, OBJECT) == 16 * 10);
     release();
 }
@@ -158,7 +148,7 @@ static void holders(uint32_t entries, Edge edge) {
         add(&block, TALDREKU_NEW, thread, 0, 1, 0);
         add(&block, TALDREKU_COPY, 0, thread == 1 ? ONE : OTHER, 0, thread);
     }
-    go();
+    obey_all(&heap, &block);
 }
 
 static void stores(Edge edge) {
@@ -175,7 +165,7 @@ static void stores(Edge edge) {
 
     /* the objects move, and the slots with them */
     for (uint32_t thread = 0; thread < 3; thread++) {
-        command(TALDREKU_END, thread, 0, 0, 0);
+        obey_next(&heap, &block, TALDREKU_END, thread, 0, 0, 0);
         CHECK(entries_rise());
     }
     CHECK(heap.remember[1] == 0);
@@ -213,7 +203,7 @@ static void damaged(Edge edge) {
     enum { COUNT = 12, MOST = COUNT + 2 };
     holders(MOST, edge);
     for (uint32_t i = 0; i < COUNT; i++) add(&block, TALDREKU_STORE, 0, i % HOLDERS, 5 * i % FIELDS, i % 5 == 0 ? OTHER : ONE);
-    go();
+    obey_all(&heap, &block);
     uint32_t *slots = heap.remember + 2, *regions = slots + MOST, kept[2 * MOST];
     CHECK(heap.remember[1] == COUNT && entries_rise());
     whole();
