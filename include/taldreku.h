@@ -43,9 +43,9 @@
  *
  * The heap is what stands in the three arrays: no function keeps a pointer or anything else between calls, none allocates, and none calls
  * back. So calls on one heap are made one at a time, from any thread of the operating system, and different heaps are independent: calls on
- * them may be made at the same time. A heap may be copied, or written to a file, word for word. Every word follows from the sizes and the
- * commands, however they were put into blocks: two heaps of the same sizes that obeyed the same commands since they were prepared hold the same
- * words, so that dumps can be compared. A dump shows nothing of what an ended epoch freed: its end writes zeros where its objects lay. What
+ * them may be made at the same time. A heap may be copied, or written to a file, word for word. Every word that a call leaves follows from
+ * what it was given: two heaps of the same sizes that ran the same blocks since they were prepared hold the same words within the lengths
+ * asked for, so that dumps can be compared. A dump shows nothing of what an ended epoch freed: its end writes zeros where its objects lay. What
  * nothing leads to any more stays until its region ends, in the control space for good; words past the lengths are not cleared. A call takes
  * less than TALDREKU_STACK_BYTES of stack.
  *
