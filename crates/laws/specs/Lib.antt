@@ -2,6 +2,7 @@
 pub mod RegionLaws
 pub mod Joins
 pub mod JoinLaws
+pub mod JoinCases
 pub mod FlowLaws
 pub mod GraphLaws
 pub mod EndLaws
