@@ -9,7 +9,7 @@ use Rattle.rules.specs.declared.Sizes.{Sizes}
 use Rattle.rules.specs.Regions.{regionAt, threadOf, levelOf, standing, join, regions}
 use Rattle.rules.specs.declared.Standing.{Standing}
 use Rattle.rules.specs.declared.Standing.the-variants.{WithControl, FirstOuter, SecondOuter, TwoThreads}
-use Rattle.rules.specs.Standings.{Stands, control-first, control-second, first-outer, second-outer, two-threads, stands, stands-only, join-by}
+use Rattle.laws.specs.Standings.{Stands, control-first, control-second, first-outer, second-outer, two-threads, stands, stands-only, join-by}
 use Rattle.laws.specs.RegionLaws.{OneThread, region-high, region-bounds, thread-at, level-at}
 use Rattle.laws.specs.JoinLaws.{flip, via, control-join}
 

@@ -1,4 +1,5 @@
 -- The laws of the rules.
+pub mod Standings
 pub mod RegionLaws
 pub mod Joins
 pub mod JoinLaws

@@ -53,7 +53,7 @@ pub fn slot_for(
         return 0;
     }
     let at = layout::wide(layout::remember::slot(p.entries, remember, i));
-    if layout::regions::join(
+    if joins::join(
         p,
         r,
         layout::tables::owner(p, tables, layout::cells::page_at(at)),

@@ -7,9 +7,9 @@ use Rattle.rules.specs.declared.Sizes.{Sizes}
 use Rattle.rules.specs.declared.Standing.{Standing}
 use Rattle.rules.specs.declared.Standing.the-variants.{FirstOuter, SecondOuter, TwoThreads}
 use Rattle.rules.specs.Regions.{threadOf, levelOf, standing}
-use Rattle.rules.specs.Standings.{OneThread, control-first, control-second, first-outer, second-outer, two-threads, stands-only}
-use Rattle.layout.proofs.regions.standing.Statement.{statement}
-use Rattle.layout.proofs.regions.standing.Tie as tie
+use Rattle.laws.specs.Standings.{OneThread, control-first, control-second, first-outer, second-outer, two-threads, stands-only}
+use Rattle.joins.proofs.standing.Statement.{statement}
+use Rattle.joins.proofs.standing.Tie as tie
 
 -- a and b are q and r, and t and u their threads, as the code has them
 module _ (s : Sizes) (q r a b t u : ℕ) (x : a ≡ q) (y : b ≡ r) (l : 2 ≤ q) (m : 2 ≤ r) (e : t ≡ threadOf s a) (f : u ≡ threadOf s b) where

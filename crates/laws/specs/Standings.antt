@@ -5,9 +5,10 @@ use mathlib.Core.Logic.{_⊎_, inl, inr}
 use mathlib.Core.Bool.{Bool, true, false, cond, _||_, or-true}
 use lib.Dec.{leb, eqb}
 use borrow.Author.Tests.{leb-true, leb-false, eqb-true, eqb-false, le-leb, lt-leb, eq-eqb, ne-eqb}
-use Rattle.rules.specs.Terms.{Sizes}
-use Rattle.rules.specs.Regions.{threadOf, levelOf, Standing, standing, joinBy, join}
+use Rattle.rules.specs.declared.Sizes.{Sizes}
+use Rattle.rules.specs.Regions.{threadOf, levelOf, standing, joinBy, join}
+use Rattle.rules.specs.declared.Standing.{Standing}
 use Rattle.rules.specs.declared.Standing.the-variants.{WithControl, FirstOuter, SecondOuter, TwoThreads}
 
 -- q and r are regions of one thread
 pub record OneThread (s : Sizes) (q r : ℕ) : Type 0 where
