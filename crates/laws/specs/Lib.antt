@@ -1,9 +1,8 @@
 -- The laws of the rules.
-pub mod Standings
+pub mod JoinCases
 pub mod RegionLaws
 pub mod Joins
 pub mod JoinLaws
-pub mod JoinCases
 pub mod FlowLaws
 pub mod GraphLaws
 pub mod EndLaws

@@ -4,7 +4,7 @@ use mathlib.Core.Path.{_≡_, refl, sym, ap, _∙_}
 use mathlib.Core.Logic.{⊎-elim}
 use mathlib.Core.Bool.{Bool, true, false, cond}
 use mathlib.Core.List.{List}
-use Prim.Native.Nat.{ℕ, suc, _+_, _/_, _<_, min}
+use Prim.Native.Nat.{ℕ, suc, _+_, _/_, _<_}
 use native.Mathlib.Omega.{arith}
 use native.Mathlib.Numerals.{one-add}
 use native.Mathlib.Decide.{ℕ-discrete}
@@ -15,7 +15,8 @@ use Rattle.lists.specs.Listed.{listed}
 use Rattle.lists.specs.Members.{In, in-append, in-left, in-right, getD-in, in-place, in-bounds}
 use Rattle.rules.specs.declared.Sizes.{Sizes}
 use Rattle.rules.specs.Regions.{regionAt, threadOf, levelOf, join}
-use Rattle.laws.specs.RegionLaws.{OneThread, one-thread?, region-high, region-number, numbers-rise, thread-at, parent-at, join-one, join-two}
+use Rattle.laws.specs.JoinCases.{OneThread, second-outer, join-by}
+use Rattle.laws.specs.RegionLaws.{one-thread?, region-high, region-number, thread-at, level-at, parent-at, join-two}
 use Rattle.laws.specs.GraphLaws as gl
 use Rattle.laws.specs.GraphLaws.{Refers, Holds, bySlot, byOwn, byOther}
 use Rattle.layout.specs.Places.{varOf, entriesUsed, slotIn, slotRegionIn, varCount}
@@ -169,7 +170,7 @@ module _ (s : Sizes) (w : Words) (k : WholeFor s w) where
             let z : q ≡ regionAt s t (levelOf s q) = region-number s q (h .right) ∙ ap (λ (a : ℕ). regionAt s a (levelOf s q)) e in
             let apart : levelOf s q ≡ suc j → ⊥ = λ c. o (used-home s w y u ∙ z ∙ ap (regionAt s t) c) in
             let low : levelOf s q < suc j = omega (arith, k .pages (pageOf y) (begins-page _ _ _ _ u) .region (h .right) .level, ap (depthIn w) e) in
-            let m : min r q ≡ q = omega (arith, numbers-rise s t (levelOf s q) (suc j) low) in (levelOf s q, low, joined ∙ join-one s h ∙ m ∙ z)
+            (levelOf s q, low, joined ∙ join-by (second-outer h (omega (arith, level-at s t j deep))) ∙ z)
 
     -- each holder calls for the region of a level below, and is held there
     pub holds-held : (x q : ℕ) → homeIn s w x ≡ r → Holds s (graphOf s w) r x q → (l : ℕ) × (l < suc j) × (q ≡ regionAt s t l) × In (1 + x) (heldFrom (regionAt s t l))

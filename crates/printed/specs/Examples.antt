@@ -59,7 +59,7 @@ pub examples : map (λ (e : List ℕ × List ℕ). printed (e .0)) table ≡ map
 unfolding
     text Terms.ask nf.empty nf.mostFields nf.operands nf.state nf.question nf.effect nf.value
     fl.joinCalls fl.called fl.rounds fl.flow
-    rg.regionAt rg.parent rg.standing rg.join Members.keep Members.tally Listed.listed gr.slotsOf gr.slotsBelow gr.slots gr.varsFrom gr.calls gr.inside gr.remembered gr.crossing gr.objectsIn gr.freedBy gr.freePages gr.newPages
+    rg.regionAt rg.parent rg.joinCase rg.join Members.keep Members.tally Listed.listed gr.slotsOf gr.slotsBelow gr.slots gr.varsFrom gr.calls gr.inside gr.remembered gr.crossing gr.objectsIn gr.freedBy gr.freePages gr.newPages
     ru.counted ru.countersAfter ru.unused ru.moved ru.ended ru.homesAfter ru.after ru.room ru.question ru.answered ru.step ru.run
     re.isOpen re.openRegions re.rows re.totalOf
     tx.onto tx.lines tx.parts tx.digitsOnly tx.valueFrom tx.numbersOnly wr.spelt wr.row

@@ -76,7 +76,7 @@ pub reports : map outcome cases ≡ map (λ k. k .expected) cases
 unfolding
     Terms.ask nf.empty nf.mostFields nf.operands nf.state nf.question nf.effect nf.value
     fl.joinCalls fl.called fl.rounds fl.flow
-    rg.regionAt rg.parent rg.standing rg.join Members.keep Members.tally Listed.listed gr.slotsOf gr.slotsBelow gr.slots gr.varsFrom gr.calls gr.inside gr.remembered gr.crossing gr.objectsIn gr.freedBy gr.freePages gr.newPages
+    rg.regionAt rg.parent rg.joinCase rg.join Members.keep Members.tally Listed.listed gr.slotsOf gr.slotsBelow gr.slots gr.varsFrom gr.calls gr.inside gr.remembered gr.crossing gr.objectsIn gr.freedBy gr.freePages gr.newPages
     ru.counted ru.countersAfter ru.unused ru.moved ru.ended ru.homesAfter ru.after ru.room ru.question ru.answered ru.step ru.run
     re.isOpen re.openRegions re.rows re.totalOf
 reports = refl

@@ -1,36 +1,35 @@
 -- Each return is one of the cases, by what the tests before it said.
 use Prim.Native.Nat.{ℕ, _≤_, _<_}
-use mathlib.Core.Path.{_≡_, sym, ap, subst, _∙_}
+use mathlib.Core.Path.{_≡_, sym, ap, _∙_}
 use native.Mathlib.Omega.{arith}
 use borrow.Author.Needs.{needs}
 use Rattle.rules.specs.declared.Sizes.{Sizes}
-use Rattle.rules.specs.declared.Standing.{Standing}
-use Rattle.rules.specs.declared.Standing.the-variants.{FirstOuter, SecondOuter, TwoThreads}
-use Rattle.rules.specs.Regions.{threadOf, levelOf, standing}
-use Rattle.laws.specs.Standings.{OneThread, control-first, control-second, first-outer, second-outer, two-threads, stands-only}
-use Rattle.joins.proofs.standing.Statement.{statement}
-use Rattle.joins.proofs.standing.Tie as tie
+use Rattle.rules.specs.declared.JoinCase.the-variants.{FirstOuter, SecondOuter, TwoThreads}
+use Rattle.rules.specs.Regions.{threadOf, levelOf, joinCase}
+use Rattle.laws.specs.JoinCases.{OneThread, control-first, control-second, first-outer, second-outer, two-threads, case-only}
+use Rattle.joins.proofs.join_case.Statement.{statement}
+use Rattle.joins.proofs.join_case.Tie as tie
 
 -- a and b are q and r, and t and u their threads, as the code has them
 module _ (s : Sizes) (q r a b t u : ℕ) (x : a ≡ q) (y : b ≡ r) (l : 2 ≤ q) (m : 2 ≤ r) (e : t ≡ threadOf s a) (f : u ≡ threadOf s b) where
-  other-threads : (t ≡ u → ⊥) → TwoThreads ≡ standing s q r
-  other-threads n = sym (stands-only (two-threads l m (λ d. n (e ∙ ap (threadOf s) x ∙ d ∙ ap (threadOf s) (sym y) ∙ sym f))))
+  other-threads : (t ≡ u → ⊥) → TwoThreads ≡ joinCase s q r
+  other-threads n = sym (case-only (two-threads l m (λ d. n (e ∙ ap (threadOf s) x ∙ d ∙ ap (threadOf s) (sym y) ∙ sym f))))
 
   module _ (same : t ≡ u) (j k : ℕ) (g : j ≡ levelOf s a) (h : k ≡ levelOf s b) where
     one-thread : OneThread s q r
     one-thread = record { left = l; right = m; thread = ap (threadOf s) (sym x) ∙ sym e ∙ same ∙ f ∙ ap (threadOf s) y }
 
-    second : k < j → SecondOuter ≡ standing s q r
-    second o = sym (stands-only (second-outer one-thread (omega (arith, g ∙ ap (levelOf s) x, h ∙ ap (levelOf s) y))))
+    second : k < j → SecondOuter ≡ joinCase s q r
+    second o = sym (case-only (second-outer one-thread (omega (arith, g ∙ ap (levelOf s) x, h ∙ ap (levelOf s) y))))
 
-    first : j ≤ k → FirstOuter ≡ standing s q r
-    first o = sym (stands-only (first-outer one-thread (omega (arith, g ∙ ap (levelOf s) x, h ∙ ap (levelOf s) y))))
+    first : j ≤ k → FirstOuter ≡ joinCase s q r
+    first o = sym (case-only (first-outer one-thread (omega (arith, g ∙ ap (levelOf s) x, h ∙ ap (levelOf s) y))))
 
 returns : tie.Need-returns
-returns c = sym (stands-only (control-first (omega (arith, c .if1 .taken))))
+returns c = sym (case-only (control-first (omega (arith, c .if1 .taken))))
 
 returns-2 : tie.Need-returns-2
-returns-2 c = sym (stands-only (control-second (omega (arith, c .if2 .taken))))
+returns-2 c = sym (case-only (control-second (omega (arith, c .if2 .taken))))
 
 wide-requires : tie.Need-wide-requires
 wide-requires c κs = search needs
@@ -64,8 +63,8 @@ returns-5 c =
     first _ _ _ _ _ _ _ (c .before .before .before .before .before .before .before .wide .ensures) (c .before .before .before .before .before .before .wide2 .ensures) (omega arith) (omega arith) (c .before .before .before .before .before .thread-of .ensures) (c .before .before .before .before .thread-of2 .ensures) (c .before .before .before .if3 .left) _ _
     (c .before .level-of2 .ensures) (c .before .before .level-of .ensures) (omega arith)
 
-pub standing-spec : {M : Type 1} → statement M
-standing-spec =
+pub join-case-spec : {M : Type 1} → statement M
+join-case-spec =
     tie.close
     (tie.spec
     returns
