@@ -15,8 +15,9 @@ use Rattle.lists.specs.Listed.{listed}
 use Rattle.lists.specs.Members.{In, in-append, in-left, in-right, getD-in, in-place, in-bounds}
 use Rattle.rules.specs.declared.Sizes.{Sizes}
 use Rattle.rules.specs.Regions.{regionAt, threadOf, levelOf, join}
-use Rattle.laws.specs.JoinCases.{OneThread, second-outer, join-by}
-use Rattle.laws.specs.RegionLaws.{one-thread?, region-high, region-number, thread-at, level-at, parent-at, join-two}
+use Rattle.rules.specs.declared.JoinCase.{JoinCase}
+use Rattle.laws.specs.JoinCases.{OneThread, InCase, control-first, control-second, first-outer, second-outer, two-threads, in-case, join-by}
+use Rattle.laws.specs.RegionLaws.{region-high, region-number, thread-at, level-at, parent-at}
 use Rattle.laws.specs.GraphLaws as gl
 use Rattle.laws.specs.GraphLaws.{Refers, Holds, bySlot, byOwn, byOther}
 use Rattle.layout.specs.Places.{varOf, entriesUsed, slotIn, slotRegionIn, varCount}
@@ -155,7 +156,7 @@ module _ (s : Sizes) (w : Words) (k : WholeFor s w) where
     -- what a slot outside r calls for is the region of a level below
     slot-level : (y : ℕ) → BeginsIn s w y → (homeIn s w y ≡ r → ⊥) → (l : ℕ) × (l < suc j) × (join s r (homeIn s w y) ≡ regionAt s t l)
     unfolding regionAt
-    slot-level y u o = go (one-thread? s r q)
+    slot-level y u o = go (in-case s r q)
       where
         q : ℕ
         q = ownerIn s w (pageOf y)
@@ -163,14 +164,22 @@ module _ (s : Sizes) (w : Words) (k : WholeFor s w) where
         joined : join s r (homeIn s w y) ≡ join s r q
         joined = ap (join s r) (used-home s w y u)
 
-        go : Dec (OneThread s r q) → (l : ℕ) × (l < suc j) × (join s r (homeIn s w y) ≡ regionAt s t l)
-        go (no n) = (0, omega arith, joined ∙ join-two s n)
-        go (yes h) =
+        control-space : join s r q ≡ 1 → (l : ℕ) × (l < suc j) × (join s r (homeIn s w y) ≡ regionAt s t l)
+        control-space e = (0, omega arith, joined ∙ e)
+
+        its-level : OneThread s r q → (levelOf s q < suc j) × (q ≡ regionAt s t (levelOf s q))
+        its-level h =
             let e : threadOf s q ≡ t = sym (h .thread) ∙ thread-at s t j deep in
             let z : q ≡ regionAt s t (levelOf s q) = region-number s q (h .right) ∙ ap (λ (a : ℕ). regionAt s a (levelOf s q)) e in
             let apart : levelOf s q ≡ suc j → ⊥ = λ c. o (used-home s w y u ∙ z ∙ ap (regionAt s t) c) in
-            let low : levelOf s q < suc j = omega (arith, k .pages (pageOf y) (begins-page _ _ _ _ u) .region (h .right) .level, ap (depthIn w) e) in
-            (levelOf s q, low, joined ∙ join-by (second-outer h (omega (arith, level-at s t j deep))) ∙ z)
+            (omega (arith, k .pages (pageOf y) (begins-page _ _ _ _ u) .region (h .right) .level, ap (depthIn w) e), z)
+
+        go : {c : JoinCase} → InCase s r q c → (l : ℕ) × (l < suc j) × (join s r (homeIn s w y) ≡ regionAt s t l)
+        go (control-first a) = control-space (join-by (control-first a))
+        go (control-second a) = control-space (join-by (control-second a))
+        go (first-outer h a) = absurd (let z : ⊥ = omega (arith, its-level h .0, level-at s t j deep) in z)
+        go (second-outer h a) = (levelOf s q, its-level h .0, joined ∙ join-by (second-outer h a) ∙ its-level h .1)
+        go (two-threads a b n) = control-space (join-by (two-threads a b n))
 
     -- each holder calls for the region of a level below, and is held there
     pub holds-held : (x q : ℕ) → homeIn s w x ≡ r → Holds s (graphOf s w) r x q → (l : ℕ) × (l < suc j) × (q ≡ regionAt s t l) × In (1 + x) (heldFrom (regionAt s t l))
