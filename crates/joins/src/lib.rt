@@ -32,8 +32,7 @@ pub fn join(p: Sizes, q: u32, r: u32) -> u32
     requires { ⌜ (1 ≤ p .depth) × (p .depth ≤ 8) ⌝ }
     ensures { λ x. ⌜ x ≡ regions.join p q r ⌝ }
 {
-    let case = join_case(p, q, r);
-    match case {
+    match join_case(p, q, r) {
         JoinCase::WithControl => 1,
         JoinCase::FirstOuter => q,
         JoinCase::SecondOuter => r,

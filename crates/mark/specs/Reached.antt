@@ -14,7 +14,7 @@ use borrow.Author.Tests.{eqb-true}
 use Rattle.lists.specs.Listed.{listed}
 use Rattle.lists.specs.Members.{In, in-append, in-left, in-right, getD-in, in-place, in-bounds}
 use Rattle.rules.specs.declared.Sizes.{Sizes}
-use Rattle.rules.specs.Regions.{regionAt, threadOf, levelOf, join}
+use Rattle.rules.specs.Regions.{regionAt, threadOf, levelOf, joinBy, join}
 use Rattle.rules.specs.declared.JoinCase.{JoinCase}
 use Rattle.laws.specs.JoinCases.{OneThread, InCase, control-first, control-second, first-outer, second-outer, two-threads, in-case, join-by}
 use Rattle.laws.specs.RegionLaws.{region-high, region-number, thread-at, level-at, parent-at}
@@ -156,16 +156,10 @@ module _ (s : Sizes) (w : Words) (k : WholeFor s w) where
     -- what a slot outside r calls for is the region of a level below
     slot-level : (y : ℕ) → BeginsIn s w y → (homeIn s w y ≡ r → ⊥) → (l : ℕ) × (l < suc j) × (join s r (homeIn s w y) ≡ regionAt s t l)
     unfolding regionAt
-    slot-level y u o = go (in-case s r q)
+    slot-level y u o = let c = in-case s r q in go c (ap (join s r) (used-home s w y u) ∙ join-by c)
       where
         q : ℕ
         q = ownerIn s w (pageOf y)
-
-        joined : join s r (homeIn s w y) ≡ join s r q
-        joined = ap (join s r) (used-home s w y u)
-
-        control-space : join s r q ≡ 1 → (l : ℕ) × (l < suc j) × (join s r (homeIn s w y) ≡ regionAt s t l)
-        control-space e = (0, omega arith, joined ∙ e)
 
         its-level : OneThread s r q → (levelOf s q < suc j) × (q ≡ regionAt s t (levelOf s q))
         its-level h =
@@ -174,12 +168,12 @@ module _ (s : Sizes) (w : Words) (k : WholeFor s w) where
             let apart : levelOf s q ≡ suc j → ⊥ = λ c. o (used-home s w y u ∙ z ∙ ap (regionAt s t) c) in
             (omega (arith, k .pages (pageOf y) (begins-page _ _ _ _ u) .region (h .right) .level, ap (depthIn w) e), z)
 
-        go : {c : JoinCase} → InCase s r q c → (l : ℕ) × (l < suc j) × (join s r (homeIn s w y) ≡ regionAt s t l)
-        go (control-first a) = control-space (join-by (control-first a))
-        go (control-second a) = control-space (join-by (control-second a))
-        go (first-outer h a) = absurd (let z : ⊥ = omega (arith, its-level h .0, level-at s t j deep) in z)
-        go (second-outer h a) = (levelOf s q, its-level h .0, joined ∙ join-by (second-outer h a) ∙ its-level h .1)
-        go (two-threads a b n) = control-space (join-by (two-threads a b n))
+        go : {c : JoinCase} → InCase s r q c → join s r (homeIn s w y) ≡ joinBy c r q → (l : ℕ) × (l < suc j) × (join s r (homeIn s w y) ≡ regionAt s t l)
+        go (control-first a) e = (0, omega arith, e)
+        go (control-second a) e = (0, omega arith, e)
+        go (first-outer h a) e = absurd (let z : ⊥ = omega (arith, its-level h .0, level-at s t j deep) in z)
+        go (second-outer h a) e = (levelOf s q, its-level h .0, e ∙ its-level h .1)
+        go (two-threads a b n) e = (0, omega arith, e)
 
     -- each holder calls for the region of a level below, and is held there
     pub holds-held : (x q : ℕ) → homeIn s w x ≡ r → Holds s (graphOf s w) r x q → (l : ℕ) × (l < suc j) × (q ≡ regionAt s t l) × In (1 + x) (heldFrom (regionAt s t l))

@@ -19,11 +19,11 @@ module _ (s : Sizes) (q r a b t u : ℕ) (x : a ≡ q) (y : b ≡ r) (l : 2 ≤ 
     one-thread : OneThread s q r
     one-thread = record { left = l; right = m; thread = ap (threadOf s) (sym x) ∙ sym e ∙ same ∙ f ∙ ap (threadOf s) y }
 
-    second : k < j → SecondOuter ≡ joinCase s q r
-    second o = sym (case-only (second-outer one-thread (omega (arith, g ∙ ap (levelOf s) x, h ∙ ap (levelOf s) y))))
+    second-is-outer : k < j → SecondOuter ≡ joinCase s q r
+    second-is-outer o = sym (case-only (second-outer one-thread (omega (arith, g ∙ ap (levelOf s) x, h ∙ ap (levelOf s) y))))
 
-    first : j ≤ k → FirstOuter ≡ joinCase s q r
-    first o = sym (case-only (first-outer one-thread (omega (arith, g ∙ ap (levelOf s) x, h ∙ ap (levelOf s) y))))
+    first-is-outer : j ≤ k → FirstOuter ≡ joinCase s q r
+    first-is-outer o = sym (case-only (first-outer one-thread (omega (arith, g ∙ ap (levelOf s) x, h ∙ ap (levelOf s) y))))
 
 returns : tie.Need-returns
 returns c = sym (case-only (control-first (omega (arith, c .if1 .taken))))
@@ -45,7 +45,9 @@ thread-of-requires-2 c κs = search needs
 
 returns-3 : tie.Need-returns-3
 returns-3 c =
-    other-threads _ _ _ _ _ _ _ (c .before .before .before .before .wide .ensures) (c .before .before .before .wide2 .ensures) (omega arith) (omega arith) (c .before .before .thread-of .ensures) (c .before .thread-of2 .ensures) (c .if3 .taken)
+    let first = c .before .before .before .before .wide .ensures in
+    let second = c .before .before .before .wide2 .ensures in
+    other-threads _ _ _ _ _ _ _ first second (omega arith) (omega arith) (c .before .before .thread-of .ensures) (c .before .thread-of2 .ensures) (c .if3 .taken)
 
 level-of-requires : tie.Need-level-of-requires
 level-of-requires c κs = search needs
@@ -55,13 +57,19 @@ level-of-requires-2 c κs = search needs
 
 returns-4 : tie.Need-returns-4
 returns-4 c =
-    second _ _ _ _ _ _ _ (c .before .before .before .before .before .before .before .wide .ensures) (c .before .before .before .before .before .before .wide2 .ensures) (omega arith) (omega arith) (c .before .before .before .before .before .thread-of .ensures) (c .before .before .before .before .thread-of2 .ensures) (c .before .before .before .if3 .left) _ _
-    (c .before .level-of2 .ensures) (c .before .before .level-of .ensures) (c .if4 .taken)
+    let threads = c .before .before .before in
+    let first = threads .before .before .before .before .wide .ensures in
+    let second = threads .before .before .before .wide2 .ensures in
+    second-is-outer _ _ _ _ _ _ _ first second (omega arith) (omega arith) (threads .before .before .thread-of .ensures) (threads .before .thread-of2 .ensures)
+    (threads .if3 .left) _ _ (c .before .level-of2 .ensures) (c .before .before .level-of .ensures) (c .if4 .taken)
 
 returns-5 : tie.Need-returns-5
 returns-5 c =
-    first _ _ _ _ _ _ _ (c .before .before .before .before .before .before .before .wide .ensures) (c .before .before .before .before .before .before .wide2 .ensures) (omega arith) (omega arith) (c .before .before .before .before .before .thread-of .ensures) (c .before .before .before .before .thread-of2 .ensures) (c .before .before .before .if3 .left) _ _
-    (c .before .level-of2 .ensures) (c .before .before .level-of .ensures) (omega arith)
+    let threads = c .before .before .before in
+    let first = threads .before .before .before .before .wide .ensures in
+    let second = threads .before .before .before .wide2 .ensures in
+    first-is-outer _ _ _ _ _ _ _ first second (omega arith) (omega arith) (threads .before .before .thread-of .ensures) (threads .before .thread-of2 .ensures)
+    (threads .if3 .left) _ _ (c .before .level-of2 .ensures) (c .before .before .level-of .ensures) (omega arith)
 
 pub join-case-spec : {M : Type 1} → statement M
 join-case-spec =
