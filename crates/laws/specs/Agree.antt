@@ -13,7 +13,7 @@ use Rattle.rules.specs.declared.Command.{Command}
 use Rattle.rules.specs.declared.Answer.{Answer}
 use Rattle.rules.specs.Terms.{refused, ask, Limits, limits, first}
 use Rattle.rules.specs.NeverFreeing as nf
-use Rattle.rules.specs.NeverFreeing.{Access, noField, references, numbers, accessed, Effect, opens, ends, makes, assigns, meaningOf, nested}
+use Rattle.rules.specs.NeverFreeing.{Access, noField, references, numbers, accessed, Effect, opens, ends, collects, makes, assigns, meaningOf, nested}
 use Rattle.rules.specs.Graph.{crossing, freePages, newPages}
 use Rattle.rules.specs.Rules as ru
 use Rattle.rules.specs.Rules.{Regioned, graph, asksEntries, lacking}
@@ -31,6 +31,7 @@ accessed-le s n t (numbers a f) rest h = ask-le _ 9 _ (omega arith) (ask-le _ 10
 nested-le : (s : Limits) (n : nf.NeverFreeing) (t : ℕ) (e : Effect) → nested s n t e ≤ 12
 nested-le s n t opens = ask-le _ 11 0 (omega arith) (omega arith)
 nested-le s n t ends = ask-le _ 12 0 (omega arith) (omega arith)
+nested-le s n t collects = omega arith
 nested-le s n t (makes a b c) = omega arith
 nested-le s n t (assigns x) = omega arith
 

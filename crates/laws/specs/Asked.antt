@@ -6,9 +6,9 @@ use mathlib.Core.Bool.{Bool, true, false}
 use lib.Dec.{T, ltb, leb, ltb→lt}
 use Rattle.lists.specs.Tests.{both-hold}
 use Rattle.rules.specs.declared.Command.{Command}
-use Rattle.rules.specs.Terms.{Code, unknown, start, end, new, copy, clear, load, store, read, write, same, decode, ask, Limits, first}
+use Rattle.rules.specs.Terms.{Code, unknown, start, end, new, copy, clear, load, store, read, write, same, collect, decode, ask, Limits, first}
 use Rattle.rules.specs.NeverFreeing.{NeverFreeing, mostFields, operands, question, state, Access, noField, references, numbers, accessed, nested}
-use Rattle.rules.specs.NeverFreeing.{Effect, opens, ends, makes, assigns, meaning, meaningOf}
+use Rattle.rules.specs.NeverFreeing.{Effect, opens, ends, collects, makes, assigns, meaning, meaningOf}
 
 pub ask-zero : (b : Bool) (q rest : ℕ) → ask b (suc q) rest ≡ 0 → T b × (rest ≡ 0)
 unfolding ask
@@ -23,6 +23,7 @@ first-zero (suc q) r e = absurd (omega arith)
 abbrev pub MadeLow : Limits → Effect → Type 0
 MadeLow s opens = Unit
 MadeLow s ends = Unit
+MadeLow s collects = Unit
 MadeLow s (makes a b c) = a < s .variables
 MadeLow s (assigns x) = Unit
 
@@ -39,6 +40,7 @@ made-low s store t a b c e = tt
 made-low s read t a b c e = tt
 made-low s write t a b c e = tt
 made-low s same t a b c e = tt
+made-low s collect t a b c e = tt
 
 accessed-zero : (s : Limits) (n : NeverFreeing) (t : ℕ) (x : Access) (rest : ℕ) → accessed s n t x rest ≡ 0 → rest ≡ 0
 accessed-zero s n t noField rest e = e

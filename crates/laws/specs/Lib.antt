@@ -10,6 +10,7 @@ pub mod Counts
 pub mod Counters
 pub mod SameRules
 pub mod RulesLaws
+pub mod Collected
 pub mod Asked
 pub mod AfterLaws
 pub mod Highest

@@ -16,9 +16,9 @@ use Rattle.lists.specs.Listed.{listed-same}
 use Rattle.rules.specs.declared.Sizes.{Sizes}
 use Rattle.rules.specs.Regions.{regions, only}
 use Rattle.rules.specs.Graph.{Graph, ended}
-use Rattle.rules.specs.Pages.{Pages, Move, Placing, noneMoved, placeAll, newCell, released}
+use Rattle.rules.specs.Pages.{Pages, Move, Placing, noneMoved, placeAll, newCell, released, ownedFrom, slideBelow, filledBy}
 use Rattle.rules.specs.Rules as ru
-use Rattle.rules.specs.Rules.{Regioned, graph, homeOf, objectCell, cellCount, objectAt, goalOf, copies, vacated}
+use Rattle.rules.specs.Rules.{Regioned, graph, homeOf, objectCell, cellCount, objectAt, goalOf, copies, vacated, slides, slid}
 use Rattle.laws.specs.Highest.{highest-some, highest-zero}
 use Rattle.laws.specs.GraphLaws.{Alive}
 use Rattle.laws.specs.EndLaws.{home-went}
@@ -133,4 +133,23 @@ module _ (s : Sizes) (to : ℕ → ℕ) (h k : Regioned) (sh : Sound h) (sk : So
     vacated-cells x a =
         moved-cell _ (k .occupancy .cells) (to x) (omega (arith, sk .celled, in-bounds (k .homes) (to x) (there x a)))
         ∙ ap₂ (λ (q : Placing) (c : ℕ). newCell (q .moves) c) copies-like (o .cells x a)
+        ∙ sym (moved-cell _ (h .occupancy .cells) x (omega (arith, sh .celled, in-bounds (h .homes) x a)))
+
+    -- ---- a collection of r
+
+    slides-like : slides s k r (ru.ended s k r) ≡ slides s h r (ru.ended s h r)
+    unfolding slides ru.goals
+    slides-like =
+        ap₂ (λ (gs : List ℕ) (ps : Pages). slideBelow (λ c. not (eqb (getD gs c 0) 0)) (ownedFrom r 0 ps) (cellCount s))
+        (listed-same _ _ (cellCount s) (λ c l. goal-like c)) (o .pages)
+
+    pub slid-pages : slid s k r (ru.ended s k r) .pages ≡ slid s h r (ru.ended s h r) .pages
+    unfolding slid
+    slid-pages = ap₂ (λ (ms : List Move) (ps : Pages). filledBy r (length ms) ps) slides-like (o .pages)
+
+    pub slid-cells : (x : ℕ) → Alive (graph h) x → getD (slid s k r (ru.ended s k r) .cells) (to x) 0 ≡ getD (slid s h r (ru.ended s h r) .cells) x 0
+    unfolding slid
+    slid-cells x a =
+        moved-cell _ (k .occupancy .cells) (to x) (omega (arith, sk .celled, in-bounds (k .homes) (to x) (there x a)))
+        ∙ ap₂ (λ (ms : List Move) (c : ℕ). newCell ms c) slides-like (o .cells x a)
         ∙ sym (moved-cell _ (h .occupancy .cells) x (omega (arith, sh .celled, in-bounds (h .homes) x a)))

@@ -21,17 +21,17 @@ use Rattle.lists.specs.Stores.{map-set}
 use Rattle.rules.specs.NeverFreeing as nf
 use Rattle.rules.specs.NeverFreeing.{Object, noObject, depthOf, varOf, objectOf, place, usedThen, accessed, nested, referred, meaningOf}
 use Rattle.rules.specs.NeverFreeing.{Access, noField, references, numbers, Source, null, held, loaded, Result, noValue, isObject, theNumber, areSame}
-use Rattle.rules.specs.NeverFreeing.{Assignment, nothing, variable, reference, number, Effect, opens, ends, makes, assigns}
-use Rattle.rules.specs.Regions.{regionAt, only}
+use Rattle.rules.specs.NeverFreeing.{Assignment, nothing, variable, reference, number, Effect, opens, ends, collects, makes, assigns}
+use Rattle.rules.specs.Regions.{control, regionAt, only}
 use Rattle.rules.specs.Pages.{Pages, take}
 use Rattle.rules.specs.Graph.{Graph, ended, freedBy}
 use Rattle.laws.specs.GraphLaws.{Alive}
 use Rattle.laws.specs.EndLaws.{was-alive}
 use Rattle.laws.specs.SameRules.{renamed, renamed-zeros, Partners, partners-ended, same-freed}
 use Rattle.rules.specs.Rules as ru
-use Rattle.rules.specs.Rules.{Regioned, graph, objectCell, innermost, oneMade, moreFreed}
-use Rattle.laws.specs.RulesLaws.{Sound, region-pos, graph-ended, afterEffect}
-use Rattle.laws.specs.LikeCells.{Apart, SameOccupancy, vacated-pages, vacated-cells}
+use Rattle.rules.specs.Rules.{Occupancy, Regioned, graph, objectCell, innermost, oneMade, moreFreed}
+use Rattle.laws.specs.RulesLaws.{Sound, region-pos, control-pos, graph-ended, afterEffect}
+use Rattle.laws.specs.LikeCells.{Apart, SameOccupancy, vacated-pages, vacated-cells, slid-pages, slid-cells}
 
 -- `to` leads each object of h that is there to one of k, one to one and onto, with its home, references, numbers and the variables;
 -- depths and counters are the same, and so are the cells of partners and the pages
@@ -50,9 +50,15 @@ null-like : (to : ℕ → ℕ) (v : ℕ) → eqb (renamed to v) 0 ≡ eqb v 0
 null-like to zero = refl
 null-like to (suc x) = eqb·suc-zero (to x) ∙ sym (eqb·suc-zero x)
 
--- a heap after the end of region r, and one with a new object in region q and variable p
-abbrev over : Sizes → ℕ → Regioned → List ℕ → Regioned
-over s r g ds = record { heap = record { depths = ds; vars = g .heap .vars; objects = g .heap .objects }; homes = ru.ended s g r; counters = moreFreed (freedBy s (graph g) r) (g .counters); occupancy = ru.vacated s g (only r) (ru.ended s g r) }
+-- a heap after the end of region r, with its objects where o says, and one with a new object in region q and variable p
+abbrev over : Sizes → ℕ → Regioned → List ℕ → Occupancy → Regioned
+over s r g ds o = record { heap = record { depths = ds; vars = g .heap .vars; objects = g .heap .objects }; homes = ru.ended s g r; counters = moreFreed (freedBy s (graph g) r) (g .counters); occupancy = o }
+
+abbrev vacatedOf : Sizes → ℕ → Regioned → Occupancy
+vacatedOf s r g = ru.vacated s g (only r) (ru.ended s g r)
+
+abbrev slidOf : Sizes → ℕ → Regioned → Occupancy
+slidOf s r g = ru.slid s g r (ru.ended s g r)
 
 abbrev grownBy : ℕ → ℕ → List ℕ → ℕ → Regioned → Regioned
 grownBy q b ns p g =
@@ -105,6 +111,7 @@ module _ (s : Sizes) (to : ℕ → ℕ) (h k : Regioned) (l : Like to h k) where
   nested-like : (t : ℕ) (e : Effect) → nested (limits s) (k .heap) t e ≡ nested (limits s) (h .heap) t e
   nested-like t opens = ap (λ (ds : List ℕ). ask (ltb (getD ds t 0) (s .depth)) 11 0) (l .depths)
   nested-like t ends = ap (λ (ds : List ℕ). ask (ltb 0 (getD ds t 0)) 12 0) (l .depths)
+  nested-like t collects = refl
   nested-like t (makes a b c) = refl
   nested-like t (assigns x) = refl
 
@@ -340,8 +347,9 @@ module _ (s : Sizes) (to : ℕ → ℕ) (h k : Regioned) (l : Like to h k) where
 
   -- the end of the region r
   module _ (r : ℕ) (pos : 0 < r) where
-    end-after : Apart h → (ds es : List ℕ) → es ≡ ds → Sound (over s r h ds) → Sound (over s r k es) → After (over s r h ds) (over s r k es)
-    end-after apart ds es e sh sk =
+    end-after : (ds es : List ℕ) → es ≡ ds → (o o′ : Occupancy) → o′ .pages ≡ o .pages → ((x : ℕ) → Alive (graph h) x → getD (o′ .cells) (to x) 0 ≡ getD (o .cells) x 0)
+        → Sound (over s r h ds o) → Sound (over s r k es o′) → After (over s r h ds o) (over s r k es o′)
+    end-after ds es e o o′ pages cells sh sk =
         record {
           to′ = to;
           like = record {
@@ -353,15 +361,29 @@ module _ (s : Sizes) (to : ℕ → ℕ) (h k : Regioned) (l : Like to h k) where
             nums = λ x a. l .nums x (before x a);
             counters = ap₂ moreFreed (sym (same-freed s to (graph h) (graph k) (l .sound .closed) (l .sound′ .closed) (l .partners) r pos)) (l .counters);
             occupancy = record {
-              pages = vacated-pages s to h k (l .sound) (l .sound′) (l .partners) (l .occupancy) apart r pos;
-              cells = λ x a. vacated-cells s to h k (l .sound) (l .sound′) (l .partners) (l .occupancy) apart r pos x (before x a);
+              pages = pages;
+              cells = λ x a. cells x (before x a);
             };
           };
           keeps = λ x a. refl;
         }
       where
-        before : (x : ℕ) → Alive (graph (over s r h ds)) x → Alive (graph h) x
+        before : (x : ℕ) → Alive (graph (over s r h ds o)) x → Alive (graph h) x
         before x a = was-alive s (graph h) r pos (l .sound .closed) x (subst (λ (g : Graph). Alive g x) (graph-ended s h r pos ds) a)
+
+    -- survivors are copied, and the region's pages go back
+    vacated-after : Apart h → (ds es : List ℕ) → es ≡ ds → Sound (over s r h ds (vacatedOf s r h)) → Sound (over s r k es (vacatedOf s r k))
+        → After (over s r h ds (vacatedOf s r h)) (over s r k es (vacatedOf s r k))
+    vacated-after apart ds es e =
+        end-after ds es e (vacatedOf s r h) (vacatedOf s r k) (vacated-pages s to h k (l .sound) (l .sound′) (l .partners) (l .occupancy) apart r pos)
+        (vacated-cells s to h k (l .sound) (l .sound′) (l .partners) (l .occupancy) apart r pos)
+
+    -- they slide together on its pages
+    slid-after : Apart h → Sound (over s r h (h .heap .depths) (slidOf s r h)) → Sound (over s r k (k .heap .depths) (slidOf s r k))
+        → After (over s r h (h .heap .depths) (slidOf s r h)) (over s r k (k .heap .depths) (slidOf s r k))
+    slid-after apart =
+        end-after (h .heap .depths) (k .heap .depths) (l .depths) (slidOf s r h) (slidOf s r k) (slid-pages s to h k (l .sound) (l .sound′) (l .partners) (l .occupancy) apart r pos)
+        (slid-cells s to h k (l .sound) (l .sound′) (l .partners) (l .occupancy) apart r pos)
 
   assigned-after : (t : ℕ) (x : Assignment) → Sound (afterEffect s h t (assigns x)) → Sound (afterEffect s k t (assigns x)) → After (afterEffect s h t (assigns x)) (afterEffect s k t (assigns x))
   unfolding nf.effect ru.homesAfter ru.countersAfter ru.occupancyAfter
@@ -386,8 +408,9 @@ module _ (s : Sizes) (to : ℕ → ℕ) (h k : Regioned) (l : Like to h k) where
   after-like apart t ends sh sk =
       let q = innermost-like t in
       let ds = ap (λ (ds : List ℕ). set ds t (getD ds t 0 - 1)) (l .depths) in
-      subst (λ (r : ℕ). Sound (over s r k (set (k .heap .depths) t (depthOf (k .heap) t - 1))) → After (over s (innermost s h t) h (set (h .heap .depths) t (depthOf (h .heap) t - 1))) (over s r k (set (k .heap .depths) t (depthOf (k .heap) t - 1))))
-      (sym q) (λ sk′. end-after (innermost s h t) (region-pos s t (depthOf (h .heap) t)) apart _ _ ds sh sk′) sk
+      subst (λ (r : ℕ). Sound (over s r k (set (k .heap .depths) t (depthOf (k .heap) t - 1)) (vacatedOf s r k)) → After (over s (innermost s h t) h (set (h .heap .depths) t (depthOf (h .heap) t - 1)) (vacatedOf s (innermost s h t) h)) (over s r k (set (k .heap .depths) t (depthOf (k .heap) t - 1)) (vacatedOf s r k)))
+      (sym q) (λ sk′. vacated-after (innermost s h t) (region-pos s t (depthOf (h .heap) t)) apart _ _ ds sh sk′) sk
+  after-like apart t collects sh sk = slid-after control control-pos apart sh sk
   after-like apart t (makes a b c) sh sk =
       subst (λ (r : ℕ). Sound (grownBy r b (replicate c 0) (place (limits s) t a) k) → After (grownBy (innermost s h t) b (replicate c 0) (place (limits s) t a) h) (grownBy r b (replicate c 0) (place (limits s) t a) k)) (sym (innermost-like t))
       (λ sk′. new-after (innermost s h t) b (replicate c 0) (place (limits s) t a) (region-pos s t (depthOf (h .heap) t)) sh sk′) sk

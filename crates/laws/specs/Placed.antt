@@ -13,7 +13,7 @@ use Rattle.rules.specs.declared.Command.{Command}
 use Rattle.rules.specs.Terms.{Limits, limits}
 use Rattle.rules.specs.NeverFreeing as nf
 use Rattle.rules.specs.NeverFreeing.{NeverFreeing, Object, depthOf, varOf, nested, assigned, meaningOf}
-use Rattle.rules.specs.NeverFreeing.{Assignment, nothing, variable, reference, number, Effect, opens, ends, makes, assigns}
+use Rattle.rules.specs.NeverFreeing.{Assignment, nothing, variable, reference, number, Effect, opens, ends, collects, makes, assigns}
 use Rattle.rules.specs.Regions.{regionAt, parent, join, only}
 use Rattle.rules.specs.Graph.{Graph, target, ended, freedBy}
 use Rattle.laws.specs.RegionLaws.{region-high, parent-at, region-apart, join-control, join-other, join-same}
@@ -21,7 +21,8 @@ use Rattle.laws.specs.GraphLaws.{Alive, Holds, bySlot, byOwn, byOther, t
 use Rattle.laws.specs.EndLaws.{home-went, home-stayed}
 use Rattle.rules.specs.Rules as ru
 use Rattle.rules.specs.Rules.{Regioned, graph, innermost, oneMade, moreFreed}
-use Rattle.laws.specs.RulesLaws.{region-pos, graph-ended, afterEffect}
+use Rattle.laws.specs.RulesLaws.{region-pos, graph-ended, collected, graph-collected, afterEffect}
+use Rattle.laws.specs.Collected.{home-kept}
 use Rattle.laws.specs.Asked.{ask-zero, first-zero, thread-ok, nested-ok}
 
 -- q is the control space, or the region of a thread at a level that is open
@@ -164,6 +165,17 @@ placed-start s h p t l =
       homes = λ x a. open-more s (h .heap .depths) _ _ (raised (h .heap .depths) t) (p .homes x a);
     }
 
+-- a collection opens and closes no region, and what stays lies where it lay
+placed-collected : (s : Sizes) (h : Regioned) → Placed s h → Placed s (collected s h)
+placed-collected s h p =
+    record {
+      depths = p .depths;
+      homes = λ x a.
+          let b : Alive (ended s (graph h) 1) x = subst (λ (g : Graph). Alive g x) (graph-collected s h) a in
+          let same = ap (λ (g : Graph). g .home x) (graph-collected s h) ∙ home-kept s (graph h) x b in
+          subst (Open s (h .heap .depths)) (sym same) (p .homes x (λ z. a (same ∙ z)));
+    }
+
 placed-same : (s : Sizes) (h : Regioned) → Placed s h → (n : NeverFreeing) → n .depths ≡ h .heap .depths → Placed s (record { heap = n; homes = h .homes; counters = h .counters; occupancy = h .occupancy })
 placed-same s h p n e =
     record { depths = λ t. subst (λ (ds : List ℕ). getD ds t 0 ≤ s .depth) (sym e) (p .depths t); homes = λ x a. subst (λ (ds : List ℕ). Open s ds (getD (h .homes) x 0)) (sym e) (p .homes x a) }
@@ -191,6 +203,7 @@ placed-effect s h p t ends th q = go (depthOf (h .heap) t) refl (ltb→lt _ _ (a
     go (suc k) e l =
         let d : depthOf (h .heap) t - 1 ≡ k = omega arith in
         rw (d, e) (placed-ended s h p t k th e (h .heap .vars))
+placed-effect s h p t collects th q = placed-collected s h p
 placed-effect s h p t (makes a b c) th q = placed-new s h p (innermost s h t) (innermost-open s (h .heap .depths) t th) _ refl
 placed-effect s h p t (assigns x) th q = placed-same s h p _ (assigned-depths (limits s) (h .heap) t x)
 

@@ -17,8 +17,8 @@ use Rattle.rules.specs.declared.Command.{Command}
 use Rattle.rules.specs.Terms.{limits}
 use Rattle.rules.specs.NeverFreeing as nf
 use Rattle.rules.specs.NeverFreeing.{Object, noObject, depthOf, varOf, objectOf, place, referred, assigned, meaningOf}
-use Rattle.rules.specs.NeverFreeing.{Source, null, held, loaded, Assignment, nothing, variable, reference, number, Effect, opens, ends, makes, assigns}
-use Rattle.rules.specs.Regions.{regionAt, only}
+use Rattle.rules.specs.NeverFreeing.{Source, null, held, loaded, Assignment, nothing, variable, reference, number, Effect, opens, ends, collects, makes, assigns}
+use Rattle.rules.specs.Regions.{control, regionAt, only}
 use Rattle.rules.specs.Pages.{newCell}
 use Rattle.rules.specs.Graph.{target, ended, freedBy}
 use Rattle.laws.specs.GraphLaws.{Alive, Closed}
@@ -174,6 +174,27 @@ module _ (s : Sizes) (h : Regioned) (r : ℕ) (pos : 0 < r) (ds : List ℕ) wher
         closed = subst Closed (sym graph-ended) (closed-ended s (graph h) r pos (k .closed));
       }
 
+-- ---- a collection
+
+pub control-pos : 0 < control
+control-pos = omega arith
+
+module _ (s : Sizes) (h : Regioned) where
+  abbrev pub collected : Regioned
+  collected = record { heap = h .heap; homes = ru.ended s h control; counters = moreFreed (freedBy s (graph h) control) (h .counters); occupancy = ru.slid s h control (ru.ended s h control) }
+
+  pub graph-collected : graph collected ≡ ended s (graph h) control
+  graph-collected = graph-ended s h control control-pos (h .heap .depths)
+
+  sound-collected : Sound h → Sound collected
+  sound-collected k =
+      let e = sound-ended s h control control-pos (h .heap .depths) k in
+      record {
+        aligned = e .aligned;
+        celled = unfold ru.slid in (length-map (h .occupancy .cells) (newCell _) ∙ k .celled ∙ sym (length-ended s h control control-pos (h .heap .depths)));
+        closed = e .closed;
+      }
+
 -- ---- every command
 
 pub region-pos : (s : Sizes) (t d : ℕ) → 0 < regionAt s t d
@@ -209,6 +230,7 @@ sound-effect : (s : Sizes) (h : Regioned) → Sound h → (t : ℕ) (e : Effect)
 unfolding nf.effect ru.homesAfter ru.countersAfter ru.occupancyAfter
 sound-effect s h k t opens = sound-depth h k _
 sound-effect s h k t ends = sound-ended s h (innermost s h t) (region-pos s t (depthOf (h .heap) t)) _ k
+sound-effect s h k t collects = sound-collected s h k
 sound-effect s h k t (makes a b c) = sound-new h k (place (limits s) t a) (innermost s h t) b (replicate c 0) (region-pos s t (depthOf (h .heap) t))
 sound-effect s h k t (assigns x) = sound-assigned s h k t x
 
