@@ -171,5 +171,5 @@ module _ (p : Sizes) (c m t : List ℕ) (k : WholeFor p (words c m t)) (u : ℕ)
             (λ so. record {
               cell = withCell H (λ x. x) cell;
               stands = made-stands s w H (λ x. x) (heap-stands s w k) g cell b d t₂ c₁ tk takes blank few (region-real .0) (region-real .1) region-open (place (limits s) u a) (flat-low l n) so;
-              stays = λ x al z. to-old s w H (λ x. x) (heap-stands s w k) g cell b d t₂ c₁ tk takes blank few (region-real .0) (region-real .1) region-open x al;
+              stays = λ x al z n. to-old s w H (λ x. x) (heap-stands s w k) g cell b d t₂ c₁ tk takes blank few (region-real .0) (region-real .1) region-open x al;
             }))

@@ -123,7 +123,7 @@ module _ (s : Sizes) (w : Words) (whole : WholeFor s w) (t k : ℕ) (th : t < s 
   evacuated-did free z =
       did-freed s w whole (endOf t) w′ H′ 0 z (after-end s w t k th deep) (unfold nf.value in refl) (e .beyond)
       (record { pages = λ page l f. free page l (f ∙ ap (regionAt s t) deep) })
-      (λ so. record { cell = cell; stands = stands so; stays = keeps-cell })
+      (λ so. record { cell = cell; stands = stands so; stays = λ x a q n. keeps-cell x a q })
 
   -- so where there are pages and entries
   pub ended-did : Vacated s (partOf s w (regionAt s t (suc k))) w′ → pagesNeeded s w r ≤ pagesOwned s w 0 → crossingAfter s w r ≤ s .entries → DidHere s w (endOf t) w′ (done 0)

@@ -1,18 +1,18 @@
 -- A command need only be shown right of the heap that the words themselves make, whose objects are the cells: then it is right of every heap that they stand for.
 use Prim.Native.Nat.{ℕ, _<_}
-use mathlib.Core.Path.{_≡_, sym, ap, _∙_}
+use mathlib.Core.Path.{_≡_, sym, ap, subst, _∙_}
 use Rattle.rules.specs.declared.Sizes.{Sizes}
 use Rattle.rules.specs.declared.Command.{Command}
 use Rattle.rules.specs.declared.Answer.{Answer}
 use Rattle.rules.specs.Terms.{limits}
-use Rattle.rules.specs.NeverFreeing.{Object, depthOf, varOf}
+use Rattle.rules.specs.NeverFreeing.{Object, depthOf, varOf, meaningOf}
 use Rattle.laws.specs.GraphLaws.{Alive}
 use Rattle.rules.specs.Rules as ru
 use Rattle.rules.specs.Rules.{Regioned, graph}
 use Rattle.lists.specs.Listed.{getD-listed}
 use Rattle.layout.specs.Words.{Words, cellCount, heapOf, depthIn, varIn}
 use Rattle.promises.specs.StandsFor.{StandsFor}
-use Rattle.promises.specs.Promises.{Became, DidHere, Did}
+use Rattle.promises.specs.Promises.{Slides, Became, DidHere, Did}
 use Rattle.promises.specs.Reading.{var-at, depth-at, words-closed}
 use Rattle.promises.specs.Agreed.{home-at, object-at, partners-trans, heap-stands, there, cell-alive}
 use Rattle.promises.specs.Laid.{stands-laid}
@@ -74,7 +74,7 @@ did-anywhere s w m w′ a d =
       beyond = d .beyond;
     }
   where
-    next : (h : Regioned) (cellOf : ℕ → ℕ) → StandsFor s w h cellOf → Became s h cellOf w′ (ru.step s h m .next)
+    next : (h : Regioned) (cellOf : ℕ → ℕ) → StandsFor s w h cellOf → Became s h cellOf m w′ (ru.step s h m .next)
     next h cellOf st =
         let l = stands-like s w h cellOf st in
         let n = step-like s cellOf h (heapOf s w) l (stands-apart s w h cellOf st) m .next in
@@ -82,11 +82,12 @@ did-anywhere s w m w′ a d =
         record {
           cell = λ x. b .cell (n .to′ x);
           stands = like-stands s w′ (n .to′) (ru.step s h m .next) (ru.step s (heapOf s w) m .next) (b .cell) (n .like) (b .stands);
-          stays = λ x a e.
+          stays = λ x a e n′.
               let a₁ : Alive (graph (ru.step s h m .next)) x = λ z. a (sym e ∙ z) in
               ap (b .cell) (n .keeps x a)
               ∙ b .stays (cellOf x) (λ z. a (sym (l .partners .home x a) ∙ z))
-              (ap (graph (ru.step s (heapOf s w) m .next) .home) (sym (n .keeps x a)) ∙ n .like .partners .home x a₁ ∙ e ∙ sym (l .partners .home x a));
+              (ap (graph (ru.step s (heapOf s w) m .next) .home) (sym (n .keeps x a)) ∙ n .like .partners .home x a₁ ∙ e ∙ sym (l .partners .home x a))
+              (subst (λ (q : ℕ). Slides (meaningOf m .effect) q → ⊥) (sym (l .partners .home x a)) n′);
         }
 
 -- what the questions read of that heap, in words

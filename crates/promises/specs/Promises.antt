@@ -8,8 +8,8 @@ use Rattle.rules.specs.declared.Sizes.{Sizes}
 use Rattle.rules.specs.declared.Command.{Command}
 use Rattle.rules.specs.declared.Answer.{Answer}
 use Rattle.rules.specs.Terms.{InRange}
-use Rattle.rules.specs.NeverFreeing.{Effect, opens, ends, makes, assigns, meaningOf}
-use Rattle.rules.specs.Regions.{regionAt}
+use Rattle.rules.specs.NeverFreeing.{Effect, opens, ends, collects, makes, assigns, meaningOf}
+use Rattle.rules.specs.Regions.{control, regionAt}
 use Rattle.laws.specs.GraphLaws.{Alive}
 use Rattle.rules.specs.Rules as ru
 use Rattle.rules.specs.Rules.{Regioned, graph}
@@ -21,16 +21,25 @@ use Rattle.promises.specs.WordsOf.{laid}
 
 -- ---- one command
 
--- w′ stands for the heap h′, in which the objects of h whose home did not change have kept their cells
-pub record Became (s : Sizes) (h : Regioned) (cellOf : ℕ → ℕ) (w′ : Words) (h′ : Regioned) : Type 0 where
+-- what a command does may move objects of region r that stay in it: a collection, in the control space
+abbrev pub Slides : Effect → ℕ → Type 0
+Slides opens r = ⊥
+Slides ends r = ⊥
+Slides collects r = r ≡ control
+Slides (makes a b c) r = ⊥
+Slides (assigns x) r = ⊥
+
+-- w′ stands for the heap h′ after command m, in which the objects of h whose home did not change have kept their cells
+pub record Became (s : Sizes) (h : Regioned) (cellOf : ℕ → ℕ) (m : Command) (w′ : Words) (h′ : Regioned) : Type 0 where
   pub cell : ℕ → ℕ
   pub stands : StandsFor s w′ h′ cell
-  pub stays : (x : ℕ) → Alive (graph h) x → graph h′ .home x ≡ graph h .home x → cell x ≡ cellOf x
+  pub stays : (x : ℕ) → Alive (graph h) x → graph h′ .home x ≡ graph h .home x → (Slides (meaningOf m .effect) (graph h .home x) → ⊥) → cell x ≡ cellOf x
 
--- what a command of thread t does frees the pages of region r: an end, of the thread's innermost region
+-- what a command of thread t does frees all pages of region r: an end, of the thread's innermost region
 abbrev pub Frees : Sizes → Words → ℕ → Effect → ℕ → Type 0
 Frees s w t opens r = ⊥
 Frees s w t ends r = r ≡ regionAt s t (depthIn w t)
+Frees s w t collects r = ⊥
 Frees s w t (makes a b c) r = ⊥
 Frees s w t (assigns x) r = ⊥
 
@@ -43,7 +52,7 @@ pub record Freed (s : Sizes) (w : Words) (m : Command) (w′ : Words) : Type 0 w
 pub record DidHere (s : Sizes) (w : Words) (m : Command) (w′ : Words) (a : Answer) : Type 0 where
   pub answer : a ≡ ru.step s (heapOf s w) m .answer
   pub words : w′ ≡ laid s (ru.step s (heapOf s w) m .next) w
-  pub next : Became s (heapOf s w) (λ c. c) w′ (ru.step s (heapOf s w) m .next)
+  pub next : Became s (heapOf s w) (λ c. c) m w′ (ru.step s (heapOf s w) m .next)
   pub freed : a .number ≡ 0 → Freed s w m w′
   pub refused : (a .number ≡ 0 → ⊥) → w′ ≡ w
   pub beyond : SameBeyond s w w′
@@ -52,7 +61,7 @@ pub record DidHere (s : Sizes) (w : Words) (m : Command) (w′ : Words) (a : Ans
 pub record Did (s : Sizes) (w : Words) (m : Command) (w′ : Words) (a : Answer) : Type 0 where
   pub answer : (h : Regioned) (cellOf : ℕ → ℕ) → StandsFor s w h cellOf → a ≡ ru.step s h m .answer
   pub words : (h : Regioned) (cellOf : ℕ → ℕ) → StandsFor s w h cellOf → w′ ≡ laid s (ru.step s h m .next) w
-  pub next : (h : Regioned) (cellOf : ℕ → ℕ) → StandsFor s w h cellOf → Became s h cellOf w′ (ru.step s h m .next)
+  pub next : (h : Regioned) (cellOf : ℕ → ℕ) → StandsFor s w h cellOf → Became s h cellOf m w′ (ru.step s h m .next)
   pub freed : a .number ≡ 0 → Freed s w m w′
   pub refused : (a .number ≡ 0 → ⊥) → w′ ≡ w
   pub beyond : SameBeyond s w w′

@@ -55,8 +55,8 @@ module _ (s : Sizes) (w : Words) (k : WholeFor s w) (m : Command) where
       record {
         answer = sym (ap (λ (n : ℕ). ru.answered s H m n .answer) e);
         words = whole-laid s w k ∙ sym (ap (λ (n : ℕ). laid s (ru.answered s H m n .next) w) e);
-        next = subst (λ (h : Regioned). Became s H (λ c. c) w h) (sym (ap (λ (n : ℕ). ru.answered s H m n .next) e))
-            (record { cell = λ c. c; stands = heap-stands s w k; stays = λ x a z. refl });
+        next = subst (λ (h : Regioned). Became s H (λ c. c) m w h) (sym (ap (λ (n : ℕ). ru.answered s H m n .next) e))
+            (record { cell = λ c. c; stands = heap-stands s w k; stays = λ x a z n. refl });
         freed = λ z. absurd (let o : ⊥ = omega arith in o);
         refused = λ n. refl;
         beyond = same-beyond s w;
@@ -76,7 +76,7 @@ module _ (s : Sizes) (w : Words) (k : WholeFor s w) (m : Command) where
   module _ (w′ : Words) (h′ : Regioned) (v : ℕ) (e : ru.question s H m ≡ 0) (n : ru.after s H m ≡ h′) (f : nf.valueOf (limits s) (H .heap) m ≡ v)
       (b : SameBeyond s w w′) where
     -- all say yes; the objects whose home stays keep their cells
-    pub did-freed : Freed s w m w′ → (Sound h′ → Became s H (λ c. c) w′ h′) → DidHere s w m w′ (done v)
+    pub did-freed : Freed s w m w′ → (Sound h′ → Became s H (λ c. c) m w′ h′) → DidHere s w m w′ (done v)
     unfolding ru.step ru.answered
     did-freed r st =
         let next : ru.step s H m .next ≡ h′ = ap (λ (q : ℕ). ru.answered s H m q .next) e ∙ n in
@@ -84,19 +84,19 @@ module _ (s : Sizes) (w : Words) (k : WholeFor s w) (m : Command) where
         record {
           answer = sym (ap (λ (q : ℕ). ru.answered s H m q .answer) e ∙ ap done f);
           words = stands-laid s w′ h′ (became .cell) (became .stands) w b ∙ sym (ap (λ (h : Regioned). laid s h w) next);
-          next = subst (λ (h : Regioned). Became s H (λ c. c) w′ h) (sym next) became;
+          next = subst (λ (h : Regioned). Became s H (λ c. c) m w′ h) (sym next) became;
           freed = λ z. r;
           refused = λ z. absurd (z refl);
           beyond = b;
         }
 
     module _ (keeps : FreesNone s w m) where
-      pub did-moved : (Sound h′ → Became s H (λ c. c) w′ h′) → DidHere s w m w′ (done v)
+      pub did-moved : (Sound h′ → Became s H (λ c. c) m w′ h′) → DidHere s w m w′ (done v)
       did-moved = did-freed (record { pages = λ page l f. absurd (keeps (ownerIn s w page) f) })
 
       -- all objects keep their cells
       pub did-done : (Sound h′ → StandsFor s w′ h′ (λ c. c)) → DidHere s w m w′ (done v)
-      did-done st = did-moved (λ so. record { cell = λ c. c; stands = st so; stays = λ x a z. refl })
+      did-done st = did-moved (λ so. record { cell = λ c. c; stands = st so; stays = λ x a z n. refl })
 
 -- ---- questions 13 and 14
 
