@@ -9,8 +9,8 @@ use Rattle.lists.specs.Counting.{bit}
 use Rattle.rules.specs.declared.Sizes.{Sizes}
 use Rattle.rules.specs.declared.Command.{Command}
 use Rattle.rules.specs.declared.Answer.{Answer}
-use Rattle.rules.specs.NeverFreeing.{Effect, opens, ends, makes, assigns, meaningOf}
-use Rattle.rules.specs.Regions.{regionAt}
+use Rattle.rules.specs.NeverFreeing.{Effect, opens, ends, collects, makes, assigns, meaningOf}
+use Rattle.rules.specs.Regions.{control, regionAt}
 use Rattle.rules.specs.Graph.{freedBy}
 use Rattle.rules.specs.Rules.{counted, Leaves}
 use Rattle.layout.specs.Words.{Words, sizesIn, depthIn, madeIn, freedIn, countersIn, graphOf}
@@ -41,10 +41,12 @@ objectsMade (b ∷ bs) = cond (eqb (b .number) 0) (madeBy (commandsIn (b .block)
 
 -- ---- freed
 
--- by what a command of thread t does on w: an end frees the objects of the thread's innermost region that have no target
+-- by what a command of thread t does on w: an end frees the objects of the thread's innermost region that have no target, a collection those of the
+-- control space
 unfoldable pub freedOn : Sizes → Words → ℕ → Effect → ℕ
 freedOn s w t opens = 0
 freedOn s w t ends = freedBy s (graphOf s w) (regionAt s t (depthIn w t))
+freedOn s w t collects = freedBy s (graphOf s w) control
 freedOn s w t (makes a b c) = 0
 freedOn s w t (assigns x) = 0
 
@@ -69,7 +71,8 @@ objectsFreed (next {b = b} ran rest) = freedRun b ran (ℕ-discrete (b .number) 
 -- ---- the claim, of the words w that prepare wrote, the blocks bs, and the words w′ at the end
 
 pub record Counted (s : Sizes) {w w′ : Words} {bs : List Block} (runs : Runs w bs w′) : Type 0 where
-  -- the stored made is the number of code 3 commands that were done, the stored freed the number of objects that the ends that were done freed
+  -- the stored made is the number of code 3 commands that were done, the stored freed the number of objects that the ends and collections that were
+  -- done freed
   pub made : madeIn s w′ ≡ counted (objectsMade bs)
   pub freed : freedIn s w′ ≡ counted (objectsFreed runs)
   -- made less freed is the sum of the object counts

@@ -13,14 +13,14 @@ use Rattle.rules.specs.declared.Command.{Command}
 use Rattle.rules.specs.declared.Answer.{Answer}
 use Rattle.rules.specs.Terms.{limits, decode}
 use Rattle.rules.specs.NeverFreeing as nf
-use Rattle.rules.specs.NeverFreeing.{Effect, opens, ends, makes, assigns, meaning, meaningOf}
-use Rattle.rules.specs.Regions.{regionAt}
+use Rattle.rules.specs.NeverFreeing.{Effect, opens, ends, collects, makes, assigns, meaning, meaningOf}
+use Rattle.rules.specs.Regions.{control, regionAt}
 use Rattle.rules.specs.Graph.{freedBy}
 use Rattle.rules.specs.Rules as ru
 use Rattle.rules.specs.Rules.{Counters, Regioned, counted, graph, innermost, countersAfter}
 use Rattle.laws.specs.Asked.{first-zero, thread-ok}
 use Rattle.laws.specs.Counters.{counted-small, counted-add}
-use Rattle.laws.specs.RulesLaws.{region-pos}
+use Rattle.laws.specs.RulesLaws.{region-pos, control-pos}
 use Rattle.laws.specs.SameRules.{same-freed}
 use Rattle.layout.specs.Words.{Words, sizesIn, depthIn, madeIn, freedIn, graphOf, heapOf}
 use Rattle.promises.specs.Whole.{WholeFor}
@@ -52,6 +52,7 @@ counted-none k n e = e ∙ ap counted (let z : n ≡ n + 0 = omega arith in z)
 makesOne : Effect → ℕ
 makesOne opens = 0
 makesOne ends = 0
+makesOne collects = 0
 makesOne (makes a b c) = 1
 makesOne (assigns x) = 0
 
@@ -71,13 +72,15 @@ code-three (suc (suc (suc (suc (suc (suc (suc zero))))))) t a b c = refl
 code-three (suc (suc (suc (suc (suc (suc (suc (suc zero)))))))) t a b c = refl
 code-three (suc (suc (suc (suc (suc (suc (suc (suc (suc zero))))))))) t a b c = refl
 code-three (suc (suc (suc (suc (suc (suc (suc (suc (suc (suc zero)))))))))) t a b c = refl
-code-three (suc (suc (suc (suc (suc (suc (suc (suc (suc (suc (suc n))))))))))) t a b c = not-three (suc (suc (suc (suc (suc (suc (suc n)))))))
+code-three (suc (suc (suc (suc (suc (suc (suc (suc (suc (suc (suc zero))))))))))) t a b c = refl
+code-three (suc (suc (suc (suc (suc (suc (suc (suc (suc (suc (suc (suc n)))))))))))) t a b c = not-three (suc (suc (suc (suc (suc (suc (suc (suc n))))))))
 
 module _ (s : Sizes) (w : Words) (n f : ℕ) (said : CountersSay s w n f) (t : ℕ) where
   made-after : (e : Effect) → countersAfter s (heapOf s w) t e .made ≡ counted (n + makesOne e)
   unfolding countersAfter heapOf makesOne
   made-after opens = counted-none (madeIn s w) n (said .made)
   made-after ends = counted-none (madeIn s w) n (said .made)
+  made-after collects = counted-none (madeIn s w) n (said .made)
   made-after (makes a b c) = counted-more (madeIn s w) n 1 (said .made)
   made-after (assigns x) = counted-none (madeIn s w) n (said .made)
 
@@ -93,11 +96,19 @@ module _ (s : Sizes) (w : Words) (n f : ℕ) (said : CountersSay s w n f) (t : �
         same-freed s (λ c. c) (graph (heapOf s w)) (graphOf s w) (st .sound .closed) (words-closed s w (said .whole)) (st .partners) r (region-pos s t (depthIn w t)),
       )
 
+  freed-collected : freedBy s (graph (heapOf s w)) control ≡ freedOn s w t collects
+  unfolding freedOn
+  freed-collected =
+      let st = heap-stands s w (said .whole) in
+      same-freed s (λ c. c) (graph (heapOf s w)) (graphOf s w) (st .sound .closed) (words-closed s w (said .whole)) (st .partners) control control-pos
+
   freed-after : t < s .threads → (e : Effect) → countersAfter s (heapOf s w) t e .freed ≡ counted (f + freedOn s w t e)
   unfolding countersAfter heapOf freedOn
   freed-after th opens = counted-none (freedIn s w) f (said .freed)
   freed-after th ends =
       ap (λ (x : ℕ). counted (freedIn s w + x)) (freed-here th) ∙ counted-more (freedIn s w) f (freedOn s w t ends) (said .freed)
+  freed-after th collects =
+      ap (λ (x : ℕ). counted (freedIn s w + x)) freed-collected ∙ counted-more (freedIn s w) f (freedOn s w t collects) (said .freed)
   freed-after th (makes a b c) = counted-none (freedIn s w) f (said .freed)
   freed-after th (assigns x) = counted-none (freedIn s w) f (said .freed)
 
@@ -128,7 +139,7 @@ did-counts s {w} {w′} {m} {a} d n f said = go (ru.question s h m) refl (ap (λ
     st : StandsFor s w h (λ c. c)
     st = heap-stands s w (said .whole)
 
-    go : (q : ℕ) → ru.question s h m ≡ q → a .number ≡ ru.answered s h m q .answer .number → Became s h (λ c. c) w′ (ru.answered s h m q .next)
+    go : (q : ℕ) → ru.question s h m ≡ q → a .number ≡ ru.answered s h m q .answer .number → Became s h (λ c. c) m w′ (ru.answered s h m q .next)
         → CountersSay s w′ (n + madeOne m a) (f + freedOne s w m a)
     go zero e z b =
         let t = m .thread in

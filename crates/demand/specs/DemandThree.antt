@@ -11,8 +11,8 @@ use Rattle.rules.specs.declared.Answer.{Answer}
 use Rattle.rules.specs.Terms.{ask, limits}
 use Rattle.lists.specs.Members.{keep}
 use Rattle.rules.specs.NeverFreeing as nf
-use Rattle.rules.specs.NeverFreeing.{NeverFreeing, Object, noObject, depthOf, varOf, Effect, opens, ends, makes, assigns, meaningOf}
-use Rattle.rules.specs.Regions.{regionAt}
+use Rattle.rules.specs.NeverFreeing.{NeverFreeing, Object, noObject, depthOf, varOf, Effect, opens, ends, collects, makes, assigns, meaningOf}
+use Rattle.rules.specs.Regions.{control, regionAt}
 use Rattle.rules.specs.Graph.{target}
 use Rattle.rules.specs.Rules.{lacking}
 use Rattle.layout.specs.Cells.{fieldOf, pageOf}
@@ -90,7 +90,7 @@ abbrev pub regionOf : Sizes → Words → ℕ → ℕ
 regionOf s w zero = 0
 regionOf s w (suc c) = homeIn s w c
 
--- the end of region r made w′ of w: `move` takes a reference to an object to the reference to it afterwards, 0 where it was freed
+-- the end of region r, or its collection, made w′ of w: `move` takes a reference to an object to the reference to it afterwards, 0 where it was freed
 pub record Moves (s : Sizes) (w : Words) (r : ℕ) (w′ : Words) (move : ℕ → ℕ) : Type 0 where
   pub null : move 0 ≡ 0
   pub stays : (c : ℕ) → BeginsIn s w c → (ownerIn s w (pageOf c) ≡ r → ⊥) → move (suc c) ≡ suc c
@@ -105,6 +105,7 @@ pub record Moves (s : Sizes) (w : Words) (r : ℕ) (w′ : Words) (move : ℕ �
 abbrev pub PairsAfter : Sizes → Words → Words → ℕ → Effect → List ℕ → List ℕ → Type 0
 PairsAfter s w w′ t opens pairs pairs′ = pairs′ ≡ pairs
 PairsAfter s w w′ t ends pairs pairs′ = (move : ℕ → ℕ) × Moves s w (regionAt s t (depthIn w t)) w′ move × (pairs′ ≡ map move pairs)
+PairsAfter s w w′ t collects pairs pairs′ = (move : ℕ → ℕ) × Moves s w control w′ move × (pairs′ ≡ map move pairs)
 PairsAfter s w w′ t (makes a b c) pairs pairs′ = pairs′ ≡ pairs ++ varIn s w′ t a ∷ []
 PairsAfter s w w′ t (assigns x) pairs pairs′ = pairs′ ≡ pairs
 

@@ -15,20 +15,20 @@ use Rattle.rules.specs.declared.Answer.{Answer}
 use Rattle.rules.specs.Terms.{Limits, limits}
 use Rattle.lists.specs.Members.{In, map-same, in-place}
 use Rattle.rules.specs.NeverFreeing as nf
-use Rattle.rules.specs.NeverFreeing.{Object, noObject, depthOf, place, Assignment, nothing, variable, reference, number, Effect, opens, ends, makes, assigns, meaningOf}
+use Rattle.rules.specs.NeverFreeing.{Object, noObject, depthOf, place, Assignment, nothing, variable, reference, number, Effect, opens, ends, collects, makes, assigns, meaningOf}
 use Rattle.rules.specs.Graph.{Graph, target, ended}
-use Rattle.rules.specs.Regions.{regionAt}
+use Rattle.rules.specs.Regions.{control, regionAt}
 use Rattle.laws.specs.Asked.{first-zero, thread-ok, MadeLow, made-ok}
 use Rattle.laws.specs.GraphLaws.{Alive}
 use Rattle.laws.specs.EndLaws.{home-stayed, home-went}
 use Rattle.laws.specs.SameRules.{renamed, same-target}
 use Rattle.rules.specs.Rules as ru
 use Rattle.rules.specs.Rules.{Regioned, graph, innermost}
-use Rattle.laws.specs.RulesLaws.{region-pos, graph-ended, afterEffect}
+use Rattle.laws.specs.RulesLaws.{region-pos, control-pos, graph-ended, graph-collected, afterEffect}
 use Rattle.layout.specs.Words.{Words, graphOf, homeIn, refsIn, numsIn, varsIn, varIn, depthIn, BeginsIn}
 use Rattle.lists.specs.Listed.{listed, listed-same, map-listed}
 use Rattle.promises.specs.StandsFor.{StandsFor}
-use Rattle.promises.specs.Promises.{Became, Did}
+use Rattle.promises.specs.Promises.{Slides, Became, Did}
 use Rattle.promises.specs.Agreed.{cell-used, cell-alive}
 use Rattle.demand.specs.DemandThree.{Moves, regionOf, PairsAfter, Changes}
 use Rattle.promises.specs.Reading.{used-home, used-alive, words-closed, var-at, depth-at, length-vars}
@@ -58,11 +58,11 @@ module _ (h h₁ : Regioned) (cellOf cell : ℕ → ℕ) (stays : (x : ℕ) → 
       ∙ ap (λ (k : List ℕ). k ++ pairOf h₁ cell (length (h .heap .objects)) ∷ [])
       (listed-same (pairOf h₁ cell) (pairOf h cellOf) (length (h .heap .objects)) (λ x k. pair-kept x (ap (λ (z : List ℕ). getD z x 0) hs ∙ List·getD-append (h .homes) (q ∷ []) 0 x (omega arith))))
 
--- ---- an end
+-- ---- an end, or a collection
 
 module _ (s : Sizes) (w w₁ : Words) (h h₁ : Regioned) (cellOf cell : ℕ → ℕ) (st : StandsFor s w h cellOf) (st₁ : StandsFor s w₁ h₁ cell)
-    (stays : (x : ℕ) → Alive (graph h) x → graph h₁ .home x ≡ graph h .home x → cell x ≡ cellOf x)
-    (r : ℕ) (pos : 0 < r) (homes : (x : ℕ) → graph h₁ .home x ≡ ended s (graph h) r .home x)
+    (r : ℕ) (stays : (x : ℕ) → Alive (graph h) x → graph h₁ .home x ≡ graph h .home x → (graph h .home x ≡ r → ⊥) → cell x ≡ cellOf x)
+    (pos : 0 < r) (homes : (x : ℕ) → graph h₁ .home x ≡ ended s (graph h) r .home x)
     (objects : h₁ .heap .objects ≡ h .heap .objects) (vars : h₁ .heap .vars ≡ h .heap .vars) where
   moveBy : (c : ℕ) → Dec (homeIn s w c ≡ 0) → ℕ
   moveBy c (yes z) = 0
@@ -104,8 +104,9 @@ module _ (s : Sizes) (w w₁ : Words) (h h₁ : Regioned) (cellOf cell : ℕ →
   module _ (x : ℕ) (a : Alive (graph h) x) where
     stays-at : (homeIn s w (cellOf x) ≡ r → ⊥) → move (suc (cellOf x)) ≡ suc (cellOf x)
     stays-at n =
-        let e = homes x ∙ home-stayed s (graph h) r x (λ z. n (st .partners .home x a ∙ z)) in
-        move-of x a ∙ pair-there h₁ cell x (λ z. a (sym e ∙ z)) ∙ ap suc (stays x a e)
+        let out : graph h .home x ≡ r → ⊥ = λ z. n (st .partners .home x a ∙ z) in
+        let e = homes x ∙ home-stayed s (graph h) r x out in
+        move-of x a ∙ pair-there h₁ cell x (λ z. a (sym e ∙ z)) ∙ ap suc (stays x a e out)
 
     goes-at : homeIn s w (cellOf x) ≡ r → regionOf s w₁ (move (suc (cellOf x))) ≡ target s (graphOf s w) r (cellOf x)
     goes-at e =
@@ -179,10 +180,10 @@ assigned-count s n t (number a f v) = object-count n (nf.varOf s n t a) _
 
 module _ (s : Sizes) (w w₁ : Words) (h : Regioned) (cellOf : ℕ → ℕ) (st : StandsFor s w h cellOf) (t : ℕ) (th : t < s .threads) where
   -- the object in the variable of a new object
-  new-pair : (a b c : ℕ) → a < s .variables → (d : Became s h cellOf w₁ (afterEffect s h t (makes a b c)))
+  new-pair : (m : Command) (a b c : ℕ) → a < s .variables → (d : Became s h cellOf m w₁ (afterEffect s h t (makes a b c)))
       → pairOf (afterEffect s h t (makes a b c)) (d .cell) (length (h .heap .objects)) ≡ varIn s w₁ t a
   unfolding nf.effect ru.homesAfter
-  new-pair a b c va d =
+  new-pair m a b c va d =
       let h₁ = afterEffect s h t (makes a b c) in
       let n = length (h .heap .objects) in
       let p = place (limits s) t a in
@@ -192,14 +193,25 @@ module _ (s : Sizes) (w w₁ : Words) (h : Regioned) (cellOf : ℕ → ℕ) (st 
       pair-there h₁ (d .cell) n (λ y. omega (arith, region-pos s t (depthOf (h .heap) t)))
       ∙ sym (sym (var-at s w₁ t a th va) ∙ ap (λ (l : List ℕ). getD l p 0) (d .stands .partners .vars) ∙ List·getD-map (renamed (d .cell)) (h₁ .heap .vars) p 0 ∙ ap (renamed (d .cell)) at)
 
-  effect-pairs : (e : Effect) → MadeLow (limits s) e → (b : Became s h cellOf w₁ (afterEffect s h t e)) → PairsAfter s w w₁ t e (pairsOf h cellOf) (pairsOf (afterEffect s h t e) (b .cell))
-  unfolding nf.effect ru.homesAfter
-  effect-pairs opens va b = pairs-kept h _ cellOf (b .cell) (b .stays) refl (λ x. refl)
-  effect-pairs ends va b = (
-    move s w w₁ h (afterEffect s h t ends) cellOf (b .cell) st (b .stands) (b .stays) r pos homes refl refl,
-    moves s w w₁ h (afterEffect s h t ends) cellOf (b .cell) st (b .stands) (b .stays) r pos homes refl refl,
-    pairs-moved s w w₁ h (afterEffect s h t ends) cellOf (b .cell) st (b .stands) (b .stays) r pos homes refl refl,
+  -- where nothing slides, what keeps its home keeps its cell
+  still : (m : Command) (e : Effect) → meaningOf m .effect ≡ e → {h₁ : Regioned} (b : Became s h cellOf m w₁ h₁) → ((q : ℕ) → Slides e q → ⊥)
+      → (x : ℕ) → Alive (graph h) x → graph h₁ .home x ≡ graph h .home x → b .cell x ≡ cellOf x
+  still m e me b none x a z = b .stays x a z (λ y. none (graph h .home x) (subst (λ (f : Effect). Slides f (graph h .home x)) me y))
+
+  moved-pairs : (m : Command) (e : Effect) (b : Became s h cellOf m w₁ (afterEffect s h t e)) (r : ℕ)
+      → ((x : ℕ) → Alive (graph h) x → graph (afterEffect s h t e) .home x ≡ graph h .home x → (graph h .home x ≡ r → ⊥) → b .cell x ≡ cellOf x) → 0 < r
+      → ((x : ℕ) → graph (afterEffect s h t e) .home x ≡ ended s (graph h) r .home x) → afterEffect s h t e .heap .objects ≡ h .heap .objects → afterEffect s h t e .heap .vars ≡ h .heap .vars
+      → (move′ : ℕ → ℕ) × Moves s w r w₁ move′ × (pairsOf (afterEffect s h t e) (b .cell) ≡ map move′ (pairsOf h cellOf))
+  moved-pairs m e b r stays pos homes objects vars = (
+    move s w w₁ h (afterEffect s h t e) cellOf (b .cell) st (b .stands) r stays pos homes objects vars,
+    moves s w w₁ h (afterEffect s h t e) cellOf (b .cell) st (b .stands) r stays pos homes objects vars,
+    pairs-moved s w w₁ h (afterEffect s h t e) cellOf (b .cell) st (b .stands) r stays pos homes objects vars,
   )
+
+  effect-pairs : (m : Command) (e : Effect) → meaningOf m .effect ≡ e → MadeLow (limits s) e → (b : Became s h cellOf m w₁ (afterEffect s h t e)) → PairsAfter s w w₁ t e (pairsOf h cellOf) (pairsOf (afterEffect s h t e) (b .cell))
+  unfolding nf.effect ru.homesAfter
+  effect-pairs m opens me va b = pairs-kept h _ cellOf (b .cell) (still m opens me b (λ q z. z)) refl (λ x. refl)
+  effect-pairs m ends me va b = moved-pairs m ends b r (λ x a e n. still m ends me b (λ q z. z) x a e) pos homes refl refl
     where
       r : ℕ
       r = regionAt s t (depthIn w t)
@@ -211,22 +223,25 @@ module _ (s : Sizes) (w w₁ : Words) (h : Regioned) (cellOf : ℕ → ℕ) (st 
       homes x =
           ap (λ (g : Graph). g .home x) (graph-ended s h (innermost s h t) (region-pos s t (depthOf (h .heap) t)) [])
           ∙ ap (λ (d : ℕ). ended s (graph h) (regionAt s t d) .home x) (ap (λ (l : List ℕ). getD l t 0) (st .depths) ∙ depth-at s w t th)
-  effect-pairs (makes a b c) va d =
-      pairs-made h _ cellOf (d .cell) (d .stays) (st .sound .aligned) (innermost s h t) refl (length-append (h .heap .objects) _ ∙ add-one _)
-      ∙ ap (λ (v : ℕ). pairsOf h cellOf ++ v ∷ []) (new-pair a b c va d)
-  effect-pairs (assigns x) va b = pairs-kept h _ cellOf (b .cell) (b .stays) (assigned-count (limits s) (h .heap) t x) (λ x. refl)
+  effect-pairs m collects me va b =
+      moved-pairs m collects b control (λ x a e n. b .stays x a e (λ z. n (subst (λ (y : Effect). Slides y (graph h .home x)) me z))) control-pos
+      (λ x. ap (λ (g : Graph). g .home x) (graph-collected s h)) refl refl
+  effect-pairs m (makes a b c) me va d =
+      pairs-made h _ cellOf (d .cell) (still m (makes a b c) me d (λ q z. z)) (st .sound .aligned) (innermost s h t) refl (length-append (h .heap .objects) _ ∙ add-one _)
+      ∙ ap (λ (v : ℕ). pairsOf h cellOf ++ v ∷ []) (new-pair m a b c va d)
+  effect-pairs m (assigns x) me va b = pairs-kept h _ cellOf (b .cell) (still m (assigns x) me b (λ q z. z)) (assigned-count (limits s) (h .heap) t x) (λ x. refl)
 
 pub did-changes : (s : Sizes) {w w′ : Words} {m : Command} {a : Answer} (d : Did s w m w′ a) (h : Regioned) (cellOf : ℕ → ℕ) (st : StandsFor s w h cellOf)
     → Changes s w m a w′ (pairsOf h cellOf) (pairsOf (ru.step s h m .next) (d .next h cellOf st .cell))
 unfolding ru.step ru.answered ru.question ru.after
 did-changes s {w} {w′} {m} {a} d h cellOf st = go (ru.question s h m) refl (ap (λ (x : Answer). x .number) (d .answer h cellOf st)) (d .next h cellOf st)
   where
-    go : (q : ℕ) → ru.question s h m ≡ q → a .number ≡ ru.answered s h m q .answer .number → (b : Became s h cellOf w′ (ru.answered s h m q .next))
+    go : (q : ℕ) → ru.question s h m ≡ q → a .number ≡ ru.answered s h m q .answer .number → (b : Became s h cellOf m w′ (ru.answered s h m q .next))
         → Changes s w m a w′ (pairsOf h cellOf) (pairsOf (ru.answered s h m q .next) (b .cell))
     go zero e f b =
         let z = first-zero (nf.question (limits s) (h .heap) m) (ru.room s h m (ru.after s h m)) e .0 in
         record {
-          done = λ y. effect-pairs s w w′ h cellOf st (m .thread) (thread-ok (limits s) (h .heap) m z) (meaningOf m .effect) (made-ok (limits s) (h .heap) m z) b;
+          done = λ y. effect-pairs s w w′ h cellOf st (m .thread) (thread-ok (limits s) (h .heap) m z) m (meaningOf m .effect) refl (made-ok (limits s) (h .heap) m z) b;
           refused = λ n. absurd (n f);
         }
-    go (suc q) e f b = record { done = λ z. absurd (omega arith); refused = λ n. pairs-kept h h cellOf (b .cell) (b .stays) refl (λ x. refl) }
+    go (suc q) e f b = record { done = λ z. absurd (omega arith); refused = λ n. pairs-kept h h cellOf (b .cell) (λ x l y. sym (b .stands .occupies .cells x l) ∙ st .occupies .cells x l) refl (λ x. refl) }

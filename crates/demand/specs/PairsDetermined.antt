@@ -11,10 +11,10 @@ use Rattle.lists.specs.Members.{In, in-append, in-bounds}
 use Rattle.rules.specs.declared.Sizes.{Sizes}
 use Rattle.rules.specs.declared.Command.{Command}
 use Rattle.rules.specs.declared.Answer.{Answer}
-use Rattle.rules.specs.NeverFreeing.{Effect, opens, ends, makes, assigns, meaningOf}
-use Rattle.rules.specs.Regions.{regionAt}
+use Rattle.rules.specs.NeverFreeing.{Effect, opens, ends, collects, makes, assigns, meaningOf}
+use Rattle.rules.specs.Regions.{control, regionAt}
 use Rattle.rules.specs.Rules as ru
-use Rattle.laws.specs.RulesLaws.{region-pos}
+use Rattle.laws.specs.RulesLaws.{region-pos, control-pos}
 use Rattle.layout.specs.Words.{Words, BeginsIn, sizesIn, depthIn, varIn, heapOf}
 use Rattle.promises.specs.Whole.{WholeFor}
 use Rattle.promises.specs.Promises.{Chain, none, more, Did, Ran}
@@ -56,17 +56,19 @@ module _ {s : Sizes} {w w₁ : Words} {m : Command} {a : Answer} (k : WholeFor s
   kept-living : pairs₁ ≡ pairs → (p p₁ : List ℕ) → Living s w p → p₁ ≡ p → Living s w₁ p₁
   kept-living k p p₁ l e c i = after c c (ap (λ (l : List ℕ). getD l c 0) k ∙ before c (l c (subst (λ (q : List ℕ). In (suc c) q) e i)))
 
-  effect-living : (t : ℕ) (x : Effect) → PairsAfter s w w₁ t x pairs pairs₁ → (p p₁ : List ℕ) → Living s w p → PairsAfter s w w₁ t x p p₁ → Living s w₁ p₁
-  effect-living t opens k p p₁ l e c i = kept-living k p p₁ l e c i
-  effect-living t ends k p p₁ l (move, mv, e) c i = go p l (subst (λ (q : List ℕ). In (suc c) q) e i)
+  -- what moves takes its pair along to an object's cell
+  moved-living : {r : ℕ} {move : ℕ → ℕ} → Moves s w r w₁ move → (p : List ℕ) → Living s w p → (c : ℕ) → In (suc c) (map move p) → BeginsIn s w₁ c
+  moved-living {r} {move} mv (v ∷ p) h c (inl q) = from v (λ d y. h d (inl (sym y))) q
     where
       from : (v : ℕ) → ((d : ℕ) → v ≡ suc d → BeginsIn s w d) → suc c ≡ move v → BeginsIn s w₁ c
       from zero h q = absurd (let y : ⊥ = omega (arith, mv .null) in y)
       from (suc d) h q = mv .lands d c (h d refl) (sym q)
+  moved-living mv (v ∷ p) h c (inr j) = moved-living mv p (λ d y. h d (inr y)) c j
 
-      go : (p : List ℕ) → Living s w p → In (suc c) (map move p) → BeginsIn s w₁ c
-      go (v ∷ p) h (inl q) = from v (λ d y. h d (inl (sym y))) q
-      go (v ∷ p) h (inr j) = go p (λ d y. h d (inr y)) j
+  effect-living : (t : ℕ) (x : Effect) → PairsAfter s w w₁ t x pairs pairs₁ → (p p₁ : List ℕ) → Living s w p → PairsAfter s w w₁ t x p p₁ → Living s w₁ p₁
+  effect-living t opens k p p₁ l e c i = kept-living k p p₁ l e c i
+  effect-living t ends k p p₁ l (move, mv, e) c i = moved-living mv p l c (subst (λ (q : List ℕ). In (suc c) q) e i)
+  effect-living t collects k p p₁ l (move, mv, e) c i = moved-living mv p l c (subst (λ (q : List ℕ). In (suc c) q) e i)
   effect-living t (makes a b d) k p p₁ l e c i = ⊎-elim old new (in-append (suc c) p (varIn s w₁ t a ∷ []) (subst (λ (q : List ℕ). In (suc c) q) e i))
     where
       old : In (suc c) p → BeginsIn s w₁ c
@@ -98,6 +100,7 @@ module _ {s : Sizes} {w w₁ : Words} {m : Command} {a : Answer} (k : WholeFor s
   effect-same : (t : ℕ) (x : Effect) (p q₁ q₂ : List ℕ) → Living s w p → PairsAfter s w w₁ t x p q₁ → PairsAfter s w w₁ t x p q₂ → q₁ ≡ q₂
   effect-same t opens p q₁ q₂ l e f = e ∙ sym f
   effect-same t ends p q₁ q₂ l e f = e .2 ∙ moved-same (regionAt s t (depthIn w t)) (region-pos s t (depthIn w t)) (e .0) (f .0) (e .1) (f .1) p l ∙ sym (f .2)
+  effect-same t collects p q₁ q₂ l e f = e .2 ∙ moved-same control control-pos (e .0) (f .0) (e .1) (f .1) p l ∙ sym (f .2)
   effect-same t (makes a b c) p q₁ q₂ l e f = e ∙ sym f
   effect-same t (assigns x) p q₁ q₂ l e f = e ∙ sym f
 
