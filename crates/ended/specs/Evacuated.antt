@@ -2,13 +2,14 @@
 -- a cell.
 use Prim.Native.Nat.{ℕ, _≤_, _<_}
 use mathlib.Core.Path.{_≡_}
-use mathlib.Core.Bool.{cond}
-use lib.ListN.{getD}
+use mathlib.Core.List.{List}
+use mathlib.Core.Bool.{cond, not}
+use lib.ListN.{length, getD}
 use lib.Dec.{eqb}
 use Rattle.rules.specs.declared.Sizes.{Sizes}
-use Rattle.rules.specs.Regions.{regions, only}
+use Rattle.rules.specs.Regions.{control, regions, only}
 use Rattle.rules.specs.Graph.{target, freedBy}
-use Rattle.rules.specs.Pages.{Placing, noneMoved, placeAll, newCell, released}
+use Rattle.rules.specs.Pages.{Placing, noneMoved, placeAll, newCell, released, Move, ownedFrom, slideBelow, filledBy}
 use Rattle.rules.specs.Rules.{moreFreed}
 use Rattle.laws.specs.SameRules.{renamed}
 use Rattle.layout.specs.Places.{varOf, varCount}
@@ -59,6 +60,15 @@ copiesIn s w r = placeAll (goalIn s w r) (cellCount s) (regions s) (noneMoved (p
 pub record Repacked (s : Sizes) (w : Words) (r : ℕ) (w′ : Words) (cell : ℕ → ℕ) : Type 0 where
   pub cells : (c : ℕ) → Lives s w (partOf s w r) c → cell c ≡ newCell (copiesIn s w r .moves) c
   pub pages : pagesIn s w′ ≡ released (only r) (copiesIn s w r .pages)
+
+-- a collection (02, W5): the survivors of the control space in the places that the rules give them on its own pages
+abbrev pub slidesIn : Sizes → Words → List Move
+slidesIn s w = slideBelow (λ c. not (eqb (goalIn s w control c) 0)) (ownedFrom control 0 (pagesIn s w)) (cellCount s)
+
+-- each object that lives on is there, and the pages hold them
+pub record Packed (s : Sizes) (w w′ : Words) (cell : ℕ → ℕ) : Type 0 where
+  pub cells : (c : ℕ) → Lives s w (partOf s w control) c → cell c ≡ newCell (slidesIn s w) c
+  pub pages : pagesIn s w′ ≡ filledBy control (length (slidesIn s w)) (pagesIn s w)
 
 pub record Evacuated (s : Sizes) (w : Words) (e : Part) (w′ : Words) (cell : ℕ → ℕ) : Type 0 where
   -- the words past the three lengths, the sizes, and the first word of the remember table are as they were

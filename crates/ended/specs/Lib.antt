@@ -1,4 +1,4 @@
--- From the words after an end of an epoch to the promise of code 2.
+-- From the words after an end of an epoch to the promise of code 2, and from those after a collection to that of code 11.
 
 -- the definition: what must be read
 pub mod Evacuated
@@ -15,3 +15,6 @@ pub mod EndQuestion
 pub mod EndPages
 -- the promise
 pub mod EvacuatedDid
+-- a collection of the control space (02, W5): where its survivors lie, and the promise of code 11
+pub mod Packing
+pub mod CollectedDid

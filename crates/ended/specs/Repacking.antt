@@ -35,19 +35,19 @@ module _ (s : Sizes) (w : Words) (whole : WholeFor s w) (r : ℕ) (pos : 0 < r) 
   E = ru.ended s H r
 
   -- an object of the heap lies in the cell of its number
-  cell-here : (x : ℕ) → Alive (graph H) x → getD (H .occupancy .cells) x 0 ≡ x
+  pub cell-here : (x : ℕ) → Alive (graph H) x → getD (H .occupancy .cells) x 0 ≡ x
   cell-here x a = heap-stands s w whole .occupies .cells x a
 
   below : (x : ℕ) → Alive (graph H) x → x < cellCount s
   below x a = words-closed s w whole .below x (there s w whole x a)
 
-  inside : (x : ℕ) → Alive (graph H) x → x < length (H .occupancy .cells)
+  pub inside : (x : ℕ) → Alive (graph H) x → x < length (H .occupancy .cells)
   unfolding heapOf
   inside x a = omega (arith, below x a, length-listed (λ c. c) (cellCount s))
 
   -- ---- the region that the object in a cell goes to
 
-  goal-of : (c : ℕ) → goalOf H (only r) E (objectAt H c) ≡ goalIn s w r c
+  pub goal-of : (c : ℕ) → goalOf H (only r) E (objectAt H c) ≡ goalIn s w r c
   unfolding goalIn
   goal-of c = go (held-by H c) (ℕ-discrete (homeIn s w c) r)
     where

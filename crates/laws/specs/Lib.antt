@@ -15,6 +15,7 @@ pub mod Asked
 pub mod AfterLaws
 pub mod Highest
 pub mod PlaceLaws
+pub mod SlideLaws
 pub mod LikeCells
 pub mod LikeHeaps
 pub mod LikeSteps
