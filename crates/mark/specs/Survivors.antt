@@ -3,23 +3,24 @@
 use mathlib.Core.Path.{_≡_, refl, sym, ap, _∙_, subst, subst₂}
 use mathlib.Core.Bool.{Bool, false}
 use mathlib.Core.List.{List}
-use Prim.Native.Nat.{ℕ, zero, suc, _-_, _^_, _<_}
+use Prim.Native.Nat.{ℕ, zero, suc, _+_, _-_, _^_, _≤_, _<_}
 use native.Mathlib.Omega.{arith}
 use native.Mathlib.Decide.{ℕ-discrete, decLt}
 use lib.ListN.{length, getD}
 use Rattle.lists.specs.Bits.{bitAt, bit-zero, high-none}
+use Rattle.lists.specs.Members.{In}
 use Rattle.lists.specs.Says.{Says, said-no}
 use Rattle.rules.specs.declared.Sizes.{Sizes}
 use Rattle.rules.specs.Regions.{regionAt, FurtherOut}
 use Rattle.rules.specs.Graph.{target}
 use Rattle.laws.specs.RegionLaws.{region-high}
 use Rattle.laws.specs.JoinLaws.{further-out}
-use Rattle.laws.specs.GraphLaws.{Reaches, target-absorbs, target-reached, target-called, target-furthest}
+use Rattle.laws.specs.GraphLaws.{Holds, Reaches, target-absorbs, target-reached, target-called, target-furthest}
 use Rattle.layout.specs.Places.{depthOf, markOf, room, markAt}
 use Rattle.layout.specs.Cells.{workAt, workOf, pageOf, placeOf, cellOf, wordOf, pageCells}
 use Rattle.layout.specs.Marks.{marked, not-marked}
 use Rattle.layout.specs.Objects.{begins-page}
-use Rattle.layout.specs.Words.{Words, words, BeginsIn, ownerIn, depthIn, graphOf}
+use Rattle.layout.specs.Words.{Words, words, BeginsIn, ownerIn, homeIn, graphOf}
 use Rattle.promises.specs.Reading.{whole-room}
 use Rattle.promises.specs.Whole.{WholeFor}
 use Rattle.promises.specs.Ends.{Part, partOf}
@@ -52,43 +53,37 @@ unmarked-freed {e = e} m c u own off = go (decLt 0 (e .goes c))
 
 -- ---- from the levels
 
-module _ (s : Sizes) (w : Words) (k : WholeFor s w) (t j : ℕ) (th : t < s .threads) (dk : depthIn w t ≡ suc j)
-    {W′ T′ : List ℕ}
-    (L : Levels s (regionAt s t (suc j)) (suc j) (regionAt s t)
-    (levelRefs s (w .cells) (w .remember) (w .tables) (regionAt s t (suc j)) t (regionAt s t j)) (w .cells) (w .tables) W′ T′) where
-  abbrev r : ℕ
-  r = regionAt s t (suc j)
+-- what is listed for level l is what holders hold that call for the region of that level, and the lower the level, the further out that is
+pub record Called (s : Sizes) (w : Words) (r n : ℕ) (gs : ℕ → ℕ) (calls : ℕ → List ℕ) : Type 0 where
+  pub holds : (l x : ℕ) → homeIn s w x ≡ r → In (1 + x) (calls l) → Holds s (graphOf s w) r x (gs l)
+  pub held : (x q : ℕ) → homeIn s w x ≡ r → Holds s (graphOf s w) r x q → (l : ℕ) × (l < n) × (q ≡ gs l) × In (1 + x) (calls l)
+  pub outward : (l i : ℕ) → l < i → i < n → FurtherOut s (gs l) (gs i)
 
-  abbrev calls : ℕ → List ℕ
-  calls = levelRefs s (w .cells) (w .remember) (w .tables) r t (regionAt s t j)
-
-  pos : 0 < r
-  pos = omega (arith, region-high s t j)
-
-  held-reaches : (l c : ℕ) → Held s r (w .cells) (w .tables) calls l c → Reaches s (graphOf s w) r (regionAt s t l) c
+module _ (s : Sizes) (w : Words) (k : WholeFor s w) {r n : ℕ} {gs : ℕ → ℕ} {calls : ℕ → List ℕ} {W′ T′ : List ℕ} (pos : 0 < r)
+    (a : Called s w r n gs calls) (L : Levels s r n gs calls (w .cells) (w .tables) W′ T′) where
+  held-reaches : (l c : ℕ) → Held s r (w .cells) (w .tables) calls l c → Reaches s (graphOf s w) r (gs l) c
   held-reaches l c h =
       let x = chain-rules s w k r pos (calls l) c h in
-      record { first = x .0; lies = x .2; held = held-holds s w k t j th dk (regionAt s t l) (x .0) (x .2) (x .1); leads = x .3 }
+      record { first = x .0; lies = x .2; held = a .holds l (x .0) (x .2) (x .1); leads = x .3 }
 
-  reaches-held : (q c : ℕ) → Reaches s (graphOf s w) r q c → (l : ℕ) × (l < suc j) × (q ≡ regionAt s t l) × Held s r (w .cells) (w .tables) calls l c
+  reaches-held : (q c : ℕ) → Reaches s (graphOf s w) r q c → (l : ℕ) × (l < n) × (q ≡ gs l) × Held s r (w .cells) (w .tables) calls l c
   reaches-held q c h =
-      let x = holds-held s w k t j th dk (h .first) q (h .lies) (h .held) in
+      let x = a .held (h .first) q (h .lies) (h .held) in
       (x .0, x .1, x .2, rules-chain s w k r pos (calls (x .0)) (h .first) c (x .3) (h .lies) (h .leads))
 
   -- the first level of a holder that leads to c is the outermost region called for
-  first-target : (c l : ℕ) → First s r (w .cells) (w .tables) calls (suc j) c l → target s (graphOf s w) r c ≡ regionAt s t l
+  first-target : (c l : ℕ) → First s r (w .cells) (w .tables) calls n c l → target s (graphOf s w) r c ≡ gs l
   first-target c l f =
-      let a = held-reaches l c (f .reached) in
-      let h = reaches-held (target s (graphOf s w) r c) c (target-called s (graphOf s w) r c (target-absorbs s (graphOf s w) r c (regionAt s t l) a .some)) in
-      go (h .0) (h .1) (h .2) (λ (b : h .0 < l). f .none (h .0) b (h .3)) (target-furthest s (graphOf s w) r c (regionAt s t l) a) (ℕ-discrete l (h .0))
+      let b = held-reaches l c (f .reached) in
+      let h = reaches-held (target s (graphOf s w) r c) c (target-called s (graphOf s w) r c (target-absorbs s (graphOf s w) r c (gs l) b .some)) in
+      go (h .0) (h .1) (h .2) (λ (b : h .0 < l). f .none (h .0) b (h .3)) (target-furthest s (graphOf s w) r c (gs l) b) (ℕ-discrete l (h .0))
     where
-      go : (i : ℕ) → i < suc j → target s (graphOf s w) r c ≡ regionAt s t i → (i < l → ⊥) → (FurtherOut s (regionAt s t l) (target s (graphOf s w) r c) → ⊥) → Dec (l ≡ i)
-          → target s (graphOf s w) r c ≡ regionAt s t l
-      go i b e n out (yes d) = e ∙ ap (regionAt s t) (sym d)
-      go i b e n out (no d) =
-          absurd (out (subst (FurtherOut s (regionAt s t l)) (sym e) (further-out s t l i (omega (arith, n)) (omega (arith, dk, k .depths t th)))))
+      go : (i : ℕ) → i < n → target s (graphOf s w) r c ≡ gs i → (i < l → ⊥) → (FurtherOut s (gs l) (target s (graphOf s w) r c) → ⊥) → Dec (l ≡ i)
+          → target s (graphOf s w) r c ≡ gs l
+      go i b e n out (yes d) = e ∙ ap gs (sym d)
+      go i b e n out (no d) = absurd (out (subst (FurtherOut s (gs l)) (sym e) (a .outward l i (omega (arith, n)) b)))
 
-  lost-target : (c : ℕ) → ((l : ℕ) → l < suc j → Held s r (w .cells) (w .tables) calls l c → ⊥) → target s (graphOf s w) r c ≡ 0
+  lost-target : (c : ℕ) → ((l : ℕ) → l < n → Held s r (w .cells) (w .tables) calls l c → ⊥) → target s (graphOf s w) r c ≡ 0
   lost-target c n = go (decLt 0 (target s (graphOf s w) r c))
     where
       go : Dec (0 < target s (graphOf s w) r c) → target s (graphOf s w) r c ≡ 0
@@ -104,7 +99,7 @@ module _ (s : Sizes) (w : Words) (k : WholeFor s w) (t j : ℕ) (th : t < s .thr
       record {
         goes = λ c u own. goes c u (ℕ-discrete (marked s T′ c) 1);
         survives = λ c u own l. on c u l (ℕ-discrete (marked s T′ c) 1);
-        freed = λ c u own z. not-marked s T′ c (λ b. let f = L .found c (begins-page _ _ _ _ u) b in omega (arith, first-target c (f .0) (f .1), target-absorbs s (graphOf s w) r c (regionAt s t (f .0)) (held-reaches (f .0) c (f .1 .reached)) .some));
+        freed = λ c u own z. not-marked s T′ c (λ b. let f = L .found c (begins-page _ _ _ _ u) b in omega (arith, first-target c (f .0) (f .1), target-absorbs s (graphOf s w) r c (gs (f .0)) (held-reaches (f .0) c (f .1 .reached)) .some));
         only = found-owned;
         small = λ page l. high-none pageCells (markOf s T′ page) (λ i h. L .kept .high (markAt s page) i h ∙ ap (λ (x : ℕ). bitAt x i) (k .marks page l) ∙ bit-zero i);
         kept = L .kept;
@@ -150,8 +145,10 @@ module _ (p : Sizes) (w : Words) (k : WholeFor p w) where
   marked-at t (suc j) r outer th l dk er eo {W′} {T′} L =
       let j′ : suc j - 1 ≡ j = omega arith in
       let eo′ : outer ≡ regionAt p t j = eo ∙ ap (regionAt p t) j′ in
+      let deep : suc j ≤ p .depth = omega (arith, dk, k .depths t th) in
       subst (λ (g : ℕ). Marked p w (partOf p w g) (words W′ (w .remember) T′)) (sym er)
-      (levels-marked p w k t j th (sym dk)
+      (levels-marked p w k (omega (arith, region-high p t j))
+      (record { holds = λ l. held-holds p w k t j th (sym dk) (regionAt p t l); held = holds-held p w k t j th (sym dk); outward = λ l i b d. further-out p t l i b (omega arith) })
       (subst₂ (λ (a b : ℕ). Levels p a (suc j) (regionAt p t) (levelRefs p (w .cells) (w .remember) (w .tables) a t b) (w .cells) (w .tables) W′ T′) er eo′ L))
 
 -- where nothing survives, every mark word is 0
