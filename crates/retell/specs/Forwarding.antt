@@ -12,7 +12,7 @@ use Rattle.layout.specs.Objects.{Begins, Slot}
 use Rattle.layout.specs.Words.{Names}
 use Rattle.settle.specs.Rewrite.{forwarded, Rewritten, heads-same, refs-same, begins-now, begins-then, rewritten-none, rewritten-one, rewritten-join, rewritten-like}
 use Rattle.settle.specs.RewriteSlots.{Field}
-use Rattle.retell.specs.Passing.{SlotFrom, NoSlot, gap-past, Readable, CellReadable, own-slot, cell-readable, PageReadable, used-most, begins-here}
+use Rattle.retell.specs.SlotStretches.{SlotFrom, NoSlot, gap-past, Readable, CellReadable, own-slot, cell-readable, PageReadable, used-most, begins-here}
 
 -- ---- the fields of one cell
 

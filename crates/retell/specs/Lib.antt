@@ -1,5 +1,5 @@
 -- All slots, in rising position: those that can be gone over, rewritten, and told in the remember table.
-pub mod Passing
+pub mod SlotStretches
 pub mod Forwarding
-pub mod Telling
-pub mod TellingSlots
+pub mod Retelling
+pub mod RetellingSlots

@@ -5,7 +5,7 @@ ghost use Rattle.layout.specs.Cells.{refsOf, headAt, cellOn};
 ghost use Rattle.layout.specs.Objects.{Slot};
 ghost use Rattle.settle.specs.Rewrite.{Rewritten};
 ghost use Rattle.settle.specs.RewriteSlots.{Field};
-ghost use Rattle.retell.specs.Passing.{SlotFrom, Readable, CellReadable};
+ghost use Rattle.retell.specs.SlotStretches.{SlotFrom, Readable, CellReadable};
 use layout::Kind;
 use rules::Sizes;
 use settle::rewrite::forward_ref;

@@ -1,8 +1,8 @@
 -- The entries of all crossing slots come first, then zeros up to where entries were used; from there on they were zero.
 use borrow.Author.Needs.{needs}
 use mathlib.Core.Path.{_∙_}
-use Rattle.retell.specs.Telling.{told-exact}
-use Rattle.retell.specs.TellingSlots.{telling-all}
+use Rattle.retell.specs.Retelling.{told-exact}
+use Rattle.retell.specs.RetellingSlots.{telling-all}
 use Rattle.retell.proofs.retell.Statement.{statement}
 use Rattle.retell.proofs.retell.Tie as tie
 

@@ -11,8 +11,8 @@ use Rattle.layout.specs.Cells.{headAt, fieldAt, fieldCount, refsOf, pageOf, mos
 use Rattle.layout.specs.declared.Kind.the-variants.{Reference}
 use Rattle.layout.specs.Objects.{begins-page}
 use Rattle.layout.specs.Words.{Names}
-use Rattle.retell.specs.Passing.{own-names, cell-readable}
-use Rattle.retell.specs.TellingSlots.{SlotsTold, fields-start, fields-end, entry-fits, entry-told, entry-none}
+use Rattle.retell.specs.SlotStretches.{own-names, cell-readable}
+use Rattle.retell.specs.RetellingSlots.{SlotsTold, fields-start, fields-end, entry-fits, entry-told, entry-none}
 use Rattle.retell.proofs.tell_cell.Statement.{statement}
 use Rattle.retell.proofs.tell_cell.Tie as tie
 

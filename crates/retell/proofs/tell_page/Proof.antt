@@ -6,9 +6,9 @@ use Prim.Native.Nat.{_≤_, _-_}
 use mathlib.Core.Path.{_≡_, refl, _∙_}
 use Rattle.layout.specs.Cells.{headAt, cellOn, pageCells}
 use Rattle.remember.specs.Crossing.{crossTo}
-use Rattle.retell.specs.Passing.{PageReadable, used-most, begins-here}
-use Rattle.retell.specs.Telling.{told-start}
-use Rattle.retell.specs.TellingSlots.{SlotsTold, place-telling, place-told, page-told}
+use Rattle.retell.specs.SlotStretches.{PageReadable, used-most, begins-here}
+use Rattle.retell.specs.Retelling.{told-start}
+use Rattle.retell.specs.RetellingSlots.{SlotsTold, place-telling, place-told, page-told}
 use Rattle.retell.proofs.tell_page.Statement.{statement}
 use Rattle.retell.proofs.tell_page.Tie as tie
 
@@ -46,7 +46,7 @@ tell-cell-requires : tie.Need-tell-cell-requires Inv-loop μ-loop
 tell-cell-requires c κs =
     let r = here (c .before .before .before .before) in
     let k = c .cell-on in
-    (begins-here r (k .result) (c .before .before .before .loop .place) (c .before .before .loop-test .taken) (k .ensures), place-telling r (c .before .before .before .before .before .before .before .before .before .pre .1) (c .before .before .before .loop .inv .3) (k .result) (c .before .before .loop-test .taken) (k .ensures))
+    (begins-here r (k .result) (c .before .before .before .loop .place) (omega (arith, c .before .before .loop-test .taken)) (k .ensures), place-telling r (c .before .before .before .before .before .before .before .before .before .pre .1) (c .before .before .before .loop .inv .3) (k .result) (omega (arith, c .before .before .loop-test .taken)) (k .ensures))
 
 add-place : tie.Need-add-place Inv-loop μ-loop
 add-place c = omega (arith, c .before .before .before .before .before .before .loop .inv .1, c .before .before .before .before .before .loop-test .taken)
@@ -58,7 +58,7 @@ loop-again : tie.Need-loop-again Inv-loop μ-loop
 loop-again c =
     let r = here (c .before .before .before .before .before .before .before) in
     let k = c .before .before .before .cell-on in
-    let h = place-told r (c .before .before .before .before .before .before .before .before .before .before .before .before .pre .1) (c .before .before .before .before .before .before .loop .inv .3) (k .result) (c .before .before .before .before .before .loop-test .taken) (k .ensures) (c .before .before .tell-cell .ensures) in
+    let h = place-told r (c .before .before .before .before .before .before .before .before .before .before .before .before .pre .1) (c .before .before .before .before .before .before .loop .inv .3) (k .result) (omega (arith, c .before .before .before .before .before .loop-test .taken)) (k .ensures) (c .before .before .tell-cell .ensures) in
     (omega (arith, c .before .before .before .before .before .loop-test .taken), c .before .before .before .before .before .before .loop .inv .1, h .added .size, h)
 
 same-length : tie.Need-same-length Inv-loop μ-loop

@@ -6,8 +6,8 @@ use mathlib.Core.Path.{_≡_, refl, subst}
 use Rattle.layout.specs.Places.{cellsWords}
 use Rattle.layout.specs.Cells.{headAt, cellOn}
 use Rattle.remember.specs.Crossing.{crossTo}
-use Rattle.retell.specs.Telling.{told-start, told-on}
-use Rattle.retell.specs.TellingSlots.{SlotsTold, slots-rest}
+use Rattle.retell.specs.Retelling.{told-start, told-on}
+use Rattle.retell.specs.RetellingSlots.{SlotsTold, slots-rest}
 use Rattle.retell.proofs.tell_pages.Statement.{statement}
 use Rattle.retell.proofs.tell_pages.Tie as tie
 

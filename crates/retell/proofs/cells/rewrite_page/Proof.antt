@@ -8,7 +8,7 @@ use mathlib.Core.Path.{_≡_, refl, _∙_}
 use Rattle.rules.specs.declared.Sizes.{Sizes}
 use Rattle.layout.specs.Cells.{headAt, cellOn, pageCells}
 use Rattle.settle.specs.Rewrite.{Rewritten}
-use Rattle.retell.specs.Passing.{SlotFrom, PageReadable, used-most}
+use Rattle.retell.specs.SlotStretches.{SlotFrom, PageReadable, used-most}
 use Rattle.retell.specs.Forwarding.{forwarded-start, place-readable, place-forwarded, page-forwarded}
 use Rattle.retell.proofs.cells.rewrite_page.Statement.{statement}
 use Rattle.retell.proofs.cells.rewrite_page.Tie as tie
@@ -42,7 +42,7 @@ cell-on-requires c κs = (omega (arith, c .before .before .before .before .befor
 rewrite-cell-requires : tie.Need-rewrite-cell-requires Inv-loop μ-loop
 rewrite-cell-requires c κs =
     let r = here (c .before .before .before .before) in
-    place-readable r (c .before .before .before .loop .inv .3 _ r) (c .cell-on .result) (c .before .before .loop-test .taken) (c .cell-on .ensures)
+    place-readable r (c .before .before .before .loop .inv .3 _ r) (c .cell-on .result) (omega (arith, c .before .before .loop-test .taken)) (c .cell-on .ensures)
 
 add-place : tie.Need-add-place Inv-loop μ-loop
 add-place c = omega (arith, c .before .before .before .before .before .before .loop .inv .1, c .before .before .before .before .before .loop-test .taken)
@@ -51,7 +51,7 @@ loop-less : tie.Need-loop-less Inv-loop μ-loop
 loop-less c = omega (arith, c .before .before .before .before .before .loop-test .taken)
 
 loop-again : tie.Need-loop-again Inv-loop μ-loop
-loop-again c = (omega (arith, c .before .before .before .before .before .loop-test .taken), c .before .before .before .before .before .before .loop .inv .1, c .before .before .rewrite-cell .kept .0 ∙ c .before .before .before .before .before .before .loop .inv .2, λ p r. place-forwarded r (c .before .before .before .before .before .before .loop .inv .3 p r) (c .before .before .before .cell-on .result) (c .before .before .before .before .before .loop-test .taken) (c .before .before .before .cell-on .ensures) (c .before .before .rewrite-cell .ensures))
+loop-again c = (omega (arith, c .before .before .before .before .before .loop-test .taken), c .before .before .before .before .before .before .loop .inv .1, c .before .before .rewrite-cell .kept .0 ∙ c .before .before .before .before .before .before .loop .inv .2, λ p r. place-forwarded r (c .before .before .before .before .before .before .loop .inv .3 p r) (c .before .before .before .cell-on .result) (omega (arith, c .before .before .before .before .before .loop-test .taken)) (c .before .before .before .cell-on .ensures) (c .before .before .rewrite-cell .ensures))
 
 same-length : tie.Need-same-length Inv-loop μ-loop
 same-length c = c .before .loop .inv .2

@@ -28,19 +28,19 @@ given-in : {f : ℕ → ℕ} {a b c d x h : ℕ} → c ≤ a → b ≤ d → Giv
 given-in l m g = let e = g .entry in record { from = omega (arith, g .from); entry = record { slot = omega (arith, e .slot); region = e .region; right = e .right } }
 
 -- f's entries of the numbers from a to before b are those from entry j up to entry i, by rising number
-pub record Told (f : ℕ → ℕ) (n a b : ℕ) (M : List ℕ) (j : ℕ) (M′ : List ℕ) (i : ℕ) : Type 0 where
+pub record Retold (f : ℕ → ℕ) (n a b : ℕ) (M : List ℕ) (j : ℕ) (M′ : List ℕ) (i : ℕ) : Type 0 where
   pub added : Added n (Given f a b) j i M M′
   pub rising : (y z : ℕ) → j ≤ y → y < z → z < i → slotIn M′ y < slotIn M′ z
 
 -- they can come: there is room for them after j entries
-pub record Telling (f : ℕ → ℕ) (n a b : ℕ) (M : List ℕ) (j : ℕ) : Type 0 where
+pub record Retelling (f : ℕ → ℕ) (n a b : ℕ) (M : List ℕ) (j : ℕ) : Type 0 where
   pub long : entriesWords n ≤ length M
   pub low : j ≤ n
   pub space : AtMost (Counts f a b) (n - j)
 
 -- ---- none, one, and one stretch after another
 
-pub told-none : (f : ℕ → ℕ) (n a b : ℕ) (M : List ℕ) (j : ℕ) → j ≤ n → ((x : ℕ) → a ≤ x → x < b → f x ≡ 0) → Told f n a b M j M j
+pub told-none : (f : ℕ → ℕ) (n a b : ℕ) (M : List ℕ) (j : ℕ) → j ≤ n → ((x : ℕ) → a ≤ x → x < b → f x ≡ 0) → Retold f n a b M j M j
 told-none f n a b M j l zero =
     record {
       added = added-none (Given f a b) j M l (λ x h g. let e = g .entry in omega (arith, e .region, e .right, zero x (g .from) (e .slot)));
@@ -48,7 +48,7 @@ told-none f n a b M j l zero =
     }
 
 -- h is what f gives, as the code has it
-pub told-one : {f : ℕ → ℕ} {n x y b i : ℕ} {M : List ℕ} → Telling f n x b M i → y ≡ x + 1 → i < n → (h : ℕ) → h ≡ f x → 0 < h → Told f n x y M i (entered n M i x h) (i + 1)
+pub told-one : {f : ℕ → ℕ} {n x y b i : ℕ} {M : List ℕ} → Retelling f n x b M i → y ≡ x + 1 → i < n → (h : ℕ) → h ≡ f x → 0 < h → Retold f n x y M i (entered n M i x h) (i + 1)
 told-one {f} {n} {x} {i = i} {M = M} t after l h e pos =
     record {
       added =
@@ -58,7 +58,7 @@ told-one {f} {n} {x} {i = i} {M = M} t after l h e pos =
       rising = λ y z u v w. absurd (let d : ⊥ = omega arith in d);
     }
 
-pub told-fits : {f : ℕ → ℕ} {n x b i : ℕ} {M : List ℕ} → Telling f n x b M i → x < b → (h : ℕ) → h ≡ f x → 0 < h → i < n
+pub told-fits : {f : ℕ → ℕ} {n x b i : ℕ} {M : List ℕ} → Retelling f n x b M i → x < b → (h : ℕ) → h ≡ f x → 0 < h → i < n
 told-fits {f} {x = x} t l h e pos =
     omega (
       arith,
@@ -66,8 +66,8 @@ told-fits {f} {x = x} t l h e pos =
       t .low,
     )
 
-module _ {f : ℕ → ℕ} {n a b j i : ℕ} {M M′ : List ℕ} (h : Told f n a b M j M′ i) where
-  pub told-on : {c k : ℕ} {M″ : List ℕ} → a ≤ b → b ≤ c → Told f n b c M′ i M″ k → Told f n a c M j M″ k
+module _ {f : ℕ → ℕ} {n a b j i : ℕ} {M M′ : List ℕ} (h : Retold f n a b M j M′ i) where
+  pub told-on : {c k : ℕ} {M″ : List ℕ} → a ≤ b → b ≤ c → Retold f n b c M′ i M″ k → Retold f n a c M j M″ k
   told-on {c} {k} {M″} l m t =
       record {
         added =
@@ -88,7 +88,7 @@ module _ {f : ℕ → ℕ} {n a b j i : ℕ} {M M′ : List ℕ} (h : Told f n a
       rise y z u v w (no d) (no e) = t .rising y z (omega arith) v w
 
   -- the next can come
-  pub telling-rest : {c d : ℕ} → Telling f n a d M j → a ≤ b → b ≤ c → c ≤ d → Telling f n b c M′ i
+  pub telling-rest : {c d : ℕ} → Retelling f n a d M j → a ≤ b → b ≤ c → c ≤ d → Retelling f n b c M′ i
   telling-rest {c} {d} t l m o =
       record {
         long = omega (arith, t .long, h .added .size);
@@ -101,12 +101,12 @@ module _ {f : ℕ → ℕ} {n a b j i : ℕ} {M M′ : List ℕ} (h : Told f n a
       }
 
 -- nothing is told yet
-pub told-start : (f : ℕ → ℕ) (n a : ℕ) (M : List ℕ) (j : ℕ) → j ≤ n → Told f n a a M j M j
+pub told-start : (f : ℕ → ℕ) (n a : ℕ) (M : List ℕ) (j : ℕ) → j ≤ n → Retold f n a a M j M j
 told-start f n a M j l = told-none f n a a M j l (λ x u v. absurd (let z : ⊥ = omega arith in z))
 
 -- ---- the whole table: k entries, then zeros; e of them were used before, as the code read it
 
-module _ {f : ℕ → ℕ} {n N k e : ℕ} {M M′ M″ : List ℕ} (h : Told f N 0 n M 0 M′ k) (c : EndsAfter N k e M′ M″) (was : e ≡ entriesUsed M)
+module _ {f : ℕ → ℕ} {n N k e : ℕ} {M M′ M″ : List ℕ} (h : Retold f N 0 n M 0 M′ k) (c : EndsAfter N k e M′ M″) (was : e ≡ entriesUsed M)
     (few : entriesUsed M ≤ N) (rest : RestZero N M) (long : entriesWords N ≤ length M) where
   told-renewed : Renewed (Given f 0 n) N M M″
   told-renewed =

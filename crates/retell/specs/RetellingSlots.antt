@@ -13,17 +13,17 @@ use Rattle.remember.specs.Crossing.{crossesFrom, crossTo}
 use Rattle.remember.specs.Crosses.{no-cross, field-cross}
 use Rattle.remember.specs.Entries.{entered}
 use Rattle.remember.specs.Appending.{AtMost}
-use Rattle.retell.specs.Passing.{NoSlot, gap-before, gap-after, gap-past, Readable, readable-part, PageReadable, used-most}
-use Rattle.retell.specs.Telling.{Told, Telling, told-start, told-one, told-none, told-fits, told-on, telling-rest}
+use Rattle.retell.specs.SlotStretches.{NoSlot, gap-before, gap-after, gap-past, Readable, readable-part, PageReadable, used-most}
+use Rattle.retell.specs.Retelling.{Retold, Retelling, told-start, told-one, told-none, told-fits, told-on, telling-rest}
 
 -- the crossing slots from a to before b stand from entry j up to entry i, by rising position
 abbrev pub SlotsTold : (p : Sizes) (a b : ℕ) (W M T : List ℕ) (j : ℕ) (M′ : List ℕ) (i : ℕ) → Type 0
-SlotsTold p a b W M T j M′ i = Told (crossTo p W T) (p .entries) a b M j M′ i
+SlotsTold p a b W M T j M′ i = Retold (crossTo p W T) (p .entries) a b M j M′ i
 
 -- they can come there
 pub record SlotsTelling (p : Sizes) (a b : ℕ) (W M T : List ℕ) (j : ℕ) : Type 0 where
   pub readable : Readable p a b W T
-  pub telling : Telling (crossTo p W T) (p .entries) a b M j
+  pub telling : Retelling (crossTo p W T) (p .entries) a b M j
 
 -- all of them, from the first entry on, where there is room for as many as cross
 abbrev pub IsCrossing : Sizes → List ℕ → List ℕ → ℕ → Type 0
@@ -68,7 +68,7 @@ module _ (k : ℕ) {p : Sizes} {W M T : List ℕ} {j : ℕ} (t : SlotsTelling p 
       inside : fieldAt k f < headAt (k + 1)
       inside = omega (arith, field-end k (f + 1) (omega (arith, low)))
 
-      here : Telling (crossTo p W T) (p .entries) (fieldAt k f) (headAt (k + 1)) M′ i
+      here : Retelling (crossTo p W T) (p .entries) (fieldAt k f) (headAt (k + 1)) M′ i
       here = telling-rest h (t .telling) (omega arith) (omega (arith, inside)) (omega arith)
 
       pub entry-fits : g ≢ 0 → i < p .entries
