@@ -48,7 +48,7 @@ pub fn release_pages(p: Sizes, tables: &mut [u32], list: &[u32], n: usize, regio
 }
 
 // Note 0 counts no more pages than lie above the last of the listed ones, which become free.
-fn note_released(p: Sizes, notes: &mut [u32], list: &[u32], n: usize)
+pub fn note_released(p: Sizes, notes: &mut [u32], list: &[u32], n: usize)
     requires { ⌜ Rises (p .pages) n (now list) ⌝ }
     requires { ⌜ (p .pages ≤ 1024) × (noteWords ≤ length (now notes)) ⌝ }
     ensures { λ _. ⌜ now (notes .exit) ≡ noted (p .pages) (now (notes .entry)) (now (list .entry)) n ⌝ }
@@ -62,7 +62,7 @@ fn note_released(p: Sizes, notes: &mut [u32], list: &[u32], n: usize)
 }
 
 // So many objects more are freed.
-fn count_freed(p: Sizes, tables: &mut [u32], n: u32)
+pub fn count_freed(p: Sizes, tables: &mut [u32], n: u32)
     requires { ⌜ Room p (length (now tables)) ⌝ }
     ensures { λ _. ⌜ now (tables .exit) ≡ set (now (tables .entry)) (freedAt p) (counted (freedOf p (now (tables .entry)) + n)) ⌝ }
 {
