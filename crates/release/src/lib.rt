@@ -26,7 +26,7 @@ pub fn clear_pages(p: Sizes, cells: &mut [u32], tables: &[u32], list: &[u32], n:
     while i < n {
         let page = layout::wide(list[i]);
         let used = layout::wide(layout::tables::used(p, tables, page));
-        layout::cells::clear_cells(cells, page, used);
+        layout::cells::clear_cells(cells, page, 0, used);
         i += 1;
     }
 }

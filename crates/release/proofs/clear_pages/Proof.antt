@@ -48,7 +48,7 @@ clear-cells-requires c κs =
     let pre = c .before .before .before .before .before .before .before .before .before .before .pre in
     let low = pre .1 .1 .1 .rises .low (c .before .before .before .before .before .before .loop .i) (c .before .before .before .before .before .loop-test .taken) in
     let few = pre .1 .0 .pages (c .before .before .before .wide .result) (omega (arith, low, c .before .before .before .wide .ensures)) .cells in
-    (omega (arith, low, c .before .before .before .wide .ensures, pre .0 .few), omega (arith, few, c .before .wide2 .ensures, c .before .before .used .ensures), omega (arith, low, few, c .before .wide2 .ensures, c .before .before .used .ensures, c .before .before .before .wide .ensures, pre .1 .1 .0, c .before .before .before .before .before .before .loop .inv .1))
+    (omega (arith, low, c .before .before .before .wide .ensures, pre .0 .few), omega arith, omega (arith, few, c .before .wide2 .ensures, c .before .before .used .ensures), omega (arith, low, few, c .before .wide2 .ensures, c .before .before .used .ensures, c .before .before .before .wide .ensures, pre .1 .1 .0, c .before .before .before .before .before .before .loop .inv .1))
 
 add-i : tie.Need-add-i Inv-loop μ-loop
 add-i c = omega (arith, c .before .before .before .before .before .before .before .before .before .before .before .before .before .pre .1 .1 .1 .rises .few, c .before .before .before .before .before .before .before .before .loop-test .taken)
