@@ -6,3 +6,5 @@ pub mod Ranks
 pub mod Walks
 -- kept cells are numbered
 pub mod Numbered
+-- and go to their places
+pub mod Slid
