@@ -8,3 +8,5 @@ pub mod Walks
 pub mod Numbered
 -- and go to their places
 pub mod Slid
+-- and what lies behind them is given back
+pub mod Trimmed

@@ -2,15 +2,15 @@
 use mathlib.Core.Path.{_≡_, refl, sym, ap, ap₂, _∙_, subst, subst₂}
 use mathlib.Core.List.{List}
 use Prim.Native.Nat.{ℕ, _+_, _/_, _^_, _≤_, _<_}
-use native.Mathlib.Decide.{ℕ-discrete, decLt}
+use native.Mathlib.Decide.{decLt}
 use native.Mathlib.Omega.{arith}
 use lib.Count.{trailingZeros}
 use lib.ListN.{length, getD, set, length-set}
 use lib.Seq.{getD-set-same, getD-set-other}
 use Rattle.lists.specs.Bits.{bitAt, bit-zero}
-use Rattle.lists.specs.Part.{Off, Skips}
+use Rattle.lists.specs.Part.{Skips}
 use Rattle.rules.specs.declared.Sizes.{Sizes}
-use Rattle.layout.specs.Places.{markOf, cellsWords}
+use Rattle.layout.specs.Places.{markOf}
 use Rattle.layout.specs.Cells.{workAt, workOf, refTo, pageOf, placeOf, cellOn, firstOn, pageCells}
 use Rattle.layout.specs.Marks.{marked}
 use Rattle.slide.specs.Ranks.{placeIn, rank, newPlace, KeptCell, MarksListed, rank-zero, rank-next, rank-few, rank-page, place-listed}

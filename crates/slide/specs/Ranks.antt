@@ -6,12 +6,12 @@ use mathlib.Core.List.{List}
 use Prim.Native.Nat.{ℕ, zero, suc, _+_, _*_, _/_, _%_, _≤_, _<_}
 use native.Mathlib.Decide.{ℕ-discrete, decLt}
 use native.Mathlib.Omega.{arith}
-use lib.ListN.{length, getD}
+use lib.ListN.{getD}
 use Rattle.lists.specs.Bits.{bitAt, bit-lt, bit-zero}
 use Rattle.lists.specs.Counting.{sum, sum-add, sum-high, sum-mono, sum-more, sum-none}
 use Rattle.lists.specs.Part.{Rises, Off, Through, cut-here, through-start, through-turn, through-end}
 use Rattle.rules.specs.declared.Sizes.{Sizes}
-use Rattle.layout.specs.Places.{Room, markOf}
+use Rattle.layout.specs.Places.{markOf}
 use Rattle.layout.specs.Cells.{pageOf, placeOf, cellOn, firstOn, pageCells}
 use Rattle.layout.specs.Marks.{marked, mark?}
 use Rattle.mark.specs.Marks.{Small}
@@ -168,8 +168,8 @@ module _ {p : Sizes} {n : ℕ} {l T : List ℕ} (m : MarksListed p n l T) where
     place-in = omega (arith, m .rises .low (rank p T c / pageCells) place-listed)
 
     -- not above it
-    pub place-low : newPlace p l T c ≤ c
-    place-low = go (decLt (rank p T c / pageCells) j)
+    pub place-not-above : newPlace p l T c ≤ c
+    place-not-above = go (decLt (rank p T c / pageCells) j)
       where
         j : ℕ
         j = kept-listed c k .0

@@ -1,6 +1,6 @@
 -- Each kept cell goes to its new place. No place lies above its cell and places rise with their cells, so no cell is written over before
 -- it has gone.
-use mathlib.Core.Path.{_≡_, refl, sym, ap, _∙_, subst, subst₂}
+use mathlib.Core.Path.{_≡_, refl, sym, ap, _∙_, subst}
 use mathlib.Core.Logic.{_≢_, by-cases}
 use mathlib.Core.List.{List}
 use Prim.Native.Nat.{ℕ, _+_, _^_, _≤_, _<_}
@@ -9,14 +9,13 @@ use native.Mathlib.Omega.{arith}
 use lib.Count.{trailingZeros}
 use lib.ListN.{length, getD, set, length-set}
 use lib.Seq.{getD-set-same, getD-set-other}
-use Rattle.lists.specs.Bits.{bitAt}
 use Rattle.lists.specs.Part.{Skips}
 use Rattle.rules.specs.declared.Sizes.{Sizes}
 use Rattle.layout.specs.Places.{markOf, cellsWords}
-use Rattle.layout.specs.Cells.{wordAt, workAt, workOf, cellNamed, refTo, pageOf, cellOn, cellOf, firstOn, pageCells, cellWords, word-cell, work-cell, CellIn, cell-in}
+use Rattle.layout.specs.Cells.{wordAt, workAt, workOf, cellNamed, refTo, cellOn, cellOf, firstOn, pageCells, cellWords, word-cell, work-cell, CellIn, cell-in}
 use Rattle.layout.specs.Marks.{marked}
 use Rattle.copy.specs.Moves.{Copied}
-use Rattle.slide.specs.Ranks.{rank, newPlace, KeptCell, MarksListed, place-in, place-low, place-rises}
+use Rattle.slide.specs.Ranks.{newPlace, KeptCell, MarksListed, place-in, place-not-above, place-rises}
 use Rattle.slide.specs.Walks.{Walk, Passes, walk-begin, walk-bit, walk-on, walk-here}
 use Rattle.slide.specs.Numbered.{marked-here, unmarked-page}
 
@@ -133,12 +132,12 @@ module _ {p : Sizes} {n : ℕ} {l T : List ℕ} (m : MarksListed p n l T) where
       -- and no old cell of the second is a new cell of the first
       earlier : (c i : ℕ) → b ≤ c → i < cellWords → getD W′ (wordAt c i) 0 ≡ getD W (wordAt c i) 0
       earlier c i h li =
-          f .same (wordAt c i) (λ e x y one. behind (newPlace p l T e) e c i (place-low m e (kept e (omega arith) one)) (omega arith) li)
+          f .same (wordAt c i) (λ e x y one. behind (newPlace p l T e) e c i (place-not-above m e (kept e (omega arith) one)) (omega arith) li)
 
   -- the names that are still to be read stand
   pub named-after : {W W′ : List ℕ} {a b : ℕ} → a ≤ b → b ≤ firstOn (p .pages) → NamedFrom p l T a W → SlidIn p l T W W′ a b → NamedFrom p l T b W′
   named-after {W} {W′} {a} {b} ab top named f c h k =
-      f .same (wordAt c 1) (λ e x y one. behind (newPlace p l T e) e c 1 (place-low m e (omega arith, one)) (omega arith) (omega arith))
+      f .same (wordAt c 1) (λ e x y one. behind (newPlace p l T e) e c 1 (place-not-above m e (omega arith, one)) (omega arith) (omega arith))
       ∙ named c (omega arith) k
 
   -- one cell more

@@ -2,3 +2,4 @@
 // these pages, and what they leave is given back.
 pub mod number;
 pub mod slide;
+pub mod trim;

@@ -1,6 +1,6 @@
 // Each kept cell is told its new place: the kept cells are numbered in rising order, and number k goes to place k of the listed pages.
 ghost use mathlib.Core.Path.{_≡_};
-ghost use Prim.Native.Nat.{ℕ, _+_, _/_, _<_, _≤_};
+ghost use Prim.Native.Nat.{ℕ, _/_, _<_, _≤_};
 ghost use lib.ListN.{length, getD};
 ghost use Rattle.layout.specs.Cells.{firstOn, pageCells};
 ghost use Rattle.layout.specs.Places.{Room, cellsWords};

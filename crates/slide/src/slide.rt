@@ -1,6 +1,5 @@
 // The kept cells go to their places, in rising order and in place: no place lies above its cell, so nothing is written over that is still
 // to go.
-ghost use mathlib.Core.Path.{_≡_};
 ghost use Prim.Native.Nat.{ℕ, _<_, _≤_};
 ghost use lib.ListN.{length, getD};
 ghost use Rattle.layout.specs.Cells.{workOf, cellNamed, firstOn, pageCells, CellIn};

@@ -1,6 +1,6 @@
 -- The kept cells of the listed pages so far, and so of all pages below the next, have the references to their places.
-use Prim.Native.Nat.{ℕ, _+_, _-_, _≤_, _<_}
-use mathlib.Core.Path.{_≡_, refl, sym, ap, _∙_, subst}
+use Prim.Native.Nat.{_-_, _≤_, _<_}
+use mathlib.Core.Path.{_≡_, refl, _∙_}
 use native.Mathlib.Omega.{arith}
 use borrow.Author.Needs.{needs}
 use lib.ListN.{length}
@@ -8,10 +8,6 @@ use Rattle.lists.specs.Part.{Through, cut-here, through-start, through-turn, th
 use Rattle.slide.specs.Numbered.{NumberedTo, numbered-all, number-start, number-skips, number-turn}
 use Rattle.slide.proofs.number.number_kept.Statement.{statement}
 use Rattle.slide.proofs.number.number_kept.Tie as tie
-use Rattle.slide.proofs.number.number_kept.Reads as reads
-use Rattle.slide.proofs.number.number_kept.Lts as lts
-use Rattle.layout.proofs.wide.Reads as wide-reads
-use Rattle.slide.proofs.number.number_page.Reads as number-page-reads
 
 abbrev Inv-loop : tie.InvT-loop
 Inv-loop p cells₀ tables list n k₀ i₀ cells k i =

@@ -1,25 +1,15 @@
 -- The cells of the set bits so far have the references to their places.
-use Prim.Native.Nat.{ℕ, _+_, _/_, _<_}
-use mathlib.Core.Path.{_≡_, refl, sym, ap, _∙_, subst}
+use mathlib.Core.Path.{_≡_, refl, ap, _∙_}
 use native.Mathlib.Omega.{arith}
 use borrow.Author.Needs.{needs}
 use lib.Count.{trailingZeros}
-use lib.ListN.{length, getD}
+use lib.ListN.{length}
 use Rattle.rules.specs.declared.Sizes.{Sizes}
-use Rattle.layout.specs.Cells.{cellOn, refTo, pageCells}
+use Rattle.layout.specs.Cells.{cellOn, refTo}
 use Rattle.slide.specs.Walks.{Walk, walk-bit, walk-on, walk-here, walk-on-to, walk-less, walk-over}
 use Rattle.slide.specs.Numbered.{NumberedHere, AtPage, AtBit, number-begin, number-at, number-bit, number-passes}
 use Rattle.slide.proofs.number.number_page.Statement.{statement}
 use Rattle.slide.proofs.number.number_page.Tie as tie
-use Rattle.slide.proofs.number.number_page.Reads as reads
-use Rattle.slide.proofs.number.number_page.Lts as lts
-use Rattle.layout.proofs.bits.without_bit.Reads as without-bit-reads
-use Rattle.layout.proofs.cells.cell_on.Reads as cell-on-reads
-use Rattle.layout.proofs.cells.ref_to.Reads as ref-to-reads
-use Rattle.layout.proofs.cells.set_work.Reads as set-work-reads
-use Rattle.layout.proofs.tables.mark.Reads as mark-reads
-use Rattle.layout.proofs.wide.Reads as wide-reads
-use Rattle.slide.proofs.number.place_in.Reads as place-in-reads
 
 abbrev Inv-loop : tie.InvT-loop
 Inv-loop cells₀ tables list page before left₀ k₀ cells left k =
@@ -36,21 +26,26 @@ mark-requires c κs = (c .before .before .before .pre .0, c .before .before .bef
 loop-holds : tie.Need-loop-holds Inv-loop μ-loop
 loop-holds c = (refl, λ p s. number-begin _ _ s)
 
--- where the walk stands
-start : (c : tie.In-loop Inv-loop μ-loop) → AtPage (c .before .before .before .before .before .before .args .p) (c .before .before .before .before .before .before .args .tables .now) (c .before .before .before .before .before .before .args .page) (c .before .before .mark .result) (c .before .before .before .before .before .before .args .before)
+-- where the walk begins
+start : (c : tie.After-mark Inv-loop μ-loop) → AtPage (c .before .before .before .before .args .p) (c .before .before .before .before .args .tables .now) (c .before .before .before .before .args .page) (c .mark .result) (c .before .before .before .before .args .before)
 start c =
-    let pre = c .before .before .before .before .before .before .pre in
+    let pre = c .before .before .before .before .pre in
     record {
-      word = c .before .before .mark .ensures;
-      small = omega (arith, c .before .before .mark .ensures, pre .1 .1 .0 .1 .small (c .before .before .before .before .before .before .args .page) (pre .1 .1 .1 .0));
+      word = c .mark .ensures;
+      small = omega (arith, c .mark .ensures, pre .1 .1 .0 .1 .small (c .before .before .before .before .args .page) (pre .1 .1 .1 .0));
       count = pre .1 .1 .1 .1;
     }
+
+-- and where it stands
+walk : (c : tie.In-loop Inv-loop μ-loop)
+    → Walk (c .before .before .mark .result) (c .before .loop .left) (NumberedHere (c .before .before .before .before .before .before .args .p) (c .before .before .before .before .before .before .args .list .now) (c .before .before .before .before .before .before .args .tables .now) (c .before .before .before .before .before .before .args .page) (c .before .before .before .before .before .before .args .cells .now) (c .before .loop .cells) (c .before .loop .k))
+walk c = c .before .loop .inv .1 _ (start (c .before .before))
 
 at : (c : tie.In-loop Inv-loop μ-loop)
     → AtBit (c .before .before .before .before .before .before .args .p) (c .before .before .before .before .before .before .pre .1 .1 .0 .0) (c .before .before .before .before .before .before .args .list .now) (c .before .before .before .before .before .before .args .tables .now) (c .before .before .before .before .before .before .args .page) (c .before .before .mark .result) (c .before .before .before .before .before .before .args .cells .now) (c .before .loop .cells) (c .before .loop .k) (trailingZeros 32 (c .before .loop .left))
 at c =
     let pre = c .before .before .before .before .before .before .pre in
-    number-at (pre .1 .1 .0 .1) (pre .1 .1 .1 .0) (start c) (c .before .loop .inv .1 (c .before .before .before .before .before .before .args .p) (start c)) (c .loop-test .taken)
+    number-at (pre .1 .1 .0 .1) (pre .1 .1 .1 .0) (start (c .before .before)) (walk c) (c .loop-test .taken)
 
 wide-requires : tie.Need-wide-requires Inv-loop μ-loop
 wide-requires c κs = search needs
@@ -68,17 +63,13 @@ set-work-requires : tie.Need-set-work-requires Inv-loop μ-loop
 set-work-requires c κs = omega (arith, at (c .before .before .before .before .before) .low, c .before .before .before .before .wide .ensures, c .before .before .before .cell-on .ensures, c .before .before .before .before .before .before .before .before .before .before .before .pre .0 .few, c .before .before .before .before .before .before .before .before .before .before .before .pre .1 .0, c .before .before .before .before .before .before .before .before .before .before .before .pre .1 .1 .1 .0, c .before .before .before .before .before .before .loop .inv .0)
 
 without-bit-requires : tie.Need-without-bit-requires Inv-loop μ-loop
-without-bit-requires c κs =
-    let u = c .before .before .before .before .before .before .before .before .before .loop .inv .1 (c .before .before .before .before .before .before .before .before .before .before .before .before .before .before .args .p) (start (c .before .before .before .before .before .before .before .before)) in
-    let b = walk-bit u (c .before .before .before .before .before .before .before .before .loop-test .taken) in (b .lt, b .on)
+without-bit-requires c κs = let b = walk-bit (walk (c .before .before .before .before .before .before .before .before)) (c .before .before .before .before .before .before .before .before .loop-test .taken) in (b .lt, b .on)
 
 add-k : tie.Need-add-k Inv-loop μ-loop
 add-k c = let a = at (c .before .before .before .before .before .before .before .before .before) in omega (arith, a .low, a .few, c .before .before .before .before .before .before .before .before .before .before .before .before .before .before .before .pre .0 .few, c .before .before .before .before .before .before .before .before .before .before .before .before .before .before .before .pre .1 .1 .1 .0)
 
 loop-less : tie.Need-loop-less Inv-loop μ-loop
-loop-less c =
-    let u = c .before .before .before .before .before .before .before .before .before .before .loop .inv .1 (c .before .before .before .before .before .before .before .before .before .before .before .before .before .before .before .args .p) (start (c .before .before .before .before .before .before .before .before .before)) in
-    walk-less u (c .without-bit .result) (c .before .before .before .before .before .before .before .before .before .loop-test .taken) (c .without-bit .ensures)
+loop-less c = walk-less (walk (c .before .before .before .before .before .before .before .before .before)) (c .without-bit .result) (c .before .before .before .before .before .before .before .before .before .loop-test .taken) (c .without-bit .ensures)
 
 loop-again : tie.Need-loop-again Inv-loop μ-loop
 loop-again c = (
@@ -104,13 +95,7 @@ returns : tie.Need-returns Inv-loop μ-loop
 returns c =
     let a = c .before .before .before .before .before .before .args in
     let loop = c .before .loop in
-    let pre = c .before .before .before .before .before .before .pre in
-    let s : AtPage (a .p) (a .tables .now) (a .page) (c .before .before .mark .result) (a .before) =
-    record {
-      word = c .before .before .mark .ensures;
-      small = omega (arith, c .before .before .mark .ensures, pre .1 .1 .0 .1 .small (a .page) (pre .1 .1 .1 .0));
-      count = pre .1 .1 .1 .1;
-    } in
+    let s = start (c .before .before) in
     walk-over (loop .inv .1 (a .p) s) (number-passes (a .p) (a .list .now) (a .tables .now) (a .page) (c .before .before .mark .result) (loop .k) (a .cells .now) (loop .cells) (s .word)) (omega (arith, c .loop-test .left))
 
 pub number-page-spec : {M : Type 1} → statement M

@@ -1,42 +1,29 @@
 -- A copy leaves the name of the new place in word 1 of the old cell, where it stood.
-use Prim.Native.Nat.{ℕ, _<_}
+use Prim.Native.Nat.{ℕ}
 use mathlib.Core.List.{List}
 use mathlib.Core.Path.{_≡_, sym, ap, _∙_, subst, subst₂}
 use native.Mathlib.Omega.{arith}
 use borrow.Author.Needs.{needs}
-use lib.ListN.{length, set}
-use Rattle.layout.specs.Cells.{workAt, workOf, cellNamed, refTo}
+use Rattle.layout.specs.Cells.{workOf, cellNamed, refTo}
 use Rattle.slide.specs.Slid.{CellSlid, copied-slid, stayed-slid}
 use Rattle.slide.proofs.slide.slide_cell.Statement.{statement}
 use Rattle.slide.proofs.slide.slide_cell.Tie as tie
-use Rattle.slide.proofs.slide.slide_cell.Reads as reads
-use Rattle.slide.proofs.slide.slide_cell.Lts as lts
-use Rattle.copy.proofs.copy_cell.Reads as copy-cell-reads
-use Rattle.layout.proofs.cells.cell_named.Reads as cell-named-reads
-use Rattle.layout.proofs.cells.set_work.Reads as set-work-reads
-use Rattle.layout.proofs.cells.work.Reads as work-reads
 
--- src/slide.rt:18:41
 work-requires : tie.Need-work-requires
 work-requires c κs = search needs
 
--- src/slide.rt:18:9
 cell-named-requires : tie.Need-cell-named-requires
 cell-named-requires c κs = search needs
 
--- src/slide.rt:20:9
 copy-cell-requires : tie.Need-copy-cell-requires
 copy-cell-requires c κs = search needs
 
--- src/slide.rt:22:9
 set-work-requires : tie.Need-set-work-requires
 set-work-requires c κs = search needs
 
--- src/slide.rt:13:1
 same-length : tie.Need-same-length
 same-length c = search needs
 
--- src/slide.rt:13:1
 returns : tie.Need-returns
 returns c =
     let a = c .before .before .before .before .before .before .before .before .before .args in
@@ -44,11 +31,9 @@ returns c =
     let n : workOf (a .cells .now) (a .cell) ≡ refTo (c .before .before .before .before .before .cell-named .result) = omega (arith, c .before .before .before .before .before .before .before .before .before .pre .1 .0) in
     subst (λ (d : ℕ). CellSlid (a .cell) d (a .cells .now) (c .before .before .copy-cell .last .0)) e (copied-slid n (c .before .before .copy-cell .ensures))
 
--- src/slide.rt:13:1
 same-length-2 : tie.Need-same-length-2
 same-length-2 c = search needs
 
--- src/slide.rt:13:1
 returns-2 : tie.Need-returns-2
 returns-2 c =
     let a = c .before .before .before .before .before .before .before .before .before .args in

@@ -1,15 +1,12 @@
 -- The kept cells of the listed pages so far, and so of all pages below the next, went to their places.
-use Prim.Native.Nat.{ℕ, _+_, _-_, _≤_, _<_}
-use mathlib.Core.Path.{_≡_, refl, sym, ap, _∙_, subst}
+use Prim.Native.Nat.{ℕ, _-_, _≤_}
+use mathlib.Core.Path.{_≡_, refl, _∙_}
 use native.Mathlib.Omega.{arith}
 use lib.ListN.{length, getD}
 use Rattle.lists.specs.Part.{Through, cut-here, through-start, through-turn, through-end}
 use Rattle.slide.specs.Slid.{SlidTo, slid-none, slid-all, named-after, slide-skips, slide-turn}
 use Rattle.slide.proofs.slide.slide_kept.Statement.{statement}
 use Rattle.slide.proofs.slide.slide_kept.Tie as tie
-use Rattle.slide.proofs.slide.slide_kept.Reads as reads
-use Rattle.slide.proofs.slide.slide_kept.Lts as lts
-use Rattle.slide.proofs.slide.slide_page.Reads as slide-page-reads
 
 abbrev Inv-loop : tie.InvT-loop
 Inv-loop p cells₀ tables list n i₀ cells i =

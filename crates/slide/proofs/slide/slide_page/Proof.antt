@@ -1,23 +1,16 @@
 -- The cells of the set bits so far went to their places.
-use Prim.Native.Nat.{ℕ, _+_, _<_}
+use Prim.Native.Nat.{ℕ, _<_}
 use mathlib.Core.Path.{_≡_, refl, sym, ap, _∙_, subst}
 use native.Mathlib.Omega.{arith}
 use borrow.Author.Needs.{needs}
 use lib.Count.{trailingZeros}
-use lib.ListN.{length, getD}
+use lib.ListN.{length}
 use Rattle.rules.specs.declared.Sizes.{Sizes}
 use Rattle.layout.specs.Cells.{cellOn, firstOn, pageCells}
 use Rattle.slide.specs.Walks.{Walk, walk-bit, walk-on-to, walk-less, walk-over}
 use Rattle.slide.specs.Slid.{SlidHere, Sliding, NamedFrom, slide-begin, slide-passes, slide-there, slide-bit}
 use Rattle.slide.proofs.slide.slide_page.Statement.{statement}
 use Rattle.slide.proofs.slide.slide_page.Tie as tie
-use Rattle.slide.proofs.slide.slide_page.Reads as reads
-use Rattle.slide.proofs.slide.slide_page.Lts as lts
-use Rattle.layout.proofs.bits.without_bit.Reads as without-bit-reads
-use Rattle.layout.proofs.cells.cell_on.Reads as cell-on-reads
-use Rattle.layout.proofs.tables.mark.Reads as mark-reads
-use Rattle.layout.proofs.wide.Reads as wide-reads
-use Rattle.slide.proofs.slide.slide_cell.Reads as slide-cell-reads
 
 abbrev Inv-loop : tie.InvT-loop
 Inv-loop cells₀ tables list at page left₀ cells left =
