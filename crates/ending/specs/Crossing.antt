@@ -96,7 +96,7 @@ module _ {s : Sizes} {w : Words} {e : Part} {w′ : Words} {cell : ℕ → ℕ} 
 
   module _ (references : (c f : ℕ) → Lives s w e c → f < refCount w c → fieldOf (w′ .cells) (cell c) f ≡ renamed cell (fieldOf (w .cells) c f))
       (only : (d : ℕ) → BeginsIn s w′ d → (c : ℕ) × Lives s w e c × (cell c ≡ d)) where
-    live-here : (x : ℕ) → Slot s (w′ .cells) (w′ .tables) x → LiveSlot s w e cell x
+    pub live-here : (x : ℕ) → Slot s (w′ .cells) (w′ .tables) x → LiveSlot s w e cell x
     live-here x q =
         let o = only (q .object) (q .begins) in
         record {
@@ -107,7 +107,7 @@ module _ {s : Sizes} {w : Words} {e : Part} {w′ : Words} {cell : ℕ → ℕ} 
           at = sym (q .at) ∙ ap (λ (d : ℕ). fieldAt d (q .field)) (sym (o .2));
         }
 
-    cross-here : (x : ℕ) (q : LiveSlot s w e cell x) → crossTo s (w′ .cells) (w′ .tables) x ≡ crossThen s w w′ cell (q .object) (q .field)
+    pub cross-here : (x : ℕ) (q : LiveSlot s w e cell x) → crossTo s (w′ .cells) (w′ .tables) x ≡ crossThen s w w′ cell (q .object) (q .field)
     cross-here x q =
         slot-cross s (w′ .cells) (w′ .tables) x (live-slot h x q)
         ∙ ap₂ (λ (p y : ℕ). other (ownerIn s w′ p) (regionOf s (w′ .tables) y)) (live-page h x q)

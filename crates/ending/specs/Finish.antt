@@ -32,7 +32,7 @@ use Rattle.ending.specs.Copied.{HasMoved, placed, placing, forwarded-pla
 use Rattle.ending.specs.Rewriting.{copies-live, held-live, HasRewritten, slot-after, rest-after, head-after, work-after, unused-after}
 
 -- two lists of one length with the same words from n on
-same-from : (n : ℕ) (l k : List ℕ) → length k ≡ length l → ((x : ℕ) → n ≤ x → getD k x 0 ≡ getD l x 0) → SameFrom n l k
+pub same-from : (n : ℕ) (l k : List ℕ) → length k ≡ length l → ((x : ℕ) → n ≤ x → getD k x 0 ≡ getD l x 0) → SameFrom n l k
 same-from n l k e h = record { long = e; rest = drop-same n l k e (λ x z. h x z) }
 
 -- ---- the variables

@@ -1,0 +1,10 @@
+-- A collection of the control space, stage by stage, and that it leaves what the rules leave.
+
+-- the stages, and the cell of each object then
+pub mod Numbering
+-- the tables after them, then the cells
+pub mod Tables
+pub mod Sliding
+-- the places that the rules give, and the promise
+pub mod Places
+pub mod Collected
