@@ -8,3 +8,5 @@ pub mod Sliding
 -- the places that the rules give, and the promise
 pub mod Places
 pub mod Collected
+-- what each stage asks for
+pub mod Asked

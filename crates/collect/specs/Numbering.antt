@@ -31,7 +31,13 @@ use Rattle.ending.specs.Copied.{placed, placed-still, placed-moved}
 abbrev pub space : Sizes → Words → Part
 space s w = partOf s w control
 
--- w is whole, what a collection keeps of it is marked in w₁, the first n of l are the pages of the control space, and the K survivors are numbered in W₂
+-- w is whole, and what a collection keeps of it is marked in w₁
+pub record Keeping (s : Sizes) (w w₁ : Words) : Type 0 where
+  pub whole : WholeFor s w
+  pub room : Room s (length (w .tables))
+  pub marks : Marked s w (space s w) w₁
+
+-- and the first n of l are the pages of the control space, and the K survivors are numbered in W₂
 pub record Numbering (s : Sizes) (w w₁ : Words) (n : ℕ) (l W₂ : List ℕ) (K : ℕ) : Type 0 where
   pub whole : WholeFor s w
   pub room : Room s (length (w .tables))

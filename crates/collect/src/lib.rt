@@ -12,9 +12,8 @@ ghost use Rattle.layout.specs.Words.{words};
 ghost use Rattle.promises.specs.Whole.{WholeFor};
 ghost use Rattle.promises.specs.Promises.{DidHere};
 ghost use Rattle.pages.specs.Noted.{Noted};
-ghost use Rattle.mark.specs.Survivors.{Marked};
 ghost use Rattle.ended.specs.CollectedDid.{collectOf};
-ghost use Rattle.collect.specs.Numbering.{space};
+ghost use Rattle.collect.specs.Numbering.{Keeping};
 ghost use Rattle.collect.specs.Tables.{Tallied};
 use rules::Answer;
 use rules::Sizes;
@@ -38,20 +37,20 @@ fn collect_marked(
     tables: &mut [u32],
     notes: &mut [u32],
 )
-    requires { ⌜ ((c t : List ℕ) × WholeFor p (words c (now remember) t) × Room p (length t) × Marked p (words c (now remember) t) (space p (words c (now remember) t)) (words (now cells) (now remember) (now tables))) ⌝ }
+    requires { ⌜ ((c t : List ℕ) × Keeping p (words c (now remember) t) (words (now cells) (now remember) (now tables))) ⌝ }
     requires { ⌜ Noted p (now tables) (now notes) ⌝ }
-    ensures { λ _. ⌜ ((c t : List ℕ) → WholeFor p (words c (now (remember .entry)) t) → Room p (length t) → Marked p (words c (now (remember .entry)) t) (space p (words c (now (remember .entry)) t)) (words (now (cells .entry)) (now (remember .entry)) (now (tables .entry))) → (u : ℕ) → u < p .threads → DidHere p (words c (now (remember .entry)) t) (collectOf u) (words (now (cells .exit)) (now (remember .exit)) (now (tables .exit))) (done 0)) ⌝ }
+    ensures { λ _. ⌜ ((c t : List ℕ) → Keeping p (words c (now (remember .entry)) t) (words (now (cells .entry)) (now (remember .entry)) (now (tables .entry))) → (u : ℕ) → u < p .threads → DidHere p (words c (now (remember .entry)) t) (collectOf u) (words (now (cells .exit)) (now (remember .exit)) (now (tables .exit))) (done 0)) ⌝ }
     ensures { λ _. ⌜ Noted p (now (tables .exit)) (now (notes .exit)) ⌝ }
 {
     let mut list = [0u32; 1024];
     let n = pages::list_pages(p, tables, 1, &mut list);
+    release::note_released(p, notes, &list, n);
     let kept = slide::number::number_kept(p, cells, tables, &list, n);
     settle::rewrite::rewrite_variables(p, cells, tables);
     retell::cells::rewrite_cells(p, cells, tables);
     slide::slide::slide_kept(p, cells, tables, &list, n);
     slide::trim::trim_pages(p, cells, tables, &list, n, kept);
     tally(p, tables, kept);
-    release::note_released(p, notes, &list, n);
     retell::retell(p, cells, remember, tables);
 }
 

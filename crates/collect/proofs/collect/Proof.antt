@@ -1,43 +1,39 @@
+-- What is kept is marked, and the stages go on from there.
+use native.Mathlib.Omega.{arith}
 use borrow.Author.Needs.{needs}
+use Rattle.promises.specs.Questions.{did-answer}
+use Rattle.collect.specs.Asked.{keeping, keeping-noted}
 use Rattle.collect.proofs.collect.Statement.{statement}
 use Rattle.collect.proofs.collect.Tie as tie
-use Rattle.collect.proofs.collect.Reads as reads
-use Rattle.collect.proofs.collect.Lts as lts
-use Rattle.collect.proofs.collect_marked.Reads as collect-marked-reads
-use Rattle.keep.proofs.mark_kept.Reads as mark-kept-reads
-use Rattle.rules.proofs.done.Reads as done-reads
 
--- src/lib.rt:71:5
 mark-kept-requires : tie.Need-mark-kept-requires
 mark-kept-requires c κs = search needs
 
--- src/lib.rt:72:5
 collect-marked-requires : tie.Need-collect-marked-requires
-collect-marked-requires c κs = ?
+collect-marked-requires c κs =
+    let w = c .before .before .before .before .before .before .before .before .before .before .before .before .before .before .before .pre .0 in
+    let k = keeping w (c .before .before .before .before .before .before .before .before .mark-kept .ensures (c .before .before .before .before .before .before .before .before .before .before .before .before .before .before .before .args .remember .now) w) (omega arith) in
+    ((c .before .before .before .before .before .before .before .before .before .before .before .before .before .before .before .args .cells .now, c .before .before .before .before .before .before .before .before .before .before .before .before .before .before .before .args .tables .now, k), keeping-noted k (c .before .before .before .before .before .before .before .before .before .before .before .before .before .before .before .pre .1))
 
--- src/lib.rt:73:5
 done-requires : tie.Need-done-requires
 done-requires c κs = search needs
 
--- src/lib.rt:59:1
 same-length : tie.Need-same-length
 same-length c = search needs
 
--- src/lib.rt:59:1
 same-length-2 : tie.Need-same-length-2
 same-length-2 c = search needs
 
--- src/lib.rt:59:1
 same-length-3 : tie.Need-same-length-3
 same-length-3 c = search needs
 
--- src/lib.rt:59:1
 same-length-4 : tie.Need-same-length-4
 same-length-4 c = search needs
 
--- src/lib.rt:59:1
 returns : tie.Need-returns
-returns c = ?
+returns c =
+    let w = c .before .before .before .before .before .before .before .before .before .before .before .before .before .before .before .before .before .before .before .before .before .before .before .before .before .pre .0 in
+    (λ t th. did-answer (c .done .ensures) (c .before .before .before .before .before .before .before .before .before .collect-marked .ensures .0 _ _ (keeping w (c .before .before .before .before .before .before .before .before .before .before .before .before .before .before .before .before .before .before .mark-kept .ensures (c .before .before .before .before .before .before .before .before .before .before .before .before .before .before .before .before .before .before .before .before .before .before .before .before .before .args .remember .now) w) (omega arith)) t th), c .before .before .before .before .before .before .before .before .before .collect-marked .ensures .1)
 
 pub collect-spec : {M : Type 1} → statement M
 collect-spec =
