@@ -13,12 +13,12 @@ use Rattle.lists.specs.Listed.{listed, getD-listed}
 use Rattle.lists.specs.Tests.{both-true}
 use Rattle.rules.specs.declared.Sizes.{Sizes}
 use Rattle.rules.specs.declared.Command.{Command}
-use Rattle.rules.specs.Terms.{Code, unknown, start, end, new, copy, clear, load, store, read, write, same, codes, decode, ask, limits, refused, done, first}
+use Rattle.rules.specs.Terms.{Code, unknown, start, end, new, copy, clear, load, store, read, write, same, collect, codes, decode, ask, limits, refused, done, first}
 use Rattle.rules.specs.declared.Answer.{Answer}
 use Rattle.rules.specs.NeverFreeing.{NeverFreeing, operands, known, question, state}
 use Rattle.layout.specs.Cells.{mostFields}
 use Rattle.commands.specs.declared.Decoded.{Decoded}
-use Rattle.commands.specs.declared.Decoded.the-variants.{Start, End, New, Copy, Clear, Load, Store, Read, Write, Same, Refused}
+use Rattle.commands.specs.declared.Decoded.the-variants.{Start, End, New, Copy, Clear, Load, Store, Read, Write, Same, Collect, Refused}
 
 -- questions 7 and 8, then the command
 abbrev pub checkedBy : Bool → Bool → Decoded → Decoded
@@ -39,6 +39,7 @@ named store t a b c = Store t a b c
 named read t a b c = Read t a b
 named write t a b c = Write t a b c
 named same t a b c = Same t a b
+named collect t a b c = Collect t
 
 abbrev pub known-then : Bool → Decoded → Decoded
 known-then true d = d
@@ -62,6 +63,7 @@ decodedAnswer (Store t a b c) = done 0
 decodedAnswer (Read t a b) = done 0
 decodedAnswer (Write t a b c) = done 0
 decodedAnswer (Same t a b) = done 0
+decodedAnswer (Collect t) = done 0
 decodedAnswer (Refused q) = refused q
 
 abbrev pub numberOf : Decoded → ℕ
@@ -143,16 +145,16 @@ next-up : {n k : ℕ} → k ≤ n → (n ≡ k → ⊥) → suc k ≤ n
 next-up h f = omega arith
 
 pub other-code : (s : Sizes) (m : Command) → (m .code ≡ 1 → ⊥) → (m .code ≡ 2 → ⊥) → (m .code ≡ 3 → ⊥) → (m .code ≡ 4 → ⊥) → (m .code ≡ 5 → ⊥) → (m .code ≡ 6 → ⊥)
-    → (m .code ≡ 7 → ⊥) → (m .code ≡ 8 → ⊥) → (m .code ≡ 9 → ⊥) → (m .code ≡ 10 → ⊥) → Decodes s m (Refused 6)
+    → (m .code ≡ 7 → ⊥) → (m .code ≡ 8 → ⊥) → (m .code ≡ 9 → ⊥) → (m .code ≡ 10 → ⊥) → (m .code ≡ 11 → ⊥) → Decodes s m (Refused 6)
 unfolding decodedBy
-other-code s m a b c d e f g h i j =
+other-code s m a b c d e f g h i j k =
     let u = go (m .code) refl in
-    decodes s m (sym (ap (λ (z : Code). decodedBy s z (m .thread) (m .a) (m .b) (m .c)) u)) (λ k. absurd (true-not-false (sym (ap known u) ∙ k)))
+    decodes s m (sym (ap (λ (z : Code). decodedBy s z (m .thread) (m .a) (m .b) (m .c)) u)) (λ y. absurd (true-not-false (sym (ap known u) ∙ y)))
   where
     go : (n : ℕ) → m .code ≡ n → decode (m .code) ≡ unknown
     go zero z = ap decode z
     go (suc n) z =
-        past-codes (m .code) (next-up (next-up (next-up (next-up (next-up (next-up (next-up (next-up (next-up (next-up (omega arith) a) b) c) d) e) f) g) h) i) j)
+        past-codes (m .code) (next-up (next-up (next-up (next-up (next-up (next-up (next-up (next-up (next-up (next-up (next-up (omega arith) a) b) c) d) e) f) g) h) i) j) k)
 
 -- ---- back from a decoded command to its words
 
@@ -168,6 +170,7 @@ commandFor (Store t a b c) = record { code = 7; thread = t; a = a; b = b; c = c 
 commandFor (Read t a b) = record { code = 8; thread = t; a = a; b = b; c = 0 }
 commandFor (Write t a b c) = record { code = 9; thread = t; a = a; b = b; c = c }
 commandFor (Same t a b) = record { code = 10; thread = t; a = a; b = b; c = 0 }
+commandFor (Collect t) = record { code = 11; thread = t; a = 0; b = 0; c = 0 }
 commandFor (Refused q) = record { code = 0; thread = 0; a = 0; b = 0; c = 0 }
 
 -- its operands are in range
@@ -182,6 +185,7 @@ Within s (Store t a b c) = (t < s .threads) × (a < s .variables) × (c < s .var
 Within s (Read t a b) = (t < s .threads) × (a < s .variables)
 Within s (Write t a b c) = (t < s .threads) × (a < s .variables)
 Within s (Same t a b) = (t < s .threads) × (a < s .variables) × (b < s .variables)
+Within s (Collect t) = t < s .threads
 Within s (Refused q) = Unit
 
 pub record Means (s : Sizes) (m : Command) (d : Decoded) : Type 0 where
@@ -238,6 +242,8 @@ back-by s write n t a b c e k l q = record { command = spelt e refl refl refl; w
 back-by s same n t a b c e k l q =
     let r = three (ltb a (s .variables)) (ltb b (s .variables)) (eqb c 0) q in
     record { command = spelt e refl refl (eqb-true c 0 (r .2)); within = (l, ltb-true a (s .variables) (r .0), ltb-true b (s .variables) (r .1)) }
+back-by s collect n t a b c e k l q =
+    let r = three (eqb a 0) (eqb b 0) (eqb c 0) q in record { command = spelt e (eqb-true a 0 (r .0)) (eqb-true b 0 (r .1)) (eqb-true c 0 (r .2)); within = l }
 
 module _ {s : Sizes} {m : Command} {d : Decoded} (g : Decodes s m d) where
   asked-number : asked s m ≡ numberOf d

@@ -25,7 +25,7 @@ fn checked(thread: bool, operands: bool, d: Decoded) -> Decoded
     Decoded::Refused(7)
 }
 
-// One arm for each of the ten commands, with its operand rules. The sum b + c is one of usize and does not wrap.
+// One arm for each of the eleven commands, with its operand rules. The sum b + c is one of usize and does not wrap.
 pub fn decode(p: Sizes, m: Command) -> Decoded
     ensures { λ r. ⌜ Decodes p m r ⌝ }
 {
@@ -66,6 +66,11 @@ pub fn decode(p: Sizes, m: Command) -> Decoded
             known,
             both(both(var_a, var_b), no_c),
             Decoded::Same(t, a, b),
+        ),
+        11 => checked(
+            known,
+            both(both(a == 0, no_b), no_c),
+            Decoded::Collect(m.thread),
         ),
         _ => Decoded::Refused(6),
     }

@@ -1,5 +1,5 @@
-// Decoding, and the nine commands that end no epoch, on whole tables. Each promises `DidHere`: the rules' answer for the heap that the
-// words made, and words that stand for the heap that the rules leave.
+// Decoding, and the nine commands that neither end an epoch nor collect, on whole tables. Each promises `DidHere`: the rules' answer for the
+// heap that the words made, and words that stand for the heap that the rules leave.
 use rules::Answer;
 
 pub mod decode;
@@ -21,12 +21,14 @@ pub enum Decoded {
     Read(usize, usize, usize),
     Write(usize, usize, usize, u32),
     Same(usize, usize, usize),
+    Collect(u32),
     Refused(u32),
 }
 
-// The answer to a command; or the thread whose epoch it ends, which is left to the caller. The thread is a u32 as the answer's words are: a
-// usize beside them would keep every answer in memory, written as two words and read back as one.
+// The answer to a command; or the thread of an end or of a collection, which are left to the caller. The thread is a u32 as the answer's words
+// are: a usize beside them would keep every answer in memory, written as two words and read back as one.
 pub enum Obeyed {
     Answered(Answer),
     Ends(u32),
+    Collects(u32),
 }

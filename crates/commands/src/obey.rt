@@ -18,7 +18,7 @@ use crate::variables::start;
 use rules::Command;
 use rules::Sizes;
 
-// Every command but an end is answered here; of an end, which changes nothing yet, the thread is given. The notes are
+// Every command but an end and a collection is answered here; of these two, which change nothing yet, the thread is given. The notes are
 // right of the tables (`Noted`, crate `pages`).
 pub fn obey(
     p: Sizes,
@@ -73,6 +73,7 @@ pub fn obey(
             c,
         )),
         Decoded::Same(t, a, b) => Obeyed::Answered(same(p, cells, remember, tables, t, a, b)),
+        Decoded::Collect(t) => Obeyed::Collects(t),
         Decoded::Refused(q) => Obeyed::Answered(rules::refused(q)),
     }
 }

@@ -1,4 +1,4 @@
--- One command and a block, from what `commands` and `epoch` promise.
+-- One command and a block, from what `commands`, `epoch` and `collect` promise.
 use Prim.Native.Nat.{ℕ, _+_, _*_, _≤_, _<_}
 use native.Mathlib.Omega.{arith}
 use mathlib.Core.Path.{_≡_, refl, sym, subst, subst₂, _∙_}
@@ -12,30 +12,32 @@ use Rattle.layout.specs.Words.{Words, words}
 use Rattle.promises.specs.Whole.{WholeFor, WholeWords}
 use Rattle.promises.specs.Promises.{DidHere, commandAt, size, RunAsked, Ran}
 use Rattle.promises.specs.Here.{did-anywhere}
-use Rattle.commands.specs.declared.Decoded.the-variants.{End}
+use Rattle.commands.specs.declared.Decoded.{Decoded}
+use Rattle.commands.specs.declared.Decoded.the-variants.{End, Collect}
 use Rattle.commands.specs.declared.Obeyed.{Obeyed}
-use Rattle.commands.specs.declared.Obeyed.the-variants.{Answered, Ends}
+use Rattle.commands.specs.declared.Obeyed.the-variants.{Answered, Ends, Collects}
 use Rattle.commands.specs.Decoding.{commandFor}
 use Rattle.commands.specs.Obeys.{LeftToCaller, Obeys}
 use Rattle.heap.specs.Looping.{Looped, looped-start, looped-more, looped-to, looped-ran, written}
 
 -- o is what `commands` gave for command x
-pub obeyed-answered : (p : Sizes) (o : Obeyed) {c m t c′ m′ t′ : List ℕ} {x : Command} {a : Answer} → Obeys p c m t x c′ m′ t′ o → o ≡ Answered a
-    → DidHere p (words c m t) x (words c′ m′ t′) a
-obeyed-answered p o {c} {m} {t} {c′} {m′} {t′} {x} did e = subst (Obeys p c m t x c′ m′ t′) e did
+module _ (p : Sizes) (o : Obeyed) {c m t c′ m′ t′ : List ℕ} {x : Command} (did : Obeys p c m t x c′ m′ t′ o) where
+  pub obeyed-answered : {a : Answer} → o ≡ Answered a → DidHere p (words c m t) x (words c′ m′ t′) a
+  obeyed-answered e = subst (Obeys p c m t x c′ m′ t′) e did
 
--- an end starts from the words as they were
-pub ends-ready : (p : Sizes) (o : Obeyed) (x : Command) {c m t c′ m′ t′ : List ℕ} {u : ℕ} → WholeFor p (words c m t) → Obeys p c m t x c′ m′ t′ o → o ≡ Ends u
-    → WholeFor p (words c′ m′ t′) × (u < p .threads)
-ends-ready p o x {c} {m} {t} {c′} {m′} {t′} {u} r did e =
-    let l : LeftToCaller p (words c m t) x (words c′ m′ t′) u = subst (Obeys p c m t x c′ m′ t′) e did in
-    (subst (WholeFor p) (sym (l .same)) r, l .thread)
+  pub left-end : {u : ℕ} → o ≡ Ends u → LeftToCaller p (words c m t) x (words c′ m′ t′) (Ends u) (End u)
+  left-end e = subst (Obeys p c m t x c′ m′ t′) e did
 
-pub ends-did : (p : Sizes) (o : Obeyed) {c m t c′ m′ t′ : List ℕ} {x : Command} {u : ℕ} {w : Words} {a : Answer} → Obeys p c m t x c′ m′ t′ o → o ≡ Ends u
-    → DidHere p (words c′ m′ t′) (commandFor (End u)) w a → DidHere p (words c m t) x w a
-ends-did p o {c} {m} {t} {c′} {m′} {t′} {x} {u} {w} {a} did e d =
-    let l : LeftToCaller p (words c m t) x (words c′ m′ t′) u = subst (Obeys p c m t x c′ m′ t′) e did in
-    subst₂ (λ (b : Words) (y : Command). DidHere p b y w a) (l .same) (sym (l .command)) d
+  pub left-collection : {u : ℕ} → o ≡ Collects u → LeftToCaller p (words c m t) x (words c′ m′ t′) (Collects u) (Collect u)
+  left-collection e = subst (Obeys p c m t x c′ m′ t′) e did
+
+-- an end or a collection starts from the words as they were
+pub left-whole : {p : Sizes} {w w′ : Words} {x : Command} {o : Obeyed} {d : Decoded} → WholeFor p w → LeftToCaller p w x w′ o d → WholeFor p w′
+left-whole {p} r l = subst (WholeFor p) (sym (l .same)) r
+
+pub left-did : {p : Sizes} {w w′ v : Words} {x : Command} {o : Obeyed} {d : Decoded} {a : Answer} → LeftToCaller p w x w′ o d → DidHere p w′ (commandFor d) v a
+    → DidHere p w x v a
+left-did {p} {v = v} {a = a} l did = subst₂ (λ (b : Words) (y : Command). DidHere p b y v a) (l .same) (sym (l .command)) did
 
 -- the same command
 pub did-same : {s : Sizes} {w w′ : Words} {x y : Command} {a : Answer} → DidHere s w x w′ a → x ≡ y → DidHere s w y w′ a

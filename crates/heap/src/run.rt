@@ -11,7 +11,7 @@ use rules::Answer;
 use rules::Command;
 use rules::Sizes;
 
-// One command: what `commands` answers, or the end of an epoch.
+// One command: what `commands` answers, the end of an epoch, or a collection, to which its thread means nothing.
 fn obey(
     p: Sizes,
     cells: &mut [u32],
@@ -29,6 +29,7 @@ fn obey(
     match o {
         Obeyed::Answered(a) => a,
         Obeyed::Ends(t) => epoch::end(p, cells, remember, tables, notes, layout::wide(t)),
+        Obeyed::Collects(_) => collect::collect(p, cells, remember, tables, notes),
     }
 }
 

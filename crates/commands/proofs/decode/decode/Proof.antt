@@ -2,10 +2,10 @@ use Prim.Native.Nat.{ℕ, _+_}
 use mathlib.Core.Path.{refl, sym, ap, _∙_}
 use mathlib.Core.Bool.{Bool, _&&_}
 use lib.Dec.{ltb, leb, eqb}
-use Rattle.rules.specs.Terms.{decode, start, end, new, copy, clear, load, store, read, write, same}
+use Rattle.rules.specs.Terms.{decode, start, end, new, copy, clear, load, store, read, write, same, collect}
 use Rattle.rules.specs.NeverFreeing.{operands}
 use Rattle.layout.specs.Cells.{most-is}
-use Rattle.commands.specs.declared.Decoded.the-variants.{End}
+use Rattle.commands.specs.declared.Decoded.the-variants.{End, Collect}
 use Rattle.commands.specs.Decoding.{checkedBy, arm, other-code}
 use native.Mathlib.Omega.{arith}
 use borrow.Author.Needs.{needs}
@@ -102,6 +102,15 @@ both-requires-14 c κs = search needs
 
 checked-requires-10 : tie.Need-checked-requires-10
 checked-requires-10 c κs = search needs
+
+both-requires-15 : tie.Need-both-requires-15
+both-requires-15 c κs = search needs
+
+both-requires-16 : tie.Need-both-requires-16
+both-requires-16 c κs = search needs
+
+checked-requires-11 : tie.Need-checked-requires-11
+checked-requires-11 c κs = search needs
 
 returns : tie.Need-returns
 unfolding operands
@@ -253,11 +262,29 @@ returns-10 c =
     (both14 .ensures ∙ ap (λ (z : Bool). z && eqb (wide4 .result) 0) (both13 .ensures)) (checked10 .ensures)
 
 returns-11 : tie.Need-returns-11
+unfolding operands
 returns-11 c =
+    let args = c .before .before .before .before .before .before .before .before .before .before .before .before .args in
+    let wide = c .before .before .before .before .before .before .before .before .before .before .before .wide in
+    let wide2 = c .before .before .before .before .before .before .before .before .before .before .wide2 in
+    let wide3 = c .before .before .before .before .before .before .before .before .before .wide3 in
+    let wide4 = c .before .before .before .before .before .before .before .before .wide4 in
+    let match = c .before .before .before .match in
+    let both15 = c .before .before .both15 in
+    let both16 = c .before .both16 in
+    let checked11 = c .checked11 in
+    arm (args .p) (args .m) collect (wide .result) (wide2 .result) (wide3 .result) (wide4 .result) (ap decode (match .keys11)) refl refl
+    (wide .ensures) (wide2 .ensures) (wide3 .ensures) (wide4 .ensures) _
+    (both16 .ensures ∙ ap (λ (z : Bool). z && eqb (wide4 .result) 0) (both15 .ensures))
+    (checked11 .ensures ∙ ap (λ (t : ℕ). checkedBy (ltb (wide .result) (args .p .threads)) (both16 .result) (Collect t)) (sym (wide .ensures)))
+
+returns-12 : tie.Need-returns-12
+returns-12 c =
     let args = c .before .before .before .before .before .before .before .before .before .args in
     let match = c .match in
-    other-code (args .p) (args .m) (match .rest .0 .0 .0 .0 .0 .0 .0 .0 .0 .1) (match .rest .0 .0 .0 .0 .0 .0 .0 .0 .1)
-    (match .rest .0 .0 .0 .0 .0 .0 .0 .1) (match .rest .0 .0 .0 .0 .0 .0 .1) (match .rest .0 .0 .0 .0 .0 .1) (match .rest .0 .0 .0 .0 .1)
+    other-code (args .p) (args .m) (match .rest .0 .0 .0 .0 .0 .0 .0 .0 .0 .0 .1)
+    (match .rest .0 .0 .0 .0 .0 .0 .0 .0 .0 .1) (match .rest .0 .0 .0 .0 .0 .0 .0 .0 .1) (match .rest .0 .0 .0 .0 .0 .0 .0 .1)
+    (match .rest .0 .0 .0 .0 .0 .0 .1) (match .rest .0 .0 .0 .0 .0 .1) (match .rest .0 .0 .0 .0 .1)
     (match .rest .0 .0 .0 .1) (match .rest .0 .0 .1) (match .rest .0 .1) (match .rest .1)
 
 pub decode-spec : {M : Type 1} → statement M
@@ -293,6 +320,9 @@ decode-spec =
     both-requires-13
     both-requires-14
     checked-requires-10
+    both-requires-15
+    both-requires-16
+    checked-requires-11
     returns
     returns-2
     returns-3
@@ -303,4 +333,5 @@ decode-spec =
     returns-8
     returns-9
     returns-10
-    returns-11)
+    returns-11
+    returns-12)

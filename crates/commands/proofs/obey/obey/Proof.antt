@@ -2,7 +2,7 @@
 use mathlib.Core.Path.{refl}
 use Rattle.commands.specs.declared.Decoded.the-variants.{Start, New, Copy, Clear, Load, Store, Read, Write, Same}
 use Rattle.pages.specs.Noted.{noted-kept}
-use Rattle.commands.specs.Obeys.{in-range, obeyed, ends, not-obeyed}
+use Rattle.commands.specs.Obeys.{in-range, obeyed, ends, collects, not-obeyed}
 use borrow.Author.Needs.{needs}
 use Rattle.commands.proofs.obey.obey.Statement.{statement}
 use Rattle.commands.proofs.obey.obey.Tie as tie
@@ -144,6 +144,9 @@ same-requires c κs =
 
 enum-known-d-11 : tie.Need-enum-known-d-11
 enum-known-d-11 c = search needs
+
+enum-known-d-12 : tie.Need-enum-known-d-12
+enum-known-d-12 c = search needs
 
 refused-requires : tie.Need-refused-requires
 refused-requires c κs = search needs
@@ -343,12 +346,22 @@ returns-10 c =
 
 returns-11 : tie.Need-returns-11
 returns-11 c =
+    let args = c .before .before .before .before .before .before .before .before .args in
+    let decode = c .before .before .before .decode in
+    let d11 = c .before .d11 in (
+      collects (args .p) (args .cells .now) (args .remember .now) (args .tables .now) (args .m) (decode .result) (decode .ensures) (d11 .given .0 .0)
+          (d11 .given .1),
+      c .before .before .before .before .before .before .before .before .pre .1,
+    )
+
+returns-12 : tie.Need-returns-12
+returns-12 c =
     let args = c .before .before .before .before .before .before .before .before .before .args in
     let pre = c .before .before .before .before .before .before .before .before .before .pre in
     let decode = c .before .before .before .before .decode in
-    let d11 = c .before .before .d11 in (
+    let d12 = c .before .before .d12 in (
       not-obeyed (args .p) (args .cells .now) (args .remember .now) (args .tables .now) (args .m) (decode .result) (decode .ensures) (pre .0)
-          (d11 .given .0 .0) (d11 .given .1) (c .refused .ensures),
+          (d12 .given .0 .0) (d12 .given .1) (c .refused .ensures),
       c .before .before .before .before .before .before .before .before .before .pre .1,
     )
 
@@ -377,6 +390,7 @@ obey-spec =
     enum-known-d-10
     same-requires
     enum-known-d-11
+    enum-known-d-12
     refused-requires
     same-length
     same-length-2
@@ -416,4 +430,5 @@ obey-spec =
     same-length-27
     same-length-28
     returns-10
-    returns-11)
+    returns-11
+    returns-12)
