@@ -225,8 +225,8 @@ static Times row(Workload w) {
     return t;
 }
 
-/* Growth: what an end costs without the check, for each survivor or each end, ours and the hand-written heap's. */
-static void end_of(Workload w, double times, double cost[2]) {
+/* Growth: what an end or a collection costs without the check, for each survivor, end or object, ours and the hand-written heap's. */
+static void cost_of(Workload w, double times, double cost[2]) {
     Times t = measure(&w);
     cost[0] = (t.ours - t.checks) / times;
     cost[1] = t.plain / times;
@@ -235,8 +235,8 @@ static void end_of(Workload w, double times, double cost[2]) {
 
 static void growth(const char *name, Workload small, double few, Workload large, double many) {
     double less[2], more[2];
-    end_of(small, few, less);
-    end_of(large, many, more);
+    cost_of(small, few, less);
+    cost_of(large, many, more);
     printf("| %s | %.1f | %.1f | %.2f | %.1f | %.1f | %.2f |\n", name, less[0], more[0], more[0] / less[0], less[1], more[1], more[1] / less[1]);
     fflush(stdout);
 }
@@ -271,6 +271,10 @@ static void by_heaps(void) {
     row(end_list("end of a list of 16,000, 160 survive", 1024, 16000, 160, FORWARDS));
     row(end_list("end of a list of 16,000, none survives", 1024, 16000, 0, FORWARDS));
     row(end_list("end of a list of 16,000, refused with 13", 1024, 16000, 16000, BACKWARDS));
+    row(collect_list("collect a list of 8,176, backwards, all kept", 1024, 8176, BACKWARDS));
+    row(collect_list("collect a list of 8,176, forwards, all kept", 1024, 8176, FORWARDS));
+    row(collect_half("collect a register of 8,176, every second dropped", 1024, 8176, 0));
+    row(collect_half("collect a register of 4,000 with 4,000 entries, every second dropped", 1024, 4000, 1));
     row(stores("stores that do not cross", 0, 0));
     row(stores("stores that cross", 1, 0));
     row(stores("stores that cross, 4,000 entries", 1, 4000));
@@ -302,7 +306,7 @@ static void by_heaps(void) {
 
 static void by_growth(void) {
     if (picked) return;
-    printf("\n| how the cost of an end grows, ns | ours, smaller | larger | growth | by hand, smaller | larger | growth |\n"
+    printf("\n| how the cost of an end and of a collection grows, ns | ours, smaller | larger | growth | by hand, smaller | larger | growth |\n"
            "|---|--:|--:|--:|--:|--:|--:|\n");
     growth("a survivor, 160 to 1,600, 1,024 pages", end_list("", 1024, 160, 160, BACKWARDS), 160, end_list("", 1024, 1600, 1600, BACKWARDS), 1600);
     growth("a survivor, 1,600 to 8,176, 1,024 pages", end_list("", 1024, 1600, 1600, BACKWARDS), 1600, end_list("", 1024, 8176, 8176, BACKWARDS),
@@ -312,6 +316,11 @@ static void by_growth(void) {
            8176);
     growth("an end of one page, 32 to 1,024 pages, others free", end_pages("", 32, 0), 16, end_pages("", 1024, 0), 16);
     growth("an end of one page, 32 to 1,024 pages, others in use", end_pages("", 32, 1), 16, end_pages("", 1024, 1), 16);
+    for (uint32_t objects = 1000; objects < 8000; objects *= 2) {
+        char name[80];
+        snprintf(name, sizeof name, "an object of a collection, %u,000 to %u,000, pages to fit", objects / 1000, objects / 500);
+        growth(name, collect_half("", objects / 16 + 2, objects, 0), objects, collect_half("", objects / 8 + 2, 2 * objects, 0), 2 * objects);
+    }
 }
 
 int main(int words, char **word) {

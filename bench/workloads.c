@@ -28,6 +28,7 @@ static void store(Stream *s, uint32_t t, uint32_t a, uint32_t f, uint32_t c) { a
 static void get(Stream *s, uint32_t t, uint32_t a, uint32_t f) { add(s, TALDREKU_READ, t, a, f, 0); }
 static void put(Stream *s, uint32_t t, uint32_t a, uint32_t f, uint32_t x) { add(s, TALDREKU_WRITE, t, a, f, x); }
 static void same(Stream *s, uint32_t t, uint32_t a, uint32_t b) { add(s, TALDREKU_SAME, t, a, b, 0); }
+static void collect(Stream *s, uint32_t t) { add(s, TALDREKU_COLLECT, t, 0, 0, 0); }
 
 void free_workload(Workload *w) {
     free(w->before.words);
@@ -105,7 +106,6 @@ Workload import_commands(const char *name, size_t block, uint32_t sheets, Import
 
 /* A list: variable 0 holds its newest object, variable 1 the one made before it, and variable 2 is to hold its head. */
 static void list(Stream *s, uint32_t objects, Links links, uint32_t survivors) {
-    start(s, 0);
     for (uint32_t i = 0; i < objects; i++) {
         make(s, 0, 0, 1, 1);
         if (links == BACKWARDS) store(s, 0, 0, 0, 1);
@@ -119,14 +119,42 @@ static void list(Stream *s, uint32_t objects, Links links, uint32_t survivors) {
 
 Workload make_list(const char *name, uint32_t objects, Links links) {
     Workload w = {.name = name, .threads = 1, .variables = 4, .depth = 1, .pages = 1024, .entries = 4096, .block = 1000};
+    start(&w.timed, 0);
     list(&w.timed, objects, links, objects);
     return w;
 }
 
 Workload end_list(const char *name, uint32_t pages, uint32_t objects, uint32_t survivors, Links links) {
     Workload w = {.name = name, .threads = 1, .variables = 4, .depth = 1, .pages = pages, .entries = 4096, .block = 1};
+    start(&w.before, 0);
     list(&w.before, objects, links, survivors);
     end(&w.timed, 0);
+    return w;
+}
+
+Workload collect_list(const char *name, uint32_t pages, uint32_t objects, Links links) {
+    Workload w = {.name = name, .threads = 1, .variables = 4, .depth = 1, .pages = pages, .entries = 4096, .block = 1};
+    list(&w.before, objects, links, objects);
+    collect(&w.timed, 0);
+    return w;
+}
+
+/* Variable 0 holds the newest object of the register and variable 1 the one kept before it; thread 1 has an object in an epoch. */
+Workload collect_half(const char *name, uint32_t pages, uint32_t objects, int crossing) {
+    Workload w = {.name = name, .threads = 2, .variables = 4, .depth = 1, .pages = pages, .entries = 4096, .block = 1};
+    Stream *s = &w.before;
+    start(s, 1);
+    make(s, 1, 0, 0, 1);
+    copy(s, 0, 2, 0, 1);
+    for (uint32_t i = 0; i < objects; i++) {
+        make(s, 0, 0, 2, 1);
+        if (crossing) store(s, 0, 0, 1, 2);
+        if (i % 2 != 0) continue;
+        store(s, 0, 0, 0, 1);
+        copy(s, 0, 1, 0, 0);
+    }
+    clear(s, 0, 0);
+    collect(&w.timed, 0);
     return w;
 }
 

@@ -38,6 +38,10 @@ Workload end_list(const char *name, uint32_t pages, uint32_t objects, uint32_t s
 Workload end_fifteen(const char *name, int many);
 /* Starts and ends 500 epochs with nothing in them. */
 Workload end_empty(const char *name, uint32_t pages);
+/* Collects a list in the control space that is kept whole, in a heap of so many pages; only the collection is timed, here and below. */
+Workload collect_list(const char *name, uint32_t pages, uint32_t objects, Links links);
+/* Collects a register of which every second object was dropped; each object may have a slot that crosses into an epoch. */
+Workload collect_half(const char *name, uint32_t pages, uint32_t objects, int crossing);
 /* Ends sixteen epochs of one page, of each of which one object survives, in a heap of so many pages, the others free or nearly all in use. */
 Workload end_pages(const char *name, uint32_t pages, int filled);
 

@@ -8,8 +8,8 @@
  *                 on it, and a program may use all threads of a heap from wherever it likes.
  * epoch, region   A thread starts and ends epochs, one inside the other; the outermost is its level 1. The objects made in an epoch lie in
  *                 its region, which ends with it.
- * control space   The region of no epoch. What a thread makes while it has no epoch open lies here. It never ends, and no object in it is
- *                 ever freed.
+ * control space   The region of no epoch. What a thread makes while it has no epoch open lies here. It never ends; a collection frees what
+ *                 nothing leads to any more.
  * page, cell      A page has 16 cells, each room for one object, and is free or one region's. A new object takes the first unused cell of the
  *                 page that its region has partly filled, else of the highest-numbered free page, so that a region of n objects uses n / 16
  *                 pages, rounded up. A cell without an object holds zero words.
@@ -31,6 +31,12 @@
  * and it moves to the outermost region that is called for. The objects that move are copied region by region, from the control space in, and
  * for each by the number of the cell they lie in, to the cell that a new object there would take; then the old pages become free.
  *
+ * A collection frees the objects of the control space, except those that a variable of any thread or a slot of an object in an open region
+ * leads to, directly or by way of objects of the control space. A slot of an open region counts while the region is open, whether or not
+ * anything leads to its object. What is kept slides together: by the numbers of their cells the objects fill the lowest-numbered of the control
+ * space's own pages, and its other pages become free. Variables and slots go on leading to the same objects. It needs no page and no entry, and
+ * may be asked for at any time, in the middle of epochs too.
+ *
  * Calls
  *
  * The caller asks for the three lengths, lends three arrays, has them prepared, and then runs blocks of commands on them and has reports
@@ -45,21 +51,21 @@
  * back. So calls on one heap are made one at a time, from any thread of the operating system, and different heaps are independent: calls on
  * them may be made at the same time. A heap may be copied, or written to a file, word for word. Every word that a call leaves follows from
  * what it was given: two heaps of the same sizes that ran the same blocks since they were prepared hold the same words within the lengths
- * asked for, so that dumps can be compared. A dump shows nothing of what an ended epoch freed: its end writes zeros where its objects lay. What
- * nothing leads to any more stays until its region ends, in the control space for good; words past the lengths are not cleared. A call takes
- * less than TALDREKU_STACK_BYTES of stack.
+ * asked for, so that dumps can be compared. A dump shows nothing of what an ended epoch or a collection freed: zeros are written where the
+ * objects lay. What nothing leads to any more stays until its region ends, in the control space until a collection; words past the lengths are
+ * not cleared. A call takes less than TALDREKU_STACK_BYTES of stack.
  *
  * How many pages and remember entries
  *
  * They stay as prepared. A page takes 1 KiB of the cells, an entry two words of the remember table. Prepare writes all of these, a run and a
  * report read them, used or not.
  *
- * Pages: as many as all regions use together at any time. The control space counts with all that it will ever hold, since it never shrinks; at
- * an end the survivors count where they lie and where they go, since they move before their old pages are free. For an import that has two
- * sheets of 1,000 objects open at a time and ends with 3,000 objects in the control space: 188 + 2 * 63 = 314.
+ * Pages: as many as all regions use together at any time. The control space shrinks by a collection alone, and counts with all that it comes to
+ * hold between two; at an end the survivors count where they lie and where they go, since they move before their old pages are free. For an
+ * import that has two sheets of 1,000 objects open at a time and ends with 3,000 objects in the control space: 188 + 2 * 63 = 314.
  *
- * Entries: the slots that cross at one time, those of objects that nothing leads to any more too, until their region ends. Slots into the
- * control space and inside one region take none. With 0 no slot may cross.
+ * Entries: the slots that cross at one time, those of objects that nothing leads to any more too, until their region ends or they are collected.
+ * Slots into the control space and inside one region take none. With 0 no slot may cross.
  */
 #ifndef TALDREKU_H
 #define TALDREKU_H
@@ -71,10 +77,10 @@
 extern "C" {
 #endif
 
-#define TALDREKU_VERSION "2.1.0"
+#define TALDREKU_VERSION "2.1.1"
 #define TALDREKU_VERSION_MAJOR 2
 #define TALDREKU_VERSION_MINOR 1
-#define TALDREKU_VERSION_PATCH 0
+#define TALDREKU_VERSION_PATCH 1
 
 /* The largest sizes. All but the entries are at least 1. */
 #define TALDREKU_MAX_THREADS 16
@@ -128,7 +134,8 @@ enum taldreku_code {
     TALDREKU_STORE = 7,          /* reference b of the object in a becomes variable c */
     TALDREKU_READ = 8,           /* value is number b of the object in a */
     TALDREKU_WRITE = 9,          /* number b of the object in a becomes c */
-    TALDREKU_SAME = 10           /* value 1 if variables a and b hold the same object or are both null, else 0 */
+    TALDREKU_SAME = 10,          /* value 1 if variables a and b hold the same object or are both null, else 0 */
+    TALDREKU_COLLECT = 11        /* collect the control space; any thread will do. Versions before 2.1.1 do not know it */
 };
 
 /* How many words each array needs; 0 if a size is out of range. The tables need two words more than in version 1. */
@@ -146,9 +153,9 @@ uint32_t taldreku_prepare(uint32_t threads, uint32_t variables, uint32_t depth, 
  * block is accepted.
  *
  * The block goes on after a refused command: let one that may be refused for room, with 13 or 14, be the last of its block, and it can be
- * tried again alone. Room comes back when an epoch ends, and the more so if variables that are no longer needed are cleared first; an entry
- * comes back also when null is stored in its slot. The whole heap is checked once for each call, so a few large blocks cost less than many
- * small ones. */
+ * tried again alone. Room comes back when an epoch ends or the control space is collected, and the more so if variables that are no longer
+ * needed are cleared first; an entry comes back also when null is stored in its slot. The whole heap is checked once for each call, so a few
+ * large blocks cost less than many small ones. */
 uint32_t taldreku_run(uint32_t *cells, size_t cells_words, uint32_t *remember, size_t remember_words,
                       uint32_t *tables, size_t tables_words, const uint32_t *block, size_t block_words,
                       uint32_t *answers, size_t answers_words);

@@ -23,7 +23,7 @@ impl Forever {
 
     /// Number and value.
     pub fn obey(&mut self, [code, t, a, b, c]: [u32; 5]) -> (u32, u32) {
-        if !(1..=10).contains(&code) {
+        if !(1..=11).contains(&code) {
             return (6, 0);
         }
         if t >= self.threads {
@@ -31,7 +31,7 @@ impl Forever {
         }
         // Which of a, b and c are variables, and which are not used.
         let (variables, unused): (&[u32], &[u32]) = match code {
-            1 | 2 => (&[], &[a, b, c]),
+            1 | 2 | 11 => (&[], &[a, b, c]),
             3 | 9 => (&[a], &[]),
             4 | 6 => (&[a, b], &[]),
             5 => (&[a], &[b, c]),
@@ -84,7 +84,9 @@ impl Forever {
             7 => self.objects[object].0[field] = self.variables[t][c as usize],
             8 => value = self.objects[object].1[field],
             9 => self.objects[object].1[field] = c,
-            _ => value = (self.variables[t][a as usize] == self.variables[t][b as usize]) as u32,
+            10 => value = (self.variables[t][a as usize] == self.variables[t][b as usize]) as u32,
+            // 02, W5: a collection changes nothing here.
+            _ => {}
         }
         (0, value)
     }

@@ -1,4 +1,4 @@
-//! The epoch heap of documents 01 and 02 (W2, W3) as a graph of objects.
+//! The epoch heap of documents 01 and 02 (W2, W3, W5) as a graph of objects.
 //!
 //! An object knows its region and its cell, a thread is a stack of open epochs, an epoch is the list of its objects. What is asked and
 //! counted goes by the graph: pages by the number of objects, crossing slots by looking at the slots. Which cells and pages those are
@@ -77,7 +77,7 @@ impl Heap {
 
     /// One command: code, thread, a, b, c. `Ok` has the value, `Err` the number of the first question answered "no".
     pub fn obey(&mut self, [code, thread, a, b, c]: [u32; 5]) -> Result<u32, u32> {
-        if code < 1 || code > 10 {
+        if code < 1 || code > 11 {
             return Err(6);
         }
         if thread >= self.limits.threads {
@@ -119,10 +119,11 @@ impl Heap {
                 self.get_mut(object).numbers[b_] = c;
                 Ok(0)
             }
-            _ => {
+            10 => {
                 let same = self.threads[t].variables[a_] == self.threads[t].variables[b_];
                 Ok(if same { 1 } else { 0 })
             }
+            _ => self.collect(),
         }
     }
 
@@ -130,7 +131,7 @@ impl Heap {
     fn operands_fit(&self, code: u32, a: u32, b: u32, c: u32) -> bool {
         let variable = |x: u32| x < self.limits.variables;
         match code {
-            1 | 2 => a == 0 && b == 0 && c == 0,
+            1 | 2 | 11 => a == 0 && b == 0 && c == 0,
             3 => variable(a) && u64::from(b) + u64::from(c) <= 14,
             4 => variable(a) && variable(b) && c < self.limits.threads,
             5 => variable(a) && b == 0 && c == 0,
@@ -228,13 +229,30 @@ impl Heap {
             self.members_mut(region).push(id);
         }
         self.pages.give_back(r);
-        for id in ending.freed {
+        self.free(ending.freed);
+        self.crossing = ending.crossing;
+        Ok(0)
+    }
+
+    /// A collection of the control space (02, W5). No question is left to ask: it takes no page, and no slot becomes crossing.
+    fn collect(&mut self) -> Result<u32, u32> {
+        let collecting = self.collecting();
+        let cells = self.pages.pack(Region::Control, collecting.kept.len());
+        for (&id, cell) in collecting.kept.iter().zip(cells) {
+            self.get_mut(id).cell = cell;
+        }
+        self.control = collecting.kept;
+        self.crossing -= collecting.freed.iter().map(|&id| self.crossing_slots_of(id)).sum::<usize>();
+        self.free(collecting.freed);
+        Ok(0)
+    }
+
+    fn free(&mut self, objects: Vec<Id>) {
+        for id in objects {
             self.objects[id] = None;
             self.unused.push(id);
             self.freed = self.freed.wrapping_add(1);
         }
-        self.crossing = ending.crossing;
-        Ok(0)
     }
 
     /// The control space first, then the open regions thread by thread, level by level.
@@ -261,6 +279,10 @@ impl Heap {
 
     pub fn crossing_slots(&self) -> usize {
         self.crossing
+    }
+
+    pub fn crossing_slots_of(&self, id: Id) -> usize {
+        self.references(id).iter().filter(|&&value| self.slot_crosses(id, value)).count()
     }
 
     pub fn made(&self) -> u32 {

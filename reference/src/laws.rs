@@ -1,11 +1,13 @@
-//! `laws COUNT SEED`: holds this folder's heap to documents 01 and 02 (W2, W3) in a second way, over generated scripts.
+//! `laws COUNT SEED`: holds this folder's heap to documents 01 and 02 (W2, W3, W5) in a second way, over generated scripts.
 //!
 //! After every command: the answer is that of the heap that never frees, 13 and 14 aside; the objects are paired with its objects; a
 //! refused command has changed nothing; the counts agree with what is found by looking; and objects made and freed are the new objects
 //! that were done and the objects of the heap that never frees which have lost their partner. Before every end: the survivors and their
-//! regions are worked out again, word for word as 01 defines them, holder by holder. After a new object, a store and an end: the cells are
-//! those of W3, found by the objects alone, and the words hold whole tables, read by the layout alone.
+//! regions are worked out again, word for word as 01 defines them, holder by holder. Before every collection: what it keeps is worked out
+//! again, round by round; a second one right after it would change nothing. After a new object, a store, an end and a collection: the cells
+//! are those of W3 and W5, found by the objects alone, and the words hold whole tables, read by the layout alone.
 
+mod collection;
 mod placement;
 
 use epochs::counted::commas;
@@ -22,7 +24,7 @@ const MOST_PAGES: u32 = 64;
 fn main() {
     let arguments: Vec<u64> = std::env::args().skip(1).map(|word| word.parse().expect("usage: laws COUNT SEED")).collect();
     let [count, seed] = arguments[..] else { panic!("usage: laws COUNT SEED") };
-    let (mut commands, mut ends) = (0, 0);
+    let (mut commands, mut ends, mut collections) = (0, 0, 0);
     for i in 0..count {
         let text = dump_script(seed + i).text;
         let mut lines = text.split(|&byte| byte == b'\n');
@@ -37,13 +39,20 @@ fn main() {
             let Some(words) = five_numbers(line) else { break };
             commands += 1;
             ends += usize::from(words[0] == 2);
+            collections += usize::from(words[0] == 11);
             if let Err(law) = both.step(words) {
                 println!("seed {}, line {}: {law}", seed + i, k + 2);
                 std::process::exit(1);
             }
         }
     }
-    println!("{} scripts, {} commands, {} of them ends, every law holds", commas(count as usize), commas(commands), commas(ends));
+    println!(
+        "{} scripts, {} commands, {} of them ends and {} collections, every law holds",
+        commas(count as usize),
+        commas(commands),
+        commas(ends),
+        commas(collections)
+    );
 }
 
 struct Both {
@@ -86,12 +95,13 @@ impl Both {
             self.new_objects = self.new_objects.wrapping_add(1);
             self.partners.insert(self.heap.variable(thread, a as usize).unwrap(), self.forever.objects.len() - 1);
         }
-        if answer.is_ok() && code == 2 {
+        if answer.is_ok() && [2, 11].contains(&code) {
             let live: BTreeSet<Id> = self.heap.ids().collect();
             self.partners.retain(|id, _| live.contains(id));
         }
-        if answer.is_ok() && [2, 3, 7].contains(&code) {
+        if answer.is_ok() && [2, 3, 7, 11].contains(&code) {
             match code {
+                11 => collection::collected(&before, &self.heap)?,
                 2 => placement::ended(&before, &self.heap, before.innermost(thread))?,
                 3 => placement::made(&before, &self.heap, self.heap.variable(thread, a as usize).unwrap())?,
                 _ => {}

@@ -1,6 +1,7 @@
 //! What the programs of this folder share: the heap as an object graph with its cells and pages, the lent words, the reading of lines, the
 //! making of scripts, and running two programs on them.
 
+pub mod collecting;
 pub mod counted;
 pub mod ending;
 pub mod flavours;
@@ -12,6 +13,7 @@ pub mod pages;
 pub mod pair;
 pub mod patterns;
 pub mod random;
+pub mod registers;
 pub mod rules;
 pub mod scripts;
 pub mod single;

@@ -1,4 +1,4 @@
-//! Pages: the region that each belongs to, its cells in use, and the cell that an object takes (02, W3).
+//! Pages: the region that each belongs to, its cells in use, and the cell that an object takes (02, W3 and W5).
 
 use crate::rules::Region;
 
@@ -45,5 +45,15 @@ impl Pages {
                 *page = FREE;
             }
         }
+    }
+    /// The region keeps so many objects: they fill the lowest-numbered of its pages, and the others become free. Gives their cells in order.
+    pub fn pack(&mut self, region: Region, objects: usize) -> Vec<usize> {
+        let mut cells = Vec::new();
+        for (place, page) in self.0.iter_mut().enumerate().filter(|(_, page)| page.owner == Some(region)) {
+            let used = CELLS_ON_PAGE.min(objects - cells.len());
+            cells.extend((0..used).map(|cell| CELLS_ON_PAGE * place + cell));
+            *page = if used == 0 { FREE } else { Page { owner: Some(region), used } };
+        }
+        cells
     }
 }

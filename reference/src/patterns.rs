@@ -25,6 +25,8 @@ pub enum Pattern {
     Overwrite,
     Clear,
     Probe,
+    Register,
+    Collect,
 }
 
 impl Writer {
@@ -71,6 +73,8 @@ impl Writer {
                 }
             }
             Pattern::Probe => self.probe(t),
+            Pattern::Register => self.register(t),
+            Pattern::Collect => self.gather(t),
         }
     }
 

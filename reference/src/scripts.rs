@@ -3,10 +3,9 @@
 //! A script is written with a heap at hand that obeys it, so that most commands can be chosen to be accepted, and the refused ones to be
 //! refused by the question that is meant. A flavour sets the sizes and how often each pattern is used.
 
-use crate::flavours::{Flavour, DUMPED, FLAVOURS};
+use crate::flavours::{Flavour, DUMPED, FLAVOURS, LONG};
 use crate::heap::{Heap, Limits};
 use crate::malformed::{sizes_out_of_range, spoil, KINDS, OUT_OF_RANGE};
-use crate::patterns::Pattern::*;
 use crate::random::Random;
 use crate::writer::Writer;
 
@@ -36,7 +35,7 @@ fn of_flavours(seed: u64, flavours: &'static [Flavour]) -> Script {
     let [threads, variables, depth, pages, entries] = flavour.sizes.map(|(low, high)| random.between(low, high) as u32);
     let limits = Limits { threads, variables, depth, pages, entries };
     let most = random.between(flavour.commands.0, flavour.commands.1);
-    let mut writer = Writer { random, heap: Heap::new(limits), steps: Vec::new(), serial: 0, most, spare_control: false };
+    let mut writer = Writer { random, heap: Heap::new(limits), steps: Vec::new(), serial: 0, most };
     while !writer.full() {
         let pattern = writer.random.weighted(flavour.patterns);
         writer.play(pattern);
@@ -49,23 +48,22 @@ fn of_flavours(seed: u64, flavours: &'static [Flavour]) -> Script {
     written(&mut writer.random, flavour.name, limits, &writer.steps, turn)
 }
 
-/// A well-formed script of at least so many commands on small tables. One thread opens epochs, works in them, clears its variables and
-/// ends them all, again and again; nothing reaches the control space, so that there is always room.
+/// A well-formed script of at least so many commands on small tables. One thread opens epochs and works in them, clears its variables, ends
+/// all epochs and collects the control space, again and again, so that there is always room.
 pub fn long(seed: u64, commands: usize) -> Vec<u8> {
     let limits = Limits { threads: 1, variables: 8, depth: 4, pages: 16, entries: 64 };
-    let mut writer =
-        Writer { random: Random::new(seed), heap: Heap::new(limits), steps: Vec::new(), serial: 0, most: commands, spare_control: true };
+    let mut writer = Writer { random: Random::new(seed), heap: Heap::new(limits), steps: Vec::new(), serial: 0, most: commands };
     while !writer.full() {
         writer.start(0);
         while writer.heap.free_pages() > 10 && writer.heap.crossing_slots() < 40 {
-            let pattern =
-                writer.random.weighted(&[(Any, 60), (Tangle, 8), (List, 3), (Ring, 3), (Open, 3), (Close, 4), (Probe, 6), (Fan, 2)]);
+            let pattern = writer.random.weighted(LONG);
             writer.play(pattern);
         }
         for v in 0..limits.variables as usize {
             writer.clear(0, v);
         }
         while writer.heap.depth(0) > 0 && writer.end(0) {}
+        writer.collect(0);
     }
     let mut text = "1 8 4 16 64\n".to_string();
     for [code, t, a, b, c] in writer.steps {

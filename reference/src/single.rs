@@ -5,7 +5,7 @@ use crate::writer::Writer;
 impl Writer {
     /// One command that is likely to be done.
     pub fn any(&mut self, t: usize) {
-        let code = self.random.weighted(&[(1, 5), (2, 5), (3, 24), (4, 12), (5, 5), (6, 12), (7, 22), (8, 6), (9, 5), (10, 4)]);
+        let code = self.random.weighted(&[(1, 5), (2, 5), (3, 24), (4, 12), (5, 5), (6, 12), (7, 22), (8, 6), (9, 5), (10, 4), (11, 3)]);
         let a = self.some_variable();
         match code {
             1 => {
@@ -55,6 +55,9 @@ impl Writer {
                 let b = self.some_variable();
                 self.same(t, a, b);
             }
+            11 => {
+                self.collect(t);
+            }
             _ => {
                 let (references, numbers) = self.some_shape();
                 self.make_known(t, a, references, numbers);
@@ -72,12 +75,12 @@ impl Writer {
         let bad_variable = self.random.pick(&[variables, variables + 1, huge.max(variables)]);
         match self.random.between(6, 12) {
             6 => {
-                let code = self.random.pick(&[0, 11, 12, 13, 14, 15, 16, 255, 256, 257, 4_294_967_295]);
+                let code = self.random.pick(&[0, 12, 13, 14, 15, 16, 255, 256, 257, 267, 4_294_967_295]);
                 let thread = self.random.pick(&[thread, threads, huge]);
                 self.say([code, thread, late, late, 0]);
             }
             7 => {
-                let code = self.random.between(1, 10) as u32;
+                let code = self.random.between(1, 11) as u32;
                 let thread = self.random.pick(&[threads, threads + 1, huge.max(threads)]);
                 self.say([code, thread, late, 0, late]);
             }
@@ -165,6 +168,9 @@ impl Writer {
             [10, t, bad, a, 0],
             [10, t, a, bad, 0],
             [10, t, a, a, huge],
+            [11, t, 1, 0, 0],
+            [11, t, 0, huge, 0],
+            [11, t, 0, 0, 1],
         ];
         let words = self.random.pick(&choices);
         self.say(words);

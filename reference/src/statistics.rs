@@ -1,5 +1,6 @@
 //! What generated scripts reach: how often each situation occurs, and in what share of the scripts.
 
+use crate::collecting::Collecting;
 use crate::counted::{commas, share};
 use crate::ending::Ending;
 use crate::heap::{Heap, Id};
@@ -35,10 +36,10 @@ impl Statistics {
 
     pub fn script(&mut self, script: &Script) {
         self.scripts += 1;
-        self.once("H flavours", script.flavour);
-        self.once("G malformed", script.fault.clone().unwrap_or("nothing".to_string()));
+        self.once("I flavours", script.flavour);
+        self.once("H malformed", script.fault.clone().unwrap_or("nothing".to_string()));
         if script.text.last() != Some(&b'\n') {
-            self.once("F texts", "no last line feed");
+            self.once("G texts", "no last line feed");
         }
         self.play(&script.text);
         for key in std::mem::take(&mut self.reached) {
@@ -49,14 +50,14 @@ impl Statistics {
     fn play(&mut self, text: &[u8]) {
         let mut lines = text.split(|&byte| byte == b'\n');
         let Some(limits) = lines.next().and_then(program_sizes) else {
-            return self.once("F texts", "prints sizes");
+            return self.once("G texts", "prints sizes");
         };
         self.once(
-            "F texts",
+            "G texts",
             format!("N {}", ["is 0", "1 to 4", "over 4"][(limits.entries as usize).min(1) + (limits.entries > 4) as usize]),
         );
-        self.once("F texts", format!("P {}", if limits.pages <= 2 { "at most 2" } else { "over 2" }));
-        self.once("F texts", format!("T {}", if limits.threads >= 8 { "at least 8" } else { "below 8" }));
+        self.once("G texts", format!("P {}", if limits.pages <= 2 { "at most 2" } else { "over 2" }));
+        self.once("G texts", format!("T {}", if limits.threads >= 8 { "at least 8" } else { "below 8" }));
         let mut heap = Heap::new(limits);
         let mut rest: Vec<&[u8]> = lines.collect();
         if rest.last().is_some_and(|line| line.is_empty()) {
@@ -64,17 +65,17 @@ impl Statistics {
         }
         for line in rest {
             let Some(words) = five_numbers(line) else {
-                return self.once("F texts", "prints line k");
+                return self.once("G texts", "prints line k");
             };
             self.commands += 1;
             self.command(&mut heap, words);
         }
-        self.once("F texts", "prints a report");
-        self.once("F texts", format!("open epochs at the end: {}", (0..limits.threads as usize).any(|t| heap.depth(t) > 0)));
+        self.once("G texts", "prints a report");
+        self.once("G texts", format!("open epochs at the end: {}", (0..limits.threads as usize).any(|t| heap.depth(t) > 0)));
     }
 
     fn command(&mut self, heap: &mut Heap, words: [u32; 5]) {
-        let before = if words[0] == 2 || words[0] == 7 { Some(heap.clone()) } else { None };
+        let before = if [2, 7, 11].contains(&words[0]) { Some(heap.clone()) } else { None };
         match heap.obey(words) {
             Err(number) => {
                 let what = match (number, words[0]) {
@@ -95,6 +96,7 @@ impl Statistics {
                     (1, _) => self.once("B done", format!("start of level {}", heap.depth(t))),
                     (2, Some(before)) => self.end(&before, heap, t),
                     (7, Some(before)) => self.store(&before, heap, words),
+                    (11, Some(before)) => self.collection(&before, heap, t),
                     _ => {}
                 }
                 if heap.free_pages() == 0 {
@@ -116,9 +118,9 @@ impl Statistics {
                 "not crossing"
             }
         };
-        self.once("E stores", format!("{} over {}", kind(after), kind(before)));
+        self.once("F stores", format!("{} over {}", kind(after), kind(before)));
         if kind(before) == "crossing" && kind(after) == "crossing" && before.crossing_slots() == before.limits.entries as usize {
-            self.once("E stores", "crossing over crossing with all entries used");
+            self.once("F stores", "crossing over crossing with all entries used");
         }
     }
 
@@ -210,6 +212,86 @@ impl Statistics {
         for kinds in by_kind.values() {
             let label =
                 if kinds.len() == 1 { format!("held only by {}", kinds.first().unwrap()) } else { "held by several kinds".to_string() };
+            self.once(group, label);
+        }
+    }
+
+    /// What a collection keeps and frees, and what moves.
+    fn collection(&mut self, before: &Heap, after: &Heap, t: usize) {
+        let group = "E collections";
+        let Collecting { kept, freed } = before.collecting();
+        let pages = |heap: &Heap| heap.pages().iter().filter(|page| page.owner == Some(Region::Control)).count();
+        self.once(group, format!("objects kept: {}", range(kept.len())));
+        self.once(group, format!("objects freed: {}", range(freed.len())));
+        self.once(group, format!("pages given back: {}", range(pages(before) - pages(after))));
+        self.once(group, format!("pages before: {}", range(pages(before))));
+        if before == after {
+            self.once(group, "nothing changes");
+        }
+        let moved = |id: &Id| before.cell(*id) != after.cell(*id);
+        self.add(group, "objects that move", kept.iter().copied().filter(moved).count());
+        // The pages of other regions that an object passes.
+        let passed = |id: &Id| {
+            let between = &before.pages()[after.cell(*id) / 16..=before.cell(*id) / 16];
+            between.iter().any(|page| page.owner.is_some_and(|region| region != Region::Control))
+        };
+        self.add(group, "objects that move past another region's page", kept.iter().copied().filter(passed).count());
+        self.add(group, "crossing slots of objects kept", kept.iter().map(|&id| before.crossing_slots_of(id)).sum());
+        self.add(group, "crossing slots of objects freed", freed.iter().map(|&id| before.crossing_slots_of(id)).sum());
+        let order = |heap: &Heap| {
+            let mut crossing: Vec<Id> = after.ids().filter(|&id| heap.crossing_slots_of(id) > 0).collect();
+            crossing.sort_by_key(|&id| heap.cell(id));
+            crossing
+        };
+        if order(before) != order(after) {
+            self.once(group, "entries change their order");
+        }
+        self.chains(before, &kept, &freed);
+        self.holders_in_control(before, &kept, t);
+    }
+
+    /// Slots inside the control space, from and to what is kept and what is freed.
+    fn chains(&mut self, before: &Heap, kept: &[Id], freed: &[Id]) {
+        let group = "E collections";
+        let freed: BTreeSet<Id> = freed.iter().copied().collect();
+        for &id in kept.iter().chain(&freed) {
+            for &to in before.references(id).iter().flatten().filter(|&&to| before.region(to) == Region::Control) {
+                self.once(
+                    group,
+                    match (freed.contains(&id), freed.contains(&to)) {
+                        (true, true) => "slots from freed to freed",
+                        (true, false) => "slots from freed to kept",
+                        _ if before.cell(to) > before.cell(id) => "slots from kept to kept, up",
+                        _ if before.cell(to) < before.cell(id) => "slots from kept to kept, down",
+                        _ => "slots from kept to itself",
+                    },
+                );
+            }
+        }
+    }
+
+    /// Who holds what is kept.
+    fn holders_in_control(&mut self, before: &Heap, kept: &[Id], t: usize) {
+        let group = "E collections";
+        let mut by_kind: BTreeMap<Id, BTreeSet<&str>> = BTreeMap::new();
+        let reachable = reachable(before);
+        for thread in 0..before.limits.threads as usize {
+            for &id in before.variables(thread).iter().flatten() {
+                by_kind.entry(id).or_default().insert(if thread == t { "the thread's variables" } else { "another thread's variables" });
+            }
+        }
+        for id in before.ids().filter(|&id| before.region(id) != Region::Control) {
+            let kind = if reachable.contains(&id) { "slots of open regions" } else { "slots of objects nobody reaches" };
+            for &to in before.references(id).iter().flatten() {
+                by_kind.entry(to).or_default().insert(kind);
+            }
+        }
+        for id in kept {
+            let label = match by_kind.get(id) {
+                None => "kept by a chain alone".to_string(),
+                Some(kinds) if kinds.len() == 1 => format!("held only by {}", kinds.first().unwrap()),
+                Some(_) => "held by several kinds".to_string(),
+            };
             self.once(group, label);
         }
     }

@@ -1,8 +1,7 @@
-//! A script being written, and the heap that has obeyed it so far: the ten commands by name, and the choice of operands.
+//! A script being written, and the heap that has obeyed it so far: the eleven commands by name, and the choice of operands.
 
 use crate::heap::{Heap, Id};
 use crate::random::Random;
-use crate::rules::Region;
 
 pub struct Writer {
     pub random: Random,
@@ -12,40 +11,20 @@ pub struct Writer {
     pub serial: u32,
     /// So many commands are enough.
     pub most: usize,
-    /// Leaves out commands that would bring an object into the control space, which never shrinks.
-    pub spare_control: bool,
 }
 
 impl Writer {
     /// Adds a command; says whether it was done.
     pub fn say(&mut self, words: [u32; 5]) -> bool {
-        if self.spare_control && self.grows_control(words) {
-            return false;
-        }
         self.steps.push(words);
         self.heap.obey(words).is_ok()
-    }
-
-    fn grows_control(&self, [code, thread, ..]: [u32; 5]) -> bool {
-        let t = thread as usize;
-        if thread >= self.heap.limits.threads {
-            return false;
-        }
-        match (code, self.heap.depth(t)) {
-            (3, 0) => true,
-            (2, 1..) => {
-                let ending = self.heap.ending(t);
-                ending.survivors.iter().any(|&id| ending.regions[id] == Some(Region::Control))
-            }
-            _ => false,
-        }
     }
 
     pub fn full(&self) -> bool {
         self.steps.len() >= self.most
     }
 
-    // The ten commands by name.
+    // The eleven commands by name.
 
     pub fn start(&mut self, t: usize) -> bool {
         self.say([1, t as u32, 0, 0, 0])
@@ -76,6 +55,9 @@ impl Writer {
     }
     pub fn same(&mut self, t: usize, a: usize, b: usize) -> bool {
         self.say([10, t as u32, a as u32, b as u32, 0])
+    }
+    pub fn collect(&mut self, t: usize) -> bool {
+        self.say([11, t as u32, 0, 0, 0])
     }
 
     /// A new object with a number of its own, if it has number fields.

@@ -176,6 +176,23 @@ uint32_t used_on(const Lent *l, uint32_t page) { return owner_of(l, l->tables[3]
 uint32_t *made_word(const Lent *l) { return l->tables + taldreku_tables_length(l->tables[0], l->tables[1], l->tables[2], l->tables[3]) - 2; }
 uint32_t *freed_word(const Lent *l) { return made_word(l) + 1; }
 
+int entries_rise(const Lent *l) {
+    uint32_t n = 0, most = l->remember[0], *slots = l->remember + 2, *regions = slots + most;
+    for (uint32_t page = 0; page < l->tables[3]; page++)
+        for (uint32_t word = 0; word < 16 * used_on(l, page); word++) {
+            uint32_t at = 256 * page + word, references = l->cells[at - at % 16] / 16, x = l->cells[at];
+            if (at % 16 < 2 || at % 16 >= 2 + references || x == 0) continue;
+            uint32_t to = owner_of(l, (x - 1) / 16);
+            if (to == 1 || to == owner_of(l, page)) continue;
+            if (n == most || slots[n] != at || regions[n] != to) return 0;
+            n++;
+        }
+    if (l->remember[1] != n) return 0;
+    for (; n < most; n++)
+        if (slots[n] != 0 || regions[n] != 0) return 0;
+    return 1;
+}
+
 void drop(Lent *copy) {
     free(copy->cells);
     free(copy->remember);

@@ -68,6 +68,8 @@ uint32_t owner_of(const Lent *l, uint32_t page);
 uint32_t used_on(const Lent *l, uint32_t page);        /* cells in use */
 uint32_t *made_word(const Lent *l);                     /* objects made and objects freed, the last two words of the tables */
 uint32_t *freed_word(const Lent *l);
+/* Whether the remember table has the crossing slots as the cells show them, from the first word to the last, and zeros after them. */
+int entries_rise(const Lent *l);
 /* The report, as the words themselves say it: by the depths, the owners and uses of the pages, every slot of every cell in use, and the last two
  * words of the tables. */
 struct taldreku_reported count_words(const Lent *l, struct taldreku_row *rows);
@@ -81,6 +83,7 @@ size_t stack_of(void (*work)(void));
 void test_calls(void);
 void test_commands(void);
 void test_cleared(void);
+void test_collect(void);
 void test_counters(void);
 void test_order(void);
 void test_reports(void);

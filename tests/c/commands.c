@@ -71,13 +71,13 @@ static void done(Edge edge) {
 
 static void refusals(Edge edge) {
     heap = prepared((Sizes){2, 4, 2, 2, 1}, 16, edge);
-    REFUSED(TALDREKU_CODE, {0, 0, 0, 0, 0}, {11, 0, 0, 0, 0}, {0xffffffff, 9, 9, 9, 9}, {0x80000001, 0, 0, 0, 0});
-    REFUSED(TALDREKU_THREAD, {1, 2, 0, 0, 0}, {3, 0xffffffff, 9, 9, 9}, {10, 2, 4, 0, 0});
+    REFUSED(TALDREKU_CODE, {0, 0, 0, 0, 0}, {12, 0, 0, 0, 0}, {0xffffffff, 9, 9, 9, 9}, {0x80000001, 0, 0, 0, 0});
+    REFUSED(TALDREKU_THREAD, {1, 2, 0, 0, 0}, {3, 0xffffffff, 9, 9, 9}, {10, 2, 4, 0, 0}, {11, 2, 0, 0, 0});
     REFUSED(TALDREKU_OPERAND, {1, 0, 1, 0, 0}, {1, 0, 0, 1, 0}, {1, 0, 0, 0, 1}, {2, 0, 1, 0, 0}, {2, 0, 0, 1, 0}, {2, 0, 0, 0, 1},
             {3, 0, 4, 0, 0}, {3, 0, 0, 15, 0}, {3, 0, 0, 0, 15}, {3, 0, 0, 8, 7}, {3, 0, 0, 0xffffffff, 1}, {3, 0, 0, 0x80000000, 0x80000000},
             {4, 0, 4, 0, 0}, {4, 0, 0, 4, 0}, {4, 0, 0, 0, 2}, {5, 0, 4, 0, 0}, {5, 0, 0, 1, 0}, {5, 0, 0, 0, 1}, {6, 0, 4, 0, 0},
             {6, 0, 0, 4, 0}, {7, 0, 4, 0, 0}, {7, 0, 0, 0, 4}, {8, 0, 4, 0, 0}, {8, 0, 0, 0, 1}, {9, 0, 4, 0, 0}, {10, 0, 4, 0, 0},
-            {10, 0, 0, 4, 0}, {10, 0, 0, 0, 1});
+            {10, 0, 0, 4, 0}, {10, 0, 0, 0, 1}, {11, 0, 1, 0, 0}, {11, 0, 0, 1, 0}, {11, 0, 0, 0, 1});
     REFUSED(TALDREKU_NULL, {6, 0, 0, 1, 99}, {7, 0, 0, 99, 1}, {8, 0, 0, 99, 0}, {9, 0, 0, 99, 1});
     REFUSED(TALDREKU_NO_EPOCH, {2, 0, 0, 0, 0}, {2, 1, 0, 0, 0});
 
@@ -142,10 +142,11 @@ static void spare_words(Edge edge) {
     static uint32_t random[5 * 400], answers[2 * 400];
     for (size_t i = 0; i < 400; i++) {
         uint32_t *m = random + 5 * i;
-        m[0] = 1 + draw() % 10, m[1] = draw() % 2, m[2] = draw() % 4, m[3] = draw() % 4, m[4] = draw() % 4;
-        if (m[0] <= 2) m[2] = 0;
-        if (m[0] <= 2 || m[0] == 5) m[3] = 0;
-        if (m[0] <= 2 || m[0] == 5 || m[0] == 8 || m[0] == 10) m[4] = 0;
+        m[0] = 1 + draw() % 11, m[1] = draw() % 2, m[2] = draw() % 4, m[3] = draw() % 4, m[4] = draw() % 4;
+        int alone = m[0] <= 2 || m[0] == 11;        /* without an operand but the thread */
+        if (alone) m[2] = 0;
+        if (alone || m[0] == 5) m[3] = 0;
+        if (alone || m[0] == 5 || m[0] == 8 || m[0] == 10) m[4] = 0;
     }
     CHECK(run(&heap, random, 5 * 400, answers, 2 * 400) == TALDREKU_DONE);
     for (size_t i = 0; i < 400; i++) given(answers[2 * i]);

@@ -201,11 +201,12 @@ static void refusals(Edge edge) {
     check_counters(4, 0, 4);
     count_from(4294967295);
 
-    refused(TALDREKU_CODE, 11, 0, 0, 0, 0);
+    refused(TALDREKU_CODE, 12, 0, 0, 0, 0);
     refused(TALDREKU_THREAD, TALDREKU_NEW, 2, 0, 0, 0);
     refused(TALDREKU_OPERAND, TALDREKU_NEW, 0, 4, 0, 0);
     refused(TALDREKU_OPERAND, TALDREKU_NEW, 0, 0, 8, 7);
     refused(TALDREKU_OPERAND, TALDREKU_END, 0, 1, 0, 0);
+    refused(TALDREKU_OPERAND, TALDREKU_COLLECT, 0, 1, 0, 0);
     refused(TALDREKU_NULL, TALDREKU_READ, 0, 3, 0, 0);
     refused(TALDREKU_FIELD, TALDREKU_READ, 0, 2, 1, 0);
     refused(TALDREKU_DEPTH, TALDREKU_START, 0, 0, 0, 0);

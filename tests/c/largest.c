@@ -140,6 +140,38 @@ static void walk(void) {
         }
 }
 
+/* The variables that the walk, on our heap alone, has set. */
+static void clear_walked(void) {
+    for (uint32_t thread = 0; thread < THREADS; thread++) {
+        add(&block, TALDREKU_CLEAR, thread, OBJECT, 0, 0);
+        add(&block, TALDREKU_CLEAR, thread, LOOK, 0, 0);
+    }
+}
+
+/* Collections of the full control space: the first moves nearly all objects, and frees none; the second keeps the lists of every second thread. */
+static void collections(void) {
+    struct taldreku_row rows[TALDREKU_MAX_ROWS];
+    clear_walked();
+    add(&block, TALDREKU_COLLECT, FILLER, 0, 0, 0);
+    both();
+    compare();
+    struct taldreku_reported r = report(&ours, rows, TALDREKU_MAX_ROWS);
+    CHECK(rows[0].objects == KEPT && r.freed == FILLING);
+    walk();
+
+    clear_walked();
+    for (uint32_t thread = 1; thread < THREADS; thread += 2)
+        for (uint32_t v = 0; v < LARGEST.variables; v++) add(&block, TALDREKU_CLEAR, thread, v, 0, 0);
+    add(&block, TALDREKU_COLLECT, 0, 0, 0, 0);
+    both();
+    compare();
+    r = report(&ours, rows, TALDREKU_MAX_ROWS);
+    uint32_t gone = THREADS / 2 * LEVELS * LIST;
+    CHECK(rows[0].objects == KEPT - gone && rows[0].pages == (KEPT - gone + 15) / 16 && r.freed == FILLING + gone);
+    CHECK(r.free_pages == TALDREKU_MAX_PAGES - rows[0].pages);
+    check_report(&ours);
+}
+
 /* ---- the stack of each call */
 
 static uint32_t stack_number, stack_answers[TALDREKU_ANSWER_WORDS] = {99, 99};
@@ -147,6 +179,12 @@ static uint32_t stack_number, stack_answers[TALDREKU_ANSWER_WORDS] = {99, 99};
 static void ends_one(void) {
     static const uint32_t end_one[TALDREKU_COMMAND_WORDS] = {TALDREKU_END, 1, 0, 0, 0};
     stack_number = taldreku_run(ours.cells, ours.cells_words, ours.remember, ours.remember_words, ours.tables, ours.tables_words, end_one,
+                                TALDREKU_COMMAND_WORDS, stack_answers, TALDREKU_ANSWER_WORDS);
+}
+
+static void collects_all(void) {
+    static const uint32_t collect[TALDREKU_COMMAND_WORDS] = {TALDREKU_COLLECT, 0, 0, 0, 0};
+    stack_number = taldreku_run(ours.cells, ours.cells_words, ours.remember, ours.remember_words, ours.tables, ours.tables_words, collect,
                                 TALDREKU_COMMAND_WORDS, stack_answers, TALDREKU_ANSWER_WORDS);
 }
 
@@ -165,11 +203,11 @@ static void prepares_all(void) {
 static void nothing(void) { stack_number = TALDREKU_DONE; }
 
 static void stack(void) {
-    void (*works[])(void) = {reports_all, ends_one, prepares_all};
+    void (*works[])(void) = {reports_all, ends_one, collects_all, prepares_all};
     begin("stack");
     ours = prepared(LARGEST, 0, AT_END), plain = lend(LARGEST, 0, AT_END);
     /* 300 objects whose second slots point to the outermost level go to the control space: so many new entries are sorted at once, in the
-     * arrays that take most of the stack */
+     * arrays that take most of the stack; the collection after it moves them all once more */
     add(&block, TALDREKU_NEW, 0, REGISTER, TALDREKU_MAX_FIELDS, 0);
     add(&block, TALDREKU_START, 1, 0, 0, 0);
     add(&block, TALDREKU_NEW, 1, LOOK, 0, 0);
@@ -186,7 +224,7 @@ static void stack(void) {
     empty(&block);
     CHECK(ours.remember[1] == 301);
     size_t before = stack_of(nothing), most = 0;
-    for (size_t i = 0; i < 3; i++) {
+    for (size_t i = 0; i < sizeof works / sizeof works[0]; i++) {
         size_t bytes = stack_of(works[i]) - before;
         CHECK(stack_number == TALDREKU_DONE && bytes < TALDREKU_STACK_BYTES);
         if (bytes > most) most = bytes;
@@ -204,6 +242,7 @@ void test_largest(void) {
     fill();
     ends();
     walk();
+    collections();
     end();
     stack();
     discard(&block);

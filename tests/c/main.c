@@ -25,6 +25,7 @@ int main(void) {
     test_cleared();
     test_counters();
     test_order();
+    test_collect();
     test_reports();
     test_largest();
     test_streams();

@@ -116,24 +116,6 @@ static void survivors(Edge edge) {
 
 /* ---- entries */
 
-/* Whether the remember table has the crossing slots as the cells show them, from the first word to the last, and zeros after them. */
-static int entries_rise(void) {
-    uint32_t n = 0, most = heap.remember[0], *slots = heap.remember + 2, *regions = slots + most;
-    for (uint32_t page = 0; page < heap.tables[3]; page++)
-        for (uint32_t word = 0; word < 16 * used_on(&heap, page); word++) {
-            uint32_t at = 256 * page + word, references = heap.cells[at - at % 16] / 16, x = heap.cells[at];
-            if (at % 16 < 2 || at % 16 >= 2 + references || x == 0) continue;
-            uint32_t to = owner_of(&heap, (x - 1) / 16);
-            if (to == 1 || to == owner_of(&heap, page)) continue;
-            if (n == most || slots[n] != at || regions[n] != to) return 0;
-            n++;
-        }
-    if (heap.remember[1] != n) return 0;
-    for (; n < most; n++)
-        if (slots[n] != 0 || regions[n] != 0) return 0;
-    return 1;
-}
-
 enum { HOLDERS = 4, FIELDS = 14, ONE = HOLDERS, OTHER, OWN, NOTHING, VARIABLES };
 
 /* Four objects of one region with all slots null, and variables with objects of two other regions, of its own, and null. */
@@ -158,7 +140,7 @@ static void stores(Edge edge) {
     for (uint32_t i = 0; i < STORES; i++) {
         uint32_t number = answer(&heap, TALDREKU_STORE, 0, draw() % HOLDERS, draw() % FIELDS, ONE + draw() % 4, &value);
         CHECK(number == TALDREKU_DONE || (number == TALDREKU_ENTRIES && heap.remember[1] == MOST));
-        CHECK(entries_rise());
+        CHECK(entries_rise(&heap));
         refused += number != TALDREKU_DONE;
     }
     CHECK(refused > 0 && refused < STORES / 2);
@@ -166,7 +148,7 @@ static void stores(Edge edge) {
     /* the objects move, and the slots with them */
     for (uint32_t thread = 0; thread < 3; thread++) {
         obey_next(&heap, &block, TALDREKU_END, thread, 0, 0, 0);
-        CHECK(entries_rise());
+        CHECK(entries_rise(&heap));
     }
     CHECK(heap.remember[1] == 0);
     release();
@@ -205,7 +187,7 @@ static void damaged(Edge edge) {
     for (uint32_t i = 0; i < COUNT; i++) add(&block, TALDREKU_STORE, 0, i % HOLDERS, 5 * i % FIELDS, i % 5 == 0 ? OTHER : ONE);
     obey_all(&heap, &block);
     uint32_t *slots = heap.remember + 2, *regions = slots + MOST, kept[2 * MOST];
-    CHECK(heap.remember[1] == COUNT && entries_rise());
+    CHECK(heap.remember[1] == COUNT && entries_rise(&heap));
     whole();
     memcpy(kept, slots, sizeof kept);
     for (uint32_t i = 0; i < COUNT; i++)

@@ -11,15 +11,15 @@ enum { STREAMS = 60, BLOCKS = 12, COMMANDS = 1500 };
 
 static uint32_t between(uint32_t least, uint32_t most) { return least + draw() % (most - least + 1); }
 
-/* Mostly operands that are there; ends are rarer than starts, so that regions fill. */
+/* Mostly operands that are there; ends and collections are rarer than starts, so that regions fill. */
 static void draw_command(Block *b, Sizes s) {
-    static const uint32_t codes[] = {1, 2, 3, 3, 3, 3, 3, 3, 4, 4, 5, 6, 6, 7, 7, 7, 7, 7, 8, 9, 10};
-    uint32_t code = draw() % 200 == 0 ? draw() % 12 : codes[draw() % (sizeof codes / sizeof codes[0])];
+    static const uint32_t codes[] = {1, 2, 3, 3, 3, 3, 3, 3, 4, 4, 5, 6, 6, 7, 7, 7, 7, 7, 8, 9, 10, 11};
+    uint32_t code = draw() % 200 == 0 ? draw() % 13 : codes[draw() % (sizeof codes / sizeof codes[0])];
     uint32_t thread = draw() % (s.threads + (draw() % 200 == 0));
     uint32_t v = draw() % s.variables, w = draw() % s.variables, f = draw() % 3;
-    if (code == 2 && draw() % 4 != 0) code = 3;
+    if ((code == 2 || code == 11) && draw() % 4 != 0) code = 3;
     switch (code) {
-    case TALDREKU_START: case TALDREKU_END: add(b, code, thread, 0, 0, 0); break;
+    case TALDREKU_START: case TALDREKU_END: case TALDREKU_COLLECT: add(b, code, thread, 0, 0, 0); break;
     case TALDREKU_NEW: add(b, code, thread, v, between(1, 7), between(1, 7)); break;
     case TALDREKU_COPY: add(b, code, thread, v, w, draw() % s.threads); break;
     case TALDREKU_CLEAR: add(b, code, thread, v, 0, 0); break;
