@@ -22,7 +22,6 @@ use Rattle.laws.specs.SlideLaws.{ownBelow, filled-at}
 use Rattle.laws.specs.RulesLaws.{control-pos, collected, graph-collected}
 use Rattle.layout.specs.Cells.{pageCells}
 use Rattle.layout.specs.Words.{Words, ownerIn, usedIn, freedIn, homeIn, pagesIn, pages-count, page-there, graphOf, heapOf}
-use Rattle.promises.specs.Whole.{WholeFor}
 use Rattle.promises.specs.StandsFor.{StandsFor}
 use Rattle.promises.specs.Promises.{DidHere}
 use Rattle.promises.specs.Agreed.{targets-agree}
@@ -116,9 +115,8 @@ module _ (s : Sizes) (w w₁ : Words) (cell : ℕ → ℕ) (st : StandsFor s w�
   compact = record { whole = st .whole; held = held-again; full = full-again; counts = counts-again }
 
 -- COLLECTING TWICE, by whichever threads, is collecting once
-pub collected-twice : (s : Sizes) (w w₁ w₂ : Words) (t u : ℕ) (a b : Answer) → WholeFor s w → t < s .threads → u < s .threads
-    → DidHere s w (record { code = 11; thread = t; a = 0; b = 0; c = 0 }) w₁ a → DidHere s w₁ (record { code = 11; thread = u; a = 0; b = 0; c = 0 }) w₂ b → w₂ ≡ w₁
-collected-twice s w w₁ w₂ t u a b k th uh d e =
+pub collected-twice : (s : Sizes) (w w₁ w₂ : Words) (t u : ℕ) (a b : Answer) → t < s .threads → u < s .threads → DidHere s w (collectOf t) w₁ a → DidHere s w₁ (collectOf u) w₂ b → w₂ ≡ w₁
+collected-twice s w w₁ w₂ t u a b th uh d e =
     let st = subst (λ (h : Regioned). StandsFor s w₁ h (d .next .cell)) (step-collected s w t th) (d .next .stands) in
     let q = compact s w w₁ (d .next .cell) st in
     e .words ∙ ap (λ (h : Regioned). laid s h w₁) (step-collected s w₁ u uh ∙ collected-again s w₁ q) ∙ sym (whole-laid s w₁ (st .whole))
