@@ -9,7 +9,7 @@
  * epoch, region   A thread starts and ends epochs, one inside the other; the outermost is its level 1. The objects made in an epoch lie in
  *                 its region, which ends with it.
  * control space   The region of no epoch. What a thread makes while it has no epoch open lies here. It never ends; a collection frees what
- *                 nothing leads to any more.
+ *                 no variable and no open region leads to.
  * page, cell      A page has 16 cells, each room for one object, and is free or one region's. A new object takes the first unused cell of the
  *                 page that its region has partly filled, else of the highest-numbered free page, so that a region of n objects uses n / 16
  *                 pages, rounded up. A cell without an object holds zero words.

@@ -3,10 +3,10 @@
 -- the stages, and the cell of each object then
 pub mod Numbering
 -- the tables after them, then the cells
-pub mod Tables
+pub mod TablesAfter
 pub mod Sliding
 -- the places that the rules give, and the promise
-pub mod Places
-pub mod Collected
+pub mod PlacesByRules
+pub mod CollectDid
 -- what each stage asks for
-pub mod Asked
+pub mod StagesAsk

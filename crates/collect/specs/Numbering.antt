@@ -3,7 +3,7 @@
 use mathlib.Core.Path.{_≡_, sym, ap, subst, _∙_}
 use mathlib.Core.Logic.{_≢_, _⊎_, inl, inr, ⊎-elim}
 use mathlib.Core.List.{List}
-use Prim.Native.Nat.{ℕ, suc, _/_, _%_, _<_}
+use Prim.Native.Nat.{ℕ, _/_, _%_, _<_}
 use native.Mathlib.Decide.{ℕ-discrete, decLt}
 use native.Mathlib.Numerals.{add-one}
 use native.Mathlib.Omega.{arith}
@@ -14,8 +14,7 @@ use Rattle.rules.specs.Regions.{control}
 use Rattle.laws.specs.Collected.{kept-target}
 use Rattle.laws.specs.RulesLaws.{control-pos}
 use Rattle.layout.specs.Places.{Room}
-use Rattle.layout.specs.Cells.{workAt, workOf, pageOf, placeOf, firstOn, pageCells}
-use Rattle.layout.specs.Marks.{marked}
+use Rattle.layout.specs.Cells.{workAt, workOf, pageOf, placeOf, pageCells}
 use Rattle.layout.specs.Objects.{begins-page}
 use Rattle.layout.specs.Words.{Words, ownerIn, graphOf}
 use Rattle.promises.specs.Whole.{WholeFor}
@@ -39,18 +38,16 @@ pub record Keeping (s : Sizes) (w w₁ : Words) : Type 0 where
 
 -- and the first n of l are the pages of the control space, and the K survivors are numbered in W₂
 pub record Numbering (s : Sizes) (w w₁ : Words) (n : ℕ) (l W₂ : List ℕ) (K : ℕ) : Type 0 where
-  pub whole : WholeFor s w
-  pub room : Room s (length (w .tables))
-  pub marks : Marked s w (space s w) w₁
+  pub keeping : Keeping s w w₁
   pub list : Lists (λ page. ownerIn s w page ≡ control) (s .pages) n l
   pub numbered : Numbered s l (w₁ .tables) (w₁ .cells) W₂ K
 
 module _ {s : Sizes} {w w₁ : Words} {n : ℕ} {l W₂ : List ℕ} {K : ℕ} (a : Numbering s w w₁ n l W₂ K) where
   pub keeps : KeepsNamed s w (space s w)
-  keeps = region-keeps s w (a .whole) control control-pos
+  keeps = region-keeps s w (a .keeping .whole) control control-pos
 
   pub marks-listed : MarksListed s n l (w₁ .tables)
-  marks-listed = record { rises = a .list .rises; small = a .marks .small; none = unlisted (a .marks) (a .list) }
+  marks-listed = record { rises = a .list .rises; small = a .keeping .marks .small; none = unlisted (a .keeping .marks) (a .list) }
 
   -- a page is listed, or another region's
   pub which : (page : ℕ) → page < s .pages → ((j : ℕ) × (j < n) × (getD l j 0 ≡ page)) ⊎ (ownerIn s w page ≢ control)
@@ -66,10 +63,10 @@ module _ {s : Sizes} {w w₁ : Words} {n : ℕ} {l W₂ : List ℕ} {K : ℕ} (a
   other-page page z j h e = z (ap (ownerIn s w) (sym e) ∙ a .list .each j h)
 
   pub survivor-kept : (c : ℕ) → Survivor s w (space s w) c → KeptCell s (w₁ .tables) c
-  survivor-kept c v = (begins-page s (w .cells) (w .tables) c (v .used), a .marks .survives c (v .used) (v .within) (v .goes))
+  survivor-kept c v = (begins-page s (w .cells) (w .tables) c (v .used), a .keeping .marks .survives c (v .used) (v .within) (v .goes))
 
   pub kept-survivor : (c : ℕ) → KeptCell s (w₁ .tables) c → Survivor s w (space s w) c
-  kept-survivor c k = marked-survivor (a .marks) c (k .0) (k .1)
+  kept-survivor c k = marked-survivor (a .keeping .marks) c (k .0) (k .1)
 
   -- survivors stay in the control space
   pub survivor-goes : (c : ℕ) → Survivor s w (space s w) c → space s w .goes c ≡ control
@@ -80,7 +77,7 @@ module _ {s : Sizes} {w w₁ : Words} {n : ℕ} {l W₂ : List ℕ} {K : ℕ} (a
     outside-idle =
         a .numbered .same (workAt c)
         (λ d k z. o .out (subst (λ (x : ℕ). ownerIn s w (pageOf x) ≡ control) (let q : d ≡ c = omega arith in q) (kept-survivor d k .within)))
-        ∙ outside-work (a .marks) (a .whole) c o
+        ∙ outside-work (a .keeping .marks) (a .keeping .whole) c o
 
     pub outside-still : placed W₂ c ≡ c
     outside-still = placed-still W₂ c outside-idle

@@ -1,10 +1,10 @@
 -- The cells after a collection: each object that lives on has its words in its cell, with references that lead to the cells of what they named; no
 -- other object is there, and the cells that are not in use are zero.
-use mathlib.Core.Path.{_≡_, refl, sym, ap, ap₂, subst, _∙_}
-use mathlib.Core.Logic.{_≢_, _⊎_, inl, inr, ⊎-elim}
+use mathlib.Core.Path.{_≡_, sym, ap, subst, _∙_}
+use mathlib.Core.Logic.{_≢_, _⊎_, ⊎-elim}
 use mathlib.Core.List.{List}
 use Prim.Native.Nat.{ℕ, _+_, _*_, _/_, _%_, _≤_, _<_}
-use native.Mathlib.Decide.{ℕ-discrete, decLt}
+use native.Mathlib.Decide.{decLt}
 use native.Mathlib.Omega.{arith}
 use lib.ListN.{length, getD}
 use Rattle.lists.specs.Bits.{bitAt}
@@ -14,15 +14,14 @@ use Rattle.rules.specs.declared.Sizes.{Sizes}
 use Rattle.rules.specs.Regions.{control}
 use Rattle.laws.specs.SameRules.{renamed}
 use Rattle.layout.specs.Places.{cellsWords, usedOf, markOf, varCount}
-use Rattle.layout.specs.Cells.{headAt, workAt, fieldAt, wordAt, headOf, workOf, fieldOf, refsOf, fieldCount, roomFor, room-is, pageOf, placeOf, cellOn, cellOf, pageAt, firstOn, pageCells, cellWords, work-there}
+use Rattle.layout.specs.Cells.{headAt, workAt, fieldAt, wordAt, headOf, workOf, fieldOf, refsOf, fieldCount, roomFor, room-is, pageOf, placeOf, cellOn, cellOf, pageAt, pageCells, cellWords}
 use Rattle.layout.specs.declared.Kind.the-variants.{Reference}
 use Rattle.layout.specs.Marks.{marked}
-use Rattle.layout.specs.Objects.{InUse, NotInUse, in-use?, begins-page, begins-used, used-begins, begins-there, work-used, Slot, field-slot, slot-word, slot-low, objects-apart}
+use Rattle.layout.specs.Objects.{InUse, NotInUse, begins-page, begins-used, used-begins, work-used, Slot, field-slot, slot-word, slot-low, objects-apart}
 use Rattle.layout.specs.Words.{Words, words, Begins, BeginsIn, ownerIn, headIn, refCount}
 use Rattle.promises.specs.Whole.{UnusedWhole}
 use Rattle.promises.specs.Reading.{ref-room}
-use Rattle.promises.specs.Ends.{Outside, Survivor, Lives, outside-lives, survivor-lives, lives-how}
-use Rattle.mark.specs.Marks.{Kept}
+use Rattle.promises.specs.Ends.{Outside, Survivor, Lives, outside-lives, survivor-lives}
 use Rattle.settle.specs.Rewrite.{forwarded, Rewritten, heads-same, link-same}
 use Rattle.settle.specs.RewriteSlots.{Variables}
 use Rattle.slide.specs.Ranks.{rank, newPlace, KeptCell, place-taken}
@@ -31,7 +30,7 @@ use Rattle.slide.specs.Trimmed.{leftFor, Trimmed}
 use Rattle.ended.specs.Evacuated.{SameObject, Placement}
 use Rattle.ending.specs.Copied.{placed, forwarded-placed}
 use Rattle.collect.specs.Numbering.{space, Numbering, marks-listed, which, other-page, survivor-kept, kept-survivor, survivor-goes, outside-idle, outside-still, placeFor, survivor-placed, number, page-listed, page-is, place-is, page-low, number-low, page-own, by-kind, placed-apart}
-use Rattle.collect.specs.Tables.{Tallied, owner₂, used₂, mark₂, other-same, own-used, own-owner}
+use Rattle.collect.specs.TablesAfter.{SpaceCounted, used₂, mark₂, other-same, own-used, own-owner}
 
 -- a page is listed once
 listed-once : {P n : ℕ} {l : List ℕ} → Rises P n l → (i j : ℕ) → i < n → j < n → getD l i 0 ≡ getD l j 0 → i ≡ j
@@ -72,7 +71,7 @@ module _ {s : Sizes} {w w₁ : Words} {n : ℕ} {l W₂ : List ℕ} {K : ℕ} (a
   -- a word of a cell other than word 1
   word₂ : (c i : ℕ) → i < cellWords → i ≢ 1 → getD W₂ (wordAt c i) 0 ≡ getD (w .cells) (wordAt c i) 0
   word₂ c i b ne =
-      a .numbered .same (wordAt c i) (λ d k z. ne (omega arith)) ∙ a .marks .kept .cells (wordAt c i) (λ d k z. ne (omega arith))
+      a .numbered .same (wordAt c i) (λ d k z. ne (omega arith)) ∙ a .keeping .marks .kept .cells (wordAt c i) (λ d k z. ne (omega arith))
 
   head₂ : (c : ℕ) → headOf W₂ c ≡ headIn w c
   head₂ c =
@@ -105,7 +104,7 @@ module _ {s : Sizes} {w w₁ : Words} {n : ℕ} {l W₂ : List ℕ} {K : ℕ} (a
 
     slot₃ : (c f : ℕ) → BeginsIn s w c → f < refCount w c → fieldOf W₃ c f ≡ renamed (placed W₂) (fieldOf (w .cells) c f)
     slot₃ c f u m =
-        let room = ref-room s w (a .whole) c f u m in
+        let room = ref-room s w (a .keeping .whole) c f u m in
         R .moved (fieldAt c f) (field-slot s W₂ T₂ c f (begins₂ c u) (omega (arith, room, ap roomFor (head₂ c))) (omega (arith, m, refs₂ c)))
         ∙ ap (forwarded W₂) (field₂ c f room) ∙ forwarded-placed W₂ (fieldOf (w .cells) c f)
 
@@ -125,8 +124,8 @@ module _ {s : Sizes} {w w₁ : Words} {n : ℕ} {l W₂ : List ℕ} {K : ℕ} (a
     unused₃ q u =
         R .same q (λ o. u .unused (in-use q (slot-word s W₂ T₂ q o .0)))
         ∙ a .numbered .same q (λ c k z. u .unused (used-at q c (kept-survivor a c k .used) z))
-        ∙ a .marks .cells q (λ c z b e. u .unused (used-at q c b z))
-        ∙ a .whole .unused q u
+        ∙ a .keeping .marks .cells q (λ c z b e. u .unused (used-at q c b z))
+        ∙ a .keeping .whole .unused q u
       where
         in-use : (q : ℕ) → InUse s T₂ (cellOf q) → InUse s (w .tables) (cellOf q)
         in-use q v = record { page = v .page; place = omega (arith, v .place, used₂ a Y (pageAt q) (v .page)) }
@@ -181,7 +180,7 @@ module _ {s : Sizes} {w w₁ : Words} {n : ℕ} {l W₂ : List ℕ} {K : ℕ} (a
         ap (λ (x : ℕ). getD W₅ x 0) (z (placed W₂ c)) ∙ word₅ c (2 + f) q (omega (arith, m, room-is (headIn w c))) (λ e. omega arith) ∙ ap (λ (x : ℕ). getD W₃ x 0) (sym (z c))
 
     pub slot₅ : (c f : ℕ) → Lives s w (space s w) c → f < refCount w c → fieldOf W₅ (placed W₂ c) f ≡ renamed (placed W₂) (fieldOf (w .cells) c f)
-    slot₅ c f q m = field₅ c f q (ref-room s w (a .whole) c f (q .used) m) ∙ slot₃ c f (q .used) m
+    slot₅ c f q m = field₅ c f q (ref-room s w (a .keeping .whole) c f (q .used) m) ∙ slot₃ c f (q .used) m
 
     work₅ : (c : ℕ) → Lives s w (space s w) c → workOf W₅ (placed W₂ c) ≡ 0
     work₅ c q =
@@ -206,14 +205,14 @@ module _ {s : Sizes} {w w₁ : Words} {n : ℕ} {l W₂ : List ℕ} {K : ℕ} (a
         ∙ S .same x (λ c k e. omega (arith, page-low a c (kept-survivor a c k)))
         ∙ R .same x (λ o. omega (arith, slot-low s W₂ T₂ x o))
         ∙ a .numbered .same x (λ c k e. omega (arith, k .0))
-        ∙ a .marks .cells x (λ c z u e. omega (arith, begins-page s (w .cells) (w .tables) c u))
+        ∙ a .keeping .marks .cells x (λ c z u e. omega (arith, begins-page s (w .cells) (w .tables) c u))
 
     pub size₅ : length W₅ ≡ length (w .cells)
-    size₅ = Z .cells-size ∙ S .size ∙ R .size ∙ a .numbered .size ∙ a .marks .kept .cells-length
+    size₅ = Z .cells-size ∙ S .size ∙ R .size ∙ a .numbered .size ∙ a .keeping .marks .kept .cells-length
 
     -- ---- where objects are
 
-    module _ {f : ℕ} {T₄ : List ℕ} (C : Tallied s K f T₃ T₄) (M : List ℕ) where
+    module _ {f : ℕ} {T₄ : List ℕ} (C : SpaceCounted s K f T₃ T₄) (M : List ℕ) where
       abbrev w′ : Words
       w′ = words W₅ M T₄
 

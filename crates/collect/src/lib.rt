@@ -2,7 +2,6 @@
 // stand in word 1 of their cells then; rewrite the variables and the slots of all cells in use by these; slide the survivors to their places; give back
 // the cells and the pages that they leave; count; and tell the remember table anew. It takes no page and no entry more, so nothing is refused.
 ghost use mathlib.Core.List.{List};
-ghost use mathlib.Core.Path.{_≡_};
 ghost use Prim.Native.Nat.{ℕ, _-_, _<_, _≤_};
 ghost use lib.ListN.{length};
 ghost use Rattle.rules.specs.Regions.{control};
@@ -14,7 +13,7 @@ ghost use Rattle.promises.specs.Promises.{DidHere};
 ghost use Rattle.pages.specs.Noted.{Noted};
 ghost use Rattle.ended.specs.CollectedDid.{collectOf};
 ghost use Rattle.collect.specs.Numbering.{Keeping};
-ghost use Rattle.collect.specs.Tables.{Tallied};
+ghost use Rattle.collect.specs.TablesAfter.{SpaceCounted};
 use rules::Answer;
 use rules::Sizes;
 
@@ -22,7 +21,7 @@ use rules::Sizes;
 fn tally(p: Sizes, tables: &mut [u32], kept: usize)
     requires { ⌜ Room p (length (now tables)) ⌝ }
     requires { ⌜ kept ≤ countOf p (now tables) control ⌝ }
-    ensures { λ _. ⌜ Tallied p kept (countOf p (now (tables .entry)) control - kept) (now (tables .entry)) (now (tables .exit)) ⌝ }
+    ensures { λ _. ⌜ SpaceCounted p kept (countOf p (now (tables .entry)) control - kept) (now (tables .entry)) (now (tables .exit)) ⌝ }
 {
     let freed = layout::tables::count(p, tables, 1) - kept as u32;
     layout::tables::set_count(p, tables, 1, kept as u32);

@@ -14,28 +14,30 @@ use Rattle.rules.specs.Regions.{control}
 use Rattle.rules.specs.Graph.{Graph, target, ended, freedBy}
 use Rattle.rules.specs.Pages.{Page, Pages, freePage, nthPage, filled, filledBy}
 use Rattle.rules.specs.Rules as ru
-use Rattle.rules.specs.Rules.{Counters, Regioned, counted, graph, slides, slid}
+use Rattle.rules.specs.Rules.{Counters, Regioned, counted, graph, homeOf, slides, slid}
+use Rattle.laws.specs.GraphLaws.{Alive}
 use Rattle.laws.specs.EndLaws.{home-went}
 use Rattle.laws.specs.Counters.{counted-add}
-use Rattle.laws.specs.Collected.{again}
-use Rattle.laws.specs.SlideLaws.{ownBelow, filled-at}
+use Rattle.laws.specs.Collected.{home-kept, again}
+use Rattle.laws.specs.SlideLaws.{ownBelow, filled-at, own-more}
 use Rattle.laws.specs.RulesLaws.{control-pos, collected, graph-collected}
-use Rattle.layout.specs.Cells.{pageCells}
-use Rattle.layout.specs.Words.{Words, ownerIn, usedIn, freedIn, homeIn, pagesIn, pages-count, page-there, graphOf, heapOf}
+use Rattle.layout.specs.Cells.{pageOf, pageCells}
+use Rattle.layout.specs.Words.{Words, BeginsIn, ownerIn, usedIn, freedIn, homeIn, pagesIn, pages-count, page-there, graphOf, heapOf}
 use Rattle.promises.specs.StandsFor.{StandsFor}
 use Rattle.promises.specs.Promises.{DidHere}
-use Rattle.promises.specs.Agreed.{targets-agree}
+use Rattle.promises.specs.Reading.{used-home}
+use Rattle.promises.specs.Agreed.{targets-agree, cell-used}
 use Rattle.promises.specs.WordsOf.{laid}
 use Rattle.promises.specs.Laid.{whole-laid}
 use Rattle.ended.specs.CollectedDid.{collectOf, after-collect, collect-accepted}
-use Rattle.demand.specs.Compact.{Compact, below-own, collected-again}
+use Rattle.demand.specs.Compact.{Compact, collected-again}
 
 -- ---- the pages of the control space that objects fill
 
 module _ (ps : Pages) where
   below-rises : (i j : ℕ) → i < j → nthPage ps i .owner ≡ control → ownBelow control ps i < ownBelow control ps j
   unfolding ownBelow
-  below-rises i j l e = omega (arith, below-own ps i e, sum-mono (λ d. bit (eqb (nthPage ps d .owner) control)) (suc i) j (omega arith))
+  below-rises i j l e = omega (arith, own-more control ps i e, sum-mono (λ d. bit (eqb (nthPage ps d .owner) control)) (suc i) j (omega arith))
 
   module _ (n : ℕ) where
     abbrev left : ℕ → ℕ
@@ -120,3 +122,13 @@ collected-twice s w w₁ w₂ t u a b th uh d e =
     let st = subst (λ (h : Regioned). StandsFor s w₁ h (d .next .cell)) (step-collected s w t th) (d .next .stands) in
     let q = compact s w w₁ (d .next .cell) st in
     e .words ∙ ap (λ (h : Regioned). laid s h w₁) (step-collected s w₁ u uh ∙ collected-again s w₁ q) ∙ sym (whole-laid s w₁ (st .whole))
+
+-- NO PAGE THAT HOLDS A KEPT OBJECT GOES BACK: whatever is there after a collection begins in a cell in use, on a page of the region that it lay in
+pub kept-page : (s : Sizes) (w w₁ : Words) (t : ℕ) (a : Answer) → t < s .threads → (d : DidHere s w (collectOf t) w₁ a) → (x : ℕ) → Alive (ended s (graph (heapOf s w)) control) x
+    → BeginsIn s w₁ (d .next .cell x) × (ownerIn s w₁ (pageOf (d .next .cell x)) ≡ homeOf (heapOf s w) x)
+kept-page s w w₁ t a th d x l =
+    let st = subst (λ (h : Regioned). StandsFor s w₁ h (d .next .cell)) (step-collected s w t th) (d .next .stands) in
+    let same = graph-collected s (heapOf s w) in
+    let b : Alive (graph (collected s (heapOf s w))) x = λ z. l (sym (ap (λ (g : Graph). g .home x) same) ∙ z) in
+    let u = cell-used s w₁ (collected s (heapOf s w)) (d .next .cell) st x b in
+    (u, sym (used-home s w₁ (d .next .cell x) u) ∙ st .partners .home x b ∙ ap (λ (g : Graph). g .home x) same ∙ home-kept s (graph (heapOf s w)) x l)

@@ -20,7 +20,7 @@ use Rattle.rules.specs.Rules as ru
 use Rattle.rules.specs.Rules.{Regioned, counted, graph, objectAt, goalOf, goals, slides, slid, moreFreed}
 use Rattle.laws.specs.EndLaws.{home-stayed, home-went}
 use Rattle.laws.specs.Counters.{living, living-ended}
-use Rattle.laws.specs.SlideLaws.{slides-same, slides-count, slid-still, slid-place, ownBelow, owned-at, filled-long, filled-at}
+use Rattle.laws.specs.SlideLaws.{slides-same, slides-count, slid-still, slid-place, ownBelow, owned-at, filled-long, filled-at, own-more, own-same}
 use Rattle.laws.specs.RulesLaws.{Sound, sound-after, control-pos, collected, graph-collected}
 use Rattle.layout.specs.Cells.{pageCells, pageOf, placeOf, cellOn, page-on}
 use Rattle.layout.specs.Objects.{InUse, begins-used, begins-on}
@@ -39,17 +39,6 @@ pub record Compact (s : Sizes) (w : Words) : Type 0 where
   pub held : (x : ℕ) → homeIn s w x ≡ control → target s (graphOf s w) control x ≡ control
   pub full : (i j : ℕ) → i < j → j < s .pages → ownerIn s w i ≡ control → ownerIn s w j ≡ control → usedIn s w i ≡ pageCells
   pub counts : counted (freedIn s w) ≡ freedIn s w
-
--- ---- the pages of the control space
-
-module _ (ps : Pages) where
-  pub below-own : (i : ℕ) → nthPage ps i .owner ≡ control → ownBelow control ps (suc i) ≡ ownBelow control ps i + 1
-  unfolding ownBelow
-  below-own i e = ap (λ (b : Bool). ownBelow control ps i + bit b) (eq-eqb (nthPage ps i .owner) control e)
-
-  below-other : (i : ℕ) → (nthPage ps i .owner ≡ control → ⊥) → ownBelow control ps (suc i) ≡ ownBelow control ps i
-  unfolding ownBelow
-  below-other i n = ap (λ (b : Bool). ownBelow control ps i + bit b) (ne-eqb (nthPage ps i .owner) control n) ∙ omega arith
 
 -- ---- a collection keeps the homes
 
@@ -149,7 +138,7 @@ module _ (s : Sizes) (w : Words) (k : Compact s w) where
           omega (
             arith,
             rest,
-            below-own ps i (owner-there i low ∙ z),
+            own-more control ps i (owner-there i low ∙ z),
             sum-first (λ j. bit (lies (16 * i + j))) (usedIn s w i) 16 (λ j h. ap bit (place-own i j low h z)),
             k .full i y (omega arith) l z e,
           )
@@ -157,7 +146,7 @@ module _ (s : Sizes) (w : Words) (k : Compact s w) where
           omega (
             arith,
             rest,
-            below-other ps i (λ z. n (sym (owner-there i low) ∙ z)),
+            own-same control ps i (λ z. n (sym (owner-there i low) ∙ z)),
             sum-none (λ j. bit (lies (16 * i + j))) 16 (λ j h. ap bit (place-other i j low h n)),
           )
 

@@ -1,4 +1,4 @@
--- Where objects go at an end is read from the words before and after: no two maps are right.
+-- Where objects go at an end or a collection is read from the words before and after: no two maps are right.
 use Prim.Native.Nat.{ℕ, zero, suc, _<_}
 use native.Mathlib.Omega.{arith}
 use native.Mathlib.Nat.{eq-zero-or-pos}

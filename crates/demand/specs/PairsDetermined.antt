@@ -87,7 +87,7 @@ module _ {s : Sizes} {w w₁ : Words} {m : Command} {a : Answer} (k : WholeFor s
       go (yes z) = effect-living (m .thread) (meaningOf m .effect) (change .done z) p p₁ l (d .done z)
       go (no n) = kept-living (change .refused n) p p₁ l (d .refused n)
 
-  -- two moves of the same end give the same pairs
+  -- two moves of the same end or collection give the same pairs
   moved-same : (r : ℕ) → 0 < r → (f g : ℕ → ℕ) → Moves s w r w₁ f → Moves s w r w₁ g → (p : List ℕ) → Living s w p → map f p ≡ map g p
   moved-same r pos f g mf mg [] l = refl
   moved-same r pos f g mf mg (v ∷ p) l =

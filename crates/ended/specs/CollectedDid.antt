@@ -1,14 +1,13 @@
 -- A collection keeps the promise of code 11 (02, W5).
-use Prim.Native.Nat.{ℕ, _≤_, _<_}
+use Prim.Native.Nat.{ℕ, _<_}
 use native.Mathlib.Omega.{arith}
 use mathlib.Core.Path.{_≡_, refl, sym, ap, ap₂, subst, _∙_}
 use mathlib.Core.Bool.{Bool}
 use lib.Seq.{ext-getD}
-use lib.Dec.{leb}
 use borrow.Author.Tests.{lt-ltb, le-leb}
 use Rattle.rules.specs.declared.Sizes.{Sizes}
 use Rattle.rules.specs.declared.Command.{Command}
-use Rattle.rules.specs.Terms.{ask, done, limits, first}
+use Rattle.rules.specs.Terms.{ask, done, first}
 use Rattle.rules.specs.NeverFreeing as nf
 use Rattle.rules.specs.Regions.{control}
 use Rattle.rules.specs.Graph.{Graph, ended, newPages, freePages}

@@ -5,4 +5,4 @@ pub mod PushRuns
 -- the slots outside the control space, position by position
 pub mod Others
 -- by the rules: the end of region 1 into itself
-pub mod Collected
+pub mod KeptByRules

@@ -6,17 +6,17 @@ use native.Mathlib.Decide.{ℕ-discrete}
 use mathlib.Core.Path.{_≡_, refl, sym, ap, ap₂, _∙_}
 use mathlib.Core.Logic.{_↔_, inl, inr}
 use mathlib.Core.List.{List, [], _∷_}
-use mathlib.Core.Bool.{Bool, true, false, cond, not, _&&_}
+use mathlib.Core.Bool.{Bool, cond, not, _&&_}
 use lib.ListN.{getD}
 use lib.Dec.{eqb}
-use borrow.Author.Tests.{eq-eqb, ne-eqb, eqb-true}
-use Rattle.lists.specs.Counting.{bit, sum, sum-le, sum-none, sum-same}
+use borrow.Author.Tests.{eq-eqb, ne-eqb}
+use Rattle.lists.specs.Counting.{bit, sum-le, sum-none, sum-same}
 use Rattle.lists.specs.Members.{In, tally}
 use Rattle.rules.specs.declared.Sizes.{Sizes}
 use Rattle.rules.specs.Regions.{control, threadOf, parent, join, regions}
-use Rattle.rules.specs.Graph.{Graph, slotsOf, target, ended, freedBy, crossing, pagesOf, objectsIn, newPages}
+use Rattle.rules.specs.Graph.{Graph, slotsOf, target, ended, freedBy, crossing, objectsIn, newPages}
 use Rattle.laws.specs.RegionLaws.{join-control}
-use Rattle.laws.specs.GraphLaws.{Alive, Closed, Refers, Leads, itself, along, Holds, bySlot, byOwn, byOther, Reaches, holds-around, target-absorbs, target-reached, target-called}
+use Rattle.laws.specs.GraphLaws.{Alive, Closed, Refers, Leads, itself, along, Holds, bySlot, byOwn, byOther, holds-around, target-absorbs, target-reached, target-called}
 use Rattle.laws.specs.EndLaws.{home-stayed, home-went, was-alive, closed-ended}
 use Rattle.laws.specs.Counts.{crossIn, crossAt, crossing-sum, crossRef, cross-cons}
 use Rattle.laws.specs.Counters.{living, living-ended}

@@ -1,4 +1,4 @@
--- What marking promises: word 1 of each object of the ending region is the region that it goes to by the rules, and its bit says whether
+-- What marking promises: word 1 of each object of the part that ends is the region that it goes to by the rules, and its bit says whether
 -- it survives.
 use mathlib.Core.Path.{_≡_, refl, sym, ap, _∙_, subst, subst₂}
 use mathlib.Core.Bool.{Bool, false}

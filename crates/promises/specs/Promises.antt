@@ -29,7 +29,7 @@ Slides collects r = r ≡ control
 Slides (makes a b c) r = ⊥
 Slides (assigns x) r = ⊥
 
--- w′ stands for the heap h′ after command m, in which the objects of h whose home did not change have kept their cells
+-- w′ stands for the heap h′ after command m, in which the objects of h whose home did not change have kept their cells, but for those that it may slide
 pub record Became (s : Sizes) (h : Regioned) (cellOf : ℕ → ℕ) (m : Command) (w′ : Words) (h′ : Regioned) : Type 0 where
   pub cell : ℕ → ℕ
   pub stands : StandsFor s w′ h′ cell

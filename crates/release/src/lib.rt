@@ -47,7 +47,7 @@ pub fn release_pages(p: Sizes, tables: &mut [u32], list: &[u32], n: usize, regio
     }
 }
 
-// Note 0 counts no more pages than lie above the last of the listed ones, which become free.
+// Note 0 counts no more pages than lie above the last of the listed ones, which may become free.
 pub fn note_released(p: Sizes, notes: &mut [u32], list: &[u32], n: usize)
     requires { ⌜ Rises (p .pages) n (now list) ⌝ }
     requires { ⌜ (p .pages ≤ 1024) × (noteWords ≤ length (now notes)) ⌝ }

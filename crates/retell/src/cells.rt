@@ -11,7 +11,7 @@ use rules::Sizes;
 use settle::rewrite::forward_ref;
 
 // The reference fields of a cell.
-pub fn rewrite_cell(cells: &mut [u32], cell: usize)
+fn rewrite_cell(cells: &mut [u32], cell: usize)
     requires { ⌜ CellReadable cell (now cells) ⌝ }
     ensures { λ _. ⌜ Rewritten (Field cell (refsOf (now (cells .entry)) cell)) (now (cells .entry)) (now (cells .exit)) ⌝ }
 {
@@ -26,7 +26,7 @@ pub fn rewrite_cell(cells: &mut [u32], cell: usize)
 }
 
 // Those of the cells in use of a page.
-pub fn rewrite_page(p: Sizes, cells: &mut [u32], tables: &[u32], page: usize)
+fn rewrite_page(p: Sizes, cells: &mut [u32], tables: &[u32], page: usize)
     requires { ⌜ Readable p (headAt (cellOn page 0)) (headAt (cellOn (page + 1) 0)) (now cells) (now tables) ⌝ }
     requires { ⌜ page < p .pages ⌝ }
     ensures { λ _. ⌜ Rewritten (SlotFrom p (headAt (cellOn page 0)) (headAt (cellOn (page + 1) 0)) (now (cells .entry)) (now (tables .entry))) (now (cells .entry)) (now (cells .exit)) ⌝ }

@@ -19,7 +19,7 @@ use remember::entries::put_entry;
 use rules::Sizes;
 
 // The crossing slots of the object at a cell come after the first j entries; how many there are then.
-pub fn tell_cell(
+fn tell_cell(
     p: Sizes,
     cells: &[u32],
     remember: &mut [u32],
@@ -54,7 +54,7 @@ pub fn tell_cell(
 }
 
 // Those of the objects on a page.
-pub fn tell_page(
+fn tell_page(
     p: Sizes,
     cells: &[u32],
     remember: &mut [u32],
@@ -84,7 +84,7 @@ pub fn tell_page(
 }
 
 // Those of all pages, from the first entry on.
-pub fn tell_pages(p: Sizes, cells: &[u32], remember: &mut [u32], tables: &[u32]) -> usize
+fn tell_pages(p: Sizes, cells: &[u32], remember: &mut [u32], tables: &[u32]) -> usize
     requires { ⌜ SlotsTelling p 0 (cellsWords p) (now cells) (now remember) (now tables) 0 ⌝ }
     ensures { λ i. ⌜ SlotsTold p 0 (cellsWords p) (now (cells .entry)) (now (remember .entry)) (now (tables .entry)) 0 (now (remember .exit)) i ⌝ }
 {

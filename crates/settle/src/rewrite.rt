@@ -1,5 +1,5 @@
 // Rewrite: references to cells that moved go by the forward reference in word 1 of the old cell. They stand in the remembered slots and in
-// the variables; for the copies' own slots see settle.
+// the variables; for the copies' own slots see settle, and for all slots, at a collection, the crate `retell`.
 ghost use mathlib.Core.Path.{_≡_};
 ghost use mathlib.Core.Logic.{_≢_};
 ghost use Prim.Native.Nat.{ℕ, _<_, _≤_};

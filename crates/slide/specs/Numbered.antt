@@ -13,7 +13,8 @@ use Rattle.rules.specs.declared.Sizes.{Sizes}
 use Rattle.layout.specs.Places.{markOf}
 use Rattle.layout.specs.Cells.{workAt, workOf, refTo, pageOf, placeOf, cellOn, firstOn, pageCells}
 use Rattle.layout.specs.Marks.{marked}
-use Rattle.slide.specs.Ranks.{placeIn, rank, newPlace, KeptCell, MarksListed, rank-zero, rank-next, rank-few, rank-page, place-listed}
+use Rattle.rules.specs.Pages.{placeIn}
+use Rattle.slide.specs.Ranks.{rank, newPlace, KeptCell, MarksListed, rank-zero, rank-next, rank-few, rank-page, place-listed}
 use Rattle.slide.specs.Walks.{Walk, Passes, walk-begin, walk-bit, walk-on, walk-here}
 
 -- the kept cells from a up to b; there are k below b

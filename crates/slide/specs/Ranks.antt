@@ -11,14 +11,11 @@ use Rattle.lists.specs.Bits.{bitAt, bit-lt, bit-zero}
 use Rattle.lists.specs.Counting.{sum, sum-add, sum-high, sum-mono, sum-more, sum-none}
 use Rattle.lists.specs.Part.{Rises, Off, Through, cut-here, through-start, through-turn, through-end}
 use Rattle.rules.specs.declared.Sizes.{Sizes}
+use Rattle.rules.specs.Pages.{placeIn}
 use Rattle.layout.specs.Places.{markOf}
-use Rattle.layout.specs.Cells.{pageOf, placeOf, cellOn, firstOn, pageCells}
+use Rattle.layout.specs.Cells.{pageOf, placeOf, firstOn, pageCells}
 use Rattle.layout.specs.Marks.{marked, mark?}
 use Rattle.mark.specs.Marks.{Small}
-
--- place number k of the listed pages
-abbrev pub placeIn : List ℕ → ℕ → ℕ
-placeIn l k = cellOn (getD l (k / pageCells) 0) (k % pageCells)
 
 -- how many cells below c are kept
 unfoldable pub rank : Sizes → List ℕ → ℕ → ℕ

@@ -4,7 +4,8 @@ ghost use Prim.Native.Nat.{ℕ, _/_, _<_, _≤_};
 ghost use lib.ListN.{length, getD};
 ghost use Rattle.layout.specs.Cells.{firstOn, pageCells};
 ghost use Rattle.layout.specs.Places.{Room, cellsWords};
-ghost use Rattle.slide.specs.Ranks.{placeIn, rank, MarksListed};
+ghost use Rattle.rules.specs.Pages.{placeIn};
+ghost use Rattle.slide.specs.Ranks.{rank, MarksListed};
 ghost use Rattle.slide.specs.Numbered.{NumberedHere, Numbered};
 use rules::Sizes;
 

@@ -2,7 +2,7 @@
 use native.Mathlib.Omega.{arith}
 use borrow.Author.Needs.{needs}
 use Rattle.promises.specs.Questions.{did-answer}
-use Rattle.collect.specs.Asked.{keeping, keeping-noted}
+use Rattle.collect.specs.StagesAsk.{keeping, keeping-noted}
 use Rattle.collect.proofs.collect.Statement.{statement}
 use Rattle.collect.proofs.collect.Tie as tie
 

@@ -1,8 +1,7 @@
 -- The count is set, and what the control space had more is counted as freed.
-use mathlib.Core.Path.{refl}
 use native.Mathlib.Omega.{arith}
 use borrow.Author.Needs.{needs}
-use Rattle.collect.specs.Tables.{tallied}
+use Rattle.collect.specs.TablesAfter.{space-counted}
 use Rattle.collect.proofs.tally.Statement.{statement}
 use Rattle.collect.proofs.tally.Tie as tie
 
@@ -28,7 +27,7 @@ same-length : tie.Need-same-length
 same-length c = search needs
 
 returns : tie.Need-returns
-returns c = tallied (c .before .before .before .before .before .before .before .before .before .before .before .args .p) (c .before .before .before .before .before .before .before .before .before .before .before .args .tables .now) (c .before .before .before .before .before .before .before .before .before .before .before .args .kept) _ _ _ (c .before .before .before .before .before .before .before .before .before .before .before .pre .0) (omega arith) (omega (arith, c .before .before .before .before .before .before .before .before .count .ensures)) (c .before .before .before .before .before .before .set-count .ensures) (c .before .before .count-freed .ensures)
+returns c = space-counted (c .before .before .before .before .before .before .before .before .before .before .before .args .p) (c .before .before .before .before .before .before .before .before .before .before .before .args .tables .now) (c .before .before .before .before .before .before .before .before .before .before .before .args .kept) _ _ _ (c .before .before .before .before .before .before .before .before .before .before .before .pre .0) (omega arith) (omega (arith, c .before .before .before .before .before .before .before .before .count .ensures)) (c .before .before .before .before .before .before .set-count .ensures) (c .before .before .count-freed .ensures)
 
 pub tally-spec : {M : Type 1} → statement M
 tally-spec =

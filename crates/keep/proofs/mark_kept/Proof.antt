@@ -6,7 +6,7 @@ use Rattle.mark.specs.Pushes.{pushing-kept, pushing-shaped}
 use Rattle.mark.specs.Reached.{whole-holding}
 use Rattle.mark.specs.Survivors.{shaped-at}
 use Rattle.keep.specs.Others.{kept-used}
-use Rattle.keep.specs.Collected.{keptRefs, kept-pending, kept-marked}
+use Rattle.keep.specs.KeptByRules.{keptRefs, kept-pending, kept-marked}
 use Rattle.keep.proofs.mark_kept.Statement.{statement}
 use Rattle.keep.proofs.mark_kept.Tie as tie
 

@@ -1,37 +1,38 @@
 -- The survivors of a collection are in the places that the rules give them, and its pages are those that the rules leave (02, W5).
 use mathlib.Core.Path.{_≡_, refl, sym, ap, ap₂, subst, _∙_}
 use mathlib.Core.Logic.{_≢_, _⊎_, inl, inr, ⊎-elim}
-use mathlib.Core.Bool.{Bool, true, false, cond, not}
+use mathlib.Core.Bool.{Bool, true, cond, not}
 use mathlib.Core.List.{List}
 use Prim.Native.Nat.{ℕ, zero, suc, _+_, _-_, _*_, _/_, _%_, _≤_, _<_, min}
 use native.Mathlib.Decide.{ℕ-discrete, decLt}
+use native.Mathlib.Numerals.{add-one}
 use native.Mathlib.Omega.{arith}
 use lib.ListN.{length, getD}
 use lib.Seq.{ext-getD}
 use lib.Dec.{eqb}
 use borrow.Author.Tests.{eq-eqb, ne-eqb}
-use Rattle.lists.specs.Counting.{bit, sum, sum-same, sum-more}
+use Rattle.lists.specs.Counting.{bit, sum, sum-same}
 use Rattle.lists.specs.Part.{Through, cut-here, through-start, through-turn}
 use Rattle.rules.specs.declared.Sizes.{Sizes}
 use Rattle.rules.specs.Regions.{control}
 use Rattle.rules.specs.Graph.{target}
-use Rattle.rules.specs.Pages.{Page, Pages, freePage, nthPage, newCell, ownedFrom, placeIn, slideBelow, filled, filledBy}
-use Rattle.laws.specs.SlideLaws.{slides-count, slid-still, slid-place, ownBelow, owned-at, filled-long, filled-at}
-use Rattle.layout.specs.Places.{ownerOf, usedOf, varCount}
-use Rattle.layout.specs.Cells.{pageOf, pageCells, firstOn}
+use Rattle.rules.specs.Pages.{Page, Pages, freePage, nthPage, newCell, ownedFrom, placeIn, filled, filledBy}
+use Rattle.laws.specs.SlideLaws.{slides-count, slid-still, slid-place, ownBelow, own-more, own-same, owned-at, filled-long, filled-at}
+use Rattle.layout.specs.Places.{varCount}
+use Rattle.layout.specs.Cells.{pageOf, pageCells}
 use Rattle.layout.specs.Marks.{marked, mark?}
-use Rattle.layout.specs.Objects.{Slot, begins-page, begins-low}
-use Rattle.layout.specs.Words.{Words, words, BeginsIn, cellCount, ownerIn, homeIn, graphOf, pageIn, pagesIn, pages-count, page-there}
+use Rattle.layout.specs.Objects.{begins-low}
+use Rattle.layout.specs.Words.{Words, words, cellCount, ownerIn, homeIn, graphOf, pageIn, pagesIn, pages-count, page-there}
 use Rattle.promises.specs.Reading.{used-home, alive-used}
-use Rattle.promises.specs.Ends.{Outside, Survivor, Lives, lives-how}
+use Rattle.promises.specs.Ends.{Outside, Survivor, lives-how}
 use Rattle.mark.specs.Survivors.{unmarked-freed}
 use Rattle.settle.specs.RewriteSlots.{Variables}
 use Rattle.slide.specs.Ranks.{rank}
-use Rattle.slide.specs.Trimmed.{leftFor, Trimmed}
+use Rattle.slide.specs.Trimmed.{Trimmed}
 use Rattle.ended.specs.Evacuated.{goalIn, slidesIn, Packed}
 use Rattle.ending.specs.Copied.{placed}
-use Rattle.collect.specs.Numbering.{space, Numbering, which, survivor-kept, kept-survivor, survivor-goes, outside-still, placeFor, survivor-placed, number, page-listed}
-use Rattle.collect.specs.Tables.{Tallied, other-same, own-used, own-owner, own-free}
+use Rattle.collect.specs.Numbering.{space, Numbering, which, kept-survivor, outside-still, placeFor, survivor-placed, number, page-listed}
+use Rattle.collect.specs.TablesAfter.{SpaceCounted, other-same, own-used, own-owner, own-free}
 
 module _ {s : Sizes} {w w₁ : Words} {n : ℕ} {l W₂ : List ℕ} {K : ℕ} (a : Numbering s w w₁ n l W₂ K) where
   abbrev ps : Pages
@@ -42,24 +43,15 @@ module _ {s : Sizes} {w w₁ : Words} {n : ℕ} {l W₂ : List ℕ} {K : ℕ} (a
 
   -- ---- the listed pages are the control space's by the rules
 
-  own-yes : (page : ℕ) → page < s .pages → ownerIn s w page ≡ control → ownBelow control ps (page + 1) ≡ ownBelow control ps page + 1
-  unfolding ownBelow
-  own-yes page b e =
-      sum-more (λ d. bit (eqb (nthPage ps d .owner) control)) page
-      ∙ ap (λ (x : Bool). ownBelow control ps page + bit x) (eq-eqb (nthPage ps page .owner) control (owner-there page b ∙ e))
-
-  own-no : (page : ℕ) → page < s .pages → ownerIn s w page ≢ control → ownBelow control ps (page + 1) ≡ ownBelow control ps page
-  unfolding ownBelow
-  own-no page b ne =
-      sum-more (λ d. bit (eqb (nthPage ps d .owner) control)) page
-      ∙ ap (λ (x : Bool). ownBelow control ps page + bit x) (ne-eqb (nthPage ps page .owner) control (λ z. ne (sym (owner-there page b) ∙ z))) ∙ omega arith
-
   own-none : ownBelow control ps 0 ≡ 0
   unfolding ownBelow
   own-none = refl
 
+  next : (q : ℕ) → ownBelow control ps (q + 1) ≡ ownBelow control ps (suc q)
+  next q = ap (ownBelow control ps) (add-one q)
+
   skip : (i q : ℕ) → q < s .pages → ((j : ℕ) → j < n → getD l j 0 ≢ q) → ownBelow control ps q ≡ i → ownBelow control ps (q + 1) ≡ i
-  skip i q b off r = ⊎-elim (λ x. absurd (off (x .0) (x .1) (x .2))) (λ z. own-no q b z ∙ r) (which a q b)
+  skip i q b off r = ⊎-elim (λ x. absurd (off (x .0) (x .1) (x .2))) (λ z. next q ∙ own-same control ps q (λ y. z (sym (owner-there q b) ∙ y)) ∙ r) (which a q b)
 
   -- below page b there are i of them
   own-through : (i : ℕ) → i ≤ n → Through (s .pages) n l i (λ b. ownBelow control ps b ≡ i)
@@ -68,7 +60,7 @@ module _ {s : Sizes} {w w₁ : Words} {n : ℕ} {l W₂ : List ℕ} {K : ℕ} (a
       let e : i + 1 ≡ suc i = omega arith in
       subst (λ (x : ℕ). Through (s .pages) n l x (λ b. ownBelow control ps b ≡ suc i)) e
       (through-turn (s .pages) n l (λ b. ownBelow control ps b ≡ i) (λ b. ownBelow control ps b ≡ suc i) i (getD l i 0) (a .list .rises) (omega arith) refl (own-through i (omega arith))
-      (λ r. omega (arith, own-yes (getD l i 0) (a .list .rises .low i (omega arith)) (a .list .each i (omega arith)))) (skip (suc i)))
+      (λ r. omega (arith, next (getD l i 0), own-more control ps (getD l i 0) (owner-there (getD l i 0) (a .list .rises .low i (omega arith)) ∙ a .list .each i (omega arith)))) (skip (suc i)))
 
   own-rank : (j : ℕ) → j < n → ownBelow control ps (getD l j 0) ≡ j
   own-rank j h = own-through j (omega arith) (getD l j 0) (cut-here j (getD l j 0) (a .list .rises) h refl)
@@ -107,7 +99,7 @@ module _ {s : Sizes} {w w₁ : Words} {n : ℕ} {l W₂ : List ℕ} {K : ℕ} (a
       go (inl off) (no ne) = none (goal-else c ne) ∙ sym off
       go (inl off) (yes e) =
           let u = alive-used s w c (λ (z : homeIn s w c ≡ 0). omega arith) in
-          none (goal-own c e ∙ unmarked-freed (a .marks) c u (sym (used-home s w c u) ∙ e) (λ (on : marked s (w₁ .tables) c ≡ 1). omega arith)) ∙ sym off
+          none (goal-own c e ∙ unmarked-freed (a .keeping .marks) c u (sym (used-home s w c u) ∙ e) (λ (on : marked s (w₁ .tables) c ≡ 1). omega arith)) ∙ sym off
 
   rank-lives : (c : ℕ) → c ≤ cellCount s → sum (λ d. bit (lives d)) c ≡ rank s (w₁ .tables) c
   unfolding rank
@@ -133,9 +125,9 @@ module _ {s : Sizes} {w w₁ : Words} {n : ℕ} {l W₂ : List ℕ} {K : ℕ} (a
 
   -- ---- the pages
 
-  module _ {T₂ : List ℕ} (Y : Variables s (varCount s) W₂ (w₁ .tables) T₂) {W₄ W₅ T₃ : List ℕ} (Z : Trimmed s l n K W₄ T₂ W₅ T₃) {f : ℕ} {T₄ : List ℕ} (C : Tallied s K f T₃ T₄) where
-    page-own : (j : ℕ) → j < n → pageIn s T₄ (getD l j 0) ≡ filled control (K - 16 * j)
-    page-own j h = go (decLt 0 (K - 16 * j))
+  module _ {T₂ : List ℕ} (Y : Variables s (varCount s) W₂ (w₁ .tables) T₂) {W₄ W₅ T₃ : List ℕ} (Z : Trimmed s l n K W₄ T₂ W₅ T₃) {f : ℕ} {T₄ : List ℕ} (C : SpaceCounted s K f T₃ T₄) where
+    page-filled : (j : ℕ) → j < n → pageIn s T₄ (getD l j 0) ≡ filled control (K - 16 * j)
+    page-filled j h = go (decLt 0 (K - 16 * j))
       where
         go : Dec (0 < K - 16 * j) → pageIn s T₄ (getD l j 0) ≡ filled control (K - 16 * j)
         go (yes p) =
@@ -150,7 +142,7 @@ module _ {s : Sizes} {w w₁ : Words} {n : ℕ} {l W₂ : List ℕ} {K : ℕ} (a
       where
         own : (j : ℕ) × (j < n) × (getD l j 0 ≡ i) → pageIn s T₄ i ≡ cond (eqb (nthPage ps i .owner) control) (filled control (K - 16 * ownBelow control ps i)) (nthPage ps i)
         own q =
-            ap (pageIn s T₄) (sym (q .2)) ∙ page-own (q .0) (q .1)
+            ap (pageIn s T₄) (sym (q .2)) ∙ page-filled (q .0) (q .1)
             ∙ sym (ap₂ (λ (x : Bool) (k : ℕ). cond x (filled control (K - 16 * k)) (nthPage ps i)) (eq-eqb (nthPage ps i .owner) control (owner-there i b ∙ ap (ownerIn s w) (sym (q .2)) ∙ a .list .each (q .0) (q .1)))
             (ap (ownBelow control ps) (sym (q .2)) ∙ own-rank (q .0) (q .1)))
 

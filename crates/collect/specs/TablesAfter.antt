@@ -1,20 +1,18 @@
 -- The tables after a collection: the pages of the control space hold the survivors from the lowest on, and no other page has changed.
 use mathlib.Core.Path.{_≡_, refl, sym, ap, ap₂, subst, _∙_}
 use mathlib.Core.Logic.{_≢_, _⊎_, inl, inr, ⊎-elim}
-use mathlib.Core.Bool.{Bool, cond}
 use mathlib.Core.List.{List}
 use Prim.Native.Nat.{ℕ, zero, suc, _+_, _-_, _*_, _≤_, _<_, min}
 use native.Mathlib.Decide.{ℕ-discrete, decLt}
 use native.Mathlib.Omega.{arith}
 use lib.ListN.{length, getD, set, length-set}
 use lib.Seq.{getD-set-same, getD-set-other}
-use lib.Dec.{eqb}
 use Rattle.lists.specs.Counting.{sum, sum-same, sum-more}
-use Rattle.lists.specs.Part.{Through, cut-here, through-start, through-turn, through-end}
+use Rattle.lists.specs.Part.{Through, through-start, through-turn, through-end}
 use Rattle.rules.specs.declared.Sizes.{Sizes}
 use Rattle.rules.specs.Regions.{control, regions, threadOf}
 use Rattle.rules.specs.Rules.{counted}
-use Rattle.layout.specs.Places.{Room, depthAt, varAt, ownerAt, usedAt, markAt, countAt, freedAt, madeAt, depthOf, varOf, ownerOf, usedOf, markOf, countOf, madeOf, freedOf, varCount, varsFrom, ownersFrom, countsFrom}
+use Rattle.layout.specs.Places.{Room, depthAt, varAt, ownerAt, usedAt, markAt, countAt, freedAt, madeAt, depthOf, varOf, ownerOf, usedOf, markOf, countOf, madeOf, freedOf, varCount, varsFrom, countsFrom}
 use Rattle.layout.specs.Cells.{pageCells}
 use Rattle.layout.specs.Words.{Words, depthIn, ownerIn}
 use Rattle.promises.specs.Whole.{Open, PageFilled, Partial, objectsOn, objectsOf}
@@ -28,16 +26,16 @@ use Rattle.slide.specs.Trimmed.{leftFor, Trimmed}
 use Rattle.collect.specs.Numbering.{Numbering, marks-listed, which, other-page}
 
 -- the control space has K objects, and f more are freed
-pub record Tallied (s : Sizes) (K f : ℕ) (T T′ : List ℕ) : Type 0 where
+pub record SpaceCounted (s : Sizes) (K f : ℕ) (T T′ : List ℕ) : Type 0 where
   pub size : length T′ ≡ length T
   pub count : countOf s T′ control ≡ K
   pub freed : freedOf s T′ ≡ counted (freedOf s T + f)
   pub same : (x : ℕ) → x ≢ countAt s control → x ≢ freedAt s → getD T′ x 0 ≡ getD T x 0
 
 -- as the code sets it: k is the survivors and g what is freed as the code has them
-pub tallied : (s : Sizes) (T : List ℕ) (K f k g : ℕ) {T₁ T₂ : List ℕ} → Room s (length T) → k ≡ K → g ≡ f → T₁ ≡ set T (countAt s control) k
-    → T₂ ≡ set T₁ (freedAt s) (counted (freedOf s T₁ + g)) → Tallied s K f T T₂
-tallied s T K f k g {T₁} {T₂} room ek eg e₁ e₂ =
+pub space-counted : (s : Sizes) (T : List ℕ) (K f k g : ℕ) {T₁ T₂ : List ℕ} → Room s (length T) → k ≡ K → g ≡ f → T₁ ≡ set T (countAt s control) k
+    → T₂ ≡ set T₁ (freedAt s) (counted (freedOf s T₁ + g)) → SpaceCounted s K f T T₂
+space-counted s T K f k g {T₁} {T₂} room ek eg e₁ e₂ =
     record {
       size = ap (λ (X : List ℕ). length X) e₂ ∙ length-set T₁ (freedAt s) _ ∙ ap (λ (X : List ℕ). length X) e₁ ∙ length-set T (countAt s control) k;
       count =
@@ -58,22 +56,22 @@ tallied s T K f k g {T₁} {T₂} room ek eg e₁ e₂ =
 
 module _ {s : Sizes} {w w₁ : Words} {n : ℕ} {l W₂ : List ℕ} {K : ℕ} (a : Numbering s w w₁ n l W₂ K) {T₂ : List ℕ} (Y : Variables s (varCount s) W₂ (w₁ .tables) T₂) where
   rm : Room s (length (w .tables))
-  rm = a .room
+  rm = a .keeping .room
 
   pub owner₂ : (page : ℕ) → page < s .pages → ownerOf s T₂ page ≡ ownerIn s w page
-  owner₂ page h = Y .same (ownerAt s page) (λ z. omega (arith, rm)) ∙ owner-same (a .marks) rm page h
+  owner₂ page h = Y .same (ownerAt s page) (λ z. omega (arith, rm)) ∙ owner-same (a .keeping .marks) rm page h
 
   pub used₂ : (page : ℕ) → page < s .pages → usedOf s T₂ page ≡ usedOf s (w .tables) page
-  used₂ page h = Y .same (usedAt s page) (λ z. omega (arith, rm)) ∙ used-same (a .marks) rm page h
+  used₂ page h = Y .same (usedAt s page) (λ z. omega (arith, rm)) ∙ used-same (a .keeping .marks) rm page h
 
   pub mark₂ : (page : ℕ) → page < s .pages → markOf s T₂ page ≡ markOf s (w₁ .tables) page
   mark₂ page h = Y .same (markAt s page) (λ z. omega (arith, rm))
 
   word₂ : (x : ℕ) → (varsFrom s ≤ x → countsFrom s ≤ x) → getD T₂ x 0 ≡ getD (w .tables) x 0
-  word₂ x h = Y .same x (λ z. let y : countsFrom s ≤ x = h z in omega (arith, rm)) ∙ table-same (a .marks) rm x (λ z. h (omega (arith, rm)))
+  word₂ x h = Y .same x (λ z. let y : countsFrom s ≤ x = h z in omega (arith, rm)) ∙ table-same (a .keeping .marks) rm x (λ z. h (omega (arith, rm)))
 
   size₂ : length T₂ ≡ length (w .tables)
-  size₂ = Y .size ∙ a .marks .kept .tables-length
+  size₂ = Y .size ∙ a .keeping .marks .kept .tables-length
 
   pub room₂ : Room s (length T₂)
   room₂ = room-same size₂ rm
@@ -116,7 +114,7 @@ module _ {s : Sizes} {w w₁ : Words} {n : ℕ} {l W₂ : List ℕ} {K : ℕ} (a
           Z .tables (markAt s page) (λ j h. (λ e. omega (arith, rm, low j h), λ e. omega (arith, rm, low j h), λ e. other-page a page z j h (omega arith)))
           ∙ mark₂ page b ∙ marks-listed a .none page b (other-page a page z)
 
-    module _ {f : ℕ} {T₄ : List ℕ} (C : Tallied s K f T₃ T₄) where
+    module _ {f : ℕ} {T₄ : List ℕ} (C : SpaceCounted s K f T₃ T₄) where
       pub word₄ : (x : ℕ) → (varsFrom s ≤ x → countsFrom s ≤ x) → x ≢ countAt s control → x ≢ freedAt s → getD T₄ x 0 ≡ getD (w .tables) x 0
       word₄ x h c e = C .same x c e ∙ word₃ x h
 
@@ -182,7 +180,7 @@ module _ {s : Sizes} {w w₁ : Words} {n : ℕ} {l W₂ : List ℕ} {K : ℕ} (a
 
       pages-filled : (page : ℕ) → page < s .pages → PageFilled s T₄ page
       pages-filled page b =
-          ⊎-elim (λ q. subst (PageFilled s T₄) (q .2) (own-filled (q .0) (q .1))) (λ z. filled-same (other-same page b z) (a .whole .pages page b .filled)) (which a page b)
+          ⊎-elim (λ q. subst (PageFilled s T₄) (q .2) (own-filled (q .0) (q .1))) (λ z. filled-same (other-same page b z) (a .keeping .whole .pages page b .filled)) (which a page b)
 
       -- a page of the control space that is partly filled is the last of those that are used
       own-partial : (g i : ℕ) → 1 ≤ g → i < n → Partial s T₄ g (getD l i 0) → (g ≡ control) × (0 < leftFor K i) × (leftFor K i < pageCells)
@@ -213,7 +211,7 @@ module _ {s : Sizes} {w w₁ : Words} {n : ℕ} {l W₂ : List ℕ} {K : ℕ} (a
               z (sym (other-same y b z .owner) ∙ q .owner ∙ own-partial g (i .0) pos (i .1) (subst (Partial s T₄ g) (sym (i .2)) p) .0)
           go (inr z) (inl j) =
               z (sym (other-same x (omega arith) z .owner) ∙ p .owner ∙ own-partial g (j .0) pos (j .1) (subst (Partial s T₄ g) (sym (j .2)) q) .0)
-          go (inr u) (inr v) = a .whole .partial g pos x y o b (partial-same (other-same x (omega arith) u) p) (partial-same (other-same y b v) q)
+          go (inr u) (inr v) = a .keeping .whole .partial g pos x y o b (partial-same (other-same x (omega arith) u) p) (partial-same (other-same y b v) q)
 
       -- the survivors on the pages below b, when i of the listed ones are
       own-through : (i : ℕ) → i ≤ n → Through (s .pages) n l i (λ b. sum (objectsOn s T₄ control) b ≡ min K (pageCells * i))
@@ -243,7 +241,7 @@ module _ {s : Sizes} {w w₁ : Words} {n : ℕ} {l W₂ : List ℕ} {K : ℕ} (a
           go : Dec (g ≡ control) → countOf s T₄ g ≡ objectsOf s T₄ g
           go (yes e) = subst (λ (x : ℕ). countOf s T₄ x ≡ objectsOf s T₄ x) (sym e) (C .count ∙ sym own-count)
           go (no ne) =
-              word₄ (countAt s g) (λ z. omega arith) (λ e. omega arith) (λ e. omega (arith, rm)) ∙ a .whole .counts g pos high
+              word₄ (countAt s g) (λ z. omega arith) (λ e. omega arith) (λ e. omega (arith, rm)) ∙ a .keeping .whole .counts g pos high
               ∙ sym (sum-same (objectsOn s T₄ g) (objectsOn s (w .tables) g) (s .pages)
               (λ page b. ⊎-elim (λ q. subst (λ (x : ℕ). objectsOn s T₄ g x ≡ objectsOn s (w .tables) g x) (q .2) (objects-no s T₄ g (getD l (q .0) 0) (own-else (q .0) (q .1) g pos ne) ∙ sym (objects-no s (w .tables) g (getD l (q .0) 0) (λ e. ne (sym e ∙ a .list .each (q .0) (q .1))))))
               (λ z. on-same (other-same page b z) g) (which a page b)))
@@ -266,7 +264,7 @@ module _ {s : Sizes} {w w₁ : Words} {n : ℕ} {l W₂ : List ℕ} {K : ℕ} (a
           other : ownerIn s w page ≢ control → Open s T₄ (ownerOf s T₄ page)
           other z =
               let e = other-same page b z .owner in
-              let o = a .whole .pages page b .region (omega (arith, e)) in
+              let o = a .keeping .whole .pages page b .region (omega (arith, e)) in
               subst (Open s T₄) (sym e) (record { real = o .real; thread = o .thread; level = omega (arith, o .level, depth₄ (threadOf s (ownerIn s w page)) (o .thread)) })
 
       pub marks₄ : (page : ℕ) → page < s .pages → markOf s T₄ page ≡ 0
@@ -276,7 +274,7 @@ module _ {s : Sizes} {w w₁ : Words} {n : ℕ} {l W₂ : List ℕ} {K : ℕ} (a
       variable₄ i h =
           C .same (varAt s i) (λ e. omega (arith, rm)) (λ e. omega (arith, rm))
           ∙ Z .tables (varAt s i) (λ j b. (λ e. omega (arith, rm, low j b), λ e. omega (arith, rm, low j b), λ e. omega (arith, rm, low j b)))
-          ∙ Y .moved i h ∙ ap (forwarded W₂) (var-same (a .marks) rm i h)
+          ∙ Y .moved i h ∙ ap (forwarded W₂) (var-same (a .keeping .marks) rm i h)
 
       pub made₄ : madeOf s T₄ ≡ madeOf s (w .tables)
       made₄ = word₄ (madeAt s) (λ z. omega (arith, rm)) (λ e. omega (arith, rm)) (λ e. omega arith)

@@ -1,31 +1,29 @@
--- From the stages of a collection to its promise, and what the stages ask for.
-use mathlib.Core.Path.{_≡_, refl, sym, ap, ap₂, subst, _∙_}
-use mathlib.Core.Logic.{_≢_}
+-- From the stages of a collection to its promise, and that the slots that cross then fit the remember table.
+use mathlib.Core.Path.{_≡_, refl, sym, ap, subst, _∙_}
 use mathlib.Core.List.{List, []}
 use Prim.Native.Nat.{ℕ, zero, suc, _+_, _-_, _*_, _≤_, _<_}
 use native.Mathlib.Omega.{arith}
-use lib.ListN.{length, getD}
+use lib.ListN.{length}
 use Rattle.lists.specs.Counting.{sum-same}
 use Rattle.rules.specs.declared.Sizes.{Sizes}
 use Rattle.rules.specs.Terms.{done}
-use Rattle.rules.specs.Regions.{control, regions}
-use Rattle.rules.specs.Graph.{freedBy, crossing, ended}
+use Rattle.rules.specs.Regions.{control}
+use Rattle.rules.specs.Graph.{freedBy}
 use Rattle.rules.specs.Rules.{counted}
 use Rattle.laws.specs.Collected.{crossing-fewer}
 use Rattle.laws.specs.RulesLaws.{control-pos}
 use Rattle.laws.specs.SameRules.{renamed}
-use Rattle.layout.specs.Places.{Room, cellsWords, rememberWords, tablesWords, entriesUsed, usedOf, countOf, countAt, freedAt, freedOf, varCount, count-room}
-use Rattle.layout.specs.Cells.{fieldOf, refsOf, pageOf, pageCells, mostFields, fieldCount, cellNamed}
+use Rattle.layout.specs.Places.{Room, cellsWords, rememberWords, tablesWords, countOf, freedOf, varCount, count-room}
+use Rattle.layout.specs.Cells.{fieldOf, refsOf, pageOf, mostFields, fieldCount, cellNamed}
 use Rattle.layout.specs.declared.Kind.the-variants.{Reference}
 use Rattle.layout.specs.Marks.{marked}
-use Rattle.layout.specs.Objects.{Slot, begins-page, begins-used}
-use Rattle.layout.specs.Words.{Words, words, Begins, BeginsIn, Names, cellCount, ownerIn, refCount, graphOf}
-use Rattle.remember.specs.Entries.{RestZero, Exact, Edited}
+use Rattle.layout.specs.Objects.{Slot, begins-page}
+use Rattle.layout.specs.Words.{Words, words, Begins, Names, cellCount, refCount, graphOf}
+use Rattle.remember.specs.Entries.{Exact, Edited}
 use Rattle.remember.specs.Appending.{AtMost, at-most-less}
 use Rattle.remember.specs.Crossing.{crossTo}
 use Rattle.remember.specs.Crosses.{cross-slot}
-use Rattle.promises.specs.Whole.{WholeFor}
-use Rattle.promises.specs.Reading.{refs-few, ref-room, ref-begins, words-closed}
+use Rattle.promises.specs.Reading.{refs-few, words-closed}
 use Rattle.promises.specs.Crossings.{entries-crossing}
 use Rattle.promises.specs.OwnedPages.{counted-objects}
 use Rattle.promises.specs.Promises.{DidHere}
@@ -49,9 +47,9 @@ use Rattle.ending.specs.Space.{Crosses, space-enough}
 use Rattle.ending.specs.Copied.{placed, forwarded-placed}
 use Rattle.ending.specs.Finish.{same-from}
 use Rattle.collect.specs.Numbering.{space, Numbering, keeps}
-use Rattle.collect.specs.Tables.{Tallied, used₂, word₄, regular₄, depth₄, open₄, marks₄, variable₄, made₄, freed₄, count₃}
-use Rattle.collect.specs.Sliding.{refs₂, field₂, begins₂, was₂, head₅, slot₅, object₅, far₅, size₅, placement₅, only₅, unused₅}
-use Rattle.collect.specs.Places.{packed}
+use Rattle.collect.specs.TablesAfter.{SpaceCounted, word₄, regular₄, depth₄, open₄, marks₄, variable₄, made₄, freed₄}
+use Rattle.collect.specs.Sliding.{head₅, slot₅, object₅, far₅, size₅, placement₅, only₅, unused₅}
+use Rattle.collect.specs.PlacesByRules.{packed}
 
 module _ {s : Sizes} {w w₁ : Words} {n : ℕ} {l W₂ : List ℕ} {K : ℕ} (a : Numbering s w w₁ n l W₂ K) where
   -- the objects of the control space, by its count, are those that are freed and the survivors
@@ -60,33 +58,33 @@ module _ {s : Sizes} {w w₁ : Words} {n : ℕ} {l W₂ : List ℕ} {K : ℕ} (a
   freed-rest =
       omega (
         arith,
-        survivors-rest s w (a .whole) control w₁ (a .marks) control-pos,
+        survivors-rest s w (a .keeping .whole) control w₁ (a .keeping .marks) control-pos,
         over-cells s (w₁ .tables) (λ c. 1),
         sum-same (λ c. marked s (w₁ .tables) c * 1) (marked s (w₁ .tables)) (cellCount s) (λ c h. omega arith),
         a .numbered .count,
-        counted-objects s w (a .whole) control control-pos (omega arith),
+        counted-objects s w (a .keeping .whole) control control-pos (omega arith),
       )
 
   module _ {T₂ : List ℕ} (Y : Variables s (varCount s) W₂ (w₁ .tables) T₂) {W₄ W₅ T₃ : List ℕ} (Z : Trimmed s l n K W₄ T₂ W₅ T₃) {W₃ : List ℕ} (R : Rewritten (Slot s W₂ T₂) W₂ W₃)
-      (S : Slid s l T₂ W₃ W₄) {f : ℕ} {T₄ : List ℕ} (C : Tallied s K f T₃ T₄) where
+      (S : Slid s l T₂ W₃ W₄) {f : ℕ} {T₄ : List ℕ} (C : SpaceCounted s K f T₃ T₄) where
     rm : Room s (length (w .tables))
-    rm = a .room
+    rm = a .keeping .room
 
     size₄ : length T₄ ≡ length (w .tables)
-    size₄ = C .size ∙ Z .tables-size ∙ Y .size ∙ a .marks .kept .tables-length
+    size₄ = C .size ∙ Z .tables-size ∙ Y .size ∙ a .keeping .marks .kept .tables-length
 
     pub room₄ : Room s (length T₄)
     room₄ = room-same size₄ rm
 
     placing : (M : List ℕ) → Placing s w (space s w) (words W₅ M T₄) (placed W₂)
-    placing M = record { whole = a .whole; keeps = keeps a; placement = placement₅ a Y Z R S C M }
+    placing M = record { whole = a .keeping .whole; keeps = keeps a; placement = placement₅ a Y Z R S C M }
 
     -- ---- the remember table can be told anew
 
     few₅ : (d : ℕ) → Begins s W₅ T₄ d → refsOf W₅ d ≤ mostFields
     few₅ d u =
         let o = only₅ a Y Z R S C [] d u in
-        omega (arith, ap (refsOf W₅) (o .2), ap (fieldCount Reference) (head₅ a Y Z R S (o .0) (o .1)), refs-few s w (a .whole) (o .0) (o .1 .used))
+        omega (arith, ap (refsOf W₅) (o .2), ap (fieldCount Reference) (head₅ a Y Z R S (o .0) (o .1)), refs-few s w (a .keeping .whole) (o .0) (o .1 .used))
 
     names₅ : (d g : ℕ) → Begins s W₅ T₄ d → g < refsOf W₅ d → Names s (fieldOf W₅ d g)
     names₅ d g u m =
@@ -103,15 +101,15 @@ module _ {s : Sizes} {w w₁ : Words} {n : ℕ} {l W₂ : List ℕ} {K : ℕ} (a
 
     pub readable₅ : Readable s 0 (cellsWords s) W₅ T₄
     readable₅ =
-        readable (omega (arith, a .whole .sized .cells, size₅ a Y Z R S)) room₄ (λ page b. regular₄ a Y Z C .pages page b .cells) few₅ names₅
+        readable (omega (arith, a .keeping .whole .sized .cells, size₅ a Y Z R S)) room₄ (λ page b. regular₄ a Y Z C .pages page b .cells) few₅ names₅
 
     pub fits₅ : AtMost (IsCrossing s W₅ T₄) (s .entries)
     fits₅ =
         at-most-less crosses
-        (space-enough (placing []) (region-after s w (a .whole) control control-pos)
-        (omega (arith, crossing-fewer s (graphOf s w) (words-closed s w (a .whole)), entries-crossing s w (a .whole), a .whole .remember .entries .room)))
+        (space-enough (placing []) (region-after s w (a .keeping .whole) control control-pos)
+        (omega (arith, crossing-fewer s (graphOf s w) (words-closed s w (a .keeping .whole)), entries-crossing s w (a .keeping .whole), a .keeping .whole .remember .entries .room)))
       where
-        crosses : (x : ℕ) → IsCrossing s W₅ T₄ x → Crosses (placing []) (region-after s w (a .whole) control control-pos) x
+        crosses : (x : ℕ) → IsCrossing s W₅ T₄ x → Crosses (placing []) (region-after s w (a .keeping .whole) control control-pos) x
         crosses x p =
             let o = live-here (placing []) (slot₅ a Y Z R S) (only₅ a Y Z R S C []) x (cross-slot s W₅ T₄ x p) in
             (o, λ z. omega (arith, p, cross-here (placing []) (slot₅ a Y Z R S) (only₅ a Y Z R S C []) x o))
@@ -149,4 +147,4 @@ module _ {s : Sizes} {w w₁ : Words} {n : ℕ} {l W₂ : List ℕ} {K : ℕ} (a
           λ i. record { made = made₄ a Y Z C i; freed = (freed₄ a Y Z C ∙ ap (λ (k : ℕ). counted (freedOf s (w .tables) + k)) same) i }
 
       pub promised : (t : ℕ) → t < s .threads → DidHere s w (collectOf t) w′ (done 0)
-      promised = collected-did s w (a .whole) w′ (placed W₂) evacuated (depth₄ a Y Z C) counted-freed (packed a Y Z C M)
+      promised = collected-did s w (a .keeping .whole) w′ (placed W₂) evacuated (depth₄ a Y Z C) counted-freed (packed a Y Z C M)

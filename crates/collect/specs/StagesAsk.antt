@@ -1,18 +1,18 @@
 -- What the stages of a collection ask for, from what was left before them.
-use mathlib.Core.Path.{_≡_, refl, sym, ap, subst, _∙_}
-use mathlib.Core.Logic.{_≢_, ⊎-elim}
+use mathlib.Core.Path.{_≡_, sym, ap, subst, _∙_}
+use mathlib.Core.Logic.{⊎-elim}
 use mathlib.Core.List.{List}
 use Prim.Native.Nat.{ℕ, _-_, _^_, _≤_, _<_}
 use native.Mathlib.Omega.{arith}
 use lib.ListN.{length, getD}
 use Rattle.lists.specs.Part.{Lists, lists-like}
 use Rattle.rules.specs.declared.Sizes.{Sizes}
-use Rattle.rules.specs.Regions.{control, regions}
+use Rattle.rules.specs.Regions.{control}
 use Rattle.rules.specs.Graph.{pagesOf}
 use Rattle.layout.specs.Places.{Room, cellsWords, ownerOf, usedOf, countOf, varOf, varCount}
-use Rattle.layout.specs.Cells.{fieldOf, refsOf, refTo, workOf, pageOf, pageCells, mostFields, cellNamed}
+use Rattle.layout.specs.Cells.{refTo, pageCells}
 use Rattle.layout.specs.Objects.{Slot, begins-page}
-use Rattle.layout.specs.Words.{Words, words, Begins, Names, ownerIn, refCount}
+use Rattle.layout.specs.Words.{Words, Names, ownerIn, refCount}
 use Rattle.promises.specs.Whole.{WholeFor}
 use Rattle.promises.specs.Reading.{refs-few, ref-room, whole-room}
 use Rattle.mark.specs.Survivors.{Marked}
@@ -22,7 +22,7 @@ use Rattle.pages.specs.Noted.{Noted, noted-kept, none-freed}
 use Rattle.release.specs.Notes.{noted, NoteLowered, lowered}
 use Rattle.settle.specs.Rewrite.{Rewritten, link-same}
 use Rattle.settle.specs.RewriteSlots.{Variables}
-use Rattle.slide.specs.Ranks.{KeptCell, newPlace, MarksListed}
+use Rattle.slide.specs.Ranks.{MarksListed}
 use Rattle.slide.specs.Numbered.{Numbered}
 use Rattle.slide.specs.Slid.{NamedFrom, Slid}
 use Rattle.slide.specs.Trimmed.{Trimmed}
@@ -30,10 +30,10 @@ use Rattle.retell.specs.SlotStretches.{Readable, readable}
 use Rattle.ending.specs.MarkedReady.{ready}
 use Rattle.copy.specs.Passing.{Ready}
 use Rattle.copy.specs.Taking.{room-same}
-use Rattle.collect.specs.Numbering.{space, Keeping, Numbering, keeps, marks-listed, which}
-use Rattle.collect.specs.Tables.{Tallied, used₂, mark₂, room₂, count₃, other-same}
+use Rattle.collect.specs.Numbering.{space, Keeping, Numbering, marks-listed, which}
+use Rattle.collect.specs.TablesAfter.{SpaceCounted, used₂, mark₂, room₂, count₃, other-same}
 use Rattle.collect.specs.Sliding.{refs₂, field₂, was₂, kept-back, place-same}
-use Rattle.collect.specs.Collected.{freed-rest}
+use Rattle.collect.specs.CollectDid.{freed-rest}
 
 pub keeping : {s : Sizes} {w w₁ : Words} → WholeFor s w → Marked s w (space s w) w₁ → length (w .tables) < 2 ^ 63 → Keeping s w w₁
 keeping {s} {w} whole marks fits = record { whole = whole; room = whole-room s w whole fits; marks = marks }
@@ -59,29 +59,29 @@ module _ {s : Sizes} {w w₁ : Words} (k : Keeping s w w₁) where
     marks-for = record { rises = h .rises; small = k .marks .small; none = unlisted (k .marks) listed }
 
     pub numbering : {W₂ : List ℕ} {K : ℕ} → Numbered s l (w₁ .tables) (w₁ .cells) W₂ K → Numbering s w w₁ n l W₂ K
-    numbering x = record { whole = k .whole; room = k .room; marks = k .marks; list = listed; numbered = x }
+    numbering x = record { keeping = k; list = listed; numbered = x }
 
 module _ {s : Sizes} {w w₁ : Words} {n : ℕ} {l W₂ : List ℕ} {K : ℕ} (a : Numbering s w w₁ n l W₂ K) where
   pub long₂ : cellsWords s ≤ length W₂
-  long₂ = omega (arith, a .whole .sized .cells, a .numbered .size, a .marks .kept .cells-length)
+  long₂ = omega (arith, a .keeping .whole .sized .cells, a .numbered .size, a .keeping .marks .kept .cells-length)
 
   -- what a variable or a slot of the words before names is a cell of the heap
   pub variables-ask : (i : ℕ) → i < varCount s → Names s (varOf s (w₁ .tables) i)
   variables-ask i h =
-      subst (Names s) (sym (var-same (a .marks) (a .room) i h))
-      (λ ne. begins-page s (w .cells) (w .tables) _ (a .whole .variables i h (omega arith)))
+      subst (Names s) (sym (var-same (a .keeping .marks) (a .keeping .room) i h))
+      (λ ne. begins-page s (w .cells) (w .tables) _ (a .keeping .whole .variables i h (omega arith)))
 
   module _ {T₂ : List ℕ} (Y : Variables s (varCount s) W₂ (w₁ .tables) T₂) where
     -- every slot can be rewritten
     pub slots-ask : Readable s 0 (cellsWords s) W₂ T₂
     slots-ask =
-        readable long₂ (room₂ a Y) (λ page b. omega (arith, used₂ a Y page b, a .whole .pages page b .filled .cells))
-        (λ c u. omega (arith, refs₂ a Y c, refs-few s w (a .whole) c (was₂ a Y c u)))
+        readable long₂ (room₂ a Y) (λ page b. omega (arith, used₂ a Y page b, a .keeping .whole .pages page b .filled .cells))
+        (λ c u. omega (arith, refs₂ a Y c, refs-few s w (a .keeping .whole) c (was₂ a Y c u)))
         (λ c f u m.
         let b = was₂ a Y c u in
         let m′ : f < refCount w c = omega (arith, m, refs₂ a Y c) in
-        subst (Names s) (sym (field₂ a Y c f (ref-room s w (a .whole) c f b m′)))
-        (λ ne. begins-page s (w .cells) (w .tables) _ (a .whole .objects c b .references f m′ (omega arith))))
+        subst (Names s) (sym (field₂ a Y c f (ref-room s w (a .keeping .whole) c f b m′)))
+        (λ ne. begins-page s (w .cells) (w .tables) _ (a .keeping .whole .objects c b .references f m′ (omega arith))))
 
     -- the kept cells are marked still, and name their places
     pub marks-ask : MarksListed s n l T₂
@@ -102,7 +102,7 @@ module _ {s : Sizes} {w w₁ : Words} {n : ℕ} {l W₂ : List ℕ} {K : ℕ} (a
           link-same R c ∙ a .numbered .kept c (kept-back s (w₁ .tables) T₂ (mark₂ a Y) c k) ∙ ap refTo (sym (place-same s (w₁ .tables) T₂ (mark₂ a Y) l c (k .0)))
 
       pub used-ask : (j : ℕ) → j < n → usedOf s T₂ (getD l j 0) ≤ pageCells
-      used-ask j h = let b = a .list .rises .low j h in omega (arith, used₂ a Y (getD l j 0) b, a .whole .pages (getD l j 0) b .filled .cells)
+      used-ask j h = let b = a .list .rises .low j h in omega (arith, used₂ a Y (getD l j 0) b, a .keeping .whole .pages (getD l j 0) b .filled .cells)
 
       module _ {W₄ : List ℕ} (S : Slid s l T₂ W₃ W₄) where
         pub long₄ : cellsWords s ≤ length W₄
@@ -121,13 +121,13 @@ module _ {s : Sizes} {w w₁ : Words} {n : ℕ} {l W₂ : List ℕ} {K : ℕ} (a
       freed-is = ap (λ (x : ℕ). x - K) (count₃ a Y Z)
 
       -- the notes are right again: no page that was not listed has become free
-      pub collected-noted : {f : ℕ} {T₄ notes notes′ : List ℕ} → Tallied s K f T₃ T₄ → Noted s (w₁ .tables) notes → notes′ ≡ noted (s .pages) notes l n → Noted s T₄ notes′
+      pub collected-noted : {f : ℕ} {T₄ notes notes′ : List ℕ} → SpaceCounted s K f T₃ T₄ → Noted s (w₁ .tables) notes → notes′ ≡ noted (s .pages) notes l n → Noted s T₄ notes′
       collected-noted {f} {T₄} {notes} {notes′} C h e =
           subst (Noted s T₄) (sym e)
           (record {
             long = omega (arith, h .long, d .long);
             passed = λ x m b z. ⊎-elim (λ q. omega (arith, d .below (q .0) (q .1), q .2))
-                (λ y. h .passed x (omega (arith, d .less)) b (owner-same (a .marks) (a .room) x b ∙ sym (other-same a Y Z C x b y .owner) ∙ z)) (which a x b);
+                (λ y. h .passed x (omega (arith, d .less)) b (owner-same (a .keeping .marks) (a .keeping .room) x b ∙ sym (other-same a Y Z C x b y .owner) ∙ z)) (which a x b);
           })
         where
           d : NoteLowered (s .pages) notes l n (noted (s .pages) notes l n)
