@@ -1,5 +1,5 @@
--- The words after an accepted end, or a collection (02, W5), said of the words before it (01, "Region rules"). `cell` is the cell afterwards of the object that was in
--- a cell.
+-- The words after an accepted end, or a collection (02, W5), said of the words before it (01, "Region rules"). `cell` is the cell afterwards of
+-- the object that was in a cell.
 use Prim.Native.Nat.{ℕ, _≤_, _<_}
 use mathlib.Core.Path.{_≡_}
 use mathlib.Core.List.{List}

@@ -7,16 +7,13 @@ use mathlib.Core.List.{List, _++_}
 use Prim.Native.Nat.{ℕ, suc, _+_, _/_, _<_}
 use native.Mathlib.Omega.{arith}
 use native.Mathlib.Numerals.{one-add}
-use native.Mathlib.Decide.{ℕ-discrete}
 use lib.Dec.{eqb}
 use lib.ListN.{getD}
 use Rattle.lists.specs.Listed.{listed, listed-same}
 use Rattle.lists.specs.Members.{In, in-append, in-left, in-right, in-bounds}
 use Rattle.rules.specs.declared.Sizes.{Sizes}
-use Rattle.rules.specs.Regions.{threadOf, parent, join}
-use Rattle.laws.specs.RegionLaws.{join-control}
-use Rattle.laws.specs.JoinLaws.{join-comm, parent-around}
-use Rattle.laws.specs.GraphLaws.{Refers, Holds, bySlot, byOwn, byOther}
+use Rattle.laws.specs.GraphLaws.{Refers}
+use Rattle.laws.specs.Collected.{Holder, variable, slot, all-call, holder-calls, calls-holder}
 use Rattle.layout.specs.Places.{varOf, cellsWords, varCount}
 use Rattle.layout.specs.Cells.{fieldAt, pageOf, pageAt}
 use Rattle.layout.specs.Objects.{field-on, field-slot, slot-low, slot-page}
@@ -33,22 +30,13 @@ use Rattle.mark.specs.Reached.{refers-field, field-refers}
 use Rattle.mark.specs.Survivors.{Marked, Called, levels-marked, clean-at}
 use Rattle.keep.specs.Others.{OtherSlot, otherHeld, other-some, held-other, other-ref, kept-other}
 
--- ---- what holders of region 1 call for
-
-module _ (s : Sizes) where
-  control-join : (q : ℕ) → join s 1 q ≡ 1
-  control-join q = join-comm s 1 q ∙ join-control s q
-
-  control-parent : parent s 1 ≡ 1
-  control-parent = sym (parent-around s 1 .is) ∙ join-control s (parent s 1)
-
-  -- a variable is held, whatever its thread
-  variable-held : (T : List ℕ) (i : ℕ) → varHeld s T 0 1 1 i ≡ varOf s T i
-  variable-held T i = sym (var-some s T 0 1 1 i 1 (varOf s T i) (same (eqb (i / s .variables) 0)) refl refl)
-    where
-      same : (b : Bool) → _≡_ {A = ℕ} 1 (cond b 1 1)
-      same true = refl
-      same false = refl
+-- a variable is held, whatever its thread
+variable-held : (s : Sizes) (T : List ℕ) (i : ℕ) → varHeld s T 0 1 1 i ≡ varOf s T i
+variable-held s T i = sym (var-some s T 0 1 1 i 1 (varOf s T i) (same (eqb (i / s .variables) 0)) refl refl)
+  where
+    same : (b : Bool) → _≡_ {A = ℕ} 1 (cond b 1 1)
+    same true = refl
+    same false = refl
 
 -- all that holders of region 1 hold
 unfoldable pub keptRefs : Sizes → List ℕ → List ℕ → List ℕ
@@ -66,32 +54,28 @@ kept-pending {p} {W} {T} {W₁} {T₁} {W₂} {T₂} {held} {top} s a b =
     subst (λ (x : List ℕ). Pending p 1 1 W T (listed (varHeld p T 0 1 1) (varCount p) ++ x) W₂ T₂ top) (listed-same (otherHeld p W₁ T₁) (otherHeld p W T) (cellsWords p) (λ q l. same q))
     (seeded 1 (varHeld p T 0 1 1) (otherHeld p W₁ T₁) (varCount p) (cellsWords p) s (λ q l. subst (IsRef p W T) (sym (same q)) (other-ref p W T q s)) a b)
 
--- ---- they are the rules' holders
+-- ---- they are the holders of the rules
 
 module _ (s : Sizes) (w : Words) (k : WholeFor s w) where
-  kept-holds : (x : ℕ) → In (1 + x) (keptRefs s (w .cells) (w .tables)) → Holds s (graphOf s w) 1 x 1
+  kept-holder : (x : ℕ) → In (1 + x) (keptRefs s (w .cells) (w .tables)) → Holder (graphOf s w) x
   unfolding keptRefs
-  kept-holds x i =
-      ⊎-elim variable slot (in-append (1 + x) (listed (varHeld s (w .tables) 0 1 1) (varCount s)) (listed (otherHeld s (w .cells) (w .tables)) (cellsWords s)) i)
+  kept-holder x i =
+      ⊎-elim by-variable by-slot (in-append (1 + x) (listed (varHeld s (w .tables) 0 1 1) (varCount s)) (listed (otherHeld s (w .cells) (w .tables)) (cellsWords s)) i)
     where
-      variable : In (1 + x) (listed (varHeld s (w .tables) 0 1 1) (varCount s)) → Holds s (graphOf s w) 1 x 1
-      variable m =
+      by-variable : In (1 + x) (listed (varHeld s (w .tables) 0 1 1) (varCount s)) → Holder (graphOf s w) x
+      by-variable m =
           let q = in-listed (varHeld s (w .tables) 0 1 1) (varCount s) (1 + x) m in
-          go (q .0) (getD-vars s w (q .0) (q .1) ∙ sym (variable-held s (w .tables) (q .0)) ∙ q .2 ∙ one-add x) (ℕ-discrete (q .0 / s .variables) (threadOf s 1))
-        where
-          go : (i : ℕ) → getD (varsIn s w) i 0 ≡ suc x → Dec (i / s .variables ≡ threadOf s 1) → Holds s (graphOf s w) 1 x 1
-          go i at (yes d) = byOwn i at d (sym (control-parent s))
-          go i at (no d) = byOther i at d refl
+          variable (q .0) (getD-vars s w (q .0) (q .1) ∙ sym (variable-held s (w .tables) (q .0)) ∙ q .2 ∙ one-add x)
 
-      slot : In (1 + x) (listed (otherHeld s (w .cells) (w .tables)) (cellsWords s)) → Holds s (graphOf s w) 1 x 1
-      slot m =
+      by-slot : In (1 + x) (listed (otherHeld s (w .cells) (w .tables)) (cellsWords s)) → Holder (graphOf s w) x
+      by-slot m =
           let q = in-listed (otherHeld s (w .cells) (w .tables)) (cellsWords s) (1 + x) m in
           let o = held-other s (w .cells) (w .tables) (q .0) x (q .2) in
           let d = o .0 .slot in
           let home : homeIn s w (d .object) ≡ ownerIn s w (pageAt (q .0)) = used-home s w (d .object) (d .begins) ∙ ap (ownerIn s w) (sym (slot-page s (w .cells) (w .tables) (q .0) d)) in
-          bySlot (d .object)
+          slot (d .object)
           (field-refers s w k (d .object) (d .field) x (d .begins) (d .low) (ap (λ (z : ℕ). getD (w .cells) z 0) (d .at) ∙ o .1 ∙ one-add x))
-          (λ z. omega (arith, o .0 .region, home)) (sym (control-join s (homeIn s w (d .object))))
+          (λ z. omega (arith, o .0 .region, home))
 
   variable-in : (x i : ℕ) → getD (varsIn s w) i 0 ≡ suc x → In (1 + x) (keptRefs s (w .cells) (w .tables))
   unfolding keptRefs
@@ -117,16 +101,15 @@ module _ (s : Sizes) (w : Words) (k : WholeFor s w) where
       (listed-in (otherHeld s (w .cells) (w .tables)) (cellsWords s) (fieldAt y (i .0)) (1 + x) (slot-low s (w .cells) (w .tables) (fieldAt y (i .0)) d)
       (other-some s (w .cells) (w .tables) (fieldAt y (i .0)) o ∙ i .2 ∙ sym (one-add x)))
 
-  holds-kept : (x q : ℕ) → Holds s (graphOf s w) 1 x q → (q ≡ 1) × In (1 + x) (keptRefs s (w .cells) (w .tables))
-  holds-kept x q (byOwn i at d e) = (e ∙ control-parent s, variable-in x i at)
-  holds-kept x q (byOther i at d e) = (e, variable-in x i at)
-  holds-kept x q (bySlot y f n e) = (e ∙ control-join s (homeIn s w y), slot-in x y f n)
+  holder-kept : (x : ℕ) → Holder (graphOf s w) x → In (1 + x) (keptRefs s (w .cells) (w .tables))
+  holder-kept x (variable i at) = variable-in x i at
+  holder-kept x (slot y f n) = slot-in x y f n
 
   kept-called : Called s w 1 1 (λ l. 1) (λ l. keptRefs s (w .cells) (w .tables))
   kept-called =
       record {
-        holds = λ l x h. kept-holds x;
-        held = λ x q h o. let r = holds-kept x q o in (0, omega arith, r .0, r .1);
+        holds = λ l x h i. holder-calls s (graphOf s w) x (kept-holder x i);
+        held = λ x q h o. (0, omega arith, all-call s (graphOf s w) x q o, holder-kept x (calls-holder s (graphOf s w) x q o));
         outward = λ l i a b. absurd (let z : ⊥ = omega arith in z);
       }
 

@@ -3,7 +3,7 @@
 use Prim.Native.Nat.{ℕ, zero, suc, _-_, _/_, _≤_, _<_}
 use native.Mathlib.Omega.{arith}
 use native.Mathlib.Decide.{ℕ-discrete}
-use mathlib.Core.Path.{_≡_, refl, sym, ap, ap₂, _∙_}
+use mathlib.Core.Path.{_≡_, refl, sym, ap, ap₂, subst, _∙_}
 use mathlib.Core.Logic.{_↔_, inl, inr}
 use mathlib.Core.List.{List, [], _∷_}
 use mathlib.Core.Bool.{Bool, cond, not, _&&_}
@@ -49,15 +49,19 @@ module _ (s : Sizes) (g : Graph) where
           let nz : target s g control x ≡ 0 → ⊥ = λ z. a (w ∙ z) in
           w ∙ kept-target x (omega arith) ∙ sym e
 
-  holder-calls : (y : ℕ) → Holder g y → (q : ℕ) × Holds s g control y q
-  holder-calls y (slot z f o) = (join s control (g .home z), bySlot z f o refl)
-  holder-calls y (variable i at) = go (ℕ-discrete (i / s .variables) (threadOf s control))
+  -- so the rules' holders of it are these
+  pub holder-calls : (y : ℕ) → Holder g y → Holds s g control y control
+  holder-calls y h = let c = some h in subst (λ (q : ℕ). Holds s g control y q) (all-call y (c .0) (c .1)) (c .1)
     where
-      go : Dec (i / s .variables ≡ threadOf s control) → (q : ℕ) × Holds s g control y q
-      go (yes e) = (parent s control, byOwn i at e refl)
-      go (no n) = (1, byOther i at n refl)
+      some : Holder g y → (q : ℕ) × Holds s g control y q
+      some (slot z f o) = (join s control (g .home z), bySlot z f o refl)
+      some (variable i at) = go (ℕ-discrete (i / s .variables) (threadOf s control))
+        where
+          go : Dec (i / s .variables ≡ threadOf s control) → (q : ℕ) × Holds s g control y q
+          go (yes e) = (parent s control, byOwn i at e refl)
+          go (no n) = (1, byOther i at n refl)
 
-  calls-holder : (y q : ℕ) → Holds s g control y q → Holder g y
+  pub calls-holder : (y q : ℕ) → Holds s g control y q → Holder g y
   calls-holder y q (bySlot z f o e) = slot z f o
   calls-holder y q (byOwn i at t e) = variable i at
   calls-holder y q (byOther i at t e) = variable i at
@@ -70,8 +74,11 @@ module _ (s : Sizes) (g : Graph) where
         let r = target-reached s g control x (omega arith) in
         (r .1 .first, calls-holder (r .1 .first) (r .0) (r .1 .held), r .1 .lies, r .1 .leads),
     λ h z.
-        let q = holder-calls (h .0) (h .1) in
-        omega (arith, target-absorbs s g control x (q .0) (record { first = h .0; lies = h .2; held = q .1; leads = h .3 }) .some, home-went s g control x e),
+        omega (
+          arith,
+          target-absorbs s g control x control (record { first = h .0; lies = h .2; held = holder-calls (h .0) (h .1); leads = h .3 }) .some,
+          home-went s g control x e,
+        ),
   )
 
   -- ---- it takes no new page

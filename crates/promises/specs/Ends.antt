@@ -1,5 +1,5 @@
--- An end as a part of the words: the pages that go, and where the object in a cell of theirs goes. The end of one region is an
--- instance, and with the control space for the region a collection (02, W5).
+-- An end as a part of the words: the pages that go, and where the object in a cell of theirs goes. The end of one region is an instance, and
+-- with the control space for the region a collection (02, W5).
 use Prim.Native.Nat.{ℕ, _<_}
 use native.Mathlib.Decide.{ℕ-discrete}
 use mathlib.Core.Path.{_≡_}

@@ -1,6 +1,6 @@
 -- Where objects are packed as 02, W3 says, a command takes just the pages that question 13 counts: as many pages are free after it as before,
--- less the new pages of the regions that grow, and with those of the regions that shrink. At an end that is
--- the region that ended alone, at a collection the control space.
+-- less the new pages of the regions that grow, and with those of the regions that shrink. At an end that is the region that ended alone, at a
+-- collection the control space.
 use Prim.Native.Nat.{ℕ, suc, _+_, _-_}
 use native.Mathlib.Omega.{arith}
 use mathlib.Core.Path.{_≡_, sym, ap, _∙_}
