@@ -1,19 +1,20 @@
 -- The lent slice: what it is to have the chains of a remember table, and to be given them.
-use Prim.Native.Nat.{ℕ, _+_, _*_, _≤_, _<_}
-use mathlib.Core.List.{List, _++_}
+use Prim.Native.Nat.{ℕ, suc, _+_, _-_, _≤_, _<_}
+use mathlib.Core.List.{List, [], _++_}
 use mathlib.Core.Path.{_≡_, refl, sym, ap, subst, _∙_}
 use native.Mathlib.Omega.{arith}
 use native.Mathlib.Nat.{mul-le-mul}
-use lib.ListN.{length, take, drop, take-append-drop, length-append, length-drop}
+use native.Mathlib.Decide.{decLt}
+use lib.ListN.{length, getD, take, drop, replicate, take-append-drop, length-append, length-drop}
 use lib.Seq.{take-at}
+use Rattle.lists.specs.Zeros.{all-zero}
 use Rattle.rules.specs.declared.Sizes.{Sizes}
 use Rattle.rules.specs.Regions.{regions}
 use Rattle.layout.specs.Places.{entriesUsed, chainsWords}
 use Rattle.remember.specs.Table.{entriesIn}
 use Rattle.remember.specs.TableWords.{to-long}
 use Rattle.chains.specs.Chains.{chainsOf, Listed, Chainable, ChainsWhole, chainsIn, withChains}
-use Rattle.chains.specs.Firsts.{chains-long}
-use Rattle.chains.specs.Walking.{whole-long}
+use Rattle.chains.specs.Firsts.{first-end, next-end, chains-long, chain-first, chain-next}
 
 -- with the last region, as read
 module _ {s : Sizes} {m : List ℕ} (c : Chainable s m) {R : ℕ} (e : R ≡ regions s) where
@@ -46,3 +47,19 @@ module _ (s : Sizes) (m k : List ℕ) (room : entriesUsed m ≤ s .entries) wher
 
   pub written-long : chainsWords s ≤ length k → length (withChains s m k) ≡ length k
   written-long l = omega (arith, length-append (chainsIn s m) (drop (chainsWords s) k), chains-in-long, length-drop (chainsWords s) k)
+
+-- a table without entries has no chains
+pub no-chains : (s : Sizes) (m : List ℕ) → entriesUsed m ≡ 0 → chainsIn s m ≡ replicate (chainsWords s) 0
+no-chains s m none =
+    all-zero (chainsIn s m) (chainsWords s) (chains-in-long s m [] (omega arith)) (λ i l. go i l (decLt i (regions s)))
+  where
+    empty : length (entriesIn (s .entries) m) ≡ 0
+    empty = to-long (s .entries) m (entriesUsed m) ∙ none
+
+    go : (i : ℕ) → i < chainsWords s → Dec (i < regions s) → getD (chainsIn s m) i 0 ≡ 0
+    go i l (yes h) =
+        chain-first (regions s) (s .entries) (entriesIn (s .entries) m) (omega (arith, empty)) i h ∙ first-end (suc i) (entriesIn (s .entries) m) 0 (omega (arith, empty))
+    go i l (no h) =
+        let e : regions s + (i - regions s) ≡ i = omega arith in
+        ap (λ (j : ℕ). getD (chainsIn s m) j 0) (sym e) ∙ chain-next (regions s) (s .entries) (entriesIn (s .entries) m) (omega (arith, empty)) (i - regions s)
+        ∙ next-end (entriesIn (s .entries) m) (i - regions s) (omega (arith, empty))
