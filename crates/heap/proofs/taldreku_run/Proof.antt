@@ -1,8 +1,8 @@
 -- A refused run has changed nothing, and the block is obeyed where no question said no.
 use Rattle.heap.specs.Looping.{ran-refused, asked-none}
 use borrow.Author.Needs.{needs}
-use Rattle.heap.proofs.run.taldreku_run.Statement.{statement}
-use Rattle.heap.proofs.run.taldreku_run.Tie as tie
+use Rattle.heap.proofs.taldreku_run.Statement.{statement}
+use Rattle.heap.proofs.taldreku_run.Tie as tie
 
 ask-requires : tie.Need-ask-requires
 ask-requires c κs = search needs

@@ -8,10 +8,10 @@ use lib.ListN.{getD, length, set, drop, replicate, length-set, length-append, le
 use lib.Seq.{ext-getD, getD-append-add, getD-drop}
 use Rattle.rules.specs.declared.Sizes.{Sizes}
 use Rattle.rules.specs.Terms.{InRange}
-use Rattle.layout.specs.Places.{withSizes, cellsWords, rememberWords, tablesWords}
+use Rattle.layout.specs.Places.{withSizes, cellsWords, rememberWords, tablesWords, chainsWords}
 use Rattle.lists.specs.Stores.{put, past}
 use Rattle.lists.specs.Zeros.{Cleared, cleared-to}
-use Rattle.layout.specs.Words.{Words, words}
+use Rattle.promises.specs.Slices.{Slices, slices}
 use Rattle.promises.specs.Promises.{LongEnough, PrepareAsked, outOfRange, short, accepted, Prepared}
 
 -- a list of n words that begins with h and is zero up to n, and then as l
@@ -121,42 +121,43 @@ remember-unused s l k b c =
     first (suc i) h = absurd (let z : ⊥ = omega arith in z)
 
 -- zeros alone
-cells-unused : (s : Sizes) (l k : List ℕ) → cellsWords s ≤ length l → Cleared 0 (cellsWords s) l k → k ≡ replicate (cellsWords s) 0 ++ drop (cellsWords s) l
-cells-unused s l k b c =
-    let e : cellsWords s - 0 ≡ cellsWords s = omega arith in
-    headed [] (cellsWords s) l k (omega arith) b (c .long) (λ i x. absurd (let z : ⊥ = omega arith in z)) (λ i x y. c .zeros i x y) (λ i x. c .high i x)
-    ∙ ap (λ (n : ℕ). replicate n 0 ++ drop (cellsWords s) l) e
+all-unused : (n : ℕ) (l k : List ℕ) → n ≤ length l → Cleared 0 n l k → k ≡ replicate n 0 ++ drop n l
+all-unused n l k b c =
+    let e : n - 0 ≡ n = omega arith in
+    headed [] n l k (omega arith) b (c .long) (λ i x. absurd (let z : ⊥ = omega arith in z)) (λ i x y. c .zeros i x y) (λ i x. c .high i x)
+    ∙ ap (λ (m : ℕ). replicate m 0 ++ drop n l) e
 
 -- ---- prepare's promise from what it did
 
-pub asked-range : {s : Sizes} {w : Words} {q : ℕ} → PrepareAsked s w q → q ≡ 0 → InRange s × LongEnough s w
+pub asked-range : {s : Sizes} {l : Slices} {q : ℕ} → PrepareAsked s l q → q ≡ 0 → InRange s × LongEnough s l
 asked-range (outOfRange e n) z = absurd (let o : ⊥ = omega arith in o)
 asked-range (short e r n) z = absurd (let o : ⊥ = omega arith in o)
 asked-range (accepted e r l) z = (r, l)
 
-pub prepared-refused : {s s′ : Sizes} {w : Words} {q : ℕ} → s ≡ s′ → PrepareAsked s w q → (q ≡ 0 → ⊥) → Prepared s′ w q w
-prepared-refused {s} {s′} {w} {q} e a n =
-    record { asked = subst (λ (z : Sizes). PrepareAsked z w q) e a; refused = λ z. refl; unused = λ z. absurd (n z) }
+pub prepared-refused : {s s′ : Sizes} {l : Slices} {q : ℕ} → s ≡ s′ → PrepareAsked s l q → (q ≡ 0 → ⊥) → Prepared s′ l q l
+prepared-refused {s} {s′} {l} {q} e a n =
+    record { asked = subst (λ (z : Sizes). PrepareAsked z l q) e a; refused = λ z. refl; unused = λ z. absurd (n z) }
 
 five-words : (s : Sizes) → 5 ≤ tablesWords s
 unfolding tablesWords
 five-words s = omega arith
 
-pub asked-five : {s : Sizes} {w : Words} {q : ℕ} → PrepareAsked s w q → q ≡ 0 → 5 ≤ length (w .tables)
+pub asked-five : {s : Sizes} {l : Slices} {q : ℕ} → PrepareAsked s l q → q ≡ 0 → 5 ≤ length (l .words .tables)
 asked-five {s} a z = omega (arith, five-words s, asked-range a z .1 .tables)
 
-pub prepared-done : {s s′ : Sizes} {c m t c₁ t₁ t₂ m₁ m₂ : List ℕ} {q n x y : ℕ} → s ≡ s′ → PrepareAsked s (words c m t) q → q ≡ 0
+pub prepared-done : {s s′ : Sizes} {c m t k c₁ t₁ t₂ m₁ m₂ k₁ : List ℕ} {q n x y z : ℕ} → s ≡ s′ → PrepareAsked s (slices c m t k) q → q ≡ 0
     → Cleared 0 n c c₁ → n ≡ cellsWords s → Cleared 0 x t t₁ → x ≡ tablesWords s → t₂ ≡ withSizes t₁ (s′ .threads) (s′ .variables) (s′ .depth) (s′ .pages) (s′ .entries)
-    → Cleared 0 y m m₁ → y ≡ rememberWords s → m₂ ≡ set m₁ 0 (s′ .entries) → Prepared s′ (words c m t) 0 (words c₁ m₂ t₂)
-prepared-done {s} {s′} {c} {m} {t} {c₁} {t₁} {t₂} {m₁} {m₂} {q} {n} {x} {y} e a z cc g ct u ft cm v fm =
+    → Cleared 0 y m m₁ → y ≡ rememberWords s → m₂ ≡ set m₁ 0 (s′ .entries) → Cleared 0 z k k₁ → z ≡ chainsWords s → Prepared s′ (slices c m t k) 0 (slices c₁ m₂ t₂ k₁)
+prepared-done {s} {s′} {c} {m} {t} {k} {c₁} {t₁} {t₂} {m₁} {m₂} {k₁} e a z cc g ct u ft cm v fm ck d =
     let ar = asked-range a z in
-    let long : LongEnough s′ (words c m t) = subst (λ (k : Sizes). LongEnough k (words c m t)) e (ar .1) in
+    let long : LongEnough s′ (slices c m t k) = subst (λ (s : Sizes). LongEnough s (slices c m t k)) e (ar .1) in
     record {
       asked = accepted refl (subst InRange e (ar .0)) long;
       refused = λ n. absurd (n refl);
-      unused = λ k. record {
+      unused = λ _. record {
         tables = ft ∙ tables-unused s′ t t₁ (five-words s′) (long .tables) (cleared-to ct (u ∙ ap tablesWords e));
         remember = fm ∙ remember-unused s′ m m₁ (long .remember) (cleared-to cm (v ∙ ap rememberWords e));
-        cells = cells-unused s′ c c₁ (long .cells) (cleared-to cc (g ∙ ap cellsWords e));
+        cells = all-unused (cellsWords s′) c c₁ (long .cells) (cleared-to cc (g ∙ ap cellsWords e));
+        chains = all-unused (chainsWords s′) k k₁ (long .chains) (cleared-to ck (d ∙ ap chainsWords e));
       };
     }

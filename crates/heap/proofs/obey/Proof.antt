@@ -3,8 +3,8 @@ use mathlib.Core.Path.{sym, ap, _∙_}
 use Rattle.commands.specs.declared.Obeyed.the-variants.{Ends}
 use Rattle.heap.specs.Running.{obeyed-answered, left-end, left-collection, left-whole, left-did}
 use borrow.Author.Needs.{needs}
-use Rattle.heap.proofs.run.obey.Statement.{statement}
-use Rattle.heap.proofs.run.obey.Tie as tie
+use Rattle.heap.proofs.obey.Statement.{statement}
+use Rattle.heap.proofs.obey.Tie as tie
 
 obey-requires : tie.Need-obey-requires
 obey-requires c κs = search needs

@@ -1,8 +1,8 @@
 -- What was obeyed is command i.
 use Rattle.heap.specs.Running.{did-same}
 use borrow.Author.Needs.{needs}
-use Rattle.heap.proofs.run.obey_at.Statement.{statement}
-use Rattle.heap.proofs.run.obey_at.Tie as tie
+use Rattle.heap.proofs.obey_at.Statement.{statement}
+use Rattle.heap.proofs.obey_at.Tie as tie
 
 command-at-requires : tie.Need-command-at-requires
 command-at-requires c κs = search needs

@@ -5,8 +5,8 @@ use Rattle.lists.specs.Tests.{not-is}
 use Rattle.promises.specs.Promises.{notWhole, uneven, short, accepted}
 use native.Mathlib.Omega.{arith}
 use borrow.Author.Needs.{needs}
-use Rattle.heap.proofs.run.ask.Statement.{statement}
-use Rattle.heap.proofs.run.ask.Tie as tie
+use Rattle.heap.proofs.ask.Statement.{statement}
+use Rattle.heap.proofs.ask.Tie as tie
 
 whole-requires : tie.Need-whole-requires
 whole-requires c κs = search needs

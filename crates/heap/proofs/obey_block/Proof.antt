@@ -12,8 +12,8 @@ use Rattle.promises.specs.Chained.{asked-whole}
 use Rattle.pages.specs.Noted.{noteWords, Noted, noted-start}
 use Rattle.heap.specs.Looping.{asked-room}
 use Rattle.heap.specs.Running.{Turning, turn-start, turn-ready, turn-fits, turn-more, turn-end, whole-ready, looped-found}
-use Rattle.heap.proofs.run.obey_block.Statement.{statement}
-use Rattle.heap.proofs.run.obey_block.Tie as tie
+use Rattle.heap.proofs.obey_block.Statement.{statement}
+use Rattle.heap.proofs.obey_block.Tie as tie
 
 abbrev Inv-loop : tie.InvT-loop
 Inv-loop cells₀ remember₀ tables₀ block answers₀ p n notes₀ i₀ cells remember tables answers notes i = Turning p (words cells₀ remember₀ tables₀) block answers₀ cells remember tables answers i × (n ≡ size block) × (n < 2305843009213693952) × (length notes ≡ noteWords) × Noted p tables notes
