@@ -22,8 +22,11 @@ same-length-3 c = search needs
 same-length-4 : tie.Need-same-length-4
 same-length-4 c = search needs
 
+same-length-5 : tie.Need-same-length-5
+same-length-5 c = search needs
+
 returns : tie.Need-returns
-returns c = (did-same (c .before .before .before .before .before .before .before .before .obey .ensures .0) (c .before .before .before .before .before .before .before .before .before .command-at .ensures), c .before .before .before .before .before .before .before .before .obey .ensures .1)
+returns c = let obey = @obey in (did-same (obey .ensures .0) (@command-at .ensures), obey .ensures .1)
 
 pub obey-at-spec : {M : Type 1} → statement M
 obey-at-spec =
@@ -35,4 +38,5 @@ obey-at-spec =
     same-length-2
     same-length-3
     same-length-4
+    same-length-5
     returns)

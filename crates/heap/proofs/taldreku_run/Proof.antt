@@ -19,14 +19,14 @@ same-length-3 c = search needs
 same-length-4 : tie.Need-same-length-4
 same-length-4 c = search needs
 
+same-length-5 : tie.Need-same-length-5
+same-length-5 c = search needs
+
 returns : tie.Need-returns
 returns c = search ran-refused
 
 obey-block-requires : tie.Need-obey-block-requires
-obey-block-requires c κs = asked-none (c .before .before .before .before .before .ask .ensures) (c .before .before .before .before .if1 .left)
-
-same-length-5 : tie.Need-same-length-5
-same-length-5 c = search needs
+obey-block-requires c κs = asked-none (@ask .ensures) (@if1 .left)
 
 same-length-6 : tie.Need-same-length-6
 same-length-6 c = search needs
@@ -36,6 +36,12 @@ same-length-7 c = search needs
 
 same-length-8 : tie.Need-same-length-8
 same-length-8 c = search needs
+
+same-length-9 : tie.Need-same-length-9
+same-length-9 c = search needs
+
+same-length-10 : tie.Need-same-length-10
+same-length-10 c = search needs
 
 returns-2 : tie.Need-returns-2
 returns-2 c = search needs
@@ -49,10 +55,12 @@ taldreku-run-spec =
     same-length-2
     same-length-3
     same-length-4
+    same-length-5
     returns
     obey-block-requires
-    same-length-5
     same-length-6
     same-length-7
     same-length-8
+    same-length-9
+    same-length-10
     returns-2)
