@@ -20,7 +20,7 @@ pub record Along (p : Sizes) (r g : ℕ) (m W T : List ℕ) (top : ℕ) (W′ T�
   pub leads : Leads r (p .entries) m place x
 
 module _ {p : Sizes} {r g : ℕ} {m W T : List ℕ} {top : ℕ} {W′ T′ : List ℕ} {t x : ℕ} (a : Along p r g m W T top W′ T′ t x) where
-  -- up to a place b, if no entry between is of r
+  -- also up to a later place b, if the slots between hold nothing
   up-to : (b : ℕ) → a .place ≤ b → ((j : ℕ) → a .place ≤ j → j < b → slotHeld p W m T r g j ≡ 0) → Pushing p r (slotHeld p W m T r g) W T top W′ T′ t b
   up-to b l nulls =
       let e : a .place + (b - a .place) ≡ b = omega arith in
@@ -40,7 +40,7 @@ module _ {p : Sizes} {r g : ℕ} {m W T : List ℕ} {top : ℕ} {W′ T′ : Lis
         up-to (w - 1) (omega (arith, a .leads .later l))
         (λ j h k. sym (slot-elsewhere p W m T r g j (a .leads .between l j h (omega arith))))
 
-  -- the chain ends
+  -- no entry is left
   pub along-all : x ≡ 0 → Pushing p r (slotHeld p W m T r g) W T top W′ T′ t (entriesUsed m)
   along-all z = up-to (entriesUsed m) (a .low) (λ j h k. sym (slot-elsewhere p W m T r g j (a .leads .none z j h k)))
 

@@ -45,8 +45,9 @@ sub-i c = omega (arith, c .wide2 .ensures, c .before .loop-test .taken)
 slot-for-requires : tie.Need-slot-for-requires Inv-loop μ-loop
 slot-for-requires c κs =
     let pre = c .before .before .before .before .before .before .before .before .before .before .before .before .pre in
-    let a = c .before .before .before .before .loop .inv .2 in
-    let pos : 0 < c .before .before .before .before .loop .x = omega (arith, c .before .before .before .loop-test .taken) in
+    let loop = c .before .before .before .before .loop in
+    let a = loop .inv .2 in
+    let pos : 0 < loop .x = omega (arith, c .before .before .before .loop-test .taken) in
     let e = c .before .before .wide2 .ensures in
     let lt = along-low a pos e in
     let s = pushing-shaped (pre .0) (a .pushed) in
@@ -55,8 +56,9 @@ slot-for-requires c κs =
 push-requires : tie.Need-push-requires Inv-loop μ-loop
 push-requires c κs =
     let pre = c .before .before .before .before .before .before .before .before .before .before .before .before .before .before .before .pre in
-    let a = c .before .before .before .before .before .before .before .loop .inv .2 in
-    let pos : 0 < c .before .before .before .before .before .before .before .loop .x = omega (arith, c .before .before .before .before .before .before .loop-test .taken) in
+    let loop = c .before .before .before .before .before .before .before .loop in
+    let a = loop .inv .2 in
+    let pos : 0 < loop .x = omega (arith, c .before .before .before .before .before .before .loop-test .taken) in
     let e = c .before .before .before .before .before .wide2 .ensures in
     let lt = along-low a pos e in
     let h = along-here a pos e in
@@ -68,16 +70,18 @@ push-requires c κs =
 next-requires : tie.Need-next-requires Inv-loop μ-loop
 next-requires c κs =
     let pre = c .before .before .before .before .before .before .before .before .before .before .before .before .before .before .before .before .before .before .before .before .pre in
-    let a = c .before .before .before .before .before .before .before .before .before .before .before .before .loop .inv .2 in
-    let pos : 0 < c .before .before .before .before .before .before .before .before .before .before .before .before .loop .x = omega (arith, c .before .before .before .before .before .before .before .before .before .before .before .loop-test .taken) in
+    let loop = c .before .before .before .before .before .before .before .before .before .before .before .before .loop in
+    let a = loop .inv .2 in
+    let pos : 0 < loop .x = omega (arith, c .before .before .before .before .before .before .before .before .before .before .before .loop-test .taken) in
     let room = pre .1 .0 .remember .entries .room in
     omega (arith, along-low a pos (c .before .before .before .before .before .before .before .before .before .before .wide2 .ensures), room, c .before .before .before .before .before .before .before .before .before .before .before .before .before .before .before .last-region .ensures, whole-long room (pre .1 .1 .0))
 
 loop-less : tie.Need-loop-less Inv-loop μ-loop
 loop-less c =
     let pre = c .before .before .before .before .before .before .before .before .before .before .before .before .before .before .before .before .before .before .before .before .before .pre in
-    let a = c .before .before .before .before .before .before .before .before .before .before .before .before .before .loop .inv .2 in
-    let pos : 0 < c .before .before .before .before .before .before .before .before .before .before .before .before .before .loop .x = omega (arith, c .before .before .before .before .before .before .before .before .before .before .before .before .loop-test .taken) in
+    let loop = c .before .before .before .before .before .before .before .before .before .before .before .before .before .loop in
+    let a = loop .inv .2 in
+    let pos : 0 < loop .x = omega (arith, c .before .before .before .before .before .before .before .before .before .before .before .before .loop-test .taken) in
     let n = leads-on (pre .1 .0 .remember .entries .room) (pre .1 .1 .0) a pos (c .before .before .before .before .before .before .before .before .before .before .before .wide2 .ensures) (c .before .before .before .before .before .before .before .before .before .before .before .before .before .before .before .before .last-region .ensures) (c .next .ensures) in
     ahead-less _ _ _ pos (a .leads .low) (n .later)
 
@@ -85,8 +89,9 @@ loop-again : tie.Need-loop-again Inv-loop μ-loop
 loop-again c =
     let pre = c .before .before .before .before .before .before .before .before .before .before .before .before .before .before .before .before .before .before .before .before .before .pre in
     let slot-for = c .before .before .before .before .before .before .before .before .slot-for in
-    let a = c .before .before .before .before .before .before .before .before .before .before .before .before .before .loop .inv .2 in
-    let pos : 0 < c .before .before .before .before .before .before .before .before .before .before .before .before .before .loop .x = omega (arith, c .before .before .before .before .before .before .before .before .before .before .before .before .loop-test .taken) in
+    let loop = c .before .before .before .before .before .before .before .before .before .before .before .before .before .loop in
+    let a = loop .inv .2 in
+    let pos : 0 < loop .x = omega (arith, c .before .before .before .before .before .before .before .before .before .before .before .before .loop-test .taken) in
     let e = c .before .before .before .before .before .before .before .before .before .before .before .wide2 .ensures in
     let lt = along-low a pos e in
     let k = pushing-kept (pre .0) (along-here a pos e) in
