@@ -10,7 +10,7 @@ use lib.Dec.{eqb, ltb}
 use lib.ListN.{length, getD}
 use borrow.Author.Tests.{eq-eqb, ne-eqb, lt-ltb, le-ltb}
 use Rattle.lists.specs.Counting.{bit, sum, count, but, but-same, but-other, sum-but, sum-same, sum-none, sum-plus, sum-shift, sum-high, bit-le-one}
-use Rattle.lists.specs.Part.{Lists}
+use Rattle.lists.specs.Part.{Rises, Lists}
 use Rattle.lists.specs.Pigeonhole.{found}
 use Rattle.rules.specs.declared.Sizes.{Sizes}
 use Rattle.layout.specs.Places.{ownerOf, entriesUsed, slotIn, pageWords}
@@ -94,6 +94,14 @@ page-found {N} {m} t page {a} {b} ea eb el eh =
     omega (arith, x, y, page-slots m page)
 
 -- ---- the pages of a region
+
+-- a list of pages that rise is no longer than there are pages
+pub listed-few : {P n : ℕ} {l : List ℕ} → Rises P n l → (i : ℕ) → i < n → i < P
+listed-few {P} {n} {l} h i k = omega (arith, h .low i k, above i k)
+  where
+    above : (i : ℕ) → i < n → i ≤ getD l i 0
+    above zero k = omega arith
+    above (suc i) k = omega (arith, h .rising i (suc i) (omega arith) k, above i (omega arith))
 
 module _ (own : ℕ → ℕ) (r P n : ℕ) (l : List ℕ) (h : Lists (λ q. own q ≡ r) P n l) where
   -- a page is listed once if it is r's, else not at all

@@ -1,41 +1,38 @@
+-- The entries of the page are those between the two places.
 use borrow.Author.Needs.{needs}
+use Prim.Native.Nat.{_+_}
+use mathlib.Core.Path.{_≡_, refl}
+use native.Mathlib.Omega.{arith}
+use Rattle.census.specs.OnPages.{slotsOn, page-found}
 use Rattle.census.proofs.crossing.own_on.Statement.{statement}
 use Rattle.census.proofs.crossing.own_on.Tie as tie
-use Rattle.census.proofs.crossing.own_on.Reads as reads
-use Rattle.census.proofs.crossing.own_on.Lts as lts
-use Rattle.remember.proofs.entries.find_entry.Reads as find-entry-reads
 
--- src/crossing.rt:101:17
+found : (c : tie.After-find-entry2) → slotsOn (c .before .before .before .args .remember .now) (c .before .before .before .args .page) + c .before .find-entry .result ≡ c .find-entry2 .result
+found c = page-found (c .before .before .before .pre .0) (c .before .before .before .args .page) refl refl (c .before .find-entry .ensures) (c .find-entry2 .ensures)
+
 mul-first : tie.Need-mul-first
 mul-first c = search needs
 
--- src/crossing.rt:102:47
 cast-find-entry : tie.Need-cast-find-entry
 cast-find-entry c = search needs
 
--- src/crossing.rt:102:9
 find-entry-requires : tie.Need-find-entry-requires
 find-entry-requires c κs = search needs
 
--- src/crossing.rt:103:38
 add-find-entry : tie.Need-add-find-entry
 add-find-entry c = search needs
 
--- src/crossing.rt:103:37
 cast-find-entry-2 : tie.Need-cast-find-entry-2
 cast-find-entry-2 c = search needs
 
--- src/crossing.rt:103:5
 find-entry-requires-2 : tie.Need-find-entry-requires-2
 find-entry-requires-2 c κs = search needs
 
--- src/crossing.rt:103:5
 sub-result : tie.Need-sub-result
-sub-result c = ?
+sub-result c = omega (arith, found c)
 
--- src/crossing.rt:96:1
 returns : tie.Need-returns
-returns c = ?
+returns c = omega (arith, found c)
 
 pub own-on-spec : {M : Type 1} → statement M
 own-on-spec =
