@@ -77,8 +77,8 @@ module _ (p : Sizes) (W m T : List ℕ) (r : ℕ) where
   walk-few a = (omega (arith, go-few (a .from), a .goes, a .low), λ l. omega (arith, go-few (a .from), a .goes, a .leads .later l))
 
   -- k is whether the slot of the entry at hand will cross, y the next word
-  pub walk-on : {x n y k : ℕ} → Walked x n → 0 < x → Leads r (p .entries) m x y → k ≡ slotCrosses p W T r (slotIn m (x - 1)) → Walked y (n + (1 - k))
-  walk-on {x} {n} {y} {k} a l next e =
+  pub walk-on : {x n n′ y k : ℕ} → Walked x n → 0 < x → Leads r (p .entries) m x y → k ≡ slotCrosses p W T r (slotIn m (x - 1)) → n′ ≡ n + (1 - k) → Walked y n′
+  walk-on {x} a l next e f =
       record {
         from = x;
         low = a .leads .low;

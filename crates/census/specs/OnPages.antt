@@ -86,9 +86,9 @@ page-slots m page =
     ∙ sum-same _ (λ i. bit (ltb (slotIn m i) (pageWords * page + pageWords))) (entriesUsed m) (λ i l. page-split (slotIn m i) page)
 
 -- found as the code found them: the first entry from the page's first word on, and from its end on
-pub page-found : {N : ℕ} {m : List ℕ} → Table N m → (page : ℕ) {a b low high : ℕ} → a ≡ pageWords * page → b ≡ pageWords * page + pageWords
-    → low ≡ placeOf a (entriesIn N m) → high ≡ placeOf b (entriesIn N m) → slotsOn m page + low ≡ high
-page-found {N} {m} t page {a} {b} ea eb el eh =
+pub page-found : {N : ℕ} {m : List ℕ} → Table N m → (page : ℕ) {a b low high : ℕ} → low ≡ placeOf a (entriesIn N m) → high ≡ placeOf b (entriesIn N m)
+    → a ≡ pageWords * page → b ≡ pageWords * page + pageWords → slotsOn m page + low ≡ high
+page-found {N} {m} t page el eh ea eb =
     let x = el ∙ ap (λ (s : ℕ). placeOf s (entriesIn N m)) ea ∙ place-below t (pageWords * page) in
     let y = eh ∙ ap (λ (s : ℕ). placeOf s (entriesIn N m)) eb ∙ place-below t (pageWords * page + pageWords) in
     omega (arith, x, y, page-slots m page)

@@ -3,7 +3,7 @@ use borrow.Author.Needs.{needs}
 use Prim.Native.Nat.{ℕ, _-_, _≤_}
 use mathlib.Core.Path.{_≡_, ap, _∙_}
 use native.Mathlib.Omega.{arith}
-use Rattle.layout.specs.Places.{entriesUsed, slotIn, firstIn, nextIn}
+use Rattle.layout.specs.Places.{slotIn, firstIn, nextIn}
 use Rattle.chains.specs.Walking.{Leads, first-leads, next-leads, whole-long, ahead, ahead-less}
 use Rattle.census.specs.After.{slot-le}
 use Rattle.census.specs.Going.{Walked, walk-begins, walk-few, walk-on, walk-ends}
@@ -46,9 +46,10 @@ loop-holds : tie.Need-loop-holds Inv-loop μ-loop
 loop-holds c =
     let a = c .before .before .before .before .before .before .before .before .args in
     let pre = c .before .before .before .before .before .before .before .before .pre in
+    let e : c .before .before .wide .result ≡ a .r = omega (arith, c .before .before .wide .ensures) in
     walk-begins (a .p) (a .cells .now) (a .remember .now) (a .tables .now) (a .r)
     (first-leads (pre .1 .0 .remember .entries .room) (pre .1 .1 .0) (a .r) (pre .1 .1 .1 .0) (pre .1 .1 .1 .1)
-    (c .wide2 .ensures ∙ c .before .first .ensures ∙ ap (firstIn (a .chains .now)) (c .before .before .wide .ensures)))
+    (c .wide2 .ensures ∙ c .before .first .ensures ∙ ap (firstIn (a .chains .now)) e))
 
 sub-cross-entry : tie.Need-sub-cross-entry Inv-loop μ-loop
 sub-cross-entry c = omega (arith, c .loop-test .taken)
@@ -82,7 +83,7 @@ loop-less c = ahead-less (c .before .before .before .before .before .before .bef
 loop-again : tie.Need-loop-again Inv-loop μ-loop
 loop-again c =
     let a = c .before .before .before .before .before .before .before .before .before .before .before .before .before .args in
-    walk-on (a .p) (a .cells .now) (a .remember .now) (a .tables .now) (a .r) (c .before .before .before .before .loop .inv) (c .before .before .before .loop-test .taken) (on c) (c .before .before .cross-entry .ensures)
+    walk-on (a .p) (a .cells .now) (a .remember .now) (a .tables .now) (a .r) (c .before .before .before .before .loop .inv) (c .before .before .before .loop-test .taken) (on c) (c .before .before .cross-entry .ensures) (omega arith)
 
 returns : tie.Need-returns Inv-loop μ-loop
 returns c =

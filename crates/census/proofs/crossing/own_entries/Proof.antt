@@ -1,6 +1,6 @@
 -- k counts the entries on the first i pages of the list.
 use borrow.Author.Needs.{needs}
-use Prim.Native.Nat.{ℕ, _+_, _-_, _*_, _≤_, _<_}
+use Prim.Native.Nat.{ℕ, _-_, _*_, _≤_, _<_}
 use mathlib.Core.Path.{_≡_, refl, ap, _∙_}
 use native.Mathlib.Omega.{arith}
 use lib.ListN.{getD}
@@ -18,12 +18,11 @@ abbrev μ-loop : tie.MeasureT-loop
     n - i
 
 here : (c : tie.After-own-on Inv-loop μ-loop) → (c .own-on .result ≡ slotsOn (c .before .before .before .before .before .before .before .args .remember .now) (getD (c .before .before .before .before .before .before .before .args .list .now) (c .before .before .before .before .loop .i) 0)) × (c .own-on .result ≤ 4096) × (c .before .before .before .before .loop .i < 1024)
-here c =
-    (
-      c .own-on .ensures ∙ ap (slotsOn (c .before .before .before .before .before .before .before .args .remember .now)) (c .before .wide .ensures),
-      omega (arith, c .own-on .ensures, slots-few (c .before .before .before .before .before .before .before .args .remember .now) (c .before .wide .result), c .before .before .before .before .before .before .before .pre .0 .room, c .before .before .before .before .before .before .before .pre .1 .0),
-      omega (arith, listed-few (c .before .before .before .before .before .before .before .pre .1 .1) (c .before .before .before .before .loop .i) (c .before .before .before .loop-test .taken), c .before .before .before .before .before .before .before .pre .1 .0),
-    )
+here c = (
+  c .own-on .ensures ∙ ap (slotsOn (c .before .before .before .before .before .before .before .args .remember .now)) (c .before .wide .ensures),
+  omega (arith, c .own-on .ensures, slots-few (c .before .before .before .before .before .before .before .args .remember .now) (c .before .wide .result), c .before .before .before .before .before .before .before .pre .0 .room, c .before .before .before .before .before .before .before .pre .1 .0),
+  omega (arith, listed-few (c .before .before .before .before .before .before .before .pre .1 .1) (c .before .before .before .before .loop .i) (c .before .before .before .loop-test .taken), c .before .before .before .before .before .before .before .pre .1 .0),
+)
 
 loop-holds : tie.Need-loop-holds Inv-loop μ-loop
 loop-holds c = (omega arith, refl, omega arith)

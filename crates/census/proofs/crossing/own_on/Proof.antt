@@ -1,14 +1,14 @@
 -- The entries of the page are those between the two places.
 use borrow.Author.Needs.{needs}
 use Prim.Native.Nat.{_+_}
-use mathlib.Core.Path.{_≡_, refl}
+use mathlib.Core.Path.{_≡_}
 use native.Mathlib.Omega.{arith}
 use Rattle.census.specs.OnPages.{slotsOn, page-found}
 use Rattle.census.proofs.crossing.own_on.Statement.{statement}
 use Rattle.census.proofs.crossing.own_on.Tie as tie
 
 found : (c : tie.After-find-entry2) → slotsOn (c .before .before .before .args .remember .now) (c .before .before .before .args .page) + c .before .find-entry .result ≡ c .find-entry2 .result
-found c = page-found (c .before .before .before .pre .0) (c .before .before .before .args .page) refl refl (c .before .find-entry .ensures) (c .find-entry2 .ensures)
+found c = page-found (c .before .before .before .pre .0) (c .before .before .before .args .page) (c .before .find-entry .ensures) (c .find-entry2 .ensures) (omega arith) (omega arith)
 
 mul-first : tie.Need-mul-first
 mul-first c = search needs
