@@ -58,7 +58,7 @@ cross-entry-requires : tie.Need-cross-entry-requires Inv-loop μ-loop
 cross-entry-requires c κs = (c .before .before .before .before .before .before .before .before .before .before .pre .0, (c .before .before .before .before .before .before .before .before .before .before .pre .1 .0, omega (arith, c .loop-test .taken, c .before .loop .inv .leads .low)))
 
 sub-n : tie.Need-sub-n Inv-loop μ-loop
-sub-n c = crossed c
+sub-n c = omega (arith, crossed c)
 
 add-n : tie.Need-add-n Inv-loop μ-loop
 add-n c =
