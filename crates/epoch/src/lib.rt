@@ -94,7 +94,7 @@ pub fn end(
         return rules::refused(12);
     }
     let region = layout::regions::region_at(p, thread, level);
-    if mark::survivors::mark_survivors(p, cells, remember, tables, thread, level, region) {
+    if mark::survivors::mark_survivors(p, cells, remember, tables, chains, thread, level, region) {
         return end_marked(
             p,
             cells,

@@ -77,7 +77,7 @@ region-at-requires c κs =
     (rm .threads-high, rm .depth-high, pre .1 .0, omega (arith, pre .0 .depths (a .thread) (pre .1 .0), c .before .wide .ensures, c .before .before .depth .ensures))
 
 mark-survivors-requires : tie.Need-mark-survivors-requires
-mark-survivors-requires c κs = let pre = c .before .before .before .before .before .before .before .before .before .before .before .before .before .pre in (pre .0, (pre .1 .0, c .before .before .before .before .before .wide .ensures ∙ c .before .before .before .before .before .before .depth .ensures, omega (arith, c .before .before .before .before .if1 .left), c .before .before .before .region-at .ensures))
+mark-survivors-requires c κs = let pre = c .before .before .before .before .before .before .before .before .before .before .before .before .before .pre in (pre .0, (pre .1 .1 .1, (pre .1 .0, c .before .before .before .before .before .wide .ensures ∙ c .before .before .before .before .before .before .depth .ensures, omega (arith, c .before .before .before .before .if1 .left), c .before .before .before .region-at .ensures)))
 
 end-marked-requires : tie.Need-end-marked-requires
 end-marked-requires c κs =
