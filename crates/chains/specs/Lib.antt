@@ -7,4 +7,5 @@ pub mod Firsts
 pub mod Following
 pub mod Linking
 pub mod Walking
+pub mod Cutting
 pub mod ChainsExample
