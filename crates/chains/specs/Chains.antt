@@ -32,7 +32,15 @@ Among R es = (i : ℕ) → i < length es → (1 ≤ nthRegion es i) × (nthRegio
 
 -- ---- the lent slice
 
--- a remember table whose entries can be chained: they are of regions that there are
+-- a remember table with room for N entries, whose entries can be chained by R regions
+pub record Listed (R N : ℕ) (m : List ℕ) : Type 0 where
+  pub few : R ≤ 129
+  pub entries : N ≤ 4096
+  pub long : entriesWords N ≤ length m
+  pub room : entriesUsed m ≤ N
+  pub among : Among R (entriesIn N m)
+
+-- the same of the regions that there are
 pub record Chainable (s : Sizes) (m : List ℕ) : Type 0 where
   pub threads : s .threads ≤ 16
   pub depth : s .depth ≤ 8

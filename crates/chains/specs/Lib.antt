@@ -8,4 +8,5 @@ pub mod Following
 pub mod Linking
 pub mod Walking
 pub mod Cutting
+pub mod LentChains
 pub mod ChainsExample

@@ -1,7 +1,7 @@
 -- The chains, from the last entry down: those of the entries from place i on.
 use Prim.Native.Nat.{ℕ, zero, suc, _+_, _-_, _≤_, _<_}
 use mathlib.Core.List.{List, _++_}
-use mathlib.Core.Path.{_≡_, refl, sym, ap, _∙_}
+use mathlib.Core.Path.{_≡_, refl, sym, ap, subst, _∙_}
 use native.Mathlib.Omega.{arith}
 use native.Mathlib.Decide.{decLt, ℕ-discrete}
 use lib.ListN.{length, getD, set, take, drop, length-set, length-append, length-take, length-drop, List·getD-append}
@@ -109,6 +109,14 @@ linked-more {R} {N} es {i} {g} {f} {f′} k pos low is a few room =
     next j l h (yes e) =
         ap (λ (y : ℕ). getD f″ (R + y) 0) e ∙ put f′ (R + (i - 1)) x 0 (omega (arith, k .long)) ∙ sym (next-first es pos low is a f′ (k .firsts)) ∙ ap (nextOf es) (sym e)
     next j l h (no e) = past f′ (R + (i - 1)) x (R + j) 0 (λ (q : R + j ≡ R + (i - 1)). e (omega arith)) ∙ k .nexts j (omega arith) h
+
+-- as the code does it, with x the first word as read
+pub linked-step : {R N : ℕ} (es : List Entry) {i g : ℕ} {f f′ : List ℕ} → Linked R N es i f f′ → 0 < i → i ≤ length es → g ≡ nthRegion es (i - 1) → Among R es
+    → length es ≤ N → R + N ≤ length f → {x : ℕ} → x ≡ getD f′ (g - 1) 0 → {f₁ f₂ : List ℕ} → f₁ ≡ set f′ (R + (i - 1)) x → f₂ ≡ set f₁ (g - 1) (i - 1 + 1)
+    → Linked R N es (i - 1) f f₂
+linked-step {R} {N} es {i} {g} {f} {f′} k pos low is a few room {x} e {f₁} {f₂} e₁ e₂ =
+    subst (Linked R N es (i - 1) f) (sym (e₂ ∙ ap (λ (l : List ℕ). set l (g - 1) (i - 1 + 1)) (e₁ ∙ ap (set f′ (R + (i - 1))) e)))
+    (linked-more es k pos low is a few room)
 
 -- ---- the words are those of the chains
 

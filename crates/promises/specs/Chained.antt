@@ -9,15 +9,17 @@ use Rattle.rules.specs.declared.Command.{Command}
 use Rattle.rules.specs.declared.Answer.{Answer}
 use Rattle.rules.specs.Rules.{Regioned, run, step}
 use Rattle.layout.specs.Words.{Words, heapOf}
-use Rattle.promises.specs.Whole.{WholeFor, WholeWords}
+use Rattle.promises.specs.Whole.{WholeFor}
+use Rattle.promises.specs.Slices.{Slices, WholeSlices}
 use Rattle.promises.specs.StandsFor.{StandsFor}
-use Rattle.promises.specs.Promises.{Did, Chain, none, more, RunAsked, notWhole, uneven, short, accepted}
+use Rattle.promises.specs.Promises.{Did, Chain, none, more, RunAsked, notWhole, otherChains, uneven, short, accepted}
 use Rattle.promises.specs.Agreed.{heap-stands}
 
--- a run that is not refused found whole words
-pub asked-whole : {w : Words} {block lent : List ℕ} {q : ℕ} → RunAsked w block lent q → q ≡ 0 → WholeWords w
+-- a run that is not refused found whole slices
+pub asked-whole : {l : Slices} {block lent : List ℕ} {q : ℕ} → RunAsked l block lent q → q ≡ 0 → WholeSlices l
 asked-whole (accepted e k f l) z = k
 asked-whole (notWhole e n) z = absurd (let y : ⊥ = omega arith in y)
+asked-whole (otherChains e k n) z = absurd (let y : ⊥ = omega arith in y)
 asked-whole (uneven e k n) z = k
 asked-whole (short e k f l) z = k
 

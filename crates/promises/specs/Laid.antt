@@ -14,8 +14,9 @@ use Rattle.rules.specs.Pages.{Page}
 use Rattle.rules.specs.Rules.{Counters, Regioned, graph}
 use Rattle.layout.specs.Places.{cellsWords, rememberWords, tablesWords, varAt, varsFrom, ownersFrom, usedFrom, marksFrom, countsFrom, madeAt, count-room, count-is, mark-is, used-is, owners-is}
 use Rattle.remember.specs.Crossing.{crossTo}
-use Rattle.remember.specs.Entries.{exact-everywhere}
-use Rattle.remember.specs.ExactTable.{exact-table}
+use Rattle.remember.specs.Entries.{Exact, exact-everywhere}
+use Rattle.remember.specs.Table.{entriesIn}
+use Rattle.remember.specs.ExactTable.{exact-named, exact-table}
 use Rattle.layout.specs.Words.{Words, depthsAt, varsAt, pageIn, pagesAt, heapOf}
 use Rattle.promises.specs.Whole.{WholeFor}
 use Rattle.promises.specs.StandsFor.{StandsFor, SameFrom, SameBeyond}
@@ -23,15 +24,15 @@ use Rattle.promises.specs.Regular.{whole-regular}
 use Rattle.promises.specs.OwnedPages.{objects-on}
 use Rattle.promises.specs.Agreed.{objects-agree, heap-stands}
 use Rattle.promises.specs.Areas.{same-beyond}
-use Rattle.promises.specs.WordsOf.{refWord, cellWord, crossedAt, wordsOf, laid}
+use Rattle.promises.specs.WordsOf.{refWord, cellWord, crossedAt, entriesOf, heapWords, laid}
 use Rattle.promises.specs.LaidCells.{ref-words, cell-is, crossed-is}
 
 module _ (s : Sizes) (w : Words) (h : Regioned) (to : ℕ → ℕ) (st : StandsFor s w h to) where
   abbrev t : List ℕ
   t = w .tables
 
-  cells-are : take (cellsWords s) (w .cells) ≡ wordsOf s h .cells
-  unfolding wordsOf
+  cells-are : take (cellsWords s) (w .cells) ≡ heapWords s h .cells
+  unfolding heapWords
   cells-are =
       part-listed (cellsWords s) 0 (w .cells) (omega (arith, st .whole .sized .cells))
       ∙ listed-same _ (cellWord h) (cellsWords s)
@@ -94,8 +95,8 @@ module _ (s : Sizes) (w : Words) (h : Regioned) (to : ℕ → ℕ) (st : StandsF
   then : (a m b : ℕ) {x y : List ℕ} → take a (drop b t) ≡ x → take m (drop (b + a) t) ≡ y → take (a + m) (drop b t) ≡ x ++ y
   then a m b p q = part-more a m b t ∙ ap₂ _++_ p q
 
-  tables-are : take (tablesWords s) t ≡ wordsOf s h .tables
-  unfolding wordsOf madeAt countsFrom marksFrom usedFrom ownersFrom
+  tables-are : take (tablesWords s) t ≡ heapWords s h .tables
+  unfolding heapWords madeAt countsFrom marksFrom usedFrom ownersFrom
   tables-are =
       let n₆ = regions s + 2 in
       let n₅ = s .pages + n₆ in
@@ -110,12 +111,15 @@ module _ (s : Sizes) (w : Words) (h : Regioned) (to : ℕ → ℕ) (st : StandsF
 
   -- ---- the remember table
 
-  remember-is : take (rememberWords s) (w .remember) ≡ wordsOf s h .remember
-  unfolding wordsOf
-  remember-is =
-      exact-table
-      (exact-everywhere (crossTo s (w .cells) t) (crossedAt h) (cellsWords s) (s .entries) (w .remember) (crossed-is s w h to st) (st .whole .remember))
-      (st .whole .sized .same) (st .whole .sized .remember)
+  exact : Exact (crossedAt h) (cellsWords s) (s .entries) (w .remember)
+  exact = exact-everywhere (crossTo s (w .cells) t) (crossedAt h) (cellsWords s) (s .entries) (w .remember) (crossed-is s w h to st) (st .whole .remember)
+
+  remember-is : take (rememberWords s) (w .remember) ≡ heapWords s h .remember
+  unfolding heapWords
+  remember-is = exact-table exact (st .whole .sized .same) (st .whole .sized .remember)
+
+  pub entries-are : entriesIn (s .entries) (w .remember) ≡ entriesOf s h
+  entries-are = exact-named exact
 
   -- THE WORDS ARE THOSE OF THE HEAP, and past them what stood there
   pub stands-laid : (w₀ : Words) → SameBeyond s w₀ w → w ≡ laid s h w₀

@@ -3,6 +3,7 @@
 -- definitions: what must be read
 pub mod Whole
 pub mod StandsFor
+pub mod Slices
 pub mod Promises
 pub mod WordsOf
 pub mod Ends
@@ -21,6 +22,7 @@ pub mod Laid
 pub mod GivenBack
 pub mod PagesTaken
 -- theorems: prepared words and a chain of commands beside the rules' unused heap and run
+pub mod WholeChains
 pub mod Preparing
 pub mod Chained
 pub mod Once

@@ -3,10 +3,11 @@ use Prim.Native.Nat.{ℕ, suc, _+_, _-_, _≤_, _<_}
 use native.Mathlib.Omega.{arith}
 use mathlib.Core.Path.{_≡_, refl, sym, ap, ap₂, _∙_}
 use mathlib.Core.List.{List, _++_}
-use lib.ListN.{length, getD, drop, replicate, length-append, length-replicate, getD-replicate, List·getD-append}
+use lib.ListN.{length, getD, take, drop, replicate, length-append, length-replicate, getD-replicate, List·getD-append}
 use lib.Dec.{eqb}
+use lib.Seq.{take-at}
 use Rattle.rules.specs.Terms.{InRange}
-use Rattle.layout.specs.Places.{depthAt, varAt, markAt, countAt, countOf, madeAt, freedAt, slotAt, slotRegionAt, ownersFrom, usedFrom, cellsWords, rememberWords, tablesWords, varCount}
+use Rattle.layout.specs.Places.{depthAt, varAt, markAt, countAt, countOf, madeAt, freedAt, slotAt, slotRegionAt, entriesUsed, ownersFrom, usedFrom, cellsWords, rememberWords, tablesWords, chainsWords, varCount}
 use Rattle.layout.specs.Cells.{pageOf}
 use Rattle.layout.specs.Objects.{begins-used}
 use Rattle.lists.specs.Tests.{cond-zero}
@@ -24,6 +25,9 @@ use Rattle.laws.specs.RulesLaws.{sound-unused}
 use Rattle.laws.specs.SameRules.{renamed-zeros}
 use Rattle.rules.specs.Pages.{freePage}
 use Rattle.layout.specs.Words.{Words, BeginsIn, sizesIn, depthsIn, varsIn, ownerIn, usedIn, madeIn, freedIn, pageIn, pagesAt, pagesIn}
+use Rattle.chains.specs.Chains.{ChainsWhole}
+use Rattle.chains.specs.LentChains.{no-chains}
+use Rattle.promises.specs.Slices.{Slices}
 use Rattle.promises.specs.StandsFor.{StandsFor}
 use Rattle.promises.specs.Areas.{starts}
 use Rattle.promises.specs.Reading.{alive-used, length-depths, depth-at, length-vars, getD-vars}
@@ -32,19 +36,22 @@ use Rattle.promises.specs.Promises.{LongEnough, PrepareAsked, outOfRange
 zeros-then : (n i : ℕ) (rest : List ℕ) → i < n → getD (replicate n 0 ++ rest) i 0 ≡ 0
 zeros-then n i rest l = List·getD-append (replicate n 0) rest 0 i (omega (arith, length-replicate {A = ℕ} n 0)) ∙ getD-replicate n i 0 0 l
 
-module _ (s : Sizes) (lent w : Words) (range : InRange s) (long : LongEnough s lent) (u : Unused s lent w) where
+module _ (s : Sizes) (lent l : Slices) (range : InRange s) (long : LongEnough s lent) (u : Unused s lent l) where
+  abbrev w : Words
+  w = l .words
+
   table-zero : (i : ℕ) → 5 ≤ i → i < tablesWords s → getD (w .tables) i 0 ≡ 0
   table-zero i l m =
       let e : i ≡ suc (suc (suc (suc (suc (i - 5))))) = omega arith in
-      ap₂ (λ (t : List ℕ) (j : ℕ). getD t j 0) (u .tables) e ∙ zeros-then (tablesWords s - 5) (i - 5) (drop (tablesWords s) (lent .tables)) (omega arith)
+      ap₂ (λ (t : List ℕ) (j : ℕ). getD t j 0) (u .tables) e ∙ zeros-then (tablesWords s - 5) (i - 5) (drop (tablesWords s) (lent .words .tables)) (omega arith)
 
   remember-zero : (i : ℕ) → 1 ≤ i → i < rememberWords s → getD (w .remember) i 0 ≡ 0
   remember-zero i l m =
       let e : i ≡ suc (i - 1) = omega arith in
-      ap₂ (λ (t : List ℕ) (j : ℕ). getD t j 0) (u .remember) e ∙ zeros-then (rememberWords s - 1) (i - 1) (drop (rememberWords s) (lent .remember)) (omega arith)
+      ap₂ (λ (t : List ℕ) (j : ℕ). getD t j 0) (u .remember) e ∙ zeros-then (rememberWords s - 1) (i - 1) (drop (rememberWords s) (lent .words .remember)) (omega arith)
 
   cell-zero : (q : ℕ) → q < cellsWords s → getD (w .cells) q 0 ≡ 0
-  cell-zero q l = ap (λ (c : List ℕ). getD c q 0) (u .cells) ∙ zeros-then (cellsWords s) q (drop (cellsWords s) (lent .cells)) l
+  cell-zero q l = ap (λ (c : List ℕ). getD c q 0) (u .cells) ∙ zeros-then (cellsWords s) q (drop (cellsWords s) (lent .words .cells)) l
 
   owner-zero : (page : ℕ) → page < s .pages → ownerIn s w page ≡ 0
   owner-zero page l = table-zero (ownersFrom s + page) (omega (arith, starts s)) (omega (arith, starts s))
@@ -69,9 +76,9 @@ module _ (s : Sizes) (lent w : Words) (range : InRange s) (long : LongEnough s l
           sizes = ap (λ (t : List ℕ). sizesIn (record { cells = w .cells; remember = w .remember; tables = t })) (u .tables);
           range = range;
           same = ap (λ (t : List ℕ). getD t 0 0) (u .remember);
-          cells = omega (arith, ap length (u .cells), length-append (replicate (cellsWords s) 0) (drop (cellsWords s) (lent .cells)), length-replicate {A = ℕ} (cellsWords s) 0);
-          remember = omega (arith, ap length (u .remember), length-append (replicate (rememberWords s - 1) 0) (drop (rememberWords s) (lent .remember)), length-replicate {A = ℕ} (rememberWords s - 1) 0);
-          tables = omega (arith, starts s, ap length (u .tables), length-append (replicate (tablesWords s - 5) 0) (drop (tablesWords s) (lent .tables)), length-replicate {A = ℕ} (tablesWords s - 5) 0);
+          cells = omega (arith, ap length (u .cells), length-append (replicate (cellsWords s) 0) (drop (cellsWords s) (lent .words .cells)), length-replicate {A = ℕ} (cellsWords s) 0);
+          remember = omega (arith, ap length (u .remember), length-append (replicate (rememberWords s - 1) 0) (drop (rememberWords s) (lent .words .remember)), length-replicate {A = ℕ} (rememberWords s - 1) 0);
+          tables = omega (arith, starts s, ap length (u .tables), length-append (replicate (tablesWords s - 5) 0) (drop (tablesWords s) (lent .words .tables)), length-replicate {A = ℕ} (tablesWords s - 5) 0);
         };
         depths = λ k l. omega (arith, table-zero (depthAt k) (omega arith) (omega (arith, starts s)));
         pages = λ page l. let o = owner-zero page l in let v = used-zero page l in record {
@@ -132,10 +139,26 @@ module _ (s : Sizes) (lent w : Words) (range : InRange s) (long : LongEnough s l
         occupies = record { cells = λ x a. absurd (a refl); pages = sym pages-free };
       }
 
-pub prepared-stands : (s : Sizes) (lent w : Words) → Prepared s lent 0 w → StandsFor s w (unused s) (λ x. x)
-prepared-stands s lent w p = go (p .asked)
+  unused-entries : entriesUsed (w .remember) ≡ 0
+  unused-entries = remember-zero 1 (omega arith) (omega arith)
+
+  unused-chains : ChainsWhole s (w .remember) (l .chains)
+  unused-chains =
+      record {
+        words =
+            ap (take (chainsWords s)) (u .chains) ∙ take-at (replicate (chainsWords s) 0) (drop (chainsWords s) (lent .chains)) (chainsWords s) (length-replicate (chainsWords s) 0)
+            ∙ sym (no-chains s (w .remember) unused-entries);
+      }
+
+pub record PreparedIs (s : Sizes) (l : Slices) : Type 0 where
+  pub stands : StandsFor s (l .words) (unused s) (λ x. x)
+  pub entries : entriesUsed (l .words .remember) ≡ 0
+  pub chains : ChainsWhole s (l .words .remember) (l .chains)
+
+pub prepared-is : (s : Sizes) (lent l : Slices) → Prepared s lent 0 l → PreparedIs s l
+prepared-is s lent l p = go (p .asked)
   where
-    go : PrepareAsked s lent 0 → StandsFor s w (unused s) (λ x. x)
+    go : PrepareAsked s lent 0 → PreparedIs s l
     go (outOfRange e n) = absurd (omega arith)
     go (short e r n) = absurd (omega arith)
-    go (accepted e r l) = unused-stands s lent w r l (p .unused refl)
+    go (accepted e r k) = record { stands = unused-stands s lent l r k (p .unused refl); entries = unused-entries s lent l r k (p .unused refl); chains = unused-chains s lent l r k (p .unused refl) }

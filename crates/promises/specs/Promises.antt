@@ -13,9 +13,11 @@ use Rattle.rules.specs.Regions.{control, regionAt}
 use Rattle.laws.specs.GraphLaws.{Alive}
 use Rattle.rules.specs.Rules as ru
 use Rattle.rules.specs.Rules.{Regioned, graph}
-use Rattle.layout.specs.Places.{cellsWords, rememberWords, tablesWords}
+use Rattle.layout.specs.Places.{cellsWords, rememberWords, tablesWords, chainsWords}
 use Rattle.layout.specs.Words.{Words, sizesIn, depthIn, ownerIn, heapOf}
+use Rattle.chains.specs.Chains.{ChainsWhole, withChains}
 use Rattle.promises.specs.Whole.{WholeWords}
+use Rattle.promises.specs.Slices.{Slices, WholeSlices}
 use Rattle.promises.specs.StandsFor.{StandsFor, SameFrom, SameBeyond}
 use Rattle.promises.specs.WordsOf.{laid}
 
@@ -93,42 +95,46 @@ answersIn block answers = listed (answerAt answers) (size block)
 
 -- ---- run
 
--- the questions 3, 4 and 5 in order: q is the first that says no, 0 if none does
-pub data RunAsked (w : Words) (block lent : List ℕ) (q : ℕ) : Type 0 where
-  notWhole : q ≡ 3 → (WholeWords w → ⊥) → RunAsked w block lent q
-  uneven : q ≡ 4 → WholeWords w → (length block % 5 ≡ 0 → ⊥) → RunAsked w block lent q
-  short : q ≡ 5 → WholeWords w → length block % 5 ≡ 0 → length lent < 2 * size block → RunAsked w block lent q
-  accepted : q ≡ 0 → WholeWords w → length block % 5 ≡ 0 → 2 * size block ≤ length lent → RunAsked w block lent q
+-- the questions 3, 16, 4 and 5 in order: q is the first that says no, 0 if none does
+pub data RunAsked (l : Slices) (block lent : List ℕ) (q : ℕ) : Type 0 where
+  notWhole : q ≡ 3 → (WholeWords (l .words) → ⊥) → RunAsked l block lent q
+  otherChains : q ≡ 16 → WholeWords (l .words) → (ChainsWhole (sizesIn (l .words)) (l .words .remember) (l .chains) → ⊥) → RunAsked l block lent q
+  uneven : q ≡ 4 → WholeSlices l → (length block % 5 ≡ 0 → ⊥) → RunAsked l block lent q
+  short : q ≡ 5 → WholeSlices l → length block % 5 ≡ 0 → length lent < 2 * size block → RunAsked l block lent q
+  accepted : q ≡ 0 → WholeSlices l → length block % 5 ≡ 0 → 2 * size block ≤ length lent → RunAsked l block lent q
 
--- run on the words w with a block and a lent answer slice gave q, and left w′ and the answers
-pub record Ran (w : Words) (block lent : List ℕ) (q : ℕ) (w′ : Words) (answers : List ℕ) : Type 0 where
-  pub asked : RunAsked w block lent q
-  pub refused : (q ≡ 0 → ⊥) → (w′ ≡ w) × (answers ≡ lent)
-  pub obeyed : q ≡ 0 → Chain (sizesIn w) w (commandsIn block) (answersIn block answers) w′
+-- run on the slices l with a block and a lent answer slice gave q, and left l′ and the answers
+pub record Ran (l : Slices) (block lent : List ℕ) (q : ℕ) (l′ : Slices) (answers : List ℕ) : Type 0 where
+  pub asked : RunAsked l block lent q
+  pub refused : (q ≡ 0 → ⊥) → (l′ ≡ l) × (answers ≡ lent)
+  pub obeyed : q ≡ 0 → Chain (sizesIn (l .words)) (l .words) (commandsIn block) (answersIn block answers) (l′ .words)
+  pub chains : q ≡ 0 → l′ .chains ≡ withChains (sizesIn (l .words)) (l′ .words .remember) (l .chains)
   pub spare : SameFrom (2 * size block) lent answers
 
 -- ---- prepare
 
 -- the slices are long enough
-pub record LongEnough (s : Sizes) (w : Words) : Type 0 where
-  pub cells : cellsWords s ≤ length (w .cells)
-  pub remember : rememberWords s ≤ length (w .remember)
-  pub tables : tablesWords s ≤ length (w .tables)
+pub record LongEnough (s : Sizes) (l : Slices) : Type 0 where
+  pub cells : cellsWords s ≤ length (l .words .cells)
+  pub remember : rememberWords s ≤ length (l .words .remember)
+  pub tables : tablesWords s ≤ length (l .words .tables)
+  pub chains : chainsWords s ≤ length (l .chains)
 
-pub data PrepareAsked (s : Sizes) (w : Words) (q : ℕ) : Type 0 where
-  outOfRange : q ≡ 1 → (InRange s → ⊥) → PrepareAsked s w q
-  short : q ≡ 2 → InRange s → (LongEnough s w → ⊥) → PrepareAsked s w q
-  accepted : q ≡ 0 → InRange s → LongEnough s w → PrepareAsked s w q
+pub data PrepareAsked (s : Sizes) (l : Slices) (q : ℕ) : Type 0 where
+  outOfRange : q ≡ 1 → (InRange s → ⊥) → PrepareAsked s l q
+  short : q ≡ 2 → InRange s → (LongEnough s l → ⊥) → PrepareAsked s l q
+  accepted : q ≡ 0 → InRange s → LongEnough s l → PrepareAsked s l q
 
--- the words of an unused heap, every one up to the lengths; no cell is in use, so all of them are zero (02, W1)
-pub record Unused (s : Sizes) (w w′ : Words) : Type 0 where
+-- the words of an unused heap, every one up to the lengths; no cell is in use, so all of them are zero (02, W1), and no entry is, so the chains are (02, W6)
+pub record Unused (s : Sizes) (l l′ : Slices) : Type 0 where
   pub tables :
-      w′ .tables ≡ s .threads ∷ s .variables ∷ s .depth ∷ s .pages ∷ s .entries ∷ replicate (tablesWords s - 5) 0 ++ drop (tablesWords s) (w .tables)
-  pub remember : w′ .remember ≡ s .entries ∷ replicate (rememberWords s - 1) 0 ++ drop (rememberWords s) (w .remember)
-  pub cells : w′ .cells ≡ replicate (cellsWords s) 0 ++ drop (cellsWords s) (w .cells)
+      l′ .words .tables ≡ s .threads ∷ s .variables ∷ s .depth ∷ s .pages ∷ s .entries ∷ replicate (tablesWords s - 5) 0 ++ drop (tablesWords s) (l .words .tables)
+  pub remember : l′ .words .remember ≡ s .entries ∷ replicate (rememberWords s - 1) 0 ++ drop (rememberWords s) (l .words .remember)
+  pub cells : l′ .words .cells ≡ replicate (cellsWords s) 0 ++ drop (cellsWords s) (l .words .cells)
+  pub chains : l′ .chains ≡ replicate (chainsWords s) 0 ++ drop (chainsWords s) (l .chains)
 
--- prepare with sizes s on the words w gave q and left w′
-pub record Prepared (s : Sizes) (w : Words) (q : ℕ) (w′ : Words) : Type 0 where
-  pub asked : PrepareAsked s w q
-  pub refused : (q ≡ 0 → ⊥) → w′ ≡ w
-  pub unused : q ≡ 0 → Unused s w w′
+-- prepare with sizes s on the slices l gave q and left l′
+pub record Prepared (s : Sizes) (l : Slices) (q : ℕ) (l′ : Slices) : Type 0 where
+  pub asked : PrepareAsked s l q
+  pub refused : (q ≡ 0 → ⊥) → l′ ≡ l
+  pub unused : q ≡ 0 → Unused s l l′

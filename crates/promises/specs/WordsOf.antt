@@ -1,6 +1,6 @@
--- The words of a heap (01, "Sizes and tables"; 02, W1 to W3): every lent word up to the three lengths. Nothing is left open.
+-- The words of a heap (01, "Sizes and tables"; 02, W1 to W3 and W6): every lent word up to the four lengths. Nothing is left open.
 use Prim.Native.Nat.{ℕ, zero, suc, _+_}
-use mathlib.Core.List.{[], _∷_, _++_, map}
+use mathlib.Core.List.{List, [], _∷_, _++_, map}
 use mathlib.Core.Bool.{cond}
 use lib.ListN.{length, getD, drop, replicate}
 use Rattle.lists.specs.Listed.{listed}
@@ -9,10 +9,12 @@ use Rattle.rules.specs.NeverFreeing.{Object, noObject}
 use Rattle.rules.specs.Regions.{regions}
 use Rattle.rules.specs.Graph.{crosses, objectsIn}
 use Rattle.rules.specs.Rules.{Regioned, graph, homeOf, objectCell, objectAt}
-use Rattle.layout.specs.Places.{cellsWords, rememberWords, tablesWords}
+use Rattle.layout.specs.Places.{cellsWords, rememberWords, tablesWords, chainsWords}
 use Rattle.layout.specs.Cells.{headWord, cellOf, wordOf}
 use Rattle.layout.specs.Words.{Words}
-use Rattle.remember.specs.Table.{tableOf, namedBy}
+use Rattle.remember.specs.Table.{Entry, tableOf, namedBy}
+use Rattle.chains.specs.Chains.{chainsOf}
+use Rattle.promises.specs.Slices.{Slices}
 
 -- a reference: 0 for null, else 1 + the cell of the object that it names
 unfoldable pub refWord : Regioned → ℕ → ℕ
@@ -53,13 +55,17 @@ crossedWith h (suc x) (suc (suc f)) = crossed h x (getD (getD (h .heap .objects)
 abbrev pub crossedAt : Regioned → ℕ → ℕ
 crossedAt h q = crossedWith h (objectAt h (cellOf q)) (wordOf q)
 
+-- the entries of its crossing slots
+abbrev pub entriesOf : Sizes → Regioned → List Entry
+entriesOf s h = namedBy (crossedAt h) (cellsWords s)
+
 -- ---- all of them
 
-unfoldable pub wordsOf : Sizes → Regioned → Words
-wordsOf s h =
+unfoldable pub heapWords : Sizes → Regioned → Words
+heapWords s h =
     record {
       cells = listed (cellWord h) (cellsWords s);
-      remember = tableOf (s .entries) (namedBy (crossedAt h) (cellsWords s));
+      remember = tableOf (s .entries) (entriesOf s h);
       tables =
           (s .threads ∷ s .variables ∷ s .depth ∷ s .pages ∷ s .entries ∷ [])
           ++ (h .heap .depths
@@ -71,11 +77,19 @@ wordsOf s h =
           ++ h .counters .made ∷ h .counters .freed ∷ []))))));
     }
 
+-- with the chains of its entries (02, W6)
+abbrev pub wordsOf : Sizes → Regioned → Slices
+wordsOf s h = record { words = heapWords s h; chains = chainsOf (regions s) (s .entries) (entriesOf s h) }
+
 -- the words of the heap, and past them what stood there
 unfoldable pub laid : Sizes → Regioned → Words → Words
 laid s h w =
     record {
-      cells = wordsOf s h .cells ++ drop (cellsWords s) (w .cells);
-      remember = wordsOf s h .remember ++ drop (rememberWords s) (w .remember);
-      tables = wordsOf s h .tables ++ drop (tablesWords s) (w .tables);
+      cells = heapWords s h .cells ++ drop (cellsWords s) (w .cells);
+      remember = heapWords s h .remember ++ drop (rememberWords s) (w .remember);
+      tables = heapWords s h .tables ++ drop (tablesWords s) (w .tables);
     }
+
+-- the same of all four slices
+abbrev pub laidSlices : Sizes → Regioned → Slices → Slices
+laidSlices s h l = record { words = laid s h (l .words); chains = wordsOf s h .chains ++ drop (chainsWords s) (l .chains) }
