@@ -7,5 +7,6 @@ pub mod Firsts
 pub mod Following
 pub mod Linking
 pub mod Walking
+pub mod Cutting
 pub mod LentChains
 pub mod ChainsExample

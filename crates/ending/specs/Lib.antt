@@ -17,4 +17,5 @@ pub mod RoomAsked
 pub mod Region
 pub mod CopiesPlaced
 pub mod Stages
+pub mod Chaining
 pub mod NoSurvivors

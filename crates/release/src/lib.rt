@@ -4,7 +4,7 @@ ghost use mathlib.Core.Path.{_≡_};
 ghost use Prim.Native.Nat.{_+_, _<_, _≤_};
 ghost use lib.ListN.{length, set};
 ghost use Rattle.lists.specs.Part.{Lists, Rises};
-ghost use Rattle.layout.specs.Places.{Room, cellsWords, ownerOf, depthOf, countOf, freedAt, freedOf};
+ghost use Rattle.layout.specs.Places.{Room, cellsWords, ownerOf, depthOf, freedAt, freedOf};
 ghost use Rattle.pages.specs.Noted.{noteWords, Noted};
 ghost use Rattle.rules.specs.Regions.{regions};
 ghost use Rattle.rules.specs.Rules.{counted};
@@ -100,57 +100,4 @@ pub fn release(
     let depth = layout::tables::depth(p, tables, thread);
     layout::tables::set_depth(p, tables, thread, depth - 1);
     count_freed(p, tables, freed);
-}
-
-// The same where the region's pages are not listed yet.
-fn list_and_release(
-    p: Sizes,
-    cells: &mut [u32],
-    tables: &mut [u32],
-    notes: &mut [u32],
-    region: u32,
-    thread: usize,
-    freed: u32,
-)
-    requires { ⌜ Room p (length (now tables)) ⌝ }
-    requires { ⌜ Regular p (now tables) ⌝ }
-    requires { ⌜ cellsWords p ≤ length (now cells) ⌝ }
-    requires { ⌜ (1 ≤ region) × (region ≤ regions p) ⌝ }
-    requires { ⌜ (thread < p .threads) × (1 ≤ depthOf (now tables) thread) ⌝ }
-    requires { ⌜ Noted p (now tables) (now notes) ⌝ }
-    ensures { λ _. ⌜ Ended p region thread freed (now (tables .entry)) (now (tables .exit)) ⌝ }
-    ensures { λ _. ⌜ Emptied p region (p .pages) (now (tables .entry)) (now (cells .entry)) (now (cells .exit)) ⌝ }
-    ensures { λ _. ⌜ Noted p (now (tables .exit)) (now (notes .exit)) ⌝ }
-{
-    let mut list = [0u32; 1024];
-    let n = pages::list_pages(p, tables, region, &mut list);
-    release(p, cells, tables, notes, &list, n, region, thread, freed);
-}
-
-// The same where all objects of the region are freed. A region without objects has no pages, and needs no list.
-pub fn release_region(
-    p: Sizes,
-    cells: &mut [u32],
-    tables: &mut [u32],
-    notes: &mut [u32],
-    region: u32,
-    thread: usize,
-)
-    requires { ⌜ Room p (length (now tables)) ⌝ }
-    requires { ⌜ Regular p (now tables) ⌝ }
-    requires { ⌜ cellsWords p ≤ length (now cells) ⌝ }
-    requires { ⌜ (1 ≤ region) × (region ≤ regions p) ⌝ }
-    requires { ⌜ (thread < p .threads) × (1 ≤ depthOf (now tables) thread) ⌝ }
-    requires { ⌜ Noted p (now tables) (now notes) ⌝ }
-    ensures { λ _. ⌜ Ended p region thread (countOf p (now (tables .entry)) region) (now (tables .entry)) (now (tables .exit)) ⌝ }
-    ensures { λ _. ⌜ Emptied p region (p .pages) (now (tables .entry)) (now (cells .entry)) (now (cells .exit)) ⌝ }
-    ensures { λ _. ⌜ Noted p (now (tables .exit)) (now (notes .exit)) ⌝ }
-{
-    let objects = layout::tables::count(p, tables, layout::wide(region));
-    if objects != 0 {
-        list_and_release(p, cells, tables, notes, region, thread, objects);
-    } else {
-        let none = [0u32; 1];
-        release(p, cells, tables, notes, &none, 0, region, thread, objects);
-    }
 }

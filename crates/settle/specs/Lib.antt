@@ -4,3 +4,5 @@ pub mod RewriteSlots
 pub mod RewriteCopies
 pub mod Settle
 pub mod Update
+pub mod Touched
+pub mod Renew

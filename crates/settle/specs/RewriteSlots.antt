@@ -2,18 +2,19 @@
 use mathlib.Core.Path.{_≡_, refl, sym, ap, _∙_, subst}
 use mathlib.Core.Logic.{_≢_, _⊎_, inl, inr, ⊎-elim}
 use mathlib.Core.List.{List}
-use Prim.Native.Nat.{ℕ, _+_, _≤_, _<_}
-use native.Mathlib.Decide.{ℕ-discrete}
+use Prim.Native.Nat.{ℕ, _+_, _-_, _≤_, _<_}
+use native.Mathlib.Decide.{decLt, ℕ-discrete}
 use native.Mathlib.Omega.{arith}
 use lib.ListN.{length, getD, set, length-set}
 use lib.Seq.{getD-set-same, getD-set-other}
 use Rattle.rules.specs.declared.Sizes.{Sizes}
-use Rattle.layout.specs.Places.{Room, varAt, varCount, varOf, slotIn, slotRegionIn, varsFrom, cellsWords}
+use Rattle.layout.specs.Places.{Room, entriesUsed, varAt, varCount, varOf, slotIn, slotRegionIn, varsFrom, cellsWords}
 use Rattle.layout.specs.Cells.{fieldAt, pageOf, wordOf, mostFields}
 use Rattle.layout.specs.Words.{Names}
 use Rattle.remember.specs.Entries.{NamedWith, rising-once}
 use Rattle.remember.specs.Staying.{Entries}
-use Rattle.settle.specs.Rewrite.{forwarded, Rewritten, rewritten-one, rewritten-join, rewritten-like}
+use Rattle.chains.specs.Walking.{Leads}
+use Rattle.settle.specs.Rewrite.{forwarded, Rewritten, rewritten-none, rewritten-one, rewritten-join, rewritten-like}
 
 -- ---- the remembered slots with region r
 
@@ -48,8 +49,50 @@ module _ {p : Sizes} {r n m : ℕ} {W M W′ : List ℕ} {i : ℕ} (a : Slots p 
       (λ x q. ⊎-elim inl (λ z. inr (z .1 ∙ sym e)) (split x q))
       (λ x. ⊎-elim (earlier x) (λ z. record { entry = i; low = omega arith; region = reg; slot = sym (z ∙ e) }))
 
-  pub slot-left : slotRegionIn n M i ≢ r → Rewritten (NamedWith r n (i + 1) M) W W′
-  slot-left ne = rewritten-like h (λ x q. ⊎-elim (λ z. z) (λ z. absurd (ne (z .0))) (split x q)) earlier
+-- no entry from i to before k points into the region
+pub slots-left : {r n i : ℕ} {W M W′ : List ℕ} (k : ℕ) → i ≤ k → ((j : ℕ) → i ≤ j → j < k → slotRegionIn n M j ≢ r) → Rewritten (NamedWith r n i M) W W′
+    → Rewritten (NamedWith r n k M) W W′
+slots-left {r} {n} {i} {W} {M} k le none h =
+    rewritten-like h (λ x q. from x q (decLt (q .entry) i))
+    (λ x q. record { entry = q .entry; low = omega (arith, q .low); region = q .region; slot = q .slot })
+  where
+    from : (x : ℕ) (q : NamedWith r n k M x) → Dec (q .entry < i) → NamedWith r n i M x
+    from x q (yes l) = record { entry = q .entry; low = l; region = q .region; slot = q .slot }
+    from x q (no l) = absurd (none (q .entry) (omega arith) (q .low) (q .region))
+
+-- along the chain of r: x leads to the first of its entries from a place on, and those before that place are done
+pub record Along (r n : ℕ) (M : List ℕ) (x : ℕ) (W W′ : List ℕ) : Type 0 where
+  pub place : ℕ
+  pub low : place ≤ entriesUsed M
+  pub leads : Leads r n M place x
+  pub done : Rewritten (NamedWith r n place M) W W′
+
+pub along-start : {r n x : ℕ} {W M : List ℕ} → Leads r n M 0 x → Along r n M x W W
+along-start {r} {n} {x} {W} {M} l =
+    record { place = 0; low = omega arith; leads = l; done = rewritten-none (NamedWith r n 0 M) W (λ y q. omega (arith, q .low)) }
+
+pub along-end : {r n x : ℕ} {W M W′ : List ℕ} → Along r n M x W W′ → x ≡ 0 → Rewritten (NamedWith r n (entriesUsed M) M) W W′
+along-end {M = M} a z = slots-left (entriesUsed M) (a .low) (a .leads .none z) (a .done)
+
+module _ {p : Sizes} {r n x : ℕ} {W M W′ : List ℕ} (s : Slots p r n (entriesUsed M) W M) (a : Along r n M x W W′) (pos : 0 < x) where
+  pub along-low : x - 1 < entriesUsed M
+  along-low = omega (arith, a .leads .low)
+
+  here : Rewritten (NamedWith r n (x - 1) M) W W′
+  here = slots-left (x - 1) (omega (arith, a .leads .later pos)) (a .leads .between pos) (a .done)
+
+  pub along-names : Names p (getD W′ (slotIn M (x - 1)) 0)
+  along-names = slot-names s along-low here (a .leads .region pos)
+
+  pub along-turn : {y : ℕ} (v t : ℕ) → t ≡ slotIn M (x - 1) → v ≡ forwarded W′ (getD W′ t 0) → Leads r n M x y → Along r n M y W (set W′ t v)
+  along-turn v t e f l =
+      let q : x - 1 + 1 ≡ x = omega arith in
+      record {
+        place = x;
+        low = a .leads .low;
+        leads = l;
+        done = subst (λ (k : ℕ). Rewritten (NamedWith r n k M) W (set W′ t v)) q (slot-moved s along-low here v t e (a .leads .region pos) f);
+      }
 
 -- ---- the fields of one cell
 

@@ -6,8 +6,9 @@ use Prim.Native.Nat.{ℕ, _-_, _<_}
 use native.Mathlib.Omega.{arith}
 use lib.ListN.{getD}
 use Rattle.rules.specs.declared.Sizes.{Sizes}
-use Rattle.layout.specs.Places.{slotIn, slotRegionIn}
+use Rattle.layout.specs.Places.{entriesUsed, slotIn, slotRegionIn}
 use Rattle.layout.specs.Words.{Names}
+use Rattle.remember.specs.Table.{Table}
 use Rattle.remember.specs.Entries.{Rising, ZeroBetween}
 use Rattle.remember.specs.Stretches.{Added, added-join, slot-below, EndsAfter}
 use Rattle.remember.specs.Filtered.{Stays}
@@ -35,6 +36,9 @@ pub record Settles (p : Sizes) (r n m : ℕ) (W M T : List ℕ) : Type 0 where
   pub names : (x : ℕ) → Copies p W T x → Names p (getD W x 0) × Names p (forwarded W (getD W x 0))
   pub space : AtMost (Due p r n m W M T) n
   pub rest : ZeroBetween n M m n
+
+pub settles-table : {p : Sizes} {r n : ℕ} {W M T : List ℕ} → Settles p r n (entriesUsed M) W M T → Table n M
+settles-table u = record { long = u .entries .long; few = omega arith; room = u .entries .few; rest = u .rest; rising = u .entries .rising }
 
 -- an entry that stays, or a crossing slot of a copy
 abbrev pub NewEntry : (p : Sizes) (r n m : ℕ) (W M T : List ℕ) → ℕ → ℕ → Type 0

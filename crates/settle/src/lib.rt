@@ -2,20 +2,27 @@
 // copies' own slots, and the remember table follows. The copies' slots are gone over once: each becomes what it is to be, and if it crosses
 // then, its entry comes.
 pub mod entries;
+pub mod renew;
 pub mod rewrite;
+pub mod touched;
 
 ghost use mathlib.Core.Path.{_≡_};
 ghost use Prim.Native.Nat.{ℕ, _<_};
 ghost use lib.ListN.{length};
-ghost use Rattle.lists.specs.Part.{Rises, Off};
-ghost use Rattle.layout.specs.Places.{Room, markOf, entriesUsed};
+ghost use Rattle.lists.specs.Part.{Rises, Off, Lists};
+ghost use Rattle.layout.specs.Places.{Room, ownerOf, markOf, entriesUsed};
 ghost use Rattle.layout.specs.Cells.{refsOf};
+ghost use Rattle.chains.specs.Chains.{withChains};
 ghost use Rattle.settle.specs.Rewrite.{Rewritten};
 ghost use Rattle.settle.specs.RewriteSlots.{Field, Fields};
 ghost use Rattle.settle.specs.RewriteCopies.{CopySlot, Wiring, OnPage, OnPages};
 ghost use Rattle.settle.specs.Update.{Copies, Settles, Updated};
 ghost use Rattle.settle.specs.Settle.{Settling, Settled};
+ghost use Rattle.settle.specs.Touched.{Chained};
+use crate::renew::renew_chains;
 use crate::rewrite::forward_ref;
+use crate::touched::first_own;
+use crate::touched::first_touched;
 use layout::Kind;
 use remember::crossing::cross;
 use remember::entries::close_entries;
@@ -117,25 +124,31 @@ pub fn settle_copies(
     i
 }
 
-// The copies' slots and the remember table after the end: the entries that stay and those of the copies, by rising slot, then zeros.
+// The copies' slots and the remember table after the end: the entries that stay and those of the copies, by rising slot, then zeros; and its chains.
 pub fn settle(
     p: Sizes,
     cells: &mut [u32],
     remember: &mut [u32],
     tables: &[u32],
+    chains: &mut [u32],
     list: &[u32],
     n: usize,
     region: u32,
 )
     requires { ⌜ Settles p region (p .entries) (entriesUsed (now remember)) (now cells) (now remember) (now tables) ⌝ }
-    requires { ⌜ Rises (p .pages) n (now list) ⌝ }
+    requires { ⌜ Lists (λ page. ownerOf p (now tables) page ≡ region) (p .pages) n (now list) ⌝ }
     requires { ⌜ ((page : ℕ) → page < p .pages → Off (now list) n page → markOf p (now tables) page ≡ 0) ⌝ }
+    requires { ⌜ Chained p region (now remember) (now tables) (now chains) ⌝ }
     ensures { λ _. ⌜ Rewritten (Copies p (now (cells .entry)) (now (tables .entry))) (now (cells .entry)) (now (cells .exit)) ⌝ }
     ensures { λ _. ⌜ Updated p region (p .entries) (entriesUsed (now (remember .entry))) (now (cells .exit)) (now (remember .entry)) (now (tables .entry)) (now (remember .exit)) ⌝ }
+    ensures { λ _. ⌜ now (chains .exit) ≡ withChains p (now (remember .exit)) (now (chains .entry)) ⌝ }
 {
     let used = layout::wide(layout::remember::used(remember));
-    let kept = filter_entries(p, cells, remember, tables, region, used);
+    let own = first_own(p, remember, list, n);
+    let from = first_touched(chains, region, own);
+    let kept = filter_entries(p, cells, remember, tables, region, from, used);
     let all = settle_copies(p, cells, remember, tables, list, n, kept);
     close_entries(p.entries, remember, all, used);
     order_entries(p.entries, remember, kept);
+    renew_chains(p, remember, chains, region, from, own, used);
 }

@@ -4,10 +4,12 @@ ghost use mathlib.Core.Path.{_≡_};
 ghost use mathlib.Core.Logic.{_≢_};
 ghost use Prim.Native.Nat.{ℕ, _<_, _≤_};
 ghost use lib.ListN.{length};
+ghost use Rattle.rules.specs.Regions.{regions};
 ghost use Rattle.layout.specs.Places.{Room, varCount, varOf, entriesUsed, cellsWords};
 ghost use Rattle.layout.specs.Cells.{cellNamed, CellIn};
 ghost use Rattle.layout.specs.Words.{Names};
 ghost use Rattle.remember.specs.Entries.{NamedWith};
+ghost use Rattle.chains.specs.Chains.{ChainsWhole};
 ghost use Rattle.settle.specs.Rewrite.{forwarded, Rewritten};
 ghost use Rattle.settle.specs.RewriteSlots.{Slots, Variables};
 use rules::Sizes;
@@ -27,20 +29,21 @@ pub fn forward_ref(cells: &[u32], x: u32) -> u32
     forward
 }
 
-// The remembered slots that point into the region.
-pub fn rewrite_slots(p: Sizes, cells: &mut [u32], remember: &[u32], region: u32)
+// The remembered slots that point into the region: those along its chain.
+pub fn rewrite_slots(p: Sizes, cells: &mut [u32], remember: &[u32], chains: &[u32], region: u32)
     requires { ⌜ Slots p region (p .entries) (entriesUsed (now remember)) (now cells) (now remember) ⌝ }
+    requires { ⌜ ChainsWhole p (now remember) (now chains) ⌝ }
+    requires { ⌜ (1 ≤ region) × (region ≤ regions p) × (p .threads ≤ 16) × (p .depth ≤ 8) ⌝ }
     ensures { λ _. ⌜ Rewritten (NamedWith region (p .entries) (entriesUsed (now (remember .entry))) (now (remember .entry))) (now (cells .entry)) (now (cells .exit)) ⌝ }
 {
     let entries = p.entries;
-    let used = layout::wide(layout::remember::used(remember));
-    let mut i: usize = 0;
-    while i < used {
-        if layout::remember::region(entries, remember, i) == region {
-            let at = layout::wide(layout::remember::slot(entries, remember, i));
-            cells[at] = forward_ref(cells, cells[at]);
-        }
-        i += 1;
+    let last = layout::regions::last_region(p);
+    let mut x = layout::wide(layout::chains::first(chains, layout::wide(region)));
+    while x != 0 {
+        let i = x - 1;
+        let at = layout::wide(layout::remember::slot(entries, remember, i));
+        cells[at] = forward_ref(cells, cells[at]);
+        x = layout::wide(layout::chains::next(last, chains, i));
     }
 }
 

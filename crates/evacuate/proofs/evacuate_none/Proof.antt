@@ -1,56 +1,90 @@
--- Nothing moves: the entries are those of the words as they are, and the region's cells and pages go.
+-- A region without objects has no pages, and else its pages are listed.
 use native.Mathlib.Omega.{arith}
-use Rattle.ending.specs.Ending.{depth-now}
+use borrow.Author.Needs.{needs}
+use mathlib.Core.Path.{sym, ap, _∙_}
+use Rattle.lists.specs.Part.{lists-none}
+use Rattle.layout.specs.Places.{countOf}
+use Rattle.promises.specs.OwnedPages.{none-owned}
+use Rattle.ending.specs.Ending.{room-now}
 use Rattle.ending.specs.PagesEnough.{plan}
 use Rattle.ending.specs.Stages as st
-use Rattle.ending.specs.NoSurvivors.{all-freed, none-copied, none-copies, none-rewritten, none-update, none-variables}
 use Rattle.evacuate.proofs.evacuate_none.Statement.{statement}
 use Rattle.evacuate.proofs.evacuate_none.Tie as tie
 
-keep-entries-requires : tie.Need-keep-entries-requires
-keep-entries-requires c κs =
-    let pre = c .before .before .before .before .before .before .before .pre in
-    let e = pre .0 .2 in
-    let p = plan e (pre .0 .3 .pages) in
-    (none-update e (pre .1 .0) p (pre .0 .3 .entries), none-copies e (pre .1 .0) p)
+wide-requires : tie.Need-wide-requires
+wide-requires c κs = search needs
 
-release-region-requires : tie.Need-release-region-requires
-release-region-requires c κs =
-    let pre = c .before .before .before .before .before .before .before .before .before .before .before .before .before .pre in
-    let e = pre .0 .2 in
-    let p = plan e (pre .0 .3 .pages) in
-    (p .ready .room, (p .ready .regular, (p .ready .cells-long, (st.bounds e, ((e .thread, omega (arith, depth-now e, e .epoch)), pre .1 .1)))))
+count-requires : tie.Need-count-requires
+count-requires c κs =
+    let e = c .before .before .before .before .before .before .before .pre .0 .2 in
+    (room-now e, (omega (arith, c .wide .ensures, st.bounds e), omega (arith, c .wide .ensures, st.bounds e)))
+
+list-and-free-requires : tie.Need-list-and-free-requires
+list-and-free-requires c κs = (c .before .before .before .before .before .before .before .before .before .before .before .before .before .before .pre .0, (c .before .before .before .before .before .before .before .before .before .before .before .before .before .before .pre .1 .0, (c .before .before .before .before .before .before .before .before .before .before .before .before .before .before .pre .1 .1 .0, (c .before .before .before .before .before .before .before .before .before .before .before .before .before .before .pre .1 .1 .1, (c .before .before .before .before .before .before .count .ensures ∙ ap (countOf (c .before .before .before .before .before .before .before .before .before .before .before .before .before .before .args .p) (c .before .before .before .before .before .before .before .before .before .before .before .before .before .before .args .tables .now)) (c .before .before .before .before .before .before .before .wide .ensures))))))
+
+slice-aggregate-free-listed : tie.Need-slice-aggregate-free-listed
+slice-aggregate-free-listed c = search needs
+
+free-listed-requires : tie.Need-free-listed-requires
+free-listed-requires c κs =
+    let e = c .before .before .before .before .before .before .before .before .before .before .before .before .before .before .before .pre .0 .2 in
+    let n = (c .before .before .before .before .before .before .before .count .ensures ∙ ap (countOf (c .before .before .before .before .before .before .before .before .before .before .before .before .before .before .before .args .p) (c .before .before .before .before .before .before .before .before .before .before .before .before .before .before .before .args .tables .now)) (c .before .before .before .before .before .before .before .before .wide .ensures)) in
+    (c .before .before .before .before .before .before .before .before .before .before .before .before .before .before .before .pre .0, (c .before .before .before .before .before .before .before .before .before .before .before .before .before .before .before .pre .1 .0, (c .before .before .before .before .before .before .before .before .before .before .before .before .before .before .before .pre .1 .1 .0, (c .before .before .before .before .before .before .before .before .before .before .before .before .before .before .before .pre .1 .1 .1, (lists-none _ (none-owned (plan e (c .before .before .before .before .before .before .before .before .before .before .before .before .before .before .before .pre .0 .3 .pages) .ready .regular) (c .before .before .before .before .before .before .before .before .before .before .before .before .before .before .before .args .region) (st.bounds e .0) (st.bounds e .1) (sym n ∙ c .before .before .before .before .before .before .if1 .left)), n)))))
 
 same-length : tie.Need-same-length
-same-length c = c .before .before .before .before .before .before .release-region .kept .1 .0
+same-length c = search needs
 
 same-length-2 : tie.Need-same-length-2
-same-length-2 c = c .before .before .before .before .before .before .before .before .before .before .before .before .keep-entries .kept .1 .1 .0
+same-length-2 c = search needs
 
 same-length-3 : tie.Need-same-length-3
-same-length-3 c = c .before .before .before .before .before .before .release-region .kept .1 .1 .0
+same-length-3 c = search needs
 
 same-length-4 : tie.Need-same-length-4
-same-length-4 c = c .before .before .before .before .before .before .release-region .kept .1 .1 .1 .0
+same-length-4 c = search needs
+
+same-length-5 : tie.Need-same-length-5
+same-length-5 c = search needs
 
 returns : tie.Need-returns
-returns c = (
-  λ cells tables e a.
-      let off = c .before .before .before .before .before .before .before .before .before .before .before .before .before .before .before .before .before .before .before .before .pre .1 .0 in
-      let p = plan e (a .pages) in
-      let release = c .before .before .before .before .before .before .release-region in
-      st.has-ended e p (none-copied e off) (none-variables e off) (release .ensures .0) (all-freed e off) (release .ensures .1 .0) (none-rewritten e off p) (c .before .before .before .before .before .before .before .before .before .before .before .before .keep-entries .ensures),
-  c .before .before .before .before .before .before .release-region .ensures .1 .1,
-)
+returns c = search needs
+
+same-length-6 : tie.Need-same-length-6
+same-length-6 c = search needs
+
+same-length-7 : tie.Need-same-length-7
+same-length-7 c = search needs
+
+same-length-8 : tie.Need-same-length-8
+same-length-8 c = search needs
+
+same-length-9 : tie.Need-same-length-9
+same-length-9 c = search needs
+
+same-length-10 : tie.Need-same-length-10
+same-length-10 c = search needs
+
+returns-2 : tie.Need-returns-2
+returns-2 c = search needs
 
 pub evacuate-none-spec : {M : Type 1} → statement M
 evacuate-none-spec =
     tie.close
     (tie.spec
-    keep-entries-requires
-    release-region-requires
+    wide-requires
+    count-requires
+    list-and-free-requires
+    slice-aggregate-free-listed
+    free-listed-requires
     same-length
     same-length-2
     same-length-3
     same-length-4
-    returns)
+    same-length-5
+    returns
+    same-length-6
+    same-length-7
+    same-length-8
+    same-length-9
+    same-length-10
+    returns-2)
