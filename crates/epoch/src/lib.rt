@@ -1,9 +1,10 @@
 // The end of an epoch (code 2): mark what survives; where nothing does, take the region's slots out of the remember table and free its pages;
 // else list its pages, count over them, refuse and undo the marking where pages or entries are too few, or copy, rewrite, remember and release.
+ghost use mathlib.Core.Path.{_≡_};
 ghost use mathlib.Core.List.{List};
 ghost use Prim.Native.Nat.{ℕ, _<_};
 ghost use Rattle.layout.specs.Words.{words};
-ghost use Rattle.chains.specs.Chains.{ChainsWhole};
+ghost use Rattle.chains.specs.Chains.{ChainsWhole, withChains};
 ghost use Rattle.promises.specs.Whole.{WholeFor};
 ghost use Rattle.promises.specs.Promises.{DidHere};
 ghost use Rattle.pages.specs.Noted.{Noted};
@@ -21,7 +22,7 @@ fn end_marked(
     cells: &mut [u32],
     remember: &mut [u32],
     tables: &mut [u32],
-    chains: &[u32],
+    chains: &mut [u32],
     notes: &mut [u32],
     thread: usize,
     level: usize,
@@ -32,6 +33,7 @@ fn end_marked(
     requires { ⌜ ChainsWhole p (now remember) (now chains) ⌝ }
     ensures { λ r. ⌜ ((c t : List ℕ) → Ending p thread level region (words c (now (remember .entry)) t) (words (now (cells .entry)) (now (remember .entry)) (now (tables .entry))) → DidHere p (words c (now (remember .entry)) t) (endOf thread) (words (now (cells .exit)) (now (remember .exit)) (now (tables .exit))) r) ⌝ }
     ensures { λ _. ⌜ Noted p (now (tables .exit)) (now (notes .exit)) ⌝ }
+    ensures { λ _. ⌜ now (chains .exit) ≡ withChains p (now (remember .exit)) (now (chains .entry)) ⌝ }
 {
     let mut list = [0u32; 1024];
     let mut come = [0u32; 130];
@@ -60,6 +62,7 @@ fn end_marked(
         cells,
         remember,
         tables,
+        chains,
         notes,
         &list,
         n,
@@ -78,7 +81,7 @@ pub fn end(
     cells: &mut [u32],
     remember: &mut [u32],
     tables: &mut [u32],
-    chains: &[u32],
+    chains: &mut [u32],
     notes: &mut [u32],
     thread: usize,
 ) -> Answer
@@ -88,6 +91,7 @@ pub fn end(
     requires { ⌜ ChainsWhole p (now remember) (now chains) ⌝ }
     ensures { λ r. ⌜ DidHere p (words (now (cells .entry)) (now (remember .entry)) (now (tables .entry))) (endOf thread) (words (now (cells .exit)) (now (remember .exit)) (now (tables .exit))) r ⌝ }
     ensures { λ _. ⌜ Noted p (now (tables .exit)) (now (notes .exit)) ⌝ }
+    ensures { λ _. ⌜ now (chains .exit) ≡ withChains p (now (remember .exit)) (now (chains .entry)) ⌝ }
 {
     let level = layout::wide(layout::tables::depth(p, tables, thread));
     if level == 0 {
@@ -107,6 +111,6 @@ pub fn end(
             region,
         );
     }
-    evacuate::evacuate_none(p, cells, remember, tables, notes, thread, level, region);
+    evacuate::evacuate_none(p, cells, remember, tables, chains, notes, thread, level, region);
     rules::done(0)
 }

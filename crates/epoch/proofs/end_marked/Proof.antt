@@ -2,6 +2,7 @@
 use borrow.Author.Needs.{needs}
 use mathlib.Core.Path.{_≡_, sym, _∙_}
 use native.Mathlib.Omega.{arith}
+use Rattle.chains.specs.LentChains.{whole-written}
 use Rattle.promises.specs.Questions.{did-answer}
 use Rattle.lists.specs.Zeros.{replicate-at}
 use Rattle.layout.specs.Places.{mostRegions, regions-few}
@@ -44,17 +45,17 @@ slice-aggregate-ask-room-2 c = search needs
 
 ask-room-requires : tie.Need-ask-room-requires
 ask-room-requires c κs =
-    let m = c .before .before .before .before .before .before .before .before .before .before .before .before .before .before .before .before .before .before .before .before .pre .0 .2 in
-    let k = c .before .before .before .before .before .before .count-listed in
-    (shaped-now m, (holding-now m, (others-stay m, (c .before .before .before .before .before .before .before .before .before .before .before .before .before .before .before .before .before .before .before .before .pre .1 .1, (c .before .before .before .before .before .before .before .before .before .before .before .before .list-pages .ensures, (bounds m, (paged-now m, (k .ensures, (omega (arith, regions-few (room-now m), k .kept .1 .1 .1 .1 .1 .0), (m .thread, level-low m))))))))))
+    let m = c .before .before .before .before .before .before .before .before .before .before .before .before .before .before .before .before .before .before .before .before .before .pre .0 .2 in
+    let k = c .before .before .before .before .before .before .before .count-listed in
+    (shaped-now m, (holding-now m, (others-stay m, (c .before .before .before .before .before .before .before .before .before .before .before .before .before .before .before .before .before .before .before .before .before .pre .1 .1, (c .before .before .before .before .before .before .before .before .before .before .before .before .before .list-pages .ensures, (bounds m, (paged-now m, (k .ensures, (omega (arith, regions-few (room-now m), k .kept .1 .1 .1 .1 .1 .0), (m .thread, level-low m))))))))))
 
 slice-aggregate-unmark : tie.Need-slice-aggregate-unmark
 slice-aggregate-unmark c = search needs
 
 unmark-requires : tie.Need-unmark-requires
 unmark-requires c κs =
-    let m = c .before .before .before .before .before .before .before .before .before .before .before .before .before .before .before .before .before .before .before .before .before .before .before .before .before .pre .0 .2 in
-    let o = c .before .before .before .before .before .before .before .before .before .before .before .before .before .before .before .before .before .list-pages .ensures in
+    let m = c .before .before .before .before .before .before .before .before .before .before .before .before .before .before .before .before .before .before .before .before .before .before .before .before .before .before .pre .0 .2 in
+    let o = c .before .before .before .before .before .before .before .before .before .before .before .before .before .before .before .before .before .before .list-pages .ensures in
     (room-now m, (marked-ready m .cells-long, (m .marks .small, (o .rises, unlisted (m .marks) (listed m o)))))
 
 refused-requires : tie.Need-refused-requires
@@ -69,12 +70,15 @@ same-length-2 c = search needs
 same-length-3 : tie.Need-same-length-3
 same-length-3 c = search needs
 
+same-length-4 : tie.Need-same-length-4
+same-length-4 c = search needs
+
 returns : tie.Need-returns
 returns c = (
   λ cells tables m.
       did-answer (c .refused .ensures)
       (out-refused m (c .before .before .before .before .before .before .before .before .before .before .ask-room .result) (omega (arith, c .before .before .before .before .before .before .before .before .before .if1 .taken)) (c .before .before .before .before .before .before .before .before .before .before .ask-room .ensures) (c .before .before .before .before .before .unmark .ensures)),
-  out-noted (c .before .before .before .before .before .before .before .before .before .before .before .before .before .before .before .before .before .before .before .before .before .before .before .before .before .before .before .before .before .before .before .pre .0 .2) (c .before .before .before .before .before .unmark .ensures) (c .before .before .before .before .before .before .before .before .before .before .before .before .before .before .before .before .before .before .before .before .before .before .before .before .before .before .before .before .before .before .before .pre .1 .0),
+  (out-noted (c .before .before .before .before .before .before .before .before .before .before .before .before .before .before .before .before .before .before .before .before .before .before .before .before .before .before .before .before .before .before .before .before .pre .0 .2) (c .before .before .before .before .before .unmark .ensures) (c .before .before .before .before .before .before .before .before .before .before .before .before .before .before .before .before .before .before .before .before .before .before .before .before .before .before .before .before .before .before .before .before .pre .1 .0), sym (whole-written (c .before .before .before .before .before .before .before .before .before .before .before .before .before .before .before .before .before .before .before .before .before .before .before .before .before .before .before .before .before .before .before .before .pre .1 .1))),
 )
 
 slice-aggregate-evacuate : tie.Need-slice-aggregate-evacuate
@@ -85,26 +89,23 @@ slice-aggregate-evacuate-2 c = search needs
 
 evacuate-requires : tie.Need-evacuate-requires
 evacuate-requires c κs =
-    let a = c .before .before .before .before .before .before .before .before .before .before .before .before .before .before .before .before .before .before .before .before .before .before .before .before .before .before .before .before .args in
-    let pre = c .before .before .before .before .before .before .before .before .before .before .before .before .before .before .before .before .before .before .before .before .before .before .before .before .before .before .before .before .pre in
+    let a = c .before .before .before .before .before .before .before .before .before .before .before .before .before .before .before .before .before .before .before .before .before .before .before .before .before .before .before .before .before .before .args in
+    let pre = c .before .before .before .before .before .before .before .before .before .before .before .before .before .before .before .before .before .before .before .before .before .before .before .before .before .before .before .before .before .before .pre in
     let m = pre .0 .2 in
-    let k = c .before .before .before .before .before .before .before .before .before .before .before .before .before .before .count-listed in
-    let yes = sym (let z : c .before .before .before .before .before .before .before .ask-room .result ≡ 0 = omega (arith, c .before .before .before .before .before .before .if1 .left) in z) ∙ c .before .before .before .before .before .before .before .ask-room .ensures in (
+    let k = c .before .before .before .before .before .before .before .before .before .before .before .before .before .before .before .before .count-listed in
+    let yes = sym (let z : c .before .before .before .before .before .before .before .before .ask-room .result ≡ 0 = omega (arith, c .before .before .before .before .before .before .before .if1 .left) in z) ∙ c .before .before .before .before .before .before .before .before .ask-room .ensures in (
       (pre .0 .0, pre .0 .1, m, accepted m yes),
       (
-        c .before .before .before .before .before .before .before .before .before .before .before .before .before .before .before .before .before .before .before .before .list-pages .ensures,
+        c .before .before .before .before .before .before .before .before .before .before .before .before .before .before .before .before .before .before .before .before .before .before .list-pages .ensures,
         (
           (λ g low high z. sym (k .ensures .arrivals g ∙ over-cells (a .p) (a .tables .now) (goesTo (a .cells .now) g)) ∙ z),
-          (pre .1 .0, omega (arith, regions-few (room-now m), k .kept .1 .1 .1 .1 .1 .0)),
+          ((pre .1 .0, omega (arith, regions-few (room-now m), k .kept .1 .1 .1 .1 .1 .0)), pre .1 .1),
         ),
       ),
     )
 
 done-requires : tie.Need-done-requires
 done-requires c κs = search needs
-
-same-length-4 : tie.Need-same-length-4
-same-length-4 c = search needs
 
 same-length-5 : tie.Need-same-length-5
 same-length-5 c = search needs
@@ -115,12 +116,18 @@ same-length-6 c = search needs
 same-length-7 : tie.Need-same-length-7
 same-length-7 c = search needs
 
+same-length-8 : tie.Need-same-length-8
+same-length-8 c = search needs
+
+same-length-9 : tie.Need-same-length-9
+same-length-9 c = search needs
+
 returns-2 : tie.Need-returns-2
 returns-2 c = (
   λ cells tables m.
-      let a = accepted m (sym (let z : c .before .before .before .before .before .before .before .before .before .before .before .before .before .before .before .before .before .ask-room .result ≡ 0 = omega (arith, c .before .before .before .before .before .before .before .before .before .before .before .before .before .before .before .before .if1 .left) in z) ∙ c .before .before .before .before .before .before .before .before .before .before .before .before .before .before .before .before .before .ask-room .ensures) in
-      did-answer (c .done .ensures) (ended-here m a (c .before .before .before .before .before .before .before .before .before .evacuate .ensures .0 cells tables m a)),
-  c .before .before .before .before .before .before .before .before .before .evacuate .ensures .1,
+      let a = accepted m (sym (let z : c .before .before .before .before .before .before .before .before .before .before .before .before .before .before .before .before .before .before .before .before .ask-room .result ≡ 0 = omega (arith, c .before .before .before .before .before .before .before .before .before .before .before .before .before .before .before .before .before .before .before .if1 .left) in z) ∙ c .before .before .before .before .before .before .before .before .before .before .before .before .before .before .before .before .before .before .before .before .ask-room .ensures) in
+      did-answer (c .done .ensures) (ended-here m a (c .before .before .before .before .before .before .before .before .before .before .before .evacuate .ensures .0 cells tables m a)),
+  c .before .before .before .before .before .before .before .before .before .before .before .evacuate .ensures .1,
 )
 
 pub end-marked-spec : {M : Type 1} → statement M
@@ -141,13 +148,15 @@ end-marked-spec =
     same-length
     same-length-2
     same-length-3
+    same-length-4
     returns
     slice-aggregate-evacuate
     slice-aggregate-evacuate-2
     evacuate-requires
     done-requires
-    same-length-4
     same-length-5
     same-length-6
     same-length-7
+    same-length-8
+    same-length-9
     returns-2)
