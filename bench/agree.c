@@ -22,5 +22,6 @@ int agree(const Lent *left, const Lent *right) {
     size_t threads = t[0], variables = t[1], depth = t[2], pages = t[3], entries = t[4];
     return same("tables", left->tables, left->tables_words, right->tables, right->tables_words, threads * (variables + depth + 1) + 3 * pages + 8) &&
            same("cells", left->cells, left->cells_words, right->cells, right->cells_words, 256 * pages) &&
-           same("remember", left->remember, left->remember_words, right->remember, right->remember_words, 2 * entries + 2);
+           same("remember", left->remember, left->remember_words, right->remember, right->remember_words, 2 * entries + 2) &&
+           same("chains", left->chains, left->chains_words, right->chains, right->chains_words, 1 + threads * depth + entries);
 }

@@ -16,7 +16,7 @@ enum { AT_LEAST = 9, AT_MOST = 301, BLOCK_BEFORE = 1000 };      /* runs of a row
 static const double LONG_ENOUGH = 3e8;                          /* nanoseconds after which AT_LEAST runs are enough */
 static const char *picked;
 
-typedef uint32_t (*Run)(uint32_t *, size_t, uint32_t *, size_t, uint32_t *, size_t, const uint32_t *, size_t, uint32_t *, size_t);
+typedef uint32_t (*Run)(uint32_t *, size_t, uint32_t *, size_t, uint32_t *, size_t, uint32_t *, size_t, const uint32_t *, size_t, uint32_t *, size_t);
 
 static void stop(const char *name, const char *what) {
     fprintf(stderr, "%s: %s\n", name, what);
@@ -48,8 +48,9 @@ static double median(double *times, size_t n) {
 static Lent lend(const Workload *w) {
     Lent l = {.cells_words = taldreku_cells_length(w->pages),
               .remember_words = taldreku_remember_length(w->entries),
-              .tables_words = taldreku_tables_length(w->threads, w->variables, w->depth, w->pages)};
-    l.cells = room(l.cells_words), l.remember = room(l.remember_words), l.tables = room(l.tables_words);
+              .tables_words = taldreku_tables_length(w->threads, w->variables, w->depth, w->pages),
+              .chains_words = taldreku_chains_length(w->threads, w->depth, w->entries)};
+    l.cells = room(l.cells_words), l.remember = room(l.remember_words), l.tables = room(l.tables_words), l.chains = room(l.chains_words);
     return l;
 }
 
@@ -57,16 +58,19 @@ static void restore(Lent *to, const Lent *from) {
     memcpy(to->cells, from->cells, from->cells_words * sizeof(uint32_t));
     memcpy(to->remember, from->remember, from->remember_words * sizeof(uint32_t));
     memcpy(to->tables, from->tables, from->tables_words * sizeof(uint32_t));
+    memcpy(to->chains, from->chains, from->chains_words * sizeof(uint32_t));
 }
 
 static void give_back(Lent *l) {
     free(l->cells);
     free(l->remember);
     free(l->tables);
+    free(l->chains);
 }
 
 static uint32_t run_block(Run run, Lent *l, const uint32_t *block, size_t commands, uint32_t *answers) {
-    return run(l->cells, l->cells_words, l->remember, l->remember_words, l->tables, l->tables_words, block, 5 * commands, answers, 2 * commands);
+    return run(l->cells, l->cells_words, l->remember, l->remember_words, l->tables, l->tables_words, l->chains, l->chains_words, block, 5 * commands,
+               answers, 2 * commands);
 }
 
 static void run_stream(Run run, Lent *l, const Stream *s, size_t block, uint32_t *answers, const char *name) {
@@ -113,34 +117,38 @@ static double typical(const double *times, size_t blocks, size_t runs) {
 }
 
 static uint32_t check_by_hand(uint32_t *cells, size_t cells_words, uint32_t *remember, size_t remember_words, uint32_t *tables,
-                              size_t tables_words, const uint32_t *block, size_t block_words, uint32_t *answers, size_t answers_words) {
+                              size_t tables_words, uint32_t *chains, size_t chains_words, const uint32_t *block, size_t block_words,
+                              uint32_t *answers, size_t answers_words) {
     (void)block, (void)block_words, (void)answers, (void)answers_words;
-    return plain_check(cells, cells_words, remember, remember_words, tables, tables_words);
+    return plain_check(cells, cells_words, remember, remember_words, tables, tables_words, chains, chains_words);
 }
 
 /* A heap is prepared anew with the sizes that it has; by hand too; or all of its words are cleared. The last is not inlined: bench/counts looks
  * for its name. */
 static uint32_t prepare_anew(uint32_t *cells, size_t cells_words, uint32_t *remember, size_t remember_words, uint32_t *tables,
-                             size_t tables_words, const uint32_t *block, size_t block_words, uint32_t *answers, size_t answers_words) {
+                             size_t tables_words, uint32_t *chains, size_t chains_words, const uint32_t *block, size_t block_words,
+                             uint32_t *answers, size_t answers_words) {
     (void)block, (void)block_words, (void)answers, (void)answers_words;
     return taldreku_prepare(tables[0], tables[1], tables[2], tables[3], tables[4], cells, cells_words, remember, remember_words, tables,
-                            tables_words);
+                            tables_words, chains, chains_words);
 }
 
 static uint32_t prepare_by_hand(uint32_t *cells, size_t cells_words, uint32_t *remember, size_t remember_words, uint32_t *tables,
-                                size_t tables_words, const uint32_t *block, size_t block_words, uint32_t *answers, size_t answers_words) {
+                                size_t tables_words, uint32_t *chains, size_t chains_words, const uint32_t *block, size_t block_words,
+                                uint32_t *answers, size_t answers_words) {
     (void)block, (void)block_words, (void)answers, (void)answers_words;
     return plain_prepare(tables[0], tables[1], tables[2], tables[3], tables[4], cells, cells_words, remember, remember_words, tables,
-                         tables_words);
+                         tables_words, chains, chains_words);
 }
 
 __attribute__((noinline)) static uint32_t memset_alone(uint32_t *cells, size_t cells_words, uint32_t *remember, size_t remember_words,
-                                                       uint32_t *tables, size_t tables_words, const uint32_t *block, size_t block_words,
-                                                       uint32_t *answers, size_t answers_words) {
+                                                       uint32_t *tables, size_t tables_words, uint32_t *chains, size_t chains_words,
+                                                       const uint32_t *block, size_t block_words, uint32_t *answers, size_t answers_words) {
     (void)block, (void)block_words, (void)answers, (void)answers_words;
     memset(cells, 0, cells_words * sizeof *cells);
     memset(remember, 0, remember_words * sizeof *remember);
     memset(tables, 0, tables_words * sizeof *tables);
+    memset(chains, 0, chains_words * sizeof *chains);
     return TALDREKU_DONE;
 }
 
@@ -173,9 +181,9 @@ static Times measure(const Workload *w) {
     Run calls[2] = {w->what == BLOCKS ? taldreku_run : prepare_anew, by_hand(w)};
 
     if (taldreku_prepare(w->threads, w->variables, w->depth, w->pages, w->entries, kept[0].cells, kept[0].cells_words, kept[0].remember,
-                         kept[0].remember_words, kept[0].tables, kept[0].tables_words) != TALDREKU_DONE
+                         kept[0].remember_words, kept[0].tables, kept[0].tables_words, kept[0].chains, kept[0].chains_words) != TALDREKU_DONE
         || plain_prepare(w->threads, w->variables, w->depth, w->pages, w->entries, kept[1].cells, kept[1].cells_words, kept[1].remember,
-                         kept[1].remember_words, kept[1].tables, kept[1].tables_words) != TALDREKU_DONE)
+                         kept[1].remember_words, kept[1].tables, kept[1].tables_words, kept[1].chains, kept[1].chains_words) != TALDREKU_DONE)
         stop(w->name, "the sizes were refused");
     run_stream(taldreku_run, &kept[0], &w->before, BLOCK_BEFORE, answers[0], w->name);
     run_stream(plain_run, &kept[1], &w->before, BLOCK_BEFORE, answers[1], w->name);
@@ -264,6 +272,11 @@ static void by_heaps(void) {
     row(end_fifteen("15 ends of 480 objects, few survive", 0));
     row(end_fifteen("15 ends of 480 objects, nine in ten survive", 1));
     row(end_empty("start and end of empty epochs, 1,024 pages", 1024));
+    row(end_among("48 ends of one page, 40 entries of other regions", 40, BY_LAST_ENTRIES));
+    row(end_among("48 ends of one page, 400 entries of other regions", 400, BY_LAST_ENTRIES));
+    row(end_among("48 ends of one page, 4,000 entries of other regions", 4000, BY_LAST_ENTRIES));
+    row(end_among("48 ends of one page, 4,000 entries of other regions, held by variables alone", 4000, BY_VARIABLES));
+    row(end_among("48 ends of one page, 4,000 entries of other regions behind those that go", 4000, BY_FIRST_ENTRIES));
     row(make_list("make a list of 16,000, linked backwards", 16000, BACKWARDS));
     row(make_list("make a list of 16,000, linked forwards", 16000, FORWARDS));
     row(end_list("end of a list of 8,176, backwards, all survive", 1024, 8176, 8176, BACKWARDS));
@@ -316,6 +329,14 @@ static void by_growth(void) {
            8176);
     growth("an end of one page, 32 to 1,024 pages, others free", end_pages("", 32, 0), 16, end_pages("", 1024, 0), 16);
     growth("an end of one page, 32 to 1,024 pages, others in use", end_pages("", 32, 1), 16, end_pages("", 1024, 1), 16);
+    growth("an end of one page, 40 to 400 entries of other regions", end_among("", 40, BY_LAST_ENTRIES), SHEETS_ENDED,
+           end_among("", 400, BY_LAST_ENTRIES), SHEETS_ENDED);
+    growth("an end of one page, 40 to 4,000 entries of other regions", end_among("", 40, BY_LAST_ENTRIES), SHEETS_ENDED,
+           end_among("", 4000, BY_LAST_ENTRIES), SHEETS_ENDED);
+    growth("an end of one page, 40 to 4,000 entries of other regions, held by variables alone", end_among("", 40, BY_VARIABLES), SHEETS_ENDED,
+           end_among("", 4000, BY_VARIABLES), SHEETS_ENDED);
+    growth("an end of one page, 40 to 4,000 entries of other regions behind those that go", end_among("", 40, BY_FIRST_ENTRIES), SHEETS_ENDED,
+           end_among("", 4000, BY_FIRST_ENTRIES), SHEETS_ENDED);
     for (uint32_t objects = 1000; objects < 8000; objects *= 2) {
         char name[80];
         snprintf(name, sizeof name, "an object of a collection, %u,000 to %u,000, pages to fit", objects / 1000, objects / 500);

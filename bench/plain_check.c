@@ -1,5 +1,5 @@
 /* The check of the tables by hand, for the rows that measure ours alone: a pass over the pages, one over the cells, one over the remember
- * table. */
+ * table, and one over it and the chains. */
 #include "plain.h"
 
 #include <string.h>
@@ -92,8 +92,21 @@ static int entries_whole(const Lent *l, uint32_t n) {
     return 1;
 }
 
+/* From the last entry down each has the one of its region after it as next, and in the end each region has its first. */
+static int chains_right(const Lent *l, uint32_t n, const uint32_t *chains) {
+    uint32_t regions = 1 + l->threads * l->depth, first[130] = {0}, any = 0;
+    const uint32_t *next = chains + regions;
+    for (uint32_t i = n; i-- != 0;) {
+        uint32_t region = l->slot_regions[i];
+        any |= next[i] ^ first[region];
+        first[region] = i + 1;
+    }
+    for (uint32_t i = n; i < l->entries; i++) any |= next[i];
+    return any == 0 && memcmp(first + 1, chains, regions * sizeof *first) == 0;
+}
+
 uint32_t plain_check(const uint32_t *cells, size_t cells_words, const uint32_t *remember, size_t remember_words,
-                     const uint32_t *tables, size_t tables_words) {
+                     const uint32_t *tables, size_t tables_words, const uint32_t *chains, size_t chains_words) {
     if (tables_words < 5 || remember_words < 2) return 3;
     Lent l = {.threads = tables[0], .variables = tables[1], .depth = tables[2], .pages = tables[3], .entries = tables[4], .cells = cells};
     if (l.threads < 1 || l.threads > 16 || l.variables < 1 || l.variables > 32 || l.depth < 1 || l.depth > 8 || l.pages < 1
@@ -115,5 +128,6 @@ uint32_t plain_check(const uint32_t *cells, size_t cells_words, const uint32_t *
     for (uint32_t i = 0; i < l.threads * l.variables; i++)
         if (!is_reference(&l, l.vars[i])) return 3;
     if (!cells_whole(&l, &crossing)) return 3;
-    return remember[1] == crossing && crossing <= l.entries && entries_whole(&l, crossing) ? 0 : 3;
+    if (remember[1] != crossing || crossing > l.entries || !entries_whole(&l, crossing)) return 3;
+    return chains_words >= 1 + l.threads * l.depth + l.entries && chains_right(&l, crossing, chains) ? 0 : 16;
 }

@@ -210,6 +210,49 @@ Workload end_pages(const char *name, uint32_t pages, int filled) {
     return w;
 }
 
+/* A thread has an object at level 1, and at level 2 objects with as many slots to it as are asked for; the pages are the same for any number. */
+static void crossing_slots(Stream *s, uint32_t thread, uint32_t slots) {
+    enum { MOST = 4000, FIELDS = 14 };
+    start(s, thread);
+    make(s, thread, 0, 0, 1);
+    start(s, thread);
+    for (uint32_t i = 0; i < MOST; i++) {
+        if (i % FIELDS == 0) make(s, thread, 1, FIELDS, 0);
+        if (i < slots) store(s, thread, 1, i % FIELDS, 0);
+    }
+}
+
+/* Six threads have a sheet of sixteen rows at each of eight levels. The register is seven objects on one page of the control space: seven sheets
+ * have two slots each in one of them, so that the sheet that ends first has the last two. Or the first row of a sheet is in a variable of the
+ * next thread. */
+Workload end_among(const char *name, uint32_t entries, Holders holders) {
+    enum { IMPORTS = 6, LEVELS = SHEETS_ENDED / IMPORTS, MADE = 16, HELD = 2, SLOTS = 14 };
+    enum { OTHERS = IMPORTS, OFFICE, THREADS, RECORD = 0, SHEET_ROW = LEVELS, VARIABLES };
+    Workload w = {.name = name, .threads = THREADS, .variables = VARIABLES, .depth = LEVELS, .pages = 80, .entries = 4096, .block = SHEETS_ENDED};
+    Stream *s = &w.before;
+    if (holders == BY_LAST_ENTRIES) make(s, OFFICE, RECORD, SLOTS, 0);
+    crossing_slots(s, OTHERS, entries);
+    if (holders == BY_FIRST_ENTRIES) make(s, OFFICE, RECORD, SLOTS, 0);
+    for (uint32_t sheet = 0, slot = 0; sheet < SHEETS_ENDED; sheet++) {
+        uint32_t thread = sheet / LEVELS;
+        start(s, thread);
+        for (uint32_t i = 0; i < MADE; i++) {
+            make(s, thread, SHEET_ROW, 1, 1);
+            if (holders == BY_VARIABLES) {
+                if (i == 0) copy(s, (thread + 1) % IMPORTS, sheet % LEVELS, SHEET_ROW, thread);
+            } else if (i < HELD) {
+                if (slot == SLOTS) make(s, OFFICE, RECORD, SLOTS, 0), slot = 0;
+                copy(s, OFFICE, SHEET_ROW, SHEET_ROW, thread);
+                store(s, OFFICE, RECORD, slot++, SHEET_ROW);
+            }
+        }
+        clear(s, thread, SHEET_ROW);
+    }
+    clear(s, OFFICE, SHEET_ROW);
+    for (uint32_t sheet = SHEETS_ENDED; sheet-- != 0;) end(&w.timed, sheet / LEVELS);
+    return w;
+}
+
 /* Threads 1 and 2 have an object each in an epoch of their own. Thread 0 fills slots of its epoch with them, and stores into the last object:
  * those two or null if it crosses, else an object of the same epoch or null. */
 Workload stores(const char *name, int crossing, uint32_t entries) {

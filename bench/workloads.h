@@ -25,6 +25,11 @@ typedef struct {
 
 typedef enum { BACKWARDS, FORWARDS } Links;
 
+/* What holds the rows that survive in end_among: a register whose entries are the last of the table, or the first, or variables and nothing
+ * else. */
+typedef enum { BY_LAST_ENTRIES, BY_FIRST_ENTRIES, BY_VARIABLES } Holders;
+enum { SHEETS_ENDED = 48 };
+
 void free_workload(Workload *w);
 
 /* The import of so many sheets a thread, and what it ends with. */
@@ -44,6 +49,9 @@ Workload collect_list(const char *name, uint32_t pages, uint32_t objects, Links 
 Workload collect_half(const char *name, uint32_t pages, uint32_t objects, int crossing);
 /* Ends sixteen epochs of one page, of each of which one object survives, in a heap of so many pages, the others free or nearly all in use. */
 Workload end_pages(const char *name, uint32_t pages, int filled);
+
+/* Ends SHEETS_ENDED sheets of one page, of each of which one or two rows survive, while so many slots of a region that stays open cross. */
+Workload end_among(const char *name, uint32_t entries, Holders holders);
 
 /* Stores that cross or do not, with so many entries already in the remember table. */
 Workload stores(const char *name, int crossing, uint32_t entries);

@@ -1,4 +1,4 @@
-/* Taldreku: an epoch heap in three lent arrays of 32-bit words, for x86-64 Linux.
+/* Taldreku: an epoch heap in four lent arrays of 32-bit words, for x86-64 Linux.
  *
  * Terms
  *
@@ -17,6 +17,10 @@
  * crossing slot   A slot of an object in one region that points into another region, be it further in, further out or of another thread,
  *                 unless that is the control space.
  * remember entry  The heap keeps an entry for each crossing slot, by rising position of the slots; there are as many as it was prepared with.
+ * chain           The entries whose slots point into one region, in their order. The fourth array has them, so that an end looks for the slots
+ *                 that lead into its region among these alone: a word for each region, the control space first, then thread by thread and level
+ *                 by level, with the first entry of its chain, then a word for each entry with the next one. An entry is named by 1 + its place
+ *                 from 0, none by 0. No slot crosses into the control space, whose word is always 0.
  * made, freed     The heap counts the objects that were made and those that were freed since it was prepared, each modulo 4,294,967,296. A new
  *                 object that is refused was not made, and an object that moves is neither made nor freed.
  *
@@ -39,7 +43,7 @@
  *
  * Calls
  *
- * The caller asks for the three lengths, lends three arrays, has them prepared, and then runs blocks of commands on them and has reports
+ * The caller asks for the four lengths, lends four arrays, has them prepared, and then runs blocks of commands on them and has reports
  * of them. Every function takes any numbers and any contents of the arrays, always returns, and either does its work or gives one of the
  * refusal numbers below and changes nothing.
  *
@@ -47,7 +51,7 @@
  * than asked for are accepted, and their extra words and rows never change. The arrays of one call must not overlap, and nobody else may
  * write them during the call.
  *
- * The heap is what stands in the three arrays: no function keeps a pointer or anything else between calls, none allocates, and none calls
+ * The heap is what stands in the four arrays: no function keeps a pointer or anything else between calls, none allocates, and none calls
  * back. So calls on one heap are made one at a time, from any thread of the operating system, and different heaps are independent: calls on
  * them may be made at the same time. A heap may be copied, or written to a file, word for word. Every word that a call leaves follows from
  * what it was given: two heaps of the same sizes that ran the same blocks since they were prepared hold the same words within the lengths
@@ -57,8 +61,8 @@
  *
  * How many pages and remember entries
  *
- * They stay as prepared. A page takes 1 KiB of the cells, an entry two words of the remember table. Prepare writes all of these, a run and a
- * report read them, used or not.
+ * They stay as prepared. A page takes 1 KiB of the cells, an entry two words of the remember table and one of the chains. Prepare writes all of
+ * these, a run and a report read them, used or not.
  *
  * Pages: as many as all regions use together at any time. The control space shrinks by a collection alone, and counts with all that it comes to
  * hold between two; at an end the survivors count where they lie and where they go, since they move before their old pages are free. For an
@@ -77,10 +81,10 @@
 extern "C" {
 #endif
 
-#define TALDREKU_VERSION "2.1.1"
-#define TALDREKU_VERSION_MAJOR 2
-#define TALDREKU_VERSION_MINOR 1
-#define TALDREKU_VERSION_PATCH 1
+#define TALDREKU_VERSION "3.0.0"
+#define TALDREKU_VERSION_MAJOR 3
+#define TALDREKU_VERSION_MINOR 0
+#define TALDREKU_VERSION_PATCH 0
 
 /* The largest sizes. All but the entries are at least 1. */
 #define TALDREKU_MAX_THREADS 16
@@ -95,18 +99,18 @@ extern "C" {
 #define TALDREKU_ANSWER_WORDS 2
 #define TALDREKU_STACK_BYTES 81920     /* enough for any call */
 
-/* What a call or a command was refused for. Where there are several reasons, the smallest number is given. */
+/* What a call or a command was refused for. Where there are several reasons, the smallest number is given, but that 16 comes right after 3. */
 enum taldreku_number {
     TALDREKU_DONE = 0,
     /* prepare: nothing was written */
     TALDREKU_SIZES = 1,          /* a size is out of range */
-    TALDREKU_SHORT = 2,          /* one of the three arrays is too short */
+    TALDREKU_SHORT = 2,          /* one of the four arrays is too short */
     /* run: heap and answers are as before; report: no row was written, and all other words of the result are 0 */
-    TALDREKU_NOT_WHOLE = 3,      /* the arrays do not hold a heap. A word that is not zero in a cell without an object is enough. So are remember
-                                    entries that do not stand by rising slot position, as versions before 2.1 may have left them, and counts
-                                    of objects made and freed that do not differ, modulo 4,294,967,296, by the objects there are: they are
-                                    two words that version 1 did not have, so that tables it left are too short, or are refused unless the
-                                    words behind them happen to agree */
+    TALDREKU_NOT_WHOLE = 3,      /* cells, remember and tables do not hold a heap. A word that is not zero in a cell without an object is
+                                    enough. So are remember entries that do not stand by rising slot position, as versions before 2.1 may
+                                    have left them, and counts of objects made and freed that do not differ, modulo 4,294,967,296, by the
+                                    objects there are: they are two words that version 1 did not have, so that tables it left are too short,
+                                    or are refused unless the words behind them happen to agree */
     TALDREKU_BLOCK = 4,          /* the block is no multiple of five words */
     TALDREKU_ANSWERS = 5,        /* the answer array has fewer than two words for each command */
     /* one command: the heap is as before it, its value is 0, and the block goes on */
@@ -120,7 +124,9 @@ enum taldreku_number {
     TALDREKU_PAGES = 13,         /* a new object or an end needs more pages than are free */
     TALDREKU_ENTRIES = 14,       /* a store or an end would leave more crossing slots than there are remember entries */
     /* report: as for 3 */
-    TALDREKU_ROWS = 15           /* there is not a row for the control space and each open region */
+    TALDREKU_ROWS = 15,          /* there is not a row for the control space and each open region */
+    /* run and report, as for 3 and asked after it, before 4, 5 and 15 */
+    TALDREKU_CHAINS = 16         /* the chains are too short, or a word of them is not the one that the remember entries call for */
 };
 
 /* A command is five words: code, thread, a, b, c. Operands that a code does not use are 0. Threads, variables and fields count from 0. */
@@ -138,18 +144,20 @@ enum taldreku_code {
     TALDREKU_COLLECT = 11        /* collect the control space; any thread will do. Versions before 2.1.1 do not know it */
 };
 
-/* How many words each array needs; 0 if a size is out of range. The tables need two words more than in version 1. */
+/* How many words each array needs; 0 if a size is out of range. The tables need two words more than in version 1; versions before 3 had no
+ * chains. */
 uint32_t taldreku_cells_length(uint32_t pages);
 uint32_t taldreku_remember_length(uint32_t entries);
 uint32_t taldreku_tables_length(uint32_t threads, uint32_t variables, uint32_t depth, uint32_t pages);
+uint32_t taldreku_chains_length(uint32_t threads, uint32_t depth, uint32_t entries);
 
-/* Writes a heap without objects of these sizes, over whatever the arrays hold: every word of the three lengths, so that none of what stood there
+/* Writes a heap without objects of these sizes, over whatever the arrays hold: every word of the four lengths, so that none of what stood there
  * is left. Gives 0, 1 or 2. */
 uint32_t taldreku_prepare(uint32_t threads, uint32_t variables, uint32_t depth, uint32_t pages, uint32_t entries,
                           uint32_t *cells, size_t cells_words, uint32_t *remember, size_t remember_words,
-                          uint32_t *tables, size_t tables_words);
+                          uint32_t *tables, size_t tables_words, uint32_t *chains, size_t chains_words);
 
-/* Obeys the commands of a block in order and writes two words for each, number and value, into answers. Gives 0, 3, 4 or 5. An empty
+/* Obeys the commands of a block in order and writes two words for each, number and value, into answers. Gives 0, 3, 16, 4 or 5. An empty
  * block is accepted.
  *
  * The block goes on after a refused command: let one that may be refused for room, with 13 or 14, be the last of its block, and it can be
@@ -157,15 +165,15 @@ uint32_t taldreku_prepare(uint32_t threads, uint32_t variables, uint32_t depth, 
  * needed are cleared first; an entry comes back also when null is stored in its slot. The whole heap is checked once for each call, so a few
  * large blocks cost less than many small ones. */
 uint32_t taldreku_run(uint32_t *cells, size_t cells_words, uint32_t *remember, size_t remember_words,
-                      uint32_t *tables, size_t tables_words, const uint32_t *block, size_t block_words,
-                      uint32_t *answers, size_t answers_words);
+                      uint32_t *tables, size_t tables_words, uint32_t *chains, size_t chains_words,
+                      const uint32_t *block, size_t block_words, uint32_t *answers, size_t answers_words);
 
 /* The row of a region: its thread and level, both 0 for the control space, its objects and its pages. */
 struct taldreku_row {
     uint32_t thread, level, objects, pages;
 };
 
-/* The result of a report: 0, 3 or 15; how many rows were written; pages that are free, and slots that are crossing; objects made and objects
+/* The result of a report: 0, 3, 16 or 15; how many rows were written; pages that are free, and slots that are crossing; objects made and objects
  * freed since the heap was prepared, each modulo 4,294,967,296; and the total of the objects there are, which is the sum of the rows' objects
  * and made less freed, modulo the same number. Version 1 did not have the last three. */
 struct taldreku_reported {
@@ -175,7 +183,8 @@ struct taldreku_reported {
 /* Writes a row for the control space and one for each open region: the control space, then thread by thread from the outermost region in.
  * Changes nothing but these rows. */
 struct taldreku_reported taldreku_report(const uint32_t *cells, size_t cells_words, const uint32_t *remember, size_t remember_words,
-                                         const uint32_t *tables, size_t tables_words, struct taldreku_row *rows, size_t rows_count);
+                                         const uint32_t *tables, size_t tables_words, const uint32_t *chains, size_t chains_words,
+                                         struct taldreku_row *rows, size_t rows_count);
 
 #ifdef __cplusplus
 }

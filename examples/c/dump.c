@@ -4,7 +4,7 @@
  * largest that the library takes, then a command a line: code, thread, a, b, c. Commands that are refused change nothing, and their answers are
  * not printed.
  *
- * For each of the three arrays comes a line with its name and its length, then its words in decimal, sixteen to a line. A first line that is
+ * For each of the four arrays comes a line with its name and its length, then its words in decimal, sixteen to a line. A first line that is
  * missing, malformed or out of range prints "sizes" instead, line k that is not five numbers "line k".
  *
  * The exit status is 0. It is 1, with a line on standard error, if a call is refused, memory is short, or a read or a write fails.
@@ -23,8 +23,8 @@ enum { MOST_COMMANDS = 1000 };      /* of a block: the whole heap is checked onc
 enum { T, V, D, P, N, SIZES };
 
 typedef struct {
-    uint32_t *cells, *remember, *tables;
-    size_t cells_words, remember_words, tables_words;
+    uint32_t *cells, *remember, *tables, *chains;
+    size_t cells_words, remember_words, tables_words, chains_words;
 } Heap;
 
 static _Noreturn void fail(const char *format, ...) {
@@ -76,20 +76,22 @@ static int prepare(Heap *h, const uint32_t size[SIZES]) {
     h->cells_words = taldreku_cells_length(size[P]);
     h->remember_words = taldreku_remember_length(size[N]);
     h->tables_words = taldreku_tables_length(size[T], size[V], size[D], size[P]);
-    if (h->cells_words == 0 || h->remember_words == 0 || h->tables_words == 0) return 0;
+    h->chains_words = taldreku_chains_length(size[T], size[D], size[N]);
+    if (h->cells_words == 0 || h->remember_words == 0 || h->tables_words == 0 || h->chains_words == 0) return 0;
     h->cells = lent(h->cells_words);
     h->remember = lent(h->remember_words);
     h->tables = lent(h->tables_words);
+    h->chains = lent(h->chains_words);
     uint32_t number = taldreku_prepare(size[T], size[V], size[D], size[P], size[N], h->cells, h->cells_words, h->remember, h->remember_words,
-                                       h->tables, h->tables_words);
+                                       h->tables, h->tables_words, h->chains, h->chains_words);
     if (number != TALDREKU_DONE) fail("prepare is refused with %" PRIu32, number);
     return 1;
 }
 
 static void run(const Heap *h, const uint32_t *block, size_t commands) {
     static uint32_t answers[TALDREKU_ANSWER_WORDS * MOST_COMMANDS];
-    uint32_t number = taldreku_run(h->cells, h->cells_words, h->remember, h->remember_words, h->tables, h->tables_words, block,
-                                   TALDREKU_COMMAND_WORDS * commands, answers, TALDREKU_ANSWER_WORDS * commands);
+    uint32_t number = taldreku_run(h->cells, h->cells_words, h->remember, h->remember_words, h->tables, h->tables_words, h->chains,
+                                   h->chains_words, block, TALDREKU_COMMAND_WORDS * commands, answers, TALDREKU_ANSWER_WORDS * commands);
     if (number != TALDREKU_DONE) fail("a block is refused with %" PRIu32, number);
 }
 
@@ -128,10 +130,12 @@ static void dump(void) {
         print("cells", h.cells, h.cells_words);
         print("remember", h.remember, h.remember_words);
         print("tables", h.tables, h.tables_words);
+        print("chains", h.chains, h.chains_words);
     }
     free(h.cells);
     free(h.remember);
     free(h.tables);
+    free(h.chains);
 }
 
 int main(void) {

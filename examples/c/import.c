@@ -17,8 +17,8 @@ enum { REGISTER = 0, WHEEL = 1, LAST = 2, KEPT = 3, FOUND = 4 };
 /* the fields of a wheel: reference 0 is the wheel before it, number 0 its position, number 1 its pressure */
 enum { BEFORE = 0, POSITION = 0, PRESSURE = 1 };
 
-static uint32_t *cells, *remember, *tables;
-static size_t cells_words, remember_words, tables_words;
+static uint32_t *cells, *remember, *tables, *chains;
+static size_t cells_words, remember_words, tables_words, chains_words;
 
 enum { MOST_COMMANDS = 16 };
 static uint32_t block[TALDREKU_COMMAND_WORDS * MOST_COMMANDS], answers[TALDREKU_ANSWER_WORDS * MOST_COMMANDS];
@@ -44,6 +44,7 @@ static const char *meaning(uint32_t number) {
     case TALDREKU_PAGES: return "too few free pages";
     case TALDREKU_ENTRIES: return "too few remember entries";
     case TALDREKU_ROWS: return "too few rows";
+    case TALDREKU_CHAINS: return "the chains are not those of the remember entries";
     default: return "an unknown number";
     }
 }
@@ -69,8 +70,8 @@ static void command(uint32_t code, uint32_t thread, uint32_t a, uint32_t b, uint
 static uint32_t run(const char *what) {
     size_t n = commands;
     commands = 0;
-    uint32_t number = taldreku_run(cells, cells_words, remember, remember_words, tables, tables_words, block, TALDREKU_COMMAND_WORDS * n,
-                                   answers, TALDREKU_ANSWER_WORDS * n);
+    uint32_t number = taldreku_run(cells, cells_words, remember, remember_words, tables, tables_words, chains, chains_words, block,
+                                   TALDREKU_COMMAND_WORDS * n, answers, TALDREKU_ANSWER_WORDS * n);
     if (number != TALDREKU_DONE) stop(what, number);
     for (size_t i = 0; i < n; i++) {
         number = answers[TALDREKU_ANSWER_WORDS * i];
@@ -142,7 +143,8 @@ static void load_sheet(uint32_t sheet, uint32_t thread, uint32_t wheels, uint32_
 
 static void report(void) {
     struct taldreku_row rows[ROWS];
-    struct taldreku_reported r = taldreku_report(cells, cells_words, remember, remember_words, tables, tables_words, rows, ROWS);
+    struct taldreku_reported r =
+        taldreku_report(cells, cells_words, remember, remember_words, tables, tables_words, chains, chains_words, rows, ROWS);
     if (r.number != TALDREKU_DONE) stop("report", r.number);
     printf("thread  level  objects  pages\n");
     for (uint32_t i = 0; i < r.rows; i++)
@@ -179,16 +181,18 @@ int main(int words, char **word) {
     cells_words = taldreku_cells_length((uint32_t)pages);
     remember_words = taldreku_remember_length(ENTRIES);
     tables_words = taldreku_tables_length(THREADS, VARIABLES, DEPTH, (uint32_t)pages);
-    if (cells_words == 0 || remember_words == 0 || tables_words == 0) stop("the sizes", TALDREKU_SIZES);
+    chains_words = taldreku_chains_length(THREADS, DEPTH, ENTRIES);
+    if (cells_words == 0 || remember_words == 0 || tables_words == 0 || chains_words == 0) stop("the sizes", TALDREKU_SIZES);
     cells = malloc(cells_words * sizeof *cells);
     remember = malloc(remember_words * sizeof *remember);
     tables = malloc(tables_words * sizeof *tables);
-    if (!cells || !remember || !tables) {
+    chains = malloc(chains_words * sizeof *chains);
+    if (!cells || !remember || !tables || !chains) {
         perror("import");
         return 1;
     }
     uint32_t number = taldreku_prepare(THREADS, VARIABLES, DEPTH, (uint32_t)pages, ENTRIES, cells, cells_words, remember, remember_words,
-                                       tables, tables_words);
+                                       tables, tables_words, chains, chains_words);
     if (number != TALDREKU_DONE) stop("prepare", number);
 
     /* the register stands in the control space: no epoch is open yet */
@@ -217,5 +221,6 @@ int main(int words, char **word) {
     free(cells);
     free(remember);
     free(tables);
+    free(chains);
     return 0;
 }

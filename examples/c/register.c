@@ -22,8 +22,8 @@ enum { NOTE = 0, NOTED = 1 };
 
 static const char *const days[DAYS] = {"Monday", "Tuesday", "Wednesday", "Thursday", "Friday", "Saturday", "Sunday"};
 
-static uint32_t *cells, *remember, *tables;
-static size_t cells_words, remember_words, tables_words;
+static uint32_t *cells, *remember, *tables, *chains;
+static size_t cells_words, remember_words, tables_words, chains_words;
 
 static void stop(const char *what, uint32_t number) {
     fflush(stdout);
@@ -36,8 +36,8 @@ static void stop(const char *what, uint32_t number) {
 static uint32_t attempt(uint32_t code, uint32_t thread, uint32_t a, uint32_t b, uint32_t c, uint32_t *value) {
     const uint32_t command[TALDREKU_COMMAND_WORDS] = {code, thread, a, b, c};
     uint32_t answer[TALDREKU_ANSWER_WORDS];
-    uint32_t number = taldreku_run(cells, cells_words, remember, remember_words, tables, tables_words, command, TALDREKU_COMMAND_WORDS, answer,
-                                   TALDREKU_ANSWER_WORDS);
+    uint32_t number = taldreku_run(cells, cells_words, remember, remember_words, tables, tables_words, chains, chains_words, command,
+                                   TALDREKU_COMMAND_WORDS, answer, TALDREKU_ANSWER_WORDS);
     if (number != TALDREKU_DONE) stop("run", number);
     if (value) *value = answer[1];
     return answer[0];
@@ -51,7 +51,8 @@ static uint32_t does(uint32_t code, uint32_t thread, uint32_t a, uint32_t b, uin
 }
 
 static void prepare(void) {
-    uint32_t number = taldreku_prepare(THREADS, VARIABLES, DEPTH, PAGES, ENTRIES, cells, cells_words, remember, remember_words, tables, tables_words);
+    uint32_t number = taldreku_prepare(THREADS, VARIABLES, DEPTH, PAGES, ENTRIES, cells, cells_words, remember, remember_words, tables, tables_words,
+                                       chains, chains_words);
     if (number != TALDREKU_DONE) stop("prepare", number);
 }
 
@@ -104,7 +105,8 @@ static void sell_half(void) {
 }
 
 static struct taldreku_reported report(struct taldreku_row rows[TALDREKU_MAX_ROWS]) {
-    struct taldreku_reported r = taldreku_report(cells, cells_words, remember, remember_words, tables, tables_words, rows, TALDREKU_MAX_ROWS);
+    struct taldreku_reported r =
+        taldreku_report(cells, cells_words, remember, remember_words, tables, tables_words, chains, chains_words, rows, TALDREKU_MAX_ROWS);
     if (r.number != TALDREKU_DONE) stop("report", r.number);
     return r;
 }
@@ -178,10 +180,12 @@ int main(void) {
     cells_words = taldreku_cells_length(PAGES);
     remember_words = taldreku_remember_length(ENTRIES);
     tables_words = taldreku_tables_length(THREADS, VARIABLES, DEPTH, PAGES);
+    chains_words = taldreku_chains_length(THREADS, DEPTH, ENTRIES);
     cells = malloc(cells_words * sizeof *cells);
     remember = malloc(remember_words * sizeof *remember);
     tables = malloc(tables_words * sizeof *tables);
-    if (!cells || !remember || !tables) {
+    chains = malloc(chains_words * sizeof *chains);
+    if (!cells || !remember || !tables || !chains) {
         perror("register");
         return 1;
     }
@@ -196,5 +200,6 @@ int main(void) {
     free(cells);
     free(remember);
     free(tables);
+    free(chains);
     return 0;
 }

@@ -1,5 +1,5 @@
 //! `dumps REFERENCE COUNT SEED PROGRAM [ARGUMENT..]`: gives COUNT generated scripts to the reference, which is asked for its dump, and to a
-//! program that prints one, and compares the lent words (02, W3). At a difference the script is printed shortened, with the first word that
+//! program that prints one, and compares the lent words (02, W3 and W6). At a difference the script is printed shortened, with the first word that
 //! differs, and the exit status is 1.
 
 use epochs::counted::commas;
@@ -39,7 +39,7 @@ fn head(line: &[u8]) -> Option<(&str, usize)> {
         return None;
     }
     let (name, length) = std::str::from_utf8(line).ok()?.split_once(' ')?;
-    ["cells", "remember", "tables"].contains(&name).then_some((name, number(length.as_bytes())? as usize))
+    ["cells", "remember", "tables", "chains"].contains(&name).then_some((name, number(length.as_bytes())? as usize))
 }
 
 /// The slices of a dump with their words; `None` if the text is no dump, as `sizes` and `line k` are none.

@@ -19,14 +19,14 @@ pub struct Flavour {
 pub const FLAVOURS: &[Flavour] = &[
     Flavour {
         name: "soup",
-        weight: 11,
+        weight: 9,
         sizes: [(1, 4), (1, 6), (1, 4), (1, 8), (0, 12)],
         commands: (20, 300),
         patterns: &[(Any, 60), (Refuse, 2), (Open, 3), (Close, 4), (Tangle, 2), (Probe, 3), (Share, 2), (Clear, 2), (Collect, 3), (Register, 1)],
     },
     Flavour {
         name: "deep",
-        weight: 20,
+        weight: 16,
         sizes: [(1, 3), (10, 16), (6, 8), (12, 32), (12, 200)],
         commands: (120, 400),
         patterns: &[(Descend, 6), (Tangle, 20), (Fan, 3), (Any, 10), (Probe, 5), (Overwrite, 2), (Clear, 1), (Share, 2), (Ring, 1), (Wide, 1), (Refuse, 1), (Collect, 2), (Register, 2)],
@@ -40,10 +40,10 @@ pub const FLAVOURS: &[Flavour] = &[
     },
     Flavour {
         name: "few entries",
-        weight: 10,
+        weight: 9,
         sizes: [(1, 3), (3, 8), (2, 6), (8, 24), (0, 4)],
         commands: (60, 260),
-        patterns: &[(Fan, 10), (Again, 6), (Tangle, 8), (Descend, 5), (Overwrite, 4), (Any, 8), (Close, 4), (Share, 3), (Probe, 2), (Refuse, 1), (Collect, 1), (Register, 2)],
+        patterns: &[(Fan, 10), (Again, 6), (Tangle, 8), (Ladder, 6), (Descend, 5), (Overwrite, 4), (Any, 8), (Close, 4), (Share, 3), (Probe, 2), (Refuse, 1), (Collect, 1), (Register, 2)],
     },
     Flavour {
         name: "few of both",
@@ -70,8 +70,15 @@ pub const FLAVOURS: &[Flavour] = &[
         ],
     },
     Flavour {
-        name: "many threads",
+        name: "sheets",
         weight: 10,
+        sizes: [(2, 8), (6, 12), (2, 5), (12, 32), (6, 80)],
+        commands: (80, 300),
+        patterns: &[(Sheets, 10), (Ladder, 10), (Open, 2), (Close, 6), (Any, 8), (Overwrite, 4), (Tangle, 3), (Share, 3), (Clear, 2), (Probe, 2), (Collect, 3), (Register, 2)],
+    },
+    Flavour {
+        name: "many threads",
+        weight: 7,
         sizes: [(8, 16), (1, 8), (1, 8), (16, 32), (0, 100)],
         commands: (100, 400),
         patterns: &[(Open, 12), (Any, 30), (Tangle, 10), (Share, 12), (Close, 8), (Probe, 4), (Descend, 3), (Overwrite, 2), (Refuse, 2), (Collect, 2), (Register, 4)],
@@ -102,26 +109,33 @@ pub const FLAVOURS: &[Flavour] = &[
     },
 ];
 
-/// For dumps alone: survivors that go to several regions, registers among other regions' pages, and sizes up to the largest.
+/// For dumps alone: survivors that go to several regions, registers among other regions' pages, many sheets open, and sizes up to the largest.
 #[rustfmt::skip]
 pub const DUMPED: &[Flavour] = &[
     Flavour {
         name: "spread",
-        weight: 38,
+        weight: 30,
         sizes: [(1, 3), (8, 16), (3, 8), (10, 48), (4, 64)],
         commands: (200, 600),
         patterns: &[(Spread, 12), (Descend, 3), (Tangle, 4), (Fill, 2), (Overwrite, 4), (Clear, 2), (Share, 3), (Any, 12), (Close, 2), (Wide, 1), (Collect, 1), (Register, 1)],
     },
     Flavour {
         name: "pages between",
-        weight: 24,
+        weight: 20,
         sizes: [(2, 6), (6, 16), (2, 6), (16, 64), (16, 200)],
         commands: (300, 900),
         patterns: &[(Register, 12), (Collect, 3), (Any, 10), (Open, 4), (Tangle, 3), (Spread, 3), (Share, 4), (Clear, 3), (Wide, 1), (Overwrite, 3), (Close, 1)],
     },
     Flavour {
+        name: "many sheets",
+        weight: 16,
+        sizes: [(2, 16), (6, 16), (3, 8), (24, 128), (16, 1000)],
+        commands: (200, 900),
+        patterns: &[(Sheets, 10), (Ladder, 10), (Spread, 2), (Wide, 2), (Open, 3), (Close, 4), (Any, 8), (Overwrite, 4), (Share, 3), (Clear, 2), (Register, 3), (Collect, 3)],
+    },
+    Flavour {
         name: "many pages",
-        weight: 22,
+        weight: 18,
         sizes: [(1, 16), (8, 32), (2, 8), (33, 1024), (16, 4096)],
         commands: (500, 2000),
         patterns: &[(Spread, 8), (LongList, 6), (List, 4), (Tangle, 6), (Share, 4), (Open, 4), (Any, 20), (Fan, 2), (Overwrite, 3), (Wide, 3), (Fill, 3), (Register, 4), (Collect, 1)],

@@ -1,11 +1,12 @@
-//! `laws COUNT SEED`: holds this folder's heap to documents 01 and 02 (W2, W3, W5) in a second way, over generated scripts.
+//! `laws COUNT SEED`: holds this folder's heap to documents 01 and 02 (W2, W3, W5, W6) in a second way, over generated scripts.
 //!
 //! After every command: the answer is that of the heap that never frees, 13 and 14 aside; the objects are paired with its objects; a
 //! refused command has changed nothing; the counts agree with what is found by looking; and objects made and freed are the new objects
 //! that were done and the objects of the heap that never frees which have lost their partner. Before every end: the survivors and their
-//! regions are worked out again, word for word as 01 defines them, holder by holder. Before every collection: what it keeps is worked out
-//! again, round by round; a second one right after it would change nothing. After a new object, a store, an end and a collection: the cells
-//! are those of W3 and W5, found by the objects alone, and the words hold whole tables, read by the layout alone.
+//! regions are worked out again, word for word as 01 defines them, holder by holder, and the chain of the region leads to the slots that hold
+//! (W6). Before every collection: what it keeps is worked out again, round by round; a second one right after it would change nothing. After
+//! a new object, a store, an end and a collection: the cells are those of W3 and W5, found by the objects alone, and the words hold whole
+//! tables and their chains, read by the layout alone.
 
 mod collection;
 mod placement;
@@ -79,6 +80,7 @@ impl Both {
         let answer = self.heap.obey(words);
         let is_end = code == 2 && answer != Err(6) && answer != Err(7) && answer != Err(8) && answer != Err(12);
         if is_end {
+            placement::holding_slots(&before, thread)?;
             by_definition(&before, &self.heap, thread, answer)?;
         }
         if answer.is_err() {

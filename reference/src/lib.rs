@@ -16,6 +16,7 @@ pub mod random;
 pub mod registers;
 pub mod rules;
 pub mod scripts;
+pub mod sheets;
 pub mod single;
 pub mod statistics;
 pub mod structures;

@@ -1,5 +1,5 @@
 //! The second program: document 01's section "The program", with the last line of 02's W2, over an object graph. With `--dump` it prints
-//! the lent words after the script instead (02, W3), and takes all sizes of 01.
+//! the lent words after the script instead (02, W3 and W6), and takes all sizes of 01.
 
 use epochs::heap::Heap;
 use epochs::lines::{five_numbers, program_sizes, sizes};

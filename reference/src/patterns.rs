@@ -27,6 +27,8 @@ pub enum Pattern {
     Probe,
     Register,
     Collect,
+    Sheets,
+    Ladder,
 }
 
 impl Writer {
@@ -75,6 +77,8 @@ impl Writer {
             Pattern::Probe => self.probe(t),
             Pattern::Register => self.register(t),
             Pattern::Collect => self.gather(t),
+            Pattern::Sheets => self.sheets(t),
+            Pattern::Ladder => self.ladder(t),
         }
     }
 

@@ -1,4 +1,4 @@
-//! Cells, pages and words held to 02's W3 in a second way: cells by the objects alone, a whole end at once, and the words by reading them.
+//! Cells, pages and words held to 02's W3 and W6 in a second way: cells by the objects alone, a whole end at once, and the words by reading them.
 
 use crate::law;
 use epochs::heap::{Heap, Id};
@@ -92,7 +92,7 @@ pub fn ended(before: &Heap, after: &Heap, r: Region) -> Result<(), String> {
 
 /// The words alone, read as 01 and 02 lay them out.
 pub fn words(heap: &Heap) -> Result<(), String> {
-    let Words { cells, remember, tables } = Words::of(heap);
+    let Words { cells, remember, tables, chains } = Words::of(heap);
     let [t, v, d, p, n] = [0, 1, 2, 3, 4].map(|i| tables[i] as usize);
     law([t, v, d, p, n].map(|size| size as u32) == sizes(heap), "the tables begin with the sizes")?;
     law(cells.len() == 256 * p && remember.len() == 2 * n + 2 && tables.len() == t * (v + d + 1) + 3 * p + 8, "the lengths are 01's")?;
@@ -136,7 +136,47 @@ pub fn words(heap: &Heap) -> Result<(), String> {
     let slots = crossing.iter().map(|entry| entry.0).chain(std::iter::repeat(0)).take(n);
     let regions = crossing.iter().map(|entry| entry.1).chain(std::iter::repeat(0)).take(n);
     law(remember[2..2 + n].iter().copied().eq(slots), "the entries are the crossing slots, by rising position")?;
-    law(remember[2 + n..].iter().copied().eq(regions), "each with the region that it points into")
+    law(remember[2 + n..].iter().copied().eq(regions), "each with the region that it points into")?;
+    law(chains.len() == 1 + t * d + n && chains[0] == 0, "the chains begin with T × D + 1 words, of which the control space's is 0")?;
+    let mut chained = BTreeSet::new();
+    for region in 1..=1 + t * d {
+        let chain = followed(&chains, n, region)?;
+        law(chain.windows(2).all(|two| two[0] < two[1]), "a chain rises")?;
+        let own = (0..crossing.len()).filter(|&place| crossing[place].1 as usize == region);
+        law(own.eq(chain.iter().copied()), "the chain of a region names the entries that point into it, each once")?;
+        chained.extend(chain);
+    }
+    law(chained.into_iter().eq(0..crossing.len()), "every entry is in a chain")?;
+    law(chains[1 + t * d + crossing.len()..].iter().all(|&word| word == 0), "unused words of the chains are zero")
+}
+
+/// The places of the entries that a region's chain names, in the order of the chain; n next-entry words stand at the end.
+fn followed(chains: &[u32], n: usize, region: usize) -> Result<Vec<usize>, String> {
+    let (first, next) = chains.split_at(chains.len() - n);
+    let mut chain = Vec::new();
+    let mut word = first[region - 1] as usize;
+    while word != 0 {
+        law(word <= n && chain.len() < n, "a chain names entries, and ends")?;
+        chain.push(word - 1);
+        word = next[word - 1] as usize;
+    }
+    Ok(chain)
+}
+
+/// Where an end looks for its holding slots: the chain of its region leads to all slots outside the region that point into it, each once.
+pub fn holding_slots(before: &Heap, thread: usize) -> Result<(), String> {
+    let (r, n) = (before.innermost(thread), before.limits.entries as usize);
+    let mut slots: Vec<usize> = Vec::new();
+    for id in before.ids().filter(|&id| before.region(id) != r) {
+        for (field, to) in before.references(id).iter().enumerate() {
+            slots.extend(to.filter(|&to| before.region(to) == r).map(|_| 16 * before.cell(id) + 2 + field));
+        }
+    }
+    slots.sort();
+    let Words { remember, chains, .. } = Words::of(before);
+    let number = 1 + thread * before.limits.depth as usize + before.depth(thread);
+    let named = followed(&chains, n, number)?.into_iter().map(|place| remember[2 + place] as usize);
+    law(named.eq(slots), "the chain of the ending region leads to all slots outside that hold its objects, each once")
 }
 
 fn sizes(heap: &Heap) -> [u32; 5] {

@@ -41,6 +41,9 @@ fn of_flavours(seed: u64, flavours: &'static [Flavour]) -> Script {
         writer.play(pattern);
     }
     if flavour.name != "short" {
+        if writer.random.percent(50) {
+            writer.cut();
+        }
         writer.look_around();
     }
     // Every sixth script is malformed.

@@ -122,6 +122,10 @@ impl Statistics {
         if kind(before) == "crossing" && kind(after) == "crossing" && before.crossing_slots() == before.limits.entries as usize {
             self.once("F stores", "crossing over crossing with all entries used");
         }
+        let region = |heap: &Heap| heap.references(object)[field as usize].map(|to| heap.region(to));
+        if kind(before) == "crossing" && kind(after) == "crossing" && region(before) != region(after) {
+            self.once("F stores", "crossing over crossing, into another region");
+        }
     }
 
     fn end(&mut self, before: &Heap, after: &Heap, t: usize) {
@@ -140,8 +144,27 @@ impl Statistics {
         self.once(group, format!("end of level {}", r.level()));
         self.add(group, "objects freed", ending.freed.len());
         self.once("D crossing after an end", range(after.crossing_slots()));
+        self.entries(before, &ending, r);
         self.moved_slots(before, &ending, r);
         self.holders(before, &ending, t);
+    }
+
+    /// The entries that an end meets: those into its region, which hold, and those into others.
+    fn entries(&mut self, before: &Heap, ending: &Ending, r: Region) {
+        let group = "C ends";
+        let (mut holding, mut turned, mut regions) = (0, 0, BTreeSet::new());
+        for id in before.ids() {
+            for &to in before.references(id).iter().flatten().filter(|&&to| crosses(before.region(id), before.region(to))) {
+                regions.insert(before.region(to));
+                if before.region(to) == r {
+                    holding += 1;
+                    turned += usize::from(crosses(before.region(id), ending.regions[to].unwrap()));
+                }
+            }
+        }
+        self.once(group, format!("holding slots: {}", range(holding)));
+        self.once(group, format!("regions that entries point into: {}", range(regions.len())));
+        self.add(group, "holding slots that point into another region afterwards", turned);
     }
 
     /// Slots that an end makes crossing, or no longer crossing, or drops.

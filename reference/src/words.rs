@@ -1,23 +1,24 @@
-//! The lent words of 01's "Sizes and tables", with 02's W1, W2 and W3. The heap determines every one of them.
+//! The lent words of 01's "Sizes and tables", with 02's W1, W2, W3 and W6. The heap determines every one of them.
 
 use crate::heap::{Heap, Id};
 use crate::rules::{crosses, Region};
 use std::io::{self, Write};
 
-/// The three slices, each as long as it has to be.
+/// The four slices, each as long as it has to be.
 pub struct Words {
     pub cells: Vec<u32>,
     pub remember: Vec<u32>,
     pub tables: Vec<u32>,
+    pub chains: Vec<u32>,
 }
 
 impl Words {
     pub fn of(heap: &Heap) -> Words {
-        Words { cells: cells(heap), remember: remember(heap), tables: tables(heap) }
+        Words { cells: cells(heap), remember: remember(heap), tables: tables(heap), chains: chains(heap) }
     }
 
-    pub fn slices(&self) -> [(&'static str, &[u32]); 3] {
-        [("cells", &self.cells), ("remember", &self.remember), ("tables", &self.tables)]
+    pub fn slices(&self) -> [(&'static str, &[u32]); 4] {
+        [("cells", &self.cells), ("remember", &self.remember), ("tables", &self.tables), ("chains", &self.chains)]
     }
 
     /// For each slice a line with its name and length, then its words, sixteen to a line.
@@ -115,5 +116,20 @@ fn tables(heap: &Heap) -> Vec<u32> {
     }
     words.push(heap.made());
     words.push(heap.freed());
+    words
+}
+
+/// For each region, by its number, its first entry; then for each entry the next one into the same region. An entry is named by 1 + its
+/// place, 0 is none. No entry points into the control space.
+fn chains(heap: &Heap) -> Vec<u32> {
+    let regions = heap.limits.threads * heap.limits.depth + 1;
+    let entries = entries(heap);
+    let into = |region: u32, from: usize| match (from..entries.len()).find(|&place| entries[place].1 == region) {
+        Some(place) => 1 + place as u32,
+        None => 0,
+    };
+    let mut words: Vec<u32> = (1..=regions).map(|region| into(region, 0)).collect();
+    words.extend(entries.iter().enumerate().map(|(place, entry)| into(entry.1, place + 1)));
+    words.resize((regions + heap.limits.entries) as usize, 0);
     words
 }

@@ -24,6 +24,15 @@ impl Writer {
         self.steps.len() >= self.most
     }
 
+    /// Drops what is more than enough, in the middle of a pattern, so that any command may be the last one that changes the words.
+    pub fn cut(&mut self) {
+        self.steps.truncate(self.most);
+        self.heap = Heap::new(self.heap.limits);
+        for &words in &self.steps {
+            let _ = self.heap.obey(words);
+        }
+    }
+
     // The eleven commands by name.
 
     pub fn start(&mut self, t: usize) -> bool {

@@ -17,11 +17,19 @@ static void lengths(void) {
                                    d <= TALDREKU_MAX_DEPTH && p >= 1 && p <= TALDREKU_MAX_PAGES;
                     CHECK(taldreku_tables_length(t, v, d, p) == (in_range ? t * (v + d + 1) + 3 * p + 8 : 0));
                 }
+    for (uint32_t t = 0; t <= TALDREKU_MAX_THREADS + 1; t++)
+        for (uint32_t d = 0; d <= TALDREKU_MAX_DEPTH + 1; d++)
+            for (uint32_t n = 0; n <= TALDREKU_MAX_ENTRIES + 1; n += n == 1 ? TALDREKU_MAX_ENTRIES - 1 : 1) {
+                int in_range = t >= 1 && t <= TALDREKU_MAX_THREADS && d >= 1 && d <= TALDREKU_MAX_DEPTH && n <= TALDREKU_MAX_ENTRIES;
+                CHECK(taldreku_chains_length(t, d, n) == (in_range ? t * d + 1 + n : 0));
+            }
+    for (uint32_t n = 0; n <= TALDREKU_MAX_ENTRIES; n++) CHECK(taldreku_chains_length(3, 2, n) == 7 + n);
     static const uint32_t out[] = {0x80000000, 0x80000001, 0xffffffff, 0x10001};
     for (size_t i = 0; i < sizeof out / sizeof out[0]; i++) {
         CHECK(taldreku_cells_length(out[i]) == 0 && taldreku_remember_length(out[i]) == 0);
         CHECK(taldreku_tables_length(out[i], 1, 1, 1) == 0 && taldreku_tables_length(1, out[i], 1, 1) == 0);
         CHECK(taldreku_tables_length(1, 1, out[i], 1) == 0 && taldreku_tables_length(1, 1, 1, out[i]) == 0);
+        CHECK(taldreku_chains_length(out[i], 1, 1) == 0 && taldreku_chains_length(1, out[i], 1) == 0 && taldreku_chains_length(1, 1, out[i]) == 0);
     }
     CHECK(taldreku_cells_length(0) == 0 && taldreku_cells_length(TALDREKU_MAX_PAGES + 1) == 0);
     CHECK(taldreku_remember_length(TALDREKU_MAX_ENTRIES + 1) == 0);
@@ -55,9 +63,9 @@ static void prepare_sizes(Edge edge) {
 
 /* Every length that is too short, for each array. */
 static void prepare_short(Sizes s, Edge edge) {
-    for (int which = 0; which < 3; which++) {
+    for (int which = 0; which < 4; which++) {
         Lent whole = lend(s, 0, edge);
-        size_t exact = which == 0 ? whole.cells_words : which == 1 ? whole.remember_words : whole.tables_words;
+        size_t lengths[] = {whole.cells_words, whole.remember_words, whole.tables_words, whole.chains_words}, exact = lengths[which];
         release();
         for (size_t length = 0; length < exact; length++) {
             Lent l = lend(s, 0, edge);
@@ -66,23 +74,26 @@ static void prepare_short(Sizes s, Edge edge) {
             if (which == 0) l.cells = array, l.cells_words = length;
             if (which == 1) l.remember = array, l.remember_words = length;
             if (which == 2) l.tables = array, l.tables_words = length;
+            if (which == 3) l.chains = array, l.chains_words = length;
             refused_prepare(s, &l, TALDREKU_SHORT);
             if (length == 0) {
                 if (which == 0) l.cells = NULL;
                 if (which == 1) l.remember = NULL;
                 if (which == 2) l.tables = NULL;
+                if (which == 3) l.chains = NULL;
                 CHECK(prepare(s, &l) == TALDREKU_SHORT);
             }
             release();
         }
     }
-    CHECK(given(taldreku_prepare(s.threads, s.variables, s.depth, s.pages, s.entries, NULL, 0, NULL, 0, NULL, 0)) == TALDREKU_SHORT);
+    CHECK(given(taldreku_prepare(s.threads, s.variables, s.depth, s.pages, s.entries, NULL, 0, NULL, 0, NULL, 0, NULL, 0)) == TALDREKU_SHORT);
 }
 
 /* Exact and longer arrays: the words of a heap without objects, and the words past the lengths as they were. */
 static void prepare_done(Sizes s, size_t extra, Edge edge) {
     Lent l = lend(s, extra, edge), before = copy_of(&l);
-    size_t cells = l.cells_words - extra, remember = l.remember_words - extra, tables = l.tables_words - extra, zeros = 0;
+    size_t cells = l.cells_words - extra, remember = l.remember_words - extra, tables = l.tables_words - extra, chains = l.chains_words - extra;
+    size_t zeros = 0;
     CHECK(prepare(s, &l) == TALDREKU_DONE);
     CHECK(l.tables[0] == s.threads && l.tables[1] == s.variables && l.tables[2] == s.depth && l.tables[3] == s.pages && l.tables[4] == s.entries);
     for (size_t i = 5; i < tables; i++) zeros += l.tables[i] == 0;
@@ -92,9 +103,12 @@ static void prepare_done(Sizes s, size_t extra, Edge edge) {
     CHECK(zeros == tables - 5 + remember - 1);
     for (size_t i = 0; i < cells; i++) zeros += l.cells[i] == 0;
     CHECK(zeros == tables - 5 + remember - 1 + cells);
+    for (size_t i = 0; i < chains; i++) zeros += l.chains[i] == 0;
+    CHECK(zeros == tables - 5 + remember - 1 + cells + chains);
     CHECK(memcmp(l.cells + cells, before.cells + cells, extra * sizeof(uint32_t)) == 0);
     CHECK(memcmp(l.remember + remember, before.remember + remember, extra * sizeof(uint32_t)) == 0);
     CHECK(memcmp(l.tables + tables, before.tables + tables, extra * sizeof(uint32_t)) == 0);
+    CHECK(memcmp(l.chains + chains, before.chains + chains, extra * sizeof(uint32_t)) == 0);
     CHECK(run(&l, NULL, 0, NULL, 0) == TALDREKU_DONE);
     drop(&before);
     release();
@@ -168,7 +182,7 @@ static void run_not_whole(Edge edge) {
         }
         release();
     }
-    CHECK(given(taldreku_run(NULL, 0, NULL, 0, NULL, 0, NULL, 0, NULL, 0)) == TALDREKU_NOT_WHOLE);
+    CHECK(given(taldreku_run(NULL, 0, NULL, 0, NULL, 0, NULL, 0, NULL, 0, NULL, 0)) == TALDREKU_NOT_WHOLE);
 }
 
 static void run_blocks(Edge edge) {

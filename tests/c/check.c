@@ -9,6 +9,8 @@
 #include <ucontext.h>
 #include <unistd.h>
 
+#include "../../bench/plain.h"
+
 /* ---- checks */
 
 static const char *group = "";
@@ -49,7 +51,7 @@ unsigned long all_checks(void) { return all; }
 uint32_t numbers_given;
 
 uint32_t given(uint32_t number) {
-    CHECK(number <= TALDREKU_ROWS);
+    CHECK(number <= TALDREKU_CHAINS);
     numbers_given |= 1u << number;
     return number;
 }
@@ -120,15 +122,17 @@ const Sizes LARGEST = {TALDREKU_MAX_THREADS, TALDREKU_MAX_VARIABLES, TALDREKU_MA
 Lent lend(Sizes s, size_t extra, Edge edge) {
     Lent l = {.cells_words = taldreku_cells_length(s.pages) + extra,
               .remember_words = taldreku_remember_length(s.entries) + extra,
-              .tables_words = taldreku_tables_length(s.threads, s.variables, s.depth, s.pages) + extra};
-    l.cells = fenced(l.cells_words, edge), l.remember = fenced(l.remember_words, edge), l.tables = fenced(l.tables_words, edge);
-    noise(l.cells, l.cells_words), noise(l.remember, l.remember_words), noise(l.tables, l.tables_words);
+              .tables_words = taldreku_tables_length(s.threads, s.variables, s.depth, s.pages) + extra,
+              .chains_words = taldreku_chains_length(s.threads, s.depth, s.entries) + extra};
+    l.cells = fenced(l.cells_words, edge), l.remember = fenced(l.remember_words, edge);
+    l.tables = fenced(l.tables_words, edge), l.chains = fenced(l.chains_words, edge);
+    noise(l.cells, l.cells_words), noise(l.remember, l.remember_words), noise(l.tables, l.tables_words), noise(l.chains, l.chains_words);
     return l;
 }
 
 uint32_t prepare(Sizes s, const Lent *l) {
     return given(taldreku_prepare(s.threads, s.variables, s.depth, s.pages, s.entries, l->cells, l->cells_words, l->remember,
-                                  l->remember_words, l->tables, l->tables_words));
+                                  l->remember_words, l->tables, l->tables_words, l->chains, l->chains_words));
 }
 
 Lent prepared(Sizes s, size_t extra, Edge edge) {
@@ -138,13 +142,14 @@ Lent prepared(Sizes s, size_t extra, Edge edge) {
 }
 
 uint32_t run(const Lent *l, const uint32_t *block, size_t block_words, uint32_t *answers, size_t answers_words) {
-    return given(taldreku_run(l->cells, l->cells_words, l->remember, l->remember_words, l->tables, l->tables_words, block, block_words,
-                              answers, answers_words));
+    return given(taldreku_run(l->cells, l->cells_words, l->remember, l->remember_words, l->tables, l->tables_words, l->chains, l->chains_words,
+                              block, block_words, answers, answers_words));
 }
 
 struct taldreku_reported report(const Lent *l, struct taldreku_row *rows, size_t count) {
     struct taldreku_reported r =
-        taldreku_report(l->cells, l->cells_words, l->remember, l->remember_words, l->tables, l->tables_words, rows, count);
+        taldreku_report(l->cells, l->cells_words, l->remember, l->remember_words, l->tables, l->tables_words, l->chains, l->chains_words, rows,
+                        count);
     given(r.number);
     return r;
 }
@@ -161,6 +166,7 @@ Lent copy_of(const Lent *l) {
     copy.cells = copied(l->cells, l->cells_words);
     copy.remember = copied(l->remember, l->remember_words);
     copy.tables = copied(l->tables, l->tables_words);
+    copy.chains = copied(l->chains, l->chains_words);
     return copy;
 }
 
@@ -168,7 +174,7 @@ static int same(const uint32_t *a, const uint32_t *b, size_t count) { return cou
 
 int same_words(const Lent *l, const Lent *m) {
     return same(l->cells, m->cells, l->cells_words) && same(l->remember, m->remember, l->remember_words) &&
-           same(l->tables, m->tables, l->tables_words);
+           same(l->tables, m->tables, l->tables_words) && same(l->chains, m->chains, l->chains_words);
 }
 
 uint32_t owner_of(const Lent *l, uint32_t page) { return l->tables[5 + l->tables[0] * (1 + l->tables[1]) + page]; }
@@ -193,10 +199,27 @@ int entries_rise(const Lent *l) {
     return 1;
 }
 
+int chains_right(const Lent *l) {
+    static uint32_t words[TALDREKU_MAX_ROWS + TALDREKU_MAX_ENTRIES];
+    uint32_t regions = 1 + l->tables[0] * l->tables[2], *region_of = l->remember + 2 + l->remember[0];
+    memset(words, 0, sizeof words);
+    for (uint32_t region = 1; region <= regions; region++) {
+        uint32_t *link = words + region - 1;
+        for (uint32_t i = 0; i < l->remember[1]; i++)
+            if (region_of[i] == region) *link = 1 + i, link = words + regions + i;
+    }
+    return same(words, l->chains, regions + l->remember[0]);
+}
+
+uint32_t check_by_hand(const Lent *l) {
+    return plain_check(l->cells, l->cells_words, l->remember, l->remember_words, l->tables, l->tables_words, l->chains, l->chains_words);
+}
+
 void drop(Lent *copy) {
     free(copy->cells);
     free(copy->remember);
     free(copy->tables);
+    free(copy->chains);
 }
 
 /* ---- blocks */

@@ -38,7 +38,7 @@ typedef struct {
 
 extern const Sizes LARGEST;
 
-/* Three fenced arrays of the lengths asked for and so many words more, filled with noise. */
+/* Four fenced arrays of the lengths asked for and so many words more, filled with noise. */
 Lent lend(Sizes s, size_t extra, Edge edge);
 Lent prepared(Sizes s, size_t extra, Edge edge);
 uint32_t prepare(Sizes s, const Lent *l);
@@ -70,6 +70,10 @@ uint32_t *made_word(const Lent *l);                     /* objects made and obje
 uint32_t *freed_word(const Lent *l);
 /* Whether the remember table has the crossing slots as the cells show them, from the first word to the last, and zeros after them. */
 int entries_rise(const Lent *l);
+/* Whether the chains are those that the remember table calls for: for each region the first entry that has it, for each entry the next with the
+ * same one, and zeros else. */
+int chains_right(const Lent *l);
+uint32_t check_by_hand(const Lent *l);                  /* the check of the benchmark's heap by hand */
 /* The report, as the words themselves say it: by the depths, the owners and uses of the pages, every slot of every cell in use, and the last two
  * words of the tables. */
 struct taldreku_reported count_words(const Lent *l, struct taldreku_row *rows);
@@ -81,6 +85,7 @@ void check_report(const Lent *l);
 size_t stack_of(void (*work)(void));
 
 void test_calls(void);
+void test_chains(void);
 void test_commands(void);
 void test_cleared(void);
 void test_collect(void);

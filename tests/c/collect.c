@@ -4,8 +4,6 @@
 
 #include <string.h>
 
-#include "../../bench/plain.h"
-
 /* Objects of the tests: two slots, and a number that names them. */
 enum { LINK = 0, OTHER = 1, SLOTS = 2, NAME = 0, NAME_WORD = 2 + SLOTS };
 
@@ -25,11 +23,11 @@ static void clear(uint32_t thread, uint32_t from, uint32_t to) {
     for (uint32_t v = from; v <= to; v++) add(&block, TALDREKU_CLEAR, thread, v, 0, 0);
 }
 
-/* Collects. The heap is whole by both checks, the entries are the crossing slots, and a second collection changes no word. */
+/* Collects. The heap is whole by both checks, the entries are the crossing slots and chained, and a second collection changes no word. */
 static void collect(uint32_t thread) {
     obey_next(&heap, &block, TALDREKU_COLLECT, thread, 0, 0, 0);
-    CHECK(plain_check(heap.cells, heap.cells_words, heap.remember, heap.remember_words, heap.tables, heap.tables_words) == TALDREKU_DONE);
-    CHECK(entries_rise(&heap));
+    CHECK(check_by_hand(&heap) == TALDREKU_DONE);
+    CHECK(entries_rise(&heap) && chains_right(&heap));
     check_report(&heap);
     Lent before = copy_of(&heap);
     obey_next(&heap, &block, TALDREKU_COLLECT, 0, 0, 0, 0);
@@ -259,6 +257,7 @@ static void full(Edge edge) {
     CHECK(memcmp(heap.cells + heap.cells_words - EXTRA, fresh.cells + heap.cells_words - EXTRA, EXTRA * sizeof(uint32_t)) == 0);
     CHECK(memcmp(heap.remember + heap.remember_words - EXTRA, fresh.remember + heap.remember_words - EXTRA, EXTRA * sizeof(uint32_t)) == 0);
     CHECK(memcmp(heap.tables + heap.tables_words - EXTRA, fresh.tables + heap.tables_words - EXTRA, EXTRA * sizeof(uint32_t)) == 0);
+    CHECK(memcmp(heap.chains + heap.chains_words - EXTRA, fresh.chains + heap.chains_words - EXTRA, EXTRA * sizeof(uint32_t)) == 0);
     drop(&fresh);
     release();
 }

@@ -134,7 +134,7 @@ static void end_without_entries(Edge edge) {
     release();
 }
 
-/* No command changes a word past the lengths of the three arrays. */
+/* No command changes a word past the lengths of the four arrays. */
 static void spare_words(Edge edge) {
     enum { EXTRA = 100 };
     heap = prepared((Sizes){2, 4, 2, 4, 2}, EXTRA, edge);
@@ -153,6 +153,7 @@ static void spare_words(Edge edge) {
     CHECK(memcmp(heap.cells + heap.cells_words - EXTRA, before.cells + heap.cells_words - EXTRA, EXTRA * sizeof(uint32_t)) == 0);
     CHECK(memcmp(heap.remember + heap.remember_words - EXTRA, before.remember + heap.remember_words - EXTRA, EXTRA * sizeof(uint32_t)) == 0);
     CHECK(memcmp(heap.tables + heap.tables_words - EXTRA, before.tables + heap.tables_words - EXTRA, EXTRA * sizeof(uint32_t)) == 0);
+    CHECK(memcmp(heap.chains + heap.chains_words - EXTRA, before.chains + heap.chains_words - EXTRA, EXTRA * sizeof(uint32_t)) == 0);
     CHECK(!same_words(&heap, &before));
     drop(&before);
     release();

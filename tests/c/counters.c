@@ -5,14 +5,8 @@
 
 #include <string.h>
 
-#include "../../bench/plain.h"
-
 static Lent heap;
 static Block block;
-
-static uint32_t check_by_hand(void) {
-    return plain_check(heap.cells, heap.cells_words, heap.remember, heap.remember_words, heap.tables, heap.tables_words);
-}
 
 /* The report has these figures, the total is the sum of its rows, and the two words are the figures. */
 static void check_counters(uint32_t made, uint32_t freed, uint32_t total) {
@@ -23,7 +17,7 @@ static void check_counters(uint32_t made, uint32_t freed, uint32_t total) {
     for (uint32_t i = 0; i < r.rows; i++) sum += rows[i].objects;
     CHECK(sum == total);
     CHECK(*made_word(&heap) == made && *freed_word(&heap) == freed);
-    CHECK(check_by_hand() == TALDREKU_DONE);
+    CHECK(check_by_hand(&heap) == TALDREKU_DONE);
     check_report(&heap);
 }
 
@@ -249,7 +243,7 @@ static void not_whole(void) {
     struct taldreku_reported r = report(&heap, rows, TALDREKU_MAX_ROWS);
     CHECK(r.number == TALDREKU_NOT_WHOLE && no_figures(r));
     CHECK(memcmp(rows, kept, sizeof rows) == 0);
-    CHECK(check_by_hand() == TALDREKU_NOT_WHOLE);
+    CHECK(check_by_hand(&heap) == TALDREKU_NOT_WHOLE);
     CHECK(same_words(&heap, &before));
     drop(&before);
 }

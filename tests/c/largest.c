@@ -26,8 +26,9 @@ static void both(void) {
     static uint32_t answers[2 * 8192];
     CHECK(block.commands <= 8192);
     obey(&ours, &block);
-    CHECK(plain_run(plain.cells, plain.cells_words, plain.remember, plain.remember_words, plain.tables, plain.tables_words, block.words,
-                    TALDREKU_COMMAND_WORDS * block.commands, answers, sizeof answers / sizeof answers[0]) == TALDREKU_DONE);
+    CHECK(plain_run(plain.cells, plain.cells_words, plain.remember, plain.remember_words, plain.tables, plain.tables_words, plain.chains,
+                    plain.chains_words, block.words, TALDREKU_COMMAND_WORDS * block.commands, answers,
+                    sizeof answers / sizeof answers[0]) == TALDREKU_DONE);
     size_t other = 0;
     for (size_t i = 0; i < TALDREKU_ANSWER_WORDS * block.commands; i++) other += answers[i] != block.answers[i];
     CHECK(other == 0);
@@ -82,9 +83,9 @@ static void fill(void) {
 
 /* Whether both heaps are whole, each by the other's check, and the same word for word. */
 static void compare(void) {
-    CHECK(plain_check(ours.cells, ours.cells_words, ours.remember, ours.remember_words, ours.tables, ours.tables_words) == TALDREKU_DONE);
+    CHECK(check_by_hand(&ours) == TALDREKU_DONE);
     CHECK(run(&plain, NULL, 0, NULL, 0) == TALDREKU_DONE);
-    CHECK(agree(&ours, &plain));
+    CHECK(agree(&ours, &plain) && chains_right(&ours));
 }
 
 static void ends(void) {
@@ -178,26 +179,27 @@ static uint32_t stack_number, stack_answers[TALDREKU_ANSWER_WORDS] = {99, 99};
 
 static void ends_one(void) {
     static const uint32_t end_one[TALDREKU_COMMAND_WORDS] = {TALDREKU_END, 1, 0, 0, 0};
-    stack_number = taldreku_run(ours.cells, ours.cells_words, ours.remember, ours.remember_words, ours.tables, ours.tables_words, end_one,
-                                TALDREKU_COMMAND_WORDS, stack_answers, TALDREKU_ANSWER_WORDS);
+    stack_number = taldreku_run(ours.cells, ours.cells_words, ours.remember, ours.remember_words, ours.tables, ours.tables_words, ours.chains,
+                                ours.chains_words, end_one, TALDREKU_COMMAND_WORDS, stack_answers, TALDREKU_ANSWER_WORDS);
 }
 
 static void collects_all(void) {
     static const uint32_t collect[TALDREKU_COMMAND_WORDS] = {TALDREKU_COLLECT, 0, 0, 0, 0};
-    stack_number = taldreku_run(ours.cells, ours.cells_words, ours.remember, ours.remember_words, ours.tables, ours.tables_words, collect,
-                                TALDREKU_COMMAND_WORDS, stack_answers, TALDREKU_ANSWER_WORDS);
+    stack_number = taldreku_run(ours.cells, ours.cells_words, ours.remember, ours.remember_words, ours.tables, ours.tables_words, ours.chains,
+                                ours.chains_words, collect, TALDREKU_COMMAND_WORDS, stack_answers, TALDREKU_ANSWER_WORDS);
 }
 
 static struct taldreku_row stack_rows[TALDREKU_MAX_ROWS];
 
 static void reports_all(void) {
-    stack_number = taldreku_report(ours.cells, ours.cells_words, ours.remember, ours.remember_words, ours.tables, ours.tables_words, stack_rows,
-                                   TALDREKU_MAX_ROWS).number;
+    stack_number = taldreku_report(ours.cells, ours.cells_words, ours.remember, ours.remember_words, ours.tables, ours.tables_words, ours.chains,
+                                   ours.chains_words, stack_rows, TALDREKU_MAX_ROWS).number;
 }
 
 static void prepares_all(void) {
     stack_number = taldreku_prepare(LARGEST.threads, LARGEST.variables, LARGEST.depth, LARGEST.pages, LARGEST.entries, plain.cells,
-                                    plain.cells_words, plain.remember, plain.remember_words, plain.tables, plain.tables_words);
+                                    plain.cells_words, plain.remember, plain.remember_words, plain.tables, plain.tables_words, plain.chains,
+                                    plain.chains_words);
 }
 
 static void nothing(void) { stack_number = TALDREKU_DONE; }
@@ -238,7 +240,8 @@ void test_largest(void) {
     begin("largest sizes");
     ours = prepared(LARGEST, 0, AT_END), plain = lend(LARGEST, 0, AT_END);
     CHECK(plain_prepare(LARGEST.threads, LARGEST.variables, LARGEST.depth, LARGEST.pages, LARGEST.entries, plain.cells, plain.cells_words,
-                        plain.remember, plain.remember_words, plain.tables, plain.tables_words) == TALDREKU_DONE);
+                        plain.remember, plain.remember_words, plain.tables, plain.tables_words, plain.chains,
+                        plain.chains_words) == TALDREKU_DONE);
     fill();
     ends();
     walk();

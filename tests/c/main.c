@@ -13,14 +13,15 @@ static void versions(void) {
 }
 
 static void numbers(void) {
-    begin("every number from 0 to 15 was given");
-    for (uint32_t n = TALDREKU_DONE; n <= TALDREKU_ROWS; n++) CHECK(numbers_given >> n & 1);
+    begin("every number from 0 to 16 was given");
+    for (uint32_t n = TALDREKU_DONE; n <= TALDREKU_CHAINS; n++) CHECK(numbers_given >> n & 1);
     end();
 }
 
 int main(void) {
     versions();
     test_calls();
+    test_chains();
     test_commands();
     test_cleared();
     test_counters();

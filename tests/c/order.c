@@ -4,8 +4,6 @@
 
 #include <string.h>
 
-#include "../../bench/plain.h"
-
 static Lent heap;
 static Block block;
 
@@ -140,7 +138,7 @@ static void stores(Edge edge) {
     for (uint32_t i = 0; i < STORES; i++) {
         uint32_t number = answer(&heap, TALDREKU_STORE, 0, draw() % HOLDERS, draw() % FIELDS, ONE + draw() % 4, &value);
         CHECK(number == TALDREKU_DONE || (number == TALDREKU_ENTRIES && heap.remember[1] == MOST));
-        CHECK(entries_rise(&heap));
+        CHECK(entries_rise(&heap) && chains_right(&heap));
         refused += number != TALDREKU_DONE;
     }
     CHECK(refused > 0 && refused < STORES / 2);
@@ -148,7 +146,7 @@ static void stores(Edge edge) {
     /* the objects move, and the slots with them */
     for (uint32_t thread = 0; thread < 3; thread++) {
         obey_next(&heap, &block, TALDREKU_END, thread, 0, 0, 0);
-        CHECK(entries_rise(&heap));
+        CHECK(entries_rise(&heap) && chains_right(&heap));
     }
     CHECK(heap.remember[1] == 0);
     release();
@@ -165,14 +163,14 @@ static void not_whole(void) {
     CHECK(answers[0] == 7 && answers[1] == 8);
     struct taldreku_reported r = report(&heap, rows, TALDREKU_MAX_ROWS);
     CHECK(r.number == TALDREKU_NOT_WHOLE && no_figures(r));
-    CHECK(plain_check(heap.cells, heap.cells_words, heap.remember, heap.remember_words, heap.tables, heap.tables_words) == TALDREKU_NOT_WHOLE);
+    CHECK(check_by_hand(&heap) == TALDREKU_NOT_WHOLE);
     CHECK(same_words(&heap, &before));
     drop(&before);
 }
 
 static void whole(void) {
     CHECK(run(&heap, NULL, 0, NULL, 0) == TALDREKU_DONE);
-    CHECK(plain_check(heap.cells, heap.cells_words, heap.remember, heap.remember_words, heap.tables, heap.tables_words) == TALDREKU_DONE);
+    CHECK(check_by_hand(&heap) == TALDREKU_DONE);
 }
 
 static void exchange(uint32_t *words, uint32_t i, uint32_t k) {

@@ -94,7 +94,7 @@ static void counted(Edge edge) {
     for (size_t extra = 0; extra <= 2; extra++)
         for (size_t count = 0; count <= 10; count++) {
             Lent l = stepped(extra, edge), before = copy_of(&l);
-            read_only(l.cells), read_only(l.remember), read_only(l.tables);
+            read_only(l.cells), read_only(l.remember), read_only(l.tables), read_only(l.chains);
             report_into(&l, &wanted, rows, count, edge);
             CHECK(same_words(&l, &before));
             drop(&before);
@@ -125,7 +125,7 @@ static void not_whole(Edge edge) {
         CHECK(memcmp(rows, kept, sizeof rows) == 0);
         release();
     }
-    struct taldreku_reported r = taldreku_report(NULL, 0, NULL, 0, NULL, 0, NULL, 0);
+    struct taldreku_reported r = taldreku_report(NULL, 0, NULL, 0, NULL, 0, NULL, 0, NULL, 0);
     CHECK(r.number == TALDREKU_NOT_WHOLE && no_figures(r));
 }
 

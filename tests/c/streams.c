@@ -36,18 +36,19 @@ static void stream(Sizes s) {
     Block b = {0};
     static uint32_t answers[TALDREKU_ANSWER_WORDS * COMMANDS];
     CHECK(plain_prepare(s.threads, s.variables, s.depth, s.pages, s.entries, plain.cells, plain.cells_words, plain.remember,
-                        plain.remember_words, plain.tables, plain.tables_words) == TALDREKU_DONE);
+                        plain.remember_words, plain.tables, plain.tables_words, plain.chains, plain.chains_words) == TALDREKU_DONE);
     for (size_t i = 0; i < BLOCKS; i++) {
         empty(&b);
         for (size_t k = 0; k < COMMANDS; k++) draw_command(&b, s);
         CHECK(run(&ours, b.words, TALDREKU_COMMAND_WORDS * b.commands, b.answers, TALDREKU_ANSWER_WORDS * b.commands) == TALDREKU_DONE);
-        CHECK(plain_run(plain.cells, plain.cells_words, plain.remember, plain.remember_words, plain.tables, plain.tables_words, b.words,
-                        TALDREKU_COMMAND_WORDS * b.commands, answers, TALDREKU_ANSWER_WORDS * b.commands) == TALDREKU_DONE);
+        CHECK(plain_run(plain.cells, plain.cells_words, plain.remember, plain.remember_words, plain.tables, plain.tables_words, plain.chains,
+                        plain.chains_words, b.words, TALDREKU_COMMAND_WORDS * b.commands, answers,
+                        TALDREKU_ANSWER_WORDS * b.commands) == TALDREKU_DONE);
         CHECK(memcmp(answers, b.answers, TALDREKU_ANSWER_WORDS * b.commands * sizeof *answers) == 0);
         for (size_t k = 0; k < b.commands; k++) given(answers[TALDREKU_ANSWER_WORDS * k]);
-        CHECK(plain_check(ours.cells, ours.cells_words, ours.remember, ours.remember_words, ours.tables, ours.tables_words) == TALDREKU_DONE);
+        CHECK(check_by_hand(&ours) == TALDREKU_DONE);
         CHECK(run(&plain, NULL, 0, NULL, 0) == TALDREKU_DONE);
-        CHECK(agree(&ours, &plain));
+        CHECK(agree(&ours, &plain) && chains_right(&ours));
     }
     check_report(&ours);
     discard(&b);
@@ -81,11 +82,11 @@ static void *work(void *given_work) {
     Work *w = given_work;
     const Lent *l = &w->heap;
     for (size_t i = 0; i < w->block->commands && w->number == TALDREKU_DONE; i += 50)
-        w->number = taldreku_run(l->cells, l->cells_words, l->remember, l->remember_words, l->tables, l->tables_words,
-                                 w->block->words + TALDREKU_COMMAND_WORDS * i, TALDREKU_COMMAND_WORDS * 50,
+        w->number = taldreku_run(l->cells, l->cells_words, l->remember, l->remember_words, l->tables, l->tables_words, l->chains,
+                                 l->chains_words, w->block->words + TALDREKU_COMMAND_WORDS * i, TALDREKU_COMMAND_WORDS * 50,
                                  w->answers + TALDREKU_ANSWER_WORDS * i, TALDREKU_ANSWER_WORDS * 50);
-    w->reported = taldreku_report(l->cells, l->cells_words, l->remember, l->remember_words, l->tables, l->tables_words, w->rows,
-                                  TALDREKU_MAX_ROWS);
+    w->reported = taldreku_report(l->cells, l->cells_words, l->remember, l->remember_words, l->tables, l->tables_words, l->chains,
+                                  l->chains_words, w->rows, TALDREKU_MAX_ROWS);
     return NULL;
 }
 

@@ -6,7 +6,7 @@ use native.Mathlib.Omega.{arith}
 use native.Mathlib.Nat.{mul-le-mul}
 use native.Mathlib.Decide.{decLt}
 use lib.ListN.{length, getD, take, drop, replicate, take-append-drop, length-append, length-drop}
-use lib.Seq.{take-at}
+use lib.Seq.{take-at, drop-append-seam}
 use Rattle.lists.specs.Zeros.{all-zero}
 use Rattle.rules.specs.declared.Sizes.{Sizes}
 use Rattle.rules.specs.Regions.{regions}
@@ -63,3 +63,8 @@ no-chains s m none =
         let e : regions s + (i - regions s) ≡ i = omega arith in
         ap (λ (j : ℕ). getD (chainsIn s m) j 0) (sym e) ∙ chain-next (regions s) (s .entries) (entriesIn (s .entries) m) (omega (arith, empty)) (i - regions s)
         ∙ next-end (entriesIn (s .entries) m) (i - regions s) (omega (arith, empty))
+
+-- written twice, the second time alone counts
+pub written-again : (s : Sizes) (m m′ k : List ℕ) → entriesUsed m ≤ s .entries → withChains s m′ (withChains s m k) ≡ withChains s m′ k
+written-again s m m′ k room =
+    ap (λ (l : List ℕ). chainsIn s m′ ++ l) (ap (λ (n : ℕ). drop n (withChains s m k)) (sym (chains-in-long s m k room)) ∙ drop-append-seam (chainsIn s m) (drop (chainsWords s) k))

@@ -7,13 +7,17 @@ use native.Mathlib.Omega.{arith}
 use lib.ListN.{length, getD}
 use Rattle.lists.specs.Part.{Lists, lists-like}
 use Rattle.rules.specs.declared.Sizes.{Sizes}
+use Rattle.rules.specs.declared.Answer.{Answer}
 use Rattle.rules.specs.Regions.{control}
 use Rattle.rules.specs.Graph.{pagesOf}
 use Rattle.layout.specs.Places.{Room, cellsWords, ownerOf, usedOf, countOf, varOf, varCount}
 use Rattle.layout.specs.Cells.{refTo, pageCells}
 use Rattle.layout.specs.Objects.{Slot, begins-page}
 use Rattle.layout.specs.Words.{Words, Names, ownerIn, refCount}
+use Rattle.chains.specs.Chains.{Chainable}
 use Rattle.promises.specs.Whole.{WholeFor}
+use Rattle.promises.specs.Promises.{DidHere}
+use Rattle.promises.specs.WholeChains.{whole-chainable}
 use Rattle.promises.specs.Reading.{refs-few, ref-room, whole-room}
 use Rattle.mark.specs.Survivors.{Marked}
 use Rattle.promises.specs.OwnedPages.{ownedIn, counts-owned}
@@ -27,6 +31,7 @@ use Rattle.slide.specs.Numbered.{Numbered}
 use Rattle.slide.specs.Slid.{NamedFrom, Slid}
 use Rattle.slide.specs.Trimmed.{Trimmed}
 use Rattle.retell.specs.SlotStretches.{Readable, readable}
+use Rattle.ended.specs.CollectedDid.{collectOf}
 use Rattle.ending.specs.MarkedReady.{ready}
 use Rattle.copy.specs.Passing.{Ready}
 use Rattle.copy.specs.Taking.{room-same}
@@ -34,6 +39,10 @@ use Rattle.collect.specs.Numbering.{space, Keeping, Numbering, marks-lis
 use Rattle.collect.specs.TablesAfter.{SpaceCounted, used₂, mark₂, room₂, count₃, other-same}
 use Rattle.collect.specs.Sliding.{refs₂, field₂, was₂, kept-back, place-same}
 use Rattle.collect.specs.CollectDid.{freed-rest}
+
+-- the entries that a collection leaves can be chained
+pub collected-chainable : {s : Sizes} {w w′ : Words} {a : Answer} → WholeFor s w → ((t : ℕ) → t < s .threads → DidHere s w (collectOf t) w′ a) → Chainable s (w′ .remember)
+collected-chainable whole did = whole-chainable (did 0 (omega (arith, whole .sized .range .threads-low)) .next .stands .whole)
 
 pub keeping : {s : Sizes} {w w₁ : Words} → WholeFor s w → Marked s w (space s w) w₁ → length (w .tables) < 2 ^ 63 → Keeping s w w₁
 keeping {s} {w} whole marks fits = record { whole = whole; room = whole-room s w whole fits; marks = marks }

@@ -14,7 +14,8 @@ use Rattle.rules.specs.Regions.{control, regionAt}
 use Rattle.rules.specs.Graph.{freedBy}
 use Rattle.rules.specs.Rules.{counted, Leaves}
 use Rattle.layout.specs.Words.{Words, sizesIn, depthIn, madeIn, freedIn, countersIn, graphOf}
-use Rattle.promises.specs.Whole.{liveOf, WholeWords}
+use Rattle.promises.specs.Whole.{liveOf}
+use Rattle.promises.specs.Slices.{Slices, WholeSlices}
 use Rattle.promises.specs.Promises.{Chain, none, more, commandsIn, answersIn, Ran}
 use Rattle.report.specs.declared.Row.{Row}
 use Rattle.report.specs.declared.Reported.{Reported}
@@ -60,23 +61,23 @@ freedThrough s none = 0
 freedThrough s (more {w = w} {m = m} {a = a} did rest) = freedOne s w m a + freedThrough s rest
 
 -- by a block, if it was not refused
-unfoldable pub freedRun : {w : Words} (b : Block) → Ran w (b .block) (b .lent) (b .number) (b .words) (b .answers) → Dec (b .number ≡ 0) → ℕ
-freedRun {w} b ran (yes e) = freedThrough (sizesIn w) (ran .obeyed e)
+unfoldable pub freedRun : {l : Slices} (b : Block) → Ran l (b .block) (b .lent) (b .number) (b .left) (b .answers) → Dec (b .number ≡ 0) → ℕ
+freedRun {l} b ran (yes e) = freedThrough (sizesIn (l .words)) (ran .obeyed e)
 freedRun b ran (no n) = 0
 
-unfoldable pub objectsFreed : {w w′ : Words} {bs : List Block} → Runs w bs w′ → ℕ
+unfoldable pub objectsFreed : {l l′ : Slices} {bs : List Block} → Runs l bs l′ → ℕ
 objectsFreed stop = 0
 objectsFreed (next {b = b} ran rest) = freedRun b ran (ℕ-discrete (b .number) 0) + objectsFreed rest
 
--- ---- the claim, of the words w that prepare wrote, the blocks bs, and the words w′ at the end
+-- ---- the claim, of the slices l that prepare wrote, the blocks bs, and the slices l′ at the end
 
-pub record Counted (s : Sizes) {w w′ : Words} {bs : List Block} (runs : Runs w bs w′) : Type 0 where
+pub record Counted (s : Sizes) {l l′ : Slices} {bs : List Block} (runs : Runs l bs l′) : Type 0 where
   -- the stored made is the number of code 3 commands that were done, the stored freed the number of objects that the ends and collections that were
   -- done freed
-  pub made : madeIn s w′ ≡ counted (objectsMade bs)
-  pub freed : freedIn s w′ ≡ counted (objectsFreed runs)
+  pub made : madeIn s (l′ .words) ≡ counted (objectsMade bs)
+  pub freed : freedIn s (l′ .words) ≡ counted (objectsFreed runs)
   -- made less freed is the sum of the object counts
-  pub live : Leaves (countersIn s w′) (liveOf s (w′ .tables))
-  -- no report is refused for the state of the tables, and one that is not refused says the same
-  pub whole : WholeWords w′
-  pub report : (lent : List Row) (r : Reported) (left : List Row) → Told w′ lent r left → r .number ≡ 0 → Reports (counted (objectsMade bs)) (counted (objectsFreed runs)) r left
+  pub live : Leaves (countersIn s (l′ .words)) (liveOf s (l′ .words .tables))
+  -- no report is refused for the state of the slices, and one that is not refused says the same
+  pub whole : WholeSlices l′
+  pub report : (lent : List Row) (r : Reported) (left : List Row) → Told l′ lent r left → r .number ≡ 0 → Reports (counted (objectsMade bs)) (counted (objectsFreed runs)) r left

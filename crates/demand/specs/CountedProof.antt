@@ -24,13 +24,16 @@ use Rattle.laws.specs.RulesLaws.{region-pos, control-pos}
 use Rattle.laws.specs.SameRules.{same-freed}
 use Rattle.layout.specs.Words.{Words, sizesIn, depthIn, madeIn, freedIn, graphOf, heapOf}
 use Rattle.promises.specs.Whole.{WholeFor}
+use Rattle.chains.specs.Chains.{ChainsWhole}
+use Rattle.promises.specs.Slices.{Slices}
 use Rattle.promises.specs.StandsFor.{StandsFor}
 use Rattle.promises.specs.Promises.{Became, Did, Chain, none, more, commandsIn, answersIn, Ran, Prepared}
 use Rattle.promises.specs.Reading.{depth-at, words-closed}
 use Rattle.promises.specs.Agreed.{heap-stands, whole-words}
-use Rattle.promises.specs.Preparing.{prepared-stands}
+use Rattle.promises.specs.Preparing.{prepared-is}
 use Rattle.report.specs.Told.{told-counted}
 use Rattle.demand.specs.DemandThree.{Block, Runs, stop, next}
+use Rattle.demand.specs.Demand.{all-runs}
 use Rattle.demand.specs.Counted.{madeOne, madeBy, objectsMade, freedOn, freedOne, freedThrough, freedRun, objectsFreed, Counted}
 
 -- whole words whose counters say that n objects were made and f freed
@@ -182,34 +185,36 @@ chain-counts s {w} {w′} (more {m = m} {a = a} {ms = ms} {as′ = as′} did re
 abbrev madeRun : Block → ℕ
 madeRun b = cond (eqb (b .number) 0) (madeBy (commandsIn (b .block)) (answersIn (b .block) (b .answers))) 0
 
-run-counts : (s : Sizes) {w : Words} (b : Block) (ran : Ran w (b .block) (b .lent) (b .number) (b .words) (b .answers)) (n f : ℕ) → CountersSay s w n f
-    → CountersSay s (b .words) (n + madeRun b) (f + freedRun b ran (ℕ-discrete (b .number) 0))
+run-counts : (s : Sizes) {l : Slices} (b : Block) (ran : Ran l (b .block) (b .lent) (b .number) (b .left) (b .answers)) (n f : ℕ) → CountersSay s (l .words) n f
+    → CountersSay s (b .left .words) (n + madeRun b) (f + freedRun b ran (ℕ-discrete (b .number) 0))
 unfolding freedRun
-run-counts s {w} b ran n f said = go (ℕ-discrete (b .number) 0)
+run-counts s {l} b ran n f said = go (ℕ-discrete (b .number) 0)
   where
-    go : (d : Dec (b .number ≡ 0)) → CountersSay s (b .words) (n + madeRun b) (f + freedRun b ran d)
+    go : (d : Dec (b .number ≡ 0)) → CountersSay s (b .left .words) (n + madeRun b) (f + freedRun b ran d)
     go (yes e) =
         let z : eqb (b .number) 0 ≡ true = eq-eqb (b .number) 0 e in
-        let k : sizesIn w ≡ s = said .whole .sized .sizes in
+        let k : sizesIn (l .words) ≡ s = said .whole .sized .sizes in
         rw z
-        (subst (λ (x : Sizes). CountersSay x (b .words) (n + madeBy (commandsIn (b .block)) (answersIn (b .block) (b .answers))) (f + freedThrough (sizesIn w) (ran .obeyed e))) k
-        (chain-counts (sizesIn w) (ran .obeyed e) n f (subst (λ (x : Sizes). CountersSay x w n f) (sym k) said)))
+        (subst (λ (x : Sizes). CountersSay x (b .left .words) (n + madeBy (commandsIn (b .block)) (answersIn (b .block) (b .answers))) (f + freedThrough (sizesIn (l .words)) (ran .obeyed e))) k
+        (chain-counts (sizesIn (l .words)) (ran .obeyed e) n f (subst (λ (x : Sizes). CountersSay x (l .words) n f) (sym k) said)))
     go (no y) =
         let z : eqb (b .number) 0 ≡ false = ne-eqb (b .number) 0 y in
-        rw z (counts-same s (b .words) n f (subst (λ (x : Words). CountersSay s x n f) (sym (ran .refused y .0)) said))
+        rw z (counts-same s (b .left .words) n f (subst (λ (x : Slices). CountersSay s (x .words) n f) (sym (ran .refused y .0)) said))
 
-runs-counts : (s : Sizes) {w w′ : Words} {bs : List Block} (runs : Runs w bs w′) (n f : ℕ) → CountersSay s w n f → CountersSay s w′ (n + objectsMade bs) (f + objectsFreed runs)
+runs-counts : (s : Sizes) {l l′ : Slices} {bs : List Block} (runs : Runs l bs l′) (n f : ℕ) → CountersSay s (l .words) n f → CountersSay s (l′ .words) (n + objectsMade bs) (f + objectsFreed runs)
 unfolding objectsMade objectsFreed
-runs-counts s {w} stop n f said = counts-same s w n f said
-runs-counts s {w} {w′} (next {b = b} {bs = bs} ran rest) n f said =
+runs-counts s {l} stop n f said = counts-same s (l .words) n f said
+runs-counts s {l} {l′} (next {b = b} {bs = bs} ran rest) n f said =
     let i = madeRun b in
     let g = freedRun b ran (ℕ-discrete (b .number) 0) in
-    counts-joined s w′ n i (objectsMade bs) f g (objectsFreed rest) (runs-counts s rest (n + i) (f + g) (run-counts s b ran n f said))
+    counts-joined s (l′ .words) n i (objectsMade bs) f g (objectsFreed rest) (runs-counts s rest (n + i) (f + g) (run-counts s b ran n f said))
 
-pub blocks-counted : (s : Sizes) (lent w : Words) → Prepared s lent 0 w → (bs : List Block) (w′ : Words) (runs : Runs w bs w′) → Counted s runs
+pub blocks-counted : (s : Sizes) (lent l : Slices) → Prepared s lent 0 l → (bs : List Block) (l′ : Slices) (runs : Runs l bs l′) → Counted s runs
 unfolding ru.unused
-blocks-counted s lent w p bs w′ runs =
-    let st = prepared-stands s lent w p in
+blocks-counted s lent l p bs l′ runs =
+    let is = prepared-is s lent l p in
+    let st = is .stands in
+    let all = all-runs s runs (ru.unused s) (λ x. x) (record { stands = st; chains = is .chains }) in
     let zero-is : 0 ≡ counted 0 = sym (counted-small 0 (omega arith)) in
     let r = runs-counts s runs 0 0 (record {
       whole = st .whole;
@@ -222,13 +227,16 @@ blocks-counted s lent w p bs w′ runs =
       made = made;
       freed = freed;
       live = r .whole .counters;
-      whole = whole-words s w′ (r .whole);
+      whole = record {
+        words = whole-words s (l′ .words) (r .whole);
+        chains = subst (λ (x : Sizes). ChainsWhole x (l′ .words .remember) (l′ .chains)) (sym (r .whole .sized .sizes)) (all .holds .chains);
+      };
       report = λ rows′ x left told z.
-          let q = told-counted w′ rows′ x left told z in
+          let q = told-counted l′ rows′ x left told z in
           let same = r .whole .sized .sizes in
           record {
-            made = q .made ∙ ap (λ (p : Sizes). madeIn p w′) same ∙ made;
-            freed = q .freed ∙ ap (λ (p : Sizes). freedIn p w′) same ∙ freed;
+            made = q .made ∙ ap (λ (p : Sizes). madeIn p (l′ .words)) same ∙ made;
+            freed = q .freed ∙ ap (λ (p : Sizes). freedIn p (l′ .words)) same ∙ freed;
             total = q .total;
             leaves = q .leaves;
           };

@@ -17,6 +17,7 @@ use Rattle.rules.specs.Graph.{target}
 use Rattle.rules.specs.Rules.{lacking}
 use Rattle.layout.specs.Cells.{fieldOf, pageOf}
 use Rattle.layout.specs.Words.{Words, BeginsIn, sizesIn, depthIn, varIn, ownerIn, refCount, numCount, refsIn, numsIn, varsIn, homeIn, graphOf}
+use Rattle.promises.specs.Slices.{Slices}
 use Rattle.promises.specs.Promises.{Chain, none, more, commandsIn, answersIn, size, Ran}
 
 -- ---- a list of runs
@@ -26,13 +27,13 @@ pub record Block : Type 0 where
   pub block : List ℕ
   pub lent : List ℕ
   pub number : ℕ
-  pub words : Words
+  pub left : Slices
   pub answers : List ℕ
 
--- each starts from the words that the last one left
-pub data Runs : Words → List Block → Words → Type 0 where
-  stop : {w : Words} → Runs w [] w
-  next : {w w′ : Words} {b : Block} {bs : List Block} → Ran w (b .block) (b .lent) (b .number) (b .words) (b .answers) → Runs (b .words) bs w′ → Runs w (b ∷ bs) w′
+-- each starts from the slices that the last one left
+pub data Runs : Slices → List Block → Slices → Type 0 where
+  stop : {l : Slices} → Runs l [] l
+  next : {l l′ : Slices} {b : Block} {bs : List Block} → Ran l (b .block) (b .lent) (b .number) (b .left) (b .answers) → Runs (b .left) bs l′ → Runs l (b ∷ bs) l′
 
 -- questions 4 and 5
 abbrev pub refusal : Block → ℕ
@@ -120,17 +121,17 @@ Followed s none pairs pairs′ = pairs′ ≡ pairs
 Followed s (more {w = w} {w₁ = w₁} {m = m} {a = a} did rest) pairs pairs′ = (pairs₁ : List ℕ) × Changes s w m a w₁ pairs pairs₁ × Followed s rest pairs₁ pairs′
 
 -- and through a list of blocks, of which a refused one changes none
-abbrev pub Traced : {w w′ : Words} {bs : List Block} → Runs w bs w′ → List ℕ → List ℕ → Type 0
+abbrev pub Traced : {l l′ : Slices} {bs : List Block} → Runs l bs l′ → List ℕ → List ℕ → Type 0
 Traced stop pairs pairs′ = pairs′ ≡ pairs
-Traced (next {w = w} {b = b} ran rest) pairs pairs′ =
-    (pairs₁ : List ℕ) × ((e : b .number ≡ 0) → Followed (sizesIn w) (ran .obeyed e) pairs pairs₁) × ((b .number ≡ 0 → ⊥) → pairs₁ ≡ pairs) × Traced rest pairs₁ pairs′
+Traced (next {l = l} {b = b} ran rest) pairs pairs′ =
+    (pairs₁ : List ℕ) × ((e : b .number ≡ 0) → Followed (sizesIn (l .words)) (ran .obeyed e) pairs pairs₁) × ((b .number ≡ 0 → ⊥) → pairs₁ ≡ pairs) × Traced rest pairs₁ pairs′
 
--- ---- the claim, of the words w that prepare wrote, the blocks bs, and the words w′ at the end
+-- ---- the claim, of the slices l that prepare wrote, the blocks bs, and the slices l′ at the end
 
 -- The heap that never frees is given T, V and D (`limits s`) and the commands `given bs`; pages, entries and words do not reach it.
-pub record DemandThree (s : Sizes) {w w′ : Words} {bs : List Block} (runs : Runs w bs w′) : Type 0 where
+pub record DemandThree (s : Sizes) {l l′ : Slices} {bs : List Block} (runs : Runs l bs l′) : Type 0 where
   pub refusals : Refusals bs
   pub answers : nf.run (limits s) (nf.empty (limits s)) (given bs) .answers ≡ replies bs
   pub pairs : List ℕ
   pub history : Traced runs [] pairs
-  pub paired : Paired s w′ (nf.run (limits s) (nf.empty (limits s)) (given bs) .last) pairs
+  pub paired : Paired s (l′ .words) (nf.run (limits s) (nf.empty (limits s)) (given bs) .last) pairs

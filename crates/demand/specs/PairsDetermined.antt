@@ -17,6 +17,7 @@ use Rattle.rules.specs.Rules as ru
 use Rattle.laws.specs.RulesLaws.{region-pos, control-pos}
 use Rattle.layout.specs.Words.{Words, BeginsIn, sizesIn, depthIn, varIn, heapOf}
 use Rattle.promises.specs.Whole.{WholeFor}
+use Rattle.promises.specs.Slices.{Slices}
 use Rattle.promises.specs.Promises.{Chain, none, more, Did, Ran}
 use Rattle.promises.specs.Reading.{used-alive}
 use Rattle.promises.specs.Agreed.{heap-stands, back}
@@ -129,28 +130,28 @@ followed-same s (more did rest) k start p q l e f =
 -- ---- the list of blocks
 
 -- the pairs after a block, which a refused one does not change
-module _ {w : Words} (b : Block) (ran : Ran w (b .block) (b .lent) (b .number) (b .words) (b .answers)) (start p q : List ℕ) (l : Living (sizesIn w) w start)
-    (e : (z : b .number ≡ 0) → Followed (sizesIn w) (ran .obeyed z) start p) (f : (z : b .number ≡ 0) → Followed (sizesIn w) (ran .obeyed z) start q)
+module _ {l : Slices} (b : Block) (ran : Ran l (b .block) (b .lent) (b .number) (b .left) (b .answers)) (start p q : List ℕ) (i : Living (sizesIn (l .words)) (l .words) start)
+    (e : (z : b .number ≡ 0) → Followed (sizesIn (l .words)) (ran .obeyed z) start p) (f : (z : b .number ≡ 0) → Followed (sizesIn (l .words)) (ran .obeyed z) start q)
     (e′ : (b .number ≡ 0 → ⊥) → p ≡ start) (f′ : (b .number ≡ 0 → ⊥) → q ≡ start) where
-  block-same : (p ≡ q) × Living (sizesIn (b .words)) (b .words) p
+  block-same : (p ≡ q) × Living (sizesIn (b .left .words)) (b .left .words) p
   block-same = go (ℕ-discrete (b .number) 0)
     where
-      go : Dec (b .number ≡ 0) → (p ≡ q) × Living (sizesIn (b .words)) (b .words) p
+      go : Dec (b .number ≡ 0) → (p ≡ q) × Living (sizesIn (b .left .words)) (b .left .words) p
       go (yes z) =
-          let h = followed-same (sizesIn w) (ran .obeyed z) (asked-whole (ran .asked) z) start p q l (e z) (f z) in
-          (h .same, subst (λ (s : Sizes). Living s (b .words) p) (sym (h .whole .sized .sizes)) (h .living))
+          let h = followed-same (sizesIn (l .words)) (ran .obeyed z) (asked-whole (ran .asked) z .words) start p q i (e z) (f z) in
+          (h .same, subst (λ (s : Sizes). Living s (b .left .words) p) (sym (h .whole .sized .sizes)) (h .living))
       go (no n) = (
         e′ n ∙ sym (f′ n),
-        subst (λ (x : List ℕ). Living (sizesIn (b .words)) (b .words) x) (sym (e′ n)) (subst (λ (v : Words). Living (sizesIn v) v start) (sym (ran .refused n .0)) l),
+        subst (λ (x : List ℕ). Living (sizesIn (b .left .words)) (b .left .words) x) (sym (e′ n)) (subst (λ (v : Slices). Living (sizesIn (v .words)) (v .words) start) (sym (ran .refused n .0)) i),
       )
 
 -- from any pairs that lead to objects' cells
-pub traced-same : {w w′ : Words} {bs : List Block} (runs : Runs w bs w′) (start p q : List ℕ) → Living (sizesIn w) w start → Traced runs start p → Traced runs start q → p ≡ q
+pub traced-same : {l l′ : Slices} {bs : List Block} (runs : Runs l bs l′) (start p q : List ℕ) → Living (sizesIn (l .words)) (l .words) start → Traced runs start p → Traced runs start q → p ≡ q
 traced-same stop start p q l e f = e ∙ sym f
 traced-same (next {b = b} ran rest) start p q l e f =
     let h = block-same b ran start (e .0) (f .0) l (e .1) (f .1) (e .2) (f .2) in
     traced-same rest (e .0) p q (h .1) (e .3) (subst (λ (x : List ℕ). Traced rest x q) (sym (h .0)) (f .3))
 
 -- from prepare on: after it there is no pair
-pub pairs-determined : {w w′ : Words} {bs : List Block} (runs : Runs w bs w′) (p q : List ℕ) → Traced runs [] p → Traced runs [] q → p ≡ q
+pub pairs-determined : {l l′ : Slices} {bs : List Block} (runs : Runs l bs l′) (p q : List ℕ) → Traced runs [] p → Traced runs [] q → p ≡ q
 pairs-determined runs p q e f = traced-same runs [] p q (λ c i. absurd i) e f

@@ -12,6 +12,8 @@ use Rattle.rules.specs.Terms.{ask, refused}
 use Rattle.rules.specs.Regions.{regionAt, regions}
 use Rattle.rules.specs.Rules as ru
 use Rattle.layout.specs.Places.{ownerOf, markOf, entriesUsed, slotIn}
+use Rattle.layout.specs.Cells.{pageOf}
+use Rattle.layout.specs.Objects.{begins-page}
 use Rattle.layout.specs.Words.{Words, words, heapOf}
 use Rattle.promises.specs.Promises.{DidHere}
 use Rattle.promises.specs.OwnedPages.{pagesOwned, owner-low, counts-owned}
@@ -19,7 +21,7 @@ use Rattle.promises.specs.Ends.{partOf}
 use Rattle.promises.specs.Arriving.{goesTo, arriving, moreBelow, more-none}
 use Rattle.pages.specs.Owned.{Paged}
 use Rattle.pages.specs.Noted.{Noted, noted-kept, none-freed}
-use Rattle.mark.specs.Marks.{Shaped, kept-shaped}
+use Rattle.mark.specs.Marks.{Shaped, kept-shaped, in-use-kept}
 use Rattle.mark.specs.Holders.{Holding, holding-kept}
 use Rattle.mark.specs.Reached.{whole-holding}
 use Rattle.mark.specs.Survivors.{shaped-at}
@@ -27,11 +29,12 @@ use Rattle.mark.specs.Unmark.{Unmarked, cells-back, tables-back}
 use Rattle.census.specs.Counted.{over-cells}
 use Rattle.census.specs.Census.{over-none}
 use Rattle.census.specs.Crossed.{crossing-after}
+use Rattle.census.specs.Going.{OthersStay}
 use Rattle.census.specs.After.{crossingCounted, cellCrosses, slotCrosses, slot-le}
 use Rattle.copy.specs.Passing.{Ready}
 use Rattle.ended.specs.AfterEnd.{endOf}
 use Rattle.ended.specs.EndQuestion.{pagesNeeded, crossingAfter, end-question, ended-refused}
-use Rattle.mark.specs.MarkedWords.{owner-same}
+use Rattle.mark.specs.MarkedWords.{owner-same, outside-work}
 use Rattle.ending.specs.MarkedReady.{ready}
 use Rattle.ending.specs.Ending.{Ending, Accepted, room-of, deep, region-deep}
 use Rattle.ending.specs.PagesEnough.{needs-are, free-same}
@@ -60,6 +63,12 @@ module _ {s : Sizes} {t l r : ℕ} {w w₁ : Words} (m : Ending s t l r w w₁) 
   holding-now =
       subst (λ (M : List ℕ). Holding s (w₁ .cells) M (w₁ .tables)) (sym (m .marks .remember))
       (holding-kept (m .marks .kept) (room-of m) (whole-holding s w (m .whole)))
+
+  -- what lies outside r stays
+  pub others-stay : OthersStay s (w₁ .cells) (w₁ .tables) r
+  others-stay c u n =
+      let v = in-use-kept (m .marks .kept) (room-of m) c u in
+      outside-work (m .marks) (m .whole) c (record { used = v; out = λ z. n (owner-same (m .marks) (room-of m) (pageOf c) (begins-page _ _ _ _ v) ∙ z) })
 
   -- the pages of the regions, as the counts say
   pub paged-now : Paged s (w₁ .tables)

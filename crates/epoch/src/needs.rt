@@ -3,13 +3,16 @@
 ghost use mathlib.Core.Path.{_≡_};
 ghost use Prim.Native.Nat.{_^_, _<_, _≤_};
 ghost use lib.ListN.{length, getD};
+ghost use Rattle.lists.specs.Part.{Lists};
 ghost use Rattle.rules.specs.Regions.{regionAt, regions};
-ghost use Rattle.layout.specs.Places.{Room};
+ghost use Rattle.layout.specs.Places.{Room, ownerOf};
+ghost use Rattle.chains.specs.Chains.{ChainsWhole};
 ghost use Rattle.promises.specs.Arriving.{regionMore, moreBelow};
 ghost use Rattle.pages.specs.Owned.{Paged};
 ghost use Rattle.mark.specs.Marks.{Shaped};
 ghost use Rattle.mark.specs.Holders.{Holding};
 ghost use Rattle.census.specs.Census.{Census};
+ghost use Rattle.census.specs.Going.{OthersStay};
 ghost use Rattle.ending.specs.RoomAsked.{roomAsked};
 use rules::Sizes;
 
@@ -51,12 +54,15 @@ pub fn needed_pages(p: Sizes, tables: &[u32], come: &[u32], thread: usize, level
 }
 
 // Questions 13 and 14 at the end of the thread's region at the given level, whose survivors are marked: the number of the first that says no, 0 if
-// none does. k is how many of the survivors' slots would cross.
+// none does. Its n pages are listed, and k is how many of the survivors' slots would cross.
 pub fn ask_room(
     p: Sizes,
     cells: &[u32],
     remember: &[u32],
     tables: &[u32],
+    chains: &[u32],
+    list: &[u32],
+    n: usize,
     come: &[u32],
     thread: usize,
     level: usize,
@@ -65,6 +71,10 @@ pub fn ask_room(
 ) -> u32
     requires { ⌜ Shaped p (now cells) (now tables) ⌝ }
     requires { ⌜ Holding p (now cells) (now remember) (now tables) ⌝ }
+    requires { ⌜ OthersStay p (now cells) (now tables) region ⌝ }
+    requires { ⌜ ChainsWhole p (now remember) (now chains) ⌝ }
+    requires { ⌜ Lists (λ page. ownerOf p (now tables) page ≡ region) (p .pages) n (now list) ⌝ }
+    requires { ⌜ (1 ≤ region) × (region ≤ regions p) ⌝ }
     requires { ⌜ Paged p (now tables) ⌝ }
     requires { ⌜ Census p (now cells) (now tables) (p .pages) (now come) k ⌝ }
     requires { ⌜ regions p < length (now come) ⌝ }
@@ -76,7 +86,17 @@ pub fn ask_room(
     if free < needed {
         return 13;
     }
-    let crossing = census::crossing::count_crossing(p, cells, remember, tables, region, k);
+    let crossing = census::crossing::count_crossing(
+        p,
+        cells,
+        remember,
+        tables,
+        chains,
+        list,
+        n,
+        region,
+        k,
+    );
     if p.entries < crossing {
         return 14;
     }

@@ -1,4 +1,3 @@
 -- What the functions of the heap cite.
-pub mod Prepare
 pub mod Looping
 pub mod Running

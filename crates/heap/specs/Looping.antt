@@ -2,7 +2,7 @@
 use Prim.Native.Nat.{ℕ, suc, _+_, _*_, _≤_, _<_}
 use native.Mathlib.Omega.{arith}
 use native.Mathlib.Numerals.{add-one}
-use mathlib.Core.Path.{_≡_, refl, sym, ap₂, subst, _∙_}
+use mathlib.Core.Path.{_≡_, refl, sym, ap, ap₂, subst, _∙_}
 use mathlib.Core.List.{List, [], _∷_, _++_}
 use lib.ListN.{length, getD, set, length-set}
 use lib.Seq.{getD-set-same, getD-set-other, drop-set-lt}
@@ -11,9 +11,11 @@ use Rattle.rules.specs.declared.Command.{Command}
 use Rattle.rules.specs.declared.Answer.{Answer}
 use Rattle.layout.specs.Words.{Words, sizesIn}
 use Rattle.lists.specs.Listed.{listed, listed-same}
+use Rattle.chains.specs.Chains.{withChains}
 use Rattle.promises.specs.Whole.{WholeFor}
+use Rattle.promises.specs.Slices.{Slices}
 use Rattle.promises.specs.StandsFor.{SameFrom}
-use Rattle.promises.specs.Promises.{Did, Chain, none, more, commandAt, answerAt, size, RunAsked, notWhole, uneven, short, accepted, Ran}
+use Rattle.promises.specs.Promises.{Did, Chain, none, more, commandAt, answerAt, size, RunAsked, notWhole, otherChains, uneven, short, accepted, Ran}
 use Rattle.promises.specs.Chained.{did-whole}
 
 -- one more command at the end
@@ -62,17 +64,18 @@ pub same-from : (n : ℕ) (l : List ℕ) → SameFrom n l l
 same-from n l = record { long = refl; rest = refl }
 
 -- a refused run changes nothing
-pub ran-refused : {w : Words} {block lent : List ℕ} {q : ℕ} → RunAsked w block lent q → (q ≡ 0 → ⊥) → Ran w block lent q w lent
-ran-refused {w} {block} {lent} a n =
-    record { asked = a; refused = λ m. (refl, refl); obeyed = λ z. absurd (n z); spare = same-from (2 * size block) lent }
+pub ran-refused : {l : Slices} {block lent : List ℕ} {q : ℕ} → RunAsked l block lent q → (q ≡ 0 → ⊥) → Ran l block lent q l lent
+ran-refused {l} {block} {lent} a n =
+    record { asked = a; refused = λ m. (refl, refl); obeyed = λ z. absurd (n z); chains = λ z. absurd (n z); spare = same-from (2 * size block) lent }
 
-pub asked-none : {w : Words} {block lent : List ℕ} {q : ℕ} → RunAsked w block lent q → q ≡ 0 → RunAsked w block lent 0
-asked-none {w} {block} {lent} a e = subst (RunAsked w block lent) e a
+pub asked-none : {l : Slices} {block lent : List ℕ} {q : ℕ} → RunAsked l block lent q → q ≡ 0 → RunAsked l block lent 0
+asked-none {l} {block} {lent} a e = subst (RunAsked l block lent) e a
 
 -- where none says no, the answers fit
-pub asked-room : {w : Words} {block lent : List ℕ} → RunAsked w block lent 0 → 2 * size block ≤ length lent
+pub asked-room : {l : Slices} {block lent : List ℕ} → RunAsked l block lent 0 → 2 * size block ≤ length lent
 asked-room (accepted e k f l) = l
 asked-room (notWhole e n) = absurd (let z : ⊥ = omega arith in z)
+asked-room (otherChains e k n) = absurd (let z : ⊥ = omega arith in z)
 asked-room (uneven e k n) = absurd (let z : ⊥ = omega arith in z)
 asked-room (short e k f l) = absurd (let z : ⊥ = omega arith in z)
 
@@ -103,12 +106,13 @@ pub looped-to : {s : Sizes} {w w₁ : Words} {block lent answers : List ℕ} {i 
 looped-to {s} {w} {w₁} {block} {lent} {answers} l e = subst (λ (k : ℕ). Looped s w block lent w₁ answers k) e l
 
 -- the whole block
-pub looped-ran : {s : Sizes} {w w₁ : Words} {block lent answers : List ℕ} → RunAsked w block lent 0 → s ≡ sizesIn w
-    → Looped s w block lent w₁ answers (size block) → Ran w block lent 0 w₁ answers
-looped-ran {s} {w} {w₁} {block} {lent} {answers} a e l =
+pub looped-ran : {s : Sizes} {l l₁ : Slices} {block lent answers : List ℕ} → RunAsked l block lent 0 → s ≡ sizesIn (l .words)
+    → Looped s (l .words) block lent (l₁ .words) answers (size block) → l₁ .chains ≡ withChains s (l₁ .words .remember) (l .chains) → Ran l block lent 0 l₁ answers
+looped-ran {s} {l} {l₁} {block} {lent} {answers} a e k c =
     record {
       asked = a;
       refused = λ n. absurd (n refl);
-      obeyed = λ z. subst (λ (x : Sizes). Chain x w (listed (commandAt block) (size block)) (listed (answerAt answers) (size block)) w₁) e (l .chain);
-      spare = l .spare;
+      obeyed = λ z. subst (λ (x : Sizes). Chain x (l .words) (listed (commandAt block) (size block)) (listed (answerAt answers) (size block)) (l₁ .words)) e (k .chain);
+      chains = λ z. c ∙ ap (λ (x : Sizes). withChains x (l₁ .words .remember) (l .chains)) e;
+      spare = k .spare;
     }

@@ -1,15 +1,19 @@
 -- One command and a block, from what `commands`, `epoch` and `collect` promise.
 use Prim.Native.Nat.{ℕ, _+_, _*_, _≤_, _<_}
 use native.Mathlib.Omega.{arith}
-use mathlib.Core.Path.{_≡_, refl, sym, subst, subst₂, _∙_}
+use mathlib.Core.Path.{_≡_, refl, sym, ap, subst, subst₂, _∙_}
 use mathlib.Core.List.{List}
 use lib.ListN.{length}
 use Rattle.rules.specs.declared.Sizes.{Sizes}
 use Rattle.rules.specs.declared.Command.{Command}
 use Rattle.rules.specs.declared.Answer.{Answer}
-use Rattle.layout.specs.Places.{sizesAt}
+use Rattle.layout.specs.Places.{sizesAt, entriesUsed}
 use Rattle.layout.specs.Words.{Words, words}
-use Rattle.promises.specs.Whole.{WholeFor, WholeWords}
+use Rattle.chains.specs.Chains.{Chainable, ChainsWhole, withChains}
+use Rattle.chains.specs.LentChains.{whole-written, written-whole, written-again}
+use Rattle.promises.specs.Whole.{WholeFor}
+use Rattle.promises.specs.Slices.{Slices, slices, WholeSlices}
+use Rattle.promises.specs.WholeChains.{whole-chainable}
 use Rattle.promises.specs.Promises.{DidHere, commandAt, size, RunAsked, Ran}
 use Rattle.promises.specs.Here.{did-anywhere}
 use Rattle.commands.specs.declared.Decoded.{Decoded}
@@ -43,47 +47,70 @@ left-did {p} {v = v} {a = a} l did = subst₂ (λ (b : Words) (y : Command). Did
 pub did-same : {s : Sizes} {w w′ : Words} {x y : Command} {a : Answer} → DidHere s w x w′ a → x ≡ y → DidHere s w y w′ a
 did-same {s} {w} {w′} {a = a} d e = subst (λ (m : Command). DidHere s w m w′ a) e d
 
+-- a command leaves words whose entries can be chained
+pub did-chainable : {p : Sizes} {w w′ : Words} {x : Command} {a : Answer} → DidHere p w x w′ a → Chainable p (w′ .remember)
+did-chainable d = whole-chainable (d .next .stands .whole)
+
 -- the state of the loop, with what each turn asks
-pub record Turning (p : Sizes) (w : Words) (block lent : List ℕ) (c m t answers : List ℕ) (i : ℕ) : Type 0 where
+pub record Turning (p : Sizes) (l : Slices) (block lent : List ℕ) (c m t k answers : List ℕ) (i : ℕ) : Type 0 where
   pub room : 2 * size block ≤ length lent
   pub low : i ≤ size block
-  pub cells-long : length c ≡ length (w .cells)
-  pub remember-long : length m ≡ length (w .remember)
-  pub tables-long : length t ≡ length (w .tables)
-  pub looped : Looped p w block lent (words c m t) answers i
+  pub cells-long : length c ≡ length (l .words .cells)
+  pub remember-long : length m ≡ length (l .words .remember)
+  pub tables-long : length t ≡ length (l .words .tables)
+  pub chains-long : length k ≡ length (l .chains)
+  pub chains : k ≡ withChains p m (l .chains)
+  pub looped : Looped p (l .words) block lent (words c m t) answers i
 
-pub turn-ready : {p : Sizes} {w : Words} {block lent c m t answers : List ℕ} {i : ℕ} → Turning p w block lent c m t answers i → WholeFor p (words c m t)
-turn-ready k = k .looped .whole
+module _ {p : Sizes} {l : Slices} {block lent c m t k answers : List ℕ} {i : ℕ} (s : Turning p l block lent c m t k answers i) where
+  pub turn-ready : WholeFor p (words c m t)
+  turn-ready = s .looped .whole
 
-pub turn-start : {p : Sizes} {block lent c m t : List ℕ} → WholeFor p (words c m t) → 2 * size block ≤ length lent → Turning p (words c m t) block lent c m t lent 0
-turn-start {p} {block} {lent} {c} {m} {t} r room =
-    record { room = room; low = omega arith; cells-long = refl; remember-long = refl; tables-long = refl; looped = looped-start p (words c m t) block lent r }
+  entries-room : entriesUsed m ≤ p .entries
+  entries-room = turn-ready .remember .entries .room
 
-pub turn-end : {p : Sizes} {w : Words} {block lent c m t answers : List ℕ} {i : ℕ} → Turning p w block lent c m t answers i → size block ≤ i → Looped p w block lent (words c m t) answers (size block)
-turn-end k l = looped-to (k .looped) (omega (arith, k .low))
+  pub turn-chains : ChainsWhole p m k
+  turn-chains = subst (ChainsWhole p m) (sym (s .chains)) (written-whole p m (l .chains) entries-room)
 
--- the answer's two words lie in the answer slice
-pub turn-fits : {p : Sizes} {w : Words} {block lent c m t answers : List ℕ} {i : ℕ} → Turning p w block lent c m t answers i → i < size block → 2 * i + 1 < length answers
-turn-fits k l = omega (arith, k .room, k .looped .spare .long)
+  pub turn-end : size block ≤ i → Looped p (l .words) block lent (words c m t) answers (size block)
+  turn-end h = looped-to (s .looped) (omega (arith, s .low))
 
-pub turn-more : {p : Sizes} {w : Words} {block lent c m t answers : List ℕ} {i : ℕ} → Turning p w block lent c m t answers i → i < size block
-    → {c′ m′ t′ : List ℕ} {a : Answer} → DidHere p (words c m t) (commandAt block i) (words c′ m′ t′) a
-    → Turning p w block lent c′ m′ t′ (written answers i (a .number) (a .value)) (i + 1)
-turn-more {p} {w} {block} {lent} {c} {m} {t} {answers} {i} k l {c′} {m′} {t′} {a} d =
+  -- the answer's two words lie in the answer slice
+  pub turn-fits : i < size block → 2 * i + 1 < length answers
+  turn-fits h = omega (arith, s .room, s .looped .spare .long)
+
+  pub turn-more : i < size block → {c′ m′ t′ k′ : List ℕ} {a : Answer} → DidHere p (words c m t) (commandAt block i) (words c′ m′ t′) a → k′ ≡ withChains p m′ k
+      → length k′ ≡ length k → Turning p l block lent c′ m′ t′ k′ (written answers i (a .number) (a .value)) (i + 1)
+  turn-more h {c′} {m′} {t′} {k′} {a} d e long =
+      record {
+        room = s .room;
+        low = omega arith;
+        cells-long = d .beyond .cells .long ∙ s .cells-long;
+        remember-long = d .beyond .remember .long ∙ s .remember-long;
+        tables-long = d .beyond .tables .long ∙ s .tables-long;
+        chains-long = long ∙ s .chains-long;
+        chains = e ∙ ap (withChains p m′) (s .chains) ∙ written-again p m m′ (l .chains) entries-room;
+        looped = looped-more a (s .looped) h (s .room) (did-anywhere p (words c m t) (commandAt block i) (words c′ m′ t′) a d);
+      }
+
+pub turn-start : {p : Sizes} {block lent c m t k : List ℕ} → WholeFor p (words c m t) → ChainsWhole p m k → 2 * size block ≤ length lent → Turning p (slices c m t k) block lent c m t k lent 0
+turn-start {p} {block} {lent} {c} {m} {t} r w room =
     record {
-      room = k .room;
+      room = room;
       low = omega arith;
-      cells-long = d .beyond .cells .long ∙ k .cells-long;
-      remember-long = d .beyond .remember .long ∙ k .remember-long;
-      tables-long = d .beyond .tables .long ∙ k .tables-long;
-      looped = looped-more a (k .looped) l (k .room) (did-anywhere p (words c m t) (commandAt block i) (words c′ m′ t′) a d);
+      cells-long = refl;
+      remember-long = refl;
+      tables-long = refl;
+      chains-long = refl;
+      chains = sym (whole-written w);
+      looped = looped-start p (words c m t) block lent r;
     }
 
--- the tables that the check found whole, for the sizes that are read from them
-pub whole-ready : {c m t : List ℕ} {p : Sizes} → WholeWords (words c m t) → p ≡ sizesAt t → WholeFor p (words c m t)
-whole-ready {c} {m} {t} k e = subst (λ (q : Sizes). WholeFor q (words c m t)) (sym e) k
+-- the slices that the checks found whole, for the sizes that are read from them
+pub whole-ready : {c m t k : List ℕ} {p : Sizes} → WholeSlices (slices c m t k) → p ≡ sizesAt t → WholeFor p (words c m t) × ChainsWhole p m k
+whole-ready {c} {m} {t} {k} w e = subst (λ (q : Sizes). WholeFor q (words c m t) × ChainsWhole q m k) (sym e) (w .words, w .chains)
 
 -- the whole block
-pub looped-found : {c m t block lent answers : List ℕ} {p : Sizes} {w′ : Words} → RunAsked (words c m t) block lent 0 → p ≡ sizesAt t
-    → Looped p (words c m t) block lent w′ answers (size block) → Ran (words c m t) block lent 0 w′ answers
-looped-found a e l = looped-ran a e l
+pub looped-found : {c m t k block lent answers : List ℕ} {p : Sizes} {c′ m′ t′ k′ : List ℕ} {i : ℕ} → RunAsked (slices c m t k) block lent 0 → p ≡ sizesAt t
+    → Turning p (slices c m t k) block lent c′ m′ t′ k′ answers i → size block ≤ i → Ran (slices c m t k) block lent 0 (slices c′ m′ t′ k′) answers
+looped-found a e s h = looped-ran a e (turn-end s h) (s .chains)

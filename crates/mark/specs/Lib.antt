@@ -9,6 +9,7 @@ pub mod Draining
 -- the levels, outermost first, and the holders that call for the region of each
 pub mod Levels
 pub mod Holders
+pub mod Along
 pub mod Rounds
 -- by the rules: what is marked are the survivors, each with the region that it goes to
 pub mod Reached

@@ -1,10 +1,12 @@
-// The holders at the end of region r: all variables, and the remembered slots that point into r. Those that call for one region are
-// pushed in one pass over both.
+// The holders at the end of region r: all variables, and the remembered slots that point into r, which the chain of r leads to (02, W6).
+// Those that call for one region are pushed in one pass over both.
 ghost use mathlib.Core.Path.{_≡_};
 ghost use mathlib.Core.List.{List};
 ghost use Prim.Native.Nat.{ℕ, _<_, _≤_};
 ghost use lib.ListN.{length};
-ghost use Rattle.layout.specs.Places.{Room, entriesUsed, slotIn, cellsWords, rememberWords, varCount};
+ghost use Rattle.rules.specs.Regions.{regions};
+ghost use Rattle.layout.specs.Places.{Room, entriesUsed, slotIn, slotRegionIn, cellsWords, rememberWords, varCount};
+ghost use Rattle.chains.specs.Chains.{ChainsWhole};
 ghost use Rattle.mark.specs.Marks.{Shaped};
 ghost use Rattle.mark.specs.Pushes.{Pushing};
 ghost use Rattle.mark.specs.Holders.{varCalls, varHeld, slotHeld, Holding};
@@ -34,7 +36,7 @@ pub fn variable_for(p: Sizes, tables: &[u32], thread: usize, outer: u32, g: u32,
     layout::tables::var(p, tables, i)
 }
 
-// What the slot of entry i holds if it points into r and calls for g, else null.
+// What the slot of entry i, which points into r, holds if it calls for g, else null.
 pub fn slot_for(
     p: Sizes,
     cells: &[u32],
@@ -46,12 +48,9 @@ pub fn slot_for(
 ) -> u32
     requires { ⌜ Room p (length (now tables)) ⌝ }
     requires { ⌜ (cellsWords p ≤ length (now cells)) × (rememberWords p ≤ length (now remember)) ⌝ }
-    requires { ⌜ (i < p .entries) × (slotIn (now remember) i < cellsWords p) ⌝ }
+    requires { ⌜ (i < p .entries) × (slotIn (now remember) i < cellsWords p) × (slotRegionIn (p .entries) (now remember) i ≡ r) ⌝ }
     ensures { λ x. ⌜ x ≡ slotHeld p (now (cells .entry)) (now (remember .entry)) (now (tables .entry)) r g i ⌝ }
 {
-    if layout::remember::region(p.entries, remember, i) != r {
-        return 0;
-    }
     let at = layout::wide(layout::remember::slot(p.entries, remember, i));
     if joins::join(
         p,
@@ -91,27 +90,31 @@ pub fn push_variables(
     t
 }
 
-// Pushes what the remembered slots hold that point into r and call for g.
+// Pushes what the remembered slots hold that point into r and call for g, along the chain of r.
 pub fn push_slots(
     p: Sizes,
     cells: &mut [u32],
     remember: &[u32],
     tables: &mut [u32],
+    chains: &[u32],
     r: u32,
     g: u32,
     top: u32,
 ) -> u32
     requires { ⌜ Shaped p (now cells) (now tables) ⌝ }
     requires { ⌜ Holding p (now cells) (now remember) (now tables) ⌝ }
+    requires { ⌜ ChainsWhole p (now remember) (now chains) ⌝ }
+    requires { ⌜ (1 ≤ r) × (r ≤ regions p) ⌝ }
     ensures { λ t. ⌜ Pushing p r (slotHeld p (now (cells .entry)) (now (remember .entry)) (now (tables .entry)) r g) (now (cells .entry)) (now (tables .entry)) top (now (cells .exit)) (now (tables .exit)) t (entriesUsed (now (remember .entry))) ⌝ }
 {
-    let n = layout::wide(layout::remember::used(remember));
+    let last = layout::regions::last_region(p);
     let mut t = top;
-    let mut i: usize = 0;
-    while i < n {
-        let x = slot_for(p, cells, remember, tables, r, g, i);
-        t = push(p, cells, tables, r, x, t);
-        i += 1;
+    let mut x = layout::chains::first(chains, layout::wide(r));
+    while x != 0 {
+        let i = layout::wide(x) - 1;
+        let y = slot_for(p, cells, remember, tables, r, g, i);
+        t = push(p, cells, tables, r, y, t);
+        x = layout::chains::next(last, chains, i);
     }
     t
 }

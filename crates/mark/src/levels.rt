@@ -2,9 +2,10 @@
 ghost use mathlib.Core.Path.{_≡_};
 ghost use Prim.Native.Nat.{ℕ, _<_, _≤_};
 ghost use Rattle.lists.specs.Says.{Says};
-ghost use Rattle.rules.specs.Regions.{regionAt};
+ghost use Rattle.rules.specs.Regions.{regionAt, regions};
 ghost use Rattle.layout.specs.Cells.{pageOf};
 ghost use Rattle.layout.specs.Marks.{marked};
+ghost use Rattle.chains.specs.Chains.{ChainsWhole};
 ghost use Rattle.mark.specs.Marks.{Shaped, AnyMarked};
 ghost use Rattle.mark.specs.Levels.{Levels};
 ghost use Rattle.mark.specs.Holders.{Holding, heldRefs};
@@ -20,6 +21,7 @@ pub fn mark_levels(
     cells: &mut [u32],
     remember: &[u32],
     tables: &mut [u32],
+    chains: &[u32],
     r: u32,
     thread: usize,
     outer: u32,
@@ -27,8 +29,10 @@ pub fn mark_levels(
 ) -> bool
     requires { ⌜ Shaped p (now cells) (now tables) ⌝ }
     requires { ⌜ Holding p (now cells) (now remember) (now tables) ⌝ }
+    requires { ⌜ ChainsWhole p (now remember) (now chains) ⌝ }
     requires { ⌜ ((c : ℕ) → pageOf c < p .pages → marked p (now tables) c ≡ 0) ⌝ }
     requires { ⌜ (thread < p .threads) × (depth ≤ p .depth) ⌝ }
+    requires { ⌜ (1 ≤ r) × (r ≤ regions p) ⌝ }
     ensures { λ _. ⌜ Levels p r depth (regionAt p thread) (λ l. heldRefs p (now (cells .entry)) (now (remember .entry)) (now (tables .entry)) r thread outer (regionAt p thread l)) (now (cells .entry)) (now (tables .entry)) (now (cells .exit)) (now (tables .exit)) ⌝ }
     ensures { λ b. ⌜ Says b (AnyMarked p (now (tables .exit))) ⌝ }
 {
@@ -38,7 +42,7 @@ pub fn mark_levels(
         let level = depth - left;
         let g = layout::regions::region_at(p, thread, level);
         let held = push_variables(p, cells, tables, r, thread, outer, g, 0);
-        let top = push_slots(p, cells, remember, tables, r, g, held);
+        let top = push_slots(p, cells, remember, tables, chains, r, g, held);
         if drain(p, cells, tables, r, g, top) != 0 {
             found = true;
         }

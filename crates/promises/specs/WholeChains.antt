@@ -1,7 +1,7 @@
 -- The entries of whole tables can be chained: their regions are among those that there are.
 use Prim.Native.Nat.{ℕ, _-_, _≤_, _<_}
 use native.Mathlib.Omega.{arith}
-use mathlib.Core.Path.{_≡_, refl, sym, ap, _∙_}
+use mathlib.Core.Path.{_≡_, refl, sym, ap, subst, _∙_}
 use mathlib.Core.List.{List}
 use mathlib.Core.Bool.{Bool, true, false, cond}
 use lib.ListN.{getD}
@@ -9,15 +9,16 @@ use lib.Dec.{ltb, leb, eqb}
 use borrow.Author.Tests.{ltb-true}
 use Rattle.rules.specs.declared.Sizes.{Sizes}
 use Rattle.rules.specs.Regions.{regions}
-use Rattle.layout.specs.Places.{ownerOf, entriesUsed, slotIn}
+use Rattle.layout.specs.Places.{sizesAt, ownerOf, entriesUsed, slotIn}
 use Rattle.layout.specs.Cells.{pageOf, cellOf}
 use Rattle.layout.specs.Objects.{isSlot}
-use Rattle.layout.specs.Words.{Words}
+use Rattle.layout.specs.Words.{Words, words}
 use Rattle.remember.specs.Table.{region}
 use Rattle.remember.specs.TableWords.{to-long, to-at}
 use Rattle.remember.specs.Crossing.{other, regionOf, crossesAt, crossTo}
-use Rattle.chains.specs.Chains.{Chainable}
-use Rattle.promises.specs.Whole.{WholeFor}
+use Rattle.chains.specs.Chains.{Chainable, ChainsWhole}
+use Rattle.promises.specs.Whole.{WholeFor, WholeWords}
+use Rattle.promises.specs.Slices.{slices, WholeSlices}
 use Rattle.promises.specs.OwnedPages.{owner-low}
 
 cond-low : {x y n : ℕ} (b : Bool) → x ≤ n → y ≤ n → cond b x y ≤ n
@@ -55,3 +56,14 @@ whole-chainable {s} {w} k =
           let low = cross-low s (w .tables) (regions s) (owner-low s w k) (w .cells) (slotIn (w .remember) i) in
           (omega (arith, g, e .region), omega (arith, g, e .right, low));
     }
+
+-- with the sizes as read from the tables
+module _ {c m t : List ℕ} {p : Sizes} (k : WholeWords (words c m t)) (e : p ≡ sizesAt t) where
+  pub read-chainable : Chainable p m
+  read-chainable = subst (λ (q : Sizes). Chainable q m) (sym e) (whole-chainable k)
+
+  pub found-whole : {x : List ℕ} → ChainsWhole p m x → WholeSlices (slices c m t x)
+  found-whole {x} w = record { words = k; chains = subst (λ (q : Sizes). ChainsWhole q m x) e w }
+
+pub read-other : {p q : Sizes} {m x : List ℕ} → p ≡ q → (ChainsWhole p m x → ⊥) → ChainsWhole q m x → ⊥
+read-other {m = m} {x = x} e n w = n (subst (λ (s : Sizes). ChainsWhole s m x) (sym e) w)

@@ -11,7 +11,7 @@ use Rattle.ending.specs.Ending.{room-now, level-low, ended-here}
 use Rattle.mark.specs.MarkedWords.{unlisted}
 use Rattle.ending.specs.PagesEnough.{targets-low}
 use Rattle.ending.specs.Stages.{bounds, listed}
-use Rattle.epoch.specs.EndDid.{marked-ready, shaped-now, holding-now, paged-now, out-refused, out-noted, accepted}
+use Rattle.epoch.specs.EndDid.{marked-ready, shaped-now, holding-now, others-stay, paged-now, out-refused, out-noted, accepted}
 use Rattle.epoch.proofs.end_marked.Statement.{statement}
 use Rattle.epoch.proofs.end_marked.Tie as tie
 
@@ -20,9 +20,9 @@ slice-aggregate-list-pages c = search needs
 
 list-pages-requires : tie.Need-list-pages-requires
 list-pages-requires c κs =
-    let m = c .before .before .before .before .before .before .pre .0 .2 in
+    let m = c .before .before .before .before .before .before .before .pre .0 .2 in
     let z = bounds m in
-    (room-now m, (z, (paged-now m .pages (c .before .before .before .before .before .before .args .region) (z .0) (z .1), room-now m .few)))
+    (room-now m, (z, (paged-now m .pages (c .before .before .before .before .before .before .before .args .region) (z .0) (z .1), room-now m .few)))
 
 slice-aggregate-count-listed : tie.Need-slice-aggregate-count-listed
 slice-aggregate-count-listed c = search needs
@@ -32,26 +32,29 @@ slice-aggregate-count-listed-2 c = search needs
 
 count-listed-requires : tie.Need-count-listed-requires
 count-listed-requires c κs =
-    let m = c .before .before .before .before .before .before .before .before .before .before .before .before .pre .0 .2 in
+    let m = c .before .before .before .before .before .before .before .before .before .before .before .before .before .pre .0 .2 in
     let o = c .before .before .before .before .before .list-pages .ensures in
     (shaped-now m, (o .rises, (unlisted (m .marks) (listed m o), (m .marks .small, (marked-ready m .used, (λ x l on. omega (arith, targets-low m x l on, regions-few (room-now m)), λ g. replicate-at mostRegions g 0))))))
 
 slice-aggregate-ask-room : tie.Need-slice-aggregate-ask-room
 slice-aggregate-ask-room c = search needs
 
+slice-aggregate-ask-room-2 : tie.Need-slice-aggregate-ask-room-2
+slice-aggregate-ask-room-2 c = search needs
+
 ask-room-requires : tie.Need-ask-room-requires
 ask-room-requires c κs =
-    let m = c .before .before .before .before .before .before .before .before .before .before .before .before .before .before .before .before .before .before .pre .0 .2 in
-    let k = c .before .before .before .before .before .count-listed in
-    (shaped-now m, (holding-now m, (paged-now m, (k .ensures, (omega (arith, regions-few (room-now m), k .kept .1 .1 .1 .1 .1 .0), (m .thread, level-low m))))))
+    let m = c .before .before .before .before .before .before .before .before .before .before .before .before .before .before .before .before .before .before .before .before .pre .0 .2 in
+    let k = c .before .before .before .before .before .before .count-listed in
+    (shaped-now m, (holding-now m, (others-stay m, (c .before .before .before .before .before .before .before .before .before .before .before .before .before .before .before .before .before .before .before .before .pre .1 .1, (c .before .before .before .before .before .before .before .before .before .before .before .before .list-pages .ensures, (bounds m, (paged-now m, (k .ensures, (omega (arith, regions-few (room-now m), k .kept .1 .1 .1 .1 .1 .0), (m .thread, level-low m))))))))))
 
 slice-aggregate-unmark : tie.Need-slice-aggregate-unmark
 slice-aggregate-unmark c = search needs
 
 unmark-requires : tie.Need-unmark-requires
 unmark-requires c κs =
-    let m = c .before .before .before .before .before .before .before .before .before .before .before .before .before .before .before .before .before .before .before .before .before .before .before .pre .0 .2 in
-    let o = c .before .before .before .before .before .before .before .before .before .before .before .before .before .before .before .before .list-pages .ensures in
+    let m = c .before .before .before .before .before .before .before .before .before .before .before .before .before .before .before .before .before .before .before .before .before .before .before .before .before .pre .0 .2 in
+    let o = c .before .before .before .before .before .before .before .before .before .before .before .before .before .before .before .before .before .list-pages .ensures in
     (room-now m, (marked-ready m .cells-long, (m .marks .small, (o .rises, unlisted (m .marks) (listed m o)))))
 
 refused-requires : tie.Need-refused-requires
@@ -71,7 +74,7 @@ returns c = (
   λ cells tables m.
       did-answer (c .refused .ensures)
       (out-refused m (c .before .before .before .before .before .before .before .before .before .before .ask-room .result) (omega (arith, c .before .before .before .before .before .before .before .before .before .if1 .taken)) (c .before .before .before .before .before .before .before .before .before .before .ask-room .ensures) (c .before .before .before .before .before .unmark .ensures)),
-  out-noted (c .before .before .before .before .before .before .before .before .before .before .before .before .before .before .before .before .before .before .before .before .before .before .before .before .before .before .before .before .before .pre .0 .2) (c .before .before .before .before .before .unmark .ensures) (c .before .before .before .before .before .before .before .before .before .before .before .before .before .before .before .before .before .before .before .before .before .before .before .before .before .before .before .before .before .pre .1),
+  out-noted (c .before .before .before .before .before .before .before .before .before .before .before .before .before .before .before .before .before .before .before .before .before .before .before .before .before .before .before .before .before .before .before .pre .0 .2) (c .before .before .before .before .before .unmark .ensures) (c .before .before .before .before .before .before .before .before .before .before .before .before .before .before .before .before .before .before .before .before .before .before .before .before .before .before .before .before .before .before .before .pre .1 .0),
 )
 
 slice-aggregate-evacuate : tie.Need-slice-aggregate-evacuate
@@ -82,17 +85,17 @@ slice-aggregate-evacuate-2 c = search needs
 
 evacuate-requires : tie.Need-evacuate-requires
 evacuate-requires c κs =
-    let a = c .before .before .before .before .before .before .before .before .before .before .before .before .before .before .before .before .before .before .before .before .before .before .before .before .before .before .args in
-    let pre = c .before .before .before .before .before .before .before .before .before .before .before .before .before .before .before .before .before .before .before .before .before .before .before .before .before .before .pre in
+    let a = c .before .before .before .before .before .before .before .before .before .before .before .before .before .before .before .before .before .before .before .before .before .before .before .before .before .before .before .before .args in
+    let pre = c .before .before .before .before .before .before .before .before .before .before .before .before .before .before .before .before .before .before .before .before .before .before .before .before .before .before .before .before .pre in
     let m = pre .0 .2 in
-    let k = c .before .before .before .before .before .before .before .before .before .before .before .before .before .count-listed in
+    let k = c .before .before .before .before .before .before .before .before .before .before .before .before .before .before .count-listed in
     let yes = sym (let z : c .before .before .before .before .before .before .before .ask-room .result ≡ 0 = omega (arith, c .before .before .before .before .before .before .if1 .left) in z) ∙ c .before .before .before .before .before .before .before .ask-room .ensures in (
       (pre .0 .0, pre .0 .1, m, accepted m yes),
       (
-        c .before .before .before .before .before .before .before .before .before .before .before .before .before .before .before .before .before .before .before .list-pages .ensures,
+        c .before .before .before .before .before .before .before .before .before .before .before .before .before .before .before .before .before .before .before .before .list-pages .ensures,
         (
           (λ g low high z. sym (k .ensures .arrivals g ∙ over-cells (a .p) (a .tables .now) (goesTo (a .cells .now) g)) ∙ z),
-          (pre .1, omega (arith, regions-few (room-now m), k .kept .1 .1 .1 .1 .1 .0)),
+          (pre .1 .0, omega (arith, regions-few (room-now m), k .kept .1 .1 .1 .1 .1 .0)),
         ),
       ),
     )
@@ -130,6 +133,7 @@ end-marked-spec =
     slice-aggregate-count-listed-2
     count-listed-requires
     slice-aggregate-ask-room
+    slice-aggregate-ask-room-2
     ask-room-requires
     slice-aggregate-unmark
     unmark-requires

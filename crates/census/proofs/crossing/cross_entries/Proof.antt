@@ -1,80 +1,57 @@
--- n counts the first i entries.
-use Prim.Native.Nat.{_≤_, _-_}
-use mathlib.Core.Path.{_≡_, refl, ap, _∙_}
-use native.Mathlib.Omega.{arith}
+-- Those that cross, those of r's own slots and those into r that go are all entries.
 use borrow.Author.Needs.{needs}
-use Rattle.lists.specs.Counting.{sum, sum-more}
-use Rattle.layout.specs.Places.{slotIn, entriesUsed}
-use Rattle.census.specs.After.{slotCrosses, slot-le}
+use Prim.Native.Nat.{_+_}
+use mathlib.Core.Path.{_≡_, _∙_}
+use native.Mathlib.Omega.{arith}
+use Rattle.layout.specs.Places.{slotIn}
+use Rattle.layout.specs.Cells.{at-page}
+use Rattle.mark.specs.Holders.{slot-low}
+use Rattle.census.specs.After.{entriesCross}
+use Rattle.census.specs.OnPages.{own-listed}
+use Rattle.census.specs.Going.{entriesGo, all-entries, holding-table}
 use Rattle.census.proofs.crossing.cross_entries.Statement.{statement}
 use Rattle.census.proofs.crossing.cross_entries.Tie as tie
 
-abbrev Inv-loop : tie.InvT-loop
-Inv-loop p cells remember tables r entries n₀ i₀ n i =
-    (i ≤ entries) × (entries ≡ entriesUsed remember) × (entries ≤ 4096) × (n ≡ sum (λ i. slotCrosses p cells tables r (slotIn remember i)) i) × (n ≤ i)
+sums : (c : tie.After-own-entries) → entriesCross (c .before .before .before .before .before .before .before .before .args .p) (c .before .before .before .before .before .before .before .before .args .cells .now) (c .before .before .before .before .before .before .before .before .args .remember .now) (c .before .before .before .before .before .before .before .before .args .tables .now) (c .before .before .before .before .before .before .before .before .args .r) + (c .own-entries .result + entriesGo (c .before .before .before .before .before .before .before .before .args .p) (c .before .before .before .before .before .before .before .before .args .cells .now) (c .before .before .before .before .before .before .before .before .args .remember .now) (c .before .before .before .before .before .before .before .before .args .tables .now) (c .before .before .before .before .before .before .before .before .args .r)) ≡ c .before .wide .result
+sums c =
+    let a = c .before .before .before .before .before .before .before .before .args in
+    let pre = c .before .before .before .before .before .before .before .before .pre in
+    let own = own-listed (a .p) (a .remember .now) (a .tables .now) (a .r) (a .n) (a .list .now) (pre .1 .1 .1 .1 .0) (λ i l. at-page (a .p) (slotIn (a .remember .now) i) (slot-low (pre .1 .0) i l)) in
+    omega (arith, all-entries (pre .0) (pre .1 .0) (pre .1 .1 .0), c .own-entries .ensures ∙ own, c .before .wide .ensures ∙ c .before .before .used .ensures)
 
-abbrev μ-loop : tie.MeasureT-loop
-μ-loop p cells remember tables r entries n₀ i₀ n i =
-    entries - i
+used-requires : tie.Need-used-requires
+used-requires c κs = search needs
 
-used-requires : tie.Need-used-requires Inv-loop μ-loop
-used-requires c κs =
-    omega (arith, c .before .before .before .pre .1 .long)
+wide-requires : tie.Need-wide-requires
+wide-requires c κs = search needs
 
-wide-requires : tie.Need-wide-requires Inv-loop μ-loop
-wide-requires c κs =
-    search needs
-
-loop-holds : tie.Need-loop-holds Inv-loop μ-loop
-loop-holds c =
-    let pre = c .before .before .before .before .before .pre in
-    (omega arith, c .wide .ensures ∙ c .before .used .ensures, omega (arith, c .wide .ensures, c .before .used .ensures, pre .1 .remember .entries .room, pre .0 .room), refl, omega arith)
-
-cross-entry-requires : tie.Need-cross-entry-requires Inv-loop μ-loop
-cross-entry-requires c κs =
+own-entries-requires : tie.Need-own-entries-requires
+own-entries-requires c κs =
     let pre = c .before .before .before .before .before .before .before .pre in
-    (pre .0, (pre .1, omega arith))
+    (holding-table (pre .1 .0), ((pre .0 .room .entries-high, pre .0 .room .few), pre .1 .1 .1 .1 .0 .rises))
 
-add-n : tie.Need-add-n Inv-loop μ-loop
-add-n c =
-    let args = c .before .before .before .before .before .before .before .before .args in
-    let loop = c .before .before .loop in
-    omega (arith, c .cross-entry .ensures, slot-le (args .p) (args .cells .now) (args .tables .now) (args .r) (slotIn (args .remember .now) (loop .i)), loop .inv .4, loop .inv .2)
+sub-result : tie.Need-sub-result
+sub-result c = omega (arith, sums c)
 
-add-i : tie.Need-add-i Inv-loop μ-loop
-add-i c =
-    omega (arith, c .before .before .loop .inv .2)
+gone-entries-requires : tie.Need-gone-entries-requires
+gone-entries-requires c κs = search needs
 
-loop-less : tie.Need-loop-less Inv-loop μ-loop
-loop-less c =
-    omega arith
+sub-result-2 : tie.Need-sub-result-2
+sub-result-2 c = omega (arith, sums (c .before), c .gone-entries .ensures)
 
-loop-again : tie.Need-loop-again Inv-loop μ-loop
-loop-again c =
-    let args = c .before .before .before .before .before .before .before .before .args in
-    let loop = c .before .before .loop in
-    let m = sum-more (λ i. slotCrosses (args .p) (args .cells .now) (args .tables .now) (args .r) (slotIn (args .remember .now) i)) (loop .i) in
-    (omega arith, loop .inv .1, loop .inv .2, omega (arith, c .cross-entry .ensures, m, loop .inv .3), omega (arith, c .cross-entry .ensures, slot-le (args .p) (args .cells .now) (args .tables .now) (args .r) (slotIn (args .remember .now) (loop .i)), loop .inv .4))
-
-returns : tie.Need-returns Inv-loop μ-loop
+returns : tie.Need-returns
 returns c =
-    let args = c .before .before .before .before .before .before .before .args in
-    let loop = c .before .loop in
-    let e : loop .i ≡ entriesUsed (args .remember .now) = omega arith in
-    (loop .inv .3 ∙ ap (sum (λ i. slotCrosses (args .p) (args .cells .now) (args .tables .now) (args .r) (slotIn (args .remember .now) i))) e, omega (arith, loop .inv .4, loop .inv .2, loop .inv .0))
+    let e = sums (c .before) in
+    (omega (arith, e, c .gone-entries .ensures), omega (arith, c .before .before .wide .ensures ∙ c .before .before .before .used .ensures, c .before .before .before .before .before .before .before .before .before .pre .1 .0 .remember .entries .room, c .before .before .before .before .before .before .before .before .before .pre .0 .room .entries-high))
 
 pub cross-entries-spec : {M : Type 1} → statement M
 cross-entries-spec =
     tie.close
     (tie.spec
-    Inv-loop
-    μ-loop
     used-requires
     wide-requires
-    loop-holds
-    cross-entry-requires
-    add-n
-    add-i
-    loop-less
-    loop-again
+    own-entries-requires
+    sub-result
+    gone-entries-requires
+    sub-result-2
     returns)

@@ -1,90 +1,112 @@
--- What the slots of the first i entries hold for g is pushed.
-use mathlib.Core.Path.{_≡_, refl, _∙_, subst}
-use Prim.Native.Nat.{ℕ, _≤_, _<_, _-_}
+-- What the slots of the entries before a place hold for g is pushed, and x leads to the first entry of r from there on.
+use mathlib.Core.Path.{_≡_, refl, _∙_}
+use Prim.Native.Nat.{_<_}
 use native.Mathlib.Omega.{arith}
 use borrow.Author.Needs.{needs}
 use lib.ListN.{length}
-use Rattle.mark.specs.Pushes.{Pushing, Pushing.none, pushing-kept, pushing-shaped, ref-read, push-read}
-use Rattle.layout.specs.Places.{entriesUsed}
-use Rattle.mark.specs.Holders.{slotHeld, slot-low, slot-held-ref, kept-slot-held}
+use Rattle.chains.specs.Walking.{ahead, ahead-less, whole-long}
+use Rattle.mark.specs.Pushes.{pushing-kept, pushing-shaped, ref-read, push-read}
+use Rattle.mark.specs.Holders.{slot-low, slot-held-ref, kept-slot-held}
+use Rattle.mark.specs.Along.{Along, along-start, along-low, along-region, along-here, along-all, leads-on, along-next}
 use Rattle.mark.proofs.holders.push_slots.Statement.{statement}
 use Rattle.mark.proofs.holders.push_slots.Tie as tie
 
 abbrev Inv-loop : tie.InvT-loop
-Inv-loop p cells₀ remember tables₀ r g top n t₀ i₀ cells tables t i =
-    (i ≤ n) × (n ≡ entriesUsed remember) × (n ≤ p .entries) × (length cells ≡ length cells₀) × (length tables ≡ length tables₀)
-    × Pushing p r (slotHeld p cells₀ remember tables₀ r g) cells₀ tables₀ top cells tables t i
+Inv-loop p cells₀ remember tables₀ chains r g top last t₀ x₀ cells tables t x =
+    (length cells ≡ length cells₀) × (length tables ≡ length tables₀) × Along p r g remember cells₀ tables₀ top cells tables t x
 
 abbrev μ-loop : tie.MeasureT-loop
-μ-loop p cells₀ remember tables₀ r g top n t₀ i₀ cells tables t i =
-    n - i
+μ-loop p cells₀ remember tables₀ chains r g top last t₀ x₀ cells tables t x = ahead remember x
 
-used-requires : tie.Need-used-requires Inv-loop μ-loop
-used-requires c κs =
-    omega (arith, c .before .before .before .pre .1 .long)
+last-region-requires : tie.Need-last-region-requires Inv-loop μ-loop
+last-region-requires c κs =
+    let s = c .before .before .before .before .pre .0 in
+    (s .room .threads-high, s .room .depth-high)
 
 wide-requires : tie.Need-wide-requires Inv-loop μ-loop
-wide-requires c κs =
-    search needs
+wide-requires c κs = search needs
+
+first-requires : tie.Need-first-requires Inv-loop μ-loop
+first-requires c κs =
+    let pre = c .before .before .before .before .before .before .pre in
+    omega (arith, c .wide .ensures, pre .1 .1 .1, whole-long (pre .1 .0 .remember .entries .room) (pre .1 .1 .0))
 
 loop-holds : tie.Need-loop-holds Inv-loop μ-loop
 loop-holds c =
-    (omega arith, c .wide .ensures ∙ c .before .used .ensures, omega (arith, c .before .before .before .before .before .pre .1 .remember .entries .room), refl, refl, none)
+    let pre = c .before .before .before .before .before .before .before .pre in
+    (refl, refl, along-start (pre .1 .0 .remember .entries .room) (pre .1 .1 .0) (pre .1 .1 .1 .0) (pre .1 .1 .1 .1) (c .before .wide .ensures) (c .first .ensures))
+
+wide-requires-2 : tie.Need-wide-requires-2 Inv-loop μ-loop
+wide-requires-2 c κs = search needs
+
+sub-i : tie.Need-sub-i Inv-loop μ-loop
+sub-i c = omega (arith, c .wide2 .ensures, c .before .loop-test .taken)
 
 slot-for-requires : tie.Need-slot-for-requires Inv-loop μ-loop
 slot-for-requires c κs =
-    let pre = c .before .before .before .before .before .before .before .before .before .pre in
-    let loop = c .before .before .before .loop in
-    let lt : loop .i < entriesUsed (c .before .before .before .before .before .before .before .before .before .args .remember .now) = omega arith in
-    let s = pushing-shaped (pre .0) (loop .inv .5) in
-    (s .room, ((s .cells-long, pre .1 .long), (omega arith, slot-low (pre .1) (loop .i) lt)))
+    let pre = c .before .before .before .before .before .before .before .before .before .before .before .before .pre in
+    let loop = c .before .before .before .before .loop in
+    let a = loop .inv .2 in
+    let pos : 0 < loop .x = omega (arith, c .before .before .before .loop-test .taken) in
+    let e = c .before .before .wide2 .ensures in
+    let lt = along-low a pos e in
+    let s = pushing-shaped (pre .0) (a .pushed) in
+    (s .room, ((s .cells-long, pre .1 .0 .long), (omega (arith, lt, pre .1 .0 .remember .entries .room), slot-low (pre .1 .0) _ lt, along-region a pos e)))
 
 push-requires : tie.Need-push-requires Inv-loop μ-loop
 push-requires c κs =
-    let args = c .before .before .before .before .before .before .before .before .before .before .before .before .args in
-    let pre = c .before .before .before .before .before .before .before .before .before .before .before .before .pre in
-    let loop = c .before .before .before .before .before .before .loop in
-    let lt : loop .i < entriesUsed (args .remember .now) = omega arith in
-    let h = loop .inv .5 in
+    let pre = c .before .before .before .before .before .before .before .before .before .before .before .before .before .before .before .pre in
+    let loop = c .before .before .before .before .before .before .before .loop in
+    let a = loop .inv .2 in
+    let pos : 0 < loop .x = omega (arith, c .before .before .before .before .before .before .loop-test .taken) in
+    let e = c .before .before .before .before .before .wide2 .ensures in
+    let lt = along-low a pos e in
+    let h = along-here a pos e in
     let k = pushing-kept (pre .0) h in (
       pushing-shaped (pre .0) h,
-      ref-read (pre .0) h (slot-held-ref (pre .0) (pre .1) _ _ (loop .i) lt) (c .before .before .slot-for .result) (c .before .before .slot-for .ensures ∙ kept-slot-held k (pre .0 .room) (pre .1) _ _ _ lt),
+      ref-read (pre .0) h (slot-held-ref (pre .0) (pre .1 .0) _ _ _ lt) (c .before .before .slot-for .result) (c .before .before .slot-for .ensures ∙ kept-slot-held k (pre .0 .room) (pre .1 .0) _ _ _ lt),
     )
 
-add-i : tie.Need-add-i Inv-loop μ-loop
-add-i c =
-    omega (arith, c .before .before .before .before .before .before .before .before .before .before .before .before .before .before .before .before .before .pre .0 .room)
+next-requires : tie.Need-next-requires Inv-loop μ-loop
+next-requires c κs =
+    let pre = c .before .before .before .before .before .before .before .before .before .before .before .before .before .before .before .before .before .before .before .before .pre in
+    let loop = c .before .before .before .before .before .before .before .before .before .before .before .before .loop in
+    let a = loop .inv .2 in
+    let pos : 0 < loop .x = omega (arith, c .before .before .before .before .before .before .before .before .before .before .before .loop-test .taken) in
+    let room = pre .1 .0 .remember .entries .room in
+    omega (arith, along-low a pos (c .before .before .before .before .before .before .before .before .before .before .wide2 .ensures), room, c .before .before .before .before .before .before .before .before .before .before .before .before .before .before .before .last-region .ensures, whole-long room (pre .1 .1 .0))
 
 loop-less : tie.Need-loop-less Inv-loop μ-loop
 loop-less c =
-    omega arith
+    let pre = c .before .before .before .before .before .before .before .before .before .before .before .before .before .before .before .before .before .before .before .before .before .pre in
+    let loop = c .before .before .before .before .before .before .before .before .before .before .before .before .before .loop in
+    let a = loop .inv .2 in
+    let pos : 0 < loop .x = omega (arith, c .before .before .before .before .before .before .before .before .before .before .before .before .loop-test .taken) in
+    let n = leads-on (pre .1 .0 .remember .entries .room) (pre .1 .1 .0) a pos (c .before .before .before .before .before .before .before .before .before .before .before .wide2 .ensures) (c .before .before .before .before .before .before .before .before .before .before .before .before .before .before .before .before .last-region .ensures) (c .next .ensures) in
+    ahead-less _ _ _ pos (a .leads .low) (n .later)
 
 loop-again : tie.Need-loop-again Inv-loop μ-loop
 loop-again c =
-    let args = c .before .before .before .before .before .before .before .before .before .before .before .before .before .before .before .before .before .args in
-    let pre = c .before .before .before .before .before .before .before .before .before .before .before .before .before .before .before .before .before .pre in
-    let loop = c .before .before .before .before .before .before .before .before .before .before .before .loop in
-    let slot-for = c .before .before .before .before .before .before .before .slot-for in
-    let lt : loop .i < entriesUsed (args .remember .now) = omega arith in
-    let k = pushing-kept (pre .0) (loop .inv .5) in
-    let h = push-read (pre .0) (loop .inv .5) (slot-held-ref (pre .0) (pre .1) _ _ (loop .i) lt) (slot-for .result) (slot-for .ensures ∙ kept-slot-held k (pre .0 .room) (pre .1) _ _ _ lt) (c .before .before .before .before .push .ensures) in
+    let pre = c .before .before .before .before .before .before .before .before .before .before .before .before .before .before .before .before .before .before .before .before .before .pre in
+    let slot-for = c .before .before .before .before .before .before .before .before .slot-for in
+    let loop = c .before .before .before .before .before .before .before .before .before .before .before .before .before .loop in
+    let a = loop .inv .2 in
+    let pos : 0 < loop .x = omega (arith, c .before .before .before .before .before .before .before .before .before .before .before .before .loop-test .taken) in
+    let e = c .before .before .before .before .before .before .before .before .before .before .before .wide2 .ensures in
+    let lt = along-low a pos e in
+    let k = pushing-kept (pre .0) (along-here a pos e) in
+    let h = push-read (pre .0) (along-here a pos e) (slot-held-ref (pre .0) (pre .1 .0) _ _ _ lt) (slot-for .result) (slot-for .ensures ∙ kept-slot-held k (pre .0 .room) (pre .1 .0) _ _ _ lt) (c .before .before .before .before .before .push .ensures) in
     let k′ = pushing-kept (pre .0) h in
-    (omega arith, loop .inv .1, loop .inv .2, k′ .cells-length, k′ .tables-length, h)
+    (k′ .cells-length, k′ .tables-length, along-next (pre .1 .0 .remember .entries .room) (pre .1 .1 .0) a pos e (c .before .before .before .before .before .before .before .before .before .before .before .before .before .before .before .before .last-region .ensures) (c .next .ensures) h)
 
 same-length : tie.Need-same-length Inv-loop μ-loop
-same-length c =
-    c .before .loop .inv .3
+same-length c = c .before .loop .inv .0
 
 same-length-2 : tie.Need-same-length-2 Inv-loop μ-loop
-same-length-2 c =
-    c .before .loop .inv .4
+same-length-2 c = c .before .loop .inv .1
 
 returns : tie.Need-returns Inv-loop μ-loop
-returns c =
-    let args = c .before .before .before .before .before .before .before .args in
-    let loop = c .before .loop in
-    let e : loop .i ≡ entriesUsed (args .remember .now) = omega arith in
-    subst (λ (f : ℕ). Pushing (args .p) (args .r) (slotHeld (args .p) (args .cells .now) (args .remember .now) (args .tables .now) (args .r) (args .g)) (args .cells .now) (args .tables .now) (args .top) (loop .cells) (loop .tables) (loop .t) f) e (loop .inv .5)
+returns c = along-all (c .before .loop .inv .2) (omega (arith, c .loop-test .left))
 
 pub push-slots-spec : {M : Type 1} → statement M
 push-slots-spec =
@@ -92,12 +114,15 @@ push-slots-spec =
     (tie.spec
     Inv-loop
     μ-loop
-    used-requires
+    last-region-requires
     wide-requires
+    first-requires
     loop-holds
+    wide-requires-2
+    sub-i
     slot-for-requires
     push-requires
-    add-i
+    next-requires
     loop-less
     loop-again
     same-length

@@ -1,0 +1,2 @@
+-- What prepare cites.
+pub mod Prepare
