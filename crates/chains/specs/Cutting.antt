@@ -1,7 +1,7 @@
 -- The last entries go, and all of them were of one region, which had no other: its first word and the next words of those entries become 0.
 use Prim.Native.Nat.{ℕ, zero, suc, _+_, _-_, _≤_, _<_}
 use mathlib.Core.List.{List, _++_}
-use mathlib.Core.Path.{_≡_, sym, ap, ap₂, _∙_, subst}
+use mathlib.Core.Path.{_≡_, sym, ap, ap₂, _∙_, subst₂}
 use native.Mathlib.Omega.{arith}
 use native.Mathlib.Decide.{decLt, ℕ-discrete}
 use lib.ListN.{length, getD, set, drop, length-set, length-drop, take-append-drop}
@@ -116,10 +116,10 @@ module _ {g N k : ℕ} {m m′ : List ℕ} (c : CutsTo g N k m m′) where
         ∙ ap₂ _++_ (agreed R N es′ f′ (omega (arith, long′, c .low)) (omega (arith, cut-long)) cut-firsts cut-nexts) cut-rest
 
 -- the words of the lent slice: region g's first word becomes 0, and so do the next words of the entries that go
-pub cut-chains : {s : Sizes} {g k u : ℕ} {m m′ f f₁ f′ : List ℕ} → entriesUsed m ≤ s .entries → ChainsWhole s m f → CutsTo g (s .entries) k m m′ → 1 ≤ g → g ≤ regions s
-    → u ≡ entriesUsed m → f₁ ≡ set f (firstAt g) 0 → Cleared (regions s + k) (regions s + u) f₁ f′ → f′ ≡ withChains s m′ f
-cut-chains {s} {g} {k} {u} {m} {m′} {f} {f₁} {f′} room w c low high q e z =
+pub cut-chains : {s : Sizes} {g k : ℕ} {m m′ f f₁ f′ : List ℕ} → entriesUsed m ≤ s .entries → ChainsWhole s m f → CutsTo g (s .entries) k m m′ → 1 ≤ g → g ≤ regions s
+    → (h : ℕ) {a b x : ℕ} → f₁ ≡ set f (firstAt h) x → Cleared a b f₁ f′ → h ≡ g → x ≡ 0 → a ≡ regions s + k → b ≡ regions s + entriesUsed m → f′ ≡ withChains s m′ f
+cut-chains {s} {g} {k} {m} {m′} {f} {f₁} {f′} room w c low high h e z eh ex ea eb =
     let few : length (entriesIn (s .entries) m) ≤ s .entries = omega (arith, to-long (s .entries) m (entriesUsed m)) in
     cut-words c (regions s) f room (whole-long room w) (agreed-first (regions s) (s .entries) (entriesIn (s .entries) m) f few (whole-long room w) (w .words))
-    (agreed-next (regions s) (s .entries) (entriesIn (s .entries) m) f few (whole-long room w) (w .words)) low high e
-    (subst (λ (y : ℕ). Cleared (regions s + k) (regions s + y) f₁ f′) q z)
+    (agreed-next (regions s) (s .entries) (entriesIn (s .entries) m) f few (whole-long room w) (w .words)) low high (e ∙ ap₂ (λ (i y : ℕ). set f (firstAt i) y) eh ex)
+    (subst₂ (λ (x y : ℕ). Cleared x y f₁ f′) ea eb z)

@@ -1,6 +1,6 @@
 -- The chains after an end: the new table can be chained, and where nothing came and no own slot went it is the old one with its last entries gone,
 -- all of which pointed into the region.
-use mathlib.Core.Path.{_≡_, ap, _∙_, subst}
+use mathlib.Core.Path.{_≡_, refl, ap, _∙_, subst}
 use mathlib.Core.Logic.{_≢_, inl, inr}
 use mathlib.Core.List.{List}
 use Prim.Native.Nat.{ℕ, zero, suc, _+_, _-_, _≤_, _<_}
@@ -26,7 +26,7 @@ use Rattle.settle.specs.Touched.{NotOwn, Chained, not-own, others, untou
 -- ---- what the renewing asks
 
 -- of the chains K of a table M with u entries, which became M′. k entries were not touched, and o is the place of the first that was of an own slot.
-pub record Renews (p : Sizes) (r k o u : ℕ) (M M′ K : List ℕ) : Type 0 where
+pub record ChainsRenewed (p : Sizes) (r k o u : ℕ) (M M′ K : List ℕ) : Type 0 where
   pub whole : ChainsWhole p M K
   pub room : entriesUsed M ≤ p .entries
   pub counted : u ≡ entriesUsed M
@@ -39,13 +39,13 @@ pub record Renews (p : Sizes) (r k o u : ℕ) (M M′ K : List ℕ) : Type 0 whe
 -- ---- as many entries as stay: each keeps its place
 
 -- entry i of M stands at place e of M′, which has k
-record At (N k : ℕ) (M M′ : List ℕ) (i e : ℕ) : Type 0 where
+record StandsAt (N k : ℕ) (M M′ : List ℕ) (i e : ℕ) : Type 0 where
   low : e < k
   slot : slotIn M′ e ≡ slotIn M i
   region : slotRegionIn N M′ e ≡ slotRegionIn N M i
 
-module _ {N k u : ℕ} {M M′ : List ℕ} (rise : Rising M u) (rise′ : Rising M′ k) (few : k ≤ u) (all : (i : ℕ) → i < k → (e : ℕ) × At N k M M′ i e) where
-  later : (i j a b : ℕ) → i < j → j < u → At N k M M′ i a → At N k M M′ j b → a < b
+module _ {N k u : ℕ} {M M′ : List ℕ} (rise : Rising M u) (rise′ : Rising M′ k) (few : k ≤ u) (all : (i : ℕ) → i < k → (e : ℕ) × StandsAt N k M M′ i e) where
+  later : (i j a b : ℕ) → i < j → j < u → StandsAt N k M M′ i a → StandsAt N k M M′ j b → a < b
   later i j a b l h x y = go (decLt a b) (ℕ-discrete a b)
     where
       go : Dec (a < b) → Dec (a ≡ b) → a < b
@@ -53,12 +53,12 @@ module _ {N k u : ℕ} {M M′ : List ℕ} (rise : Rising M u) (rise′ : Rising
       go (no z) (yes s) = absurd (let w : ⊥ = omega (arith, rise i j l h, x .slot, y .slot, ap (slotIn M′) s) in w)
       go (no z) (no s) = absurd (let w : ⊥ = omega (arith, rise i j l h, x .slot, y .slot, rise′ b a (omega arith) (x .low)) in w)
 
-  not-before : (i e : ℕ) → i < u → i ≤ k → At N k M M′ i e → i ≤ e
+  not-before : (i e : ℕ) → i < u → i ≤ k → StandsAt N k M M′ i e → i ≤ e
   not-before zero e l h x = omega arith
   not-before (suc i) e l h x = let y = all i (omega arith) in omega (arith, later i (suc i) (y .0) e (omega arith) l (y .1) x, not-before i (y .0) (omega arith) (omega arith) (y .1))
 
   -- of the last n
-  not-after : (n i e : ℕ) → i + suc n ≡ k → At N k M M′ i e → e ≤ i
+  not-after : (n i e : ℕ) → i + suc n ≡ k → StandsAt N k M M′ i e → e ≤ i
   not-after zero i e q x = omega (arith, x .low)
   not-after (suc n) i e q x =
       let y = all (suc i) (omega arith) in
@@ -71,12 +71,12 @@ module _ {N k u : ℕ} {M M′ : List ℕ} (rise : Rising M u) (rise′ : Rising
       ap (slotRegionIn N M′) e ∙ y .1 .region
 
   -- and no entry after them is there
-  no-more : (i e : ℕ) → k ≤ i → i < u → At N k M M′ i e → ⊥
-  no-more i e l h x = go k (ℕ-discrete k 0)
+  no-more : (i e : ℕ) → k ≤ i → i < u → StandsAt N k M M′ i e → ⊥
+  no-more i e l h x = go (ℕ-discrete k 0)
     where
-      go : (q : ℕ) → Dec (k ≡ 0) → ⊥
-      go q (yes z) = omega (arith, x .low)
-      go q (no z) =
+      go : Dec (k ≡ 0) → ⊥
+      go (yes z) = omega (arith, x .low)
+      go (no z) =
           let y = all (k - 1) (omega arith) in
           omega (arith, x .low, later (k - 1) i (y .0) e (omega arith) h (y .1) x, not-before (k - 1) (y .0) (omega arith) (omega arith) (y .1))
 
@@ -93,10 +93,15 @@ module _ {p : Sizes} {r : ℕ} {W M T M′ K : List ℕ} (c : Chained p r M T K)
   bounded : (x h : ℕ) → NewEntry p r (p .entries) (entriesUsed M) W M T x h → (1 ≤ h) × (h ≤ regions p)
   bounded x h (inl q) =
       let v = c .chainable .among (q .entry) (omega (arith, to-long (p .entries) M (entriesUsed M), q .low)) in
-      let g = ap region (to-at (p .entries) M (entriesUsed M) (q .entry) (q .low)) in
-      (above-none (q .kept),
-      omega (arith, q .region, new-bound p r W T (slotIn M (q .entry)) (slotRegionIn (p .entries) M (q .entry)) (regions p) (omega (arith, v .1, g))
-      (other-low p T (regions p) (c .owners) (ownerOf p T (pageAt (slotIn M (q .entry)))) (getD W (slotIn M (q .entry)) 0))))
+      let g = ap region (to-at (p .entries) M (entriesUsed M) (q .entry) (q .low)) in (
+        above-none (q .kept),
+        omega (
+          arith,
+          q .region,
+          new-bound p r W T (slotIn M (q .entry)) (slotRegionIn (p .entries) M (q .entry)) (regions p) (omega (arith, v .1, g))
+              (other-low p T (regions p) (c .owners) (ownerOf p T (pageAt (slotIn M (q .entry)))) (getD W (slotIn M (q .entry)) 0)),
+        ),
+      )
   bounded x h (inr q) = (above-none (q .kept), omega (arith, q .region, other-low p T (regions p) (c .owners) (ownerOf p T (pageAt x)) (getD W x 0)))
 
   pub chainable-after : Chainable p M′
@@ -117,18 +122,18 @@ module _ {p : Sizes} {r : ℕ} {W M T M′ K : List ℕ} (c : Chained p r M T K)
   -- the first k entries are not touched, and no slot is own; as many entries are left
   module _ {k : ℕ} (rise : Rising M (entriesUsed M)) (few : k ≤ entriesUsed M) (others : (i : ℕ) → i < k → slotRegionIn (p .entries) M i ≢ r)
       (own : (i : ℕ) → i < entriesUsed M → ownerOf p T (pageAt (slotIn M i)) ≢ r) (left : entriesUsed M′ ≡ k) where
-    stands : (i : ℕ) → i < entriesUsed M → slotRegionIn (p .entries) M i ≢ r → (e : ℕ) × At (p .entries) k M M′ i e
+    stands : (i : ℕ) → i < entriesUsed M → slotRegionIn (p .entries) M i ≢ r → (e : ℕ) × StandsAt (p .entries) k M M′ i e
     stands i l d =
         let g = ap region (to-at (p .entries) M (entriesUsed M) i l) in
         let v = c .chainable .among i (omega (arith, to-long (p .entries) M (entriesUsed M))) in
         let y = up .every (slotIn M i) (slotRegionIn (p .entries) M i)
-            (inl (record { entry = i; low = l; slot = ap (slotIn M) (let z : i ≡ i = omega arith in z); region = new-stays p r W T (slotIn M i) (slotRegionIn (p .entries) M i) (own i l) d; kept = λ z. omega (arith, v .0, g) })) in
+        (inl (record { entry = i; low = l; slot = refl; region = new-stays p r W T (slotIn M i) (slotRegionIn (p .entries) M i) (own i l) d; kept = λ z. omega (arith, v .0, g) })) in
         (y .entry, record { low = omega (arith, y .low); slot = y .slot; region = y .region })
 
     rise′ : Rising M′ k
     rise′ = subst (Rising M′) left (up .entries .rising)
 
-    all : (i : ℕ) → i < k → (e : ℕ) × At (p .entries) k M M′ i e
+    all : (i : ℕ) → i < k → (e : ℕ) × StandsAt (p .entries) k M M′ i e
     all i l = stands i (omega arith) (others i l)
 
     pub cuts : CutsTo r (p .entries) k M M′
@@ -154,8 +159,8 @@ module _ {p : Sizes} {r n k o : ℕ} {l W₀ M T K : List ℕ} (s : Settles p r 
   pub passed : (W : List ℕ) → Unchanged (newRegion p r W T) (p .entries) k M
   passed = untouched c h (λ i v. on-pages i (omega arith)) (omega arith) (λ i v. own i (omega arith)) before
 
-  pub renews : {u : ℕ} {W M′ : List ℕ} → u ≡ entriesUsed M → Updated p r (p .entries) (entriesUsed M) W M T M′ → Renews p r k o u M M′ K
-  renews e up =
+  pub renew-ask : {u : ℕ} {W M′ : List ℕ} → u ≡ entriesUsed M → Updated p r (p .entries) (entriesUsed M) W M T M′ → ChainsRenewed p r k o u M M′ K
+  renew-ask e up =
       record {
         whole = c .whole;
         room = c .chainable .room;

@@ -1,6 +1,6 @@
 -- Which entries an end touches: those of slots on the ending region's pages, and those into the region. The pages are listed in rising number and
 -- the slots rise, so the first listed page with an entry has the first of the own ones.
-use mathlib.Core.Path.{_≡_, sym, ap, _∙_}
+use mathlib.Core.Path.{_≡_, refl, sym, ap, _∙_}
 use mathlib.Core.Logic.{_≢_}
 use mathlib.Core.List.{List}
 use Prim.Native.Nat.{ℕ, _+_, _-_, _*_, _≤_, _<_}
@@ -43,20 +43,20 @@ module _ {P n a x i : ℕ} {l M : List ℕ} (r : Rises P n l) (lt : a < n) (e : 
   pub own-none : (rising : (j k : ℕ) → j < k → k < entriesUsed M → slotIn M j < slotIn M k) → i < entriesUsed M → pageAt (slotIn M i) ≢ x → PagesPassed l (a + 1) M
   own-none rising low d c v j u = go (ℕ-discrete c a) (decLt j i) (ℕ-discrete j i)
     where
-      at : i ≤ i → cellWords * firstOn x ≤ slotIn M i
-      at z = b .above i z low
+      at : cellWords * firstOn x ≤ slotIn M i
+      at = b .above i (omega arith) low
 
       go : Dec (c ≡ a) → Dec (j < i) → Dec (j ≡ i) → pageAt (slotIn M j) ≢ getD l c 0
       go (no z) s t q = h c (omega arith) j u q
       go (yes z) (yes s) t q = omega (arith, b .below j s, ap (λ (k : ℕ). getD l k 0) z)
       go (yes z) (no s) (yes t) q = d (sym (ap (λ (k : ℕ). pageAt (slotIn M k)) t) ∙ q ∙ ap (λ (k : ℕ). getD l k 0) z ∙ sym e)
-      go (yes z) (no s) (no t) q = omega (arith, rising i j (omega arith) u, at (omega arith), d′, ap (λ (k : ℕ). getD l k 0) z)
+      go (yes z) (no s) (no t) q = omega (arith, rising i j (omega arith) u, at, d′, ap (λ (k : ℕ). getD l k 0) z)
         where
           d′ : cellWords * firstOn (x + 1) ≤ slotIn M i
           d′ = past (decLt (slotIn M i) (cellWords * firstOn (x + 1)))
             where
               past : Dec (slotIn M i < cellWords * firstOn (x + 1)) → cellWords * firstOn (x + 1) ≤ slotIn M i
-              past (yes w) = absurd (d (let f : pageAt (slotIn M i) ≡ x = omega (arith, at (omega arith)) in f))
+              past (yes w) = absurd (d (let f : pageAt (slotIn M i) ≡ x = omega (arith, at) in f))
               past (no w) = omega arith
 
 -- ---- what an end asks of the chains
@@ -79,7 +79,7 @@ module _ {p : Sizes} {r n k : ℕ} {l M T K : List ℕ} (c : Chained p r M T K) 
     others i u q = go (decLt 0 (firstIn K r))
       where
         lead : Leads r (p .entries) M 0 (firstIn K r)
-        lead = first-leads (c .chainable .room) (c .whole) r (c .low) (c .high) (ap (firstIn K) (let z : r ≡ r = omega arith in z))
+        lead = first-leads (c .chainable .room) (c .whole) r (c .low) (c .high) refl
 
         go : Dec (0 < firstIn K r) → ⊥
         go (yes z) = lead .between z i (omega arith) (omega (arith, before z)) q
@@ -87,6 +87,7 @@ module _ {p : Sizes} {r n k : ℕ} {l M T K : List ℕ} (c : Chained p r M T K) 
 
     pub untouched : (W : List ℕ) → Unchanged (newRegion p r W T) (p .entries) k M
     untouched W i u =
-        let v : i < entriesUsed M = omega arith in
-        (sym (new-stays p r W T (slotIn M i) (slotRegionIn (p .entries) M i) (not-own i u) (others i u)),
-        omega (arith, ap region (to-at (p .entries) M (entriesUsed M) i v), c .chainable .among i (omega (arith, to-long (p .entries) M (entriesUsed M))) .0))
+        let v : i < entriesUsed M = omega arith in (
+          sym (new-stays p r W T (slotIn M i) (slotRegionIn (p .entries) M i) (not-own i u) (others i u)),
+          omega (arith, ap region (to-at (p .entries) M (entriesUsed M) i v), c .chainable .among i (omega (arith, to-long (p .entries) M (entriesUsed M))) .0),
+        )

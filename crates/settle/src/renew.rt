@@ -3,7 +3,7 @@ ghost use mathlib.Core.Path.{_≡_};
 ghost use mathlib.Core.List.{List};
 ghost use Prim.Native.Nat.{ℕ};
 ghost use Rattle.chains.specs.Chains.{withChains};
-ghost use Rattle.settle.specs.Renew.{Renews};
+ghost use Rattle.settle.specs.Renew.{ChainsRenewed};
 use rules::Sizes;
 
 // The chains of the table as it is now. Where no entry was of an own slot (`own` is `used`, how many there were) and `from` are left, those from
@@ -17,7 +17,7 @@ pub fn renew_chains(
     own: usize,
     used: usize,
 )
-    requires { ⌜ ((m : List ℕ) × Renews p region from own used m (now remember) (now chains)) ⌝ }
+    requires { ⌜ ((m : List ℕ) × ChainsRenewed p region from own used m (now remember) (now chains)) ⌝ }
     ensures { λ _. ⌜ now (chains .exit) ≡ withChains p (now (remember .entry)) (now (chains .entry)) ⌝ }
 {
     if own == used {

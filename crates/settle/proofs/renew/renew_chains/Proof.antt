@@ -2,11 +2,6 @@
 use native.Mathlib.Omega.{arith}
 use native.Mathlib.Nat.{mul-le-mul}
 use borrow.Author.Needs.{needs}
-use Prim.Native.Nat.{ℕ, _+_}
-use mathlib.Core.Path.{sym, ap, _∙_, subst}
-use lib.ListN.{length, set, length-set}
-use Rattle.lists.specs.Zeros.{Cleared}
-use Rattle.layout.specs.Places.{firstAt}
 use Rattle.chains.specs.Walking.{whole-long}
 use Rattle.chains.specs.Cutting.{cut-chains}
 use Rattle.settle.proofs.renew.renew_chains.Statement.{statement}
@@ -34,18 +29,18 @@ add-clear-2 : tie.Need-add-clear-2
 add-clear-2 c = omega (arith, c .before .before .before .before .before .before .last-region .ensures, mul-le-mul (c .before .before .before .before .before .before .before .before .before .before .before .before .before .pre .1 .after .threads) (c .before .before .before .before .before .before .before .before .before .before .before .before .before .pre .1 .after .depth), c .before .before .before .before .before .before .before .before .before .before .before .before .before .pre .1 .few, c .before .before .before .before .before .before .before .before .before .before .before .before .before .pre .1 .counted, c .before .before .before .before .before .before .before .before .before .before .before .before .before .pre .1 .room, c .before .before .before .before .before .before .before .before .before .before .before .before .before .pre .1 .after .entries)
 
 clear-requires : tie.Need-clear-requires
-clear-requires c κs = (omega (arith, c .before .before .before .before .before .before .before .before .before .before .before .before .before .pre .1 .few), omega (arith, c .before .before .before .before .before .before .last-region .ensures, c .before .before .before .before .before .before .before .before .before .before .before .before .before .pre .1 .counted, c .before .before .before .before .before .before .before .before .before .before .before .before .before .pre .1 .room, whole-long (c .before .before .before .before .before .before .before .before .before .before .before .before .before .pre .1 .room) (c .before .before .before .before .before .before .before .before .before .before .before .before .before .pre .1 .whole), ap length (c .before .before .before .set-first .ensures), length-set (c .before .before .before .before .before .before .before .before .before .before .before .before .before .args .chains .now) (firstAt (c .before .before .before .before .wide2 .result)) 0))
+clear-requires c κs =
+    let r = c .before .before .before .before .before .before .before .before .before .before .before .before .before .pre .1 in
+    (omega (arith, r .few), omega (arith, c .before .before .before .before .before .before .last-region .ensures, r .counted, r .room, whole-long (r .room) (r .whole), c .before .before .before .set-first .kept .0))
 
 same-length : tie.Need-same-length
 same-length c = search needs
 
 returns : tie.Need-returns
 returns c =
-    let a = c .before .before .before .before .before .before .before .before .before .before .before .before .before .before .before .before .args in
     let r = c .before .before .before .before .before .before .before .before .before .before .before .before .before .before .before .before .pre .1 in
-    cut-chains (r .room) (r .whole) (r .cut (c .before .before .before .before .before .before .before .before .before .before .before .before .before .if1 .taken) (sym (c .before .before .before .before .before .before .before .before .before .before .before .wide .ensures ∙ c .before .before .before .before .before .before .before .before .before .before .before .before .used .ensures) ∙ c .before .before .before .before .before .before .before .before .before .before .if2 .taken)) (r .low) (r .high) (r .counted)
-    (c .before .before .before .before .before .before .set-first .ensures ∙ ap (λ (g : ℕ). set (a .chains .now) (firstAt g) 0) (c .before .before .before .before .before .before .before .wide2 .ensures))
-    (subst (λ (n : ℕ). Cleared (n + a .from) (n + a .used) (c .before .before .before .before .before .before .set-first .last .0) (c .before .before .clear .last .0)) (c .before .before .before .before .before .before .before .before .before .last-region .ensures) (c .before .before .clear .ensures))
+    cut-chains (r .room) (r .whole) (r .cut (omega (arith, c .before .before .before .before .before .before .before .before .before .before .before .before .before .if1 .taken)) (omega (arith, c .before .before .before .before .before .before .before .before .before .before .before .wide .ensures, c .before .before .before .before .before .before .before .before .before .before .before .before .used .ensures, c .before .before .before .before .before .before .before .before .before .before .if2 .taken))) (r .low) (r .high)
+    (c .before .before .before .before .before .before .before .wide2 .result) (c .before .before .before .before .before .before .set-first .ensures) (c .before .before .clear .ensures) (c .before .before .before .before .before .before .before .wide2 .ensures) (omega arith) (omega (arith, c .before .before .before .before .before .before .before .before .before .last-region .ensures)) (omega (arith, c .before .before .before .before .before .before .before .before .before .last-region .ensures, r .counted))
 
 rebuild-requires : tie.Need-rebuild-requires
 rebuild-requires c κs = (c .before .before .before .before .pre .1 .after, whole-long (c .before .before .before .before .pre .1 .room) (c .before .before .before .before .pre .1 .whole))

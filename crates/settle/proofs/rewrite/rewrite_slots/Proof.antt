@@ -63,7 +63,7 @@ slice-reshared-read-forward-ref : tie.Need-slice-reshared-read-forward-ref Inv-l
 slice-reshared-read-forward-ref c = omega (arith, c .before .wide3 .ensures, c .before .before .slot .ensures, low (c .before .before .before), c .before .before .before .before .before .before .before .before .before .before .before .before .pre .0 .entries .cells-long, c .before .before .before .before .loop .inv .0)
 
 forward-ref-requires : tie.Need-forward-ref-requires Inv-loop μ-loop
-forward-ref-requires c κs = 
+forward-ref-requires c κs =
     let a = c .before .before .before .before .before .before .before .before .before .before .before .before .args in
     let l = c .before .before .before .before .loop in
     let s = c .before .before .before .before .before .before .before .before .before .before .before .before .pre .0 in
@@ -87,7 +87,7 @@ loop-less : tie.Need-loop-less Inv-loop μ-loop
 loop-less c = ahead-less (c .before .before .before .before .before .before .before .before .before .before .before .before .before .before .before .args .remember .now) (c .before .before .before .before .before .before .before .loop .x) (c .wide4 .result) (omega (arith, c .before .before .before .before .before .before .loop-test .taken)) (c .before .before .before .before .before .before .before .loop .inv .1 .leads .low) (leads-on c .later)
 
 loop-again : tie.Need-loop-again Inv-loop μ-loop
-loop-again c = 
+loop-again c =
     let t = along-turn (c .before .before .before .before .before .before .before .before .before .before .before .before .before .before .before .pre .0) (c .before .before .before .before .before .before .before .loop .inv .1) (omega (arith, c .before .before .before .before .before .before .loop-test .taken)) (c .before .before .forward-ref .result) (c .before .before .before .before .wide3 .result) (c .before .before .before .before .wide3 .ensures ∙ c .before .before .before .before .before .slot .ensures) (c .before .before .forward-ref .ensures) (leads-on c) in
     (t .done .size, t)
 
