@@ -1,0 +1,185 @@
+-- An entry is taken into the chain of a region, or out of it: its own word and the word before it in the chain are stored, no other.
+use Prim.Native.Nat.{ℕ, zero, suc, _+_, _-_, _≤_, _<_}
+use mathlib.Core.List.{List}
+use mathlib.Core.Path.{_≡_, refl, sym, ap, subst, _∙_}
+use native.Mathlib.Omega.{arith}
+use native.Mathlib.Decide.{ℕ-discrete, decLt}
+use lib.ListN.{length, getD, set, length-set}
+use Rattle.lists.specs.Stores.{put, past}
+use Rattle.linking.specs.Words.{Names, Chained}
+
+-- r is the last position of region g before that of entry q
+pub record Before (R : ℕ) (f : ℕ → ℕ) (g q : ℕ) (k : List ℕ) (r : ℕ) : Type 0 where
+  pub low : r < R + q
+  pub same : f r ≡ g
+  pub past : 0 < getD k r 0 → q < getD k r 0
+
+-- f′ is f but at position Q
+abbrev pub Else : ℕ → (ℕ → ℕ) → (ℕ → ℕ) → Type 0
+Else Q f f′ = (j : ℕ) → (j ≡ Q → ⊥) → f′ j ≡ f j
+
+module _ {R n : ℕ} {f f′ : ℕ → ℕ} {g q r : ℕ} {k : List ℕ} (c : Chained R n f k) (pos : 0 < g) (q-low : R + q < n) (b : Before R f g q k r) (e : Else (R + q) f f′) where
+  abbrev Q : ℕ
+  Q = R + q
+
+  abbrev x : ℕ
+  x = getD k r 0
+
+  -- the word before
+  ahead : Names R n f g (suc r) x
+  ahead = subst (λ (h : ℕ). Names R n f h (suc r) x) (b .same) (c .on r (omega (arith, b .low)) (omega (arith, b .same)))
+
+  -- no position between is of region g
+  between : (j : ℕ) → r < j → j < Q → f j ≡ g → ⊥
+  between j l h w = let i = ahead .first j l (omega arith) w in omega (arith, i .1, b .past (i .0))
+
+  -- another word of that chain below Q leads no further than r
+  nearer : (w : ℕ) → w < Q → (w ≡ r → ⊥) → f w ≡ g → {y : ℕ} → Names R n f (f w) (suc w) y → (0 < y) × (R + y ≤ Q)
+  nearer w l d a {y} o = go (decLt w r)
+    where
+      go : Dec (w < r) → (0 < y) × (R + y ≤ Q)
+      go (yes h) = let i = o .first r h (omega (arith, b .low)) (b .same ∙ sym a) in (i .0, omega (arith, i .1, b .low))
+      go (no h) = absurd (between w (omega arith) l a)
+
+  module _ (none : f Q ≡ 0) (will : f′ Q ≡ g) (long : n ≤ length k) where
+    abbrev k′ : List ℕ
+    k′ = set (set k Q x) r (q + 1)
+
+    len : length (set k Q x) ≡ length k
+    len = length-set k Q x
+
+    -- a position that a word of a chain names is not Q
+    off-Q : (i : ℕ) → 0 < f i → i ≡ Q → ⊥
+    off-Q i p z = omega (arith, ap f z)
+
+    own : Names R n f′ g (suc Q) x
+    own = record {
+      first = λ j l h w. ahead .first j (omega (arith, b .low)) h (sym (e j (λ (z : j ≡ Q). omega arith)) ∙ w);
+      later = λ p.
+          let d : R + x - 1 ≡ Q → ⊥ = off-Q (R + x - 1) (omega (arith, ahead .same p)) in
+          omega (arith, b .past p, d);
+      low = ahead .low;
+      same = λ p. e (R + x - 1) (off-Q (R + x - 1) (omega (arith, ahead .same p))) ∙ ahead .same p;
+    }
+
+    before : Names R n f′ g (suc r) (q + 1)
+    before = record {
+      first = λ j l h w. first j l h w (decLt j Q);
+      later = λ p. omega (arith, b .low);
+      low = λ p. omega arith;
+      same = λ p. let z : R + (q + 1) - 1 ≡ Q = omega arith in ap f′ z ∙ will;
+    }
+      where
+        first : (j : ℕ) → suc r ≤ j → j < n → f′ j ≡ g → Dec (j < Q) → (0 < q + 1) × (R + (q + 1) ≤ j + 1)
+        first j l h w (yes t) = absurd (between j l t (sym (e j (λ (z : j ≡ Q). omega arith)) ∙ w))
+        first j l h w (no t) = (omega arith, omega arith)
+
+    other : (w : ℕ) → (w ≡ Q → ⊥) → (w ≡ r → ⊥) → 0 < f w → {y : ℕ} → Names R n f (f w) (suc w) y → Names R n f′ (f w) (suc w) y
+    other w d d′ p {y} o = record {
+      first = λ j l h z. first j l h z (ℕ-discrete j Q);
+      later = o .later;
+      low = o .low;
+      same = λ z. e (R + y - 1) (off-Q (R + y - 1) (omega (arith, o .same z))) ∙ o .same z;
+    }
+      where
+        first : (j : ℕ) → suc w ≤ j → j < n → f′ j ≡ f w → Dec (j ≡ Q) → (0 < y) × (R + y ≤ j + 1)
+        first j l h z (yes t) =
+            let i = nearer w (omega arith) d′ (sym z ∙ ap f′ t ∙ will) o in
+            (i .0, omega (arith, i .1))
+        first j l h z (no t) = o .first j l h (sym (e j t) ∙ z)
+
+    pub linked-chained : Chained R n f′ k′
+    linked-chained = record {
+      on = λ w l p. on w l p (ℕ-discrete w Q) (ℕ-discrete w r);
+      off = λ w l p. off w l p (ℕ-discrete w Q) (ℕ-discrete w r);
+    }
+      where
+        far : Q ≡ r → ⊥
+        far z = omega (arith, b .low)
+
+        on : (w : ℕ) → w < n → 0 < f′ w → Dec (w ≡ Q) → Dec (w ≡ r) → Names R n f′ (f′ w) (suc w) (getD k′ w 0)
+        on w l p (yes z) t =
+            subst (λ (i : ℕ). Names R n f′ (f′ i) (suc i) (getD k′ i 0)) (sym z)
+            (subst (Names R n f′ (f′ Q) (suc Q)) (sym (past (set k Q x) r (q + 1) Q 0 far ∙ put k Q x 0 (omega arith)))
+            (subst (λ (i : ℕ). Names R n f′ i (suc Q) x) (sym will) own))
+        on w l p (no z) (yes t) =
+            subst (λ (i : ℕ). Names R n f′ (f′ i) (suc i) (getD k′ i 0)) (sym t)
+            (subst (Names R n f′ (f′ r) (suc r)) (sym (put (set k Q x) r (q + 1) 0 (omega (arith, len, b .low))))
+            (subst (λ (i : ℕ). Names R n f′ i (suc r) (q + 1)) (sym (e r (λ y. far (sym y)) ∙ b .same)) before))
+        on w l p (no z) (no t) =
+            subst (Names R n f′ (f′ w) (suc w)) (sym (past (set k Q x) r (q + 1) w 0 t ∙ past k Q x w 0 z))
+            (subst (λ (i : ℕ). Names R n f′ i (suc w) (getD k w 0)) (sym (e w z))
+            (other w z t (omega (arith, e w z)) (c .on w l (omega (arith, e w z)))))
+
+        off : (w : ℕ) → w < n → f′ w ≡ 0 → Dec (w ≡ Q) → Dec (w ≡ r) → getD k′ w 0 ≡ 0
+        off w l p (yes z) t = absurd (let v : ⊥ = omega (arith, ap f′ z) in v)
+        off w l p (no z) (yes t) = absurd (let v : ⊥ = omega (arith, ap f t, e w z, b .same) in v)
+        off w l p (no z) (no t) = past (set k Q x) r (q + 1) w 0 t ∙ past k Q x w 0 z ∙ c .off w l (sym (e w z) ∙ p)
+
+  module _ (was : f Q ≡ g) (none : f′ Q ≡ 0) (long : n ≤ length k) where
+    abbrev y : ℕ
+    y = getD k Q 0
+
+    abbrev k″ : List ℕ
+    k″ = set (set k r y) Q 0
+
+    len″ : length (set k r y) ≡ length k
+    len″ = length-set k r y
+
+    -- the word before names entry q, whose own word names the next
+    reaches : R + x ≡ Q + 1
+    reaches = let i = ahead .first Q (b .low) q-low was in omega (arith, i .1, b .past (i .0))
+
+    after : Names R n f g (suc Q) y
+    after = subst (λ (h : ℕ). Names R n f h (suc Q) y) was (c .on Q q-low (omega (arith, was)))
+
+    -- a position of a region is not Q any more
+    off-Q″ : (i : ℕ) → 0 < f′ i → i ≡ Q → ⊥
+    off-Q″ i p z = omega (arith, ap f′ z)
+
+    skips : Names R n f′ g (suc r) y
+    skips = record {
+      first = λ j l h w.
+          let d = off-Q″ j (omega arith) in
+          let v = sym (e j d) ∙ w in
+          let i = ahead .first j l h v in
+          after .first j (omega (arith, i .1, reaches, d)) h v;
+      later = λ p. omega (arith, after .later p, b .low);
+      low = after .low;
+      same = λ p. e (R + y - 1) (λ (z : R + y - 1 ≡ Q). omega (arith, after .later p)) ∙ after .same p;
+    }
+
+    other″ : (w : ℕ) → (w ≡ Q → ⊥) → (w ≡ r → ⊥) → 0 < f w → {v : ℕ} → Names R n f (f w) (suc w) v → Names R n f′ (f w) (suc w) v
+    other″ w d d′ p {v} o = record {
+      first = λ j l h z. o .first j l h (sym (e j (off-Q″ j (omega arith))) ∙ z);
+      later = o .later;
+      low = o .low;
+      same = λ z. e (R + v - 1) (λ (t : R + v - 1 ≡ Q).
+          let i = nearer w (omega (arith, o .later z)) d′ (sym (o .same z) ∙ ap f t ∙ was) o in
+          omega (arith, i .1)) ∙ o .same z;
+    }
+
+    pub unlinked-chained : Chained R n f′ k″
+    unlinked-chained = record {
+      on = λ w l p. on w l p (ℕ-discrete w Q) (ℕ-discrete w r);
+      off = λ w l p. off w l p (ℕ-discrete w Q) (ℕ-discrete w r);
+    }
+      where
+        far : r ≡ Q → ⊥
+        far z = omega (arith, b .low)
+
+        on : (w : ℕ) → w < n → 0 < f′ w → Dec (w ≡ Q) → Dec (w ≡ r) → Names R n f′ (f′ w) (suc w) (getD k″ w 0)
+        on w l p (yes z) t = absurd (off-Q″ w p z)
+        on w l p (no z) (yes t) =
+            subst (λ (i : ℕ). Names R n f′ (f′ i) (suc i) (getD k″ i 0)) (sym t)
+            (subst (Names R n f′ (f′ r) (suc r)) (sym (past (set k r y) Q 0 r 0 far ∙ put k r y 0 (omega (arith, b .low))))
+            (subst (λ (i : ℕ). Names R n f′ i (suc r) y) (sym (e r far ∙ b .same)) skips))
+        on w l p (no z) (no t) =
+            subst (Names R n f′ (f′ w) (suc w)) (sym (past (set k r y) Q 0 w 0 z ∙ past k r y w 0 t))
+            (subst (λ (i : ℕ). Names R n f′ i (suc w) (getD k w 0)) (sym (e w z))
+            (other″ w z t (omega (arith, e w z)) (c .on w l (omega (arith, e w z)))))
+
+        off : (w : ℕ) → w < n → f′ w ≡ 0 → Dec (w ≡ Q) → Dec (w ≡ r) → getD k″ w 0 ≡ 0
+        off w l p (yes z) t = ap (λ (i : ℕ). getD k″ i 0) z ∙ put (set k r y) Q 0 0 (omega (arith, len″))
+        off w l p (no z) (yes t) = absurd (let v : ⊥ = omega (arith, ap f t, e w z, b .same) in v)
+        off w l p (no z) (no t) = past (set k r y) Q 0 w 0 z ∙ past k r y w 0 t ∙ c .off w l (sym (e w z) ∙ p)
