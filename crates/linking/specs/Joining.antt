@@ -183,3 +183,53 @@ module _ {R n : ℕ} {f f′ : ℕ → ℕ} {g q r : ℕ} {k : List ℕ} (c : Ch
         off w l p (yes z) t = ap (λ (i : ℕ). getD k″ i 0) z ∙ put (set k r y) Q 0 0 (omega (arith, len″))
         off w l p (no z) (yes t) = absurd (let v : ⊥ = omega (arith, ap f t, e w z, b .same) in v)
         off w l p (no z) (no t) = past (set k r y) Q 0 w 0 z ∙ past k r y w 0 t ∙ c .off w l (sym (e w z) ∙ p)
+
+-- ---- what the code does
+
+-- r is that position whatever the regions are that the words are chained by, the first word of g among them
+abbrev pub IsBefore : ℕ → ℕ → ℕ → List ℕ → ℕ → Type 0
+IsBefore R g q k r = (n : ℕ) (f : ℕ → ℕ) → Chained R n f k → R + q ≤ n → f (g - 1) ≡ g → Before R f g q k r
+
+-- entry q, which is in no chain, is taken into that of region g
+pub record Linked (R g q : ℕ) (k k′ : List ℕ) : Type 0 where
+  pub before : ℕ
+  pub low : before < R + q
+  pub right : IsBefore R g q k before
+  pub stored : k′ ≡ set (set k (R + q) (getD k before 0)) before (q + 1)
+
+-- entry q is taken out of the chain of region g
+pub record Unlinked (R g q : ℕ) (k k′ : List ℕ) : Type 0 where
+  pub before : ℕ
+  pub low : before < R + q
+  pub right : IsBefore R g q k before
+  pub stored : k′ ≡ set (set k before (getD k (R + q) 0)) (R + q) 0
+
+-- two stores up to Q
+stored-long : (k : List ℕ) (i j x y : ℕ) {k′ : List ℕ} → k′ ≡ set (set k i x) j y → length k′ ≡ length k
+stored-long k i j x y e = ap length e ∙ length-set (set k i x) j y ∙ length-set k i x
+
+stored-else : (k : List ℕ) (i j x y : ℕ) {k′ : List ℕ} → k′ ≡ set (set k i x) j y → (w : ℕ) → i < w → j < w → getD k′ w 0 ≡ getD k w 0
+stored-else k i j x y e w l h =
+    ap (λ (l : List ℕ). getD l w 0) e ∙ past (set k i x) j y w 0 (λ (z : w ≡ j). omega arith) ∙ past k i x w 0 (λ (z : w ≡ i). omega arith)
+
+module _ {R g q : ℕ} {k k′ : List ℕ} where
+  pub linked-long : Linked R g q k k′ → length k′ ≡ length k
+  linked-long l = stored-long k _ _ _ _ (l .stored)
+
+  pub linked-else : Linked R g q k k′ → (w : ℕ) → R + q < w → getD k′ w 0 ≡ getD k w 0
+  linked-else l w h = stored-else k _ _ _ _ (l .stored) w h (omega (arith, l .low))
+
+  pub unlinked-long : Unlinked R g q k k′ → length k′ ≡ length k
+  unlinked-long l = stored-long k _ _ _ _ (l .stored)
+
+  pub unlinked-else : Unlinked R g q k k′ → (w : ℕ) → R + q < w → getD k′ w 0 ≡ getD k w 0
+  unlinked-else l w h = stored-else k _ _ _ _ (l .stored) w (omega (arith, l .low)) h
+
+module _ {R n g q : ℕ} {f f′ : ℕ → ℕ} {k k′ : List ℕ} (c : Chained R n f k) (pos : 0 < g) (low : R + q < n) (long : n ≤ length k) (head : f (g - 1) ≡ g) (e : Else (R + q) f f′) where
+  pub linked-chains : f (R + q) ≡ 0 → f′ (R + q) ≡ g → Linked R g q k k′ → Chained R n f′ k′
+  linked-chains none will l =
+      subst (Chained R n f′) (sym (l .stored)) (linked-chained c pos low (l .right n f c (omega arith) head) e none will long)
+
+  pub unlinked-chains : f (R + q) ≡ g → f′ (R + q) ≡ 0 → Unlinked R g q k k′ → Chained R n f′ k′
+  unlinked-chains was none l =
+      subst (Chained R n f′) (sym (l .stored)) (unlinked-chained c pos low (l .right n f c (omega arith) head) e was none long)

@@ -4,3 +4,5 @@
 pub mod Words
 pub mod Shifting
 pub mod Joining
+pub mod ByEntries
+pub mod Moving
