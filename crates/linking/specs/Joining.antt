@@ -190,6 +190,29 @@ module _ {R n : ℕ} {f f′ : ℕ → ℕ} {g q r : ℕ} {k : List ℕ} (c : Ch
 abbrev pub IsBefore : ℕ → ℕ → ℕ → List ℕ → ℕ → Type 0
 IsBefore R g q k r = (n : ℕ) (f : ℕ → ℕ) → Chained R n f k → R + q ≤ n → f (g - 1) ≡ g → Before R f g q k r
 
+-- on the way to it: a position of that chain, and its word
+pub record Walk (R g q : ℕ) (k : List ℕ) (at x : ℕ) : Type 0 where
+  pub low : at < R + q
+  pub word : x ≡ getD k at 0
+  pub same : (n : ℕ) (f : ℕ → ℕ) → Chained R n f k → R + q ≤ n → f (g - 1) ≡ g → f at ≡ g
+
+module _ {R g q : ℕ} {k : List ℕ} where
+  pub walk-starts : 1 ≤ g → g ≤ R → {x : ℕ} → x ≡ getD k (g - 1) 0 → Walk R g q k (g - 1) x
+  walk-starts l h e = record { low = omega arith; word = e; same = λ n f c b s. s }
+
+  pub walk-goes-on : 1 ≤ g → {at x y : ℕ} → Walk R g q k at x → 0 < x → x ≤ q → y ≡ getD k (R + x - 1) 0 → Walk R g q k (R + x - 1) y
+  walk-goes-on pos {at} {x} w p l e = record {
+    low = omega arith;
+    word = e;
+    same = λ n f c b s.
+        let i = w .same n f c b s in
+        let o = c .on at (omega (arith, w .low)) (omega (arith, i)) in
+        ap (λ (z : ℕ). f (R + z - 1)) (w .word) ∙ o .same (omega (arith, w .word)) ∙ i;
+  }
+
+  pub walk-ends : {at x : ℕ} → Walk R g q k at x → (0 < x → q < x) → IsBefore R g q k at
+  walk-ends {at} {x} w p n f c b s = record { low = w .low; same = w .same n f c b s; past = subst (λ (y : ℕ). 0 < y → q < y) (w .word) p }
+
 -- entry q, which is in no chain, is taken into that of region g
 pub record Linked (R g q : ℕ) (k k′ : List ℕ) : Type 0 where
   pub before : ℕ
