@@ -6,3 +6,4 @@ pub mod Shifting
 pub mod Joining
 pub mod ByEntries
 pub mod Moving
+pub mod EntryChains

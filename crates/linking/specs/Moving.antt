@@ -102,3 +102,9 @@ module _ {R u q : ℕ} {k k₁ k₂ k₃ : List ℕ} (low : q ≤ u) (long : R +
     where
       else : (j : ℕ) → (j ≡ R + u → ⊥) → getD k₃ j 0 ≡ getD k₂ j 0
       else j d = ap (λ (l : List ℕ). getD l j 0) e ∙ past k₂ (R + u) 0 j 0 d
+
+-- the words below the place, once it is made, are no larger
+pub opens-small : (R u q b : ℕ) {h : ℕ → ℕ} {k k₁ : List ℕ} → q ≤ u → MovedUp h (R + q) (R + u) k k₁ → ((j : ℕ) → j < R + u → getD k j 0 + 1 < b)
+    → (j : ℕ) → j < R + q → getD (set k₁ (R + q) 0) j 0 + 1 < b
+opens-small R u q b {h} {k} {k₁} low m s j l =
+    omega (arith, past k₁ (R + q) 0 j 0 (λ (z : j ≡ R + q). omega arith), m .kept j (λ z. absurd (let v : ⊥ = omega arith in v)), s j (omega arith))
