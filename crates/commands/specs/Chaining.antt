@@ -35,9 +35,10 @@ module _ (s : Sizes) (w : Words) (k : WholeFor s w) where
       let at = slotIn (w .remember) i in
       let e = ap region (to-at (s .entries) (w .remember) (entriesUsed (w .remember)) i b) in
       let o = cross-slot s (w .cells) (w .tables) at (omega (arith, n .right, n .region)) in
-      let v = slot-cross s (w .cells) (w .tables) at o in
-      (omega (arith, e, n .region),
-      omega (arith, e, n .right, v, crosses-low (ownerOf s (w .tables) (pageOf (cellOf at))) (getD (w .cells) at 0)))
+      let v = slot-cross s (w .cells) (w .tables) at o in (
+        omega (arith, e, n .region),
+        omega (arith, e, n .right, v, crosses-low (ownerOf s (w .tables) (pageOf (cellOf at))) (getD (w .cells) at 0)),
+      )
 
   pub whole-chainable : Chainable s (w .remember)
   whole-chainable = record {

@@ -63,15 +63,15 @@ module _ (R n q : ℕ) (high : R + q ≤ n) {f f′ : ℕ → ℕ} (p : Parted (
       where
         found : (j : ℕ) → s′ ≤ j → j < suc n → f′ j ≡ h → Dec (j < Q) → Dec (Q < j) → (0 < x) × (R + x ≤ j + 1) × (q < x → R + x ≤ j)
         found j l b e (yes v) t =
-              let i = a .first j (from-below v l) (omega arith) (sym (p .below j v) ∙ e) in
-              (i .0, i .1, λ (y : q < x). omega (arith, i .1))
+            let i = a .first j (from-below v l) (omega arith) (sym (p .below j v) ∙ e) in
+            (i .0, i .1, λ (y : q < x). omega (arith, i .1))
         found j l b e (no v) (yes t) =
-              let k : suc (j - 1) ≡ j = omega arith in
-              let i = a .first (j - 1) (from-above (omega arith) (omega arith)) (omega arith) (sym (p .above (j - 1) (omega arith)) ∙ ap f′ k ∙ e) in
-              (i .0, omega (arith, i .1), λ (y : q < x). omega (arith, i .1))
+            let k : suc (j - 1) ≡ j = omega arith in
+            let i = a .first (j - 1) (from-above (omega arith) (omega arith)) (omega arith) (sym (p .above (j - 1) (omega arith)) ∙ ap f′ k ∙ e) in
+            (i .0, omega (arith, i .1), λ (y : q < x). omega (arith, i .1))
         found j l b e (no v) (no t) =
-              let k : j ≡ Q = omega arith in
-              absurd (let z : ⊥ = omega (arith, sym (ap f′ k) ∙ e, p .here) in z)
+            let k : j ≡ Q = omega arith in
+            absurd (let z : ⊥ = omega (arith, sym (ap f′ k) ∙ e, p .here) in z)
 
         go : Dec (q < x) → Names R (suc n) f′ h s′ (raised q x)
         go (yes y) =
@@ -106,11 +106,11 @@ module _ (R n q : ℕ) (high : R + q ≤ n) {f f′ : ℕ → ℕ} (p : Parted (
 
         found : (j : ℕ) → s ≤ j → j < n → f j ≡ h → Dec (j < Q) → (0 < x) × (R + x ≤ suc j + 1) × (x ≤ q → R + x ≤ j + 1)
         found j l b e (yes v) =
-              let i = a .first j (below-from v l) (omega arith) (p .below j v ∙ e) in
-              (i .0, omega (arith, i .1), λ (y : x ≤ q). i .1)
+            let i = a .first j (below-from v l) (omega arith) (p .below j v ∙ e) in
+            (i .0, omega (arith, i .1), λ (y : x ≤ q). i .1)
         found j l b e (no v) =
-              let i = a .first (suc j) (above-from (omega arith) l) (omega arith) (p .above j (omega arith) ∙ e) in
-              (i .0, i .1, λ (y : x ≤ q). omega arith)
+            let i = a .first (suc j) (above-from (omega arith) l) (omega arith) (p .above j (omega arith) ∙ e) in
+            (i .0, i .1, λ (y : x ≤ q). omega arith)
 
         go : Dec (q < x) → Names R n f h s (lowered q x)
         go (yes y) =

@@ -100,7 +100,7 @@ store-requires c κs =
       (
         pre .1 .1,
         in-range (args .p) (args .cells .now) (args .remember .now) (args .tables .now) (args .m) (decode .result) (decode .ensures)
-          (Store (d7 .given .0 .0) (d7 .given .0 .1 .0) (d7 .given .0 .1 .1 .0) (d7 .given .0 .1 .1 .1 .0)) (d7 .given .1) refl,
+            (Store (d7 .given .0 .0) (d7 .given .0 .1 .0) (d7 .given .0 .1 .1 .0) (d7 .given .0 .1 .1 .1 .0)) (d7 .given .1) refl,
       ),
     )
 

@@ -44,8 +44,8 @@ returns c =
     let read-var = c .before .before .before .before .read-var in
     let field-question = c .before .before .field-question in (
       did-answer (c .refused .ensures)
-      (store-refused (args .p) (args .cells .now) (args .remember .now) (args .tables .now) (c .before .before .before .before .before .before .before .before .before .pre .0) (args .t) (args .a) (in-range .0) (in-range .1)
-      (read-var .result) (read-var .ensures) (args .c) (in-range .2) (args .f) (field-question .result) (field-question .ensures) (c .before .if1 .taken)),
+          (store-refused (args .p) (args .cells .now) (args .remember .now) (args .tables .now) (c .before .before .before .before .before .before .before .before .before .pre .0) (args .t) (args .a) (in-range .0) (in-range .1)
+          (read-var .result) (read-var .ensures) (args .c) (in-range .2) (args .f) (field-question .result) (field-question .ensures) (c .before .if1 .taken)),
       chains-same (c .before .before .before .before .before .before .before .before .before .pre .1 .0),
     )
 
@@ -62,8 +62,8 @@ store-slot-requires c κs =
     let read-var = c .before .before .before .before .before .before .before .read-var in
     let field-question = c .before .before .before .before .before .field-question in (
       storing (args .p) (args .cells .now) (args .remember .now) (args .tables .now) (c .before .before .before .before .before .before .before .before .before .before .before .before .pre .0) (args .t) (args .a) (in-range .0) (in-range .1)
-      (read-var .result) (read-var .ensures) (args .c) (in-range .2) (args .f) (field-question .result) (field-question .ensures) (omega arith)
-      (fits (c .before .before .before .before .before .before .before .before)) (c .before .before .before .read-var2 .result) (c .before .before .before .read-var2 .ensures),
+          (read-var .result) (read-var .ensures) (args .c) (in-range .2) (args .f) (field-question .result) (field-question .ensures) (omega arith)
+          (fits (c .before .before .before .before .before .before .before .before)) (c .before .before .before .read-var2 .result) (c .before .before .before .read-var2 .ensures),
       c .before .before .before .before .before .before .before .before .before .before .before .before .pre .1 .0,
     )
 
@@ -88,9 +88,9 @@ returns-2 c =
     let read-var2 = c .before .before .before .before .before .before .before .before .before .before .before .before .read-var2 in
     let store-slot = c .before .before .before .before .before .before .before .before .store-slot in (
       did-answer (c .refused2 .ensures)
-      (store-did (args .p) (args .cells .now) (args .remember .now) (args .tables .now) (c .before .before .before .before .before .before .before .before .before .before .before .before .before .before .before .before .before .before .before .before .before .pre .0) (args .t) (args .a) (in-range .0) (in-range .1)
-      (read-var .result) (read-var .ensures) (args .c) (in-range .2) (args .f) (field-question .result) (field-question .ensures) (omega arith)
-      (read-var2 .result) (read-var2 .ensures) _ _ (store-slot .result) (store-slot .ensures .0)),
+          (store-did (args .p) (args .cells .now) (args .remember .now) (args .tables .now) (c .before .before .before .before .before .before .before .before .before .before .before .before .before .before .before .before .before .before .before .before .before .pre .0) (args .t) (args .a) (in-range .0) (in-range .1)
+          (read-var .result) (read-var .ensures) (args .c) (in-range .2) (args .f) (field-question .result) (field-question .ensures) (omega arith)
+          (read-var2 .result) (read-var2 .ensures) _ _ (store-slot .result) (store-slot .ensures .0)),
       store-slot .ensures .1,
     )
 
@@ -116,9 +116,9 @@ returns-3 c =
     let store-slot = c .before .before .before .before .before .before .before .before .store-slot in
     let none : 0 ≡ store-slot .result = omega arith in (
       did-answer (c .done .ensures ∙ ap refused none)
-      (store-did (args .p) (args .cells .now) (args .remember .now) (args .tables .now) (c .before .before .before .before .before .before .before .before .before .before .before .before .before .before .before .before .before .before .before .before .before .pre .0) (args .t) (args .a) (in-range .0) (in-range .1)
-      (read-var .result) (read-var .ensures) (args .c) (in-range .2) (args .f) (field-question .result) (field-question .ensures) (omega arith)
-      (read-var2 .result) (read-var2 .ensures) _ _ (store-slot .result) (store-slot .ensures .0)),
+          (store-did (args .p) (args .cells .now) (args .remember .now) (args .tables .now) (c .before .before .before .before .before .before .before .before .before .before .before .before .before .before .before .before .before .before .before .before .before .pre .0) (args .t) (args .a) (in-range .0) (in-range .1)
+          (read-var .result) (read-var .ensures) (args .c) (in-range .2) (args .f) (field-question .result) (field-question .ensures) (omega arith)
+          (read-var2 .result) (read-var2 .ensures) _ _ (store-slot .result) (store-slot .ensures .0)),
       store-slot .ensures .1,
     )
 

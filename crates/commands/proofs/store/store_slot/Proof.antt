@@ -89,7 +89,7 @@ returns c =
     let args = c .before .before .before .before .before .before .before .before .before .before .before .before .before .before .before .before .before .before .before .before .before .args in
     let remember-slot = c .before .before .before .before .before .remember-slot in (
       stored-full (args .p) (args .cells .now) (args .remember .now) (args .tables .now) (args .x) (args .f) (args .v) _ _ _
-      (seen (c .before .before .before .before .before .before .before .before)) _ (remember-slot .result) (remember-slot .ensures .0) (c .if1 .taken),
+          (seen (c .before .before .before .before .before .before .before .before)) _ (remember-slot .result) (remember-slot .ensures .0) (c .if1 .taken),
       remember-slot .ensures .1,
     )
 
@@ -110,8 +110,8 @@ returns-2 c =
     let args = c .before .before .before .before .before .before .before .before .before .before .before .before .before .before .before .before .before .before .before .before .before .before .before .before .before .args in
     let remember-slot = c .before .before .before .before .before .before .before .before .before .remember-slot in (
       stored-done (args .p) (args .cells .now) (args .remember .now) (args .tables .now) (args .x) (args .f) (args .v) _ _ _
-      (seen (c .before .before .before .before .before .before .before .before .before .before .before .before)) _ (remember-slot .result) (remember-slot .ensures .0)
-      (omega arith) (c .before .before .write-field .ensures),
+          (seen (c .before .before .before .before .before .before .before .before .before .before .before .before)) _ (remember-slot .result) (remember-slot .ensures .0)
+          (omega arith) (c .before .before .write-field .ensures),
       remember-slot .ensures .1,
     )
 

@@ -31,9 +31,10 @@ link-requires c κs =
     let w = c .before .before .before .before .before .before .before .before .before .before .pre .1 .0 in
     let a = c .before .before .before .before .before .before .before .before .before .before .pre .1 .1 in
     let e = c .before .before .before .before .before .before .before .last-region .ensures in
-    let u = c .before .before .before .unlink .ensures in
-    ((a .1, omega (arith, e, a .2), omega (arith, room t w e, t .room, a .0, unlinked-long u), omega (arith, t .entries, t .room, a .0)),
-    off-forward t w e (a .0) (c .before .before .before .before .before .wide .ensures ∙ c .before .before .before .before .before .before .region .ensures) u)
+    let u = c .before .before .before .unlink .ensures in (
+      (a .1, omega (arith, e, a .2), omega (arith, room t w e, t .room, a .0, unlinked-long u), omega (arith, t .entries, t .room, a .0)),
+      off-forward t w e (a .0) (c .before .before .before .before .before .wide .ensures ∙ c .before .before .before .before .before .before .region .ensures) u,
+    )
 
 same-length : tie.Need-same-length
 same-length c = search needs

@@ -31,9 +31,10 @@ link-requires c κs =
     let a = c .before .before .before .before .before .before .before .before .before .before .pre .1 .1 in
     let e = c .before .before .before .before .before .before .before .last-region .ensures in
     let x = c .before .before .before .before .before .wide .ensures ∙ c .before .before .before .before .before .before .used .ensures in
-    let o = c .before .before .before .open-place .ensures in
-    ((a .2, omega (arith, e, a .3), omega (arith, room t w e, o .long, a .0, a .1), omega (arith, t .entries, a .0, a .1)),
-    open-forward t w e x (a .0) (a .1) (a .2) (omega (arith, e, a .3)) o)
+    let o = c .before .before .before .open-place .ensures in (
+      (a .2, omega (arith, e, a .3), omega (arith, room t w e, o .long, a .0, a .1), omega (arith, t .entries, a .0, a .1)),
+      open-forward t w e x (a .0) (a .1) (a .2) (omega (arith, e, a .3)) o,
+    )
 
 same-length : tie.Need-same-length
 same-length c = search needs
