@@ -1,5 +1,5 @@
 -- Code 7 does what the rules say: a reference is stored and the remember table follows, or there is no room for an entry (14).
-use Prim.Native.Nat.{ℕ, suc, _-_, _^_, _<_}
+use Prim.Native.Nat.{ℕ, suc, _-_, _^_, _≤_, _<_}
 use native.Mathlib.Omega.{arith}
 use native.Mathlib.Decide.{ℕ-discrete}
 use mathlib.Core.Path.{_≡_, refl, sym, ap, ap₂, subst, subst₂, _∙_}
@@ -9,6 +9,7 @@ use lib.ListN.{length, getD, set, length-set}
 use lib.Dec.{ltb, leb}
 use borrow.Author.Tests.{lt-ltb, le-leb, lt-leb}
 use Rattle.rules.specs.declared.Sizes.{Sizes}
+use Rattle.rules.specs.Regions.{regions}
 use Rattle.rules.specs.Terms.{ask, refused, done, limits, first}
 use Rattle.rules.specs.NeverFreeing as nf
 use Rattle.rules.specs.NeverFreeing.{Object, noObject, used, varOf, objectOf}
@@ -25,6 +26,7 @@ use Rattle.layout.specs.Words.{Words, words, heapOf, BeginsIn, refCount, Names}
 use Rattle.remember.specs.Crossing.{crossesTo}
 use Rattle.remember.specs.Table.{Table}
 use Rattle.remember.specs.ExactTable.{entries-table}
+use Rattle.chains.specs.Chains.{Chainable}
 use Rattle.promises.specs.Whole.{WholeFor}
 use Rattle.promises.specs.Reading.{used-alive, whole-room}
 use Rattle.promises.specs.Agreed.{heap-stands, back}
@@ -39,6 +41,7 @@ use Rattle.commands.specs.ThreadVariables.{variable}
 use Rattle.commands.specs.Does.{Does}
 use Rattle.commands.specs.Objects.{is-ref, asked-is, within, in-use, is-field, heap-var}
 use Rattle.commands.specs.Fields.{Field}
+use Rattle.commands.specs.Chaining.{whole-chainable, crosses-low}
 
 -- the slot of reference f of x's object
 abbrev pub slotOf : List ℕ → ℕ → ℕ → ℕ
@@ -54,6 +57,8 @@ pub record Storing (p : Sizes) (c m t : List ℕ) (x f v : ℕ) : Type 0 where
   pub new : crossesTo p t (x - 1) (getD c (slotOf c x f) 0) ≡ 0 → (i : ℕ) → i < entriesUsed m → slotIn m i ≡ slotOf c x f → ⊥
   pub before : Names p (getD c (slotOf c x f) 0)
   pub after : Names p v
+  pub chainable : Chainable p m
+  pub low : crossesTo p t (x - 1) v ≤ regions p
 
 -- v was stored in reference f of x's object, or there was no room
 pub record Stored (p : Sizes) (c m t : List ℕ) (x f v : ℕ) (c′ m′ : List ℕ) (r : ℕ) : Type 0 where
@@ -151,6 +156,8 @@ module _ (p : Sizes) (c m t : List ℕ) (k : WholeFor p (words c m t)) (u a : �
           new = slot-unnamed;
           before = subst (λ (j : ℕ). Names p (getD c j 0)) place (λ z. begins-page _ _ _ _ (k .objects y there .references f inside (omega arith)));
           after = λ z. begins-page _ _ _ _ (is-ref p c m t k u b l o v ev (omega arith));
+          chainable = whole-chainable s w k;
+          low = crosses-low s w k _ v;
         }
 
     module _ (v : ℕ) (ev : v ≡ variable p t u b) (c′ m′ : List ℕ) (j : ℕ) (d : Stored p c m t x f v c′ m′ j) where

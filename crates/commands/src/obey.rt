@@ -1,6 +1,8 @@
 // One command, decoded and done.
+ghost use mathlib.Core.Path.{_≡_};
 ghost use Rattle.pages.specs.Noted.{Noted};
 ghost use Rattle.layout.specs.Words.{words};
+ghost use Rattle.chains.specs.Chains.{ChainsWhole, withChains};
 ghost use Rattle.promises.specs.Whole.{WholeFor};
 ghost use Rattle.commands.specs.Obeys.{Obeys};
 use crate::Decoded;
@@ -19,19 +21,22 @@ use rules::Command;
 use rules::Sizes;
 
 // Every command but an end and a collection is answered here; of these two, which change nothing yet, the thread is given. The notes are
-// right of the tables (`Noted`, crate `pages`).
+// right of the tables (`Noted`, crate `pages`), and the chains are those of the remember table.
 pub fn obey(
     p: Sizes,
     cells: &mut [u32],
     remember: &mut [u32],
     tables: &mut [u32],
+    chains: &mut [u32],
     notes: &mut [u32],
     m: Command,
 ) -> Obeyed
     requires { ⌜ WholeFor p (words (now cells) (now remember) (now tables)) ⌝ }
     requires { ⌜ Noted p (now tables) (now notes) ⌝ }
+    requires { ⌜ ChainsWhole p (now remember) (now chains) ⌝ }
     ensures { λ r. ⌜ Obeys p (now (cells .entry)) (now (remember .entry)) (now (tables .entry)) m (now (cells .exit)) (now (remember .exit)) (now (tables .exit)) r ⌝ }
     ensures { λ _. ⌜ Noted p (now (tables .exit)) (now (notes .exit)) ⌝ }
+    ensures { λ _. ⌜ now (chains .exit) ≡ withChains p (now (remember .exit)) (now (chains .entry)) ⌝ }
 {
     let d = decode(p, m);
     match d {
@@ -56,6 +61,7 @@ pub fn obey(
             cells,
             remember,
             tables,
+            chains,
             t,
             a,
             b,
