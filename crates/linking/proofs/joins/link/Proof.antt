@@ -1,6 +1,7 @@
 -- The entry's word becomes the one before it, which then names the entry.
 use native.Mathlib.Omega.{arith}
 use lib.ListN.{length-set}
+use mathlib.Core.Path.{refl}
 use borrow.Author.Needs.{needs}
 use Rattle.linking.proofs.joins.link.Statement.{statement}
 use Rattle.linking.proofs.joins.link.Tie as tie
@@ -39,7 +40,7 @@ same-length : tie.Need-same-length
 same-length c = search needs
 
 returns : tie.Need-returns
-returns c = search needs
+returns c = record { before = c .before .word-before .result; low = c .before .word-before .ensures .0; right = c .before .word-before .ensures .1; stored = refl }
 
 pub link-spec : {M : Type 1} → statement M
 link-spec =

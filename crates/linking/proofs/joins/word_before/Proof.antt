@@ -56,7 +56,7 @@ loop-less c =
     omega (arith, l .inv .low, l .inv .word, e)
 
 loop-again : tie.Need-loop-again Inv-loop μ-loop
-loop-again c = walk-goes-on (omega arith) (c .before .before .before .before .loop .inv) (omega (arith, c .before .before .if1 .left)) (c .before .before .before .loop-test .taken) (c .wide2 .ensures)
+loop-again c = walk-goes-on (omega arith) (c .before .before .before .before .loop .inv) (omega (arith, c .before .before .if1 .left)) (omega (arith, c .before .before .before .loop-test .taken)) (c .wide2 .ensures)
 
 returns-2 : tie.Need-returns-2 Inv-loop μ-loop
 returns-2 c = (c .before .loop .inv .low, walk-ends (c .before .loop .inv) (λ (p : 0 < c .before .loop .x). omega (arith, c .loop-test .left)))

@@ -1,5 +1,6 @@
 -- The words before the place are renumbered, then those after it move.
-use mathlib.Core.Path.{refl}
+use lib.ListN.{length-set}
+use mathlib.Core.Path.{refl, _∙_}
 use borrow.Author.Needs.{needs}
 use Rattle.linking.specs.Moving.{closes}
 use Rattle.linking.proofs.moves.close_place.Statement.{statement}
@@ -33,7 +34,7 @@ slice-write-chains : tie.Need-slice-write-chains
 slice-write-chains c = search needs
 
 same-length : tie.Need-same-length
-same-length c = closes (c .before .before .before .before .before .before .before .before .before .pre .0) (c .before .before .before .before .before .before .before .before .before .pre .1) (c .before .before .before .before .before .before .lower-numbers .ensures) (c .before .before .move-down .ensures) refl .long
+same-length c = simp length-set (c .before .before .move-down .ensures .long ∙ c .before .before .before .before .before .before .lower-numbers .ensures .long)
 
 returns : tie.Need-returns
 returns c = closes (c .before .before .before .before .before .before .before .before .before .pre .0) (c .before .before .before .before .before .before .before .before .before .pre .1) (c .before .before .before .before .before .before .lower-numbers .ensures) (c .before .before .move-down .ensures) refl
