@@ -7,13 +7,12 @@ use lib.ListN.{length}
 use Rattle.rules.specs.declared.Sizes.{Sizes}
 use Rattle.rules.specs.declared.Command.{Command}
 use Rattle.rules.specs.declared.Answer.{Answer}
-use Rattle.layout.specs.Places.{sizesAt, entriesUsed}
+use Rattle.layout.specs.Places.{sizesAt}
 use Rattle.layout.specs.Words.{Words, words}
-use Rattle.chains.specs.Chains.{Chainable, ChainsWhole, withChains}
+use Rattle.chains.specs.Chains.{ChainsWhole, withChains}
 use Rattle.chains.specs.LentChains.{whole-written, written-whole, written-again}
 use Rattle.promises.specs.Whole.{WholeFor}
 use Rattle.promises.specs.Slices.{Slices, slices, WholeSlices}
-use Rattle.promises.specs.WholeChains.{whole-chainable}
 use Rattle.promises.specs.Promises.{DidHere, commandAt, size, RunAsked, Ran}
 use Rattle.promises.specs.Here.{did-anywhere}
 use Rattle.commands.specs.declared.Decoded.{Decoded}
@@ -47,9 +46,13 @@ left-did {p} {v = v} {a = a} l did = subst₂ (λ (b : Words) (y : Command). Did
 pub did-same : {s : Sizes} {w w′ : Words} {x y : Command} {a : Answer} → DidHere s w x w′ a → x ≡ y → DidHere s w y w′ a
 did-same {s} {w} {w′} {a = a} d e = subst (λ (m : Command). DidHere s w m w′ a) e d
 
--- a command leaves words whose entries can be chained
-pub did-chainable : {p : Sizes} {w w′ : Words} {x : Command} {a : Answer} → DidHere p w x w′ a → Chainable p (w′ .remember)
-did-chainable d = whole-chainable (d .next .stands .whole)
+-- chains that were written for whole words are theirs, and what is written over them is written over what stood there before
+module _ {p : Sizes} {w : Words} (k : List ℕ) {k₁ : List ℕ} (r : WholeFor p w) (e : k₁ ≡ withChains p (w .remember) k) where
+  pub chains-there : ChainsWhole p (w .remember) k₁
+  chains-there = subst (ChainsWhole p (w .remember)) (sym e) (written-whole p (w .remember) k (r .remember .entries .room))
+
+  pub chains-over : (m : List ℕ) {k₂ : List ℕ} → k₂ ≡ withChains p m k₁ → k₂ ≡ withChains p m k
+  chains-over m f = f ∙ ap (withChains p m) e ∙ written-again p (w .remember) m k (r .remember .entries .room)
 
 -- the state of the loop, with what each turn asks
 pub record Turning (p : Sizes) (l : Slices) (block lent : List ℕ) (c m t k answers : List ℕ) (i : ℕ) : Type 0 where
@@ -66,11 +69,8 @@ module _ {p : Sizes} {l : Slices} {block lent c m t k answers : List ℕ} {i : �
   pub turn-ready : WholeFor p (words c m t)
   turn-ready = s .looped .whole
 
-  entries-room : entriesUsed m ≤ p .entries
-  entries-room = turn-ready .remember .entries .room
-
   pub turn-chains : ChainsWhole p m k
-  turn-chains = subst (ChainsWhole p m) (sym (s .chains)) (written-whole p m (l .chains) entries-room)
+  turn-chains = chains-there (l .chains) turn-ready (s .chains)
 
   pub turn-end : size block ≤ i → Looped p (l .words) block lent (words c m t) answers (size block)
   turn-end h = looped-to (s .looped) (omega (arith, s .low))
@@ -89,7 +89,7 @@ module _ {p : Sizes} {l : Slices} {block lent c m t k answers : List ℕ} {i : �
         remember-long = d .beyond .remember .long ∙ s .remember-long;
         tables-long = d .beyond .tables .long ∙ s .tables-long;
         chains-long = long ∙ s .chains-long;
-        chains = e ∙ ap (withChains p m′) (s .chains) ∙ written-again p m m′ (l .chains) entries-room;
+        chains = chains-over (l .chains) turn-ready (s .chains) m′ e;
         looped = looped-more a (s .looped) h (s .room) (did-anywhere p (words c m t) (commandAt block i) (words c′ m′ t′) a d);
       }
 

@@ -14,30 +14,6 @@ use rules::Command;
 use rules::Sizes;
 
 // One command: what `commands` answers, the end of an epoch, or a collection, to which its thread means nothing.
-fn obey_words(
-    p: Sizes,
-    cells: &mut [u32],
-    remember: &mut [u32],
-    tables: &mut [u32],
-    chains: &[u32],
-    notes: &mut [u32],
-    m: Command,
-) -> Answer
-    requires { ⌜ WholeFor p (words (now cells) (now remember) (now tables)) ⌝ }
-    requires { ⌜ ChainsWhole p (now remember) (now chains) ⌝ }
-    requires { ⌜ Noted p (now tables) (now notes) ⌝ }
-    ensures { λ r. ⌜ DidHere p (words (now (cells .entry)) (now (remember .entry)) (now (tables .entry))) m (words (now (cells .exit)) (now (remember .exit)) (now (tables .exit))) r ⌝ }
-    ensures { λ _. ⌜ Noted p (now (tables .exit)) (now (notes .exit)) ⌝ }
-{
-    let o = commands::obey::obey(p, cells, remember, tables, notes, m);
-    match o {
-        Obeyed::Answered(a) => a,
-        Obeyed::Ends(t) => epoch::end(p, cells, remember, tables, chains, notes, layout::wide(t)),
-        Obeyed::Collects(_) => collect::collect(p, cells, remember, tables, notes),
-    }
-}
-
-// One command, and the chains.
 fn obey(
     p: Sizes,
     cells: &mut [u32],
@@ -54,9 +30,12 @@ fn obey(
     ensures { λ _. ⌜ now (chains .exit) ≡ withChains p (now (remember .exit)) (now (chains .entry)) ⌝ }
     ensures { λ _. ⌜ Noted p (now (tables .exit)) (now (notes .exit)) ⌝ }
 {
-    let a = obey_words(p, cells, remember, tables, chains, notes, m);
-    chains::rebuild(p, remember, chains);
-    a
+    let o = commands::obey::obey(p, cells, remember, tables, chains, notes, m);
+    match o {
+        Obeyed::Answered(a) => a,
+        Obeyed::Ends(t) => epoch::end(p, cells, remember, tables, chains, notes, layout::wide(t)),
+        Obeyed::Collects(_) => collect::collect(p, cells, remember, tables, chains, notes),
+    }
 }
 
 // Command i of a block.

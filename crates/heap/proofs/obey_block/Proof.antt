@@ -23,53 +23,53 @@ abbrev μ-loop : tie.MeasureT-loop
 μ-loop cells₀ remember₀ tables₀ chains₀ block answers₀ p n notes₀ i₀ cells remember tables chains answers notes i = n - i
 
 read-sizes-requires : tie.Need-read-sizes-requires Inv-loop μ-loop
-read-sizes-requires c κs = sizes-there (asked-whole (@pre) refl .words .sized)
+read-sizes-requires c κs = sizes-there (asked-whole (c .before .before .before .before .before .before .before .pre) refl .words .sized)
 
 loop-holds : tie.Need-loop-holds Inv-loop μ-loop
 loop-holds c =
-    let ready = whole-ready (asked-whole (@pre) refl) (@read-sizes .ensures) in
-    (turn-start (ready .0) (ready .1) (asked-room (@pre)), refl, omega arith, refl, noted-start _ _ _ (omega arith) refl)
+    let ready = whole-ready (asked-whole (c .before .before .before .before .before .before .before .before .pre) refl) (c .read-sizes .ensures) in
+    (turn-start (ready .0) (ready .1) (asked-room (c .before .before .before .before .before .before .before .before .pre)), refl, omega arith, refl, noted-start _ _ _ (omega arith) refl)
 
 slice-aggregate-obey-at : tie.Need-slice-aggregate-obey-at Inv-loop μ-loop
 slice-aggregate-obey-at c = search needs
 
 obey-at-requires : tie.Need-obey-at-requires Inv-loop μ-loop
 obey-at-requires c κs =
-    let inv = @loop .inv in
+    let inv = c .before .before .before .before .before .before .loop .inv in
     (turn-ready (inv .0), (turn-chains (inv .0), (inv .4, omega (arith, inv .1, inv .2))))
 
 mul-answers : tie.Need-mul-answers Inv-loop μ-loop
-mul-answers c = omega (arith, @loop .inv .1, @loop .inv .2)
+mul-answers c = omega (arith, c .before .before .before .before .before .before .before .before .before .before .before .before .before .before .before .before .loop .inv .1, c .before .before .before .before .before .before .before .before .before .before .before .before .before .before .before .before .loop .inv .2)
 
 mul-answers-2 : tie.Need-mul-answers-2 Inv-loop μ-loop
-mul-answers-2 c = omega (arith, @loop .inv .1, @loop .inv .2)
+mul-answers-2 c = omega (arith, c .before .before .before .before .before .before .before .before .before .before .before .before .before .before .before .before .loop .inv .1, c .before .before .before .before .before .before .before .before .before .before .before .before .before .before .before .before .loop .inv .2)
 
 slice-write-answers : tie.Need-slice-write-answers Inv-loop μ-loop
-slice-write-answers c = omega (arith, turn-fits (@loop .inv .0) (omega (arith, @loop .inv .1)))
+slice-write-answers c = omega (arith, turn-fits (c .before .before .before .before .before .before .before .before .before .before .before .before .before .before .before .before .loop .inv .0) (omega (arith, c .before .before .before .before .before .before .before .before .before .before .before .before .before .before .before .before .loop .inv .1)))
 
 mul-answers-3 : tie.Need-mul-answers-3 Inv-loop μ-loop
-mul-answers-3 c = omega (arith, @loop .inv .1, @loop .inv .2)
+mul-answers-3 c = omega (arith, c .before .before .before .before .before .before .before .before .before .before .before .before .before .before .before .before .loop .inv .1, c .before .before .before .before .before .before .before .before .before .before .before .before .before .before .before .before .loop .inv .2)
 
 add-answers : tie.Need-add-answers Inv-loop μ-loop
-add-answers c = omega (arith, @loop .inv .1, @loop .inv .2)
+add-answers c = omega (arith, c .before .before .before .before .before .before .before .before .before .before .before .before .before .before .before .before .loop .inv .1, c .before .before .before .before .before .before .before .before .before .before .before .before .before .before .before .before .loop .inv .2)
 
 mul-answers-4 : tie.Need-mul-answers-4 Inv-loop μ-loop
-mul-answers-4 c = omega (arith, @loop .inv .1, @loop .inv .2)
+mul-answers-4 c = omega (arith, c .before .before .before .before .before .before .before .before .before .before .before .before .before .before .before .before .loop .inv .1, c .before .before .before .before .before .before .before .before .before .before .before .before .before .before .before .before .loop .inv .2)
 
 slice-write-answers-2 : tie.Need-slice-write-answers-2 Inv-loop μ-loop
-slice-write-answers-2 c = lt-length-set (@loop .answers) (2 * @loop .i) _ (turn-fits (@loop .inv .0) (omega (arith, @loop .inv .1)))
+slice-write-answers-2 c = lt-length-set (c .before .before .before .before .before .before .before .before .before .before .before .before .before .before .before .before .loop .answers) (2 * c .before .before .before .before .before .before .before .before .before .before .before .before .before .before .before .before .loop .i) _ (turn-fits (c .before .before .before .before .before .before .before .before .before .before .before .before .before .before .before .before .loop .inv .0) (omega (arith, c .before .before .before .before .before .before .before .before .before .before .before .before .before .before .before .before .loop .inv .1)))
 
 add-i : tie.Need-add-i Inv-loop μ-loop
-add-i c = omega (arith, @loop .inv .1, @loop .inv .2)
+add-i c = omega (arith, c .before .before .before .before .before .before .before .before .before .before .before .before .before .before .before .before .loop .inv .1, c .before .before .before .before .before .before .before .before .before .before .before .before .before .before .before .before .loop .inv .2)
 
 loop-less : tie.Need-loop-less Inv-loop μ-loop
-loop-less c = omega (arith, @loop .inv .1)
+loop-less c = omega (arith, c .before .before .before .before .before .before .before .before .before .before .before .before .before .before .before .before .loop .inv .1)
 
 loop-again : tie.Need-loop-again Inv-loop μ-loop
 loop-again c =
-    let loop = @loop in
-    let obey-at = @obey-at in (
-      turn-more (loop .inv .0) (omega (arith, loop .inv .1)) (obey-at .ensures .0) (obey-at .ensures .1 .0) (obey-at .kept .1 .1 .1 .1 .0),
+    let loop = c .before .before .before .before .before .before .before .before .before .before .before .before .before .before .before .before .loop in
+    let obey-at = c .before .before .before .before .before .before .before .before .before .obey-at in (
+      turn-more (loop .inv .0) (omega (arith, loop .inv .1, c .before .before .before .before .before .before .before .before .before .before .before .before .before .before .before .loop-test .taken)) (obey-at .ensures .0) (obey-at .ensures .1 .0) (obey-at .kept .1 .1 .1 .1 .0),
       loop .inv .1,
       loop .inv .2,
       obey-at .kept .1 .1 .1 .1 .1 .0 ∙ loop .inv .3,
@@ -77,22 +77,22 @@ loop-again c =
     )
 
 same-length : tie.Need-same-length Inv-loop μ-loop
-same-length c = @loop .inv .0 .cells-long
+same-length c = c .before .loop .inv .0 .cells-long
 
 same-length-2 : tie.Need-same-length-2 Inv-loop μ-loop
-same-length-2 c = @loop .inv .0 .remember-long
+same-length-2 c = c .before .loop .inv .0 .remember-long
 
 same-length-3 : tie.Need-same-length-3 Inv-loop μ-loop
-same-length-3 c = @loop .inv .0 .tables-long
+same-length-3 c = c .before .loop .inv .0 .tables-long
 
 same-length-4 : tie.Need-same-length-4 Inv-loop μ-loop
-same-length-4 c = @loop .inv .0 .chains-long
+same-length-4 c = c .before .loop .inv .0 .chains-long
 
 same-length-5 : tie.Need-same-length-5 Inv-loop μ-loop
-same-length-5 c = @loop .inv .0 .looped .spare .long
+same-length-5 c = c .before .loop .inv .0 .looped .spare .long
 
 returns : tie.Need-returns Inv-loop μ-loop
-returns c = looped-found (@pre) (@read-sizes .ensures) (@loop .inv .0) (omega (arith, @loop .inv .1))
+returns c = looped-found (c .before .before .before .before .before .before .before .before .before .before .pre) (c .before .before .read-sizes .ensures) (c .before .loop .inv .0) (omega (arith, c .before .loop .inv .1))
 
 pub obey-block-spec : {M : Type 1} → statement M
 obey-block-spec =
