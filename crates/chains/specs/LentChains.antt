@@ -34,8 +34,8 @@ module _ (s : Sizes) (m : List ℕ) {R : ℕ} (e : R ≡ regions s) (k : List �
   agreed-words w = subst (λ (r : ℕ). take (r + s .entries) k ≡ chainsOf r (s .entries) (entriesIn (s .entries) m)) (sym e) (w .words)
 
 -- words that have the chains are as they would be written
-pub whole-written : {s : Sizes} {m k : List ℕ} → ChainsWhole s m k → withChains s m k ≡ k
-whole-written {s} {m} {k} w = ap (λ (l : List ℕ). l ++ drop (chainsWords s) k) (sym (w .words)) ∙ take-append-drop (chainsWords s) k
+pub chains-same : {s : Sizes} {m k : List ℕ} → ChainsWhole s m k → k ≡ withChains s m k
+chains-same {s} {m} {k} w = sym (take-append-drop (chainsWords s) k) ∙ ap (λ (l : List ℕ). l ++ drop (chainsWords s) k) (w .words)
 
 module _ (s : Sizes) (m k : List ℕ) (room : entriesUsed m ≤ s .entries) where
   pub chains-in-long : length (chainsIn s m) ≡ chainsWords s

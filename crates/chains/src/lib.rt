@@ -35,12 +35,7 @@ pub fn rebuild(p: Sizes, remember: &[u32], chains: &mut [u32])
     requires { ⌜ chainsWords p ≤ length (now chains) ⌝ }
     ensures { λ _. ⌜ now (chains .exit) ≡ withChains p (now (remember .entry)) (now (chains .entry)) ⌝ }
 {
-    relink(
-        p.entries,
-        remember,
-        layout::regions::last_region(p),
-        chains,
-    );
+    relink(p.entries, remember, layout::regions::last_region(p), chains);
 }
 
 // Whether each used entry's next word is right, from the last down; `first` starts as zero and ends as the first words.

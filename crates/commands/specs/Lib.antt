@@ -5,7 +5,6 @@ pub mod Fields
 pub mod Does
 pub mod Variables
 pub mod Objects
-pub mod Chaining
 pub mod Storing
 pub mod Making
 pub mod Obeys

@@ -41,7 +41,8 @@ use Rattle.commands.specs.ThreadVariables.{variable}
 use Rattle.commands.specs.Does.{Does}
 use Rattle.commands.specs.Objects.{is-ref, asked-is, within, in-use, is-field, heap-var}
 use Rattle.commands.specs.Fields.{Field}
-use Rattle.commands.specs.Chaining.{whole-chainable, crosses-low}
+use Rattle.promises.specs.OwnedPages.{owner-low}
+use Rattle.promises.specs.WholeChains.{other-low, whole-chainable}
 
 -- the slot of reference f of x's object
 abbrev pub slotOf : List ℕ → ℕ → ℕ → ℕ
@@ -156,8 +157,8 @@ module _ (p : Sizes) (c m t : List ℕ) (k : WholeFor p (words c m t)) (u a : �
           new = slot-unnamed;
           before = subst (λ (j : ℕ). Names p (getD c j 0)) place (λ z. begins-page _ _ _ _ (k .objects y there .references f inside (omega arith)));
           after = λ z. begins-page _ _ _ _ (is-ref p c m t k u b l o v ev (omega arith));
-          chainable = whole-chainable s w k;
-          low = crosses-low s w k _ v;
+          chainable = whole-chainable k;
+          low = other-low s (w .tables) (regions s) (owner-low s w k) _ v;
         }
 
     module _ (v : ℕ) (ev : v ≡ variable p t u b) (c′ m′ : List ℕ) (j : ℕ) (d : Stored p c m t x f v c′ m′ j) where

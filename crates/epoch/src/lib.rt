@@ -111,6 +111,16 @@ pub fn end(
             region,
         );
     }
-    evacuate::evacuate_none(p, cells, remember, tables, chains, notes, thread, level, region);
+    evacuate::evacuate_none(
+        p,
+        cells,
+        remember,
+        tables,
+        chains,
+        notes,
+        thread,
+        level,
+        region,
+    );
     rules::done(0)
 }

@@ -10,7 +10,7 @@ use Rattle.rules.specs.declared.Answer.{Answer}
 use Rattle.layout.specs.Places.{sizesAt}
 use Rattle.layout.specs.Words.{Words, words}
 use Rattle.chains.specs.Chains.{ChainsWhole, withChains}
-use Rattle.chains.specs.LentChains.{whole-written, written-whole, written-again}
+use Rattle.chains.specs.LentChains.{chains-same, written-whole, written-again}
 use Rattle.promises.specs.Whole.{WholeFor}
 use Rattle.promises.specs.Slices.{Slices, slices, WholeSlices}
 use Rattle.promises.specs.Promises.{DidHere, commandAt, size, RunAsked, Ran}
@@ -102,7 +102,7 @@ turn-start {p} {block} {lent} {c} {m} {t} r w room =
       remember-long = refl;
       tables-long = refl;
       chains-long = refl;
-      chains = sym (whole-written w);
+      chains = chains-same w;
       looped = looped-start p (words c m t) block lent r;
     }
 

@@ -71,7 +71,15 @@ fn obey_at(
     ensures { λ _. ⌜ now (chains .exit) ≡ withChains p (now (remember .exit)) (now (chains .entry)) ⌝ }
     ensures { λ _. ⌜ Noted p (now (tables .exit)) (now (notes .exit)) ⌝ }
 {
-    obey(p, cells, remember, tables, chains, notes, command_at(block, i))
+    obey(
+        p,
+        cells,
+        remember,
+        tables,
+        chains,
+        notes,
+        command_at(block, i),
+    )
 }
 
 // The commands of a block, in order, each with its two answer words. The notes live as long as the block.

@@ -60,8 +60,6 @@ module _ (R q : ℕ) (es es′ : List Entry) (l : Lacks q es es′) (long : leng
 -- ---- a table with its chains
 
 -- the table is as it was
-pub chains-same : {p : Sizes} {m k : List ℕ} → ChainsWhole p m k → k ≡ withChains p m k
-chains-same {p} {m} {k} whole = begins-with (chainsWords p) k k _ refl (λ j l. refl) (whole .words)
 
 -- with the number of the last region, as read
 module _ {p : Sizes} {m k : List ℕ} (t : Chainable p m) (whole : ChainsWhole p m k) {R : ℕ} (last : R ≡ regions p) where

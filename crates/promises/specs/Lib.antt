@@ -23,6 +23,7 @@ pub mod GivenBack
 pub mod PagesTaken
 -- theorems: prepared words and a chain of commands beside the rules' unused heap and run
 pub mod WholeChains
+pub mod ChainHolders
 pub mod Preparing
 pub mod Chained
 pub mod Once

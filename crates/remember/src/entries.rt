@@ -6,7 +6,6 @@ ghost use lib.ListN.{length};
 ghost use Rattle.layout.specs.Places.{entriesUsed, slotIn, entriesWords};
 ghost use Rattle.remember.specs.Entries.{entered};
 ghost use Rattle.remember.specs.Table.{entry, entriesIn, withEntries, inserted, removed, placeOf, Table};
-ghost use Rattle.remember.specs.Remembering.{Remembered};
 ghost use Rattle.remember.specs.Stretches.{Cleared, EndsAfter};
 use crate::shift::lower;
 use crate::shift::raise;
@@ -71,34 +70,6 @@ pub fn remove_entry(entries: usize, remember: &mut [u32], place: usize)
     lower(remember, 2 + entries + place, 2 + entries + used);
     put_entry(entries, remember, last, 0, 0);
     layout::remember::set_used(remember, last as u32);
-}
-
-// Slot `at` crossed into `was` and is to cross into `will`: its entry stays, goes, comes or changes its region, or there is no room (14).
-pub fn remember_slot(entries: usize, remember: &mut [u32], at: usize, was: u32, will: u32) -> u32
-    requires table { ⌜ Table entries (now remember) ⌝ }
-    requires { ⌜ (entries < 2 ^ 32) × (at < 2 ^ 32) ⌝ }
-    requires named { ⌜ (0 < was → (i : ℕ) × (i < entriesUsed (now remember)) × (slotIn (now remember) i ≡ at)) ⌝ }
-    requires new { ⌜ (was ≡ 0 → (i : ℕ) → i < entriesUsed (now remember) → slotIn (now remember) i ≡ at → ⊥) ⌝ }
-    ensures { λ r. ⌜ Remembered entries (now (remember .entry)) at was will (now (remember .exit)) r ⌝ }
-{
-    if was == will {
-        return 0;
-    }
-    if was == 0 {
-        if entries <= layout::wide(layout::remember::used(remember)) {
-            return 14;
-        }
-        let place = find_entry(entries, remember, at as u32);
-        insert_entry(entries, remember, place, at as u32, will);
-        return 0;
-    }
-    let place = find_entry(entries, remember, at as u32);
-    if will == 0 {
-        remove_entry(entries, remember, place);
-        return 0;
-    }
-    layout::remember::set_region(entries, remember, place, will);
-    0
 }
 
 // Entries `from` up to `to` become zero; none where `to` is not above `from`.

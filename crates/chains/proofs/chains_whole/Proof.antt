@@ -21,9 +21,9 @@ words-agree-requires c κs = (chainable-listed (c .before .before .before .befor
 
 returns-2 : tie.Need-returns-2
 returns-2 c = (
-      λ q. chains-agree (c .before .before .before .before .before .args .p) (c .before .before .before .before .before .args .remember .now) (c .before .before .last-region .ensures) (c .before .before .before .before .before .args .chains .now) (c .words-agree .ensures .0 q),
-      λ w. c .words-agree .ensures .1 (agreed-words (c .before .before .before .before .before .args .p) (c .before .before .before .before .before .args .remember .now) (c .before .before .last-region .ensures) (c .before .before .before .before .before .args .chains .now) w),
-    )
+  λ q. chains-agree (c .before .before .before .before .before .args .p) (c .before .before .before .before .before .args .remember .now) (c .before .before .last-region .ensures) (c .before .before .before .before .before .args .chains .now) (c .words-agree .ensures .0 q),
+  λ w. c .words-agree .ensures .1 (agreed-words (c .before .before .before .before .before .args .p) (c .before .before .before .before .before .args .remember .now) (c .before .before .last-region .ensures) (c .before .before .before .before .before .args .chains .now) w),
+)
 
 pub chains-whole-spec : {M : Type 1} → statement M
 chains-whole-spec =

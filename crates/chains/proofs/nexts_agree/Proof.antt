@@ -59,10 +59,11 @@ same-length : tie.Need-same-length Inv-loop μ-loop
 same-length c = c .before .before .before .before .before .before .before .loop .inv .1
 
 returns : tie.Need-returns Inv-loop μ-loop
-returns c =
-    (says-no (next-wrong (c .before .before .before .before .before .before .before .before .before .before .before .before .before .pre .0 .among) (near (c .before .before .before .before)) (c .before .before .before .before .before .before .loop-test .taken) (c .before .before .before .before .before .before .before .before .before .before .before .before .before .args .chains .now) (c .before .before .before .before .before .before .before .loop .first) (c .before .before .before .before .before .before .before .loop .inv .2)
-    (λ q. c .if1 .taken (c .before .before .before .next .ensures ∙ q ∙ sym (c .before .first .ensures)))),
-    λ e. absurd (true-not-false e))
+returns c = (
+  says-no (next-wrong (c .before .before .before .before .before .before .before .before .before .before .before .before .before .pre .0 .among) (near (c .before .before .before .before)) (c .before .before .before .before .before .before .loop-test .taken) (c .before .before .before .before .before .before .before .before .before .before .before .before .before .args .chains .now) (c .before .before .before .before .before .before .before .loop .first) (c .before .before .before .before .before .before .before .loop .inv .2)
+      (λ q. c .if1 .taken (c .before .before .before .next .ensures ∙ q ∙ sym (c .before .first .ensures)))),
+  λ e. absurd (true-not-false e),
+)
 
 add-set-first : tie.Need-add-set-first Inv-loop μ-loop
 add-set-first c = omega (arith, c .before .before .before .before .before .before .before .before .before .before .before .before .before .before .pre .0 .room, c .before .before .before .before .before .before .before .before .before .before .before .before .before .before .pre .0 .entries, c .before .before .before .before .before .before .before .before .loop .inv .0)
@@ -84,7 +85,7 @@ loop-again c =
       omega (arith, l .inv .0),
       ap length (c .before .before .set-first .ensures) ∙ length-set (l .first) (c .before .before .before .before .before .before .before .before .wide2 .result - 1) (l .i - 1 + 1) ∙ l .inv .1,
       subst (Firsts (c .before .before .before .before .before .before .before .before .before .before .before .before .before .before .before .before .before .args .last) es (l .i - 1)) (sym (c .before .before .set-first .ensures))
-      (firsts-more es (c .before .before .before .before .before .before .before .before .before .before .loop-test .taken) (r .place) (r .is) (c .before .before .before .before .before .before .before .before .before .before .before .before .before .before .before .before .before .pre .0 .among) (l .first) (l .inv .2) (omega (arith, l .inv .1, c .before .before .before .before .before .before .before .before .before .before .before .before .before .before .before .before .before .pre .1 .1 .0))),
+          (firsts-more es (c .before .before .before .before .before .before .before .before .before .before .loop-test .taken) (r .place) (r .is) (c .before .before .before .before .before .before .before .before .before .before .before .before .before .before .before .before .before .pre .0 .among) (l .first) (l .inv .2) (omega (arith, l .inv .1, c .before .before .before .before .before .before .before .before .before .before .before .before .before .before .before .before .before .pre .1 .1 .0))),
       nexts-more (c .before .before .before .before .before .before .before .before .before .before .before .before .before .before .before .before .before .pre .0 .among) r (c .before .before .before .before .before .before .before .before .before .before .loop-test .taken) (c .before .before .before .before .before .before .before .before .before .before .before .before .before .before .before .before .before .args .chains .now) (l .first) (l .inv .2) (sym (c .before .before .before .before .before .before .before .next .ensures) ∙ c .before .before .before .before .if1 .left ∙ c .before .before .before .before .before .first .ensures) (l .inv .3),
     )
 

@@ -7,7 +7,7 @@ use native.Mathlib.Omega.{arith}
 use lib.ListN.{length}
 use Rattle.layout.specs.Places.{depthOf, markOf}
 use Rattle.layout.specs.Words.{Words, words}
-use Rattle.chains.specs.LentChains.{whole-written}
+use Rattle.chains.specs.LentChains.{chains-same}
 use Rattle.promises.specs.Reading.{whole-room}
 use Rattle.promises.specs.Questions.{did-answer}
 use Rattle.mark.specs.Survivors.{none-survives}
@@ -47,8 +47,6 @@ ending c =
 unmarked : (c : tie.After-mark-survivors) → c .mark-survivors .result ≡ false → (page : ℕ) → page < c .before .before .before .before .before .before .before .before .before .before .before .before .before .before .before .args .p .pages → markOf (c .before .before .before .before .before .before .before .before .before .before .before .before .before .before .before .args .p) (after c .tables) page ≡ 0
 unmarked c e = none-survives (c .before .before .before .before .before .before .before .before .before .before .before .before .before .before .before .args .p) (before c) _ (after c) (ending c .marks) (c .mark-survivors .result) (c .mark-survivors .ensures .1) e
 
-
-
 depth-requires : tie.Need-depth-requires
 depth-requires c κs =
     let a = c .before .before .before .before .before .before .args in
@@ -69,7 +67,7 @@ returns c =
     let pre = c .before .before .before .before .before .before .before .before .before .before .pre in (
       did-answer (c .refused .ensures)
           (refused-shut (a .p) (words (a .cells .now) (a .remember .now) (a .tables .now)) (pre .0) (a .thread) (pre .1 .0) (sym (c .before .before .wide .ensures ∙ c .before .before .before .depth .ensures) ∙ c .before .if1 .taken)),
-      (pre .1 .1 .0, sym (whole-written (pre .1 .1 .1))),
+      (pre .1 .1 .0, chains-same (pre .1 .1 .1)),
     )
 
 region-at-requires : tie.Need-region-at-requires

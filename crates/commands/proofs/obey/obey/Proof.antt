@@ -1,7 +1,7 @@
 -- Each arm by the promise of its command.
 use mathlib.Core.Path.{refl}
 use Rattle.commands.specs.declared.Decoded.the-variants.{Start, New, Copy, Clear, Load, Store, Read, Write, Same}
-use Rattle.linking.specs.EntryChains.{chains-same}
+use Rattle.chains.specs.LentChains.{chains-same}
 use Rattle.pages.specs.Noted.{noted-kept}
 use Rattle.commands.specs.Obeys.{in-range, obeyed, ends, collects, not-obeyed}
 use borrow.Author.Needs.{needs}

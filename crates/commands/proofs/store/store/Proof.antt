@@ -6,7 +6,7 @@ use mathlib.Core.Path.{_≡_, ap, _∙_}
 use Rattle.rules.specs.Terms.{refused}
 use Rattle.promises.specs.Questions.{did-answer}
 use Rattle.layout.specs.Words.{words}
-use Rattle.linking.specs.EntryChains.{chains-same}
+use Rattle.chains.specs.LentChains.{chains-same}
 use Rattle.promises.specs.Reading.{whole-room}
 use Rattle.commands.specs.Objects.{names-cell}
 use Rattle.commands.specs.Storing.{storing, store-refused, store-did}

@@ -6,7 +6,8 @@ use borrow.Author.Needs.{needs}
 use Rattle.layout.specs.Places.{entriesUsed}
 use Rattle.remember.specs.Remembering.{place-low, place-used, entry-comes, entry-changes, entry-goes}
 use Rattle.remember.specs.Remembering.Remembered.{kept, full}
-use Rattle.linking.specs.EntryChains.{chains-same, table-came, table-went, table-changed}
+use Rattle.chains.specs.LentChains.{chains-same}
+use Rattle.linking.specs.EntryChains.{table-came, table-went, table-changed}
 use Rattle.linking.proofs.entries.remember_slot.Statement.{statement}
 use Rattle.linking.proofs.entries.remember_slot.Tie as tie
 
