@@ -32,13 +32,7 @@ fn refused(number: u32) -> Reported
 }
 
 // Questions 3, 16 and 15, of a list of so many rows, and the result that they give.
-fn ask(
-    cells: &[u32],
-    remember: &[u32],
-    tables: &[u32],
-    chains: &[u32],
-    room: usize,
-) -> Reported
+fn ask(cells: &[u32], remember: &[u32], tables: &[u32], chains: &[u32], room: usize) -> Reported
     ensures { λ r. ⌜ Asking (slices (now (cells .entry)) (now (remember .entry)) (now (tables .entry)) (now (chains .entry))) room r ⌝ }
 {
     if !whole::whole(cells, remember, tables) {
