@@ -127,7 +127,7 @@ module _ (l : Slices) (lent : List Row) (r : Reported) (k : Asking l (length len
   asked-few = go (k .asked)
     where
       none : r .rows ≡ 0 → (r .rows ≤ length lent) × (r .rows ≤ length (these w)) × (0 < r .rows → WholeTables (sizesAt (w .tables)) (w .tables))
-      none z = (omega arith, omega arith, λ l. absurd (let y : ⊥ = omega arith in y))
+      none z = (omega arith, omega arith, λ n. absurd (let y : ⊥ = omega arith in y))
 
       go : ReportAsked l (length lent) (r .number) → (r .rows ≤ length lent) × (r .rows ≤ length (these w)) × (0 < r .rows → WholeTables (sizesAt (w .tables)) (w .tables))
       go (notWhole e n) = none (rows-of e)
@@ -149,4 +149,4 @@ module _ (l : Slices) (lent : List Row) (r : Reported) (k : Asking l (length len
       go (short e h n) = none e
       go (accepted e h n) =
           ap (λ (i : ℕ). written (these w) i lent) (rows-all e (h .words)) ∙ written-all (these w) lent
-          ∙ ap (λ (l : List Row). l ++ drop (length l) lent) (these-stand w (h .words)) ∙ sym (ap (leftOf (sizesIn w) (heapOf (sizesIn w) w) lent) e)
+          ∙ ap (λ (x : List Row). x ++ drop (length x) lent) (these-stand w (h .words)) ∙ sym (ap (leftOf (sizesIn w) (heapOf (sizesIn w) w) lent) e)

@@ -218,7 +218,7 @@ module _ {M : Type 1} (𝓤 : URA M) (H : Heap 𝓤) (A : Atoms 𝓤) (W : Given
         -- [the two tokens; the last list; that it is as long; true; tables; the token of the chains; true; the other two tokens; chains; remember; cells;
         -- the locals, from _10 down]
         land ! (from ! (stop !)) (init ! 16 refl (subst (λ (m : Val). Holds (hasTy tyUnit m) × WT m) (sym (ap only none)) (tt, tt))) $
-        rewrite ! 1 (λ (l : List Row). ‵ (finally T.the-row (x .name) l)) e refl $
+        rewrite ! 1 (λ (y : List Row). ‵ (finally T.the-row (x .name) y)) e refl $
         assigns ! (of-opd ! (load ! (from ! (stop !)) (look ! 20 refl))) (from ! (stop !)) (init ! 32 refl (LL.lawful R.the-type R′.the-laws 𝓤 H A W .typed r _ (known-as r u is) .0)) $
         returns ! (look ! 32 refl) $ forget ! 12 refl $ forget ! 14 refl $ forget ! 16 refl $ forget ! 18 refl $ forget ! 20 refl $ forget ! 22 refl $ forget ! 24 refl $ forget ! 26 refl $ forget ! 28 refl $ forget ! 30 refl $ forget ! 32 refl $
         move ! (32 ∷ 33 ∷ []) $ free1 ! $ move ! (30 ∷ 31 ∷ []) $ free1 ! $ move ! (28 ∷ 29 ∷ []) $ free1 ! $ move ! (26 ∷ 27 ∷ []) $ free1 ! $ move ! (24 ∷ 25 ∷ []) $ free1 ! $ move ! (22 ∷ 23 ∷ []) $ free1 ! $ move ! (20 ∷ 21 ∷ []) $ free1 ! $ move ! (18 ∷ 19 ∷ []) $ free1 ! $ move ! (16 ∷ 17 ∷ []) $ free1 ! $ move ! (14 ∷ 15 ∷ []) $ free1 ! $ move ! (12 ∷ 13 ∷ []) $ free1 ! $ free0 ! $
