@@ -12,11 +12,14 @@ use Rattle.rules.specs.Rules.{graph}
 use Rattle.rules.specs.declared.Sizes.{Sizes}
 use Rattle.layout.specs.Places.{sizesAt, entriesUsed, madeOf, freedOf}
 use Rattle.layout.specs.Words.{Words, sizesIn, heapOf}
+use Rattle.chains.specs.Chains.{ChainsWhole}
 use Rattle.promises.specs.Whole.{WholeWords}
+use Rattle.promises.specs.Slices.{Slices, WholeSlices}
+use Rattle.promises.specs.WholeChains.{read-other}
 use Rattle.promises.specs.Agreed.{heapOf-stands}
 use Rattle.promises.specs.Crossings.{heap-entries}
 use Rattle.report.specs.declared.Row.{Row}
-use Rattle.report.specs.Report.{noRow, rows, rowCount, ReportAsked, notWhole, short, accepted, Told, refusing, resultOf, leftOf, totalOf}
+use Rattle.report.specs.Report.{noRow, rows, rowCount, ReportAsked, notWhole, otherChains, short, accepted, Told, refusing, resultOf, leftOf, totalOf}
 use Rattle.report.specs.Tables.{WholeTables, rowIn, openIn, rowsIn, whole-tables, freeIn}
 use Rattle.report.specs.Stands.{rows-stand, free-stands, made-stands, freed-stands, total-stands}
 use Rattle.report.specs.declared.Reported.{Reported}
@@ -53,9 +56,9 @@ abbrev pub RegionOf : List ℕ → ℕ → Type 0
 RegionOf t g = WholeTables (sizesAt t) t × (1 ≤ g) × (g ≤ regions (sizesAt t))
 
 -- the questions of a list of so many rows gave r
-pub record Asking (w : Words) (room : ℕ) (r : Reported) : Type 0 where
-  pub asked : ReportAsked w room (r .number)
-  pub result : r ≡ resultOf (sizesIn w) (heapOf (sizesIn w) w) (r .number)
+pub record Asking (l : Slices) (room : ℕ) (r : Reported) : Type 0 where
+  pub asked : ReportAsked l room (r .number)
+  pub result : r ≡ resultOf (sizesIn (l .words)) (heapOf (sizesIn (l .words)) (l .words)) (r .number)
 
 -- the rows of the tables are those of the heap that the words make
 module _ (w : Words) where
@@ -77,25 +80,29 @@ pub reporting-same : {n n′ f f′ x x′ m m′ d d′ v v′ : ℕ} → n ≡
 reporting-same n f x m d v = λ i. reporting (n i) (f i) (x i) (m i) (d i) (v i)
 
 -- as the code answers; p are the sizes that it read
-module _ (w : Words) (room : ℕ) where
-  pub asking-not-whole : (WholeWords w → ⊥) → Asking w room (refusing 3)
+module _ (l : Slices) (room : ℕ) where
+  pub asking-not-whole : (WholeWords (l .words) → ⊥) → Asking l room (refusing 3)
   asking-not-whole n = record { asked = notWhole refl n; result = refl }
 
-  module _ (k : WholeWords w) (p : Sizes) (e : p ≡ sizesAt (w .tables)) (n : ℕ) (all : n ≡ length (rowsIn p (w .tables))) where
-    counted : n ≡ length (these w)
-    counted = all ∙ ap (λ (q : Sizes). length (rowsIn q (w .tables))) e
+  pub asking-other : WholeWords (l .words) → {p : Sizes} → p ≡ sizesAt (l .words .tables) → (ChainsWhole p (l .words .remember) (l .chains) → ⊥) → Asking l room (refusing 16)
+  asking-other k e n = record { asked = otherChains refl k (read-other e n); result = refl }
 
-    pub asking-short : room < n → Asking w room (refusing 15)
-    asking-short l = record { asked = short refl k (omega (arith, counted, these-length w)); result = refl }
+  module _ (k : WholeSlices l) (p : Sizes) (e : p ≡ sizesAt (l .words .tables)) (n : ℕ) (all : n ≡ length (rowsIn p (l .words .tables))) where
+    counted : n ≡ length (these (l .words))
+    counted = all ∙ ap (λ (q : Sizes). length (rowsIn q (l .words .tables))) e
 
-    pub asking-all : (f x m d v : ℕ) → n ≤ room → f ≡ freeIn p (w .tables) → x ≡ entriesUsed (w .remember)
-        → m ≡ madeOf p (w .tables) → d ≡ freedOf p (w .tables) → v ≡ totalOf (rowsIn p (w .tables)) → Asking w room (reporting n f x m d v)
-    asking-all f x m d v l free cross made freed total =
+    pub asking-short : room < n → Asking l room (refusing 15)
+    asking-short few = record { asked = short refl k (omega (arith, counted, these-length (l .words))); result = refl }
+
+    pub asking-all : (f x m d v : ℕ) → n ≤ room → f ≡ freeIn p (l .words .tables) → x ≡ entriesUsed (l .words .remember)
+        → m ≡ madeOf p (l .words .tables) → d ≡ freedOf p (l .words .tables) → v ≡ totalOf (rowsIn p (l .words .tables)) → Asking l room (reporting n f x m d v)
+    asking-all f x m d v enough free cross made freed total =
+        let w = l .words in
         let s = sizesIn w in
         let t = w .tables in
-        let h = heapOf (sizesIn w) w in
-        let st = heapOf-stands w k in
-        let n-is : n ≡ length (rows s h) = counted ∙ ap length (these-stand w k) in
+        let h = heapOf s w in
+        let st = heapOf-stands w (k .words) in
+        let n-is : n ≡ length (rows s h) = counted ∙ ap length (these-stand w (k .words)) in
         let f-is : f ≡ freePages s (graph h) = free ∙ ap (λ (q : Sizes). freeIn q t) e ∙ free-stands s t (w .cells) (w .remember) h (λ c. c) st in
         let x-is : x ≡ crossing (graph h) = cross ∙ heap-entries s w h (λ c. c) st in
         let m-is : m ≡ h .counters .made = made ∙ ap (λ (q : Sizes). madeOf q t) e ∙ made-stands s t (w .cells) (w .remember) h (λ c. c) st in
@@ -105,7 +112,10 @@ module _ (w : Words) (room : ℕ) where
 
 -- ---- rows written as asked for
 
-module _ (w : Words) (lent : List Row) (r : Reported) (k : Asking w (length lent) r) where
+module _ (l : Slices) (lent : List Row) (r : Reported) (k : Asking l (length lent) r) where
+  abbrev w : Words
+  w = l .words
+
   -- of the number that the questions gave
   rows-of : {q : ℕ} → r .number ≡ q → r .rows ≡ resultOf (sizesIn w) (heapOf (sizesIn w) w) q .rows
   rows-of e = ap (λ (x : Reported). x .rows) (k .result ∙ ap (resultOf (sizesIn w) (heapOf (sizesIn w) w)) e)
@@ -117,14 +127,15 @@ module _ (w : Words) (lent : List Row) (r : Reported) (k : Asking w (length lent
   asked-few = go (k .asked)
     where
       none : r .rows ≡ 0 → (r .rows ≤ length lent) × (r .rows ≤ length (these w)) × (0 < r .rows → WholeTables (sizesAt (w .tables)) (w .tables))
-      none z = (omega arith, omega arith, λ l. absurd (let y : ⊥ = omega arith in y))
+      none z = (omega arith, omega arith, λ n. absurd (let y : ⊥ = omega arith in y))
 
-      go : ReportAsked w (length lent) (r .number) → (r .rows ≤ length lent) × (r .rows ≤ length (these w)) × (0 < r .rows → WholeTables (sizesAt (w .tables)) (w .tables))
+      go : ReportAsked l (length lent) (r .number) → (r .rows ≤ length lent) × (r .rows ≤ length (these w)) × (0 < r .rows → WholeTables (sizesAt (w .tables)) (w .tables))
       go (notWhole e n) = none (rows-of e)
-      go (short e h l) = none (rows-of e)
-      go (accepted e h l) = (omega (arith, rows-all e h, these-length w), omega (arith, rows-all e h), λ z. whole-tables h refl)
+      go (otherChains e h n) = none (rows-of e)
+      go (short e h n) = none (rows-of e)
+      go (accepted e h n) = (omega (arith, rows-all e (h .words), these-length w), omega (arith, rows-all e (h .words)), λ z. whole-tables (h .words) refl)
 
-  pub told-written : Told w lent r (written (these w) (r .rows) lent)
+  pub told-written : Told l lent r (written (these w) (r .rows) lent)
   told-written = record { asked = k .asked; result = k .result; rows-left = go (k .asked) }
     where
       none : {q : ℕ} → r .number ≡ suc q → written (these w) (r .rows) lent ≡ leftOf (sizesIn w) (heapOf (sizesIn w) w) lent (r .number)
@@ -132,9 +143,10 @@ module _ (w : Words) (lent : List Row) (r : Reported) (k : Asking w (length lent
           ap (λ (i : ℕ). written (these w) i lent) (rows-of e) ∙ written-none (these w) lent
           ∙ sym (ap (leftOf (sizesIn w) (heapOf (sizesIn w) w) lent) e)
 
-      go : ReportAsked w (length lent) (r .number) → written (these w) (r .rows) lent ≡ leftOf (sizesIn w) (heapOf (sizesIn w) w) lent (r .number)
+      go : ReportAsked l (length lent) (r .number) → written (these w) (r .rows) lent ≡ leftOf (sizesIn w) (heapOf (sizesIn w) w) lent (r .number)
       go (notWhole e n) = none e
-      go (short e h l) = none e
-      go (accepted e h l) =
-          ap (λ (i : ℕ). written (these w) i lent) (rows-all e h) ∙ written-all (these w) lent
-          ∙ ap (λ (l : List Row). l ++ drop (length l) lent) (these-stand w h) ∙ sym (ap (leftOf (sizesIn w) (heapOf (sizesIn w) w) lent) e)
+      go (otherChains e h n) = none e
+      go (short e h n) = none e
+      go (accepted e h n) =
+          ap (λ (i : ℕ). written (these w) i lent) (rows-all e (h .words)) ∙ written-all (these w) lent
+          ∙ ap (λ (x : List Row). x ++ drop (length x) lent) (these-stand w (h .words)) ∙ sym (ap (leftOf (sizesIn w) (heapOf (sizesIn w) w) lent) e)

@@ -13,7 +13,9 @@ use Rattle.rules.specs.Regions.{threadOf, levelOf, regions}
 use Rattle.rules.specs.Graph.{crossing, pagesOf, objectsIn, freePages}
 use Rattle.rules.specs.Rules.{Regioned, graph}
 use Rattle.layout.specs.Words.{Words, sizesIn, depthsIn, heapOf}
+use Rattle.chains.specs.Chains.{ChainsWhole}
 use Rattle.promises.specs.Whole.{WholeWords}
+use Rattle.promises.specs.Slices.{Slices, WholeSlices}
 use Rattle.report.specs.declared.Row.{Row}
 use Rattle.report.specs.declared.Reported.{Reported}
 
@@ -47,16 +49,17 @@ unfoldable pub totalOf : List Row → ℕ
 totalOf [] = 0
 totalOf (r ∷ rs) = r .objects + totalOf rs
 
--- ---- the questions 3 and 15 in order, of a lent list of so many rows: q is the first that says no, 0 if none does
+-- ---- the questions 3, 16 and 15 in order, of a lent list of so many rows: q is the first that says no, 0 if none does
 
 -- how many rows there are
 abbrev pub rowCount : Words → ℕ
 rowCount w = length (openRegions (sizesIn w) (depthsIn (sizesIn w) w))
 
-pub data ReportAsked (w : Words) (room q : ℕ) : Type 0 where
-  notWhole : q ≡ 3 → (WholeWords w → ⊥) → ReportAsked w room q
-  short : q ≡ 15 → WholeWords w → room < rowCount w → ReportAsked w room q
-  accepted : q ≡ 0 → WholeWords w → rowCount w ≤ room → ReportAsked w room q
+pub data ReportAsked (l : Slices) (room q : ℕ) : Type 0 where
+  notWhole : q ≡ 3 → (WholeWords (l .words) → ⊥) → ReportAsked l room q
+  otherChains : q ≡ 16 → WholeWords (l .words) → (ChainsWhole (sizesIn (l .words)) (l .words .remember) (l .chains) → ⊥) → ReportAsked l room q
+  short : q ≡ 15 → WholeSlices l → room < rowCount (l .words) → ReportAsked l room q
+  accepted : q ≡ 0 → WholeSlices l → rowCount (l .words) ≤ room → ReportAsked l room q
 
 -- ---- the report, once the questions gave q
 
@@ -83,8 +86,8 @@ abbrev pub leftOf : Sizes → Regioned → List Row → ℕ → List Row
 leftOf s h lent zero = rows s h ++ drop (length (rows s h)) lent
 leftOf s h lent (suc q) = lent
 
--- the report on the words w with lent rows gave r and left these rows, said of the heap that the words make
-pub record Told (w : Words) (lent : List Row) (r : Reported) (left : List Row) : Type 0 where
-  pub asked : ReportAsked w (length lent) (r .number)
-  pub result : r ≡ resultOf (sizesIn w) (heapOf (sizesIn w) w) (r .number)
-  pub rows-left : left ≡ leftOf (sizesIn w) (heapOf (sizesIn w) w) lent (r .number)
+-- the report on the slices l with lent rows gave r and left these rows, said of the heap that their words make
+pub record Told (l : Slices) (lent : List Row) (r : Reported) (left : List Row) : Type 0 where
+  pub asked : ReportAsked l (length lent) (r .number)
+  pub result : r ≡ resultOf (sizesIn (l .words)) (heapOf (sizesIn (l .words)) (l .words)) (r .number)
+  pub rows-left : left ≡ leftOf (sizesIn (l .words)) (heapOf (sizesIn (l .words)) (l .words)) lent (r .number)

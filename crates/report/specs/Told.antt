@@ -10,12 +10,13 @@ use Rattle.rules.specs.Graph.{crossing, freePages}
 use Rattle.rules.specs.Rules.{Counters, Leaves, counted, Regioned, graph}
 use Rattle.layout.specs.Words.{Words, sizesIn, madeIn, freedIn, heapOf}
 use Rattle.promises.specs.Whole.{WholeWords}
+use Rattle.promises.specs.Slices.{Slices}
 use Rattle.promises.specs.StandsFor.{StandsFor}
 use Rattle.promises.specs.Agreed.{heap-stands, heapOf-stands}
 use Rattle.promises.specs.Crossings.{heap-entries}
 use Rattle.report.specs.declared.Row.{Row}
 use Rattle.report.specs.declared.Reported.{Reported}
-use Rattle.report.specs.Report.{rows, ReportAsked, notWhole, short, accepted, resultOf, leftOf, totalOf, Told}
+use Rattle.report.specs.Report.{rows, ReportAsked, notWhole, otherChains, short, accepted, resultOf, leftOf, totalOf, Told}
 use Rattle.report.specs.Stands.{rows-stand, free-stands, total-leaves}
 use Rattle.report.specs.Lent.{reporting-same}
 
@@ -48,31 +49,43 @@ module _ (w : Words) (h : Regioned) (cellOf : ℕ → ℕ) (st : StandsFor (size
   same-left lent zero = ap (λ (l : List Row). l ++ drop (length l) lent) same-rows
   same-left lent (suc q) = refl
 
-  pub told-anywhere : {lent : List Row} {r : Reported} {left : List Row} → Told w lent r left
-      → (r ≡ resultOf (sizesIn w) h (r .number)) × (left ≡ leftOf (sizesIn w) h lent (r .number))
-  told-anywhere {lent} {r} {left} t = (t .result ∙ same-result (r .number), t .rows-left ∙ same-left lent (r .number))
+pub told-anywhere : (l : Slices) (h : Regioned) (cellOf : ℕ → ℕ) → StandsFor (sizesIn (l .words)) (l .words) h cellOf
+    → {lent : List Row} {r : Reported} {left : List Row} → Told l lent r left
+    → (r ≡ resultOf (sizesIn (l .words)) h (r .number)) × (left ≡ leftOf (sizesIn (l .words)) h lent (r .number))
+told-anywhere l h cellOf st {lent} {r} {left} t =
+    (t .result ∙ same-result (l .words) h cellOf st (r .number), t .rows-left ∙ same-left (l .words) h cellOf st lent (r .number))
 
 -- only one question is the first that says no
-asked-once : {w : Words} {room q q′ : ℕ} → ReportAsked w room q → ReportAsked w room q′ → q ≡ q′
+asked-once : {l : Slices} {room q q′ : ℕ} → ReportAsked l room q → ReportAsked l room q′ → q ≡ q′
 asked-once (notWhole e n) (notWhole f m) = e ∙ sym f
-asked-once (notWhole e n) (short f k l) = absurd (n k)
-asked-once (notWhole e n) (accepted f k l) = absurd (n k)
-asked-once (short e k l) (notWhole f n) = absurd (n k)
-asked-once (short e k l) (short f k′ l′) = e ∙ sym f
-asked-once (short e k l) (accepted f k′ l′) = absurd (let z : ⊥ = omega arith in z)
-asked-once (accepted e k l) (notWhole f n) = absurd (n k)
-asked-once (accepted e k l) (short f k′ l′) = absurd (let z : ⊥ = omega arith in z)
-asked-once (accepted e k l) (accepted f k′ l′) = e ∙ sym f
+asked-once (notWhole e n) (otherChains f k m) = absurd (n k)
+asked-once (notWhole e n) (short f k m) = absurd (n (k .words))
+asked-once (notWhole e n) (accepted f k m) = absurd (n (k .words))
+asked-once (otherChains e k n) (notWhole f m) = absurd (m k)
+asked-once (otherChains e k n) (otherChains f k′ m) = e ∙ sym f
+asked-once (otherChains e k n) (short f k′ m) = absurd (n (k′ .chains))
+asked-once (otherChains e k n) (accepted f k′ m) = absurd (n (k′ .chains))
+asked-once (short e k n) (notWhole f m) = absurd (m (k .words))
+asked-once (short e k n) (otherChains f k′ m) = absurd (m (k .chains))
+asked-once (short e k n) (short f k′ m) = e ∙ sym f
+asked-once (short e k n) (accepted f k′ m) = absurd (let z : ⊥ = omega arith in z)
+asked-once (accepted e k n) (notWhole f m) = absurd (m (k .words))
+asked-once (accepted e k n) (otherChains f k′ m) = absurd (m (k .chains))
+asked-once (accepted e k n) (short f k′ m) = absurd (let z : ⊥ = omega arith in z)
+asked-once (accepted e k n) (accepted f k′ m) = e ∙ sym f
 
-pub told-once : {w : Words} {lent : List Row} {r r′ : Reported} {left left′ : List Row} → Told w lent r left → Told w lent r′ left′ → (r ≡ r′) × (left ≡ left′)
-told-once {w} {lent} t u =
+pub told-once : {l : Slices} {lent : List Row} {r r′ : Reported} {left left′ : List Row} → Told l lent r left → Told l lent r′ left′ → (r ≡ r′) × (left ≡ left′)
+told-once {l} {lent} t u =
     let e = asked-once (t .asked) (u .asked) in
-    (t .result ∙ ap (resultOf (sizesIn w) (heapOf (sizesIn w) w)) e ∙ sym (u .result), t .rows-left ∙ ap (leftOf (sizesIn w) (heapOf (sizesIn w) w) lent) e ∙ sym (u .rows-left))
+    let s = sizesIn (l .words) in
+    let h = heapOf s (l .words) in
+    (t .result ∙ ap (resultOf s h) e ∙ sym (u .result), t .rows-left ∙ ap (leftOf s h lent) e ∙ sym (u .rows-left))
 
-asked-whole : {w : Words} {room q : ℕ} → ReportAsked w room q → q ≡ 0 → WholeWords w
+asked-whole : {l : Slices} {room q : ℕ} → ReportAsked l room q → q ≡ 0 → WholeWords (l .words)
 asked-whole (notWhole e n) z = absurd (let y : ⊥ = omega arith in y)
-asked-whole (short e k l) z = k
-asked-whole (accepted e k l) z = k
+asked-whole (otherChains e k n) z = k
+asked-whole (short e k n) z = k .words
+asked-whole (accepted e k n) z = k .words
 
 -- a report that is not refused says that n objects were made and f freed; its total is that of the rows that it wrote, and made less freed
 pub record Reports (n f : ℕ) (r : Reported) (left : List Row) : Type 0 where
@@ -82,14 +95,18 @@ pub record Reports (n f : ℕ) (r : Reported) (left : List Row) : Type 0 where
   pub leaves : Leaves (record { made = r .made; freed = r .freed }) (r .total)
 
 -- by the words
-pub told-counted : (w : Words) (lent : List Row) (r : Reported) (left : List Row) → Told w lent r left → r .number ≡ 0 → Reports (madeIn (sizesIn w) w) (freedIn (sizesIn w) w) r left
-told-counted w lent r left t z = record {
+pub told-counted : (l : Slices) (lent : List Row) (r : Reported) (left : List Row) → Told l lent r left → r .number ≡ 0
+    → Reports (madeIn (sizesIn (l .words)) (l .words)) (freedIn (sizesIn (l .words)) (l .words)) r left
+told-counted l lent r left t z = record {
   made = ap (λ (x : Reported). x .made) result ∙ ap (λ (k : Counters). k .made) (st .counters);
   freed = ap (λ (x : Reported). x .freed) result ∙ ap (λ (k : Counters). k .freed) (st .counters);
   total = ap (λ (x : Reported). x .total) result ∙ ap totalOf (sym written-rows);
   leaves = ap (λ (x : Reported). counted (x .total + x .freed)) result ∙ total-leaves s (w .tables) (w .cells) (w .remember) h (λ c. c) st ∙ sym (ap (λ (x : Reported). x .made) result);
 }
   where
+    w : Words
+    w = l .words
+
     s : Sizes
     s = sizesIn w
 

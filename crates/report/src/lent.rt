@@ -3,7 +3,8 @@ ghost use mathlib.Core.Path.{_≡_};
 ghost use Prim.Native.Nat.{_<_, _≤_};
 ghost use lib.ListN.{length};
 ghost use Rattle.layout.specs.Places.{sizesAt};
-ghost use Rattle.layout.specs.Words.{words, depthsAt};
+ghost use Rattle.layout.specs.Words.{depthsAt};
+ghost use Rattle.promises.specs.Slices.{slices};
 ghost use Rattle.report.specs.Report.{refusing, Told};
 ghost use Rattle.report.specs.Opened.{Next};
 ghost use Rattle.report.specs.Tables.{WholeTables, rowIn, rowsIn};
@@ -30,14 +31,17 @@ fn refused(number: u32) -> Reported
     }
 }
 
-// Questions 3 and 15, of a list of so many rows, and the result that they give.
-fn ask(cells: &[u32], remember: &[u32], tables: &[u32], room: usize) -> Reported
-    ensures { λ r. ⌜ Asking (words (now (cells .entry)) (now (remember .entry)) (now (tables .entry))) room r ⌝ }
+// Questions 3, 16 and 15, of a list of so many rows, and the result that they give.
+fn ask(cells: &[u32], remember: &[u32], tables: &[u32], chains: &[u32], room: usize) -> Reported
+    ensures { λ r. ⌜ Asking (slices (now (cells .entry)) (now (remember .entry)) (now (tables .entry)) (now (chains .entry))) room r ⌝ }
 {
     if !whole::whole(cells, remember, tables) {
         return refused(3);
     }
     let p = layout::read_sizes(tables);
+    if !chains::chains_whole(p, remember, chains) {
+        return refused(16);
+    }
     let rows = row_count(p, tables);
     if room < rows {
         return refused(15);
@@ -83,18 +87,19 @@ fn fill(rows: &mut [Row], tables: &[u32], n: usize)
 }
 
 // Writes a row for the control space and each open region, by region number. Gives 0 with how many these are, free pages, crossing
-// slots, and objects made, freed and there; or on refusal, with no row written and the other words 0, 3 for tables that are not whole, 15
-// for too few rows. Spare rows never change.
+// slots, and objects made, freed and there; or on refusal, with no row written and the other words 0, 3 for tables that are not whole, 16 for
+// chains that are short or not those of the remember table, 15 for too few rows. Spare rows never change.
 #[no_mangle]
 pub extern "C" fn taldreku_report(
     cells: &[u32],
     remember: &[u32],
     tables: &[u32],
+    chains: &[u32],
     rows: &mut [Row],
 ) -> Reported
-    ensures { λ r. ⌜ Told (words (now (cells .entry)) (now (remember .entry)) (now (tables .entry))) (now (rows .entry)) r (now (rows .exit)) ⌝ }
+    ensures { λ r. ⌜ Told (slices (now (cells .entry)) (now (remember .entry)) (now (tables .entry)) (now (chains .entry))) (now (rows .entry)) r (now (rows .exit)) ⌝ }
 {
-    let reported = ask(cells, remember, tables, rows.len());
+    let reported = ask(cells, remember, tables, chains, rows.len());
     fill(rows, tables, reported.rows as usize);
     reported
 }
