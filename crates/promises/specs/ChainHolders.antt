@@ -77,7 +77,7 @@ module _ (s : Sizes) (w : Words) (k : List ℕ) (whole : WholeFor s w) (chains :
   pub chain-all : (q : ℕ) → q < cellsWords s → HoldingSlot s w r q → (i : ℕ) × In i named × (slotIn m i ≡ q)
   chain-all q b h =
       let v : Into s (w .tables) (ownerIn s w (pageOf (h .slot .object))) (getD (w .cells) q 0) r =
-          record { real = h .real; page = h .page; region = sym (h .into); high = omega arith; other = λ z. h .outside (sym z) } in
+      record { real = h .real; page = h .page; region = sym (h .into); high = omega arith; other = λ z. h .outside (sym z) } in
       let c : r ≡ crossTo s (w .cells) (w .tables) q = into-crosses s (w .tables) (ownerIn s w (pageOf (h .slot .object))) (getD (w .cells) q 0) r v ∙ sym (crosses (h .slot)) in
       let e = whole .remember .every q b (omega (arith, c)) in
       let g : nthRegion (entriesIn N m) (e .0) ≡ r = at (e .0) (e .1) ∙ ap (crossTo s (w .cells) (w .tables)) (e .2) ∙ sym c in
