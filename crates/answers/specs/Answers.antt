@@ -8,7 +8,8 @@ use Rattle.rules.specs.declared.Command.{Command}
 use Rattle.rules.specs.declared.Answer.{Answer}
 use Rattle.rules.specs.Rules as ru
 use Rattle.rules.specs.Rules.{Regioned}
-use Rattle.layout.specs.Words.{Words}
+use Rattle.promises.specs.Slices.{Slices}
+use Rattle.chains.specs.Chains.{ChainsWhole}
 use Rattle.promises.specs.StandsFor.{StandsFor}
 use Rattle.promises.specs.Promises.{commandsIn}
 use Rattle.script.specs.declared.Line.{Line}
@@ -32,9 +33,10 @@ answersText [] = []
 answersText (a ∷ as′) = answerText a ++ answersText as′
 
 -- the commands of a block were obeyed, from the heap h on, and their answers written
-pub record Answered (s : Sizes) (h : Regioned) (block : List ℕ) (w : Words) (out : List ℕ) (end : ℕ) (after : List ℕ) (w′ : Words) : Type 0 where
+pub record Answered (s : Sizes) (h : Regioned) (block : List ℕ) (l : Slices) (out : List ℕ) (end : ℕ) (after : List ℕ) (l′ : Slices) : Type 0 where
   pub text : Put out 0 (answersText (ru.run s h (commandsIn block) .answers)) after end
   pub cell : ℕ → ℕ
-  pub stands : StandsFor s w′ (ru.run s h (commandsIn block) .last) cell
-  pub lent : Lent w → Lent w′
-  pub changes : (line : ℕ) → LinesChange (running s h line) (map asLine (commandsIn block)) w w′
+  pub stands : StandsFor s (l′ .words) (ru.run s h (commandsIn block) .last) cell
+  pub chains : ChainsWhole s (l′ .words .remember) (l′ .chains)
+  pub lent : Lent l → Lent l′
+  pub changes : (line : ℕ) → LinesChange (running s h line) (map asLine (commandsIn block)) l l′

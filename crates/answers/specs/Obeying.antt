@@ -10,7 +10,7 @@ use Rattle.rules.specs.declared.Sizes.{Sizes}
 use Rattle.rules.specs.declared.Command.{Command}
 use Rattle.rules.specs.Rules as ru
 use Rattle.rules.specs.Rules.{Regioned}
-use Rattle.layout.specs.Words.{Words}
+use Rattle.promises.specs.Slices.{Slices}
 use Rattle.promises.specs.Promises.{commandAt, size, commandsIn}
 use Rattle.script.specs.declared.Line.{Line}
 use Rattle.script.specs.declared.Line.the-variants.{Malformed}
@@ -75,19 +75,19 @@ module _ (block : List ℕ) (used count : ℕ) (e : used ≡ 5 * count) (h : use
       map-listed asLine (commandAt (take used block)) (size (take used block))
       ∙ ap (listed (λ i. asLine (commandAt (take used block) i))) size-taken
       ∙ listed-same (λ i. asLine (commandAt (take used block) i)) (λ i. asLine (commandAt block i)) count
-      (λ i l. ap asLine (same i l))
+      (λ i low. ap asLine (same i low))
       ∙ sym (lines-are block count)
     where
       word : (i p : ℕ) → i < count → p < 5 * i + 5 → getD (take used block) p 0 ≡ getD block p 0
-      word i p l m = getD-take used block p 0 (omega arith)
+      word i p low m = getD-take used block p 0 (omega arith)
 
       same : (i : ℕ) → i < count → commandAt (take used block) i ≡ commandAt block i
-      same i l = λ q. record {
-        code = word i (5 * i) l (omega arith) q;
-        thread = word i (5 * i + 1) l (omega arith) q;
-        a = word i (5 * i + 2) l (omega arith) q;
-        b = word i (5 * i + 3) l (omega arith) q;
-        c = word i (5 * i + 4) l (omega arith) q;
+      same i low = λ q. record {
+        code = word i (5 * i) low (omega arith) q;
+        thread = word i (5 * i + 1) low (omega arith) q;
+        a = word i (5 * i + 2) low (omega arith) q;
+        b = word i (5 * i + 3) low (omega arith) q;
+        c = word i (5 * i + 4) low (omega arith) q;
       }
 
 -- what was read from a piece: so many commands, and what follows them
@@ -162,13 +162,13 @@ module _ {r : Reader} {text : List ℕ} {from : ℕ} {x : Filled} {block : List 
       ∙ ap₂ (λ (t : List ℕ) (y : Session). t ++ printsAll y (k .after)) (prints-commands s ms h line) (takes-commands s ms h line)
       ∙ ap (λ (n : ℕ). answersText (ru.run s h ms .answers) ++ printsAll (running s (ru.run s h ms .last) (line + n)) (k .after)) length-ms
 
-  module _ {w w′ : Words} {out out′ : List ℕ} {end : ℕ} (a : Answered s h (take used block) w out end out′ w′) (lent : Lent w) where
-    changed : LinesChange (takesAll (running s h line) (map asLine ms)) (k .after) w′ w′ → LinesChange (running s h line) (found r bytes) w w′
-    changed c = subst (λ (ls : List Line). LinesChange (running s h line) ls w w′) (sym found-is) (changes-append (map asLine ms) (k .after) (running s h line) w w′ w′ (a .changes line) c)
+  module _ {l l′ : Slices} {out out′ : List ℕ} {end : ℕ} (a : Answered s h (take used block) l out end out′ l′) (lent : Lent l) where
+    changed : LinesChange (takesAll (running s h line) (map asLine ms)) (k .after) l′ l′ → LinesChange (running s h line) (found r bytes) l l′
+    changed c = subst (λ (ls : List Line). LinesChange (running s h line) ls l l′) (sym found-is) (changes-append (map asLine ms) (k .after) (running s h line) l l′ l′ (a .changes line) c)
 
     -- the piece ends inside a line, or between two
     obeyed-all : {next : Reader} {n : ℕ} → x ≡ Done next n
-        → Feeds (machine r (running s h line)) bytes w out (record { stage = Running next (line + used / 5); length = end }) out′ w′
+        → Feeds (machine r (running s h line)) bytes l out (record { stage = Running next (line + used / 5); length = end }) out′ l′
     unfolding feed feedPrints takesAll printsAll stageOf Holds Follow LinesChange
     obeyed-all {next} e =
         let f : (k .after ≡ []) × (left r bytes ≡ next) = subst (λ (y : Filled). Follow y text (k .after) (left r bytes)) e (k .follow) in
@@ -177,38 +177,38 @@ module _ {r : Reader} {text : List ℕ} {from : ℕ} {x : Filled} {block : List 
           is-at = record {
             stage-is = sym (ap₂ stageOf (f .1) t);
             lent = a .lent lent;
-            holds = subst (λ (y : Session). Holds y w′) (sym t) (a .cell, a .stands);
+            holds = subst (λ (y : Session). Holds y l′) (sym t) (a .cell, a .stands, a .chains);
           };
           text = put-text (sym (text-is ∙ ap (λ (ls : List Line). answersText (ru.run s h ms .answers) ++ printsAll (running s (ru.run s h ms .last) (line + used / 5)) ls) (f .0) ∙ append-nil (answersText (ru.run s h ms .answers)))) (a .text);
-          changes = changed (subst (λ (ls : List Line). LinesChange (takesAll (running s h line) (map asLine ms)) ls w′ w′) (sym (f .0)) refl);
+          changes = changed (subst (λ (ls : List Line). LinesChange (takesAll (running s h line) (map asLine ms)) ls l′ l′) (sym (f .0)) refl);
         }
 
     -- a line is malformed
     obeyed-broken : {n : ℕ} {last : List ℕ} {stop : ℕ} → x ≡ Broken n → end + 26 ≤ length out → line + used / 5 < 18446744073709551616 → Put out′ end (lineLine (line + used / 5)) last stop
-        → Feeds (machine r (running s h line)) bytes w out (record { stage = Stopped; length = stop }) last w′
+        → Feeds (machine r (running s h line)) bytes l out (record { stage = Stopped; length = stop }) last l′
     unfolding feed feedPrints takesAll printsAll takes prints stageOf Holds Follow LinesChange LineChanges
-    obeyed-broken e l b p =
+    obeyed-broken e room b p =
         let f : (rest : List Line) × (k .after ≡ Malformed ∷ rest) = subst (λ (y : Filled). Follow y text (k .after) (left r bytes)) e (k .follow) in
         let t : takesAll (running s h line) (found r bytes) ≡ stopped = session-is ∙ ap (takesAll (running s (ru.run s h ms .last) (line + used / 5))) (f .1) ∙ stopped-takes (f .0) in
         record {
           is-at = record {
             stage-is = sym (ap (stageOf (left r bytes)) t);
             lent = a .lent lent;
-            holds = subst (λ (y : Session). Holds y w′) (sym t) tt;
+            holds = subst (λ (y : Session). Holds y l′) (sym t) tt;
           };
           text = put-text (sym (text-is ∙ ap (λ (ls : List Line). answersText (ru.run s h ms .answers) ++ printsAll (running s (ru.run s h ms .last) (line + used / 5)) ls) (f .1) ∙ ap (λ (ls : List ℕ). answersText (ru.run s h ms .answers) ++ (lineLine (line + used / 5) ++ ls)) (stopped-prints (f .0)) ∙ ap (λ (ls : List ℕ). answersText (ru.run s h ms .answers) ++ ls) (append-nil (lineLine (line + used / 5)))))
               (put-put (omega (arith, a .text .end-is, line-length (line + used / 5) b)) (a .text) p);
-          changes = changed (subst (λ (ls : List Line). LinesChange (takesAll (running s h line) (map asLine ms)) ls w′ w′) (sym (f .1))
-              (subst (λ (y : Session). LinesChange y (Malformed ∷ f .0) w′ w′) (sym (takes-commands s ms h line)) (w′, refl, changes-stopped (f .0) w′)));
+          changes = changed (subst (λ (ls : List Line). LinesChange (takesAll (running s h line) (map asLine ms)) ls l′ l′) (sym (f .1))
+              (subst (λ (y : Session). LinesChange y (Malformed ∷ f .0) l′ l′) (sym (takes-commands s ms h line)) (l′, refl, changes-stopped (f .0) l′)));
         }
 
     -- so the piece goes on as the code does after its block
     pub obeyed : {fed : Fed} {last : List ℕ} → ((i n : ℕ) → x ≡ Full i n → ⊥) → end + 26 ≤ length out → line + used / 5 < 18446744073709551616
-        → Proceeds x (line + usedIn x / 5) end out′ fed last → Feeds (machine r (running s h line)) bytes w out fed last w′
-    obeyed {fed} {last} full l b p = go (subst (λ (n : ℕ). Proceeds x (line + n / 5) end out′ fed last) (sym u) p)
+        → Proceeds x (line + usedIn x / 5) end out′ fed last → Feeds (machine r (running s h line)) bytes l out fed last l′
+    obeyed {fed} {last} full room b p = go (subst (λ (n : ℕ). Proceeds x (line + n / 5) end out′ fed last) (sym u) p)
       where
-        go : Proceeds x (line + used / 5) end out′ fed last → Feeds (machine r (running s h line)) bytes w out fed last w′
-        go (onward e f g) = subst₂ (λ (z : Fed) (o : List ℕ). Feeds (machine r (running s h line)) bytes w out z o w′) (sym f) (sym g) (obeyed-all e)
+        go : Proceeds x (line + used / 5) end out′ fed last → Feeds (machine r (running s h line)) bytes l out fed last l′
+        go (onward e f g) = subst₂ (λ (z : Fed) (o : List ℕ). Feeds (machine r (running s h line)) bytes l out z o l′) (sym f) (sym g) (obeyed-all e)
         go (malformed e f q) =
-            subst (λ (z : Stage). Feeds (machine r (running s h line)) bytes w out (record { stage = z; length = fed .length }) last w′) (sym f) (obeyed-broken e l b q)
+            subst (λ (z : Stage). Feeds (machine r (running s h line)) bytes l out (record { stage = z; length = fed .length }) last l′) (sym f) (obeyed-broken e room b q)
         go (filled {from = i} {used = n} e f g) = absurd (full i n e)

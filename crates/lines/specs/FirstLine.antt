@@ -12,10 +12,10 @@ use Rattle.rules.specs.declared.Sizes.{Sizes}
 use Rattle.rules.specs.Terms.{InRange}
 use Rattle.rules.specs.Rules.{unused}
 use Rattle.layout.specs.Places.{tablesWords}
-use Rattle.layout.specs.Words.{Words}
+use Rattle.promises.specs.Slices.{Slices}
 use Rattle.promises.specs.Promises as pr
 use Rattle.promises.specs.Promises.{LongEnough, PrepareAsked, outOfRange, short, Unused, Prepared}
-use Rattle.promises.specs.Preparing.{prepared-stands}
+use Rattle.promises.specs.Preparing.{prepared-is}
 use Rattle.script.specs.declared.Line.{Line}
 use Rattle.script.specs.declared.Line.the-variants.{Numbers, Malformed}
 use Rattle.printed.specs.Printed.{sizes, between, accepted, running, stopped, takes}
@@ -33,7 +33,7 @@ between-true : (low n high : ℕ) → between low n high ≡ true → (low ≤ n
 between-true low n high e = let b = both-true (leb low n) (leb n high) e in (leb-true low n (b .0), leb-true n high (b .1))
 
 true-between : (low n high : ℕ) → low ≤ n → n ≤ high → between low n high ≡ true
-true-between low n high l h = ap₂ (λ (a b : Bool). a && b) (le-leb low n l) (le-leb n high h)
+true-between low n high a b = ap₂ (λ (x y : Bool). x && y) (le-leb low n a) (le-leb n high b)
 
 pub accepted-are : (s : Sizes) → accepted s ≡ true → Accepted s
 unfolding accepted
@@ -73,22 +73,23 @@ are-accepted s a =
     (ap₂ (λ (x y : Bool). x && y) (true-between 1 (s .pages) 32 (r .pages-low) (a .few-pages)) (true-between 0 (s .entries) 1024 (omega arith) (a .few-entries)))))
 
 -- the lent slices are long enough for exactly these
-accepted-long : (s : Sizes) (w : Words) → Lent w → Accepted s → LongEnough s w
+accepted-long : (s : Sizes) (l : Slices) → Lent l → Accepted s → LongEnough s l
 unfolding tablesWords
-accepted-long s w l a =
+accepted-long s l lent a =
     let r = a .range in
     record {
-      cells = omega (arith, l .cells, a .few-pages);
-      remember = omega (arith, l .remember, a .few-entries);
-      tables = omega (arith, l .tables, a .few-pages, mul-le-mul (r .threads-high) (let e : s .variables + s .depth + 1 ≤ 41 = omega (arith, r .variables-high, r .depth-high) in e));
+      cells = omega (arith, lent .cells, a .few-pages);
+      remember = omega (arith, lent .remember, a .few-entries);
+      tables = omega (arith, lent .tables, a .few-pages, mul-le-mul (r .threads-high) (let e : s .variables + s .depth + 1 ≤ 41 = omega (arith, r .variables-high, r .depth-high) in e));
+      chains = omega (arith, lent .chains, a .few-entries, mul-le-mul (r .threads-high) (r .depth-high));
     }
 
-long-accepted : (s : Sizes) (w : Words) → Lent w → InRange s → LongEnough s w → Accepted s
-long-accepted s w l r e = record { range = r; few-pages = omega (arith, l .cells, e .cells); few-entries = omega (arith, l .remember, e .remember) }
+long-accepted : (s : Sizes) (l : Slices) → Lent l → InRange s → LongEnough s l → Accepted s
+long-accepted s l lent r e = record { range = r; few-pages = omega (arith, lent .cells, e .cells); few-entries = omega (arith, lent .remember, e .remember) }
 
 -- ---- prepare
 
-module _ {w w′ : Words} {q : ℕ} (t v d p n : ℕ) (l : Lent w) (k : Prepared (sizes t v d p n) w q w′) where
+module _ {l l′ : Slices} {q : ℕ} (t v d p n : ℕ) (lent : Lent l) (k : Prepared (sizes t v d p n) l q l′) where
   abbrev s : Sizes
   s = sizes t v d p n
 
@@ -99,48 +100,54 @@ module _ {w w′ : Words} {q : ℕ} (t v d p n : ℕ) (l : Lent w) (k : Prepared
       go true e = absurd (f (accepted-are s e))
       go false e = refl
 
-  refused : (q ≡ 0 → ⊥) → (Accepted s → ⊥) → Begun (Numbers t v d p n) w (eqb q 0) w′
+  refused : (q ≡ 0 → ⊥) → (Accepted s → ⊥) → Begun (Numbers t v d p n) l (eqb q 0) l′
   unfolding takes Holds LineChanges Prepares
   refused z f =
       let e : accepted s ≡ false = not-accepted f in
       record {
         told = ne-eqb q 0 z ∙ sym e;
-        lent = subst Lent (sym (k .refused z)) l;
-        holds = subst (λ (b : Bool). Holds (cond b (running s (unused s) 2) stopped) w′) (sym e) tt;
-        changes = subst (λ (b : Bool). Prepares b s w w′) (sym e) (k .refused z);
+        lent = subst Lent (sym (k .refused z)) lent;
+        holds = subst (λ (b : Bool). Holds (cond b (running s (unused s) 2) stopped) l′) (sym e) tt;
+        changes = subst (λ (b : Bool). Prepares b s l l′) (sym e) (k .refused z);
       }
 
-  kept : Unused s w w′ → LongEnough s w → Lent w′
+  kept : Unused s l l′ → LongEnough s l → Lent l′
   unfolding tablesWords
   kept u e =
       let t = simp (length-append, length-replicate, length-drop) at (ap length (u .tables)) in
       let m = simp (length-append, length-replicate, length-drop) at (ap length (u .remember)) in
       let c = simp (length-append, length-replicate, length-drop) at (ap length (u .cells)) in
-      record { cells = omega (arith, l .cells, e .cells); remember = omega (arith, l .remember, e .remember); tables = omega (arith, l .tables, e .tables) }
+      let k = simp (length-append, length-replicate, length-drop) at (ap length (u .chains)) in
+      record {
+        cells = omega (arith, lent .cells, e .cells);
+        remember = omega (arith, lent .remember, e .remember);
+        tables = omega (arith, lent .tables, e .tables);
+        chains = omega (arith, lent .chains, e .chains);
+      }
 
-  done : q ≡ 0 → Accepted s → Begun (Numbers t v d p n) w (eqb q 0) w′
+  done : q ≡ 0 → Accepted s → Begun (Numbers t v d p n) l (eqb q 0) l′
   unfolding takes Holds LineChanges Prepares
   done z a =
       let e : accepted s ≡ true = are-accepted s a in
+      let is = prepared-is s l l′ (subst (λ (x : ℕ). Prepared s l x l′) z k) in
       record {
         told = eq-eqb q 0 z ∙ sym e;
-        lent = kept (k .unused z) (accepted-long s w l a);
-        holds = subst (λ (b : Bool). Holds (cond b (running s (unused s) 2) stopped) w′) (sym e)
-            ((λ x. x), prepared-stands s w w′ (subst (λ (x : ℕ). Prepared s w x w′) z k));
-        changes = subst (λ (b : Bool). Prepares b s w w′) (sym e) (k .unused z);
+        lent = kept (k .unused z) (accepted-long s l lent a);
+        holds = subst (λ (b : Bool). Holds (cond b (running s (unused s) 2) stopped) l′) (sym e) ((λ x. x), is .stands, is .chains);
+        changes = subst (λ (b : Bool). Prepares b s l l′) (sym e) (k .unused z);
       }
 
-  pub prepared-begun : Begun (Numbers t v d p n) w (eqb q 0) w′
+  pub prepared-begun : Begun (Numbers t v d p n) l (eqb q 0) l′
   prepared-begun = go (k .asked)
     where
-      go : PrepareAsked s w q → Begun (Numbers t v d p n) w (eqb q 0) w′
+      go : PrepareAsked s l q → Begun (Numbers t v d p n) l (eqb q 0) l′
       go (outOfRange e f) = refused (λ (z : q ≡ 0). omega arith) (λ a. f (a .range))
-      go (short e r f) = refused (λ (z : q ≡ 0). omega arith) (λ a. f (accepted-long s w l a))
-      go (pr.accepted e r f) = done e (long-accepted s w l r f)
+      go (short e r f) = refused (λ (z : q ≡ 0). omega arith) (λ a. f (accepted-long s l lent a))
+      go (pr.accepted e r f) = done e (long-accepted s l lent r f)
 
-pub malformed-begun : {w : Words} → Lent w → Begun Malformed w false w
+pub malformed-begun : {l : Slices} → Lent l → Begun Malformed l false l
 unfolding takes Holds LineChanges
-malformed-begun l = record { told = refl; lent = l; holds = tt; changes = refl }
+malformed-begun lent = record { told = refl; lent = lent; holds = tt; changes = refl }
 
-pub begun-as : {line l : Line} {r : Bool} {w w′ : Words} → line ≡ l → Begun l w r w′ → Begun line w r w′
-begun-as {r = r} {w = w} {w′ = w′} e b = subst (λ (x : Line). Begun x w r w′) (sym e) b
+pub begun-as : {line told : Line} {r : Bool} {l l′ : Slices} → line ≡ told → Begun told l r l′ → Begun line l r l′
+begun-as {r = r} {l = l} {l′ = l′} e b = subst (λ (x : Line). Begun x l r l′) (sym e) b

@@ -1,4 +1,4 @@
--- What a line does to the lent words.
+-- What a line does to the lent slices.
 
 -- definitions: what must be read
 pub mod Lines

@@ -12,6 +12,7 @@ use Rattle.rules.specs.Rules.{Regioned, graph}
 use Rattle.layout.specs.Places.{sizesAt, entriesUsed, madeOf, freedOf}
 use Rattle.layout.specs.Words.{words}
 use Rattle.promises.specs.Whole.{WholeFor}
+use Rattle.promises.specs.Slices.{slices}
 use Rattle.promises.specs.StandsFor.{StandsFor}
 use Rattle.promises.specs.Crossings.{heap-entries}
 use Rattle.report.specs.declared.Row.{Row}
@@ -69,11 +70,11 @@ rows-all rs k e p = put-text (ap (λ (n : ℕ). rowsText (take n rs)) e ∙ ap r
 
 -- ---- the report
 
-module _ {c m t : List ℕ} {p : Sizes} (here : Here (words c m t)) (sizes-are : p ≡ sizesAt t) where
+module _ {c m t k : List ℕ} {p : Sizes} (here : Here (slices c m t k)) (sizes-are : p ≡ sizesAt t) where
   pub here-whole : WholeTables p t
   here-whole =
-      let k : WholeFor (sizesAt t) (words c m t) = subst (λ (s : Sizes). WholeFor s (words c m t)) (sym (here .stands .whole .sized .sizes)) (here .stands .whole) in
-      subst (λ (q : Sizes). WholeTables q t) (sym sizes-are) (record { cells = c; remember = m; whole = k })
+      let whole : WholeFor (sizesAt t) (words c m t) = subst (λ (s : Sizes). WholeFor s (words c m t)) (sym (here .stands .whole .sized .sizes)) (here .stands .whole) in
+      subst (λ (q : Sizes). WholeTables q t) (sym sizes-are) (record { cells = c; remember = m; whole = whole })
 
   module _ {out middle figured after : List ℕ} {at i j end free slots made freed total : ℕ} (room : at + 5731 ≤ length out)
       (rows-put : Put out at (rowsText (rowsIn p t)) middle i) (low : i ≤ at + 5676)

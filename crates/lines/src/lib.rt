@@ -5,6 +5,7 @@ ghost use lib.ListN.{length};
 ghost use Rattle.rules.specs.declared.Sizes.{Sizes};
 ghost use Rattle.rules.specs.Rules.{Regioned};
 ghost use Rattle.layout.specs.Words.{words};
+ghost use Rattle.promises.specs.Slices.{slices};
 ghost use Rattle.promises.specs.StandsFor.{StandsFor};
 ghost use Rattle.report.specs.Tables.{WholeTables, rowsIn};
 ghost use Rattle.script.specs.Writing.{Put};
@@ -14,13 +15,13 @@ use rules::Sizes;
 use script::Line;
 
 // Prepares the tables if a line has sizes that are accepted.
-pub fn prepare(line: Line, cells: &mut [u32], remember: &mut [u32], tables: &mut [u32]) -> bool
-    requires { ⌜ Lent (words (now cells) (now remember) (now tables)) ⌝ }
-    ensures { λ r. ⌜ Begun line (words (now (cells .entry)) (now (remember .entry)) (now (tables .entry))) r (words (now (cells .exit)) (now (remember .exit)) (now (tables .exit))) ⌝ }
+pub fn prepare(line: Line, cells: &mut [u32], remember: &mut [u32], tables: &mut [u32], chains: &mut [u32]) -> bool
+    requires { ⌜ Lent (slices (now cells) (now remember) (now tables) (now chains)) ⌝ }
+    ensures { λ r. ⌜ Begun line (slices (now (cells .entry)) (now (remember .entry)) (now (tables .entry)) (now (chains .entry))) r (slices (now (cells .exit)) (now (remember .exit)) (now (tables .exit)) (now (chains .exit))) ⌝ }
 {
     match line {
         Line::Numbers(threads, variables, depth, pages, entries) => {
-            let number = heap::prepare::taldreku_prepare(
+            let number = prepare::taldreku_prepare(
                 threads,
                 variables,
                 depth,
@@ -29,6 +30,7 @@ pub fn prepare(line: Line, cells: &mut [u32], remember: &mut [u32], tables: &mut
                 cells,
                 remember,
                 tables,
+                chains,
             );
             number == 0
         }
@@ -54,7 +56,7 @@ fn put_rows(p: Sizes, tables: &[u32], out: &mut [u8], at: usize) -> usize
 
 // The report, from a position on: its rows, a line of 22 bytes at most and one of 33.
 pub fn put_report(remember: &[u32], tables: &[u32], out: &mut [u8], at: usize) -> usize
-    requires { ⌜ ((cells : List ℕ) × Here (words cells (now remember) (now tables))) ⌝ }
+    requires { ⌜ ((cells : List ℕ) × (chains : List ℕ) × Here (slices cells (now remember) (now tables) chains)) ⌝ }
     requires { ⌜ at + 5731 ≤ length (now out) ⌝ }
     ensures { λ r. ⌜ ((s : Sizes) (h : Regioned) (cells : List ℕ) (cellOf : ℕ → ℕ) → StandsFor s (words cells (now (remember .entry)) (now (tables .entry))) h cellOf → Put (now (out .entry)) at (reported s h) (now (out .exit)) r) ⌝ }
     ensures { λ r. ⌜ r ≤ at + 5731 ⌝ }

@@ -11,20 +11,20 @@ use borrow.Author.Tests.{eq-eqb, ne-eqb}
 use Rattle.lists.specs.Counting.{bit, bit-le-one, sum, sum-high}
 use Rattle.lists.specs.Stores.{put, past}
 use Rattle.rules.specs.declared.Answer.{Answer}
-use Rattle.layout.specs.Words.{Words}
+use Rattle.promises.specs.Slices.{Slices}
 use Rattle.promises.specs.Promises.{Ran, answerAt}
 
--- the block l became k, whose first i words repeat the commands
-pub record Filled (commands l k : List ℕ) (i : ℕ) : Type 0 where
-  pub long : length k ≡ length l
+-- the block b became k, whose first i words repeat the commands
+pub record Filled (commands b k : List ℕ) (i : ℕ) : Type 0 where
+  pub long : length k ≡ length b
   pub repeats : (j : ℕ) → j < i → getD k j 0 ≡ getD commands (j % length commands) 0
 
-pub filled-none : (commands l : List ℕ) → Filled commands l l 0
-filled-none commands l = record { long = refl; repeats = λ j m. absurd (let z : ⊥ = omega arith in z) }
+pub filled-none : (commands b : List ℕ) → Filled commands b b 0
+filled-none commands b = record { long = refl; repeats = λ j m. absurd (let z : ⊥ = omega arith in z) }
 
-pub filled-more : {commands l k : List ℕ} {i : ℕ} → Filled commands l k i → i < length l
-    → Filled commands l (set k i (getD commands (i % length commands) 0)) (i + 1)
-filled-more {commands} {l} {k} {i} f m =
+pub filled-more : {commands b k : List ℕ} {i : ℕ} → Filled commands b k i → i < length b
+    → Filled commands b (set k i (getD commands (i % length commands) 0)) (i + 1)
+filled-more {commands} {b} {k} {i} f m =
     record { long = length-set k i (getD commands (i % length commands) 0) ∙ f .long; repeats = λ j n. go j n (ℕ-discrete j i) }
   where
     go : (j : ℕ) → j < i + 1 → Dec (j ≡ i) → getD (set k i (getD commands (i % length commands) 0)) j 0 ≡ getD commands (j % length commands) 0
@@ -34,8 +34,8 @@ filled-more {commands} {l} {k} {i} f m =
         ∙ ap (λ (x : ℕ). getD commands (x % length commands) 0) (sym e)
     go j n (no e) = past k i (getD commands (i % length commands) 0) j 0 e ∙ f .repeats j (omega arith)
 
-pub filled-to : {commands l k : List ℕ} {i j : ℕ} → Filled commands l k i → i ≡ j → Filled commands l k j
-filled-to {commands} {l} {k} f e = subst (Filled commands l k) e f
+pub filled-to : {commands b k : List ℕ} {i j : ℕ} → Filled commands b k i → i ≡ j → Filled commands b k j
+filled-to {commands} {b} {k} f e = subst (Filled commands b k) e f
 
 -- 1 if answer i has this number and this value, else 0
 unfoldable pub isAnswer : List ℕ → ℕ → ℕ → ℕ → ℕ
@@ -67,22 +67,22 @@ module _ (answers : List ℕ) (number value i : ℕ) where
 -- n is their count as the code has it
 pub answers-few : (answers : List ℕ) (number value n : ℕ) → n ≡ answersOf answers number value → length answers ≤ 6000 → n ≤ 3000
 unfolding answersOf
-answers-few answers number value n e l =
+answers-few answers number value n e few =
     omega (arith, sum-high (isAnswer answers number value) 1 (length answers / 2) (λ i h. answer-le answers number value i))
 
--- the block was run n times, from the words w and the answer slice lent to w′ and a, and k answers had this number and this value
-pub data Repeated (block : List ℕ) (number value : ℕ) (w : Words) (lent : List ℕ) : ℕ → Words → List ℕ → ℕ → Type 0 where
-  none : Repeated block number value w lent 0 w lent 0
-  more : {n q k r : ℕ} {w₁ w₂ : Words} {a₁ a₂ : List ℕ} → Repeated block number value w lent n w₁ a₁ k → Ran w₁ block a₁ q w₂ a₂
-      → r ≡ answersOf a₂ number value → Repeated block number value w lent (n + 1) w₂ a₂ (k + r)
+-- the block was run n times, from the slices l and the answer slice lent to l′ and a, and k answers had this number and this value
+pub data Repeated (block : List ℕ) (number value : ℕ) (l : Slices) (lent : List ℕ) : ℕ → Slices → List ℕ → ℕ → Type 0 where
+  none : Repeated block number value l lent 0 l lent 0
+  more : {n q k r : ℕ} {l₁ l₂ : Slices} {a₁ a₂ : List ℕ} → Repeated block number value l lent n l₁ a₁ k → Ran l₁ block a₁ q l₂ a₂
+      → r ≡ answersOf a₂ number value → Repeated block number value l lent (n + 1) l₂ a₂ (k + r)
 
-pub repeated-to : {block : List ℕ} {number value : ℕ} {w w′ : Words} {lent a : List ℕ} {i j k : ℕ} → Repeated block number value w lent i w′ a k → i ≡ j
-    → Repeated block number value w lent j w′ a k
-repeated-to {block} {number} {value} {w} {w′} {lent} {a} {k = k} r e = subst (λ (n : ℕ). Repeated block number value w lent n w′ a k) e r
+pub repeated-to : {block : List ℕ} {number value : ℕ} {l l′ : Slices} {lent a : List ℕ} {i j k : ℕ} → Repeated block number value l lent i l′ a k → i ≡ j
+    → Repeated block number value l lent j l′ a k
+repeated-to {block} {number} {value} {l} {l′} {lent} {a} {k = k} r e = subst (λ (n : ℕ). Repeated block number value l lent n l′ a k) e r
 
 -- one command without operands, of thread 0, was run in a block of its own and answered r
-pub record Obeyed (w : Words) (code : ℕ) (w′ : Words) (r : Answer) : Type 0 where
+pub record Obeyed (l : Slices) (code : ℕ) (l′ : Slices) (r : Answer) : Type 0 where
   pub q : ℕ
   pub answers : List ℕ
-  pub ran : Ran w (code ∷ 0 ∷ 0 ∷ 0 ∷ 0 ∷ []) (1 ∷ 1 ∷ []) q w′ answers
+  pub ran : Ran l (code ∷ 0 ∷ 0 ∷ 0 ∷ 0 ∷ []) (1 ∷ 1 ∷ []) q l′ answers
   pub answer : r ≡ answerAt answers 0

@@ -4,7 +4,7 @@
 ghost use Prim.Native.Nat.{_+_, _*_, _<_, _≤_};
 ghost use mathlib.Core.Path.{_≡_};
 ghost use lib.ListN.{length};
-ghost use Rattle.layout.specs.Words.{words};
+ghost use Rattle.promises.specs.Slices.{slices};
 ghost use Rattle.long_list.specs.Repeated.{Filled, isAnswer, answersOf, Repeated, Obeyed};
 use rules::Answer;
 
@@ -53,18 +53,19 @@ fn run_all(
     cells: &mut [u32],
     remember: &mut [u32],
     tables: &mut [u32],
+    chains: &mut [u32],
     block: &[u32],
     answers: &mut [u32],
     number: u32,
     value: u32,
 ) -> usize
     requires { ⌜ length (now answers) ≤ 6000 ⌝ }
-    ensures { λ n. ⌜ Repeated (now (block .entry)) number value (words (now (cells .entry)) (now (remember .entry)) (now (tables .entry))) (now (answers .entry)) 16 (words (now (cells .exit)) (now (remember .exit)) (now (tables .exit))) (now (answers .exit)) n ⌝ }
+    ensures { λ n. ⌜ Repeated (now (block .entry)) number value (slices (now (cells .entry)) (now (remember .entry)) (now (tables .entry)) (now (chains .entry))) (now (answers .entry)) 16 (slices (now (cells .exit)) (now (remember .exit)) (now (tables .exit)) (now (chains .exit))) (now (answers .exit)) n ⌝ }
 {
     let mut n: usize = 0;
     let mut i: usize = 0;
     while i < 16 {
-        heap::run::taldreku_run(cells, remember, tables, block, answers);
+        heap::taldreku_run(cells, remember, tables, chains, block, answers);
         n += count(answers, number, value);
         i += 1;
     }
@@ -72,11 +73,11 @@ fn run_all(
 }
 
 // A command of thread 0 that has no operands.
-fn obey(cells: &mut [u32], remember: &mut [u32], tables: &mut [u32], code: u32) -> Answer
-    ensures { λ r. ⌜ Obeyed (words (now (cells .entry)) (now (remember .entry)) (now (tables .entry))) code (words (now (cells .exit)) (now (remember .exit)) (now (tables .exit))) r ⌝ }
+fn obey(cells: &mut [u32], remember: &mut [u32], tables: &mut [u32], chains: &mut [u32], code: u32) -> Answer
+    ensures { λ r. ⌜ Obeyed (slices (now (cells .entry)) (now (remember .entry)) (now (tables .entry)) (now (chains .entry))) code (slices (now (cells .exit)) (now (remember .exit)) (now (tables .exit)) (now (chains .exit))) r ⌝ }
 {
     let mut answers = [1u32; 2];
-    heap::run::taldreku_run(cells, remember, tables, &[code, 0, 0, 0, 0], &mut answers);
+    heap::taldreku_run(cells, remember, tables, chains, &[code, 0, 0, 0, 0], &mut answers);
     Answer {
         number: answers[0],
         value: answers[1],
@@ -100,18 +101,19 @@ fn list(
     cells: &mut [u32],
     remember: &mut [u32],
     tables: &mut [u32],
+    chains: &mut [u32],
     block: &mut [u32],
     answers: &mut [u32],
 )
     requires { ⌜ length (now answers) ≤ 6000 ⌝ }
 {
-    heap::prepare::taldreku_prepare(1, 4, 1, 1024, 0, cells, remember, tables);
-    obey(cells, remember, tables, 1);
+    prepare::taldreku_prepare(1, 4, 1, 1024, 0, cells, remember, tables, chains);
+    obey(cells, remember, tables, chains, 1);
     fill(block, &[3, 0, 1, 1, 0, 7, 0, 1, 0, 0, 4, 0, 0, 1, 0]);
-    let made = run_all(cells, remember, tables, block, answers, 0, 0);
-    let end = obey(cells, remember, tables, 2);
+    let made = run_all(cells, remember, tables, chains, block, answers, 0, 0);
+    let end = obey(cells, remember, tables, chains, 2);
     fill(block, &[6, 0, 0, 0, 0]);
-    let links = run_all(cells, remember, tables, block, answers, 0, 1);
+    let links = run_all(cells, remember, tables, chains, block, answers, 0, 1);
     say(made / 3, end, links);
 }
 
@@ -119,12 +121,14 @@ fn main() {
     let mut cells = [0u32; 262144];
     let mut remember = [0u32; 2];
     let mut tables = [0u32; 3086];
+    let mut chains = [0u32; 2];
     let mut block = [0u32; 7665];
     let mut answers = [1u32; 3066];
     list(
         &mut cells,
         &mut remember,
         &mut tables,
+        &mut chains,
         &mut block,
         &mut answers,
     );
@@ -134,6 +138,7 @@ fn main() {
         &mut cells,
         &mut remember,
         &mut tables,
+        &mut chains,
         &mut longer,
         &mut room,
     );

@@ -7,8 +7,7 @@ use lib.ListN.{drop}
 use Rattle.lists.specs.Says.{true-not-false}
 use Rattle.rules.specs.declared.Sizes.{Sizes}
 use Rattle.rules.specs.Rules.{Regioned, unused}
-use Rattle.layout.specs.Words.{Words}
-use Rattle.promises.specs.StandsFor.{StandsFor}
+use Rattle.promises.specs.Slices.{Slices}
 use Rattle.script.specs.declared.Line.{Line}
 use Rattle.script.specs.declared.Line.the-variants.{Numbers, Malformed}
 use Rattle.script.specs.declared.Reader.{Reader}
@@ -42,11 +41,11 @@ pub record Opened (line : Line) : Type 0 where
   pub taken : takes opening line ≡ running sizes-are (unused sizes-are) 2
   pub silent : prints opening line ≡ []
 
-pub begun-opened : {line : Line} {r : Bool} {w w′ : Words} → Begun line w r w′ → r ≡ true → Opened line
+pub begun-opened : {line : Line} {r : Bool} {l l′ : Slices} → Begun line l r l′ → r ≡ true → Opened line
 unfolding takes prints
 begun-opened {line} {r} b e = go line (sym (b .told) ∙ e)
   where
-    go : (l : Line) → begins l ≡ true → Opened l
+    go : (y : Line) → begins y ≡ true → Opened y
     go (Numbers t v d p n) f =
         record {
           sizes-are = sizes t v d p n;
@@ -55,52 +54,52 @@ begun-opened {line} {r} b e = go line (sym (b .told) ∙ e)
         }
     go Malformed f = absurd (true-not-false f)
 
-begun-stopped : {line : Line} {r : Bool} {w w′ : Words} → Begun line w r w′ → r ≡ false → (takes opening line ≡ stopped) × (prints opening line ≡ sizesLine)
+begun-stopped : {line : Line} {r : Bool} {l l′ : Slices} → Begun line l r l′ → r ≡ false → (takes opening line ≡ stopped) × (prints opening line ≡ sizesLine)
 unfolding takes prints
 begun-stopped {line} {r} b e = go line (sym (b .told) ∙ e)
   where
-    go : (l : Line) → begins l ≡ false → (takes opening l ≡ stopped) × (prints opening l ≡ sizesLine)
+    go : (y : Line) → begins y ≡ false → (takes opening y ≡ stopped) × (prints opening y ≡ sizesLine)
     go (Numbers t v d p n) f =
         (ap (λ (a : Bool). cond a (running (sizes t v d p n) (unused (sizes t v d p n)) 2) stopped) f, ap (λ (a : Bool). cond a [] sizesLine) f)
     go Malformed f = (refl, refl)
 
-pub begun-here : {line : Line} {r : Bool} {w w′ : Words} → Begun line w r w′ → r ≡ true → Here w′
+pub begun-here : {line : Line} {r : Bool} {l l′ : Slices} → Begun line l r l′ → r ≡ true → Here l′
 unfolding Holds
-begun-here {line} {r} {w} {w′} b e =
+begun-here {line} {r} {l} {l′} b e =
     let o = begun-opened b e in
-    let k : (cellOf : ℕ → ℕ) × StandsFor (o .sizes-are) w′ (unused (o .sizes-are)) cellOf = subst (λ (y : Session). Holds y w′) (o .taken) (b .holds) in
-    record { sizes = o .sizes-are; heap = unused (o .sizes-are); cell = k .0; stands = k .1 }
+    let k : Holds (running (o .sizes-are) (unused (o .sizes-are)) 2) l′ = subst (λ (y : Session). Holds y l′) (o .taken) (b .holds) in
+    record { sizes = o .sizes-are; heap = unused (o .sizes-are); cell = k .0; stands = k .1; chains = k .2 }
 
 module _ (r : Reader) (text : List ℕ) {scan : Scan} (read : scan ≡ scanned r text 0) where
   brings : Brings scan text (found r text) (left r text)
   brings = subst (λ (y : Scan). Brings y text (found r text) (left r text)) (sym read) (scan-reads r text 0)
 
   -- no line ends in the piece
-  pub opened-none : {next : Reader} {out : List ℕ} {w : Words} → scan ≡ Open next → Lent w
-      → Feeds (machine r opening) text w out (record { stage = Opening next; length = 0 }) out w
+  pub opened-none : {next : Reader} {out : List ℕ} {l : Slices} → scan ≡ Open next → Lent l
+      → Feeds (machine r opening) text l out (record { stage = Opening next; length = 0 }) out l
   unfolding feed feedPrints takesAll printsAll stageOf Holds Brings LinesChange
-  opened-none {next} {out} {w} e l =
+  opened-none {next} {out} {l} e lent =
       let f : (found r text ≡ []) × (left r text ≡ next) = subst (λ (y : Scan). Brings y text (found r text) (left r text)) e brings in
       record {
         is-at = record {
           stage-is = sym (ap₂ (λ (q : Reader) (ls : List Line). stageOf q (takesAll opening ls)) (f .1) (f .0));
-          lent = l;
-          holds = subst (λ (ls : List Line). Holds (takesAll opening ls) w) (sym (f .0)) tt;
+          lent = lent;
+          holds = subst (λ (ls : List Line). Holds (takesAll opening ls) l) (sym (f .0)) tt;
         };
         text = put-text (sym (ap (printsAll opening) (f .0))) (put-none out);
-        changes = subst (λ (ls : List Line). LinesChange opening ls w w) (sym (f .0)) refl;
+        changes = subst (λ (ls : List Line). LinesChange opening ls l l) (sym (f .0)) refl;
       }
 
-  module _ {line : Line} {at : ℕ} (e : scan ≡ Found line at) {b : Bool} {w v : Words} (k : Begun line w b v) where
+  module _ {line : Line} {at : ℕ} (e : scan ≡ Found line at) {b : Bool} {l v : Slices} (k : Begun line l b v) where
     split : (found r text ≡ line ∷ found started (drop at text)) × (left r text ≡ left started (drop at text))
     unfolding Brings
     split = subst (λ (y : Scan). Brings y text (found r text) (left r text)) e brings
 
-    pub opened-on : b ≡ true → {next : Reader} → next ≡ started → {out after : List ℕ} {x : Fed} {w′ : Words}
-        → ((s : Sizes) (h : Regioned) → Holds (running s h 2) v → Lent v → Feeds (machine next (running s h 2)) (drop at text) v out x after w′)
-        → Feeds (machine r opening) text w out x after w′
+    pub opened-on : b ≡ true → {next : Reader} → next ≡ started → {out after : List ℕ} {x : Fed} {l′ : Slices}
+        → ((s : Sizes) (h : Regioned) → Holds (running s h 2) v → Lent v → Feeds (machine next (running s h 2)) (drop at text) v out x after l′)
+        → Feeds (machine r opening) text l out x after l′
     unfolding feed feedPrints takesAll printsAll LinesChange
-    opened-on t {next} n {out} {after} {x} {w′} rest =
+    opened-on t {next} n {out} {after} {x} {l′} rest =
         let o = begun-opened k t in
         let s = o .sizes-are in
         let go = rest s (unused s) (subst (λ (y : Session). Holds y v) (o .taken) (k .holds)) (k .lent) in
@@ -111,14 +110,14 @@ module _ (r : Reader) (text : List ℕ) {scan : Scan} (read : scan ≡ scanned r
         ap (printsAll opening) (split .0) ∙ ap₂ (λ (u : List ℕ) (y : Session). u ++ printsAll y (found started (drop at text))) (o .silent) (o .taken)
         ∙ ap (λ (q : Reader). printsAll (running s (unused s) 2) (found q (drop at text))) (sym n) in
         record {
-          is-at = subst (λ (m : Machine). At m (x .stage) w′) (sym (ap₂ machine reader session)) (go .is-at);
+          is-at = subst (λ (m : Machine). At m (x .stage) l′) (sym (ap₂ machine reader session)) (go .is-at);
           text = put-text (sym printed) (go .text);
-          changes = subst (λ (ls : List Line). LinesChange opening ls w w′) (sym (split .0))
-              (v, k .changes, subst (λ (q : Reader). LinesChange (takes opening line) (found q (drop at text)) v w′) n (subst (λ (y : Session). LinesChange y (found next (drop at text)) v w′) (sym (o .taken)) (go .changes)));
+          changes = subst (λ (ls : List Line). LinesChange opening ls l l′) (sym (split .0))
+              (v, k .changes, subst (λ (q : Reader). LinesChange (takes opening line) (found q (drop at text)) v l′) n (subst (λ (y : Session). LinesChange y (found next (drop at text)) v l′) (sym (o .taken)) (go .changes)));
         }
 
     pub opened-refused : b ≡ false → {out after : List ℕ} {end : ℕ} → Put out 0 sizesLine after end
-        → Feeds (machine r opening) text w out (record { stage = Stopped; length = end }) after v
+        → Feeds (machine r opening) text l out (record { stage = Stopped; length = end }) after v
     unfolding feed feedPrints takesAll printsAll stageOf Holds LinesChange
     opened-refused t p =
         let o = begun-stopped k t in
@@ -130,26 +129,26 @@ module _ (r : Reader) (text : List ℕ) {scan : Scan} (read : scan ≡ scanned r
         record {
           is-at = record { stage-is = sym (ap (stageOf (left r text)) session); lent = k .lent; holds = subst (λ (y : Session). Holds y v) (sym session) tt };
           text = put-text (sym printed) p;
-          changes = subst (λ (ls : List Line). LinesChange opening ls w v) (sym (split .0))
+          changes = subst (λ (ls : List Line). LinesChange opening ls l v) (sym (split .0))
               (v, k .changes, subst (λ (y : Session). LinesChange y (found started (drop at text)) v v) (sym (o .0)) (changes-stopped (found started (drop at text)) v));
         }
 
 -- ---- a piece
 
-module _ {stage : Stage} {text out after : List ℕ} {x : Fed} {w w′ : Words} where
-  pub fed-opening : {r : Reader} → stage ≡ Opening r → Feeds (machine r opening) text w out x after w′ → (m : Machine) → At m stage w → Feeds m text w out x after w′
-  fed-opening e f m a = subst (λ (y : Machine). Feeds y text w out x after w′) (sym (at-opening a e)) f
+module _ {stage : Stage} {text out after : List ℕ} {x : Fed} {l l′ : Slices} where
+  pub fed-opening : {r : Reader} → stage ≡ Opening r → Feeds (machine r opening) text l out x after l′ → (m : Machine) → At m stage l → Feeds m text l out x after l′
+  fed-opening e f m a = subst (λ (y : Machine). Feeds y text l out x after l′) (sym (at-opening a e)) f
 
   pub fed-running : {r : Reader} {k : ℕ} → stage ≡ Running r k
-      → ((s : Sizes) (h : Regioned) → Holds (running s h k) w → Lent w → Feeds (machine r (running s h k)) text w out x after w′) → (m : Machine) → At m stage w → Feeds m text w out x after w′
+      → ((s : Sizes) (h : Regioned) → Holds (running s h k) l → Lent l → Feeds (machine r (running s h k)) text l out x after l′) → (m : Machine) → At m stage l → Feeds m text l out x after l′
   fed-running e f m a =
       let o = at-running a e in
-      subst (λ (y : Machine). Feeds y text w out x after w′) (sym (o .machine-is)) (f (o .sizes-are) (o .heap-is) (o .holds) (a .lent))
+      subst (λ (y : Machine). Feeds y text l out x after l′) (sym (o .machine-is)) (f (o .sizes-are) (o .heap-is) (o .holds) (a .lent))
 
-pub fed-stopped : {stage : Stage} {text out : List ℕ} {w : Words} → stage ≡ Stopped → (m : Machine) → At m stage w
-    → Feeds m text w out (record { stage = Stopped; length = 0 }) out w
+pub fed-stopped : {stage : Stage} {text out : List ℕ} {l : Slices} → stage ≡ Stopped → (m : Machine) → At m stage l
+    → Feeds m text l out (record { stage = Stopped; length = 0 }) out l
 unfolding feed feedPrints stageOf Holds
-fed-stopped {stage} {text} {out} {w} e m a =
+fed-stopped {stage} {text} {out} {l} e m a =
     let s = at-stopped a e in
     let ls = found (m .reader) text in
     let t : takesAll (m .session) ls ≡ stopped = ap (λ (y : Session). takesAll y ls) s ∙ stopped-takes ls in
@@ -157,8 +156,8 @@ fed-stopped {stage} {text} {out} {w} e m a =
       is-at = record {
         stage-is = sym (ap (stageOf (left (m .reader) text)) t);
         lent = a .lent;
-        holds = subst (λ (y : Session). Holds y w) (sym t) tt;
+        holds = subst (λ (y : Session). Holds y l) (sym t) tt;
       };
       text = put-text (sym (ap (λ (y : Session). printsAll y ls) s ∙ stopped-prints ls)) (put-none out);
-      changes = subst (λ (y : Session). LinesChange y ls w w) (sym s) (changes-stopped ls w);
+      changes = subst (λ (y : Session). LinesChange y ls l l) (sym s) (changes-stopped ls l);
     }

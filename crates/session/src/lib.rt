@@ -2,7 +2,7 @@
 // into a lent buffer. Nothing here reads or writes a file.
 ghost use Prim.Native.Nat.{_+_, _<_, _≤_};
 ghost use lib.ListN.{length};
-ghost use Rattle.layout.specs.Words.{words};
+ghost use Rattle.promises.specs.Slices.{slices};
 ghost use Rattle.printed.specs.Printed.{opening};
 ghost use Rattle.printed.specs.Pieces.{Machine, machine};
 ghost use Rattle.lines.specs.Lines.{Lent};
@@ -19,11 +19,12 @@ fn begin(
     cells: &mut [u32],
     remember: &mut [u32],
     tables: &mut [u32],
+    chains: &mut [u32],
     out: &mut [u8],
 ) -> Fed
     requires { ⌜ Room (now text) (now out) ⌝ }
-    requires { ⌜ Lent (words (now cells) (now remember) (now tables)) ⌝ }
-    ensures { λ x. ⌜ Feeds (machine reader opening) (now (text .entry)) (words (now (cells .entry)) (now (remember .entry)) (now (tables .entry))) (now (out .entry)) x (now (out .exit)) (words (now (cells .exit)) (now (remember .exit)) (now (tables .exit))) ⌝ }
+    requires { ⌜ Lent (slices (now cells) (now remember) (now tables) (now chains)) ⌝ }
+    ensures { λ x. ⌜ Feeds (machine reader opening) (now (text .entry)) (slices (now (cells .entry)) (now (remember .entry)) (now (tables .entry)) (now (chains .entry))) (now (out .entry)) x (now (out .exit)) (slices (now (cells .exit)) (now (remember .exit)) (now (tables .exit)) (now (chains .exit))) ⌝ }
     ensures { λ x. ⌜ x .length ≤ mostPrinted (length (now (text .entry))) ⌝ }
 {
     let scan = script::read::read_line(text, 0, reader);
@@ -33,7 +34,7 @@ fn begin(
             length: 0,
         },
         Scan::Found(line, at) => {
-            if lines::prepare(line, cells, remember, tables) {
+            if lines::prepare(line, cells, remember, tables, chains) {
                 answers::obey(
                     script::read::start(),
                     2,
@@ -42,6 +43,7 @@ fn begin(
                     cells,
                     remember,
                     tables,
+                    chains,
                     out,
                 )
             } else {
@@ -61,15 +63,16 @@ pub fn feed(
     cells: &mut [u32],
     remember: &mut [u32],
     tables: &mut [u32],
+    chains: &mut [u32],
     out: &mut [u8],
 ) -> Fed
     requires { ⌜ Room (now text) (now out) × (lineOf stage + length (now text) < 18446744073709551616) ⌝ }
-    requires { ⌜ Placed stage (words (now cells) (now remember) (now tables)) ⌝ }
-    ensures { λ x. ⌜ ((m : Machine) → At m stage (words (now (cells .entry)) (now (remember .entry)) (now (tables .entry))) → Feeds m (now (text .entry)) (words (now (cells .entry)) (now (remember .entry)) (now (tables .entry))) (now (out .entry)) x (now (out .exit)) (words (now (cells .exit)) (now (remember .exit)) (now (tables .exit)))) ⌝ }
+    requires { ⌜ Placed stage (slices (now cells) (now remember) (now tables) (now chains)) ⌝ }
+    ensures { λ x. ⌜ ((m : Machine) → At m stage (slices (now (cells .entry)) (now (remember .entry)) (now (tables .entry)) (now (chains .entry))) → Feeds m (now (text .entry)) (slices (now (cells .entry)) (now (remember .entry)) (now (tables .entry)) (now (chains .entry))) (now (out .entry)) x (now (out .exit)) (slices (now (cells .exit)) (now (remember .exit)) (now (tables .exit)) (now (chains .exit)))) ⌝ }
     ensures { λ x. ⌜ x .length ≤ mostPrinted (length (now (text .entry))) ⌝ }
 {
     match stage {
-        Stage::Opening(reader) => begin(reader, text, cells, remember, tables, out),
+        Stage::Opening(reader) => begin(reader, text, cells, remember, tables, chains, out),
         Stage::Running(reader, line) => answers::obey(
             reader,
             line,
@@ -78,6 +81,7 @@ pub fn feed(
             cells,
             remember,
             tables,
+            chains,
             out,
         ),
         Stage::Stopped => Fed {

@@ -4,7 +4,7 @@ use mathlib.Core.Path.{_≡_}
 use mathlib.Core.List.{List}
 use mathlib.Core.Bool.{Bool, true, false, not}
 use lib.ListN.{length}
-use Rattle.layout.specs.Words.{Words}
+use Rattle.promises.specs.Slices.{Slices}
 use Rattle.script.specs.declared.Reader.{Reader}
 use Rattle.script.specs.declared.Filled.{Filled}
 use Rattle.script.specs.declared.Filled.the-variants.{Done, Full, Broken}
@@ -26,14 +26,14 @@ stageOf r (running s h k) = Running r k
 stageOf r stopped = Stopped
 
 -- the code at this stage, with these words, is where machine m is
-pub record At (m : Machine) (stage : Stage) (w : Words) : Type 0 where
+pub record At (m : Machine) (stage : Stage) (l : Slices) : Type 0 where
   pub stage-is : stage ≡ stageOf (m .reader) (m .session)
-  pub lent : Lent w
-  pub holds : Holds (m .session) w
+  pub lent : Lent l
+  pub holds : Holds (m .session) l
 
 -- so is a machine
-abbrev pub Placed : Stage → Words → Type 0
-Placed stage w = (m : Machine) × At m stage w
+abbrev pub Placed : Stage → Slices → Type 0
+Placed stage l = (m : Machine) × At m stage l
 
 -- the number of the line that is next or has begun
 abbrev pub lineOf : Stage → ℕ
@@ -56,10 +56,10 @@ begunAt Stopped = false
 
 -- a piece was fed to machine m: the code is where the machine is then, what that prints stands at the start of the buffer, and the words
 -- changed line by line
-pub record Feeds (m : Machine) (bytes : List ℕ) (w : Words) (out : List ℕ) (x : Fed) (after : List ℕ) (w′ : Words) : Type 0 where
-  pub is-at : At (feed m bytes) (x .stage) w′
+pub record Feeds (m : Machine) (bytes : List ℕ) (l : Slices) (out : List ℕ) (x : Fed) (after : List ℕ) (l′ : Slices) : Type 0 where
+  pub is-at : At (feed m bytes) (x .stage) l′
   pub text : Put out 0 (feedPrints m bytes) after (x .length)
-  pub changes : LinesChange (m .session) (found (m .reader) bytes) w w′
+  pub changes : LinesChange (m .session) (found (m .reader) bytes) l l′
 
 -- how many bytes a piece of n bytes prints at most: an answer for each command, of which a piece of 16,384 bytes has 1,639, and a message
 abbrev pub mostPrinted : ℕ → ℕ
@@ -81,8 +81,8 @@ pub data Proceeds (x : Filled) (next end : ℕ) (out : List ℕ) (fed : Fed) (af
 
 -- the input of machine m has ended: what it prints then stands at the start of the buffer, the words stand for its heap, and only a last
 -- line without its line feed has changed them
-pub record Closes (m : Machine) (w : Words) (out : List ℕ) (end : ℕ) (after : List ℕ) (w′ : Words) : Type 0 where
+pub record Closes (m : Machine) (l : Slices) (out : List ℕ) (end : ℕ) (after : List ℕ) (l′ : Slices) : Type 0 where
   pub text : Put out 0 (closePrints m) after end
-  pub lent : Lent w′
-  pub holds : Holds (feed m (missing m) .session) w′
-  pub changes : LinesChange (m .session) (found (m .reader) (missing m)) w w′
+  pub lent : Lent l′
+  pub holds : Holds (feed m (missing m) .session) l′
+  pub changes : LinesChange (m .session) (found (m .reader) (missing m)) l l′

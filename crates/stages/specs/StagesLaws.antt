@@ -7,7 +7,7 @@ use mathlib.Core.Bool.{Bool, true, false, cond, not}
 use lib.ListN.{length, length-append}
 use Rattle.rules.specs.declared.Sizes.{Sizes}
 use Rattle.rules.specs.Rules.{Regioned, unused}
-use Rattle.layout.specs.Words.{Words}
+use Rattle.promises.specs.Slices.{Slices}
 use Rattle.script.specs.declared.Line.{Line}
 use Rattle.script.specs.declared.Line.the-variants.{Numbers, Malformed}
 use Rattle.script.specs.declared.Reader.{Reader}
@@ -30,9 +30,9 @@ use Rattle.stages.specs.Stages.{stageOf, At, Placed, lineOf, Feeds, Proc
 
 -- ---- from the stage to the machine
 
-pub at-opening : {m : Machine} {stage : Stage} {w : Words} {r : Reader} → At m stage w → stage ≡ Opening r → m ≡ machine r opening
+pub at-opening : {m : Machine} {stage : Stage} {l : Slices} {r : Reader} → At m stage l → stage ≡ Opening r → m ≡ machine r opening
 unfolding stageOf
-at-opening {m} {stage} {w} {r} a e = go (m .session) refl (sym (a .stage-is) ∙ e)
+at-opening {m} {stage} {l} {r} a e = go (m .session) refl (sym (a .stage-is) ∙ e)
   where
     go : (y : Session) → m .session ≡ y → stageOf (m .reader) y ≡ Opening r → m ≡ machine r opening
     go opening f q = ap₂ machine (let z : m .reader ≡ r = cc in z) f
@@ -40,17 +40,17 @@ at-opening {m} {stage} {w} {r} a e = go (m .session) refl (sym (a .stage-is) ∙
     go stopped f q = absurd (let z : _≡_ {A = ℕ} 0 1 = cc in let o : ⊥ = omega arith in o)
 
 -- it is running, with the words standing for its heap
-pub record AtRunning (m : Machine) (r : Reader) (k : ℕ) (w : Words) : Type 0 where
+pub record AtRunning (m : Machine) (r : Reader) (k : ℕ) (l : Slices) : Type 0 where
   pub sizes-are : Sizes
   pub heap-is : Regioned
   pub machine-is : m ≡ machine r (running sizes-are heap-is k)
-  pub holds : Holds (running sizes-are heap-is k) w
+  pub holds : Holds (running sizes-are heap-is k) l
 
-pub at-running : {m : Machine} {stage : Stage} {w : Words} {r : Reader} {k : ℕ} → At m stage w → stage ≡ Running r k → AtRunning m r k w
+pub at-running : {m : Machine} {stage : Stage} {l : Slices} {r : Reader} {k : ℕ} → At m stage l → stage ≡ Running r k → AtRunning m r k l
 unfolding stageOf
-at-running {m} {stage} {w} {r} {k} a e = go (m .session) refl (sym (a .stage-is) ∙ e)
+at-running {m} {stage} {l} {r} {k} a e = go (m .session) refl (sym (a .stage-is) ∙ e)
   where
-    go : (y : Session) → m .session ≡ y → stageOf (m .reader) y ≡ Running r k → AtRunning m r k w
+    go : (y : Session) → m .session ≡ y → stageOf (m .reader) y ≡ Running r k → AtRunning m r k l
     go opening f q = absurd (let z : _≡_ {A = ℕ} 0 1 = cc in let o : ⊥ = omega arith in o)
     go (running s h j) f q =
         let u : m .reader ≡ r = cc in
@@ -59,41 +59,41 @@ at-running {m} {stage} {w} {r} {k} a e = go (m .session) refl (sym (a .stage-is)
           sizes-are = s;
           heap-is = h;
           machine-is = ap₂ machine u (f ∙ ap (running s h) v);
-          holds = subst (λ (y : Session). Holds y w) (f ∙ ap (running s h) v) (a .holds);
+          holds = subst (λ (y : Session). Holds y l) (f ∙ ap (running s h) v) (a .holds);
         }
     go stopped f q = absurd (let z : _≡_ {A = ℕ} 0 1 = cc in let o : ⊥ = omega arith in o)
 
-pub at-stopped : {m : Machine} {stage : Stage} {w : Words} → At m stage w → stage ≡ Stopped → m .session ≡ stopped
+pub at-stopped : {m : Machine} {stage : Stage} {l : Slices} → At m stage l → stage ≡ Stopped → m .session ≡ stopped
 unfolding stageOf
-at-stopped {m} {stage} {w} a e = go (m .session) refl (sym (a .stage-is) ∙ e)
+at-stopped {m} {stage} {l} a e = go (m .session) refl (sym (a .stage-is) ∙ e)
   where
     go : (y : Session) → m .session ≡ y → stageOf (m .reader) y ≡ Stopped → m .session ≡ stopped
     go opening f q = absurd (let z : _≡_ {A = ℕ} 0 1 = cc in let o : ⊥ = omega arith in o)
     go (running s h j) f q = absurd (let z : _≡_ {A = ℕ} 0 1 = cc in let o : ⊥ = omega arith in o)
     go stopped f q = f
 
-pub placed-here : {stage : Stage} {w : Words} {r : Reader} {k : ℕ} → Placed stage w → stage ≡ Running r k → Here w
+pub placed-here : {stage : Stage} {l : Slices} {r : Reader} {k : ℕ} → Placed stage l → stage ≡ Running r k → Here l
 unfolding Holds
 placed-here p e =
     let a = at-running (p .1) e in
-    record { sizes = a .sizes-are; heap = a .heap-is; cell = a .holds .0; stands = a .holds .1 }
+    record { sizes = a .sizes-are; heap = a .heap-is; cell = a .holds .0; stands = a .holds .1; chains = a .holds .2 }
 
 pub line-low : {stage : Stage} {r : Reader} {k : ℕ} (n most : ℕ) → stage ≡ Running r k → lineOf stage + n < most → k + n < most
-line-low n most e l = subst (λ (y : Stage). lineOf y + n < most) e l
+line-low n most e low = subst (λ (y : Stage). lineOf y + n < most) e low
 
 -- ---- a line that has begun
 
-pub told-nothing : (r : Reader) {l : Last} → l ≡ lastOf r → l ≡ Nothing → false ≡ not (fresh r)
+pub told-nothing : (r : Reader) {last : Last} → last ≡ lastOf r → last ≡ Nothing → false ≡ not (fresh r)
 unfolding lastOf
-told-nothing r {l} e f = go (fresh r) (sym e ∙ f)
+told-nothing r {last} e f = go (fresh r) (sym e ∙ f)
   where
     go : (t : Bool) → cond t Nothing (Unended (endOf r)) ≡ Nothing → false ≡ not t
     go true q = refl
     go false q = absurd (let z : _≡_ {A = ℕ} 0 1 = cc in let o : ⊥ = omega arith in o)
 
-pub told-unended : (r : Reader) {l : Last} {x : Line} → l ≡ lastOf r → l ≡ Unended x → true ≡ not (fresh r)
+pub told-unended : (r : Reader) {last : Last} {x : Line} → last ≡ lastOf r → last ≡ Unended x → true ≡ not (fresh r)
 unfolding lastOf
-told-unended r {l} {x} e f = go (fresh r) (sym e ∙ f)
+told-unended r {last} {x} e f = go (fresh r) (sym e ∙ f)
   where
     go : (t : Bool) → cond t Nothing (Unended (endOf r)) ≡ Unended x → true ≡ not t
     go true q = absurd (let z : _≡_ {A = ℕ} 0 1 = cc in let o : ⊥ = omega arith in o)
@@ -101,9 +101,9 @@ told-unended r {l} {x} e f = go (fresh r) (sym e ∙ f)
 
 -- ---- from piece to piece
 
-pub at-first : {stage : Stage} {w : Words} → stage ≡ Opening started → Lent w → At first stage w
+pub at-first : {stage : Stage} {l : Slices} → stage ≡ Opening started → Lent l → At first stage l
 unfolding stageOf Holds
-at-first e l = record { stage-is = e; lent = l; holds = tt }
+at-first e lent = record { stage-is = e; lent = lent; holds = tt }
 
 -- the line that a session is at
 abbrev lineIn : Session → ℕ
@@ -117,7 +117,7 @@ line-in r opening = refl
 line-in r (running s h k) = refl
 line-in r stopped = refl
 
-line-takes : (x : Session) (l : Line) → lineIn (takes x l) ≤ lineIn x + 1
+line-takes : (x : Session) (line : Line) → lineIn (takes x line) ≤ lineIn x + 1
 unfolding takes
 line-takes opening (Numbers t v d p n) = go (accepted (sizes t v d p n))
   where
@@ -127,17 +127,17 @@ line-takes opening (Numbers t v d p n) = go (accepted (sizes t v d p n))
 line-takes opening Malformed = omega arith
 line-takes (running s h k) (Numbers code thread a b c) = omega arith
 line-takes (running s h k) Malformed = omega arith
-line-takes stopped l = omega arith
+line-takes stopped line = omega arith
 
 line-takes-all : (ls : List Line) (x : Session) → lineIn (takesAll x ls) ≤ lineIn x + length ls
 unfolding takesAll
 line-takes-all [] x = omega arith
-line-takes-all (l ∷ ls) x = omega (arith, line-takes-all ls (takes x l), line-takes x l)
+line-takes-all (line ∷ ls) x = omega (arith, line-takes-all ls (takes x line), line-takes x line)
 
-pub line-fed : {m : Machine} {stage : Stage} {w w′ : Words} {bytes out after : List ℕ} {x : Fed} → At m stage w → Feeds m bytes w out x after w′
+pub line-fed : {m : Machine} {stage : Stage} {l l′ : Slices} {bytes out after : List ℕ} {x : Fed} → At m stage l → Feeds m bytes l out x after l′
     → lineOf (x .stage) ≤ lineOf stage + length bytes
 unfolding feed
-line-fed {m} {stage} {w} {w′} {bytes} {out} {after} {x} a f =
+line-fed {m} {stage} {l} {l′} {bytes} {out} {after} {x} a f =
     let ls = found (m .reader) bytes in
     omega (
       arith,

@@ -10,7 +10,7 @@ use Rattle.answers.proofs.answer.Statement.{statement}
 use Rattle.answers.proofs.answer.Tie as tie
 
 slice-aggregate-taldreku-run : tie.Need-slice-aggregate-taldreku-run
-slice-aggregate-taldreku-run c = sym (length-take-le _ _ (c .before .before .before .before .before .before .before .before .before .pre .0 .words))
+slice-aggregate-taldreku-run c = sym (length-take-le _ _ (c .before .before .before .before .before .before .before .before .before .before .before .pre .0 .words))
 
 slice-aggregate-taldreku-run-2 : tie.Need-slice-aggregate-taldreku-run-2
 slice-aggregate-taldreku-run-2 c = search needs
@@ -36,11 +36,14 @@ same-length-3 c = search needs
 same-length-4 : tie.Need-same-length-4
 same-length-4 c = search needs
 
+same-length-5 : tie.Need-same-length-5
+same-length-5 c = search needs
+
 returns : tie.Need-returns
 returns c =
-    let args = c .before .before .before .before .before .before .before .before .before .before .before .before .before .before .before .before .before .before .before .before .before .before .before .args in
-    let pre = c .before .before .before .before .before .before .before .before .before .before .before .before .before .before .before .before .before .before .before .before .before .before .before .pre in
-    let taldreku-run = c .before .before .before .before .before .before .before .before .before .before .before .before .taldreku-run in
+    let args = c .before .before .before .before .before .before .before .before .before .before .before .before .before .before .before .before .before .before .before .before .before .before .before .before .before .before .before .args in
+    let pre = c .before .before .before .before .before .before .before .before .before .before .before .before .before .before .before .before .before .before .before .before .before .before .before .before .before .before .before .pre in
+    let taldreku-run = c .before .before .before .before .before .before .before .before .before .before .before .before .before .before .taldreku-run in
     let put-answers = c .before .before .put-answers in
     (answered (args .used) (pre .0) (length-replicate {A = ℕ} 3278 0) (taldreku-run .ensures) (put-answers .ensures .0), omega (arith, put-answers .ensures .1))
 
@@ -57,4 +60,5 @@ answer-spec =
     same-length-2
     same-length-3
     same-length-4
+    same-length-5
     returns)

@@ -16,7 +16,7 @@ enum-told-2 : tie.Need-enum-told-2
 enum-told-2 c = search needs
 
 put-report-requires : tie.Need-put-report-requires
-put-report-requires c κs = ((c .before .before .before .before .before .before .pre .0 .0, placed-here (c .before .before .before .before .before .before .pre .0 .1) (c .before .enum-told2 .given .1)), c .before .before .before .before .before .before .pre .1)
+put-report-requires c κs = ((c .before .before .before .before .before .before .pre .0 .0, c .before .before .before .before .before .before .pre .0 .1, placed-here (c .before .before .before .before .before .before .pre .0 .2) (c .before .enum-told2 .given .1)), c .before .before .before .before .before .before .pre .1)
 
 enum-told-3 : tie.Need-enum-told-3
 enum-told-3 c = search needs

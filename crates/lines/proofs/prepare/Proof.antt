@@ -22,11 +22,14 @@ same-length-2 c = search needs
 same-length-3 : tie.Need-same-length-3
 same-length-3 c = search needs
 
+same-length-4 : tie.Need-same-length-4
+same-length-4 c = search needs
+
 returns : tie.Need-returns
-returns c = begun-as (c .before .before .before .before .before .before .before .before .before .before .before .line .given .1) (prepared-begun _ _ _ _ _ (c .before .before .before .before .before .before .before .before .before .before .before .before .before .before .before .before .pre) (c .before .before .before .before .before .before .taldreku-prepare .ensures))
+returns c = begun-as (c .before .before .before .before .before .before .before .before .before .before .before .before .before .before .line .given .1) (prepared-begun _ _ _ _ _ (c .before .before .before .before .before .before .before .before .before .before .before .before .before .before .before .before .before .before .before .before .pre) (c .before .before .before .before .before .before .before .before .taldreku-prepare .ensures))
 
 returns-2 : tie.Need-returns-2
-returns-2 c = begun-as (c .enum-told .given .1) (malformed-begun (c .before .before .before .before .before .pre))
+returns-2 c = begun-as (c .enum-told .given .1) (malformed-begun (c .before .before .before .before .before .before .pre))
 
 pub prepare-spec : {M : Type 1} → statement M
 prepare-spec =
@@ -38,5 +41,6 @@ prepare-spec =
     same-length
     same-length-2
     same-length-3
+    same-length-4
     returns
     returns-2)

@@ -8,13 +8,13 @@ use Rattle.lines.proofs.put_report.Statement.{statement}
 use Rattle.lines.proofs.put_report.Tie as tie
 
 read-sizes-requires : tie.Need-read-sizes-requires
-read-sizes-requires c κs = sizes-there (c .before .before .before .pre .0 .1 .stands .whole .sized)
+read-sizes-requires c κs = sizes-there (c .before .before .before .pre .0 .2 .stands .whole .sized)
 
 put-rows-requires : tie.Need-put-rows-requires
-put-rows-requires c κs = (here-whole (c .before .before .before .before .before .pre .0 .1) (c .before .read-sizes .ensures), omega (arith, c .before .before .before .before .before .pre .1))
+put-rows-requires c κs = (here-whole (c .before .before .before .before .before .pre .0 .2) (c .before .read-sizes .ensures), omega (arith, c .before .before .before .before .before .pre .1))
 
 free-pages-requires : tie.Need-free-pages-requires
-free-pages-requires c κs = here-whole (c .before .before .before .before .before .before .before .before .pre .0 .1) (c .before .before .before .before .read-sizes .ensures)
+free-pages-requires c κs = here-whole (c .before .before .before .before .before .before .before .before .pre .0 .2) (c .before .before .before .before .read-sizes .ensures)
 
 crossing-slots-requires : tie.Need-crossing-slots-requires
 crossing-slots-requires c κs = search needs
@@ -23,13 +23,13 @@ put-two-requires : tie.Need-put-two-requires
 put-two-requires c κs = search needs
 
 made-requires : tie.Need-made-requires
-made-requires c κs = here-whole (c .before .before .before .before .before .before .before .before .before .before .before .before .before .before .pre .0 .1) (c .before .before .before .before .before .before .before .before .before .before .read-sizes .ensures)
+made-requires c κs = here-whole (c .before .before .before .before .before .before .before .before .before .before .before .before .before .before .pre .0 .2) (c .before .before .before .before .before .before .before .before .before .before .read-sizes .ensures)
 
 freed-requires : tie.Need-freed-requires
-freed-requires c κs = here-whole (c .before .before .before .before .before .before .before .before .before .before .before .before .before .before .before .pre .0 .1) (c .before .before .before .before .before .before .before .before .before .before .before .read-sizes .ensures)
+freed-requires c κs = here-whole (c .before .before .before .before .before .before .before .before .before .before .before .before .before .before .before .pre .0 .2) (c .before .before .before .before .before .before .before .before .before .before .before .read-sizes .ensures)
 
 total-requires : tie.Need-total-requires
-total-requires c κs = here-whole (c .before .before .before .before .before .before .before .before .before .before .before .before .before .before .before .before .pre .0 .1) (c .before .before .before .before .before .before .before .before .before .before .before .before .read-sizes .ensures)
+total-requires c κs = here-whole (c .before .before .before .before .before .before .before .before .before .before .before .before .before .before .before .before .pre .0 .2) (c .before .before .before .before .before .before .before .before .before .before .before .before .read-sizes .ensures)
 
 put-three-requires : tie.Need-put-three-requires
 put-three-requires c κs =
@@ -61,8 +61,8 @@ returns c =
     let total-ok = total .ok in
     let fits : (free-pages .result < 4294967296) × (crossing-slots .result < 4294967296) × (made .result < 4294967296) × (freed .result < 4294967296) × (total .result < 4294967296) =
     omega (arith, free-ok, slots-ok, made-ok, freed-ok, total-ok) in (
-      report-put (pre .0 .1) (read-sizes .ensures) (pre .1) (rows .0) (rows .1) fits figures last (free-pages .ensures) (crossing-slots .ensures) (made .ensures) (freed .ensures) (total .ensures),
-      report-end (pre .0 .1) (read-sizes .ensures) (pre .1) (rows .0) (rows .1) fits figures last,
+      report-put (pre .0 .2) (read-sizes .ensures) (pre .1) (rows .0) (rows .1) fits figures last (free-pages .ensures) (crossing-slots .ensures) (made .ensures) (freed .ensures) (total .ensures),
+      report-end (pre .0 .2) (read-sizes .ensures) (pre .1) (rows .0) (rows .1) fits figures last,
     )
 
 pub put-report-spec : {M : Type 1} → statement M
