@@ -43,7 +43,7 @@ unfoldable pub Advances : Machine → List ℕ → Slices → List ℕ → Fed �
 Advances m [] l out x after l′ = Closes m l out (x .length) after l′ × (x .stage ≡ Stopped)
 Advances m (b ∷ bs) l out x after l′ = Feeds m (b ∷ bs) l out x after l′
 
--- A turn from a stage, the words l and the buffer out: the read failed and nothing else was done; or the first bytes of the text were fed to
+-- A turn from a stage, the slices l and the buffer out: the read failed and nothing else was done; or the first bytes of the text were fed to
 -- the machine that the program was at, and what this prints is the first bytes of the buffer, those that were handed to the write.
 pub data Turned (stage : Stage) (l : Slices) (out : List ℕ) (t : Outcome) (text after : List ℕ) (l′ : Slices) : Type 0 where
   unread : t .ending ≡ Unread → t .read ≡ 0 → t .printed ≡ 0 → l′ ≡ l → after ≡ out → Turned stage l out t text after l′
