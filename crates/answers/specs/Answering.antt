@@ -63,7 +63,7 @@ chain-changes s (more {w} {w₁} {w′} {m} {a} {ms} d c) h cellOf st k whole li
       record { words = w₁; chains = k₁ },
       (subst (λ (x : Answer). Did s w m w₁ x) (d .answer h cellOf st) d, refl),
       subst (λ (x : List ℕ). LinesChange (running s (ru.step s h m .next) (line + 1)) (map asLine ms) (record { words = w₁; chains = k₁ }) (record { words = w′; chains = x })) (written-again s (w₁ .remember) (w′ .remember) k room)
-      (chain-changes s c (ru.step s h m .next) (n .cell) (n .stands) k₁ (written-whole s (w₁ .remember) k room) (line + 1)),
+          (chain-changes s c (ru.step s h m .next) (n .cell) (n .stands) k₁ (written-whole s (w₁ .remember) k room) (line + 1)),
     )
 
 -- a run of whole slices on whole commands is accepted

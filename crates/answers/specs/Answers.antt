@@ -8,8 +8,8 @@ use Rattle.rules.specs.declared.Command.{Command}
 use Rattle.rules.specs.declared.Answer.{Answer}
 use Rattle.rules.specs.Rules as ru
 use Rattle.rules.specs.Rules.{Regioned}
-use Rattle.promises.specs.Slices.{Slices}
 use Rattle.chains.specs.Chains.{ChainsWhole}
+use Rattle.promises.specs.Slices.{Slices}
 use Rattle.promises.specs.StandsFor.{StandsFor}
 use Rattle.promises.specs.Promises.{commandsIn}
 use Rattle.script.specs.declared.Line.{Line}

@@ -31,7 +31,14 @@ fn answer(
     ensures { λ r. ⌜ r ≤ 22 * (used / 5) ⌝ }
 {
     let mut answers = [0u32; 3278];
-    heap::taldreku_run(cells, remember, tables, chains, &block[..used], &mut answers);
+    heap::taldreku_run(
+        cells,
+        remember,
+        tables,
+        chains,
+        &block[..used],
+        &mut answers,
+    );
     script::blocks::put_answers(out, 0, &answers, used / 5)
 }
 

@@ -37,15 +37,15 @@ Holds opening l = Unit {0}
 Holds (running s h k) l = (cellOf : ℕ → ℕ) × StandsFor s (l .words) h cellOf × ChainsWhole s (l .words .remember) (l .chains)
 Holds stopped l = Unit {0}
 
--- ---- what becomes of the words
+-- ---- what becomes of the slices
 
 -- the sizes were accepted and the tables prepared, or no word changed
 unfoldable pub Prepares : Bool → Sizes → Slices → Slices → Type 0
 Prepares true s l l′ = Unused s l l′
 Prepares false s l l′ = l′ ≡ l
 
--- a line changed the slices l to l′: sizes that are accepted prepare them, a command does what it promises, and the chains are those of the
--- remember table then, any other line changes none
+-- a line changed the slices l to l′: sizes that are accepted prepare them, a command does what it promises and the chains become those of the
+-- remember table, any other line changes none
 unfoldable pub LineChanges : Session → Line → Slices → Slices → Type 0
 LineChanges opening (Numbers t v d p n) l l′ = Prepares (accepted (sizes t v d p n)) (sizes t v d p n) l l′
 LineChanges opening Malformed l l′ = l′ ≡ l

@@ -15,7 +15,13 @@ use rules::Sizes;
 use script::Line;
 
 // Prepares the tables if a line has sizes that are accepted.
-pub fn prepare(line: Line, cells: &mut [u32], remember: &mut [u32], tables: &mut [u32], chains: &mut [u32]) -> bool
+pub fn prepare(
+    line: Line,
+    cells: &mut [u32],
+    remember: &mut [u32],
+    tables: &mut [u32],
+    chains: &mut [u32],
+) -> bool
     requires { ⌜ Lent (slices (now cells) (now remember) (now tables) (now chains)) ⌝ }
     ensures { λ r. ⌜ Begun line (slices (now (cells .entry)) (now (remember .entry)) (now (tables .entry)) (now (chains .entry))) r (slices (now (cells .exit)) (now (remember .exit)) (now (tables .exit)) (now (chains .exit))) ⌝ }
 {

@@ -73,11 +73,24 @@ fn run_all(
 }
 
 // A command of thread 0 that has no operands.
-fn obey(cells: &mut [u32], remember: &mut [u32], tables: &mut [u32], chains: &mut [u32], code: u32) -> Answer
+fn obey(
+    cells: &mut [u32],
+    remember: &mut [u32],
+    tables: &mut [u32],
+    chains: &mut [u32],
+    code: u32,
+) -> Answer
     ensures { λ r. ⌜ Obeyed (slices (now (cells .entry)) (now (remember .entry)) (now (tables .entry)) (now (chains .entry))) code (slices (now (cells .exit)) (now (remember .exit)) (now (tables .exit)) (now (chains .exit))) r ⌝ }
 {
     let mut answers = [1u32; 2];
-    heap::taldreku_run(cells, remember, tables, chains, &[code, 0, 0, 0, 0], &mut answers);
+    heap::taldreku_run(
+        cells,
+        remember,
+        tables,
+        chains,
+        &[code, 0, 0, 0, 0],
+        &mut answers,
+    );
     Answer {
         number: answers[0],
         value: answers[1],

@@ -25,7 +25,7 @@ stageOf r opening = Opening r
 stageOf r (running s h k) = Running r k
 stageOf r stopped = Stopped
 
--- the code at this stage, with these words, is where machine m is
+-- the code at this stage, with these slices, is where machine m is
 pub record At (m : Machine) (stage : Stage) (l : Slices) : Type 0 where
   pub stage-is : stage ≡ stageOf (m .reader) (m .session)
   pub lent : Lent l
@@ -54,7 +54,7 @@ begunAt Stopped = false
 
 -- ---- a piece
 
--- a piece was fed to machine m: the code is where the machine is then, what that prints stands at the start of the buffer, and the words
+-- a piece was fed to machine m: the code is where the machine is then, what that prints stands at the start of the buffer, and the slices
 -- changed line by line
 pub record Feeds (m : Machine) (bytes : List ℕ) (l : Slices) (out : List ℕ) (x : Fed) (after : List ℕ) (l′ : Slices) : Type 0 where
   pub is-at : At (feed m bytes) (x .stage) l′
@@ -79,7 +79,7 @@ pub data Proceeds (x : Filled) (next end : ℕ) (out : List ℕ) (fed : Fed) (af
 
 -- ---- the end of the input
 
--- the input of machine m has ended: what it prints then stands at the start of the buffer, the words stand for its heap, and only a last
+-- the input of machine m has ended: what it prints then stands at the start of the buffer, the slices hold its heap, and only a last
 -- line without its line feed has changed them
 pub record Closes (m : Machine) (l : Slices) (out : List ℕ) (end : ℕ) (after : List ℕ) (l′ : Slices) : Type 0 where
   pub text : Put out 0 (closePrints m) after end

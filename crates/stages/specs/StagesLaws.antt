@@ -39,7 +39,7 @@ at-opening {m} {stage} {l} {r} a e = go (m .session) refl (sym (a .stage-is) ∙
     go (running s h k) f q = absurd (let z : _≡_ {A = ℕ} 0 1 = cc in let o : ⊥ = omega arith in o)
     go stopped f q = absurd (let z : _≡_ {A = ℕ} 0 1 = cc in let o : ⊥ = omega arith in o)
 
--- it is running, with the words standing for its heap
+-- it is running, with the slices holding its heap
 pub record AtRunning (m : Machine) (r : Reader) (k : ℕ) (l : Slices) : Type 0 where
   pub sizes-are : Sizes
   pub heap-is : Regioned

@@ -4,7 +4,7 @@ use mathlib.Core.Path.{_≡_}
 use mathlib.Core.List.{List, [], _∷_, flatten}
 use mathlib.Core.Bool.{Bool, true, false, cond}
 use lib.ListN.{length, take}
-use Rattle.layout.specs.Words.{Words}
+use Rattle.promises.specs.Slices.{Slices}
 use Rattle.printed.specs.Printed.{printed}
 use Rattle.printed.specs.Pieces.{Machine}
 use Rattle.stages.specs.declared.Stage.{Stage}
@@ -39,17 +39,17 @@ goesOn Unread = false
 goesOn Unwritten = false
 
 -- a piece was fed to machine m, or, if it is empty, the input has ended
-unfoldable pub Advances : Machine → List ℕ → Words → List ℕ → Fed → List ℕ → Words → Type 0
-Advances m [] w out x after w′ = Closes m w out (x .length) after w′ × (x .stage ≡ Stopped)
-Advances m (b ∷ bs) w out x after w′ = Feeds m (b ∷ bs) w out x after w′
+unfoldable pub Advances : Machine → List ℕ → Slices → List ℕ → Fed → List ℕ → Slices → Type 0
+Advances m [] l out x after l′ = Closes m l out (x .length) after l′ × (x .stage ≡ Stopped)
+Advances m (b ∷ bs) l out x after l′ = Feeds m (b ∷ bs) l out x after l′
 
--- A turn from a stage, the words w and the buffer out: the read failed and nothing else was done; or the first bytes of the text were fed to
+-- A turn from a stage, the slices l and the buffer out: the read failed and nothing else was done; or the first bytes of the text were fed to
 -- the machine that the program was at, and what this prints is the first bytes of the buffer, those that were handed to the write.
-pub data Turned (stage : Stage) (w : Words) (out : List ℕ) (t : Outcome) (text after : List ℕ) (w′ : Words) : Type 0 where
-  unread : t .ending ≡ Unread → t .read ≡ 0 → t .printed ≡ 0 → w′ ≡ w → after ≡ out → Turned stage w out t text after w′
+pub data Turned (stage : Stage) (l : Slices) (out : List ℕ) (t : Outcome) (text after : List ℕ) (l′ : Slices) : Type 0 where
+  unread : t .ending ≡ Unread → t .read ≡ 0 → t .printed ≡ 0 → l′ ≡ l → after ≡ out → Turned stage l out t text after l′
   moved : (taken : Bool) → t .ending ≡ endingOf (t .stage) taken
-      → ((m : Machine) → At m stage w → Advances m (take (t .read) text) w out (record { stage = t .stage; length = t .printed }) after w′)
-      → Turned stage w out t text after w′
+      → ((m : Machine) → At m stage l → Advances m (take (t .read) text) l out (record { stage = t .stage; length = t .printed }) after l′)
+      → Turned stage l out t text after l′
 
 -- All turns: pieces were fed one after the other, as many bytes as they have were read, and no more bytes than `printed` says of them were
 -- handed to the write, but all of these if the program finished; and the loop gives up only after 2^48 turns, each of which fed a byte at least.

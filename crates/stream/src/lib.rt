@@ -3,7 +3,7 @@
 ghost use Prim.Native.Nat.{_+_, _<_, _≤_};
 ghost use mathlib.Core.Path.{_≡_};
 ghost use lib.ListN.{length};
-ghost use Rattle.layout.specs.Words.{words};
+ghost use Rattle.promises.specs.Slices.{slices};
 ghost use Rattle.printed.specs.Pieces.{Machine};
 ghost use Rattle.lines.specs.Lines.{Lent};
 ghost use Rattle.stages.specs.Stages.{At, Placed, lineOf};
@@ -81,20 +81,21 @@ fn advance(
     cells: &mut [u32],
     remember: &mut [u32],
     tables: &mut [u32],
+    chains: &mut [u32],
     out: &mut [u8],
 ) -> Fed
     requires { ⌜ (length (now piece) ≤ 16384) × (36084 ≤ length (now out)) × (lineOf stage + 16384 < 18446744073709551616) ⌝ }
-    requires { ⌜ Placed stage (words (now cells) (now remember) (now tables)) ⌝ }
-    ensures { λ x. ⌜ ((m : Machine) → At m stage (words (now (cells .entry)) (now (remember .entry)) (now (tables .entry))) → Advances m (now (piece .entry)) (words (now (cells .entry)) (now (remember .entry)) (now (tables .entry))) (now (out .entry)) x (now (out .exit)) (words (now (cells .exit)) (now (remember .exit)) (now (tables .exit)))) ⌝ }
+    requires { ⌜ Placed stage (slices (now cells) (now remember) (now tables) (now chains)) ⌝ }
+    ensures { λ x. ⌜ ((m : Machine) → At m stage (slices (now (cells .entry)) (now (remember .entry)) (now (tables .entry)) (now (chains .entry))) → Advances m (now (piece .entry)) (slices (now (cells .entry)) (now (remember .entry)) (now (tables .entry)) (now (chains .entry))) (now (out .entry)) x (now (out .exit)) (slices (now (cells .exit)) (now (remember .exit)) (now (tables .exit)) (now (chains .exit)))) ⌝ }
     ensures { λ x. ⌜ x .length ≤ 36084 ⌝ }
 {
     if piece.len() == 0 {
         Fed {
             stage: Stage::Stopped,
-            length: closing::close(stage, cells, remember, tables, out),
+            length: closing::close(stage, cells, remember, tables, chains, out),
         }
     } else {
-        session::feed(stage, piece, cells, remember, tables, out)
+        session::feed(stage, piece, cells, remember, tables, chains, out)
     }
 }
 
@@ -131,11 +132,12 @@ fn turn(
     cells: &mut [u32],
     remember: &mut [u32],
     tables: &mut [u32],
+    chains: &mut [u32],
     out: &mut [u8],
 ) -> Outcome
     requires { ⌜ Buffers (now text) (now out) × (lineOf stage + 16384 < 18446744073709551616) ⌝ }
-    requires { ⌜ Placed stage (words (now cells) (now remember) (now tables)) ⌝ }
-    ensures { λ r. ⌜ Turned stage (words (now (cells .entry)) (now (remember .entry)) (now (tables .entry))) (now (out .entry)) r (now (text .exit)) (now (out .exit)) (words (now (cells .exit)) (now (remember .exit)) (now (tables .exit))) ⌝ }
+    requires { ⌜ Placed stage (slices (now cells) (now remember) (now tables) (now chains)) ⌝ }
+    ensures { λ r. ⌜ Turned stage (slices (now (cells .entry)) (now (remember .entry)) (now (tables .entry)) (now (chains .entry))) (now (out .entry)) r (now (text .exit)) (now (out .exit)) (slices (now (cells .exit)) (now (remember .exit)) (now (tables .exit)) (now (chains .exit))) ⌝ }
     ensures { λ r. ⌜ (r .read ≤ length (now (text .exit))) × (r .printed ≤ 36084) ⌝ }
 {
     let piece = read_piece(fd, text);
@@ -147,7 +149,7 @@ fn turn(
             printed: 0,
         },
         Piece::Bytes(n) => {
-            let fed = advance(stage, &text[..n], cells, remember, tables, out);
+            let fed = advance(stage, &text[..n], cells, remember, tables, chains, out);
             let length = fed.length;
             let next = fed.stage;
             let printed = print(&out[..length]);
@@ -168,10 +170,11 @@ fn go_on(
     cells: &mut [u32],
     remember: &mut [u32],
     tables: &mut [u32],
+    chains: &mut [u32],
     out: &mut [u8],
 ) -> Served
     requires { ⌜ Buffers (now text) (now out) ⌝ }
-    requires { ⌜ Lent (words (now cells) (now remember) (now tables)) ⌝ }
+    requires { ⌜ Lent (slices (now cells) (now remember) (now tables) (now chains)) ⌝ }
     ensures { λ r. ⌜ Serves r ⌝ }
 {
     let mut stage = stages::start();
@@ -179,7 +182,7 @@ fn go_on(
     let mut printed: u64 = 0;
     let mut turns: u64 = 281474976710656;
     while turns > 0 {
-        let done = turn(fd, stage, text, cells, remember, tables, out);
+        let done = turn(fd, stage, text, cells, remember, tables, chains, out);
         read += done.read as u64;
         printed += done.printed as u64;
         let ending = done.ending;
@@ -208,6 +211,7 @@ pub fn serve(fd: i32) -> Served
     let mut cells = [0u32; 8192];
     let mut remember = [0u32; 2050];
     let mut tables = [0u32; 760];
+    let mut chains = [0u32; 1153];
     let mut out = [0u8; 36084];
     go_on(
         fd,
@@ -215,6 +219,7 @@ pub fn serve(fd: i32) -> Served
         &mut cells,
         &mut remember,
         &mut tables,
+        &mut chains,
         &mut out,
     )
 }

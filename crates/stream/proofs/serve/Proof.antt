@@ -20,10 +20,13 @@ slice-aggregate-go-on-4 c = search needs
 slice-aggregate-go-on-5 : tie.Need-slice-aggregate-go-on-5
 slice-aggregate-go-on-5 c = search needs
 
+slice-aggregate-go-on-6 : tie.Need-slice-aggregate-go-on-6
+slice-aggregate-go-on-6 c = search needs
+
 go-on-requires : tie.Need-go-on-requires
 go-on-requires c κs = (
   record { piece-room = length-replicate {A = ℕ} 16384 0; text-room = length-replicate {A = ℕ} 36084 0 },
-  record { cells = length-replicate {A = ℕ} 8192 0; remember = length-replicate {A = ℕ} 2050 0; tables = length-replicate {A = ℕ} 760 0 },
+  record { cells = length-replicate {A = ℕ} 8192 0; remember = length-replicate {A = ℕ} 2050 0; tables = length-replicate {A = ℕ} 760 0; chains = length-replicate {A = ℕ} 1153 0 },
 )
 
 returns : tie.Need-returns
@@ -38,5 +41,6 @@ serve-spec =
     slice-aggregate-go-on-3
     slice-aggregate-go-on-4
     slice-aggregate-go-on-5
+    slice-aggregate-go-on-6
     go-on-requires
     returns)

@@ -26,15 +26,15 @@ slice-aggregate-advance c = sym (length-take-le _ _ (omega (arith, bytes-short (
 
 advance-requires : tie.Need-advance-requires
 advance-requires c κs =
-    let pre = c .before .before .before .before .before .before .before .before .before .before .before .before .before .before .before .before .before .pre in
-    let read-piece = c .before .before .before .before .before .before .before .before .before .before .read-piece in
+    let pre = c .before .before .before .before .before .before .before .before .before .before .before .before .before .before .before .before .before .before .before .pre in
+    let read-piece = c .before .before .before .before .before .before .before .before .before .before .before .read-piece in
     ((simp length-take (omega (arith, read-piece .kept .1 .0, pre .0 .0 .piece-room)), omega (arith, pre .0 .0 .text-room), pre .0 .1), pre .1)
 
 slice-reshare-prefix-print : tie.Need-slice-reshare-prefix-print
-slice-reshare-prefix-print c = search needs
+slice-reshare-prefix-print c = omega (arith, c .before .before .before .before .before .before .before .before .before .before .advance .ensures .1, c .before .before .before .before .before .before .before .before .before .before .advance .kept .1 .1 .1 .1 .1 .1 .0, c .before .before .before .before .before .before .before .before .before .before .before .before .before .before .before .before .before .before .before .before .before .before .before .before .before .before .before .before .before .before .pre .0 .0 .text-room)
 
 slice-aggregate-print : tie.Need-slice-aggregate-print
-slice-aggregate-print c = sym (length-take-le _ _ (omega (arith, c .before .before .before .before .before .before .before .before .before .advance .ensures .1, c .before .before .before .before .before .before .before .before .before .advance .kept .1 .1 .1 .1 .1 .0, c .before .before .before .before .before .before .before .before .before .before .before .before .before .before .before .before .before .before .before .before .before .before .before .before .before .before .before .pre .0 .0 .text-room)))
+slice-aggregate-print c = sym (length-take-le _ _ (omega (arith, c .before .before .before .before .before .before .before .before .before .before .before .advance .ensures .1, c .before .before .before .before .before .before .before .before .before .before .before .advance .kept .1 .1 .1 .1 .1 .1 .0, c .before .before .before .before .before .before .before .before .before .before .before .before .before .before .before .before .before .before .before .before .before .before .before .before .before .before .before .before .before .before .before .pre .0 .0 .text-room)))
 
 print-requires : tie.Need-print-requires
 print-requires c κs = search needs
@@ -63,14 +63,17 @@ same-length-5 c = search needs
 same-length-6 : tie.Need-same-length-6
 same-length-6 c = search needs
 
+same-length-7 : tie.Need-same-length-7
+same-length-7 c = search needs
+
 returns-2 : tie.Need-returns-2
 returns-2 c =
-    let pre = c .before .before .before .before .before .before .before .before .before .before .before .before .before .before .before .before .before .before .before .before .before .before .before .before .before .before .before .before .before .pre in
-    let read-piece = c .before .before .before .before .before .before .before .before .before .before .before .before .before .before .before .before .before .before .before .before .before .before .read-piece in
-    let piece = c .before .before .before .before .before .before .before .before .before .before .before .before .before .before .before .before .before .before .piece in
-    let advance = c .before .before .before .before .before .before .before .before .before .before .before .advance in
+    let pre = c .before .before .before .before .before .before .before .before .before .before .before .before .before .before .before .before .before .before .before .before .before .before .before .before .before .before .before .before .before .before .before .before .before .pre in
+    let read-piece = c .before .before .before .before .before .before .before .before .before .before .before .before .before .before .before .before .before .before .before .before .before .before .before .before .before .read-piece in
+    let piece = c .before .before .before .before .before .before .before .before .before .before .before .before .before .before .before .before .before .before .before .before .before .piece in
+    let advance = c .before .before .before .before .before .before .before .before .before .before .before .before .before .advance in
     let print = c .before .print in
-    let length-is = print .ensures ∙ length-take-le (advance .result .length) (advance .last .1 .1 .1 .1 .1 .0) (omega (arith, advance .ensures .1, advance .kept .1 .1 .1 .1 .1 .0, pre .0 .0 .text-room)) in
+    let length-is = print .ensures ∙ length-take-le (advance .result .length) (advance .last .1 .1 .1 .1 .1 .1 .0) (omega (arith, advance .ensures .1, advance .kept .1 .1 .1 .1 .1 .1 .0, pre .0 .0 .text-room)) in
     (turn-moved (print .result .taken) (c .ending-at .ensures) (advance .ensures .0) length-is, (bytes-short (piece .given .1) (read-piece .ensures), omega (arith, length-is, advance .ensures .1)))
 
 pub turn-spec : {M : Type 1} → statement M
@@ -94,4 +97,5 @@ turn-spec =
     same-length-4
     same-length-5
     same-length-6
+    same-length-7
     returns-2)
