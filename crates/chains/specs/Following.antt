@@ -52,12 +52,12 @@ module _ (R : ℕ) (f : List ℕ) (es : List Entry) (nexts : (i : ℕ) → i < l
           ap (followed R f (suc n)) (first-other g es i low q) ∙ rest (suc n) (omega arith) (omega arith)
           ∙ sym (split i low ∙ ap (λ (b : Bool). cond b (i ∷ placesFrom g es (suc i)) (placesFrom g es (suc i))) (ne-eqb (nthRegion es i) g q))
 
--- the words of the chains, with any words after them: the chain of region r + 1
+-- the words of the chains, with any words after them: the chain of region r + 1, in as many steps as there are entries or in more: it ends
 pub chain-names : (R N : ℕ) (es : List Entry) (f : List ℕ) → length es ≤ N → ((j : ℕ) → j < R + N → getD f j 0 ≡ getD (chainsOf R N es) j 0)
-    → (r : ℕ) → r < R → followed R f (length es) (getD f r 0) ≡ placesOf (suc r) 0 es
-chain-names R N es f few same r l =
-    ap (followed R f (length es)) (same r (omega arith) ∙ chain-first R N es few r l)
-    ∙ follow R f es (λ i h. same (R + i) (omega arith) ∙ chain-next R N es few i) (suc r) (length es) 0 (length es) (omega arith) (omega arith)
+    → (n : ℕ) → length es ≤ n → (r : ℕ) → r < R → followed R f n (getD f r 0) ≡ placesOf (suc r) 0 es
+chain-names R N es f few same n enough r l =
+    ap (followed R f n) (same r (omega arith) ∙ chain-first R N es few r l)
+    ∙ follow R f es (λ i h. same (R + i) (omega arith) ∙ chain-next R N es few i) (suc r) (length es) 0 n (omega arith) enough
 
 -- ---- what places these are
 

@@ -5,7 +5,7 @@ use mathlib.Core.Path.{_≡_, refl, sym, ap, subst, _∙_}
 use native.Mathlib.Omega.{arith}
 use native.Mathlib.Decide.{decLt, ℕ-discrete}
 use lib.ListN.{length, getD, set, take, drop, length-set, length-append, length-take, length-drop, List·getD-append}
-use lib.Seq.{ext-getD, getD-append-add, getD-drop, getD-take, take-at}
+use lib.Seq.{ext-getD, getD-append-add, getD-drop, getD-take}
 use Rattle.lists.specs.Stores.{put, past}
 use Rattle.layout.specs.Places.{entriesUsed, slotRegionIn}
 use Rattle.remember.specs.Table.{Entry, region, nthRegion, entriesIn}
@@ -219,11 +219,7 @@ module _ (R N : ℕ) (m : List ℕ) (t : entriesUsed m ≤ N) (f : List ℕ) (ro
 
 -- ---- what such words lead to
 
--- words that begin with those of the chains: the chain of region r + 1 names the places of its entries (Following says which they are)
+-- words that begin with those of the chains: the chain of region r + 1 names the places of its entries (Following says which they are), and ends
 pub chain-agreed : (R N : ℕ) (es : List Entry) (f : List ℕ) → length es ≤ N → R + N ≤ length f → take (R + N) f ≡ chainsOf R N es
-    → (r : ℕ) → r < R → followed R f (length es) (getD f r 0) ≡ placesOf (suc r) 0 es
-chain-agreed R N es f few room e r l = chain-names R N es f few (at R N es f few room e) r l
-
--- and what `rebuild` writes are such words
-pub rebuilt-agrees : (R N : ℕ) (es : List Entry) (rest : List ℕ) → length es ≤ N → take (R + N) (chainsOf R N es ++ rest) ≡ chainsOf R N es
-rebuilt-agrees R N es rest few = take-at (chainsOf R N es) rest (R + N) (chains-long R N es few)
+    → (n : ℕ) → length es ≤ n → (r : ℕ) → r < R → followed R f n (getD f r 0) ≡ placesOf (suc r) 0 es
+chain-agreed R N es f few room e n enough r l = chain-names R N es f few (at R N es f few room e) n enough r l

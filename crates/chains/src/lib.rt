@@ -19,7 +19,8 @@ fn relink(entries: usize, remember: &[u32], last: usize, chains: &mut [u32])
     ensures { λ _. ⌜ now (chains .exit) ≡ chainsOf last entries (entriesIn entries (now (remember .entry))) ++ drop (last + entries) (now (chains .entry)) ⌝ }
 {
     layout::clear(chains, 0, last + entries);
-    let mut i = layout::wide(layout::remember::used(remember));
+    let used = layout::wide(layout::remember::used(remember));
+    let mut i = used;
     while 0 < i {
         i -= 1;
         let g = layout::wide(layout::remember::region(entries, remember, i));

@@ -1,5 +1,5 @@
-// The end of an epoch (code 2): mark what survives; where nothing does, take the region's slots out of the remember table and free its pages;
-// else list its pages, count over them, refuse and undo the marking where pages or entries are too few, or copy, rewrite, remember and release.
+// The end of an epoch (code 2): mark what survives; where nothing does, list the region's pages, take its slots out of the remember table and free
+// them; else list its pages, count over them, refuse and undo the marking where pages or entries are too few, or copy, rewrite, remember and release.
 ghost use mathlib.Core.Path.{_≡_};
 ghost use mathlib.Core.List.{List};
 ghost use Prim.Native.Nat.{ℕ, _<_};

@@ -3,12 +3,14 @@
 use mathlib.Core.Path.{_≡_, refl, sym, ap, ap₂, _∙_, subst}
 use mathlib.Core.Bool.{Bool, true, false, cond}
 use mathlib.Core.List.{List, _++_}
-use Prim.Native.Nat.{ℕ, _+_, _/_, _≤_, _<_}
+use Prim.Native.Nat.{ℕ, _+_, _-_, _*_, _/_, _≤_, _<_}
 use native.Mathlib.Omega.{arith}
+use native.Mathlib.Nat.{div-add-mod', mod-lt}
 use lib.Dec.{eqb}
 use lib.ListN.{length, getD}
 use borrow.Author.Tests.{eq-eqb, ne-eqb}
 use Rattle.lists.specs.Listed.{listed}
+use Rattle.lists.specs.Products.{flat-row}
 use Rattle.rules.specs.Regions.{join}
 use Rattle.rules.specs.declared.Sizes.{Sizes}
 use Rattle.layout.specs.Places.{Room, varOf, ownerOf, entriesUsed, slotIn, slotRegionIn, varsFrom, cellsWords, rememberWords, varCount}
@@ -80,6 +82,26 @@ module _ {p : Sizes} {W m T : List ℕ} (s : Shaped p W T) (h : Holding p W m T)
 
 -- ---- what is held, as the code decides it
 
+-- whether variable i is the thread's, told by where its variables stand
+module _ (p : Sizes) (thread i : ℕ) (some : 1 ≤ p .variables) where
+  pub own-from : i / p .variables ≡ thread → thread * p .variables ≤ i
+  own-from e =
+      let d = div-add-mod' i (p .variables) in
+      let z = ap (λ (t : ℕ). t * p .variables) e in
+      omega (arith, d, z)
+
+  pub own-to : i / p .variables ≡ thread → i < thread * p .variables + p .variables
+  own-to e =
+      let d = div-add-mod' i (p .variables) in
+      let z = ap (λ (t : ℕ). t * p .variables) e in
+      omega (arith, d, z, mod-lt i some)
+
+  pub own-between : thread * p .variables ≤ i → i < thread * p .variables + p .variables → i / p .variables ≡ thread
+  own-between l h =
+      let a = i - thread * p .variables in
+      let e : i ≡ thread * p .variables + a = omega arith in
+      ap (λ (j : ℕ). j / p .variables) e ∙ flat-row thread (omega arith)
+
 pub calls-own : (p : Sizes) (thread outer i : ℕ) → i / p .variables ≡ thread → outer ≡ varCalls p thread outer i
 calls-own p thread outer i e = sym (ap (λ (b : Bool). cond b outer 1) (eq-eqb (i / p .variables) thread e))
 
@@ -137,3 +159,13 @@ module _ {p : Sizes} {W T W′ T′ : List ℕ} (k : Kept p W T W′ T′) (room
   kept-slot-held r g i l =
       let page : pageAt (slotIn m i) < p .pages = at-page p (slotIn m i) (slot-low h i l) in
       ap₂ (λ (q x : ℕ). cond (eqb (slotRegionIn (p .entries) m i) r) (heldFor g (join p r q) x) 0) (kept-owner k room (cellOf (slotIn m i)) page) (k .cells (slotIn m i) (λ c b e. omega (arith, slot-word p W T (slotIn m i) (entry-slot h i l) .1)))
+
+-- variables call for outer or the control space, and for nothing else
+pub var-elsewhere : (p : Sizes) (T : List ℕ) (thread outer g : ℕ) → (g ≡ 1 → ⊥) → (g ≡ outer → ⊥) → (i : ℕ) → varHeld p T thread outer g i ≡ 0
+unfolding varHeld
+var-elsewhere p T thread outer g n m i =
+    ap (λ (b : Bool). cond b (varOf p T i) 0) (ne-eqb (varCalls p thread outer i) g (λ e. go (eqb (i / p .variables) thread) (sym e)))
+  where
+    go : (b : Bool) → g ≡ cond b outer 1 → ⊥
+    go true e = m e
+    go false e = n e

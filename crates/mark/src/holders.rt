@@ -5,7 +5,8 @@ ghost use mathlib.Core.List.{List};
 ghost use Prim.Native.Nat.{ℕ, _<_, _≤_};
 ghost use lib.ListN.{length};
 ghost use Rattle.rules.specs.Regions.{regions};
-ghost use Rattle.layout.specs.Places.{Room, entriesUsed, slotIn, slotRegionIn, cellsWords, rememberWords, varCount};
+ghost use Rattle.lists.specs.Says.{Says};
+ghost use Rattle.layout.specs.Places.{varThread, Room, entriesUsed, slotIn, slotRegionIn, cellsWords, rememberWords, varCount};
 ghost use Rattle.chains.specs.Chains.{ChainsWhole};
 ghost use Rattle.mark.specs.Marks.{Shaped};
 ghost use Rattle.mark.specs.Pushes.{Pushing};
@@ -13,12 +14,24 @@ ghost use Rattle.mark.specs.Holders.{varCalls, varHeld, slotHeld, Holdin
 use crate::push::push;
 use rules::Sizes;
 
+// Whether variable i is the thread's. It is told without a division, since it is asked of every variable.
+fn is_own(p: Sizes, thread: usize, i: usize) -> bool
+    requires { ⌜ (1 ≤ p .variables) × (p .variables ≤ 32) × (thread ≤ 16) ⌝ }
+    ensures { λ b. ⌜ Says b (varThread p i ≡ thread) ⌝ }
+{
+    let first = thread * p.variables;
+    if i < first {
+        return false;
+    }
+    i < first + p.variables
+}
+
 // The region that variable i calls for: outer if it is the ending thread's, else the control space.
 pub fn variable_calls(p: Sizes, thread: usize, outer: u32, i: usize) -> u32
-    requires { ⌜ 1 ≤ p .variables ⌝ }
+    requires { ⌜ (1 ≤ p .variables) × (p .variables ≤ 32) × (thread ≤ 16) ⌝ }
     ensures { λ q. ⌜ q ≡ varCalls p thread outer i ⌝ }
 {
-    if layout::tables::var_thread(p, i) != thread {
+    if !is_own(p, thread, i) {
         return 1;
     }
     outer
@@ -27,7 +40,7 @@ pub fn variable_calls(p: Sizes, thread: usize, outer: u32, i: usize) -> u32
 // What variable i holds if it calls for g, else null.
 pub fn variable_for(p: Sizes, tables: &[u32], thread: usize, outer: u32, g: u32, i: usize) -> u32
     requires { ⌜ Room p (length (now tables)) ⌝ }
-    requires { ⌜ (1 ≤ p .variables) × (i < varCount p) ⌝ }
+    requires { ⌜ (1 ≤ p .variables) × (i < varCount p) × (thread ≤ 16) ⌝ }
     ensures { λ x. ⌜ x ≡ varHeld p (now (tables .entry)) thread outer g i ⌝ }
 {
     if variable_calls(p, thread, outer, i) != g {
@@ -64,7 +77,7 @@ pub fn slot_for(
     cells[at]
 }
 
-// Pushes what the variables hold that call for g.
+// Pushes what the variables hold that call for g: they call for the control space and for outer alone.
 pub fn push_variables(
     p: Sizes,
     cells: &mut [u32],
@@ -77,8 +90,14 @@ pub fn push_variables(
 ) -> u32
     requires { ⌜ Shaped p (now cells) (now tables) ⌝ }
     requires { ⌜ ((m : List ℕ) × Holding p (now cells) m (now tables)) ⌝ }
+    requires { ⌜ thread ≤ 16 ⌝ }
     ensures { λ t. ⌜ Pushing p r (varHeld p (now (tables .entry)) thread outer g) (now (cells .entry)) (now (tables .entry)) top (now (cells .exit)) (now (tables .exit)) t (varCount p) ⌝ }
 {
+    if g != 1 {
+        if g != outer {
+            return top;
+        }
+    }
     let n = layout::tables::var_count(p);
     let mut t = top;
     let mut i: usize = 0;

@@ -2,14 +2,15 @@
 -- from there.
 use Prim.Native.Nat.{ℕ, suc, _+_, _-_, _≤_, _<_}
 use native.Mathlib.Omega.{arith}
-use mathlib.Core.Path.{_≡_, sym, ap, subst, _∙_}
+use native.Mathlib.Decide.{ℕ-discrete}
+use mathlib.Core.Path.{_≡_, refl, sym, ap, subst, _∙_}
 use mathlib.Core.List.{List}
 use lib.ListN.{length, getD}
 use Rattle.lists.specs.Members.{In, getD-member}
 use Rattle.rules.specs.declared.Sizes.{Sizes}
-use Rattle.rules.specs.Regions.{regions}
+use Rattle.rules.specs.Regions.{control, regions}
 use Rattle.layout.specs.Places.{cellsWords, entriesUsed, slotIn, firstIn}
-use Rattle.layout.specs.Cells.{pageOf, cellNamed}
+use Rattle.layout.specs.Cells.{pageOf, cellNamed, fieldOf}
 use Rattle.layout.specs.Objects.{Slot}
 use Rattle.layout.specs.Words.{Words, ownerIn}
 use Rattle.remember.specs.Crosses.{slot-crosses, cross-slot, Into, crosses-into, into-crosses}
@@ -19,7 +20,7 @@ use Rattle.remember.specs.TableWords.{to-long, to-at}
 use Rattle.chains.specs.Chains.{ChainsWhole, placesOf, followed}
 use Rattle.chains.specs.Following.{places-right, places-all, places-rise}
 use Rattle.chains.specs.Linking.{chain-agreed}
-use Rattle.chains.specs.Walking.{whole-long}
+use Rattle.chains.specs.Walking.{whole-long, first-leads}
 use Rattle.promises.specs.Whole.{WholeFor}
 
 -- the word at position q is a slot of an object outside region r, and names an object of r
@@ -30,7 +31,27 @@ pub record HoldingSlot (s : Sizes) (w : Words) (r q : ℕ) : Type 0 where
   pub page : pageOf (cellNamed (getD (w .cells) q 0)) < s .pages
   pub into : ownerIn s w (pageOf (cellNamed (getD (w .cells) q 0))) ≡ r
 
-module _ (s : Sizes) (w : Words) (k : List ℕ) (whole : WholeFor s w) (chains : ChainsWhole s (w .remember) k) (r : ℕ) (low : 2 ≤ r) (high : r ≤ regions s) where
+-- the control space has no chain
+pub control-none : (s : Sizes) (w : Words) (k : List ℕ) → WholeFor s w → ChainsWhole s (w .remember) k → firstIn k control ≡ 0
+control-none s w k whole chains = go (ℕ-discrete (firstIn k control) 0)
+  where
+    m : List ℕ
+    m = w .remember
+
+    go : Dec (firstIn k control ≡ 0) → firstIn k control ≡ 0
+    go (yes z) = z
+    go (no z) =
+        let l = first-leads (whole .remember .entries .room) chains control (omega arith) (omega arith) refl in
+        let e = whole .remember .entries .named (firstIn k control - 1) (omega (arith, l .low)) in
+        let q = slotIn m (firstIn k control - 1) in
+        let c : 1 ≡ crossTo s (w .cells) (w .tables) q = sym (e .right ∙ l .region (omega arith)) in
+        let o = cross-slot s (w .cells) (w .tables) q (omega (arith, c)) in
+        let v = crosses-into s (w .tables) (ownerIn s w (pageOf (o .object))) (fieldOf (w .cells) (o .object) (o .field)) 1 (c ∙ slot-crosses s (w .cells) (w .tables) q o) (λ x. omega arith) in
+        absurd (let f : ⊥ = omega (arith, v .high) in f)
+
+-- a walk along the chain of r, of as many steps as entries are used, or of more: it ends
+module _ (s : Sizes) (w : Words) (k : List ℕ) (whole : WholeFor s w) (chains : ChainsWhole s (w .remember) k) (r : ℕ) (low : 2 ≤ r) (high : r ≤ regions s)
+    (n : ℕ) (enough : entriesUsed (w .remember) ≤ n) where
   abbrev m : List ℕ
   m = w .remember
 
@@ -39,7 +60,7 @@ module _ (s : Sizes) (w : Words) (k : List ℕ) (whole : WholeFor s w) (chains :
 
   -- the places that the chain of r leads to
   abbrev named : List ℕ
-  named = followed (regions s) k (entriesUsed m) (firstIn k r)
+  named = followed (regions s) k n (firstIn k r)
 
   long : length (entriesIn N m) ≡ entriesUsed m
   long = to-long N m (entriesUsed m)
@@ -47,8 +68,8 @@ module _ (s : Sizes) (w : Words) (k : List ℕ) (whole : WholeFor s w) (chains :
   names : named ≡ placesOf r 0 (entriesIn N m)
   names =
       let v : suc (r - 1) ≡ r = omega arith in
-      ap (λ (n : ℕ). followed (regions s) k n (firstIn k r)) (sym long)
-      ∙ chain-agreed (regions s) N (entriesIn N m) k (omega (arith, long, whole .remember .entries .room)) (whole-long (whole .remember .entries .room) chains) (chains .words) (r - 1) (omega arith)
+      chain-agreed (regions s) N (entriesIn N m) k (omega (arith, long, whole .remember .entries .room)) (whole-long (whole .remember .entries .room) chains) (chains .words)
+      n (omega (arith, long)) (r - 1) (omega arith)
       ∙ ap (λ (g : ℕ). placesOf g 0 (entriesIn N m)) v
 
   -- the region of an entry is what its slot crosses into

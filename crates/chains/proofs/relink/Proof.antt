@@ -12,11 +12,11 @@ use Rattle.chains.proofs.relink.Statement.{statement}
 use Rattle.chains.proofs.relink.Tie as tie
 
 abbrev Inv-loop : tie.InvT-loop
-Inv-loop entries remember last chains₀ i₀ chains i =
+Inv-loop entries remember last chains₀ used i₀ chains i =
     (i ≤ entriesUsed remember) × (length chains ≡ length chains₀) × (last + entries ≤ length chains₀) × Linked last entries (entriesIn entries remember) i chains₀ chains
 
 abbrev μ-loop : tie.MeasureT-loop
-μ-loop entries remember last chains₀ i₀ chains i = i
+μ-loop entries remember last chains₀ used i₀ chains i = i
 
 abbrev start : tie.After-wide2 Inv-loop μ-loop → tie.Start Inv-loop μ-loop
 start c = c .before .before .before .before .before .before .before .before .before .before .before .before

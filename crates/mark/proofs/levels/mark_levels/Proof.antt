@@ -42,7 +42,7 @@ push-variables-requires c κs =
     let args = c .before .before .before .before .before .before .before .before .before .args in
     let pre = c .before .before .before .before .before .before .before .before .before .pre in
     let loop = c .before .before .before .before .loop in
-    (round-shaped (pre .0) (pre .1 .0) (args .thread) (args .outer) (loop .inv .3), (args .remember .now, round-holding (pre .0) (pre .1 .0) (args .thread) (args .outer) (loop .inv .3)))
+    (round-shaped (pre .0) (pre .1 .0) (args .thread) (args .outer) (loop .inv .3), ((args .remember .now, round-holding (pre .0) (pre .1 .0) (args .thread) (args .outer) (loop .inv .3)), omega (arith, pre .1 .1 .1 .1 .0 .0, pre .0 .room .threads-high)))
 
 push-slots-requires : tie.Need-push-slots-requires Inv-loop μ-loop
 push-slots-requires c κs =
