@@ -15,7 +15,7 @@ push-variables-requires c κs =
     let args = c .before .before .before .before .args in
     let pre = c .before .before .before .before .pre in
     let w = words (args .cells .now) (pre .0) (args .tables .now) in
-    (shaped-at (args .p) w (pre .1) (omega arith), (pre .0, whole-holding (args .p) w (pre .1)))
+    (shaped-at (args .p) w (pre .1) (omega arith), ((pre .0, whole-holding (args .p) w (pre .1)), omega arith))
 
 push-others-requires : tie.Need-push-others-requires
 push-others-requires c κs =
