@@ -13,7 +13,7 @@ use Rattle.rules.specs.Rules as ru
 use Rattle.rules.specs.Rules.{Regioned}
 use Rattle.layout.specs.Words.{Words, sizesIn}
 use Rattle.chains.specs.Chains.{ChainsWhole, withChains}
-use Rattle.chains.specs.LentChains.{whole-written, written-whole, written-long, written-again}
+use Rattle.chains.specs.LentChains.{chains-same, written-whole, written-long, written-again}
 use Rattle.chains.specs.Walking.{whole-long}
 use Rattle.promises.specs.Slices.{Slices, WholeSlices}
 use Rattle.promises.specs.StandsFor.{StandsFor}
@@ -55,7 +55,7 @@ chain-changes : (s : Sizes) {w w′ : Words} {ms : List Command} {as′ : List A
     → (k : List ℕ) → ChainsWhole s (w .remember) k
     → (line : ℕ) → LinesChange (running s h line) (map asLine ms) (record { words = w; chains = k }) (record { words = w′; chains = withChains s (w′ .remember) k })
 unfolding LinesChange LineChanges takes
-chain-changes s (none {w}) h cellOf st k whole line = ap {B = Slices} (λ (x : List ℕ). record { words = w; chains = x }) (whole-written whole)
+chain-changes s (none {w}) h cellOf st k whole line = ap {B = Slices} (λ (x : List ℕ). record { words = w; chains = x }) (sym (chains-same whole))
 chain-changes s (more {w} {w₁} {w′} {m} {a} {ms} d c) h cellOf st k whole line =
     let n = d .next h cellOf st in
     let room = n .stands .whole .remember .entries .room in
