@@ -9,9 +9,9 @@ use Rattle.chains.specs.Chains.{ChainsWhole}
 use Rattle.promises.specs.Slices.{Slices}
 use Rattle.promises.specs.StandsFor.{StandsFor}
 use Rattle.promises.specs.Promises.{commands_in}
-use Rattle.reading.specs.declared.Line.{Line}
-use Rattle.reading.specs.declared.Line.TheVariants.{Numbers}
-use Rattle.writing.specs.Writing.{Put}
+use Rattle.script.specs.declared.Line.{Line}
+use Rattle.script.specs.declared.Line.TheVariants.{Numbers}
+use Rattle.script.specs.Writing.{Put}
 use Rattle.printed.specs.Printed.{running, answer_text}
 use Rattle.lines.specs.Lines.{Lent, LinesChange}
 

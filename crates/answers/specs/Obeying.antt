@@ -13,21 +13,21 @@ use Rattle.rules.specs.Rules as ru
 use Rattle.rules.specs.Rules.{Regioned}
 use Rattle.promises.specs.Slices.{Slices}
 use Rattle.promises.specs.Promises.{command_at, size, commands_in}
-use Rattle.reading.specs.declared.Line.{Line}
-use Rattle.reading.specs.declared.Line.TheVariants.{Malformed}
-use Rattle.reading.specs.declared.Reader.{Reader}
+use Rattle.script.specs.declared.Line.{Line}
+use Rattle.script.specs.declared.Line.TheVariants.{Malformed}
+use Rattle.script.specs.declared.Reader.{Reader}
 use Rattle.script.specs.declared.Filled.{Filled}
 use Rattle.script.specs.declared.Filled.TheVariants.{Done, Full, Broken}
-use Rattle.reading.specs.TextLaws.{found, left}
-use Rattle.writing.specs.Writing.{Put, line_line}
-use Rattle.writing.specs.WritingLaws.{put-text, put-put}
+use Rattle.script.specs.TextLaws.{found, left}
+use Rattle.script.specs.Writing.{Put, line_line}
+use Rattle.script.specs.WritingLaws.{put-text, put-put}
 use Rattle.script.specs.FewCommands.{command_count, count-append, commands-few}
 use Rattle.script.specs.Blocks.{Took}
 use Rattle.script.specs.BlocksLaws as sb
 use Rattle.script.specs.BlocksLaws.{used_in, Follow, block_reads, never-full}
 use Rattle.printed.specs.Printed.{Session, running, stopped, answer_text, takes, prints, takes_all, prints_all}
 use Rattle.printed.specs.Pieces.{machine, feed, feed_prints, takes-append, prints-append, stopped-takes, stopped-prints}
-use Rattle.lines.specs.Lines.{Lent, StageHolds, LineChanges, LinesChange}
+use Rattle.lines.specs.Lines.{Lent, Holds, LineChanges, LinesChange}
 use Rattle.lines.specs.Changes.{changes-append, changes-stopped}
 use Rattle.stages.specs.declared.Stage.{Stage}
 use Rattle.stages.specs.declared.Stage.TheVariants.{Running, Stopped}
@@ -37,13 +37,11 @@ use Rattle.stages.specs.StagesLaws.{line-length}
 use Rattle.answers.specs.Answers.{Counted, as_line, Answered, answers_text}
 
 module _ (s : Sizes) where
-  takes-commands : (ms : List Command) (h : Regioned) (k : ℕ)
-      → takes_all (running s h k) (map as_line ms) ≡ running s (ru.run s h ms).last (k + length ms)
+  takes-commands : (ms : List Command) (h : Regioned) (k : ℕ) → takes_all (running s h k) (map as_line ms) ≡ running s (ru.run s h ms).last (k + length ms)
   unfolding takes_all takes ru.run
   takes-commands [] h k = ap (running s h) (let e : k ≡ k + 0 = omega arith in e)
   takes-commands (m ∷ ms) h k =
-      takes-commands ms (ru.step s h m).next (k + 1)
-      ∙ ap (running s (ru.run s h (m ∷ ms)).last) (let e : k + 1 + length ms ≡ k + suc (length ms) = omega arith in e)
+      takes-commands ms (ru.step s h m).next (k + 1) ∙ ap (running s (ru.run s h (m ∷ ms)).last) (let e : k + 1 + length ms ≡ k + suc (length ms) = omega arith in e)
 
   prints-commands : (ms : List Command) (h : Regioned) (k : ℕ) → prints_all (running s h k) (map as_line ms) ≡ answers_text (ru.run s h ms).answers
   unfolding prints_all prints takes ru.run answers_text
@@ -56,15 +54,13 @@ unfolding sb.commands_in
 lines-last block zero n = ap (λ (i : ℕ). sb.command_at block i ∷ []) (let e : n ≡ n + 5 * 0 = omega arith in e)
 lines-last block (suc k) n =
     ap (λ (ls : List Line). sb.command_at block n ∷ ls) (lines-last block k (n + 5))
-    ∙ ap (λ (i : ℕ). sb.command_at block n ∷ sb.commands_in block (n + 5) k ++ sb.command_at block i ∷ [])
-    (let e : n + 5 + 5 * k ≡ n + 5 * suc k = omega arith in e)
+    ∙ ap (λ (i : ℕ). sb.command_at block n ∷ sb.commands_in block (n + 5) k ++ sb.command_at block i ∷ []) (let e : n + 5 + 5 * k ≡ n + 5 * suc k = omega arith in e)
 
 lines_are : (block : List ℕ) (k : ℕ) → sb.commands_in block 0 k ≡ listed (λ i. as_line (command_at block i)) k
 unfolding sb.commands_in listed
 lines_are block zero = refl
 lines_are block (suc k) =
-    lines-last block k 0 ∙ ap₂ (λ (ls : List Line) (i : ℕ). ls ++ sb.command_at block i ∷ []) (lines_are block k)
-    (let e : 0 + 5 * k ≡ 5 * k = omega arith in e)
+    lines-last block k 0 ∙ ap₂ (λ (ls : List Line) (i : ℕ). ls ++ sb.command_at block i ∷ []) (lines_are block k) (let e : 0 + 5 * k ≡ 5 * k = omega arith in e)
 
 count-lines : (block : List ℕ) (k n : ℕ) → command_count (sb.commands_in block n k) ≡ k
 unfolding sb.commands_in command_count
@@ -108,19 +104,11 @@ pub was_read : {r : Reader} {text out : List ℕ} {from : ℕ} {block : List ℕ
     → Took r (drop from text) from block 0 x after → length block ≡ 8200 → Read r text from x after
 was_read {r} {text} {from = from} {block} {x} {after} room t long =
     let k = block_reads r text from block 0 (omega arith) in
-    let lines : found r (drop from text) ≡ sb.commands_in after 0 k.count ++ k.after = k.lines
-    ∙ ap (λ (b : List ℕ). sb.commands_in b 0 k.count ++ k.after) (sym t.words) in
+    let lines : found r (drop from text) ≡ sb.commands_in after 0 k.count ++ k.after = k.lines ∙ ap (λ (b : List ℕ). sb.commands_in b 0 k.count ++ k.after) (sym t.words) in
     record {
       count = k.count;
       used = ap used_in t.answer ∙ k.used ∙ (let e : 0 + 5 * k.count ≡ 5 * k.count = omega arith in e);
-      low = omega (
-        arith,
-        ap command_count lines,
-        count-append (sb.commands_in after 0 k.count) k.after,
-        count-lines after k.count 0,
-        commands-few (drop from text) r,
-        length-drop from text,
-      );
+      low = omega (arith, ap command_count lines, count-append (sb.commands_in after 0 k.count) k.after, count-lines after k.count 0, commands-few (drop from text) r, length-drop from text);
       after = k.after;
       lines = lines;
       follow = subst (λ (y : Filled). Follow y text k.after (left r (drop from text))) (sym t.answer) k.follow;
@@ -131,8 +119,7 @@ pub record Few (used : ℕ) (text : List ℕ) : Type 0 where
   pub even : used % 5 ≡ 0
   pub few : used / 5 ≤ (length text + 9) / 10
 
-pub was-few : {r : Reader} {text : List ℕ} {from : ℕ} {x : Filled} {block : List ℕ} {used : ℕ} → Read r text from x block → used ≡ used_in x
-    → Few used text
+pub was-few : {r : Reader} {text : List ℕ} {from : ℕ} {x : Filled} {block : List ℕ} {used : ℕ} → Read r text from x block → used ≡ used_in x → Few used text
 was-few k e = record { even = omega (arith, k.used); few = omega (arith, k.used, k.low) }
 
 pub few-counted : {used : ℕ} {text block out : List ℕ} → Few used text → length block ≡ 8200 → Room text out → Counted used block out
@@ -147,11 +134,9 @@ few-counted f long room =
 pub never : {r : Reader} {text out : List ℕ} {from : ℕ} {block : List ℕ} {x : Filled} {after : List ℕ} {e n : ℕ} → Room text out
     → Took r (drop from text) from block 0 x after → length block ≡ 8200 → x ≡ Full e n → ⊥
 never {r} {text} {from = from} {block} {e = e} {n = n} room t long q =
-    never-full (drop from text) r from block 0 (omega (arith, room.piece, commands-few (drop from text) r, length-drop from text)) e n
-    (sym t.answer ∙ q)
+    never-full (drop from text) r from block 0 (omega (arith, room.piece, commands-few (drop from text) r, length-drop from text)) e n (sym t.answer ∙ q)
 
-module _ {r : Reader} {text : List ℕ} {from : ℕ} {x : Filled} {block : List ℕ} (k : Read r text from x block) (s : Sizes) (h : Regioned)
-    (line used : ℕ) (u : used ≡ used_in x)
+module _ {r : Reader} {text : List ℕ} {from : ℕ} {x : Filled} {block : List ℕ} (k : Read r text from x block) (s : Sizes) (h : Regioned) (line used : ℕ) (u : used ≡ used_in x)
     {lent_out : List ℕ} (counted : Counted used block lent_out) where
   abbrev bytes : List ℕ
   bytes = drop from text
@@ -163,8 +148,7 @@ module _ {r : Reader} {text : List ℕ} {from : ℕ} {x : Filled} {block : List 
   found-is = k.lines ∙ ap (λ (ls : List Line). ls ++ k.after) (sym (commands-taken block used k.count (u ∙ k.used) counted.words))
 
   length-ms : length ms ≡ used / 5
-  length-ms = length-listed (command_at (take used block)) (size (take used block)) ∙ size-taken block used k.count (u ∙ k.used) counted.words
-      ∙ (let e : k.count ≡ used / 5 = omega (arith, k.used) in e)
+  length-ms = length-listed (command_at (take used block)) (size (take used block)) ∙ size-taken block used k.count (u ∙ k.used) counted.words ∙ (let e : k.count ≡ used / 5 = omega (arith, k.used) in e)
 
   session-is : takes_all (running s h line) (found r bytes) ≡ takes_all (running s (ru.run s h ms).last (line + used / 5)) k.after
   session-is =
@@ -181,52 +165,42 @@ module _ {r : Reader} {text : List ℕ} {from : ℕ} {x : Filled} {block : List 
 
   module _ {l l' : Slices} {out out' : List ℕ} {end : ℕ} (a : Answered s h (take used block) l out end out' l') (lent : Lent l) where
     changed : LinesChange (takes_all (running s h line) (map as_line ms)) k.after l' l' → LinesChange (running s h line) (found r bytes) l l'
-    changed c = subst (λ (ls : List Line). LinesChange (running s h line) ls l l') (sym found-is)
-        (changes-append (map as_line ms) k.after (running s h line) l l' l' (a.changes line) c)
+    changed c = subst (λ (ls : List Line). LinesChange (running s h line) ls l l') (sym found-is) (changes-append (map as_line ms) k.after (running s h line) l l' l' (a.changes line) c)
 
     -- the piece ends inside a line, or between two
     obeyed-all : {next : Reader} {n : ℕ} → x ≡ Done next n
         → Feeds (machine r (running s h line)) bytes l out (record { stage = Running next (line + used / 5); length = end }) out' l'
-    unfolding feed feed_prints takes_all prints_all stage_of StageHolds Follow LinesChange
+    unfolding feed feed_prints takes_all prints_all stage_of Holds Follow LinesChange
     obeyed-all {next} e =
         let f : (k.after ≡ []) × (left r bytes ≡ next) = subst (λ (y : Filled). Follow y text k.after (left r bytes)) e k.follow in
-        let t : takes_all (running s h line) (found r bytes)
-        ≡ running s (ru.run s h ms).last (line + used / 5) = session-is ∙ ap (takes_all (running s (ru.run s h ms).last (line + used / 5))) f.0 in
+        let t : takes_all (running s h line) (found r bytes) ≡ running s (ru.run s h ms).last (line + used / 5) = session-is ∙ ap (takes_all (running s (ru.run s h ms).last (line + used / 5))) f.0 in
         record {
           is_at = record {
             stage_is = sym (ap₂ stage_of f.1 t);
             lent = a.lent lent;
-            holds = subst (λ (y : Session). StageHolds y l') (sym t) (a.cell, a.stands, a.chains);
+            holds = subst (λ (y : Session). Holds y l') (sym t) (a.cell, a.stands, a.chains);
           };
-          text = put-text (sym (text-is ∙ ap (λ (ls : List Line).
-              answers_text (ru.run s h ms).answers ++ prints_all (running s (ru.run s h ms).last (line + used / 5)) ls) f.0
-              ∙ append-nil (answers_text (ru.run s h ms).answers))) a.text;
+          text = put-text (sym (text-is ∙ ap (λ (ls : List Line). answers_text (ru.run s h ms).answers ++ prints_all (running s (ru.run s h ms).last (line + used / 5)) ls) f.0 ∙ append-nil (answers_text (ru.run s h ms).answers))) a.text;
           changes = changed (subst (λ (ls : List Line). LinesChange (takes_all (running s h line) (map as_line ms)) ls l' l') (sym f.0) refl);
         }
 
     -- a line is malformed
-    obeyed-broken : {n : ℕ} {last : List ℕ} {stop : ℕ} → x ≡ Broken n → end + 26 ≤ length out → line + used / 5 < 18446744073709551616
-        → Put out' end (line_line (line + used / 5)) last stop
+    obeyed-broken : {n : ℕ} {last : List ℕ} {stop : ℕ} → x ≡ Broken n → end + 26 ≤ length out → line + used / 5 < 18446744073709551616 → Put out' end (line_line (line + used / 5)) last stop
         → Feeds (machine r (running s h line)) bytes l out (record { stage = Stopped; length = stop }) last l'
-    unfolding feed feed_prints takes_all prints_all takes prints stage_of StageHolds Follow LinesChange LineChanges
+    unfolding feed feed_prints takes_all prints_all takes prints stage_of Holds Follow LinesChange LineChanges
     obeyed-broken e room b p =
         let f : (rest : List Line) × (k.after ≡ Malformed ∷ rest) = subst (λ (y : Filled). Follow y text k.after (left r bytes)) e k.follow in
-        let t : takes_all (running s h line) (found r bytes)
-        ≡ stopped = session-is ∙ ap (takes_all (running s (ru.run s h ms).last (line + used / 5))) f.1 ∙ stopped-takes f.0 in
+        let t : takes_all (running s h line) (found r bytes) ≡ stopped = session-is ∙ ap (takes_all (running s (ru.run s h ms).last (line + used / 5))) f.1 ∙ stopped-takes f.0 in
         record {
           is_at = record {
             stage_is = sym (ap (stage_of (left r bytes)) t);
             lent = a.lent lent;
-            holds = subst (λ (y : Session). StageHolds y l') (sym t) tt;
+            holds = subst (λ (y : Session). Holds y l') (sym t) tt;
           };
-          text = put-text (sym (text-is ∙ ap (λ (ls : List Line).
-              answers_text (ru.run s h ms).answers ++ prints_all (running s (ru.run s h ms).last (line + used / 5)) ls) f.1
-              ∙ ap (λ (ls : List ℕ). answers_text (ru.run s h ms).answers ++ (line_line (line + used / 5) ++ ls)) (stopped-prints f.0)
-              ∙ ap (λ (ls : List ℕ). answers_text (ru.run s h ms).answers ++ ls) (append-nil (line_line (line + used / 5)))))
+          text = put-text (sym (text-is ∙ ap (λ (ls : List Line). answers_text (ru.run s h ms).answers ++ prints_all (running s (ru.run s h ms).last (line + used / 5)) ls) f.1 ∙ ap (λ (ls : List ℕ). answers_text (ru.run s h ms).answers ++ (line_line (line + used / 5) ++ ls)) (stopped-prints f.0) ∙ ap (λ (ls : List ℕ). answers_text (ru.run s h ms).answers ++ ls) (append-nil (line_line (line + used / 5)))))
               (put-put (omega (arith, a.text.end_is, line-length (line + used / 5) b)) a.text p);
           changes = changed (subst (λ (ls : List Line). LinesChange (takes_all (running s h line) (map as_line ms)) ls l' l') (sym f.1)
-              (subst (λ (y : Session). LinesChange y (Malformed ∷ f.0) l' l') (sym (takes-commands s ms h line))
-              (l', refl, changes-stopped f.0 l')));
+              (subst (λ (y : Session). LinesChange y (Malformed ∷ f.0) l' l') (sym (takes-commands s ms h line)) (l', refl, changes-stopped f.0 l')));
         }
 
     -- so the piece goes on as the code does after its block
@@ -237,6 +211,5 @@ module _ {r : Reader} {text : List ℕ} {from : ℕ} {x : Filled} {block : List 
         go : Proceeds x (line + used / 5) end out' fed last → Feeds (machine r (running s h line)) bytes l out fed last l'
         go (onward e f g) = subst₂ (λ (z : Fed) (o : List ℕ). Feeds (machine r (running s h line)) bytes l out z o l') (sym f) (sym g) (obeyed-all e)
         go (malformed e f q) =
-            subst (λ (z : Stage). Feeds (machine r (running s h line)) bytes l out (record { stage = z; length = fed.length }) last l') (sym f)
-            (obeyed-broken e room b q)
+            subst (λ (z : Stage). Feeds (machine r (running s h line)) bytes l out (record { stage = z; length = fed.length }) last l') (sym f) (obeyed-broken e room b q)
         go (filled {from = i} {used = n} e f g) = absurd (full i n e)

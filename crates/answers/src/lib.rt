@@ -8,11 +8,11 @@ ghost use Rattle.promises.specs.Slices.{slices};
 ghost use Rattle.promises.specs.StandsFor.{StandsFor};
 ghost use Rattle.printed.specs.Printed.{running};
 ghost use Rattle.printed.specs.Pieces.{machine};
-ghost use Rattle.lines.specs.Lines.{Lent, Here, StageHolds};
+ghost use Rattle.lines.specs.Lines.{Lent, Here, Holds};
 ghost use Rattle.stages.specs.Stages.{Feeds, most_printed, Room};
 ghost use Rattle.answers.specs.Answers.{Answered, Counted};
 
-use reading::Reader;
+use script::Reader;
 use stages::Fed;
 
 // Obeys the commands in the first `used` words of a block, at most 1,639, and writes a line for each answer.
@@ -27,12 +27,7 @@ fn answer(
 ) -> usize
     requires counted { Counted used block.now out.old }
     requires here { Here (slices cells.old remember.old tables.old chains.old) }
-    ensures by_index { (s : Sizes) (h : Regioned) → (cell_of : ℕ → ℕ)
-        → StandsFor s (words cells.old remember.old tables.old) h cell_of
-        → ChainsWhole s remember.old chains.old
-        → Answered s h (take used block.now)
-        (slices cells.old remember.old tables.old chains.old) out.old result out.new
-        (slices cells.new remember.new tables.new chains.new) }
+    ensures by_index { (s : Sizes) (h : Regioned) → (cell_of : ℕ → ℕ) → StandsFor s (words cells.old remember.old tables.old) h cell_of → ChainsWhole s remember.old chains.old → Answered s h (take used block.now) (slices cells.old remember.old tables.old chains.old) out.old result out.new (slices cells.new remember.new tables.new chains.new) }
     ensures upper_bound { result ≤ 22 * (used / 5) }
 {
     let mut answers = [0u32; 3278];
@@ -44,7 +39,7 @@ fn answer(
         &block[..used],
         &mut answers,
     );
-    script::put_answers(out, 0, &answers, used / 5)
+    script::blocks::put_answers(out, 0, &answers, used / 5)
 }
 
 // Obeys the commands of a piece from a position on, of which line `line` is the first, as one block. It has room for the 1,639 commands
@@ -62,16 +57,11 @@ pub fn obey(
 ) -> Fed
     requires room { Room text.now out.old × (line + length text.now < 18446744073709551616) }
     requires here { Here (slices cells.old remember.old tables.old chains.old) }
-    ensures feeds { (s : Sizes) (h : Regioned) → StageHolds (running s h line)
-        (slices cells.old remember.old tables.old chains.old)
-        → Lent (slices cells.old remember.old tables.old chains.old)
-        → Feeds (machine reader (running s h line)) (drop from text.now)
-        (slices cells.old remember.old tables.old chains.old) out.old result out.new
-        (slices cells.new remember.new tables.new chains.new) }
+    ensures feeds { (s : Sizes) (h : Regioned) → Holds (running s h line) (slices cells.old remember.old tables.old chains.old) → Lent (slices cells.old remember.old tables.old chains.old) → Feeds (machine reader (running s h line)) (drop from text.now) (slices cells.old remember.old tables.old chains.old) out.old result out.new (slices cells.new remember.new tables.new chains.new) }
     ensures length_bound { result.length ≤ most_printed (length text.now) }
 {
     let mut block = [0u32; 8200];
-    let filled = script::read_block(text, from, reader, &mut block, 0);
+    let filled = script::blocks::read_block(text, from, reader, &mut block, 0);
     let used = stages::words_in(filled);
     let end = answer(cells, remember, tables, chains, &block, used, out);
     stages::proceed(filled, line, end, out)

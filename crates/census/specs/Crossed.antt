@@ -29,15 +29,14 @@ use Rattle.remember.specs.Entries.{rising-once}
 use Rattle.remember.specs.Crosses.{field-cross, cross-slot, other-yes, other_test}
 use Rattle.promises.specs.Slots.{region-of}
 use Rattle.promises.specs.Reading.{ref-begins, ref-room, no-home, refs-room, used-home, used-owned, used-alive, get_d-refs, refs-few, words-closed}
-use Rattle.stack.specs.Marks.{owner, kept-refs, kept_field, kept-owner}
+use Rattle.mark.specs.Marks.{owner, kept-refs, kept_field, kept-owner}
 use Rattle.mark.specs.Reached.{home-cell, cell-home}
 use Rattle.mark.specs.Survivors.{Marked}
 use Rattle.mark.specs.MarkedWords.{outside-work}
-use Rattle.crossing.specs.Counted.{over-cells}
-use Rattle.crossing.specs.After.{home_after, after-moved, after-still, cross_one, cross_after, cell_crosses, slot_crosses, entries_cross, crossing_counted}
+use Rattle.census.specs.Counted.{over-cells}
+use Rattle.census.specs.After.{home_after, after-moved, after-still, cross_one, cross_after, cell_crosses, slot_crosses, entries_cross, crossing_counted}
 
-module _ (s : Sizes) (w : Words) (k : WholeFor s w) (space : Room s (length w.tables)) (r : ℕ) (pos : 1 < r) (w' : Words)
-    (M : Marked s w (part_of s w r) w') where
+module _ (s : Sizes) (w : Words) (k : WholeFor s w) (space : Room s (length w.tables)) (r : ℕ) (pos : 1 < r) (w' : Words) (M : Marked s w (part_of s w r) w') where
   abbrev p : Sizes
   p = s
 
@@ -68,14 +67,12 @@ module _ (s : Sizes) (w : Words) (k : WholeFor s w) (space : Room s (length w.ta
           let z = M.goes x u (sym (used-home s w x u) ∙ e) ∙ sym (home-went s g r x e) in
           sym (after-moved p w'.cells w'.tables x (h.home x) (sym z) a)
       go (no n) =
-          sym (after-still p w'.cells w'.tables x (page_of x) (owner p w'.tables x) (work_of w'.cells x) refl
-          (outside-work M k x (record { used = u; out = λ z. n (used-home s w x u ∙ z) })) refl refl)
+          sym (after-still p w'.cells w'.tables x (page_of x) (owner p w'.tables x) (work_of w'.cells x) refl (outside-work M k x (record { used = u; out = λ z. n (used-home s w x u ∙ z) })) refl refl)
           ∙ owner-now x u ∙ sym (home-stayed s g r x n)
 
   -- ---- one slot of object x
 
-  cross-one : (x v : ℕ) → IsRef p w.cells w.tables v → ((y : ℕ) → v ≡ suc y → Alive h y)
-      → cross_ref h x v ≡ cross_after p w'.cells w'.tables (h.home x) v
+  cross-one : (x v : ℕ) → IsRef p w.cells w.tables v → ((y : ℕ) → v ≡ suc y → Alive h y) → cross_ref h x v ≡ cross_after p w'.cells w'.tables (h.home x) v
   unfolding cross_after
   cross-one x zero f there = refl
   cross-one x (suc y) f there =
@@ -83,8 +80,7 @@ module _ (s : Sizes) (w : Words) (k : WholeFor s w) (space : Room s (length w.ta
       let u : BeginsIn s w y = ref-begins s w.cells w.tables (suc y) y f refl in
       sym (other_test (h.home x) (h.home y) (let l = there y refl in omega arith))
       ∙ sym
-      (ap (λ (b : Bool). cond b 0 (cross_one (h.home x) (home_after p w'.cells w'.tables (suc y - 1))))
-      (ne_eqb (suc y) 0 (λ (z : suc y ≡ 0). omega arith))
+      (ap (λ (b : Bool). cond b 0 (cross_one (h.home x) (home_after p w'.cells w'.tables (suc y - 1)))) (ne_eqb (suc y) 0 (λ (z : suc y ≡ 0). omega arith))
       ∙ ap (λ (z : ℕ). cross_one (h.home x) (home_after p w'.cells w'.tables z)) y' ∙ ap (cross_one (h.home x)) (home-after y u (there y refl)))
 
   -- what a slot of an object names that is there afterwards is there too
@@ -95,8 +91,7 @@ module _ (s : Sizes) (w : Words) (k : WholeFor s w) (space : Room s (length w.ta
 
   -- ---- all slots of an object
 
-  slots-cross : (x : ℕ) → BeginsIn s w x → Alive h x
-      → cross_at h x ≡ sum (λ f. cross_after p w'.cells w'.tables (h.home x) (field_of w'.cells x f)) (ref_count w x)
+  slots-cross : (x : ℕ) → BeginsIn s w x → Alive h x → cross_at h x ≡ sum (λ f. cross_after p w'.cells w'.tables (h.home x) (field_of w'.cells x f)) (ref_count w x)
   slots-cross x u a =
       alive-cross s w k h ended-refs x u a
       ∙ sum_same _ _ (ref_count w x)
@@ -117,30 +112,23 @@ module _ (s : Sizes) (w : Words) (k : WholeFor s w) (space : Room s (length w.ta
   survivor x l = go (ℕ_discrete (marked p w'.tables x) 1) (ℕ_discrete (home_in s w x) r)
     where
       go : Dec (marked p w'.tables x ≡ 1) → Dec (home_in s w x ≡ r)
-          → marked p w'.tables x * sum (λ f. cross_after p w'.cells w'.tables (work_of w'.cells x) (field_of w'.cells x f))
-          (refs_of w'.cells x) ≡ inside x
+          → marked p w'.tables x * sum (λ f. cross_after p w'.cells w'.tables (work_of w'.cells x) (field_of w'.cells x f)) (refs_of w'.cells x) ≡ inside x
       go (yes on) (no n) = let u = M.only x (omega arith) on in absurd (n (cell-home s w k x r u.0 u.1))
       go (yes on) (yes e) =
           let u = M.only x (omega arith) on in
           let t : work_of w'.cells x ≡ h.home x = M.goes x u.0 u.1 ∙ sym (home-went s g r x e) in
           let some : h.home x ≡ 0 → ⊥ =
           (λ z. let off = M.freed x u.0 u.1 (sym (home-went s g r x e) ∙ z) in let y : ⊥ = omega arith in y) in
-          ap
-          (λ (b : ℕ). b * sum (λ f. cross_after p w'.cells w'.tables (work_of w'.cells x) (field_of w'.cells x f)) (refs_of w'.cells x)) on
+          ap (λ (b : ℕ). b * sum (λ f. cross_after p w'.cells w'.tables (work_of w'.cells x) (field_of w'.cells x f)) (refs_of w'.cells x)) on
           ∙ one-mul _
           ∙ ap₂ (λ (a n : ℕ). sum (λ f. cross_after p w'.cells w'.tables a (field_of w'.cells x f)) n) t (kept-refs M.kept x)
           ∙ sym (slots-cross x u.0 some)
           ∙ sym (ap (λ (b : Bool). cond b (cross_at h x) 0) (eq-eqb (home_in s w x) r e))
-      go (no off) (no n) = ap (λ (b : ℕ). b * sum (λ f. cross_after p w'.cells w'.tables (work_of w'.cells x) (field_of w'.cells x f))
-          (refs_of w'.cells x)) (not-marked p w'.tables x off) ∙ zero-mul _
-          ∙ sym (ap (λ (b : Bool). cond b (cross_at h x) 0) (ne_eqb (home_in s w x) r n))
+      go (no off) (no n) = ap (λ (b : ℕ). b * sum (λ f. cross_after p w'.cells w'.tables (work_of w'.cells x) (field_of w'.cells x f)) (refs_of w'.cells x)) (not-marked p w'.tables x off) ∙ zero-mul _ ∙ sym (ap (λ (b : Bool). cond b (cross_at h x) 0) (ne_eqb (home_in s w x) r n))
       go (no off) (yes e) =
           let u = home-cell s w k x r e (omega arith) in
-          ap
-          (λ (b : ℕ). b * sum (λ f. cross_after p w'.cells w'.tables (work_of w'.cells x) (field_of w'.cells x f)) (refs_of w'.cells x))
-          (not-marked p w'.tables x off) ∙ zero-mul _
-          ∙ sym (ap (λ (b : Bool). cond b (cross_at h x) 0) (eq-eqb (home_in s w x) r e)
-          ∙ gone-cross h x (home-went s g r x e ∙ freed (dec_lt 0 (target s g r x)) u.0 u.1))
+          ap (λ (b : ℕ). b * sum (λ f. cross_after p w'.cells w'.tables (work_of w'.cells x) (field_of w'.cells x f)) (refs_of w'.cells x)) (not-marked p w'.tables x off) ∙ zero-mul _
+          ∙ sym (ap (λ (b : Bool). cond b (cross_at h x) 0) (eq-eqb (home_in s w x) r e) ∙ gone-cross h x (home-went s g r x e ∙ freed (dec_lt 0 (target s g r x)) u.0 u.1))
         where
           freed : Dec (0 < target s g r x) → BeginsIn s w x → owner_in s w (page_of x) ≡ r → target s g r x ≡ 0
           freed (yes b) u own = absurd (off (M.survives x u own b))
@@ -153,8 +141,7 @@ module _ (s : Sizes) (w : Words) (k : WholeFor s w) (space : Room s (length w.ta
   still q = cond (ltb 0 (cross_to p w.cells w.tables q)) (slot_crosses p w'.cells w'.tables r q) 0
 
   still-no : (q : ℕ) → (0 < cross_to p w.cells w.tables q → ⊥) → still q ≡ 0
-  still-no q n = ap (λ (b : Bool). cond b (slot_crosses p w'.cells w'.tables r q) 0)
-      (le-ltb 0 (cross_to p w.cells w.tables q) (omega (arith, n)))
+  still-no q n = ap (λ (b : Bool). cond b (slot_crosses p w'.cells w'.tables r q) 0) (le-ltb 0 (cross_to p w.cells w.tables q) (omega (arith, n)))
 
   still-yes : (q : ℕ) → 0 < cross_to p w.cells w.tables q → still q ≡ slot_crosses p w'.cells w'.tables r q
   still-yes q l = ap (λ (b : Bool). cond b (slot_crosses p w'.cells w'.tables r q) 0) (lt-ltb 0 (cross_to p w.cells w.tables q) l)
@@ -171,18 +158,15 @@ module _ (s : Sizes) (w : Words) (k : WholeFor s w) (space : Room s (length w.ta
     quiet zero f z = refl
     quiet (suc y) f z =
         let v : BeginsIn s w y = ref-begins s w.cells w.tables (suc y) y f refl in
-        go v (ap (other (owner_in s w (page_of x))) (sym (region-of p w.tables y (begins-page _ _ _ _ v))) ∙ z)
-        (ℕ_discrete (owner_in s w (page_of y)) 1)
+        go v (ap (other (owner_in s w (page_of x))) (sym (region-of p w.tables y (begins-page _ _ _ _ v))) ∙ z) (ℕ_discrete (owner_in s w (page_of y)) 1)
         (ℕ_discrete (owner_in s w (page_of x)) (owner_in s w (page_of y)))
       where
-        go : BeginsIn s w y → other (owner_in s w (page_of x)) (owner_in s w (page_of y)) ≡ 0 → Dec (owner_in s w (page_of y) ≡ 1)
-            → Dec (owner_in s w (page_of x) ≡ owner_in s w (page_of y))
+        go : BeginsIn s w y → other (owner_in s w (page_of x)) (owner_in s w (page_of y)) ≡ 0 → Dec (owner_in s w (page_of y) ≡ 1) → Dec (owner_in s w (page_of x) ≡ owner_in s w (page_of y))
             → cross_ref h x (suc y) ≡ 0
         go v z (yes one) d =
             let e : home_in s w y ≡ 1 = used-home s w y v ∙ one in
             let e' : h.home y ≡ 1 = home-stayed s g r y (λ (c : home_in s w y ≡ r). omega arith) ∙ e in
-            ap (λ (b : Bool). cond (not (eqb (h.home x) (h.home y)) && not b) 1 0) (eq-eqb (h.home y) 1 e')
-            ∙ ap (λ (b : Bool). cond b 1 0) (and-false (not (eqb (h.home x) (h.home y))))
+            ap (λ (b : Bool). cond (not (eqb (h.home x) (h.home y)) && not b) 1 0) (eq-eqb (h.home y) 1 e') ∙ ap (λ (b : Bool). cond b 1 0) (and-false (not (eqb (h.home x) (h.home y))))
         go v z (no n) (yes d) =
             let e : home_in s w x ≡ home_in s w y = used-home s w x u ∙ d ∙ sym (used-home s w y v) in
             let e' : h.home x ≡ h.home y = stays ∙ e ∙ sym (home-stayed s g r y (λ c. out (e ∙ c))) in
@@ -205,18 +189,15 @@ module _ (s : Sizes) (w : Words) (k : WholeFor s w) (space : Room s (length w.ta
         now : owner_of p w'.tables (page_at (field_at x f)) ≡ home_in s w x
         now = ap (owner_of p w'.tables) page ∙ owner-now x u
 
-        go : Dec (0 < cross_to p w.cells w.tables (field_at x f))
-            → still (field_at x f) ≡ cross_after p w'.cells w'.tables (h.home x) (field_of w'.cells x f)
+        go : Dec (0 < cross_to p w.cells w.tables (field_at x f)) → still (field_at x f) ≡ cross_after p w'.cells w'.tables (h.home x) (field_of w'.cells x f)
         go (yes b) =
             still-yes (field_at x f) b
-            ∙ ap (λ (t : Bool). cond t 0 (cross_after p w'.cells w'.tables (owner_of p w'.tables (page_at (field_at x f)))
-            (field_of w'.cells x f)))
+            ∙ ap (λ (t : Bool). cond t 0 (cross_after p w'.cells w'.tables (owner_of p w'.tables (page_at (field_at x f))) (field_of w'.cells x f)))
             (ne_eqb (owner_of p w'.tables (page_at (field_at x f))) r (λ z. out (sym now ∙ z)))
             ∙ ap (λ (a : ℕ). cross_after p w'.cells w'.tables a (field_of w'.cells x f)) (now ∙ sym stays)
         go (no b) =
             let ref = (k.objects x u).references f l in
-            let z : crosses_to p w.tables x (field_of w.cells x f)
-            ≡ 0 = sym (field-cross p w.cells w.tables x f u inside l) ∙ omega arith in
+            let z : crosses_to p w.tables x (field_of w.cells x f) ≡ 0 = sym (field-cross p w.cells w.tables x f u inside l) ∙ omega arith in
             still-no (field_at x f) b ∙ sym (quiet (field_of w.cells x f) ref z) ∙ cross-one x (field_of w.cells x f) ref (slot-alive x f some l)
             ∙ ap (cross_after p w'.cells w'.tables (h.home x)) (sym (kept_field M.kept x f (omega (arith, refs-few s w k x u))))
 
@@ -236,14 +217,12 @@ module _ (s : Sizes) (w : Words) (k : WholeFor s w) (space : Room s (length w.ta
           (λ f l.
           let page = field-on p w.cells w.tables x u f (ref-room s w k x f u l) in
           cond-zero (ltb 0 (cross_to p w.cells w.tables (field_at x f))) (slot_crosses p w'.cells w'.tables r (field_at x f)) 0
-          (ap (λ (b : Bool). cond b 0
-          (cross_after p w'.cells w'.tables (owner_of p w'.tables (page_at (field_at x f))) (field_of w'.cells x f)))
+          (ap (λ (b : Bool). cond b 0 (cross_after p w'.cells w'.tables (owner_of p w'.tables (page_at (field_at x f))) (field_of w'.cells x f)))
           (eq-eqb (owner_of p w'.tables (page_at (field_at x f))) r (ap (owner_of p w'.tables) page ∙ owner-now x u ∙ e))) refl)
           ∙ sym (ap (λ (b : Bool). cond b 0 (cross_at h x)) (eq-eqb (home_in s w x) r e))
       go (yes u) (no d) =
           ap (λ (b : Bool). cond b (sum (λ f. still (field_at x f)) (ref_count w x)) 0) (begins-true p w.cells w.tables x u)
-          ∙ sum_same (λ f. still (field_at x f)) (λ f. cross_after p w'.cells w'.tables (h.home x) (field_of w'.cells x f)) (ref_count w x)
-          (field-still x u d)
+          ∙ sum_same (λ f. still (field_at x f)) (λ f. cross_after p w'.cells w'.tables (h.home x) (field_of w'.cells x f)) (ref_count w x) (field-still x u d)
           ∙ sym (ap (λ (b : Bool). cond b 0 (cross_at h x)) (ne_eqb (home_in s w x) r d) ∙ slots-cross x u (some x u d))
 
   -- ---- entry by entry
@@ -263,17 +242,14 @@ module _ (s : Sizes) (w : Words) (k : WholeFor s w) (space : Room s (length w.ta
           go (yes l) = l
           go (no n) = absurd (let z : ⊥ = omega (arith, still-no q n) in z)
 
-      same : (i j : ℕ) → i < entries_used w.remember → j < entries_used w.remember → slot_in w.remember i ≡ slot_in w.remember j
-          → Dec (i ≡ j) → Dec (i < j) → i ≡ j
+      same : (i j : ℕ) → i < entries_used w.remember → j < entries_used w.remember → slot_in w.remember i ≡ slot_in w.remember j → Dec (i ≡ j) → Dec (i < j) → i ≡ j
       same i j l m e (yes d) b = d
       same i j l m e (no d) (yes b) = absurd (rising-once w.remember (entries_used w.remember) k.remember.entries.rising i j b m e)
-      same i j l m e (no d) (no b) = absurd (rising-once w.remember (entries_used w.remember) k.remember.entries.rising j i (omega arith) l
-          (sym e))
+      same i j l m e (no d) (no b) = absurd (rising-once w.remember (entries_used w.remember) k.remember.entries.rising j i (omega arith) l (sym e))
 
   entries-sum : entries_cross p w'.cells w.remember w'.tables r ≡ sum outside (cell_count s)
   entries-sum =
-      sum_same (λ i. slot_crosses p w'.cells w'.tables r (slot_in w.remember i)) (λ i. still (slot_in w.remember i))
-      (entries_used w.remember)
+      sum_same (λ i. slot_crosses p w'.cells w'.tables r (slot_in w.remember i)) (λ i. still (slot_in w.remember i)) (entries_used w.remember)
       (λ i l. let n = k.remember.entries.named i l in sym (still-yes (slot_in w.remember i) (omega (arith, n.region, n.right))))
       ∙ sum-paired (slot_in w.remember) (λ i. still (slot_in w.remember i)) (entries_used w.remember) still (cells_words s) entries-paired
       ∙ slots-sum p w.cells w.tables still (λ q l n. still-no q (λ b. n (cross-slot p w.cells w.tables q b))) (refs-room s w k)
@@ -295,6 +271,5 @@ module _ (s : Sizes) (w : Words) (k : WholeFor s w) (space : Room s (length w.ta
       let b =
       over-cells p w'.tables (cell_crosses p w'.cells w'.tables)
       ∙ sum_same (λ c. marked p w'.tables c * cell_crosses p w'.cells w'.tables c) inside (cell_count s) survivor in
-      let c = crossing-sum h ∙ ap (sum (cross_at h)) ended-count ∙ sum_same (cross_at h) (λ x. inside x + outside x) (cell_count s) (λ x l. split x)
-      ∙ sum-plus inside outside (cell_count s) in
+      let c = crossing-sum h ∙ ap (sum (cross_at h)) ended-count ∙ sum_same (cross_at h) (λ x. inside x + outside x) (cell_count s) (λ x l. split x) ∙ sum-plus inside outside (cell_count s) in
       omega (arith, a, b, c)

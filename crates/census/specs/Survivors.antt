@@ -15,7 +15,7 @@ use Rattle.promises.specs.Whole.{WholeFor}
 use Rattle.promises.specs.Ends.{part_of}
 use Rattle.mark.specs.Reached.{home-cell, cell-home}
 use Rattle.mark.specs.Survivors.{Marked, unmarked-freed}
-use Rattle.crossing.specs.Counted.{on_page, over_bits, over_marked, over-cells, page-high, bits_none}
+use Rattle.census.specs.Counted.{on_page, over_bits, over_marked, over-cells, page-high, bits_none}
 use Rattle.census.specs.Census.{over-more}
 
 -- those on the pages below n
@@ -28,8 +28,7 @@ module _ (p : Sizes) (T : List ℕ) where
       sum-high (λ page. on_page (λ c. 1) page (mark_of p T page)) page_cells n (λ page l. page-high (λ c. 1) 1 (λ c. omega arith) page (mark_of p T page))
 
   -- a page more: w, x and k are as the code has them
-  pub survivors-more : (page w x k : ℕ) → w ≡ mark_of p T page → w < 2 ^ page_cells → x ≡ ones w → k ≡ survivors_in p T page
-      → k + x ≡ survivors_in p T (page + 1)
+  pub survivors-more : (page w x k : ℕ) → w ≡ mark_of p T page → w < 2 ^ page_cells → x ≡ ones w → k ≡ survivors_in p T page → k + x ≡ survivors_in p T (page + 1)
   unfolding over_bits
   survivors-more page w x k e l ex ek = omega (arith, over-more p T (λ c. 1) page w e, ones-sum page_cells w l)
 
@@ -50,14 +49,9 @@ survivors-rest s w k r w' m pos =
         → cond (eqb (home_in s w c) r) (bit (eqb (target s (graph_of s w) r c) 0)) 0 + marked s w'.tables c * 1 ≡ cond (eqb (home_in s w c) r) 1 0
     one c l (yes h) (yes on) =
         let u = home-cell s w k c r h pos in
-        rw (eq-eqb (home_in s w c) r h)
-        (omega (arith, ap bit (ne_eqb (target s (graph_of s w) r c) 0 (λ z. omega (arith, m.freed c u.0 u.1 z)))))
+        rw (eq-eqb (home_in s w c) r h) (omega (arith, ap bit (ne_eqb (target s (graph_of s w) r c) 0 (λ z. omega (arith, m.freed c u.0 u.1 z)))))
     one c l (yes h) (no off) =
         let u = home-cell s w k c r h pos in
-        rw (eq-eqb (home_in s w c) r h) (omega (
-          arith,
-          not-marked s w'.tables c off,
-          ap bit (eq-eqb (target s (graph_of s w) r c) 0 (unmarked-freed m c u.0 u.1 off)),
-        ))
+        rw (eq-eqb (home_in s w c) r h) (omega (arith, not-marked s w'.tables c off, ap bit (eq-eqb (target s (graph_of s w) r c) 0 (unmarked-freed m c u.0 u.1 off))))
     one c l (no h) (yes on) = let u = m.only c (omega arith) on in absurd (h (cell-home s w k c r u.0 u.1))
     one c l (no h) (no off) = rw (ne_eqb (home_in s w c) r h) (omega (arith, not-marked s w'.tables c off))

@@ -8,9 +8,9 @@ ghost use Rattle.layout.specs.Cells.{work_of, page_of, cell_on, CellIn, first_on
 ghost use Rattle.layout.specs.Marks.{marked};
 ghost use Rattle.layout.specs.Words.{Begins};
 ghost use Rattle.promises.specs.Arriving.{goes_to};
-ghost use Rattle.stack.specs.Marks.{Shaped, Small};
-ghost use Rattle.crossing.specs.Counted.{on_page};
-ghost use Rattle.crossing.specs.After.{cell_crosses};
+ghost use Rattle.mark.specs.Marks.{Shaped, Small};
+ghost use Rattle.census.specs.Counted.{on_page};
+ghost use Rattle.census.specs.After.{cell_crosses};
 ghost use Rattle.census.specs.Census.{Census};
 
 use rules::Sizes;
@@ -52,7 +52,7 @@ pub fn count_page(
         let i = u32::trailing_zeros(left);
         let c = layout::cells::cell_on(page, layout::wide(i));
         tally(cells, c, come);
-        n += crossing::cross_cell(p, cells, tables, c);
+        n += crate::crossing::cross_cell(p, cells, tables, c);
         left = layout::bits::without_bit(left, i);
         k += 1;
     }

@@ -2,7 +2,7 @@
 ghost use Rattle.std.specs.Prelude.{◌≡◌, ℕ, ◌<◌, length};
 ghost use Rattle.lists.specs.Part.{Rises, Off};
 ghost use Rattle.layout.specs.Places.{Room, mark_of};
-ghost use Rattle.stack.specs.Marks.{Small};
+ghost use Rattle.mark.specs.Marks.{Small};
 ghost use Rattle.census.specs.Survivors.{survivors_in};
 
 use rules::Sizes;

@@ -4,7 +4,7 @@ use Rattle.std.specs.Prelude.{ℕ, zero, suc, ◌+◌, ◌≤◌, ◌<◌, cond,
 use Rattle.lists.specs.Listed.{listed}
 use Rattle.rules.specs.declared.Sizes.{Sizes}
 use Rattle.rules.specs.Regions.{regions}
-use Rattle.layout.specs.Places.{highest_region, entries_used, entries_words, chains_words, first_in, next_in}
+use Rattle.layout.specs.Places.{entries_used, entries_words, chains_words, next_in}
 use Rattle.remember.specs.Table.{Entry, nth_region, entries_in, padded}
 
 -- the first entry of region g, among entries whose places count from k
@@ -29,7 +29,7 @@ Among R es = (i : ℕ) → i < length es → (1 ≤ nth_region es i) × (nth_reg
 
 -- a remember table with room for N entries, whose entries can be chained by R regions
 pub record Listed (R N : ℕ) (m : List ℕ) : Type 0 where
-  pub few : R ≤ highest_region
+  pub few : R ≤ 129
   pub entries : N ≤ 4096
   pub long : entries_words N ≤ length m
   pub room : entries_used m ≤ N
@@ -48,13 +48,9 @@ pub record Chainable (s : Sizes) (m : List ℕ) : Type 0 where
 abbrev pub chains_in : Sizes → List ℕ → List ℕ
 chains_in s m = chains_of (regions s) s.entries (entries_in s.entries m)
 
--- lent words, with those of the chains of entries in them; the words past them stay
-abbrev pub with_chains_of : Sizes → List Entry → List ℕ → List ℕ
-with_chains_of s es k = chains_of (regions s) s.entries es ++ drop (chains_words s) k
-
--- the same of the entries of a remember table
+-- lent words, with these in them; the words past them stay
 abbrev pub with_chains : Sizes → List ℕ → List ℕ → List ℕ
-with_chains s m k = with_chains_of s (entries_in s.entries m) k
+with_chains s m k = chains_in s m ++ drop (chains_words s) k
 
 -- the slice is long enough, and its words are those of the chains: question 16
 pub record ChainsWhole (s : Sizes) (m k : List ℕ) : Type 0 where
@@ -72,16 +68,3 @@ abbrev pub followed : ℕ → List ℕ → ℕ → ℕ → List ℕ
 followed R f zero x = []
 followed R f (suc n) zero = []
 followed R f (suc n) (suc p) = p ∷ followed R f n (next_in R f p)
-
--- the places that the chain of region g leads to, from its first word on, in at most N steps; R is the last region
-abbrev pub places_along : ℕ → ℕ → List ℕ → ℕ → List ℕ
-places_along R N k g = followed R k N (first_in k g)
-
--- no chain has more steps than there is room for entries
-abbrev pub chain_places : Sizes → List ℕ → ℕ → List ℕ
-chain_places s k g = places_along (regions s) s.entries k g
-
--- a number at each of these places, summed
-unfoldable pub total : (ℕ → ℕ) → List ℕ → ℕ
-total f [] = 0
-total f (i ∷ ps) = f i + total f ps

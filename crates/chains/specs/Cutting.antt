@@ -6,7 +6,7 @@ use Rattle.lists.specs.Stores.{put, past}
 use Rattle.lists.specs.Zeros.{Cleared}
 use Rattle.rules.specs.declared.Sizes.{Sizes}
 use Rattle.rules.specs.Regions.{regions}
-use Rattle.layout.specs.Places.{entries_used, slot_region_in, first_at, next_at, next_in}
+use Rattle.layout.specs.Places.{entries_used, slot_region_in, first_at}
 use Rattle.remember.specs.Table.{Entry, region, nth_region, entries_in}
 use Rattle.remember.specs.TableWords.{to-long, to_at}
 use Rattle.chains.specs.Chains.{chains_of, ChainsWhole, with_chains}
@@ -72,57 +72,50 @@ module _ {g N k : ℕ} {m m' : List ℕ} (c : CutsTo g N k m m') where
       ∙ sym (next-is es i (omega (arith, long)) ∙ ap (λ (h : ℕ). first_from h es (suc i)) (at i low))
 
   -- the words f of the chains of m become f'
-  module _ (R : ℕ) (f : List ℕ) {f₁ f' : List ℕ} (room : entries_used m ≤ N) (wide : next_at R N ≤ length f) (firsts : Firsts R es 0 f)
-      (nexts : (j : ℕ) → j < N → next_in R f j ≡ next_of es j) (low : 1 ≤ g) (high : g ≤ R) (e : f₁ ≡ set f (first_at g) 0)
-      (z : Cleared (next_at R k) (next_at R (entries_used m)) f₁ f') where
-    still : (j : ℕ) → (j ≡ first_at g → ⊥) → get_or f₁ j 0 ≡ get_or f j 0
-    still j d = ap (λ (w : List ℕ). get_or w j 0) e ∙ past f (first_at g) 0 j 0 d
+  module _ (R : ℕ) (f : List ℕ) {f₁ f' : List ℕ} (room : entries_used m ≤ N) (wide : R + N ≤ length f) (firsts : Firsts R es 0 f)
+      (nexts : (j : ℕ) → j < N → get_or f (R + j) 0 ≡ next_of es j) (low : 1 ≤ g) (high : g ≤ R) (e : f₁ ≡ set f (g - 1) 0)
+      (z : Cleared (R + k) (R + entries_used m) f₁ f') where
+    still : (j : ℕ) → (j ≡ g - 1 → ⊥) → get_or f₁ j 0 ≡ get_or f j 0
+    still j d = ap (λ (w : List ℕ). get_or w j 0) e ∙ past f (g - 1) 0 j 0 d
 
     cut-long : length f' ≡ length f
-    cut-long = z.long ∙ ap length e ∙ length-set f (first_at g) 0
+    cut-long = z.long ∙ ap length e ∙ length-set f (g - 1) 0
 
     cut-firsts : Firsts R es' 0 f'
     cut-firsts r l = z.low r (omega arith) ∙ go (ℕ_discrete (suc r) g)
       where
         go : Dec (suc r ≡ g) → get_or f₁ r 0 ≡ first_from (suc r) es' 0
         go (yes q) =
-            let v : r ≡ first_at g = omega arith in
-            ap (λ (w : List ℕ). get_or w r 0) e ∙ ap (λ (j : ℕ). get_or (set f (first_at g) 0) j 0) v ∙ put f (first_at g) 0 0 (omega arith)
+            let v : r ≡ g - 1 = omega arith in
+            ap (λ (w : List ℕ). get_or w r 0) e ∙ ap (λ (j : ℕ). get_or (set f (g - 1) 0) j 0) v ∙ put f (g - 1) 0 0 (omega arith)
             ∙ sym (ap (λ (h : ℕ). first_from h es' 0) q ∙ first-gone k 0 (omega arith))
-        go (no q) = still r (λ (v : r ≡ first_at g). q (omega arith)) ∙ firsts r l ∙ sym (first-same (suc r) q (entries_used m) 0 (omega arith))
+        go (no q) = still r (λ (v : r ≡ g - 1). q (omega arith)) ∙ firsts r l ∙ sym (first-same (suc r) q (entries_used m) 0 (omega arith))
 
-    cut-nexts : (j : ℕ) → j < N → next_in R f' j ≡ next_of es' j
+    cut-nexts : (j : ℕ) → j < N → get_or f' (R + j) 0 ≡ next_of es' j
     cut-nexts j l = go (dec_lt j k) (dec_lt j (entries_used m))
       where
-        go : Dec (j < k) → Dec (j < entries_used m) → next_in R f' j ≡ next_of es' j
-        go (yes a) b = z.low (next_at R j) (omega arith) ∙ still (next_at R j) (λ (v : next_at R j ≡ first_at g). omega arith) ∙ nexts j l
-            ∙ sym (next-same j a)
-        go (no a) (yes b) = z.zeros (next_at R j) (omega arith) (omega arith) ∙ sym (next-end es' j (omega (arith, long')))
+        go : Dec (j < k) → Dec (j < entries_used m) → get_or f' (R + j) 0 ≡ next_of es' j
+        go (yes a) b = z.low (R + j) (omega arith) ∙ still (R + j) (λ (v : R + j ≡ g - 1). omega arith) ∙ nexts j l ∙ sym (next-same j a)
+        go (no a) (yes b) = z.zeros (R + j) (omega arith) (omega arith) ∙ sym (next-end es' j (omega (arith, long')))
         go (no a) (no b) =
-            z.high (next_at R j) (omega arith) ∙ still (next_at R j) (λ (v : next_at R j ≡ first_at g). omega arith) ∙ nexts j l
-            ∙ next-end es j (omega (arith, long))
+            z.high (R + j) (omega arith) ∙ still (R + j) (λ (v : R + j ≡ g - 1). omega arith) ∙ nexts j l ∙ next-end es j (omega (arith, long))
             ∙ sym (next-end es' j (omega (arith, long')))
 
-    cut-rest : drop (next_at R N) f' ≡ drop (next_at R N) f
+    cut-rest : drop (R + N) f' ≡ drop (R + N) f
     cut-rest =
-        ext_get_or 0 (drop (next_at R N) f') (drop (next_at R N) f) (omega (arith, length-drop (next_at R N) f', length-drop (next_at R N) f, cut-long))
-        (λ j l. get_or-drop (next_at R N) f' j 0 ∙ z.high (next_at R N + j) (omega arith)
-        ∙ still (next_at R N + j) (λ (v : next_at R N + j ≡ first_at g). omega arith) ∙ sym (get_or-drop (next_at R N) f j 0))
+        ext_get_or 0 (drop (R + N) f') (drop (R + N) f) (omega (arith, length-drop (R + N) f', length-drop (R + N) f, cut-long))
+        (λ j l. get_or-drop (R + N) f' j 0 ∙ z.high (R + N + j) (omega arith) ∙ still (R + N + j) (λ (v : R + N + j ≡ g - 1). omega arith) ∙ sym (get_or-drop (R + N) f j 0))
 
-    pub cut-words : f' ≡ chains_of R N es' ++ drop (next_at R N) f
+    pub cut-words : f' ≡ chains_of R N es' ++ drop (R + N) f
     cut-words =
-        sym (take-append-drop (next_at R N) f')
+        sym (take-append-drop (R + N) f')
         ∙ ap₂ ◌++◌ (agreed R N es' f' (omega (arith, long', c.low)) (omega (arith, cut-long)) cut-firsts cut-nexts) cut-rest
 
 -- the words of the lent slice: region g's first word becomes 0, and so do the next words of the entries that go
-pub cut-chains : {s : Sizes} {g k : ℕ} {m m' f f₁ f' : List ℕ} → entries_used m ≤ s.entries → ChainsWhole s m f → CutsTo g s.entries k m m'
-    → 1 ≤ g → g ≤ regions s
-    → (h : ℕ) {a b x : ℕ} → f₁ ≡ set f (first_at h) x → Cleared a b f₁ f' → h ≡ g → x ≡ 0 → a ≡ next_at (regions s) k
-    → b ≡ next_at (regions s) (entries_used m) → f' ≡ with_chains s m' f
+pub cut-chains : {s : Sizes} {g k : ℕ} {m m' f f₁ f' : List ℕ} → entries_used m ≤ s.entries → ChainsWhole s m f → CutsTo g s.entries k m m' → 1 ≤ g → g ≤ regions s
+    → (h : ℕ) {a b x : ℕ} → f₁ ≡ set f (first_at h) x → Cleared a b f₁ f' → h ≡ g → x ≡ 0 → a ≡ regions s + k → b ≡ regions s + entries_used m → f' ≡ with_chains s m' f
 cut-chains {s} {g} {k} {m} {m'} {f} {f₁} {f'} room w c low high h e z eh ex ea eb =
     let few : length (entries_in s.entries m) ≤ s.entries = omega (arith, to-long s.entries m (entries_used m)) in
-    cut-words c (regions s) f room (whole_long room w)
-    (agreed-first (regions s) s.entries (entries_in s.entries m) f few (whole_long room w) w.words)
-    (agreed-next (regions s) s.entries (entries_in s.entries m) f few (whole_long room w) w.words) low high
-    (e ∙ ap₂ (λ (i y : ℕ). set f (first_at i) y) eh ex)
+    cut-words c (regions s) f room (whole_long room w) (agreed-first (regions s) s.entries (entries_in s.entries m) f few (whole_long room w) w.words)
+    (agreed-next (regions s) s.entries (entries_in s.entries m) f few (whole_long room w) w.words) low high (e ∙ ap₂ (λ (i y : ℕ). set f (first_at i) y) eh ex)
     (subst₂ (λ (x y : ℕ). Cleared x y f₁ f') ea eb z)

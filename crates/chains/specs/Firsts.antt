@@ -1,12 +1,11 @@
 -- The first entry of a region from a place on, and the words of the chains by it.
-use Prim.Native.Nat.{ℕ, zero, suc, ◌+◌, ◌≤◌, ◌<◌}
+use Prim.Native.Nat.{ℕ, zero, suc, ◌+◌, ◌-◌, ◌≤◌, ◌<◌}
 use Rattle.std.specs.Prelude.{Bool, cond, List, [], ◌∷◌, ◌++◌, ◌≡◌, refl, length, drop, eqb}
 use Rattle.std.proofs.Common.{sym, ◌∙◌, arith, zero-add, drop_of_length-le, drop-cons, eq-eqb, ne_eqb}
 use Rattle.std.proofs.Math.Path.{ap, ap₂}
 use Rattle.std.proofs.Math.ListN.{get_or, length-append, get_or-append, get_or-eq_default}
 use Rattle.std.proofs.Math.Seq.{get_or-append-add}
 use Rattle.lists.specs.Listed.{listed, length-listed, get_d-listed}
-use Rattle.layout.specs.Places.{next_at, next_in}
 use Rattle.remember.specs.Table.{Entry, nth_region, unused, padded}
 use Rattle.remember.specs.TableWords.{length-padded, get_d-padded}
 use Rattle.chains.specs.Chains.{first_of, nexts_of, chains_of}
@@ -68,7 +67,7 @@ module _ (R N : ℕ) (es : List Entry) (few : length es ≤ N) where
   nexts-padded : length (padded N (nexts_of 0 es)) ≡ N
   nexts-padded = length-padded N (nexts_of 0 es) (omega (arith, nexts-long 0 es))
 
-  pub chains-long : length (chains_of R N es) ≡ next_at R N
+  pub chains-long : length (chains_of R N es) ≡ R + N
   unfolding chains_of firsts
   chains-long = length-append firsts (padded N (nexts_of 0 es)) ∙ ap₂ ◌+◌ firsts-long nexts-padded
 
@@ -78,7 +77,7 @@ module _ (R N : ℕ) (es : List Entry) (few : length es ≤ N) where
       get_or-append firsts (padded N (nexts_of 0 es)) 0 r (omega (arith, firsts-long))
       ∙ get_d-listed (λ r. first_of (suc r) 0 es) R r 0 l
 
-  pub chain_next : (i : ℕ) → next_in R (chains_of R N es) i ≡ next_of es i
+  pub chain_next : (i : ℕ) → get_or (chains_of R N es) (R + i) 0 ≡ next_of es i
   unfolding chains_of firsts
   chain_next i =
       ap (λ (k : ℕ). get_or (chains_of R N es) (k + i) 0) (sym firsts-long) ∙ get_or-append-add firsts (padded N (nexts_of 0 es)) i 0

@@ -1,20 +1,18 @@
 -- The chain of a region leads to exactly the places of its entries, in rising order, each once.
-use Rattle.std.specs.Prelude.{ℕ, zero, suc, ◌+◌, ◌≤◌, ◌<◌, Bool, true, false, cond, List, [], ◌∷◌, ◌≡◌, refl, length, get_or, drop, eqb}
-use Rattle.std.proofs.Common.{inl, inr, sym, ap₂, ◌∙◌, subst, arith, drop_of_length-le, drop-cons, eq-eqb, ne_eqb}
+use Rattle.std.specs.Prelude.{ℕ, zero, suc, ◌+◌, ◌-◌, ◌≤◌, ◌<◌, Bool, true, false, cond, List, [], ◌∷◌, ◌≡◌, refl, length, get_or, drop, eqb}
+use Rattle.std.proofs.Common.{inl, inr, sym, ◌∙◌, subst, arith, drop_of_length-le, drop-cons, eq-eqb, ne_eqb}
 use Rattle.std.proofs.Math.Path.{ap}
 use Rattle.std.proofs.Math.Decide.{dec_lt, ℕ_discrete}
 use Rattle.lists.specs.Members.{In}
-use Rattle.layout.specs.Places.{next_at, next_in}
 use Rattle.remember.specs.Table.{Entry, nth_region, unused}
-use Rattle.lists.specs.Counting.{sum, sum-shift, sum_same}
-use Rattle.chains.specs.Chains.{chains_of, places_of, followed, total}
+use Rattle.chains.specs.Chains.{chains_of, places_of, followed}
 use Rattle.chains.specs.Firsts.{first_from, first-end, first-here, first-other, next_of, next-is, chain_first, chain_next}
 
 abbrev places_from : ℕ → List Entry → ℕ → List ℕ
 places_from g es i = places_of g i (drop i es)
 
 -- words whose next words are those of the entries es
-module _ (R : ℕ) (f : List ℕ) (es : List Entry) (nexts : (i : ℕ) → i < length es → next_in R f i ≡ next_of es i) (g : ℕ) where
+module _ (R : ℕ) (f : List ℕ) (es : List Entry) (nexts : (i : ℕ) → i < length es → get_or f (R + i) 0 ≡ next_of es i) (g : ℕ) where
   split : (i : ℕ) → i < length es → places_from g es i ≡ cond (eqb (nth_region es i) g) (i ∷ places_from g es (suc i)) (places_from g es (suc i))
   unfolding places_of
   split i l = ap (places_of g i) (drop-cons es i unused l)
@@ -41,27 +39,25 @@ module _ (R : ℕ) (f : List ℕ) (es : List Entry) (nexts : (i : ℕ) → i < l
           → followed R f (suc n) (first_from g es i) ≡ places_from g es i
       go (yes q) rest =
           ap (followed R f (suc n)) (first-here g es i low q)
-          ∙ ap (λ l. i ∷ l) (ap (followed R f n) (nexts i low ∙ next-is es i low ∙ ap (λ (h : ℕ). first_from h es (suc i)) q)
-          ∙ rest n (omega arith) (omega arith))
+          ∙ ap (λ l. i ∷ l) (ap (followed R f n) (nexts i low ∙ next-is es i low ∙ ap (λ (h : ℕ). first_from h es (suc i)) q) ∙ rest n (omega arith) (omega arith))
           ∙ sym (split i low ∙ ap (λ (b : Bool). cond b (i ∷ places_from g es (suc i)) (places_from g es (suc i))) (eq-eqb (nth_region es i) g q))
       go (no q) rest =
           ap (followed R f (suc n)) (first-other g es i low q) ∙ rest (suc n) (omega arith) (omega arith)
           ∙ sym (split i low ∙ ap (λ (b : Bool). cond b (i ∷ places_from g es (suc i)) (places_from g es (suc i))) (ne_eqb (nth_region es i) g q))
 
 -- the words of the chains, with any words after them: the chain of region r + 1, in as many steps as there are entries or in more: it ends
-pub chain-names : (R N : ℕ) (es : List Entry) (f : List ℕ) → length es ≤ N → ((j : ℕ) → j < next_at R N → get_or f j 0 ≡ get_or (chains_of R N es) j 0)
+pub chain-names : (R N : ℕ) (es : List Entry) (f : List ℕ) → length es ≤ N → ((j : ℕ) → j < R + N → get_or f j 0 ≡ get_or (chains_of R N es) j 0)
     → (n : ℕ) → length es ≤ n → (r : ℕ) → r < R → followed R f n (get_or f r 0) ≡ places_of (suc r) 0 es
 chain-names R N es f few same n enough r l =
     ap (followed R f n) (same r (omega arith) ∙ chain_first R N es few r l)
-    ∙ follow R f es (λ i h. same (next_at R i) (omega arith) ∙ chain_next R N es few i) (suc r) (length es) 0 n (omega arith) enough
+    ∙ follow R f es (λ i h. same (R + i) (omega arith) ∙ chain_next R N es few i) (suc r) (length es) 0 n (omega arith) enough
 
 -- ---- what places these are
 
 -- each is the place of an entry of the region, and each such place is there
 pub places-right : (g k : ℕ) (es : List Entry) (x : ℕ) → In x (places_of g k es) → (i : ℕ) × (i < length es) × (x ≡ k + i) × (nth_region es i ≡ g)
 unfolding places_of
-places-right g k (e ∷ es) x h = go (ℕ_discrete e.region g) h
-    (λ h. let r = places-right g (suc k) es x h in (suc r.0, omega (arith, r.1), omega (arith, r.2), r.3))
+places-right g k (e ∷ es) x h = go (ℕ_discrete e.region g) h (λ h. let r = places-right g (suc k) es x h in (suc r.0, omega (arith, r.1), omega (arith, r.2), r.3))
   where
     go : Dec (e.region ≡ g) → In x (cond (eqb e.region g) (k ∷ places_of g (suc k) es) (places_of g (suc k) es))
         → (In x (places_of g (suc k) es) → (i : ℕ) × (i < length (e ∷ es)) × (x ≡ k + i) × (nth_region (e ∷ es) i ≡ g))
@@ -98,43 +94,15 @@ places-low g k (e ∷ es) i l = go (eqb e.region g) i l (places-low g (suc k) es
     go true (suc i) l rest = omega (arith, rest i (omega arith))
     go false i l rest = omega (arith, rest i l)
 
-pub places-rise : (g k : ℕ) (es : List Entry) (i j : ℕ) → i < j → j < length (places_of g k es)
-    → get_or (places_of g k es) i 0 < get_or (places_of g k es) j 0
+pub places-rise : (g k : ℕ) (es : List Entry) (i j : ℕ) → i < j → j < length (places_of g k es) → get_or (places_of g k es) i 0 < get_or (places_of g k es) j 0
 unfolding places_of
 places-rise g k [] i j h l = absurd (let z : ⊥ = omega arith in z)
 places-rise g k (e ∷ es) i j h l = go (eqb e.region g) i j h l (places-rise g (suc k) es)
   where
-    go : (b : Bool) (i j : ℕ) → i < j → j < length (cond b (k ∷ places_of g (suc k) es) (places_of g (suc k) es))
-        → ((i j : ℕ) → i < j → j < length (places_of g (suc k) es) → get_or (places_of g (suc k) es) i 0 < get_or (places_of g (suc k) es) j 0)
-        → get_or (cond b (k ∷ places_of g (suc k) es) (places_of g (suc k) es)) i 0
-        < get_or (cond b (k ∷ places_of g (suc k) es) (places_of g (suc k) es)) j 0
+    go : (b : Bool) (i j : ℕ) → i < j → j < length (cond b (k ∷ places_of g (suc k) es) (places_of g (suc k) es)) → ((i j : ℕ) → i < j → j < length (places_of g (suc k) es) → get_or (places_of g (suc k) es) i 0 < get_or (places_of g (suc k) es) j 0)
+        → get_or (cond b (k ∷ places_of g (suc k) es) (places_of g (suc k) es)) i 0 < get_or (cond b (k ∷ places_of g (suc k) es) (places_of g (suc k) es)) j 0
     go true zero zero h l rest = absurd (let z : ⊥ = omega arith in z)
     go true zero (suc j) h l rest = places-low g (suc k) es j (omega arith)
     go true (suc i) zero h l rest = absurd (let z : ⊥ = omega arith in z)
     go true (suc i) (suc j) h l rest = rest i j (omega arith) (omega arith)
     go false i j h l rest = rest i j h l
-
--- ---- sums along a chain
-
-pub total-most : (f : ℕ → ℕ) → ((i : ℕ) → f i ≤ 1) → (R : ℕ) (k : List ℕ) (n x : ℕ) → total f (followed R k n x) ≤ n
-unfolding total
-total-most f one R k zero x = omega arith
-total-most f one R k (suc n) zero = omega arith
-total-most f one R k (suc n) (suc i) = omega (arith, one i, total-most f one R k n (next_in R k i))
-
--- a sum over the places of the entries of a region is one over all entries, in which those of other regions count for nothing
-pub places-total : (f : ℕ → ℕ) (g k : ℕ) (es : List Entry)
-    → total f (places_of g k es) ≡ sum (λ i. cond (eqb (nth_region es i) g) (f (k + i)) 0) (length es)
-unfolding total places_of
-places-total f g k [] = refl
-places-total f g k (e ∷ es) =
-    let first : k ≡ k + 0 = omega arith in
-    go (eqb e.region g)
-    ∙ ap₂ (λ (a b : ℕ). cond (eqb e.region g) (f a) 0 + b) first
-    (places-total f g (suc k) es
-    ∙ sum_same _ _ (length es) (λ i l. let z : suc k + i ≡ k + suc i = omega arith in ap (λ (j : ℕ). cond (eqb (nth_region es i) g) (f j) 0) z))
-    ∙ sym (sum-shift (λ i. cond (eqb (nth_region (e ∷ es) i) g) (f (k + i)) 0) (length es))
-  where
-    go : (b : Bool) → total f (cond b (k ∷ places_of g (suc k) es) (places_of g (suc k) es)) ≡ cond b (f k) 0 + total f (places_of g (suc k) es)
-    go true = refl
-    go false = omega arith

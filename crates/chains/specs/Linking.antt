@@ -4,7 +4,7 @@ use Rattle.std.proofs.Common.{sym, ap, subst, ◌∙◌, arith, length-set, leng
 use Rattle.std.proofs.Math.Decide.{dec_lt, ℕ_discrete}
 use Rattle.std.proofs.Math.ListN.{get_or-append}
 use Rattle.lists.specs.Stores.{put, past}
-use Rattle.layout.specs.Places.{entries_used, slot_region_in, first_at, next_at, first_in, next_in}
+use Rattle.layout.specs.Places.{entries_used, slot_region_in}
 use Rattle.remember.specs.Table.{Entry, region, nth_region, entries_in}
 use Rattle.remember.specs.TableWords.{to-long, to_at}
 use Rattle.lists.specs.Zeros.{Cleared}
@@ -24,27 +24,27 @@ module _ {R : ℕ} (es : List Entry) {i g : ℕ} (pos : 0 < i) (low : i ≤ leng
   pub named : (1 ≤ g) × (g ≤ R)
   named = let h = a (i - 1) (omega arith) in (omega (arith, h.0), omega (arith, h.1))
 
-  pub firsts_more : (w : List ℕ) → Firsts R es i w → R ≤ length w → Firsts R es (i - 1) (set w (first_at g) (i - 1 + 1))
+  pub firsts_more : (w : List ℕ) → Firsts R es i w → R ≤ length w → Firsts R es (i - 1) (set w (g - 1) (i - 1 + 1))
   firsts_more w f long r h = go (ℕ_discrete (suc r) g)
     where
-      go : Dec (suc r ≡ g) → get_or (set w (first_at g) (i - 1 + 1)) r 0 ≡ first_from (suc r) es (i - 1)
+      go : Dec (suc r ≡ g) → get_or (set w (g - 1) (i - 1 + 1)) r 0 ≡ first_from (suc r) es (i - 1)
       go (yes e) =
-          let q : r ≡ first_at g = omega arith in
+          let q : r ≡ g - 1 = omega arith in
           let v : i - 1 + 1 ≡ suc (i - 1) = omega arith in
-          ap (λ (k : ℕ). get_or (set w (first_at g) (i - 1 + 1)) k 0) q ∙ put w (first_at g) (i - 1 + 1) 0 (omega (arith, named.0, named.1))
+          ap (λ (k : ℕ). get_or (set w (g - 1) (i - 1 + 1)) k 0) q ∙ put w (g - 1) (i - 1 + 1) 0 (omega (arith, named.0, named.1))
           ∙ v ∙ sym (first-here (suc r) es (i - 1) (omega arith) (sym is ∙ sym e))
       go (no e) =
           let v : i ≡ suc (i - 1) = omega arith in
-          past w (first_at g) (i - 1 + 1) r 0 (λ (q : r ≡ first_at g). e (omega (arith, named.0))) ∙ f r h
+          past w (g - 1) (i - 1 + 1) r 0 (λ (q : r ≡ g - 1). e (omega (arith, named.0))) ∙ f r h
           ∙ ap (first_from (suc r) es) v ∙ sym (first-other (suc r) es (i - 1) (omega arith) (λ q. e (sym (is ∙ q))))
 
   -- its next word is the first word of its region before it comes
-  pub next-first : (w : List ℕ) → Firsts R es i w → next_of es (i - 1) ≡ first_in w g
+  pub next-first : (w : List ℕ) → Firsts R es i w → next_of es (i - 1) ≡ get_or w (g - 1) 0
   next-first w f =
       let v : suc (i - 1) ≡ i = omega arith in
-      let q : suc (first_at g) ≡ g = omega (arith, named.0) in
+      let q : suc (g - 1) ≡ g = omega (arith, named.0) in
       next-is es (i - 1) (omega arith) ∙ ap (first_from (nth_region es (i - 1)) es) v
-      ∙ ap (λ (k : ℕ). first_from k es i) (sym (q ∙ is)) ∙ sym (f (first_at g) (omega (arith, named.0, named.1)))
+      ∙ ap (λ (k : ℕ). first_from k es i) (sym (q ∙ is)) ∙ sym (f (g - 1) (omega (arith, named.0, named.1)))
 
 -- the region of entry i - 1, as read
 pub record Read (R N : ℕ) (m : List ℕ) (i g : ℕ) : Type 0 where
@@ -54,8 +54,7 @@ pub record Read (R N : ℕ) (m : List ℕ) (i g : ℕ) : Type 0 where
   pub place : i ≤ length (entries_in N m)
   pub room : length (entries_in N m) ≤ N
 
-pub region-read : {R N : ℕ} {m : List ℕ} → entries_used m ≤ N → Among R (entries_in N m) → {i g : ℕ} → 0 < i → i ≤ entries_used m
-    → g ≡ slot_region_in N m (i - 1) → Read R N m i g
+pub region-read : {R N : ℕ} {m : List ℕ} → entries_used m ≤ N → Among R (entries_in N m) → {i g : ℕ} → 0 < i → i ≤ entries_used m → g ≡ slot_region_in N m (i - 1) → Read R N m i g
 region-read {R} {N} {m} t a {i} {g} pos low e =
     let u = to-long N m (entries_used m) in
     let l : i ≤ length (entries_in N m) = omega arith in
@@ -65,13 +64,13 @@ region-read {R} {N} {m} t a {i} {g} pos low e =
 
 -- ---- rebuilding
 
-pub record EntryLinked (R N : ℕ) (es : List Entry) (i : ℕ) (f f' : List ℕ) : Type 0 where
+pub record Linked (R N : ℕ) (es : List Entry) (i : ℕ) (f f' : List ℕ) : Type 0 where
   pub long : length f' ≡ length f
   pub firsts : Firsts R es i f'
-  pub nexts : (j : ℕ) → i ≤ j → j < N → next_in R f' j ≡ next_of es j
-  pub spare : (j : ℕ) → next_at R N ≤ j → get_or f' j 0 ≡ get_or f j 0
+  pub nexts : (j : ℕ) → i ≤ j → j < N → get_or f' (R + j) 0 ≡ next_of es j
+  pub spare : (j : ℕ) → R + N ≤ j → get_or f' j 0 ≡ get_or f j 0
 
-pub linked-none : {R N : ℕ} (es : List Entry) {i : ℕ} {f f' : List ℕ} → i ≡ length es → Cleared 0 (next_at R N) f f' → EntryLinked R N es i f' f'
+pub linked-none : {R N : ℕ} (es : List Entry) {i : ℕ} {f f' : List ℕ} → i ≡ length es → Cleared 0 (R + N) f f' → Linked R N es i f' f'
 linked-none {R} {N} es {f' = f'} e c = record {
   long = refl;
   firsts = firsts-none es f' (omega arith) (λ r h. c.zeros r (omega arith) (omega arith));
@@ -79,161 +78,145 @@ linked-none {R} {N} es {f' = f'} e c = record {
   spare = λ j l. refl;
 }
 
-pub linked-more : {R N : ℕ} (es : List Entry) {i g : ℕ} {f f' : List ℕ} → EntryLinked R N es i f f' → 0 < i → i ≤ length es
-    → g ≡ nth_region es (i - 1) → Among R es
-    → length es ≤ N → next_at R N ≤ length f → EntryLinked R N es (i - 1) f (set (set f' (next_at R (i - 1)) (first_in f' g)) (first_at g) (i - 1 + 1))
+pub linked-more : {R N : ℕ} (es : List Entry) {i g : ℕ} {f f' : List ℕ} → Linked R N es i f f' → 0 < i → i ≤ length es → g ≡ nth_region es (i - 1) → Among R es
+    → length es ≤ N → R + N ≤ length f → Linked R N es (i - 1) f (set (set f' (R + (i - 1)) (get_or f' (g - 1) 0)) (g - 1) (i - 1 + 1))
 linked-more {R} {N} es {i} {g} {f} {f'} k pos low is a few room =
     record {
-      long = length-set f'' (first_at g) (i - 1 + 1) ∙ long'';
-      firsts = firsts_more es pos low is a f'' (λ r h. past f' (next_at R (i - 1)) x r 0 (λ (q : r ≡ next_at R (i - 1)). omega arith) ∙ k.firsts r h)
-          (omega (arith, long''));
-      nexts = λ j l h. past f'' (first_at g) (i - 1 + 1) (next_at R j) 0 (λ (q : next_at R j ≡ first_at g). omega (arith, here.0, here.1))
-          ∙ next j l h (ℕ_discrete j (i - 1));
+      long = length-set f'' (g - 1) (i - 1 + 1) ∙ long'';
+      firsts = firsts_more es pos low is a f'' (λ r h. past f' (R + (i - 1)) x r 0 (λ (q : r ≡ R + (i - 1)). omega arith) ∙ k.firsts r h) (omega (arith, long''));
+      nexts = λ j l h. past f'' (g - 1) (i - 1 + 1) (R + j) 0 (λ (q : R + j ≡ g - 1). omega (arith, here.0, here.1)) ∙ next j l h (ℕ_discrete j (i - 1));
       spare = λ j l.
-          past f'' (first_at g) (i - 1 + 1) j 0 (λ (q : j ≡ first_at g). omega (arith, here.0, here.1))
-          ∙ past f' (next_at R (i - 1)) x j 0 (λ (q : j ≡ next_at R (i - 1)). omega arith)
+          past f'' (g - 1) (i - 1 + 1) j 0 (λ (q : j ≡ g - 1). omega (arith, here.0, here.1)) ∙ past f' (R + (i - 1)) x j 0 (λ (q : j ≡ R + (i - 1)). omega arith)
           ∙ k.spare j l;
     }
   where
     x : ℕ
-    x = first_in f' g
+    x = get_or f' (g - 1) 0
 
     f'' : List ℕ
-    f'' = set f' (next_at R (i - 1)) x
+    f'' = set f' (R + (i - 1)) x
 
     long'' : length f'' ≡ length f
-    long'' = length-set f' (next_at R (i - 1)) x ∙ k.long
+    long'' = length-set f' (R + (i - 1)) x ∙ k.long
 
     here : (1 ≤ g) × (g ≤ R)
     here = named es pos low is a
 
-    next : (j : ℕ) → i - 1 ≤ j → j < N → Dec (j ≡ i - 1) → next_in R f'' j ≡ next_of es j
+    next : (j : ℕ) → i - 1 ≤ j → j < N → Dec (j ≡ i - 1) → get_or f'' (R + j) 0 ≡ next_of es j
     next j l h (yes e) =
-        ap (λ (y : ℕ). next_in R f'' y) e ∙ put f' (next_at R (i - 1)) x 0 (omega (arith, k.long)) ∙ sym (next-first es pos low is a f' k.firsts)
-        ∙ ap (next_of es) (sym e)
-    next j l h (no e) = past f' (next_at R (i - 1)) x (next_at R j) 0 (λ (q : next_at R j ≡ next_at R (i - 1)). e (omega arith))
-        ∙ k.nexts j (omega arith) h
+        ap (λ (y : ℕ). get_or f'' (R + y) 0) e ∙ put f' (R + (i - 1)) x 0 (omega (arith, k.long)) ∙ sym (next-first es pos low is a f' k.firsts) ∙ ap (next_of es) (sym e)
+    next j l h (no e) = past f' (R + (i - 1)) x (R + j) 0 (λ (q : R + j ≡ R + (i - 1)). e (omega arith)) ∙ k.nexts j (omega arith) h
 
 -- as the code does it, with x the first word as read
-pub linked-step : {R N : ℕ} (es : List Entry) {i g : ℕ} {f f' : List ℕ} → EntryLinked R N es i f f' → 0 < i → i ≤ length es
-    → g ≡ nth_region es (i - 1) → Among R es
-    → length es ≤ N → next_at R N ≤ length f → {x : ℕ} → x ≡ first_in f' g → {f₁ f₂ : List ℕ} → f₁ ≡ set f' (next_at R (i - 1)) x
-    → f₂ ≡ set f₁ (first_at g) (i - 1 + 1)
-    → EntryLinked R N es (i - 1) f f₂
+pub linked-step : {R N : ℕ} (es : List Entry) {i g : ℕ} {f f' : List ℕ} → Linked R N es i f f' → 0 < i → i ≤ length es → g ≡ nth_region es (i - 1) → Among R es
+    → length es ≤ N → R + N ≤ length f → {x : ℕ} → x ≡ get_or f' (g - 1) 0 → {f₁ f₂ : List ℕ} → f₁ ≡ set f' (R + (i - 1)) x → f₂ ≡ set f₁ (g - 1) (i - 1 + 1)
+    → Linked R N es (i - 1) f f₂
 linked-step {R} {N} es {i} {g} {f} {f'} k pos low is a few room {x} e {f₁} {f₂} e₁ e₂ =
-    subst (EntryLinked R N es (i - 1) f) (sym (e₂ ∙ ap (λ (l : List ℕ). set l (first_at g) (i - 1 + 1)) (e₁ ∙ ap (set f' (next_at R (i - 1))) e)))
+    subst (Linked R N es (i - 1) f) (sym (e₂ ∙ ap (λ (l : List ℕ). set l (g - 1) (i - 1 + 1)) (e₁ ∙ ap (set f' (R + (i - 1))) e)))
     (linked-more es k pos low is a few room)
 
 -- ---- the words are those of the chains
 
 -- words that agree with the chains at each position
-agree : (R N : ℕ) (es : List Entry) (f : List ℕ) → length es ≤ N → Firsts R es 0 f → ((j : ℕ) → j < N → next_in R f j ≡ next_of es j)
-    → (j : ℕ) → j < next_at R N → get_or f j 0 ≡ get_or (chains_of R N es) j 0
+agree : (R N : ℕ) (es : List Entry) (f : List ℕ) → length es ≤ N → Firsts R es 0 f → ((j : ℕ) → j < N → get_or f (R + j) 0 ≡ next_of es j)
+    → (j : ℕ) → j < R + N → get_or f j 0 ≡ get_or (chains_of R N es) j 0
 agree R N es f few a b j l = go (dec_lt j R)
   where
     go : Dec (j < R) → get_or f j 0 ≡ get_or (chains_of R N es) j 0
     go (yes h) = a j h ∙ sym (chain_first R N es few j h)
     go (no h) =
-        let e : j ≡ next_at R (j - R) = omega arith in
-        ap (λ (k : ℕ). get_or f k 0) e ∙ b (j - R) (omega arith) ∙ sym (chain_next R N es few (j - R))
-        ∙ ap (λ (k : ℕ). get_or (chains_of R N es) k 0) (sym e)
+        let e : j ≡ R + (j - R) = omega arith in
+        ap (λ (k : ℕ). get_or f k 0) e ∙ b (j - R) (omega arith) ∙ sym (chain_next R N es few (j - R)) ∙ ap (λ (k : ℕ). get_or (chains_of R N es) k 0) (sym e)
 
-pub linked-all : {R N : ℕ} (es : List Entry) {f f₁ f' : List ℕ} → length es ≤ N → next_at R N ≤ length f → Cleared 0 (next_at R N) f f₁
-    → EntryLinked R N es 0 f₁ f'
-    → f' ≡ chains_of R N es ++ drop (next_at R N) f
+pub linked-all : {R N : ℕ} (es : List Entry) {f f₁ f' : List ℕ} → length es ≤ N → R + N ≤ length f → Cleared 0 (R + N) f f₁ → Linked R N es 0 f₁ f'
+    → f' ≡ chains_of R N es ++ drop (R + N) f
 linked-all {R} {N} es {f} {f₁} {f'} few room c k =
-    ext_get_or 0 f' (chains_of R N es ++ drop (next_at R N) f)
-    (omega (arith, k.long, c.long, length-append (chains_of R N es) (drop (next_at R N) f), chains-long R N es few, length-drop (next_at R N) f))
-    (λ j l. go j (dec_lt j (next_at R N)))
+    ext_get_or 0 f' (chains_of R N es ++ drop (R + N) f)
+    (omega (arith, k.long, c.long, length-append (chains_of R N es) (drop (R + N) f), chains-long R N es few, length-drop (R + N) f))
+    (λ j l. go j (dec_lt j (R + N)))
   where
-    go : (j : ℕ) → Dec (j < next_at R N) → get_or f' j 0 ≡ get_or (chains_of R N es ++ drop (next_at R N) f) j 0
+    go : (j : ℕ) → Dec (j < R + N) → get_or f' j 0 ≡ get_or (chains_of R N es ++ drop (R + N) f) j 0
     go j (yes h) =
         agree R N es f' few k.firsts (λ i l. k.nexts i (omega arith) l) j h
-        ∙ sym (get_or-append (chains_of R N es) (drop (next_at R N) f) 0 j (omega (arith, chains-long R N es few)))
+        ∙ sym (get_or-append (chains_of R N es) (drop (R + N) f) 0 j (omega (arith, chains-long R N es few)))
     go j (no h) =
-        let e : next_at R N + (j - next_at R N) ≡ j = omega arith in
+        let e : R + N + (j - (R + N)) ≡ j = omega arith in
         k.spare j (omega arith) ∙ c.high j (omega arith)
         ∙ sym (
-        ap (λ (i : ℕ). get_or (chains_of R N es ++ drop (next_at R N) f) i 0) (sym e)
-        ∙ ap (λ (n : ℕ). get_or (chains_of R N es ++ drop (next_at R N) f) (n + (j - next_at R N)) 0) (sym (chains-long R N es few))
-        ∙ get_or-append-add (chains_of R N es) (drop (next_at R N) f) (j - next_at R N) 0 ∙ get_or-drop (next_at R N) f (j - next_at R N) 0
-        ∙ ap (λ (i : ℕ). get_or f i 0) e
+        ap (λ (i : ℕ). get_or (chains_of R N es ++ drop (R + N) f) i 0) (sym e)
+        ∙ ap (λ (n : ℕ). get_or (chains_of R N es ++ drop (R + N) f) (n + (j - (R + N))) 0) (sym (chains-long R N es few))
+        ∙ get_or-append-add (chains_of R N es) (drop (R + N) f) (j - (R + N)) 0 ∙ get_or-drop (R + N) f (j - (R + N)) 0 ∙ ap (λ (i : ℕ). get_or f i 0) e
         )
 
-module _ (R N : ℕ) (es : List Entry) (f : List ℕ) (few : length es ≤ N) (room : next_at R N ≤ length f) where
-  part-long : length (take (next_at R N) f) ≡ next_at R N
-  part-long = omega (arith, length-take (next_at R N) f)
+module _ (R N : ℕ) (es : List Entry) (f : List ℕ) (few : length es ≤ N) (room : R + N ≤ length f) where
+  part-long : length (take (R + N) f) ≡ R + N
+  part-long = omega (arith, length-take (R + N) f)
 
-  pub agreed : Firsts R es 0 f → ((j : ℕ) → j < N → next_in R f j ≡ next_of es j) → take (next_at R N) f ≡ chains_of R N es
+  pub agreed : Firsts R es 0 f → ((j : ℕ) → j < N → get_or f (R + j) 0 ≡ next_of es j) → take (R + N) f ≡ chains_of R N es
   agreed a b =
-      ext_get_or 0 (take (next_at R N) f) (chains_of R N es) (part-long ∙ sym (chains-long R N es few))
-      (λ j l. let h : j < next_at R N = omega (arith, part-long) in get_or-take (next_at R N) f j 0 h ∙ agree R N es f few a b j h)
+      ext_get_or 0 (take (R + N) f) (chains_of R N es) (part-long ∙ sym (chains-long R N es few))
+      (λ j l. let h : j < R + N = omega (arith, part-long) in get_or-take (R + N) f j 0 h ∙ agree R N es f few a b j h)
 
-  at : take (next_at R N) f ≡ chains_of R N es → (j : ℕ) → j < next_at R N → get_or f j 0 ≡ get_or (chains_of R N es) j 0
-  at e j h = sym (get_or-take (next_at R N) f j 0 h) ∙ ap (λ (w : List ℕ). get_or w j 0) e
+  at : take (R + N) f ≡ chains_of R N es → (j : ℕ) → j < R + N → get_or f j 0 ≡ get_or (chains_of R N es) j 0
+  at e j h = sym (get_or-take (R + N) f j 0 h) ∙ ap (λ (w : List ℕ). get_or w j 0) e
 
-  pub agreed-first : take (next_at R N) f ≡ chains_of R N es → Firsts R es 0 f
+  pub agreed-first : take (R + N) f ≡ chains_of R N es → Firsts R es 0 f
   agreed-first e r h = at e r (omega arith) ∙ chain_first R N es few r h
 
-  pub agreed-next : take (next_at R N) f ≡ chains_of R N es → (j : ℕ) → j < N → next_in R f j ≡ next_of es j
-  agreed-next e j h = at e (next_at R j) (omega arith) ∙ chain_next R N es few j
+  pub agreed-next : take (R + N) f ≡ chains_of R N es → (j : ℕ) → j < N → get_or f (R + j) 0 ≡ next_of es j
+  agreed-next e j h = at e (R + j) (omega arith) ∙ chain_next R N es few j
 
 -- ---- whether the words are those of the chains
 
 -- the next words of all entries are right
 abbrev pub NextsAgree : ℕ → List Entry → List ℕ → Type 0
-NextsAgree R es f = (j : ℕ) → j < length es → next_in R f j ≡ next_of es j
+NextsAgree R es f = (j : ℕ) → j < length es → get_or f (R + j) 0 ≡ next_of es j
 
-next-right : (R : ℕ) (es : List Entry) (f : List ℕ) (i : ℕ) → 0 < i → next_in R f (i - 1) ≡ next_of es (i - 1)
-    → ((j : ℕ) → i ≤ j → j < length es → next_in R f j ≡ next_of es j) → (j : ℕ) → i - 1 ≤ j → j < length es → next_in R f j ≡ next_of es j
+next-right : (R : ℕ) (es : List Entry) (f : List ℕ) (i : ℕ) → 0 < i → get_or f (R + (i - 1)) 0 ≡ next_of es (i - 1)
+    → ((j : ℕ) → i ≤ j → j < length es → get_or f (R + j) 0 ≡ next_of es j) → (j : ℕ) → i - 1 ≤ j → j < length es → get_or f (R + j) 0 ≡ next_of es j
 next-right R es f i pos here above j l h = go (ℕ_discrete j (i - 1))
   where
-    go : Dec (j ≡ i - 1) → next_in R f j ≡ next_of es j
-    go (yes e) = ap (λ (k : ℕ). next_in R f k) e ∙ here ∙ ap (next_of es) (sym e)
+    go : Dec (j ≡ i - 1) → get_or f (R + j) 0 ≡ next_of es j
+    go (yes e) = ap (λ (k : ℕ). get_or f (R + k) 0) e ∙ here ∙ ap (next_of es) (sym e)
     go (no e) = above j (omega arith) h
 
 -- at entry i - 1, of region g, with the first words w of the entries after it: its next word is x
-module _ {R N : ℕ} {m : List ℕ} {i g : ℕ} (a : Among R (entries_in N m)) (r : Read R N m i g) (pos : 0 < i) (f w : List ℕ)
-    (p : Firsts R (entries_in N m) i w) where
-  pub next-wrong : (next_in R f (i - 1) ≡ first_in w g → ⊥) → NextsAgree R (entries_in N m) f → ⊥
+module _ {R N : ℕ} {m : List ℕ} {i g : ℕ} (a : Among R (entries_in N m)) (r : Read R N m i g) (pos : 0 < i) (f w : List ℕ) (p : Firsts R (entries_in N m) i w) where
+  pub next-wrong : (get_or f (R + (i - 1)) 0 ≡ get_or w (g - 1) 0 → ⊥) → NextsAgree R (entries_in N m) f → ⊥
   next-wrong d h = d (h (i - 1) (omega (arith, r.place)) ∙ next-first (entries_in N m) pos r.place r.is a w p)
 
-  pub nexts-more : next_in R f (i - 1) ≡ first_in w g → ((j : ℕ) → i ≤ j → j < length (entries_in N m) → next_in R f j ≡ next_of (entries_in N m) j)
-      → (j : ℕ) → i - 1 ≤ j → j < length (entries_in N m) → next_in R f j ≡ next_of (entries_in N m) j
+  pub nexts-more : get_or f (R + (i - 1)) 0 ≡ get_or w (g - 1) 0 → ((j : ℕ) → i ≤ j → j < length (entries_in N m) → get_or f (R + j) 0 ≡ next_of (entries_in N m) j)
+      → (j : ℕ) → i - 1 ≤ j → j < length (entries_in N m) → get_or f (R + j) 0 ≡ next_of (entries_in N m) j
   nexts-more e h = next-right R (entries_in N m) f i pos (e ∙ sym (next-first (entries_in N m) pos r.place r.is a w p)) h
 
 -- the three parts of that: next words of entries, next words of none, first words
-module _ (R N : ℕ) (m : List ℕ) (t : entries_used m ≤ N) (f : List ℕ) (room : next_at R N ≤ length f) where
+module _ (R N : ℕ) (m : List ℕ) (t : entries_used m ≤ N) (f : List ℕ) (room : R + N ≤ length f) where
   few : length (entries_in N m) ≤ N
   few = omega (arith, to-long N m (entries_used m))
 
-  pub agree-nexts : take (next_at R N) f ≡ chains_of R N (entries_in N m) → NextsAgree R (entries_in N m) f
+  pub agree-nexts : take (R + N) f ≡ chains_of R N (entries_in N m) → NextsAgree R (entries_in N m) f
   agree-nexts e j l = agreed-next R N (entries_in N m) f few room e j (omega (arith, few))
 
-  pub agree-rest : {u : ℕ} → u ≡ entries_used m → take (next_at R N) f ≡ chains_of R N (entries_in N m) → (j : ℕ) → next_at R u ≤ j → j < next_at R N
-      → get_or f j 0 ≡ 0
+  pub agree-rest : {u : ℕ} → u ≡ entries_used m → take (R + N) f ≡ chains_of R N (entries_in N m) → (j : ℕ) → R + u ≤ j → j < R + N → get_or f j 0 ≡ 0
   agree-rest {u} q e j l h =
-      let z : j ≡ next_at R (j - R) = omega arith in
-      ap (λ (k : ℕ). get_or f k 0) z ∙ agreed-next R N (entries_in N m) f few room e (j - R) (omega arith)
-      ∙ next-end (entries_in N m) (j - R) (omega (arith, to-long N m (entries_used m)))
+      let z : j ≡ R + (j - R) = omega arith in
+      ap (λ (k : ℕ). get_or f k 0) z ∙ agreed-next R N (entries_in N m) f few room e (j - R) (omega arith) ∙ next-end (entries_in N m) (j - R) (omega (arith, to-long N m (entries_used m)))
 
-  pub agree-firsts : (w : List ℕ) → Firsts R (entries_in N m) 0 w → take (next_at R N) f ≡ chains_of R N (entries_in N m) → (j : ℕ) → j < R
-      → get_or f j 0 ≡ get_or w j 0
+  pub agree-firsts : (w : List ℕ) → Firsts R (entries_in N m) 0 w → take (R + N) f ≡ chains_of R N (entries_in N m) → (j : ℕ) → j < R → get_or f j 0 ≡ get_or w j 0
   agree-firsts w p e j l = agreed-first R N (entries_in N m) f few room e j l ∙ sym (p j l)
 
-  pub agree-all : {u : ℕ} (w : List ℕ) → u ≡ entries_used m → NextsAgree R (entries_in N m) f
-      → ((j : ℕ) → next_at R u ≤ j → j < next_at R N → get_or f j 0 ≡ 0) → Firsts R (entries_in N m) 0 w
-      → ((j : ℕ) → j < R → get_or f j 0 ≡ get_or w j 0) → take (next_at R N) f ≡ chains_of R N (entries_in N m)
+  pub agree-all : {u : ℕ} (w : List ℕ) → u ≡ entries_used m → NextsAgree R (entries_in N m) f → ((j : ℕ) → R + u ≤ j → j < R + N → get_or f j 0 ≡ 0) → Firsts R (entries_in N m) 0 w
+      → ((j : ℕ) → j < R → get_or f j 0 ≡ get_or w j 0) → take (R + N) f ≡ chains_of R N (entries_in N m)
   agree-all w q a b p c =
       agreed R N (entries_in N m) f few room (λ r l. c r l ∙ p r l) (λ j l. go j l (dec_lt j (length (entries_in N m))))
     where
-      go : (j : ℕ) → j < N → Dec (j < length (entries_in N m)) → next_in R f j ≡ next_of (entries_in N m) j
+      go : (j : ℕ) → j < N → Dec (j < length (entries_in N m)) → get_or f (R + j) 0 ≡ next_of (entries_in N m) j
       go j l (yes h) = a j h
-      go j l (no h) = b (next_at R j) (omega (arith, to-long N m (entries_used m))) (omega arith) ∙ sym (next-end (entries_in N m) j (omega arith))
+      go j l (no h) = b (R + j) (omega (arith, to-long N m (entries_used m))) (omega arith) ∙ sym (next-end (entries_in N m) j (omega arith))
 
 -- ---- what such words lead to
 
 -- words that begin with those of the chains: the chain of region r + 1 names the places of its entries (Following says which they are), and ends
-pub chain-agreed : (R N : ℕ) (es : List Entry) (f : List ℕ) → length es ≤ N → next_at R N ≤ length f → take (next_at R N) f ≡ chains_of R N es
+pub chain-agreed : (R N : ℕ) (es : List Entry) (f : List ℕ) → length es ≤ N → R + N ≤ length f → take (R + N) f ≡ chains_of R N es
     → (n : ℕ) → length es ≤ n → (r : ℕ) → r < R → followed R f n (get_or f r 0) ≡ places_of (suc r) 0 es
 chain-agreed R N es f few room e n enough r l = chain-names R N es f few (at R N es f few room e) n enough r l

@@ -1,7 +1,8 @@
-// The chains of the remember table by region (02, W6): they are written anew, and compared with lent words. `last` is the last region.
-ghost use Rattle.std.specs.Prelude.{◌≡◌, ◌++◌, Bool, true, ℕ, ◌≤◌, ◌<◌, length, get_or, take, drop};
+// The chains of the remember table by region (02, W6): they are written anew, and compared with lent words. `last` is the last region; there are at
+// most 1 + 16 × 8.
+ghost use Rattle.std.specs.Prelude.{◌≡◌, ◌++◌, Bool, true, ℕ, ◌+◌, ◌≤◌, ◌<◌, length, get_or, take, drop};
 ghost use Rattle.lists.specs.Says.{Says};
-ghost use Rattle.layout.specs.Places.{chains_words, next_at};
+ghost use Rattle.layout.specs.Places.{chains_words};
 ghost use Rattle.remember.specs.Table.{entries_in};
 ghost use Rattle.chains.specs.Chains.{chains_of, Listed, Chainable, ChainsWhole, with_chains};
 ghost use Rattle.chains.specs.Linking.{Firsts, NextsAgree};
@@ -11,10 +12,10 @@ use rules::Sizes;
 // From the last entry down, each becomes the first of its region, before the one that was.
 fn relink(entries: usize, remember: &[u32], last: usize, chains: &mut [u32])
     requires listed { Listed last entries remember.now }
-    requires entries_in_bounds { next_at last entries ≤ length chains.old }
-    ensures { chains.new ≡ chains_of last entries (entries_in entries remember.now) ++ drop (next_at last entries) chains.old }
+    requires entries_in_bounds { last + entries ≤ length chains.old }
+    ensures { chains.new ≡ chains_of last entries (entries_in entries remember.now) ++ drop (last + entries) chains.old }
 {
-    layout::clear(chains, 0, layout::chains::next_at(last, entries));
+    layout::clear(chains, 0, last + entries);
     let used = layout::wide(layout::remember::used(remember));
     let mut i = used;
     while 0 < i {
@@ -44,7 +45,7 @@ fn nexts_agree(
     first: &mut [u32],
 ) -> bool
     requires listed { Listed last entries remember.now }
-    requires entries_in_bounds { next_at last entries ≤ length chains.now }
+    requires entries_in_bounds { last + entries ≤ length chains.now }
     requires last_in_bounds { (last ≤ length first.old) × ((r : ℕ) → r < last → get_or first.old r 0 ≡ 0) }
     ensures says { Says result (NextsAgree last (entries_in entries remember.now) chains.now) }
     ensures firsts { result ≡ true → Firsts last (entries_in entries remember.now) 0 first.new }
@@ -94,16 +95,15 @@ fn same_words(a: &[u32], b: &[u32], n: usize) -> bool
 // Whether the words are those of the chains.
 fn words_agree(entries: usize, remember: &[u32], last: usize, chains: &[u32]) -> bool
     requires listed { Listed last entries remember.now }
-    requires entries_in_bounds { next_at last entries ≤ length chains.now }
-    ensures { Says result (take (next_at last entries) chains.now ≡ chains_of last entries (entries_in entries remember.now)) }
+    requires entries_in_bounds { last + entries ≤ length chains.now }
+    ensures { Says result (take (last + entries) chains.now ≡ chains_of last entries (entries_in entries remember.now)) }
 {
     let used = layout::wide(layout::remember::used(remember));
-    let end = layout::chains::next_at(last, entries);
-    let mut first = [0u32; layout::regions::HIGHEST];
+    let mut first = [0u32; 129];
     if !nexts_agree(entries, remember, last, chains, &mut first) {
         return false;
     }
-    if !all_zero(chains, layout::chains::next_at(last, used), end) {
+    if !all_zero(chains, last + used, last + entries) {
         return false;
     }
     same_words(chains, &first, last)
@@ -116,7 +116,7 @@ pub fn chains_whole(p: Sizes, remember: &[u32], chains: &[u32]) -> bool
 {
     let last = layout::regions::last_region(p);
     let entries = p.entries;
-    if chains.len() < layout::chains::next_at(last, entries) {
+    if chains.len() < last + entries {
         return false;
     }
     words_agree(entries, remember, last, chains)

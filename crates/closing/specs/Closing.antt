@@ -9,16 +9,16 @@ use Rattle.rules.specs.Rules.{Regioned}
 use Rattle.layout.specs.Words.{words}
 use Rattle.promises.specs.Slices.{Slices, slices}
 use Rattle.promises.specs.StandsFor.{StandsFor}
-use Rattle.reading.specs.declared.Reader.{Reader}
-use Rattle.reading.specs.Reading.{fresh}
-use Rattle.reading.specs.TextLaws.{found}
-use Rattle.writing.specs.Writing.{sizes_line, Put}
-use Rattle.writing.specs.WritingLaws.{put-text, put-put}
+use Rattle.script.specs.declared.Reader.{Reader}
+use Rattle.script.specs.Reading.{fresh}
+use Rattle.script.specs.TextLaws.{found}
+use Rattle.script.specs.Writing.{sizes_line, Put}
+use Rattle.script.specs.WritingLaws.{put-text, put-put}
 use Rattle.script.specs.Blocks.{stacked}
 use Rattle.script.specs.BlocksCases.{stack-none}
 use Rattle.printed.specs.Printed.{Session, opening, running, stopped, reported, takes_all, prints_all, ends_with}
 use Rattle.printed.specs.Pieces.{Machine, feed, feed_prints, missing, close_prints, stopped-takes, stopped-prints}
-use Rattle.lines.specs.Lines.{StageHolds, LinesChange}
+use Rattle.lines.specs.Lines.{Holds, LinesChange}
 use Rattle.lines.specs.Changes.{changes-stopped}
 use Rattle.stages.specs.declared.Stage.{Stage}
 use Rattle.stages.specs.declared.Stage.TheVariants.{Opening, Running, Stopped}
@@ -37,13 +37,12 @@ module _ {stage : Stage} {mm t out after : List ℕ} {at end : ℕ} where
   pub ends-running : {r : Reader} {k : ℕ} → stage ≡ Running r k
       → ((s : Sizes) (h : Regioned) (cells : List ℕ) (cell_of : ℕ → ℕ) → StandsFor s (words cells mm t) h cell_of → Put out at (reported s h) after end)
       → (m : Machine) (cells chains : List ℕ) → At m stage (slices cells mm t chains) → Put out at (ends_with m.session) after end
-  unfolding ends_with StageHolds
+  unfolding ends_with Holds
   ends-running e p m cells chains a =
       let o = at-running a e in
       put-text (ap (λ (y : Machine). ends_with y.session) (sym o.machine-is)) (p o.sizes-are o.heap_is cells o.holds.0 o.holds.1)
 
-pub ends-stopped : {stage : Stage} {mm t out : List ℕ} {at : ℕ} → stage ≡ Stopped → (m : Machine) (cells chains : List ℕ)
-    → At m stage (slices cells mm t chains)
+pub ends-stopped : {stage : Stage} {mm t out : List ℕ} {at : ℕ} → stage ≡ Stopped → (m : Machine) (cells chains : List ℕ) → At m stage (slices cells mm t chains)
     → Put out at (ends_with m.session) out at
 unfolding ends_with stacked
 ends-stopped {out = out} {at = at} e m cells chains a = put-text (ap ends_with (sym (at-stopped a e))) (stack-none (λ i. []) out at)
@@ -70,8 +69,7 @@ unfolding stage_of feed feed_prints takes_all prints_all found LinesChange
 idle {m} {stage} {l} a e = go m.session refl (ap begun_at (sym a.stage_is) ∙ e)
   where
     cases : (t : Bool) → not t ≡ false
-        → (prints_all m.session (found m.reader (cond t [] (10 ∷ []))) ≡ [])
-        × (takes_all m.session (found m.reader (cond t [] (10 ∷ []))) ≡ m.session)
+        → (prints_all m.session (found m.reader (cond t [] (10 ∷ []))) ≡ []) × (takes_all m.session (found m.reader (cond t [] (10 ∷ []))) ≡ m.session)
         × LinesChange m.session (found m.reader (cond t [] (10 ∷ []))) l l
     cases true q = (refl, refl, refl)
     cases false q = absurd (true-not-false (sym q))
@@ -82,17 +80,12 @@ idle {m} {stage} {l} a e = go m.session refl (ap begun_at (sym a.stage_is) ∙ e
     go opening f q = cases (fresh m.reader) q
     go (running s h k) f q = cases (fresh m.reader) q
     go stopped f q =
-        let ls = found m.reader (missing m) in (
-          ap (λ (y : Session). prints_all y ls) f ∙ stopped-prints ls,
-          ap (λ (y : Session). takes_all y ls) f ∙ stopped-takes ls ∙ sym f,
-          subst (λ (y : Session). LinesChange y ls l l) (sym f) (changes-stopped ls l),
-        )
+        let ls = found m.reader (missing m) in
+        (ap (λ (y : Session). prints_all y ls) f ∙ stopped-prints ls, ap (λ (y : Session). takes_all y ls) f ∙ stopped-takes ls ∙ sym f, subst (λ (y : Session). LinesChange y ls l l) (sym f) (changes-stopped ls l))
 
 module _ {m : Machine} {stage : Stage} {l : Slices} (a : At m stage l) where
-  pub closed-begun : begun_at stage ≡ true → {out middle after : List ℕ} {x : Fed} {end : ℕ} {c mm t k : List ℕ}
-      → Feeds m (10 ∷ []) l out x middle (slices c mm t k)
-      → ((y : Machine) (cells chains : List ℕ) → At y x.stage (slices cells mm t chains)
-      → Put middle x.length (ends_with y.session) after end)
+  pub closed-begun : begun_at stage ≡ true → {out middle after : List ℕ} {x : Fed} {end : ℕ} {c mm t k : List ℕ} → Feeds m (10 ∷ []) l out x middle (slices c mm t k)
+      → ((y : Machine) (cells chains : List ℕ) → At y x.stage (slices cells mm t chains) → Put middle x.length (ends_with y.session) after end)
       → x.length + 5731 ≤ length out → end ≤ x.length + 5731 → Closes m l out end after (slices c mm t k)
   unfolding close_prints
   closed-begun e {out} {middle} {after} {x} {end} {c} {mm} {t} {k} f p room low =
@@ -102,7 +95,7 @@ module _ {m : Machine} {stage : Stage} {l : Slices} (a : At m stage l) where
         text = put-text (ap (λ (b : List ℕ). feed_prints m b ++ ends_with (feed m b).session) (sym q))
             (put-put (omega (arith, f.text.end_is, g.end_is)) f.text g);
         lent = f.is_at.lent;
-        holds = subst (λ (b : List ℕ). StageHolds (feed m b).session (slices c mm t k)) (sym q) f.is_at.holds;
+        holds = subst (λ (b : List ℕ). Holds (feed m b).session (slices c mm t k)) (sym q) f.is_at.holds;
         changes = subst (λ (b : List ℕ). LinesChange m.session (found m.reader b) l (slices c mm t k)) (sym q) f.changes;
       }
 
@@ -113,6 +106,6 @@ module _ {m : Machine} {stage : Stage} {l : Slices} (a : At m stage l) where
       record {
         text = put-text (sym (ap₂ (λ (b : List ℕ) (y : Session). b ++ ends_with y) i.0 i.1)) p;
         lent = a.lent;
-        holds = subst (λ (y : Session). StageHolds y l) (sym i.1) a.holds;
+        holds = subst (λ (y : Session). Holds y l) (sym i.1) a.holds;
         changes = i.2;
       }

@@ -1,7 +1,7 @@
 // The end of the input (01, "The program"): a line that has begun ends, and then comes the report or `sizes`.
 ghost use Rattle.std.specs.Prelude.{ℕ, ◌+◌, ◌<◌, ◌≤◌, List, length};
 ghost use Rattle.promises.specs.Slices.{slices};
-ghost use Rattle.writing.specs.Writing.{Put};
+ghost use Rattle.script.specs.Writing.{Put};
 ghost use Rattle.printed.specs.Printed.{ends_with};
 ghost use Rattle.printed.specs.Pieces.{Machine};
 ghost use Rattle.stages.specs.Stages.{At, Placed, line_of, Closes};
@@ -12,12 +12,11 @@ use stages::Stage;
 fn put_end(stage: Stage, remember: &[u32], tables: &[u32], out: &mut [u8], at: usize) -> usize
     requires by_index { (cells : List ℕ) × (chains : List ℕ) × Placed stage (slices cells remember.now tables.now chains) }
     requires at_in_bounds { at + 5731 ≤ length out.old }
-    ensures put { (m : Machine) (cells chains : List ℕ) → At m stage (slices cells remember.now tables.now chains)
-        → Put out.old at (ends_with m.session) out.new result }
+    ensures put { (m : Machine) (cells chains : List ℕ) → At m stage (slices cells remember.now tables.now chains) → Put out.old at (ends_with m.session) out.new result }
     ensures upper_bound { result ≤ at + 5731 }
 {
     match stage {
-        Stage::Opening(_) => writing::put_sizes(out, at),
+        Stage::Opening(_) => script::write::put_sizes(out, at),
         Stage::Running(_, _) => lines::put_report(remember, tables, out, at),
         Stage::Stopped => at,
     }
@@ -34,9 +33,7 @@ pub fn close(
 ) -> usize
     requires in_bounds { (5779 ≤ length out.old) × (line_of stage + 1 < 18446744073709551616) }
     requires placed { Placed stage (slices cells.old remember.old tables.old chains.old) }
-    ensures closes { (m : Machine) → At m stage (slices cells.old remember.old tables.old chains.old)
-        → Closes m (slices cells.old remember.old tables.old chains.old) out.old result
-        out.new (slices cells.new remember.new tables.new chains.new) }
+    ensures closes { (m : Machine) → At m stage (slices cells.old remember.old tables.old chains.old) → Closes m (slices cells.old remember.old tables.old chains.old) out.old result out.new (slices cells.new remember.new tables.new chains.new) }
     ensures upper_bound { result ≤ 5779 }
 {
     if stages::is_begun(stage) {

@@ -11,8 +11,7 @@ use Rattle.rules.specs.Regions.{regions}
 use Rattle.rules.specs.Graph.{pages_of}
 use Rattle.rules.specs.declared.Sizes.{Sizes}
 use Rattle.layout.specs.Places.{mark_of}
-use Rattle.layout.specs.Cells.{work_of, page_of, place_of, cell_on, first_on, page_cells, place-low, page-on, place-on, on-page, on-rises, on-above}
-use Rattle.layout.specs.Cells.{on_below}
+use Rattle.layout.specs.Cells.{work_of, page_of, place_of, cell_on, first_on, page_cells, place-low, page-on, place-on, on-page, on-rises, on-above, on_below}
 use Rattle.layout.specs.Marks.{marked, mark?}
 use Rattle.promises.specs.Whole.{objects_of}
 use Rattle.promises.specs.OwnedPages.{owned_in}
@@ -20,10 +19,8 @@ use Rattle.promises.specs.Arriving.{arriving, more_pages, region_more, more_belo
 use Rattle.copy.specs.Marks.{copied}
 use Rattle.copy.specs.Taking.{Next}
 use Rattle.copy.specs.Cursor.{Points, Seeking}
-use Rattle.copy.specs.Moves.{Movable, CopyStep, step-off, step-on, step-points}
-use Rattle.copy.specs.Passing.{Ready, Moves, Moves.none, Moves.more, order, moves-later, moves-append, moves-map, moves-ready, moves-back}
-use Rattle.copy.specs.Passing.{moves-bits, moves-marks, step_back, Others, moves-others, Spent, moves-spent, Passing, moves-passing}
-use Rattle.copy.specs.Passing.{arriving-some, none-arriving, passing-usable, passing-movable, Pass}
+use Rattle.copy.specs.Moves.{Movable, Step, step-off, step-on, step-points}
+use Rattle.copy.specs.Passing.{Ready, Moves, Moves.none, Moves.more, order, moves-later, moves-append, moves-map, moves-ready, moves-back, moves-bits, moves-marks, step_back, Others, moves-others, Spent, moves-spent, Passing, moves-passing, arriving-some, none-arriving, passing-usable, passing-movable, Pass}
 
 -- ---- one page
 
@@ -84,13 +81,12 @@ module _ {p : Sizes} {g q left page : ℕ} {W T W' T' : List ℕ} (a : Passing p
     where
       go : Dec (j ≡ i) → Dec (j < i) → (bit_at left j ≡ 1) × (i < j)
       go (yes z) d =
-          absurd (let y : bit_at (left - 2 ^ i) j ≡ 0 = subst (λ (m : ℕ). bit_at (left - 2 ^ i) m ≡ 0) (sym z) (clear-same i left l.on) in
-          let w : ⊥ = omega arith in w)
+          absurd (let y : bit_at (left - 2 ^ i) j ≡ 0 = subst (λ (m : ℕ). bit_at (left - 2 ^ i) m ≡ 0) (sym z) (clear-same i left l.on) in let w : ⊥ = omega arith in w)
       go (no n) (yes m) =
           absurd (let y : bit_at left j ≡ 0 = trailing-low 32 left j (omega arith) in let w : ⊥ = omega (arith, clear-other i j left l.on n) in w)
       go (no n) (no m) = (sym (clear-other i j left l.on n) ∙ b, omega arith)
 
-  pub page_moved : {n : ℕ} {W'' T'' : List ℕ} → CopyStep p g n x W' T' W'' T'' → PageMoves p g q (left - 2 ^ i) n W T W'' T''
+  pub page_moved : {n : ℕ} {W'' T'' : List ℕ} → Step p g n x W' T' W'' T'' → PageMoves p g q (left - 2 ^ i) n W T W'' T''
   page_moved {n} {W''} {T''} s =
       record {
         last = order g x + 1;
@@ -142,8 +138,7 @@ page-pass {p} {g} {q} {left} {page} {W} {T} {W'} {T'} z h =
             done = λ c e l on.
                 let s : c ≡ cell_on q (place_of c) = on-page e in
                 subst (λ (y : ℕ). work_of W' y ≢ g) (sym s)
-                (h.done (place_of c) (place-low c) (ap (λ (y : ℕ). bit_at y (place_of c)) z ∙ bit-zero (place_of c))
-                (subst (λ (y : ℕ). marked p T' y ≡ 1) s on));
+                (h.done (place_of c) (place-low c) (ap (λ (y : ℕ). bit_at y (place_of c)) z ∙ bit-zero (place_of c)) (subst (λ (y : ℕ). marked p T' y ≡ 1) s on));
           };
       points = h.points;
     }
@@ -155,13 +150,7 @@ pub record PassMoves (p : Sizes) (g q page : ℕ) (W T W' T' : List ℕ) : Type 
   pub points : Points p T' g page
 
 pub pass-begin : {p : Sizes} {g page : ℕ} {W T : List ℕ} → Points p T g page → PassMoves p g 0 page W T W T
-pass-begin {g = g} a = record {
-  pass = record {
-    moves = none {m = order g (first_on 0)} (omega arith);
-    done = λ c l. absurd (let z : ⊥ = omega arith in z);
-  };
-  points = a;
-}
+pass-begin {g = g} a = record { pass = record { moves = none {m = order g (first_on 0)} (omega arith); done = λ c l. absurd (let z : ⊥ = omega arith in z) }; points = a }
 
 pub pass-next : {p : Sizes} {g q page n : ℕ} {W T W' T' W'' T'' : List ℕ} → Ready p W T → PassMoves p g q page W T W' T' → PagePass p g q n W' T' W'' T''
     → PassMoves p g (q + 1) n W T W'' T''
@@ -186,14 +175,10 @@ pub no-marks : (p : Sizes) (T : List ℕ) (q : ℕ) → mark_of p T q ≡ 0 → 
 no-marks p T q z c e on =
     omega (arith, ap (λ (x : ℕ). bit_at (mark_of p T x) (place_of c)) e, ap (λ (x : ℕ). bit_at x (place_of c)) z, bit-zero (place_of c))
 
-pub pass-skip : {p : Sizes} {g q page : ℕ} {W T W' T' : List ℕ} → Ready p W T → mark_of p T q ≡ 0 → PassMoves p g q page W T W' T'
-    → PassMoves p g (q + 1) page W T W' T'
+pub pass-skip : {p : Sizes} {g q page : ℕ} {W T W' T' : List ℕ} → Ready p W T → mark_of p T q ≡ 0 → PassMoves p g q page W T W' T' → PassMoves p g (q + 1) page W T W' T'
 pass-skip {p} {g} {q} {page} {W} {T} {W'} {T'} a z b =
     record {
-      pass = record {
-        moves = moves-later (omega (arith, on-above q 0, on_below q 0 (omega arith))) b.pass.moves;
-        done = λ c l lp on. go c l lp on (ℕ_discrete (page_of c) q);
-      };
+      pass = record { moves = moves-later (omega (arith, on-above q 0, on_below q 0 (omega arith))) b.pass.moves; done = λ c l lp on. go c l lp on (ℕ_discrete (page_of c) q) };
       points = b.points;
     }
   where
@@ -244,8 +229,7 @@ module _ {p : Sizes} {n : ℕ} {gs : ℕ → ℕ} {l : ℕ} {W T W' T' : List �
   needed-now : needed l ≡ more_pages (objects_of p T' (gs l)) (arriving p W' T' (gs l))
   unfolding region_more
   needed-now =
-      ap₂ (λ (x y : ℕ). more_pages x y) (a.ready.regular.counts (gs l) (a.real l lt) (a.low l lt) ∙ sym others.objects)
-      (sym others.arriving)
+      ap₂ (λ (x y : ℕ). more_pages x y) (a.ready.regular.counts (gs l) (a.real l lt) (a.low l lt) ∙ sym others.objects) (sym others.arriving)
 
   pub copy-passing : Passing p (gs l) W' T'
   copy-passing =
@@ -257,8 +241,7 @@ module _ {p : Sizes} {n : ℕ} {gs : ℕ → ℕ} {l : ℕ} {W T W' T' : List �
             omega (arith, b.took, a.enough, needed-now, sum_more needed l, sum_mono needed (l + 1) n (omega arith));
       }
 
-  pub copy-next : {W'' T'' : List ℕ} → Pass p (gs l) (λ c. page_of c < p.pages) (order (gs l) 0) (order (gs l) (first_on p.pages)) W' T' W'' T''
-      → Copy p n gs (l + 1) W T W'' T''
+  pub copy-next : {W'' T'' : List ℕ} → Pass p (gs l) (λ c. page_of c < p.pages) (order (gs l) 0) (order (gs l) (first_on p.pages)) W' T' W'' T'' → Copy p n gs (l + 1) W T W'' T''
   copy-next {W''} {T''} d =
       record {
         last = order (gs l) (first_on p.pages);
@@ -304,8 +287,7 @@ module _ {p : Sizes} {n : ℕ} {gs : ℕ → ℕ} {l : ℕ} {W T W' T' : List �
       go j lj c lp on (no ne) = b.done j (omega arith) c lp on
 
 -- after all targets no survivor waits
-pub copy-clean : {p : Sizes} {n : ℕ} {gs : ℕ → ℕ} {W T W' T' : List ℕ} → Plan p n gs W T → Copy p n gs n W T W' T' → (c : ℕ) → page_of c < p.pages
-    → marked p T' c ≡ 0
+pub copy-clean : {p : Sizes} {n : ℕ} {gs : ℕ → ℕ} {W T W' T' : List ℕ} → Plan p n gs W T → Copy p n gs n W T W' T' → (c : ℕ) → page_of c < p.pages → marked p T' c ≡ 0
 copy-clean {p} {n} {gs} {W} {T} {W'} {T'} a b c l =
     ⊎_elim (λ off. off)
     (λ on.
@@ -315,8 +297,7 @@ copy-clean {p} {n} {gs} {W} {T} {W'} {T'} a b c l =
     (mark? p T' c)
 
 -- the survivors are those that are copied
-pub copy-copied : {p : Sizes} {n : ℕ} {gs : ℕ → ℕ} {W T W' T' : List ℕ} → Plan p n gs W T → Copy p n gs n W T W' T' → (c : ℕ) → page_of c < p.pages
-    → copied p T' c ≡ marked p T c
+pub copy-copied : {p : Sizes} {n : ℕ} {gs : ℕ → ℕ} {W T W' T' : List ℕ} → Plan p n gs W T → Copy p n gs n W T W' T' → (c : ℕ) → page_of c < p.pages → copied p T' c ≡ marked p T c
 copy-copied {p} {T = T} a b c l =
     omega (
       arith,
@@ -325,7 +306,6 @@ copy-copied {p} {T = T} a b c l =
       none-high page_cells (mark_of p T (page_of c)) (page_cells + place_of c) (a.small (page_of c) l) (omega arith),
     )
 
-pub copy-marks : {p : Sizes} {n l : ℕ} {gs : ℕ → ℕ} {W T W' T' : List ℕ} → Plan p n gs W T → Copy p n gs l W T W' T' → (q : ℕ) → q < p.pages
-    → mark_of p T q ≡ 0
+pub copy-marks : {p : Sizes} {n l : ℕ} {gs : ℕ → ℕ} {W T W' T' : List ℕ} → Plan p n gs W T → Copy p n gs l W T W' T' → (q : ℕ) → q < p.pages → mark_of p T q ≡ 0
     → mark_of p T' q ≡ 0
 copy-marks {p} {T = T} a b q l z = moves-marks a.ready b.moves q l (no-marks p T q z) ∙ z

@@ -57,8 +57,7 @@ took-points {p} {T} {g} {c} {n} {T'} t = at (dec_lt (used_of p T' (page_of c)) p
 
 -- pages that stay
 pub points-same : {p : Sizes} {g page : ℕ} {T T' : List ℕ} → ((x : ℕ) → x < p.pages → SamePage p T T' x) → Points p T g page → Points p T' g page
-points-same {p} {g} {page} {T} {T'} e = ⊎_elim (λ h. inl (found' h))
-    (λ h. inr (record { low = h.low; full = omega (arith, (e page h.low).used, h.full) }))
+points-same {p} {g} {page} {T} {T'} e = ⊎_elim (λ h. inl (found' h)) (λ h. inr (record { low = h.low; full = omega (arith, (e page h.low).used, h.full) }))
   where
     found' : Found p T g page → Found p T' g page
     found' (inl h) =

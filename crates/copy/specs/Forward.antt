@@ -9,8 +9,7 @@ use Rattle.layout.specs.Cells.{word_at, work_of, ref_to, cell_named, page_of, ce
 use Rattle.layout.specs.Marks.{marked}
 use Rattle.layout.specs.Objects.{InUse, NotInUse, Begins, begins-used, used-begins, begins-page}
 use Rattle.copy.specs.Marks.{copied}
-use Rattle.copy.specs.Moves.{CopyStep, step-size, step-rest, step-off, step-on, step-new, step-in-use, step-home, step_keeps, step-owner}
-use Rattle.copy.specs.Moves.{step-only, step-link, step_words, step-unused}
+use Rattle.copy.specs.Moves.{Step, step-size, step-rest, step-off, step-on, step-new, step-in-use, step-home, step_keeps, step-owner, step-only, step-link, step_words, step-unused}
 use Rattle.copy.specs.Passing.{Ready, Moves, Moves.none, Moves.more, step_back, moves-ready}
 use Rattle.copy.specs.Copying.{Plan, Copy, copy-clean, copy-copied}
 
@@ -63,7 +62,7 @@ copying-start p W T =
     }
 
 module _ {p : Sizes} {g q e : ℕ} {W₀ T₀ W T W' T' : List ℕ} (a₀ : Ready p W₀ T₀) (a : Ready p W T) (h : Copying p W₀ T₀ W T)
-    (s : CopyStep p g q e W T W' T') where
+    (s : Step p g q e W T W' T') where
   page : page_of e < p.pages
   page = begins-page p W T e s.can.used
 
@@ -138,8 +137,7 @@ module _ {p : Sizes} {g q e : ℕ} {W₀ T₀ W T W' T' : List ℕ} (a₀ : Read
             (λ z. let on : marked p T₀ x ≡ 1 = subst (λ (y : ℕ). marked p T₀ y ≡ 1) (sym z) was-on in omega arith)
             ∙ h.links x u off;
         moved = λ c w. moved' c w (ℕ_discrete c e);
-        only = λ d u. ⊎_elim (λ v. was' d (h.only d v)) (λ z. inr (e, gone-e, s.copied.forward ∙ ap (λ (x : ℕ). ref_to x) (sym z)))
-            (step-only s d u);
+        only = λ d u. ⊎_elim (λ v. was' d (h.only d v)) (λ z. inr (e, gone-e, s.copied.forward ∙ ap (λ (x : ℕ). ref_to x) (sym z))) (step-only s d u);
         once = λ b c v w z. once' b c v w z (ℕ_discrete b e) (ℕ_discrete c e);
       }
     where
@@ -150,8 +148,7 @@ module _ {p : Sizes} {g q e : ℕ} {W₀ T₀ W T W' T' : List ℕ} (a₀ : Read
       moved' c w (yes z) = (s.new, subst (λ (x : ℕ). Moved p W₀ T₀ W' T' x s.new) (sym z) here)
       moved' c w (no n) = let v = before c w n in let m = h.moved c v in (m.0, after c m.0 v n m.1)
 
-      was' : (d : ℕ) → Begins p W₀ T₀ d ⊎ ((c : ℕ) × Gone p T₀ T c × (work_of W c ≡ ref_to d))
-          → Begins p W₀ T₀ d ⊎ ((c : ℕ) × Gone p T₀ T' c × (work_of W' c ≡ ref_to d))
+      was' : (d : ℕ) → Begins p W₀ T₀ d ⊎ ((c : ℕ) × Gone p T₀ T c × (work_of W c ≡ ref_to d)) → Begins p W₀ T₀ d ⊎ ((c : ℕ) × Gone p T₀ T' c × (work_of W' c ≡ ref_to d))
       was' d (inl u) = inl u
       was' d (inr q) =
           inr (q.0, still q.0 q.1, step-link s q.0 (used-now q.0 q.1.page q.1.was) (not-e q.0 q.1) ∙ q.2)

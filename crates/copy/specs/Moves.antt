@@ -9,8 +9,7 @@ use Rattle.rules.specs.Graph.{pages_of}
 use Rattle.rules.specs.declared.Sizes.{Sizes}
 use Rattle.rules.specs.Regions.{regions}
 use Rattle.layout.specs.Places.{Room, mark_at, owner_of, used_of, mark_of, owners_from, made_at, made_of, cells_words, count_room}
-use Rattle.layout.specs.Cells.{cell_on, page-on, word_at, work_at, work_of, ref_to, page_of, place_of, cell_of, word_of, page_cells, cell_words, place-low}
-use Rattle.layout.specs.Cells.{same-cell, word_cell, word-there, word_low, work-cell, work-there, work-low}
+use Rattle.layout.specs.Cells.{cell_on, page-on, word_at, work_at, work_of, ref_to, page_of, place_of, cell_of, word_of, page_cells, cell_words, place-low, same-cell, word_cell, word-there, word_low, work-cell, work-there, work-low}
 use Rattle.layout.specs.Marks.{marked}
 use Rattle.layout.specs.Objects.{InUse, NotInUse, Begins, begins-used, used-begins, begins-page, work-used}
 use Rattle.layout.specs.Words.{tables_only}
@@ -19,8 +18,7 @@ use Rattle.promises.specs.Regular.{Regular, SamePage, objects-same}
 use Rattle.promises.specs.OwnedPages.{owned_one, owned_in, owned-same}
 use Rattle.promises.specs.Areas.{owner_words, used_words, mark_words, Only, store-only, mark-in}
 use Rattle.promises.specs.Frames.{regular-frame}
-use Rattle.promises.specs.TakeCell.{Took, took-only, took-used, took-unused, still-used, used-split, owner-used, took-objects, took-objects-other}
-use Rattle.promises.specs.TakeCell.{took-regular}
+use Rattle.promises.specs.TakeCell.{Took, took-only, took-used, took-unused, still-used, used-split, owner-used, took-objects, took-objects-other, took-regular}
 use Rattle.pages.specs.Noted.{NoneFreed, took-none-freed}
 use Rattle.copy.specs.Marks.{marks_at, copied, raised, raised-off, raised-on, raised-other}
 use Rattle.copy.specs.Cursor.{Points, took-points, points-same}
@@ -68,8 +66,7 @@ pub record Copied (c d : ℕ) (W W' : List ℕ) : Type 0 where
   pub forward : work_of W' c ≡ ref_to d
   pub same : (x : ℕ) → x ≢ work_at c → cell_of x ≢ d → get_or W' x 0 ≡ get_or W x 0
 
-pub half-copied : {c d : ℕ} {W W' : List ℕ} → c ≢ d → word_at d cell_words ≤ length W → word_at c cell_words ≤ length W → Half c d cell_words W W'
-    → (v : ℕ) → v ≡ ref_to d
+pub half-copied : {c d : ℕ} {W W' : List ℕ} → c ≢ d → word_at d cell_words ≤ length W → word_at c cell_words ≤ length W → Half c d cell_words W W' → (v : ℕ) → v ≡ ref_to d
     → Copied c d W (set (set W' (work_at d) 0) (work_at c) v)
 half-copied {c} {d} {W} {W'} ne ld lc h v e =
     record {
@@ -104,7 +101,7 @@ pub record Movable (p : Sizes) (g q : ℕ) (W T : List ℕ) (c : ℕ) : Type 0 w
   pub fresh : copied p T c ≡ 0
   pub target : work_of W c ≡ g
 
-pub record CopyStep (p : Sizes) (g q c : ℕ) (W T W' T' : List ℕ) : Type 0 where
+pub record Step (p : Sizes) (g q c : ℕ) (W T W' T' : List ℕ) : Type 0 where
   pub can : Movable p g q W T c
   pub new : ℕ
   pub mid : List ℕ
@@ -114,7 +111,7 @@ pub record CopyStep (p : Sizes) (g q c : ℕ) (W T W' T' : List ℕ) : Type 0 wh
   pub tables : T' ≡ set mid (marks_at p c) (raised (get_or mid (marks_at p c) 0) (place_of c))
 
 -- what the move needs of the cell that was taken
-pub record CellForCopy (p : Sizes) (W T T' : List ℕ) (c d at i : ℕ) : Type 0 where
+pub record Taken (p : Sizes) (W T T' : List ℕ) (c d at i : ℕ) : Type 0 where
   pub apart : c ≢ d
   pub few : p.pages ≤ 1024
   pub cell : page_of d < p.pages
@@ -126,12 +123,10 @@ pub record CellForCopy (p : Sizes) (W T T' : List ℕ) (c d at i : ℕ) : Type 0
   pub fresh : bit_at (get_or T' at 0) (page_cells + i) ≡ 0
 
 -- the marks stay
-took-marks : {p : Sizes} {T : List ℕ} {g d n : ℕ} {T' : List ℕ} → 1 ≤ g → g ≤ regions p → Took p T g d n T' → (x : ℕ) → x < p.pages
-    → mark_of p T' x ≡ mark_of p T x
+took-marks : {p : Sizes} {T : List ℕ} {g d n : ℕ} {T' : List ℕ} → 1 ≤ g → g ≤ regions p → Took p T g d n T' → (x : ℕ) → x < p.pages → mark_of p T' x ≡ mark_of p T x
 took-marks {p} {T} {g} {d} {n} {T'} real low t = (took-only p (tables_only T) g d n T' t real low).same mark_words refl
 
-pub movable-taken : {p : Sizes} {g q : ℕ} {W T T' : List ℕ} {c d n : ℕ} → Movable p g q W T c → Took p T g d n T'
-    → CellForCopy p W T T' c d (marks_at p c) (place_of c)
+pub movable-taken : {p : Sizes} {g q : ℕ} {W T T' : List ℕ} {c d n : ℕ} → Movable p g q W T c → Took p T g d n T' → Taken p W T T' c d (marks_at p c) (place_of c)
 movable-taken {p} {g} {q} {W} {T} {T'} {c} {d} {n} m t =
     let page = begins-page p W T c m.used in
     let e = took-marks m.real m.low t (page_of c) page in
@@ -149,7 +144,7 @@ movable-taken {p} {g} {q} {W} {T} {T'} {c} {d} {n} m t =
 
 -- ---- what one move does
 
-module _ {p : Sizes} {g q c : ℕ} {W T W' T' : List ℕ} (s : CopyStep p g q c W T W' T') where
+module _ {p : Sizes} {g q c : ℕ} {W T W' T' : List ℕ} (s : Step p g q c W T W' T') where
   page-in : page_of c < p.pages
   page-in = begins-page p W T c s.can.used
 
@@ -159,8 +154,7 @@ module _ {p : Sizes} {g q c : ℕ} {W T W' T' : List ℕ} (s : CopyStep p g q c 
   mid-only : Only (mark_words ∷ []) p (tables_only s.mid) (tables_only T')
   mid-only =
       subst (λ (X : List ℕ). Only (mark_words ∷ []) p (tables_only s.mid) (tables_only X)) (sym s.tables)
-      (store-only p (tables_only s.mid) mark_words (marks_at p c) _ (mark-in p (page_of c) page-in)
-      (omega (arith, page-in, s.can.room, count_room p)))
+      (store-only p (tables_only s.mid) mark_words (marks_at p c) _ (mark-in p (page_of c) page-in) (omega (arith, page-in, s.can.room, count_room p)))
 
   pub mid-pages : (x : ℕ) → x < p.pages → SamePage p s.mid T' x
   mid-pages x l = record { owner = mid-only.same owner_words refl x l; used = mid-only.same used_words refl x l }
@@ -186,8 +180,7 @@ module _ {p : Sizes} {g q c : ℕ} {W T W' T' : List ℕ} (s : CopyStep p g q c 
 
   pub step-pages : pages_of (objects_of p T' g) + owned_in p T' 0 p.pages ≡ pages_of (objects_of p T g) + owned_in p T 0 p.pages
   step-pages =
-      ap₂ (λ (a b : ℕ). pages_of a + b) (objects-same mid-pages g)
-      (sum_same (owned_one p T' 0) (owned_one p s.mid 0) p.pages (λ x l. owned-same (mid-pages x l) 0))
+      ap₂ (λ (a b : ℕ). pages_of a + b) (objects-same mid-pages g) (sum_same (owned_one p T' 0) (owned_one p s.mid 0) p.pages (λ x l. owned-same (mid-pages x l) 0))
       ∙ took-needs s.can.regular s.can.real s.took
 
   mid-other : (x : ℕ) → x ≢ marks_at p c → get_or T' x 0 ≡ get_or s.mid x 0
@@ -198,14 +191,12 @@ module _ {p : Sizes} {g q c : ℕ} {W T W' T' : List ℕ} (s : CopyStep p g q c 
   -- words of the tables that are neither a page's nor a count
   pub step-rest : (x : ℕ) → (x < owners_from p) ⊎ (made_at p ≤ x) → get_or T' x 0 ≡ get_or T x 0
   step-rest x (inl l) =
-      mid-other x (λ e. omega (arith, s.can.room)) ∙ s.took.others x (λ e. omega arith) (λ e. omega (arith, s.can.room))
-      (λ e. omega (arith, s.can.room)) (λ e. omega (arith, s.can.room))
+      mid-other x (λ e. omega (arith, s.can.room)) ∙ s.took.others x (λ e. omega arith) (λ e. omega (arith, s.can.room)) (λ e. omega (arith, s.can.room)) (λ e. omega (arith, s.can.room))
   step-rest x (inr l) =
       let page = s.took.page in
       mid-other x (λ e. omega (arith, page-in, s.can.room))
       ∙ by_cases (ℕ_discrete x (made_at p)) (λ e. ap (λ (y : ℕ). get_or s.mid y 0) e ∙ s.took.made ∙ ap (λ (y : ℕ). get_or T y 0) (sym e))
-      (s.took.others x (λ e. omega (arith, page, s.can.room)) (λ e. omega (arith, page, s.can.room))
-      (λ e. omega (arith, s.can.real, s.can.low, s.can.room)))
+      (s.took.others x (λ e. omega (arith, page, s.can.room)) (λ e. omega (arith, page, s.can.room)) (λ e. omega (arith, s.can.real, s.can.low, s.can.room)))
 
   -- marks
   mark-here : get_or T' (marks_at p c) 0 ≡ raised (get_or T (marks_at p c) 0) (place_of c)
@@ -219,8 +210,7 @@ module _ {p : Sizes} {g q c : ℕ} {W T W' T' : List ℕ} (s : CopyStep p g q c 
   step-marks q l n =
       mid-other (mark_at p q) (λ e. n (omega arith)) ∙ took-marks s.can.real s.can.low s.took q l
 
-  step-bit : (q j : ℕ) → q < p.pages → (q ≡ page_of c → (j ≢ place_of c) × (j ≢ page_cells + place_of c))
-      → bit_at (mark_of p T' q) j ≡ bit_at (mark_of p T q) j
+  step-bit : (q j : ℕ) → q < p.pages → (q ≡ page_of c → (j ≢ place_of c) × (j ≢ page_cells + place_of c)) → bit_at (mark_of p T' q) j ≡ bit_at (mark_of p T q) j
   step-bit q j l h = go (ℕ_discrete q (page_of c))
     where
       go : Dec (q ≡ page_of c) → bit_at (mark_of p T' q) j ≡ bit_at (mark_of p T q) j
@@ -233,15 +223,13 @@ module _ {p : Sizes} {g q c : ℕ} {W T W' T' : List ℕ} (s : CopyStep p g q c 
   step-off = ap (λ (x : ℕ). bit_at x (place_of c)) mark-here ∙ raised-off (get_or T (marks_at p c) 0) (place_of c) s.can.on s.can.fresh
 
   step-copied : copied p T' c ≡ 1
-  step-copied = ap (λ (x : ℕ). bit_at x (page_cells + place_of c)) mark-here
-      ∙ raised-on (get_or T (marks_at p c) 0) (place_of c) s.can.on s.can.fresh
+  step-copied = ap (λ (x : ℕ). bit_at x (page_cells + place_of c)) mark-here ∙ raised-on (get_or T (marks_at p c) 0) (place_of c) s.can.on s.can.fresh
 
   pub step-on : (x : ℕ) → page_of x < p.pages → x ≢ c → marked p T' x ≡ marked p T x
   step-on x l ne = step-bit (page_of x) (place_of x) l (λ e. (λ z. ne (same-cell e z), λ z. omega (arith, place-low x)))
 
   pub step-copied-other : (x : ℕ) → page_of x < p.pages → x ≢ c → copied p T' x ≡ copied p T x
-  step-copied-other x l ne = step-bit (page_of x) (page_cells + place_of x) l
-      (λ e. (λ z. omega (arith, place-low c), λ z. ne (same-cell e (omega arith))))
+  step-copied-other x l ne = step-bit (page_of x) (page_cells + place_of x) l (λ e. (λ z. omega (arith, place-low c), λ z. ne (same-cell e (omega arith))))
 
   -- a survivor waits or is copied
   pub step-bits : (x : ℕ) → page_of x < p.pages → marked p T' x + copied p T' x ≡ marked p T x + copied p T x
@@ -300,5 +288,4 @@ module _ {p : Sizes} {g q c : ℕ} {W T W' T' : List ℕ} (s : CopyStep p g q c 
 
   -- the pass stays at the page
   pub step-points : Points p T' g q
-  step-points = points-same mid-pages (subst (Points p s.mid g) (ap page_of s.cell ∙ page-on q (used_of p T q) s.can.next.part)
-      (took-points s.took))
+  step-points = points-same mid-pages (subst (Points p s.mid g) (ap page_of s.cell ∙ page-on q (used_of p T q) s.can.next.part) (took-points s.took))

@@ -15,8 +15,7 @@ use Rattle.promises.specs.OwnedPages.{owned_in}
 use Rattle.promises.specs.Arriving.{goes_to, goes_same, goes-yes, goes-no, arriving}
 use Rattle.copy.specs.Marks.{copied}
 use Rattle.copy.specs.Taking.{Usable, Next, usable}
-use Rattle.copy.specs.Moves.{Movable, CopyStep, step_room, step-regular, step-size, step-objects, step-objects-other, step-pages, step-marks}
-use Rattle.copy.specs.Moves.{step-off, step-on, step-copied-other, step-bits, step_keeps, step-link}
+use Rattle.copy.specs.Moves.{Movable, Step, step_room, step-regular, step-size, step-objects, step-objects-other, step-pages, step-marks, step-off, step-on, step-copied-other, step-bits, step_keeps, step-link}
 
 -- what holds before and after each move
 pub record Ready (p : Sizes) (W T : List ℕ) : Type 0 where
@@ -26,7 +25,7 @@ pub record Ready (p : Sizes) (W T : List ℕ) : Type 0 where
   pub used : (c : ℕ) → page_of c < p.pages → marked p T c ≡ 1 → Begins p W T c
   pub waits : (c : ℕ) → page_of c < p.pages → marked p T c ≡ 1 → copied p T c ≡ 0
 
-module _ {p : Sizes} {g q c : ℕ} {W T W' T' : List ℕ} (a : Ready p W T) (s : CopyStep p g q c W T W' T') where
+module _ {p : Sizes} {g q c : ℕ} {W T W' T' : List ℕ} (a : Ready p W T) (s : Step p g q c W T W' T') where
   -- a cell that is marked still
   not-moved : (x : ℕ) → marked p T' x ≡ 1 → x ≢ c
   not-moved x on e = let z : marked p T' c ≡ 1 = subst (λ (y : ℕ). marked p T' y ≡ 1) e on in omega (arith, step-off s)
@@ -60,8 +59,7 @@ module _ {p : Sizes} {g q c : ℕ} {W T W' T' : List ℕ} (a : Ready p W T) (s :
 
   sums : (h : ℕ) → arriving p W T h + marked p T' c * goes_to W' h c ≡ arriving p W' T' h + marked p T c * goes_to W h c
   sums h =
-      sum-change (λ x. marked p T x * goes_to W h x) (λ x. marked p T' x * goes_to W' h x) c (cell_count p)
-      (page-count c (begins-page _ _ _ _ s.can.used))
+      sum-change (λ x. marked p T x * goes_to W h x) (λ x. marked p T' x * goes_to W' h x) c (cell_count p) (page-count c (begins-page _ _ _ _ s.can.used))
       (λ x l ne. same-but h x (count-page x l) ne)
 
   pub step-arriving : arriving p W' T' g + 1 ≡ arriving p W T g
@@ -85,20 +83,18 @@ order g c = most_cells * g + c
 -- moves in rising order, from place n on and below m
 pub data Moves (p : Sizes) (G : ℕ → Type 0) (n : ℕ) (W T : List ℕ) : ℕ → List ℕ → List ℕ → Type 0 where
   none : {m : ℕ} → n ≤ m → Moves p G n W T m W T
-  more : {m k : ℕ} {W' T' W'' T'' : List ℕ} {g q c : ℕ} → Moves p G n W T m W' T' → G g → m ≤ order g c → order g c < k → CopyStep p g q c W' T' W'' T''
+  more : {m k : ℕ} {W' T' W'' T'' : List ℕ} {g q c : ℕ} → Moves p G n W T m W' T' → G g → m ≤ order g c → order g c < k → Step p g q c W' T' W'' T''
       → Moves p G n W T k W'' T''
 
 pub moves-later : {p : Sizes} {G : ℕ → Type 0} {n m k : ℕ} {W T W' T' : List ℕ} → m ≤ k → Moves p G n W T m W' T' → Moves p G n W T k W' T'
 moves-later {k = k} l (none h) = none {m = k} (omega arith)
 moves-later {k = k} l (more b h u v s) = more {k = k} b h u (omega arith) s
 
-pub moves-append : {p : Sizes} {G : ℕ → Type 0} {n m k : ℕ} {W T W' T' W'' T'' : List ℕ} → Moves p G n W T m W' T' → Moves p G m W' T' k W'' T''
-    → Moves p G n W T k W'' T''
+pub moves-append : {p : Sizes} {G : ℕ → Type 0} {n m k : ℕ} {W T W' T' W'' T'' : List ℕ} → Moves p G n W T m W' T' → Moves p G m W' T' k W'' T'' → Moves p G n W T k W'' T''
 moves-append a (none h) = moves-later h a
 moves-append a (more b h u v s) = more (moves-append a b) h u v s
 
-pub moves-map : {p : Sizes} {G H : ℕ → Type 0} {n m : ℕ} {W T W' T' : List ℕ} → ((g : ℕ) → G g → H g) → Moves p G n W T m W' T'
-    → Moves p H n W T m W' T'
+pub moves-map : {p : Sizes} {G H : ℕ → Type 0} {n m : ℕ} {W T W' T' : List ℕ} → ((g : ℕ) → G g → H g) → Moves p G n W T m W' T' → Moves p H n W T m W' T'
 moves-map f (none l) = none l
 moves-map f (more {g = g} b h u v s) = more (moves-map f b) (f g h) u v s
 
@@ -158,7 +154,7 @@ pub moves-spent : {p : Sizes} {g n m : ℕ} {W T W' T' : List ℕ} → Ready p W
 moves-spent a (none l) = record { total = refl; pages = refl }
 moves-spent {p} {g} a (more {W' = X} {T' = Y} {W'' = X'} {T'' = Y'} {g = h} {q = o} {c = c} b e l m s) =
     let u = moves-spent a b in
-    let s' : CopyStep p g o c X Y X' Y' = subst (λ (z : ℕ). CopyStep p z o c X Y X' Y') e s in
+    let s' : Step p g o c X Y X' Y' = subst (λ (z : ℕ). Step p z o c X Y X' Y') e s in
     record {
       total = omega (arith, u.total, step-objects s', step-arriving (moves-ready a b) s');
       pages = step-pages s' ∙ u.pages;
@@ -196,14 +192,11 @@ none-arriving p W T g away =
     ⊎_elim (λ off. ap (λ (y : ℕ). y * goes_to W g c) off ∙ zero-mul (goes_to W g c))
     (λ on. ap (λ (y : ℕ). marked p T c * y) (goes-no W g c (away c (count-page c l) on)) ∙ mul-zero (marked p T c)) (mark? p T c))
 
-pub passing-usable : {p : Sizes} {g : ℕ} {W T : List ℕ} → Passing p g W T → (c : ℕ) → page_of c < p.pages → marked p T c ≡ 1 → work_of W c ≡ g
-    → Usable p g T
+pub passing-usable : {p : Sizes} {g : ℕ} {W T : List ℕ} → Passing p g W T → (c : ℕ) → page_of c < p.pages → marked p T c ≡ 1 → work_of W c ≡ g → Usable p g T
 passing-usable {p} {g} {W} {T} a c l on e =
-    usable a.ready.regular g a.real (arriving p W T g) (let n : arriving p W T g ≢ 0 = arriving-some p W T g c l on e in omega arith)
-    a.enough
+    usable a.ready.regular g a.real (arriving p W T g) (let n : arriving p W T g ≢ 0 = arriving-some p W T g c l on e in omega arith) a.enough
 
-pub passing-movable : {p : Sizes} {g q : ℕ} {W T : List ℕ} → Passing p g W T → (c : ℕ) → page_of c < p.pages → marked p T c ≡ 1 → work_of W c ≡ g
-    → Next p g q T
+pub passing-movable : {p : Sizes} {g q : ℕ} {W T : List ℕ} → Passing p g W T → (c : ℕ) → page_of c < p.pages → marked p T c ≡ 1 → work_of W c ≡ g → Next p g q T
     → Movable p g q W T c
 passing-movable a c l on e n =
     record {

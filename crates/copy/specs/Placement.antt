@@ -10,14 +10,14 @@ use Rattle.std.proofs.Math.Decide.{ℕ_discrete, dec_lt}
 use native.Mathlib.Omega.{arith}
 use Rattle.rules.specs.declared.Sizes.{Sizes}
 use Rattle.rules.specs.Regions.{regions}
-use Rattle.rules.specs.Pages.{Pages, take_cell, Placing, none_moved, place, place_below, place_all, new_cell}
+use Rattle.rules.specs.Pages.{Pages, take, Placing, none_moved, place, place_below, place_all, new_cell}
 use Rattle.layout.specs.Cells.{work_of, ref_to, page_of, most_cells, count-page}
 use Rattle.layout.specs.Marks.{marked, mark?}
 use Rattle.layout.specs.Objects.{Begins, begins-page, cell_count}
 use Rattle.layout.specs.Words.{pages_at}
 use Rattle.promises.specs.Regular.{pages-alike}
 use Rattle.promises.specs.TakenPage.{took-takes}
-use Rattle.copy.specs.Moves.{CopyStep, mid-pages, step-on, step-link, step_keeps}
+use Rattle.copy.specs.Moves.{Step, mid-pages, step-on, step-link, step_keeps}
 use Rattle.copy.specs.Passing.{Ready, Moves, Moves.none, Moves.more, order, moves-back}
 use Rattle.copy.specs.Copying.{Plan, Copy, copy-clean}
 
@@ -47,8 +47,7 @@ module _ (goal : ℕ → ℕ) (p : Placing) where
   walk-gap : (i d : ℕ) → ((j : ℕ) → i ≤ j → j < i + d → goal (cell_next j) ≢ region_next j) → walk (i + d) ≡ walk i
   walk-gap i zero h = ap walk (let e : i + 0 ≡ i = omega arith in e)
   walk-gap i (suc d) h =
-      ap walk (let e : i + suc d ≡ suc (i + d) = omega arith in e) ∙ walk_no (i + d) (h (i + d) (omega arith) (omega arith))
-      ∙ walk-gap i d (λ j l m. h j l (omega arith))
+      ap walk (let e : i + suc d ≡ suc (i + d) = omega arith in e) ∙ walk_no (i + d) (h (i + d) (omega arith) (omega arith)) ∙ walk-gap i d (λ j l m. h j l (omega arith))
 
   walk-to : (i k : ℕ) → i ≤ k → ((j : ℕ) → i ≤ j → j < k → goal (cell_next j) ≢ region_next j) → walk k ≡ walk i
   walk-to i k l h = ap walk (let e : k ≡ i + (k - i) = omega arith in e) ∙ walk-gap i (k - i) (λ j a b. h j a (omega arith))
@@ -63,14 +62,12 @@ module _ (goal : ℕ → ℕ) (p : Placing) where
       go (no n) h = ap (λ (q : Placing). new_cell q.moves c) (walk_no i n) ∙ h
       go (yes e) h =
           ap (λ (q : Placing). new_cell q.moves c) (walk-yes i e)
-          ∙ ap (λ (b : Bool). cond b (take_cell (walk i).pages (region_next i)).cell (new_cell (walk i).moves c))
-          (ne_eqb (cell_next i) c (λ (d : cell_next i ≡ c). omega (arith, ap goal d)))
+          ∙ ap (λ (b : Bool). cond b (take (walk i).pages (region_next i)).cell (new_cell (walk i).moves c)) (ne_eqb (cell_next i) c (λ (d : cell_next i ≡ c). omega (arith, ap goal d)))
           ∙ h
 
   -- ---- they are the rules'
 
-  row : (k : ℕ) → walk (most_cells * k) ≡ place_all goal most_cells k p → (c : ℕ) → c ≤ most_cells
-      → walk (most_cells * k + c) ≡ place_below goal (suc k) c (place_all goal most_cells k p)
+  row : (k : ℕ) → walk (most_cells * k) ≡ place_all goal most_cells k p → (c : ℕ) → c ≤ most_cells → walk (most_cells * k + c) ≡ place_below goal (suc k) c (place_all goal most_cells k p)
   unfolding place_below walk
   row k s zero l = ap walk (let e : most_cells * k + 0 ≡ most_cells * k = omega arith in e) ∙ s
   row k s (suc c) l =
@@ -93,8 +90,7 @@ module _ (goal : ℕ → ℕ) (n : ℕ) (none : (c : ℕ) → n ≤ c → goal c
   below-past q zero p l = ap (λ (m : ℕ). place_below goal q m p) (let e : n + 0 ≡ n = omega arith in e)
   below-past q (suc d) p l =
       ap (λ (m : ℕ). place_below goal q m p) (let e : n + suc d ≡ suc (n + d) = omega arith in e)
-      ∙ ap (λ (b : Bool). cond b (place q (n + d) (place_below goal q (n + d) p)) (place_below goal q (n + d) p))
-      (ne_eqb (goal (n + d)) q (λ (e : goal (n + d) ≡ q). omega (arith, none (n + d) (omega arith))))
+      ∙ ap (λ (b : Bool). cond b (place q (n + d) (place_below goal q (n + d) p)) (place_below goal q (n + d) p)) (ne_eqb (goal (n + d)) q (λ (e : goal (n + d) ≡ q). omega (arith, none (n + d) (omega arith))))
       ∙ below-past q d p l
 
   all_past : (d k : ℕ) (p : Placing) → place_all goal (n + d) k p ≡ place_all goal n k p
@@ -114,8 +110,7 @@ pub record GoalsMarked (p : Sizes) (goal : ℕ → ℕ) (W T : List ℕ) : Type 
   pub stays : (c : ℕ) → marked p T c ≡ 0 → goal c ≡ 0
   pub past : (c : ℕ) → cell_count p ≤ c → goal c ≡ 0
 
-module _ {p : Sizes} {goal : ℕ → ℕ} {W T : List ℕ} (few : p.pages ≤ 1024) (a : Ready p W T) (gs : GoalsMarked p goal W T)
-    (real : (c : ℕ) → page_of c < p.pages → marked p T c ≡ 1 → 1 ≤ goal c) where
+module _ {p : Sizes} {goal : ℕ → ℕ} {W T : List ℕ} (few : p.pages ≤ 1024) (a : Ready p W T) (gs : GoalsMarked p goal W T) (real : (c : ℕ) → page_of c < p.pages → marked p T c ≡ 1 → 1 ≤ goal c) where
   abbrev walked : ℕ → Placing
   walked = walk goal (none_moved (pages_at p T))
 
@@ -150,8 +145,7 @@ module _ {p : Sizes} {goal : ℕ → ℕ} {W T : List ℕ} (few : p.pages ≤ 10
       omega arith)
 
   -- one survivor more, from cell c
-  module _ {G : ℕ → Type 0} {m k : ℕ} {W' T' W'' T'' : List ℕ} {g q c : ℕ} (b : Moves p G most_cells W T m W' T') (u : m ≤ order g c)
-      (v : order g c < k) (s : CopyStep p g q c W' T' W'' T'')
+  module _ {G : ℕ → Type 0} {m k : ℕ} {W' T' W'' T'' : List ℕ} {g q c : ℕ} (b : Moves p G most_cells W T m W' T') (u : m ≤ order g c) (v : order g c < k) (s : Step p g q c W' T' W'' T'')
       (d : Done k T'') where
     low : page_of c < p.pages
     low = begins-page p W' T' c s.can.used
@@ -179,8 +173,7 @@ module _ {p : Sizes} {goal : ℕ → ℕ} {W T : List ℕ} (few : p.pages ≤ 10
       -- up to this survivor's place nobody else goes
       to-here : walked (order g c - most_cells) ≡ walked (m - most_cells)
       to-here =
-          gap m (order g c) (λ x l on h. i.only x l on (before x l (λ (e : x ≡ c). omega (arith, goal-c, ap goal e)) (d x l on (omega arith))))
-          start u
+          gap m (order g c) (λ x l on h. i.only x l on (before x l (λ (e : x ≡ c). omega (arith, goal-c, ap goal e)) (d x l on (omega arith)))) start u
 
       at_here : walked (order g c + 1 - most_cells) ≡ place g c (walked (m - most_cells))
       at_here =
@@ -195,21 +188,19 @@ module _ {p : Sizes} {goal : ℕ → ℕ} {W T : List ℕ} (few : p.pages ≤ 10
       past-here : walked (k - most_cells) ≡ place g c (walked (m - most_cells))
       past-here =
           gap (order g c + 1) k
-          (λ x l on h. by_cases (ℕ_discrete x c) (λ e. omega (arith, goal-c, ap goal e))
-          (λ n. let y = i.only x l on (before x l n (d x l on h)) in omega arith))
+          (λ x l on h. by_cases (ℕ_discrete x c) (λ e. omega (arith, goal-c, ap goal e)) (λ n. let y = i.only x l on (before x l n (d x l on h)) in omega arith))
           (omega (arith, start)) (omega arith) ∙ at_here
 
-      takes : (s.new ≡ (take_cell (pages_at p T') g).cell) × (pages_at p s.mid ≡ (take_cell (pages_at p T') g).pages)
+      takes : (s.new ≡ (take (pages_at p T') g).cell) × (pages_at p s.mid ≡ (take (pages_at p T') g).pages)
       takes = took-takes s.can.regular s.can.real s.took
 
       step-placed : PlacedTo k W'' T''
       unfolding new_cell
       step-placed =
           record {
-            only = λ x l on off. by_cases (ℕ_discrete x c) (λ e. omega (arith, goal-c, ap goal e))
-                (λ n. let y = i.only x l on (before x l n off) in omega arith);
+            only = λ x l on off. by_cases (ℕ_discrete x c) (λ e. omega (arith, goal-c, ap goal e)) (λ n. let y = i.only x l on (before x l n off) in omega arith);
             pages =
-                pages-alike p s.mid T'' (mid-pages s) ∙ takes.1 ∙ ap (λ (ps : Pages). (take_cell ps g).pages) i.pages
+                pages-alike p s.mid T'' (mid-pages s) ∙ takes.1 ∙ ap (λ (ps : Pages). (take ps g).pages) i.pages
                 ∙ sym (ap (λ (z : Placing). z.pages) past-here);
             cells = λ x l on off. here x l on off (ℕ_discrete x c) ∙ sym (ap (λ (z : Placing). ref_to (new_cell z.moves x)) past-here);
             begins = λ x l on. step_keeps s x (i.begins x l on);
@@ -218,22 +209,20 @@ module _ {p : Sizes} {goal : ℕ → ℕ} {W T : List ℕ} (few : p.pages ≤ 10
           X : Placing
           X = walked (m - most_cells)
 
-          here : (x : ℕ) → page_of x < p.pages → marked p T x ≡ 1 → marked p T'' x ≡ 0 → Dec (x ≡ c)
-              → work_of W'' x ≡ ref_to (new_cell (place g c X).moves x)
+          here : (x : ℕ) → page_of x < p.pages → marked p T x ≡ 1 → marked p T'' x ≡ 0 → Dec (x ≡ c) → work_of W'' x ≡ ref_to (new_cell (place g c X).moves x)
           here x l on off (yes e) =
-              ap (work_of W'') e ∙ s.copied.forward ∙ ap ref_to (takes.0 ∙ ap (λ (ps : Pages). (take_cell ps g).cell) i.pages)
-              ∙ sym (ap (λ (t : Bool). ref_to (cond t (take_cell X.pages g).cell (new_cell X.moves x))) (eq-eqb c x (sym e)))
+              ap (work_of W'') e ∙ s.copied.forward ∙ ap ref_to (takes.0 ∙ ap (λ (ps : Pages). (take ps g).cell) i.pages)
+              ∙ sym (ap (λ (t : Bool). ref_to (cond t (take X.pages g).cell (new_cell X.moves x))) (eq-eqb c x (sym e)))
           here x l on off (no n) =
               step-link s x (i.begins x l on) n ∙ i.cells x l on (before x l n off)
-              ∙ sym (ap (λ (t : Bool). ref_to (cond t (take_cell X.pages g).cell (new_cell X.moves x))) (ne_eqb c x (λ e. n (sym e))))
+              ∙ sym (ap (λ (t : Bool). ref_to (cond t (take X.pages g).cell (new_cell X.moves x))) (ne_eqb c x (λ e. n (sym e))))
 
   placed_moves : {G : ℕ → Type 0} {m : ℕ} {W' T' : List ℕ} → Moves p G most_cells W T m W' T' → Done m T' → PlacedTo m W' T'
   unfolding walk
   placed_moves (none {m = m} l) d =
       record {
         only = λ c q on off. absurd (let z : ⊥ = omega arith in z);
-        pages = ap (λ (x : Placing). x.pages) (sym (gap most_cells m none_below (omega arith) l
-            ∙ ap walked (let e : most_cells - most_cells ≡ 0 = omega arith in e)));
+        pages = ap (λ (x : Placing). x.pages) (sym (gap most_cells m none_below (omega arith) l ∙ ap walked (let e : most_cells - most_cells ≡ 0 = omega arith in e)));
         cells = λ c q on off. absurd (let z : ⊥ = omega arith in z);
         begins = a.used;
       }
@@ -243,14 +232,12 @@ module _ {p : Sizes} {goal : ℕ → ℕ} {W T : List ℕ} (few : p.pages ≤ 10
   placed_moves (more b h u v s) d = step-placed b u v s d (placed_moves b (step-done b u v s d))
 
 -- moves to regions from place 0 on have places of region 1 at least
-moves-raise : {p : Sizes} {G : ℕ → Type 0} {m : ℕ} {W T W' T' : List ℕ} → Moves p G 0 W T m W' T' → (k : ℕ) → m ≤ k → most_cells ≤ k
-    → Moves p G most_cells W T k W' T'
+moves-raise : {p : Sizes} {G : ℕ → Type 0} {m : ℕ} {W T W' T' : List ℕ} → Moves p G 0 W T m W' T' → (k : ℕ) → m ≤ k → most_cells ≤ k → Moves p G most_cells W T k W' T'
 moves-raise (none l) k e f = none {m = k} f
 moves-raise (more {g = g} {c = c} b h u v s) k e f =
     more {m = order g c} {k = k} {g = g} {c = c} (moves-raise b (order g c) u (omega (arith, s.can.real))) h (omega arith) (omega arith) s
 
-module _ {p : Sizes} {n : ℕ} {gs : ℕ → ℕ} {W T W' T' : List ℕ} (a : Plan p n gs W T) (b : Copy p n gs n W T W' T') (goal : ℕ → ℕ)
-    (goals : GoalsMarked p goal W T) where
+module _ {p : Sizes} {n : ℕ} {gs : ℕ → ℕ} {W T W' T' : List ℕ} (a : Plan p n gs W T) (b : Copy p n gs n W T W' T') (goal : ℕ → ℕ) (goals : GoalsMarked p goal W T) where
   abbrev base : Placing
   base = none_moved (pages_at p T)
 
@@ -269,8 +256,7 @@ module _ {p : Sizes} {n : ℕ} {gs : ℕ → ℕ} {W T W' T' : List ℕ} (a : Pl
 
   placed : PlacedTo a.ready.room.few a.ready goals (λ c l on. (goal-level c l on).0) (b.last + all) W' T'
   placed =
-      placed_moves a.ready.room.few a.ready goals (λ c l on. (goal-level c l on).0)
-      (moves-raise b.moves (b.last + all) (omega arith) (omega arith))
+      placed_moves a.ready.room.few a.ready goals (λ c l on. (goal-level c l on).0) (moves-raise b.moves (b.last + all) (omega arith) (omega arith))
       (λ c l on m. copy-clean a b c l)
 
   walked_all : walk goal base (b.last + all - most_cells) ≡ placing
@@ -278,8 +264,7 @@ module _ {p : Sizes} {n : ℕ} {gs : ℕ → ℕ} {W T W' T' : List ℕ} (a : Pl
       gap a.ready.room.few a.ready goals (λ c l on. (goal-level c l on).0) all (b.last + all)
       (λ c l on m. let r = goal-level c l on in omega (arith, r.0, r.1, a.ready.room.few)) (omega arith) (omega arith)
       ∙ ap (walk goal base) (let e : all - most_cells ≡ most_cells * regions p = omega arith in e) ∙ rows goal base (regions p)
-      ∙ ap (λ (k : ℕ). place_all goal k (regions p) base)
-      (let e : most_cells ≡ cell_count p + (most_cells - cell_count p) = omega (arith, a.ready.room.few) in e)
+      ∙ ap (λ (k : ℕ). place_all goal k (regions p) base) (let e : most_cells ≡ cell_count p + (most_cells - cell_count p) = omega (arith, a.ready.room.few) in e)
       ∙ all_past goal (cell_count p) goals.past (most_cells - cell_count p) (regions p) base
 
   -- THE COPIES ARE WHERE THE RULES PLACE THEM

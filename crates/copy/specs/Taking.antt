@@ -30,8 +30,7 @@ pub usable : {p : Sizes} {T : List ℕ} → Regular p T → (g : ℕ) → 1 ≤ 
 usable {p} {T} r g real m pos le = go (ℕ_discrete (place_of (objects_of p T g)) 0)
   where
     go : Dec (place_of (objects_of p T g) ≡ 0) → Usable p g T
-    go (yes e) = let s = sum-pos (owned_one p T 0) p.pages (omega arith) in
-        record { at = s.0; low = s.1; why = inl (owned-is p T 0 s.0 s.2) }
+    go (yes e) = let s = sum-pos (owned_one p T 0) p.pages (omega arith) in record { at = s.0; low = s.1; why = inl (owned-is p T 0 s.0 s.2) }
     go (no n) = let s = some-partly r g real n in record { at = s.0; low = s.1; why = inr s.2 }
 
 -- taking a cell uses exactly the pages that one more object needs
@@ -48,25 +47,9 @@ took-needs {p} {T} {g} {c} {n} {T'} r real t = omega (arith, both t.source, owne
     -- g's pages and the free pages together stay
     both : Source p T g q → owned_in p T' g p.pages + owned_in p T' 0 p.pages ≡ owned_in p T g p.pages + owned_in p T 0 p.pages
     both (inl e) =
-        omega (
-          arith,
-          change g,
-          change 0,
-          owned-yes p T' g q t.owner,
-          owned-no p T' 0 q (λ z. omega (arith, t.owner)),
-          owned-yes p T g q e,
-          owned-no p T 0 q (λ z. omega arith),
-        )
+        omega (arith, change g, change 0, owned-yes p T' g q t.owner, owned-no p T' 0 q (λ z. omega (arith, t.owner)), owned-yes p T g q e, owned-no p T 0 q (λ z. omega arith))
     both (inr e) =
-        omega (
-          arith,
-          change g,
-          change 0,
-          owned-yes p T' g q t.owner,
-          owned-no p T' 0 q (λ z. omega (arith, t.owner)),
-          owned-no p T g q (λ z. omega (arith, e.0)),
-          owned-yes p T 0 q e.0,
-        )
+        omega (arith, change g, change 0, owned-yes p T' g q t.owner, owned-no p T' 0 q (λ z. omega (arith, t.owner)), owned-no p T g q (λ z. omega (arith, e.0)), owned-yes p T 0 q e.0)
 
 -- the room stays where the length does
 pub room-same : {p : Sizes} {m n : ℕ} → m ≡ n → Room p n → Room p m

@@ -53,18 +53,15 @@ module _ (ps : Pages) where
             let same = at ∙ ap (λ (b : Bool). cond b (filled control (left i)) (nth_page ps i)) (ne_eqb (nth_page ps i).owner control z) in
             absurd (z (sym (ap (λ (p : Page). p.owner) same) ∙ e))
         go (yes z) (yes y) =
-            let free = at ∙ ap₂ (λ (b c : Bool). cond b (cond c free_page (record { owner = control; used = min (left i) 16 })) (nth_page ps i))
-            (eq-eqb (nth_page ps i).owner control z) (eq-eqb (left i) 0 y) in
+            let free = at ∙ ap₂ (λ (b c : Bool). cond b (cond c free_page (record { owner = control; used = min (left i) 16 })) (nth_page ps i)) (eq-eqb (nth_page ps i).owner control z) (eq-eqb (left i) 0 y) in
             let none : 0 ≡ control = sym (ap (λ (p : Page). p.owner) free) ∙ e in
             absurd (let o : ⊥ = omega arith in o)
         go (yes z) (no y) =
-            let taken = at ∙ ap₂ (λ (b c : Bool). cond b (cond c free_page (record { owner = control; used = min (left i) 16 })) (nth_page ps i))
-            (eq-eqb (nth_page ps i).owner control z) (ne_eqb (left i) 0 y) in
+            let taken = at ∙ ap₂ (λ (b c : Bool). cond b (cond c free_page (record { owner = control; used = min (left i) 16 })) (nth_page ps i)) (eq-eqb (nth_page ps i).owner control z) (ne_eqb (left i) 0 y) in
             (z, omega arith, ap (λ (p : Page). p.used) taken)
 
     -- of two of them the lower is full
-    filled-full : (i j : ℕ) → i < j → j < length ps → (nth_page (filled_by control n ps) i).owner ≡ control
-        → (nth_page (filled_by control n ps) j).owner ≡ control
+    filled-full : (i j : ℕ) → i < j → j < length ps → (nth_page (filled_by control n ps) i).owner ≡ control → (nth_page (filled_by control n ps) j).owner ≡ control
         → (nth_page (filled_by control n ps) i).used ≡ 16
     filled-full i j l m e f =
         let p = filled-own i (omega arith) e in
@@ -103,32 +100,27 @@ module _ (s : Sizes) (w w₁ : Words) (cell : ℕ → ℕ) (st : StandsFor s w�
   full-again i j l m e f =
       let a = page-now i (omega arith) in
       sym (ap (λ (p : Page). p.used) a)
-      ∙ filled-full (pages_in s w) (length (slides s (heap_of s w) control (ru.ended s (heap_of s w) control))) i j l
-      (omega (arith, pages-count s w.tables))
+      ∙ filled-full (pages_in s w) (length (slides s (heap_of s w) control (ru.ended s (heap_of s w) control))) i j l (omega (arith, pages-count s w.tables))
       (ap (λ (p : Page). p.owner) a ∙ e) (ap (λ (p : Page). p.owner) (page-now j m) ∙ f)
 
   counts-again : counted (freed_in s w₁) ≡ freed_in s w₁
   counts-again =
       let n = (heap_of s w).counters.freed + freed_by s (graph (heap_of s w)) control in
       let e : counted n ≡ freed_in s w₁ = ap (λ (c : Counters). c.freed) st.counters in
-      ap counted (sym e) ∙ ap counted (let z : counted n ≡ 0 + counted n = omega arith in z) ∙ counted-add 0 n
-      ∙ ap counted (let z : 0 + n ≡ n = omega arith in z) ∙ e
+      ap counted (sym e) ∙ ap counted (let z : counted n ≡ 0 + counted n = omega arith in z) ∙ counted-add 0 n ∙ ap counted (let z : 0 + n ≡ n = omega arith in z) ∙ e
 
   compact : Compact s w₁
   compact = record { whole = st.whole; held = held-again; full = full-again; counts = counts-again }
 
 -- COLLECTING TWICE, by whichever threads, is collecting once
-pub collected-twice : (s : Sizes) (w w₁ w₂ : Words) (t u : ℕ) (a b : Answer) → t < s.threads → u < s.threads → DidHere s w (collect_of t) w₁ a
-    → DidHere s w₁ (collect_of u) w₂ b → w₂ ≡ w₁
+pub collected-twice : (s : Sizes) (w w₁ w₂ : Words) (t u : ℕ) (a b : Answer) → t < s.threads → u < s.threads → DidHere s w (collect_of t) w₁ a → DidHere s w₁ (collect_of u) w₂ b → w₂ ≡ w₁
 collected-twice s w w₁ w₂ t u a b th uh d e =
     let st = subst (λ (h : Regioned). StandsFor s w₁ h d.next.cell) (step-collected s w t th) d.next.stands in
     let q = compact s w w₁ d.next.cell st in
     e.words ∙ ap (λ (h : Regioned). laid s h w₁) (step-collected s w₁ u uh ∙ collected-again s w₁ q) ∙ sym (whole-laid s w₁ st.whole)
 
--- WHAT IS THERE AFTER A COLLECTION begins in a cell in use, on a page of the region that it lay in; that no page goes back that is still led to
--- is said of every command in LedTo
-pub kept-page : (s : Sizes) (w w₁ : Words) (t : ℕ) (a : Answer) → t < s.threads → (d : DidHere s w (collect_of t) w₁ a) → (x : ℕ)
-    → Alive (ended s (graph (heap_of s w)) control) x
+-- NO PAGE THAT HOLDS A KEPT OBJECT GOES BACK: whatever is there after a collection begins in a cell in use, on a page of the region that it lay in
+pub kept-page : (s : Sizes) (w w₁ : Words) (t : ℕ) (a : Answer) → t < s.threads → (d : DidHere s w (collect_of t) w₁ a) → (x : ℕ) → Alive (ended s (graph (heap_of s w)) control) x
     → BeginsIn s w₁ (d.next.cell x) × (owner_in s w₁ (page_of (d.next.cell x)) ≡ home_of (heap_of s w) x)
 kept-page s w w₁ t a th d x l =
     let st = subst (λ (h : Regioned). StandsFor s w₁ h d.next.cell) (step-collected s w t th) d.next.stands in

@@ -81,8 +81,7 @@ module _ (s : Sizes) (w : Words) (k : Compact s w) where
   counters-again : more_freed (freed_by s (graph H) control) H.counters ≡ H.counters
   unfolding heap_of
   counters-again =
-      ap (λ (n : ℕ). record { made = H.counters.made; freed = counted n })
-      (let e : freed_in s w + freed_by s (graph H) control ≡ freed_in s w = omega (arith, freed-none) in e)
+      ap (λ (n : ℕ). record { made = H.counters.made; freed = counted n }) (let e : freed_in s w + freed_by s (graph H) control ≡ freed_in s w = omega (arith, freed-none) in e)
       ∙ ap (λ (n : ℕ). record { made = H.counters.made; freed = n }) k.counts
 
   -- ---- the objects of the control space below a cell
@@ -157,8 +156,7 @@ module _ (s : Sizes) (w : Words) (k : Compact s w) where
       ∙ omega (
         arith,
         below-page y l e y (omega arith),
-        sum_first (λ j. bit (lies (16 * y + j))) (used_in s w y) p
-            (λ j h. ap bit (place-own y j l (omega (arith, (k.whole.pages y l).filled.cells)) e)),
+        sum_first (λ j. bit (lies (16 * y + j))) (used_in s w y) p (λ j h. ap bit (place-own y j l (omega (arith, (k.whole.pages y l).filled.cells)) e)),
       )
 
   -- ---- the cells
@@ -171,8 +169,7 @@ module _ (s : Sizes) (w : Words) (k : Compact s w) where
       go (yes e) =
           ap₂ (λ (b : Bool) (n : ℕ). not (eqb (cond b n 0) 0)) (eq-eqb (home_in s w c) control e) (k.held c e) ∙ sym (eq-eqb (home_in s w c) control e)
       go (no n) =
-          ap (λ (b : Bool). not (eqb (cond b (target s (graph_of s w) control c) 0) 0)) (ne_eqb (home_in s w c) control n)
-          ∙ sym (ne_eqb (home_in s w c) control n)
+          ap (λ (b : Bool). not (eqb (cond b (target s (graph_of s w) control c) 0) 0)) (ne_eqb (home_in s w c) control n) ∙ sym (ne_eqb (home_in s w c) control n)
 
   -- all objects of the control space live on
   slides-all : slides s H control E ≡ slide_below lies own (cell_count s)
@@ -180,8 +177,7 @@ module _ (s : Sizes) (w : Words) (k : Compact s w) where
   slides-all =
       slides-same (λ c. not (eqb (get_or (goals s H (only control) E) c 0) 0)) lies own (cell_count s)
       (λ c l.
-      ap (λ (n : ℕ). not (eqb n 0)) (get_d-listed (λ d. goal_of H (only control) E (object_at H d)) (cell_count s) c 0 l
-      ∙ goal-of s w k.whole control control-pos c)
+      ap (λ (n : ℕ). not (eqb n 0)) (get_d-listed (λ d. goal_of H (only control) E (object_at H d)) (cell_count s) c 0 l ∙ goal-of s w k.whole control control-pos c)
       ∙ lives-lies c)
 
   lies-used : (c : ℕ) → home_in s w c ≡ control → InUse s w.tables c × (owner_in s w (page_of c) ≡ control)
@@ -195,8 +191,7 @@ module _ (s : Sizes) (w : Words) (k : Compact s w) where
       let u = lies-used c e in
       let q = page_of c in
       let rank : count lies c ≡ 16 * own_below control ps q + place_of c =
-      ap (count lies) (let z : c ≡ cell_on q (place_of c) = omega arith in z)
-      ∙ below-cell q (place_of c) u.0.page u.1 (omega (arith, u.0.place)) in
+      ap (count lies) (let z : c ≡ cell_on q (place_of c) = omega arith in z) ∙ below-cell q (place_of c) u.0.page u.1 (omega (arith, u.0.place)) in
       let page : count lies c / 16 ≡ own_below control ps q = omega (arith, rank) in
       let at : get_or own (own_below control ps q) 0 ≡ q =
       owned_at control ps 0 q (omega (arith, pages-count s w.tables, u.0.page)) (owner-there q u.0.page ∙ u.1) ∙ omega arith in
@@ -217,8 +212,7 @@ module _ (s : Sizes) (w : Words) (k : Compact s w) where
   K = count lies (cell_count s)
 
   -- none past the last one of a page that is not full
-  none-past : (y : ℕ) → y < s.pages → owner_in s w y ≡ control → used_in s w y < page_cells → (c : ℕ) → cell_on y (used_in s w y) ≤ c
-      → home_in s w c ≡ control → ⊥
+  none-past : (y : ℕ) → y < s.pages → owner_in s w y ≡ control → used_in s w y < page_cells → (c : ℕ) → cell_on y (used_in s w y) ≤ c → home_in s w c ≡ control → ⊥
   none-past y l e part c h z = go (dec_lt y (page_of c)) (lies-used c z)
     where
       go : Dec (y < page_of c) → InUse s w.tables c × (owner_in s w (page_of c) ≡ control) → ⊥
@@ -252,11 +246,9 @@ module _ (s : Sizes) (w : Words) (k : Compact s w) where
   page-again y l =
       filled_at control K ps y (omega (arith, pages-count s w.tables)) ∙ go (ℕ_discrete (owner_in s w y) control)
     where
-      go : Dec (owner_in s w y ≡ control) → cond (eqb (nth_page ps y).owner control) (filled control (K - 16 * own_below control ps y)) (nth_page ps y)
-          ≡ nth_page ps y
+      go : Dec (owner_in s w y ≡ control) → cond (eqb (nth_page ps y).owner control) (filled control (K - 16 * own_below control ps y)) (nth_page ps y) ≡ nth_page ps y
       go (no n) =
-          ap (λ (b : Bool). cond b (filled control (K - 16 * own_below control ps y)) (nth_page ps y))
-          (ne_eqb (nth_page ps y).owner control (λ z. n (sym (owner-there y l) ∙ z)))
+          ap (λ (b : Bool). cond b (filled control (K - 16 * own_below control ps y)) (nth_page ps y)) (ne_eqb (nth_page ps y).owner control (λ z. n (sym (owner-there y l) ∙ z)))
       go (yes e) =
           let u = used-left y l e in
           let some : K - 16 * own_below control ps y ≡ 0 → ⊥ = λ z. omega (arith, u, (k.whole.pages y l).filled.taken (omega arith)) in

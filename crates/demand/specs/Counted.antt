@@ -12,8 +12,8 @@ use Rattle.rules.specs.Rules.{counted, Leaves}
 use Rattle.layout.specs.Words.{Words, sizes_in, depth_in, made_in, freed_in, counters_in, graph_of}
 use Rattle.promises.specs.Whole.{live_of}
 use Rattle.promises.specs.Slices.{Slices, WholeSlices}
-use Rattle.promises.specs.Promises.{Obeying, none, more, commands_in, answers_in, Ran}
-use Rattle.figures.specs.declared.Row.{Row}
+use Rattle.promises.specs.Promises.{Chain, none, more, commands_in, answers_in, Ran}
+use Rattle.report.specs.declared.Row.{Row}
 use Rattle.report.specs.declared.Reported.{Reported}
 use Rattle.report.specs.Report.{Told}
 use Rattle.report.specs.Told.{Reports}
@@ -52,7 +52,7 @@ unfoldable pub freed_one : Sizes → Words → Command → Answer → ℕ
 freed_one s w m a = cond (eqb a.number 0) (freed_on s w m.thread (meaning_of m).effect) 0
 
 -- through the commands of a block, each on the words that the last one left
-unfoldable pub freed_through : (s : Sizes) {w w' : Words} {ms : List Command} {as' : List Answer} → Obeying s w ms as' w' → ℕ
+unfoldable pub freed_through : (s : Sizes) {w w' : Words} {ms : List Command} {as' : List Answer} → Chain s w ms as' w' → ℕ
 freed_through s none = 0
 freed_through s (more {w = w} {m = m} {a = a} did rest) = freed_one s w m a + freed_through s rest
 
@@ -76,5 +76,4 @@ pub record Counted (s : Sizes) {l l' : Slices} {bs : List Block} (runs : Runs l 
   pub live : Leaves (counters_in s l'.words) (live_of s l'.words.tables)
   -- no report is refused for the state of the slices, and one that is not refused says the same
   pub whole : WholeSlices l'
-  pub report : (lent : List Row) (r : Reported) (left : List Row) → Told l' lent r left → r.number ≡ 0
-      → Reports (counted (objects_made bs)) (counted (objects_freed runs)) r left
+  pub report : (lent : List Row) (r : Reported) (left : List Row) → Told l' lent r left → r.number ≡ 0 → Reports (counted (objects_made bs)) (counted (objects_freed runs)) r left

@@ -27,7 +27,7 @@ use Rattle.promises.specs.Whole.{WholeFor}
 use Rattle.chains.specs.Chains.{ChainsWhole}
 use Rattle.promises.specs.Slices.{Slices}
 use Rattle.promises.specs.StandsFor.{StandsFor}
-use Rattle.promises.specs.Promises.{Became, Did, Obeying, none, more, commands_in, answers_in, Ran, Prepared}
+use Rattle.promises.specs.Promises.{Became, Did, Chain, none, more, commands_in, answers_in, Ran, Prepared}
 use Rattle.promises.specs.Reading.{depth-at, words-closed}
 use Rattle.promises.specs.Agreed.{heap-stands, whole_words}
 use Rattle.promises.specs.Preparing.{prepared-is}
@@ -76,8 +76,7 @@ code-three (suc (suc (suc (suc (suc (suc (suc (suc zero)))))))) t a b c = refl
 code-three (suc (suc (suc (suc (suc (suc (suc (suc (suc zero))))))))) t a b c = refl
 code-three (suc (suc (suc (suc (suc (suc (suc (suc (suc (suc zero)))))))))) t a b c = refl
 code-three (suc (suc (suc (suc (suc (suc (suc (suc (suc (suc (suc zero))))))))))) t a b c = refl
-code-three (suc (suc (suc (suc (suc (suc (suc (suc (suc (suc (suc (suc n)))))))))))) t a b c =
-    not_three (suc (suc (suc (suc (suc (suc (suc (suc n))))))))
+code-three (suc (suc (suc (suc (suc (suc (suc (suc (suc (suc (suc (suc n)))))))))))) t a b c = not_three (suc (suc (suc (suc (suc (suc (suc (suc n))))))))
 
 module _ (s : Sizes) (w : Words) (n f : ℕ) (said : CountersSay s w n f) (t : ℕ) where
   made_after : (e : Effect) → (counters_after s (heap_of s w) t e).made ≡ counted (n + makes_one e)
@@ -97,8 +96,7 @@ module _ (s : Sizes) (w : Words) (n f : ℕ) (said : CountersSay s w n f) (t : �
       omega (
         arith,
         ap (λ (d : ℕ). freed_by s (graph (heap_of s w)) (region_at s t d)) (depth-at s w t th),
-        same-freed s (λ c. c) (graph (heap_of s w)) (graph_of s w) st.sound.closed (words-closed s w said.whole) st.partners r
-            (region-pos s t (depth_in w t)),
+        same-freed s (λ c. c) (graph (heap_of s w)) (graph_of s w) st.sound.closed (words-closed s w said.whole) st.partners r (region-pos s t (depth_in w t)),
       )
 
   freed-collected : freed_by s (graph (heap_of s w)) control ≡ freed_on s w t collects
@@ -134,11 +132,9 @@ module _ (m : Command) (a : Answer) where
   unfolding freed_one
   freed-refused s w z = let e : eqb a.number 0 ≡ false = ne_eqb a.number 0 z in rw e
 
-did-counts : (s : Sizes) {w w' : Words} {m : Command} {a : Answer} → Did s w m w' a → (n f : ℕ) → CountersSay s w n f
-    → CountersSay s w' (n + made_one m a) (f + freed_one s w m a)
+did-counts : (s : Sizes) {w w' : Words} {m : Command} {a : Answer} → Did s w m w' a → (n f : ℕ) → CountersSay s w n f → CountersSay s w' (n + made_one m a) (f + freed_one s w m a)
 unfolding ru.step ru.answered ru.question ru.after
-did-counts s {w} {w'} {m} {a} d n f said = go (ru.question s h m) refl (ap (λ (x : Answer). x.number) (d.answer h (λ c. c) st))
-    (d.next h (λ c. c) st)
+did-counts s {w} {w'} {m} {a} d n f said = go (ru.question s h m) refl (ap (λ (x : Answer). x.number) (d.answer h (λ c. c) st)) (d.next h (λ c. c) st)
   where
     h : Regioned
     h = heap_of s w
@@ -150,14 +146,11 @@ did-counts s {w} {w'} {m} {a} d n f said = go (ru.question s h m) refl (ap (λ (
         → CountersSay s w' (n + made_one m a) (f + freed_one s w m a)
     go zero e z b =
         let t = m.thread in
-        let th : t < s.threads = thread-ok (limits s) h.heap m
-        (first-zero (nf.question (limits s) h.heap m) (ru.room s h m (ru.after s h m)) e).0 in
+        let th : t < s.threads = thread-ok (limits s) h.heap m (first-zero (nf.question (limits s) h.heap m) (ru.room s h m (ru.after s h m)) e).0 in
         record {
           whole = b.stands.whole;
-          made = sym (ap (λ (k : Counters). k.made) b.stands.counters) ∙ made_after s w n f said t (meaning_of m).effect
-              ∙ ap (λ (x : ℕ). counted (n + x)) (sym (made-done m a z));
-          freed = sym (ap (λ (k : Counters). k.freed) b.stands.counters) ∙ freed-after s w n f said t th (meaning_of m).effect
-              ∙ ap (λ (x : ℕ). counted (f + x)) (sym (freed-done m a s w z));
+          made = sym (ap (λ (k : Counters). k.made) b.stands.counters) ∙ made_after s w n f said t (meaning_of m).effect ∙ ap (λ (x : ℕ). counted (n + x)) (sym (made-done m a z));
+          freed = sym (ap (λ (k : Counters). k.freed) b.stands.counters) ∙ freed-after s w n f said t th (meaning_of m).effect ∙ ap (λ (x : ℕ). counted (f + x)) (sym (freed-done m a s w z));
         }
     go (suc q) e z b =
         let no : a.number ≡ 0 → ⊥ = λ (y : a.number ≡ 0). omega arith in
@@ -181,20 +174,18 @@ counts-joined s w n i j f g k c =
 counts_same : (s : Sizes) (w : Words) (n f : ℕ) → CountersSay s w n f → CountersSay s w (n + 0) (f + 0)
 counts_same s w n f c = record { whole = c.whole; made = counted_none (made_in s w) n c.made; freed = counted_none (freed_in s w) f c.freed }
 
-obeying-counts : (s : Sizes) {w w' : Words} {ms : List Command} {as' : List Answer} (c : Obeying s w ms as' w') (n f : ℕ) → CountersSay s w n f
-    → CountersSay s w' (n + made_by ms as') (f + freed_through s c)
+chain-counts : (s : Sizes) {w w' : Words} {ms : List Command} {as' : List Answer} (c : Chain s w ms as' w') (n f : ℕ) → CountersSay s w n f → CountersSay s w' (n + made_by ms as') (f + freed_through s c)
 unfolding made_by freed_through
-obeying-counts s {w} none n f said = counts_same s w n f said
-obeying-counts s {w} {w'} (more {m = m} {a = a} {ms = ms} {as' = as'} did rest) n f said =
+chain-counts s {w} none n f said = counts_same s w n f said
+chain-counts s {w} {w'} (more {m = m} {a = a} {ms = ms} {as' = as'} did rest) n f said =
     counts-joined s w' n (made_one m a) (made_by ms as') f (freed_one s w m a) (freed_through s rest)
-    (obeying-counts s rest (n + made_one m a) (f + freed_one s w m a) (did-counts s did n f said))
+    (chain-counts s rest (n + made_one m a) (f + freed_one s w m a) (did-counts s did n f said))
 
 -- what a block made
 abbrev made_run : Block → ℕ
 made_run b = cond (eqb b.number 0) (made_by (commands_in b.block) (answers_in b.block b.answers)) 0
 
-run-counts : (s : Sizes) {l : Slices} (b : Block) (ran : Ran l b.block b.lent b.number b.left b.answers) (n f : ℕ)
-    → CountersSay s l.words n f
+run-counts : (s : Sizes) {l : Slices} (b : Block) (ran : Ran l b.block b.lent b.number b.left b.answers) (n f : ℕ) → CountersSay s l.words n f
     → CountersSay s b.left.words (n + made_run b) (f + freed_run b ran (ℕ_discrete b.number 0))
 unfolding freed_run
 run-counts s {l} b ran n f said = go (ℕ_discrete b.number 0)
@@ -204,15 +195,13 @@ run-counts s {l} b ran n f said = go (ℕ_discrete b.number 0)
         let z : eqb b.number 0 ≡ true = eq-eqb b.number 0 e in
         let k : sizes_in l.words ≡ s = said.whole.sized.sizes in
         rw z
-        (subst (λ (x : Sizes). CountersSay x b.left.words (n + made_by (commands_in b.block) (answers_in b.block b.answers))
-        (f + freed_through (sizes_in l.words) (ran.obeyed e))) k
-        (obeying-counts (sizes_in l.words) (ran.obeyed e) n f (subst (λ (x : Sizes). CountersSay x l.words n f) (sym k) said)))
+        (subst (λ (x : Sizes). CountersSay x b.left.words (n + made_by (commands_in b.block) (answers_in b.block b.answers)) (f + freed_through (sizes_in l.words) (ran.obeyed e))) k
+        (chain-counts (sizes_in l.words) (ran.obeyed e) n f (subst (λ (x : Sizes). CountersSay x l.words n f) (sym k) said)))
     go (no y) =
         let z : eqb b.number 0 ≡ false = ne_eqb b.number 0 y in
         rw z (counts_same s b.left.words n f (subst (λ (x : Slices). CountersSay s x.words n f) (sym (ran.refused y).0) said))
 
-runs-counts : (s : Sizes) {l l' : Slices} {bs : List Block} (runs : Runs l bs l') (n f : ℕ) → CountersSay s l.words n f
-    → CountersSay s l'.words (n + objects_made bs) (f + objects_freed runs)
+runs-counts : (s : Sizes) {l l' : Slices} {bs : List Block} (runs : Runs l bs l') (n f : ℕ) → CountersSay s l.words n f → CountersSay s l'.words (n + objects_made bs) (f + objects_freed runs)
 unfolding objects_made objects_freed
 runs-counts s {l} stop n f said = counts_same s l.words n f said
 runs-counts s {l} {l'} (next {b = b} {bs = bs} ran rest) n f said =

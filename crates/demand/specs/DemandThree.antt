@@ -13,7 +13,7 @@ use Rattle.rules.specs.Rules.{lacking}
 use Rattle.layout.specs.Cells.{field_of, page_of}
 use Rattle.layout.specs.Words.{Words, BeginsIn, sizes_in, depth_in, var_in, owner_in, ref_count, num_count, refs_in, nums_in, vars_in, home_in, graph_of}
 use Rattle.promises.specs.Slices.{Slices}
-use Rattle.promises.specs.Promises.{Obeying, none, more, commands_in, answers_in, size, Ran}
+use Rattle.promises.specs.Promises.{Chain, none, more, commands_in, answers_in, size, Ran}
 
 -- ---- a list of runs
 
@@ -28,8 +28,7 @@ pub record Block : Type 0 where
 -- each starts from the slices that the last one left
 pub data Runs : Slices → List Block → Slices → Type 0 where
   stop : {l : Slices} → Runs l [] l
-  next : {l l' : Slices} {b : Block} {bs : List Block} → Ran l b.block b.lent b.number b.left b.answers → Runs b.left bs l'
-      → Runs l (b ∷ bs) l'
+  next : {l l' : Slices} {b : Block} {bs : List Block} → Ran l b.block b.lent b.number b.left b.answers → Runs b.left bs l' → Runs l (b ∷ bs) l'
 
 -- questions 4 and 5
 abbrev pub refusal : Block → ℕ
@@ -57,20 +56,19 @@ replies (b ∷ bs) = cond (eqb b.number 0) (keep (λ a. not (lacking a)) (answer
 
 -- ---- pairs
 
--- A pairing is a list that lies beside the never-freeing heap's objects: 0 for one that has lost its partner, else the reference to its partner,
--- 1 + cell number.
+-- A pairing is a list that lies beside the never-freeing heap's objects: 0 for one that has lost its partner, else the reference to its partner, 1 + cell number.
 
 -- a reference v there and a reference u here are both null, or lead to partners
-pub data Corresponds (pairs : List ℕ) (v u : ℕ) : Type 0 where
-  null : v ≡ 0 → u ≡ 0 → Corresponds pairs v u
-  partners : (x c : ℕ) → v ≡ suc x → u ≡ suc c → get_or pairs x 0 ≡ suc c → Corresponds pairs v u
+pub data Leads (pairs : List ℕ) (v u : ℕ) : Type 0 where
+  null : v ≡ 0 → u ≡ 0 → Leads pairs v u
+  partners : (x c : ℕ) → v ≡ suc x → u ≡ suc c → get_or pairs x 0 ≡ suc c → Leads pairs v u
 
 -- object o there and the object in cell c have the same r, d and numbers, and their references lead to partners
 pub record Alike (w : Words) (pairs : List ℕ) (o : Object) (c : ℕ) : Type 0 where
   pub r : length o.refs ≡ ref_count w c
   pub d : length o.nums ≡ num_count w c
   pub numbers : (i : ℕ) → i < num_count w c → get_or o.nums i 0 ≡ field_of w.cells c (ref_count w c + i)
-  pub references : (i : ℕ) → i < ref_count w c → Corresponds pairs (get_or o.refs i 0) (field_of w.cells c i)
+  pub references : (i : ℕ) → i < ref_count w c → Leads pairs (get_or o.refs i 0) (field_of w.cells c i)
 
 pub record Paired (s : Sizes) (w : Words) (n : NeverFreeing) (pairs : List ℕ) : Type 0 where
   pub beside : length pairs ≡ length n.objects
@@ -78,7 +76,7 @@ pub record Paired (s : Sizes) (w : Words) (n : NeverFreeing) (pairs : List ℕ) 
   pub each : (c : ℕ) → BeginsIn s w c → (x : ℕ) × (get_or pairs x 0 ≡ suc c)
   pub one : (x y c : ℕ) → get_or pairs x 0 ≡ suc c → get_or pairs y 0 ≡ suc c → x ≡ y
   pub alike : (x c : ℕ) → get_or pairs x 0 ≡ suc c → Alike w pairs (get_or n.objects x no_object) c
-  pub variables : (t a : ℕ) → t < s.threads → a < s.variables → Corresponds pairs (var_of (limits s) n t a) (var_in s w t a)
+  pub variables : (t a : ℕ) → t < s.threads → a < s.variables → Leads pairs (var_of (limits s) n t a) (var_in s w t a)
   pub depths : (t : ℕ) → t < s.threads → depth_of n t ≡ depth_in w t
 
 -- ---- how pairs come and go
@@ -98,8 +96,8 @@ pub record Moves (s : Sizes) (w : Words) (r : ℕ) (w' : Words) (move : ℕ → 
   pub nums : (c c' : ℕ) → BeginsIn s w c → move (suc c) ≡ suc c' → nums_in w' c' ≡ nums_in w c
   pub vars : vars_in s w' ≡ map move (vars_in s w)
 
--- the pairs before and after what a command of thread t does, which made w' of w: the object now in the variable of a new object is paired with
--- the one just appended, one that is moved takes its pair along, one that is freed loses it; nothing else changes pairs
+-- the pairs before and after what a command of thread t does, which made w' of w: the object now in the variable of a new object is paired with the one
+-- just appended, one that is moved takes its pair along, one that is freed loses it; nothing else changes pairs
 abbrev pub PairsAfter : Sizes → Words → Words → ℕ → Effect → List ℕ → List ℕ → Type 0
 PairsAfter s w w' t opens pairs pairs' = pairs' ≡ pairs
 PairsAfter s w w' t ends pairs pairs' = (move : ℕ → ℕ) × Moves s w (region_at s t (depth_in w t)) w' move × (pairs' ≡ map move pairs)
@@ -113,17 +111,15 @@ pub record Changes (s : Sizes) (w : Words) (m : Command) (a : Answer) (w' : Word
   pub refused : (a.number ≡ 0 → ⊥) → pairs' ≡ pairs
 
 -- through the commands of a block, from the pairs `pairs` to `pairs'`
-abbrev pub Followed : (s : Sizes) {w w' : Words} {ms : List Command} {as' : List Answer} → Obeying s w ms as' w' → List ℕ → List ℕ → Type 0
+abbrev pub Followed : (s : Sizes) {w w' : Words} {ms : List Command} {as' : List Answer} → Chain s w ms as' w' → List ℕ → List ℕ → Type 0
 Followed s none pairs pairs' = pairs' ≡ pairs
-Followed s (more {w = w} {w₁ = w₁} {m = m} {a = a} did rest) pairs pairs' =
-    (pairs₁ : List ℕ) × Changes s w m a w₁ pairs pairs₁ × Followed s rest pairs₁ pairs'
+Followed s (more {w = w} {w₁ = w₁} {m = m} {a = a} did rest) pairs pairs' = (pairs₁ : List ℕ) × Changes s w m a w₁ pairs pairs₁ × Followed s rest pairs₁ pairs'
 
 -- and through a list of blocks, of which a refused one changes none
 abbrev pub Traced : {l l' : Slices} {bs : List Block} → Runs l bs l' → List ℕ → List ℕ → Type 0
 Traced stop pairs pairs' = pairs' ≡ pairs
 Traced (next {l = l} {b = b} ran rest) pairs pairs' =
-    (pairs₁ : List ℕ) × ((e : b.number ≡ 0) → Followed (sizes_in l.words) (ran.obeyed e) pairs pairs₁) × ((b.number ≡ 0 → ⊥) → pairs₁ ≡ pairs)
-    × Traced rest pairs₁ pairs'
+    (pairs₁ : List ℕ) × ((e : b.number ≡ 0) → Followed (sizes_in l.words) (ran.obeyed e) pairs pairs₁) × ((b.number ≡ 0 → ⊥) → pairs₁ ≡ pairs) × Traced rest pairs₁ pairs'
 
 -- ---- the claim, of the slices l that prepare wrote, the blocks bs, and the slices l' at the end
 

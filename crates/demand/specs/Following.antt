@@ -17,8 +17,7 @@ use Rattle.rules.specs.declared.Answer.{Answer}
 use Rattle.rules.specs.Terms.{Limits, limits}
 use Rattle.lists.specs.Members.{In, map_same, in_place}
 use Rattle.rules.specs.NeverFreeing as nf
-use Rattle.rules.specs.NeverFreeing.{Object, no_object, depth_of, place, Assignment, nothing, variable, reference, number, Effect, opens, ends}
-use Rattle.rules.specs.NeverFreeing.{collects, makes, assigns, meaning_of}
+use Rattle.rules.specs.NeverFreeing.{Object, no_object, depth_of, place, Assignment, nothing, variable, reference, number, Effect, opens, ends, collects, makes, assigns, meaning_of}
 use Rattle.rules.specs.Graph.{Graph, target, ended}
 use Rattle.rules.specs.Regions.{control, region_at}
 use Rattle.laws.specs.Asked.{first-zero, thread-ok, MadeLow, made_ok}
@@ -48,22 +47,18 @@ module _ (h h₁ : Regioned) (cell_of cell : ℕ → ℕ) (stays : (x : ℕ) →
       go (yes z) = pair-freed h₁ cell x (e ∙ z) ∙ sym (pair-freed h cell_of x z)
       go (no a) = pair-there h₁ cell x (λ z. a (sym e ∙ z)) ∙ ap suc (stays x a e) ∙ sym (pair-there h cell_of x a)
 
-  pairs-kept : length h₁.heap.objects ≡ length h.heap.objects → ((x : ℕ) → (graph h₁).home x ≡ (graph h).home x)
-      → pairs_of h₁ cell ≡ pairs_of h cell_of
+  pairs-kept : length h₁.heap.objects ≡ length h.heap.objects → ((x : ℕ) → (graph h₁).home x ≡ (graph h).home x) → pairs_of h₁ cell ≡ pairs_of h cell_of
   unfolding pairs_of
-  pairs-kept l e = ap (listed (pair_of h₁ cell)) l ∙ listed_same (pair_of h₁ cell) (pair_of h cell_of) (length h.heap.objects)
-      (λ x k. pair-kept x (e x))
+  pairs-kept l e = ap (listed (pair_of h₁ cell)) l ∙ listed_same (pair_of h₁ cell) (pair_of h cell_of) (length h.heap.objects) (λ x k. pair-kept x (e x))
 
   -- a new object
-  pairs_made : length h.homes ≡ length h.heap.objects → (q : ℕ) → h₁.homes ≡ h.homes ++ q ∷ []
-      → length h₁.heap.objects ≡ suc (length h.heap.objects)
+  pairs_made : length h.homes ≡ length h.heap.objects → (q : ℕ) → h₁.homes ≡ h.homes ++ q ∷ [] → length h₁.heap.objects ≡ suc (length h.heap.objects)
       → pairs_of h₁ cell ≡ pairs_of h cell_of ++ pair_of h₁ cell (length h.heap.objects) ∷ []
   unfolding pairs_of listed
   pairs_made aligned q hs l =
       ap (listed (pair_of h₁ cell)) l
       ∙ ap (λ (k : List ℕ). k ++ pair_of h₁ cell (length h.heap.objects) ∷ [])
-      (listed_same (pair_of h₁ cell) (pair_of h cell_of) (length h.heap.objects)
-      (λ x k. pair-kept x (ap (λ (z : List ℕ). get_or z x 0) hs ∙ get_or-append h.homes (q ∷ []) 0 x (omega arith))))
+      (listed_same (pair_of h₁ cell) (pair_of h cell_of) (length h.heap.objects) (λ x k. pair-kept x (ap (λ (z : List ℕ). get_or z x 0) hs ∙ get_or-append h.homes (q ∷ []) 0 x (omega arith))))
 
 -- ---- an end, or a collection
 
@@ -167,8 +162,7 @@ module _ (s : Sizes) (w w₁ : Words) (h h₁ : Regioned) (cell_of cell : ℕ �
   unfolding pairs_of move
   pairs-moved =
       ap (λ (os : List Object). listed (pair_of h₁ cell) (length os)) objects
-      ∙ sym (map-listed move (pair_of h cell_of) (length h.heap.objects)
-      ∙ listed_same (λ x. move (pair_of h cell_of x)) (pair_of h₁ cell) (length h.heap.objects) (λ x l. go x (ℕ_discrete ((graph h).home x) 0)))
+      ∙ sym (map-listed move (pair_of h cell_of) (length h.heap.objects) ∙ listed_same (λ x. move (pair_of h cell_of x)) (pair_of h₁ cell) (length h.heap.objects) (λ x l. go x (ℕ_discrete ((graph h).home x) 0)))
     where
       go : (x : ℕ) → Dec ((graph h).home x ≡ 0) → move (pair_of h cell_of x) ≡ pair_of h₁ cell x
       go x (yes z) = ap move (pair-freed h cell_of x z) ∙ sym (pair-freed h₁ cell x (homes x ∙ home-stayed s (graph h) r x (λ e. omega arith) ∙ z))
@@ -196,12 +190,10 @@ module _ (s : Sizes) (w w₁ : Words) (h : Regioned) (cell_of : ℕ → ℕ) (st
       let n = length h.heap.objects in
       let p = place (limits s) t a in
       let home : (graph h₁).home n ≡ innermost s h t = get_or_at h.homes (innermost s h t) [] 0 n st.sound.aligned in
-      let long : length h.heap.vars ≡ var_count s = sym (length-map h.heap.vars (renamed cell_of))
-      ∙ ap (λ (l : List ℕ). length l) (sym st.partners.vars) ∙ length-vars s w st.whole in
+      let long : length h.heap.vars ≡ var_count s = sym (length-map h.heap.vars (renamed cell_of)) ∙ ap (λ (l : List ℕ). length l) (sym st.partners.vars) ∙ length-vars s w st.whole in
       let at : get_or h₁.heap.vars p 0 ≡ suc n = get_or-set_same h.heap.vars p (n + 1) 0 (omega (arith, flat-low th va)) ∙ add-one n in
       pair-there h₁ d.cell n (λ y. omega (arith, region-pos s t (depth_of h.heap t)))
-      ∙ sym (sym (var-at s w₁ t a th va) ∙ ap (λ (l : List ℕ). get_or l p 0) d.stands.partners.vars
-      ∙ get_or-map (renamed d.cell) h₁.heap.vars p 0 ∙ ap (renamed d.cell) at)
+      ∙ sym (sym (var-at s w₁ t a th va) ∙ ap (λ (l : List ℕ). get_or l p 0) d.stands.partners.vars ∙ get_or-map (renamed d.cell) h₁.heap.vars p 0 ∙ ap (renamed d.cell) at)
 
   -- where nothing slides, what keeps its home keeps its cell
   still : (m : Command) (e : Effect) → (meaning_of m).effect ≡ e → {h₁ : Regioned} (b : Became s h cell_of m w₁ h₁) → ((q : ℕ) → Slides e q → ⊥)
@@ -209,10 +201,8 @@ module _ (s : Sizes) (w w₁ : Words) (h : Regioned) (cell_of : ℕ → ℕ) (st
   still m e me b none x a z = b.stays x a z (λ y. none ((graph h).home x) (subst (λ (f : Effect). Slides f ((graph h).home x)) me y))
 
   moved-pairs : (m : Command) (e : Effect) (b : Became s h cell_of m w₁ (after_effect s h t e)) (r : ℕ)
-      → ((x : ℕ) → Alive (graph h) x → (graph (after_effect s h t e)).home x ≡ (graph h).home x → ((graph h).home x ≡ r → ⊥) → b.cell x ≡ cell_of x)
-      → 0 < r
-      → ((x : ℕ) → (graph (after_effect s h t e)).home x ≡ (ended s (graph h) r).home x) → (after_effect s h t e).heap.objects ≡ h.heap.objects
-      → (after_effect s h t e).heap.vars ≡ h.heap.vars
+      → ((x : ℕ) → Alive (graph h) x → (graph (after_effect s h t e)).home x ≡ (graph h).home x → ((graph h).home x ≡ r → ⊥) → b.cell x ≡ cell_of x) → 0 < r
+      → ((x : ℕ) → (graph (after_effect s h t e)).home x ≡ (ended s (graph h) r).home x) → (after_effect s h t e).heap.objects ≡ h.heap.objects → (after_effect s h t e).heap.vars ≡ h.heap.vars
       → (move' : ℕ → ℕ) × Moves s w r w₁ move' × (pairs_of (after_effect s h t e) b.cell ≡ map move' (pairs_of h cell_of))
   moved-pairs m e b r stays pos homes objects vars = (
     move s w w₁ h (after_effect s h t e) cell_of b.cell st b.stands r stays pos homes objects vars,
@@ -220,8 +210,7 @@ module _ (s : Sizes) (w w₁ : Words) (h : Regioned) (cell_of : ℕ → ℕ) (st
     pairs-moved s w w₁ h (after_effect s h t e) cell_of b.cell st b.stands r stays pos homes objects vars,
   )
 
-  effect-pairs : (m : Command) (e : Effect) → (meaning_of m).effect ≡ e → MadeLow (limits s) e → (b : Became s h cell_of m w₁ (after_effect s h t e))
-      → PairsAfter s w w₁ t e (pairs_of h cell_of) (pairs_of (after_effect s h t e) b.cell)
+  effect-pairs : (m : Command) (e : Effect) → (meaning_of m).effect ≡ e → MadeLow (limits s) e → (b : Became s h cell_of m w₁ (after_effect s h t e)) → PairsAfter s w w₁ t e (pairs_of h cell_of) (pairs_of (after_effect s h t e) b.cell)
   unfolding nf.effect ru.homes_after
   effect-pairs m opens me va b = pairs-kept h _ cell_of b.cell (still m opens me b (λ q z. z)) refl (λ x. refl)
   effect-pairs m ends me va b = moved-pairs m ends b r (λ x a e n. still m ends me b (λ q z. z) x a e) pos homes refl refl
@@ -240,29 +229,21 @@ module _ (s : Sizes) (w w₁ : Words) (h : Regioned) (cell_of : ℕ → ℕ) (st
       moved-pairs m collects b control (λ x a e n. b.stays x a e (λ z. n (subst (λ (y : Effect). Slides y ((graph h).home x)) me z))) control-pos
       (λ x. ap (λ (g : Graph). g.home x) (graph-collected s h)) refl refl
   effect-pairs m (makes a b c) me va d =
-      pairs_made h _ cell_of d.cell (still m (makes a b c) me d (λ q z. z)) st.sound.aligned (innermost s h t) refl
-      (length-append h.heap.objects _ ∙ add-one _)
+      pairs_made h _ cell_of d.cell (still m (makes a b c) me d (λ q z. z)) st.sound.aligned (innermost s h t) refl (length-append h.heap.objects _ ∙ add-one _)
       ∙ ap (λ (v : ℕ). pairs_of h cell_of ++ v ∷ []) (new-pair m a b c va d)
-  effect-pairs m (assigns x) me va b = pairs-kept h _ cell_of b.cell (still m (assigns x) me b (λ q z. z))
-      (assigned-count (limits s) h.heap t x) (λ x. refl)
+  effect-pairs m (assigns x) me va b = pairs-kept h _ cell_of b.cell (still m (assigns x) me b (λ q z. z)) (assigned-count (limits s) h.heap t x) (λ x. refl)
 
-pub did-changes : (s : Sizes) {w w' : Words} {m : Command} {a : Answer} (d : Did s w m w' a) (h : Regioned) (cell_of : ℕ → ℕ)
-    (st : StandsFor s w h cell_of)
+pub did-changes : (s : Sizes) {w w' : Words} {m : Command} {a : Answer} (d : Did s w m w' a) (h : Regioned) (cell_of : ℕ → ℕ) (st : StandsFor s w h cell_of)
     → Changes s w m a w' (pairs_of h cell_of) (pairs_of (ru.step s h m).next (d.next h cell_of st).cell)
 unfolding ru.step ru.answered ru.question ru.after
-did-changes s {w} {w'} {m} {a} d h cell_of st = go (ru.question s h m) refl (ap (λ (x : Answer). x.number) (d.answer h cell_of st))
-    (d.next h cell_of st)
+did-changes s {w} {w'} {m} {a} d h cell_of st = go (ru.question s h m) refl (ap (λ (x : Answer). x.number) (d.answer h cell_of st)) (d.next h cell_of st)
   where
     go : (q : ℕ) → ru.question s h m ≡ q → a.number ≡ (ru.answered s h m q).answer.number → (b : Became s h cell_of m w' (ru.answered s h m q).next)
         → Changes s w m a w' (pairs_of h cell_of) (pairs_of (ru.answered s h m q).next b.cell)
     go zero e f b =
         let z = (first-zero (nf.question (limits s) h.heap m) (ru.room s h m (ru.after s h m)) e).0 in
         record {
-          done = λ y. effect-pairs s w w' h cell_of st m.thread (thread-ok (limits s) h.heap m z) m (meaning_of m).effect refl
-              (made_ok (limits s) h.heap m z) b;
+          done = λ y. effect-pairs s w w' h cell_of st m.thread (thread-ok (limits s) h.heap m z) m (meaning_of m).effect refl (made_ok (limits s) h.heap m z) b;
           refused = λ n. absurd (n f);
         }
-    go (suc q) e f b = record {
-      done = λ z. absurd (omega arith);
-      refused = λ n. pairs-kept h h cell_of b.cell (λ x l y. sym (b.stands.occupies.cells x l) ∙ st.occupies.cells x l) refl (λ x. refl);
-    }
+    go (suc q) e f b = record { done = λ z. absurd (omega arith); refused = λ n. pairs-kept h h cell_of b.cell (λ x l y. sym (b.stands.occupies.cells x l) ∙ st.occupies.cells x l) refl (λ x. refl) }

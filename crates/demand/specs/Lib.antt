@@ -11,5 +11,3 @@ pub mod CountedProof
 -- A second collection in a row changes nothing (02, W5): what a collection leaves is Compact (CollectedTwice), and so stays as it is.
 pub mod Compact
 pub mod CollectedTwice
--- No page goes back that is still led to (02, W5).
-pub mod LedTo

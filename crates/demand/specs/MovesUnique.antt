@@ -21,8 +21,7 @@ same_at f g (x ∷ l) v (inr i) q = same_at f g l v i (ap tail q)
     tail [] = []
     tail (y ∷ k) = k
 
-module _ (s : Sizes) (w w' : Words) (k : WholeFor s w) (k' : WholeFor s w') (r : ℕ) (pos : 0 < r) (f g : ℕ → ℕ) (mf : Moves s w r w' f)
-    (mg : Moves s w r w' g) where
+module _ (s : Sizes) (w w' : Words) (k : WholeFor s w) (k' : WholeFor s w') (r : ℕ) (pos : 0 < r) (f g : ℕ → ℕ) (mf : Moves s w r w' f) (mg : Moves s w r w' g) where
   -- the object of a reference that is not null lies in a region
   region-null : (u : ℕ) → ((c : ℕ) → u ≡ suc c → BeginsIn s w' c) → region_of s w' u ≡ 0 → u ≡ 0
   region-null zero h e = refl

@@ -20,7 +20,7 @@ use Rattle.layout.specs.Words.{Words, BeginsIn, head_in}
 use Rattle.lists.specs.Listed.{listed, length-listed, get_d-listed}
 use Rattle.promises.specs.StandsFor.{StandsFor}
 use Rattle.promises.specs.Agreed.{cell-used}
-use Rattle.demand.specs.DemandThree.{Corresponds, null, partners, Alike, Paired}
+use Rattle.demand.specs.DemandThree.{Leads, null, partners, Alike, Paired}
 use Rattle.promises.specs.Reading.{get_d-refs, get_d-fields, var-at, depth-at, used-owned, used-alive, length-refs, length_fields}
 
 -- the partner of object x, as a reference
@@ -55,7 +55,7 @@ module _ (s : Sizes) (w : Words) (h : Regioned) (cell_of : ℕ → ℕ) (st : St
       go true f = absurd (omega (arith, at, pair-freed h cell_of x (eqb-true ((graph h).home x) 0 f)))
       go false f = let a = eqb-false ((graph h).home x) 0 f in (a, suc_inj (sym (pair-there h cell_of x a) ∙ at))
 
-  leads : (v u : ℕ) → ((y : ℕ) → v ≡ suc y → Alive (graph h) y) → u ≡ renamed cell_of v → Corresponds (pairs_of h cell_of) v u
+  leads : (v u : ℕ) → ((y : ℕ) → v ≡ suc y → Alive (graph h) y) → u ≡ renamed cell_of v → Leads (pairs_of h cell_of) v u
   leads zero u k e = null refl e
   leads (suc y) u k e = partners y (cell_of y) refl e (pair-alive y (k y refl))
 
@@ -66,8 +66,7 @@ module _ (s : Sizes) (w : Words) (h : Regioned) (cell_of : ℕ → ℕ) (st : St
       record {
         r = sym (length-map ((graph h).refs x) (renamed cell_of)) ∙ ap (λ (l : List ℕ). length l) (sym f) ∙ length-refs s w st.whole (cell_of x) u;
         d = ap (λ (l : List ℕ). length l) (st.nums x a) ∙ length_fields s w st.whole Number (cell_of x) u;
-        numbers = λ i l. ap (λ (k : List ℕ). get_or k i 0) (st.nums x a) ∙ get_d-fields Number w (cell_of x) i l
-            ∙ ap (λ (n : ℕ). field_of w.cells (cell_of x) (n + i)) (first-number (head_in w (cell_of x)));
+        numbers = λ i l. ap (λ (k : List ℕ). get_or k i 0) (st.nums x a) ∙ get_d-fields Number w (cell_of x) i l ∙ ap (λ (n : ℕ). field_of w.cells (cell_of x) (n + i)) (first-number (head_in w (cell_of x)));
         references = λ i l. leads (get_or ((graph h).refs x) i 0) _ (λ y e. st.sound.closed.refs x y a (get_d-in ((graph h).refs x) i y e))
             (sym (get_d-refs w (cell_of x) i l) ∙ ap (λ (k : List ℕ). get_or k i 0) f ∙ get_or-map (renamed cell_of) ((graph h).refs x) i 0);
       }
@@ -83,7 +82,6 @@ module _ (s : Sizes) (w : Words) (h : Regioned) (cell_of : ℕ → ℕ) (st : St
         one = λ x y c e f. let b = pair-back x c e in let d = pair-back y c f in st.partners.apart x y b.0 d.0 (b.1 ∙ sym d.1);
         alike = λ x c e. let b = pair-back x c e in subst (Alike w (pairs_of h cell_of) (get_or h.heap.objects x no_object)) b.1 (alike x b.0);
         variables = λ t a l m. leads (get_or h.heap.vars (t * s.variables + a) 0) _ (λ y e. st.sound.closed.vars (t * s.variables + a) y e)
-            (sym (var-at s w t a l m) ∙ ap (λ (k : List ℕ). get_or k (t * s.variables + a) 0) st.partners.vars
-            ∙ get_or-map (renamed cell_of) h.heap.vars (t * s.variables + a) 0);
+            (sym (var-at s w t a l m) ∙ ap (λ (k : List ℕ). get_or k (t * s.variables + a) 0) st.partners.vars ∙ get_or-map (renamed cell_of) h.heap.vars (t * s.variables + a) 0);
         depths = λ t l. ap (λ (k : List ℕ). get_or k t 0) st.depths ∙ depth-at s w t l;
       }

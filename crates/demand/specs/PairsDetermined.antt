@@ -15,10 +15,10 @@ use Rattle.laws.specs.RulesLaws.{region-pos, control-pos}
 use Rattle.layout.specs.Words.{Words, BeginsIn, sizes_in, depth_in, var_in, heap_of}
 use Rattle.promises.specs.Whole.{WholeFor}
 use Rattle.promises.specs.Slices.{Slices}
-use Rattle.promises.specs.Promises.{Obeying, none, more, Did, Ran}
+use Rattle.promises.specs.Promises.{Chain, none, more, Did, Ran}
 use Rattle.promises.specs.Reading.{used-alive}
 use Rattle.promises.specs.Agreed.{heap-stands, back}
-use Rattle.promises.specs.Obeying.{asked-whole, did-whole}
+use Rattle.promises.specs.Chained.{asked-whole, did-whole}
 use Rattle.demand.specs.DemandThree.{Block, Runs, stop, next, Moves, PairsAfter, Changes, Followed, Traced}
 use Rattle.demand.specs.Pairing.{pairs_of, pair-alive, stands-paired}
 use Rattle.demand.specs.MovesUnique.{moves-unique}
@@ -44,8 +44,7 @@ module _ {s : Sizes} {w w₁ : Words} {m : Command} {a : Answer} (k : WholeFor s
 
   after : (x c : ℕ) → get_or pairs₁ x 0 ≡ suc c → BeginsIn s w₁ c
   unfolding pairs₁
-  after x c e = ((stands-paired s w₁ (ru.step s (heap_of s w) m).next (did.next (heap_of s w) (λ c. c) (heap-stands s w k)).cell
-      (did.next (heap_of s w) (λ c. c) (heap-stands s w k)).stands).used x c e).0
+  after x c e = ((stands-paired s w₁ (ru.step s (heap_of s w) m).next (did.next (heap_of s w) (λ c. c) (heap-stands s w k)).cell (did.next (heap_of s w) (λ c. c) (heap-stands s w k)).stands).used x c e).0
 
   change : Changes s w m a w₁ pairs pairs₁
   unfolding pairs pairs₁
@@ -64,21 +63,18 @@ module _ {s : Sizes} {w w₁ : Words} {m : Command} {a : Answer} (k : WholeFor s
       from (suc d) h q = mv.lands d c (h d refl) (sym q)
   moved-living mv (v ∷ p) h c (inr j) = moved-living mv p (λ d y. h d (inr y)) c j
 
-  effect-living : (t : ℕ) (x : Effect) → PairsAfter s w w₁ t x pairs pairs₁ → (p p₁ : List ℕ) → Living s w p → PairsAfter s w w₁ t x p p₁
-      → Living s w₁ p₁
+  effect-living : (t : ℕ) (x : Effect) → PairsAfter s w w₁ t x pairs pairs₁ → (p p₁ : List ℕ) → Living s w p → PairsAfter s w w₁ t x p p₁ → Living s w₁ p₁
   effect-living t opens k p p₁ l e c i = kept-living k p p₁ l e c i
   effect-living t ends k p p₁ l (move, mv, e) c i = moved-living mv p l c (subst (λ (q : List ℕ). In (suc c) q) e i)
   effect-living t collects k p p₁ l (move, mv, e) c i = moved-living mv p l c (subst (λ (q : List ℕ). In (suc c) q) e i)
   effect-living t (makes a b d) k p p₁ l e c i = ⊎_elim old new (in-append (suc c) p (var_in s w₁ t a ∷ []) (subst (λ (q : List ℕ). In (suc c) q) e i))
     where
       old : In (suc c) p → BeginsIn s w₁ c
-      old j = after c c (ap (λ (l : List ℕ). get_or l c 0) k
-          ∙ get_or-append pairs (var_in s w₁ t a ∷ []) 0 c (in_bounds pairs c (λ z. omega (arith, before c (l c j)))) ∙ before c (l c j))
+      old j = after c c (ap (λ (l : List ℕ). get_or l c 0) k ∙ get_or-append pairs (var_in s w₁ t a ∷ []) 0 c (in_bounds pairs c (λ z. omega (arith, before c (l c j)))) ∙ before c (l c j))
 
       -- the variable of a new object names it
       new : In (suc c) (var_in s w₁ t a ∷ []) → BeginsIn s w₁ c
-      new (inl v) = after (length pairs) c (ap (λ (l : List ℕ). get_or l (length pairs) 0) k ∙ get_or_at pairs (var_in s w₁ t a) [] 0 (length pairs) refl
-          ∙ sym v)
+      new (inl v) = after (length pairs) c (ap (λ (l : List ℕ). get_or l (length pairs) 0) k ∙ get_or_at pairs (var_in s w₁ t a) [] 0 (length pairs) refl ∙ sym v)
       new (inr j) = absurd j
   effect-living t (assigns x) k p p₁ l e c i = kept-living k p p₁ l e c i
 
@@ -101,8 +97,7 @@ module _ {s : Sizes} {w w₁ : Words} {m : Command} {a : Answer} (k : WholeFor s
 
   effect-same : (t : ℕ) (x : Effect) (p q₁ q₂ : List ℕ) → Living s w p → PairsAfter s w w₁ t x p q₁ → PairsAfter s w w₁ t x p q₂ → q₁ ≡ q₂
   effect-same t opens p q₁ q₂ l e f = e ∙ sym f
-  effect-same t ends p q₁ q₂ l e f = e.2 ∙ moved_same (region_at s t (depth_in w t)) (region-pos s t (depth_in w t)) e.0 f.0 e.1 f.1 p l
-      ∙ sym f.2
+  effect-same t ends p q₁ q₂ l e f = e.2 ∙ moved_same (region_at s t (depth_in w t)) (region-pos s t (depth_in w t)) e.0 f.0 e.1 f.1 p l ∙ sym f.2
   effect-same t collects p q₁ q₂ l e f = e.2 ∙ moved_same control control-pos e.0 f.0 e.1 f.1 p l ∙ sym f.2
   effect-same t (makes a b c) p q₁ q₂ l e f = e ∙ sym f
   effect-same t (assigns x) p q₁ q₂ l e f = e ∙ sym f
@@ -121,8 +116,7 @@ pub record OneHistory (s : Sizes) (w : Words) (p q : List ℕ) : Type 0 where
   pub whole : WholeFor s w
   pub living : Living s w p
 
-followed_same : (s : Sizes) {w w' : Words} {ms : List Command} {as' : List Answer} (c : Obeying s w ms as' w') → WholeFor s w → (start p q : List ℕ)
-    → Living s w start
+followed_same : (s : Sizes) {w w' : Words} {ms : List Command} {as' : List Answer} (c : Chain s w ms as' w') → WholeFor s w → (start p q : List ℕ) → Living s w start
     → Followed s c start p → Followed s c start q → OneHistory s w' p q
 followed_same s {w} none k start p q l e f =
     record { same = e ∙ sym f; whole = k; living = subst (λ (x : List ℕ). Living s w x) (sym e) l }
@@ -133,10 +127,8 @@ followed_same s (more did rest) k start p q l e f =
 -- ---- the list of blocks
 
 -- the pairs after a block, which a refused one does not change
-module _ {l : Slices} (b : Block) (ran : Ran l b.block b.lent b.number b.left b.answers) (start p q : List ℕ)
-    (i : Living (sizes_in l.words) l.words start)
-    (e : (z : b.number ≡ 0) → Followed (sizes_in l.words) (ran.obeyed z) start p)
-    (f : (z : b.number ≡ 0) → Followed (sizes_in l.words) (ran.obeyed z) start q)
+module _ {l : Slices} (b : Block) (ran : Ran l b.block b.lent b.number b.left b.answers) (start p q : List ℕ) (i : Living (sizes_in l.words) l.words start)
+    (e : (z : b.number ≡ 0) → Followed (sizes_in l.words) (ran.obeyed z) start p) (f : (z : b.number ≡ 0) → Followed (sizes_in l.words) (ran.obeyed z) start q)
     (e' : (b.number ≡ 0 → ⊥) → p ≡ start) (f' : (b.number ≡ 0 → ⊥) → q ≡ start) where
   block_same : (p ≡ q) × Living (sizes_in b.left.words) b.left.words p
   block_same = go (ℕ_discrete b.number 0)
@@ -147,13 +139,11 @@ module _ {l : Slices} (b : Block) (ran : Ran l b.block b.lent b.number b.left b.
           (h.same, subst (λ (s : Sizes). Living s b.left.words p) (sym h.whole.sized.sizes) h.living)
       go (no n) = (
         e' n ∙ sym (f' n),
-        subst (λ (x : List ℕ). Living (sizes_in b.left.words) b.left.words x) (sym (e' n))
-            (subst (λ (v : Slices). Living (sizes_in v.words) v.words start) (sym (ran.refused n).0) i),
+        subst (λ (x : List ℕ). Living (sizes_in b.left.words) b.left.words x) (sym (e' n)) (subst (λ (v : Slices). Living (sizes_in v.words) v.words start) (sym (ran.refused n).0) i),
       )
 
 -- from any pairs that lead to objects' cells
-pub traced-same : {l l' : Slices} {bs : List Block} (runs : Runs l bs l') (start p q : List ℕ) → Living (sizes_in l.words) l.words start
-    → Traced runs start p → Traced runs start q → p ≡ q
+pub traced-same : {l l' : Slices} {bs : List Block} (runs : Runs l bs l') (start p q : List ℕ) → Living (sizes_in l.words) l.words start → Traced runs start p → Traced runs start q → p ≡ q
 traced-same stop start p q l e f = e ∙ sym f
 traced-same (next {b = b} ran rest) start p q l e f =
     let h = block_same b ran start e.0 f.0 l e.1 f.1 e.2 f.2 in

@@ -44,8 +44,7 @@ module _ (s : Sizes) (w : Words) (t : ℕ) where
   unfolding ru.question ru.room nf.question nf.operands nf.state ask
   collect-accepted th =
       ap₂ (λ (b c : Bool). first (ask b 7 0) (ask c 13 0)) (lt-ltb t s.threads th)
-      (le-leb (new_pages s (graph (heap_of s w)) (graph (ru.after s (heap_of s w) (collect_of t)))) (free_pages s (graph (heap_of s w)))
-      (omega (arith, none)))
+      (le-leb (new_pages s (graph (heap_of s w)) (graph (ru.after s (heap_of s w) (collect_of t)))) (free_pages s (graph (heap_of s w))) (omega (arith, none)))
     where
       none : new_pages s (graph (heap_of s w)) (graph (ru.after s (heap_of s w) (collect_of t))) ≡ 0
       none =
@@ -63,8 +62,7 @@ module _ (s : Sizes) (w : Words) (whole : WholeFor s w) (w' : Words) (cell : ℕ
   depths-low u l = omega (arith, depths u l, whole.depths u l)
 
   whole' : WholeFor s w'
-  whole' = evacuated-whole whole (region-keeps s w whole control control-pos) e depths-low
-      (counted-whole s w whole control control-pos w' cell e counted)
+  whole' = evacuated-whole whole (region-keeps s w whole control control-pos) e depths-low (counted-whole s w whole control control-pos w' cell e counted)
 
   depths-same : depths_in s w ≡ depths_in s w'
   depths-same =
@@ -86,8 +84,7 @@ module _ (s : Sizes) (w : Words) (whole : WholeFor s w) (w' : Words) (cell : ℕ
       evacuated-stands whole e whole' (region-after s w whole control control-pos) (collected s H) sound (unfold heap_of in depths-same)
       (subst (λ (g : Graph). Partners (λ x. x) g (ended s (graph_of s w) control)) (sym (graph-collected s H)) same)
       (λ x a. base.nums x (was x (subst (λ (g : Graph). Alive g x) (graph-collected s H) a)))
-      (ap₂ more_freed (same-freed s (λ x. x) (graph H) (graph_of s w) base.sound.closed (words-closed s w whole) base.partners control
-      control-pos) base.counters ∙ sym counted)
+      (ap₂ more_freed (same-freed s (λ x. x) (graph H) (graph_of s w) base.sound.closed (words-closed s w whole) base.partners control control-pos) base.counters ∙ sym counted)
       (packed-occupies s w whole packed lives was)
 
   -- objects of other regions stay where they are
@@ -98,6 +95,5 @@ module _ (s : Sizes) (w : Words) (whole : WholeFor s w) (w' : Words) (cell : ℕ
 
   pub collected-did : (t : ℕ) → t < s.threads → DidHere s w (collect_of t) w' (done 0)
   collected-did t th =
-      did-moved s w whole (collect_of t) w' (collected s H) 0 (collect-accepted s w t th) (after-collect s w t) (unfold nf.value in refl) e.beyond
-      (λ r z. z)
+      did-moved s w whole (collect_of t) w' (collected s H) 0 (collect-accepted s w t th) (after-collect s w t) (unfold nf.value in refl) e.beyond (λ r z. z)
       (λ so. record { cell = cell; stands = stands so; stays = λ x a q n. keeps-cell x a n })

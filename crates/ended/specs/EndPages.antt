@@ -53,12 +53,10 @@ module _ (s : Sizes) (w : Words) (whole : WholeFor s w) (t k : ℕ) (th : t < s.
       let x = sum-pos (λ x. cond (eqb (home_in s w x) r) (cond (eqb (target s g r x) q) 1 0) 0) g.count l in
       go x.0 (eqb (home_in s w x.0) r) refl (eqb (target s g r x.0) q) refl x.2
     where
-      go : (x : ℕ) (a : Bool) → eqb (home_in s w x) r ≡ a → (b : Bool) → eqb (target s g r x) q ≡ b → 0 < cond a (cond b 1 0) 0
-          → (j : ℕ) × (j ≤ k) × (q ≡ region_at s t j)
+      go : (x : ℕ) (a : Bool) → eqb (home_in s w x) r ≡ a → (b : Bool) → eqb (target s g r x) q ≡ b → 0 < cond a (cond b 1 0) 0 → (j : ℕ) × (j ≤ k) × (q ≡ region_at s t j)
       go x true e true f z =
           let same : target s g r x ≡ q = eqb-true (target s g r x) q f in
-          subst (λ (v : ℕ). (j : ℕ) × (j ≤ k) × (v ≡ region_at s t j)) same
-          (target-level s w whole t k th deep x (eqb-true (home_in s w x) r e) (omega arith))
+          subst (λ (v : ℕ). (j : ℕ) × (j ≤ k) × (v ≡ region_at s t j)) same (target-level s w whole t k th deep x (eqb-true (home_in s w x) r e) (omega arith))
       go x true e false f z = absurd (let y : ⊥ = omega arith in y)
       go x false e b f z = absurd (let y : ⊥ = omega arith in y)
 

@@ -41,8 +41,7 @@ module _ (s : Sizes) (w : Words) (whole : WholeFor s w) (t : ℕ) (th : t < s.th
 
   pub end-shut : depth_in w t ≡ 0 → ru.question s (heap_of s w) (end_of t) ≡ 12
   unfolding ru.question ask
-  end-shut z = ap (λ (n : ℕ). first n (ru.room s (heap_of s w) (end_of t) (ru.after s (heap_of s w) (end_of t))))
-      (asked ∙ ap (λ (n : ℕ). ask (ltb 0 n) 12 0) z)
+  end-shut z = ap (λ (n : ℕ). first n (ru.room s (heap_of s w) (end_of t) (ru.after s (heap_of s w) (end_of t)))) (asked ∙ ap (λ (n : ℕ). ask (ltb 0 n) 12 0) z)
 
   module _ (k : ℕ) (deep : depth_in w t ≡ suc k) where
     abbrev r : ℕ
@@ -57,18 +56,15 @@ module _ (s : Sizes) (w : Words) (whole : WholeFor s w) (t : ℕ) (th : t < s.th
     new-after : new_pages s (graph (heap_of s w)) (graph (ru.after s (heap_of s w) (end_of t))) ≡ pages_needed s w r
     new-after =
         ap (new_pages s (graph (heap_of s w))) graph-after
-        ∙ same-new-ended s (λ x. x) (graph (heap_of s w)) (graph_of s w) base.sound.closed (words-closed s w whole) base.partners r
-        (region-pos s t (suc k))
+        ∙ same-new-ended s (λ x. x) (graph (heap_of s w)) (graph_of s w) base.sound.closed (words-closed s w whole) base.partners r (region-pos s t (suc k))
 
     crossings-after : crossing (graph (ru.after s (heap_of s w) (end_of t))) ≡ crossing_after s w r
     crossings-after =
         ap crossing graph-after
-        ∙ same-crossing-ended s (λ x. x) (graph (heap_of s w)) (graph_of s w) base.sound.closed (words-closed s w whole) base.partners r
-        (region-pos s t (suc k))
+        ∙ same-crossing-ended s (λ x. x) (graph (heap_of s w)) (graph_of s w) base.sound.closed (words-closed s w whole) base.partners r (region-pos s t (suc k))
 
     -- 13 and 14, by the pages without an owner and the size of the remember table
-    pub end-question : ru.question s (heap_of s w) (end_of t)
-        ≡ ask (leb (pages_needed s w r) (pages_owned s w 0)) 13 (ask (leb (crossing_after s w r) s.entries) 14 0)
+    pub end-question : ru.question s (heap_of s w) (end_of t) ≡ ask (leb (pages_needed s w r) (pages_owned s w 0)) 13 (ask (leb (crossing_after s w r) s.entries) 14 0)
     unfolding ru.question ru.room ask
     end-question =
         ap (λ (n : ℕ). first n (ru.room s (heap_of s w) (end_of t) (ru.after s (heap_of s w) (end_of t))))
@@ -80,8 +76,7 @@ module _ (s : Sizes) (w : Words) (whole : WholeFor s w) (t : ℕ) (th : t < s.th
     pub end-accepted : pages_needed s w r ≤ pages_owned s w 0 → crossing_after s w r ≤ s.entries → ru.question s (heap_of s w) (end_of t) ≡ 0
     unfolding ask
     end-accepted l m =
-        end-question ∙ ap₂ (λ (b c : Bool). ask b 13 (ask c 14 0)) (le-leb (pages_needed s w r) (pages_owned s w 0) l)
-        (le-leb (crossing_after s w r) s.entries m)
+        end-question ∙ ap₂ (λ (b c : Bool). ask b 13 (ask c 14 0)) (le-leb (pages_needed s w r) (pages_owned s w 0) l) (le-leb (crossing_after s w r) s.entries m)
 
   -- ---- refused: nothing is changed
 

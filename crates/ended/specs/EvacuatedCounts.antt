@@ -33,8 +33,7 @@ module _ {s : Sizes} {w : Words} {e : Part} {w' : Words} {cell : ℕ → ℕ} (w
   owner-some : (c : ℕ) → Lives s w e c → owner_in s w' (page_of (cell c)) ≢ 0
   owner-some c l z =
       ⊎_elim
-      (λ o. let t = v.placement.stayed c o in used-owned s w whole c o.used
-      (sym t.owner ∙ ap (λ (x : ℕ). owner_in s w' (page_of x)) (sym t.same) ∙ z))
+      (λ o. let t = v.placement.stayed c o in used-owned s w whole c o.used (sym t.owner ∙ ap (λ (x : ℕ). owner_in s w' (page_of x)) (sym t.same) ∙ z))
       (λ x. omega (arith, v.placement.went c x, x.goes)) (lives-how l)
 
   home_some : (c : ℕ) → Lives s w e c → home_in s w' (cell c) ≢ 0
@@ -47,18 +46,12 @@ module _ {s : Sizes} {w : Words} {e : Part} {w' : Words} {cell : ℕ → ℕ} (w
       sum-paired cell (λ x. bit (not (eqb (g.home x) 0))) g.count (λ y. bit (not (eqb (home_in s w' y) 0))) (cell_count s)
       (record {
         goes = λ x l k.
-            let y = a.lives x (there (g.home x) k) in (
-              begins-low s _ _ (cell x) (v.placement.used x y),
-              one (home_in s w' (cell x)) (home_some x y) ∙ sym (one (g.home x) (there (g.home x) k)),
-            );
+            let y = a.lives x (there (g.home x) k) in
+            (begins-low s _ _ (cell x) (v.placement.used x y), one (home_in s w' (cell x)) (home_some x y) ∙ sym (one (g.home x) (there (g.home x) k)));
         apart = λ x y l m k j. v.placement.apart x y (a.lives x (there (g.home x) k)) (a.lives y (there (g.home y) j));
         onto = λ y l k.
-            let c = v.only y (alive-used s w' y (there (home_in s w' y) k)) in (
-              c.0,
-              omega (arith, a.count, begins-low s _ _ c.0 c.1.used),
-              omega (arith, one (g.home c.0) (lives-there whole a c.0 c.1)),
-              c.2,
-            );
+            let c = v.only y (alive-used s w' y (there (home_in s w' y) k)) in
+            (c.0, omega (arith, a.count, begins-low s _ _ c.0 c.1.used), omega (arith, one (g.home c.0) (lives-there whole a c.0 c.1)), c.2);
       })
 
   owner-low : (page : ℕ) → page < s.pages → owner_in s w' page ≤ regions s
@@ -67,8 +60,7 @@ module _ {s : Sizes} {w : Words} {e : Part} {w' : Words} {cell : ℕ → ℕ} (w
       (λ h. open-high s w'.tables (owner_in s w' page) whole.sized.range.depth_low (v.owners page l h)) (λ h. omega arith)
 
 -- the end of region r
-module _ (s : Sizes) (w : Words) (whole : WholeFor s w) (r : ℕ) (pos : 0 < r) (w' : Words) (cell : ℕ → ℕ)
-    (v : Evacuated s w (part_of s w r) w' cell) where
+module _ (s : Sizes) (w : Words) (whole : WholeFor s w) (r : ℕ) (pos : 0 < r) (w' : Words) (cell : ℕ → ℕ) (v : Evacuated s w (part_of s w r) w' cell) where
   live-after : live_of s w'.tables + freed_by s (graph_of s w) r ≡ live_of s w.tables
   live-after =
       omega (
@@ -82,5 +74,4 @@ module _ (s : Sizes) (w : Words) (whole : WholeFor s w) (r : ℕ) (pos : 0 < r) 
   pub counted-whole : FreedCounted s w r w' → CountersWhole s w'
   counted-whole e =
       subst (λ (k : Counters). Leaves k (live_of s w'.tables)) (sym e)
-      (leaves-freed (counters_in s w) (live_of s w'.tables) (freed_by s (graph_of s w) r)
-      (subst (Leaves (counters_in s w)) (sym live-after) whole.counters))
+      (leaves-freed (counters_in s w) (live_of s w'.tables) (freed_by s (graph_of s w) r) (subst (Leaves (counters_in s w)) (sym live-after) whole.counters))

@@ -93,8 +93,7 @@ module _ (s : Sizes) (w : Words) (whole : WholeFor s w) (t k : ℕ) (th : t < s.
   lives : (x : ℕ) → Alive (ended s (graph H) r) x → Lives s w (part_of s w r) x
   lives x a =
       (region-after s w whole r pos).lives x
-      (λ z. a (sym
-      ((partners-ended s (λ x. x) (graph H) (graph_of s w) base.sound.closed (words-closed s w whole) base.partners r pos).home x a) ∙ z))
+      (λ z. a (sym ((partners-ended s (λ x. x) (graph H) (graph_of s w) base.sound.closed (words-closed s w whole) base.partners r pos).home x a) ∙ z))
 
   stands : Sound H' → StandsFor s w' H' cell
   stands sound =
@@ -102,8 +101,7 @@ module _ (s : Sizes) (w : Words) (whole : WholeFor s w) (t k : ℕ) (th : t < s.
       (subst (λ (g : Graph). Partners (λ x. x) g (ended s (graph_of s w) r)) (sym alike)
       (partners-ended s (λ x. x) (graph H) (graph_of s w) base.sound.closed (words-closed s w whole) base.partners r pos))
       (λ x a. base.nums x (was x (subst (λ (g : Graph). Alive g x) alike a)))
-      (ap₂ more_freed (same-freed s (λ x. x) (graph H) (graph_of s w) base.sound.closed (words-closed s w whole) base.partners r pos)
-      base.counters ∙ sym counted)
+      (ap₂ more_freed (same-freed s (λ x. x) (graph H) (graph_of s w) base.sound.closed (words-closed s w whole) base.partners r pos) base.counters ∙ sym counted)
       (repacked-occupies s w whole r pos repacked lives was (set H.heap.depths t k))
 
   -- ---- the promise
@@ -126,6 +124,5 @@ module _ (s : Sizes) (w : Words) (whole : WholeFor s w) (t k : ℕ) (th : t < s.
       (λ so. record { cell = cell; stands = stands so; stays = λ x a q n. keeps-cell x a q })
 
   -- so where there are pages and entries
-  pub ended-did : Vacated s (part_of s w (region_at s t (suc k))) w' → pages_needed s w r ≤ pages_owned s w 0 → crossing_after s w r ≤ s.entries
-      → DidHere s w (end_of t) w' (done 0)
+  pub ended-did : Vacated s (part_of s w (region_at s t (suc k))) w' → pages_needed s w r ≤ pages_owned s w 0 → crossing_after s w r ≤ s.entries → DidHere s w (end_of t) w' (done 0)
   ended-did free l m = evacuated-did free (end-accepted s w whole t th k deep l m)

@@ -23,20 +23,16 @@ use Rattle.ended.specs.Evacuated.{Evacuated}
 use Rattle.ended.specs.Living.{GraphAfter, lives-there}
 use Rattle.layout.specs.Places.{var_count}
 
-module _ {s : Sizes} {w : Words} {e : Part} {w' : Words} {cell : ℕ → ℕ} (whole : WholeFor s w) (v : Evacuated s w e w' cell)
-    (whole' : WholeFor s w') where
+module _ {s : Sizes} {w : Words} {e : Part} {w' : Words} {cell : ℕ → ℕ} (whole : WholeFor s w) (v : Evacuated s w e w' cell) (whole' : WholeFor s w') where
   -- the fields of a kind, each of which became what g makes of it
   fields-after : (d : Kind) (g : ℕ → ℕ) → g 0 ≡ 0 → (c : ℕ) → Lives s w e c
-      → ((i : ℕ) → i < field_count d (head_in w c) → field_of w'.cells (cell c) (first_field d (head_in w c) + i)
-      ≡ g (field_of w.cells c (first_field d (head_in w c) + i)))
+      → ((i : ℕ) → i < field_count d (head_in w c) → field_of w'.cells (cell c) (first_field d (head_in w c) + i) ≡ g (field_of w.cells c (first_field d (head_in w c) + i)))
       → fields_in d w' (cell c) ≡ map g (fields_in d w c)
   fields-after d g z c a became =
-      ext_get_or 0 (fields_in d w' (cell c)) (map g (fields_in d w c))
-      (long' ∙ sym (length-map (fields_in d w c) g ∙ length_fields s w whole d c a.used))
+      ext_get_or 0 (fields_in d w' (cell c)) (map g (fields_in d w c)) (long' ∙ sym (length-map (fields_in d w c) g ∙ length_fields s w whole d c a.used))
       (λ i l.
       let m : i < field_count d (head_in w c) = omega (arith, long') in
-      get_d-fields d w' (cell c) i (omega (arith, same)) ∙ ap (λ (n : ℕ). field_of w'.cells (cell c) (first_field d n + i)) (v.placement.head c a)
-      ∙ became i m
+      get_d-fields d w' (cell c) i (omega (arith, same)) ∙ ap (λ (n : ℕ). field_of w'.cells (cell c) (first_field d n + i)) (v.placement.head c a) ∙ became i m
       ∙ ap g (sym (get_d-fields d w c i m)) ∙ sym (ap (get_or (map g (fields_in d w c)) i) (sym z) ∙ get_or-map g (fields_in d w c) i 0))
     where
       same : field_count d (head_in w' (cell c)) ≡ field_count d (head_in w c)
@@ -54,8 +50,7 @@ module _ {s : Sizes} {w : Words} {e : Part} {w' : Words} {cell : ℕ → ℕ} (w
   nums-after c a =
       let h = head_in w c in
       fields-after Number (λ x. x) refl c a
-      (λ i l. (v.object c a).others (first_field Number h + i) (omega (arith, first-number h))
-      (omega (arith, kind-among Number h, fields-room h (whole.objects c a.used).head)))
+      (λ i l. (v.object c a).others (first_field Number h + i) (omega (arith, first-number h)) (omega (arith, kind-among Number h, fields-room h (whole.objects c a.used).head)))
       ∙ map-id (nums_in w c)
 
   vars-after : vars_in s w' ≡ map (renamed cell) (vars_in s w)
@@ -70,8 +65,7 @@ module _ {s : Sizes} {w : Words} {e : Part} {w' : Words} {cell : ℕ → ℕ} (w
   module _ {g : Graph} (a : GraphAfter s w e g) where
     owner-after : (c : ℕ) → Lives s w e c → owner_in s w' (page_of (cell c)) ≡ g.home c
     owner-after c l =
-        ⊎_elim
-        (λ o. ap (λ (x : ℕ). owner_in s w' (page_of x)) (v.placement.stayed c o).same ∙ (v.placement.stayed c o).owner ∙ sym (a.outside c o))
+        ⊎_elim (λ o. ap (λ (x : ℕ). owner_in s w' (page_of x)) (v.placement.stayed c o).same ∙ (v.placement.stayed c o).owner ∙ sym (a.outside c o))
         (λ x. v.placement.went c x ∙ sym (a.survivor c x)) (lives-how l)
 
     -- the graph of the words afterwards is the graph after the end
@@ -87,8 +81,7 @@ module _ {s : Sizes} {w : Words} {e : Part} {w' : Words} {cell : ℕ → ℕ} (w
 
     -- so they stand for a heap that has it, with the numbers of before
     pub evacuated-stands : (h : Regioned) → Sound h → h.heap.depths ≡ depths_in s w' → Partners (λ x. x) (graph h) g
-        → ((x : ℕ) → Alive (graph h) x → (get_or h.heap.objects x no_object).nums ≡ nums_in w x) → h.counters ≡ counters_in s w'
-        → Occupies s w' h cell → StandsFor s w' h cell
+        → ((x : ℕ) → Alive (graph h) x → (get_or h.heap.objects x no_object).nums ≡ nums_in w x) → h.counters ≡ counters_in s w' → Occupies s w' h cell → StandsFor s w' h cell
     evacuated-stands h sound depths p nums counters occupies =
         record {
           whole = whole';

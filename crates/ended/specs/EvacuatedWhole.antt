@@ -17,20 +17,13 @@ ref-alive : (s : Sizes) (w : Words) (to : ℕ → ℕ) (x : ℕ) → ((c : ℕ) 
 ref-alive s w to zero f l = absurd (let z : ⊥ = omega arith in z)
 ref-alive s w to (suc c) f l = subst (BeginsIn s w) (let e : to c ≡ suc (to c) - 1 = omega arith in e) (f c refl)
 
-module _ {s : Sizes} {w : Words} {e : Part} {w' : Words} {cell : ℕ → ℕ} (whole : WholeFor s w) (keeps : KeepsNamed s w e)
-    (v : Evacuated s w e w' cell)
+module _ {s : Sizes} {w : Words} {e : Part} {w' : Words} {cell : ℕ → ℕ} (whole : WholeFor s w) (keeps : KeepsNamed s w e) (v : Evacuated s w e w' cell)
     (depths : DepthsWhole s w') (counters : CountersWhole s w') where
   sized : Sized s w'
   sized =
       let z = whole.sized in
       record {
-        sizes = (λ i. record {
-          threads = v.sizes 0 (omega arith) i;
-          variables = v.sizes 1 (omega arith) i;
-          depth = v.sizes 2 (omega arith) i;
-          pages = v.sizes 3 (omega arith) i;
-          entries = v.sizes 4 (omega arith) i;
-        }) ∙ z.sizes;
+        sizes = (λ i. record { threads = v.sizes 0 (omega arith) i; variables = v.sizes 1 (omega arith) i; depth = v.sizes 2 (omega arith) i; pages = v.sizes 3 (omega arith) i; entries = v.sizes 4 (omega arith) i }) ∙ z.sizes;
         range = z.range;
         same = v.entries ∙ z.same;
         cells = omega (arith, z.cells, v.beyond.cells.long);
@@ -38,8 +31,7 @@ module _ {s : Sizes} {w : Words} {e : Part} {w' : Words} {cell : ℕ → ℕ} (w
         tables = omega (arith, z.tables, v.beyond.tables.long);
       }
 
-  references-in : (b : ℕ) → Lives s w e b → (f : ℕ) → f < refs_of w'.cells (cell b)
-      → IsRef s w'.cells w'.tables (field_of w'.cells (cell b) f)
+  references-in : (b : ℕ) → Lives s w e b → (f : ℕ) → f < refs_of w'.cells (cell b) → IsRef s w'.cells w'.tables (field_of w'.cells (cell b) f)
   references-in b l f m =
       let m' : f < ref_count w b = subst (λ (n : ℕ). f < field_count Reference n) (v.placement.head b l) m in
       subst (IsRef s w'.cells w'.tables) (sym ((v.object b l).references f m'))

@@ -37,8 +37,7 @@ module _ {s : Sizes} {w : Words} {e : Part} {g : Graph} (whole : WholeFor s w) (
       record {
         references = λ c f d l m z.
             a.lives d (k.refs c d (lives-there c l) (subst (In (suc d)) (sym (a.refs c))
-            (subst (λ (x : ℕ). In x (refs_in w c)) (get_d-refs w c f m ∙ z)
-            (get_d-member (refs_in w c) f (omega (arith, length-refs s w whole c l.used))))));
+            (subst (λ (x : ℕ). In x (refs_in w c)) (get_d-refs w c f m ∙ z) (get_d-member (refs_in w c) f (omega (arith, length-refs s w whole c l.used))))));
         variables = λ i d l z. a.lives d (k.vars i d (ap (λ (v : List ℕ). get_or v i 0) a.vars ∙ get_d-vars s w i l ∙ z));
       }
 

@@ -33,13 +33,10 @@ module _ (s : Sizes) (w : Words) (whole : WholeFor s w) where
   slides-here : slides s H control E ≡ slides_in s w
   unfolding slides goals heap_of
   slides-here =
-      slides-same (λ c. not (eqb (get_or (goals s H (only control) E) c 0) 0)) (λ c. not (eqb (goal_in s w control c) 0))
-      (owned_from control 0 (pages_in s w)) (cell_count s)
-      (λ c l. ap (λ (n : ℕ). not (eqb n 0)) (get_d-listed (λ d. goal_of H (only control) E (object_at H d)) (cell_count s) c 0 l
-      ∙ goal-of s w whole control control-pos c))
+      slides-same (λ c. not (eqb (get_or (goals s H (only control) E) c 0) 0)) (λ c. not (eqb (goal_in s w control c) 0)) (owned_from control 0 (pages_in s w)) (cell_count s)
+      (λ c l. ap (λ (n : ℕ). not (eqb n 0)) (get_d-listed (λ d. goal_of H (only control) E (object_at H d)) (cell_count s) c 0 l ∙ goal-of s w whole control control-pos c))
 
-  module _ {w' : Words} {cell : ℕ → ℕ} (p : Packed s w w' cell)
-      (lives : (x : ℕ) → Alive (ended s (graph H) control) x → Lives s w (part_of s w control) x)
+  module _ {w' : Words} {cell : ℕ → ℕ} (p : Packed s w w' cell) (lives : (x : ℕ) → Alive (ended s (graph H) control) x → Lives s w (part_of s w control) x)
       (was : (x : ℕ) → Alive (ended s (graph H) control) x → Alive (graph H) x) where
     pub packed-occupies : Occupies s w' (collected s H) cell
     unfolding slid heap_of
@@ -48,7 +45,6 @@ module _ (s : Sizes) (w : Words) (whole : WholeFor s w) where
           cells = λ x a.
               let b = subst (λ (g : Graph). Alive g x) (graph-collected s H) a in
               moved-cell (slides s H control E) H.occupancy.cells x (inside s w whole control control-pos x (was x b))
-              ∙ ap₂ (λ (ms : List Move) (c : ℕ). new_cell ms c) slides-here (cell-here s w whole control control-pos x (was x b))
-              ∙ sym (p.cells x (lives x b));
+              ∙ ap₂ (λ (ms : List Move) (c : ℕ). new_cell ms c) slides-here (cell-here s w whole control control-pos x (was x b)) ∙ sym (p.cells x (lives x b));
           pages = ap (λ (ms : List Move). filled_by control (length ms) (pages_in s w)) slides-here ∙ sym p.pages;
         }

@@ -15,7 +15,7 @@ use Rattle.rules.specs.Rules.{Regioned, graph, home_of, object_at, goal_of, goal
 use Rattle.laws.specs.GraphLaws.{Alive}
 use Rattle.laws.specs.EndLaws.{home-went}
 use Rattle.laws.specs.RulesLaws.{over, graph-ended}
-use Rattle.laws.specs.LikeCells.{InCell, by, none, held_by, moved-cell}
+use Rattle.laws.specs.LikeCells.{Held, by, none, held_by, moved-cell}
 use Rattle.laws.specs.PlaceLaws.{place_same}
 use Rattle.layout.specs.Words.{Words, cell_count, home_in, graph_of, pages_in, heap_of}
 use Rattle.promises.specs.Whole.{WholeFor}
@@ -52,7 +52,7 @@ module _ (s : Sizes) (w : Words) (whole : WholeFor s w) (r : ℕ) (pos : 0 < r) 
       away : (home_in s w c ≡ r → ⊥) → goal_in s w r c ≡ 0
       away n = ap (λ (b : Bool). cond b (target s (graph_of s w) r c) 0) (ne_eqb (home_in s w c) r n)
 
-      go : InCell H c → Dec (home_in s w c ≡ r) → goal_of H (only r) E (object_at H c) ≡ goal_in s w r c
+      go : Held H c → Dec (home_in s w c ≡ r) → goal_of H (only r) E (object_at H c) ≡ goal_in s w r c
       go (none e n) (yes z) = let a : Alive (graph H) c = back s w whole c (λ (y : home_in s w c ≡ 0). omega arith) in absurd (n c a (cell-here c a))
       go (none e n) (no z) = ap (goal_of H (only r) E) e ∙ sym (away z)
       go (by x e a f) d = ap (goal_of H (only r) E) e ∙ subst (λ (y : ℕ). goal_of H (only r) E (suc y) ≡ goal_in s w r c) (sym x-is) (at d)
@@ -67,8 +67,7 @@ module _ (s : Sizes) (w : Words) (whole : WholeFor s w) (r : ℕ) (pos : 0 < r) 
           at (yes z) =
               let h : home_of H c ≡ r = home-at s w whole c ∙ z in
               ap₂ (λ (b : Bool) (n : ℕ). cond b n 0) (eq-eqb (home_of H c) r h ∙ sym (eq-eqb (home_in s w c) r z))
-              (ap (λ (g : Graph). g.home c) (graph-ended s H r pos []) ∙ home-went s (graph H) r c h
-              ∙ sym (targets-agree s w H (λ x. x) (heap-stands s w whole) r pos c a'))
+              (ap (λ (g : Graph). g.home c) (graph-ended s H r pos []) ∙ home-went s (graph H) r c h ∙ sym (targets-agree s w H (λ x. x) (heap-stands s w whole) r pos c a'))
           at (no z) = ap (λ (b : Bool). cond b (get_or E c 0) 0) (ne_eqb (home_of H c) r (λ h. z (sym (home-at s w whole c) ∙ h))) ∙ sym (away z)
 
   copies-here : copies s H (only r) E ≡ copies_in s w r

@@ -39,23 +39,20 @@ module _ (s : Sizes) (w : Words) (whole : WholeFor s w) where
       go (yes h) =
           let o = (whole.pages page l).region h in
           level (thread_of s (owner_in s w page)) ((owner_in s w page - 2) % s.depth) o.thread
-          (omega (arith, o.level, depth-at s w (thread_of s (owner_in s w page)) o.thread))
-          (region-number s (owner_in s w page) o.real ∙ ap (region_at s (thread_of s (owner_in s w page))) (add-one _))
+          (omega (arith, o.level, depth-at s w (thread_of s (owner_in s w page)) o.thread)) (region-number s (owner_in s w page) o.real ∙ ap (region_at s (thread_of s (owner_in s w page))) (add-one _))
       go (no h) = control (omega arith)
 
   pub words_placed : Placed s (heap_of s w)
   words_placed =
       record {
         depths = unfold heap_of in depth_low;
-        homes = λ x a. subst (pl.Open s (heap_of s w).heap.depths) (sym (home-at s w whole x))
-            (unfold heap_of in (open' x (λ z. a (home-at s w whole x ∙ z))));
+        homes = λ x a. subst (pl.Open s (heap_of s w).heap.depths) (sym (home-at s w whole x)) (unfold heap_of in (open' x (λ z. a (home-at s w whole x ∙ z))));
       }
     where
       open' : (x : ℕ) → Alive (graph_of s w) x → pl.Open s (depths_in s w) (home_in s w x)
       open' x a =
           let u = alive-used s w x a in
-          subst (pl.Open s (depths_in s w)) (sym (used-home s w x u))
-          (owner-open (page_of x) (begins-page s w.cells w.tables x u) (used-owned s w whole x u))
+          subst (pl.Open s (depths_in s w)) (sym (used-home s w x u)) (owner-open (page_of x) (begins-page s w.cells w.tables x u) (used-owned s w whole x u))
 
   module _ (t k : ℕ) (th : t < s.threads) (deep : depth_in w t ≡ suc k) where
     abbrev r : ℕ

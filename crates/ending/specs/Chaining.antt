@@ -15,7 +15,7 @@ use Rattle.promises.specs.OwnedPages.{owner-low}
 use Rattle.promises.specs.WholeChains.{whole-chainable}
 use Rattle.chains.specs.Chains.{ChainsWhole}
 use Rattle.copy.specs.Copying.{Plan, Copy}
-use Rattle.touched.specs.Touched.{ChainsRight}
+use Rattle.settle.specs.Touched.{Chained}
 use Rattle.ending.specs.Placing.{outside-home}
 use Rattle.ending.specs.Copied.{placed, placing, page-kept, placed-only}
 use Rattle.ending.specs.Region.{page-was}
@@ -36,14 +36,8 @@ module _ {s : Sizes} {t l r : ℕ} {w w₁ : Words} (b : Ending s t l r w w₁) 
       here : page_of (cell_on page 0) ≡ page
       here = page-on page 0 (omega arith)
 
-      home : (x : ℕ) → owner_of s T (page_of (placed W x)) ≡ owner_of s T page → Outside s w (part_of s w r) x ⊎ Survivor s w (part_of s w r) x
-          → owner_of s T page ≤ regions s
-      home x e (inl o) = omega (
-        arith,
-        e,
-        outside-home (placing (moved b p c)) x o,
-        owner-low s w b.whole (page_of x) (begins-page _ _ _ _ o.used),
-      )
+      home : (x : ℕ) → owner_of s T (page_of (placed W x)) ≡ owner_of s T page → Outside s w (part_of s w r) x ⊎ Survivor s w (part_of s w r) x → owner_of s T page ≤ regions s
+      home x e (inl o) = omega (arith, e, outside-home (placing (moved b p c)) x o, owner-low s w b.whole (page_of x) (begins-page _ _ _ _ o.used))
       home x e (inr v) =
           let j = survivor-level b x v in
           omega (arith, e, (placing (moved b p c)).placement.went x v, j.2, region-bounds s t j.0 b.thread (omega (arith, j.1, level-low b)))
@@ -56,5 +50,5 @@ module _ {s : Sizes} {t l r : ℕ} {w w₁ : Words} (b : Ending s t l r w w₁) 
           let o = placed-only (moved b p c) (cell_on page 0) u (λ y. n (ap (owner_in s w) (sym here) ∙ y)) in
           home o.0 (ap (λ (d : ℕ). owner_of s T (page_of d)) o.2 ∙ ap (owner_of s T) here) (lives-how o.1)
 
-  pub chained-ask : {K : List ℕ} → ChainsWhole s w.remember K → ChainsRight s r w.remember T K
+  pub chained-ask : {K : List ℕ} → ChainsWhole s w.remember K → Chained s r w.remember T K
   chained-ask k = record { chainable = whole-chainable b.whole; whole = k; low = (bounds b).0; high = (bounds b).1; owners = owners-low }

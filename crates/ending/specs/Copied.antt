@@ -6,18 +6,17 @@ use Rattle.std.proofs.Math.Decide.{ℕ_discrete}
 use Rattle.rules.specs.declared.Sizes.{Sizes}
 use Rattle.laws.specs.SameRules.{renamed}
 use Rattle.layout.specs.Places.{Room, owner_of, mark_of}
-use Rattle.layout.specs.Cells.{head_at, field_at, word_at, head_of, work_of, field_of, cell_named, ref_to, page_of, cell_of, cell_on, room_for, most_fields}
-use Rattle.layout.specs.Cells.{cell_words, most-is, room_most, page-on}
+use Rattle.layout.specs.Cells.{head_at, field_at, word_at, head_of, work_of, field_of, cell_named, ref_to, page_of, cell_of, cell_on, room_for, most_fields, cell_words, most-is, room_most, page-on}
 use Rattle.layout.specs.Marks.{marked, mark?}
 use Rattle.layout.specs.Objects.{InUse, unused-back, begins-page, begins-used, begins-there, work-used}
 use Rattle.layout.specs.Words.{Words, words, Begins, BeginsIn, owner_in, head_in}
 use Rattle.promises.specs.Whole.{UnusedWhole, WholeFor}
 use Rattle.promises.specs.Ends.{Part, Outside, Survivor, Lives, outside-lives, survivor-lives, lives-how}
-use Rattle.stack.specs.Marks.{kept-head, kept_field, kept-in-use, in-use-kept}
+use Rattle.mark.specs.Marks.{kept-head, kept_field, kept-in-use, in-use-kept}
 use Rattle.mark.specs.Survivors.{Marked}
 use Rattle.copy.specs.Passing.{Ready}
 use Rattle.copy.specs.Forward.{Forwards, Moved, forward}
-use Rattle.rewrite.specs.Rewrite.{forwarded, forward-null, forward-still, forward-moved}
+use Rattle.settle.specs.Rewrite.{forwarded, forward-null, forward-still, forward-moved}
 use Rattle.ended.specs.Living.{KeepsNamed}
 use Rattle.ending.specs.Placing.{Placing}
 use Rattle.mark.specs.MarkedWords.{marked-survivor, outside-work, owner-same, used-same}
@@ -91,8 +90,7 @@ module _ {s : Sizes} {w w₁ : Words} {e : Part} {W T : List ℕ} (h : HasMoved 
   pub page-kept : (page : ℕ) → page < s.pages → e.ends page → owner_of s T page ≡ owner_in s w page
   page-kept page l z =
       subst (λ (q : ℕ). owner_of s T q ≡ owner_in s w q) (page-on page 0 (omega arith))
-      (old-owner (cell_on page 0) (begins-there s w.cells w.tables page 0 l (omega arith)
-      ((h.whole.pages page l).filled.taken (h.sends.owned page l z))))
+      (old-owner (cell_on page 0) (begins-there s w.cells w.tables page 0 l (omega arith) ((h.whole.pages page l).filled.taken (h.sends.owned page l z))))
 
   module _ (c : ℕ) (o : Outside s w e c) where
     off : marked s w₁.tables c ≡ 0
@@ -147,15 +145,13 @@ module _ {s : Sizes} {w w₁ : Words} {e : Part} {W T : List ℕ} (h : HasMoved 
     placed-head : head_of W (placed W c) ≡ head_in w c
     placed-head =
         let z : (d : ℕ) → head_at d ≡ word_at d 0 = λ d. omega arith in
-        ap (λ (x : ℕ). get_or W x 0) (z (placed W c)) ∙ word 0 (omega arith) (λ y. omega arith) ∙ ap (λ (x : ℕ). get_or w₁.cells x 0) (sym (z c))
-        ∙ kept-head h.marks.kept c
+        ap (λ (x : ℕ). get_or W x 0) (z (placed W c)) ∙ word 0 (omega arith) (λ y. omega arith) ∙ ap (λ (x : ℕ). get_or w₁.cells x 0) (sym (z c)) ∙ kept-head h.marks.kept c
 
     pub placed-field : (f : ℕ) → f < room_for (head_in w c) → field_of W (placed W c) f ≡ field_of w.cells c f
     placed-field f m =
         let z : (d : ℕ) → field_at d f ≡ word_at d (2 + f) = λ d. omega arith in
         let most : f < most_fields = omega (arith, room_most (head_in w c)) in
-        ap (λ (x : ℕ). get_or W x 0) (z (placed W c)) ∙ word (2 + f) (omega (arith, most, most-is)) (λ y. omega arith)
-        ∙ ap (λ (x : ℕ). get_or w₁.cells x 0) (sym (z c))
+        ap (λ (x : ℕ). get_or W x 0) (z (placed W c)) ∙ word (2 + f) (omega (arith, most, most-is)) (λ y. omega arith) ∙ ap (λ (x : ℕ). get_or w₁.cells x 0) (sym (z c))
         ∙ kept_field h.marks.kept c f most
 
     pub placed-work : work_of W (placed W c) ≡ 0
@@ -170,16 +166,14 @@ module _ {s : Sizes} {w w₁ : Words} {e : Part} {W T : List ℕ} (h : HasMoved 
       go (inl o) (inr v) = absurd (survivor-fresh c v (subst (BeginsIn s w) (sym (outside-still b o) ∙ z ∙ survivor-placed c v) o.used))
       go (inr v) (inl o) = absurd (survivor-fresh b v (subst (BeginsIn s w) (sym (outside-still c o) ∙ sym z ∙ survivor-placed b v) o.used))
       go (inr v) (inr x) =
-          h.forwards.once b c (begins-page _ _ _ _ v.used) (on b v) (begins-page _ _ _ _ x.used) (on c x)
-          (sym (survivor-placed b v) ∙ z ∙ survivor-placed c x)
+          h.forwards.once b c (begins-page _ _ _ _ v.used) (on b v) (begins-page _ _ _ _ x.used) (on c x) (sym (survivor-placed b v) ∙ z ∙ survivor-placed c x)
 
   -- an object off the ending pages is one of them
   pub placed-only : (d : ℕ) → Begins s W T d → (e.ends (page_of d) → ⊥) → (c : ℕ) × Lives s w e c × (placed W c ≡ d)
   placed-only d u n = ⊎_elim old new (h.forwards.only d u)
     where
       old : BeginsIn s w₁ d → (c : ℕ) × Lives s w e c × (placed W c ≡ d)
-      old q = let o : Outside s w e d = record { used = in-use-kept h.marks.kept h.room d q; out = n } in
-          (d, outside-lives o, outside-still d o)
+      old q = let o : Outside s w e d = record { used = in-use-kept h.marks.kept h.room d q; out = n } in (d, outside-lives o, outside-still d o)
 
       new : (c : ℕ) × (page_of c < s.pages) × (marked s w₁.tables c ≡ 1) × (forward W c ≡ d) → (c : ℕ) × Lives s w e c × (placed W c ≡ d)
       new q = let v = marked-survivor h.marks q.0 q.1 q.2 in (q.0, survivor-lives v, survivor-placed q.0 v ∙ q.3)

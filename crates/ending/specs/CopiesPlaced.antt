@@ -35,8 +35,7 @@ module _ {s : Sizes} {t l r : ℕ} {w w₁ : Words} (b : Ending s t l r w w₁) 
   unfolding goal_in
   goal-marked c low on =
       let o = b.marks.only c low on in
-      ap (λ (x : Bool). cond x (target s (graph_of s w) r c) 0) (eq-eqb (home_in s w c) r (used-home s w c o.0 ∙ o.1))
-      ∙ sym (b.marks.goes c o.0 o.1)
+      ap (λ (x : Bool). cond x (target s (graph_of s w) r c) 0) (eq-eqb (home_in s w c) r (used-home s w c o.0 ∙ o.1)) ∙ sym (b.marks.goes c o.0 o.1)
 
   goal-unmarked : (c : ℕ) → marked s w₁.tables c ≡ 0 → goal_in s w r c ≡ 0
   unfolding goal_in
@@ -63,8 +62,7 @@ module _ {s : Sizes} {t l r : ℕ} {w w₁ : Words} (b : Ending s t l r w w₁) 
       record {
         goes = goal-marked;
         stays = goal-unmarked;
-        past = λ c h. goal-away c (λ (e : home_in s w c ≡ r).
-            omega (arith, no-home s w c (λ u. omega (arith, begins-low s w.cells w.tables c u))));
+        past = λ c h. goal-away c (λ (e : home_in s w c ≡ r). omega (arith, no-home s w c (λ u. omega (arith, begins-low s w.cells w.tables c u))));
       }
 
   -- ---- the copy
@@ -89,8 +87,7 @@ module _ {s : Sizes} {t l r : ℕ} {w w₁ : Words} (b : Ending s t l r w w₁) 
         to = new_cell (place_all (goal_in s w r) (cell_count s) (regions s) (none_moved (pages_at s w₁.tables))).moves x
 
         outside : Outside s w (part_of s w r) x → placed W x ≡ to
-        outside o = placed-still W x (outside-idle h x o)
-            ∙ sym (copy-still p c (goal_in s w r) goals-marked x (goal-away x (λ e. o.out (sym (used-home s w x o.used) ∙ e))))
+        outside o = placed-still W x (outside-idle h x o) ∙ sym (copy-still p c (goal_in s w r) goals-marked x (goal-away x (λ e. o.out (sym (used-home s w x o.used) ∙ e))))
 
         survivor : Survivor s w (part_of s w r) x → placed W x ≡ to
         survivor v =
@@ -104,8 +101,7 @@ pub pages-released : (s : Sizes) (r : ℕ) (T T' : List ℕ) → ((page : ℕ) �
     → ((page : ℕ) → page < s.pages → (owner_of s T page ≡ r → ⊥) → Alike s T T' page) → pages_at s T' ≡ released (only r) (pages_at s T)
 unfolding pages_at released
 pages-released s r T T' blank alike =
-    listed_same (page_in s T') (λ i. after (page_in s T i)) s.pages (λ i l. go i l (ℕ_discrete (owner_of s T i) r))
-    ∙ sym (map-listed after (page_in s T) s.pages)
+    listed_same (page_in s T') (λ i. after (page_in s T i)) s.pages (λ i l. go i l (ℕ_discrete (owner_of s T i) r)) ∙ sym (map-listed after (page_in s T) s.pages)
   where
     after : Page → Page
     after p = cond (only r p.owner) free_page p
@@ -113,9 +109,7 @@ pages-released s r T T' blank alike =
     go : (i : ℕ) → i < s.pages → Dec (owner_of s T i ≡ r) → page_in s T' i ≡ after (page_in s T i)
     go i l (yes e) =
         let z = blank i l e in
-        ap₂ (λ (x y : ℕ). record { owner = x; used = y }) z.owner z.used
-        ∙ sym (ap (λ (x : Bool). cond x free_page (page_in s T i)) (eq-eqb (owner_of s T i) r e))
+        ap₂ (λ (x y : ℕ). record { owner = x; used = y }) z.owner z.used ∙ sym (ap (λ (x : Bool). cond x free_page (page_in s T i)) (eq-eqb (owner_of s T i) r e))
     go i l (no n) =
         let z = alike i l n in
-        ap₂ (λ (x y : ℕ). record { owner = x; used = y }) z.owner z.used
-        ∙ sym (ap (λ (x : Bool). cond x free_page (page_in s T i)) (ne_eqb (owner_of s T i) r n))
+        ap₂ (λ (x y : ℕ). record { owner = x; used = y }) z.owner z.used ∙ sym (ap (λ (x : Bool). cond x free_page (page_in s T i)) (ne_eqb (owner_of s T i) r n))

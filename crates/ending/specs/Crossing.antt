@@ -23,12 +23,10 @@ cross_then s w w' cell c f = crosses_from s w'.tables (owner_in s w' (page_of (c
 pub record Told (s : Sizes) (w : Words) (e : Part) (w' : Words) (cell : ℕ → ℕ) (O : ℕ → Type 0) (E : ℕ → ℕ → Type 0) : Type 0 where
   pub live : (x h : ℕ) → E x h → (q : LiveSlot s w e cell x) × (h ≡ cross_then s w w' cell q.object q.field)
   pub kept : (x h : ℕ) → E x h → h ≢ 0
-  pub every : (x : ℕ) (q : LiveSlot s w e cell x) → O q.object → cross_then s w w' cell q.object q.field ≢ 0
-      → E x (cross_then s w w' cell q.object q.field)
+  pub every : (x : ℕ) (q : LiveSlot s w e cell x) → O q.object → cross_then s w w' cell q.object q.field ≢ 0 → E x (cross_then s w w' cell q.object q.field)
 
 -- those of the objects outside the part and of the survivors are all
-pub told-both : {s : Sizes} {w : Words} {e : Part} {w' : Words} {cell : ℕ → ℕ} {D E : ℕ → ℕ → Type 0} → Told s w e w' cell (Outside s w e) D
-    → Told s w e w' cell (Survivor s w e) E
+pub told-both : {s : Sizes} {w : Words} {e : Part} {w' : Words} {cell : ℕ → ℕ} {D E : ℕ → ℕ → Type 0} → Told s w e w' cell (Outside s w e) D → Told s w e w' cell (Survivor s w e) E
     → Told s w e w' cell (Lives s w e) (λ x h. D x h ⊎ E x h)
 told-both a b =
     record {
@@ -50,11 +48,9 @@ module _ {s : Sizes} {w : Words} {e : Part} {w' : Words} {cell : ℕ → ℕ} (h
       where
         go : (v : ℕ) → field_of w.cells c f ≡ v
             → (d : ℕ) × Lives s w e d × (field_of w.cells c f ≡ suc d) × (cross_then s w w' cell c f ≡ home d) × (1 < home d) × (home d ≢ home c)
-        go zero z = absurd (n (ap (λ (y : ℕ). crosses_from s w'.tables (home c) (renamed cell y)) z
-            ∙ sym (crosses-null s w'.tables (home c) 0 refl)))
+        go zero z = absurd (n (ap (λ (y : ℕ). crosses_from s w'.tables (home c) (renamed cell y)) z ∙ sym (crosses-null s w'.tables (home c) 0 refl)))
         go (suc d) z =
-            let v = crosses-into s w'.tables (home c) (suc (cell d)) (cross_then s w w' cell c f)
-            (ap (λ (y : ℕ). crosses_from s w'.tables (home c) (renamed cell y)) z) n in
+            let v = crosses-into s w'.tables (home c) (suc (cell d)) (cross_then s w w' cell c f) (ap (λ (y : ℕ). crosses_from s w'.tables (home c) (renamed cell y)) z) n in
             let y : cell_named (suc (cell d)) ≡ cell d = omega arith in
             let o : cross_then s w w' cell c f ≡ home d = v.region ∙ ap (λ (y : ℕ). owner_in s w' (page_of y)) y in
             (d, h.keeps.references c f d l m z, z, o, omega (arith, v.high, o), λ p. v.other (o ∙ p))
@@ -74,8 +70,7 @@ module _ {s : Sizes} {w : Words} {e : Part} {w' : Words} {cell : ℕ → ℕ} (h
 
   -- ---- by later words in which the objects are in the same cells, on pages of the same owners
 
-  module _ {w'' : Words} (k : Placing s w e w'' cell)
-      (same : (c : ℕ) → Lives s w e c → owner_in s w'' (page_of (cell c)) ≡ owner_in s w' (page_of (cell c))) where
+  module _ {w'' : Words} (k : Placing s w e w'' cell) (same : (c : ℕ) → Lives s w e c → owner_in s w'' (page_of (cell c)) ≡ owner_in s w' (page_of (cell c))) where
     crosses-same : (c f : ℕ) → Lives s w e c → f < ref_count w c → cross_then s w w'' cell c f ≡ cross_then s w w' cell c f
     crosses-same c f l m = ap₂ other (same c l) (go (field_of w.cells c f) refl)
       where
@@ -114,8 +109,7 @@ module _ {s : Sizes} {w : Words} {e : Part} {w' : Words} {cell : ℕ → ℕ} (h
         ∙ ap₂ (λ (p y : ℕ). other (owner_in s w' p) (region_of s w'.tables y)) (live-page h x q)
         (ap (λ (y : ℕ). get_or w'.cells y 0) q.at ∙ references q.object q.field q.lives q.low)
 
-    pub told-whole : {E : ℕ → ℕ → Type 0} → Told s w e w' cell (Lives s w e) E → Renewed E s.entries w.remember w'.remember
-        → RememberWhole s w'
+    pub told-whole : {E : ℕ → ℕ → Type 0} → Told s w e w' cell (Lives s w e) E → Renewed E s.entries w.remember w'.remember → RememberWhole s w'
     told-whole {E} t =
         renewed-exact (cross_to s w'.cells w'.tables) (cells_words s)
         (λ x g q.

@@ -36,13 +36,11 @@ pub crosses_past : Sizes → Words → Graph → ℕ → ℕ
 crosses_past s w g q = crosses_if s w g q (slot? s w.cells w.tables q)
 
 module _ {s : Sizes} {w : Words} {e : Part} {g : Graph} (whole : WholeFor s w) (a : GraphAfter s w e g) where
-  of_field : (c f : ℕ) → BeginsIn s w c → f < ref_count w c
-      → crosses_past s w g (field_at c f) ≡ cond (eqb (g.home c) 0) 0 (cross_ref g c (field_of w.cells c f))
+  of_field : (c f : ℕ) → BeginsIn s w c → f < ref_count w c → crosses_past s w g (field_at c f) ≡ cond (eqb (g.home c) 0) 0 (cross_ref g c (field_of w.cells c f))
   unfolding crosses_past crosses_if
   of_field c f u l = go (slot? s w.cells w.tables (field_at c f))
     where
-      go : (d : Dec (Slot s w.cells w.tables (field_at c f)))
-          → crosses_if s w g (field_at c f) d ≡ cond (eqb (g.home c) 0) 0 (cross_ref g c (field_of w.cells c f))
+      go : (d : Dec (Slot s w.cells w.tables (field_at c f))) → crosses_if s w g (field_at c f) d ≡ cond (eqb (g.home c) 0) 0 (cross_ref g c (field_of w.cells c f))
       go (yes o) =
           ap (λ (x : ℕ). cond (eqb (g.home x) 0) 0 (cross_ref g x (field_of w.cells c f)))
           (objects-apart s w.cells w.tables o.object o.begins c u f (ref-room s w whole c f u l) o.field o.room o.at).0
@@ -55,10 +53,8 @@ module _ {s : Sizes} {w : Words} {e : Part} {g : Graph} (whole : WholeFor s w) (
   all-positions : sum (crosses_past s w g) (cells_words s) ≡ crossing g
   unfolding crosses_past crosses_if
   all-positions =
-      positions-crossing s w whole g a.refs a.count (λ c l. (a.lives c l).used) (crosses_past s w g)
-      (λ q l n. none q n (slot? s w.cells w.tables q))
-      (λ c f u l z. of_field c f u l ∙ ap (λ (b : Bool). cond b 0 (cross_ref g c (field_of w.cells c f))) (eq-eqb (g.home c) 0 z))
-      (λ c f u l n. of-object c f n l)
+      positions-crossing s w whole g a.refs a.count (λ c l. (a.lives c l).used) (crosses_past s w g) (λ q l n. none q n (slot? s w.cells w.tables q))
+      (λ c f u l z. of_field c f u l ∙ ap (λ (b : Bool). cond b 0 (cross_ref g c (field_of w.cells c f))) (eq-eqb (g.home c) 0 z)) (λ c f u l n. of-object c f n l)
     where
       none : (q : ℕ) → (Slot s w.cells w.tables q → ⊥) → (d : Dec (Slot s w.cells w.tables q)) → crosses_if s w g q d ≡ 0
       none q n (yes o) = absurd (n o)

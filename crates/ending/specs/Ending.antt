@@ -1,11 +1,11 @@
 -- An end as the code begins it and leaves it.
-use Rattle.std.specs.Prelude.{List, ◌≡◌, ℕ, suc, ◌-◌, ◌^◌, ◌≤◌, ◌<◌, length}
+use Rattle.std.specs.Prelude.{◌≡◌, ℕ, suc, ◌-◌, ◌^◌, ◌≤◌, ◌<◌, length}
 use Rattle.std.proofs.Common.{sym, ap, subst, ◌∙◌, arith}
 use Rattle.rules.specs.declared.Sizes.{Sizes}
 use Rattle.rules.specs.Terms.{done}
 use Rattle.rules.specs.Regions.{region_at}
 use Rattle.layout.specs.Places.{Room, depth_of}
-use Rattle.layout.specs.Words.{Words, words, depth_in}
+use Rattle.layout.specs.Words.{Words, depth_in}
 use Rattle.promises.specs.Whole.{WholeFor}
 use Rattle.promises.specs.Reading.{whole_room}
 use Rattle.promises.specs.OwnedPages.{pages_owned}
@@ -42,17 +42,6 @@ pub record HasEnded (s : Sizes) (t l r : ℕ) (w w' : Words) : Type 0 where
   pub counted : FreedCounted s w r w'
   pub repacked : Repacked s w r w' cell
 
--- w₁ is marked for an end that is accepted: before the marking, which leaves the remember table as it is, the cells and tables were some c and k
-abbrev pub MarkedToEnd : Sizes → ℕ → ℕ → ℕ → Words → Type 0
-MarkedToEnd s t l r w₁ =
-    (c k : List ℕ) × Ending s t l r (words c w₁.remember k) w₁ × Accepted s r (words c w₁.remember k)
-
--- w' is left by the end for which w₁ is marked, whatever the cells and tables were before the marking
-abbrev pub EndsMarked : Sizes → ℕ → ℕ → ℕ → Words → Words → Type 0
-EndsMarked s t l r w₁ w' =
-    (c k : List ℕ) → Ending s t l r (words c w₁.remember k) w₁ → Accepted s r (words c w₁.remember k)
-    → HasEnded s t l r (words c w₁.remember k) w'
-
 module _ {s : Sizes} {t l r : ℕ} {w w₁ : Words} (e : Ending s t l r w w₁) where
   pub room_of : Room s (length w.tables)
   room_of = whole_room s w e.whole e.fits
@@ -79,7 +68,5 @@ module _ {s : Sizes} {t l r : ℕ} {w w₁ : Words} (e : Ending s t l r w w₁) 
   -- the promise of code 2
   pub ended_here : {w' : Words} → Accepted s r w → HasEnded s t l r w w' → DidHere s w (end_of t) w' (done 0)
   ended_here {w'} a h =
-      subst (λ (g : ℕ). Evacuated s w (part_of s w g) w' h.cell → Vacated s (part_of s w g) w' → FreedCounted s w g w' → Repacked s w g w' h.cell
-      → Accepted s g w → DidHere s w (end_of t) w' (done 0)) (sym region-deep)
-      (λ v z k p b. ended-did s w e.whole t (l - 1) e.thread deep w' h.cell v h.lowered k p z b.pages b.entries) h.evacuated
-      h.vacated h.counted h.repacked a
+      subst (λ (g : ℕ). Evacuated s w (part_of s w g) w' h.cell → Vacated s (part_of s w g) w' → FreedCounted s w g w' → Repacked s w g w' h.cell → Accepted s g w → DidHere s w (end_of t) w' (done 0)) (sym region-deep)
+      (λ v z k p b. ended-did s w e.whole t (l - 1) e.thread deep w' h.cell v h.lowered k p z b.pages b.entries) h.evacuated h.vacated h.counted h.repacked a

@@ -5,22 +5,20 @@ use Rattle.std.proofs.Math.Decide.{dec_lt}
 use Rattle.lists.specs.Stores.{drop-same}
 use Rattle.rules.specs.declared.Sizes.{Sizes}
 use Rattle.laws.specs.SameRules.{renamed}
-use Rattle.layout.specs.Places.{Room, depth_at, var_at, owner_at, used_at, mark_at, count_at, var_of, owner_of, used_of, mark_of, cells_words, remember_words}
-use Rattle.layout.specs.Places.{tables_words, count_room, owners_from, vars_from, made_at, freed_at, var_count}
-use Rattle.layout.specs.Cells.{head_at, work_at, field_at, head_of, field_of, room_for, cell_named, page_of, cell_on, cell_of, page_at, page-on, page-at}
-use Rattle.layout.specs.Cells.{work-cell}
+use Rattle.layout.specs.Places.{Room, depth_at, var_at, owner_at, used_at, mark_at, count_at, var_of, owner_of, used_of, mark_of, cells_words, remember_words, tables_words, count_room, owners_from, vars_from, made_at, freed_at, var_count}
+use Rattle.layout.specs.Cells.{head_at, work_at, field_at, head_of, field_of, room_for, cell_named, page_of, cell_on, cell_of, page_at, page-on, page-at, work-cell}
 use Rattle.layout.specs.Objects.{InUse, in-use?, in-use-same, begins-page, begins-same, begins-back, begins-used, begins-there, field-on}
-use Rattle.layout.specs.Words.{Words, words, Begins, NamesCell, owner_in, head_in, ref_count}
+use Rattle.layout.specs.Words.{Words, words, Begins, Names, owner_in, head_in, ref_count}
 use Rattle.remember.specs.Renewed.{Renewed}
 use Rattle.promises.specs.Whole.{Open, UnusedWhole}
 use Rattle.promises.specs.Reading.{ref-room}
 use Rattle.promises.specs.StandsFor.{SameFrom}
 use Rattle.promises.specs.Ends.{Part, Outside, Survivor, Lives, outside-lives, survivor-lives, lives-how}
-use Rattle.stack.specs.Marks.{page-unmarked}
+use Rattle.mark.specs.Marks.{page-unmarked}
 use Rattle.promises.specs.Regular.{Regular, regular-same}
 use Rattle.copy.specs.Taking.{room-same}
-use Rattle.rewrite.specs.Rewrite.{forward-same, link-same, begins-now, begins-then}
-use Rattle.rewrite.specs.RewriteSlots.{Variables}
+use Rattle.settle.specs.Rewrite.{forward-same, link-same, begins-now, begins-then}
+use Rattle.settle.specs.RewriteSlots.{Variables}
 use Rattle.release.specs.Release.{Blank, Alike}
 use Rattle.ended.specs.Evacuated.{Placement, Evacuated, Vacated}
 use Rattle.mark.specs.MarkedWords.{table_same, var-same}
@@ -39,9 +37,9 @@ module _ {s : Sizes} {w w₁ : Words} {e : Part} {W T : List ℕ} (h : HasMoved 
   variable-same : (i : ℕ) → i < var_count s → var_of s T i ≡ var_of s w.tables i
   variable-same i l = h.forwards.copying.rest (var_at s i) (inl (omega (arith, h.room))) ∙ var-same h.marks h.room i l
 
-  pub variables-ask : (i : ℕ) → i < var_count s → NamesCell s (var_of s T i)
+  pub variables-ask : (i : ℕ) → i < var_count s → Names s (var_of s T i)
   variables-ask i l =
-      subst (NamesCell s) (sym (variable-same i l))
+      subst (Names s) (sym (variable-same i l))
       (λ n. begins-page _ _ _ _ (h.keeps.variables i (cell_named (var_of s w.tables i)) l (omega arith)).used)
 
   -- their rewriting leaves the pages and the counts as the copy left them, and what comes before them as it was
@@ -59,20 +57,17 @@ module _ {s : Sizes} {w w₁ : Words} {e : Part} {W T : List ℕ} (h : HasMoved 
     room₂ = room-same Y.size tables-room
 
     pub regular₂ : Regular s T₂
-    regular₂ = regular-same (λ page l. record { owner = owner₂ page l; used = used₂ page l })
-        (λ g pos low. Y.same (count_at s g) (λ z. omega (arith, tables-room))) h.ready.regular
+    regular₂ = regular-same (λ page l. record { owner = owner₂ page l; used = used₂ page l }) (λ g pos low. Y.same (count_at s g) (λ z. omega (arith, tables-room))) h.ready.regular
 
     pub word₂ : (x : ℕ) → (vars_from s ≤ x → made_at s ≤ x) → get_or T₂ x 0 ≡ get_or w.tables x 0
     word₂ x n = far (dec_lt x (vars_from s))
       where
         far : Dec (x < vars_from s) → get_or T₂ x 0 ≡ get_or w.tables x 0
         far (yes l) =
-            Y.same x (λ z. omega arith) ∙ h.forwards.copying.rest x (inl (omega (arith, tables-room)))
-            ∙ table_same h.marks h.room x (λ z. omega (arith, tables-room))
+            Y.same x (λ z. omega arith) ∙ h.forwards.copying.rest x (inl (omega (arith, tables-room))) ∙ table_same h.marks h.room x (λ z. omega (arith, tables-room))
         far (no l) =
             let m : made_at s ≤ x = n (omega arith) in
-            Y.same x (λ z. omega (arith, tables-room)) ∙ h.forwards.copying.rest x (inr m)
-            ∙ table_same h.marks h.room x (λ z. omega (arith, tables-room))
+            Y.same x (λ z. omega (arith, tables-room)) ∙ h.forwards.copying.rest x (inr m) ∙ table_same h.marks h.room x (λ z. omega (arith, tables-room))
 
 -- ---- the release
 
@@ -91,8 +86,7 @@ pub record GaveBack (s : Sizes) (w : Words) (e : Part) (W T W' T' : List ℕ) : 
   pub kept : (q : ℕ) → (e.ends (page_at q) → InUse s T (cell_of q) → ⊥) → get_or W' q 0 ≡ get_or W q 0
 
 module _ {s : Sizes} {w w₁ : Words} {e : Part} {W T : List ℕ} {S : ℕ → Type 0} {W' : List ℕ} (k : HasRewritten s w w₁ e W T S W')
-    {E : ℕ → ℕ → Type 0} (told : Told s w e (words W w.remember T) (placed W) (Lives s w e) E) {M' : List ℕ}
-    (U : Renewed E s.entries w.remember M')
+    {E : ℕ → ℕ → Type 0} (told : Told s w e (words W w.remember T) (placed W) (Lives s w e) E) {M' : List ℕ} (U : Renewed E s.entries w.remember M')
     {T₂ : List ℕ} (Y : Variables s (var_count s) W' T T₂) {W'' T' : List ℕ} (Z : GaveBack s w e W' T₂ W'' T') where
   abbrev w' : Words
   w' = words W'' M' T'
@@ -138,10 +132,7 @@ module _ {s : Sizes} {w w₁ : Words} {e : Part} {W T : List ℕ} {S : ℕ → T
         head = λ x l. head-end (placed W x) refl (placed-out h x l) ∙ head-after k x l;
         stayed = λ x o.
             let z = (p.stayed x o).same in
-            record {
-              same = z;
-              owner = ap (λ (d : ℕ). owner_of s T' (page_of d)) (sym z) ∙ home-end x (outside-lives o) ∙ outside-home (placing h) x o;
-            };
+            record { same = z; owner = ap (λ (d : ℕ). owner_of s T' (page_of d)) (sym z) ∙ home-end x (outside-lives o) ∙ outside-home (placing h) x o };
         went = λ x v. home-end x (survivor-lives v) ∙ p.went x v;
         apart = p.apart;
       }
@@ -157,8 +148,7 @@ module _ {s : Sizes} {w w₁ : Words} {e : Part} {W T : List ℕ} {S : ℕ → T
   field_end : (x f : ℕ) → Lives s w e x → f < room_for (head_in w x) → field_of W'' (placed W x) f ≡ field_of W' (placed W x) f
   field_end x f l m =
       let p = (placing h).placement in
-      word_end (field_at (placed W x) f) (field-on s W T (placed W x) (p.used x l) f (subst (λ (n : ℕ). f < room_for n) (sym (p.head x l)) m))
-      (placed-out h x l)
+      word_end (field_at (placed W x) f) (field-on s W T (placed W x) (p.used x l) f (subst (λ (n : ℕ). f < room_for n) (sym (p.head x l)) m)) (placed-out h x l)
 
   slot-end : (x f : ℕ) → Lives s w e x → f < ref_count w x → field_of W'' (placed W x) f ≡ renamed (placed W) (field_of w.cells x f)
   slot-end x f l m = field_end x f l (ref-room s w h.whole x f l.used m) ∙ slot-after k x f l m
@@ -168,8 +158,7 @@ module _ {s : Sizes} {w w₁ : Words} {e : Part} {W T : List ℕ} {S : ℕ → T
   unused-end q n = go (e.ends? (page_at q)) (in-use? s T (cell_of q))
     where
       before : (InUse s T (cell_of q) → ⊥) → get_or W'' q 0 ≡ 0
-      before m = Z.kept q (λ z u. m (in-use-same (λ page l. sym (used₂ h Y page l)) (cell_of q) u))
-          ∙ unused-after k q (record { low = n.low; unused = m })
+      before m = Z.kept q (λ z u. m (in-use-same (λ page l. sym (used₂ h Y page l)) (cell_of q) u)) ∙ unused-after k q (record { low = n.low; unused = m })
 
       go : Dec (e.ends (page_at q)) → Dec (InUse s T (cell_of q)) → get_or W'' q 0 ≡ 0
       go (yes z) (yes u) = Z.emptied q z (in-use-same (used₂ h Y) (cell_of q) u)
@@ -212,8 +201,7 @@ module _ {s : Sizes} {w w₁ : Words} {e : Part} {W T : List ℕ} {S : ℕ → T
   same_word : (x : ℕ) → (depth_at 0 ≤ x → tables_words s ≤ x) → get_or T' x 0 ≡ get_or w.tables x 0
   same_word x n =
       let far : depth_at 0 ≤ x → made_at s + 2 ≤ x = λ z. omega (arith, n z, count_room s) in
-      Z.rest x (λ z. omega (arith, far z, h.ready.room)) (λ z. omega (arith, far (omega (arith, h.ready.room))))
-      (λ z. omega (arith, far (omega (arith, z, h.ready.room))))
+      Z.rest x (λ z. omega (arith, far z, h.ready.room)) (λ z. omega (arith, far (omega (arith, h.ready.room)))) (λ z. omega (arith, far (omega (arith, z, h.ready.room))))
       ∙ word₂ h Y x (λ z. omega (arith, far (omega arith)))
 
   pub vacated : Vacated s e w'
@@ -224,12 +212,10 @@ module _ {s : Sizes} {w w₁ : Words} {e : Part} {W T : List ℕ} {S : ℕ → T
       record {
         beyond =
             record {
-              cells = same_from (cells_words s) w.cells W''
-                  (Z.cells-size ∙ k.cells.size ∙ h.forwards.copying.cells-size ∙ h.marks.kept.cells-length) far;
+              cells = same_from (cells_words s) w.cells W'' (Z.cells-size ∙ k.cells.size ∙ h.forwards.copying.cells-size ∙ h.marks.kept.cells-length) far;
               remember = same_from (remember_words s) w.remember M' U.edited.long U.edited.spare;
               tables =
-                  same_from (tables_words s) w.tables T' (Z.size ∙ Y.size ∙ h.forwards.copying.tables-size ∙ h.marks.kept.tables-length)
-                  (λ x l. same_word x (λ z. l));
+                  same_from (tables_words s) w.tables T' (Z.size ∙ Y.size ∙ h.forwards.copying.tables-size ∙ h.marks.kept.tables-length) (λ x l. same_word x (λ z. l));
             };
         sizes = λ j l. same_word j (λ z. omega arith);
         entries = U.edited.size;

@@ -9,7 +9,7 @@ use Rattle.layout.specs.Words.{Words}
 use Rattle.promises.specs.Whole.{WholeFor}
 use Rattle.promises.specs.Regular.{SamePage, whole-regular, regular-same}
 use Rattle.promises.specs.Ends.{Part}
-use Rattle.stack.specs.Marks.{kept-in-use}
+use Rattle.mark.specs.Marks.{kept-in-use}
 use Rattle.mark.specs.Survivors.{Marked}
 use Rattle.copy.specs.Taking.{room-same}
 use Rattle.copy.specs.Passing.{Ready}

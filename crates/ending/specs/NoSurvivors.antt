@@ -1,6 +1,6 @@
 -- An end without survivors: no cell is marked, so none moves and nothing outside r points into r. Each stage but the entries and the release
 -- leaves the words as they are.
-use Rattle.std.specs.Prelude.{◌≡◌, refl, ◌⊎◌, ℕ, zero, suc, ◌≤◌, ◌<◌, get_or}
+use Rattle.std.specs.Prelude.{◌≡◌, refl, ◌⊎◌, ℕ, zero, suc, ◌≤◌, ◌<◌}
 use Rattle.std.proofs.Common.{sym, ap, ◌∙◌, ⊎_elim, arith}
 use Rattle.lists.specs.Counting.{sum-none}
 use Rattle.lists.specs.Bits.{bit_at, bit-zero}
@@ -8,7 +8,7 @@ use Rattle.rules.specs.declared.Sizes.{Sizes}
 use Rattle.rules.specs.Regions.{region_at}
 use Rattle.rules.specs.Graph.{freed_by}
 use Rattle.layout.specs.Places.{var_of, mark_of, count_of, entries_used, var_count}
-use Rattle.layout.specs.Cells.{work_of, field_of, page_of, place_of, cell_named}
+use Rattle.layout.specs.Cells.{work_of, page_of, place_of, cell_named}
 use Rattle.layout.specs.Marks.{marked}
 use Rattle.layout.specs.Objects.{begins-page}
 use Rattle.layout.specs.Words.{Words, graph_of}
@@ -17,13 +17,14 @@ use Rattle.census.specs.Census.{over_none}
 use Rattle.promises.specs.Arriving.{arriving, region_more, more-none}
 use Rattle.copy.specs.Passing.{Moves.none, none-arriving}
 use Rattle.copy.specs.Copying.{Plan, Copy}
-use Rattle.rewrite.specs.Rewrite.{forwarded, forward-null, forward-still, Rewritten, rewritten-none}
-use Rattle.rewrite.specs.RewriteSlots.{Variables}
+use Rattle.settle.specs.Rewrite.{forwarded, forward-null, forward-still, Rewritten, rewritten-none}
+use Rattle.settle.specs.RewriteSlots.{Variables}
 use Rattle.settle.specs.Update.{Copies, Settles}
 use Rattle.ended.specs.EndQuestion.{crossing_after}
 use Rattle.mark.specs.MarkedWords.{outside-work, var-same}
 use Rattle.ending.specs.Rewriting.{copy-survivor}
-use Rattle.promises.specs.ChainHolders.{HoldingSlot}
+use Rattle.promises.specs.EntrySays.{entry-says}
+use Rattle.ending.specs.Region.{Held}
 use Rattle.ending.specs.Ending.{Ending, room_of}
 use Rattle.ending.specs.Stages.{freed-rest, keeps, moved, settle-ask}
 
@@ -45,23 +46,17 @@ module _ {s : Sizes} {t l r : ℕ} {w w₁ : Words} (b : Ending s t l r w w₁) 
         moves = none {m = 0} (omega arith);
         later = λ j h m. omega arith;
         done = λ j h c l on. absurd (unset c l on);
-        took = omega (
-          arith,
-          sum-none (λ j. region_more s w₁.tables (arriving s w₁.cells w₁.tables) (region_at s t j)) l
-              (λ j m. more-none s w₁.tables _ (region_at s t j)
-              (none-arriving s w₁.cells w₁.tables (region_at s t j) (λ c low on. absurd (unset c low on)))),
-        );
+        took = omega (arith, sum-none (λ j. region_more s w₁.tables (arriving s w₁.cells w₁.tables) (region_at s t j)) l (λ j m. more-none s w₁.tables _ (region_at s t j) (none-arriving s w₁.cells w₁.tables (region_at s t j) (λ c low on. absurd (unset c low on)))));
       }
 
-  -- a slot outside r that points into r would hold a survivor
-  none-held : (x : ℕ) → HoldingSlot s w r x → ⊥
+  -- a remembered slot would hold a survivor
+  none-held : (x : ℕ) → Held s w r x → ⊥
   none-held x q =
-      let y = q.slot in
-      let c = cell_named (get_or w.cells x 0) in
-      let value : field_of w.cells y.object y.field
-      ≡ suc c = ap (λ (z : ℕ). get_or w.cells z 0) y.at ∙ (let n = q.real in omega arith) in
-      let v = (keeps b).references y.object y.field c (record { used = y.begins; goes = λ z. absurd (q.outside z) }) y.low value in
-      no-survivor c (record { used = v.used; within = q.into; goes = v.goes q.into })
+      let y = entry-says b.whole q.entry q.low in
+      let within = sym y.region ∙ q.region in
+      let v =
+      (keeps b).references y.object y.field y.names (record { used = y.used; goes = λ z. absurd (y.other (within ∙ sym z)) }) y.low y.value in
+      no-survivor y.names (record { used = v.used; within = within; goes = v.goes within })
 
   module _ (p : Plan s l (region_at s t) w₁.cells w₁.tables) where
     pub none-copies : (x : ℕ) → Copies s w₁.cells w₁.tables x → ⊥
@@ -69,12 +64,11 @@ module _ {s : Sizes} {t l r : ℕ} {w w₁ : Words} (b : Ending s t l r w w₁) 
         let o = copy-survivor (moved b p none-copied) x q in
         no-survivor o.0.object o.1
 
-    pub none-rewritten : Rewritten (λ x. HoldingSlot s w r x ⊎ Copies s w₁.cells w₁.tables x) w₁.cells w₁.cells
-    none-rewritten = rewritten-none (λ x. HoldingSlot s w r x ⊎ Copies s w₁.cells w₁.tables x) w₁.cells
-        (λ x. ⊎_elim (none-held x) (none-copies x))
+    pub none-rewritten : Rewritten (λ x. Held s w r x ⊎ Copies s w₁.cells w₁.tables x) w₁.cells w₁.cells
+    none-rewritten = rewritten-none (λ x. Held s w r x ⊎ Copies s w₁.cells w₁.tables x) w₁.cells (λ x. ⊎_elim (none-held x) (none-copies x))
 
     pub none-update : crossing_after s w r ≤ s.entries → Settles s r s.entries (entries_used w.remember) w₁.cells w.remember w₁.tables
-    none-update = settle-ask b p none-copied (rewritten-none (HoldingSlot s w r) w₁.cells none-held)
+    none-update = settle-ask b p none-copied (rewritten-none (Held s w r) w₁.cells none-held)
 
   pub none-variables : Variables s (var_count s) w₁.cells w₁.tables w₁.tables
   none-variables = record { size = refl; moved = λ i l. moved i l (var_of s w₁.tables i) refl; same = λ x h. refl }
@@ -85,5 +79,4 @@ module _ {s : Sizes} {t l r : ℕ} {w w₁ : Words} (b : Ending s t l r w w₁) 
           let y : cell_named (suc d) ≡ d = omega arith in
           sym (forward-still w₁.cells (suc d)
           (ap (work_of w₁.cells) y
-          ∙ ⊎_elim (outside-work b.marks b.whole d) (λ v. absurd (no-survivor d v))
-          (lives-how ((keeps b).variables i d l (sym (var-same b.marks (room_of b) i l) ∙ z)))))
+          ∙ ⊎_elim (outside-work b.marks b.whole d) (λ v. absurd (no-survivor d v)) (lives-how ((keeps b).variables i d l (sym (var-same b.marks (room_of b) i l) ∙ z)))))

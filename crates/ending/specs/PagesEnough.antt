@@ -14,7 +14,7 @@ use Rattle.layout.specs.Words.{Words, graph_of}
 use Rattle.promises.specs.Reading.{used-home}
 use Rattle.promises.specs.OwnedPages.{pages_owned, owned_one, owned_in, owned-same}
 use Rattle.promises.specs.Arriving.{arriving, more_pages, region_more, more_below}
-use Rattle.crossing.specs.Counted.{arriving-landed}
+use Rattle.census.specs.Counted.{arriving-landed}
 use Rattle.copy.specs.Copying.{Plan}
 use Rattle.promises.specs.Ends.{part_of, Survivor}
 use Rattle.ended.specs.EndQuestion.{pages_needed}
@@ -57,8 +57,7 @@ module _ {s : Sizes} {t l r : ℕ} {w w₁ : Words} (e : Ending s t l r w w₁) 
       ap₂ (λ (a b : ℕ). more_pages a b) (count_same e.marks (room_of e) (region_at s t j))
       (arriving-landed s w e.whole r w₁ e.marks (omega (arith, e.region, region-pos s t l)) (region_at s t j) (region-pos s t j)))
       ∙ sym
-      (subst₂ (λ (g n : ℕ). pages_needed s w g ≡ more_below s w.tables (landed s (graph_of s w) g) (region_at s t) n) (sym (region-deep e))
-      (sym (next e))
+      (subst₂ (λ (g n : ℕ). pages_needed s w g ≡ more_below s w.tables (landed s (graph_of s w) g) (region_at s t) n) (sym (region-deep e)) (sym (next e))
       (new-pages-ended s w e.whole t (l - 1) e.thread (deep e)))
 
   -- the plan of the copy

@@ -3,57 +3,45 @@ use Rattle.std.specs.Prelude.{◌≡◌, refl, ◌≢◌, List, ℕ, ◌<◌, ge
 use Rattle.std.proofs.Common.{sym, ap, ◌∙◌, ⊎_elim, arith}
 use Rattle.std.proofs.Math.Decide.{ℕ_discrete}
 use Rattle.rules.specs.declared.Sizes.{Sizes}
-use Rattle.layout.specs.Places.{owner_of}
-use Rattle.layout.specs.Cells.{field_of, page_of, page_at, cell_on, cell_named, page-on}
+use Rattle.layout.specs.Places.{owner_of, entries_used}
+use Rattle.layout.specs.Cells.{page_of, page_at, cell_on, page-on}
 use Rattle.layout.specs.Objects.{begins-page, begins-there}
 use Rattle.layout.specs.Words.{Words, words, owner_in}
 use Rattle.promises.specs.Whole.{WholeFor}
 use Rattle.promises.specs.Ends.{part_of, Lives, outside-lives, lives-how}
+use Rattle.remember.specs.Entries.{NamedWith}
 use Rattle.remember.specs.Staying.{new_region, new-gone, new-stays, new-moved}
 use Rattle.remember.specs.Crossing.{crosses_from}
-use Rattle.rewrite.specs.Rewrite.{forwarded}
+use Rattle.settle.specs.Rewrite.{forwarded}
 use Rattle.ended.specs.Living.{KeepsNamed}
 use Rattle.ending.specs.Placing.{OutsideSlot, HoldingSlots, outside-home, outside-live, live-page}
 use Rattle.ending.specs.Copied.{HasMoved, placed, placing, page-kept, placed-only}
 use Rattle.ending.specs.Rewriting.{cross-live}
-use Rattle.promises.specs.ChainHolders.{HoldingSlot}
-use Rattle.promises.specs.Reading.{ref-room}
-use Rattle.ending.specs.Remembering.{OfRegions, Renews}
+use Rattle.promises.specs.EntrySays.{entry-says}
+use Rattle.ending.specs.Remembering.{OfRegions, remembered-holding, Renews}
+
+-- the remembered slots that point into r
+abbrev pub Held : Sizes → Words → ℕ → ℕ → Type 0
+Held s w r = NamedWith r s.entries (entries_used w.remember) w.remember
 
 module _ {s : Sizes} {w : Words} {r : ℕ} (high : 1 < r) where
   pub of-region : OfRegions s w (part_of s w r) (λ g. g ≡ r)
   of-region = record { test = λ g. ℕ_discrete g r; high = λ g z. omega arith; ends = λ page l z. z; owner = λ page l z. z }
 
--- the slots outside r that point into r are those that an end has to hold on to
-pub holding : {s : Sizes} {w : Words} {r : ℕ} → WholeFor s w → KeepsNamed s w (part_of s w r) → HoldingSlots s w (part_of s w r) (HoldingSlot s w r)
-holding {s} {w} {r} whole keeps =
-    record {
-      slot = λ x q. record {
-        object = q.slot.object;
-        field = q.slot.field;
-        outside = record { used = q.slot.begins; out = q.outside };
-        low = q.slot.low;
-        at = sym q.slot.at;
-      };
-      every = λ c f d u l z own.
-          let e : cell_named (field_of w.cells c f) ≡ d = omega (arith, z) in
-          let v = (keeps.references c f d (outside-lives u) l z).used in
-          record {
-            slot = record { object = c; field = f; begins = u.used; room = ref-room s w whole c f u.used l; low = l; at = refl };
-            outside = u.out;
-            real = λ y. omega (arith, z);
-            page = omega (arith, ap page_of e, begins-page s w.cells w.tables d v);
-            into = ap (λ (x : ℕ). owner_in s w (page_of x)) e ∙ own;
-          };
-    }
+  pub holding : WholeFor s w → KeepsNamed s w (part_of s w r) → HoldingSlots s w (part_of s w r) (Held s w r)
+  holding whole keeps =
+      remembered-holding whole keeps of-region
+      (λ x q.
+      let y = entry-says whole q.entry q.low in
+      (q.entry, q.low, q.slot, λ z. y.other (sym y.region ∙ q.region ∙ sym z ∙ ap (owner_in s w) (ap page_at (sym q.slot) ∙ y.page))))
+      (λ i l z n. record { entry = i; low = l; region = z; slot = refl })
 
 module _ {s : Sizes} {w w₁ : Words} {r : ℕ} {W T : List ℕ} (pos : 0 < r) (h : HasMoved s w w₁ (part_of s w r) W T) where
   -- no object that lives on lies in r
   home_out : (c : ℕ) → Lives s w (part_of s w r) c → owner_of s T (page_of (placed W c)) ≢ r
   home_out c l z =
       ⊎_elim (λ o. o.out (sym (outside-home (placing h) c o) ∙ z))
-      (λ v. h.sends.away c (page_of c) v (begins-page _ _ _ _ v.used) v.within (v.within ∙ sym z ∙ (placing h).placement.went c v))
-      (lives-how l)
+      (λ v. h.sends.away c (page_of c) v (begins-page _ _ _ _ v.used) v.within (v.within ∙ sym z ∙ (placing h).placement.went c v)) (lives-how l)
 
   -- so its pages afterwards are its pages
   pub page-was : (page : ℕ) → page < s.pages → owner_of s T page ≡ r → owner_in s w page ≡ r
@@ -82,5 +70,4 @@ module _ {s : Sizes} {w w₁ : Words} {r : ℕ} {W T : List ℕ} (pos : 0 < r) (
       }
     where
       out : (x : ℕ) → OutsideSlot s w (part_of s w r) x → owner_of s T (page_at x) ≢ r
-      out x q z = home_out q.object (outside-lives q.outside)
-          (ap (owner_of s T) (sym (live-page (placing h) x (outside-live (placing h) x q))) ∙ z)
+      out x q z = home_out q.object (outside-lives q.outside) (ap (owner_of s T) (sym (live-page (placing h) x (outside-live (placing h) x q))) ∙ z)

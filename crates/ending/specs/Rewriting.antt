@@ -8,26 +8,24 @@ use Rattle.laws.specs.SameRules.{renamed}
 use Rattle.layout.specs.Places.{owner_of}
 use Rattle.layout.specs.Cells.{field_at, head_of, work_of, field_of, refs_of, page_of, page_at, cell_of, cell_named, room_for}
 use Rattle.layout.specs.Objects.{InUse, Covers, covers-field, begins-page, field-used, field-not-new, objects-apart}
-use Rattle.layout.specs.Words.{Words, words, BeginsIn, NamesCell, head_in, ref_count}
+use Rattle.layout.specs.Words.{Words, words, BeginsIn, Names, head_in, ref_count}
 use Rattle.remember.specs.Crossing.{crosses_from, crosses_at}
 use Rattle.promises.specs.Whole.{UnusedWhole}
 use Rattle.promises.specs.Reading.{refs-few, ref-room}
 use Rattle.promises.specs.Ends.{Part, Survivor, Lives, outside-lives, survivor-lives, lives-how}
-use Rattle.stack.specs.Marks.{kept-head}
+use Rattle.mark.specs.Marks.{kept-head}
 use Rattle.copy.specs.Marks.{copied}
 use Rattle.copy.specs.Forward.{forward}
-use Rattle.rewrite.specs.Rewrite.{forwarded, forward-null, forward-still, Rewritten, rewritten-join, link-same, heads-same}
-use Rattle.rewrite.specs.RewriteSlots.{Fields}
-use Rattle.copies.specs.RewriteCopies.{Wiring, wiring-now, OnPages, slot-now, slot-then}
+use Rattle.settle.specs.Rewrite.{forwarded, forward-null, forward-still, Rewritten, rewritten-join, link-same, heads-same}
+use Rattle.settle.specs.RewriteSlots.{Fields}
+use Rattle.settle.specs.RewriteCopies.{Wiring, wiring-now, OnPages, slot-now, slot-then}
 use Rattle.remember.specs.Appending.{Crossing}
-use Rattle.copies.specs.Settle.{cross_later}
+use Rattle.settle.specs.Settle.{cross_later}
 use Rattle.settle.specs.Update.{Copies}
 use Rattle.mark.specs.MarkedWords.{marked-survivor}
-use Rattle.ending.specs.Placing.{OutsideSlot, HoldingSlots, LiveSlot, placed-page, outside-live, live-outside, refs-placed, live-slot}
-use Rattle.ending.specs.Placing.{live-page}
+use Rattle.ending.specs.Placing.{OutsideSlot, HoldingSlots, LiveSlot, placed-page, outside-live, live-outside, refs-placed, live-slot, live-page}
 use Rattle.ending.specs.Crossing.{cross_then, Told}
-use Rattle.ending.specs.Copied.{HasMoved, placed, placing, forwarded-placed, still-used, outside-idle, on, copy, survivor-forward}
-use Rattle.ending.specs.Copied.{survivor-placed, placed-field, placed-work, copied-unused}
+use Rattle.ending.specs.Copied.{HasMoved, placed, placing, forwarded-placed, still-used, outside-idle, on, copy, survivor-forward, survivor-placed, placed-field, placed-work, copied-unused}
 
 module _ {s : Sizes} {w w₁ : Words} {e : Part} {W T : List ℕ} (h : HasMoved s w w₁ e W T) where
   copy-cell : (c : ℕ) → Survivor s w e c → work_of W c - 1 ≡ placed W c
@@ -81,29 +79,25 @@ module _ {s : Sizes} {w w₁ : Words} {e : Part} {W T : List ℕ} (h : HasMoved 
   -- a reference of an object that lives on is as it was, and names a cell
   live-before : (x : ℕ) (q : LiveSlot s w e (placed W) x) → get_or W x 0 ≡ field_of w.cells q.object q.field
   live-before x q =
-      ap (λ (y : ℕ). get_or W y 0) q.at ∙ placed-field h q.object q.lives q.field
-      (ref-room s w h.whole q.object q.field q.lives.used q.low)
+      ap (λ (y : ℕ). get_or W y 0) q.at ∙ placed-field h q.object q.lives q.field (ref-room s w h.whole q.object q.field q.lives.used q.low)
 
-  pub live-names : (x : ℕ) → LiveSlot s w e (placed W) x → NamesCell s (get_or W x 0)
+  pub live-names : (x : ℕ) → LiveSlot s w e (placed W) x → Names s (get_or W x 0)
   live-names x q =
       let d : ℕ = cell_named (field_of w.cells q.object q.field) in
-      subst (NamesCell s) (sym (live-before x q)) (λ n.
-      begins-page _ _ _ _ (h.keeps.references q.object q.field d q.lives q.low (omega arith)).used)
+      subst (Names s) (sym (live-before x q)) (λ n. begins-page _ _ _ _ (h.keeps.references q.object q.field d q.lives q.low (omega arith)).used)
 
   -- the forward references lead to the cell of what it names
-  pub live-later : (x : ℕ) (q : LiveSlot s w e (placed W) x)
-      → forwarded W (get_or W x 0) ≡ renamed (placed W) (field_of w.cells q.object q.field)
+  pub live-later : (x : ℕ) (q : LiveSlot s w e (placed W) x) → forwarded W (get_or W x 0) ≡ renamed (placed W) (field_of w.cells q.object q.field)
   live-later x q = ap (forwarded W) (live-before x q) ∙ forwarded-placed W (field_of w.cells q.object q.field)
 
   -- so it crosses where its object and what it names are then
-  pub cross-live : (x : ℕ) (q : LiveSlot s w e (placed W) x)
-      → cross_later s W T x ≡ cross_then s w (words W w.remember T) (placed W) q.object q.field
+  pub cross-live : (x : ℕ) (q : LiveSlot s w e (placed W) x) → cross_later s W T x ≡ cross_then s w (words W w.remember T) (placed W) q.object q.field
   cross-live x q = ap₂ (λ (p y : ℕ). crosses_from s T (owner_of s T p) y) (live-page (placing h) x q) (live-later x q)
 
-  pub names-later : (x : ℕ) → LiveSlot s w e (placed W) x → NamesCell s (forwarded W (get_or W x 0))
-  names-later x q = subst (NamesCell s) (sym (live-later x q)) (go (field_of w.cells q.object q.field) refl)
+  pub names-later : (x : ℕ) → LiveSlot s w e (placed W) x → Names s (forwarded W (get_or W x 0))
+  names-later x q = subst (Names s) (sym (live-later x q)) (go (field_of w.cells q.object q.field) refl)
     where
-      go : (v : ℕ) → field_of w.cells q.object q.field ≡ v → NamesCell s (renamed (placed W) v)
+      go : (v : ℕ) → field_of w.cells q.object q.field ≡ v → Names s (renamed (placed W) v)
       go zero z n = absurd (n refl)
       go (suc d) z n =
           subst (λ (x : ℕ). page_of x < s.pages) (let y : placed W d ≡ cell_named (suc (placed W d)) = omega arith in y)
@@ -148,8 +142,7 @@ module _ {s : Sizes} {w w₁ : Words} {e : Part} {W T : List ℕ} (h : HasMoved 
 
     pub rewritten-both : {W₃ : List ℕ} → Rewritten (Copies s W₂ T) W₂ W₃ → Rewritten (λ x. S x ⊎ Copies s W T x) W W₃
     rewritten-both R₃ =
-        rewritten-join R₂ R₃ (λ x z q. no_copy x (slot-then R₂ x q) z) (λ x. ⊎_elim inl (λ q. inr (slot-now R₂ x q)))
-        (λ x. ⊎_elim inl (λ q. inr (slot-then R₂ x q)))
+        rewritten-join R₂ R₃ (λ x z q. no_copy x (slot-then R₂ x q) z) (λ x. ⊎_elim inl (λ q. inr (slot-now R₂ x q))) (λ x. ⊎_elim inl (λ q. inr (slot-then R₂ x q)))
 
   -- the slots of objects outside the part lead where they should once the holding slots are rewritten, with others or alone
   module _ {P : ℕ → Type 0} {X : List ℕ} (R : Rewritten P W X) (among : (x : ℕ) → S x → P x) where
@@ -170,8 +163,7 @@ module _ {s : Sizes} {w w₁ : Words} {e : Part} {W T : List ℕ} (h : HasMoved 
         go : (v : ℕ) → field_of w.cells q.object q.field ≡ v → get_or X x 0 ≡ forwarded W (get_or W x 0)
         go zero z = unmoved x (forward-null W (get_or W x 0) (before ∙ z) ∙ sym (before ∙ z))
         go (suc d) z =
-            ⊎_elim (λ o. unmoved x (forward-still W (get_or W x 0)
-            (ap (work_of W) (let y : cell_named (get_or W x 0) ≡ d = omega (arith, before ∙ z) in y) ∙ outside-idle h d o)))
+            ⊎_elim (λ o. unmoved x (forward-still W (get_or W x 0) (ap (work_of W) (let y : cell_named (get_or W x 0) ≡ d = omega (arith, before ∙ z) in y) ∙ outside-idle h d o)))
             (λ v. R.moved x (among x (subst S (sym q.at) (H.every q.object q.field d q.outside q.low z v.within))))
             (lives-how (h.keeps.references q.object q.field d (outside-lives q.outside) q.low z))
 
@@ -194,8 +186,7 @@ module _ {s : Sizes} {w w₁ : Words} {e : Part} {W T : List ℕ} {S : ℕ → T
 
   pub live-after : (x : ℕ) → LiveSlot s w e (placed W) x → get_or W' x 0 ≡ forwarded W (get_or W x 0)
   live-after x q =
-      ⊎_elim (λ o. outside-after h r.holding r.cells (λ y. inl) x (live-outside (placing h) x q o))
-      (λ v. r.cells.moved x (inr (survivor-copy h x q v)))
+      ⊎_elim (λ o. outside-after h r.holding r.cells (λ y. inl) x (live-outside (placing h) x q o)) (λ v. r.cells.moved x (inr (survivor-copy h x q v)))
       (lives-how q.lives)
 
   pub slot-after : (c f : ℕ) → Lives s w e c → f < ref_count w c → field_of W' (placed W c) f ≡ renamed (placed W) (field_of w.cells c f)
@@ -206,14 +197,12 @@ module _ {s : Sizes} {w w₁ : Words} {e : Part} {W T : List ℕ} {S : ℕ → T
   -- a word after the references is no slot
   pub rest-after : (c f : ℕ) → Lives s w e c → ref_count w c ≤ f → f < room_for (head_in w c) → field_of W' (placed W c) f ≡ field_of w.cells c f
   rest-after c f l ge m =
-      r.cells.same (field_at (placed W c) f) (⊎_elim (λ q. none (held-live h r.holding (field_at (placed W c) f) q))
-      (λ q. none (copies-live h (field_at (placed W c) f) q))) ∙ placed-field h c l f m
+      r.cells.same (field_at (placed W c) f) (⊎_elim (λ q. none (held-live h r.holding (field_at (placed W c) f) q)) (λ q. none (copies-live h (field_at (placed W c) f) q))) ∙ placed-field h c l f m
     where
       none : LiveSlot s w e (placed W) (field_at (placed W c) f) → ⊥
       none q =
           let o = live-slot (placing h) (field_at (placed W c) f) q in
-          let y = objects-apart s W T (placed W c) ((placing h).placement.used c l) o.object o.begins o.field o.room f
-          (subst (λ (n : ℕ). f < room_for n) (sym ((placing h).placement.head c l)) m) q.at in
+          let y = objects-apart s W T (placed W c) ((placing h).placement.used c l) o.object o.begins o.field o.room f (subst (λ (n : ℕ). f < room_for n) (sym ((placing h).placement.head c l)) m) q.at in
           let x : c ≡ q.object = (placing h).placement.apart c q.object l q.lives y.0 in
           omega (arith, y.1, q.low, ap (ref_count w) x)
 

@@ -10,9 +10,9 @@ use Rattle.rules.specs.Terms.{ask}
 use Rattle.rules.specs.Regions.{region_at}
 use Rattle.layout.specs.Places.{count_of}
 use Rattle.promises.specs.OwnedPages.{owned_in}
-use Rattle.crossing.specs.Counted.{over-cells}
+use Rattle.census.specs.Counted.{over-cells}
 use Rattle.census.specs.Census.{Arrivals}
-use Rattle.crossing.specs.After.{crossing_counted}
+use Rattle.census.specs.After.{crossing_counted}
 use Rattle.promises.specs.Arriving.{goes_to, arriving, more_pages, region_more, more_below}
 
 -- the new pages by what come says are those of the survivors
@@ -25,12 +25,10 @@ more-arriving p W T come t n a =
 -- region r ends, the regions of thread t at the levels below n grow
 unfoldable pub room_asked : Sizes → List ℕ → List ℕ → List ℕ → ℕ → ℕ → ℕ → ℕ
 room_asked p W M T t n r =
-    ask (leb (more_below p T (arriving p W T) (region_at p t) n) (owned_in p T 0 p.pages)) 13
-    (ask (leb (crossing_counted p W M T r) p.entries) 14 0)
+    ask (leb (more_below p T (arriving p W T) (region_at p t) n) (owned_in p T 0 p.pages)) 13 (ask (leb (crossing_counted p W M T r) p.entries) 14 0)
 
 -- the number that the code found
-module _ (p : Sizes) (W M T : List ℕ) (t n r : ℕ) {needed free : ℕ} (en : needed ≡ more_below p T (arriving p W T) (region_at p t) n)
-    (ef : free ≡ owned_in p T 0 p.pages) where
+module _ (p : Sizes) (W M T : List ℕ) (t n r : ℕ) {needed free : ℕ} (en : needed ≡ more_below p T (arriving p W T) (region_at p t) n) (ef : free ≡ owned_in p T 0 p.pages) where
   pub asked-pages : free < needed → 13 ≡ room_asked p W M T t n r
   unfolding room_asked ask
   asked-pages l =

@@ -48,13 +48,11 @@ module _ {s : Sizes} {w : Words} {e : Part} {w' : Words} {cell : ℕ → ℕ} (h
   counts c f l m n =
       let y = crosses-names h c f l m n in
       let one : cross_ref g c (suc y.0) ≡ 1 =
-      ap₂ (λ (p q : Bool). cond (not p && not q) 1 0)
-      (ne_eqb (g.home c) (g.home y.0) (λ z. y.5 (sym (home-is y.0 y.1) ∙ sym z ∙ home-is c l)))
+      ap₂ (λ (p q : Bool). cond (not p && not q) 1 0) (ne_eqb (g.home c) (g.home y.0) (λ z. y.5 (sym (home-is y.0 y.1) ∙ sym z ∙ home-is c l)))
       (ne_eqb (g.home y.0) 1 (λ (z : g.home y.0 ≡ 1). omega (arith, home-is y.0 y.1, y.4))) in
       omega (arith, of-object h.whole a c f (lives-there h.whole a c l) m, ap (cross_ref g c) y.2, one)
 
-  enough : crossing g ≤ s.entries → (n : ℕ) (at : ℕ → ℕ) → ((i : ℕ) → i < n → Crosses (at i)) → ((a b : ℕ) → a < b → b < n → at a ≢ at b)
-      → n ≤ s.entries
+  enough : crossing g ≤ s.entries → (n : ℕ) (at : ℕ → ℕ) → ((i : ℕ) → i < n → Crosses (at i)) → ((a b : ℕ) → a < b → b < n → at a ≢ at b) → n ≤ s.entries
   enough fits n at crosses apart = omega (arith, fits, positions-few h.whole a n from low some once)
     where
       -- the place of slot x before the end
@@ -74,20 +72,17 @@ module _ {s : Sizes} {w : Words} {e : Part} {w' : Words} {cell : ℕ → ℕ} (h
       room i l = let k = (good i l).0 in ref-room s w h.whole k.object k.field k.lives.used k.low
 
       low : (i : ℕ) → i < n → from i < cells_words s
-      low i l = let k = good i l in subst (λ (q : ℕ). q < cells_words s) (sym k.1)
-          (field-inside s w.cells w.tables k.0.object k.0.lives.used k.0.field (room i l))
+      low i l = let k = good i l in subst (λ (q : ℕ). q < cells_words s) (sym k.1) (field-inside s w.cells w.tables k.0.object k.0.lives.used k.0.field (room i l))
 
       some : (i : ℕ) → i < n → 0 < crosses_past s w g (from i)
-      some i l = let k = good i l in subst (λ (x : ℕ). 0 < crosses_past s w g x) (sym k.1)
-          (counts k.0.object k.0.field k.0.lives k.0.low k.2)
+      some i l = let k = good i l in subst (λ (x : ℕ). 0 < crosses_past s w g x) (sym k.1) (counts k.0.object k.0.field k.0.lives k.0.low k.2)
 
       once : (a b : ℕ) → a < b → b < n → from a ≢ from b
       once a b l m e =
           let la : a < n = omega arith in
           let j = (good a la).0 in
           let k = (good b m).0 in
-          let z = objects-apart s w.cells w.tables j.object j.lives.used k.object k.lives.used k.field (room b m) j.field
-          (room a la) (sym (good a la).1 ∙ e ∙ (good b m).1) in
+          let z = objects-apart s w.cells w.tables j.object j.lives.used k.object k.lives.used k.field (room b m) j.field (room a la) (sym (good a la).1 ∙ e ∙ (good b m).1) in
           apart a b l m (j.at ∙ ap₂ (λ (c f : ℕ). field_at (cell c) f) z.0 z.1 ∙ sym k.at)
 
   pub space-enough : crossing g ≤ s.entries → AtMost Crosses s.entries

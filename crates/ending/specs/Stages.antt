@@ -10,11 +10,10 @@ use Rattle.rules.specs.Pages.{released}
 use Rattle.rules.specs.Graph.{freed_by}
 use Rattle.rules.specs.Rules.{counted}
 use Rattle.laws.specs.RegionLaws.{region-high, region-bounds, numbers-rise, region-number}
-use Rattle.layout.specs.Places.{Room, depth_at, count_at, depth_of, owner_of, mark_of, count_of, entries_used, slot_in, owners_from, counts_from, vars_from}
-use Rattle.layout.specs.Places.{made_at, freed_at, var_count}
+use Rattle.layout.specs.Places.{Room, depth_at, count_at, depth_of, owner_of, mark_of, count_of, entries_used, slot_in, owners_from, counts_from, vars_from, made_at, freed_at, var_count}
 use Rattle.layout.specs.Cells.{page_of, page_at, word_of, field-word}
 use Rattle.layout.specs.Objects.{begins-page}
-use Rattle.layout.specs.Words.{Words, words, NamesCell, depth_in, owner_in, graph_of}
+use Rattle.layout.specs.Words.{Words, words, Names, depth_in, owner_in, graph_of}
 use Rattle.remember.specs.Crossing.{crosses_from}
 use Rattle.remember.specs.Staying.{Entries}
 use Rattle.promises.specs.Whole.{Open}
@@ -26,9 +25,9 @@ use Rattle.promises.specs.Ends.{part_of, Lives}
 use Rattle.copy.specs.Passing.{moves-ready}
 use Rattle.copy.specs.Copying.{Plan, Copy, copy-marks}
 use Rattle.copy.specs.Forward.{copy-forwards}
-use Rattle.rewrite.specs.Rewrite.{forwarded, Rewritten, rewritten-like, ref-same}
-use Rattle.rewrite.specs.RewriteSlots.{Slots, slots_forwarded, chain-rewritten, Variables}
-use Rattle.copies.specs.RewriteCopies.{slot-then}
+use Rattle.settle.specs.Rewrite.{forwarded, Rewritten, ref-same}
+use Rattle.settle.specs.RewriteSlots.{Slots, Variables}
+use Rattle.settle.specs.RewriteCopies.{slot-then}
 use Rattle.remember.specs.Appending.{at-most-less}
 use Rattle.settle.specs.Update.{Copies, NewEntry, Settles, Updated}
 use Rattle.release.specs.Release.{Ended, ended-size, ended-freed, ended-depth, ended-rest, ended-blank, ended-alike, ended-regular}
@@ -41,15 +40,12 @@ use Rattle.census.specs.Survivors.{survivors_in, survivors-rest}
 use Rattle.mark.specs.MarkedWords.{owner-same, count_same, unlisted}
 use Rattle.ending.specs.Placing.{HoldingSlots, LiveSlot}
 use Rattle.ending.specs.Copied.{Sends, HasMoved, placed, placing, page-kept}
-use Rattle.ending.specs.Rewriting.{HasRewritten, copies-live, old-no-copy, live-names, names-later, cross-live, held-live, no_copy, copies-ask}
-use Rattle.ending.specs.Rewriting.{outside-after, copies-told}
-use Rattle.chains.specs.Chains.{ChainsWhole, chain_places}
+use Rattle.ending.specs.Rewriting.{HasRewritten, copies-live, old-no-copy, live-names, names-later, cross-live, held-live, no_copy, copies-ask, outside-after, copies-told}
 use Rattle.promises.specs.EntrySays.{entry-says}
-use Rattle.promises.specs.ChainHolders.{HoldingSlot, entry-holding, chain-right, chain-all}
 use Rattle.ending.specs.Crossing.{Told, told-both}
 use Rattle.ending.specs.Space.{space-enough}
 use Rattle.ending.specs.Remembering.{stays-told}
-use Rattle.ending.specs.Region.{of-region, holding, page-was, renews}
+use Rattle.ending.specs.Region.{Held, of-region, holding, page-was, renews}
 use Rattle.ending.specs.CopiesPlaced.{copied-pages, copied-cells, pages-released}
 use Rattle.ending.specs.Finish.{owner₂, used₂, room₂, regular₂, word₂, GaveBack, evacuated, vacated}
 use Rattle.ending.specs.Ending.{Ending, HasEnded, room_of, level-low, region-deep}
@@ -80,8 +76,8 @@ module _ {s : Sizes} {t l r : ℕ} {w w₁ : Words} (b : Ending s t l r w w₁) 
   pub keeps : KeepsNamed s w (part_of s w r)
   keeps = region-keeps s w b.whole r pos
 
-  pub held : HoldingSlots s w (part_of s w r) (HoldingSlot s w r)
-  held = holding b.whole keeps
+  pub held : HoldingSlots s w (part_of s w r) (Held s w r)
+  held = holding high b.whole keeps
 
   -- ---- the copy
 
@@ -106,8 +102,7 @@ module _ {s : Sizes} {t l r : ℕ} {w w₁ : Words} (b : Ending s t l r w w₁) 
     -- ---- the remembered slots
 
     -- the entries, by cells in which every remembered slot names a cell
-    entries-ask : {X : List ℕ} → length X ≡ length W → ((x : ℕ) → HoldingSlot s w r x → NamesCell s (get_or X x 0))
-        → Entries s r s.entries (entries_used w.remember) X w.remember
+    entries-ask : {X : List ℕ} → length X ≡ length W → ((x : ℕ) → Held s w r x → Names s (get_or X x 0)) → Entries s r s.entries (entries_used w.remember) X w.remember
     entries-ask size names =
         let e = b.whole.remember.entries in
         record {
@@ -117,43 +112,30 @@ module _ {s : Sizes} {t l r : ℕ} {w w₁ : Words} (b : Ending s t l r w w₁) 
           few = e.room;
           low = λ i l. (e.named i l).slot;
           rising = e.rising;
-          names = λ i l z. names (slot_in w.remember i) (entry-holding s w b.whole r (omega (arith, high)) bounds.1 i l z);
+          names = λ i l z. names (slot_in w.remember i) (record { entry = i; low = l; region = z; slot = refl });
         }
 
     pub slots-ask : Slots s r s.entries (entries_used w.remember) W w.remember
     slots-ask =
         record {
           entries = entries-ask refl (λ x q. live-names moved x (held-live moved held x q));
-          fields = λ i l. let y = entry-says b.whole i l in
-              subst (λ (x : ℕ). 2 ≤ word_of x) (sym y.at)
-              (field-word y.object y.field (omega (arith, y.low, refs-few s w b.whole y.object y.used)));
+          fields = λ i l. let y = entry-says b.whole i l in subst (λ (x : ℕ). 2 ≤ word_of x) (sym y.at) (field-word y.object y.field (omega (arith, y.low, refs-few s w b.whole y.object y.used)));
         }
-
-    -- the chain of r leads to the slots outside r that point into r, so these are rewritten
-    pub slots-rewritten : {K W₂ : List ℕ} → ChainsWhole s w.remember K → W₂ ≡ slots_forwarded w.remember (chain_places s K r) W
-        → Rewritten (HoldingSlot s w r) W W₂
-    slots-rewritten {K} k e =
-        rewritten-like (chain-rewritten slots-ask k bounds.0 bounds.1 e)
-        (λ x q. let i = chain-all s w b.whole r (omega (arith, high)) bounds.1 K k x q in record { place = i.0; there = i.1; slot = i.2 })
-        (λ x q. subst (HoldingSlot s w r) q.slot (chain-right s w b.whole r (omega (arith, high)) bounds.1 K k q.place q.there).1)
 
     -- no entry names a slot of a copy
     entry-no-copy : (i : ℕ) → i < entries_used w.remember → Copies s W T (slot_in w.remember i) → ⊥
-    entry-no-copy i l q = let y = entry-says b.whole i l in
-        old-no-copy moved y.object y.field y.used y.low (subst (Copies s W T) y.at q)
+    entry-no-copy i l q = let y = entry-says b.whole i l in old-no-copy moved y.object y.field y.used y.low (subst (Copies s W T) y.at q)
 
     -- ---- the remember table
 
-    module _ {W₃ : List ℕ} (R : Rewritten (λ x. HoldingSlot s w r x ⊎ Copies s W T x) W W₃) where
-      rewritten : HasRewritten s w w₁ (part_of s w r) W T (HoldingSlot s w r) W₃
+    module _ {W₃ : List ℕ} (R : Rewritten (λ x. Held s w r x ⊎ Copies s W T x) W W₃) where
+      rewritten : HasRewritten s w w₁ (part_of s w r) W T (Held s w r) W₃
       rewritten = record { moved = moved; holding = held; cells = R }
 
-      entries-told : Told s w (part_of s w r) (words W w.remember T) (placed W) (Lives s w (part_of s w r))
-          (NewEntry s r s.entries (entries_used w.remember) W₃ w.remember T)
-      entries-told = told-both (stays-told (placing moved) (of-region high) (renews pos moved W₃ (outside-after moved held R (λ x. inl))))
-          (copies-told rewritten)
+      entries-told : Told s w (part_of s w r) (words W w.remember T) (placed W) (Lives s w (part_of s w r)) (NewEntry s r s.entries (entries_used w.remember) W₃ w.remember T)
+      entries-told = told-both (stays-told (placing moved) (of-region high) (renews pos moved W₃ (outside-after moved held R (λ x. inl)))) (copies-told rewritten)
 
-    module _ {W₂ : List ℕ} (R₂ : Rewritten (HoldingSlot s w r) W W₂) where
+    module _ {W₂ : List ℕ} (R₂ : Rewritten (Held s w r) W W₂) where
       copy_live : (x : ℕ) → Copies s W₂ T x → LiveSlot s w (part_of s w r) (placed W) x
       copy_live x q = copies-live moved x (slot-then R₂ x q)
 
@@ -166,25 +148,18 @@ module _ {s : Sizes} {t l r : ℕ} {w w₁ : Words} (b : Ending s t l r w w₁) 
       pub settle-ask : crossing_after s w r ≤ s.entries → Settles s r s.entries (entries_used w.remember) W₂ w.remember T
       settle-ask entries =
           record {
-            entries = entries-ask R₂.size (λ x q. subst (NamesCell s) (sym (R₂.moved x q)) (names-later moved x (held-live moved held x q)));
+            entries = entries-ask R₂.size (λ x q. subst (Names s) (sym (R₂.moved x q)) (names-later moved x (held-live moved held x q)));
             wiring = copies-ask moved held R₂;
             old = λ i l q. entry-no-copy i l (slot-then R₂ (slot_in w.remember i) q);
-            names = λ x q. (
-              subst (NamesCell s) (sym (copy-same x q)) (live-names moved x (copy_live x q)),
-              subst (NamesCell s) (sym (copy-later x q)) (names-later moved x (copy_live x q)),
-            );
+            names = λ x q. (subst (Names s) (sym (copy-same x q)) (live-names moved x (copy_live x q)), subst (Names s) (sym (copy-later x q)) (names-later moved x (copy_live x q)));
             space = at-most-less
                 (λ x.
                 ⊎_elim
                 (λ q.
-                let y = (stays-told (placing moved) (of-region high) (renews pos moved W₂ (outside-after moved held R₂ (λ x z. z)))).live x q.0
-                q.1 in
+                let y = (stays-told (placing moved) (of-region high) (renews pos moved W₂ (outside-after moved held R₂ (λ x z. z)))).live x q.0 q.1 in
                 (y.0, λ z. q.1.kept (y.1 ∙ z)))
-                (λ q. (
-                  copy_live x q.0,
-                  λ z. q.1 (ap (λ (y : ℕ). crosses_from s T (owner_of s T (page_at x)) y) (copy-later x q.0)
-                      ∙ cross-live moved x (copy_live x q.0) ∙ z),
-                )))
+                (λ q.
+                (copy_live x q.0, λ z. q.1 (ap (λ (y : ℕ). crosses_from s T (owner_of s T (page_at x)) y) (copy-later x q.0) ∙ cross-live moved x (copy_live x q.0) ∙ z))))
                 (space-enough (placing moved) (region-after s w b.whole r pos) entries);
             rest = b.whole.remember.entries.rest;
           }
@@ -192,8 +167,7 @@ module _ {s : Sizes} {t l r : ℕ} {w w₁ : Words} (b : Ending s t l r w w₁) 
     -- ---- the listed pages
 
     -- no survivor was copied off another page
-    pub marks-ask : {n : ℕ} {l : List ℕ} → Lists (part_of s w r).ends s.pages n l → (page : ℕ) → page < s.pages → Off l n page
-        → mark_of s T page ≡ 0
+    pub marks-ask : {n : ℕ} {l : List ℕ} → Lists (part_of s w r).ends s.pages n l → (page : ℕ) → page < s.pages → Off l n page → mark_of s T page ≡ 0
     marks-ask h page low off = copy-marks p c page low (unlisted b.marks h page low off)
 
     module _ {W₃ T₂ : List ℕ} (Y : Variables s (var_count s) W₃ T T₂) where
@@ -230,8 +204,7 @@ module _ {s : Sizes} {t l r : ℕ} {w w₁ : Words} (b : Ending s t l r w w₁) 
             go (no l) = let y : made_at s ≤ x = m (omega arith) in inr (omega (arith, a))
 
         depth-kept : (u : ℕ) → u < s.threads → u ≢ t → depth_of T' u ≡ depth_in w u
-        depth-kept u l n = rest (depth_at u) (λ z. n (omega arith)) (λ z. omega (arith, a)) (λ z. omega (arith, a))
-            ∙ word₂ moved Y (depth_at u) (λ z. omega arith)
+        depth-kept u l n = rest (depth_at u) (λ z. n (omega arith)) (λ z. omega (arith, a)) (λ z. omega (arith, a)) ∙ word₂ moved Y (depth_at u) (λ z. omega arith)
 
         lowered : {M' : List ℕ} → Lowered s w t (l - 1) (words W₄ M' T')
         lowered = record { depth = depth-after; depths = depth-kept }
@@ -241,8 +214,7 @@ module _ {s : Sizes} {t l r : ℕ} {w w₁ : Words} (b : Ending s t l r w w₁) 
         counted-end M' =
             ap₂ (λ (x y : ℕ). record { made = x; freed = y })
             (rest (made_at s) (λ z. omega (arith, a, b.thread)) (λ z. omega arith) (λ z. omega arith) ∙ word₂ moved Y (made_at s) (λ z. omega arith))
-            (ended-freed a bounds.0 bounds.1 b.thread Z
-            ∙ ap₂ (λ (x y : ℕ). counted (x + y)) (word₂ moved Y (freed_at s) (λ z. omega arith)) f)
+            (ended-freed a bounds.0 bounds.1 b.thread Z ∙ ap₂ (λ (x y : ℕ). counted (x + y)) (word₂ moved Y (freed_at s) (λ z. omega arith)) f)
 
         -- every region but r that was open is open still, and so is every region around r
         still_open : (g : ℕ) → g ≢ r → Open s w.tables g → Open s T' g
@@ -264,18 +236,14 @@ module _ {s : Sizes} {t l r : ℕ} {w w₁ : Words} (b : Ending s t l r w w₁) 
               blank = λ page l z. ended-blank a bounds.0 bounds.1 b.thread Z page l (kept₂ page l z);
               alike = λ page l n. ended-alike a bounds.0 bounds.1 b.thread Z page l (λ z. n (was₂ page l z));
               rest = λ x n m k. rest x (λ z. let y : vars_from s ≤ x = n (omega arith) in omega (arith, b.thread)) m k;
-              outside = λ x o h. still_open (owner_in s w (page_of x)) o.out
-                  ((b.whole.pages (page_of x) (begins-page s w.cells w.tables x o.used)).region h);
-              survivor = λ x v h. let j = survivor-level b x v in
-                  subst (Open s T') (sym j.2) (level-open s T' t j.0 b.thread (omega (arith, j.1, level-low b))
-                  (omega (arith, j.1, depth-after)) (omega (arith, j.2)));
+              outside = λ x o h. still_open (owner_in s w (page_of x)) o.out ((b.whole.pages (page_of x) (begins-page s w.cells w.tables x o.used)).region h);
+              survivor = λ x v h. let j = survivor-level b x v in subst (Open s T') (sym j.2) (level-open s T' t j.0 b.thread (omega (arith, j.1, level-low b)) (omega (arith, j.1, depth-after)) (omega (arith, j.2)));
               cells-size = X.size;
               emptied = λ q z u. X.zero q u.page (kept₂ (page_at q) u.page z) u;
               kept = λ q n. X.same q (λ l z. n (was₂ (page_at q) l z));
             }
 
-        pub has_ended : {M' : List ℕ} → Rewritten (λ x. HoldingSlot s w r x ⊎ Copies s W T x) W W₃
-            → Updated s r s.entries (entries_used w.remember) W₃ w.remember T M' → HasEnded s t l r w (words W₄ M' T')
+        pub has_ended : {M' : List ℕ} → Rewritten (λ x. Held s w r x ⊎ Copies s W T x) W W₃ → Updated s r s.entries (entries_used w.remember) W₃ w.remember T M' → HasEnded s t l r w (words W₄ M' T')
         has_ended {M'} R u =
             record {
               cell = placed W;
@@ -286,9 +254,7 @@ module _ {s : Sizes} {t l r : ℕ} {w w₁ : Words} (b : Ending s t l r w w₁) 
               repacked = record {
                 cells = copied-cells b pos p c moved;
                 pages =
-                    pages-released s r T₂ T' (λ page m e. ended-blank a bounds.0 bounds.1 b.thread Z page m e)
-                    (λ page m e. ended-alike a bounds.0 bounds.1 b.thread Z page m e)
-                    ∙ ap (released (only r)) (pages-alike s T T₂ (λ page m. record { owner = owner₂ moved Y page m; used = used₂ moved Y page m })
-                    ∙ copied-pages b pos p c);
+                    pages-released s r T₂ T' (λ page m e. ended-blank a bounds.0 bounds.1 b.thread Z page m e) (λ page m e. ended-alike a bounds.0 bounds.1 b.thread Z page m e)
+                    ∙ ap (released (only r)) (pages-alike s T T₂ (λ page m. record { owner = owner₂ moved Y page m; used = used₂ moved Y page m }) ∙ copied-pages b pos p c);
               };
             }

@@ -1,15 +1,15 @@
 // The end of an epoch once its survivors are marked: word 1 of each cell of the ending region is the region that its object goes to, 0 if
-// it is freed, and its bit in the page's mark word says which is not 0. The stages are crates of their own: copy_targets, rewrite, settle, release;
-// what is freed is known by the survivors, which census counts.
-ghost use Rattle.std.specs.Prelude.{◌≡◌, ℕ, ◌<◌, ◌≤◌, length, get_or};
+// it is freed, and its bit in the page's mark word says which is not 0. The stages are crates of their own: copy, settle, release; what is
+// freed is known by the survivors, which census counts.
+ghost use Rattle.std.specs.Prelude.{◌≡◌, List, ℕ, ◌<◌, ◌≤◌, length, get_or};
 ghost use Rattle.lists.specs.Part.{Lists};
 ghost use Rattle.rules.specs.Regions.{regions};
-ghost use Rattle.layout.specs.Places.{owner_of};
+ghost use Rattle.layout.specs.Places.{owner_of, mark_of, count_of};
 ghost use Rattle.layout.specs.Words.{words};
 ghost use Rattle.chains.specs.Chains.{ChainsWhole, with_chains};
 ghost use Rattle.promises.specs.Arriving.{arriving};
 ghost use Rattle.pages.specs.Noted.{Noted};
-ghost use Rattle.ending.specs.Ending.{MarkedToEnd, EndsMarked};
+ghost use Rattle.ending.specs.Ending.{Ending, Accepted, HasEnded};
 
 use rules::Sizes;
 
@@ -29,21 +29,112 @@ pub fn evacuate(
     level: usize,
     region: u32,
 )
-    requires marked_to_end { MarkedToEnd p thread level region (words cells.old remember.old tables.old) }
+    requires by_index { (c t : List ℕ) × Ending p thread level region (words c remember.old t) (words cells.old remember.old tables.old) × Accepted p region (words c remember.old t) }
     requires lists { Lists (λ page. owner_of p tables.old page ≡ region) p.pages n list.now }
-    requires by_index { (g : ℕ) → 1 ≤ g → g ≤ regions p → get_or come.now g 0 ≡ 0 → arriving p cells.old tables.old g ≡ 0 }
+    requires by_index_2 { (g : ℕ) → 1 ≤ g → g ≤ regions p → get_or come.now g 0 ≡ 0 → arriving p cells.old tables.old g ≡ 0 }
     requires noted { Noted p tables.old notes.old × (regions p < length come.now) }
     requires chains_whole { ChainsWhole p remember.old chains.old }
-    ensures ends_marked { EndsMarked p thread level region (words cells.old remember.old tables.old)
-        (words cells.new remember.new tables.new) }
+    ensures by_index_3 { (c t : List ℕ) → Ending p thread level region (words c remember.old t) (words cells.old remember.old tables.old) → Accepted p region (words c remember.old t) → HasEnded p thread level region (words c remember.old t) (words cells.new remember.new tables.new) }
     ensures noted_2 { Noted p tables.new notes.new }
     ensures chains_after { chains.new ≡ with_chains p remember.new chains.old }
 {
     let survivors = census::survivors::count_survivors(p, tables, list, n);
     let freed = layout::tables::count(p, tables, layout::wide(region)) - survivors;
-    copy_targets::copy_survivors(p, cells, tables, notes, list, n, come, thread, level);
-    rewrite::rewrite_slots(p, cells, remember, chains, region);
+    copy::copy_survivors(p, cells, tables, notes, list, n, come, thread, level);
+    settle::rewrite::rewrite_slots(p, cells, remember, chains, region);
     settle::settle(p, cells, remember, tables, chains, list, n, region);
-    rewrite::rewrite_variables(p, cells, tables);
+    settle::rewrite::rewrite_variables(p, cells, tables);
     release::release(p, cells, tables, notes, list, n, region, thread, freed);
+}
+
+// The same end where nothing survives and the region's pages are listed; all its objects are freed.
+fn free_listed(
+    p: Sizes,
+    cells: &mut [u32],
+    remember: &mut [u32],
+    tables: &mut [u32],
+    chains: &mut [u32],
+    notes: &mut [u32],
+    list: &[u32],
+    n: usize,
+    thread: usize,
+    level: usize,
+    region: u32,
+    objects: u32,
+)
+    requires by_index { (c t : List ℕ) × Ending p thread level region (words c remember.old t) (words cells.old remember.old tables.old) × Accepted p region (words c remember.old t) }
+    requires by_index_2 { (page : ℕ) → page < p.pages → mark_of p tables.old page ≡ 0 }
+    requires noted { Noted p tables.old notes.old }
+    requires chains_whole { ChainsWhole p remember.old chains.old }
+    requires lists { Lists (λ page. owner_of p tables.old page ≡ region) p.pages n list.now }
+    requires objects_value { objects ≡ count_of p tables.old region }
+    ensures by_index_3 { (c t : List ℕ) → Ending p thread level region (words c remember.old t) (words cells.old remember.old tables.old) → Accepted p region (words c remember.old t) → HasEnded p thread level region (words c remember.old t) (words cells.new remember.new tables.new) }
+    ensures noted_2 { Noted p tables.new notes.new }
+    ensures chains_after { chains.new ≡ with_chains p remember.new chains.old }
+{
+    settle::entries::keep_entries(p, cells, remember, tables, chains, list, n, region);
+    release::release(p, cells, tables, notes, list, n, region, thread, objects);
+}
+
+// The same where they are not listed yet.
+fn list_and_free(
+    p: Sizes,
+    cells: &mut [u32],
+    remember: &mut [u32],
+    tables: &mut [u32],
+    chains: &mut [u32],
+    notes: &mut [u32],
+    thread: usize,
+    level: usize,
+    region: u32,
+    objects: u32,
+)
+    requires by_index { (c t : List ℕ) × Ending p thread level region (words c remember.old t) (words cells.old remember.old tables.old) × Accepted p region (words c remember.old t) }
+    requires by_index_2 { (page : ℕ) → page < p.pages → mark_of p tables.old page ≡ 0 }
+    requires noted { Noted p tables.old notes.old }
+    requires chains_whole { ChainsWhole p remember.old chains.old }
+    requires objects_value { objects ≡ count_of p tables.old region }
+    ensures by_index_3 { (c t : List ℕ) → Ending p thread level region (words c remember.old t) (words cells.old remember.old tables.old) → Accepted p region (words c remember.old t) → HasEnded p thread level region (words c remember.old t) (words cells.new remember.new tables.new) }
+    ensures noted_2 { Noted p tables.new notes.new }
+    ensures chains_after { chains.new ≡ with_chains p remember.new chains.old }
+{
+    let mut list = [0u32; 1024];
+    let n = pages::list_pages(p, tables, region, &mut list);
+    free_listed(
+        p, cells, remember, tables, chains, notes, &list, n, thread, level, region, objects,
+    );
+}
+
+// The end where nothing survives: no mark is set, so nothing moves and nothing leads into the region. Its entries go, its cells are cleared,
+// and its pages go. A region without objects has no pages, and needs no list.
+pub fn evacuate_none(
+    p: Sizes,
+    cells: &mut [u32],
+    remember: &mut [u32],
+    tables: &mut [u32],
+    chains: &mut [u32],
+    notes: &mut [u32],
+    thread: usize,
+    level: usize,
+    region: u32,
+)
+    requires by_index { (c t : List ℕ) × Ending p thread level region (words c remember.old t) (words cells.old remember.old tables.old) × Accepted p region (words c remember.old t) }
+    requires by_index_2 { (page : ℕ) → page < p.pages → mark_of p tables.old page ≡ 0 }
+    requires noted { Noted p tables.old notes.old }
+    requires chains_whole { ChainsWhole p remember.old chains.old }
+    ensures by_index_3 { (c t : List ℕ) → Ending p thread level region (words c remember.old t) (words cells.old remember.old tables.old) → Accepted p region (words c remember.old t) → HasEnded p thread level region (words c remember.old t) (words cells.new remember.new tables.new) }
+    ensures noted_2 { Noted p tables.new notes.new }
+    ensures chains_after { chains.new ≡ with_chains p remember.new chains.old }
+{
+    let objects = layout::tables::count(p, tables, layout::wide(region));
+    if objects != 0 {
+        list_and_free(
+            p, cells, remember, tables, chains, notes, thread, level, region, objects,
+        );
+    } else {
+        let none = [0u32; 1];
+        free_listed(
+            p, cells, remember, tables, chains, notes, &none, 0, thread, level, region, objects,
+        );
+    }
 }

@@ -1,4 +1,4 @@
--- One command and a block, from what `command_obey`, `epoch` and `collect` promise.
+-- One command and a block, from what `commands`, `epoch` and `collect` promise.
 use Rattle.std.specs.Prelude.{ℕ, ◌+◌, ◌*◌, ◌≤◌, ◌<◌, ◌≡◌, refl, List, length}
 use Rattle.std.proofs.Common.{arith, sym, ap, subst, subst₂, ◌∙◌}
 use Rattle.rules.specs.declared.Sizes.{Sizes}
@@ -12,16 +12,15 @@ use Rattle.promises.specs.Whole.{WholeFor}
 use Rattle.promises.specs.Slices.{Slices, slices, WholeSlices}
 use Rattle.promises.specs.Promises.{DidHere, command_at, size, RunAsked, Ran}
 use Rattle.promises.specs.Here.{did-anywhere}
-use Rattle.command_decode.specs.declared.Decoded.{Decoded}
-use Rattle.command_decode.specs.declared.Decoded.TheVariants.{End, Collect}
-use Rattle.command_obey.specs.declared.Obeyed.{Obeyed}
-use Rattle.command_obey.specs.declared.Obeyed.TheVariants.{Answered, Ends, Collects}
-use Rattle.command_decode.specs.Decoding.{command_for}
-use Rattle.command_obey.specs.Obeys.{LeftToCaller, Obeys}
-use Rattle.blocks.specs.Written.{written}
-use Rattle.heap.specs.Looping.{Looped, looped-start, looped-more, looped-to, looped-ran}
+use Rattle.commands.specs.declared.Decoded.{Decoded}
+use Rattle.commands.specs.declared.Decoded.TheVariants.{End, Collect}
+use Rattle.commands.specs.declared.Obeyed.{Obeyed}
+use Rattle.commands.specs.declared.Obeyed.TheVariants.{Answered, Ends, Collects}
+use Rattle.commands.specs.Decoding.{command_for}
+use Rattle.commands.specs.Obeys.{LeftToCaller, Obeys}
+use Rattle.heap.specs.Looping.{Looped, looped-start, looped-more, looped-to, looped-ran, written}
 
--- o is what `command_obey` gave for command x
+-- o is what `commands` gave for command x
 module _ (p : Sizes) (o : Obeyed) {c m t c' m' t' : List ℕ} {x : Command} (did : Obeys p c m t x c' m' t' o) where
   pub obeyed-answered : {a : Answer} → o ≡ Answered a → DidHere p (words c m t) x (words c' m' t') a
   obeyed-answered e = subst (Obeys p c m t x c' m' t') e did
@@ -36,8 +35,7 @@ module _ (p : Sizes) (o : Obeyed) {c m t c' m' t' : List ℕ} {x : Command} (did
 pub left-whole : {p : Sizes} {w w' : Words} {x : Command} {o : Obeyed} {d : Decoded} → WholeFor p w → LeftToCaller p w x w' o d → WholeFor p w'
 left-whole {p} r l = subst (WholeFor p) (sym l.same) r
 
-pub left-did : {p : Sizes} {w w' v : Words} {x : Command} {o : Obeyed} {d : Decoded} {a : Answer} → LeftToCaller p w x w' o d
-    → DidHere p w' (command_for d) v a
+pub left-did : {p : Sizes} {w w' v : Words} {x : Command} {o : Obeyed} {d : Decoded} {a : Answer} → LeftToCaller p w x w' o d → DidHere p w' (command_for d) v a
     → DidHere p w x v a
 left-did {p} {v = v} {a = a} l did = subst₂ (λ (b : Words) (y : Command). DidHere p b y v a) l.same (sym l.command) did
 
@@ -78,11 +76,9 @@ module _ {p : Sizes} {l : Slices} {block lent c m t k answers : List ℕ} {i : �
   pub turn-fits : i < size block → 2 * i + 1 < length answers
   turn-fits h = omega (arith, s.room, s.looped.spare.long)
 
-  pub turn_more : i < size block → {c' m' t' k' : List ℕ} {a : Answer} → DidHere p (words c m t) (command_at block i) (words c' m' t') a
-      → k' ≡ with_chains p m' k
-      → length k' ≡ length k → {answers' : List ℕ} → answers' ≡ written answers i a.number a.value
-      → Turning p l block lent c' m' t' k' answers' (i + 1)
-  turn_more h {c'} {m'} {t'} {k'} {a} d e long put =
+  pub turn_more : i < size block → {c' m' t' k' : List ℕ} {a : Answer} → DidHere p (words c m t) (command_at block i) (words c' m' t') a → k' ≡ with_chains p m' k
+      → length k' ≡ length k → Turning p l block lent c' m' t' k' (written answers i a.number a.value) (i + 1)
+  turn_more h {c'} {m'} {t'} {k'} {a} d e long =
       record {
         room = s.room;
         low = omega arith;
@@ -91,13 +87,10 @@ module _ {p : Sizes} {l : Slices} {block lent c m t k answers : List ℕ} {i : �
         tables-long = d.beyond.tables.long ∙ s.tables-long;
         chains-long = long ∙ s.chains-long;
         chains = chains-over l.chains turn-ready s.chains m' e;
-        looped =
-            subst (λ (as' : List ℕ). Looped p l.words block lent (words c' m' t') as' (i + 1)) (sym put)
-            (looped-more a s.looped h s.room (did-anywhere p (words c m t) (command_at block i) (words c' m' t') a d));
+        looped = looped-more a s.looped h s.room (did-anywhere p (words c m t) (command_at block i) (words c' m' t') a d);
       }
 
-pub turn-start : {p : Sizes} {block lent c m t k : List ℕ} → WholeFor p (words c m t) → ChainsWhole p m k → 2 * size block ≤ length lent
-    → Turning p (slices c m t k) block lent c m t k lent 0
+pub turn-start : {p : Sizes} {block lent c m t k : List ℕ} → WholeFor p (words c m t) → ChainsWhole p m k → 2 * size block ≤ length lent → Turning p (slices c m t k) block lent c m t k lent 0
 turn-start {p} {block} {lent} {c} {m} {t} r w room =
     record {
       room = room;
@@ -115,7 +108,6 @@ pub whole_ready : {c m t k : List ℕ} {p : Sizes} → WholeSlices (slices c m t
 whole_ready {c} {m} {t} {k} w e = subst (λ (q : Sizes). WholeFor q (words c m t) × ChainsWhole q m k) (sym e) (w.words, w.chains)
 
 -- the whole block
-pub looped-found : {c m t k block lent answers : List ℕ} {p : Sizes} {c' m' t' k' : List ℕ} {i : ℕ} → RunAsked (slices c m t k) block lent 0
-    → p ≡ sizes_at t
+pub looped-found : {c m t k block lent answers : List ℕ} {p : Sizes} {c' m' t' k' : List ℕ} {i : ℕ} → RunAsked (slices c m t k) block lent 0 → p ≡ sizes_at t
     → Turning p (slices c m t k) block lent c' m' t' k' answers i → size block ≤ i → Ran (slices c m t k) block lent 0 (slices c' m' t' k') answers
 looped-found a e s h = looped-ran a e (turn_end s h) s.chains

@@ -6,12 +6,11 @@ ghost use Rattle.promises.specs.Whole.{WholeFor};
 ghost use Rattle.promises.specs.Slices.{slices};
 ghost use Rattle.promises.specs.Promises.{DidHere, Ran, RunAsked, command_at};
 ghost use Rattle.pages.specs.Noted.{Noted};
-ghost use Rattle.blocks.specs.Written.{most_commands};
 
-use command_obey::Obeyed;
+use commands::Obeyed;
 use rules::{Answer, Command, Sizes};
 
-// One command: what `command_obey` answers, the end of an epoch, or a collection, to which its thread means nothing.
+// One command: what `commands` answers, the end of an epoch, or a collection, to which its thread means nothing.
 fn obey(
     p: Sizes,
     cells: &mut [u32],
@@ -24,16 +23,29 @@ fn obey(
     requires whole_for { WholeFor p (words cells.old remember.old tables.old) }
     requires chains_whole { ChainsWhole p remember.old chains.old }
     requires noted { Noted p tables.old notes.old }
-    ensures did_here { DidHere p (words cells.old remember.old tables.old) m
-        (words cells.new remember.new tables.new) result }
+    ensures did_here { DidHere p (words cells.old remember.old tables.old) m (words cells.new remember.new tables.new) result }
     ensures chains_after { chains.new ≡ with_chains p remember.new chains.old }
     ensures noted_2 { Noted p tables.new notes.new }
 {
-    let o = command_obey::obey(p, cells, remember, tables, chains, notes, m);
+    let o = commands::obey::obey(p, cells, remember, tables, chains, notes, m);
     match o {
         Obeyed::Answered(a) => a,
         Obeyed::Ends(t) => epoch::end(p, cells, remember, tables, chains, notes, layout::wide(t)),
         Obeyed::Collects(_) => collect::collect(p, cells, remember, tables, chains, notes),
+    }
+}
+
+// Command i of a block.
+fn command_at(block: &[u32], i: usize) -> Command
+    requires { (i < 2305843009213693952) × (5 * i + 5 ≤ length block.now) }
+    ensures { result ≡ command_at block.now i }
+{
+    Command {
+        code: block[5 * i],
+        thread: block[5 * i + 1],
+        a: block[5 * i + 2],
+        b: block[5 * i + 3],
+        c: block[5 * i + 4],
     }
 }
 
@@ -51,9 +63,8 @@ fn obey_at(
     requires whole_for { WholeFor p (words cells.old remember.old tables.old) }
     requires chains_whole { ChainsWhole p remember.old chains.old }
     requires noted { Noted p tables.old notes.old }
-    requires i_lt_most_commands { (i < most_commands) × (5 * i + 5 ≤ length block.now) }
-    ensures did_here { DidHere p (words cells.old remember.old tables.old) (command_at block.now i)
-        (words cells.new remember.new tables.new) result }
+    requires i_bound { (i < 2305843009213693952) × (5 * i + 5 ≤ length block.now) }
+    ensures did_here { DidHere p (words cells.old remember.old tables.old) (command_at block.now i) (words cells.new remember.new tables.new) result }
     ensures chains_after { chains.new ≡ with_chains p remember.new chains.old }
     ensures noted_2 { Noted p tables.new notes.new }
 {
@@ -64,7 +75,7 @@ fn obey_at(
         tables,
         chains,
         notes,
-        blocks::command_at(block, i),
+        command_at(block, i),
     )
 }
 
@@ -78,19 +89,44 @@ fn obey_block(
     answers: &mut [u32],
 )
     requires { RunAsked (slices cells.old remember.old tables.old chains.old) block.now answers.old 0 }
-    ensures { Ran (slices cells.old remember.old tables.old chains.old) block.now
-        answers.old 0 (slices cells.new remember.new tables.new chains.new)
-        answers.new }
+    ensures { Ran (slices cells.old remember.old tables.old chains.old) block.now answers.old 0 (slices cells.new remember.new tables.new chains.new) answers.new }
 {
     let p = layout::read_sizes(tables);
-    let n = blocks::count(block);
-    let mut notes = [0u32; layout::regions::NUMBERS];
+    let n = block.len() / 5;
+    let mut notes = [0u32; 130];
     let mut i: usize = 0;
     while i < n {
         let a = obey_at(p, cells, remember, tables, chains, &mut notes, block, i);
-        blocks::put_answer(answers, i, a);
+        answers[2 * i] = a.number;
+        answers[2 * i + 1] = a.value;
         i += 1;
     }
+}
+
+// Questions 3, 16, 4 and 5: the number of the first that says no, 0 if none does.
+fn ask(
+    cells: &[u32],
+    remember: &[u32],
+    tables: &[u32],
+    chains: &[u32],
+    block: &[u32],
+    answers: &[u32],
+) -> u32
+    ensures { RunAsked (slices cells.now remember.now tables.now chains.now) block.now answers.now result }
+{
+    if !whole::whole(cells, remember, tables) {
+        return 3;
+    }
+    if !chains::chains_whole(layout::read_sizes(tables), remember, chains) {
+        return 16;
+    }
+    if block.len() % 5 != 0 {
+        return 4;
+    }
+    if answers.len() < 2 * (block.len() / 5) {
+        return 5;
+    }
+    0
 }
 
 // Obeys the commands of a block and writes number and value for each. Gives 0; or on refusal, with slices and answers untouched, 3 for
@@ -105,11 +141,9 @@ pub extern "C" fn taldreku_run(
     block: &[u32],
     answers: &mut [u32],
 ) -> u32
-    ensures { Ran (slices cells.old remember.old tables.old chains.old) block.now
-        answers.old result (slices cells.new remember.new tables.new chains.new)
-        answers.new }
+    ensures { Ran (slices cells.old remember.old tables.old chains.old) block.now answers.old result (slices cells.new remember.new tables.new chains.new) answers.new }
 {
-    let q = blocks::ask(cells, remember, tables, chains, block, answers);
+    let q = ask(cells, remember, tables, chains, block, answers);
     if q != 0 {
         return q;
     }

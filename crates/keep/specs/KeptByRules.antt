@@ -17,11 +17,11 @@ use Rattle.layout.specs.Words.{Words, words, owner_in, home_in, vars_in, graph_o
 use Rattle.promises.specs.Whole.{WholeFor, IsRef}
 use Rattle.promises.specs.Ends.{part_of}
 use Rattle.promises.specs.Reading.{used-home, used-owned, alive-used, length-vars, get_d-vars, ref-room}
-use Rattle.stack.specs.Marks.{Shaped, listed_in, in-listed}
-use Rattle.stack.specs.Pushes.{Pushing, pushing-kept}
-use Rattle.stack.specs.Draining.{Pending, Drained, seeded}
+use Rattle.mark.specs.Marks.{Shaped, listed_in, in-listed}
+use Rattle.mark.specs.Pushes.{Pushing, pushing-kept}
+use Rattle.mark.specs.Draining.{Pending, Drained, seeded}
 use Rattle.mark.specs.Levels.{levels-start, levels-next}
-use Rattle.holders.specs.Holders.{var_held, var-some}
+use Rattle.mark.specs.Holders.{var_held, var-some}
 use Rattle.mark.specs.Reached.{refers-field, field-refers}
 use Rattle.mark.specs.Survivors.{Marked, Called, levels-marked, clean_at}
 use Rattle.keep.specs.Others.{OtherSlot, other_held, other-some, held-other, other-ref, kept-other}
@@ -47,10 +47,8 @@ pub kept-pending : {p : Sizes} {W T W₁ T₁ W₂ T₂ : List ℕ} {held top : 
 unfolding kept_refs
 kept-pending {p} {W} {T} {W₁} {T₁} {W₂} {T₂} {held} {top} s a b =
     let same = kept-other (pushing-kept s a) s.room in
-    subst (λ (x : List ℕ). Pending p 1 1 W T (listed (var_held p T 0 1 1) (var_count p) ++ x) W₂ T₂ top)
-    (listed_same (other_held p W₁ T₁) (other_held p W T) (cells_words p) (λ q l. same q))
-    (seeded 1 (var_held p T 0 1 1) (other_held p W₁ T₁) (var_count p) (cells_words p) s (λ q l. subst (IsRef p W T) (sym (same q)) (other-ref p W T q s))
-    a b)
+    subst (λ (x : List ℕ). Pending p 1 1 W T (listed (var_held p T 0 1 1) (var_count p) ++ x) W₂ T₂ top) (listed_same (other_held p W₁ T₁) (other_held p W T) (cells_words p) (λ q l. same q))
+    (seeded 1 (var_held p T 0 1 1) (other_held p W₁ T₁) (var_count p) (cells_words p) s (λ q l. subst (IsRef p W T) (sym (same q)) (other-ref p W T q s)) a b)
 
 -- ---- they are the holders of the rules
 
@@ -58,8 +56,7 @@ module _ (s : Sizes) (w : Words) (k : WholeFor s w) where
   kept-holder : (x : ℕ) → In (1 + x) (kept_refs s w.cells w.tables) → Holder (graph_of s w) x
   unfolding kept_refs
   kept-holder x i =
-      ⊎_elim by-variable by-slot (in-append (1 + x) (listed (var_held s w.tables 0 1 1) (var_count s))
-      (listed (other_held s w.cells w.tables) (cells_words s)) i)
+      ⊎_elim by-variable by-slot (in-append (1 + x) (listed (var_held s w.tables 0 1 1) (var_count s)) (listed (other_held s w.cells w.tables) (cells_words s)) i)
     where
       by-variable : In (1 + x) (listed (var_held s w.tables 0 1 1) (var_count s)) → Holder (graph_of s w) x
       by-variable m =
@@ -71,8 +68,7 @@ module _ (s : Sizes) (w : Words) (k : WholeFor s w) where
           let q = in-listed (other_held s w.cells w.tables) (cells_words s) (1 + x) m in
           let o = held-other s w.cells w.tables q.0 x q.2 in
           let d = o.0.slot in
-          let home : home_in s w d.object ≡ owner_in s w (page_at q.0) = used-home s w d.object d.begins
-          ∙ ap (owner_in s w) (sym (slot-page s w.cells w.tables q.0 d)) in
+          let home : home_in s w d.object ≡ owner_in s w (page_at q.0) = used-home s w d.object d.begins ∙ ap (owner_in s w) (sym (slot-page s w.cells w.tables q.0 d)) in
           slot d.object
           (field-refers s w k d.object d.field x d.begins d.low (ap (λ (z : ℕ). get_or w.cells z 0) d.at ∙ o.1 ∙ one-add x))
           (λ z. omega (arith, o.0.region, home))
@@ -82,8 +78,7 @@ module _ (s : Sizes) (w : Words) (k : WholeFor s w) where
   variable-in x i at =
       let b : i < var_count s = omega (arith, in_bounds (vars_in s w) i (λ z. omega arith), length-vars s w k) in
       in_left (1 + x) (listed (var_held s w.tables 0 1 1) (var_count s)) (listed (other_held s w.cells w.tables) (cells_words s))
-      (listed_in (var_held s w.tables 0 1 1) (var_count s) i (1 + x) b
-      (variable-held s w.tables i ∙ sym (get_d-vars s w i b) ∙ at ∙ sym (one-add x)))
+      (listed_in (var_held s w.tables 0 1 1) (var_count s) i (1 + x) b (variable-held s w.tables i ∙ sym (get_d-vars s w i b) ∙ at ∙ sym (one-add x)))
 
   -- an object that is not in region 1 is in another
   slot-in : (x y : ℕ) → Refers (graph_of s w) y x → (home_in s w y ≡ 1 → ⊥) → In (1 + x) (kept_refs s w.cells w.tables)
@@ -97,11 +92,9 @@ module _ (s : Sizes) (w : Words) (k : WholeFor s w) where
       let page = field-on s w.cells w.tables y u i.0 r in
       let apart : owner_in s w (page_of y) ≡ 1 → ⊥ = λ z. n (home ∙ z) in
       let own : 1 < owner_in s w (page_of y) = omega (arith, used-owned s w k y u) in
-      let o : OtherSlot s w.cells w.tables
-      (field_at y i.0) = record { slot = d; region = subst (λ (z : ℕ). 1 < owner_in s w z) (sym page) own } in
+      let o : OtherSlot s w.cells w.tables (field_at y i.0) = record { slot = d; region = subst (λ (z : ℕ). 1 < owner_in s w z) (sym page) own } in
       in_right (1 + x) (listed (var_held s w.tables 0 1 1) (var_count s)) (listed (other_held s w.cells w.tables) (cells_words s))
-      (listed_in (other_held s w.cells w.tables) (cells_words s) (field_at y i.0) (1 + x)
-      (slot-low s w.cells w.tables (field_at y i.0) d)
+      (listed_in (other_held s w.cells w.tables) (cells_words s) (field_at y i.0) (1 + x) (slot-low s w.cells w.tables (field_at y i.0) d)
       (other-some s w.cells w.tables (field_at y i.0) o ∙ i.2 ∙ sym (one-add x)))
 
   holder-kept : (x : ℕ) → Holder (graph_of s w) x → In (1 + x) (kept_refs s w.cells w.tables)
@@ -117,8 +110,7 @@ module _ (s : Sizes) (w : Words) (k : WholeFor s w) where
       }
 
   -- so what is marked when the stack is empty is what the collection keeps
-  pub kept-marked : Shaped s w.cells w.tables → {W' T' : List ℕ} {n : ℕ}
-      → Drained s 1 1 w.cells w.tables (kept_refs s w.cells w.tables) W' T' n
+  pub kept-marked : Shaped s w.cells w.tables → {W' T' : List ℕ} {n : ℕ} → Drained s 1 1 w.cells w.tables (kept_refs s w.cells w.tables) W' T' n
       → Marked s w (part_of s w 1) (words W' w.remember T')
   kept-marked sh d =
       levels-marked s w k (omega arith) kept-called

@@ -9,13 +9,11 @@ use Rattle.lists.specs.Says.{true-not-false}
 use Rattle.lists.specs.Tests.{both_true}
 use Rattle.rules.specs.declared.Sizes.{Sizes}
 use Rattle.layout.specs.Places.{Room, owner_of, used_of, used_at, page_words}
-use Rattle.layout.specs.Cells.{head_at, head_of, field_at, field_of, refs_of, most_fields, most-is, room_for, room_most, page_cells, page_of, cell_on, first_on}
-use Rattle.layout.specs.Cells.{cell_of, page_at, page-on, field-page}
-use Rattle.layout.specs.Objects.{Begins, begins-there, Slot, is_slot, slot-true, true-slot, slot-on, slot-word, field-slot, none_before, none_after}
-use Rattle.layout.specs.Objects.{none-past}
+use Rattle.layout.specs.Cells.{head_at, head_of, field_at, field_of, refs_of, most_fields, most-is, room_for, room_most, page_cells, page_of, cell_on, first_on, cell_of, page_at, page-on, field-page}
+use Rattle.layout.specs.Objects.{Begins, begins-there, Slot, is_slot, slot-true, true-slot, slot-on, slot-word, field-slot, none_before, none_after, none-past}
 use Rattle.promises.specs.Whole.{IsRef}
-use Rattle.stack.specs.Marks.{Shaped, shaped-few, Kept, kept-head, kept-refs, kept_field, kept-owner, kept-in-use}
-use Rattle.stack.specs.Pushes.{Pushing, pushing-kept, pushing-shaped}
+use Rattle.mark.specs.Marks.{Shaped, shaped-few, Kept, kept-head, kept-refs, kept_field, kept-owner, kept-in-use}
+use Rattle.mark.specs.Pushes.{Pushing, pushing-kept, pushing-shaped}
 use Rattle.keep.specs.PushRuns.{pushing-past, pushing-join}
 
 -- position q is a slot of an object in another region
@@ -74,8 +72,7 @@ module _ (p : Sizes) (W T : List ℕ) (q : ℕ) where
       go : Dec (OtherSlot p W T q) → IsRef p W T (other_held p W T q)
       go (yes o) =
           let d = o.slot in
-          subst (IsRef p W T) (sym (other-some o)) (subst (λ (z : ℕ). IsRef p W T (get_or W z 0)) d.at
-          ((s.objects d.object d.begins).references d.field d.low))
+          subst (IsRef p W T) (sym (other-some o)) (subst (λ (z : ℕ). IsRef p W T (get_or W z 0)) d.at ((s.objects d.object d.begins).references d.field d.low))
       go (no n) = λ l. absurd (let z : ⊥ = omega (arith, other_none n) in z)
 
 -- ---- a marking changes none of it
@@ -114,8 +111,7 @@ kept-other {p} {W} {T} {W'} {T'} k room q = go (other? p W T q)
     go (no n) =
         other_none p W' T' q (λ o. n (kept_slot (kept_back k) (subst (Room p) (sym k.tables-length) room) q o)) ∙ sym (other_none p W T q n)
 
-pub kept-used : {p : Sizes} {W T W' T' : List ℕ} → Kept p W T W' T' → Room p (length T) → (page : ℕ) → page < p.pages
-    → used_of p T' page ≡ used_of p T page
+pub kept-used : {p : Sizes} {W T W' T' : List ℕ} → Kept p W T W' T' → Room p (length T) → (page : ℕ) → page < p.pages → used_of p T' page ≡ used_of p T page
 kept-used {p} k room page l = k.tables (used_at p page) (λ q b e. omega (arith, room))
 
 -- ---- a page
@@ -149,8 +145,7 @@ module _ (p : Sizes) (T : List ℕ) (page : ℕ) where
       go (no n) = omega (arith, cells-none refl (omega arith))
 
   -- no such slot comes after them
-  none_left : (W : List ℕ) (place q : ℕ) → other_cells p T page ≤ place → place ≤ page_cells → head_at (cell_on page place) ≤ q
-      → q < head_at (cell_on (page + 1) 0) → OtherSlot p W T q → ⊥
+  none_left : (W : List ℕ) (place q : ℕ) → other_cells p T page ≤ place → place ≤ page_cells → head_at (cell_on page place) ≤ q → q < head_at (cell_on (page + 1) 0) → OtherSlot p W T q → ⊥
   none_left W place q h i l m o =
       let e : page_at q ≡ page = omega arith in
       let own : 1 < owner_of p T page = subst (λ (z : ℕ). 1 < owner_of p T z) e o.region in
@@ -173,10 +168,7 @@ module _ {p : Sizes} {W T W' T' : List ℕ} {top t page place : ℕ} (s : Shaped
         let on : page_at (field_at b f) ≡ page = field-page b f few' ∙ ap page_of e ∙ page-on page place (omega (arith, c.1)) in
         sym
         (other-some p W T (field_at b f)
-        (record {
-          slot = field-slot p W T b f there (omega (arith, room_most (head_of W b))) m;
-          region = subst (λ (z : ℕ). 1 < owner_of p T z) (sym on) c.0;
-        }))
+        (record { slot = field-slot p W T b f there (omega (arith, room_most (head_of W b))) m; region = subst (λ (z : ℕ). 1 < owner_of p T z) (sym on) c.0 }))
 
     pub cell-read : {W'' T'' : List ℕ} {t'' : ℕ} → Pushing p 1 (field_of W' b) W' T' t W'' T'' t'' (refs_of W' b)
         → Pushing p 1 (page_held p W T page) W T top W'' T'' t'' (head_at (place + 1))
@@ -185,34 +177,28 @@ module _ {p : Sizes} {W T W' T' : List ℕ} {top t page place : ℕ} (s : Shaped
         let n : ℕ = refs_of W' b in
         let same : n ≡ refs_of W b = kept-refs k b in
         let most : n ≤ 14 = omega (arith, shaped-few s b there, most-is) in
-        let first = pushing-past (head_at place) 2 (λ j a m. other_none p W T _ (λ o. none_before p W T _ b (omega arith) (omega arith) o.slot))
-        h in
+        let first = pushing-past (head_at place) 2 (λ j a m. other_none p W T _ (λ o. none_before p W T _ b (omega arith) (omega arith) o.slot)) h in
         let second =
         pushing-join (head_at place + 2) s first
         (λ j m.
         kept_field k b j (omega (arith, most-is)) ∙ held-there j (omega arith)
         ∙ ap (other_held p W T) (let z : field_at b j ≡ head_at (first_on page) + (head_at place + 2 + j) = omega arith in z)) i in
         subst (Pushing p 1 (page_held p W T page) W T top W'' T'' t'') (let z : head_at place + 2 + n + (14 - n) ≡ head_at (place + 1) = omega arith in z)
-        (pushing-past (head_at place + 2 + n) (14 - n) (λ j a m.
-        other_none p W T _ (λ o. none_after p W T _ b n (omega arith) (omega arith) (omega arith) o.slot)) second)
+        (pushing-past (head_at place + 2 + n) (14 - n) (λ j a m. other_none p W T _ (λ o. none_after p W T _ b n (omega arith) (omega arith) (omega arith) o.slot)) second)
 
   -- and the end
   pub page-read : other_cells p T page ≤ place → place ≤ page_cells → Pushing p 1 (page_held p W T page) W T top W' T' t page_words
   page-read l m =
       subst (Pushing p 1 (page_held p W T page) W T top W' T' t) (let z : head_at place + (page_words - head_at place) ≡ page_words = omega arith in z)
-      (pushing-past (head_at place) (page_words - head_at place)
-      (λ j a b. other_none p W T _ (none_left p T page W place _ l m (omega arith) (omega arith))) h)
+      (pushing-past (head_at place) (page_words - head_at place) (λ j a b. other_none p W T _ (none_left p T page W place _ l m (omega arith) (omega arith))) h)
 
 -- ---- all pages
 
-module _ {p : Sizes} {W T W' T' : List ℕ} {top t : ℕ} (page : ℕ) (s : Shaped p W T)
-    (h : Pushing p 1 (other_held p W T) W T top W' T' t (head_at (first_on page))) where
+module _ {p : Sizes} {W T W' T' : List ℕ} {top t : ℕ} (page : ℕ) (s : Shaped p W T) (h : Pushing p 1 (other_held p W T) W T top W' T' t (head_at (first_on page))) where
   pub page-asks : page < p.pages → used_of p T page ≤ page_cells → Shaped p W' T' × ((page < p.pages) × (used_of p T' page ≤ page_cells))
   page-asks l f = (pushing-shaped s h, (l, omega (arith, kept-used (pushing-kept s h) s.room page l)))
 
-  pub pages-read : {W'' T'' : List ℕ} {t'' : ℕ} → Pushing p 1 (page_held p W' T' page) W' T' t W'' T'' t'' page_words
-      → Pushing p 1 (other_held p W T) W T top W'' T'' t'' (head_at (first_on (page + 1)))
+  pub pages-read : {W'' T'' : List ℕ} {t'' : ℕ} → Pushing p 1 (page_held p W' T' page) W' T' t W'' T'' t'' page_words → Pushing p 1 (other_held p W T) W T top W'' T'' t'' (head_at (first_on (page + 1)))
   pages-read {W''} {T''} {t''} i =
-      subst (Pushing p 1 (other_held p W T) W T top W'' T'' t'')
-      (let z : head_at (first_on page) + page_words ≡ head_at (first_on (page + 1)) = omega arith in z)
+      subst (Pushing p 1 (other_held p W T) W T top W'' T'' t'') (let z : head_at (first_on page) + page_words ≡ head_at (first_on (page + 1)) = omega arith in z)
       (pushing-join (head_at (first_on page)) s h (λ j m. kept-other (pushing-kept s h) s.room (head_at (first_on page) + j)) i)

@@ -3,13 +3,12 @@ use Rattle.std.specs.Prelude.{◌≡◌, List, ℕ, zero, suc, ◌+◌, ◌-◌,
 use Rattle.std.proofs.Common.{subst, arith}
 use Rattle.rules.specs.declared.Sizes.{Sizes}
 use Rattle.promises.specs.Whole.{IsRef}
-use Rattle.stack.specs.Marks.{Shaped, Pushed, in-use-kept, push-null}
-use Rattle.stack.specs.Pushes.{Pushing, Pushing.none, Pushing.more, pushing-kept}
+use Rattle.mark.specs.Marks.{Shaped, Pushed, in-use-kept, push-null}
+use Rattle.mark.specs.Pushes.{Pushing, Pushing.none, Pushing.more, pushing-kept}
 
 module _ {p : Sizes} {r : ℕ} {ref : ℕ → ℕ} {W T : List ℕ} {top : ℕ} {W' T' : List ℕ} {top' : ℕ} where
   -- the next n references are null
-  pub pushing-past : (a n : ℕ) → ((k : ℕ) → a ≤ k → k < a + n → ref k ≡ 0) → Pushing p r ref W T top W' T' top' a
-      → Pushing p r ref W T top W' T' top' (a + n)
+  pub pushing-past : (a n : ℕ) → ((k : ℕ) → a ≤ k → k < a + n → ref k ≡ 0) → Pushing p r ref W T top W' T' top' a → Pushing p r ref W T top W' T' top' (a + n)
   pushing-past a zero z h = subst (Pushing p r ref W T top W' T' top') (let e : a ≡ a + 0 = omega arith in e) h
   pushing-past a (suc n) z h =
       let e : ref (a + n) ≡ 0 = z (a + n) (omega arith) (omega arith) in

@@ -40,8 +40,7 @@ question-le s n m =
 -- ours adds 13 and 14 only
 room-cases : (s : Sizes) (h : Regioned) (m : Command) (h' : Regioned) → (ru.room s h m h' ≡ 0) ⊎ (lacking (refused (ru.room s h m h')) ≡ true)
 unfolding ru.room ask
-room-cases s h m h' = go (leb (new_pages s (graph h) (graph h')) (free_pages s (graph h))) (asks_entries (meaning_of m).effect)
-    (leb (crossing (graph h')) s.entries)
+room-cases s h m h' = go (leb (new_pages s (graph h) (graph h')) (free_pages s (graph h))) (asks_entries (meaning_of m).effect) (leb (crossing (graph h')) s.entries)
   where
     go : (a b c : Bool) → (ask a 13 (cond b (ask c 14 0) 0) ≡ 0) ⊎ (lacking (refused (ask a 13 (cond b (ask c 14 0) 0))) ≡ true)
     go true true true = inl refl
@@ -57,8 +56,7 @@ pub data Agrees (s : Sizes) (h : Regioned) (m : Command) : Type 0 where
 
 pub step-agrees : (s : Sizes) (h : Regioned) (m : Command) → Agrees s h m
 unfolding nf.answered ru.answered ru.after
-step-agrees s h m = go (nf.question (limits s) h.heap m) refl (ru.room s h m (ru.after s h m)) refl (question-le (limits s) h.heap m)
-    (room-cases s h m (ru.after s h m))
+step-agrees s h m = go (nf.question (limits s) h.heap m) refl (ru.room s h m (ru.after s h m)) refl (question-le (limits s) h.heap m) (room-cases s h m (ru.after s h m))
   where
     small : (q : ℕ) → q ≤ 12 → (eqb q 13 || eqb q 14) ≡ false
     small q l = ap₂ ◌||◌ (ne_eqb q 13 (omega arith)) (ne_eqb q 14 (omega arith))
@@ -74,8 +72,7 @@ step-agrees s h m = go (nf.question (limits s) h.heap m) refl (ru.room s h m (ru
     go zero e zero f l r =
         let n = nf-is 0 e in
         let u = ru-is 0 0 e f in
-        agrees (ap (λ (d : nf.Step). d.heap) n ∙ sym (ap (λ (d : ru.Step). d.next.heap) u))
-        (ap (λ (d : nf.Step). d.answer) n ∙ sym (ap (λ (d : ru.Step). d.answer) u))
+        agrees (ap (λ (d : nf.Step). d.heap) n ∙ sym (ap (λ (d : ru.Step). d.next.heap) u)) (ap (λ (d : nf.Step). d.answer) n ∙ sym (ap (λ (d : ru.Step). d.answer) u))
         (ap (λ (d : ru.Step). lacking d.answer) u)
     go zero e (suc w) f l (inl r) = absurd (omega arith)
     go zero e (suc w) f l (inr r) =
@@ -84,14 +81,12 @@ step-agrees s h m = go (nf.question (limits s) h.heap m) refl (ru.room s h m (ru
     go (suc q) e w f l r =
         let n = nf-is (suc q) e in
         let u = ru-is (suc q) w e f in
-        agrees (ap (λ (d : nf.Step). d.heap) n ∙ sym (ap (λ (d : ru.Step). d.next.heap) u))
-        (ap (λ (d : nf.Step). d.answer) n ∙ sym (ap (λ (d : ru.Step). d.answer) u))
+        agrees (ap (λ (d : nf.Step). d.heap) n ∙ sym (ap (λ (d : ru.Step). d.next.heap) u)) (ap (λ (d : nf.Step). d.answer) n ∙ sym (ap (λ (d : ru.Step). d.answer) u))
         (ap (λ (d : ru.Step). lacking d.answer) u ∙ small (suc q) (omega arith))
 
 -- and so through a list of commands
 pub run-agrees : (s : Sizes) (h : Regioned) (ms : List Command)
-    → ((nf.run (limits s) h.heap (ru.allowed s h ms)).answers ≡ keep (λ a. not (lacking a)) (ru.run s h ms).answers)
-    × ((nf.run (limits s) h.heap (ru.allowed s h ms)).last ≡ (ru.run s h ms).last.heap)
+    → ((nf.run (limits s) h.heap (ru.allowed s h ms)).answers ≡ keep (λ a. not (lacking a)) (ru.run s h ms).answers) × ((nf.run (limits s) h.heap (ru.allowed s h ms)).last ≡ (ru.run s h ms).last.heap)
 unfolding ru.allowed ru.run nf.run keep
 run-agrees s h [] = (refl, refl)
 run-agrees s h (m ∷ ms) = go (step-agrees s h m) (run-agrees s (ru.step s h m).next ms)

@@ -13,8 +13,7 @@ use Rattle.rules.specs.declared.Sizes.{Sizes}
 use Rattle.rules.specs.Regions.{control, thread_of, parent, join, regions}
 use Rattle.rules.specs.Graph.{Graph, slots_of, target, ended, freed_by, crossing, objects_in, new_pages}
 use Rattle.laws.specs.RegionLaws.{join-control}
-use Rattle.laws.specs.GraphLaws.{Alive, Closed, Refers, Leads, itself, along, Holds, by_slot, by_own, by_other, holds-around, target-absorbs}
-use Rattle.laws.specs.GraphLaws.{target-reached, target-called}
+use Rattle.laws.specs.GraphLaws.{Alive, Closed, Refers, Leads, itself, along, Holds, by_slot, by_own, by_other, holds-around, target-absorbs, target-reached, target-called}
 use Rattle.laws.specs.EndLaws.{home-stayed, home-went, was-alive, closed-ended}
 use Rattle.laws.specs.Counts.{cross_in, cross_at, crossing-sum, cross_ref, cross-cons}
 use Rattle.laws.specs.Counters.{living, living-ended}
@@ -64,7 +63,7 @@ module _ (s : Sizes) (g : Graph) where
   calls-holder y q (by_own i at t e) = variable i at
   calls-holder y q (by_other i at t e) = variable i at
 
-  -- AN OBJECT OF THE CONTROL SPACE IS KEPT exactly if a holder leads to it by a path of slots inside the space
+  -- AN OBJECT OF THE CONTROL SPACE IS KEPT exactly if a holder leads to it by a chain of slots inside the space
   pub kept-exactly : (x : ℕ) → g.home x ≡ control → Alive g' x ↔ ((y : ℕ) × Holder g y × (g.home y ≡ control) × Leads g control y x)
   kept-exactly x e = (
     λ a.
@@ -90,11 +89,7 @@ module _ (s : Sizes) (g : Graph) where
       go x (no n) = omega (arith, ap {B = ℕ} (λ (b : Bool). cond b 1 0) (ne_eqb (g'.home x) q n))
       go x (yes e) =
           let same : g.home x ≡ q = sym (home-kept x (λ z. omega arith)) ∙ e in
-          omega (
-            arith,
-            ap {B = ℕ} (λ (b : Bool). cond b 1 0) (eq-eqb (g'.home x) q e),
-            ap {B = ℕ} (λ (b : Bool). cond b 1 0) (eq-eqb (g.home x) q same),
-          )
+          omega (arith, ap {B = ℕ} (λ (b : Bool). cond b 1 0) (eq-eqb (g'.home x) q e), ap {B = ℕ} (λ (b : Bool). cond b 1 0) (eq-eqb (g.home x) q same))
 
   pub takes-no-page : new_pages s g g' ≡ 0
   unfolding new_pages
@@ -136,7 +131,7 @@ module _ (s : Sizes) (g : Graph) where
 
   -- ---- a second one
 
-  -- what a path reaches is there afterwards
+  -- what a chain reaches is there afterwards
   reached-stays : (y q x : ℕ) → g.home y ≡ control → Holds s g control y q → g.home x ≡ control → Leads g control y x → g'.home x ≡ control
   reached-stays y q x l h e c =
       home-went s g control x e ∙ kept_target x (target-absorbs s g control x q (record { first = y; lies = l; held = h; leads = c })).some
@@ -153,8 +148,7 @@ module _ (s : Sizes) (g : Graph) where
   unfolding ended
   holds-stays y q (by_slot z f o e) =
       let same = home-stayed s g control z o in
-      by_slot z (record { below = f.below; there = λ w. f.there (sym same ∙ w); slot = f.slot }) (λ w. o (sym same ∙ w))
-      (e ∙ ap (join s control) (sym same))
+      by_slot z (record { below = f.below; there = λ w. f.there (sym same ∙ w); slot = f.slot }) (λ w. o (sym same ∙ w)) (e ∙ ap (join s control) (sym same))
   holds-stays y q (by_own i at t e) = by_own i at t e
   holds-stays y q (by_other i at t e) = by_other i at t e
 

@@ -68,8 +68,7 @@ unfolding cross_in slots_of
 cross-cons g x zero vs = sym (zero-add _)
 cross-cons g x (suc y) vs = tally-cons (crosses g) (record { «from» = x; to = y }) (slots_of x vs)
 
-cross-set : (g : Graph) (x : ℕ) (vs : List ℕ) (b v : ℕ) → b < length vs
-    → cross_in g x (set vs b v) + cross_ref g x (get_or vs b 0) ≡ cross_in g x vs + cross_ref g x v
+cross-set : (g : Graph) (x : ℕ) (vs : List ℕ) (b v : ℕ) → b < length vs → cross_in g x (set vs b v) + cross_ref g x (get_or vs b 0) ≡ cross_in g x vs + cross_ref g x v
 cross-set g x [] b v l = absurd (omega arith)
 cross-set g x (w ∷ vs) zero v l = omega (arith, cross-cons g x w vs, cross-cons g x v vs)
 cross-set g x (w ∷ vs) (suc b) v l = omega (arith, cross-cons g x w vs, cross-cons g x w (set vs b v), cross-set g x vs b v (omega arith))
@@ -82,15 +81,7 @@ pub crossing-stored : (g : Graph) (x b v : ℕ) → x < g.count → Alive g x �
     → crossing (stored g x b v) + cross_ref g x (get_or (g.refs x) b 0) ≡ crossing g + cross_ref g x v
 unfolding stored cross_at cross_in
 crossing-stored g x b v l a k =
-    omega (
-      arith,
-      crossing-sum g,
-      crossing-sum (stored g x b v),
-      sum-change (cross_at (stored g x b v)) (cross_at g) x g.count l (λ y k. other y),
-      here,
-      was,
-      cross-set g x (g.refs x) b v k,
-    )
+    omega (arith, crossing-sum g, crossing-sum (stored g x b v), sum-change (cross_at (stored g x b v)) (cross_at g) x g.count l (λ y k. other y), here, was, cross-set g x (g.refs x) b v k)
   where
     other : (y : ℕ) → (y ≡ x → ⊥) → cross_at (stored g x b v) y ≡ cross_at g y
     other y n = ap (λ (t : Bool). cond (eqb (g.home y) 0) 0 (cross_in g y (cond t (set (g.refs y) b v) (g.refs y)))) (ne_eqb y x n)
@@ -107,12 +98,7 @@ crossing-stored g x b v l a k =
 
 -- the graph after an object with references rs was made in region q
 unfoldable pub grown : Graph → ℕ → List ℕ → List ℕ → Graph
-grown g q rs vs = record {
-  count = suc g.count;
-  home = λ x. cond (eqb x g.count) q (g.home x);
-  refs = λ x. cond (eqb x g.count) rs (g.refs x);
-  vars = vs;
-}
+grown g q rs vs = record { count = suc g.count; home = λ x. cond (eqb x g.count) q (g.home x); refs = λ x. cond (eqb x g.count) rs (g.refs x); vars = vs }
 
 module _ (g : Graph) (q : ℕ) (rs vs : List ℕ) where
   pub objects-grown : (p : ℕ) → objects_in (grown g q rs vs) p ≡ cond (eqb q p) 1 0 + objects_in g p
@@ -144,8 +130,7 @@ module _ (g : Graph) (q : ℕ) (rs vs : List ℕ) where
       none i (yes e) = subst (λ (k : ℕ). but (q - 1) more k ≡ 0) (sym e) (but_same (q - 1) more)
       none i (no e) =
           let same : objects_in (grown g q rs vs) (suc i) ≡ objects_in g (suc i) =
-          objects-grown (suc i) ∙ ap (λ (t : Bool). cond t 1 0 + objects_in g (suc i)) (ne_eqb q (suc i) (λ (z : q ≡ suc i). omega arith))
-          ∙ zero-add _ in
+          objects-grown (suc i) ∙ ap (λ (t : Bool). cond t 1 0 + objects_in g (suc i)) (ne_eqb q (suc i) (λ (z : q ≡ suc i). omega arith)) ∙ zero-add _ in
           but-other (q - 1) more i e ∙ ap (λ (n : ℕ). pages_of n - pages_of (objects_in g (suc i))) same ∙ sub_self _
 
 -- ---- the end of a region

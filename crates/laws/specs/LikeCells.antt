@@ -30,11 +30,11 @@ use Rattle.laws.specs.RulesLaws.{Sound, graph-ended}
 abbrev pub Apart : Regioned → Type 0
 Apart h = (x y : ℕ) → Alive (graph h) x → Alive (graph h) y → object_cell h x ≡ object_cell h y → x ≡ y
 
-pub data InCell (h : Regioned) (c : ℕ) : Type 0 where
-  by : (x : ℕ) → object_at h c ≡ suc x → Alive (graph h) x → object_cell h x ≡ c → InCell h c
-  none : object_at h c ≡ 0 → ((x : ℕ) → Alive (graph h) x → object_cell h x ≡ c → ⊥) → InCell h c
+pub data Held (h : Regioned) (c : ℕ) : Type 0 where
+  by : (x : ℕ) → object_at h c ≡ suc x → Alive (graph h) x → object_cell h x ≡ c → Held h c
+  none : object_at h c ≡ 0 → ((x : ℕ) → Alive (graph h) x → object_cell h x ≡ c → ⊥) → Held h c
 
-pub held_by : (h : Regioned) (c : ℕ) → InCell h c
+pub held_by : (h : Regioned) (c : ℕ) → Held h c
 unfolding object_at
 held_by h c = go (object_at h c) refl
   where
@@ -44,7 +44,7 @@ held_by h c = go (object_at h c) refl
     passes : (x : ℕ) → Alive (graph h) x → object_cell h x ≡ c → test x ≡ true
     passes x a e = ap₂ (λ (p q : Bool). not p && q) (ne_eqb (home_of h x) 0 a) (eq-eqb (object_cell h x) c e)
 
-    go : (n : ℕ) → object_at h c ≡ n → InCell h c
+    go : (n : ℕ) → object_at h c ≡ n → Held h c
     go zero e = none e (λ x a f. highest-zero test (length h.homes) e x (in_bounds h.homes x a) (passes x a f))
     go (suc x) e =
         let t = both_true _ _ (highest-some test (length h.homes) x e).1 in
@@ -53,7 +53,7 @@ held_by h c = go (object_at h c) refl
 pub object-there : (h : Regioned) → Apart h → (c x : ℕ) → Alive (graph h) x → object_cell h x ≡ c → object_at h c ≡ suc x
 object-there h apart c x a e = go (held_by h c)
   where
-    go : InCell h c → object_at h c ≡ suc x
+    go : Held h c → object_at h c ≡ suc x
     go (by y q b f) = q ∙ ap suc (apart y x b a (f ∙ sym e))
     go (none q n) = absurd (n x a e)
 
@@ -74,8 +74,7 @@ pub moved-cell : (ms : List Move) (cs : List ℕ) (x : ℕ) → x < length cs �
 moved-cell ms cs x l =
     inside-any (map (new_cell ms) cs) x 0 (new_cell ms 0) (omega (arith, length-map cs (new_cell ms))) ∙ get_or-map (new_cell ms) cs x 0
 
-module _ (s : Sizes) (to : ℕ → ℕ) (h k : Regioned) (sh : Sound h) (sk : Sound k) (p : Partners to (graph h) (graph k)) (o : SameOccupancy to h k)
-    (apart : Apart h) where
+module _ (s : Sizes) (to : ℕ → ℕ) (h k : Regioned) (sh : Sound h) (sk : Sound k) (p : Partners to (graph h) (graph k)) (o : SameOccupancy to h k) (apart : Apart h) where
   abbrev there : (x : ℕ) → Alive (graph h) x → Alive (graph k) (to x)
   there x a z = a (sym (p.home x a) ∙ z)
 
@@ -84,8 +83,7 @@ module _ (s : Sizes) (to : ℕ → ℕ) (h k : Regioned) (sh : Sound h) (sk : So
       let u = p.onto y a in
       let v = p.onto z b in
       sym u.2
-      ∙ ap to (apart u.0 v.0 u.1 v.1 (sym (o.cells u.0 u.1) ∙ ap (object_cell k) u.2 ∙ e ∙ sym (ap (object_cell k) v.2)
-      ∙ o.cells v.0 v.1))
+      ∙ ap to (apart u.0 v.0 u.1 v.1 (sym (o.cells u.0 u.1) ∙ ap (object_cell k) u.2 ∙ e ∙ sym (ap (object_cell k) v.2) ∙ o.cells v.0 v.1))
       ∙ v.2
 
   module _ (r : ℕ) (pos : 0 < r) where
@@ -99,8 +97,7 @@ module _ (s : Sizes) (to : ℕ → ℕ) (h k : Regioned) (sh : Sound h) (sk : So
     goal-there x a = go (ℕ_discrete (home_of h x) r)
       where
         go : Dec (home_of h x ≡ r) → goal_of k (only r) (ru.ended s k r) (suc (to x)) ≡ goal_of h (only r) (ru.ended s h r) (suc x)
-        go (yes e) = ap₂ (λ (b : Bool) (n : ℕ). cond b n 0) (eq-eqb (home_of k (to x)) r (p.home x a ∙ e) ∙ sym (eq-eqb (home_of h x) r e))
-            (home-after x a e)
+        go (yes e) = ap₂ (λ (b : Bool) (n : ℕ). cond b n 0) (eq-eqb (home_of k (to x)) r (p.home x a ∙ e) ∙ sym (eq-eqb (home_of h x) r e)) (home-after x a e)
         go (no n) =
             ap (λ (b : Bool). cond b (get_or (ru.ended s k r) (to x) 0) 0) (ne_eqb (home_of k (to x)) r (λ e. n (sym (p.home x a) ∙ e)))
             ∙ sym (ap (λ (b : Bool). cond b (get_or (ru.ended s h r) x 0) 0) (ne_eqb (home_of h x) r n))
@@ -114,7 +111,7 @@ module _ (s : Sizes) (to : ℕ → ℕ) (h k : Regioned) (sh : Sound h) (sk : So
         F : ℕ → ℕ
         F = goal_of h (only r) (ru.ended s h r)
 
-        go : InCell h c → InCell k c → G (object_at k c) ≡ F (object_at h c)
+        go : Held h c → Held k c → G (object_at k c) ≡ F (object_at h c)
         go (by x e a f) q =
             ap G (object-there k apart-there c (to x) (there x a) (o.cells x a ∙ f)) ∙ goal-there x a ∙ ap F (sym e)
         go (none e n) (none f m) = ap G f ∙ ap F (sym e)
@@ -130,8 +127,7 @@ module _ (s : Sizes) (to : ℕ → ℕ) (h k : Regioned) (sh : Sound h) (sk : So
     unfolding vacated
     vacated-pages = ap (λ (q : Placing). released (only r) q.pages) copies-like
 
-    pub vacated-cells : (x : ℕ) → Alive (graph h) x
-        → get_or (vacated s k (only r) (ru.ended s k r)).cells (to x) 0 ≡ get_or (vacated s h (only r) (ru.ended s h r)).cells x 0
+    pub vacated-cells : (x : ℕ) → Alive (graph h) x → get_or (vacated s k (only r) (ru.ended s k r)).cells (to x) 0 ≡ get_or (vacated s h (only r) (ru.ended s h r)).cells x 0
     unfolding vacated
     vacated-cells x a =
         moved-cell _ k.occupancy.cells (to x) (omega (arith, sk.celled, in_bounds k.homes (to x) (there x a)))

@@ -53,8 +53,7 @@ module _ (s : Sizes) (to : ℕ → ℕ) (h k : Regioned) (l : Like to h k) (apar
       refused-both q e f = both (suc q) e f (same_after s to h k l) refl
 
       go : (q : ℕ) → nf.question (limits s) h.heap m ≡ q → StepLike
-      go (suc q) e = refused-both q (ap (λ (x : ℕ). first x (ru.room s h m (ru.after s h m))) e)
-          (ap (λ (x : ℕ). first x (ru.room s k m (ru.after s k m))) (nf-k ∙ e))
+      go (suc q) e = refused-both q (ap (λ (x : ℕ). first x (ru.room s h m (ru.after s h m))) e) (ap (λ (x : ℕ). first x (ru.room s k m (ru.after s k m))) (nf-k ∙ e))
       go zero e = done-both (ru.room s h m (ru.after s h m)) refl
         where
           after : After s to h k l (ru.after s h m) (ru.after s k m)
@@ -80,8 +79,7 @@ pub record SameRules (s : Sizes) (to : ℕ → ℕ) (h k : Regioned) : Type 0 wh
   pub pages : (q : ℕ) → 0 < q → pages_of (objects_in (graph k) q) ≡ pages_of (objects_in (graph h) q)
   pub free : free_pages s (graph k) ≡ free_pages s (graph h)
   pub crossings : crossing (graph k) ≡ crossing (graph h)
-  pub ends : (r : ℕ) → 0 < r → (new_pages s (graph k) (ended s (graph k) r) ≡ new_pages s (graph h) (ended s (graph h) r))
-      × (crossing (ended s (graph k) r) ≡ crossing (ended s (graph h) r))
+  pub ends : (r : ℕ) → 0 < r → (new_pages s (graph k) (ended s (graph k) r) ≡ new_pages s (graph h) (ended s (graph h) r)) × (crossing (ended s (graph k) r) ≡ crossing (ended s (graph h) r))
 
 pub same-rules : (s : Sizes) (to : ℕ → ℕ) (h k : Regioned) → Like to h k → Apart h → SameRules s to h k
 same-rules s to h k l apart =

@@ -120,12 +120,7 @@ module _ (s : Sizes) (h : Regioned) (p : Placed s h) (t k : ℕ) (th : t < s.thr
           let w = at ∙ home-stayed s (graph h) r x n in
           subst (Open s ended-depths) (sym w) (stays_open (get_or h.homes x 0) n (p.homes x (λ z. a (w ∙ z)))).0
 
-  placed-ended : (vs : List ℕ) → Placed s (record {
-    heap = record { depths = ended-depths; vars = vs; objects = h.heap.objects };
-    homes = ru.ended s h r;
-    counters = more_freed (freed_by s (graph h) r) h.counters;
-    occupancy = ru.vacated s h (only r) (ru.ended s h r);
-  })
+  placed-ended : (vs : List ℕ) → Placed s (record { heap = record { depths = ended-depths; vars = vs; objects = h.heap.objects }; homes = ru.ended s h r; counters = more_freed (freed_by s (graph h) r) h.counters; occupancy = ru.vacated s h (only r) (ru.ended s h r) })
   placed-ended vs = record { depths = λ u. set-at-most h.heap.depths t k u s.depth (omega (arith, k-fits)) (p.depths u); homes = ended-open }
 
   -- so the ended region is empty
@@ -135,8 +130,7 @@ module _ (s : Sizes) (h : Regioned) (p : Placed s h) (t k : ℕ) (th : t < s.thr
       go : Open s ended-depths (get_or (ru.ended s h r) x 0) → ⊥
       go (control c) = omega (arith, region-high s t k)
       go (level u j a b c) =
-          let q = region-apart s t k u j k-fits (omega (arith, set-at-most h.heap.depths t k u s.depth (omega (arith, k-fits)) (p.depths u)))
-          (sym e ∙ c) in
+          let q = region-apart s t k u j k-fits (omega (arith, set-at-most h.heap.depths t k u s.depth (omega (arith, k-fits)) (p.depths u))) (sym e ∙ c) in
           omega (arith, depth-now, q.1, ap (λ (v : ℕ). get_or ended-depths v 0) q.0)
 
 -- ---- a new object, and the start of an epoch
@@ -153,28 +147,17 @@ placed-new : (s : Sizes) (h : Regioned) → Placed s h → (q : ℕ) → Open s 
 placed-new s h p q o n e =
     record {
       depths = λ t. subst (λ (ds : List ℕ). get_or ds t 0 ≤ s.depth) (sym e) (p.depths t);
-      homes = λ x a. subst (λ (ds : List ℕ). Open s ds (get_or (h.homes ++ q ∷ []) x 0)) (sym e)
-          (home x a (dec_lt x (length h.homes)) (ℕ_discrete (length h.homes) x));
+      homes = λ x a. subst (λ (ds : List ℕ). Open s ds (get_or (h.homes ++ q ∷ []) x 0)) (sym e) (home x a (dec_lt x (length h.homes)) (ℕ_discrete (length h.homes) x));
     }
   where
-    home : (x : ℕ) → (get_or (h.homes ++ q ∷ []) x 0 ≡ 0 → ⊥) → Dec (x < length h.homes) → Dec (length h.homes ≡ x)
-        → Open s h.heap.depths (get_or (h.homes ++ q ∷ []) x 0)
+    home : (x : ℕ) → (get_or (h.homes ++ q ∷ []) x 0 ≡ 0 → ⊥) → Dec (x < length h.homes) → Dec (length h.homes ≡ x) → Open s h.heap.depths (get_or (h.homes ++ q ∷ []) x 0)
     home x a (yes l) d =
         let w = get_or-append h.homes (q ∷ []) 0 x l in subst (Open s h.heap.depths) (sym w) (p.homes x (λ z. a (w ∙ z)))
     home x a (no l) (yes d) = subst (Open s h.heap.depths) (sym (get_or_at h.homes q [] 0 x d)) o
     home x a (no l) (no d) = absurd (a (get_or-eq_default (h.homes ++ q ∷ []) 0 {n = x} (omega (arith, length-append h.homes (q ∷ [])))))
 
 placed-start : (s : Sizes) (h : Regioned) → Placed s h → (t : ℕ) → get_or h.heap.depths t 0 < s.depth
-    → Placed s (record {
-      heap = record {
-        depths = set h.heap.depths t (get_or h.heap.depths t 0 + 1);
-        vars = h.heap.vars;
-        objects = h.heap.objects;
-      };
-      homes = h.homes;
-      counters = h.counters;
-      occupancy = h.occupancy;
-    })
+    → Placed s (record { heap = record { depths = set h.heap.depths t (get_or h.heap.depths t 0 + 1); vars = h.heap.vars; objects = h.heap.objects }; homes = h.homes; counters = h.counters; occupancy = h.occupancy })
 placed-start s h p t l =
     record {
       depths = λ u. set-at-most h.heap.depths t _ u s.depth (omega arith) (p.depths u);
@@ -192,13 +175,9 @@ placed-collected s h p =
           subst (Open s h.heap.depths) (sym same) (p.homes x (λ z. a (same ∙ z)));
     }
 
-placed_same : (s : Sizes) (h : Regioned) → Placed s h → (n : NeverFreeing) → n.depths ≡ h.heap.depths
-    → Placed s (record { heap = n; homes = h.homes; counters = h.counters; occupancy = h.occupancy })
+placed_same : (s : Sizes) (h : Regioned) → Placed s h → (n : NeverFreeing) → n.depths ≡ h.heap.depths → Placed s (record { heap = n; homes = h.homes; counters = h.counters; occupancy = h.occupancy })
 placed_same s h p n e =
-    record {
-      depths = λ t. subst (λ (ds : List ℕ). get_or ds t 0 ≤ s.depth) (sym e) (p.depths t);
-      homes = λ x a. subst (λ (ds : List ℕ). Open s ds (get_or h.homes x 0)) (sym e) (p.homes x a);
-    }
+    record { depths = λ t. subst (λ (ds : List ℕ). get_or ds t 0 ≤ s.depth) (sym e) (p.depths t); homes = λ x a. subst (λ (ds : List ℕ). Open s ds (get_or h.homes x 0)) (sym e) (p.homes x a) }
 
 -- ---- every command
 
@@ -212,23 +191,13 @@ assigned-depths s n t (variable a v) = refl
 assigned-depths s n t (reference a f v) = object-depths n (var_of s n t a) _
 assigned-depths s n t (number a f v) = object-depths n (var_of s n t a) _
 
-placed-effect : (s : Sizes) (h : Regioned) → Placed s h → (t : ℕ) (e : Effect) → t < s.threads → nested (limits s) h.heap t e ≡ 0
-    → Placed s (after_effect s h t e)
+placed-effect : (s : Sizes) (h : Regioned) → Placed s h → (t : ℕ) (e : Effect) → t < s.threads → nested (limits s) h.heap t e ≡ 0 → Placed s (after_effect s h t e)
 unfolding nf.effect ru.homes_after ru.counters_after ru.occupancy_after
 placed-effect s h p t opens th q = placed-start s h p t (ltb→lt _ _ (ask-zero _ 10 _ q).0)
 placed-effect s h p t ends th q = go (depth_of h.heap t) refl (ltb→lt _ _ (ask-zero _ 11 _ q).0)
   where
     go : (d : ℕ) → depth_of h.heap t ≡ d → 0 < depth_of h.heap t
-        → Placed s (record {
-          heap = record {
-            depths = set h.heap.depths t (depth_of h.heap t - 1);
-            vars = h.heap.vars;
-            objects = h.heap.objects;
-          };
-          homes = ru.ended s h (innermost s h t);
-          counters = more_freed (freed_by s (graph h) (innermost s h t)) h.counters;
-          occupancy = ru.vacated s h (only (innermost s h t)) (ru.ended s h (innermost s h t));
-        })
+        → Placed s (record { heap = record { depths = set h.heap.depths t (depth_of h.heap t - 1); vars = h.heap.vars; objects = h.heap.objects }; homes = ru.ended s h (innermost s h t); counters = more_freed (freed_by s (graph h) (innermost s h t)) h.counters; occupancy = ru.vacated s h (only (innermost s h t)) (ru.ended s h (innermost s h t)) })
     go zero e l = absurd (omega arith)
     go (suc k) e l =
         let d : depth_of h.heap t - 1 ≡ k = omega arith in

@@ -1,5 +1,4 @@
--- What the rules keep: no variable and no slot of an object that is there names an object that is not (01, "every reference is null or names a
--- cell in use").
+-- What the rules keep: no variable and no slot of an object that is there names an object that is not (01, "every reference is null or names a cell in use").
 use Prim.Native.Nat.{ℕ, zero, suc, ◌+◌, ◌*◌, ◌<◌}
 use Rattle.std.proofs.Common.{arith, zero-add, add-zero, ◌∙◌, inl, inr, length-set, length-append, ne_eqb}
 use Rattle.std.proofs.Math.Decide.{dec_lt}
@@ -13,8 +12,7 @@ use Rattle.rules.specs.declared.Command.{Command}
 use Rattle.rules.specs.Terms.{limits}
 use Rattle.rules.specs.NeverFreeing as nf
 use Rattle.rules.specs.NeverFreeing.{Object, no_object, depth_of, var_of, object_of, place, referred, assigned, meaning_of}
-use Rattle.rules.specs.NeverFreeing.{Source, null, held, loaded, Assignment, nothing, variable, reference, number, Effect, opens, ends, collects}
-use Rattle.rules.specs.NeverFreeing.{makes, assigns}
+use Rattle.rules.specs.NeverFreeing.{Source, null, held, loaded, Assignment, nothing, variable, reference, number, Effect, opens, ends, collects, makes, assigns}
 use Rattle.rules.specs.Regions.{control, region_at, only}
 use Rattle.rules.specs.Pages.{new_cell}
 use Rattle.rules.specs.Graph.{target, ended, freed_by}
@@ -63,18 +61,9 @@ object-refs h k i y = go (get_or h.heap.vars i 0) refl
 -- ---- a variable gets what names an object that is there, or null
 
 sound-var : (h : Regioned) → Sound h → (p v : ℕ) → ((x : ℕ) → v ≡ suc x → Alive (graph h) x)
-    → Sound (record {
-      heap = record { depths = h.heap.depths; vars = set h.heap.vars p v; objects = h.heap.objects };
-      homes = h.homes;
-      counters = h.counters;
-      occupancy = h.occupancy;
-    })
+    → Sound (record { heap = record { depths = h.heap.depths; vars = set h.heap.vars p v; objects = h.heap.objects }; homes = h.homes; counters = h.counters; occupancy = h.occupancy })
 sound-var h k p v ok =
-    record {
-      aligned = k.aligned;
-      celled = k.celled;
-      closed = record { below = k.closed.below; vars = λ i x. go i x (set_cases h.heap.vars p i v 0); refs = k.closed.refs };
-    }
+    record { aligned = k.aligned; celled = k.celled; closed = record { below = k.closed.below; vars = λ i x. go i x (set_cases h.heap.vars p i v 0); refs = k.closed.refs } }
   where
     go : (i x : ℕ) → (get_or (set h.heap.vars p v) i 0 ≡ v) ⊎ (get_or (set h.heap.vars p v) i 0 ≡ get_or h.heap.vars i 0)
         → get_or (set h.heap.vars p v) i 0 ≡ suc x → Alive (graph h) x
@@ -83,24 +72,14 @@ sound-var h k p v ok =
 
 -- ---- an object gets fields that name objects that are there, or null
 
-sound-object : (h : Regioned) → Sound h → (v : ℕ) (o : Object) → ((y : ℕ) → In (suc y) o.refs → Alive (graph h) y)
-    → Sound (record { heap = nf.with_object h.heap v o; homes = h.homes; counters = h.counters; occupancy = h.occupancy })
+sound-object : (h : Regioned) → Sound h → (v : ℕ) (o : Object) → ((y : ℕ) → In (suc y) o.refs → Alive (graph h) y) → Sound (record { heap = nf.with_object h.heap v o; homes = h.homes; counters = h.counters; occupancy = h.occupancy })
 sound-object h k zero o ok = k
 sound-object h k (suc p) o ok =
     let l = k.aligned ∙ sym (length-set h.heap.objects p o) in
-    record {
-      aligned = l;
-      celled = k.celled;
-      closed = record {
-        below = λ x a. subst (λ (n : ℕ). x < n) l (in_bounds h.homes x a);
-        vars = k.closed.vars;
-        refs = λ x y a i. go x y a i (set_cases h.heap.objects p x o no_object);
-      };
-    }
+    record { aligned = l; celled = k.celled; closed = record { below = λ x a. subst (λ (n : ℕ). x < n) l (in_bounds h.homes x a); vars = k.closed.vars; refs = λ x y a i. go x y a i (set_cases h.heap.objects p x o no_object) } }
   where
     go : (x y : ℕ) → Alive (graph h) x → In (suc y) (get_or (set h.heap.objects p o) x no_object).refs
-        → (get_or (set h.heap.objects p o) x no_object ≡ o) ⊎ (get_or (set h.heap.objects p o) x no_object ≡ get_or h.heap.objects x no_object)
-        → Alive (graph h) y
+        → (get_or (set h.heap.objects p o) x no_object ≡ o) ⊎ (get_or (set h.heap.objects p o) x no_object ≡ get_or h.heap.objects x no_object) → Alive (graph h) y
     go x y a i (inl e) = ok y (subst (λ (u : Object). In (suc y) u.refs) e i)
     go x y a i (inr e) = k.closed.refs x y a (subst (λ (u : Object). In (suc y) u.refs) e i)
 
@@ -112,16 +91,7 @@ module _ (h : Regioned) (k : Sound h) (p q b : ℕ) (ns : List ℕ) (pos : 0 < q
 
   abbrev grown : Regioned
   grown =
-      record {
-        heap = record {
-          depths = h.heap.depths;
-          vars = set h.heap.vars p (length h.heap.objects + 1);
-          objects = h.heap.objects ++ made ∷ [];
-        };
-        homes = h.homes ++ q ∷ [];
-        counters = one_made h.counters;
-        occupancy = ru.taken_by h.occupancy q;
-      }
+      record { heap = record { depths = h.heap.depths; vars = set h.heap.vars p (length h.heap.objects + 1); objects = h.heap.objects ++ made ∷ [] }; homes = h.homes ++ q ∷ []; counters = one_made h.counters; occupancy = ru.taken_by h.occupancy q }
 
   -- what was there is there
   old : (x : ℕ) → x < length h.homes → get_or (h.homes ++ q ∷ []) x 0 ≡ get_or h.homes x 0
@@ -131,8 +101,7 @@ module _ (h : Regioned) (k : Sound h) (p q b : ℕ) (ns : List ℕ) (pos : 0 < q
   still x a z = a (sym (old x (in_bounds h.homes x a)) ∙ z)
 
   new-var : (i x : ℕ) → get_or grown.heap.vars i 0 ≡ suc x
-      → (get_or grown.heap.vars i 0 ≡ length h.heap.objects + 1) ⊎ (get_or grown.heap.vars i 0 ≡ get_or h.heap.vars i 0)
-      → Alive (graph grown) x
+      → (get_or grown.heap.vars i 0 ≡ length h.heap.objects + 1) ⊎ (get_or grown.heap.vars i 0 ≡ get_or h.heap.vars i 0) → Alive (graph grown) x
   new-var i x e (inl c) z = omega (arith, get_or_at h.homes q [] 0 x (omega (arith, k.aligned)))
   new-var i x e (inr c) z = still x (k.closed.vars i x (sym c ∙ e)) z
 
@@ -140,8 +109,7 @@ module _ (h : Regioned) (k : Sound h) (p q b : ℕ) (ns : List ℕ) (pos : 0 < q
       → Dec (x < length h.homes) → Alive (graph grown) y
   new-ref x y a l i (yes m) =
       still y (k.closed.refs x y (λ z. a (old x m ∙ z))
-      (subst (λ (u : Object). In (suc y) u.refs) (get_or-append h.heap.objects (made ∷ []) no_object x
-      (subst (λ (n : ℕ). x < n) k.aligned m)) i))
+      (subst (λ (u : Object). In (suc y) u.refs) (get_or-append h.heap.objects (made ∷ []) no_object x (subst (λ (n : ℕ). x < n) k.aligned m)) i))
   new-ref x y a l i (no m) =
       let e : length h.heap.objects ≡ x = omega (arith, length-append h.homes (q ∷ []), k.aligned) in
       absurd (no-refs b y (subst (λ (u : Object). In (suc y) u.refs) (get_or_at h.heap.objects made [] no_object x e) i))
@@ -151,8 +119,7 @@ module _ (h : Regioned) (k : Sound h) (p q b : ℕ) (ns : List ℕ) (pos : 0 < q
       let l = length-append h.homes (q ∷ []) ∙ ap (λ (n : ℕ). n + 1) k.aligned ∙ sym (length-append h.heap.objects (made ∷ [])) in
       record {
         aligned = l;
-        celled = unfold ru.taken_by in (length-append h.occupancy.cells (_ ∷ []) ∙ ap (λ (n : ℕ). n + 1) k.celled
-            ∙ sym (length-append h.homes (q ∷ [])));
+        celled = unfold ru.taken_by in (length-append h.occupancy.cells (_ ∷ []) ∙ ap (λ (n : ℕ). n + 1) k.celled ∙ sym (length-append h.homes (q ∷ [])));
         closed = record {
           below = λ x a. subst (λ (n : ℕ). x < n) l (in_bounds (h.homes ++ q ∷ []) x a);
           vars = λ i x e. new-var i x e (set_cases h.heap.vars p i (length h.heap.objects + 1) 0);
@@ -162,8 +129,7 @@ module _ (h : Regioned) (k : Sound h) (p q b : ℕ) (ns : List ℕ) (pos : 0 < q
 
 -- ---- the end of a region
 
-homes-moved : (goes : ℕ → ℕ) (r : ℕ) (qs : List ℕ) (i x : ℕ) → 0 < r
-    → get_or (ru.moved goes r i qs) x 0 ≡ cond (eqb (get_or qs x 0) r) (goes (i + x)) (get_or qs x 0)
+homes-moved : (goes : ℕ → ℕ) (r : ℕ) (qs : List ℕ) (i x : ℕ) → 0 < r → get_or (ru.moved goes r i qs) x 0 ≡ cond (eqb (get_or qs x 0) r) (goes (i + x)) (get_or qs x 0)
 unfolding ru.moved
 homes-moved goes r [] i x p = sym (ap (λ (b : Bool). cond b (goes (i + x)) 0) (ne_eqb 0 r (omega arith)))
 homes-moved goes r (q ∷ qs) i zero p = ap (λ (n : ℕ). cond (eqb q r) (goes n) q) (sym (add-zero i))
@@ -178,12 +144,7 @@ length_moved goes r i (q ∷ qs) = ap suc (length_moved goes r (suc i) qs)
 
 module _ (s : Sizes) (h : Regioned) (r : ℕ) (pos : 0 < r) (ds : List ℕ) where
   abbrev pub over : Regioned
-  over = record {
-    heap = record { depths = ds; vars = h.heap.vars; objects = h.heap.objects };
-    homes = ru.ended s h r;
-    counters = more_freed (freed_by s (graph h) r) h.counters;
-    occupancy = ru.vacated s h (only r) (ru.ended s h r);
-  }
+  over = record { heap = record { depths = ds; vars = h.heap.vars; objects = h.heap.objects }; homes = ru.ended s h r; counters = more_freed (freed_by s (graph h) r) h.counters; occupancy = ru.vacated s h (only r) (ru.ended s h r) }
 
   -- the heap after an end has the graph after that end
   pub graph-ended : graph over ≡ ended s (graph h) r
@@ -215,12 +176,7 @@ control-pos = omega arith
 
 module _ (s : Sizes) (h : Regioned) where
   abbrev pub collected : Regioned
-  collected = record {
-    heap = h.heap;
-    homes = ru.ended s h control;
-    counters = more_freed (freed_by s (graph h) control) h.counters;
-    occupancy = ru.slid s h control (ru.ended s h control);
-  }
+  collected = record { heap = h.heap; homes = ru.ended s h control; counters = more_freed (freed_by s (graph h) control) h.counters; occupancy = ru.slid s h control (ru.ended s h control) }
 
   pub graph-collected : graph collected ≡ ended s (graph h) control
   graph-collected = graph-ended s h control control-pos h.heap.depths
@@ -230,8 +186,7 @@ module _ (s : Sizes) (h : Regioned) where
       let e = sound-ended s h control control-pos h.heap.depths k in
       record {
         aligned = e.aligned;
-        celled = unfold ru.slid in (length-map h.occupancy.cells (new_cell _) ∙ k.celled
-            ∙ sym (length-ended s h control control-pos h.heap.depths));
+        celled = unfold ru.slid in (length-map h.occupancy.cells (new_cell _) ∙ k.celled ∙ sym (length-ended s h control control-pos h.heap.depths));
         closed = e.closed;
       }
 
@@ -242,45 +197,29 @@ unfolding region_at
 region-pos s t zero = omega arith
 region-pos s t (suc d) = omega arith
 
-sound-depth : (h : Regioned) → Sound h → (ds : List ℕ)
-    → Sound (record {
-      heap = record { depths = ds; vars = h.heap.vars; objects = h.heap.objects };
-      homes = h.homes;
-      counters = h.counters;
-      occupancy = h.occupancy;
-    })
+sound-depth : (h : Regioned) → Sound h → (ds : List ℕ) → Sound (record { heap = record { depths = ds; vars = h.heap.vars; objects = h.heap.objects }; homes = h.homes; counters = h.counters; occupancy = h.occupancy })
 sound-depth h k ds = record { aligned = k.aligned; celled = k.celled; closed = k.closed }
 
 -- what a command reads is null or names an object that is there
 pub source-alive : (s : Sizes) (h : Regioned) → Closed (graph h) → (v : Source) (x : ℕ) → referred (limits s) h.heap v ≡ suc x → Alive (graph h) x
 source-alive s h k null x e = absurd (omega arith)
 source-alive s h k (held t a) x e = k.vars (place (limits s) t a) x e
-source-alive s h k (loaded t a f) x e = object-refs h k (place (limits s) t a) x
-    (get_d-in (object_of h.heap (var_of (limits s) h.heap t a)).refs f x e)
+source-alive s h k (loaded t a f) x e = object-refs h k (place (limits s) t a) x (get_d-in (object_of h.heap (var_of (limits s) h.heap t a)).refs f x e)
 
-sound-assigned : (s : Sizes) (h : Regioned) → Sound h → (t : ℕ) (x : Assignment)
-    → Sound (record { heap = assigned (limits s) h.heap t x; homes = h.homes; counters = h.counters; occupancy = h.occupancy })
+sound-assigned : (s : Sizes) (h : Regioned) → Sound h → (t : ℕ) (x : Assignment) → Sound (record { heap = assigned (limits s) h.heap t x; homes = h.homes; counters = h.counters; occupancy = h.occupancy })
 sound-assigned s h k t nothing = k
 sound-assigned s h k t (variable a v) = sound-var h k (place (limits s) t a) _ (source-alive s h k.closed v)
 sound-assigned s h k t (reference a f v) =
-    sound-object h k (var_of (limits s) h.heap t a) _
-    (λ y i. go y (in-set (object_of h.heap (var_of (limits s) h.heap t a)).refs f (referred (limits s) h.heap v) (suc y) i))
+    sound-object h k (var_of (limits s) h.heap t a) _ (λ y i. go y (in-set (object_of h.heap (var_of (limits s) h.heap t a)).refs f (referred (limits s) h.heap v) (suc y) i))
   where
-    go : (y : ℕ) → (suc y ≡ referred (limits s) h.heap v) ⊎ In (suc y) (object_of h.heap (var_of (limits s) h.heap t a)).refs
-        → Alive (graph h) y
+    go : (y : ℕ) → (suc y ≡ referred (limits s) h.heap v) ⊎ In (suc y) (object_of h.heap (var_of (limits s) h.heap t a)).refs → Alive (graph h) y
     go y (inl e) = source-alive s h k.closed v y (sym e)
     go y (inr i) = object-refs h k.closed (place (limits s) t a) y i
-sound-assigned s h k t (number a f v) = sound-object h k (var_of (limits s) h.heap t a) _
-    (λ y i. object-refs h k.closed (place (limits s) t a) y i)
+sound-assigned s h k t (number a f v) = sound-object h k (var_of (limits s) h.heap t a) _ (λ y i. object-refs h k.closed (place (limits s) t a) y i)
 
 -- the heap after what a command of thread t does
 abbrev pub after_effect : Sizes → Regioned → ℕ → Effect → Regioned
-after_effect s h t e = record {
-  heap = nf.effect (limits s) h.heap t e;
-  homes = ru.homes_after s h t e;
-  counters = ru.counters_after s h t e;
-  occupancy = ru.occupancy_after s h t e;
-}
+after_effect s h t e = record { heap = nf.effect (limits s) h.heap t e; homes = ru.homes_after s h t e; counters = ru.counters_after s h t e; occupancy = ru.occupancy_after s h t e }
 
 sound-effect : (s : Sizes) (h : Regioned) → Sound h → (t : ℕ) (e : Effect) → Sound (after_effect s h t e)
 unfolding nf.effect ru.homes_after ru.counters_after ru.occupancy_after

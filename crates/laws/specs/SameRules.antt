@@ -17,8 +17,7 @@ use Rattle.rules.specs.Graph.{Graph, slots_of, target, ended, freed_by, crosses,
 use Rattle.laws.specs.Joins.{from-map, join-of-one}
 use Rattle.laws.specs.JoinLaws.{joins}
 use Rattle.laws.specs.EndLaws.{was-alive, home-went, home-stayed, closed-ended}
-use Rattle.laws.specs.GraphLaws.{Alive, Closed, Refers, Leads, itself, along, Holds, by_slot, by_own, by_other, Reaches, reaches-around}
-use Rattle.laws.specs.GraphLaws.{target-from, target-absorbs, target-reached}
+use Rattle.laws.specs.GraphLaws.{Alive, Closed, Refers, Leads, itself, along, Holds, by_slot, by_own, by_other, Reaches, reaches-around, target-from, target-absorbs, target-reached}
 
 -- a reference to an object's partner
 abbrev pub renamed : (ℕ → ℕ) → ℕ → ℕ
@@ -66,8 +65,7 @@ module _ (s : Sizes) (to : ℕ → ℕ) (g h : Graph) (cg : Closed g) (ch : Clos
   var-to i x e = ap (λ (vs : List ℕ). get_or vs i 0) p.vars ∙ get_or-map (renamed to) g.vars i 0 ∙ ap (renamed to) e
 
   var-back : (i y : ℕ) → get_or h.vars i 0 ≡ suc y → (x : ℕ) × (get_or g.vars i 0 ≡ suc x) × (to x ≡ y)
-  var-back i y e = renamed-suc to (get_or g.vars i 0) y
-      (sym e ∙ ap (λ (vs : List ℕ). get_or vs i 0) p.vars ∙ get_or-map (renamed to) g.vars i 0)
+  var-back i y e = renamed-suc to (get_or g.vars i 0) y (sym e ∙ ap (λ (vs : List ℕ). get_or vs i 0) p.vars ∙ get_or-map (renamed to) g.vars i 0)
 
   module _ (r : ℕ) (pos : 0 < r) where
     lies-alive : (x : ℕ) → g.home x ≡ r → Alive g x
@@ -137,19 +135,13 @@ module _ (s : Sizes) (to : ℕ → ℕ) (g h : Graph) (cg : Closed g) (ch : Clos
     pub same_target : (x : ℕ) → Alive g x → target s h r (to x) ≡ target s g r x
     same_target x a = go (eq-zero-or-pos (target s g r x)) (eq-zero-or-pos (target s h r (to x)))
       where
-        go : (target s g r x ≡ 0) ⊎ (0 < target s g r x) → (target s h r (to x) ≡ 0) ⊎ (0 < target s h r (to x))
-            → target s h r (to x) ≡ target s g r x
+        go : (target s g r x ≡ 0) ⊎ (0 < target s g r x) → (target s h r (to x) ≡ 0) ⊎ (0 < target s h r (to x)) → target s h r (to x) ≡ target s g r x
         go (inl e) (inl f) = f ∙ sym e
-        go (inl e) (inr f) = let k = target-reached s h r (to x) f in
-            absurd (omega (arith, (target-absorbs s g r x k.0 (reaches-back k.0 x a k.1)).some))
-        go (inr e) (inl f) = let k = target-reached s g r x e in
-            absurd (omega (arith, (target-absorbs s h r (to x) k.0 (reaches-to k.0 x k.1)).some))
+        go (inl e) (inr f) = let k = target-reached s h r (to x) f in absurd (omega (arith, (target-absorbs s g r x k.0 (reaches-back k.0 x a k.1)).some))
+        go (inr e) (inl f) = let k = target-reached s g r x e in absurd (omega (arith, (target-absorbs s h r (to x) k.0 (reaches-to k.0 x k.1)).some))
         go (inr e) (inr f) =
             join-of-one (joins s) (λ q k. (reaches-around s g r x q k).some)
-            (record {
-              «from» = from-map (λ q. reaches-back q x a) (target-from s h r (to x) f);
-              absorbs = λ q k. target-absorbs s h r (to x) q (reaches-to q x k);
-            })
+            (record { «from» = from-map (λ q. reaches-back q x a) (target-from s h r (to x) f); absorbs = λ q k. target-absorbs s h r (to x) q (reaches-to q x k) })
             (record { «from» = target-from s g r x e; absorbs = target-absorbs s g r x })
 
     -- the graphs after the end of r correspond too
@@ -175,19 +167,13 @@ module _ (s : Sizes) (to : ℕ → ℕ) (g h : Graph) (cg : Closed g) (ch : Clos
   -- ---- counts
 
   -- what is counted of objects that are there
-  same_count : (f f' : ℕ → ℕ) → ((x : ℕ) → 0 < f x → Alive g x) → ((y : ℕ) → 0 < f' y → Alive h y) → ((x : ℕ) → Alive g x → f' (to x) ≡ f x)
-      → sum f g.count ≡ sum f' h.count
+  same_count : (f f' : ℕ → ℕ) → ((x : ℕ) → 0 < f x → Alive g x) → ((y : ℕ) → 0 < f' y → Alive h y) → ((x : ℕ) → Alive g x → f' (to x) ≡ f x) → sum f g.count ≡ sum f' h.count
   same_count f f' ag ah same =
       sum-paired to f g.count f' h.count
       (record {
         goes = λ x l k. let a = ag x k in (ch.below (to x) (alive-to x a), same x a);
         apart = λ x y l m k j e. p.apart x y (ag x k) (ag y j) e;
-        onto = λ y l k. let w = p.onto y (ah y k) in (
-          w.0,
-          cg.below w.0 w.1,
-          subst (λ (n : ℕ). 0 < n) (ap f' (sym w.2) ∙ same w.0 w.1) k,
-          w.2,
-        );
+        onto = λ y l k. let w = p.onto y (ah y k) in (w.0, cg.below w.0 w.1, subst (λ (n : ℕ). 0 < n) (ap f' (sym w.2) ∙ same w.0 w.1) k, w.2);
       })
 
   -- of those of region q
@@ -200,8 +186,7 @@ module _ (s : Sizes) (to : ℕ → ℕ) (g h : Graph) (cg : Closed g) (ch : Clos
 
   pub same-objects : (q : ℕ) → 0 < q → objects_in g q ≡ objects_in h q
   unfolding objects_in
-  same-objects q pos = same_count _ _ (lies-there q pos g (λ x. 1)) (lies-there q pos h (λ x. 1))
-      (λ x a. ap (λ (n : ℕ). cond (eqb n q) 1 0) (p.home x a))
+  same-objects q pos = same_count _ _ (lies-there q pos g (λ x. 1)) (lies-there q pos h (λ x. 1)) (λ x a. ap (λ (n : ℕ). cond (eqb n q) 1 0) (p.home x a))
 
   pub same-freed : (r : ℕ) → 0 < r → freed_by s g r ≡ freed_by s h r
   unfolding freed_by target

@@ -1,6 +1,6 @@
 -- Objects in the cells: where one begins, which words are its own, and its slots. An object takes one cell. What rests on that cites one of
--- `begins-used`, `used-begins`, `begins-on`, `begins-there`, `covers-cell`, `spot`, `slot-word`, `word-slot`, `none_before`, `none_after`,
--- `none-past` here, `room-is`, `room_most`, `most-is`, `most-words` or `field-page` to `field-high` in Cells, or copies a whole cell (`copy`).
+-- `begins-used`, `used-begins`, `begins-on`, `begins-there`, `covers-cell`, `spot`, `slot-word`, `word-slot`, `none_before`, `none_after`, `none-past`
+-- here, `room-is`, `room_most`, `most-is`, `most-words` or `field-page` to `field-high` in Cells, or copies a whole cell (`copy`).
 use Rattle.std.specs.Prelude.{ℕ, zero, suc, ◌+◌, ◌-◌, ◌*◌, ◌≤◌, ◌<◌, List, Bool, true, false, cond, ◌≡◌, refl, leb}
 use native.Mathlib.Omega.{arith}
 use Rattle.std.proofs.Math.Decide.{dec_lt}
@@ -14,9 +14,8 @@ use Rattle.lists.specs.Tests.{both_true}
 use Rattle.lists.specs.Counting.{sum, sum-none, sum_same, sum-add, sum-blocks}
 use Rattle.rules.specs.declared.Sizes.{Sizes}
 pub use Rattle.rules.specs.Rules.{cell_count}
-use Rattle.places.specs.Places.{cells_words, used_of}
-use Rattle.layout.specs.Cells.{head_at, work_at, field_at, head_of, refs_of, IsReference, room_for, room-is, page_cells, page_of, place_of, cell_on}
-use Rattle.layout.specs.Cells.{cell_of, word_of, page_at}
+use Rattle.layout.specs.Places.{cells_words, used_of}
+use Rattle.layout.specs.Cells.{head_at, work_at, field_at, head_of, refs_of, IsReference, room_for, room-is, page_cells, page_of, place_of, cell_on, cell_of, word_of, page_at}
 
 -- cell k is in use: it is one of the first cells of its page
 pub record InUse (s : Sizes) (t : List ℕ) (k : ℕ) : Type 0 where
@@ -227,8 +226,7 @@ module _ (s : Sizes) (c t : List ℕ) (q : ℕ) where
       let e : cell_of q ≡ o.object = omega (arith, o.at, o.room, room-is (head_of c o.object)) in
       let f : word_of q ≡ 2 + o.field = omega (arith, o.at, o.room, room-is (head_of c o.object)) in
       ap₂ (λ (k j : ℕ). begins_at s c t k && (leb 2 j && ltb j (refs_of c k + 2))) e f
-      ∙ ap₂ ◌&&◌ (begins-true s c t o.object o.begins)
-      (ap₂ ◌&&◌ (le-leb 2 (2 + o.field) (omega arith)) (lt-ltb (2 + o.field) (refs_of c o.object + 2) (omega (arith, o.low))))
+      ∙ ap₂ ◌&&◌ (begins-true s c t o.object o.begins) (ap₂ ◌&&◌ (le-leb 2 (2 + o.field) (omega arith)) (lt-ltb (2 + o.field) (refs_of c o.object + 2) (omega (arith, o.low))))
 
   pub true-slot : is_slot s c t q ≡ true → Slot s c t q
   unfolding is_slot
@@ -301,14 +299,12 @@ module _ (s : Sizes) (c t : List ℕ) (q : ℕ) where
       let e : o.object ≡ k = omega (arith, o.at, o.room, room-is (head_of c o.object)) in
       omega (arith, o.at, o.low, ap (refs_of c) e)
 
-  pub none-past : (page place : ℕ) → used_of s t page ≤ place → place ≤ page_cells → head_at (cell_on page place) ≤ q → q < head_at (cell_on (page + 1) 0)
-      → Slot s c t q → ⊥
+  pub none-past : (page place : ℕ) → used_of s t page ≤ place → place ≤ page_cells → head_at (cell_on page place) ≤ q → q < head_at (cell_on (page + 1) 0) → Slot s c t q → ⊥
   none-past page place h i l m o =
       let e : page_of o.object ≡ page = omega (arith, o.at, o.room, room-is (head_of c o.object)) in
       omega (arith, o.at, o.room, room-is (head_of c o.object), (begins-used s c t o.object o.begins).place, ap (used_of s t) e)
 
-pub begins-there : (s : Sizes) (c t : List ℕ) (page place : ℕ) → page < s.pages → place < page_cells → place < used_of s t page
-    → Begins s c t (cell_on page place)
+pub begins-there : (s : Sizes) (c t : List ℕ) (page place : ℕ) → page < s.pages → place < page_cells → place < used_of s t page → Begins s c t (cell_on page place)
 begins-there s c t page place l m u = true-begins s c t (cell_on page place) (begins-on s c t page place l m ∙ lt-ltb place (used_of s t page) u)
 
 -- what is 0 but at slots sums up object by object
@@ -335,9 +331,7 @@ module _ (s : Sizes) (c t : List ℕ) (g : ℕ → ℕ) (none : (q : ℕ) → q 
             sum-add (λ j. g (16 * k + j)) 2 14,
             ap (sum (λ i. g (16 * k + (2 + i)))) (sym e) ∙ sum-add (λ i. g (16 * k + (2 + i))) r (14 - r),
             sum-none (λ j. g (16 * k + j)) 2 (λ j m. none (16 * k + j) (omega arith) (none_before s c t (16 * k + j) k (omega arith) (omega arith))),
-            sum-none (λ j. g (16 * k + (2 + (r + j)))) (14 - r)
-                (λ j m. none (16 * k + (2 + (r + j))) (omega arith)
-                (none_after s c t (16 * k + (2 + (r + j))) k r (omega arith) (omega arith) (omega arith))),
+            sum-none (λ j. g (16 * k + (2 + (r + j)))) (14 - r) (λ j m. none (16 * k + (2 + (r + j))) (omega arith) (none_after s c t (16 * k + (2 + (r + j))) k r (omega arith) (omega arith) (omega arith))),
             sum_same (λ i. g (16 * k + (2 + i))) (λ f. g (field_at k f)) r (λ i m. ap g (let q : 16 * k + (2 + i) ≡ field_at k i = omega arith in q)),
             ap (λ (x : Bool). cond x (sum (λ f. g (field_at k f)) r) 0) (begins-true s c t k b),
           )

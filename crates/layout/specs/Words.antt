@@ -9,7 +9,7 @@ use Rattle.rules.specs.Rules.{Counters, Regioned}
 use Rattle.layout.specs.declared.Kind.{Kind}
 use Rattle.layout.specs.declared.Kind.TheVariants.{Reference, Number}
 pub use Rattle.layout.specs.Objects.{InUse, Begins, begins_at, cell_count}
-use Rattle.places.specs.Places.{sizes_at, depth_at, var_at, depth_of, var_of, owner_of, used_of, made_of, freed_of}
+use Rattle.layout.specs.Places.{sizes_at, depth_at, var_at, depth_of, var_of, owner_of, used_of, made_of, freed_of}
 use Rattle.layout.specs.Cells.{head_of, field_at, field_count, first_field, cell_named, page_of}
 
 pub record Words : Type 0 where
@@ -122,8 +122,8 @@ abbrev pub home_in : Sizes → Words → ℕ → ℕ
 home_in s w c = home_at s w.cells w.tables c
 
 -- a reference is null or names a cell of the heap's pages
-abbrev pub NamesCell : Sizes → ℕ → Type 0
-NamesCell s x = x ≢ 0 → page_of (cell_named x) < s.pages
+abbrev pub Names : Sizes → ℕ → Type 0
+Names s x = x ≢ 0 → page_of (cell_named x) < s.pages
 
 -- ---- the graph of the words: an object is the cell where it begins
 

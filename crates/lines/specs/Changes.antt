@@ -2,13 +2,12 @@
 use Rattle.std.specs.Prelude.{refl, List, [], ◌∷◌, ◌++◌}
 use Rattle.std.proofs.Common.{subst}
 use Rattle.promises.specs.Slices.{Slices}
-use Rattle.reading.specs.declared.Line.{Line}
+use Rattle.script.specs.declared.Line.{Line}
 use Rattle.printed.specs.Printed.{Session, stopped, takes, takes_all}
 use Rattle.lines.specs.Lines.{LineChanges, LinesChange}
 
 -- the slices after some lines, and then after others
-pub changes-append : (ls ks : List Line) (x : Session) (l v l' : Slices) → LinesChange x ls l v → LinesChange (takes_all x ls) ks v l'
-    → LinesChange x (ls ++ ks) l l'
+pub changes-append : (ls ks : List Line) (x : Session) (l v l' : Slices) → LinesChange x ls l v → LinesChange (takes_all x ls) ks v l' → LinesChange x (ls ++ ks) l l'
 unfolding LinesChange takes_all
 changes-append [] ks x l v l' e c = subst (λ (u : Slices). LinesChange x ks u l') e c
 changes-append (line ∷ ls) ks x l v l' e c = (e.0, e.1, changes-append ls ks (takes x line) e.0 v l' e.2 c)

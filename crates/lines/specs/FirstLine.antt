@@ -14,10 +14,10 @@ use Rattle.promises.specs.Slices.{Slices}
 use Rattle.promises.specs.Promises as pr
 use Rattle.promises.specs.Promises.{LongEnough, PrepareAsked, out_of_range, short, Unused, Prepared}
 use Rattle.promises.specs.Preparing.{prepared-is}
-use Rattle.reading.specs.declared.Line.{Line}
-use Rattle.reading.specs.declared.Line.TheVariants.{Numbers, Malformed}
+use Rattle.script.specs.declared.Line.{Line}
+use Rattle.script.specs.declared.Line.TheVariants.{Numbers, Malformed}
 use Rattle.printed.specs.Printed.{sizes, between, accepted, running, stopped, takes}
-use Rattle.lines.specs.Lines.{Lent, StageHolds, Prepares, LineChanges, Begun}
+use Rattle.lines.specs.Lines.{Lent, Holds, Prepares, LineChanges, Begun}
 
 -- ---- sizes
 
@@ -36,8 +36,7 @@ true-between low n high a b = ap₂ (λ (x y : Bool). x && y) (le-leb low n a) (
 pub accepted-are : (s : Sizes) → accepted s ≡ true → Accepted s
 unfolding accepted
 accepted-are s e =
-    let t = both_true (between 1 s.threads 16) (between 1 s.variables 32
-    && (between 1 s.depth 8 && (between 1 s.pages 32 && between 0 s.entries 1024))) e in
+    let t = both_true (between 1 s.threads 16) (between 1 s.variables 32 && (between 1 s.depth 8 && (between 1 s.pages 32 && between 0 s.entries 1024))) e in
     let v = both_true (between 1 s.variables 32) (between 1 s.depth 8 && (between 1 s.pages 32 && between 0 s.entries 1024)) t.1 in
     let d = both_true (between 1 s.depth 8) (between 1 s.pages 32 && between 0 s.entries 1024) v.1 in
     let p = both_true (between 1 s.pages 32) (between 0 s.entries 1024) d.1 in
@@ -69,8 +68,7 @@ are-accepted s a =
     ap₂ (λ (x y : Bool). x && y) (true-between 1 s.threads 16 r.threads-low r.threads-high)
     (ap₂ (λ (x y : Bool). x && y) (true-between 1 s.variables 32 r.variables-low r.variables-high)
     (ap₂ (λ (x y : Bool). x && y) (true-between 1 s.depth 8 r.depth_low r.depth-high)
-    (ap₂ (λ (x y : Bool). x && y) (true-between 1 s.pages 32 r.pages-low a.few-pages)
-    (true-between 0 s.entries 1024 (omega arith) a.few-entries))))
+    (ap₂ (λ (x y : Bool). x && y) (true-between 1 s.pages 32 r.pages-low a.few-pages) (true-between 0 s.entries 1024 (omega arith) a.few-entries))))
 
 -- the lent slices are long enough for exactly these
 accepted-long : (s : Sizes) (l : Slices) → Lent l → Accepted s → LongEnough s l
@@ -80,21 +78,12 @@ accepted-long s l lent a =
     record {
       cells = omega (arith, lent.cells, a.few-pages);
       remember = omega (arith, lent.remember, a.few-entries);
-      tables = omega (
-        arith,
-        lent.tables,
-        a.few-pages,
-        mul-le-mul r.threads-high (let e : s.variables + s.depth + 1 ≤ 41 = omega (arith, r.variables-high, r.depth-high) in e),
-      );
+      tables = omega (arith, lent.tables, a.few-pages, mul-le-mul r.threads-high (let e : s.variables + s.depth + 1 ≤ 41 = omega (arith, r.variables-high, r.depth-high) in e));
       chains = omega (arith, lent.chains, a.few-entries, mul-le-mul r.threads-high r.depth-high);
     }
 
 long-accepted : (s : Sizes) (l : Slices) → Lent l → InRange s → LongEnough s l → Accepted s
-long-accepted s l lent r e = record {
-  range = r;
-  few-pages = omega (arith, lent.cells, e.cells);
-  few-entries = omega (arith, lent.remember, e.remember);
-}
+long-accepted s l lent r e = record { range = r; few-pages = omega (arith, lent.cells, e.cells); few-entries = omega (arith, lent.remember, e.remember) }
 
 -- ---- prepare
 
@@ -110,13 +99,13 @@ module _ {l l' : Slices} {q : ℕ} (t v d p n : ℕ) (lent : Lent l) (k : Prepar
       go false e = refl
 
   refused : (q ≡ 0 → ⊥) → (Accepted s → ⊥) → Begun (Numbers t v d p n) l (eqb q 0) l'
-  unfolding takes StageHolds LineChanges Prepares
+  unfolding takes Holds LineChanges Prepares
   refused z f =
       let e : accepted s ≡ false = not-accepted f in
       record {
         told = ne_eqb q 0 z ∙ sym e;
         lent = subst Lent (sym (k.refused z)) lent;
-        holds = subst (λ (b : Bool). StageHolds (cond b (running s (unused s) 2) stopped) l') (sym e) tt;
+        holds = subst (λ (b : Bool). Holds (cond b (running s (unused s) 2) stopped) l') (sym e) tt;
         changes = subst (λ (b : Bool). Prepares b s l l') (sym e) (k.refused z);
       }
 
@@ -135,14 +124,14 @@ module _ {l l' : Slices} {q : ℕ} (t v d p n : ℕ) (lent : Lent l) (k : Prepar
       }
 
   done : q ≡ 0 → Accepted s → Begun (Numbers t v d p n) l (eqb q 0) l'
-  unfolding takes StageHolds LineChanges Prepares
+  unfolding takes Holds LineChanges Prepares
   done z a =
       let e : accepted s ≡ true = are-accepted s a in
       let is = prepared-is s l l' (subst (λ (x : ℕ). Prepared s l x l') z k) in
       record {
         told = eq-eqb q 0 z ∙ sym e;
         lent = kept (k.unused z) (accepted-long s l lent a);
-        holds = subst (λ (b : Bool). StageHolds (cond b (running s (unused s) 2) stopped) l') (sym e) ((λ x. x), is.stands, is.chains);
+        holds = subst (λ (b : Bool). Holds (cond b (running s (unused s) 2) stopped) l') (sym e) ((λ x. x), is.stands, is.chains);
         changes = subst (λ (b : Bool). Prepares b s l l') (sym e) (k.unused z);
       }
 
@@ -155,7 +144,7 @@ module _ {l l' : Slices} {q : ℕ} (t v d p n : ℕ) (lent : Lent l) (k : Prepar
       go (pr.accepted e r f) = done e (long-accepted s l lent r f)
 
 pub malformed-begun : {l : Slices} → Lent l → Begun Malformed l false l
-unfolding takes StageHolds LineChanges
+unfolding takes Holds LineChanges
 malformed-begun lent = record { told = refl; lent = lent; holds = tt; changes = refl }
 
 pub begun-as : {line told : Line} {r : Bool} {l l' : Slices} → line ≡ told → Begun told l r l' → Begun line l r l'

@@ -7,8 +7,8 @@ use Rattle.chains.specs.Chains.{ChainsWhole, with_chains}
 use Rattle.promises.specs.Slices.{Slices}
 use Rattle.promises.specs.StandsFor.{StandsFor}
 use Rattle.promises.specs.Promises.{Did, Unused}
-use Rattle.reading.specs.declared.Line.{Line}
-use Rattle.reading.specs.declared.Line.TheVariants.{Numbers, Malformed}
+use Rattle.script.specs.declared.Line.{Line}
+use Rattle.script.specs.declared.Line.TheVariants.{Numbers, Malformed}
 use Rattle.printed.specs.Printed.{sizes, command, accepted, Session, opening, running, stopped, takes}
 
 -- ---- the lent slices
@@ -28,10 +28,10 @@ pub record Here (l : Slices) : Type 0 where
   pub stands : StandsFor sizes l.words heap cell
   pub chains : ChainsWhole sizes l.words.remember l.chains
 
-unfoldable pub StageHolds : Session → Slices → Type 0
-StageHolds opening l = Unit {0}
-StageHolds (running s h k) l = (cell_of : ℕ → ℕ) × StandsFor s l.words h cell_of × ChainsWhole s l.words.remember l.chains
-StageHolds stopped l = Unit {0}
+unfoldable pub Holds : Session → Slices → Type 0
+Holds opening l = Unit {0}
+Holds (running s h k) l = (cell_of : ℕ → ℕ) × StandsFor s l.words h cell_of × ChainsWhole s l.words.remember l.chains
+Holds stopped l = Unit {0}
 
 -- ---- what becomes of the slices
 
@@ -66,5 +66,5 @@ begins Malformed = false
 pub record Begun (line : Line) (l : Slices) (r : Bool) (l' : Slices) : Type 0 where
   pub told : r ≡ begins line
   pub lent : Lent l'
-  pub holds : StageHolds (takes opening line) l'
+  pub holds : Holds (takes opening line) l'
   pub changes : LineChanges opening line l l'

@@ -14,12 +14,12 @@ use Rattle.promises.specs.Whole.{WholeFor}
 use Rattle.promises.specs.Slices.{slices}
 use Rattle.promises.specs.StandsFor.{StandsFor}
 use Rattle.promises.specs.Crossings.{heap-entries}
-use Rattle.figures.specs.declared.Row.{Row}
-use Rattle.figures.specs.Rows.{rows, no_row, total_of}
-use Rattle.figures.specs.Tables.{WholeTables, rows_in, free_in}
-use Rattle.figures.specs.Stands.{rows-stand, free-stands, made-stands, freed-stands}
-use Rattle.writing.specs.Writing.{row, Put}
-use Rattle.writing.specs.WritingLaws.{word-length, put-text, put-put}
+use Rattle.report.specs.declared.Row.{Row}
+use Rattle.report.specs.Report.{rows, no_row, total_of}
+use Rattle.report.specs.Tables.{WholeTables, rows_in, free_in}
+use Rattle.report.specs.Stands.{rows-stand, free-stands, made-stands, freed-stands}
+use Rattle.script.specs.Writing.{row, Put}
+use Rattle.script.specs.WritingLaws.{word-length, put-text, put-put}
 use Rattle.script.specs.Blocks.{stacked}
 use Rattle.script.specs.BlocksCases.{two-length, stack-none}
 use Rattle.printed.specs.Printed.{row_text, rows_text, reported}
@@ -41,8 +41,7 @@ unfolding row
 three-length a b c la lb lc = simp length-append (omega (arith, word-length a la, word-length b lb, word-length c lc))
 
 -- a line of two numbers ends 22 bytes further on at most
-pub figures-end : {bytes after : List ℕ} {at end a b : ℕ} → Put bytes at (row (a ∷ b ∷ [])) after end → a < 4294967296 → b < 4294967296
-    → end ≤ at + 22
+pub figures-end : {bytes after : List ℕ} {at end a b : ℕ} → Put bytes at (row (a ∷ b ∷ [])) after end → a < 4294967296 → b < 4294967296 → end ≤ at + 22
 figures-end {a = a} {b = b} p la lb = omega (arith, p.end_is, two-length a b la lb)
 
 pub rows_none : (rs : List Row) (out : List ℕ) (at : ℕ) → Put out at (rows_text (take 0 rs)) out at
@@ -65,8 +64,7 @@ module _ (rs : List Row) {out now after : List ℕ} {at end last : ℕ} (k : ℕ
       ∙ ap (λ (t : List ℕ). rows_text (take k rs) ++ t) (append-nil (row_text (get_or rs k no_row)) ∙ ap row_text (sym e))))
       (put-put (omega (arith, p.end_is, four-length r.thread r.level r.objects r.pages fits.0 fits.1 fits.2 fits.3)) p q)
 
-pub rows_all : {out after : List ℕ} {at end : ℕ} (rs : List Row) (k : ℕ) → k ≡ length rs → Put out at (rows_text (take k rs)) after end
-    → Put out at (rows_text rs) after end
+pub rows_all : {out after : List ℕ} {at end : ℕ} (rs : List Row) (k : ℕ) → k ≡ length rs → Put out at (rows_text (take k rs)) after end → Put out at (rows_text rs) after end
 rows_all rs k e p = put-text (ap (λ (n : ℕ). rows_text (take n rs)) e ∙ ap rows_text (take-length rs)) p
 
 -- ---- the report
@@ -74,8 +72,7 @@ rows_all rs k e p = put-text (ap (λ (n : ℕ). rows_text (take n rs)) e ∙ ap 
 module _ {c m t k : List ℕ} {p : Sizes} (here : Here (slices c m t k)) (sizes-are : p ≡ sizes_at t) where
   pub here-whole : WholeTables p t
   here-whole =
-      let whole : WholeFor (sizes_at t) (words c m t) = subst (λ (s : Sizes). WholeFor s (words c m t)) (sym here.stands.whole.sized.sizes)
-      here.stands.whole in
+      let whole : WholeFor (sizes_at t) (words c m t) = subst (λ (s : Sizes). WholeFor s (words c m t)) (sym here.stands.whole.sized.sizes) here.stands.whole in
       subst (λ (q : Sizes). WholeTables q t) (sym sizes-are) (record { cells = c; remember = m; whole = whole })
 
   module _ {out middle figured after : List ℕ} {at i j end free slots made freed total : ℕ} (room : at + 5731 ≤ length out)

@@ -5,13 +5,13 @@ ghost use Rattle.rules.specs.Rules.{Regioned};
 ghost use Rattle.layout.specs.Words.{words};
 ghost use Rattle.promises.specs.Slices.{slices};
 ghost use Rattle.promises.specs.StandsFor.{StandsFor};
-ghost use Rattle.figures.specs.Tables.{WholeTables, rows_in};
-ghost use Rattle.writing.specs.Writing.{Put};
+ghost use Rattle.report.specs.Tables.{WholeTables, rows_in};
+ghost use Rattle.script.specs.Writing.{Put};
 ghost use Rattle.printed.specs.Printed.{rows_text, reported};
 ghost use Rattle.lines.specs.Lines.{Lent, Here, Begun};
 
-use reading::Line;
 use rules::Sizes;
+use script::Line;
 
 // Prepares the tables if a line has sizes that are accepted.
 pub fn prepare(
@@ -35,17 +35,17 @@ pub fn prepare(
     }
 }
 
-// The report's rows from a position on: one for each region at most, of 44 bytes at most.
+// The report's rows from a position on: at most 129, of 44 bytes at most.
 fn put_rows(p: Sizes, tables: &[u32], out: &mut [u8], at: usize) -> usize
     requires { WholeTables p tables.now × (at + 5676 ≤ length out.old) }
     ensures { Put out.old at (rows_text (rows_in p tables.now)) out.new result × (result ≤ at + 5676) }
 {
-    let count = figures::row_count(p, tables);
+    let count = report::row_count(p, tables);
     let mut end = at;
     let mut k = 0;
     while k < count {
-        let row = figures::row_at(p, tables, k);
-        end = writing::put_four(out, end, row.thread, row.level, row.objects, row.pages);
+        let row = report::row_at(p, tables, k);
+        end = script::write::put_four(out, end, row.thread, row.level, row.objects, row.pages);
         k += 1;
     }
     end
@@ -60,10 +60,10 @@ pub fn put_report(remember: &[u32], tables: &[u32], out: &mut [u8], at: usize) -
 {
     let p = layout::read_sizes(tables);
     let end = put_rows(p, tables, out, at);
-    let free = figures::free_pages(p, tables);
-    let last = writing::put_two(out, end, free, figures::crossing_slots(remember));
-    let made = figures::made(p, tables);
-    let freed = figures::freed(p, tables);
-    let total = figures::total(p, tables);
-    writing::put_three(out, last, made, freed, total)
+    let free = report::free_pages(p, tables);
+    let last = script::write::put_two(out, end, free, report::crossing_slots(remember));
+    let made = report::made(p, tables);
+    let freed = report::freed(p, tables);
+    let total = report::total(p, tables);
+    script::write::put_three(out, last, made, freed, total)
 }

@@ -5,14 +5,13 @@ use Rattle.std.proofs.Common.{sym, subst, ◌∙◌, arith, take-append-drop, lt
 use Rattle.std.proofs.Math.Path.{ap}
 use Rattle.std.proofs.Math.Decide.{ℕ_discrete, dec_lt}
 use Rattle.lists.specs.Stores.{drop-same}
-use Rattle.layout.specs.Places.{next_at, named_at, next_in}
 use Rattle.remember.specs.Table.{Entry, nth_region}
 use Rattle.chains.specs.Chains.{Among, chains_of}
 use Rattle.chains.specs.Firsts.{first_from, first-end, first-here, first-other, next_of, next-is, next-end}
 use Rattle.chains.specs.Linking.{agreed, agreed-first, agreed-next}
-use Rattle.chain_words.specs.Words.{NamesNext, names-one, WordsChained}
-use Rattle.chain_words.specs.Shifting.{Parted}
-use Rattle.chain_words.specs.Joining.{Else}
+use Rattle.linking.specs.Words.{Names, names-one, Chained}
+use Rattle.linking.specs.Shifting.{Parted}
+use Rattle.linking.specs.Joining.{Else}
 
 -- the region of the word at a position
 unfoldable pub word_region : ℕ → List Entry → ℕ → ℕ
@@ -29,9 +28,9 @@ module _ (R : ℕ) (es : List Entry) where
 
   -- ---- what the chains of the entries name
 
-  from-here : (g n i : ℕ) → i + n ≡ length es → NamesNext 0 (length es) (nth_region es) g i (first_from g es i)
+  from-here : (g n i : ℕ) → i + n ≡ length es → Names 0 (length es) (nth_region es) g i (first_from g es i)
   from-here g zero i e =
-      subst (NamesNext 0 (length es) (nth_region es) g i) (sym (first-end g es i (omega arith)))
+      subst (Names 0 (length es) (nth_region es) g i) (sym (first-end g es i (omega arith)))
       (record {
         first = λ j l h w. absurd (let z : ⊥ = omega arith in z);
         later = λ p. absurd (let z : ⊥ = omega arith in z);
@@ -40,11 +39,10 @@ module _ (R : ℕ) (es : List Entry) where
       })
   from-here g (suc n) i e = go (ℕ_discrete (nth_region es i) g) (from-here g n (suc i) (omega arith))
     where
-      go : Dec (nth_region es i ≡ g) → NamesNext 0 (length es) (nth_region es) g (suc i) (first_from g es (suc i))
-          → NamesNext 0 (length es) (nth_region es) g i (first_from g es i)
+      go : Dec (nth_region es i ≡ g) → Names 0 (length es) (nth_region es) g (suc i) (first_from g es (suc i)) → Names 0 (length es) (nth_region es) g i (first_from g es i)
       go (yes q) rest =
-          let v : named_at 0 (suc i) ≡ i = omega arith in
-          subst (NamesNext 0 (length es) (nth_region es) g i) (sym (first-here g es i (omega arith) q))
+          let v : 0 + suc i - 1 ≡ i = omega arith in
+          subst (Names 0 (length es) (nth_region es) g i) (sym (first-here g es i (omega arith) q))
           (record {
             first = λ j l h w. (omega arith, omega arith);
             later = λ p. omega arith;
@@ -52,7 +50,7 @@ module _ (R : ℕ) (es : List Entry) where
             same = λ p. ap (nth_region es) v ∙ q;
           })
       go (no q) rest =
-          subst (NamesNext 0 (length es) (nth_region es) g i) (sym (first-other g es i (omega arith) q))
+          subst (Names 0 (length es) (nth_region es) g i) (sym (first-other g es i (omega arith) q))
           (record {
             first = λ j l h w. rest.first j (let d : j ≡ i → ⊥ = (λ z. q (sym (ap (nth_region es) z) ∙ w)) in omega (arith, d)) h w;
             later = λ p. omega (arith, rest.later p);
@@ -61,12 +59,12 @@ module _ (R : ℕ) (es : List Entry) where
           })
 
   abbrev n : ℕ
-  n = next_at R (length es)
+  n = R + length es
 
   abbrev f : ℕ → ℕ
   f = word_region R es
 
-  from_place : (g i : ℕ) → i ≤ length es → NamesNext R n f g (next_at R i) (first_from g es i)
+  from_place : (g i : ℕ) → i ≤ length es → Names R n f g (R + i) (first_from g es i)
   from_place g i l =
       record {
         first = λ j a b w.
@@ -75,17 +73,17 @@ module _ (R : ℕ) (es : List Entry) where
         later = λ p. omega (arith, N.later p);
         low = λ p. omega (arith, N.low p);
         same = λ p.
-            let v : named_at R (first_from g es i) - R ≡ named_at 0 (first_from g es i) = omega arith in
-            region-next (named_at R (first_from g es i)) (omega arith) ∙ ap (nth_region es) v ∙ N.same p;
+            let v : R + first_from g es i - 1 - R ≡ 0 + first_from g es i - 1 = omega arith in
+            region-next (R + first_from g es i - 1) (omega arith) ∙ ap (nth_region es) v ∙ N.same p;
       }
     where
-      N : NamesNext 0 (length es) (nth_region es) g i (first_from g es i)
+      N : Names 0 (length es) (nth_region es) g i (first_from g es i)
       N = from-here g (length es - i) i (omega arith)
 
   -- the first word of region w + 1, and the next word of entry j
-  first-names : (w : ℕ) → w < R → NamesNext R n f (f w) (suc w) (first_from (suc w) es 0)
+  first-names : (w : ℕ) → w < R → Names R n f (f w) (suc w) (first_from (suc w) es 0)
   first-names w l =
-      subst (λ (h : ℕ). NamesNext R n f h (suc w) (first_from (suc w) es 0)) (sym (region-first w l))
+      subst (λ (h : ℕ). Names R n f h (suc w) (first_from (suc w) es 0)) (sym (region-first w l))
       (record {
         first = λ j a b e. first j a b e (dec_lt j R);
         later = λ p. omega (arith, N.later p);
@@ -93,21 +91,20 @@ module _ (R : ℕ) (es : List Entry) where
         same = N.same;
       })
     where
-      N : NamesNext R n f (suc w) (next_at R 0) (first_from (suc w) es 0)
+      N : Names R n f (suc w) (R + 0) (first_from (suc w) es 0)
       N = from_place (suc w) 0 (omega arith)
 
-      first : (j : ℕ) → suc w ≤ j → j < n → f j ≡ suc w → Dec (j < R) → (0 < first_from (suc w) es 0) × (next_at R (first_from (suc w) es 0) ≤ j + 1)
+      first : (j : ℕ) → suc w ≤ j → j < n → f j ≡ suc w → Dec (j < R) → (0 < first_from (suc w) es 0) × (R + first_from (suc w) es 0 ≤ j + 1)
       first j a b e (yes h) = absurd (let z : ⊥ = omega (arith, region-first j h) in z)
       first j a b e (no h) = N.first j (omega arith) b e
 
-  next-names : (j : ℕ) → j < length es → NamesNext R n f (f (next_at R j)) (suc (next_at R j)) (next_of es j)
+  next-names : (j : ℕ) → j < length es → Names R n f (f (R + j)) (suc (R + j)) (next_of es j)
   next-names j l =
-      let v : next_at R j - R ≡ j = omega arith in
-      let u : next_at R (suc j) ≡ suc (next_at R j) = omega arith in
-      subst (NamesNext R n f (f (next_at R j)) (suc (next_at R j))) (sym (next-is es j l))
-      (subst (λ (h : ℕ). NamesNext R n f h (suc (next_at R j)) (first_from (nth_region es j) es (suc j)))
-      (sym (region-next (next_at R j) (omega arith) ∙ ap (nth_region es) v))
-      (subst (λ (s : ℕ). NamesNext R n f (nth_region es j) s (first_from (nth_region es j) es (suc j))) u (from_place (nth_region es j) (suc j) l)))
+      let v : R + j - R ≡ j = omega arith in
+      let u : R + suc j ≡ suc (R + j) = omega arith in
+      subst (Names R n f (f (R + j)) (suc (R + j))) (sym (next-is es j l))
+      (subst (λ (h : ℕ). Names R n f h (suc (R + j)) (first_from (nth_region es j) es (suc j))) (sym (region-next (R + j) (omega arith) ∙ ap (nth_region es) v))
+      (subst (λ (s : ℕ). Names R n f (nth_region es j) s (first_from (nth_region es j) es (suc j))) u (from_place (nth_region es j) (suc j) l)))
 
   positive : Among R es → (w : ℕ) → w < n → 0 < f w
   positive a w l = go (dec_lt w R)
@@ -118,35 +115,34 @@ module _ (R : ℕ) (es : List Entry) where
 
   -- ---- the words
 
-  module _ (N : ℕ) (k : List ℕ) (few : length es ≤ N) (room : next_at R N ≤ length k) (a : Among R es) where
-    pub chains-chained : take (next_at R N) k ≡ chains_of R N es → WordsChained R n f k
+  module _ (N : ℕ) (k : List ℕ) (few : length es ≤ N) (room : R + N ≤ length k) (a : Among R es) where
+    pub chains-chained : take (R + N) k ≡ chains_of R N es → Chained R n f k
     chains-chained e = record {
       on = λ w l p. on w l (dec_lt w R);
       off = λ w l z. absurd (let v : ⊥ = omega (arith, positive a w l) in v);
     }
       where
-        on : (w : ℕ) → w < n → Dec (w < R) → NamesNext R n f (f w) (suc w) (get_or k w 0)
-        on w l (yes h) = subst (NamesNext R n f (f w) (suc w)) (sym (agreed-first R N es k few room e w h)) (first-names w h)
+        on : (w : ℕ) → w < n → Dec (w < R) → Names R n f (f w) (suc w) (get_or k w 0)
+        on w l (yes h) = subst (Names R n f (f w) (suc w)) (sym (agreed-first R N es k few room e w h)) (first-names w h)
         on w l (no h) =
-            let v : next_at R (w - R) ≡ w = omega arith in
-            subst (λ (i : ℕ). NamesNext R n f (f i) (suc i) (get_or k i 0)) v
-            (subst (NamesNext R n f (f (next_at R (w - R))) (suc (next_at R (w - R)))) (sym (agreed-next R N es k few room e (w - R) (omega arith)))
-            (next-names (w - R) (omega arith)))
+            let v : R + (w - R) ≡ w = omega arith in
+            subst (λ (i : ℕ). Names R n f (f i) (suc i) (get_or k i 0)) v
+            (subst (Names R n f (f (R + (w - R))) (suc (R + (w - R)))) (sym (agreed-next R N es k few room e (w - R) (omega arith))) (next-names (w - R) (omega arith)))
 
-    pub chains-rest : take (next_at R N) k ≡ chains_of R N es → (j : ℕ) → n ≤ j → j < next_at R N → get_or k j 0 ≡ 0
+    pub chains-rest : take (R + N) k ≡ chains_of R N es → (j : ℕ) → n ≤ j → j < R + N → get_or k j 0 ≡ 0
     chains-rest e j l h =
-        let v : j ≡ next_at R (j - R) = omega arith in
+        let v : j ≡ R + (j - R) = omega arith in
         ap (λ (i : ℕ). get_or k i 0) v ∙ agreed-next R N es k few room e (j - R) (omega arith) ∙ next-end es (j - R) (omega arith)
 
-    pub chained-chains : WordsChained R n f k → ((j : ℕ) → n ≤ j → j < next_at R N → get_or k j 0 ≡ 0) → take (next_at R N) k ≡ chains_of R N es
+    pub chained-chains : Chained R n f k → ((j : ℕ) → n ≤ j → j < R + N → get_or k j 0 ≡ 0) → take (R + N) k ≡ chains_of R N es
     chained-chains c z =
         agreed R N es k few room
         (λ r l. names-one (c.on r (omega arith) (positive a r (omega arith))) (first-names r l))
         (λ j l. next j l (dec_lt j (length es)))
       where
-        next : (j : ℕ) → j < N → Dec (j < length es) → next_in R k j ≡ next_of es j
-        next j l (yes h) = names-one (c.on (next_at R j) (omega arith) (positive a (next_at R j) (omega arith))) (next-names j h)
-        next j l (no h) = z (next_at R j) (omega arith) (omega arith) ∙ sym (next-end es j (omega arith))
+        next : (j : ℕ) → j < N → Dec (j < length es) → get_or k (R + j) 0 ≡ next_of es j
+        next j l (yes h) = names-one (c.on (R + j) (omega arith) (positive a (R + j) (omega arith))) (next-names j h)
+        next j l (no h) = z (R + j) (omega arith) (omega arith) ∙ sym (next-end es j (omega arith))
 
 -- lists of one length that agree from n on, of which one begins with the words c
 pub begins-with : (n : ℕ) (k k' c : List ℕ) → length k' ≡ length k → ((j : ℕ) → n ≤ j → get_or k' j 0 ≡ get_or k j 0) → take n k' ≡ c → k' ≡ c ++ drop n k
@@ -172,21 +168,21 @@ pub record Lacks (q : ℕ) (es es' : List Entry) : Type 0 where
   pub above : (j : ℕ) → q ≤ j → nth_region es' (suc j) ≡ nth_region es j
 
 module _ (R : ℕ) {q : ℕ} (es es' : List Entry) where
-  pub lacks-parted : Lacks q es es' → Parted (next_at R q) (word_region R es) (without (next_at R q) (word_region R es'))
+  pub lacks-parted : Lacks q es es' → Parted (R + q) (word_region R es) (without (R + q) (word_region R es'))
   lacks-parted l = record {
-    below = λ j h. without-else (next_at R q) (word_region R es') j (λ (z : j ≡ next_at R q). omega arith) ∙ below j h (dec_lt j R);
-    here = without-here (next_at R q) (word_region R es');
+    below = λ j h. without-else (R + q) (word_region R es') j (λ (z : j ≡ R + q). omega arith) ∙ below j h (dec_lt j R);
+    here = without-here (R + q) (word_region R es');
     above = λ j h.
         let v : suc j - R ≡ suc (j - R) = omega arith in
-        without-else (next_at R q) (word_region R es') (suc j) (λ (z : suc j ≡ next_at R q). omega arith)
+        without-else (R + q) (word_region R es') (suc j) (λ (z : suc j ≡ R + q). omega arith)
         ∙ region-next R es' (suc j) (omega arith) ∙ ap (nth_region es') v ∙ l.above (j - R) (omega arith) ∙ sym (region-next R es j (omega arith));
   }
     where
-      below : (j : ℕ) → j < next_at R q → Dec (j < R) → word_region R es' j ≡ word_region R es j
+      below : (j : ℕ) → j < R + q → Dec (j < R) → word_region R es' j ≡ word_region R es j
       below j h (yes b) = region-first R es' j b ∙ sym (region-first R es j b)
       below j h (no b) = region-next R es' j (omega arith) ∙ l.below (j - R) (omega arith) ∙ sym (region-next R es j (omega arith))
 
-  pub same-else : ((j : ℕ) → (j ≡ q → ⊥) → nth_region es' j ≡ nth_region es j) → Else (next_at R q) (word_region R es) (word_region R es')
+  pub same-else : ((j : ℕ) → (j ≡ q → ⊥) → nth_region es' j ≡ nth_region es j) → Else (R + q) (word_region R es) (word_region R es')
   same-else e j d = go (dec_lt j R)
     where
       go : Dec (j < R) → word_region R es' j ≡ word_region R es j

@@ -5,18 +5,21 @@ use Rattle.std.proofs.Math.Decide.{ℕ_discrete, dec_lt}
 use Rattle.lists.specs.Stores.{put, past}
 use Rattle.rules.specs.declared.Sizes.{Sizes}
 use Rattle.rules.specs.Regions.{regions}
-use Rattle.layout.specs.Places.{entries_used, slot_region_at, slot_region_in, chains_words, first_at, next_at}
+use Rattle.layout.specs.Places.{entries_used, slot_region_at, slot_region_in, chains_words}
 use Rattle.remember.specs.Table.{Entry, entry, region, unused, nth_slot, nth_region, entries_in, with_entries, inserted, removed, Table}
 use Rattle.remember.specs.TableWords.{HoldsEntries, to-long, to_at, written-becomes}
 use Rattle.remember.specs.Edits.{inserted-long, inserted_below, inserted-here, inserted_above, removed-long, removed-below, removed-above}
 use Rattle.remember.specs.EntryEdits.{change-written}
-use Rattle.chains.specs.Chains.{Among, Chainable, ChainsWhole, chains_of, with_chains_of, with_chains}
+use Rattle.chains.specs.Chains.{Among, Chainable, ChainsWhole, chains_of, with_chains}
 use Rattle.chains.specs.Walking.{whole_long}
-use Rattle.chain_words.specs.Words.{WordsChained, chained-onward}
-use Rattle.chain_words.specs.Shifting.{Opened, opened-chained, Closed, closed-chained}
-use Rattle.chain_words.specs.Joining.{Else, Linked, linked_long, linked-else, linked-chains, Unlinked, unlinked-long, unlinked-else, unlinked-chains}
-use Rattle.linking.specs.ByEntries.{word_region, region-first, region-next, chains-chained, chains-rest, chained-chains, begins-with, without}
-use Rattle.linking.specs.ByEntries.{without-here, without-else, Lacks, lacks-parted, same-else}
+use Rattle.linking.specs.Words.{Chained, chained-onward}
+use Rattle.linking.specs.Shifting.{Opened, opened-chained, Closed, closed-chained}
+use Rattle.linking.specs.Joining.{Else, Linked, linked_long, linked-else, linked-chains, Unlinked, unlinked-long, unlinked-else, unlinked-chains}
+use Rattle.linking.specs.ByEntries.{word_region, region-first, region-next, chains-chained, chains-rest, chained-chains, begins-with, without, without-here, without-else, Lacks, lacks-parted, same-else}
+
+-- lent words, with the chains of these entries in them; the words past them stay
+abbrev pub with_chains_of : Sizes → List Entry → List ℕ → List ℕ
+with_chains_of p es k = chains_of (regions p) p.entries es ++ drop (chains_words p) k
 
 -- ---- the entries
 
@@ -71,35 +74,33 @@ module _ {p : Sizes} {m k : List ℕ} (t : Chainable p m) (whole : ChainsWhole p
   few : length es ≤ N
   few = omega (arith, es-long, t.room)
 
-  pub room : next_at R N ≤ length k
+  pub room : R + N ≤ length k
   room = omega (arith, whole_long t.room whole)
 
   among : Among R es
   among = subst (λ (r : ℕ). Among r es) (sym last) t.among
 
-  words : take (next_at R N) k ≡ chains_of R N es
-  words = subst (λ (r : ℕ). take (next_at r N) k ≡ chains_of r N es) (sym last) whole.words
+  words : take (R + N) k ≡ chains_of R N es
+  words = subst (λ (r : ℕ). take (r + N) k ≡ chains_of r N es) (sym last) whole.words
 
-  start : WordsChained R (next_at R (length es)) f k
+  start : Chained R (R + length es) f k
   start = chains-chained R es N k few room among words
 
-  rest : (j : ℕ) → next_at R (length es) ≤ j → j < next_at R N → get_or k j 0 ≡ 0
+  rest : (j : ℕ) → R + length es ≤ j → j < R + N → get_or k j 0 ≡ 0
   rest = chains-rest R es N k few room among words
 
   -- the chains of other entries
-  finally : (es' : List Entry) {k' : List ℕ} → length es' ≤ N → Among R es' → WordsChained R (next_at R (length es')) (word_region R es') k'
-      → length k' ≡ length k
-      → ((j : ℕ) → next_at R (length es') ≤ j → j < next_at R N → get_or k' j 0 ≡ 0) → ((j : ℕ) → next_at R N ≤ j → get_or k' j 0 ≡ get_or k j 0)
-      → k' ≡ with_chains_of p es' k
+  finally : (es' : List Entry) {k' : List ℕ} → length es' ≤ N → Among R es' → Chained R (R + length es') (word_region R es') k' → length k' ≡ length k
+      → ((j : ℕ) → R + length es' ≤ j → j < R + N → get_or k' j 0 ≡ 0) → ((j : ℕ) → R + N ≤ j → get_or k' j 0 ≡ get_or k j 0) → k' ≡ with_chains_of p es' k
   finally es' {k'} l a c long z h =
-      begins-with (next_at R N) k k' _ long h (chained-chains R es' N k' l (omega (arith, room)) a c z)
-      ∙ ap (λ (r : ℕ). chains_of r N es' ++ drop (next_at r N) k) last
+      begins-with (R + N) k k' _ long h (chained-chains R es' N k' l (omega (arith, room)) a c z)
+      ∙ ap (λ (r : ℕ). chains_of r N es' ++ drop (r + N) k) last
 
   -- what the code needs to know of the words
-  pub words-forward : {q : ℕ} → q ≤ entries_used m → (w : ℕ) → w < next_at R q → 0 < get_or k w 0 → suc w < next_at R (get_or k w 0)
+  pub words-forward : {q : ℕ} → q ≤ entries_used m → (w : ℕ) → w < R + q → 0 < get_or k w 0 → suc w < R + get_or k w 0
   words-forward l w h o = (chained-onward start w (omega (arith, es-long)) o).0
 
-  pub words_small : {x : ℕ} → x ≡ entries_used m → (w : ℕ) → w < next_at R x → get_or k w 0 + 1 < 2 ^ 32
+  pub words_small : {x : ℕ} → x ≡ entries_used m → (w : ℕ) → w < R + x → get_or k w 0 + 1 < 2 ^ 32
   words_small e w h = go (dec_lt 0 (get_or k w 0))
     where
       go : Dec (0 < get_or k w 0) → get_or k w 0 + 1 < 2 ^ 32
@@ -117,31 +118,31 @@ module _ {p : Sizes} {m k : List ℕ} (t : Chainable p m) (whole : ChainsWhole p
     pub region-high : g ≤ R
     region-high = omega (arith, region-is, (among q (omega (arith, es-long))).1)
 
-    was : f (next_at R q) ≡ g
-    was = let v : next_at R q - R ≡ q = omega arith in region-next R es (next_at R q) (omega arith) ∙ ap (nth_region es) v ∙ sym region-is
+    was : f (R + q) ≡ g
+    was = let v : R + q - R ≡ q = omega arith in region-next R es (R + q) (omega arith) ∙ ap (nth_region es) v ∙ sym region-is
 
     -- it is in no chain
     module _ {k₁ : List ℕ} (u : Unlinked R g q k k₁) where
       abbrev f₀ : ℕ → ℕ
-      f₀ = without (next_at R q) f
+      f₀ = without (R + q) f
 
-      off : WordsChained R (next_at R (length es)) f₀ k₁
+      off : Chained R (R + length es) f₀ k₁
       off =
           unlinked-chains start (omega (arith, region-pos)) (omega (arith, es-long)) (omega (arith, room, few))
-          (region-first R es (first_at g) (omega (arith, region-pos, region-high)) ∙ (let v : suc (first_at g) ≡ g = omega (arith, region-pos) in v))
-          (without-else (next_at R q) f) was (without-here (next_at R q) f) u
+          (region-first R es (g - 1) (omega (arith, region-pos, region-high)) ∙ (let v : suc (g - 1) ≡ g = omega (arith, region-pos) in v))
+          (without-else (R + q) f) was (without-here (R + q) f) u
 
-      pub off-forward : (w : ℕ) → w < next_at R q → 0 < get_or k₁ w 0 → suc w < next_at R (get_or k₁ w 0)
+      pub off-forward : (w : ℕ) → w < R + q → 0 < get_or k₁ w 0 → suc w < R + get_or k₁ w 0
       off-forward w h o = (chained-onward off w (omega (arith, es-long)) o).0
 
       -- and goes
-      pub went : {x : ℕ} {k' : List ℕ} → x ≡ entries_used m → Closed R (next_at R (x - 1)) q k₁ k' → k' ≡ with_chains_of p (removed q es) k
+      pub went : {x : ℕ} {k' : List ℕ} → x ≡ entries_used m → Closed R (R + (x - 1)) q k₁ k' → k' ≡ with_chains_of p (removed q es) k
       went {x} {k'} ex c =
           finally es⁻ (omega (arith, shorter, few)) (among-less R q es⁻ es lacks shorter among)
           (closed-chained (omega (arith, es-long, shorter)) closed (lacks-parted R es⁻ es lacks)
-          (subst (λ (n : ℕ). WordsChained R n f₀ k₁) (let v : next_at R (length es) ≡ suc (next_at R (length es⁻)) = omega (arith, shorter) in v) off))
+          (subst (λ (n : ℕ). Chained R n f₀ k₁) (let v : R + length es ≡ suc (R + length es⁻) = omega (arith, shorter) in v) off))
           (closed.long ∙ unlinked-long u)
-          (λ j l h. zero j l h (ℕ_discrete j (next_at R (length es⁻))))
+          (λ j l h. zero j l h (ℕ_discrete j (R + length es⁻)))
           (λ j l. closed.rest j (omega (arith, shorter, few)) ∙ unlinked-else u j (omega (arith, es-long, few)))
         where
           es⁻ : List Entry
@@ -153,10 +154,10 @@ module _ {p : Sizes} {m k : List ℕ} (t : Chainable p m) (whole : ChainsWhole p
           lacks : Lacks q es⁻ es
           lacks = removed-lacks q es (omega (arith, es-long))
 
-          closed : Closed R (next_at R (length es⁻)) q k₁ k'
-          closed = subst (λ (n : ℕ). Closed R (next_at R n) q k₁ k') (let v : x - 1 ≡ length es⁻ = omega (arith, es-long, shorter) in v) c
+          closed : Closed R (R + length es⁻) q k₁ k'
+          closed = subst (λ (n : ℕ). Closed R (R + n) q k₁ k') (let v : x - 1 ≡ length es⁻ = omega (arith, es-long, shorter) in v) c
 
-          zero : (j : ℕ) → next_at R (length es⁻) ≤ j → j < next_at R N → Dec (j ≡ next_at R (length es⁻)) → get_or k' j 0 ≡ 0
+          zero : (j : ℕ) → R + length es⁻ ≤ j → j < R + N → Dec (j ≡ R + length es⁻) → get_or k' j 0 ≡ 0
           zero j l h (yes z) = ap (λ (i : ℕ). get_or k' i 0) z ∙ closed.last
           zero j l h (no z) = closed.rest j (omega arith) ∙ unlinked-else u j (omega (arith, es-long, shorter)) ∙ rest j (omega (arith, shorter)) h
 
@@ -164,16 +165,13 @@ module _ {p : Sizes} {m k : List ℕ} (t : Chainable p m) (whole : ChainsWhole p
       pub changed : {g' : ℕ} {k' : List ℕ} (s : ℕ) → 1 ≤ g' → g' ≤ R → Linked R g' q k₁ k' → k' ≡ with_chains_of p (set es q (entry s g')) k
       changed {g'} {k'} s pos high l =
           finally es' (omega (arith, long', few)) among'
-          (subst (λ (n : ℕ). WordsChained R (next_at R n) (word_region R es') k') (sym long')
+          (subst (λ (n : ℕ). Chained R (R + n) (word_region R es') k') (sym long')
           (linked-chains off (omega arith) (omega (arith, es-long)) (omega (arith, room, few, unlinked-long u))
-          (without-else (next_at R q) f (first_at g') (λ (z : first_at g' ≡ next_at R q). omega arith) ∙ region-first R es (first_at g') (omega arith)
-          ∙ (let v : suc (first_at g') ≡ g' = omega arith in v))
-          (λ j d. same-else R es es' (λ i d. ap region (past es q (entry s g') i unused d)) j d ∙ sym (without-else (next_at R q) f j d))
-          (without-here (next_at R q) f) (let v : next_at R q - R ≡ q = omega arith in
-          region-next R es' (next_at R q) (omega arith) ∙ ap (nth_region es') v ∙ here) l))
+          (without-else (R + q) f (g' - 1) (λ (z : g' - 1 ≡ R + q). omega arith) ∙ region-first R es (g' - 1) (omega arith) ∙ (let v : suc (g' - 1) ≡ g' = omega arith in v))
+          (λ j d. same-else R es es' (λ i d. ap region (past es q (entry s g') i unused d)) j d ∙ sym (without-else (R + q) f j d))
+          (without-here (R + q) f) (let v : R + q - R ≡ q = omega arith in region-next R es' (R + q) (omega arith) ∙ ap (nth_region es') v ∙ here) l))
           (linked_long l ∙ unlinked-long u)
-          (λ j a b. linked-else l j (omega (arith, long', es-long)) ∙ unlinked-else u j (omega (arith, long', es-long))
-          ∙ rest j (omega (arith, long')) b)
+          (λ j a b. linked-else l j (omega (arith, long', es-long)) ∙ unlinked-else u j (omega (arith, long', es-long)) ∙ rest j (omega (arith, long')) b)
           (λ j a. linked-else l j (omega (arith, es-long, few)) ∙ unlinked-else u j (omega (arith, es-long, few)))
         where
           es' : List Entry
@@ -193,8 +191,7 @@ module _ {p : Sizes} {m k : List ℕ} (t : Chainable p m) (whole : ChainsWhole p
               go (no z) = subst (λ (j : ℕ). (1 ≤ j) × (j ≤ R)) (sym (ap region (past es q (entry s g') i unused z))) (among i (omega (arith, long')))
 
   -- a place is made
-  module _ {q x g : ℕ} {k₁ : List ℕ} (ex : x ≡ entries_used m) (low : q ≤ entries_used m) (more : entries_used m < N) (pos : 1 ≤ g) (high : g ≤ R)
-      (o : Opened R (next_at R x) q k k₁) where
+  module _ {q x g : ℕ} {k₁ : List ℕ} (ex : x ≡ entries_used m) (low : q ≤ entries_used m) (more : entries_used m < N) (pos : 1 ≤ g) (high : g ≤ R) (o : Opened R (R + x) q k k₁) where
     module _ (s : ℕ) where
       abbrev es⁺ : List Entry
       es⁺ = inserted q (entry s g) es
@@ -208,10 +205,10 @@ module _ {p : Sizes} {m k : List ℕ} (t : Chainable p m) (whole : ChainsWhole p
       longer : length es⁺ ≡ suc (length es)
       longer = omega (arith, inserted-long unused (entry s g) q es (omega (arith, es-long)))
 
-      opened : Opened R (next_at R (length es)) q k k₁
-      opened = subst (λ (n : ℕ). Opened R (next_at R n) q k k₁) (ex ∙ sym es-long) o
+      opened : Opened R (R + length es) q k k₁
+      opened = subst (λ (n : ℕ). Opened R (R + n) q k k₁) (ex ∙ sym es-long) o
 
-      open-chained : WordsChained R (suc (next_at R (length es))) (without (next_at R q) f⁺) k₁
+      open-chained : Chained R (suc (R + length es)) (without (R + q) f⁺) k₁
       open-chained = opened-chained (omega (arith, es-long)) opened (lacks-parted R es es⁺ lacks⁺) start
 
       new-here : nth_region es⁺ q ≡ g
@@ -221,17 +218,16 @@ module _ {p : Sizes} {m k : List ℕ} (t : Chainable p m) (whole : ChainsWhole p
       came {k'} l =
           finally es⁺ (omega (arith, longer, es-long))
           (among-more R q es es⁺ lacks⁺ longer among (omega (arith, es-long)) (omega (arith, new-here)) (omega (arith, new-here)))
-          (subst (λ (n : ℕ). WordsChained R n f⁺ k') (let v : suc (next_at R (length es)) ≡ next_at R (length es⁺) = omega (arith, longer) in v)
+          (subst (λ (n : ℕ). Chained R n f⁺ k') (let v : suc (R + length es) ≡ R + length es⁺ = omega (arith, longer) in v)
           (linked-chains open-chained (omega arith) (omega (arith, es-long)) (omega (arith, room, es-long, opened.long))
-          (without-else (next_at R q) f⁺ (first_at g) (λ (z : first_at g ≡ next_at R q). omega arith) ∙ region-first R es⁺ (first_at g) (omega arith)
-          ∙ (let v : suc (first_at g) ≡ g = omega arith in v))
-          (λ j d. sym (without-else (next_at R q) f⁺ j d)) (without-here (next_at R q) f⁺)
-          (let v : next_at R q - R ≡ q = omega arith in region-next R es⁺ (next_at R q) (omega arith) ∙ ap (nth_region es⁺) v ∙ new-here) l))
+          (without-else (R + q) f⁺ (g - 1) (λ (z : g - 1 ≡ R + q). omega arith) ∙ region-first R es⁺ (g - 1) (omega arith) ∙ (let v : suc (g - 1) ≡ g = omega arith in v))
+          (λ j d. sym (without-else (R + q) f⁺ j d)) (without-here (R + q) f⁺)
+          (let v : R + q - R ≡ q = omega arith in region-next R es⁺ (R + q) (omega arith) ∙ ap (nth_region es⁺) v ∙ new-here) l))
           (linked_long l ∙ opened.long)
           (λ j a b. linked-else l j (omega (arith, longer, es-long)) ∙ opened.rest j (omega (arith, longer)) ∙ rest j (omega (arith, longer)) b)
           (λ j a. linked-else l j (omega (arith, es-long)) ∙ opened.rest j (omega (arith, es-long)))
 
-    pub open-forward : (w : ℕ) → w < next_at R q → 0 < get_or k₁ w 0 → suc w < next_at R (get_or k₁ w 0)
+    pub open-forward : (w : ℕ) → w < R + q → 0 < get_or k₁ w 0 → suc w < R + get_or k₁ w 0
     open-forward w h b = (chained-onward (open-chained 0) w (omega (arith, es-long)) b).0
 
 -- ---- the table then
@@ -248,11 +244,9 @@ entries-are {N} {es} {m} h =
     long = to-long N m (entries_used m)
 
 module _ (p : Sizes) (m k : List ℕ) (t : Table p.entries m) where
-  becomes : {m' k' : List ℕ} (es' : List Entry) → length es' ≤ p.entries → m' ≡ with_entries p.entries es' m → k' ≡ with_chains_of p es' k
-      → k' ≡ with_chains p m' k
+  becomes : {m' k' : List ℕ} (es' : List Entry) → length es' ≤ p.entries → m' ≡ with_entries p.entries es' m → k' ≡ with_chains_of p es' k → k' ≡ with_chains p m' k
   becomes es' l e h =
-      h ∙ ap (λ (l : List Entry). with_chains_of p l k)
-      (sym (entries-are (subst (HoldsEntries p.entries es') (sym e) (written-becomes p.entries es' m l t.long).holds)))
+      h ∙ ap (λ (l : List Entry). with_chains_of p l k) (sym (entries-are (subst (HoldsEntries p.entries es') (sym e) (written-becomes p.entries es' m l t.long).holds)))
 
   held : length (entries_in p.entries m) ≡ entries_used m
   held = to-long p.entries m (entries_used m)

@@ -4,10 +4,11 @@ ghost use Rattle.rules.specs.Regions.{regions};
 ghost use Rattle.layout.specs.Places.{entries_used, slot_in};
 ghost use Rattle.remember.specs.Table.{entry, entries_in, inserted, removed, Table};
 ghost use Rattle.remember.specs.Remembering.{Remembered};
-ghost use Rattle.chains.specs.Chains.{Chainable, ChainsWhole, with_chains_of, with_chains};
+ghost use Rattle.chains.specs.Chains.{Chainable, ChainsWhole, with_chains};
+ghost use Rattle.linking.specs.EntryChains.{with_chains_of};
 
-use chain_words::joins::{link, unlink};
-use chain_words::moves::{close_place, open_place};
+use crate::joins::{link, unlink};
+use crate::moves::{close_place, open_place};
 use remember::entries::{find_entry, insert_entry, remove_entry};
 use rules::Sizes;
 

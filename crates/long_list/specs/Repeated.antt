@@ -72,8 +72,7 @@ pub data Repeated (block : List ℕ) (number value : ℕ) (l : Slices) (lent : L
   more : {n q k r : ℕ} {l₁ l₂ : Slices} {a₁ a₂ : List ℕ} → Repeated block number value l lent n l₁ a₁ k → Ran l₁ block a₁ q l₂ a₂
       → r ≡ answers_of a₂ number value → Repeated block number value l lent (n + 1) l₂ a₂ (k + r)
 
-pub repeated-to : {block : List ℕ} {number value : ℕ} {l l' : Slices} {lent a : List ℕ} {i j k : ℕ} → Repeated block number value l lent i l' a k
-    → i ≡ j
+pub repeated-to : {block : List ℕ} {number value : ℕ} {l l' : Slices} {lent a : List ℕ} {i j k : ℕ} → Repeated block number value l lent i l' a k → i ≡ j
     → Repeated block number value l lent j l' a k
 repeated-to {block} {number} {value} {l} {l'} {lent} {a} {k = k} r e = subst (λ (n : ℕ). Repeated block number value l lent n l' a k) e r
 

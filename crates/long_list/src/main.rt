@@ -59,9 +59,7 @@ fn run_all(
     value: u32,
 ) -> usize
     requires { length answers.old ≤ 6000 }
-    ensures { Repeated block.now number value
-        (slices cells.old remember.old tables.old chains.old) answers.old 16
-        (slices cells.new remember.new tables.new chains.new) answers.new result }
+    ensures { Repeated block.now number value (slices cells.old remember.old tables.old chains.old) answers.old 16 (slices cells.new remember.new tables.new chains.new) answers.new result }
 {
     let mut n: usize = 0;
     let mut i: usize = 0;
@@ -81,8 +79,7 @@ fn obey(
     chains: &mut [u32],
     code: u32,
 ) -> Answer
-    ensures { Obeyed (slices cells.old remember.old tables.old chains.old) code
-        (slices cells.new remember.new tables.new chains.new) result }
+    ensures { Obeyed (slices cells.old remember.old tables.old chains.old) code (slices cells.new remember.new tables.new chains.new) result }
 {
     let mut answers = [1u32; 2];
     heap::taldreku_run(

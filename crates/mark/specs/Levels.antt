@@ -1,4 +1,4 @@
--- Several drains, outermost level first: each cell of r that a held reference leads to goes to the first level of a holder whose path reaches
+-- Several drains, outermost level first: each cell of r that a held reference leads to goes to the first level of a holder whose chain reaches
 -- it. `calls l` lists the references that holders of level l hold, `gs l` is the region that they call for.
 use Rattle.std.specs.Prelude.{◌≡◌, refl, List, ℕ, ◌+◌, ◌≤◌, ◌<◌}
 use Rattle.std.proofs.Common.{sym, ◌∙◌, subst, arith, one-add}
@@ -9,25 +9,24 @@ use Rattle.layout.specs.Cells.{work_of, field_of, page_of, refs_of, most_fields}
 use Rattle.layout.specs.Marks.{marked}
 use Rattle.layout.specs.Objects.{Begins, begins-page}
 use Rattle.promises.specs.Reading.{ref-begins}
-use Rattle.stack.specs.Marks.{owner, Shaped, shaped-few, Ours, Fresh, ReachedFrom, ReachedFrom.held, ReachedFrom.via, leads-last, Kept, kept_refl}
-use Rattle.stack.specs.Marks.{kept_trans, kept-refs, kept_field, kept-owner, in-use-kept}
-use Rattle.stack.specs.Draining.{Drained}
+use Rattle.mark.specs.Marks.{owner, Shaped, shaped-few, Ours, Fresh, Leads, Leads.held, Leads.via, leads-last, Kept, kept_refl, kept_trans, kept-refs, kept_field, kept-owner, in-use-kept}
+use Rattle.mark.specs.Draining.{Drained}
 
 -- a reference that a holder of level l holds leads to c inside r
-abbrev pub HeldAtLevel : (p : Sizes) (r : ℕ) (W T : List ℕ) (calls : ℕ → List ℕ) (l c : ℕ) → Type 0
-HeldAtLevel p r W T calls l c = ReachedFrom (Ours p r W T) W (calls l) c
+abbrev pub Held : (p : Sizes) (r : ℕ) (W T : List ℕ) (calls : ℕ → List ℕ) (l c : ℕ) → Type 0
+Held p r W T calls l c = Leads (Ours p r W T) W (calls l) c
 
 -- l is the first level of a holder that leads to c, and it is below n
 pub record First (p : Sizes) (r : ℕ) (W T : List ℕ) (calls : ℕ → List ℕ) (n c l : ℕ) : Type 0 where
   pub below : l < n
-  pub reached : HeldAtLevel p r W T calls l c
-  pub none : (j : ℕ) → j < l → HeldAtLevel p r W T calls j c → ⊥
+  pub reached : Held p r W T calls l c
+  pub none : (j : ℕ) → j < l → Held p r W T calls j c → ⊥
 
 -- levels below n are marked
 pub record Levels (p : Sizes) (r n : ℕ) (gs : ℕ → ℕ) (calls : ℕ → List ℕ) (W₀ T₀ W T : List ℕ) : Type 0 where
   pub kept : Kept p W₀ T₀ W T
   pub found : (c : ℕ) → page_of c < p.pages → marked p T c ≡ 1 → (l : ℕ) × First p r W₀ T₀ calls n c l × (work_of W c ≡ gs l)
-  pub lost : (c : ℕ) → page_of c < p.pages → marked p T c ≡ 0 → (work_of W c ≡ work_of W₀ c) × ((l : ℕ) → l < n → HeldAtLevel p r W₀ T₀ calls l c → ⊥)
+  pub lost : (c : ℕ) → page_of c < p.pages → marked p T c ≡ 0 → (work_of W c ≡ work_of W₀ c) × ((l : ℕ) → l < n → Held p r W₀ T₀ calls l c → ⊥)
   pub closed : (b f d : ℕ) → Begins p W₀ T₀ b → marked p T b ≡ 1 → f < refs_of W₀ b → field_of W₀ b f ≡ 1 + d → owner p T₀ d ≡ r → marked p T d ≡ 1
 
 pub levels-start : {p : Sizes} (r : ℕ) (gs : ℕ → ℕ) (calls : ℕ → List ℕ) {W T : List ℕ} → ((c : ℕ) → page_of c < p.pages → marked p T c ≡ 0)
@@ -55,7 +54,7 @@ module _ {p : Sizes} {r n : ℕ} {gs : ℕ → ℕ} {calls : ℕ → List ℕ} {
       let u = in-use-kept L.kept s₀.room c o.0.0 in
       (u, sym (kept-owner L.kept s₀.room c (begins-page _ _ _ _ u)) ∙ o.0.1)
 
-  reach-held : (c : ℕ) → ReachedFrom (Fresh p r W T) W (calls n) c → HeldAtLevel p r W₀ T₀ calls n c
+  reach-held : (c : ℕ) → Leads (Fresh p r W T) W (calls n) c → Held p r W₀ T₀ calls n c
   reach-held c (held i o) = held i (ours-then c o)
   reach-held c (via {b = b} q f lt e o) =
       let few : refs_of W b ≤ most_fields = shaped-few d.marking.started b (leads-last q).0.0 in
@@ -73,7 +72,7 @@ module _ {p : Sizes} {r n : ℕ} {gs : ℕ → ℕ} {calls : ℕ → List ℕ} {
       go (no k) = mono c (L.closed b f c u (sym (d.marking.same-mark b k) ∙ h) lt e own)
 
   -- what this level holds is marked
-  held-marked : (c : ℕ) → HeldAtLevel p r W₀ T₀ calls n c → marked p T' c ≡ 1
+  held-marked : (c : ℕ) → Held p r W₀ T₀ calls n c → marked p T' c ≡ 1
   held-marked c (held i o) = d.all_held c i (kept-owner L.kept s₀.room c (begins-page _ _ _ _ o.0) ∙ o.1)
   held-marked c (via {b = b} q f lt e o) = next-closed b f c (leads-last q).0 (held-marked b q) lt e o.1
 
@@ -86,8 +85,7 @@ module _ {p : Sizes} {r n : ℕ} {gs : ℕ → ℕ} {calls : ℕ → List ℕ} {
         closed = next-closed;
       }
     where
-      found' : (c : ℕ) → page_of c < p.pages → marked p T' c ≡ 1 → Dec (In c d.done)
-          → (l : ℕ) × First p r W₀ T₀ calls (n + 1) c l × (work_of W' c ≡ gs l)
+      found' : (c : ℕ) → page_of c < p.pages → marked p T' c ≡ 1 → Dec (In c d.done) → (l : ℕ) × First p r W₀ T₀ calls (n + 1) c l × (work_of W' c ≡ gs l)
       found' c u h (yes i) =
           let q = d.marking.reached c i in
           (n, record { below = omega arith; reached = reach-held c q; none = (L.lost c u (leads-last q).1).1 }, d.marking.done c i)
@@ -95,13 +93,11 @@ module _ {p : Sizes} {r n : ℕ} {gs : ℕ → ℕ} {calls : ℕ → List ℕ} {
           let q = L.found c u (sym (d.marking.same-mark c k) ∙ h) in
           (q.0, record { below = omega (arith, q.1.below); reached = q.1.reached; none = q.1.none }, d.marking.same-work c k ∙ q.2)
 
-      lost' : (c : ℕ) → page_of c < p.pages → marked p T' c ≡ 0 → Dec (In c d.done)
-          → (work_of W' c ≡ work_of W₀ c) × ((l : ℕ) → l < n + 1 → HeldAtLevel p r W₀ T₀ calls l c → ⊥)
+      lost' : (c : ℕ) → page_of c < p.pages → marked p T' c ≡ 0 → Dec (In c d.done) → (work_of W' c ≡ work_of W₀ c) × ((l : ℕ) → l < n + 1 → Held p r W₀ T₀ calls l c → ⊥)
       lost' c u h (yes i) = absurd (let y : ⊥ = omega (arith, d.marking.on c i) in y)
       lost' c u h (no k) =
           let q = L.lost c u (sym (d.marking.same-mark c k) ∙ h) in
-          (d.marking.same-work c k ∙ q.0, upto n {X = λ l. HeldAtLevel p r W₀ T₀ calls l c → ⊥} q.1 (λ h'. omega (arith, held-marked c h')))
+          (d.marking.same-work c k ∙ q.0, upto n {X = λ l. Held p r W₀ T₀ calls l c → ⊥} q.1 (λ h'. omega (arith, held-marked c h')))
 
-pub levels-at : {p : Sizes} {r n m : ℕ} {gs : ℕ → ℕ} {calls : ℕ → List ℕ} {W₀ T₀ W T : List ℕ} → n ≡ m → Levels p r n gs calls W₀ T₀ W T
-    → Levels p r m gs calls W₀ T₀ W T
+pub levels-at : {p : Sizes} {r n m : ℕ} {gs : ℕ → ℕ} {calls : ℕ → List ℕ} {W₀ T₀ W T : List ℕ} → n ≡ m → Levels p r n gs calls W₀ T₀ W T → Levels p r m gs calls W₀ T₀ W T
 levels-at {p} {r} {gs = gs} {calls} {W₀} {T₀} {W} {T} e L = subst (λ (k : ℕ). Levels p r k gs calls W₀ T₀ W T) e L

@@ -1,34 +1,33 @@
--- Whole words against the rules: paths of slots are the rules' paths, and the holders that marking takes from the words are the rules'
--- holders, each at the level of the region that it calls for. The slots among them are those of the places that the chain of the region leads to.
-use Rattle.std.specs.Prelude.{◌≡◌, Bool, true, false, cond, List, eqb, length}
+-- Whole words against the rules: chains of slots are the rules' chains, and the holders that marking takes from the words are the rules'
+-- holders, each at the level of the region that it calls for.
+use Rattle.std.specs.Prelude.{◌≡◌, Bool, true, false, cond, List, eqb}
 use Rattle.std.proofs.Math.Path.{refl, sym, ap}
 use Rattle.std.proofs.Common.{◌∙◌}
 use Rattle.std.proofs.Math.Logic.{⊎_elim}
-use Prim.Native.Nat.{ℕ, suc, ◌+◌, ◌/◌, ◌≤◌, ◌<◌}
+use Prim.Native.Nat.{ℕ, suc, ◌+◌, ◌/◌, ◌<◌}
 use native.Mathlib.Omega.{arith}
 use Rattle.std.proofs.Math.Numerals.{one-add}
 use Rattle.std.proofs.Math.Decide.{ℕ_discrete}
 use Rattle.std.proofs.Math.ListN.{get_or}
 use borrow.Author.Tests.{eqb-true}
 use Rattle.lists.specs.Listed.{listed}
-use Rattle.lists.specs.Members.{In, in-append, in_left, in_right, get_d-in, get_d-member, in_place, in_bounds}
+use Rattle.lists.specs.Members.{In, in-append, in_left, in_right, get_d-in, in_place, in_bounds}
 use Rattle.rules.specs.declared.Sizes.{Sizes}
-use Rattle.rules.specs.Regions.{regions, region_at, thread_of, level_of, join_by, join}
+use Rattle.rules.specs.Regions.{region_at, thread_of, level_of, join_by, join}
 use Rattle.rules.specs.declared.JoinCase.{JoinCase}
 use Rattle.laws.specs.JoinCases.{OneThread, InCase, control-first, control-second, first-outer, second-outer, two-threads, in-case, join-by}
-use Rattle.laws.specs.RegionLaws.{region-high, region-bounds, region-number, thread-at, level-at, parent-at}
+use Rattle.laws.specs.RegionLaws.{region-high, region-number, thread-at, level-at, parent-at}
 use Rattle.laws.specs.GraphLaws as gl
 use Rattle.laws.specs.GraphLaws.{Refers, Holds, by_slot, by_own, by_other}
-use Rattle.layout.specs.Places.{var_of, slot_in, var_count}
+use Rattle.layout.specs.Places.{var_of, entries_used, slot_in, slot_region_in, var_count}
 use Rattle.layout.specs.Cells.{field_of, page_of, page_at}
 use Rattle.layout.specs.Words.{Words, BeginsIn, owner_in, home_in, depth_in, ref_count, refs_in, vars_in, graph_of}
 use Rattle.promises.specs.Whole.{WholeFor}
 use Rattle.layout.specs.Objects.{begins-page, field-on}
-use Rattle.chains.specs.Chains.{ChainsWhole, chain_places}
-use Rattle.promises.specs.SlotHolders.{place-holds, holds-place}
+use Rattle.promises.specs.EntrySays.{entry_of, entry-says}
 use Rattle.promises.specs.Reading.{used-home, used-alive, alive-used, cell-low, length-refs, get_d-refs, length-vars, get_d-vars, ref-room}
-use Rattle.stack.specs.Marks.{Ours, ReachedFrom, ReachedFrom.held, ReachedFrom.via, leads-last, listed_in, in-listed}
-use Rattle.holders.specs.Holders.{var_calls, var_held, slot_calls, slot_held, place_held, held_refs, Holding, calls-own, calls-other, var-some, slot-some}
+use Rattle.mark.specs.Marks.{Ours, Leads, Leads.held, Leads.via, leads-last, listed_in, in-listed}
+use Rattle.mark.specs.Holders.{var_calls, var_held, slot_calls, slot_held, held_refs, Holding, calls-own, calls-other, var-some, slot-some}
 
 -- ---- numbers that are chosen by tests
 
@@ -56,22 +55,20 @@ module _ (s : Sizes) (w : Words) (k : WholeFor s w) where
   field-refers y f x u l e =
       record { below = cell-low s w k y u; there = used-alive s w k y u; slot = get_d-in (refs_in w y) f x (get_d-refs w y f l ∙ e) }
 
-  -- ---- paths
+  -- ---- chains
 
   module _ (r : ℕ) (pos : 0 < r) where
-    pub path-rules : (S : List ℕ) (c : ℕ) → ReachedFrom (Ours s r w.cells w.tables) w.cells S c
-        → (x : ℕ) × In (1 + x) S × (home_in s w x ≡ r) × gl.Leads (graph_of s w) r x c
-    path-rules S c (held i o) = (c, i, cell-home c r o.0 o.1, gl.itself)
-    path-rules S c (via {b = b} q f lt e o) =
-        let h = path-rules S b q in
+    pub chain-rules : (S : List ℕ) (c : ℕ) → Leads (Ours s r w.cells w.tables) w.cells S c → (x : ℕ) × In (1 + x) S × (home_in s w x ≡ r) × gl.Leads (graph_of s w) r x c
+    chain-rules S c (held i o) = (c, i, cell-home c r o.0 o.1, gl.itself)
+    chain-rules S c (via {b = b} q f lt e o) =
+        let h = chain-rules S b q in
         let u = leads-last q in
         (h.0, h.1, h.2, gl.along h.3 (field-refers b f c u.0 lt (e ∙ one-add c)) (cell-home b r u.0 u.1) (cell-home c r o.0 o.1))
 
-    pub rules-path : (S : List ℕ) (x c : ℕ) → In (1 + x) S → home_in s w x ≡ r → gl.Leads (graph_of s w) r x c
-        → ReachedFrom (Ours s r w.cells w.tables) w.cells S c
-    rules-path S x c i h gl.itself = held i (home-cell x r h pos)
-    rules-path S x c i h (gl.along {y = y} {z = z} q f a b) =
-        let e = refers-field y z f in via (rules-path S x y i h q) e.0 e.1 (e.2 ∙ sym (one-add z)) (home-cell z r b pos)
+    pub rules-chain : (S : List ℕ) (x c : ℕ) → In (1 + x) S → home_in s w x ≡ r → gl.Leads (graph_of s w) r x c → Leads (Ours s r w.cells w.tables) w.cells S c
+    rules-chain S x c i h gl.itself = held i (home-cell x r h pos)
+    rules-chain S x c i h (gl.along {y = y} {z = z} q f a b) =
+        let e = refers-field y z f in via (rules-chain S x y i h q) e.0 e.1 (e.2 ∙ sym (one-add z)) (home-cell z r b pos)
 
   -- ---- the words are such as marking asks for
 
@@ -80,29 +77,19 @@ module _ (s : Sizes) (w : Words) (k : WholeFor s w) where
 
   -- ---- the innermost region of thread t, at its depth suc j
 
-  module _ (K : List ℕ) (chains : ChainsWhole s w.remember K) (t j : ℕ) (th : t < s.threads) (dk : depth_in w t ≡ suc j) where
+  module _ (t j : ℕ) (th : t < s.threads) (dk : depth_in w t ≡ suc j) where
     abbrev r : ℕ
     r = region_at s t (suc j)
-
-    -- the places that its chain leads to: those of the slot holders
-    abbrev ps : List ℕ
-    ps = chain_places s K r
 
     -- its parent
     abbrev outer : ℕ
     outer = region_at s t j
 
     abbrev held_from : ℕ → List ℕ
-    held_from g = held_refs s w.cells w.remember w.tables ps r t outer g
+    held_from g = held_refs s w.cells w.remember w.tables r t outer g
 
     deep : j < s.depth
     deep = omega (arith, k.depths t th)
-
-    low : 2 ≤ r
-    low = omega (arith, region-high s t j)
-
-    high : r ≤ regions s
-    high = (region-bounds s t (suc j) th (omega (arith, deep))).1
 
     -- what is held for g is held by a holder that calls for g
     pub held-holds : (g x : ℕ) → home_in s w x ≡ r → In (1 + x) (held_from g) → Holds s (graph_of s w) r x g
@@ -110,7 +97,7 @@ module _ (s : Sizes) (w : Words) (k : WholeFor s w) where
     held-holds g x h i =
         ⊎_elim variable slot
         (in-append (1 + x) (listed (var_held s w.tables t outer g) (var_count s))
-        (listed (place_held s w.cells w.remember w.tables r g ps) (length ps)) i)
+        (listed (slot_held s w.cells w.remember w.tables r g) (entries_used w.remember)) i)
       where
         variable : In (1 + x) (listed (var_held s w.tables t outer g) (var_count s)) → Holds s (graph_of s w) r x g
         variable m =
@@ -124,19 +111,17 @@ module _ (s : Sizes) (w : Words) (k : WholeFor s w) where
             go i at e (yes d) = by_own i at (d ∙ sym (thread-at s t j deep)) (sym e ∙ sym (calls-own s t outer i d) ∙ sym (parent-at s t j deep))
             go i at e (no d) = by_other i at (λ z. d (z ∙ thread-at s t j deep)) (sym e ∙ sym (calls-other s t outer i d))
 
-        slot : In (1 + x) (listed (place_held s w.cells w.remember w.tables r g ps) (length ps)) → Holds s (graph_of s w) r x g
+        slot : In (1 + x) (listed (slot_held s w.cells w.remember w.tables r g) (entries_used w.remember)) → Holds s (graph_of s w) r x g
         slot m =
-            let q = in-listed (place_held s w.cells w.remember w.tables r g ps) (length ps) (1 + x) m in
-            let b = some-cond (eqb (slot_calls s w.remember w.tables r (get_or ps q.0 0)) g) _ x q.2 in
-            let o = place-holds s w k r low high K chains (get_or ps q.0 0) (get_d-member ps q.0 q.1) in
-            let e : o.holds ≡ x = omega (arith, o.word, b.1) in
-            by_slot o.object
-            (record {
-              below = o.holder.below;
-              there = o.holder.there;
-              slot = get_d-in (refs_in w o.object) o.field x (o.holder.slot ∙ ap suc e);
-            }) o.holder.outside
-            (sym (eqb-true _ _ b.0) ∙ ap (join s r) o.lies)
+            let q = in-listed (slot_held s w.cells w.remember w.tables r g) (entries_used w.remember) (1 + x) m in
+            let a = some-cond (eqb (slot_region_in s.entries w.remember q.0) r) _ x q.2 in
+            let b = some-cond (eqb (slot_calls s w.remember w.tables r q.0) g) _ x a.1 in
+            let o = entry-says k q.0 q.1 in
+            let y = o.object in
+            let f : field_of w.cells y o.field ≡ suc x = ap (λ (z : ℕ). get_or w.cells z 0) (sym o.at) ∙ b.1 ∙ one-add x in
+            let hy = used-home s w y o.used in
+            by_slot y (field-refers y o.field x o.used o.low f) (λ z. o.other (sym o.region ∙ eqb-true _ _ a.0 ∙ sym z ∙ hy))
+            (sym (eqb-true _ _ b.0) ∙ ap (join s r) (ap (owner_in s w) o.page ∙ sym hy))
 
     -- a variable, or a slot outside r, that calls for the region of level l is held there
     var-held : (x l i : ℕ) → get_or (vars_in s w) i 0 ≡ suc x → region_at s t l ≡ var_calls s t outer i → In (1 + x) (held_from (region_at s t l))
@@ -145,31 +130,27 @@ module _ (s : Sizes) (w : Words) (k : WholeFor s w) where
         let b : i < var_count s = omega (arith, in_bounds (vars_in s w) i (λ z. omega arith), length-vars s w k) in
         let g : ℕ = region_at s t l in
         in_left (1 + x) (listed (var_held s w.tables t outer g) (var_count s))
-        (listed (place_held s w.cells w.remember w.tables r g ps) (length ps))
+        (listed (slot_held s w.cells w.remember w.tables r g) (entries_used w.remember))
         (listed_in (var_held s w.tables t outer g) (var_count s) i (1 + x) b
         (sym (var-some s w.tables t outer g i (var_calls s t outer i) (var_of s w.tables i) refl (sym c) refl)
         ∙ sym (get_d-vars s w i b) ∙ at ∙ sym (one-add x)))
 
-    slot-held : (x l y : ℕ) → home_in s w x ≡ r → Refers (graph_of s w) y x → (home_in s w y ≡ r → ⊥) → join s r (home_in s w y) ≡ region_at s t l
-        → In (1 + x) (held_from (region_at s t l))
+    slot-held : (x l y : ℕ) → home_in s w x ≡ r → Refers (graph_of s w) y x → (home_in s w y ≡ r → ⊥) → join s r (home_in s w y) ≡ region_at s t l → In (1 + x) (held_from (region_at s t l))
     unfolding held_refs
     slot-held x l y h f o e =
         let u = alive-used s w y f.there in
         let i = refers-field y x f in
+        let hy = used-home s w y u in
+        let own = (home-cell x r h (omega (arith, region-high s t j))).1 in
+        let n = entry_of k y i.0 x u i.1 i.2 (omega (arith, own, region-high s t j)) (λ z. o (hy ∙ sym z ∙ own)) in
         let b : i.0 < ref_count w y = i.1 in
-        let n = holds-place s w k r low high K chains y i.0 x
-        (record { below = f.below; there = f.there; slot = get_d-refs w y i.0 b ∙ i.2; outside = o; inside = h }) in
-        let v = in_place ps n.0 n.1 in
-        let page : page_at (slot_in w.remember n.0)
-        ≡ page_of y = ap page_at n.2 ∙ field-on s w.cells w.tables y u i.0 (ref-room s w k y i.0 u b) in
+        let page : page_at (slot_in w.remember n.0) ≡ page_of y = ap page_at n.2 ∙ field-on s w.cells w.tables y u i.0 (ref-room s w k y i.0 u b) in
         let g : ℕ = region_at s t l in
-        let call : slot_calls s w.remember w.tables r n.0
-        ≡ g = ap (λ (z : ℕ). join s r (owner_in s w z)) page ∙ ap (join s r) (sym (used-home s w y u)) ∙ e in
+        let call : slot_calls s w.remember w.tables r n.0 ≡ g = ap (λ (z : ℕ). join s r (owner_in s w z)) page ∙ ap (join s r) (sym hy) ∙ e in
         in_right (1 + x) (listed (var_held s w.tables t outer g) (var_count s))
-        (listed (place_held s w.cells w.remember w.tables r g ps) (length ps))
-        (listed_in (place_held s w.cells w.remember w.tables r g ps) (length ps) v.0 (1 + x) v.1
-        (ap (slot_held s w.cells w.remember w.tables r g) v.2 ∙ sym (slot-some s w.cells w.remember w.tables r g n.0 call)
-        ∙ ap (λ (z : ℕ). get_or w.cells z 0) n.2 ∙ i.2 ∙ sym (one-add x)))
+        (listed (slot_held s w.cells w.remember w.tables r g) (entries_used w.remember))
+        (listed_in (slot_held s w.cells w.remember w.tables r g) (entries_used w.remember) n.0 (1 + x) n.1
+        (sym (slot-some s w.cells w.remember w.tables r g n.0 (n.3 ∙ own) call) ∙ ap (λ (z : ℕ). get_or w.cells z 0) n.2 ∙ i.2 ∙ sym (one-add x)))
 
     -- what a slot outside r calls for is the region of a level below
     slot-level : (y : ℕ) → BeginsIn s w y → (home_in s w y ≡ r → ⊥) → (l : ℕ) × (l < suc j) × (join s r (home_in s w y) ≡ region_at s t l)
@@ -186,8 +167,7 @@ module _ (s : Sizes) (w : Words) (k : WholeFor s w) where
             let apart : level_of s q ≡ suc j → ⊥ = λ c. o (used-home s w y u ∙ z ∙ ap (region_at s t) c) in
             (omega (arith, ((k.pages (page_of y) (begins-page _ _ _ _ u)).region h.right).level, ap (depth_in w) e), z)
 
-        go : {c : JoinCase} → InCase s r q c → join s r (home_in s w y) ≡ join_by c r q
-            → (l : ℕ) × (l < suc j) × (join s r (home_in s w y) ≡ region_at s t l)
+        go : {c : JoinCase} → InCase s r q c → join s r (home_in s w y) ≡ join_by c r q → (l : ℕ) × (l < suc j) × (join s r (home_in s w y) ≡ region_at s t l)
         go (control-first a) e = (0, omega arith, e)
         go (control-second a) e = (0, omega arith, e)
         go (first-outer h a) e = absurd (let z : ⊥ = omega (arith, (its-level h).0, level-at s t j deep) in z)
@@ -195,8 +175,7 @@ module _ (s : Sizes) (w : Words) (k : WholeFor s w) where
         go (two-threads a b n) e = (0, omega arith, e)
 
     -- each holder calls for the region of a level below, and is held there
-    pub holds-held : (x q : ℕ) → home_in s w x ≡ r → Holds s (graph_of s w) r x q
-        → (l : ℕ) × (l < suc j) × (q ≡ region_at s t l) × In (1 + x) (held_from (region_at s t l))
+    pub holds-held : (x q : ℕ) → home_in s w x ≡ r → Holds s (graph_of s w) r x q → (l : ℕ) × (l < suc j) × (q ≡ region_at s t l) × In (1 + x) (held_from (region_at s t l))
     unfolding region_at
     holds-held x q h (by_own i at d e) =
         (j, omega arith, e ∙ parent-at s t j deep, var-held x j i at (calls-own s t outer i (d ∙ thread-at s t j deep)))

@@ -1,17 +1,17 @@
-// Marking, outermost level first, so that each object goes to the outermost region called for by a holder whose path reaches it.
+// Marking, outermost level first, so that each object goes to the outermost region called for by a holder whose chain reaches it.
 ghost use Rattle.std.specs.Prelude.{◌≡◌, ℕ, ◌<◌, ◌≤◌};
 ghost use Rattle.lists.specs.Says.{Says};
 ghost use Rattle.rules.specs.Regions.{region_at, regions};
 ghost use Rattle.layout.specs.Cells.{page_of};
 ghost use Rattle.layout.specs.Marks.{marked};
-ghost use Rattle.chains.specs.Chains.{ChainsWhole, chain_places};
-ghost use Rattle.stack.specs.Marks.{Shaped, AnyMarked};
+ghost use Rattle.chains.specs.Chains.{ChainsWhole};
+ghost use Rattle.mark.specs.Marks.{Shaped, AnyMarked};
 ghost use Rattle.mark.specs.Levels.{Levels};
-ghost use Rattle.holders.specs.Holders.{Holding, held_refs};
+ghost use Rattle.mark.specs.Holders.{Holding, held_refs};
 
-use holders::{push_slots, push_variables};
+use crate::drain::drain;
+use crate::holders::{push_slots, push_variables};
 use rules::Sizes;
-use stack::drain::drain;
 
 // For each level of the thread below depth, the control space being level 0: what holders calling for its region hold is pushed, then
 // all that it leads to inside r is marked. Says whether any object is.
@@ -32,9 +32,7 @@ pub fn mark_levels(
     requires by_index { (c : ℕ) → page_of c < p.pages → marked p tables.old c ≡ 0 }
     requires thread_lt_threads { (thread < p.threads) × (depth ≤ p.depth) }
     requires le_r { (1 ≤ r) × (r ≤ regions p) }
-    ensures levels { Levels p r depth (region_at p thread)
-        (λ l. held_refs p cells.old remember.now tables.old (chain_places p chains.now r) r thread outer
-        (region_at p thread l)) cells.old tables.old cells.new tables.new }
+    ensures levels { Levels p r depth (region_at p thread) (λ l. held_refs p cells.old remember.now tables.old r thread outer (region_at p thread l)) cells.old tables.old cells.new tables.new }
     ensures says { Says result (AnyMarked p tables.new) }
 {
     let mut found = false;

@@ -7,7 +7,7 @@ ghost use Rattle.layout.specs.Words.{words};
 ghost use Rattle.chains.specs.Chains.{ChainsWhole};
 ghost use Rattle.promises.specs.Whole.{WholeFor};
 ghost use Rattle.promises.specs.Ends.{part_of};
-ghost use Rattle.stack.specs.Marks.{AnyMarked};
+ghost use Rattle.mark.specs.Marks.{AnyMarked};
 ghost use Rattle.mark.specs.Survivors.{Marked};
 
 use crate::levels::mark_levels;
@@ -27,9 +27,7 @@ pub fn mark_survivors(
     requires whole_for { WholeFor p (words cells.old remember.now tables.old) }
     requires chains_whole { ChainsWhole p remember.now chains.now }
     requires thread_lt_threads { (thread < p.threads) × (level ≡ depth_of tables.old thread) × (1 ≤ level) × (region ≡ region_at p thread level) }
-    ensures marked { Marked p (words cells.old remember.now tables.old)
-        (part_of p (words cells.old remember.now tables.old) region)
-        (words cells.new remember.now tables.new) }
+    ensures marked { Marked p (words cells.old remember.now tables.old) (part_of p (words cells.old remember.now tables.old) region) (words cells.new remember.now tables.new) }
     ensures says { Says result (AnyMarked p tables.new) }
 {
     let outer = layout::regions::region_at(p, thread, level - 1);

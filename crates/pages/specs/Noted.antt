@@ -44,16 +44,12 @@ none-freed-refl p t = record { was = λ page l z. z }
 -- a word before the owners is set
 pub none-freed-before : (p : Sizes) (t : List ℕ) (i x : ℕ) {t' : List ℕ} → i < owners_from p → t' ≡ set t i x → NoneFreed p t t'
 none-freed-before p t i x {t'} l e =
-    none-freed p t t' (λ page m. ap (λ (w : List ℕ). owner_of p w page) e
-    ∙ get_or-set_other t i (owner_at p page) x 0 (λ (z : owner_at p page ≡ i). omega arith))
+    none-freed p t t' (λ page m. ap (λ (w : List ℕ). owner_of p w page) e ∙ get_or-set_other t i (owner_at p page) x 0 (λ (z : owner_at p page ≡ i). omega arith))
 
 -- a cell is taken
 pub took-none-freed : {p : Sizes} {t : List ℕ} {g cell n : ℕ} {t' : List ℕ} → 1 ≤ g → Took p t g cell n t' → NoneFreed p t t'
 took-none-freed {p} {t} {g} {cell} {n} {t'} pos k =
-    record {
-      was = λ page l z. by_cases (ℕ_discrete page (page_of cell)) (λ e. absurd (let y : ⊥ = omega (arith, k.owner, ap (owner_of p t') e) in y))
-          (λ d. sym (page-past k page l d).owner ∙ z);
-    }
+    record { was = λ page l z. by_cases (ℕ_discrete page (page_of cell)) (λ e. absurd (let y : ⊥ = omega (arith, k.owner, ap (owner_of p t') e) in y)) (λ d. sym (page-past k page l d).owner ∙ z) }
 
 -- the note of a region is set
 pub noted-region : {p : Sizes} {t notes : List ℕ} (g page : ℕ) → 1 ≤ g → Noted p t notes → Noted p t (set notes g page)

@@ -69,8 +69,7 @@ none_from p t {n} pos used none x l m e = go (ℕ_discrete x (n - 1))
     go (yes d) = used (subst (λ (y : ℕ). owner_of p t y ≡ 0) d e)
     go (no d) = none x (omega arith) m e
 
-pub free-found : (p : Sizes) (t : List ℕ) {n high : ℕ} → 0 < n → n ≤ high → high ≤ p.pages → owner_of p t (n - 1) ≡ 0 → NoneFrom p t n high
-    → Free p t high (n - 1)
+pub free-found : (p : Sizes) (t : List ℕ) {n high : ℕ} → 0 < n → n ≤ high → high ≤ p.pages → owner_of p t (n - 1) ≡ 0 → NoneFrom p t n high → Free p t high (n - 1)
 free-found p t {n} {high} pos l h e none = record { some = λ x m d. (go x m d (dec_lt x n), omega arith); free = λ k. e; within = omega arith }
   where
     go : (x : ℕ) → x < high → owner_of p t x ≡ 0 → Dec (x < n) → x ≤ n - 1
@@ -89,8 +88,7 @@ free_all {p} {t} {n} {page} none h = record { some = λ x l e. go x l e (dec_lt 
     go x l e (yes m) = h.some x m e
     go x l e (no m) = absurd (none x (omega arith) l e)
 
-pub fresh-filled : (p : Sizes) (t : List ℕ) (g : ℕ) {page : ℕ} → Filled p t g → fills_pages (count_of p t g) ≡ true → Free p t p.pages page
-    → Found p t g page
+pub fresh-filled : (p : Sizes) (t : List ℕ) (g : ℕ) {page : ℕ} → Filled p t g → fills_pages (count_of p t g) ≡ true → Free p t p.pages page → Found p t g page
 fresh-filled p t g none full h =
     inr (record {
       none = λ x l e. go x l e (dec_lt (used_of p t x) page_cells);

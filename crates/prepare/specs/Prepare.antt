@@ -14,8 +14,7 @@ use Rattle.promises.specs.Promises.{LongEnough, PrepareAsked, out_of_range, shor
 
 -- a list of n words that begins with h and is zero up to n, and then as l
 pub headed : (h : List ℕ) (n : ℕ) (l k : List ℕ) → length h ≤ n → n ≤ length l → length k ≡ length l
-    → ((i : ℕ) → i < length h → get_or k i 0 ≡ get_or h i 0) → ((i : ℕ) → length h ≤ i → i < n → get_or k i 0 ≡ 0)
-    → ((i : ℕ) → n ≤ i → get_or k i 0 ≡ get_or l i 0)
+    → ((i : ℕ) → i < length h → get_or k i 0 ≡ get_or h i 0) → ((i : ℕ) → length h ≤ i → i < n → get_or k i 0 ≡ 0) → ((i : ℕ) → n ≤ i → get_or k i 0 ≡ get_or l i 0)
     → k ≡ h ++ (replicate (n - length h) 0 ++ drop n l)
 headed h n l k a b e first zeros rest = ext_get_or 0 k _ long (λ i m. go i (dec_lt i (length h)) (dec_lt i n))
   where
@@ -41,8 +40,7 @@ headed h n l k a b e first zeros rest = ext_get_or 0 k _ long (λ i m. go i (dec
         let v : n + (i - n) ≡ i = omega arith in
         rest i (omega arith)
         ∙ sym (ap (λ (m : ℕ). get_or (h ++ (Z ++ drop n l)) m 0) j ∙ get_or-append-add h (Z ++ drop n l) (i - length h) 0
-        ∙ ap (λ (m : ℕ). get_or (Z ++ drop n l) m 0) u ∙ get_or-append-add Z (drop n l) (i - n) 0 ∙ get_or-drop n l (i - n) 0
-        ∙ ap (λ (m : ℕ). get_or l m 0) v)
+        ∙ ap (λ (m : ℕ). get_or (Z ++ drop n l) m 0) u ∙ get_or-append-add Z (drop n l) (i - n) 0 ∙ get_or-drop n l (i - n) 0 ∙ ap (λ (m : ℕ). get_or l m 0) v)
 
 abbrev pub sizes : ℕ → ℕ → ℕ → ℕ → ℕ → Sizes
 sizes threads variables depth pages entries = record { threads = threads; variables = variables; depth = depth; pages = pages; entries = entries }
@@ -146,10 +144,8 @@ pub asked-five : {s : Sizes} {l : Slices} {q : ℕ} → PrepareAsked s l q → q
 asked-five {s} a z = omega (arith, five-words s, (asked-range a z).1.tables)
 
 pub prepared-done : {s s' : Sizes} {c m t k c₁ t₁ t₂ m₁ m₂ k₁ : List ℕ} {q n x y z : ℕ} → s ≡ s' → PrepareAsked s (slices c m t k) q → q ≡ 0
-    → Cleared 0 n c c₁ → n ≡ cells_words s → Cleared 0 x t t₁ → x ≡ tables_words s
-    → t₂ ≡ with_sizes t₁ s'.threads s'.variables s'.depth s'.pages s'.entries
-    → Cleared 0 y m m₁ → y ≡ remember_words s → m₂ ≡ set m₁ 0 s'.entries → Cleared 0 z k k₁ → z ≡ chains_words s
-    → Prepared s' (slices c m t k) 0 (slices c₁ m₂ t₂ k₁)
+    → Cleared 0 n c c₁ → n ≡ cells_words s → Cleared 0 x t t₁ → x ≡ tables_words s → t₂ ≡ with_sizes t₁ s'.threads s'.variables s'.depth s'.pages s'.entries
+    → Cleared 0 y m m₁ → y ≡ remember_words s → m₂ ≡ set m₁ 0 s'.entries → Cleared 0 z k k₁ → z ≡ chains_words s → Prepared s' (slices c m t k) 0 (slices c₁ m₂ t₂ k₁)
 prepared-done {s} {s'} {c} {m} {t} {k} {c₁} {t₁} {t₂} {m₁} {m₂} {k₁} e a z cc g ct u ft cm v fm ck d =
     let ar = asked-range a z in
     let long : LongEnough s' (slices c m t k) = subst (λ (s : Sizes). LongEnough s (slices c m t k)) e ar.1 in

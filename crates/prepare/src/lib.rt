@@ -8,8 +8,7 @@ use rules::Sizes;
 
 // Questions 1 and 2, of slices of these lengths: the number of the one that says no, 0 if none does.
 fn ask(s: Sizes, cells: usize, remember: usize, tables: usize, chains: usize) -> u32
-    ensures { (c m t k : List ℕ) → length c ≡ cells → length m ≡ remember → length t ≡ tables → length k ≡ chains
-        → PrepareAsked s (slices c m t k) result }
+    ensures { (c m t k : List ℕ) → length c ≡ cells → length m ≡ remember → length t ≡ tables → length k ≡ chains → PrepareAsked s (slices c m t k) result }
 {
     if !layout::in_range(s) {
         return 1;
@@ -43,9 +42,7 @@ pub extern "C" fn taldreku_prepare(
     tables: &mut [u32],
     chains: &mut [u32],
 ) -> u32
-    ensures { Prepared (sizes threads variables depth pages entries)
-        (slices cells.old remember.old tables.old chains.old) result
-        (slices cells.new remember.new tables.new chains.new) }
+    ensures { Prepared (sizes threads variables depth pages entries) (slices cells.old remember.old tables.old chains.old) result (slices cells.new remember.new tables.new chains.new) }
 {
     let s = Sizes {
         threads: layout::wide(threads),

@@ -3,11 +3,11 @@ use Rattle.std.specs.Prelude.{ℕ, Bool, true, false, cond, ◌≡◌}
 use mathlib.Core.List.{List, [], ◌∷◌, ◌++◌, append_assoc, flatten}
 use Rattle.std.proofs.Math.Path.{refl, sym, ap}
 use Rattle.std.proofs.Common.{ap₂, ◌∙◌}
-use Rattle.reading.specs.declared.Line.{Line}
-use Rattle.reading.specs.declared.Reader.{Reader}
-use Rattle.reading.specs.declared.Last.TheVariants.{Nothing, Unended}
-use Rattle.reading.specs.Reading.{started, end_of, step_of, fresh, last_of}
-use Rattle.reading.specs.TextLaws.{lastly, found, left, piecewise, reads-pieces}
+use Rattle.script.specs.declared.Line.{Line}
+use Rattle.script.specs.declared.Reader.{Reader}
+use Rattle.script.specs.declared.Last.TheVariants.{Nothing, Unended}
+use Rattle.script.specs.Reading.{started, end_of, step_of, fresh, last_of}
+use Rattle.script.specs.TextLaws.{lastly, found, left, piecewise, reads-pieces}
 use Rattle.printed.specs.Printed.{Session, opening, takes, prints, takes_all, prints_all, ends_with, printed, stopped}
 
 -- ---- some lines, and then others
@@ -22,8 +22,7 @@ module _ (ks : List Line) where
   unfolding takes_all prints_all
   prints-append [] x = refl
   prints-append (l ∷ ls) x =
-      ap (λ (t : List ℕ). prints x l ++ t) (prints-append ls (takes x l))
-      ∙ sym (append_assoc (prints x l) (prints_all (takes x l) ls) (prints_all (takes_all (takes x l) ls) ks))
+      ap (λ (t : List ℕ). prints x l ++ t) (prints-append ls (takes x l)) ∙ sym (append_assoc (prints x l) (prints_all (takes x l) ls) (prints_all (takes_all (takes x l) ls) ks))
 
 -- a session that is stopped stays so
 pub stopped-takes : (ls : List Line) → takes_all stopped ls ≡ stopped
@@ -84,8 +83,7 @@ close-whole : (m : Machine) → close_prints m ≡ whole m.session (lastly (last
 unfolding close_prints feed_prints feed last_of found left step_of
 close-whole m = go (fresh m.reader)
   where
-    go : (t : Bool) → (prints_all m.session (found m.reader (cond t [] (10 ∷ [])))
-        ++ ends_with (takes_all m.session (found m.reader (cond t [] (10 ∷ [])))))
+    go : (t : Bool) → (prints_all m.session (found m.reader (cond t [] (10 ∷ []))) ++ ends_with (takes_all m.session (found m.reader (cond t [] (10 ∷ [])))))
         ≡ whole m.session (lastly (cond t Nothing (Unended (end_of m.reader))))
     go true = refl
     go false = refl

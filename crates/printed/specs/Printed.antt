@@ -5,12 +5,12 @@ use Rattle.rules.specs.declared.Command.{Command}
 use Rattle.rules.specs.declared.Answer.{Answer}
 use Rattle.rules.specs.Graph.{crossing, free_pages}
 use Rattle.rules.specs.Rules.{Regioned, graph, unused, step}
-use Rattle.figures.specs.declared.Row.{Row}
-use Rattle.figures.specs.Rows.{rows, total_of}
-use Rattle.reading.specs.declared.Line.{Line}
-use Rattle.reading.specs.declared.Line.TheVariants.{Numbers, Malformed}
-use Rattle.reading.specs.Text.{text_says}
-use Rattle.writing.specs.Writing.{row, sizes_line, line_line}
+use Rattle.report.specs.declared.Row.{Row}
+use Rattle.report.specs.Report.{rows, total_of}
+use Rattle.script.specs.declared.Line.{Line}
+use Rattle.script.specs.declared.Line.TheVariants.{Numbers, Malformed}
+use Rattle.script.specs.Text.{text_says}
+use Rattle.script.specs.Writing.{row, sizes_line, line_line}
 
 -- ---- what a line asks for
 

@@ -65,8 +65,7 @@ module _ (s : Sizes) (w : Words) (k : WholeFor s w) where
       record {
         below = λ x a. subst (λ (n : ℕ). x < n) (sym (length-listed (object_in w) (cell_count s))) ((words-closed s w k).below x (there x a));
         vars = λ i x e. back x ((words-closed s w k).vars i x e);
-        refs = λ x y a i. back y
-            ((words-closed s w k).refs x y (there x a) (subst (λ (o : Object). In (suc y) o.refs) (object-at x (there x a)) i));
+        refs = λ x y a i. back y ((words-closed s w k).refs x y (there x a) (subst (λ (o : Object). In (suc y) o.refs) (object-at x (there x a)) i));
       }
 
   pub heap-stands : StandsFor s w (heap_of s w) (λ x. x)
@@ -74,11 +73,7 @@ module _ (s : Sizes) (w : Words) (k : WholeFor s w) where
   heap-stands =
       record {
         whole = k;
-        sound = record {
-          aligned = length-listed (home_in s w) (cell_count s) ∙ sym (length-listed (object_in w) (cell_count s));
-          celled = length-listed (λ c. c) (cell_count s) ∙ sym (length-listed (home_in s w) (cell_count s));
-          closed = heap-closed;
-        };
+        sound = record { aligned = length-listed (home_in s w) (cell_count s) ∙ sym (length-listed (object_in w) (cell_count s)); celled = length-listed (λ c. c) (cell_count s) ∙ sym (length-listed (home_in s w) (cell_count s)); closed = heap-closed };
         depths = refl;
         partners = record {
           home = λ x a. sym (home-at x);

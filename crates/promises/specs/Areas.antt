@@ -8,8 +8,7 @@ use Rattle.lists.specs.Says.{true-not-false}
 use Rattle.lists.specs.Stores.{past, drop-same}
 use Rattle.rules.specs.declared.Sizes.{Sizes}
 use Rattle.rules.specs.Regions.{regions}
-use Rattle.layout.specs.Places.{var_count, cells_words, remember_words, tables_words, depth_at, var_at, var_of, owners_from, owner_at, used_from, used_at}
-use Rattle.layout.specs.Places.{marks_from, mark_at, mark_of, counts_from, count_at, count_of, made_at, freed_at, count_room}
+use Rattle.layout.specs.Places.{var_count, cells_words, remember_words, tables_words, depth_at, var_at, var_of, owners_from, owner_at, used_from, used_at, marks_from, mark_at, mark_of, counts_from, count_at, count_of, made_at, freed_at, count_room}
 use Rattle.layout.specs.Cells.{work_of, field_of, room_for}
 use Rattle.layout.specs.Objects.{NotInUse, unused-same}
 use Rattle.layout.specs.Words.{Words, BeginsIn, sizes_in, depth_in, owner_in, used_in, made_in, freed_in, head_in}
@@ -20,8 +19,7 @@ use Rattle.promises.specs.Slots.{begins-kept}
 
 -- the words of the tables, of the objects, of the cells not in use and of the remember table
 pub data Area : Type 0 where
-  size_words depth_words variable_words owner_words used_words mark_words count_words made_words freed_words head_words work_words field_words unused_words
-      entry_words : Area
+  size_words depth_words variable_words owner_words used_words mark_words count_words made_words freed_words head_words work_words field_words unused_words entry_words : Area
 
 -- those of the tables are numbered by their arrays
 abbrev number : Area → ℕ
@@ -84,25 +82,17 @@ pub among-both : (a : Area) (cs ds : List Area) → among a (cs ++ ds) ≡ false
 among-both a [] ds e = (refl, e)
 among-both a (c ∷ cs) ds e = go (eqb (number a) (number c)) (among-both a cs ds) e
   where
-    go : (b : Bool) → (among a (cs ++ ds) ≡ false → (among a cs ≡ false) × (among a ds ≡ false)) → cond b true (among a (cs ++ ds)) ≡ false
-        → (cond b true (among a cs) ≡ false) × (among a ds ≡ false)
+    go : (b : Bool) → (among a (cs ++ ds) ≡ false → (among a cs ≡ false) × (among a ds ≡ false)) → cond b true (among a (cs ++ ds)) ≡ false → (cond b true (among a cs) ≡ false) × (among a ds ≡ false)
     go true rest e = absurd (true-not-false (sym e))
     go false rest e = rest e
 
 -- where the first keeps the objects
-pub only-trans : {cs ds : List Area} {s : Sizes} {u v w : Words} → Only cs s u v → Only ds s v w → among used_words cs ≡ false
-    → among head_words cs ≡ false → Only (cs ++ ds) s u w
+pub only-trans : {cs ds : List Area} {s : Sizes} {u v w : Words} → Only cs s u v → Only ds s v w → among used_words cs ≡ false → among head_words cs ≡ false → Only (cs ++ ds) s u w
 only-trans {cs} {ds} {s} {u} {v} {w} x y used head =
-    record {
-      same = λ a n. let m = among-both a cs ds n in both a (x.same a m.0) (y.same a m.1);
-      beyond = beyond-both x.beyond y.beyond;
-    }
+    record { same = λ a n. let m = among-both a cs ds n in both a (x.same a m.0) (y.same a m.1); beyond = beyond-both x.beyond y.beyond }
   where
     stay : (k : ℕ) → BeginsIn s u k → BeginsIn s v k × (head_in v k ≡ head_in u k)
-    stay k b = (
-      begins-kept s u.cells u.tables v.cells v.tables (x.same used_words used) (x.same head_words head) k b,
-      x.same head_words head k b,
-    )
+    stay k b = (begins-kept s u.cells u.tables v.cells v.tables (x.same used_words used) (x.same head_words head) k b, x.same head_words head k b)
 
     both : (a : Area) → Same a s u v → Same a s v w → Same a s u w
     both size_words f g = (g.0 ∙ f.0, g.1 ∙ f.1)
@@ -133,8 +123,7 @@ abbrev pub Within : Area → Sizes → ℕ → Type 0
 Within a s j = (start_of s (number a) ≤ j) × (j < start_of s (number a + 1))
 
 -- the arrays begin where layout has them
-pub starts : (s : Sizes) → (start_of s 3 ≡ owners_from s) × (start_of s 4 ≡ used_from s) × (start_of s 5 ≡ marks_from s) × (start_of s 6 ≡ counts_from s)
-    × (start_of s 7 ≡ made_at s) × (start_of s 9 ≡ tables_words s)
+pub starts : (s : Sizes) → (start_of s 3 ≡ owners_from s) × (start_of s 4 ≡ used_from s) × (start_of s 5 ≡ marks_from s) × (start_of s 6 ≡ counts_from s) × (start_of s 7 ≡ made_at s) × (start_of s 9 ≡ tables_words s)
 unfolding counts_from marks_from used_from owners_from
 starts s = omega (arith, count_room s)
 
@@ -144,35 +133,23 @@ mark-in s q l = omega (arith, starts s)
 -- THE ARRAYS STAND APART
 pub arrays-apart : (s : Sizes) (a b : Area) (i j : ℕ) → among a (b ∷ []) ≡ false → Within a s i → Within b s j → i ≡ j → ⊥
 arrays-apart s a b i j n x y e =
-    by_cases (dec_lt (number a) (number b)) (λ l.
-    omega (arith, x.1, y.0, sum_mono (λ k. get_or (arrays s) k 0) (number a + 1) (number b) (omega arith)))
-    (λ l. by_cases (dec_lt (number b) (number a)) (λ m.
-    omega (arith, y.1, x.0, sum_mono (λ k. get_or (arrays s) k 0) (number b + 1) (number a) (omega arith)))
+    by_cases (dec_lt (number a) (number b)) (λ l. omega (arith, x.1, y.0, sum_mono (λ k. get_or (arrays s) k 0) (number a + 1) (number b) (omega arith)))
+    (λ l. by_cases (dec_lt (number b) (number a)) (λ m. omega (arith, y.1, x.0, sum_mono (λ k. get_or (arrays s) k 0) (number b + 1) (number a) (omega arith)))
     (λ m. true-not-false (sym n ∙ ap (λ (t : Bool). cond t true false) (eq-eqb (number a) (number b) (omega arith)))))
 
 -- ---- words that are the same but for some areas: the tables position by position, the rest area by area
 
 module _ (s : Sizes) (w w' : Words) (cs : List Area) (beyond : SameBeyond s w w')
     (kept : (a : Area) → among a cs ≡ false → (j : ℕ) → Within a s j → get_or w'.tables j 0 ≡ get_or w.tables j 0) where
-  areas-only : get_or w'.remember 0 0 ≡ get_or w.remember 0 0 → (among head_words cs ≡ false → Same head_words s w w')
-      → (among work_words cs ≡ false → Same work_words s w w')
-      → (among field_words cs ≡ false → Same field_words s w w') → (among unused_words cs ≡ false → Same unused_words s w w')
-      → (among entry_words cs ≡ false → Same entry_words s w w')
+  areas-only : get_or w'.remember 0 0 ≡ get_or w.remember 0 0 → (among head_words cs ≡ false → Same head_words s w w') → (among work_words cs ≡ false → Same work_words s w w')
+      → (among field_words cs ≡ false → Same field_words s w w') → (among unused_words cs ≡ false → Same unused_words s w w') → (among entry_words cs ≡ false → Same entry_words s w w')
       → Only cs s w w'
   areas-only size h o f u m = record { same = same; beyond = beyond }
     where
       same : (a : Area) → among a cs ≡ false → Same a s w w'
       same size_words n =
-          let e : (j : ℕ) → j < 5 → get_or w'.tables j 0 ≡ get_or w.tables j 0 = λ j l. kept size_words n j (omega arith) in (
-            λ i. record {
-              threads = e 0 (omega arith) i;
-              variables = e 1 (omega arith) i;
-              depth = e 2 (omega arith) i;
-              pages = e 3 (omega arith) i;
-              entries = e 4 (omega arith) i;
-            },
-            size,
-          )
+          let e : (j : ℕ) → j < 5 → get_or w'.tables j 0 ≡ get_or w.tables j 0 = λ j l. kept size_words n j (omega arith) in
+          (λ i. record { threads = e 0 (omega arith) i; variables = e 1 (omega arith) i; depth = e 2 (omega arith) i; pages = e 3 (omega arith) i; entries = e 4 (omega arith) i }, size)
       same depth_words n = λ t l. kept depth_words n (depth_at t) (omega arith)
       same variable_words n = λ i l. kept variable_words n (var_at s i) (omega (arith, starts s))
       same owner_words n = λ q l. kept owner_words n (owner_at s q) (omega (arith, starts s))
@@ -192,38 +169,25 @@ pub tables-only : (s : Sizes) (w : Words) (t' : List ℕ) (cs : List Area) → l
     → ((a : Area) → among a cs ≡ false → (j : ℕ) → Within a s j → get_or t' j 0 ≡ get_or w.tables j 0)
     → ((j : ℕ) → tables_words s ≤ j → get_or t' j 0 ≡ get_or w.tables j 0) → Only cs s w (with_tables w t')
 tables-only s w t' cs long kept rest =
-    areas-only s w (with_tables w t') cs (record {
-      cells = from-refl _ _;
-      remember = from-refl _ _;
-      tables = record { long = long; rest = drop-same (tables_words s) w.tables t' long rest };
-    }) kept
+    areas-only s w (with_tables w t') cs (record { cells = from-refl _ _; remember = from-refl _ _; tables = record { long = long; rest = drop-same (tables_words s) w.tables t' long rest } }) kept
     refl (λ n k u. refl) (λ n k u. refl) (λ n k u f l. refl) (λ n q u. refl) (λ n. refl)
 
 -- a word of the tables is stored: a depth, a variable, a mark, a counter
-pub store-only : (s : Sizes) (w : Words) (b : Area) (at v : ℕ) → Within b s at → at < tables_words s
-    → Only (b ∷ []) s w (with_tables w (set w.tables at v))
+pub store-only : (s : Sizes) (w : Words) (b : Area) (at v : ℕ) → Within b s at → at < tables_words s → Only (b ∷ []) s w (with_tables w (set w.tables at v))
 store-only s w b at v i l =
     tables-only s w (set w.tables at v) (b ∷ []) (length-set w.tables at v)
     (λ a n j x. past w.tables at v j 0 (arrays-apart s a b j at n x i)) (λ j m. past w.tables at v j 0 (λ (e : j ≡ at). omega arith))
 
 -- other cells
-pub cells-only : (s : Sizes) (w : Words) (c' : List ℕ) (cs : List Area) → (among head_words cs ≡ false → Same head_words s w (with_cells w c'))
-    → (among work_words cs ≡ false → Same work_words s w (with_cells w c'))
-    → (among field_words cs ≡ false → Same field_words s w (with_cells w c')) → (among unused_words cs ≡ false → Same unused_words s w (with_cells w c'))
-    → SameFrom (cells_words s) w.cells c'
+pub cells-only : (s : Sizes) (w : Words) (c' : List ℕ) (cs : List Area) → (among head_words cs ≡ false → Same head_words s w (with_cells w c')) → (among work_words cs ≡ false → Same work_words s w (with_cells w c'))
+    → (among field_words cs ≡ false → Same field_words s w (with_cells w c')) → (among unused_words cs ≡ false → Same unused_words s w (with_cells w c')) → SameFrom (cells_words s) w.cells c'
     → Only cs s w (with_cells w c')
 cells-only s w c' cs h o f u b =
-    areas-only s w (with_cells w c') cs (record { cells = b; remember = from-refl _ _; tables = from-refl _ _ }) (λ a n j x. refl) refl h o f u
-    (λ n. refl)
+    areas-only s w (with_cells w c') cs (record { cells = b; remember = from-refl _ _; tables = from-refl _ _ }) (λ a n j x. refl) refl h o f u (λ n. refl)
 
 -- another remember table, of as many entries
-pub entries-only : (s : Sizes) (w : Words) (m' : List ℕ) → Edited s.entries w.remember m'
-    → Only (entry_words ∷ []) s w (record { cells = w.cells; remember = m'; tables = w.tables })
+pub entries-only : (s : Sizes) (w : Words) (m' : List ℕ) → Edited s.entries w.remember m' → Only (entry_words ∷ []) s w (record { cells = w.cells; remember = m'; tables = w.tables })
 entries-only s w m' e =
     areas-only s w (record { cells = w.cells; remember = m'; tables = w.tables }) (entry_words ∷ [])
-    (record {
-      cells = from-refl _ _;
-      remember = record { long = e.long; rest = drop-same (remember_words s) w.remember m' e.long e.spare };
-      tables = from-refl _ _;
-    }) (λ a n j x. refl)
+    (record { cells = from-refl _ _; remember = record { long = e.long; rest = drop-same (remember_words s) w.remember m' e.long e.spare }; tables = from-refl _ _ }) (λ a n j x. refl)
     e.size (λ n k u. refl) (λ n k u. refl) (λ n k u f l. refl) (λ n q u. refl) (λ n. absurd (true-not-false (sym n)))

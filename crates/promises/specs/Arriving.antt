@@ -47,8 +47,7 @@ abbrev pub more_below : Sizes → List ℕ → (ℕ → ℕ) → (ℕ → ℕ) �
 more_below p T come gs n = sum (λ l. region_more p T come (gs l)) n
 
 -- objects and n are what the code has
-pub more-is : (p : Sizes) (T : List ℕ) (come : ℕ → ℕ) (g objects n : ℕ) → objects ≡ count_of p T g → n ≡ come g
-    → more_pages objects n ≡ region_more p T come g
+pub more-is : (p : Sizes) (T : List ℕ) (come : ℕ → ℕ) (g objects n : ℕ) → objects ≡ count_of p T g → n ≡ come g → more_pages objects n ≡ region_more p T come g
 unfolding region_more
 more-is p T come g objects n e f = ap₂ (λ (a b : ℕ). more_pages a b) e f
 

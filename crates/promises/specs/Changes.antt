@@ -15,30 +15,15 @@ with_cells w c = record { cells = c; remember = w.remember; tables = w.tables }
 
 -- variable i, counted through all threads, becomes u
 abbrev pub with_variable : Regioned → ℕ → ℕ → Regioned
-with_variable h i u = record {
-  heap = record { depths = h.heap.depths; vars = set h.heap.vars i u; objects = h.heap.objects };
-  homes = h.homes;
-  counters = h.counters;
-  occupancy = h.occupancy;
-}
+with_variable h i u = record { heap = record { depths = h.heap.depths; vars = set h.heap.vars i u; objects = h.heap.objects }; homes = h.homes; counters = h.counters; occupancy = h.occupancy }
 
 -- thread t gets depth d
 abbrev pub with_depth : Regioned → ℕ → ℕ → Regioned
-with_depth h t d = record {
-  heap = record { depths = set h.heap.depths t d; vars = h.heap.vars; objects = h.heap.objects };
-  homes = h.homes;
-  counters = h.counters;
-  occupancy = h.occupancy;
-}
+with_depth h t d = record { heap = record { depths = set h.heap.depths t d; vars = h.heap.vars; objects = h.heap.objects }; homes = h.homes; counters = h.counters; occupancy = h.occupancy }
 
 -- object x becomes o
 abbrev pub with_object : Regioned → ℕ → Object → Regioned
-with_object h x o = record {
-  heap = record { depths = h.heap.depths; vars = h.heap.vars; objects = set h.heap.objects x o };
-  homes = h.homes;
-  counters = h.counters;
-  occupancy = h.occupancy;
-}
+with_object h x o = record { heap = record { depths = h.heap.depths; vars = h.heap.vars; objects = set h.heap.objects x o }; homes = h.homes; counters = h.counters; occupancy = h.occupancy }
 
 -- object o with field f of a kind changed to u
 abbrev pub with_field : Kind → Object → ℕ → ℕ → Object
@@ -47,12 +32,7 @@ with_field Number o f u = record { refs = o.refs; nums = set o.nums f u }
 
 -- object o is appended, in region g
 abbrev pub with_new : Regioned → Object → ℕ → Regioned
-with_new h o g = record {
-  heap = record { depths = h.heap.depths; vars = h.heap.vars; objects = h.heap.objects ++ o ∷ [] };
-  homes = h.homes ++ g ∷ [];
-  counters = one_made h.counters;
-  occupancy = taken_by h.occupancy g;
-}
+with_new h o g = record { heap = record { depths = h.heap.depths; vars = h.heap.vars; objects = h.heap.objects ++ o ∷ [] }; homes = h.homes ++ g ∷ []; counters = one_made h.counters; occupancy = taken_by h.occupancy g }
 
 -- ---- references, renamed
 

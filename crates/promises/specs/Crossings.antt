@@ -33,8 +33,7 @@ sum_head f (suc n) = omega (arith, sum_head f n)
 cross-in-sum : (g : Graph) (x : ℕ) (vs : List ℕ) → cross_in g x vs ≡ sum (λ i. cross_ref g x (get_or vs i 0)) (length vs)
 unfolding cross_in tally rule_slots
 cross-in-sum g x [] = refl
-cross-in-sum g x (v ∷ vs) = cross-cons g x v vs ∙ ap (λ (n : ℕ). cross_ref g x v + n) (cross-in-sum g x vs)
-    ∙ sym (sum_head (λ i. cross_ref g x (get_or (v ∷ vs) i 0)) (length vs))
+cross-in-sum g x (v ∷ vs) = cross-cons g x v vs ∙ ap (λ (n : ℕ). cross_ref g x v + n) (cross-in-sum g x vs) ∙ sym (sum_head (λ i. cross_ref g x (get_or (v ∷ vs) i 0)) (length vs))
 
 -- what is gone has none
 pub gone-cross : (g : Graph) (c : ℕ) → g.home c ≡ 0 → cross_at g c ≡ 0
@@ -47,8 +46,7 @@ module _ (s : Sizes) (w : Words) (k : WholeFor s w) (g : Graph) (refs : (c : ℕ
   unfolding cross_at
   alive-cross c u a =
       ap (λ (b : Bool). cond b 0 (cross_in g c (g.refs c))) (ne_eqb (g.home c) 0 a) ∙ ap (cross_in g c) (refs c) ∙ cross-in-sum g c (refs_in w c)
-      ∙ ap (sum (λ i. cross_ref g c (get_or (refs_in w c) i 0))) (length-refs s w k c u)
-      ∙ sum_same _ _ (ref_count w c) (λ f l. ap (cross_ref g c) (get_d-refs w c f l))
+      ∙ ap (sum (λ i. cross_ref g c (get_or (refs_in w c) i 0))) (length-refs s w k c u) ∙ sum_same _ _ (ref_count w c) (λ f l. ap (cross_ref g c) (get_d-refs w c f l))
 
   -- and all together, where nothing else is alive in it: the sum over the positions of slots
   module _ (count : g.count ≡ cell_count s) (begins : (c : ℕ) → Alive g c → BeginsIn s w c) (at : ℕ → ℕ)
@@ -59,17 +57,14 @@ module _ (s : Sizes) (w : Words) (k : WholeFor s w) (g : Graph) (refs : (c : ℕ
     object-cross c = go (begins? s w.cells w.tables c) (ℕ_discrete (g.home c) 0)
       where
         go : Dec (BeginsIn s w c) → Dec (g.home c ≡ 0) → slots_of s w.cells w.tables at c ≡ cross_at g c
-        go (yes u) (yes z) = rw (begins-true s w.cells w.tables c u)
-            (sum-none _ (ref_count w c) (λ f l. gone c f u l z) ∙ sym (gone-cross g c z))
-        go (yes u) (no a) = rw (begins-true s w.cells w.tables c u)
-            (sum_same _ _ (ref_count w c) (λ f l. there c f u l a) ∙ sym (alive-cross c u a))
+        go (yes u) (yes z) = rw (begins-true s w.cells w.tables c u) (sum-none _ (ref_count w c) (λ f l. gone c f u l z) ∙ sym (gone-cross g c z))
+        go (yes u) (no a) = rw (begins-true s w.cells w.tables c u) (sum_same _ _ (ref_count w c) (λ f l. there c f u l a) ∙ sym (alive-cross c u a))
         go (no n) (yes z) = rw (begins-false s w.cells w.tables c n) (sym (gone-cross g c z))
         go (no n) (no a) = absurd (n (begins c a))
 
     pub positions-crossing : sum at (cells_words s) ≡ crossing g
     positions-crossing =
-        slots-sum s w.cells w.tables at none (refs-room s w k) ∙ sum_same _ _ (cell_count s) (λ c l. object-cross c)
-        ∙ ap (sum (cross_at g)) (sym count) ∙ sym (crossing-sum g)
+        slots-sum s w.cells w.tables at none (refs-room s w k) ∙ sum_same _ _ (cell_count s) (λ c l. object-cross c) ∙ ap (sum (cross_at g)) (sym count) ∙ sym (crossing-sum g)
 
 module _ (s : Sizes) (w : Words) (k : WholeFor s w) where
   module _ (c : ℕ) (u : BeginsIn s w c) where
@@ -93,8 +88,7 @@ module _ (s : Sizes) (w : Words) (k : WholeFor s w) where
   entries-crossing =
       sym (every-counted (cr.cross_to s w.cells w.tables) (cells_words s) s.entries w.remember k.remember)
       ∙ positions-crossing s w k (graph_of s w) (λ c. refl) refl (alive-used s w) (λ q. bit (cr.crossing s w.cells w.tables q))
-      (λ q l n. ap (λ (x : ℕ). bit (ltb 0 x)) (no-cross s w.cells w.tables q n)) (λ c f u l z. absurd (used-alive s w k c u z))
-      (λ c f u l a. at_ref c u f l)
+      (λ q l n. ap (λ (x : ℕ). bit (ltb 0 x)) (no-cross s w.cells w.tables q n)) (λ c f u l z. absurd (used-alive s w k c u z)) (λ c f u l a. at_ref c u f l)
 
 -- of whatever heap the words stand for
 module _ (s : Sizes) (w : Words) (h : Regioned) (cell_of : ℕ → ℕ) (st : StandsFor s w h cell_of) where

@@ -44,5 +44,4 @@ module _ {s : Sizes} {w : Words} {e : Part} {c : ℕ} where
 
   pub lives-how : Lives s w e c → Outside s w e c ⊎ Survivor s w e c
   lives-how l =
-      by_cases (e.ends? (page_of c)) (λ z. inr (record { used = l.used; within = z; goes = l.goes z }))
-      (λ n. inl (record { used = l.used; out = n }))
+      by_cases (e.ends? (page_of c)) (λ z. inr (record { used = l.used; within = z; goes = l.goes z })) (λ n. inl (record { used = l.used; out = n }))

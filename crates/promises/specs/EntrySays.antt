@@ -13,17 +13,14 @@ use Rattle.promises.specs.Slots.{region-of}
 use Rattle.promises.specs.Reading.{ref-begins, ref-room}
 
 module _ {s : Sizes} {w : Words} (whole : WholeFor s w) where
-  pub entry_of : (c f d : ℕ) → BeginsIn s w c → f < ref_count w c → field_of w.cells c f ≡ suc d → 1 < owner_in s w (page_of d)
-      → owner_in s w (page_of d) ≢ owner_in s w (page_of c)
-      → (i : ℕ) × (i < entries_used w.remember) × (slot_in w.remember i ≡ field_at c f)
-      × (slot_region_in s.entries w.remember i ≡ owner_in s w (page_of d))
+  pub entry_of : (c f d : ℕ) → BeginsIn s w c → f < ref_count w c → field_of w.cells c f ≡ suc d → 1 < owner_in s w (page_of d) → owner_in s w (page_of d) ≢ owner_in s w (page_of c)
+      → (i : ℕ) × (i < entries_used w.remember) × (slot_in w.remember i ≡ field_at c f) × (slot_region_in s.entries w.remember i ≡ owner_in s w (page_of d))
   entry_of c f d u l z high apart =
       let m = ref-room s w whole c f u l in
       let v = ref-begins s w.cells w.tables (field_of w.cells c f) d ((whole.objects c u).references f l) z in
       let e : cross_to s w.cells w.tables (field_at c f) ≡ owner_in s w (page_of d) =
       field-cross s w.cells w.tables c f u m l ∙ ap (crosses_to s w.tables c) z
-      ∙ ap (other (owner_in s w (page_of c))) (region-of s w.tables d (begins-page _ _ _ _ v))
-      ∙ sym (other-yes (owner_in s w (page_of c)) (owner_in s w (page_of d)) high apart) in
+      ∙ ap (other (owner_in s w (page_of c))) (region-of s w.tables d (begins-page _ _ _ _ v)) ∙ sym (other-yes (owner_in s w (page_of c)) (owner_in s w (page_of d)) high apart) in
       let q = whole.remember.every (field_at c f) (field-inside s w.cells w.tables c u f m) (omega arith) in
       (q.0, q.1, q.2, sym (whole.remember.entries.named q.0 q.1).right ∙ ap (cross_to s w.cells w.tables) q.2 ∙ e)
 
@@ -45,8 +42,7 @@ module _ {s : Sizes} {w : Words} (whole : WholeFor s w) where
       let n = whole.remember.entries.named i l in
       let g : ℕ = slot_region_in s.entries w.remember i in
       let q = cross-slot s w.cells w.tables (slot_in w.remember i) (omega (arith, n.region, n.right)) in
-      let v = crosses-into s w.tables (owner_in s w (page_of q.object)) (field_of w.cells q.object q.field) g
-      (sym n.right ∙ slot-crosses s w.cells w.tables (slot_in w.remember i) q) (λ z. omega (arith, n.region)) in
+      let v = crosses-into s w.tables (owner_in s w (page_of q.object)) (field_of w.cells q.object q.field) g (sym n.right ∙ slot-crosses s w.cells w.tables (slot_in w.remember i) q) (λ z. omega (arith, n.region)) in
       record {
         object = q.object;
         field = q.field;

@@ -14,8 +14,7 @@ use Rattle.promises.specs.Whole.{WholeFor, Open}
 use Rattle.promises.specs.StandsFor.{StandsFor}
 use Rattle.promises.specs.Changes.{with_tables, with_depth}
 use Rattle.promises.specs.Areas.{depth_words, Only, store-only}
-use Rattle.promises.specs.Frames.{still-whole, pages-open, variables-frame, objects-frame, remember-frame, vars-same, home_same, counters-same}
-use Rattle.promises.specs.Frames.{occupancy-same, stands-still}
+use Rattle.promises.specs.Frames.{still-whole, pages-open, variables-frame, objects-frame, remember-frame, vars-same, home_same, counters-same, occupancy-same, stands-still}
 
 module _ (s : Sizes) (w : Words) (k : WholeFor s w) (t d : ℕ) (l : t < s.threads) where
   abbrev T : List ℕ
@@ -40,10 +39,8 @@ module _ (s : Sizes) (w : Words) (k : WholeFor s w) (t d : ℕ) (l : t < s.threa
   pub depth-whole : d ≤ s.depth → OpenStill → WholeFor s (with_tables w T)
   depth-whole m o =
       still-whole depth-only refl refl refl refl refl refl refl refl refl refl k
-      (λ u n. by_cases (ℕ_discrete u t) (λ e. omega (arith, ap (depth_of T) e, here)) (λ e. omega (arith, elsewhere u e, k.depths u n)))
-      (pages-open depth-only refl refl k.pages o)
-      (variables-frame depth-only refl refl refl k.variables) (objects-frame depth-only refl refl refl k.objects)
-      (remember-frame depth-only refl refl refl refl refl k.remember)
+      (λ u n. by_cases (ℕ_discrete u t) (λ e. omega (arith, ap (depth_of T) e, here)) (λ e. omega (arith, elsewhere u e, k.depths u n))) (pages-open depth-only refl refl k.pages o)
+      (variables-frame depth-only refl refl refl k.variables) (objects-frame depth-only refl refl refl k.objects) (remember-frame depth-only refl refl refl refl refl k.remember)
 
   -- they are if it does not fall
   pub raised-open : depth_in w t ≤ d → OpenStill
@@ -53,8 +50,7 @@ module _ (s : Sizes) (w : Words) (k : WholeFor s w) (t d : ℕ) (l : t < s.threa
       record {
         real = o.real;
         thread = o.thread;
-        level = by_cases (ℕ_discrete u t) (λ e. omega (arith, o.level, ap (depth_of T) e, ap (depth_of w.tables) e, here))
-            (λ e. omega (arith, o.level, elsewhere u e));
+        level = by_cases (ℕ_discrete u t) (λ e. omega (arith, o.level, ap (depth_of T) e, ap (depth_of w.tables) e, here)) (λ e. omega (arith, o.level, elsewhere u e));
       }
 
   depths-set : depths_in s (with_tables w T) ≡ set (depths_in s w) t d
@@ -68,5 +64,4 @@ depth-stands s w h cell_of st t d l m o sound =
     let k = st.whole in
     let only = depth-only s w k t d l in
     stands-still st (home_same only refl refl refl) (with_depth h t d).heap (depth-whole s w k t d l m o)
-    (ap (λ (ds : List ℕ). set ds t d) st.depths ∙ sym (depths-set s w k t d l)) st.partners.refs (vars-same only refl ∙ st.partners.vars)
-    st.nums (counters-same only refl refl) (occupancy-same only refl refl) sound
+    (ap (λ (ds : List ℕ). set ds t d) st.depths ∙ sym (depths-set s w k t d l)) st.partners.refs (vars-same only refl ∙ st.partners.vars) st.nums (counters-same only refl refl) (occupancy-same only refl refl) sound

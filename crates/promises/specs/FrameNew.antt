@@ -12,7 +12,7 @@ use Rattle.lists.specs.Zeros.{all-zero}
 use Rattle.rules.specs.declared.Sizes.{Sizes}
 use Rattle.rules.specs.NeverFreeing.{Object, no_object}
 use Rattle.rules.specs.Regions.{regions}
-use Rattle.rules.specs.Pages.{Pages, take_cell}
+use Rattle.rules.specs.Pages.{Pages, take}
 use Rattle.rules.specs.Rules.{counted, Regioned, graph, object_cell, one_made, taken_by}
 use Rattle.laws.specs.GraphLaws.{Alive, Closed}
 use Rattle.laws.specs.RulesLaws.{Sound}
@@ -20,7 +20,7 @@ use Rattle.laws.specs.SameRules.{renamed, renamed-zeros}
 use Rattle.layout.specs.Places.{var_at, var_count}
 use Rattle.layout.specs.declared.Kind.{Kind}
 use Rattle.layout.specs.declared.Kind.TheVariants.{Reference, Number}
-use Rattle.layout.specs.Cells.{head_of, field_count, first_field, head_word, most_fields, room_for, kind-among, fields-room, head-counts}
+use Rattle.layout.specs.Cells.{head_of, field_count, first_field, head_word, most_fields, room_for, kind-among, fields-room, refs-head, nums-head}
 use Rattle.layout.specs.Words.{Words, BeginsIn, fields_at, home_in, made_in, pages_at, graph_of}
 use Rattle.promises.specs.Whole.{WholeFor, Open}
 use Rattle.promises.specs.StandsFor.{Occupies, StandsFor}
@@ -39,16 +39,14 @@ blank_object b d = record { refs = replicate b 0; nums = replicate d 0 }
 
 -- the cell that region g took is the one that the rules say, and the pages after it are theirs
 abbrev pub Takes : Sizes → List ℕ → ℕ → ℕ → List ℕ → Type 0
-Takes s t g cell t' = (cell ≡ (take_cell (pages_at s t) g).cell) × (pages_at s t' ≡ (take_cell (pages_at s t) g).pages)
+Takes s t g cell t' = (cell ≡ (take (pages_at s t) g).cell) × (pages_at s t' ≡ (take (pages_at s t) g).pages)
 
 -- the map to cells, with the new object's
 abbrev pub with_cell : Regioned → (ℕ → ℕ) → ℕ → ℕ → ℕ
 with_cell h to cell x = cond (eqb x (length h.heap.objects)) cell (to x)
 
-module _ (s : Sizes) (w : Words) (h : Regioned) (to : ℕ → ℕ) (st : StandsFor s w h to) (g cell b d : ℕ) (t' c' : List ℕ)
-    (took : Took s w.tables g cell (counted (made_in s w + 1)) t')
-    (takes : Takes s w.tables g cell t') (blank : Blank w.cells cell (head_word b d) c') (few : b + d ≤ most_fields) (pos : 1 ≤ g)
-    (low : g ≤ regions s) (open' : 1 < g → Open s w.tables g) where
+module _ (s : Sizes) (w : Words) (h : Regioned) (to : ℕ → ℕ) (st : StandsFor s w h to) (g cell b d : ℕ) (t' c' : List ℕ) (took : Took s w.tables g cell (counted (made_in s w + 1)) t')
+    (takes : Takes s w.tables g cell t') (blank : Blank w.cells cell (head_word b d) c') (few : b + d ≤ most_fields) (pos : 1 ≤ g) (low : g ≤ regions s) (open' : 1 < g → Open s w.tables g) where
   abbrev n : ℕ
   n = length h.heap.objects
 
@@ -109,8 +107,7 @@ module _ (s : Sizes) (w : Words) (h : Regioned) (to : ℕ → ℕ) (st : StandsF
 
   home-kept : (y : ℕ) → BeginsIn s w y → home_in s w₁ y ≡ home_in s w y
   home-kept y u =
-      used-home s w₁ y (still-begins s w st.whole g cell b d t' c' took blank few pos low open' y u)
-      ∙ owner-still s w st.whole g cell b d t' c' took blank few pos low open' y u ∙ sym (used-home s w y u)
+      used-home s w₁ y (still-begins s w st.whole g cell b d t' c' took blank few pos low open' y u) ∙ owner-still s w st.whole g cell b d t' c' took blank few pos low open' y u ∙ sym (used-home s w y u)
 
   apart-new : (x : ℕ) → Alive (graph h) x → to x ≡ cell → ⊥
   apart-new x a e = not_there s w st.whole g cell b d t' c' took blank few pos low open' (subst (BeginsIn s w) e (cell-used s w h to st x a))
@@ -144,8 +141,7 @@ module _ (s : Sizes) (w : Words) (h : Regioned) (to : ℕ → ℕ) (st : StandsF
       let count : field_count f (head_of c' cell) ≡ m = ap (field_count f) blank.head ∙ e in
       all-zero (fields_at f c' cell) m (length_fields s w₁ k₁ f cell new-used ∙ count)
       (λ i l. let n : i < field_count f (head_of c' cell) = omega (arith, count) in
-      get_d-fields f w₁ cell i n ∙ blank.fields (first_field f (head_of c' cell) + i)
-      (omega (arith, kind-among f (head_of c' cell), fields-room (head_of c' cell) (k₁.objects cell new-used).head, ap room_for blank.head)))
+      get_d-fields f w₁ cell i n ∙ blank.fields (first_field f (head_of c' cell) + i) (omega (arith, kind-among f (head_of c' cell), fields-room (head_of c' cell) (k₁.objects cell new-used).head, ap room_for blank.head)))
 
   new-occupies : Occupies s w₁ h₁ to₁
   unfolding taken_by
@@ -154,11 +150,9 @@ module _ (s : Sizes) (w : Words) (h : Regioned) (to : ℕ → ℕ) (st : StandsF
       let e = st.occupies.pages in
       record {
         cells = cases (λ x y. object_cell h₁ x ≡ y)
-            (λ x a. get_or-append h.occupancy.cells ((take_cell ps g).cell ∷ []) 0 x
-            (omega (arith, st.sound.closed.below x a, st.sound.celled, st.sound.aligned)) ∙ st.occupies.cells x a)
-            (get_or_at h.occupancy.cells (take_cell ps g).cell [] 0 n (st.sound.celled ∙ st.sound.aligned)
-            ∙ ap (λ (q : Pages). (take_cell q g).cell) e ∙ sym takes.0);
-        pages = ap (λ (q : Pages). (take_cell q g).pages) e ∙ sym takes.1;
+            (λ x a. get_or-append h.occupancy.cells ((take ps g).cell ∷ []) 0 x (omega (arith, st.sound.closed.below x a, st.sound.celled, st.sound.aligned)) ∙ st.occupies.cells x a)
+            (get_or_at h.occupancy.cells (take ps g).cell [] 0 n (st.sound.celled ∙ st.sound.aligned) ∙ ap (λ (q : Pages). (take q g).cell) e ∙ sym takes.0);
+        pages = ap (λ (q : Pages). (take q g).pages) e ∙ sym takes.1;
       }
 
   pub new-stands : Sound h₁ → StandsFor s w₁ h₁ to₁
@@ -175,31 +169,22 @@ module _ (s : Sizes) (w : Words) (h : Regioned) (to : ℕ → ℕ) (st : StandsF
           onto = onto;
           refs = cases (λ x y. fields_at Reference c' y ≡ map (renamed to₁) (get_or h₁.heap.objects x no_object).refs)
               (λ x a. fields-old Reference (to x) (cell-used s w h to st x a) ∙ st.partners.refs x a
-              ∙ sym (ap (λ (q : Object). map (renamed to₁) q.refs) (object-old x (st.sound.closed.below x a))
-              ∙ renamed-old ((graph h).refs x) (λ y i. st.sound.closed.refs x y a i)))
-              (fields-new Reference b (head-counts Reference b d few)
-              ∙ sym (ap (λ (q : Object). map (renamed to₁) q.refs) object-new ∙ renamed-zeros b to₁));
+              ∙ sym (ap (λ (q : Object). map (renamed to₁) q.refs) (object-old x (st.sound.closed.below x a)) ∙ renamed-old ((graph h).refs x) (λ y i. st.sound.closed.refs x y a i)))
+              (fields-new Reference b (refs-head b d few) ∙ sym (ap (λ (q : Object). map (renamed to₁) q.refs) object-new ∙ renamed-zeros b to₁));
           vars = vars-same only refl ∙ st.partners.vars
               ∙ sym (renamed-old h.heap.vars (λ y i. let j = in_place h.heap.vars (suc y) i in st.sound.closed.vars j.0 y j.2));
         };
         nums = cases (λ x y. (get_or h₁.heap.objects x no_object).nums ≡ fields_at Number c' y)
-            (λ x a. ap (λ (q : Object). q.nums) (object-old x (st.sound.closed.below x a)) ∙ st.nums x a
-            ∙ sym (fields-old Number (to x) (cell-used s w h to st x a)))
-            (ap (λ (q : Object). q.nums) object-new ∙ sym (fields-new Number d (head-counts Number b d few)));
-        counters = ap one_made st.counters ∙ ap₂ (λ (x y : ℕ). record { made = x; freed = y }) (sym took.made)
-            (sym (only.same freed_words refl));
+            (λ x a. ap (λ (q : Object). q.nums) (object-old x (st.sound.closed.below x a)) ∙ st.nums x a ∙ sym (fields-old Number (to x) (cell-used s w h to st x a)))
+            (ap (λ (q : Object). q.nums) object-new ∙ sym (fields-new Number d (nums-head b d few)));
+        counters = ap one_made st.counters ∙ ap₂ (λ (x y : ℕ). record { made = x; freed = y }) (sym took.made) (sym (only.same freed_words refl));
         occupies = new-occupies;
       }
 
   -- ---- and variable i, counted through all threads, names it
 
-  pub made-stands : (i : ℕ) → i < var_count s → Sound (with_variable h₁ i (n + 1))
-      → StandsFor s (with_tables w₁ (set t' (var_at s i) (cell + 1))) (with_variable h₁ i (n + 1)) to₁
+  pub made-stands : (i : ℕ) → i < var_count s → Sound (with_variable h₁ i (n + 1)) → StandsFor s (with_tables w₁ (set t' (var_at s i) (cell + 1))) (with_variable h₁ i (n + 1)) to₁
   made-stands i l sound =
-      let between : Closed (graph h₁) = record {
-        below = sound.closed.below;
-        vars = λ j x e. still x (st.sound.closed.vars j x e);
-        refs = sound.closed.refs;
-      } in
+      let between : Closed (graph h₁) = record { below = sound.closed.below; vars = λ j x e. still x (st.sound.closed.vars j x e); refs = sound.closed.refs } in
       variable-stands s w₁ h₁ to₁ (new-stands (record { aligned = sound.aligned; celled = sound.celled; closed = between })) i (n + 1) (cell + 1) l
       (add-one cell ∙ ap suc (sym to-new) ∙ sym (ap (renamed to₁) (add-one n))) sound

@@ -93,15 +93,13 @@ module _ (s : Sizes) (w : Words) (k : WholeFor s w) (y f v : ℕ) (u : BeginsIn 
     pub reference-whole : IsRef s w.cells w.tables v → r ≡ 0 → WholeFor s (stored_words s w y f v m')
     reference-whole ref z =
         field-whole s w k y f v u within m' edited (λ l. ref)
-        (remembered-exact (cross_to s w.cells w.tables) (cross_to s (set w.cells at v) w.tables) (cells_words s) s.entries w.remember
-        m'
+        (remembered-exact (cross_to s w.cells w.tables) (cross_to s (set w.cells at v) w.tables) (cells_words s) s.entries w.remember m'
         k.sized.remember k.remember at _ _ r room
         (cross-elsewhere s w.cells w.tables at v reference-slot) before after d z)
 
 -- ---- of whatever heap the words stand for: reference f of object x becomes u, v in the words
 
-module _ (s : Sizes) (w : Words) (h : Regioned) (to : ℕ → ℕ) (st : StandsFor s w h to) (x : ℕ) (a : Alive (graph h) x) (f u v : ℕ)
-    (low : f < ref_count w (to x)) (e : v ≡ renamed to u)
+module _ (s : Sizes) (w : Words) (h : Regioned) (to : ℕ → ℕ) (st : StandsFor s w h to) (x : ℕ) (a : Alive (graph h) x) (f u v : ℕ) (low : f < ref_count w (to x)) (e : v ≡ renamed to u)
     (sound : Sound (with_object h x (with_field Reference (get_or h.heap.objects x no_object) f u))) where
   abbrev y : ℕ
   y = to x
@@ -127,19 +125,13 @@ module _ (s : Sizes) (w : Words) (h : Regioned) (to : ℕ → ℕ) (st : StandsF
   -- u is null or there
   there : (z : ℕ) → u ≡ suc z → Alive (graph h) z
   there z q =
-      sound.closed.refs x z a (get_d-in ((graph h').refs x) f z
-      (ap (λ (p : Object). get_or p.refs f 0) (put h.heap.objects x (with_field Reference o f u) no_object inside) ∙ put o.refs f u 0 low-refs
-      ∙ q))
+      sound.closed.refs x z a (get_d-in ((graph h').refs x) f z (ap (λ (p : Object). get_or p.refs f 0) (put h.heap.objects x (with_field Reference o f u) no_object inside) ∙ put o.refs f u 0 low-refs ∙ q))
 
   pub reference-stands : (m' : List ℕ) (r : ℕ) → Followed s w y f v m' r → r ≡ 0 → StandsFor s (stored_words s w y f v m') h' to
   reference-stands m' r d z =
-      object-stands s w h to st x a f v inner m' (with_field Reference o f u)
-      (reference-whole s w st.whole y f v in_use low m' r d (ref-to-cell s w h to st u v e there) z)
-      (fields-set s w st.whole y f v in_use inner Reference f low
-      (let e : f ≡ first_field Reference (head_in w y) + f = omega (arith, first-reference (head_in w y)) in e)
-      ∙ ap₂ (λ (vs : List ℕ) (i : ℕ). set vs f i) (st.partners.refs x a) e ∙ sym (map-set (renamed to) o.refs f u))
-      (st.nums x a ∙ sym (fields-kept s w st.whole y f v in_use inner Number y in_use (λ i l e q. omega (arith, first-number (head_in w y)))))
-      sound
+      object-stands s w h to st x a f v inner m' (with_field Reference o f u) (reference-whole s w st.whole y f v in_use low m' r d (ref-to-cell s w h to st u v e there) z)
+      (fields-set s w st.whole y f v in_use inner Reference f low (let e : f ≡ first_field Reference (head_in w y) + f = omega (arith, first-reference (head_in w y)) in e) ∙ ap₂ (λ (vs : List ℕ) (i : ℕ). set vs f i) (st.partners.refs x a) e ∙ sym (map-set (renamed to) o.refs f u))
+      (st.nums x a ∙ sym (fields-kept s w st.whole y f v in_use inner Number y in_use (λ i l e q. omega (arith, first-number (head_in w y))))) sound
 
   -- ---- question 14
 
@@ -175,13 +167,6 @@ module _ (s : Sizes) (w : Words) (h : Regioned) (to : ℕ → ℕ) (st : StandsF
       omega (arith, heap-entries s (stored_words s w y f v m') h' to st', st'.whole.remember.entries.room)
 
   -- no room: more would cross than there are entries
-  pub reference-full : (m' : List ℕ) (r : ℕ) → NoRoom s.entries w.remember (field_at y f) (crossed_to s w y f v) (will_cross s w y f v) m' r
-      → s.entries < crossing (graph h')
+  pub reference-full : (m' : List ℕ) (r : ℕ) → NoRoom s.entries w.remember (field_at y f) (crossed_to s w y f v) (will_cross s w y f v) m' r → s.entries < crossing (graph h')
   reference-full m' r n =
-      omega (
-        arith,
-        reference-crossing,
-        n.many,
-        ap bit (le-ltb 0 (crossed_to s w y f v) (omega (arith, n.before))),
-        ap bit (lt-ltb 0 (will_cross s w y f v) n.after),
-      )
+      omega (arith, reference-crossing, n.many, ap bit (le-ltb 0 (crossed_to s w y f v) (omega (arith, n.before))), ap bit (lt-ltb 0 (will_cross s w y f v) n.after))

@@ -1,5 +1,4 @@
--- A command need only be shown right of the heap that the words themselves make, whose objects are the cells: then it is right of every heap that
--- they stand for.
+-- A command need only be shown right of the heap that the words themselves make, whose objects are the cells: then it is right of every heap that they stand for.
 use Rattle.std.specs.Prelude.{ℕ, ◌<◌, ◌≡◌}
 use Rattle.std.proofs.Common.{sym, ap, subst, ◌∙◌}
 use Rattle.rules.specs.declared.Sizes.{Sizes}
@@ -40,8 +39,7 @@ stands-like s w h cell_of st =
       counters = sym st.counters;
       occupancy = record {
         pages = sym st.occupies.pages;
-        cells = λ x a. get_d-listed (λ c. c) (cell_count s) (cell_of x) 0
-            ((words-closed s w st.whole).below (cell_of x) (cell-alive s w h cell_of st x a)) ∙ sym (st.occupies.cells x a);
+        cells = λ x a. get_d-listed (λ c. c) (cell_count s) (cell_of x) 0 ((words-closed s w st.whole).below (cell_of x) (cell-alive s w h cell_of st x a)) ∙ sym (st.occupies.cells x a);
       };
     }
 
@@ -50,8 +48,7 @@ stands-apart : (s : Sizes) (w : Words) (h : Regioned) (cell_of : ℕ → ℕ) �
 stands-apart s w h cell_of st x y a b e = st.partners.apart x y a b (sym (st.occupies.cells x a) ∙ e ∙ st.occupies.cells y b)
 
 -- words that stand for a heap stand for each that corresponds to it
-like-stands : (s : Sizes) (w : Words) (to : ℕ → ℕ) (h k : Regioned) (cell : ℕ → ℕ) → Like to h k → StandsFor s w k cell
-    → StandsFor s w h (λ x. cell (to x))
+like-stands : (s : Sizes) (w : Words) (to : ℕ → ℕ) (h k : Regioned) (cell : ℕ → ℕ) → Like to h k → StandsFor s w k cell → StandsFor s w h (λ x. cell (to x))
 like-stands s w to h k cell l st =
     record {
       whole = st.whole;
@@ -89,8 +86,7 @@ did-anywhere s w m w' a d =
               let a₁ : Alive (graph (ru.step s h m).next) x = λ z. a (sym e ∙ z) in
               ap b.cell (n.keeps x a)
               ∙ b.stays (cell_of x) (λ z. a (sym (l.partners.home x a) ∙ z))
-              (ap (graph (ru.step s (heap_of s w) m).next).home (sym (n.keeps x a)) ∙ n.like.partners.home x a₁ ∙ e
-              ∙ sym (l.partners.home x a))
+              (ap (graph (ru.step s (heap_of s w) m).next).home (sym (n.keeps x a)) ∙ n.like.partners.home x a₁ ∙ e ∙ sym (l.partners.home x a))
               (subst (λ (q : ℕ). Slides (meaning_of m).effect q → ⊥) (sym (l.partners.home x a)) n');
         }
 

@@ -13,8 +13,7 @@ use Rattle.rules.specs.Regions.{regions}
 use Rattle.rules.specs.Graph.{objects_in}
 use Rattle.rules.specs.Pages.{Page}
 use Rattle.rules.specs.Rules.{Counters, Regioned, graph}
-use Rattle.layout.specs.Places.{cells_words, remember_words, tables_words, var_at, vars_from, owners_from, used_from, marks_from, counts_from, made_at}
-use Rattle.layout.specs.Places.{count_room, count-is, mark-is, used-is, owners-is}
+use Rattle.layout.specs.Places.{cells_words, remember_words, tables_words, var_at, vars_from, owners_from, used_from, marks_from, counts_from, made_at, count_room, count-is, mark-is, used-is, owners-is}
 use Rattle.remember.specs.Crossing.{cross_to}
 use Rattle.remember.specs.Entries.{Exact, exact-everywhere}
 use Rattle.remember.specs.Table.{entries_in}
@@ -65,8 +64,7 @@ module _ (s : Sizes) (w : Words) (h : Regioned) (to : ℕ → ℕ) (st : StandsF
     pages-are : take s.pages (drop b t) ≡ map f h.occupancy.pages
     unfolding pages_at
     pages-are =
-        part-listed s.pages b t room ∙ listed_same _ _ s.pages (λ i l. sym (at i l)) ∙ sym (map-listed f (page_in s t) s.pages)
-        ∙ ap (map f) (sym st.occupies.pages)
+        part-listed s.pages b t room ∙ listed_same _ _ s.pages (λ i l. sym (at i l)) ∙ sym (map-listed f (page_in s t) s.pages) ∙ ap (map f) (sym st.occupies.pages)
 
   owners-are : take s.pages (drop (owners_from s) t) ≡ map (λ p. p.owner) h.occupancy.pages
   owners-are = pages-are (λ p. p.owner) (owners_from s) (omega (arith, long, count_room s, count-is s)) (λ i l. refl)
@@ -115,8 +113,7 @@ module _ (s : Sizes) (w : Words) (h : Regioned) (to : ℕ → ℕ) (st : StandsF
   -- ---- the remember table
 
   exact : Exact (crossed_at h) (cells_words s) s.entries w.remember
-  exact = exact-everywhere (cross_to s w.cells t) (crossed_at h) (cells_words s) s.entries w.remember (crossed-is s w h to st)
-      st.whole.remember
+  exact = exact-everywhere (cross_to s w.cells t) (crossed_at h) (cells_words s) s.entries w.remember (crossed-is s w h to st) st.whole.remember
 
   remember-is : take (remember_words s) w.remember ≡ (heap_words s h).remember
   unfolding heap_words
@@ -128,11 +125,7 @@ module _ (s : Sizes) (w : Words) (h : Regioned) (to : ℕ → ℕ) (st : StandsF
   -- THE WORDS ARE THOSE OF THE HEAP, and past them what stood there
   pub stands-laid : (w₀ : Words) → SameBeyond s w₀ w → w ≡ laid s h w₀
   unfolding laid
-  stands-laid w₀ b = λ i. record {
-    cells = both cells_are b.cells i;
-    remember = both remember-is b.remember i;
-    tables = both tables-are b.tables i;
-  }
+  stands-laid w₀ b = λ i. record { cells = both cells_are b.cells i; remember = both remember-is b.remember i; tables = both tables-are b.tables i }
     where
       both : {n : ℕ} {l k x : List ℕ} → take n k ≡ x → SameFrom n l k → k ≡ x ++ drop n l
       both {n} {l} {k} e f = sym (take-append-drop n k) ∙ ap₂ ◌++◌ e f.rest

@@ -17,14 +17,12 @@ use Rattle.rules.specs.Graph.{crosses}
 use Rattle.rules.specs.Rules.{Regioned, graph, home_of, object_at}
 use Rattle.laws.specs.GraphLaws.{Alive}
 use Rattle.laws.specs.SameRules.{renamed}
-use Rattle.laws.specs.LikeCells.{InCell, by, none, held_by}
-use Rattle.layout.specs.declared.Kind.{Kind}
+use Rattle.laws.specs.LikeCells.{Held, by, none, held_by}
 use Rattle.layout.specs.declared.Kind.TheVariants.{Reference, Number}
 use Rattle.layout.specs.Places.{cells_words}
-use Rattle.layout.specs.Cells.{head_at, work_at, field_at, field_of, head_word, most_fields, field_count, of_kind, head-counts, head-determined, first-number}
-use Rattle.layout.specs.Cells.{first_field, room_for, room-is, page_of, cell_of, word_of}
+use Rattle.layout.specs.Cells.{head_at, work_at, field_at, field_of, head_word, most_fields, refs-head, nums-head, head-determined, first-number, first_field, room_for, room-is, page_of, cell_of, word_of}
 use Rattle.layout.specs.Objects.{head, used-begins, begins-page, slot-word}
-use Rattle.layout.specs.Words.{Words, BeginsIn, head_in, owner_in, fields_in, refs_in, nums_in, ref_count, num_count}
+use Rattle.layout.specs.Words.{Words, BeginsIn, head_in, owner_in, refs_in, nums_in, ref_count, num_count}
 use Rattle.remember.specs.Crossing.{other, crosses_to, cross_to}
 use Rattle.remember.specs.Crosses.{field-cross, no-cross}
 use Rattle.promises.specs.StandsFor.{StandsFor}
@@ -77,37 +75,41 @@ module _ (s : Sizes) (w : Words) (h : Regioned) (to : ℕ → ℕ) (st : StandsF
     refs-are : map (ref_word h) o.refs ≡ refs_in w c
     refs-are = ref-words o.refs (λ y i. st.sound.closed.refs x y a i) ∙ sym (st.partners.refs x a)
 
-    counted : (k : Kind) → of_kind k (length o.refs) (length o.nums) ≡ field_count k (head_in w c)
-    counted Reference = sym (length-map o.refs (ref_word h)) ∙ ap length refs-are ∙ length_fields s w st.whole Reference c u
-    counted Number = ap length (st.nums x a) ∙ length_fields s w st.whole Number c u
+    refs-long : length o.refs ≡ ref_count w c
+    refs-long = sym (length-map o.refs (ref_word h)) ∙ ap length refs-are ∙ length_fields s w st.whole Reference c u
+
+    nums-long : length o.nums ≡ num_count w c
+    nums-long = ap length (st.nums x a) ∙ length_fields s w st.whole Number c u
 
     few : length o.refs + length o.nums ≤ most_fields
-    few = omega (arith, counted Reference, counted Number, (st.whole.objects c u).head)
+    few = omega (arith, refs-long, nums-long, (st.whole.objects c u).head)
 
     head-word : head_word (length o.refs) (length o.nums) ≡ head_in w c
     head-word =
         head-determined (head_word (length o.refs) (length o.nums)) (head_in w c)
-        (λ k. head-counts k (length o.refs) (length o.nums) few ∙ counted k)
+        (refs-head (length o.refs) (length o.nums) few ∙ refs-long) (nums-head (length o.refs) (length o.nums) few ∙ nums-long)
 
     -- its fields, references and numbers one after the other
     abbrev fields : List ℕ
     fields = refs_in w c ++ nums_in w c
 
-    fields-count : (k : Kind) → length (fields_in k w c) ≡ field_count k (head_in w c)
-    fields-count k = length_fields s w st.whole k c u
+    refs-count : length (refs_in w c) ≡ ref_count w c
+    refs-count = length_fields s w st.whole Reference c u
+
+    nums-count : length (nums_in w c) ≡ num_count w c
+    nums-count = length_fields s w st.whole Number c u
 
     fields-are : (f : ℕ) → f < room_for (head_in w c) → get_or fields f 0 ≡ field_of w.cells c f
     fields-are f l =
-        by_cases (dec_lt f (ref_count w c)) (λ m. get_or-append (refs_in w c) (nums_in w c) 0 f (omega (arith, fields-count Reference))
-        ∙ get_d-refs w c f m)
+        by_cases (dec_lt f (ref_count w c)) (λ m. get_or-append (refs_in w c) (nums_in w c) 0 f (omega (arith, refs-count)) ∙ get_d-refs w c f m)
         (λ m. by_cases (dec_lt f (ref_count w c + num_count w c))
         (λ n.
-        let e : length (refs_in w c) + (f - ref_count w c) ≡ f = omega (arith, fields-count Reference) in
+        let e : length (refs_in w c) + (f - ref_count w c) ≡ f = omega (arith, refs-count) in
         let e' : first_field Number (head_in w c) + (f - ref_count w c) ≡ f = omega (arith, first-number (head_in w c)) in
         ap (λ (i : ℕ). get_or fields i 0) (sym e) ∙ get_or-append-add (refs_in w c) (nums_in w c) (f - ref_count w c) 0
         ∙ get_d-fields Number w c (f - ref_count w c) (omega arith) ∙ ap (field_of w.cells c) e')
         (λ n.
-        get_or-eq_default fields 0 (omega (arith, length-append (refs_in w c) (nums_in w c), fields-count Reference, fields-count Number))
+        get_or-eq_default fields 0 (omega (arith, length-append (refs_in w c) (nums_in w c), refs-count, nums-count))
         ∙ sym ((st.whole.objects c u).rest f l (omega arith))))
 
     object-word : (q : ℕ) → cell_of q ≡ c → object_word h o (word_of q) ≡ get_or w.cells q 0
@@ -154,14 +156,12 @@ module _ (s : Sizes) (w : Words) (h : Regioned) (to : ℕ → ℕ) (st : StandsF
             at : Dec (f < ref_count w (to x)) → crossed h x (get_or vs f 0) ≡ cross_to s w.cells w.tables q
             at (yes l) =
                 crosses-ref (get_or vs f 0) (λ y d. st.sound.closed.refs x y a (get_d-in vs f y d))
-                ∙ ap (crosses_to s w.tables (to x)) (sym (get_or-map (renamed to) vs f 0)
-                ∙ ap (λ (l : List ℕ). get_or l f 0) (sym (st.partners.refs x a)) ∙ get_d-refs w (to x) f l)
+                ∙ ap (crosses_to s w.tables (to x)) (sym (get_or-map (renamed to) vs f 0) ∙ ap (λ (l : List ℕ). get_or l f 0) (sym (st.partners.refs x a)) ∙ get_d-refs w (to x) f l)
                 ∙ sym (field-cross s w.cells w.tables (to x) f (u x a) (ref-room s w st.whole (to x) f (u x a) l) l)
                 ∙ ap (cross_to s w.cells w.tables) z
             at (no n) =
-                ap (crossed h x) (get_or-eq_default vs 0 {n = f} (omega (arith, counted x a Reference)))
-                ∙ sym (no-cross s w.cells w.tables q (λ k. let r = (slot-word s w.cells w.tables q k).1.1 in
-                n (omega (arith, ap (ref_count w) e))))
+                ap (crossed h x) (get_or-eq_default vs 0 {n = f} (omega (arith, refs-long x a)))
+                ∙ sym (no-cross s w.cells w.tables q (λ k. let r = (slot-word s w.cells w.tables q k).1.1 in n (omega (arith, ap (ref_count w) e))))
 
   -- ---- every position
 
@@ -174,24 +174,23 @@ module _ (s : Sizes) (w : Words) (h : Regioned) (to : ℕ → ℕ) (st : StandsF
     zero_word = st.whole.unused q (record { low = low; unused = λ i. not-begins (used-begins s w.cells w.tables (cell_of q) i) })
 
     no_slot : cross_to s w.cells w.tables q ≡ 0
-    no_slot = no-cross s w.cells w.tables q (λ o.
-        not-begins (used-begins s w.cells w.tables (cell_of q) (slot-word s w.cells w.tables q o).0))
+    no_slot = no-cross s w.cells w.tables q (λ o. not-begins (used-begins s w.cells w.tables (cell_of q) (slot-word s w.cells w.tables q o).0))
 
   module _ (q : ℕ) (low : q < cells_words s) where
-    cell-of : (x : ℕ) → Alive (graph h) x → to x ≡ cell_of q → (InCell h (cell_of q)) → object_at h (cell_of q) ≡ suc x
+    cell-of : (x : ℕ) → Alive (graph h) x → to x ≡ cell_of q → (Held h (cell_of q)) → object_at h (cell_of q) ≡ suc x
     cell-of x a e (by y d b f) = d ∙ ap suc (st.partners.apart y x b a (sym (st.occupies.cells y b) ∙ f ∙ sym e))
     cell-of x a e (none d n) = absurd (n x a (st.occupies.cells x a ∙ e))
 
     pub cell-is : cell_word h q ≡ get_or w.cells q 0
     cell-is = go (held_by h (cell_of q))
       where
-        go : InCell h (cell_of q) → cell_word h q ≡ get_or w.cells q 0
+        go : Held h (cell_of q) → cell_word h q ≡ get_or w.cells q 0
         go (by x e a f) = ap (λ (n : ℕ). word_with h n (word_of q)) e ∙ object-word x a q (sym f ∙ st.occupies.cells x a)
         go (none e n) = ap (λ (m : ℕ). word_with h m (word_of q)) e ∙ sym (zero_word q low (λ x a f. n x a (st.occupies.cells x a ∙ f)))
 
     pub crossed-is : crossed_at h q ≡ cross_to s w.cells w.tables q
     crossed-is = go (held_by h (cell_of q))
       where
-        go : InCell h (cell_of q) → crossed_at h q ≡ cross_to s w.cells w.tables q
+        go : Held h (cell_of q) → crossed_at h q ≡ cross_to s w.cells w.tables q
         go (by x e a f) = ap (λ (n : ℕ). crossed_with h n (word_of q)) e ∙ crossed-word x a q (sym f ∙ st.occupies.cells x a)
         go (none e n) = ap (λ (m : ℕ). crossed_with h m (word_of q)) e ∙ sym (no_slot q low (λ x a f. n x a (st.occupies.cells x a ∙ f)))

@@ -8,8 +8,6 @@ pub mod Promises
 pub mod WordsOf
 pub mod Ends
 pub mod Arriving
--- and what they give of blocks, answers and questions
-pub mod RunExamples
 -- theorems: what is read from whole words, the heaps that they stand for, and a command here and anywhere
 pub mod Reading
 pub mod Agreed
@@ -23,13 +21,11 @@ pub mod LaidCells
 pub mod Laid
 pub mod GivenBack
 pub mod PagesTaken
--- theorems: prepared words and a list of commands beside the rules' unused heap and run
+-- theorems: prepared words and a chain of commands beside the rules' unused heap and run
 pub mod WholeChains
 pub mod ChainHolders
-pub mod SlotHolders
-pub mod HolderCount
 pub mod Preparing
-pub mod Obeying
+pub mod Chained
 pub mod Once
 -- the questions in words, refusals, and a command that is done
 pub mod Questions

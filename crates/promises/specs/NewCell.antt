@@ -11,22 +11,18 @@ use Rattle.rules.specs.Rules.{counted}
 use Rattle.laws.specs.Counters.{leaves-made}
 use Rattle.layout.specs.Places.{cells_words, owner_of}
 use Rattle.layout.specs.declared.Kind.TheVariants.{Reference}
-use Rattle.layout.specs.Cells.{head_at, head_of, work_at, work_of, field_at, field_of, field_count, head_word, room_for, most_fields, Formed, kind-among}
-use Rattle.layout.specs.Cells.{fields-room, head-formed, page_of, cell_of, cell_named}
-use Rattle.layout.specs.Objects.{begins-page, begins-used, used-begins, NotInUse, Covers, covers_low, covers-head, covers-work, covers-field}
-use Rattle.layout.specs.Objects.{head-not-new, work-not-new, field-not-new, Slot, slot-page}
+use Rattle.layout.specs.Cells.{head_at, head_of, work_at, work_of, field_at, field_of, field_count, head_word, room_for, most_fields, Formed, kind-among, fields-room, head-formed, page_of, cell_of, cell_named}
+use Rattle.layout.specs.Objects.{begins-page, begins-used, used-begins, NotInUse, Covers, covers_low, covers-head, covers-work, covers-field, head-not-new, work-not-new, field-not-new, Slot, slot-page}
 use Rattle.layout.specs.Words.{Words, BeginsIn, made_in, counters_in}
 use Rattle.remember.specs.Crossing.{other, region_of, crosses_to, crosses_at, cross_to}
 use Rattle.promises.specs.Whole.{WholeFor, Open, IsRef, ObjectWhole, live_of}
 use Rattle.promises.specs.Changes.{with_cells}
-use Rattle.promises.specs.Areas.{variable_words, owner_words, used_words, count_words, made_words, freed_words, work_words, field_words, unused_words}
-use Rattle.promises.specs.Areas.{Only, only-trans, cells-only}
+use Rattle.promises.specs.Areas.{variable_words, owner_words, used_words, count_words, made_words, freed_words, work_words, field_words, unused_words, Only, only-trans, cells-only}
 use Rattle.promises.specs.Frames.{sized-frame, depths-frame, marks-frame, object-frame}
 use Rattle.remember.specs.Entries.{exact-everywhere}
 use Rattle.promises.specs.Slots.{region-of, slot-stays, cross-same}
 use Rattle.promises.specs.Regular.{whole-regular}
-use Rattle.promises.specs.TakeCell.{Took, took-only, took-used, took-unused, took-not-in-use, took-covers, still-used, used-split, owner-used}
-use Rattle.promises.specs.TakeCell.{took-live, took-regular, took-pages}
+use Rattle.promises.specs.TakeCell.{Took, took-only, took-used, took-unused, took-not-in-use, took-covers, still-used, used-split, owner-used, took-live, took-regular, took-pages}
 
 -- the words of a new object, the first of them given, and all others as they were
 pub record Blank (c : List ℕ) (cell word : ℕ) (c' : List ℕ) : Type 0 where
@@ -37,16 +33,11 @@ pub record Blank (c : List ℕ) (cell word : ℕ) (c' : List ℕ) : Type 0 where
   pub others : (j : ℕ) → (Covers cell word j → ⊥) → get_or c' j 0 ≡ get_or c j 0
 
 -- the cell that is taken was not in use: word 0 alone is written, and the others are zero already
-pub blanked : {s : Sizes} {w : Words} {g cell n : ℕ} (word : ℕ) {t' : List ℕ} → WholeFor s w → Took s w.tables g cell n t'
-    → Blank w.cells cell word (set w.cells (head_at cell) word)
+pub blanked : {s : Sizes} {w : Words} {g cell n : ℕ} (word : ℕ) {t' : List ℕ} → WholeFor s w → Took s w.tables g cell n t' → Blank w.cells cell word (set w.cells (head_at cell) word)
 blanked {s} {w} {g} {cell} {n} word k took =
     record {
       long = length-set w.cells (head_at cell) word;
-      head = put w.cells (head_at cell) word 0 (omega (
-        arith,
-        covers_low s cell word (head_at cell) took.page (covers-head cell word),
-        k.sized.cells,
-      ));
+      head = put w.cells (head_at cell) word 0 (omega (arith, covers_low s cell word (head_at cell) took.page (covers-head cell word), k.sized.cells));
       work = zero-at (work_at cell) (covers-work cell word) (λ (e : work_at cell ≡ head_at cell). omega arith);
       fields = λ f l. zero-at (field_at cell f) (covers-field cell word f l) (λ (e : field_at cell f ≡ head_at cell). omega arith);
       others = λ j n. past w.cells (head_at cell) word j 0 (λ e. n (subst (Covers cell word) (sym e) (covers-head cell word)));
@@ -57,8 +48,7 @@ blanked {s} {w} {g} {cell} {n} word k took =
 
 -- ---- whole
 
-module _ (s : Sizes) (w : Words) (k : WholeFor s w) (g cell b d : ℕ) (t' c' : List ℕ)
-    (took : Took s w.tables g cell (counted (made_in s w + 1)) t') (blank : Blank w.cells cell (head_word b d) c')
+module _ (s : Sizes) (w : Words) (k : WholeFor s w) (g cell b d : ℕ) (t' c' : List ℕ) (took : Took s w.tables g cell (counted (made_in s w + 1)) t') (blank : Blank w.cells cell (head_word b d) c')
     (few : b + d ≤ most_fields) (pos : 1 ≤ g) (low : g ≤ regions s) (open' : 1 < g → Open s w.tables g) where
   abbrev pub new_words : Words
   new_words = record { cells = c'; remember = w.remember; tables = t' }
@@ -95,15 +85,9 @@ module _ (s : Sizes) (w : Words) (k : WholeFor s w) (g cell b d : ℕ) (t' c' : 
   pub new-only : Only (unused_words ∷ owner_words ∷ used_words ∷ count_words ∷ made_words ∷ []) s w new_words
   new-only =
       only-trans
-      (cells-only s w c' (unused_words ∷ []) (λ n. head-other)
-      (λ n x u. blank.others (work_at x) (work-not-new s c t x u cell (head_word b d) (took-unused took)))
-      (λ n x u f l. blank.others (field_at x f) (field-not-new s c t x u cell (head_word b d) (took-unused took) f l))
-      (λ n. absurd (true-not-false (sym n)))
-      (record {
-        long = blank.long;
-        rest = drop-same (cells_words s) c c' blank.long
-            (λ j l. blank.others j (λ e. omega (arith, covers_low s cell (head_word b d) j took.page e)));
-      }))
+      (cells-only s w c' (unused_words ∷ []) (λ n. head-other) (λ n x u. blank.others (work_at x) (work-not-new s c t x u cell (head_word b d) (took-unused took)))
+      (λ n x u f l. blank.others (field_at x f) (field-not-new s c t x u cell (head_word b d) (took-unused took) f l)) (λ n. absurd (true-not-false (sym n)))
+      (record { long = blank.long; rest = drop-same (cells_words s) c c' blank.long (λ j l. blank.others j (λ e. omega (arith, covers_low s cell (head_word b d) j took.page e))) }))
       (took-only s (with_cells w c') g cell _ t' took pos low) refl refl
 
   objects : (x : ℕ) → BeginsIn s new_words x → ObjectWhole s c' t' x
@@ -114,15 +98,7 @@ module _ (s : Sizes) (w : Words) (k : WholeFor s w) (g cell b d : ℕ) (t' c' : 
       (record {
         head = subst Formed (sym h) (head-formed b d few);
         rest = λ f l m. blank.fields f (subst (λ (z : ℕ). f < room_for z) h l);
-        references = λ f l p. absurd (let z : ⊥ = omega (
-          arith,
-          blank.fields f (omega (
-            arith,
-            ap (field_count Reference) h,
-            kind-among Reference (head_word b d),
-            fields-room (head_word b d) (head-formed b d few),
-          )),
-        ) in z);
+        references = λ f l p. absurd (let z : ⊥ = omega (arith, blank.fields f (omega (arith, ap (field_count Reference) h, kind-among Reference (head_word b d), fields-room (head_word b d) (head-formed b d few)))) in z);
       }))
       (λ u. object-frame new-only refl refl ref_still x u (k.objects x u)) (begins-split x i)
 
@@ -146,10 +122,8 @@ module _ (s : Sizes) (w : Words) (k : WholeFor s w) (g cell b d : ℕ) (t' c' : 
   slot_kept q o =
       let u = o.begins in
       let p = slot-page s c t q o in
-      let v : get_or c' q 0 ≡ get_or c q 0 = subst (λ (i : ℕ). get_or c' i 0 ≡ get_or c i 0) o.at
-      (new-only.same field_words refl o.object u o.field o.room) in
-      let r : IsRef s c t (get_or c q 0) = subst (λ (z : ℕ). IsRef s c t (get_or c z 0)) o.at
-      ((k.objects o.object u).references o.field o.low) in (
+      let v : get_or c' q 0 ≡ get_or c q 0 = subst (λ (i : ℕ). get_or c' i 0 ≡ get_or c i 0) o.at (new-only.same field_words refl o.object u o.field o.room) in
+      let r : IsRef s c t (get_or c q 0) = subst (λ (z : ℕ). IsRef s c t (get_or c z 0)) o.at ((k.objects o.object u).references o.field o.low) in (
         slot-stays o (still-begins o.object u) (head-other o.object u),
         ap₂ other (ap (owner_of s t') p ∙ owner-still o.object u ∙ sym (ap (owner_of s t) p)) (ap (region_of s t') v ∙ region-kept (get_or c q 0) r),
       )
@@ -175,11 +149,9 @@ module _ (s : Sizes) (w : Words) (k : WholeFor s w) (g cell b d : ℕ) (t' c' : 
         objects = objects;
         marks = marks-frame new-only refl k.marks;
         works = works;
-        remember = exact-everywhere (cross_to s c t) (cross_to s c' t') (cells_words s) s.entries w.remember
-            (λ q l. cross-same s c t c' t' q (slot_kept q) (slot-new q)) k.remember;
+        remember = exact-everywhere (cross_to s c t) (cross_to s c' t') (cells_words s) s.entries w.remember (λ q l. cross-same s c t c' t' q (slot_kept q) (slot-new q)) k.remember;
         unused = unused;
         counters =
-            ap₂ (λ (x y : ℕ). counted (x + y)) (took-live s t g cell _ t' took pos low) (new-only.same freed_words refl)
-            ∙ leaves-made (counters_in s w) (live_of s t) k.counters
+            ap₂ (λ (x y : ℕ). counted (x + y)) (took-live s t g cell _ t' took pos low) (new-only.same freed_words refl) ∙ leaves-made (counters_in s w) (live_of s t) k.counters
             ∙ sym took.made;
       }

@@ -57,16 +57,10 @@ FreePage s w = (page : ℕ) × (page < s.pages) × (owner_in s w page ≡ 0)
 
 -- ---- of whatever heap the words stand for
 
-module _ (s : Sizes) (w : Words) (h : Regioned) (to : ℕ → ℕ) (st : StandsFor s w h to) (g : ℕ) (pos : 0 < g) (low : g ≤ regions s) (ds vs : List ℕ)
-    (o : Object) where
+module _ (s : Sizes) (w : Words) (h : Regioned) (to : ℕ → ℕ) (st : StandsFor s w h to) (g : ℕ) (pos : 0 < g) (low : g ≤ regions s) (ds vs : List ℕ) (o : Object) where
   -- the heap with a new object in region g
   abbrev made : Regioned
-  made = record {
-    heap = record { depths = ds; vars = vs; objects = h.heap.objects ++ o ∷ [] };
-    homes = h.homes ++ g ∷ [];
-    counters = one_made h.counters;
-    occupancy = taken_by h.occupancy g;
-  }
+  made = record { heap = record { depths = ds; vars = vs; objects = h.heap.objects ++ o ∷ [] }; homes = h.homes ++ g ∷ []; counters = one_made h.counters; occupancy = taken_by h.occupancy g }
 
   abbrev held : ℕ
   held = objects_of s w.tables g
@@ -80,13 +74,7 @@ module _ (s : Sizes) (w : Words) (h : Regioned) (to : ℕ → ℕ) (st : StandsF
   new-fits either =
       le-leb (new_pages s (graph h) (graph made)) (free_pages s (graph h))
       (⊎_elim (λ p. let n = partly-filled (whole-regular st.whole) g pos p.0 p.1 p.2 in omega (arith, needs))
-      (λ p. omega (
-        arith,
-        needs,
-        heap-free s w h to st,
-        sum-part (owned_one s w.tables 0) p.0 s.pages p.1,
-        owned-yes s w.tables 0 p.0 p.2,
-      )) either)
+      (λ p. omega (arith, needs, heap-free s w h to st, sum-part (owned_one s w.tables 0) p.0 s.pages p.1, owned-yes s w.tables 0 p.0 p.2)) either)
 
   pub new-lacks : (PartlyFilled s w g → ⊥) → (FreePage s w → ⊥) → leb (new_pages s (graph h) (graph made)) (free_pages s (graph h)) ≡ false
   new-lacks a b = lt-leb (new_pages s (graph h) (graph made)) (free_pages s (graph h)) (omega (arith, needs, heap-free s w h to st, full, none))

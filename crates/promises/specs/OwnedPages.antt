@@ -7,8 +7,7 @@ use Rattle.std.proofs.Math.Logic.{by_cases}
 use Rattle.std.specs.Prelude.{◌≡◌, List, Bool, ltb, eqb}
 use Rattle.std.proofs.Math.Path.{refl, sym, ap}
 use Rattle.std.proofs.Math.Bool.{true, false, cond}
-use Rattle.lists.specs.Counting.{bit, bit-le-one, sum, count, positive, sum_same, sum-none, sum-high, sum-part, sum-pos, sum-blocks, sum_first}
-use Rattle.lists.specs.Counting.{count-owners}
+use Rattle.lists.specs.Counting.{bit, bit-le-one, sum, count, positive, sum_same, sum-none, sum-high, sum-part, sum-pos, sum-blocks, sum_first, count-owners}
 use Rattle.lists.specs.Pigeonhole.{no-two}
 use Rattle.lists.specs.Tests.{cond-zero}
 use Rattle.rules.specs.declared.Sizes.{Sizes}
@@ -73,8 +72,7 @@ module _ {s : Sizes} {t : List ℕ} (r : Regular s t) (q : ℕ) where
   pub objects-few : objects_of s t q ≤ cell_count s
   objects-few =
       sum-high (objects_on s t q) page_cells s.pages
-      (λ page l. by_cases (ℕ_discrete (owner_of s t page) q) (λ e. rw (eq-eqb (owner_of s t page) q e) (r.pages page l).cells)
-      (λ n. rw (ne_eqb (owner_of s t page) q n) (omega arith)))
+      (λ page l. by_cases (ℕ_discrete (owner_of s t page) q) (λ e. rw (eq-eqb (owner_of s t page) q e) (r.pages page l).cells) (λ n. rw (ne_eqb (owner_of s t page) q n) (omega arith)))
 
   module _ (pos : 0 < q) where
     -- objects and free cells of the region's pages fill these
@@ -85,18 +83,12 @@ module _ {s : Sizes} {t : List ℕ} (r : Regular s t) (q : ℕ) where
 
     free-low : (page : ℕ) → page < s.pages → free_on s t q page < page_cells
     free-low page l =
-        by_cases (ℕ_discrete (owner_of s t page) q) (λ e. rw (eq-eqb (owner_of s t page) q e) (omega (arith, (r.pages page l).taken (omega arith))))
-        (λ n. rw (ne_eqb (owner_of s t page) q n) (omega arith))
+        by_cases (ℕ_discrete (owner_of s t page) q) (λ e. rw (eq-eqb (owner_of s t page) q e) (omega (arith, (r.pages page l).taken (omega arith)))) (λ n. rw (ne_eqb (owner_of s t page) q n) (omega arith))
 
     free-count : (n : ℕ) → n ≤ s.pages → sum (free_on s t q) n ≤ (page_cells - 1) * count (positive (free_on s t q)) n
     free-count zero l = omega arith
     free-count (suc n) l =
-        by_cases (dec_lt 0 (free_on s t q n)) (λ p. omega (
-          arith,
-          free-count n (omega arith),
-          free-low n (omega arith),
-          ap bit (lt-ltb 0 (free_on s t q n) p),
-        )) (λ p. omega (arith, free-count n (omega arith)))
+        by_cases (dec_lt 0 (free_on s t q n)) (λ p. omega (arith, free-count n (omega arith), free-low n (omega arith), ap bit (lt-ltb 0 (free_on s t q n) p))) (λ p. omega (arith, free-count n (omega arith)))
 
     free-partial : (page : ℕ) → 0 < free_on s t q page → Partial s t q page
     free-partial page =
@@ -156,22 +148,17 @@ module _ (s : Sizes) (w : Words) (r : Regular s w.tables) where
     unfolding home_at
     on-page page l =
         by_cases (ℕ_discrete (owner_in s w page) q)
-        (λ e. sum_first _ (used_in s w page) page_cells (λ j m.
-        each j m ∙ ap (λ (t : Bool). cond t (bit (ltb j (used_in s w page))) 0) (eq-eqb (owner_in s w page) q e))
+        (λ e. sum_first _ (used_in s w page) page_cells (λ j m. each j m ∙ ap (λ (t : Bool). cond t (bit (ltb j (used_in s w page))) 0) (eq-eqb (owner_in s w page) q e))
         ∙ omega (arith, (r.pages page l).cells, objects-yes s w.tables q page e))
-        (λ n. sum-none _ page_cells (λ j m. each j m ∙ ap (λ (t : Bool). cond t (bit (ltb j (used_in s w page))) 0) (ne_eqb (owner_in s w page) q n))
-        ∙ sym (objects-no s w.tables q page n))
+        (λ n. sum-none _ page_cells (λ j m. each j m ∙ ap (λ (t : Bool). cond t (bit (ltb j (used_in s w page))) 0) (ne_eqb (owner_in s w page) q n)) ∙ sym (objects-no s w.tables q page n))
       where
         pick : (b : Bool) → cond (eqb (cond b (owner_in s w page) 0) q) 1 0 ≡ cond (eqb (owner_in s w page) q) (bit b) 0
         pick true = refl
-        pick false = ap (λ (t : Bool). cond t 1 0) (ne_eqb 0 q (λ (z : 0 ≡ q). omega arith))
-            ∙ sym (cond-zero (eqb (owner_in s w page) q) 0 0 refl refl)
+        pick false = ap (λ (t : Bool). cond t 1 0) (ne_eqb 0 q (λ (z : 0 ≡ q). omega arith)) ∙ sym (cond-zero (eqb (owner_in s w page) q) 0 0 refl refl)
 
-        each : (j : ℕ) → j < page_cells → cond (eqb (home_in s w (cell_on page j)) q) 1 0
-            ≡ cond (eqb (owner_in s w page) q) (bit (ltb j (used_in s w page))) 0
+        each : (j : ℕ) → j < page_cells → cond (eqb (home_in s w (cell_on page j)) q) 1 0 ≡ cond (eqb (owner_in s w page) q) (bit (ltb j (used_in s w page))) 0
         each j m =
-            ap₂ (λ (b : Bool) (p : ℕ). cond (eqb (cond b (owner_in s w p) 0) q) 1 0) (begins-on s w.cells w.tables page j l m)
-            (page-on page j m) ∙ pick (ltb j (used_in s w page))
+            ap₂ (λ (b : Bool) (p : ℕ). cond (eqb (cond b (owner_in s w p) 0) q) 1 0) (begins-on s w.cells w.tables page j l m) (page-on page j m) ∙ pick (ltb j (used_in s w page))
 
     pub objects-on : objects_in (graph_of s w) q ≡ objects_of s w.tables q
     unfolding objects_in

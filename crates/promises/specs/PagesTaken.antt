@@ -23,13 +23,11 @@ abbrev filled_by : Graph → ℕ → ℕ
 filled_by g i = pages_of (objects_in g (suc i))
 
 -- with the free ones they are all pages
-all-pages : (s : Sizes) (w : Words) (h : Regioned) (to : ℕ → ℕ) → StandsFor s w h to
-    → sum (filled_by (graph h)) (regions s) + pages_owned s w 0 ≡ s.pages
+all-pages : (s : Sizes) (w : Words) (h : Regioned) (to : ℕ → ℕ) → StandsFor s w h to → sum (filled_by (graph h)) (regions s) + pages_owned s w 0 ≡ s.pages
 unfolding owned_one
 all-pages s w h to st =
     ap (λ (n : ℕ). n + pages_owned s w 0)
-    (sum_same _ _ (regions s) (λ i l. ap pages_of (objects-agree s w h to st (suc i) (omega arith))
-    ∙ sym (region-pages s w st.whole (suc i) (omega arith))))
+    (sum_same _ _ (regions s) (λ i l. ap pages_of (objects-agree s w h to st (suc i) (omega arith)) ∙ sym (region-pages s w st.whole (suc i) (omega arith))))
     ∙ count-owners (owner_in s w) (regions s) s.pages (owner-low s w st.whole)
 
 -- what grows and what shrinks make up for one another
@@ -47,5 +45,4 @@ pub pages-taken : (s : Sizes) (w : Words) (m : Command) (w' : Words) (a : Answer
     → let h = heap_of s w in
     let h' = (ru.step s h m).next in
     pages_owned s w' 0 + new_pages s (graph h) (graph h') ≡ pages_owned s w 0 + new_pages s (graph h') (graph h)
-pages-taken s w m w' a k d = balanced s w w' (heap_of s w) (ru.step s (heap_of s w) m).next (λ c. c) d.next.cell (heap-stands s w k)
-    d.next.stands
+pages-taken s w m w' a k d = balanced s w w' (heap_of s w) (ru.step s (heap_of s w) m).next (λ c. c) d.next.cell (heap-stands s w k) d.next.stands

@@ -5,8 +5,7 @@ use Rattle.std.proofs.Math.Path.{sym, ap₂}
 use Rattle.std.proofs.lemmas.List.{length-replicate, get_or-replicate}
 use Rattle.std.proofs.Math.ListN.{get_or-append}
 use Rattle.rules.specs.Terms.{InRange}
-use Rattle.layout.specs.Places.{depth_at, var_at, mark_at, count_at, count_of, made_at, freed_at, slot_at, slot_region_at, entries_used, owners_from, used_from}
-use Rattle.layout.specs.Places.{cells_words, remember_words, tables_words, chains_words, var_count}
+use Rattle.layout.specs.Places.{depth_at, var_at, mark_at, count_at, count_of, made_at, freed_at, slot_at, slot_region_at, entries_used, owners_from, used_from, cells_words, remember_words, tables_words, chains_words, var_count}
 use Rattle.layout.specs.Cells.{page_of}
 use Rattle.layout.specs.Objects.{begins-used}
 use Rattle.lists.specs.Tests.{cond-zero}
@@ -42,14 +41,12 @@ module _ (s : Sizes) (lent l : Slices) (range : InRange s) (long : LongEnough s 
   table-zero : (i : ℕ) → 5 ≤ i → i < tables_words s → get_or w.tables i 0 ≡ 0
   table-zero i l m =
       let e : i ≡ suc (suc (suc (suc (suc (i - 5))))) = omega arith in
-      ap₂ (λ (t : List ℕ) (j : ℕ). get_or t j 0) u.tables e
-      ∙ zeros-then (tables_words s - 5) (i - 5) (drop (tables_words s) lent.words.tables) (omega arith)
+      ap₂ (λ (t : List ℕ) (j : ℕ). get_or t j 0) u.tables e ∙ zeros-then (tables_words s - 5) (i - 5) (drop (tables_words s) lent.words.tables) (omega arith)
 
   remember-zero : (i : ℕ) → 1 ≤ i → i < remember_words s → get_or w.remember i 0 ≡ 0
   remember-zero i l m =
       let e : i ≡ suc (i - 1) = omega arith in
-      ap₂ (λ (t : List ℕ) (j : ℕ). get_or t j 0) u.remember e
-      ∙ zeros-then (remember_words s - 1) (i - 1) (drop (remember_words s) lent.words.remember) (omega arith)
+      ap₂ (λ (t : List ℕ) (j : ℕ). get_or t j 0) u.remember e ∙ zeros-then (remember_words s - 1) (i - 1) (drop (remember_words s) lent.words.remember) (omega arith)
 
   cell-zero : (q : ℕ) → q < cells_words s → get_or w.cells q 0 ≡ 0
   cell-zero q l = ap (λ (c : List ℕ). get_or c q 0) u.cells ∙ zeros-then (cells_words s) q (drop (cells_words s) lent.words.cells) l
@@ -77,25 +74,9 @@ module _ (s : Sizes) (lent l : Slices) (range : InRange s) (long : LongEnough s 
           sizes = ap (λ (t : List ℕ). sizes_in (record { cells = w.cells; remember = w.remember; tables = t })) u.tables;
           range = range;
           same = ap (λ (t : List ℕ). get_or t 0 0) u.remember;
-          cells = omega (
-            arith,
-            ap length u.cells,
-            length-append (replicate (cells_words s) 0) (drop (cells_words s) lent.words.cells),
-            length-replicate {A = ℕ} (cells_words s) 0,
-          );
-          remember = omega (
-            arith,
-            ap length u.remember,
-            length-append (replicate (remember_words s - 1) 0) (drop (remember_words s) lent.words.remember),
-            length-replicate {A = ℕ} (remember_words s - 1) 0,
-          );
-          tables = omega (
-            arith,
-            starts s,
-            ap length u.tables,
-            length-append (replicate (tables_words s - 5) 0) (drop (tables_words s) lent.words.tables),
-            length-replicate {A = ℕ} (tables_words s - 5) 0,
-          );
+          cells = omega (arith, ap length u.cells, length-append (replicate (cells_words s) 0) (drop (cells_words s) lent.words.cells), length-replicate {A = ℕ} (cells_words s) 0);
+          remember = omega (arith, ap length u.remember, length-append (replicate (remember_words s - 1) 0) (drop (remember_words s) lent.words.remember), length-replicate {A = ℕ} (remember_words s - 1) 0);
+          tables = omega (arith, starts s, ap length u.tables, length-append (replicate (tables_words s - 5) 0) (drop (tables_words s) lent.words.tables), length-replicate {A = ℕ} (tables_words s - 5) 0);
         };
         depths = λ k l. omega (arith, table-zero (depth_at k) (omega arith) (omega (arith, starts s)));
         pages = λ page l. let o = owner-zero page l in let v = used-zero page l in record {
@@ -114,34 +95,27 @@ module _ (s : Sizes) (lent l : Slices) (range : InRange s) (long : LongEnough s 
             room = omega (arith, none);
             named = λ i l. absurd (omega (arith, none));
             rising = λ i j l m. absurd (omega (arith, none));
-            rest = λ i l m. (
-              remember-zero (slot_at i) (omega arith) (omega arith),
-              remember-zero (slot_region_at s.entries i) (omega arith) (omega arith),
-            );
+            rest = λ i l m. (remember-zero (slot_at i) (omega arith) (omega arith), remember-zero (slot_region_at s.entries i) (omega arith) (omega arith));
           };
           every = λ q l h. let o = cross-slot s w.cells w.tables q h in absurd (no-object o.object o.begins);
         };
         unused = λ q n. cell-zero q n.low;
         counters =
             ap₂ (λ (x y : ℕ). counted (x + y))
-            (sum-none (λ i. count_of s w.tables (suc i)) (regions s)
-            (λ i l. table-zero (count_at s (suc i)) (omega (arith, starts s)) (omega (arith, starts s)))) freed-zero
+            (sum-none (λ i. count_of s w.tables (suc i)) (regions s) (λ i l. table-zero (count_at s (suc i)) (omega (arith, starts s)) (omega (arith, starts s)))) freed-zero
             ∙ counted-small 0 (omega arith) ∙ sym made-zero;
       }
 
   depths-zero : depths_in s w ≡ replicate s.threads 0
-  depths-zero = all-zero (depths_in s w) s.threads (length-depths s w whole)
-      (λ i l. depth-at s w i l ∙ table-zero (depth_at i) (omega arith) (omega (arith, starts s)))
+  depths-zero = all-zero (depths_in s w) s.threads (length-depths s w whole) (λ i l. depth-at s w i l ∙ table-zero (depth_at i) (omega arith) (omega (arith, starts s)))
 
   vars-zero : vars_in s w ≡ replicate (var_count s) 0
-  vars-zero = all-zero (vars_in s w) (var_count s) (length-vars s w whole)
-      (λ i l. get_d-vars s w i l ∙ table-zero (var_at s i) (omega arith) (omega (arith, starts s)))
+  vars-zero = all-zero (vars_in s w) (var_count s) (length-vars s w whole) (λ i l. get_d-vars s w i l ∙ table-zero (var_at s i) (omega arith) (omega (arith, starts s)))
 
   pages-free : pages_in s w ≡ replicate s.pages free_page
   unfolding pages_at
   pages-free =
-      listed_same (page_in s w.tables) (λ i. free_page) s.pages
-      (λ i l. ap₂ (λ (x y : ℕ). record { owner = x; used = y }) (owner-zero i l) (used-zero i l))
+      listed_same (page_in s w.tables) (λ i. free_page) s.pages (λ i l. ap₂ (λ (x y : ℕ). record { owner = x; used = y }) (owner-zero i l) (used-zero i l))
       ∙ listed-all s.pages free_page
 
   unused-stands : StandsFor s w (unused s) (λ x. x)
@@ -170,8 +144,7 @@ module _ (s : Sizes) (lent l : Slices) (range : InRange s) (long : LongEnough s 
   unused-chains =
       record {
         words =
-            ap (take (chains_words s)) u.chains ∙ take_at (replicate (chains_words s) 0) (drop (chains_words s) lent.chains) (chains_words s)
-            (length-replicate (chains_words s) 0)
+            ap (take (chains_words s)) u.chains ∙ take_at (replicate (chains_words s) 0) (drop (chains_words s) lent.chains) (chains_words s) (length-replicate (chains_words s) 0)
             ∙ sym (no-chains s w.remember unused-entries);
       }
 
@@ -186,8 +159,4 @@ prepared-is s lent l p = go p.asked
     go : PrepareAsked s lent 0 → PreparedIs s l
     go (out_of_range e n) = absurd (omega arith)
     go (short e r n) = absurd (omega arith)
-    go (accepted e r k) = record {
-      stands = unused-stands s lent l r k (p.unused refl);
-      entries = unused-entries s lent l r k (p.unused refl);
-      chains = unused-chains s lent l r k (p.unused refl);
-    }
+    go (accepted e r k) = record { stands = unused-stands s lent l r k (p.unused refl); entries = unused-entries s lent l r k (p.unused refl); chains = unused-chains s lent l r k (p.unused refl) }

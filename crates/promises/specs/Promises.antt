@@ -15,7 +15,7 @@ use Rattle.layout.specs.Words.{Words, sizes_in, depth_in, owner_in, heap_of}
 use Rattle.chains.specs.Chains.{ChainsWhole, with_chains}
 use Rattle.promises.specs.Whole.{WholeWords}
 use Rattle.promises.specs.Slices.{Slices, WholeSlices}
-use Rattle.promises.specs.StandsFor.{StandsFor, SameBeyond}
+use Rattle.promises.specs.StandsFor.{StandsFor, SameFrom, SameBeyond}
 use Rattle.promises.specs.WordsOf.{laid}
 
 -- ---- one command
@@ -28,13 +28,11 @@ Slides collects r = r ≡ control
 Slides (makes a b c) r = ⊥
 Slides (assigns x) r = ⊥
 
--- w' stands for the heap h' after command m, in which the objects of h whose home did not change have kept their cells, but for those that it may
--- slide
+-- w' stands for the heap h' after command m, in which the objects of h whose home did not change have kept their cells, but for those that it may slide
 pub record Became (s : Sizes) (h : Regioned) (cell_of : ℕ → ℕ) (m : Command) (w' : Words) (h' : Regioned) : Type 0 where
   pub cell : ℕ → ℕ
   pub stands : StandsFor s w' h' cell
-  pub stays : (x : ℕ) → Alive (graph h) x → (graph h').home x ≡ (graph h).home x → (Slides (meaning_of m).effect ((graph h).home x) → ⊥)
-      → cell x ≡ cell_of x
+  pub stays : (x : ℕ) → Alive (graph h) x → (graph h').home x ≡ (graph h).home x → (Slides (meaning_of m).effect ((graph h).home x) → ⊥) → cell x ≡ cell_of x
 
 -- what a command of thread t does frees all pages of region r: an end, of the thread's innermost region
 abbrev pub Frees : Sizes → Words → ℕ → Effect → ℕ → Type 0
@@ -69,10 +67,10 @@ pub record Did (s : Sizes) (w : Words) (m : Command) (w' : Words) (a : Answer) :
 
 -- ---- a list of commands
 
-pub data Obeying (s : Sizes) : Words → List Command → List Answer → Words → Type 0 where
-  none : {w : Words} → Obeying s w [] [] w
+pub data Chain (s : Sizes) : Words → List Command → List Answer → Words → Type 0 where
+  none : {w : Words} → Chain s w [] [] w
   more : {w w₁ w' : Words} {m : Command} {a : Answer} {ms : List Command} {as' : List Answer}
-      → Did s w m w₁ a → Obeying s w₁ ms as' w' → Obeying s w (m ∷ ms) (a ∷ as') w'
+      → Did s w m w₁ a → Chain s w₁ ms as' w' → Chain s w (m ∷ ms) (a ∷ as') w'
 
 -- five words to a command, two to an answer
 abbrev pub command_at : List ℕ → ℕ → Command
@@ -92,15 +90,6 @@ commands_in block = listed (command_at block) (size block)
 abbrev pub answers_in : List ℕ → List ℕ → List Answer
 answers_in block answers = listed (answer_at answers) (size block)
 
--- the words of answers, number and value of each
-unfoldable pub answer_words : List Answer → List ℕ
-answer_words [] = []
-answer_words (a ∷ as') = a.number ∷ a.value ∷ answer_words as'
-
--- a lent answer slice with these answers written from its front; its extra words stay
-abbrev pub answered : List Answer → List ℕ → List ℕ
-answered as' lent = answer_words as' ++ drop (2 * length as') lent
-
 -- ---- run
 
 -- the questions 3, 16, 4 and 5 in order: q is the first that says no, 0 if none does
@@ -111,15 +100,13 @@ pub data RunAsked (l : Slices) (block lent : List ℕ) (q : ℕ) : Type 0 where
   short : q ≡ 5 → WholeSlices l → length block % 5 ≡ 0 → length lent < 2 * size block → RunAsked l block lent q
   accepted : q ≡ 0 → WholeSlices l → length block % 5 ≡ 0 → 2 * size block ≤ length lent → RunAsked l block lent q
 
--- run on the slices l with a block and a lent answer slice gave q, and left l' and the answers: on refusal all as they were; else each command did
--- what it promises, the chains are those of the remember table, and the answer slice has the answers of the rules' run on the heap that the words
--- make
+-- run on the slices l with a block and a lent answer slice gave q, and left l' and the answers
 pub record Ran (l : Slices) (block lent : List ℕ) (q : ℕ) (l' : Slices) (answers : List ℕ) : Type 0 where
   pub asked : RunAsked l block lent q
   pub refused : (q ≡ 0 → ⊥) → (l' ≡ l) × (answers ≡ lent)
-  pub obeyed : q ≡ 0 → Obeying (sizes_in l.words) l.words (commands_in block) (answers_in block answers) l'.words
+  pub obeyed : q ≡ 0 → Chain (sizes_in l.words) l.words (commands_in block) (answers_in block answers) l'.words
   pub chains : q ≡ 0 → l'.chains ≡ with_chains (sizes_in l.words) l'.words.remember l.chains
-  pub written : q ≡ 0 → answers ≡ answered (ru.run (sizes_in l.words) (heap_of (sizes_in l.words) l.words) (commands_in block)).answers lent
+  pub spare : SameFrom (2 * size block) lent answers
 
 -- ---- prepare
 
@@ -135,12 +122,10 @@ pub data PrepareAsked (s : Sizes) (l : Slices) (q : ℕ) : Type 0 where
   short : q ≡ 2 → InRange s → (LongEnough s l → ⊥) → PrepareAsked s l q
   accepted : q ≡ 0 → InRange s → LongEnough s l → PrepareAsked s l q
 
--- the words of an unused heap, every one up to the lengths; no cell is in use, so all of them are zero (02, W1), and no entry is, so the chains
--- are (02, W6)
+-- the words of an unused heap, every one up to the lengths; no cell is in use, so all of them are zero (02, W1), and no entry is, so the chains are (02, W6)
 pub record Unused (s : Sizes) (l l' : Slices) : Type 0 where
   pub tables :
-      l'.words.tables ≡ s.threads ∷ s.variables ∷ s.depth ∷ s.pages ∷ s.entries ∷ replicate (tables_words s - 5) 0
-      ++ drop (tables_words s) l.words.tables
+      l'.words.tables ≡ s.threads ∷ s.variables ∷ s.depth ∷ s.pages ∷ s.entries ∷ replicate (tables_words s - 5) 0 ++ drop (tables_words s) l.words.tables
   pub remember : l'.words.remember ≡ s.entries ∷ replicate (remember_words s - 1) 0 ++ drop (remember_words s) l.words.remember
   pub cells : l'.words.cells ≡ replicate (cells_words s) 0 ++ drop (cells_words s) l.words.cells
   pub chains : l'.chains ≡ replicate (chains_words s) 0 ++ drop (chains_words s) l.chains

@@ -101,17 +101,13 @@ module _ (s : Sizes) (w : Words) (k : WholeFor s w) (m : Command) where
 no-new-pages : (s : Sizes) (g h : Graph) → g.count ≡ h.count → g.home ≡ h.home → new_pages s g h ≡ 0
 unfolding new_pages objects_in
 no-new-pages s g h c e =
-    sum-none _ (regions s) (λ i l. ap₂ (λ (n : ℕ) (f : ℕ → ℕ).
-    pages_of (objects_in (record { count = n; home = f; refs = h.refs; vars = h.vars }) (suc i)) - pages_of (objects_in g (suc i))) (sym c) (sym e)
-    ∙ sub_self _)
+    sum-none _ (regions s) (λ i l. ap₂ (λ (n : ℕ) (f : ℕ → ℕ). pages_of (objects_in (record { count = n; home = f; refs = h.refs; vars = h.vars }) (suc i)) - pages_of (objects_in g (suc i))) (sym c) (sym e) ∙ sub_self _)
 
-module _ (s : Sizes) (h h' : Regioned) (m : Command) (n : ru.after s h m ≡ h') (count : (graph h).count ≡ (graph h').count)
-    (home : (graph h).home ≡ (graph h').home) where
+module _ (s : Sizes) (h h' : Regioned) (m : Command) (n : ru.after s h m ≡ h') (count : (graph h).count ≡ (graph h').count) (home : (graph h).home ≡ (graph h').home) where
   -- where no object comes or moves, 13 does not say no
   pub pages-fine : leb (new_pages s (graph h) (graph (ru.after s h m))) (free_pages s (graph h)) ≡ true
   pages-fine =
-      let z : new_pages s (graph h) (graph (ru.after s h m))
-      ≡ 0 = ap (λ (g : Regioned). new_pages s (graph h) (graph g)) n ∙ no-new-pages s (graph h) (graph h') count home in
+      let z : new_pages s (graph h) (graph (ru.after s h m)) ≡ 0 = ap (λ (g : Regioned). new_pages s (graph h) (graph g)) n ∙ no-new-pages s (graph h) (graph h') count home in
       le-leb (new_pages s (graph h) (graph (ru.after s h m))) (free_pages s (graph h)) (omega arith)
 
   -- 14, asked of a store and an end, is then the only one
@@ -158,14 +154,10 @@ module _ (s : Sizes) (w : Words) (k : WholeFor s w) where
     field-word zero r p l = absurd (let o : ⊥ = omega arith in o)
     field-word (suc y) r p l =
         let e : suc y - 1 ≡ y = omega arith in
-        rw e (ap (λ (vs : List ℕ). get_or vs f 0) (fields-heap d y (ref-begins s w.cells w.tables (suc y) y r refl))
-        ∙ get_d-fields d w y f (subst (λ (z : ℕ). f < field_count d (head_of w.cells z)) e l))
+        rw e (ap (λ (vs : List ℕ). get_or vs f 0) (fields-heap d y (ref-begins s w.cells w.tables (suc y) y r refl)) ∙ get_d-fields d w y f (subst (λ (z : ℕ). f < field_count d (head_of w.cells z)) e l))
 
     -- the questions of variable a of thread t
     pub asked-field : (t a : ℕ) → t < s.threads → a < s.variables
-        → used (var_of (limits s) (heap_of s w).heap t a) f
-        (length (fields_of d (object_of (heap_of s w).heap (var_of (limits s) (heap_of s w).heap t a))))
-        ≡ used (var_in s w t a) f (field_count d (head_of w.cells (var_in s w t a - 1)))
+        → used (var_of (limits s) (heap_of s w).heap t a) f (length (fields_of d (object_of (heap_of s w).heap (var_of (limits s) (heap_of s w).heap t a)))) ≡ used (var_in s w t a) f (field_count d (head_of w.cells (var_in s w t a - 1)))
     asked-field t a l n =
-        ap (λ (v : ℕ). used v f (length (fields_of d (object_of (heap_of s w).heap v)))) (here-var s w t a l n)
-        ∙ used-fields (var_in s w t a) (var-ref t a l n)
+        ap (λ (v : ℕ). used v f (length (fields_of d (object_of (heap_of s w).heap v)))) (here-var s w t a l n) ∙ used-fields (var_in s w t a) (var-ref t a l n)

@@ -14,16 +14,13 @@ use Rattle.laws.specs.GraphLaws.{Alive, Closed}
 use Rattle.layout.specs.declared.Kind.{Kind}
 use Rattle.layout.specs.declared.Kind.TheVariants.{Reference}
 use Rattle.layout.specs.Places.{Room, room, depth_at, var_at, var_of, tables_words, count_room, count-is, owners_from, var_count}
-use Rattle.layout.specs.Cells.{field_at, field_of, field_count, first_field, kind_at, most_fields, room_for, kind-among, first-reference, fields-room}
-use Rattle.layout.specs.Cells.{page_of, CellIn, cell_named}
+use Rattle.layout.specs.Cells.{field_at, field_of, field_count, first_field, kind_at, most_fields, room_for, kind-among, first-reference, fields-room, page_of, CellIn, cell_named}
 use Rattle.layout.specs.Cells as ly
-use Rattle.layout.specs.Words.{Words, depth_in, var_in, owner_in, depths_in, vars_in, head_in, ref_count, fields_in, refs_in, home_in, graph_of, depths_at}
-use Rattle.layout.specs.Words.{home_at, fields_at, vars_at, Begins, BeginsIn}
+use Rattle.layout.specs.Words.{Words, depth_in, var_in, owner_in, depths_in, vars_in, head_in, ref_count, fields_in, refs_in, home_in, graph_of, depths_at, home_at, fields_at, vars_at, Begins, BeginsIn}
 use Rattle.layout.specs.Objects.{cell_count, begins-used, begins-low, begins-true, begins-false, fields-inside, begins?}
 use Rattle.promises.specs.Whole.{Sized, WholeFor, IsRef}
 
-pub get_d-fields : (d : Kind) (w : Words) (c i : ℕ) → i < field_count d (head_in w c)
-    → get_or (fields_in d w c) i 0 ≡ get_or w.cells (kind_at d w.cells c i) 0
+pub get_d-fields : (d : Kind) (w : Words) (c i : ℕ) → i < field_count d (head_in w c) → get_or (fields_in d w c) i 0 ≡ get_or w.cells (kind_at d w.cells c i) 0
 unfolding fields_at
 get_d-fields d w c i l =
     let at = field_at c (first_field d (head_in w c)) in
@@ -32,8 +29,7 @@ get_d-fields d w c i l =
 
 -- references are the first fields
 pub get_d-refs : (w : Words) (c i : ℕ) → i < ref_count w c → get_or (refs_in w c) i 0 ≡ field_of w.cells c i
-get_d-refs w c i l = get_d-fields Reference w c i l
-    ∙ ap (field_of w.cells c) (let e : first_field Reference (head_in w c) + i ≡ i = omega (arith, first-reference (head_in w c)) in e)
+get_d-refs w c i l = get_d-fields Reference w c i l ∙ ap (field_of w.cells c) (let e : first_field Reference (head_in w c) + i ≡ i = omega (arith, first-reference (head_in w c)) in e)
 
 pub get_d-vars : (s : Sizes) (w : Words) (i : ℕ) → i < var_count s → get_or (vars_in s w) i 0 ≡ var_of s w.tables i
 unfolding vars_at
@@ -90,12 +86,7 @@ module _ (s : Sizes) (w : Words) (k : WholeFor s w) where
   unfolding fields_at
   length_fields d c u =
       length-take-le (field_count d (head_in w c)) (drop (field_at c (first_field d (head_in w c))) w.cells)
-      (simp length-drop (omega (
-        arith,
-        fields-inside s w.cells w.tables c u (first_field d (head_in w c) + field_count d (head_in w c))
-            (omega (arith, kind-among d (head_in w c), fields-room (head_in w c) (k.objects c u).head)),
-        k.sized.cells,
-      )))
+      (simp length-drop (omega (arith, fields-inside s w.cells w.tables c u (first_field d (head_in w c) + field_count d (head_in w c)) (omega (arith, kind-among d (head_in w c), fields-room (head_in w c) (k.objects c u).head)), k.sized.cells)))
 
   pub length-refs : (c : ℕ) → BeginsIn s w c → length (refs_in w c) ≡ ref_count w c
   length-refs = length_fields Reference
@@ -126,8 +117,7 @@ module _ (s : Sizes) (w : Words) (k : WholeFor s w) where
       let u = alive-used s w c a in
       let r = in_place (refs_in w c) (suc y) i in
       let l : r.0 < ref_count w c = omega (arith, r.1, length-refs c u) in
-      used-alive y (ref-begins s w.cells w.tables (field_of w.cells c r.0) y ((k.objects c u).references r.0 l)
-      (sym (get_d-refs w c r.0 l) ∙ r.2))
+      used-alive y (ref-begins s w.cells w.tables (field_of w.cells c r.0) y ((k.objects c u).references r.0 l) (sym (get_d-refs w c r.0 l) ∙ r.2))
 
   pub words-closed : Closed (graph_of s w)
   words-closed =

@@ -22,8 +22,7 @@ whole-regular k = record { pages = λ page l. (k.pages page l).filled; partial =
 -- two partly filled pages of a region are one
 pub one : {s : Sizes} {t : List ℕ} {g a b : ℕ} → Regular s t → 1 ≤ g → a < s.pages → b < s.pages → Partial s t g a → Partial s t g b → a ≡ b
 one {a = a} {b} r pos l m x y =
-    by_cases (dec_lt a b) (λ h. absurd (r.partial _ pos a b h m x y))
-    (λ h. by_cases (dec_lt b a) (λ d. absurd (r.partial _ pos b a d l y x)) (λ d. omega arith))
+    by_cases (dec_lt a b) (λ h. absurd (r.partial _ pos a b h m x y)) (λ h. by_cases (dec_lt b a) (λ d. absurd (r.partial _ pos b a d l y x)) (λ d. omega arith))
 
 -- ---- the objects of a page
 

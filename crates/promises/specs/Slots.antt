@@ -18,8 +18,7 @@ pub region-of : (p : Sizes) (t : List ℕ) (c : ℕ) → page_of c < p.pages →
 region-of p t c l = sym (region-there p t (suc c) (λ (z : suc c ≡ 0). omega arith) (let e : c ≡ suc c - 1 = omega arith in e) refl l refl)
 
 -- an object that keeps its word 0 keeps its slots
-pub slot-stays : {p : Sizes} {c t c' t' : List ℕ} {q : ℕ} (o : Slot p c t q) → Begins p c' t' o.object
-    → head_of c' o.object ≡ head_of c o.object → Slot p c' t' q
+pub slot-stays : {p : Sizes} {c t c' t' : List ℕ} {q : ℕ} (o : Slot p c t q) → Begins p c' t' o.object → head_of c' o.object ≡ head_of c o.object → Slot p c' t' q
 slot-stays {c' = c'} o b e =
     record {
       object = o.object;
@@ -37,8 +36,7 @@ module _ (p : Sizes) (c t c' t' : List ℕ) (q : ℕ) where
       → (Slot p c' t' q → Slot p c t q ⊎ (crosses_at p c' t' q ≡ 0)) → cross_to p c' t' q ≡ cross_to p c t q
   cross-same kept new =
       by_cases (slot? p c t q) (λ o. let k = kept o in slot-cross p c' t' q k.0 ∙ k.1 ∙ sym (slot-cross p c t q o))
-      (λ n. by_cases (slot? p c' t' q) (λ o. slot-cross p c' t' q o ∙ ⊎_elim (λ x. absurd (n x)) (λ z. z) (new o)) (no-cross p c' t' q)
-      ∙ sym (no-cross p c t q n))
+      (λ n. by_cases (slot? p c' t' q) (λ o. slot-cross p c' t' q o ∙ ⊎_elim (λ x. absurd (n x)) (λ z. z) (new o)) (no-cross p c' t' q) ∙ sym (no-cross p c t q n))
 
 -- so where owners, used words and heads are the same, by the words of the slots
 module _ (p : Sizes) (c t c' t' : List ℕ) (used : (page : ℕ) → page < p.pages → used_of p t' page ≡ used_of p t page)
@@ -52,8 +50,7 @@ module _ (p : Sizes) (c t c' t' : List ℕ) (used : (page : ℕ) → page < p.pa
   module _ (owners : (page : ℕ) → page < p.pages → owner_of p t' page ≡ owner_of p t page) where
     region-same : (x : ℕ) → region_of p t' x ≡ region_of p t x
     region-same x =
-        by_cases (dec_lt (page_of (x - 1)) p.pages) (λ l.
-        ap (λ (n : ℕ). cond (eqb x 0) 0 (cond (ltb (page_of (x - 1)) p.pages) n 0)) (owners (page_of (x - 1)) l))
+        by_cases (dec_lt (page_of (x - 1)) p.pages) (λ l. ap (λ (n : ℕ). cond (eqb x 0) 0 (cond (ltb (page_of (x - 1)) p.pages) n 0)) (owners (page_of (x - 1)) l))
         (λ l. rw (le-ltb (page_of (x - 1)) p.pages (omega arith)))
 
     pub cross-alike : (q : ℕ) → (Slot p c t q → get_or c' q 0 ≡ get_or c q 0) → cross_to p c' t' q ≡ cross_to p c t q
@@ -74,8 +71,7 @@ module _ (p : Sizes) (c t : List ℕ) (at x : ℕ) (o : Slot p c t at) where
 
   pub cross-stored : at < length c → cross_to p (set c at x) t at ≡ crosses_to p t (cell_of at) x
   cross-stored l =
-      slot-cross p (set c at x) t at (slot-stays o (begins-kept p c t (set c at x) t (λ page l. refl) head-past o.object o.begins)
-      (head-past o.object o.begins))
+      slot-cross p (set c at x) t at (slot-stays o (begins-kept p c t (set c at x) t (λ page l. refl) head-past o.object o.begins) (head-past o.object o.begins))
       ∙ ap (crosses_to p t (cell_of at)) (put c at x 0 l)
 
   pub cross-elsewhere : Elsewhere (cross_to p c t) (cross_to p (set c at x) t) at

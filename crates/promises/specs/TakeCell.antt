@@ -21,8 +21,7 @@ use Rattle.promises.specs.Frames.{open-frame}
 -- the page is the region's, or it was the highest-numbered free one and the region had none that is partly filled
 abbrev pub Source : Sizes → List ℕ → ℕ → ℕ → Type 0
 Source p t g page =
-    (owner_of p t page ≡ g) ⊎ ((owner_of p t page ≡ 0) × ((q : ℕ) → q < p.pages → Partial p t g q → ⊥)
-    × ((q : ℕ) → q < p.pages → owner_of p t q ≡ 0 → q ≤ page))
+    (owner_of p t page ≡ g) ⊎ ((owner_of p t page ≡ 0) × ((q : ℕ) → q < p.pages → Partial p t g q → ⊥) × ((q : ℕ) → q < p.pages → owner_of p t q ≡ 0 → q ≤ page))
 
 -- region g took the cell: from tables t, which left t', with n as the counter of objects made: one more for a new object, the same for a copy
 pub record Took (p : Sizes) (t : List ℕ) (g cell n : ℕ) (t' : List ℕ) : Type 0 where
@@ -35,15 +34,13 @@ pub record Took (p : Sizes) (t : List ℕ) (g cell n : ℕ) (t' : List ℕ) : Ty
   pub used : used_of p t' (page_of cell) ≡ place_of cell + 1
   pub count : count_of p t' g ≡ count_of p t g + 1
   pub made : made_of p t' ≡ n
-  pub others : (j : ℕ) → (j ≡ owner_at p (page_of cell) → ⊥) → (j ≡ used_at p (page_of cell) → ⊥) → (j ≡ count_at p g → ⊥) → (j ≡ made_at p → ⊥)
-      → get_or t' j 0 ≡ get_or t j 0
+  pub others : (j : ℕ) → (j ≡ owner_at p (page_of cell) → ⊥) → (j ≡ used_at p (page_of cell) → ⊥) → (j ≡ count_at p g → ⊥) → (j ≡ made_at p → ⊥) → get_or t' j 0 ≡ get_or t j 0
 
 -- ---- the words after it: those of the page, then its used cells and the region's count
 
 module _ (s : Sizes) (t : List ℕ) (g page : ℕ) (low : page < s.pages) (room : count_at s g < length t) (real : (1 ≤ g) × (g ≤ regions s)) where
   -- t₁ is t with the page's owner set, or t itself
-  taken : (t₁ : List ℕ) (u : ℕ) → length t₁ ≡ length t → used_of s t page ≡ u → u < page_cells → Source s t g page → owner_of s t₁ page ≡ g
-      → ((j : ℕ) → (j ≡ owner_at s page → ⊥) → get_or t₁ j 0 ≡ get_or t j 0)
+  taken : (t₁ : List ℕ) (u : ℕ) → length t₁ ≡ length t → used_of s t page ≡ u → u < page_cells → Source s t g page → owner_of s t₁ page ≡ g → ((j : ℕ) → (j ≡ owner_at s page → ⊥) → get_or t₁ j 0 ≡ get_or t j 0)
       → Took s t g (cell_on page u) (made_of s t) (set (set t₁ (used_at s page) (u + 1)) (count_at s g) (count_of s t g + 1))
   taken t₁ u l₁ first few source o kept =
       let e : page_of (cell_on page u) ≡ page = page-on page u few in
@@ -68,8 +65,7 @@ module _ (s : Sizes) (t : List ℕ) (g page : ℕ) (low : page < s.pages) (room 
             past t₂ (count_at s g) (count_of s t g + 1) (made_at s) 0 (λ (z : made_at s ≡ count_at s g). omega (arith, count_room s))
             ∙ past t₁ (used_at s page) (u + 1) (made_at s) 0 (λ (z : made_at s ≡ used_at s page). omega (arith, count_room s, count-is s, used-is s))
             ∙ kept (made_at s) (λ (z : made_at s ≡ owner_at s page). omega (arith, count_room s, count-is s));
-        others = λ j a b c d. past t₂ (count_at s g) (count_of s t g + 1) j 0 c
-            ∙ past t₁ (used_at s page) (u + 1) j 0 (λ (z : j ≡ used_at s page). b (omega arith)) ∙ kept j (λ (z : j ≡ owner_at s page). a (omega arith));
+        others = λ j a b c d. past t₂ (count_at s g) (count_of s t g + 1) j 0 c ∙ past t₁ (used_at s page) (u + 1) j 0 (λ (z : j ≡ used_at s page). b (omega arith)) ∙ kept j (λ (z : j ≡ owner_at s page). a (omega arith));
       }
 
   -- a cell of the region's own page
@@ -78,12 +74,10 @@ module _ (s : Sizes) (t : List ℕ) (g page : ℕ) (low : page < s.pages) (room 
   took-own o few = taken t (used_of s t page) refl refl few (inl o) o (λ j n. refl)
 
   -- the first cell of the highest-numbered free page
-  pub took-free : owner_of s t page ≡ 0 → used_of s t page ≡ 0 → ((q : ℕ) → q < s.pages → Partial s t g q → ⊥)
-      → ((q : ℕ) → q < s.pages → owner_of s t q ≡ 0 → q ≤ page)
+  pub took-free : owner_of s t page ≡ 0 → used_of s t page ≡ 0 → ((q : ℕ) → q < s.pages → Partial s t g q → ⊥) → ((q : ℕ) → q < s.pages → owner_of s t q ≡ 0 → q ≤ page)
       → Took s t g (cell_on page 0) (made_of s t) (set (set (set t (owner_at s page) g) (used_at s page) 1) (count_at s g) (count_of s t g + 1))
   took-free o z none highest =
-      taken (set t (owner_at s page) g) 0 (length-set t (owner_at s page) g) z (omega arith) (inr (o, none, highest))
-      (put t (owner_at s page) g 0 (omega (arith, count-is s))) (λ j. past t (owner_at s page) g j 0)
+      taken (set t (owner_at s page) g) 0 (length-set t (owner_at s page) g) z (omega arith) (inr (o, none, highest)) (put t (owner_at s page) g 0 (omega (arith, count-is s))) (λ j. past t (owner_at s page) g j 0)
 
 -- ---- what it leaves as it was
 
@@ -92,21 +86,16 @@ module _ {s : Sizes} {t : List ℕ} {g cell n : ℕ} {t' : List ℕ} (k : Took s
   page-past page l d =
       record {
         owner =
-            k.others (owner_at s page) (λ (e : owner_at s page ≡ owner_at s (page_of cell)). d (omega arith))
-            (λ (e : owner_at s page ≡ used_at s (page_of cell)). omega (arith, used-is s))
-            (λ (e : owner_at s page ≡ count_at s g). omega (arith, count-is s))
-            (λ (e : owner_at s page ≡ made_at s). omega (arith, count_room s, count-is s));
+            k.others (owner_at s page) (λ (e : owner_at s page ≡ owner_at s (page_of cell)). d (omega arith)) (λ (e : owner_at s page ≡ used_at s (page_of cell)). omega (arith, used-is s))
+            (λ (e : owner_at s page ≡ count_at s g). omega (arith, count-is s)) (λ (e : owner_at s page ≡ made_at s). omega (arith, count_room s, count-is s));
         used =
-            k.others (used_at s page) (λ (e : used_at s page ≡ owner_at s (page_of cell)). omega (arith, used-is s, k.page))
-            (λ (e : used_at s page ≡ used_at s (page_of cell)). d (omega arith))
-            (λ (e : used_at s page ≡ count_at s g). omega (arith, used-is s, count-is s))
-            (λ (e : used_at s page ≡ made_at s). omega (arith, count_room s, used-is s, count-is s));
+            k.others (used_at s page) (λ (e : used_at s page ≡ owner_at s (page_of cell)). omega (arith, used-is s, k.page)) (λ (e : used_at s page ≡ used_at s (page_of cell)). d (omega arith))
+            (λ (e : used_at s page ≡ count_at s g). omega (arith, used-is s, count-is s)) (λ (e : used_at s page ≡ made_at s). omega (arith, count_room s, used-is s, count-is s));
       }
 
   pub count_past : (q : ℕ) → 1 ≤ q → q ≤ regions s → 1 ≤ g → (q ≡ g → ⊥) → count_of s t' q ≡ count_of s t q
   count_past q a l b d =
-      k.others (count_at s q) (λ (e : count_at s q ≡ owner_at s (page_of cell)). omega (arith, count-is s, k.page))
-      (λ (e : count_at s q ≡ used_at s (page_of cell)). omega (arith, used-is s, count-is s, k.page))
+      k.others (count_at s q) (λ (e : count_at s q ≡ owner_at s (page_of cell)). omega (arith, count-is s, k.page)) (λ (e : count_at s q ≡ used_at s (page_of cell)). omega (arith, used-is s, count-is s, k.page))
       (λ (e : count_at s q ≡ count_at s g). d (omega arith)) (λ (e : count_at s q ≡ made_at s). omega (arith, count_room s))
 
   -- ---- cells in use
@@ -122,10 +111,7 @@ module _ {s : Sizes} {t : List ℕ} {g cell n : ℕ} {t' : List ℕ} (k : Took s
   took-covers head q e = subst (InUse s t') (sym (covers-cell cell head q e)) took-used
 
   pub took-not-in-use : (head q : ℕ) → Covers cell head q → NotInUse s t q
-  took-not-in-use head q e = record {
-    low = covers_low s cell head q k.page e;
-    unused = λ u. took-unused (subst (InUse s t) (covers-cell cell head q e) u);
-  }
+  took-not-in-use head q e = record { low = covers_low s cell head q k.page e; unused = λ u. took-unused (subst (InUse s t) (covers-cell cell head q e) u) }
 
   pub still-used : (c : ℕ) → InUse s t c → InUse s t' c
   still-used c u =
@@ -148,11 +134,9 @@ took-only s w g cell n t' k pos low =
     let m = among-both a (owner_words ∷ []) (used_words ∷ count_words ∷ made_words ∷ []) n in
     let o = among-both a (used_words ∷ []) (count_words ∷ made_words ∷ []) m.1 in
     let q = among-both a (count_words ∷ []) (made_words ∷ []) o.1 in
-    k.others j (arrays-apart s a owner_words j _ m.0 x (omega (arith, starts s, k.page)))
-    (arrays-apart s a used_words j _ o.0 x (omega (arith, starts s, k.page)))
+    k.others j (arrays-apart s a owner_words j _ m.0 x (omega (arith, starts s, k.page))) (arrays-apart s a used_words j _ o.0 x (omega (arith, starts s, k.page)))
     (arrays-apart s a count_words j _ q.0 x (omega (arith, starts s))) (arrays-apart s a made_words j _ q.1 x (omega (arith, starts s))))
-    (λ j l. k.others j (λ (e : j ≡ owner_at s (page_of cell)). omega (arith, k.page, count_room s, count-is s))
-    (λ (e : j ≡ used_at s (page_of cell)). omega (arith, k.page, count_room s, count-is s, used-is s))
+    (λ j l. k.others j (λ (e : j ≡ owner_at s (page_of cell)). omega (arith, k.page, count_room s, count-is s)) (λ (e : j ≡ used_at s (page_of cell)). omega (arith, k.page, count_room s, count-is s, used-is s))
     (λ (e : j ≡ count_at s g). omega (arith, count_room s)) (λ (e : j ≡ made_at s). omega (arith, count_room s)))
 
 -- the objects of all regions are one more
@@ -164,13 +148,11 @@ took-live s t g cell n t' k pos low =
       k.count,
       ap (count_of s t') e,
       ap (count_of s t) e,
-      sum-change (λ i. count_of s t' (suc i)) (λ i. count_of s t (suc i)) (g - 1) (regions s) (omega arith)
-          (λ i l d. count_past k (suc i) (omega arith) (omega arith) pos (λ (z : suc i ≡ g). d (omega arith))),
+      sum-change (λ i. count_of s t' (suc i)) (λ i. count_of s t (suc i)) (g - 1) (regions s) (omega arith) (λ i l d. count_past k (suc i) (omega arith) (omega arith) pos (λ (z : suc i ≡ g). d (omega arith))),
     )
 
 -- the counter is set: a new object
-pub took-made : {s : Sizes} {t : List ℕ} {g cell n : ℕ} (m : ℕ) {t' : List ℕ} → Took s t g cell n t' → 1 ≤ g → g ≤ regions s → made_at s < length t'
-    → Took s t g cell m (set t' (made_at s) m)
+pub took-made : {s : Sizes} {t : List ℕ} {g cell n : ℕ} (m : ℕ) {t' : List ℕ} → Took s t g cell n t' → 1 ≤ g → g ≤ regions s → made_at s < length t' → Took s t g cell m (set t' (made_at s) m)
 took-made {s} {t} {g} {cell} {n} m {t'} k pos low long =
     let kept : (j : ℕ) → (j ≡ made_at s → ⊥) → get_or (set t' (made_at s) m) j 0 ≡ get_or t' j 0 = λ j. past t' (made_at s) m j 0 in
     record {
@@ -178,10 +160,8 @@ took-made {s} {t} {g} {cell} {n} m {t'} k pos low long =
       first = k.first;
       source = k.source;
       long = length-set t' (made_at s) m ∙ k.long;
-      owner = kept (owner_at s (page_of cell)) (λ (e : owner_at s (page_of cell) ≡ made_at s). omega (arith, k.page, count_room s, count-is s))
-          ∙ k.owner;
-      used = kept (used_at s (page_of cell)) (λ (e : used_at s (page_of cell) ≡ made_at s). omega (arith, k.page, count_room s, count-is s, used-is s))
-          ∙ k.used;
+      owner = kept (owner_at s (page_of cell)) (λ (e : owner_at s (page_of cell) ≡ made_at s). omega (arith, k.page, count_room s, count-is s)) ∙ k.owner;
+      used = kept (used_at s (page_of cell)) (λ (e : used_at s (page_of cell) ≡ made_at s). omega (arith, k.page, count_room s, count-is s, used-is s)) ∙ k.used;
       count = kept (count_at s g) (λ (e : count_at s g ≡ made_at s). omega (arith, count_room s)) ∙ k.count;
       made = put t' (made_at s) m 0 long;
       others = λ j a b c d. kept j d ∙ k.others j a b c d;
@@ -195,8 +175,7 @@ module _ {s : Sizes} {t : List ℕ} {g cell n : ℕ} {t' : List ℕ} (r : Regula
   owner-used c u =
       by_cases (ℕ_discrete (page_of c) (page_of cell))
       (λ e.
-      let was : owner_of s t (page_of cell) ≡ g = ⊎_elim (λ o. o)
-      (λ o. absurd (let z : ⊥ = omega (arith, u.place, (r.pages (page_of c) u.page).free (ap (owner_of s t) e ∙ o.0)) in z)) k.source in
+      let was : owner_of s t (page_of cell) ≡ g = ⊎_elim (λ o. o) (λ o. absurd (let z : ⊥ = omega (arith, u.place, (r.pages (page_of c) u.page).free (ap (owner_of s t) e ∙ o.0)) in z)) k.source in
       ap (owner_of s t') e ∙ k.owner ∙ sym was ∙ sym (ap (owner_of s t) e))
       (λ d. (page-past k (page_of c) u.page d).owner)
 
@@ -241,18 +220,13 @@ module _ {s : Sizes} {t : List ℕ} {g cell n : ℕ} {t' : List ℕ} (r : Regula
 
     pub took-objects : objects_of s t' g ≡ objects_of s t g + 1
     took-objects =
-        omega (
-          arith,
-          on-page k.source,
-          sum-change (objects_on s t' g) (objects_on s t g) (page_of cell) s.pages k.page (λ page l d. on_same (page-past k page l d) g),
-        )
+        omega (arith, on-page k.source, sum-change (objects_on s t' g) (objects_on s t g) (page_of cell) s.pages k.page (λ page l d. on_same (page-past k page l d) g))
 
     pub took-objects-other : (q : ℕ) → 1 ≤ q → (q ≡ g → ⊥) → objects_of s t' q ≡ objects_of s t q
     took-objects-other q z n =
         sum_same (objects_on s t' q) (objects_on s t q) s.pages
         (λ page l. by_cases (ℕ_discrete page (page_of cell))
-        (λ e. objects-no s t' q page (λ x. n (sym x ∙ ap (owner_of s t') e ∙ k.owner))
-        ∙ sym (objects-no s t q page (λ x. was k.source (ap (owner_of s t) (sym e) ∙ x))))
+        (λ e. objects-no s t' q page (λ x. n (sym x ∙ ap (owner_of s t') e ∙ k.owner)) ∙ sym (objects-no s t q page (λ x. was k.source (ap (owner_of s t) (sym e) ∙ x))))
         (λ d. on_same (page-past k page l d) q))
       where
         was : Source s t g (page_of cell) → owner_of s t (page_of cell) ≡ q → ⊥
@@ -265,14 +239,12 @@ module _ {s : Sizes} {t : List ℕ} {g cell n : ℕ} {t' : List ℕ} (r : Regula
           pages = took-filled;
           partial = took-partial;
           counts = λ q z l. by_cases (ℕ_discrete q g)
-              (λ e. subst (λ (i : ℕ). count_of s t' i ≡ objects_of s t' i) (sym e)
-              (omega (arith, k.count, r.counts g pos (omega arith), took-objects)))
+              (λ e. subst (λ (i : ℕ). count_of s t' i ≡ objects_of s t' i) (sym e) (omega (arith, k.count, r.counts g pos (omega arith), took-objects)))
               (λ n. count_past k q z l pos n ∙ r.counts q z l ∙ sym (took-objects-other q z n));
         }
 
 -- and pages are whole, where the region is open
-pub took-pages : {s : Sizes} {w : Words} {g cell n : ℕ} {t' : List ℕ} → WholeFor s w → Took s w.tables g cell n t' → 1 ≤ g → g ≤ regions s
-    → (1 < g → Open s w.tables g)
+pub took-pages : {s : Sizes} {w : Words} {g cell n : ℕ} {t' : List ℕ} → WholeFor s w → Took s w.tables g cell n t' → 1 ≤ g → g ≤ regions s → (1 < g → Open s w.tables g)
     → PagesWhole s (with_tables w t')
 took-pages {s} {w} {g} {cell} {n} {t'} whole k pos low open' page l =
     let open-past : (q : ℕ) → Open s w.tables q → Open s t' q = open-frame (took-only s w g cell n t' k pos low) refl in
@@ -280,6 +252,5 @@ took-pages {s} {w} {g} {cell} {n} {t'} whole k pos low open' page l =
       filled = (took-regular (whole-regular whole) k pos).pages page l;
       region = λ z. by_cases (ℕ_discrete page (page_of cell))
           (λ e. let a : owner_of s t' page ≡ g = ap (owner_of s t') e ∙ k.owner in subst (Open s t') (sym a) (open-past g (open' (omega arith))))
-          (λ d. let a = (page-past k page l d).owner in subst (Open s t') (sym a)
-          (open-past (owner_of s w.tables page) ((whole.pages page l).region (omega arith))));
+          (λ d. let a = (page-past k page l d).owner in subst (Open s t') (sym a) (open-past (owner_of s w.tables page) ((whole.pages page l).region (omega arith))));
     }

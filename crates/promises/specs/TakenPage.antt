@@ -8,7 +8,7 @@ use Rattle.lists.specs.Tests.{both_true}
 use Rattle.lists.specs.Counting.{bit, sum, sum_same}
 use Rattle.rules.specs.declared.Sizes.{Sizes}
 use Rattle.rules.specs.Terms.{first}
-use Rattle.rules.specs.Pages.{Page, free_page, nth_page, highest, is_free, free_among, is_partial, page_for, CellTaken, take_on, take_cell}
+use Rattle.rules.specs.Pages.{Page, free_page, nth_page, highest, is_free, free_among, is_partial, page_for, Taken, take_on, take}
 use Rattle.laws.specs.Highest.{highest-is, highest-none}
 use Rattle.layout.specs.Places.{owner_of, used_of}
 use Rattle.layout.specs.Cells.{page_cells, page_of, place_of}
@@ -42,8 +42,7 @@ module _ (s : Sizes) (t : List ℕ) (page : ℕ) (l : page < s.pages) where
 -- ---- the page that a new object goes to
 
 module _ (s : Sizes) (t : List ℕ) (g : ℕ) where
-  page-for : {a b : ℕ} → highest (is_partial (pages_at s t) g) s.pages ≡ a → highest (is_free (pages_at s t)) s.pages ≡ b
-      → page_for (pages_at s t) g ≡ first a b
+  page-for : {a b : ℕ} → highest (is_partial (pages_at s t) g) s.pages ≡ a → highest (is_free (pages_at s t)) s.pages ≡ b → page_for (pages_at s t) g ≡ first a b
   unfolding page_for
   page-for e f =
       ap (λ (n : ℕ). first (highest (is_partial (pages_at s t) g) n) (highest (is_free (pages_at s t)) n)) (pages-count s t) ∙ ap₂ first e f
@@ -63,8 +62,7 @@ module _ (s : Sizes) (t : List ℕ) (g : ℕ) where
       page-for (none-partial none)
       (highest-is (is_free (pages_at s t)) s.pages page l (free-there s t page l e) (λ q m f. top q m (there-free s t q m f)))
 
-  pub page-for-source : Regular s t → 1 ≤ g → (page : ℕ) → page < s.pages → used_of s t page < page_cells → Source s t g page
-      → page_for (pages_at s t) g ≡ suc page
+  pub page-for-source : Regular s t → 1 ≤ g → (page : ℕ) → page < s.pages → used_of s t page < page_cells → Source s t g page → page_for (pages_at s t) g ≡ suc page
   page-for-source r pos page l u (inl e) = page-for-partial r pos page l (record { owner = e; part = u })
   page-for-source r pos page l u (inr e) = page-for-free page l e.0 e.1 e.2
 
@@ -82,12 +80,10 @@ pages-changed s t t' page o u l eo eu same =
     at : (q : ℕ) → q < s.pages → Dec (q ≡ page) → page_in s t' q ≡ get_or (set (pages_at s t) page new) q free_page
     at q k (yes e) =
         ap₂ (λ (x y : ℕ). record { owner = x; used = y }) (ap (owner_of s t') e ∙ eo) (ap (used_of s t') e ∙ eu)
-        ∙ sym (ap (λ (i : ℕ). get_or (set (pages_at s t) page new) i free_page) e
-        ∙ get_or-set_same (pages_at s t) page new free_page (omega (arith, pages-count s t)))
+        ∙ sym (ap (λ (i : ℕ). get_or (set (pages_at s t) page new) i free_page) e ∙ get_or-set_same (pages_at s t) page new free_page (omega (arith, pages-count s t)))
     at q k (no n) =
         let b = same q k n in
-        ap₂ (λ (x y : ℕ). record { owner = x; used = y }) b.owner b.used
-        ∙ sym (get_or-set_other (pages_at s t) page q new free_page n ∙ page-there s t q k)
+        ap₂ (λ (x y : ℕ). record { owner = x; used = y }) b.owner b.used ∙ sym (get_or-set_other (pages_at s t) page q new free_page n ∙ page-there s t q k)
 
 -- ---- the free pages
 
@@ -103,17 +99,16 @@ module _ {s : Sizes} {t : List ℕ} {g cell n : ℕ} {t' : List ℕ} (r : Regula
   pub took-page : page_for (pages_at s t) g ≡ suc (page_of cell)
   took-page = page-for-source s t g r pos (page_of cell) k.page (omega (arith, k.first)) k.source
 
-  took-on : take_cell (pages_at s t) g ≡ take_on (pages_at s t) g (page_of cell)
+  took-on : take (pages_at s t) g ≡ take_on (pages_at s t) g (page_of cell)
   took-on = ap (take_on (pages_at s t) g) (let z : page_for (pages_at s t) g - 1 ≡ page_of cell = omega (arith, took-page) in z)
 
   used-there : (nth_page (pages_at s t) (page_of cell)).used ≡ place_of cell
   used-there = ap (λ (q : Page). q.used) (page-there s t (page_of cell) k.page) ∙ k.first
 
-  pub took-takes : (cell ≡ (take_cell (pages_at s t) g).cell) × (pages_at s t' ≡ (take_cell (pages_at s t) g).pages)
+  pub took-takes : (cell ≡ (take (pages_at s t) g).cell) × (pages_at s t' ≡ (take (pages_at s t) g).pages)
   unfolding take_on
   took-takes = (
-    omega (arith, used-there, ap (λ (x : CellTaken). x.cell) took-on),
+    omega (arith, used-there, ap (λ (x : Taken). x.cell) took-on),
     pages-changed s t t' (page_of cell) g (place_of cell + 1) k.page k.owner k.used (page-past k)
-        ∙ sym (ap (λ (x : CellTaken). x.pages) took-on
-        ∙ ap (λ (u : ℕ). set (pages_at s t) (page_of cell) record { owner = g; used = u + 1 }) used-there),
+        ∙ sym (ap (λ (x : Taken). x.pages) took-on ∙ ap (λ (u : ℕ). set (pages_at s t) (page_of cell) record { owner = g; used = u + 1 }) used-there),
   )

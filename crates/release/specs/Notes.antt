@@ -20,8 +20,7 @@ unfoldable pub noted : ℕ → List ℕ → List ℕ → ℕ → List ℕ
 noted pages notes l n = cond (n == 0) notes (cond (nat_lt (above_last pages l n) (slice_index notes 0)) (slice_set notes 0 (above_last pages l n)) notes)
 
 module _ (pages : ℕ) (notes l : List ℕ) (n : ℕ) where
-  noted-is : {a b : Bool} → (n == 0) ≡ a → nat_lt (above_last pages l n) (slice_index notes 0) ≡ b
-      → noted pages notes l n ≡ cond a notes (cond b (slice_set notes 0 (above_last pages l n)) notes)
+  noted-is : {a b : Bool} → (n == 0) ≡ a → nat_lt (above_last pages l n) (slice_index notes 0) ≡ b → noted pages notes l n ≡ cond a notes (cond b (slice_set notes 0 (above_last pages l n)) notes)
   unfolding noted
   noted-is e f = ap₂ (λ (a b : Bool). cond a notes (cond b (slice_set notes 0 (above_last pages l n)) notes)) e f
 
@@ -45,8 +44,7 @@ pub record NoteLowered (pages : ℕ) (notes l : List ℕ) (n : ℕ) (notes' : Li
 pub lowered : (pages : ℕ) (notes l : List ℕ) (n : ℕ) → 0 < length notes → Rises pages n l → NoteLowered pages notes l n (noted pages notes l n)
 lowered pages notes l n some r =
     by_cases (ℕ_discrete n 0)
-    (λ z. subst (NoteLowered pages notes l n) (noted-none pages notes l n z)
-    (record { long = refl; less = omega arith; below = λ i m. absurd (let y : ⊥ = omega arith in y) }))
+    (λ z. subst (NoteLowered pages notes l n) (noted-none pages notes l n z) (record { long = refl; less = omega arith; below = λ i m. absurd (let y : ⊥ = omega arith in y) }))
     (λ z. by_cases (dec_lt (above_last pages l n) (slice_index notes 0))
     (λ h. subst (NoteLowered pages notes l n) (noted-falls pages notes l n z (above_last pages l n) refl h)
     (record {
@@ -62,12 +60,10 @@ lowered pages notes l n some r =
 
     last : (i : ℕ) → i < n → slice_index l i ≤ slice_index l (n - 1)
     last i m =
-        by_cases (ℕ_discrete i (n - 1)) (λ e. omega (arith, ap (λ (x : ℕ). slice_index l x) e))
-        (λ e. omega (arith, r.rising i (n - 1) (omega arith) (omega arith)))
+        by_cases (ℕ_discrete i (n - 1)) (λ e. omega (arith, ap (λ (x : ℕ). slice_index l x) e)) (λ e. omega (arith, r.rising i (n - 1) (omega arith) (omega arith)))
 
 -- the notes are right again once the listed pages of region r are free
-pub ended-noted : {p : Sizes} {r t k n : ℕ} {T T' l notes notes' : List ℕ} → Room p (length T) → 1 ≤ r → r ≤ regions p → t < p.threads
-    → Ended p r t k T T'
+pub ended-noted : {p : Sizes} {r t k n : ℕ} {T T' l notes notes' : List ℕ} → Room p (length T) → 1 ≤ r → r ≤ regions p → t < p.threads → Ended p r t k T T'
     → Lists (λ page. owner_of p T page ≡ r) p.pages n l → Noted p T notes → notes' ≡ noted p.pages notes l n → Noted p T' notes'
 ended-noted {p} {r} {t} {k} {n} {T} {T'} {l} {notes} room real low thread h list a e =
     subst (Noted p T') (sym e)

@@ -9,8 +9,7 @@ use Rattle.rules.specs.declared.Sizes.{Sizes}
 use Rattle.rules.specs.Regions.{regions}
 use Rattle.rules.specs.Rules.{counted}
 use Rattle.lists.specs.Counting.{sum_same, sum-none}
-use Rattle.layout.specs.Places.{Room, depth_at, owner_at, used_at, mark_at, count_at, depth_of, owner_of, used_of, mark_of, count_of, freed_at, freed_of}
-use Rattle.layout.specs.Places.{counts_from, owners_from}
+use Rattle.layout.specs.Places.{Room, depth_at, owner_at, used_at, mark_at, count_at, depth_of, owner_of, used_of, mark_of, count_of, freed_at, freed_of, counts_from, owners_from}
 use Rattle.promises.specs.Whole.{PageFilled, Partial, objects_on, objects_of}
 use Rattle.promises.specs.Regular.{Regular, objects-no, SamePage, filled-same, partial-same, on_same}
 
@@ -65,8 +64,7 @@ module _ {p : Sizes} {r n : ℕ} {T T' : List ℕ} (room : Room p (length T)) (l
   Z : List ℕ
   Z = slice_set (slice_set (slice_set T' (owner_at p n) 0) (used_at p n) 0) (mark_at p n) 0
 
-  other : (x : ℕ) → x ≢ owner_at p (n) → x ≢ used_at p (n) → x ≢ mark_at p (n)
-      → slice_index (slice_set (slice_set (slice_set T' (owner_at p n) 0) (used_at p n) 0) (mark_at p n) 0) x ≡ slice_index T' x
+  other : (x : ℕ) → x ≢ owner_at p (n) → x ≢ used_at p (n) → x ≢ mark_at p (n) → slice_index (slice_set (slice_set (slice_set T' (owner_at p n) 0) (used_at p n) 0) (mark_at p n) 0) x ≡ slice_index T' x
   unfolding X Y
   other x a b c = get_or-set_other Y (mark_at p n) x 0 0 c ∙ get_or-set_other X (used_at p n) x 0 0 b ∙ get_or-set_other T' (owner_at p n) x 0 0 a
 
@@ -127,8 +125,7 @@ pub record Ended (p : Sizes) (r t n : ℕ) (T T' : List ℕ) : Type 0 where
   pub pages : Released p r p.pages T mid
   pub tables : T' ≡ slice_set (slice_set (slice_set mid (count_at p r) 0) (depth_at t) (depth_of T t - 1)) (freed_at p) (counted (freed_of p T + n))
 
-module _ {p : Sizes} {r t n : ℕ} {T T' : List ℕ} (room : Room p (length T)) (real : 1 ≤ r) (low : r ≤ regions p) (thread : t < p.threads)
-    (h : Ended p r t n T T') where
+module _ {p : Sizes} {r t n : ℕ} {T T' : List ℕ} (room : Room p (length T)) (real : 1 ≤ r) (low : r ≤ regions p) (thread : t < p.threads) (h : Ended p r t n T T') where
   -- the tables before the counter is set
   M : List ℕ
   M = slice_set (slice_set h.mid (count_at p r) 0) (depth_at t) (depth_of T t - 1)
@@ -154,8 +151,7 @@ module _ {p : Sizes} {r t n : ℕ} {T T' : List ℕ} (room : Room p (length T)) 
 
   pub ended-freed : freed_of p T' ≡ counted (freed_of p T + n)
   unfolding M
-  ended-freed = ap (λ (L : List ℕ). slice_index L (freed_at p)) h.tables
-      ∙ get_or-set_same M (freed_at p) (counted (freed_of p T + n)) 0 (omega (arith, room, long))
+  ended-freed = ap (λ (L : List ℕ). slice_index L (freed_at p)) h.tables ∙ get_or-set_same M (freed_at p) (counted (freed_of p T + n)) 0 (omega (arith, room, long))
 
   pub ended-depth : depth_of T' t ≡ depth_of T t - 1
   unfolding M
@@ -214,8 +210,7 @@ module _ {p : Sizes} {r t n : ℕ} {T T' : List ℕ} (room : Room p (length T)) 
   ended-regular a =
       record {
         pages = λ q l. filled q l (ℕ_discrete (owner_of p T q) r);
-        partial = λ g pos x y l m u v. a.partial g pos x y l m (part g x pos (omega arith) u (ℕ_discrete (owner_of p T x) r))
-            (part g y pos m v (ℕ_discrete (owner_of p T y) r));
+        partial = λ g pos x y l m u v. a.partial g pos x y l m (part g x pos (omega arith) u (ℕ_discrete (owner_of p T x) r)) (part g y pos m v (ℕ_discrete (owner_of p T y) r));
         counts = λ g pos le. count g pos le (ℕ_discrete g r);
       }
     where
@@ -236,16 +231,14 @@ module _ {p : Sizes} {r t n : ℕ} {T T' : List ℕ} (room : Room p (length T)) 
           ∙ sym (ended-objects g pos n)
 
 -- the depth of a thread, after pages were released and a count set
-pub kept-depth : {p : Sizes} {r n t : ℕ} (g : ℕ) {T M X : List ℕ} → Room p (length T) → Released p r n T M → t < p.threads
-    → X ≡ slice_set M (count_at p g) 0
+pub kept-depth : {p : Sizes} {r n t : ℕ} (g : ℕ) {T M X : List ℕ} → Room p (length T) → Released p r n T M → t < p.threads → X ≡ slice_set M (count_at p g) 0
     → depth_of X t ≡ depth_of T t
 kept-depth {p} {r} {n} {t} g {T} {M} rm h l e =
     ap (λ (L : List ℕ). depth_of L t) e ∙ get_or-set_other M (count_at p g) (depth_at t) 0 0 (λ z. omega (arith, rm))
     ∙ h.rest (depth_at t) (inl (omega (arith, rm)))
 
 -- and the counter, after the depth was set too
-pub kept-freed : {p : Sizes} {r n t : ℕ} (g d : ℕ) {T M X Y : List ℕ} → Room p (length T) → Released p r n T M → t < p.threads → g ≤ regions p
-    → X ≡ slice_set M (count_at p g) 0 → Y ≡ slice_set X (depth_at t) d
+pub kept-freed : {p : Sizes} {r n t : ℕ} (g d : ℕ) {T M X Y : List ℕ} → Room p (length T) → Released p r n T M → t < p.threads → g ≤ regions p → X ≡ slice_set M (count_at p g) 0 → Y ≡ slice_set X (depth_at t) d
     → freed_of p Y ≡ freed_of p T
 kept-freed {p} {r} {n} {t} g d {T} {M} {X} rm h l low e f =
     ap (λ (L : List ℕ). freed_of p L) f ∙ get_or-set_other X (depth_at t) (freed_at p) d 0 (λ z. omega (arith, rm))

@@ -36,8 +36,7 @@ module _ (p : Sizes) (c t : List ℕ) (at : ℕ) where
 
   -- the words of the slot at a position, as the code read them: the ways in which none crosses there, and the slot that may
   module _ (cell : ℕ) (e : cell ≡ cell_of at) where
-    pub cross-unused : {page used place : ℕ} → page ≡ page_of cell → place ≡ place_of cell → used ≡ used_of p t page → used ≤ place
-        → 0 ≡ cross_to p c t at
+    pub cross-unused : {page used place : ℕ} → page ≡ page_of cell → place ≡ place_of cell → used ≡ used_of p t page → used ≤ place → 0 ≡ cross_to p c t at
     cross-unused {page} {used} {place} f g h l =
         let q : page_of (cell_of at) ≡ page = omega arith in
         sym (no-cross (λ o. omega (arith, (slot-word p c t at o).0.place, ap (used_of p t) q)))
@@ -52,12 +51,10 @@ module _ (p : Sizes) (c t : List ℕ) (at : ℕ) where
     cross-read {page} {used} {place} {word} {head} {owner} {region} f g h i j k l m low u v =
         let q : page_of (cell_of at) ≡ page = omega arith in
         m ∙ ap₂ other (k ∙ ap (owner_of p t) (sym q)) l
-        ∙ sym (slot-cross (word-slot p c t at (record { page = omega arith; place = omega (arith, ap (used_of p t) q) })
-        (subst₂ IsReference (j ∙ ap (head_of c) e) i v)))
+        ∙ sym (slot-cross (word-slot p c t at (record { page = omega arith; place = omega (arith, ap (used_of p t) q) }) (subst₂ IsReference (j ∙ ap (head_of c) e) i v)))
 
 -- a reference field of an object crosses as its word does from there
-pub field-cross : (p : Sizes) (c t : List ℕ) (k f : ℕ) → Begins p c t k → f < room_for (head_of c k) → f < refs_of c k
-    → cross_to p c t (field_at k f) ≡ crosses_to p t k (field_of c k f)
+pub field-cross : (p : Sizes) (c t : List ℕ) (k f : ℕ) → Begins p c t k → f < room_for (head_of c k) → f < refs_of c k → cross_to p c t (field_at k f) ≡ crosses_to p t k (field_of c k f)
 field-cross p c t k f b l m = slot-crosses p c t (field_at k f) (record { object = k; field = f; begins = b; room = l; low = m; at = refl })
 
 -- the region of a reference, as the code read its page

@@ -1,14 +1,14 @@
 // The region that a slot crosses into: of a reference, of a reference in a slot of some region, and of whatever word stands at a position.
 ghost use Rattle.std.specs.Prelude.{◌≡◌, ◌≤◌, ◌<◌, length};
 ghost use Rattle.layout.specs.Places.{Room, cells_words};
-ghost use Rattle.layout.specs.Words.{NamesCell};
+ghost use Rattle.layout.specs.Words.{Names};
 ghost use Rattle.remember.specs.Crossing.{other, region_of, crosses_from, cross_to};
 
 use rules::Sizes;
 
 // The region that a reference points into, 0 for null; it names a cell of the heap's pages.
 pub fn region_named(p: Sizes, tables: &[u32], x: u32) -> u32
-    requires names_cell { NamesCell p x }
+    requires names { Names p x }
     requires room { Room p (length tables.now) }
     ensures { result ≡ region_of p tables.now x }
 {
@@ -51,7 +51,7 @@ pub fn other_region(from: u32, to: u32) -> u32
 
 // The region that a reference crosses into from a slot of an object in region `from`, 0 where it does not cross.
 pub fn cross(p: Sizes, tables: &[u32], from: u32, x: u32) -> u32
-    requires names_cell { NamesCell p x }
+    requires names { Names p x }
     requires room { Room p (length tables.now) }
     ensures { result ≡ crosses_from p tables.now from x }
 {

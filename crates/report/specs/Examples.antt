@@ -1,6 +1,6 @@
 -- Reports that the checker computes: of 01's sample run, of its heap before the end of the epoch, of one in which a slot of an object
 -- that nobody reaches is crossing, and of one after an end that frees two of three objects.
-use Rattle.std.specs.Prelude.{ℕ, ◌≡◌, refl, List, [], ◌∷◌, map, length}
+use Rattle.std.specs.Prelude.{◌≡◌, ℕ, List, [], ◌∷◌, map, length, refl}
 use Rattle.lists.specs.Members
 use Rattle.lists.specs.Listed
 use Rattle.rules.specs.declared.Sizes.{Sizes}
@@ -11,9 +11,8 @@ use Rattle.rules.specs.Flow as fl
 use Rattle.rules.specs.Regions as rg
 use Rattle.rules.specs.Graph as gr
 use Rattle.rules.specs.Rules as ru
-use Rattle.figures.specs.declared.Row.{Row}
+use Rattle.report.specs.declared.Row.{Row}
 use Rattle.report.specs.declared.Reported.{Reported}
-use Rattle.figures.specs.Rows as fi
 use Rattle.report.specs.Report as re
 
 -- what a report into a list without spare rows gives and leaves
@@ -49,8 +48,7 @@ abbrev cases : List Case
 cases =
     -- the sample run
     case'
-    (do' 1 0 0 0 0 ∷ do' 3 0 0 1 1 ∷ do' 3 0 1 0 1 ∷ do' 9 0 1 0 77 ∷ do' 7 0 0 0 1 ∷ do' 3 1 0 1 0 ∷ do' 5 0 1 0 0 ∷ do' 2 0 0 0 0 ∷ do' 6 0 2 0 0
-    ∷ do' 8 0 2 0 0 ∷ [])
+    (do' 1 0 0 0 0 ∷ do' 3 0 0 1 1 ∷ do' 3 0 1 0 1 ∷ do' 9 0 1 0 77 ∷ do' 7 0 0 0 1 ∷ do' 3 1 0 1 0 ∷ do' 5 0 1 0 0 ∷ do' 2 0 0 0 0 ∷ do' 6 0 2 0 0 ∷ do' 8 0 2 0 0 ∷ [])
     (row 0 0 3 1 ∷ []) 7 0 3 0 3
     -- before its epoch ends
     ∷ case'
@@ -75,8 +73,7 @@ pub reports : map outcome cases ≡ map (λ k. k.expected) cases
 unfolding
     Terms.ask nf.empty nf.most_fields nf.operands nf.state nf.question nf.effect nf.value
     fl.join_calls fl.called fl.rounds fl.flow
-    rg.region_at rg.parent rg.join_case rg.join Members.keep Members.tally Listed.listed gr.slots_of gr.slots_below gr.slots gr.vars_from gr.calls
-    gr.inside gr.remembered gr.crossing gr.objects_in gr.freed_by gr.free_pages gr.new_pages
+    rg.region_at rg.parent rg.join_case rg.join Members.keep Members.tally Listed.listed gr.slots_of gr.slots_below gr.slots gr.vars_from gr.calls gr.inside gr.remembered gr.crossing gr.objects_in gr.freed_by gr.free_pages gr.new_pages
     ru.counted ru.counters_after ru.unused ru.moved ru.ended ru.homes_after ru.after ru.room ru.question ru.answered ru.step ru.run
-    fi.is_open fi.open_regions fi.rows fi.total_of
+    re.is_open re.open_regions re.rows re.total_of
 reports = refl

@@ -1,9 +1,8 @@
 -- The rows in a lent list, and what the questions give.
-use Rattle.std.specs.Prelude.{ℕ, suc, ◌+◌, ◌≤◌, ◌<◌, ◌≡◌, length, get_or}
+use Rattle.std.specs.Prelude.{◌≡◌, ℕ, suc, ◌+◌, ◌<◌, ◌≤◌, List, ◌++◌, length, take, drop, set, slice_index_or, slice_set}
 use Rattle.std.proofs.Common.{arith, add-one, ◌∙◌, take-suc, drop-cons}
 use Rattle.std.proofs.Math.Path.{refl, sym, ap}
-use mathlib.Core.List.{List, ◌++◌}
-use Rattle.std.proofs.Math.ListN.{set, take, drop, length-append, length-drop, length-map}
+use Rattle.std.proofs.Math.ListN.{length-append, length-drop, length-map}
 use Rattle.std.proofs.Math.Seq.{length-take-le, append_snoc, set_at, take-length}
 use Rattle.rules.specs.Regions.{regions}
 use Rattle.rules.specs.Graph.{crossing, free_pages}
@@ -17,11 +16,10 @@ use Rattle.promises.specs.Slices.{Slices, WholeSlices}
 use Rattle.promises.specs.WholeChains.{read-other}
 use Rattle.promises.specs.Agreed.{heap_of-stands}
 use Rattle.promises.specs.Crossings.{heap-entries}
-use Rattle.figures.specs.declared.Row.{Row}
-use Rattle.figures.specs.Rows.{no_row, rows, total_of}
-use Rattle.report.specs.Report.{row_count, ReportAsked, not_whole, other_chains, short, accepted, Told, refusing, result_of, left_of}
-use Rattle.figures.specs.Tables.{WholeTables, row_in, open_in, rows_in, whole-tables, free_in}
-use Rattle.figures.specs.Stands.{rows-stand, free-stands, made-stands, freed-stands, total-stands}
+use Rattle.report.specs.declared.Row.{Row}
+use Rattle.report.specs.Report.{no_row, rows, row_count, ReportAsked, not_whole, other_chains, short, accepted, Told, refusing, result_of, left_of, total_of}
+use Rattle.report.specs.Tables.{WholeTables, row_in, open_in, rows_in, whole-tables, free_in}
+use Rattle.report.specs.Stands.{rows-stand, free-stands, made-stands, freed-stands, total-stands}
 use Rattle.report.specs.declared.Reported.{Reported}
 
 -- ---- the first k rows of a list over the first k of those lent
@@ -38,13 +36,12 @@ module _ (r lent : List Row) where
   unfolding written
   length-written k l m = omega (arith, length-append (take k r) (drop k lent), length-take-le k r l, length-drop k lent)
 
-  pub written_next : (k : ℕ) → k < length r → k < length lent → set (written r k lent) k (get_or r k no_row) ≡ written r (k + 1) lent
+  pub written_next : (k : ℕ) → k < length r → k < length lent → slice_set (written r k lent) k (slice_index_or r k no_row) ≡ written r (k + 1) lent
   unfolding written
   written_next k l m =
-      ap (λ (d : List Row). set (take k r ++ d) k (get_or r k no_row)) (drop-cons lent k no_row m)
-      ∙ set_at (take k r) (get_or lent k no_row) (drop (suc k) lent) (get_or r k no_row) k (length-take-le k r (omega arith))
-      ∙ sym (ap (λ (n : ℕ). take n r ++ drop n lent) (add-one k) ∙ ap (λ (t : List Row). t ++ drop (suc k) lent) (take-suc r k no_row l)
-      ∙ append_snoc (take k r) (get_or r k no_row) (drop (suc k) lent))
+      ap (λ (d : List Row). set (take k r ++ d) k (slice_index_or r k no_row)) (drop-cons lent k no_row m)
+      ∙ set_at (take k r) (slice_index_or lent k no_row) (drop (suc k) lent) (slice_index_or r k no_row) k (length-take-le k r (omega arith))
+      ∙ sym (ap (λ (n : ℕ). take n r ++ drop n lent) (add-one k) ∙ ap (λ (t : List Row). t ++ drop (suc k) lent) (take-suc r k no_row l) ∙ append_snoc (take k r) (slice_index_or r k no_row) (drop (suc k) lent))
 
   pub written_all : written r (length r) lent ≡ r ++ drop (length r) lent
   unfolding written
@@ -77,8 +74,7 @@ module _ (w : Words) where
 abbrev pub reporting : ℕ → ℕ → ℕ → ℕ → ℕ → ℕ → Reported
 reporting n f x m d v = record { number = 0; rows = n; free_pages = f; crossing_slots = x; made = m; freed = d; total = v }
 
-pub reporting-same : {n n' f f' x x' m m' d d' v v' : ℕ} → n ≡ n' → f ≡ f' → x ≡ x' → m ≡ m' → d ≡ d' → v ≡ v'
-    → reporting n f x m d v ≡ reporting n' f' x' m' d' v'
+pub reporting-same : {n n' f f' x x' m m' d d' v v' : ℕ} → n ≡ n' → f ≡ f' → x ≡ x' → m ≡ m' → d ≡ d' → v ≡ v' → reporting n f x m d v ≡ reporting n' f' x' m' d' v'
 reporting-same n f x m d v = λ i. reporting (n i) (f i) (x i) (m i) (d i) (v i)
 
 -- as the code answers; p are the sizes that it read
@@ -86,8 +82,7 @@ module _ (l : Slices) (room : ℕ) where
   pub asking-not-whole : (WholeWords l.words → ⊥) → Asking l room (refusing 3)
   asking-not-whole n = record { asked = not_whole refl n; result = refl }
 
-  pub asking-other : WholeWords l.words → {p : Sizes} → p ≡ sizes_at l.words.tables → (ChainsWhole p l.words.remember l.chains → ⊥)
-      → Asking l room (refusing 16)
+  pub asking-other : WholeWords l.words → {p : Sizes} → p ≡ sizes_at l.words.tables → (ChainsWhole p l.words.remember l.chains → ⊥) → Asking l room (refusing 16)
   asking-other k e n = record { asked = other_chains refl k (read-other e n); result = refl }
 
   module _ (k : WholeSlices l) (p : Sizes) (e : p ≡ sizes_at l.words.tables) (n : ℕ) (all : n ≡ length (rows_in p l.words.tables)) where
@@ -98,8 +93,7 @@ module _ (l : Slices) (room : ℕ) where
     asking-short few = record { asked = short refl k (omega (arith, counted, these-length l.words)); result = refl }
 
     pub asking-all : (f x m d v : ℕ) → n ≤ room → f ≡ free_in p l.words.tables → x ≡ entries_used l.words.remember
-        → m ≡ made_of p l.words.tables → d ≡ freed_of p l.words.tables → v ≡ total_of (rows_in p l.words.tables)
-        → Asking l room (reporting n f x m d v)
+        → m ≡ made_of p l.words.tables → d ≡ freed_of p l.words.tables → v ≡ total_of (rows_in p l.words.tables) → Asking l room (reporting n f x m d v)
     asking-all f x m d v enough free cross made freed total =
         let w = l.words in
         let s = sizes_in w in
@@ -111,8 +105,7 @@ module _ (l : Slices) (room : ℕ) where
         let x-is : x ≡ crossing (graph h) = cross ∙ heap-entries s w h (λ c. c) st in
         let m-is : m ≡ h.counters.made = made ∙ ap (λ (q : Sizes). made_of q t) e ∙ made-stands s t w.cells w.remember h (λ c. c) st in
         let d-is : d ≡ h.counters.freed = freed ∙ ap (λ (q : Sizes). freed_of q t) e ∙ freed-stands s t w.cells w.remember h (λ c. c) st in
-        let v-is : v ≡ total_of (rows s h) = total ∙ ap (λ (q : Sizes). total_of (rows_in q t)) e
-        ∙ total-stands s t w.cells w.remember h (λ c. c) st in
+        let v-is : v ≡ total_of (rows s h) = total ∙ ap (λ (q : Sizes). total_of (rows_in q t)) e ∙ total-stands s t w.cells w.remember h (λ c. c) st in
         record { asked = accepted refl k (omega (arith, counted, these-length w)); result = reporting-same n-is f-is x-is m-is d-is v-is }
 
 -- ---- rows written as asked for
@@ -134,16 +127,11 @@ module _ (l : Slices) (lent : List Row) (r : Reported) (k : Asking l (length len
       none : r.rows ≡ 0 → (r.rows ≤ length lent) × (r.rows ≤ length (these w)) × (0 < r.rows → WholeTables (sizes_at w.tables) w.tables)
       none z = (omega arith, omega arith, λ n. absurd (let y : ⊥ = omega arith in y))
 
-      go : ReportAsked l (length lent) r.number → (r.rows ≤ length lent) × (r.rows ≤ length (these w))
-          × (0 < r.rows → WholeTables (sizes_at w.tables) w.tables)
+      go : ReportAsked l (length lent) r.number → (r.rows ≤ length lent) × (r.rows ≤ length (these w)) × (0 < r.rows → WholeTables (sizes_at w.tables) w.tables)
       go (not_whole e n) = none (rows_of e)
       go (other_chains e h n) = none (rows_of e)
       go (short e h n) = none (rows_of e)
-      go (accepted e h n) = (
-        omega (arith, rows_all e h.words, these-length w),
-        omega (arith, rows_all e h.words),
-        λ z. whole-tables h.words refl,
-      )
+      go (accepted e h n) = (omega (arith, rows_all e h.words, these-length w), omega (arith, rows_all e h.words), λ z. whole-tables h.words refl)
 
   pub told-written : Told l lent r (written (these w) r.rows lent)
   told-written = record { asked = k.asked; result = k.result; rows_left = go k.asked }

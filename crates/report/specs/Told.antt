@@ -1,5 +1,5 @@
 -- A report said of the heap that the words make is right of every heap that they stand for; and it says all of the result and of the rows left.
-use Rattle.std.specs.Prelude.{ℕ, zero, suc, ◌+◌, ◌≡◌, refl, List, ◌++◌, length, take, drop}
+use Rattle.std.specs.Prelude.{◌≡◌, ℕ, zero, suc, ◌+◌, List, ◌++◌, length, take, drop, refl}
 use Rattle.std.proofs.Common.{arith, sym, ap, ◌∙◌, take_at}
 use Rattle.rules.specs.declared.Sizes.{Sizes}
 use Rattle.rules.specs.Graph.{crossing, free_pages}
@@ -10,11 +10,10 @@ use Rattle.promises.specs.Slices.{Slices}
 use Rattle.promises.specs.StandsFor.{StandsFor}
 use Rattle.promises.specs.Agreed.{heap-stands, heap_of-stands}
 use Rattle.promises.specs.Crossings.{heap-entries}
-use Rattle.figures.specs.declared.Row.{Row}
+use Rattle.report.specs.declared.Row.{Row}
 use Rattle.report.specs.declared.Reported.{Reported}
-use Rattle.figures.specs.Rows.{rows, total_of}
-use Rattle.report.specs.Report.{ReportAsked, not_whole, other_chains, short, accepted, result_of, left_of, Told}
-use Rattle.figures.specs.Stands.{rows-stand, free-stands, total-leaves}
+use Rattle.report.specs.Report.{rows, ReportAsked, not_whole, other_chains, short, accepted, result_of, left_of, total_of, Told}
+use Rattle.report.specs.Stands.{rows-stand, free-stands, total-leaves}
 use Rattle.report.specs.Lent.{reporting-same}
 
 module _ (w : Words) (h : Regioned) (cell_of : ℕ → ℕ) (st : StandsFor (sizes_in w) w h cell_of) where
@@ -39,8 +38,7 @@ module _ (w : Words) (h : Regioned) (cell_of : ℕ → ℕ) (st : StandsFor (siz
 
   same-result : (q : ℕ) → result_of (sizes_in w) (heap_of (sizes_in w) w) q ≡ result_of (sizes_in w) h q
   same-result zero =
-      reporting-same (ap length same_rows) same-free same-crossing (ap (λ (k : Counters). k.made) same-counters)
-      (ap (λ (k : Counters). k.freed) same-counters) (ap total_of same_rows)
+      reporting-same (ap length same_rows) same-free same-crossing (ap (λ (k : Counters). k.made) same-counters) (ap (λ (k : Counters). k.freed) same-counters) (ap total_of same_rows)
   same-result (suc q) = refl
 
   same_left : (lent : List Row) (q : ℕ) → left_of (sizes_in w) (heap_of (sizes_in w) w) lent q ≡ left_of (sizes_in w) h lent q
@@ -72,8 +70,7 @@ asked-once (accepted e k n) (other_chains f k' m) = absurd (m k.chains)
 asked-once (accepted e k n) (short f k' m) = absurd (let z : ⊥ = omega arith in z)
 asked-once (accepted e k n) (accepted f k' m) = e ∙ sym f
 
-pub told-once : {l : Slices} {lent : List Row} {r r' : Reported} {left left' : List Row} → Told l lent r left → Told l lent r' left'
-    → (r ≡ r') × (left ≡ left')
+pub told-once : {l : Slices} {lent : List Row} {r r' : Reported} {left left' : List Row} → Told l lent r left → Told l lent r' left' → (r ≡ r') × (left ≡ left')
 told-once {l} {lent} t u =
     let e = asked-once t.asked u.asked in
     let s = sizes_in l.words in
@@ -100,8 +97,7 @@ told-counted l lent r left t z = record {
   made = ap (λ (x : Reported). x.made) result ∙ ap (λ (k : Counters). k.made) st.counters;
   freed = ap (λ (x : Reported). x.freed) result ∙ ap (λ (k : Counters). k.freed) st.counters;
   total = ap (λ (x : Reported). x.total) result ∙ ap total_of (sym written-rows);
-  leaves = ap (λ (x : Reported). counted (x.total + x.freed)) result ∙ total-leaves s w.tables w.cells w.remember h (λ c. c) st
-      ∙ sym (ap (λ (x : Reported). x.made) result);
+  leaves = ap (λ (x : Reported). counted (x.total + x.freed)) result ∙ total-leaves s w.tables w.cells w.remember h (λ c. c) st ∙ sym (ap (λ (x : Reported). x.made) result);
 }
   where
     w : Words
@@ -121,5 +117,4 @@ told-counted l lent r left t z = record {
 
     written-rows : take r.rows left ≡ rows s h
     written-rows =
-        ap (take r.rows) (t.rows_left ∙ ap (left_of s h lent) z)
-        ∙ take_at (rows s h) (drop (length (rows s h)) lent) r.rows (sym (ap (λ (x : Reported). x.rows) result))
+        ap (take r.rows) (t.rows_left ∙ ap (left_of s h lent) z) ∙ take_at (rows s h) (drop (length (rows s h)) lent) r.rows (sym (ap (λ (x : Reported). x.rows) result))

@@ -1,15 +1,26 @@
-// The report (01; 02, W2) in a lent list of rows, also from C. It reads the tables and changes none of them.
-ghost use Rattle.std.specs.Prelude.{◌≡◌, ◌<◌, ◌≤◌, length};
-ghost use Rattle.layout.specs.Places.{sizes_at};
+// The report (01; 02, W2): a row for the control space and each open region, by region number, then free pages and crossing slots, then
+// objects made, objects freed and the total of live objects. It reads the tables and changes none of them.
+ghost use Rattle.std.specs.Prelude.{◌≡◌, ◌+◌, ◌<◌, ◌≤◌, length, slice_index_or};
+ghost use Rattle.layout.specs.Places.{entries_used, made_of, freed_of};
 ghost use Rattle.layout.specs.Words.{depths_at};
-ghost use Rattle.promises.specs.Slices.{slices};
-ghost use Rattle.report.specs.Report.{refusing, Told};
-ghost use Rattle.figures.specs.Opened.{Next};
-ghost use Rattle.figures.specs.Tables.{WholeTables, row_in, rows_in};
-ghost use Rattle.report.specs.Lent.{RegionOf, Asking, written};
+ghost use Rattle.report.specs.Report.{row_of, no_row, total_of};
+ghost use Rattle.report.specs.Opened.{Next, Turn};
+ghost use Rattle.report.specs.Tables.{WholeTables, row_in, rows_in, free_in};
+ghost use Rattle.rules.specs.Regions.{regions};
 
-use figures::{Row, next_open, row_count, row_of};
 use rules::Sizes;
+
+pub mod lent;
+
+// A region's row; the control space has thread 0 and level 0.
+#[repr(C)]
+#[derive(Drop)]
+pub struct Row {
+    pub thread: u32,
+    pub level: u32,
+    pub objects: u32,
+    pub pages: u32,
+}
 
 // 0 if the rows were written, else the number of the question that said no; how many rows were written; and the figures.
 #[repr(C)]
@@ -24,90 +35,132 @@ pub struct Reported {
     pub total: u32,
 }
 
-// The result of a refusal: no row is to be written.
-fn refused(number: u32) -> Reported
-    ensures { result ≡ refusing number }
+// A row with the pages that so many objects use.
+fn row_with(thread: u32, level: u32, objects: u32) -> Row
+    ensures { result ≡ row_of thread level objects }
 {
-    Reported {
-        number,
-        rows: 0,
-        free_pages: 0,
-        crossing_slots: 0,
-        made: 0,
-        freed: 0,
-        total: 0,
+    let pages = layout::cells::pages_for(layout::wide(objects)) as u32;
+    Row {
+        thread,
+        level,
+        objects,
+        pages,
     }
 }
 
-// Questions 3, 16 and 15, of a list of so many rows, and the result that they give.
-fn ask(cells: &[u32], remember: &[u32], tables: &[u32], chains: &[u32], room: usize) -> Reported
-    ensures { Asking (slices cells.now remember.now tables.now chains.now) room result }
+// The row of a region.
+pub fn row_of(p: Sizes, tables: &[u32], region: usize) -> Row
+    requires whole_tables { WholeTables p tables.now }
+    requires le_region { (1 ≤ region) × (region ≤ regions p) }
+    ensures { result ≡ row_in p tables.now region }
 {
-    if !whole::whole(cells, remember, tables) {
-        return refused(3);
+    let objects = layout::tables::count(p, tables, region);
+    if region == 1 {
+        return row_with(0, 0, objects);
     }
-    let p = layout::read_sizes(tables);
-    if !chains::chains_whole(p, remember, chains) {
-        return refused(16);
-    }
-    let rows = row_count(p, tables);
-    if room < rows {
-        return refused(15);
-    }
-    Reported {
-        number: 0,
-        rows: rows as u32,
-        free_pages: figures::free_pages(p, tables),
-        crossing_slots: figures::crossing_slots(remember),
-        made: figures::made(p, tables),
-        freed: figures::freed(p, tables),
-        total: figures::total(p, tables),
-    }
+    let thread = layout::regions::thread_of(p, region) as u32;
+    let level = layout::regions::level_of(p, region) as u32;
+    row_with(thread, level, objects)
 }
 
-// The row of a region, and the next open region, by the sizes that the tables name.
-fn row_in(tables: &[u32], region: usize) -> Row
-    requires { RegionOf tables.now region }
-    ensures { result ≡ row_in (sizes_at tables.now) tables.now region }
+// The next open region by number; one past the last region if there is none.
+pub fn next_open(p: Sizes, tables: &[u32], region: usize) -> usize
+    requires whole_tables { WholeTables p tables.now }
+    requires le_region { (1 ≤ region) × (region ≤ regions p) }
+    ensures { Next p (depths_at p tables.now) region result }
 {
-    row_of(layout::read_sizes(tables), tables, region)
-}
-
-fn open_after(tables: &[u32], region: usize) -> usize
-    requires { RegionOf tables.now region }
-    ensures { Next (sizes_at tables.now) (depths_at (sizes_at tables.now) tables.now) region result }
-{
-    next_open(layout::read_sizes(tables), tables, region)
-}
-
-// The first n rows are written, and the rest stay.
-fn fill(rows: &mut [Row], tables: &[u32], n: usize)
-    requires { (n ≤ length rows.old) × (n ≤ length (rows_in (sizes_at tables.now) tables.now)) × (0 < n → WholeTables (sizes_at tables.now) tables.now) }
-    ensures { rows.new ≡ written (rows_in (sizes_at tables.now) tables.now) n rows.old }
-{
-    let mut k: usize = 0;
-    let mut region: usize = 1;
-    while k < n {
-        rows[k] = row_in(tables, region);
-        region = open_after(tables, region);
-        k += 1;
+    let last = layout::wide(layout::regions::region_at(p, p.threads - 1, p.depth));
+    let mut next = region + 1;
+    while next <= last {
+        if whole::pages::is_open(p, tables, next) {
+            return next;
+        }
+        next += 1;
     }
+    next
 }
 
-// Writes a row for the control space and each open region, by region number. Gives 0 with how many these are, free pages, crossing
-// slots, and objects made, freed and there; or on refusal, with no row written and the other words 0, 3 for tables that are not whole, 16 for
-// chains that are short or not those of the remember table, 15 for too few rows. Spare rows never change.
-#[unsafe(no_mangle)]
-pub extern "C" fn taldreku_report(
-    cells: &[u32],
-    remember: &[u32],
-    tables: &[u32],
-    chains: &[u32],
-    rows: &mut [Row],
-) -> Reported
-    ensures { Told (slices cells.now remember.now tables.now chains.now) rows.old result rows.new }
+// How many rows there are: one for the control space, and one for each open region.
+pub fn row_count(p: Sizes, tables: &[u32]) -> usize
+    requires { WholeTables p tables.now }
+    ensures { result ≡ length (rows_in p tables.now) }
 {
-    let reported = ask(cells, remember, tables, chains, rows.len());
-    fill(rows, tables, reported.rows as usize);
-    reported
+    let threads = p.threads;
+    let mut n: usize = 1;
+    let mut thread: usize = 0;
+    while thread < threads {
+        n += layout::wide(layout::tables::depth(p, tables, thread));
+        thread += 1;
+    }
+    n
+}
+
+// Open region k by number, the control space being 0: level k, less the open levels of the threads that are passed.
+fn open_region(p: Sizes, tables: &[u32], k: usize) -> usize
+    requires whole_tables { WholeTables p tables.now }
+    requires k_in_bounds { k < length (rows_in p tables.now) }
+    ensures { Turn p (depths_at p tables.now) k result }
+{
+    if k == 0 {
+        return 1;
+    }
+    let mut level = k;
+    let mut thread: usize = 0;
+    let mut deep = layout::wide(layout::tables::depth(p, tables, 0));
+    while deep < level {
+        level -= deep;
+        thread += 1;
+        deep = layout::wide(layout::tables::depth(p, tables, thread));
+    }
+    layout::wide(layout::regions::region_at(p, thread, level))
+}
+
+// Row k, by region number.
+pub fn row_at(p: Sizes, tables: &[u32], k: usize) -> Row
+    requires whole_tables { WholeTables p tables.now }
+    requires k_in_bounds { k < length (rows_in p tables.now) }
+    ensures { result ≡ slice_index_or (rows_in p tables.now) k no_row }
+{
+    row_of(p, tables, open_region(p, tables, k))
+}
+
+// How many pages are free.
+pub fn free_pages(p: Sizes, tables: &[u32]) -> u32
+    requires { WholeTables p tables.now }
+    ensures { result ≡ free_in p tables.now }
+{
+    pages::owned_pages(p, tables, 0) as u32
+}
+
+// How many slots are crossing: the remember table names each once.
+pub fn crossing_slots(remember: &[u32]) -> u32
+    requires { 2 ≤ length remember.now }
+    ensures { result ≡ entries_used remember.now }
+{
+    layout::remember::used(remember)
+}
+
+// How many objects were made since prepare, modulo 4,294,967,296, and how many freed.
+pub fn made(p: Sizes, tables: &[u32]) -> u32
+    requires { WholeTables p tables.now }
+    ensures { result ≡ made_of p tables.now }
+{
+    layout::tables::made(p, tables)
+}
+
+pub fn freed(p: Sizes, tables: &[u32]) -> u32
+    requires { WholeTables p tables.now }
+    ensures { result ≡ freed_of p tables.now }
+{
+    layout::tables::freed(p, tables)
+}
+
+// How many objects all rows have: those made less those freed.
+pub fn total(p: Sizes, tables: &[u32]) -> u32
+    requires { WholeTables p tables.now }
+    ensures { result ≡ total_of (rows_in p tables.now) }
+{
+    let all = made(p, tables);
+    let gone = freed(p, tables);
+    std::num::wrapping_sub_u32(all, gone)
 }

@@ -3,15 +3,12 @@ use Rattle.std.specs.Prelude.{◌≡◌, refl, ◌⊎◌, List, ℕ, ◌+◌, �
 use Rattle.std.proofs.Common.{sym, ap, ◌∙◌, subst, subst₂, inl, inr, ⊎_elim, arith}
 use Rattle.std.proofs.Math.Decide.{dec_lt, ℕ_discrete}
 use Rattle.rules.specs.declared.Sizes.{Sizes}
-use Rattle.layout.specs.Cells.{head_at, field_at, field_of, head_of, refs_of, most_fields, most-is, room_for, room-is, page_cells, cell_on, field-word}
-use Rattle.layout.specs.Cells.{field-once}
+use Rattle.layout.specs.Cells.{head_at, field_at, field_of, head_of, refs_of, most_fields, most-is, room_for, room-is, page_cells, cell_on, field-word, field-once}
 use Rattle.layout.specs.Objects.{Begins, Slot}
-use Rattle.layout.specs.Words.{NamesCell}
-use Rattle.rewrite.specs.Rewrite.{forwarded, Rewritten, heads-same, refs-same, begins-now, begins-then, rewritten-none, rewritten-one, rewritten-join}
-use Rattle.rewrite.specs.Rewrite.{rewritten-like}
-use Rattle.rewrite.specs.RewriteSlots.{Field}
-use Rattle.retell.specs.SlotStretches.{SlotFrom, NoSlot, gap-past, Readable, CellReadable, own-slot, cell-readable, PageReadable, used-most}
-use Rattle.retell.specs.SlotStretches.{begins-here}
+use Rattle.layout.specs.Words.{Names}
+use Rattle.settle.specs.Rewrite.{forwarded, Rewritten, heads-same, refs-same, begins-now, begins-then, rewritten-none, rewritten-one, rewritten-join, rewritten-like}
+use Rattle.settle.specs.RewriteSlots.{Field}
+use Rattle.retell.specs.SlotStretches.{SlotFrom, NoSlot, gap-past, Readable, CellReadable, own-slot, cell-readable, PageReadable, used-most, begins-here}
 
 -- ---- the fields of one cell
 
@@ -87,7 +84,7 @@ module _ {p : Sizes} {a b : ℕ} {W T W' : List ℕ} (h : Rewritten (SlotFrom p 
         used = r.used;
         few = λ k u. omega (arith, r.few k (begins-then h p T k u), refs-same h k);
         names = λ x s.
-            subst (λ (y : ℕ). NamesCell p y) (sym (h.same x (λ q. omega (arith, q.below, s.from))))
+            subst (λ (y : ℕ). Names p y) (sym (h.same x (λ q. omega (arith, q.below, s.from))))
             (r.names x (record { slot = slots-then h x s.slot; from = omega (arith, s.from); below = omega (arith, s.below) }));
       }
 
@@ -109,8 +106,7 @@ pub forwarded-start : (p : Sizes) (a : ℕ) (W T : List ℕ) → Rewritten (Slot
 forwarded-start p a W T = rewritten-none (SlotFrom p a a W T) W (λ x s. omega (arith, s.from, s.below))
 
 -- all slots lie below the end
-pub forwarded-all : {p : Sizes} {n : ℕ} {W T W' : List ℕ} → ((x : ℕ) → Slot p W T x → x < n) → Rewritten (SlotFrom p 0 n W T) W W'
-    → Rewritten (Slot p W T) W W'
+pub forwarded-all : {p : Sizes} {n : ℕ} {W T W' : List ℕ} → ((x : ℕ) → Slot p W T x → x < n) → Rewritten (SlotFrom p 0 n W T) W W' → Rewritten (Slot p W T) W W'
 forwarded-all low h = rewritten-like h (λ x o. record { slot = o; from = omega arith; below = low x o }) (λ x s. s.slot)
 
 -- ---- the cells in use of a page before a place; k is the cell there as the code has it
@@ -122,14 +118,12 @@ module _ {p : Sizes} {page used place : ℕ} {W T W' : List ℕ} (r : PageReadab
     begins-still = begins-now h p T k (begins-here r k place l e)
 
     rest : Readable p (head_at k) (head_at (k + 1)) W' T
-    rest = readable-rest (subst (λ (y : ℕ). Rewritten (SlotFrom p (head_at (cell_on page 0)) y W T) W W') (ap head_at (sym e)) h) r.readable
-        (omega arith) (omega (arith, used-most r))
+    rest = readable-rest (subst (λ (y : ℕ). Rewritten (SlotFrom p (head_at (cell_on page 0)) y W T) W W') (ap head_at (sym e)) h) r.readable (omega arith) (omega (arith, used-most r))
 
     pub place-readable : CellReadable k W'
     place-readable = cell-readable k begins-still rest
 
-    pub place-forwarded : {W'' : List ℕ} → Rewritten (Field k (refs_of W' k)) W' W''
-        → Rewritten (SlotFrom p (head_at (cell_on page 0)) (head_at (cell_on page (place + 1))) W T) W W''
+    pub place-forwarded : {W'' : List ℕ} → Rewritten (Field k (refs_of W' k)) W' W'' → Rewritten (SlotFrom p (head_at (cell_on page 0)) (head_at (cell_on page (place + 1))) W T) W W''
     place-forwarded {W''} z =
         let i : head_at k ≡ head_at (cell_on page place) = ap head_at e in
         let j : head_at (k + 1) ≡ head_at (cell_on page (place + 1)) = omega arith in

@@ -18,16 +18,10 @@ abbrev pub Counts : (ℕ → ℕ) → ℕ → ℕ → ℕ → Type 0
 Counts f a b x = Given f a b x (f x)
 
 given-counts : {f : ℕ → ℕ} {a b x h : ℕ} → Given f a b x h → Counts f a b x
-given-counts g = let e = g.entry in record {
-  from = g.from;
-  entry = record { slot = e.slot; region = omega (arith, e.region, e.right); right = refl };
-}
+given-counts g = let e = g.entry in record { from = g.from; entry = record { slot = e.slot; region = omega (arith, e.region, e.right); right = refl } }
 
 given-in : {f : ℕ → ℕ} {a b c d x h : ℕ} → c ≤ a → b ≤ d → Given f a b x h → Given f c d x h
-given-in l m g = let e = g.entry in record {
-  from = omega (arith, g.from);
-  entry = record { slot = omega (arith, e.slot); region = e.region; right = e.right };
-}
+given-in l m g = let e = g.entry in record { from = omega (arith, g.from); entry = record { slot = omega (arith, e.slot); region = e.region; right = e.right } }
 
 -- f's entries of the numbers from a to before b are those from entry j up to entry i, by rising number
 pub record Retold (f : ℕ → ℕ) (n a b : ℕ) (M : List ℕ) (j : ℕ) (M' : List ℕ) (i : ℕ) : Type 0 where
@@ -50,17 +44,13 @@ told_none f n a b M j l zero =
     }
 
 -- h is what f gives, as the code has it
-pub told-one : {f : ℕ → ℕ} {n x y b i : ℕ} {M : List ℕ} → Retelling f n x b M i → y ≡ x + 1 → i < n → (h : ℕ) → h ≡ f x → 0 < h
-    → Retold f n x y M i (entered n M i x h) (i + 1)
+pub told-one : {f : ℕ → ℕ} {n x y b i : ℕ} {M : List ℕ} → Retelling f n x b M i → y ≡ x + 1 → i < n → (h : ℕ) → h ≡ f x → 0 < h → Retold f n x y M i (entered n M i x h) (i + 1)
 told-one {f} {n} {x} {i = i} {M = M} t after l h e pos =
     record {
       added =
           added-like (added-one i x h M l t.long)
           (λ v g q. let k = q.entry in let z : v ≡ x = omega (arith, q.from, k.slot) in (z, sym k.right ∙ ap f z ∙ sym e))
-          (λ v g q. record {
-            from = omega (arith, q.0);
-            entry = record { slot = omega (arith, q.0); region = omega (arith, q.1); right = ap f q.0 ∙ sym e ∙ sym q.1 };
-          });
+          (λ v g q. record { from = omega (arith, q.0); entry = record { slot = omega (arith, q.0); region = omega (arith, q.1); right = ap f q.0 ∙ sym e ∙ sym q.1 } });
       rising = λ y z u v w. absurd (let d : ⊥ = omega arith in d);
     }
 
@@ -68,8 +58,7 @@ pub told-fits : {f : ℕ → ℕ} {n x b i : ℕ} {M : List ℕ} → Retelling f
 told-fits {f} {x = x} t l h e pos =
     omega (
       arith,
-      t.space.few 1 (λ a. x) (λ a m. record { from = omega arith; entry = record { slot = l; region = omega arith; right = refl } })
-          (λ a b u v. absurd (let z : ⊥ = omega arith in z)),
+      t.space.few 1 (λ a. x) (λ a m. record { from = omega arith; entry = record { slot = l; region = omega arith; right = refl } }) (λ a b u v. absurd (let z : ⊥ = omega arith in z)),
       t.low,
     )
 
@@ -123,7 +112,6 @@ module _ {f : ℕ → ℕ} {n N k e : ℕ} {M M' M'' : List ℕ} (h : Retold f N
 
   pub told-exact : Exact f n N M'' × Edited N M M''
   told-exact = (
-    renewed-exact f n (λ x g q. q.entry) (λ x l pos. record { from = omega arith; entry = record { slot = l; region = pos; right = refl } })
-        told-renewed,
+    renewed-exact f n (λ x g q. q.entry) (λ x l pos. record { from = omega arith; entry = record { slot = l; region = pos; right = refl } }) told-renewed,
     told-renewed.edited,
   )

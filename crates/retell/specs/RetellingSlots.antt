@@ -25,25 +25,19 @@ pub record SlotsTelling (p : Sizes) (a b : ℕ) (W M T : List ℕ) (j : ℕ) : T
 abbrev pub IsCrossing : Sizes → List ℕ → List ℕ → ℕ → Type 0
 IsCrossing p W T x = 0 < cross_to p W T x
 
-pub telling-all : {p : Sizes} {W M T : List ℕ} → Readable p 0 (cells_words p) W T → entries_words p.entries ≤ length M
-    → AtMost (IsCrossing p W T) p.entries
+pub telling-all : {p : Sizes} {W M T : List ℕ} → Readable p 0 (cells_words p) W T → entries_words p.entries ≤ length M → AtMost (IsCrossing p W T) p.entries
     → SlotsTelling p 0 (cells_words p) W M T 0
 telling-all r long most =
     record {
       readable = r;
-      telling = record {
-        long = long;
-        low = omega arith;
-        space = record { few = λ k at all once. omega (arith, most.few k at (λ i l. (all i l).entry.region) once) };
-      };
+      telling = record { long = long; low = omega arith; space = record { few = λ k at all once. omega (arith, most.few k at (λ i l. (all i l).entry.region) once) } };
     }
 
 module _ {p : Sizes} {a d : ℕ} {W M T : List ℕ} {j : ℕ} (t : SlotsTelling p a d W M T j) where
   -- over positions that are no slots
   slots-gap : {b c : ℕ} {M' : List ℕ} {i : ℕ} → SlotsTold p a b W M T j M' i → a ≤ b → b ≤ c → NoSlot p b c W T → SlotsTold p a c W M T j M' i
   slots-gap {b} {c} {M'} {i} h l m none =
-      told-on h l m (told_none (cross_to p W T) p.entries b c M' i h.added.low
-      (λ x u v. no-cross p W T x (λ o. none x (record { slot = o; from = u; below = v }))))
+      told-on h l m (told_none (cross_to p W T) p.entries b c M' i h.added.low (λ x u v. no-cross p W T x (λ o. none x (record { slot = o; from = u; below = v }))))
 
   -- the next can come
   pub slots-rest : {b c : ℕ} {M' : List ℕ} {i : ℕ} → SlotsTold p a b W M T j M' i → a ≤ b → b ≤ c → c ≤ d → SlotsTelling p b c W M' T i
@@ -53,16 +47,14 @@ module _ {p : Sizes} {a d : ℕ} {W M T : List ℕ} {j : ℕ} (t : SlotsTelling 
 
 module _ (k : ℕ) {p : Sizes} {W M T : List ℕ} {j : ℕ} (t : SlotsTelling p (head_at k) (head_at (k + 1)) W M T j) where
   pub fields-start : SlotsTold p (head_at k) (field_at k 0) W M T j M j
-  fields-start = slots-gap t (told-start (cross_to p W T) p.entries (head_at k) M j t.telling.low) (omega arith) (omega arith)
-      (gap-before p W T k)
+  fields-start = slots-gap t (told-start (cross_to p W T) p.entries (head_at k) M j t.telling.low) (omega arith) (omega arith) (gap-before p W T k)
 
   module _ {f i : ℕ} {M' : List ℕ} (h : SlotsTold p (head_at k) (field_at k f) W M T j M' i) where
     pub fields-end : refs_of W k ≤ f → f ≤ most_fields → SlotsTold p (head_at k) (head_at (k + 1)) W M T j M' i
     fields-end l m = slots-gap t h (omega arith) (field_end k f m) (gap-after p W T k f l)
 
     -- x is the field, w the region of its cell, g the region into which it crosses, else 0, as the code has them
-    module _ (b : Begins p W T k) (lt : f < refs_of W k) (x w g : ℕ) (ex : x ≡ field_of W k f) (ew : w ≡ owner_of p T (page_of k))
-        (eg : g ≡ crosses_from p T w x) where
+    module _ (b : Begins p W T k) (lt : f < refs_of W k) (x w g : ℕ) (ex : x ≡ field_of W k f) (ew : w ≡ owner_of p T (page_of k)) (eg : g ≡ crosses_from p T w x) where
       low : f < most_fields
       low = omega (arith, t.readable.few k b)
 
@@ -78,8 +70,7 @@ module _ (k : ℕ) {p : Sizes} {W M T : List ℕ} {j : ℕ} (t : SlotsTelling p 
       pub entry-fits : g ≢ 0 → i < p.entries
       entry-fits ne = told-fits here inside g crosses (omega arith)
 
-      pub entry-told : (at : ℕ) → at ≡ field_at k f → g ≢ 0
-          → SlotsTold p (head_at k) (field_at k (f + 1)) W M T j (entered p.entries M' i at g) (i + 1)
+      pub entry-told : (at : ℕ) → at ≡ field_at k f → g ≢ 0 → SlotsTold p (head_at k) (field_at k (f + 1)) W M T j (entered p.entries M' i at g) (i + 1)
       entry-told at e ne =
           subst (λ (y : ℕ). SlotsTold p (head_at k) (field_at k (f + 1)) W M T j (entered p.entries M' i y g) (i + 1)) (sym e)
           (told-on h (omega arith) (omega arith) (told-one here (omega arith) (entry-fits ne) g crosses (omega arith)))
@@ -98,8 +89,7 @@ module _ {p : Sizes} {page used place j i : ℕ} {W M T M' : List ℕ} (r : Page
   module _ (k : ℕ) (l : place < used) (e : k ≡ cell_on page place) where
     pub place-telling : SlotsTelling p (head_at k) (head_at (k + 1)) W M' T i
     place-telling =
-        subst (λ (y : ℕ). SlotsTelling p y (head_at (k + 1)) W M' T i) (ap head_at (sym e))
-        (slots-rest t h (omega arith) (omega arith) (omega (arith, used-most r)))
+        subst (λ (y : ℕ). SlotsTelling p y (head_at (k + 1)) W M' T i) (ap head_at (sym e)) (slots-rest t h (omega arith) (omega arith) (omega (arith, used-most r)))
 
     pub place-told : {M'' : List ℕ} {i' : ℕ} → SlotsTold p (head_at k) (head_at (k + 1)) W M' T i M'' i'
         → SlotsTold p (head_at (cell_on page 0)) (head_at (cell_on page (place + 1))) W M T j M'' i'

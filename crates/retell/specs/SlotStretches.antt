@@ -3,10 +3,9 @@ use Rattle.std.specs.Prelude.{◌≡◌, ◌≢◌, List, ℕ, ◌+◌, ◌≤�
 use Rattle.std.proofs.Common.{sym, subst, arith}
 use Rattle.rules.specs.declared.Sizes.{Sizes}
 use Rattle.layout.specs.Places.{Room, cells_words, used_of}
-use Rattle.layout.specs.Cells.{head_at, field_at, field_of, head_of, refs_of, cell_named, most_fields, room_for, room_most, room-is, page_cells, cell_on}
-use Rattle.layout.specs.Cells.{CellIn, cell_in}
+use Rattle.layout.specs.Cells.{head_at, field_at, field_of, head_of, refs_of, cell_named, most_fields, room_for, room_most, room-is, page_cells, cell_on, CellIn, cell_in}
 use Rattle.layout.specs.Objects.{Begins, begins-page, begins-there, Slot, field-slot, none_before, none_after, none-past}
-use Rattle.layout.specs.Words.{NamesCell}
+use Rattle.layout.specs.Words.{Names}
 
 -- a slot from position a on, before b
 pub record SlotFrom (p : Sizes) (a b : ℕ) (W T : List ℕ) (x : ℕ) : Type 0 where
@@ -27,8 +26,7 @@ module _ (p : Sizes) (W T : List ℕ) where
   pub gap-after : (k f : ℕ) → refs_of W k ≤ f → NoSlot p (field_at k f) (head_at (k + 1)) W T
   gap-after k f l x s = none_after p W T x k f l s.from s.below s.slot
 
-  pub gap-past : (page place : ℕ) → used_of p T page ≤ place → place ≤ page_cells
-      → NoSlot p (head_at (cell_on page place)) (head_at (cell_on (page + 1) 0)) W T
+  pub gap-past : (page place : ℕ) → used_of p T page ≤ place → place ≤ page_cells → NoSlot p (head_at (cell_on page place)) (head_at (cell_on (page + 1) 0)) W T
   gap-past page place l m x s = none-past p W T x page place l m s.from s.below s.slot
 
 -- ---- slots that can be gone over
@@ -39,11 +37,11 @@ pub record Readable (p : Sizes) (a b : ℕ) (W T : List ℕ) : Type 0 where
   pub tables-long : Room p (length T)
   pub used : (page : ℕ) → page < p.pages → used_of p T page ≤ page_cells
   pub few : (k : ℕ) → Begins p W T k → refs_of W k ≤ most_fields
-  pub names : (x : ℕ) → SlotFrom p a b W T x → NamesCell p (get_or W x 0)
+  pub names : (x : ℕ) → SlotFrom p a b W T x → Names p (get_or W x 0)
 
 -- all of them, by objects and fields
 pub readable : {p : Sizes} {W T : List ℕ} → cells_words p ≤ length W → Room p (length T) → ((page : ℕ) → page < p.pages → used_of p T page ≤ page_cells)
-    → ((k : ℕ) → Begins p W T k → refs_of W k ≤ most_fields) → ((k f : ℕ) → Begins p W T k → f < refs_of W k → NamesCell p (field_of W k f))
+    → ((k : ℕ) → Begins p W T k → refs_of W k ≤ most_fields) → ((k f : ℕ) → Begins p W T k → f < refs_of W k → Names p (field_of W k f))
     → Readable p 0 (cells_words p) W T
 readable {p} {W} long room used few names =
     record {
@@ -51,7 +49,7 @@ readable {p} {W} long room used few names =
       tables-long = room;
       used = used;
       few = few;
-      names = λ x s. let o = s.slot in subst (λ (y : ℕ). NamesCell p (get_or W y 0)) o.at (names o.object o.field o.begins o.low);
+      names = λ x s. let o = s.slot in subst (λ (y : ℕ). Names p (get_or W y 0)) o.at (names o.object o.field o.begins o.low);
     }
 
 -- some of those
@@ -78,7 +76,7 @@ module _ {p : Sizes} {W T : List ℕ} (k f : ℕ) (b : Begins p W T k) (few : re
       let room : f < room_for (head_of W k) = omega (arith, room_most (head_of W k)) in
       record { slot = field-slot p W T k f b room l; from = omega arith; below = omega (arith, room-is (head_of W k)) }
 
-  pub own-names : Readable p (head_at k) (head_at (k + 1)) W T → NamesCell p (field_of W k f)
+  pub own-names : Readable p (head_at k) (head_at (k + 1)) W T → Names p (field_of W k f)
   own-names r = r.names (field_at k f) own-slot
 
 pub cell-readable : {p : Sizes} {W T : List ℕ} (k : ℕ) → Begins p W T k → Readable p (head_at k) (head_at (k + 1)) W T → CellReadable k W

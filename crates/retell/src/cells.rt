@@ -3,13 +3,13 @@ ghost use Rattle.std.specs.Prelude.{◌+◌, ◌<◌};
 ghost use Rattle.layout.specs.Places.{cells_words};
 ghost use Rattle.layout.specs.Cells.{refs_of, head_at, cell_on};
 ghost use Rattle.layout.specs.Objects.{Slot};
-ghost use Rattle.rewrite.specs.Rewrite.{Rewritten};
-ghost use Rattle.rewrite.specs.RewriteSlots.{Field};
+ghost use Rattle.settle.specs.Rewrite.{Rewritten};
+ghost use Rattle.settle.specs.RewriteSlots.{Field};
 ghost use Rattle.retell.specs.SlotStretches.{SlotFrom, Readable, CellReadable};
 
 use layout::Kind;
-use rewrite::forward_ref;
 use rules::Sizes;
+use settle::rewrite::forward_ref;
 
 // The reference fields of a cell.
 fn rewrite_cell(cells: &mut [u32], cell: usize)

@@ -1,12 +1,12 @@
 -- Blocks of commands from the bytes of a buffer, and the answers to a block as text.
 use Rattle.std.specs.Prelude.{ℕ, zero, suc, ◌+◌, ◌*◌, List, [], ◌∷◌, ◌++◌, cond, ◌≡◌, length, get_or, set, ltb}
-use Rattle.reading.specs.declared.Line.TheVariants.{Numbers, Malformed}
-use Rattle.reading.specs.declared.Reader.{Reader}
-use Rattle.reading.specs.declared.Step.TheVariants.{More, Ended}
+use Rattle.script.specs.declared.Line.TheVariants.{Numbers, Malformed}
+use Rattle.script.specs.declared.Reader.{Reader}
+use Rattle.script.specs.declared.Step.TheVariants.{More, Ended}
 use Rattle.script.specs.declared.Filled.{Filled}
 use Rattle.script.specs.declared.Filled.TheVariants.{Done, Full, Broken}
-use Rattle.reading.specs.Reading.{started, step_of}
-use Rattle.writing.specs.Writing.{row}
+use Rattle.script.specs.Reading.{started, step_of}
+use Rattle.script.specs.Writing.{row}
 
 -- five words of a block
 abbrev pub words_put : List ℕ → ℕ → ℕ → ℕ → ℕ → ℕ → ℕ → List ℕ

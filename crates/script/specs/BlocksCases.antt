@@ -5,16 +5,16 @@ use Rattle.std.proofs.Math.Bool.{cond}
 use Rattle.std.proofs.Common.{sym, ◌∙◌, arith, add-zero, add-one, length-set, length-append, drop_of_length-le, drop-cons, lt-ltb, le-ltb}
 use Rattle.std.proofs.Math.Path.{ap, ap₂}
 use Rattle.std.proofs.Math.Seq.{paste-zero}
-use Rattle.reading.specs.declared.Line.{Line}
-use Rattle.reading.specs.declared.Line.TheVariants.{Numbers, Malformed}
-use Rattle.reading.specs.declared.Reader.{Reader}
-use Rattle.reading.specs.declared.Step.{Step}
-use Rattle.reading.specs.declared.Step.TheVariants.{More, Ended}
+use Rattle.script.specs.declared.Line.{Line}
+use Rattle.script.specs.declared.Line.TheVariants.{Numbers, Malformed}
+use Rattle.script.specs.declared.Reader.{Reader}
+use Rattle.script.specs.declared.Step.{Step}
+use Rattle.script.specs.declared.Step.TheVariants.{More, Ended}
 use Rattle.script.specs.declared.Filled.{Filled}
 use Rattle.script.specs.declared.Filled.TheVariants.{Done, Full, Broken}
-use Rattle.reading.specs.Reading.{started, step_of}
-use Rattle.writing.specs.Writing.{row, Put}
-use Rattle.writing.specs.WritingLaws.{word-length, put-put, put-text}
+use Rattle.script.specs.Reading.{started, step_of}
+use Rattle.script.specs.Writing.{row, Put}
+use Rattle.script.specs.WritingLaws.{word-length, put-put, put-text}
 use Rattle.script.specs.Blocks.{words_put, filled, Took, stacked, answer_line}
 
 -- what a step does to a block
@@ -50,8 +50,7 @@ module _ (r : Reader) (text : List ℕ) (at : ℕ) (block : List ℕ) (n : ℕ) 
         ap (λ (l : List ℕ). filled r l at block n) (drop-cons text at 0 h)
         ∙ ap₂ (λ (y : Step) (k : ℕ). stepped y (drop k text) (at + 1) block n) e (sym (add-one at))
 
-    pub fill_more : (s : Reader) → step_of r (get_or text at 0) ≡ More s
-        → filled r (drop at text) at block n ≡ filled s (drop (at + 1) text) (at + 1) block n
+    pub fill_more : (s : Reader) → step_of r (get_or text at 0) ≡ More s → filled r (drop at text) at block n ≡ filled s (drop (at + 1) text) (at + 1) block n
     unfolding stepped
     fill_more s e = fill_step (More s) e
 
@@ -68,18 +67,15 @@ module _ (r : Reader) (text : List ℕ) (at : ℕ) (block : List ℕ) (n : ℕ) 
       unfolding stepped
       fill-full k =
           fill_step (Ended (Numbers code thread a b c)) (e ∙ ap Ended f)
-          ∙ ap (λ (t : Bool). cond t (Full (at + 1) (n + 5), words_put block n code thread a b c)
-          (filled started (drop (at + 1) text) (at + 1) (words_put block n code thread a b c) (n + 5)))
+          ∙ ap (λ (t : Bool). cond t (Full (at + 1) (n + 5), words_put block n code thread a b c) (filled started (drop (at + 1) text) (at + 1) (words_put block n code thread a b c) (n + 5)))
           (lt-ltb (length block) (n + 5 + 5) (omega (arith, same-room)))
           ∙ ap (λ (w : List ℕ). (Full (at + 1) (n + 5), w)) (sym g)
 
-      pub fill_on : n + 5 + 5 ≤ length after → (s : Reader) → s ≡ started
-          → filled r (drop at text) at block n ≡ filled s (drop (at + 1) text) (at + 1) after (n + 5)
+      pub fill_on : n + 5 + 5 ≤ length after → (s : Reader) → s ≡ started → filled r (drop at text) at block n ≡ filled s (drop (at + 1) text) (at + 1) after (n + 5)
       unfolding stepped
       fill_on k s i =
           fill_step (Ended (Numbers code thread a b c)) (e ∙ ap Ended f)
-          ∙ ap (λ (t : Bool). cond t (Full (at + 1) (n + 5), words_put block n code thread a b c)
-          (filled started (drop (at + 1) text) (at + 1) (words_put block n code thread a b c) (n + 5)))
+          ∙ ap (λ (t : Bool). cond t (Full (at + 1) (n + 5), words_put block n code thread a b c) (filled started (drop (at + 1) text) (at + 1) (words_put block n code thread a b c) (n + 5)))
           (le-ltb (length block) (n + 5 + 5) (omega (arith, same-room)))
           ∙ ap₂ (λ (w : List ℕ) (q : Reader). filled q (drop (at + 1) text) (at + 1) w (n + 5)) (sym g) (sym i)
 

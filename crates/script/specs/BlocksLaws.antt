@@ -8,15 +8,15 @@ use Rattle.std.proofs.Common.{sym, ◌∙◌, arith, length-set, drop-drop}
 use Rattle.std.proofs.Math.ListN.{get_or}
 use borrow.Author.Tests.{ltb-true, ltb-false}
 use Rattle.lists.specs.Stores.{put, past}
-use Rattle.reading.specs.declared.Line.{Line}
-use Rattle.reading.specs.declared.Line.TheVariants.{Numbers, Malformed}
-use Rattle.reading.specs.declared.Reader.{Reader}
-use Rattle.reading.specs.declared.Step.{Step}
-use Rattle.reading.specs.declared.Step.TheVariants.{More, Ended}
+use Rattle.script.specs.declared.Line.{Line}
+use Rattle.script.specs.declared.Line.TheVariants.{Numbers, Malformed}
+use Rattle.script.specs.declared.Reader.{Reader}
+use Rattle.script.specs.declared.Step.{Step}
+use Rattle.script.specs.declared.Step.TheVariants.{More, Ended}
 use Rattle.script.specs.declared.Filled.{Filled}
 use Rattle.script.specs.declared.Filled.TheVariants.{Done, Full, Broken}
-use Rattle.reading.specs.Reading.{started, step_of}
-use Rattle.reading.specs.TextLaws.{found, left}
+use Rattle.script.specs.Reading.{started, step_of}
+use Rattle.script.specs.TextLaws.{found, left}
 use Rattle.script.specs.FewCommands.{command_count}
 use Rattle.script.specs.Blocks.{words_put, filled}
 use Rattle.script.specs.BlocksCases.{stepped, length-words}
@@ -75,8 +75,7 @@ unfolding filled stepped
 filled_keeps [] r at block n i h = refl
 filled_keeps (x ∷ xs) r at block n i h = go (step_of r x) (λ s w m l. filled_keeps xs s (at + 1) w m i l)
   where
-    both : (t : Bool) (p q : Filled × List ℕ) → get_or p.1 i 0 ≡ get_or block i 0 → get_or q.1 i 0 ≡ get_or block i 0
-        → get_or (cond t p q).1 i 0 ≡ get_or block i 0
+    both : (t : Bool) (p q : Filled × List ℕ) → get_or p.1 i 0 ≡ get_or block i 0 → get_or q.1 i 0 ≡ get_or block i 0 → get_or (cond t p q).1 i 0 ≡ get_or block i 0
     both true p q e f = e
     both false p q e f = f
 
@@ -109,7 +108,7 @@ Follow (Full at n) text ls r = (ls ≡ found started (drop at text)) × (r ≡ l
 Follow (Broken n) text ls r = (rest : List Line) × (ls ≡ Malformed ∷ rest)
 
 -- these lines are the commands that the block took behind its first n words, and those that follow
-pub record BlockFilled (ls : List Line) (r : Reader) (text : List ℕ) (n : ℕ) (p : Filled × List ℕ) : Type 0 where
+pub record Taken (ls : List Line) (r : Reader) (text : List ℕ) (n : ℕ) (p : Filled × List ℕ) : Type 0 where
   pub count : ℕ
   pub used : used_in p.0 ≡ n + 5 * count
   pub after : List Line
@@ -119,8 +118,8 @@ pub record BlockFilled (ls : List Line) (r : Reader) (text : List ℕ) (n : ℕ)
 module _ (text xs : List ℕ) (at : ℕ) (f : drop at text ≡ xs) (block : List ℕ) (n : ℕ) (room : n + 5 ≤ length block) where
   -- a line of five numbers: it fills the block, or there is room for another
   taken-numbers : (code thread a b c : ℕ) (t : Bool) → ltb (length block) (n + 5 + 5) ≡ t
-      → ((w : List ℕ) → n + 5 + 5 ≤ length w → BlockFilled (found started xs) (left started xs) text (n + 5) (filled started xs at w (n + 5)))
-      → BlockFilled (Numbers code thread a b c ∷ found started xs) (left started xs) text n
+      → ((w : List ℕ) → n + 5 + 5 ≤ length w → Taken (found started xs) (left started xs) text (n + 5) (filled started xs at w (n + 5)))
+      → Taken (Numbers code thread a b c ∷ found started xs) (left started xs) text n
       (cond t (Full at (n + 5), words_put block n code thread a b c) (filled started xs at (words_put block n code thread a b c) (n + 5)))
   unfolding commands_in Follow
   taken-numbers code thread a b c true e rest =
@@ -136,9 +135,7 @@ module _ (text xs : List ℕ) (at : ℕ) (f : drop at text ≡ xs) (block : List
       let g = rest w (omega (arith, ltb-false (length block) (n + 5 + 5) e, length-words block n code thread a b c)) in
       let last : List ℕ = (filled started xs at w (n + 5)).1 in
       let keep : (i : ℕ) → i < n + 5 → get_or last i 0 ≡ get_or w i 0 = λ i h. filled_keeps xs started at w (n + 5) i h in
-      let same : command_at last n ≡ command_at w n = λ i.
-      Numbers (keep n (omega arith) i) (keep (n + 1) (omega arith) i) (keep (n + 2) (omega arith) i) (keep (n + 3) (omega arith) i)
-      (keep (n + 4) (omega arith) i) in
+      let same : command_at last n ≡ command_at w n = λ i. Numbers (keep n (omega arith) i) (keep (n + 1) (omega arith) i) (keep (n + 2) (omega arith) i) (keep (n + 3) (omega arith) i) (keep (n + 4) (omega arith) i) in
       record {
         count = suc g.count;
         used = omega (arith, g.used);
@@ -148,8 +145,8 @@ module _ (text xs : List ℕ) (at : ℕ) (f : drop at text ≡ xs) (block : List
       }
 
   taken_step : (y : Step)
-      → ((s : Reader) (w : List ℕ) (m : ℕ) → m + 5 ≤ length w → BlockFilled (found s xs) (left s xs) text m (filled s xs at w m))
-      → BlockFilled (elim y as (λ z. List Line) [ More s ↦ found s xs | Ended l ↦ l ∷ found started xs ])
+      → ((s : Reader) (w : List ℕ) (m : ℕ) → m + 5 ≤ length w → Taken (found s xs) (left s xs) text m (filled s xs at w m))
+      → Taken (elim y as (λ z. List Line) [ More s ↦ found s xs | Ended l ↦ l ∷ found started xs ])
       (elim y as (λ z. Reader) [ More s ↦ left s xs | Ended l ↦ left started xs ]) text n (stepped y xs at block n)
   unfolding stepped commands_in Follow
   taken_step (More s) rest = rest s block n room
@@ -159,7 +156,7 @@ module _ (text xs : List ℕ) (at : ℕ) (f : drop at text ≡ xs) (block : List
       record { count = 0; used = omega arith; after = Malformed ∷ found started xs; lines = refl; follow = (found started xs, refl) }
 
 taken-all : (text bs : List ℕ) (r : Reader) (at : ℕ) (block : List ℕ) (n : ℕ) → drop at text ≡ bs → n + 5 ≤ length block
-    → BlockFilled (found r bs) (left r bs) text n (filled r bs at block n)
+    → Taken (found r bs) (left r bs) text n (filled r bs at block n)
 unfolding found left filled stepped commands_in Follow
 taken-all text [] r at block n e room = record { count = 0; used = omega arith; after = []; lines = refl; follow = (refl, refl) }
 taken-all text (x ∷ xs) r at block n e room =
@@ -168,7 +165,7 @@ taken-all text (x ∷ xs) r at block n e room =
 
 -- A block takes the commands of the next lines of a piece of text, in order, and leaves the rest.
 pub block_reads : (r : Reader) (text : List ℕ) (at : ℕ) (block : List ℕ) (n : ℕ) → n + 5 ≤ length block
-    → BlockFilled (found r (drop at text)) (left r (drop at text)) text n (filled r (drop at text) at block n)
+    → Taken (found r (drop at text)) (left r (drop at text)) text n (filled r (drop at text) at block n)
 block_reads r text at block n room = taken-all text (drop at text) r at block n refl room
 
 -- ---- how much it takes
@@ -192,11 +189,9 @@ never-full (x ∷ xs) r at block n h e m q = go (step_of r x) h (λ s w k l. nev
   where
     ask : (code thread a b c : ℕ) → n + 5 * suc (command_count (found started xs)) + 5 ≤ length block → (t : Bool) → ltb (length block) (n + 5 + 5) ≡ t
         → ((s : Reader) (w : List ℕ) (k : ℕ) → k + 5 * command_count (found s xs) + 5 ≤ length w → (filled s xs (at + 1) w k).0 ≡ Full e m → ⊥)
-        → (cond t (Full (at + 1) (n + 5), words_put block n code thread a b c)
-        (filled started xs (at + 1) (words_put block n code thread a b c) (n + 5))).0 ≡ Full e m → ⊥
+        → (cond t (Full (at + 1) (n + 5), words_put block n code thread a b c) (filled started xs (at + 1) (words_put block n code thread a b c) (n + 5))).0 ≡ Full e m → ⊥
     ask code thread a b c l true q f z = omega (arith, ltb-true (length block) (n + 5 + 5) q)
-    ask code thread a b c l false q f z = f started (words_put block n code thread a b c) (n + 5)
-        (omega (arith, length-words block n code thread a b c)) z
+    ask code thread a b c l false q f z = f started (words_put block n code thread a b c) (n + 5) (omega (arith, length-words block n code thread a b c)) z
 
     go : (y : Step) → n + 5 * command_count (elim y as (λ z. List Line) [ More s ↦ found s xs | Ended l ↦ l ∷ found started xs ]) + 5 ≤ length block
         → ((s : Reader) (w : List ℕ) (k : ℕ) → k + 5 * command_count (found s xs) + 5 ≤ length w → (filled s xs (at + 1) w k).0 ≡ Full e m → ⊥)

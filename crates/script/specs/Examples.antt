@@ -1,9 +1,9 @@
 -- Texts and what they say: a row for each rule of the format.
 use Rattle.std.specs.Prelude.{ℕ, List, [], ◌∷◌, ◌++◌, map, ◌≡◌, refl}
-use Rattle.reading.specs.declared.Line.{Line}
-use Rattle.reading.specs.declared.Line.TheVariants.{Numbers, Malformed}
-use Rattle.reading.specs.Text.{onto, lines, parts, digits_only, value_from, numbers_only, text_says}
-use Rattle.writing.specs.Writing.{spelt, decimal}
+use Rattle.script.specs.declared.Line.{Line}
+use Rattle.script.specs.declared.Line.TheVariants.{Numbers, Malformed}
+use Rattle.script.specs.Text.{onto, lines, parts, digits_only, value_from, numbers_only, text_says}
+use Rattle.script.specs.Writing.{spelt, decimal}
 
 -- `1 2 3 4 5` and `1 2 3 4`
 abbrev pub five : List ℕ

@@ -3,13 +3,13 @@ use Rattle.std.specs.Prelude.{ℕ, suc, ◌+◌, ◌*◌, ◌-◌, ◌≤◌, Li
 use Rattle.std.proofs.Common.{ap, arith, eqb-true}
 use Rattle.lists.specs.Says.{true-not-false}
 use Rattle.lists.specs.Tests.{both_true}
-use Rattle.reading.specs.declared.Line.{Line}
-use Rattle.reading.specs.declared.Line.TheVariants.{Numbers, Malformed}
-use Rattle.reading.specs.declared.Reader.{Reader}
-use Rattle.reading.specs.declared.Step.TheVariants.{More, Ended}
-use Rattle.reading.specs.Text.{is_digit}
-use Rattle.reading.specs.Reading.{started, spoilt, completed, numbering, spaced, digited, next_of, end_of, step_of}
-use Rattle.reading.specs.TextLaws.{found}
+use Rattle.script.specs.declared.Line.{Line}
+use Rattle.script.specs.declared.Line.TheVariants.{Numbers, Malformed}
+use Rattle.script.specs.declared.Reader.{Reader}
+use Rattle.script.specs.declared.Step.TheVariants.{More, Ended}
+use Rattle.script.specs.Text.{is_digit}
+use Rattle.script.specs.Reading.{started, spoilt, completed, numbering, spaced, digited, next_of, end_of, step_of}
+use Rattle.script.specs.TextLaws.{found}
 
 -- how many of these lines are five numbers
 unfoldable pub command_count : List Line → ℕ
@@ -47,8 +47,7 @@ needed-next r b = go (eqb b 32) (is_digit b)
     spoils : bytes_needed r ≤ bytes_needed spoilt + 1
     spoils = omega (arith, needed-most r)
 
-    completes : (m : Bool) → r.digits ≡ true → cond m 9 (9 - (2 * r.complete + cond r.digits 1 0))
-        ≤ cond m 9 (9 - (2 * (r.complete + 1) + 0)) + 1
+    completes : (m : Bool) → r.digits ≡ true → cond m 9 (9 - (2 * r.complete + cond r.digits 1 0)) ≤ cond m 9 (9 - (2 * (r.complete + 1) + 0)) + 1
     completes true e = omega arith
     completes false e = omega (arith, ap (λ (d : Bool). cond {A = ℕ} d 1 0) e)
 
@@ -86,19 +85,13 @@ unfolding found command_count step_of end_of
 commands-needed [] r = omega (arith, needed-most r)
 commands-needed (b ∷ bs) r = go (eqb b 10) (commands-needed bs (next_of r b)) (commands-needed bs started)
   where
-    ended : 10 * command_count (found started bs) + bytes_needed started ≤ length bs + 9 → (t : Bool)
-        → (not r.malformed && (r.digits && eqb r.complete 4)) ≡ t
-        → 10 * command_count (cond t (Numbers r.first r.second r.third r.fourth r.number) Malformed ∷ found started bs) + bytes_needed r
-        ≤ suc (length bs) + 9
+    ended : 10 * command_count (found started bs) + bytes_needed started ≤ length bs + 9 → (t : Bool) → (not r.malformed && (r.digits && eqb r.complete 4)) ≡ t
+        → 10 * command_count (cond t (Numbers r.first r.second r.third r.fourth r.number) Malformed ∷ found started bs) + bytes_needed r ≤ suc (length bs) + 9
     ended k true e = omega (arith, needed-started, needed-none r e)
     ended k false e = omega (arith, needed-started, needed-most r)
 
-    go : (t : Bool) → 10 * command_count (found (next_of r b) bs) + bytes_needed (next_of r b) ≤ length bs + 9
-        → 10 * command_count (found started bs) + bytes_needed started ≤ length bs + 9
-        → 10 * command_count (elim (cond t (Ended (end_of r)) (More (next_of r b))) as (λ x. List Line) [
-          | More s ↦ found s bs
-          | Ended l ↦ l ∷ found started bs
-        ]) + bytes_needed r ≤ suc (length bs) + 9
+    go : (t : Bool) → 10 * command_count (found (next_of r b) bs) + bytes_needed (next_of r b) ≤ length bs + 9 → 10 * command_count (found started bs) + bytes_needed started ≤ length bs + 9
+        → 10 * command_count (elim (cond t (Ended (end_of r)) (More (next_of r b))) as (λ x. List Line) [ More s ↦ found s bs | Ended l ↦ l ∷ found started bs ]) + bytes_needed r ≤ suc (length bs) + 9
     go true h k = ended k (not r.malformed && (r.digits && eqb r.complete 4)) refl
     go false h k = omega (arith, needed-next r b)
 

@@ -1,10 +1,14 @@
--- Blocks of commands from the text of a script, and that what is written is read back.
-
--- definitions: what must be read
-pub mod Blocks
-pub mod Examples
--- laws
+-- What the text of a script means, and what the reader and the writer do (01, "The program").
+pub mod Text
+pub mod Reading
+pub mod ReadingCases
+pub mod LineLaws
+pub mod TextLaws
 pub mod FewCommands
+pub mod Writing
+pub mod WritingLaws
+pub mod Blocks
 pub mod BlocksCases
 pub mod BlocksLaws
 pub mod RoundTrip
+pub mod Examples

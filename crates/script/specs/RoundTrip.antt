@@ -4,11 +4,11 @@ use Rattle.std.proofs.Common.{append-nil, ap, ◌∙◌, arith, pow-suc, ne_eqb,
 use Rattle.std.proofs.Math.Bool.{◌&&◌}
 use Rattle.std.proofs.Math.Path.{ap₂}
 use Rattle.lists.specs.Tests.{both_true}
-use Rattle.reading.specs.declared.Line.{Line}
-use Rattle.reading.specs.declared.Line.TheVariants.{Numbers, Malformed}
-use Rattle.reading.specs.Text.{onto, lines, parts, is_digit, digits_only, value_from, value, some, is_number, numbers_only, parts_say, says, text_says}
-use Rattle.writing.specs.Writing.{spelt, decimal, row}
-use Rattle.writing.specs.WritingLaws.{power-above}
+use Rattle.script.specs.declared.Line.{Line}
+use Rattle.script.specs.declared.Line.TheVariants.{Numbers, Malformed}
+use Rattle.script.specs.Text.{onto, lines, parts, is_digit, digits_only, value_from, value, some, is_number, numbers_only, parts_say, says, text_says}
+use Rattle.script.specs.Writing.{spelt, decimal, row}
+use Rattle.script.specs.WritingLaws.{power-above}
 
 -- ---- a number
 
@@ -113,19 +113,16 @@ unended-parts n (m ∷ ms) =
     parts-plain (decimal n) (32 ∷ unended (m ∷ ms)) [] (parts (unended (m ∷ ms))) (decimal-plain n) refl
     ∙ ap₂ (λ (l : List ℕ) (ls : List (List ℕ)). l ∷ ls) (append-nil (decimal n)) (unended-parts m ms)
 
-module _ (a b c d e : ℕ) (la : a < 4_294_967_296) (lb : b < 4_294_967_296) (lc : c < 4_294_967_296) (ld : d < 4_294_967_296)
-    (le : e < 4_294_967_296) where
+module _ (a b c d e : ℕ) (la : a < 4_294_967_296) (lb : b < 4_294_967_296) (lc : c < 4_294_967_296) (ld : d < 4_294_967_296) (le : e < 4_294_967_296) where
   five-numbers : numbers_only (map decimal (a ∷ b ∷ c ∷ d ∷ e ∷ [])) ≡ true
   unfolding numbers_only
   five-numbers =
       ap₂ ◌&&◌ (decimal-number a la)
-      (ap₂ ◌&&◌ (decimal-number b lb) (ap₂ ◌&&◌ (decimal-number c lc)
-      (ap₂ ◌&&◌ (decimal-number d ld) (ap (λ (t : Bool). t && true) (decimal-number e le)))))
+      (ap₂ ◌&&◌ (decimal-number b lb) (ap₂ ◌&&◌ (decimal-number c lc) (ap₂ ◌&&◌ (decimal-number d ld) (ap (λ (t : Bool). t && true) (decimal-number e le)))))
 
   five-say : parts_say (map decimal (a ∷ b ∷ c ∷ d ∷ e ∷ [])) ≡ Numbers a b c d e
   five-say =
-      ap (λ (t : Bool). cond (t && true)
-      (Numbers (value (decimal a)) (value (decimal b)) (value (decimal c)) (value (decimal d)) (value (decimal e))) Malformed) five-numbers
+      ap (λ (t : Bool). cond (t && true) (Numbers (value (decimal a)) (value (decimal b)) (value (decimal c)) (value (decimal d)) (value (decimal e))) Malformed) five-numbers
       ∙ (λ i. Numbers (decimal-value a i) (decimal-value b i) (decimal-value c i) (decimal-value d i) (decimal-value e i))
 
   -- A line of five words in decimal says these five words, with its line feed and without.

@@ -1,9 +1,50 @@
-// Blocks of commands, five words each, from the bytes of a script (01, "The program"), and the answers to a block as text.
-ghost use Rattle.std.specs.Prelude.{◌≡◌, ◌+◌, ◌*◌, ◌<◌, ◌≤◌, length, drop};
-ghost use Rattle.script.specs.Blocks.{words_put, Took, answer_line, stacked};
-ghost use Rattle.writing.specs.Writing.{Put};
+// The text that the program reads and the text that it prints (01, "The program"): from bytes to the numbers of a line, and back.
+// It knows nothing of the heap.
+pub mod blocks;
+pub mod read;
+pub mod write;
 
-use reading::{Line, Reader, Step};
+// What a line says: five numbers, or it is malformed.
+#[derive(Drop)]
+pub enum Line {
+    Numbers(u32, u32, u32, u32, u32),
+    Malformed,
+}
+
+// A line of which some bytes are read, whatever its length. `first` to `fourth` are the last four of its complete numbers, `number` is
+// the one after them as far as it is read, and `digits` says whether it has a digit yet.
+#[derive(Drop)]
+pub struct Reader {
+    first: u32,
+    second: u32,
+    third: u32,
+    fourth: u32,
+    complete: u32,
+    number: u32,
+    digits: bool,
+    malformed: bool,
+}
+
+// What one more byte brings: the line goes on, or it has ended and the next byte begins another.
+#[derive(Drop)]
+pub enum Step {
+    More(Reader),
+    Ended(Line),
+}
+
+// What the end of the input brings: no line has begun, or one ends without its line feed.
+#[derive(Drop)]
+pub enum Last {
+    Nothing,
+    Unended(Line),
+}
+
+// What the rest of a buffer brings: it ends inside a line, or a line ends in it, with the position after its line feed.
+#[derive(Drop)]
+pub enum Scan {
+    Open(Reader),
+    Found(Line, usize),
+}
 
 // What the rest of a buffer brings to a block of commands: all of it is read and the last line goes on, the block is full after the line
 // that ends before this position, or a line is malformed. Each has the number of words that the block holds then.
@@ -12,64 +53,4 @@ pub enum Filled {
     Done(Reader, usize),
     Full(usize, usize),
     Broken(usize),
-}
-
-// The five words of a command.
-fn put_words(block: &mut [u32], at: usize, code: u32, thread: u32, a: u32, b: u32, c: u32)
-    requires { at + 5 ≤ length block.old }
-    ensures { block.new ≡ words_put block.old at code thread a b c }
-{
-    block[at] = code;
-    block[at + 1] = thread;
-    block[at + 2] = a;
-    block[at + 3] = b;
-    block[at + 4] = c;
-}
-
-// The commands of a buffer from a position on, behind the words that the block has already: up to the end of the buffer, until the
-// block has no room for another, or to the first malformed line.
-pub fn read_block(text: &[u8], from: usize, r: Reader, block: &mut [u32], used: usize) -> Filled
-    requires { used + 5 ≤ length block.old }
-    ensures { Took r (drop from text.now) from block.old used result block.new }
-{
-    let mut at = from;
-    let mut reader = r;
-    let mut n = used;
-    while at < text.len() {
-        let byte = text[at];
-        at += 1;
-        match reading::take_byte(reader, byte) {
-            Step::More(next) => {
-                reader = next;
-            }
-            Step::Ended(line) => match line {
-                Line::Numbers(code, thread, a, b, c) => {
-                    put_words(block, n, code, thread, a, b, c);
-                    n += 5;
-                    reader = reading::start();
-                    if block.len() < n + 5 {
-                        return Filled::Full(at, n);
-                    }
-                }
-                Line::Malformed => {
-                    return Filled::Broken(n);
-                }
-            },
-        }
-    }
-    Filled::Done(reader, n)
-}
-
-// The answers to so many commands, a line each.
-pub fn put_answers(out: &mut [u8], at: usize, answers: &[u32], count: usize) -> usize
-    requires { (at + 22 * count ≤ length out.old) × (2 * count ≤ length answers.now) }
-    ensures { Put out.old at (stacked (answer_line answers.now) count) out.new result × (result ≤ at + 22 * count) }
-{
-    let mut end = at;
-    let mut i = 0;
-    while i < count {
-        end = writing::put_two(out, end, answers[2 * i], answers[2 * i + 1]);
-        i += 1;
-    }
-    end
 }

@@ -7,7 +7,7 @@ ghost use Rattle.printed.specs.Pieces.{Machine, machine};
 ghost use Rattle.lines.specs.Lines.{Lent};
 ghost use Rattle.stages.specs.Stages.{At, Placed, line_of, Feeds, most_printed, Room};
 
-use reading::{Reader, Scan};
+use script::{Reader, Scan};
 use stages::{Fed, Stage};
 
 // The first line, and then the commands of the same piece.
@@ -22,12 +22,10 @@ fn begin(
 ) -> Fed
     requires room { Room text.now out.old }
     requires lent { Lent (slices cells.old remember.old tables.old chains.old) }
-    ensures feeds { Feeds (machine reader opening) text.now
-        (slices cells.old remember.old tables.old chains.old) out.old result out.new
-        (slices cells.new remember.new tables.new chains.new) }
+    ensures feeds { Feeds (machine reader opening) text.now (slices cells.old remember.old tables.old chains.old) out.old result out.new (slices cells.new remember.new tables.new chains.new) }
     ensures length_bound { result.length ≤ most_printed (length text.now) }
 {
-    let scan = reading::read_line(text, 0, reader);
+    let scan = script::read::read_line(text, 0, reader);
     match scan {
         Scan::Open(rest) => Fed {
             stage: Stage::Opening(rest),
@@ -36,7 +34,7 @@ fn begin(
         Scan::Found(line, at) => {
             if lines::prepare(line, cells, remember, tables, chains) {
                 answers::obey(
-                    reading::start(),
+                    script::read::start(),
                     2,
                     text,
                     at,
@@ -49,7 +47,7 @@ fn begin(
             } else {
                 Fed {
                     stage: Stage::Stopped,
-                    length: writing::put_sizes(out, 0),
+                    length: script::write::put_sizes(out, 0),
                 }
             }
         }
@@ -68,9 +66,7 @@ pub fn feed(
 ) -> Fed
     requires room { Room text.now out.old × (line_of stage + length text.now < 18446744073709551616) }
     requires placed { Placed stage (slices cells.old remember.old tables.old chains.old) }
-    ensures feeds { (m : Machine) → At m stage (slices cells.old remember.old tables.old chains.old)
-        → Feeds m text.now (slices cells.old remember.old tables.old chains.old)
-        out.old result out.new (slices cells.new remember.new tables.new chains.new) }
+    ensures feeds { (m : Machine) → At m stage (slices cells.old remember.old tables.old chains.old) → Feeds m text.now (slices cells.old remember.old tables.old chains.old) out.old result out.new (slices cells.new remember.new tables.new chains.new) }
     ensures length_bound { result.length ≤ most_printed (length text.now) }
 {
     match stage {

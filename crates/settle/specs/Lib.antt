@@ -1,3 +1,8 @@
--- The remember table after an end, and its chains.
+-- References and the remember table after the copying.
+pub mod Rewrite
+pub mod RewriteSlots
+pub mod RewriteCopies
+pub mod Settle
 pub mod Update
+pub mod Touched
 pub mod Renew

@@ -17,9 +17,20 @@ use Rattle.chains.specs.Chains.{Chainable, ChainsWhole}
 use Rattle.chains.specs.Cutting.{CutsTo}
 use Rattle.promises.specs.WholeChains.{other-low}
 use Rattle.settle.specs.Update.{Settles, Updated, NewEntry}
-use Rattle.touched.specs.Touched.{NotOwn, first_own, first_touched, ChainsRight, own-most, own_first, touched-most, touched-before, not_own, others}
-use Rattle.touched.specs.Touched.{untouched}
-use Rattle.touched.specs.ChainsRenewed.{ChainsRenewed}
+use Rattle.settle.specs.Touched.{NotOwn, Chained, not_own, others, untouched}
+
+-- ---- what the renewing asks
+
+-- of the chains K of a table M with u entries, which became M'. k entries were not touched, and o is the place of the first that was of an own slot.
+pub record ChainsRenewed (p : Sizes) (r k o u : ℕ) (M M' K : List ℕ) : Type 0 where
+  pub whole : ChainsWhole p M K
+  pub room : entries_used M ≤ p.entries
+  pub counted : u ≡ entries_used M
+  pub after : Chainable p M'
+  pub low : 1 ≤ r
+  pub high : r ≤ regions p
+  pub few : k ≤ u
+  pub cut : o ≡ u → entries_used M' ≡ k → CutsTo r p.entries k M M'
 
 -- ---- as many entries as stay: each keeps its place
 
@@ -29,8 +40,7 @@ record StandsAt (N k : ℕ) (M M' : List ℕ) (i e : ℕ) : Type 0 where
   slot : slot_in M' e ≡ slot_in M i
   region : slot_region_in N M' e ≡ slot_region_in N M i
 
-module _ {N k u : ℕ} {M M' : List ℕ} (rise : Rising M u) (rise' : Rising M' k) (few : k ≤ u)
-    (all : (i : ℕ) → i < k → (e : ℕ) × StandsAt N k M M' i e) where
+module _ {N k u : ℕ} {M M' : List ℕ} (rise : Rising M u) (rise' : Rising M' k) (few : k ≤ u) (all : (i : ℕ) → i < k → (e : ℕ) × StandsAt N k M M' i e) where
   later : (i j a b : ℕ) → i < j → j < u → StandsAt N k M M' i a → StandsAt N k M M' j b → a < b
   later i j a b l h x y = go (dec_lt a b) (ℕ_discrete a b)
     where
@@ -41,8 +51,7 @@ module _ {N k u : ℕ} {M M' : List ℕ} (rise : Rising M u) (rise' : Rising M' 
 
   not-before : (i e : ℕ) → i < u → i ≤ k → StandsAt N k M M' i e → i ≤ e
   not-before zero e l h x = omega arith
-  not-before (suc i) e l h x = let y = all i (omega arith) in
-      omega (arith, later i (suc i) y.0 e (omega arith) l y.1 x, not-before i y.0 (omega arith) (omega arith) y.1)
+  not-before (suc i) e l h x = let y = all i (omega arith) in omega (arith, later i (suc i) y.0 e (omega arith) l y.1 x, not-before i y.0 (omega arith) (omega arith) y.1)
 
   -- of the last n
   not_after : (n i e : ℕ) → i + suc n ≡ k → StandsAt N k M M' i e → e ≤ i
@@ -76,7 +85,7 @@ above-none {h} z = go (ℕ_discrete h 0)
     go (yes e) = absurd (z e)
     go (no e) = omega arith
 
-module _ {p : Sizes} {r : ℕ} {W M T M' K : List ℕ} (c : ChainsRight p r M T K) (up : Updated p r p.entries (entries_used M) W M T M') where
+module _ {p : Sizes} {r : ℕ} {W M T M' K : List ℕ} (c : Chained p r M T K) (up : Updated p r p.entries (entries_used M) W M T M') where
   bounded : (x h : ℕ) → NewEntry p r p.entries (entries_used M) W M T x h → (1 ≤ h) × (h ≤ regions p)
   bounded x h (inl q) =
       let v = c.chainable.among q.entry (omega (arith, to-long p.entries M (entries_used M), q.low)) in
@@ -114,13 +123,7 @@ module _ {p : Sizes} {r : ℕ} {W M T M' K : List ℕ} (c : ChainsRight p r M T 
         let g = ap region (to_at p.entries M (entries_used M) i l) in
         let v = c.chainable.among i (omega (arith, to-long p.entries M (entries_used M))) in
         let y = up.every (slot_in M i) (slot_region_in p.entries M i)
-        (inl (record {
-          entry = i;
-          low = l;
-          slot = refl;
-          region = new-stays p r W T (slot_in M i) (slot_region_in p.entries M i) (own i l) d;
-          kept = λ z. omega (arith, v.0, g);
-        })) in
+        (inl (record { entry = i; low = l; slot = refl; region = new-stays p r W T (slot_in M i) (slot_region_in p.entries M i) (own i l) d; kept = λ z. omega (arith, v.0, g) })) in
         (y.entry, record { low = omega (arith, y.low); slot = y.slot; region = y.region })
 
     rise' : Rising M' k
@@ -144,28 +147,13 @@ module _ {p : Sizes} {r : ℕ} {W M T M' K : List ℕ} (c : ChainsRight p r M T 
         go i l h (no d) = let y = stands i h d in absurd (no_more rise rise' few all i y.0 l h y.1)
 
 -- as the code has it: o is the first place of an own slot, k the first that is touched
-module _ {p : Sizes} {r n k o : ℕ} {l W₀ M T K : List ℕ} (s : Settles p r p.entries (entries_used M) W₀ M T) (c : ChainsRight p r M T K)
-    (h : Lists (λ page. owner_of p T page ≡ r) p.pages n l) (eo : o ≡ first_own l n M) (ek : k ≡ first_touched K r o) where
-  most : o ≤ entries_used M
-  most = omega (arith, eo, own-most l n M)
-
-  own : NotOwn l n o M
-  own i v = own_first l n M i (omega (arith, eo))
-
-  le : k ≤ o
-  le = omega (arith, ek, touched-most K r o)
-
-  before : 0 < first_in K r → k < first_in K r
-  before z = omega (arith, ek, touched-before K r o z)
-
-  pub from-few : k ≤ entries_used M
-  from-few = omega (arith, most, le)
-
+module _ {p : Sizes} {r n k o : ℕ} {l W₀ M T K : List ℕ} (s : Settles p r p.entries (entries_used M) W₀ M T) (c : Chained p r M T K)
+    (h : Lists (λ page. owner_of p T page ≡ r) p.pages n l) (most : o ≤ entries_used M) (own : NotOwn l n o M) (le : k ≤ o) (before : 0 < first_in K r → k < first_in K r) where
   on-pages : (i : ℕ) → i < entries_used M → page_at (slot_in M i) < p.pages
   on-pages i v = at-page p (slot_in M i) (s.entries.low i v)
 
   pub passed : (W : List ℕ) → Unchanged (new_region p r W T) p.entries k M
-  passed = untouched c h (λ i v. on-pages i (omega (arith, most, le))) from-few (λ i v. own i (omega (arith, le))) before
+  passed = untouched c h (λ i v. on-pages i (omega arith)) (omega arith) (λ i v. own i (omega arith)) before
 
   pub renew-ask : {u : ℕ} {W M' : List ℕ} → u ≡ entries_used M → Updated p r p.entries (entries_used M) W M T M' → ChainsRenewed p r k o u M M' K
   renew-ask e up =
@@ -176,9 +164,8 @@ module _ {p : Sizes} {r n k o : ℕ} {l W₀ M T K : List ℕ} (s : Settles p r 
         after = chainable-after c up;
         low = c.low;
         high = c.high;
-        few = omega (arith, from-few, e);
+        few = omega arith;
         cut = λ q z.
-            cuts c up s.entries.rising from-few
-            (others c h (λ i v. on-pages i (omega (arith, most, le))) from-few (λ i v. own i (omega (arith, le))) before)
-            (not_own c h on-pages (omega arith) (λ i v. own i (omega (arith, e)))) z;
+            cuts c up s.entries.rising (omega arith) (others c h (λ i v. on-pages i (omega arith)) (omega arith) (λ i v. own i (omega arith)) before)
+            (not_own c h on-pages (omega arith) (λ i v. own i (omega arith))) z;
       }

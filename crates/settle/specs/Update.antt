@@ -3,7 +3,7 @@ use Rattle.std.specs.Prelude.{◌≡◌, ◌≢◌, ◌⊎◌, List, ℕ, ◌-�
 use Rattle.std.proofs.Common.{sym, subst, inl, inr, ⊎_elim, arith}
 use Rattle.rules.specs.declared.Sizes.{Sizes}
 use Rattle.layout.specs.Places.{entries_used, slot_in, slot_region_in}
-use Rattle.layout.specs.Words.{NamesCell}
+use Rattle.layout.specs.Words.{Names}
 use Rattle.remember.specs.Table.{Table}
 use Rattle.remember.specs.Entries.{Rising, ZeroBetween}
 use Rattle.remember.specs.Stretches.{Added, added-join, slot-below, EndsAfter}
@@ -13,9 +13,9 @@ use Rattle.remember.specs.Renewed.{Renewed, Appended, appended, appended-all}
 use Rattle.remember.specs.Staying.{new_region, Entries, stays-read}
 use Rattle.sorting.specs.Sorting.{sorted_from}
 use Rattle.sorting.specs.SortedIn.{sorted-renewed}
-use Rattle.rewrite.specs.Rewrite.{forwarded}
-use Rattle.copies.specs.RewriteCopies.{CopySlot, Wiring, OnPages, slot-now, slot-then}
-use Rattle.copies.specs.Settle.{cross_later, Settled, Settling}
+use Rattle.settle.specs.Rewrite.{forwarded}
+use Rattle.settle.specs.RewriteCopies.{CopySlot, Wiring, OnPages, slot-now, slot-then}
+use Rattle.settle.specs.Settle.{cross_later, Settled, Settling}
 
 abbrev pub Copies : (p : Sizes) (W T : List ℕ) → ℕ → Type 0
 Copies p W T = CopySlot p (OnPages p.pages) W T
@@ -29,7 +29,7 @@ pub record Settles (p : Sizes) (r n m : ℕ) (W M T : List ℕ) : Type 0 where
   pub entries : Entries p r n m W M
   pub wiring : Wiring p (OnPages p.pages) W T
   pub old : (i : ℕ) → i < m → Copies p W T (slot_in M i) → ⊥
-  pub names : (x : ℕ) → Copies p W T x → NamesCell p (get_or W x 0) × NamesCell p (forwarded W (get_or W x 0))
+  pub names : (x : ℕ) → Copies p W T x → Names p (get_or W x 0) × Names p (forwarded W (get_or W x 0))
   pub space : AtMost (Due p r n m W M T) n
   pub rest : ZeroBetween n M m n
 
@@ -54,8 +54,7 @@ module _ {p : Sizes} {r n m j : ℕ} {W M T M₁ : List ℕ} (u : Settles p r n 
         low = a.low;
         names = u.names;
         space =
-            at-most-rest {Q = λ x. (h : ℕ) × Stays (new_region p r W T) n M m x h} j (n - j) (slot_in M₁) (omega (arith, a.low)) u.space
-            (λ y l. (slot_region_in n M₁ y, a.named y (omega arith) l)) (λ y z. a.once y z (omega arith))
+            at-most-rest {Q = λ x. (h : ℕ) × Stays (new_region p r W T) n M m x h} j (n - j) (slot_in M₁) (omega (arith, a.low)) u.space (λ y l. (slot_region_in n M₁ y, a.named y (omega arith) l)) (λ y z. a.once y z (omega arith))
             (λ x. inl) (λ x. inr) (λ x q z. stays-apart x q.0 q.1 z.0);
       }
 

@@ -4,12 +4,13 @@ ghost use Rattle.lists.specs.Part.{Lists};
 ghost use Rattle.layout.specs.Places.{owner_of, entries_used};
 ghost use Rattle.chains.specs.Chains.{with_chains};
 ghost use Rattle.settle.specs.Update.{Copies, Settles, Updated};
-ghost use Rattle.touched.specs.Touched.{ChainsRight};
+ghost use Rattle.settle.specs.Touched.{Chained};
 
+use crate::renew::renew_chains;
+use crate::touched::{first_own, first_touched};
 use remember::entries::close_entries;
 use remember::filter::filter_entries;
 use rules::Sizes;
-use touched::{first_own, first_touched, renew_chains};
 
 // The remember table after an end that copies nothing: the entries that stay, then zeros; and its chains.
 pub fn keep_entries(
@@ -25,7 +26,7 @@ pub fn keep_entries(
     requires settles { Settles p region p.entries (entries_used remember.old) cells.now remember.old tables.now }
     requires by_index { (x : ℕ) → Copies p cells.now tables.now x → ⊥ }
     requires lists { Lists (λ page. owner_of p tables.now page ≡ region) p.pages n list.now }
-    requires chains_right { ChainsRight p region remember.old tables.now chains.old }
+    requires chained { Chained p region remember.old tables.now chains.old }
     ensures updated { Updated p region p.entries (entries_used remember.old) cells.now remember.old tables.now remember.new }
     ensures chains_after { chains.new ≡ with_chains p remember.new chains.old }
 {

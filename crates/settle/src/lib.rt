@@ -1,21 +1,125 @@
-// Settle, after the copying: the remember table follows, with its chains. The entries that stay keep their order, those of the copies' slots come
-// (the crate `copies`, which rewrites these slots), and the rest is zero.
+// Settle, after the copying: references to cells that moved go by the forward references, in the remembered slots, the variables and the
+// copies' own slots, and the remember table follows, with its chains. The copies' slots are gone over once: each becomes what it is to be, and
+// if it crosses then, its entry comes.
 pub mod entries;
+pub mod renew;
+pub mod rewrite;
+pub mod touched;
 
-ghost use Rattle.std.specs.Prelude.{◌≡◌, ℕ, ◌<◌};
-ghost use Rattle.lists.specs.Part.{Off, Lists};
-ghost use Rattle.layout.specs.Places.{owner_of, mark_of, entries_used};
+ghost use Rattle.std.specs.Prelude.{◌≡◌, ℕ, ◌<◌, length};
+ghost use Rattle.lists.specs.Part.{Rises, Off, Lists};
+ghost use Rattle.layout.specs.Places.{Room, owner_of, mark_of, entries_used};
+ghost use Rattle.layout.specs.Cells.{refs_of};
 ghost use Rattle.chains.specs.Chains.{with_chains};
-ghost use Rattle.rewrite.specs.Rewrite.{Rewritten};
+ghost use Rattle.settle.specs.Rewrite.{Rewritten};
+ghost use Rattle.settle.specs.RewriteSlots.{Field, Fields};
+ghost use Rattle.settle.specs.RewriteCopies.{CopySlot, Wiring, OnPage, OnPages};
 ghost use Rattle.settle.specs.Update.{Copies, Settles, Updated};
-ghost use Rattle.touched.specs.Touched.{ChainsRight};
+ghost use Rattle.settle.specs.Settle.{Settling, Settled};
+ghost use Rattle.settle.specs.Touched.{Chained};
 
-use copies::settle_copies;
-use remember::entries::close_entries;
+use crate::renew::renew_chains;
+use crate::rewrite::forward_ref;
+use crate::touched::{first_own, first_touched};
+use layout::Kind;
+use remember::crossing::cross;
+use remember::entries::{close_entries, put_entry};
 use remember::filter::filter_entries;
 use rules::Sizes;
 use sorting::order::order_entries;
-use touched::{first_own, first_touched, renew_chains};
+
+// The reference fields of a copy. Those that cross come after the first j entries; how many there are then.
+pub fn settle_cell(
+    p: Sizes,
+    cells: &mut [u32],
+    remember: &mut [u32],
+    tables: &[u32],
+    cell: usize,
+    j: usize,
+) -> usize
+    requires fields { Fields p (refs_of cells.old cell) cell cells.old }
+    requires settling { Settling p p.entries (Field cell (refs_of cells.old cell)) cells.old remember.old tables.now j }
+    requires room { Room p (length tables.now) }
+    ensures { Settled p p.entries (Field cell (refs_of cells.old cell)) cells.old remember.old tables.now j cells.new remember.new result }
+{
+    let entries = p.entries;
+    let n = layout::cells::field_count(Kind::Reference, layout::cells::head(cells, cell));
+    let from = layout::tables::owner(p, tables, layout::cells::page_of(cell));
+    let mut i = j;
+    let mut f: usize = 0;
+    while f < n {
+        let x = forward_ref(cells, layout::cells::field(cells, cell, f));
+        let to = cross(p, tables, from, x);
+        layout::cells::set_field(cells, cell, f, x);
+        if to != 0 {
+            put_entry(
+                entries,
+                remember,
+                i,
+                layout::cells::field_at(cell, f) as u32,
+                to,
+            );
+            i += 1;
+        }
+        f += 1;
+    }
+    i
+}
+
+// Those of the copies of a page's survivors: as many as the upper half of its mark word has ones.
+pub fn settle_page(
+    p: Sizes,
+    cells: &mut [u32],
+    remember: &mut [u32],
+    tables: &[u32],
+    page: usize,
+    j: usize,
+) -> usize
+    requires wiring { Wiring p (OnPage page) cells.old tables.now }
+    requires settling { Settling p p.entries (CopySlot p (OnPage page) cells.old tables.now) cells.old remember.old tables.now j }
+    requires page_lt_pages { page < p.pages }
+    ensures { Settled p p.entries (CopySlot p (OnPage page) cells.old tables.now) cells.old remember.old tables.now j cells.new remember.new result }
+{
+    let copied = layout::bits::upper_half(layout::tables::mark(p, tables, page));
+    let survivors = u32::count_ones(copied);
+    let mut i = j;
+    let mut left = copied;
+    let mut k: u32 = 0;
+    while k < survivors {
+        let a = u32::trailing_zeros(left);
+        let forward = layout::cells::work(cells, layout::cells::cell_on(page, layout::wide(a)));
+        let copy = layout::cells::cell_named(forward);
+        i = settle_cell(p, cells, remember, tables, copy, i);
+        left = layout::bits::without_bit(left, a);
+        k += 1;
+    }
+    i
+}
+
+// Those of all copies. Survivors were copied off listed pages only.
+pub fn settle_copies(
+    p: Sizes,
+    cells: &mut [u32],
+    remember: &mut [u32],
+    tables: &[u32],
+    list: &[u32],
+    n: usize,
+    j: usize,
+) -> usize
+    requires wiring { Wiring p (OnPages p.pages) cells.old tables.now }
+    requires settling { Settling p p.entries (CopySlot p (OnPages p.pages) cells.old tables.now) cells.old remember.old tables.now j }
+    requires rises { Rises p.pages n list.now }
+    requires by_index { (page : ℕ) → page < p.pages → Off list.now n page → mark_of p tables.now page ≡ 0 }
+    ensures { Settled p p.entries (CopySlot p (OnPages p.pages) cells.old tables.now) cells.old remember.old tables.now j cells.new remember.new result }
+{
+    let mut i = j;
+    let mut a: usize = 0;
+    while a < n {
+        i = settle_page(p, cells, remember, tables, layout::wide(list[a]), i);
+        a += 1;
+    }
+    i
+}
 
 // The copies' slots and the remember table after the end: the entries that stay and those of the copies, by rising slot, then zeros; and its chains.
 pub fn settle(
@@ -31,7 +135,7 @@ pub fn settle(
     requires settles { Settles p region p.entries (entries_used remember.old) cells.old remember.old tables.now }
     requires lists { Lists (λ page. owner_of p tables.now page ≡ region) p.pages n list.now }
     requires by_index { (page : ℕ) → page < p.pages → Off list.now n page → mark_of p tables.now page ≡ 0 }
-    requires chains_right { ChainsRight p region remember.old tables.now chains.old }
+    requires chained { Chained p region remember.old tables.now chains.old }
     ensures rewritten { Rewritten (Copies p cells.old tables.now) cells.old cells.new }
     ensures updated { Updated p region p.entries (entries_used remember.old) cells.new remember.old tables.now remember.new }
     ensures chains_after { chains.new ≡ with_chains p remember.new chains.old }

@@ -2,7 +2,7 @@
 use Rattle.std.specs.Prelude.{◌≡◌, refl, List, ℕ, ◌+◌, ◌/◌, ◌^◌, ◌≤◌, ◌<◌, length, get_or, set}
 use Rattle.std.proofs.Common.{sym, ap, ap₂, ◌∙◌, subst, subst₂, arith, length-set, get_or-set_same, get_or-set_other}
 use Rattle.std.proofs.Math.Decide.{dec_lt}
-use Rattle.std.specs.Int.Count.{ones, count_trailing_zeros}
+use Rattle.std.specs.Int.Count.{count_trailing_zeros}
 use Rattle.lists.specs.Bits.{bit_at, bit-zero}
 use Rattle.lists.specs.Part.{Skips}
 use Rattle.rules.specs.declared.Sizes.{Sizes}
@@ -41,8 +41,7 @@ module _ {p : Sizes} {l T : List ℕ} where
   numbered-none W k a e = record { size = refl; kept = λ c h k. absurd (let z : ⊥ = omega arith in z); same = λ q n. refl; count = e }
 
   -- one after the other
-  pub numbered-join : {W W' W'' : List ℕ} {k k' a b d : ℕ} → a ≤ b → b ≤ d → NumberedIn p l T W W' k a b → NumberedIn p l T W' W'' k' b d
-      → NumberedIn p l T W W'' k' a d
+  pub numbered-join : {W W' W'' : List ℕ} {k k' a b d : ℕ} → a ≤ b → b ≤ d → NumberedIn p l T W W' k a b → NumberedIn p l T W' W'' k' b d → NumberedIn p l T W W'' k' a d
   numbered-join {W} {W'} {W''} {k} {k'} {a} {b} {d} ab bd f g =
       record {
         size = g.size ∙ f.size;
@@ -67,8 +66,7 @@ module _ {p : Sizes} {l T : List ℕ} where
       })
 
   -- one that is: d and v are the cell and the reference as the code has them
-  pub numbered-cell : {W W' : List ℕ} {k a c : ℕ} (d v : ℕ) → a ≤ c → marked p T c ≡ 1 → work_at c < length W → d ≡ c → v ≡ ref_to (place_in l k)
-      → NumberedIn p l T W W' k a c
+  pub numbered-cell : {W W' : List ℕ} {k a c : ℕ} (d v : ℕ) → a ≤ c → marked p T c ≡ 1 → work_at c < length W → d ≡ c → v ≡ ref_to (place_in l k) → NumberedIn p l T W W' k a c
       → NumberedIn p l T W (set W' (work_at d) v) (k + 1) a (c + 1)
   numbered-cell {W} {W'} {k} {a} {c} d v h on long ed ev f =
       numbered-join h (omega arith) f
@@ -109,17 +107,14 @@ number-passes p l T page w k W W' e i h off f =
     subst (NumberedIn p l T W W' k (first_on page)) (let s : cell_on page i + 1 ≡ cell_on page (i + 1) = omega arith in s)
     (numbered-pass (omega arith) (marked-here p T page w i e h ∙ off) f)
 
-pub number_bit : {p : Sizes} {l T : List ℕ} {W W' : List ℕ} {k : ℕ} (page w i d v : ℕ) {W'' : List ℕ} → w ≡ mark_of p T page → i < page_cells
-    → bit_at w i ≡ 1
+pub number_bit : {p : Sizes} {l T : List ℕ} {W W' : List ℕ} {k : ℕ} (page w i d v : ℕ) {W'' : List ℕ} → w ≡ mark_of p T page → i < page_cells → bit_at w i ≡ 1
     → work_at (cell_on page i) < length W → d ≡ cell_on page i → v ≡ ref_to (place_in l k) → W'' ≡ set W' (work_at d) v
     → NumberedHere p l T page W W' k i → NumberedHere p l T page W W'' (k + 1) (i + 1)
 number_bit {p} {l} {T} {W} {W'} {k} page w i d v e h on long ed ev s f =
-    subst₂ (λ (X : List ℕ) (x : ℕ). NumberedIn p l T W X (k + 1) (first_on page) x) (sym s)
-    (let s : cell_on page i + 1 ≡ cell_on page (i + 1) = omega arith in s)
+    subst₂ (λ (X : List ℕ) (x : ℕ). NumberedIn p l T W X (k + 1) (first_on page) x) (sym s) (let s : cell_on page i + 1 ≡ cell_on page (i + 1) = omega arith in s)
     (numbered-cell d v (omega arith) (marked-here p T page w i e h ∙ on) long ed ev f)
 
-pub number-skips : {p : Sizes} {n : ℕ} {l T : List ℕ} (m : MarksListed p n l T) (W W' : List ℕ) (k : ℕ)
-    → Skips p.pages n l (NumberedTo p l T W W' k)
+pub number-skips : {p : Sizes} {n : ℕ} {l T : List ℕ} (m : MarksListed p n l T) (W W' : List ℕ) (k : ℕ) → Skips p.pages n l (NumberedTo p l T W W' k)
 number-skips {p} {n} {l} {T} m W W' k q h off f =
     let z = m.none q h off in
     numbered-join (omega arith) (omega arith) f
@@ -133,8 +128,7 @@ number-skips {p} {n} {l} {T} m W W' k q h off f =
 pub number-start : (p : Sizes) (l T W : List ℕ) → NumberedTo p l T W W 0 0
 number-start p l T W = numbered-none W 0 0 (sym (rank-zero p T))
 
-pub number-turn : {p : Sizes} {l T W W' W'' : List ℕ} {k k' : ℕ} (page : ℕ) → NumberedTo p l T W W' k page
-    → NumberedHere p l T page W' W'' k' page_cells → NumberedTo p l T W W'' k' (page + 1)
+pub number-turn : {p : Sizes} {l T W W' W'' : List ℕ} {k k' : ℕ} (page : ℕ) → NumberedTo p l T W W' k page → NumberedHere p l T page W' W'' k' page_cells → NumberedTo p l T W W'' k' (page + 1)
 number-turn {p} {l} {T} {W} {W'} {W''} {k} {k'} page f g =
     subst (NumberedIn p l T W W'' k' 0) (let s : cell_on page page_cells ≡ first_on (page + 1) = omega arith in s)
     (numbered-join (omega arith) (omega arith) f g)
@@ -147,22 +141,10 @@ pub record AtPage (p : Sizes) (T : List ℕ) (page w before : ℕ) : Type 0 wher
   pub small : w < 2 ^ page_cells
   pub count : before ≡ rank p T (first_on page)
 
--- k are kept before the cell of the next bit: those before the page, and as many as bits of w are passed
-pub record NumberWalk (p : Sizes) (l T : List ℕ) (page w before left : ℕ) (W W' : List ℕ) (k : ℕ) : Type 0 where
-  pub passed : ℕ
-  pub count : k ≡ before + passed
-  pub walk : Walk w left passed (NumberedHere p l T page W W' k)
-
-pub number-begin : {p : Sizes} {T : List ℕ} {page w before : ℕ} (l W : List ℕ) → AtPage p T page w before
-    → NumberWalk p l T page w before w W W before
+pub number-begin : {p : Sizes} {T : List ℕ} {page w before : ℕ} (l W : List ℕ) → AtPage p T page w before → Walk w w (NumberedHere p l T page W W before)
 number-begin {p} {T} {page} {w} {before} l W s =
-    record {
-      passed = 0;
-      count = omega arith;
-      walk = walk-begin s.small
-          (subst (NumberedIn p l T W W before (first_on page)) (let e : first_on page ≡ cell_on page 0 = omega arith in e)
-          (numbered-none W before (first_on page) s.count));
-    }
+    walk-begin s.small
+    (subst (NumberedIn p l T W W before (first_on page)) (let e : first_on page ≡ cell_on page 0 = omega arith in e) (numbered-none W before (first_on page) s.count))
 
 -- the next bit i of it, and the place that its cell gets
 pub record AtBit (p : Sizes) (n : ℕ) (l T : List ℕ) (page w : ℕ) (W W' : List ℕ) (k i : ℕ) : Type 0 where
@@ -173,22 +155,13 @@ pub record AtBit (p : Sizes) (n : ℕ) (l T : List ℕ) (page w : ℕ) (W W' : L
   pub listed : k / page_cells < n
   pub place : get_or l (k / page_cells) 0 < p.pages
 
-pub number_at : {p : Sizes} {n : ℕ} {l T : List ℕ} {page w before left k : ℕ} {W W' : List ℕ} → MarksListed p n l T → page < p.pages
-    → AtPage p T page w before
-    → (u : NumberWalk p l T page w before left W W' k) → u.passed < ones w → AtBit p n l T page w W W' k (count_trailing_zeros 32 left)
-number_at {p} {n} {l} {T} {page} {w} {before} {left} {k} {W} {W'} m h s v pos =
-    let u = v.walk in
+pub number_at : {p : Sizes} {n : ℕ} {l T : List ℕ} {page w before left k : ℕ} {W W' : List ℕ} → MarksListed p n l T → page < p.pages → AtPage p T page w before
+    → Walk w left (NumberedHere p l T page W W' k) → 0 < left → AtBit p n l T page w W W' k (count_trailing_zeros 32 left)
+number_at {p} {n} {l} {T} {page} {w} {before} {left} {k} {W} {W'} m h s u pos =
     let i : ℕ = count_trailing_zeros 32 left in
     let low : i < page_cells = (walk-bit u pos).lt in
     let f = walk_here u (number-passes p l T page w k W W' s.word) pos in
     let kept : KeptCell p T (cell_on page i) = (omega arith, marked-here p T page w i s.word low ∙ walk-on u pos) in
     let there = place-listed m (cell_on page i) kept in
     let listed : k / page_cells < n = omega (arith, f.count) in
-    record {
-      low = low;
-      on = walk-on u pos;
-      here = f;
-      few = omega (arith, f.count, rank-few p T (cell_on page i));
-      listed = listed;
-      place = m.rises.low (k / page_cells) listed;
-    }
+    record { low = low; on = walk-on u pos; here = f; few = omega (arith, f.count, rank-few p T (cell_on page i)); listed = listed; place = m.rises.low (k / page_cells) listed }

@@ -2,9 +2,8 @@
 -- take the places before. A kept cell is one that is marked.
 use Rattle.std.specs.Prelude.{◌≡◌, ◌⊎◌, List, ℕ, zero, suc, ◌+◌, ◌*◌, ◌/◌, ◌%◌, ◌≤◌, ◌<◌, get_or}
 use Rattle.std.proofs.Math.Path.{refl}
-use Rattle.std.proofs.Common.{sym, ap, ◌∙◌, subst, inl, inr}
+use Rattle.std.proofs.Common.{sym, ap, ◌∙◌, subst, inl, inr, arith}
 use Rattle.std.proofs.Math.Decide.{ℕ_discrete, dec_lt}
-use native.Mathlib.Omega.{arith}
 use Rattle.lists.specs.Bits.{bit_at, bit-lt, bit-zero}
 use Rattle.lists.specs.Counting.{sum, sum-add, sum-high, sum_mono, sum_more, sum-none}
 use Rattle.lists.specs.Part.{Rises, Off, Through, cut-here, through-start, through-turn, through-end}
@@ -13,7 +12,7 @@ use Rattle.rules.specs.Pages.{place_in}
 use Rattle.layout.specs.Places.{mark_of}
 use Rattle.layout.specs.Cells.{page_of, place_of, first_on, page_cells}
 use Rattle.layout.specs.Marks.{marked, mark?}
-use Rattle.stack.specs.Marks.{Small}
+use Rattle.mark.specs.Marks.{Small}
 
 -- how many cells below c are kept
 unfoldable pub rank : Sizes → List ℕ → ℕ → ℕ
@@ -51,11 +50,7 @@ module _ (p : Sizes) (T : List ℕ) where
   -- k cells more, of which no more than k are kept
   pub rank-span : (a k : ℕ) → rank p T (a + k) ≤ rank p T a + k
   unfolding rank
-  rank-span a k = omega (
-    arith,
-    sum-add (marked p T) a k,
-    sum-high (λ j. marked p T (a + j)) 1 k (λ j l. omega (arith, bit-lt (place_of (a + j)) (mark_of p T (page_of (a + j))))),
-  )
+  rank-span a k = omega (arith, sum-add (marked p T) a k, sum-high (λ j. marked p T (a + j)) 1 k (λ j l. omega (arith, bit-lt (place_of (a + j)) (mark_of p T (page_of (a + j))))))
 
   pub rank-few : (c : ℕ) → rank p T c ≤ c
   rank-few c = omega (arith, rank-span 0 c, rank-zero, ap (rank p T) (let e : 0 + c ≡ c = omega arith in e))
@@ -72,8 +67,7 @@ module _ (p : Sizes) (T : List ℕ) where
       ∙ rank-skip (first_on q) page_cells
       (λ j l.
       let e : page_of (first_on q + j) ≡ q = omega arith in
-      ap (λ (x : ℕ). bit_at (mark_of p T x) (place_of (first_on q + j))) e ∙ ap (λ (x : ℕ). bit_at x (place_of (first_on q + j))) z
-      ∙ bit-zero (place_of (first_on q + j)))
+      ap (λ (x : ℕ). bit_at (mark_of p T x) (place_of (first_on q + j))) e ∙ ap (λ (x : ℕ). bit_at x (place_of (first_on q + j))) z ∙ bit-zero (place_of (first_on q + j)))
 
   -- kept cells are counted one by one
   pub rank_rises : (b c : ℕ) → b < c → marked p T b ≡ 1 → rank p T b < rank p T c
@@ -87,8 +81,7 @@ module _ (p : Sizes) (T : List ℕ) where
       more : rank p T (suc b) ≡ rank p T b + marked p T b
       more = ap (rank p T) (let e : suc b ≡ b + 1 = omega arith in e) ∙ rank-next b
 
-      go : Dec (k < rank p T b) → (marked p T b ≡ 0) ⊎ (marked p T b ≡ 1)
-          → (k < rank p T b → (c : ℕ) × (c < b) × (marked p T c ≡ 1) × (rank p T c ≡ k))
+      go : Dec (k < rank p T b) → (marked p T b ≡ 0) ⊎ (marked p T b ≡ 1) → (k < rank p T b → (c : ℕ) × (c < b) × (marked p T c ≡ 1) × (rank p T c ≡ k))
           → (c : ℕ) × (c < suc b) × (marked p T c ≡ 1) × (rank p T c ≡ k)
       go (yes h) m rest = let q = rest h in (q.0, omega (arith, q.1), q.2, q.3)
       go (no h) (inl z) rest = absurd (let y : ⊥ = omega (arith, more) in y)
@@ -130,13 +123,8 @@ module _ {p : Sizes} {n : ℕ} {l T : List ℕ} (m : MarksListed p n l T) where
   rank-through (suc i) h =
       let e : i + 1 ≡ suc i = omega arith in
       subst (λ (x : ℕ). Through p.pages n l x (λ b. rank p T (first_on b) ≤ page_cells * suc i)) e
-      (through-turn p.pages n l (λ b. rank p T (first_on b) ≤ page_cells * i) (λ b. rank p T (first_on b) ≤ page_cells * suc i) i (get_or l i 0)
-      m.rises (omega arith) refl (rank-through i (omega arith))
-      (λ r. omega (
-        arith,
-        rank-span p T (first_on (get_or l i 0)) page_cells,
-        ap (rank p T) (let s : first_on (get_or l i 0 + 1) ≡ first_on (get_or l i 0) + page_cells = omega arith in s),
-      ))
+      (through-turn p.pages n l (λ b. rank p T (first_on b) ≤ page_cells * i) (λ b. rank p T (first_on b) ≤ page_cells * suc i) i (get_or l i 0) m.rises (omega arith) refl (rank-through i (omega arith))
+      (λ r. omega (arith, rank-span p T (first_on (get_or l i 0)) page_cells, ap (rank p T) (let s : first_on (get_or l i 0 + 1) ≡ first_on (get_or l i 0) + page_cells = omega arith in s)))
       (λ q lq off r. omega (arith, rank-page p T q (m.none q lq off))))
 
   -- so a cell of listed page number j has at most so many below it
@@ -148,8 +136,7 @@ module _ {p : Sizes} {n : ℕ} {l T : List ℕ} (m : MarksListed p n l T) where
 
   -- all kept cells fit on the listed pages
   pub rank_room : rank p T (first_on p.pages) ≤ page_cells * n
-  rank_room = through-end p.pages n l (λ b. rank p T (first_on b) ≤ page_cells * n) n m.rises (omega arith) (omega arith)
-      (rank-through n (omega arith))
+  rank_room = through-end p.pages n l (λ b. rank p T (first_on b) ≤ page_cells * n) n m.rises (omega arith) (omega arith) (rank-through n (omega arith))
 
   -- a kept cell is on one of them
   pub kept-listed : (c : ℕ) → KeptCell p T c → (j : ℕ) × (j < n) × (get_or l j 0 ≡ page_of c)

@@ -4,12 +4,11 @@ use Rattle.std.specs.Prelude.{◌≡◌, refl, ◌≢◌, List, ℕ, ◌+◌, �
 use Rattle.std.proofs.Common.{sym, ap, ◌∙◌, subst, arith, length-set, get_or-set_same, get_or-set_other}
 use Rattle.std.proofs.Math.Logic.{by_cases}
 use Rattle.std.proofs.Math.Decide.{ℕ_discrete, dec_lt}
-use Rattle.std.specs.Int.Count.{ones, count_trailing_zeros}
+use Rattle.std.specs.Int.Count.{count_trailing_zeros}
 use Rattle.lists.specs.Part.{Skips}
 use Rattle.rules.specs.declared.Sizes.{Sizes}
 use Rattle.layout.specs.Places.{mark_of, cells_words}
-use Rattle.layout.specs.Cells.{word_at, work_at, work_of, cell_named, ref_to, cell_on, cell_of, first_on, page_cells, cell_words, word_cell, work-cell, CellIn}
-use Rattle.layout.specs.Cells.{cell_in}
+use Rattle.layout.specs.Cells.{word_at, work_at, work_of, cell_named, ref_to, cell_on, cell_of, first_on, page_cells, cell_words, word_cell, work-cell, CellIn, cell_in}
 use Rattle.layout.specs.Marks.{marked}
 use Rattle.copy.specs.Moves.{Copied}
 use Rattle.slide.specs.Ranks.{new_place, KeptCell, MarksListed, place-in, place-not-above, place-rises}
@@ -85,8 +84,7 @@ slid-none p l T W a =
     }
 
 -- a cell that is not kept
-pub slid-pass : {p : Sizes} {l T W W' : List ℕ} {a b c : ℕ} → b ≤ c → ((d : ℕ) → b ≤ d → d < c → marked p T d ≡ 0) → SlidIn p l T W W' a b
-    → SlidIn p l T W W' a c
+pub slid-pass : {p : Sizes} {l T W W' : List ℕ} {a b c : ℕ} → b ≤ c → ((d : ℕ) → b ≤ d → d < c → marked p T d ≡ 0) → SlidIn p l T W W' a b → SlidIn p l T W W' a c
 slid-pass {p} {l} {T} {W} {W'} {a} {b} {c} bc off f =
     record {
       size = f.size;
@@ -108,8 +106,7 @@ behind x b c i h k l e = omega (arith, word_cell c i l)
 
 module _ {p : Sizes} {n : ℕ} {l T : List ℕ} (m : MarksListed p n l T) where
   -- one after the other
-  pub slid-join : {W W' W'' : List ℕ} {a b d : ℕ} → a ≤ b → b ≤ d → d ≤ first_on p.pages → SlidIn p l T W W' a b → SlidIn p l T W' W'' b d
-      → SlidIn p l T W W'' a d
+  pub slid-join : {W W' W'' : List ℕ} {a b d : ℕ} → a ≤ b → b ≤ d → d ≤ first_on p.pages → SlidIn p l T W W' a b → SlidIn p l T W' W'' b d → SlidIn p l T W W'' a d
   slid-join {W} {W'} {W''} {a} {b} {d} ab bd top f g =
       record {
         size = g.size ∙ f.size;
@@ -140,8 +137,7 @@ module _ {p : Sizes} {n : ℕ} {l T : List ℕ} (m : MarksListed p n l T) where
       ∙ named c (omega arith) k
 
   -- one cell more
-  pub slid-cell : {W W' W'' : List ℕ} {a : ℕ} (c d : ℕ) → a ≤ c → KeptCell p T c → d ≡ new_place p l T c → CellSlid c d W' W'' → SlidIn p l T W W' a c
-      → SlidIn p l T W W'' a (c + 1)
+  pub slid-cell : {W W' W'' : List ℕ} {a : ℕ} (c d : ℕ) → a ≤ c → KeptCell p T c → d ≡ new_place p l T c → CellSlid c d W' W'' → SlidIn p l T W W' a c → SlidIn p l T W W'' a (c + 1)
   slid-cell {W} {W'} {W''} {a} c d h k e s f =
       slid-join h (omega arith) (omega (arith, k.0)) f
       (record {
@@ -168,8 +164,7 @@ pub slide-skips : {p : Sizes} {n : ℕ} {l T : List ℕ} (m : MarksListed p n l 
 slide-skips {p} {n} {l} {T} m W W' q h off f =
     slid-pass (omega arith) (λ d x y. unmarked-page p T q d (m.none q h off) (omega arith)) f
 
-pub slide-turn : {p : Sizes} {n : ℕ} {l T W W' W'' : List ℕ} (page : ℕ) → MarksListed p n l T → page < p.pages → SlidTo p l T W W' page
-    → SlidHere p l T page W' W'' page_cells → SlidTo p l T W W'' (page + 1)
+pub slide-turn : {p : Sizes} {n : ℕ} {l T W W' W'' : List ℕ} (page : ℕ) → MarksListed p n l T → page < p.pages → SlidTo p l T W W' page → SlidHere p l T page W' W'' page_cells → SlidTo p l T W W'' (page + 1)
 slide-turn {p} {n} {l} {T} {W} {W'} {W''} page m low f g =
     subst (SlidIn p l T W W'' 0) (let s : cell_on page page_cells ≡ first_on (page + 1) = omega arith in s)
     (slid-join m (omega arith) (omega arith) (omega arith) f g)
@@ -183,7 +178,7 @@ pub record Sliding (p : Sizes) (n : ℕ) (l T : List ℕ) (page w : ℕ) (W : Li
   pub named : NamedFrom p l T (first_on page) W
 
 module _ {p : Sizes} {n : ℕ} {l T : List ℕ} {page w : ℕ} {W : List ℕ} (s : Sliding p n l T page w W) where
-  pub slide-begin : Walk w w 0 (SlidHere p l T page W W)
+  pub slide-begin : Walk w w (SlidHere p l T page W W)
   slide-begin =
       walk-begin s.small
       (subst (SlidIn p l T W W (first_on page)) (let e : first_on page ≡ cell_on page 0 = omega arith in e) (slid-none p l T W (first_on page)))
@@ -194,7 +189,7 @@ module _ {p : Sizes} {n : ℕ} {l T : List ℕ} {page w : ℕ} {W : List ℕ} (s
       (λ d x y. ap (marked p T) (let e : d ≡ cell_on page i = omega arith in e) ∙ marked-here p T page w i s.word h ∙ off) f
 
   -- the next bit i of it: its cell is kept, and names its new place
-  module _ {left k : ℕ} {W' : List ℕ} (u : Walk w left k (SlidHere p l T page W W')) (pos : k < ones w) where
+  module _ {left : ℕ} {W' : List ℕ} (u : Walk w left (SlidHere p l T page W W')) (pos : 0 < left) where
     pub slide-kept : KeptCell p T (cell_on page (count_trailing_zeros 32 left))
     slide-kept =
         let i = (walk-bit u pos).lt in
@@ -203,8 +198,7 @@ module _ {p : Sizes} {n : ℕ} {l T : List ℕ} {page w : ℕ} {W : List ℕ} (s
     pub slide-named : work_of W' (cell_on page (count_trailing_zeros 32 left)) ≡ ref_to (new_place p l T (cell_on page (count_trailing_zeros 32 left)))
     slide-named =
         let i = (walk-bit u pos).lt in
-        named-after s.listed (omega arith) (omega (arith, s.low)) s.named (walk_here u (slide-passes W') pos)
-        (cell_on page (count_trailing_zeros 32 left)) (omega arith) slide-kept
+        named-after s.listed (omega arith) (omega (arith, s.low)) s.named (walk_here u (slide-passes W') pos) (cell_on page (count_trailing_zeros 32 left)) (omega arith) slide-kept
 
     -- c is the cell as the code has it
     module _ (c : ℕ) (e : c ≡ cell_on page (count_trailing_zeros 32 left)) where
@@ -212,14 +206,11 @@ module _ {p : Sizes} {n : ℕ} {l T : List ℕ} {page w : ℕ} {W : List ℕ} (s
       slide-to = subst (λ (x : ℕ). work_of W' x ≡ ref_to (new_place p l T x)) (sym e) slide-named
 
       -- both cells are there
-      pub slide-there : p.pages ≤ 1024 → cells_words p ≤ length W'
-          → CellIn c (length W') × ((0 < work_of W' c) × CellIn (cell_named (work_of W' c)) (length W'))
+      pub slide-there : p.pages ≤ 1024 → cells_words p ≤ length W' → CellIn c (length W') × ((0 < work_of W' c) × CellIn (cell_named (work_of W' c)) (length W'))
       slide-there few long =
           let k = subst (KeptCell p T) (sym e) slide-kept in
-          let z : new_place p l T c ≡ cell_named (work_of W' c) = omega (arith, slide-to) in (
-            cell_in p few long k.0,
-            (omega (arith, slide-to), subst (λ (x : ℕ). CellIn x (length W')) z (cell_in p few long (place-in s.listed c k))),
-          )
+          let z : new_place p l T c ≡ cell_named (work_of W' c) = omega (arith, slide-to) in
+          (cell_in p few long k.0, (omega (arith, slide-to), subst (λ (x : ℕ). CellIn x (length W')) z (cell_in p few long (place-in s.listed c k))))
 
       pub slide-bit : {W'' : List ℕ} → CellSlid c (cell_named (work_of W' c)) W' W'' → SlidHere p l T page W W'' (count_trailing_zeros 32 left + 1)
       slide-bit {W''} h =

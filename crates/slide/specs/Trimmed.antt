@@ -30,16 +30,14 @@ pub record CellsCleared (page u v : ℕ) (W W' : List ℕ) : Type 0 where
 pub cells-none : (page u v : ℕ) (W : List ℕ) → v ≤ u → CellsCleared page u v W W
 cells-none page u v W h = record { size = refl; zeros = λ q e a b. absurd (let z : ⊥ = omega arith in z); same = λ q n. refl }
 
-pub cells-cleared : (page u v : ℕ) {W W' : List ℕ} → v ≤ page_cells → Cleared (head_at (cell_on page u)) (head_at (cell_on page v)) W W'
-    → CellsCleared page u v W W'
+pub cells-cleared : (page u v : ℕ) {W W' : List ℕ} → v ≤ page_cells → Cleared (head_at (cell_on page u)) (head_at (cell_on page v)) W W' → CellsCleared page u v W W'
 cells-cleared page u v {W} {W'} few c =
     record {
       size = c.long;
       zeros = λ q e a b. c.zeros q (omega arith) (omega arith);
       same = λ q n.
           by_cases (dec_lt q (head_at (cell_on page u))) (c.low q)
-          (λ a. by_cases (dec_lt q (head_at (cell_on page v))) (λ b. absurd (n (omega arith) (omega arith) (omega arith)))
-          (λ b. c.high q (omega arith)));
+          (λ a. by_cases (dec_lt q (head_at (cell_on page v))) (λ b. absurd (n (omega arith) (omega arith) (omega arith))) (λ b. c.high q (omega arith)));
     }
 
 -- its words: so many cells in use, this owner, no marks
@@ -65,14 +63,7 @@ words-held pos w =
 
 pub words-free : {p : Sizes} {page u : ℕ} {T T' : List ℕ} → u ≡ 0 → WordsAre p page u 0 T T' → PageWords p page u T T'
 words-free z w =
-    record {
-      size = w.size;
-      used = w.used;
-      owner = λ h. absurd (let y : ⊥ = omega arith in y);
-      free = λ z. w.owner;
-      mark = w.mark;
-      same = w.same;
-    }
+    record { size = w.size; used = w.used; owner = λ h. absurd (let y : ⊥ = omega arith in y); free = λ z. w.owner; mark = w.mark; same = w.same }
 
 -- as the code stores them
 module _ {p : Sizes} {T : List ℕ} (r : Room p (length T)) {page : ℕ} (low : page < p.pages) (u : ℕ) where
@@ -110,10 +101,8 @@ pub record Trimmed (p : Sizes) (l : List ℕ) (n kept : ℕ) (W T W' T' : List �
   pub free : (j : ℕ) → j < n → left_for kept j ≡ 0 → owner_of p T' (get_or l j 0) ≡ 0
   pub marks : (j : ℕ) → j < n → mark_of p T' (get_or l j 0) ≡ 0
   pub tables : (q : ℕ) → ((j : ℕ) → j < n → OffPage p (get_or l j 0) q) → get_or T' q 0 ≡ get_or T q 0
-  pub zeros : (q j : ℕ) → j < n → page_at q ≡ get_or l j 0 → left_for kept j ≤ place_of (cell_of q) → place_of (cell_of q) < used_of p T (get_or l j 0)
-      → get_or W' q 0 ≡ 0
-  pub cells : (q : ℕ) → ((j : ℕ) → j < n → page_at q ≡ get_or l j 0 → left_for kept j ≤ place_of (cell_of q) → place_of (cell_of q) < used_of p T (get_or l j 0)
-      → ⊥) → get_or W' q 0 ≡ get_or W q 0
+  pub zeros : (q j : ℕ) → j < n → page_at q ≡ get_or l j 0 → left_for kept j ≤ place_of (cell_of q) → place_of (cell_of q) < used_of p T (get_or l j 0) → get_or W' q 0 ≡ 0
+  pub cells : (q : ℕ) → ((j : ℕ) → j < n → page_at q ≡ get_or l j 0 → left_for kept j ≤ place_of (cell_of q) → place_of (cell_of q) < used_of p T (get_or l j 0) → ⊥) → get_or W' q 0 ≡ get_or W q 0
 
 pub trim_start : (p : Sizes) (l : List ℕ) (kept : ℕ) (W T : List ℕ) → Trimmed p l 0 kept W T W T
 trim_start p l kept W T =
@@ -143,8 +132,7 @@ pages-apart {p} r a b la lb ne =
       mark = (λ e. omega (arith, r.owners, r.used), λ e. omega (arith, r.used), λ e. ne (omega arith));
     }
 
-module _ {p : Sizes} {l : List ℕ} {m n kept : ℕ} {W T W' T' : List ℕ} (r : Room p (length T)) (rises : Rises p.pages m l) (h : n < m)
-    (f : Trimmed p l n kept W T W' T') where
+module _ {p : Sizes} {l : List ℕ} {m n kept : ℕ} {W T W' T' : List ℕ} (r : Room p (length T)) (rises : Rises p.pages m l) (h : n < m) (f : Trimmed p l n kept W T W' T') where
   -- the next page is none of those before it
   before : (j : ℕ) → j < n → PagesApart p (get_or l j 0) (get_or l n 0) × PagesApart p (get_or l n 0) (get_or l j 0)
   before j k =
@@ -160,15 +148,13 @@ module _ {p : Sizes} {l : List ℕ} {m n kept : ℕ} {W T W' T' : List ℕ} (r :
   trim-owner : owner_of p T' (get_or l n 0) ≡ owner_of p T (get_or l n 0)
   trim-owner = f.tables (owner_at p (get_or l n 0)) (λ j k. (before j k).0.owner)
 
-  trim-next : {W'' T'' : List ℕ} → CellsCleared (get_or l n 0) (left_for kept n) (used_of p T (get_or l n 0)) W' W''
-      → PageWords p (get_or l n 0) (left_for kept n) T' T'' → Trimmed p l (n + 1) kept W T W'' T''
+  trim-next : {W'' T'' : List ℕ} → CellsCleared (get_or l n 0) (left_for kept n) (used_of p T (get_or l n 0)) W' W'' → PageWords p (get_or l n 0) (left_for kept n) T' T'' → Trimmed p l (n + 1) kept W T W'' T''
   trim-next {W''} {T''} c w =
       record {
         cells-size = c.size ∙ f.cells-size;
         tables-size = w.size ∙ f.tables-size;
         used =
-            upto n {X = λ j. used_of p T'' (get_or l j 0) ≡ left_for kept j} (λ j k. w.same (used_at p (get_or l j 0)) (before j k).1.used ∙ f.used j k)
-            w.used;
+            upto n {X = λ j. used_of p T'' (get_or l j 0) ≡ left_for kept j} (λ j k. w.same (used_at p (get_or l j 0)) (before j k).1.used ∙ f.used j k) w.used;
         owner =
             upto n {X = λ j. 0 < left_for kept j → owner_of p T'' (get_or l j 0) ≡ owner_of p T (get_or l j 0)}
             (λ j k pos. w.same (owner_at p (get_or l j 0)) (before j k).1.owner ∙ f.owner j k pos) (λ pos. w.owner pos ∙ trim-owner);
@@ -179,15 +165,13 @@ module _ {p : Sizes} {l : List ℕ} {m n kept : ℕ} {W T W' T' : List ℕ} (r :
             upto n {X = λ j. mark_of p T'' (get_or l j 0) ≡ 0} (λ j k. w.same (mark_at p (get_or l j 0)) (before j k).1.mark ∙ f.marks j k) w.mark;
         tables = λ q k. w.same q (k n (omega arith)) ∙ f.tables q (λ j i. k j (omega arith));
         zeros = λ q.
-            upto n {X = λ j. page_at q ≡ get_or l j 0 → left_for kept j ≤ place_of (cell_of q) → place_of (cell_of q) < used_of p T (get_or l j 0)
-            → get_or W'' q 0 ≡ 0}
+            upto n {X = λ j. page_at q ≡ get_or l j 0 → left_for kept j ≤ place_of (cell_of q) → place_of (cell_of q) < used_of p T (get_or l j 0) → get_or W'' q 0 ≡ 0}
             (λ j k on a b. c.same q (λ on'. absurd (let z : ⊥ = omega (arith, rises.rising j n k h) in z)) ∙ f.zeros q j k on a b) (c.zeros q);
         cells = λ q k. c.same q (k n (omega arith)) ∙ f.cells q (λ j i. k j (omega arith));
       }
 
   -- page, u and v are as the code has them
-  pub trim-turn : {W'' T'' : List ℕ} (page u v : ℕ) → page ≡ get_or l n 0 → u ≡ left_for kept n → v ≡ used_of p T' page → CellsCleared page u v W' W''
-      → PageWords p page u T' T'' → Trimmed p l (n + 1) kept W T W'' T''
+  pub trim-turn : {W'' T'' : List ℕ} (page u v : ℕ) → page ≡ get_or l n 0 → u ≡ left_for kept n → v ≡ used_of p T' page → CellsCleared page u v W' W'' → PageWords p page u T' T'' → Trimmed p l (n + 1) kept W T W'' T''
   trim-turn {W''} {T''} page u v ep eu ev c w =
       trim-next (subst₃ (λ (x y z : ℕ). CellsCleared x y z W' W'') ep eu (ev ∙ ap (used_of p T') ep ∙ trim-used) c)
       (subst₂ (λ (x y : ℕ). PageWords p x y T' T'') ep eu w)

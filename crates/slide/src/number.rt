@@ -17,8 +17,7 @@ fn place_in(list: &[u32], k: usize) -> usize
     layout::cells::cell_on(page, k % layout::cells::CELLS)
 }
 
-// The kept cells of a page, where so many are before it: as many as its mark word's ones count, the next one by trailing zeros. The answer is how
-// many there are with its own.
+// The kept cells of a page, where so many are before it. The answer is how many there are with its own.
 fn number_page(
     p: Sizes,
     cells: &mut [u32],
@@ -33,11 +32,9 @@ fn number_page(
     requires page_lt_pages { (page < p.pages) × (before ≡ rank p tables.now (first_on page)) }
     ensures { NumberedHere p list.now tables.now page cells.old cells.new result page_cells }
 {
-    let marks = layout::tables::mark(p, tables, page);
-    let all = before + layout::wide(u32::count_ones(marks));
-    let mut left = marks;
+    let mut left = layout::tables::mark(p, tables, page);
     let mut k = before;
-    while k < all {
+    while 0 < left {
         let i = u32::trailing_zeros(left);
         let cell = layout::cells::cell_on(page, layout::wide(i));
         layout::cells::set_work(cells, cell, layout::cells::ref_to(place_in(list, k)));

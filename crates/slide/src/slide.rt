@@ -22,7 +22,7 @@ fn slide_cell(cells: &mut [u32], cell: usize)
     }
 }
 
-// The kept cells of listed page number `at`: as many as its mark word's ones count, the next one by trailing zeros.
+// The kept cells of listed page number `at`.
 fn slide_page(p: Sizes, cells: &mut [u32], tables: &[u32], list: &[u32], at: usize)
     requires room { Room p (length tables.now) }
     requires p_in_bounds { cells_words p ≤ length cells.old }
@@ -31,15 +31,11 @@ fn slide_page(p: Sizes, cells: &mut [u32], tables: &[u32], list: &[u32], at: usi
     ensures { SlidHere p list.now tables.now (get_or list.now at 0) cells.old cells.new page_cells }
 {
     let page = layout::wide(list[at]);
-    let marks = layout::tables::mark(p, tables, page);
-    let kept = u32::count_ones(marks);
-    let mut left = marks;
-    let mut k: u32 = 0;
-    while k < kept {
+    let mut left = layout::tables::mark(p, tables, page);
+    while 0 < left {
         let i = u32::trailing_zeros(left);
         slide_cell(cells, layout::cells::cell_on(page, layout::wide(i)));
         left = layout::bits::without_bit(left, i);
-        k += 1;
     }
 }
 

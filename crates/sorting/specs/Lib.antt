@@ -1,6 +1,7 @@
--- Entries of the remember table in any order, sorted by slot and merged with those that rise already.
+-- Entries in any order, sorted by slot and merged with those that rise already.
 pub mod Sorting
-pub mod Taken
+pub mod Pairs
 pub mod Merging
+pub mod Runs
 pub mod DistinctSlots
 pub mod SortedIn

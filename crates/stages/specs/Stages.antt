@@ -1,15 +1,15 @@
 -- What each stage of the code promises: it is where the machine of Pieces is, and writes what that prints.
 use Rattle.std.specs.Prelude.{ℕ, ◌*◌, ◌+◌, ◌/◌, ◌≤◌, ◌≡◌, List, Bool, true, false, not, length}
 use Rattle.promises.specs.Slices.{Slices}
-use Rattle.reading.specs.declared.Reader.{Reader}
+use Rattle.script.specs.declared.Reader.{Reader}
 use Rattle.script.specs.declared.Filled.{Filled}
 use Rattle.script.specs.declared.Filled.TheVariants.{Done, Full, Broken}
-use Rattle.reading.specs.Reading.{fresh}
-use Rattle.writing.specs.Writing.{Put, line_line}
-use Rattle.reading.specs.TextLaws.{found}
+use Rattle.script.specs.Reading.{fresh}
+use Rattle.script.specs.Writing.{Put, line_line}
+use Rattle.script.specs.TextLaws.{found}
 use Rattle.printed.specs.Printed.{Session, opening, running, stopped}
 use Rattle.printed.specs.Pieces.{Machine, feed, feed_prints, missing, close_prints}
-use Rattle.lines.specs.Lines.{Lent, StageHolds, LinesChange}
+use Rattle.lines.specs.Lines.{Lent, Holds, LinesChange}
 use Rattle.stages.specs.declared.Stage.{Stage}
 use Rattle.stages.specs.declared.Stage.TheVariants.{Opening, Running, Stopped}
 use Rattle.stages.specs.declared.Fed.{Fed}
@@ -25,7 +25,7 @@ stage_of r stopped = Stopped
 pub record At (m : Machine) (stage : Stage) (l : Slices) : Type 0 where
   pub stage_is : stage ≡ stage_of m.reader m.session
   pub lent : Lent l
-  pub holds : StageHolds m.session l
+  pub holds : Holds m.session l
 
 -- so is a machine
 abbrev pub Placed : Stage → Slices → Type 0
@@ -70,8 +70,7 @@ pub record Room (text out : List ℕ) : Type 0 where
 pub data Proceeds (x : Filled) (next end : ℕ) (out : List ℕ) (fed : Fed) (after : List ℕ) : Type 0 where
   onward : {rest : Reader} {used : ℕ} → x ≡ Done rest used → fed ≡ record { stage = Running rest next; length = end } → after ≡ out
       → Proceeds x next end out fed after
-  malformed : {used : ℕ} → x ≡ Broken used → fed.stage ≡ Stopped → Put out end (line_line next) after fed.length
-      → Proceeds x next end out fed after
+  malformed : {used : ℕ} → x ≡ Broken used → fed.stage ≡ Stopped → Put out end (line_line next) after fed.length → Proceeds x next end out fed after
   filled : {from used : ℕ} → x ≡ Full from used → fed ≡ record { stage = Stopped; length = 0 } → after ≡ out → Proceeds x next end out fed after
 
 -- ---- the end of the input
@@ -81,5 +80,5 @@ pub data Proceeds (x : Filled) (next end : ℕ) (out : List ℕ) (fed : Fed) (af
 pub record Closes (m : Machine) (l : Slices) (out : List ℕ) (end : ℕ) (after : List ℕ) (l' : Slices) : Type 0 where
   pub text : Put out 0 (close_prints m) after end
   pub lent : Lent l'
-  pub holds : StageHolds (feed m (missing m)).session l'
+  pub holds : Holds (feed m (missing m)).session l'
   pub changes : LinesChange m.session (found m.reader (missing m)) l l'

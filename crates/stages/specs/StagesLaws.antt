@@ -4,21 +4,21 @@ use Rattle.std.proofs.Common.{arith, sym, ap, ap₂, subst, ◌∙◌, length-ap
 use Rattle.rules.specs.declared.Sizes.{Sizes}
 use Rattle.rules.specs.Rules.{Regioned, unused}
 use Rattle.promises.specs.Slices.{Slices}
-use Rattle.reading.specs.declared.Line.{Line}
-use Rattle.reading.specs.declared.Line.TheVariants.{Numbers, Malformed}
-use Rattle.reading.specs.declared.Reader.{Reader}
-use Rattle.reading.specs.Reading.{started, end_of, fresh, last_of}
-use Rattle.reading.specs.TextLaws.{found}
+use Rattle.script.specs.declared.Line.{Line}
+use Rattle.script.specs.declared.Line.TheVariants.{Numbers, Malformed}
+use Rattle.script.specs.declared.Reader.{Reader}
+use Rattle.script.specs.Reading.{started, end_of, fresh, last_of}
+use Rattle.script.specs.TextLaws.{found}
 use Rattle.script.specs.declared.Filled.{Filled}
 use Rattle.script.specs.declared.Filled.TheVariants.{Done, Broken}
-use Rattle.reading.specs.declared.Last.{Last}
-use Rattle.reading.specs.declared.Last.TheVariants.{Nothing, Unended}
-use Rattle.writing.specs.Writing.{row, line_line, Put}
+use Rattle.script.specs.declared.Last.{Last}
+use Rattle.script.specs.declared.Last.TheVariants.{Nothing, Unended}
+use Rattle.script.specs.Writing.{row, line_line, Put}
 use Rattle.script.specs.BlocksLaws.{used_in, length_found}
-use Rattle.writing.specs.WritingLaws.{decimal-length}
+use Rattle.script.specs.WritingLaws.{decimal-length}
 use Rattle.printed.specs.Printed.{sizes, accepted, Session, opening, running, stopped, takes, takes_all}
 use Rattle.printed.specs.Pieces.{Machine, machine, feed, first}
-use Rattle.lines.specs.Lines.{Lent, Here, StageHolds}
+use Rattle.lines.specs.Lines.{Lent, Here, Holds}
 use Rattle.stages.specs.declared.Stage.{Stage}
 use Rattle.stages.specs.declared.Stage.TheVariants.{Opening, Running, Stopped}
 use Rattle.stages.specs.declared.Fed.{Fed}
@@ -40,7 +40,7 @@ pub record AtRunning (m : Machine) (r : Reader) (k : ℕ) (l : Slices) : Type 0 
   pub sizes-are : Sizes
   pub heap_is : Regioned
   pub machine-is : m ≡ machine r (running sizes-are heap_is k)
-  pub holds : StageHolds (running sizes-are heap_is k) l
+  pub holds : Holds (running sizes-are heap_is k) l
 
 pub at-running : {m : Machine} {stage : Stage} {l : Slices} {r : Reader} {k : ℕ} → At m stage l → stage ≡ Running r k → AtRunning m r k l
 unfolding stage_of
@@ -55,7 +55,7 @@ at-running {m} {stage} {l} {r} {k} a e = go m.session refl (sym a.stage_is ∙ e
           sizes-are = s;
           heap_is = h;
           machine-is = ap₂ machine u (f ∙ ap (running s h) v);
-          holds = subst (λ (y : Session). StageHolds y l) (f ∙ ap (running s h) v) a.holds;
+          holds = subst (λ (y : Session). Holds y l) (f ∙ ap (running s h) v) a.holds;
         }
     go stopped f q = absurd (let z : ◌≡◌ {A = ℕ} 0 1 = cc in let o : ⊥ = omega arith in o)
 
@@ -69,7 +69,7 @@ at-stopped {m} {stage} {l} a e = go m.session refl (sym a.stage_is ∙ e)
     go stopped f q = f
 
 pub placed-here : {stage : Stage} {l : Slices} {r : Reader} {k : ℕ} → Placed stage l → stage ≡ Running r k → Here l
-unfolding StageHolds
+unfolding Holds
 placed-here p e =
     let a = at-running p.1 e in
     record { sizes = a.sizes-are; heap = a.heap_is; cell = a.holds.0; stands = a.holds.1; chains = a.holds.2 }
@@ -98,7 +98,7 @@ told-unended r {last} {x} e f = go (fresh r) (sym e ∙ f)
 -- ---- from piece to piece
 
 pub at_first : {stage : Stage} {l : Slices} → stage ≡ Opening started → Lent l → At first stage l
-unfolding stage_of StageHolds
+unfolding stage_of Holds
 at_first e lent = record { stage_is = e; lent = lent; holds = tt }
 
 -- the line that a session is at

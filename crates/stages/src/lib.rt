@@ -1,12 +1,11 @@
 // Where the program stands between two pieces of its input (01, "The program"), and how it goes on after a block of commands.
 ghost use Rattle.std.specs.Prelude.{◌≡◌, ◌+◌, ◌/◌, ◌<◌, ◌≤◌, not, length};
-ghost use Rattle.reading.specs.Reading.{started, fresh};
+ghost use Rattle.script.specs.Reading.{started, fresh};
 ghost use Rattle.script.specs.BlocksLaws.{used_in};
 ghost use Rattle.stages.specs.declared.Stage.TheVariants.{Opening};
 ghost use Rattle.stages.specs.Stages.{stopped_at, begun_at, Proceeds};
 
-use reading::{Last, Reader};
-use script::Filled;
+use script::{Filled, Last, Reader};
 
 // Where the program stands between two pieces of its input: it waits for the sizes, or the line of this number is the next, or a line
 // has stopped it. A line may have begun.
@@ -28,7 +27,7 @@ pub struct Fed {
 pub fn start() -> Stage
     ensures { result ≡ Opening started }
 {
-    Stage::Opening(reading::start())
+    Stage::Opening(script::read::start())
 }
 
 // Whether a line has stopped the program.
@@ -46,7 +45,7 @@ pub fn is_stopped(stage: Stage) -> bool
 fn has_begun(reader: Reader) -> bool
     ensures { result ≡ not (fresh reader) }
 {
-    let last = reading::finish(reader);
+    let last = script::read::finish(reader);
     match last {
         Last::Nothing => false,
         Last::Unended(_) => true,
@@ -88,7 +87,7 @@ pub fn proceed(filled: Filled, line: u64, end: usize, out: &mut [u8]) -> Fed
         },
         Filled::Broken(_) => Fed {
             stage: Stage::Stopped,
-            length: writing::put_line(out, end, next),
+            length: script::write::put_line(out, end, next),
         },
         // never taken: the block has room for a command more than a piece can have
         Filled::Full(_, _) => Fed {

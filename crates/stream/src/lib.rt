@@ -1,17 +1,80 @@
 // The program's loop: it reads a script from a file, to its end, and writes to standard output. A read or a write that fails is told on
-// standard error and ends it; what is wrong with a script is told there too.
-ghost use Rattle.std.specs.Prelude.{◌+◌, ◌<◌, ◌≤◌, length};
+// standard error and ends it.
+ghost use Rattle.std.specs.Prelude.{◌+◌, ◌<◌, ◌≤◌, ◌≡◌, length};
 ghost use Rattle.promises.specs.Slices.{slices};
 ghost use Rattle.printed.specs.Pieces.{Machine};
 ghost use Rattle.lines.specs.Lines.{Lent};
 ghost use Rattle.stages.specs.Stages.{At, Placed, line_of};
-ghost use Rattle.turns.specs.Turns.{Buffers, Advances, Turned, Serves};
+ghost use Rattle.stream.specs.Turns.{Buffers, within, ending_of, goes_on, Advances, Turned, Serves};
 
-use faults::Watch;
 use libc::{STDERR_FILENO, STDOUT_FILENO};
 use stages::{Fed, Stage};
-use transfers::{Received, Sent};
-use turns::{Ending, Outcome, Served};
+
+// A piece of the input: so many bytes, none at its end, or the read failed.
+#[derive(Drop)]
+pub enum Piece {
+    Bytes(usize),
+    Unread,
+}
+
+// How many bytes were handed to the write, and whether it took them all.
+#[derive(Drop)]
+pub struct Printed {
+    pub length: usize,
+    pub taken: bool,
+}
+
+// How a turn ends: the input goes on, nothing more is to be printed, or a read or a write failed.
+#[derive(Drop)]
+pub enum Ending {
+    More,
+    Finished,
+    Unread,
+    Unwritten,
+}
+
+// What a turn did: how it ended, the stage after it, the bytes of the piece that were fed and those that were handed to the write.
+#[derive(Drop)]
+pub struct Outcome {
+    pub ending: Ending,
+    pub stage: Stage,
+    pub read: usize,
+    pub printed: usize,
+}
+
+// How the loop ended, and how many bytes were fed and handed to the write in all.
+#[derive(Drop)]
+pub struct Served {
+    pub ending: Ending,
+    pub read: u64,
+    pub printed: u64,
+}
+
+// Reads a piece to the start of a buffer.
+fn read_piece(fd: i32, text: &mut [u8]) -> Piece
+    ensures { within result ≤ length text.new }
+{
+    let got = libc::read(fd, text);
+    if got < 0 {
+        io::write_all(STDERR_FILENO, b"taldreku: the input cannot be read\n");
+        return Piece::Unread;
+    }
+    Piece::Bytes(io::count(got, text))
+}
+
+// Hands bytes to the write.
+fn print(bytes: &[u8]) -> Printed
+    ensures { result.length ≡ length bytes.now }
+{
+    let taken = io::write_all(STDOUT_FILENO, bytes);
+    if !taken {
+        io::write_all(STDERR_FILENO, b"taldreku: the output cannot be written\n");
+    }
+    Printed {
+        length: bytes.len(),
+        taken: taken,
+    }
+}
 
 // Takes a piece on from a stage, an empty one as the end of the input, and writes what is to be printed to the start of a buffer.
 fn advance(
@@ -25,9 +88,7 @@ fn advance(
 ) -> Fed
     requires piece_len_bound { (length piece.now ≤ 16384) × (36084 ≤ length out.old) × (line_of stage + 16384 < 18446744073709551616) }
     requires placed { Placed stage (slices cells.old remember.old tables.old chains.old) }
-    ensures advances { (m : Machine) → At m stage (slices cells.old remember.old tables.old chains.old)
-        → Advances m piece.now (slices cells.old remember.old tables.old chains.old)
-        out.old result out.new (slices cells.new remember.new tables.new chains.new) }
+    ensures advances { (m : Machine) → At m stage (slices cells.old remember.old tables.old chains.old) → Advances m piece.now (slices cells.old remember.old tables.old chains.old) out.old result out.new (slices cells.new remember.new tables.new chains.new) }
     ensures length_bound { result.length ≤ 36084 }
 {
     if piece.len() == 0 {
@@ -40,11 +101,35 @@ fn advance(
     }
 }
 
+fn ending_at(stage: Stage, taken: bool) -> Ending
+    ensures { result ≡ ending_of stage taken }
+{
+    if taken {
+        if stages::is_stopped(stage) {
+            Ending::Finished
+        } else {
+            Ending::More
+        }
+    } else {
+        Ending::Unwritten
+    }
+}
+
+fn goes_on(ending: Ending) -> bool
+    ensures { result ≡ goes_on ending }
+{
+    match ending {
+        Ending::More => true,
+        Ending::Finished => false,
+        Ending::Unread => false,
+        Ending::Unwritten => false,
+    }
+}
+
 // One piece of the input: it is read, fed, and what it prints is handed to the write.
 fn turn(
+    fd: i32,
     stage: Stage,
-    received: Received,
-    sent: Sent,
     text: &mut [u8],
     cells: &mut [u32],
     remember: &mut [u32],
@@ -54,51 +139,28 @@ fn turn(
 ) -> Outcome
     requires buffers { Buffers text.old out.old × (line_of stage + 16384 < 18446744073709551616) }
     requires placed { Placed stage (slices cells.old remember.old tables.old chains.old) }
-    ensures turned { Turned stage (slices cells.old remember.old tables.old chains.old)
-        out.old received sent result text.new out.new
-        (slices cells.new remember.new tables.new chains.new) }
-    ensures read_in_bounds { result.read ≤ length text.new }
+    ensures turned { Turned stage (slices cells.old remember.old tables.old chains.old) out.old result text.new out.new (slices cells.new remember.new tables.new chains.new) }
+    ensures read_in_bounds { (result.read ≤ length text.new) × (result.printed ≤ 36084) }
 {
-    let got = transfers::read(received, text);
-    let gave = got.received;
-    if got.failed {
-        return Outcome {
+    let piece = read_piece(fd, text);
+    match piece {
+        Piece::Unread => Outcome {
             ending: Ending::Unread,
             stage: Stage::Stopped,
             read: 0,
             printed: 0,
-            received: gave,
-            sent: sent,
-        };
-    }
-    let n = got.count;
-    let fed = advance(stage, &text[..n], cells, remember, tables, chains, out);
-    let length = fed.length;
-    let next = fed.stage;
-    let wrote = transfers::write(sent, &out[..length]);
-    let handed = wrote.sent;
-    Outcome {
-        ending: turns::ending_at(next, wrote.taken),
-        stage: next,
-        read: n,
-        printed: length,
-        received: gave,
-        sent: handed,
-    }
-}
-
-// Tells on standard error that a read or a write failed, or what is wrong with the script.
-fn tell(ending: Ending, watch: Watch) {
-    match ending {
-        Ending::More => {}
-        Ending::Finished => {
-            complaints::tell(watch);
-        }
-        Ending::Unread => {
-            io::write_all(STDERR_FILENO, b"taldreku: the input cannot be read\n");
-        }
-        Ending::Unwritten => {
-            io::write_all(STDERR_FILENO, b"taldreku: the output cannot be written\n");
+        },
+        Piece::Bytes(n) => {
+            let fed = advance(stage, &text[..n], cells, remember, tables, chains, out);
+            let length = fed.length;
+            let next = fed.stage;
+            let printed = print(&out[..length]);
+            Outcome {
+                ending: ending_at(next, printed.taken),
+                stage: next,
+                read: n,
+                printed: printed.length,
+            }
         }
     }
 }
@@ -115,45 +177,37 @@ fn go_on(
 ) -> Served
     requires buffers { Buffers text.old out.old }
     requires lent { Lent (slices cells.old remember.old tables.old chains.old) }
-    ensures { Serves fd result }
+    ensures { Serves result }
 {
     let mut stage = stages::start();
-    let mut received = transfers::from(fd);
-    let mut sent = transfers::to(STDOUT_FILENO);
-    let mut watch = faults::start();
-    let mut left: u64 = 281474976710656;
-    while left > 0 {
-        let done = turn(
-            stage, received, sent, text, cells, remember, tables, chains, out,
-        );
+    let mut read: u64 = 0;
+    let mut printed: u64 = 0;
+    let mut turns: u64 = 281474976710656;
+    while turns > 0 {
+        let done = turn(fd, stage, text, cells, remember, tables, chains, out);
+        read += done.read as u64;
+        printed += done.printed as u64;
         let ending = done.ending;
-        let gave = done.received;
-        let handed = done.sent;
-        let n = done.read;
-        watch = faults::follow(watch, &text[..n]);
-        if !turns::goes_on(ending) {
-            tell(ending, watch);
+        if !goes_on(ending) {
             return Served {
                 ending: ending,
-                received: gave,
-                sent: handed,
+                read: read,
+                printed: printed,
             };
         }
         stage = done.stage;
-        received = gave;
-        sent = handed;
-        left -= 1;
+        turns -= 1;
     }
     Served {
         ending: Ending::More,
-        received: received,
-        sent: sent,
+        read: read,
+        printed: printed,
     }
 }
 
 // Reads the script in a file that is open and writes what the program prints for it.
 pub fn serve(fd: i32) -> Served
-    ensures { Serves fd result }
+    ensures { Serves result }
 {
     let mut text = [0u8; 16384];
     let mut cells = [0u32; 8192];

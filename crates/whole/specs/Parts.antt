@@ -5,8 +5,8 @@ use Rattle.layout.specs.Words.{Words}
 use Rattle.promises.specs.Whole.{Sized, DepthsWhole, VariablesWhole, EntriesWhole, UnusedWhole, CountersWhole, WholeFor}
 use Rattle.remember.specs.Crossing.{cross_to}
 use Rattle.remember.specs.Counted.{every-counted, counted-every}
-use Rattle.check_pages.specs.Regions.{RegionsWhole}
-use Rattle.check_objects.specs.Crossing.{CellsCross}
+use Rattle.whole.specs.Regions.{RegionsWhole}
+use Rattle.whole.specs.Crossing.{CellsCross}
 
 module _ {s : Sizes} {w : Words} where
   pub regions-of : WholeFor s w → RegionsWhole s w.tables
@@ -24,8 +24,7 @@ module _ {s : Sizes} {w : Words} where
   }
 
   -- as many entries as crossing slots, each naming another: then every crossing slot is named
-  pub whole_of : Sized s w → DepthsWhole s w → RegionsWhole s w.tables → CountersWhole s w → VariablesWhole s w
-      → CellsCross s w.cells w.tables (entries_used w.remember)
+  pub whole_of : Sized s w → DepthsWhole s w → RegionsWhole s w.tables → CountersWhole s w → VariablesWhole s w → CellsCross s w.cells w.tables (entries_used w.remember)
       → UnusedWhole s w → EntriesWhole s w.cells w.remember w.tables → WholeFor s w
   whole_of z d r a v k u n = record {
     sized = z;

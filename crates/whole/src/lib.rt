@@ -1,7 +1,5 @@
-// The check that the words of the first three slices are whole tables (01, "Sizes and tables"; 02, W1 to W3): question 3 of run and report. The
-// chains, lent as a fourth slice (02, W6), are a question of their own, asked after it (`chains_whole`). Any words may be handed in. The check
-// only reads, looks at no word past the three lengths, and ends at the first word that breaks a condition; of a cell that is not in use all
-// words are looked at. Its parts are crates: `check_pages`, `check_objects`, `check_unused` and `check_entries`.
+// The check that lent words are whole tables (01, "Sizes and tables"; 02, W1 and W2). Any words may be handed in. It only reads, looks at no word
+// past the three lengths, and ends at the first word or cell that breaks a condition.
 ghost use Rattle.std.specs.Prelude.{length};
 ghost use Rattle.lists.specs.Says.{Says};
 ghost use Rattle.layout.specs.Places.{Room};
@@ -10,7 +8,14 @@ ghost use Rattle.promises.specs.Whole.{Sized, WholeFor, WholeWords};
 
 use rules::Sizes;
 
+pub mod cells;
+pub mod counters;
+pub mod entries;
+pub mod pages;
+pub mod regions;
 pub mod sizes;
+pub mod unused;
+pub mod variables;
 
 // The conditions after the first, of tables whose sizes are known.
 pub fn placed_whole(p: Sizes, cells: &[u32], remember: &[u32], tables: &[u32]) -> bool
@@ -18,26 +23,26 @@ pub fn placed_whole(p: Sizes, cells: &[u32], remember: &[u32], tables: &[u32]) -
     requires sized { Sized p (words cells.now remember.now tables.now) }
     ensures { Says result (WholeFor p (words cells.now remember.now tables.now)) }
 {
-    if !check_pages::pages::depths_whole(p, tables) {
+    if !pages::depths_whole(p, tables) {
         return false;
     }
-    if !check_pages::regions::regions_whole(p, tables) {
+    if !regions::regions_whole(p, tables) {
         return false;
     }
-    if !check_pages::counters::counters_whole(p, tables) {
+    if !counters::counters_whole(p, tables) {
         return false;
     }
-    if !check_objects::variables::variables_whole(p, cells, tables) {
+    if !variables::variables_whole(p, cells, tables) {
         return false;
     }
     let used = layout::wide(layout::remember::used(remember));
-    if !check_objects::cells::cells_whole(p, cells, tables, used) {
+    if !cells::cells_whole(p, cells, tables, used) {
         return false;
     }
-    if !check_unused::unused_whole(p, cells, tables) {
+    if !unused::unused_whole(p, cells, tables) {
         return false;
     }
-    if !check_entries::entries_whole(p, cells, remember, tables) {
+    if !entries::entries_whole(p, cells, remember, tables) {
         return false;
     }
     true

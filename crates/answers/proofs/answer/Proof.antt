@@ -10,9 +10,7 @@ use Rattle.answers.proofs.answer.Statement.{statement}
 use Rattle.answers.proofs.answer.Tie as tie
 
 slice-aggregate-taldreku-run : tie.Need-slice-aggregate-taldreku-run
-slice-aggregate-taldreku-run c =
-    let pre = c.before.before.before.before.before.before.before.before.before.before.before.requires in
-    sym (length-take-le _ _ pre.0.words)
+slice-aggregate-taldreku-run c = sym (length-take-le _ _ c.before.before.before.before.before.before.before.before.before.before.before.requires.0.words)
 
 slice-aggregate-taldreku-run-2 : tie.Need-slice-aggregate-taldreku-run-2
 slice-aggregate-taldreku-run-2 c = search rules
@@ -43,17 +41,11 @@ same-length-5 c = search rules
 
 returns : tie.Need-returns
 returns c =
-    let after-put-answers = c.before.before in
-    let before-put-answers = after-put-answers.before.before.before.before.before.before in
-    let after-taldreku-run = before-put-answers.before.before.before.before.before.before in
-    let before-taldreku-run = after-taldreku-run.before.before.before.before.before.before.before in
-    let args = before-taldreku-run.before.before.before.before.before.before.args in
-    let pre = before-taldreku-run.before.before.before.before.before.before.requires in
-    let taldreku-run = after-taldreku-run.taldreku-run in
-    let put-answers = after-put-answers.put-answers in (
-      answered args.used pre.0 (length-replicate {A = ℕ} 3278 0) taldreku-run.ensures put-answers.ensures.0,
-      omega (arith, put-answers.ensures.1),
-    )
+    let args = c.before.before.before.before.before.before.before.before.before.before.before.before.before.before.before.before.before.before.before.before.before.before.before.before.before.before.before.args in
+    let pre = c.before.before.before.before.before.before.before.before.before.before.before.before.before.before.before.before.before.before.before.before.before.before.before.before.before.before.before.requires in
+    let taldreku-run = c.before.before.before.before.before.before.before.before.before.before.before.before.before.before.taldreku-run in
+    let put-answers = c.before.before.put-answers in
+    (answered args.used pre.0 (length-replicate {A = ℕ} 3278 0) taldreku-run.ensures put-answers.ensures.0, omega (arith, put-answers.ensures.1))
 
 pub answer-spec : {M : Type 1} → statement M
 answer-spec =

@@ -3,7 +3,7 @@ use Prim.Native.Nat.{ℕ, ◌+◌, ◌/◌, ◌<◌}
 use mathlib.Core.Path.{◌∙◌}
 use native.Mathlib.Omega.{arith}
 use lib.ListN.{length-replicate}
-use Rattle.lines.specs.Lines.{StageHolds}
+use Rattle.lines.specs.Lines.{Holds}
 use Rattle.answers.specs.Obeying.{was_read, was-few, few-counted, never, obeyed}
 use borrow.Author.Rules.{rules}
 use Rattle.answers.proofs.obey.Statement.{statement}
@@ -23,27 +23,17 @@ slice-aggregate-answer c = search rules
 
 answer-requires : tie.Need-answer-requires
 answer-requires c κs =
-    let after-read-block = c.before.before.before.before.before.before.before.before in
-    let pre = after-read-block.before.before.before.before.before.before.before.before.requires in
-    let read-block = after-read-block.read-block in
-    let words-in = c.before.before.before.before.before.before.words-in in
-    let room = pre.0.0 in
-    let read = was_read room read-block.ensures (length-replicate {A = ℕ} 8200 0) in
-    let few = was-few read words-in.ensures in
-    ((few-counted few (read-block.auto.1.1.1.0 ∙ length-replicate {A = ℕ} 8200 0) room), pre.1)
+    let room = c.before.before.before.before.before.before.before.before.before.before.before.before.before.before.before.before.requires.0.0 in
+    let read = was_read room c.before.before.before.before.before.before.before.before.read-block.ensures (length-replicate {A = ℕ} 8200 0) in
+    let few = was-few read c.before.before.before.before.before.before.words-in.ensures in
+    ((few-counted few (c.before.before.before.before.before.before.before.before.read-block.auto.1.1.1.0 ∙ length-replicate {A = ℕ} 8200 0) room), c.before.before.before.before.before.before.before.before.before.before.before.before.before.before.before.before.requires.1)
 
 proceed-requires : tie.Need-proceed-requires
 proceed-requires c κs =
-    let after-answer = c.before.before.before.before.before.before.before.before.before.before.before in
-    let after-read-block = after-answer.before.before.before.before.before.before.before.before.before in
-    let pre = after-read-block.before.before.before.before.before.before.before.before.requires in
-    let read-block = after-read-block.read-block in
-    let words-in = after-answer.before.before.before.before.before.before.before.words-in in
-    let answer = after-answer.answer in
-    let room = pre.0.0 in
-    let read = was_read room read-block.ensures (length-replicate {A = ℕ} 8200 0) in
-    let few = was-few read words-in.ensures in
-    omega (arith, few.few, words-in.ensures, answer.ensures.1, pre.0.1, room.piece, room.text-room)
+    let room = c.before.before.before.before.before.before.before.before.before.before.before.before.before.before.before.before.before.before.before.before.before.before.before.before.before.before.before.before.requires.0.0 in
+    let read = was_read room c.before.before.before.before.before.before.before.before.before.before.before.before.before.before.before.before.before.before.before.before.read-block.ensures (length-replicate {A = ℕ} 8200 0) in
+    let few = was-few read c.before.before.before.before.before.before.before.before.before.before.before.before.before.before.before.before.before.before.words-in.ensures in
+    omega (arith, few.few, c.before.before.before.before.before.before.before.before.before.before.before.before.before.before.before.before.before.before.words-in.ensures, c.before.before.before.before.before.before.before.before.before.before.before.answer.ensures.1, c.before.before.before.before.before.before.before.before.before.before.before.before.before.before.before.before.before.before.before.before.before.before.before.before.before.before.before.before.requires.0.1, room.piece, room.text-room)
 
 same_length : tie.Need-same-length
 same_length c = search rules
@@ -61,27 +51,19 @@ same-length-5 : tie.Need-same-length-5
 same-length-5 c = search rules
 
 returns : tie.Need-returns
-unfolding StageHolds
+unfolding Holds
 returns c =
-    let after-proceed = c.before.before in
-    let before-proceed = after-proceed.before.before.before.before.before.before in
-    let after-answer = before-proceed.before.before.before.before.before.before in
-    let after-read-block = after-answer.before.before.before.before.before.before.before.before.before in
-    let start = after-read-block.before.before.before.before.before.before.before.before in
-    let args = start.args in
-    let pre = start.requires in
-    let read-block = after-read-block.read-block in
-    let words-in = after-answer.before.before.before.before.before.before.before.words-in in
-    let answer = after-answer.answer in
-    let proceed = after-proceed.proceed in
+    let args = c.before.before.before.before.before.before.before.before.before.before.before.before.before.before.before.before.before.before.before.before.before.before.before.before.before.before.before.before.before.before.before.args in
+    let pre = c.before.before.before.before.before.before.before.before.before.before.before.before.before.before.before.before.before.before.before.before.before.before.before.before.before.before.before.before.before.before.before.requires in
+    let read-block = c.before.before.before.before.before.before.before.before.before.before.before.before.before.before.before.before.before.before.before.before.before.before.before.read-block in
+    let words-in = c.before.before.before.before.before.before.before.before.before.before.before.before.before.before.before.before.before.before.before.before.before.words-in in
+    let answer = c.before.before.before.before.before.before.before.before.before.before.before.before.before.before.answer in
+    let proceed = c.before.before.proceed in
     let room = pre.0.0 in
     let read = was_read room read-block.ensures (length-replicate {A = ℕ} 8200 0) in
     let few = was-few read words-in.ensures in
     let low : args.line + words-in.result / 5 < 18446744073709551616 = omega (arith, few.few, pre.0.1, room.piece) in (
-      λ s h l k. obeyed read s h args.line words-in.result words-in.ensures
-          (few-counted few (read-block.auto.1.1.1.0 ∙ length-replicate {A = ℕ} 8200 0) room) (answer.ensures.0 s h l.0 l.1 l.2) k
-          (λ i n e. never room read-block.ensures (length-replicate {A = ℕ} 8200 0) e)
-          (omega (arith, few.few, answer.ensures.1, room.text-room)) low proceed.ensures.0,
+      λ s h l k. obeyed read s h args.line words-in.result words-in.ensures (few-counted few (read-block.auto.1.1.1.0 ∙ length-replicate {A = ℕ} 8200 0) room) (answer.ensures.0 s h l.0 l.1 l.2) k (λ i n e. never room read-block.ensures (length-replicate {A = ℕ} 8200 0) e) (omega (arith, few.few, answer.ensures.1, room.text-room)) low proceed.ensures.0,
       omega (arith, few.few, answer.ensures.1, proceed.ensures.1),
     )
 

@@ -26,9 +26,7 @@ shared-slice-read-if1 : tie.Need-shared-slice-read-if1 invariant-loop decreases-
 shared-slice-read-if1 c = omega arith
 
 returns : tie.Need-returns invariant-loop decreases-loop
-returns c =
-    let loop = c.before.before.before.loop in
-    says-no (λ h. c.if1.true (h loop.i loop.invariant.0 c.before.before.loop-test.true))
+returns c = says-no (λ h. c.if1.true (h c.before.before.before.loop.i c.before.before.before.loop.invariant.0 c.before.before.loop-test.true))
 
 add-i : tie.Need-overflow-add-i invariant-loop decreases-loop
 add-i c = omega arith

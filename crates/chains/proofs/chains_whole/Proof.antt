@@ -10,29 +10,21 @@ use Rattle.chains.proofs.chains_whole.Tie as tie
 last-region-requires : tie.Need-last-region-requires
 last-region-requires c κs = search rules
 
-next-at-requires : tie.Need-next-at-requires
-next-at-requires c κs =
-    let pre = c.before.before.before.requires in
-    omega (arith, c.last-region.ensures, mul-le-mul pre.threads pre.depth, pre.entries)
+add-if1 : tie.Need-overflow-add-if1
+add-if1 c = omega (arith, c.last-region.ensures, mul-le-mul c.before.before.before.requires.threads c.before.before.before.requires.depth, c.before.before.before.requires.entries)
 
 returns : tie.Need-returns
-returns c =
-    let pre = c.before.before.before.before.before.requires in
-    says-no (λ w. omega (arith, whole_long pre.room w, c.before.before.last-region.ensures, c.if1.true, c.before.next-at.ensures))
+returns c = says-no (λ w. omega (arith, whole_long c.before.before.before.before.requires.room w, c.before.last-region.ensures, c.if1.true))
 
 words-agree-requires : tie.Need-words-agree-requires
-words-agree-requires c κs =
-    let pre = c.before.before.before.before.before.requires in
-    (chainable-listed pre c.before.before.last-region.ensures, omega (arith, c.if1.false, c.before.next-at.ensures))
+words-agree-requires c κs = (chainable-listed c.before.before.before.before.requires c.before.last-region.ensures, omega (arith, c.if1.false))
 
 returns-2 : tie.Need-returns-2
-returns-2 c =
-    let args = c.before.before.before.before.before.before.args in
-    let last-region = c.before.before.before.last-region in (
-      λ q. chains-agree args.p args.remember.now last-region.ensures args.chains.now (c.words-agree.ensures.0 q),
-      λ w. c.words-agree.ensures.1 (agreed-words args.p args.remember.now last-region.ensures args.chains.now w),
-    )
+returns-2 c = (
+  λ q. chains-agree c.before.before.before.before.before.args.p c.before.before.before.before.before.args.remember.now c.before.before.last-region.ensures c.before.before.before.before.before.args.chains.now (c.words-agree.ensures.0 q),
+  λ w. c.words-agree.ensures.1 (agreed-words c.before.before.before.before.before.args.p c.before.before.before.before.before.args.remember.now c.before.before.last-region.ensures c.before.before.before.before.before.args.chains.now w),
+)
 
 pub chains-whole-spec : {M : Type 1} → statement M
 chains-whole-spec =
-    tie.close (tie.spec last-region-requires next-at-requires returns words-agree-requires returns-2)
+    tie.close (tie.spec last-region-requires add-if1 returns words-agree-requires returns-2)

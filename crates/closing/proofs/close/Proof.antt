@@ -13,17 +13,12 @@ slice-aggregate-feed : tie.Need-slice-aggregate-feed
 slice-aggregate-feed c = search rules
 
 feed-requires : tie.Need-feed-requires
-feed-requires c κs =
-    let pre = c.before.before.before.before.before.before.before.before.before.before.before.before.before.requires in
-    ((record { piece = omega arith; text-room = omega (arith, pre.0.0) }, omega (arith, pre.0.1)), pre.1)
+feed-requires c κs = ((record { piece = omega arith; text-room = omega (arith, c.before.before.before.before.before.before.before.before.before.before.before.before.before.requires.0.0) }, omega (arith, c.before.before.before.before.before.before.before.before.before.before.before.before.before.requires.0.1)), c.before.before.before.before.before.before.before.before.before.before.before.before.before.requires.1)
 
 put-end-requires : tie.Need-put-end-requires
 put-end-requires c κs =
-    let earlier = c.before.before.before.before.before.before.before in
-    let after-feed = earlier.before.before.before.before.before.before in
-    let after-is-begun = after-feed.before.before.before.before.before.before.before.before in
-    let pre = after-is-begun.before.before.before.before.before.before.requires in
-    let feed = after-feed.feed in
+    let pre = c.before.before.before.before.before.before.before.before.before.before.before.before.before.before.before.before.before.before.before.before.before.before.before.before.before.before.before.requires in
+    let feed = c.before.before.before.before.before.before.before.before.before.before.before.before.before.feed in
     ((_, _, (_, (feed.ensures.0 pre.1.0 pre.1.1).is_at)), omega (arith, feed.ensures.1, pre.0.0))
 
 put-end-requires-2 : tie.Need-put-end-requires-2
@@ -46,19 +41,10 @@ same-length-5 c = search rules
 
 returns : tie.Need-returns
 returns c =
-    let after-put-end = c.before.before in
-    let before-put-end = after-put-end.before.before.before.before.before.before.before in
-    let after-feed = before-put-end.before.before.before.before.before.before.before in
-    let after-is-begun = after-feed.before.before.before.before.before.before.before.before in
-    let pre = after-is-begun.before.before.before.before.before.before.requires in
-    let is-begun = after-is-begun.is-begun in
-    let if1 = after-feed.before.before.before.before.before.before.before.if1 in
-    let feed = after-feed.feed in
-    let put-end = after-put-end.put-end in (
-      λ m a. closed-begun a (sym is-begun.ensures ∙ if1.true) (feed.ensures.0 m a) put-end.ensures.0
-          (omega (arith, feed.ensures.1, pre.0.0)) (omega (arith, put-end.ensures.1)),
-      omega (arith, feed.ensures.1, put-end.ensures.1),
-    )
+    let pre = c.before.before.before.before.before.before.before.before.before.before.before.before.before.before.before.before.before.before.before.before.before.before.before.before.before.before.before.before.before.before.requires in
+    let feed = c.before.before.before.before.before.before.before.before.before.before.before.before.before.before.before.before.feed in
+    let put-end = c.before.before.put-end in
+    (λ m a. closed-begun a (sym c.before.before.before.before.before.before.before.before.before.before.before.before.before.before.before.before.before.before.before.before.before.before.before.before.is-begun.ensures ∙ c.before.before.before.before.before.before.before.before.before.before.before.before.before.before.before.before.before.before.before.before.before.before.before.if1.true) (feed.ensures.0 m a) put-end.ensures.0 (omega (arith, feed.ensures.1, pre.0.0)) (omega (arith, put-end.ensures.1)), omega (arith, feed.ensures.1, put-end.ensures.1))
 
 same-length-6 : tie.Need-same-length-6
 same-length-6 c = search rules
@@ -70,11 +56,7 @@ same-length-8 : tie.Need-same-length-8
 same-length-8 c = search rules
 
 returns-2 : tie.Need-returns-2
-returns-2 c =
-    let is-begun = c.before.before.before.before.before.before.before.is-begun in
-    let if1 = c.before.before.before.before.before.before.if1 in
-    let put-end2 = c.before.before.put-end2 in
-    (λ m a. closed-idle a (sym is-begun.ensures ∙ if1.false) (put-end2.ensures.0 m _ _ a), omega (arith, put-end2.ensures.1))
+returns-2 c = (λ m a. closed-idle a (sym c.before.before.before.before.before.before.before.is-begun.ensures ∙ c.before.before.before.before.before.before.if1.false) (c.before.before.put-end2.ensures.0 m _ _ a), omega (arith, c.before.before.put-end2.ensures.1))
 
 pub close_spec : {M : Type 1} → statement M
 close_spec =

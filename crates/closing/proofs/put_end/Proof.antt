@@ -16,9 +16,7 @@ enum-told-2 : tie.Need-enum-told-2
 enum-told-2 c = search rules
 
 put-report-requires : tie.Need-put-report-requires
-put-report-requires c κs =
-    let pre = c.before.before.before.before.before.before.requires in
-    ((pre.0.0, pre.0.1, placed-here pre.0.2 c.before.enum-told2.given.1), pre.1)
+put-report-requires c κs = ((c.before.before.before.before.before.before.requires.0.0, c.before.before.before.before.before.before.requires.0.1, placed-here c.before.before.before.before.before.before.requires.0.2 c.before.enum-told2.given.1), c.before.before.before.before.before.before.requires.1)
 
 enum-told-3 : tie.Need-enum-told-3
 enum-told-3 c = search rules
@@ -27,19 +25,13 @@ same_length : tie.Need-same-length
 same_length c = search rules
 
 returns : tie.Need-returns
-returns c =
-    let enum_told = c.before.before.before.before.enum_told in
-    let put-sizes = c.before.before.put-sizes in
-    (ends-opening enum_told.given.1 put-sizes.ensures, omega (arith, put-sizes.ensures.end_is))
+returns c = (ends-opening c.before.before.before.before.enum_told.given.1 c.before.before.put-sizes.ensures, omega (arith, c.before.before.put-sizes.ensures.end_is))
 
 same-length-2 : tie.Need-same-length-2
 same-length-2 c = search rules
 
 returns-2 : tie.Need-returns-2
-returns-2 c =
-    let enum-told2 = c.before.before.before.before.enum-told2 in
-    let put-report = c.before.before.put-report in
-    (ends-running enum-told2.given.1 put-report.ensures.0, put-report.ensures.1)
+returns-2 c = (ends-running c.before.before.before.before.enum-told2.given.1 c.before.before.put-report.ensures.0, c.before.before.put-report.ensures.1)
 
 returns-3 : tie.Need-returns-3
 returns-3 c = (ends-stopped c.enum-told3.given.1, omega arith)

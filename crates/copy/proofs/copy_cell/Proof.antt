@@ -39,13 +39,9 @@ loop-again c =
     let a = c.before.before.before.before.before.before.before.before.before.args in
     let l = c.before.before.before.before.before.before.before.loop in
     let at : ℕ = word_at a.new l.i in
-    let word = c.before.before.before.before.word in
-    let e : set_word.new.0 ≡ set l.cells at (get_or l.cells (word_at a.old l.i) 0) = set_word.ensures
-    ∙ ap (λ (x : ℕ). set l.cells at x) word.ensures in
-    let loop-test = c.before.before.before.before.before.before.loop-test in
+    let e : set_word.new.0 ≡ set l.cells at (get_or l.cells (word_at a.old l.i) 0) = set_word.ensures ∙ ap (λ (x : ℕ). set l.cells at x) c.before.before.before.before.word.ensures in
     let h : Half a.old a.new (l.i + 1) a.cells.now set_word.new.0 =
-    subst (λ (X : List ℕ). Half a.old a.new (l.i + 1) a.cells.now X) (sym e)
-    (half-next pre.0 loop-test.true pre.1.1.1 l.invariant.2) in
+    subst (λ (X : List ℕ). Half a.old a.new (l.i + 1) a.cells.now X) (sym e) (half-next pre.0 c.before.before.before.before.before.before.loop-test.true pre.1.1.1 l.invariant.2) in
     (omega arith, h.size, h)
 
 set-work-requires : tie.Need-set-work-requires invariant-loop decreases-loop
@@ -58,10 +54,7 @@ set-work-requires-2 : tie.Need-set-work-requires-2 invariant-loop decreases-loop
 set-work-requires-2 c κs = omega (arith, c.before.before.before.before.set-work.auto.0)
 
 same_length : tie.Need-same-length invariant-loop decreases-loop
-same_length c =
-    let loop = c.before.before.before.before.before.before.before.before.before.before.loop in
-    let set-work = c.before.before.before.before.before.before.before.set-work in
-    c.before.before.set-work2.auto.0 ∙ set-work.auto.0 ∙ loop.invariant.1
+same_length c = c.before.before.set-work2.auto.0 ∙ c.before.before.before.before.before.before.before.set-work.auto.0 ∙ c.before.before.before.before.before.before.before.before.before.before.loop.invariant.1
 
 returns : tie.Need-returns invariant-loop decreases-loop
 returns c =
@@ -70,14 +63,10 @@ returns c =
     let a = c.before.before.before.before.before.before.before.before.before.before.before.before.args in
     let l = c.before.before.before.before.before.before.before.before.before.before.loop in
     let e : l.i ≡ cell_words = omega arith in
-    let h : Half a.old a.new cell_words a.cells.now l.cells = subst (λ (n : ℕ). Half a.old a.new n a.cells.now l.cells) e
-    l.invariant.2 in
-    let set-work = c.before.before.before.before.before.before.before.set-work in
-    let set-work2 = c.before.before.set-work2 in
-    let z : set-work2.new.0 ≡ set (set l.cells (work_at a.new) 0) (work_at a.old) ref-to.result =
-    set-work2.ensures ∙ ap (λ (X : List ℕ). set X (work_at a.old) ref-to.result) set-work.ensures in
-    subst (λ (X : List ℕ). Copied a.old a.new a.cells.now X) (sym z)
-    (half-copied pre.0 pre.1.1.1 pre.1.0.1 h ref-to.result (omega (arith, ref-to.ensures)))
+    let h : Half a.old a.new cell_words a.cells.now l.cells = subst (λ (n : ℕ). Half a.old a.new n a.cells.now l.cells) e l.invariant.2 in
+    let z : c.before.before.set-work2.new.0 ≡ set (set l.cells (work_at a.new) 0) (work_at a.old) ref-to.result =
+    c.before.before.set-work2.ensures ∙ ap (λ (X : List ℕ). set X (work_at a.old) ref-to.result) c.before.before.before.before.before.before.before.set-work.ensures in
+    subst (λ (X : List ℕ). Copied a.old a.new a.cells.now X) (sym z) (half-copied pre.0 pre.1.1.1 pre.1.0.1 h ref-to.result (omega (arith, ref-to.ensures)))
 
 pub copy-cell-spec : {M : Type 1} → statement M
 copy-cell-spec =

@@ -20,8 +20,7 @@ use Rattle.copy.proofs.move_cell.Statement.{statement}
 use Rattle.copy.proofs.move_cell.Tie as tie
 
 -- the cell as take_cell gave it
-took : {p : Sizes} {g q : ℕ} {W T T' : List ℕ} {c d : ℕ} → Movable p g q W T c → d ≡ cell_on q (used_of p T q) → T' ≡ taken p T q g
-    → Took p T g d (made_of p T) T'
+took : {p : Sizes} {g q : ℕ} {W T T' : List ℕ} {c d : ℕ} → Movable p g q W T c → d ≡ cell_on q (used_of p T q) → T' ≡ taken p T q g → Took p T g d (made_of p T) T'
 took m e f = taken-took m.regular m.next.low (omega (arith, m.room, m.low)) (m.real, m.low) m.next.found e f
 
 take-cell-requires : tie.Need-take-cell-requires
@@ -31,11 +30,8 @@ take-cell-requires c κs =
 
 copy-cell-requires : tie.Need-copy-cell-requires
 copy-cell-requires c κs =
-    let args = c.before.before.before.before.before.before.before.args in
-    let pre = c.before.before.before.before.before.before.before.requires in
-    let take-cell = c.before.before.before.take-cell in
-    let p = args.p in
-    let t = movable-taken pre (took pre take-cell.ensures.0 take-cell.ensures.1) in
+    let p = c.before.before.before.before.before.before.before.args.p in
+    let t = movable-taken c.before.before.before.before.before.before.before.requires (took c.before.before.before.before.before.before.before.requires c.before.before.before.take-cell.ensures.0 c.before.before.before.take-cell.ensures.1) in
     (t.apart, (cell_in p t.few t.long t.old, cell_in p t.few t.long t.cell))
 
 page-of-requires : tie.Need-page-of-requires
@@ -45,52 +41,33 @@ place-of-requires : tie.Need-place-of-requires
 place-of-requires c κs = search rules
 
 mark-requires : tie.Need-mark-requires
-mark-requires c κs =
-    let pre = c.before.before.before.before.before.before.before.before.before.before.before.before.before.requires in
-    (search rules, omega (arith, c.before.before.page-of.ensures, begins-page _ _ _ _ pre.used))
+mark-requires c κs = (search rules, omega (arith, c.before.before.page-of.ensures, begins-page _ _ _ _ c.before.before.before.before.before.before.before.before.before.before.before.before.before.requires.used))
 
 cast-without-bit : tie.Need-overflow-cast-without-bit
 cast-without-bit c = search rules
 
 without-bit-requires : tie.Need-without-bit-requires
 without-bit-requires c κs =
-    let after-take-cell = c.before.before.before.before.before.before.before.before.before.before in
-    let a = after-take-cell.before.before.before.before.args in
-    let pre = after-take-cell.before.before.before.before.requires in
-    let take-cell = after-take-cell.take-cell in
-    let place-of = c.before.before.place-of in
-    let X : List ℕ = take-cell.new.1.0 in
-    let t = movable-taken pre (took pre take-cell.ensures.0 take-cell.ensures.1) in
-    let e : c.mark.result ≡ get_or X (marks_at a.p a.cell) 0 = c.mark.ensures
-    ∙ ap (λ (q : ℕ). mark_of a.p X q) c.before.before.before.page-of.ensures in
-    (omega (arith, place-of.ensures), ap₂ (λ (x y : ℕ). bit_at x y) e place-of.ensures ∙ t.on)
+    let a = c.before.before.before.before.before.before.before.before.before.before.before.before.before.before.args in
+    let X : List ℕ = c.before.before.before.before.before.before.before.before.before.before.take-cell.new.1.0 in
+    let t = movable-taken c.before.before.before.before.before.before.before.before.before.before.before.before.before.before.requires (took c.before.before.before.before.before.before.before.before.before.before.before.before.before.before.requires c.before.before.before.before.before.before.before.before.before.before.take-cell.ensures.0 c.before.before.before.before.before.before.before.before.before.before.take-cell.ensures.1) in
+    let e : c.mark.result ≡ get_or X (marks_at a.p a.cell) 0 = c.mark.ensures ∙ ap (λ (q : ℕ). mark_of a.p X q) c.before.before.before.page-of.ensures in
+    (omega (arith, c.before.before.place_of.ensures), ap₂ (λ (x y : ℕ). bit_at x y) e c.before.before.place_of.ensures ∙ t.on)
 
 add-with-bit : tie.Need-overflow-add-with-bit
 add-with-bit c = search rules
 
 with-bit-requires : tie.Need-with-bit-requires
 with-bit-requires c κs =
-    let after-take-cell = c.before.before.before.before.before.before.before.before.before.before.before in
-    let a = after-take-cell.before.before.before.before.args in
-    let pre = after-take-cell.before.before.before.before.requires in
-    let take-cell = after-take-cell.take-cell in
-    let page-of = c.before.before.before.before.page-of in
-    let place-of = c.before.before.before.place-of in
-    let X : List ℕ = take-cell.new.1.0 in
-    let t = movable-taken pre (took pre take-cell.ensures.0 take-cell.ensures.1) in
-    let e : c.before.mark.result ≡ get_or X (marks_at a.p a.cell) 0 = c.before.mark.ensures
-    ∙ ap (λ (q : ℕ). mark_of a.p X q) page-of.ensures in
-    let f = c.without-bit.ensures ∙ ap₂ (λ (x y : ℕ). x - 2 ^ y) e place-of.ensures in (
-      omega (arith, place-of.ensures),
-      ap₂ (λ (x y : ℕ). bit_at x (page_cells + y)) f place-of.ensures
-          ∙ clear-fresh (get_or X (marks_at a.p a.cell) 0) (place_of a.cell) t.on t.fresh,
-    )
+    let a = c.before.before.before.before.before.before.before.before.before.before.before.before.before.before.before.args in
+    let X : List ℕ = c.before.before.before.before.before.before.before.before.before.before.before.take-cell.new.1.0 in
+    let t = movable-taken c.before.before.before.before.before.before.before.before.before.before.before.before.before.before.before.requires (took c.before.before.before.before.before.before.before.before.before.before.before.before.before.before.before.requires c.before.before.before.before.before.before.before.before.before.before.before.take-cell.ensures.0 c.before.before.before.before.before.before.before.before.before.before.before.take-cell.ensures.1) in
+    let e : c.before.mark.result ≡ get_or X (marks_at a.p a.cell) 0 = c.before.mark.ensures ∙ ap (λ (q : ℕ). mark_of a.p X q) c.before.before.before.before.page-of.ensures in
+    let f = c.without-bit.ensures ∙ ap₂ (λ (x y : ℕ). x - 2 ^ y) e c.before.before.before.place_of.ensures in
+    (omega (arith, c.before.before.before.place_of.ensures), ap₂ (λ (x y : ℕ). bit_at x (page_cells + y)) f c.before.before.before.place_of.ensures ∙ clear-fresh (get_or X (marks_at a.p a.cell) 0) (place_of a.cell) t.on t.fresh)
 
 set-mark-requires : tie.Need-set-mark-requires
-set-mark-requires c κs =
-    let pre = c.before.before.before.before.before.before.before.before.before.before.before.before.before.before.before.before.before.requires in
-    let page-of = c.before.before.before.before.before.before.page-of in
-    (search rules, omega (arith, page-of.ensures, begins-page _ _ _ _ pre.used))
+set-mark-requires c κs = (search rules, omega (arith, c.before.before.before.before.before.before.page-of.ensures, begins-page _ _ _ _ c.before.before.before.before.before.before.before.before.before.before.before.before.before.before.before.before.before.requires.used))
 
 same_length : tie.Need-same-length
 same_length c = search rules
@@ -100,31 +77,20 @@ same-length-2 c = search rules
 
 returns : tie.Need-returns
 returns c =
-    let after-page-of = c.before.before.before.before.before.before.before.before.before in
-    let start = after-page-of.before.before.before.before.before.before.before.before.before.before.before in
-    let a = start.args in
-    let pre = start.requires in
-    let take-cell = after-page-of.before.before.before.before.before.before.before.take-cell in
-    let copy-cell = after-page-of.before.before.before.copy-cell in
-    let page-of = after-page-of.page-of in
-    let place-of = c.before.before.before.before.before.before.before.before.place-of in
-    let mark = c.before.before.before.before.before.before.mark in
-    let without-bit = c.before.before.before.before.before.without-bit in
-    let with-bit = c.before.before.before.before.with-bit in
-    let X : List ℕ = take-cell.new.1.0 in
+    let a = c.before.before.before.before.before.before.before.before.before.before.before.before.before.before.before.before.before.before.before.before.args in
+    let X : List ℕ = c.before.before.before.before.before.before.before.before.before.before.before.before.before.before.before.before.take-cell.new.1.0 in
     let w : ℕ = marks_at a.p a.cell in
-    let e : mark.result ≡ get_or X w 0 = mark.ensures ∙ ap (λ (q : ℕ). mark_of a.p X q) page-of.ensures in
-    let f = without-bit.ensures ∙ ap₂ (λ (x y : ℕ). x - 2 ^ y) e place-of.ensures in
-    let g : with-bit.result ≡ raised (get_or X w 0) (place_of a.cell) = with-bit.ensures
-    ∙ ap₂ (λ (x y : ℕ). x + 2 ^ (page_cells + y)) f place-of.ensures in
+    let e : c.before.before.before.before.before.before.mark.result ≡ get_or X w 0 = c.before.before.before.before.before.before.mark.ensures ∙ ap (λ (q : ℕ). mark_of a.p X q) c.before.before.before.before.before.before.before.before.before.page-of.ensures in
+    let f = c.before.before.before.before.before.without-bit.ensures ∙ ap₂ (λ (x y : ℕ). x - 2 ^ y) e c.before.before.before.before.before.before.before.before.place_of.ensures in
+    let g : c.before.before.before.before.with-bit.result ≡ raised (get_or X w 0) (place_of a.cell) = c.before.before.before.before.with-bit.ensures ∙ ap₂ (λ (x y : ℕ). x + 2 ^ (page_cells + y)) f c.before.before.before.before.before.before.before.before.place_of.ensures in
     record {
-      can = pre;
-      new = take-cell.result;
+      can = c.before.before.before.before.before.before.before.before.before.before.before.before.before.before.before.before.before.before.before.before.requires;
+      new = c.before.before.before.before.before.before.before.before.before.before.before.before.before.before.before.before.take-cell.result;
       mid = X;
-      cell = take-cell.ensures.0;
-      took = took pre take-cell.ensures.0 take-cell.ensures.1;
-      copied = copy-cell.ensures;
-      tables = c.before.before.set-mark.ensures ∙ ap₂ (λ (q x : ℕ). set X (mark_at a.p q) x) page-of.ensures g;
+      cell = c.before.before.before.before.before.before.before.before.before.before.before.before.before.before.before.before.take-cell.ensures.0;
+      took = took c.before.before.before.before.before.before.before.before.before.before.before.before.before.before.before.before.before.before.before.before.requires c.before.before.before.before.before.before.before.before.before.before.before.before.before.before.before.before.take-cell.ensures.0 c.before.before.before.before.before.before.before.before.before.before.before.before.before.before.before.before.take-cell.ensures.1;
+      copied = c.before.before.before.before.before.before.before.before.before.before.before.before.copy-cell.ensures;
+      tables = c.before.before.set-mark.ensures ∙ ap₂ (λ (q x : ℕ). set X (mark_at a.p q) x) c.before.before.before.before.before.before.before.before.before.page-of.ensures g;
     }
 
 pub move-cell-spec : {M : Type 1} → statement M

@@ -13,78 +13,44 @@ use Rattle.promises.specs.Questions.{did-answer}
 use Rattle.mark.specs.Survivors.{none-survives}
 use Rattle.ending.specs.Ending.{Ending, ended_here}
 use Rattle.ended.specs.EndQuestion.{refused-shut}
-use Rattle.marked_end.specs.EndDid.{marked-noted, accepted, free-way}
+use Rattle.epoch.specs.EndDid.{marked-noted, accepted, free-way}
 use Rattle.epoch.proofs.end.Statement.{statement}
 use Rattle.epoch.proofs.end.Tie as tie
 
--- the ways back from a state to one before it
-abbrev to-depth : tie.After-mark-survivors → tie.After-depth
-to-depth c = c.before.before.before.before.before.before.before.before
-
-abbrev to_start : tie.After-depth → tie.Start
-to_start c = c.before.before.before.before.before.before.before
-
 -- the words before the marking, and after it
 abbrev before : tie.After-mark-survivors → Words
-before c =
-    let after-depth = c.before.before.before.before.before.before.before.before in
-    let a = (to_start after-depth).args in
-    words a.cells.now a.remember.now a.tables.now
+before c = let a = c.before.before.before.before.before.before.before.before.before.before.before.before.before.before.before.args in words a.cells.now a.remember.now a.tables.now
 
 abbrev after : tie.After-mark-survivors → Words
-after c =
-    let after-depth = c.before.before.before.before.before.before.before.before in
-    let args = (to_start after-depth).args in
-    words c.mark-survivors.new.1.0 args.remember.now c.mark-survivors.new.1.1.1.0
+after c = words c.mark-survivors.new.1.0 c.before.before.before.before.before.before.before.before.before.before.before.before.before.before.before.args.remember.now c.mark-survivors.new.1.1.1.0
 
-level : (c : tie.After-mark-survivors)
-    → (let after-wide = c.before.before.before.before.before.before.before in
-    let args = after-wide.before.before.before.before.before.before.before.before.args in
-    let wide = after-wide.wide in
-    depth_of (before c).tables args.thread ≡ wide.result)
-level c =
-    let depth = c.before.before.before.before.before.before.before.before.depth in
-    let wide = c.before.before.before.before.before.before.before.wide in
-    sym (wide.ensures ∙ depth.ensures)
+level : (c : tie.After-mark-survivors) → depth_of (before c).tables c.before.before.before.before.before.before.before.before.before.before.before.before.before.before.before.args.thread ≡ c.before.before.before.before.before.before.before.wide.result
+level c = sym (c.before.before.before.before.before.before.before.wide.ensures ∙ c.before.before.before.before.before.before.before.before.depth.ensures)
 
 short : (c : tie.After-depth-arg) → length c.before.before.before.before.before.before.args.tables.now < 2 ^ 63
 short c = omega arith
 
-ending : (c : tie.After-mark-survivors)
-    → (let after-wide = c.before.before.before.before.before.before.before in
-    let args = after-wide.before.before.before.before.before.before.before.before.args in
-    let wide = after-wide.wide in
-    let region-at = c.before.before.before.before.before.region-at in
-    Ending args.p args.thread wide.result region-at.result (before c) (after c))
+ending : (c : tie.After-mark-survivors) → Ending c.before.before.before.before.before.before.before.before.before.before.before.before.before.before.before.args.p c.before.before.before.before.before.before.before.before.before.before.before.before.before.before.before.args.thread c.before.before.before.before.before.before.before.wide.result c.before.before.before.before.before.region-at.result (before c) (after c)
 ending c =
-    let after-depth-arg = c.before.before.before.before.before.before.before.before.before in
-    let a = after-depth-arg.before.before.before.before.before.before.args in
-    let pre = after-depth-arg.before.before.before.before.before.before.requires in
-    let if1 = c.before.before.before.before.before.before.if1 in
+    let a = c.before.before.before.before.before.before.before.before.before.before.before.before.before.before.before.args in
+    let pre = c.before.before.before.before.before.before.before.before.before.before.before.before.before.before.before.requires in
     record {
       whole = pre.0;
-      fits = short after-depth-arg;
+      fits = short c.before.before.before.before.before.before.before.before.before;
       thread = pre.1.0;
       level = level c;
-      epoch = omega (arith, if1.false);
+      epoch = omega (arith, c.before.before.before.before.before.before.if1.false);
       region = c.before.before.before.before.before.region-at.ensures;
       marks = c.mark-survivors.ensures.0;
     }
 
-unmarked : (c : tie.After-mark-survivors)
-    → (let after-depth = c.before.before.before.before.before.before.before.before in
-    let args = after-depth.before.before.before.before.before.before.before.args in
-    c.mark-survivors.result ≡ false → (page : ℕ) → page < args.p.pages → mark_of args.p (after c).tables page ≡ 0)
-unmarked c e =
-    let after-depth = c.before.before.before.before.before.before.before.before in
-    let args = (to_start after-depth).args in
-    none-survives args.p (before c) _ (after c) (ending c).marks c.mark-survivors.result c.mark-survivors.ensures.1 e
+unmarked : (c : tie.After-mark-survivors) → c.mark-survivors.result ≡ false → (page : ℕ) → page < c.before.before.before.before.before.before.before.before.before.before.before.before.before.before.before.args.p.pages → mark_of c.before.before.before.before.before.before.before.before.before.before.before.before.before.before.before.args.p (after c).tables page ≡ 0
+unmarked c e = none-survives c.before.before.before.before.before.before.before.before.before.before.before.before.before.before.before.args.p (before c) _ (after c) (ending c).marks c.mark-survivors.result c.mark-survivors.ensures.1 e
 
 depth-requires : tie.Need-depth-requires
 depth-requires c κs =
     let a = c.before.before.before.before.before.before.args in
-    let pre = c.before.before.before.before.before.before.requires in
-    (whole_room a.p (words a.cells.now a.remember.now a.tables.now) pre.0 (short c), pre.1.0)
+    (whole_room a.p (words a.cells.now a.remember.now a.tables.now) c.before.before.before.before.before.before.requires.0 (short c), c.before.before.before.before.before.before.requires.1.0)
 
 wide-requires : tie.Need-wide-requires
 wide-requires c κs = search rules
@@ -100,8 +66,7 @@ returns c =
     let a = c.before.before.before.before.before.before.before.before.before.before.args in
     let pre = c.before.before.before.before.before.before.before.before.before.before.requires in (
       did-answer c.refused.ensures
-          (refused-shut a.p (words a.cells.now a.remember.now a.tables.now) pre.0 a.thread pre.1.0
-          (sym (c.before.before.wide.ensures ∙ c.before.before.before.depth.ensures) ∙ c.before.if1.true)),
+          (refused-shut a.p (words a.cells.now a.remember.now a.tables.now) pre.0 a.thread pre.1.0 (sym (c.before.before.wide.ensures ∙ c.before.before.before.depth.ensures) ∙ c.before.if1.true)),
       (pre.1.1.0, chains-same pre.1.1.1),
     )
 
@@ -109,31 +74,16 @@ region-at-requires : tie.Need-region-at-requires
 region-at-requires c κs =
     let a = c.before.before.before.before.before.before.before.before.before.args in
     let pre = c.before.before.before.before.before.before.before.before.before.requires in
-    let rm = whole_room a.p (words a.cells.now a.remember.now a.tables.now) pre.0 (omega arith) in (
-      rm.threads-high,
-      rm.depth-high,
-      pre.1.0,
-      omega (arith, pre.0.depths a.thread pre.1.0, c.before.wide.ensures, c.before.before.depth.ensures),
-    )
+    let rm = whole_room a.p (words a.cells.now a.remember.now a.tables.now) pre.0 (omega arith) in
+    (rm.threads-high, rm.depth-high, pre.1.0, omega (arith, pre.0.depths a.thread pre.1.0, c.before.wide.ensures, c.before.before.depth.ensures))
 
 mark-survivors-requires : tie.Need-mark-survivors-requires
-mark-survivors-requires c κs =
-    let after-depth = c.before.before.before.before.before.before.before in
-    let pre = after-depth.before.before.before.before.before.before.before.requires in
-    let depth = after-depth.depth in
-    let wide = c.before.before.before.before.before.before.wide in
-    let if1 = c.before.before.before.before.before.if1 in
-    let region-at = c.before.before.before.before.region-at in
-    (pre.0, (pre.1.1.1, (pre.1.0, wide.ensures ∙ depth.ensures, omega (arith, if1.false), region-at.ensures)))
+mark-survivors-requires c κs = let pre = c.before.before.before.before.before.before.before.before.before.before.before.before.before.before.requires in (pre.0, (pre.1.1.1, (pre.1.0, c.before.before.before.before.before.before.wide.ensures ∙ c.before.before.before.before.before.before.before.depth.ensures, omega (arith, c.before.before.before.before.before.if1.false), c.before.before.before.before.region-at.ensures)))
 
 end-marked-requires : tie.Need-end-marked-requires
 end-marked-requires c κs =
-    let after-mark-survivors = c.before.before.before.before.before.before.before.before.before.before in
-    let after-depth = to-depth after-mark-survivors in
-    let args = (to_start after-depth).args in
-    let pre = (to_start after-depth).pre in
-    let m = ending after-mark-survivors in
-    ((args.cells.now, args.tables.now, m), (marked-noted m pre.1.1.0, pre.1.1.1))
+    let m = ending c.before.before.before.before.before.before.before.before.before.before in
+    ((c.before.before.before.before.before.before.before.before.before.before.before.before.before.before.before.before.before.before.before.before.before.before.before.before.before.args.cells.now, c.before.before.before.before.before.before.before.before.before.before.before.before.before.before.before.before.before.before.before.before.before.before.before.before.before.args.tables.now, m), (marked-noted m c.before.before.before.before.before.before.before.before.before.before.before.before.before.before.before.before.before.before.before.before.before.before.before.before.before.requires.1.1.0, c.before.before.before.before.before.before.before.before.before.before.before.before.before.before.before.before.before.before.before.before.before.before.before.before.before.requires.1.1.1))
 
 same-length-2 : tie.Need-same-length-2
 same-length-2 c = search rules
@@ -152,24 +102,15 @@ same-length-6 c = search rules
 
 returns-2 : tie.Need-returns-2
 returns-2 c =
-    let after-end-marked = c.before.before.before.before.before.before.before.before.before.before in
-    let after-mark-survivors = after-end-marked.before.before.before.before.before.before.before.before.before.before.before in
-    let after-depth = to-depth after-mark-survivors in
-    let args = (to_start after-depth).args in
-    let End-Marked = after-end-marked.End-Marked in
-    let m = ending after-mark-survivors in
-    (End-Marked.ensures.0 args.cells.now args.tables.now m, End-Marked.ensures.1)
+    let m = ending c.before.before.before.before.before.before.before.before.before.before.before.before.before.before.before.before.before.before.before.before.before in
+    (c.before.before.before.before.before.before.before.before.before.before.End-Marked.ensures.0 c.before.before.before.before.before.before.before.before.before.before.before.before.before.before.before.before.before.before.before.before.before.before.before.before.before.before.before.before.before.before.before.before.before.before.before.before.args.cells.now c.before.before.before.before.before.before.before.before.before.before.before.before.before.before.before.before.before.before.before.before.before.before.before.before.before.before.before.before.before.before.before.before.before.before.before.before.args.tables.now m, c.before.before.before.before.before.before.before.before.before.before.End-Marked.ensures.1)
 
 evacuate-none-requires : tie.Need-evacuate-none-requires
 evacuate-none-requires c κs =
-    let after-mark-survivors = c.before.before.before.before.before.before.before.before.before.before in
-    let after-depth = to-depth after-mark-survivors in
-    let a = (to_start after-depth).args in
-    let pre = (to_start after-depth).pre in
-    let if2 = c.before.before.before.before.before.if2 in
-    let m = ending after-mark-survivors in
-    let none = unmarked after-mark-survivors if2.false in
-    ((a.cells.now, a.tables.now, m, accepted m (free-way m none)), (none, (marked-noted m pre.1.1.0, pre.1.1.1)))
+    let a = c.before.before.before.before.before.before.before.before.before.before.before.before.before.before.before.before.before.before.before.before.before.before.before.before.before.args in
+    let m = ending c.before.before.before.before.before.before.before.before.before.before in
+    let none = unmarked c.before.before.before.before.before.before.before.before.before.before c.before.before.before.before.before.if2.false in
+    ((a.cells.now, a.tables.now, m, accepted m (free-way m none)), (none, (marked-noted m c.before.before.before.before.before.before.before.before.before.before.before.before.before.before.before.before.before.before.before.before.before.before.before.before.before.requires.1.1.0, c.before.before.before.before.before.before.before.before.before.before.before.before.before.before.before.before.before.before.before.before.before.before.before.before.before.requires.1.1.1)))
 
 done-requires : tie.Need-done-requires
 done-requires c κs = search rules
@@ -191,15 +132,10 @@ same-length-11 c = search rules
 
 returns-3 : tie.Need-returns-3
 returns-3 c =
-    let after-evacuate-none = c.before.before.before.before.before.before.before.before.before.before.before in
-    let after-mark-survivors = after-evacuate-none.before.before.before.before.before.before.before.before.before.before.before in
-    let after-depth = to-depth after-mark-survivors in
-    let a = (to_start after-depth).args in
-    let if2 = after-evacuate-none.before.before.before.before.before.before.if2 in
-    let evacuate-none = after-evacuate-none.evacuate-none in
-    let m = ending after-mark-survivors in
-    let yes = accepted m (free-way m (unmarked after-mark-survivors if2.false)) in
-    (did-answer c.done.ensures (ended_here m yes (evacuate-none.ensures.0 a.cells.now a.tables.now m yes)), evacuate-none.ensures.1)
+    let a = c.before.before.before.before.before.before.before.before.before.before.before.before.before.before.before.before.before.before.before.before.before.before.before.before.before.before.before.before.before.before.before.before.before.before.before.before.before.args in
+    let m = ending c.before.before.before.before.before.before.before.before.before.before.before.before.before.before.before.before.before.before.before.before.before.before in
+    let yes = accepted m (free-way m (unmarked c.before.before.before.before.before.before.before.before.before.before.before.before.before.before.before.before.before.before.before.before.before.before c.before.before.before.before.before.before.before.before.before.before.before.before.before.before.before.before.before.if2.false)) in
+    (did-answer c.done.ensures (ended_here m yes (c.before.before.before.before.before.before.before.before.before.before.before.evacuate-none.ensures.0 a.cells.now a.tables.now m yes)), c.before.before.before.before.before.before.before.before.before.before.before.evacuate-none.ensures.1)
 
 pub end-spec : {M : Type 1} → statement M
 end-spec =

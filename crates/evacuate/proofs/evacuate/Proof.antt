@@ -14,22 +14,6 @@ use Rattle.ending.specs.Chaining.{own-pages, chained-ask}
 use Rattle.evacuate.proofs.evacuate.Statement.{statement}
 use Rattle.evacuate.proofs.evacuate.Tie as tie
 
--- the ways back from a state to one before it
-abbrev to_start : tie.After-count-survivors → tie.Start
-to_start c = c.before.before.before.before.before.before.before.before.before
-
-abbrev to-rewrite-variables : tie.After-release → tie.After-rewrite-variables
-to-rewrite-variables c = c.before.before.before.before.before.before
-
-abbrev to-settle : tie.After-rewrite-variables → tie.After-settle
-to-settle c = c.before.before.before.before.before.before.before.before.before
-
-abbrev to-rewrite-slots : tie.After-settle → tie.After-rewrite-slots
-to-rewrite-slots c = c.before.before.before.before.before.before.before
-
-abbrev to-copy-survivors : tie.After-rewrite-slots → tie.After-copy-survivors
-to-copy-survivors c = c.before.before.before.before.before.before.before.before.before.before
-
 count-survivors-requires : tie.Need-count-survivors-requires
 count-survivors-requires c κs =
     let pre = c.before.before.before.before.before.before.before.before.requires in
@@ -41,186 +25,84 @@ wide-requires c κs = search rules
 
 count-requires : tie.Need-count-requires
 count-requires c κs =
-    let pre = c.before.before.before.before.before.before.before.before.before.before.before.requires in
-    let e = pre.0.2 in
+    let e = c.before.before.before.before.before.before.before.before.before.before.before.requires.0.2 in
     (room-now e, (omega (arith, c.wide.ensures, st.bounds e), omega (arith, c.wide.ensures, st.bounds e)))
 
 -- the objects of the region less the survivors
 sub-freed : tie.Need-overflow-sub-freed
 sub-freed c =
-    let after-count-survivors = c.before.before.before in
-    let start = after-count-survivors.before.before.before.before.before.before.before.before.before in
-    let a = start.args in
-    let pre = start.requires in
-    omega (
-      arith,
-      c.count.ensures,
-      ap (count_of a.p a.tables.now) c.before.wide.ensures,
-      after-count-survivors.count-survivors.ensures,
-      st.freed-rest pre.0.2,
-    )
+    let a = c.before.before.before.before.before.before.before.before.before.before.before.before.args in
+    omega (arith, c.count.ensures, ap (count_of a.p a.tables.now) c.before.wide.ensures, c.before.before.before.count-survivors.ensures, st.freed-rest c.before.before.before.before.before.before.before.before.before.before.before.before.requires.0.2)
 
 copy-survivors-requires : tie.Need-copy-survivors-requires
 copy-survivors-requires c κs =
-    let after-count-survivors = c.before.before.before.before.before.before in
-    let pre = (to_start after-count-survivors).requires in
-    let e = pre.0.2 in (
-      plan e pre.0.3.pages,
-      ((e.thread, level-low e), (pre.1.0.rises, (unlisted e.marks (st.listed e pre.1.0), (pre.1.1.0, pre.1.1.1.0)))),
-    )
+    let pre = c.before.before.before.before.before.before.before.before.before.before.before.before.before.before.before.requires in
+    let e = pre.0.2 in
+    (plan e pre.0.3.pages, ((e.thread, level-low e), (pre.1.0.rises, (unlisted e.marks (st.listed e pre.1.0), (pre.1.1.0, pre.1.1.1.0)))))
 
 rewrite-slots-requires : tie.Need-rewrite-slots-requires
 rewrite-slots-requires c κs =
-    let after-copy-survivors = c.before.before.before.before.before.before.before.before.before in
-    let after-count-survivors = after-copy-survivors.before.before.before.before.before.before.before in
-    let pre = (to_start after-count-survivors).requires in
-    let copy-survivors = after-copy-survivors.copy-survivors in
+    let pre = c.before.before.before.before.before.before.before.before.before.before.before.before.before.before.before.before.before.before.before.before.before.before.before.before.before.requires in
     let e = pre.0.2 in
-    let room = room-now e in (
-      st.slots-ask e (plan e pre.0.3.pages) copy-survivors.ensures.0,
-      (pre.1.1.1.1, ((st.bounds e).0, (st.bounds e).1, room.threads-high, room.depth-high)),
-    )
+    let room = room-now e in
+    (st.slots-ask e (plan e pre.0.3.pages) c.before.before.before.before.before.before.before.before.before.copy-survivors.ensures.0, (pre.1.1.1.1, ((st.bounds e).0, (st.bounds e).1, room.threads-high, room.depth-high)))
 
 settle-requires : tie.Need-settle-requires
 settle-requires c κs =
-    let after-rewrite-slots = c.before.before.before.before.before.before in
-    let after-copy-survivors = to-copy-survivors after-rewrite-slots in
-    let after-count-survivors = after-copy-survivors.before.before.before.before.before.before.before in
-    let pre = (to_start after-count-survivors).pre in
-    let copy-survivors = after-copy-survivors.copy-survivors in
-    let rewrite-slots = after-rewrite-slots.rewrite-slots in
+    let pre = c.before.before.before.before.before.before.before.before.before.before.before.before.before.before.before.before.before.before.before.before.before.before.before.before.before.before.before.before.before.before.before.before.requires in
     let e = pre.0.2 in
     let p = plan e pre.0.3.pages in
-    let k = copy-survivors.ensures.0 in
-    let listed = st.listed e pre.1.0 in (
-      st.settle-ask e p k (st.slots-rewritten e p k pre.1.1.1.1 rewrite-slots.ensures) pre.0.3.entries,
-      (own-pages e p k listed, (st.marks-ask e p k listed, chained-ask e p k pre.1.1.1.1)),
-    )
+    let k = c.before.before.before.before.before.before.before.before.before.before.before.before.before.before.before.before.copy-survivors.ensures.0 in
+    let listed = st.listed e pre.1.0 in
+    (st.settle-ask e p k c.before.before.before.before.before.before.rewrite-slots.ensures pre.0.3.entries, (own-pages e p k listed, (st.marks-ask e p k listed, chained-ask e p k pre.1.1.1.1)))
 
 rewrite-variables-requires : tie.Need-rewrite-variables-requires
 rewrite-variables-requires c κs =
-    let after-settle = c.before.before.before.before.before.before.before.before in
-    let after-rewrite-slots = after-settle.before.before.before.before.before.before.before in
-    let after-copy-survivors = after-rewrite-slots.before.before.before.before.before.before.before.before.before.before in
-    let after-count-survivors = after-copy-survivors.before.before.before.before.before.before.before in
-    let pre = after-count-survivors.before.before.before.before.before.before.before.before.before.requires in
-    let copy-survivors = after-copy-survivors.copy-survivors in
-    let rewrite-slots = after-rewrite-slots.rewrite-slots in
-    let settle = after-settle.settle in
+    let pre = c.before.before.before.before.before.before.before.before.before.before.before.before.before.before.before.before.before.before.before.before.before.before.before.before.before.before.before.before.before.before.before.before.before.before.before.before.before.before.before.before.before.requires in
     let e = pre.0.2 in
-    let p = plan e pre.0.3.pages in
-    let k = copy-survivors.ensures.0 in
-    let h = st.moved e p k in (
-      variables-ask h,
-      (
-        omega (arith, h.ready.cells-long, (st.slots-rewritten e p k pre.1.1.1.1 rewrite-slots.ensures).size, settle.ensures.0.size),
-        h.ready.room,
-      ),
-    )
+    let h = st.moved e (plan e pre.0.3.pages) c.before.before.before.before.before.before.before.before.before.before.before.before.before.before.before.before.before.before.before.before.before.before.before.before.before.copy-survivors.ensures.0 in
+    (variables-ask h, (omega (arith, h.ready.cells-long, c.before.before.before.before.before.before.before.before.before.before.before.before.before.before.before.rewrite-slots.ensures.size, c.before.before.before.before.before.before.before.before.settle.ensures.0.size), h.ready.room))
 
 release-requires : tie.Need-release-requires
 release-requires c κs =
-    let after-rewrite-variables = c.before.before.before.before.before in
-    let after-settle = after-rewrite-variables.before.before.before.before.before.before.before.before.before in
-    let after-rewrite-slots = after-settle.before.before.before.before.before.before.before in
-    let after-copy-survivors = after-rewrite-slots.before.before.before.before.before.before.before.before.before.before in
-    let after-count-survivors = after-copy-survivors.before.before.before.before.before.before.before in
-    let pre = after-count-survivors.before.before.before.before.before.before.before.before.before.requires in
-    let copy-survivors = after-copy-survivors.copy-survivors in
-    let rewrite-slots = after-rewrite-slots.rewrite-slots in
-    let settle = after-settle.settle in
-    let rewrite-variables = after-rewrite-variables.rewrite-variables in
+    let pre = c.before.before.before.before.before.before.before.before.before.before.before.before.before.before.before.before.before.before.before.before.before.before.before.before.before.before.before.before.before.before.before.before.before.before.before.before.before.before.before.before.before.before.before.before.before.before.before.requires in
     let e = pre.0.2 in
     let p = plan e pre.0.3.pages in
-    let k = copy-survivors.ensures.0 in
+    let k = c.before.before.before.before.before.before.before.before.before.before.before.before.before.before.before.before.before.before.before.before.before.before.before.before.before.before.before.before.before.before.before.copy-survivors.ensures.0 in
     let h = st.moved e p k in
-    let v = rewrite-variables.ensures in
-    let z = st.release-ask e p k v in (
-      z.0,
-      (
-        regular₂ h v,
-        (
-          omega (arith, h.ready.cells-long, (st.slots-rewritten e p k pre.1.1.1.1 rewrite-slots.ensures).size, settle.ensures.0.size),
-          (
-            st.pages-ask e p k v (st.listed e pre.1.0),
-            (st.bounds e, ((e.thread, omega (arith, z.1, e.epoch)), noted-kept (none-freed _ _ _ (owner₂ h v)) copy-survivors.ensures.1)),
-          ),
-        ),
-      ),
-    )
+    let v = c.before.before.before.before.before.rewrite-variables.ensures in
+    let z = st.release-ask e p k v in
+    (z.0, (regular₂ h v, (omega (arith, h.ready.cells-long, c.before.before.before.before.before.before.before.before.before.before.before.before.before.before.before.before.before.before.before.before.before.rewrite-slots.ensures.size, c.before.before.before.before.before.before.before.before.before.before.before.before.before.before.settle.ensures.0.size), (st.pages-ask e p k v (st.listed e pre.1.0), (st.bounds e, ((e.thread, omega (arith, z.1, e.epoch)), noted-kept (none-freed _ _ _ (owner₂ h v)) c.before.before.before.before.before.before.before.before.before.before.before.before.before.before.before.before.before.before.before.before.before.before.before.before.before.before.before.before.before.before.before.copy-survivors.ensures.1))))))
 
 same_length : tie.Need-same-length
-same_length c =
-    let after-release = c.before.before.before.before.before.before in
-    let after-rewrite-variables = to-rewrite-variables after-release in
-    let after-settle = to-settle after-rewrite-variables in
-    let after-rewrite-slots = to-rewrite-slots after-settle in
-    let copy-survivors = (to-copy-survivors after-rewrite-slots).copy-survivors in
-    let rewrite-slots = after-rewrite-slots.rewrite-slots in
-    let settle = after-settle.settle in
-    let release = after-release.release in
-    release.auto.1.0 ∙ settle.kept.1.0 ∙ rewrite-slots.kept.1.0 ∙ copy-survivors.kept.1.0
+same_length c = c.before.before.before.before.before.before.release.auto.1.0 ∙ c.before.before.before.before.before.before.before.before.before.before.before.before.before.before.before.before.before.before.before.before.before.settle.auto.1.0 ∙ c.before.before.before.before.before.before.before.before.before.before.before.before.before.before.before.before.before.before.before.before.before.before.before.before.before.before.before.before.rewrite-slots.auto.1.0 ∙ c.before.before.before.before.before.before.before.before.before.before.before.before.before.before.before.before.before.before.before.before.before.before.before.before.before.before.before.before.before.before.before.before.before.before.before.before.before.before.copy-survivors.auto.1.0
 
 same-length-2 : tie.Need-same-length-2
 same-length-2 c = search rules
 
 same-length-3 : tie.Need-same-length-3
-same-length-3 c =
-    let after-release = c.before.before.before.before.before.before in
-    let after-rewrite-variables = to-rewrite-variables after-release in
-    let after-settle = to-settle after-rewrite-variables in
-    let after-rewrite-slots = to-rewrite-slots after-settle in
-    let copy-survivors = (to-copy-survivors after-rewrite-slots).copy-survivors in
-    let rewrite-variables = after-rewrite-variables.rewrite-variables in
-    let release = after-release.release in
-    release.auto.1.1.0 ∙ rewrite-variables.kept.1.1.0 ∙ copy-survivors.kept.1.1.0
+same-length-3 c = c.before.before.before.before.before.before.release.auto.1.1.0 ∙ c.before.before.before.before.before.before.before.before.before.before.before.before.rewrite-variables.auto.1.1.0 ∙ c.before.before.before.before.before.before.before.before.before.before.before.before.before.before.before.before.before.before.before.before.before.before.before.before.before.before.before.before.before.before.before.before.before.before.before.before.before.before.copy-survivors.auto.1.1.0
 
 same-length-4 : tie.Need-same-length-4
 same-length-4 c = search rules
 
 same-length-5 : tie.Need-same-length-5
-same-length-5 c =
-    let after-release = c.before.before.before.before.before.before in
-    let after-rewrite-variables = to-rewrite-variables after-release in
-    let after-settle = to-settle after-rewrite-variables in
-    let after-rewrite-slots = to-rewrite-slots after-settle in
-    let copy-survivors = (to-copy-survivors after-rewrite-slots).copy-survivors in
-    let release = after-release.release in
-    release.auto.1.1.1.0 ∙ copy-survivors.kept.1.1.1.0
+same-length-5 c = c.before.before.before.before.before.before.release.auto.1.1.1.0 ∙ c.before.before.before.before.before.before.before.before.before.before.before.before.before.before.before.before.before.before.before.before.before.before.before.before.before.before.before.before.before.before.before.before.before.before.before.before.before.before.copy-survivors.auto.1.1.1.0
 
 returns : tie.Need-returns
-returns c =
-    let after-release = c.before.before.before.before.before.before in
-    let after-rewrite-variables = after-release.before.before.before.before.before.before in
-    let after-settle = after-rewrite-variables.before.before.before.before.before.before.before.before.before in
-    let after-rewrite-slots = after-settle.before.before.before.before.before.before.before in
-    let after-copy-survivors = after-rewrite-slots.before.before.before.before.before.before.before.before.before.before in
-    let after-count-survivors = after-copy-survivors.before.before.before.before.before.before.before in
-    let start = after-count-survivors.before.before.before.before.before.before.before.before.before in
-    let arguments = start.args in
-    let pre = start.requires in
-    let count-survivors = after-count-survivors.count-survivors in
-    let wide = after-copy-survivors.before.before.before.before.before.wide in
-    let count = after-copy-survivors.before.before.before.before.count in
-    let copy-survivors = after-copy-survivors.copy-survivors in
-    let rewrite-slots = after-rewrite-slots.rewrite-slots in
-    let settle-gave = after-settle.settle in
-    let rewrite-variables = after-rewrite-variables.rewrite-variables in
-    let release-gave = after-release.release in (
-      λ cells tables e a.
-          let args = arguments in
-          let settle = settle-gave in
-          let release = release-gave in
-          let p = plan e a.pages in
-          let k = copy-survivors.ensures.0 in
-          let h = st.moved e p k in
-          st.has_ended e p k rewrite-variables.ensures release.ensures.0
-          (omega (arith, count.ensures, ap (count_of args.p args.tables.now) wide.ensures, count-survivors.ensures, st.freed-rest e))
-          release.ensures.1.0
-          (rewritten-both h (st.held e) (st.slots-rewritten e p k pre.1.1.1.1 rewrite-slots.ensures) settle.ensures.0)
-          settle.ensures.1.0,
-      (release-gave.ensures.1.1, settle-gave.ensures.1.1),
-    )
+returns c = (
+  λ cells tables e a.
+      let args = c.before.before.before.before.before.before.before.before.before.before.before.before.before.before.before.before.before.before.before.before.before.before.before.before.before.before.before.before.before.before.before.before.before.before.before.before.before.before.before.before.before.before.before.before.before.before.before.before.before.before.before.before.before.before.args in
+      let settle = c.before.before.before.before.before.before.before.before.before.before.before.before.before.before.before.before.before.before.before.before.before.settle in
+      let release = c.before.before.before.before.before.before.release in
+      let p = plan e a.pages in
+      let k = c.before.before.before.before.before.before.before.before.before.before.before.before.before.before.before.before.before.before.before.before.before.before.before.before.before.before.before.before.before.before.before.before.before.before.before.before.before.before.copy-survivors.ensures.0 in
+      let h = st.moved e p k in
+      st.has_ended e p k c.before.before.before.before.before.before.before.before.before.before.before.before.rewrite-variables.ensures release.ensures.0
+      (omega (arith, c.before.before.before.before.before.before.before.before.before.before.before.before.before.before.before.before.before.before.before.before.before.before.before.before.before.before.before.before.before.before.before.before.before.before.before.before.before.before.before.before.before.before.count.ensures, ap (count_of args.p args.tables.now) c.before.before.before.before.before.before.before.before.before.before.before.before.before.before.before.before.before.before.before.before.before.before.before.before.before.before.before.before.before.before.before.before.before.before.before.before.before.before.before.before.before.before.before.wide.ensures, c.before.before.before.before.before.before.before.before.before.before.before.before.before.before.before.before.before.before.before.before.before.before.before.before.before.before.before.before.before.before.before.before.before.before.before.before.before.before.before.before.before.before.before.before.before.count-survivors.ensures, st.freed-rest e)) release.ensures.1.0
+      (rewritten-both h (st.held e) c.before.before.before.before.before.before.before.before.before.before.before.before.before.before.before.before.before.before.before.before.before.before.before.before.before.before.before.before.rewrite-slots.ensures settle.ensures.0) settle.ensures.1.0,
+  (c.before.before.before.before.before.before.release.ensures.1.1, c.before.before.before.before.before.before.before.before.before.before.before.before.before.before.before.before.before.before.before.before.before.settle.ensures.1.1),
+)
 
 pub evacuate-spec : {M : Type 1} → statement M
 evacuate-spec =

@@ -1,19 +1,14 @@
--- What `command_obey` answers is the answer; an end or a collection starts from the words as they were.
+-- What `commands` answers is the answer; an end or a collection starts from the words as they were.
 use mathlib.Core.Path.{sym, ap, ◌∙◌}
 use Rattle.chains.specs.Walking.{whole_long}
-use Rattle.command_obey.specs.declared.Obeyed.TheVariants.{Ends}
+use Rattle.commands.specs.declared.Obeyed.TheVariants.{Ends}
 use Rattle.heap.specs.Running.{obeyed-answered, left_end, left-collection, left-whole, left-did, chains-there, chains-over}
 use borrow.Author.Rules.{rules}
 use Rattle.heap.proofs.obey.Statement.{statement}
 use Rattle.heap.proofs.obey.Tie as tie
 
--- the way back from a state to one before it
-abbrev to_start : tie.After-obey → tie.Start
-to_start c = c.before.before.before.before.before.before.before.before.before.before.before
-
 obey-requires : tie.Need-obey-requires
-obey-requires c κs = let pre = c.before.before.before.before.before.before.before.before.before.before.requires in
-    (pre.0, (pre.1.1, pre.1.0))
+obey-requires c κs = let pre = c.before.before.before.before.before.before.before.before.before.before.requires in (pre.0, (pre.1.1, pre.1.0))
 
 enum-known-o : tie.Need-enum-known-o
 enum-known-o c = search rules
@@ -26,15 +21,11 @@ wide-requires c κs = search rules
 
 end-requires : tie.Need-end-requires
 end-requires c κs =
-    let after-o2 = c.before.before.before.before.before.before.before in
-    let before-o2 = after-o2.before.before.before.before.before.before in
-    let after-obey = before-o2.before.before.before.before.before.before in
-    let start = to_start after-obey in
-    let args = start.args in
-    let pre = start.pre in
-    let obey = after-obey.obey in
-    let o2 = after-o2.o2 in
+    let args = c.before.before.before.before.before.before.before.before.before.before.before.before.before.before.before.before.before.before.before.before.before.before.before.before.before.before.before.before.before.before.args in
+    let obey = c.before.before.before.before.before.before.before.before.before.before.before.before.before.before.before.before.before.before.before.obey in
     let wide = c.wide in
+    let pre = c.before.before.before.before.before.before.before.before.before.before.before.before.before.before.before.before.before.before.before.before.before.before.before.before.before.before.before.before.before.before.requires in
+    let o2 = c.before.before.before.before.before.before.before.o2 in
     let l = left_end args.p obey.result obey.ensures.0 (o2.given.1 ∙ ap Ends (sym wide.ensures)) in
     let r = left-whole pre.0 l in
     (r, (l.within, (obey.ensures.1.0, chains-there args.chains.now r obey.ensures.1.1)))
@@ -44,14 +35,10 @@ enum_told c = search rules
 
 collect-requires : tie.Need-collect-requires
 collect-requires c κs =
-    let at-enum-told = c.before.before.before.before.before in
-    let earlier = at-enum-told.before.before.before.before.before.before in
-    let after-obey = earlier.before.before.before.before.before.before in
-    let start = to_start after-obey in
-    let args = start.args in
-    let pre = start.pre in
-    let obey = after-obey.obey in
-    let told = at-enum-told.enum_told in
+    let args = c.before.before.before.before.before.before.before.before.before.before.before.before.before.before.before.before.before.before.before.before.before.before.before.before.before.before.before.before.args in
+    let obey = c.before.before.before.before.before.before.before.before.before.before.before.before.before.before.before.before.before.obey in
+    let pre = c.before.before.before.before.before.before.before.before.before.before.before.before.before.before.before.before.before.before.before.before.before.before.before.before.before.before.before.before.requires in
+    let told = c.before.before.before.before.before.enum_told in
     let l = left-collection args.p obey.result obey.ensures.0 told.given.1 in
     let r = left-whole pre.0 l in
     (r, (whole_long r.remember.entries.room (chains-there args.chains.now r obey.ensures.1.1), obey.ensures.1.0))
@@ -73,10 +60,8 @@ same-length-5 c = search rules
 
 returns : tie.Need-returns
 returns c =
-    let earlier = c.before.before.before.before.before.before.before in
-    let after-obey = earlier.before.before.before.before.before.before in
-    let args = (to_start after-obey).args in
-    let obey = after-obey.obey in
+    let args = c.before.before.before.before.before.before.before.before.before.before.before.before.before.before.before.before.before.before.before.before.before.before.before.before.args in
+    let obey = c.before.before.before.before.before.before.before.before.before.before.before.before.before.obey in
     (obeyed-answered args.p obey.result obey.ensures.0 c.before.o.given.1, (obey.ensures.1.1, obey.ensures.1.0))
 
 same-length-6 : tie.Need-same-length-6
@@ -96,21 +81,13 @@ same-length-10 c = search rules
 
 returns-2 : tie.Need-returns-2
 returns-2 c =
-    let after-wide = c.before.before.before.before.before.before.before.before.before.before.before in
-    let after-o2 = after-wide.before.before.before.before.before.before.before in
-    let before-o2 = after-o2.before.before.before.before.before.before in
-    let after-obey = before-o2.before.before.before.before.before.before in
-    let start = to_start after-obey in
-    let args = start.args in
-    let pre = start.pre in
-    let obey = after-obey.obey in
-    let o2 = after-o2.o2 in
-    let wide = after-wide.wide in
+    let args = c.before.before.before.before.before.before.before.before.before.before.before.before.before.before.before.before.before.before.before.before.before.before.before.before.before.before.before.before.before.before.before.before.before.before.before.before.before.before.before.before.before.args in
+    let obey = c.before.before.before.before.before.before.before.before.before.before.before.before.before.before.before.before.before.before.before.before.before.before.before.before.before.before.before.before.before.before.obey in
+    let wide = c.before.before.before.before.before.before.before.before.before.before.before.wide in
     let end = c.before.before.before.before.before.before.before.before.before.before.end in
-    let l = left_end args.p obey.result obey.ensures.0 (o2.given.1 ∙ ap Ends (sym wide.ensures)) in (
-      left-did l end.ensures.0,
-      (chains-over args.chains.now (left-whole pre.0 l) obey.ensures.1.1 _ end.ensures.1.1, end.ensures.1.0),
-    )
+    let o2 = c.before.before.before.before.before.before.before.before.before.before.before.before.before.before.before.before.before.before.o2 in
+    let l = left_end args.p obey.result obey.ensures.0 (o2.given.1 ∙ ap Ends (sym wide.ensures)) in
+    (left-did l end.ensures.0, (chains-over args.chains.now (left-whole c.before.before.before.before.before.before.before.before.before.before.before.before.before.before.before.before.before.before.before.before.before.before.before.before.before.before.before.before.before.before.before.before.before.before.before.before.before.before.before.before.before.requires.0 l) obey.ensures.1.1 _ end.ensures.1.1, end.ensures.1.0))
 
 same-length-11 : tie.Need-same-length-11
 same-length-11 c = search rules
@@ -129,20 +106,12 @@ same-length-15 c = search rules
 
 returns-3 : tie.Need-returns-3
 returns-3 c =
-    let after-collect = c.before.before.before.before.before.before.before.before.before.before in
-    let at-enum-told = after-collect.before.before.before.before.before.before in
-    let earlier = at-enum-told.before.before.before.before.before.before in
-    let after-obey = earlier.before.before.before.before.before.before in
-    let start = to_start after-obey in
-    let args = start.args in
-    let pre = start.pre in
-    let obey = after-obey.obey in
-    let told = at-enum-told.enum_told in
-    let collect = after-collect.collect in
-    let l = left-collection args.p obey.result obey.ensures.0 told.given.1 in (
-      left-did l (collect.ensures.0 _ l.within),
-      (chains-over args.chains.now (left-whole pre.0 l) obey.ensures.1.1 _ collect.ensures.1.0, collect.ensures.1.1),
-    )
+    let args = c.before.before.before.before.before.before.before.before.before.before.before.before.before.before.before.before.before.before.before.before.before.before.before.before.before.before.before.before.before.before.before.before.before.before.before.before.before.before.before.args in
+    let obey = c.before.before.before.before.before.before.before.before.before.before.before.before.before.before.before.before.before.before.before.before.before.before.before.before.before.before.before.before.obey in
+    let collect = c.before.before.before.before.before.before.before.before.before.before.collect in
+    let told = c.before.before.before.before.before.before.before.before.before.before.before.before.before.before.before.before.enum_told in
+    let l = left-collection args.p obey.result obey.ensures.0 told.given.1 in
+    (left-did l (collect.ensures.0 _ l.within), (chains-over args.chains.now (left-whole c.before.before.before.before.before.before.before.before.before.before.before.before.before.before.before.before.before.before.before.before.before.before.before.before.before.before.before.before.before.before.before.before.before.before.before.before.before.before.before.requires.0 l) obey.ensures.1.1 _ collect.ensures.1.0, collect.ensures.1.1))
 
 pub obey-spec : {M : Type 1} → statement M
 obey-spec =

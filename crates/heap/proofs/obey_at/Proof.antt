@@ -26,10 +26,7 @@ same-length-5 : tie.Need-same-length-5
 same-length-5 c = search rules
 
 returns : tie.Need-returns
-returns c =
-    let command-at = c.before.before.before.before.before.before.before.before.before.before.before.command-at in
-    let obey = c.before.before.before.before.before.before.before.before.before.before.obey in
-    (did-same obey.ensures.0 command-at.ensures, obey.ensures.1)
+returns c = let obey = c.before.before.before.before.before.before.before.before.before.before.obey in (did-same obey.ensures.0 c.before.before.before.before.before.before.before.before.before.before.before.command-at.ensures, obey.ensures.1)
 
 pub obey-at-spec : {M : Type 1} → statement M
 obey-at-spec =

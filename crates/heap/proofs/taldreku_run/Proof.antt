@@ -26,10 +26,7 @@ returns : tie.Need-returns
 returns c = search ran-refused
 
 obey-block-requires : tie.Need-obey-block-requires
-obey-block-requires c κs =
-    let ask = c.before.before.before.before.before.before.ask in
-    let if1 = c.before.before.before.before.before.if1 in
-    asked-none ask.ensures if1.false
+obey-block-requires c κs = asked-none c.before.before.before.before.before.before.ask.ensures c.before.before.before.before.before.if1.false
 
 same-length-6 : tie.Need-same-length-6
 same-length-6 c = search rules

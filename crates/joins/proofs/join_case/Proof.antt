@@ -45,11 +45,9 @@ thread-of-requires-2 c κs = search rules
 
 returns-3 : tie.Need-returns-3
 returns-3 c =
-    let wide = c.before.before.before.before.wide in
-    let first = wide.ensures in
+    let first = c.before.before.before.before.wide.ensures in
     let second = c.before.before.before.wide2.ensures in
-    other-threads _ _ _ _ _ _ _ first second (omega arith) (omega arith) c.before.before.thread-of.ensures c.before.thread-of2.ensures
-    c.if3.true
+    other-threads _ _ _ _ _ _ _ first second (omega arith) (omega arith) c.before.before.thread-of.ensures c.before.thread-of2.ensures c.if3.true
 
 level-of-requires : tie.Need-level-of-requires
 level-of-requires c κs = search rules
@@ -62,8 +60,7 @@ returns-4 c =
     let threads = c.before.before.before in
     let first = threads.before.before.before.before.wide.ensures in
     let second = threads.before.before.before.wide2.ensures in
-    second-is-outer _ _ _ _ _ _ _ first second (omega arith) (omega arith) threads.before.before.thread-of.ensures
-    threads.before.thread-of2.ensures
+    second-is-outer _ _ _ _ _ _ _ first second (omega arith) (omega arith) threads.before.before.thread-of.ensures threads.before.thread-of2.ensures
     threads.if3.false _ _ c.before.level-of2.ensures c.before.before.level-of.ensures c.if4.true
 
 returns-5 : tie.Need-returns-5
@@ -71,8 +68,7 @@ returns-5 c =
     let threads = c.before.before.before in
     let first = threads.before.before.before.before.wide.ensures in
     let second = threads.before.before.before.wide2.ensures in
-    first-is-outer _ _ _ _ _ _ _ first second (omega arith) (omega arith) threads.before.before.thread-of.ensures
-    threads.before.thread-of2.ensures
+    first-is-outer _ _ _ _ _ _ _ first second (omega arith) (omega arith) threads.before.before.thread-of.ensures threads.before.thread-of2.ensures
     threads.if3.false _ _ c.before.level-of2.ensures c.before.before.level-of.ensures (omega arith)
 
 pub join-case-spec : {M : Type 1} → statement M

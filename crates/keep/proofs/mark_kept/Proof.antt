@@ -2,7 +2,7 @@
 use native.Mathlib.Omega.{arith}
 use borrow.Author.Rules.{rules}
 use Rattle.layout.specs.Words.{words}
-use Rattle.stack.specs.Pushes.{pushing-kept, pushing-shaped}
+use Rattle.mark.specs.Pushes.{pushing-kept, pushing-shaped}
 use Rattle.mark.specs.Reached.{whole-holding}
 use Rattle.mark.specs.Survivors.{shaped-at}
 use Rattle.keep.specs.Others.{kept-used}
@@ -22,8 +22,7 @@ push-others-requires c κs =
     let args = c.before.before.before.before.before.before.before.before.before.before.before.args in
     let pre = c.before.before.before.before.before.before.before.before.before.before.before.requires in
     let s = shaped-at args.p (words args.cells.now pre.0 args.tables.now) pre.1 (omega arith) in
-    let push-variables = c.before.before.before.before.before.before.push-variables in
-    let a = push-variables.ensures in
+    let a = c.before.before.before.before.before.before.push-variables.ensures in
     (pushing-shaped s a, λ page l. omega (arith, kept-used (pushing-kept s a) s.room page l, (pre.1.pages page l).filled.cells))
 
 drain-requires : tie.Need-drain-requires
@@ -31,13 +30,7 @@ drain-requires c κs =
     let args = c.before.before.before.before.before.before.before.before.before.before.before.before.before.before.before.before.before.before.args in
     let pre = c.before.before.before.before.before.before.before.before.before.before.before.before.before.before.before.before.before.before.requires in
     let s = shaped-at args.p (words args.cells.now pre.0 args.tables.now) pre.1 (omega arith) in
-    let push-variables = c.before.before.before.before.before.before.before.before.before.before.before.before.before.push-variables in
-    let push-others = c.before.before.before.before.before.before.push-others in (
-      args.cells.now,
-      args.tables.now,
-      kept_refs args.p args.cells.now args.tables.now,
-      kept-pending s push-variables.ensures push-others.ensures,
-    )
+    (args.cells.now, args.tables.now, kept_refs args.p args.cells.now args.tables.now, kept-pending s c.before.before.before.before.before.before.before.before.before.before.before.before.before.push-variables.ensures c.before.before.before.before.before.before.push-others.ensures)
 
 same_length : tie.Need-same-length
 same_length c = search rules
@@ -50,10 +43,7 @@ returns c =
     let args = c.before.before.before.before.before.before.before.before.before.before.before.before.before.before.before.before.before.before.before.before.before.before.before.args in
     let pre = c.before.before.before.before.before.before.before.before.before.before.before.before.before.before.before.before.before.before.before.before.before.before.before.requires in
     let s = shaped-at args.p (words args.cells.now pre.0 args.tables.now) pre.1 (omega arith) in
-    let push-variables = c.before.before.before.before.before.before.before.before.before.before.before.before.before.before.before.before.before.before.push-variables in
-    let push-others = c.before.before.before.before.before.before.before.before.before.before.before.push-others in
-    let drain = c.before.before.before.before.drain in
-    let d = drain.ensures _ _ _ (kept-pending s push-variables.ensures push-others.ensures) in
+    let d = c.before.before.before.before.drain.ensures _ _ _ (kept-pending s c.before.before.before.before.before.before.before.before.before.before.before.before.before.before.before.before.before.before.push-variables.ensures c.before.before.before.before.before.before.before.before.before.before.before.push-others.ensures) in
     λ m k. kept-marked args.p (words args.cells.now m args.tables.now) k s d
 
 pub mark-kept-spec : {M : Type 1} → statement M

@@ -5,7 +5,7 @@ use native.Mathlib.Omega.{arith}
 use lib.ListN.{length}
 use Rattle.layout.specs.Places.{cells_words}
 use Rattle.layout.specs.Cells.{head_at, first_on}
-use Rattle.stack.specs.Pushes.{Pushing, Pushing.none, pushing-kept}
+use Rattle.mark.specs.Pushes.{Pushing, Pushing.none, pushing-kept}
 use Rattle.keep.specs.Others.{other_held, page-asks, pages-read}
 use Rattle.keep.proofs.push_others.Statement.{statement}
 use Rattle.keep.proofs.push_others.Tie as tie
@@ -29,24 +29,17 @@ push-page-requires c κs =
     page-asks loop.page pre.0 loop.invariant.3 loop-test.true (pre.1 loop.page loop-test.true)
 
 add-page : tie.Need-overflow-add-page invariant-loop decreases-loop
-add-page c =
-    let pre = c.before.before.before.before.before.before.before.before.before.before.before.requires in
-    let loop-test = c.before.before.before.before.before.before.before.loop-test in
-    omega (arith, pre.0.room.few, loop-test.true)
+add-page c = omega (arith, c.before.before.before.before.before.before.before.before.before.before.before.requires.0.room.few, c.before.before.before.before.before.before.before.loop-test.true)
 
 loop-less : tie.Need-loop-smaller invariant-loop decreases-loop
-loop-less c =
-    let loop-test = c.before.before.before.before.before.before.before.loop-test in
-    omega (arith, loop-test.true)
+loop-less c = omega (arith, c.before.before.before.before.before.before.before.loop-test.true)
 
 loop-again : tie.Need-loop-preserved invariant-loop decreases-loop
 loop-again c =
-    let pre = c.before.before.before.before.before.before.before.before.before.before.before.requires in
     let loop = c.before.before.before.before.before.before.before.before.loop in
-    let loop-test = c.before.before.before.before.before.before.before.loop-test in
-    let push-page = c.before.before.before.before.push-page in
-    let h = pages-read loop.page pre.0 loop.invariant.3 push-page.ensures in
-    let k = pushing-kept pre.0 h in (omega (arith, loop-test.true), k.cells-length, k.tables-length, h)
+    let pre = c.before.before.before.before.before.before.before.before.before.before.before.requires in
+    let h = pages-read loop.page pre.0 loop.invariant.3 c.before.before.before.before.push-page.ensures in
+    let k = pushing-kept pre.0 h in (omega (arith, c.before.before.before.before.before.before.before.loop-test.true), k.cells-length, k.tables-length, h)
 
 same_length : tie.Need-same-length invariant-loop decreases-loop
 same_length c = c.before.loop.invariant.1
@@ -59,8 +52,7 @@ returns c =
     let loop = c.before.loop in
     let args = c.before.before.before.before.args in
     let e : head_at (first_on loop.page) ≡ cells_words args.p = omega (arith, loop.invariant.0, c.loop-test.false) in
-    subst (Pushing args.p 1 (other_held args.p args.cells.now args.tables.now) args.cells.now args.tables.now args.top
-    loop.cells loop.tables loop.t) e loop.invariant.3
+    subst (Pushing args.p 1 (other_held args.p args.cells.now args.tables.now) args.cells.now args.tables.now args.top loop.cells loop.tables loop.t) e loop.invariant.3
 
 pub push-others-spec : {M : Type 1} → statement M
 push-others-spec =

@@ -4,7 +4,7 @@ use Prim.Native.Nat.{◌≤◌, ◌-◌}
 use native.Mathlib.Omega.{arith}
 use lib.ListN.{length}
 use Rattle.layout.specs.Cells.{head_at, page_cells}
-use Rattle.stack.specs.Pushes.{Pushing, Pushing.none, pushing-kept}
+use Rattle.mark.specs.Pushes.{Pushing, Pushing.none, pushing-kept}
 use Rattle.keep.specs.Others.{other_cells, page_held, cells-few, cell-asks, cell-read, page-read}
 use Rattle.keep.proofs.push_page.Statement.{statement}
 use Rattle.keep.proofs.push_page.Tie as tie
@@ -25,14 +25,7 @@ other-cells-requires c κs =
 loop-holds : tie.Need-loop-init invariant-loop decreases-loop
 loop-holds c =
     let args = c.before.before.before.before.args in
-    let pre = c.before.before.before.before.requires in (
-      omega arith,
-      c.other-cells.ensures,
-      omega (arith, c.other-cells.ensures, cells-few args.p args.tables.now args.page pre.1.1),
-      refl,
-      refl,
-      none,
-    )
+    (omega arith, c.other-cells.ensures, omega (arith, c.other-cells.ensures, cells-few args.p args.tables.now args.page c.before.before.before.before.requires.1.1), refl, refl, none)
 
 cell-on-requires : tie.Need-cell-on-requires invariant-loop decreases-loop
 cell-on-requires c κs =
@@ -46,9 +39,7 @@ scan-requires c κs =
     cell-asks pre.0 pre.1.0 pre.1.1 loop.invariant.5 c.cell-on.result c.cell-on.ensures (omega (arith, loop.invariant.1))
 
 add-place : tie.Need-overflow-add-place invariant-loop decreases-loop
-add-place c =
-    let loop = c.before.before.before.before.before.before.before.before.before.loop in
-    omega (arith, loop.invariant.2)
+add-place c = omega (arith, c.before.before.before.before.before.before.before.before.before.loop.invariant.2)
 
 loop-less : tie.Need-loop-smaller invariant-loop decreases-loop
 loop-less c = omega arith
@@ -58,9 +49,7 @@ loop-again c =
     let pre = c.before.before.before.before.before.before.before.before.before.before.before.before.before.before.requires in
     let loop = c.before.before.before.before.before.before.before.before.before.loop in
     let cell-on = c.before.before.before.before.before.cell-on in
-    let scan = c.before.before.before.before.scan in
-    let h = cell-read pre.0 pre.1.0 pre.1.1 loop.invariant.5 cell-on.result cell-on.ensures (omega (arith, loop.invariant.1))
-    scan.ensures in
+    let h = cell-read pre.0 pre.1.0 pre.1.1 loop.invariant.5 cell-on.result cell-on.ensures (omega (arith, loop.invariant.1)) c.before.before.before.before.scan.ensures in
     let k = pushing-kept pre.0 h in
     (omega arith, loop.invariant.1, loop.invariant.2, k.cells-length, k.tables-length, h)
 
@@ -74,8 +63,7 @@ returns : tie.Need-returns invariant-loop decreases-loop
 returns c =
     let pre = c.before.before.before.before.before.before.requires in
     let loop = c.before.loop in
-    page-read pre.0 pre.1.0 pre.1.1 loop.invariant.5 (omega (arith, loop.invariant.1, c.loop-test.false))
-    (omega (arith, loop.invariant.0, loop.invariant.2))
+    page-read pre.0 pre.1.0 pre.1.1 loop.invariant.5 (omega (arith, loop.invariant.1, c.loop-test.false)) (omega (arith, loop.invariant.0, loop.invariant.2))
 
 pub push-page-spec : {M : Type 1} → statement M
 push-page-spec =

@@ -26,18 +26,10 @@ same-length-4 : tie.Need-same-length-4
 same-length-4 c = search rules
 
 returns : tie.Need-returns
-returns c =
-    let after-taldreku-prepare = c.before.before.before.before.before.before.before.before in
-    let after_Line = after-taldreku-prepare.before.before.before.before.before.before in
-    let pre = after_Line.before.before.before.before.before.before.requires in
-    let line = after_Line.line in
-    let taldreku-prepare = after-taldreku-prepare.taldreku-prepare in
-    begun-as line.given.1 (prepared-begun _ _ _ _ _ pre taldreku-prepare.ensures)
+returns c = begun-as c.before.before.before.before.before.before.before.before.before.before.before.before.before.before.line.given.1 (prepared-begun _ _ _ _ _ c.before.before.before.before.before.before.before.before.before.before.before.before.before.before.before.before.before.before.before.before.requires c.before.before.before.before.before.before.before.before.taldreku-prepare.ensures)
 
 returns-2 : tie.Need-returns-2
-returns-2 c =
-    let pre = c.before.before.before.before.before.before.requires in
-    begun-as c.enum_told.given.1 (malformed-begun pre)
+returns-2 c = begun-as c.enum_told.given.1 (malformed-begun c.before.before.before.before.before.before.requires)
 
 pub prepare-spec : {M : Type 1} → statement M
 prepare-spec =

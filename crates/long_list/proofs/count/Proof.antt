@@ -22,10 +22,7 @@ is-answer-requires : tie.Need-is-answer-requires invariant-loop decreases-loop
 is-answer-requires c κs = omega (arith, c.before.loop.invariant.1)
 
 add-n : tie.Need-overflow-add-n invariant-loop decreases-loop
-add-n c =
-    let args = c.before.before.before.before.args in
-    let loop = c.before.before.loop in
-    omega (arith, c.is-answer.ensures, answer_le args.answers.now args.number args.value loop.i, loop.invariant.1, loop.invariant.3)
+add-n c = omega (arith, c.is-answer.ensures, answer_le c.before.before.before.before.args.answers.now c.before.before.before.before.args.number c.before.before.before.before.args.value c.before.before.loop.i, c.before.before.loop.invariant.1, c.before.before.loop.invariant.3)
 
 add-i : tie.Need-overflow-add-i invariant-loop decreases-loop
 add-i c = omega (arith, c.before.before.loop.invariant.1)
@@ -35,18 +32,15 @@ loop-less c = omega arith
 
 loop-again : tie.Need-loop-preserved invariant-loop decreases-loop
 loop-again c =
-    let args = c.before.before.before.before.args in
-    let loop = c.before.before.loop in
-    let m = sum_more (is_answer args.answers.now args.number args.value) loop.i in
-    let l = answer_le args.answers.now args.number args.value loop.i in
-    (omega arith, loop.invariant.1, omega (arith, c.is-answer.ensures, m, loop.invariant.2), omega (arith, c.is-answer.ensures, l, loop.invariant.3))
+    let m = sum_more (is_answer c.before.before.before.before.args.answers.now c.before.before.before.before.args.number c.before.before.before.before.args.value) c.before.before.loop.i in
+    let l = answer_le c.before.before.before.before.args.answers.now c.before.before.before.before.args.number c.before.before.before.before.args.value c.before.before.loop.i in
+    (omega arith, c.before.before.loop.invariant.1, omega (arith, c.is-answer.ensures, m, c.before.before.loop.invariant.2), omega (arith, c.is-answer.ensures, l, c.before.before.loop.invariant.3))
 
 returns : tie.Need-returns invariant-loop decreases-loop
 unfolding answers_of
 returns c =
-    let args = c.before.before.before.args in
-    let e : c.before.loop.i ≡ length args.answers.now / 2 = omega (arith, c.before.loop.invariant.1) in
-    c.before.loop.invariant.2 ∙ ap (sum (is_answer args.answers.now args.number args.value)) e
+    let e : c.before.loop.i ≡ length c.before.before.before.args.answers.now / 2 = omega (arith, c.before.loop.invariant.1) in
+    c.before.loop.invariant.2 ∙ ap (sum (is_answer c.before.before.before.args.answers.now c.before.before.before.args.number c.before.before.before.args.value)) e
 
 pub count_spec : {M : Type 1} → statement M
 count_spec =

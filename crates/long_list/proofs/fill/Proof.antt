@@ -38,9 +38,7 @@ loop-less : tie.Need-loop-smaller invariant-loop decreases-loop
 loop-less c = omega (arith, c.before.before.loop.invariant.1.long)
 
 loop-again : tie.Need-loop-preserved invariant-loop decreases-loop
-loop-again c =
-    let loop = c.before.before.loop in
-    (omega (arith, loop.invariant.1.long), filled_more loop.invariant.1 (omega (arith, loop.invariant.1.long)))
+loop-again c = (omega (arith, c.before.before.loop.invariant.1.long), filled_more c.before.before.loop.invariant.1 (omega (arith, c.before.before.loop.invariant.1.long)))
 
 same_length : tie.Need-same-length invariant-loop decreases-loop
 same_length c = c.before.loop.invariant.1.long

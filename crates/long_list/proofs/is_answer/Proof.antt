@@ -14,9 +14,7 @@ shared-slice-read-if1 : tie.Need-shared-slice-read-if1
 shared-slice-read-if1 c = search rules
 
 returns : tie.Need-returns
-returns c =
-    let args = c.before.before.args in
-    other-number args.answers.now args.number args.value args.i c.if1.true
+returns c = other-number c.before.before.args.answers.now c.before.before.args.number c.before.before.args.value c.before.before.args.i c.if1.true
 
 mul-if2 : tie.Need-overflow-mul-if2
 mul-if2 c = search rules
@@ -31,14 +29,10 @@ shared-slice-read-if2 : tie.Need-shared-slice-read-if2
 shared-slice-read-if2 c = search rules
 
 returns-2 : tie.Need-returns-2
-returns-2 c =
-    let args = c.before.before.before.before.args in
-    other-value args.answers.now args.number args.value args.i c.before.before.if1.false c.if2.true
+returns-2 c = other-value c.before.before.before.before.args.answers.now c.before.before.before.before.args.number c.before.before.before.before.args.value c.before.before.before.before.args.i c.before.before.if1.false c.if2.true
 
 returns-3 : tie.Need-returns-3
-returns-3 c =
-    let args = c.before.before.before.before.args in
-    same_answer args.answers.now args.number args.value args.i c.before.before.if1.false c.if2.false
+returns-3 c = same_answer c.before.before.before.before.args.answers.now c.before.before.before.before.args.number c.before.before.before.before.args.value c.before.before.before.before.args.i c.before.before.if1.false c.if2.false
 
 pub is-answer-spec : {M : Type 1} → statement M
 is-answer-spec =

@@ -18,12 +18,7 @@ fill-requires : tie.Need-fill-requires
 fill-requires c κs = search rules
 
 run-all-requires : tie.Need-run-all-requires
-run-all-requires c κs =
-    let earlier = c.before.before.before.before.before.before.before.before.before.before.before in
-    let earlier-2 = earlier.before.before.before.before.before.before.before.before.before.before.before in
-    let earlier-state = earlier-2.before.before.before.before.before.before.before.before.before.before.before in
-    let pre = earlier-state.before.before.before.before.before.before.before.before.before.before.requires in
-    pre
+run-all-requires c κs = c.before.before.before.before.before.before.before.before.before.before.before.before.before.before.before.before.before.before.before.before.before.before.before.before.before.before.before.before.before.before.before.before.before.before.before.before.before.before.before.before.before.before.before.requires
 
 obey-requires-2 : tie.Need-obey-requires-2
 obey-requires-2 c κs = search rules
@@ -36,15 +31,8 @@ fill-requires-2 c κs = search rules
 
 run-all-requires-2 : tie.Need-run-all-requires-2
 run-all-requires-2 c κs =
-    let earlier = c.before.before.before.before.before.before.before.before.before in
-    let earlier-2 = earlier.before.before.before.before.before.before.before.before.before in
-    let earlier-state = earlier-2.before.before.before.before.before.before.before.before in
-    let after-run-all = earlier-state.before.before.before.before.before.before.before.before in
-    let before-run-all = after-run-all.before.before.before.before.before.before.before.before.before.before.before in
-    let before-run-all-2 = before-run-all.before.before.before.before.before.before.before.before.before.before.before in
-    let before-run-all-3 = before-run-all-2.before.before.before.before.before.before.before.before.before.before.before in
-    let pre = before-run-all-3.before.before.before.before.before.before.before.before.before.before.before.requires in
-    let run-all = after-run-all.run-all in
+    let pre = c.before.before.before.before.before.before.before.before.before.before.before.before.before.before.before.before.before.before.before.before.before.before.before.before.before.before.before.before.before.before.before.before.before.before.before.before.before.before.before.before.before.before.before.before.before.before.before.before.before.before.before.before.before.before.before.before.before.before.before.before.before.before.before.before.before.before.before.before.before.before.before.before.before.before.before.before.before.before.requires in
+    let run-all = c.before.before.before.before.before.before.before.before.before.before.before.before.before.before.before.before.before.before.before.before.before.before.before.before.before.before.before.before.before.before.before.before.before.before.run-all in
     omega (arith, run-all.auto.1.1.1.1.1.0, pre)
 
 say-requires : tie.Need-say-requires
@@ -52,92 +40,50 @@ say-requires c κs = search rules
 
 same_length : tie.Need-same-length
 same_length c =
-    let after-run-all2 = c.before.before.before.before.before.before.before.before.before.before.before in
-    let before-run-all2 = after-run-all2.before.before.before.before.before.before.before.before.before.before in
-    let after-obey2 = before-run-all2.before.before.before.before.before.before.before.before.before.before in
-    let before-obey2 = after-obey2.before.before.before.before.before.before.before.before in
-    let after-run-all = before-obey2.before.before.before.before.before.before.before in
-    let before-run-all = after-run-all.before.before.before.before.before.before.before.before.before.before in
-    let after-obey = before-run-all.before.before.before.before.before.before.before.before.before.before in
-    let before-obey = after-obey.before.before.before.before.before.before.before in
-    let taldreku-prepare = before-obey.before.before.before.before.before.before.taldreku-prepare in
-    let obey = after-obey.obey in
-    let run-all = after-run-all.run-all in
-    let obey2 = after-obey2.obey2 in
-    let run-all2 = after-run-all2.run-all2 in
+    let taldreku-prepare = c.before.before.before.before.before.before.before.before.before.before.before.before.before.before.before.before.before.before.before.before.before.before.before.before.before.before.before.before.before.before.before.before.before.before.before.before.before.before.before.before.before.before.before.before.before.before.before.before.before.before.before.before.before.before.before.before.before.before.before.before.before.before.before.before.before.before.before.before.before.before.before.before.before.before.before.before.before.before.before.taldreku-prepare in
+    let obey = c.before.before.before.before.before.before.before.before.before.before.before.before.before.before.before.before.before.before.before.before.before.before.before.before.before.before.before.before.before.before.before.before.before.before.before.before.before.before.before.before.before.before.before.before.before.before.before.before.before.before.before.before.before.before.before.before.before.before.before.before.before.before.before.before.before.before.obey in
+    let run-all = c.before.before.before.before.before.before.before.before.before.before.before.before.before.before.before.before.before.before.before.before.before.before.before.before.before.before.before.before.before.before.before.before.before.before.before.before.before.before.before.before.before.before.before.before.before.before.run-all in
+    let obey2 = c.before.before.before.before.before.before.before.before.before.before.before.before.before.before.before.before.before.before.before.before.before.before.before.before.before.before.before.before.before.before.before.obey2 in
+    let run-all2 = c.before.before.before.before.before.before.before.before.before.before.before.run-all2 in
     run-all2.auto.0 ∙ obey2.auto.0 ∙ run-all.auto.0 ∙ obey.auto.0 ∙ taldreku-prepare.auto.1.1.1.1.1.0
 
 same-length-2 : tie.Need-same-length-2
 same-length-2 c =
-    let after-run-all2 = c.before.before.before.before.before.before.before.before.before.before.before in
-    let before-run-all2 = after-run-all2.before.before.before.before.before.before.before.before.before.before in
-    let after-obey2 = before-run-all2.before.before.before.before.before.before.before.before.before.before in
-    let before-obey2 = after-obey2.before.before.before.before.before.before.before.before in
-    let after-run-all = before-obey2.before.before.before.before.before.before.before in
-    let before-run-all = after-run-all.before.before.before.before.before.before.before.before.before.before in
-    let after-obey = before-run-all.before.before.before.before.before.before.before.before.before.before in
-    let before-obey = after-obey.before.before.before.before.before.before.before in
-    let taldreku-prepare = before-obey.before.before.before.before.before.before.taldreku-prepare in
-    let obey = after-obey.obey in
-    let run-all = after-run-all.run-all in
-    let obey2 = after-obey2.obey2 in
-    let run-all2 = after-run-all2.run-all2 in
+    let taldreku-prepare = c.before.before.before.before.before.before.before.before.before.before.before.before.before.before.before.before.before.before.before.before.before.before.before.before.before.before.before.before.before.before.before.before.before.before.before.before.before.before.before.before.before.before.before.before.before.before.before.before.before.before.before.before.before.before.before.before.before.before.before.before.before.before.before.before.before.before.before.before.before.before.before.before.before.before.before.before.before.before.before.taldreku-prepare in
+    let obey = c.before.before.before.before.before.before.before.before.before.before.before.before.before.before.before.before.before.before.before.before.before.before.before.before.before.before.before.before.before.before.before.before.before.before.before.before.before.before.before.before.before.before.before.before.before.before.before.before.before.before.before.before.before.before.before.before.before.before.before.before.before.before.before.before.before.before.obey in
+    let run-all = c.before.before.before.before.before.before.before.before.before.before.before.before.before.before.before.before.before.before.before.before.before.before.before.before.before.before.before.before.before.before.before.before.before.before.before.before.before.before.before.before.before.before.before.before.before.before.run-all in
+    let obey2 = c.before.before.before.before.before.before.before.before.before.before.before.before.before.before.before.before.before.before.before.before.before.before.before.before.before.before.before.before.before.before.before.obey2 in
+    let run-all2 = c.before.before.before.before.before.before.before.before.before.before.before.run-all2 in
     run-all2.auto.1.0 ∙ obey2.auto.1.0 ∙ run-all.auto.1.0 ∙ obey.auto.1.0 ∙ taldreku-prepare.auto.1.1.1.1.1.1.0
 
 same-length-3 : tie.Need-same-length-3
 same-length-3 c =
-    let after-run-all2 = c.before.before.before.before.before.before.before.before.before.before.before in
-    let before-run-all2 = after-run-all2.before.before.before.before.before.before.before.before.before.before in
-    let after-obey2 = before-run-all2.before.before.before.before.before.before.before.before.before.before in
-    let before-obey2 = after-obey2.before.before.before.before.before.before.before.before in
-    let after-run-all = before-obey2.before.before.before.before.before.before.before in
-    let before-run-all = after-run-all.before.before.before.before.before.before.before.before.before.before in
-    let after-obey = before-run-all.before.before.before.before.before.before.before.before.before.before in
-    let before-obey = after-obey.before.before.before.before.before.before.before in
-    let taldreku-prepare = before-obey.before.before.before.before.before.before.taldreku-prepare in
-    let obey = after-obey.obey in
-    let run-all = after-run-all.run-all in
-    let obey2 = after-obey2.obey2 in
-    let run-all2 = after-run-all2.run-all2 in
+    let taldreku-prepare = c.before.before.before.before.before.before.before.before.before.before.before.before.before.before.before.before.before.before.before.before.before.before.before.before.before.before.before.before.before.before.before.before.before.before.before.before.before.before.before.before.before.before.before.before.before.before.before.before.before.before.before.before.before.before.before.before.before.before.before.before.before.before.before.before.before.before.before.before.before.before.before.before.before.before.before.before.before.before.before.taldreku-prepare in
+    let obey = c.before.before.before.before.before.before.before.before.before.before.before.before.before.before.before.before.before.before.before.before.before.before.before.before.before.before.before.before.before.before.before.before.before.before.before.before.before.before.before.before.before.before.before.before.before.before.before.before.before.before.before.before.before.before.before.before.before.before.before.before.before.before.before.before.before.before.obey in
+    let run-all = c.before.before.before.before.before.before.before.before.before.before.before.before.before.before.before.before.before.before.before.before.before.before.before.before.before.before.before.before.before.before.before.before.before.before.before.before.before.before.before.before.before.before.before.before.before.before.run-all in
+    let obey2 = c.before.before.before.before.before.before.before.before.before.before.before.before.before.before.before.before.before.before.before.before.before.before.before.before.before.before.before.before.before.before.before.obey2 in
+    let run-all2 = c.before.before.before.before.before.before.before.before.before.before.before.run-all2 in
     run-all2.auto.1.1.0 ∙ obey2.auto.1.1.0 ∙ run-all.auto.1.1.0 ∙ obey.auto.1.1.0 ∙ taldreku-prepare.auto.1.1.1.1.1.1.1.0
 
 same-length-4 : tie.Need-same-length-4
 same-length-4 c =
-    let after-run-all2 = c.before.before.before.before.before.before.before.before.before.before.before in
-    let before-run-all2 = after-run-all2.before.before.before.before.before.before.before.before.before.before in
-    let after-obey2 = before-run-all2.before.before.before.before.before.before.before.before.before.before in
-    let before-obey2 = after-obey2.before.before.before.before.before.before.before.before in
-    let after-run-all = before-obey2.before.before.before.before.before.before.before in
-    let before-run-all = after-run-all.before.before.before.before.before.before.before.before.before.before in
-    let after-obey = before-run-all.before.before.before.before.before.before.before.before.before.before in
-    let before-obey = after-obey.before.before.before.before.before.before.before in
-    let taldreku-prepare = before-obey.before.before.before.before.before.before.taldreku-prepare in
-    let obey = after-obey.obey in
-    let run-all = after-run-all.run-all in
-    let obey2 = after-obey2.obey2 in
-    let run-all2 = after-run-all2.run-all2 in
-    run-all2.auto.1.1.1.0 ∙ obey2.auto.1.1.1.0 ∙ run-all.auto.1.1.1.0 ∙ obey.auto.1.1.1.0
-    ∙ taldreku-prepare.auto.1.1.1.1.1.1.1.1.0
+    let taldreku-prepare = c.before.before.before.before.before.before.before.before.before.before.before.before.before.before.before.before.before.before.before.before.before.before.before.before.before.before.before.before.before.before.before.before.before.before.before.before.before.before.before.before.before.before.before.before.before.before.before.before.before.before.before.before.before.before.before.before.before.before.before.before.before.before.before.before.before.before.before.before.before.before.before.before.before.before.before.before.before.before.before.taldreku-prepare in
+    let obey = c.before.before.before.before.before.before.before.before.before.before.before.before.before.before.before.before.before.before.before.before.before.before.before.before.before.before.before.before.before.before.before.before.before.before.before.before.before.before.before.before.before.before.before.before.before.before.before.before.before.before.before.before.before.before.before.before.before.before.before.before.before.before.before.before.before.before.obey in
+    let run-all = c.before.before.before.before.before.before.before.before.before.before.before.before.before.before.before.before.before.before.before.before.before.before.before.before.before.before.before.before.before.before.before.before.before.before.before.before.before.before.before.before.before.before.before.before.before.before.run-all in
+    let obey2 = c.before.before.before.before.before.before.before.before.before.before.before.before.before.before.before.before.before.before.before.before.before.before.before.before.before.before.before.before.before.before.before.obey2 in
+    let run-all2 = c.before.before.before.before.before.before.before.before.before.before.before.run-all2 in
+    run-all2.auto.1.1.1.0 ∙ obey2.auto.1.1.1.0 ∙ run-all.auto.1.1.1.0 ∙ obey.auto.1.1.1.0 ∙ taldreku-prepare.auto.1.1.1.1.1.1.1.1.0
 
 same-length-5 : tie.Need-same-length-5
 same-length-5 c =
-    let earlier = c.before.before.before.before.before.before.before.before.before.before in
-    let after-fill2 = earlier.before.before.before.before.before.before.before.before.before.before in
-    let before-fill2 = after-fill2.before.before.before.before.before.before.before.before.before in
-    let before-fill2-2 = before-fill2.before.before.before.before.before.before.before.before.before in
-    let before-fill2-3 = before-fill2-2.before.before.before.before.before.before.before.before.before in
-    let fill = before-fill2-3.before.before.before.before.before.before.before.before.fill in
-    let fill2 = after-fill2.fill2 in
+    let fill = c.before.before.before.before.before.before.before.before.before.before.before.before.before.before.before.before.before.before.before.before.before.before.before.before.before.before.before.before.before.before.before.before.before.before.before.before.before.before.before.before.before.before.before.before.before.before.before.before.before.before.before.before.before.before.before.fill in
+    let fill2 = c.before.before.before.before.before.before.before.before.before.before.before.before.before.before.before.before.before.before.before.before.fill2 in
     fill2.auto.0 ∙ fill.auto.0
 
 same-length-6 : tie.Need-same-length-6
 same-length-6 c =
-    let after-run-all2 = c.before.before.before.before.before.before.before.before.before.before.before in
-    let before-run-all2 = after-run-all2.before.before.before.before.before.before.before.before.before in
-    let before-run-all2-2 = before-run-all2.before.before.before.before.before.before.before.before.before in
-    let before-run-all2-3 = before-run-all2-2.before.before.before.before.before.before.before.before.before in
-    let run-all = before-run-all2-3.before.before.before.before.before.before.before.before.run-all in
-    let run-all2 = after-run-all2.run-all2 in
+    let run-all = c.before.before.before.before.before.before.before.before.before.before.before.before.before.before.before.before.before.before.before.before.before.before.before.before.before.before.before.before.before.before.before.before.before.before.before.before.before.before.before.before.before.before.before.before.before.before.run-all in
+    let run-all2 = c.before.before.before.before.before.before.before.before.before.before.before.run-all2 in
     run-all2.auto.1.1.1.1.1.0 ∙ run-all.auto.1.1.1.1.1.0
 
 returns : tie.Need-returns

@@ -11,10 +11,8 @@ use Rattle.long_list.proofs.run_all.Tie as tie
 
 abbrev invariant-loop : tie.invariant-loop
 invariant-loop cells₀ remember₀ tables₀ chains₀ block answers₀ number value n₀ i₀ cells remember tables chains answers n i =
-    Repeated block number value (slices cells₀ remember₀ tables₀ chains₀) answers₀ i (slices cells remember tables chains) answers n × (i ≤ 16)
-    × (n ≤ 3000 * i)
-    × (length cells ≡ length cells₀) × (length remember ≡ length remember₀) × (length tables ≡ length tables₀) × (length chains ≡ length chains₀)
-    × (length answers ≡ length answers₀)
+    Repeated block number value (slices cells₀ remember₀ tables₀ chains₀) answers₀ i (slices cells remember tables chains) answers n × (i ≤ 16) × (n ≤ 3000 * i)
+    × (length cells ≡ length cells₀) × (length remember ≡ length remember₀) × (length tables ≡ length tables₀) × (length chains ≡ length chains₀) × (length answers ≡ length answers₀)
 
 abbrev decreases-loop : tie.decreases-loop
 decreases-loop cells₀ remember₀ tables₀ chains₀ block answers₀ number value n₀ i₀ cells remember tables chains answers n i = 16 - i
@@ -30,45 +28,30 @@ count-requires c κs = search rules
 
 add-n : tie.Need-overflow-add-n invariant-loop decreases-loop
 add-n c =
-    let earlier = c.before.before.before.before.before.before in
-    let after-taldreku-run = earlier.before.before.before.before.before.before in
-    let at-loop = after-taldreku-run.before.before.before.before.before.before.before in
-    let pre = at-loop.before.before.before.before.before.before.before.requires in
-    let loop = at-loop.loop in
-    let taldreku-run = after-taldreku-run.taldreku-run in
+    let pre = c.before.before.before.before.before.before.before.before.before.before.before.before.before.before.before.before.before.before.before.before.before.before.before.before.before.before.requires in
+    let loop = c.before.before.before.before.before.before.before.before.before.before.before.before.before.before.before.before.before.before.before.loop in
+    let taldreku-run = c.before.before.before.before.before.before.before.before.before.before.before.before.taldreku-run in
     let e = taldreku-run.auto.1.1.1.1.1.0 ∙ loop.invariant.7 in
     omega (arith, answers-few _ _ _ _ c.count.ensures (omega (arith, e, pre)), loop.invariant.1, loop.invariant.2)
 
 add-i : tie.Need-overflow-add-i invariant-loop decreases-loop
-add-i c =
-    let earlier = c.before.before.before.before.before.before.before.before.before.before in
-    let loop = earlier.before.before.before.before.before.before.before.before.before.loop in
-    omega (arith, loop.invariant.1)
+add-i c = omega (arith, c.before.before.before.before.before.before.before.before.before.before.before.before.before.before.before.before.before.before.before.loop.invariant.1)
 
 loop-less : tie.Need-loop-smaller invariant-loop decreases-loop
-loop-less c =
-    let earlier = c.before.before.before.before.before.before.before.before.before.before in
-    let loop = earlier.before.before.before.before.before.before.before.before.before.loop in
-    omega (arith, loop.invariant.1)
+loop-less c = omega (arith, c.before.before.before.before.before.before.before.before.before.before.before.before.before.before.before.before.before.before.before.loop.invariant.1)
 
 loop-again : tie.Need-loop-preserved invariant-loop decreases-loop
 loop-again c =
-    let earlier = c.before.before.before.before.before.before in
-    let after-taldreku-run = earlier.before.before.before.before.before.before in
-    let at-loop = after-taldreku-run.before.before.before.before.before.before.before in
-    let pre = at-loop.before.before.before.before.before.before.before.requires in
-    let loop = at-loop.loop in
-    let taldreku-run = after-taldreku-run.taldreku-run in
-    let k = taldreku-run.auto in
-    let e = k.1.1.1.1.1.0 ∙ loop.invariant.7 in
-    let f = answers-few _ _ _ _ c.count.ensures (omega (arith, e, pre)) in (
-      more loop.invariant.0 taldreku-run.ensures c.count.ensures,
-      omega (arith, loop.invariant.1),
-      omega (arith, f, loop.invariant.2),
-      k.0 ∙ loop.invariant.3,
-      k.1.0 ∙ loop.invariant.4,
-      k.1.1.0 ∙ loop.invariant.5,
-      k.1.1.1.0 ∙ loop.invariant.6,
+    let k = c.before.before.before.before.before.before.before.before.before.before.before.before.taldreku-run.auto in
+    let e = k.1.1.1.1.1.0 ∙ c.before.before.before.before.before.before.before.before.before.before.before.before.before.before.before.before.before.before.before.loop.invariant.7 in
+    let f = answers-few _ _ _ _ c.count.ensures (omega (arith, e, c.before.before.before.before.before.before.before.before.before.before.before.before.before.before.before.before.before.before.before.before.before.before.before.before.before.before.requires)) in (
+      more c.before.before.before.before.before.before.before.before.before.before.before.before.before.before.before.before.before.before.before.loop.invariant.0 c.before.before.before.before.before.before.before.before.before.before.before.before.taldreku-run.ensures c.count.ensures,
+      omega (arith, c.before.before.before.before.before.before.before.before.before.before.before.before.before.before.before.before.before.before.before.loop.invariant.1),
+      omega (arith, f, c.before.before.before.before.before.before.before.before.before.before.before.before.before.before.before.before.before.before.before.loop.invariant.2),
+      k.0 ∙ c.before.before.before.before.before.before.before.before.before.before.before.before.before.before.before.before.before.before.before.loop.invariant.3,
+      k.1.0 ∙ c.before.before.before.before.before.before.before.before.before.before.before.before.before.before.before.before.before.before.before.loop.invariant.4,
+      k.1.1.0 ∙ c.before.before.before.before.before.before.before.before.before.before.before.before.before.before.before.before.before.before.before.loop.invariant.5,
+      k.1.1.1.0 ∙ c.before.before.before.before.before.before.before.before.before.before.before.before.before.before.before.before.before.before.before.loop.invariant.6,
       e,
     )
 

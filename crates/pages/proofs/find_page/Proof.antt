@@ -31,10 +31,7 @@ returns : tie.Need-returns invariant-loop decreases-loop
 returns c =
     inl (record {
       low = omega arith;
-      partial = record {
-        owner = sym c.before.before.before.owner.ensures ∙ c.before.before.if1.true;
-        part = omega (arith, c.before.used.ensures);
-      };
+      partial = record { owner = sym c.before.before.before.owner.ensures ∙ c.before.before.if1.true; part = omega (arith, c.before.used.ensures) };
     })
 
 add-page : tie.Need-overflow-add-page invariant-loop decreases-loop
@@ -45,21 +42,14 @@ loop-less c = omega arith
 
 loop-again : tie.Need-loop-preserved invariant-loop decreases-loop
 loop-again c =
-    let args = c.before.before.before.before.before.before.args in
-    let loop = c.before.before.before.before.loop in
-    let owner = c.before.before.owner in
-    let full : (owner.result ≡ args.region → 16 ≤ used_of args.p args.tables.now loop.page) =
-    ⊎_elim (λ w e. omega (arith, w)) (λ w e. absurd (w.left e)) c.before.if1.branch in (
-      omega arith,
-      fresh-next owner.result owner.ensures (omega arith) full
-          (⊎_elim (λ w. inl (w.0.taken, w.1)) (λ w. inr (w.0.left, w.1)) c.if3.branch) loop.invariant.1,
-    )
+    let full : (c.before.before.owner.result ≡ c.before.before.before.before.before.before.args.region → 16 ≤ used_of c.before.before.before.before.before.before.args.p c.before.before.before.before.before.before.args.tables.now c.before.before.before.before.loop.page) =
+    ⊎_elim (λ w e. omega (arith, w)) (λ w e. absurd (w.left e)) c.before.if1.branch in
+    (omega arith, fresh-next c.before.before.owner.result c.before.before.owner.ensures (omega arith) full (⊎_elim (λ w. inl (w.0.taken, w.1)) (λ w. inr (w.0.left, w.1)) c.if3.branch) c.before.before.before.before.loop.invariant.1)
 
 returns-2 : tie.Need-returns-2 invariant-loop decreases-loop
 returns-2 c =
-    let args = c.before.before.before.args in
-    let e : c.before.loop.page ≡ args.p.pages = omega arith in
-    inr (subst (λ (n : ℕ). Fresh args.p args.tables.now args.region n c.before.loop.last) e c.before.loop.invariant.1)
+    let e : c.before.loop.page ≡ c.before.before.before.args.p.pages = omega arith in
+    inr (subst (λ (n : ℕ). Fresh c.before.before.before.args.p c.before.before.before.args.tables.now c.before.before.before.args.region n c.before.loop.last) e c.before.loop.invariant.1)
 
 pub find-page-spec : {M : Type 1} → statement M
 find-page-spec =

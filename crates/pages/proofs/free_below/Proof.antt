@@ -25,21 +25,13 @@ owner-requires : tie.Need-owner-requires invariant-loop decreases-loop
 owner-requires c κs = search rules
 
 returns : tie.Need-returns invariant-loop decreases-loop
-returns c =
-    let pre = c.before.before.before.before.before.requires in
-    free-found _ _ (omega arith) (omega arith) (omega (arith, pre.1)) (sym c.before.owner.ensures ∙ c.if1.true)
-    c.before.before.before.loop.invariant.1
+returns c = free-found _ _ (omega arith) (omega arith) (omega (arith, c.before.before.before.before.before.requires.1)) (sym c.before.owner.ensures ∙ c.if1.true) c.before.before.before.loop.invariant.1
 
 loop-less : tie.Need-loop-smaller invariant-loop decreases-loop
 loop-less c = omega arith
 
 loop-again : tie.Need-loop-preserved invariant-loop decreases-loop
-loop-again c =
-    let args = c.before.before.before.before.before.args in (
-      omega arith,
-      none_from args.p args.tables.now (omega arith) (λ e. c.if1.false (c.before.owner.ensures ∙ e))
-          c.before.before.before.loop.invariant.1,
-    )
+loop-again c = (omega arith, none_from c.before.before.before.before.before.args.p c.before.before.before.before.before.args.tables.now (omega arith) (λ e. c.if1.false (c.before.owner.ensures ∙ e)) c.before.before.before.loop.invariant.1)
 
 returns-2 : tie.Need-returns-2 invariant-loop decreases-loop
 returns-2 c = free-none (omega arith) c.before.loop.invariant.1

@@ -24,9 +24,7 @@ pages-above-requires : tie.Need-pages-above-requires
 pages-above-requires c κs = search rules
 
 cast-notes : tie.Need-overflow-cast-notes
-cast-notes c =
-    let pre = c.before.before.before.before.before.before.before.requires in
-    omega (arith, above_within _ _ _ c.pages-above.ensures, pre.0.few)
+cast-notes c = omega (arith, above_within _ _ _ c.pages-above.ensures, c.before.before.before.before.before.before.before.requires.0.few)
 
 slice-write-notes : tie.Need-slice-write-notes
 slice-write-notes c = search rules
@@ -35,13 +33,10 @@ same_length : tie.Need-same-length
 same_length c = search rules
 
 returns : tie.Need-returns
-returns c =
-    let pre = c.before.before.before.before.before.before.before.requires in
-    let wide = c.before.before.before.wide in
-    let smaller = c.before.before.smaller in (
-      noted-free pre.1 (omega (arith, smaller.ensures, wide.ensures)) c.before.free-below.ensures,
-      noted-found pre.1 (omega (arith, smaller.ensures, wide.ensures)) c.before.free-below.ensures c.pages-above.ensures,
-    )
+returns c = (
+  noted-free c.before.before.before.before.before.before.before.requires.1 (omega (arith, c.before.before.smaller.ensures, c.before.before.before.wide.ensures)) c.before.free-below.ensures,
+  noted-found c.before.before.before.before.before.before.before.requires.1 (omega (arith, c.before.before.smaller.ensures, c.before.before.before.wide.ensures)) c.before.free-below.ensures c.pages-above.ensures,
+)
 
 pub free-page-spec : {M : Type 1} → statement M
 free-page-spec =

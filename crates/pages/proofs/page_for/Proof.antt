@@ -15,9 +15,7 @@ mul_wide : tie.Need-overflow-mul-wide
 mul_wide c = search rules
 
 slice-read-wide : tie.Need-slice-read-wide
-slice-read-wide c =
-    let pre = c.before.before.before.before.requires in
-    omega (arith, pre.1.0.long, c.before.wide.ensures, regions-few pre.0, pre.1.1.1)
+slice-read-wide c = omega (arith, c.before.before.before.before.requires.1.0.long, c.before.wide.ensures, regions-few c.before.before.before.before.requires.0, c.before.before.before.before.requires.1.1.1)
 
 wide-requires-2 : tie.Need-wide-requires-2
 wide-requires-2 c κs = search rules
@@ -26,38 +24,25 @@ is-partly-requires : tie.Need-is-partly-requires
 is-partly-requires c κs = search rules
 
 returns : tie.Need-returns
-returns c =
-    let pre = c.before.before.before.before.before.before.before.requires in
-    (inl (c.before.is-partly.ensures.0 c.if1.true), pre.1.0)
+returns c = (inl (c.before.is-partly.ensures.0 c.if1.true), c.before.before.before.before.before.before.before.requires.1.0)
 
 search-page-requires : tie.Need-search-page-requires
 search-page-requires c κs = search rules
 
 cast-notes : tie.Need-overflow-cast-notes
-cast-notes c =
-    let pre = c.before.before.before.before.before.before.before.before.before.before.before.requires in
-    omega (arith, found_within c.before.before.search-page.ensures.0, pre.0.few)
+cast-notes c = omega (arith, found_within c.before.before.search-page.ensures.0, c.before.before.before.before.before.before.before.before.before.before.before.requires.0.few)
 
 mul-notes : tie.Need-overflow-mul-notes
 mul-notes c = search rules
 
 slice-write-notes : tie.Need-slice-write-notes
-slice-write-notes c =
-    let pre = c.before.before.before.before.before.before.before.before.before.before.before.requires in
-    let wide = c.before.before.before.before.before.before.before.before.wide in
-    omega (arith, c.before.before.search-page.auto.1.1.0, pre.1.0.long, wide.ensures, regions-few pre.0, pre.1.1.1)
+slice-write-notes c = omega (arith, c.before.before.search-page.auto.1.1.0, c.before.before.before.before.before.before.before.before.before.before.before.requires.1.0.long, c.before.before.before.before.before.before.before.before.wide.ensures, regions-few c.before.before.before.before.before.before.before.before.before.before.before.requires.0, c.before.before.before.before.before.before.before.before.before.before.before.requires.1.1.1)
 
 same_length : tie.Need-same-length
 same_length c = search rules
 
 returns-2 : tie.Need-returns-2
-returns-2 c =
-    let pre = c.before.before.before.before.before.before.before.before.before.before.before.requires in
-    let wide = c.before.before.before.before.before.before.before.before.wide in
-    let search-page = c.before.before.search-page in (
-      search-page.ensures.0,
-      noted-region wide.result search-page.result (omega (arith, wide.ensures, pre.1.1.0)) search-page.ensures.1,
-    )
+returns-2 c = (c.before.before.search-page.ensures.0, noted-region c.before.before.before.before.before.before.before.before.wide.result c.before.before.search-page.result (omega (arith, c.before.before.before.before.before.before.before.before.wide.ensures, c.before.before.before.before.before.before.before.before.before.before.before.requires.1.1.0)) c.before.before.search-page.ensures.1)
 
 pub page-for-spec : {M : Type 1} → statement M
 page-for-spec =

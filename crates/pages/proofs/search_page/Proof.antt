@@ -23,27 +23,16 @@ same_length c = search rules
 
 returns : tie.Need-returns
 returns c =
-    let start = c.before.before.before.before.before.before.before.before.before.before in
-    let args = start.args in
-    let pre = start.requires in
-    let wide = c.before.before.before.before.before.before.before.wide in
-    let count = c.before.before.before.before.before.before.count in
-    let fills-pages = c.before.before.before.before.before.fills-pages in
-    let if1 = c.before.before.before.before.if1 in
-    let free-page = c.before.before.free-page in
-    let objects = count.ensures ∙ ap (count_of args.p args.tables.now) wide.ensures in (
-      fresh-filled args.p args.tables.now args.region pre.1.1.2 (sym (fills-pages.ensures ∙ ap fills_pages objects) ∙ if1.true)
-          free-page.ensures.0,
-      free-page.ensures.1,
+    let objects = c.before.before.before.before.before.before.count.ensures ∙ ap (count_of c.before.before.before.before.before.before.before.before.before.before.args.p c.before.before.before.before.before.before.before.before.before.before.args.tables.now) c.before.before.before.before.before.before.before.wide.ensures in (
+      fresh-filled c.before.before.before.before.before.before.before.before.before.before.args.p c.before.before.before.before.before.before.before.before.before.before.args.tables.now c.before.before.before.before.before.before.before.before.before.before.args.region c.before.before.before.before.before.before.before.before.before.before.requires.1.1.2 (sym (c.before.before.before.before.before.fills-pages.ensures ∙ ap fills_pages objects) ∙ c.before.before.before.before.if1.true) c.before.before.free-page.ensures.0,
+      c.before.before.free-page.ensures.1,
     )
 
 find-page-requires : tie.Need-find-page-requires
 find-page-requires c κs = search rules
 
 returns-2 : tie.Need-returns-2
-returns-2 c =
-    let pre = c.before.before.before.before.before.before.before.requires in
-    (c.find-page.ensures, pre.1.0)
+returns-2 c = (c.find-page.ensures, c.before.before.before.before.before.before.before.requires.1.0)
 
 pub search-page-spec : {M : Type 1} → statement M
 search-page-spec =

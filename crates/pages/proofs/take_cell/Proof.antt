@@ -28,10 +28,9 @@ set-used-requires c κs = search rules
 
 add-set-count : tie.Need-overflow-add-set-count
 add-set-count c =
-    let after-wide = c.before.before.before.before.before.before.before.before.before.before.before in
-    let args = after-wide.before.before.before.before.args in
-    let pre = after-wide.before.before.before.before.requires in
-    let wide = after-wide.wide in
+    let pre = c.before.before.before.before.before.before.before.before.before.before.before.before.before.before.before.requires in
+    let args = c.before.before.before.before.before.before.before.before.before.before.before.before.before.before.before.args in
+    let wide = c.before.before.before.before.before.before.before.before.before.before.before.wide in
     let count = c.before.before.before.before.before.before.before.before.before.count in
     omega (arith, count.ensures, pre, ap (λ (x : ℕ). count_of args.p args.tables.now x) wide.ensures)
 
@@ -42,29 +41,22 @@ wide-requires-2 : tie.Need-wide-requires-2
 wide-requires-2 c κs = search rules
 
 cell-on-requires : tie.Need-cell-on-requires
-cell-on-requires c κs =
-    let after-set-owner = c.before.before.before.before.before.before.before.before.before.before.before in
-    let pre = after-set-owner.before.before.before.before.before.before.before.before.requires in
-    let used = after-set-owner.before.before.before.before.before.used in
-    omega (arith, c.wide2.ensures, used.ensures, pre)
+cell-on-requires c κs = omega (arith, c.wide2.ensures, c.before.before.before.before.before.before.before.before.before.before.before.before.before.before.before.before.used.ensures, c.before.before.before.before.before.before.before.before.before.before.before.before.before.before.before.before.before.before.before.requires)
 
 same_length : tie.Need-same-length
 same_length c = search rules
 
 returns : tie.Need-returns
 returns c =
-    let after-set-used = c.before.before.before.before.before.before.before.before in
-    let after-used = after-set-used.before.before.before.before.before.before.before.before.before in
-    let args = after-used.before.before.before.args in
-    let used = after-used.used in
-    let wide = after-set-used.before.before.before.before.before.before.before.before.wide in
-    let count = after-set-used.before.before.before.before.before.before.count in
-    let set-owner = after-set-used.before.before.before.before.set-owner in
-    let set-used = after-set-used.set-used in
+    let args = c.before.before.before.before.before.before.before.before.before.before.before.before.before.before.before.before.before.before.before.before.args in
+    let used = c.before.before.before.before.before.before.before.before.before.before.before.before.before.before.before.before.before.used in
+    let wide = c.before.before.before.before.before.before.before.before.before.before.before.before.before.before.before.before.wide in
+    let count = c.before.before.before.before.before.before.before.before.before.before.before.before.before.before.count in
+    let set-owner = c.before.before.before.before.before.before.before.before.before.before.before.before.set-owner in
+    let set-used = c.before.before.before.before.before.before.before.before.set-used in
     let set-count = c.before.before.before.before.set-count in (
       omega (arith, c.cell-on.ensures, c.before.wide2.ensures, used.ensures),
-      took args.p args.tables.now args.page wide.ensures used.ensures count.ensures set-owner.ensures set-used.ensures
-          set-count.ensures,
+      took args.p args.tables.now args.page wide.ensures used.ensures count.ensures set-owner.ensures set-used.ensures set-count.ensures,
     )
 
 pub take-cell-spec : {M : Type 1} → statement M

@@ -18,56 +18,33 @@ cells-words-requires : tie.Need-cells-words-requires
 cells-words-requires c κs = c.before.in-range.ensures.0 (not_is _ c.if1.false)
 
 returns-2 : tie.Need-returns-2
-returns-2 c = λ c₁ m t k e f g h. short refl (c.before.before.before.in-range.ensures.0 (not_is _ c.before.before.if1.false))
-    (λ l. omega (arith, l.cells, c.before.cells-words.ensures, c.if2.true))
+returns-2 c = λ c₁ m t k e f g h. short refl (c.before.before.before.in-range.ensures.0 (not_is _ c.before.before.if1.false)) (λ l. omega (arith, l.cells, c.before.cells-words.ensures, c.if2.true))
 
 remember-words-requires : tie.Need-remember-words-requires
 remember-words-requires c κs = c.before.before.before.in-range.ensures.0 (not_is _ c.before.before.if1.false)
 
 returns-3 : tie.Need-returns-3
-returns-3 c =
-    let in-range = c.before.before.before.before.before.in-range in
-    let if1 = c.before.before.before.before.if1 in
-    λ c₁ m t k e f g h. short refl (in-range.ensures.0 (not_is _ if1.false))
-    (λ l. omega (arith, l.remember, c.before.remember-words.ensures, c.if3.true))
+returns-3 c = λ c₁ m t k e f g h. short refl (c.before.before.before.before.before.in-range.ensures.0 (not_is _ c.before.before.before.before.if1.false)) (λ l. omega (arith, l.remember, c.before.remember-words.ensures, c.if3.true))
 
 tables-words-requires : tie.Need-tables-words-requires
 tables-words-requires c κs = c.before.before.before.before.before.in-range.ensures.0 (not_is _ c.before.before.before.before.if1.false)
 
 returns-4 : tie.Need-returns-4
-returns-4 c =
-    let in-range = c.before.before.before.before.before.before.before.in-range in
-    let if1 = c.before.before.before.before.before.before.if1 in
-    λ c₁ m t k e f g h. short refl (in-range.ensures.0 (not_is _ if1.false))
-    (λ l. omega (arith, l.tables, c.before.tables-words.ensures, c.if4.true))
+returns-4 c = λ c₁ m t k e f g h. short refl (c.before.before.before.before.before.before.before.in-range.ensures.0 (not_is _ c.before.before.before.before.before.before.if1.false)) (λ l. omega (arith, l.tables, c.before.tables-words.ensures, c.if4.true))
 
 chains-words-requires : tie.Need-chains-words-requires
-chains-words-requires c κs =
-    let in-range = c.before.before.before.before.before.before.before.in-range in
-    let if1 = c.before.before.before.before.before.before.if1 in
-    in-range.ensures.0 (not_is _ if1.false)
+chains-words-requires c κs = c.before.before.before.before.before.before.before.in-range.ensures.0 (not_is _ c.before.before.before.before.before.before.if1.false)
 
 returns-5 : tie.Need-returns-5
-returns-5 c =
-    let in-range = c.before.before.before.before.before.before.before.before.before.in-range in
-    let if1 = c.before.before.before.before.before.before.before.before.if1 in
-    λ c₁ m t k e f g h. short refl (in-range.ensures.0 (not_is _ if1.false))
-    (λ l. omega (arith, l.chains, c.before.chains-words.ensures, c.if5.true))
+returns-5 c = λ c₁ m t k e f g h. short refl (c.before.before.before.before.before.before.before.before.before.in-range.ensures.0 (not_is _ c.before.before.before.before.before.before.before.before.if1.false)) (λ l. omega (arith, l.chains, c.before.chains-words.ensures, c.if5.true))
 
 returns-6 : tie.Need-returns-6
-returns-6 c =
-    let in-range = c.before.before.before.before.before.before.before.before.before.in-range in
-    let if1 = c.before.before.before.before.before.before.before.before.if1 in
-    let cells-words = c.before.before.before.before.before.before.before.cells-words in
-    let if2 = c.before.before.before.before.before.before.if2 in
-    let remember-words = c.before.before.before.before.before.remember-words in
-    let if3 = c.before.before.before.before.if3 in
-    λ c₁ m t k e f g h. accepted refl (in-range.ensures.0 (not_is _ if1.false)) (record {
-      cells = omega (arith, cells-words.ensures, if2.false);
-      remember = omega (arith, remember-words.ensures, if3.false);
-      tables = omega (arith, c.before.before.before.tables-words.ensures, c.before.before.if4.false);
-      chains = omega (arith, c.before.chains-words.ensures, c.if5.false);
-    })
+returns-6 c = λ c₁ m t k e f g h. accepted refl (c.before.before.before.before.before.before.before.before.before.in-range.ensures.0 (not_is _ c.before.before.before.before.before.before.before.before.if1.false)) (record {
+  cells = omega (arith, c.before.before.before.before.before.before.before.cells-words.ensures, c.before.before.before.before.before.before.if2.false);
+  remember = omega (arith, c.before.before.before.before.before.remember-words.ensures, c.before.before.before.before.if3.false);
+  tables = omega (arith, c.before.before.before.tables-words.ensures, c.before.before.if4.false);
+  chains = omega (arith, c.before.chains-words.ensures, c.if5.false);
+})
 
 pub ask-spec : {M : Type 1} → statement M
 ask-spec =

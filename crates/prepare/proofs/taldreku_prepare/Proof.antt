@@ -6,10 +6,6 @@ use borrow.Author.Rules.{rules}
 use Rattle.prepare.proofs.taldreku_prepare.Statement.{statement}
 use Rattle.prepare.proofs.taldreku_prepare.Tie as tie
 
--- the way back from a state to one before it
-abbrev to_start : tie.After-ask → tie.Start
-to_start c = c.before.before.before.before.before.before.before.before.before.before
-
 wide-requires : tie.Need-wide-requires
 wide-requires c κs = search rules
 
@@ -29,109 +25,76 @@ ask-requires : tie.Need-ask-requires
 ask-requires c κs = search rules
 
 returns : tie.Need-returns
-returns c =
-    let wide = c.before.before.before.before.before.before.wide in
-    let wide2 = c.before.before.before.before.before.wide2 in
-    let wide3 = c.before.before.before.before.wide3 in
-    prepared-refused (λ i. sizes (wide.ensures i) (wide2.ensures i) (wide3.ensures i) (c.before.before.before.wide4.ensures i)
-    (c.before.before.wide5.ensures i)) (c.before.ask.ensures _ _ _ _ refl refl refl refl) c.if1.true
+returns c = prepared-refused (λ i. sizes (c.before.before.before.before.before.before.wide.ensures i) (c.before.before.before.before.before.wide2.ensures i) (c.before.before.before.before.wide3.ensures i) (c.before.before.before.wide4.ensures i) (c.before.before.wide5.ensures i)) (c.before.ask.ensures _ _ _ _ refl refl refl refl) c.if1.true
 
 cells-words-requires : tie.Need-cells-words-requires
 cells-words-requires c κs =
-    let after-ask = c.before.before in
-    let args = (to_start after-ask).args in
-    let asked = after-ask.ask.ensures args.cells.now args.remember.now args.tables.now args.chains.now refl refl refl refl in
+    let args = c.before.before.before.before.before.before.before.before.before.before.before.before.args in
+    let asked = c.before.before.ask.ensures args.cells.now args.remember.now args.tables.now args.chains.now refl refl refl refl in
     let none = c.before.if1.false in
     (asked-range asked none).0
 
 clear-requires : tie.Need-clear-requires
 clear-requires c κs =
     let args = c.before.before.before.before.before.before.before.before.before.before.before.before.before.args in
-    let asked = c.before.before.before.ask.ensures args.cells.now args.remember.now args.tables.now args.chains.now refl
-    refl refl refl in
+    let asked = c.before.before.before.ask.ensures args.cells.now args.remember.now args.tables.now args.chains.now refl refl refl refl in
     let none = c.before.before.if1.false in
     (omega arith, omega (arith, (asked-range asked none).1.cells, c.cells-words.ensures))
 
 tables-words-requires : tie.Need-tables-words-requires
 tables-words-requires c κs =
-    let after-ask = c.before.before.before.before.before.before.before in
-    let args = (to_start after-ask).args in
-    let ask = after-ask.ask in
-    let if1 = c.before.before.before.before.before.before.if1 in
-    let asked = ask.ensures args.cells.now args.remember.now args.tables.now args.chains.now refl refl refl refl in
-    let none = if1.false in
+    let args = c.before.before.before.before.before.before.before.before.before.before.before.before.before.before.before.before.before.args in
+    let asked = c.before.before.before.before.before.before.before.ask.ensures args.cells.now args.remember.now args.tables.now args.chains.now refl refl refl refl in
+    let none = c.before.before.before.before.before.before.if1.false in
     (asked-range asked none).0
 
 clear-requires-2 : tie.Need-clear-requires-2
 clear-requires-2 c κs =
     let args = c.before.before.before.before.before.before.before.before.before.before.before.before.before.before.before.before.before.before.args in
-    let ask = c.before.before.before.before.before.before.before.before.ask in
-    let asked = ask.ensures args.cells.now args.remember.now args.tables.now args.chains.now refl refl refl refl in
-    let if1 = c.before.before.before.before.before.before.before.if1 in
-    let none = if1.false in
+    let asked = c.before.before.before.before.before.before.before.before.ask.ensures args.cells.now args.remember.now args.tables.now args.chains.now refl refl refl refl in
+    let none = c.before.before.before.before.before.before.before.if1.false in
     (omega arith, omega (arith, (asked-range asked none).1.tables, c.tables-words.ensures))
 
 write-sizes-requires : tie.Need-write-sizes-requires
 write-sizes-requires c κs =
-    let at-if1 = c.before.before.before.before.before.before.before.before.before.before.before in
-    let args = at-if1.before.before.before.before.before.before.before.before.before.before.before.args in
-    let ask = at-if1.before.ask in
-    let if1 = at-if1.if1 in
-    let asked = ask.ensures args.cells.now args.remember.now args.tables.now args.chains.now refl refl refl refl in
-    let none = if1.false in
+    let args = c.before.before.before.before.before.before.before.before.before.before.before.before.before.before.before.before.before.before.before.before.before.before.args in
+    let asked = c.before.before.before.before.before.before.before.before.before.before.before.before.ask.ensures args.cells.now args.remember.now args.tables.now args.chains.now refl refl refl refl in
+    let none = c.before.before.before.before.before.before.before.before.before.before.before.if1.false in
     omega (arith, asked-five asked none, c.before.before.before.clear2.ensures.long)
 
 remember-words-requires : tie.Need-remember-words-requires
 remember-words-requires c κs =
-    let after-tables-words = c.before.before.before.before.before.before.before.before in
-    let after-ask = after-tables-words.before.before.before.before.before.before.before.before in
-    let args = (to_start after-ask).args in
-    let ask = after-ask.ask in
-    let if1 = after-tables-words.before.before.before.before.before.before.before.if1 in
-    let asked = ask.ensures args.cells.now args.remember.now args.tables.now args.chains.now refl refl refl refl in
-    let none = if1.false in
+    let args = c.before.before.before.before.before.before.before.before.before.before.before.before.before.before.before.before.before.before.before.before.before.before.before.before.before.before.args in
+    let asked = c.before.before.before.before.before.before.before.before.before.before.before.before.before.before.before.before.ask.ensures args.cells.now args.remember.now args.tables.now args.chains.now refl refl refl refl in
+    let none = c.before.before.before.before.before.before.before.before.before.before.before.before.before.before.before.if1.false in
     (asked-range asked none).0
 
 clear-requires-3 : tie.Need-clear-requires-3
 clear-requires-3 c κs =
     let args = c.before.before.before.before.before.before.before.before.before.before.before.before.before.before.before.before.before.before.before.before.before.before.before.before.before.before.before.args in
-    let ask = c.before.before.before.before.before.before.before.before.before.before.before.before.before.before.before.before.before.ask in
-    let asked = ask.ensures args.cells.now args.remember.now args.tables.now args.chains.now refl refl refl refl in
-    let if1 = c.before.before.before.before.before.before.before.before.before.before.before.before.before.before.before.before.if1 in
-    let none = if1.left in
+    let asked = c.before.before.before.before.before.before.before.before.before.before.before.before.before.before.before.before.before.ask.ensures args.cells.now args.remember.now args.tables.now args.chains.now refl refl refl refl in
+    let none = c.before.before.before.before.before.before.before.before.before.before.before.before.before.before.before.before.if1.false in
     (omega arith, omega (arith, (asked-range asked none).1.remember, c.remember-words.ensures))
 
 set-entries-requires : tie.Need-set-entries-requires
 set-entries-requires c κs =
-    let after-write-sizes = c.before.before.before.before.before.before.before.before in
-    let after-cells-words = after-write-sizes.before.before.before.before.before.before.before.before.before.before in
-    let after-ask = after-cells-words.before.before.before in
-    let args = after-ask.before.before.before.before.before.before.before.before.before.before.args in
-    let ask = after-ask.ask in
-    let if1 = after-cells-words.before.before.if1 in
-    let asked = ask.ensures args.cells.now args.remember.now args.tables.now args.chains.now refl refl refl refl in
-    let none = if1.false in
+    let args = c.before.before.before.before.before.before.before.before.before.before.before.before.before.before.before.before.before.before.before.before.before.before.before.before.before.before.before.before.before.before.before.args in
+    let asked = c.before.before.before.before.before.before.before.before.before.before.before.before.before.before.before.before.before.before.before.before.before.ask.ensures args.cells.now args.remember.now args.tables.now args.chains.now refl refl refl refl in
+    let none = c.before.before.before.before.before.before.before.before.before.before.before.before.before.before.before.before.before.before.before.before.if1.false in
     omega (arith, (asked-range asked none).1.remember, c.before.before.before.clear3.ensures.long)
 
 chains-words-requires : tie.Need-chains-words-requires
 chains-words-requires c κs =
-    let after-remember-words = c.before.before.before.before.before.before.before.before in
-    let after-tables-words = after-remember-words.before.before.before.before.before.before.before.before.before in
-    let after-ask = after-tables-words.before.before.before.before.before.before.before.before in
-    let args = (to_start after-ask).args in
-    let ask = after-ask.ask in
-    let if1 = after-tables-words.before.before.before.before.before.before.before.if1 in
-    let asked = ask.ensures args.cells.now args.remember.now args.tables.now args.chains.now refl refl refl refl in
-    let none = if1.false in
+    let args = c.before.before.before.before.before.before.before.before.before.before.before.before.before.before.before.before.before.before.before.before.before.before.before.before.before.before.before.before.before.before.before.before.before.before.before.args in
+    let asked = c.before.before.before.before.before.before.before.before.before.before.before.before.before.before.before.before.before.before.before.before.before.before.before.before.before.ask.ensures args.cells.now args.remember.now args.tables.now args.chains.now refl refl refl refl in
+    let none = c.before.before.before.before.before.before.before.before.before.before.before.before.before.before.before.before.before.before.before.before.before.before.before.before.if1.false in
     (asked-range asked none).0
 
 clear-requires-4 : tie.Need-clear-requires-4
 clear-requires-4 c κs =
     let args = c.before.before.before.before.before.before.before.before.before.before.before.before.before.before.before.before.before.before.before.before.before.before.before.before.before.before.before.before.before.before.before.before.before.before.before.before.args in
-    let ask = c.before.before.before.before.before.before.before.before.before.before.before.before.before.before.before.before.before.before.before.before.before.before.before.before.before.before.ask in
-    let asked = ask.ensures args.cells.now args.remember.now args.tables.now args.chains.now refl refl refl refl in
-    let if1 = c.before.before.before.before.before.before.before.before.before.before.before.before.before.before.before.before.before.before.before.before.before.before.before.before.before.if1 in
-    let none = if1.left in
+    let asked = c.before.before.before.before.before.before.before.before.before.before.before.before.before.before.before.before.before.before.before.before.before.before.before.before.before.before.ask.ensures args.cells.now args.remember.now args.tables.now args.chains.now refl refl refl refl in
+    let none = c.before.before.before.before.before.before.before.before.before.before.before.before.before.before.before.before.before.before.before.before.before.before.before.before.before.if1.false in
     (omega arith, omega (arith, (asked-range asked none).1.chains, c.chains-words.ensures))
 
 same_length : tie.Need-same-length
@@ -148,29 +111,15 @@ same-length-4 c = search rules
 
 returns-2 : tie.Need-returns-2
 returns-2 c =
-    let after-clear3 = c.before.before.before.before.before.before.before.before.before.before.before in
-    let after-tables-words = after-clear3.before.before.before.before.before.before.before.before.before.before in
-    let after-wide3 = after-tables-words.before.before.before.before.before.before.before.before.before.before.before in
-    let wide = after-wide3.before.before.wide in
-    let wide2 = after-wide3.before.wide2 in
-    let wide3 = after-wide3.wide3 in
-    let wide4 = after-tables-words.before.before.before.before.before.before.before.before.before.before.wide4 in
-    let wide5 = after-tables-words.before.before.before.before.before.before.before.before.before.wide5 in
-    let ask = after-tables-words.before.before.before.before.before.before.before.before.ask in
-    let if1 = after-tables-words.before.before.before.before.before.before.before.if1 in
-    let cells-words = after-tables-words.before.before.before.before.before.cells-words in
-    let clear = after-tables-words.before.before.before.before.clear in
-    let tables-words = after-tables-words.tables-words in
-    let clear2 = after-clear3.before.before.before.before.before.before.before.before.before.clear2 in
-    let write-sizes = after-clear3.before.before.before.before.before.write-sizes in
-    let remember-words = after-clear3.before.remember-words in
-    let clear3 = after-clear3.clear3 in
-    let set-entries = c.before.before.before.before.before.before.before.set-entries in
-    prepared-done (λ i. sizes (wide.ensures i) (wide2.ensures i) (wide3.ensures i) (wide4.ensures i) (wide5.ensures i))
-    (ask.ensures _ _ _ _ refl refl refl refl) if1.false
-    clear.ensures (omega (arith, cells-words.ensures))
-    clear2.ensures (omega (arith, tables-words.ensures)) write-sizes.ensures
-    clear3.ensures (omega (arith, remember-words.ensures)) set-entries.ensures
+    let wide = c.before.before.before.before.before.before.before.before.before.before.before.before.before.before.before.before.before.before.before.before.before.before.before.before.before.before.before.before.before.before.before.before.before.before.wide in
+    let wide2 = c.before.before.before.before.before.before.before.before.before.before.before.before.before.before.before.before.before.before.before.before.before.before.before.before.before.before.before.before.before.before.before.before.before.wide2 in
+    let wide3 = c.before.before.before.before.before.before.before.before.before.before.before.before.before.before.before.before.before.before.before.before.before.before.before.before.before.before.before.before.before.before.before.before.wide3 in
+    let wide4 = c.before.before.before.before.before.before.before.before.before.before.before.before.before.before.before.before.before.before.before.before.before.before.before.before.before.before.before.before.before.before.before.wide4 in
+    let wide5 = c.before.before.before.before.before.before.before.before.before.before.before.before.before.before.before.before.before.before.before.before.before.before.before.before.before.before.before.before.before.before.wide5 in
+    prepared-done (λ i. sizes (wide.ensures i) (wide2.ensures i) (wide3.ensures i) (wide4.ensures i) (wide5.ensures i)) (c.before.before.before.before.before.before.before.before.before.before.before.before.before.before.before.before.before.before.before.before.before.before.before.before.before.before.before.before.before.ask.ensures _ _ _ _ refl refl refl refl) c.before.before.before.before.before.before.before.before.before.before.before.before.before.before.before.before.before.before.before.before.before.before.before.before.before.before.before.before.if1.false
+    c.before.before.before.before.before.before.before.before.before.before.before.before.before.before.before.before.before.before.before.before.before.before.before.before.before.clear.ensures (omega (arith, c.before.before.before.before.before.before.before.before.before.before.before.before.before.before.before.before.before.before.before.before.before.before.before.before.before.before.cells-words.ensures))
+    c.before.before.before.before.before.before.before.before.before.before.before.before.before.before.before.before.before.before.before.before.clear2.ensures (omega (arith, c.before.before.before.before.before.before.before.before.before.before.before.before.before.before.before.before.before.before.before.before.before.tables-words.ensures)) c.before.before.before.before.before.before.before.before.before.before.before.before.before.before.before.before.write-sizes.ensures
+    c.before.before.before.before.before.before.before.before.before.before.before.clear3.ensures (omega (arith, c.before.before.before.before.before.before.before.before.before.before.before.before.remember-words.ensures)) c.before.before.before.before.before.before.before.set-entries.ensures
     c.before.before.clear4.ensures (omega (arith, c.before.before.before.chains-words.ensures))
 
 pub taldreku-prepare-spec : {M : Type 1} → statement M

@@ -20,15 +20,9 @@ returns : tie.Need-returns
 unfolding counted
 returns c =
     let args = c.before.before.before.before.before.before.before.before.args in
-    let freed = c.before.before.before.before.before.freed in
-    let wrapping-add-u32 = c.before.before.before.wrapping-add-u32 in
     c.before.before.set-freed.ensures
     ∙ ap (set args.tables.now (freed_at args.p))
-    (let e : wrapping-add-u32.result ≡ counted (freed_of args.p args.tables.now + args.n) = omega (
-      arith,
-      wrapping-add-u32.ensures,
-      freed.ensures,
-    ) in e)
+    (let e : c.before.before.before.wrapping-add-u32.result ≡ counted (freed_of args.p args.tables.now + args.n) = omega (arith, c.before.before.before.wrapping-add-u32.ensures, c.before.before.before.before.before.freed.ensures) in e)
 
 pub count-freed-spec : {M : Type 1} → statement M
 count-freed-spec =

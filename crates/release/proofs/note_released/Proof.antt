@@ -5,10 +5,7 @@ use Rattle.release.proofs.note_released.Statement.{statement}
 use Rattle.release.proofs.note_released.Tie as tie
 
 sub-above : tie.Need-overflow-sub-above
-sub-above c =
-    let args = c.before.before.before.before.args in
-    let pre = c.before.before.before.before.requires in
-    omega (arith, pre.0.low (args.n - 1) (omega (arith, c.before.if1.true)))
+sub-above c = omega (arith, c.before.before.before.before.requires.0.low (c.before.before.before.before.args.n - 1) (omega (arith, c.before.if1.true)))
 
 sub_wide : tie.Need-overflow-sub-wide
 sub_wide c = search rules
@@ -23,10 +20,7 @@ wide-requires : tie.Need-wide-requires
 wide-requires c κs = search rules
 
 sub-above-2 : tie.Need-overflow-sub-above-2
-sub-above-2 c =
-    let args = c.before.before.before.before.before.before.args in
-    let pre = c.before.before.before.before.before.before.requires in
-    omega (arith, pre.0.low (args.n - 1) (omega (arith, c.before.before.before.if1.true)), c.wide.ensures)
+sub-above-2 c = omega (arith, c.before.before.before.before.before.before.requires.0.low (c.before.before.before.before.before.before.args.n - 1) (omega (arith, c.before.before.before.if1.true)), c.wide.ensures)
 
 slice-read-wide : tie.Need-slice-read-wide
 slice-read-wide c = search rules
@@ -44,24 +38,13 @@ same_length : tie.Need-same-length
 same_length c = search rules
 
 returns : tie.Need-returns
-returns c =
-    let args = c.before.before.before.before.before.before.before.before.before.args in
-    let if1 = c.before.before.before.before.before.before.if1 in
-    let wide = c.before.before.before.wide in
-    noted-falls args.p.pages args.notes.now args.list.now args.n if1.true (args.p.pages - 1 - wide.result)
-    (omega (arith, wide.ensures)) (omega (arith, c.if2.true, c.before.wide2.ensures))
+returns c = noted-falls c.before.before.before.before.before.before.before.before.before.args.p.pages c.before.before.before.before.before.before.before.before.before.args.notes.now c.before.before.before.before.before.before.before.before.before.args.list.now c.before.before.before.before.before.before.before.before.before.args.n c.before.before.before.before.before.before.if1.true (c.before.before.before.before.before.before.before.before.before.args.p.pages - 1 - c.before.before.before.wide.result) (omega (arith, c.before.before.before.wide.ensures)) (omega (arith, c.if2.true, c.before.wide2.ensures))
 
 returns-2 : tie.Need-returns-2
-returns-2 c =
-    let args = c.before.before.before.before.before.before.before.before.before.args in
-    let if1 = c.before.before.before.before.before.before.if1 in
-    noted-stays args.p.pages args.notes.now args.list.now args.n if1.true
-    (omega (arith, c.if2.false, c.before.wide2.ensures, c.before.before.before.wide.ensures))
+returns-2 c = noted-stays c.before.before.before.before.before.before.before.before.before.args.p.pages c.before.before.before.before.before.before.before.before.before.args.notes.now c.before.before.before.before.before.before.before.before.before.args.list.now c.before.before.before.before.before.before.before.before.before.args.n c.before.before.before.before.before.before.if1.true (omega (arith, c.if2.false, c.before.wide2.ensures, c.before.before.before.wide.ensures))
 
 returns-3 : tie.Need-returns-3
-returns-3 c =
-    let args = c.before.before.before.args in
-    noted-none args.p.pages args.notes.now args.list.now args.n (omega (arith, c.if1.false))
+returns-3 c = noted-none c.before.before.before.args.p.pages c.before.before.before.args.notes.now c.before.before.before.args.list.now c.before.before.before.args.n (omega (arith, c.if1.false))
 
 pub note-released-spec : {M : Type 1} → statement M
 note-released-spec =

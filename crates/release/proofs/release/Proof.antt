@@ -8,24 +8,15 @@ use Rattle.release.specs.Notes.{ended-noted}
 use Rattle.release.proofs.release.Statement.{statement}
 use Rattle.release.proofs.release.Tie as tie
 
--- the ways back from a state to one before it
-abbrev to-release-pages : tie.After-set-count → tie.After-release-pages
-to-release-pages c = c.before.before.before.before.before.before.before.before.before
-
-abbrev to_start : tie.After-release-pages → tie.Start
-to_start c = c.before.before.before.before.before.before.before.before.before.before.before
-
 clear-pages-requires : tie.Need-clear-pages-requires
 clear-pages-requires c κs = let pre = c.before.before.before.before.before.before.requires in (pre.0, (pre.1.0, (pre.1.1.0, pre.1.1.1.0)))
 
 release-pages-requires : tie.Need-release-pages-requires
-release-pages-requires c κs = let pre = c.before.before.before.before.before.before.before.before.before.before.requires in
-    (pre.0, pre.1.1.1.0)
+release-pages-requires c κs = let pre = c.before.before.before.before.before.before.before.before.before.before.requires in (pre.0, pre.1.1.1.0)
 
 note-released-requires : tie.Need-note-released-requires
 note-released-requires c κs =
-    let after-clear-pages = c.before.before.before.before.before.before.before in
-    let pre = after-clear-pages.before.before.before.before.before.before.before.requires in
+    let pre = c.before.before.before.before.before.before.before.before.before.before.before.before.before.before.requires in
     (pre.1.1.1.0.rises, (pre.0.few, pre.1.1.1.1.1.1.long))
 
 wide-requires : tie.Need-wide-requires
@@ -33,111 +24,66 @@ wide-requires c κs = search rules
 
 set-count-requires : tie.Need-set-count-requires
 set-count-requires c κs =
-    let after-release-pages = c.before.before.before.before.before.before.before.before in
-    let pre = after-release-pages.before.before.before.before.before.before.before.before.before.before.before.requires in
-    let release-pages = after-release-pages.release-pages in
+    let pre = c.before.before.before.before.before.before.before.before.before.before.before.before.before.before.before.before.before.before.before.requires in
     let region = pre.1.1.1.1.0 in
-    (room-same release-pages.auto.1.0 pre.0, (omega (arith, c.wide.ensures, region), omega (arith, c.wide.ensures, region)))
+    (room-same c.before.before.before.before.before.before.before.before.release-pages.auto.1.0 pre.0, (omega (arith, c.wide.ensures, region), omega (arith, c.wide.ensures, region)))
 
 depth-requires : tie.Need-depth-requires
 depth-requires c κs =
-    let after-note-released = c.before.before.before.before.before.before.before.before in
-    let after-release-pages = after-note-released.before.before.before.before in
-    let pre = (to_start after-release-pages).requires in
-    let release-pages = after-release-pages.release-pages in
-    (room-same (c.before.before.before.set-count.auto.1.0 ∙ release-pages.auto.1.0) pre.0, pre.1.1.1.1.1.0.0)
+    let pre = c.before.before.before.before.before.before.before.before.before.before.before.before.before.before.before.before.before.before.before.before.before.before.before.requires in
+    (room-same (c.before.before.before.set-count.auto.1.0 ∙ c.before.before.before.before.before.before.before.before.before.before.before.before.release-pages.auto.1.0) pre.0, pre.1.1.1.1.1.0.0)
 
 sub-set-depth : tie.Need-overflow-sub-set-depth
 sub-set-depth c =
-    let after-wide = c.before.before.before.before.before.before in
-    let after-release-pages = after-wide.before.before.before.before.before.before.before.before in
-    let pre = after-release-pages.before.before.before.before.before.before.before.before.before.before.before.requires in
-    let release-pages = after-release-pages.release-pages in
-    let wide = after-wide.wide in
-    let set-count = c.before.before.before.before.before.set-count in
+    let pre = c.before.before.before.before.before.before.before.before.before.before.before.before.before.before.before.before.before.before.before.before.before.before.before.before.before.requires in
     let thread = pre.1.1.1.1.1.0 in
-    omega (arith, c.before.depth.ensures, thread, kept-depth wide.result pre.0 release-pages.ensures thread.0 set-count.ensures)
+    omega (arith, c.before.depth.ensures, thread, kept-depth c.before.before.before.before.before.before.wide.result pre.0 c.before.before.before.before.before.before.before.before.before.before.before.before.before.before.release-pages.ensures thread.0 c.before.before.before.before.before.set-count.ensures)
 
 set-depth-requires : tie.Need-set-depth-requires
 set-depth-requires c κs =
-    let after-set-count = c.before.before.before.before.before in
-    let after-release-pages = to-release-pages after-set-count in
-    let pre = (to_start after-release-pages).pre in
-    let release-pages = after-release-pages.release-pages in
-    let set-count = after-set-count.set-count in
-    (room-same (set-count.auto.1.0 ∙ release-pages.kept.1.0) pre.0, pre.1.1.1.1.1.0.0)
+    let pre = c.before.before.before.before.before.before.before.before.before.before.before.before.before.before.before.before.before.before.before.before.before.before.before.before.before.requires in
+    (room-same (c.before.before.before.before.before.set-count.auto.1.0 ∙ c.before.before.before.before.before.before.before.before.before.before.before.before.before.before.release-pages.auto.1.0) pre.0, pre.1.1.1.1.1.0.0)
 
 count-freed-requires : tie.Need-count-freed-requires
 count-freed-requires c κs =
-    let after-set-count = c.before.before.before.before.before.before.before.before.before in
-    let after-release-pages = to-release-pages after-set-count in
-    let pre = (to_start after-release-pages).pre in
-    let release-pages = after-release-pages.release-pages in
-    let set-count = after-set-count.set-count in
-    room-same (c.before.before.before.set-depth.auto.1.0 ∙ set-count.auto.1.0 ∙ release-pages.kept.1.0) pre.0
+    room-same (c.before.before.before.set-depth.auto.1.0 ∙ c.before.before.before.before.before.before.before.before.before.set-count.auto.1.0 ∙ c.before.before.before.before.before.before.before.before.before.before.before.before.before.before.before.before.before.before.release-pages.auto.1.0) c.before.before.before.before.before.before.before.before.before.before.before.before.before.before.before.before.before.before.before.before.before.before.before.before.before.before.before.before.before.requires.0
 
 same_length : tie.Need-same-length
-same_length c =
-    let after-depth = c.before.before.before.before.before.before.before.before in
-    let after-note-released = after-depth.before.before.before.before.before.before.before.before.before in
-    let clear-pages = after-note-released.before.before.before.before.before.before.before.before.clear-pages in
-    clear-pages.auto.1.0
+same_length c = c.before.before.before.before.before.before.before.before.before.before.before.before.before.before.before.before.before.before.before.before.before.before.before.before.before.clear-pages.auto.1.0
 
 same-length-2 : tie.Need-same-length-2
-same-length-2 c =
-    let after-set-depth = c.before.before.before.before.before.before in
-    let after-set-count = after-set-depth.before.before.before.before.before.before in
-    let release-pages = (to-release-pages after-set-count).release-pages in
-    let set-count = after-set-count.set-count in
-    let set-depth = after-set-depth.set-depth in
-    c.before.before.count-freed.auto.1.0 ∙ set-depth.auto.1.0 ∙ set-count.auto.1.0 ∙ release-pages.kept.1.0
+same-length-2 c = c.before.before.count-freed.auto.1.0 ∙ c.before.before.before.before.before.before.set-depth.auto.1.0 ∙ c.before.before.before.before.before.before.before.before.before.before.before.before.set-count.auto.1.0 ∙ c.before.before.before.before.before.before.before.before.before.before.before.before.before.before.before.before.before.before.before.before.before.release-pages.auto.1.0
 
 same-length-3 : tie.Need-same-length-3
-same-length-3 c =
-    let after-depth = c.before.before.before.before.before.before.before.before in
-    let note-released = after-depth.before.before.before.before.before.before.before.before.before.note-released in
-    note-released.auto.1.0
+same-length-3 c = c.before.before.before.before.before.before.before.before.before.before.before.before.before.before.before.before.before.note-released.auto.1.0
 
 returns : tie.Need-returns
 returns c =
-    let after-depth = c.before.before.before.before.before.before.before.before in
-    let after-note-released = after-depth.before.before.before.before.before.before.before.before.before in
-    let after-clear-pages = after-note-released.before.before.before.before.before.before.before.before in
-    let a = after-clear-pages.before.before.before.before.before.before.before.args in
-    let pre = after-clear-pages.before.before.before.before.before.before.before.requires in
-    let clear-pages = after-clear-pages.clear-pages in
-    let release-pages = after-note-released.before.before.before.before.release-pages in
-    let note-released = after-note-released.note-released in
-    let wide = after-depth.before.before.before.before.before.wide in
-    let set-count = after-depth.before.before.before.before.set-count in
-    let depth = after-depth.depth in
+    let pre = c.before.before.before.before.before.before.before.before.before.before.before.before.before.before.before.before.before.before.before.before.before.before.before.before.before.before.before.before.before.before.before.before.requires in
+    let a = c.before.before.before.before.before.before.before.before.before.before.before.before.before.before.before.before.before.before.before.before.before.before.before.before.before.before.before.before.before.before.before.before.args in
+    let release-pages = c.before.before.before.before.before.before.before.before.before.before.before.before.before.before.before.before.before.before.before.before.before.release-pages in
+    let wide = c.before.before.before.before.before.before.before.before.before.before.before.before.before.wide in
+    let set-count = c.before.before.before.before.before.before.before.before.before.before.before.before.set-count in
     let set-depth = c.before.before.before.before.before.before.set-depth in
-    let count-freed = c.before.before.count-freed in
     let region = pre.1.1.1.1.0 in
     let thread = pre.1.1.1.1.1.0.0 in
     let X : List ℕ = release-pages.new.1.0 in
     let d = kept-depth wide.result pre.0 release-pages.ensures thread set-count.ensures in
-    let f = kept-freed wide.result (depth.result - 1) pre.0 release-pages.ensures thread (omega (arith, wide.ensures, region))
-    set-count.ensures set-depth.ensures in
-    let e : Ended a.p a.region a.thread a.freed a.tables.now count-freed.new.1.0 =
+    let f = kept-freed wide.result (c.before.before.before.before.before.before.before.before.depth.result - 1) pre.0 release-pages.ensures thread (omega (arith, wide.ensures, region)) set-count.ensures set-depth.ensures in
+    let e : Ended a.p a.region a.thread a.freed a.tables.now c.before.before.count-freed.new.1.0 =
     record {
       mid = X;
       pages = release-pages.ensures;
       tables =
-          count-freed.ensures
+          c.before.before.count-freed.ensures
           ∙ ap₂ (λ (Y : List ℕ) (x : ℕ). set Y (freed_at a.p) (counted (x + a.freed)))
           (set-depth.ensures
-          ∙ ap (λ (x : ℕ). set set-count.new.1.0 (depth_at a.thread) (x - 1)) (depth.ensures ∙ d)
+          ∙ ap (λ (x : ℕ). set set-count.new.1.0 (depth_at a.thread) (x - 1)) (c.before.before.before.before.before.before.before.before.depth.ensures ∙ d)
           ∙ ap (λ (Y : List ℕ). set Y (depth_at a.thread) (depth_of a.tables.now a.thread - 1))
           (set-count.ensures ∙ ap (λ (g : ℕ). set X (count_at a.p g) 0) wide.ensures))
           f;
-    } in (
-      e,
-      (
-        clear-pages.ensures,
-        ended-noted pre.0 region.0 region.1 thread e pre.1.1.1.0 pre.1.1.1.1.1.1 note-released.ensures,
-      ),
-    )
+    } in
+    (e, (c.before.before.before.before.before.before.before.before.before.before.before.before.before.before.before.before.before.before.before.before.before.before.before.before.before.clear-pages.ensures, ended-noted pre.0 region.0 region.1 thread e pre.1.1.1.0 pre.1.1.1.1.1.1 c.before.before.before.before.before.before.before.before.before.before.before.before.before.before.before.before.before.note-released.ensures))
 
 pub release_spec : {M : Type 1} → statement M
 release_spec =

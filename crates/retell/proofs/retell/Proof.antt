@@ -13,9 +13,7 @@ wide-requires : tie.Need-wide-requires
 wide-requires c κs = search rules
 
 tell-pages-requires : tie.Need-tell-pages-requires
-tell-pages-requires c κs =
-    let pre = c.before.before.before.before.before.before.before.requires in
-    telling-all pre.0 pre.1.0 pre.1.1.1
+tell-pages-requires c κs = telling-all c.before.before.before.before.before.before.before.requires.0 c.before.before.before.before.before.before.before.requires.1.0 c.before.before.before.before.before.before.before.requires.1.1.1
 
 close-entries-requires : tie.Need-close-entries-requires
 close-entries-requires c κs = search rules
@@ -25,13 +23,8 @@ same_length c = search rules
 
 returns : tie.Need-returns
 returns c =
-    let after-used = c.before.before.before.before.before.before.before.before.before in
-    let pre = after-used.before.before.before.before.before.requires in
-    let used = after-used.used in
-    let wide = c.before.before.before.before.before.before.before.before.wide in
-    let tell-pages = c.before.before.before.before.before.before.tell-pages in
-    told-exact tell-pages.ensures c.before.before.close-entries.ensures (wide.ensures ∙ used.ensures) pre.1.1.0.0 pre.1.1.0.1
-    pre.1.0
+    let pre = c.before.before.before.before.before.before.before.before.before.before.before.before.before.before.requires in
+    told-exact c.before.before.before.before.before.before.tell-pages.ensures c.before.before.close-entries.ensures (c.before.before.before.before.before.before.before.before.wide.ensures ∙ c.before.before.before.before.before.before.before.before.before.used.ensures) pre.1.1.0.0 pre.1.1.0.1 pre.1.0
 
 pub retell-spec : {M : Type 1} → statement M
 retell-spec =

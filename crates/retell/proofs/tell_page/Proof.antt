@@ -29,9 +29,7 @@ here c =
     record { readable = pre.1.readable; low = pre.0; cells = c.wide.ensures ∙ c.before.used.ensures }
 
 used-requires : tie.Need-used-requires invariant-loop decreases-loop
-used-requires c κs =
-    let pre = c.before.before.before.requires in
-    (pre.1.readable.tables-long, pre.0)
+used-requires c κs = (c.before.before.before.requires.1.readable.tables-long, c.before.before.before.requires.0)
 
 wide-requires : tie.Need-wide-requires invariant-loop decreases-loop
 wide-requires c κs = search rules
@@ -39,54 +37,35 @@ wide-requires c κs = search rules
 loop-holds : tie.Need-loop-init invariant-loop decreases-loop
 loop-holds c =
     let a = c.before.before.before.before.before.args in
-    let pre = c.before.before.before.before.before.requires in
-    (omega arith, used-most (here c), refl, told-start (cross_to a.p a.cells.now a.tables.now) a.p.entries _ _ _ pre.1.telling.low)
+    (omega arith, used-most (here c), refl, told-start (cross_to a.p a.cells.now a.tables.now) a.p.entries _ _ _ c.before.before.before.before.before.requires.1.telling.low)
 
 cell-on-requires : tie.Need-cell-on-requires invariant-loop decreases-loop
-cell-on-requires c κs =
-    let pre = c.before.before.before.before.before.before.before.before.requires in
-    (omega (arith, pre.1.readable.tables-long.few, pre.0), omega (arith, c.before.before.loop.invariant.1, c.before.loop-test.true))
+cell-on-requires c κs = (omega (arith, c.before.before.before.before.before.before.before.before.requires.1.readable.tables-long.few, c.before.before.before.before.before.before.before.before.requires.0), omega (arith, c.before.before.loop.invariant.1, c.before.loop-test.true))
 
 tell-cell-requires : tie.Need-tell-cell-requires invariant-loop decreases-loop
 tell-cell-requires c κs =
-    let pre = c.before.before.before.before.before.before.before.before.before.requires in
-    let loop = c.before.before.before.loop in
-    let loop-test = c.before.before.loop-test in
     let r = here c.before.before.before.before in
-    let k = c.cell-on in (
-      begins-here r k.result loop.place (omega (arith, loop-test.true)) k.ensures,
-      place-telling r pre.1 loop.invariant.3 k.result (omega (arith, loop-test.true)) k.ensures,
-    )
+    let k = c.cell-on in
+    (begins-here r k.result c.before.before.before.loop.place (omega (arith, c.before.before.loop-test.true)) k.ensures, place-telling r c.before.before.before.before.before.before.before.before.before.requires.1 c.before.before.before.loop.invariant.3 k.result (omega (arith, c.before.before.loop-test.true)) k.ensures)
 
 add-place : tie.Need-overflow-add-place invariant-loop decreases-loop
-add-place c =
-    let loop = c.before.before.before.before.before.before.loop in
-    let loop-test = c.before.before.before.before.before.loop-test in
-    omega (arith, loop.invariant.1, loop-test.true)
+add-place c = omega (arith, c.before.before.before.before.before.before.loop.invariant.1, c.before.before.before.before.before.loop-test.true)
 
 loop-less : tie.Need-loop-smaller invariant-loop decreases-loop
 loop-less c = omega (arith, c.before.before.before.before.before.loop-test.true)
 
 loop-again : tie.Need-loop-preserved invariant-loop decreases-loop
 loop-again c =
-    let after-wide = c.before.before.before.before.before.before.before in
-    let pre = after-wide.before.before.before.before.before.requires in
-    let loop = c.before.before.before.before.before.before.loop in
-    let loop-test = c.before.before.before.before.before.loop-test in
+    let r = here c.before.before.before.before.before.before.before in
     let k = c.before.before.before.cell-on in
-    let r = here after-wide in
-    let h = place-told r pre.1 loop.invariant.3 k.result (omega (arith, loop-test.true)) k.ensures c.before.before.tell-cell.ensures in
-    (omega (arith, loop-test.true), loop.invariant.1, h.added.size, h)
+    let h = place-told r c.before.before.before.before.before.before.before.before.before.before.before.before.requires.1 c.before.before.before.before.before.before.loop.invariant.3 k.result (omega (arith, c.before.before.before.before.before.loop-test.true)) k.ensures c.before.before.tell-cell.ensures in
+    (omega (arith, c.before.before.before.before.before.loop-test.true), c.before.before.before.before.before.before.loop.invariant.1, h.added.size, h)
 
 same_length : tie.Need-same-length invariant-loop decreases-loop
 same_length c = c.before.loop.invariant.2
 
 returns : tie.Need-returns invariant-loop decreases-loop
-returns c =
-    let pre = c.before.before.before.before.before.before.before.requires in
-    let loop = c.before.loop in
-    page-told (here c.before.before) pre.1 loop.invariant.3 (omega (arith, loop.invariant.0, c.loop-test.false))
-    (omega (arith, loop.invariant.0, loop.invariant.1))
+returns c = page-told (here c.before.before) c.before.before.before.before.before.before.before.requires.1 c.before.loop.invariant.3 (omega (arith, c.before.loop.invariant.0, c.loop-test.false)) (omega (arith, c.before.loop.invariant.0, c.before.loop.invariant.1))
 
 pub tell-page-spec : {M : Type 1} → statement M
 tell-page-spec =

@@ -25,17 +25,10 @@ loop-holds c =
     (omega arith, refl, told-start (cross_to a.p a.cells.now a.tables.now) a.p.entries 0 _ 0 (omega arith))
 
 tell-page-requires : tie.Need-tell-page-requires invariant-loop decreases-loop
-tell-page-requires c κs =
-    let pre = c.before.before.before.before.before.before.requires in (
-      c.before.loop-test.true,
-      slots-rest pre c.before.before.loop.invariant.2 (omega arith) (omega arith) (omega (arith, c.before.loop-test.true)),
-    )
+tell-page-requires c κs = (c.before.loop-test.true, slots-rest c.before.before.before.before.before.before.requires c.before.before.loop.invariant.2 (omega arith) (omega arith) (omega (arith, c.before.loop-test.true)))
 
 add-page : tie.Need-overflow-add-page invariant-loop decreases-loop
-add-page c =
-    let pre = c.before.before.before.before.before.before.before.before.before.requires in
-    let loop-test = c.before.before.before.before.loop-test in
-    omega (arith, pre.readable.tables-long.few, loop-test.true)
+add-page c = omega (arith, c.before.before.before.before.before.before.before.before.before.requires.readable.tables-long.few, c.before.before.before.before.loop-test.true)
 
 loop-less : tie.Need-loop-smaller invariant-loop decreases-loop
 loop-less c = omega (arith, c.before.before.before.before.loop-test.true)

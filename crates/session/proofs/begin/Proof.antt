@@ -22,21 +22,14 @@ start-requires c κs = search rules
 
 obey-requires : tie.Need-obey-requires
 obey-requires c κs =
-    let at-if1 = c.before.before.before.before.before.before in
-    let after-prepare = at-if1.before.before.before.before.before.before.before.before.before in
-    let after-read-line = after-prepare.before.before.before.before.before.before.before.before in
-    let pre = after-read-line.before.before.before.before.before.before.before.requires in
-    let prepare = after-prepare.prepare in
-    let if1 = at-if1.if1 in
-    ((pre.0, omega (arith, pre.0.piece)), begun-here prepare.ensures if1.true)
+    let pre = c.before.before.before.before.before.before.before.before.before.before.before.before.before.before.before.before.before.before.before.before.before.before.before.before.before.before.before.before.before.before.requires in
+    ((pre.0, omega (arith, pre.0.piece)), begun-here c.before.before.before.before.before.before.before.before.before.before.before.before.before.before.before.prepare.ensures c.before.before.before.before.before.before.if1.true)
 
 put-sizes-requires : tie.Need-put-sizes-requires
 put-sizes-requires c κs = search rules
 
 returns : tie.Need-returns
-returns c =
-    let pre = c.before.before.before.before.before.before.before.before.before.before.requires in
-    (opened-none _ _ c.before.before.before.read-line.ensures c.before.scan.given.1 pre.1, omega arith)
+returns c = (opened-none _ _ c.before.before.before.read-line.ensures c.before.scan.given.1 c.before.before.before.before.before.before.before.before.before.before.requires.1, omega arith)
 
 same_length : tie.Need-same-length
 same_length c = search rules
@@ -54,17 +47,7 @@ same-length-5 : tie.Need-same-length-5
 same-length-5 c = search rules
 
 returns-2 : tie.Need-returns-2
-returns-2 c =
-    let after-obey = c.before.before.before.before.before.before.before.before.before.before in
-    let at-if1 = after-obey.before.before.before.before.before.before.before in
-    let after-prepare = at-if1.before.before.before.before.before.before.before.before.before in
-    let read-line = after-prepare.before.before.before.before.before.before.before.before.read-line in
-    let scan2 = after-prepare.before.before.before.before.before.before.scan2 in
-    let prepare = after-prepare.prepare in
-    let if1 = at-if1.if1 in
-    let start = after-obey.before.before.before.before.before.before.start in
-    let obey = after-obey.obey in
-    (opened-on _ _ read-line.ensures scan2.given.1 prepare.ensures if1.true start.ensures obey.ensures.0, obey.ensures.1)
+returns-2 c = (opened-on _ _ c.before.before.before.before.before.before.before.before.before.before.before.before.before.before.before.before.before.before.before.before.before.before.before.before.before.before.before.before.before.before.before.before.before.before.read-line.ensures c.before.before.before.before.before.before.before.before.before.before.before.before.before.before.before.before.before.before.before.before.before.before.before.before.before.before.before.before.before.before.before.before.scan2.given.1 c.before.before.before.before.before.before.before.before.before.before.before.before.before.before.before.before.before.before.before.before.before.before.before.before.before.before.prepare.ensures c.before.before.before.before.before.before.before.before.before.before.before.before.before.before.before.before.before.if1.true c.before.before.before.before.before.before.before.before.before.before.before.before.before.before.before.before.start.ensures c.before.before.before.before.before.before.before.before.before.before.obey.ensures.0, c.before.before.before.before.before.before.before.before.before.before.obey.ensures.1)
 
 same-length-6 : tie.Need-same-length-6
 same-length-6 c = search rules
@@ -82,17 +65,7 @@ same-length-10 : tie.Need-same-length-10
 same-length-10 c = search rules
 
 returns-3 : tie.Need-returns-3
-returns-3 c =
-    let at-if1 = c.before.before.before.before in
-    let after-prepare = at-if1.before.before.before.before.before.before.before.before.before in
-    let read-line = after-prepare.before.before.before.before.before.before.before.before.read-line in
-    let scan2 = after-prepare.before.before.before.before.before.before.scan2 in
-    let prepare = after-prepare.prepare in
-    let if1 = at-if1.if1 in
-    let put-sizes = c.before.before.put-sizes in (
-      opened-refused _ _ read-line.ensures scan2.given.1 prepare.ensures if1.false put-sizes.ensures,
-      omega (arith, put-sizes.ensures.end_is),
-    )
+returns-3 c = (opened-refused _ _ c.before.before.before.before.before.before.before.before.before.before.before.before.before.before.before.before.before.before.before.before.before.read-line.ensures c.before.before.before.before.before.before.before.before.before.before.before.before.before.before.before.before.before.before.before.scan2.given.1 c.before.before.before.before.before.before.before.before.before.before.before.before.before.prepare.ensures c.before.before.before.before.if1.false c.before.before.put-sizes.ensures, omega (arith, c.before.before.put-sizes.ensures.end_is))
 
 pub begin-spec : {M : Type 1} → statement M
 begin-spec =

@@ -17,9 +17,8 @@ enum-known-stage-2 c = search rules
 
 obey-requires : tie.Need-obey-requires
 obey-requires c κs =
-    let after-stage2 = c.before.before.before.before.before.before in
-    let pre = after-stage2.before.before.before.before.before.before.before.before.requires in
-    let stage2 = after-stage2.stage2 in
+    let pre = c.before.before.before.before.before.before.before.before.before.before.before.before.before.before.requires in
+    let stage2 = c.before.before.before.before.before.before.stage2 in
     ((pre.0.0, line_low _ _ stage2.given.1 pre.0.1), placed-here pre.1 stage2.given.1)
 
 enum_told : tie.Need-enum-told
@@ -41,11 +40,7 @@ same-length-5 : tie.Need-same-length-5
 same-length-5 c = search rules
 
 returns : tie.Need-returns
-returns c =
-    let after-begin = c.before.before.before.before.before.before.before.before.before.before in
-    let stage = after-begin.before.before.before.before.before.before.before.stage in
-    let begin = after-begin.begin in
-    (fed-opening stage.given.1 begin.ensures.0, begin.ensures.1)
+returns c = (fed-opening c.before.before.before.before.before.before.before.before.before.before.before.before.before.before.before.before.before.stage.given.1 c.before.before.before.before.before.before.before.before.before.before.begin.ensures.0, c.before.before.before.before.before.before.before.before.before.before.begin.ensures.1)
 
 same-length-6 : tie.Need-same-length-6
 same-length-6 c = search rules
@@ -63,11 +58,7 @@ same-length-10 : tie.Need-same-length-10
 same-length-10 c = search rules
 
 returns-2 : tie.Need-returns-2
-returns-2 c =
-    let after-obey = c.before.before.before.before.before.before.before.before.before.before in
-    let stage2 = after-obey.before.before.before.before.before.before.before.stage2 in
-    let obey = after-obey.obey in
-    (fed-running stage2.given.1 obey.ensures.0, obey.ensures.1)
+returns-2 c = (fed-running c.before.before.before.before.before.before.before.before.before.before.before.before.before.before.before.before.before.stage2.given.1 c.before.before.before.before.before.before.before.before.before.before.obey.ensures.0, c.before.before.before.before.before.before.before.before.before.before.obey.ensures.1)
 
 returns-3 : tie.Need-returns-3
 returns-3 c = (fed-stopped c.enum_told.given.1, omega arith)

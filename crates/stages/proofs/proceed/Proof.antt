@@ -34,14 +34,11 @@ same_length c = search rules
 
 returns-2 : tie.Need-returns-2
 returns-2 c =
-    let start = c.before.before.before.before.before.before.before.before in
-    let args = start.args in
-    let pre = start.requires in
+    let args = c.before.before.before.before.before.before.before.before.args in
     let words-in = c.before.before.before.before.before.before.words-in in
-    let enum_told = c.before.before.before.before.enum_told in
     let put-line = c.before.before.put-line in
-    let low : args.line + words-in.result / 5 < 18446744073709551616 = omega (arith, words-in.ensures, pre.0) in
-    (proceeds-broken _ _ words-in.ensures enum_told.given.1 put-line.ensures, omega (arith, put-line.ensures.end_is, line-length _ low))
+    let low : args.line + words-in.result / 5 < 18446744073709551616 = omega (arith, words-in.ensures, c.before.before.before.before.before.before.before.before.requires.0) in
+    (proceeds-broken _ _ words-in.ensures c.before.before.before.before.enum_told.given.1 put-line.ensures, omega (arith, put-line.ensures.end_is, line-length _ low))
 
 returns-3 : tie.Need-returns-3
 returns-3 c = (filled c.enum-told2.given.1 refl refl, omega arith)

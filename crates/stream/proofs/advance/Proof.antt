@@ -1,6 +1,6 @@
 -- An empty piece is the end of the input; any other is fed.
 use native.Mathlib.Omega.{arith}
-use Rattle.turns.specs.Going.{advances-end, advances-on}
+use Rattle.stream.specs.Going.{advances-end, advances-on}
 use borrow.Author.Rules.{rules}
 use Rattle.stream.proofs.advance.Statement.{statement}
 use Rattle.stream.proofs.advance.Tie as tie
@@ -10,8 +10,7 @@ close-requires c κs = search rules
 
 feed-requires : tie.Need-feed-requires
 feed-requires c κs =
-    let at-if1 = c.before.before.before.before.before in
-    let pre = at-if1.before.before.before.before.before.before.before.requires in
+    let pre = c.before.before.before.before.before.before.before.before.before.before.before.before.requires in
     ((record { piece = pre.0.0; text-room = omega (arith, pre.0.0, pre.0.1) }, omega (arith, pre.0.0, pre.0.2)), pre.1)
 
 same_length : tie.Need-same-length
@@ -30,11 +29,7 @@ same-length-5 : tie.Need-same-length-5
 same-length-5 c = search rules
 
 returns : tie.Need-returns
-returns c =
-    let after-close = c.before.before.before.before.before.before.before.before.before.before in
-    let if1 = after-close.before.before.before.before.before.before.if1 in
-    let close = after-close.close in
-    (λ m a. advances-end _ if1.true (close.ensures.0 m a), omega (arith, close.ensures.1))
+returns c = (λ m a. advances-end _ c.before.before.before.before.before.before.before.before.before.before.before.before.before.before.before.before.if1.true (c.before.before.before.before.before.before.before.before.before.before.close.ensures.0 m a), omega (arith, c.before.before.before.before.before.before.before.before.before.before.close.ensures.1))
 
 same-length-6 : tie.Need-same-length-6
 same-length-6 c = search rules
@@ -52,13 +47,7 @@ same-length-10 : tie.Need-same-length-10
 same-length-10 c = search rules
 
 returns-2 : tie.Need-returns-2
-returns-2 c =
-    let after-feed = c.before.before.before.before.before.before.before.before.before.before in
-    let at-if1 = after-feed.before.before.before.before.before.before in
-    let pre = at-if1.before.before.before.before.before.before.before.requires in
-    let if1 = at-if1.if1 in
-    let feed = after-feed.feed in
-    (λ m a. advances-on _ if1.false (feed.ensures.0 m a), omega (arith, feed.ensures.1, pre.0.0))
+returns-2 c = (λ m a. advances-on _ c.before.before.before.before.before.before.before.before.before.before.before.before.before.before.before.before.if1.false (c.before.before.before.before.before.before.before.before.before.before.feed.ensures.0 m a), omega (arith, c.before.before.before.before.before.before.before.before.before.before.feed.ensures.1, c.before.before.before.before.before.before.before.before.before.before.before.before.before.before.before.before.before.before.before.before.before.before.before.requires.0.0))
 
 pub advance-spec : {M : Type 1} → statement M
 advance-spec =

@@ -2,7 +2,6 @@
 use Prim.Native.Nat.{ℕ}
 use lib.ListN.{length-replicate}
 use borrow.Author.Rules.{rules}
-use Rattle.turns.specs.Going.{serves-of}
 use Rattle.stream.proofs.serve.Statement.{statement}
 use Rattle.stream.proofs.serve.Tie as tie
 
@@ -27,18 +26,11 @@ slice-aggregate-go-on-6 c = search rules
 go-on-requires : tie.Need-go-on-requires
 go-on-requires c κs = (
   record { piece-room = length-replicate {A = ℕ} 16384 0; text-room = length-replicate {A = ℕ} 36084 0 },
-  record {
-    cells = length-replicate {A = ℕ} 8192 0;
-    remember = length-replicate {A = ℕ} 2050 0;
-    tables = length-replicate {A = ℕ} 760 0;
-    chains = length-replicate {A = ℕ} 1153 0;
-  },
+  record { cells = length-replicate {A = ℕ} 8192 0; remember = length-replicate {A = ℕ} 2050 0; tables = length-replicate {A = ℕ} 760 0; chains = length-replicate {A = ℕ} 1153 0 },
 )
 
 returns : tie.Need-returns
-returns c =
-    let go_on = c.before.before.before.before.before.before.go_on in
-    serves-of (search rules) go_on.ensures
+returns c = search rules
 
 pub serve-spec : {M : Type 1} → statement M
 serve-spec =

@@ -1,13 +1,10 @@
 -- The conditions, one by one.
-use native.Mathlib.Omega.{arith}
-use borrow.Author.Rules.{rules}
+use Rattle.std.proofs.Common.{ℕ, sym, ◌∙◌, subst, arith, rules}
 use borrow.Author.Tests.{not-true, not-false}
-use mathlib.Core.Path.{sym, subst, ◌∙◌}
-use Prim.Native.Nat.{ℕ}
 use Rattle.lists.specs.Says.{says-yes, says-no, said-no}
 use Rattle.layout.specs.Words.{words}
 use Rattle.promises.specs.Reading.{entries-there}
-use Rattle.check_objects.specs.Crossing.{CellsCross}
+use Rattle.whole.specs.Crossing.{CellsCross}
 use Rattle.whole.specs.Parts.{regions-of, cells_of, whole_of}
 use Rattle.whole.proofs.placed_whole.Statement.{statement}
 use Rattle.whole.proofs.placed_whole.Tie as tie
@@ -25,67 +22,42 @@ returns-2 : tie.Need-returns-2
 returns-2 c = says-no (λ h. said-no _ c.before.regions-whole.ensures (not-true _ c.if2.true) (regions-of h))
 
 counters-whole-requires : tie.Need-counters-whole-requires
-counters-whole-requires c κs =
-    let pre = c.before.before.before.before.before.before.before.requires in
-    (pre.0, c.before.regions-whole.ensures.0 (not-false _ c.if2.false))
+counters-whole-requires c κs = (c.before.before.before.before.before.before.before.requires.0, c.before.regions-whole.ensures.0 (not-false _ c.if2.false))
 
 returns-3 : tie.Need-returns-3
 returns-3 c = says-no (λ h. said-no _ c.before.counters-whole.ensures (not-true _ c.if3.true) h.counters)
 
 variables-whole-requires : tie.Need-variables-whole-requires
-variables-whole-requires c κs =
-    let pre = c.before.before.before.before.before.before.before.before.before.requires in
-    pre.0
+variables-whole-requires c κs = c.before.before.before.before.before.before.before.before.before.requires.0
 
 returns-4 : tie.Need-returns-4
 returns-4 c = says-no (λ h. said-no _ c.before.variables-whole.ensures (not-true _ c.if4.true) h.variables)
 
 used-requires : tie.Need-used-requires
-used-requires c κs =
-    let pre = c.before.before.before.before.before.before.before.before.before.before.before.requires in
-    entries-there pre.1
+used-requires c κs = entries-there c.before.before.before.before.before.before.before.before.before.before.before.requires.1
 
 wide-requires : tie.Need-wide-requires
 wide-requires c κs = search rules
 
 cells-whole-requires : tie.Need-cells-whole-requires
 cells-whole-requires c κs =
-    let after-shared-slice-known2 = c.before.before.before.before.before.before.before.before.before.before.before in
-    let pre = after-shared-slice-known2.before.before.requires in
-    let shared-slice-known2 = after-shared-slice-known2.shared-slice-known2 in
-    let regions-whole = c.before.before.before.before.before.before.before.regions-whole in
-    let if2 = c.before.before.before.before.before.before.if2 in (
-      pre.0,
-      (
-        pre.1.cells,
-        (
-          λ page l. ((regions-whole.ensures.0 (not-false _ if2.false)).pages page l).whole,
-          omega (arith, c.wide.ensures, c.before.used.ensures, shared-slice-known2.given 1),
-        ),
-      ),
-    )
+    let pre = c.before.before.before.before.before.before.before.before.before.before.before.before.before.requires in
+    (pre.0, (pre.1.cells, ((c.before.before.before.before.before.before.before.regions-whole.ensures.0 (not-false _ c.before.before.before.before.before.before.if2.false)).pages, omega (arith, c.wide.ensures, c.before.used.ensures, c.before.before.before.before.before.before.before.before.before.before.before.shared-slice-known2.given 1))))
 
 returns-5 : tie.Need-returns-5
 returns-5 c =
-    let after-depths-whole = c.before.before.before.before.before.before.before.before.before.before.before in
-    let args = after-depths-whole.before.before.before.before.args in
-    says-no (λ h. said-no _ c.before.cells_Whole.ensures (not-true _ c.if5.true)
-    (subst (λ (n : ℕ). CellsCross args.p args.cells.now args.tables.now n)
-    (sym (c.before.before.wide.ensures ∙ c.before.before.before.used.ensures)) (cells_of h)))
+    let args = c.before.before.before.before.before.before.before.before.before.before.before.before.before.before.before.args in
+    says-no (λ h. said-no _ c.before.cells_Whole.ensures (not-true _ c.if5.true) (subst (λ (n : ℕ). CellsCross args.p args.cells.now args.tables.now n) (sym (c.before.before.wide.ensures ∙ c.before.before.before.used.ensures)) (cells_of h)))
 
 unused-whole-requires : tie.Need-unused-whole-requires
-unused-whole-requires c κs =
-    let after-depths-whole = c.before.before.before.before.before.before.before.before.before.before.before in
-    let pre = after-depths-whole.before.before.before.before.requires in
-    (pre.0, pre.1.cells)
+unused-whole-requires c κs = let pre = c.before.before.before.before.before.before.before.before.before.before.before.before.before.before.before.requires in (pre.0, pre.1.cells)
 
 returns-6 : tie.Need-returns-6
 returns-6 c = says-no (λ h. said-no _ c.before.unused-whole.ensures (not-true _ c.if6.true) h.unused)
 
 entries-whole-requires : tie.Need-entries-whole-requires
 entries-whole-requires c κs =
-    let after-regions-whole = c.before.before.before.before.before.before.before.before.before.before.before in
-    let pre = after-regions-whole.before.before.before.before.before.before.requires in
+    let pre = c.before.before.before.before.before.before.before.before.before.before.before.before.before.before.before.before.before.requires in
     (pre.0, (pre.1.cells, pre.1.remember))
 
 returns-7 : tie.Need-returns-7
@@ -93,29 +65,10 @@ returns-7 c = says-no (λ h. said-no _ c.before.entries-whole.ensures (not-true 
 
 returns-8 : tie.Need-returns-8
 returns-8 c =
-    let after-counters-whole = c.before.before.before.before.before.before.before.before.before.before.before in
-    let start = after-counters-whole.before.before.before.before.before.before.before.before in
-    let args = start.args in
-    let pre = start.requires in
-    let depths-whole = after-counters-whole.before.before.before.before.depths-whole in
-    let if1 = after-counters-whole.before.before.before.if1 in
-    let regions-whole = after-counters-whole.before.before.regions-whole in
-    let if2 = after-counters-whole.before.if2 in
-    let counters-whole = after-counters-whole.counters-whole in
-    let if3 = c.before.before.before.before.before.before.before.before.before.before.if3 in
-    let variables-whole = c.before.before.before.before.before.before.before.before.before.variables-whole in
-    let if4 = c.before.before.before.before.before.before.before.before.if4 in
-    let used = c.before.before.before.before.before.before.before.used in
-    let wide = c.before.before.before.before.before.before.wide in
-    let cells_Whole = c.before.before.before.before.before.cells_Whole in
-    let if5 = c.before.before.before.before.if5 in
-    says-yes (whole_of {w = words args.cells.now args.remember.now args.tables.now} pre.1
-    (depths-whole.ensures.0 (not-false _ if1.false)) (regions-whole.ensures.0 (not-false _ if2.false))
-    (counters-whole.ensures.0 (not-false _ if3.false)) (variables-whole.ensures.0 (not-false _ if4.false))
-    (subst (λ (n : ℕ). CellsCross args.p args.cells.now args.tables.now n) (wide.ensures ∙ used.ensures)
-    (cells_Whole.ensures.0 (not-false _ if5.false)))
-    (c.before.before.before.unused-whole.ensures.0 (not-false _ c.before.before.if6.false))
-    (c.before.entries-whole.ensures.0 (not-false _ c.if7.false)))
+    let args = c.before.before.before.before.before.before.before.before.before.before.before.before.before.before.before.before.before.before.before.args in
+    says-yes (whole_of {w = words args.cells.now args.remember.now args.tables.now} c.before.before.before.before.before.before.before.before.before.before.before.before.before.before.before.before.before.before.before.requires.1 (c.before.before.before.before.before.before.before.before.before.before.before.before.before.before.before.depths-whole.ensures.0 (not-false _ c.before.before.before.before.before.before.before.before.before.before.before.before.before.before.if1.false)) (c.before.before.before.before.before.before.before.before.before.before.before.before.before.regions-whole.ensures.0 (not-false _ c.before.before.before.before.before.before.before.before.before.before.before.before.if2.false)) (c.before.before.before.before.before.before.before.before.before.before.before.counters-whole.ensures.0 (not-false _ c.before.before.before.before.before.before.before.before.before.before.if3.false)) (c.before.before.before.before.before.before.before.before.before.variables-whole.ensures.0 (not-false _ c.before.before.before.before.before.before.before.before.if4.false))
+    (subst (λ (n : ℕ). CellsCross args.p args.cells.now args.tables.now n) (c.before.before.before.before.before.before.wide.ensures ∙ c.before.before.before.before.before.before.before.used.ensures) (c.before.before.before.before.before.cells_Whole.ensures.0 (not-false _ c.before.before.before.before.if5.false)))
+    (c.before.before.before.unused-whole.ensures.0 (not-false _ c.before.before.if6.false)) (c.before.entries-whole.ensures.0 (not-false _ c.if7.false)))
 
 pub placed-whole-spec : {M : Type 1} → statement M
 placed-whole-spec =

@@ -45,9 +45,7 @@ put-requires : tie.Need-put-requires invariant-loop decreases-loop
 put-requires c κs = search rules
 
 add-i : tie.Need-overflow-add-i invariant-loop decreases-loop
-add-i c =
-    let loop = c.before.before.before.before.before.before.before.before.loop in
-    omega (arith, loop.invariant.1)
+add-i c = omega (arith, c.before.before.before.before.before.before.before.before.loop.invariant.1)
 
 loop-less : tie.Need-loop-smaller invariant-loop decreases-loop
 loop-less c = omega arith
@@ -57,20 +55,13 @@ loop-again c =
     let args = c.before.before.before.before.before.before.before.before.before.before.before.args in
     let loop = c.before.before.before.before.before.before.before.before.loop in
     let wide = c.before.before.before.before.wide in
-    let put = c.before.before.put in (
-      omega arith,
-      loop.invariant.1,
-      changed-more args.words.now args.changes.now loop.i _ _ _ loop.invariant.2 wide.ensures put.ensures,
-      put.auto.0 ∙ loop.invariant.3,
-    )
+    (omega arith, loop.invariant.1, changed-more args.words.now args.changes.now loop.i _ _ _ loop.invariant.2 wide.ensures c.before.before.put.ensures, c.before.before.put.auto.0 ∙ loop.invariant.3)
 
 same_length : tie.Need-same-length invariant-loop decreases-loop
 same_length c = c.before.loop.invariant.3
 
 returns : tie.Need-returns invariant-loop decreases-loop
-returns c =
-    let args = c.before.before.before.before.args in
-    c.before.loop.invariant.2 ∙ ap (changed args.words.now args.changes.now) (omega (arith, c.before.loop.invariant.1))
+returns c = c.before.loop.invariant.2 ∙ ap (changed c.before.before.before.before.args.words.now c.before.before.before.before.args.changes.now) (omega (arith, c.before.loop.invariant.1))
 
 pub change-spec : {M : Type 1} → statement M
 change-spec =

@@ -6,7 +6,7 @@ use borrow.Author.Rules.{rules}
 use lib.ListN.{length}
 use Rattle.lists.specs.Part.{Through, cut-here, through-start, through-turn, through-end}
 use Rattle.layout.specs.Cells.{cell_on}
-use Rattle.crossing.specs.Counted.{marked-on}
+use Rattle.census.specs.Counted.{marked-on}
 use Rattle.census.specs.Census.{Census, over-high, census-start, census-turn, census-skip}
 use Rattle.census.proofs.count.count_listed.Statement.{statement}
 use Rattle.census.proofs.count.count_listed.Tie as tie
@@ -21,48 +21,32 @@ decreases-loop p cells tables list n come₀ k₀ i₀ come k i =
 
 -- the page that the turn is at
 low : (c : tie.After-wide invariant-loop decreases-loop) → c.wide.result < c.before.before.before.before.before.before.before.before.args.p.pages
-low c =
-    let pre = c.before.before.before.before.before.before.before.before.requires in
-    omega (arith, pre.1.0.low c.before.before.before.loop.i (omega arith), c.wide.ensures)
+low c = omega (arith, c.before.before.before.before.before.before.before.before.requires.1.0.low c.before.before.before.loop.i (omega arith), c.wide.ensures)
 
 here : (c : tie.After-wide invariant-loop decreases-loop)
-    → (let args = c.before.before.before.before.before.before.before.before.args in
-    let loop = c.before.before.before.loop in
-    Census args.p args.cells.now
-    args.tables.now c.wide.result
-    loop.come loop.k)
+    → Census c.before.before.before.before.before.before.before.before.args.p c.before.before.before.before.before.before.before.before.args.cells.now
+    c.before.before.before.before.before.before.before.before.args.tables.now c.wide.result
+    c.before.before.before.loop.come c.before.before.before.loop.k
 here c =
     let loop = c.before.before.before.loop in
-    let pre = c.before.before.before.before.before.before.before.before.requires in
-    loop.invariant.2 c.wide.result (cut-here loop.i c.wide.result pre.1.0 (omega arith) c.wide.ensures)
+    loop.invariant.2 c.wide.result (cut-here loop.i c.wide.result c.before.before.before.before.before.before.before.before.requires.1.0 (omega arith) c.wide.ensures)
 
 loop-holds : tie.Need-loop-init invariant-loop decreases-loop
 loop-holds c =
     let pre = c.before.before.before.before.requires in
-    let args = c.before.before.before.before.args in (
-      omega arith,
-      refl,
-      through-start _ _ _ _ (λ q l off d. census-skip q 0 args.come.now (pre.1.1.0 q l off) d)
-          (census-start args.come.now pre.1.1.1.1.1.1),
-    )
+    (omega arith, refl, through-start _ _ _ _ (λ q l off d. census-skip q 0 c.before.before.before.before.args.come.now (pre.1.1.0 q l off) d) (census-start c.before.before.before.before.args.come.now pre.1.1.1.1.1.1))
 
 mul_wide : tie.Need-overflow-mul-wide invariant-loop decreases-loop
-mul_wide c =
-    let pre = c.before.before.before.before.before.before.requires in
-    omega (arith, pre.1.0.few)
+mul_wide c = omega (arith, c.before.before.before.before.before.before.requires.1.0.few)
 
 shared-slice-read-wide : tie.Need-shared-slice-read-wide invariant-loop decreases-loop
-shared-slice-read-wide c =
-    let pre = c.before.before.before.before.before.before.before.requires in
-    omega (arith, pre.1.0.few)
+shared-slice-read-wide c = omega (arith, c.before.before.before.before.before.before.before.requires.1.0.few)
 
 wide-requires : tie.Need-wide-requires invariant-loop decreases-loop
 wide-requires c κs = search rules
 
 mark-requires : tie.Need-mark-requires invariant-loop decreases-loop
-mark-requires c κs =
-    let pre = c.before.before.before.before.before.before.before.before.requires in
-    (pre.0.room, low c)
+mark-requires c κs = (c.before.before.before.before.before.before.before.before.requires.0.room, low c)
 
 count-page-requires : tie.Need-count-page-requires invariant-loop decreases-loop
 count-page-requires c κs =
@@ -71,36 +55,10 @@ count-page-requires c κs =
     let x = c.before.before.wide.result in
     let l = low c.before.before in
     let h = here c.before.before in
-    let loop = c.before.before.before.before.before.loop in
-    let mark = c.before.mark in (
-      pre.0,
-      (
-        (omega (arith, mark.ensures, pre.1.1.1.0 x l), l),
-        (
-          λ i b on. pre.1.1.1.1.0 (cell_on x i) (omega arith) (marked-on a.p a.tables.now x i mark.result b mark.ensures on),
-          (
-            λ i b on. omega (
-              arith,
-              pre.1.1.1.1.1.0 (cell_on x i) (omega arith) (marked-on a.p a.tables.now x i mark.result b mark.ensures on),
-              loop.invariant.1,
-            ),
-            λ g. omega (arith, h.arrivals g, over-high a.p a.cells.now a.tables.now g x),
-          ),
-        ),
-      ),
-    )
+    (pre.0, ((omega (arith, c.before.mark.ensures, pre.1.1.1.0 x l), l), (λ i b on. pre.1.1.1.1.0 (cell_on x i) (omega arith) (marked-on a.p a.tables.now x i c.before.mark.result b c.before.mark.ensures on), (λ i b on. omega (arith, pre.1.1.1.1.1.0 (cell_on x i) (omega arith) (marked-on a.p a.tables.now x i c.before.mark.result b c.before.mark.ensures on), c.before.before.before.before.before.loop.invariant.1), λ g. omega (arith, h.arrivals g, over-high a.p a.cells.now a.tables.now g x)))))
 
 add-k : tie.Need-overflow-add-k invariant-loop decreases-loop
-add-k c =
-    let at-loop = c.before.before.before.before.before.before.before.before in
-    let pre = at-loop.before.before.before.before.before.requires in
-    omega (
-      arith,
-      (here c.before.before.before.before.before).few,
-      low c.before.before.before.before.before,
-      c.before.before.count-page.ensures.1.1,
-      pre.0.room,
-    )
+add-k c = omega (arith, (here c.before.before.before.before.before).few, low c.before.before.before.before.before, c.before.before.count-page.ensures.1.1, c.before.before.before.before.before.before.before.before.before.before.before.before.before.requires.0.room)
 
 add-i : tie.Need-overflow-add-i invariant-loop decreases-loop
 add-i c = omega arith
@@ -113,27 +71,15 @@ loop-again c =
     let a = c.before.before.before.before.before.before.before.before.before.before.before.before.before.args in
     let pre = c.before.before.before.before.before.before.before.before.before.before.before.before.before.requires in
     let loop = c.before.before.before.before.before.before.before.before.loop in
-    let wide = c.before.before.before.before.before.wide in
-    let x = wide.result in
+    let x = c.before.before.before.before.before.wide.result in
     let counted = c.before.before.count-page in
-    let mark = c.before.before.before.before.mark in (
-      omega arith,
-      counted.auto.1.1.1.0 ∙ loop.invariant.1,
-      through-turn a.p.pages a.n a.list.now (λ b. Census a.p a.cells.now a.tables.now b loop.come loop.k)
-          (λ b. Census a.p a.cells.now a.tables.now b _ (loop.k + counted.result)) loop.i x pre.1.0 (omega arith) wide.ensures
-          loop.invariant.2 (λ d. census-turn _ mark.result counted.result mark.ensures counted.ensures.0 counted.ensures.1.0
-          counted.ensures.1.1 d) (λ q l off d. census-skip q _ _ (pre.1.1.0 q l off) d),
-    )
+    (omega arith, counted.auto.1.1.1.0 ∙ loop.invariant.1, through-turn a.p.pages a.n a.list.now (λ b. Census a.p a.cells.now a.tables.now b loop.come loop.k) (λ b. Census a.p a.cells.now a.tables.now b _ (loop.k + counted.result)) loop.i x pre.1.0 (omega arith) c.before.before.before.before.before.wide.ensures loop.invariant.2 (λ d. census-turn _ c.before.before.before.before.mark.result counted.result c.before.before.before.before.mark.ensures counted.ensures.0 counted.ensures.1.0 counted.ensures.1.1 d) (λ q l off d. census-skip q _ _ (pre.1.1.0 q l off) d))
 
 same_length : tie.Need-same-length invariant-loop decreases-loop
 same_length c = c.before.loop.invariant.1
 
 returns : tie.Need-returns invariant-loop decreases-loop
-returns c =
-    let args = c.before.before.before.before.before.before.args in
-    let pre = c.before.before.before.before.before.before.requires in
-    through-end args.p.pages args.n args.list.now _ c.before.loop.i pre.1.0 c.before.loop.invariant.0 (omega arith)
-    c.before.loop.invariant.2
+returns c = through-end c.before.before.before.before.before.before.args.p.pages c.before.before.before.before.before.before.args.n c.before.before.before.before.before.before.args.list.now _ c.before.loop.i c.before.before.before.before.before.before.requires.1.0 c.before.loop.invariant.0 (omega arith) c.before.loop.invariant.2
 
 pub count-listed-spec : {M : Type 1} → statement M
 count-listed-spec =

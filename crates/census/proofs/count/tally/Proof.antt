@@ -4,7 +4,7 @@ use mathlib.Core.Path.{ap, ◌∙◌}
 use native.Mathlib.Omega.{arith}
 use lib.ListN.{get_or}
 use borrow.Author.Rules.{rules}
-use Rattle.crossing.specs.Counted.{one_more}
+use Rattle.census.specs.Counted.{one_more}
 use Rattle.census.proofs.count.tally.Statement.{statement}
 use Rattle.census.proofs.count.tally.Tie as tie
 
@@ -22,10 +22,8 @@ slice-read-come c = search rules
 
 add-come : tie.Need-overflow-add-come
 add-come c =
-    let args = c.before.before.before.before.before.args in
-    let pre = c.before.before.before.before.before.requires in
-    let e = ap (λ (g : ℕ). get_or args.come.now g 0) (c.before.wide.ensures ∙ c.before.before.work.ensures) in
-    omega (arith, e, pre.1.1)
+    let e = ap (λ (g : ℕ). get_or c.before.before.before.before.before.args.come.now g 0) (c.before.wide.ensures ∙ c.before.before.work.ensures) in
+    omega (arith, e, c.before.before.before.before.before.requires.1.1)
 
 slice-write-come : tie.Need-slice-write-come
 slice-write-come c = search rules
@@ -34,10 +32,7 @@ same_length : tie.Need-same-length
 same_length c = search rules
 
 returns : tie.Need-returns
-returns c =
-    let args = c.before.before.before.before.before.args in
-    one_more args.cells.now args.come.now args.c c.before.wide.result (c.before.wide.ensures ∙ c.before.before.work.ensures)
-    (omega arith)
+returns c = one_more c.before.before.before.before.before.args.cells.now c.before.before.before.before.before.args.come.now c.before.before.before.before.before.args.c c.before.wide.result (c.before.wide.ensures ∙ c.before.before.work.ensures) (omega arith)
 
 pub tally-spec : {M : Type 1} → statement M
 tally-spec =

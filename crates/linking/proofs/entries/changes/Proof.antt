@@ -2,7 +2,7 @@
 use mathlib.Core.Path.{◌≡◌, ◌∙◌}
 use native.Mathlib.Omega.{arith}
 use borrow.Author.Rules.{rules}
-use Rattle.chain_words.specs.Joining.{unlinked-long}
+use Rattle.linking.specs.Joining.{unlinked-long}
 use Rattle.linking.specs.EntryChains.{room, words-forward, region-pos, region-high, off-forward, changed}
 use Rattle.linking.proofs.entries.changes.Statement.{statement}
 use Rattle.linking.proofs.entries.changes.Tie as tie
@@ -18,27 +18,22 @@ wide-requires c κs = search rules
 
 unlink-requires : tie.Need-unlink-requires
 unlink-requires c κs =
-    let pre = c.before.before.before.before.before.before.requires in
-    let t = pre.0 in
-    let w = pre.1.0 in
-    let l = pre.1.1.0 in
+    let t = c.before.before.before.before.before.before.requires.0 in
+    let w = c.before.before.before.before.before.before.requires.1.0 in
+    let l = c.before.before.before.before.before.before.requires.1.1.0 in
     let e = c.before.before.before.last-region.ensures in
     let g = c.before.wide.ensures ∙ c.before.before.region.ensures in
-    (omega (arith, region-pos t w e l g, region-high t w e l g, room t w e, t.room, e, pre.1.1), words-forward t w e (omega (arith, l)))
+    ((region-pos t w e l g, region-high t w e l g, omega (arith, room t w e, t.room, l)), words-forward t w e (omega (arith, l)))
 
 link-requires : tie.Need-link-requires
 link-requires c κs =
-    let pre = c.before.before.before.before.before.before.before.before.before.before.requires in
-    let last-region = c.before.before.before.before.before.before.before.last-region in
-    let region = c.before.before.before.before.before.before.region in
-    let wide = c.before.before.before.before.before.wide in
-    let t = pre.0 in
-    let w = pre.1.0 in
-    let a = pre.1.1 in
-    let e = last-region.ensures in
+    let t = c.before.before.before.before.before.before.before.before.before.before.requires.0 in
+    let w = c.before.before.before.before.before.before.before.before.before.before.requires.1.0 in
+    let a = c.before.before.before.before.before.before.before.before.before.before.requires.1.1 in
+    let e = c.before.before.before.before.before.before.before.last-region.ensures in
     let u = c.before.before.before.unlink.ensures in (
       (a.1, omega (arith, e, a.2), omega (arith, room t w e, t.room, a.0, unlinked-long u), omega (arith, t.entries, t.room, a.0)),
-      off-forward t w e a.0 (wide.ensures ∙ region.ensures) u,
+      off-forward t w e a.0 (c.before.before.before.before.before.wide.ensures ∙ c.before.before.before.before.before.before.region.ensures) u,
     )
 
 same_length : tie.Need-same-length
@@ -46,16 +41,9 @@ same_length c = search rules
 
 returns : tie.Need-returns
 returns c =
-    let after-last-region = c.before.before.before.before.before.before.before.before.before.before in
-    let pre = after-last-region.before.before.before.requires in
-    let last-region = after-last-region.last-region in
-    let region = c.before.before.before.before.before.before.before.before.before.region in
-    let wide = c.before.before.before.before.before.before.before.before.wide in
-    let unlink = c.before.before.before.before.before.before.unlink in
-    let a = pre.1.1 in
-    let e = last-region.ensures in
-    λ s. changed pre.0 pre.1.0 e a.0 (wide.ensures ∙ region.ensures) unlink.ensures s a.1 (omega (arith, e, a.2))
-    c.before.before.link.ensures
+    let a = c.before.before.before.before.before.before.before.before.before.before.before.before.before.requires.1.1 in
+    let e = c.before.before.before.before.before.before.before.before.before.before.last-region.ensures in
+    λ s. changed c.before.before.before.before.before.before.before.before.before.before.before.before.before.requires.0 c.before.before.before.before.before.before.before.before.before.before.before.before.before.requires.1.0 e a.0 (c.before.before.before.before.before.before.before.before.wide.ensures ∙ c.before.before.before.before.before.before.before.before.before.region.ensures) c.before.before.before.before.before.before.unlink.ensures s a.1 (omega (arith, e, a.2)) c.before.before.link.ensures
 
 pub changes-spec : {M : Type 1} → statement M
 changes-spec =

@@ -17,24 +17,20 @@ wide-requires c κs = search rules
 
 open-place-requires : tie.Need-open-place-requires
 open-place-requires c κs =
-    let pre = c.before.before.before.before.before.before.requires in
-    let t = pre.0 in
-    let w = pre.1.0 in
-    let a = pre.1.1 in
+    let t = c.before.before.before.before.before.before.requires.0 in
+    let w = c.before.before.before.before.before.before.requires.1.0 in
+    let a = c.before.before.before.before.before.before.requires.1.1 in
     let e = c.before.before.before.last-region.ensures in
     let x = c.before.wide.ensures ∙ c.before.before.used.ensures in
     ((omega (arith, x, a.0), omega (arith, room t w e, x, a.1)), words_small t w e x)
 
 link-requires : tie.Need-link-requires
 link-requires c κs =
-    let pre = c.before.before.before.before.before.before.before.before.before.before.requires in
-    let last-region = c.before.before.before.before.before.before.before.last-region in
-    let used = c.before.before.before.before.before.before.used in
-    let t = pre.0 in
-    let w = pre.1.0 in
-    let a = pre.1.1 in
-    let e = last-region.ensures in
-    let x = c.before.before.before.before.before.wide.ensures ∙ used.ensures in
+    let t = c.before.before.before.before.before.before.before.before.before.before.requires.0 in
+    let w = c.before.before.before.before.before.before.before.before.before.before.requires.1.0 in
+    let a = c.before.before.before.before.before.before.before.before.before.before.requires.1.1 in
+    let e = c.before.before.before.before.before.before.before.last-region.ensures in
+    let x = c.before.before.before.before.before.wide.ensures ∙ c.before.before.before.before.before.before.used.ensures in
     let o = c.before.before.before.open-place.ensures in (
       (a.2, omega (arith, e, a.3), omega (arith, room t w e, o.long, a.0, a.1), omega (arith, t.entries, a.0, a.1)),
       open-forward t w e x a.0 a.1 a.2 (omega (arith, e, a.3)) o,
@@ -45,18 +41,12 @@ same_length c = search rules
 
 returns : tie.Need-returns
 returns c =
-    let after-last-region = c.before.before.before.before.before.before.before.before.before.before in
-    let pre = after-last-region.before.before.before.requires in
-    let last-region = after-last-region.last-region in
-    let used = c.before.before.before.before.before.before.before.before.before.used in
-    let wide = c.before.before.before.before.before.before.before.before.wide in
-    let open-place = c.before.before.before.before.before.before.open-place in
-    let t = pre.0 in
-    let w = pre.1.0 in
-    let a = pre.1.1 in
-    let e = last-region.ensures in
-    let x = wide.ensures ∙ used.ensures in
-    λ s. came t w e x a.0 a.1 a.2 (omega (arith, e, a.3)) open-place.ensures s c.before.before.link.ensures
+    let t = c.before.before.before.before.before.before.before.before.before.before.before.before.before.requires.0 in
+    let w = c.before.before.before.before.before.before.before.before.before.before.before.before.before.requires.1.0 in
+    let a = c.before.before.before.before.before.before.before.before.before.before.before.before.before.requires.1.1 in
+    let e = c.before.before.before.before.before.before.before.before.before.before.last-region.ensures in
+    let x = c.before.before.before.before.before.before.before.before.wide.ensures ∙ c.before.before.before.before.before.before.before.before.before.used.ensures in
+    λ s. came t w e x a.0 a.1 a.2 (omega (arith, e, a.3)) c.before.before.before.before.before.before.open-place.ensures s c.before.before.link.ensures
 
 pub comes-spec : {M : Type 1} → statement M
 comes-spec =

@@ -2,7 +2,7 @@
 use mathlib.Core.Path.{◌≡◌, ◌∙◌}
 use native.Mathlib.Omega.{arith}
 use borrow.Author.Rules.{rules}
-use Rattle.chain_words.specs.Joining.{unlinked-long}
+use Rattle.linking.specs.Joining.{unlinked-long}
 use Rattle.linking.specs.EntryChains.{room, words-forward, region-pos, region-high, went}
 use Rattle.linking.proofs.entries.goes.Statement.{statement}
 use Rattle.linking.proofs.entries.goes.Tie as tie
@@ -24,10 +24,9 @@ wide-requires-2 c κs = search rules
 
 unlink-requires : tie.Need-unlink-requires
 unlink-requires c κs =
-    let pre = c.before.before.before.before.before.before.before.before.requires in
-    let t = pre.0 in
-    let w = pre.1.0 in
-    let l = pre.1.1 in
+    let t = c.before.before.before.before.before.before.before.before.requires.0 in
+    let w = c.before.before.before.before.before.before.before.before.requires.1.0 in
+    let l = c.before.before.before.before.before.before.before.before.requires.1.1 in
     let e = c.before.before.before.before.before.last-region.ensures in
     let g = c.before.wide2.ensures ∙ c.before.before.region.ensures in
     ((region-pos t w e l g, region-high t w e l g, omega (arith, room t w e, t.room, l)), words-forward t w e (omega (arith, l)))
@@ -37,16 +36,11 @@ sub-close-place c = search rules
 
 close-place-requires : tie.Need-close-place-requires
 close-place-requires c κs =
-    let after-last-region = c.before.before.before.before.before.before.before.before.before in
-    let pre = after-last-region.before.before.before.requires in
-    let last-region = after-last-region.last-region in
-    let used = c.before.before.before.before.before.before.before.before.used in
-    let wide = c.before.before.before.before.before.before.before.wide in
-    let t = pre.0 in
-    let w = pre.1.0 in
-    let l = pre.1.1 in
-    let e = last-region.ensures in
-    let x = wide.ensures ∙ used.ensures in
+    let t = c.before.before.before.before.before.before.before.before.before.before.before.before.requires.0 in
+    let w = c.before.before.before.before.before.before.before.before.before.before.before.before.requires.1.0 in
+    let l = c.before.before.before.before.before.before.before.before.before.before.before.before.requires.1.1 in
+    let e = c.before.before.before.before.before.before.before.before.before.last-region.ensures in
+    let x = c.before.before.before.before.before.before.before.wide.ensures ∙ c.before.before.before.before.before.before.before.before.used.ensures in
     (omega (arith, x, l), omega (arith, room t w e, t.room, x, l, unlinked-long c.before.before.before.unlink.ensures))
 
 same_length : tie.Need-same-length
@@ -54,17 +48,9 @@ same_length c = search rules
 
 returns : tie.Need-returns
 returns c =
-    let after-used = c.before.before.before.before.before.before.before.before.before.before.before in
-    let pre = after-used.before.before.before.before.requires in
-    let last-region = after-used.before.last-region in
-    let used = after-used.used in
-    let wide = c.before.before.before.before.before.before.before.before.before.before.wide in
-    let region = c.before.before.before.before.before.before.before.before.before.region in
-    let wide2 = c.before.before.before.before.before.before.before.before.wide2 in
-    let unlink = c.before.before.before.before.before.before.unlink in
-    let l = pre.1.1 in
-    went pre.0 pre.1.0 last-region.ensures l (wide2.ensures ∙ region.ensures) unlink.ensures
-    (wide.ensures ∙ used.ensures) c.before.before.close-place.ensures
+    let l = c.before.before.before.before.before.before.before.before.before.before.before.before.before.before.before.requires.1.1 in
+    went c.before.before.before.before.before.before.before.before.before.before.before.before.before.before.before.requires.0 c.before.before.before.before.before.before.before.before.before.before.before.before.before.before.before.requires.1.0 c.before.before.before.before.before.before.before.before.before.before.before.before.last-region.ensures l (c.before.before.before.before.before.before.before.before.wide2.ensures ∙ c.before.before.before.before.before.before.before.before.before.region.ensures) c.before.before.before.before.before.before.unlink.ensures
+    (c.before.before.before.before.before.before.before.before.before.before.wide.ensures ∙ c.before.before.before.before.before.before.before.before.before.before.before.used.ensures) c.before.before.close-place.ensures
 
 pub goes-spec : {M : Type 1} → statement M
 goes-spec =

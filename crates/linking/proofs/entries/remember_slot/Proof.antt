@@ -12,8 +12,7 @@ use Rattle.linking.proofs.entries.remember_slot.Statement.{statement}
 use Rattle.linking.proofs.entries.remember_slot.Tie as tie
 
 -- there is room for one more
-room : (c : tie.Else3) → (let a = c.before.before.before.before.before.before.before.before.args in
-    entries_used a.remember.now < a.p.entries)
+room : (c : tie.Else3) → (let a = c.before.before.before.before.before.before.before.before.args in entries_used a.remember.now < a.p.entries)
 room c = omega (arith, c.if3.false, c.before.wide.ensures, c.before.before.used.ensures)
 
 returns : tie.Need-returns
@@ -29,14 +28,7 @@ same_length : tie.Need-same-length
 same_length c = search rules
 
 returns-2 : tie.Need-returns-2
-returns-2 c =
-    let pre = c.before.before.before.before.before.before.before.before.requires in
-    let if1 = c.before.before.before.before.before.if1 in
-    let if2 = c.before.before.before.before.if2 in (
-      full if2.true (omega (arith, if1.false, if2.true))
-          (omega (arith, c.if3.true, c.before.wide.ensures, c.before.before.used.ensures)) refl refl,
-      chains-same pre.1.1.0,
-    )
+returns-2 c = (full c.before.before.before.before.if2.true (omega (arith, c.before.before.before.before.before.if1.false, c.before.before.before.before.if2.true)) (omega (arith, c.if3.true, c.before.wide.ensures, c.before.before.used.ensures)) refl refl, chains-same c.before.before.before.before.before.before.before.before.requires.1.1.0)
 
 cast-find-entry : tie.Need-overflow-cast-find-entry
 cast-find-entry c = search rules
@@ -49,19 +41,15 @@ wide-requires-2 c κs = search rules
 
 comes-requires : tie.Need-comes-requires
 comes-requires c κs =
-    let at-if1 = c.before.before.before.before.before.before.before.before.before.before in
-    let args = at-if1.before.before.before.args in
-    let P = at-if1.before.before.before.requires in
-    let if1 = at-if1.if1 in
-    let if2 = c.before.before.before.before.before.before.before.before.before.if2 in
+    let P = c.before.before.before.before.before.before.before.before.before.before.before.before.before.requires in
     let w = c.wide2.ensures in (
       P.1.0,
       (
         P.1.1.0,
         (
-          place-low P.0 args.at c.before.before.before.find-entry.ensures,
+          place-low P.0 c.before.before.before.before.before.before.before.before.before.before.before.before.before.args.at c.before.before.before.find-entry.ensures,
           room c.before.before.before.before.before,
-          omega (arith, w, if1.false, if2.true),
+          omega (arith, w, c.before.before.before.before.before.before.before.before.before.before.if1.false, c.before.before.before.before.before.before.before.before.before.if2.true),
           omega (arith, w, P.1.1.1.0.1),
         ),
       ),
@@ -72,12 +60,8 @@ cast-insert-entry c = search rules
 
 insert-entry-requires : tie.Need-insert-entry-requires
 insert-entry-requires c κs =
-    let at-if3 = c.before.before.before.before.before.before.before.before.before in
-    let start = at-if3.before.before.before.before.before.before.before.before in
-    let args = start.args in
-    let P = start.requires in
-    let find-entry = c.before.before.before.before.before.before.before.find-entry in
-    (P.0, (omega (arith, P.1.0.entries), place-low P.0 args.at find-entry.ensures, room at-if3))
+    let P = c.before.before.before.before.before.before.before.before.before.before.before.before.before.before.before.before.before.requires in
+    (P.0, (omega (arith, P.1.0.entries), place-low P.0 c.before.before.before.before.before.before.before.before.before.before.before.before.before.before.before.before.before.args.at c.before.before.before.before.before.before.before.find-entry.ensures, room c.before.before.before.before.before.before.before.before.before))
 
 same-length-2 : tie.Need-same-length-2
 same-length-2 c = search rules
@@ -87,23 +71,13 @@ same-length-3 c = search rules
 
 returns-3 : tie.Need-returns-3
 returns-3 c =
-    let after-find-entry = c.before.before.before.before.before.before.before.before.before.before in
-    let at-if3 = after-find-entry.before.before in
-    let start = at-if3.before.before.before.before.before.before.before.before in
-    let args = start.args in
-    let P = start.requires in
-    let if1 = at-if3.before.before.before.before.before.if1 in
-    let if2 = at-if3.before.before.before.before.if2 in
-    let find-entry = after-find-entry.find-entry in
-    let wide2 = c.before.before.before.before.before.before.before.wide2 in
-    let comes = c.before.before.before.before.before.before.comes in
-    let insert_entry = c.before.before.insert_entry in
-    let at = args.at in
-    let find = find-entry.ensures in
-    let absent = if2.true in
-    let more = room at-if3 in (
-      entry-comes P.0 at find (omega (arith, if1.false, absent)) more (P.1.1.1.1.1 absent) insert_entry.ensures,
-      table-came args.p _ _ P.0 _ _ _ wide2.ensures (place-low P.0 at find) more insert_entry.ensures comes.ensures,
+    let P = c.before.before.before.before.before.before.before.before.before.before.before.before.before.before.before.before.before.before.before.before.requires in
+    let at = c.before.before.before.before.before.before.before.before.before.before.before.before.before.before.before.before.before.before.before.before.args.at in
+    let find = c.before.before.before.before.before.before.before.before.before.before.find-entry.ensures in
+    let absent = c.before.before.before.before.before.before.before.before.before.before.before.before.before.before.before.before.if2.true in
+    let more = room c.before.before.before.before.before.before.before.before.before.before.before.before in (
+      entry-comes P.0 at find (omega (arith, c.before.before.before.before.before.before.before.before.before.before.before.before.before.before.before.before.before.if1.false, absent)) more (P.1.1.1.1.1 absent) c.before.before.insert_entry.ensures,
+      table-came c.before.before.before.before.before.before.before.before.before.before.before.before.before.before.before.before.before.before.before.before.args.p _ _ P.0 _ _ _ c.before.before.before.before.before.before.before.wide2.ensures (place-low P.0 at find) more c.before.before.insert_entry.ensures c.before.before.before.before.before.before.comes.ensures,
     )
 
 cast-find-entry-2 : tie.Need-overflow-cast-find-entry-2
@@ -114,22 +88,15 @@ find-entry-requires-2 c κs = search rules
 
 goes-requires : tie.Need-goes-requires
 goes-requires c κs =
-    let start = c.before.before.before.before.before.before.before.before.before in
-    let args = start.args in
-    let P = start.requires in
-    let if2 = c.before.before.before.before.before.if2 in
-    let n = P.1.1.1.1.0 (omega (arith, if2.false)) in
-    (P.1.0, (P.1.1.0, place-used P.0 args.at c.before.before.before.find-entry2.ensures n.0 n.1 n.2))
+    let P = c.before.before.before.before.before.before.before.before.before.requires in
+    let n = P.1.1.1.1.0 (omega (arith, c.before.before.before.before.before.if2.false)) in
+    (P.1.0, (P.1.1.0, place-used P.0 c.before.before.before.before.before.before.before.before.before.args.at c.before.before.before.find-entry2.ensures n.0 n.1 n.2))
 
 remove-entry-requires : tie.Need-remove-entry-requires
 remove-entry-requires c κs =
-    let at-if2 = c.before.before.before.before.before.before.before.before.before in
-    let args = at-if2.before.before.before.before.args in
-    let P = at-if2.before.before.before.before.requires in
-    let if2 = at-if2.if2 in
-    let find-entry2 = c.before.before.before.before.before.before.before.find-entry2 in
-    let n = P.1.1.1.1.0 (omega (arith, if2.false)) in
-    (P.0, (omega (arith, P.1.0.entries), place-used P.0 args.at find-entry2.ensures n.0 n.1 n.2))
+    let P = c.before.before.before.before.before.before.before.before.before.before.before.before.before.requires in
+    let n = P.1.1.1.1.0 (omega (arith, c.before.before.before.before.before.before.before.before.before.if2.false)) in
+    (P.0, (omega (arith, P.1.0.entries), place-used P.0 c.before.before.before.before.before.before.before.before.before.before.before.before.before.args.at c.before.before.before.before.before.before.before.find-entry2.ensures n.0 n.1 n.2))
 
 same-length-4 : tie.Need-same-length-4
 same-length-4 c = search rules
@@ -139,19 +106,12 @@ same-length-5 c = search rules
 
 returns-4 : tie.Need-returns-4
 returns-4 c =
-    let after-find-entry2 = c.before.before.before.before.before.before.before.before.before.before in
-    let args = after-find-entry2.before.before.before.before.before.before.args in
-    let P = after-find-entry2.before.before.before.before.before.before.requires in
-    let if2 = after-find-entry2.before.before.if2 in
-    let find-entry2 = after-find-entry2.find-entry2 in
-    let if4 = c.before.before.before.before.before.before.before.before.before.if4 in
-    let goes = c.before.before.before.before.before.before.goes in
-    let remove_entry = c.before.before.remove_entry in
-    let at = args.at in
-    let find = find-entry2.ensures in
-    let n = P.1.1.1.1.0 (omega (arith, if2.false)) in (
-      entry-goes P.0 at find n.0 n.1 n.2 if4.true remove_entry.ensures,
-      table-went args.p _ _ P.0 _ (place-used P.0 at find n.0 n.1 n.2) remove_entry.ensures goes.ensures,
+    let P = c.before.before.before.before.before.before.before.before.before.before.before.before.before.before.before.before.requires in
+    let at = c.before.before.before.before.before.before.before.before.before.before.before.before.before.before.before.before.args.at in
+    let find = c.before.before.before.before.before.before.before.before.before.before.find-entry2.ensures in
+    let n = P.1.1.1.1.0 (omega (arith, c.before.before.before.before.before.before.before.before.before.before.before.before.if2.false)) in (
+      entry-goes P.0 at find n.0 n.1 n.2 c.before.before.before.before.before.before.before.before.before.if4.true c.before.before.remove_entry.ensures,
+      table-went c.before.before.before.before.before.before.before.before.before.before.before.before.before.before.before.before.args.p _ _ P.0 _ (place-used P.0 at find n.0 n.1 n.2) c.before.before.remove_entry.ensures c.before.before.before.before.before.before.goes.ensures,
     )
 
 wide-requires-3 : tie.Need-wide-requires-3
@@ -159,33 +119,16 @@ wide-requires-3 c κs = search rules
 
 changes-requires : tie.Need-changes-requires
 changes-requires c κs =
-    let start = c.before.before.before.before.before.before.before.before.before.before in
-    let args = start.args in
-    let P = start.requires in
-    let if2 = c.before.before.before.before.before.before.if2 in
-    let find-entry2 = c.before.before.before.before.find-entry2 in
+    let P = c.before.before.before.before.before.before.before.before.before.before.requires in
     let w = c.wide3.ensures in
-    let n = P.1.1.1.1.0 (omega (arith, if2.false)) in (
-      P.1.0,
-      (
-        P.1.1.0,
-        (
-          place-used P.0 args.at find-entry2.ensures n.0 n.1 n.2,
-          omega (arith, w, c.before.before.before.if4.false),
-          omega (arith, w, P.1.1.1.0.1),
-        ),
-      ),
-    )
+    let n = P.1.1.1.1.0 (omega (arith, c.before.before.before.before.before.before.if2.false)) in
+    (P.1.0, (P.1.1.0, (place-used P.0 c.before.before.before.before.before.before.before.before.before.before.args.at c.before.before.before.before.find-entry2.ensures n.0 n.1 n.2, omega (arith, w, c.before.before.before.if4.false), omega (arith, w, P.1.1.1.0.1))))
 
 set-region-requires : tie.Need-set-region-requires
 set-region-requires c κs =
-    let at-if2 = c.before.before.before.before.before.before.before.before.before.before in
-    let args = at-if2.before.before.before.before.args in
-    let P = at-if2.before.before.before.before.requires in
-    let if2 = at-if2.if2 in
-    let find-entry2 = c.before.before.before.before.before.before.before.before.find-entry2 in
-    let n = P.1.1.1.1.0 (omega (arith, if2.false)) in
-    (P.0.long, omega (arith, place-used P.0 args.at find-entry2.ensures n.0 n.1 n.2, P.0.room))
+    let P = c.before.before.before.before.before.before.before.before.before.before.before.before.before.before.requires in
+    let n = P.1.1.1.1.0 (omega (arith, c.before.before.before.before.before.before.before.before.before.before.if2.false)) in
+    (P.0.long, omega (arith, place-used P.0 c.before.before.before.before.before.before.before.before.before.before.before.before.before.before.args.at c.before.before.before.before.before.before.before.before.find-entry2.ensures n.0 n.1 n.2, P.0.room))
 
 same-length-6 : tie.Need-same-length-6
 same-length-6 c = search rules
@@ -195,21 +138,12 @@ same-length-7 c = search rules
 
 returns-5 : tie.Need-returns-5
 returns-5 c =
-    let after-find-entry2 = c.before.before.before.before.before.before.before.before.before.before.before in
-    let args = after-find-entry2.before.before.before.before.before.before.args in
-    let P = after-find-entry2.before.before.before.before.before.before.requires in
-    let if2 = after-find-entry2.before.before.if2 in
-    let find-entry2 = after-find-entry2.find-entry2 in
-    let if4 = c.before.before.before.before.before.before.before.before.before.before.if4 in
-    let wide3 = c.before.before.before.before.before.before.before.wide3 in
-    let changes = c.before.before.before.before.before.before.changes in
-    let set-region = c.before.before.set-region in
-    let at = args.at in
-    let find = find-entry2.ensures in
-    let n = P.1.1.1.1.0 (omega (arith, if2.false)) in (
-      entry-changes P.0 at find n.0 n.1 n.2 (omega (arith, if4.false)) set-region.ensures,
-      table-changed args.p _ _ P.0 _ _ wide3.ensures (place-used P.0 at find n.0 n.1 n.2) set-region.ensures
-          changes.ensures,
+    let P = c.before.before.before.before.before.before.before.before.before.before.before.before.before.before.before.before.before.requires in
+    let at = c.before.before.before.before.before.before.before.before.before.before.before.before.before.before.before.before.before.args.at in
+    let find = c.before.before.before.before.before.before.before.before.before.before.before.find-entry2.ensures in
+    let n = P.1.1.1.1.0 (omega (arith, c.before.before.before.before.before.before.before.before.before.before.before.before.before.if2.false)) in (
+      entry-changes P.0 at find n.0 n.1 n.2 (omega (arith, c.before.before.before.before.before.before.before.before.before.before.if4.false)) c.before.before.set-region.ensures,
+      table-changed c.before.before.before.before.before.before.before.before.before.before.before.before.before.before.before.before.before.args.p _ _ P.0 _ _ c.before.before.before.before.before.before.before.wide3.ensures (place-used P.0 at find n.0 n.1 n.2) c.before.before.set-region.ensures c.before.before.before.before.before.before.changes.ensures,
     )
 
 pub remember-slot-spec : {M : Type 1} → statement M

@@ -6,12 +6,10 @@ use native.Mathlib.Omega.{arith}
 use lib.ListN.{length}
 use Rattle.lists.specs.Says.{Says, says-no}
 use Rattle.rules.specs.Regions.{region_at}
-use Rattle.chains.specs.Chains.{chain_places}
-use Rattle.chains.specs.Walking.{place-of}
-use Rattle.stack.specs.Marks.{AnyMarked}
-use Rattle.stack.specs.Draining.{says-popped, says-idle}
+use Rattle.mark.specs.Marks.{AnyMarked}
+use Rattle.mark.specs.Draining.{says-popped, says-idle}
 use Rattle.mark.specs.Levels.{Levels, levels-start, levels-at}
-use Rattle.holders.specs.Holders.{held_refs}
+use Rattle.mark.specs.Holders.{held_refs}
 use Rattle.mark.specs.Rounds.{level_refs, round-shaped, round-holding, round-slots, round-pending, round-levels}
 use Rattle.mark.proofs.levels.mark_levels.Statement.{statement}
 use Rattle.mark.proofs.levels.mark_levels.Tie as tie
@@ -19,8 +17,7 @@ use Rattle.mark.proofs.levels.mark_levels.Tie as tie
 abbrev invariant-loop : tie.invariant-loop
 invariant-loop p cells₀ remember tables₀ chains r thread outer depth found₀ left₀ cells tables found left =
     (left ≤ depth) × (length cells ≡ length cells₀) × (length tables ≡ length tables₀)
-    × Levels p r (depth - left) (region_at p thread) (level_refs p cells₀ remember tables₀ (chain_places p chains r) r thread outer) cells₀ tables₀
-    cells tables
+    × Levels p r (depth - left) (region_at p thread) (level_refs p cells₀ remember tables₀ r thread outer) cells₀ tables₀ cells tables
     × Says found (AnyMarked p tables)
 
 abbrev decreases-loop : tie.decreases-loop
@@ -38,98 +35,49 @@ sub-level : tie.Need-overflow-sub-level invariant-loop decreases-loop
 sub-level c = omega arith
 
 region-at-requires : tie.Need-region-at-requires invariant-loop decreases-loop
-region-at-requires c κs =
-    let pre = c.before.before.before.before.before.before.requires in
-    omega (arith, pre.0.room)
+region-at-requires c κs = omega (arith, c.before.before.before.before.before.before.requires.0.room)
 
 push-variables-requires : tie.Need-push-variables-requires invariant-loop decreases-loop
 push-variables-requires c κs =
     let args = c.before.before.before.before.before.before.before.before.before.args in
     let pre = c.before.before.before.before.before.before.before.before.before.requires in
-    let loop = c.before.before.before.before.loop in (
-      round-shaped pre.0 pre.1.0 args.thread args.outer (chain_places args.p args.chains.now args.r) loop.invariant.3,
-      (
-        (
-          args.remember.now,
-          round-holding pre.0 pre.1.0 args.thread args.outer (chain_places args.p args.chains.now args.r) loop.invariant.3,
-        ),
-        omega (arith, pre.1.1.1.1.0.0, pre.0.room.threads-high),
-      ),
-    )
+    let loop = c.before.before.before.before.loop in
+    (round-shaped pre.0 pre.1.0 args.thread args.outer loop.invariant.3, ((args.remember.now, round-holding pre.0 pre.1.0 args.thread args.outer loop.invariant.3), omega (arith, pre.1.1.1.1.0.0, pre.0.room.threads-high)))
 
 push-slots-requires : tie.Need-push-slots-requires invariant-loop decreases-loop
 push-slots-requires c κs =
-    let at-loop = c.before.before.before.before.before.before.before.before.before.before.before in
-    let args = at-loop.before.before.before.before.before.args in
-    let pre = at-loop.before.before.before.before.before.requires in
-    let loop = at-loop.loop in
-    let push-variables = c.before.before.before.before.before.before.push-variables in
-    let q = round-slots pre.0 pre.1.0 args.thread args.outer (chain_places args.p args.chains.now args.r) loop.invariant.3
-    push-variables.ensures in
+    let pre = c.before.before.before.before.before.before.before.before.before.before.before.before.before.before.before.before.requires in
+    let args = c.before.before.before.before.before.before.before.before.before.before.before.before.before.before.before.before.args in
+    let q = round-slots pre.0 pre.1.0 args.thread args.outer c.before.before.before.before.before.before.before.before.before.before.before.loop.invariant.3 c.before.before.before.before.before.before.push-variables.ensures in
     (q.0, (q.1, (pre.1.1.0, pre.1.1.1.1.1)))
 
 drain-requires : tie.Need-drain-requires invariant-loop decreases-loop
 drain-requires c κs =
-    let after-push-slots = c.before.before.before.before.before.before in
-    let after-region-at = after-push-slots.before.before.before.before.before.before.before.before.before.before in
-    let args = after-region-at.before.before.before.before.before.before.before.args in
-    let pre = after-region-at.before.before.before.before.before.before.before.requires in
-    let loop = after-region-at.before.before.loop in
-    let region-at = after-region-at.region-at in
-    let push-variables = after-push-slots.before.before.before.before.before.before.before.push-variables in
-    let push-slots = after-push-slots.push-slots in (
-      loop.cells,
-      loop.tables,
-      held_refs args.p args.cells.now args.remember.now args.tables.now (chain_places args.p args.chains.now args.r) args.r
-          args.thread args.outer region-at.result,
-      round-pending pre.0 pre.1.0 args.thread args.outer (chain_places args.p args.chains.now args.r) loop.invariant.3
-          region-at.result region-at.ensures (λ i q.
-          (place-of pre.1.0.remember.entries.room pre.1.1.0 args.r pre.1.1.1.1.1.0 pre.1.1.1.1.1.1 i q).0)
-          push-variables.ensures push-slots.ensures,
-    )
+    let args = c.before.before.before.before.before.before.before.before.before.before.before.before.before.before.before.before.before.before.before.before.before.before.before.args in
+    let pre = c.before.before.before.before.before.before.before.before.before.before.before.before.before.before.before.before.before.before.before.before.before.before.before.requires in
+    let loop = c.before.before.before.before.before.before.before.before.before.before.before.before.before.before.before.before.before.before.loop in
+    let region-at = c.before.before.before.before.before.before.before.before.before.before.before.before.before.before.before.before.region-at in
+    (loop.cells, loop.tables, held_refs args.p args.cells.now args.remember.now args.tables.now args.r args.thread args.outer region-at.result, round-pending pre.0 pre.1.0 args.thread args.outer loop.invariant.3 region-at.result region-at.ensures c.before.before.before.before.before.before.before.before.before.before.before.before.before.push-variables.ensures c.before.before.before.before.before.before.push-slots.ensures)
 
 sub-left : tie.Need-overflow-sub-left invariant-loop decreases-loop
-sub-left c =
-    let after-drain = c.before.before.before.before.before in
-    let after-push-slots = after-drain.before.before.before.before.before.before.before in
-    let loop-test = after-push-slots.before.before.before.before.before.before.before.before.before.before.before.loop-test in
-    omega (arith, loop-test.true)
+sub-left c = omega (arith, c.before.before.before.before.before.before.before.before.before.before.before.before.before.before.before.before.before.before.before.before.before.before.before.loop-test.true)
 
 loop-less : tie.Need-loop-smaller invariant-loop decreases-loop
-loop-less c =
-    let after-drain = c.before.before.before.before.before in
-    let after-push-slots = after-drain.before.before.before.before.before.before.before in
-    let loop-test = after-push-slots.before.before.before.before.before.before.before.before.before.before.before.loop-test in
-    omega (arith, loop-test.true)
+loop-less c = omega (arith, c.before.before.before.before.before.before.before.before.before.before.before.before.before.before.before.before.before.before.before.before.before.before.before.loop-test.true)
 
 loop-again : tie.Need-loop-preserved invariant-loop decreases-loop
 loop-again c =
-    let after-drain = c.before.before.before.before.before in
-    let after-push-slots = after-drain.before.before.before.before.before.before.before in
-    let at-loop-test = after-push-slots.before.before.before.before.before.before.before.before.before.before.before in
-    let args = at-loop-test.before.before.before.before.before.before.args in
-    let pre = at-loop-test.before.before.before.before.before.before.requires in
-    let loop = at-loop-test.before.loop in
-    let loop-test = at-loop-test.loop-test in
-    let region-at = after-push-slots.before.before.before.before.before.before.before.before.before.before.region-at in
-    let push-variables = after-push-slots.before.before.before.before.before.before.before.push-variables in
-    let push-slots = after-push-slots.push-slots in
-    let drain = after-drain.drain in
+    let pre = c.before.before.before.before.before.before.before.before.before.before.before.before.before.before.before.before.before.before.before.before.before.before.before.before.before.before.before.before.before.requires in
+    let args = c.before.before.before.before.before.before.before.before.before.before.before.before.before.before.before.before.before.before.before.before.before.before.before.before.before.before.before.before.before.args in
+    let loop = c.before.before.before.before.before.before.before.before.before.before.before.before.before.before.before.before.before.before.before.before.before.before.before.before.loop in
+    let region-at = c.before.before.before.before.before.before.before.before.before.before.before.before.before.before.before.before.before.before.before.before.before.before.region-at in
     let g = region-at.result in
     let e = region-at.ensures in
-    let q = round-pending pre.0 pre.1.0 args.thread args.outer (chain_places args.p args.chains.now args.r) loop.invariant.3 g e
-    (λ i q. (place-of pre.1.0.remember.entries.room pre.1.1.0 args.r pre.1.1.1.1.1.0 pre.1.1.1.1.1.1 i q).0)
-    push-variables.ensures push-slots.ensures in
-    let d = drain.ensures _ _ _ q in
-    let n = round-levels pre.0 pre.1.0 args.thread args.outer (chain_places args.p args.chains.now args.r) loop.invariant.3 g e
-    d in
-    let z : args.depth - loop.left + 1 ≡ args.depth - (loop.left - 1) = omega (arith, loop-test.true, loop.invariant.0) in (
-      omega (arith, loop.invariant.0),
-      n.kept.cells-length,
-      n.kept.tables-length,
-      levels-at z n,
-      ⊎_elim (λ w. says-popped d _ w.1 w.0.taken) (λ w. says-idle d _ _ w.1 w.0.left loop.invariant.4) c.if1.branch,
-    )
+    let q = round-pending pre.0 pre.1.0 args.thread args.outer loop.invariant.3 g e c.before.before.before.before.before.before.before.before.before.before.before.before.before.before.before.before.before.before.before.push-variables.ensures c.before.before.before.before.before.before.before.before.before.before.before.before.push-slots.ensures in
+    let d = c.before.before.before.before.before.drain.ensures _ _ _ q in
+    let n = round-levels pre.0 pre.1.0 args.thread args.outer loop.invariant.3 g e d in
+    let z : args.depth - loop.left + 1 ≡ args.depth - (loop.left - 1) = omega (arith, c.before.before.before.before.before.before.before.before.before.before.before.before.before.before.before.before.before.before.before.before.before.before.before.loop-test.true, loop.invariant.0) in
+    (omega (arith, loop.invariant.0), n.kept.cells-length, n.kept.tables-length, levels-at z n, ⊎_elim (λ w. says-popped d _ w.1 w.0.taken) (λ w. says-idle d _ _ w.1 w.0.left loop.invariant.4) c.if1.branch)
 
 same_length : tie.Need-same-length invariant-loop decreases-loop
 same_length c = c.before.loop.invariant.1

@@ -26,9 +26,7 @@ returns : tie.Need-returns
 returns c =
     let args = c.before.before.before.before.before.before.before.before.args in
     let cell-of = c.before.before.before.before.before.cell-of in
-    let page-of = c.before.before.before.before.page-of in
-    cross-unused args.p args.cells.now args.tables.now args.at cell-of.result cell-of.ensures page-of.ensures
-    c.before.place-of.ensures (c.before.before.wide.ensures ∙ c.before.before.before.used.ensures) c.if1.true
+    cross-unused args.p args.cells.now args.tables.now args.at cell-of.result cell-of.ensures c.before.before.before.before.page-of.ensures c.before.place_of.ensures (c.before.before.wide.ensures ∙ c.before.before.before.used.ensures) c.if1.true
 
 head-requires : tie.Need-head-requires
 head-requires c κs = search rules
@@ -41,12 +39,9 @@ is-reference-requires c κs = search rules
 
 returns-2 : tie.Need-returns-2
 returns-2 c =
-    let after-cell-of = c.before.before.before.before.before.before.before.before.before in
-    let args = after-cell-of.before.before.before.args in
-    let cell-of = after-cell-of.cell-of in
-    cross-other args.p args.cells.now args.tables.now args.at cell-of.result cell-of.ensures
-    c.before.before.word_of.ensures c.before.before.before.head.ensures
-    (said-no _ c.before.is-reference.ensures (not-true _ c.if2.true))
+    let args = c.before.before.before.before.before.before.before.before.before.before.before.before.args in
+    let cell-of = c.before.before.before.before.before.before.before.before.before.cell-of in
+    cross-other args.p args.cells.now args.tables.now args.at cell-of.result cell-of.ensures c.before.before.word_of.ensures c.before.before.before.head.ensures (said-no _ c.before.is-reference.ensures (not-true _ c.if2.true))
 
 owner-requires : tie.Need-owner-requires
 owner-requires c κs = search rules
@@ -65,24 +60,20 @@ other-region-requires c κs = search rules
 
 returns-3 : tie.Need-returns-3
 returns-3 c =
-    let after-used = c.before.before.before.before.before.before.before.before.before.before.before in
-    let args = after-used.before.before.before.before.before.args in
-    let pre = after-used.before.before.before.before.before.requires in
-    let cell-of = after-used.before.before.cell-of in
-    let page-of = after-used.before.page-of in
-    let used = after-used.used in
+    let page-of = c.before.before.before.before.before.before.before.before.before.before.before.before.page-of in
+    let used = c.before.before.before.before.before.before.before.before.before.before.before.used in
     let wide = c.before.before.before.before.before.before.before.before.before.before.wide in
-    let place-of = c.before.before.before.before.before.before.before.before.before.place-of in
+    let place_of = c.before.before.before.before.before.before.before.before.before.place_of in
     let if1 = c.before.before.before.before.before.before.before.before.if1 in
     let head = c.before.before.before.before.before.before.before.head in
     let word_of = c.before.before.before.before.before.before.word_of in
     let is-reference = c.before.before.before.before.before.is-reference in
     let if2 = c.before.before.before.before.if2 in
     let owner = c.before.before.before.owner in
-    cross-read args.p args.cells.now args.tables.now args.at cell-of.result cell-of.ensures page-of.ensures
-    place-of.ensures (wide.ensures ∙ used.ensures) word_of.ensures head.ensures
-    owner.ensures c.before.region-of.ensures c.other-region.ensures pre.1.1 if1.false
-    (is-reference.ensures.0 (not-false _ if2.false))
+    let args = c.before.before.before.before.before.before.before.before.before.before.before.before.before.before.before.before.args in
+    let cell-of = c.before.before.before.before.before.before.before.before.before.before.before.before.before.cell-of in
+    cross-read args.p args.cells.now args.tables.now args.at cell-of.result cell-of.ensures page-of.ensures place_of.ensures (wide.ensures ∙ used.ensures) word_of.ensures head.ensures
+    owner.ensures c.before.region-of.ensures c.other-region.ensures c.before.before.before.before.before.before.before.before.before.before.before.before.before.before.before.before.requires.1.1 if1.false (is-reference.ensures.0 (not-false _ if2.false))
 
 pub cross-to-spec : {M : Type 1} → statement M
 cross-to-spec =

@@ -6,8 +6,8 @@ use Prim.Native.Nat.{ℕ, ◌≤◌, ◌-◌}
 use mathlib.Core.Path.{◌≡◌, refl, ap, ◌∙◌, subst}
 use Rattle.layout.specs.Cells.{field_count, refs_of}
 use Rattle.layout.specs.declared.Kind.TheVariants.{Reference}
-use Rattle.rewrite.specs.Rewrite.{forwarded, Rewritten, rewritten-none}
-use Rattle.rewrite.specs.RewriteSlots.{Field}
+use Rattle.settle.specs.Rewrite.{forwarded, Rewritten, rewritten-none}
+use Rattle.settle.specs.RewriteSlots.{Field}
 use Rattle.retell.specs.Forwarding.{field-still, field-forwarded}
 use Rattle.retell.proofs.cells.rewrite_cell.Statement.{statement}
 use Rattle.retell.proofs.cells.rewrite_cell.Tie as tie
@@ -27,57 +27,33 @@ field-count-requires : tie.Need-field-count-requires invariant-loop decreases-lo
 field-count-requires c κs = search rules
 
 loop-holds : tie.Need-loop-init invariant-loop decreases-loop
-loop-holds c = (
-  omega arith,
-  c.field-count.ensures ∙ ap (field_count Reference) c.before.head.ensures,
-  refl,
-  rewritten-none _ _ (λ x q. omega (arith, q.low)),
-)
+loop-holds c = (omega arith, c.field-count.ensures ∙ ap (field_count Reference) c.before.head.ensures, refl, rewritten-none _ _ (λ x q. omega (arith, q.low)))
 
 field-requires : tie.Need-field-requires invariant-loop decreases-loop
-field-requires c κs =
-    let pre = c.before.before.before.before.before.before.before.requires in
-    let loop = c.before.before.loop in
-    (omega (arith, pre.inside, loop.invariant.2), omega (arith, loop.invariant.1, pre.few))
+field-requires c κs = (omega (arith, c.before.before.before.before.before.before.before.requires.inside, c.before.before.loop.invariant.2), omega (arith, c.before.before.loop.invariant.1, c.before.before.before.before.before.before.before.requires.few))
 
 forward-ref-requires : tie.Need-forward-ref-requires invariant-loop decreases-loop
 forward-ref-requires c κs =
-    let pre = c.before.before.before.before.before.before.before.before.before.requires in
-    let loop = c.before.before.before.before.loop in
-    let loop-test = c.before.before.before.loop-test in
     λ ne.
-    let l = loop in
-    let e = c.before.field.ensures ∙ field-still pre (omega (arith, l.invariant.1, loop-test.true)) l.invariant.3 in
-    let h = pre.names l.f (omega (arith, l.invariant.1, loop-test.true)) (λ z. ne (e ∙ z)) in
+    let l = c.before.before.before.before.loop in
+    let e = c.before.field.ensures ∙ field-still c.before.before.before.before.before.before.before.before.before.requires (omega (arith, l.invariant.1, c.before.before.before.loop-test.true)) l.invariant.3 in
+    let h = c.before.before.before.before.before.before.before.before.before.requires.names l.f (omega (arith, l.invariant.1, c.before.before.before.loop-test.true)) (λ z. ne (e ∙ z)) in
     (omega (arith, e, h.0), omega (arith, e, h.1, l.invariant.2))
 
 set-field-requires : tie.Need-set-field-requires invariant-loop decreases-loop
-set-field-requires c κs =
-    let pre = c.before.before.before.before.before.before.before.before.before.before.before.requires in
-    let loop = c.before.before.before.before.before.before.loop in
-    (omega (arith, pre.inside, loop.invariant.2), omega (arith, loop.invariant.1, pre.few))
+set-field-requires c κs = (omega (arith, c.before.before.before.before.before.before.before.before.before.before.before.requires.inside, c.before.before.before.before.before.before.loop.invariant.2), omega (arith, c.before.before.before.before.before.before.loop.invariant.1, c.before.before.before.before.before.before.before.before.before.before.before.requires.few))
 
 add-f : tie.Need-overflow-add-f invariant-loop decreases-loop
-add-f c =
-    let at-loop = c.before.before.before.before.before.before.before.before.before in
-    let pre = at-loop.before.before.before.before.before.requires in
-    let loop = at-loop.loop in
-    omega (arith, loop.invariant.1, pre.few)
+add-f c = omega (arith, c.before.before.before.before.before.before.before.before.before.loop.invariant.1, c.before.before.before.before.before.before.before.before.before.before.before.before.before.before.requires.few)
 
 loop-less : tie.Need-loop-smaller invariant-loop decreases-loop
 loop-less c = omega arith
 
 loop-again : tie.Need-loop-preserved invariant-loop decreases-loop
 loop-again c =
-    let at-loop = c.before.before.before.before.before.before.before.before.before in
-    let pre = at-loop.before.before.before.before.before.requires in
-    let l = at-loop.loop in
-    let loop-test = c.before.before.before.before.before.before.before.before.loop-test in
-    let field = c.before.before.before.before.before.before.field in
-    let forward-ref = c.before.before.before.before.forward-ref in
-    let h = field-forwarded pre (omega (arith, l.invariant.1, loop-test.true)) l.invariant.3 forward-ref.result
-    (forward-ref.ensures ∙ ap (forwarded l.cells) field.ensures) c.before.before.set-field.ensures in
-    (omega (arith, loop-test.true), l.invariant.1, h.size, h)
+    let l = c.before.before.before.before.before.before.before.before.before.loop in
+    let h = field-forwarded c.before.before.before.before.before.before.before.before.before.before.before.before.before.before.requires (omega (arith, l.invariant.1, c.before.before.before.before.before.before.before.before.loop-test.true)) l.invariant.3 c.before.before.before.before.forward-ref.result (c.before.before.before.before.forward-ref.ensures ∙ ap (forwarded l.cells) c.before.before.before.before.before.before.field.ensures) c.before.before.set-field.ensures in
+    (omega (arith, c.before.before.before.before.before.before.before.before.loop-test.true), l.invariant.1, h.size, h)
 
 same_length : tie.Need-same-length invariant-loop decreases-loop
 same_length c = c.before.loop.invariant.2

@@ -6,7 +6,7 @@ use mathlib.Core.Path.{◌≡◌, refl, ◌∙◌, subst}
 use Rattle.layout.specs.Places.{cells_words}
 use Rattle.layout.specs.Cells.{head_at, cell_on}
 use Rattle.layout.specs.Objects.{slot-low}
-use Rattle.rewrite.specs.Rewrite.{Rewritten}
+use Rattle.settle.specs.Rewrite.{Rewritten}
 use Rattle.retell.specs.SlotStretches.{SlotFrom}
 use Rattle.retell.specs.Forwarding.{forwarded-start, forwarded-on, forwarded-all, readable-rest}
 use Rattle.retell.proofs.cells.rewrite_cells.Statement.{statement}
@@ -24,28 +24,16 @@ loop-holds : tie.Need-loop-init invariant-loop decreases-loop
 loop-holds c = (omega arith, refl, forwarded-start _ 0 _ _)
 
 rewrite-page-requires : tie.Need-rewrite-page-requires invariant-loop decreases-loop
-rewrite-page-requires c κs =
-    let pre = c.before.before.before.before.before.requires in
-    (readable-rest c.before.before.loop.invariant.2 pre (omega arith) (omega (arith, c.before.loop-test.true)), c.before.loop-test.true)
+rewrite-page-requires c κs = (readable-rest c.before.before.loop.invariant.2 c.before.before.before.before.before.requires (omega arith) (omega (arith, c.before.loop-test.true)), c.before.loop-test.true)
 
 add-page : tie.Need-overflow-add-page invariant-loop decreases-loop
-add-page c =
-    let pre = c.before.before.before.before.before.before.before.before.requires in
-    let loop-test = c.before.before.before.before.loop-test in
-    omega (arith, pre.tables-long.few, loop-test.true)
+add-page c = omega (arith, c.before.before.before.before.before.before.before.before.requires.tables-long.few, c.before.before.before.before.loop-test.true)
 
 loop-less : tie.Need-loop-smaller invariant-loop decreases-loop
 loop-less c = omega (arith, c.before.before.before.before.loop-test.true)
 
 loop-again : tie.Need-loop-preserved invariant-loop decreases-loop
-loop-again c =
-    let loop = c.before.before.before.before.before.loop in
-    let loop-test = c.before.before.before.before.loop-test in
-    let rewrite-page = c.before.before.rewrite-page in (
-      omega (arith, loop-test.true),
-      rewrite-page.auto.1.0 ∙ loop.invariant.1,
-      forwarded-on loop.invariant.2 (omega arith) (omega arith) rewrite-page.ensures,
-    )
+loop-again c = (omega (arith, c.before.before.before.before.loop-test.true), c.before.before.rewrite-page.auto.1.0 ∙ c.before.before.before.before.before.loop.invariant.1, forwarded-on c.before.before.before.before.before.loop.invariant.2 (omega arith) (omega arith) c.before.before.rewrite-page.ensures)
 
 same_length : tie.Need-same-length invariant-loop decreases-loop
 same_length c = c.before.loop.invariant.1
@@ -55,8 +43,7 @@ returns c =
     let a = c.before.before.before.before.args in
     let l = c.before.loop in
     let e : head_at (cell_on l.page 0) ≡ cells_words a.p = omega (arith, l.invariant.0, c.loop-test.false) in
-    forwarded-all (slot-low a.p a.cells.now a.tables.now)
-    (subst (λ (y : ℕ). Rewritten (SlotFrom a.p 0 y a.cells.now a.tables.now) a.cells.now l.cells) e l.invariant.2)
+    forwarded-all (slot-low a.p a.cells.now a.tables.now) (subst (λ (y : ℕ). Rewritten (SlotFrom a.p 0 y a.cells.now a.tables.now) a.cells.now l.cells) e l.invariant.2)
 
 pub rewrite-cells-spec : {M : Type 1} → statement M
 rewrite-cells-spec =

@@ -7,7 +7,7 @@ use Prim.Native.Nat.{◌≤◌, ◌-◌}
 use mathlib.Core.Path.{◌≡◌, refl, ◌∙◌}
 use Rattle.rules.specs.declared.Sizes.{Sizes}
 use Rattle.layout.specs.Cells.{head_at, cell_on, page_cells}
-use Rattle.rewrite.specs.Rewrite.{Rewritten}
+use Rattle.settle.specs.Rewrite.{Rewritten}
 use Rattle.retell.specs.SlotStretches.{SlotFrom, PageReadable, used-most}
 use Rattle.retell.specs.Forwarding.{forwarded-start, place-readable, place-forwarded, page-forwarded}
 use Rattle.retell.proofs.cells.rewrite_page.Statement.{statement}
@@ -16,8 +16,7 @@ use Rattle.retell.proofs.cells.rewrite_page.Tie as tie
 abbrev invariant-loop : tie.invariant-loop
 invariant-loop cells₀ tables page used place₀ cells place =
     (place ≤ used) × (used ≤ page_cells) × (length cells ≡ length cells₀)
-    × ((p : Sizes) → PageReadable p page used cells₀ tables
-    → Rewritten (SlotFrom p (head_at (cell_on page 0)) (head_at (cell_on page place)) cells₀ tables) cells₀ cells)
+    × ((p : Sizes) → PageReadable p page used cells₀ tables → Rewritten (SlotFrom p (head_at (cell_on page 0)) (head_at (cell_on page place)) cells₀ tables) cells₀ cells)
 
 abbrev decreases-loop : tie.decreases-loop
 decreases-loop cells₀ tables page used place₀ cells place =
@@ -26,9 +25,7 @@ decreases-loop cells₀ tables page used place₀ cells place =
 -- the page, by the number of cells in use that the code read
 here : (c : tie.After-wide invariant-loop decreases-loop)
     → (let a = c.before.before.before.before.args in PageReadable a.p a.page c.wide.result a.cells.now a.tables.now)
-here c =
-    let pre = c.before.before.before.before.requires in
-    record { readable = pre.0; low = pre.1; cells = c.wide.ensures ∙ c.before.used.ensures }
+here c = record { readable = c.before.before.before.before.requires.0; low = c.before.before.before.before.requires.1; cells = c.wide.ensures ∙ c.before.used.ensures }
 
 used-requires : tie.Need-used-requires invariant-loop decreases-loop
 used-requires c κs = (c.before.before.requires.0.tables-long, c.before.before.requires.1)
@@ -40,45 +37,29 @@ loop-holds : tie.Need-loop-init invariant-loop decreases-loop
 loop-holds c = (omega arith, used-most (here c), refl, λ p r. forwarded-start p _ _ _)
 
 cell-on-requires : tie.Need-cell-on-requires invariant-loop decreases-loop
-cell-on-requires c κs =
-    let pre = c.before.before.before.before.before.before.before.requires in
-    (omega (arith, pre.0.tables-long.few, pre.1), omega (arith, c.before.before.loop.invariant.1, c.before.loop-test.true))
+cell-on-requires c κs = (omega (arith, c.before.before.before.before.before.before.before.requires.0.tables-long.few, c.before.before.before.before.before.before.before.requires.1), omega (arith, c.before.before.loop.invariant.1, c.before.loop-test.true))
 
 rewrite-cell-requires : tie.Need-rewrite-cell-requires invariant-loop decreases-loop
 rewrite-cell-requires c κs =
     let r = here c.before.before.before.before in
-    place-readable r (c.before.before.before.loop.invariant.3 _ r) c.cell-on.result (omega (arith, c.before.before.loop-test.true))
-    c.cell-on.ensures
+    place-readable r (c.before.before.before.loop.invariant.3 _ r) c.cell-on.result (omega (arith, c.before.before.loop-test.true)) c.cell-on.ensures
 
 add-place : tie.Need-overflow-add-place invariant-loop decreases-loop
-add-place c =
-    let loop = c.before.before.before.before.before.before.loop in
-    let loop-test = c.before.before.before.before.before.loop-test in
-    omega (arith, loop.invariant.1, loop-test.true)
+add-place c = omega (arith, c.before.before.before.before.before.before.loop.invariant.1, c.before.before.before.before.before.loop-test.true)
 
 loop-less : tie.Need-loop-smaller invariant-loop decreases-loop
 loop-less c = omega (arith, c.before.before.before.before.before.loop-test.true)
 
 loop-again : tie.Need-loop-preserved invariant-loop decreases-loop
-loop-again c =
-    let loop = c.before.before.before.before.before.before.loop in
-    let loop-test = c.before.before.before.before.before.loop-test in
-    let cell-on = c.before.before.before.cell-on in
-    let rewrite-cell = c.before.before.rewrite-cell in (
-      omega (arith, loop-test.true),
-      loop.invariant.1,
-      rewrite-cell.auto.0 ∙ loop.invariant.2,
-      λ p r. place-forwarded r (loop.invariant.3 p r) cell-on.result (omega (arith, loop-test.true)) cell-on.ensures rewrite-cell.ensures,
-    )
+loop-again c = (omega (arith, c.before.before.before.before.before.loop-test.true), c.before.before.before.before.before.before.loop.invariant.1, c.before.before.rewrite-cell.auto.0 ∙ c.before.before.before.before.before.before.loop.invariant.2, λ p r. place-forwarded r (c.before.before.before.before.before.before.loop.invariant.3 p r) c.before.before.before.cell-on.result (omega (arith, c.before.before.before.before.before.loop-test.true)) c.before.before.before.cell-on.ensures c.before.before.rewrite-cell.ensures)
 
 same_length : tie.Need-same-length invariant-loop decreases-loop
 same_length c = c.before.loop.invariant.2
 
 returns : tie.Need-returns invariant-loop decreases-loop
 returns c =
-    let loop = c.before.loop in
     let r = here c.before.before in
-    page-forwarded r (loop.invariant.3 _ r) (omega (arith, loop.invariant.0, c.loop-test.false)) (omega (arith, loop.invariant.0, loop.invariant.1))
+    page-forwarded r (c.before.loop.invariant.3 _ r) (omega (arith, c.before.loop.invariant.0, c.loop-test.false)) (omega (arith, c.before.loop.invariant.0, c.before.loop.invariant.1))
 
 pub rewrite-page-spec : {M : Type 1} → statement M
 rewrite-page-spec =

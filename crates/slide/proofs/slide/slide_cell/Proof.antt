@@ -26,31 +26,20 @@ same_length c = search rules
 
 returns : tie.Need-returns
 returns c =
-    let start = c.before.before.before.before.before.before.before.before.before in
-    let a = start.args in
-    let pre = start.requires in
-    let work = c.before.before.before.before.before.before.work in
-    let cell-named = c.before.before.before.before.before.cell-named in
-    let copy-cell = c.before.before.copy-cell in
-    let e : cell-named.result ≡ cell_named (work_of a.cells.now a.cell) = cell-named.ensures ∙ ap cell_named work.ensures in
-    let n : work_of a.cells.now a.cell ≡ ref_to cell-named.result = omega (arith, pre.1.0) in
-    subst (λ (d : ℕ). CellSlid a.cell d a.cells.now copy-cell.new.0) e (copied-slid n copy-cell.ensures)
+    let a = c.before.before.before.before.before.before.before.before.before.args in
+    let e : c.before.before.before.before.before.cell-named.result ≡ cell_named (work_of a.cells.now a.cell) = c.before.before.before.before.before.cell-named.ensures ∙ ap cell_named c.before.before.before.before.before.before.work.ensures in
+    let n : work_of a.cells.now a.cell ≡ ref_to c.before.before.before.before.before.cell-named.result = omega (arith, c.before.before.before.before.before.before.before.before.before.requires.1.0) in
+    subst (λ (d : ℕ). CellSlid a.cell d a.cells.now c.before.before.copy-cell.new.0) e (copied-slid n c.before.before.copy-cell.ensures)
 
 same-length-2 : tie.Need-same-length-2
 same-length-2 c = search rules
 
 returns-2 : tie.Need-returns-2
 returns-2 c =
-    let start = c.before.before.before.before.before.before.before.before.before in
-    let a = start.args in
-    let pre = start.requires in
-    let work = c.before.before.before.before.before.before.work in
-    let cell-named = c.before.before.before.before.before.cell-named in
-    let if1 = c.before.before.before.before.if1 in
-    let e : cell-named.result ≡ cell_named (work_of a.cells.now a.cell) = cell-named.ensures ∙ ap cell_named work.ensures in
-    let s : cell-named.result ≡ a.cell = if1.false in
-    subst₂ (λ (d : ℕ) (X : List ℕ). CellSlid a.cell d a.cells.now X) e (sym c.before.before.set-work.ensures)
-    (stayed-slid s (omega (arith, pre.0)))
+    let a = c.before.before.before.before.before.before.before.before.before.args in
+    let e : c.before.before.before.before.before.cell-named.result ≡ cell_named (work_of a.cells.now a.cell) = c.before.before.before.before.before.cell-named.ensures ∙ ap cell_named c.before.before.before.before.before.before.work.ensures in
+    let s : c.before.before.before.before.before.cell-named.result ≡ a.cell = c.before.before.before.before.if1.false in
+    subst₂ (λ (d : ℕ) (X : List ℕ). CellSlid a.cell d a.cells.now X) e (sym c.before.before.set-work.ensures) (stayed-slid s (omega (arith, c.before.before.before.before.before.before.before.before.before.requires.0)))
 
 pub slide-cell-spec : {M : Type 1} → statement M
 slide-cell-spec =

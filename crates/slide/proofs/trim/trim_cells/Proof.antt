@@ -11,9 +11,7 @@ same_length : tie.Need-same-length
 same_length c = search rules
 
 returns : tie.Need-returns
-returns c =
-    let pre = c.before.before.before.before.before.before.requires in
-    cells-cleared _ _ _ pre.1 c.before.before.clear-cells.ensures
+returns c = cells-cleared _ _ _ c.before.before.before.before.before.before.requires.1 c.before.before.clear-cells.ensures
 
 returns-2 : tie.Need-returns-2
 returns-2 c = search rules

@@ -23,32 +23,21 @@ same_length c = search rules
 
 returns : tie.Need-returns
 returns c =
-    let after-set-used = c.before.before.before.before.before.before.before.before.before.before.before in
-    let a = after-set-used.before.before.before.args in
-    let pre = after-set-used.before.before.before.requires in
-    let set-used = after-set-used.set-used in
-    let set-mark = c.before.before.before.before.before.before.before.set-mark in
-    let if1 = c.before.before.before.before.if1 in
-    let stored : WordsAre a.p a.page a.left (owner_of a.p a.tables.now a.page) a.tables.now set-mark.new.1.0 =
+    let a = c.before.before.before.before.before.before.before.before.before.before.before.before.before.before.args in
+    let stored : WordsAre a.p a.page a.left (owner_of a.p a.tables.now a.page) a.tables.now c.before.before.before.before.before.before.before.set-mark.new.1.0 =
     subst (WordsAre a.p a.page a.left (owner_of a.p a.tables.now a.page) a.tables.now)
-    (sym (set-mark.ensures ∙ ap (λ (X : List ℕ). set X (mark_at a.p a.page) 0) set-used.ensures))
-    (words-stored pre.0 pre.1 a.left) in
-    words-free if1.true (subst (WordsAre a.p a.page a.left 0 a.tables.now) (sym c.before.before.set-owner.ensures)
-    (words-freed pre.0 pre.1 a.left stored))
+    (sym (c.before.before.before.before.before.before.before.set-mark.ensures ∙ ap (λ (X : List ℕ). set X (mark_at a.p a.page) 0) c.before.before.before.before.before.before.before.before.before.before.before.set-used.ensures)) (words-stored c.before.before.before.before.before.before.before.before.before.before.before.before.before.before.requires.0 c.before.before.before.before.before.before.before.before.before.before.before.before.before.before.requires.1 a.left) in
+    words-free c.before.before.before.before.if1.true (subst (WordsAre a.p a.page a.left 0 a.tables.now) (sym c.before.before.set-owner.ensures) (words-freed c.before.before.before.before.before.before.before.before.before.before.before.before.before.before.requires.0 c.before.before.before.before.before.before.before.before.before.before.before.before.before.before.requires.1 a.left stored))
 
 same-length-2 : tie.Need-same-length-2
 same-length-2 c = search rules
 
 returns-2 : tie.Need-returns-2
 returns-2 c =
-    let start = c.before.before.before.before.before.before.before.before.before.before in
-    let a = start.args in
-    let pre = start.requires in
-    let set-used = c.before.before.before.before.before.before.before.set-used in
+    let a = c.before.before.before.before.before.before.before.before.before.before.args in
     words-held c.if1.false
     (subst (WordsAre a.p a.page a.left (owner_of a.p a.tables.now a.page) a.tables.now)
-    (sym (c.before.before.before.set-mark.ensures ∙ ap (λ (X : List ℕ). set X (mark_at a.p a.page) 0) set-used.ensures))
-    (words-stored pre.0 pre.1 a.left))
+    (sym (c.before.before.before.set-mark.ensures ∙ ap (λ (X : List ℕ). set X (mark_at a.p a.page) 0) c.before.before.before.before.before.before.before.set-used.ensures)) (words-stored c.before.before.before.before.before.before.before.before.before.before.requires.0 c.before.before.before.before.before.before.before.before.before.before.requires.1 a.left))
 
 pub trim-words-spec : {M : Type 1} → statement M
 trim-words-spec =

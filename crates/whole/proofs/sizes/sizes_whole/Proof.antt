@@ -1,9 +1,7 @@
 -- Each way out is one of the conditions on sizes and lengths.
-use native.Mathlib.Omega.{arith}
-use borrow.Author.Rules.{rules}
+use Rattle.std.proofs.Common.{refl, ap, arith, rules}
 use Rattle.lists.specs.Says.{says-yes, says-no, said-no}
 use borrow.Author.Tests.{not-true, not-false}
-use mathlib.Core.Path.{refl, ap}
 use Rattle.rules.specs.declared.Sizes.{Sizes}
 use Rattle.layout.specs.Places.{tables_words}
 use Rattle.promises.specs.Reading.{sizes-there, entries-there}
@@ -23,8 +21,7 @@ in-range-requires : tie.Need-in-range-requires
 in-range-requires c κs = search rules
 
 returns-3 : tie.Need-returns-3
-returns-3 c = says-no (λ h. said-no _ c.before.in-range.ensures (not-true _ c.if3.true)
-    (rw c.before.before.read-sizes.ensures h.range))
+returns-3 c = says-no (λ h. said-no _ c.before.in-range.ensures (not-true _ c.if3.true) (rw c.before.before.read-sizes.ensures h.range))
 
 entries-requires : tie.Need-entries-requires
 entries-requires c κs = search rules
@@ -33,53 +30,32 @@ wide-requires : tie.Need-wide-requires
 wide-requires c κs = search rules
 
 returns-4 : tie.Need-returns-4
-returns-4 c =
-    let read-sizes = c.before.before.before.before.before.before.read-sizes in
-    says-no (λ h. c.if4.true (omega (arith, h.same, ap (λ (s : Sizes). s.entries) read-sizes.ensures)))
+returns-4 c = says-no (λ h. c.if4.true (omega (arith, h.same, ap (λ (s : Sizes). s.entries) c.before.before.before.before.before.before.read-sizes.ensures)))
 
 cells-words-requires : tie.Need-cells-words-requires
-cells-words-requires c κs =
-    let in-range = c.before.before.before.before.before.in-range in
-    let if3 = c.before.before.before.before.if3 in
-    in-range.ensures.0 (not-false _ if3.false)
+cells-words-requires c κs = c.before.before.before.before.before.in-range.ensures.0 (not-false _ c.before.before.before.before.if3.false)
 
 returns-5 : tie.Need-returns-5
-returns-5 c =
-    let read-sizes = c.before.before.before.before.before.before.before.before.read-sizes in
-    says-no (λ h. omega (arith, h.cells, ap (λ (s : Sizes). s.pages) read-sizes.ensures))
+returns-5 c = says-no (λ h. omega (arith, h.cells, ap (λ (s : Sizes). s.pages) c.before.before.before.before.before.before.before.before.read-sizes.ensures))
 
 remember-words-requires : tie.Need-remember-words-requires
-remember-words-requires c κs =
-    let in-range = c.before.before.before.before.before.before.before.in-range in
-    let if3 = c.before.before.before.before.before.before.if3 in
-    in-range.ensures.0 (not-false _ if3.false)
+remember-words-requires c κs = c.before.before.before.before.before.before.before.in-range.ensures.0 (not-false _ c.before.before.before.before.before.before.if3.false)
 
 returns-6 : tie.Need-returns-6
-returns-6 c =
-    let read-sizes = c.before.before.before.before.before.before.before.before.before.before.read-sizes in
-    says-no (λ h. omega (arith, h.remember, ap (λ (s : Sizes). s.entries) read-sizes.ensures))
+returns-6 c = says-no (λ h. omega (arith, h.remember, ap (λ (s : Sizes). s.entries) c.before.before.before.before.before.before.before.before.before.before.read-sizes.ensures))
 
 tables-words-requires : tie.Need-tables-words-requires
-tables-words-requires c κs =
-    let in-range = c.before.before.before.before.before.before.before.before.before.in-range in
-    let if3 = c.before.before.before.before.before.before.before.before.if3 in
-    in-range.ensures.0 (not-false _ if3.false)
+tables-words-requires c κs = c.before.before.before.before.before.before.before.before.before.in-range.ensures.0 (not-false _ c.before.before.before.before.before.before.before.before.if3.false)
 
 returns-7 : tie.Need-returns-7
-returns-7 c =
-    let earlier = c.before.before.before.before.before.before in
-    let read-sizes = earlier.before.before.before.before.before.before.read-sizes in
-    says-no (λ h. omega (arith, h.tables, ap tables_words read-sizes.ensures))
+returns-7 c = says-no (λ h. omega (arith, h.tables, ap tables_words c.before.before.before.before.before.before.before.before.before.before.before.before.read-sizes.ensures))
 
 returns-8 : tie.Need-returns-8
 returns-8 c =
-    let after-in-range = c.before.before.before.before.before.before.before.before.before.before.before in
-    let read-sizes = after-in-range.before.read-sizes in
-    let in-range = after-in-range.in-range in
-    let if3 = c.before.before.before.before.before.before.before.before.before.before.if3 in
+    let read-sizes = c.before.before.before.before.before.before.before.before.before.before.before.before.read-sizes in
     says-yes (record {
       sizes = refl;
-      range = rw read-sizes.ensures at (in-range.ensures.0 (not-false _ if3.false));
+      range = rw read-sizes.ensures at (c.before.before.before.before.before.before.before.before.before.before.before.in-range.ensures.0 (not-false _ c.before.before.before.before.before.before.before.before.before.before.if3.false));
       same = omega (arith, ap (λ (s : Sizes). s.entries) read-sizes.ensures);
       cells = omega (arith, ap (λ (s : Sizes). s.pages) read-sizes.ensures);
       remember = omega (arith, ap (λ (s : Sizes). s.entries) read-sizes.ensures);

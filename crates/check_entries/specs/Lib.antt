@@ -1,2 +1,0 @@
--- What the loops over the entries need.
-pub mod Entries

@@ -1,2 +1,0 @@
--- What the pass over the cells that are not in use needs.
-pub mod ZeroCells

@@ -1,2 +1,0 @@
--- What a command's five words decode to.
-pub mod Decoding

@@ -1,2 +1,0 @@
--- A new object and its cell.
-pub mod Making

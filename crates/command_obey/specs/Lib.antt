@@ -1,2 +1,0 @@
--- One command, decoded and done.
-pub mod Obeys

@@ -1,2 +1,0 @@
--- A store and the remember table.
-pub mod Storing

@@ -1,3 +1,0 @@
--- The slots of the copies.
-pub mod RewriteCopies
-pub mod Settle

@@ -1,0 +1,76 @@
+-- The words below i are renumbered; nothing else is changed.
+use Prim.Native.Nat.{ℕ, ◌+◌, ◌-◌, ◌^◌, ◌≤◌, ◌<◌}
+use native.Mathlib.Omega.{arith}
+use lib.ListN.{length, get_or}
+use mathlib.Core.Path.{◌≡◌, refl, sym, subst}
+use Rattle.linking.specs.Shifting.{raised}
+use Rattle.linking.specs.Moving.{Renumbered, renumbered-none, renumbered-more}
+use Rattle.linking.proofs.moves.raise_numbers.Statement.{statement}
+use Rattle.linking.proofs.moves.raise_numbers.Tie as tie
+
+abbrev invariant-loop : tie.invariant-loop
+invariant-loop words₀ place to i₀ words i =
+    (i ≤ to) × (length words ≡ length words₀) × Renumbered (raised place) i words₀ words
+
+abbrev decreases-loop : tie.decreases-loop
+decreases-loop words₀ place to i₀ words i =
+    to - i
+
+loop-holds : tie.Need-loop-init invariant-loop decreases-loop
+loop-holds c = (omega arith, refl, renumbered-none _ _)
+
+mul-number-up : tie.Need-overflow-mul-number-up invariant-loop decreases-loop
+mul-number-up c = omega arith
+
+slice-read-number-up : tie.Need-slice-read-number-up invariant-loop decreases-loop
+slice-read-number-up c = omega arith
+
+number-up-requires : tie.Need-number-up-requires invariant-loop decreases-loop
+number-up-requires c κs =
+    let l = c.before.before.loop in
+    omega (arith, l.invariant.2.high l.i (omega arith), c.before.before.before.before.requires.1 l.i c.before.loop-test.true)
+
+mul_words : tie.Need-overflow-mul-words invariant-loop decreases-loop
+mul_words c = omega arith
+
+slice-write-words : tie.Need-slice-write-words invariant-loop decreases-loop
+slice-write-words c = omega arith
+
+add-i : tie.Need-overflow-add-i invariant-loop decreases-loop
+add-i c = omega arith
+
+loop-less : tie.Need-loop-smaller invariant-loop decreases-loop
+loop-less c = omega arith
+
+loop-again : tie.Need-loop-preserved invariant-loop decreases-loop
+loop-again c =
+    let l = c.before.before.before.loop in
+    let r = renumbered-more _ l.invariant.2 (omega arith) c.number_up.ensures in
+    (omega arith, r.long, r)
+
+same_length : tie.Need-same-length invariant-loop decreases-loop
+same_length c = c.before.loop.invariant.1
+
+returns : tie.Need-returns invariant-loop decreases-loop
+returns c =
+    let l = c.before.loop in
+    let e : l.i ≡ c.before.before.before.args.to = omega (arith, l.invariant.0) in
+    subst (λ (k : ℕ). Renumbered (raised c.before.before.before.args.place) k c.before.before.before.args.words.now l.words) e l.invariant.2
+
+pub raise-numbers-spec : {M : Type 1} → statement M
+raise-numbers-spec =
+    tie.close
+    (tie.spec
+    invariant-loop
+    decreases-loop
+    loop-holds
+    mul-number-up
+    slice-read-number-up
+    number-up-requires
+    mul_words
+    slice-write-words
+    add-i
+    loop-less
+    loop-again
+    same_length
+    returns)

@@ -1,0 +1,115 @@
+-- The reader's definitions, case by case, as the code tells the cases apart.
+use Rattle.std.specs.Prelude.{ℕ, suc, ◌+◌, ◌*◌, ◌-◌, ◌<◌, ◌≤◌, true, false, ◌≡◌, length, get_or, drop}
+use mathlib.Core.List.{List}
+use Rattle.std.proofs.Common.{sym, ◌∙◌, add-one, drop_of_length-le, drop-cons}
+use Rattle.std.proofs.Math.Path.{ap}
+use borrow.Author.Tests.{eq-eqb, ne_eqb, lt-ltb, le-ltb, le-leb, lt-leb}
+use Rattle.script.specs.declared.Line.{Line}
+use Rattle.script.specs.declared.Line.TheVariants.{Numbers, Malformed}
+use Rattle.script.specs.declared.Reader.{Reader}
+use Rattle.script.specs.declared.Step.{Step}
+use Rattle.script.specs.declared.Step.TheVariants.{More, Ended}
+use Rattle.script.specs.declared.Last.TheVariants.{Nothing, Unended}
+use Rattle.script.specs.declared.Scan.{Scan}
+use Rattle.script.specs.declared.Scan.TheVariants.{Open, Found}
+use Rattle.script.specs.Reading.{spoilt, completed, numbering, spaced, digited, next_of, end_of, step_of, fresh, last_of, scanned}
+
+module _ (r : Reader) where
+  -- ---- a space
+
+  pub spaced-bare : r.digits ≡ false → spaced r ≡ spoilt
+  unfolding spaced
+  spaced-bare d = simp d
+
+  pub spaced-full : r.digits ≡ true → 4 ≤ r.complete → spaced r ≡ spoilt
+  unfolding spaced
+  spaced-full d h = simp (d, le-ltb _ _ h)
+
+  pub spaced-number : r.digits ≡ true → r.complete < 4 → spaced r ≡ completed r
+  unfolding spaced
+  spaced-number d h = simp (d, lt-ltb _ _ h)
+
+  -- ---- a digit
+
+  pub digited-large : (d : ℕ) → 4_294_967_296 ≤ 10 * r.number + d → digited r d ≡ spoilt
+  unfolding digited
+  digited-large d h = simp (le-ltb _ _ h)
+
+  pub digited-small : (d : ℕ) → 10 * r.number + d < 4_294_967_296 → digited r d ≡ numbering r (10 * r.number + d)
+  unfolding digited
+  digited-small d h = simp (lt-ltb _ _ h)
+
+  -- ---- a byte
+
+  pub next-space : (b : ℕ) → b ≡ 32 → next_of r b ≡ spaced r
+  unfolding next_of
+  next-space b e = simp (eq-eqb _ _ e)
+
+  pub next-below : (b : ℕ) → (b ≡ 32 → ⊥) → b < 48 → next_of r b ≡ spoilt
+  unfolding next_of
+  next-below b n h = simp (ne_eqb _ _ n, lt-leb _ _ h)
+
+  pub next-above : (b : ℕ) → (b ≡ 32 → ⊥) → 48 ≤ b → 57 < b → next_of r b ≡ spoilt
+  unfolding next_of
+  next-above b n l h = simp (ne_eqb _ _ n, le-leb _ _ l, lt-leb _ _ h)
+
+  pub next-digit : (b : ℕ) → (b ≡ 32 → ⊥) → 48 ≤ b → b ≤ 57 → next_of r b ≡ digited r (b - 48)
+  unfolding next_of
+  next-digit b n l h = simp (ne_eqb _ _ n, le-leb _ _ l, le-leb _ _ h)
+
+  -- ---- the end of the line
+
+  pub end-malformed : r.malformed ≡ true → end_of r ≡ Malformed
+  unfolding end_of
+  end-malformed m = simp m
+
+  pub end-bare : r.malformed ≡ false → r.digits ≡ false → end_of r ≡ Malformed
+  unfolding end_of
+  end-bare m d = simp (m, d)
+
+  pub end_short : r.malformed ≡ false → r.digits ≡ true → (r.complete ≡ 4 → ⊥) → end_of r ≡ Malformed
+  unfolding end_of
+  end_short m d n = simp (m, d, ne_eqb _ _ n)
+
+  pub end-numbers : r.malformed ≡ false → r.digits ≡ true → r.complete ≡ 4
+      → end_of r ≡ Numbers r.first r.second r.third r.fourth r.number
+  unfolding end_of
+  end-numbers m d e = simp (m, d, eq-eqb _ _ e)
+
+  -- ---- the end of the input
+
+  pub last-fresh : r.malformed ≡ false → r.digits ≡ false → r.complete ≡ 0 → last_of r ≡ Nothing
+  unfolding last_of fresh
+  last-fresh m d e = simp (m, d, eq-eqb _ _ e)
+
+  pub last-malformed : r.malformed ≡ true → last_of r ≡ Unended (end_of r)
+  unfolding last_of fresh
+  last-malformed m = simp m
+
+  pub last_digits : r.malformed ≡ false → r.digits ≡ true → last_of r ≡ Unended (end_of r)
+  unfolding last_of fresh
+  last_digits m d = simp (m, d)
+
+  pub last-spaced : r.malformed ≡ false → r.digits ≡ false → (r.complete ≡ 0 → ⊥) → last_of r ≡ Unended (end_of r)
+  unfolding last_of fresh
+  last-spaced m d n = simp (m, d, ne_eqb _ _ n)
+
+-- ---- a buffer
+
+module _ (r : Reader) (text : List ℕ) (at : ℕ) where
+  pub scan-more : at < length text → (s : Reader) → step_of r (get_or text at 0) ≡ More s → scanned r (drop at text) at ≡ scanned s (drop (at + 1) text) (at + 1)
+  unfolding scanned
+  scan-more h s e =
+      ap (λ (l : List ℕ). scanned r l at) (drop-cons text at 0 h)
+      ∙ ap (λ (x : Step). elim x as (λ y. Scan) [ More s ↦ scanned s (drop (suc at) text) (at + 1) | Ended l ↦ Found l (at + 1) ]) e
+      ∙ ap (λ (n : ℕ). scanned s (drop n text) (at + 1)) (sym (add-one at))
+
+  pub scan-found : at < length text → (l : Line) → step_of r (get_or text at 0) ≡ Ended l → scanned r (drop at text) at ≡ Found l (at + 1)
+  unfolding scanned
+  scan-found h l e =
+      ap (λ (l : List ℕ). scanned r l at) (drop-cons text at 0 h)
+      ∙ ap (λ (x : Step). elim x as (λ y. Scan) [ More s ↦ scanned s (drop (suc at) text) (at + 1) | Ended l ↦ Found l (at + 1) ]) e
+
+  pub scan-open : length text ≤ at → scanned r (drop at text) at ≡ Open r
+  unfolding scanned
+  scan-open h = ap (λ (l : List ℕ). scanned r l at) (drop_of_length-le text h)

@@ -1,0 +1,68 @@
+// Blocks of commands, five words each, from the bytes of a buffer, and the answers to a block as text.
+ghost use Rattle.std.specs.Prelude.{◌≡◌, ◌+◌, ◌*◌, ◌<◌, ◌≤◌, length, drop};
+ghost use Rattle.script.specs.Blocks.{words_put, Took, answer_line, stacked};
+ghost use Rattle.script.specs.Writing.{Put};
+
+use crate::read::{start, step};
+use crate::write::put_two;
+use crate::{Filled, Line, Reader, Step};
+
+// The five words of a command.
+fn put_words(block: &mut [u32], at: usize, code: u32, thread: u32, a: u32, b: u32, c: u32)
+    requires { at + 5 ≤ length block.old }
+    ensures { block.new ≡ words_put block.old at code thread a b c }
+{
+    block[at] = code;
+    block[at + 1] = thread;
+    block[at + 2] = a;
+    block[at + 3] = b;
+    block[at + 4] = c;
+}
+
+// The commands of a buffer from a position on, behind the words that the block has already: up to the end of the buffer, until the
+// block has no room for another, or to the first malformed line.
+pub fn read_block(text: &[u8], from: usize, r: Reader, block: &mut [u32], used: usize) -> Filled
+    requires { used + 5 ≤ length block.old }
+    ensures { Took r (drop from text.now) from block.old used result block.new }
+{
+    let mut at = from;
+    let mut reader = r;
+    let mut n = used;
+    while at < text.len() {
+        let byte = text[at];
+        at += 1;
+        match step(reader, byte) {
+            Step::More(next) => {
+                reader = next;
+            }
+            Step::Ended(line) => match line {
+                Line::Numbers(code, thread, a, b, c) => {
+                    put_words(block, n, code, thread, a, b, c);
+                    n += 5;
+                    reader = start();
+                    if block.len() < n + 5 {
+                        return Filled::Full(at, n);
+                    }
+                }
+                Line::Malformed => {
+                    return Filled::Broken(n);
+                }
+            },
+        }
+    }
+    Filled::Done(reader, n)
+}
+
+// The answers to so many commands, a line each.
+pub fn put_answers(out: &mut [u8], at: usize, answers: &[u32], count: usize) -> usize
+    requires { (at + 22 * count ≤ length out.old) × (2 * count ≤ length answers.now) }
+    ensures { Put out.old at (stacked (answer_line answers.now) count) out.new result × (result ≤ at + 22 * count) }
+{
+    let mut end = at;
+    let mut i = 0;
+    while i < count {
+        end = put_two(out, end, answers[2 * i], answers[2 * i + 1]);
+        i += 1;
+    }
+    end
+}

@@ -1,3 +1,0 @@
--- What reads and writes moved.
-pub mod Transfers
-pub mod TransfersLaws

@@ -1,0 +1,46 @@
+// Every page is whole, a region has at most one partly filled page, and object counts agree: one pass over the pages, then one over the
+// regions.
+ghost use Rattle.std.specs.Prelude.{length};
+ghost use Rattle.lists.specs.Says.{Says};
+ghost use Rattle.layout.specs.Places.{Room};
+ghost use Rattle.whole.specs.Regions.{RegionsWhole};
+
+use crate::pages::page_whole;
+use rules::Sizes;
+
+// There are at most 1 + 16 × 8 regions, numbered from 1.
+pub fn regions_whole(p: Sizes, tables: &[u32]) -> bool
+    requires { Room p (length tables.now) }
+    ensures { Says result (RegionsWhole p tables.now) }
+{
+    let pages = p.pages;
+    let mut objects: [usize; 130] = [0; 130];
+    let mut partly = [false; 130];
+    let mut page = 0;
+    while page < pages {
+        if !page_whole(p, tables, page) {
+            return false;
+        }
+        let owner = layout::wide(layout::tables::owner(p, tables, page));
+        if owner != 0 {
+            let used = layout::wide(layout::tables::used(p, tables, page));
+            if used < layout::cells::CELLS {
+                if partly[owner] {
+                    return false;
+                }
+                partly[owner] = true;
+            }
+            objects[owner] += used;
+        }
+        page += 1;
+    }
+    let last = layout::regions::last_region(p);
+    let mut g = 1;
+    while g <= last {
+        if layout::wide(layout::tables::count(p, tables, g)) != objects[g] {
+            return false;
+        }
+        g += 1;
+    }
+    true
+}
