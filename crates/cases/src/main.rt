@@ -1,4 +1,6 @@
 // Runs the program on each stored script that its arguments name, and writes the name before what it prints.
+#![tactic(auto)]
+
 use libc::STDOUT_FILENO;
 
 fn run_case(path: &[u8]) {

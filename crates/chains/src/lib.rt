@@ -1,5 +1,7 @@
 // The chains of the remember table by region (02, W6): they are written anew, and compared with lent words. `last` is the last region; there are at
 // most 1 + 16 × 8.
+#![tactic(auto)]
+
 ghost use Rattle.std.specs.Prelude.{◌≡◌, ◌++◌, Bool, true, ℕ, ◌+◌, ◌≤◌, ◌<◌, length, get_or, take, drop};
 ghost use Rattle.lists.specs.Says.{Says};
 ghost use Rattle.layout.specs.Places.{chains_words};

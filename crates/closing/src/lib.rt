@@ -1,4 +1,6 @@
 // The end of the input (01, "The program"): a line that has begun ends, and then comes the report or `sizes`.
+#![tactic(auto)]
+
 ghost use Rattle.std.specs.Prelude.{ℕ, ◌+◌, ◌<◌, ◌≤◌, List, length};
 ghost use Rattle.promises.specs.Slices.{slices};
 ghost use Rattle.script.specs.Writing.{Put};

@@ -1,6 +1,8 @@
 // The collection of the control space (code 11; 02, W5; 003, Algorithm 4): mark what it keeps; list its pages; number the survivors, whose new places
 // stand in word 1 of their cells then; rewrite the variables and the slots of all cells in use by these; slide the survivors to their places; give back
 // the cells and the pages that they leave; count; and tell the remember table anew, with its chains. It takes no page and no entry more, so nothing is refused.
+#![tactic(auto)]
+
 ghost use Rattle.std.specs.Prelude.{◌≡◌, List, ℕ, ◌-◌, ◌<◌, ◌≤◌, length};
 ghost use Rattle.rules.specs.Regions.{control};
 ghost use Rattle.rules.specs.Terms.{done};

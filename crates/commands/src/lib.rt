@@ -1,5 +1,7 @@
 // Decoding, and the nine commands that neither end an epoch nor collect, on whole tables. Each promises `DidHere`: the rules' answer for the
 // heap that the words made, and words that stand for the heap that the rules leave.
+#![tactic(auto)]
+
 use rules::Answer;
 
 pub mod decode;

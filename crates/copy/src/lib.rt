@@ -1,4 +1,6 @@
 // Place and copy: targets in rising level, survivors in rising cell number, each to the cell that a new object there would take.
+#![tactic(auto)]
+
 ghost use Rattle.std.specs.Prelude.{◌≢◌, ◌≡◌, ℕ, ◌<◌, ◌≤◌, length, get_or};
 ghost use Rattle.lists.specs.Part.{Rises, Off};
 ghost use Rattle.rules.specs.Regions.{region_at, regions};

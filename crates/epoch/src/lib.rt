@@ -1,5 +1,7 @@
 // The end of an epoch (code 2): mark what survives; where nothing does, list the region's pages, take its slots out of the remember table and free
 // them; else list its pages, count over them, refuse and undo the marking where pages or entries are too few, or copy, rewrite, remember and release.
+#![tactic(auto)]
+
 ghost use Rattle.std.specs.Prelude.{◌≡◌, List, ℕ, ◌<◌};
 ghost use Rattle.layout.specs.Words.{words};
 ghost use Rattle.chains.specs.Chains.{ChainsWhole, with_chains};

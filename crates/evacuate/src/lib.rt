@@ -1,6 +1,8 @@
 // The end of an epoch once its survivors are marked: word 1 of each cell of the ending region is the region that its object goes to, 0 if
 // it is freed, and its bit in the page's mark word says which is not 0. The stages are crates of their own: copy, settle, release; what is
 // freed is known by the survivors, which census counts.
+#![tactic(auto)]
+
 ghost use Rattle.std.specs.Prelude.{◌≡◌, List, ℕ, ◌<◌, ◌≤◌, length, get_or};
 ghost use Rattle.lists.specs.Part.{Lists};
 ghost use Rattle.rules.specs.Regions.{regions};

@@ -1,4 +1,6 @@
 // The epoch heap: run, the commands of a block, in order, on four lent slices.
+#![tactic(auto)]
+
 ghost use Rattle.std.specs.Prelude.{◌≡◌, ◌+◌, ◌*◌, ◌<◌, ◌≤◌, length};
 ghost use Rattle.layout.specs.Words.{words};
 ghost use Rattle.chains.specs.Chains.{ChainsWhole, with_chains};

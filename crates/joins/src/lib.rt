@@ -1,4 +1,6 @@
 // The join of two regions (003, 2.2), by its four cases (02, W4).
+#![tactic(auto)]
+
 ghost use Rattle.std.specs.Prelude.{◌≡◌, ◌≤◌};
 ghost use Rattle.rules.specs.Regions as regions;
 

@@ -1,6 +1,8 @@
 // What a collection of the control space keeps (02, W5): every object of region 1 that a holder leads to by a chain of slots inside
 // region 1. Holders are all variables and all slots of objects in other regions. By the rules this is the end of region 1 into itself, so
 // what is kept is marked as the survivors of an end are.
+#![tactic(auto)]
+
 ghost use Rattle.std.specs.Prelude.{◌≡◌, List, ℕ, ◌<◌, ◌≤◌, length};
 ghost use Rattle.layout.specs.Places.{Room, used_of, cells_words, page_words};
 ghost use Rattle.layout.specs.Cells.{page_cells};

@@ -1,4 +1,6 @@
 // What a line of a script does to the lent tables (01, "The program"): the first one prepares them; and the report as lines of text.
+#![tactic(auto)]
+
 ghost use Rattle.std.specs.Prelude.{ℕ, ◌+◌, ◌≤◌, List, length};
 ghost use Rattle.rules.specs.declared.Sizes.{Sizes};
 ghost use Rattle.rules.specs.Rules.{Regioned};

@@ -1,6 +1,8 @@
 // The worst case of an end: one list of many objects, linked backwards and held by a variable, so that all of them survive. A line for
 // each list: its objects, the two words that the end answers, and the links followed in a walk of the list afterwards. There are 1,024
 // pages: the 8,176 objects of the first list, 511 pages, are moved; the 16,000 of the second, 1,000 pages, are too many for 24 free pages.
+#![tactic(auto)]
+
 ghost use Rattle.std.specs.Prelude.{◌+◌, ◌*◌, ◌<◌, ◌≤◌, ◌≡◌, length};
 ghost use Rattle.promises.specs.Slices.{slices};
 ghost use Rattle.long_list.specs.Repeated.{Filled, is_answer, answers_of, Repeated, Obeyed};

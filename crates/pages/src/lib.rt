@@ -1,5 +1,7 @@
 // The pages of a region, and the cell that an object gets: the first unused cell of its region's partly filled page, else the first cell
 // of the highest-numbered free page (02, W3).
+#![tactic(auto)]
+
 ghost use Rattle.std.specs.Prelude.{◌≡◌, ◌+◌, ◌^◌, ◌<◌, ◌≤◌, min, length};
 ghost use Rattle.lists.specs.Says.{Says};
 ghost use Rattle.lists.specs.Part.{Lists};

@@ -1,4 +1,6 @@
 // prepare: the words of an unused heap in four lent slices.
+#![tactic(auto)]
+
 ghost use Rattle.std.specs.Prelude.{◌≡◌, List, ℕ, length};
 ghost use Rattle.promises.specs.Slices.{slices};
 ghost use Rattle.promises.specs.Promises.{PrepareAsked, Prepared};

@@ -1,1 +1,2 @@
 // What the program prints for every input (01, "The program"; 02, W2), by the rules alone; it stands in specs/.
+#![tactic(auto)]

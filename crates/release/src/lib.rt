@@ -1,5 +1,7 @@
 // Release: the cells of the ending region become zero, its pages free, its count 0, the depth of its thread one less, and the objects that are
 // freed are counted.
+#![tactic(auto)]
+
 ghost use Rattle.std.specs.Prelude.{◌≡◌, ◌+◌, ◌<◌, ◌≤◌, length, slice_set};
 ghost use Rattle.lists.specs.Part.{Lists, Rises};
 ghost use Rattle.layout.specs.Places.{Room, cells_words, owner_of, depth_of, freed_at, freed_of};

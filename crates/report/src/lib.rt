@@ -1,5 +1,7 @@
 // The report (01; 02, W2): a row for the control space and each open region, by region number, then free pages and crossing slots, then
 // objects made, objects freed and the total of live objects. It reads the tables and changes none of them.
+#![tactic(auto)]
+
 ghost use Rattle.std.specs.Prelude.{◌≡◌, ◌+◌, ◌<◌, ◌≤◌, length, slice_index_or};
 ghost use Rattle.layout.specs.Places.{entries_used, made_of, freed_of};
 ghost use Rattle.layout.specs.Words.{depths_at};

@@ -1,5 +1,7 @@
 // One pass over all slots, in rising position: page by page, the cells in use of each, the references of each. With it references go by the
 // forward references wherever they stand (cells), and the remember table is told anew.
+#![tactic(auto)]
+
 pub mod cells;
 
 ghost use Rattle.std.specs.Prelude.{◌+◌, ◌<◌, ◌≤◌, length};

@@ -1,5 +1,7 @@
 // The text that the program reads and the text that it prints (01, "The program"): from bytes to the numbers of a line, and back.
 // It knows nothing of the heap.
+#![tactic(auto)]
+
 pub mod blocks;
 pub mod read;
 pub mod write;

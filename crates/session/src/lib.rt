@@ -1,5 +1,7 @@
 // The program between its input and its output (01, "The program"): it is fed the input piece by piece, and writes what is to be printed
 // into a lent buffer. Nothing here reads or writes a file.
+#![tactic(auto)]
+
 ghost use Rattle.std.specs.Prelude.{◌+◌, ◌<◌, ◌≤◌, length};
 ghost use Rattle.promises.specs.Slices.{slices};
 ghost use Rattle.printed.specs.Printed.{opening};

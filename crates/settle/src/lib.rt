@@ -1,6 +1,8 @@
 // Settle, after the copying: references to cells that moved go by the forward references, in the remembered slots, the variables and the
 // copies' own slots, and the remember table follows, with its chains. The copies' slots are gone over once: each becomes what it is to be, and
 // if it crosses then, its entry comes.
+#![tactic(auto)]
+
 pub mod entries;
 pub mod renew;
 pub mod rewrite;

@@ -1,4 +1,6 @@
 // Where the program stands between two pieces of its input (01, "The program"), and how it goes on after a block of commands.
+#![tactic(auto)]
+
 ghost use Rattle.std.specs.Prelude.{◌≡◌, ◌+◌, ◌/◌, ◌<◌, ◌≤◌, not, length};
 ghost use Rattle.script.specs.Reading.{started, fresh};
 ghost use Rattle.script.specs.BlocksLaws.{used_in};

@@ -1,5 +1,7 @@
 // The program's loop: it reads a script from a file, to its end, and writes to standard output. A read or a write that fails is told on
 // standard error and ends it.
+#![tactic(auto)]
+
 ghost use Rattle.std.specs.Prelude.{◌+◌, ◌<◌, ◌≤◌, ◌≡◌, length};
 ghost use Rattle.promises.specs.Slices.{slices};
 ghost use Rattle.printed.specs.Pieces.{Machine};

@@ -1,5 +1,7 @@
 // The check that lent words are whole tables (01, "Sizes and tables"; 02, W1 and W2). Any words may be handed in. It only reads, looks at no word
 // past the three lengths, and ends at the first word or cell that breaks a condition.
+#![tactic(auto)]
+
 ghost use Rattle.std.specs.Prelude.{length};
 ghost use Rattle.lists.specs.Says.{Says};
 ghost use Rattle.layout.specs.Places.{Room};

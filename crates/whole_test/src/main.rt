@@ -1,5 +1,7 @@
 // Runs the check of lent tables on fresh tables, on tables of a heap in use and on damaged ones, one damage or more for each condition
 // of 01's paragraph on whole tables and of 02, W1 and W2, and writes a line for each.
+#![tactic(auto)]
+
 ghost use Rattle.std.specs.Prelude.{◌/◌, ◌≡◌, length, set};
 ghost use Rattle.whole_test.specs.Changed.{changed};
 
