@@ -37,6 +37,7 @@ module _ {A : Type 0} where
   set_cases (x ∷ l) (suc i) (suc j) a d = set_cases l i j a d
 
   in-set : (l : List A) (i : ℕ) (a z : A) → In z (set l i a) → (z ≡ a) ⊎ In z l
+  in-set [] i a z x' = elim x' [ ]
   in-set (x ∷ l) zero a z (inl e) = inl e
   in-set (x ∷ l) zero a z (inr k) = inr (inr k)
   in-set (x ∷ l) (suc i) a z (inl e) = inr (inl e)
@@ -47,6 +48,7 @@ module _ {A : Type 0} where
       go (inr j) = inr (inr j)
 
 no-refs : (b y : ℕ) → In (suc y) (replicate b 0) → ⊥
+no-refs zero y x' = elim x' [ ]
 no-refs (suc b) y (inl e) = omega arith
 no-refs (suc b) y (inr i) = no-refs b y i
 
