@@ -12,7 +12,7 @@ pub mod store;
 pub mod variables;
 
 // A command whose operands are in range, its thread first; or the number, 6, 7 or 8, of the question that says no.
-#[derive(Drop)]
+#[derive(Clone, Copy)]
 pub enum Decoded {
     Start(usize),
     End(u32),
@@ -30,7 +30,7 @@ pub enum Decoded {
 
 // The answer to a command; or the thread of an end or of a collection, which are left to the caller. The thread is a u32 as the answer's words
 // are: a usize beside them would keep every answer in memory, written as two words and read back as one.
-#[derive(Drop)]
+#[derive(Clone, Copy)]
 pub enum Obeyed {
     Answered(Answer),
     Ends(u32),

@@ -16,7 +16,7 @@ pub mod lent;
 
 // A region's row; the control space has thread 0 and level 0.
 #[repr(C)]
-#[derive(Drop)]
+#[derive(Clone, Copy)]
 pub struct Row {
     pub thread: u32,
     pub level: u32,
@@ -26,7 +26,7 @@ pub struct Row {
 
 // 0 if the rows were written, else the number of the question that said no; how many rows were written; and the figures.
 #[repr(C)]
-#[derive(Drop)]
+#[derive(Clone, Copy)]
 pub struct Reported {
     pub number: u32,
     pub rows: u32,

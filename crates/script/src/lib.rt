@@ -7,7 +7,7 @@ pub mod read;
 pub mod write;
 
 // What a line says: five numbers, or it is malformed.
-#[derive(Drop)]
+#[derive(Clone, Copy)]
 pub enum Line {
     Numbers(u32, u32, u32, u32, u32),
     Malformed,
@@ -15,7 +15,7 @@ pub enum Line {
 
 // A line of which some bytes are read, whatever its length. `first` to `fourth` are the last four of its complete numbers, `number` is
 // the one after them as far as it is read, and `digits` says whether it has a digit yet.
-#[derive(Drop)]
+#[derive(Clone, Copy)]
 pub struct Reader {
     first: u32,
     second: u32,
@@ -28,21 +28,21 @@ pub struct Reader {
 }
 
 // What one more byte brings: the line goes on, or it has ended and the next byte begins another.
-#[derive(Drop)]
+#[derive(Clone, Copy)]
 pub enum Step {
     More(Reader),
     Ended(Line),
 }
 
 // What the end of the input brings: no line has begun, or one ends without its line feed.
-#[derive(Drop)]
+#[derive(Clone, Copy)]
 pub enum Last {
     Nothing,
     Unended(Line),
 }
 
 // What the rest of a buffer brings: it ends inside a line, or a line ends in it, with the position after its line feed.
-#[derive(Drop)]
+#[derive(Clone, Copy)]
 pub enum Scan {
     Open(Reader),
     Found(Line, usize),
@@ -50,7 +50,7 @@ pub enum Scan {
 
 // What the rest of a buffer brings to a block of commands: all of it is read and the last line goes on, the block is full after the line
 // that ends before this position, or a line is malformed. Each has the number of words that the block holds then.
-#[derive(Drop)]
+#[derive(Clone, Copy)]
 pub enum Filled {
     Done(Reader, usize),
     Full(usize, usize),

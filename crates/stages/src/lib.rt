@@ -11,7 +11,7 @@ use script::{Filled, Last, Reader};
 
 // Where the program stands between two pieces of its input: it waits for the sizes, or the line of this number is the next, or a line
 // has stopped it. A line may have begun.
-#[derive(Drop)]
+#[derive(Clone, Copy)]
 pub enum Stage {
     Opening(Reader),
     Running(Reader, u64),
@@ -19,7 +19,7 @@ pub enum Stage {
 }
 
 // The stage after a piece, and how many bytes are to be printed.
-#[derive(Drop)]
+#[derive(Clone, Copy)]
 pub struct Fed {
     pub stage: Stage,
     pub length: usize,

@@ -13,21 +13,21 @@ use libc::{STDERR_FILENO, STDOUT_FILENO};
 use stages::{Fed, Stage};
 
 // A piece of the input: so many bytes, none at its end, or the read failed.
-#[derive(Drop)]
+#[derive(Clone, Copy)]
 pub enum Piece {
     Bytes(usize),
     Unread,
 }
 
 // How many bytes were handed to the write, and whether it took them all.
-#[derive(Drop)]
+#[derive(Clone, Copy)]
 pub struct Printed {
     pub length: usize,
     pub taken: bool,
 }
 
 // How a turn ends: the input goes on, nothing more is to be printed, or a read or a write failed.
-#[derive(Drop)]
+#[derive(Clone, Copy)]
 pub enum Ending {
     More,
     Finished,
@@ -36,7 +36,7 @@ pub enum Ending {
 }
 
 // What a turn did: how it ended, the stage after it, the bytes of the piece that were fed and those that were handed to the write.
-#[derive(Drop)]
+#[derive(Clone, Copy)]
 pub struct Outcome {
     pub ending: Ending,
     pub stage: Stage,
@@ -45,7 +45,7 @@ pub struct Outcome {
 }
 
 // How the loop ended, and how many bytes were fed and handed to the write in all.
-#[derive(Drop)]
+#[derive(Clone, Copy)]
 pub struct Served {
     pub ending: Ending,
     pub read: u64,
