@@ -1,0 +1,41 @@
+use Rattle.std.proofs.Common.{ℕ, arith, ◌≡◌, refl, subst}
+use Rattle.remember.specs.Shifts.{ShiftedUp, raised-none, raised-more}
+use Rattle.remember.proofs.shift.raise.Goals as goal
+
+pub loop-i-init : goal.loop-i-init
+loop-i-init c = (omega arith, omega arith, refl, raised-none _ _)
+
+pub overflow_sub-words : goal.overflow_sub-words
+overflow_sub-words c = omega arith
+
+pub offset_bounds-words-i : goal.offset_bounds-words-i
+offset_bounds-words-i c = omega arith
+
+pub bounds-words-i : goal.bounds-words-i
+bounds-words-i c = omega arith
+
+pub offset_bounds-words-i-in-loop-i : goal.offset_bounds-words-i-in-loop-i
+offset_bounds-words-i-in-loop-i c = omega arith
+
+pub bounds-words-i-in-loop-i : goal.bounds-words-i-in-loop-i
+bounds-words-i-in-loop-i c = omega arith
+
+pub overflow_sub-i : goal.overflow_sub-i
+overflow_sub-i c = omega arith
+
+pub loop-i-smaller : goal.loop-i-smaller
+loop-i-smaller c = omega arith
+
+pub loop-i-preserved : goal.loop-i-preserved
+loop-i-preserved c =
+    let r = raised-more c.loop-i.invariant.3 (omega arith) c.loop-i.invariant.1 c.requires.1 in
+    (omega arith, omega arith, r.long, r)
+
+pub shape_of-words : goal.shape_of-words
+shape_of-words c = c.loop-i.invariant.2
+
+pub returns : goal.returns
+returns c =
+    let l = c.loop-i in
+    let e : l.i ≡ c.args.from = omega (arith, l.invariant.0) in
+    subst (λ (k : ℕ). ShiftedUp k c.args.to c.args.words.now l.words) e l.invariant.3
