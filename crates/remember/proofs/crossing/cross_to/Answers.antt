@@ -15,7 +15,7 @@ pub returns-then-not-is_reference : goal.returns-then-not-is_reference
 returns-then-not-is_reference c =
     let args = c.args in
     let cell-of = c.cell_of-cell in
-    cross-other args.p args.cells.now args.tables.now args.at cell-of.result cell-of.ensures c.word_of.ensures c.head-head.ensures (said-no _ c.is_reference.ensures (not-true _ c.if-not-is_reference.true))
+    cross-other args.p args.cells.now args.tables.now args.at cell-of.result cell-of.ensures c.word_of.ensures c.head-head.ensures (said-no _ c.is_reference.ensures c.if-not-is_reference.true)
 
 pub returns : goal.returns
 returns c =
@@ -32,4 +32,4 @@ returns c =
     let args = c.args in
     let cell-of = c.cell_of-cell in
     cross-read args.p args.cells.now args.tables.now args.at cell-of.result cell-of.ensures page-of.ensures place_of.ensures (wide.ensures ∙ used.ensures) word_of.ensures head.ensures
-    owner.ensures c.region_of.ensures c.other_region.ensures c.requires.at_bound if1.false (is-reference.ensures.0 (not-false _ if2.false))
+    owner.ensures c.region_of.ensures c.other_region.ensures c.requires.at_bound if1.false (is-reference.ensures.0 if2.false)

@@ -22,7 +22,7 @@ loop-i-preserved c =
     let a = c.args in
     let l = c.loop-i in
     let put = c.put_entry in
-    let h : Cleared a.entries a.from (l.i + 1) a.remember.now put.new.1.0 =
+    let h : Cleared a.entries a.from (l.i + 1) a.remember.now put.new.remember =
     subst (λ (X : List ℕ). Cleared a.entries a.from (l.i + 1) a.remember.now X) (sym put.ensures)
     (clear_next l.invariant.0 (omega (arith, c.requires.to_le_entries)) (omega (arith, c.requires.entries_in_bounds)) l.invariant.3) in
     (omega arith, omega arith, h.size, h)

@@ -1,7 +1,8 @@
-use Rattle.std.proofs.Common.{ℕ, ◌+◌, ◌-◌, ◌/◌, ◌≤◌, ⊎_elim, ◌≡◌, sym, subst, arith}
+use Rattle.std.proofs.Common.{ℕ, ◌+◌, ◌-◌, ◌/◌, ◌≤◌, ◌≡◌, sym, subst, arith}
 use Rattle.layout.specs.Places.{entries_used}
 use Rattle.remember.specs.Finding.{Between, all-between, halved, turn_up, turn-down, last_up, last-down}
 use Rattle.remember.proofs.entries.find_entry.Goals as goal
+use Rattle.remember.proofs.entries.find_entry.Goals.{then-slot-at, else-slot-at}
 
 pub used-requires : goal.used-requires
 used-requires c = omega (arith, c.requires.table.long)
@@ -39,8 +40,8 @@ loop-size-preserved c =
     let l = c.loop-size in
     let P : ℕ → Type 0 = (λ k. (k + (l.size - l.size / 2) ≤ entries_used c.args.remember.now) × Between c.args.remember.now c.args.at k (k + (l.size - l.size / 2))) in
     let h : P c.if-slot-at.low =
-    ⊎_elim (λ w. subst P (sym w.1) (omega (arith, l.invariant.1), turn_up c.requires.table c.args.at l.invariant.2 c.loop-size-test.true c.slot.ensures w.0.taken))
-    (λ w. subst P (sym w.1) (omega (arith, l.invariant.1), turn-down c.requires.table c.args.at l.invariant.2 c.loop-size-test.true c.slot.ensures w.0.left)) c.if-slot-at.branch in
+    elim c.if-slot-at.branch [ then-slot-at w ↦ subst P (sym w.low-is) (omega (arith, l.invariant.1), turn_up c.requires.table c.args.at l.invariant.2 c.loop-size-test.true c.slot.ensures w.if-slot-at.true)
+    | else-slot-at w ↦ subst P (sym w.low-is) (omega (arith, l.invariant.1), turn-down c.requires.table c.args.at l.invariant.2 c.loop-size-test.true c.slot.ensures w.if-slot-at.false) ] in
     (omega (arith, c.loop-size-test.true), h.0, h.1)
 
 pub slot-requires-2 : goal.slot-requires-2

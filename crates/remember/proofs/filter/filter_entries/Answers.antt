@@ -6,6 +6,7 @@ use Rattle.remember.specs.Stretches.{Added}
 use Rattle.remember.specs.Filtered.{Stays, Behind, filter-start, filter-keep, filter-drop, read-slot, read-region, behind-start, behind-keep, behind-drop}
 use Rattle.remember.specs.Staying.{new_region}
 use Rattle.remember.proofs.filter.filter_entries.Goals as goal
+use Rattle.remember.proofs.filter.filter_entries.Goals.{then-new-ne0, else-new-ne0}
 
 pub loop-i-init : goal.loop-i-init
 loop-i-init c =
@@ -72,13 +73,11 @@ loop-i-preserved c =
     v.ensures ∙ ap₂ (λ (x y : ℕ). new_region a.p a.region W T x y) (c.wide.ensures ∙ slot.ensures) c.region-old.ensures in
     let P : List ℕ → ℕ → Type 0 = (λ X y. (y ≤ l.i + 1) × (length X ≡ length M) × Added n (Stays (new_region a.p a.region W T) n M (l.i + 1)) 0 y M X × Behind a.used (l.i + 1) y M X) in
     let h : P c.if-new-ne0.remember c.if-new-ne0.j =
-    ⊎_elim
-    (λ z.
-    subst₂ P (sym (z.5 ∙ z.2.ensures)) (sym z.6)
-    (let k = filter-keep few l.invariant.1 l.invariant.3 c.requires.entries.long (λ k u. rising-once M a.used c.requires.entries.rising k l.i u lt) slot.result v.result slot.ensures ev z.0.taken in (omega (arith, l.invariant.1), k.size, k, behind-keep l.invariant.4 lt l.invariant.1 c.requires.entries.few (omega (arith, c.requires.entries.long, l.invariant.2)) c.requires.entries.rising slot.result v.result (slot.ensures ∙ read-slot few l.invariant.1 l.invariant.3))))
-    (λ z. subst₂ P (sym z.1) (sym z.2)
-    (let k = filter-drop few l.invariant.1 l.invariant.3 v.result ev z.0.left in (omega (arith, l.invariant.1), k.size, k, behind-drop l.invariant.4)))
-    c.if-new-ne0.branch in
+    elim c.if-new-ne0.branch [
+      | then-new-ne0 z ↦ subst₂ P (sym (z.remember-is ∙ z.put_entry.ensures)) (sym z.j-is)
+    (let k = filter-keep few l.invariant.1 l.invariant.3 c.requires.entries.long (λ k u. rising-once M a.used c.requires.entries.rising k l.i u lt) slot.result v.result slot.ensures ev z.if-new-ne0.true in (omega (arith, l.invariant.1), k.size, k, behind-keep l.invariant.4 lt l.invariant.1 c.requires.entries.few (omega (arith, c.requires.entries.long, l.invariant.2)) c.requires.entries.rising slot.result v.result (slot.ensures ∙ read-slot few l.invariant.1 l.invariant.3)))
+      | else-new-ne0 z ↦ subst₂ P (sym z.remember-is) (sym z.j-is)
+    (let k = filter-drop few l.invariant.1 l.invariant.3 v.result ev z.if-new-ne0.false in (omega (arith, l.invariant.1), k.size, k, behind-drop l.invariant.4)) ] in
     (omega (arith, lt), h.0, h.1, h.2, h.3)
 
 pub shape_of-remember : goal.shape_of-remember
