@@ -57,6 +57,7 @@ chain-names R N es f few same n enough r l =
 -- each is the place of an entry of the region, and each such place is there
 pub places-right : (g k : ℕ) (es : List Entry) (x : ℕ) → In x (places_of g k es) → (i : ℕ) × (i < length es) × (x ≡ k + i) × (nth_region es i ≡ g)
 unfolding places_of
+places-right g k [] x h = elim h [ ]
 places-right g k (e ∷ es) x h = go (ℕ_discrete e.region g) h (λ h. let r = places-right g (suc k) es x h in (suc r.0, omega (arith, r.1), omega (arith, r.2), r.3))
   where
     go : Dec (e.region ≡ g) → In x (cond (eqb e.region g) (k ∷ places_of g (suc k) es) (places_of g (suc k) es))
