@@ -39,13 +39,13 @@ cells_whole-requires c = record {
       room = c.requires.room;
       p_in_bounds = c.requires.sized.cells;
       pages_checked = (c.regions_whole.ensures.0 c.if-not-regions_whole.false).pages;
-      entries_bound = omega (arith, c.wide-used.ensures, c.used.ensures, c.shared_slice_known-2-1.given 1);
+      entries_bound = omega (arith, c.wide-used.ensures, c.used.ensures, c.type_inv.remember 1);
     }
 
 pub returns-then-not-cells_whole : goal.returns-then-not-cells_whole
 returns-then-not-cells_whole c =
     let args = c.args in
-    says-no (λ h. said-no _ c.cells_Whole.ensures c.if-not-cells_whole.true (subst (λ (n : ℕ). CellsCross args.p args.cells.now args.tables.now n) (sym (c.wide-used.ensures ∙ c.used.ensures)) (cells_of h)))
+    says-no (λ h. said-no _ c.cells_whole.ensures c.if-not-cells_whole.true (subst (λ (n : ℕ). CellsCross args.p args.cells.now args.tables.now n) (sym (c.wide-used.ensures ∙ c.used.ensures)) (cells_of h)))
 
 pub unused_whole-requires : goal.unused_whole-requires
 unused_whole-requires c = record { room = c.requires.room; p_in_bounds = c.requires.sized.cells }
@@ -67,5 +67,5 @@ pub returns : goal.returns
 returns c =
     let args = c.args in
     says-yes (whole_of {w = words args.cells.now args.remember.now args.tables.now} c.requires.sized (c.depths_whole.ensures.0 c.if-not-depths_whole.false) (c.regions_whole.ensures.0 c.if-not-regions_whole.false) (c.counters_whole.ensures.0 c.if-not-counters_whole.false) (c.variables_whole.ensures.0 c.if-not-variables_whole.false)
-    (subst (λ (n : ℕ). CellsCross args.p args.cells.now args.tables.now n) (c.wide-used.ensures ∙ c.used.ensures) (c.cells_Whole.ensures.0 c.if-not-cells_whole.false))
+    (subst (λ (n : ℕ). CellsCross args.p args.cells.now args.tables.now n) (c.wide-used.ensures ∙ c.used.ensures) (c.cells_whole.ensures.0 c.if-not-cells_whole.false))
     (c.unused_whole.ensures.0 c.if-not-unused_whole.false) (c.entries_whole.ensures.0 c.if-not-entries_whole.false))

@@ -14,7 +14,7 @@ read_sizes-p-requires c = sizes-there (c.sizes_whole.ensures.0 c.if-not-sizes_wh
 pub placed_whole-requires : goal.placed_whole-requires
 placed_whole-requires c =
     let args = c.args in
-    let w = c.sizes_whole.ensures.0 c.if-not-sizes_whole.false in rw c.read_sizes-p.ensures (room (sizes_at args.tables.now) (length args.tables.now) w.range w.tables (omega arith), w)
+    let w = c.sizes_whole.ensures.0 c.if-not-sizes_whole.false in rw c.read_sizes-p.ensures (record { room = room (sizes_at args.tables.now) (length args.tables.now) w.range w.tables (omega arith); sized = w })
 
 pub returns-then-not-placed_whole : goal.returns-then-not-placed_whole
 returns-then-not-placed_whole c = says-no (λ h. said-no _ c.placed_whole.ensures c.if-not-placed_whole.true (rw c.read_sizes-p.ensures h))

@@ -10,6 +10,7 @@ use Rattle.promises.specs.Whole.{IsRef}
 use Rattle.whole.specs.Cells.{CellWhole, all-pages, reached, object-whole, zero_rest, field-is-ref}
 use Rattle.whole.specs.Crossing.{crossing_to, to_fields, to-next-cell, to-next-page, crosses-at, crosses-yes, crosses-no, too_many, says-cross}
 use Rattle.whole.proofs.cells.cells_whole.Goals as goal
+use Rattle.whole.proofs.cells.cells_whole.Goals.{then-cross-gt0+else-entries-n, else-cross-gt0, else-pages-test, then-pages-test+then-cells-test+then-all-gt-FIELDS, then-pages-test+then-cells-test+else-all-gt-FIELDS+then-work-ne0, then-pages-test+then-cells-test+else-all-gt-FIELDS+else-work-ne0+then-fields-test+then-not-is_ref, then-pages-test+then-cells-test+else-all-gt-FIELDS+else-work-ne0+then-fields-test+else-not-is_ref+then-cross-gt0+then-entries-n, then-pages-test+then-cells-test+else-all-gt-FIELDS+else-work-ne0+else-fields-test+then-not-zero_from}
 
 pub pages-init : goal.pages-init
 pages-init c = (refl, omega arith, λ k l. absurd (not-suc-le-zero l), omega arith, refl)
@@ -88,11 +89,11 @@ fields-preserved c =
       fields.invariant.2,
       fields.invariant.3,
       below_more _ _ fields.invariant.4 (subst (IsRef args.p args.cells.now args.tables.now) field.ensures (c.is_ref.ensures.0 c.if-not-is_ref.false)),
-      ⊎_elim (λ w. omega (arith, w.1.left, w.2)) (λ w. omega (arith, w.1, fields.invariant.5)) c.if-cross-gt0.branch,
-      ⊎_elim
-          (λ w. w.2 ∙ ap (λ (k : ℕ). k + 1) fields.invariant.6 ∙ sym (crosses-yes args.p args.cells.now args.tables.now cell-on.result fields.f here (omega (arith, w.0.taken))))
-          (λ w. w.1 ∙ fields.invariant.6 ∙ sym (crosses-no args.p args.cells.now args.tables.now cell-on.result fields.f here (omega (arith, w.0.left))))
-          c.if-cross-gt0.branch,
+      elim c.if-cross-gt0.branch [ then-cross-gt0+else-entries-n w ↦ omega arith | else-cross-gt0 w ↦ omega (arith, fields.invariant.5) ],
+      elim c.if-cross-gt0.branch [
+        | then-cross-gt0+else-entries-n w ↦ w.n-is ∙ ap (λ (k : ℕ). k + 1) fields.invariant.6 ∙ sym (crosses-yes args.p args.cells.now args.tables.now cell-on.result fields.f here (omega (arith, w.if-cross-gt0.true)))
+        | else-cross-gt0 w ↦ w.n-is ∙ fields.invariant.6 ∙ sym (crosses-no args.p args.cells.now args.tables.now cell-on.result fields.f here (omega (arith, w.if-cross-gt0.false)))
+        ],
     )
 
 pub zero_from-requires : goal.zero_from-requires
@@ -148,41 +149,37 @@ pages-preserved c =
 
 pub returns-then-not-ok : goal.returns-then-not-ok
 returns-then-not-ok c =
-    let pages-test = c.pages-test in
     let pages = c.pages in
     let args = c.args in
-    let no : pages-test.type-inv ≡ false = c.if-not-ok.true in
-    says-no (λ h. ⊎_elim
-    (λ w. true-not-false (sym no ∙ w.1 ∙ pages.invariant.0))
-    (⊎_elim
-    (λ w. omega (arith, (w.8.ensures ∙ ap (field_count Reference) w.7.ensures), (w.9.ensures ∙ ap (field_count Number) w.7.ensures), w.10.taken, most-is, (reached h.whole w.6.ensures (w.3.ensures ∙ w.2.ensures) w.0.taken w.4.inv.2 w.5.taken).object.head))
-    (⊎_elim
-    (λ w. w.12.taken (w.11.ensures ∙ (reached h.whole w.6.ensures (w.3.ensures ∙ w.2.ensures) w.0.taken w.4.inv.2 w.5.taken).working))
-    (⊎_elim
-    (λ w. said-no _ w.16.ensures (not-true _ w.17.taken) (field-is-ref (reached h.whole w.6.ensures (w.3.ensures ∙ w.2.ensures) w.0.taken w.4.inv.2 w.5.taken).object (w.8.ensures ∙ ap (field_count Reference) w.7.ensures) w.15.ensures w.14.taken))
-    (⊎_elim
-    (λ w. too_many args.p args.cells.now args.tables.now w.6.result w.13.f w.13.inv.6
-    (crosses-at args.p args.cells.now args.tables.now pages.page w.4.place w.6.result w.13.f w.1.result w.15.result w.18.result
-    w.6.ensures w.1.ensures w.15.ensures w.18.ensures (w.3.ensures ∙ w.2.ensures) (w.8.ensures ∙ ap (field_count Reference) w.7.ensures) w.0.taken w.4.inv.2 w.13.inv.3 w.5.taken w.14.taken)
-    w.19.taken w.20.taken (omega (arith, w.6.ensures, w.0.taken, w.4.inv.2, w.5.taken, w.13.inv.3, w.14.taken)) h)
-    (λ w. said-no _ w.15.ensures (not-true _ w.16.taken) (zero_rest (w.8.ensures ∙ ap (field_count Reference) w.7.ensures) (w.9.ensures ∙ ap (field_count Number) w.7.ensures) (reached h.whole w.6.ensures (w.3.ensures ∙ w.2.ensures) w.0.taken w.4.inv.2 w.5.taken).object))))))
-    pages-test.branch)
+    says-no (λ h. elim c.pages-test.branch [
+      | else-pages-test w ↦ true-not-false (sym c.if-not-ok.true ∙ w.ok-is ∙ pages.invariant.0)
+      | then-pages-test+then-cells-test+then-all-gt-FIELDS w ↦
+          omega (arith, (w.field_count-refs.ensures ∙ ap (field_count Reference) w.head-head.ensures), (w.field_count.ensures ∙ ap (field_count Number) w.head-head.ensures), w.if-all-gt-FIELDS.true, most-is, (reached h.whole w.cell_on-cell.ensures (w.wide-used.ensures ∙ w.used.ensures) w.pages-test.true w.cells.invariant.2 w.cells-test.true).object.head)
+      | then-pages-test+then-cells-test+else-all-gt-FIELDS+then-work-ne0 w ↦
+          w.if-work-ne0.true (w.work.ensures ∙ (reached h.whole w.cell_on-cell.ensures (w.wide-used.ensures ∙ w.used.ensures) w.pages-test.true w.cells.invariant.2 w.cells-test.true).working)
+      | then-pages-test+then-cells-test+else-all-gt-FIELDS+else-work-ne0+then-fields-test+then-not-is_ref w ↦
+          said-no _ w.is_ref.ensures w.if-not-is_ref.true (field-is-ref (reached h.whole w.cell_on-cell.ensures (w.wide-used.ensures ∙ w.used.ensures) w.pages-test.true w.cells.invariant.2 w.cells-test.true).object (w.field_count-refs.ensures ∙ ap (field_count Reference) w.head-head.ensures) w.field-x.ensures w.fields-test.true)
+      | then-pages-test+then-cells-test+else-all-gt-FIELDS+else-work-ne0+then-fields-test+else-not-is_ref+then-cross-gt0+then-entries-n w ↦
+          too_many args.p args.cells.now args.tables.now w.cell_on-cell.result w.fields.f w.fields.invariant.6
+            (crosses-at args.p args.cells.now args.tables.now pages.page w.cells.place w.cell_on-cell.result w.fields.f w.owner-owner.result w.field-x.result w.cross.result
+            w.cell_on-cell.ensures w.owner-owner.ensures w.field-x.ensures w.cross.ensures (w.wide-used.ensures ∙ w.used.ensures) (w.field_count-refs.ensures ∙ ap (field_count Reference) w.head-head.ensures) w.pages-test.true w.cells.invariant.2 w.fields.invariant.3 w.cells-test.true w.fields-test.true)
+            w.if-cross-gt0.true w.if-entries-n.true (omega (arith, w.cell_on-cell.ensures, w.pages-test.true, w.cells.invariant.2, w.cells-test.true, w.fields.invariant.3, w.fields-test.true)) h
+      | then-pages-test+then-cells-test+else-all-gt-FIELDS+else-work-ne0+else-fields-test+then-not-zero_from w ↦
+          said-no _ w.zero_from.ensures w.if-not-zero_from.true (zero_rest (w.field_count-refs.ensures ∙ ap (field_count Reference) w.head-head.ensures) (w.field_count.ensures ∙ ap (field_count Number) w.head-head.ensures) (reached h.whole w.cell_on-cell.ensures (w.wide-used.ensures ∙ w.used.ensures) w.pages-test.true w.cells.invariant.2 w.cells-test.true).object)
+    ])
 
 pub returns : goal.returns
 returns c =
-    let pages-test = c.pages-test in
     let pages = c.pages in
     let args = c.args in
-    let yes : pages-test.type-inv ≡ true = c.if-not-ok.false in
-    ⊎_elim
-    (λ w.
-    let e : head_at (cell_on pages.page 0) ≡ cells_words args.p = omega (arith, w.0.left, pages.invariant.1) in
-    says-cross pages-test.n args.entries (all-pages args.p args.cells.now args.tables.now (λ k l. pages.invariant.2 k (omega (arith, w.0.left)))) (w.2 ∙ pages.invariant.4 ∙ ap (crossing_to args.p args.cells.now args.tables.now) e))
-    (⊎_elim
-    (λ w. absurd (true-not-false (sym w.11 ∙ yes)))
-    (⊎_elim
-    (λ w. absurd (true-not-false (sym w.13 ∙ yes)))
-    (⊎_elim
-    (λ w. absurd (true-not-false (sym w.18 ∙ yes)))
-    (⊎_elim (λ w. absurd (true-not-false (sym w.21 ∙ yes))) (λ w. absurd (true-not-false (sym w.17 ∙ yes)))))))
-    pages-test.branch
+    let yes = c.if-not-ok.false in
+    elim c.pages-test.branch [
+      | else-pages-test w ↦
+          let e : head_at (cell_on pages.page 0) ≡ cells_words args.p = omega (arith, w.pages-test.false, pages.invariant.1) in
+          says-cross c.pages-test.n args.entries (all-pages args.p args.cells.now args.tables.now (λ k l. pages.invariant.2 k (omega (arith, w.pages-test.false)))) (w.n-is ∙ pages.invariant.4 ∙ ap (crossing_to args.p args.cells.now args.tables.now) e)
+      | then-pages-test+then-cells-test+then-all-gt-FIELDS w ↦ absurd (true-not-false (sym w.ok-is ∙ yes))
+      | then-pages-test+then-cells-test+else-all-gt-FIELDS+then-work-ne0 w ↦ absurd (true-not-false (sym w.ok-is ∙ yes))
+      | then-pages-test+then-cells-test+else-all-gt-FIELDS+else-work-ne0+then-fields-test+then-not-is_ref w ↦ absurd (true-not-false (sym w.ok-is ∙ yes))
+      | then-pages-test+then-cells-test+else-all-gt-FIELDS+else-work-ne0+then-fields-test+else-not-is_ref+then-cross-gt0+then-entries-n w ↦ absurd (true-not-false (sym w.ok-is ∙ yes))
+      | then-pages-test+then-cells-test+else-all-gt-FIELDS+else-work-ne0+else-fields-test+then-not-zero_from w ↦ absurd (true-not-false (sym w.ok-is ∙ yes))
+    ]

@@ -5,6 +5,7 @@ use Rattle.lists.specs.Counting.{sum}
 use Rattle.promises.specs.Whole.{objects_on}
 use Rattle.whole.specs.Regions.{Tallied, tallied-none, tallied-free, tallied-full, tallied-part, twice, objects-low, owner-room}
 use Rattle.whole.proofs.regions.regions_whole.Goals as goal
+use Rattle.whole.proofs.regions.regions_whole.Goals.{then-owner-ne0, else-owner-ne0, then-used-lt-CELLS+else-partly-owner, else-used-lt-CELLS}
 
 pub loop-page-init : goal.loop-page-init
 loop-page-init c =
@@ -77,16 +78,19 @@ loop-page-preserved c =
     let page-whole = c.page_whole in
     let if1 = c.if-not-page_whole in (
       omega arith,
-      ⊎_elim
-          (λ w. ⊎_elim
-          (λ v. subst₂ (λ (a : List ℕ) (b : List Bool). Tallied args.p args.tables.now a b (loop.page + 1)) (sym w.4) (sym (w.5 ∙ v.2))
-          (tallied-part args.p args.tables.now loop.objects loop.partly loop.page wide.result w.2.result loop.invariant.1 (wide.ensures ∙ owner.ensures) (w.2.ensures ∙ w.1.ensures) (omega (arith, w.0.taken)) (owner-room args.p args.tables.now (length args.tables.now) loop.page (pre) (page-whole.ensures.0 if1.false) (wide.ensures ∙ owner.ensures)) (omega (arith, v.0.taken)) v.1.left))
-          (λ v. subst₂ (λ (a : List ℕ) (b : List Bool). Tallied args.p args.tables.now a b (loop.page + 1)) (sym w.4) (sym (w.5 ∙ v.1))
-          (tallied-full args.p args.tables.now loop.objects loop.partly loop.page wide.result w.2.result loop.invariant.1 (wide.ensures ∙ owner.ensures) (w.2.ensures ∙ w.1.ensures) (omega (arith, w.0.taken)) (owner-room args.p args.tables.now (length args.tables.now) loop.page (pre) (page-whole.ensures.0 if1.false) (wide.ensures ∙ owner.ensures)) (omega (arith, v.0.left))))
-          w.3.came)
-          (λ w. subst₂ (λ (a : List ℕ) (b : List Bool). Tallied args.p args.tables.now a b (loop.page + 1)) (sym w.1) (sym w.2)
-          (tallied-free args.p args.tables.now loop.objects loop.partly loop.page wide.result _ loop.invariant.1 (wide.ensures ∙ owner.ensures) refl w.0.left))
-          c.if-owner-ne0.branch,
+      elim c.if-owner-ne0.branch [
+        | then-owner-ne0 w ↦ elim w.if-used-lt-CELLS.branch [
+          | then-used-lt-CELLS+else-partly-owner v ↦
+              subst₂ (λ (a : List ℕ) (b : List Bool). Tallied args.p args.tables.now a b (loop.page + 1)) (sym w.objects-is) (sym (w.partly-is ∙ v.partly-is))
+              (tallied-part args.p args.tables.now loop.objects loop.partly loop.page wide.result w.wide-used.result loop.invariant.1 (wide.ensures ∙ owner.ensures) (w.wide-used.ensures ∙ w.used.ensures) (omega (arith, w.if-owner-ne0.true)) (owner-room args.p args.tables.now (length args.tables.now) loop.page pre (page-whole.ensures.0 if1.false) (wide.ensures ∙ owner.ensures)) (omega (arith, v.if-used-lt-CELLS.true)) v.if-partly-owner.false)
+          | else-used-lt-CELLS v ↦
+              subst₂ (λ (a : List ℕ) (b : List Bool). Tallied args.p args.tables.now a b (loop.page + 1)) (sym w.objects-is) (sym (w.partly-is ∙ v.partly-is))
+              (tallied-full args.p args.tables.now loop.objects loop.partly loop.page wide.result w.wide-used.result loop.invariant.1 (wide.ensures ∙ owner.ensures) (w.wide-used.ensures ∙ w.used.ensures) (omega (arith, w.if-owner-ne0.true)) (owner-room args.p args.tables.now (length args.tables.now) loop.page pre (page-whole.ensures.0 if1.false) (wide.ensures ∙ owner.ensures)) (omega (arith, v.if-used-lt-CELLS.false)))
+          ]
+        | else-owner-ne0 w ↦
+            subst₂ (λ (a : List ℕ) (b : List Bool). Tallied args.p args.tables.now a b (loop.page + 1)) (sym w.objects-is) (sym w.partly-is)
+            (tallied-free args.p args.tables.now loop.objects loop.partly loop.page wide.result _ loop.invariant.1 (wide.ensures ∙ owner.ensures) refl w.if-owner-ne0.false)
+        ],
       below_more _ _ loop.invariant.2 (page-whole.ensures.0 if1.false),
     )
 
