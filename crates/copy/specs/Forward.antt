@@ -163,8 +163,8 @@ module _ {p : Sizes} {g q e : ℕ} {W₀ T₀ W T W' T' : List ℕ} (a₀ : Read
           h.once b c v' w'
           (sym (step-link s b (used-now b v.page v.was) n) ∙ z ∙ step-link s c (used-now c w.page w.was) m)
 
-pub moves-copying : {p : Sizes} {G : ℕ → Type 0} {n m : ℕ} {W T W' T' : List ℕ} → Ready p W T → Moves p G n W T m W' T' → Copying p W T W' T'
-moves-copying {p} {G} {n} {m} {W} {T} a (none l) = copying-start p W T
+pub moves-copying : {p : Sizes} {G : ℕ → Type 0} {n : ℕ} {W T : List ℕ} {m : ℕ} {W' T' : List ℕ} → Ready p W T → Moves p G n W T m W' T' → Copying p W T W' T'
+moves-copying {p} {G} {n} {W} {T} a (none l) = copying-start p W T
 moves-copying a (more b h u v s) = copying-step a (moves-ready a b) (moves-copying a b) s
 
 -- ---- all survivors

@@ -90,27 +90,27 @@ pub moves-later : {p : Sizes} {G : ℕ → Type 0} {n m k : ℕ} {W T W' T' : Li
 moves-later {k = k} l (none h) = none {m = k} (omega arith)
 moves-later {k = k} l (more b h u v s) = more {k = k} b h u (omega arith) s
 
-pub moves-append : {p : Sizes} {G : ℕ → Type 0} {n m k : ℕ} {W T W' T' W'' T'' : List ℕ} → Moves p G n W T m W' T' → Moves p G m W' T' k W'' T'' → Moves p G n W T k W'' T''
+pub moves-append : {p : Sizes} {G : ℕ → Type 0} {n : ℕ} {W T : List ℕ} {m : ℕ} {W' T' : List ℕ} {k : ℕ} {W'' T'' : List ℕ} → Moves p G n W T m W' T' → Moves p G m W' T' k W'' T'' → Moves p G n W T k W'' T''
 moves-append a (none h) = moves-later h a
 moves-append a (more b h u v s) = more (moves-append a b) h u v s
 
-pub moves-map : {p : Sizes} {G H : ℕ → Type 0} {n m : ℕ} {W T W' T' : List ℕ} → ((g : ℕ) → G g → H g) → Moves p G n W T m W' T' → Moves p H n W T m W' T'
+pub moves-map : {p : Sizes} {G H : ℕ → Type 0} {n : ℕ} {W T : List ℕ} {m : ℕ} {W' T' : List ℕ} → ((g : ℕ) → G g → H g) → Moves p G n W T m W' T' → Moves p H n W T m W' T'
 moves-map f (none l) = none l
 moves-map f (more {g = g} b h u v s) = more (moves-map f b) (f g h) u v s
 
-pub moves-ready : {p : Sizes} {G : ℕ → Type 0} {n m : ℕ} {W T W' T' : List ℕ} → Ready p W T → Moves p G n W T m W' T' → Ready p W' T'
+pub moves-ready : {p : Sizes} {G : ℕ → Type 0} {n : ℕ} {W T : List ℕ} {m : ℕ} {W' T' : List ℕ} → Ready p W T → Moves p G n W T m W' T' → Ready p W' T'
 moves-ready a (none l) = a
 moves-ready a (more b h u v s) = step-ready (moves-ready a b) s
 
-pub moves-cells : {p : Sizes} {G : ℕ → Type 0} {n m : ℕ} {W T W' T' : List ℕ} → Moves p G n W T m W' T' → length W' ≡ length W
+pub moves-cells : {p : Sizes} {G : ℕ → Type 0} {n : ℕ} {W T : List ℕ} {m : ℕ} {W' T' : List ℕ} → Moves p G n W T m W' T' → length W' ≡ length W
 moves-cells (none l) = refl
 moves-cells (more b h u v s) = s.copied.size ∙ moves-cells b
 
-pub moves-tables : {p : Sizes} {G : ℕ → Type 0} {n m : ℕ} {W T W' T' : List ℕ} → Moves p G n W T m W' T' → length T' ≡ length T
+pub moves-tables : {p : Sizes} {G : ℕ → Type 0} {n : ℕ} {W T : List ℕ} {m : ℕ} {W' T' : List ℕ} → Moves p G n W T m W' T' → length T' ≡ length T
 moves-tables (none l) = refl
 moves-tables (more b h u v s) = step-size s ∙ moves-tables b
 
-pub moves-back : {p : Sizes} {G : ℕ → Type 0} {n m : ℕ} {W T W' T' : List ℕ} → Ready p W T → Moves p G n W T m W' T' → (x : ℕ) → page_of x < p.pages
+pub moves-back : {p : Sizes} {G : ℕ → Type 0} {n : ℕ} {W T : List ℕ} {m : ℕ} {W' T' : List ℕ} → Ready p W T → Moves p G n W T m W' T' → (x : ℕ) → page_of x < p.pages
     → marked p T' x ≡ 1 → (marked p T x ≡ 1) × (work_of W' x ≡ work_of W x)
 moves-back a (none z) x l on = (on, refl)
 moves-back a (more b h y z s) x l on =
@@ -118,13 +118,13 @@ moves-back a (more b h y z s) x l on =
     let v = moves-back a b x l u.0 in
     (v.0, u.1 ∙ v.1)
 
-pub moves-bits : {p : Sizes} {G : ℕ → Type 0} {n m : ℕ} {W T W' T' : List ℕ} → Moves p G n W T m W' T' → (x : ℕ) → page_of x < p.pages
+pub moves-bits : {p : Sizes} {G : ℕ → Type 0} {n : ℕ} {W T : List ℕ} {m : ℕ} {W' T' : List ℕ} → Moves p G n W T m W' T' → (x : ℕ) → page_of x < p.pages
     → marked p T' x + copied p T' x ≡ marked p T x + copied p T x
 moves-bits (none z) x l = refl
 moves-bits (more b h y z s) x l = step-bits s x l ∙ moves-bits b x l
 
 -- a page without survivors keeps its mark word
-pub moves-marks : {p : Sizes} {G : ℕ → Type 0} {n m : ℕ} {W T W' T' : List ℕ} → Ready p W T → Moves p G n W T m W' T' → (q : ℕ) → q < p.pages
+pub moves-marks : {p : Sizes} {G : ℕ → Type 0} {n : ℕ} {W T : List ℕ} {m : ℕ} {W' T' : List ℕ} → Ready p W T → Moves p G n W T m W' T' → (q : ℕ) → q < p.pages
     → ((c : ℕ) → page_of c ≡ q → marked p T c ≡ 1 → ⊥) → mark_of p T' q ≡ mark_of p T q
 moves-marks a (none z) q l off = refl
 moves-marks a (more {c = c} b h y z s) q l off =
@@ -135,7 +135,7 @@ pub record Others (p : Sizes) (h : ℕ) (W T W' T' : List ℕ) : Type 0 where
   pub objects : objects_of p T' h ≡ objects_of p T h
   pub arriving : arriving p W' T' h ≡ arriving p W T h
 
-pub moves-others : {p : Sizes} {G : ℕ → Type 0} {n m : ℕ} {W T W' T' : List ℕ} (h : ℕ) → 1 ≤ h → ((g : ℕ) → G g → h ≢ g) → Ready p W T
+pub moves-others : {p : Sizes} {G : ℕ → Type 0} {n : ℕ} {W T : List ℕ} {m : ℕ} {W' T' : List ℕ} (h : ℕ) → 1 ≤ h → ((g : ℕ) → G g → h ≢ g) → Ready p W T
     → Moves p G n W T m W' T' → Others p h W T W' T'
 moves-others h pos f a (none l) = record { objects = refl; arriving = refl }
 moves-others h pos f a (more {g = g} b q l m s) =
@@ -150,7 +150,7 @@ pub record Spent (p : Sizes) (g : ℕ) (W T W' T' : List ℕ) : Type 0 where
   pub total : objects_of p T' g + arriving p W' T' g ≡ objects_of p T g + arriving p W T g
   pub pages : pages_of (objects_of p T' g) + owned_in p T' 0 p.pages ≡ pages_of (objects_of p T g) + owned_in p T 0 p.pages
 
-pub moves-spent : {p : Sizes} {g n m : ℕ} {W T W' T' : List ℕ} → Ready p W T → Moves p (λ h. h ≡ g) n W T m W' T' → Spent p g W T W' T'
+pub moves-spent : {p : Sizes} {g n : ℕ} {W T : List ℕ} {m : ℕ} {W' T' : List ℕ} → Ready p W T → Moves p (λ h. h ≡ g) n W T m W' T' → Spent p g W T W' T'
 moves-spent a (none l) = record { total = refl; pages = refl }
 moves-spent {p} {g} a (more {W' = X} {T' = Y} {W'' = X'} {T'' = Y'} {g = h} {q = o} {c = c} b e l m s) =
     let u = moves-spent a b in

@@ -100,7 +100,7 @@ module _ (goal : ℕ → ℕ) (n : ℕ) (none : (c : ℕ) → n ≤ c → goal c
 
 -- ---- the moves
 
-moves_from : {p : Sizes} {G : ℕ → Type 0} {n m : ℕ} {W T W' T' : List ℕ} → Moves p G n W T m W' T' → n ≤ m
+moves_from : {p : Sizes} {G : ℕ → Type 0} {n : ℕ} {W T : List ℕ} {m : ℕ} {W' T' : List ℕ} → Moves p G n W T m W' T' → n ≤ m
 moves_from (none l) = l
 moves_from (more b h u v s) = let l = moves_from b in omega arith
 
@@ -232,7 +232,7 @@ module _ {p : Sizes} {goal : ℕ → ℕ} {W T : List ℕ} (few : p.pages ≤ 10
   placed_moves (more b h u v s) d = step-placed b u v s d (placed_moves b (step-done b u v s d))
 
 -- moves to regions from place 0 on have places of region 1 at least
-moves-raise : {p : Sizes} {G : ℕ → Type 0} {m : ℕ} {W T W' T' : List ℕ} → Moves p G 0 W T m W' T' → (k : ℕ) → m ≤ k → most_cells ≤ k → Moves p G most_cells W T k W' T'
+moves-raise : {p : Sizes} {G : ℕ → Type 0} {W T : List ℕ} {m : ℕ} {W' T' : List ℕ} → Moves p G 0 W T m W' T' → (k : ℕ) → m ≤ k → most_cells ≤ k → Moves p G most_cells W T k W' T'
 moves-raise (none l) k e f = none {m = k} f
 moves-raise (more {g = g} {c = c} b h u v s) k e f =
     more {m = order g c} {k = k} {g = g} {c = c} (moves-raise b (order g c) u (omega (arith, s.can.real))) h (omega arith) (omega arith) s
