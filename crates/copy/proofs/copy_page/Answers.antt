@@ -1,4 +1,4 @@
-use Rattle.std.proofs.Common.{arith, length, ℕ, ◌-◌, ◌%◌, ◌^◌, List, ⊎_elim, ◌≡◌, refl, sym, ap, ◌∙◌, subst, subst₂}
+use Rattle.std.proofs.Common.{arith, length, ℕ, ◌-◌, ◌%◌, ◌^◌, List, ◌≡◌, refl, sym, ap, ◌∙◌, subst, subst₂}
 use lib.Count.{ones, ones-le, count_trailing_zeros}
 use Rattle.lists.specs.SetBits.{walk_start, walk-lowest, walk_turn, walk_end}
 use Rattle.layout.specs.Cells.{cell_on, page_cells}
@@ -7,6 +7,7 @@ use Rattle.copy.specs.Moves.{step-none-freed}
 use Rattle.copy.specs.Passing.{moves-cells, moves-tables}
 use Rattle.copy.specs.Copying.{PageMoves, page-begin, page-seeking, page-movable, page_moved, page-left, page-pass}
 use Rattle.copy.proofs.copy_page.Goals as goal
+use Rattle.copy.proofs.copy_page.Goals.{then-work-region, else-work-region}
 
 pub mark-requires : goal.mark-requires
 mark-requires c = record { room = c.requires.passing.ready.room; page_lt_pages = c.requires.page_lt_pages }
@@ -76,20 +77,20 @@ loop-k-preserved c =
     let x = c.cell_on-cell.result in
     let n = a.notes.now in
     let h : Q c.if-work-region.next c.if-work-region.cells c.if-work-region.tables × (length c.if-work-region.notes ≡ length n) × Noted a.p c.if-work-region.tables c.if-work-region.notes =
-    ⊎_elim
-    (λ w. (
-      subst (λ (n : ℕ). Q n c.if-work-region.cells c.if-work-region.tables) (sym w.16)
-          (subst₂ (Q w.3.result) (sym w.13) (sym w.14) (page_moved c.requires.passing c.requires.page_lt_pages i x e f refl l.invariant.4 w.8.ensures)),
-      ap length w.15 ∙ w.3.kept.1.1.0 ∙ l.invariant.5,
-      subst₂ (Noted a.p) (sym w.14) (sym w.15) (noted-kept (step-none-freed w.8.ensures) w.3.ensures.1),
-    ))
-    (λ w. (
-      subst (λ (n : ℕ). Q n c.if-work-region.cells c.if-work-region.tables) (sym w.4)
-          (subst₂ (Q l.next) (sym w.1) (sym w.2) (page-left c.requires.passing c.requires.page_lt_pages i x e f refl l.invariant.4 (λ z. w.0.left (c.work.ensures ∙ z)))),
-      ap length w.3 ∙ l.invariant.5,
-      subst₂ (Noted a.p) (sym w.2) (sym w.3) l.invariant.6,
-    ))
-    c.if-work-region.branch in (
+    elim c.if-work-region.branch [
+      | then-work-region w ↦ (
+          subst (λ (n : ℕ). Q n c.if-work-region.cells c.if-work-region.tables) (sym w.next-is)
+              (subst₂ (Q w.next_page-next.result) (sym w.cells-is) (sym w.tables-is) (page_moved c.requires.passing c.requires.page_lt_pages i x e f refl l.invariant.4 w.move_cell.ensures)),
+          ap length w.notes-is ∙ w.next_page-next.auto.notes ∙ l.invariant.5,
+          subst₂ (Noted a.p) (sym w.tables-is) (sym w.notes-is) (noted-kept (step-none-freed w.move_cell.ensures) w.next_page-next.ensures.noted_2),
+        )
+      | else-work-region w ↦ (
+          subst (λ (n : ℕ). Q n c.if-work-region.cells c.if-work-region.tables) (sym w.next-is)
+              (subst₂ (Q l.next) (sym w.cells-is) (sym w.tables-is) (page-left c.requires.passing c.requires.page_lt_pages i x e f refl l.invariant.4 (λ z. w.if-work-region.false (c.work.ensures ∙ z)))),
+          ap length w.notes-is ∙ l.invariant.5,
+          subst₂ (Noted a.p) (sym w.tables-is) (sym w.notes-is) l.invariant.6,
+        )
+    ] in (
       l.invariant.0,
       moves-cells h.0.moves,
       moves-tables h.0.moves,

@@ -1,4 +1,4 @@
-use Rattle.std.proofs.Common.{arith, length, get_or, ℕ, ◌<◌, ◌+◌, ◌-◌, List, ⊎_elim, ◌≡◌, refl, sym, ap, ◌∙◌, subst, subst₂}
+use Rattle.std.proofs.Common.{arith, length, get_or, ℕ, ◌<◌, ◌+◌, ◌-◌, List, ◌≡◌, refl, sym, ap, ◌∙◌, subst, subst₂}
 use Rattle.rules.specs.Regions.{region_at}
 use Rattle.laws.specs.RegionLaws.{region-bounds}
 use Rattle.layout.specs.Places.{regions-few}
@@ -7,6 +7,7 @@ use Rattle.pages.specs.Noted.{Noted}
 use Rattle.copy.specs.Passing.{Passing, Pass, order, moves-cells, moves-tables}
 use Rattle.copy.specs.Copying.{Copy, copy_begin, copy-passing, copy-next, copy-skip, copy-marks}
 use Rattle.copy.proofs.copy_survivors.Goals as goal
+use Rattle.copy.proofs.copy_survivors.Goals.{then-come-wide-ne0, else-come-wide-ne0}
 
 pub loop-level-init : goal.loop-level-init
 loop-level-init c = (omega arith, refl, refl, copy_begin c.requires.plan, refl, c.requires.noted.0)
@@ -56,20 +57,20 @@ loop-level-preserved c =
     let C : List ℕ → List ℕ → Type 0 = (λ X Y. Copy a.p a.levels (region_at a.p a.thread) (l.level + 1) a.cells.now a.tables.now X Y) in
     let P : ℕ → List ℕ → List ℕ → Type 0 = (λ x X Y. Pass a.p x (λ y. page_of y < a.p.pages) (order x 0) (order x (first_on a.p.pages)) l.cells l.tables X Y) in
     let h : C c.if-come-wide-ne0.cells c.if-come-wide-ne0.tables × (length c.if-come-wide-ne0.notes ≡ length a.notes.now) × Noted a.p c.if-come-wide-ne0.tables c.if-come-wide-ne0.notes =
-    ⊎_elim
-    (λ w. (
-      subst₂ C (sym w.11) (sym w.12) (copy-next c.requires.plan t l.invariant.3 (subst (λ (x : ℕ). P x w.4.last.1.0 w.4.last.1.1.0) c.region_at-region.ensures w.4.ensures.0)),
-      ap length w.13 ∙ w.4.kept.1.1.1.0 ∙ l.invariant.4,
-      subst₂ (Noted a.p) (sym w.12) (sym w.13) w.4.ensures.1,
-    ))
-    (λ w. (
-      subst₂ C (sym w.1) (sym w.2)
-          (let b = region-bounds a.p a.thread l.level c.requires.thread_lt_threads.0 (omega (arith, c.requires.thread_lt_threads.1, t)) in
-          copy-skip c.requires.plan t l.invariant.3 (c.requires.by_index_2 g b.0 b.1 (ap (λ (x : ℕ). get_or a.come.now x 0) (sym e) ∙ w.0.left))),
-      ap length w.3 ∙ l.invariant.4,
-      subst₂ (Noted a.p) (sym w.2) (sym w.3) l.invariant.5,
-    ))
-    c.if-come-wide-ne0.branch in
+    elim c.if-come-wide-ne0.branch [
+      | then-come-wide-ne0 w ↦ (
+          subst₂ C (sym w.cells-is) (sym w.tables-is) (copy-next c.requires.plan t l.invariant.3 (subst (λ (x : ℕ). P x w.copy_pass.new.cells w.copy_pass.new.tables) c.region_at-region.ensures w.copy_pass.ensures.pass)),
+          ap length w.notes-is ∙ w.copy_pass.auto.notes ∙ l.invariant.4,
+          subst₂ (Noted a.p) (sym w.tables-is) (sym w.notes-is) w.copy_pass.ensures.noted_2,
+        )
+      | else-come-wide-ne0 w ↦ (
+          subst₂ C (sym w.cells-is) (sym w.tables-is)
+              (let b = region-bounds a.p a.thread l.level c.requires.thread_lt_threads.0 (omega (arith, c.requires.thread_lt_threads.1, t)) in
+              copy-skip c.requires.plan t l.invariant.3 (c.requires.by_index_2 g b.0 b.1 (ap (λ (x : ℕ). get_or a.come.now x 0) (sym e) ∙ w.if-come-wide-ne0.false))),
+          ap length w.notes-is ∙ l.invariant.4,
+          subst₂ (Noted a.p) (sym w.tables-is) (sym w.notes-is) l.invariant.5,
+        )
+    ] in
     (omega (arith, t), moves-cells h.0.moves, moves-tables h.0.moves, h.0, h.1, h.2)
 
 pub shape_of-cells : goal.shape_of-cells

@@ -61,7 +61,7 @@ loop-x-smaller c =
     let a = loop.invariant.2 in
     let pos : 0 < loop.x = omega (arith, c.loop-x-test.true) in
     let n = leads-on c.requires.holding.remember.entries.room c.requires.chains_whole a pos c.wide-i.ensures c.last_region-last.ensures c.next-x.ensures in
-    ahead-less _ _ _ pos a.leads.low n.later
+    ahead-less c.args.remember.now _ _ pos a.leads.low n.later
 
 pub loop-x-preserved : goal.loop-x-preserved
 loop-x-preserved c =

@@ -1,4 +1,4 @@
-use Rattle.std.proofs.Common.{◌≡◌, refl, ⊎_elim, ◌+◌, ◌-◌, arith, length}
+use Rattle.std.proofs.Common.{◌≡◌, refl, ◌+◌, ◌-◌, arith, length}
 use Rattle.lists.specs.Says.{says-no}
 use Rattle.rules.specs.Regions.{region_at}
 use Rattle.mark.specs.Draining.{says-popped, says-idle}
@@ -6,6 +6,7 @@ use Rattle.mark.specs.Levels.{levels-start, levels-at}
 use Rattle.mark.specs.Holders.{held_refs}
 use Rattle.mark.specs.Rounds.{round-shaped, round-holding, round-slots, round-pending, round-levels}
 use Rattle.mark.proofs.levels.mark_levels.Goals as goal
+use Rattle.mark.proofs.levels.mark_levels.Goals.{then-drain-ne0, else-drain-ne0}
 
 pub loop-left-init : goal.loop-left-init
 loop-left-init c =
@@ -57,7 +58,7 @@ loop-left-preserved c =
     let d = c.drain.ensures _ _ _ q in
     let n = round-levels c.requires.shaped c.requires.holding args.thread args.outer loop.invariant.3 g e d in
     let z : args.depth - loop.left + 1 ≡ args.depth - (loop.left - 1) = omega (arith, c.loop-left-test.true, loop.invariant.0) in
-    (omega (arith, loop.invariant.0), n.kept.cells-length, n.kept.tables-length, levels-at z n, ⊎_elim (λ w. says-popped d _ w.1 w.0.taken) (λ w. says-idle d _ _ w.1 w.0.left loop.invariant.4) c.if-drain-ne0.branch)
+    (omega (arith, loop.invariant.0), n.kept.cells-length, n.kept.tables-length, levels-at z n, elim c.if-drain-ne0.branch [ then-drain-ne0 w ↦ says-popped d _ w.found-is w.if-drain-ne0.true | else-drain-ne0 w ↦ says-idle d _ _ w.found-is w.if-drain-ne0.false loop.invariant.4 ])
 
 pub shape_of-cells : goal.shape_of-cells
 shape_of-cells c = c.loop-left.invariant.1
