@@ -1,0 +1,26 @@
+-- A variable becomes null.
+use Rattle.std.proofs.Common.{arith}
+use Rattle.promises.specs.Questions.{did-answer}
+use Rattle.layout.specs.Words.{words}
+use Rattle.pages.specs.Noted.{none-freed-before}
+use Rattle.commands.specs.ThreadVariables.{variable_at, variable-low}
+use Rattle.promises.specs.Reading.{whole_room}
+use Rattle.commands.specs.Variables.{clear-done}
+use Rattle.commands.proofs.variables.clear.Goals as goal
+
+pub write_var-requires : goal.write_var-requires
+write_var-requires c =
+    let args = c.args in record {
+      room = (whole_room args.p (words args.cells.now args.remember.now args.tables.now) c.requires.whole_for (omega arith));
+      t_lt_threads = c.requires.t_lt_threads;
+    }
+
+pub returns : goal.returns
+returns c =
+    let args = c.args in
+    let write-var = c.write_var in record {
+      does = did-answer c.done.ensures
+          (clear-done args.p args.cells.now args.remember.now args.tables.now c.requires.whole_for args.t args.a c.requires.t_lt_threads.0 c.requires.t_lt_threads.1
+          write-var.ensures);
+      none_freed = none-freed-before args.p args.tables.now (variable_at args.p args.t args.a) _ (variable-low args.p args.t args.a c.requires.t_lt_threads.0 c.requires.t_lt_threads.1) write-var.ensures;
+    }
