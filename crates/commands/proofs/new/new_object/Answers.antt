@@ -61,7 +61,7 @@ inside c =
     let page = c.page_for-page in
     let take = c.take_cell-cell in
     cell-inside args.p args.cells.now args.remember.now args.tables.now c.requires.whole_for args.t c.requires.t_lt_threads.0 innermost.result innermost.ensures
-    page.result page.ensures.found (omega arith) take.result take.ensures.0 take.new.1.0 take.ensures.1
+    page.result page.ensures.found (omega arith) take.result take.ensures.0 take.new.tables take.ensures.1
 
 pub count_made-requires : goal.count_made-requires
 count_made-requires c =
