@@ -134,8 +134,7 @@ fn ask(
 // Obeys the commands of a block and writes number and value for each. Gives 0; or on refusal, with slices and answers untouched, 3 for
 // tables that are not whole, 16 for chains that are short or not those of the remember table, 4 for a block that is no multiple of five words,
 // 5 for fewer than two answer words for each command. Words past the lengths, and the answer slice's extra words, never change.
-#[unsafe(no_mangle)]
-pub extern "C" fn taldreku_run(
+pub fn taldreku_run(
     cells: &mut [u32],
     remember: &mut [u32],
     tables: &mut [u32],

@@ -32,8 +32,7 @@ fn ask(s: Sizes, cells: usize, remember: usize, tables: usize, chains: usize) ->
 
 // Writes the words of an unused heap of these sizes, every one up to the four lengths, cells (02, W1) and chains (02, W6) with zeros. Gives 0, or on
 // refusal, with nothing written, 1 for a size out of range and 2 for a slice that is too short. Words past the four lengths never change.
-#[unsafe(no_mangle)]
-pub extern "C" fn taldreku_prepare(
+pub fn taldreku_prepare(
     threads: u32,
     variables: u32,
     depth: u32,

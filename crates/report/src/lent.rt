@@ -84,8 +84,7 @@ fn fill(rows: &mut [Row], tables: &[u32], n: usize)
 // Writes a row for the control space and each open region, by region number. Gives 0 with how many these are, free pages, crossing
 // slots, and objects made, freed and there; or on refusal, with no row written and the other words 0, 3 for tables that are not whole, 16 for
 // chains that are short or not those of the remember table, 15 for too few rows. Spare rows never change.
-#[unsafe(no_mangle)]
-pub extern "C" fn taldreku_report(
+pub fn taldreku_report(
     cells: &[u32],
     remember: &[u32],
     tables: &[u32],
