@@ -2,14 +2,14 @@
 -- is the function's own: after k turns it holds the first k rows of the tables over those lent, and the region is open region k. A turn
 -- calls `row_in` with a copy of the `&[u32]` and its token, takes element k out of the list of structs, stores to it whole, puts it back,
 -- and calls `open_after`. All that the proof knows of the two is that they meet their contracts.
-use Rattle.std.proofs.Common.{◌≡◌, ℕ, ◌+◌, ◌-◌, ◌*◌, ◌^◌, ◌<◌, ◌≤◌, T as Holds, ltb, List, [], ◌∷◌, length, set, sym, refl, ap, ◌∙◌, subst, zero-le, lt_of_le_of_lt, mul-le-mul, le_antisymm, add-one-le, arith, lit<, ltb→lt, nltb→le, Bor, MutBor}
+use Rattle.std.proofs.Common.{◌≡◌, ℕ, ◌+◌, ◌-◌, ◌*◌, ◌^◌, ◌<◌, ◌≤◌, ltb, List, [], ◌∷◌, length, set, sym, refl, ap, ◌∙◌, subst, zero-le, lt_of_le_of_lt, mul-le-mul, le_antisymm, add-one-le, arith, lit<, ltb→lt, nltb→le, Bor, MutBor, w32, w64, drop}
+use Rattle.std.proofs.Common.{T as Holds}
 use native.Mathlib.Numerals.{add-one-dec}
-use mathlib.Core.WellFounded.InvImage
 use mathlib.Core.WellFounded.{WellFounded}
 use lib.WfN.{lt-wf_rel}
 use seplogic.Ra.Ura.{Ura}
 use seplogic.Ra.TreeShare.{full_share}
-use package.mir.Syntax.{Ty, Body, named, imm, mut, w32, w64, ty_int, ty_bool, ty_ptr, ty_ref, ty_unit, place, field, deref, unsigned, copy, int, seq, assign, call, rv_opd, op2, add, mul, offset}
+use package.mir.Syntax.{Ty, Body, named, imm, mut, ty_int, ty_bool, ty_ptr, ty_ref, ty_unit, place, field, deref, unsigned, copy, int, seq, assign, call, rv_opd, op2, add, mul, offset}
 use package.mir.Val.{Val, vunit, vint, vptr, vstruct, vnil, vcons}
 use base.Logic.{SProp, ent, sep, id⊢, ex_e, snd∗}
 use base.Fml.{Lft, Share, GName, Fml, ftrue, fat, froom, fdies, flft, fobs, fauth, fbor, fobor}
@@ -18,9 +18,9 @@ use prog.Routine.{Routine}
 use prog.Wp.{Out, Env, after_seq, after_block, after_turn, Calls, Loops, Wp, at_return, WpFn, Tables}
 use types.Logic.{Logic, sem}
 use contract.Monad.{Fun, fact}
-use contract.Running.{tables, tables_of}
+use contract.Running.{tables}
 use contract.Lifetimes.{AllOutlive}
-use types.Kit.{Item, Sq, runs, any_q, at_ret, ‵, raw, some, later, ◌⊛◌, ⋆, ◌$◌, ◌∵◌, !, qed, by, move, keep, drop, use1, use2, split, join, pick, rewrite, fsplit, fjoin, feq_i, suffices, frame, await, done}
+use types.Kit.{Item, Sq, runs, any_q, at_ret, ‵, raw, some, later, ◌⊛◌, ⋆, ◌$◌, ◌∵◌, !, qed, by, move, keep, use1, use2, split, join, pick, rewrite, fsplit, fjoin, feq_i, suffices, frame, await, done}
 use types.Run.{look, store, init, store_raw, forget, stop, hop, fld, from, load, lit, unit_lit, of_opd, bin, and_then, no_more, assigns, assigns_last, land, first, skips, jumps, blocks, branches, exec, Below, again, loops, returns, enter, alloc1, alloc0, params1, pass1, pass0, free1, free0}
 use types.Part.{whole, sub, look_in}
 use sound.WpLaws.{fm_of, WpFn-mono}
@@ -34,13 +34,10 @@ use denote.Slice.{slice_ty, slice_val, MutSlice, ShrSlice, Room, heres, coded_ho
 use denote.Lend.{Held}
 use denote.Index.{place_is, row, elem_out, elem_put, opens_slice, closes_slice}
 use denote.Steps.{only, owned, peeks, heard, nothing}
-use denote.Struct.Laws as LL
 use denote.Triple.Entry.{on_entry}
 use denote.Triple.Spec.{Meets, triple_of}
-use denote.Triple.Statement.{Contract, Triple}
 use denote.Triple.Call.{calls_at}
 use denote.Triple.Clauses.{ensured, lasts}
-use denote.Triple.Table.{entered, cited}
 use denote.Triple.Walked.{says, needs, Stays, stay_slice, stay_none, stay_none_slice, walk_of, Goes-slice, Goes-none, Goes-none_slice, Walks, ends_at, walked, walk_Meets}
 use denote.Exit.{yes}
 use denote.Signature.{plain}
@@ -50,21 +47,22 @@ use Rattle.report.specs.declared.Row.{Row}
 use Rattle.report.specs.Tables.{WholeTables, row_in, rows_in}
 use Rattle.report.specs.Opened.{Next, Turn, turn-first, turn-next, turn-high, turn-row}
 use Rattle.report.specs.Lent.{RegionOf, written, written_none, written_next, length-written}
+use Rattle.report.proofs.lent.row_in.Symbol.{name as #row-in}
+use Rattle.report.proofs.lent.open_after.Symbol.{name as #open-after}
+use mathlib.Core.WellFounded.InvImage
+use denote.Struct.Laws as LL
 use Rattle.report.specs.contracts.Row as T
 use Rattle.report.proofs.Row.TheLaws as T'
 use Rattle.report.specs.contracts.lent.row_in as row_in
 use Rattle.report.proofs.lent.row_in.Symbol as row-in-def
-use Rattle.report.proofs.lent.row_in.Symbol.{name as #row-in}
 use Rattle.report.proofs.lent.row_in.Met as row-in-thm
 use Rattle.report.specs.contracts.lent.open_after as Open-after
 use Rattle.report.proofs.lent.open_after.Symbol as open-after-def
-use Rattle.report.proofs.lent.open_after.Symbol.{name as #open-after}
 use Rattle.report.proofs.lent.open_after.Met as open-after-thm
-use Rattle.report.specs.contracts.lent.fill.Key.{name as #fill}
 use Rattle.report.specs.contracts.lent.fill as fill
-use Rattle.report.proofs.lent.fill.Statement as stated
 use Rattle.report.proofs.lent.fill.Code as code
 use Rattle.report.proofs.lent.fill.Code.Mir as mir
+use Rattle.report.proofs.lent.fill.Goals as goal
 
 abbrev stayed : Stays (fill.ended).signature.params (fill.ended).kept
 stayed = (stay_slice (0 ∷ []) tt (plain (λ _. T.the_row)), (stay_none_slice (1 ∷ []) tt (plain (λ _. u32)) yes, (stay_none (λ _. usize) yes, tt)))
@@ -321,12 +319,3 @@ module _ {M : Type 1} {𝓤 : Ura M} (𝓛 : Logic 𝓤) (mem : Memory → SProp
   fill_meets : Meets 𝓛 fill.signature (WpFn 𝓤 H 𝓣.C 𝓣.Λ code.function) (fill.spec 𝓛 mem run)
   fill_meets = walk_Meets 𝓛 fill.ended stayed (Goes-slice 𝓛 2 0 tt (plain (λ _. T.the_row)), (Goes-none_slice 𝓛 2 (1 ∷ []) tt (plain (λ _. u32)) yes, (Goes-none 𝓛 2 (λ _. usize) yes (λ κs x f. refl), tt))) (fill.clauses 𝓛 mem run)
       (WpFn 𝓤 H 𝓣.C 𝓣.Λ code.function) (WpFn-mono 𝓤 H 𝓛.laws 𝓣 code.function) fill_walks
-
-pub fill_spec : {M : Type 1} → stated.statement M
-unfolding code.routine tables_of
-fill_spec 𝓤 𝓛 𝓜 𝓡 =
-    entered 𝓤 𝓛.H (triple_of 𝓛 fill.signature (fill.spec 𝓛 𝓜.mem 𝓡.run))
-    (tables 𝓤 𝓛.H 𝓜 𝓡 code.env).C (tables 𝓤 𝓛.H 𝓜 𝓡 code.env).Λ #fill code.function (code.unfolded 𝓤 𝓛.H 𝓜 𝓡)
-    (fill_meets 𝓛 𝓜.mem 𝓡.run (tables_of 𝓤 𝓛.H 𝓜 (tables 𝓤 𝓛.H 𝓜 𝓡 code.env))
-    (cited 𝓤 𝓛.H (RowIn 𝓛 𝓜.mem 𝓡.run) 𝓜 𝓡 code.env #row-in row-in-def.routine code.calls-report::lent::row-in (row-in-thm.met 𝓤 𝓛 𝓜 𝓡))
-    (cited 𝓤 𝓛.H (OpenAfter 𝓛 𝓜.mem 𝓡.run) 𝓜 𝓡 code.env #open-after open-after-def.routine code.calls-report::lent::open-after (open-after-thm.met 𝓤 𝓛 𝓜 𝓡)))

@@ -1,8 +1,9 @@
 -- A walk of `taldreku_report`'s MIR, by hand. The count of the lent rows is read, `ask` gives the result and with it how many rows are to be
 -- written, and `fill` takes the rows for good and writes them. All that the proof knows of the two is that they meet their contracts.
-use Rattle.std.proofs.Common.{◌≡◌, ℕ, ◌^◌, ◌<◌, T as Holds, List, [], ◌∷◌, length, sym, refl, ap, subst, arith, Bor}
+use Rattle.std.proofs.Common.{◌≡◌, ℕ, ◌^◌, ◌<◌, List, [], ◌∷◌, length, sym, refl, ap, subst, arith, Bor, w32, w64, drop}
+use Rattle.std.proofs.Common.{T as Holds}
 use seplogic.Ra.Ura.{Ura}
-use package.mir.Syntax.{named, w32, w64, ty_unit}
+use package.mir.Syntax.{named, ty_unit}
 use package.mir.Val.{Val, vint, vstruct, vnil, vcons, has_ty, WT}
 use base.Logic.{SProp, ent, sep, id⊢, emp, via, fst∗, ex_e, snd∗}
 use base.Fml.{Lft, Share, Fml, ftrue, fat, flft}
@@ -12,9 +13,9 @@ use prog.Routine.{Routine}
 use prog.Wp.{Calls, Loops, WpFn, Tables}
 use types.Logic.{Logic, sem}
 use contract.Monad.{Fun, fact}
-use contract.Running.{tables, tables_of}
+use contract.Running.{tables}
 use contract.Lifetimes.{AllOutlive}
-use types.Kit.{‵, raw, some, later, ◌⊛◌, ⋆, ◌$◌, ◌∵◌, !, qed, by, move, keep, drop, use1, use2, split, join, pick, rewrite, fsplit, fjoin, feq_l, suffices, frame, await, done}
+use types.Kit.{‵, raw, some, later, ◌⊛◌, ⋆, ◌$◌, ◌∵◌, !, qed, by, move, keep, use1, use2, split, join, pick, rewrite, fsplit, fjoin, feq_l, suffices, frame, await, done}
 use types.Run.{look, store, init, forget, stop, hop, fld, from, load, addr, un, of_opd, and_then, no_more, assigns, land, returns, enter, alloc1, alloc0, params1, pass1, pass0, free1, free0}
 use types.Part.{agg, whole, sub, look_in}
 use sound.WpLaws.{FmC, fm_of, WpFn-mono}
@@ -23,14 +24,11 @@ use denote.Laws.{Is, shows}
 use denote.Plain.{Nothing, uint_Makes}
 use denote.Builtin.{u32, usize}
 use denote.Slice.{slice_val, MutSlice, ShrSlice, Room, finally, shr_slice_vals, mut_slice_Tells, shr_slice_Tells, shr_slice_copy}
-use denote.Struct.Laws as LL
 use denote.Steps.{only, owned, peeks, heard, nothing}
 use denote.Triple.Entry.{on_entry}
 use denote.Triple.Spec.{Meets, triple_of}
-use denote.Triple.Statement.{Contract, Triple}
 use denote.Triple.Call.{calls_at}
 use denote.Triple.Clauses.{ensured, lasts}
-use denote.Triple.Table.{entered, cited}
 use denote.Triple.Walked.{says, Stays, gave_slice, stay_none_slice, walk_of, Goes-gave_slice, Goes-none_slice, Walks, ends_at, walked, walk_Meets}
 use denote.Exit.{yes}
 use denote.Signature.{plain}
@@ -40,21 +38,21 @@ use Rattle.report.specs.declared.Reported.{Reported}
 use Rattle.report.specs.Tables.{rows_in}
 use Rattle.layout.specs.Places.{sizes_at}
 use Rattle.report.specs.Lent.{Asking, written, length-written, asked-few, told-written}
+use Rattle.report.proofs.lent.ask.Symbol.{name as #ask}
+use Rattle.report.proofs.lent.fill.Symbol.{name as #fill}
+use denote.Struct.Laws as LL
 use Rattle.report.specs.contracts.Row as T
 use Rattle.report.specs.contracts.Reported as R
 use Rattle.report.proofs.Reported.TheLaws as R'
 use Rattle.report.specs.contracts.lent.ask as ask
 use Rattle.report.proofs.lent.ask.Symbol as ask-def
-use Rattle.report.proofs.lent.ask.Symbol.{name as #ask}
 use Rattle.report.proofs.lent.ask.Met as ask-thm
 use Rattle.report.specs.contracts.lent.fill as fill
 use Rattle.report.proofs.lent.fill.Symbol as fill-def
-use Rattle.report.proofs.lent.fill.Symbol.{name as #fill}
 use Rattle.report.proofs.lent.fill.Met as fill-thm
-use Rattle.report.specs.contracts.lent.taldreku_report.Key.{name as #report}
 use Rattle.report.specs.contracts.lent.taldreku_report as report
-use Rattle.report.proofs.lent.taldreku_report.Statement as stated
 use Rattle.report.proofs.lent.taldreku_report.Code as code
+use Rattle.report.proofs.lent.taldreku_report.Goals as goal
 
 abbrev stayed : Stays (report.ended).signature.params (report.ended).kept
 stayed = (stay_none_slice (0 ∷ []) tt (plain (λ _. u32)) yes, (stay_none_slice (1 ∷ []) tt (plain (λ _. u32)) yes, (stay_none_slice (2 ∷ []) tt (plain (λ _. u32)) yes, (stay_none_slice (3 ∷ []) tt (plain (λ _. u32)) yes, (gave_slice (4 ∷ []) tt (plain (λ _. T.the_row)), tt)))))
@@ -233,12 +231,3 @@ module _ {M : Type 1} {𝓤 : Ura M} (𝓛 : Logic 𝓤) (mem : Memory → SProp
   report-meets : Meets 𝓛 report.signature (WpFn 𝓤 H 𝓣.C 𝓣.Λ code.function) (report.spec 𝓛 mem run)
   report-meets = walk_Meets 𝓛 report.ended stayed (Goes-none_slice 𝓛 5 (0 ∷ []) tt (plain (λ _. u32)) yes, (Goes-none_slice 𝓛 5 (1 ∷ []) tt (plain (λ _. u32)) yes, (Goes-none_slice 𝓛 5 (2 ∷ []) tt (plain (λ _. u32)) yes, (Goes-none_slice 𝓛 5 (3 ∷ []) tt (plain (λ _. u32)) yes, (Goes-gave_slice 𝓛 5 4 tt (plain (λ _. T.the_row)), tt)))))
       (report.clauses 𝓛 mem run) (WpFn 𝓤 H 𝓣.C 𝓣.Λ code.function) (WpFn-mono 𝓤 H 𝓛.laws 𝓣 code.function) report-walks
-
-pub taldreku-report-spec : {M : Type 1} → stated.statement M
-unfolding code.routine tables_of
-taldreku-report-spec 𝓤 𝓛 𝓜 𝓡 =
-    entered 𝓤 𝓛.H (triple_of 𝓛 report.signature (report.spec 𝓛 𝓜.mem 𝓡.run))
-    (tables 𝓤 𝓛.H 𝓜 𝓡 code.env).C (tables 𝓤 𝓛.H 𝓜 𝓡 code.env).Λ #report code.function (code.unfolded 𝓤 𝓛.H 𝓜 𝓡)
-    (report-meets 𝓛 𝓜.mem 𝓡.run (tables_of 𝓤 𝓛.H 𝓜 (tables 𝓤 𝓛.H 𝓜 𝓡 code.env))
-    (cited 𝓤 𝓛.H (Ask 𝓛 𝓜.mem 𝓡.run) 𝓜 𝓡 code.env #ask ask-def.routine code.calls-report::lent::ask (ask-thm.met 𝓤 𝓛 𝓜 𝓡))
-    (cited 𝓤 𝓛.H (Fill 𝓛 𝓜.mem 𝓡.run) 𝓜 𝓡 code.env #fill fill-def.routine code.calls-report::lent::fill (fill-thm.met 𝓤 𝓛 𝓜 𝓡)))
