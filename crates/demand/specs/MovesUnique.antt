@@ -14,6 +14,7 @@ use Rattle.promises.specs.Reading.{used-home, used-alive, alive-used}
 
 -- where two maps give the same list, they are the same at each element
 same_at : (f g : ℕ → ℕ) (l : List ℕ) (v : ℕ) → In v l → map f l ≡ map g l → f v ≡ g v
+same_at f g [] v x'' q = elim x'' [ ]
 same_at f g (x ∷ l) v (inl e) q = ap f e ∙ ap (λ (k : List ℕ). get_or k 0 0) q ∙ ap g (sym e)
 same_at f g (x ∷ l) v (inr i) q = same_at f g l v i (ap tail q)
   where

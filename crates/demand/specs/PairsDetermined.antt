@@ -56,6 +56,7 @@ module _ {s : Sizes} {w w₁ : Words} {m : Command} {a : Answer} (k : WholeFor s
 
   -- what moves takes its pair along to an object's cell
   moved-living : {r : ℕ} {move : ℕ → ℕ} → Moves s w r w₁ move → (p : List ℕ) → Living s w p → (c : ℕ) → In (suc c) (map move p) → BeginsIn s w₁ c
+  moved-living {r = r} {move = move} mv [] h c x'' = elim x'' [ ]
   moved-living {r} {move} mv (v ∷ p) h c (inl q) = from v (λ d y. h d (inl (sym y))) q
     where
       from : (v : ℕ) → ((d : ℕ) → v ≡ suc d → BeginsIn s w d) → suc c ≡ move v → BeginsIn s w₁ c
